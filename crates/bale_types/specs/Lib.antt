@@ -1,0 +1,4 @@
+pub mod Bits
+pub mod Memory
+pub mod Out
+pub mod Stream

@@ -1,0 +1,10 @@
+-- What was appended to an output buffer, whether the sink has it yet or not.
+use Rattle.std.specs.Prelude.{ℕ, List, Option, take}
+use Rattle.bale_types.specs.Stream.{after}
+use Rattle.bale_types.specs.declared.out.Out.{Out}
+
+-- all that was appended: what the sink has taken, and then what the buffer holds
+-- appended taken out = after (taken of its sink) (the first len bytes of its buffer)
+-- a sink that has taken `1 1` and a buffer with `2`: `1 1 2`
+abbrev pub appended : {K : Type 0} → (K → Option (List ℕ)) → Out K → Option (List ℕ)
+appended taken out = after (taken out.sink.now) (take out.len out.buffer)

@@ -1,0 +1,49 @@
+-- What a source has still to give, what a sink has taken, and what one call moves between them and a
+-- buffer. Where an object doesn't tell its bytes, they are None before and after each call.
+use Rattle.std.specs.Prelude.{◌≡◌, ◌<◌, ◌^◌, ◌-◌, ◌⊎◌, ℕ, ◌+◌, min, List, [], ◌++◌, Option, None, Some, Result, Ok, Err, OnErr, take}
+
+-- what is taken once these bytes were appended
+-- after (Some taken) bytes = Some (taken ++ bytes)
+-- `1 1` and then `2` makes `1 1 2`
+abbrev pub after : Option (List ℕ) → List ℕ → Option (List ℕ)
+after None bytes = None
+after (Some taken) bytes = Some (taken ++ bytes)
+
+-- what was to come, where these bytes came and that is still left
+-- before bytes (Some left) = Some (bytes ++ left)
+-- `1 1` came and `2` is left, so `1 1 2` was to come
+abbrev pub before : List ℕ → Option (List ℕ) → Option (List ℕ)
+before bytes None = None
+before bytes (Some left) = Some (bytes ++ left)
+
+-- the bytes of the buffer that a call moved
+-- moved (Ok count) buffer = take count buffer, and moved (Err e) buffer = []
+-- Ok 2 over `1 1 2` moved `1 1`, and a call that failed moved nothing
+abbrev pub moved : {E : Type 0} → Result ℕ E → List ℕ → List ℕ
+moved (Ok count) buffer = take count buffer
+moved (Err e) buffer = []
+
+-- a count of faults rose in a call, or it stands at its type's last value
+-- Rose old new = old < new, or new = 2^64 - 1
+-- from 3 to 4; from 2^64 - 1 to itself
+abbrev pub Rose : ℕ → ℕ → Type 0
+Rose old new = (old < new) ⊎ (new ≡ 2 ^ 64 - 1)
+
+-- a failure has its cause outside: the object counted it
+-- HasCause old new result = Rose old new, where the result is an Err
+-- Err from 3 to 4 has its cause, and Err from 3 to 3 has none
+abbrev pub HasCause : {T E : Type 0} → ℕ → ℕ → Result T E → Type 0
+HasCause old new result = OnErr result (Rose old new)
+
+-- a counter's next value, which stands still at its type's end
+-- next_count n = min (n + 1) (2^64 - 1)
+-- 4 after 3; 2^64 - 1 after itself
+abbrev pub next_count : ℕ → ℕ
+next_count n = min (n + 1) (2 ^ 64 - 1)
+
+-- the sink has taken a front of all that should have come to it
+-- IsFront taken all = for some rest, after taken rest = all
+-- `1 1` is a front of `1 1 2`
+pub record IsFront (taken all : Option (List ℕ)) : Type 0 where
+  pub rest : List ℕ
+  pub whole : after taken rest ≡ all

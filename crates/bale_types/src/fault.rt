@@ -1,0 +1,23 @@
+//! The two faults that come from outside a computation.
+use std::alloc::{AllocError, AllocFailed};
+
+/// An allocation was refused.
+#[derive(Clone, Copy, PartialEq, Eq, Debug)]
+pub struct NoMemory;
+
+impl From<AllocError> for NoMemory {
+    fn from(_refused: AllocError) -> NoMemory {
+        NoMemory
+    }
+}
+
+// So that `list.push(value)?` converts too. The value is dropped.
+impl<T: Drop> From<AllocFailed<T>> for NoMemory {
+    fn from(_refused: AllocFailed<T>) -> NoMemory {
+        NoMemory
+    }
+}
+
+/// A read or a write failed; the object's count of faults tells of it.
+#[derive(Clone, Copy, PartialEq, Eq, Debug)]
+pub struct Failed;

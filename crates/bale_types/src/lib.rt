@@ -1,0 +1,41 @@
+//! What every layer of the conveyors speaks of: items, tags and entries, the triples of a matrix,
+//! where bytes come from and where they go, and the two faults that come from outside.
+//!
+//! | Type or call | What it is |
+//! |---|---|
+//! | `Item`, `Tag`, `Entry` | what an application sends, the digits of its route, and the two together |
+//! | `Triple` | one entry of a sparse matrix |
+//! | `NoMemory`, `Failed` | an allocation was refused; a read or a write failed |
+//! | `Source`, `Sink` | gives bytes; takes bytes; both count their failures |
+//! | `MemSource`, `MemSink` | a source and a sink in memory, which fail at the calls named |
+//! | `StdinSource`, `StdoutSink`, `StderrSink` | the standard streams |
+//! | `Line` | a line of an answer before it is written |
+//! | `Out` | a buffer of 4,096 bytes in front of a sink |
+//! | `bits_of`, `value_of` | a signed number as a word, and back |
+//!
+//! An answer goes out line by line: a `Line` is put together in place, `Out::text` takes it, and the
+//! `Out` hands its buffer to the sink each time that it is full, and at `Out::flush`. After a failure
+//! a sink holds a front of what was appended, and its count of faults rose.
+#![tactic(auto)]
+
+mod bits;
+mod fault;
+mod item;
+mod line;
+mod memory;
+mod out;
+mod standard;
+mod stream;
+#[cfg(test)]
+mod tests;
+mod triple;
+
+pub use bits::{bits_of, value_of};
+pub use fault::{Failed, NoMemory};
+pub use item::{Entry, Item, Tag};
+pub use line::{LINE_ROOM, Line};
+pub use memory::{MemSink, MemSource};
+pub use out::Out;
+pub use standard::{StderrSink, StdinSource, StdoutSink};
+pub use stream::{Sink, Source};
+pub use triple::Triple;

@@ -1,0 +1,174 @@
+//! An output buffer in front of a sink, so that many small pieces make few writes.
+//!
+//! All that was appended is what the sink has taken, and then what the buffer holds: the word
+//! `appended` of the clauses. After a call that failed, the sink holds a front of what was appended,
+//! and the `Out` is not used again. Nothing here takes memory.
+ghost use Rattle.std.specs.Prelude.{◌≡◌, ◌+◌, ◌<◌, ◌≤◌, [], ◌∷◌, length, take, IfOk, OnOk, OnErr, IsOk};
+ghost use Rattle.std.specs.Fmt.{signed_decimal};
+ghost use Rattle.bale_types.specs.Stream.{after, HasCause, IsFront};
+ghost use Rattle.bale_types.specs.declared.out.TheConstants.{BUFFER};
+
+use super::fault::Failed;
+use super::stream::Sink;
+use itoa::Buffer;
+
+/// How many bytes are gathered before they are handed to the sink.
+const BUFFER: usize = 4096;
+
+/// A buffer of 4,096 bytes in front of a sink. It is not flushed when it is dropped.
+#[derive(Drop)]
+pub struct Out<'a, K> {
+    /// Where the bytes go.
+    sink: &'a mut K,
+    /// The bytes that the sink doesn't have yet: the first `len`.
+    buffer: [u8; BUFFER],
+    /// How many those are; a buffer that becomes full is handed over at once.
+    len: usize,
+    ghost within: { len < BUFFER },
+}
+
+impl<'a, K: Sink> Out<'a, K> {
+    ghost use Rattle.bale_types.specs.Out.{appended};
+
+    /// An empty buffer in front of `sink`.
+    pub fn new(sink: &'a mut K) -> Out<'a, K>
+        ensures appended { appended K.taken result ≡ K.taken sink.entry.now }
+        ensures faults { K.faults result.sink.now ≡ K.faults sink.entry.now }
+        ensures empty { result.len ≡ 0 }
+        ensures same_sink { result.sink.ghost_name ≡ sink.entry.ghost_name }
+    {
+        Out {
+            sink,
+            buffer: [0; BUFFER],
+            len: 0,
+        }
+    }
+
+    /// Appends one byte; a buffer that became full is handed to the sink.
+    ///
+    /// # Errors
+    ///
+    /// `Failed` where the sink's faults rose in this call.
+    pub fn byte(&mut self, b: u8) -> Result<(), Failed>
+        ensures ok { OnOk result (appended K.taken self.new ≡ after (appended K.taken self.old) (b ∷ [])) }
+        ensures err { OnErr result
+            (IsFront (K.taken self.new.sink.now) (after (appended K.taken self.old) (b ∷ []))) }
+        ensures cause { HasCause (K.faults self.old.sink.now) (K.faults self.new.sink.now) result }
+        ensures never_falls { K.faults self.old.sink.now ≤ K.faults self.new.sink.now }
+        ensures gathers { self.old.len + 1 < BUFFER → self.new.sink.now ≡ self.old.sink.now }
+        ensures same_sink { self.new.sink.ghost_name ≡ self.old.sink.ghost_name }
+    {
+        self.text(&[b])
+    }
+
+    /// Appends bytes in their order; a buffer that became full is handed to the sink.
+    ///
+    /// # Errors
+    ///
+    /// `Failed` where the sink's faults rose in this call.
+    pub fn text(&mut self, t: &[u8]) -> Result<(), Failed>
+        ensures ok { OnOk result (appended K.taken self.new ≡ after (appended K.taken self.old) t.now) }
+        ensures err { OnErr result
+            (IsFront (K.taken self.new.sink.now) (after (appended K.taken self.old) t.now)) }
+        ensures cause { HasCause (K.faults self.old.sink.now) (K.faults self.new.sink.now) result }
+        ensures never_falls { K.faults self.old.sink.now ≤ K.faults self.new.sink.now }
+        ensures gathers { self.old.len + length t.now < BUFFER → self.new.sink.now ≡ self.old.sink.now }
+        ensures same_sink { self.new.sink.ghost_name ≡ self.old.sink.ghost_name }
+    {
+        let mut at = 0;
+        while at < t.len() {
+            at += self.fill(&t[at..])?;
+        }
+        Ok(())
+    }
+
+    /// Appends the decimal text of `n`.
+    ///
+    /// # Errors
+    ///
+    /// `Failed` where the sink's faults rose in this call.
+    pub fn number(&mut self, n: i64) -> Result<(), Failed>
+        ensures ok { OnOk result
+            (appended K.taken self.new ≡ after (appended K.taken self.old) (signed_decimal n)) }
+        ensures err { OnErr result
+            (IsFront (K.taken self.new.sink.now) (after (appended K.taken self.old) (signed_decimal n))) }
+        ensures cause { HasCause (K.faults self.old.sink.now) (K.faults self.new.sink.now) result }
+        ensures never_falls { K.faults self.old.sink.now ≤ K.faults self.new.sink.now }
+        ensures gathers { self.old.len + length (signed_decimal n) < BUFFER →
+            self.new.sink.now ≡ self.old.sink.now }
+        ensures same_sink { self.new.sink.ghost_name ≡ self.old.sink.ghost_name }
+    {
+        let mut buffer = Buffer::new();
+        self.text(buffer.format(n).as_bytes())
+    }
+
+    /// Hands what the buffer holds to the sink, which then has taken all that was appended. With an
+    /// empty buffer no write is made. After a failure nothing is said of what the buffer holds.
+    ///
+    /// # Errors
+    ///
+    /// `Failed` where the sink's faults rose in this call.
+    pub fn flush(&mut self) -> Result<(), Failed>
+        ensures ok { OnOk result (K.taken self.new.sink.now ≡ appended K.taken self.old) }
+        ensures emptied { OnOk result (self.new.len ≡ 0) }
+        ensures err { OnErr result (IsFront (K.taken self.new.sink.now) (appended K.taken self.old)) }
+        ensures no_write { self.old.len ≡ 0 → self.new.sink.now ≡ self.old.sink.now }
+        ensures no_fault { self.old.len ≡ 0 → IsOk result }
+        ensures cause { HasCause (K.faults self.old.sink.now) (K.faults self.new.sink.now) result }
+        ensures never_falls { K.faults self.old.sink.now ≤ K.faults self.new.sink.now }
+        ensures same_sink { self.new.sink.ghost_name ≡ self.old.sink.ghost_name }
+    {
+        hand_over(self.sink, &self.buffer, self.len)?;
+        self.len = 0;
+        Ok(())
+    }
+
+    /// Appends as many bytes from the front of `t` as fit into the buffer, at least one, and says how
+    /// many.
+    fn fill(&mut self, t: &[u8]) -> Result<usize, Failed>
+        requires { 0 < length t.now }
+        ensures some { IfOk result (λ count. 0 < count) }
+        ensures bound { IfOk result (λ count. count ≤ length t.now) }
+        ensures ok { IfOk result (λ count.
+            appended K.taken self.new ≡ after (appended K.taken self.old) (take count t.now)) }
+        ensures err { OnErr result
+            (IsFront (K.taken self.new.sink.now) (after (appended K.taken self.old) t.now)) }
+        ensures cause { HasCause (K.faults self.old.sink.now) (K.faults self.new.sink.now) result }
+        ensures never_falls { K.faults self.old.sink.now ≤ K.faults self.new.sink.now }
+        ensures gathers { IfOk result (λ count.
+            self.old.len + count < BUFFER → self.new.sink.now ≡ self.old.sink.now) }
+        ensures len { IfOk result (λ count.
+            self.old.len + count < BUFFER → self.new.len ≡ self.old.len + count) }
+        ensures full { OnErr result (BUFFER ≤ self.old.len + length t.now) }
+        ensures same_sink { self.new.sink.ghost_name ≡ self.old.sink.ghost_name }
+    {
+        let len = self.len;
+        let count = t.len().min(BUFFER - len);
+        let end = len + count;
+        self.buffer[len..end].copy_from_slice(&t[..count]);
+        if end == BUFFER {
+            hand_over(self.sink, &self.buffer, end)?;
+            self.len = 0;
+        } else {
+            self.len = end;
+        }
+        Ok(count)
+    }
+}
+
+/// Writes the first `len` bytes of `buffer` to the sink, by as many calls as it takes.
+fn hand_over<K: Sink>(sink: &mut K, buffer: &[u8], len: usize) -> Result<(), Failed>
+    requires { len ≤ length buffer.now }
+    ensures ok { OnOk result (K.taken sink.new ≡ after (K.taken sink.old) (take len buffer.now)) }
+    ensures err { OnErr result (IsFront (K.taken sink.new) (after (K.taken sink.old) (take len buffer.now))) }
+    ensures no_write { len ≡ 0 → sink.new ≡ sink.old }
+    ensures no_fault { len ≡ 0 → IsOk result }
+    ensures cause { HasCause (K.faults sink.old) (K.faults sink.new) result }
+    ensures never_falls { K.faults sink.old ≤ K.faults sink.new }
+{
+    let mut at = 0;
+    while at < len {
+        at += sink.write(&buffer[at..len])?;
+    }
+    Ok(())
+}

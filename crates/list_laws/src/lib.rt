@@ -1,0 +1,10 @@
+//! Words and lemmas on lists, sums over ranks and results, each stated once for all crates.
+//!
+//! The crate has no code. Contracts cite its definitions, and proofs its lemmas:
+//!
+//! | Module | Definitions (`specs/`) | Lemmas (`proofs/`) |
+//! |---|---|---|
+//! | `Lists` | `EachAt`: a fact of each place of a list and the element there | reads by `slice_get` after a write, a push or a map; `All` from the front; facts by place |
+//! | `Sums` | `total`: a sum over the first n numbers, such as the ranks | bounds, sums of sums, one changed term, the sum of a list |
+//! | `Results` | | facts on the answer `Ok`, joined and changed |
+#![tactic(auto)]

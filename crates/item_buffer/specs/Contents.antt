@@ -1,0 +1,36 @@
+-- What contracts see of a parcel, and what a link's log keeps of one.
+use Rattle.std.specs.Prelude.{◌≡◌, ℕ, Bool, false, List, [], Option, None}
+use Rattle.bale_types.specs.declared.item.Entry.{Entry}
+
+-- A parcel: the entries that nobody took yet, its two marks, the entry that `untake` would put back, and
+-- the number of entries taken since the last clear and not put back.
+-- Example: at capacity 3, after pushing x and y and taking one, untaken is [y], back is Some x, taken is 1.
+pub record Contents : Type 0 where
+  pub untaken : List Entry
+  pub last : Bool
+  pub epoch : ℕ
+  pub back : Option Entry
+  pub taken : ℕ
+
+-- A parcel is fresh where no entry of it is taken, so that there is none to put back either.
+pub record IsFresh (c : Contents) : Type 0 where
+  pub none_taken : c.taken ≡ 0
+  pub none_back : c.back ≡ None
+
+-- A parcel as a log keeps it: what travels, and nothing of who has read how far.
+pub record Shipped : Type 0 where
+  pub entries : List Entry
+  pub last : Bool
+  pub epoch : ℕ
+
+-- What a log keeps of a parcel that is sent now: the entries left in it, and its marks.
+abbrev pub shipped : Contents → Shipped
+shipped c = record { entries = c.untaken; last = c.last; epoch = c.epoch }
+
+-- A parcel as it arrives, with nothing taken: `shipped (arrived s)` is `s`.
+abbrev pub arrived : Shipped → Contents
+arrived s = record { untaken = s.entries; last = s.last; epoch = s.epoch; back = None; taken = 0 }
+
+-- The empty fresh parcel of an epoch, not marked last.
+abbrev pub blank : ℕ → Contents
+blank epoch = record { untaken = []; last = false; epoch = epoch; back = None; taken = 0 }

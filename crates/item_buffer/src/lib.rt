@@ -1,0 +1,24 @@
+//! Parcels: what travels on a link from one rank to another.
+//!
+//! A rank pushes entries into a parcel until it is full, hands it over whole, and the rank at the other
+//! end takes them out in the same order. A parcel can hold `CAP` entries, carries the mark `last` and the
+//! number of its epoch, and takes no memory after `new`; moving it moves no entry.
+//!
+//! | Call | Needs | Answer |
+//! |---|---|---|
+//! | `new(alloc)` | `CAP` from 1 to 1,024 | empty, nothing taken, not last, epoch 0 |
+//! | `try_push(e)` | nothing taken | `false` exactly where the parcel holds `CAP` entries |
+//! | `head()` | | the first untaken entry, if any |
+//! | `take()` | | the same, which is then taken |
+//! | `untake()` | an entry taken since the last clear, and not put back | puts it back in front |
+//! | `clear()` | | empty, nothing taken, not last, the same epoch |
+//! | `len()`, `is_full()`, `cap()` | | of the untaken entries, and `CAP` |
+//! | `last()`, `set_last(on)`, `epoch()`, `set_epoch(e)` | | the marks |
+#![tactic(auto)]
+
+mod parcel;
+
+pub use parcel::Parcel;
+
+#[cfg(test)]
+mod tests;

@@ -1,0 +1,10 @@
+pub mod Coordinates
+pub mod Places
+pub mod Links
+pub mod Ends
+pub mod Tags
+pub mod Kept
+pub mod Neighbours
+pub mod Steps
+pub mod Tables
+pub mod Filling

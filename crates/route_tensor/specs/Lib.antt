@@ -1,0 +1,9 @@
+pub mod Grid
+pub mod Refusal
+pub mod Link
+pub mod Ends
+pub mod Tag
+pub mod Pair
+pub mod Kept
+pub mod Neighbour
+pub mod Routes

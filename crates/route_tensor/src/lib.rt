@@ -1,0 +1,27 @@
+//! Grids of ranks, the links between them, and the way of an entry from hop to hop.
+//!
+//! A grid arranges the ranks in one to three dimensions. An entry from rank `s` to rank `d` takes one hop
+//! for each dimension, and each hop sets one coordinate from that of `s` to that of `d`. So each rank has
+//! links to few others only, and what it sends to many destinations shares their buffers.
+//!
+//! | Call | Answer |
+//! |---|---|
+//! | `Grid::new` | the grid of these dimensions, or why there is none |
+//! | `ranks`, `hops`, `links` | how many ranks, hops and links it has |
+//! | `coord`, `place` | a rank's coordinate; where an entry stands after some hops |
+//! | `link`, `ends` | the number of a link; the hop and the two ranks of a number |
+//! | `tag_first`, `tag_next` | the tag of an entry on its first and on its next link |
+//! | `pair_of` | the sender and the destination of an entry, by its tag and link |
+//! | `Routes` | what one rank looks up for each entry: its neighbours, first steps, next steps, senders |
+#![tactic(auto)]
+
+mod grid;
+mod link;
+mod routes;
+mod tag;
+
+pub use grid::{Grid, GridError};
+pub use routes::{Neighbour, Onward, Routes};
+
+#[cfg(test)]
+mod tests;

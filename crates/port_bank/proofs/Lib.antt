@@ -1,0 +1,15 @@
+pub mod Fronts
+pub mod Segments
+pub mod Routes
+pub mod Kept
+pub mod Pipeline
+pub mod Channels
+pub mod Links
+pub mod Banks
+pub mod Closing
+pub mod Turns
+pub mod Owners
+pub mod Ports
+pub mod Posts
+mod ByHand
+mod ByHops

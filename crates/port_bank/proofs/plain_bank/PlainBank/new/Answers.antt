@@ -1,0 +1,12 @@
+use Rattle.std.proofs.Common.{◌≡◌, sym, ap, subst, ◌∙◌, arith, replicate, List}
+use Rattle.route_tensor.specs.Link.{links}
+use Rattle.port_bank.specs.Plain.{Channel, unused, IsBank}
+use Rattle.port_bank.proofs.Closing.{empty_is_bank}
+use Rattle.port_bank.proofs.plain_bank.PlainBank.new.Goals as goal
+
+pub invariant_of-result : goal.invariant_of-result
+invariant_of-result g c =
+    let all : c.loop.counter ≡ links c.args.grid.now = omega arith in
+    let items : c.loop.links.items ≡ replicate (links c.args.grid.now) unused = c.loop.invariant ∙ ap (λ n. replicate n unused) all in
+    let P : List Channel → Type 0 = λ channels. IsBank g.row.CAP (record { dims = c.args.grid.now; slots = c.args.slots; channels = channels }) in
+    subst P (sym items) (empty_is_bank g.row.CAP c.args.slots c.args.grid.now c.requires.small c.links-count.ensures.grid)

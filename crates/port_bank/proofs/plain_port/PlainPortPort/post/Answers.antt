@@ -1,0 +1,31 @@
+use Rattle.std.proofs.Common.{◌∙◌, sym, subst, ap, length, ◌<◌, lit<, arith}
+use Rattle.item_buffer.specs.Contents.{shipped}
+use Rattle.port_bank.specs.Logs.{lasts, added, starting_at, ending_at}
+use Rattle.port_bank.specs.Relay.{RelayLaw}
+use Rattle.port_bank.specs.Plain.{sent_of, got_of}
+use Rattle.port_bank.proofs.Ports.{idle_here, post_turn}
+use Rattle.port_bank.proofs.Owners.{starting_own}
+use Rattle.port_bank.proofs.plain_port.PlainPortPort.post.Goals as goal
+
+pub post-requires : goal.post-requires
+post-requires g c =
+    let b = c.args.self.now.bank in (
+      lit< tt,
+      (
+        lit< tt,
+        (
+          c.requires.link,
+          (
+            c.requires.epoch ∙ ap lasts (starting_own b.dims c.args.self.now.rank (sent_of b) c.args.link c.requires.starts_here),
+            subst (λ r. RelayLaw b.dims r (added (starting_at b.dims r (sent_of b)) c.args.link (shipped c.args.p.now)) (ending_at b.dims r (got_of b))) (sym c.requires.starts_here) c.requires.law,
+          ),
+        ),
+      ),
+    )
+
+pub returns-clause-idle_here : goal.returns-clause-idle_here
+returns-clause-idle_here g c =
+    let b = c.args.self.now.bank in
+    let within : c.args.link < length b.channels = omega (arith, c.requires.link, c.post.ensures.number) in
+    idle_here c.args.self.now.rank b c.post.new.self c.args.link
+    (post_turn b c.post.new.self c.args.link c.post.result (shipped c.args.p.now) within c.post.ensures.sent c.post.ensures.no_room c.post.ensures.no_memory)

@@ -1,0 +1,97 @@
+-- What contracts see of a plain bank.
+use Rattle.std.specs.Prelude.{◌≡◌, ℕ, ◌+◌, ◌-◌, ◌^◌, ◌<◌, ◌≤◌, ◌==◌, min, Bool, false, List, [], ◌∷◌, ◌++◌, map, replicate, length, slice_index_or, slice_set}
+use Rattle.item_buffer.specs.Contents.{Shipped}
+use Rattle.port_bank.specs.Logs.{Logs, starting_at, ending_at, starting_elsewhere, ending_elsewhere}
+use Rattle.route_tensor.specs.Grid.{ranks, IsGrid}
+use Rattle.route_tensor.specs.Link.{links}
+use Rattle.port_bank.specs.Link.{LinkLaw}
+use Rattle.port_bank.specs.Relay.{RelayLaw}
+use Rattle.port_bank.specs.Port.{Rest}
+use Rattle.port_bank.specs.Round.{Round}
+
+-- One link: the parcels posted and those collected, how often its sender looked for room and its reader looked,
+-- how often its reader listened for it, and how often it had at the end of its latest collect.
+pub record Channel : Type 0 where
+  pub sent : List Shipped
+  pub got : List Shipped
+  pub looks_out : ℕ
+  pub looks_in : ℕ
+  pub listens : ℕ
+  pub noted : ℕ
+
+-- A link on which nothing was done.
+abbrev pub unused : Channel
+unused = record { sent = []; got = []; looks_out = 0; looks_in = 0; listens = 0; noted = 0 }
+
+-- A count that rises by one, and stands still at the last number of 64 bits.
+abbrev pub raised : ℕ → ℕ
+raised n = min (n + 1) (2 ^ 64 - 1)
+
+-- The link after its sender looked, found room and posted a parcel; and after it found none.
+abbrev pub posted : Channel → Shipped → Channel
+posted c p = record c { sent = c.sent ++ p ∷ []; looks_out = raised c.looks_out }
+
+abbrev pub refused : Channel → Channel
+refused c = record c { looks_out = raised c.looks_out }
+
+-- The link after its reader looked and found nothing; and after it collected a parcel.
+abbrev pub listened : Channel → Channel
+listened c = record c { looks_in = raised c.looks_in; listens = raised c.listens; noted = raised c.listens }
+
+abbrev pub collected : Channel → Shipped → Channel
+collected c p = record (listened c) { got = c.got ++ p ∷ [] }
+
+-- A plain bank: its grid, its number of slots per link, and each link by its number.
+pub record Bank : Type 0 where
+  pub dims : List ℕ
+  pub slots : ℕ
+  pub channels : List Channel
+
+abbrev pub channel_at : Bank → ℕ → Channel
+channel_at b l = slice_index_or b.channels l unused
+
+-- The bank with another channel at link l.
+abbrev pub with_channel : Bank → ℕ → Channel → Bank
+with_channel b l c = record b { channels = slice_set b.channels l c }
+
+-- All parcels posted on each link, and all collected.
+abbrev pub sent_of : Bank → Logs
+sent_of b = λ l. (channel_at b l).sent
+
+abbrev pub got_of : Bank → Logs
+got_of b = λ l. (channel_at b l).got
+
+-- What the ranks other than r sent and got.
+abbrev pub others_of : ℕ → Bank → Rest
+others_of r b = record { bank = []; sent = starting_elsewhere b.dims r (sent_of b); got = ending_elsewhere b.dims r (got_of b) }
+
+-- Whether no slot is free on rank r's link l out: as many parcels as it has slots are sent and not collected.
+abbrev pub crowded_of : ℕ → Bank → ℕ → Bool
+crowded_of r b l = length (starting_at b.dims r (sent_of b) l) == length (got_of b l) + b.slots
+
+-- Whether nothing waits on rank r's link l in: every parcel that was sent is collected.
+abbrev pub idle_of : ℕ → Bank → ℕ → Bool
+idle_of r b l = length (ending_at b.dims r (got_of b) l) == length (sent_of b l)
+
+-- A bank on which nothing was done.
+abbrev pub empty_bank : List ℕ → ℕ → Bank
+empty_bank dims slots = record { dims = dims; slots = slots; channels = replicate (links dims) unused }
+
+-- What a plain bank of a capacity leaves when it is closed.
+abbrev pub closed : ℕ → Bank → Round
+closed cap b = record {
+  dims = b.dims;
+  cap = cap;
+  slots = b.slots;
+  by_slots = false;
+  sent = map (λ c. c.sent) b.channels;
+  got = map (λ c. c.got) b.channels;
+}
+
+-- What a plain bank keeps, for parcels of capacity cap: the law of each link and the relay law of each rank.
+pub record IsBank (cap : ℕ) (b : Bank) : Type 0 where
+  pub small : cap ≤ 1024
+  pub grid : IsGrid b.dims
+  pub number : length b.channels ≡ links b.dims
+  pub each_link : (l : ℕ) → l < links b.dims → LinkLaw cap b.slots (sent_of b l) (got_of b l)
+  pub each_rank : (r : ℕ) → r < ranks b.dims → RelayLaw b.dims r (sent_of b) (got_of b)

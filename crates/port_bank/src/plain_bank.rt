@@ -1,0 +1,133 @@
+//! The plain bank: the links of all ranks on one thread, with every parcel ever posted on them.
+ghost use Rattle.std.specs.Prelude.{◌≡◌, ◌≢◌, ◌+◌, ◌<◌, ◌≤◌, ℕ, length, replicate, slice_get, IfOk, IsErr, Ok, Some};
+ghost use Rattle.bale_types.specs.Stream.{Rose};
+ghost use Rattle.item_buffer.specs.Contents.{shipped, arrived, blank};
+ghost use Rattle.route_tensor.specs.Grid.{ranks};
+ghost use Rattle.route_tensor.specs.Link.{links};
+ghost use Rattle.route_tensor.specs.Tag.{IsFair};
+ghost use Rattle.route_tensor.specs.Ends.{hop_at, sender_at};
+ghost use Rattle.port_bank.specs.Logs.{lasts, added, starting_at, ending_at};
+ghost use Rattle.port_bank.specs.Relay.{RelayLaw, HasFairTags};
+ghost use Rattle.port_bank.specs.Port.{IsSlots};
+ghost use Rattle.port_bank.specs.Round.{IsRound};
+ghost use Rattle.port_bank.specs.Plain.{Bank, IsBank, channel_at, with_channel, sent_of, got_of, posted, refused, listened, collected, empty_bank, closed};
+
+use crate::plain_link::PlainLink;
+use crate::plain_port::PlainPort;
+use crate::plain_round::PlainRound;
+use crate::{Collected, Posted};
+use bale_types::NoMemory;
+use item_buffer::Parcel;
+use route_tensor::Grid;
+use std::alloc::Global;
+use std::marker::Model;
+
+/// The links of a grid, with the parcels of capacity `CAP` that were posted on each.
+#[derive(Drop)]
+pub struct PlainBank<const CAP: usize> {
+    alloc: Global,
+    grid: Grid,
+    /// How many parcels of a link may be posted and not collected.
+    slots: u32,
+    /// By the number of the link.
+    links: Vec<PlainLink>,
+}
+
+impl<const CAP: usize> Model for PlainBank<CAP> {
+    ghost use Rattle.port_bank.specs.Plain.{Bank, IsBank};
+
+    ghost Value = { Bank };
+
+    ghost view = { λ b. record { dims = b.grid; slots = b.slots; channels = b.links.items } };
+
+    ghost invariant = { λ b. IsBank CAP (record { dims = b.grid; slots = b.slots; channels = b.links.items }) };
+}
+
+impl<const CAP: usize> PlainBank<CAP> {
+    /// A bank on which nothing was posted, with so many slots per link: 1, 2, 4 or 8.
+    pub fn new(alloc: Global, grid: &Grid, slots: u32) -> Result<Self, NoMemory>
+        requires some { 0 < CAP }
+        requires small { CAP ≤ 1024 }
+        requires slots { IsSlots slots }
+        ensures { IfOk result (λ b. b ≡ empty_bank grid.now slots) }
+    {
+        let count = grid.links();
+        let mut links = Vec::with_capacity(alloc, count as usize)?;
+        for _ in 0..count {
+            if links.push(PlainLink::new(alloc)).is_err() {
+                return Err(NoMemory);
+            }
+        }
+        Ok(PlainBank {
+            alloc,
+            grid: *grid,
+            slots,
+            links,
+        })
+    }
+
+    /// The port of a rank, which owns the bank until it gives it back.
+    pub fn port(self, rank: u32) -> PlainPort<CAP>
+        requires { rank < ranks self.dims }
+        ensures bank { result.bank ≡ self.entry }
+        ensures rank { result.rank ≡ rank }
+        ensures lawful { IsBank CAP self.entry }
+    {
+        PlainPort::new(self, rank)
+    }
+
+    /// Ends the exchange: what each rank pulled is the front of what the others pushed toward it, and all of it in
+    /// each epoch that every link has ended.
+    pub fn close(self) -> PlainRound
+        ensures round { result ≡ closed CAP self.entry }
+        ensures in_order { IsRound result }
+    {
+        let PlainBank {
+            alloc: _,
+            grid,
+            slots,
+            links,
+        } = self;
+        PlainRound::new(grid, CAP as u32, slots, links)
+    }
+
+    /// Posts a parcel on a link, for the rank at which the link starts.
+    pub(crate) fn post(&mut self, link: u32, p: &mut Parcel<CAP>) -> Result<Posted, NoMemory>
+        requires link { link < links self.old.dims }
+        requires epoch { p.old.epoch ≡ lasts (sent_of self.old link) }
+        requires law { let rank = sender_at self.old.dims link in RelayLaw self.old.dims rank
+            (added (starting_at self.old.dims rank (sent_of self.old)) link (shipped p.old)) (ending_at self.old.dims rank (got_of self.old)) }
+        ensures sent { result ≡ Ok Posted.Sent → self.new ≡ with_channel self.old link (posted (channel_at self.old link) (shipped p.old)) }
+        ensures emptied { result ≡ Ok Posted.Sent → p.new ≡ blank p.old.epoch }
+        ensures room { result ≡ Ok Posted.Sent → length (sent_of self.old link) < length (got_of self.old link) + self.old.slots }
+        ensures no_room { result ≡ Ok Posted.NoRoom → self.new ≡ with_channel self.old link (refused (channel_at self.old link)) }
+        ensures full { result ≡ Ok Posted.NoRoom → length (sent_of self.old link) ≡ length (got_of self.old link) + self.old.slots }
+        ensures no_memory { IsErr result → self.new ≡ self.old }
+        ensures kept { result ≢ Ok Posted.Sent → p.new ≡ p.old }
+        ensures number { length self.old.channels ≡ links self.old.dims }
+    {
+        let _fits = p.len();
+        self.links[link as usize].post(self.alloc, self.slots, p)
+    }
+
+    /// Collects the next parcel of a link, for the rank at which the link ends.
+    pub(crate) fn collect(&mut self, link: u32, p: &mut Parcel<CAP>) -> Collected
+        requires link { link < links self.old.dims }
+        requires empty { p.old ≡ blank (lasts (got_of self.old link)) }
+        ensures got { result ≡ Collected.Got → self.new ≡ with_channel self.old link (collected (channel_at self.old link) (shipped p.new)) }
+        ensures arrived { result ≡ Collected.Got → p.new ≡ arrived (shipped p.new) }
+        ensures epoch { result ≡ Collected.Got → p.new.epoch ≡ lasts (got_of self.old link) }
+        ensures fits { result ≡ Collected.Got → length p.new.untaken ≤ CAP }
+        ensures fair { result ≡ Collected.Got → HasFairTags self.old.dims (hop_at self.old.dims link) (shipped p.new) }
+        ensures some { result ≡ Collected.Got → length (got_of self.old link) < length (sent_of self.old link) }
+        ensures nothing { result ≡ Collected.Nothing → self.new ≡ with_channel self.old link (listened (channel_at self.old link)) }
+        ensures all { result ≡ Collected.Nothing → length (got_of self.old link) ≡ length (sent_of self.old link) }
+        ensures kept { result ≡ Collected.Nothing → p.new ≡ p.old }
+        ensures heard { Rose (channel_at self.old link).noted (channel_at self.new link).listens }
+        ensures listens { (channel_at self.old link).listens ≤ (channel_at self.new link).listens }
+        ensures looks { (channel_at self.old link).looks_in ≤ (channel_at self.new link).looks_in }
+        ensures number { length self.old.channels ≡ links self.old.dims }
+    {
+        self.links[link as usize].collect(p)
+    }
+}

@@ -1,0 +1,88 @@
+//! One rank's end of a plain bank.
+ghost use Rattle.std.specs.Prelude.{◌≡◌, ◌≢◌, ℕ, ◌+◌, ◌==◌, Bool, true, List, length, refl};
+ghost use Rattle.port_bank.specs.Logs.{Logs, starting_at, ending_at};
+ghost use Rattle.port_bank.specs.Plain.{Bank, IsBank, channel_at, sent_of, got_of, others_of};
+
+use crate::plain_bank::PlainBank;
+use crate::{Collected, Port, Posted};
+use bale_types::NoMemory;
+use item_buffer::Parcel;
+
+/// The port of one rank, which owns the bank.
+#[derive(Drop)]
+pub struct PlainPort<const CAP: usize> {
+    bank: PlainBank<CAP>,
+    rank: u32,
+}
+
+impl<const CAP: usize> PlainPort<CAP> {
+    pub(crate) fn new(bank: PlainBank<CAP>, rank: u32) -> Self
+        ensures bank { result.bank ≡ bank.entry }
+        ensures rank { result.rank ≡ rank }
+    {
+        PlainPort { bank, rank }
+    }
+
+    /// The bank, with what this rank sent and got.
+    pub fn into_bank(self) -> PlainBank<CAP>
+        ensures bank { result ≡ self.entry.bank }
+        ensures lawful { IsBank CAP result }
+    {
+        let PlainPort { bank, rank: _ } = self;
+        bank
+    }
+}
+
+impl<const CAP: usize> Port<CAP> for PlainPort<CAP> {
+    ghost use Rattle.std.specs.Prelude.{◌+◌, ◌==◌, true, length, refl};
+    ghost use Rattle.port_bank.specs.Logs.{starting_at, ending_at};
+    ghost use Rattle.port_bank.specs.Plain.{channel_at, sent_of, got_of, others_of};
+
+    const GROWS: bool = true;
+
+    ghost grows = { true };
+
+    ghost rank = { λ p. p.rank };
+
+    ghost dims = { λ p. p.bank.dims };
+
+    ghost slots = { λ p. p.bank.slots };
+
+    ghost sent = { λ p. starting_at p.bank.dims p.rank (sent_of p.bank) };
+
+    ghost got = { λ p. ending_at p.bank.dims p.rank (got_of p.bank) };
+
+    ghost freed = { λ p l. length (got_of p.bank l) };
+
+    ghost crowded = { λ p l. length (starting_at p.bank.dims p.rank (sent_of p.bank) l) == length (got_of p.bank l) + p.bank.slots };
+
+    ghost known = { λ p l. length (sent_of p.bank l) };
+
+    ghost idle = { λ p l. length (ending_at p.bank.dims p.rank (got_of p.bank) l) == length (sent_of p.bank l) };
+
+    ghost looks_out = { λ p l. (channel_at p.bank l).looks_out };
+
+    ghost looks_in = { λ p l. (channel_at p.bank l).looks_in };
+
+    ghost listens = { λ p l. (channel_at p.bank l).listens };
+
+    ghost noted = { λ p l. (channel_at p.bank l).noted };
+
+    ghost rest = { λ p. others_of p.rank p.bank };
+
+    ghost crowded_is = { λ p l. refl };
+
+    ghost idle_is = { λ p l. refl };
+
+    fn rank(&self) -> u32 {
+        self.rank
+    }
+
+    fn post(&mut self, link: u32, p: &mut Parcel<CAP>) -> Result<Posted, NoMemory> {
+        self.bank.post(link, p)
+    }
+
+    fn collect(&mut self, link: u32, p: &mut Parcel<CAP>) -> Collected {
+        self.bank.collect(link, p)
+    }
+}

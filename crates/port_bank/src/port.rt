@@ -1,0 +1,168 @@
+//! What a rank can do on its own links, whatever carries the parcels.
+ghost use Rattle.std.specs.Prelude.{◌≡◌, ◌≢◌, ℕ, ◌+◌, ◌<◌, ◌≤◌, ◌==◌, Bool, true, false, List, length, IsOk, IsErr, Ok};
+ghost use Rattle.std.specs.List.{All};
+ghost use Rattle.bale_types.specs.Stream.{Rose};
+ghost use Rattle.item_buffer.specs.Contents.{shipped, arrived, blank};
+ghost use Rattle.route_tensor.specs.Link.{links};
+ghost use Rattle.route_tensor.specs.Tag.{IsFair};
+ghost use Rattle.route_tensor.specs.Ends.{hop_at, sender_at, reader_at};
+ghost use Rattle.port_bank.specs.Logs.{Logs, lasts, added};
+ghost use Rattle.port_bank.specs.Relay.{RelayLaw};
+ghost use Rattle.port_bank.specs.Port.{Rest, changed};
+
+use bale_types::NoMemory;
+use item_buffer::Parcel;
+
+/// What became of a parcel that was posted.
+#[derive(Clone, Copy, PartialEq, Eq, Debug)]
+pub enum Posted {
+    /// It is on its way, and the parcel at hand is empty.
+    Sent,
+    /// As many parcels as the link has slots were not collected yet.
+    NoRoom,
+}
+
+/// What a collect found.
+#[derive(Clone, Copy, PartialEq, Eq, Debug)]
+pub enum Collected {
+    /// The link's next parcel, which is now at hand.
+    Got,
+    /// Every parcel that the port heard of was collected before.
+    Nothing,
+}
+
+/// One rank's end of a bank: its links out, on which it posts, and its links in, from which it collects.
+///
+/// | What contracts see | Of |
+/// |---|---|
+/// | `rank`, `dims`, `slots` | the rank, the grid, and the number of slots of each link; no call changes them |
+/// | `sent`, `got` | each link: all parcels that the rank posted there, or collected there; empty where the link isn't its own |
+/// | `freed`, `crowded` | each link out: how many of its parcels the port knows to be collected, and whether that leaves no slot |
+/// | `known`, `idle` | each link in: how many parcels the port knows to be posted, and whether it collected all those |
+/// | `looks_out`, `looks_in` | each link: how often `post` looked for room, and how often `collect` looked |
+/// | `listens`, `noted` | each link in: how often the port listened for it, and as of the end of its latest collect |
+/// | `rest` | what belongs to others, which no call changes |
+///
+/// The counts are kept in 64 bits and stand still at the last number.
+pub trait Port<const CAP: usize>: Drop {
+    /// Whether `post` may take memory, and so may answer `NoMemory`.
+    const GROWS: bool;
+
+    ghost grows: { Bool };
+
+    ghost rank: { Self → ℕ };
+
+    ghost dims: { Self → List ℕ };
+
+    ghost slots: { Self → ℕ };
+
+    ghost sent: { Self → Logs };
+
+    ghost got: { Self → Logs };
+
+    ghost freed: { Self → ℕ → ℕ };
+
+    ghost crowded: { Self → ℕ → Bool };
+
+    ghost known: { Self → ℕ → ℕ };
+
+    ghost idle: { Self → ℕ → Bool };
+
+    ghost looks_out: { Self → ℕ → ℕ };
+
+    ghost looks_in: { Self → ℕ → ℕ };
+
+    ghost listens: { Self → ℕ → ℕ };
+
+    ghost noted: { Self → ℕ → ℕ };
+
+    ghost rest: { Self → Rest };
+
+    /// The rank whose port this is.
+    fn rank(&self) -> u32
+        ensures { result ≡ rank self.now };
+
+    /// Posts the parcel on a link out, and leaves an empty one of the same epoch in its place.
+    ///
+    /// The parcel is fresh, is of the epoch that the link is in, and, with the parcels posted before, keeps the
+    /// relay law: it passes on only what the rank got, and is marked last only where that is all.
+    ///
+    /// # Errors
+    /// `NoMemory` changes nothing, and never comes where `GROWS` is false.
+    fn post(&mut self, link: u32, p: &mut Parcel<CAP>) -> Result<Posted, NoMemory>
+        requires link { link < links (dims self.old) }
+        requires starts_here { sender_at (dims self.old) link ≡ rank self.old }
+        requires fresh { p.old.taken ≡ 0 }
+        requires epoch { p.old.epoch ≡ lasts (sent self.old link) }
+        requires law { RelayLaw (dims self.old) (rank self.old) (added (sent self.old) link (shipped p.old)) (got self.old) }
+
+        // Sent: the parcel stands at the end of the link's log, and one slot was free for it.
+        ensures sent { result ≡ Ok Posted.Sent → sent self.new ≡ added (sent self.old) link (shipped p.old) }
+        ensures emptied { result ≡ Ok Posted.Sent → p.new ≡ blank p.old.epoch }
+        ensures room { result ≡ Ok Posted.Sent → length (sent self.old link) < freed self.new link + slots self.old }
+
+        // NoRoom: the port looked in this call, and saw every slot taken.
+        ensures looked { result ≡ Ok Posted.NoRoom → Rose (looks_out self.old link) (looks_out self.new link) }
+        ensures no_room { result ≡ Ok Posted.NoRoom → length (sent self.old link) ≡ freed self.new link + slots self.old }
+        ensures crowded { result ≡ Ok Posted.NoRoom → crowded self.new link ≡ true }
+
+        // Not sent: nothing else changed; without memory, nothing at all.
+        ensures not_sent { result ≢ Ok Posted.Sent → sent self.new ≡ sent self.old }
+        ensures still_idle { result ≢ Ok Posted.Sent → idle self.new ≡ idle self.old }
+        ensures kept { result ≢ Ok Posted.Sent → p.new ≡ p.old }
+        ensures no_memory { IsErr result → self.new ≡ self.old }
+        ensures memory { grows ≡ false → IsOk result }
+
+        // In each case: what the port knows changes at this link alone, and of its links in nothing does.
+        ensures crowded_here { crowded self.new ≡ changed (crowded self.old) link (crowded self.new link) }
+        ensures idle_here { idle self.new ≡ changed (idle self.old) link (idle self.new link) }
+        ensures looks_here { looks_out self.new ≡ changed (looks_out self.old) link (looks_out self.new link) }
+        ensures got { got self.new ≡ got self.old }
+        ensures looks_in { looks_in self.new ≡ looks_in self.old }
+        ensures listens { listens self.new ≡ listens self.old }
+        ensures noted { noted self.new ≡ noted self.old }
+        ensures rest { rest self.new ≡ rest self.old }
+        ensures same_rank { rank self.new ≡ rank self.old }
+        ensures same_dims { dims self.new ≡ dims self.old }
+        ensures same_slots { slots self.new ≡ slots self.old };
+
+    /// Collects the next parcel of a link in, in place of the empty one at hand, which is of the epoch that the
+    /// link is in.
+    fn collect(&mut self, link: u32, p: &mut Parcel<CAP>) -> Collected
+        requires link { link < links (dims self.old) }
+        requires ends_here { reader_at (dims self.old) link ≡ rank self.old }
+        requires empty { p.old ≡ blank (lasts (got self.old link)) }
+
+        // Got: the next parcel of the link, with nothing taken; the relay law and the capacity hold of it.
+        ensures got { result ≡ Collected.Got → got self.new ≡ added (got self.old) link (shipped p.new) }
+        ensures arrived { result ≡ Collected.Got → p.new ≡ arrived (shipped p.new) }
+        ensures epoch { result ≡ Collected.Got → p.new.epoch ≡ lasts (got self.old link) }
+        ensures fits { result ≡ Collected.Got → length p.new.untaken ≤ CAP }
+        ensures fair { result ≡ Collected.Got → All (λ e. IsFair (dims self.old) (hop_at (dims self.old) link) e.tag) p.new.untaken }
+        ensures known { result ≡ Collected.Got → length (got self.old link) < known self.new link }
+
+        // Nothing: the port listened since its latest collect on the link, and has collected all that it heard of.
+        ensures heard { result ≡ Collected.Nothing → Rose (noted self.old link) (listens self.new link) }
+        ensures none_known { result ≡ Collected.Nothing → length (got self.old link) ≡ known self.new link }
+        ensures idle { result ≡ Collected.Nothing → idle self.new link ≡ true }
+        ensures not_got { result ≡ Collected.Nothing → got self.new ≡ got self.old }
+        ensures still_crowded { result ≡ Collected.Nothing → crowded self.new ≡ crowded self.old }
+        ensures kept { result ≡ Collected.Nothing → p.new ≡ p.old }
+
+        // In each case: what the port knows changes at this link alone, and of its links out nothing does.
+        ensures noted { noted self.new ≡ changed (noted self.old) link (listens self.new link) }
+        ensures listens { (l : ℕ) → listens self.old l ≤ listens self.new l }
+        ensures looks_in { (l : ℕ) → looks_in self.old l ≤ looks_in self.new l }
+        ensures crowded_here { crowded self.new ≡ changed (crowded self.old) link (crowded self.new link) }
+        ensures idle_here { idle self.new ≡ changed (idle self.old) link (idle self.new link) }
+        ensures sent { sent self.new ≡ sent self.old }
+        ensures looks_out { looks_out self.new ≡ looks_out self.old }
+        ensures rest { rest self.new ≡ rest self.old }
+        ensures same_rank { rank self.new ≡ rank self.old }
+        ensures same_dims { dims self.new ≡ dims self.old }
+        ensures same_slots { slots self.new ≡ slots self.old };
+
+    ghost crowded_is: { (p : Self) (l : ℕ) → crowded p l ≡ (length (sent p l) == freed p l + slots p) };
+
+    ghost idle_is: { (p : Self) (l : ℕ) → idle p l ≡ (length (got p l) == known p l) };
+}

@@ -1,0 +1,61 @@
+-- A link's part of a doorbell under each step.
+use Rattle.std.proofs.Common.{◌≡◌, ℕ, zero, suc, ◌+◌, ◌^◌, ◌<◌, ◌≤◌, Bool, true, false, List, length, get_or, refl, ap, ◌∙◌, inl, inr, ⊎_elim, arith}
+use Rattle.std.proofs.lemmas.Nat.Bits.{bit_at_or, bit_at-pow_same, bit_at-lt}
+use Rattle.std.specs.Int.{bit_at}
+use Rattle.std.specs.Int.Bits.{bit_or}
+use Rattle.link_slots.specs.Logs.{OutLog, InLog}
+use Rattle.link_slots.specs.Wiring.{Wiring, bell_word}
+use Rattle.link_slots.specs.Link.{BellOk, one_where}
+use Rattle.link_slots.specs.Plays.{heard_by, marked_by}
+
+-- a bit that is set stays set when others are set too, and the bits that are set are set
+pub bit_stays : (n v c : ℕ) → bit_at n c ≡ 1 → bit_at (bit_or n v) c ≡ 1
+bit_stays n v c e = let p = bit_at_or n v c in let q = bit_at-lt v c in omega arith
+
+pub bit_comes : (n c : ℕ) → bit_at (bit_or n (2 ^ c)) c ≡ 1
+bit_comes n c = let p = bit_at_or n (2 ^ c) c in let q = bit_at-pow_same c in let r = bit_at-lt n c in omega arith
+
+marked_case : (b : ℕ) (m : Bool) → b ≡ 1 → marked_by b m ≡ true
+marked_case zero m e = absurd (omega arith)
+marked_case (suc b) m e = refl
+
+marked_stays : (b : ℕ) (m : Bool) → m ≡ true → marked_by b m ≡ true
+marked_stays zero m e = e
+marked_stays (suc b) m e = refl
+
+module _ {T : Type 0} (w : Wiring) where
+  pub bell_kept : (l : ℕ) (o o' : OutLog T) (i i' : InLog T) (ws ws' : List ℕ)
+      → o'.offered ≡ o.offered → length o.sent ≤ length o'.sent → i'.marked ≡ i.marked → i'.heard ≡ i.heard → i'.look_ins ≡ i.look_ins → length i.seen ≤ length i'.seen
+      → (bit_at (get_or ws (bell_word w l) 0) (w.bit l) ≡ 1 → bit_at (get_or ws' (bell_word w l) 0) (w.bit l) ≡ 1)
+      → BellOk w l o i ws → BellOk w l o' i' ws'
+  bell_kept l o o' i i' ws ws' offered sent marked heard look_ins seen bits ok = record {
+    offered_sent = let h = ok.offered_sent in omega arith;
+    told = ⊎_elim (λ t. inl (bits t)) (λ u. inr (⊎_elim (λ t. inl (marked ∙ t)) (λ t. inr (omega arith)) u)) ok.told;
+    looked = let h = ok.looked in let e : one_where i'.marked ≡ one_where i.marked = ap one_where marked in omega arith;
+  }
+
+  -- a look in answers the mark
+  pub bell_looked : (l : ℕ) (o : OutLog T) (i i' : InLog T) (ws : List ℕ) → i.marked ≡ true → i'.marked ≡ false → i'.heard ≡ i.heard → i'.look_ins ≡ suc i.look_ins → length o.sent ≤ length i'.seen
+      → BellOk w l o i ws → BellOk w l o i' ws
+  bell_looked l o i i' ws was marked heard look_ins seen ok = record {
+    offered_sent = ok.offered_sent;
+    told = inr (inr (let h = ok.offered_sent in omega arith));
+    looked = let h = ok.looked in let e : one_where i'.marked ≡ 0 = ap one_where marked in let f : one_where i.marked ≡ 1 = ap one_where was in omega arith;
+  }
+
+  -- a ring sets the bit and offers all
+  pub bell_rung : (l : ℕ) (o o' : OutLog T) (i : InLog T) (ws ws' : List ℕ) → o'.offered ≡ length o.sent → length o'.sent ≡ length o.sent → bit_at (get_or ws' (bell_word w l) 0) (w.bit l) ≡ 1
+      → BellOk w l o i ws → BellOk w l o' i ws'
+  bell_rung l o o' i ws ws' offered sent bits ok = record { offered_sent = omega arith; told = inl bits; looked = ok.looked }
+
+  heard_case : (b : ℕ) (i : InLog T) → b < 2 → i.look_ins + one_where i.marked ≤ i.heard → (heard_by b i).look_ins + one_where (heard_by b i).marked ≤ (heard_by b i).heard
+  heard_case zero i h ok = omega arith
+  heard_case (suc b) i h ok = omega arith
+
+  -- a hear marks where the bit was set
+  pub bell_heard : (l : ℕ) (o : OutLog T) (i : InLog T) (ws ws' : List ℕ) → BellOk w l o i ws → BellOk w l o (heard_by (bit_at (get_or ws (bell_word w l) 0) (w.bit l)) i) ws'
+  bell_heard l o i ws ws' ok = let b : ℕ = bit_at (get_or ws (bell_word w l) 0) (w.bit l) in record {
+    offered_sent = ok.offered_sent;
+    told = inr (⊎_elim (λ t. inl (marked_case b i.marked t)) (λ u. ⊎_elim (λ t. inl (marked_stays b i.marked t)) (λ t. inr t) u) ok.told);
+    looked = heard_case b i (bit_at-lt (get_or ws (bell_word w l) 0) (w.bit l)) ok.looked;
+  }

@@ -1,0 +1,61 @@
+-- Parcels of one entry, posted on first hops and collected.
+use Rattle.std.proofs.Common.{◌≡◌, ℕ, zero, suc, ◌+◌, ◌-◌, ◌<◌, Bool, true, false, cond, List, [], ◌∷◌, ◌++◌, length, refl, sym, ap, subst, ◌∙◌, arith}
+use Rattle.std.specs.List.{All}
+use Rattle.std.proofs.lemmas.List.Elements.{All-get_or, All-nil, All-cons}
+use Rattle.bale_types.specs.declared.item.Tag.{Tag}
+use Rattle.bale_types.specs.declared.item.Entry.{Entry}
+use Rattle.item_buffer.specs.Contents.{Contents, Shipped, blank}
+use Rattle.route_tensor.specs.Grid.{dim, IsGrid}
+use Rattle.route_tensor.specs.Tag.{digit, IsFair}
+use Rattle.route_tensor.specs.Ends.{hop_at}
+use Rattle.port_bank.specs.Logs.{Logs, lasts, added}
+use Rattle.port_bank.specs.Relay.{HasFairTags, RelayLaw}
+use Rattle.port_bank.proofs.Segments.{lasts-append, lasts_first}
+use Rattle.port_bank.proofs.Kept.{added-here}
+use Rattle.port_bank.proofs.Posts.{may_post_first, law_posted}
+
+abbrev pub no_digits : Tag
+no_digits = record { d1 = 0; d2 = 0; d3 = 0 }
+
+no_digit : (i : ℕ) → digit no_digits i ≡ 0
+unfolding digit
+no_digit zero = refl
+no_digit (suc zero) = refl
+no_digit (suc (suc zero)) = refl
+no_digit (suc (suc (suc zero))) = refl
+no_digit (suc (suc (suc (suc i)))) = refl
+
+pub no_digits_fair : (dims : List ℕ) (h : ℕ) → IsGrid dims → IsFair dims h no_digits
+no_digits_fair dims h g = record {
+  below = λ i first last.
+      let some : 0 < dim dims i = All-get_or (λ n. 0 < n) dims (i - 1) 0 (omega arith) g.positive in
+      omega (arith, some, no_digit i);
+  here = no_digit h;
+  past = λ i last. no_digit i;
+}
+
+-- the law after a post on the first hop
+pub first_posted : (dims : List ℕ) (r : ℕ) (sent got : Logs) (l : ℕ) (p : Shipped) → IsGrid dims → hop_at dims l ≡ 1 → HasFairTags dims 1 p → RelayLaw dims r sent got → RelayLaw dims r (added sent l p) got
+first_posted dims r sent got l p g first fair law = law_posted dims r sent got l p g law (may_post_first dims r sent got l p g first fair)
+
+-- the epoch after a parcel
+pub lasts_added : (logs : Logs) (l : ℕ) (p : Shipped) → lasts (added logs l p l) ≡ cond p.last (lasts (logs l) + 1) (lasts (logs l))
+lasts_added logs l p =
+    ap lasts (added-here logs l p) ∙ (lasts-append (logs l) (p ∷ [])
+    ∙ (ap (λ n. lasts (logs l) + n) (lasts_first p [] p.last refl)
+    ∙ elim p.last as (λ b. lasts (logs l) + cond b 1 0 ≡ cond b (lasts (logs l) + 1) (lasts (logs l))) [ true ↦ refl | false ↦ omega arith ]))
+
+-- a parcel of one entry whose tag has no digits
+pub one_fair : (dims : List ℕ) (p : Shipped) (e : Entry) → IsGrid dims → p.entries ≡ e ∷ [] → e.tag ≡ no_digits → HasFairTags dims 1 p
+one_fair dims p e g is tag =
+    let P : Entry → Type 0 = λ x. IsFair dims 1 x.tag in
+    subst (All P) (sym is) (All-cons P e [] (subst (IsFair dims 1) (sym tag) (no_digits_fair dims 1 g)) (All-nil P))
+
+-- an empty parcel of capacity 1 after a push
+pub filled : (old new : Contents) (n : ℕ) (e : Entry) (b : Bool) → old ≡ blank n → (b ≡ true → new ≡ record old { untaken = old.untaken ++ e ∷ [] }) → (b ≡ false → length old.untaken ≡ 1)
+    → new ≡ record (blank n) { untaken = e ∷ [] }
+filled old new n e true is pushed full = pushed refl ∙ ap (λ (c : Contents). record { untaken = c.untaken ++ e ∷ []; last = c.last; epoch = c.epoch; back = c.back; taken = c.taken }) is
+filled old new n e false is pushed full =
+    let h : length old.untaken ≡ 1 = full refl in
+    let z : length old.untaken ≡ 0 = ap (λ (c : Contents). length c.untaken) is in
+    absurd (omega arith)

@@ -1,0 +1,50 @@
+-- What a port's calls change, over the seats before and after.
+use Rattle.std.proofs.Common.{◌≡◌, ◌≢◌, ℕ, ◌+◌, ◌-◌, ◌<◌, eqb, Bool, List, [], ◌∷◌, ◌++◌, map, length, get_or, drop, sym, refl, ap, ◌∙◌, subst}
+use Rattle.std.proofs.lemmas.List.{map-append}
+use mathlib.Core.Logic.{dite}
+use native.Mathlib.Decide.{ℕ_discrete}
+use Rattle.item_buffer.specs.Contents.{Contents, shipped, Shipped}
+use Rattle.port_bank.specs.Logs.{Logs as Posts, added}
+use Rattle.port_bank.specs.Port.{changed}
+use Rattle.port_bank.specs.declared.port.Collected.{Collected}
+use Rattle.port_bank.specs.declared.port.Collected.TheVariants.{Got, Nothing}
+use Rattle.port_bank.proofs.Channels.{changed-here, changed-other}
+use Rattle.port_bank.proofs.Kept.{added-other}
+use Rattle.link_slots.specs.Logs.{OutLog, out_of, with_out}
+use Rattle.link_slots.specs.Seen.{Manning, posted_on, collected_from, freed, known, named}
+use Rattle.atomic_table.specs.Seated.{TableId}
+use Rattle.link_slots.proofs.Moves.{out_there}
+use Rattle.link_slots.proofs.Seating.{added_is}
+
+-- a fact of each link that changes at one alone
+one_changed : {A : Type 0} (f g : ℕ → A) (l : ℕ) → ((m : ℕ) → m ≢ l → g m ≡ f m) → g ≡ changed f l (g l)
+one_changed f g l same = λ k m. at m k
+  where
+    at : (m : ℕ) → g m ≡ changed f l (g l) m
+    at m = dite (ℕ_discrete m l) (λ e. subst (λ (z : ℕ). g z ≡ changed f l (g l) z) (sym e) (sym (changed-here f l (g l)))) (λ ne. same m ne ∙ sym (changed-other f l m (g l) ne))
+
+-- where it is got, and where nothing is
+pub got_else : (a : Collected) (f f' : Posts) (l : ℕ) (p : Shipped) → (a ≡ Got → f' ≡ added f l p) → (a ≡ Nothing → f' ≡ f) → (m : ℕ) → m ≢ l → f' m ≡ f m
+got_else Got f f' l p more same m ne = ap (λ (z : Posts). z m) (more refl) ∙ added-other f l m p ne
+got_else Nothing f f' l p more same m ne = ap (λ (z : Posts). z m) (same refl)
+
+pub idle_changed : (s s' : Manning) (l : ℕ) → ((m : ℕ) → m ≢ l → collected_from s' m ≡ collected_from s m) → ((m : ℕ) → m ≢ l → known s' m ≡ known s m)
+    → ◌≡◌ {A = ℕ → Bool} (λ m. eqb (length (collected_from s' m)) (known s' m)) (changed (λ m. eqb (length (collected_from s m)) (known s m)) l (eqb (length (collected_from s' l)) (known s' l)))
+idle_changed s s' l got seen = one_changed (λ m. eqb (length (collected_from s m)) (known s m)) (λ m. eqb (length (collected_from s' m)) (known s' m)) l (λ m ne k. eqb (length (got m ne k)) (seen m ne k))
+
+module _ (s s' : Manning) (l : ℕ) (here : s' ≡ record s { lists = with_out s.lists l (out_of s'.lists l) }) where
+  elsewhere : (m : ℕ) → m ≢ l → out_of s'.lists m ≡ out_of s.lists m
+  elsewhere m ne = ap (λ (z : Manning). out_of z.lists m) here ∙ out_there s.lists l (out_of s'.lists l) m ne
+
+  pub crowded_changed : ◌≡◌ {A = ℕ → Bool} (λ m. eqb (length (posted_on s' m)) (freed s' m + s'.shape.slots)) (changed (λ m. eqb (length (posted_on s m)) (freed s m + s.shape.slots)) l (eqb (length (posted_on s' l)) (freed s' l + s'.shape.slots)))
+  crowded_changed = one_changed (λ m. eqb (length (posted_on s m)) (freed s m + s.shape.slots)) (λ m. eqb (length (posted_on s' m)) (freed s' m + s'.shape.slots)) l
+      (λ m ne k. let o = elsewhere m ne k in let n = (here k).shape.slots in eqb (length (map shipped o.sent)) ((o.room - n) + n))
+
+  pub sent_here : (p : Contents) → l < length s.lists.outs → (out_of s'.lists l).sent ≡ (out_of s.lists l).sent ++ p ∷ [] → posted_on s' ≡ added (posted_on s) l (shipped p)
+  sent_here p h e = added_is (posted_on s) l (shipped p) (posted_on s') (ap (map shipped) e ∙ map-append shipped (out_of s.lists l).sent (p ∷ [])) (λ m ne. ap (λ (o : OutLog Contents). map shipped o.sent) (elsewhere m ne))
+
+-- banks of one name are one bank
+pub one_bank : (a b : TableId) → named a ≡ named b → a ≡ b
+one_bank a b e =
+    let at : (i : ℕ) → get_or (named a) i 0 ≡ get_or (named b) i 0 = λ i. ap (λ (z : List ℕ). get_or z i 0) e in
+    λ k. record { words = at 0 k; slots = at 1 k; views_name = at 2 k; atom = at 3 k; block = at 4 k; offset = at 5 k; slot_names = ap (λ (z : List ℕ). drop 6 z) e k }

@@ -1,0 +1,71 @@
+use Rattle.std.proofs.Common.{arith, ◌≡◌, ◌<◌, ℕ, sym, ap, subst, ◌∙◌, length, map}
+use Rattle.item_buffer.specs.Contents.{shipped}
+use Rattle.route_tensor.specs.Link.{links}
+use Rattle.route_tensor.specs.Ends.{sender_at}
+use Rattle.port_bank.specs.Logs.{lasts, added}
+use Rattle.port_bank.specs.Relay.{RelayLaw}
+use Rattle.link_slots.specs.declared.ends.OutEnd.{OutEnd}
+use Rattle.link_slots.specs.Logs.{out_of, with_out, sent_of, got_of, sent_more}
+use Rattle.link_slots.specs.View.{own_logs}
+use Rattle.link_slots.specs.Shape.{Shape, MayFollow, KeepsLaw, shipped_all}
+use Rattle.link_slots.specs.Told.{IsManned}
+use Rattle.link_slots.specs.Counts.{IsOutEnd}
+use Rattle.link_slots.specs.Seen.{Manning, posted_on, collected_from}
+use Rattle.link_slots.proofs.Seating.{law_for, may_follow, seat_posted}
+use Rattle.link_slots.proofs.seat.SlotSeat.post.Goals as goal
+
+pub post_on-answer-requires : goal.post_on-answer-requires
+post_on-answer-requires g c =
+    let s = c.self.invariant in let v = c.self.inside.place.me.0 in let key : Shape = c.args.top.now.key in let l : ℕ = c.args.link in
+    let e : v.shape ≡ key = ap (λ (z : Manning). z.shape) c.self.view_is ∙ c.requires.bank.1 in
+    let inside : l < links v.shape.dims = subst (λ (z : Manning). l < links z.shape.dims) (sym c.self.view_is) c.requires.link in
+    let mine : sender_at v.shape.dims l ≡ c.self.inside.rank = subst (λ (z : Manning). sender_at z.shape.dims l ≡ z.rank) (sym c.self.view_is) c.requires.starts_here in
+    let law : RelayLaw v.shape.dims c.self.inside.rank (added (shipped_all (sent_of (own_logs v))) l (shipped c.args.parcel.now)) (shipped_all (got_of (own_logs v))) =
+    subst (λ (z : Manning). RelayLaw z.shape.dims z.rank (added (posted_on z) l (shipped c.args.parcel.now)) (collected_from z)) (sym c.self.view_is) c.requires.law in
+    let epoch : c.args.parcel.now.epoch ≡ lasts (map shipped (sent_of (own_logs v) l)) = subst (λ (z : Manning). c.args.parcel.now.epoch ≡ lasts (posted_on z l)) (sym c.self.view_is) c.requires.epoch in
+    let long : l < length (own_logs v).outs = (let n = s.lists_out in omega arith) in
+    let end : OutEnd = c.index_mut-end.result.now in
+    let counts : IsOutEnd v.shape.slots (out_of (own_logs v) l) end.sent end.place end.spare =
+    subst (λ (z : OutEnd). IsOutEnd v.shape.slots (out_of (own_logs v) l) z.sent z.place z.spare) (sym c.index_mut-end.ensures.value) (s.each_out l end inside mine) in (
+      omega arith,
+      (
+        omega arith,
+        (
+          (ap (λ (z : Manning). z.id) c.self.view_is ∙ c.requires.bank.0, c.requires.board.0),
+          (
+            subst (λ (z : Shape). IsManned z c.self.inside.place.me) e s.manned,
+            (
+              subst (λ (z : Shape). (l < links z.dims) × (sender_at z.dims l ≡ v.pick)) e (inside, mine ∙ sym s.rank_is),
+              (
+                c.requires.board.1,
+                (
+                  long,
+                  (
+                    subst (λ (z : Shape). IsOutEnd z.slots (out_of (own_logs v) l) end.sent end.place end.spare) e counts,
+                    (
+                      c.requires.wire,
+                      (
+                        subst (λ (z : Shape). MayFollow z.dims g.row.CAP l (out_of (own_logs v) l).sent c.args.parcel.now) e
+                            (may_follow v.shape.dims g.row.CAP c.self.inside.rank l (own_logs v) c.args.parcel.now inside mine c.requires.fresh c.len-fresh.ensures.fresh c.len-fresh.ensures.within epoch law),
+                        subst (λ (z : Shape × ℕ). KeepsLaw z.0.dims z.1 (sent_of (with_out (own_logs v) l (sent_more (out_of (own_logs v) l) c.args.parcel.now))) (got_of (own_logs v))) (λ k. (e k, sym s.rank_is k))
+                            (law_for v.shape.dims c.self.inside.rank l (own_logs v) c.args.parcel.now long law),
+                      ),
+                    ),
+                  ),
+                ),
+              ),
+            ),
+          ),
+        ),
+      ),
+    )
+
+pub invariant_of-self : goal.invariant_of-self
+invariant_of-self g c =
+    let s = c.self.invariant in let v = c.self.inside.place.me.0 in let key : Shape = c.args.top.now.key in let l : ℕ = c.args.link in
+    let e : v.shape ≡ key = ap (λ (z : Manning). z.shape) c.self.view_is ∙ c.requires.bank.1 in
+    let inside : l < links v.shape.dims = subst (λ (z : Manning). l < links z.shape.dims) (sym c.self.view_is) c.requires.link in
+    let mine : sender_at v.shape.dims l ≡ c.self.inside.rank = subst (λ (z : Manning). sender_at z.shape.dims l ≡ z.rank) (sym c.self.view_is) c.requires.starts_here in
+    seat_posted g.row.CAP v.shape c.self.inside.place.me c.post_on-answer.new.place.me c.self.inside.rank l c.self.inside.outs.items c.self.inside.ins.items c.self.inside.ears.items c.self.inside.ended.items s
+    (subst (λ (z : Shape). IsManned z c.post_on-answer.new.place.me) (sym e) c.post_on-answer.ensures.seat) inside c.post_on-answer.new.end c.post_on-answer.ensures.here mine
+    (subst (λ (z : Shape). IsOutEnd z.slots (out_of (own_logs c.post_on-answer.new.place.me.0) l) c.post_on-answer.new.end.sent c.post_on-answer.new.end.place c.post_on-answer.new.end.spare) (sym e) c.post_on-answer.ensures.end)

@@ -1,0 +1,37 @@
+use Rattle.std.proofs.Common.{arith, rules, ◌≡◌, ◌+◌, ◌*◌, ℕ, List, replicate, ap, subst, ◌∙◌, length, false, None}
+use Rattle.std.proofs.lemmas.Grind.{common_steps}
+use Rattle.item_buffer.specs.Contents.{blank}
+use Rattle.route_tensor.specs.Grid.{ranks}
+use Rattle.route_tensor.specs.Link.{links}
+use Rattle.std.specs.List.{All}
+use Rattle.link_slots.specs.Gathering.{HasNew}
+use Rattle.link_slots.specs.Shape.{Shape, IsShape}
+use Rattle.link_slots.proofs.Making.{is_shape, opens_lawful, first_gathering, none_given}
+use Rattle.link_slots.proofs.slot_bank.SlotBank.new.Goals as goal
+
+pub table_of-requires : goal.table_of-requires
+table_of-requires g c =
+    let dims : List ℕ = c.args.grid.now in
+    let shape : Shape = record { dims = dims; slots = c.args.slots } in
+    let is : IsShape shape = is_shape dims c.args.slots c.links-links.ensures.grid c.requires.slots in
+    let l = c.links-links.ensures.value in let r = c.ranks-ranks.ensures.value in let h = c.hops.ensures.value in
+    let items : c.in_ok-words.words.items ≡ replicate (2 * c.links-links.result + c.ranks-ranks.result * c.hops.result) 0 = first_of (search rules, grind (arith, common_steps)) in
+    let zeros : c.as_slice.result.now ≡ replicate (2 * links dims + ranks dims * length dims) 0 =
+    c.as_slice.ensures.value ∙ items ∙ (λ k. replicate (2 * l k + r k * h k) 0) in
+    let blanks : c.in_ok-parcels.parcels.items ≡ replicate (c.args.slots * links dims) (blank 0) = c.in_ok-parcels.ensures ∙ (λ k. replicate (c.args.slots * l k) (blank 0)) in
+    (omega arith, (omega arith, opens_lawful g.row.CAP shape c.as_slice.result.now c.in_ok-parcels.parcels.items is zeros blanks))
+
+pub invariant_of-result : goal.invariant_of-result
+invariant_of-result g c =
+    let dims : List ℕ = c.args.grid.now in
+    let shape : Shape = record { dims = dims; slots = c.args.slots } in
+    first_gathering shape c.in_ok-board.place.me c.in_ok-ends.ends.items c.in_ok-ended.ended.items (is_shape dims c.args.slots c.links-links.ensures.grid c.requires.slots) c.in_ok-board.ensures.seat
+    (c.in_ok-ends.ensures.many ∙ c.ranks-ranks.ensures.value)
+    (subst (λ (n : ℕ). All (HasNew n) c.in_ok-ends.ends.items) c.links-links.ensures.value c.in_ok-ends.ensures.new)
+    (c.in_ok-ended.ensures ∙ ap (λ (n : ℕ). replicate n None) c.ranks-ranks.ensures.value)
+
+pub returns-clause-gather : goal.returns-clause-gather
+returns-clause-gather g c =
+    let seat = c.in_ok-board.ensures.seat in
+    let given = none_given c.links-links.result c.in_ok-ends.ends.items c.in_ok-ends.ensures.new ∙ ap (λ (n : ℕ). replicate n false) (c.in_ok-ends.ensures.many ∙ c.ranks-ranks.ensures.value) in
+    λ k. record { id = c.in_ok-board.ensures.table k; shape = (seat k).0.shape; lists = (seat k).0.lists; given = given k }

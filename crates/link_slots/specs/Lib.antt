@@ -1,0 +1,14 @@
+pub mod Logs
+pub mod Wiring
+pub mod Link
+pub mod View
+pub mod Bank
+pub mod Hands
+pub mod Plays
+pub mod Shape
+pub mod Told
+pub mod Counts
+pub mod Seen
+pub mod Seat
+pub mod Closed
+pub mod Gathering

@@ -1,0 +1,71 @@
+-- What a rank knows of its links. The lists of a rank go by the number of the link; the places of links that are not its own are unused.
+use Rattle.std.specs.Prelude.{ℕ, suc, ◌+◌, ◌∷◌, ◌++◌, Bool, false, List, [], take, length, slice_index_or, slice_set}
+
+-- The sender's side of a link: the parcels that it posted, in order; the numbers below which it may post; how many parcels had been
+-- posted when it last rang; how often it looked for room.
+-- Example: with 2 slots, after two posts and a third that found no room, `sent` has two parcels, and `room` is 2.
+pub record OutLog (T : Type 0) : Type 0 where
+  pub sent : List T
+  pub room : ℕ
+  pub offered : ℕ
+  pub looks : ℕ
+
+-- The reader's side of a link: the parcels that it saw posted, in order, and how many of them it has taken; whether the link is marked
+-- as rung; how often the reader heard the link's doorbell, how often it then found the link's bit, and how often it looked in.
+pub record InLog (T : Type 0) : Type 0 where
+  pub seen : List T
+  pub taken : ℕ
+  pub marked : Bool
+  pub hears : ℕ
+  pub heard : ℕ
+  pub look_ins : ℕ
+
+module _ {T : Type 0} where
+  -- All that the reader collected, in order: the first of those that it saw.
+  abbrev pub got : InLog T → List T
+  got i = take i.taken i.seen
+
+  -- How often the reader listened for the link: the hears of its doorbell and the looks into the link.
+  abbrev pub listens : InLog T → ℕ
+  listens i = i.hears + i.look_ins
+
+module _ {T : Type 0} where
+  -- one parcel more is posted; all that are posted are offered; one parcel more is taken
+  abbrev pub sent_more : OutLog T → T → OutLog T
+  sent_more o p = record { sent = o.sent ++ p ∷ []; room = o.room; offered = o.offered; looks = o.looks }
+
+  abbrev pub all_offered : OutLog T → OutLog T
+  all_offered o = record { sent = o.sent; room = o.room; offered = length o.sent; looks = o.looks }
+
+  abbrev pub taken_more : InLog T → InLog T
+  taken_more i = record { seen = i.seen; taken = suc i.taken; marked = i.marked; hears = i.hears; heard = i.heard; look_ins = i.look_ins }
+
+pub record Logs (T : Type 0) : Type 0 where
+  pub outs : List (OutLog T)
+  pub ins : List (InLog T)
+
+module _ {T : Type 0} where
+  abbrev pub no_out : OutLog T
+  no_out = record { sent = []; room = 0; offered = 0; looks = 0 }
+
+  abbrev pub no_in : InLog T
+  no_in = record { seen = []; taken = 0; marked = false; hears = 0; heard = 0; look_ins = 0 }
+
+  abbrev pub out_of : Logs T → ℕ → OutLog T
+  out_of x l = slice_index_or x.outs l no_out
+
+  abbrev pub in_of : Logs T → ℕ → InLog T
+  in_of x l = slice_index_or x.ins l no_in
+
+  abbrev pub with_out : Logs T → ℕ → OutLog T → Logs T
+  with_out x l o = record { outs = slice_set x.outs l o; ins = x.ins }
+
+  abbrev pub with_in : Logs T → ℕ → InLog T → Logs T
+  with_in x l i = record { outs = x.outs; ins = slice_set x.ins l i }
+
+  -- what the rank posted on each link, and what it collected of each
+  abbrev pub sent_of : Logs T → ℕ → List T
+  sent_of x l = (out_of x l).sent
+
+  abbrev pub got_of : Logs T → ℕ → List T
+  got_of x l = got (in_of x l)

@@ -1,0 +1,42 @@
+//! Links between ranks by slot exchange: a bank that threads share without a lock.
+//!
+//! A link has 1, 2, 4 or 8 slots, each with a parcel in it. To post, a rank exchanges its full parcel for the empty
+//! one in a slot; to collect, its empty one for the full one. Two words for each link count what was posted and what
+//! was released, and one doorbell word for each rank and hop tells a reader which links were rung for. After `new`
+//! no memory is taken, and no call waits. docs/SLOT_LINKS.md tells which accident each step prevents.
+//!
+//! | Call | Answer |
+//! |---|---|
+//! | `SlotBank::new` | a bank on which nothing was sent, and its gathering seat |
+//! | `SlotBank::seat` | the seat of a rank, which may go to the rank's thread |
+//! | `SlotBank::port`, `SlotPort::into_seat` | the rank's port, by the trait of port_bank, and its seat back |
+//! | `SlotBank::gather` | the gathering seat knows what the rank sent and got |
+//! | `SlotBank::close` | a closed round, on which what each rank pulled is what the others pushed |
+//! | `SlotRound::ranks`, `SlotRound::epochs` | the number of ranks; how many epochs every link has ended |
+#![tactic(auto)]
+
+mod bank;
+mod collect;
+mod ear;
+mod ends;
+mod gather;
+mod plan;
+mod plays;
+mod port;
+mod post;
+mod rank_ends;
+mod round;
+mod seat;
+mod slot_bank;
+mod steps;
+mod view;
+mod wire;
+
+pub use gather::GatherSeat;
+pub use port::SlotPort;
+pub use round::SlotRound;
+pub use seat::SlotSeat;
+pub use slot_bank::SlotBank;
+
+#[cfg(test)]
+mod tests;

@@ -1,0 +1,98 @@
+//! A rank's port: its seat, with the bank.
+ghost use Rattle.std.specs.Prelude.{◌≡◌, ◌≢◌, ℕ, ◌+◌, ◌==◌, Bool, true, List, length, refl};
+
+use crate::seat::SlotSeat;
+use crate::slot_bank::SlotBank;
+use bale_types::NoMemory;
+use item_buffer::Parcel;
+use port_bank::{Collected, Port, Posted};
+
+/// The port of one rank at a slot bank. It takes no memory, and no call on it waits.
+#[derive(Drop)]
+pub struct SlotPort<'a, const CAP: usize> {
+    bank: &'a SlotBank<CAP>,
+    seat: SlotSeat<CAP>,
+    pub ghost own: { (seat.id ≡ bank.now.id) × (seat.shape ≡ bank.now.shape) },
+}
+
+impl<const CAP: usize> SlotBank<CAP> {
+    /// The port of the rank whose seat it is.
+    pub fn port(&self, seat: SlotSeat<CAP>) -> SlotPort<'_, CAP>
+        requires bank { (seat.id ≡ self.now.id) × (seat.shape ≡ self.now.shape) }
+        ensures seat { result.seat ≡ seat.entry }
+    {
+        SlotPort { bank: self, seat }
+    }
+}
+
+impl<'a, const CAP: usize> SlotPort<'a, CAP> {
+    /// The seat, with what this rank sent and got.
+    pub fn into_seat(self) -> SlotSeat<CAP>
+        ensures { result ≡ self.entry.seat }
+    {
+        let SlotPort { bank: _, seat } = self;
+        seat
+    }
+}
+
+impl<'a, const CAP: usize> Port<CAP> for SlotPort<'a, CAP> {
+    ghost use Rattle.std.specs.Prelude.{◌+◌, ◌==◌, false, [], length, refl};
+    ghost use Rattle.link_slots.specs.Logs.{out_of};
+    ghost use Rattle.link_slots.specs.Seen.{posted_on, collected_from, freed, known, listened, noted_at, named};
+
+    const GROWS: bool = false;
+
+    ghost grows = { false };
+
+    ghost rank = { λ p. p.seat.rank };
+
+    ghost dims = { λ p. p.seat.shape.dims };
+
+    ghost slots = { λ p. p.seat.shape.slots };
+
+    ghost sent = { λ p. posted_on p.seat };
+
+    ghost got = { λ p. collected_from p.seat };
+
+    ghost freed = { λ p l. freed p.seat l };
+
+    ghost crowded = { λ p l. length (posted_on p.seat l) == freed p.seat l + p.seat.shape.slots };
+
+    ghost known = { λ p l. known p.seat l };
+
+    ghost idle = { λ p l. length (collected_from p.seat l) == known p.seat l };
+
+    ghost looks_out = { λ p l. (out_of p.seat.lists l).looks };
+
+    ghost looks_in = { λ p l. listened p.seat l };
+
+    ghost listens = { λ p l. listened p.seat l };
+
+    ghost noted = { λ p l. noted_at p.seat l };
+
+    ghost rest = { λ p. record { bank = named p.seat.id; sent = λ l. []; got = λ l. [] } };
+
+    ghost crowded_is = { λ p l. refl };
+
+    ghost idle_is = { λ p l. refl };
+
+    fn rank(&self) -> u32 {
+        self.seat.rank()
+    }
+
+    fn post(&mut self, link: u32, p: &mut Parcel<CAP>) -> Result<Posted, NoMemory> {
+        let bank = self.bank;
+        let wire = &bank.wires[link as usize];
+        Ok(
+            self.seat
+                .post(&bank.board.shared, wire, bank.slots, link, p),
+        )
+    }
+
+    fn collect(&mut self, link: u32, p: &mut Parcel<CAP>) -> Collected {
+        let bank = self.bank;
+        let wire = &bank.wires[link as usize];
+        self.seat
+            .collect(&bank.board.shared, wire, bank.slots, link, p)
+    }
+}

@@ -1,0 +1,149 @@
+//! A rank's seat: what the rank knows of its links at the bank's table, and what it counts beside it.
+ghost use Rattle.std.specs.Prelude.{◌≡◌, ◌≢◌, ◌⊎◌, ℕ, suc, ◌+◌, ◌<◌, ◌≤◌, true, false, List, [], ◌∷◌, ◌++◌, length};
+ghost use Rattle.item_buffer.specs.Contents.{Contents, shipped, arrived, blank};
+ghost use Rattle.route_tensor.specs.Link.{links};
+ghost use Rattle.route_tensor.specs.Ends.{hop_at, sender_at, reader_at};
+ghost use Rattle.port_bank.specs.Logs.{lasts, added};
+ghost use Rattle.port_bank.specs.Relay.{RelayLaw};
+ghost use Rattle.link_slots.specs.Logs.{OutLog, out_of, in_of, with_out, got_of};
+ghost use Rattle.link_slots.specs.Shape.{IsBoard, MayFollow};
+ghost use Rattle.bale_types.specs.Stream.{Rose};
+ghost use Rattle.port_bank.specs.Port.{changed};
+ghost use Rattle.link_slots.specs.Counts.{IsWire, ended_after};
+ghost use Rattle.link_slots.specs.Seen.{Manning, posted_on, collected_from, freed, known, listened, noted_at};
+
+use crate::bank::{Place, Top};
+use crate::collect::collect_on;
+use crate::ear::Ear;
+use crate::ends::{InEnd, OutEnd};
+use crate::post::post_on;
+use crate::wire::Wire;
+use item_buffer::Parcel;
+use port_bank::{Collected, Posted};
+use std::marker::Model;
+
+/// One rank's seat at a bank. It may go to another thread; a port is made of it where the rank's parcels are.
+#[derive(Drop)]
+pub struct SlotSeat<const CAP: usize> {
+    pub(crate) place: Place<CAP>,
+    pub(crate) rank: u32,
+    /// By the number of the link; those of other ranks' links are unused.
+    pub(crate) outs: Vec<OutEnd>,
+    pub(crate) ins: Vec<InEnd>,
+    /// By the hop, from 0.
+    pub(crate) ears: Vec<Ear>,
+    /// How many parcels marked last were collected of each link in; it stands still at the last number.
+    pub(crate) ended: Vec<u64>,
+}
+
+impl<const CAP: usize> Model for SlotSeat<CAP> {
+    ghost use Rattle.std.specs.Prelude.{map};
+    ghost use Rattle.link_slots.specs.View.{own_logs};
+    ghost use Rattle.link_slots.specs.Seen.{Manning};
+    ghost use Rattle.link_slots.specs.Seat.{IsSeat};
+
+    ghost Value = { Manning };
+
+    ghost view = { λ s. record {
+      id = s.place.table_id;
+      shape = s.place.me.0.shape;
+      rank = s.rank;
+      lists = own_logs s.place.me.0;
+      noted = map (λ e. e.noted) s.ins.items;
+      ended = s.ended.items;
+    } };
+
+    ghost invariant = { λ s. IsSeat CAP s.place.me.0.shape s.place.me s.rank s.outs.items s.ins.items s.ears.items s.ended.items };
+}
+
+impl<const CAP: usize> SlotSeat<CAP> {
+    /// The rank whose seat this is.
+    pub fn rank(&self) -> u32
+        ensures { result ≡ self.now.rank }
+    {
+        self.rank
+    }
+
+    /// Posts the parcel on a link of this rank.
+    pub(crate) fn post(
+        &mut self,
+        top: &Top<CAP>,
+        wire: &Wire,
+        slots: u32,
+        link: u32,
+        parcel: &mut Parcel<CAP>,
+    ) -> Posted
+        requires bank { (self.old.id ≡ top.now.table_id) × (self.old.shape ≡ top.now.key) }
+        requires board { IsBoard top.now.key top.now.table_id × (slots ≡ top.now.key.slots) }
+        requires wire { IsWire top.now.key.dims link wire.now.bell wire.now.mask wire.now.hop }
+        requires link { link < links self.old.shape.dims }
+        requires starts_here { sender_at self.old.shape.dims link ≡ self.old.rank }
+        requires fresh { parcel.old.taken ≡ 0 }
+        requires epoch { parcel.old.epoch ≡ lasts (posted_on self.old link) }
+        requires law { RelayLaw self.old.shape.dims self.old.rank (added (posted_on self.old) link (shipped parcel.old)) (collected_from self.old) }
+        ensures here { self.new ≡ record self.old { lists = with_out self.old.lists link (out_of self.new.lists link) } }
+        ensures long { link < length self.old.lists.outs }
+        ensures sent { result ≡ Posted.Sent → (out_of self.new.lists link).sent ≡ (out_of self.old.lists link).sent ++ parcel.old ∷ [] }
+        ensures offered { result ≡ Posted.Sent → (out_of self.new.lists link).offered ≡ length (out_of self.new.lists link).sent }
+        ensures emptied { result ≡ Posted.Sent → parcel.new ≡ blank parcel.old.epoch }
+        ensures room { result ≡ Posted.Sent → length (out_of self.old.lists link).sent < (out_of self.new.lists link).room }
+        ensures room_is { ((out_of self.new.lists link).room ≡ 0) ⊎ (self.old.shape.slots ≤ (out_of self.new.lists link).room) }
+        ensures looked { result ≡ Posted.NoRoom → (out_of self.new.lists link).looks ≡ suc (out_of self.old.lists link).looks }
+        ensures full { result ≡ Posted.NoRoom → (out_of self.new.lists link).room ≡ length (out_of self.old.lists link).sent }
+        ensures all_room { result ≡ Posted.NoRoom → self.old.shape.slots ≤ (out_of self.new.lists link).room }
+        ensures not_sent { result ≡ Posted.NoRoom → (out_of self.new.lists link).sent ≡ (out_of self.old.lists link).sent }
+        ensures kept { result ≡ Posted.NoRoom → parcel.new ≡ parcel.old }
+    {
+        let _fresh = parcel.len();
+        let epoch = parcel.epoch();
+        let end = &mut self.outs[link as usize];
+        let answer = post_on(top, &mut self.place, end, wire, slots, link, parcel);
+        parcel.set_epoch(epoch);
+        answer
+    }
+
+    /// Collects the next parcel of a link into this rank.
+    pub(crate) fn collect(
+        &mut self,
+        top: &Top<CAP>,
+        wire: &Wire,
+        slots: u32,
+        link: u32,
+        parcel: &mut Parcel<CAP>,
+    ) -> Collected
+        requires bank { (self.old.id ≡ top.now.table_id) × (self.old.shape ≡ top.now.key) }
+        requires board { IsBoard top.now.key top.now.table_id × (slots ≡ top.now.key.slots) }
+        requires wire { IsWire top.now.key.dims link wire.now.bell wire.now.mask wire.now.hop }
+        requires link { link < links self.old.shape.dims }
+        requires ends_here { reader_at self.old.shape.dims link ≡ self.old.rank }
+        requires empty { parcel.old ≡ blank (lasts (collected_from self.old link)) }
+        ensures here { self.new ≡ record self.old { lists = self.new.lists; noted = self.new.noted; ended = self.new.ended } }
+        ensures outs { self.new.lists.outs ≡ self.old.lists.outs }
+        ensures got { result ≡ Collected.Got → collected_from self.new ≡ added (collected_from self.old) link (shipped parcel.new) }
+        ensures arrived { result ≡ Collected.Got → MayFollow self.old.shape.dims CAP link (got_of self.old.lists link) parcel.new }
+        ensures known { result ≡ Collected.Got → length (collected_from self.old link) < known self.new link }
+        ensures not_got { result ≡ Collected.Nothing → collected_from self.new ≡ collected_from self.old }
+        ensures none_known { result ≡ Collected.Nothing → length (collected_from self.old link) ≡ known self.new link }
+        ensures heard { result ≡ Collected.Nothing → Rose (noted_at self.old link) (listened self.new link) }
+        ensures unmarked { result ≡ Collected.Nothing → (in_of self.new.lists link).marked ≡ false }
+        ensures kept { result ≡ Collected.Nothing → parcel.new ≡ parcel.old }
+        ensures noted { noted_at self.new ≡ changed (noted_at self.old) link (listened self.new link) }
+        ensures listens { (l : ℕ) → listened self.old l ≤ listened self.new l }
+        ensures known_elsewhere { (l : ℕ) → l ≢ link → known self.new l ≡ known self.old l }
+    {
+        let end = &mut self.ins[link as usize];
+        let ear = &mut self.ears[wire.hop];
+        let answer = collect_on(top, &mut self.place, end, ear, wire, slots, link, parcel);
+        note_last(&mut self.ended[link as usize], answer, parcel.last());
+        answer
+    }
+}
+
+/// Counts an epoch that the link has ended, where the collect gave a parcel marked last.
+fn note_last(ended: &mut u64, answer: Collected, last: bool)
+    ensures { ended.new ≡ ended_after answer last ended.old }
+{
+    if answer == Collected::Got && last {
+        *ended = ended.saturating_add(1);
+    }
+}

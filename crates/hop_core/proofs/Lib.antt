@@ -1,0 +1,10 @@
+pub mod Scans
+pub mod Marks
+pub mod Passing
+pub mod Going
+pub mod Relaying
+pub mod Standing
+pub mod Relayed
+pub mod Filling
+pub mod Unread
+pub mod Epochs

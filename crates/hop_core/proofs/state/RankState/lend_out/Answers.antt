@@ -1,0 +1,18 @@
+use Rattle.std.proofs.Common.{ℕ, sym, ap, subst, ◌≡◌, ◌∙◌, arith, Bool, true, false, Some, None}
+use Rattle.route_tensor.specs.Ends.{hop_at}
+use Rattle.route_tensor.specs.Neighbour.{hop_to, out_index, in_index}
+use Rattle.item_buffer.specs.Contents.{Contents, blank}
+use Rattle.hop_core.specs.Link.{is_due, is_wanted}
+use Rattle.hop_core.specs.State.{State, at_end, out_at, in_at}
+use Rattle.hop_core.proofs.Standing.{lend_out_kept, out_here}
+use Rattle.hop_core.proofs.state.RankState.lend_out.Goals as goal
+
+pub invariant_of-self-2 : goal.invariant_of-self-2
+invariant_of-self-2 g c =
+    let due = subst (λ (s : State). is_due s.cap s.steady (at_end s.dims s.ins s.done (hop_at s.dims c.args.link)) (out_at s (out_index s.dims c.args.link)) ≡ true) (sym c.self.view_is) c.requires.due in (
+      c.self.invariant.0,
+      lend_out_kept _ _ _ _ _ _ _ c.self.invariant.1 c.number_to-number.ensures.below c.take.ensures.after
+          (ap (λ y. y.parcel) c.lend-parcel.ensures.state ∙ (c.self.invariant.1.spare_blank c.unwrap-spare.result (sym c.take.ensures.value ∙ c.unwrap-spare.ensures)))
+          (ap (λ y. y.closed) c.lend-parcel.ensures.state ∙ ap (λ y. y.closed) (out_here _ _ _ c.self.invariant.1.standing c.number_to-number.ensures.below c.index_mut.ensures.value))
+          (rw (c.number_to-number.ensures.hop, c.number_to-number.ensures.value) due),
+    )

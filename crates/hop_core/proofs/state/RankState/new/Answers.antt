@@ -1,0 +1,25 @@
+use Rattle.std.proofs.Common.{ℕ, sym, ap, subst, ◌≡◌, ◌∙◌, ◌<◌, ◌≤◌, arith, Bool, true, false, Some, None, List, length, set}
+use Rattle.std.specs.List.{All}
+use Rattle.bale_types.specs.declared.item.Entry.{Entry}
+use Rattle.route_tensor.specs.Ends.{hop_at}
+use Rattle.route_tensor.specs.Neighbour.{hop_to, out_index, in_index}
+use Rattle.route_tensor.specs.Tag.{IsFair}
+use Rattle.item_buffer.specs.Contents.{Contents, blank}
+use Rattle.hop_core.specs.declared.lent.Lent.TheVariants as lent
+use Rattle.hop_core.specs.Link.{is_due, is_wanted, is_finished}
+use Rattle.hop_core.specs.State.{State, at_end, out_at, in_at}
+use Rattle.std.proofs.Common.{replicate}
+use Rattle.route_tensor.specs.Routes.{Site}
+use Rattle.route_tensor.specs.Link.{links_before}
+use Rattle.hop_core.proofs.Epochs.{new_kept}
+use Rattle.hop_core.proofs.state.RankState.new.Goals as goal
+
+pub invariant_of-result : goal.invariant_of-result
+invariant_of-result g c =
+    let d : c.in_ok-routes.routes.dims ≡ c.args.grid.now = ap (λ (s : Site). s.dims) c.in_ok-routes.ensures in
+    let h : length c.in_ok-routes.routes.dims ≡ g.row.HOPS = ap length d ∙ c.requires.hops in
+    let n = c.neighbours-neighbours.ensures in (
+      h,
+      rw (c.in_ok-links_out.ensures, c.in_ok-links_in.ensures, n.value)
+          (new_kept _ _ _ _ _ _ _ n.grid n.rank c.requires.some c.requires.small (ap (λ m. replicate m false) (sym h)) c.in_ok-new.ensures (c.first_of-from.ensures.value ∙ ap (links_before c.in_ok-routes.routes.dims) (sym h)) c.first_of-from.ensures.within),
+    )

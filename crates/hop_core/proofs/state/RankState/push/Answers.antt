@@ -1,0 +1,20 @@
+use Rattle.std.proofs.Common.{ℕ, sym, ap, subst, ◌≡◌, ◌∙◌, ◌<◌, ◌≤◌, arith, Bool, true, false, Some, None, List, length, set}
+use Rattle.std.specs.List.{All}
+use Rattle.bale_types.specs.declared.item.Entry.{Entry}
+use Rattle.route_tensor.specs.Ends.{hop_at}
+use Rattle.route_tensor.specs.Neighbour.{hop_to, out_index, in_index}
+use Rattle.route_tensor.specs.Tag.{IsFair}
+use Rattle.item_buffer.specs.Contents.{Contents, blank}
+use Rattle.hop_core.specs.declared.lent.Lent.TheVariants as lent
+use Rattle.hop_core.specs.Link.{is_due, is_wanted, is_finished}
+use Rattle.hop_core.specs.State.{State, at_end, out_at, in_at}
+use Rattle.route_tensor.specs.Grid.{coord}
+use Rattle.hop_core.proofs.Standing.{push_either, first_hop_out}
+use Rattle.hop_core.proofs.state.RankState.push.Goals as goal
+
+pub invariant_of-self : goal.invariant_of-self
+invariant_of-self g c =
+    let d : c.self.inside.done ≡ false = ap (λ (s : State). s.done) c.self.view_is ∙ c.requires.not_done in
+    let l : c.self.inside.lent ≡ lent.Nothing = ap (λ (s : State). s.lent) c.self.view_is ∙ c.requires.home in
+    let h : hop_to c.self.inside.routes.dims c.first-step.result.out ≡ 1 = ap (λ (x : _). hop_to c.self.inside.routes.dims x.out) c.first-step.ensures.value ∙ first_hop_out c.self.inside.routes.dims c.args.to c.self.invariant.1.standing.grid in
+    (c.self.invariant.0, push_either _ _ _ _ _ _ _ _ c.push.result c.self.invariant.1 c.first-step.ensures.below h d l c.index_mut.ensures.value c.push.ensures.appended c.push.ensures.room c.push.ensures.unchanged c.first-step.ensures.fair)

@@ -1,0 +1,29 @@
+use Rattle.std.proofs.Common.{ℕ, sym, ap, subst, ◌≡◌, ◌∙◌, ◌<◌, ◌≤◌, arith, Bool, true, false, Some, None, List, length, set}
+use Rattle.std.specs.List.{All}
+use Rattle.bale_types.specs.declared.item.Entry.{Entry}
+use Rattle.route_tensor.specs.Ends.{hop_at}
+use Rattle.route_tensor.specs.Neighbour.{hop_to, out_index, in_index}
+use Rattle.route_tensor.specs.Tag.{IsFair}
+use Rattle.item_buffer.specs.Contents.{Contents, blank}
+use Rattle.hop_core.specs.declared.lent.Lent.TheVariants as lent
+use Rattle.hop_core.specs.Link.{is_due, is_wanted, is_finished}
+use Rattle.hop_core.specs.State.{State, at_end, out_at, in_at}
+use Rattle.std.specs.List.{list_all}
+use Rattle.hop_core.specs.State.{ins_of_hop}
+use Rattle.hop_core.proofs.Relayed.{relay_kept, relay_open}
+use Rattle.hop_core.proofs.state.RankState.relay.Goals as goal
+
+pub relay_hop-count-requires : goal.relay_hop-count-requires
+relay_hop-count-requires g c =
+    let s = c.self.invariant.1.standing in
+    let last : c.args.h < length c.self.inside.routes.dims = subst (λ (v : State). c.args.h < length v.dims) (sym c.self.view_is) c.requires.last in
+    (omega arith, (omega arith, (c.requires.first, (last, (s.cap_small, (s.all_outs, (s.all_ins, (s.each_out, (s.each_in, relay_open _ _ s c.requires.first)))))))))
+
+pub invariant_of-self : goal.invariant_of-self
+invariant_of-self g c =
+    let r = c.relay_hop-count.ensures in
+    let last : c.args.h < length c.self.inside.routes.dims = subst (λ (v : State). c.args.h < length v.dims) (sym c.self.view_is) c.requires.last in (
+      c.self.invariant.0,
+      relay_kept _ _ _ _ _ _ _ _ c.self.invariant.1 (ap (λ (v : State). v.lent) c.self.view_is ∙ c.requires.home) c.requires.first last r.each_out r.each_in r.adds r.takes
+          (c.hop_finished.ensures ∙ ap (λ xs. list_all is_finished (ins_of_hop c.self.inside.routes.dims xs c.args.h)) c.deref.ensures.value),
+    )

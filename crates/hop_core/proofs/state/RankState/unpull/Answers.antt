@@ -1,0 +1,25 @@
+use Rattle.std.proofs.Common.{ℕ, sym, ap, subst, ◌≡◌, ◌∙◌, ◌<◌, ◌≤◌, arith, Bool, true, false, Some, None, List, length, set, sum}
+use Rattle.std.specs.List.{All}
+use Rattle.bale_types.specs.declared.item.Entry.{Entry}
+use Rattle.route_tensor.specs.Ends.{hop_at}
+use Rattle.route_tensor.specs.Neighbour.{hop_to, out_index, in_index}
+use Rattle.route_tensor.specs.Tag.{IsFair}
+use Rattle.item_buffer.specs.Contents.{Contents, blank}
+use Rattle.hop_core.specs.declared.lent.Lent.TheVariants as lent
+use Rattle.hop_core.specs.Link.{is_due, is_wanted, is_finished}
+use Rattle.hop_core.specs.State.{State, at_end, out_at, in_at}
+use Rattle.std.proofs.Common.{get_or}
+use Rattle.hop_core.specs.Link.{no_in}
+use Rattle.hop_core.proofs.Epochs.{unpull_kept}
+use Rattle.hop_core.proofs.state.RankState.unpull.Goals as goal
+
+pub index_mut-requires : goal.index_mut-requires
+index_mut-requires g c =
+    let can = c.self.invariant.1.standing.can_unpull _ c.in-Some.is in
+    let n : c.in-Some.number < length c.self.inside.ins.items = omega (arith, can.within, c.self.invariant.1.standing.all_ins) in
+    omega (arith, n)
+
+pub invariant_of-self : goal.invariant_of-self
+invariant_of-self g c =
+    let can = c.self.invariant.1.standing.can_unpull _ c.in-Some.is in
+    (c.self.invariant.0, rw c.min-self-inside.ensures (unpull_kept _ _ _ _ _ _ _ c.self.invariant.1 can (ap (λ (s : State). s.lent) c.self.view_is ∙ c.requires.home) c.index_mut.ensures.value c.untake.ensures.state c.untake.ensures.fits))

@@ -1,0 +1,4 @@
+pub mod Link
+pub mod State
+pub mod Relay
+pub mod Standing

@@ -1,0 +1,51 @@
+-- The links of one rank, as contracts see them.
+use Rattle.std.specs.Prelude.{ℕ, Bool, true, false, ◌==◌, ◌&&◌, ◌||◌, not, List, length, slice_get, drop, Option, Some, None, ◌+◌, ◌-◌, ◌∷◌, ◌++◌, []}
+use Rattle.bale_types.specs.declared.item.Entry.{Entry}
+use Rattle.item_buffer.specs.Contents.{Contents, blank}
+
+-- A link out: its open parcel, and whether it is closed, that is, its last parcel of this epoch was sent.
+pub record Out : Type 0 where
+  pub parcel : Contents
+  pub closed : Bool
+
+-- A link in: its inbox, and whether it has ended, that is, its last parcel of this epoch was got.
+pub record In : Type 0 where
+  pub parcel : Contents
+  pub ended : Bool
+
+-- What stands for the link past the end of a list.
+abbrev pub no_out : Out
+no_out = record { parcel = blank 0; closed = false }
+
+abbrev pub no_in : In
+no_in = record { parcel = blank 0; ended = false }
+
+abbrev pub is_empty : Contents → Bool
+is_empty c = length c.untaken == 0
+
+-- Whether an open parcel is to be sent: it is full, or the state is steady and it isn't empty, or its hop has reached
+-- its end and the link isn't closed.
+-- At capacity 2, not steady and before the end of its hop, [x] isn't due and [x, y] is.
+abbrev pub is_due : ℕ → Bool → Bool → Out → Bool
+is_due cap steady at_end o = (length o.parcel.untaken == cap) || (steady && not (is_empty o.parcel)) || (at_end && not o.closed)
+
+-- Whether a parcel is to be collected into an inbox: it is empty and the link hasn't ended.
+abbrev pub is_wanted : In → Bool
+is_wanted i = is_empty i.parcel && not i.ended
+
+-- Whether nothing of this epoch is left to come over a link, nor to be read from its inbox.
+abbrev pub is_finished : In → Bool
+is_finished i = i.ended && is_empty i.parcel
+
+-- A parcel with one entry more.
+abbrev pub with_entry : Contents → Entry → Contents
+with_entry c e = record c { untaken = c.untaken ++ e ∷ [] }
+
+-- A parcel whose first untaken entry was taken, and one whose entry taken last was put back.
+-- Of [x, y] the first leaves [y], and x to be put back.
+abbrev pub with_first_taken : Contents → Contents
+with_first_taken c = record c { untaken = drop 1 c.untaken; back = slice_get c.untaken 0; taken = c.taken + 1 }
+
+abbrev pub with_back : Option Entry → Contents → Contents
+with_back None c = c
+with_back (Some e) c = record c { untaken = e ∷ c.untaken; back = None; taken = c.taken - 1 }

@@ -1,0 +1,186 @@
+//! One link into a rank: the parcel that came over it and is being read.
+
+ghost use Rattle.std.specs.Prelude.{◌≡◌, ℕ, ◌+◌, ◌-◌, ◌^◌, ◌<◌, ◌≤◌, ◌==◌, ◌&&◌, ◌||◌, [], length, sum, map, replicate, take, drop, slice_get, slice_index_or, true, false, Some, IsSome, IfOk};
+ghost use Rattle.std.specs.List.{list_all};
+ghost use Rattle.hop_core.specs.State.{ins_of_hop, resumed};
+ghost use Rattle.item_buffer.specs.Contents.{blank};
+ghost use Rattle.hop_core.specs.Link.{no_in, is_empty, is_wanted, is_finished, with_first_taken, with_back};
+
+use bale_types::{Entry, NoMemory};
+use item_buffer::Parcel;
+use route_tensor::Routes;
+use std::alloc::Global;
+use std::marker::Model;
+use std::mem;
+
+/// A link in.
+#[derive(Drop)]
+pub struct InLink<const CAP: usize> {
+    parcel: Parcel<CAP>,
+    /// Whether the last parcel of this epoch was got.
+    ended: bool,
+}
+
+impl<const CAP: usize> Model for InLink<CAP> {
+    ghost use Rattle.hop_core.specs.Link.{In};
+
+    ghost Value = { In };
+
+    ghost view = { λ i. record { parcel = i.parcel; ended = i.ended } };
+}
+
+impl<const CAP: usize> InLink<CAP> {
+    /// A link that has not ended, with an empty inbox.
+    pub fn new(alloc: Global) -> Result<Self, NoMemory>
+        requires some { 0 < CAP }
+        requires small { CAP ≤ 1024 }
+        ensures { IfOk result (λ i. i ≡ no_in) }
+    {
+        Ok(InLink {
+            parcel: Parcel::new(alloc)?,
+            ended: false,
+        })
+    }
+
+    /// The first untaken entry.
+    #[inline]
+    pub fn head(&self) -> Option<Entry>
+        ensures { result ≡ slice_get self.now.parcel.untaken 0 }
+    {
+        self.parcel.head()
+    }
+
+    /// Takes the first untaken entry.
+    #[inline]
+    pub fn take(&mut self) -> Option<Entry>
+        ensures value { result ≡ slice_get self.old.parcel.untaken 0 }
+        ensures taken { IsSome result → self.new ≡ record self.old { parcel = with_first_taken self.old.parcel } }
+        ensures none { result ≡ None → self.new ≡ self.old }
+    {
+        self.parcel.take()
+    }
+
+    /// Puts the entry taken last back in front.
+    pub fn untake(&mut self)
+        requires { IsSome self.old.parcel.back }
+        ensures state { self.new ≡ record self.old { parcel = with_back self.old.parcel.back self.old.parcel } }
+        ensures fits { length self.new.parcel.untaken ≤ CAP }
+    {
+        self.parcel.untake();
+        let _fits = self.parcel.len();
+    }
+
+    /// Whether nothing is untaken.
+    #[inline]
+    pub fn is_empty(&self) -> bool
+        ensures { result ≡ is_empty self.now.parcel }
+    {
+        self.parcel.len() == 0
+    }
+
+    /// Whether a parcel is to be collected.
+    #[inline]
+    pub fn is_wanted(&self) -> bool
+        ensures { result ≡ is_wanted self.now }
+    {
+        self.parcel.len() == 0 && !self.ended
+    }
+
+    /// Whether nothing of this epoch is left to come, nor to be read.
+    #[inline]
+    pub fn is_finished(&self) -> bool
+        ensures { result ≡ is_finished self.now }
+    {
+        self.ended && self.parcel.len() == 0
+    }
+
+    /// Hands the inbox out and keeps `spare` in its place.
+    pub fn lend(&mut self, spare: Parcel<CAP>) -> Parcel<CAP>
+        ensures value { result ≡ self.old.parcel }
+        ensures state { self.new ≡ record self.old { parcel = spare.entry } }
+    {
+        mem::replace(&mut self.parcel, spare)
+    }
+
+    /// Takes a parcel back and hands out the spare one. The link has ended from now on where the parcel came and is
+    /// marked last.
+    pub fn take_back(&mut self, parcel: Parcel<CAP>, got: bool) -> Parcel<CAP>
+        ensures value { result ≡ self.old.parcel }
+        ensures state { self.new ≡ record { parcel = parcel.entry; ended = self.old.ended || (got && parcel.entry.last) } }
+    {
+        self.ended = self.ended || (got && parcel.last());
+        mem::replace(&mut self.parcel, parcel)
+    }
+
+    /// A new epoch begins.
+    pub fn resume(&mut self)
+        ensures { self.new ≡ record self.old { ended = false } }
+    {
+        self.ended = false;
+    }
+}
+
+/// Whether every link of a part of the list is finished.
+pub fn all_finished<const CAP: usize>(links: &[InLink<CAP>], from: usize, to: usize) -> bool
+    requires order { from ≤ to }
+    requires within { to ≤ length links.now }
+    ensures { result ≡ list_all is_finished (take (to - from) (drop from links.now)) }
+{
+    for i in from..to {
+        if !links[i].is_finished() {
+            return false;
+        }
+    }
+    true
+}
+
+/// Whether every link in of hop `h` is finished.
+pub fn hop_finished<const CAP: usize>(routes: &Routes, links: &[InLink<CAP>], h: u32) -> bool
+    requires first { 1 ≤ h }
+    requires last { h ≤ length routes.now.dims }
+    requires all { length links.now ≡ sum routes.now.dims }
+    ensures { result ≡ list_all is_finished (ins_of_hop routes.now.dims links.now h) }
+{
+    let from = routes.first_of(h);
+    all_finished(links, from as usize, routes.first_of(h + 1) as usize)
+}
+
+/// The lowest link from `from` on whose inbox has an entry; the number of links where none has.
+#[inline]
+pub fn first_unread<const CAP: usize>(links: &[InLink<CAP>], from: u32) -> u32
+    requires within { from ≤ length links.now }
+    requires few { length links.now < 2 ^ 32 }
+    ensures from { from ≤ result }
+    ensures within { result ≤ length links.now }
+    ensures none { (i : ℕ) → from ≤ i → i < result → is_empty (slice_index_or links.now i no_in).parcel ≡ true }
+    ensures some { result < length links.now → is_empty (slice_index_or links.now result no_in).parcel ≡ false }
+{
+    let mut at = from;
+    while (at as usize) < links.len() && links[at as usize].is_empty() {
+        at += 1;
+    }
+    at
+}
+
+/// So many links, none of which has ended, with empty inboxes.
+pub fn links_in<const CAP: usize>(alloc: Global, count: u32) -> Result<Vec<InLink<CAP>>, NoMemory>
+    requires some { 0 < CAP }
+    requires small { CAP ≤ 1024 }
+    ensures { IfOk result (λ links. links.items ≡ replicate count no_in) }
+{
+    let mut links = Vec::with_capacity(alloc, count as usize)?;
+    for i in 0..count {
+        let _made = i;
+        links.push(InLink::new(alloc)?)?;
+    }
+    Ok(links)
+}
+
+/// A new epoch begins on every link.
+pub fn resume_all<const CAP: usize>(links: &mut Vec<InLink<CAP>>)
+    ensures { links.new.items ≡ map resumed links.old.items }
+{
+    for i in 0..links.len() {
+        links[i].resume();
+    }
+}

@@ -1,0 +1,41 @@
+//! One rank's part of a conveyor: its buffers, the relay between its hops, and the endgame.
+//!
+//! A rank has one *open parcel* for each link that starts there, which `push` and `relay` fill, and one
+//! *inbox* for each link that ends there, which `relay` and `pull` empty. Whoever carries parcels between
+//! ranks borrows them: `lend_out` and `note_sent` for an open parcel that is due, `lend_in` and `note_got`
+//! for an inbox that is wanted. A lent parcel leaves the state by a move, so no entry is copied, and a
+//! spare one stands in for it until it comes back.
+//!
+//! An epoch ends by *last marks*. A hop has reached its end when nothing more can come to it: hop 1 once
+//! `set_done` was called, hop h + 1 once every link in of hop h has ended and its entries were passed on.
+//! From then on each link out of that hop is due until its last parcel, which may be empty, was sent.
+//!
+//! | Phase | After `settle` it is this one exactly where |
+//! |---|---|
+//! | `Dormant` | the epoch has not begun; `begin` leads to `Working` |
+//! | `Working` | done is not set |
+//! | `Endgame` | done is set, and a link out is not closed |
+//! | `Cleanup` | all links out are closed, and a link in of the last hop has not ended or is not read |
+//! | `Complete` | all is sent, got and read; `reset` leads to `Dormant` |
+//!
+//! | Call | What it does |
+//! |---|---|
+//! | `push` | appends an item to the open parcel toward its destination, or finds it full |
+//! | `due`, `lend_out`, `note_sent` | whether an open parcel is to be sent; hands it out, takes it back |
+//! | `wants`, `lend_in`, `note_got` | whether an inbox is to be filled; hands it out, takes it back |
+//! | `relay` | passes entries on from one hop to the next |
+//! | `pull`, `unpull` | the next item that came, with its sender; puts it back |
+//! | `begin`, `set_done`, `settle`, `reset` | the epoch's course |
+//!
+//! No call after `RankState::new` takes memory.
+#![tactic(auto)]
+
+mod inboxes;
+mod lent;
+mod open_parcels;
+mod phase;
+mod relay;
+mod state;
+
+pub use phase::{Phase, Pushed};
+pub use state::RankState;

@@ -1,0 +1,131 @@
+//! One link out of a rank: the parcel that is being filled for it.
+
+ghost use Rattle.std.specs.Prelude.{◌≡◌, ◌+◌, ◌<◌, ◌≤◌, ◌==◌, ◌&&◌, ◌||◌, [], length, map, true, false, IfOk};
+ghost use Rattle.item_buffer.specs.Contents.{blank};
+ghost use Rattle.hop_core.specs.State.{all_closed, reopened};
+ghost use Rattle.std.specs.Prelude.{replicate};
+ghost use Rattle.hop_core.specs.Link.{no_out, is_due, with_entry, is_empty};
+
+use bale_types::{Entry, NoMemory};
+use item_buffer::Parcel;
+use std::alloc::Global;
+use std::marker::Model;
+use std::mem;
+
+/// A link out.
+#[derive(Drop)]
+pub struct OutLink<const CAP: usize> {
+    parcel: Parcel<CAP>,
+    /// Whether the last parcel of this epoch was sent.
+    closed: bool,
+}
+
+impl<const CAP: usize> Model for OutLink<CAP> {
+    ghost use Rattle.hop_core.specs.Link.{Out};
+
+    ghost Value = { Out };
+
+    ghost view = { λ o. record { parcel = o.parcel; closed = o.closed } };
+}
+
+impl<const CAP: usize> OutLink<CAP> {
+    /// A link that is not closed, with an empty parcel.
+    pub fn new(alloc: Global) -> Result<Self, NoMemory>
+        requires some { 0 < CAP }
+        requires small { CAP ≤ 1024 }
+        ensures { IfOk result (λ o. o ≡ no_out) }
+    {
+        Ok(OutLink {
+            parcel: Parcel::new(alloc)?,
+            closed: false,
+        })
+    }
+
+    /// Appends `entry`, or answers `false` where the parcel is full.
+    #[inline]
+    pub fn push(&mut self, entry: Entry) -> bool
+        requires { self.old.parcel.taken ≡ 0 }
+        ensures appended { result ≡ true → self.new ≡ record self.old { parcel = with_entry self.old.parcel entry } }
+        ensures room { result ≡ true → length self.old.parcel.untaken < CAP }
+        ensures unchanged { result ≡ false → self.new ≡ self.old }
+        ensures full { result ≡ false → length self.old.parcel.untaken ≡ CAP }
+    {
+        self.parcel.try_push(entry)
+    }
+
+    /// Whether the parcel is to be sent now, where `at_end` says whether the link's hop has reached its end.
+    #[inline]
+    pub fn is_due(&self, steady: bool, at_end: bool) -> bool
+        ensures { result ≡ is_due CAP steady at_end self.now }
+    {
+        self.parcel.is_full() || (steady && self.parcel.len() > 0) || (at_end && !self.closed)
+    }
+
+    /// Hands the parcel out and keeps `spare` in its place.
+    pub fn lend(&mut self, spare: Parcel<CAP>) -> Parcel<CAP>
+        ensures value { result ≡ self.old.parcel }
+        ensures state { self.new ≡ record self.old { parcel = spare.entry } }
+    {
+        mem::replace(&mut self.parcel, spare)
+    }
+
+    /// Takes a parcel back and hands out the spare one. The link is closed from now on where the parcel was sent and
+    /// was the last one.
+    pub fn take_back(&mut self, parcel: Parcel<CAP>, sent: bool, last: bool) -> Parcel<CAP>
+        ensures value { result ≡ self.old.parcel }
+        ensures state { self.new ≡ record { parcel = parcel.entry; closed = self.old.closed || (sent && last) } }
+    {
+        self.closed = self.closed || (sent && last);
+        mem::replace(&mut self.parcel, parcel)
+    }
+
+    /// Whether the last parcel of this epoch was sent.
+    #[inline]
+    pub fn is_closed(&self) -> bool
+        ensures { result ≡ self.now.closed }
+    {
+        self.closed
+    }
+
+    /// A new epoch begins.
+    pub fn reopen(&mut self)
+        ensures { self.new ≡ record self.old { closed = false } }
+    {
+        self.closed = false;
+    }
+}
+
+/// Whether every link is closed.
+pub fn all_closed<const CAP: usize>(links: &[OutLink<CAP>]) -> bool
+    ensures { result ≡ all_closed links.now }
+{
+    for link in links {
+        if !link.is_closed() {
+            return false;
+        }
+    }
+    true
+}
+
+/// So many links, none of them closed, with empty parcels.
+pub fn links_out<const CAP: usize>(alloc: Global, count: u32) -> Result<Vec<OutLink<CAP>>, NoMemory>
+    requires some { 0 < CAP }
+    requires small { CAP ≤ 1024 }
+    ensures { IfOk result (λ links. links.items ≡ replicate count no_out) }
+{
+    let mut links = Vec::with_capacity(alloc, count as usize)?;
+    for i in 0..count {
+        let _made = i;
+        links.push(OutLink::new(alloc)?)?;
+    }
+    Ok(links)
+}
+
+/// A new epoch begins on every link.
+pub fn reopen_all<const CAP: usize>(links: &mut Vec<OutLink<CAP>>)
+    ensures { links.new.items ≡ map reopened links.old.items }
+{
+    for i in 0..links.len() {
+        links[i].reopen();
+    }
+}

@@ -1,0 +1,88 @@
+//! The relay: entries that have come over one hop go on to the open parcels of the next.
+
+ghost use Rattle.std.specs.Prelude.{◌≡◌, ◌≢◌, ℕ, ◌+◌, ◌-◌, ◌<◌, ◌≤◌, length, sum, drop, slice_index_or, false};
+ghost use Rattle.list_laws.specs.Lists.{EachAt};
+ghost use Rattle.route_tensor.specs.Grid.{IsGrid};
+ghost use Rattle.route_tensor.specs.Neighbour.{hop_to};
+ghost use Rattle.hop_core.specs.Link.{no_out, no_in, is_finished};
+ghost use Rattle.hop_core.specs.Standing.{IsOut, IsIn};
+ghost use Rattle.hop_core.specs.Relay.{PassesOn, PassesThrough, held_by, AddsToHop, TakesFromHop, IsStopped, waiting};
+ghost use Rattle.hop_core.specs.State.{ins_of_hop};
+ghost use Rattle.std.specs.List.{list_all};
+
+use crate::inboxes::InLink;
+use crate::open_parcels::OutLink;
+use bale_types::Entry;
+use route_tensor::Routes;
+
+/// Passes the entries of link in number `i` on, in order, until none is left or the open parcel of the first one is
+/// full. Answers how many it passed on.
+pub fn relay_link<const CAP: usize>(
+    routes: &Routes,
+    outs: &mut Vec<OutLink<CAP>>,
+    link: &mut InLink<CAP>,
+    i: u32,
+) -> u64
+    requires number { i < sum routes.now.dims }
+    requires hop { hop_to routes.now.dims i < length routes.now.dims }
+    requires all { length outs.old.items ≡ sum routes.now.dims }
+    requires each { EachAt (λ o out. IsOut routes.now.dims CAP (hop_to routes.now.dims o) out) outs.old.items }
+    requires link { IsIn routes.now.dims CAP (hop_to routes.now.dims i) link.old }
+    requires not_closed { (o : ℕ) → hop_to routes.now.dims o ≡ hop_to routes.now.dims i + 1 → 0 < length link.old.parcel.untaken → (slice_index_or outs.old.items o no_out).closed ≡ false }
+    ensures each { EachAt (λ o out. IsOut routes.now.dims CAP (hop_to routes.now.dims o) out) outs.new.items }
+    ensures link { IsIn routes.now.dims CAP (hop_to routes.now.dims i) link.new }
+    ensures passes_on { PassesOn routes.now.dims routes.now.rank (hop_to routes.now.dims i) i outs.old.items outs.new.items link.old link.new }
+    ensures adds { AddsToHop routes.now.dims (hop_to routes.now.dims i + 1) outs.old.items outs.new.items }
+    ensures rest { link.new.parcel.untaken ≡ drop result link.old.parcel.untaken }
+    ensures count { result + length link.new.parcel.untaken ≡ length link.old.parcel.untaken }
+    ensures ended { link.new.ended ≡ link.old.ended }
+    ensures stopped { IsStopped routes.now.dims CAP (hop_to routes.now.dims i) outs.new.items link.new }
+{
+    let _neighbours = routes.neighbours();
+    let from = routes.neighbour(i);
+    let mut count = 0;
+    while let Some(entry) = link.head() {
+        let step = from.passed_on(entry.tag);
+        let passed = Entry {
+            tag: step.tag,
+            item: entry.item,
+        };
+        if !outs[step.out as usize].push(passed) {
+            break;
+        }
+        let _taken = link.take();
+        count += 1;
+    }
+    count
+}
+
+/// The same for each link in of hop `h`, in ascending order.
+pub fn relay_hop<const CAP: usize>(
+    routes: &Routes,
+    outs: &mut Vec<OutLink<CAP>>,
+    ins: &mut Vec<InLink<CAP>>,
+    h: u32,
+) -> u64
+    requires first { 1 ≤ h }
+    requires last { h < length routes.now.dims }
+    requires small { CAP ≤ 1024 }
+    requires all_outs { length outs.old.items ≡ sum routes.now.dims }
+    requires all_ins { length ins.old.items ≡ sum routes.now.dims }
+    requires each_out { EachAt (λ o out. IsOut routes.now.dims CAP (hop_to routes.now.dims o) out) outs.old.items }
+    requires each_in { EachAt (λ i x. IsIn routes.now.dims CAP (hop_to routes.now.dims i) x) ins.old.items }
+    requires not_closed { (o : ℕ) → hop_to routes.now.dims o ≡ h + 1 → list_all is_finished (ins_of_hop routes.now.dims ins.old.items h) ≡ false → (slice_index_or outs.old.items o no_out).closed ≡ false }
+    ensures each_out { EachAt (λ o out. IsOut routes.now.dims CAP (hop_to routes.now.dims o) out) outs.new.items }
+    ensures each_in { EachAt (λ i x. IsIn routes.now.dims CAP (hop_to routes.now.dims i) x) ins.new.items }
+    ensures held { (s d : ℕ) → PassesThrough routes.now.dims routes.now.rank s d h → held_by routes.now.dims outs.new.items ins.new.items s d h ≡ held_by routes.now.dims outs.old.items ins.old.items s d h }
+    ensures adds { AddsToHop routes.now.dims (h + 1) outs.old.items outs.new.items }
+    ensures takes { TakesFromHop routes.now.dims h ins.old.items ins.new.items }
+    ensures stopped { (i : ℕ) → i < sum routes.now.dims → hop_to routes.now.dims i ≡ h → IsStopped routes.now.dims CAP h outs.new.items (slice_index_or ins.new.items i no_in) }
+    ensures count { result + waiting ins.new.items ≡ waiting ins.old.items }
+{
+    let mut count = 0;
+    let from = routes.first_of(h);
+    for i in from..routes.first_of(h + 1) {
+        count += relay_link(routes, outs, &mut ins[i as usize], i);
+    }
+    count
+}

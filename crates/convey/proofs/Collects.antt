@@ -1,0 +1,156 @@
+-- What one collect leaves of a rank's state.
+use Rattle.std.proofs.Common.{◌≡◌, ◌≢◌, ℕ, ◌<◌, Bool, true, false, not, List, [], ◌∷◌, ◌++◌, length, slice_set, None, refl, sym, ap, subst, ◌∙◌, arith, inl, inr, length-append, set-set}
+use Rattle.std.specs.List.{All}
+use Rattle.std.proofs.lemmas.Bool.{cases_eq, false≢true}
+use Rattle.std.proofs.lemmas.List.{get_or-set_other, get_or-set_same}
+use Rattle.item_buffer.specs.Contents.{Shipped}
+use Rattle.route_tensor.specs.Link.{links}
+use Rattle.route_tensor.specs.Tag.{IsFair}
+use Rattle.route_tensor.specs.Ends.{hop_at, reader_at}
+use Rattle.route_tensor.specs.Neighbour.{in_index}
+use Rattle.port_bank.specs.Logs.{Logs, added}
+use Rattle.port_bank.specs.Flow.{Begins}
+use Rattle.port_bank.proofs.Fronts.{begins_refl}
+use Rattle.port_bank.proofs.Kept.{added_grows}
+use Rattle.hop_core.specs.declared.lent.Lent.{Lent}
+use Rattle.hop_core.specs.declared.lent.Lent.TheVariants.{Nothing}
+use Rattle.hop_core.specs.Link.{In, no_in, is_empty, is_wanted}
+use Rattle.hop_core.specs.State.{State}
+use Rattle.hop_core.specs.Standing.{IsState}
+use Rattle.convey.specs.Buffers.{in_of, buffers_of}
+use Rattle.convey.specs.Agreement.{Agrees}
+use Rattle.convey.specs.Parts.{part_of}
+use Rattle.convey.specs.Due.{Wants}
+use Rattle.convey.specs.Way.{IsReady, GoesOn, at_rest}
+use Rattle.convey.proofs.Arrivals.{GotOn, got_agrees, got_part}
+use Rattle.convey.proofs.Moves.{SameOn, same_agrees, same_buffers_part}
+use Rattle.convey.proofs.States.{none_of, both_true, in_number, in_apart}
+
+-- the state after an inbox came back
+abbrev pub with_inbox : State → ℕ → In → State
+with_inbox st i x = record st { ins = slice_set st.ins i x; lent = Nothing; pulled = None }
+
+inbox_here : (st : State) (l : ℕ) (x : In) → IsState st → l < links st.dims → in_of (with_inbox st (in_index st.dims l) x) l ≡ x
+inbox_here st l x s h =
+    let n = in_number st.dims l s.grid h in
+    let within : in_index st.dims l < length st.ins = omega (arith, n.within, s.all_ins) in
+    get_or-set_same st.ins (in_index st.dims l) x no_in within
+
+inbox_other : (st : State) (r l m : ℕ) (x : In) → IsState st → l < links st.dims → m < links st.dims → reader_at st.dims l ≡ r → reader_at st.dims m ≡ r → m ≢ l
+    → in_of (with_inbox st (in_index st.dims l) x) m ≡ in_of st m
+inbox_other st r l m x s h k a b ne = get_or-set_other st.ins (in_index st.dims l) (in_index st.dims m) x no_in (in_apart st.dims r m l s.grid k h b a ne)
+
+not_true : (c : Bool) → not c ≡ true → c ≡ false
+not_true true h = absurd (false≢true h)
+not_true false h = refl
+
+pub wanted_parts : (x : In) → is_wanted x ≡ true → (x.parcel.untaken ≡ []) × (x.ended ≡ false)
+wanted_parts x h = let b = both_true (is_empty x.parcel) (not x.ended) h in (none_of x.parcel.untaken b.0, not_true x.ended b.1)
+
+pub grew : (log : List Shipped) (p : Shipped) → log ++ p ∷ [] ≡ log → ⊥
+grew log p e = let n = ap length e in omega (arith, n, length-append log (p ∷ []))
+
+module _ (st : State) (link : ℕ) (x : In) (sent got got' : Logs) (s : IsState st) (a : Agrees (buffers_of st) sent got) (below : link < links st.dims) (own : reader_at st.dims link ≡ st.rank)
+    (wants : Wants st link) where
+  i : ℕ
+  i = in_index st.dims link
+
+  empty_now : (in_of st link).parcel.untaken ≡ []
+  empty_now = (wanted_parts (in_of st link) wants).0
+
+  goes_on_now : (in_of st link).ended ≡ false
+  goes_on_now = (wanted_parts (in_of st link) wants).1
+
+  -- nothing came
+  stays : x.parcel.untaken ≡ [] → x.ended ≡ false → SameOn (buffers_of st) (buffers_of (with_inbox st (in_index st.dims link) x)).waiting (buffers_of (with_inbox st (in_index st.dims link) x)).unread
+      (buffers_of (with_inbox st (in_index st.dims link) x)).closed (buffers_of (with_inbox st (in_index st.dims link) x)).ended
+  stays none open' = record {
+    waits = λ l h from. refl;
+    closes = λ l h from. refl;
+    lies = λ l h to. elim (cases_eq l link) [
+      | inl same ↦ subst (λ m. (in_of (with_inbox st (in_index st.dims link) x) m).parcel.untaken ≡ (in_of st m).parcel.untaken) (sym same) (ap (λ y. y.parcel.untaken) (inbox_here st link x s below) ∙ (none ∙ sym empty_now))
+      | inr other ↦ ap (λ y. y.parcel.untaken) (inbox_other st st.rank link l x s below h own to other)
+    ];
+    ends = λ l h to. elim (cases_eq l link) [
+      | inl same ↦ subst (λ m. (in_of (with_inbox st (in_index st.dims link) x) m).ended ≡ (in_of st m).ended) (sym same) (ap (λ y. y.ended) (inbox_here st link x s below) ∙ (open' ∙ sym goes_on_now))
+      | inr other ↦ ap (λ y. y.ended) (inbox_other st st.rank link l x s below h own to other)
+    ];
+  }
+
+  pub nothing_agrees : x.parcel.untaken ≡ [] → x.ended ≡ false → Agrees (buffers_of (with_inbox st (in_index st.dims link) x)) sent got
+  nothing_agrees none open' =
+      let n : State = with_inbox st (in_index st.dims link) x in
+      same_agrees (buffers_of st) (buffers_of n).waiting (buffers_of n).unread (buffers_of n).closed (buffers_of n).ended sent got s.grid (stays none open') a
+
+  pub nothing_part : x.parcel.untaken ≡ [] → x.ended ≡ false → at_rest (part_of (buffers_of (with_inbox st (in_index st.dims link) x)) sent got) ≡ at_rest (part_of (buffers_of st) sent got)
+  nothing_part none open' =
+      let n : State = with_inbox st (in_index st.dims link) x in
+      ap at_rest (same_buffers_part (buffers_of st) (buffers_of n).waiting (buffers_of n).unread (buffers_of n).closed (buffers_of n).ended sent got s.grid (stays none open') s.rank)
+
+  -- a parcel came
+  came : (q : Shipped) → x.parcel.untaken ≡ q.entries → x.ended ≡ q.last → GotOn (buffers_of st) (buffers_of (with_inbox st (in_index st.dims link) x)).unread (buffers_of (with_inbox st (in_index st.dims link) x)).ended link q
+  came q entries last = record {
+    filled = ap (λ y. y.parcel.untaken) (inbox_here st link x s below) ∙ entries;
+    ends = ap (λ y. y.ended) (inbox_here st link x s below) ∙ last;
+    lies = λ l h to other. ap (λ y. y.parcel.untaken) (inbox_other st st.rank link l x s below h own to other);
+    stays = λ l h to other. ap (λ y. y.ended) (inbox_other st st.rank link l x s below h own to other);
+  }
+
+  pub came_agrees : (q : Shipped) → x.parcel.untaken ≡ q.entries → x.ended ≡ q.last → All (λ e. IsFair st.dims (hop_at st.dims link) e.tag) q.entries
+      → Agrees (buffers_of (with_inbox st (in_index st.dims link) x)) sent (added got link q)
+  came_agrees q entries last fair =
+      let n : State = with_inbox st (in_index st.dims link) x in
+      got_agrees (buffers_of st) (buffers_of n).unread (buffers_of n).ended sent got link q s.grid a below own goes_on_now empty_now fair (came q entries last)
+
+  pub came_part : (q : Shipped) → x.parcel.untaken ≡ q.entries → x.ended ≡ q.last → All (λ e. IsFair st.dims (hop_at st.dims link) e.tag) q.entries
+      → at_rest (part_of (buffers_of (with_inbox st (in_index st.dims link) x)) sent (added got link q)) ≡ at_rest (part_of (buffers_of st) sent got)
+  came_part q entries last fair =
+      let n : State = with_inbox st (in_index st.dims link) x in
+      ap at_rest (got_part (buffers_of st) (buffers_of n).unread (buffers_of n).ended sent got link q s.grid a below own goes_on_now empty_now fair (came q entries last) s.rank)
+
+-- the two calls that lend and take back the inbox, as one
+pub lent_in : (st st1 st2 : State) (link : ℕ) (y x : In) (t : Lent) → st1 ≡ record st { ins = slice_set st.ins (in_index st.dims link) y; lent = t; pulled = None }
+    → st2 ≡ record st1 { ins = slice_set st1.ins (in_index st1.dims link) x; lent = Nothing; pulled = None } → st2 ≡ with_inbox st (in_index st.dims link) x
+lent_in st st1 st2 link y x t p q =
+    let back : State → State = λ u. record u { ins = slice_set u.ins (in_index u.dims link) x; lent = Nothing; pulled = None } in
+    let put : List In → State = λ ins. record st { ins = ins; lent = Nothing; pulled = None } in
+    q ∙ (ap back p ∙ ap put (set-set st.ins (in_index st.dims link) y x))
+
+-- all that a collect leaves
+pub record Collected (dims : List ℕ) (rank : ℕ) (st new : State) (link : ℕ) (sent sent' got got' : Logs) : Type 0 where
+  pub ready : IsReady dims rank new sent' got'
+  pub goes_on : GoesOn st new sent sent' got got'
+  pub inbox : (m : ℕ) → m < links dims → reader_at dims m ≡ rank → m ≢ link → in_of new m ≡ in_of st m
+
+module _ (dims : List ℕ) (rank : ℕ) (st new : State) (link : ℕ) (x : In) (sent sent' got got' : Logs) (s : IsState st) (r : IsReady dims rank st sent got)
+    (below : link < links dims) (own : reader_at dims link ≡ rank) (wants : Wants st link) (e : new ≡ with_inbox st (in_index st.dims link) x) (same : sent' ≡ sent) where
+  here_below : link < links st.dims
+  here_below = subst (λ ds. link < links ds) (sym r.same_dims) below
+
+  here_own : reader_at st.dims link ≡ st.rank
+  here_own = ap (λ ds. reader_at ds link) r.same_dims ∙ (own ∙ sym r.same_rank)
+
+  collected : Agrees (buffers_of (with_inbox st (in_index st.dims link) x)) sent got'
+      → at_rest (part_of (buffers_of (with_inbox st (in_index st.dims link) x)) sent got') ≡ at_rest (part_of (buffers_of st) sent got)
+      → ((l : ℕ) → Begins (got l) (got' l)) → Collected dims rank st new link sent sent' got got'
+  collected agrees part grows =
+      subst (λ logs. Collected dims rank st new link sent logs got got') (sym same)
+      (subst (λ n. Collected dims rank st n link sent sent got got') (sym e) (record {
+        ready = record { home = refl; same_dims = r.same_dims; same_rank = r.same_rank; agrees = agrees };
+        goes_on = record { cap = refl; steady = refl; epoch = refl; done = refl; phase = refl; part = part; sent_grows = λ l. begins_refl (sent l); got_grows = grows; shape = λ l h. h };
+        inbox = λ m h to ne.
+            inbox_other st st.rank link m x s here_below (subst (λ ds. m < links ds) (sym r.same_dims) h) here_own (ap (λ ds. reader_at ds m) r.same_dims ∙ (to ∙ sym r.same_rank)) ne;
+      }))
+
+  pub collected_none : x.parcel.untaken ≡ [] → x.ended ≡ false → got' ≡ got → Collected dims rank st new link sent sent' got got'
+  collected_none none open' same_got =
+      collected (subst (Agrees (buffers_of (with_inbox st (in_index st.dims link) x)) sent) (sym same_got) (nothing_agrees st link x sent got got s r.agrees here_below here_own wants none open'))
+      (ap (λ logs. at_rest (part_of (buffers_of (with_inbox st (in_index st.dims link) x)) sent logs)) same_got ∙ nothing_part st link x sent got got s r.agrees here_below here_own wants none open')
+      (λ l. subst (λ logs. Begins (got l) (logs l)) (sym same_got) (begins_refl (got l)))
+
+  pub collected_one : (q : Shipped) → x.parcel.untaken ≡ q.entries → x.ended ≡ q.last → All (λ t. IsFair dims (hop_at dims link) t.tag) q.entries → got' ≡ added got link q → Collected dims rank st new link sent sent' got got'
+  collected_one q entries last fair same_got =
+      let fair_here : All (λ t. IsFair st.dims (hop_at st.dims link) t.tag) q.entries = subst (λ ds. All (λ t. IsFair ds (hop_at ds link) t.tag) q.entries) (sym r.same_dims) fair in
+      collected (subst (Agrees (buffers_of (with_inbox st (in_index st.dims link) x)) sent) (sym same_got) (came_agrees st link x sent got got s r.agrees here_below here_own wants q entries last fair_here))
+      (ap (λ logs. at_rest (part_of (buffers_of (with_inbox st (in_index st.dims link) x)) sent logs)) same_got ∙ came_part st link x sent got got s r.agrees here_below here_own wants q entries last fair_here)
+      (λ l. subst (λ logs. Begins (got l) (logs l)) (sym same_got) (added_grows got link q l))

@@ -1,0 +1,118 @@
+-- Flows of a log that gets one more parcel.
+use Rattle.std.proofs.Common.{◌≡◌, ◌≢◌, ℕ, zero, suc, ◌+◌, ◌<◌, Bool, true, false, cond, List, [], ◌∷◌, ◌++◌, length, map, refl, sym, ap, subst, ◌∙◌, arith, inl, inr}
+use Rattle.std.specs.List.{filter, flat_map}
+use Rattle.std.proofs.lemmas.Bool.{cases_eq}
+use Rattle.std.proofs.lemmas.List.{append-nil, map-append}
+use Rattle.std.proofs.lemmas.List.Elements.{filter-append}
+use Rattle.std.proofs.lemmas.List.Concat.{flat_map-append}
+use Rattle.bale_types.specs.declared.item.Entry.{Entry}
+use Rattle.item_buffer.specs.Contents.{Shipped}
+use Rattle.port_bank.specs.Logs.{Logs, lasts, segment, added}
+use Rattle.port_bank.specs.Flow.{hop_link, belongs, items_of, flow}
+use Rattle.port_bank.proofs.Segments.{lasts-append}
+use Rattle.port_bank.proofs.Kept.{added-here, added-other, flow_at}
+use Rattle.convey.specs.Agreement.{EndsLast, items_among}
+
+-- counts and segments by the mark of the first parcel
+lasts_at : (p : Shipped) (ps : List Shipped) (b : Bool) → p.last ≡ b → lasts (p ∷ ps) ≡ cond b (suc (lasts ps)) (lasts ps)
+lasts_at p ps b e = ap (λ c. length (cond c (p ∷ filter (λ q. q.last) ps) (filter (λ q. q.last) ps))) e
+    ∙ elim b as (λ c. length (cond c (p ∷ filter (λ q. q.last) ps) (filter (λ q. q.last) ps)) ≡ cond c (suc (lasts ps)) (lasts ps)) [ true ↦ refl | false ↦ refl ]
+
+pub lasts_one : (p : Shipped) (b : Bool) → p.last ≡ b → lasts (p ∷ []) ≡ cond b 1 0
+lasts_one p b e = lasts_at p [] b e
+
+segment_zero : (p : Shipped) (ps : List Shipped) (b : Bool) → p.last ≡ b → segment 0 (p ∷ ps) ≡ p ∷ cond b [] (segment 0 ps)
+segment_zero p ps b e = ap (λ c. p ∷ cond c [] (segment 0 ps)) e
+
+segment_later : (n : ℕ) (p : Shipped) (ps : List Shipped) (b : Bool) → p.last ≡ b → segment (suc n) (p ∷ ps) ≡ cond b (segment n ps) (segment (suc n) ps)
+segment_later n p ps b e = ap (λ c. cond c (segment n ps) (segment (suc n) ps)) e
+
+-- before a parcel that isn't marked last the segments stay
+unmarked : (n : ℕ) (q p : Shipped) (xs ys : List Shipped) → q.last ≡ false → segment n xs ≡ segment n ys ++ p ∷ [] → segment n (q ∷ xs) ≡ segment n (q ∷ ys) ++ p ∷ []
+unmarked zero q p xs ys e h = segment_zero q xs false e ∙ (ap (λ u. q ∷ u) h ∙ ap (λ u. u ++ p ∷ []) (sym (segment_zero q ys false e)))
+unmarked (suc n) q p xs ys e h = segment_later n q xs false e ∙ (h ∙ ap (λ u. u ++ p ∷ []) (sym (segment_later n q ys false e)))
+
+marked : (n m : ℕ) (q p : Shipped) (xs ys : List Shipped) → n ≡ suc m → q.last ≡ true → segment m xs ≡ segment m ys ++ p ∷ [] → segment n (q ∷ xs) ≡ segment n (q ∷ ys) ++ p ∷ []
+marked n m q p xs ys same e h =
+    subst (λ k. segment k (q ∷ xs) ≡ segment k (q ∷ ys) ++ p ∷ []) (sym same)
+    (segment_later m q xs true e ∙ (h ∙ ap (λ u. u ++ p ∷ []) (sym (segment_later m q ys true e))))
+
+-- the open segment gets the parcel
+pub segment_grown : (log : List Shipped) (p : Shipped) → segment (lasts log) (log ++ p ∷ []) ≡ segment (lasts log) log ++ p ∷ []
+segment_grown [] p = elim p.last as (λ c. p ∷ cond c [] [] ≡ p ∷ []) [ true ↦ refl | false ↦ refl ]
+segment_grown (q ∷ log) p =
+    let by_mark : (b : Bool) → q.last ≡ b → segment (lasts (q ∷ log)) (q ∷ (log ++ p ∷ [])) ≡ segment (lasts (q ∷ log)) (q ∷ log) ++ p ∷ [] = elim [
+      | true ↦ λ e. marked (lasts (q ∷ log)) (lasts log) q p (log ++ p ∷ []) log (lasts_at q log true e) e (segment_grown log p)
+      | false ↦ λ e. subst (λ n. segment n (q ∷ (log ++ p ∷ [])) ≡ segment n (q ∷ log) ++ p ∷ []) (sym (lasts_at q log false e)) (unmarked (lasts log) q p (log ++ p ∷ []) log e (segment_grown log p))
+    ] in
+    by_mark q.last refl
+
+-- the others don't
+step_other : (n : ℕ) (q : Shipped) (xs ys : List Shipped) (b : Bool) → q.last ≡ b → (b ≡ false → segment n xs ≡ segment n ys) → ((m : ℕ) → b ≡ true → n ≡ suc m → segment m xs ≡ segment m ys)
+    → segment n (q ∷ xs) ≡ segment n (q ∷ ys)
+step_other zero q xs ys true e f g = segment_zero q xs true e ∙ sym (segment_zero q ys true e)
+step_other zero q xs ys false e f g = segment_zero q xs false e ∙ (ap (λ u. q ∷ u) (f refl) ∙ sym (segment_zero q ys false e))
+step_other (suc n) q xs ys true e f g = segment_later n q xs true e ∙ (g n refl refl ∙ sym (segment_later n q ys true e))
+step_other (suc n) q xs ys false e f g = segment_later n q xs false e ∙ (f refl ∙ sym (segment_later n q ys false e))
+
+pub segment_other : (n : ℕ) (log : List Shipped) (p : Shipped) → n ≢ lasts log → segment n (log ++ p ∷ []) ≡ segment n log
+segment_other zero [] p ne = absurd (ne refl)
+segment_other (suc n) [] p ne = elim p.last as (λ c. cond c (segment n []) (segment (suc n) []) ≡ []) [ true ↦ refl | false ↦ refl ]
+segment_other n (q ∷ log) p ne =
+    step_other n q (log ++ p ∷ []) log q.last refl
+    (λ e. segment_other n log p (λ f. ne (f ∙ sym (lasts_at q log false e))))
+    (λ m e s. segment_other m log p (λ f. ne (s ∙ (ap suc f ∙ sym (lasts_at q log true e)))))
+
+-- past the open segment there is nothing
+past_step : (n k : ℕ) (q : Shipped) (log : List Shipped) (b : Bool) → q.last ≡ b → k ≡ cond b (suc (lasts log)) (lasts log) → k < n → ((m : ℕ) → lasts log < m → segment m log ≡ []) → segment n (q ∷ log) ≡ []
+past_step zero k q log b e s h f = absurd (omega arith)
+past_step (suc n) k q log true e s h f = segment_later n q log true e ∙ f n (omega arith)
+past_step (suc n) k q log false e s h f = segment_later n q log false e ∙ f (suc n) (omega arith)
+
+pub segment_past : (log : List Shipped) (n : ℕ) → lasts log < n → segment n log ≡ []
+segment_past [] n h = refl
+segment_past (q ∷ log) n h = past_step n (lasts (q ∷ log)) q log q.last refl (lasts_at q log q.last refl) h (segment_past log)
+
+-- nor in it, just after a parcel marked last
+pub segment_new : (log : List Shipped) → EndsLast log → segment (lasts log) log ≡ []
+segment_new log h =
+    let n : ℕ = lasts log in
+    let count : n ≡ lasts h.front + 1 = ap lasts h.is ∙ (lasts-append h.front (h.final ∷ []) ∙ ap (λ m. lasts h.front + m) (lasts_one h.final true h.last)) in
+    ap (segment n) h.is ∙ (segment_other n h.front h.final (λ e. omega arith) ∙ segment_past h.front n (omega arith))
+
+-- items of joined lists
+pub items_among-append : (keep : Entry → Bool) (xs ys : List Entry) → items_among keep (xs ++ ys) ≡ items_among keep xs ++ items_among keep ys
+items_among-append keep xs ys = ap (map (λ e. e.item)) (filter-append keep xs ys) ∙ map-append (λ e. e.item) (filter keep xs) (filter keep ys)
+
+pub entries_grown : (log : List Shipped) (p : Shipped) → flat_map (λ q. q.entries) (log ++ p ∷ []) ≡ flat_map (λ q. q.entries) log ++ p.entries
+entries_grown log p = flat_map-append (λ q. q.entries) log (p ∷ []) ∙ ap (λ u. flat_map (λ q. q.entries) log ++ u) (append-nil p.entries)
+
+pub items_grown : (keep : Entry → Bool) (log : List Shipped) (p : Shipped) → items_of keep (log ++ p ∷ []) ≡ items_of keep log ++ items_among keep p.entries
+items_grown keep log p = ap (items_among keep) (entries_grown log p) ∙ items_among-append keep (flat_map (λ q. q.entries) log) p.entries
+
+-- a flow after a post or a collect
+module _ (dims : List ℕ) (logs : Logs) (l : ℕ) (p : Shipped) (s d h : ℕ) where
+  pub flow_here : hop_link dims s d h ≡ l → flow dims (added logs l p) s d h (lasts (logs l)) ≡ flow dims logs s d h (lasts (logs l)) ++ items_among (belongs dims s d h) p.entries
+  flow_here same =
+      let keep = belongs dims s d h in
+      let e : ℕ = lasts (logs l) in
+      ap (λ m. items_of keep (segment e (added logs l p m))) same
+      ∙ (ap (λ log. items_of keep (segment e log)) (added-here logs l p)
+      ∙ (ap (items_of keep) (segment_grown (logs l) p)
+      ∙ (items_grown keep (segment e (logs l)) p
+      ∙ ap (λ m. items_of keep (segment e (logs m)) ++ items_among keep p.entries) (sym same))))
+
+  pub flow_elsewhere : (e : ℕ) → hop_link dims s d h ≢ l → flow dims (added logs l p) s d h e ≡ flow dims logs s d h e
+  flow_elsewhere e ne = flow_at dims (added logs l p) logs s d h e (added-other logs l (hop_link dims s d h) p ne)
+
+  pub flow_at_other_epoch : (e : ℕ) → e ≢ lasts (logs l) → flow dims (added logs l p) s d h e ≡ flow dims logs s d h e
+  flow_at_other_epoch e ne =
+      elim (cases_eq (hop_link dims s d h) l) [
+        | inl same ↦
+            let keep = belongs dims s d h in
+            ap (λ m. items_of keep (segment e (added logs l p m))) same
+            ∙ (ap (λ log. items_of keep (segment e log)) (added-here logs l p)
+            ∙ (ap (items_of keep) (segment_other e (logs l) p ne)
+            ∙ ap (λ m. items_of keep (segment e (logs m))) (sym same)))
+        | inr other ↦ flow_elsewhere e other
+      ]

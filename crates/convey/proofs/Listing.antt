@@ -1,0 +1,86 @@
+-- Lists by epoch and rank, and parts of them.
+use Rattle.std.proofs.Common.{◌≡◌, ◌≢◌, ℕ, ◌-◌, ◌<◌, ◌≤◌, ◌==◌, ◌&&◌, nat_lt, Bool, true, false, cond, List, [], ◌∷◌, ◌++◌, length, take, Option, inl, inr, refl, sym, ap, ◌∙◌, arith, eq-eqb, ne_eqb}
+use Rattle.std.proofs.lemmas.Bool.{cases_eq, cases_lt, lt-ltb, le-ltb}
+use Rattle.bale_types.specs.declared.item.Item.{Item}
+use Rattle.convey.specs.Machine.{ItemLists, for_ranks, with_item, without_last, Part}
+
+pub for_ranks-within : (n : ℕ) (lists : ItemLists) (e r : ℕ) → r < n → for_ranks n lists e r ≡ lists e r
+for_ranks-within n lists e r h = ap (λ b. cond b (lists e r) []) (lt-ltb r n h)
+
+pub for_ranks-past : (n : ℕ) (lists : ItemLists) (e r : ℕ) → n ≤ r → for_ranks n lists e r ≡ []
+for_ranks-past n lists e r h = ap (λ b. cond b (lists e r) []) (le-ltb r n h)
+
+-- lists that are the same for each rank
+pub lists_same : (n : ℕ) (f g : ItemLists) → ((e r : ℕ) → r < n → f e r ≡ g e r) → for_ranks n f ≡ for_ranks n g
+lists_same n f g h =
+    let each : (e r : ℕ) → for_ranks n f e r ≡ for_ranks n g e r = λ e r. elim (cases_lt r n) [
+      | inl less ↦ ap (λ u. cond (nat_lt r n) u []) (h e r less)
+      | inr more ↦ for_ranks-past n f e r more ∙ sym (for_ranks-past n g e r more)
+    ] in
+    λ i e r. each e r i
+
+-- a place is one epoch and one rank
+pub at_place : (e f r q : ℕ) → (f ≡ e) → (q ≡ r) → ((f == e) && (q == r)) ≡ true
+at_place e f r q a b = ap (λ c. c && (q == r)) (eq-eqb f e a) ∙ eq-eqb q r b
+
+pub at_other_epoch : (e f r q : ℕ) → f ≢ e → ((f == e) && (q == r)) ≡ false
+at_other_epoch e f r q a = ap (λ c. c && (q == r)) (ne_eqb f e a)
+
+pub at_other_rank : (e f r q : ℕ) → q ≢ r → ((f == e) && (q == r)) ≡ false
+at_other_rank e f r q a = ap (λ c. (f == e) && c) (ne_eqb q r a) ∙ elim (f == e) as (λ c. (c && false) ≡ false) [ true ↦ refl | false ↦ refl ]
+
+-- lists that differ at one place
+pub lists_with : (n e r : ℕ) (x : Item) (f g : ItemLists) → r < n → g e r ≡ f e r ++ x ∷ [] → ((q : ℕ) → q < n → q ≢ r → g e q ≡ f e q) → ((d q : ℕ) → q < n → d ≢ e → g d q ≡ f d q)
+    → for_ranks n g ≡ with_item (for_ranks n f) e r x
+lists_with n e r x f g below here other past =
+    let keeps : (d q : ℕ) → ((d == e) && (q == r)) ≡ false → g d q ≡ f d q → q < n → for_ranks n g d q ≡ with_item (for_ranks n f) e r x d q = λ d q no same h.
+    for_ranks-within n g d q h ∙ (same ∙ (sym (for_ranks-within n f d q h) ∙ sym (ap (λ c. cond c (for_ranks n f d q ++ x ∷ []) (for_ranks n f d q)) no))) in
+    let grows : (d q : ℕ) → d ≡ e → q ≡ r → for_ranks n g d q ≡ with_item (for_ranks n f) e r x d q = λ d q a b.
+    ap (λ k. for_ranks n g k q) a ∙ (ap (for_ranks n g e) b
+    ∙ (for_ranks-within n g e r below ∙ (here ∙ (ap (λ u. u ++ x ∷ []) (sym (for_ranks-within n f e r below))
+    ∙ (ap (λ k. for_ranks n f k r ++ x ∷ []) (sym a) ∙ (ap (λ k. for_ranks n f d k ++ x ∷ []) (sym b)
+    ∙ sym (ap (λ c. cond c (for_ranks n f d q ++ x ∷ []) (for_ranks n f d q)) (at_place e d r q a b)))))))) in
+    let each : (d q : ℕ) → for_ranks n g d q ≡ with_item (for_ranks n f) e r x d q = λ d q. elim (cases_lt q n) [
+      | inl h ↦ elim (cases_eq d e) [
+        | inl a ↦ elim (cases_eq q r) [
+          | inl b ↦ grows d q a b
+          | inr b ↦ keeps d q (at_other_rank e d r q b) (ap (λ k. g k q) a ∙ (other q h b ∙ ap (λ k. f k q) (sym a))) h
+        ]
+        | inr a ↦ keeps d q (at_other_epoch e d r q a) (past d q h a) h
+      ]
+      | inr h ↦
+          let no : ((d == e) && (q == r)) ≡ false = at_other_rank e d r q (λ b. omega arith) in
+          for_ranks-past n g d q h ∙ (sym (for_ranks-past n f d q h) ∙ sym (ap (λ c. cond c (for_ranks n f d q ++ x ∷ []) (for_ranks n f d q)) no))
+    ] in
+    λ i d q. each d q i
+
+-- and one that loses the item again
+pub lists_without : (n e r : ℕ) (x : Item) (f g : ItemLists) → r < n → g e r ++ x ∷ [] ≡ f e r → take (length (f e r) - 1) (f e r) ≡ g e r
+    → ((q : ℕ) → q < n → q ≢ r → g e q ≡ f e q) → ((d q : ℕ) → q < n → d ≢ e → g d q ≡ f d q)
+    → for_ranks n g ≡ without_last (for_ranks n f) e r
+lists_without n e r x f g below here cut other past =
+    let shorter : ItemLists → ℕ → ℕ → List Item = λ h d q. take (length (h d q) - 1) (h d q) in
+    let keeps : (d q : ℕ) → ((d == e) && (q == r)) ≡ false → for_ranks n g d q ≡ for_ranks n f d q → for_ranks n g d q ≡ without_last (for_ranks n f) e r d q = λ d q no same.
+    same ∙ sym (ap (λ c. cond c (shorter (for_ranks n f) d q) (for_ranks n f d q)) no) in
+    let within : (d q : ℕ) → q < n → g d q ≡ f d q → for_ranks n g d q ≡ for_ranks n f d q = λ d q h same. for_ranks-within n g d q h ∙ (same ∙ sym (for_ranks-within n f d q h)) in
+    let loses : (d q : ℕ) → d ≡ e → q ≡ r → for_ranks n g d q ≡ without_last (for_ranks n f) e r d q = λ d q a b.
+    ap (λ k. for_ranks n g k q) a ∙ (ap (for_ranks n g e) b
+    ∙ (for_ranks-within n g e r below ∙ (sym cut ∙ (ap (λ u. take (length u - 1) u) (sym (for_ranks-within n f e r below))
+    ∙ (ap (λ k. shorter (for_ranks n f) k r) (sym a) ∙ (ap (λ k. shorter (for_ranks n f) d k) (sym b)
+    ∙ sym (ap (λ c. cond c (shorter (for_ranks n f) d q) (for_ranks n f d q)) (at_place e d r q a b)))))))) in
+    let each : (d q : ℕ) → for_ranks n g d q ≡ without_last (for_ranks n f) e r d q = λ d q. elim (cases_lt q n) [
+      | inl h ↦ elim (cases_eq d e) [
+        | inl a ↦ elim (cases_eq q r) [
+          | inl b ↦ loses d q a b
+          | inr b ↦ keeps d q (at_other_rank e d r q b) (within d q h (ap (λ k. g k q) a ∙ (other q h b ∙ ap (λ k. f k q) (sym a))))
+        ]
+        | inr a ↦ keeps d q (at_other_epoch e d r q a) (within d q h (past d q h a))
+      ]
+      | inr h ↦ keeps d q (at_other_rank e d r q (λ b. omega arith)) (for_ranks-past n g d q h ∙ sym (for_ranks-past n f d q h))
+    ] in
+    λ i d q. each d q i
+
+-- parts by their lists
+pub same_part : (e : ℕ) (d c : Bool) (l : Option ℕ) (f f' g g' : ItemLists) → f' ≡ f → g' ≡ g
+    → ◌≡◌ {A = Part} (record { epoch = e; done = d; complete = c; latest = l; pushed = f'; pulled = g' }) (record { epoch = e; done = d; complete = c; latest = l; pushed = f; pulled = g })
+same_part e d c l f f' g g' p q = λ i. record { epoch = e; done = d; complete = c; latest = l; pushed = p i; pulled = q i }

@@ -1,0 +1,250 @@
+-- Steps of an advance, one after another.
+use Rattle.std.proofs.Common.{◌≡◌, ◌≢◌, ℕ, ◌+◌, ◌<◌, ◌≤◌, Bool, List, [], ◌∷◌, ◌++◌, length, sum, inl, inr, refl, sym, ap, subst, ◌∙◌, arith, length-append}
+use Rattle.std.proofs.lemmas.Bool.{cases_eq}
+use Rattle.std.proofs.lemmas.List.{append-nil}
+use Rattle.bale_types.specs.Stream.{Rose}
+use Rattle.item_buffer.specs.Contents.{Shipped}
+use Rattle.route_tensor.specs.Grid.{ranks, IsGrid}
+use Rattle.route_tensor.specs.Link.{links}
+use Rattle.route_tensor.specs.Ends.{hop_at, sender_at, reader_at}
+use Rattle.route_tensor.specs.Neighbour.{hop_to, neighbour, link_to, link_from, out_index, in_index}
+use Rattle.route_tensor.proofs.Links.{link_below}
+use Rattle.route_tensor.proofs.Ends.{sender_at-link, reader_at-link}
+use Rattle.route_tensor.proofs.Neighbours.{to_neighbour, from_neighbour, out_index-link_to, in_index-link_from, out_stands, in_stands}
+use Rattle.port_bank.specs.Logs.{Logs}
+use Rattle.port_bank.specs.Flow.{Begins}
+use Rattle.port_bank.proofs.Fronts.{begins_refl, begins_trans}
+use Rattle.port_bank.specs.Shapes.{IsConveyorShape}
+use Rattle.hop_core.specs.Link.{is_due, is_wanted}
+use Rattle.hop_core.specs.State.{State, at_end}
+use Rattle.convey.specs.Buffers.{out_of, in_of}
+use Rattle.convey.specs.Due.{IsDue, Wants}
+use Rattle.convey.specs.Way.{IsReady, GoesOn, WasAsked, WasServed}
+
+-- the links of a neighbour
+pub from_below : (dims : List ℕ) (r i : ℕ) → IsGrid dims → r < ranks dims → i < sum dims → link_from dims r i < links dims
+from_below dims r i g own h = link_below dims (hop_to dims i) (neighbour dims r i) r g (from_neighbour dims r i g own h)
+
+pub from_reader : (dims : List ℕ) (r i : ℕ) → IsGrid dims → r < ranks dims → i < sum dims → reader_at dims (link_from dims r i) ≡ r
+from_reader dims r i g own h = reader_at-link dims (hop_to dims i) (neighbour dims r i) r g (from_neighbour dims r i g own h)
+
+pub to_below : (dims : List ℕ) (r i : ℕ) → IsGrid dims → r < ranks dims → i < sum dims → link_to dims r i < links dims
+to_below dims r i g own h = link_below dims (hop_to dims i) r (neighbour dims r i) g (to_neighbour dims r i g own h)
+
+pub to_sender : (dims : List ℕ) (r i : ℕ) → IsGrid dims → r < ranks dims → i < sum dims → sender_at dims (link_to dims r i) ≡ r
+to_sender dims r i g own h = sender_at-link dims (hop_to dims i) r (neighbour dims r i) g (to_neighbour dims r i g own h)
+
+pub below_sum : (dims ds : List ℕ) (i n : ℕ) → ds ≡ dims → n ≡ sum ds → i < n → i < sum dims
+below_sum dims ds i n e count h = subst (λ m. i < m) (count ∙ ap sum e) h
+
+pub link_here : (made : List ℕ → ℕ → ℕ → ℕ) (dims ds : List ℕ) (rank r i link : ℕ) → ds ≡ dims → r ≡ rank → link ≡ made ds r i → link ≡ made dims rank i
+link_here made dims ds rank r i link e f h = h ∙ λ j. made (e j) (f j) i
+
+pub goes_on_refl : (st : State) (sent got : Logs) → GoesOn st st sent sent got got
+goes_on_refl st sent got = record {
+  cap = refl;
+  steady = refl;
+  epoch = refl;
+  done = refl;
+  phase = refl;
+  part = refl;
+  sent_grows = λ l. begins_refl (sent l);
+  got_grows = λ l. begins_refl (got l);
+  shape = λ l h. h;
+}
+
+pub goes_on_trans : (a b c : State) (sent sent' sent'' got got' got'' : Logs)
+    → GoesOn a b sent sent' got got' → GoesOn b c sent' sent'' got' got'' → GoesOn a c sent sent'' got got''
+goes_on_trans a b c sent sent' sent'' got got' got'' p q = record {
+  cap = q.cap ∙ p.cap;
+  steady = q.steady ∙ p.steady;
+  epoch = q.epoch ∙ p.epoch;
+  done = q.done ∙ p.done;
+  phase = q.phase ∙ p.phase;
+  part = q.part ∙ p.part;
+  sent_grows = λ l. begins_trans (sent l) (sent' l) (sent'' l) (p.sent_grows l) (q.sent_grows l);
+  got_grows = λ l. begins_trans (got l) (got' l) (got'' l) (p.got_grows l) (q.got_grows l);
+  shape = λ l h. subst (λ n. IsConveyorShape a.steady n (sent'' l)) p.cap (subst (λ t. IsConveyorShape t b.cap (sent'' l)) p.steady
+      (q.shape l (subst (λ n. IsConveyorShape b.steady n (sent' l)) (sym p.cap) (subst (λ t. IsConveyorShape t a.cap (sent' l)) (sym p.steady) (p.shape l h)))));
+}
+
+pub ready_at : (dims ds : List ℕ) (rank r : ℕ) (st : State) (sent got : Logs) → ds ≡ dims → r ≡ rank → IsReady ds r st sent got → IsReady dims rank st sent got
+ready_at dims ds rank r st sent got e f k = subst (λ q. IsReady dims q st sent got) f (subst (λ q. IsReady q r st sent got) e k)
+
+pub link_at : (dims ds : List ℕ) (m : ℕ) → ds ≡ dims → m < links dims → m < links ds
+link_at dims ds m e h = subst (λ q. m < links q) (sym e) h
+
+pub end_at : (end_of : List ℕ → ℕ → ℕ) (dims ds : List ℕ) (rank r m : ℕ) → ds ≡ dims → r ≡ rank → end_of dims m ≡ rank → end_of ds m ≡ r
+end_at end_of dims ds rank r m e f h = ap (λ q. end_of q m) e ∙ (h ∙ sym f)
+
+none_left : (xs : List Shipped) → length xs ≡ 0 → xs ≡ []
+none_left [] h = refl
+none_left (x ∷ xs) h = absurd (omega arith)
+
+-- a list that grew and is as it was at first never grew
+pub never_grew : (xs ys zs : List Shipped) → Begins xs ys → Begins ys zs → zs ≡ xs → ys ≡ xs
+never_grew xs ys zs p q e =
+    let n : length p.rest ≡ 0 = omega (arith, ap length p.is, ap length q.is, ap length e, length-append xs p.rest, length-append ys q.rest) in
+    p.is ∙ (ap (λ r. xs ++ r) (none_left p.rest n) ∙ append-nil xs)
+
+-- what stays where nothing was sent
+pub stays_more : {X : Type 0} (sent sent' sent'' : Logs) (f f' f'' : ℕ → X) → ((l : ℕ) → Begins (sent l) (sent' l)) → ((l : ℕ) → Begins (sent' l) (sent'' l))
+    → ((l : ℕ) → sent' l ≡ sent l → f' l ≡ f l) → ((l : ℕ) → sent'' l ≡ sent' l → f'' l ≡ f' l) → (l : ℕ) → sent'' l ≡ sent l → f'' l ≡ f l
+stays_more sent sent' sent'' f f' f'' p q a b l same =
+    let before : sent' l ≡ sent l = never_grew (sent l) (sent' l) (sent'' l) (p l) (q l) same in
+    b l (same ∙ sym before) ∙ a l before
+
+-- Collecting: the first i links in were asked, and the others are as they were.
+pub record NotAsked (b c : State) (l : ℕ) (log log' : List Shipped) (at at' : ℕ) : Type 0 where
+  pub inbox : in_of c l ≡ in_of b l
+  pub got : log' ≡ log
+  pub noted : at' ≡ at
+
+pub record Collecting (dims : List ℕ) (rank i : ℕ) (b c : State) (got got' : Logs) (noted noted' : ℕ → ℕ) (idle' : ℕ → Bool) : Type 0 where
+  pub asked : (l : ℕ) → l < links dims → reader_at dims l ≡ rank → in_index dims l < i → WasAsked b l (got l) (got' l) (noted l) (noted' l) (idle' l)
+  pub to_ask : (l : ℕ) → l < links dims → reader_at dims l ≡ rank → i ≤ in_index dims l → NotAsked b c l (got l) (got' l) (noted l) (noted' l)
+
+pub collecting_none : (dims : List ℕ) (rank : ℕ) (b : State) (got : Logs) (noted : ℕ → ℕ) (idle : ℕ → Bool) → Collecting dims rank 0 b b got got noted noted idle
+collecting_none dims rank b got noted idle = record {
+  asked = λ l h to less. absurd (omega arith);
+  to_ask = λ l h to le. record { inbox = refl; got = refl; noted = refl };
+}
+
+pub collecting_all : (dims : List ℕ) (rank i : ℕ) (b c : State) (got got' : Logs) (noted noted' : ℕ → ℕ) (idle' : ℕ → Bool) → IsGrid dims → i ≡ sum dims
+    → Collecting dims rank i b c got got' noted noted' idle' → (l : ℕ) → l < links dims → reader_at dims l ≡ rank
+    → WasAsked b l (got l) (got' l) (noted l) (noted' l) (idle' l)
+collecting_all dims rank i b c got got' noted noted' idle' g all k l h to = k.asked l h to (subst (λ n. in_index dims l < n) (sym all) ((in_stands dims rank l g h to).below))
+
+-- what asking one link leaves of the others
+pub record OthersStay (dims : List ℕ) (rank link : ℕ) (b c : State) (got got' : Logs) (noted noted' : ℕ → ℕ) (idle idle' : ℕ → Bool) : Type 0 where
+  pub inbox : (m : ℕ) → m < links dims → reader_at dims m ≡ rank → m ≢ link → in_of c m ≡ in_of b m
+  pub got_stays : (m : ℕ) → m ≢ link → got' m ≡ got m
+  pub noted_stays : (m : ℕ) → m ≢ link → noted' m ≡ noted m
+  pub idle_stays : (m : ℕ) → m ≢ link → idle' m ≡ idle m
+
+pub asked_still : (b : State) (l : ℕ) (log log' log'' : List Shipped) (noted noted' noted'' : ℕ) (idle idle' : Bool)
+    → log'' ≡ log' → noted'' ≡ noted' → idle' ≡ idle
+    → WasAsked b l log log' noted noted' idle → WasAsked b l log log'' noted noted'' idle'
+asked_still b l log log' log'' noted noted' noted'' idle idle' same_log same_noted same_idle w = record {
+  left = λ no. same_log ∙ w.left no;
+  unasked = λ no. same_noted ∙ w.unasked no;
+  rose = λ yes same. subst (Rose noted) (sym same_noted) (w.rose yes (sym same_log ∙ same));
+  idle = λ yes same. same_idle ∙ w.idle yes (sym same_log ∙ same);
+}
+
+wants_same : (b c : State) (l : ℕ) → in_of c l ≡ in_of b l → Wants b l → Wants c l
+wants_same b c l same w = ap is_wanted same ∙ w
+
+pub asked_now : (b c : State) (l : ℕ) (log log' log'' : List Shipped) (noted noted' noted'' : ℕ) (idle : Bool)
+    → NotAsked b c l log log' noted noted' → WasAsked c l log' log'' noted' noted'' idle → WasAsked b l log log'' noted noted'' idle
+asked_now b c l log log' log'' noted noted' noted'' idle n w =
+    let up : Wants b l → Wants c l = wants_same b c l n.inbox in
+    let down : Wants c l → Wants b l = wants_same c b l (sym n.inbox) in
+    record {
+      left = λ no. w.left (λ q. no (down q)) ∙ n.got;
+      unasked = λ no. w.unasked (λ q. no (down q)) ∙ n.noted;
+      rose = λ yes same. subst (λ k. Rose k noted'') n.noted (w.rose (up yes) (same ∙ sym n.got));
+      idle = λ yes same. w.idle (up yes) (same ∙ sym n.got);
+    }
+
+module _ (dims : List ℕ) (rank i link : ℕ) (b c d : State) (got got' got'' : Logs) (noted noted' noted'' : ℕ → ℕ) (idle' idle'' : ℕ → Bool)
+    (g : IsGrid dims) (own : rank < ranks dims) (below : i < sum dims) (k : Collecting dims rank i b c got got' noted noted' idle')
+    (here : link ≡ link_from dims rank i) (w : WasAsked c link (got' link) (got'' link) (noted' link) (noted'' link) (idle'' link))
+    (o : OthersStay dims rank link c d got' got'' noted' noted'' idle' idle'') where
+  -- links of other numbers are others
+  other_in : (l : ℕ) → in_index dims l ≢ i → l ≢ link
+  other_in l ne e = ne (ap (in_index dims) (e ∙ here) ∙ in_index-link_from dims rank i g own below)
+
+  same_in : (l : ℕ) → l < links dims → reader_at dims l ≡ rank → in_index dims l ≡ i → link ≡ l
+  same_in l h to e = here ∙ ap (link_from dims rank) (sym e) ∙ (in_stands dims rank l g h to).number
+
+  pub collecting_more : Collecting dims rank (i + 1) b d got got'' noted noted'' idle''
+  collecting_more = record {
+    asked = λ l h to less. elim (cases_eq (in_index dims l) i) [
+      | inl same ↦
+          let e = same_in l h to same in
+          let v = subst (λ m. WasAsked c m (got' m) (got'' m) (noted' m) (noted'' m) (idle'' m)) e w in
+          asked_now b c l (got l) (got' l) (got'' l) (noted l) (noted' l) (noted'' l) (idle'' l) (k.to_ask l h to (omega arith)) v
+      | inr ne ↦
+          let x = other_in l ne in
+          asked_still b l (got l) (got' l) (got'' l) (noted l) (noted' l) (noted'' l) (idle' l) (idle'' l)
+          (o.got_stays l x) (o.noted_stays l x) (o.idle_stays l x) (k.asked l h to (omega arith))
+    ];
+    to_ask = λ l h to le.
+        let x = other_in l (λ e. omega arith) in
+        let n = k.to_ask l h to (omega arith) in
+        record { inbox = o.inbox l h to x ∙ n.inbox; got = o.got_stays l x ∙ n.got; noted = o.noted_stays l x ∙ n.noted };
+  }
+
+-- Serving: the first i links out were served, and the others were not looked at.
+pub record Serving (dims : List ℕ) (rank i : ℕ) (b c : State) (sent sent' : Logs) (looks looks' : ℕ → ℕ) (crowded' : ℕ → Bool) : Type 0 where
+  pub served : (l : ℕ) → l < links dims → sender_at dims l ≡ rank → out_index dims l < i → WasServed c l (looks l) (looks' l) (crowded' l)
+  pub to_serve : (l : ℕ) → l < links dims → sender_at dims l ≡ rank → i ≤ out_index dims l → looks' l ≡ looks l
+  pub waits : (l : ℕ) → l < links dims → sender_at dims l ≡ rank → sent' l ≡ sent l → (out_of c l).parcel.untaken ≡ (out_of b l).parcel.untaken
+
+pub serving_none : (dims : List ℕ) (rank : ℕ) (b : State) (sent : Logs) (looks : ℕ → ℕ) (crowded : ℕ → Bool) → Serving dims rank 0 b b sent sent looks looks crowded
+serving_none dims rank b sent looks crowded = record {
+  served = λ l h from less. absurd (omega arith);
+  to_serve = λ l h from le. refl;
+  waits = λ l h from same. refl;
+}
+
+pub serving_all : (dims : List ℕ) (rank i : ℕ) (b c : State) (sent sent' : Logs) (looks looks' : ℕ → ℕ) (crowded' : ℕ → Bool) → IsGrid dims → i ≡ sum dims
+    → Serving dims rank i b c sent sent' looks looks' crowded' → (l : ℕ) → l < links dims → sender_at dims l ≡ rank → WasServed c l (looks l) (looks' l) (crowded' l)
+serving_all dims rank i b c sent sent' looks looks' crowded' g all k l h from = k.served l h from (subst (λ n. out_index dims l < n) (sym all) ((out_stands dims rank l g h from).below))
+
+-- what serving one link leaves of the others
+pub record OthersWait (dims : List ℕ) (rank link : ℕ) (b c : State) (sent sent' : Logs) (looks looks' : ℕ → ℕ) (crowded crowded' : ℕ → Bool) : Type 0 where
+  pub out : (m : ℕ) → m < links dims → sender_at dims m ≡ rank → m ≢ link → out_of c m ≡ out_of b m
+  pub waits : sent' link ≡ sent link → (out_of c link).parcel.untaken ≡ (out_of b link).parcel.untaken
+  pub sent_stays : (m : ℕ) → m ≢ link → sent' m ≡ sent m
+  pub looks_stays : (m : ℕ) → m ≢ link → looks' m ≡ looks m
+  pub crowded_stays : (m : ℕ) → m ≢ link → crowded' m ≡ crowded m
+  pub same_dims : c.dims ≡ b.dims
+  pub ins : c.ins ≡ b.ins
+  pub done : c.done ≡ b.done
+  pub cap : c.cap ≡ b.cap
+  pub steady : c.steady ≡ b.steady
+
+-- a link whose own buffer stays is due as before
+pub due_same : (b c : State) (l : ℕ) → c.dims ≡ b.dims → c.ins ≡ b.ins → c.done ≡ b.done → c.cap ≡ b.cap → c.steady ≡ b.steady → out_of c l ≡ out_of b l → IsDue c l → IsDue b l
+due_same b c l dims ins done cap steady out due =
+    sym (λ i. is_due (cap i) (steady i) (at_end (dims i) (ins i) (done i) (hop_at (dims i) l)) (out i)) ∙ due
+
+module _ (dims : List ℕ) (rank i link : ℕ) (b c d : State) (sent sent' sent'' : Logs) (looks looks' looks'' : ℕ → ℕ) (crowded' crowded'' : ℕ → Bool)
+    (g : IsGrid dims) (own : rank < ranks dims) (below : i < sum dims) (k : Serving dims rank i b c sent sent' looks looks' crowded')
+    (grew : (l : ℕ) → Begins (sent l) (sent' l)) (grows : (l : ℕ) → Begins (sent' l) (sent'' l))
+    (here : link ≡ link_to dims rank i) (o : OthersWait dims rank link c d sent' sent'' looks' looks'' crowded' crowded'') where
+  other_out : (l : ℕ) → out_index dims l ≢ i → l ≢ link
+  other_out l ne e = ne (ap (out_index dims) (e ∙ here) ∙ out_index-link_to dims rank i g own below)
+
+  same_out : (l : ℕ) → l < links dims → sender_at dims l ≡ rank → out_index dims l ≡ i → link ≡ l
+  same_out l h from e = here ∙ ap (link_to dims rank) (sym e) ∙ (out_stands dims rank l g h from).number
+
+  pub waits_more : (l : ℕ) → l < links dims → sender_at dims l ≡ rank → sent'' l ≡ sent l → (out_of d l).parcel.untaken ≡ (out_of b l).parcel.untaken
+  waits_more l h from same =
+      let before : sent' l ≡ sent l = never_grew (sent l) (sent' l) (sent'' l) (grew l) (grows l) same in
+      elim (cases_eq l link) [
+        | inl e ↦ subst (λ m. sent'' m ≡ sent' m → (out_of d m).parcel.untaken ≡ (out_of c m).parcel.untaken) (sym e) o.waits (same ∙ sym before) ∙ k.waits l h from before
+        | inr x ↦ ap (λ q. q.parcel.untaken) (o.out l h from x) ∙ k.waits l h from before
+      ]
+
+  pub serving_more : WasServed d link (looks' link) (looks'' link) (crowded'' link)
+      → Serving dims rank (i + 1) b d sent sent'' looks looks'' crowded''
+  serving_more w = record {
+    served = λ l h from less. elim (cases_eq (out_index dims l) i) [
+      | inl same ↦
+          let e = same_out l h from same in
+          let v = subst (λ m. WasServed d m (looks' m) (looks'' m) (crowded'' m)) e w in
+          record { looked = λ due. subst (λ n. Rose n (looks'' l)) (k.to_serve l h from (omega arith)) (v.looked due); crowded = v.crowded }
+      | inr ne ↦
+          let x = other_out l ne in
+          let v = k.served l h from (omega arith) in
+          let still : IsDue d l → IsDue c l = due_same c d l o.same_dims o.ins o.done o.cap o.steady (o.out l h from x) in
+          record { looked = λ due. subst (Rose (looks l)) (sym (o.looks_stays l x)) (v.looked (still due)); crowded = λ due. o.crowded_stays l x ∙ v.crowded (still due) }
+    ];
+    to_serve = λ l h from le.
+        let x = other_out l (λ e. omega arith) in
+        o.looks_stays l x ∙ k.to_serve l h from (omega arith);
+    waits = waits_more;
+  }

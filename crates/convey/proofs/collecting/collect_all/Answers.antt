@@ -1,0 +1,66 @@
+use Rattle.std.proofs.Common.{◌≡◌, ◌<◌, sum, sym, ap, subst, ◌∙◌, arith, rules}
+use Rattle.route_tensor.specs.Grid.{ranks, IsGrid}
+use Rattle.route_tensor.specs.Link.{links}
+use Rattle.route_tensor.specs.Ends.{reader_at}
+use Rattle.route_tensor.specs.Neighbour.{link_from}
+use Rattle.convey.proofs.Ways.{from_below, from_reader, below_sum, link_here, ready_at, link_at, end_at, collecting_more, collecting_all, goes_on_trans}
+use Rattle.convey.proofs.collecting.collect_all.Goals as goal
+
+pub collect_one-requires : goal.collect_one-requires
+collect_one-requires g c =
+    let dims = g.P.Port.dims c.args.port.now in
+    let rank = g.P.Port.rank c.args.port.now in
+    let k = c.loop-i.invariant in
+    let first = ap (λ t. t.dims) c.routes.ensures ∙ c.requires.ready.same_dims in
+    let below = below_sum dims _ _ _ first c.neighbours-i-end.ensures.value c.loop-i-test.true in
+    let grid : IsGrid dims = subst IsGrid first c.neighbours-i-end.ensures.grid in
+    let own : rank < ranks dims = subst (λ r. r < ranks dims) (ap (λ t. t.rank) c.routes.ensures ∙ c.requires.ready.same_rank) (subst (λ ds. c.routes.result.now.rank < ranks ds) first c.neighbours-i-end.ensures.rank) in
+    let link = c.neighbour-link.result.link_from in
+    let here : link ≡ link_from dims rank c.loop-i.i = link_here link_from dims _ rank _ _ _ (ap (λ t. t.dims) c.routes-in-loop-i.ensures ∙ k.ready.same_dims) (ap (λ t. t.rank) c.routes-in-loop-i.ensures ∙ k.ready.same_rank) (ap (λ n. n.link_from) c.neighbour-link.ensures.value) in (
+      search rules,
+      (
+        subst (λ ds. link < links ds) (sym k.same_dims) (subst (λ l. l < links dims) (sym here) (from_below dims rank _ grid own below)),
+        (
+          ap (λ ds. reader_at ds link) k.same_dims ∙ (ap (reader_at dims) here ∙ (from_reader dims rank _ grid own below ∙ sym k.same_rank)),
+          ready_at _ _ _ _ _ _ _ (sym k.same_dims) (sym k.same_rank) k.ready,
+        ),
+      ),
+    )
+
+pub loop-i-preserved : goal.loop-i-preserved
+loop-i-preserved g c =
+    let dims = g.P.Port.dims c.args.port.now in
+    let rank = g.P.Port.rank c.args.port.now in
+    let k = c.loop-i.invariant in
+    let e = c.collect_one.ensures in
+    let first = ap (λ t. t.dims) c.routes.ensures ∙ c.requires.ready.same_dims in
+    let below = below_sum dims _ _ _ first c.neighbours-i-end.ensures.value c.loop-i-test.true in
+    let grid : IsGrid dims = subst IsGrid first c.neighbours-i-end.ensures.grid in
+    let own : rank < ranks dims = subst (λ r. r < ranks dims) (ap (λ t. t.rank) c.routes.ensures ∙ c.requires.ready.same_rank) (subst (λ ds. c.routes.result.now.rank < ranks ds) first c.neighbours-i-end.ensures.rank) in
+    let here = link_here link_from dims _ rank _ _ _ (ap (λ t. t.dims) c.routes-in-loop-i.ensures ∙ k.ready.same_dims) (ap (λ t. t.rank) c.routes-in-loop-i.ensures ∙ k.ready.same_rank) (ap (λ n. n.link_from) c.neighbour-link.ensures.value) in
+    record {
+      ready = ready_at dims _ rank _ _ _ _ k.same_dims k.same_rank e.ready;
+      goes_on = goes_on_trans _ _ _ _ _ _ _ _ _ k.goes_on e.goes_on;
+      collecting = collecting_more dims rank _ _ c.args.state.now c.loop-i.state c.collect_one.new.state _ _ _ _ _ _ _ _ grid own below k.collecting here e.asked (record {
+        inbox = λ m h to ne. e.inbox m (link_at dims _ m k.same_dims h) (end_at reader_at dims _ rank _ m k.same_dims k.same_rank to) ne;
+        got_stays = e.got;
+        noted_stays = e.noted;
+        idle_stays = e.idle;
+      });
+      outs = search rules;
+      sent = search rules;
+      looks_out = search rules;
+      rest = search rules;
+      same_rank = search rules;
+      same_dims = search rules;
+      same_slots = search rules;
+    }
+
+pub returns-clause-asked : goal.returns-clause-asked
+returns-clause-asked g c =
+    let dims = g.P.Port.dims c.args.port.now in
+    let k = c.loop-i.invariant in
+    let first : c.routes.result.now.dims ≡ dims = ap (λ t. t.dims) c.routes.ensures ∙ c.requires.ready.same_dims in
+    let grid : IsGrid dims = subst IsGrid first c.neighbours-i-end.ensures.grid in
+    let all : c.loop-i.i ≡ sum dims = omega (arith, ap sum first, c.neighbours-i-end.ensures.value) in
+    collecting_all _ _ _ _ _ _ _ _ _ _ grid all k.collecting

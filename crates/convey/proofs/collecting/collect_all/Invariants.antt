@@ -1,0 +1,19 @@
+use Rattle.std.proofs.Common.{◌≡◌}
+use Rattle.convey.specs.Way.{IsReady, GoesOn}
+use Rattle.convey.proofs.Ways.{Collecting}
+use Rattle.convey.proofs.collecting.collect_all.Given as goal
+
+abbrev pub invariant-loop-i : goal.invariant-loop-i
+invariant-loop-i g l = record {
+  ready : IsReady (g.P.Port.dims l.fn.port) (g.P.Port.rank l.fn.port) l.state (g.P.Port.sent l.port) (g.P.Port.got l.port);
+  goes_on : GoesOn l.fn.state l.state (g.P.Port.sent l.fn.port) (g.P.Port.sent l.port) (g.P.Port.got l.fn.port) (g.P.Port.got l.port);
+  collecting : Collecting (g.P.Port.dims l.fn.port) (g.P.Port.rank l.fn.port) l.i l.fn.state l.state (g.P.Port.got l.fn.port) (g.P.Port.got l.port)
+      (g.P.Port.noted l.fn.port) (g.P.Port.noted l.port) (g.P.Port.idle l.port);
+  outs : l.state.outs ≡ l.fn.state.outs;
+  sent : g.P.Port.sent l.port ≡ g.P.Port.sent l.fn.port;
+  looks_out : g.P.Port.looks_out l.port ≡ g.P.Port.looks_out l.fn.port;
+  rest : g.P.Port.rest l.port ≡ g.P.Port.rest l.fn.port;
+  same_rank : g.P.Port.rank l.port ≡ g.P.Port.rank l.fn.port;
+  same_dims : g.P.Port.dims l.port ≡ g.P.Port.dims l.fn.port;
+  same_slots : g.P.Port.slots l.port ≡ g.P.Port.slots l.fn.port;
+}

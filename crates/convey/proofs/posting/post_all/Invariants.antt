@@ -1,0 +1,20 @@
+use Rattle.std.proofs.Common.{◌≡◌, ℕ}
+use Rattle.convey.specs.Way.{IsReady, GoesOn}
+use Rattle.convey.proofs.Ways.{Serving}
+use Rattle.convey.proofs.posting.post_all.Given as goal
+
+abbrev pub invariant-loop-i : goal.invariant-loop-i
+invariant-loop-i g l = record {
+  ready : IsReady (g.P.Port.dims l.fn.port) (g.P.Port.rank l.fn.port) l.state (g.P.Port.sent l.port) (g.P.Port.got l.port);
+  goes_on : GoesOn l.fn.state l.state (g.P.Port.sent l.fn.port) (g.P.Port.sent l.port) (g.P.Port.got l.fn.port) (g.P.Port.got l.port);
+  serving : Serving (g.P.Port.dims l.fn.port) (g.P.Port.rank l.fn.port) l.i l.fn.state l.state (g.P.Port.sent l.fn.port) (g.P.Port.sent l.port)
+      (g.P.Port.looks_out l.fn.port) (g.P.Port.looks_out l.port) (g.P.Port.crowded l.port);
+  ins : l.state.ins ≡ l.fn.state.ins;
+  idle : (l' : ℕ) → g.P.Port.sent l.port l' ≡ g.P.Port.sent l.fn.port l' → g.P.Port.idle l.port l' ≡ g.P.Port.idle l.fn.port l';
+  got : g.P.Port.got l.port ≡ g.P.Port.got l.fn.port;
+  noted : g.P.Port.noted l.port ≡ g.P.Port.noted l.fn.port;
+  rest : g.P.Port.rest l.port ≡ g.P.Port.rest l.fn.port;
+  same_rank : g.P.Port.rank l.port ≡ g.P.Port.rank l.fn.port;
+  same_dims : g.P.Port.dims l.port ≡ g.P.Port.dims l.fn.port;
+  same_slots : g.P.Port.slots l.port ≡ g.P.Port.slots l.fn.port;
+}

@@ -1,0 +1,67 @@
+-- When a rank's buffers agree with the lists of its port.
+use Rattle.std.specs.Prelude.{◌≡◌, ℕ, ◌+◌, ◌<◌, ◌==◌, Bool, true, cond, List, [], ◌∷◌, ◌++◌, length, map, Option, Some, None}
+use Rattle.std.specs.List.{All, filter, flat_map}
+use Rattle.bale_types.specs.declared.item.Entry.{Entry}
+use Rattle.bale_types.specs.declared.item.Item.{Item}
+use Rattle.item_buffer.specs.Contents.{Shipped}
+use Rattle.route_tensor.specs.Link.{links}
+use Rattle.route_tensor.specs.Tag.{IsFair}
+use Rattle.route_tensor.specs.Ends.{hop_at, sender_at, reader_at}
+use Rattle.port_bank.specs.Logs.{Logs, lasts, segment}
+use Rattle.port_bank.specs.Flow.{hop_link, belongs, flow}
+use Rattle.port_bank.specs.Relay.{Relays, RelayLaw}
+use Rattle.convey.specs.Buffers.{Buffers}
+
+-- A log ends with a parcel marked last.
+pub record EndsLast (log : List Shipped) : Type 0 where
+  pub front : List Shipped
+  pub final : Shipped
+  pub is : log ≡ front ++ final ∷ []
+  pub last : final.last ≡ true
+
+-- A list is the end of another.
+pub record Ends {T : Type 0} (whole back : List T) : Type 0 where
+  pub front : List T
+  pub is : whole ≡ front ++ back
+
+-- How many parcels of a link are marked last, in an epoch: one more where the link has ended it.
+abbrev pub lasts_in : ℕ → Bool → ℕ
+lasts_in epoch through = cond through (epoch + 1) epoch
+
+-- A link out, with its open parcel, against what was sent on it.
+-- lasts: it has ended as many epochs as there were, and the current one exactly where it is closed.
+-- by_last: where it is closed, the latest parcel is marked last.
+-- fair: what waits has tags that are fair on its hop.
+pub record OutAgrees (dims : List ℕ) (epoch l : ℕ) (waiting : List Entry) (closed : Bool) (log : List Shipped) : Type 0 where
+  pub lasts : lasts log ≡ lasts_in epoch closed
+  pub by_last : closed ≡ true → EndsLast log
+  pub fair : All (λ e. IsFair dims (hop_at dims l) e.tag) waiting
+
+-- A link in, with the entries of its inbox, against what was got on it.
+pub record InAgrees (dims : List ℕ) (epoch l : ℕ) (entries : List Entry) (ended : Bool) (log : List Shipped) : Type 0 where
+  pub lasts : lasts log ≡ lasts_in epoch ended
+  pub by_last : ended ≡ true → EndsLast log
+  pub fair : All (λ e. IsFair dims (hop_at dims l) e.tag) entries
+
+-- The items of those entries that pass a test, in order.
+abbrev pub items_among : (Entry → Bool) → List Entry → List Item
+items_among keep entries = map (λ e. e.item) (filter keep entries)
+
+-- The entry that an unpull would put back at a link, if any, and then the unread ones.
+abbrev pub with_back : Option (ℕ × Entry) → ℕ → List Entry → List Entry
+with_back None l unread = unread
+with_back (Some p) l unread = cond (p.0 == l) (p.1 ∷ unread) unread
+
+-- The port's lists agree with a rank's buffers.
+-- outs, ins: each link out does, and each link in; an entry that an unpull would put back counts as in its inbox.
+-- law: the lists meet the relay law.
+-- pairs: what came of a pair on hop h is what was sent on, what waits to be sent on, and what is still in the inbox.
+-- arrived: on the last hop the entries that are unread, or may be put back, are the latest that came in this epoch.
+pub record Agrees (b : Buffers) (sent got : Logs) : Type 0 where
+  pub outs : (l : ℕ) → l < links b.dims → sender_at b.dims l ≡ b.rank → OutAgrees b.dims b.epoch l (b.waiting l) (b.closed l) (sent l)
+  pub ins : (l : ℕ) → l < links b.dims → reader_at b.dims l ≡ b.rank → InAgrees b.dims b.epoch l (with_back b.latest l (b.unread l)) (b.ended l) (got l)
+  pub law : RelayLaw b.dims b.rank sent got
+  pub pairs : (s d h : ℕ) → Relays b.dims b.rank s d h → flow b.dims got s d h b.epoch
+      ≡ flow b.dims sent s d (h + 1) b.epoch ++ (items_among (belongs b.dims s d (h + 1)) (b.waiting (hop_link b.dims s d (h + 1))) ++ items_among (belongs b.dims s d h) (b.unread (hop_link b.dims s d h)))
+  pub arrived : (l : ℕ) → l < links b.dims → reader_at b.dims l ≡ b.rank → hop_at b.dims l ≡ length b.dims
+      → Ends (flat_map (λ p. p.entries) (segment b.epoch (got l))) (with_back b.latest l (b.unread l))

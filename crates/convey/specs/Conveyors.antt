@@ -1,0 +1,35 @@
+-- What contracts see of a conveyor.
+use Rattle.std.specs.Prelude.{◌≡◌, ℕ, length, None}
+use Rattle.port_bank.specs.Logs.{Logs}
+use Rattle.port_bank.specs.Flow.{hop_link}
+use Rattle.hop_core.specs.declared.lent.Lent.TheVariants.{Nothing}
+use Rattle.hop_core.specs.declared.phase.Phase.TheVariants.{Complete}
+use Rattle.hop_core.specs.State.{State, phase_of}
+use Rattle.convey.specs.Machine.{Step, IsOwnStep}
+use Rattle.convey.specs.Buffers.{buffers_of, out_of}
+use Rattle.convey.specs.Agreement.{Agrees}
+use Rattle.convey.specs.Parts.{part_of}
+
+-- A port with these lists agrees with a conveyor.
+abbrev pub AgreesWith : State → Logs → Logs → Type 0
+AgreesWith st sent got = Agrees (buffers_of st) sent got
+
+-- A call is a step of the rank's part of the exchange machine, over the lists of a port that the call doesn't see.
+abbrev pub IsStepOf : Step → State → State → Type 0
+IsStepOf step old new = (sent got : Logs) → AgreesWith old sent got → IsOwnStep step (part_of (buffers_of old) sent got) (part_of (buffers_of new) sent got)
+
+-- A call keeps the agreement with a port that it doesn't see.
+abbrev pub KeepsAgreement : State → State → Type 0
+KeepsAgreement old new = (sent got : Logs) → AgreesWith old sent got → AgreesWith new sent got
+
+-- How many entries stand in the open parcel toward a rank.
+abbrev pub standing_toward : State → ℕ → ℕ
+standing_toward st to = length (out_of st (hop_link st.dims st.rank to 1)).parcel.untaken
+
+-- What the code keeps of a conveyor: no parcel is lent, the routes have its number of hops, and in the phase Complete
+-- all that the phase says still holds.
+pub record IsConveyor (hops : ℕ) (st : State) : Type 0 where
+  pub home : st.lent ≡ Nothing
+  pub hops_all : length st.dims ≡ hops
+  pub complete : st.phase ≡ Complete → phase_of st ≡ Complete
+  pub none_back : st.phase ≡ Complete → st.pulled ≡ None

@@ -1,0 +1,10 @@
+pub mod Machine
+pub mod Buffers
+pub mod Agreement
+pub mod Parts
+pub mod Arrived
+pub mod Due
+pub mod Law
+pub mod Progress
+pub mod Conveyors
+pub mod Way

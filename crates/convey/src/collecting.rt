@@ -1,0 +1,69 @@
+//! Collects on the links in that want a parcel.
+ghost use Rattle.std.specs.Prelude.{◌≡◌, ◌≢◌, ℕ, ◌<◌, length};
+ghost use Rattle.route_tensor.specs.Link.{links};
+ghost use Rattle.route_tensor.specs.Ends.{reader_at};
+ghost use Rattle.convey.specs.Buffers.{out_of, in_of};
+ghost use Rattle.convey.specs.Way.{IsReady, GoesOn, WasAsked};
+
+use hop_core::RankState;
+use port_bank::{Collected, Port};
+
+/// Asks each link in once, in ascending order, where it wants a parcel.
+pub(crate) fn collect_all<const CAP: usize, const HOPS: usize, P: Port<CAP>>(
+    state: &mut RankState<CAP, HOPS>,
+    port: &mut P,
+)
+    requires ready { IsReady (P.dims port.old) (P.rank port.old) state.old (P.sent port.old) (P.got port.old) }
+    ensures ready { IsReady (P.dims port.old) (P.rank port.old) state.new (P.sent port.new) (P.got port.new) }
+    ensures goes_on { GoesOn state.old state.new (P.sent port.old) (P.sent port.new) (P.got port.old) (P.got port.new) }
+    ensures outs { state.new.outs ≡ state.old.outs }
+    ensures asked { (l : ℕ) → l < links (P.dims port.old) → reader_at (P.dims port.old) l ≡ P.rank port.old
+        → WasAsked state.old l (P.got port.old l) (P.got port.new l) (P.noted port.old l) (P.noted port.new l) (P.idle port.new l) }
+    ensures sent { P.sent port.new ≡ P.sent port.old }
+    ensures looks_out { P.looks_out port.new ≡ P.looks_out port.old }
+    ensures rest { P.rest port.new ≡ P.rest port.old }
+    ensures same_rank { P.rank port.new ≡ P.rank port.old }
+    ensures same_dims { P.dims port.new ≡ P.dims port.old }
+    ensures same_slots { P.slots port.new ≡ P.slots port.old }
+{
+    for i in 0..state.routes().neighbours() {
+        let link = state.routes().neighbour(i).link_from;
+        collect_one(state, port, link);
+    }
+}
+
+/// Collects once on a link in, where it wants a parcel.
+fn collect_one<const CAP: usize, const HOPS: usize, P: Port<CAP>>(
+    state: &mut RankState<CAP, HOPS>,
+    port: &mut P,
+    link: u32,
+)
+    requires link { link < links (P.dims port.old) }
+    requires ends_here { reader_at (P.dims port.old) link ≡ P.rank port.old }
+    requires ready { IsReady (P.dims port.old) (P.rank port.old) state.old (P.sent port.old) (P.got port.old) }
+    ensures ready { IsReady (P.dims port.old) (P.rank port.old) state.new (P.sent port.new) (P.got port.new) }
+    ensures goes_on { GoesOn state.old state.new (P.sent port.old) (P.sent port.new) (P.got port.old) (P.got port.new) }
+    ensures outs { state.new.outs ≡ state.old.outs }
+    ensures asked { WasAsked state.old link (P.got port.old link) (P.got port.new link) (P.noted port.old link) (P.noted port.new link) (P.idle port.new link) }
+    ensures inbox { (m : ℕ) → m < links (P.dims port.old) → reader_at (P.dims port.old) m ≡ P.rank port.old → m ≢ link → in_of state.new m ≡ in_of state.old m }
+    ensures got { (m : ℕ) → m ≢ link → P.got port.new m ≡ P.got port.old m }
+    ensures noted { (m : ℕ) → m ≢ link → P.noted port.new m ≡ P.noted port.old m }
+    ensures idle { (m : ℕ) → m ≢ link → P.idle port.new m ≡ P.idle port.old m }
+    ensures sent { P.sent port.new ≡ P.sent port.old }
+    ensures looks_out { P.looks_out port.new ≡ P.looks_out port.old }
+    ensures rest { P.rest port.new ≡ P.rest port.old }
+    ensures same_rank { P.rank port.new ≡ P.rank port.old }
+    ensures same_dims { P.dims port.new ≡ P.dims port.old }
+    ensures same_slots { P.slots port.new ≡ P.slots port.old }
+{
+    // The contract of `phase` tells what holds of the state.
+    let _begun = state.phase();
+    if !state.wants(link) {
+        return;
+    }
+    let mut parcel = state.lend_in(link);
+    match port.collect(link, &mut parcel) {
+        Collected::Got => state.note_got(link, parcel, true),
+        Collected::Nothing => state.note_got(link, parcel, false),
+    }
+}

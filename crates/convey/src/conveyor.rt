@@ -1,0 +1,297 @@
+//! The conveyor of one rank: what a program pushes, advances and pulls.
+ghost use Rattle.std.specs.Prelude.{◌≡◌, ◌≢◌, ℕ, ◌+◌, ◌<◌, ◌≤◌, ◌^◌, ◌==◌, ◌||◌, true, false, List, [], length, sum, replicate, map, is_some, Some, None, IfOk, IfSome, OnOk, IsOk, Ok, Result};
+ghost use Rattle.route_tensor.specs.Grid.{ranks, IsGrid};
+ghost use Rattle.route_tensor.specs.Link.{links};
+ghost use Rattle.route_tensor.specs.Ends.{hop_at, sender_at, reader_at};
+ghost use Rattle.port_bank.specs.Logs.{Logs};
+ghost use Rattle.port_bank.specs.Flow.{Begins};
+ghost use Rattle.port_bank.specs.Shapes.{IsConveyorShape};
+ghost use Rattle.hop_core.specs.Link.{no_out, no_in};
+ghost use Rattle.hop_core.specs.State.{phase_of, lowest_unread, pull_from, pulled_from, unpulled, reopened, resumed};
+ghost use Rattle.convey.specs.Machine.{IsOwnStep};
+ghost use Rattle.convey.specs.Machine.Step.{Push, Pull, Unpull, Reset, Idle};
+ghost use Rattle.convey.specs.Buffers.{buffers_of, out_of, in_of, is_complete};
+ghost use Rattle.convey.specs.Parts.{part_of};
+ghost use Rattle.convey.specs.Law.{IsSound};
+ghost use Rattle.convey.specs.Conveyors.{AgreesWith, IsStepOf, KeepsAgreement, standing_toward};
+ghost use Rattle.convey.specs.Progress.{progress_of, advance_step};
+ghost use Rattle.std.specs.Prelude.{◌⊎◌, IsErr};
+ghost use Rattle.bale_types.specs.Stream.{Rose};
+ghost use Rattle.hop_core.specs.declared.lent.Lent.TheVariants as Lent;
+ghost use Rattle.hop_core.specs.State.{at_end};
+ghost use Rattle.hop_core.specs.Standing.{IsState};
+ghost use Rattle.convey.specs.Due.{Wants, IsOver};
+ghost use Rattle.convey.specs.Way.{WasServed};
+
+use crate::collecting::collect_all;
+use crate::posting::post_all;
+use crate::progress::Progress;
+use crate::relaying::relay_all;
+use bale_types::{Item, NoMemory};
+use hop_core::{Phase, Pushed, RankState};
+use port_bank::Port;
+use route_tensor::Grid;
+use std::alloc::Global;
+use std::marker::Model;
+
+/// One rank's conveyor, for parcels of `CAP` entries and routes of `HOPS` hops. Contracts see the rank's state.
+#[derive(Drop)]
+pub struct Conveyor<const CAP: usize, const HOPS: usize> {
+    state: RankState<CAP, HOPS>,
+}
+
+impl<const CAP: usize, const HOPS: usize> Model for Conveyor<CAP, HOPS> {
+    ghost use Rattle.hop_core.specs.State.{State};
+
+    ghost Value = { State };
+
+    ghost use Rattle.convey.specs.Conveyors.{IsConveyor};
+
+    ghost view = { λ c. c.state };
+
+    ghost invariant = { λ c. IsConveyor HOPS c.state };
+}
+
+impl<const CAP: usize, const HOPS: usize> Conveyor<CAP, HOPS> {
+    /// The conveyor of `rank`, Dormant in epoch 0, with nothing pushed and nothing got.
+    ///
+    /// A steady conveyor sends what it has at every advance, and not only full parcels.
+    pub fn new(alloc: Global, grid: &Grid, rank: u32, steady: bool) -> Result<Self, NoMemory>
+        requires some { 0 < CAP }
+        requires small { CAP ≤ 1024 }
+        requires hops { length grid.now ≡ HOPS }
+        requires rank { rank < ranks grid.now }
+        ensures made { IfOk result (λ c. c ≡ record {
+          dims = grid.now;
+          rank = rank;
+          cap = CAP;
+          steady = steady;
+          outs = replicate (sum grid.now) no_out;
+          ins = replicate (sum grid.now) no_in;
+          done = false;
+          phase = Phase.Dormant;
+          epoch = 0;
+          lent = Lent.Nothing;
+          pulled = None;
+        }) }
+        ensures agrees { IfOk result (λ c. AgreesWith c (λ l. []) (λ l. [])) }
+    {
+        Ok(Conveyor {
+            state: RankState::new(alloc, grid, rank, steady)?,
+        })
+    }
+
+    /// How far the rank is in its epoch.
+    #[inline]
+    pub fn phase(&self) -> Phase
+        ensures value { result ≡ self.now.phase }
+        ensures grid { IsGrid self.now.dims }
+        ensures rank { self.now.rank < ranks self.now.dims }
+        ensures sound { IsSound (buffers_of self.now) }
+    {
+        self.state.phase()
+    }
+
+    /// Begins an epoch.
+    pub fn begin(&mut self)
+        requires dormant { self.old.phase ≡ Phase.Dormant }
+        ensures state { self.new ≡ record self.old { phase = Phase.Working; pulled = None } }
+        ensures kept { KeepsAgreement self.old self.new }
+        ensures step { IsStepOf Idle self.old self.new }
+    {
+        self.state.begin();
+    }
+
+    /// Puts `item` into the open parcel toward `to`. Where that is full, the caller advances and tries again.
+    #[inline]
+    pub fn push(&mut self, item: Item, to: u32) -> Pushed
+        requires working { self.old.phase ≡ Phase.Working }
+        requires not_done { self.old.done ≡ false }
+        requires to { to < ranks self.old.dims }
+        ensures room { result ≡ Pushed.Accepted → standing_toward self.old to < self.old.cap }
+        ensures full { result ≡ Pushed.Full → standing_toward self.old to ≡ self.old.cap }
+        ensures unchanged { result ≡ Pushed.Full → self.new ≡ record self.old { pulled = None } }
+        ensures same { self.new ≡ record self.old { outs = self.new.outs; pulled = None } }
+        ensures kept { KeepsAgreement self.old self.new }
+        ensures step_accepted { result ≡ Pushed.Accepted → IsStepOf (Push to item) self.old self.new }
+        ensures step_full { result ≡ Pushed.Full → IsStepOf Idle self.old self.new }
+    {
+        // The contract of `phase` tells what holds of the state, here and below.
+        let _standing = self.state.phase();
+        self.state.push(item, to)
+    }
+
+    /// The first unread item, and its sender; of several links that have one, of the lowest.
+    #[inline]
+    pub fn pull(&mut self) -> Option<(u32, Item)>
+        requires begun { self.old.phase ≢ Phase.Dormant }
+        ensures value { result ≡ pull_from self.old (lowest_unread self.old) }
+        ensures state { self.new ≡ pulled_from self.old (lowest_unread self.old) }
+        ensures sender { IfSome result (λ p. p.0 < ranks self.old.dims) }
+        ensures unchanged { result ≡ None → self.new ≡ record self.old { pulled = None } }
+        ensures none_unread { result ≡ None → (l : ℕ) → l < links self.old.dims → hop_at self.old.dims l ≡ length self.old.dims → (in_of self.old l).parcel.untaken ≡ [] }
+        ensures kept { KeepsAgreement self.old self.new }
+        ensures step_item { IfSome result (λ p. IsStepOf (Pull p.0 p.1) self.old self.new) }
+        ensures step_none { result ≡ None → IsStepOf Idle self.old self.new }
+    {
+        let _standing = self.state.phase();
+        self.state.pull()
+    }
+
+    /// Puts the item back that the latest call pulled, if that call was a pull that gave one.
+    pub fn unpull(&mut self) -> bool
+        ensures value { result ≡ is_some self.old.pulled }
+        ensures state { self.new ≡ unpulled self.old self.old.pulled }
+        ensures kept { KeepsAgreement self.old self.new }
+        ensures step_back { result ≡ true → IsStepOf Unpull self.old self.new }
+        ensures step_none { result ≡ false → IsStepOf Idle self.old self.new }
+    {
+        let _standing = self.state.phase();
+        self.state.unpull()
+    }
+
+    /// Advances the exchange: notes done, collects, relays, posts, and tells how far the rank is.
+    ///
+    /// # Errors
+    /// `NoMemory` comes only from the port's post. What was collected, relayed and posted before it stands, done stays
+    /// noted, the phase is as before, and advance may be called again.
+    pub fn advance<P: Port<CAP>>(&mut self, port: &mut P, done: bool) -> Result<Progress, NoMemory>
+        requires begun { self.old.phase ≢ Phase.Dormant }
+        requires same_dims { P.dims port.old ≡ self.old.dims }
+        requires same_rank { P.rank port.old ≡ self.old.rank }
+        requires agrees { AgreesWith self.old (P.sent port.old) (P.got port.old) }
+        requires done_stays { self.old.done ≡ true → done ≡ true }
+
+        // The conveyor agrees with the port again.
+        ensures agrees { AgreesWith self.new (P.sent port.new) (P.got port.new) }
+        ensures self_dims { self.new.dims ≡ self.old.dims }
+        ensures self_rank { self.new.rank ≡ self.old.rank }
+        ensures steady { self.new.steady ≡ self.old.steady }
+        ensures epoch { self.new.epoch ≡ self.old.epoch }
+        ensures done { self.new.done ≡ done }
+        ensures same_dims { P.dims port.new ≡ P.dims port.old }
+        ensures same_rank { P.rank port.new ≡ P.rank port.old }
+        ensures same_slots { P.slots port.new ≡ P.slots port.old }
+        ensures rest { P.rest port.new ≡ P.rest port.old }
+
+        // Answers.
+        ensures answer { IfOk result (λ p. p ≡ progress_of self.new.phase) }
+        ensures settled { OnOk result (self.new.phase ≡ phase_of self.new) }
+        ensures no_memory { IsErr result → self.new.phase ≡ self.old.phase }
+        ensures memory { P.grows ≡ false → IsOk result }
+
+        ensures begun { self.new.phase ≢ Phase.Dormant }
+        ensures working { IsOk result → done ≡ false → self.new.phase ≡ Phase.Working }
+        ensures over { result ≡ Ok Progress.Complete → IsOver self.new }
+        ensures completes { IsOk result → IsOver self.new → result ≡ Ok Progress.Complete }
+
+        // In the phase Complete nothing changes but the right to unpull.
+        ensures complete { self.old.phase ≡ Phase.Complete → self.new ≡ record self.old { pulled = None } }
+        ensures complete_port { self.old.phase ≡ Phase.Complete → port.new ≡ port.old }
+
+        // The lists only grow, by parcels of the conveyor's shape.
+        ensures sent_grows { (l : ℕ) → Begins (P.sent port.old l) (P.sent port.new l) }
+        ensures got_grows { (l : ℕ) → Begins (P.got port.old l) (P.got port.new l) }
+        ensures shape { (l : ℕ) → IsConveyorShape self.old.steady self.old.cap (P.sent port.old l) → IsConveyorShape self.old.steady self.old.cap (P.sent port.new l) }
+
+        // Each link out that is left due was served in vain; each link in that wanted a parcel was asked.
+        ensures served { OnOk result ((l : ℕ) → l < links self.old.dims → sender_at self.old.dims l ≡ self.old.rank
+            → WasServed self.new l (P.looks_out port.old l) (P.looks_out port.new l) (P.crowded port.new l)) }
+        ensures left { (l : ℕ) → l < links self.old.dims → reader_at self.old.dims l ≡ self.old.rank → (Wants self.old l → ⊥)
+            → P.got port.new l ≡ P.got port.old l }
+        ensures unasked { (l : ℕ) → l < links self.old.dims → reader_at self.old.dims l ≡ self.old.rank → (Wants self.old l → ⊥)
+            → P.noted port.new l ≡ P.noted port.old l }
+        ensures waits { (l : ℕ) → l < links self.old.dims → sender_at self.old.dims l ≡ self.old.rank → P.sent port.new l ≡ P.sent port.old l
+            → Begins (out_of self.old l).parcel.untaken (out_of self.new l).parcel.untaken }
+        ensures asked { (l : ℕ) → l < links self.old.dims → reader_at self.old.dims l ≡ self.old.rank → Wants self.old l
+            → P.got port.new l ≡ P.got port.old l → Rose (P.noted port.old l) (P.noted port.new l) }
+        ensures idle { (l : ℕ) → l < links self.old.dims → reader_at self.old.dims l ≡ self.old.rank → Wants self.old l
+            → P.got port.new l ≡ P.got port.old l → P.sent port.new l ≡ P.sent port.old l → P.idle port.new l ≡ true }
+
+        // Where nothing was sent on a link out, it is crowded if its parcel was full, or if its hop has reached its end
+        // and it isn't closed.
+        ensures full { IsOk result → (l : ℕ) → l < links self.old.dims → sender_at self.old.dims l ≡ self.old.rank → P.sent port.new l ≡ P.sent port.old l
+            → length (out_of self.old l).parcel.untaken ≡ self.old.cap → P.crowded port.new l ≡ true }
+        ensures ending { IsOk result → (l : ℕ) → l < links self.old.dims → sender_at self.old.dims l ≡ self.old.rank
+            → at_end self.new.dims self.new.ins self.new.done (hop_at self.new.dims l) ≡ true → (out_of self.new l).closed ≡ false → P.crowded port.new l ≡ true }
+
+        // It is a step of the rank's part of the exchange machine.
+        ensures step { (self.old.done ≡ false → done ≡ true → is_complete self.new.phase ≡ false)
+            → IsOwnStep (advance_step self.old.done done (is_complete self.new.phase)) (part_of (buffers_of self.old) (P.sent port.old) (P.got port.old)) (part_of (buffers_of self.new) (P.sent port.new) (P.got port.new)) }
+    {
+        // The contract of `phase` tells what holds of the state.
+        if is_over(self.state.phase()) {
+            return Ok(settle(&mut self.state));
+        }
+        note_done(&mut self.state, done);
+        collect_all(&mut self.state, port);
+        relay_all(&mut self.state);
+        post_all(&mut self.state, port)?;
+        Ok(settle(&mut self.state))
+    }
+
+    /// Ends an epoch that is complete. The next one begins with `begin`.
+    pub fn reset(&mut self)
+        requires complete { self.old.phase ≡ Phase.Complete }
+        requires epochs { self.old.epoch < 2 ^ 63 }
+        ensures state { self.new ≡ record self.old {
+          outs = map reopened self.old.outs;
+          ins = map resumed self.old.ins;
+          done = false;
+          phase = Phase.Dormant;
+          epoch = self.old.epoch + 1;
+          pulled = None;
+        } }
+        ensures kept { KeepsAgreement self.old self.new }
+        ensures step { IsStepOf Reset self.old self.new }
+    {
+        let _standing = self.state.phase();
+        self.state.reset();
+    }
+}
+
+/// Notes that nothing more is pushed in this epoch, where that is so.
+fn note_done<const CAP: usize, const HOPS: usize>(state: &mut RankState<CAP, HOPS>, done: bool)
+    requires home { state.old.lent ≡ Lent.Nothing }
+    requires begun { state.old.phase ≢ Phase.Dormant }
+    requires stays { state.old.done ≡ true → done ≡ true }
+    ensures state { state.new ≡ record state.old { done = done; pulled = state.new.pulled } }
+    ensures pulled { (state.new.pulled ≡ state.old.pulled) ⊎ (state.new.pulled ≡ None) }
+{
+    if done {
+        state.set_done();
+    }
+}
+
+/// Whether the epoch is over.
+fn is_over(phase: Phase) -> bool
+    ensures { result ≡ is_complete phase }
+{
+    match phase {
+        Phase::Dormant | Phase::Working | Phase::Endgame | Phase::Cleanup => false,
+        Phase::Complete => true,
+    }
+}
+
+/// Settles the phase and answers it.
+fn settle<const CAP: usize, const HOPS: usize>(state: &mut RankState<CAP, HOPS>) -> Progress
+    requires home { state.old.lent ≡ Lent.Nothing }
+    requires begun { state.old.phase ≢ Phase.Dormant }
+    ensures state { state.new ≡ record state.old { phase = phase_of state.old; pulled = None } }
+    ensures value { result ≡ progress_of state.new.phase }
+    ensures standing { IsState state.new }
+{
+    let _settled = state.settle();
+    progress(state.phase())
+}
+
+/// The answer in a phase.
+fn progress(phase: Phase) -> Progress
+    ensures { result ≡ progress_of phase }
+{
+    match phase {
+        Phase::Dormant | Phase::Working | Phase::Endgame => Progress::More,
+        Phase::Cleanup => Progress::Near,
+        Phase::Complete => Progress::Complete,
+    }
+}

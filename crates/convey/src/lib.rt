@@ -1,0 +1,32 @@
+//! The conveyor: one rank's side of an aggregated many-to-many exchange.
+//!
+//! A rank pushes items toward other ranks and pulls those that came. Items travel in parcels over the links of a port;
+//! `advance` moves them on, and never waits. An epoch is over once every rank has said that it is done and all items
+//! are pulled; how ranks find that out is told in `docs/ENDGAME.md`.
+//!
+//! | Phase | Call | After it |
+//! |---|---|---|
+//! | | `Conveyor::new` | Dormant, epoch 0 |
+//! | Dormant | `begin` | Working |
+//! | Working, not done | `push` | the item stands in an open parcel, or that is `Full` and nothing changed |
+//! | all but Dormant | `pull` | the next item with its sender, or none is unread |
+//! | any | `unpull` | the item of the latest call is unread again, where that was a pull that gave one |
+//! | all but Dormant | `advance` | what can be sent and collected now is; `More`, `Near` or `Complete` |
+//! | Complete | `reset` | Dormant, the epoch one higher |
+//!
+//! Contracts see a conveyor as the state of its rank (`hop_core`), and say of each call which step of the exchange
+//! machine it is (`specs/Machine.antt`), a machine of two lists for each epoch and ordered pair of ranks, which knows no
+//! parcels, hops or tags. `exchange_law` says that the steps of all ranks over one bank fit together.
+#![tactic(auto)]
+
+mod collecting;
+mod conveyor;
+mod law;
+mod posting;
+mod progress;
+mod relaying;
+
+pub use conveyor::Conveyor;
+pub use hop_core::{Phase, Pushed};
+pub use law::exchange_law;
+pub use progress::Progress;

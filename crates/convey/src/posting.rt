@@ -1,0 +1,93 @@
+//! Posts on the links out that are due.
+ghost use Rattle.std.specs.Prelude.{◌≡◌, ◌≢◌, ℕ, ◌<◌, false, None, length, IsOk, IsErr, OnOk, Result};
+ghost use Rattle.route_tensor.specs.Link.{links};
+ghost use Rattle.route_tensor.specs.Ends.{sender_at};
+ghost use Rattle.convey.specs.Buffers.{out_of, in_of};
+ghost use Rattle.convey.specs.Way.{IsReady, GoesOn, WasServed};
+
+use bale_types::NoMemory;
+use hop_core::RankState;
+use port_bank::{Port, Posted};
+
+/// Posts once on each link out that is due, in ascending order.
+///
+/// # Errors
+/// `NoMemory` comes only from the port's post. What was posted before it stands.
+pub(crate) fn post_all<const CAP: usize, const HOPS: usize, P: Port<CAP>>(
+    state: &mut RankState<CAP, HOPS>,
+    port: &mut P,
+) -> Result<(), NoMemory>
+    requires ready { IsReady (P.dims port.old) (P.rank port.old) state.old (P.sent port.old) (P.got port.old) }
+    ensures ready { IsReady (P.dims port.old) (P.rank port.old) state.new (P.sent port.new) (P.got port.new) }
+    ensures goes_on { GoesOn state.old state.new (P.sent port.old) (P.sent port.new) (P.got port.old) (P.got port.new) }
+    ensures ins { state.new.ins ≡ state.old.ins }
+    ensures served { OnOk result ((l : ℕ) → l < links (P.dims port.old) → sender_at (P.dims port.old) l ≡ P.rank port.old
+        → WasServed state.new l (P.looks_out port.old l) (P.looks_out port.new l) (P.crowded port.new l)) }
+    ensures memory { P.grows ≡ false → IsOk result }
+    ensures forgotten { IsErr result → state.new.pulled ≡ None }
+    ensures waits { (l : ℕ) → l < links (P.dims port.old) → sender_at (P.dims port.old) l ≡ P.rank port.old → P.sent port.new l ≡ P.sent port.old l
+        → (out_of state.new l).parcel.untaken ≡ (out_of state.old l).parcel.untaken }
+    ensures idle { (l : ℕ) → P.sent port.new l ≡ P.sent port.old l → P.idle port.new l ≡ P.idle port.old l }
+    ensures got { P.got port.new ≡ P.got port.old }
+    ensures noted { P.noted port.new ≡ P.noted port.old }
+    ensures rest { P.rest port.new ≡ P.rest port.old }
+    ensures same_rank { P.rank port.new ≡ P.rank port.old }
+    ensures same_dims { P.dims port.new ≡ P.dims port.old }
+    ensures same_slots { P.slots port.new ≡ P.slots port.old }
+{
+    for i in 0..state.routes().neighbours() {
+        let link = state.routes().neighbour(i).link_to;
+        post_one(state, port, link)?;
+    }
+    Ok(())
+}
+
+/// Posts once on a link out, where it is due.
+fn post_one<const CAP: usize, const HOPS: usize, P: Port<CAP>>(
+    state: &mut RankState<CAP, HOPS>,
+    port: &mut P,
+    link: u32,
+) -> Result<(), NoMemory>
+    requires link { link < links (P.dims port.old) }
+    requires starts_here { sender_at (P.dims port.old) link ≡ P.rank port.old }
+    requires ready { IsReady (P.dims port.old) (P.rank port.old) state.old (P.sent port.old) (P.got port.old) }
+    ensures ready { IsReady (P.dims port.old) (P.rank port.old) state.new (P.sent port.new) (P.got port.new) }
+    ensures goes_on { GoesOn state.old state.new (P.sent port.old) (P.sent port.new) (P.got port.old) (P.got port.new) }
+    ensures ins { state.new.ins ≡ state.old.ins }
+    ensures served { OnOk result (WasServed state.new link (P.looks_out port.old link) (P.looks_out port.new link) (P.crowded port.new link)) }
+    ensures memory { P.grows ≡ false → IsOk result }
+    ensures forgotten { IsErr result → state.new.pulled ≡ None }
+    ensures out { (m : ℕ) → m < links (P.dims port.old) → sender_at (P.dims port.old) m ≡ P.rank port.old → m ≢ link → out_of state.new m ≡ out_of state.old m }
+    ensures waits { P.sent port.new link ≡ P.sent port.old link → (out_of state.new link).parcel.untaken ≡ (out_of state.old link).parcel.untaken }
+    ensures sent { (m : ℕ) → m ≢ link → P.sent port.new m ≡ P.sent port.old m }
+    ensures looks_out { (m : ℕ) → m ≢ link → P.looks_out port.new m ≡ P.looks_out port.old m }
+    ensures crowded { (m : ℕ) → m ≢ link → P.crowded port.new m ≡ P.crowded port.old m }
+    ensures idle { (m : ℕ) → P.sent port.new m ≡ P.sent port.old m → P.idle port.new m ≡ P.idle port.old m }
+    ensures got { P.got port.new ≡ P.got port.old }
+    ensures noted { P.noted port.new ≡ P.noted port.old }
+    ensures rest { P.rest port.new ≡ P.rest port.old }
+    ensures same_rank { P.rank port.new ≡ P.rank port.old }
+    ensures same_dims { P.dims port.new ≡ P.dims port.old }
+    ensures same_slots { P.slots port.new ≡ P.slots port.old }
+{
+    // The contract of `phase` tells what holds of the state.
+    let _begun = state.phase();
+    if !state.due(link) {
+        return Ok(());
+    }
+    let mut parcel = state.lend_out(link);
+    match port.post(link, &mut parcel) {
+        Ok(Posted::Sent) => {
+            state.note_sent(link, parcel, true);
+            Ok(())
+        }
+        Ok(Posted::NoRoom) => {
+            state.note_sent(link, parcel, false);
+            Ok(())
+        }
+        Err(fault) => {
+            state.note_sent(link, parcel, false);
+            Err(fault)
+        }
+    }
+}

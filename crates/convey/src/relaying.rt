@@ -1,0 +1,37 @@
+//! Passes on what came over one hop to the next.
+ghost use Rattle.std.specs.Prelude.{◌≡◌, ℕ, ◌<◌, ◌≤◌, List, length};
+ghost use Rattle.port_bank.specs.Logs.{Logs};
+ghost use Rattle.hop_core.specs.declared.lent.Lent.TheVariants as Lent;
+ghost use Rattle.convey.specs.Way.{IsReady, PassedOn};
+
+use hop_core::RankState;
+
+/// Relays from the hop before the last one down to the first.
+pub(crate) fn relay_all<const CAP: usize, const HOPS: usize>(state: &mut RankState<CAP, HOPS>)
+    requires home { state.old.lent ≡ Lent.Nothing }
+    requires hops { length state.old.dims ≡ HOPS }
+    ensures passed { (dims : List ℕ) (rank : ℕ) (sent got : Logs) → IsReady dims rank state.old sent got → PassedOn dims rank state.old state.new sent got }
+    ensures home { state.new.lent ≡ Lent.Nothing }
+    ensures same_dims { state.new.dims ≡ state.old.dims }
+{
+    // The contract of `phase` tells what holds of the state.
+    let _grid = state.phase();
+    for h in (1..HOPS as u32).rev() {
+        relay_one(state, h);
+    }
+}
+
+/// Relays from the links in of one hop.
+fn relay_one<const CAP: usize, const HOPS: usize>(state: &mut RankState<CAP, HOPS>, h: u32)
+    requires home { state.old.lent ≡ Lent.Nothing }
+    requires first { 1 ≤ h }
+    requires last { h < length state.old.dims }
+    ensures passed { (dims : List ℕ) (rank : ℕ) (sent got : Logs) → IsReady dims rank state.old sent got → PassedOn dims rank state.old state.new sent got }
+    ensures home { state.new.lent ≡ Lent.Nothing }
+    ensures same_dims { state.new.dims ≡ state.old.dims }
+{
+    // The contract of `phase` tells what holds of the state.
+    let _before = state.phase();
+    let _count = state.relay(h);
+    let _after = state.phase();
+}

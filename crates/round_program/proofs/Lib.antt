@@ -1,0 +1,5 @@
+pub mod Epochs
+pub mod Items
+pub mod Members
+pub mod Orders
+pub mod Steps

@@ -1,0 +1,6 @@
+pub mod Canonical
+pub mod Epochs
+pub mod Laws
+pub mod Orders
+pub mod Rules
+pub mod Talks

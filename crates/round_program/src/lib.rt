@@ -1,0 +1,33 @@
+//! Programs that many ranks run together in rounds.
+//!
+//! A program says what one rank does; how items travel is a drive's work. In each round a rank emits items to ranks,
+//! absorbs what comes, and votes; then every rank ends the round with the sum of the votes, and the program goes on
+//! or has ended. `specs/Canonical` defines what all ranks compute together, the *canonical run*: the emissions are read
+//! from the states, each rank absorbs them sender by sender, and the votes are summed. It has no word on transport.
+//!
+//! A drive absorbs in whatever order items come, with ranks in different rounds. That it ends in the canonical
+//! run's states rests on the program's laws (`specs/Laws`) and on the two theorems below.
+//!
+//! | Item | What it is |
+//! |---|---|
+//! | `Program` | one rank's part of a computation in rounds, its meanings and its laws |
+//! | `Progs` | the programs of all ranks, one per rank: `new`, `add`, `len`, `get`, `take_first` |
+//! | `Asker` | one rank's part of an exchange of queries and replies |
+//! | `every_order` | the interleaving theorem: every order of absorbs gives the canonical state |
+//! | `every_run` | the theorem over all rounds: at every moment each rank is within the canonical run |
+//!
+//! The definitions, in the order in which to read them: `Rules` (a program's meanings), `Laws`, `Canonical` (the canonical
+//! run), `Orders` (the interleaving theorem), `Epochs` (the theorem over all rounds), `Talks` (askers).
+#![tactic(auto)]
+
+mod asker;
+mod program;
+mod progs;
+#[cfg(test)]
+mod tests;
+mod theorems;
+
+pub use asker::Asker;
+pub use program::Program;
+pub use progs::Progs;
+pub use theorems::{every_order, every_run};

@@ -1,0 +1,10 @@
+pub mod AskLaws
+pub mod AskView
+pub mod Asks
+pub mod CountLaws
+pub mod CountView
+pub mod Counts
+pub mod LookupLaws
+pub mod LookupView
+pub mod Lookups
+pub mod SmallTable

@@ -1,0 +1,11 @@
+pub mod Front
+pub mod Caps
+pub mod Chains
+pub mod Cuts
+pub mod Decides
+pub mod Digits
+pub mod Keys
+pub mod Lawful
+pub mod Numbered
+pub mod Steps
+pub mod Walk

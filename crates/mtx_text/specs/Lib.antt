@@ -1,0 +1,10 @@
+pub mod Lines
+pub mod Integers
+pub mod Sparse
+pub mod Grammar
+pub mod Answers
+pub mod Capped
+pub mod Chains
+pub mod Drafts
+pub mod Reasons
+pub mod Places

@@ -1,0 +1,20 @@
+-- Places as numbers, and what a set of them says of a list of entries.
+use Rattle.std.specs.Prelude.{◌≡◌, ℕ, ◌+◌, ◌*◌, ◌==◌, Bool, List, nat_lt}
+use Rattle.std.specs.List.{list_all, list_any}
+use Rattle.std.specs.Ordering.{nat_cmp}
+use Rattle.std.specs.BTreeSet.{BTreeSet, contains}
+use Rattle.bale_types.specs.declared.triple.Triple.{Triple}
+
+-- A place as one number, where columns are below 65,536.
+abbrev pub key_of : ℕ → ℕ → ℕ
+key_of i j = i * 65_536 + j
+
+abbrev pub has_key : ℕ → List Triple → Bool
+has_key q entries = list_any (λ t. key_of t.i t.j == q) entries
+
+abbrev pub narrow : List Triple → Bool
+narrow entries = list_all (λ t. nat_lt t.j 65_536) entries
+
+-- The set holds the places of the entries and no other.
+abbrev pub Tracks : BTreeSet ℕ → List Triple → Type 0
+Tracks seen entries = (q : ℕ) → contains nat_cmp seen q ≡ has_key q entries

@@ -1,0 +1,40 @@
+//! Matrices from text: the Matrix Market exchange format in coordinate form, as this project reads it.
+//!
+//! The grammar is the definition *the matrix of a text* (`specs/Grammar.antt`): each text has a matrix, or a
+//! first bad line and the reason why it is bad. The reader gives exactly that.
+//!
+//! | Call | For | Answer |
+//! |---|---|---|
+//! | [`parse_matrix`] | a text in memory | its matrix, or its first bad line |
+//! | [`read_matrix`] | the text of a source | the same, or that a read failed |
+//! | [`Matrix::rows`], [`Matrix::cols`], [`Matrix::kind`] | the parts | |
+//! | [`Matrix::entries`] | loops over all entries | a slice of triples, in the order of the lines |
+//! | [`Matrix::len`], [`Matrix::get`] | one entry | `None` exactly past the end |
+//! | [`Reason::text`] | what to print of a bad line | |
+#![tactic(auto)]
+
+mod apart;
+mod banner;
+mod careful;
+mod cell;
+mod draft;
+mod entries;
+mod integer;
+mod kind;
+mod lines;
+mod matrix;
+mod numbers;
+mod parse;
+mod places;
+mod read;
+mod refusal;
+mod sizes;
+#[cfg(test)]
+mod tests;
+mod words;
+
+pub use kind::Kind;
+pub use matrix::Matrix;
+pub use parse::parse_matrix;
+pub use read::read_matrix;
+pub use refusal::{BadLine, ParseFault, ReadFault, Reason};

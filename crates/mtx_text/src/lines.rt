@@ -1,0 +1,108 @@
+//! A text cut into lines, one line at a time and without a copy.
+ghost use Rattle.std.specs.Prelude.{◌≡◌, ◌≢◌, not, false, ℕ, ◌+◌, ◌<◌, ◌≤◌, ◌^◌, length, drop, slice_index, [], ◌∷◌, IfOk, IfErr};
+ghost use Rattle.mtx_text.specs.Lines.{lines_of, words_of, lines_from, without_cr, is_blank, is_skipped};
+
+use crate::words::trimmed;
+
+/// A line that counts, and what stands behind it.
+#[derive(Clone, Copy)]
+pub(crate) struct Kept<'a> {
+    /// Its number in the text, from 1.
+    pub(crate) number: u64,
+    /// The line from its first word on.
+    pub(crate) line: &'a [u8],
+    /// The text behind the line.
+    pub(crate) rest: &'a [u8],
+}
+
+/// The next line that counts, where the text begins with line `number`; else the number of the end line.
+pub(crate) fn next_kept(text: &[u8], number: u64) -> Result<Kept<'_>, u64>
+    requires { number + length text.now < 2 ^ 63 }
+    ensures kept { IfOk result (λ kept. lines_from number (lines_of text.now)
+        ≡ record { number = kept.number; words = words_of kept.line.now } ∷ lines_from (kept.number + 1) (lines_of kept.rest.now)) }
+    ensures left { IfOk result (λ kept. kept.number + 1 + length (lines_of kept.rest.now) ≡ number + length (lines_of text.now)) }
+    ensures room { IfOk result (λ kept. kept.number + 1 + length kept.rest.now ≤ number + length text.now) }
+    ensures shorter { IfOk result (λ kept. length kept.rest.now < length text.now) }
+    ensures none { IfErr result (λ end. lines_from number (lines_of text.now) ≡ []) }
+    ensures end { IfErr result (λ end. end ≡ number + length (lines_of text.now)) }
+{
+    let mut rest = text;
+    let mut number = number;
+    while !rest.is_empty() {
+        let (line, behind) = cut_line(rest);
+        let line = trimmed(line);
+        if counts(line) {
+            return Ok(Kept {
+                number,
+                line,
+                rest: behind,
+            });
+        }
+        rest = behind;
+        number += 1;
+    }
+    Err(number)
+}
+
+/// Whether a line that begins with no blank has words and is no comment.
+fn counts(line: &[u8]) -> bool
+    requires { 0 < length line.now → is_blank (slice_index line.now 0) ≡ false }
+    ensures { result ≡ not (is_skipped (words_of line.now)) }
+{
+    match line {
+        [] => false,
+        [first, ..] => *first != b'%',
+    }
+}
+
+/// The first line of a text that isn't empty, without its line end, and the text behind it.
+#[tactic(auto, using(crate::proofs::Cuts::lines_at))]
+pub(crate) fn cut_line(text: &[u8]) -> (&[u8], &[u8])
+    requires { 0 < length text.now }
+    ensures lines { lines_of text.now ≡ result.0.now ∷ lines_of result.1.now }
+    ensures shorter { length result.1.now < length text.now }
+{
+    let end = piece_len(text);
+    let (piece, rest) = text.split_at(end);
+    (uncarried(piece), behind_first(rest))
+}
+
+/// What stands behind the first byte, and nothing where there is none.
+fn behind_first(text: &[u8]) -> &[u8]
+    ensures { result.now ≡ drop 1 text.now }
+{
+    match text {
+        [] => text,
+        [_, rest @ ..] => rest,
+    }
+}
+
+/// How many bytes stand before the first LF.
+fn piece_len(text: &[u8]) -> usize
+    ensures within { result ≤ length text.now }
+    ensures before { (k : ℕ) → k < result → slice_index text.now k ≢ 10 }
+    ensures found { result < length text.now → slice_index text.now result ≡ 10 }
+{
+    for (i, b) in text.iter().enumerate() {
+        if *b == b'\n' {
+            return i;
+        }
+    }
+    text.len()
+}
+
+/// A piece without the one CR that may end it.
+#[tactic(auto, using(crate::proofs::Cuts::ends_in_cr, crate::proofs::Cuts::ends_otherwise))]
+fn uncarried(piece: &[u8]) -> &[u8]
+    ensures { result.now ≡ without_cr piece.now }
+{
+    if piece.is_empty() {
+        return piece;
+    }
+    let last = piece.len() - 1;
+    if piece[last] == b'\r' {
+        &piece[..last]
+    } else {
+        piece
+    }
+}

@@ -1,0 +1,64 @@
+//! Which places of a matrix are taken, while its entries are read.
+ghost use Rattle.std.specs.Prelude.{◌≡◌, ◌<◌, ◌≤◌, ◌∷◌, ◌++◌, [], true, List, nat_abs, OnOk};
+ghost use Rattle.bale_types.specs.declared.triple.Triple.{Triple};
+ghost use Rattle.mtx_text.specs.Grammar.{has_place, stands_for};
+ghost use Rattle.mtx_text.specs.Places.{Tracks, narrow, key_of};
+
+use crate::banner::Symmetry;
+use crate::cell::mirror;
+use bale_types::Triple;
+use std::alloc::{AllocError, Global};
+use std::collections::BTreeSet;
+
+/// A place as one number.
+fn key(i: u32, j: u32) -> u64
+    ensures { result ≡ key_of i j }
+{
+    i as u64 * 65_536 + j as u64
+}
+
+/// Whether an entry stands at the place of `t`.
+#[tactic(auto, using(crate::proofs::Keys::place_key))]
+pub(crate) fn is_taken(seen: &BTreeSet<u64>, t: Triple) -> bool
+    requires { t.j < 65_536 }
+    ensures { (done : List Triple) → Tracks seen.now done → narrow done ≡ true → result ≡ has_place t.i t.j done }
+{
+    seen.contains(&key(t.i, t.j))
+}
+
+/// Adds one entry.
+pub(crate) fn add_one(
+    entries: &mut Vec<Triple>,
+    seen: &mut BTreeSet<u64>,
+    t: Triple,
+) -> Result<(), AllocError>
+    requires { t.j < 65_536 }
+    ensures entries { OnOk result (entries.new.items ≡ entries.old.items ++ t ∷ []) }
+    ensures tracks { OnOk result (Tracks seen.old entries.old.items → Tracks seen.new entries.new.items) }
+    ensures narrow { OnOk result (narrow entries.old.items ≡ true → narrow entries.new.items ≡ true) }
+{
+    entries.push(t)?;
+    seen.insert(key(t.i, t.j))?;
+    Ok(())
+}
+
+/// Adds what an entry line stands for.
+pub(crate) fn add(
+    entries: &mut Vec<Triple>,
+    seen: &mut BTreeSet<u64>,
+    symmetry: Symmetry,
+    t: Triple,
+) -> Result<(), AllocError>
+    requires row { t.i < 65_536 }
+    requires col { t.j < 65_536 }
+    requires limit { nat_abs t.v ≤ 1_000_000_000_000 }
+    ensures entries { OnOk result (entries.new.items ≡ entries.old.items ++ stands_for symmetry t) }
+    ensures tracks { OnOk result (Tracks seen.old entries.old.items → Tracks seen.new entries.new.items) }
+    ensures narrow { OnOk result (narrow entries.old.items ≡ true → narrow entries.new.items ≡ true) }
+{
+    add_one(entries, seen, t)?;
+    match mirror(symmetry, t) {
+        None => Ok(()),
+        Some(other) => add_one(entries, seen, other),
+    }
+}

@@ -1,0 +1,308 @@
+//! Worked texts with their matrices or bad lines, and that calls succeed with ample memory.
+use super::*;
+use bale_types::{MemSource, Triple};
+use std::alloc::{AllocError, Global};
+use std::test::Fail;
+
+/// What a text is read as: sizes, kind, and entries as row, column and value counted from 1; or its bad line.
+type Wanted = Result<(u32, u32, Kind, &'static [(u32, u32, i64)]), (u64, Reason)>;
+
+const P: &str = "%%MatrixMarket matrix coordinate pattern general\n";
+
+const I: &str = "%%MatrixMarket matrix coordinate integer general\n";
+
+const S: &str = "%%MatrixMarket matrix coordinate integer symmetric\n";
+
+const K: &str = "%%MatrixMarket matrix coordinate integer skew-symmetric\n";
+
+/// Whether a banner and what follows it are read so.
+fn is_read(alloc: Global, banner: &str, body: &str, wanted: &Wanted) -> Result<bool, AllocError> {
+    let mut text = Vec::from_slice(alloc, banner.as_bytes())?;
+    text.extend_from_slice(body.as_bytes())?;
+    Ok(match (parse_matrix(alloc, text.as_slice()), wanted) {
+        (Ok(m), Ok((rows, cols, kind, entries))) => {
+            m.rows() == *rows && m.cols() == *cols && m.kind() == *kind && has_entries(&m, entries)
+        }
+        (Err(ParseFault::Bad(b)), Err((line, reason))) => b.line == *line && b.reason == *reason,
+        _ => false,
+    })
+}
+
+/// Whether a matrix has these entries and no other.
+fn has_entries(m: &Matrix, entries: &[(u32, u32, i64)]) -> bool {
+    for (k, e) in entries.iter().enumerate() {
+        match m.get(k) {
+            Some(t) if (t.i as u64 + 1, t.j as u64 + 1, t.v) == (e.0 as u64, e.1 as u64, e.2) => {}
+            _ => return false,
+        }
+    }
+    m.len() == entries.len() && m.get(entries.len()) == None
+}
+
+#[test]
+fn texts_with_a_matrix(rt: HostRuntime) -> Result<(), Fail> {
+    let one_rank: &'static [(u32, u32, i64)] = &[(1, 1, 1), (1, 3, 1), (2, 3, 1), (3, 3, 1)];
+    let rows: [(&str, &str, Wanted); 17] = [
+        (
+            P,
+            "3 3 4\n1 1\n1 3\n2 3\n3 3\n",
+            Ok((3, 3, Kind::Pattern, one_rank)),
+        ),
+        // the last line without its end
+        (
+            P,
+            "3 3 4\n1 1\n1 3\n2 3\n3 3",
+            Ok((3, 3, Kind::Pattern, one_rank)),
+        ),
+        // lenient spelling
+        (
+            "%%MatrixMarket MATRIX Coordinate Pattern GENERAL\r\n",
+            "%\r\n\r\n3 3 4\r\n1 1\r\n1\t3\r\n2 3\r\n% end\r\n3 3",
+            Ok((3, 3, Kind::Pattern, one_rank)),
+        ),
+        // blanks before the banner, further words in it, a comment behind blanks
+        (
+            " \t%%MatrixMarket matrix coordinate integer general 1 2 3\n",
+            " \t% 9 9 9\n \t\n +2 0003 1 \n\t 2 +1 -7 \n",
+            Ok((2, 3, Kind::Integer, &[(2, 1, -7)])),
+        ),
+        (P, "0 0 0\n", Ok((0, 0, Kind::Pattern, &[]))),
+        // a size line followed by nothing, not even its end
+        (P, "2 2 0", Ok((2, 2, Kind::Pattern, &[]))),
+        (P, "-0 +0 -00\n", Ok((0, 0, Kind::Pattern, &[]))),
+        (P, "16384 1 0\n", Ok((16384, 1, Kind::Pattern, &[]))),
+        // entries of value 0 are entries
+        (
+            I,
+            "1 2 2\n1 2 0\n1 1 -0\n",
+            Ok((1, 2, Kind::Integer, &[(1, 2, 0), (1, 1, 0)])),
+        ),
+        (
+            I,
+            "1 1 1\n1 1 1000000000000\n",
+            Ok((1, 1, Kind::Integer, &[(1, 1, 1_000_000_000_000)])),
+        ),
+        (
+            I,
+            "1 1 1\n1 1 -0000001000000000000\n",
+            Ok((1, 1, Kind::Integer, &[(1, 1, -1_000_000_000_000)])),
+        ),
+        (
+            I,
+            "2 3 2\n1 3 -7\n2 1 4\n",
+            Ok((2, 3, Kind::Integer, &[(1, 3, -7), (2, 1, 4)])),
+        ),
+        (
+            S,
+            "3 3 3\n1 1 5\n2 1 7\n3 2 -4\n",
+            Ok((
+                3,
+                3,
+                Kind::Integer,
+                &[(1, 1, 5), (2, 1, 7), (1, 2, 7), (3, 2, -4), (2, 3, -4)],
+            )),
+        ),
+        (
+            S,
+            "2 2 1\n1 2 3\n",
+            Ok((2, 2, Kind::Integer, &[(1, 2, 3), (2, 1, 3)])),
+        ),
+        (
+            K,
+            "2 2 1\n2 1 3\n",
+            Ok((2, 2, Kind::Integer, &[(2, 1, 3), (1, 2, -3)])),
+        ),
+        (
+            "%%MatrixMarket matrix coordinate pattern symmetric\n",
+            "2 2 2\n2 1\n2 2\n",
+            Ok((2, 2, Kind::Pattern, &[(2, 1, 1), (1, 2, 1), (2, 2, 1)])),
+        ),
+        // a lone CR after the last LF is a line without words
+        (P, "1 1 1\n1 1\n\r", Ok((1, 1, Kind::Pattern, &[(1, 1, 1)]))),
+    ];
+    for (banner, body, wanted) in &rows {
+        assert!(rt; is_read(rt.alloc(), banner, body, wanted)?, "{body}");
+    }
+    Ok(())
+}
+
+#[test]
+fn texts_with_a_bad_line(rt: HostRuntime) -> Result<(), Fail> {
+    let rows = [
+        ("", "", 1, Reason::Banner),
+        ("\u{feff}", P, 1, Reason::Banner),
+        (
+            "%%MatrixMarket matrix coordinate pattern\n",
+            "",
+            1,
+            Reason::Banner,
+        ),
+        (
+            "%%matrixmarket matrix coordinate pattern general\n",
+            "",
+            1,
+            Reason::Banner,
+        ),
+        ("\n", P, 1, Reason::Banner),
+        (
+            "%%MatrixMarket matrix coordinate real general\n",
+            "1 1 0\n",
+            1,
+            Reason::Unsupported,
+        ),
+        (
+            "%%MatrixMarket matrix array integer general\n",
+            "1 1 0\n",
+            1,
+            Reason::Unsupported,
+        ),
+        (
+            "%%MatrixMarket vector coordinate integer general\n",
+            "",
+            1,
+            Reason::Unsupported,
+        ),
+        (
+            "%%MatrixMarket matrix coordinate integer hermitian\n",
+            "",
+            1,
+            Reason::Unsupported,
+        ),
+        (
+            "%%MatrixMarket matrix coordinate pattern skew-symmetric\n",
+            "",
+            1,
+            Reason::Unsupported,
+        ),
+        // a second CR is a byte of the word
+        (
+            "%%MatrixMarket matrix coordinate integer general\r\r\n",
+            "",
+            1,
+            Reason::Unsupported,
+        ),
+        (P, "", 2, Reason::SizeLine),
+        (P, "% a\n\n", 4, Reason::SizeLine),
+        (P, "-1 1 0\n", 2, Reason::SizeLine),
+        (P, "1 1\n", 2, Reason::SizeLine),
+        (P, "1 1 0 0\n", 2, Reason::SizeLine),
+        (P, "16385 1 0\n", 2, Reason::TooLarge),
+        (P, "1 1 262145\n", 2, Reason::TooLarge),
+        (P, "18446744073709551616 1 0\n", 2, Reason::TooLarge),
+        (S, "2 3 0\n", 2, Reason::NotSquare),
+        (S, "2 16385 0\n", 2, Reason::TooLarge),
+        (P, "3 3 2\n1 1\n", 4, Reason::TooFew),
+        // the lone CR is a line, so the end line is one more
+        (P, "3 3 2\n1 1\n\r", 5, Reason::TooFew),
+        (P, "3 3 1\n1 1\n2 2\n", 4, Reason::TooMany),
+        (P, "3 3 1\n1 1\nx\n", 4, Reason::TooMany),
+        (P, "2 2 1\n1 1 1\n", 3, Reason::EntryLine),
+        (P, "2 2 1\n1 x\n", 3, Reason::EntryLine),
+        // VT, FF, NUL and a CR in mid-line are bytes of words
+        (P, "2 2 1\n1\x0b1\n", 3, Reason::EntryLine),
+        (P, "2 2 1\n1 1\x0c\n", 3, Reason::EntryLine),
+        (P, "2 2 1\n1 1\0\n", 3, Reason::EntryLine),
+        (P, "2 2 1\n1\r1\n", 3, Reason::EntryLine),
+        (P, "2 2 1\n1 1\r\r\n", 3, Reason::EntryLine),
+        (P, "2 2 1\n3 1\n", 3, Reason::OutOfRange),
+        (P, "2 2 1\n1 0\n", 3, Reason::OutOfRange),
+        (P, "1 1 1\n18446744073709551617 1\n", 3, Reason::OutOfRange),
+        (I, "2 2 1\n3 1 x\n", 3, Reason::OutOfRange),
+        (K, "2 2 1\n1 1 0\n", 3, Reason::Diagonal),
+        (K, "2 2 1\n1 1 x\n", 3, Reason::Diagonal),
+        (I, "1 1 1\n1 1 1000000000001\n", 3, Reason::Value),
+        (I, "1 1 1\n1 1 1.0\n", 3, Reason::Value),
+        (I, "1 1 2\n1 1 1\n1 1 x\n", 4, Reason::Value),
+        (P, "3 3 2\n1 1\n1 1\n", 4, Reason::Duplicate),
+        (P, "3 3 3\n1 1\n1 1\nx\n", 4, Reason::Duplicate),
+        (S, "2 2 2\n2 1 3\n1 2 3\n", 4, Reason::Duplicate),
+    ];
+    for (banner, body, line, reason) in rows {
+        assert!(rt;
+            is_read(rt.alloc(), banner, body, &Err((line, reason)))?,
+            "{body}"
+        );
+    }
+    Ok(())
+}
+
+#[test]
+fn a_text_cut_short(rt: HostRuntime) -> Result<(), Fail> {
+    let text = b"%%MatrixMarket matrix coordinate pattern general\n3 3 4\n1 1\n1 3\n2 3\n3 3\n";
+    // from this many bytes on
+    let rows = [
+        (0, 1, Reason::Banner),
+        (42, 1, Reason::Unsupported),
+        (48, 2, Reason::SizeLine),
+        (54, 3, Reason::TooFew),
+        (56, 3, Reason::EntryLine),
+        (58, 4, Reason::TooFew),
+        (60, 4, Reason::EntryLine),
+        (62, 5, Reason::TooFew),
+        (64, 5, Reason::EntryLine),
+        (66, 6, Reason::TooFew),
+        (68, 6, Reason::EntryLine),
+        (70, 0, Reason::TooLong),
+    ];
+    for n in 0..70 {
+        let mut wanted = rows[0];
+        for row in rows {
+            if row.0 <= n {
+                wanted = row;
+            }
+        }
+        let bad = BadLine {
+            line: wanted.1,
+            reason: wanted.2,
+        };
+        let read = parse_matrix(rt.alloc(), &text[..n]);
+        assert!(rt;
+            matches!(read, Err(ParseFault::Bad(b)) if b == bad),
+            "{n} bytes"
+        );
+    }
+    assert!(rt; parse_matrix(rt.alloc(), &text[..70]).is_ok());
+    Ok(())
+}
+
+#[test]
+fn texts_from_a_source(rt: HostRuntime) -> Result<(), Fail> {
+    let text = b"%%MatrixMarket matrix coordinate pattern general\n1 1 1\n1 1\n";
+    for (fails, whole) in [([10].as_slice(), true), (&[9], false), (&[1], false)] {
+        let mut source = MemSource::new(rt.alloc(), text, 8, fails)?;
+        match read_matrix(rt.alloc(), &mut source) {
+            Ok(m) => assert!(rt; whole && m.entries() == [Triple { i: 0, j: 0, v: 1 }].as_slice()),
+            Err(fault) => assert!(rt; !whole && fault == ReadFault::Source),
+        }
+    }
+    Ok(())
+}
+
+#[test]
+fn hostile_lengths(rt: HostRuntime) -> Result<(), Fail> {
+    let mut text = Vec::new(rt.alloc());
+    for _ in 0..16_777_217 {
+        text.push(b'\n')?;
+    }
+    let bad = BadLine {
+        line: 16_777_217,
+        reason: Reason::TooLong,
+    };
+    let mut source = MemSource::new(rt.alloc(), text.as_slice(), 65_536, &[])?;
+    assert!(rt; matches!(read_matrix(rt.alloc(), &mut source), Err(ReadFault::Bad(b)) if b == bad));
+    let mut text = Vec::from_slice(
+        rt.alloc(),
+        b"%%MatrixMarket matrix coordinate integer general\n1 1 1\n1 1 ",
+    )?;
+    for _ in 0..1_000_000 {
+        text.push(b'9')?;
+    }
+    let bad = BadLine {
+        line: 3,
+        reason: Reason::Value,
+    };
+    assert!(rt;
+        matches!(parse_matrix(rt.alloc(), text.as_slice()), Err(ParseFault::Bad(b)) if b == bad)
+    );
+    Ok(())
+}

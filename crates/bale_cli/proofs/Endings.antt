@@ -1,0 +1,102 @@
+-- A refusal is known by its status, and what is said of it is what the serial answer says.
+use Rattle.std.proofs.Common.{◌≡◌, ℕ, List, Option, None, Some, Err, refl, sym, ap, subst, arith}
+use Rattle.mtx_text.specs.declared.refusal.BadLine.{BadLine}
+use Rattle.mtx_text.specs.Grammar.{matrix_of}
+use Rattle.bale_cli.specs.declared.words.Command.{Command}
+use Rattle.bale_cli.specs.declared.refusal.Refusal.{Refusal}
+use Rattle.bale_cli.specs.declared.refusal.Refusal.TheVariants.{Usage, ReadFault, BadMatrix, WriteFault, NoMemory}
+use Rattle.bale_cli.specs.Answer.{Answer, IsDecided, answer_for, answer_to, said, status_of, refusal_text}
+
+pub not_zero : (r : Refusal) → status_of r ≡ 0 → ⊥
+unfolding status_of
+not_zero Usage e = omega (arith, e)
+not_zero ReadFault e = omega (arith, e)
+not_zero (BadMatrix b) e = omega (arith, e)
+not_zero WriteFault e = omega (arith, e)
+not_zero NoMemory e = omega (arith, e)
+
+pub is_usage : (r : Refusal) → status_of r ≡ 2 → r ≡ Usage
+unfolding status_of
+is_usage Usage e = refl
+is_usage ReadFault e = absurd (omega (arith, e))
+is_usage (BadMatrix b) e = absurd (omega (arith, e))
+is_usage WriteFault e = absurd (omega (arith, e))
+is_usage NoMemory e = absurd (omega (arith, e))
+
+pub usage_is : status_of Usage ≡ 2
+unfolding status_of
+usage_is = refl
+
+pub is_read_fault : (r : Refusal) → status_of r ≡ 3 → r ≡ ReadFault
+unfolding status_of
+is_read_fault Usage e = absurd (omega (arith, e))
+is_read_fault ReadFault e = refl
+is_read_fault (BadMatrix b) e = absurd (omega (arith, e))
+is_read_fault WriteFault e = absurd (omega (arith, e))
+is_read_fault NoMemory e = absurd (omega (arith, e))
+
+pub is_write_fault : (r : Refusal) → status_of r ≡ 4 → r ≡ WriteFault
+unfolding status_of
+is_write_fault Usage e = absurd (omega (arith, e))
+is_write_fault ReadFault e = absurd (omega (arith, e))
+is_write_fault (BadMatrix b) e = absurd (omega (arith, e))
+is_write_fault WriteFault e = refl
+is_write_fault NoMemory e = absurd (omega (arith, e))
+
+pub write_fault_is : status_of WriteFault ≡ 4
+unfolding status_of
+write_fault_is = refl
+
+pub bad_is : (b : BadLine) → status_of (BadMatrix b) ≡ 5
+unfolding status_of
+bad_is b = refl
+
+-- where the words are a command and the text's first bad line is b, the serial answer has status 5 and tells of it
+answer_bad : (command : Option Command) (text : List ℕ) (b : BadLine) → (command ≡ None → ⊥) → matrix_of text ≡ Err b
+    → answer_to command text ≡ answer_for (Err b)
+answer_bad None text b some bad = absurd (some refl)
+answer_bad (Some c) text b some bad = ap answer_for bad
+
+-- the status of a refusal that no fault explains is the serial answer's
+pub status_same : (r : Refusal) (command : Option Command) (text : List ℕ)
+    → (r ≡ Usage → command ≡ None) → (command ≡ None → r ≡ Usage)
+    → ((b : BadLine) → r ≡ BadMatrix b → matrix_of text ≡ Err b)
+    → (status_of r ≡ 3 → ⊥) → (status_of r ≡ 4 → ⊥) → (status_of r ≡ 7 → ⊥)
+    → status_of r ≡ (answer_to command text).status
+unfolding status_of
+status_same Usage command text none usage bad three four seven = ap (λ (c : Option Command). (answer_to c text).status) (sym (none refl))
+status_same ReadFault command text none usage bad three four seven = absurd (three refl)
+status_same (BadMatrix b) command text none usage bad three four seven =
+    let other : command ≡ None → ⊥ = λ e. let h = usage e in cc in
+    ap (λ (a : Answer). a.status) (sym (answer_bad command text b other (bad b refl)))
+status_same WriteFault command text none usage bad three four seven = absurd (four refl)
+status_same NoMemory command text none usage bad three four seven = absurd (seven refl)
+
+-- what is said of a refusal
+pub said_is : (r : Refusal) (command : Option Command) (text : List ℕ)
+    → (r ≡ Usage → command ≡ None) → (command ≡ None → r ≡ Usage)
+    → ((b : BadLine) → r ≡ BadMatrix b → matrix_of text ≡ Err b)
+    → said (status_of r) (answer_to command text) ≡ refusal_text r
+unfolding status_of refusal_text
+said_is Usage command text none usage bad = ap (λ (c : Option Command). (answer_to c text).err) (none refl)
+said_is ReadFault command text none usage bad = refl
+said_is (BadMatrix b) command text none usage bad =
+    let other : command ≡ None → ⊥ = λ e. let h = usage e in cc in
+    ap (λ (a : Answer). a.err) (answer_bad command text b other (bad b refl))
+said_is WriteFault command text none usage bad = refl
+said_is NoMemory command text none usage bad = refl
+
+pub said_at : (n : ℕ) (r : Refusal) (command : Option Command) (text : List ℕ) → n ≡ status_of r
+    → (r ≡ Usage → command ≡ None) → (command ≡ None → r ≡ Usage)
+    → ((b : BadLine) → r ≡ BadMatrix b → matrix_of text ≡ Err b)
+    → said n (answer_to command text) ≡ refusal_text r
+said_at n r command text same none usage bad = subst (λ (m : ℕ). said m (answer_to command text) ≡ refusal_text r) (sym same) (said_is r command text none usage bad)
+
+-- a refusal that is neither of words nor of a fault before the answer came after the text was read
+pub decided : (T : Type 0) (r : Refusal) → (status_of r ≡ 2 → ⊥) → (status_of r ≡ 3 → ⊥) → (status_of r ≡ 7 → ⊥) → IsDecided {T = T} (Err r)
+unfolding status_of
+decided T Usage two three seven = two refl
+decided T ReadFault two three seven = three refl
+decided T (BadMatrix b) two three seven = tt
+decided T WriteFault two three seven = tt
+decided T NoMemory two three seven = seven refl

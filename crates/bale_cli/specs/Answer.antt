@@ -1,0 +1,83 @@
+-- What a run answers: a status, the bytes for out and the bytes for err.
+use Rattle.std.specs.Prelude.{ℕ, List, [], ◌∷◌, ◌++◌, ◌==◌, Option, Some, None, Result, Ok, Err, codes, decimal, if◌then◌else◌}
+use Rattle.mtx_text.specs.declared.refusal.BadLine.{BadLine}
+use Rattle.mtx_text.specs.declared.refusal.ReadFault.{ReadFault}
+use Rattle.mtx_text.specs.declared.refusal.ReadFault.TheVariants as read_fault
+use Rattle.mtx_text.specs.Sparse.{Sparse}
+use Rattle.mtx_text.specs.Grammar.{matrix_of}
+use Rattle.mtx_text.specs.Reasons.{reason_text}
+use Rattle.bale_cli.specs.declared.words.Command.{Command}
+use Rattle.bale_cli.specs.declared.refusal.Refusal.{Refusal}
+use Rattle.bale_cli.specs.declared.refusal.Refusal.TheVariants as refusal
+use Rattle.bale_cli.specs.Words.{command_of}
+use Rattle.bale_cli.specs.Histo.{histo_lines}
+
+-- What is said of a bad line: its number, and why it is bad.
+-- bad_line_text (line 4, too few entries) = "bale: line 4: too few entries\n"
+unfoldable pub bad_line_text : BadLine → List ℕ
+bad_line_text b = codes "bale: line " ++ decimal b.line ++ codes ": " ++ reason_text b.reason ++ 10 ∷ []
+
+-- What is said on err of a run that ended without an answer.
+unfoldable pub refusal_text : Refusal → List ℕ
+refusal_text refusal.Usage = codes "bale: usage\n"
+refusal_text refusal.ReadFault = codes "bale: read fault\n"
+refusal_text (refusal.BadMatrix b) = bad_line_text b
+refusal_text refusal.WriteFault = codes "bale: write fault\n"
+refusal_text refusal.NoMemory = codes "bale: no memory\n"
+
+-- The exit status of a refusal.
+unfoldable pub status_of : Refusal → ℕ
+status_of refusal.Usage = 2
+status_of refusal.ReadFault = 3
+status_of (refusal.BadMatrix b) = 5
+status_of refusal.WriteFault = 4
+status_of refusal.NoMemory = 7
+
+-- The refusal that a reader's fault becomes.
+abbrev pub refusal_of : ReadFault → Refusal
+refusal_of read_fault.Source = refusal.ReadFault
+refusal_of (read_fault.Bad b) = refusal.BadMatrix b
+refusal_of read_fault.NoMemory = refusal.NoMemory
+
+-- The text was read as far as it counts: there is an answer, a bad line or a failed write.
+abbrev pub IsDecided : {T : Type 0} → Result T Refusal → Type 0
+IsDecided (Ok x) = Unit {0}
+IsDecided (Err (refusal.BadMatrix b)) = Unit {0}
+IsDecided (Err refusal.WriteFault) = Unit {0}
+IsDecided (Err refusal.Usage) = ⊥
+IsDecided (Err refusal.ReadFault) = ⊥
+IsDecided (Err refusal.NoMemory) = ⊥
+
+-- A status, and what is written to out and to err.
+pub record Answer : Type 0 where
+  pub status : ℕ
+  pub out : List ℕ
+  pub err : List ℕ
+
+-- The answer for a text that has a matrix, or that has none.
+abbrev pub answer_for : Result Sparse BadLine → Answer
+answer_for (Err b) = record { status = 5; out = []; err = bad_line_text b }
+answer_for (Ok m) = record { status = 0; out = histo_lines m.entries m.cols; err = [] }
+
+-- The answer to a command, and to words that are none.
+abbrev pub answer_to : Option Command → List ℕ → Answer
+answer_to None text = record { status = 2; out = []; err = refusal_text refusal.Usage }
+answer_to (Some command) text = answer_for (matrix_of text)
+
+-- The serial answer: what the words ask for, of the matrix of the text. No rank, buffer or link occurs in it.
+-- 2 and "bale: usage" where the words are no command; 5 and the first bad line where the text has no matrix;
+-- else 0 and the lines of histo.
+-- For "histo --grid 4 --buffer 2 --drive serial" and "%%MatrixMarket matrix coordinate pattern general/2 2 0/"
+-- it is 0 with "1 0/2 0/" on out, with / for LF.
+abbrev pub serial_answer : List (List ℕ) → List ℕ → Answer
+serial_answer words text = answer_to (command_of words) text
+
+-- What is said on err at a status: nothing at 0, of a fault its text, else what the serial answer says.
+-- At 3 it is "bale: read fault\n"; at 5 it is the bad line and its reason.
+abbrev pub said : ℕ → Answer → List ℕ
+said status answer =
+    if status == 0 then []
+    else if status == 3 then refusal_text refusal.ReadFault
+    else if status == 4 then refusal_text refusal.WriteFault
+    else if status == 7 then refusal_text refusal.NoMemory
+    else answer.err

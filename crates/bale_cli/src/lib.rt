@@ -1,0 +1,22 @@
+//! The program `bale` without its streams: the words of the command line, the exchange, and the top call.
+//!
+//! | Call | For |
+//! |---|---|
+//! | [`run`] | from the words and the bytes that come in to the bytes that go out |
+//! | [`read_command`] | what the words ask for, if they are a command |
+//! | [`report`] | to say on a sink why a run ended without an answer |
+#![tactic(auto)]
+
+mod count;
+mod histo;
+mod lanes;
+mod outcome;
+mod refusal;
+mod words;
+
+pub use outcome::{Outcome, run};
+pub use refusal::{Refusal, report};
+pub use words::{Command, read_command};
+
+#[cfg(test)]
+mod tests;

@@ -1,0 +1,127 @@
+//! Why a run ended without an answer.
+ghost use Rattle.std.specs.Prelude.{◌≡◌, ◌≤◌, []};
+ghost use Rattle.bale_types.specs.Stream.{after, IsFront, Rose};
+ghost use Rattle.bale_types.specs.Out.{appended};
+ghost use Rattle.bale_cli.specs.Answer.{bad_line_text, refusal_text, status_of};
+
+use bale_types::{Failed, Line, Out, Sink};
+use mtx_text::BadLine;
+
+/// Why a run ended without an answer; each has a status of its own.
+#[derive(Clone, Copy, PartialEq, Eq, Debug)]
+pub enum Refusal {
+    /// The words are no command.
+    Usage,
+    /// The source failed.
+    ReadFault,
+    /// The text has no matrix.
+    BadMatrix(BadLine),
+    /// The sink for the answer failed.
+    WriteFault,
+    /// An allocation was refused.
+    NoMemory,
+}
+
+impl From<mtx_text::ReadFault> for Refusal {
+    ghost use Rattle.std.specs.Prelude.{◌≡◌};
+    ghost use Rattle.bale_cli.specs.Answer.{refusal_of};
+
+    ghost from_gives = { λ fault refusal. refusal ≡ refusal_of fault };
+
+    fn from(fault: mtx_text::ReadFault) -> Refusal {
+        match fault {
+            mtx_text::ReadFault::Source => Refusal::ReadFault,
+            mtx_text::ReadFault::Bad(line) => Refusal::BadMatrix(line),
+            mtx_text::ReadFault::NoMemory => Refusal::NoMemory,
+        }
+    }
+}
+
+impl From<bale_types::NoMemory> for Refusal {
+    ghost use Rattle.std.specs.Prelude.{◌≡◌};
+    ghost use Rattle.bale_cli.specs.declared.refusal.Refusal.TheVariants.{NoMemory};
+
+    ghost from_gives = { λ _ refusal. refusal ≡ NoMemory };
+
+    fn from(_: bale_types::NoMemory) -> Refusal {
+        Refusal::NoMemory
+    }
+}
+
+impl From<Failed> for Refusal {
+    ghost use Rattle.std.specs.Prelude.{◌≡◌};
+    ghost use Rattle.bale_cli.specs.declared.refusal.Refusal.TheVariants.{WriteFault};
+
+    ghost from_gives = { λ _ refusal. refusal ≡ WriteFault };
+
+    fn from(_: Failed) -> Refusal {
+        Refusal::WriteFault
+    }
+}
+
+impl Refusal {
+    /// The exit status.
+    #[tactic(auto, unfolding(crate::specs::Answer::status_of))]
+    pub fn status(self) -> u8
+        ensures { result ≡ status_of self }
+    {
+        match self {
+            Refusal::Usage => 2,
+            Refusal::ReadFault => 3,
+            Refusal::WriteFault => 4,
+            Refusal::BadMatrix(_) => 5,
+            Refusal::NoMemory => 7,
+        }
+    }
+}
+
+/// Says on `err` why there is no answer. A failing write changes nothing but what was said.
+pub fn report<E: Sink>(err: &mut E, refusal: Refusal)
+    ensures said { ¬ Rose (E.faults err.old) (E.faults err.new) → E.taken err.new ≡ after (E.taken err.old) (refusal_text refusal) }
+    ensures front { IsFront (E.taken err.new) (after (E.taken err.old) (refusal_text refusal)) }
+    ensures never_falls { E.faults err.old ≤ E.faults err.new }
+{
+    let line = line_of(refusal);
+    let mut out = Out::new(err);
+    say(&mut out, line.bytes())
+}
+
+/// Hands the bytes through to the sink.
+fn say<E: Sink>(out: &mut Out<'_, E>, bytes: &[u8])
+    ensures said { ¬ Rose (E.faults out.old.sink.now) (E.faults out.new.sink.now) →
+        E.taken out.new.sink.now ≡ after (appended E.taken out.old) bytes.now }
+    ensures front { IsFront (E.taken out.new.sink.now) (after (appended E.taken out.old) bytes.now) }
+    ensures never_falls { E.faults out.old.sink.now ≤ E.faults out.new.sink.now }
+    ensures same_sink { out.new.sink.ghost_name ≡ out.old.sink.ghost_name }
+{
+    if out.text(bytes).is_ok() {
+        let _ = out.flush();
+    }
+}
+
+#[tactic(auto, unfolding(crate::specs::Answer::refusal_text))]
+fn line_of(refusal: Refusal) -> Line
+    ensures { result ≡ refusal_text refusal }
+{
+    let mut line = Line::new();
+    match refusal {
+        Refusal::Usage => line.text(b"bale: usage\n"),
+        Refusal::ReadFault => line.text(b"bale: read fault\n"),
+        Refusal::BadMatrix(bad) => bad_line(&mut line, bad),
+        Refusal::WriteFault => line.text(b"bale: write fault\n"),
+        Refusal::NoMemory => line.text(b"bale: no memory\n"),
+    }
+    line
+}
+
+#[tactic(auto, using(crate::proofs::Reasons::reason_short), unfolding(crate::specs::Answer::bad_line_text))]
+fn bad_line(line: &mut Line, bad: BadLine)
+    requires { line.old ≡ [] }
+    ensures { line.new ≡ bad_line_text bad }
+{
+    line.text(b"bale: line ");
+    line.number(bad.line);
+    line.text(b": ");
+    line.text(bad.reason.text().as_bytes());
+    line.byte(b'\n');
+}

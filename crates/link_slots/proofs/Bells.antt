@@ -1,5 +1,5 @@
 -- A link's part of a doorbell under each step.
-use Rattle.std.proofs.Common.{◌≡◌, ℕ, zero, suc, ◌+◌, ◌^◌, ◌<◌, ◌≤◌, Bool, true, false, List, length, get_or, refl, ap, ◌∙◌, inl, inr, ⊎_elim, arith}
+use Rattle.std.proofs.Common.{◌≡◌, ℕ, zero, suc, ◌+◌, ◌^◌, ◌<◌, ◌≤◌, Bool, true, false, List, length, get_or, refl, sym, ap, ◌∙◌, inl, inr, ⊎_elim, arith}
 use Rattle.std.proofs.lemmas.Nat.Bits.{bit_at_or, bit_at-pow_same, bit_at-lt}
 use Rattle.std.specs.Int.{bit_at}
 use Rattle.std.specs.Int.Bits.{bit_or}
@@ -59,3 +59,9 @@ module _ {T : Type 0} (w : Wiring) where
     told = inr (⊎_elim (λ t. inl (marked_case b i.marked t)) (λ u. ⊎_elim (λ t. inl (marked_stays b i.marked t)) (λ t. inr t) u) ok.told);
     looked = heard_case b i (bit_at-lt (get_or ws (bell_word w l) 0) (w.bit l)) ok.looked;
   }
+
+-- A collect that answers Nothing leaves its link unmarked, with all that was seen taken. So where the link's bit isn't set either, as right
+-- after a hear of its doorbell, each parcel offered so far is taken: none is left that was offered before the port listened.
+pub none_left : {T : Type 0} (w : Wiring) (l : ℕ) (o : OutLog T) (i : InLog T) (words : List ℕ) → BellOk w l o i words → bit_at (get_or words (bell_word w l) 0) (w.bit l) ≡ 0 → i.marked ≡ false → length i.seen ≡ i.taken → o.offered ≤ i.taken
+none_left w l o i words ok unset unmarked all =
+    ⊎_elim (λ set. absurd (omega arith)) (⊎_elim (λ marked. absurd (let no : true ≡ false = sym marked ∙ unmarked in cc)) (λ seen. omega arith)) ok.told

@@ -4,7 +4,7 @@ use Rattle.std.specs.List.{All}
 use Rattle.std.proofs.lemmas.List.Elements.{All-get_or, All-nil, All-cons}
 use Rattle.bale_types.specs.declared.item.Tag.{Tag}
 use Rattle.bale_types.specs.declared.item.Entry.{Entry}
-use Rattle.item_buffer.specs.Contents.{Contents, Shipped, blank}
+use Rattle.item_buffer.specs.Contents.{Contents, Shipped, shipped, blank}
 use Rattle.route_tensor.specs.Grid.{dim, IsGrid}
 use Rattle.route_tensor.specs.Tag.{digit, IsFair}
 use Rattle.route_tensor.specs.Ends.{hop_at}
@@ -59,3 +59,16 @@ filled old new n e false is pushed full =
     let h : length old.untaken ≡ 1 = full refl in
     let z : length old.untaken ≡ 0 = ap (λ (c : Contents). length c.untaken) is in
     absurd (omega arith)
+
+-- the empty parcel for a link's next collect, of the epoch after the parcel p
+pub next_blank : (logs logs' : Logs) (l : ℕ) (p q r : Contents) (b : Bool) (e n : ℕ) → logs' ≡ added logs l (shipped p) → e ≡ lasts (logs l) → b ≡ p.last → n ≡ cond b (e + 1) e → q ≡ blank p.epoch → r ≡ record q { epoch = n }
+    → r ≡ blank (lasts (logs' l))
+next_blank logs logs' l p q r b e n more is last next cleared put =
+    let now : lasts (logs' l) ≡ n = ap (λ (f : Logs). lasts (f l)) more ∙ lasts_added logs l (shipped p) ∙ (λ k. cond (sym last k) (sym is k + 1) (sym is k)) ∙ sym next in
+    put ∙ ap (λ (c : Contents). record { untaken = c.untaken; last = c.last; epoch = n; back = c.back; taken = c.taken }) cleared ∙ ap blank (sym now)
+
+-- the same where p isn't the last parcel of its epoch
+pub still_blank : (logs logs' : Logs) (l : ℕ) (p q : Contents) → logs' ≡ added logs l (shipped p) → p.last ≡ false → p.epoch ≡ lasts (logs l) → q ≡ blank p.epoch → q ≡ blank (lasts (logs' l))
+still_blank logs logs' l p q more open' is cleared =
+    let now : lasts (logs' l) ≡ lasts (logs l) = ap (λ (f : Logs). lasts (f l)) more ∙ lasts_added logs l (shipped p) ∙ ap (λ (b : Bool). cond b (lasts (logs l) + 1) (lasts (logs l))) open' in
+    cleared ∙ ap blank (is ∙ sym now)

@@ -1,5 +1,5 @@
 -- What a hear and a look in make of the links of a rank, and of the bits that it keeps.
-use Rattle.std.proofs.Common.{◌≡◌, ◌≢◌, ℕ, zero, suc, ◌+◌, ◌-◌, ◌*◌, ◌^◌, ◌<◌, ◌≤◌, true, false, eqb, List, length, take, sym, refl, ap, ◌∙◌, subst, inl, inr, arith, length-set, eq-eqb, eqb-true, min}
+use Rattle.std.proofs.Common.{◌≡◌, ◌≢◌, ℕ, zero, suc, ◌+◌, ◌-◌, ◌*◌, ◌^◌, ◌<◌, ◌≤◌, true, false, eqb, List, length, take, sym, refl, ap, ◌∙◌, subst, inl, inr, arith, length-set, eq-eqb, eqb-true, ne_eqb, not, min}
 use Rattle.std.proofs.lemmas.Nat.{pow_pos}
 use Rattle.std.proofs.lemmas.Nat.Bits.{and_pow, bit_at_or, bit_at_xor, bit_at-pow_same, bit_at-pow_other, bit_at-lt}
 use Rattle.std.specs.Int.{bit_at}
@@ -30,6 +30,12 @@ pub bit_set : (n c mask : ℕ) → mask ≡ 2 ^ c → bit_and n mask ≢ 0 → b
 bit_set n c mask m ne = dite (ℕ_discrete (bit_at n c) 1) (λ s. s) (λ other. absurd (ne (
     let b = bit_at-lt n c in let none : bit_at n c ≡ 0 = omega arith in
     ap (bit_and n) m ∙ and_pow n c ∙ ap (λ (z : ℕ). z * 2 ^ c) none ∙ (let q : 0 * 2 ^ c ≡ 0 = omega arith in q))))
+
+-- a bit that a mask is for, as code reads it
+pub bit_read : (n c mask : ℕ) → mask ≡ 2 ^ c → not (eqb (bit_and n mask) 0) ≡ eqb (bit_at n c) 1
+bit_read n c mask m = dite (ℕ_discrete (bit_and n mask) 0)
+    (λ e. ap not (eq-eqb (bit_and n mask) 0 e) ∙ sym (ap (λ (z : ℕ). eqb z 1) (bit_unset n c mask m e)))
+    (λ ne. ap not (ne_eqb (bit_and n mask) 0 ne) ∙ sym (eq-eqb (bit_at n c) 1 (bit_set n c mask m ne)))
 
 -- a link is marked after a hear where its bit was kept or found
 marks_or : (n found c : ℕ) → marked_by (bit_at found c) (eqb (bit_at n c) 1) ≡ eqb (bit_at (bit_or n found) c) 1

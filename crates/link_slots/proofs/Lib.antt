@@ -15,6 +15,7 @@ pub mod Manning
 pub mod Tells
 pub mod Counting
 pub mod Hearing
+pub mod Due
 pub mod Seating
 pub mod Ported
 pub mod Giving

@@ -8,6 +8,7 @@ use mathlib.Core.Option.{some}
 use mathlib.Core.Logic.{dite}
 use native.Mathlib.Decide.{ℕ_discrete}
 use lib.ListN.{get_elem?}
+use Rattle.port_bank.specs.Flow.{Begins}
 use Rattle.atomic_table.specs.Table.{State, Act, gives, carried_after, homes_after, Allows}
 use Rattle.atomic_table.proofs.Lists.{set_again, set_else}
 use Rattle.link_slots.specs.Logs.{OutLog, InLog, Logs, no_out, no_in, out_of, in_of, with_out, with_in, got, sent_of, got_of}
@@ -121,6 +122,10 @@ module _ {D T : Type 0} (Blank : T → Type 0) (Good : ℕ → List T → T → 
         ((let g : b ≤ w.slots = omega arith in g), (let g : b ≤ length o.sent = omega arith in g), refl, holds_own v (with_out x l o') (carried_after c a) speaks (holds_out v.pick l x (record { sent = o.sent; room = N; offered = o.offered; looks = o.looks }) o' (carried_after c a) long refl room_is t.holds)),
       )
 
+  -- what was posted, as what the reader saw and the rest
+  rest_seen : (i : InLog T) (o : OutLog T) → i.seen ≡ take (length i.seen) o.sent → i.seen ++ drop (length i.seen) o.sent ≡ o.sent
+  rest_seen i o e = ap (λ (z : List T). z ++ drop (length i.seen) o.sent) e ∙ take-append-drop (length i.seen) o.sent
+
   pub look_in : (id l : ℕ) (v : View D T) (c : List (ℕ × T)) → Speaks v → l < w.links → w.to l ≡ v.pick → (in_of (own_logs v) l).marked ≡ true → Holds Blank w v.pick (own_logs v) c
       → Allows Rule (w.slots * w.links) id (v, c) (posted_word l) (λ n. n) (λ n m'. looked_in Blank Good w l (v, c) n m')
   look_in id l v c speaks inside mine marked held s ok deep at fits =
@@ -163,9 +168,6 @@ module _ {D T : Type 0} (Blank : T → Type 0) (Good : ℕ → List T → T → 
           holds_own v (with_in x l i') (carried_after c a) speaks (holds_in v.pick l x iN i' (carried_after c a) long all refl t.holds),
         ),
       )
-    where
-      rest_seen : (i : InLog T) (o : OutLog T) → i.seen ≡ take (length i.seen) o.sent → i.seen ++ drop (length i.seen) o.sent ≡ o.sent
-      rest_seen i o e = ap (λ (z : List T). z ++ drop (length i.seen) o.sent) e ∙ take-append-drop (length i.seen) o.sent
 
   -- the reader's own end of a link on which it sends too
   own_end : (s : State T (View D T)) (ok : Rule s) (id l : ℕ) (v : View D T) → get_elem? s.views id ≡ some v → Speaks v → w.to l ≡ v.pick → in_of (own_logs v) l ≡ in_of (ok.logs (w.to l)) l
@@ -270,5 +272,13 @@ module _ {D T : Type 0} (Blank : T → Type 0) (Good : ℕ → List T → T → 
         fetch c j y,
         f.valid,
         brought s ok id k v c j y at speaks held wanted.1,
-        (parcel.0, without c j, parcel.1, ap (λ (z : List (ℕ × T)). (v, z)) f.carried, subst (Holds Blank w v.pick x) (sym f.carried) (holds_in_front Blank w v.pick x c j y wanted.1 held)),
+        (
+          parcel.0,
+          without c j,
+          parcel.1,
+          ap (λ (z : List (ℕ × T)). (v, z)) f.carried,
+          subst (Holds Blank w v.pick x) (sym f.carried) (holds_in_front Blank w v.pick x c j y wanted.1 held),
+          λ from. let link = reader_link Blank Good Law shape w wired s ok id v l at speaks inside mine in
+              subst (λ (o : OutLog T). Begins i.seen o.sent) (sym (own_start s ok id l v at speaks from)) (record { rest = drop (length i.seen) (out_of (ok.logs (w.from l)) l).sent; is = sym (rest_seen i (out_of (ok.logs (w.from l)) l) link.seen_is) }),
+        ),
       )

@@ -1,16 +1,18 @@
 -- What a port's calls change, over the seats before and after.
 use Rattle.std.proofs.Common.{◌≡◌, ◌≢◌, ℕ, ◌+◌, ◌-◌, ◌<◌, eqb, Bool, List, [], ◌∷◌, ◌++◌, map, length, get_or, drop, sym, refl, ap, ◌∙◌, subst}
-use Rattle.std.proofs.lemmas.List.{map-append}
+use Rattle.std.proofs.lemmas.List.{map-append, take-append-drop}
 use mathlib.Core.Logic.{dite}
 use native.Mathlib.Decide.{ℕ_discrete}
 use Rattle.item_buffer.specs.Contents.{Contents, shipped, Shipped}
 use Rattle.port_bank.specs.Logs.{Logs as Posts, added}
+use Rattle.port_bank.specs.Flow.{Begins}
 use Rattle.port_bank.specs.Port.{changed}
 use Rattle.port_bank.specs.declared.port.Collected.{Collected}
 use Rattle.port_bank.specs.declared.port.Collected.TheVariants.{Got, Nothing}
 use Rattle.port_bank.proofs.Channels.{changed-here, changed-other}
 use Rattle.port_bank.proofs.Kept.{added-other}
-use Rattle.link_slots.specs.Logs.{OutLog, out_of, with_out}
+use Rattle.port_bank.proofs.Fronts.{begins_map, begins_trans}
+use Rattle.link_slots.specs.Logs.{OutLog, InLog, out_of, in_of, got, with_out}
 use Rattle.link_slots.specs.Seen.{Manning, posted_on, collected_from, freed, known, named}
 use Rattle.atomic_table.specs.Seated.{TableId}
 use Rattle.link_slots.proofs.Moves.{out_there}
@@ -48,3 +50,10 @@ pub one_bank : (a b : TableId) → named a ≡ named b → a ≡ b
 one_bank a b e =
     let at : (i : ℕ) → get_or (named a) i 0 ≡ get_or (named b) i 0 = λ i. ap (λ (z : List ℕ). get_or z i 0) e in
     λ k. record { words = at 0 k; slots = at 1 k; views_name = at 2 k; atom = at 3 k; block = at 4 k; offset = at 5 k; slot_names = ap (λ (z : List ℕ). drop 6 z) e k }
+
+-- what was collected is the front of what was posted, where what was seen is
+pub got_begins : (s : Manning) (l : ℕ) → Begins (in_of s.lists l).seen (out_of s.lists l).sent → Begins (collected_from s l) (posted_on s l)
+got_begins s l own =
+    let i : InLog Contents = in_of s.lists l in
+    let o : OutLog Contents = out_of s.lists l in
+    begins_map shipped (got i) o.sent (begins_trans (got i) i.seen o.sent (record { rest = drop i.taken i.seen; is = sym (take-append-drop i.taken i.seen) }) own)

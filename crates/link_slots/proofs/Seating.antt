@@ -10,7 +10,7 @@ use Rattle.port_bank.proofs.Segments.{lasts-append}
 use Rattle.port_bank.proofs.Channels.{changed-here, changed-other}
 use Rattle.port_bank.specs.Port.{changed}
 use Rattle.list_laws.proofs.Lists.{map_set}
-use Rattle.std.proofs.lemmas.List.{length-map}
+use Rattle.std.proofs.lemmas.List.{length-map, length-take-le}
 use Rattle.link_slots.proofs.Lookups.{take_next}
 use Rattle.link_slots.proofs.Counting.{end_kept}
 use Rattle.std.proofs.lemmas.List.Elements.{All-get_or}
@@ -185,3 +185,10 @@ noted_changed ins l e h = λ j k. at k j
         (λ s. subst (λ (z : ℕ). get_or (set (map (λ (i : InEnd). i.noted) ins) l e.noted) z 0 ≡ changed (λ k. get_or (map (λ (i : InEnd). i.noted) ins) k 0) l e.noted z) (sym s)
         (get_or-set_same (map (λ (i : InEnd). i.noted) ins) l e.noted 0 (let n = length-map ins (λ (i : InEnd). i.noted) in omega arith) ∙ sym (changed-here (λ k. get_or (map (λ (i : InEnd). i.noted) ins) k 0) l e.noted)))
         (λ ne. get_or-set_other (map (λ (i : InEnd). i.noted) ins) l k e.noted 0 ne ∙ sym (changed-other (λ k. get_or (map (λ (i : InEnd). i.noted) ins) k 0) l k e.noted ne))
+
+-- a link of which all known parcels were collected has none at hand
+pub none_waiting : (i : InLog Contents) (waiting : ℕ) → length i.seen ≡ i.taken + waiting → length (map shipped (got i)) ≡ length i.seen → waiting ≡ 0
+none_waiting i waiting is all = let m = length-map (got i) shipped in let t = length-take-le i.taken i.seen (omega arith) in omega arith
+
+pub some_waiting : (i : InLog Contents) (waiting : ℕ) → length i.seen ≡ i.taken + waiting → length (map shipped (got i)) < length i.seen → waiting ≢ 0
+some_waiting i waiting is more none = let m = length-map (got i) shipped in let t = length-take-le i.taken i.seen (omega arith) in omega arith

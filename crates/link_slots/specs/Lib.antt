@@ -8,6 +8,7 @@ pub mod Plays
 pub mod Shape
 pub mod Told
 pub mod Counts
+pub mod Doorbell
 pub mod Seen
 pub mod Seat
 pub mod Closed

@@ -4,6 +4,7 @@ use Rattle.std.specs.Int.{bit_at}
 use mathlib.Core.Option.{some}
 use lib.ListN.{get_elem?}
 use Rattle.atomic_table.specs.Table.{Me, rest}
+use Rattle.port_bank.specs.Flow.{Begins}
 use Rattle.link_slots.specs.Logs.{InLog, Logs, out_of, in_of, with_out, with_in}
 use Rattle.link_slots.specs.View.{View, own_logs, with_logs}
 use Rattle.link_slots.specs.Wiring.{Wiring, slot_of}
@@ -73,7 +74,8 @@ module _ {D T : Type 0} (Blank : T → Type 0) (Good : ℕ → List T → T → 
       (m' ≡ (with_logs m.0 (with_in x l (record { seen = i.seen; taken = suc i.taken; marked = i.marked; hears = i.hears; heard = i.heard; look_ins = i.look_ins })), rest m.1))
       × Holds Blank w m.0.pick (own_logs m'.0) m'.1
 
-  -- The seat lays down what it holds and takes it up with the wanted slot last: a sender's next empty one, a reader's next full one.
+  -- The seat lays down what it holds and takes it up with the wanted slot last: a sender's next empty one, a reader's next full one. A
+  -- reader that sends on the link too sees that what it saw there is the front of what it posted.
   abbrev pub spare_brought : ℕ → Me T (View D T) → Me T (View D T) → Type 0
   spare_brought l m m' =
       let x = own_logs m.0 in
@@ -83,6 +85,7 @@ module _ {D T : Type 0} (Blank : T → Type 0) (Good : ℕ → List T → T → 
   parcel_brought l m m' =
       let x = own_logs m.0 in let i = in_of x l in
       (p : T) × (c : List (ℕ × T)) × (get_elem? i.seen i.taken ≡ some p) × (m' ≡ (m.0, (slot_of w l i.taken, p) ∷ c)) × Holds Blank w m.0.pick x m'.1
+      × (w.from l ≡ m.0.pick → Begins i.seen (out_of x l).sent)
 
   -- Ring: all parcels posted so far are offered.
   abbrev pub rung : ℕ → Me T (View D T) → Me T (View D T) → Type 0

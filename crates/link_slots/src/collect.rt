@@ -4,13 +4,15 @@ ghost use mathlib.Core.Option.{some};
 ghost use lib.ListN.{get_elem?};
 ghost use Rattle.item_buffer.specs.Contents.{Contents};
 ghost use Rattle.bale_types.specs.Stream.{Rose};
+ghost use Rattle.port_bank.specs.Flow.{Begins};
 ghost use Rattle.route_tensor.specs.Link.{links};
 ghost use Rattle.route_tensor.specs.Ends.{hop_at, sender_at, reader_at};
-ghost use Rattle.link_slots.specs.Logs.{InLog, out_of, in_of, with_in, listens};
+ghost use Rattle.link_slots.specs.Logs.{InLog, out_of, in_of, with_in, taken_more, listens};
 ghost use Rattle.link_slots.specs.View.{own_logs, with_logs};
 ghost use Rattle.link_slots.specs.Shape.{IsBoard, wiring, IsBlank, MayFollow};
 ghost use Rattle.link_slots.specs.Told.{IsManned};
 ghost use Rattle.link_slots.specs.Counts.{IsInEnd, IsHeard, IsWire, ElseKept, AreGood, counted};
+ghost use Rattle.link_slots.specs.Doorbell.{is_due, HeardWhere, looked_where_marked, LookedFor};
 
 use crate::bank::{Place, Top};
 use crate::ear::Ear;
@@ -47,8 +49,8 @@ fn hear_if_due<const CAP: usize>(
     ensures look_ins { (in_of (own_logs place.new.me.0) link).look_ins ≡ (in_of (own_logs place.old.me.0) link).look_ins }
     ensures more { (in_of (own_logs place.old.me.0) link).hears ≤ (in_of (own_logs place.new.me.0) link).hears }
     ensures due { (in_of (own_logs place.new.me.0) link).marked ≡ false → Rose end.now.noted (counted (listens (in_of (own_logs place.new.me.0) link))) }
-    ensures marked { (in_of (own_logs place.old.me.0) link).marked ≡ true → place.new.me.0 ≡ place.old.me.0 }
-    ensures listened { end.now.noted < counted (listens (in_of (own_logs place.old.me.0) link)) → place.new.me.0 ≡ place.old.me.0 }
+    ensures heard { (m : ℕ) → m < links top.now.key.dims → reader_at top.now.key.dims m ≡ place.old.me.0.pick → hop_at top.now.key.dims m ≡ hop_at top.now.key.dims link
+        → HeardWhere (is_due end.now.noted (in_of (own_logs place.old.me.0) link)) (in_of (own_logs place.old.me.0) m) (in_of (own_logs place.new.me.0) m) }
 {
     if ear.marks & wire.mask == 0 && ear.hears.saturating_add(end.look_ins) <= end.noted {
         ear.marks |= hear(top, place, link, wire.bell);
@@ -85,9 +87,8 @@ fn look_if_marked<const CAP: usize>(
     ensures taken { (in_of (own_logs place.new.me.0) link).taken ≡ (in_of (own_logs place.old.me.0) link).taken }
     ensures noted { end.new.noted ≡ end.old.noted }
     ensures unmarked { (in_of (own_logs place.new.me.0) link).marked ≡ false }
-    ensures quiet { (in_of (own_logs place.old.me.0) link).marked ≡ false → (place.new.me.0 ≡ place.old.me.0) }
     ensures more { listens (in_of (own_logs place.old.me.0) link) ≤ listens (in_of (own_logs place.new.me.0) link) }
-    ensures looked { (in_of (own_logs place.old.me.0) link).marked ≡ true → listens (in_of (own_logs place.new.me.0) link) ≡ suc (listens (in_of (own_logs place.old.me.0) link)) }
+    ensures looked { own_logs place.new.me.0 ≡ with_in (own_logs place.old.me.0) link (looked_where_marked (in_of (own_logs place.new.me.0) link).seen (in_of (own_logs place.old.me.0) link)) }
 {
     if ear.marks & wire.mask != 0 {
         let found = look_in(top, place, link);
@@ -128,11 +129,12 @@ fn find_parcel<const CAP: usize>(
     ensures more { listens (in_of (own_logs place.old.me.0) link) ≤ listens (in_of (own_logs place.new.me.0) link) }
     ensures unmarked { end.new.waiting ≡ 0 → (in_of (own_logs place.new.me.0) link).marked ≡ false }
     ensures listened { end.new.waiting ≡ 0 → Rose end.old.noted (counted (listens (in_of (own_logs place.new.me.0) link))) }
-    // A parcel that is at hand costs no step, nor does a link for which nobody rang and that was listened for before.
+    // A parcel that is at hand costs no step.
     ensures at_hand { end.old.waiting ≢ 0 → place.new.me.0 ≡ place.old.me.0 }
-    ensures no_hear { (in_of (own_logs place.old.me.0) link).marked ≡ false → end.old.noted < counted (listens (in_of (own_logs place.old.me.0) link)) → place.new.me.0 ≡ place.old.me.0 }
-    // A marked link is looked in once, without a hear.
-    ensures looked { end.old.waiting ≡ 0 → (in_of (own_logs place.old.me.0) link).marked ≡ true → listens (in_of (own_logs place.new.me.0) link) ≡ suc (listens (in_of (own_logs place.old.me.0) link)) }
+    // Else the doorbell is heard where a hear is due, and the link is looked in where it is then marked.
+    ensures heard { end.old.waiting ≡ 0 → (m : ℕ) → m < links top.now.key.dims → reader_at top.now.key.dims m ≡ place.old.me.0.pick → hop_at top.now.key.dims m ≡ hop_at top.now.key.dims link → m ≢ link
+        → HeardWhere (is_due end.old.noted (in_of (own_logs place.old.me.0) link)) (in_of (own_logs place.old.me.0) m) (in_of (own_logs place.new.me.0) m) }
+    ensures looked { end.old.waiting ≡ 0 → LookedFor end.old.noted (in_of (own_logs place.old.me.0) link) (in_of (own_logs place.new.me.0) link) }
 {
     if end.waiting == 0 {
         hear_if_due(top, place, end, ear, wire, link);
@@ -178,6 +180,15 @@ pub(crate) fn collect_on<const CAP: usize>(
     ensures unmarked { result ≡ Collected.Nothing → (in_of (own_logs place.new.me.0) link).marked ≡ false }
     ensures listened { result ≡ Collected.Nothing → Rose end.old.noted (counted (listens (in_of (own_logs place.new.me.0) link))) }
     ensures kept { result ≡ Collected.Nothing → parcel.new ≡ parcel.old }
+    // A parcel that is at hand is taken without a step of looking.
+    ensures at_hand { end.old.waiting ≢ 0 → result ≡ Collected.Got }
+    ensures no_looking { end.old.waiting ≢ 0 → own_logs place.new.me.0 ≡ with_in (own_logs place.old.me.0) link (taken_more (in_of (own_logs place.old.me.0) link)) }
+    // Else the doorbell is heard where a hear is due, and the link is looked in where it is then marked.
+    ensures heard { end.old.waiting ≡ 0 → (m : ℕ) → m < links top.now.key.dims → reader_at top.now.key.dims m ≡ place.old.me.0.pick → hop_at top.now.key.dims m ≡ hop_at top.now.key.dims link → m ≢ link
+        → HeardWhere (is_due end.old.noted (in_of (own_logs place.old.me.0) link)) (in_of (own_logs place.old.me.0) m) (in_of (own_logs place.new.me.0) m) }
+    ensures looked { end.old.waiting ≡ 0 → LookedFor end.old.noted (in_of (own_logs place.old.me.0) link) (in_of (own_logs place.new.me.0) link) }
+    // On a link from the rank to itself, what it saw is the front of what it posted.
+    ensures own { result ≡ Collected.Got → sender_at top.now.key.dims link ≡ place.old.me.0.pick → Begins (in_of (own_logs place.new.me.0) link).seen (out_of (own_logs place.new.me.0) link).sent }
 {
     find_parcel(top, place, end, ear, wire, link);
     if end.waiting == 0 {

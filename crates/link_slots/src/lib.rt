@@ -9,6 +9,7 @@
 //! |---|---|
 //! | `SlotBank::new` | a bank on which nothing was sent, and its gathering seat |
 //! | `SlotBank::seat` | the seat of a rank, which may go to the rank's thread |
+//! | `SlotSeat::post`, `SlotSeat::collect` | those of a port; their contracts tell too which steps on doorbells they make |
 //! | `SlotBank::port`, `SlotPort::into_seat` | the rank's port, by the trait of port_bank, and its seat back |
 //! | `SlotBank::gather` | the gathering seat knows what the rank sent and got |
 //! | `SlotBank::close` | a closed round, on which what each rank pulled is what the others pushed |
@@ -39,4 +40,8 @@ pub use seat::SlotSeat;
 pub use slot_bank::SlotBank;
 
 #[cfg(test)]
+mod doorbell_tests;
+#[cfg(test)]
 mod tests;
+#[cfg(test)]
+mod thread_tests;

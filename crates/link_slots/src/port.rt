@@ -81,18 +81,10 @@ impl<'a, const CAP: usize> Port<CAP> for SlotPort<'a, CAP> {
     }
 
     fn post(&mut self, link: u32, p: &mut Parcel<CAP>) -> Result<Posted, NoMemory> {
-        let bank = self.bank;
-        let wire = &bank.wires[link as usize];
-        Ok(
-            self.seat
-                .post(&bank.board.shared, wire, bank.slots, link, p),
-        )
+        Ok(self.seat.post(self.bank, link, p))
     }
 
     fn collect(&mut self, link: u32, p: &mut Parcel<CAP>) -> Collected {
-        let bank = self.bank;
-        let wire = &bank.wires[link as usize];
-        self.seat
-            .collect(&bank.board.shared, wire, bank.slots, link, p)
+        self.seat.collect(self.bank, link, p)
     }
 }

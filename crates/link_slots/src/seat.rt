@@ -4,20 +4,22 @@ ghost use Rattle.item_buffer.specs.Contents.{Contents, shipped, arrived, blank};
 ghost use Rattle.route_tensor.specs.Link.{links};
 ghost use Rattle.route_tensor.specs.Ends.{hop_at, sender_at, reader_at};
 ghost use Rattle.port_bank.specs.Logs.{lasts, added};
+ghost use Rattle.port_bank.specs.Flow.{Begins};
 ghost use Rattle.port_bank.specs.Relay.{RelayLaw};
-ghost use Rattle.link_slots.specs.Logs.{OutLog, out_of, in_of, with_out, got_of};
-ghost use Rattle.link_slots.specs.Shape.{IsBoard, MayFollow};
+ghost use Rattle.link_slots.specs.Logs.{OutLog, out_of, in_of, with_out, with_in, taken_more, got_of};
+ghost use Rattle.link_slots.specs.Shape.{MayFollow};
 ghost use Rattle.bale_types.specs.Stream.{Rose};
 ghost use Rattle.port_bank.specs.Port.{changed};
-ghost use Rattle.link_slots.specs.Counts.{IsWire, ended_after};
+ghost use Rattle.link_slots.specs.Counts.{ended_after};
+ghost use Rattle.link_slots.specs.Doorbell.{is_due, HeardWhere, LookedFor};
 ghost use Rattle.link_slots.specs.Seen.{Manning, posted_on, collected_from, freed, known, listened, noted_at};
 
-use crate::bank::{Place, Top};
+use crate::bank::Place;
 use crate::collect::collect_on;
 use crate::ear::Ear;
 use crate::ends::{InEnd, OutEnd};
 use crate::post::post_on;
-use crate::wire::Wire;
+use crate::slot_bank::SlotBank;
 use item_buffer::Parcel;
 use port_bank::{Collected, Posted};
 use std::marker::Model;
@@ -64,18 +66,9 @@ impl<const CAP: usize> SlotSeat<CAP> {
         self.rank
     }
 
-    /// Posts the parcel on a link of this rank.
-    pub(crate) fn post(
-        &mut self,
-        top: &Top<CAP>,
-        wire: &Wire,
-        slots: u32,
-        link: u32,
-        parcel: &mut Parcel<CAP>,
-    ) -> Posted
-        requires bank { (self.old.id ≡ top.now.table_id) × (self.old.shape ≡ top.now.key) }
-        requires board { IsBoard top.now.key top.now.table_id × (slots ≡ top.now.key.slots) }
-        requires wire { IsWire top.now.key.dims link wire.now.bell wire.now.mask wire.now.hop }
+    /// Posts the parcel on a link of this rank, and rings for it.
+    pub fn post(&mut self, bank: &SlotBank<CAP>, link: u32, parcel: &mut Parcel<CAP>) -> Posted
+        requires bank { (self.old.id ≡ bank.now.id) × (self.old.shape ≡ bank.now.shape) }
         requires link { link < links self.old.shape.dims }
         requires starts_here { sender_at self.old.shape.dims link ≡ self.old.rank }
         requires fresh { parcel.old.taken ≡ 0 }
@@ -97,31 +90,41 @@ impl<const CAP: usize> SlotSeat<CAP> {
         let _fresh = parcel.len();
         let epoch = parcel.epoch();
         let end = &mut self.outs[link as usize];
-        let answer = post_on(top, &mut self.place, end, wire, slots, link, parcel);
+        let wire = &bank.wires[link as usize];
+        let answer = post_on(
+            &bank.board.shared,
+            &mut self.place,
+            end,
+            wire,
+            bank.slots,
+            link,
+            parcel,
+        );
         parcel.set_epoch(epoch);
         answer
     }
 
     /// Collects the next parcel of a link into this rank.
-    pub(crate) fn collect(
+    ///
+    /// Where the rank knows of a parcel, that is all. Else it hears the doorbell of the link's hop where a hear is due, which marks every link
+    /// whose bit it finds; and then it looks in where the link is marked.
+    pub fn collect(
         &mut self,
-        top: &Top<CAP>,
-        wire: &Wire,
-        slots: u32,
+        bank: &SlotBank<CAP>,
         link: u32,
         parcel: &mut Parcel<CAP>,
     ) -> Collected
-        requires bank { (self.old.id ≡ top.now.table_id) × (self.old.shape ≡ top.now.key) }
-        requires board { IsBoard top.now.key top.now.table_id × (slots ≡ top.now.key.slots) }
-        requires wire { IsWire top.now.key.dims link wire.now.bell wire.now.mask wire.now.hop }
+        requires bank { (self.old.id ≡ bank.now.id) × (self.old.shape ≡ bank.now.shape) }
         requires link { link < links self.old.shape.dims }
         requires ends_here { reader_at self.old.shape.dims link ≡ self.old.rank }
         requires empty { parcel.old ≡ blank (lasts (collected_from self.old link)) }
         ensures here { self.new ≡ record self.old { lists = self.new.lists; noted = self.new.noted; ended = self.new.ended } }
+        ensures long { link < length self.old.lists.ins }
         ensures outs { self.new.lists.outs ≡ self.old.lists.outs }
         ensures got { result ≡ Collected.Got → collected_from self.new ≡ added (collected_from self.old) link (shipped parcel.new) }
         ensures arrived { result ≡ Collected.Got → MayFollow self.old.shape.dims CAP link (got_of self.old.lists link) parcel.new }
         ensures known { result ≡ Collected.Got → length (collected_from self.old link) < known self.new link }
+        ensures own { result ≡ Collected.Got → sender_at self.old.shape.dims link ≡ self.old.rank → Begins (in_of self.new.lists link).seen (out_of self.new.lists link).sent }
         ensures not_got { result ≡ Collected.Nothing → collected_from self.new ≡ collected_from self.old }
         ensures none_known { result ≡ Collected.Nothing → length (collected_from self.old link) ≡ known self.new link }
         ensures heard { result ≡ Collected.Nothing → Rose (noted_at self.old link) (listened self.new link) }
@@ -130,10 +133,26 @@ impl<const CAP: usize> SlotSeat<CAP> {
         ensures noted { noted_at self.new ≡ changed (noted_at self.old) link (listened self.new link) }
         ensures listens { (l : ℕ) → listened self.old l ≤ listened self.new l }
         ensures known_elsewhere { (l : ℕ) → l ≢ link → known self.new l ≡ known self.old l }
+        ensures at_hand { length (collected_from self.old link) < known self.old link → result ≡ Collected.Got }
+        ensures no_looking { length (collected_from self.old link) < known self.old link → self.new.lists ≡ with_in self.old.lists link (taken_more (in_of self.old.lists link)) }
+        ensures heard_beside { length (collected_from self.old link) ≡ known self.old link → (m : ℕ) → m < links self.old.shape.dims → reader_at self.old.shape.dims m ≡ self.old.rank → hop_at self.old.shape.dims m ≡ hop_at self.old.shape.dims link → m ≢ link
+            → HeardWhere (is_due (noted_at self.old link) (in_of self.old.lists link)) (in_of self.old.lists m) (in_of self.new.lists m) }
+        ensures looked_for { length (collected_from self.old link) ≡ known self.old link → LookedFor (noted_at self.old link) (in_of self.old.lists link) (in_of self.new.lists link) }
+        ensures other_hops { (m : ℕ) → m < links self.old.shape.dims → reader_at self.old.shape.dims m ≡ self.old.rank → hop_at self.old.shape.dims m ≢ hop_at self.old.shape.dims link → in_of self.new.lists m ≡ in_of self.old.lists m }
     {
+        let wire = &bank.wires[link as usize];
         let end = &mut self.ins[link as usize];
         let ear = &mut self.ears[wire.hop];
-        let answer = collect_on(top, &mut self.place, end, ear, wire, slots, link, parcel);
+        let answer = collect_on(
+            &bank.board.shared,
+            &mut self.place,
+            end,
+            ear,
+            wire,
+            bank.slots,
+            link,
+            parcel,
+        );
         note_last(&mut self.ended[link as usize], answer, parcel.last());
         answer
     }

@@ -6,6 +6,7 @@ ghost use Rattle.item_buffer.specs.Contents.{Contents};
 ghost use Rattle.route_tensor.specs.Link.{links};
 ghost use Rattle.route_tensor.specs.Ends.{sender_at, reader_at};
 ghost use Rattle.atomic_table.specs.Table.{rest};
+ghost use Rattle.port_bank.specs.Flow.{Begins};
 ghost use Rattle.link_slots.specs.Logs.{out_of, in_of, with_out, with_in, sent_of, got_of, sent_more, all_offered, taken_more};
 ghost use Rattle.link_slots.specs.View.{own_logs, with_logs};
 ghost use Rattle.link_slots.specs.Wiring.{slot_of, bell_word};
@@ -168,6 +169,7 @@ pub(crate) fn receive<const CAP: usize>(
     ensures seat { IsManned top.now.key place.new.me }
     ensures released { place.new.me.0 ≡ with_logs place.old.me.0 (with_in (own_logs place.old.me.0) link (taken_more (in_of (own_logs place.old.me.0) link))) }
     ensures parcel { get_elem? (in_of (own_logs place.old.me.0) link).seen (in_of (own_logs place.old.me.0) link).taken ≡ some parcel.new }
+    ensures own { sender_at top.now.key.dims link ≡ place.old.me.0.pick → Begins (in_of (own_logs place.old.me.0) link).seen (out_of (own_logs place.old.me.0) link).sent }
 {
     bring_parcel(top, place, link);
     swap(top, place, slot, parcel);

@@ -1,4 +1,4 @@
-//! The slot bank by hand, with ample memory.
+//! The slot bank by hand and the plain bank by the same rows, with ample memory.
 ghost use Rattle.std.specs.Prelude.{◌≡◌, ◌+◌, ◌<◌, ◌≤◌, Some, if◌then◌else◌, OnOk, length};
 ghost use Rattle.item_buffer.specs.Contents.{blank};
 ghost use Rattle.route_tensor.specs.Grid.{IsGrid};
@@ -11,7 +11,7 @@ ghost use Rattle.port_bank.specs.Relay.{RelayLaw};
 use crate::SlotBank;
 use bale_types::{Entry, Item, NoMemory, Tag};
 use item_buffer::Parcel;
-use port_bank::{Collected, Port, Posted};
+use port_bank::{Collected, PlainBank, Port, Posted};
 use route_tensor::Grid;
 use std::alloc::Global;
 use std::test::Fail;
@@ -31,6 +31,8 @@ fn post_item<P: Port<1>>(
     requires law { RelayLaw (P.dims port.old) (P.rank port.old) (P.sent port.old) (P.got port.old) }
     requires out { out.old ≡ blank (lasts (P.sent port.old link)) }
     requires few { out.old.epoch < 1000 }
+    ensures rest { P.rest port.new ≡ P.rest port.old }
+    ensures same_slots { P.slots port.new ≡ P.slots port.old }
     ensures same_dims { P.dims port.new ≡ P.dims port.old }
     ensures same_rank { P.rank port.new ≡ P.rank port.old }
     ensures same_got { P.got port.new ≡ P.got port.old }
@@ -61,6 +63,8 @@ fn collect_item<P: Port<1>>(port: &mut P, link: u32, into: &mut Parcel<1>) -> Op
     requires law { RelayLaw (P.dims port.old) (P.rank port.old) (P.sent port.old) (P.got port.old) }
     requires into { into.old ≡ blank (lasts (P.got port.old link)) }
     requires few { into.old.epoch < 1000 }
+    ensures rest { P.rest port.new ≡ P.rest port.old }
+    ensures same_slots { P.slots port.new ≡ P.slots port.old }
     ensures same_dims { P.dims port.new ≡ P.dims port.old }
     ensures same_rank { P.rank port.new ≡ P.rank port.old }
     ensures same_sent { P.sent port.new ≡ P.sent port.old }
@@ -81,7 +85,7 @@ fn collect_item<P: Port<1>>(port: &mut P, link: u32, into: &mut Parcel<1>) -> Op
     }
 }
 
-fn entry(a: u64) -> Entry
+pub(crate) fn entry(a: u64) -> Entry
     ensures { result.tag ≡ record { d1 = 0; d2 = 0; d3 = 0 } }
 {
     Entry {
@@ -95,34 +99,42 @@ fn entry(a: u64) -> Entry
 }
 
 /// The epoch of a link after a parcel of this epoch.
-fn after(epoch: u64, last: bool) -> u64
+pub(crate) fn after(epoch: u64, last: bool) -> u64
     requires { epoch < 1000 }
     ensures { result ≡ (if last then epoch + 1 else epoch) }
 {
     if last { epoch + 1 } else { epoch }
 }
 
-/// One step of a worked row, with its answer.
+/// A call of a worked row.
 #[derive(Clone, Copy)]
-enum Step {
-    /// Post this item; whether it is sent.
-    Post(u64, bool),
-    /// Post this item in the last parcel of an epoch, which is sent.
+enum Call {
+    Post(u64),
+    /// Post this item in the last parcel of an epoch.
     PostLast(u64),
-    /// Collect; the item that comes.
-    Collect(Option<u64>),
+    Collect,
 }
 
-use Step::{Collect, Post, PostLast};
+/// What a call answers.
+#[derive(Clone, Copy, PartialEq, Eq, Debug)]
+enum Answer {
+    Sent,
+    NoRoom,
+    Got(u64),
+    Nothing,
+}
 
-/// Makes one step on a link from a rank to itself, and answers whether its answer came.
-fn make_step<P: Port<1>>(
+use Answer::{Got, NoRoom, Nothing, Sent};
+use Call::{Collect, Post, PostLast};
+
+/// Makes one call on a link from a rank to itself, whatever the port.
+fn answer_to<P: Port<1>>(
     port: &mut P,
     link: u32,
     out: &mut Parcel<1>,
     into: &mut Parcel<1>,
-    step: Step,
-) -> Result<bool, NoMemory>
+    call: Call,
+) -> Result<Answer, NoMemory>
     requires grid { IsGrid (P.dims port.old) }
     requires link { link < links (P.dims port.old) }
     requires first { hop_at (P.dims port.old) link ≡ 1 }
@@ -133,6 +145,8 @@ fn make_step<P: Port<1>>(
     requires into { into.old ≡ blank (lasts (P.got port.old link)) }
     requires few_out { out.old.epoch < 1000 }
     requires few_into { into.old.epoch < 1000 }
+    ensures rest { P.rest port.new ≡ P.rest port.old }
+    ensures same_slots { P.slots port.new ≡ P.slots port.old }
     ensures same_dims { P.dims port.new ≡ P.dims port.old }
     ensures same_rank { P.rank port.new ≡ P.rank port.old }
     ensures law { RelayLaw (P.dims port.new) (P.rank port.new) (P.sent port.new) (P.got port.new) }
@@ -141,35 +155,80 @@ fn make_step<P: Port<1>>(
     ensures few_out { OnOk result (out.new.epoch ≤ out.old.epoch + 1) }
     ensures few_into { OnOk result (into.new.epoch ≤ into.old.epoch + 1) }
 {
-    match step {
-        Post(a, sent) => Ok(post_item(port, link, out, a, false)? == sent),
-        PostLast(a) => post_item(port, link, out, a, true),
-        Collect(item) => Ok(collect_item(port, link, into) == item),
+    match call {
+        Post(a) => Ok(posted(post_item(port, link, out, a, false)?)),
+        PostLast(a) => Ok(posted(post_item(port, link, out, a, true)?)),
+        Collect => Ok(collected(collect_item(port, link, into))),
     }
 }
 
-/// Makes the steps on the one link of one rank's bank, and answers whether all answers came.
-fn makes_steps(alloc: Global, slots: u32, steps: &[Step]) -> Result<bool, NoMemory>
+fn posted(sent: bool) -> Answer {
+    if sent { Sent } else { NoRoom }
+}
+
+fn collected(item: Option<u64>) -> Answer {
+    match item {
+        Some(a) => Got(a),
+        None => Nothing,
+    }
+}
+
+/// What a new port answers to the calls of a row, whichever bank it is of.
+fn answers_to<P: Port<1>>(
+    alloc: Global,
+    port: &mut P,
+    link: u32,
+    calls: &[Call],
+) -> Result<Vec<Answer>, NoMemory>
+    requires grid { IsGrid (P.dims port.old) }
+    requires link { link < links (P.dims port.old) }
+    requires first { hop_at (P.dims port.old) link ≡ 1 }
+    requires sender { sender_at (P.dims port.old) link ≡ P.rank port.old }
+    requires reader { reader_at (P.dims port.old) link ≡ P.rank port.old }
+    requires law { RelayLaw (P.dims port.old) (P.rank port.old) (P.sent port.old) (P.got port.old) }
+    requires none_sent { lasts (P.sent port.old link) ≡ 0 }
+    requires none_got { lasts (P.got port.old link) ≡ 0 }
+    requires few { length calls.now < 1000 }
+    ensures rest { P.rest port.new ≡ P.rest port.old }
+    ensures same_slots { P.slots port.new ≡ P.slots port.old }
+    ensures same_dims { P.dims port.new ≡ P.dims port.old }
+{
+    let mut out = Parcel::new(alloc)?;
+    let mut into = Parcel::new(alloc)?;
+    let mut answers = Vec::with_capacity(alloc, calls.len())?;
+    for call in calls {
+        let answer = answer_to(port, link, &mut out, &mut into, *call)?;
+        if answers.push(answer).is_err() {
+            return Err(NoMemory);
+        }
+    }
+    Ok(answers)
+}
+
+/// What a bank answers to the calls of a row, and how many epochs its links have ended when it is closed.
+type Outcome = (Vec<Answer>, u64);
+
+/// What both banks make of the calls on the one link of one rank: the slot bank, and then the plain bank.
+fn both_make(alloc: Global, slots: u32, calls: &[Call]) -> Result<(Outcome, Outcome), NoMemory>
     requires slots { IsSlots slots }
-    requires few { length steps.now < 1000 }
+    requires few { length calls.now < 1000 }
 {
     let Ok(grid) = Grid::new(&[1]) else {
-        return Ok(false);
+        return Err(NoMemory);
     };
     let (hop, from, to) = grid.ends(0);
     if hop != 1 || from != to {
-        return Ok(false);
+        return Err(NoMemory);
     }
     let (bank, mut gather) = SlotBank::<1>::new(alloc, &grid, slots)?;
-    let mut port = bank.port(bank.seat(&mut gather, from));
-    let mut out = Parcel::new(alloc)?;
-    let mut into = Parcel::new(alloc)?;
-    for step in steps {
-        if !make_step(&mut port, 0, &mut out, &mut into, *step)? {
-            return Ok(false);
-        }
-    }
-    Ok(true)
+    let mut by_slots = bank.port(bank.seat(&mut gather, from));
+    let first = answers_to(alloc, &mut by_slots, 0, calls)?;
+    bank.gather(&mut gather, by_slots.into_seat());
+    let first_epochs = bank.close(gather).epochs();
+    let mut plain = PlainBank::<1>::new(alloc, &grid, slots)?.port(from);
+    let second = answers_to(alloc, &mut plain, 0, calls)?;
+    let second_epochs = plain.into_bank().close().epochs();
+    Ok(((first, first_epochs), (second, second_epochs)))
 }
 
 /// A bank whose one rank does nothing: its seat is given out, gathered, and the bank closed.
@@ -194,38 +253,66 @@ fn opened_and_closed(rt: HostRuntime) -> Result<(), Fail> {
 
 #[test]
 fn slot_bank_by_hand(rt: HostRuntime) -> Result<(), Fail> {
-    let two_slots = [
-        Post(1, true),
-        Post(2, true),
-        Post(3, false),
-        Collect(Some(1)),
-        Post(3, true),
-        Collect(Some(2)),
-        Collect(Some(3)),
-        Collect(None),
+    let calls = [
+        Post(1),
+        Post(2),
+        Post(3),
+        Collect,
+        Post(3),
+        Collect,
+        Collect,
+        Collect,
     ];
-    assert_eq!(rt; makes_steps(rt.alloc(), 2, &two_slots)?, true);
+    let want = [Sent, Sent, NoRoom, Got(1), Sent, Got(2), Got(3), Nothing];
+    let ((by_slots, _), (plain, _)) = both_make(rt.alloc(), 2, &calls)?;
+    assert_eq!(rt; by_slots.as_slice(), want.as_slice());
+    assert_eq!(rt; plain.as_slice(), want.as_slice());
     Ok(())
 }
 
 #[test]
 fn slots_by_hand(rt: HostRuntime) -> Result<(), Fail> {
-    let one_slot = [
-        Post(1, true),
-        Post(2, false),
-        Collect(Some(1)),
-        Post(2, true),
-        Collect(Some(2)),
-        Collect(None),
+    let calls = [Post(1), Post(2), Collect, Post(2), Collect, Collect];
+    let want = [Sent, NoRoom, Got(1), Sent, Got(2), Nothing];
+    let ((by_slots, _), (plain, _)) = both_make(rt.alloc(), 1, &calls)?;
+    assert_eq!(rt; by_slots.as_slice(), want.as_slice());
+    assert_eq!(rt; plain.as_slice(), want.as_slice());
+    let calls = [Post(1), Post(2), Post(3), Post(4), Post(5)];
+    let want = [Sent, Sent, Sent, Sent, NoRoom];
+    let ((by_slots, _), (plain, _)) = both_make(rt.alloc(), 4, &calls)?;
+    assert_eq!(rt; by_slots.as_slice(), want.as_slice());
+    assert_eq!(rt; plain.as_slice(), want.as_slice());
+    Ok(())
+}
+
+#[test]
+fn two_epochs_ended(rt: HostRuntime) -> Result<(), Fail> {
+    let calls = [
+        Post(1),
+        PostLast(2),
+        Collect,
+        PostLast(3),
+        Collect,
+        Post(4),
+        Collect,
+        Collect,
+        Collect,
     ];
-    assert_eq!(rt; makes_steps(rt.alloc(), 1, &one_slot)?, true);
-    let four_slots = [
-        Post(1, true),
-        Post(2, true),
-        Post(3, true),
-        Post(4, true),
-        Post(5, false),
+    let want = [
+        Sent,
+        Sent,
+        Got(1),
+        Sent,
+        Got(2),
+        Sent,
+        Got(3),
+        Got(4),
+        Nothing,
     ];
-    assert_eq!(rt; makes_steps(rt.alloc(), 4, &four_slots)?, true);
+    let ((by_slots, slot_epochs), (plain, plain_epochs)) = both_make(rt.alloc(), 2, &calls)?;
+    assert_eq!(rt; by_slots.as_slice(), want.as_slice());
+    assert_eq!(rt; plain.as_slice(), want.as_slice());
+    assert_eq!(rt; slot_epochs, 2);
+    assert_eq!(rt; plain_epochs, 2);
     Ok(())
 }

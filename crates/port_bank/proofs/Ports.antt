@@ -7,6 +7,8 @@ use Rattle.item_buffer.specs.Contents.{Shipped}
 use Rattle.list_laws.proofs.Lists.{set_same}
 use Rattle.route_tensor.specs.Grid.{IsGrid}
 use Rattle.route_tensor.specs.Ends.{sender_at, reader_at}
+use Rattle.route_tensor.specs.Link.{links}
+use Rattle.port_bank.specs.Flow.{Begins}
 use Rattle.port_bank.specs.Logs.{Logs, added, starting_at, ending_at, starting_elsewhere, ending_elsewhere}
 use Rattle.port_bank.specs.Relay.{RelayLaw}
 use Rattle.port_bank.specs.Port.{Rest, changed}
@@ -14,7 +16,7 @@ use Rattle.port_bank.specs.declared.port.Posted.{Posted}
 use Rattle.port_bank.specs.declared.port.Posted.TheVariants.{Sent, NoRoom}
 use Rattle.port_bank.specs.declared.port.Collected.{Collected}
 use Rattle.port_bank.specs.declared.port.Collected.TheVariants.{Got, Nothing}
-use Rattle.port_bank.specs.Plain.{Bank, Channel, unused, posted, refused, listened, collected, channel_at, with_channel, sent_of, got_of, others_of, crowded_of, idle_of}
+use Rattle.port_bank.specs.Plain.{Bank, IsBank, Channel, unused, posted, refused, listened, collected, channel_at, with_channel, sent_of, got_of, others_of, crowded_of, idle_of}
 use Rattle.port_bank.proofs.Channels.{channel-here, channel-other, read_changed}
 use Rattle.port_bank.proofs.Kept.{law_own}
 use Rattle.port_bank.proofs.Owners.{starting_own, ending_own, sent_rejoined, got_rejoined, sent_more_rejoined, got_more_rejoined}
@@ -62,6 +64,13 @@ pub idle_here : (r : ℕ) (b b' : Bank) (l : ℕ) → Turn b l b' → idle_of r 
 idle_here r b b' l t =
     subst (λ x. idle_of r x ≡ changed (idle_of r b) l (idle_of r x l)) (sym t.is)
     (read_here b l t.channel t.within (λ m c. length (cond (reader_at b.dims m == r) c.got []) == length c.sent))
+
+-- on a link from a rank to itself, what the rank collected is the front of what it posted
+pub begins_own : (most r l : ℕ) (b : Bank) → IsBank most b → l < links b.dims → sender_at b.dims l ≡ r → reader_at b.dims l ≡ r
+    → Begins (ending_at b.dims r (got_of b) l) (starting_at b.dims r (sent_of b) l)
+begins_own most r l b is below from to =
+    subst (λ got. Begins got (starting_at b.dims r (sent_of b) l)) (sym (ending_own b.dims r (got_of b) l to))
+    (subst (λ sent. Begins (got_of b l) sent) (sym (starting_own b.dims r (sent_of b) l from)) (is.each_link l below).begins)
 
 -- a count that rises on one link falls nowhere
 pub none_falls : (f : Channel → ℕ) (b b' : Bank) (l : ℕ) → Turn b l b' → f (channel_at b l) ≤ f (channel_at b' l) → (m : ℕ) → f (channel_at b m) ≤ f (channel_at b' m)

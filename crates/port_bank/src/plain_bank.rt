@@ -123,6 +123,7 @@ impl<const CAP: usize> PlainBank<CAP> {
         ensures nothing { result ≡ Collected.Nothing → self.new ≡ with_channel self.old link (listened (channel_at self.old link)) }
         ensures all { result ≡ Collected.Nothing → length (got_of self.old link) ≡ length (sent_of self.old link) }
         ensures kept { result ≡ Collected.Nothing → p.new ≡ p.old }
+        ensures lawful { IsBank CAP self.new }
         ensures heard { Rose (channel_at self.old link).noted (channel_at self.new link).listens }
         ensures listens { (channel_at self.old link).listens ≤ (channel_at self.new link).listens }
         ensures looks { (channel_at self.old link).looks_in ≤ (channel_at self.new link).looks_in }

@@ -7,6 +7,7 @@ ghost use Rattle.route_tensor.specs.Link.{links};
 ghost use Rattle.route_tensor.specs.Tag.{IsFair};
 ghost use Rattle.route_tensor.specs.Ends.{hop_at, sender_at, reader_at};
 ghost use Rattle.port_bank.specs.Logs.{Logs, lasts, added};
+ghost use Rattle.port_bank.specs.Flow.{Begins};
 ghost use Rattle.port_bank.specs.Relay.{RelayLaw};
 ghost use Rattle.port_bank.specs.Port.{Rest, changed};
 
@@ -140,6 +141,9 @@ pub trait Port<const CAP: usize>: Drop {
         ensures fits { result ≡ Collected.Got → length p.new.untaken ≤ CAP }
         ensures fair { result ≡ Collected.Got → All (λ e. IsFair (dims self.old) (hop_at (dims self.old) link) e.tag) p.new.untaken }
         ensures known { result ≡ Collected.Got → length (got self.old link) < known self.new link }
+
+        // On a link from the rank to itself: what was collected is the front of what was posted.
+        ensures own { result ≡ Collected.Got → sender_at (dims self.old) link ≡ rank self.old → Begins (got self.new link) (sent self.new link) }
 
         // Nothing: the port listened since its latest collect on the link, and has collected all that it heard of.
         ensures heard { result ≡ Collected.Nothing → Rose (noted self.old link) (listens self.new link) }

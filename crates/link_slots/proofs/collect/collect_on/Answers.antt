@@ -1,14 +1,17 @@
+use Rattle.port_bank.specs.Flow.{Begins}
 use Rattle.std.proofs.Common.{arith, ◌≡◌, ◌+◌, ◌-◌, ◌<◌, ◌%◌, ◌^◌, ℕ, suc, refl, sym, ap, subst, ◌∙◌, length, min}
 use Rattle.item_buffer.specs.Contents.{Contents}
 use Rattle.route_tensor.specs.Ends.{hop_at}
-use Rattle.link_slots.specs.Logs.{InLog, Logs, in_of, with_in, taken_more}
+use Rattle.link_slots.specs.Logs.{InLog, Logs, out_of, in_of, with_in, taken_more}
 use Rattle.link_slots.specs.View.{own_logs, with_logs, Speaks}
 use Rattle.link_slots.specs.Shape.{Shape}
 use Rattle.link_slots.specs.Told.{Knowing}
 use Rattle.link_slots.specs.Counts.{IsInEnd, IsHeard, ElseKept, counted}
-use Rattle.link_slots.proofs.Moves.{own_with, in_here, in_same}
+use Rattle.link_slots.specs.Doorbell.{is_due, HeardWhere}
+use Rattle.link_slots.proofs.Moves.{own_with, in_here, in_there, in_same}
 use Rattle.link_slots.proofs.Manning.{with_twice}
 use Rattle.link_slots.proofs.Counting.{end_taken}
+use Rattle.link_slots.proofs.Due.{looked_then_taken}
 use Rattle.link_slots.proofs.Hearing.{else_kept, in_elsewhere, good_same, heard_same}
 use Rattle.link_slots.proofs.collect.collect_on.Goals as goal
 
@@ -65,3 +68,28 @@ returns-clause-others g c =
     let o = own v2 v3 l c.receive.ensures.released f.seat.speaks in
     else_kept key v.pick l (own_logs v) (own_logs v2) (own_logs v3) f.others
     (subst (ElseKept key v.pick l (own_logs v2)) (sym o) (in_elsewhere key c.requires.table.1.shape v.pick l c.requires.link.0 c.requires.link.1 (own_logs v2) (f.others.long ∙ c.requires.long) (taken_more (in_of (own_logs v2) l))))
+
+pub returns-clause-own : goal.returns-clause-own
+returns-clause-own g c _ from =
+    let f = c.find_parcel.ensures in let v2 : Knowing = c.find_parcel.new.place.me.0 in let v3 : Knowing = c.receive.new.place.me.0 in let l : ℕ = c.args.link in
+    let o = own v2 v3 l c.receive.ensures.released f.seat.speaks in
+    let a = at v2 v3 l c.receive.ensures.released f.seat.speaks (let w = f.others.long in let u = c.requires.long in let h = c.requires.link.0 in omega arith) in
+    let p : v2.pick ≡ c.args.place.now.me.0.pick = ap (λ (z : Knowing). z.pick) f.here in
+    subst (λ (z : InLog Contents × Logs Contents). Begins z.0.seen (out_of z.1 l).sent) (λ k. (sym a k, sym o k)) (c.receive.ensures.own (from ∙ sym p))
+
+pub returns-clause-no_looking : goal.returns-clause-no_looking
+returns-clause-no_looking g c some =
+    let v2 : Knowing = c.find_parcel.new.place.me.0 in let v3 : Knowing = c.receive.new.place.me.0 in let l : ℕ = c.args.link in
+    own v2 v3 l c.receive.ensures.released c.find_parcel.ensures.seat.speaks ∙ ap (λ (z : Knowing). with_in (own_logs z) l (taken_more (in_of (own_logs z) l))) (c.find_parcel.ensures.at_hand some)
+
+pub returns-clause-heard : goal.returns-clause-heard
+returns-clause-heard g c none m inside mine hop ne =
+    let v : Knowing = c.args.place.now.me.0 in let v2 : Knowing = c.find_parcel.new.place.me.0 in let v3 : Knowing = c.receive.new.place.me.0 in let l : ℕ = c.args.link in
+    let same : in_of (own_logs v3) m ≡ in_of (own_logs v2) m = ap (λ (z : Logs Contents). in_of z m) (own v2 v3 l c.receive.ensures.released c.find_parcel.ensures.seat.speaks) ∙ in_there (own_logs v2) l (taken_more (in_of (own_logs v2) l)) m ne in
+    subst (HeardWhere (is_due c.args.end.now.noted (in_of (own_logs v) l)) (in_of (own_logs v) m)) (sym same) (c.find_parcel.ensures.heard none m inside mine hop ne)
+
+pub returns-clause-looked : goal.returns-clause-looked
+returns-clause-looked g c none =
+    let f = c.find_parcel.ensures in let v : Knowing = c.args.place.now.me.0 in let v2 : Knowing = c.find_parcel.new.place.me.0 in let v3 : Knowing = c.receive.new.place.me.0 in let l : ℕ = c.args.link in
+    looked_then_taken c.args.end.now.noted (in_of (own_logs v) l) (in_of (own_logs v2) l) (in_of (own_logs v3) l)
+    (at v2 v3 l c.receive.ensures.released f.seat.speaks (let w = f.others.long in let u = c.requires.long in let h = c.requires.link.0 in omega arith)) (f.looked none)

@@ -1,4 +1,4 @@
-use Rattle.std.proofs.Common.{arith, ◌≡◌, ◌<◌, ℕ, suc, refl, sym, ap, subst, ◌∙◌, length, true, false, eq-eqb, eqb-true, inl}
+use Rattle.std.proofs.Common.{arith, ◌≡◌, ◌<◌, ℕ, suc, refl, sym, ap, subst, ◌∙◌, length, true, false, eqb, eq-eqb, inl}
 use Rattle.std.specs.Int.{bit_at}
 use Rattle.std.specs.Int.Bits.{bit_or}
 use Rattle.bale_types.specs.Stream.{Rose}
@@ -11,9 +11,12 @@ use Rattle.link_slots.specs.Plays.{after_hear, heard_by}
 use Rattle.link_slots.specs.Shape.{Shape, IsShape, wiring}
 use Rattle.link_slots.specs.Told.{Knowing}
 use Rattle.link_slots.specs.Counts.{IsHeard, ElseKept, counted}
+use Rattle.link_slots.specs.Doorbell.{is_due}
 use Rattle.link_slots.proofs.Moves.{own_with}
 use Rattle.link_slots.proofs.Counting.{end_kept}
 use Rattle.link_slots.proofs.Hearing.{bit_unset, bit_set, heard_at, heard_elsewhere, heard_marks, rises}
+use Rattle.link_slots.proofs.Due.{due, not_due_marked, not_due_listened, heard_where, heard_nowhere}
+use Rattle.std.proofs.lemmas.Nat.Bits.{bit_at-lt}
 use Rattle.link_slots.proofs.collect.hear_if_due.Goals.{else-ear-wire-eq0-via-then-ear-wire-eq0+else-saturating_add-end, else-ear-wire-eq0-via-else-ear-wire-eq0}
 use Rattle.link_slots.proofs.collect.hear_if_due.Goals as goal
 
@@ -68,12 +71,19 @@ returns-then-saturating_add-end-clause-due g c _ =
     let low = c.requires.end.noted_before in
     subst (λ (z : ℕ). Rose c.args.end.now.noted (counted z)) e (rises c.args.end.now.noted (listens i) low (let t = c.if-saturating_add-end.true in let r = c.saturating_add.ensures in omega arith))
 
-pub returns-then-saturating_add-end-clause-marked : goal.returns-then-saturating_add-end-clause-marked
-returns-then-saturating_add-end-clause-marked g c marked =
-    let b = c.requires.ear.marked c.args.link c.requires.link.0 c.requires.link.1 refl in
-    let one : bit_at c.args.ear.now.marks ((wiring c.args.top.now.key).bit c.args.link) ≡ 1 = eqb-true _ 1 (sym b ∙ marked) in
-    let none = bit_unset c.args.ear.now.marks ((wiring c.args.top.now.key).bit c.args.link) c.args.wire.now.mask c.requires.wire.mask_is c.if-ear-wire-eq0.true in
-    absurd (omega arith)
+pub returns-then-saturating_add-end-clause-heard : goal.returns-then-saturating_add-end-clause-heard
+returns-then-saturating_add-end-clause-heard g c m inside mine hop =
+    let key : Shape = c.args.top.now.key in let l : ℕ = c.args.link in let x : Logs Contents = own_logs c.args.place.now.me.0 in
+    let i : InLog Contents = in_of x l in
+    let none = bit_unset c.args.ear.now.marks ((wiring key).bit l) c.args.wire.now.mask c.requires.wire.mask_is c.if-ear-wire-eq0.true in
+    let unmarked : i.marked ≡ false = c.requires.ear.marked l c.requires.link.0 c.requires.link.1 refl ∙ ap (λ (z : ℕ). eqb z 1) none in
+    let hs : c.args.ear.now.hears ≡ counted i.hears = c.requires.ear.heard l c.requires.link.0 c.requires.link.1 refl in
+    let ks : c.args.end.now.look_ins ≡ counted i.look_ins = c.requires.end.look_ins_is in
+    let o = own c.args.place.now.me.0 c.hear.new.place.me.0 key c.requires.table.1.shape l c.hear.result c.hear.ensures.heard c.requires.seat.speaks c.requires.link.0 c.requires.link.1 c.requires.long in
+    heard_where (in_of x m) (in_of (own_logs c.hear.new.place.me.0) m) (bit_at c.hear.result ((wiring key).bit m)) (is_due c.args.end.now.noted i)
+    (due c.args.end.now.noted i unmarked (let t = c.if-saturating_add-end.true in let r = c.saturating_add.ensures in omega arith))
+    (bit_at-lt c.hear.result ((wiring key).bit m))
+    (ap (λ (z : Logs Contents). in_of z m) o ∙ heard_at key c.requires.table.1.shape c.args.place.now.me.0.pick l c.requires.link.0 c.requires.link.1 x c.requires.long c.hear.result m inside mine hop)
 
 pub returns-else-ear-wire-eq0-clause-due : goal.returns-else-ear-wire-eq0-clause-due
 returns-else-ear-wire-eq0-clause-due g c unmarked =
@@ -88,3 +98,16 @@ returns-else-ear-wire-eq0-clause-due g c unmarked =
           let m : (in_of (own_logs c.args.place.now.me.0) c.args.link).marked ≡ true = b ∙ eq-eqb _ 1 one in
           let no : true ≡ false = sym m ∙ unmarked in absurd cc
     ]
+
+pub returns-else-ear-wire-eq0-clause-heard : goal.returns-else-ear-wire-eq0-clause-heard
+returns-else-ear-wire-eq0-clause-heard g c m inside mine hop =
+    let i : InLog Contents = in_of (own_logs c.args.place.now.me.0) c.args.link in
+    let hs : c.args.ear.now.hears ≡ counted i.hears = c.requires.ear.heard c.args.link c.requires.link.0 c.requires.link.1 refl in
+    let ks : c.args.end.now.look_ins ≡ counted i.look_ins = c.requires.end.look_ins_is in
+    heard_nowhere (in_of (own_logs c.args.place.now.me.0) m) (in_of (own_logs c.args.place.now.me.0) m) (is_due c.args.end.now.noted i)
+    (elim c.else-ear-wire-eq0.branch [
+      | else-ear-wire-eq0-via-then-ear-wire-eq0+else-saturating_add-end w ↦ not_due_listened c.args.end.now.noted i (let t = w.if-saturating_add-end.false in let r = w.saturating_add.ensures in omega arith)
+      | else-ear-wire-eq0-via-else-ear-wire-eq0 w ↦
+          let one = bit_set c.args.ear.now.marks ((wiring c.args.top.now.key).bit c.args.link) c.args.wire.now.mask c.requires.wire.mask_is w.if-ear-wire-eq0.false in
+          not_due_marked c.args.end.now.noted i (c.requires.ear.marked c.args.link c.requires.link.0 c.requires.link.1 refl ∙ eq-eqb _ 1 one)
+    ]) refl

@@ -8,7 +8,8 @@ use Rattle.link_slots.specs.Shape.{Shape, wiring}
 use Rattle.link_slots.specs.Told.{Knowing}
 use Rattle.link_slots.specs.Counts.{IsInEnd, IsHeard, ElseKept, counted}
 use Rattle.link_slots.proofs.Moves.{own_with}
-use Rattle.link_slots.proofs.Manning.{in_after}
+use Rattle.link_slots.proofs.Manning.{in_after, same_in}
+use Rattle.link_slots.proofs.Due.{unmarked_same, marked_once}
 use Rattle.link_slots.proofs.Counting.{end_looked_in}
 use Rattle.link_slots.proofs.Hearing.{bit_unset, bit_set, in_elsewhere, looked_marks}
 use Rattle.link_slots.proofs.collect.look_if_marked.Goals as goal
@@ -49,11 +50,15 @@ returns-then-ear-wire-ne0-clause-others g c =
     let own : own_logs v' ≡ with_in (own_logs v) l i' = ap own_logs f.4 ∙ own_with v (with_in (own_logs v) l i') c.requires.seat.speaks in
     subst (ElseKept key v.pick l (own_logs v)) (sym own) (in_elsewhere key c.requires.table.1.shape v.pick l c.requires.link.0 c.requires.link.1 (own_logs v) c.requires.long i')
 
-pub returns-then-ear-wire-ne0-clause-quiet : goal.returns-then-ear-wire-ne0-clause-quiet
-returns-then-ear-wire-ne0-clause-quiet g c unmarked =
-    let one = bit_set c.args.ear.now.marks ((wiring c.args.top.now.key).bit c.args.link) c.args.wire.now.mask c.requires.wire.mask_is c.if-ear-wire-ne0.true in
-    let m : (in_of (own_logs c.args.place.now.me.0) c.args.link).marked ≡ true = c.requires.ear.marked c.args.link c.requires.link.0 c.requires.link.1 refl ∙ eq-eqb _ 1 one in
-    let no : true ≡ false = sym m ∙ unmarked in absurd cc
+pub returns-then-ear-wire-ne0-clause-looked : goal.returns-then-ear-wire-ne0-clause-looked
+returns-then-ear-wire-ne0-clause-looked g c =
+    let v : Knowing = c.args.place.now.me.0 in let v' : Knowing = c.look_in-found.new.place.me.0 in let l : ℕ = c.args.link in
+    let i : InLog Contents = in_of (own_logs v) l in
+    let i' : InLog Contents = record { seen = (in_of (own_logs v') l).seen; taken = i.taken; marked = false; hears = i.hears; heard = i.heard; look_ins = suc i.look_ins } in
+    let one = bit_set c.args.ear.now.marks ((wiring c.args.top.now.key).bit l) c.args.wire.now.mask c.requires.wire.mask_is c.if-ear-wire-ne0.true in
+    let marked : i.marked ≡ true = c.requires.ear.marked l c.requires.link.0 c.requires.link.1 refl ∙ eq-eqb _ 1 one in
+    ap own_logs c.look_in-found.ensures.found.4 ∙ own_with v (with_in (own_logs v) l i') c.requires.seat.speaks
+    ∙ ap (with_in (own_logs v) l) (sym (marked_once (in_of (own_logs v') l).seen i marked))
 
 pub returns-else-ear-wire-ne0-clause-unmarked : goal.returns-else-ear-wire-ne0-clause-unmarked
 returns-else-ear-wire-ne0-clause-unmarked g c =
@@ -61,7 +66,8 @@ returns-else-ear-wire-ne0-clause-unmarked g c =
     c.requires.ear.marked c.args.link c.requires.link.0 c.requires.link.1 refl ∙ ap (λ (z : ℕ). eqb z 1) none
 
 pub returns-else-ear-wire-ne0-clause-looked : goal.returns-else-ear-wire-ne0-clause-looked
-returns-else-ear-wire-ne0-clause-looked g c marked =
-    let none = bit_unset c.args.ear.now.marks ((wiring c.args.top.now.key).bit c.args.link) c.args.wire.now.mask c.requires.wire.mask_is c.if-ear-wire-ne0.false in
-    let m : (in_of (own_logs c.args.place.now.me.0) c.args.link).marked ≡ false = c.requires.ear.marked c.args.link c.requires.link.0 c.requires.link.1 refl ∙ ap (λ (z : ℕ). eqb z 1) none in
-    let no : true ≡ false = sym marked ∙ m in absurd cc
+returns-else-ear-wire-ne0-clause-looked g c =
+    let x : Logs Contents = own_logs c.args.place.now.me.0 in let l : ℕ = c.args.link in
+    let none = bit_unset c.args.ear.now.marks ((wiring c.args.top.now.key).bit l) c.args.wire.now.mask c.requires.wire.mask_is c.if-ear-wire-ne0.false in
+    let unmarked : (in_of x l).marked ≡ false = c.requires.ear.marked l c.requires.link.0 c.requires.link.1 refl ∙ ap (λ (z : ℕ). eqb z 1) none in
+    sym (ap (with_in x l) (unmarked_same (in_of x l) unmarked) ∙ same_in x l)

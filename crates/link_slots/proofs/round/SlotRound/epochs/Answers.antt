@@ -1,4 +1,4 @@
-use Rattle.std.proofs.Common.{arith, ◌≡◌, ◌+◌, ◌<◌, ℕ, suc, List, map, get_or, sym, refl, ap, ◌∙◌, length, Option, None}
+use Rattle.std.proofs.Common.{arith, ◌≡◌, ◌+◌, ℕ, suc, List, map, get_or, sym, ap, ◌∙◌, Option, None}
 use Rattle.item_buffer.specs.Contents.{shipped, Shipped}
 use Rattle.route_tensor.specs.Link.{links}
 use Rattle.route_tensor.specs.Ends.{reader_at}

@@ -1,54 +1,59 @@
-use Rattle.std.proofs.Common.{arith, ◌≡◌, ◌+◌, ◌<◌, ℕ, sym, ap, subst, ◌∙◌, length, map}
+use Rattle.std.proofs.Common.{arith, ◌≡◌, ◌+◌, ◌<◌, ℕ, get_or, sym, ap, subst, ◌∙◌, length, map}
 use Rattle.item_buffer.specs.Contents.{Contents, shipped, blank}
 use Rattle.route_tensor.specs.Link.{links}
-use Rattle.route_tensor.specs.Ends.{hop_at, reader_at}
+use Rattle.route_tensor.specs.Ends.{hop_at, sender_at, reader_at}
 use Rattle.port_bank.specs.Logs.{lasts, added}
 use Rattle.link_slots.specs.declared.ends.InEnd.{InEnd}
 use Rattle.link_slots.specs.declared.ear.Ear.{Ear}
-use Rattle.link_slots.specs.Logs.{Logs, in_of, got_of}
+use Rattle.link_slots.specs.declared.wire.Wire.{Wire}
+use Rattle.std.proofs.lemmas.List.{get_or-map}
+use Rattle.link_slots.specs.Doorbell.{LookedFor}
+use Rattle.link_slots.specs.Logs.{InLog, Logs, in_of, got_of}
 use Rattle.link_slots.specs.View.{own_logs}
 use Rattle.link_slots.specs.Shape.{Shape, MayFollow}
 use Rattle.link_slots.specs.Told.{IsManned}
-use Rattle.link_slots.specs.Counts.{IsInEnd, IsHeard, AreGood, ElseKept, counted}
-use Rattle.link_slots.specs.Seen.{Manning, collected_from, noted_at}
+use Rattle.link_slots.specs.Counts.{IsWire, IsInEnd, IsHeard, AreGood, ElseKept, counted}
+use Rattle.link_slots.specs.Seen.{Bank, Manning, collected_from, known, noted_at}
 use Rattle.port_bank.specs.Port.{changed}
 use Rattle.link_slots.proofs.Wires.{hop_small}
-use Rattle.link_slots.proofs.Seating.{seat_collected, got_one, got_none, collects_added, collects_same, next_good, ended_case, noted_changed}
+use Rattle.link_slots.proofs.Seating.{seat_collected, got_one, got_none, collects_added, collects_same, next_good, ended_case, noted_changed, none_waiting}
 use Rattle.link_slots.proofs.seat.SlotSeat.collect.Goals as goal
 
 pub index_mut-ear-requires : goal.index_mut-ear-requires
 index_mut-ear-requires g c =
-    let h = hop_small c.args.top.now.key c.requires.board.0.shape c.args.link (subst (λ (z : Shape). c.args.link < links z.dims) c.requires.bank.1 c.requires.link) in let w = c.requires.wire.hop_is in let n = c.self.invariant.ears_many in omega arith
+    let wire : Wire = c.index-wire.result.now in let way : IsWire c.bank.inside.board.shared.key.dims c.args.link wire.bell wire.mask wire.hop = subst (λ (z : Wire). IsWire c.bank.inside.board.shared.key.dims c.args.link z.bell z.mask z.hop) (sym c.index-wire.ensures) (c.bank.invariant.each c.args.link wire (subst (λ (z : Shape). c.args.link < links z.dims) (c.requires.bank.1 ∙ sym (ap (λ (z : Bank). z.shape) c.bank.view_is)) c.requires.link)) in
+    let h = hop_small c.bank.inside.board.shared.key c.bank.invariant.board.shape c.args.link (subst (λ (z : Shape). c.args.link < links z.dims) (c.requires.bank.1 ∙ sym (ap (λ (z : Bank). z.shape) c.bank.view_is)) c.requires.link) in let w = way.hop_is in let n = c.self.invariant.ears_many in omega arith
 
 pub collect_on-answer-requires : goal.collect_on-answer-requires
 collect_on-answer-requires g c =
-    let s = c.self.invariant in let v = c.self.inside.place.me.0 in let key : Shape = c.args.top.now.key in let l : ℕ = c.args.link in
-    let e : v.shape ≡ key = ap (λ (z : Manning). z.shape) c.self.view_is ∙ c.requires.bank.1 in
+    let wire : Wire = c.index-wire.result.now in let way : IsWire c.bank.inside.board.shared.key.dims c.args.link wire.bell wire.mask wire.hop = subst (λ (z : Wire). IsWire c.bank.inside.board.shared.key.dims c.args.link z.bell z.mask z.hop) (sym c.index-wire.ensures) (c.bank.invariant.each c.args.link wire (subst (λ (z : Shape). c.args.link < links z.dims) (c.requires.bank.1 ∙ sym (ap (λ (z : Bank). z.shape) c.bank.view_is)) c.requires.link)) in
+    let s = c.self.invariant in let v = c.self.inside.place.me.0 in let key : Shape = c.bank.inside.board.shared.key in let l : ℕ = c.args.link in
+    let e : v.shape ≡ key = ap (λ (z : Manning). z.shape) c.self.view_is ∙ (c.requires.bank.1 ∙ sym (ap (λ (z : Bank). z.shape) c.bank.view_is)) in
     let inside : l < links v.shape.dims = subst (λ (z : Manning). l < links z.shape.dims) (sym c.self.view_is) c.requires.link in
     let mine : reader_at v.shape.dims l ≡ c.self.inside.rank = subst (λ (z : Manning). reader_at z.shape.dims l ≡ z.rank) (sym c.self.view_is) c.requires.ends_here in
     let end : InEnd = c.index_mut-end.result.now in
     let counts : IsInEnd v.shape.slots (in_of (own_logs v) l) end.taken end.place end.waiting end.look_ins end.noted =
     subst (λ (z : InEnd). IsInEnd v.shape.slots (in_of (own_logs v) l) z.taken z.place z.waiting z.look_ins z.noted) (sym c.index_mut-end.ensures.value) (s.each_in l end inside mine) in
     let ear : Ear = c.index_mut-ear.result.now in
-    let heard : IsHeard v.shape c.self.inside.rank (c.args.wire.now.hop + 1) (own_logs v) ear.marks ear.hears = subst (λ (z : Ear). IsHeard v.shape c.self.inside.rank (c.args.wire.now.hop + 1) (own_logs v) z.marks z.hears) (sym c.index_mut-ear.ensures.value) (s.each_ear c.args.wire.now.hop ear (let low = hop_small key c.requires.board.0.shape l (subst (λ (z : Shape). l < links z.dims) e inside) in let hop = c.requires.wire.hop_is in omega arith)) in
-    let low = hop_small key c.requires.board.0.shape l (subst (λ (z : Shape). l < links z.dims) e inside) in let hop = c.requires.wire.hop_is in (
+    let heard : IsHeard v.shape c.self.inside.rank (c.index-wire.result.now.hop + 1) (own_logs v) ear.marks ear.hears = subst (λ (z : Ear). IsHeard v.shape c.self.inside.rank (c.index-wire.result.now.hop + 1) (own_logs v) z.marks z.hears) (sym c.index_mut-ear.ensures.value) (s.each_ear c.index-wire.result.now.hop ear (let low = hop_small key c.bank.invariant.board.shape l (subst (λ (z : Shape). l < links z.dims) e inside) in let hop = way.hop_is in omega arith)) in
+    let low = hop_small key c.bank.invariant.board.shape l (subst (λ (z : Shape). l < links z.dims) e inside) in let hop = way.hop_is in (
       omega arith,
       (
         omega arith,
         (
-          (ap (λ (z : Manning). z.id) c.self.view_is ∙ c.requires.bank.0, c.requires.board.0),
+          (ap (λ (z : Manning). z.id) c.self.view_is ∙ (c.requires.bank.0 ∙ sym (ap (λ (z : Bank). z.id) c.bank.view_is)), c.bank.invariant.board),
           (
             subst (λ (z : Shape). IsManned z c.self.inside.place.me) e s.manned,
             (
               subst (λ (z : Shape). (l < links z.dims) × (reader_at z.dims l ≡ v.pick)) e (inside, mine ∙ sym s.rank_is),
               (
-                c.requires.board.1,
+                c.bank.invariant.slots_is,
                 (
                   subst (λ (z : Shape). length (own_logs v).ins ≡ links z.dims) e s.lists_in,
                   (
                     subst (λ (z : Shape). IsInEnd z.slots (in_of (own_logs v) l) end.taken end.place end.waiting end.look_ins end.noted) e counts,
                     (
-                      c.requires.wire,
+                      way,
                       (
                         subst (λ (z : Shape × ℕ × ℕ). IsHeard z.0 z.1 z.2 (own_logs v) ear.marks ear.hears) (λ k. (e k, sym s.rank_is k, sym hop k)) heard,
                         (
@@ -69,11 +74,11 @@ collect_on-answer-requires g c =
 pub returns-clause-got : goal.returns-clause-got
 returns-clause-got g c got =
     let v = c.self.inside.place.me.0 in let l : ℕ = c.args.link in let f = c.collect_on-answer.ensures in
-    let e : v.shape ≡ c.args.top.now.key = ap (λ (z : Manning). z.shape) c.self.view_is ∙ c.requires.bank.1 in
+    let e : v.shape ≡ c.bank.inside.board.shared.key = ap (λ (z : Manning). z.shape) c.self.view_is ∙ (c.requires.bank.1 ∙ sym (ap (λ (z : Bank). z.shape) c.bank.view_is)) in
     let inside : l < links v.shape.dims = subst (λ (z : Manning). l < links z.shape.dims) (sym c.self.view_is) c.requires.link in
     let mine : reader_at v.shape.dims l ≡ c.self.inside.rank = subst (λ (z : Manning). reader_at z.shape.dims l ≡ z.rank) (sym c.self.view_is) c.requires.ends_here in
     let w = (c.self.invariant.each_in l c.index_mut-end.result.now inside mine).waiting_is in
-    collects_added c.args.top.now.key v.pick l (own_logs v) (own_logs c.collect_on-answer.new.place.me.0) f.others (omega arith) f.seen c.collect_on-answer.new.parcel (f.taken got) (f.parcel got)
+    collects_added c.bank.inside.board.shared.key v.pick l (own_logs v) (own_logs c.collect_on-answer.new.place.me.0) f.others (omega arith) f.seen c.collect_on-answer.new.parcel (f.taken got) (f.parcel got)
     ∙ ap (λ (z : Manning). added (collected_from z) l (shipped c.collect_on-answer.new.parcel)) c.self.view_is
 
 pub returns-clause-not_got : goal.returns-clause-not_got
@@ -82,18 +87,18 @@ returns-clause-not_got g c none =
     let inside : l < links v.shape.dims = subst (λ (z : Manning). l < links z.shape.dims) (sym c.self.view_is) c.requires.link in
     let mine : reader_at v.shape.dims l ≡ c.self.inside.rank = subst (λ (z : Manning). reader_at z.shape.dims l ≡ z.rank) (sym c.self.view_is) c.requires.ends_here in
     let w = (c.self.invariant.each_in l c.index_mut-end.result.now inside mine).waiting_is in
-    collects_same c.args.top.now.key v.pick l (own_logs v) (own_logs c.collect_on-answer.new.place.me.0) f.others (omega arith) f.seen (f.not_taken none) ∙ ap collected_from c.self.view_is
+    collects_same c.bank.inside.board.shared.key v.pick l (own_logs v) (own_logs c.collect_on-answer.new.place.me.0) f.others (omega arith) f.seen (f.not_taken none) ∙ ap collected_from c.self.view_is
 
 pub returns-clause-arrived : goal.returns-clause-arrived
 returns-clause-arrived g c got =
     let v = c.self.inside.place.me.0 in let l : ℕ = c.args.link in let f = c.collect_on-answer.ensures in
-    let e : v.shape ≡ c.args.top.now.key = ap (λ (z : Manning). z.shape) c.self.view_is ∙ c.requires.bank.1 in
+    let e : v.shape ≡ c.bank.inside.board.shared.key = ap (λ (z : Manning). z.shape) c.self.view_is ∙ (c.requires.bank.1 ∙ sym (ap (λ (z : Bank). z.shape) c.bank.view_is)) in
     let inside : l < links v.shape.dims = subst (λ (z : Manning). l < links z.shape.dims) (sym c.self.view_is) c.requires.link in
     let mine : reader_at v.shape.dims l ≡ c.self.inside.rank = subst (λ (z : Manning). reader_at z.shape.dims l ≡ z.rank) (sym c.self.view_is) c.requires.ends_here in
     let w = (c.self.invariant.each_in l c.index_mut-end.result.now inside mine).waiting_is in
     subst (λ (z : Manning). MayFollow z.shape.dims g.row.CAP l (got_of z.lists l) c.collect_on-answer.new.parcel) c.self.view_is
     (subst (λ (z : Shape). MayFollow z.dims g.row.CAP l (got_of (own_logs v) l) c.collect_on-answer.new.parcel) (sym e)
-    (next_good c.args.top.now.key v.pick l (own_logs v) (own_logs c.collect_on-answer.new.place.me.0) f.others (omega arith) f.seen g.row.CAP c.collect_on-answer.new.parcel f.good (f.parcel got)))
+    (next_good c.bank.inside.board.shared.key v.pick l (own_logs v) (own_logs c.collect_on-answer.new.place.me.0) f.others (omega arith) f.seen g.row.CAP c.collect_on-answer.new.parcel f.good (f.parcel got)))
 
 pub returns-clause-noted : goal.returns-clause-noted
 returns-clause-noted g c =
@@ -105,8 +110,9 @@ returns-clause-noted g c =
 
 pub invariant_of-self : goal.invariant_of-self
 invariant_of-self g c =
-    let s = c.self.invariant in let v = c.self.inside.place.me.0 in let key : Shape = c.args.top.now.key in let l : ℕ = c.args.link in let f = c.collect_on-answer.ensures in
-    let e : v.shape ≡ key = ap (λ (z : Manning). z.shape) c.self.view_is ∙ c.requires.bank.1 in
+    let wire : Wire = c.index-wire.result.now in let way : IsWire c.bank.inside.board.shared.key.dims c.args.link wire.bell wire.mask wire.hop = subst (λ (z : Wire). IsWire c.bank.inside.board.shared.key.dims c.args.link z.bell z.mask z.hop) (sym c.index-wire.ensures) (c.bank.invariant.each c.args.link wire (subst (λ (z : Shape). c.args.link < links z.dims) (c.requires.bank.1 ∙ sym (ap (λ (z : Bank). z.shape) c.bank.view_is)) c.requires.link)) in
+    let s = c.self.invariant in let v = c.self.inside.place.me.0 in let key : Shape = c.bank.inside.board.shared.key in let l : ℕ = c.args.link in let f = c.collect_on-answer.ensures in
+    let e : v.shape ≡ key = ap (λ (z : Manning). z.shape) c.self.view_is ∙ (c.requires.bank.1 ∙ sym (ap (λ (z : Bank). z.shape) c.bank.view_is)) in
     let back : key ≡ v.shape = sym e in
     let inside : l < links v.shape.dims = subst (λ (z : Manning). l < links z.shape.dims) (sym c.self.view_is) c.requires.link in
     let mine : reader_at v.shape.dims l ≡ c.self.inside.rank = subst (λ (z : Manning). reader_at z.shape.dims l ≡ z.rank) (sym c.self.view_is) c.requires.ends_here in
@@ -117,9 +123,25 @@ invariant_of-self g c =
     let now : c.note_last.new.ended ≡ counted (lasts (map shipped (got_of x' l))) = c.note_last.ensures ∙ ended_case c.collect_on-answer.result (got_of x l) (got_of x' l) c.collect_on-answer.new.parcel c.last.result n
     (λ got. got_one key v.pick l x x' f.others (omega arith) f.seen c.collect_on-answer.new.parcel (f.taken got) (f.parcel got)) (λ none. got_none key v.pick l x x' f.others (omega arith) f.seen (f.not_taken none)) (sym c.last.ensures) was in
     seat_collected g.row.CAP v.shape c.self.inside.place.me m' c.self.inside.rank l c.self.inside.outs.items c.self.inside.ins.items c.self.inside.ears.items c.self.inside.ended.items s
-    (subst (λ (z : Shape). IsManned z m') back f.seat) inside c.collect_on-answer.new.end c.collect_on-answer.new.ear c.args.wire.now.hop c.note_last.new.ended f.here
+    (subst (λ (z : Shape). IsManned z m') back f.seat) inside c.collect_on-answer.new.end c.collect_on-answer.new.ear c.index-wire.result.now.hop c.note_last.new.ended f.here
     (subst (λ (z : Shape). ElseKept z v.pick l x x') back f.others) mine
     (subst (λ (z : Shape). IsInEnd z.slots (in_of x' l) c.collect_on-answer.new.end.taken c.collect_on-answer.new.end.place c.collect_on-answer.new.end.waiting c.collect_on-answer.new.end.look_ins c.collect_on-answer.new.end.noted) back f.end)
     (subst (λ (z : Shape). IsHeard z v.pick (hop_at z.dims l) x' c.collect_on-answer.new.ear.marks c.collect_on-answer.new.ear.hears) back f.ear)
-    (subst (λ (z : Shape). hop_at z.dims l ≡ c.args.wire.now.hop + 1) back c.requires.wire.hop_is)
+    (subst (λ (z : Shape). hop_at z.dims l ≡ c.index-wire.result.now.hop + 1) back way.hop_is)
     (subst (λ (z : Shape). AreGood g.row.CAP z l (in_of x' l)) back f.good) now
+
+pub returns-clause-own : goal.returns-clause-own
+returns-clause-own g c got from =
+    let e : c.self.inside.place.me.0.shape ≡ c.bank.inside.board.shared.key = ap (λ (z : Manning). z.shape) c.self.view_is ∙ (c.requires.bank.1 ∙ sym (ap (λ (z : Bank). z.shape) c.bank.view_is)) in
+    let mine : sender_at c.self.inside.place.me.0.shape.dims c.args.link ≡ c.self.inside.rank = subst (λ (z : Manning). sender_at z.shape.dims c.args.link ≡ z.rank) (sym c.self.view_is) from in
+    c.collect_on-answer.ensures.own got (subst (λ (z : Shape). sender_at z.dims c.args.link ≡ c.self.inside.place.me.0.pick) e (mine ∙ sym c.self.invariant.rank_is))
+
+pub returns-clause-looked_for : goal.returns-clause-looked_for
+returns-clause-looked_for g c all =
+    let l : ℕ = c.args.link in let v = c.self.inside.place.me.0 in let end : InEnd = c.index_mut-end.result.now in
+    let inside : l < links v.shape.dims = subst (λ (z : Manning). l < links z.shape.dims) (sym c.self.view_is) c.requires.link in
+    let mine : reader_at v.shape.dims l ≡ c.self.inside.rank = subst (λ (z : Manning). reader_at z.shape.dims l ≡ z.rank) (sym c.self.view_is) c.requires.ends_here in
+    let is : end ≡ get_or c.self.inside.ins.items l end = c.index_mut-end.ensures.value in
+    let none : end.waiting ≡ 0 = ap (λ (i : InEnd). i.waiting) is ∙ none_waiting (in_of (own_logs v) l) (get_or c.self.inside.ins.items l end).waiting (c.self.invariant.each_in l end inside mine).waiting_is (subst (λ (z : Manning). length (collected_from z l) ≡ known z l) (sym c.self.view_is) all) in
+    let noted : end.noted ≡ noted_at c.args.self.now l = ap (λ (i : InEnd). i.noted) is ∙ sym (get_or-map (λ (i : InEnd). i.noted) c.self.inside.ins.items l end 0 (let n = c.self.invariant.ins_many in omega arith)) ∙ ap (λ (z : Manning). noted_at z l) c.self.view_is in
+    subst (λ (z : ℕ × InLog Contents). LookedFor z.0 z.1 (in_of (own_logs c.collect_on-answer.new.place.me.0) l)) (λ k. (noted k, (in_of (c.self.view_is k).lists l))) (c.collect_on-answer.ensures.looked none)

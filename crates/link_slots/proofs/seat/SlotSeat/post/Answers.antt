@@ -5,19 +5,21 @@ use Rattle.route_tensor.specs.Ends.{sender_at}
 use Rattle.port_bank.specs.Logs.{lasts, added}
 use Rattle.port_bank.specs.Relay.{RelayLaw}
 use Rattle.link_slots.specs.declared.ends.OutEnd.{OutEnd}
+use Rattle.link_slots.specs.declared.wire.Wire.{Wire}
 use Rattle.link_slots.specs.Logs.{out_of, with_out, sent_of, got_of, sent_more}
 use Rattle.link_slots.specs.View.{own_logs}
 use Rattle.link_slots.specs.Shape.{Shape, MayFollow, KeepsLaw, shipped_all}
 use Rattle.link_slots.specs.Told.{IsManned}
-use Rattle.link_slots.specs.Counts.{IsOutEnd}
-use Rattle.link_slots.specs.Seen.{Manning, posted_on, collected_from}
+use Rattle.link_slots.specs.Counts.{IsWire, IsOutEnd}
+use Rattle.link_slots.specs.Seen.{Bank, Manning, posted_on, collected_from}
 use Rattle.link_slots.proofs.Seating.{law_for, may_follow, seat_posted}
 use Rattle.link_slots.proofs.seat.SlotSeat.post.Goals as goal
 
 pub post_on-answer-requires : goal.post_on-answer-requires
 post_on-answer-requires g c =
-    let s = c.self.invariant in let v = c.self.inside.place.me.0 in let key : Shape = c.args.top.now.key in let l : ℕ = c.args.link in
-    let e : v.shape ≡ key = ap (λ (z : Manning). z.shape) c.self.view_is ∙ c.requires.bank.1 in
+    let wire : Wire = c.index-wire.result.now in let way : IsWire c.bank.inside.board.shared.key.dims c.args.link wire.bell wire.mask wire.hop = subst (λ (z : Wire). IsWire c.bank.inside.board.shared.key.dims c.args.link z.bell z.mask z.hop) (sym c.index-wire.ensures) (c.bank.invariant.each c.args.link wire (subst (λ (z : Shape). c.args.link < links z.dims) (c.requires.bank.1 ∙ sym (ap (λ (z : Bank). z.shape) c.bank.view_is)) c.requires.link)) in
+    let s = c.self.invariant in let v = c.self.inside.place.me.0 in let key : Shape = c.bank.inside.board.shared.key in let l : ℕ = c.args.link in
+    let e : v.shape ≡ key = ap (λ (z : Manning). z.shape) c.self.view_is ∙ (c.requires.bank.1 ∙ sym (ap (λ (z : Bank). z.shape) c.bank.view_is)) in
     let inside : l < links v.shape.dims = subst (λ (z : Manning). l < links z.shape.dims) (sym c.self.view_is) c.requires.link in
     let mine : sender_at v.shape.dims l ≡ c.self.inside.rank = subst (λ (z : Manning). sender_at z.shape.dims l ≡ z.rank) (sym c.self.view_is) c.requires.starts_here in
     let law : RelayLaw v.shape.dims c.self.inside.rank (added (shipped_all (sent_of (own_logs v))) l (shipped c.args.parcel.now)) (shipped_all (got_of (own_logs v))) =
@@ -31,19 +33,19 @@ post_on-answer-requires g c =
       (
         omega arith,
         (
-          (ap (λ (z : Manning). z.id) c.self.view_is ∙ c.requires.bank.0, c.requires.board.0),
+          (ap (λ (z : Manning). z.id) c.self.view_is ∙ (c.requires.bank.0 ∙ sym (ap (λ (z : Bank). z.id) c.bank.view_is)), c.bank.invariant.board),
           (
             subst (λ (z : Shape). IsManned z c.self.inside.place.me) e s.manned,
             (
               subst (λ (z : Shape). (l < links z.dims) × (sender_at z.dims l ≡ v.pick)) e (inside, mine ∙ sym s.rank_is),
               (
-                c.requires.board.1,
+                c.bank.invariant.slots_is,
                 (
                   long,
                   (
                     subst (λ (z : Shape). IsOutEnd z.slots (out_of (own_logs v) l) end.sent end.place end.spare) e counts,
                     (
-                      c.requires.wire,
+                      way,
                       (
                         subst (λ (z : Shape). MayFollow z.dims g.row.CAP l (out_of (own_logs v) l).sent c.args.parcel.now) e
                             (may_follow v.shape.dims g.row.CAP c.self.inside.rank l (own_logs v) c.args.parcel.now inside mine c.requires.fresh c.len-fresh.ensures.fresh c.len-fresh.ensures.within epoch law),
@@ -62,8 +64,8 @@ post_on-answer-requires g c =
 
 pub invariant_of-self : goal.invariant_of-self
 invariant_of-self g c =
-    let s = c.self.invariant in let v = c.self.inside.place.me.0 in let key : Shape = c.args.top.now.key in let l : ℕ = c.args.link in
-    let e : v.shape ≡ key = ap (λ (z : Manning). z.shape) c.self.view_is ∙ c.requires.bank.1 in
+    let s = c.self.invariant in let v = c.self.inside.place.me.0 in let key : Shape = c.bank.inside.board.shared.key in let l : ℕ = c.args.link in
+    let e : v.shape ≡ key = ap (λ (z : Manning). z.shape) c.self.view_is ∙ (c.requires.bank.1 ∙ sym (ap (λ (z : Bank). z.shape) c.bank.view_is)) in
     let inside : l < links v.shape.dims = subst (λ (z : Manning). l < links z.shape.dims) (sym c.self.view_is) c.requires.link in
     let mine : sender_at v.shape.dims l ≡ c.self.inside.rank = subst (λ (z : Manning). sender_at z.shape.dims l ≡ z.rank) (sym c.self.view_is) c.requires.starts_here in
     seat_posted g.row.CAP v.shape c.self.inside.place.me c.post_on-answer.new.place.me c.self.inside.rank l c.self.inside.outs.items c.self.inside.ins.items c.self.inside.ears.items c.self.inside.ended.items s

@@ -51,3 +51,6 @@ returns-clause-some g c = λ is.
     let here = channel_read g.row.CAP b l c.index_mut.result.now c.self.invariant within c.index_mut.ensures.value in
     let next = next_parcel g.row.CAP b l c.index_mut.result.now c.collect.new.p c.self.invariant within here (c.collect.ensures.next is) in
     subst (λ (x : Bank). length (got_of x l) < length (sent_of x l)) c.self.view_is next.some
+
+pub returns-clause-lawful : goal.returns-clause-lawful
+returns-clause-lawful g c = invariant_of-self g c

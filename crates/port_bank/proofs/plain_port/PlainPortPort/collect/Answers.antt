@@ -1,6 +1,9 @@
-use Rattle.std.proofs.Common.{◌<◌, length, arith}
+use Rattle.std.proofs.Common.{◌≡◌, ℕ, List, ◌<◌, length, arith, sym, ap, subst}
 use Rattle.item_buffer.specs.Contents.{shipped}
-use Rattle.port_bank.proofs.Ports.{collect_turn, crowded_here, none_falls}
+use Rattle.route_tensor.specs.Link.{links}
+use Rattle.route_tensor.specs.Ends.{sender_at, reader_at}
+use Rattle.port_bank.specs.Plain.{Bank}
+use Rattle.port_bank.proofs.Ports.{collect_turn, crowded_here, idle_here, begins_own, none_falls}
 use Rattle.port_bank.proofs.plain_port.PlainPortPort.collect.Goals as goal
 
 pub returns-clause-crowded_here : goal.returns-clause-crowded_here
@@ -9,6 +12,23 @@ returns-clause-crowded_here g c =
     let within : c.args.link < length b.channels = omega (arith, c.requires.link, c.collect.ensures.number) in
     crowded_here c.args.self.now.rank b c.collect.new.self c.args.link
     (collect_turn b c.collect.new.self c.args.link c.collect.result (shipped c.collect.new.p) within c.collect.ensures.got c.collect.ensures.nothing)
+
+pub returns-clause-idle_here : goal.returns-clause-idle_here
+returns-clause-idle_here g c =
+    let b = c.args.self.now.bank in
+    let within : c.args.link < length b.channels = omega (arith, c.requires.link, c.collect.ensures.number) in
+    idle_here c.args.self.now.rank b c.collect.new.self c.args.link
+    (collect_turn b c.collect.new.self c.args.link c.collect.result (shipped c.collect.new.p) within c.collect.ensures.got c.collect.ensures.nothing)
+
+pub returns-clause-own : goal.returns-clause-own
+returns-clause-own g c = λ is from.
+    let b = c.args.self.now.bank in
+    let b' = c.collect.new.self in
+    let dims : b'.dims ≡ b.dims = ap (λ (x : Bank). x.dims) (c.collect.ensures.got is) in
+    begins_own g.row.CAP c.args.self.now.rank c.args.link b' c.collect.ensures.lawful
+    (subst (λ (d : List ℕ). c.args.link < links d) (sym dims) c.requires.link)
+    (subst (λ (d : List ℕ). sender_at d c.args.link ≡ c.args.self.now.rank) (sym dims) from)
+    (subst (λ (d : List ℕ). reader_at d c.args.link ≡ c.args.self.now.rank) (sym dims) c.requires.ends_here)
 
 pub returns-clause-listens : goal.returns-clause-listens
 returns-clause-listens g c =

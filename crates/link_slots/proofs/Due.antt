@@ -1,0 +1,142 @@
+-- When a hear is due, and what a collect's hear and look in make of a link.
+use Rattle.std.proofs.Common.{◌≡◌, ◌≢◌, ℕ, zero, suc, ◌+◌, ◌-◌, ◌<◌, ◌≤◌, Bool, true, false, not, ◌&&◌, leb, List, length, sym, refl, ap, ◌∙◌, subst, arith}
+use Rattle.std.proofs.Common.{le-leb, leb-true}
+use Rattle.std.proofs.lemmas.List.{length-map, length-take}
+use mathlib.Core.Logic.{dite}
+use native.Mathlib.Decide.{ℕ_discrete, dec_le}
+use Rattle.item_buffer.specs.Contents.{Contents, shipped}
+use Rattle.link_slots.specs.Logs.{InLog, Logs, in_of, with_in, got, listens, taken_more}
+use Rattle.link_slots.specs.Seen.{Manning, collected_from, known, noted_at}
+use Rattle.link_slots.proofs.Moves.{in_here, in_there}
+use Rattle.link_slots.specs.Link.{one_where}
+use Rattle.link_slots.specs.Plays.{heard_by, marked_by}
+use Rattle.link_slots.specs.Counts.{counted}
+use Rattle.link_slots.specs.Doorbell.{is_due, HeardWhere, looked_where_marked, LookedFor, IsEven}
+
+leb-above : (a b : ℕ) → b < a → leb a b ≡ false
+leb-above a b h = by_case (leb a b) refl
+  where
+    by_case : (t : Bool) → leb a b ≡ t → leb a b ≡ false
+    by_case false e = e
+    by_case true e = absurd (let le = leb-true a b e in omega arith)
+
+and-false : (t : Bool) → (t && false) ≡ false
+and-false true = refl
+and-false false = refl
+
+-- a link that is marked by a hear is one whose bit was found
+marks_one : (b : ℕ) (m : Bool) → b ≤ 1 → m ≡ false → one_where (marked_by b m) ≡ b
+marks_one zero m h e = ap one_where e
+marks_one (suc b) m h e = omega arith
+
+module _ {T : Type 0} where
+  pub due : (noted : ℕ) (i : InLog T) → i.marked ≡ false → counted (listens i) ≤ noted → is_due noted i ≡ true
+  due noted i unmarked low = ap (λ (t : Bool). not t && leb (counted (listens i)) noted) unmarked ∙ le-leb (counted (listens i)) noted low
+
+  pub not_due_marked : (noted : ℕ) (i : InLog T) → i.marked ≡ true → is_due noted i ≡ false
+  not_due_marked noted i marked = ap (λ (t : Bool). not t && leb (counted (listens i)) noted) marked
+
+  pub not_due_listened : (noted : ℕ) (i : InLog T) → noted < counted (listens i) → is_due noted i ≡ false
+  not_due_listened noted i high = ap (λ (t : Bool). not i.marked && t) (leb-above (counted (listens i)) noted high) ∙ and-false (not i.marked)
+
+  -- a hear, in which the bit b was found
+  pub heard_where : (i j : InLog T) (b : ℕ) (d : Bool) → d ≡ true → b < 2 → j ≡ heard_by b i → HeardWhere d i j
+  heard_where i j b d is small e =
+      let h : j.heard ≡ i.heard + b = ap (λ (z : InLog T). z.heard) e in
+      let same : b ≡ j.heard - i.heard = omega arith in
+      let one : j.heard ≤ suc i.heard = omega arith in
+      subst (λ (t : Bool). HeardWhere t i j) (sym is) (e ∙ ap (λ (z : ℕ). heard_by z i) same, one)
+
+  -- no hear
+  pub heard_nowhere : (i j : InLog T) (d : Bool) → d ≡ false → j ≡ i → HeardWhere d i j
+  heard_nowhere i j d is e = subst (λ (t : Bool). HeardWhere t i j) (sym is) e
+
+  due_unmarked : (noted : ℕ) (i : InLog T) → is_due noted i ≡ true → i.marked ≡ false
+  due_unmarked noted i d = by_case i.marked refl
+    where
+      by_case : (t : Bool) → i.marked ≡ t → i.marked ≡ false
+      by_case false e = e
+      by_case true e = absurd (let no : false ≡ true = sym (not_due_marked noted i e) ∙ d in cc)
+
+  -- a hear where it is due, and then a look in where the link is marked
+  pub looked_for : (noted : ℕ) (i j k : InLog T) (seen : List T) → HeardWhere (is_due noted i) i j → k ≡ looked_where_marked seen j → LookedFor noted i k
+  looked_for noted i j k seen h e = by_case (is_due noted i) refl (subst (λ (t : Bool). HeardWhere t i j) refl h)
+    where
+      by_case : (d : Bool) → is_due noted i ≡ d → HeardWhere d i j → LookedFor noted i k
+      by_case true is h =
+          let one : one_where (is_due noted i) ≡ 1 = ap one_where is in
+          let unmarked : i.marked ≡ false = due_unmarked noted i is in
+          let none : one_where i.marked ≡ 0 = ap one_where unmarked in
+          let hears = ap (λ (z : InLog T). z.hears) h.0 in let heard = ap (λ (z : InLog T). z.heard) h.0 in let look_ins = ap (λ (z : InLog T). z.look_ins) h.0 in
+          let marked : one_where j.marked ≡ j.heard - i.heard = ap (λ (z : InLog T). one_where z.marked) h.0 ∙ marks_one (j.heard - i.heard) i.marked (let b = h.1 in omega arith) unmarked in
+          let k_hears = ap (λ (z : InLog T). z.hears) e in let k_heard = ap (λ (z : InLog T). z.heard) e in let k_look_ins = ap (λ (z : InLog T). z.look_ins) e in
+          let b = h.1 in record {
+            hears = omega arith;
+            heard = omega arith;
+            one_bit = omega arith;
+            look_ins = omega arith;
+            unmarked = ap (λ (z : InLog T). z.marked) e;
+          }
+      by_case false is h =
+          let one : one_where (is_due noted i) ≡ 0 = ap one_where is in
+          let hears = ap (λ (z : InLog T). z.hears) h in let heard = ap (λ (z : InLog T). z.heard) h in let look_ins = ap (λ (z : InLog T). z.look_ins) h in
+          let marked : one_where j.marked ≡ one_where i.marked = ap (λ (z : InLog T). one_where z.marked) h in
+          let k_hears = ap (λ (z : InLog T). z.hears) e in let k_heard = ap (λ (z : InLog T). z.heard) e in let k_look_ins = ap (λ (z : InLog T). z.look_ins) e in record {
+            hears = omega arith;
+            heard = omega arith;
+            one_bit = omega arith;
+            look_ins = omega arith;
+            unmarked = ap (λ (z : InLog T). z.marked) e;
+          }
+
+  -- a parcel taken after that
+  pub looked_then_taken : (noted : ℕ) (i j k : InLog T) → k ≡ taken_more j → LookedFor noted i j → LookedFor noted i k
+  looked_then_taken noted i j k e l = subst (LookedFor noted i) (sym e) (record { hears = l.hears; heard = l.heard; one_bit = l.one_bit; look_ins = l.look_ins; unmarked = l.unmarked })
+
+  -- a look in at a link that isn't marked is none
+  pub unmarked_same : (i : InLog T) → i.marked ≡ false → looked_where_marked i.seen i ≡ i
+  unmarked_same i e =
+      let none : one_where i.marked ≡ 0 = ap one_where e in
+      let same : i.look_ins + one_where i.marked ≡ i.look_ins = omega arith in
+      λ k. record { seen = i.seen; taken = i.taken; marked = sym e k; hears = i.hears; heard = i.heard; look_ins = same k }
+
+  pub marked_once : (seen : List T) (i : InLog T) → i.marked ≡ true → looked_where_marked seen i ≡ record { seen = seen; taken = i.taken; marked = false; hears = i.hears; heard = i.heard; look_ins = suc i.look_ins }
+  marked_once seen i e =
+      let one : one_where i.marked ≡ 1 = ap one_where e in
+      let more : i.look_ins + one_where i.marked ≡ suc i.look_ins = omega arith in
+      λ k. record { seen = seen; taken = i.taken; marked = false; hears = i.hears; heard = i.heard; look_ins = more k }
+
+  -- the finds of a link's bit and the looks into it, under what a collect does
+  pub even_looked : (noted : ℕ) (i j : InLog T) → LookedFor noted i j → IsEven i → IsEven j
+  even_looked noted i j l even =
+      let none : one_where j.marked ≡ 0 = ap one_where l.unmarked in
+      let a = l.look_ins in let b = l.heard in omega arith
+
+  pub even_taken : (i j : InLog T) → j ≡ taken_more i → IsEven i → IsEven j
+  even_taken i j e even = subst IsEven (sym e) (let g : i.heard ≡ i.look_ins + one_where i.marked = even in g)
+
+  pub even_heard : (d : Bool) (i j : InLog T) → i.marked ≡ false → HeardWhere d i j → IsEven i → IsEven j
+  even_heard true i j unmarked h even =
+      let none : one_where i.marked ≡ 0 = ap one_where unmarked in
+      let marked : one_where j.marked ≡ j.heard - i.heard = ap (λ (z : InLog T). one_where z.marked) h.0 ∙ marks_one (j.heard - i.heard) i.marked (let b = h.1 in omega arith) unmarked in
+      let look_ins : j.look_ins ≡ i.look_ins = ap (λ (z : InLog T). z.look_ins) h.0 in
+      let heard : j.heard ≡ i.heard + (j.heard - i.heard) = ap (λ (z : InLog T). z.heard) h.0 in
+      omega arith
+  even_heard false i j unmarked h even = subst IsEven (sym h) even
+
+-- the same of a seat, of link m under a collect of link l
+pub even_kept : (s s' : Manning) (l m : ℕ) → l < length s.lists.ins
+    → (length (collected_from s l) < known s l → s'.lists ≡ with_in s.lists l (taken_more (in_of s.lists l)))
+    → (length (collected_from s l) ≡ known s l → LookedFor (noted_at s l) (in_of s.lists l) (in_of s'.lists l))
+    → (length (collected_from s l) ≡ known s l → m ≢ l → HeardWhere (is_due (noted_at s l) (in_of s.lists l)) (in_of s.lists m) (in_of s'.lists m))
+    → (m ≢ l → (in_of s.lists m).marked ≡ false) → IsEven (in_of s.lists m) → IsEven (in_of s'.lists m)
+even_kept s s' l m inside none looked beside unmarked even =
+    let i : InLog Contents = in_of s.lists l in
+    let short : length (collected_from s l) ≤ known s l = (let a = length-map (got i) shipped in let b = length-take i.taken i.seen in omega arith) in
+    dite (dec_le (suc (length (collected_from s l))) (known s l))
+    (λ more. let lists = none more in dite (ℕ_discrete m l)
+    (λ e. even_taken (in_of s.lists m) (in_of s'.lists m) (ap (λ (z : Logs Contents). in_of z m) lists ∙ ap (λ (z : ℕ). in_of (with_in s.lists l (taken_more i)) z) e ∙ in_here s.lists l (taken_more i) inside ∙ ap (λ (z : ℕ). taken_more (in_of s.lists z)) (sym e)) even)
+    (λ ne. subst IsEven (sym (ap (λ (z : Logs Contents). in_of z m) lists ∙ in_there s.lists l (taken_more i) m ne)) even))
+    (λ no_more. let all : length (collected_from s l) ≡ known s l = omega arith in dite (ℕ_discrete m l)
+    (λ e. subst (λ (z : ℕ). IsEven (in_of s'.lists z)) (sym e) (even_looked (noted_at s l) i (in_of s'.lists l) (looked all) (subst (λ (z : ℕ). IsEven (in_of s.lists z)) e even)))
+    (λ ne. even_heard (is_due (noted_at s l) i) (in_of s.lists m) (in_of s'.lists m) (unmarked ne) (beside all ne) even))

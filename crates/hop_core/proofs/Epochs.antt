@@ -1,24 +1,21 @@
-use Rattle.std.proofs.Common.{ℕ, zero, suc, ◌≡◌, ◌≢◌, ◌+◌, ◌-◌, ◌<◌, ◌≤◌, ◌⊎◌, Bool, true, false, ◌&&◌, not, List, [], ◌∷◌, length, get_or, set, map, replicate, sum, min, Option, Some, None, arith, refl, sym, ap, subst, ◌∙◌, inl, inr, cond}
+use Rattle.std.proofs.Common.{ℕ, zero, suc, ◌≡◌, ◌+◌, ◌-◌, ◌<◌, ◌≤◌, Bool, true, false, ◌&&◌, List, length, get_or, map, replicate, sum, min, Option, Some, None, arith, refl, sym, ap, subst, ◌∙◌, inl}
 use Rattle.std.specs.List.{All, list_all}
 use Rattle.std.specs.Option.{IsSome}
-use Rattle.std.proofs.lemmas.Bool.{cases_eq, cond-true, cond-false, false≢true, not_from_true, not_from_false}
-use Rattle.std.proofs.lemmas.List.{length-map, length-replicate, get_or-map, get_or-replicate, get_or-set_same, get_or-set_other, length-set}
+use Rattle.std.proofs.lemmas.Bool.{cond-true, cond-false, false≢true, not_from_true, not_from_false}
+use Rattle.std.proofs.lemmas.List.{length-map, length-replicate, get_or-map, get_or-replicate, get_or-set_other}
 use Rattle.std.proofs.lemmas.List.Elements.{All-cons}
-use Rattle.list_laws.specs.Lists.{EachAt}
 use Rattle.bale_types.specs.declared.item.Entry.{Entry}
-use Rattle.item_buffer.specs.Contents.{Contents, IsFresh, blank}
+use Rattle.item_buffer.specs.Contents.{Contents, blank}
 use Rattle.route_tensor.specs.Grid.{IsGrid, ranks, dim}
 use Rattle.route_tensor.specs.Link.{links_before}
 use Rattle.route_tensor.specs.Neighbour.{hop_to}
 use Rattle.route_tensor.specs.Tag.{IsFair}
 use Rattle.route_tensor.proofs.Neighbours.{hop_to_has, hop_to_is, number_made, number_below}
-use Rattle.hop_core.specs.declared.lent.Lent.{Lent}
 use Rattle.hop_core.specs.declared.lent.Lent.TheVariants as lent
-use Rattle.hop_core.specs.declared.phase.Phase.{Phase}
 use Rattle.hop_core.specs.declared.phase.Phase.TheVariants as phase
 use Rattle.hop_core.specs.Link.{Out, In, no_out, no_in, is_empty, is_finished, with_back}
-use Rattle.hop_core.specs.State.{State, out_at, in_at, at_end, ins_of_hop, all_closed, all_read, phase_of, reopened, resumed}
-use Rattle.hop_core.specs.Standing.{IsOut, IsIn, IsState, IsKept, CanUnpull}
+use Rattle.hop_core.specs.State.{State, at_end, ins_of_hop, all_closed, all_read, phase_of, reopened, resumed}
+use Rattle.hop_core.specs.Standing.{IsOut, IsIn, IsKept, CanUnpull}
 use Rattle.hop_core.proofs.Marks.{at_end-later, at_end_other, hop_unfinished}
 use Rattle.hop_core.proofs.Standing.{in_written, state_in, in_here, none_some, out_not_nothing, in_not_nothing, blank_out, blank_in, some_blank, none_entry}
 

@@ -1,8 +1,8 @@
-use Rattle.std.proofs.Common.{ℕ, zero, suc, ◌≡◌, ◌≢◌, ◌+◌, ◌-◌, ◌<◌, ◌≤◌, Bool, true, false, List, [], ◌∷◌, ◌++◌, length, take, drop, get_or, set, sum, slice_get, Option, Some, None, arith, refl, sym, ap, subst, ◌∙◌, inl, inr}
+use Rattle.std.proofs.Common.{ℕ, ◌≡◌, ◌+◌, ◌<◌, ◌≤◌, false, List, [], ◌∷◌, ◌++◌, length, take, drop, get_or, set, sum, slice_get, None, Option, Some, arith, refl, sym, ap, subst, ◌∙◌, inl, inr}
 use Rattle.std.specs.List.{All}
-use Rattle.std.proofs.lemmas.Bool.{cases_eq, cases_lt, false≢true}
-use Rattle.std.proofs.lemmas.List.{length-set, length-take, length-drop, length_push, take_at, take-take, take_all, drop-drop, get_or-set_same, get_or-set_other, set_past, get_or_past, get_or_default, set-get_or}
-use Rattle.std.proofs.lemmas.List.Elements.{All-push, All-drop, All-get_or}
+use Rattle.std.proofs.lemmas.Bool.{cases_eq, false≢true}
+use Rattle.std.proofs.lemmas.List.{length-set, length-take, length-drop, length_push, take_at, take-take, take_all, drop-drop, get_or-set_same, get_or-set_other, get_or_default, set-get_or}
+use Rattle.std.proofs.lemmas.List.Elements.{All-push, All-drop}
 use Rattle.list_laws.specs.Lists.{EachAt}
 use Rattle.list_laws.proofs.Lists.{each_set}
 use Rattle.bale_types.specs.declared.item.Entry.{Entry}
@@ -11,11 +11,12 @@ use Rattle.bale_types.specs.declared.item.Tag.{Tag}
 use Rattle.route_tensor.specs.declared.routes.Onward.{Onward}
 use Rattle.route_tensor.specs.Link.{links_before}
 use Rattle.route_tensor.specs.Grid.{ranks, IsGrid}
-use Rattle.route_tensor.specs.Neighbour.{hop_to, neighbour}
-use Rattle.route_tensor.specs.Tag.{digit, IsFair, sender_of, destination_of}
+use Rattle.route_tensor.specs.Neighbour.{hop_to}
+use Rattle.route_tensor.specs.Tag.{digit, IsFair}
+use Rattle.route_tensor.specs.Pair.{items_of_pair}
 use Rattle.route_tensor.specs.Routes.{about, passed_on}
-use Rattle.hop_core.specs.Link.{Out, In, no_out, with_entry, with_first_taken}
-use Rattle.hop_core.specs.Relay.{PassesOn, AddsToHop, IsStopped}
+use Rattle.hop_core.specs.Link.{Out, In, no_out, with_entry, with_first_taken, with_back}
+use Rattle.hop_core.specs.Relay.{PassesOn, AddsToHop, IsStopped, way_out}
 use Rattle.hop_core.specs.Standing.{IsOut, IsIn}
 use Rattle.hop_core.proofs.Passing.{moves, one_moves, passes_none, passes_both}
 
@@ -192,3 +193,33 @@ step_stopped dims r cap i outs x out e step w head se eo full = λ y hy.
     let here : length (get_or outs step.out no_out).parcel.untaken ≡ cap = ap (λ z. length z.parcel.untaken) (sym (eo ∙ get_or_default outs step.out out no_out w)) ∙ full in
     subst (λ z. length (get_or outs (links_before dims (hop_to dims i + 1) + digit z.tag (hop_to dims i + 1)) no_out).parcel.untaken ≡ cap) s
     (subst (λ (z : Onward). length (get_or outs z.out no_out).parcel.untaken ≡ cap) se here)
+
+-- a link whose first entry was taken and put back
+pub record PutBack (x x' : In) : Type 0 where
+  pub untaken : x'.parcel.untaken ≡ x.parcel.untaken
+  pub none : x'.parcel.back ≡ None
+
+pub put_back : (x y z : In) (e : Entry) → slice_get x.parcel.untaken 0 ≡ Some e → y ≡ record x { parcel = with_first_taken x.parcel } → z ≡ record y { parcel = with_back y.parcel.back y.parcel } → PutBack x z
+put_back x y z e head took put =
+    let b : y.parcel.back ≡ Some e = ap (λ w. w.parcel.back) took ∙ head in
+    let p : z ≡ record y { parcel = with_back (Some e) y.parcel } = put ∙ ap (λ w. record y { parcel = with_back w y.parcel }) b in
+    record {
+      untaken = ap (λ w. w.parcel.untaken) p ∙ ap (λ w. e ∷ w.parcel.untaken) took ∙ sym (by_head x.parcel.untaken e head);
+      none = ap (λ w. w.parcel.back) p;
+    }
+
+pub in_put_back : (dims : List ℕ) (cap h : ℕ) (x z : In) → IsIn dims cap h x → PutBack x z → IsIn dims cap h z
+in_put_back dims cap h x z k p = record {
+  fits = omega (arith, ap length p.untaken, k.fits);
+  fair = subst (λ es. All (λ y. IsFair dims h y.tag) es) (sym p.untaken) k.fair;
+  back_fair = λ e b. absurd (let q : None ≡ Some e = sym p.none ∙ b in cc);
+}
+
+pub passes_put_back : (dims : List ℕ) (r h i : ℕ) (outs outs' : List Out) (x y z : In) → PassesOn dims r h i outs outs' x y → PutBack y z → PassesOn dims r h i outs outs' x z
+passes_put_back dims r h i outs outs' x y z k p = record {
+  mine = λ s d t w. ap (λ es. items_of_pair dims s d (h + 1) (get_or outs' (way_out dims d (h + 1)) no_out).parcel.untaken ++ items_of_pair dims s d h es) p.untaken ∙ k.mine s d t w;
+  others = k.others;
+}
+
+pub stopped_put_back : (dims : List ℕ) (cap h : ℕ) (outs : List Out) (x z : In) → IsStopped dims cap h outs x → PutBack x z → IsStopped dims cap h outs z
+stopped_put_back dims cap h outs x z k p = λ e head. k e (sym (ap (λ es. slice_get es 0) p.untaken) ∙ head)

@@ -1,12 +1,12 @@
-use Rattle.std.proofs.Common.{ℕ, zero, suc, ◌≡◌, ◌≢◌, ◌+◌, ◌-◌, ◌<◌, ◌≤◌, ◌⊎◌, Bool, true, false, List, length, take, drop, get_or, set, sum, arith, refl, sym, ap, subst, ◌∙◌, inl, inr, cond, eqb}
+use Rattle.std.proofs.Common.{ℕ, zero, suc, ◌≡◌, ◌≢◌, ◌+◌, ◌-◌, ◌<◌, ◌≤◌, ◌⊎◌, Bool, true, false, List, length, take, drop, get_or, set, sum, arith, refl, sym, ap, subst, ◌∙◌, inl, inr}
 use Rattle.std.specs.List.{list_all}
-use Rattle.std.proofs.lemmas.Bool.{cases_lt, cases_eq, cond-true, cond-false, eq-eqb, ne_eqb, false≢true}
+use Rattle.std.proofs.lemmas.Bool.{cases_lt, cases_eq, cond-false, ne_eqb, false≢true}
 use Rattle.std.proofs.lemmas.List.{drop-set-lt, drop-set-add, take-set-le, get_or-take, get_or-drop, length-take, length-drop}
 use Rattle.route_tensor.specs.Grid.{dim}
 use Rattle.route_tensor.specs.Link.{links_before}
 use Rattle.route_tensor.specs.Neighbour.{hop_to}
 use Rattle.route_tensor.proofs.Links.{before_more}
-use Rattle.route_tensor.proofs.Neighbours.{HasNumber, hop_to_has, hop_to_is}
+use Rattle.route_tensor.proofs.Neighbours.{hop_to_has, hop_to_is}
 use Rattle.hop_core.specs.Link.{In, no_in, is_finished}
 use Rattle.hop_core.specs.State.{ins_of_hop, at_end}
 use Rattle.hop_core.proofs.Scans.{one_fails}

@@ -1,11 +1,10 @@
-use Rattle.std.proofs.Common.{ℕ, zero, suc, ◌≡◌, ◌≢◌, ◌+◌, ◌-◌, ◌<◌, ◌≤◌, ◌⊎◌, Bool, true, false, ◌&&◌, List, [], ◌∷◌, ◌++◌, length, map, get_or, set, sum, arith, refl, sym, ap, subst, ◌∙◌, inl, inr, cond, eqb, append_assoc}
+use Rattle.std.proofs.Common.{ℕ, ◌≡◌, ◌≢◌, ◌+◌, ◌-◌, ◌<◌, Bool, false, ◌&&◌, List, [], ◌∷◌, ◌++◌, length, map, get_or, set, sum, arith, refl, sym, ap, subst, ◌∙◌, inl, inr, cond, eqb, append_assoc}
 use Rattle.std.specs.List.{filter}
 use Rattle.std.proofs.lemmas.Bool.{cases_eq, cases_Bool, and_parts, eqb-true, false_from_ne_true, cond-true, cond-false}
 use Rattle.std.proofs.lemmas.List.{map-append, append-nil, get_or-set_same, get_or-set_other}
 use Rattle.std.proofs.lemmas.List.Elements.{filter-append}
 use Rattle.bale_types.specs.declared.item.Entry.{Entry}
 use Rattle.bale_types.specs.declared.item.Item.{Item}
-use Rattle.bale_types.specs.declared.item.Tag.{Tag}
 use Rattle.route_tensor.specs.Grid.{ranks, dim, coord, place, IsGrid}
 use Rattle.route_tensor.specs.Link.{IsLink, IsOnRoute, links_before}
 use Rattle.route_tensor.specs.Neighbour.{hop_to, neighbour}
@@ -14,9 +13,9 @@ use Rattle.route_tensor.specs.Pair.{belongs, items_of_pair}
 use Rattle.route_tensor.specs.Routes.{about, passed_on}
 use Rattle.route_tensor.proofs.Coordinates.{coord-place_low, coord-place_high}
 use Rattle.route_tensor.proofs.Links.{coord_in}
-use Rattle.route_tensor.proofs.Places.{place_link, route_next, route_link}
+use Rattle.route_tensor.proofs.Places.{place_link, route_next}
 use Rattle.route_tensor.proofs.Tags.{digit-tag_at, tag_digit_above, tag_at_fair, sender-tag_at, destination-tag_at, pair_route, pair_tag, next_tag-tag_at}
-use Rattle.route_tensor.proofs.Neighbours.{hop_to_has, hop_to_is, number_made, number_below, from_neighbour, coord-neighbour, neighbour_at, turned}
+use Rattle.route_tensor.proofs.Neighbours.{hop_to_is, number_made, number_below, from_neighbour, coord-neighbour, neighbour_at, turned}
 use Rattle.hop_core.specs.Link.{Out, In, no_out}
 use Rattle.hop_core.specs.Relay.{PassesThrough, way_in, way_out, PassesOn}
 

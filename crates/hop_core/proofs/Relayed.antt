@@ -1,21 +1,20 @@
-use Rattle.std.proofs.Common.{ℕ, zero, suc, ◌≡◌, ◌≢◌, ◌+◌, ◌-◌, ◌*◌, ◌<◌, ◌≤◌, ◌⊎◌, Bool, true, false, ◌&&◌, List, [], ◌∷◌, length, take, drop, get_or, set, sum, sum_by, Option, Some, None, arith, refl, sym, ap, subst, ◌∙◌, inl, inr}
-use Rattle.std.specs.List.{All, list_all}
+use Rattle.std.proofs.Common.{ℕ, zero, suc, ◌≡◌, ◌≢◌, ◌+◌, ◌-◌, ◌*◌, ◌<◌, ◌≤◌, Bool, true, false, List, [], ◌∷◌, length, take, drop, get_or, set, sum, Option, None, arith, refl, sym, ap, subst, ◌∙◌, inl, inr}
+use Rattle.std.specs.List.{list_all}
 use Rattle.std.proofs.lemmas.Bool.{cases_eq, cases_lt, false≢true, false_from_ne_true, and_parts, and_from, eqb-true, eq-eqb}
-use Rattle.std.proofs.lemmas.List.{length-set, length-take, length-drop, take_all, drop_all, get_or-set_same, get_or-set_other, get_or_default, get_or_past, get_or-take, get_or-drop, same_lists, nil_from_length}
+use Rattle.std.proofs.lemmas.List.{length-set, length-take, length-drop, drop_all, get_or-set_same, get_or-set_other, get_or_default, get_or_past, get_or-take, get_or-drop, same_lists, nil_from_length}
 use Rattle.std.proofs.lemmas.List.Sums.{sum_by-cons}
 use Rattle.std.proofs.lemmas.Nat.{mul-le}
 use Rattle.std.proofs.Math.Nat.{suc-mul}
 use Rattle.list_laws.specs.Lists.{EachAt}
-use Rattle.bale_types.specs.declared.item.Entry.{Entry}
 use Rattle.item_buffer.specs.Contents.{Contents}
-use Rattle.route_tensor.specs.Grid.{ranks, dim, IsGrid}
+use Rattle.route_tensor.specs.Grid.{dim}
 use Rattle.route_tensor.specs.Link.{links_before}
 use Rattle.route_tensor.specs.Neighbour.{hop_to}
-use Rattle.route_tensor.proofs.Links.{before_more, sum_take_le}
-use Rattle.route_tensor.proofs.Neighbours.{hop_to_is, hop_to_has, number_below}
+use Rattle.route_tensor.proofs.Links.{before_more}
+use Rattle.route_tensor.proofs.Neighbours.{hop_to_is, hop_to_has}
 use Rattle.hop_core.specs.declared.lent.Lent.TheVariants as lent
 use Rattle.hop_core.specs.Link.{Out, In, no_out, no_in, is_empty, is_finished}
-use Rattle.hop_core.specs.State.{State, out_at, in_at, ins_of_hop, at_end}
+use Rattle.hop_core.specs.State.{State, out_at, ins_of_hop, at_end}
 use Rattle.hop_core.specs.Relay.{AddsToHop, TakesFromHop, IsStopped, waiting}
 use Rattle.hop_core.specs.Standing.{IsOut, IsIn, IsState, IsKept}
 use Rattle.hop_core.proofs.Marks.{at_end-first, at_end-later, zero_stays}

@@ -1,20 +1,16 @@
-use Rattle.std.proofs.Common.{ℕ, zero, suc, ◌≡◌, ◌≢◌, ◌+◌, ◌-◌, ◌<◌, ◌≤◌, ◌⊎◌, Bool, true, false, ◌&&◌, List, [], ◌∷◌, ◌++◌, length, take, drop, get_or, set, sum, sum_by, slice_get, Option, Some, None, arith, refl, sym, ap, subst, ◌∙◌, inl, inr}
-use Rattle.std.specs.List.{All, list_all}
-use Rattle.std.proofs.lemmas.Bool.{cases_eq, cases_lt, false≢true, ne_eqb}
-use Rattle.std.proofs.lemmas.List.{length-set, length-take, length-drop, take_all, drop_all, get_or-set_same, get_or-set_other, get_or_default, get_or_past}
+use Rattle.std.proofs.Common.{ℕ, ◌≡◌, ◌≢◌, ◌+◌, ◌-◌, ◌<◌, ◌≤◌, false, ◌&&◌, List, ◌++◌, length, drop, get_or, set, sum, arith, refl, sym, ap, subst, ◌∙◌, inl, inr}
+use Rattle.std.specs.List.{list_all}
+use Rattle.std.proofs.lemmas.Bool.{cases_eq, cases_lt, ne_eqb}
+use Rattle.std.proofs.lemmas.List.{length-set, length-take, get_or-set_same, get_or-set_other, get_or_default, get_or_past}
 use Rattle.std.proofs.Math.Bool.{and-false}
 use Rattle.std.proofs.lemmas.List.Sums.{sum_by-set, get_or-le-sum_by}
 use Rattle.list_laws.specs.Lists.{EachAt}
 use Rattle.list_laws.proofs.Lists.{each_set}
 use Rattle.bale_types.specs.declared.item.Entry.{Entry}
-use Rattle.route_tensor.specs.Grid.{ranks, dim, IsGrid}
 use Rattle.route_tensor.specs.Link.{links_before}
 use Rattle.route_tensor.specs.Neighbour.{hop_to}
-use Rattle.route_tensor.specs.Tag.{digit}
 use Rattle.route_tensor.specs.Pair.{items_of_pair}
-use Rattle.route_tensor.proofs.Links.{before_more}
-use Rattle.route_tensor.proofs.Neighbours.{hop_to_is, hop_to_has}
-use Rattle.hop_core.specs.Link.{Out, In, no_out, no_in, is_empty, is_finished}
+use Rattle.hop_core.specs.Link.{Out, In, no_out, no_in, is_finished}
 use Rattle.hop_core.specs.State.{ins_of_hop}
 use Rattle.hop_core.specs.Relay.{PassesThrough, way_in, way_out, held_by, PassesOn, AddsToHop, TakesFromHop, IsStopped, waiting}
 use Rattle.hop_core.specs.Standing.{IsOut, IsIn}

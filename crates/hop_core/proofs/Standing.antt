@@ -1,13 +1,12 @@
-use Rattle.std.proofs.Common.{ℕ, zero, suc, ◌≡◌, ◌≢◌, ◌+◌, ◌-◌, ◌<◌, ◌≤◌, ◌⊎◌, Bool, true, false, List, [], length, take, get_or, set, sum, min, slice_get, Option, Some, None, arith, refl, sym, ap, subst, ◌∙◌, inl, inr, eqb, not, ◌&&◌, ◌||◌}
+use Rattle.std.proofs.Common.{ℕ, zero, suc, ◌≡◌, ◌+◌, ◌-◌, ◌<◌, ◌≤◌, ◌⊎◌, Bool, true, false, List, [], length, get_or, set, sum, min, slice_get, Option, Some, None, arith, refl, sym, ap, subst, ◌∙◌, inl, inr, eqb, not, ◌&&◌, ◌||◌}
 use Rattle.std.specs.List.{All, list_all}
 use Rattle.std.specs.Option.{IsSome, is_some}
 use Rattle.std.proofs.lemmas.List.{length-set, get_or-set_same, get_or-set_other, get_or_default, take_all}
 use Rattle.std.proofs.lemmas.Bool.{cases_eq, cases_lt, false≢true, false_from_ne_true, ne_eqb, eq-eqb, not_from_true, or_from, and_right, and_parts, not-true, cases_Bool}
-use Rattle.list_laws.specs.Lists.{EachAt}
-use Rattle.list_laws.proofs.Lists.{each_set, each_weaker}
+use Rattle.list_laws.proofs.Lists.{each_set}
 use Rattle.bale_types.specs.declared.item.Entry.{Entry}
 use Rattle.item_buffer.specs.Contents.{Contents, IsFresh, blank}
-use Rattle.route_tensor.specs.Grid.{IsGrid, ranks, dim, coord}
+use Rattle.route_tensor.specs.Grid.{IsGrid, dim, coord}
 use Rattle.route_tensor.proofs.Links.{before_more, coord_in}
 use Rattle.route_tensor.specs.Link.{links_before}
 use Rattle.route_tensor.specs.Neighbour.{hop_to, out_index, in_index}

@@ -1,4 +1,4 @@
-use Rattle.std.proofs.Common.{ℕ, zero, suc, ◌≡◌, ◌≢◌, ◌+◌, ◌-◌, ◌<◌, ◌≤◌, Bool, true, false, List, [], ◌∷◌, length, take, drop, get_or, set, sum, slice_get, Option, Some, None, arith, refl, sym, ap, subst, ◌∙◌, cond, inl, inr, eqb}
+use Rattle.std.proofs.Common.{ℕ, zero, suc, ◌≡◌, ◌+◌, ◌-◌, ◌<◌, ◌≤◌, Bool, true, false, List, [], ◌∷◌, length, drop, get_or, sum, slice_get, Option, Some, None, arith, refl, sym, ap, subst, ◌∙◌, inl, inr, eqb}
 use Rattle.std.specs.Option.{option_map}
 use Rattle.std.proofs.lemmas.Bool.{cases_lt, cond-true, cond-false, false≢true}
 use Rattle.std.proofs.lemmas.List.{get_or-take, get_or-drop, length-take, length-drop, take_all}
@@ -10,9 +10,8 @@ use Rattle.route_tensor.specs.Link.{links_before}
 use Rattle.route_tensor.specs.Neighbour.{neighbour, hop_to}
 use Rattle.route_tensor.specs.Tag.{sender_of, IsFair}
 use Rattle.route_tensor.proofs.Links.{before_more}
-use Rattle.hop_core.specs.declared.lent.Lent.{Lent}
-use Rattle.hop_core.specs.Link.{Out, In, no_in, is_empty, with_first_taken}
-use Rattle.hop_core.specs.State.{State, in_at, ins_of_hop, lowest, lowest_unread, pull_from, pulled_from, first_item}
+use Rattle.hop_core.specs.Link.{In, no_in, is_empty, with_first_taken}
+use Rattle.hop_core.specs.State.{State, in_at, ins_of_hop, lowest, lowest_unread, pull_from, pulled_from}
 use Rattle.hop_core.specs.Standing.{IsState, IsKept, IsIn}
 use Rattle.hop_core.proofs.Going.{head_fair}
 use Rattle.hop_core.proofs.Standing.{in_here, in_written}
@@ -134,3 +133,12 @@ last_fair st i old e s q h read head =
 pub some_taken : (xs : List Entry) (o : Option Entry) → eqb (length xs) 0 ≡ false → o ≡ slice_get xs 0 → o ≡ None → ⊥
 some_taken [] o e h n = absurd (false≢true (sym e))
 some_taken (x ∷ xs) o e h n = cc
+
+-- where the scan finds nothing
+pub scan_all : (st : State) (ends : List Bool) (spare : Option Contents) (from : ℕ) (xs : List In) → IsKept st ends spare from → xs ≡ st.ins → ((j : ℕ) → from ≤ j → j < length xs → is_empty (get_or xs j no_in).parcel ≡ true) → Scan st from (sum st.dims)
+scan_all st ends spare from xs k e none = record {
+  low = k.from_high;
+  high = omega arith;
+  none = λ j p q. ap (λ ys. is_empty (get_or ys j no_in).parcel) (sym e) ∙ none j p (omega (arith, ap length e, k.standing.all_ins, q));
+  some = λ p. absurd (omega (arith, p));
+}

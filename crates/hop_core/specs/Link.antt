@@ -1,5 +1,5 @@
 -- The links of one rank, as contracts see them.
-use Rattle.std.specs.Prelude.{ℕ, Bool, true, false, ◌==◌, ◌&&◌, ◌||◌, not, List, length, slice_get, drop, Option, Some, None, ◌+◌, ◌-◌, ◌∷◌, ◌++◌, []}
+use Rattle.std.specs.Prelude.{ℕ, Bool, false, ◌==◌, ◌&&◌, ◌||◌, not, length, slice_get, drop, Option, Some, None, ◌+◌, ◌-◌, ◌∷◌, ◌++◌, []}
 use Rattle.bale_types.specs.declared.item.Entry.{Entry}
 use Rattle.item_buffer.specs.Contents.{Contents, blank}
 

@@ -1,5 +1,5 @@
 -- What holds of a rank's state at every moment.
-use Rattle.std.specs.Prelude.{◌≡◌, ℕ, Bool, true, false, ◌-◌, ◌<◌, ◌≤◌, List, [], length, sum, slice_index_or, Option, Some, None, IsSome}
+use Rattle.std.specs.Prelude.{◌≡◌, ℕ, Bool, true, false, ◌-◌, ◌<◌, ◌≤◌, List, [], length, sum, slice_index_or, Option, Some, IsSome}
 use Rattle.std.specs.List.{All}
 use Rattle.bale_types.specs.declared.item.Entry.{Entry}
 use Rattle.item_buffer.specs.Contents.{Contents, IsFresh, blank}

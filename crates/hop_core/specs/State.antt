@@ -1,8 +1,7 @@
 -- One rank's buffers, marks and phase, and what follows from them.
-use Rattle.std.specs.Prelude.{ℕ, suc, Bool, true, false, ◌+◌, ◌-◌, ◌==◌, not, cond, if◌then◌else◌, List, [], ◌∷◌, length, take, drop, map, slice_get, slice_set, slice_index_or, Option, Some, None}
+use Rattle.std.specs.Prelude.{ℕ, suc, Bool, false, ◌-◌, ◌==◌, not, if◌then◌else◌, List, [], ◌∷◌, length, take, drop, slice_get, slice_set, slice_index_or, Option, Some, None}
 use Rattle.std.specs.List.{list_all}
 use Rattle.std.specs.Option.{option_map}
-use Rattle.bale_types.specs.declared.item.Entry.{Entry}
 use Rattle.bale_types.specs.declared.item.Item.{Item}
 use Rattle.route_tensor.specs.Grid.{dim}
 use Rattle.route_tensor.specs.Link.{links_before}
@@ -11,7 +10,7 @@ use Rattle.route_tensor.specs.Tag.{sender_of}
 use Rattle.hop_core.specs.declared.phase.Phase.{Phase}
 use Rattle.hop_core.specs.declared.phase.Phase.TheVariants.{Working, Endgame, Cleanup, Complete}
 use Rattle.hop_core.specs.declared.lent.Lent.{Lent}
-use Rattle.hop_core.specs.Link.{Out, In, no_out, no_in, is_empty, is_due, is_finished, with_first_taken, with_back}
+use Rattle.hop_core.specs.Link.{Out, In, no_out, no_in, is_empty, is_finished, with_first_taken, with_back}
 
 -- The state of one rank. The links out and in stand by the number of the neighbour at the other end.
 -- Example: on the grid 2, rank 0 has two links out and two links in, number 0 of itself and number 1 of rank 1.

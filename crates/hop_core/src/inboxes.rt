@@ -1,6 +1,6 @@
 //! One link into a rank: the parcel that came over it and is being read.
 
-ghost use Rattle.std.specs.Prelude.{◌≡◌, ℕ, ◌+◌, ◌-◌, ◌^◌, ◌<◌, ◌≤◌, ◌==◌, ◌&&◌, ◌||◌, [], length, sum, map, replicate, take, drop, slice_get, slice_index_or, true, false, Some, IsSome, IfOk};
+ghost use Rattle.std.specs.Prelude.{◌≡◌, ℕ, ◌+◌, ◌-◌, ◌^◌, ◌<◌, ◌≤◌, ◌==◌, ◌&&◌, ◌||◌, [], length, sum, map, replicate, take, drop, slice_get, slice_index_or, true, false, Some, None, IsSome, IfOk};
 ghost use Rattle.std.specs.List.{list_all};
 ghost use Rattle.hop_core.specs.State.{ins_of_hop, resumed};
 ghost use Rattle.item_buffer.specs.Contents.{blank};
@@ -75,7 +75,7 @@ impl<const CAP: usize> InLink<CAP> {
     pub fn is_empty(&self) -> bool
         ensures { result ≡ is_empty self.now.parcel }
     {
-        self.parcel.len() == 0
+        self.parcel.head().is_none()
     }
 
     /// Whether a parcel is to be collected.
@@ -145,21 +145,40 @@ pub fn hop_finished<const CAP: usize>(routes: &Routes, links: &[InLink<CAP>], h:
     all_finished(links, from as usize, routes.first_of(h + 1) as usize)
 }
 
-/// The lowest link from `from` on whose inbox has an entry; the number of links where none has.
+/// The lowest link from `from` on whose inbox has an entry. Most often it is `from` itself, which is looked at before
+/// the search.
 #[inline]
-pub fn first_unread<const CAP: usize>(links: &[InLink<CAP>], from: u32) -> u32
+pub fn first_unread<const CAP: usize>(links: &[InLink<CAP>], from: u32) -> Option<u32>
     requires within { from ≤ length links.now }
     requires few { length links.now < 2 ^ 32 }
-    ensures from { from ≤ result }
-    ensures within { result ≤ length links.now }
-    ensures none { (i : ℕ) → from ≤ i → i < result → is_empty (slice_index_or links.now i no_in).parcel ≡ true }
-    ensures some { result < length links.now → is_empty (slice_index_or links.now result no_in).parcel ≡ false }
+    ensures from { (r : ℕ) → result ≡ Some r → from ≤ r }
+    ensures within { (r : ℕ) → result ≡ Some r → r < length links.now }
+    ensures some { (r : ℕ) → result ≡ Some r → is_empty (slice_index_or links.now r no_in).parcel ≡ false }
+    ensures below { (r : ℕ) → result ≡ Some r → (i : ℕ) → from ≤ i → i < r → is_empty (slice_index_or links.now i no_in).parcel ≡ true }
+    ensures none { result ≡ None → (i : ℕ) → from ≤ i → i < length links.now → is_empty (slice_index_or links.now i no_in).parcel ≡ true }
 {
-    let mut at = from;
-    while (at as usize) < links.len() && links[at as usize].is_empty() {
-        at += 1;
+    if (from as usize) < links.len() && !links[from as usize].is_empty() {
+        return Some(from);
     }
-    at
+    search_unread(links, from)
+}
+
+/// The same, by a search.
+fn search_unread<const CAP: usize>(links: &[InLink<CAP>], from: u32) -> Option<u32>
+    requires within { from ≤ length links.now }
+    requires few { length links.now < 2 ^ 32 }
+    ensures from { (r : ℕ) → result ≡ Some r → from ≤ r }
+    ensures within { (r : ℕ) → result ≡ Some r → r < length links.now }
+    ensures some { (r : ℕ) → result ≡ Some r → is_empty (slice_index_or links.now r no_in).parcel ≡ false }
+    ensures below { (r : ℕ) → result ≡ Some r → (i : ℕ) → from ≤ i → i < r → is_empty (slice_index_or links.now i no_in).parcel ≡ true }
+    ensures none { result ≡ None → (i : ℕ) → from ≤ i → i < length links.now → is_empty (slice_index_or links.now i no_in).parcel ≡ true }
+{
+    for at in from..links.len() as u32 {
+        if !links[at as usize].is_empty() {
+            return Some(at);
+        }
+    }
+    None
 }
 
 /// So many links, none of which has ended, with empty inboxes.

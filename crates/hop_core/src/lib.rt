@@ -39,3 +39,6 @@ mod state;
 
 pub use phase::{Phase, Pushed};
 pub use state::RankState;
+
+#[cfg(test)]
+mod tests;

@@ -12,7 +12,7 @@ ghost use Rattle.std.specs.List.{list_all};
 
 use crate::inboxes::InLink;
 use crate::open_parcels::OutLink;
-use bale_types::Entry;
+use bale_types::{Entry, Item};
 use route_tensor::Routes;
 
 /// Passes the entries of link in number `i` on, in order, until none is left or the open parcel of the first one is
@@ -41,16 +41,17 @@ pub fn relay_link<const CAP: usize>(
     let _neighbours = routes.neighbours();
     let from = routes.neighbour(i);
     let mut count = 0;
-    while let Some(entry) = link.head() {
+    while let Some(entry) = link.take() {
         let step = from.passed_on(entry.tag);
+        let Item { a, b, c } = entry.item;
         let passed = Entry {
             tag: step.tag,
-            item: entry.item,
+            item: Item { a, b, c },
         };
         if !outs[step.out as usize].push(passed) {
+            link.untake();
             break;
         }
-        let _taken = link.take();
         count += 1;
     }
     count

@@ -6,8 +6,8 @@ ghost use Rattle.item_buffer.specs.Contents.{Contents, IsFresh, blank};
 ghost use Rattle.route_tensor.specs.Grid.{ranks, coord, IsGrid};
 ghost use Rattle.route_tensor.specs.Link.{links};
 ghost use Rattle.route_tensor.specs.Ends.{hop_at, sender_at, reader_at};
-ghost use Rattle.route_tensor.specs.Neighbour.{hop_to, out_index, in_index};
-ghost use Rattle.route_tensor.specs.Tag.{IsFair, tag_at};
+ghost use Rattle.route_tensor.specs.Neighbour.{hop_to, neighbour, out_index, in_index};
+ghost use Rattle.route_tensor.specs.Tag.{IsFair, tag_at, sender_of};
 ghost use Rattle.hop_core.specs.Link.{Out, In, no_out, no_in, is_due, is_wanted, with_entry};
 ghost use Rattle.hop_core.specs.State.{out_at, in_at, with_out, with_in, at_end, phase_of, lowest_unread, pull_from, pulled_from, unpulled, reopened, resumed};
 ghost use Rattle.hop_core.specs.Relay.{PassesThrough, held, AddsToHop, TakesFromHop, IsStopped, waiting};
@@ -17,7 +17,7 @@ use crate::lent::Lent;
 use crate::open_parcels::{OutLink, all_closed, links_out, reopen_all};
 use crate::phase::{Phase, Pushed};
 use crate::relay::relay_hop;
-use bale_types::{Entry, Item, NoMemory};
+use bale_types::{Entry, Item, NoMemory, Tag};
 use item_buffer::Parcel;
 use route_tensor::{Grid, Routes};
 use std::alloc::Global;
@@ -139,6 +139,7 @@ impl<const CAP: usize, const HOPS: usize> RankState<CAP, HOPS> {
     pub fn phase(&self) -> Phase
         ensures value { result ≡ self.now.phase }
         ensures standing { IsState self.now }
+        ensures cap { self.now.cap ≡ CAP }
     {
         self.phase
     }
@@ -359,14 +360,14 @@ impl<const CAP: usize, const HOPS: usize> RankState<CAP, HOPS> {
         ensures state { self.new ≡ pulled_from self.old (lowest_unread self.old) }
     {
         self.pulled = None;
-        let from = first_unread(&self.ins, self.from);
-        self.from = from;
-        if from as usize == self.ins.len() {
+        let Some(from) = first_unread(&self.ins, self.from) else {
+            self.from = self.routes.neighbours();
             return None;
-        }
+        };
         let entry = self.ins[from as usize].take()?;
+        self.from = from;
         self.pulled = Some(from);
-        Some((self.routes.sender(from, entry.tag), entry.item))
+        Some((sender::<HOPS>(&self.routes, from, entry.tag), entry.item))
     }
 
     /// Puts the item back that the latest call pulled, if that call was a pull that gave one.
@@ -450,5 +451,21 @@ impl<const CAP: usize, const HOPS: usize> RankState<CAP, HOPS> {
         self.ends = ends;
         self.phase = Phase::Dormant;
         self.epoch += 1;
+    }
+}
+
+/// The sender of an entry that came with this tag on the last hop, from neighbour number `i`: on one hop that neighbour.
+#[inline]
+fn sender<const HOPS: usize>(routes: &Routes, i: u32, tag: Tag) -> u32
+    requires hops { length routes.now.dims ≡ HOPS }
+    requires neighbour { i < sum routes.now.dims }
+    requires last { hop_to routes.now.dims i ≡ length routes.now.dims }
+    requires fair { IsFair routes.now.dims (length routes.now.dims) tag }
+    ensures { result ≡ sender_of routes.now.dims tag (length routes.now.dims) (neighbour routes.now.dims routes.now.rank i) }
+{
+    if HOPS == 1 {
+        routes.neighbour(i).rank
+    } else {
+        routes.sender(i, tag)
     }
 }

@@ -1,4 +1,4 @@
-use Rattle.std.proofs.Common.{ℕ, sym, ap, ◌≡◌, ◌∙◌, arith}
+use Rattle.std.proofs.Common.{sym, ap, ◌∙◌}
 use Rattle.hop_core.specs.Link.{is_finished}
 use Rattle.hop_core.proofs.Scans.{part_step, part_fails}
 use Rattle.hop_core.proofs.inboxes.all_finished.Goals as goal

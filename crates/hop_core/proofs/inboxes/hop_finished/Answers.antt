@@ -1,4 +1,4 @@
-use Rattle.std.proofs.Common.{ℕ, ◌≡◌, ◌≤◌, ◌+◌, ◌∙◌, sym, ap, arith, take, drop, ◌-◌, length}
+use Rattle.std.proofs.Common.{◌≤◌, ◌+◌, ◌∙◌, ap, arith, take, drop, ◌-◌}
 use Rattle.std.specs.List.{list_all}
 use Rattle.route_tensor.specs.Link.{links_before}
 use Rattle.hop_core.specs.Link.{is_finished}

@@ -1,4 +1,4 @@
-use Rattle.std.proofs.Common.{◌≡◌, ◌<◌, ◌≤◌, length, arith}
+use Rattle.std.proofs.Common.{◌<◌, ◌≤◌, length, arith}
 use Rattle.hop_core.specs.State.{resumed}
 use Rattle.hop_core.proofs.Filling.{mapped_step, mapped_end}
 use Rattle.hop_core.proofs.inboxes.resume_all.Goals as goal

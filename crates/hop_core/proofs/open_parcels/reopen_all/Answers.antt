@@ -1,4 +1,4 @@
-use Rattle.std.proofs.Common.{◌≡◌, ◌<◌, ◌≤◌, length, arith}
+use Rattle.std.proofs.Common.{◌<◌, ◌≤◌, length, arith}
 use Rattle.hop_core.specs.State.{reopened}
 use Rattle.hop_core.proofs.Filling.{mapped_step, mapped_end}
 use Rattle.hop_core.proofs.open_parcels.reopen_all.Goals as goal

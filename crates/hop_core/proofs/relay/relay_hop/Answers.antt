@@ -1,10 +1,9 @@
-use Rattle.std.proofs.Common.{ℕ, ◌≡◌, ◌∙◌, ◌<◌, ◌≤◌, ◌+◌, sym, ap, subst, arith, length, sum}
+use Rattle.std.proofs.Common.{◌≡◌, ◌<◌, ◌≤◌, ◌+◌, sym, subst, arith, length, sum}
 use Rattle.route_tensor.specs.Neighbour.{hop_to}
 use Rattle.route_tensor.specs.Link.{links_before}
 use Rattle.route_tensor.proofs.Links.{sum_small}
-use Rattle.hop_core.specs.Link.{In}
 use Rattle.hop_core.specs.Standing.{IsIn}
-use Rattle.hop_core.proofs.Relaying.{relaying_start, relaying_more, link_open, within_waiting}
+use Rattle.hop_core.proofs.Relaying.{relaying_more, link_open, within_waiting}
 use Rattle.hop_core.proofs.Relayed.{waiting_small, in_hop, all_stopped}
 use Rattle.hop_core.proofs.relay.relay_hop.Goals as goal
 

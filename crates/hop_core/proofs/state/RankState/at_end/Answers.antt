@@ -1,4 +1,4 @@
-use Rattle.std.proofs.Common.{ℕ, ◌≡◌, ◌∙◌, ◌≤◌, ◌-◌, sym, ap, subst, arith, Bool, false, get_or}
+use Rattle.std.proofs.Common.{◌≡◌, ◌∙◌, ◌≤◌, ◌-◌, sym, ap, subst, arith, false, get_or}
 use Rattle.route_tensor.specs.Neighbour.{hop_to}
 use Rattle.hop_core.specs.State.{State, at_end}
 use Rattle.hop_core.proofs.Marks.{at_end-first}

@@ -1,9 +1,8 @@
-use Rattle.std.proofs.Common.{ℕ, sym, ap, subst, ◌≡◌, ◌∙◌, arith, Bool, true, false, Some, None}
+use Rattle.std.proofs.Common.{sym, ap, subst, ◌≡◌, ◌∙◌, true}
 use Rattle.route_tensor.specs.Ends.{hop_at}
-use Rattle.route_tensor.specs.Neighbour.{hop_to, out_index, in_index}
-use Rattle.item_buffer.specs.Contents.{Contents, blank}
-use Rattle.hop_core.specs.Link.{is_due, is_wanted}
-use Rattle.hop_core.specs.State.{State, at_end, out_at, in_at}
+use Rattle.route_tensor.specs.Neighbour.{out_index}
+use Rattle.hop_core.specs.Link.{is_due}
+use Rattle.hop_core.specs.State.{State, at_end, out_at}
 use Rattle.hop_core.proofs.Standing.{lend_out_kept, out_here}
 use Rattle.hop_core.proofs.state.RankState.lend_out.Goals as goal
 

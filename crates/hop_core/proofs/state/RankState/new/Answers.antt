@@ -1,13 +1,4 @@
-use Rattle.std.proofs.Common.{ℕ, sym, ap, subst, ◌≡◌, ◌∙◌, ◌<◌, ◌≤◌, arith, Bool, true, false, Some, None, List, length, set}
-use Rattle.std.specs.List.{All}
-use Rattle.bale_types.specs.declared.item.Entry.{Entry}
-use Rattle.route_tensor.specs.Ends.{hop_at}
-use Rattle.route_tensor.specs.Neighbour.{hop_to, out_index, in_index}
-use Rattle.route_tensor.specs.Tag.{IsFair}
-use Rattle.item_buffer.specs.Contents.{Contents, blank}
-use Rattle.hop_core.specs.declared.lent.Lent.TheVariants as lent
-use Rattle.hop_core.specs.Link.{is_due, is_wanted, is_finished}
-use Rattle.hop_core.specs.State.{State, at_end, out_at, in_at}
+use Rattle.std.proofs.Common.{sym, ap, ◌≡◌, ◌∙◌, false, length}
 use Rattle.std.proofs.Common.{replicate}
 use Rattle.route_tensor.specs.Routes.{Site}
 use Rattle.route_tensor.specs.Link.{links_before}

@@ -1,14 +1,7 @@
-use Rattle.std.proofs.Common.{ℕ, sym, ap, subst, ◌≡◌, ◌∙◌, ◌<◌, ◌≤◌, arith, Bool, true, false, Some, None, List, length, set}
-use Rattle.std.specs.List.{All}
-use Rattle.bale_types.specs.declared.item.Entry.{Entry}
-use Rattle.route_tensor.specs.Ends.{hop_at}
-use Rattle.route_tensor.specs.Neighbour.{hop_to, out_index, in_index}
-use Rattle.route_tensor.specs.Tag.{IsFair}
-use Rattle.item_buffer.specs.Contents.{Contents, blank}
+use Rattle.std.proofs.Common.{ap, ◌≡◌, ◌∙◌, false}
+use Rattle.route_tensor.specs.Neighbour.{hop_to}
 use Rattle.hop_core.specs.declared.lent.Lent.TheVariants as lent
-use Rattle.hop_core.specs.Link.{is_due, is_wanted, is_finished}
-use Rattle.hop_core.specs.State.{State, at_end, out_at, in_at}
-use Rattle.route_tensor.specs.Grid.{coord}
+use Rattle.hop_core.specs.State.{State}
 use Rattle.hop_core.proofs.Standing.{push_either, first_hop_out}
 use Rattle.hop_core.proofs.state.RankState.push.Goals as goal
 

@@ -1,15 +1,5 @@
-use Rattle.std.proofs.Common.{ℕ, sym, ap, subst, ◌≡◌, ◌∙◌, ◌<◌, ◌≤◌, arith, Bool, true, false, Some, None, List, length, set, sum}
-use Rattle.std.specs.List.{All}
-use Rattle.bale_types.specs.declared.item.Entry.{Entry}
-use Rattle.route_tensor.specs.Ends.{hop_at}
-use Rattle.route_tensor.specs.Neighbour.{hop_to, out_index, in_index}
-use Rattle.route_tensor.specs.Tag.{IsFair}
-use Rattle.item_buffer.specs.Contents.{Contents, blank}
-use Rattle.hop_core.specs.declared.lent.Lent.TheVariants as lent
-use Rattle.hop_core.specs.Link.{is_due, is_wanted, is_finished}
-use Rattle.hop_core.specs.State.{State, at_end, out_at, in_at}
-use Rattle.std.proofs.Common.{get_or}
-use Rattle.hop_core.specs.Link.{no_in}
+use Rattle.std.proofs.Common.{ap, ◌∙◌, ◌<◌, arith, length}
+use Rattle.hop_core.specs.State.{State}
 use Rattle.hop_core.proofs.Epochs.{unpull_kept}
 use Rattle.hop_core.proofs.state.RankState.unpull.Goals as goal
 

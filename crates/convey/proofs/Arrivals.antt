@@ -12,7 +12,7 @@ use Rattle.route_tensor.specs.Tag.{IsFair}
 use Rattle.route_tensor.specs.Link.{links}
 use Rattle.route_tensor.specs.Ends.{hop_at, sender_at, reader_at}
 use Rattle.port_bank.specs.Logs.{Logs, lasts, segment, added}
-use Rattle.port_bank.specs.Flow.{hop_link, belongs, flow}
+use Rattle.port_bank.specs.Flow.{hop_link, belongs, flow, Begins}
 use Rattle.port_bank.specs.Relay.{Relays}
 use Rattle.port_bank.proofs.Kept.{added-here, added-other, added_grows, between, law_got_more}
 use Rattle.convey.specs.Buffers.{Buffers}
@@ -39,7 +39,7 @@ pub record GotOn (b : Buffers) (unread : ℕ → List Entry) (ended : ℕ → Bo
 
 module _ (b : Buffers) (unread : ℕ → List Entry) (ended : ℕ → Bool) (sent got : Logs) (m : ℕ) (q : Shipped) (g : IsGrid b.dims) (a : Agrees b sent got)
     (below : m < links b.dims) (own : reader_at b.dims m ≡ b.rank) (goes_on : b.ended m ≡ false) (empty : b.unread m ≡ [])
-    (fair : All (λ e. IsFair b.dims (hop_at b.dims m) e.tag) q.entries) (s : GotOn b unread ended m q) where
+    (fair : All (λ e. IsFair b.dims (hop_at b.dims m) e.tag) q.entries) (front : sender_at b.dims m ≡ b.rank → Begins (added got m q m) (sent m)) (s : GotOn b unread ended m q) where
   dated : lasts (got m) ≡ b.epoch
   dated = open_lasts b.epoch (lasts (got m)) (b.ended m) goes_on ((a.ins m below own).lasts)
 
@@ -105,6 +105,13 @@ module _ (b : Buffers) (unread : ℕ → List Entry) (ended : ℕ → Bool) (sen
             (subst (Ends (flat_map (λ p. p.entries) (segment b.epoch (got l)))) (sym (s.lies l h to other)) (plain.arrived l h to at))
       ]
 
+  got_own : (l : ℕ) → l < links b.dims → sender_at b.dims l ≡ b.rank → reader_at b.dims l ≡ b.rank → Begins (added got m q l) (sent l)
+  got_own l h from to =
+      elim (cases_eq l m) [
+        | inl same ↦ subst (λ k. sender_at b.dims k ≡ b.rank → Begins (added got m q k) (sent k)) (sym same) front from
+        | inr other ↦ subst (λ log. Begins log (sent l)) (sym (added-other got m l q other)) (a.own l h from to)
+      ]
+
   pub got_agrees : Agrees (record b { unread = unread; ended = ended; latest = None }) sent (added got m q)
   got_agrees = record {
     outs = a.outs;
@@ -112,6 +119,7 @@ module _ (b : Buffers) (unread : ℕ → List Entry) (ended : ℕ → Bool) (sen
     law = law_got_more b.dims b.rank sent got (added got m q) g (added_grows got m q) a.law;
     pairs = got_pairs;
     arrived = got_arrived;
+    own = got_own;
   }
 
   got_pulled : (rank : b.rank < ranks b.dims) (e x : ℕ) → x < ranks b.dims → pulled_of (record b { unread = unread; ended = ended; latest = None }) (added got m q) e x ≡ pulled_of b got e x
@@ -168,6 +176,7 @@ module _ (b : Buffers) (waiting unread : ℕ → List Entry) (sent got : Logs) (
     pairs = λ x y h pair. a.pairs x y h pair ∙ ap (λ u. flow b.dims sent x y (h + 1) b.epoch ++ u) (sym (r.pairs x y h pair));
     arrived = λ l below own at.
         subst (λ u. Ends (flat_map (λ p. p.entries) (segment b.epoch (got l))) (with_back b.latest l u)) (sym (r.last_stay l below own at)) (a.arrived l below own at);
+    own = a.own;
   }
 
   pub relayed_part : b.rank < ranks b.dims → part_of (record b { waiting = waiting; unread = unread }) sent got ≡ part_of b sent got

@@ -1,12 +1,12 @@
 -- What one collect leaves of a rank's state.
 use Rattle.std.proofs.Common.{◌≡◌, ◌≢◌, ℕ, ◌<◌, Bool, true, false, not, List, [], ◌∷◌, ◌++◌, length, slice_set, None, refl, sym, ap, subst, ◌∙◌, arith, inl, inr, length-append, set-set}
-use Rattle.std.specs.List.{All}
+use Rattle.std.specs.List.{All, flat_map}
 use Rattle.std.proofs.lemmas.Bool.{cases_eq, false≢true}
-use Rattle.std.proofs.lemmas.List.{get_or-set_other, get_or-set_same}
+use Rattle.std.proofs.lemmas.List.{append-nil, append_cancel_left, get_or-set_other, get_or-set_same}
 use Rattle.item_buffer.specs.Contents.{Shipped}
 use Rattle.route_tensor.specs.Link.{links}
 use Rattle.route_tensor.specs.Tag.{IsFair}
-use Rattle.route_tensor.specs.Ends.{hop_at, reader_at}
+use Rattle.route_tensor.specs.Ends.{hop_at, sender_at, reader_at}
 use Rattle.route_tensor.specs.Neighbour.{in_index}
 use Rattle.port_bank.specs.Logs.{Logs, added}
 use Rattle.port_bank.specs.Flow.{Begins}
@@ -24,6 +24,7 @@ use Rattle.convey.specs.Due.{Wants}
 use Rattle.convey.specs.Way.{IsReady, GoesOn, at_rest}
 use Rattle.convey.proofs.Arrivals.{GotOn, got_agrees, got_part}
 use Rattle.convey.proofs.Moves.{SameOn, same_agrees, same_buffers_part}
+use Rattle.convey.proofs.Ways.{no_more}
 use Rattle.convey.proofs.States.{none_of, both_true, in_number, in_apart}
 
 -- the state after an inbox came back
@@ -46,6 +47,21 @@ not_true false h = refl
 
 pub wanted_parts : (x : In) → is_wanted x ≡ true → (x.parcel.untaken ≡ []) × (x.ended ≡ false)
 wanted_parts x h = let b = both_true (is_empty x.parcel) (not x.ended) h in (none_of x.parcel.untaken b.0, not_true x.ended b.1)
+
+-- what lies in the inbox after it
+pub still_lies : (st new : State) (l : ℕ) (x : In) (log log' more : List Shipped) → IsState st → l < links st.dims → Wants st l → new ≡ with_inbox st (in_index st.dims l) x → x.parcel.untaken ≡ []
+    → log' ≡ log → log' ≡ log ++ more → (in_of new l).parcel.untaken ≡ (in_of st l).parcel.untaken ++ flat_map (λ p. p.entries) more
+still_lies st new l x log log' more s h w e none a b =
+    let empty : (in_of st l).parcel.untaken ≡ [] = (wanted_parts (in_of st l) w).0 in
+    ap (λ n. (in_of n l).parcel.untaken) e ∙ (ap (λ y. y.parcel.untaken) (inbox_here st l x s h)
+    ∙ (none ∙ sym (λ i. empty i ++ flat_map (λ p. p.entries) (no_more log more (sym a ∙ b) i))))
+
+pub came_lies : (st new : State) (l : ℕ) (x : In) (q : Shipped) (log log' more : List Shipped) → IsState st → l < links st.dims → Wants st l → new ≡ with_inbox st (in_index st.dims l) x → x.parcel.untaken ≡ q.entries
+    → log' ≡ log ++ q ∷ [] → log' ≡ log ++ more → (in_of new l).parcel.untaken ≡ (in_of st l).parcel.untaken ++ flat_map (λ p. p.entries) more
+came_lies st new l x q log log' more s h w e entries a b =
+    let empty : (in_of st l).parcel.untaken ≡ [] = (wanted_parts (in_of st l) w).0 in
+    ap (λ n. (in_of n l).parcel.untaken) e ∙ (ap (λ y. y.parcel.untaken) (inbox_here st l x s h)
+    ∙ (entries ∙ (sym (append-nil q.entries) ∙ sym (λ i. empty i ++ flat_map (λ p. p.entries) (append_cancel_left log more (q ∷ []) (sym b ∙ a) i)))))
 
 pub grew : (log : List Shipped) (p : Shipped) → log ++ p ∷ [] ≡ log → ⊥
 grew log p e = let n = ap length e in omega (arith, n, length-append log (p ∷ []))
@@ -96,17 +112,17 @@ module _ (st : State) (link : ℕ) (x : In) (sent got got' : Logs) (s : IsState 
     stays = λ l h to other. ap (λ y. y.ended) (inbox_other st st.rank link l x s below h own to other);
   }
 
-  pub came_agrees : (q : Shipped) → x.parcel.untaken ≡ q.entries → x.ended ≡ q.last → All (λ e. IsFair st.dims (hop_at st.dims link) e.tag) q.entries
+  pub came_agrees : (q : Shipped) → x.parcel.untaken ≡ q.entries → x.ended ≡ q.last → All (λ e. IsFair st.dims (hop_at st.dims link) e.tag) q.entries → (sender_at st.dims link ≡ st.rank → Begins (added got link q link) (sent link))
       → Agrees (buffers_of (with_inbox st (in_index st.dims link) x)) sent (added got link q)
-  came_agrees q entries last fair =
+  came_agrees q entries last fair front =
       let n : State = with_inbox st (in_index st.dims link) x in
-      got_agrees (buffers_of st) (buffers_of n).unread (buffers_of n).ended sent got link q s.grid a below own goes_on_now empty_now fair (came q entries last)
+      got_agrees (buffers_of st) (buffers_of n).unread (buffers_of n).ended sent got link q s.grid a below own goes_on_now empty_now fair front (came q entries last)
 
-  pub came_part : (q : Shipped) → x.parcel.untaken ≡ q.entries → x.ended ≡ q.last → All (λ e. IsFair st.dims (hop_at st.dims link) e.tag) q.entries
+  pub came_part : (q : Shipped) → x.parcel.untaken ≡ q.entries → x.ended ≡ q.last → All (λ e. IsFair st.dims (hop_at st.dims link) e.tag) q.entries → (sender_at st.dims link ≡ st.rank → Begins (added got link q link) (sent link))
       → at_rest (part_of (buffers_of (with_inbox st (in_index st.dims link) x)) sent (added got link q)) ≡ at_rest (part_of (buffers_of st) sent got)
-  came_part q entries last fair =
+  came_part q entries last fair front =
       let n : State = with_inbox st (in_index st.dims link) x in
-      ap at_rest (got_part (buffers_of st) (buffers_of n).unread (buffers_of n).ended sent got link q s.grid a below own goes_on_now empty_now fair (came q entries last) s.rank)
+      ap at_rest (got_part (buffers_of st) (buffers_of n).unread (buffers_of n).ended sent got link q s.grid a below own goes_on_now empty_now fair front (came q entries last) s.rank)
 
 -- the two calls that lend and take back the inbox, as one
 pub lent_in : (st st1 st2 : State) (link : ℕ) (y x : In) (t : Lent) → st1 ≡ record st { ins = slice_set st.ins (in_index st.dims link) y; lent = t; pulled = None }
@@ -148,9 +164,11 @@ module _ (dims : List ℕ) (rank : ℕ) (st new : State) (link : ℕ) (x : In) (
       (ap (λ logs. at_rest (part_of (buffers_of (with_inbox st (in_index st.dims link) x)) sent logs)) same_got ∙ nothing_part st link x sent got got s r.agrees here_below here_own wants none open')
       (λ l. subst (λ logs. Begins (got l) (logs l)) (sym same_got) (begins_refl (got l)))
 
-  pub collected_one : (q : Shipped) → x.parcel.untaken ≡ q.entries → x.ended ≡ q.last → All (λ t. IsFair dims (hop_at dims link) t.tag) q.entries → got' ≡ added got link q → Collected dims rank st new link sent sent' got got'
-  collected_one q entries last fair same_got =
+  pub collected_one : (q : Shipped) → x.parcel.untaken ≡ q.entries → x.ended ≡ q.last → All (λ t. IsFair dims (hop_at dims link) t.tag) q.entries → (sender_at dims link ≡ rank → Begins (got' link) (sent' link)) → got' ≡ added got link q → Collected dims rank st new link sent sent' got got'
+  collected_one q entries last fair front same_got =
+      let front_here : sender_at st.dims link ≡ st.rank → Begins (added got link q link) (sent link) = λ from.
+      subst (λ logs. Begins (logs link) (sent link)) same_got (subst (λ logs. Begins (got' link) (logs link)) same (front (ap (λ ds. sender_at ds link) (sym r.same_dims) ∙ (from ∙ r.same_rank)))) in
       let fair_here : All (λ t. IsFair st.dims (hop_at st.dims link) t.tag) q.entries = subst (λ ds. All (λ t. IsFair ds (hop_at ds link) t.tag) q.entries) (sym r.same_dims) fair in
-      collected (subst (Agrees (buffers_of (with_inbox st (in_index st.dims link) x)) sent) (sym same_got) (came_agrees st link x sent got got s r.agrees here_below here_own wants q entries last fair_here))
-      (ap (λ logs. at_rest (part_of (buffers_of (with_inbox st (in_index st.dims link) x)) sent logs)) same_got ∙ came_part st link x sent got got s r.agrees here_below here_own wants q entries last fair_here)
+      collected (subst (Agrees (buffers_of (with_inbox st (in_index st.dims link) x)) sent) (sym same_got) (came_agrees st link x sent got got s r.agrees here_below here_own wants q entries last fair_here front_here))
+      (ap (λ logs. at_rest (part_of (buffers_of (with_inbox st (in_index st.dims link) x)) sent logs)) same_got ∙ came_part st link x sent got got s r.agrees here_below here_own wants q entries last fair_here front_here)
       (λ l. subst (λ logs. Begins (got l) (logs l)) (sym same_got) (added_grows got link q l))

@@ -1,5 +1,5 @@
 -- What the phase Complete says of each link.
-use Rattle.std.proofs.Common.{◌≡◌, ◌≢◌, ℕ, ◌+◌, ◌<◌, ◌==◌, ◌&&◌, drop, Bool, true, false, not, if◌then◌else◌, [], length, sum, slice_index_or, Option, Some, None, is_some, refl, sym, ap, subst, ◌∙◌, arith, inl, inr}
+use Rattle.std.proofs.Common.{◌≡◌, ◌≢◌, ℕ, ◌+◌, ◌-◌, ◌<◌, ◌≤◌, ◌==◌, ◌&&◌, drop, Bool, true, false, not, if◌then◌else◌, [], length, sum, slice_index_or, Option, Some, None, is_some, refl, sym, ap, subst, ◌∙◌, arith, inl, inr, ne_eqb}
 use Rattle.std.specs.List.{list_all}
 use Rattle.std.proofs.lemmas.Bool.{cases_eq, false≢true}
 use Rattle.std.proofs.lemmas.Option.{same_Some}
@@ -12,15 +12,16 @@ use Rattle.route_tensor.proofs.Ends.{number_ends, sender_at-link, reader_at-link
 use Rattle.route_tensor.proofs.Links.{link_below}
 use Rattle.route_tensor.specs.Link.{links_before}
 use Rattle.route_tensor.specs.Grid.{dim}
-use Rattle.route_tensor.proofs.Neighbours.{to_neighbour, from_neighbour, out_index-link_to, in_index-link_from}
+use Rattle.route_tensor.proofs.Neighbours.{to_neighbour, from_neighbour, out_index-link_to, in_index-link_from, number_made, hop_to_is}
 use Rattle.std.proofs.lemmas.List.{get_or_default, get_or-take, get_or-drop, length-take, length-drop}
 use Rattle.port_bank.specs.Flow.{hop_link}
 use Rattle.hop_core.specs.declared.phase.Phase.{Phase}
 use Rattle.hop_core.specs.declared.phase.Phase.TheVariants.{Dormant, Working, Endgame, Cleanup, Complete}
 use Rattle.hop_core.specs.Link.{Out, In, no_out, no_in, is_finished}
-use Rattle.hop_core.specs.State.{State, in_at, all_closed, all_read, ins_of_hop, phase_of}
+use Rattle.hop_core.specs.State.{State, in_at, all_closed, all_read, ins_of_hop, at_end, phase_of}
 use Rattle.hop_core.specs.Standing.{IsState, CanUnpull}
 use Rattle.convey.specs.Buffers.{out_of, in_of, is_complete, back_of, entry_back, buffers_of}
+use Rattle.convey.specs.Arrived.{HasArrived}
 use Rattle.convey.specs.Due.{IsDue, Wants, IsOver}
 use Rattle.convey.specs.Law.{IsLastIn, IsSound}
 use Rattle.convey.proofs.States.{of_hop, finished_parts, out_number, is_out, EndOf, closed_end}
@@ -139,9 +140,10 @@ closed_each st s v i d h =
 finished_from : (x : In) → x.ended ≡ true → x.parcel.untaken ≡ [] → is_finished x ≡ true
 finished_from x e u = ap (λ b. b && (length x.parcel.untaken == 0)) e ∙ ap (λ xs. length xs == 0) u
 
-read_each : (st : State) → IsState st → IsOver st → (j : ℕ) (d : In) → j < length (ins_of_hop st.dims st.ins (length st.dims)) → is_finished (slice_index_or (ins_of_hop st.dims st.ins (length st.dims)) j d) ≡ true
-read_each st s v j d h =
-    let k : ℕ = length st.dims in
+pub finished_each : (st : State) (k : ℕ) → IsState st → 1 ≤ k → k ≤ length st.dims
+    → ((l : ℕ) → l < links st.dims → reader_at st.dims l ≡ st.rank → hop_at st.dims l ≡ k → ((in_of st l).ended ≡ true) × ((in_of st l).parcel.untaken ≡ []))
+    → (j : ℕ) (d : In) → j < length (ins_of_hop st.dims st.ins k) → is_finished (slice_index_or (ins_of_hop st.dims st.ins k) j d) ≡ true
+finished_each st k s first last each j d h =
     let few = length-take (dim st.dims k) (drop (links_before st.dims k) st.ins) in
     let rest = length-drop (links_before st.dims k) st.ins in
     let i : ℕ = links_before st.dims k + j in
@@ -152,9 +154,33 @@ read_each st s v j d h =
     let l : ℕ = link_from st.dims st.rank i in
     let low = link_below st.dims (hop_to st.dims i) (neighbour st.dims st.rank i) st.rank s.grid f in
     let own = reader_at-link st.dims (hop_to st.dims i) (neighbour st.dims st.rank i) st.rank s.grid f in
+    let hop = hop_at-link st.dims (hop_to st.dims i) (neighbour st.dims st.rank i) st.rank s.grid f ∙ hop_to_is st.dims k i (number_made st.dims k j first last (omega arith)) in
     let index = in_index-link_from st.dims st.rank i s.grid s.rank below in
     let here : in_of st l ≡ slice_index_or st.ins i d = ap (λ n. slice_index_or st.ins n no_in) index ∙ get_or_default st.ins i no_in d (omega (arith, s.all_ins)) in
-    ap is_finished (at ∙ sym here) ∙ finished_from (in_of st l) (v.ended l low own) (v.read l low own)
+    let ends = each l low own hop in
+    ap is_finished (at ∙ sym here) ∙ finished_from (in_of st l) ends.0 ends.1
+
+-- a hop reaches its end where all that it is to pass on has come
+reaches_first : (st : State) → st.done ≡ true → at_end st.dims st.ins st.done 1 ≡ true
+unfolding at_end
+reaches_first st e = e
+
+reaches_later : (st : State) (h : ℕ) → h ≢ 1 → list_all is_finished (ins_of_hop st.dims st.ins (h - 1)) ≡ true → at_end st.dims st.ins st.done h ≡ true
+unfolding at_end
+reaches_later st h ne e = ap (λ b. if b then st.done else list_all is_finished (ins_of_hop st.dims st.ins (h - 1))) (ne_eqb h 1 ne) ∙ e
+
+pub reaches_end : (st : State) (l : ℕ) → IsState st → l < links st.dims → (hop_at st.dims l ≡ 1 → st.done ≡ true) → HasArrived (buffers_of st) l → at_end st.dims st.ins st.done (hop_at st.dims l) ≡ true
+reaches_end st l s below done arrived =
+    let n = number_ends st.dims l s.grid below in
+    let h : ℕ = hop_at st.dims l in
+    elim (cases_eq h 1) [
+      | inl one ↦ subst (λ j. at_end st.dims st.ins st.done j ≡ true) (sym one) (reaches_first st (done one))
+      | inr ne ↦
+          let first = n.link.first_hop in
+          let last = n.link.last_hop in
+          reaches_later st h ne (list_all-from_AllPass is_finished (ins_of_hop st.dims st.ins (h - 1)) (finished_each st (h - 1) s (omega arith) (omega arith)
+          (λ m k to at. let next : h ≡ hop_at st.dims m + 1 = omega arith in (arrived.ended m k to next, arrived.passed_on m k to next))))
+    ]
 
 chained : (done closed read : Bool) → done ≡ true → closed ≡ true → read ≡ true → (if not done then Working else if not closed then Endgame else if not read then Cleanup else Complete) ≡ Complete
 chained true true true a b c = refl
@@ -167,7 +193,8 @@ unfolding phase_of
 over_complete st s v =
     chained st.done (all_closed st.outs) (all_read st) v.done
     (list_all-from_AllPass (λ o. o.closed) st.outs (closed_each st s v))
-    (list_all-from_AllPass is_finished (ins_of_hop st.dims st.ins (length st.dims)) (read_each st s v))
+    (list_all-from_AllPass is_finished (ins_of_hop st.dims st.ins (length st.dims))
+    (let some = s.grid.some in finished_each st (length st.dims) s some (omega arith) (λ l k to at. (v.ended l k to, v.read l k to))))
 
 pub working : (st : State) → st.done ≡ false → phase_of st ≡ Working
 unfolding phase_of

@@ -1,5 +1,5 @@
 mod Listing
-mod OneRank
+pub mod OneRank
 mod Exchange
 mod Flows
 mod PostLaw
@@ -13,7 +13,12 @@ mod States
 mod Collects
 mod Posts
 mod Relays
+mod Blocks
 mod Completes
+mod Movements
 mod Advances
+mod Quiet
 mod Pushes
 mod Pulls
+mod Together
+mod Stations

@@ -14,7 +14,8 @@ use Rattle.route_tensor.specs.Ends.{hop_at, sender_at, reader_at}
 use Rattle.port_bank.specs.Logs.{Logs, lasts, segment, added}
 use Rattle.port_bank.specs.Flow.{hop_link, belongs, flow}
 use Rattle.port_bank.specs.Relay.{Relays}
-use Rattle.port_bank.proofs.Kept.{added-here, added-other, between}
+use Rattle.port_bank.proofs.Fronts.{begins_trans}
+use Rattle.port_bank.proofs.Kept.{added-here, added-other, added_grows, between}
 use Rattle.convey.specs.Buffers.{Buffers}
 use Rattle.convey.specs.Agreement.{Ends, lasts_in, OutAgrees, InAgrees, items_among, with_back, Agrees}
 use Rattle.convey.specs.Arrived.{HasArrived}
@@ -50,11 +51,12 @@ forget_agrees b sent got a = record {
   law = a.law;
   pairs = a.pairs;
   arrived = λ l below own at. back_ends (flat_map (λ p. p.entries) (segment b.epoch (got l))) b.latest l (b.unread l) (a.arrived l below own at);
+  own = a.own;
 }
 
 -- a mark of the rank
 pub marks_agree : (b : Buffers) (done complete : Bool) (sent got : Logs) → Agrees b sent got → Agrees (record b { done = done; complete = complete }) sent got
-marks_agree b done complete sent got a = record { outs = a.outs; ins = a.ins; law = a.law; pairs = a.pairs; arrived = a.arrived }
+marks_agree b done complete sent got a = record { outs = a.outs; ins = a.ins; law = a.law; pairs = a.pairs; arrived = a.arrived; own = a.own }
 
 -- a parcel is sent
 pub record SentOn (b : Buffers) (waiting : ℕ → List Entry) (closed : ℕ → Bool) (l : ℕ) (p : Shipped) : Type 0 where
@@ -112,6 +114,7 @@ module _ (b : Buffers) (waiting : ℕ → List Entry) (closed : ℕ → Bool) (s
     law = post_law b sent got l p g a below own still_open entries last;
     pairs = sent_pairs;
     arrived = a.arrived;
+    own = λ m h from to. begins_trans (got m) (sent m) (added sent l p m) (a.own m h from to) (added_grows sent l p m);
   }
 
   -- and the rank pushed what it did before
@@ -176,6 +179,7 @@ module _ (b : Buffers) (waiting unread : ℕ → List Entry) (closed ended : ℕ
             ∙ (ap (λ u. flow b.dims sent x y (h + 1) b.epoch ++ (items_among (belongs b.dims x y (h + 1)) u ++ items_among (belongs b.dims x y h) (b.unread (hop_link b.dims x y h)))) (sym (s.waits (hop_link b.dims x y (h + 1)) w.leaves w.from))
             ∙ ap (λ u. flow b.dims sent x y (h + 1) b.epoch ++ (items_among (belongs b.dims x y (h + 1)) (waiting (hop_link b.dims x y (h + 1))) ++ items_among (belongs b.dims x y h) u)) (sym (s.lies (hop_link b.dims x y h) w.comes w.to)));
         arrived = λ l h to at. subst (Ends (flat_map (λ p. p.entries) (segment b.epoch (got l)))) (sym (s.lies l h to)) (p.arrived l h to at);
+        own = a.own;
       }
 
   pub same_buffers_part : b.rank < ranks b.dims → part_of (record b { waiting = waiting; unread = unread; closed = closed; ended = ended; latest = None }) sent got ≡ record (part_of b sent got) { latest = None }

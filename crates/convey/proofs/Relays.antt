@@ -1,7 +1,7 @@
 -- What one relay leaves of a rank's state.
-use Rattle.std.proofs.Common.{◌≡◌, ◌≢◌, ℕ, ◌+◌, ◌-◌, ◌<◌, ◌≤◌, List, ◌++◌, length, take, drop, slice_index_or, None, refl, sym, ap, subst, ◌∙◌, arith, inl, inr}
+use Rattle.std.proofs.Common.{◌≡◌, ◌≢◌, ℕ, ◌+◌, ◌-◌, ◌<◌, ◌≤◌, List, [], ◌++◌, length, take, drop, slice_index_or, None, refl, sym, ap, subst, ◌∙◌, arith, inl, inr}
 use Rattle.std.proofs.lemmas.Bool.{cases_eq}
-use Rattle.std.proofs.lemmas.List.{take-append-drop}
+use Rattle.std.proofs.lemmas.List.{take-append-drop, append_assoc}
 use Rattle.bale_types.specs.declared.item.Entry.{Entry}
 use Rattle.bale_types.specs.declared.item.Item.{Item}
 use Rattle.route_tensor.specs.Grid.{ranks, coord, IsGrid}
@@ -20,7 +20,7 @@ use Rattle.hop_core.specs.State.{State}
 use Rattle.hop_core.specs.Standing.{IsState}
 use Rattle.hop_core.specs.Relay.{PassesThrough, way_in, way_out, held, AddsToHop, TakesFromHop}
 use Rattle.convey.specs.Buffers.{Buffers, out_of, in_of, buffers_of}
-use Rattle.convey.specs.Agreement.{items_among, Agrees}
+use Rattle.convey.specs.Agreement.{Ends, items_among, Agrees}
 use Rattle.convey.specs.Parts.{part_of}
 use Rattle.convey.specs.Way.{IsReady, PassedOn, at_rest}
 use Rattle.convey.proofs.Moves.{forget_agrees}
@@ -44,6 +44,15 @@ in_way dims s d h g from to first last =
     ap (λ k. links_before dims k + coord dims (sender_at dims l) k) hop
     ∙ (ap (λ r. links_before dims h + coord dims r h) (sender-on_route dims s d h g from to first last)
     ∙ ap (λ c. links_before dims h + c) (coord-place_high dims s d (h - 1) h g.positive (omega arith)))
+
+ends_with_rest : (xs ys : List Entry) (n : ℕ) → drop n xs ≡ ys → Ends xs ys
+ends_with_rest xs ys n e = record { front = take n xs; is = sym (take-append-drop n xs) ∙ ap (λ u. take n xs ++ u) e }
+
+pub ends_refl : (xs : List Entry) → Ends xs xs
+ends_refl xs = record { front = []; is = refl }
+
+ends_trans : (xs ys zs : List Entry) → Ends xs ys → Ends ys zs → Ends xs zs
+ends_trans xs ys zs p q = record { front = p.front ++ q.front; is = p.is ∙ (ap (λ u. p.front ++ u) q.is ∙ sym (append_assoc p.front q.front zs)) }
 
 begins_from_front : (xs ys : List Entry) → take (length xs) ys ≡ xs → Begins xs ys
 begins_from_front xs ys e = record { rest = drop (length xs) ys; is = sym (take-append-drop (length xs) ys) ∙ ap (λ u. u ++ drop (length xs) ys) e }
@@ -137,10 +146,11 @@ module _ (st : State) (outs : List Out) (ins : List In) (h : ℕ) (s : IsState s
         waits = λ l. begins_from_front (out_of st l).parcel.untaken (slice_index_or outs (out_index st.dims l) no_out).parcel.untaken (adds.front (out_index st.dims l));
         closes = λ l. adds.closed (out_index st.dims l);
         ends = λ l. takes.ended (in_index st.dims l);
+        lies = λ l. ends_with_rest (in_of st l).parcel.untaken (slice_index_or ins (in_index st.dims l) no_in).parcel.untaken _ (takes.rest (in_index st.dims l));
       }
 
 pub passed_none : (dims : List ℕ) (rank : ℕ) (st : State) (sent got : Logs) → IsReady dims rank st sent got → PassedOn dims rank st st sent got
-passed_none dims rank st sent got r = record { ready = r; goes_on = goes_on_refl st sent got; waits = λ l. begins_refl (out_of st l).parcel.untaken; closes = λ l. refl; ends = λ l. refl }
+passed_none dims rank st sent got r = record { ready = r; goes_on = goes_on_refl st sent got; waits = λ l. begins_refl (out_of st l).parcel.untaken; closes = λ l. refl; ends = λ l. refl; lies = λ l. ends_refl (in_of st l).parcel.untaken }
 
 pub passed_more : (dims : List ℕ) (rank : ℕ) (a b c : State) (sent got : Logs) → PassedOn dims rank a b sent got → PassedOn dims rank b c sent got → PassedOn dims rank a c sent got
 passed_more dims rank a b c sent got p q = record {
@@ -149,4 +159,5 @@ passed_more dims rank a b c sent got p q = record {
   waits = λ l. begins_trans (out_of a l).parcel.untaken (out_of b l).parcel.untaken (out_of c l).parcel.untaken (p.waits l) (q.waits l);
   closes = λ l. q.closes l ∙ p.closes l;
   ends = λ l. q.ends l ∙ p.ends l;
+  lies = λ l. ends_trans (in_of a l).parcel.untaken (in_of b l).parcel.untaken (in_of c l).parcel.untaken (p.lies l) (q.lies l);
 }

@@ -12,6 +12,7 @@ use Rattle.route_tensor.specs.Ends.{hop_at, sender_at, reader_at}
 use Rattle.route_tensor.proofs.Ends.{number_ends}
 use Rattle.port_bank.specs.Logs.{Logs, lasts}
 use Rattle.port_bank.specs.Flow.{hop_link}
+use Rattle.port_bank.proofs.Segments.{lasts_begins}
 use Rattle.port_bank.proofs.Routes.{hop-on_route, sender-on_route, reader-on_route, link-on_route}
 use Rattle.convey.specs.Buffers.{Buffers}
 use Rattle.convey.specs.Agreement.{lasts_in, Agrees}
@@ -72,14 +73,19 @@ own_loop dims r h g own first last = record {
   hop = hop-on_route dims r r h g own own first last;
 }
 
--- Where no link of hop 1 is closed, and a rank's links to itself have ended only where they are closed, the last of
--- them hasn't ended: to close it the one before must have ended, and so on back to the first.
+-- Where no link of hop 1 is closed, the last of a rank's links to itself hasn't ended: such a link has ended only where
+-- it is closed, and to close it the one before must have ended, and so on back to the first.
 module _ (b : Buffers) (sent got : Logs) (g : IsGrid b.dims) (own : b.rank < ranks b.dims) (a : Agrees b sent got)
-    (loops : (l : ℕ) → l < links b.dims → sender_at b.dims l ≡ b.rank → reader_at b.dims l ≡ b.rank → b.ended l ≡ true → b.closed l ≡ true)
     (first_open : (l : ℕ) → l < links b.dims → sender_at b.dims l ≡ b.rank → hop_at b.dims l ≡ 1 → b.closed l ≡ false) where
   ended_mark : (n : ℕ) (c : Bool) → n ≡ lasts_in b.epoch c → b.epoch < n → c ≡ true
   ended_mark n true e h = refl
   ended_mark n false e h = absurd (omega arith)
+
+  loops : (l : ℕ) → l < links b.dims → sender_at b.dims l ≡ b.rank → reader_at b.dims l ≡ b.rank → b.ended l ≡ true → b.closed l ≡ true
+  loops l below from to ended =
+      let all : lasts (got l) ≡ b.epoch + 1 = (a.ins l below to).lasts ∙ ap (lasts_in b.epoch) ended in
+      let front = lasts_begins (got l) (sent l) (a.own l below from to) in
+      ended_mark (lasts (sent l)) (b.closed l) (a.outs l below from).lasts (omega arith)
 
   still_open : (h : ℕ) → suc h ≤ length b.dims → b.ended (hop_link b.dims b.rank b.rank (suc h)) ≡ true → ⊥
   still_open zero last ended =

@@ -91,6 +91,7 @@ module _ (b : Buffers) (waiting : ℕ → List Entry) (sent got : Logs) (to : �
         ∙ ap (λ u. flow b.dims sent x y (h + 1) b.epoch ++ (items_among (belongs b.dims x y (h + 1)) u ++ items_among (belongs b.dims x y h) (b.unread (hop_link b.dims x y h))))
         (sym (p.waits (hop_link b.dims x y (h + 1)) w.leaves w.from (later_hop x y h pair)));
     arrived = plain.arrived;
+    own = plain.own;
   }
 
   next : Buffers
@@ -189,6 +190,7 @@ module _ (b : Buffers) (unread : ℕ → List Entry) (sent got : Logs) (m s : �
     law = a.law;
     pairs = pull_pairs;
     arrived = λ l h to last. subst (Ends (flat_map (λ q. q.entries) (segment b.epoch (got l)))) (sym (with_it l h to)) (before.arrived l h to last);
+    own = before.own;
   }
 
   fair_entry : IsFair b.dims (length b.dims) e.tag
@@ -314,6 +316,7 @@ module _ (b : Buffers) (unread : ℕ → List Entry) (sent got : Logs) (m s : �
         ∙ ap (λ u. flow b.dims sent x y (h + 1) b.epoch ++ (items_among (belongs b.dims x y (h + 1)) (b.waiting (hop_link b.dims x y (h + 1))) ++ items_among (belongs b.dims x y h) u))
         (sym (p.lies (hop_link b.dims x y h) w.comes w.to (not_last x y h pair)));
     arrived = λ l h to last. subst (Ends (flat_map (λ q. q.entries) (segment b.epoch (got l)))) (as_before l h to) (a.arrived l h to last);
+    own = a.own;
   }
 
   pub unpull_step : s < ranks b.dims → sender_of b.dims e.tag (length b.dims) (sender_at b.dims m) ≡ s → hop_link b.dims s b.rank (length b.dims) ≡ m
@@ -391,6 +394,7 @@ module _ (b : Buffers) (waiting unread : ℕ → List Entry) (closed ended : ℕ
         ∙ (sym (append-nil (flow b.dims sent x y (h + 1) (b.epoch + 1)))
         ∙ ap (λ u. flow b.dims sent x y (h + 1) (b.epoch + 1) ++ u) (sym none)));
     arrived = λ l h to last. record { front = []; is = ap (flat_map (λ q. q.entries)) (got_next l h to) ∙ sym (r.still_read l h to) };
+    own = a.own;
   }
 
   nothing : (c : Bool) (keep : Entry → Bool) (u : List Entry) → u ≡ [] → cond c (items_among keep u) [] ≡ []

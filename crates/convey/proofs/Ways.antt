@@ -1,7 +1,8 @@
 -- Steps of an advance, one after another.
 use Rattle.std.proofs.Common.{◌≡◌, ◌≢◌, ℕ, ◌+◌, ◌<◌, ◌≤◌, Bool, List, [], ◌∷◌, ◌++◌, length, sum, inl, inr, refl, sym, ap, subst, ◌∙◌, arith, length-append}
 use Rattle.std.proofs.lemmas.Bool.{cases_eq}
-use Rattle.std.proofs.lemmas.List.{append-nil}
+use Rattle.std.specs.List.{flat_map}
+use Rattle.std.proofs.lemmas.List.{append-nil, append_cancel_left}
 use Rattle.bale_types.specs.Stream.{Rose}
 use Rattle.item_buffer.specs.Contents.{Shipped}
 use Rattle.route_tensor.specs.Grid.{ranks, IsGrid}
@@ -81,6 +82,9 @@ none_left : (xs : List Shipped) → length xs ≡ 0 → xs ≡ []
 none_left [] h = refl
 none_left (x ∷ xs) h = absurd (omega arith)
 
+pub no_more : (xs more : List Shipped) → xs ≡ xs ++ more → more ≡ []
+no_more xs more e = append_cancel_left xs more [] (sym e ∙ sym (append-nil xs))
+
 -- a list that grew and is as it was at first never grew
 pub never_grew : (xs ys zs : List Shipped) → Begins xs ys → Begins ys zs → zs ≡ xs → ys ≡ xs
 never_grew xs ys zs p q e =
@@ -103,11 +107,13 @@ pub record NotAsked (b c : State) (l : ℕ) (log log' : List Shipped) (at at' : 
 pub record Collecting (dims : List ℕ) (rank i : ℕ) (b c : State) (got got' : Logs) (noted noted' : ℕ → ℕ) (idle' : ℕ → Bool) : Type 0 where
   pub asked : (l : ℕ) → l < links dims → reader_at dims l ≡ rank → in_index dims l < i → WasAsked b l (got l) (got' l) (noted l) (noted' l) (idle' l)
   pub to_ask : (l : ℕ) → l < links dims → reader_at dims l ≡ rank → i ≤ in_index dims l → NotAsked b c l (got l) (got' l) (noted l) (noted' l)
+  pub lies : (l : ℕ) (more : List Shipped) → l < links dims → reader_at dims l ≡ rank → got' l ≡ got l ++ more → (in_of c l).parcel.untaken ≡ (in_of b l).parcel.untaken ++ flat_map (λ p. p.entries) more
 
 pub collecting_none : (dims : List ℕ) (rank : ℕ) (b : State) (got : Logs) (noted : ℕ → ℕ) (idle : ℕ → Bool) → Collecting dims rank 0 b b got got noted noted idle
 collecting_none dims rank b got noted idle = record {
   asked = λ l h to less. absurd (omega arith);
   to_ask = λ l h to le. record { inbox = refl; got = refl; noted = refl };
+  lies = λ l more h to e. sym (ap (λ m. (in_of b l).parcel.untaken ++ flat_map (λ p. p.entries) m) (no_more (got l) more e) ∙ append-nil (in_of b l).parcel.untaken);
 }
 
 pub collecting_all : (dims : List ℕ) (rank i : ℕ) (b c : State) (got got' : Logs) (noted noted' : ℕ → ℕ) (idle' : ℕ → Bool) → IsGrid dims → i ≡ sum dims
@@ -117,6 +123,7 @@ collecting_all dims rank i b c got got' noted noted' idle' g all k l h to = k.as
 
 -- what asking one link leaves of the others
 pub record OthersStay (dims : List ℕ) (rank link : ℕ) (b c : State) (got got' : Logs) (noted noted' : ℕ → ℕ) (idle idle' : ℕ → Bool) : Type 0 where
+  pub lies : (more : List Shipped) → got' link ≡ got link ++ more → (in_of c link).parcel.untaken ≡ (in_of b link).parcel.untaken ++ flat_map (λ p. p.entries) more
   pub inbox : (m : ℕ) → m < links dims → reader_at dims m ≡ rank → m ≢ link → in_of c m ≡ in_of b m
   pub got_stays : (m : ℕ) → m ≢ link → got' m ≡ got m
   pub noted_stays : (m : ℕ) → m ≢ link → noted' m ≡ noted m
@@ -132,7 +139,7 @@ asked_still b l log log' log'' noted noted' noted'' idle idle' same_log same_not
   idle = λ yes same. same_idle ∙ w.idle yes (sym same_log ∙ same);
 }
 
-wants_same : (b c : State) (l : ℕ) → in_of c l ≡ in_of b l → Wants b l → Wants c l
+pub wants_same : (b c : State) (l : ℕ) → in_of c l ≡ in_of b l → Wants b l → Wants c l
 wants_same b c l same w = ap is_wanted same ∙ w
 
 pub asked_now : (b c : State) (l : ℕ) (log log' log'' : List Shipped) (noted noted' noted'' : ℕ) (idle : Bool)
@@ -174,6 +181,15 @@ module _ (dims : List ℕ) (rank i link : ℕ) (b c d : State) (got got' got'' :
         let x = other_in l (λ e. omega arith) in
         let n = k.to_ask l h to (omega arith) in
         record { inbox = o.inbox l h to x ∙ n.inbox; got = o.got_stays l x ∙ n.got; noted = o.noted_stays l x ∙ n.noted };
+    lies = λ l more h to e. elim (cases_eq (in_index dims l) i) [
+      | inl same ↦
+          let n = k.to_ask l h to (omega arith) in
+          subst (λ m. got'' m ≡ got' m ++ more → (in_of d m).parcel.untaken ≡ (in_of c m).parcel.untaken ++ flat_map (λ p. p.entries) more) (same_in l h to same) (o.lies more) (e ∙ ap (λ log. log ++ more) (sym n.got))
+          ∙ ap (λ x. x.parcel.untaken ++ flat_map (λ p. p.entries) more) n.inbox
+      | inr ne ↦
+          let x = other_in l ne in
+          ap (λ q. q.parcel.untaken) (o.inbox l h to x) ∙ k.lies l more h to (sym (o.got_stays l x) ∙ e)
+    ];
   }
 
 -- Serving: the first i links out were served, and the others were not looked at.

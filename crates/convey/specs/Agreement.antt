@@ -8,7 +8,7 @@ use Rattle.route_tensor.specs.Link.{links}
 use Rattle.route_tensor.specs.Tag.{IsFair}
 use Rattle.route_tensor.specs.Ends.{hop_at, sender_at, reader_at}
 use Rattle.port_bank.specs.Logs.{Logs, lasts, segment}
-use Rattle.port_bank.specs.Flow.{hop_link, belongs, flow}
+use Rattle.port_bank.specs.Flow.{hop_link, belongs, flow, Begins}
 use Rattle.port_bank.specs.Relay.{Relays, RelayLaw}
 use Rattle.convey.specs.Buffers.{Buffers}
 
@@ -57,6 +57,7 @@ with_back (Some p) l unread = cond (p.0 == l) (p.1 ∷ unread) unread
 -- law: the lists meet the relay law.
 -- pairs: what came of a pair on hop h is what was sent on, what waits to be sent on, and what is still in the inbox.
 -- arrived: on the last hop the entries that are unread, or may be put back, are the latest that came in this epoch.
+-- own: on a link from the rank to itself, what was got is the front of what was sent.
 pub record Agrees (b : Buffers) (sent got : Logs) : Type 0 where
   pub outs : (l : ℕ) → l < links b.dims → sender_at b.dims l ≡ b.rank → OutAgrees b.dims b.epoch l (b.waiting l) (b.closed l) (sent l)
   pub ins : (l : ℕ) → l < links b.dims → reader_at b.dims l ≡ b.rank → InAgrees b.dims b.epoch l (with_back b.latest l (b.unread l)) (b.ended l) (got l)
@@ -65,3 +66,4 @@ pub record Agrees (b : Buffers) (sent got : Logs) : Type 0 where
       ≡ flow b.dims sent s d (h + 1) b.epoch ++ (items_among (belongs b.dims s d (h + 1)) (b.waiting (hop_link b.dims s d (h + 1))) ++ items_among (belongs b.dims s d h) (b.unread (hop_link b.dims s d h)))
   pub arrived : (l : ℕ) → l < links b.dims → reader_at b.dims l ≡ b.rank → hop_at b.dims l ≡ length b.dims
       → Ends (flat_map (λ p. p.entries) (segment b.epoch (got l))) (with_back b.latest l (b.unread l))
+  pub own : (l : ℕ) → l < links b.dims → sender_at b.dims l ≡ b.rank → reader_at b.dims l ≡ b.rank → Begins (got l) (sent l)

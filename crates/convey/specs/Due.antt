@@ -1,5 +1,5 @@
 -- Which links an advance serves.
-use Rattle.std.specs.Prelude.{◌≡◌, ℕ, ◌<◌, true, []}
+use Rattle.std.specs.Prelude.{◌≡◌, ℕ, ◌+◌, ◌<◌, true, List, [], length}
 use Rattle.route_tensor.specs.Ends.{hop_at, sender_at, reader_at}
 use Rattle.route_tensor.specs.Link.{links}
 use Rattle.hop_core.specs.Link.{is_due, is_wanted}
@@ -21,3 +21,16 @@ pub record IsOver (st : State) : Type 0 where
   pub closed : (l : ℕ) → l < links st.dims → sender_at st.dims l ≡ st.rank → (out_of st l).closed ≡ true
   pub ended : (l : ℕ) → l < links st.dims → reader_at st.dims l ≡ st.rank → (in_of st l).ended ≡ true
   pub read : (l : ℕ) → l < links st.dims → reader_at st.dims l ≡ st.rank → (in_of st l).parcel.untaken ≡ []
+
+-- Of a rank's links out on the hop after that of link l there is one that P holds of.
+-- On the grid 2x2, of a link of hop 1, it is a link of hop 2.
+pub record HasNext (dims : List ℕ) (rank l : ℕ) (P : ℕ → Type 0) : Type 0 where
+  pub link : ℕ
+  pub below : link < links dims
+  pub sender : sender_at dims link ≡ rank
+  pub hop : hop_at dims link ≡ hop_at dims l + 1
+  pub holds : P link
+
+-- What is left in the inbox of a link in can't be passed on: the open parcel of its next link is full.
+abbrev pub IsBlocked : State → ℕ → Type 0
+IsBlocked st l = HasNext st.dims st.rank l (λ m. length (out_of st m).parcel.untaken ≡ st.cap)

@@ -1,6 +1,9 @@
 -- A conveyor and its port in the midst of an advance.
-use Rattle.std.specs.Prelude.{◌≡◌, ℕ, Bool, true, List, None}
+use Rattle.std.specs.Prelude.{◌≡◌, ◌≢◌, ℕ, ◌<◌, Bool, true, false, List, [], ◌++◌, length, None}
+use Rattle.std.specs.List.{flat_map}
 use Rattle.bale_types.specs.Stream.{Rose}
+use Rattle.route_tensor.specs.Link.{links}
+use Rattle.route_tensor.specs.Ends.{hop_at, sender_at, reader_at}
 use Rattle.port_bank.specs.Logs.{Logs}
 use Rattle.port_bank.specs.Flow.{Begins}
 use Rattle.port_bank.specs.Shapes.{IsConveyorShape}
@@ -9,9 +12,9 @@ use Rattle.convey.specs.Machine.{Part}
 use Rattle.hop_core.specs.declared.lent.Lent.TheVariants.{Nothing}
 use Rattle.hop_core.specs.State.{State}
 use Rattle.convey.specs.Buffers.{out_of, in_of, buffers_of}
-use Rattle.convey.specs.Agreement.{Agrees}
+use Rattle.convey.specs.Agreement.{Ends, Agrees}
 use Rattle.convey.specs.Parts.{part_of}
-use Rattle.convey.specs.Due.{IsDue, Wants}
+use Rattle.convey.specs.Due.{IsDue, Wants, IsOver, HasNext}
 
 -- A state at home, with no parcel lent, whose buffers agree with the lists of its port.
 pub record IsReady (dims : List ℕ) (rank : ℕ) (st : State) (sent got : Logs) : Type 0 where
@@ -58,3 +61,32 @@ pub record PassedOn (dims : List ℕ) (rank : ℕ) (old new : State) (sent got :
   pub waits : (l : ℕ) → Begins (out_of old l).parcel.untaken (out_of new l).parcel.untaken
   pub closes : (l : ℕ) → (out_of new l).closed ≡ (out_of old l).closed
   pub ends : (l : ℕ) → (in_of new l).ended ≡ (in_of old l).ended
+  pub lies : (l : ℕ) → Ends (in_of old l).parcel.untaken (in_of new l).parcel.untaken
+
+-- What noting done, collecting, relaying and posting leave together.
+-- left, unasked: a link in that wanted no parcel was not asked.
+-- asked, idle: of one that wanted a parcel and got none, the port has listened since it was asked before, and knows of
+-- nothing more, but for what was posted there.
+-- lies: the inbox holds the end of what it held and of what came.
+-- waits: where nothing was sent, the open parcel begins with what it held.
+-- not_at_once: the call that says that the rank is done doesn't complete it.
+pub record MovesOn (old new : State) (done : Bool) (sent sent' got got' : Logs) (noted noted' : ℕ → ℕ) (is_idle : ℕ → Bool) : Type 0 where
+  pub goes_on : GoesOn (record old { done = done; pulled = None }) new sent sent' got got'
+  pub left : (l : ℕ) → l < links old.dims → reader_at old.dims l ≡ old.rank → (Wants old l → ⊥) → got' l ≡ got l
+  pub unasked : (l : ℕ) → l < links old.dims → reader_at old.dims l ≡ old.rank → (Wants old l → ⊥) → noted' l ≡ noted l
+  pub asked : (l : ℕ) → l < links old.dims → reader_at old.dims l ≡ old.rank → Wants old l → got' l ≡ got l → Rose (noted l) (noted' l)
+  pub idle : (l : ℕ) → l < links old.dims → reader_at old.dims l ≡ old.rank → Wants old l → got' l ≡ got l → sent' l ≡ sent l → is_idle l ≡ true
+  pub lies : (l : ℕ) (more : List Shipped) → l < links old.dims → reader_at old.dims l ≡ old.rank → got' l ≡ got l ++ more
+      → Ends ((in_of old l).parcel.untaken ++ flat_map (λ p. p.entries) more) (in_of new l).parcel.untaken
+  pub waits : (l : ℕ) → l < links old.dims → sender_at old.dims l ≡ old.rank → sent' l ≡ sent l → Begins (out_of old l).parcel.untaken (out_of new l).parcel.untaken
+  pub not_at_once : old.done ≡ false → IsOver new → ⊥
+
+-- What they leave where all posts had memory.
+-- served: a link out that is still due was looked at in vain.
+-- full: so was one on which nothing was sent though its parcel was full.
+-- stopped: where an entry is left in an inbox of an earlier hop, its next link is crowded, unless a parcel was sent there.
+pub record HasServed (old new : State) (sent sent' : Logs) (looks looks' : ℕ → ℕ) (is_crowded : ℕ → Bool) : Type 0 where
+  pub served : (l : ℕ) → l < links old.dims → sender_at old.dims l ≡ old.rank → WasServed new l (looks l) (looks' l) (is_crowded l)
+  pub full : (l : ℕ) → l < links old.dims → sender_at old.dims l ≡ old.rank → sent' l ≡ sent l → length (out_of old l).parcel.untaken ≡ old.cap → is_crowded l ≡ true
+  pub stopped : (l : ℕ) → l < links old.dims → reader_at old.dims l ≡ old.rank → hop_at old.dims l < length old.dims → (in_of new l).parcel.untaken ≢ []
+      → HasNext old.dims old.rank l (λ m. sent' m ≡ sent m → is_crowded m ≡ true)

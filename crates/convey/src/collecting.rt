@@ -1,8 +1,10 @@
 //! Collects on the links in that want a parcel.
-ghost use Rattle.std.specs.Prelude.{◌≡◌, ◌≢◌, ℕ, ◌<◌, length};
+ghost use Rattle.std.specs.Prelude.{◌≡◌, ◌≢◌, ℕ, ◌<◌, ◌++◌, List};
+ghost use Rattle.std.specs.List.{flat_map};
+ghost use Rattle.item_buffer.specs.Contents.{Shipped};
 ghost use Rattle.route_tensor.specs.Link.{links};
 ghost use Rattle.route_tensor.specs.Ends.{reader_at};
-ghost use Rattle.convey.specs.Buffers.{out_of, in_of};
+ghost use Rattle.convey.specs.Buffers.{in_of};
 ghost use Rattle.convey.specs.Way.{IsReady, GoesOn, WasAsked};
 
 use hop_core::RankState;
@@ -19,6 +21,8 @@ pub(crate) fn collect_all<const CAP: usize, const HOPS: usize, P: Port<CAP>>(
     ensures outs { state.new.outs ≡ state.old.outs }
     ensures asked { (l : ℕ) → l < links (P.dims port.old) → reader_at (P.dims port.old) l ≡ P.rank port.old
         → WasAsked state.old l (P.got port.old l) (P.got port.new l) (P.noted port.old l) (P.noted port.new l) (P.idle port.new l) }
+    ensures lies { (l : ℕ) (more : List Shipped) → l < links (P.dims port.old) → reader_at (P.dims port.old) l ≡ P.rank port.old → P.got port.new l ≡ P.got port.old l ++ more
+        → (in_of state.new l).parcel.untaken ≡ (in_of state.old l).parcel.untaken ++ flat_map (λ p. p.entries) more }
     ensures sent { P.sent port.new ≡ P.sent port.old }
     ensures looks_out { P.looks_out port.new ≡ P.looks_out port.old }
     ensures rest { P.rest port.new ≡ P.rest port.old }
@@ -33,7 +37,7 @@ pub(crate) fn collect_all<const CAP: usize, const HOPS: usize, P: Port<CAP>>(
 }
 
 /// Collects once on a link in, where it wants a parcel.
-fn collect_one<const CAP: usize, const HOPS: usize, P: Port<CAP>>(
+pub(crate) fn collect_one<const CAP: usize, const HOPS: usize, P: Port<CAP>>(
     state: &mut RankState<CAP, HOPS>,
     port: &mut P,
     link: u32,
@@ -45,6 +49,7 @@ fn collect_one<const CAP: usize, const HOPS: usize, P: Port<CAP>>(
     ensures goes_on { GoesOn state.old state.new (P.sent port.old) (P.sent port.new) (P.got port.old) (P.got port.new) }
     ensures outs { state.new.outs ≡ state.old.outs }
     ensures asked { WasAsked state.old link (P.got port.old link) (P.got port.new link) (P.noted port.old link) (P.noted port.new link) (P.idle port.new link) }
+    ensures lies { (more : List Shipped) → P.got port.new link ≡ P.got port.old link ++ more → (in_of state.new link).parcel.untaken ≡ (in_of state.old link).parcel.untaken ++ flat_map (λ p. p.entries) more }
     ensures inbox { (m : ℕ) → m < links (P.dims port.old) → reader_at (P.dims port.old) m ≡ P.rank port.old → m ≢ link → in_of state.new m ≡ in_of state.old m }
     ensures got { (m : ℕ) → m ≢ link → P.got port.new m ≡ P.got port.old m }
     ensures noted { (m : ℕ) → m ≢ link → P.noted port.new m ≡ P.noted port.old m }

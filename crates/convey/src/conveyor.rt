@@ -1,9 +1,10 @@
 //! The conveyor of one rank: what a program pushes, advances and pulls.
-ghost use Rattle.std.specs.Prelude.{◌≡◌, ◌≢◌, ℕ, ◌+◌, ◌<◌, ◌≤◌, ◌^◌, ◌==◌, ◌||◌, true, false, List, [], length, sum, replicate, map, is_some, Some, None, IfOk, IfSome, OnOk, IsOk, Ok, Result};
+ghost use Rattle.std.specs.Prelude.{◌≡◌, ◌≢◌, ℕ, ◌+◌, ◌<◌, ◌≤◌, ◌^◌, true, false, List, [], ◌++◌, length, sum, replicate, map, is_some, None, IfOk, IfSome, OnOk, IsOk, IsErr, Ok, Result};
+ghost use Rattle.std.specs.List.{flat_map};
+ghost use Rattle.item_buffer.specs.Contents.{Shipped};
 ghost use Rattle.route_tensor.specs.Grid.{ranks, IsGrid};
 ghost use Rattle.route_tensor.specs.Link.{links};
 ghost use Rattle.route_tensor.specs.Ends.{hop_at, sender_at, reader_at};
-ghost use Rattle.port_bank.specs.Logs.{Logs};
 ghost use Rattle.port_bank.specs.Flow.{Begins};
 ghost use Rattle.port_bank.specs.Shapes.{IsConveyorShape};
 ghost use Rattle.hop_core.specs.Link.{no_out, no_in};
@@ -15,18 +16,17 @@ ghost use Rattle.convey.specs.Parts.{part_of};
 ghost use Rattle.convey.specs.Law.{IsSound};
 ghost use Rattle.convey.specs.Conveyors.{AgreesWith, IsStepOf, KeepsAgreement, standing_toward};
 ghost use Rattle.convey.specs.Progress.{progress_of, advance_step};
-ghost use Rattle.std.specs.Prelude.{◌⊎◌, IsErr};
 ghost use Rattle.bale_types.specs.Stream.{Rose};
 ghost use Rattle.hop_core.specs.declared.lent.Lent.TheVariants as Lent;
 ghost use Rattle.hop_core.specs.State.{at_end};
 ghost use Rattle.hop_core.specs.Standing.{IsState};
-ghost use Rattle.convey.specs.Due.{Wants, IsOver};
+ghost use Rattle.convey.specs.Agreement.{Ends};
+ghost use Rattle.convey.specs.Arrived.{HasArrived};
+ghost use Rattle.convey.specs.Due.{Wants, IsOver, HasNext};
 ghost use Rattle.convey.specs.Way.{WasServed};
 
-use crate::collecting::collect_all;
-use crate::posting::post_all;
+use crate::moving::move_on;
 use crate::progress::Progress;
-use crate::relaying::relay_all;
 use bale_types::{Item, NoMemory};
 use hop_core::{Phase, Pushed, RankState};
 use port_bank::Port;
@@ -88,6 +88,7 @@ impl<const CAP: usize, const HOPS: usize> Conveyor<CAP, HOPS> {
         ensures grid { IsGrid self.now.dims }
         ensures rank { self.now.rank < ranks self.now.dims }
         ensures sound { IsSound (buffers_of self.now) }
+        ensures cap { self.now.cap ≡ CAP }
     {
         self.state.phase()
     }
@@ -108,8 +109,8 @@ impl<const CAP: usize, const HOPS: usize> Conveyor<CAP, HOPS> {
         requires working { self.old.phase ≡ Phase.Working }
         requires not_done { self.old.done ≡ false }
         requires to { to < ranks self.old.dims }
-        ensures room { result ≡ Pushed.Accepted → standing_toward self.old to < self.old.cap }
-        ensures full { result ≡ Pushed.Full → standing_toward self.old to ≡ self.old.cap }
+        ensures room { result ≡ Pushed.Accepted → standing_toward self.old to < CAP }
+        ensures full { result ≡ Pushed.Full → standing_toward self.old to ≡ CAP }
         ensures unchanged { result ≡ Pushed.Full → self.new ≡ record self.old { pulled = None } }
         ensures same { self.new ≡ record self.old { outs = self.new.outs; pulled = None } }
         ensures kept { KeepsAgreement self.old self.new }
@@ -192,7 +193,7 @@ impl<const CAP: usize, const HOPS: usize> Conveyor<CAP, HOPS> {
         // The lists only grow, by parcels of the conveyor's shape.
         ensures sent_grows { (l : ℕ) → Begins (P.sent port.old l) (P.sent port.new l) }
         ensures got_grows { (l : ℕ) → Begins (P.got port.old l) (P.got port.new l) }
-        ensures shape { (l : ℕ) → IsConveyorShape self.old.steady self.old.cap (P.sent port.old l) → IsConveyorShape self.old.steady self.old.cap (P.sent port.new l) }
+        ensures shape { (l : ℕ) → IsConveyorShape self.old.steady CAP (P.sent port.old l) → IsConveyorShape self.old.steady CAP (P.sent port.new l) }
 
         // Each link out that is left due was served in vain; each link in that wanted a parcel was asked.
         ensures served { OnOk result ((l : ℕ) → l < links self.old.dims → sender_at self.old.dims l ≡ self.old.rank
@@ -208,25 +209,26 @@ impl<const CAP: usize, const HOPS: usize> Conveyor<CAP, HOPS> {
         ensures idle { (l : ℕ) → l < links self.old.dims → reader_at self.old.dims l ≡ self.old.rank → Wants self.old l
             → P.got port.new l ≡ P.got port.old l → P.sent port.new l ≡ P.sent port.old l → P.idle port.new l ≡ true }
 
+        // An inbox holds the end of what it held and of what came.
+        ensures lies { (l : ℕ) (more : List Shipped) → l < links self.old.dims → reader_at self.old.dims l ≡ self.old.rank → P.got port.new l ≡ P.got port.old l ++ more
+            → Ends ((in_of self.old l).parcel.untaken ++ flat_map (λ p. p.entries) more) (in_of self.new l).parcel.untaken }
+
         // Where nothing was sent on a link out, it is crowded if its parcel was full, or if its hop has reached its end
-        // and it isn't closed.
+        // and it isn't closed, or if it is the next link of an entry that is left in an inbox of the hop before.
         ensures full { IsOk result → (l : ℕ) → l < links self.old.dims → sender_at self.old.dims l ≡ self.old.rank → P.sent port.new l ≡ P.sent port.old l
-            → length (out_of self.old l).parcel.untaken ≡ self.old.cap → P.crowded port.new l ≡ true }
+            → length (out_of self.old l).parcel.untaken ≡ CAP → P.crowded port.new l ≡ true }
         ensures ending { IsOk result → (l : ℕ) → l < links self.old.dims → sender_at self.old.dims l ≡ self.old.rank
             → at_end self.new.dims self.new.ins self.new.done (hop_at self.new.dims l) ≡ true → (out_of self.new l).closed ≡ false → P.crowded port.new l ≡ true }
+        ensures closing { IsOk result → (l : ℕ) → l < links self.old.dims → sender_at self.old.dims l ≡ self.old.rank
+            → (hop_at self.old.dims l ≡ 1 → done ≡ true) → HasArrived (buffers_of self.new) l → (out_of self.new l).closed ≡ false → P.crowded port.new l ≡ true }
+        ensures stopped { IsOk result → (l : ℕ) → l < links self.old.dims → reader_at self.old.dims l ≡ self.old.rank
+            → hop_at self.old.dims l < length self.old.dims → (in_of self.new l).parcel.untaken ≢ []
+            → HasNext self.old.dims self.old.rank l (λ m. P.sent port.new m ≡ P.sent port.old m → P.crowded port.new m ≡ true) }
 
         // It is a step of the rank's part of the exchange machine.
-        ensures step { (self.old.done ≡ false → done ≡ true → is_complete self.new.phase ≡ false)
-            → IsOwnStep (advance_step self.old.done done (is_complete self.new.phase)) (part_of (buffers_of self.old) (P.sent port.old) (P.got port.old)) (part_of (buffers_of self.new) (P.sent port.new) (P.got port.new)) }
+        ensures step { IsOwnStep (advance_step self.old.done done (is_complete self.new.phase)) (part_of (buffers_of self.old) (P.sent port.old) (P.got port.old)) (part_of (buffers_of self.new) (P.sent port.new) (P.got port.new)) }
     {
-        // The contract of `phase` tells what holds of the state.
-        if is_over(self.state.phase()) {
-            return Ok(settle(&mut self.state));
-        }
-        note_done(&mut self.state, done);
-        collect_all(&mut self.state, port);
-        relay_all(&mut self.state);
-        post_all(&mut self.state, port)?;
+        move_on(&mut self.state, port, done)?;
         Ok(settle(&mut self.state))
     }
 
@@ -250,29 +252,6 @@ impl<const CAP: usize, const HOPS: usize> Conveyor<CAP, HOPS> {
     }
 }
 
-/// Notes that nothing more is pushed in this epoch, where that is so.
-fn note_done<const CAP: usize, const HOPS: usize>(state: &mut RankState<CAP, HOPS>, done: bool)
-    requires home { state.old.lent ≡ Lent.Nothing }
-    requires begun { state.old.phase ≢ Phase.Dormant }
-    requires stays { state.old.done ≡ true → done ≡ true }
-    ensures state { state.new ≡ record state.old { done = done; pulled = state.new.pulled } }
-    ensures pulled { (state.new.pulled ≡ state.old.pulled) ⊎ (state.new.pulled ≡ None) }
-{
-    if done {
-        state.set_done();
-    }
-}
-
-/// Whether the epoch is over.
-fn is_over(phase: Phase) -> bool
-    ensures { result ≡ is_complete phase }
-{
-    match phase {
-        Phase::Dormant | Phase::Working | Phase::Endgame | Phase::Cleanup => false,
-        Phase::Complete => true,
-    }
-}
-
 /// Settles the phase and answers it.
 fn settle<const CAP: usize, const HOPS: usize>(state: &mut RankState<CAP, HOPS>) -> Progress
     requires home { state.old.lent ≡ Lent.Nothing }
@@ -280,6 +259,7 @@ fn settle<const CAP: usize, const HOPS: usize>(state: &mut RankState<CAP, HOPS>)
     ensures state { state.new ≡ record state.old { phase = phase_of state.old; pulled = None } }
     ensures value { result ≡ progress_of state.new.phase }
     ensures standing { IsState state.new }
+    ensures cap { state.new.cap ≡ CAP }
 {
     let _settled = state.settle();
     progress(state.phase())

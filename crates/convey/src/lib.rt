@@ -22,6 +22,7 @@
 mod collecting;
 mod conveyor;
 mod law;
+mod moving;
 mod posting;
 mod progress;
 mod relaying;
@@ -30,3 +31,16 @@ pub use conveyor::Conveyor;
 pub use hop_core::{Phase, Pushed};
 pub use law::exchange_law;
 pub use progress::Progress;
+
+#[cfg(test)]
+mod call_tests;
+#[cfg(test)]
+mod exchange_tests;
+#[cfg(test)]
+mod hop_tests;
+#[cfg(test)]
+mod side;
+#[cfg(test)]
+mod sides;
+#[cfg(test)]
+mod station;

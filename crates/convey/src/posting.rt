@@ -1,8 +1,8 @@
 //! Posts on the links out that are due.
-ghost use Rattle.std.specs.Prelude.{◌≡◌, ◌≢◌, ℕ, ◌<◌, false, None, length, IsOk, IsErr, OnOk, Result};
+ghost use Rattle.std.specs.Prelude.{◌≡◌, ◌≢◌, ℕ, ◌<◌, false, None, IsOk, IsErr, OnOk, Result};
 ghost use Rattle.route_tensor.specs.Link.{links};
 ghost use Rattle.route_tensor.specs.Ends.{sender_at};
-ghost use Rattle.convey.specs.Buffers.{out_of, in_of};
+ghost use Rattle.convey.specs.Buffers.{out_of};
 ghost use Rattle.convey.specs.Way.{IsReady, GoesOn, WasServed};
 
 use bale_types::NoMemory;
@@ -43,7 +43,7 @@ pub(crate) fn post_all<const CAP: usize, const HOPS: usize, P: Port<CAP>>(
 }
 
 /// Posts once on a link out, where it is due.
-fn post_one<const CAP: usize, const HOPS: usize, P: Port<CAP>>(
+pub(crate) fn post_one<const CAP: usize, const HOPS: usize, P: Port<CAP>>(
     state: &mut RankState<CAP, HOPS>,
     port: &mut P,
     link: u32,

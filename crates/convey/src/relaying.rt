@@ -1,7 +1,12 @@
 //! Passes on what came over one hop to the next.
-ghost use Rattle.std.specs.Prelude.{◌≡◌, ℕ, ◌<◌, ◌≤◌, List, length};
+ghost use Rattle.std.specs.Prelude.{◌≡◌, ◌≢◌, ℕ, ◌+◌, ◌<◌, ◌≤◌, List, [], length};
+ghost use Rattle.route_tensor.specs.Link.{links};
+ghost use Rattle.route_tensor.specs.Ends.{hop_at};
 ghost use Rattle.port_bank.specs.Logs.{Logs};
 ghost use Rattle.hop_core.specs.declared.lent.Lent.TheVariants as Lent;
+ghost use Rattle.hop_core.specs.Standing.{IsState};
+ghost use Rattle.convey.specs.Buffers.{out_of, in_of};
+ghost use Rattle.convey.specs.Due.{IsBlocked};
 ghost use Rattle.convey.specs.Way.{IsReady, PassedOn};
 
 use hop_core::RankState;
@@ -11,6 +16,8 @@ pub(crate) fn relay_all<const CAP: usize, const HOPS: usize>(state: &mut RankSta
     requires home { state.old.lent ≡ Lent.Nothing }
     requires hops { length state.old.dims ≡ HOPS }
     ensures passed { (dims : List ℕ) (rank : ℕ) (sent got : Logs) → IsReady dims rank state.old sent got → PassedOn dims rank state.old state.new sent got }
+    ensures stopped { (l : ℕ) → l < links state.new.dims → hop_at state.new.dims l < length state.new.dims → (in_of state.new l).parcel.untaken ≢ [] → IsBlocked state.new l }
+    ensures standing { IsState state.new }
     ensures home { state.new.lent ≡ Lent.Nothing }
     ensures same_dims { state.new.dims ≡ state.old.dims }
 {
@@ -22,13 +29,22 @@ pub(crate) fn relay_all<const CAP: usize, const HOPS: usize>(state: &mut RankSta
 }
 
 /// Relays from the links in of one hop.
-fn relay_one<const CAP: usize, const HOPS: usize>(state: &mut RankState<CAP, HOPS>, h: u32)
+pub(crate) fn relay_one<const CAP: usize, const HOPS: usize>(
+    state: &mut RankState<CAP, HOPS>,
+    h: u32,
+)
     requires home { state.old.lent ≡ Lent.Nothing }
     requires first { 1 ≤ h }
     requires last { h < length state.old.dims }
     ensures passed { (dims : List ℕ) (rank : ℕ) (sent got : Logs) → IsReady dims rank state.old sent got → PassedOn dims rank state.old state.new sent got }
+    ensures stopped { (l : ℕ) → l < links state.new.dims → hop_at state.new.dims l ≡ h → (in_of state.new l).parcel.untaken ≢ [] → IsBlocked state.new l }
+    ensures ins { (l : ℕ) → l < links state.new.dims → hop_at state.new.dims l ≢ h → in_of state.new l ≡ in_of state.old l }
+    ensures outs { (l : ℕ) → l < links state.new.dims → hop_at state.new.dims l ≢ h + 1 → out_of state.new l ≡ out_of state.old l }
+    ensures standing { IsState state.new }
     ensures home { state.new.lent ≡ Lent.Nothing }
     ensures same_dims { state.new.dims ≡ state.old.dims }
+    ensures same_rank { state.new.rank ≡ state.old.rank }
+    ensures cap { state.new.cap ≡ state.old.cap }
 {
     // The contract of `phase` tells what holds of the state.
     let _before = state.phase();

@@ -1,9 +1,9 @@
-use Rattle.std.proofs.Common.{◌≡◌, ◌<◌, sum, sym, ap, subst, ◌∙◌, arith, rules}
+use Rattle.std.proofs.Common.{◌≡◌, ◌<◌, sum, refl, sym, ap, subst, ◌∙◌, arith, rules}
 use Rattle.route_tensor.specs.Grid.{ranks, IsGrid}
 use Rattle.route_tensor.specs.Link.{links}
 use Rattle.route_tensor.specs.Ends.{reader_at}
 use Rattle.route_tensor.specs.Neighbour.{link_from}
-use Rattle.convey.proofs.Ways.{from_below, from_reader, below_sum, link_here, ready_at, link_at, end_at, collecting_more, collecting_all, goes_on_trans}
+use Rattle.convey.proofs.Ways.{from_below, from_reader, below_sum, link_here, ready_at, link_at, end_at, collecting_none, collecting_more, collecting_all, goes_on_refl, goes_on_trans}
 use Rattle.convey.proofs.collecting.collect_all.Goals as goal
 
 pub collect_one-requires : goal.collect_one-requires
@@ -27,6 +27,23 @@ collect_one-requires g c =
       ),
     )
 
+pub loop-i-init : goal.loop-i-init
+loop-i-init g c =
+    let dims = g.P.Port.dims c.args.port.now in
+    let rank = g.P.Port.rank c.args.port.now in
+    record {
+      ready = c.requires.ready;
+      goes_on = goes_on_refl c.args.state.now _ _;
+      collecting = collecting_none dims rank c.args.state.now _ _ _;
+      outs = refl;
+      sent = refl;
+      looks_out = refl;
+      rest = refl;
+      same_rank = refl;
+      same_dims = refl;
+      same_slots = refl;
+    }
+
 pub loop-i-preserved : goal.loop-i-preserved
 loop-i-preserved g c =
     let dims = g.P.Port.dims c.args.port.now in
@@ -42,6 +59,7 @@ loop-i-preserved g c =
       ready = ready_at dims _ rank _ _ _ _ k.same_dims k.same_rank e.ready;
       goes_on = goes_on_trans _ _ _ _ _ _ _ _ _ k.goes_on e.goes_on;
       collecting = collecting_more dims rank _ _ c.args.state.now c.loop-i.state c.collect_one.new.state _ _ _ _ _ _ _ _ grid own below k.collecting here e.asked (record {
+        lies = e.lies;
         inbox = λ m h to ne. e.inbox m (link_at dims _ m k.same_dims h) (end_at reader_at dims _ rank _ m k.same_dims k.same_rank to) ne;
         got_stays = e.got;
         noted_stays = e.noted;

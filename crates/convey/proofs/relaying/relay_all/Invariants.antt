@@ -1,6 +1,11 @@
-use Rattle.std.proofs.Common.{◌≡◌, ℕ, List}
+use Rattle.std.proofs.Common.{◌≡◌, ◌≢◌, ℕ, ◌<◌, ◌≤◌, List, [], length}
+use Rattle.route_tensor.specs.Link.{links}
+use Rattle.route_tensor.specs.Ends.{hop_at}
 use Rattle.port_bank.specs.Logs.{Logs}
 use Rattle.hop_core.specs.declared.lent.Lent.TheVariants.{Nothing}
+use Rattle.hop_core.specs.Standing.{IsState}
+use Rattle.convey.specs.Buffers.{in_of}
+use Rattle.convey.specs.Due.{IsBlocked}
 use Rattle.convey.specs.Way.{IsReady, PassedOn}
 use Rattle.convey.proofs.relaying.relay_all.Given as goal
 
@@ -8,5 +13,7 @@ abbrev pub invariant-loop-h : goal.invariant-loop-h
 invariant-loop-h g l = record {
   home : l.state.lent ≡ Nothing;
   same_dims : l.state.dims ≡ l.fn.state.dims;
+  standing : IsState l.state;
+  stopped : (m : ℕ) → m < links l.state.dims → l.h ≤ hop_at l.state.dims m → hop_at l.state.dims m < length l.state.dims → (in_of l.state m).parcel.untaken ≢ [] → IsBlocked l.state m;
   passed : (dims : List ℕ) (rank : ℕ) (sent got : Logs) → IsReady dims rank l.fn.state sent got → PassedOn dims rank l.fn.state l.state sent got;
 }

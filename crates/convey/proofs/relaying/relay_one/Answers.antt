@@ -1,9 +1,14 @@
-use Rattle.std.proofs.Common.{◌≡◌, ℕ, sym, subst}
+use Rattle.std.proofs.Common.{◌≡◌, ◌≢◌, ℕ, ◌+◌, ◌<◌, [], sym, subst}
+use Rattle.route_tensor.specs.Link.{links}
+use Rattle.route_tensor.specs.Ends.{hop_at}
 use Rattle.hop_core.specs.State.{State}
 use Rattle.hop_core.specs.Standing.{IsState}
 use Rattle.hop_core.specs.Relay.{PassesThrough, held}
+use Rattle.convey.specs.Buffers.{out_of, in_of}
+use Rattle.convey.specs.Due.{IsBlocked}
 use Rattle.convey.specs.Way.{PassedOn}
 use Rattle.convey.proofs.Relays.{relayed_one}
+use Rattle.convey.proofs.Blocks.{blocked_here, same_ins, same_outs}
 use Rattle.convey.proofs.relaying.relay_one.Goals as goal
 
 pub returns-clause-passed : goal.returns-clause-passed
@@ -15,3 +20,28 @@ returns-clause-passed g c =
     let keeps = subst (λ (n : State). (x y : ℕ) → PassesThrough st.dims st.rank x y c.args.h → held n x y c.args.h ≡ held st x y c.args.h) e.rest e.held in
     λ dims rank sent got r. subst (λ n. PassedOn dims rank st n sent got) (sym e.rest)
     (relayed_one st new.outs new.ins c.args.h c.phase-before.ensures.standing c.requires.first c.requires.last e.adds e.takes t keeps dims rank sent got r)
+
+pub returns-clause-stopped : goal.returns-clause-stopped
+returns-clause-stopped g c =
+    let st : State = c.args.state.now in
+    let e = c.relay-count.ensures in
+    let new : State = c.relay-count.new.self in
+    let t = subst IsState e.rest c.phase-after.ensures.standing in
+    subst (λ (n : State). (l : ℕ) → l < links n.dims → hop_at n.dims l ≡ c.args.h → (in_of n l).parcel.untaken ≢ [] → IsBlocked n l) (sym e.rest)
+    (blocked_here st new.outs new.ins c.args.h c.requires.first c.requires.last t e.stopped)
+
+pub returns-clause-ins : goal.returns-clause-ins
+returns-clause-ins g c =
+    let st : State = c.args.state.now in
+    let e = c.relay-count.ensures in
+    let new : State = c.relay-count.new.self in
+    subst (λ (n : State). (l : ℕ) → l < links n.dims → hop_at n.dims l ≢ c.args.h → in_of n l ≡ in_of st l) (sym e.rest)
+    (same_ins st new.ins c.args.h c.phase-before.ensures.standing e.takes)
+
+pub returns-clause-outs : goal.returns-clause-outs
+returns-clause-outs g c =
+    let st : State = c.args.state.now in
+    let e = c.relay-count.ensures in
+    let new : State = c.relay-count.new.self in
+    subst (λ (n : State). (l : ℕ) → l < links n.dims → hop_at n.dims l ≢ c.args.h + 1 → out_of n l ≡ out_of st l) (sym e.rest)
+    (same_outs st new.outs (c.args.h + 1) c.phase-before.ensures.standing e.adds)

@@ -7,6 +7,7 @@ use Rattle.hop_core.specs.Standing.{IsState}
 use Rattle.convey.specs.Machine.{IsOwnStep}
 use Rattle.convey.specs.Machine.Step.{Push}
 use Rattle.convey.specs.Buffers.{buffers_of}
+use Rattle.convey.specs.Conveyors.{standing_toward}
 use Rattle.convey.specs.Agreement.{Agrees}
 use Rattle.convey.specs.Parts.{part_of}
 use Rattle.convey.proofs.Pushes.{pushed_state, pushed_agrees, pushed_step, standing_index, idle_agrees}
@@ -20,13 +21,15 @@ pub returns-clause-room : goal.returns-clause-room
 returns-clause-room g c =
     let now : State = c.args.self.now in
     let s : IsState now = subst IsState c.self.view_is c.phase-standing.ensures.standing in
-    λ r. subst (λ n. n < now.cap) (standing_index now c.args.to c.args.item s c.requires.to) (subst (λ (t : State). length (out_at t (coord t.dims c.args.to 1)).parcel.untaken < t.cap) c.self.view_is (c.push.ensures.room r))
+    let cap : now.cap ≡ g.row.CAP = subst (λ (t : State). t.cap ≡ g.row.CAP) c.self.view_is c.phase-standing.ensures.cap in
+    λ r. subst (λ n. standing_toward now c.args.to < n) cap (subst (λ n. n < now.cap) (standing_index now c.args.to c.args.item s c.requires.to) (subst (λ (t : State). length (out_at t (coord t.dims c.args.to 1)).parcel.untaken < t.cap) c.self.view_is (c.push.ensures.room r)))
 
 pub returns-clause-full : goal.returns-clause-full
 returns-clause-full g c =
     let now : State = c.args.self.now in
     let s : IsState now = subst IsState c.self.view_is c.phase-standing.ensures.standing in
-    λ r. sym (standing_index now c.args.to c.args.item s c.requires.to) ∙ subst (λ (t : State). length (out_at t (coord t.dims c.args.to 1)).parcel.untaken ≡ t.cap) c.self.view_is (c.push.ensures.full r)
+    let cap : now.cap ≡ g.row.CAP = subst (λ (t : State). t.cap ≡ g.row.CAP) c.self.view_is c.phase-standing.ensures.cap in
+    λ r. sym (standing_index now c.args.to c.args.item s c.requires.to) ∙ subst (λ (t : State). length (out_at t (coord t.dims c.args.to 1)).parcel.untaken ≡ t.cap) c.self.view_is (c.push.ensures.full r) ∙ cap
 
 pub returns-clause-kept : goal.returns-clause-kept
 returns-clause-kept g c =

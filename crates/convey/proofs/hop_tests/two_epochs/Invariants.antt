@@ -1,0 +1,13 @@
+use Rattle.std.proofs.Common.{◌≡◌, length}
+use Rattle.list_laws.specs.Lists.{EachAt}
+use Rattle.route_tensor.specs.Grid.{ranks}
+use Rattle.port_bank.specs.Plain.{sent_of, got_of}
+use Rattle.convey.proofs.Stations.{ReadyAt}
+use Rattle.convey.proofs.hop_tests.two_epochs.Given as goal
+
+abbrev pub invariant-loop-epoch : goal.invariant-loop-epoch
+invariant-loop-epoch g l = record {
+  all : length l.stations.items ≡ ranks l.grid;
+  same_dims : l.bank.dims ≡ l.grid;
+  ready : EachAt (λ r s. ReadyAt l.bank.dims (sent_of l.bank) (got_of l.bank) r s.state) l.stations.items;
+}

@@ -1,0 +1,81 @@
+use Rattle.std.proofs.Common.{◌≡◌, ℕ, false, List, length, sym, ap, subst, ◌∙◌, rules}
+use Rattle.std.proofs.lemmas.Result.{on_ok_weaker}
+use Rattle.hop_core.specs.declared.phase.Phase.TheVariants.{Complete}
+use Rattle.hop_core.specs.State.{State}
+use Rattle.route_tensor.specs.Ends.{sender_at}
+use Rattle.convey.specs.Buffers.{is_complete}
+use Rattle.convey.specs.Way.{WasServed}
+use Rattle.convey.proofs.Ways.{ready_at, link_at, end_at}
+use Rattle.convey.proofs.Completes.{complete_phase}
+use Rattle.convey.proofs.Movements.{noted_ready, moves_on, has_served, over_moves, over_served}
+use Rattle.convey.proofs.Advances.{not_over}
+use Rattle.convey.proofs.moving.move_on.Goals as goal
+
+pub returns-then-is_over-clause-moves_on : goal.returns-then-is_over-clause-moves_on
+returns-then-is_over-clause-moves_on g c =
+    let st : State = c.args.state.now in
+    let over : st.phase ≡ Complete = complete_phase st.phase (ap is_complete (sym c.phase.ensures.value) ∙ (sym c.is_over.ensures ∙ c.if-is_over.true)) in
+    over_moves st c.phase.ensures.standing (c.requires.conveyor.complete over) c.args.done _ _ _ _ c.requires.done_stays
+
+pub returns-then-is_over-clause-served : goal.returns-then-is_over-clause-served
+returns-then-is_over-clause-served g c =
+    let st : State = c.args.state.now in
+    let over : st.phase ≡ Complete = complete_phase st.phase (ap is_complete (sym c.phase.ensures.value) ∙ (sym c.is_over.ensures ∙ c.if-is_over.true)) in
+    over_served st c.phase.ensures.standing (c.requires.conveyor.complete over) _ _ _
+
+pub collect_all-requires : goal.collect_all-requires
+collect_all-requires g c =
+    let dims : List ℕ = g.P.Port.dims c.args.port.now in
+    let rank : ℕ = g.P.Port.rank c.args.port.now in
+    let r = c.requires.ready in
+    (search rules, noted_ready dims rank c.args.state.now c.note_done.new.state c.args.done _ _ c.note_done.ensures.state c.note_done.ensures.pulled r)
+
+pub post_all-requires : goal.post_all-requires
+post_all-requires g c =
+    let k = c.collect_all.ensures in
+    let passed = c.relay_all.ensures.passed _ _ _ _ k.ready in
+    (search rules, ready_at _ _ _ _ _ _ _ (sym k.same_dims) (sym k.same_rank) passed.ready)
+
+pub returns-clause-conveyor : goal.returns-clause-conveyor
+returns-clause-conveyor g c =
+    let st : State = c.args.state.now in
+    let last : State = c.post_all.new.state in
+    let k = c.collect_all.ensures in
+    let passed = c.relay_all.ensures.passed _ _ _ _ k.ready in
+    let phase : last.phase ≡ st.phase = c.post_all.ensures.goes_on.phase ∙ (passed.goes_on.phase ∙ (k.goes_on.phase ∙ ap (λ s. s.phase) c.note_done.ensures.state)) in
+    let open' : is_complete st.phase ≡ false = ap is_complete (sym c.phase.ensures.value) ∙ (sym c.is_over.ensures ∙ c.if-is_over.false) in
+    record {
+      home = c.post_all.ensures.ready.home;
+      hops_all = ap length (c.post_all.ensures.ready.same_dims ∙ (k.same_dims ∙ sym c.requires.ready.same_dims)) ∙ c.requires.conveyor.hops_all;
+      complete = λ p. absurd (not_over st.phase last.phase open' phase p);
+      none_back = λ p. absurd (not_over st.phase last.phase open' phase p);
+    }
+
+pub returns-clause-moves_on : goal.returns-clause-moves_on
+returns-clause-moves_on g c =
+    let dims : List ℕ = g.P.Port.dims c.args.port.now in
+    let rank : ℕ = g.P.Port.rank c.args.port.now in
+    let k = c.collect_all.ensures in
+    let e = c.post_all.ensures in
+    let passed = c.relay_all.ensures.passed dims rank _ _ k.ready in
+    moves_on dims rank c.args.state.now c.note_done.new.state c.collect_all.new.state c.relay_all.new.state c.post_all.new.state c.args.done _ _ _ _ _ _
+    c.phase.ensures.standing (sym c.requires.ready.same_dims) (sym c.requires.ready.same_rank) c.note_done.ensures.state k.goes_on k.outs k.ready passed
+    e.goes_on e.ins (ready_at dims _ rank _ _ _ _ k.same_dims k.same_rank e.ready)
+    (λ l h from. e.waits l (link_at dims _ l k.same_dims h) (end_at sender_at dims _ rank _ l k.same_dims k.same_rank from))
+    _ _ _ _ _ k.asked k.lies e.got e.noted e.idle
+
+pub returns-clause-served : goal.returns-clause-served
+returns-clause-served g c =
+    let dims : List ℕ = g.P.Port.dims c.args.port.now in
+    let rank : ℕ = g.P.Port.rank c.args.port.now in
+    let k = c.collect_all.ensures in
+    let e = c.post_all.ensures in
+    let passed = c.relay_all.ensures.passed dims rank _ _ k.ready in
+    on_ok_weaker c.post_all.result
+    (λ served. has_served dims rank c.args.state.now c.note_done.new.state c.collect_all.new.state c.relay_all.new.state c.post_all.new.state c.args.done _ _ _ _ _ _
+    c.phase.ensures.standing (sym c.requires.ready.same_dims) (sym c.requires.ready.same_rank) c.note_done.ensures.state k.goes_on k.outs k.ready passed
+    e.goes_on e.ins (ready_at dims _ rank _ _ _ _ k.same_dims k.same_rank e.ready)
+    (λ l h from. e.waits l (link_at dims _ l k.same_dims h) (end_at sender_at dims _ rank _ l k.same_dims k.same_rank from))
+    _ _ _ c.relay_all.ensures.standing c.relay_all.ensures.stopped
+    (λ l h from. subst (λ looks. WasServed c.post_all.new.state l (looks l) (g.P.Port.looks_out c.post_all.new.port l) (g.P.Port.crowded c.post_all.new.port l)) k.looks_out
+    (served l (link_at dims _ l k.same_dims h) (end_at sender_at dims _ rank _ l k.same_dims k.same_rank from)))) e.served

@@ -1,0 +1,74 @@
+//! Moves an exchange on: what an advance does before it settles the phase.
+ghost use Rattle.std.specs.Prelude.{◌≡◌, ◌≢◌, ◌⊎◌, true, false, None, OnOk, IsOk, IsErr, Result};
+ghost use Rattle.hop_core.specs.declared.lent.Lent.TheVariants as Lent;
+ghost use Rattle.convey.specs.Buffers.{is_complete};
+ghost use Rattle.convey.specs.Conveyors.{IsConveyor};
+ghost use Rattle.convey.specs.Way.{IsReady, MovesOn, HasServed};
+
+use crate::collecting::collect_all;
+use crate::posting::post_all;
+use crate::relaying::relay_all;
+use bale_types::NoMemory;
+use hop_core::{Phase, RankState};
+use port_bank::Port;
+
+/// Notes done, collects, relays and posts, in this order. A rank that is complete has nothing left to move.
+///
+/// # Errors
+/// `NoMemory` comes only from the port's post. What was done before it stands.
+pub(crate) fn move_on<const CAP: usize, const HOPS: usize, P: Port<CAP>>(
+    state: &mut RankState<CAP, HOPS>,
+    port: &mut P,
+    done: bool,
+) -> Result<(), NoMemory>
+    requires conveyor { IsConveyor HOPS state.old }
+    requires begun { state.old.phase ≢ Phase.Dormant }
+    requires done_stays { state.old.done ≡ true → done ≡ true }
+    requires ready { IsReady (P.dims port.old) (P.rank port.old) state.old (P.sent port.old) (P.got port.old) }
+    ensures conveyor { IsConveyor HOPS state.new }
+    ensures ready { IsReady (P.dims port.old) (P.rank port.old) state.new (P.sent port.new) (P.got port.new) }
+    ensures moves_on { MovesOn state.old state.new done (P.sent port.old) (P.sent port.new) (P.got port.old) (P.got port.new) (P.noted port.old) (P.noted port.new) (P.idle port.new) }
+    ensures served { OnOk result (HasServed state.old state.new (P.sent port.old) (P.sent port.new) (P.looks_out port.old) (P.looks_out port.new) (P.crowded port.new)) }
+    ensures complete { state.old.phase ≡ Phase.Complete → state.new ≡ state.old }
+    ensures complete_port { state.old.phase ≡ Phase.Complete → port.new ≡ port.old }
+    ensures incomplete { IsErr result → is_complete state.old.phase ≡ false }
+    ensures forgotten { IsErr result → state.new.pulled ≡ None }
+    ensures memory { P.grows ≡ false → IsOk result }
+    ensures cap { state.old.cap ≡ CAP }
+    ensures rest { P.rest port.new ≡ P.rest port.old }
+    ensures same_rank { P.rank port.new ≡ P.rank port.old }
+    ensures same_dims { P.dims port.new ≡ P.dims port.old }
+    ensures same_slots { P.slots port.new ≡ P.slots port.old }
+{
+    // The contract of `phase` tells what holds of the state.
+    if is_over(state.phase()) {
+        return Ok(());
+    }
+    note_done(state, done);
+    collect_all(state, port);
+    relay_all(state);
+    post_all(state, port)
+}
+
+/// Notes that nothing more is pushed in this epoch, where that is so.
+fn note_done<const CAP: usize, const HOPS: usize>(state: &mut RankState<CAP, HOPS>, done: bool)
+    requires home { state.old.lent ≡ Lent.Nothing }
+    requires begun { state.old.phase ≢ Phase.Dormant }
+    requires stays { state.old.done ≡ true → done ≡ true }
+    ensures state { state.new ≡ record state.old { done = done; pulled = state.new.pulled } }
+    ensures pulled { (state.new.pulled ≡ state.old.pulled) ⊎ (state.new.pulled ≡ None) }
+{
+    if done {
+        state.set_done();
+    }
+}
+
+/// Whether the epoch is over.
+fn is_over(phase: Phase) -> bool
+    ensures { result ≡ is_complete phase }
+{
+    match phase {
+        Phase::Dormant | Phase::Working | Phase::Endgame | Phase::Cleanup => false,
+        Phase::Complete => true,
+    }
+}

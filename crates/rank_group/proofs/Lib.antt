@@ -1,0 +1,10 @@
+pub mod Emitted
+pub mod Absorbed
+pub mod Begun
+pub mod Turned
+pub mod Stuck
+pub mod Sweeps
+pub mod Quiet
+pub mod Bounded
+pub mod Canon
+pub mod Rows

@@ -1,0 +1,4 @@
+pub mod Parts
+pub mod Nodes
+pub mod Pulls
+pub mod Row

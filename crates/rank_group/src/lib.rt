@@ -1,0 +1,32 @@
+//! The ranks of a run: programs that exchange their items over conveyors.
+//!
+//! A *node* is one rank: its program and its conveyor. A *turn* pushes what the program emits until an open parcel is
+//! full, advances the conveyor once, and absorbs all that came. A turn never waits, so nodes may be turned in
+//! whatever order.
+//!
+//! | Call | What it does |
+//! |---|---|
+//! | `Node::new` | a node that hasn't turned, for a program of the grid |
+//! | `Node::turn` | one turn; `Ended` exactly where the epoch is over for this rank |
+//! | `Node::is_over` | whether the epoch is over for this rank |
+//! | `Node::into_prog` | the program, unless an absorb found no memory |
+//! | `nodes_of` | a node for each program of a round |
+//! | `turn_all` | turns the nodes of a grid of one number on one thread, until the epoch is over for each |
+//! | `finish` | the programs of the nodes |
+//!
+//! `specs/Parts` says what a program has done, against its rank's part of the exchange machine: which of its emissions
+//! are pushed, and that its state is the one that its pulls make of the start, in whatever order they came.
+#![tactic(auto)]
+
+mod absorbing;
+mod node;
+mod pushing;
+mod row;
+mod turn;
+
+pub use node::Node;
+pub use row::{finish, nodes_of, turn_all};
+pub use turn::Turn;
+
+#[cfg(test)]
+mod slot_tests;

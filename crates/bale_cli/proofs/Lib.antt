@@ -1,6 +1,7 @@
 pub mod Numbers
-pub mod Tallies
+pub mod Dealings
+pub mod Owners
 pub mod Lines
 pub mod Endings
 pub mod Reasons
-pub mod Quiets
+pub mod Rows

@@ -1,5 +1,6 @@
 pub mod Answer
 pub mod Counting
+pub mod Dealing
 pub mod Histo
-pub mod Quiet
+pub mod SmallMatrix
 pub mod Words

@@ -8,8 +8,9 @@
 #![tactic(auto)]
 
 mod count;
+mod deal;
+mod gather;
 mod histo;
-mod lanes;
 mod outcome;
 mod refusal;
 mod words;

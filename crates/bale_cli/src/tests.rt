@@ -1,4 +1,6 @@
 //! Worked runs of the whole program: words and text in, status and bytes out.
+ghost use Rattle.bale_cli.specs.SmallMatrix.{SmallDeal};
+
 use super::*;
 use bale_types::{MemSink, MemSource};
 use std::alloc::Global;
@@ -7,6 +9,11 @@ use std::test::Fail;
 
 /// The text of most runs: one rank's worth of everything.
 const ONE: &[u8] = b"%%MatrixMarket matrix coordinate pattern general\n3 3 4\n1 1\n1 3\n2 3\n3 3\n";
+
+/// The definitions of the dealing compute to the worked rows.
+fn small_deal()
+    ensures { SmallDeal }
+{}
 
 fn words(alloc: Global, text: &str) -> Result<Vec<String>, Fail> {
     let mut words = Vec::new(alloc);

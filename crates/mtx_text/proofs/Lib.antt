@@ -7,5 +7,6 @@ pub mod Digits
 pub mod Keys
 pub mod Lawful
 pub mod Numbered
+pub mod PlainLines
 pub mod Steps
 pub mod Walk

@@ -11,12 +11,12 @@ use Rattle.mtx_text.specs.Integers.{integer_of}
 use Rattle.mtx_text.specs.Capped.{capped}
 use Rattle.mtx_text.proofs.Cuts.{word_at}
 
-digit_low : (b : ℕ) → is_ascii_digit b ≡ true → 48 ≤ b
+pub digit_low : (b : ℕ) → is_ascii_digit b ≡ true → 48 ≤ b
 digit_low b h =
     let parts = and_parts (nat_le 48 b) (nat_le b 57) h in
     leb-true 48 b parts.0
 
-digit_plain : (b : ℕ) → is_ascii_digit b ≡ true → is_blank b ≡ false
+pub digit_plain : (b : ℕ) → is_ascii_digit b ≡ true → is_blank b ≡ false
 digit_plain b h =
     let low = digit_low b h in
     rw (ne_eqb b 32 (λ e. absurd (omega (arith, low, e))), ne_eqb b 9 (λ e. absurd (omega (arith, low, e))))

@@ -8,3 +8,4 @@ pub mod Chains
 pub mod Drafts
 pub mod Reasons
 pub mod Places
+pub mod PlainLines

@@ -1,20 +1,29 @@
 //! An entry line by itself.
-ghost use Rattle.std.specs.Prelude.{◌≡◌, ◌<◌, ◌≤◌, ◌∷◌, ◌-◌, nat_abs, IfOk};
+ghost use Rattle.std.specs.Prelude.{◌≡◌, ◌<◌, ◌≤◌, ◌∷◌, ◌-◌, nat_abs, take, false, IfOk, IfSome};
 ghost use Rattle.std.specs.Option.{option_map, option_to_list};
-ghost use Rattle.mtx_text.specs.Lines.{words_of};
+ghost use Rattle.mtx_text.specs.Lines.{words_of, is_skipped};
 ghost use Rattle.mtx_text.specs.Integers.{integer_of, value_of};
 ghost use Rattle.mtx_text.specs.Capped.{cell_from};
+ghost use Rattle.mtx_text.specs.PlainLines.{LineAt};
 ghost use Rattle.mtx_text.specs.Grammar.{cell_by, place_of, value_within, is_index, is_skew, stands_for};
 
 use crate::banner::{Form, Symmetry};
 use crate::integer::Integer;
 use crate::numbers::{Fields, read_fields};
+use crate::plain::plain_line;
 use crate::refusal::Reason;
 use crate::sizes::Sizes;
 use bale_types::Triple;
 
 /// Absolute values at most.
 const MOST_VALUE: u64 = 1_000_000_000_000;
+
+/// What the plain line that a text begins with names, and how many bytes stand before its LF.
+#[derive(Clone, Copy)]
+pub(crate) struct PlainCell {
+    pub(crate) cell: Result<Triple, Reason>,
+    pub(crate) len: usize,
+}
 
 /// The entry that a line names, counted from 0.
 #[tactic(auto, using(crate::proofs::Caps::cell_capped))]
@@ -29,7 +38,28 @@ pub(crate) fn read_cell(form: Form, sizes: Sizes, line: &[u8]) -> Result<Triple,
     cell_of(form, sizes, read_fields(form.kind, line))
 }
 
+/// The entry that a plain line names.
+#[inline(always)]
+#[tactic(auto, using(crate::proofs::Caps::cell_capped))]
+pub(crate) fn plain_cell(form: Form, sizes: Sizes, text: &[u8]) -> Option<PlainCell>
+    requires tall { sizes.rows ≤ 16_384 }
+    requires wide { sizes.cols ≤ 16_384 }
+    ensures line { IfSome result (λ p. LineAt text.now p.len) }
+    ensures counts { IfSome result (λ p. is_skipped (words_of (take p.len text.now)) ≡ false) }
+    ensures value { IfSome result (λ p. p.cell ≡ cell_by integer_of form sizes (words_of (take p.len text.now))) }
+    ensures row { IfSome result (λ p. IfOk p.cell (λ t. t.i < sizes.rows)) }
+    ensures col { IfSome result (λ p. IfOk p.cell (λ t. t.j < sizes.cols)) }
+    ensures limit { IfSome result (λ p. IfOk p.cell (λ t. nat_abs t.v ≤ 1_000_000_000_000)) }
+{
+    let plain = plain_line(form.kind, text)?;
+    Some(PlainCell {
+        cell: cell_of(form, sizes, Some(plain.fields)),
+        len: plain.len,
+    })
+}
+
 /// The entry that the fields of a line stand for.
+#[inline(always)]
 #[tactic(auto, unfolding(crate::specs::Capped::cell_from))]
 fn cell_of(form: Form, sizes: Sizes, fields: Option<Fields>) -> Result<Triple, Reason>
     ensures value { result ≡ cell_from form sizes (option_map (λ f. (f.row, f.column, f.value)) fields) }

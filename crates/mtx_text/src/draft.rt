@@ -1,14 +1,15 @@
 //! Entry lines read without regard to duplicates, up to the first line that is bad for another reason.
-ghost use Rattle.std.specs.Prelude.{◌≡◌, ◌+◌, ◌<◌, ◌≤◌, ◌++◌, ◌^◌, [], max, length, IfOk, OnOk, nat_abs};
+ghost use Rattle.std.specs.Prelude.{◌≡◌, ◌+◌, ◌<◌, ◌≤◌, ◌++◌, ◌^◌, [], ◌∷◌, max, length, IfOk, IfErr, OnOk, nat_abs};
 ghost use Rattle.std.specs.List.{All};
-ghost use Rattle.mtx_text.specs.Lines.{lines_of, lines_from};
-ghost use Rattle.mtx_text.specs.Grammar.{stands_for};
+ghost use Rattle.mtx_text.specs.Lines.{lines_of, lines_from, words_of};
+ghost use Rattle.mtx_text.specs.Integers.{integer_of};
+ghost use Rattle.mtx_text.specs.Grammar.{cell_by, stands_for};
 ghost use Rattle.mtx_text.specs.Drafts.{Drafted, draft_of};
 ghost use Rattle.mtx_text.specs.Chains.{IsWithin};
 
 use crate::banner::{Form, Symmetry};
-use crate::cell::{mirror, read_cell};
-use crate::lines::next_kept;
+use crate::cell::{mirror, plain_cell, read_cell};
+use crate::lines::{Kept, first_kept, next_kept};
 use crate::refusal::{BadLine, Reason};
 use crate::sizes::Sizes;
 use bale_types::Triple;
@@ -19,6 +20,13 @@ use std::alloc::{AllocError, Global};
 pub(crate) struct Draft {
     pub(crate) entries: Vec<Triple>,
     pub(crate) stop: Option<BadLine>,
+}
+
+/// A line that counts, and what it names.
+#[derive(Clone, Copy)]
+struct Entry<'a> {
+    kept: Kept<'a>,
+    cell: Result<Triple, Reason>,
 }
 
 /// The draft of a text whose first line is line `number`.
@@ -44,8 +52,8 @@ pub(crate) fn read_draft(
     let mut rest = text;
     let mut number = number;
     loop {
-        let kept = match next_kept(rest, number) {
-            Ok(kept) => kept,
+        let Entry { kept, cell } = match next_entry(form, sizes, rest, number) {
+            Ok(entry) => entry,
             Err(end) => {
                 let stop = if left > 0 {
                     Some(bad(end, Reason::TooFew))
@@ -59,7 +67,7 @@ pub(crate) fn read_draft(
             let stop = Some(bad(kept.number, Reason::TooMany));
             return Ok(Draft { entries, stop });
         }
-        match read_cell(form, sizes, kept.line) {
+        match cell {
             Ok(t) => push(&mut entries, sizes, form.symmetry, t)?,
             Err(reason) => {
                 let stop = Some(bad(kept.number, reason));
@@ -69,6 +77,37 @@ pub(crate) fn read_draft(
         left -= 1;
         rest = kept.rest;
         number = kept.number + 1;
+    }
+}
+
+/// The next line that counts, and what it names; else the number of the end line.
+#[inline(always)]
+fn next_entry(form: Form, sizes: Sizes, text: &[u8], number: u64) -> Result<Entry<'_>, u64>
+    requires tall { sizes.rows ≤ 16_384 }
+    requires wide { sizes.cols ≤ 16_384 }
+    requires room { number + length text.now < 2 ^ 63 }
+    ensures kept { IfOk result (λ entry. lines_from number (lines_of text.now)
+        ≡ record { number = entry.kept.number; words = words_of entry.kept.line.now } ∷ lines_from (entry.kept.number + 1) (lines_of entry.kept.rest.now)) }
+    ensures left { IfOk result (λ entry. entry.kept.number + 1 + length (lines_of entry.kept.rest.now) ≡ number + length (lines_of text.now)) }
+    ensures room { IfOk result (λ entry. entry.kept.number + 1 + length entry.kept.rest.now ≤ number + length text.now) }
+    ensures shorter { IfOk result (λ entry. length entry.kept.rest.now < length text.now) }
+    ensures none { IfErr result (λ end. lines_from number (lines_of text.now) ≡ []) }
+    ensures end { IfErr result (λ end. end ≡ number + length (lines_of text.now)) }
+    ensures value { IfOk result (λ entry. entry.cell ≡ cell_by integer_of form sizes (words_of entry.kept.line.now)) }
+    ensures row { IfOk result (λ entry. IfOk entry.cell (λ t. t.i < sizes.rows)) }
+    ensures col { IfOk result (λ entry. IfOk entry.cell (λ t. t.j < sizes.cols)) }
+    ensures limit { IfOk result (λ entry. IfOk entry.cell (λ t. nat_abs t.v ≤ 1_000_000_000_000)) }
+{
+    match plain_cell(form, sizes, text) {
+        Some(plain) => Ok(Entry {
+            kept: first_kept(text, number, plain.len),
+            cell: plain.cell,
+        }),
+        None => {
+            let kept = next_kept(text, number)?;
+            let cell = read_cell(form, sizes, kept.line);
+            Ok(Entry { kept, cell })
+        }
     }
 }
 

@@ -26,6 +26,7 @@ mod matrix;
 mod numbers;
 mod parse;
 mod places;
+mod plain;
 mod read;
 mod refusal;
 mod sizes;

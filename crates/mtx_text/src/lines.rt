@@ -1,6 +1,7 @@
 //! A text cut into lines, one line at a time and without a copy.
-ghost use Rattle.std.specs.Prelude.{◌≡◌, ◌≢◌, not, false, ℕ, ◌+◌, ◌<◌, ◌≤◌, ◌^◌, length, drop, slice_index, [], ◌∷◌, IfOk, IfErr};
+ghost use Rattle.std.specs.Prelude.{◌≡◌, ◌≢◌, not, false, ℕ, ◌+◌, ◌<◌, ◌≤◌, ◌^◌, length, take, drop, slice_index, [], ◌∷◌, IfOk, IfErr};
 ghost use Rattle.mtx_text.specs.Lines.{lines_of, words_of, lines_from, without_cr, is_blank, is_skipped};
+ghost use Rattle.mtx_text.specs.PlainLines.{LineAt};
 
 use crate::words::trimmed;
 
@@ -42,6 +43,35 @@ pub(crate) fn next_kept(text: &[u8], number: u64) -> Result<Kept<'_>, u64>
         number += 1;
     }
     Err(number)
+}
+
+/// The line of `len` bytes that a text begins with, where it counts.
+#[inline(always)]
+#[tactic(auto, using(crate::proofs::PlainLines::kept_at, crate::proofs::PlainLines::left_at))]
+pub(crate) fn first_kept(text: &[u8], number: u64, len: usize) -> Kept<'_>
+    requires line { LineAt text.now len }
+    requires counts { is_skipped (words_of (take len text.now)) ≡ false }
+    ensures line { result.line.now ≡ take len text.now }
+    ensures kept { lines_from number (lines_of text.now)
+        ≡ record { number = result.number; words = words_of result.line.now } ∷ lines_from (result.number + 1) (lines_of result.rest.now) }
+    ensures left { result.number + 1 + length (lines_of result.rest.now) ≡ number + length (lines_of text.now) }
+    ensures room { result.number + 1 + length result.rest.now ≤ number + length text.now }
+    ensures shorter { length result.rest.now < length text.now }
+{
+    Kept {
+        number,
+        line: &text[..len],
+        rest: behind(len, text),
+    }
+}
+
+/// What stands behind the byte at an index.
+#[inline(always)]
+pub(crate) fn behind(at: usize, text: &[u8]) -> &[u8]
+    requires { at < length text.now }
+    ensures { result.now ≡ drop (at + 1) text.now }
+{
+    &text[at + 1..]
 }
 
 /// Whether a line that begins with no blank has words and is no comment.

@@ -1,0 +1,259 @@
+-- A plain line, word by word: digits and a space in front of a line's rest, and a last word with LF behind it.
+use Rattle.std.proofs.Common.{◌≡◌, ◌≢◌, ℕ, zero, suc, ◌+◌, ◌-◌, ◌*◌, ◌%◌, ◌^◌, ◌<◌, ◌≤◌, nat_lt, true, false, List, [], ◌∷◌, length, get_or, take, drop, min, map, refl, sym, ◌∙◌, ap, subst, add-one, ne_eqb, length-take-le, arith}
+use native.Mathlib.Numerals.{unary_clauses}
+use Rattle.std.proofs.Math.Nat.{pow-le-pow_right}
+use Rattle.std.proofs.lemmas.Bool.{and_parts, leb-true, lt-ltb}
+use Rattle.std.specs.List.{list_all, slice_split, onto_first}
+use Rattle.std.specs.Option.{option_map}
+use Rattle.std.specs.Prelude.{Some, nat_le}
+use Rattle.std.specs.Char.{is_ascii_digit}
+use Rattle.std.specs.Str.Parse.{digits_value}
+use Rattle.mtx_text.specs.declared.integer.Integer.{Integer}
+use Rattle.mtx_text.specs.declared.kind.Kind.TheVariants as kind
+use Rattle.mtx_text.specs.Lines.{pieces, without_cr, lines_of, lines_from, words_of, is_blank, is_skipped}
+use Rattle.mtx_text.specs.Integers.{integer_of}
+use Rattle.mtx_text.specs.Grammar.{fields_of}
+use Rattle.mtx_text.specs.Capped.{capped, read_three}
+use Rattle.mtx_text.specs.PlainLines.{LineAt, DigitsTo, LastAt}
+use Rattle.mtx_text.proofs.Digits.{digits_step, all_step}
+use Rattle.mtx_text.proofs.Numbered.{digit_low, digit_plain, number_is}
+
+-- ---- lines
+
+abbrev first_len : List (List ℕ) → ℕ
+first_len [] = 0
+first_len (p ∷ ps) = length p
+
+onto : (b : ℕ) (ps : List (List ℕ)) (l : List ℕ) (ls : List (List ℕ)) → 0 < length l → map without_cr ps ≡ l ∷ ls
+    → map without_cr (onto_first b ps) ≡ (b ∷ l) ∷ ls
+onto b [] l ls full e =
+    let none : 0 ≡ length l = ap first_len e in
+    absurd (omega (arith, none, full))
+onto b ([] ∷ ps) l ls full e =
+    let none : 0 ≡ length l = ap first_len e in
+    absurd (omega (arith, none, full))
+onto b ((c ∷ cs) ∷ ps) l ls full e = ap (onto_first b) e
+
+-- one more byte in front of a line
+line_onto : (b : ℕ) (bs : List ℕ) (len : ℕ) → b ≢ 10 → LineAt bs len → LineAt (b ∷ bs) (suc len)
+line_onto b bs len other at =
+    let long : 0 < length (take len bs) = omega (arith, at.full, length-take-le len bs (omega (arith, at.within))) in
+    record {
+      full = omega arith;
+      within = omega (arith, at.within);
+      lines = rw (ne_eqb b 10 other) (onto b (pieces bs) (take len bs) (lines_of (drop 1 (drop len bs))) long at.lines);
+    }
+
+line_of_one : (b : ℕ) (bs : List ℕ) → b ≢ 10 → b ≢ 13 → LineAt (b ∷ 10 ∷ bs) 1
+line_of_one b bs other own =
+    record {
+      full = omega arith;
+      within = omega arith;
+      lines = rw (ne_eqb b 10 other, ne_eqb b 13 own) refl;
+    }
+
+digits_line : (text : List ℕ) (len : ℕ) → 0 < len → len < length text → list_all is_ascii_digit (take len text) ≡ true
+    → get_or text len 0 ≡ 10 → LineAt text len
+digits_line [] len full within all ends = absurd (omega arith)
+digits_line (b ∷ bs) zero full within all ends = absurd (omega arith)
+digits_line (b ∷ []) (suc len) full within all ends = absurd (omega arith)
+digits_line (b ∷ c ∷ bs) (suc zero) full within all ends =
+    let parts = and_parts (is_ascii_digit b) (list_all is_ascii_digit []) all in
+    let low = digit_low b parts.0 in
+    subst (λ (x : ℕ). LineAt (b ∷ x ∷ bs) 1) (sym ends) (line_of_one b bs (λ e. absurd (omega (arith, low, e))) (λ e. absurd (omega (arith, low, e))))
+digits_line (b ∷ c ∷ bs) (suc (suc len)) full within all ends =
+    let parts = and_parts (is_ascii_digit b) (list_all is_ascii_digit (take (suc len) (c ∷ bs))) all in
+    let low = digit_low b parts.0 in
+    line_onto b (c ∷ bs) (suc len) (λ e. absurd (omega (arith, low, e))) (digits_line (c ∷ bs) (suc len) (omega arith) (omega arith) parts.1 ends)
+
+minus_line : (text : List ℕ) (len : ℕ) → 0 < length text → get_or text 0 0 ≡ 45 → LineAt (drop 1 text) len → LineAt text (suc len)
+minus_line [] len full sign at = absurd (omega arith)
+minus_line (b ∷ bs) len full sign at = line_onto b bs len (λ e. absurd (omega (arith, sign, e))) at
+
+onward : (text : List ℕ) (a n m : ℕ) → m ≡ a + 1 + n → a < length text → list_all is_ascii_digit (take a text) ≡ true
+    → get_or text a 0 ≡ 32 → LineAt (drop (suc a) text) n → LineAt text m
+onward [] a n m sum within all ends at = absurd (omega arith)
+onward (b ∷ bs) a n zero sum within all ends at = absurd (omega arith)
+onward (b ∷ bs) zero n (suc m) sum within all ends at =
+    let same : m ≡ n = omega arith in
+    line_onto b bs m (λ e. absurd (omega (arith, ends, e))) (subst (LineAt bs) (sym same) at)
+onward (b ∷ bs) (suc a) n (suc m) sum within all ends at =
+    let parts = and_parts (is_ascii_digit b) (list_all is_ascii_digit (take a bs)) all in
+    let low = digit_low b parts.0 in
+    line_onto b bs m (λ e. absurd (omega (arith, low, e))) (onward bs a n m (omega arith) (omega arith) parts.1 ends at)
+
+-- a line that digits and a space are put in front of
+pub line_on : (text rest : List ℕ) (a n size : ℕ) → LineAt rest n → rest ≡ drop (a + 1) text → DigitsTo 32 text a size → LineAt text (a + 1 + n)
+line_on text rest a n size at is d =
+    let here : rest ≡ drop (suc a) text = is ∙ ap (λ (k : ℕ). drop k text) (add-one a) in
+    onward text a n (a + 1 + n) refl d.within d.digits d.ends (subst (λ (l : List ℕ). LineAt l n) here at)
+
+-- ---- words
+
+parts_on : (text : List ℕ) (a n m : ℕ) → m ≡ a + 1 + n → a < length text → list_all is_ascii_digit (take a text) ≡ true
+    → get_or text a 0 ≡ 32
+    → slice_split is_blank (take m text) ≡ take a text ∷ slice_split is_blank (take n (drop (suc a) text))
+parts_on [] a n m sum within all ends = absurd (omega arith)
+parts_on (b ∷ bs) a n zero sum within all ends = absurd (omega arith)
+parts_on (b ∷ bs) zero n (suc m) sum within all ends =
+    let same : m ≡ n = omega arith in
+    let blank : is_blank b ≡ true = ap is_blank ends in
+    rw (blank, same) refl
+parts_on (b ∷ bs) (suc a) n (suc m) sum within all ends =
+    let parts = and_parts (is_ascii_digit b) (list_all is_ascii_digit (take a bs)) all in
+    rw (digit_plain b parts.0, parts_on bs a n m (omega arith) (omega arith) parts.1 ends) refl
+
+words_on : (text rest : List ℕ) (a n size : ℕ) → rest ≡ drop (a + 1) text → DigitsTo 32 text a size
+    → words_of (take (a + 1 + n) text) ≡ take a text ∷ words_of (take n rest)
+words_on text rest a n size is d =
+    let long : nat_lt 0 (length (take a text)) ≡ true = lt-ltb 0 (length (take a text)) (omega (arith, d.full, length-take-le a text (omega (arith, d.within)))) in
+    let cut = parts_on text a n (a + 1 + n) refl d.within d.digits d.ends in
+    let here : rest ≡ drop (suc a) text = is ∙ ap (λ (k : ℕ). drop k text) (add-one a) in
+    rw (cut, here, long) refl
+
+one_part : (word : List ℕ) → list_all is_ascii_digit word ≡ true → slice_split is_blank word ≡ word ∷ []
+one_part [] all = refl
+one_part (b ∷ bs) all =
+    let parts = and_parts (is_ascii_digit b) (list_all is_ascii_digit bs) all in
+    rw (digit_plain b parts.0, one_part bs parts.1) refl
+
+one_word : (word : List ℕ) → 0 < length word → list_all is_ascii_digit word ≡ true → words_of word ≡ word ∷ []
+one_word word full all = rw (one_part word all, lt-ltb 0 (length word) full) refl
+
+minus_word : (word : List ℕ) → list_all is_ascii_digit word ≡ true → words_of (45 ∷ word) ≡ (45 ∷ word) ∷ []
+minus_word word all = rw (one_part word all, lt-ltb 0 (suc (length word)) (omega arith)) refl
+
+digits_count : (text : List ℕ) (a : ℕ) (words : List (List ℕ)) → 0 < a → a ≤ length text → list_all is_ascii_digit (take a text) ≡ true
+    → is_skipped (take a text ∷ words) ≡ false
+digits_count [] a words full within all = absurd (omega arith)
+digits_count (b ∷ bs) zero words full within all = absurd (omega arith)
+digits_count (b ∷ bs) (suc a) words full within all =
+    let parts = and_parts (is_ascii_digit b) (list_all is_ascii_digit (take a bs)) all in
+    let low = digit_low b parts.0 in
+    ne_eqb b 37 (λ e. absurd (omega (arith, low, e)))
+
+pub row_counts : (text rest : List ℕ) (a n size : ℕ) → rest ≡ drop (a + 1) text → DigitsTo 32 text a size
+    → is_skipped (words_of (take (a + 1 + n) text)) ≡ false
+row_counts text rest a n size is d =
+    rw (words_on text rest a n size is d) (digits_count text a (words_of (take n rest)) d.full (omega (arith, d.within)) d.digits)
+
+-- ---- a line that counts, at the front of a text
+
+drop_once : (xs : List ℕ) (n : ℕ) → drop 1 (drop n xs) ≡ drop (suc n) xs
+drop_once [] zero = refl
+drop_once [] (suc n) = refl
+drop_once (x ∷ xs) zero = refl
+drop_once (x ∷ xs) (suc n) = drop_once xs n
+
+behind_at : (text rest : List ℕ) (len : ℕ) → rest ≡ drop (len + 1) text → rest ≡ drop 1 (drop len text)
+behind_at text rest len is = is ∙ ap (λ (k : ℕ). drop k text) (add-one len) ∙ sym (drop_once text len)
+
+pub kept_at : (text rest line : List ℕ) (number len : ℕ) → LineAt text len → is_skipped (words_of (take len text)) ≡ false
+    → line ≡ take len text → rest ≡ drop (len + 1) text
+    → lines_from number (lines_of text) ≡ record { number = number; words = words_of line } ∷ lines_from (number + 1) (lines_of rest)
+kept_at text rest line number len at counts own is =
+    rw (at.lines, counts, own, behind_at text rest len is) refl
+
+pub left_at : (text rest : List ℕ) (len : ℕ) → LineAt text len → rest ≡ drop (len + 1) text → length (lines_of text) ≡ length (lines_of rest) + 1
+left_at text rest len at is = rw (at.lines, behind_at text rest len is, add-one) refl
+
+-- ---- numbers
+
+pub digit_small : (b : ℕ) → is_ascii_digit b ≡ true → b - 48 ≤ 9
+digit_small b h =
+    let parts = and_parts (nat_le 48 b) (nat_le b 57) h in
+    let high = leb-true b 57 parts.1 in
+    omega (arith, high)
+
+minus_digits : (word : List ℕ) → 0 < length word → list_all is_ascii_digit word ≡ true
+    → integer_of (45 ∷ word) ≡ Some (record { minus = true; size = digits_value 10 word })
+minus_digits [] full all = absurd (omega arith)
+minus_digits (b ∷ bs) full all = rw all refl
+
+-- ---- the last word
+
+pub digits_last : (text : List ℕ) (len size : ℕ) → DigitsTo 10 text len size → LastAt text len (record { minus = false; size = size })
+digits_last text len size d =
+    let within : len ≤ length text = omega (arith, d.within) in
+    let full : 0 < length (take len text) = omega (arith, d.full, length-take-le len text within) in
+    record {
+      line = digits_line text len d.full d.within d.digits d.ends;
+      word = one_word (take len text) full d.digits;
+      value = number_is text len size d.full within d.digits d.value;
+    }
+
+minus_at : (text : List ℕ) (len size : ℕ) → get_or text 0 0 ≡ 45 → DigitsTo 10 (drop 1 text) len size
+    → LastAt text (suc len) (record { minus = true; size = size })
+minus_at [] len size sign d = absurd (omega (arith, d.within))
+minus_at (b ∷ bs) len size sign d =
+    let within : len ≤ length bs = omega (arith, d.within) in
+    let full : 0 < length (take len bs) = omega (arith, d.full, length-take-le len bs within) in
+    record {
+      line = minus_line (b ∷ bs) len (omega arith) sign (digits_line bs len d.full d.within d.digits d.ends);
+      word = subst (λ (x : ℕ). words_of (x ∷ take len bs) ≡ (x ∷ take len bs) ∷ []) (sym sign) (minus_word (take len bs) d.digits);
+      value = rw (sign, minus_digits (take len bs) full d.digits, d.value) refl;
+    }
+
+pub minus_last : (text rest : List ℕ) (len size : ℕ) → DigitsTo 10 rest len size → rest ≡ drop (0 + 1) text → get_or text 0 0 ≡ 45
+    → LastAt text (len + 1) (record { minus = true; size = size })
+minus_last text rest len size d is sign =
+    rw (add-one len) (minus_at text len size sign (subst (λ (l : List ℕ). DigitsTo 10 l len size) is d))
+
+-- ---- the fields
+
+number_of : (end : ℕ) (text : List ℕ) (len size : ℕ) → DigitsTo end text len size
+    → Some (record { minus = false; size = size }) ≡ option_map capped (integer_of (take len text))
+number_of end text len size d = number_is text len size d.full (omega (arith, d.within)) d.digits d.value
+
+pub two_fields : (text rest : List ℕ) (a n size : ℕ) (v : Integer) → rest ≡ drop (a + 1) text → DigitsTo 32 text a size → LastAt rest n v
+    → Some (Some (record { minus = false; size = size }), Some v, Some (record { minus = false; size = 1 }))
+    ≡ option_map read_three (fields_of kind.Pattern (words_of (take (a + 1 + n) text)))
+two_fields text rest a n size v is d last =
+    rw (words_on text rest a n size is d, last.word, sym (number_of 32 text a size d), sym last.value) refl
+
+pub three_fields : (text rest end : List ℕ) (a b n row column : ℕ) (v : Integer) → rest ≡ drop (a + 1) text → end ≡ drop (b + 1) rest
+    → DigitsTo 32 text a row → DigitsTo 32 rest b column → LastAt end n v
+    → Some (Some (record { minus = false; size = row }), Some (record { minus = false; size = column }), Some v)
+    ≡ option_map read_three (fields_of kind.Integer (words_of (take (a + 1 + (b + 1 + n)) text)))
+three_fields text rest end a b n row column v is next d e last =
+    rw (words_on text rest a (b + 1 + n) row is d, words_on rest end b n column next e, last.word, sym (number_of 32 text a row d), sym (number_of 32 rest b column e), sym last.value) refl
+
+-- ---- the digits of a number
+
+below_power : (i size : ℕ) → i < 18 → size < 10 ^ i → size < 100_000_000_000_000_000
+below_power i size few below =
+    let top : 10 ^ i ≤ 10 ^ 17 = pow-le-pow_right {n = 10} (omega arith) {i = i} {j = 17} (omega arith) in
+    omega (arith, top, below)
+
+next_power : (i size digit : ℕ) → size < 10 ^ i → digit ≤ 9 → size * 10 + digit < 10 ^ (i + 1)
+next_power i size digit below small =
+    let next : 10 ^ suc i ≡ 10 ^ i * 10 = simp unary_clauses refl in
+    rw add-one (omega (arith, next, below))
+
+pub unwrapped : (size digit : ℕ) → size < 100_000_000_000_000_000 → digit ≤ 9
+    → ((size * 10) % 18_446_744_073_709_551_616 + digit) % 18_446_744_073_709_551_616 ≡ size * 10 + digit
+unwrapped size digit below small = omega (arith, below, small)
+
+-- the first i bytes of a text are digits, and `size` is their number, where they are few
+pub record NumberTo (text : List ℕ) (i size : ℕ) : Type 0 where
+  pub digits : list_all is_ascii_digit (take i text) ≡ true
+  pub value : i ≤ 18 → size ≡ min (digits_value 10 (take i text)) 1_000_000_000_000_000_000
+  pub below : i ≤ 18 → size < 10 ^ i
+
+pub digit_more : (text : List ℕ) (i size next : ℕ) → i < length text → is_ascii_digit (get_or text i 0) ≡ true
+    → (size < 100_000_000_000_000_000 → next ≡ size * 10 + (get_or text i 0 - 48)) → NumberTo text i size → NumberTo text (i + 1) next
+digit_more text i size next here digit sum n =
+    let b = get_or text i 0 in
+    let small = digit_small b digit in
+    record {
+      digits = all_step text i here digit n.digits;
+      value = λ few.
+          let low : i ≤ 18 = omega (arith, few) in
+          let below = below_power i size (omega (arith, few)) (n.below low) in
+          let is = sum below in
+          digits_step text i 1_000_000_000_000_000_000 size next here digit (n.value low) (omega (arith, is, below, small));
+      below = λ few.
+          let low : i ≤ 18 = omega (arith, few) in
+          let below = below_power i size (omega (arith, few)) (n.below low) in
+          rw (sum below) (next_power i size (b - 48) (n.below low) small);
+    }

@@ -1,0 +1,33 @@
+-- The line that a text begins with, and its words, by how many bytes they have.
+use Rattle.std.specs.Prelude.{ℕ, ◌≡◌, ◌<◌, true, List, [], ◌∷◌, length, take, drop, get_or, min, Some}
+use Rattle.std.specs.List.{list_all}
+use Rattle.std.specs.Option.{option_map}
+use Rattle.std.specs.Char.{is_ascii_digit}
+use Rattle.std.specs.Str.Parse.{digits_value}
+use Rattle.mtx_text.specs.declared.integer.Integer.{Integer}
+use Rattle.mtx_text.specs.Lines.{lines_of, words_of}
+use Rattle.mtx_text.specs.Integers.{integer_of}
+use Rattle.mtx_text.specs.Capped.{capped}
+
+-- The text's first line is its first `len` bytes, one or more, and behind one more byte, LF, stand the others.
+--   of "1 2/3/" with 3: the line "1 2", and behind it the lines of "3/"
+pub record LineAt (text : List ℕ) (len : ℕ) : Type 0 where
+  pub full : 0 < len
+  pub within : len < length text
+  pub lines : lines_of text ≡ take len text ∷ lines_of (drop 1 (drop len text))
+
+-- The text begins with `len` digits, one or more, whose number is `size`, and the byte `end` follows.
+--   "12 3" with 2 digits, the number 12 and a space as the end
+pub record DigitsTo (end : ℕ) (text : List ℕ) (len size : ℕ) : Type 0 where
+  pub full : 0 < len
+  pub within : len < length text
+  pub digits : list_all is_ascii_digit (take len text) ≡ true
+  pub value : size ≡ min (digits_value 10 (take len text)) 1_000_000_000_000_000_000
+  pub ends : get_or text len 0 ≡ end
+
+-- The text's first line is one word of `len` bytes, and that is the integer `z`.
+--   "-7/1 2/" with 2 bytes and the integer -7
+pub record LastAt (text : List ℕ) (len : ℕ) (z : Integer) : Type 0 where
+  pub line : LineAt text len
+  pub word : words_of (take len text) ≡ take len text ∷ []
+  pub value : Some z ≡ option_map capped (integer_of (take len text))

@@ -1,0 +1,157 @@
+//! Plain entry lines, read in one pass: numbers of few digits, one space between two of them, and LF at once
+//! behind the last. Most texts have no other lines; whatever isn't of this form is read the general way.
+ghost use Rattle.std.specs.Prelude.{◌≡◌, ◌<◌, ◌≤◌, true, false, Some, length, take, drop, min, IfSome};
+ghost use Rattle.std.specs.List.{list_all};
+ghost use Rattle.std.specs.Option.{option_map};
+ghost use Rattle.std.specs.Char.{is_ascii_digit};
+ghost use Rattle.std.specs.Str.Parse.{digits_value};
+ghost use Rattle.mtx_text.specs.Lines.{words_of, is_skipped};
+ghost use Rattle.mtx_text.specs.Grammar.{fields_of};
+ghost use Rattle.mtx_text.specs.Capped.{read_three};
+ghost use Rattle.mtx_text.specs.PlainLines.{LineAt, DigitsTo, LastAt};
+
+use crate::integer::Integer;
+use crate::kind::Kind;
+use crate::lines::behind;
+use crate::numbers::Fields;
+
+/// Digits of a plain number at most, so that none wraps.
+const MOST_DIGITS: usize = 18;
+
+/// The digits that a text begins with: their number, and how many they are.
+#[derive(Clone, Copy)]
+struct Digits {
+    size: u64,
+    len: usize,
+}
+
+/// The last word of a line: its integer, and how many bytes stand before the LF.
+#[derive(Clone, Copy)]
+struct Last {
+    value: Integer,
+    len: usize,
+}
+
+/// The fields of a plain line, and how many bytes stand before its LF.
+#[derive(Clone, Copy)]
+pub(crate) struct Plain {
+    pub(crate) fields: Fields,
+    pub(crate) len: usize,
+}
+
+/// The fields of the line that a text begins with, where it is plain.
+#[inline(always)]
+pub(crate) fn plain_line(kind: Kind, text: &[u8]) -> Option<Plain>
+    ensures line { IfSome result (λ p. LineAt text.now p.len) }
+    ensures counts { IfSome result (λ p. is_skipped (words_of (take p.len text.now)) ≡ false) }
+    ensures fields { IfSome result (λ p. Some (p.fields.row, p.fields.column, p.fields.value)
+        ≡ option_map read_three (fields_of kind (words_of (take p.len text.now)))) }
+{
+    match kind {
+        Kind::Integer => plain_three(text),
+        Kind::Pattern => plain_two(text),
+    }
+}
+
+/// A plain line of row, column and value.
+#[inline(always)]
+fn plain_three(text: &[u8]) -> Option<Plain>
+    ensures line { IfSome result (λ p. LineAt text.now p.len) }
+    ensures counts { IfSome result (λ p. is_skipped (words_of (take p.len text.now)) ≡ false) }
+    ensures fields { IfSome result (λ p. Some (p.fields.row, p.fields.column, p.fields.value)
+        ≡ option_map read_three (fields_of Kind.Integer (words_of (take p.len text.now)))) }
+{
+    let row = digits_to(b' ', text)?;
+    let after_row = behind(row.len, text);
+    let column = digits_to(b' ', after_row)?;
+    let last = last_word(behind(column.len, after_row))?;
+    Some(Plain {
+        fields: Fields {
+            row: Some(natural(row.size)),
+            column: Some(natural(column.size)),
+            value: Some(last.value),
+        },
+        len: row.len + 1 + (column.len + 1 + last.len),
+    })
+}
+
+/// A plain line of row and column, whose value is 1.
+#[inline(always)]
+fn plain_two(text: &[u8]) -> Option<Plain>
+    ensures line { IfSome result (λ p. LineAt text.now p.len) }
+    ensures counts { IfSome result (λ p. is_skipped (words_of (take p.len text.now)) ≡ false) }
+    ensures fields { IfSome result (λ p. Some (p.fields.row, p.fields.column, p.fields.value)
+        ≡ option_map read_three (fields_of Kind.Pattern (words_of (take p.len text.now)))) }
+{
+    let row = digits_to(b' ', text)?;
+    let last = last_word(behind(row.len, text))?;
+    Some(Plain {
+        fields: Fields {
+            row: Some(natural(row.size)),
+            column: Some(last.value),
+            value: Some(natural(1)),
+        },
+        len: row.len + 1 + last.len,
+    })
+}
+
+#[inline(always)]
+fn natural(size: u64) -> Integer
+    ensures { result ≡ record { minus = false; size = size } }
+{
+    Integer { minus: false, size }
+}
+
+/// The word that a text begins with, where it is few digits behind a minus or no sign, and LF follows.
+#[inline(always)]
+#[tactic(auto, using(crate::proofs::PlainLines::digits_last))]
+fn last_word(text: &[u8]) -> Option<Last>
+    ensures { IfSome result (λ last. LastAt text.now last.len last.value) }
+{
+    if text.is_empty() || text[0] != b'-' {
+        let digits = digits_to(b'\n', text)?;
+        return Some(Last {
+            value: natural(digits.size),
+            len: digits.len,
+        });
+    }
+    let digits = digits_to(b'\n', behind(0, text))?;
+    Some(Last {
+        value: Integer {
+            minus: true,
+            size: digits.size,
+        },
+        len: digits.len + 1,
+    })
+}
+
+/// The digits that a text begins with, where they are few and the byte `end` follows.
+#[inline(always)]
+fn digits_to(end: u8, text: &[u8]) -> Option<Digits>
+    ensures { IfSome result (λ d. DigitsTo end text.now d.len d.size) }
+{
+    let digits = leading(text)?;
+    if digits.len > 0 && digits.len <= MOST_DIGITS && text[digits.len] == end {
+        Some(digits)
+    } else {
+        None
+    }
+}
+
+/// The digits that a text begins with, where another byte follows. The number of too many digits wraps: it
+/// is cheaper to count them once than to look at each whether it is one too many.
+#[inline(always)]
+fn leading(text: &[u8]) -> Option<Digits>
+    ensures within { IfSome result (λ d. d.len < length text.now) }
+    ensures digits { IfSome result (λ d. list_all is_ascii_digit (take d.len text.now) ≡ true) }
+    ensures value { IfSome result (λ d. d.len ≤ 18 → d.size ≡ min (digits_value 10 (take d.len text.now)) 1_000_000_000_000_000_000) }
+{
+    let mut size: u64 = 0;
+    for (i, b) in text.iter().enumerate() {
+        if !b.is_ascii_digit() {
+            return Some(Digits { size, len: i });
+        }
+        size = size.wrapping_mul(10).wrapping_add((*b - b'0') as u64);
+    }
+    None
+}

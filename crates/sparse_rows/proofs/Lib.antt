@@ -1,0 +1,3 @@
+pub mod Deals
+pub mod Doubles
+pub mod Turns

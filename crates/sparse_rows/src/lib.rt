@@ -1,0 +1,20 @@
+//! What the applications share of matrices that lie on many ranks: a matrix split into cyclic parts, and lists
+//! that are permutations.
+//!
+//! | Call | For | Answer |
+//! |---|---|---|
+//! | [`split`] | a matrix dealt out to ranks | entry number `e` stands in the part of rank `e mod P` |
+//! | [`Parts::len`], [`Parts::get`] | a rank's part | its entries with their numbers, `None` exactly past the end |
+//! | [`is_permutation`] | a list of new numbers | whether it has each number below `n` once |
+//!
+//! `specs/Deals.antt` has the words for dealing, and `proofs/Deals.antt` what holds of every deal: counts, sums
+//! and filters over the hands are those over the whole list.
+#![tactic(auto)]
+
+mod parts;
+mod permutations;
+#[cfg(test)]
+mod tests;
+
+pub use parts::{Parts, split};
+pub use permutations::is_permutation;

@@ -1,0 +1,83 @@
+//! A matrix's entries dealt out to ranks, in turn.
+ghost use Rattle.std.specs.Prelude.{◌≡◌, ℕ, ◌<◌, ◌≤◌, [], length, slice_get, slice_index_or, IfOk};
+ghost use Rattle.sparse_rows.specs.Parts.{parts_of};
+
+use bale_types::{NoMemory, Triple};
+use mtx_text::Matrix;
+use std::alloc::Global;
+use std::marker::Model;
+
+/// The parts of a matrix, one for each rank: a list of triples with their numbers in the matrix.
+#[derive(Drop)]
+pub struct Parts {
+    /// All entries of the matrix, in order.
+    entries: Vec<Triple>,
+    /// How many parts there are.
+    ranks: u32,
+}
+
+impl Model for Parts {
+    ghost use Rattle.std.specs.Prelude.{ℕ, ◌≤◌, List, vec_len};
+    ghost use Rattle.bale_types.specs.declared.triple.Triple.{Triple};
+    ghost use Rattle.sparse_rows.specs.Parts.{parts_of};
+
+    ghost Value = { List (List (ℕ × Triple)) };
+
+    ghost view = { λ p. parts_of p.ranks p.entries.items };
+
+    ghost invariant = { λ p. (1 ≤ p.ranks) × (p.ranks ≤ 64) × (vec_len p.entries ≤ 524_288) };
+}
+
+/// The parts of a matrix on `ranks` ranks, from 1 to 64: entry number `e` stands in the part of rank
+/// `e mod ranks`, in order.
+///
+/// # Errors
+///
+/// `NoMemory` where there was none for the copy.
+#[tactic(auto, using(crate::proofs::Turns::parts_count))]
+pub fn split(alloc: Global, m: &Matrix, ranks: u32) -> Result<Parts, NoMemory>
+    requires some { 1 ≤ ranks }
+    requires few { ranks ≤ 64 }
+    ensures parts { IfOk result (λ p. p ≡ parts_of ranks m.now.entries) }
+    ensures ranks { IfOk result (λ p. length p ≡ ranks) }
+{
+    let entries = Vec::from_slice(alloc, m.entries())?;
+    Ok(Parts { entries, ranks })
+}
+
+impl Parts {
+    /// How many entries the part of a rank has. The rank is below the number of parts.
+    #[tactic(auto, using(crate::proofs::Turns::parts_count, crate::proofs::Turns::part_count))]
+    pub fn len(&self, rank: u32) -> usize
+        requires { rank < length self.now }
+        ensures { result ≡ length (slice_index_or self.now rank []) }
+    {
+        let ranks = self.ranks as usize;
+        (self.entries.len() + (ranks - 1 - rank as usize)) / ranks
+    }
+
+    /// Entry number `x`, from 0, of the part of a rank, with its number in the matrix; `None` exactly past the
+    /// part's end. The rank is below the number of parts.
+    #[tactic(auto, using(crate::proofs::Turns::parts_count, crate::proofs::Turns::part_past))]
+    pub fn get(&self, rank: u32, x: usize) -> Option<(u32, Triple)>
+        requires { rank < length self.now }
+        ensures { result ≡ slice_get (slice_index_or self.now rank []) x }
+    {
+        if x >= self.entries.len() {
+            return None;
+        }
+        let e = x * self.ranks as usize + rank as usize;
+        match entry_at(&self.entries, e) {
+            Some(t) => Some((e as u32, t)),
+            None => None,
+        }
+    }
+}
+
+/// Entry number `e`, where there is one.
+#[inline(always)]
+fn entry_at(entries: &Vec<Triple>, e: usize) -> Option<Triple>
+    ensures { result ≡ slice_get entries.now.items e }
+{
+    entries.as_slice().get(e).copied()
+}

@@ -42,7 +42,7 @@ impl<'a, const CAP: usize> Port<CAP> for SlotPort<'a, CAP> {
 
     const GROWS: bool = false;
 
-    ghost grows = { false };
+    ghost GROWS = { false };
 
     ghost rank = { λ p. p.seat.rank };
 

@@ -36,11 +36,12 @@ impl<const CAP: usize> PlainPort<CAP> {
 impl<const CAP: usize> Port<CAP> for PlainPort<CAP> {
     ghost use Rattle.std.specs.Prelude.{◌+◌, ◌==◌, true, length, refl};
     ghost use Rattle.port_bank.specs.Logs.{starting_at, ending_at};
-    ghost use Rattle.port_bank.specs.Plain.{channel_at, sent_of, got_of, others_of};
+    ghost use Rattle.item_buffer.specs.Contents.{shipped};
+    ghost use Rattle.port_bank.specs.Plain.{channel_at, sent_of, got_of, others_of, DidPost, DidCollect};
 
     const GROWS: bool = true;
 
-    ghost grows = { true };
+    ghost GROWS = { true };
 
     ghost rank = { λ p. p.rank };
 
@@ -70,11 +71,16 @@ impl<const CAP: usize> Port<CAP> for PlainPort<CAP> {
 
     ghost rest = { λ p. others_of p.rank p.bank };
 
+    ghost post_does = { λ old l p result new. DidPost old.bank new.bank l (shipped p) result };
+
+    ghost collect_does = { λ old l p result new. DidCollect old.bank new.bank l (shipped p) result };
+
     ghost crowded_is = { λ p l. refl };
 
     ghost idle_is = { λ p l. refl };
 
     fn rank(&self) -> u32 {
+        let _lawful = self.bank.slots();
         self.rank
     }
 

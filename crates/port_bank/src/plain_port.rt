@@ -4,7 +4,7 @@ ghost use Rattle.port_bank.specs.Logs.{Logs, starting_at, ending_at};
 ghost use Rattle.port_bank.specs.Plain.{Bank, IsBank, channel_at, sent_of, got_of, others_of};
 
 use crate::plain_bank::PlainBank;
-use crate::{Collected, Port, Posted};
+use crate::{Collected, Growing, Port, Posted};
 use bale_types::NoMemory;
 use item_buffer::Parcel;
 
@@ -39,9 +39,7 @@ impl<const CAP: usize> Port<CAP> for PlainPort<CAP> {
     ghost use Rattle.item_buffer.specs.Contents.{shipped};
     ghost use Rattle.port_bank.specs.Plain.{channel_at, sent_of, got_of, others_of, DidPost, DidCollect};
 
-    const GROWS: bool = true;
-
-    ghost GROWS = { true };
+    type Memory = Growing;
 
     ghost rank = { λ p. p.rank };
 

@@ -11,6 +11,7 @@ ghost use Rattle.port_bank.specs.Flow.{Begins};
 ghost use Rattle.port_bank.specs.Relay.{RelayLaw};
 ghost use Rattle.port_bank.specs.Port.{Rest, changed, IsSlots, PostDoes, CollectDoes};
 
+use crate::memory::Memory;
 use bale_types::NoMemory;
 use item_buffer::Parcel;
 
@@ -47,10 +48,8 @@ pub enum Collected {
 ///
 /// The counts are kept in 64 bits and stand still at the last number.
 pub trait Port<const CAP: usize>: Drop {
-    /// Whether `post` may take memory, and so may answer `NoMemory`.
-    const GROWS: bool;
-
-    ghost GROWS: { Bool };
+    /// What `post` needs of memory.
+    type Memory: Memory;
 
     ghost rank: { Self → ℕ };
 
@@ -95,7 +94,7 @@ pub trait Port<const CAP: usize>: Drop {
     /// relay law: it passes on only what the rank got, and is marked last only where that is all.
     ///
     /// # Errors
-    /// `NoMemory` changes nothing, and never comes where `GROWS` is false.
+    /// `NoMemory` changes nothing, and never comes where `Memory::GROWS` is false.
     fn post(&mut self, link: u32, p: &mut Parcel<CAP>) -> Result<Posted, NoMemory>
         requires link { link < links (dims self.old) }
         requires starts_here { sender_at (dims self.old) link ≡ rank self.old }
@@ -118,7 +117,7 @@ pub trait Port<const CAP: usize>: Drop {
         ensures still_idle { result ≢ Ok Posted.Sent → idle self.new ≡ idle self.old }
         ensures kept { result ≢ Ok Posted.Sent → p.new ≡ p.old }
         ensures no_memory { IsErr result → self.new ≡ self.old }
-        ensures memory { GROWS ≡ false → IsOk result }
+        ensures memory { Self.Memory.GROWS ≡ false → IsOk result }
         ensures does { post_does self.old link p.old result self.new }
 
         // In each case: what the port knows changes at this link alone, and of its links in nothing does.

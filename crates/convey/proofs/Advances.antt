@@ -15,7 +15,7 @@ use Rattle.hop_core.specs.declared.phase.Phase.TheVariants.{Dormant, Working, En
 use Rattle.hop_core.specs.declared.phase.Phase.TheVariants.{Complete as Over}
 use Rattle.convey.specs.declared.progress.Progress.TheVariants.{Complete as Whole}
 use Rattle.hop_core.specs.State.{State, phase_of}
-use Rattle.convey.specs.Machine.{Part, IsOwnStep}
+use Rattle.port_bank.specs.Machine.{Part, IsOwnStep}
 use Rattle.convey.specs.Buffers.{out_of, in_of, is_complete, back_of, buffers_of}
 use Rattle.convey.specs.Agreement.{lasts_in, items_among, with_back, Agrees}
 use Rattle.convey.specs.Due.{IsOver}

@@ -20,7 +20,7 @@ use Rattle.convey.specs.Agreement.{Ends, lasts_in, InAgrees, items_among, with_b
 use Rattle.convey.specs.Parts.{pushed_to, pulled_of, part_of}
 use Rattle.convey.proofs.Flows.{flow_here, flow_elsewhere, flow_at_other_epoch, segment_grown, entries_grown}
 use Rattle.convey.proofs.PostLaw.{lasts_added, open_lasts}
-use Rattle.convey.proofs.Listing.{lists_same}
+use Rattle.port_bank.proofs.Listing.{lists_same}
 use Rattle.convey.proofs.OneRank.{first_link, last_link}
 use Rattle.convey.proofs.Moves.{forget_agrees, lasts_of}
 

@@ -16,13 +16,13 @@ use Rattle.port_bank.proofs.Segments.{lasts_begins}
 use Rattle.port_bank.proofs.Kept.{between}
 use Rattle.port_bank.proofs.Routes.{link-on_route}
 use Rattle.port_bank.proofs.Pipeline.{Keeps, arrives_in_order, arrives_whole}
-use Rattle.convey.specs.Machine.{Part, ItemLists, with_item, for_ranks, Step, IsThrough, MayComplete, NamesRank, Allows, IsOwnStep, IsStep}
-use Rattle.convey.specs.Machine.Step.{Push, Pull, Unpull, Done, Complete, Reset, Idle}
+use Rattle.port_bank.specs.Machine.{Part, ItemLists, with_item, for_ranks, Step, IsThrough, MayComplete, NamesRank, Allows, IsOwnStep, IsStep}
+use Rattle.port_bank.specs.Machine.Step.{Push, Pull, Unpull, Done, Complete, Reset, Idle}
 use Rattle.convey.specs.Buffers.{Buffers}
 use Rattle.convey.specs.Agreement.{Agrees}
 use Rattle.convey.specs.Parts.{part_of, pushed_to, pulled_of}
 use Rattle.convey.specs.Law.{IsSound, AgreeTogether, IsCall, state_of}
-use Rattle.convey.proofs.Listing.{for_ranks-within}
+use Rattle.port_bank.proofs.Listing.{for_ranks-within, with-item_here, next_of, through_same}
 use Rattle.convey.proofs.OneRank.{OneRank, one_rank_of}
 
 -- what a call on another rank leaves of a rank's own logs
@@ -99,18 +99,6 @@ module _ (dims : List ℕ) (cap slots : ℕ) (all : ℕ → Buffers) (sent got :
         ∙ (sym ((one s from).pushed_ended (all d).epoch d to (first_ended s d from to c))
         ∙ sym (for-dims dims (all s).dims (pushed_to (all s) (starting_at dims s sent)) (all d).epoch d (t.same_dims s from) to))));
   }
-
-with-item_here : (lists : ItemLists) (e r : ℕ) (x : Item) → with_item lists e r x e r ≡ lists e r ++ x ∷ []
-with-item_here lists e r x = ap (λ b. cond (b && (r == r)) (lists e r ++ x ∷ []) (lists e r)) (eq-eqb e e refl) ∙ ap (λ b. cond b (lists e r ++ x ∷ []) (lists e r)) (eq-eqb r r refl)
-
--- an item that is appended to a front stands next in the whole
-next_of : (xs ys : List Item) (x : Item) → Begins (xs ++ x ∷ []) ys → slice_get ys (length xs) ≡ Some x
-next_of xs ys x b =
-    ap (λ l. slice_get l (length xs)) b.is
-    ∙ (get_before (xs ++ x ∷ []) b.rest (length xs) (omega (arith, length-append xs (x ∷ []))) ∙ get_last xs x)
-
-through_same : (e e' : ℕ) (p p' : Part) → e ≡ e' → p.epoch ≡ p'.epoch → p.done ≡ p'.done → IsThrough e p → IsThrough e' p'
-through_same e e' p p' same epoch done h = elim h [ inl k ↦ inl (sym epoch ∙ (k.0 ∙ same), sym done ∙ k.1) | inr less ↦ inr (omega arith) ]
 
 module _ (dims : List ℕ) (cap slots r : ℕ) (old new : ℕ → Buffers) (sent sent' got got' : Logs)
     (t : AgreeTogether dims cap slots old sent got) (c : IsCall dims cap slots r old new sent sent' got got') where

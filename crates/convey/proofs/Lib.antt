@@ -1,4 +1,3 @@
-mod Listing
 pub mod OneRank
 mod Exchange
 mod Flows

@@ -22,7 +22,7 @@ use Rattle.convey.specs.Arrived.{HasArrived}
 use Rattle.convey.specs.Parts.{pushed_to, pulled_of, part_of}
 use Rattle.convey.proofs.Flows.{flow_here, flow_elsewhere, flow_at_other_epoch}
 use Rattle.convey.proofs.PostLaw.{lasts_added, post_law, came, dated}
-use Rattle.convey.proofs.Listing.{lists_same}
+use Rattle.port_bank.proofs.Listing.{lists_same}
 use Rattle.convey.proofs.OneRank.{first_link, last_link}
 
 pub all_none : {X : Type 0} (P : X → Type 0) → All P []

@@ -13,7 +13,7 @@ use Rattle.port_bank.specs.Relay.{RelayLaw}
 use Rattle.port_bank.proofs.Fronts.{begins_more, begins_same}
 use Rattle.port_bank.proofs.Kept.{flow_at, law_own}
 use Rattle.port_bank.proofs.Routes.{hop-on_route, sender-on_route, reader-on_route, link-on_route}
-use Rattle.convey.specs.Machine.{IsThrough}
+use Rattle.port_bank.specs.Machine.{IsThrough}
 use Rattle.convey.specs.Buffers.{Buffers}
 use Rattle.convey.specs.Agreement.{lasts_in, items_among, Agrees}
 use Rattle.convey.specs.Parts.{pushed_to, unread_of, pulled_of, part_of}

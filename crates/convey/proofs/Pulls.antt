@@ -20,8 +20,8 @@ use Rattle.port_bank.specs.Logs.{Logs}
 use Rattle.hop_core.specs.Link.{In, no_in, with_first_taken, with_back, is_empty}
 use Rattle.hop_core.specs.State.{State, in_at, lowest, lowest_unread, ins_of_hop, pull_from, pulled_from, unpulled}
 use Rattle.hop_core.specs.Standing.{IsState}
-use Rattle.convey.specs.Machine.{IsOwnStep}
-use Rattle.convey.specs.Machine.Step.{Pull, Unpull, Idle}
+use Rattle.port_bank.specs.Machine.{IsOwnStep}
+use Rattle.port_bank.specs.Machine.Step.{Pull, Unpull, Idle}
 use Rattle.convey.specs.Buffers.{in_of, back_of, entry_back, buffers_of}
 use Rattle.convey.specs.Agreement.{Agrees}
 use Rattle.convey.specs.Parts.{part_of}

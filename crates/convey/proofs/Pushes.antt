@@ -16,8 +16,8 @@ use Rattle.hop_core.specs.declared.phase.Phase.{Phase}
 use Rattle.hop_core.specs.declared.phase.Phase.TheVariants.{Dormant, Complete}
 use Rattle.hop_core.specs.State.{State, out_at, reopened, resumed}
 use Rattle.hop_core.specs.Standing.{IsState}
-use Rattle.convey.specs.Machine.{IsOwnStep}
-use Rattle.convey.specs.Machine.Step.{Push, Reset, Idle}
+use Rattle.port_bank.specs.Machine.{IsOwnStep}
+use Rattle.port_bank.specs.Machine.Step.{Push, Reset, Idle}
 use Rattle.convey.specs.Buffers.{Buffers, out_of, in_of, is_complete, buffers_of}
 use Rattle.convey.specs.Agreement.{Agrees}
 use Rattle.convey.specs.Parts.{part_of}

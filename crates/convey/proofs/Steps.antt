@@ -18,15 +18,15 @@ use Rattle.port_bank.specs.Flow.{hop_link, belongs, items_of, flow}
 use Rattle.port_bank.specs.Relay.{Relays}
 use Rattle.port_bank.proofs.Kept.{between}
 use Rattle.port_bank.proofs.Routes.{hop-on_route}
-use Rattle.convey.specs.Machine.{IsOwnStep, taken_back}
-use Rattle.convey.specs.Machine.Step.{Push, Pull, Unpull, Reset}
+use Rattle.port_bank.specs.Machine.{IsOwnStep, taken_back}
+use Rattle.port_bank.specs.Machine.Step.{Push, Pull, Unpull, Reset}
 use Rattle.convey.specs.Buffers.{Buffers}
 use Rattle.convey.specs.Agreement.{EndsLast, Ends, lasts_in, OutAgrees, items_among, with_back, Agrees}
 use Rattle.convey.specs.Law.{IsLastIn}
 use Rattle.convey.specs.Parts.{pushed_to, pulled_of, part_of}
 use Rattle.convey.proofs.Flows.{segment_new, items_among-append}
 use Rattle.convey.proofs.PostLaw.{all_one}
-use Rattle.convey.proofs.Listing.{lists_same, lists_with, lists_without}
+use Rattle.port_bank.proofs.Listing.{lists_same, lists_with, lists_without}
 use Rattle.convey.proofs.OneRank.{first_link, last_link}
 use Rattle.convey.proofs.Moves.{forget_agrees, all_none}
 use Rattle.convey.proofs.Arrivals.{take_front}

@@ -5,7 +5,7 @@ use Rattle.port_bank.specs.Flow.{hop_link}
 use Rattle.hop_core.specs.declared.lent.Lent.TheVariants.{Nothing}
 use Rattle.hop_core.specs.declared.phase.Phase.TheVariants.{Complete}
 use Rattle.hop_core.specs.State.{State, phase_of}
-use Rattle.convey.specs.Machine.{Step, IsOwnStep}
+use Rattle.port_bank.specs.Machine.{Step, IsOwnStep}
 use Rattle.convey.specs.Buffers.{buffers_of, out_of}
 use Rattle.convey.specs.Agreement.{Agrees}
 use Rattle.convey.specs.Parts.{part_of}

@@ -6,7 +6,7 @@ use Rattle.route_tensor.specs.Link.{links}
 use Rattle.route_tensor.specs.Ends.{hop_at, sender_at, reader_at}
 use Rattle.port_bank.specs.Logs.{Logs, starting_at, ending_at, starting_elsewhere, ending_elsewhere}
 use Rattle.port_bank.specs.Link.{LinkLaw}
-use Rattle.convey.specs.Machine.{State, Step, NamesRank, IsOwnStep, IsStep}
+use Rattle.port_bank.specs.Machine.{State, Step, NamesRank, IsOwnStep, IsStep}
 use Rattle.convey.specs.Buffers.{Buffers}
 use Rattle.convey.specs.Agreement.{Agrees}
 use Rattle.convey.specs.Parts.{part_of}

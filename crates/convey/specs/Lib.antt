@@ -1,4 +1,3 @@
-pub mod Machine
 pub mod Buffers
 pub mod Agreement
 pub mod Parts

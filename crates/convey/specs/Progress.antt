@@ -4,9 +4,9 @@ use Rattle.hop_core.specs.declared.phase.Phase.{Phase}
 use Rattle.hop_core.specs.declared.phase.Phase.TheVariants.{Dormant, Working, Endgame, Cleanup, Complete}
 use Rattle.convey.specs.declared.progress.Progress.{Progress}
 use Rattle.convey.specs.declared.progress.Progress.TheVariants as progress
-use Rattle.convey.specs.Machine.{Step}
-use Rattle.convey.specs.Machine.Step.{Done, Idle}
-use Rattle.convey.specs.Machine.Step.{Complete as Completed}
+use Rattle.port_bank.specs.Machine.{Step}
+use Rattle.port_bank.specs.Machine.Step.{Done, Idle}
+use Rattle.port_bank.specs.Machine.Step.{Complete as Completed}
 
 -- The answer in a phase: More in Working and Endgame, Near in Cleanup, Complete in Complete.
 abbrev pub progress_of : Phase → Progress

@@ -8,7 +8,7 @@ use Rattle.port_bank.specs.Logs.{Logs}
 use Rattle.port_bank.specs.Flow.{Begins}
 use Rattle.port_bank.specs.Shapes.{IsConveyorShape}
 use Rattle.item_buffer.specs.Contents.{Shipped}
-use Rattle.convey.specs.Machine.{Part}
+use Rattle.port_bank.specs.Machine.{Part}
 use Rattle.hop_core.specs.declared.lent.Lent.TheVariants.{Nothing}
 use Rattle.hop_core.specs.State.{State}
 use Rattle.convey.specs.Buffers.{out_of, in_of, buffers_of}

@@ -9,8 +9,8 @@ ghost use Rattle.port_bank.specs.Flow.{Begins};
 ghost use Rattle.port_bank.specs.Shapes.{IsConveyorShape};
 ghost use Rattle.hop_core.specs.Link.{no_out, no_in};
 ghost use Rattle.hop_core.specs.State.{phase_of, lowest_unread, pull_from, pulled_from, unpulled, reopened, resumed};
-ghost use Rattle.convey.specs.Machine.{IsOwnStep};
-ghost use Rattle.convey.specs.Machine.Step.{Push, Pull, Unpull, Reset, Idle};
+ghost use Rattle.port_bank.specs.Machine.{IsOwnStep};
+ghost use Rattle.port_bank.specs.Machine.Step.{Push, Pull, Unpull, Reset, Idle};
 ghost use Rattle.convey.specs.Buffers.{buffers_of, out_of, in_of, is_complete};
 ghost use Rattle.convey.specs.Parts.{part_of};
 ghost use Rattle.convey.specs.Law.{IsSound};
@@ -179,7 +179,7 @@ impl<const CAP: usize, const HOPS: usize> Conveyor<CAP, HOPS> {
         ensures answer { IfOk result (λ p. p ≡ progress_of self.new.phase) }
         ensures settled { OnOk result (self.new.phase ≡ phase_of self.new) }
         ensures no_memory { IsErr result → self.new.phase ≡ self.old.phase }
-        ensures memory { P.grows ≡ false → IsOk result }
+        ensures memory { P.GROWS ≡ false → IsOk result }
 
         ensures begun { self.new.phase ≢ Phase.Dormant }
         ensures working { IsOk result → done ≡ false → self.new.phase ≡ Phase.Working }

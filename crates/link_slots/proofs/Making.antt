@@ -32,11 +32,12 @@ not_slots n h = let a = ne_eqb n 1 (λ e. omega arith) in let b = ne_eqb n 2 (λ
     λ k. ((a k) || (b k) || (c k) || (d k))
 
 pub slots_range : (n : ℕ) → IsSlots n → (0 < n) × (n ≤ 8)
+unfolding IsSlots
 slots_range zero h = absurd (let e : false ≡ true = h in cc)
 slots_range (suc n) h = (omega arith, dite (dec_le (suc n) 8) (λ low. low) (λ high. absurd (let e : false ≡ true = sym (not_slots (suc n) (omega arith)) ∙ h in cc)))
 
 pub is_shape : (dims : List ℕ) (slots : ℕ) → IsGrid dims → IsSlots slots → IsShape (record { dims = dims; slots = slots })
-is_shape dims slots g h = let r = slots_range slots h in record { grid = g; some = r.0; few = r.1 }
+is_shape dims slots g h = let r = slots_range slots h in record { grid = g; some = r.0; few = r.1; counts = h }
 
 one_value : {A : Type 0} (n k : ℕ) (a b : A) → get_elem? (replicate n a) k ≡ some b → b ≡ a
 one_value zero k a b e = absurd (some-ne-none b (sym e))

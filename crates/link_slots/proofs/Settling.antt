@@ -14,6 +14,7 @@ use Rattle.route_tensor.specs.Link.{links}
 use Rattle.route_tensor.specs.Ends.{sender_at, reader_at}
 use Rattle.port_bank.specs.Logs.{lasts}
 use Rattle.port_bank.specs.Link.{LinkLaw}
+use Rattle.port_bank.specs.Relay.{RelayLaw}
 use Rattle.port_bank.specs.Round.{Round, logs_of, IsRound, ended_by_all}
 use Rattle.port_bank.proofs.Fronts.{begins_map}
 use Rattle.port_bank.proofs.Kept.{law_own}
@@ -88,15 +89,19 @@ settled cap shape s id v is ok at all =
     (λ h. ap (λ (z : ℕ). map shipped (got_of (ok.logs z) l)) (sym e) ∙ sym (got_at l h))
     (λ h. ap (λ (z : InLog Contents). map shipped (got z)) (past_end (ok.logs r).ins l no_in (let q = (ok.each_rank r).1 in omega arith)) ∙ sym (past_end round.got l [] (let q = length-each_below (λ k. map shipped (got_of (logs_at v.lists (reader_at dims k)) k)) n in omega arith))) in
     let many : length round.got ≡ n = length-each_below (λ k. map shipped (got_of (logs_at v.lists (reader_at dims k)) k)) n in
+    let kept : (r : ℕ) → r < ranks dims → RelayLaw dims r (logs_of round.sent) (logs_of round.got) =
+    λ r h. law_own dims r (shipped_all (sent_of (ok.logs r))) (logs_of round.sent) (shipped_all (got_of (ok.logs r))) (logs_of round.got) is.grid (sent_own r) (got_own r) (ok.each_rank r).2 in
     record {
       grid = is.grid;
+      counts = is.counts;
       all_sent = length-each_below (λ k. map shipped (sent_of (logs_at v.lists (sender_at dims k)) k)) n;
       all_got = many;
       each_link = law;
+      fair = λ l h. (kept (sender_at dims l) (from l h)).fair l h refl;
       in_order = close_law round (record {
         grid = is.grid;
         fronts = λ l h. (law l h).begins;
-        relays = λ r h. law_own dims r (shipped_all (sent_of (ok.logs r))) (logs_of round.sent) (shipped_all (got_of (ok.logs r))) (logs_of round.got) is.grid (sent_own r) (got_own r) (ok.each_rank r).2;
+        relays = kept;
       }) many;
     }
 

@@ -6,6 +6,7 @@ use Rattle.route_tensor.specs.Link.{links}
 use Rattle.route_tensor.specs.Ends.{hop_at, sender_at, reader_at}
 use Rattle.port_bank.specs.Logs.{Logs, lasts}
 use Rattle.port_bank.specs.Relay.{HasFairTags, RelayLaw}
+use Rattle.port_bank.specs.Port.{IsSlots}
 use Rattle.atomic_table.specs.Seated.{TableId}
 use Rattle.link_slots.specs.Wiring.{Wiring}
 
@@ -16,11 +17,12 @@ pub record Shape : Type 0 where
 abbrev pub nowhere : Shape
 nowhere = record { dims = []; slots = 0 }
 
--- A grid of one to three numbers, with 1 to 8 slots for each link.
+-- A grid of one to three numbers, with 1, 2, 4 or 8 slots for each link.
 pub record IsShape (s : Shape) : Type 0 where
   pub grid : IsGrid s.dims
   pub some : 0 < s.slots
   pub few : s.slots ≤ 8
+  pub counts : IsSlots s.slots
 
 -- The doorbell of rank r and hop h is number r*k + h - 1; bit c of it is rung by the sender whose coordinate h is c.
 -- Example: in the grid 2, link 1 leads from rank 0 to rank 1 and has bit 0 of doorbell 1.

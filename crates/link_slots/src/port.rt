@@ -5,7 +5,7 @@ use crate::seat::SlotSeat;
 use crate::slot_bank::SlotBank;
 use bale_types::NoMemory;
 use item_buffer::Parcel;
-use port_bank::{Collected, Port, Posted};
+use port_bank::{Collected, Fixed, Port, Posted};
 
 /// The port of one rank at a slot bank. It takes no memory, and no call on it waits.
 #[derive(Drop)]
@@ -36,13 +36,11 @@ impl<'a, const CAP: usize> SlotPort<'a, CAP> {
 }
 
 impl<'a, const CAP: usize> Port<CAP> for SlotPort<'a, CAP> {
-    ghost use Rattle.std.specs.Prelude.{◌+◌, ◌==◌, false, [], length, refl};
+    ghost use Rattle.std.specs.Prelude.{⊤, ◌+◌, ◌==◌, [], length, refl};
     ghost use Rattle.link_slots.specs.Logs.{out_of};
     ghost use Rattle.link_slots.specs.Seen.{posted_on, collected_from, freed, known, listened, noted_at, named};
 
-    const GROWS: bool = false;
-
-    ghost grows = { false };
+    type Memory = Fixed;
 
     ghost rank = { λ p. p.seat.rank };
 
@@ -71,6 +69,10 @@ impl<'a, const CAP: usize> Port<CAP> for SlotPort<'a, CAP> {
     ghost noted = { λ p l. noted_at p.seat l };
 
     ghost rest = { λ p. record { bank = named p.seat.id; sent = λ l. []; got = λ l. [] } };
+
+    ghost post_does = { λ old l p result new. ⊤ };
+
+    ghost collect_does = { λ old l p result new. ⊤ };
 
     ghost crowded_is = { λ p l. refl };
 

@@ -35,6 +35,7 @@ fn make_room<const CAP: usize>(
     ensures end { IsOutEnd top.now.key.slots (out_of (own_logs place.new.me.0) link) end.new.sent end.new.place end.new.spare }
     ensures here { place.new.me.0 ≡ with_logs place.old.me.0 (with_out (own_logs place.old.me.0) link (out_of (own_logs place.new.me.0) link)) }
     ensures sent { (out_of (own_logs place.new.me.0) link).sent ≡ (out_of (own_logs place.old.me.0) link).sent }
+    ensures looks { (out_of (own_logs place.old.me.0) link).looks ≤ (out_of (own_logs place.new.me.0) link).looks }
     ensures looked { end.new.spare ≡ 0 → (out_of (own_logs place.new.me.0) link).looks ≡ suc (out_of (own_logs place.old.me.0) link).looks }
     ensures all_room { end.new.spare ≡ 0 → top.now.key.slots ≤ (out_of (own_logs place.new.me.0) link).room }
 {
@@ -71,6 +72,7 @@ pub(crate) fn post_on<const CAP: usize>(
     ensures offered { result ≡ Posted.Sent → (out_of (own_logs place.new.me.0) link).offered ≡ length (out_of (own_logs place.new.me.0) link).sent }
     ensures emptied { result ≡ Posted.Sent → IsBlank parcel.new }
     ensures room { result ≡ Posted.Sent → length (out_of (own_logs place.old.me.0) link).sent < (out_of (own_logs place.new.me.0) link).room }
+    ensures looks { (out_of (own_logs place.old.me.0) link).looks ≤ (out_of (own_logs place.new.me.0) link).looks }
     ensures looked { result ≡ Posted.NoRoom → (out_of (own_logs place.new.me.0) link).looks ≡ suc (out_of (own_logs place.old.me.0) link).looks }
     ensures full { result ≡ Posted.NoRoom → (out_of (own_logs place.new.me.0) link).room ≡ length (out_of (own_logs place.old.me.0) link).sent }
     ensures all_room { result ≡ Posted.NoRoom → top.now.key.slots ≤ (out_of (own_logs place.new.me.0) link).room }

@@ -9,7 +9,7 @@ ghost use Rattle.port_bank.specs.Relay.{RelayLaw};
 ghost use Rattle.link_slots.specs.Logs.{OutLog, out_of, in_of, with_out, with_in, taken_more, got_of};
 ghost use Rattle.link_slots.specs.Shape.{MayFollow};
 ghost use Rattle.bale_types.specs.Stream.{Rose};
-ghost use Rattle.port_bank.specs.Port.{changed};
+ghost use Rattle.port_bank.specs.Port.{changed, IsSlots};
 ghost use Rattle.link_slots.specs.Counts.{ended_after};
 ghost use Rattle.link_slots.specs.Doorbell.{is_due, HeardWhere, LookedFor};
 ghost use Rattle.link_slots.specs.Seen.{Manning, posted_on, collected_from, freed, known, listened, noted_at};
@@ -61,7 +61,8 @@ impl<const CAP: usize> Model for SlotSeat<CAP> {
 impl<const CAP: usize> SlotSeat<CAP> {
     /// The rank whose seat this is.
     pub fn rank(&self) -> u32
-        ensures { result ≡ self.now.rank }
+        ensures value { result ≡ self.now.rank }
+        ensures slots { IsSlots self.now.shape.slots }
     {
         self.rank
     }
@@ -81,6 +82,7 @@ impl<const CAP: usize> SlotSeat<CAP> {
         ensures emptied { result ≡ Posted.Sent → parcel.new ≡ blank parcel.old.epoch }
         ensures room { result ≡ Posted.Sent → length (out_of self.old.lists link).sent < (out_of self.new.lists link).room }
         ensures room_is { ((out_of self.new.lists link).room ≡ 0) ⊎ (self.old.shape.slots ≤ (out_of self.new.lists link).room) }
+        ensures looks { (out_of self.old.lists link).looks ≤ (out_of self.new.lists link).looks }
         ensures looked { result ≡ Posted.NoRoom → (out_of self.new.lists link).looks ≡ suc (out_of self.old.lists link).looks }
         ensures full { result ≡ Posted.NoRoom → (out_of self.new.lists link).room ≡ length (out_of self.old.lists link).sent }
         ensures all_room { result ≡ Posted.NoRoom → self.old.shape.slots ≤ (out_of self.new.lists link).room }

@@ -48,6 +48,7 @@ bank_looked cap b l c within s g is =
     record {
       small = is.small;
       grid = is.grid;
+      counts = is.counts;
       number = length-set b.channels l c ∙ is.number;
       each_link = λ m h. subst (λ f. LinkLaw cap b.slots (f m) (got_of (with_channel b l c) m)) sent (subst (λ f. LinkLaw cap b.slots (sent_of b m) (f m)) got (is.each_link m h));
       each_rank = λ r h. subst (λ f. RelayLaw b.dims r f (got_of (with_channel b l c))) sent (subst (λ f. RelayLaw b.dims r (sent_of b) f) got (is.each_rank r h));
@@ -83,6 +84,7 @@ bank_posted cap b l p within fits now room law is =
     record {
       small = is.small;
       grid = is.grid;
+      counts = is.counts;
       number = length-set b.channels l c ∙ is.number;
       each_link = λ m h. subst (λ f. LinkLaw cap b.slots (f m) (got_of (with_channel b l c) m)) sent
           (subst (λ f. LinkLaw cap b.slots (added (sent_of b) l p m) (f m)) got (link_added cap b.slots (sent_of b) (got_of b) l m p link (is.each_link m h)));
@@ -101,6 +103,7 @@ bank_collected cap b l p within next is =
     record {
       small = is.small;
       grid = is.grid;
+      counts = is.counts;
       number = length-set b.channels l c ∙ is.number;
       each_link = λ m h. subst (λ f. LinkLaw cap b.slots (f m) (got_of (with_channel b l c) m)) sent
           (subst (λ f. LinkLaw cap b.slots (sent_of b m) (f m)) got (link_taken cap b.slots (sent_of b) (got_of b) l m p link (is.each_link m h)));

@@ -1,5 +1,6 @@
 -- A bank on which nothing was done, and what a bank leaves when it is closed.
 use Rattle.std.proofs.Common.{◌≡◌, ℕ, zero, suc, ◌+◌, ◌-◌, ◌^◌, ◌<◌, ◌≤◌, ◌==◌, true, false, cond, min, List, [], ◌∷◌, ◌++◌, map, replicate, length, get_or, take, refl, sym, ap, subst, ◌∙◌, inl, inr, arith}
+use Rattle.std.specs.List.{All}
 use Rattle.std.proofs.lemmas.Bool.{cases_lt}
 use Rattle.std.proofs.lemmas.List.{length-map, length-replicate, map-append, take_more, take_all, length-take-le}
 use Rattle.std.proofs.lemmas.List.Elements.{All-nil}
@@ -8,11 +9,13 @@ use Rattle.route_tensor.specs.Grid.{ranks, IsGrid}
 use Rattle.route_tensor.specs.Link.{links, link}
 use Rattle.route_tensor.proofs.Coordinates.{ranks_some}
 use Rattle.route_tensor.proofs.Links.{link_below}
+use Rattle.route_tensor.proofs.Ends.{number_ends}
 use Rattle.route_tensor.specs.Ends.{hop_at, sender_at, reader_at}
 use Rattle.port_bank.specs.Logs.{Logs, lasts, starting_at, ending_at}
 use Rattle.port_bank.specs.Flow.{hop_link, flow}
 use Rattle.port_bank.specs.Link.{LinkLaw}
 use Rattle.port_bank.specs.Relay.{HasFairTags, RelayLaw}
+use Rattle.port_bank.specs.Port.{IsSlots}
 use Rattle.port_bank.specs.Round.{Round, logs_of, ended_by_all, CloseLaw, IsRound}
 use Rattle.port_bank.specs.Plain.{Bank, Channel, unused, sent_of, got_of, empty_bank, closed, IsBank}
 use Rattle.port_bank.proofs.Fronts.{begins_nil}
@@ -34,13 +37,14 @@ channel-empty zero l = refl
 channel-empty (suc n) zero = refl
 channel-empty (suc n) (suc l) = channel-empty n l
 
-pub empty_is_bank : (cap slots : ℕ) (dims : List ℕ) → cap ≤ 1024 → IsGrid dims → IsBank cap (empty_bank dims slots)
-empty_is_bank cap slots dims small g =
+pub empty_is_bank : (cap slots : ℕ) (dims : List ℕ) → cap ≤ 1024 → IsGrid dims → IsSlots slots → IsBank cap (empty_bank dims slots)
+empty_is_bank cap slots dims small g counts =
     let sent : ◌≡◌ {A = Logs} (λ l. []) (sent_of (empty_bank dims slots)) = λ i l. (sym (channel-empty (links dims) l) i).sent in
     let got : ◌≡◌ {A = Logs} (λ l. []) (got_of (empty_bank dims slots)) = λ i l. (sym (channel-empty (links dims) l) i).got in
     record {
       small = small;
       grid = g;
+      counts = counts;
       number = length-replicate (links dims) unused;
       each_link = λ l h. subst (λ f. LinkLaw cap slots (sent_of (empty_bank dims slots) l) (f l)) got (subst (λ f. LinkLaw cap slots (f l) []) sent (link_unused cap slots));
       each_rank = λ r h. subst (λ f. RelayLaw dims r f (got_of (empty_bank dims slots))) sent (law_nothing dims r (got_of (empty_bank dims slots)));
@@ -100,9 +104,13 @@ closed_is_round cap b is =
     let number : length (map (λ c. c.got) b.channels) ≡ links b.dims = length-map b.channels (λ c. c.got) ∙ is.number in
     record {
       grid = is.grid;
+      counts = is.counts;
       all_sent = length-map b.channels (λ c. c.sent) ∙ is.number;
       all_got = number;
       each_link = links';
+      fair = λ l h.
+          let from : sender_at b.dims l < ranks b.dims = (number_ends b.dims l is.grid h).link.sender in
+          subst (λ f. All (HasFairTags b.dims (hop_at b.dims l)) (f l)) sent ((is.each_rank (sender_at b.dims l) from).fair l h refl);
       in_order = close_law (closed cap b) (record {
         grid = is.grid;
         fronts = λ l h. (links' l h).begins;

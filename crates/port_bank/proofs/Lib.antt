@@ -11,5 +11,6 @@ pub mod Turns
 pub mod Owners
 pub mod Ports
 pub mod Posts
+pub mod Listing
 mod ByHand
 mod ByHops

@@ -6,3 +6,4 @@ pub mod Shapes
 pub mod Round
 pub mod Port
 pub mod Plain
+pub mod Machine

@@ -1,12 +1,17 @@
 -- What contracts see of a plain bank.
-use Rattle.std.specs.Prelude.{◌≡◌, ℕ, ◌+◌, ◌-◌, ◌^◌, ◌<◌, ◌≤◌, ◌==◌, min, Bool, false, List, [], ◌∷◌, ◌++◌, map, replicate, length, slice_index_or, slice_set}
+use Rattle.std.specs.Prelude.{◌≡◌, ℕ, ◌+◌, ◌-◌, ◌^◌, ◌<◌, ◌≤◌, ◌==◌, min, Bool, false, List, [], ◌∷◌, ◌++◌, map, replicate, length, slice_index_or, slice_set, Result, Ok, IsErr}
+use Rattle.bale_types.specs.declared.fault.NoMemory.{NoMemory}
 use Rattle.item_buffer.specs.Contents.{Shipped}
 use Rattle.port_bank.specs.Logs.{Logs, starting_at, ending_at, starting_elsewhere, ending_elsewhere}
 use Rattle.route_tensor.specs.Grid.{ranks, IsGrid}
 use Rattle.route_tensor.specs.Link.{links}
+use Rattle.port_bank.specs.declared.port.Posted.{Posted}
+use Rattle.port_bank.specs.declared.port.Posted.TheVariants.{Sent, NoRoom}
+use Rattle.port_bank.specs.declared.port.Collected.{Collected}
+use Rattle.port_bank.specs.declared.port.Collected.TheVariants.{Got, Nothing}
 use Rattle.port_bank.specs.Link.{LinkLaw}
 use Rattle.port_bank.specs.Relay.{RelayLaw}
-use Rattle.port_bank.specs.Port.{Rest}
+use Rattle.port_bank.specs.Port.{Rest, IsSlots}
 use Rattle.port_bank.specs.Round.{Round}
 
 -- One link: the parcels posted and those collected, how often its sender looked for room and its reader looked,
@@ -73,6 +78,17 @@ crowded_of r b l = length (starting_at b.dims r (sent_of b) l) == length (got_of
 abbrev pub idle_of : ℕ → Bank → ℕ → Bool
 idle_of r b l = length (ending_at b.dims r (got_of b) l) == length (sent_of b l)
 
+-- What a post did to the bank, by its answer: each look at a link is counted.
+pub record DidPost (old new : Bank) (l : ℕ) (p : Shipped) (r : Result Posted NoMemory) : Type 0 where
+  pub sent : r ≡ Ok Sent → new ≡ with_channel old l (posted (channel_at old l) p)
+  pub no_room : r ≡ Ok NoRoom → new ≡ with_channel old l (refused (channel_at old l))
+  pub no_memory : IsErr r → new ≡ old
+
+-- What a collect did: it looked and listened once, and p is the next parcel where it got one.
+pub record DidCollect (old new : Bank) (l : ℕ) (p : Shipped) (r : Collected) : Type 0 where
+  pub got : r ≡ Got → new ≡ with_channel old l (collected (channel_at old l) p)
+  pub nothing : r ≡ Nothing → new ≡ with_channel old l (listened (channel_at old l))
+
 -- A bank on which nothing was done.
 abbrev pub empty_bank : List ℕ → ℕ → Bank
 empty_bank dims slots = record { dims = dims; slots = slots; channels = replicate (links dims) unused }
@@ -88,10 +104,12 @@ closed cap b = record {
   got = map (λ c. c.got) b.channels;
 }
 
--- What a plain bank keeps, for parcels of capacity cap: the law of each link and the relay law of each rank.
+-- What a plain bank keeps, for parcels of capacity cap: a link has 1, 2, 4 or 8 slots, and each link keeps its law and
+-- each rank the relay law.
 pub record IsBank (cap : ℕ) (b : Bank) : Type 0 where
   pub small : cap ≤ 1024
   pub grid : IsGrid b.dims
+  pub counts : IsSlots b.slots
   pub number : length b.channels ≡ links b.dims
   pub each_link : (l : ℕ) → l < links b.dims → LinkLaw cap b.slots (sent_of b l) (got_of b l)
   pub each_rank : (r : ℕ) → r < ranks b.dims → RelayLaw b.dims r (sent_of b) (got_of b)

@@ -1,12 +1,16 @@
 -- What contracts see of a closed bank, be it plain or of slots.
 use Rattle.std.specs.Prelude.{◌≡◌, ℕ, ◌<◌, Bool, List, [], ◌∷◌, length, min, slice_index_or}
+use Rattle.std.specs.List.{All}
 use Rattle.bale_types.specs.declared.item.Item.{Item}
 use Rattle.item_buffer.specs.Contents.{Shipped}
 use Rattle.route_tensor.specs.Grid.{ranks, IsGrid}
 use Rattle.route_tensor.specs.Link.{links}
+use Rattle.route_tensor.specs.Ends.{hop_at}
 use Rattle.port_bank.specs.Logs.{Logs, lasts}
 use Rattle.port_bank.specs.Flow.{hop_link, flow, Begins}
 use Rattle.port_bank.specs.Link.{LinkLaw}
+use Rattle.port_bank.specs.Port.{IsSlots}
+use Rattle.port_bank.specs.Relay.{HasFairTags}
 
 -- A closed round: the grid, capacity and number of slots per link of its bank, whether that was a slot bank,
 -- and for each link the parcels posted and those collected.
@@ -54,9 +58,12 @@ pub record CloseLaw (round : Round) : Type 0 where
   pub whole : (e s d : ℕ) → s < ranks round.dims → d < ranks round.dims → e < epochs_of round → pulled round e d s ≡ pushed round e s d
 
 -- What holds of every closed round.
+-- fair: each entry that was sent has a tag that is fair on the hop of its link, and so belongs to a pair of ranks.
 pub record IsRound (round : Round) : Type 0 where
   pub grid : IsGrid round.dims
+  pub counts : IsSlots round.slots
   pub all_sent : length round.sent ≡ links round.dims
   pub all_got : length round.got ≡ links round.dims
   pub each_link : (l : ℕ) → l < links round.dims → LinkLaw round.cap round.slots (logs_of round.sent l) (logs_of round.got l)
+  pub fair : (l : ℕ) → l < links round.dims → All (HasFairTags round.dims (hop_at round.dims l)) (logs_of round.sent l)
   pub in_order : CloseLaw round

@@ -13,6 +13,7 @@
 //! | `PlainBank::close` | a closed round, on which what each rank pulled is what the others pushed |
 #![tactic(auto)]
 
+mod memory;
 mod plain_bank;
 mod plain_link;
 mod plain_port;
@@ -20,6 +21,7 @@ mod plain_round;
 mod port;
 mod stored;
 
+pub use memory::{Fixed, Growing, Memory};
 pub use plain_bank::PlainBank;
 pub use plain_port::PlainPort;
 pub use plain_round::PlainRound;

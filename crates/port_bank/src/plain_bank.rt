@@ -49,7 +49,8 @@ impl<const CAP: usize> PlainBank<CAP> {
         requires some { 0 < CAP }
         requires small { CAP ≤ 1024 }
         requires slots { IsSlots slots }
-        ensures { IfOk result (λ b. b ≡ empty_bank grid.now slots) }
+        ensures made { IfOk result (λ b. b ≡ empty_bank grid.now slots) }
+        ensures lawful { IfOk result (λ b. IsBank CAP b) }
     {
         let count = grid.links();
         let mut links = Vec::with_capacity(alloc, count as usize)?;
@@ -91,6 +92,14 @@ impl<const CAP: usize> PlainBank<CAP> {
         PlainRound::new(grid, CAP as u32, slots, links)
     }
 
+    /// How many slots each link has.
+    pub(crate) fn slots(&self) -> u32
+        ensures value { result ≡ self.now.slots }
+        ensures few { IsSlots self.now.slots }
+    {
+        self.slots
+    }
+
     /// Posts a parcel on a link, for the rank at which the link starts.
     pub(crate) fn post(&mut self, link: u32, p: &mut Parcel<CAP>) -> Result<Posted, NoMemory>
         requires link { link < links self.old.dims }
@@ -104,6 +113,7 @@ impl<const CAP: usize> PlainBank<CAP> {
         ensures full { result ≡ Ok Posted.NoRoom → length (sent_of self.old link) ≡ length (got_of self.old link) + self.old.slots }
         ensures no_memory { IsErr result → self.new ≡ self.old }
         ensures kept { result ≢ Ok Posted.Sent → p.new ≡ p.old }
+        ensures looks { (channel_at self.old link).looks_out ≤ (channel_at self.new link).looks_out }
         ensures number { length self.old.channels ≡ links self.old.dims }
     {
         let _fits = p.len();

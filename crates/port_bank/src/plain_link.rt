@@ -77,6 +77,7 @@ impl PlainLink {
         ensures full { result ≡ Ok Posted.NoRoom → length self.old.sent ≡ length self.old.got + slots }
         ensures no_memory { IsErr result → self.new ≡ self.old }
         ensures kept { result ≢ Ok Posted.Sent → p.new ≡ p.old }
+        ensures looks { self.old.looks_out ≤ self.new.looks_out }
     {
         if self.parcels.len() - self.collected >= slots as usize {
             self.looks_out = self.looks_out.saturating_add(1);

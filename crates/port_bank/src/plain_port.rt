@@ -4,7 +4,7 @@ ghost use Rattle.port_bank.specs.Logs.{Logs, starting_at, ending_at};
 ghost use Rattle.port_bank.specs.Plain.{Bank, IsBank, channel_at, sent_of, got_of, others_of};
 
 use crate::plain_bank::PlainBank;
-use crate::{Collected, Port, Posted};
+use crate::{Collected, Growing, Port, Posted};
 use bale_types::NoMemory;
 use item_buffer::Parcel;
 
@@ -36,11 +36,10 @@ impl<const CAP: usize> PlainPort<CAP> {
 impl<const CAP: usize> Port<CAP> for PlainPort<CAP> {
     ghost use Rattle.std.specs.Prelude.{◌+◌, ◌==◌, true, length, refl};
     ghost use Rattle.port_bank.specs.Logs.{starting_at, ending_at};
-    ghost use Rattle.port_bank.specs.Plain.{channel_at, sent_of, got_of, others_of};
+    ghost use Rattle.item_buffer.specs.Contents.{shipped};
+    ghost use Rattle.port_bank.specs.Plain.{channel_at, sent_of, got_of, others_of, DidPost, DidCollect};
 
-    const GROWS: bool = true;
-
-    ghost grows = { true };
+    type Memory = Growing;
 
     ghost rank = { λ p. p.rank };
 
@@ -70,11 +69,16 @@ impl<const CAP: usize> Port<CAP> for PlainPort<CAP> {
 
     ghost rest = { λ p. others_of p.rank p.bank };
 
+    ghost post_does = { λ old l p result new. DidPost old.bank new.bank l (shipped p) result };
+
+    ghost collect_does = { λ old l p result new. DidCollect old.bank new.bank l (shipped p) result };
+
     ghost crowded_is = { λ p l. refl };
 
     ghost idle_is = { λ p l. refl };
 
     fn rank(&self) -> u32 {
+        let _lawful = self.bank.slots();
         self.rank
     }
 

@@ -9,8 +9,9 @@ ghost use Rattle.route_tensor.specs.Ends.{hop_at, sender_at, reader_at};
 ghost use Rattle.port_bank.specs.Logs.{Logs, lasts, added};
 ghost use Rattle.port_bank.specs.Flow.{Begins};
 ghost use Rattle.port_bank.specs.Relay.{RelayLaw};
-ghost use Rattle.port_bank.specs.Port.{Rest, changed};
+ghost use Rattle.port_bank.specs.Port.{Rest, changed, IsSlots, PostDoes, CollectDoes};
 
+use crate::memory::Memory;
 use bale_types::NoMemory;
 use item_buffer::Parcel;
 
@@ -43,13 +44,12 @@ pub enum Collected {
 /// | `looks_out`, `looks_in` | each link: how often `post` looked for room, and how often `collect` looked |
 /// | `listens`, `noted` | each link in: how often the port listened for it, and as of the end of its latest collect |
 /// | `rest` | what belongs to others, which no call changes |
+/// | `post_does`, `collect_does` | what a port says of itself, beyond what holds of all ports |
 ///
 /// The counts are kept in 64 bits and stand still at the last number.
 pub trait Port<const CAP: usize>: Drop {
-    /// Whether `post` may take memory, and so may answer `NoMemory`.
-    const GROWS: bool;
-
-    ghost grows: { Bool };
+    /// What `post` needs of memory.
+    type Memory: Memory;
 
     ghost rank: { Self → ℕ };
 
@@ -79,9 +79,14 @@ pub trait Port<const CAP: usize>: Drop {
 
     ghost rest: { Self → Rest };
 
+    ghost post_does: { PostDoes Self };
+
+    ghost collect_does: { CollectDoes Self };
+
     /// The rank whose port this is.
     fn rank(&self) -> u32
-        ensures { result ≡ rank self.now };
+        ensures value { result ≡ rank self.now }
+        ensures slots { IsSlots (slots self.now) };
 
     /// Posts the parcel on a link out, and leaves an empty one of the same epoch in its place.
     ///
@@ -89,7 +94,7 @@ pub trait Port<const CAP: usize>: Drop {
     /// relay law: it passes on only what the rank got, and is marked last only where that is all.
     ///
     /// # Errors
-    /// `NoMemory` changes nothing, and never comes where `GROWS` is false.
+    /// `NoMemory` changes nothing, and never comes where `Memory::GROWS` is false.
     fn post(&mut self, link: u32, p: &mut Parcel<CAP>) -> Result<Posted, NoMemory>
         requires link { link < links (dims self.old) }
         requires starts_here { sender_at (dims self.old) link ≡ rank self.old }
@@ -112,11 +117,13 @@ pub trait Port<const CAP: usize>: Drop {
         ensures still_idle { result ≢ Ok Posted.Sent → idle self.new ≡ idle self.old }
         ensures kept { result ≢ Ok Posted.Sent → p.new ≡ p.old }
         ensures no_memory { IsErr result → self.new ≡ self.old }
-        ensures memory { grows ≡ false → IsOk result }
+        ensures memory { Self.Memory.GROWS ≡ false → IsOk result }
+        ensures does { post_does self.old link p.old result self.new }
 
         // In each case: what the port knows changes at this link alone, and of its links in nothing does.
         ensures crowded_here { crowded self.new ≡ changed (crowded self.old) link (crowded self.new link) }
         ensures idle_here { idle self.new ≡ changed (idle self.old) link (idle self.new link) }
+        ensures looks_out { (l : ℕ) → looks_out self.old l ≤ looks_out self.new l }
         ensures looks_here { looks_out self.new ≡ changed (looks_out self.old) link (looks_out self.new link) }
         ensures got { got self.new ≡ got self.old }
         ensures looks_in { looks_in self.new ≡ looks_in self.old }
@@ -154,6 +161,7 @@ pub trait Port<const CAP: usize>: Drop {
         ensures kept { result ≡ Collected.Nothing → p.new ≡ p.old }
 
         // In each case: what the port knows changes at this link alone, and of its links out nothing does.
+        ensures does { collect_does self.old link p.new result self.new }
         ensures noted { noted self.new ≡ changed (noted self.old) link (listens self.new link) }
         ensures listens { (l : ℕ) → listens self.old l ≤ listens self.new l }
         ensures looks_in { (l : ℕ) → looks_in self.old l ≤ looks_in self.new l }

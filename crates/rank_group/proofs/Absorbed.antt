@@ -12,8 +12,8 @@ use Rattle.route_tensor.specs.Tag.{sender_of}
 use Rattle.hop_core.specs.Link.{In, no_in, with_first_taken}
 use Rattle.hop_core.specs.Relay.{waiting}
 use Rattle.hop_core.specs.State.{State, in_at, lowest_unread, pull_from, pulled_from}
-use Rattle.convey.specs.Machine.{Part, IsOwnStep}
-use Rattle.convey.specs.Machine.Step.{Pull, Idle}
+use Rattle.port_bank.specs.Machine.{Part, IsOwnStep}
+use Rattle.port_bank.specs.Machine.Step.{Pull, Idle}
 use Rattle.round_program.specs.Rules.{Rules}
 use Rattle.round_program.specs.Laws.{Laws, fits}
 use Rattle.round_program.specs.Orders.{after_pulls}

@@ -11,7 +11,7 @@ use Rattle.hop_core.specs.declared.phase.Phase.TheVariants.{Dormant, Working}
 use Rattle.hop_core.specs.Link.{no_out, no_in}
 use Rattle.hop_core.specs.State.{State}
 use Rattle.convey.specs.Agreement.{items_among}
-use Rattle.convey.specs.Machine.Step.{Idle}
+use Rattle.port_bank.specs.Machine.Step.{Idle}
 use Rattle.convey.specs.Buffers.{buffers_of, in_of, out_of}
 use Rattle.convey.specs.Conveyors.{AgreesWith, KeepsAgreement, IsStepOf}
 use Rattle.convey.specs.Law.{IsSound}

@@ -9,8 +9,8 @@ use Rattle.hop_core.specs.State.{State}
 use Rattle.convey.specs.Buffers.{buffers_of}
 use Rattle.convey.specs.Conveyors.{AgreesWith, KeepsAgreement}
 use Rattle.convey.specs.Parts.{part_of}
-use Rattle.convey.specs.Machine.{Part, IsOwnStep}
-use Rattle.convey.specs.Machine.Step.{Push, Idle}
+use Rattle.port_bank.specs.Machine.{Part, IsOwnStep}
+use Rattle.port_bank.specs.Machine.Step.{Push, Idle}
 use Rattle.list_laws.proofs.Lists.{all_get, all_from_gets, within}
 use Rattle.round_program.specs.Rules.{Rules}
 use Rattle.round_program.specs.Laws.{Laws}

@@ -9,7 +9,7 @@ use Rattle.hop_core.specs.State.{State}
 use Rattle.convey.specs.Buffers.{buffers_of}
 use Rattle.convey.specs.Conveyors.{AgreesWith, KeepsAgreement}
 use Rattle.convey.specs.Law.{IsSound}
-use Rattle.convey.specs.Machine.{Part, IsOwnStep}
+use Rattle.port_bank.specs.Machine.{Part, IsOwnStep}
 use Rattle.convey.specs.Parts.{part_of}
 use Rattle.convey.specs.Progress.{advance_step}
 use Rattle.round_program.specs.Rules.{Rules}

@@ -1,7 +1,7 @@
 -- What a program has done, against its rank's part of the exchange machine.
 use Rattle.std.specs.Prelude.{◌≡◌, ℕ, ◌<◌, ◌≤◌, Bool, true, false, List, length, take}
 use Rattle.bale_types.specs.declared.item.Item.{Item}
-use Rattle.convey.specs.Machine.{Part}
+use Rattle.port_bank.specs.Machine.{Part}
 use Rattle.round_program.specs.Rules.{Rules}
 use Rattle.round_program.specs.Canonical.{items_of}
 use Rattle.round_program.specs.Orders.{after_pulls}

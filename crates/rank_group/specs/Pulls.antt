@@ -1,7 +1,7 @@
 -- What pushing, and pulling, leaves of a conveyor and of its rank's part of the exchange machine.
 use Rattle.std.specs.Prelude.{◌≡◌, ℕ, List}
 use Rattle.bale_types.specs.declared.item.Item.{Item}
-use Rattle.convey.specs.Machine.{Part}
+use Rattle.port_bank.specs.Machine.{Part}
 use Rattle.convey.specs.Buffers.{in_of}
 use Rattle.hop_core.specs.State.{State}
 use Rattle.rank_group.specs.Parts.{IsPushed}

@@ -2,7 +2,7 @@ use Rattle.std.proofs.Common.{ℕ, zero, suc, ◌≡◌, ◌+◌, ◌-◌, ◌*�
 use Rattle.std.specs.List.{All}
 use Rattle.std.proofs.lemmas.List.Elements.{All-head, All-tail, All-take}
 use Rattle.std.proofs.lemmas.Nat.{div_below, mod_below, mul-add-lt, div-mul-add, mod-mul-add, div-add-mod', mul-lt}
-use Rattle.std.proofs.Math.Nat.{mul_comm, div-one, mod-one, add-mul-div_left, div-div-eq-div-mul, mod-le, mul-div_left, mod-eq_of_lt, mul_assoc, mul-le-mul_left, mul-lt-mul_of_pos_right}
+use Rattle.std.proofs.Math.Nat.{mul_comm, div-one, mod-one, add-mul-div_left, div-div-eq-div-mul, mod-le, mul-div_left, mod-eq_of_lt, mul_assoc, mul-le-mul_left, mul-lt-mul_of_pos_right, mul-zero}
 use Rattle.std.proofs.Math.Arith.{mod-mul}
 use Rattle.route_tensor.specs.Grid.{ranks, dim, coord, place}
 
@@ -167,3 +167,23 @@ coord-lone dims (suc h) c p a b q =
     let q' : c < get_or dims h 0 = subst (λ i. c < get_or dims i 0) e q in
     let w = ranks (take h dims) in
     rw e (coord_by_stride dims (c * w) h (omega arith) ∙ ap (λ m. m % get_or dims h 0) (mul-div_left c (stride_some dims h p)) ∙ mod-eq_of_lt q')
+
+-- a rank by its coordinates: each digit is worth the dimensions before it
+mixed : (n r q : ℕ) → r / n ≡ q → r ≡ r % n + n * q
+mixed n r q e = omega (arith, div-add-mod' r n, mul_comm n (r / n), ap (λ x. n * x) e)
+
+one_digit : (dims : List ℕ) (r : ℕ) → Positive dims → length dims ≤ 1 → r < ranks dims → r ≡ coord dims r 1
+unfolding coord ranks
+one_digit [] r p few b = omega (arith, b)
+one_digit (n ∷ []) r p few b = sym (mod-eq_of_lt (omega (arith, b)))
+one_digit (n ∷ m ∷ ns) r p few b = absurd (omega (arith, few))
+
+two_digits : (dims : List ℕ) (r : ℕ) → Positive dims → length dims ≤ 2 → r < ranks dims → r ≡ coord dims r 1 + dim dims 1 * coord dims r 2
+unfolding coord ranks
+two_digits [] r p few b = omega (arith, b)
+two_digits (n ∷ ns) r p few b = mixed n r _ (one_digit ns (r / n) (rest-positive n ns p) (omega (arith, few)) (quotient_below n r (ranks ns) (first-positive n ns p) b))
+
+pub by_coordinates : (dims : List ℕ) (r : ℕ) → Positive dims → length dims ≤ 3 → r < ranks dims → r ≡ coord dims r 1 + dim dims 1 * (coord dims r 2 + dim dims 2 * coord dims r 3)
+unfolding coord ranks
+by_coordinates [] r p few b = omega (arith, b, mul-zero (dim [] 2), mul-zero (dim [] 1))
+by_coordinates (n ∷ ns) r p few b = mixed n r _ (two_digits ns (r / n) (rest-positive n ns p) (omega (arith, few)) (quotient_below n r (ranks ns) (first-positive n ns p) b))

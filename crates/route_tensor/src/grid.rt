@@ -3,7 +3,7 @@
 //! Ranks are numbered with the first coordinate running fastest, `r = c1 + n1 * (c2 + n2 * c3)`, as
 //! Fortran lays out an array. A missing dimension counts as one of a single coordinate.
 
-ghost use Rattle.std.specs.Prelude.{◌≡◌, ℕ, ◌+◌, ◌-◌, ◌<◌, ◌≤◌, List, [], ◌∷◌, length, take, sum, IfOk};
+ghost use Rattle.std.specs.Prelude.{◌≡◌, ℕ, ◌+◌, ◌-◌, ◌*◌, ◌<◌, ◌≤◌, List, [], ◌∷◌, length, take, sum, IfOk};
 ghost use Rattle.std.specs.List.{slice_index_or};
 ghost use Rattle.std.specs.Result.{result_err};
 ghost use Rattle.route_tensor.specs.Grid.{ranks, dim, coord, place, IsGrid};
@@ -125,6 +125,7 @@ impl Grid {
         requires first { 1 ≤ h }
         requires last { h ≤ length self.now }
         ensures value { result ≡ coord self.now r h }
+        ensures number { r ≡ coord self.now r 1 + dim self.now 1 * (coord self.now r 2 + dim self.now 2 * coord self.now r 3) }
         ensures below { result < dim self.now h }
         ensures small { result < 64 }
         ensures grid { IsGrid self.now }
@@ -140,6 +141,8 @@ impl Grid {
         ensures value { result ≡ place self.now s d h }
         ensures rank { result < ranks self.now }
         ensures grid { IsGrid self.now }
+        ensures taken { (i : ℕ) → 1 ≤ i → i ≤ h → coord self.now result i ≡ coord self.now d i }
+        ensures left { (i : ℕ) → h < i → i ≤ length self.now → coord self.now result i ≡ coord self.now s i }
         ensures start { h ≡ 0 → result ≡ s }
         ensures end { h ≡ length self.now → result ≡ d }
         ensures link { 1 ≤ h → IsLink self.now h (place self.now s d (h - 1)) result }

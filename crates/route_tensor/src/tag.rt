@@ -62,6 +62,7 @@ impl Grid {
         ensures destination { result.1 ≡ destination_of self.now tag h b }
         ensures route { IsOnRoute self.now result.0 result.1 h a b }
         ensures tag { tag ≡ tag_at self.now result.0 result.1 h }
+        ensures each { (s d : ℕ) → IsOnRoute self.now s d h a b → tag ≡ tag_at self.now s d h → (result.0 ≡ s) × (result.1 ≡ d) }
     {
         let rank = self.tag_rank(tag, h);
         (self.place(a, rank, h - 1), self.place(rank, b, h))

@@ -29,7 +29,16 @@ fn three_hops_by_hand(rt: HostRuntime) -> Result<(), Fail> {
     let links = [grid.ends(2), grid.ends(17), grid.ends(37)];
     assert_eq!(rt; links, [(1, 1, 0), (2, 0, 2), (3, 2, 6)]);
     let first = grid.tag_first(1, 6);
-    assert_eq!(rt; first, tag(0, 1, 1));
+    let second = grid.tag_next(first, 1, 1, 0);
+    let third = grid.tag_next(second, 2, 0, 2);
+    let tags = [first, second, third];
+    assert_eq!(rt; tags, [tag(0, 1, 1), tag(1, 0, 1), tag(1, 0, 0)]);
+    let pairs = [
+        grid.pair_of(first, 1, 1, 0),
+        grid.pair_of(second, 2, 0, 2),
+        grid.pair_of(third, 3, 2, 6),
+    ];
+    assert_eq!(rt; pairs, [(1, 6), (1, 6), (1, 6)]);
     Ok(())
 }
 
@@ -115,6 +124,7 @@ fn every_pair_of_some_grids(rt: HostRuntime) -> Result<(), Fail> {
     walk_all(&rt, rt.alloc(), &[64])?;
     walk_all(&rt, rt.alloc(), &[8, 8])?;
     walk_all(&rt, rt.alloc(), &[4, 4, 4])?;
+    walk_all(&rt, rt.alloc(), &[2, 2, 2])?;
     walk_all(&rt, rt.alloc(), &[2, 3, 5])?;
     walk_all(&rt, rt.alloc(), &[1, 1, 1])
 }
@@ -134,6 +144,7 @@ fn every_link_of_some_grids(rt: HostRuntime) -> Result<(), Fail> {
     number_all(&rt, &[64])?;
     number_all(&rt, &[8, 8])?;
     number_all(&rt, &[4, 4, 4])?;
+    number_all(&rt, &[2, 2, 2])?;
     number_all(&rt, &[2, 3, 5])?;
     number_all(&rt, &[1, 1, 1])
 }

@@ -3,8 +3,8 @@ use Rattle.bale_types.specs.declared.item.Item.{Item}
 use Rattle.route_tensor.specs.Grid.{ranks}
 use Rattle.hop_core.specs.State.{State, lowest_unread, pull_from, pulled_from}
 use Rattle.hop_core.specs.Standing.{IsState}
-use Rattle.convey.specs.Machine.{IsOwnStep}
-use Rattle.convey.specs.Machine.Step.{Pull, Idle}
+use Rattle.port_bank.specs.Machine.{IsOwnStep}
+use Rattle.port_bank.specs.Machine.Step.{Pull, Idle}
 use Rattle.convey.specs.Buffers.{buffers_of}
 use Rattle.convey.specs.Agreement.{Agrees}
 use Rattle.convey.specs.Parts.{part_of}

@@ -4,8 +4,8 @@ use Rattle.hop_core.specs.declared.phase.Pushed.TheVariants.{Accepted, Full}
 use Rattle.route_tensor.specs.Grid.{coord}
 use Rattle.hop_core.specs.State.{State, out_at}
 use Rattle.hop_core.specs.Standing.{IsState}
-use Rattle.convey.specs.Machine.{IsOwnStep}
-use Rattle.convey.specs.Machine.Step.{Push}
+use Rattle.port_bank.specs.Machine.{IsOwnStep}
+use Rattle.port_bank.specs.Machine.Step.{Push}
 use Rattle.convey.specs.Buffers.{buffers_of}
 use Rattle.convey.specs.Conveyors.{standing_toward}
 use Rattle.convey.specs.Agreement.{Agrees}

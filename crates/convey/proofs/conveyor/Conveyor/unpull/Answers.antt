@@ -1,8 +1,8 @@
 use Rattle.std.proofs.Common.{◌≡◌, is_some, refl, sym, ap, subst, ◌∙◌}
 use Rattle.hop_core.specs.State.{State, unpulled}
 use Rattle.hop_core.specs.Standing.{IsState}
-use Rattle.convey.specs.Machine.{IsOwnStep}
-use Rattle.convey.specs.Machine.Step.{Unpull}
+use Rattle.port_bank.specs.Machine.{IsOwnStep}
+use Rattle.port_bank.specs.Machine.Step.{Unpull}
 use Rattle.convey.specs.Buffers.{buffers_of}
 use Rattle.convey.specs.Agreement.{Agrees}
 use Rattle.convey.specs.Parts.{part_of}

@@ -9,4 +9,4 @@ invariant_of-result g c =
     let all : c.loop.counter ≡ links c.args.grid.now = omega arith in
     let items : c.loop.links.items ≡ replicate (links c.args.grid.now) unused = c.loop.invariant ∙ ap (λ n. replicate n unused) all in
     let P : List Channel → Type 0 = λ channels. IsBank g.row.CAP (record { dims = c.args.grid.now; slots = c.args.slots; channels = channels }) in
-    subst P (sym items) (empty_is_bank g.row.CAP c.args.slots c.args.grid.now c.requires.small c.links-count.ensures.grid)
+    subst P (sym items) (empty_is_bank g.row.CAP c.args.slots c.args.grid.now c.requires.small c.links-count.ensures.grid c.requires.slots)

@@ -3,7 +3,7 @@ use Rattle.item_buffer.specs.Contents.{shipped}
 use Rattle.port_bank.specs.Logs.{lasts, added, starting_at, ending_at}
 use Rattle.port_bank.specs.Relay.{RelayLaw}
 use Rattle.port_bank.specs.Plain.{sent_of, got_of}
-use Rattle.port_bank.proofs.Ports.{idle_here, post_turn}
+use Rattle.port_bank.proofs.Ports.{idle_here, none_falls, post_turn}
 use Rattle.port_bank.proofs.Owners.{starting_own}
 use Rattle.port_bank.proofs.plain_port.PlainPortPort.post.Goals as goal
 
@@ -29,3 +29,10 @@ returns-clause-idle_here g c =
     let within : c.args.link < length b.channels = omega (arith, c.requires.link, c.post.ensures.number) in
     idle_here c.args.self.now.rank b c.post.new.self c.args.link
     (post_turn b c.post.new.self c.args.link c.post.result (shipped c.args.p.now) within c.post.ensures.sent c.post.ensures.no_room c.post.ensures.no_memory)
+
+pub returns-clause-looks_out : goal.returns-clause-looks_out
+returns-clause-looks_out g c =
+    let b = c.args.self.now.bank in
+    let within : c.args.link < length b.channels = omega (arith, c.requires.link, c.post.ensures.number) in
+    none_falls (λ x. x.looks_out) b c.post.new.self c.args.link
+    (post_turn b c.post.new.self c.args.link c.post.result (shipped c.args.p.now) within c.post.ensures.sent c.post.ensures.no_room c.post.ensures.no_memory) c.post.ensures.looks

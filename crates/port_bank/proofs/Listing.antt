@@ -1,8 +1,10 @@
 -- Lists by epoch and rank, and parts of them.
-use Rattle.std.proofs.Common.{◌≡◌, ◌≢◌, ℕ, ◌-◌, ◌<◌, ◌≤◌, ◌==◌, ◌&&◌, nat_lt, Bool, true, false, cond, List, [], ◌∷◌, ◌++◌, length, take, Option, inl, inr, refl, sym, ap, ◌∙◌, arith, eq-eqb, ne_eqb}
+use Rattle.std.proofs.Common.{◌≡◌, ◌≢◌, ℕ, ◌+◌, ◌-◌, ◌<◌, ◌≤◌, ◌⊎◌, ◌==◌, ◌&&◌, nat_lt, Bool, true, false, cond, List, [], ◌∷◌, ◌++◌, length, take, slice_get, Option, Some, inl, inr, refl, sym, ap, ◌∙◌, arith, eq-eqb, ne_eqb, length-append}
 use Rattle.std.proofs.lemmas.Bool.{cases_eq, cases_lt, lt-ltb, le-ltb}
 use Rattle.bale_types.specs.declared.item.Item.{Item}
-use Rattle.convey.specs.Machine.{ItemLists, for_ranks, with_item, without_last, Part}
+use Rattle.list_laws.proofs.Lists.{get_before, get_last}
+use Rattle.port_bank.specs.Flow.{Begins}
+use Rattle.port_bank.specs.Machine.{ItemLists, for_ranks, with_item, without_last, Part, IsThrough}
 
 pub for_ranks-within : (n : ℕ) (lists : ItemLists) (e r : ℕ) → r < n → for_ranks n lists e r ≡ lists e r
 for_ranks-within n lists e r h = ap (λ b. cond b (lists e r) []) (lt-ltb r n h)
@@ -84,3 +86,17 @@ lists_without n e r x f g below here cut other past =
 pub same_part : (e : ℕ) (d c : Bool) (l : Option ℕ) (f f' g g' : ItemLists) → f' ≡ f → g' ≡ g
     → ◌≡◌ {A = Part} (record { epoch = e; done = d; complete = c; latest = l; pushed = f'; pulled = g' }) (record { epoch = e; done = d; complete = c; latest = l; pushed = f; pulled = g })
 same_part e d c l f f' g g' p q = λ i. record { epoch = e; done = d; complete = c; latest = l; pushed = p i; pulled = q i }
+
+-- an item at its place
+pub with-item_here : (lists : ItemLists) (e r : ℕ) (x : Item) → with_item lists e r x e r ≡ lists e r ++ x ∷ []
+with-item_here lists e r x = ap (λ b. cond (b && (r == r)) (lists e r ++ x ∷ []) (lists e r)) (eq-eqb e e refl) ∙ ap (λ b. cond b (lists e r ++ x ∷ []) (lists e r)) (eq-eqb r r refl)
+
+-- an item that is appended to a front stands next in the whole
+pub next_of : (xs ys : List Item) (x : Item) → Begins (xs ++ x ∷ []) ys → slice_get ys (length xs) ≡ Some x
+next_of xs ys x b =
+    ap (λ l. slice_get l (length xs)) b.is
+    ∙ (get_before (xs ++ x ∷ []) b.rest (length xs) (omega (arith, length-append xs (x ∷ []))) ∙ get_last xs x)
+
+-- through by the epoch and the mark done
+pub through_same : (e e' : ℕ) (p p' : Part) → e ≡ e' → p.epoch ≡ p'.epoch → p.done ≡ p'.done → IsThrough e p → IsThrough e' p'
+through_same e e' p p' same epoch done h = elim h [ inl k ↦ inl (sym epoch ∙ (k.0 ∙ same), sym done ∙ k.1) | inr less ↦ inr (omega arith) ]

@@ -11,6 +11,7 @@ invariant-loop-at g l = record {
   never_falls : g.K.Sink.faults l.fn.self.sink.now ≤ g.K.Sink.faults l.self.sink.now;
   gathers : l.fn.self.len + length l.t < 4096 → l.self.sink.now ≡ l.fn.self.sink.now;
   len : l.fn.self.len + length l.t < 4096 → l.self.len ≡ l.fn.self.len + l.at;
+  handed : l.fn.self.len < 4096 → l.self.len < 4096;
   same_sink : l.self.sink.ghost_name ≡ l.fn.self.sink.ghost_name;
 }
 

@@ -53,6 +53,13 @@ moved_on new mid old xs at end n step before h =
 pub front_held : (taken : Option (List ℕ)) (more : List ℕ) → IsFront taken (after taken more)
 front_held taken more = record { rest = more; whole = refl }
 
+pub front_same : (taken : Option (List ℕ)) → IsFront taken taken
+front_same taken = record { rest = []; whole = after-nil taken }
+
+-- what came before a call's bytes is a front of what came with them
+pub front_moved : (new old : Option (List ℕ)) (bytes : List ℕ) → new ≡ after old bytes → IsFront old new
+front_moved new old bytes e = record { rest = bytes; whole = sym e }
+
 -- a front of a front is a front of the whole
 pub front_of_front : (first mid last : Option (List ℕ)) → IsFront first mid → IsFront mid last → IsFront first last
 front_of_front first mid last f g = record {

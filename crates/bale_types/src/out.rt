@@ -3,7 +3,8 @@
 //! All that was appended is what the sink has taken, and then what the buffer holds: the word
 //! `appended` of the clauses. After a call that failed, the sink holds a front of what was appended,
 //! and the rest still waits in the buffer: no byte is forgotten, so that a flush that answers Ok has
-//! handed on all of them, whatever failed before it. Nothing here takes memory.
+//! handed on all of them, whatever failed before it. What a sink took stays taken. Nothing here takes
+//! memory.
 ghost use Rattle.std.specs.Prelude.{◌≡◌, ◌+◌, ◌<◌, ◌≤◌, [], ◌∷◌, length, take, IfOk, OnOk, OnErr, IsOk};
 ghost use Rattle.std.specs.Fmt.{signed_decimal};
 ghost use Rattle.bale_types.specs.Stream.{after, HasCause, IsFront};
@@ -61,6 +62,7 @@ impl<'a, K: Sink> Out<'a, K> {
         ensures never_falls { K.faults self.old.sink.now ≤ K.faults self.new.sink.now }
         ensures gathers { self.old.len + 1 < 4096 → self.new.sink.now ≡ self.old.sink.now }
         ensures handed { self.old.len < 4096 → OnOk result (self.new.len < 4096) }
+        ensures grows { IsFront (K.taken self.old.sink.now) (K.taken self.new.sink.now) }
         ensures same_sink { self.new.sink.ghost_name ≡ self.old.sink.ghost_name }
     {
         self.text(&[b])
@@ -81,6 +83,7 @@ impl<'a, K: Sink> Out<'a, K> {
         ensures never_falls { K.faults self.old.sink.now ≤ K.faults self.new.sink.now }
         ensures gathers { self.old.len + length t.now < 4096 → self.new.sink.now ≡ self.old.sink.now }
         ensures handed { self.old.len < 4096 → OnOk result (self.new.len < 4096) }
+        ensures grows { IsFront (K.taken self.old.sink.now) (K.taken self.new.sink.now) }
         ensures same_sink { self.new.sink.ghost_name ≡ self.old.sink.ghost_name }
     {
         let mut at = 0;
@@ -107,6 +110,7 @@ impl<'a, K: Sink> Out<'a, K> {
         ensures gathers { self.old.len + length (signed_decimal n) < 4096 →
             self.new.sink.now ≡ self.old.sink.now }
         ensures handed { self.old.len < 4096 → OnOk result (self.new.len < 4096) }
+        ensures grows { IsFront (K.taken self.old.sink.now) (K.taken self.new.sink.now) }
         ensures same_sink { self.new.sink.ghost_name ≡ self.old.sink.ghost_name }
     {
         let mut buffer = Buffer::new();
@@ -128,6 +132,7 @@ impl<'a, K: Sink> Out<'a, K> {
         ensures no_fault { self.old.len ≡ 0 → IsOk result }
         ensures cause { HasCause (K.faults self.old.sink.now) (K.faults self.new.sink.now) result }
         ensures never_falls { K.faults self.old.sink.now ≤ K.faults self.new.sink.now }
+        ensures grows { IsFront (K.taken self.old.sink.now) (K.taken self.new.sink.now) }
         ensures same_sink { self.new.sink.ghost_name ≡ self.old.sink.ghost_name }
     {
         while self.len > 0 {
@@ -155,6 +160,7 @@ impl<'a, K: Sink> Out<'a, K> {
             self.old.len + count < BUFFER → self.new.len ≡ self.old.len + count) }
         ensures handed { OnOk result (self.new.len < BUFFER) }
         ensures full { OnErr result (BUFFER ≤ self.old.len + length t.now) }
+        ensures grows { IsFront (K.taken self.old.sink.now) (K.taken self.new.sink.now) }
         ensures same_sink { self.new.sink.ghost_name ≡ self.old.sink.ghost_name }
     {
         // Full here only where an earlier call failed.
@@ -172,6 +178,7 @@ impl<'a, K: Sink> Out<'a, K> {
         ensures full { OnErr result (self.old.len ≡ BUFFER) }
         ensures cause { HasCause (K.faults self.old.sink.now) (K.faults self.new.sink.now) result }
         ensures never_falls { K.faults self.old.sink.now ≤ K.faults self.new.sink.now }
+        ensures grows { IsFront (K.taken self.old.sink.now) (K.taken self.new.sink.now) }
         ensures same_sink { self.new.sink.ghost_name ≡ self.old.sink.ghost_name }
     {
         if self.len == BUFFER {
@@ -207,6 +214,7 @@ fn hand_some<K: Sink>(sink: &mut K, buffer: &mut [u8; BUFFER], len: usize) -> Re
     ensures ok { IfOk result (λ left.
         after (K.taken sink.new) (take left buffer.new) ≡ after (K.taken sink.old) (take len buffer.old)) }
     ensures err { OnErr result (K.taken sink.new ≡ K.taken sink.old) }
+    ensures grows { IsFront (K.taken sink.old) (K.taken sink.new) }
     ensures same { OnErr result (buffer.new ≡ buffer.old) }
     ensures cause { HasCause (K.faults sink.old) (K.faults sink.new) result }
     ensures never_falls { K.faults sink.old ≤ K.faults sink.new }

@@ -7,6 +7,7 @@ use Rattle.bale_types.proofs.out.Out.text.Goals as goal
 
 pub loop-at-preserved : goal.loop-at-preserved
 loop-at-preserved g c =
+    let taken = g.K.Sink.taken in
     let all = appended g.K.Sink.taken in
     let bound : c.in_ok-at.field-0 ≤ length c.args.t.now - c.loop-at.at = grind (arith, common_steps) in
     let below : c.fill.new.self.len < 4096 = search rules in
@@ -25,6 +26,7 @@ loop-at-preserved g c =
           let more = c.in_ok-at.ensures.len below in
           omega arith;
       handed = λ _. below;
+      grows = front_of_front (taken c.args.self.now.sink.now) (taken c.loop-at.self.sink.now) (taken c.fill.new.self.sink.now) c.loop-at.invariant.grows c.fill.ensures.grows;
       same_sink = search rules;
     }
 
@@ -51,3 +53,8 @@ returns-in_err-at-clause-kept g c =
     let before : IsFront old (all c.loop-at.self) = subst (IsFront old) (sym c.loop-at.invariant.bytes) (front_held old (take c.loop-at.at c.args.t.now)) in
     let more : IsFront (all c.loop-at.self) (all c.fill.new.self) = search rules in
     on_err_any c.from_residual.result (front_of_front old (all c.loop-at.self) (all c.fill.new.self) before more)
+
+pub returns-in_err-at-clause-grows : goal.returns-in_err-at-clause-grows
+returns-in_err-at-clause-grows g c =
+    let taken = g.K.Sink.taken in
+    front_of_front (taken c.args.self.now.sink.now) (taken c.loop-at.self.sink.now) (taken c.fill.new.self.sink.now) c.loop-at.invariant.grows c.fill.ensures.grows

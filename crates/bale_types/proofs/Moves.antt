@@ -1,5 +1,5 @@
 -- Bytes that go from a list, piece by piece, to where they are counted.
-use Rattle.std.proofs.Common.{ℕ, ◌≡◌, ◌+◌, ◌-◌, ◌<◌, ◌≤◌, List, [], ◌++◌, get_or, Option, None, Some, Result, Ok, Err, OnErr, length, take, drop, sym, subst, ap, ◌∙◌, refl, arith, append_assoc}
+use Rattle.std.proofs.Common.{ℕ, ◌≡◌, ◌+◌, ◌-◌, ◌<◌, ◌≤◌, List, [], ◌++◌, get_or, Option, None, Some, Result, Ok, Err, OnErr, length, take, drop, sym, subst, ap, ◌∙◌, refl, arith, append_assoc, take_all, length-drop}
 use Rattle.std.proofs.lemmas.List.{append-nil, drop_more, take_at, take-take, take-append-drop, drop-drop, drop-take}
 use Rattle.std.proofs.lemmas.Grind.{flat_map-append}
 use Rattle.std.specs.List.{flat_map}
@@ -49,12 +49,42 @@ pub moved_on : (new mid old : Option (List ℕ)) (xs : List ℕ) (at end n : ℕ
 moved_on new mid old xs at end n step before h =
     rw (step, before, after-after old (take at xs) (take n (take (end - at) (drop at xs))), take_on xs at end n h) refl
 
--- a front of what a full buffer holds is a front of all that was to be appended
-pub front_of_all : (taken old : Option (List ℕ)) (held t copied whole : List ℕ) (n : ℕ) → whole ≡ held ++ copied → copied ≡ take n t → IsFront taken (after old whole) → IsFront taken (after (after old held) t)
-front_of_all taken old held t copied whole n full same front =
-    let longer = front_longer taken (after old whole) (drop n t) front in
-    let joined : after (after old whole) (drop n t) ≡ after (after old held) t = rw (full, same, after-after old (held ++ take n t) (drop n t), append_assoc held (take n t) (drop n t), take-append-drop n t) (sym (after-after old held t)) in
-    subst (IsFront taken) joined longer
+-- what a sink has is a front of that and more
+pub front_held : (taken : Option (List ℕ)) (more : List ℕ) → IsFront taken (after taken more)
+front_held taken more = record { rest = more; whole = refl }
+
+pub front_same : (taken : Option (List ℕ)) → IsFront taken taken
+front_same taken = record { rest = []; whole = after-nil taken }
+
+-- what came before a call's bytes is a front of what came with them
+pub front_moved : (new old : Option (List ℕ)) (bytes : List ℕ) → new ≡ after old bytes → IsFront old new
+front_moved new old bytes e = record { rest = bytes; whole = sym e }
+
+-- a front of a front is a front of the whole
+pub front_of_front : (first mid last : Option (List ℕ)) → IsFront first mid → IsFront mid last → IsFront first last
+front_of_front first mid last f g = record {
+  rest = f.rest ++ g.rest;
+  whole = sym (after-after first f.rest g.rest) ∙ ap (λ o. after o g.rest) f.whole ∙ g.whole;
+}
+
+-- the first bytes went to the sink, and the n others come to the front
+pub rest_waits : (new old : Option (List ℕ)) (xs : List ℕ) (count n : ℕ) → new ≡ after old (take count (take (count + n) xs)) → after new (take n (drop count xs)) ≡ after old (take (count + n) xs)
+rest_waits new old xs count n step =
+    rw (step, after-after old (take count (take (count + n) xs)) (take n (drop count xs)), ← drop-take count n xs)
+    (ap (after old) (take-append-drop count (take (count + n) xs)))
+
+-- the first n bytes were appended, so all of them would be more
+pub part_of_all : (new old : Option (List ℕ)) (t : List ℕ) (n : ℕ) → new ≡ after old (take n t) → IsFront new (after old t)
+part_of_all new old t n here = record {
+  rest = drop n t;
+  whole = rw (here, after-after old (take n t) (drop n t)) (ap (after old) (take-append-drop n t));
+}
+
+-- some were appended, and of the others a part
+pub part_of_rest : (new mid old : Option (List ℕ)) (t : List ℕ) (at : ℕ) → mid ≡ after old (take at t) → IsFront new (after mid (take (length t - at) (drop at t))) → IsFront new (after old t)
+part_of_rest new mid old t at here front =
+    let all : take (length t - at) (drop at t) ≡ drop at t = take_all (length t - at) (drop at t) (omega (arith, length-drop at t)) in
+    subst (IsFront new) (ap (after mid) all ∙ ap (λ o. after o (drop at t)) here ∙ after-after old (take at t) (drop at t) ∙ ap (after old) (take-append-drop at t)) front
 
 -- a writer of several pieces, one of which failed: what was written before it is `done`
 pub front_joined : (taken mid old : Option (List ℕ)) (done piece rest all : List ℕ) → mid ≡ after old done → done ++ piece ++ rest ≡ all → IsFront taken (after mid piece) → IsFront taken (after old all)

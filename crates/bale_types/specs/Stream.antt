@@ -1,6 +1,6 @@
 -- What a source has still to give, what a sink has taken, and what one call moves between them and a
 -- buffer. Where an object doesn't tell its bytes, they are None before and after each call.
-use Rattle.std.specs.Prelude.{◌≡◌, ◌<◌, ◌^◌, ◌-◌, ◌⊎◌, ℕ, ◌+◌, min, List, [], ◌++◌, Option, None, Some, Result, Ok, Err, OnErr, take}
+use Rattle.std.specs.Prelude.{◌≡◌, ◌<◌, ◌^◌, ◌-◌, ◌⊎◌, ℕ, zero, suc, ◌+◌, min, List, [], ◌++◌, Option, None, Some, Result, Ok, Err, OnErr, take}
 
 -- what is taken once these bytes were appended
 -- after (Some taken) bytes = Some (taken ++ bytes)
@@ -22,6 +22,14 @@ before bytes (Some left) = Some (bytes ++ left)
 abbrev pub moved : {E : Type 0} → Result ℕ E → List ℕ → List ℕ
 moved (Ok count) buffer = take count buffer
 moved (Err e) buffer = []
+
+-- what a write moved, where none that moved nothing is counted as one
+-- some_moved (Some count) = Some count, where 0 < count
+-- Some 2 of Some 2, and None of Some 0
+abbrev pub some_moved : Option ℕ → Option ℕ
+some_moved None = None
+some_moved (Some zero) = None
+some_moved (Some (suc n)) = Some (suc n)
 
 -- a count of faults rose in a call, or it stands at its type's last value
 -- Rose old new = old < new, or new = 2^64 - 1

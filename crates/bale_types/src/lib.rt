@@ -15,7 +15,8 @@
 //!
 //! An answer goes out line by line: a `Line` is put together in place, `Out::text` takes it, and the
 //! `Out` hands its buffer to the sink each time that it is full, and at `Out::flush`. After a failure
-//! a sink holds a front of what was appended, and its count of faults rose.
+//! a sink holds a front of what was appended, the rest still waits in the `Out`, and the sink's count of
+//! faults rose.
 #![tactic(auto)]
 
 mod bits;

@@ -2,7 +2,9 @@
 //!
 //! All that was appended is what the sink has taken, and then what the buffer holds: the word
 //! `appended` of the clauses. After a call that failed, the sink holds a front of what was appended,
-//! and the `Out` is not used again. Nothing here takes memory.
+//! and the rest still waits in the buffer: no byte is forgotten, so that a flush that answers Ok has
+//! handed on all of them, whatever failed before it. What a sink took stays taken. Nothing here takes
+//! memory.
 ghost use Rattle.std.specs.Prelude.{◌≡◌, ◌+◌, ◌<◌, ◌≤◌, [], ◌∷◌, length, take, IfOk, OnOk, OnErr, IsOk};
 ghost use Rattle.std.specs.Fmt.{signed_decimal};
 ghost use Rattle.bale_types.specs.Stream.{after, HasCause, IsFront};
@@ -22,9 +24,10 @@ pub struct Out<'a, K> {
     sink: &'a mut K,
     /// The bytes that the sink doesn't have yet: the first `len`.
     buffer: [u8; BUFFER],
-    /// How many those are; a buffer that becomes full is handed over at once.
+    /// How many those are; a buffer that becomes full is handed over at once, and is still full
+    /// only where that failed.
     len: usize,
-    ghost within: { len < BUFFER },
+    ghost within: { len ≤ BUFFER },
 }
 
 impl<'a, K: Sink> Out<'a, K> {
@@ -53,9 +56,13 @@ impl<'a, K: Sink> Out<'a, K> {
         ensures ok { OnOk result (appended K.taken self.new ≡ after (appended K.taken self.old) (b ∷ [])) }
         ensures err { OnErr result
             (IsFront (K.taken self.new.sink.now) (after (appended K.taken self.old) (b ∷ []))) }
+        ensures kept { OnErr result (IsFront (appended K.taken self.old) (appended K.taken self.new)) }
+        ensures part { OnErr result (IsFront (appended K.taken self.new) (after (appended K.taken self.old) (b ∷ []))) }
         ensures cause { HasCause (K.faults self.old.sink.now) (K.faults self.new.sink.now) result }
         ensures never_falls { K.faults self.old.sink.now ≤ K.faults self.new.sink.now }
-        ensures gathers { self.old.len + 1 < BUFFER → self.new.sink.now ≡ self.old.sink.now }
+        ensures gathers { self.old.len + 1 < 4096 → self.new.sink.now ≡ self.old.sink.now }
+        ensures handed { self.old.len < 4096 → OnOk result (self.new.len < 4096) }
+        ensures grows { IsFront (K.taken self.old.sink.now) (K.taken self.new.sink.now) }
         ensures same_sink { self.new.sink.ghost_name ≡ self.old.sink.ghost_name }
     {
         self.text(&[b])
@@ -70,9 +77,13 @@ impl<'a, K: Sink> Out<'a, K> {
         ensures ok { OnOk result (appended K.taken self.new ≡ after (appended K.taken self.old) t.now) }
         ensures err { OnErr result
             (IsFront (K.taken self.new.sink.now) (after (appended K.taken self.old) t.now)) }
+        ensures kept { OnErr result (IsFront (appended K.taken self.old) (appended K.taken self.new)) }
+        ensures part { OnErr result (IsFront (appended K.taken self.new) (after (appended K.taken self.old) t.now)) }
         ensures cause { HasCause (K.faults self.old.sink.now) (K.faults self.new.sink.now) result }
         ensures never_falls { K.faults self.old.sink.now ≤ K.faults self.new.sink.now }
-        ensures gathers { self.old.len + length t.now < BUFFER → self.new.sink.now ≡ self.old.sink.now }
+        ensures gathers { self.old.len + length t.now < 4096 → self.new.sink.now ≡ self.old.sink.now }
+        ensures handed { self.old.len < 4096 → OnOk result (self.new.len < 4096) }
+        ensures grows { IsFront (K.taken self.old.sink.now) (K.taken self.new.sink.now) }
         ensures same_sink { self.new.sink.ghost_name ≡ self.old.sink.ghost_name }
     {
         let mut at = 0;
@@ -92,10 +103,14 @@ impl<'a, K: Sink> Out<'a, K> {
             (appended K.taken self.new ≡ after (appended K.taken self.old) (signed_decimal n)) }
         ensures err { OnErr result
             (IsFront (K.taken self.new.sink.now) (after (appended K.taken self.old) (signed_decimal n))) }
+        ensures kept { OnErr result (IsFront (appended K.taken self.old) (appended K.taken self.new)) }
+        ensures part { OnErr result (IsFront (appended K.taken self.new) (after (appended K.taken self.old) (signed_decimal n))) }
         ensures cause { HasCause (K.faults self.old.sink.now) (K.faults self.new.sink.now) result }
         ensures never_falls { K.faults self.old.sink.now ≤ K.faults self.new.sink.now }
-        ensures gathers { self.old.len + length (signed_decimal n) < BUFFER →
+        ensures gathers { self.old.len + length (signed_decimal n) < 4096 →
             self.new.sink.now ≡ self.old.sink.now }
+        ensures handed { self.old.len < 4096 → OnOk result (self.new.len < 4096) }
+        ensures grows { IsFront (K.taken self.old.sink.now) (K.taken self.new.sink.now) }
         ensures same_sink { self.new.sink.ghost_name ≡ self.old.sink.ghost_name }
     {
         let mut buffer = Buffer::new();
@@ -103,7 +118,7 @@ impl<'a, K: Sink> Out<'a, K> {
     }
 
     /// Hands what the buffer holds to the sink, which then has taken all that was appended. With an
-    /// empty buffer no write is made. After a failure nothing is said of what the buffer holds.
+    /// empty buffer no write is made. What the sink didn't take still waits in the buffer.
     ///
     /// # Errors
     ///
@@ -112,14 +127,17 @@ impl<'a, K: Sink> Out<'a, K> {
         ensures ok { OnOk result (K.taken self.new.sink.now ≡ appended K.taken self.old) }
         ensures emptied { OnOk result (self.new.len ≡ 0) }
         ensures err { OnErr result (IsFront (K.taken self.new.sink.now) (appended K.taken self.old)) }
+        ensures kept { appended K.taken self.new ≡ appended K.taken self.old }
         ensures no_write { self.old.len ≡ 0 → self.new.sink.now ≡ self.old.sink.now }
         ensures no_fault { self.old.len ≡ 0 → IsOk result }
         ensures cause { HasCause (K.faults self.old.sink.now) (K.faults self.new.sink.now) result }
         ensures never_falls { K.faults self.old.sink.now ≤ K.faults self.new.sink.now }
+        ensures grows { IsFront (K.taken self.old.sink.now) (K.taken self.new.sink.now) }
         ensures same_sink { self.new.sink.ghost_name ≡ self.old.sink.ghost_name }
     {
-        hand_over(self.sink, &self.buffer, self.len)?;
-        self.len = 0;
+        while self.len > 0 {
+            self.len = hand_some(self.sink, &mut self.buffer, self.len)?;
+        }
         Ok(())
     }
 
@@ -131,44 +149,77 @@ impl<'a, K: Sink> Out<'a, K> {
         ensures bound { IfOk result (λ count. count ≤ length t.now) }
         ensures ok { IfOk result (λ count.
             appended K.taken self.new ≡ after (appended K.taken self.old) (take count t.now)) }
-        ensures err { OnErr result
-            (IsFront (K.taken self.new.sink.now) (after (appended K.taken self.old) t.now)) }
+        ensures kept { OnErr result (IsFront (appended K.taken self.old) (appended K.taken self.new)) }
+        ensures part { OnErr result
+            (IsFront (appended K.taken self.new) (after (appended K.taken self.old) t.now)) }
         ensures cause { HasCause (K.faults self.old.sink.now) (K.faults self.new.sink.now) result }
         ensures never_falls { K.faults self.old.sink.now ≤ K.faults self.new.sink.now }
         ensures gathers { IfOk result (λ count.
             self.old.len + count < BUFFER → self.new.sink.now ≡ self.old.sink.now) }
         ensures len { IfOk result (λ count.
             self.old.len + count < BUFFER → self.new.len ≡ self.old.len + count) }
+        ensures handed { OnOk result (self.new.len < BUFFER) }
         ensures full { OnErr result (BUFFER ≤ self.old.len + length t.now) }
+        ensures grows { IsFront (K.taken self.old.sink.now) (K.taken self.new.sink.now) }
         ensures same_sink { self.new.sink.ghost_name ≡ self.old.sink.ghost_name }
+    {
+        // Full here only where an earlier call failed.
+        self.flush_if_full()?;
+        let count = self.copy_in(t);
+        self.flush_if_full()?;
+        Ok(count)
+    }
+
+    /// Hands a full buffer to the sink.
+    fn flush_if_full(&mut self) -> Result<(), Failed>
+        ensures kept { appended K.taken self.new ≡ appended K.taken self.old }
+        ensures handed { OnOk result (self.new.len < BUFFER) }
+        ensures gathers { self.old.len < BUFFER → self.new ≡ self.old }
+        ensures full { OnErr result (self.old.len ≡ BUFFER) }
+        ensures cause { HasCause (K.faults self.old.sink.now) (K.faults self.new.sink.now) result }
+        ensures never_falls { K.faults self.old.sink.now ≤ K.faults self.new.sink.now }
+        ensures grows { IsFront (K.taken self.old.sink.now) (K.taken self.new.sink.now) }
+        ensures same_sink { self.new.sink.ghost_name ≡ self.old.sink.ghost_name }
+    {
+        if self.len == BUFFER {
+            self.flush()?;
+        }
+        Ok(())
+    }
+
+    /// Copies as many bytes from the front of `t` as fit behind those that the buffer holds.
+    fn copy_in(&mut self, t: &[u8]) -> usize
+        requires some { 0 < length t.now }
+        requires room { self.old.len < BUFFER }
+        ensures some { 0 < result }
+        ensures bound { result ≤ length t.now }
+        ensures appended { appended K.taken self.new ≡ after (appended K.taken self.old) (take result t.now) }
+        ensures len { self.new.len ≡ self.old.len + result }
+        ensures sink { self.new.sink ≡ self.old.sink }
     {
         let len = self.len;
         let count = t.len().min(BUFFER - len);
         let end = len + count;
         self.buffer[len..end].copy_from_slice(&t[..count]);
-        if end == BUFFER {
-            hand_over(self.sink, &self.buffer, end)?;
-            self.len = 0;
-        } else {
-            self.len = end;
-        }
-        Ok(count)
+        self.len = end;
+        count
     }
 }
 
-/// Writes the first `len` bytes of `buffer` to the sink, by as many calls as it takes.
-fn hand_over<K: Sink>(sink: &mut K, buffer: &[u8], len: usize) -> Result<(), Failed>
-    requires { len ≤ length buffer.now }
-    ensures ok { OnOk result (K.taken sink.new ≡ after (K.taken sink.old) (take len buffer.now)) }
-    ensures err { OnErr result (IsFront (K.taken sink.new) (after (K.taken sink.old) (take len buffer.now))) }
-    ensures no_write { len ≡ 0 → sink.new ≡ sink.old }
-    ensures no_fault { len ≡ 0 → IsOk result }
+/// Hands some of the first `len` bytes to the sink, by one call; the others come to the front, and it
+/// says how many they are.
+fn hand_some<K: Sink>(sink: &mut K, buffer: &mut [u8; BUFFER], len: usize) -> Result<usize, Failed>
+    requires { (0 < len) × (len ≤ BUFFER) }
+    ensures fewer { IfOk result (λ left. left < len) }
+    ensures ok { IfOk result (λ left.
+        after (K.taken sink.new) (take left buffer.new) ≡ after (K.taken sink.old) (take len buffer.old)) }
+    ensures err { OnErr result (K.taken sink.new ≡ K.taken sink.old) }
+    ensures grows { IsFront (K.taken sink.old) (K.taken sink.new) }
+    ensures same { OnErr result (buffer.new ≡ buffer.old) }
     ensures cause { HasCause (K.faults sink.old) (K.faults sink.new) result }
     ensures never_falls { K.faults sink.old ≤ K.faults sink.new }
 {
-    let mut at = 0;
-    while at < len {
-        at += sink.write(&buffer[at..len])?;
-    }
-    Ok(())
+    let count = sink.write(&buffer[..len])?;
+    buffer.copy_within(count..len, 0);
+    Ok(len - count)
 }

@@ -1,10 +1,12 @@
 //! Standard input, output and error as a source and two sinks: the trusted edge.
 //!
 //! No contract can say what a terminal, a pipe or a file gives or takes, so these tell no content.
-//! They count their failures.
-ghost use Rattle.std.specs.Prelude.{◌≡◌, ◌≤◌, None, is_err, if◌then◌else◌};
+//! They count their failures: exactly the calls that answer `Failed`. What std answered goes whole to
+//! one helper, whose contract keeps it; what no contract sees, the repository's checks try on real
+//! files, pipes and devices.
+ghost use Rattle.std.specs.Prelude.{◌≡◌, ◌<◌, ◌≤◌, ℕ, List, Option, None, Some, Ok, [], length, is_err, IfOk, if◌then◌else◌};
 ghost use Rattle.std.specs.Result.{result_ok};
-ghost use Rattle.bale_types.specs.Stream.{next_count};
+ghost use Rattle.bale_types.specs.Stream.{after, before, moved, next_count, HasCause, some_moved};
 
 use super::fault::Failed;
 use super::stream::{Sink, Source};
@@ -39,8 +41,17 @@ impl<R: Input> Source for StdinSource<'_, R> {
 
     ghost faults = { λ s. s.faults };
 
-    fn read(&mut self, buf: &mut [u8]) -> Result<usize, Failed> {
-        counted(self.reader.read(buf).ok(), &mut self.faults)
+    fn read(&mut self, buf: &mut [u8]) -> Result<usize, Failed>
+        requires { 0 < length buf.old }
+        ensures bound { IfOk result (λ count. count ≤ length buf.new) }
+        ensures only_at_end { (text : List ℕ) → result ≡ Ok 0 → None ≡ Some text → text ≡ [] }
+        ensures at_end { (let left : Option (List ℕ) = None in left ≡ Some []) → IfOk result (λ count. count ≡ 0) }
+        ensures cause { HasCause self.old.faults self.new.faults result }
+        ensures never_falls { self.old.faults ≤ self.new.faults }
+        ensures faults { self.new.faults ≡
+            (if is_err result then next_count self.old.faults else self.old.faults) }
+    {
+        counted(self.reader.read(buf), &mut self.faults)
     }
 }
 
@@ -66,12 +77,19 @@ impl<R: Print> Sink for StdoutSink<'_, R> {
 
     ghost faults = { λ s. s.faults };
 
-    fn write(&mut self, piece: &[u8]) -> Result<usize, Failed> {
-        let moved = io::writer(self.rt)
-            .write(piece)
-            .ok()
-            .filter(|count| *count > 0);
-        counted(moved, &mut self.faults)
+    fn write(&mut self, piece: &[u8]) -> Result<usize, Failed>
+        requires { 0 < length piece.now }
+        ensures some { IfOk result (λ count. 0 < count) }
+        ensures bound { IfOk result (λ count. count ≤ length piece.now) }
+        ensures cause { HasCause self.old.faults self.new.faults result }
+        ensures never_falls { self.old.faults ≤ self.new.faults }
+        ensures faults { self.new.faults ≡
+            (if is_err result then next_count self.old.faults else self.old.faults) }
+    {
+        counted(
+            some_taken(io::writer(self.rt).write(piece)),
+            &mut self.faults,
+        )
     }
 }
 
@@ -98,22 +116,44 @@ impl<R: Eprint> Sink for StderrSink<'_, R> {
 
     ghost faults = { λ s. s.faults };
 
-    fn write(&mut self, piece: &[u8]) -> Result<usize, Failed> {
-        let printed = str::from_utf8(piece)
-            .ok()
-            .and_then(|text| self.rt.eprint(text).ok());
-        counted(printed.map(|()| piece.len()), &mut self.faults)
+    fn write(&mut self, piece: &[u8]) -> Result<usize, Failed>
+        requires { 0 < length piece.now }
+        ensures some { IfOk result (λ count. 0 < count) }
+        ensures bound { IfOk result (λ count. count ≤ length piece.now) }
+        ensures cause { HasCause self.old.faults self.new.faults result }
+        ensures never_falls { self.old.faults ≤ self.new.faults }
+        ensures faults { self.new.faults ≡
+            (if is_err result then next_count self.old.faults else self.old.faults) }
+    {
+        let got = match str::from_utf8(piece) {
+            Ok(text) => self.rt.eprint(text).map(|()| piece.len()),
+            Err(_) => Err(io::Error::other("no UTF-8")),
+        };
+        counted(got, &mut self.faults)
     }
 }
 
-/// The number of bytes moved, or a failure, which is counted.
-fn counted(moved: Option<usize>, faults: &mut u64) -> Result<usize, Failed>
-    ensures moved { result_ok result ≡ moved }
+/// What a call of std moved, or its failure, which is counted.
+fn counted(got: io::Result<usize>, faults: &mut u64) -> Result<usize, Failed>
+    ensures moved { result_ok result ≡ result_ok got }
     ensures faults { faults.new ≡ (if is_err result then next_count faults.old else faults.old) }
     ensures never_falls { faults.old ≤ faults.new }
 {
-    if moved.is_none() {
-        *faults = faults.saturating_add(1);
+    match got {
+        Ok(count) => Ok(count),
+        Err(_) => {
+            *faults = faults.saturating_add(1);
+            Err(Failed)
+        }
     }
-    moved.ok_or(Failed)
+}
+
+/// A write that took nothing has failed.
+fn some_taken(got: io::Result<usize>) -> io::Result<usize>
+    ensures { result_ok result ≡ some_moved (result_ok got) }
+{
+    match got {
+        Ok(0) => Err(io::Error::other("nothing was taken")),
+        other => other,
+    }
 }

@@ -268,3 +268,25 @@ fn a_failed_write_leaves_a_front(rt: HostRuntime) -> Result<(), Fail> {
     assert_eq!(rt; sink.taken(), b"aaaaaaaaaa".as_slice());
     Ok(())
 }
+
+#[test]
+fn what_a_failed_call_left_still_waits(rt: HostRuntime) -> Result<(), Fail> {
+    let mut sink = MemSink::new(rt.alloc(), 10_000, 5, &[2])?;
+    let mut out = Out::new(&mut sink);
+    out.text(b"abcdefgh")?;
+    assert_eq!(rt; out.flush(), Err(Failed));
+    out.byte(b'i')?;
+    out.flush()?;
+    assert_eq!(rt; sink.taken(), b"abcdefghi".as_slice());
+    let letters = vec![in rt.alloc(); b'a'; 4096]?;
+    let mut sink = MemSink::new(rt.alloc(), 10_000, 4096, &[1, 2])?;
+    let mut out = Out::new(&mut sink);
+    assert_eq!(rt; out.text(&letters), Err(Failed));
+    assert_eq!(rt; out.byte(b'x'), Err(Failed));
+    out.byte(b'b')?;
+    out.flush()?;
+    let taken = sink.taken();
+    assert_eq!(rt; taken.len(), 4097);
+    assert_eq!(rt; &taken[4095..], b"ab".as_slice());
+    Ok(())
+}

@@ -1,6 +1,8 @@
 //! Worked texts with their matrices or bad lines, and that calls succeed with ample memory.
+ghost use Rattle.std.specs.Prelude.{None};
+
 use super::*;
-use bale_types::{MemSource, Triple};
+use bale_types::{Failed, MemSource, Source, Triple};
 use std::alloc::{AllocError, Global};
 use std::test::Fail;
 
@@ -276,6 +278,41 @@ fn texts_from_a_source(rt: HostRuntime) -> Result<(), Fail> {
         }
     }
     Ok(())
+}
+
+/// A source of three pieces of LF, the last of which is empty. It counts how often it was asked, and keeps the least room that it was
+/// offered.
+#[derive(Drop)]
+struct Asked {
+    calls: u64,
+    least: usize,
+}
+
+impl Source for Asked {
+    ghost left = { λ _. None };
+
+    ghost faults = { λ _. 0 };
+
+    fn read(&mut self, buf: &mut [u8]) -> Result<usize, Failed> {
+        self.calls = self.calls.saturating_add(1);
+        self.least = self.least.min(buf.len());
+        if self.calls > 2 {
+            return Ok(0);
+        }
+        buf.fill(b'\n');
+        Ok(buf.len())
+    }
+}
+
+#[test]
+fn a_read_asks_for_many_bytes(rt: HostRuntime) {
+    let mut source = Asked {
+        calls: 0,
+        least: usize::MAX,
+    };
+    assert!(rt; read_matrix(rt.alloc(), &mut source).is_err());
+    assert_eq!(rt; source.calls, 3);
+    assert_eq!(rt; source.least, 65_536);
 }
 
 #[test]

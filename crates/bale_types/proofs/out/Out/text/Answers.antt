@@ -1,13 +1,16 @@
-use Rattle.std.proofs.Common.{◌∙◌, ◌+◌, ◌-◌, ◌<◌, ◌≤◌, length, arith, rules}
+use Rattle.std.proofs.Common.{◌∙◌, ◌+◌, ◌-◌, ◌<◌, ◌≤◌, length, take, sym, subst, arith, rules}
 use Rattle.std.proofs.lemmas.Grind.{common_steps}
 use Rattle.bale_types.specs.Out.{appended}
-use Rattle.bale_types.proofs.Moves.{moved_on}
+use Rattle.bale_types.specs.Stream.{after, IsFront}
+use Rattle.bale_types.proofs.Moves.{moved_on, part_of_rest, front_held, front_of_front, on_err_any}
 use Rattle.bale_types.proofs.out.Out.text.Goals as goal
 
 pub loop-at-preserved : goal.loop-at-preserved
 loop-at-preserved g c =
+    let taken = g.K.Sink.taken in
     let all = appended g.K.Sink.taken in
     let bound : c.in_ok-at.field-0 ≤ length c.args.t.now - c.loop-at.at = grind (arith, common_steps) in
+    let below : c.fill.new.self.len < 4096 = search rules in
     record {
       within = omega arith;
       bytes = moved_on (all c.fill.new.self) (all c.loop-at.self) (all c.args.self.now) c.args.t.now c.loop-at.at (length c.args.t.now) c.in_ok-at.field-0
@@ -22,5 +25,36 @@ loop-at-preserved g c =
           let below : c.loop-at.self.len + c.in_ok-at.field-0 < 4096 = omega arith in
           let more = c.in_ok-at.ensures.len below in
           omega arith;
+      handed = λ _. below;
+      grows = front_of_front (taken c.args.self.now.sink.now) (taken c.loop-at.self.sink.now) (taken c.fill.new.self.sink.now) c.loop-at.invariant.grows c.fill.ensures.grows;
       same_sink = search rules;
     }
+
+-- of what follows the first `at` bytes a part was appended
+pub returns-in_err-at-clause-part : goal.returns-in_err-at-clause-part
+returns-in_err-at-clause-part g c =
+    let all = appended g.K.Sink.taken in
+    on_err_any c.from_residual.result
+    (part_of_rest (all c.fill.new.self) (all c.loop-at.self) (all c.args.self.now) c.args.t.now c.loop-at.at c.loop-at.invariant.bytes c.in_err-at.ensures.part)
+
+-- and of what was appended the sink has a front
+pub returns-in_err-at-clause-err : goal.returns-in_err-at-clause-err
+returns-in_err-at-clause-err g c =
+    let all = appended g.K.Sink.taken in
+    let new = c.fill.new.self in
+    on_err_any c.from_residual.result
+    (front_of_front (g.K.Sink.taken new.sink.now) (all new) (after (all c.args.self.now) c.args.t.now) (front_held (g.K.Sink.taken new.sink.now) (take new.len new.buffer))
+    (part_of_rest (all new) (all c.loop-at.self) (all c.args.self.now) c.args.t.now c.loop-at.at c.loop-at.invariant.bytes c.in_err-at.ensures.part))
+
+pub returns-in_err-at-clause-kept : goal.returns-in_err-at-clause-kept
+returns-in_err-at-clause-kept g c =
+    let all = appended g.K.Sink.taken in
+    let old = all c.args.self.now in
+    let before : IsFront old (all c.loop-at.self) = subst (IsFront old) (sym c.loop-at.invariant.bytes) (front_held old (take c.loop-at.at c.args.t.now)) in
+    let more : IsFront (all c.loop-at.self) (all c.fill.new.self) = search rules in
+    on_err_any c.from_residual.result (front_of_front old (all c.loop-at.self) (all c.fill.new.self) before more)
+
+pub returns-in_err-at-clause-grows : goal.returns-in_err-at-clause-grows
+returns-in_err-at-clause-grows g c =
+    let taken = g.K.Sink.taken in
+    front_of_front (taken c.args.self.now.sink.now) (taken c.loop-at.self.sink.now) (taken c.fill.new.self.sink.now) c.loop-at.invariant.grows c.fill.ensures.grows

@@ -1,5 +1,5 @@
 use Rattle.std.proofs.Common.{◌≡◌, ◌+◌, ◌-◌, ◌<◌, ◌≤◌, length, take}
-use Rattle.bale_types.specs.Stream.{after}
+use Rattle.bale_types.specs.Stream.{after, IsFront}
 use Rattle.bale_types.specs.Out.{appended}
 use Rattle.bale_types.proofs.out.Out.text.Given as goal
 
@@ -11,6 +11,8 @@ invariant-loop-at g l = record {
   never_falls : g.K.Sink.faults l.fn.self.sink.now ≤ g.K.Sink.faults l.self.sink.now;
   gathers : l.fn.self.len + length l.t < 4096 → l.self.sink.now ≡ l.fn.self.sink.now;
   len : l.fn.self.len + length l.t < 4096 → l.self.len ≡ l.fn.self.len + l.at;
+  handed : l.fn.self.len < 4096 → l.self.len < 4096;
+  grows : IsFront (g.K.Sink.taken l.fn.self.sink.now) (g.K.Sink.taken l.self.sink.now);
   same_sink : l.self.sink.ghost_name ≡ l.fn.self.sink.ghost_name;
 }
 

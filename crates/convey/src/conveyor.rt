@@ -179,7 +179,7 @@ impl<const CAP: usize, const HOPS: usize> Conveyor<CAP, HOPS> {
         ensures answer { IfOk result (λ p. p ≡ progress_of self.new.phase) }
         ensures settled { OnOk result (self.new.phase ≡ phase_of self.new) }
         ensures no_memory { IsErr result → self.new.phase ≡ self.old.phase }
-        ensures memory { P.GROWS ≡ false → IsOk result }
+        ensures memory { P.Memory.GROWS ≡ false → IsOk result }
 
         ensures begun { self.new.phase ≢ Phase.Dormant }
         ensures working { IsOk result → done ≡ false → self.new.phase ≡ Phase.Working }

@@ -23,7 +23,7 @@ pub(crate) fn post_all<const CAP: usize, const HOPS: usize, P: Port<CAP>>(
     ensures ins { state.new.ins ≡ state.old.ins }
     ensures served { OnOk result ((l : ℕ) → l < links (P.dims port.old) → sender_at (P.dims port.old) l ≡ P.rank port.old
         → WasServed state.new l (P.looks_out port.old l) (P.looks_out port.new l) (P.crowded port.new l)) }
-    ensures memory { P.GROWS ≡ false → IsOk result }
+    ensures memory { P.Memory.GROWS ≡ false → IsOk result }
     ensures forgotten { IsErr result → state.new.pulled ≡ None }
     ensures waits { (l : ℕ) → l < links (P.dims port.old) → sender_at (P.dims port.old) l ≡ P.rank port.old → P.sent port.new l ≡ P.sent port.old l
         → (out_of state.new l).parcel.untaken ≡ (out_of state.old l).parcel.untaken }
@@ -55,7 +55,7 @@ pub(crate) fn post_one<const CAP: usize, const HOPS: usize, P: Port<CAP>>(
     ensures goes_on { GoesOn state.old state.new (P.sent port.old) (P.sent port.new) (P.got port.old) (P.got port.new) }
     ensures ins { state.new.ins ≡ state.old.ins }
     ensures served { OnOk result (WasServed state.new link (P.looks_out port.old link) (P.looks_out port.new link) (P.crowded port.new link)) }
-    ensures memory { P.GROWS ≡ false → IsOk result }
+    ensures memory { P.Memory.GROWS ≡ false → IsOk result }
     ensures forgotten { IsErr result → state.new.pulled ≡ None }
     ensures out { (m : ℕ) → m < links (P.dims port.old) → sender_at (P.dims port.old) m ≡ P.rank port.old → m ≢ link → out_of state.new m ≡ out_of state.old m }
     ensures waits { P.sent port.new link ≡ P.sent port.old link → (out_of state.new link).parcel.untaken ≡ (out_of state.old link).parcel.untaken }

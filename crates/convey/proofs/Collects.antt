@@ -24,7 +24,7 @@ use Rattle.convey.specs.Due.{Wants}
 use Rattle.convey.specs.Way.{IsReady, GoesOn, at_rest}
 use Rattle.convey.proofs.Arrivals.{GotOn, got_agrees, got_part}
 use Rattle.convey.proofs.Moves.{SameOn, same_agrees, same_buffers_part}
-use Rattle.convey.proofs.Ways.{no_more}
+use Rattle.convey.proofs.Ways.{no_more, none_filled}
 use Rattle.convey.proofs.States.{none_of, both_true, in_number, in_apart}
 
 -- the state after an inbox came back
@@ -153,7 +153,7 @@ module _ (dims : List ℕ) (rank : ℕ) (st new : State) (link : ℕ) (x : In) (
       subst (λ logs. Collected dims rank st new link sent logs got got') (sym same)
       (subst (λ n. Collected dims rank st n link sent sent got got') (sym e) (record {
         ready = record { home = refl; same_dims = r.same_dims; same_rank = r.same_rank; agrees = agrees };
-        goes_on = record { cap = refl; steady = refl; epoch = refl; done = refl; phase = refl; part = part; sent_grows = λ l. begins_refl (sent l); got_grows = grows; shape = λ l h. h };
+        goes_on = record { cap = refl; steady = refl; epoch = refl; done = refl; phase = refl; part = part; sent_grows = λ l. begins_refl (sent l); got_grows = grows; fills = λ l more k. none_filled st.steady st.cap (sent l) more k };
         inbox = λ m h to ne.
             inbox_other st st.rank link m x s here_below (subst (λ ds. m < links ds) (sym r.same_dims) h) here_own (ap (λ ds. reader_at ds m) r.same_dims ∙ (to ∙ sym r.same_rank)) ne;
       }))

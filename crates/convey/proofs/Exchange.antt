@@ -16,13 +16,13 @@ use Rattle.port_bank.proofs.Segments.{lasts_begins}
 use Rattle.port_bank.proofs.Kept.{between}
 use Rattle.port_bank.proofs.Routes.{link-on_route}
 use Rattle.port_bank.proofs.Pipeline.{Keeps, arrives_in_order, arrives_whole}
-use Rattle.port_bank.specs.Machine.{Part, ItemLists, with_item, for_ranks, Step, IsThrough, MayComplete, NamesRank, Allows, IsOwnStep, IsStep}
+use Rattle.port_bank.specs.Machine.{Part, ItemLists, with_item, for_ranks, Step, MayComplete, NamesRank, Allows, IsOwnStep, IsStep, completed_of, done_of, EpochsClose}
 use Rattle.port_bank.specs.Machine.Step.{Push, Pull, Unpull, Done, Complete, Reset, Idle}
 use Rattle.convey.specs.Buffers.{Buffers}
 use Rattle.convey.specs.Agreement.{Agrees}
 use Rattle.convey.specs.Parts.{part_of, pushed_to, pulled_of}
 use Rattle.convey.specs.Law.{IsSound, AgreeTogether, IsCall, state_of}
-use Rattle.port_bank.proofs.Listing.{for_ranks-within, with-item_here, next_of, through_same}
+use Rattle.port_bank.proofs.Listing.{for_ranks-within, with-item_here, next_of, through_same, through_done, all_below}
 use Rattle.convey.proofs.OneRank.{OneRank, one_rank_of}
 
 -- what a call on another rank leaves of a rank's own logs
@@ -98,6 +98,26 @@ module _ (dims : List ℕ) (cap slots : ℕ) (all : ℕ → Buffers) (sent got :
         ∙ (arrives_whole dims sent got keeps s d (all d).epoch from to ((one d to).completes s c from)
         ∙ (sym ((one s from).pushed_ended (all d).epoch d to (first_ended s d from to c))
         ∙ sym (for-dims dims (all s).dims (pushed_to (all s) (starting_at dims s sent)) (all d).epoch d (t.same_dims s from) to))));
+  }
+
+  -- all ranks end an epoch together
+  ended_by : (r s e : ℕ) → r < ranks dims → s < ranks dims → e < completed_of (state_of dims all sent got r) → e < lasts (sent (hop_link dims s r 1))
+  ended_by r s e to from h =
+      ended_first s r e (length dims - 1) from to (omega (arith, last_hop))
+      (subst (λ m. e < lasts (got (hop_link dims s r m))) (sym last_hop) ((one r to).completed e s h from))
+
+  pub close : EpochsClose (ranks dims) (state_of dims all sent got)
+  close = record {
+    begins = λ r s e to from. in_order e s r from to;
+    all_done = λ r s to from.
+        all_below (completed_of (state_of dims all sent got r)) (done_of (state_of dims all sent got s))
+        (λ e h. through_done e (state_of dims all sent got s) ((one s from).through e r to (ended_by r s e to from h)));
+    whole = λ r s e to from h.
+        for-dims dims (all r).dims (pulled_of (all r) (ending_at dims r got)) e s (t.same_dims r to) from
+        ∙ ((one r to).pulled_past e s h from
+        ∙ (arrives_whole dims sent got keeps s r e from to ((one r to).completed e s h from)
+        ∙ (sym ((one s from).pushed_ended e r to (ended_by r s e to from h))
+        ∙ sym (for-dims dims (all s).dims (pushed_to (all s) (starting_at dims s sent)) e r (t.same_dims s from) to))));
   }
 
 module _ (dims : List ℕ) (cap slots r : ℕ) (old new : ℕ → Buffers) (sent sent' got got' : Logs)

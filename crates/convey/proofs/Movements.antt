@@ -1,5 +1,5 @@
 -- What an advance leaves before it settles the phase.
-use Rattle.std.proofs.Common.{◌≡◌, ◌≢◌, ℕ, ◌<◌, ◌⊎◌, Bool, true, false, List, [], ◌++◌, length, arith, slice_index_or, Option, None, refl, sym, ap, subst, ◌∙◌, inl, inr}
+use Rattle.std.proofs.Common.{◌≡◌, ◌≢◌, ℕ, ◌+◌, ◌<◌, ◌≤◌, ◌⊎◌, Bool, true, false, List, [], ◌++◌, length, arith, slice_get, slice_index_or, Option, None, refl, sym, ap, subst, ◌∙◌, inl, inr}
 use Rattle.std.specs.List.{flat_map}
 use Rattle.std.proofs.lemmas.Bool.{false≢true}
 use Rattle.std.proofs.lemmas.List.{append-nil}
@@ -19,7 +19,7 @@ use Rattle.hop_core.specs.State.{State, phase_of}
 use Rattle.hop_core.specs.Standing.{IsState}
 use Rattle.convey.specs.Buffers.{out_of, in_of, is_complete, buffers_of}
 use Rattle.convey.specs.Agreement.{Ends, Agrees}
-use Rattle.convey.specs.Due.{Wants, IsOver, HasNext, IsBlocked}
+use Rattle.convey.specs.Due.{Wants, IsOver, NextIs, IsBlocked}
 use Rattle.convey.specs.Parts.{part_of}
 use Rattle.convey.specs.Way.{IsReady, GoesOn, PassedOn, WasAsked, WasServed, MovesOn, HasServed, at_rest}
 use Rattle.convey.proofs.Moves.{forget_agrees, marks_agree}
@@ -27,9 +27,9 @@ use Rattle.convey.proofs.Routes.{own_loop, not_all_ended}
 use Rattle.convey.proofs.States.{closed_end, is_out}
 use Rattle.convey.proofs.Posts.{due_open, due_full, still_full}
 use Rattle.convey.proofs.Relays.{ends_refl}
-use Rattle.convey.proofs.Blocks.{next_map}
+use Rattle.convey.proofs.Blocks.{next_map, none_first}
 use Rattle.convey.proofs.Completes.{is_over, over_not_due, over_not_wanted}
-use Rattle.convey.proofs.Ways.{goes_on_trans, never_grew, wants_same, no_more}
+use Rattle.convey.proofs.Ways.{goes_on_trans, never_grew, wants_same, no_more, none_filled}
 
 -- done is noted
 pub noted_agrees : (st : State) (done : Bool) (pulled : Option ℕ) (sent got : Logs) → (pulled ≡ st.pulled) ⊎ (pulled ≡ None) → Agrees (buffers_of st) sent got → Agrees (buffers_of (record st { done = done; pulled = pulled })) sent got
@@ -57,7 +57,7 @@ quiet st new done pulled sent sent' got got' k = record {
   part = k.part;
   sent_grows = k.sent_grows;
   got_grows = k.got_grows;
-  shape = k.shape;
+  fills = k.fills;
 }
 
 -- no link of hop 1 is closed before the rank is done
@@ -123,7 +123,8 @@ module _ (dims : List ℕ) (rank : ℕ) (st0 st1 st2 st3 st4 : State) (done : Bo
   module _ (noted noted' noted'' : ℕ → ℕ) (idle' idle'' : ℕ → Bool)
       (asked : (l : ℕ) → l < links dims → reader_at dims l ≡ rank → WasAsked st1 l (got l) (got' l) (noted l) (noted' l) (idle' l))
       (lies : (l : ℕ) (more : List Shipped) → l < links dims → reader_at dims l ≡ rank → got' l ≡ got l ++ more → (in_of st2 l).parcel.untaken ≡ (in_of st1 l).parcel.untaken ++ flat_map (λ p. p.entries) more)
-      (same_got : got'' ≡ got') (same_noted : noted'' ≡ noted') (same_idle : (l : ℕ) → sent'' l ≡ sent' l → idle'' l ≡ idle' l) where
+      (same_got : got'' ≡ got') (same_noted : noted'' ≡ noted') (same_idle : (l : ℕ) → sent'' l ≡ sent' l → idle'' l ≡ idle' l)
+      (same_sent : sent' ≡ sent) (once : (l : ℕ) → l < links dims → sender_at dims l ≡ rank → length (sent'' l) ≤ length (sent' l) + 1) where
     wants : (l : ℕ) → Wants st0 l → Wants st1 l
     wants l = wants_same st0 st1 l (ap (λ u. in_of u l) says)
 
@@ -142,13 +143,15 @@ module _ (dims : List ℕ) (rank : ℕ) (st0 st1 st2 st3 st4 : State) (done : Bo
           lies l more (here l h) (reads l to) (sym (ap (λ g. g l) same_got) ∙ e) ∙ ap (λ u. (in_of u l).parcel.untaken ++ flat_map (λ p. p.entries) more) says in
           subst (Ends ((in_of st0 l).parcel.untaken ++ flat_map (λ p. p.entries) more)) (sym (ap (λ x. x.parcel.untaken) (same_in l))) (subst (λ xs. Ends xs (in_of st3 l).parcel.untaken) before (passed.lies l));
       waits = λ l h from same. subst (Begins (out_of st0 l).parcel.untaken) (sym (waits l (here l h) (sends l from) (same ∙ sym (never_sent l same)))) (begins l);
+      one_sent = λ l h from. omega (arith, once l (here l h) (sends l from), ap (λ s. length (s l)) same_sent);
+      one_got = λ l h to. omega (arith, (asked l (here l h) (reads l to)).once, ap (λ g. length (g l)) same_got);
       not_at_once = λ not_done over.
           not_at_once st0 st2 st4 sent' got' s not_done ready.agrees (ready.same_dims ∙ d) (ready.same_rank ∙ r) (outs ∙ ap (λ u. u.outs) says)
           (ready_again.same_dims ∙ sym ready.same_dims) (ready_again.same_rank ∙ sym ready.same_rank) (λ l. ap (λ x. x.ended) (same_in l) ∙ passed.ends l) over;
     }
 
   module _ (looks looks'' : ℕ → ℕ) (crowded'' : ℕ → Bool) (t : IsState st3)
-      (stopped : (l : ℕ) → l < links st3.dims → hop_at st3.dims l < length st3.dims → (in_of st3 l).parcel.untaken ≢ [] → IsBlocked st3 l)
+      (stopped : (l : ℕ) → l < links st3.dims → hop_at st3.dims l < length st3.dims → IsBlocked st3 l)
       (served : (l : ℕ) → l < links dims → sender_at dims l ≡ rank → WasServed st4 l (looks l) (looks'' l) (crowded'' l)) where
     to_here : st3.dims ≡ st0.dims
     to_here = passed.ready.same_dims ∙ d
@@ -166,11 +169,11 @@ module _ (dims : List ℕ) (rank : ℕ) (st0 st1 st2 st3 st4 : State) (done : Bo
           let fits = (is_out st3 l t (subst (λ ds. l < links ds) (sym to_here) h)).fits in
           let cap : st3.cap ≡ st0.cap = passed.goes_on.cap ∙ (collected.cap ∙ ap (λ u. u.cap) says) in
           crowds l h from (still_full (out_of st0 l).parcel.untaken (out_of st3 l).parcel.untaken st3.cap (begins l) fits (filled ∙ sym cap)) same;
-      stopped = λ l h to less some.
+      stopped = λ l e h to less at.
           let P : ℕ → Type 0 = λ m. length (out_of st3 m).parcel.untaken ≡ st3.cap in
-          let b = stopped l (subst (λ ds. l < links ds) (sym to_here) h) (subst (λ ds. hop_at ds l < length ds) (sym to_here) less) (λ none. some (ap (λ x. x.parcel.untaken) (same_in l) ∙ none)) in
-          next_map st0.dims st0.rank l P (λ m. sent'' m ≡ sent m → crowded'' m ≡ true) (λ m below from hop full same. crowds m below from full same)
-          (subst (λ q. HasNext st0.dims q l P) (passed.ready.same_rank ∙ r) (subst (λ ds. HasNext ds st3.rank l P) to_here b));
+          let b = stopped l (subst (λ ds. l < links ds) (sym to_here) h) (subst (λ ds. hop_at ds l < length ds) (sym to_here) less) e (sym (ap (λ x. slice_get x.parcel.untaken 0) (same_in l)) ∙ at) in
+          next_map st0.dims st0.rank l e.tag P (λ m. sent'' m ≡ sent m → crowded'' m ≡ true) (λ m below from hop full same. crowds m below from full same)
+          (subst (λ q. NextIs st0.dims q l e.tag P) (passed.ready.same_rank ∙ r) (subst (λ ds. NextIs ds st3.rank l e.tag P) to_here b));
     }
 
 -- a rank that is complete has nothing to move
@@ -189,7 +192,7 @@ module _ (st : State) (s : IsState st) (h : phase_of st ≡ Complete) where
           part = ap (λ b. at_rest (part_of (buffers_of (record st { done = b; pulled = None })) sent got)) says;
           sent_grows = λ l. begins_refl (sent l);
           got_grows = λ l. begins_refl (got l);
-          shape = λ l k. k;
+          fills = λ l more e. none_filled st.steady st.cap (sent l) more e;
         };
         left = λ l k to no. refl;
         unasked = λ l k to no. refl;
@@ -199,6 +202,8 @@ module _ (st : State) (s : IsState st) (h : phase_of st ≡ Complete) where
             let untaken : List Entry = (in_of st l).parcel.untaken in
             subst (λ xs. Ends xs untaken) (sym (ap (λ m. untaken ++ flat_map (λ p. p.entries) m) (no_more (got l) more e) ∙ append-nil untaken)) (ends_refl untaken);
         waits = λ l k from same. begins_refl (out_of st l).parcel.untaken;
+        one_sent = λ l k from. omega arith;
+        one_got = λ l k to. omega arith;
         not_at_once = λ not_done over. false≢true (sym not_done ∙ v.done);
       }
 
@@ -208,5 +213,5 @@ module _ (st : State) (s : IsState st) (h : phase_of st ≡ Complete) where
       record {
         served = λ l k from. record { looked = λ due. absurd (over_not_due st s h l k due); crowded = λ due. absurd (over_not_due st s h l k due) };
         full = λ l k from same filled. absurd (false≢true (sym (due_open st l s k (due_full st l filled)) ∙ v.closed l k from));
-        stopped = λ l k to less some. absurd (some (v.read l k to));
+        stopped = λ l e k to less at. absurd (none_first e (sym (ap (λ xs. slice_get xs 0) (v.read l k to)) ∙ at));
       }

@@ -61,6 +61,16 @@ begins_take n xs = record { rest = drop n xs; is = sym (take-append-drop n xs) }
 take_whole : {T : Type 0} (n : ℕ) (xs : List T) → n ≡ 0 → take (length xs - n) xs ≡ xs
 take_whole n xs e = take_all (length xs - n) xs (omega arith)
 
+-- how many epochs a rank has completed, against its links in
+completed_marks : (n : ℕ) (c ended : Bool) → (c ≡ true → ended ≡ true) → cond c (n + 1) n ≤ lasts_in n ended
+completed_marks n true ended h = subst (λ z. n + 1 ≤ lasts_in n z) (sym (h refl)) (omega arith)
+completed_marks n false true h = omega arith
+completed_marks n false false h = omega arith
+
+completed_now : (n e : ℕ) (c : Bool) → e < cond c (n + 1) n → e ≡ n → c ≡ true
+completed_now n e true h same = refl
+completed_now n e false h same = absurd (omega arith)
+
 -- what a rank sent on hop 1, it pushed
 pub record OneRank (dims : List ℕ) (r : ℕ) (b : Buffers) (sent got : Logs) : Type 0 where
   pub law : RelayLaw dims r sent got
@@ -70,6 +80,8 @@ pub record OneRank (dims : List ℕ) (r : ℕ) (b : Buffers) (sent got : Logs) :
   pub pulled_front : (e s : ℕ) → s < ranks dims → Begins (pulled_of b (ending_at dims r got) e s) (flow dims got s r (length dims) e)
   pub completes : (s : ℕ) → b.complete ≡ true → s < ranks dims → b.epoch < lasts (got (hop_link dims s r (length dims)))
   pub pulled_all : (s : ℕ) → b.complete ≡ true → s < ranks dims → pulled_of b (ending_at dims r got) b.epoch s ≡ flow dims got s r (length dims) b.epoch
+  pub completed : (e s : ℕ) → e < cond b.complete (b.epoch + 1) b.epoch → s < ranks dims → e < lasts (got (hop_link dims s r (length dims)))
+  pub pulled_past : (e s : ℕ) → e < cond b.complete (b.epoch + 1) b.epoch → s < ranks dims → pulled_of b (ending_at dims r got) e s ≡ flow dims got s r (length dims) e
 
 module _ (b : Buffers) (sent got : Logs) (g : IsGrid b.dims) (own : b.rank < ranks b.dims) (sound : IsSound b)
     (agrees : Agrees b (starting_at b.dims b.rank sent) (ending_at b.dims b.rank got)) where
@@ -166,6 +178,26 @@ module _ (b : Buffers) (sent got : Logs) (g : IsGrid b.dims) (own : b.rank < ran
       let came : List Item = flow b.dims (ending_at b.dims b.rank got) s b.rank (length b.dims) b.epoch in
       take_whole (unread_of b b.epoch s) came zero_unread ∙ got_flow b.epoch s from
 
+  own_completed : (e s : ℕ) → e < cond b.complete (b.epoch + 1) b.epoch → s < ranks b.dims → e < lasts (got (hop_link b.dims s b.rank (length b.dims)))
+  own_completed e s h from =
+      let l = last_link b.dims s b.rank g from own in
+      let here : ℕ = hop_link b.dims s b.rank (length b.dims) in
+      let i = agrees.ins here l.below l.reader in
+      let same : lasts (got here) ≡ lasts_in b.epoch (b.ended here) = ap lasts (sym (ending-own b.dims b.rank got here l.reader)) ∙ i.lasts in
+      let marks = completed_marks b.epoch b.complete (b.ended here) (λ c. sound.all_ended c here l.below l.reader) in
+      omega (arith, h, same, marks)
+
+  own_past : (e s : ℕ) → e < cond b.complete (b.epoch + 1) b.epoch → s < ranks b.dims → pulled_of b (ending_at b.dims b.rank got) e s ≡ flow b.dims got s b.rank (length b.dims) e
+  own_past e s h from = elim (cases_eq e b.epoch) [
+    | inl same ↦
+        subst (λ f. pulled_of b (ending_at b.dims b.rank got) f s ≡ flow b.dims got s b.rank (length b.dims) f) (sym same)
+        (own_all s (completed_now b.epoch e b.complete h same) from)
+    | inr other ↦
+        let keep = belongs b.dims s b.rank (length b.dims) in
+        let none : unread_of b e s ≡ 0 = ap (λ t. cond t (length (items_among keep (b.unread (hop_link b.dims s b.rank (length b.dims))))) 0) (ne_eqb e b.epoch other) in
+        take_whole (unread_of b e s) (flow b.dims (ending_at b.dims b.rank got) s b.rank (length b.dims) e) none ∙ got_flow e s from
+  ]
+
   pub one_rank : OneRank b.dims b.rank b sent got
   one_rank = record {
     law = own_law;
@@ -175,6 +207,8 @@ module _ (b : Buffers) (sent got : Logs) (g : IsGrid b.dims) (own : b.rank < ran
     pulled_front = own_pulled;
     completes = own_completes;
     pulled_all = own_all;
+    completed = own_completed;
+    pulled_past = own_past;
   }
 
 pub one_rank_of : (dims : List ℕ) (r : ℕ) (b : Buffers) (sent got : Logs) → b.dims ≡ dims → b.rank ≡ r → IsGrid dims → r < ranks dims → IsSound b

@@ -1,9 +1,8 @@
 -- What one post leaves of a rank's state.
-use Rattle.std.proofs.Common.{◌≡◌, ◌≢◌, ℕ, ◌<◌, ◌≤◌, ◌==◌, ◌&&◌, ◌||◌, ◌⊎◌, Bool, true, false, not, List, [], ◌∷◌, length, slice_set, None, refl, sym, ap, subst, ◌∙◌, arith, inl, inr, length-append, set-set, eqb-true, ne_eqb, eq-eqb}
+use Rattle.std.proofs.Common.{◌≡◌, ◌≢◌, ℕ, ◌<◌, ◌≤◌, ◌==◌, ◌&&◌, ◌||◌, ◌⊎◌, Bool, true, false, not, List, [], ◌∷◌, ◌++◌, length, slice_set, None, refl, sym, ap, subst, ◌∙◌, arith, inl, inr, length-append, set-set, eqb-true, ne_eqb, eq-eqb}
 use Rattle.std.specs.List.{All}
 use Rattle.std.proofs.lemmas.Bool.{cases_eq, false≢true}
-use Rattle.std.proofs.lemmas.List.{get_or-set_other, get_or-set_same}
-use Rattle.std.proofs.lemmas.List.Elements.{All-append}
+use Rattle.std.proofs.lemmas.List.{append_cancel_left, get_or-set_other, get_or-set_same}
 use Rattle.bale_types.specs.declared.item.Entry.{Entry}
 use Rattle.item_buffer.specs.Contents.{Shipped}
 use Rattle.route_tensor.specs.Link.{links}
@@ -26,6 +25,7 @@ use Rattle.convey.specs.Parts.{part_of}
 use Rattle.convey.specs.Arrived.{HasArrived}
 use Rattle.convey.specs.Due.{IsDue}
 use Rattle.convey.specs.Way.{IsReady, GoesOn, at_rest}
+use Rattle.convey.proofs.Ways.{none_filled}
 use Rattle.convey.proofs.PostLaw.{post_law, open_lasts, all_one}
 use Rattle.convey.proofs.Moves.{SameOn, same_agrees, same_buffers_part, SentOn, sent_agrees, sent_part, forget_agrees}
 use Rattle.convey.proofs.States.{out_number, out_apart, is_out, end_of}
@@ -133,12 +133,14 @@ post_filled st l q s d entries last open' =
       | inr (inr ends) ↦ absurd (false≢true (sym open' ∙ (last ∙ ends.0)))
     ])
 
-shape_more : (steady : Bool) (cap : ℕ) (sent : Logs) (l : ℕ) (q : Shipped) → (q.last ≡ false → IsFilled steady cap q) → (m : ℕ) → IsConveyorShape steady cap (sent m) → IsConveyorShape steady cap (added sent l q m)
-shape_more steady cap sent l q filled m h =
+fills_more : (steady : Bool) (cap : ℕ) (sent : Logs) (l : ℕ) (q : Shipped) → (q.last ≡ false → IsFilled steady cap q) → (m : ℕ) (more : List Shipped) → added sent l q m ≡ sent m ++ more → IsConveyorShape steady cap more
+fills_more steady cap sent l q filled m more e =
     let P = λ (p : Shipped). p.last ≡ false → IsFilled steady cap p in
     elim (cases_eq m l) [
-      | inl same ↦ subst (λ k. All P (added sent l q k)) (sym same) (subst (All P) (sym (added-here sent l q)) (All-append P (sent l) (q ∷ []) (subst (λ k. All P (sent k)) same h) (all_one P q filled)))
-      | inr other ↦ subst (All P) (sym (added-other sent l m q other)) h
+      | inl same ↦
+          let here : added sent l q l ≡ sent l ++ more = subst (λ k. added sent l q k ≡ sent k ++ more) same e in
+          subst (All P) (append_cancel_left (sent l) (q ∷ []) more (sym (added-here sent l q) ∙ here)) (all_one P q filled)
+      | inr other ↦ none_filled steady cap (sent m) more (sym (added-other sent l m q other) ∙ e)
     ]
 
 -- the two calls that lend and take back the open parcel, as one
@@ -183,13 +185,13 @@ module _ (dims : List ℕ) (rank : ℕ) (st new : State) (link : ℕ) (o : Out) 
 
   served : (logs : Logs) → new ≡ with_open st (out_index st.dims link) o → Agrees (buffers_of (with_open st (out_index st.dims link) o)) logs got
       → at_rest (part_of (buffers_of (with_open st (out_index st.dims link) o)) logs got) ≡ at_rest (part_of (buffers_of st) sent got)
-      → ((l : ℕ) → Begins (sent l) (logs l)) → ((l : ℕ) → IsConveyorShape st.steady st.cap (sent l) → IsConveyorShape st.steady st.cap (logs l))
+      → ((l : ℕ) → Begins (sent l) (logs l)) → ((l : ℕ) (more : List Shipped) → logs l ≡ sent l ++ more → IsConveyorShape st.steady st.cap more)
       → Served dims rank st new link sent logs got got'
-  served logs e agrees part grows shape =
+  served logs e agrees part grows fills =
       subst (λ g. Served dims rank st new link sent logs got g) (sym same)
       (subst (λ n. Served dims rank st n link sent logs got got) (sym e) (record {
         ready = record { home = refl; same_dims = r.same_dims; same_rank = r.same_rank; agrees = agrees };
-        goes_on = record { cap = refl; steady = refl; epoch = refl; done = refl; phase = refl; part = part; sent_grows = grows; got_grows = λ l. begins_refl (got l); shape = shape };
+        goes_on = record { cap = refl; steady = refl; epoch = refl; done = refl; phase = refl; part = part; sent_grows = grows; got_grows = λ l. begins_refl (got l); fills = fills };
         out = λ m h from ne.
             open_other st st.rank link m o s here_below (subst (λ ds. m < links ds) (sym r.same_dims) h) here_own (ap (λ ds. sender_at ds m) r.same_dims ∙ (from ∙ sym r.same_rank)) ne;
       }))
@@ -218,7 +220,7 @@ module _ (dims : List ℕ) (rank : ℕ) (st new : State) (link : ℕ) (o : Out) 
       (served sent e
       (same_agrees (buffers_of st) (buffers_of n).waiting (buffers_of n).unread (buffers_of n).closed (buffers_of n).ended sent got s.grid k r.agrees)
       (ap at_rest (same_buffers_part (buffers_of st) (buffers_of n).waiting (buffers_of n).unread (buffers_of n).closed (buffers_of n).ended sent got s.grid k s.rank))
-      (λ l. begins_refl (sent l)) (λ l h. h))
+      (λ l. begins_refl (sent l)) (λ l more k. none_filled st.steady st.cap (sent l) more k))
 
   pub still_waits : new ≡ with_open st (out_index st.dims link) o → o.parcel.untaken ≡ (out_of st link).parcel.untaken → (out_of new link).parcel.untaken ≡ (out_of st link).parcel.untaken
   still_waits e keeps = ap (λ n. (out_of n link).parcel.untaken) e ∙ (ap (λ y. y.parcel.untaken) (open_here st link o s here_below) ∙ keeps)
@@ -242,7 +244,7 @@ module _ (dims : List ℕ) (rank : ℕ) (st new : State) (link : ℕ) (o : Out) 
       (sent_agrees (buffers_of st) (buffers_of n).waiting (buffers_of n).closed sent got link q s.grid r.agrees here_below here_own open_now entries arrived k))
       (ap at_rest (sent_part (buffers_of st) (buffers_of n).waiting (buffers_of n).closed sent got link q s.grid r.agrees here_below here_own open_now entries arrived k s.rank))
       (added_grows sent link q)
-      (shape_more st.steady st.cap sent link q (λ open'. post_filled st link q s due entries last open')))
+      (fills_more st.steady st.cap sent link q (λ open'. post_filled st link q s due entries last open')))
 
   pub no_longer_due : new ≡ with_open st (out_index st.dims link) o → o.parcel.untaken ≡ [] → o.closed ≡ q.last → IsDue new link → ⊥
   no_longer_due e none closes d =

@@ -1,5 +1,6 @@
 -- A sweep over all ranks in which nothing moves: after it each rank of the least epoch is complete.
 use Rattle.std.proofs.Common.{◌≡◌, ◌≢◌, ℕ, zero, suc, ◌+◌, ◌<◌, ◌≤◌, ◌-◌, ◌&&◌, ◌==◌, ◌⊎◌, Bool, true, false, not, List, [], ◌∷◌, ◌++◌, length, refl, sym, ap, subst, ◌∙◌, inl, inr, arith, length-append}
+use Rattle.std.proofs.lemmas.Bool.{cases_eq, cases_lt}
 use Rattle.std.proofs.lemmas.List.{append-nil}
 use Rattle.bale_types.specs.declared.item.Entry.{Entry}
 use Rattle.item_buffer.specs.Contents.{Shipped}
@@ -13,14 +14,11 @@ use Rattle.port_bank.proofs.Segments.{lasts_begins, lasts-append, lasts_first}
 use Rattle.hop_core.specs.Link.{In, is_wanted}
 use Rattle.hop_core.specs.State.{State}
 use Rattle.convey.specs.Buffers.{out_of, in_of, buffers_of}
-use Rattle.convey.specs.Agreement.{EndsLast, lasts_in, Agrees}
+use Rattle.convey.specs.Agreement.{EndsLast, Ends, lasts_in, Agrees}
 use Rattle.convey.specs.Arrived.{HasArrived}
 use Rattle.convey.specs.Due.{Wants, IsOver, HasNext}
+use Rattle.convey.specs.Rest.{IsBusy, HasBusy, IsAtRest, IsRestingSweep}
 use Rattle.convey.proofs.OneRank.{starting-own, ending-own}
-
--- a link with parcels on their way
-abbrev pub IsBusy : Logs → Logs → ℕ → Type 0
-IsBusy sent got l = length (got l) < length (sent l)
 
 -- What the turn of rank r tells, in a sweep in which the bank's lists stay and no entry is relayed: old and new are its
 -- states before and after its advance.
@@ -34,7 +32,7 @@ pub record IsQuiet (dims : List ℕ) (r e : ℕ) (old new : State) (sent got : L
   pub epoch_new : new.epoch ≡ e
   pub agrees_old : Agrees (buffers_of old) (starting_at dims r sent) (ending_at dims r got)
   pub agrees_new : Agrees (buffers_of new) (starting_at dims r sent) (ending_at dims r got)
-  pub pushed : (new.done ≡ true) ⊎ ((m : ℕ) × ((m < links dims) × ((sender_at dims m ≡ r) × IsBusy sent got m)))
+  pub pushed : (new.done ≡ true) ⊎ HasBusy dims r sent got
   pub last_read : (l : ℕ) → l < links dims → reader_at dims l ≡ r → hop_at dims l ≡ length dims → (in_of old l).parcel.untaken ≡ []
   pub lies : (l : ℕ) → l < links dims → reader_at dims l ≡ r → (in_of new l).parcel.untaken ≡ (in_of old l).parcel.untaken
   pub idle : (l : ℕ) → l < links dims → reader_at dims l ≡ r → Wants old l → length (got l) ≡ length (sent l)
@@ -207,7 +205,7 @@ module _ (dims : List ℕ) (e : ℕ) (old new : ℕ → State) (sent got : Logs)
   never_busy r l h from k busy = not_busy (length dims) l h (subst Quiet (sym from) k) (omega arith) busy
 
   all_done : (r : ℕ) → Quiet r → (new r).done ≡ true
-  all_done r k = elim k.pushed [ inl done ↦ done | inr m ↦ absurd (never_busy r m.0 m.1.0 m.1.1.0 k m.1.1.1) ]
+  all_done r k = elim k.pushed [ inl done ↦ done | inr m ↦ absurd (never_busy r m.link m.below m.sender k m.busy) ]
 
   abbrev Arrived : ℕ → ℕ → Type 0
   Arrived r l = ((in_of (new r) l).ended ≡ true) × ((in_of (new r) l).parcel.untaken ≡ [])
@@ -267,3 +265,45 @@ module _ (dims : List ℕ) (e : ℕ) (old new : ℕ → State) (sent got : Logs)
         ended = λ l h to. (arrived r l (here l h) (reads l to) k (closed l (here l h))).0;
         read = λ l h to. (arrived r l (here l h) (reads l to) k (closed l (here l h))).1;
       }
+
+-- an end of a list that is no shorter is the list
+no_front : {T : Type 0} (front xs : List T) → length (front ++ xs) ≤ length xs → front ++ xs ≡ xs
+no_front [] xs h = refl
+no_front (f ∷ fs) xs h = absurd (omega (arith, h, length-append fs xs))
+
+same_end : {T : Type 0} (whole back : List T) → Ends whole back → length whole ≤ length back → back ≡ whole
+same_end whole back e h = sym (e.is ∙ no_front e.front back (subst (λ xs. length xs ≤ length back) e.is h))
+
+module _ (dims : List ℕ) (cap slots e : ℕ) (old new : ℕ → State) (sent got : Logs) (w : IsRestingSweep dims cap slots e old new sent got) where
+  at_rest : (r : ℕ) → r < ranks dims → (new r).epoch ≡ e → IsQuiet dims r e (old r) (new r) sent got
+  at_rest r h now =
+      let t = w.turns r h now in record {
+        dims_old = sym t.same_dims ∙ w.same_dims r h;
+        rank_old = sym t.same_rank ∙ w.same_rank r h;
+        epoch_old = sym t.same_epoch ∙ now;
+        dims_new = w.same_dims r h;
+        rank_new = w.same_rank r h;
+        epoch_new = now;
+        agrees_old = t.agrees;
+        agrees_new = w.agrees r h;
+        pushed = t.pushed;
+        last_read = t.read;
+        lies = λ l below to.
+            let last = (number_ends dims l w.grid below).link.last_hop in
+            same_end (in_of (old r) l).parcel.untaken (in_of (new r) l).parcel.untaken (t.lies l below to) (elim (cases_lt (hop_at dims l) (length dims)) [
+              | inl before ↦ t.kept l below to before
+              | inr past ↦ (let none = ap length (t.read l below to (omega arith)) in omega (arith, none))
+            ]);
+        idle = t.idle;
+        stopped = t.stopped;
+        closing = t.closing;
+      }
+
+  each_at : (r : ℕ) → r < ranks dims → IsQuiet dims r e (old r) (new r) sent got ⊎ IsBeyond dims r e sent got
+  each_at r h = elim (cases_eq (new r).epoch e) [
+    | inl now ↦ inl (at_rest r h now)
+    | inr later ↦ inr (let least = w.least r h in beyond dims r e (new r) sent got (w.same_dims r h) (w.same_rank r h) (omega arith) (w.agrees r h))
+  ]
+
+  pub rest_over : (r : ℕ) → r < ranks dims → (new r).epoch ≡ e → IsOver (new r)
+  rest_over r h now = quiet_ends dims e old new sent got w.grid (λ l below. (w.links_keep l below).begins) each_at r (at_rest r h now)

@@ -26,7 +26,7 @@ use Rattle.convey.specs.Way.{IsReady, PassedOn, at_rest}
 use Rattle.convey.proofs.Moves.{forget_agrees}
 use Rattle.convey.proofs.Arrivals.{Relayed, relayed_agrees, relayed_part}
 use Rattle.convey.proofs.States.{in_number, out_number, is_out, is_in}
-use Rattle.convey.proofs.Ways.{goes_on_refl, goes_on_trans}
+use Rattle.convey.proofs.Ways.{none_filled, goes_on_refl, goes_on_trans}
 
 -- the links of a pair among a rank's own
 pub out_way : (dims : List ℕ) (s d h : ℕ) → IsGrid dims → s < ranks dims → d < ranks dims → 1 ≤ h → h ≤ length dims → out_index dims (hop_link dims s d h) ≡ way_out dims d h
@@ -141,7 +141,7 @@ module _ (st : State) (outs : List Out) (ins : List In) (h : ℕ) (s : IsState s
           part = ap (λ b. at_rest (part_of b sent got)) same_buffers ∙ ap at_rest (relayed_part calm waiting unread sent got s.grid a relayed s.rank);
           sent_grows = λ l. begins_refl (sent l);
           got_grows = λ l. begins_refl (got l);
-          shape = λ l h. h;
+          fills = λ l more e. none_filled st.steady st.cap (sent l) more e;
         };
         waits = λ l. begins_from_front (out_of st l).parcel.untaken (slice_index_or outs (out_index st.dims l) no_out).parcel.untaken (adds.front (out_index st.dims l));
         closes = λ l. adds.closed (out_index st.dims l);

@@ -8,7 +8,7 @@ use Rattle.port_bank.specs.Logs.{Logs, starting_at, ending_at, starting_elsewher
 use Rattle.port_bank.specs.Link.{LinkLaw}
 use Rattle.port_bank.specs.Port.{Rest}
 use Rattle.port_bank.specs.Plain.{Bank, IsBank, sent_of, got_of, others_of, empty_bank}
-use Rattle.port_bank.proofs.Closing.{empty_is_bank, none_sent, none_got}
+use Rattle.port_bank.proofs.Closing.{empty_links, none_sent, none_got}
 use Rattle.hop_core.specs.State.{State}
 use Rattle.convey.specs.Buffers.{Buffers, buffers_of}
 use Rattle.convey.specs.Conveyors.{AgreesWith, KeepsAgreement}
@@ -24,11 +24,11 @@ pub record StartsOut (dims : List ℕ) (r : ℕ) (st : State) : Type 0 where
   pub agrees : AgreesWith st (λ l. []) (λ l. [])
   pub sound : IsSound (buffers_of st)
 
-pub together_first : (dims : List ℕ) (cap slots : ℕ) (all : ℕ → State) → cap ≤ 1024 → IsGrid dims → ((r : ℕ) → r < ranks dims → StartsOut dims r (all r))
+pub together_first : (dims : List ℕ) (cap slots : ℕ) (all : ℕ → State) → IsGrid dims → ((r : ℕ) → r < ranks dims → StartsOut dims r (all r))
     → AgreeTogether dims cap slots (λ r. buffers_of (all r)) (sent_of (empty_bank dims slots)) (got_of (empty_bank dims slots))
-together_first dims cap slots all small g each = record {
+together_first dims cap slots all g each = record {
   grid = g;
-  links_keep = (empty_is_bank cap slots dims small g).each_link;
+  links_keep = λ l h. empty_links cap slots dims l;
   same_dims = λ r h. (each r h).same_dims;
   same_rank = λ r h. (each r h).same_rank;
   sound = λ r h. (each r h).sound;

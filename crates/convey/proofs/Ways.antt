@@ -1,8 +1,9 @@
 -- Steps of an advance, one after another.
-use Rattle.std.proofs.Common.{◌≡◌, ◌≢◌, ℕ, ◌+◌, ◌<◌, ◌≤◌, Bool, List, [], ◌∷◌, ◌++◌, length, sum, inl, inr, refl, sym, ap, subst, ◌∙◌, arith, length-append}
+use Rattle.std.proofs.Common.{◌≡◌, ◌≢◌, ℕ, ◌+◌, ◌<◌, ◌≤◌, Bool, false, List, [], ◌∷◌, ◌++◌, length, sum, inl, inr, refl, sym, ap, subst, ◌∙◌, arith, length-append}
 use Rattle.std.proofs.lemmas.Bool.{cases_eq}
 use Rattle.std.specs.List.{flat_map}
-use Rattle.std.proofs.lemmas.List.{append-nil, append_cancel_left}
+use Rattle.std.proofs.lemmas.List.{append-nil, append_assoc, append_cancel_left}
+use Rattle.std.proofs.lemmas.List.Elements.{All-append}
 use Rattle.bale_types.specs.Stream.{Rose}
 use Rattle.item_buffer.specs.Contents.{Shipped}
 use Rattle.route_tensor.specs.Grid.{ranks, IsGrid}
@@ -15,7 +16,7 @@ use Rattle.route_tensor.proofs.Neighbours.{to_neighbour, from_neighbour, out_ind
 use Rattle.port_bank.specs.Logs.{Logs}
 use Rattle.port_bank.specs.Flow.{Begins}
 use Rattle.port_bank.proofs.Fronts.{begins_refl, begins_trans}
-use Rattle.port_bank.specs.Shapes.{IsConveyorShape}
+use Rattle.port_bank.specs.Shapes.{IsFilled, IsConveyorShape}
 use Rattle.hop_core.specs.Link.{is_due, is_wanted}
 use Rattle.hop_core.specs.State.{State, at_end}
 use Rattle.convey.specs.Buffers.{out_of, in_of}
@@ -41,6 +42,17 @@ below_sum dims ds i n e count h = subst (λ m. i < m) (count ∙ ap sum e) h
 pub link_here : (made : List ℕ → ℕ → ℕ → ℕ) (dims ds : List ℕ) (rank r i link : ℕ) → ds ≡ dims → r ≡ rank → link ≡ made ds r i → link ≡ made dims rank i
 link_here made dims ds rank r i link e f h = h ∙ λ j. made (e j) (f j) i
 
+none_left : (xs : List Shipped) → length xs ≡ 0 → xs ≡ []
+none_left [] h = refl
+none_left (x ∷ xs) h = absurd (omega arith)
+
+pub no_more : (xs more : List Shipped) → xs ≡ xs ++ more → more ≡ []
+no_more xs more e = append_cancel_left xs more [] (sym e ∙ sym (append-nil xs))
+
+-- no parcel more is of any shape
+pub none_filled : (steady : Bool) (cap : ℕ) (xs more : List Shipped) → xs ≡ xs ++ more → IsConveyorShape steady cap more
+none_filled steady cap xs more e = subst (IsConveyorShape steady cap) (sym (no_more xs more e)) (λ i d below. absurd (omega (arith, below)))
+
 pub goes_on_refl : (st : State) (sent got : Logs) → GoesOn st st sent sent got got
 goes_on_refl st sent got = record {
   cap = refl;
@@ -51,7 +63,7 @@ goes_on_refl st sent got = record {
   part = refl;
   sent_grows = λ l. begins_refl (sent l);
   got_grows = λ l. begins_refl (got l);
-  shape = λ l h. h;
+  fills = λ l more e. none_filled st.steady st.cap (sent l) more e;
 }
 
 pub goes_on_trans : (a b c : State) (sent sent' sent'' got got' got'' : Logs)
@@ -65,8 +77,13 @@ goes_on_trans a b c sent sent' sent'' got got' got'' p q = record {
   part = q.part ∙ p.part;
   sent_grows = λ l. begins_trans (sent l) (sent' l) (sent'' l) (p.sent_grows l) (q.sent_grows l);
   got_grows = λ l. begins_trans (got l) (got' l) (got'' l) (p.got_grows l) (q.got_grows l);
-  shape = λ l h. subst (λ n. IsConveyorShape a.steady n (sent'' l)) p.cap (subst (λ t. IsConveyorShape t b.cap (sent'' l)) p.steady
-      (q.shape l (subst (λ n. IsConveyorShape b.steady n (sent' l)) (sym p.cap) (subst (λ t. IsConveyorShape t a.cap (sent' l)) (sym p.steady) (p.shape l h)))));
+  fills = λ l more e.
+      let first : List Shipped = (p.sent_grows l).rest in
+      let second : List Shipped = (q.sent_grows l).rest in
+      let both : more ≡ first ++ second =
+      append_cancel_left (sent l) more (first ++ second) (sym e ∙ ((q.sent_grows l).is ∙ (ap (λ u. u ++ second) (p.sent_grows l).is ∙ append_assoc (sent l) first second))) in
+      let later = subst (λ n. IsConveyorShape a.steady n second) p.cap (subst (λ t. IsConveyorShape t b.cap second) p.steady (q.fills l second (q.sent_grows l).is)) in
+      subst (IsConveyorShape a.steady a.cap) (sym both) (All-append (λ (d : Shipped). d.last ≡ false → IsFilled a.steady a.cap d) first second (p.fills l first (p.sent_grows l).is) later);
 }
 
 pub ready_at : (dims ds : List ℕ) (rank r : ℕ) (st : State) (sent got : Logs) → ds ≡ dims → r ≡ rank → IsReady ds r st sent got → IsReady dims rank st sent got
@@ -77,13 +94,6 @@ link_at dims ds m e h = subst (λ q. m < links q) (sym e) h
 
 pub end_at : (end_of : List ℕ → ℕ → ℕ) (dims ds : List ℕ) (rank r m : ℕ) → ds ≡ dims → r ≡ rank → end_of dims m ≡ rank → end_of ds m ≡ r
 end_at end_of dims ds rank r m e f h = ap (λ q. end_of q m) e ∙ (h ∙ sym f)
-
-none_left : (xs : List Shipped) → length xs ≡ 0 → xs ≡ []
-none_left [] h = refl
-none_left (x ∷ xs) h = absurd (omega arith)
-
-pub no_more : (xs more : List Shipped) → xs ≡ xs ++ more → more ≡ []
-no_more xs more e = append_cancel_left xs more [] (sym e ∙ sym (append-nil xs))
 
 -- a list that grew and is as it was at first never grew
 pub never_grew : (xs ys zs : List Shipped) → Begins xs ys → Begins ys zs → zs ≡ xs → ys ≡ xs
@@ -137,6 +147,7 @@ asked_still b l log log' log'' noted noted' noted'' idle idle' same_log same_not
   unasked = λ no. same_noted ∙ w.unasked no;
   rose = λ yes same. subst (Rose noted) (sym same_noted) (w.rose yes (sym same_log ∙ same));
   idle = λ yes same. same_idle ∙ w.idle yes (sym same_log ∙ same);
+  once = omega (arith, ap length same_log, w.once);
 }
 
 pub wants_same : (b c : State) (l : ℕ) → in_of c l ≡ in_of b l → Wants b l → Wants c l
@@ -152,6 +163,7 @@ asked_now b c l log log' log'' noted noted' noted'' idle n w =
       unasked = λ no. w.unasked (λ q. no (down q)) ∙ n.noted;
       rose = λ yes same. subst (λ k. Rose k noted'') n.noted (w.rose (up yes) (same ∙ sym n.got));
       idle = λ yes same. w.idle (up yes) (same ∙ sym n.got);
+      once = omega (arith, ap length n.got, w.once);
     }
 
 module _ (dims : List ℕ) (rank i link : ℕ) (b c d : State) (got got' got'' : Logs) (noted noted' noted'' : ℕ → ℕ) (idle' idle'' : ℕ → Bool)
@@ -192,17 +204,21 @@ module _ (dims : List ℕ) (rank i link : ℕ) (b c d : State) (got got' got'' :
     ];
   }
 
--- Serving: the first i links out were served, and the others were not looked at.
+-- Serving: the first i links out were served, and the others were not looked at. Each was posted on once at most.
 pub record Serving (dims : List ℕ) (rank i : ℕ) (b c : State) (sent sent' : Logs) (looks looks' : ℕ → ℕ) (crowded' : ℕ → Bool) : Type 0 where
   pub served : (l : ℕ) → l < links dims → sender_at dims l ≡ rank → out_index dims l < i → WasServed c l (looks l) (looks' l) (crowded' l)
   pub to_serve : (l : ℕ) → l < links dims → sender_at dims l ≡ rank → i ≤ out_index dims l → looks' l ≡ looks l
   pub waits : (l : ℕ) → l < links dims → sender_at dims l ≡ rank → sent' l ≡ sent l → (out_of c l).parcel.untaken ≡ (out_of b l).parcel.untaken
+  pub to_post : (l : ℕ) → l < links dims → sender_at dims l ≡ rank → i ≤ out_index dims l → sent' l ≡ sent l
+  pub once : (l : ℕ) → l < links dims → sender_at dims l ≡ rank → length (sent' l) ≤ length (sent l) + 1
 
 pub serving_none : (dims : List ℕ) (rank : ℕ) (b : State) (sent : Logs) (looks : ℕ → ℕ) (crowded : ℕ → Bool) → Serving dims rank 0 b b sent sent looks looks crowded
 serving_none dims rank b sent looks crowded = record {
   served = λ l h from less. absurd (omega arith);
   to_serve = λ l h from le. refl;
   waits = λ l h from same. refl;
+  to_post = λ l h from le. refl;
+  once = λ l h from. omega arith;
 }
 
 pub serving_all : (dims : List ℕ) (rank i : ℕ) (b c : State) (sent sent' : Logs) (looks looks' : ℕ → ℕ) (crowded' : ℕ → Bool) → IsGrid dims → i ≡ sum dims
@@ -213,6 +229,7 @@ serving_all dims rank i b c sent sent' looks looks' crowded' g all k l h from = 
 pub record OthersWait (dims : List ℕ) (rank link : ℕ) (b c : State) (sent sent' : Logs) (looks looks' : ℕ → ℕ) (crowded crowded' : ℕ → Bool) : Type 0 where
   pub out : (m : ℕ) → m < links dims → sender_at dims m ≡ rank → m ≢ link → out_of c m ≡ out_of b m
   pub waits : sent' link ≡ sent link → (out_of c link).parcel.untaken ≡ (out_of b link).parcel.untaken
+  pub once : length (sent' link) ≤ length (sent link) + 1
   pub sent_stays : (m : ℕ) → m ≢ link → sent' m ≡ sent m
   pub looks_stays : (m : ℕ) → m ≢ link → looks' m ≡ looks m
   pub crowded_stays : (m : ℕ) → m ≢ link → crowded' m ≡ crowded m
@@ -245,6 +262,15 @@ module _ (dims : List ℕ) (rank i link : ℕ) (b c d : State) (sent sent' sent'
         | inr x ↦ ap (λ q. q.parcel.untaken) (o.out l h from x) ∙ k.waits l h from before
       ]
 
+  pub once_more : (l : ℕ) → l < links dims → sender_at dims l ≡ rank → length (sent'' l) ≤ length (sent l) + 1
+  once_more l h from = elim (cases_eq (out_index dims l) i) [
+    | inl same ↦
+        let before : sent' l ≡ sent l = k.to_post l h from (omega arith) in
+        let now : length (sent'' l) ≤ length (sent' l) + 1 = subst (λ m. length (sent'' m) ≤ length (sent' m) + 1) (same_out l h from same) o.once in
+        omega (arith, ap length before, now)
+    | inr ne ↦ omega (arith, ap length (o.sent_stays l (other_out l ne)), k.once l h from)
+  ]
+
   pub serving_more : WasServed d link (looks' link) (looks'' link) (crowded'' link)
       → Serving dims rank (i + 1) b d sent sent'' looks looks'' crowded''
   serving_more w = record {
@@ -263,4 +289,6 @@ module _ (dims : List ℕ) (rank i link : ℕ) (b c d : State) (sent sent' sent'
         let x = other_out l (λ e. omega arith) in
         o.looks_stays l x ∙ k.to_serve l h from (omega arith);
     waits = waits_more;
+    to_post = λ l h from le. o.sent_stays l (other_out l (λ e. omega arith)) ∙ k.to_post l h from (omega arith);
+    once = once_more;
   }

@@ -1,7 +1,11 @@
 -- Which links an advance serves.
-use Rattle.std.specs.Prelude.{◌≡◌, ℕ, ◌+◌, ◌<◌, true, List, [], length}
+use Rattle.std.specs.Prelude.{◌≡◌, ℕ, ◌+◌, ◌<◌, true, List, [], length, slice_get, Some}
+use Rattle.bale_types.specs.declared.item.Entry.{Entry}
+use Rattle.bale_types.specs.declared.item.Tag.{Tag}
 use Rattle.route_tensor.specs.Ends.{hop_at, sender_at, reader_at}
-use Rattle.route_tensor.specs.Link.{links}
+use Rattle.route_tensor.specs.Link.{links, links_before}
+use Rattle.route_tensor.specs.Tag.{digit}
+use Rattle.route_tensor.specs.Neighbour.{link_to}
 use Rattle.hop_core.specs.Link.{is_due, is_wanted}
 use Rattle.hop_core.specs.State.{State, at_end}
 use Rattle.convey.specs.Buffers.{out_of, in_of}
@@ -22,6 +26,19 @@ pub record IsOver (st : State) : Type 0 where
   pub ended : (l : ℕ) → l < links st.dims → reader_at st.dims l ≡ st.rank → (in_of st l).ended ≡ true
   pub read : (l : ℕ) → l < links st.dims → reader_at st.dims l ≡ st.rank → (in_of st l).parcel.untaken ≡ []
 
+-- The link on which an entry leaves a rank that came to it on hop h: of its links out on hop h + 1 the one to the
+-- neighbour with the coordinate that the tag tells.
+-- In the grid 2x2x2 an entry with the tag (0,1,1) that came on hop 1 leaves rank 0 on link 17, for rank 2.
+abbrev pub next_link : List ℕ → ℕ → ℕ → Tag → ℕ
+next_link dims rank h tag = link_to dims rank (links_before dims (h + 1) + digit tag (h + 1))
+
+-- P holds of the next link of an entry that came on link l, which is one of the rank's links out on the hop after.
+pub record NextIs (dims : List ℕ) (rank l : ℕ) (tag : Tag) (P : ℕ → Type 0) : Type 0 where
+  pub below : next_link dims rank (hop_at dims l) tag < links dims
+  pub sender : sender_at dims (next_link dims rank (hop_at dims l) tag) ≡ rank
+  pub hop : hop_at dims (next_link dims rank (hop_at dims l) tag) ≡ hop_at dims l + 1
+  pub holds : P (next_link dims rank (hop_at dims l) tag)
+
 -- Of a rank's links out on the hop after that of link l there is one that P holds of.
 -- On the grid 2x2, of a link of hop 1, it is a link of hop 2.
 pub record HasNext (dims : List ℕ) (rank l : ℕ) (P : ℕ → Type 0) : Type 0 where
@@ -31,6 +48,7 @@ pub record HasNext (dims : List ℕ) (rank l : ℕ) (P : ℕ → Type 0) : Type 
   pub hop : hop_at dims link ≡ hop_at dims l + 1
   pub holds : P link
 
--- What is left in the inbox of a link in can't be passed on: the open parcel of its next link is full.
+-- What is left in the inbox of a link in can't be passed on: the open parcel of its first entry's next link is full.
 abbrev pub IsBlocked : State → ℕ → Type 0
-IsBlocked st l = HasNext st.dims st.rank l (λ m. length (out_of st m).parcel.untaken ≡ st.cap)
+IsBlocked st l = (e : Entry) → slice_get (in_of st l).parcel.untaken 0 ≡ Some e
+    → NextIs st.dims st.rank l e.tag (λ m. length (out_of st m).parcel.untaken ≡ st.cap)

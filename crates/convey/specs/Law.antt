@@ -6,7 +6,7 @@ use Rattle.route_tensor.specs.Link.{links}
 use Rattle.route_tensor.specs.Ends.{hop_at, sender_at, reader_at}
 use Rattle.port_bank.specs.Logs.{Logs, starting_at, ending_at, starting_elsewhere, ending_elsewhere}
 use Rattle.port_bank.specs.Link.{LinkLaw}
-use Rattle.port_bank.specs.Machine.{State, Step, NamesRank, IsOwnStep, IsStep}
+use Rattle.port_bank.specs.Machine.{State, Step, NamesRank, IsOwnStep, IsStep, EpochsClose}
 use Rattle.convey.specs.Buffers.{Buffers}
 use Rattle.convey.specs.Agreement.{Agrees}
 use Rattle.convey.specs.Parts.{part_of}
@@ -68,3 +68,8 @@ ExchangeLaw = (dims : List ℕ) (cap slots r : ℕ) (step : Step) (old new : ℕ
     → AgreeTogether dims cap slots old sent got → IsCall dims cap slots r old new sent sent' got got' → NamesRank (ranks dims) step
     → IsOwnStep step (state_of dims old sent got r) (state_of dims new sent' got' r)
     → IsStep (ranks dims) r step (state_of dims old sent got) (state_of dims new sent' got')
+
+-- The closes law: where they agree, the parts that they stand for close their epochs together.
+abbrev pub ClosesLaw : Type 0
+ClosesLaw = (dims : List ℕ) (cap slots : ℕ) (all : ℕ → Buffers) (sent got : Logs)
+    → AgreeTogether dims cap slots all sent got → EpochsClose (ranks dims) (state_of dims all sent got)

@@ -7,3 +7,4 @@ pub mod Law
 pub mod Progress
 pub mod Conveyors
 pub mod Way
+pub mod Rest

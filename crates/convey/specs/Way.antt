@@ -1,6 +1,7 @@
 -- A conveyor and its port in the midst of an advance.
-use Rattle.std.specs.Prelude.{◌≡◌, ◌≢◌, ℕ, ◌<◌, Bool, true, false, List, [], ◌++◌, length, None}
+use Rattle.std.specs.Prelude.{◌≡◌, ℕ, ◌+◌, ◌<◌, ◌≤◌, Bool, true, false, List, ◌++◌, length, slice_get, Some, None}
 use Rattle.std.specs.List.{flat_map}
+use Rattle.bale_types.specs.declared.item.Entry.{Entry}
 use Rattle.bale_types.specs.Stream.{Rose}
 use Rattle.route_tensor.specs.Link.{links}
 use Rattle.route_tensor.specs.Ends.{hop_at, sender_at, reader_at}
@@ -14,7 +15,7 @@ use Rattle.hop_core.specs.State.{State}
 use Rattle.convey.specs.Buffers.{out_of, in_of, buffers_of}
 use Rattle.convey.specs.Agreement.{Ends, Agrees}
 use Rattle.convey.specs.Parts.{part_of}
-use Rattle.convey.specs.Due.{IsDue, Wants, IsOver, HasNext}
+use Rattle.convey.specs.Due.{IsDue, Wants, IsOver, NextIs}
 
 -- A state at home, with no parcel lent, whose buffers agree with the lists of its port.
 pub record IsReady (dims : List ℕ) (rank : ℕ) (st : State) (sent got : Logs) : Type 0 where
@@ -28,6 +29,7 @@ abbrev pub at_rest : Part → Part
 at_rest p = record p { latest = None }
 
 -- What each step of an advance leaves: the rank's part of the machine, and its lists but for more at their ends.
+-- fills: each parcel that it posts is filled as a conveyor fills it.
 pub record GoesOn (old new : State) (sent sent' got got' : Logs) : Type 0 where
   pub cap : new.cap ≡ old.cap
   pub steady : new.steady ≡ old.steady
@@ -37,17 +39,19 @@ pub record GoesOn (old new : State) (sent sent' got got' : Logs) : Type 0 where
   pub part : at_rest (part_of (buffers_of new) sent' got') ≡ at_rest (part_of (buffers_of old) sent got)
   pub sent_grows : (l : ℕ) → Begins (sent l) (sent' l)
   pub got_grows : (l : ℕ) → Begins (got l) (got' l)
-  pub shape : (l : ℕ) → IsConveyorShape old.steady old.cap (sent l) → IsConveyorShape old.steady old.cap (sent' l)
+  pub fills : (l : ℕ) (more : List Shipped) → sent' l ≡ sent l ++ more → IsConveyorShape old.steady old.cap more
 
 -- What became of a link in that was asked where it wanted a parcel.
 -- left: where it didn't want one, nothing was got, and it wasn't asked.
 -- rose, idle: where it did, and nothing was got, the port has listened since it was asked before, and knows of
 -- nothing more.
+-- once: no more than one parcel was got.
 pub record WasAsked (st : State) (l : ℕ) (log log' : List Shipped) (noted noted' : ℕ) (is_idle : Bool) : Type 0 where
   pub left : (Wants st l → ⊥) → log' ≡ log
   pub unasked : (Wants st l → ⊥) → noted' ≡ noted
   pub rose : Wants st l → log' ≡ log → Rose noted noted'
   pub idle : Wants st l → log' ≡ log → is_idle ≡ true
+  pub once : length log' ≤ length log + 1
 
 -- What became of a link out that was served where it was due: if it still is, the port looked in vain for room.
 pub record WasServed (st : State) (l : ℕ) (looks looks' : ℕ) (is_crowded : Bool) : Type 0 where
@@ -69,6 +73,7 @@ pub record PassedOn (dims : List ℕ) (rank : ℕ) (old new : State) (sent got :
 -- nothing more, but for what was posted there.
 -- lies: the inbox holds the end of what it held and of what came.
 -- waits: where nothing was sent, the open parcel begins with what it held.
+-- one_sent, one_got: each log has at most one parcel more.
 -- not_at_once: the call that says that the rank is done doesn't complete it.
 pub record MovesOn (old new : State) (done : Bool) (sent sent' got got' : Logs) (noted noted' : ℕ → ℕ) (is_idle : ℕ → Bool) : Type 0 where
   pub goes_on : GoesOn (record old { done = done; pulled = None }) new sent sent' got got'
@@ -79,14 +84,17 @@ pub record MovesOn (old new : State) (done : Bool) (sent sent' got got' : Logs) 
   pub lies : (l : ℕ) (more : List Shipped) → l < links old.dims → reader_at old.dims l ≡ old.rank → got' l ≡ got l ++ more
       → Ends ((in_of old l).parcel.untaken ++ flat_map (λ p. p.entries) more) (in_of new l).parcel.untaken
   pub waits : (l : ℕ) → l < links old.dims → sender_at old.dims l ≡ old.rank → sent' l ≡ sent l → Begins (out_of old l).parcel.untaken (out_of new l).parcel.untaken
+  pub one_sent : (l : ℕ) → l < links old.dims → sender_at old.dims l ≡ old.rank → length (sent' l) ≤ length (sent l) + 1
+  pub one_got : (l : ℕ) → l < links old.dims → reader_at old.dims l ≡ old.rank → length (got' l) ≤ length (got l) + 1
   pub not_at_once : old.done ≡ false → IsOver new → ⊥
 
 -- What they leave where all posts had memory.
 -- served: a link out that is still due was looked at in vain.
 -- full: so was one on which nothing was sent though its parcel was full.
--- stopped: where an entry is left in an inbox of an earlier hop, its next link is crowded, unless a parcel was sent there.
+-- stopped: where entries are left in an inbox of an earlier hop, the next link of the first one is crowded, unless a
+-- parcel was sent there.
 pub record HasServed (old new : State) (sent sent' : Logs) (looks looks' : ℕ → ℕ) (is_crowded : ℕ → Bool) : Type 0 where
   pub served : (l : ℕ) → l < links old.dims → sender_at old.dims l ≡ old.rank → WasServed new l (looks l) (looks' l) (is_crowded l)
   pub full : (l : ℕ) → l < links old.dims → sender_at old.dims l ≡ old.rank → sent' l ≡ sent l → length (out_of old l).parcel.untaken ≡ old.cap → is_crowded l ≡ true
-  pub stopped : (l : ℕ) → l < links old.dims → reader_at old.dims l ≡ old.rank → hop_at old.dims l < length old.dims → (in_of new l).parcel.untaken ≢ []
-      → HasNext old.dims old.rank l (λ m. sent' m ≡ sent m → is_crowded m ≡ true)
+  pub stopped : (l : ℕ) (e : Entry) → l < links old.dims → reader_at old.dims l ≡ old.rank → hop_at old.dims l < length old.dims → slice_get (in_of new l).parcel.untaken 0 ≡ Some e
+      → NextIs old.dims old.rank l e.tag (λ m. sent' m ≡ sent m → is_crowded m ≡ true)

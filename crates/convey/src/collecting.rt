@@ -61,8 +61,7 @@ pub(crate) fn collect_one<const CAP: usize, const HOPS: usize, P: Port<CAP>>(
     ensures same_dims { P.dims port.new ≡ P.dims port.old }
     ensures same_slots { P.slots port.new ≡ P.slots port.old }
 {
-    // The contract of `phase` tells what holds of the state.
-    let _begun = state.phase();
+    state.known();
     if !state.wants(link) {
         return;
     }

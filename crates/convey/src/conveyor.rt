@@ -1,6 +1,7 @@
 //! The conveyor of one rank: what a program pushes, advances and pulls.
-ghost use Rattle.std.specs.Prelude.{◌≡◌, ◌≢◌, ℕ, ◌+◌, ◌<◌, ◌≤◌, ◌^◌, true, false, List, [], ◌++◌, length, sum, replicate, map, is_some, None, IfOk, IfSome, OnOk, IsOk, IsErr, Ok, Result};
+ghost use Rattle.std.specs.Prelude.{◌≡◌, ◌≢◌, ℕ, ◌+◌, ◌<◌, ◌≤◌, ◌^◌, true, false, List, [], ◌++◌, length, sum, replicate, map, is_some, slice_get, Some, None, IfOk, IfSome, OnOk, IsOk, IsErr, Ok, Result};
 ghost use Rattle.std.specs.List.{flat_map};
+ghost use Rattle.bale_types.specs.declared.item.Entry.{Entry};
 ghost use Rattle.item_buffer.specs.Contents.{Shipped};
 ghost use Rattle.route_tensor.specs.Grid.{ranks, IsGrid};
 ghost use Rattle.route_tensor.specs.Link.{links};
@@ -22,7 +23,7 @@ ghost use Rattle.hop_core.specs.State.{at_end};
 ghost use Rattle.hop_core.specs.Standing.{IsState};
 ghost use Rattle.convey.specs.Agreement.{Ends};
 ghost use Rattle.convey.specs.Arrived.{HasArrived};
-ghost use Rattle.convey.specs.Due.{Wants, IsOver, HasNext};
+ghost use Rattle.convey.specs.Due.{Wants, IsOver, NextIs};
 ghost use Rattle.convey.specs.Way.{WasServed};
 
 use crate::moving::move_on;
@@ -93,6 +94,17 @@ impl<const CAP: usize, const HOPS: usize> Conveyor<CAP, HOPS> {
         self.state.phase()
     }
 
+    /// Does nothing, and tells what holds of a conveyor at every moment.
+    #[inline]
+    pub fn known(&self)
+        ensures grid { IsGrid self.now.dims }
+        ensures rank { self.now.rank < ranks self.now.dims }
+        ensures sound { IsSound (buffers_of self.now) }
+        ensures cap { self.now.cap ≡ CAP }
+    {
+        self.state.known();
+    }
+
     /// Begins an epoch.
     pub fn begin(&mut self)
         requires dormant { self.old.phase ≡ Phase.Dormant }
@@ -117,8 +129,7 @@ impl<const CAP: usize, const HOPS: usize> Conveyor<CAP, HOPS> {
         ensures step_accepted { result ≡ Pushed.Accepted → IsStepOf (Push to item) self.old self.new }
         ensures step_full { result ≡ Pushed.Full → IsStepOf Idle self.old self.new }
     {
-        // The contract of `phase` tells what holds of the state, here and below.
-        let _standing = self.state.phase();
+        self.state.known();
         self.state.push(item, to)
     }
 
@@ -135,7 +146,7 @@ impl<const CAP: usize, const HOPS: usize> Conveyor<CAP, HOPS> {
         ensures step_item { IfSome result (λ p. IsStepOf (Pull p.0 p.1) self.old self.new) }
         ensures step_none { result ≡ None → IsStepOf Idle self.old self.new }
     {
-        let _standing = self.state.phase();
+        self.state.known();
         self.state.pull()
     }
 
@@ -147,7 +158,7 @@ impl<const CAP: usize, const HOPS: usize> Conveyor<CAP, HOPS> {
         ensures step_back { result ≡ true → IsStepOf Unpull self.old self.new }
         ensures step_none { result ≡ false → IsStepOf Idle self.old self.new }
     {
-        let _standing = self.state.phase();
+        self.state.known();
         self.state.unpull()
     }
 
@@ -179,7 +190,7 @@ impl<const CAP: usize, const HOPS: usize> Conveyor<CAP, HOPS> {
         ensures answer { IfOk result (λ p. p ≡ progress_of self.new.phase) }
         ensures settled { OnOk result (self.new.phase ≡ phase_of self.new) }
         ensures no_memory { IsErr result → self.new.phase ≡ self.old.phase }
-        ensures memory { P.GROWS ≡ false → IsOk result }
+        ensures memory { P.Memory.GROWS ≡ false → IsOk result }
 
         ensures begun { self.new.phase ≢ Phase.Dormant }
         ensures working { IsOk result → done ≡ false → self.new.phase ≡ Phase.Working }
@@ -190,9 +201,12 @@ impl<const CAP: usize, const HOPS: usize> Conveyor<CAP, HOPS> {
         ensures complete { self.old.phase ≡ Phase.Complete → self.new ≡ record self.old { pulled = None } }
         ensures complete_port { self.old.phase ≡ Phase.Complete → port.new ≡ port.old }
 
-        // The lists only grow, by parcels of the conveyor's shape.
+        // The lists only grow, each by one parcel at most, and those posted are of the conveyor's shape.
         ensures sent_grows { (l : ℕ) → Begins (P.sent port.old l) (P.sent port.new l) }
         ensures got_grows { (l : ℕ) → Begins (P.got port.old l) (P.got port.new l) }
+        ensures one_sent { (l : ℕ) → l < links self.old.dims → sender_at self.old.dims l ≡ self.old.rank → length (P.sent port.new l) ≤ length (P.sent port.old l) + 1 }
+        ensures one_got { (l : ℕ) → l < links self.old.dims → reader_at self.old.dims l ≡ self.old.rank → length (P.got port.new l) ≤ length (P.got port.old l) + 1 }
+        ensures fills { (l : ℕ) (more : List Shipped) → P.sent port.new l ≡ P.sent port.old l ++ more → IsConveyorShape self.old.steady CAP more }
         ensures shape { (l : ℕ) → IsConveyorShape self.old.steady CAP (P.sent port.old l) → IsConveyorShape self.old.steady CAP (P.sent port.new l) }
 
         // Each link out that is left due was served in vain; each link in that wanted a parcel was asked.
@@ -214,16 +228,16 @@ impl<const CAP: usize, const HOPS: usize> Conveyor<CAP, HOPS> {
             → Ends ((in_of self.old l).parcel.untaken ++ flat_map (λ p. p.entries) more) (in_of self.new l).parcel.untaken }
 
         // Where nothing was sent on a link out, it is crowded if its parcel was full, or if its hop has reached its end
-        // and it isn't closed, or if it is the next link of an entry that is left in an inbox of the hop before.
+        // and it isn't closed, or if it is the next link of the first entry that is left in an inbox of the hop before.
         ensures full { IsOk result → (l : ℕ) → l < links self.old.dims → sender_at self.old.dims l ≡ self.old.rank → P.sent port.new l ≡ P.sent port.old l
             → length (out_of self.old l).parcel.untaken ≡ CAP → P.crowded port.new l ≡ true }
         ensures ending { IsOk result → (l : ℕ) → l < links self.old.dims → sender_at self.old.dims l ≡ self.old.rank
             → at_end self.new.dims self.new.ins self.new.done (hop_at self.new.dims l) ≡ true → (out_of self.new l).closed ≡ false → P.crowded port.new l ≡ true }
         ensures closing { IsOk result → (l : ℕ) → l < links self.old.dims → sender_at self.old.dims l ≡ self.old.rank
             → (hop_at self.old.dims l ≡ 1 → done ≡ true) → HasArrived (buffers_of self.new) l → (out_of self.new l).closed ≡ false → P.crowded port.new l ≡ true }
-        ensures stopped { IsOk result → (l : ℕ) → l < links self.old.dims → reader_at self.old.dims l ≡ self.old.rank
-            → hop_at self.old.dims l < length self.old.dims → (in_of self.new l).parcel.untaken ≢ []
-            → HasNext self.old.dims self.old.rank l (λ m. P.sent port.new m ≡ P.sent port.old m → P.crowded port.new m ≡ true) }
+        ensures stopped { IsOk result → (l : ℕ) (e : Entry) → l < links self.old.dims → reader_at self.old.dims l ≡ self.old.rank
+            → hop_at self.old.dims l < length self.old.dims → slice_get (in_of self.new l).parcel.untaken 0 ≡ Some e
+            → NextIs self.old.dims self.old.rank l e.tag (λ m. P.sent port.new m ≡ P.sent port.old m → P.crowded port.new m ≡ true) }
 
         // It is a step of the rank's part of the exchange machine.
         ensures step { IsOwnStep (advance_step self.old.done done (is_complete self.new.phase)) (part_of (buffers_of self.old) (P.sent port.old) (P.got port.old)) (part_of (buffers_of self.new) (P.sent port.new) (P.got port.new)) }
@@ -247,7 +261,7 @@ impl<const CAP: usize, const HOPS: usize> Conveyor<CAP, HOPS> {
         ensures kept { KeepsAgreement self.old self.new }
         ensures step { IsStepOf Reset self.old self.new }
     {
-        let _standing = self.state.phase();
+        self.state.known();
         self.state.reset();
     }
 }

@@ -16,7 +16,8 @@
 //!
 //! Contracts see a conveyor as the state of its rank (`hop_core`), and say of each call which step of the exchange
 //! machine it is (`specs/Machine.antt`), a machine of two lists for each epoch and ordered pair of ranks, which knows no
-//! parcels, hops or tags. `exchange_law` says that the steps of all ranks over one bank fit together.
+//! parcels, hops or tags. `exchange_law` says that the steps of all ranks over one bank fit together, `closes_law` that
+//! the ranks end each epoch together, and `rest_law` that a sweep in which nothing moves ends an epoch.
 #![tactic(auto)]
 
 mod collecting;
@@ -29,7 +30,7 @@ mod relaying;
 
 pub use conveyor::Conveyor;
 pub use hop_core::{Phase, Pushed};
-pub use law::exchange_law;
+pub use law::{closes_law, exchange_law, rest_law};
 pub use progress::Progress;
 
 #[cfg(test)]

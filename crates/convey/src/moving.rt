@@ -33,7 +33,7 @@ pub(crate) fn move_on<const CAP: usize, const HOPS: usize, P: Port<CAP>>(
     ensures complete_port { state.old.phase ≡ Phase.Complete → port.new ≡ port.old }
     ensures incomplete { IsErr result → is_complete state.old.phase ≡ false }
     ensures forgotten { IsErr result → state.new.pulled ≡ None }
-    ensures memory { P.GROWS ≡ false → IsOk result }
+    ensures memory { P.Memory.GROWS ≡ false → IsOk result }
     ensures cap { state.old.cap ≡ CAP }
     ensures rest { P.rest port.new ≡ P.rest port.old }
     ensures same_rank { P.rank port.new ≡ P.rank port.old }

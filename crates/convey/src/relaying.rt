@@ -1,5 +1,5 @@
 //! Passes on what came over one hop to the next.
-ghost use Rattle.std.specs.Prelude.{◌≡◌, ◌≢◌, ℕ, ◌+◌, ◌<◌, ◌≤◌, List, [], length};
+ghost use Rattle.std.specs.Prelude.{◌≡◌, ◌≢◌, ℕ, ◌+◌, ◌<◌, ◌≤◌, List, length};
 ghost use Rattle.route_tensor.specs.Link.{links};
 ghost use Rattle.route_tensor.specs.Ends.{hop_at};
 ghost use Rattle.port_bank.specs.Logs.{Logs};
@@ -16,13 +16,12 @@ pub(crate) fn relay_all<const CAP: usize, const HOPS: usize>(state: &mut RankSta
     requires home { state.old.lent ≡ Lent.Nothing }
     requires hops { length state.old.dims ≡ HOPS }
     ensures passed { (dims : List ℕ) (rank : ℕ) (sent got : Logs) → IsReady dims rank state.old sent got → PassedOn dims rank state.old state.new sent got }
-    ensures stopped { (l : ℕ) → l < links state.new.dims → hop_at state.new.dims l < length state.new.dims → (in_of state.new l).parcel.untaken ≢ [] → IsBlocked state.new l }
+    ensures stopped { (l : ℕ) → l < links state.new.dims → hop_at state.new.dims l < length state.new.dims → IsBlocked state.new l }
     ensures standing { IsState state.new }
     ensures home { state.new.lent ≡ Lent.Nothing }
     ensures same_dims { state.new.dims ≡ state.old.dims }
 {
-    // The contract of `phase` tells what holds of the state.
-    let _grid = state.phase();
+    state.known();
     for h in (1..HOPS as u32).rev() {
         relay_one(state, h);
     }
@@ -37,7 +36,7 @@ pub(crate) fn relay_one<const CAP: usize, const HOPS: usize>(
     requires first { 1 ≤ h }
     requires last { h < length state.old.dims }
     ensures passed { (dims : List ℕ) (rank : ℕ) (sent got : Logs) → IsReady dims rank state.old sent got → PassedOn dims rank state.old state.new sent got }
-    ensures stopped { (l : ℕ) → l < links state.new.dims → hop_at state.new.dims l ≡ h → (in_of state.new l).parcel.untaken ≢ [] → IsBlocked state.new l }
+    ensures stopped { (l : ℕ) → l < links state.new.dims → hop_at state.new.dims l ≡ h → IsBlocked state.new l }
     ensures ins { (l : ℕ) → l < links state.new.dims → hop_at state.new.dims l ≢ h → in_of state.new l ≡ in_of state.old l }
     ensures outs { (l : ℕ) → l < links state.new.dims → hop_at state.new.dims l ≢ h + 1 → out_of state.new l ≡ out_of state.old l }
     ensures standing { IsState state.new }
@@ -46,8 +45,7 @@ pub(crate) fn relay_one<const CAP: usize, const HOPS: usize>(
     ensures same_rank { state.new.rank ≡ state.old.rank }
     ensures cap { state.new.cap ≡ state.old.cap }
 {
-    // The contract of `phase` tells what holds of the state.
-    let _before = state.phase();
+    state.known();
     let _count = state.relay(h);
-    let _after = state.phase();
+    state.known();
 }

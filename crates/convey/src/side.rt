@@ -64,7 +64,7 @@ impl<const CAP: usize, const HOPS: usize> Side<CAP, HOPS> {
         ensures sound { IfOk result (λ s. IsSound (buffers_of s.conveyor)) }
     {
         let conveyor = Conveyor::new(alloc, grid, rank, steady)?;
-        let _sound = conveyor.phase();
+        conveyor.known();
         Ok(Side {
             conveyor,
             rank_count: grid.ranks(),
@@ -88,7 +88,7 @@ impl<const CAP: usize, const HOPS: usize> Side<CAP, HOPS> {
             Call::Reset => self.reset(),
             Call::Advance(_) => Answer::NotMade,
         };
-        let _sound = self.conveyor.phase();
+        self.conveyor.known();
         answer
     }
 
@@ -115,7 +115,7 @@ impl<const CAP: usize, const HOPS: usize> Side<CAP, HOPS> {
         }
         let progress = self.conveyor.advance(port, done);
         self.done = done;
-        let _sound = self.conveyor.phase();
+        self.conveyor.known();
         Ok(Answer::Advanced(progress?))
     }
 

@@ -55,7 +55,7 @@ none_at_end dims ins done (suc h) g l none p m =
 abbrev pub renewed : State → ℕ → State
 renewed st n = record st { outs = map reopened st.outs; ins = map resumed st.ins; done = false; phase = phase.Dormant; epoch = n; pulled = None }
 
-pub renewed_kept : (st : State) (ends ends' : List Bool) (spare : Option Contents) (from n : ℕ) → IsKept st ends spare from → st.lent ≡ lent.Nothing → ends' ≡ replicate (length st.dims) false → IsKept (renewed st n) ends' spare from
+pub renewed_kept : (st : State) (ends ends' : List Bool) (spare : Option Contents) (from n : ℕ) → IsKept st ends spare from → st.lent ≡ lent.Nothing → ends' ≡ replicate 3 false → IsKept (renewed st n) ends' spare from
 renewed_kept st ends ends' spare from n k home e =
     let s = k.standing in
     let no : length (map reopened st.outs) ≡ sum st.dims = length-map st.outs reopened ∙ s.all_outs in
@@ -83,8 +83,8 @@ renewed_kept st ends ends' spare from n k home e =
         lent_in = λ j z. absurd (in_not_nothing j (sym (sym home ∙ z)));
         can_unpull = λ j z. absurd (none_some j None refl z);
       };
-      ends_all = ap length e ∙ length-replicate (length st.dims) false;
-      ends_each = λ h d a b. ap (λ bs. get_or bs (h - 1) d) e ∙ get_or-replicate (length st.dims) (h - 1) false d (omega (arith, a, b))
+      ends_all = ap length e ∙ length-replicate 3 false;
+      ends_each = λ h d a b. ap (λ bs. get_or bs (h - 1) d) e ∙ get_or-replicate 3 (h - 1) false d (omega (arith, a, b, s.grid.few))
           ∙ sym (none_at_end st.dims (map resumed st.ins) false h s.grid ni (λ i q. ap (λ y. y.ended) (x i no_in q)) a b);
       spare_home = k.spare_home;
       spare_blank = k.spare_blank;
@@ -109,7 +109,7 @@ new_state dims r cap steady = record {
   pulled = None;
 }
 
-pub new_kept : (dims : List ℕ) (r cap : ℕ) (steady : Bool) (ends : List Bool) (c : Contents) (from : ℕ) → IsGrid dims → r < ranks dims → 0 < cap → cap ≤ 1024 → ends ≡ replicate (length dims) false → c ≡ blank 0 →
+pub new_kept : (dims : List ℕ) (r cap : ℕ) (steady : Bool) (ends : List Bool) (c : Contents) (from : ℕ) → IsGrid dims → r < ranks dims → 0 < cap → cap ≤ 1024 → ends ≡ replicate 3 false → c ≡ blank 0 →
     from ≡ links_before dims (length dims) → from ≤ sum dims → IsKept (new_state dims r cap steady) ends (Some c) from
 new_kept dims r cap steady ends c from g a some small e b f low =
     let n = sum dims in
@@ -132,8 +132,8 @@ new_kept dims r cap steady ends c from g a some small e b f low =
         lent_in = λ j z. absurd (in_not_nothing j (sym z));
         can_unpull = λ j z. absurd (none_some j None refl z);
       };
-      ends_all = ap length e ∙ length-replicate (length dims) false;
-      ends_each = λ h d p m. ap (λ bs. get_or bs (h - 1) d) e ∙ get_or-replicate (length dims) (h - 1) false d (omega (arith, p, m))
+      ends_all = ap length e ∙ length-replicate 3 false;
+      ends_each = λ h d p m. ap (λ bs. get_or bs (h - 1) d) e ∙ get_or-replicate 3 (h - 1) false d (omega (arith, p, m, g.few))
           ∙ sym (none_at_end dims (replicate n no_in) false h g ni (λ i q. ap (λ y. y.ended) (x i no_in q)) p m);
       spare_home = λ z. refl;
       spare_blank = λ d z. some_blank d c z b;

@@ -141,7 +141,7 @@ relay_kept st ends spare from h outs' ins' b k home p l eo ei a t eb =
       ends_each = λ j d c m. elim (cases_eq j (h + 1)) as (λ _. get_or (set ends h b) (j - 1) d ≡ at_end st.dims ins' st.done j) [
         | inl e ↦
             let i : j - 1 ≡ h = omega (arith, e) in
-            ap (λ z. get_or (set ends h b) z d) i ∙ get_or-set_same ends h b d (omega (arith, l, k.ends_all)) ∙ eb ∙ sym (at_end-later st.dims ins' st.done h p) ∙ ap (at_end st.dims ins' st.done) (sym e)
+            ap (λ z. get_or (set ends h b) z d) i ∙ get_or-set_same ends h b d (omega (arith, l, k.ends_all, s.grid.few)) ∙ eb ∙ sym (at_end-later st.dims ins' st.done h p) ∙ ap (at_end st.dims ins' st.done) (sym e)
         | inr ne ↦
             get_or-set_other ends h (j - 1) b d (omega (arith, ne, c)) ∙ k.ends_each j d c m ∙ end_same st.dims h st.ins ins' st.done j t s.all_ins c m ne
       ];

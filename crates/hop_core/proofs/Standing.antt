@@ -299,7 +299,7 @@ got_link st i x old p got k l e s =
     s ∙ ap (in_of p) (ap (λ z. z || (got && p.last)) was)
 
 -- the marks of the ends after a write to a link of hop h
-ends_marked : (dims : List ℕ) (ins ins' : List In) (done : Bool) (ends : List Bool) (i : ℕ) (x : In) (b : Bool) → i < sum dims → hop_to dims i < length dims → length ends ≡ length dims →
+ends_marked : (dims : List ℕ) (ins ins' : List In) (done : Bool) (ends : List Bool) (i : ℕ) (x : In) (b : Bool) → i < sum dims → hop_to dims i < length dims → length dims ≤ length ends →
     ((h : ℕ) (d : Bool) → 2 ≤ h → h ≤ length dims → get_or ends (h - 1) d ≡ at_end dims ins done h) → ins' ≡ set ins i x → b ≡ list_all is_finished (ins_of_hop dims ins' (hop_to dims i)) →
     (h : ℕ) (d : Bool) → 2 ≤ h → h ≤ length dims → get_or (set ends (hop_to dims i) b) (h - 1) d ≡ at_end dims ins' done h
 ends_marked dims ins ins' done ends i x b q l n each e eb h d p m =
@@ -346,7 +346,7 @@ got_before st ends spare c from i x b k q l ln bl fresh fits fair eb =
     record {
       standing = got_state st i x k.standing q ln fresh fits fair;
       ends_all = length-set ends (hop_to st.dims i) b ∙ k.ends_all;
-      ends_each = ends_marked st.dims st.ins (set st.ins i x) st.done ends i x b q l k.ends_all k.ends_each refl eb;
+      ends_each = ends_marked st.dims st.ins (set st.ins i x) st.done ends i x b q l (omega (arith, k.ends_all, k.standing.grid.few)) k.ends_each refl eb;
       spare_home = λ e. refl;
       spare_blank = λ d e. some_blank d c e bl;
       from_low = k.from_low;

@@ -53,7 +53,7 @@ pub record IsState (st : State) : Type 0 where
 -- link below which no link in of the last hop has an entry.
 pub record IsKept (st : State) (ends : List Bool) (spare : Option Contents) (from : ℕ) : Type 0 where
   pub standing : IsState st
-  pub ends_all : length ends ≡ length st.dims
+  pub ends_all : length ends ≡ 3
   pub ends_each : (h : ℕ) (d : Bool) → 2 ≤ h → h ≤ length st.dims → slice_index_or ends (h - 1) d ≡ at_end st.dims st.ins st.done h
   pub spare_home : st.lent ≡ lent.Nothing → IsSome spare
   pub spare_blank : (c : Contents) → spare ≡ Some c → c ≡ blank 0

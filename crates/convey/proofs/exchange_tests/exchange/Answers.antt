@@ -9,11 +9,11 @@ use Rattle.convey.proofs.exchange_tests.exchange.Goals as goal
 
 pub loop-number-init : goal.loop-number-init
 loop-number-init c =
-    let same : c.in_ok-bank.bank.dims ≡ c.in-Ok.grid = ap (λ b. b.dims) c.in_ok-bank.ensures in
+    let same : c.in_ok-bank.bank.dims ≡ c.in-Ok.grid = ap (λ b. b.dims) c.in_ok-bank.ensures.made in
     record {
       all = c.in_ok-sides.ensures.all ∙ ap ranks (sym same);
       same_dims = same;
-      together = λ d. together_start c.in-Ok.grid 1 2 c.in_ok-bank.bank _ c.in_ok-bank.ensures (c.in_ok-sides.ensures.together d 2);
+      together = λ d. together_start c.in-Ok.grid 1 2 c.in_ok-bank.bank _ c.in_ok-bank.ensures.made (c.in_ok-sides.ensures.together d 2);
     }
 
 pub loop-number-preserved : goal.loop-number-preserved

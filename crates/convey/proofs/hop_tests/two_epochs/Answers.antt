@@ -7,8 +7,8 @@ use Rattle.convey.proofs.hop_tests.two_epochs.Goals as goal
 pub loop-epoch-init : goal.loop-epoch-init
 loop-epoch-init g c = record {
   all = c.in_ok-stations.ensures.all;
-  same_dims = ap (λ b. b.dims) c.in_ok-bank.ensures;
-  ready = each_start (λ s. s.state) c.in_ok-stations.stations.items c.in-Ok.grid c.args.slots c.in_ok-bank.bank c.in_ok-bank.ensures (c.in_ok-stations.ensures.ready c.args.slots);
+  same_dims = ap (λ b. b.dims) c.in_ok-bank.ensures.made;
+  ready = each_start (λ s. s.state) c.in_ok-stations.stations.items c.in-Ok.grid c.args.slots c.in_ok-bank.bank c.in_ok-bank.ensures.made (c.in_ok-stations.ensures.ready c.args.slots);
 }
 
 pub loop-epoch-preserved : goal.loop-epoch-preserved

@@ -62,7 +62,8 @@ returns-clause-moves_on g c =
     c.phase.ensures.standing (sym c.requires.ready.same_dims) (sym c.requires.ready.same_rank) c.note_done.ensures.state k.goes_on k.outs k.ready passed
     e.goes_on e.ins (ready_at dims _ rank _ _ _ _ k.same_dims k.same_rank e.ready)
     (λ l h from. e.waits l (link_at dims _ l k.same_dims h) (end_at sender_at dims _ rank _ l k.same_dims k.same_rank from))
-    _ _ _ _ _ k.asked k.lies e.got e.noted e.idle
+    _ _ _ _ _ k.asked k.lies e.got e.noted e.idle k.sent
+    (λ l h from. e.once l (link_at dims _ l k.same_dims h) (end_at sender_at dims _ rank _ l k.same_dims k.same_rank from))
 
 pub returns-clause-served : goal.returns-clause-served
 returns-clause-served g c =

@@ -1,9 +1,9 @@
-use Rattle.std.proofs.Common.{◌≡◌, ◌<◌, sum, sym, ap, subst, ◌∙◌, arith, rules}
+use Rattle.std.proofs.Common.{◌≡◌, ◌<◌, sum, refl, sym, ap, subst, ◌∙◌, arith, rules}
 use Rattle.route_tensor.specs.Grid.{ranks, IsGrid}
 use Rattle.route_tensor.specs.Link.{links}
 use Rattle.route_tensor.specs.Ends.{sender_at}
 use Rattle.route_tensor.specs.Neighbour.{link_to}
-use Rattle.convey.proofs.Ways.{to_below, to_sender, below_sum, link_here, ready_at, link_at, end_at, stays_more, waits_more, serving_more, serving_all, goes_on_trans}
+use Rattle.convey.proofs.Ways.{to_below, to_sender, below_sum, link_here, ready_at, link_at, end_at, stays_more, waits_more, once_more, serving_none, serving_more, serving_all, goes_on_refl, goes_on_trans}
 use Rattle.convey.proofs.posting.post_all.Goals as goal
 
 pub post_one-requires : goal.post_one-requires
@@ -47,6 +47,34 @@ returns-in_err-post_one-clause-waits g c =
     waits_more dims rank _ _ c.args.state.now c.loop-i.state c.post_one.new.state _ _ _ _ _ _ _ _ grid own below k.serving k.goes_on.sent_grows e.goes_on.sent_grows here (record {
       out = λ m h from ne. e.out m (link_at dims _ m k.same_dims h) (end_at sender_at dims _ rank _ m k.same_dims k.same_rank from) ne;
       waits = e.waits;
+      once = e.once;
+      sent_stays = e.sent;
+      looks_stays = e.looks_out;
+      crowded_stays = e.crowded;
+      same_dims = new.same_dims ∙ sym k.ready.same_dims;
+      ins = e.ins;
+      done = e.goes_on.done;
+      cap = e.goes_on.cap;
+      steady = e.goes_on.steady;
+    })
+
+pub returns-in_err-post_one-clause-once : goal.returns-in_err-post_one-clause-once
+returns-in_err-post_one-clause-once g c =
+    let dims = g.P.Port.dims c.args.port.now in
+    let rank = g.P.Port.rank c.args.port.now in
+    let k = c.loop-i.invariant in
+    let first = ap (λ t. t.dims) c.routes.ensures ∙ c.requires.ready.same_dims in
+    let below = below_sum dims _ _ _ first c.neighbours-i-end.ensures.value c.loop-i-test.true in
+    let grid : IsGrid dims = subst IsGrid first c.neighbours-i-end.ensures.grid in
+    let own : rank < ranks dims = subst (λ r. r < ranks dims) (ap (λ t. t.rank) c.routes.ensures ∙ c.requires.ready.same_rank) (subst (λ ds. c.routes.result.now.rank < ranks ds) first c.neighbours-i-end.ensures.rank) in
+    let link = c.neighbour-link.result.link_to in
+    let here : link ≡ link_to dims rank c.loop-i.i = link_here link_to dims _ rank _ _ _ (ap (λ t. t.dims) c.routes-in-loop-i.ensures ∙ k.ready.same_dims) (ap (λ t. t.rank) c.routes-in-loop-i.ensures ∙ k.ready.same_rank) (ap (λ n. n.link_to) c.neighbour-link.ensures.value) in
+    let e = c.post_one.ensures in
+    let new = ready_at dims _ rank _ _ _ _ k.same_dims k.same_rank e.ready in
+    once_more dims rank _ _ c.args.state.now c.loop-i.state c.post_one.new.state _ _ _ _ _ _ _ _ grid own below k.serving k.goes_on.sent_grows e.goes_on.sent_grows here (record {
+      out = λ m h from ne. e.out m (link_at dims _ m k.same_dims h) (end_at sender_at dims _ rank _ m k.same_dims k.same_rank from) ne;
+      waits = e.waits;
+      once = e.once;
       sent_stays = e.sent;
       looks_stays = e.looks_out;
       crowded_stays = e.crowded;
@@ -62,6 +90,24 @@ returns-in_err-post_one-clause-idle g c =
     let k = c.loop-i.invariant in
     let e = c.post_one.ensures in
     stays_more _ _ _ _ _ _ k.goes_on.sent_grows e.goes_on.sent_grows k.idle e.idle
+
+pub loop-i-init : goal.loop-i-init
+loop-i-init g c =
+    let dims = g.P.Port.dims c.args.port.now in
+    let rank = g.P.Port.rank c.args.port.now in
+    record {
+      ready = c.requires.ready;
+      goes_on = goes_on_refl c.args.state.now _ _;
+      serving = serving_none dims rank c.args.state.now _ _ _;
+      ins = refl;
+      idle = λ l same. refl;
+      got = refl;
+      noted = refl;
+      rest = refl;
+      same_rank = refl;
+      same_dims = refl;
+      same_slots = refl;
+    }
 
 pub loop-i-preserved : goal.loop-i-preserved
 loop-i-preserved g c =
@@ -82,6 +128,7 @@ loop-i-preserved g c =
       serving = serving_more dims rank _ _ c.args.state.now c.loop-i.state c.post_one.new.state _ _ _ _ _ _ _ _ grid own below k.serving k.goes_on.sent_grows e.goes_on.sent_grows here (record {
         out = λ m h from ne. e.out m (link_at dims _ m k.same_dims h) (end_at sender_at dims _ rank _ m k.same_dims k.same_rank from) ne;
         waits = e.waits;
+        once = e.once;
         sent_stays = e.sent;
         looks_stays = e.looks_out;
         crowded_stays = e.crowded;

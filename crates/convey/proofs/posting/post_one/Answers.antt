@@ -13,6 +13,7 @@ use Rattle.convey.specs.Buffers.{out_of}
 use Rattle.convey.specs.Due.{IsDue}
 use Rattle.convey.proofs.Collects.{grew}
 use Rattle.convey.proofs.Posts.{lent_out, may_post, dated, served_one, served_none, still_waits, no_longer_due}
+use Rattle.convey.proofs.Ways.{goes_on_refl}
 use Rattle.convey.proofs.posting.post_one.Goals as goal
 
 apart : (let a : Result Posted NoMemory = Ok NoRoom in let b : Result Posted NoMemory = Ok Sent in a ≡ b) → ⊥
@@ -31,7 +32,7 @@ pub post-requires : goal.post-requires
 post-requires g c =
     let st = c.args.state.now in
     let q = shipped c.lend_out-parcel.result in
-    let s = c.phase-begun.ensures.standing in
+    let s = c.known.ensures.standing in
     let due : IsDue st c.args.link = sym c.due.ensures ∙ c.if-not-due.false in
     let entries : q.entries ≡ (out_of st c.args.link).parcel.untaken = ap (λ p. p.untaken) c.lend_out-parcel.ensures.parcel in
     let last : q.last ≡ at_end st.dims st.ins st.done (hop_at st.dims c.args.link) = ap (λ p. p.last) c.lend_out-parcel.ensures.parcel in (
@@ -55,7 +56,7 @@ pub returns-in-Ok-Sent-clause-ready : goal.returns-in-Ok-Sent-clause-ready
 returns-in-Ok-Sent-clause-ready g c =
     let st = c.args.state.now in
     let q = shipped c.lend_out-parcel.result in
-    let s = c.phase-begun.ensures.standing in
+    let s = c.known.ensures.standing in
     let due : IsDue st c.args.link = sym c.due.ensures ∙ c.if-not-due.false in
     let entries : q.entries ≡ (out_of st c.args.link).parcel.untaken = ap (λ p. p.untaken) c.lend_out-parcel.ensures.parcel in
     let last : q.last ≡ at_end st.dims st.ins st.done (hop_at st.dims c.args.link) = ap (λ p. p.last) c.lend_out-parcel.ensures.parcel in
@@ -69,7 +70,7 @@ pub returns-in-Ok-Sent-clause-goes_on : goal.returns-in-Ok-Sent-clause-goes_on
 returns-in-Ok-Sent-clause-goes_on g c =
     let st = c.args.state.now in
     let q = shipped c.lend_out-parcel.result in
-    let s = c.phase-begun.ensures.standing in
+    let s = c.known.ensures.standing in
     let due : IsDue st c.args.link = sym c.due.ensures ∙ c.if-not-due.false in
     let entries : q.entries ≡ (out_of st c.args.link).parcel.untaken = ap (λ p. p.untaken) c.lend_out-parcel.ensures.parcel in
     let last : q.last ≡ at_end st.dims st.ins st.done (hop_at st.dims c.args.link) = ap (λ p. p.last) c.lend_out-parcel.ensures.parcel in
@@ -83,7 +84,7 @@ pub returns-in-Ok-Sent-clause-out : goal.returns-in-Ok-Sent-clause-out
 returns-in-Ok-Sent-clause-out g c =
     let st = c.args.state.now in
     let q = shipped c.lend_out-parcel.result in
-    let s = c.phase-begun.ensures.standing in
+    let s = c.known.ensures.standing in
     let due : IsDue st c.args.link = sym c.due.ensures ∙ c.if-not-due.false in
     let entries : q.entries ≡ (out_of st c.args.link).parcel.untaken = ap (λ p. p.untaken) c.lend_out-parcel.ensures.parcel in
     let last : q.last ≡ at_end st.dims st.ins st.done (hop_at st.dims c.args.link) = ap (λ p. p.last) c.lend_out-parcel.ensures.parcel in
@@ -97,7 +98,7 @@ pub returns-in-Ok-Sent-clause-served : goal.returns-in-Ok-Sent-clause-served
 returns-in-Ok-Sent-clause-served g c =
     let st = c.args.state.now in
     let q = shipped c.lend_out-parcel.result in
-    let s = c.phase-begun.ensures.standing in
+    let s = c.known.ensures.standing in
     let due : IsDue st c.args.link = sym c.due.ensures ∙ c.if-not-due.false in
     let entries : q.entries ≡ (out_of st c.args.link).parcel.untaken = ap (λ p. p.untaken) c.lend_out-parcel.ensures.parcel in
     let last : q.last ≡ at_end st.dims st.ins st.done (hop_at st.dims c.args.link) = ap (λ p. p.last) c.lend_out-parcel.ensures.parcel in
@@ -112,7 +113,7 @@ pub returns-in-Ok-Sent-clause-waits : goal.returns-in-Ok-Sent-clause-waits
 returns-in-Ok-Sent-clause-waits g c =
     let st = c.args.state.now in
     let q = shipped c.lend_out-parcel.result in
-    let s = c.phase-begun.ensures.standing in
+    let s = c.known.ensures.standing in
     let due : IsDue st c.args.link = sym c.due.ensures ∙ c.if-not-due.false in
     let entries : q.entries ≡ (out_of st c.args.link).parcel.untaken = ap (λ p. p.untaken) c.lend_out-parcel.ensures.parcel in
     let last : q.last ≡ at_end st.dims st.ins st.done (hop_at st.dims c.args.link) = ap (λ p. p.last) c.lend_out-parcel.ensures.parcel in
@@ -127,7 +128,7 @@ pub returns-in-Ok-Sent-clause-idle : goal.returns-in-Ok-Sent-clause-idle
 returns-in-Ok-Sent-clause-idle g c =
     let st = c.args.state.now in
     let q = shipped c.lend_out-parcel.result in
-    let s = c.phase-begun.ensures.standing in
+    let s = c.known.ensures.standing in
     let due : IsDue st c.args.link = sym c.due.ensures ∙ c.if-not-due.false in
     let entries : q.entries ≡ (out_of st c.args.link).parcel.untaken = ap (λ p. p.untaken) c.lend_out-parcel.ensures.parcel in
     let last : q.last ≡ at_end st.dims st.ins st.done (hop_at st.dims c.args.link) = ap (λ p. p.last) c.lend_out-parcel.ensures.parcel in
@@ -145,7 +146,7 @@ pub returns-in-Ok-NoRoom-clause-ready : goal.returns-in-Ok-NoRoom-clause-ready
 returns-in-Ok-NoRoom-clause-ready g c =
     let st = c.args.state.now in
     let q = shipped c.lend_out-parcel.result in
-    let s = c.phase-begun.ensures.standing in
+    let s = c.known.ensures.standing in
     let due : IsDue st c.args.link = sym c.due.ensures ∙ c.if-not-due.false in
     let entries : q.entries ≡ (out_of st c.args.link).parcel.untaken = ap (λ p. p.untaken) c.lend_out-parcel.ensures.parcel in
     let last : q.last ≡ at_end st.dims st.ins st.done (hop_at st.dims c.args.link) = ap (λ p. p.last) c.lend_out-parcel.ensures.parcel in
@@ -160,7 +161,7 @@ pub returns-in-Ok-NoRoom-clause-goes_on : goal.returns-in-Ok-NoRoom-clause-goes_
 returns-in-Ok-NoRoom-clause-goes_on g c =
     let st = c.args.state.now in
     let q = shipped c.lend_out-parcel.result in
-    let s = c.phase-begun.ensures.standing in
+    let s = c.known.ensures.standing in
     let due : IsDue st c.args.link = sym c.due.ensures ∙ c.if-not-due.false in
     let entries : q.entries ≡ (out_of st c.args.link).parcel.untaken = ap (λ p. p.untaken) c.lend_out-parcel.ensures.parcel in
     let last : q.last ≡ at_end st.dims st.ins st.done (hop_at st.dims c.args.link) = ap (λ p. p.last) c.lend_out-parcel.ensures.parcel in
@@ -175,7 +176,7 @@ pub returns-in-Ok-NoRoom-clause-out : goal.returns-in-Ok-NoRoom-clause-out
 returns-in-Ok-NoRoom-clause-out g c =
     let st = c.args.state.now in
     let q = shipped c.lend_out-parcel.result in
-    let s = c.phase-begun.ensures.standing in
+    let s = c.known.ensures.standing in
     let due : IsDue st c.args.link = sym c.due.ensures ∙ c.if-not-due.false in
     let entries : q.entries ≡ (out_of st c.args.link).parcel.untaken = ap (λ p. p.untaken) c.lend_out-parcel.ensures.parcel in
     let last : q.last ≡ at_end st.dims st.ins st.done (hop_at st.dims c.args.link) = ap (λ p. p.last) c.lend_out-parcel.ensures.parcel in
@@ -190,7 +191,7 @@ pub returns-in-Err-clause-ready : goal.returns-in-Err-clause-ready
 returns-in-Err-clause-ready g c =
     let st = c.args.state.now in
     let q = shipped c.lend_out-parcel.result in
-    let s = c.phase-begun.ensures.standing in
+    let s = c.known.ensures.standing in
     let due : IsDue st c.args.link = sym c.due.ensures ∙ c.if-not-due.false in
     let entries : q.entries ≡ (out_of st c.args.link).parcel.untaken = ap (λ p. p.untaken) c.lend_out-parcel.ensures.parcel in
     let last : q.last ≡ at_end st.dims st.ins st.done (hop_at st.dims c.args.link) = ap (λ p. p.last) c.lend_out-parcel.ensures.parcel in
@@ -204,7 +205,7 @@ pub returns-in-Err-clause-goes_on : goal.returns-in-Err-clause-goes_on
 returns-in-Err-clause-goes_on g c =
     let st = c.args.state.now in
     let q = shipped c.lend_out-parcel.result in
-    let s = c.phase-begun.ensures.standing in
+    let s = c.known.ensures.standing in
     let due : IsDue st c.args.link = sym c.due.ensures ∙ c.if-not-due.false in
     let entries : q.entries ≡ (out_of st c.args.link).parcel.untaken = ap (λ p. p.untaken) c.lend_out-parcel.ensures.parcel in
     let last : q.last ≡ at_end st.dims st.ins st.done (hop_at st.dims c.args.link) = ap (λ p. p.last) c.lend_out-parcel.ensures.parcel in
@@ -218,7 +219,7 @@ pub returns-in-Err-clause-out : goal.returns-in-Err-clause-out
 returns-in-Err-clause-out g c =
     let st = c.args.state.now in
     let q = shipped c.lend_out-parcel.result in
-    let s = c.phase-begun.ensures.standing in
+    let s = c.known.ensures.standing in
     let due : IsDue st c.args.link = sym c.due.ensures ∙ c.if-not-due.false in
     let entries : q.entries ≡ (out_of st c.args.link).parcel.untaken = ap (λ p. p.untaken) c.lend_out-parcel.ensures.parcel in
     let last : q.last ≡ at_end st.dims st.ins st.done (hop_at st.dims c.args.link) = ap (λ p. p.last) c.lend_out-parcel.ensures.parcel in
@@ -232,7 +233,7 @@ pub returns-in-Ok-NoRoom-clause-waits : goal.returns-in-Ok-NoRoom-clause-waits
 returns-in-Ok-NoRoom-clause-waits g c =
     let st = c.args.state.now in
     let q = shipped c.lend_out-parcel.result in
-    let s = c.phase-begun.ensures.standing in
+    let s = c.known.ensures.standing in
     let due : IsDue st c.args.link = sym c.due.ensures ∙ c.if-not-due.false in
     let entries : q.entries ≡ (out_of st c.args.link).parcel.untaken = ap (λ p. p.untaken) c.lend_out-parcel.ensures.parcel in
     let last : q.last ≡ at_end st.dims st.ins st.done (hop_at st.dims c.args.link) = ap (λ p. p.last) c.lend_out-parcel.ensures.parcel in
@@ -247,7 +248,7 @@ pub returns-in-Err-clause-waits : goal.returns-in-Err-clause-waits
 returns-in-Err-clause-waits g c =
     let st = c.args.state.now in
     let q = shipped c.lend_out-parcel.result in
-    let s = c.phase-begun.ensures.standing in
+    let s = c.known.ensures.standing in
     let due : IsDue st c.args.link = sym c.due.ensures ∙ c.if-not-due.false in
     let entries : q.entries ≡ (out_of st c.args.link).parcel.untaken = ap (λ p. p.untaken) c.lend_out-parcel.ensures.parcel in
     let last : q.last ≡ at_end st.dims st.ins st.done (hop_at st.dims c.args.link) = ap (λ p. p.last) c.lend_out-parcel.ensures.parcel in
@@ -261,7 +262,7 @@ pub returns-in-Ok-NoRoom-clause-served : goal.returns-in-Ok-NoRoom-clause-served
 returns-in-Ok-NoRoom-clause-served g c =
     let st = c.args.state.now in
     let q = shipped c.lend_out-parcel.result in
-    let s = c.phase-begun.ensures.standing in
+    let s = c.known.ensures.standing in
     let due : IsDue st c.args.link = sym c.due.ensures ∙ c.if-not-due.false in
     let entries : q.entries ≡ (out_of st c.args.link).parcel.untaken = ap (λ p. p.untaken) c.lend_out-parcel.ensures.parcel in
     let last : q.last ≡ at_end st.dims st.ins st.done (hop_at st.dims c.args.link) = ap (λ p. p.last) c.lend_out-parcel.ensures.parcel in
@@ -271,3 +272,6 @@ returns-in-Ok-NoRoom-clause-served g c =
     let e = c.post.ensures in
     let no = not_sent _ was in
     record { looked = λ d. e.looked was; crowded = λ d. e.crowded was }
+
+pub returns-then-not-due-clause-goes_on : goal.returns-then-not-due-clause-goes_on
+returns-then-not-due-clause-goes_on g c = goes_on_refl c.args.state.now _ _

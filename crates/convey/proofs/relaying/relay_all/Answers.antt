@@ -12,8 +12,8 @@ pub loop-h-init : goal.loop-h-init
 loop-h-init g c = record {
   home = c.requires.home;
   same_dims = search rules;
-  standing = c.phase-grid.ensures.standing;
-  stopped = λ m below from last some. absurd (let all = c.requires.hops in omega arith);
+  standing = c.known.ensures.standing;
+  stopped = λ m below from last. absurd (let all = c.requires.hops in omega arith);
   passed = λ dims rank sent got r. passed_none dims rank c.args.state.now sent got r;
 }
 
@@ -28,13 +28,13 @@ loop-h-preserved g c =
       home = e.home;
       same_dims = e.same_dims ∙ k.same_dims;
       standing = e.standing;
-      stopped = λ m below from last some. elim (cases_eq (hop_at new.dims m) h) [
-        | inl same ↦ e.stopped m below same some
+      stopped = λ m below from last. elim (cases_eq (hop_at new.dims m) h) [
+        | inl same ↦ e.stopped m below same
         | inr ne ↦
             let there : m < links old.dims = subst (λ ds. m < links ds) e.same_dims below in
             let same : hop_at new.dims m ≡ hop_at old.dims m = ap (λ ds. hop_at ds m) e.same_dims in
-            still_blocked old new h m e.same_dims e.same_rank e.cap ne e.outs
-            (k.stopped m there (omega arith) (omega (arith, ap length e.same_dims)) (λ none. some (ap (λ x. x.parcel.untaken) (e.ins m below ne) ∙ none)))
+            still_blocked old new h m e.same_dims e.same_rank e.cap ne (e.ins m below ne) e.outs
+            (k.stopped m there (omega arith) (omega (arith, ap length e.same_dims)))
       ];
       passed = λ dims rank sent got r.
           let p = k.passed dims rank sent got r in
@@ -43,6 +43,6 @@ loop-h-preserved g c =
 
 pub returns-clause-stopped : goal.returns-clause-stopped
 returns-clause-stopped g c =
-    λ m below last some.
+    λ m below last.
     let first = (number_ends c.loop-h.state.dims m c.loop-h.invariant.standing.grid below).link.first_hop in
-    c.loop-h.invariant.stopped m below (omega arith) last some
+    c.loop-h.invariant.stopped m below (omega arith) last

@@ -14,6 +14,6 @@ invariant-loop-h g l = record {
   home : l.state.lent ≡ Nothing;
   same_dims : l.state.dims ≡ l.fn.state.dims;
   standing : IsState l.state;
-  stopped : (m : ℕ) → m < links l.state.dims → l.h ≤ hop_at l.state.dims m → hop_at l.state.dims m < length l.state.dims → (in_of l.state m).parcel.untaken ≢ [] → IsBlocked l.state m;
+  stopped : (m : ℕ) → m < links l.state.dims → l.h ≤ hop_at l.state.dims m → hop_at l.state.dims m < length l.state.dims → IsBlocked l.state m;
   passed : (dims : List ℕ) (rank : ℕ) (sent got : Logs) → IsReady dims rank l.fn.state sent got → PassedOn dims rank l.fn.state l.state sent got;
 }

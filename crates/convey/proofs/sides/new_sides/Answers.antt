@@ -20,5 +20,5 @@ loop-rank-preserved g c =
 
 pub returns-clause-together : goal.returns-clause-together
 returns-clause-together g c = λ d slots.
-    together_first c.args.grid.now g.row.CAP slots (λ r. (get_or c.loop-rank.sides.items r d).conveyor) c.requires.small c.ranks.ensures.grid
+    together_first c.args.grid.now g.row.CAP slots (λ r. (get_or c.loop-rank.sides.items r d).conveyor) c.ranks.ensures.grid
     (λ r h. c.loop-rank.invariant.each r d (omega (arith, h, c.loop-rank.invariant.all, c.loop-rank-test.false, c.ranks-rank-end.ensures.value)))

@@ -20,7 +20,7 @@ if_some (Some x) P f = f x refl
 pub invariant_of-self : goal.invariant_of-self
 invariant_of-self g c =
     let now : State = c.args.self.now in
-    let s : IsState now = subst IsState c.self.view_is c.phase-standing.ensures.standing in
+    let s : IsState now = subst IsState c.self.view_is c.known.ensures.standing in
     let o : Option ℕ = lowest_unread now in
     let state : State → State = λ t. pulled_from t (lowest_unread t) in
     let give : State → Option (ℕ × Item) = λ t. pull_from t (lowest_unread t) in
@@ -31,7 +31,7 @@ invariant_of-self g c =
 pub returns-clause-sender : goal.returns-clause-sender
 returns-clause-sender g c =
     let now : State = c.args.self.now in
-    let s : IsState now = subst IsState c.self.view_is c.phase-standing.ensures.standing in
+    let s : IsState now = subst IsState c.self.view_is c.known.ensures.standing in
     let o : Option ℕ = lowest_unread now in
     let state : State → State = λ t. pulled_from t (lowest_unread t) in
     let give : State → Option (ℕ × Item) = λ t. pull_from t (lowest_unread t) in
@@ -42,7 +42,7 @@ returns-clause-sender g c =
 pub returns-clause-unchanged : goal.returns-clause-unchanged
 returns-clause-unchanged g c =
     let now : State = c.args.self.now in
-    let s : IsState now = subst IsState c.self.view_is c.phase-standing.ensures.standing in
+    let s : IsState now = subst IsState c.self.view_is c.known.ensures.standing in
     let o : Option ℕ = lowest_unread now in
     let state : State → State = λ t. pulled_from t (lowest_unread t) in
     let give : State → Option (ℕ × Item) = λ t. pull_from t (lowest_unread t) in
@@ -55,7 +55,7 @@ returns-clause-unchanged g c =
 pub returns-clause-none_unread : goal.returns-clause-none_unread
 returns-clause-none_unread g c =
     let now : State = c.args.self.now in
-    let s : IsState now = subst IsState c.self.view_is c.phase-standing.ensures.standing in
+    let s : IsState now = subst IsState c.self.view_is c.known.ensures.standing in
     let o : Option ℕ = lowest_unread now in
     let state : State → State = λ t. pulled_from t (lowest_unread t) in
     let give : State → Option (ℕ × Item) = λ t. pull_from t (lowest_unread t) in
@@ -68,7 +68,7 @@ returns-clause-none_unread g c =
 pub returns-clause-kept : goal.returns-clause-kept
 returns-clause-kept g c =
     let now : State = c.args.self.now in
-    let s : IsState now = subst IsState c.self.view_is c.phase-standing.ensures.standing in
+    let s : IsState now = subst IsState c.self.view_is c.known.ensures.standing in
     let o : Option ℕ = lowest_unread now in
     let state : State → State = λ t. pulled_from t (lowest_unread t) in
     let give : State → Option (ℕ × Item) = λ t. pull_from t (lowest_unread t) in
@@ -79,7 +79,7 @@ returns-clause-kept g c =
 pub returns-clause-step_item : goal.returns-clause-step_item
 returns-clause-step_item g c =
     let now : State = c.args.self.now in
-    let s : IsState now = subst IsState c.self.view_is c.phase-standing.ensures.standing in
+    let s : IsState now = subst IsState c.self.view_is c.known.ensures.standing in
     let o : Option ℕ = lowest_unread now in
     let state : State → State = λ t. pulled_from t (lowest_unread t) in
     let give : State → Option (ℕ × Item) = λ t. pull_from t (lowest_unread t) in
@@ -91,7 +91,7 @@ returns-clause-step_item g c =
 pub returns-clause-step_none : goal.returns-clause-step_none
 returns-clause-step_none g c =
     let now : State = c.args.self.now in
-    let s : IsState now = subst IsState c.self.view_is c.phase-standing.ensures.standing in
+    let s : IsState now = subst IsState c.self.view_is c.known.ensures.standing in
     let o : Option ℕ = lowest_unread now in
     let state : State → State = λ t. pulled_from t (lowest_unread t) in
     let give : State → Option (ℕ × Item) = λ t. pull_from t (lowest_unread t) in

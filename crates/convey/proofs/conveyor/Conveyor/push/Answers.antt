@@ -20,21 +20,21 @@ which Full = inr refl
 pub returns-clause-room : goal.returns-clause-room
 returns-clause-room g c =
     let now : State = c.args.self.now in
-    let s : IsState now = subst IsState c.self.view_is c.phase-standing.ensures.standing in
-    let cap : now.cap ≡ g.row.CAP = subst (λ (t : State). t.cap ≡ g.row.CAP) c.self.view_is c.phase-standing.ensures.cap in
+    let s : IsState now = subst IsState c.self.view_is c.known.ensures.standing in
+    let cap : now.cap ≡ g.row.CAP = subst (λ (t : State). t.cap ≡ g.row.CAP) c.self.view_is c.known.ensures.cap in
     λ r. subst (λ n. standing_toward now c.args.to < n) cap (subst (λ n. n < now.cap) (standing_index now c.args.to c.args.item s c.requires.to) (subst (λ (t : State). length (out_at t (coord t.dims c.args.to 1)).parcel.untaken < t.cap) c.self.view_is (c.push.ensures.room r)))
 
 pub returns-clause-full : goal.returns-clause-full
 returns-clause-full g c =
     let now : State = c.args.self.now in
-    let s : IsState now = subst IsState c.self.view_is c.phase-standing.ensures.standing in
-    let cap : now.cap ≡ g.row.CAP = subst (λ (t : State). t.cap ≡ g.row.CAP) c.self.view_is c.phase-standing.ensures.cap in
+    let s : IsState now = subst IsState c.self.view_is c.known.ensures.standing in
+    let cap : now.cap ≡ g.row.CAP = subst (λ (t : State). t.cap ≡ g.row.CAP) c.self.view_is c.known.ensures.cap in
     λ r. sym (standing_index now c.args.to c.args.item s c.requires.to) ∙ subst (λ (t : State). length (out_at t (coord t.dims c.args.to 1)).parcel.untaken ≡ t.cap) c.self.view_is (c.push.ensures.full r) ∙ cap
 
 pub returns-clause-kept : goal.returns-clause-kept
 returns-clause-kept g c =
     let now : State = c.args.self.now in
-    let s : IsState now = subst IsState c.self.view_is c.phase-standing.ensures.standing in
+    let s : IsState now = subst IsState c.self.view_is c.known.ensures.standing in
     let put : State → State = λ t. pushed_state t c.args.to c.args.item in
     let calm : State → State = λ t. record t { pulled = None } in
     λ sent got a. elim (which c.push.result) [
@@ -45,7 +45,7 @@ returns-clause-kept g c =
 pub returns-clause-step_accepted : goal.returns-clause-step_accepted
 returns-clause-step_accepted g c =
     let now : State = c.args.self.now in
-    let s : IsState now = subst IsState c.self.view_is c.phase-standing.ensures.standing in
+    let s : IsState now = subst IsState c.self.view_is c.known.ensures.standing in
     let put : State → State = λ t. pushed_state t c.args.to c.args.item in
     λ r sent got a. subst (λ t. IsOwnStep (Push c.args.to c.args.item) (part_of (buffers_of now) sent got) (part_of (buffers_of t) sent got)) (sym (c.push.ensures.accepted r ∙ ap put c.self.view_is))
     (pushed_step now c.args.to c.args.item s c.requires.to c.requires.not_done sent got a)

@@ -14,7 +14,7 @@ use Rattle.convey.proofs.conveyor.Conveyor.reset.Goals as goal
 pub returns-clause-kept : goal.returns-clause-kept
 returns-clause-kept g c =
     let now : State = c.args.self.now in
-    let s : IsState now = subst IsState c.self.view_is c.phase-standing.ensures.standing in
+    let s : IsState now = subst IsState c.self.view_is c.known.ensures.standing in
     let h : phase_of now ≡ Complete = subst (λ (t : State). t.phase ≡ Complete → phase_of t ≡ Complete) c.self.view_is c.self.invariant.complete c.requires.complete in
     let again : State → State = λ t. reset_state t Dormant in
     λ sent got a. subst (λ t. Agrees (buffers_of t) sent got) (sym (c.reset.ensures ∙ ap again c.self.view_is)) (resets_agree now s (is_over now s h) sent got a)
@@ -22,7 +22,7 @@ returns-clause-kept g c =
 pub returns-clause-step : goal.returns-clause-step
 returns-clause-step g c =
     let now : State = c.args.self.now in
-    let s : IsState now = subst IsState c.self.view_is c.phase-standing.ensures.standing in
+    let s : IsState now = subst IsState c.self.view_is c.known.ensures.standing in
     let h : phase_of now ≡ Complete = subst (λ (t : State). t.phase ≡ Complete → phase_of t ≡ Complete) c.self.view_is c.self.invariant.complete c.requires.complete in
     let again : State → State = λ t. reset_state t Dormant in
     λ sent got a. subst (λ t. IsOwnStep Reset (part_of (buffers_of now) sent got) (part_of (buffers_of t) sent got)) (sym (c.reset.ensures ∙ ap again c.self.view_is))

@@ -12,7 +12,7 @@ use Rattle.convey.proofs.conveyor.Conveyor.unpull.Goals as goal
 pub returns-clause-kept : goal.returns-clause-kept
 returns-clause-kept g c =
     let now : State = c.args.self.now in
-    let s : IsState now = subst IsState c.self.view_is c.phase-standing.ensures.standing in
+    let s : IsState now = subst IsState c.self.view_is c.known.ensures.standing in
     let back : State → State = λ t. unpulled t t.pulled in
     let e : c.unpull.new.self ≡ unpulled now now.pulled = c.unpull.ensures.state ∙ ap back c.self.view_is in
     let v : c.unpull.result ≡ is_some now.pulled = c.unpull.ensures.value ∙ ap (λ (t : State). is_some t.pulled) c.self.view_is in
@@ -21,7 +21,7 @@ returns-clause-kept g c =
 pub returns-clause-step_back : goal.returns-clause-step_back
 returns-clause-step_back g c =
     let now : State = c.args.self.now in
-    let s : IsState now = subst IsState c.self.view_is c.phase-standing.ensures.standing in
+    let s : IsState now = subst IsState c.self.view_is c.known.ensures.standing in
     let back : State → State = λ t. unpulled t t.pulled in
     let e : c.unpull.new.self ≡ unpulled now now.pulled = c.unpull.ensures.state ∙ ap back c.self.view_is in
     let v : c.unpull.result ≡ is_some now.pulled = c.unpull.ensures.value ∙ ap (λ (t : State). is_some t.pulled) c.self.view_is in

@@ -1,0 +1,12 @@
+use Rattle.std.proofs.Common.{◌≡◌, subst}
+use Rattle.hop_core.specs.declared.phase.Phase.TheVariants.{Complete}
+use Rattle.hop_core.specs.State.{State, phase_of}
+use Rattle.hop_core.specs.Standing.{IsState}
+use Rattle.convey.proofs.Completes.{is_sound}
+use Rattle.convey.proofs.conveyor.Conveyor.known.Goals as goal
+
+pub returns-clause-sound : goal.returns-clause-sound
+returns-clause-sound g c =
+    let now : State = c.args.self.now in
+    let s : IsState now = subst IsState c.self.view_is c.known.ensures.standing in
+    is_sound now s (subst (λ (t : State). t.phase ≡ Complete → phase_of t ≡ Complete) c.self.view_is c.self.invariant.complete)

@@ -16,9 +16,10 @@ use Rattle.hop_core.specs.State.{State}
 use Rattle.convey.specs.Buffers.{out_of, in_of, buffers_of}
 use Rattle.convey.specs.Agreement.{EndsLast, Ends, lasts_in, Agrees}
 use Rattle.convey.specs.Arrived.{HasArrived}
-use Rattle.convey.specs.Due.{Wants, IsOver, HasNext}
+use Rattle.convey.specs.Due.{Wants, IsOver}
 use Rattle.convey.specs.Rest.{IsBusy, HasBusy, IsAtRest, IsRestingSweep}
 use Rattle.convey.proofs.OneRank.{starting-own, ending-own}
+use Rattle.convey.proofs.Blocks.{HasNext, has_next}
 
 -- What the turn of rank r tells, in a sweep in which the bank's lists stay and no entry is relayed: old and new are its
 -- states before and after its advance.
@@ -295,7 +296,7 @@ module _ (dims : List ℕ) (cap slots e : ℕ) (old new : ℕ → State) (sent g
               | inr past ↦ (let none = ap length (t.read l below to (omega arith)) in omega (arith, none))
             ]);
         idle = t.idle;
-        stopped = t.stopped;
+        stopped = λ l below to before some. has_next dims r l (in_of (new r) l).parcel.untaken (IsBusy sent got) (λ x at. t.stopped l x below to before at) some;
         closing = t.closing;
       }
 

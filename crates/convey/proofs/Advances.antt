@@ -6,7 +6,8 @@ use Rattle.route_tensor.specs.Ends.{hop_at}
 use Rattle.route_tensor.specs.Tag.{IsFair}
 use Rattle.route_tensor.specs.Neighbour.{out_index, in_index}
 use Rattle.port_bank.specs.Logs.{Logs}
-use Rattle.port_bank.specs.Flow.{hop_link, belongs}
+use Rattle.port_bank.specs.Flow.{hop_link}
+use Rattle.route_tensor.specs.Pair.{belongs}
 use Rattle.port_bank.proofs.Closing.{law_nothing}
 use Rattle.port_bank.proofs.Fronts.{begins_nil}
 use Rattle.hop_core.specs.declared.phase.Phase.{Phase}

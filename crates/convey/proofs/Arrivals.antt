@@ -12,8 +12,9 @@ use Rattle.route_tensor.specs.Tag.{IsFair}
 use Rattle.route_tensor.specs.Link.{links}
 use Rattle.route_tensor.specs.Ends.{hop_at, sender_at, reader_at}
 use Rattle.port_bank.specs.Logs.{Logs, lasts, segment, added}
-use Rattle.port_bank.specs.Flow.{hop_link, belongs, flow, Begins}
-use Rattle.port_bank.specs.Relay.{Relays}
+use Rattle.port_bank.specs.Flow.{hop_link, flow}
+use Rattle.route_tensor.specs.Pair.{belongs, PassesThrough}
+use Rattle.list_laws.specs.Lists.{Begins}
 use Rattle.port_bank.proofs.Kept.{added-here, added-other, added_grows, between, law_got_more}
 use Rattle.convey.specs.Buffers.{Buffers}
 use Rattle.convey.specs.Agreement.{Ends, lasts_in, InAgrees, items_among, with_back, Agrees}
@@ -73,7 +74,7 @@ module _ (b : Buffers) (unread : ℕ → List Entry) (ended : ℕ → Bool) (sen
   had_none : (x y h : ℕ) → hop_link b.dims x y h ≡ m → items_among (belongs b.dims x y h) (b.unread (hop_link b.dims x y h)) ≡ []
   had_none x y h same = ap (items_among (belongs b.dims x y h)) (ap b.unread same ∙ empty)
 
-  got_pairs : (x y h : ℕ) → Relays b.dims b.rank x y h → flow b.dims (added got m q) x y h b.epoch
+  got_pairs : (x y h : ℕ) → PassesThrough b.dims b.rank x y h → flow b.dims (added got m q) x y h b.epoch
       ≡ flow b.dims sent x y (h + 1) b.epoch ++ (items_among (belongs b.dims x y (h + 1)) (b.waiting (hop_link b.dims x y (h + 1))) ++ items_among (belongs b.dims x y h) (unread (hop_link b.dims x y h)))
   got_pairs x y h pair =
       let f : List Item = flow b.dims sent x y (h + 1) b.epoch in
@@ -162,7 +163,7 @@ module _ (b : Buffers) (unread : ℕ → List Entry) (ended : ℕ → Bool) (sen
 pub record Relayed (b : Buffers) (waiting unread : ℕ → List Entry) : Type 0 where
   pub fair_out : (l : ℕ) → l < links b.dims → sender_at b.dims l ≡ b.rank → All (λ e. IsFair b.dims (hop_at b.dims l) e.tag) (waiting l)
   pub fair_in : (l : ℕ) → l < links b.dims → reader_at b.dims l ≡ b.rank → All (λ e. IsFair b.dims (hop_at b.dims l) e.tag) (with_back b.latest l (unread l))
-  pub pairs : (x y h : ℕ) → Relays b.dims b.rank x y h → items_among (belongs b.dims x y (h + 1)) (waiting (hop_link b.dims x y (h + 1))) ++ items_among (belongs b.dims x y h) (unread (hop_link b.dims x y h))
+  pub pairs : (x y h : ℕ) → PassesThrough b.dims b.rank x y h → items_among (belongs b.dims x y (h + 1)) (waiting (hop_link b.dims x y (h + 1))) ++ items_among (belongs b.dims x y h) (unread (hop_link b.dims x y h))
       ≡ items_among (belongs b.dims x y (h + 1)) (b.waiting (hop_link b.dims x y (h + 1))) ++ items_among (belongs b.dims x y h) (b.unread (hop_link b.dims x y h))
   pub first_stay : (l : ℕ) → l < links b.dims → sender_at b.dims l ≡ b.rank → hop_at b.dims l ≡ 1 → waiting l ≡ b.waiting l
   pub last_stay : (l : ℕ) → l < links b.dims → reader_at b.dims l ≡ b.rank → hop_at b.dims l ≡ length b.dims → unread l ≡ b.unread l

@@ -14,7 +14,7 @@ use Rattle.hop_core.specs.State.{State}
 use Rattle.hop_core.specs.Standing.{IsState}
 use Rattle.hop_core.specs.Relay.{IsStopped, AddsToHop, TakesFromHop}
 use Rattle.convey.specs.Buffers.{out_of, in_of}
-use Rattle.convey.specs.Due.{next_link, NextIs, HasNext, IsBlocked}
+use Rattle.convey.specs.Due.{next_link, NextIs, IsBlocked}
 use Rattle.convey.proofs.States.{in_number, out_number, is_in}
 use Rattle.convey.proofs.Ways.{to_below, to_sender}
 
@@ -31,6 +31,15 @@ first_has P (x ∷ xs) e a at = subst P (one_entry x e at) (a 0 x (omega arith))
 -- another property of the next link
 pub next_map : (dims : List ℕ) (rank l : ℕ) (tag : Tag) (P Q : ℕ → Type 0) → ((m : ℕ) → m < links dims → sender_at dims m ≡ rank → hop_at dims m ≡ hop_at dims l + 1 → P m → Q m) → NextIs dims rank l tag P → NextIs dims rank l tag Q
 next_map dims rank l tag P Q f n = record { below = n.below; sender = n.sender; hop = n.hop; holds = f (next_link dims rank (hop_at dims l) tag) n.below n.sender n.hop n.holds }
+
+-- of a rank's links out on the hop after that of link l there is one that P holds of.
+-- On the grid 2x2, of a link of hop 1, it is a link of hop 2.
+pub record HasNext (dims : List ℕ) (rank l : ℕ) (P : ℕ → Type 0) : Type 0 where
+  pub link : ℕ
+  pub below : link < links dims
+  pub sender : sender_at dims link ≡ rank
+  pub hop : hop_at dims link ≡ hop_at dims l + 1
+  pub holds : P link
 
 -- where each first entry has a next link with a property, some link has it
 pub has_next : (dims : List ℕ) (rank l : ℕ) (xs : List Entry) (P : ℕ → Type 0) → ((e : Entry) → slice_get xs 0 ≡ Some e → NextIs dims rank l e.tag P) → xs ≢ [] → HasNext dims rank l P

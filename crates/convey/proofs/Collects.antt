@@ -9,7 +9,7 @@ use Rattle.route_tensor.specs.Tag.{IsFair}
 use Rattle.route_tensor.specs.Ends.{hop_at, sender_at, reader_at}
 use Rattle.route_tensor.specs.Neighbour.{in_index}
 use Rattle.port_bank.specs.Logs.{Logs, added}
-use Rattle.port_bank.specs.Flow.{Begins}
+use Rattle.list_laws.specs.Lists.{Begins}
 use Rattle.port_bank.proofs.Fronts.{begins_refl}
 use Rattle.port_bank.proofs.Kept.{added_grows}
 use Rattle.hop_core.specs.declared.lent.Lent.{Lent}

@@ -8,8 +8,9 @@ use Rattle.route_tensor.specs.Grid.{ranks, place}
 use Rattle.route_tensor.proofs.Coordinates.{place_below}
 use Rattle.route_tensor.specs.Ends.{sender_at, reader_at}
 use Rattle.port_bank.specs.Logs.{Logs, lasts, starting_at, ending_at, starting_elsewhere, ending_elsewhere}
-use Rattle.port_bank.specs.Flow.{hop_link, flow, Begins}
-use Rattle.port_bank.specs.Relay.{Relays}
+use Rattle.port_bank.specs.Flow.{hop_link, flow}
+use Rattle.list_laws.specs.Lists.{Begins}
+use Rattle.route_tensor.specs.Pair.{PassesThrough}
 use Rattle.list_laws.proofs.Lists.{get_before, get_last}
 use Rattle.port_bank.proofs.Fronts.{begins_trans}
 use Rattle.port_bank.proofs.Segments.{lasts_begins}
@@ -64,7 +65,7 @@ module _ (dims : List ℕ) (cap slots : ℕ) (all : ℕ → Buffers) (sent got :
       ((t.links_keep (hop_link dims s d (suc (suc n))) (link-on_route dims s d (suc (suc n)) t.grid from to (omega arith) last)).begins) in
       let here : ℕ = place dims s d (suc n) in
       let below : here < ranks dims = place_below dims s d (suc n) t.grid.positive from to in
-      let pair : Relays dims here s d (suc n) = record { sender = from; destination = to; first_hop = omega arith; last_hop = omega arith; here = refl } in
+      let pair : PassesThrough dims here s d (suc n) = record { sender = from; destination = to; first_hop = omega arith; last_hop = omega arith; here = refl } in
       let w = between dims here s d (suc n) t.grid pair in
       let next : suc n + 1 ≡ suc (suc n) = omega arith in
       let posted : e < lasts (sent (hop_link dims s d (suc n + 1))) = subst (λ m. e < lasts (sent (hop_link dims s d m))) (sym next) (omega (arith, h, b)) in

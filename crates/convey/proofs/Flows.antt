@@ -8,7 +8,8 @@ use Rattle.std.proofs.lemmas.List.Concat.{flat_map-append}
 use Rattle.bale_types.specs.declared.item.Entry.{Entry}
 use Rattle.item_buffer.specs.Contents.{Shipped}
 use Rattle.port_bank.specs.Logs.{Logs, lasts, segment, added}
-use Rattle.port_bank.specs.Flow.{hop_link, belongs, items_of, flow}
+use Rattle.port_bank.specs.Flow.{hop_link, items_of, flow}
+use Rattle.route_tensor.specs.Pair.{belongs}
 use Rattle.port_bank.proofs.Segments.{lasts-append}
 use Rattle.port_bank.proofs.Kept.{added-here, added-other, flow_at}
 use Rattle.convey.specs.Agreement.{EndsLast, items_among}

@@ -10,7 +10,8 @@ use Rattle.route_tensor.specs.Link.{links}
 use Rattle.route_tensor.specs.Ends.{hop_at, sender_at, reader_at}
 use Rattle.route_tensor.specs.Neighbour.{out_index, in_index}
 use Rattle.port_bank.specs.Logs.{Logs}
-use Rattle.port_bank.specs.Flow.{hop_link, Begins}
+use Rattle.port_bank.specs.Flow.{hop_link}
+use Rattle.list_laws.specs.Lists.{Begins}
 use Rattle.port_bank.proofs.Fronts.{begins_refl}
 use Rattle.bale_types.specs.Stream.{Rose}
 use Rattle.hop_core.specs.declared.phase.Phase.TheVariants.{Complete}

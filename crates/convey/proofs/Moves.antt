@@ -12,8 +12,8 @@ use Rattle.route_tensor.specs.Tag.{IsFair}
 use Rattle.route_tensor.specs.Link.{links}
 use Rattle.route_tensor.specs.Ends.{hop_at, sender_at, reader_at}
 use Rattle.port_bank.specs.Logs.{Logs, lasts, segment, added}
-use Rattle.port_bank.specs.Flow.{hop_link, belongs, flow}
-use Rattle.port_bank.specs.Relay.{Relays}
+use Rattle.port_bank.specs.Flow.{hop_link, flow}
+use Rattle.route_tensor.specs.Pair.{belongs, PassesThrough}
 use Rattle.port_bank.proofs.Fronts.{begins_trans}
 use Rattle.port_bank.proofs.Kept.{added-here, added-other, added_grows, between}
 use Rattle.convey.specs.Buffers.{Buffers}
@@ -91,7 +91,7 @@ module _ (b : Buffers) (waiting : ℕ → List Entry) (closed : ℕ → Bool) (s
             (subst (λ log. OutAgrees b.dims b.epoch m (b.waiting m) (b.closed m) log) (sym (added-other sent l m p other)) (a.outs m h from)))
       ]
 
-  sent_pairs : (x y h : ℕ) → Relays b.dims b.rank x y h → flow b.dims got x y h b.epoch
+  sent_pairs : (x y h : ℕ) → PassesThrough b.dims b.rank x y h → flow b.dims got x y h b.epoch
       ≡ flow b.dims (added sent l p) x y (h + 1) b.epoch ++ (items_among (belongs b.dims x y (h + 1)) (waiting (hop_link b.dims x y (h + 1))) ++ items_among (belongs b.dims x y h) (b.unread (hop_link b.dims x y h)))
   sent_pairs x y h pair =
       let keep = belongs b.dims x y (h + 1) in

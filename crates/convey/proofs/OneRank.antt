@@ -8,7 +8,9 @@ use Rattle.route_tensor.specs.Link.{links}
 use Rattle.route_tensor.proofs.Places.{place-zero, place-all}
 use Rattle.route_tensor.specs.Ends.{hop_at, sender_at, reader_at}
 use Rattle.port_bank.specs.Logs.{Logs, lasts, starting_at, ending_at}
-use Rattle.port_bank.specs.Flow.{hop_link, belongs, flow, Begins}
+use Rattle.port_bank.specs.Flow.{hop_link, flow}
+use Rattle.route_tensor.specs.Pair.{belongs}
+use Rattle.list_laws.specs.Lists.{Begins}
 use Rattle.port_bank.specs.Relay.{RelayLaw}
 use Rattle.port_bank.proofs.Fronts.{begins_more, begins_same}
 use Rattle.port_bank.proofs.Kept.{flow_at, law_own}

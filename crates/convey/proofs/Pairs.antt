@@ -7,7 +7,8 @@ use Rattle.route_tensor.specs.Tag.{IsFair, tag_at, tag_rank, sender_of, destinat
 use Rattle.route_tensor.proofs.Places.{place-zero, place-all}
 use Rattle.route_tensor.proofs.Tags.{tag_rank_below, destination-tag_at}
 use Rattle.route_tensor.specs.Ends.{sender_at, reader_at}
-use Rattle.port_bank.specs.Flow.{hop_link, belongs}
+use Rattle.port_bank.specs.Flow.{hop_link}
+use Rattle.route_tensor.specs.Pair.{belongs}
 use Rattle.port_bank.proofs.Routes.{sender-on_route, reader-on_route}
 
 -- an entry is tested by the ends of its link

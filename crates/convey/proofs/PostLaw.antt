@@ -11,8 +11,10 @@ use Rattle.route_tensor.specs.Tag.{IsFair}
 use Rattle.route_tensor.specs.Link.{links}
 use Rattle.route_tensor.specs.Ends.{hop_at, sender_at, reader_at}
 use Rattle.port_bank.specs.Logs.{Logs, lasts, added}
-use Rattle.port_bank.specs.Flow.{hop_link, belongs, flow, Begins}
-use Rattle.port_bank.specs.Relay.{HasFairTags, Relays, RelayLaw}
+use Rattle.port_bank.specs.Flow.{hop_link, flow}
+use Rattle.route_tensor.specs.Pair.{belongs, PassesThrough}
+use Rattle.list_laws.specs.Lists.{Begins}
+use Rattle.port_bank.specs.Relay.{HasFairTags, RelayLaw}
 use Rattle.port_bank.proofs.Segments.{lasts-append}
 use Rattle.port_bank.proofs.Kept.{added-here, added-other, between}
 use Rattle.convey.specs.Buffers.{Buffers}
@@ -60,14 +62,14 @@ module _ (b : Buffers) (sent got : Logs) (l : ℕ) (p : Shipped) (g : IsGrid b.d
       ∙ ap (λ m. flow b.dims sent s d (h + 1) b.epoch ++ items_among keep (b.waiting m)) (sym same))
 
   -- all that came of the pair in this epoch
-  pub came : (s d h : ℕ) → Relays b.dims b.rank s d h → hop_link b.dims s d (h + 1) ≡ l
+  pub came : (s d h : ℕ) → PassesThrough b.dims b.rank s d h → hop_link b.dims s d (h + 1) ≡ l
       → flow b.dims got s d h b.epoch ≡ flow b.dims (added sent l p) s d (h + 1) b.epoch ++ items_among (belongs b.dims s d h) (b.unread (hop_link b.dims s d h))
   came s d h pair same =
       agrees.pairs s d h pair
       ∙ (sym (append_assoc (flow b.dims sent s d (h + 1) b.epoch) (items_among (belongs b.dims s d (h + 1)) (b.waiting (hop_link b.dims s d (h + 1)))) (items_among (belongs b.dims s d h) (b.unread (hop_link b.dims s d h))))
       ∙ ap (λ u. u ++ items_among (belongs b.dims s d h) (b.unread (hop_link b.dims s d h))) (sym (with_waiting s d h same)))
 
-  begins_all : (s d h e : ℕ) → Relays b.dims b.rank s d h → Begins (flow b.dims (added sent l p) s d (h + 1) e) (flow b.dims got s d h e)
+  begins_all : (s d h e : ℕ) → PassesThrough b.dims b.rank s d h → Begins (flow b.dims (added sent l p) s d (h + 1) e) (flow b.dims got s d h e)
   begins_all s d h e pair =
       elim (cases_eq e b.epoch) [
         | inl now ↦ elim (cases_eq (hop_link b.dims s d (h + 1)) l) [
@@ -100,7 +102,7 @@ module _ (b : Buffers) (sent got : Logs) (l : ℕ) (p : Shipped) (g : IsGrid b.d
         | inr other ↦ agrees.law.closed m n e x y from to next (subst (λ log. e < lasts log) (added-other sent l m p other) h)
       ]
 
-  whole_all : (s d h e : ℕ) → Relays b.dims b.rank s d h → e < lasts (added sent l p (hop_link b.dims s d (h + 1)))
+  whole_all : (s d h e : ℕ) → PassesThrough b.dims b.rank s d h → e < lasts (added sent l p (hop_link b.dims s d (h + 1)))
       → flow b.dims (added sent l p) s d (h + 1) e ≡ flow b.dims got s d h e
   whole_all s d h e pair k =
       elim (cases_eq (hop_link b.dims s d (h + 1)) l) [

@@ -9,7 +9,7 @@ use Rattle.route_tensor.specs.Link.{links}
 use Rattle.route_tensor.specs.Ends.{hop_at, sender_at}
 use Rattle.route_tensor.specs.Neighbour.{out_index}
 use Rattle.port_bank.specs.Logs.{Logs, lasts, added}
-use Rattle.port_bank.specs.Flow.{Begins}
+use Rattle.list_laws.specs.Lists.{Begins}
 use Rattle.port_bank.specs.Relay.{RelayLaw}
 use Rattle.port_bank.specs.Shapes.{IsFilled, IsConveyorShape}
 use Rattle.port_bank.proofs.Fronts.{begins_refl}

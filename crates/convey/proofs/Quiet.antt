@@ -9,16 +9,17 @@ use Rattle.route_tensor.specs.Link.{links}
 use Rattle.route_tensor.specs.Ends.{hop_at, sender_at, reader_at}
 use Rattle.route_tensor.proofs.Ends.{number_ends}
 use Rattle.port_bank.specs.Logs.{Logs, lasts, starting_at, ending_at}
-use Rattle.port_bank.specs.Flow.{Begins}
+use Rattle.list_laws.specs.Lists.{Begins}
 use Rattle.port_bank.proofs.Segments.{lasts_begins, lasts-append, lasts_first}
 use Rattle.hop_core.specs.Link.{In, is_wanted}
 use Rattle.hop_core.specs.State.{State}
 use Rattle.convey.specs.Buffers.{out_of, in_of, buffers_of}
 use Rattle.convey.specs.Agreement.{EndsLast, Ends, lasts_in, Agrees}
 use Rattle.convey.specs.Arrived.{HasArrived}
-use Rattle.convey.specs.Due.{Wants, IsOver, HasNext}
+use Rattle.convey.specs.Due.{Wants, IsOver}
 use Rattle.convey.specs.Rest.{IsBusy, HasBusy, IsAtRest, IsRestingSweep}
 use Rattle.convey.proofs.OneRank.{starting-own, ending-own}
+use Rattle.convey.proofs.Blocks.{HasNext, has_next}
 
 -- What the turn of rank r tells, in a sweep in which the bank's lists stay and no entry is relayed: old and new are its
 -- states before and after its advance.
@@ -295,7 +296,7 @@ module _ (dims : List ℕ) (cap slots e : ℕ) (old new : ℕ → State) (sent g
               | inr past ↦ (let none = ap length (t.read l below to (omega arith)) in omega (arith, none))
             ]);
         idle = t.idle;
-        stopped = t.stopped;
+        stopped = λ l below to before some. has_next dims r l (in_of (new r) l).parcel.untaken (IsBusy sent got) (λ x at. t.stopped l x below to before at) some;
         closing = t.closing;
       }
 

@@ -10,15 +10,16 @@ use Rattle.route_tensor.specs.Ends.{hop_at, sender_at, reader_at}
 use Rattle.route_tensor.specs.Neighbour.{out_index, in_index}
 use Rattle.route_tensor.proofs.Coordinates.{coord-place_low, coord-place_high}
 use Rattle.port_bank.specs.Logs.{Logs}
-use Rattle.port_bank.specs.Flow.{hop_link, belongs, Begins}
-use Rattle.port_bank.specs.Relay.{Relays}
+use Rattle.port_bank.specs.Flow.{hop_link}
+use Rattle.route_tensor.specs.Pair.{belongs, PassesThrough}
+use Rattle.list_laws.specs.Lists.{Begins}
 use Rattle.port_bank.proofs.Fronts.{begins_refl, begins_trans}
 use Rattle.port_bank.proofs.Kept.{between}
 use Rattle.port_bank.proofs.Routes.{hop-on_route, sender-on_route, reader-on_route}
 use Rattle.hop_core.specs.Link.{Out, In, no_out, no_in}
 use Rattle.hop_core.specs.State.{State}
 use Rattle.hop_core.specs.Standing.{IsState}
-use Rattle.hop_core.specs.Relay.{PassesThrough, way_in, way_out, held, AddsToHop, TakesFromHop}
+use Rattle.hop_core.specs.Relay.{way_in, way_out, held, AddsToHop, TakesFromHop}
 use Rattle.convey.specs.Buffers.{Buffers, out_of, in_of, buffers_of}
 use Rattle.convey.specs.Agreement.{Ends, items_among, Agrees}
 use Rattle.convey.specs.Parts.{part_of}
@@ -78,7 +79,7 @@ module _ (st : State) (outs : List Out) (ins : List In) (h : ℕ) (s : IsState s
   unfolding unread
   in_stays l k ne = ap (λ x. x.parcel.untaken) (takes.others (in_index st.dims l) (λ e. ne (sym (in_number st.dims l s.grid k).hop ∙ e)))
 
-  here_pairs : (x y : ℕ) → Relays st.dims st.rank x y h
+  here_pairs : (x y : ℕ) → PassesThrough st.dims st.rank x y h
       → items_among (belongs st.dims x y (h + 1)) (waiting (hop_link st.dims x y (h + 1))) ++ items_among (belongs st.dims x y h) (unread (hop_link st.dims x y h))
       ≡ items_among (belongs st.dims x y (h + 1)) (out_of st (hop_link st.dims x y (h + 1))).parcel.untaken ++ items_among (belongs st.dims x y h) (in_of st (hop_link st.dims x y h)).parcel.untaken
   unfolding waiting unread
@@ -88,16 +89,16 @@ module _ (st : State) (outs : List Out) (ins : List In) (h : ℕ) (s : IsState s
       let both : List Out → List In → ℕ → ℕ → List Item = λ os is a b.
       items_among (belongs st.dims x y (h + 1)) (slice_index_or os a no_out).parcel.untaken ++ items_among (belongs st.dims x y h) (slice_index_or is b no_in).parcel.untaken in
       (λ j. both outs ins (o j) (i j))
-      ∙ (keeps x y (record { sender = pair.sender; destination = pair.destination; first_hop = pair.first_hop; last_hop = pair.last_hop; here = pair.here })
+      ∙ (keeps x y pair
       ∙ sym (λ j. both st.outs st.ins (o j) (i j)))
 
-  all_pairs : (x y k : ℕ) → Relays st.dims st.rank x y k
+  all_pairs : (x y k : ℕ) → PassesThrough st.dims st.rank x y k
       → items_among (belongs st.dims x y (k + 1)) (waiting (hop_link st.dims x y (k + 1))) ++ items_among (belongs st.dims x y k) (unread (hop_link st.dims x y k))
       ≡ items_among (belongs st.dims x y (k + 1)) (out_of st (hop_link st.dims x y (k + 1))).parcel.untaken ++ items_among (belongs st.dims x y k) (in_of st (hop_link st.dims x y k)).parcel.untaken
   all_pairs x y k pair =
       elim (cases_eq h k) [
         | inl same ↦
-            subst (λ n. Relays st.dims st.rank x y n
+            subst (λ n. PassesThrough st.dims st.rank x y n
             → items_among (belongs st.dims x y (n + 1)) (waiting (hop_link st.dims x y (n + 1))) ++ items_among (belongs st.dims x y n) (unread (hop_link st.dims x y n))
             ≡ items_among (belongs st.dims x y (n + 1)) (out_of st (hop_link st.dims x y (n + 1))).parcel.untaken ++ items_among (belongs st.dims x y n) (in_of st (hop_link st.dims x y n)).parcel.untaken) same (here_pairs x y) pair
         | inr other ↦

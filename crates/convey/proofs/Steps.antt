@@ -14,8 +14,8 @@ use Rattle.route_tensor.specs.Link.{links}
 use Rattle.route_tensor.proofs.Tags.{tag_at_fair}
 use Rattle.route_tensor.specs.Ends.{hop_at, sender_at, reader_at}
 use Rattle.port_bank.specs.Logs.{Logs, lasts, segment}
-use Rattle.port_bank.specs.Flow.{hop_link, belongs, items_of, flow}
-use Rattle.port_bank.specs.Relay.{Relays}
+use Rattle.port_bank.specs.Flow.{hop_link, items_of, flow}
+use Rattle.route_tensor.specs.Pair.{belongs, PassesThrough}
 use Rattle.port_bank.proofs.Kept.{between}
 use Rattle.port_bank.proofs.Routes.{hop-on_route}
 use Rattle.port_bank.specs.Machine.{IsOwnStep, taken_back}
@@ -70,7 +70,7 @@ module _ (b : Buffers) (waiting : ℕ → List Entry) (sent got : Logs) (to : �
         | inr other ↦ subst (λ w. OutAgrees b.dims b.epoch m w (b.closed m) (sent m)) (sym (p.waits m h from other)) (a.outs m h from)
       ]
 
-  later_hop : (x y h : ℕ) → Relays b.dims b.rank x y h → hop_link b.dims x y (h + 1) ≢ toward
+  later_hop : (x y h : ℕ) → PassesThrough b.dims b.rank x y h → hop_link b.dims x y (h + 1) ≢ toward
   unfolding toward
   later_hop x y h pair same =
       let f = first_link b.dims b.rank to g rank below in
@@ -166,14 +166,14 @@ module _ (b : Buffers) (unread : ℕ → List Entry) (sent got : Logs) (m s : �
         | inr other ↦ ap (λ c. cond c (e ∷ unread l) (unread l)) (ne_eqb m l (λ q. other (sym q))) ∙ p.lies l h to other
       ]
 
-  earlier_hop : (x y h : ℕ) → Relays b.dims b.rank x y h → hop_link b.dims x y h ≢ m
+  earlier_hop : (x y h : ℕ) → PassesThrough b.dims b.rank x y h → hop_link b.dims x y h ≢ m
   earlier_hop x y h pair same =
       let n : hop_at b.dims (hop_link b.dims x y h) ≡ h = hop-on_route b.dims x y h g pair.sender pair.destination pair.first_hop (let q = pair.last_hop in omega arith) in
       let k : hop_at b.dims (hop_link b.dims x y h) ≡ length b.dims = ap (hop_at b.dims) same ∙ at.hop in
       let q = pair.last_hop in
       omega arith
 
-  pull_pairs : (x y h : ℕ) → Relays b.dims b.rank x y h → flow b.dims got x y h b.epoch
+  pull_pairs : (x y h : ℕ) → PassesThrough b.dims b.rank x y h → flow b.dims got x y h b.epoch
       ≡ flow b.dims sent x y (h + 1) b.epoch ++ (items_among (belongs b.dims x y (h + 1)) (b.waiting (hop_link b.dims x y (h + 1))) ++ items_among (belongs b.dims x y h) (unread (hop_link b.dims x y h)))
   pull_pairs x y h pair =
       let w = between b.dims b.rank x y h g pair in
@@ -296,7 +296,7 @@ module _ (b : Buffers) (unread : ℕ → List Entry) (sent got : Logs) (m s : �
         | inr other ↦ ap (λ c. cond c (e ∷ b.unread l) (b.unread l)) (ne_eqb m l (λ q. other (sym q))) ∙ sym (p.lies l h to other)
       ]
 
-  not_last : (x y h : ℕ) → Relays b.dims b.rank x y h → hop_link b.dims x y h ≢ m
+  not_last : (x y h : ℕ) → PassesThrough b.dims b.rank x y h → hop_link b.dims x y h ≢ m
   not_last x y h pair same =
       let n : hop_at b.dims (hop_link b.dims x y h) ≡ h = hop-on_route b.dims x y h g pair.sender pair.destination pair.first_hop (let q = pair.last_hop in omega arith) in
       let k : hop_at b.dims (hop_link b.dims x y h) ≡ length b.dims = ap (hop_at b.dims) same ∙ at.hop in

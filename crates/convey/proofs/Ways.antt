@@ -14,7 +14,7 @@ use Rattle.route_tensor.proofs.Links.{link_below}
 use Rattle.route_tensor.proofs.Ends.{sender_at-link, reader_at-link}
 use Rattle.route_tensor.proofs.Neighbours.{to_neighbour, from_neighbour, out_index-link_to, in_index-link_from, out_stands, in_stands}
 use Rattle.port_bank.specs.Logs.{Logs}
-use Rattle.port_bank.specs.Flow.{Begins}
+use Rattle.list_laws.specs.Lists.{Begins}
 use Rattle.port_bank.proofs.Fronts.{begins_refl, begins_trans}
 use Rattle.port_bank.specs.Shapes.{IsFilled, IsConveyorShape}
 use Rattle.hop_core.specs.Link.{is_due, is_wanted}

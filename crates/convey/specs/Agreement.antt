@@ -8,8 +8,10 @@ use Rattle.route_tensor.specs.Link.{links}
 use Rattle.route_tensor.specs.Tag.{IsFair}
 use Rattle.route_tensor.specs.Ends.{hop_at, sender_at, reader_at}
 use Rattle.port_bank.specs.Logs.{Logs, lasts, segment}
-use Rattle.port_bank.specs.Flow.{hop_link, belongs, flow, Begins}
-use Rattle.port_bank.specs.Relay.{Relays, RelayLaw}
+use Rattle.port_bank.specs.Flow.{hop_link, flow}
+use Rattle.route_tensor.specs.Pair.{belongs, PassesThrough}
+use Rattle.list_laws.specs.Lists.{Begins}
+use Rattle.port_bank.specs.Relay.{RelayLaw}
 use Rattle.convey.specs.Buffers.{Buffers}
 
 -- A log ends with a parcel marked last.
@@ -62,7 +64,7 @@ pub record Agrees (b : Buffers) (sent got : Logs) : Type 0 where
   pub outs : (l : ℕ) → l < links b.dims → sender_at b.dims l ≡ b.rank → OutAgrees b.dims b.epoch l (b.waiting l) (b.closed l) (sent l)
   pub ins : (l : ℕ) → l < links b.dims → reader_at b.dims l ≡ b.rank → InAgrees b.dims b.epoch l (with_back b.latest l (b.unread l)) (b.ended l) (got l)
   pub law : RelayLaw b.dims b.rank sent got
-  pub pairs : (s d h : ℕ) → Relays b.dims b.rank s d h → flow b.dims got s d h b.epoch
+  pub pairs : (s d h : ℕ) → PassesThrough b.dims b.rank s d h → flow b.dims got s d h b.epoch
       ≡ flow b.dims sent s d (h + 1) b.epoch ++ (items_among (belongs b.dims s d (h + 1)) (b.waiting (hop_link b.dims s d (h + 1))) ++ items_among (belongs b.dims s d h) (b.unread (hop_link b.dims s d h)))
   pub arrived : (l : ℕ) → l < links b.dims → reader_at b.dims l ≡ b.rank → hop_at b.dims l ≡ length b.dims
       → Ends (flat_map (λ p. p.entries) (segment b.epoch (got l))) (with_back b.latest l (b.unread l))

@@ -39,15 +39,6 @@ pub record NextIs (dims : List ℕ) (rank l : ℕ) (tag : Tag) (P : ℕ → Type
   pub hop : hop_at dims (next_link dims rank (hop_at dims l) tag) ≡ hop_at dims l + 1
   pub holds : P (next_link dims rank (hop_at dims l) tag)
 
--- Of a rank's links out on the hop after that of link l there is one that P holds of.
--- On the grid 2x2, of a link of hop 1, it is a link of hop 2.
-pub record HasNext (dims : List ℕ) (rank l : ℕ) (P : ℕ → Type 0) : Type 0 where
-  pub link : ℕ
-  pub below : link < links dims
-  pub sender : sender_at dims link ≡ rank
-  pub hop : hop_at dims link ≡ hop_at dims l + 1
-  pub holds : P link
-
 -- What is left in the inbox of a link in can't be passed on: the open parcel of its first entry's next link is full.
 abbrev pub IsBlocked : State → ℕ → Type 0
 IsBlocked st l = (e : Entry) → slice_get (in_of st l).parcel.untaken 0 ≡ Some e

@@ -6,7 +6,8 @@ use Rattle.route_tensor.specs.Grid.{ranks}
 use Rattle.route_tensor.specs.Tag.{sender_of}
 use Rattle.route_tensor.specs.Ends.{sender_at}
 use Rattle.port_bank.specs.Logs.{Logs}
-use Rattle.port_bank.specs.Flow.{hop_link, belongs, flow}
+use Rattle.port_bank.specs.Flow.{hop_link, flow}
+use Rattle.route_tensor.specs.Pair.{belongs}
 use Rattle.port_bank.specs.Machine.{Part, for_ranks}
 use Rattle.convey.specs.Buffers.{Buffers}
 use Rattle.convey.specs.Agreement.{items_among}

@@ -1,5 +1,6 @@
 -- The rest law: where a sweep over the conveyors of all ranks moved nothing, the least epoch is over.
-use Rattle.std.specs.Prelude.{◌≡◌, ◌≢◌, ◌⊎◌, ℕ, ◌+◌, ◌<◌, ◌≤◌, true, false, List, [], length}
+use Rattle.std.specs.Prelude.{◌≡◌, ◌⊎◌, ℕ, ◌<◌, ◌≤◌, true, false, List, [], length, slice_get, Some}
+use Rattle.bale_types.specs.declared.item.Entry.{Entry}
 use Rattle.route_tensor.specs.Grid.{ranks, IsGrid}
 use Rattle.route_tensor.specs.Link.{links}
 use Rattle.route_tensor.specs.Ends.{hop_at, sender_at, reader_at}
@@ -10,7 +11,7 @@ use Rattle.convey.specs.Buffers.{buffers_of, out_of, in_of}
 use Rattle.convey.specs.Agreement.{Ends}
 use Rattle.convey.specs.Conveyors.{AgreesWith}
 use Rattle.convey.specs.Arrived.{HasArrived}
-use Rattle.convey.specs.Due.{Wants, IsOver, HasNext}
+use Rattle.convey.specs.Due.{Wants, IsOver, NextIs}
 
 -- A link with parcels on their way: posted, and not collected.
 abbrev pub IsBusy : Logs → Logs → ℕ → Type 0
@@ -29,7 +30,7 @@ pub record HasBusy (dims : List ℕ) (r : ℕ) (sent got : Logs) : Type 0 where
 -- read: all that came for it was pulled.
 -- lies, kept: of its inboxes, none lost an entry but by passing it on, and none below the last hop passed one on.
 -- idle: where an inbox wanted a parcel, all that was posted there was collected.
--- stopped: where an entry is left in an inbox below the last hop, a link of the next hop is busy.
+-- stopped: where entries are left in an inbox below the last hop, the next link of the first one is busy.
 -- closing: a link out that may be closed, and isn't, is busy.
 pub record IsAtRest (dims : List ℕ) (r : ℕ) (old new : State) (sent got : Logs) : Type 0 where
   pub same_dims : new.dims ≡ old.dims
@@ -41,7 +42,8 @@ pub record IsAtRest (dims : List ℕ) (r : ℕ) (old new : State) (sent got : Lo
   pub lies : (l : ℕ) → l < links dims → reader_at dims l ≡ r → Ends (in_of old l).parcel.untaken (in_of new l).parcel.untaken
   pub kept : (l : ℕ) → l < links dims → reader_at dims l ≡ r → hop_at dims l < length dims → length (in_of old l).parcel.untaken ≤ length (in_of new l).parcel.untaken
   pub idle : (l : ℕ) → l < links dims → reader_at dims l ≡ r → Wants old l → length (got l) ≡ length (sent l)
-  pub stopped : (l : ℕ) → l < links dims → reader_at dims l ≡ r → hop_at dims l < length dims → (in_of new l).parcel.untaken ≢ [] → HasNext dims r l (IsBusy sent got)
+  pub stopped : (l : ℕ) (e : Entry) → l < links dims → reader_at dims l ≡ r → hop_at dims l < length dims → slice_get (in_of new l).parcel.untaken 0 ≡ Some e
+      → NextIs dims r l e.tag (IsBusy sent got)
   pub closing : (l : ℕ) → l < links dims → sender_at dims l ≡ r → (hop_at dims l ≡ 1 → new.done ≡ true) → HasArrived (buffers_of new) l
       → (out_of new l).closed ≡ false → IsBusy sent got l
 

@@ -6,7 +6,7 @@ use Rattle.bale_types.specs.Stream.{Rose}
 use Rattle.route_tensor.specs.Link.{links}
 use Rattle.route_tensor.specs.Ends.{hop_at, sender_at, reader_at}
 use Rattle.port_bank.specs.Logs.{Logs}
-use Rattle.port_bank.specs.Flow.{Begins}
+use Rattle.list_laws.specs.Lists.{Begins}
 use Rattle.port_bank.specs.Shapes.{IsConveyorShape}
 use Rattle.item_buffer.specs.Contents.{Shipped}
 use Rattle.port_bank.specs.Machine.{Part}

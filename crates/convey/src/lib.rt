@@ -15,7 +15,7 @@
 //! | Complete | `reset` | Dormant, the epoch one higher |
 //!
 //! Contracts see a conveyor as the state of its rank (`hop_core`), and say of each call which step of the exchange
-//! machine it is (`specs/Machine.antt`), a machine of two lists for each epoch and ordered pair of ranks, which knows no
+//! machine it is (`port_bank`'s `specs/Machine.antt`), a machine of two lists for each epoch and ordered pair of ranks, which knows no
 //! parcels, hops or tags. `exchange_law` says that the steps of all ranks over one bank fit together, `closes_law` that
 //! the ranks end each epoch together, and `rest_law` that a sweep in which nothing moves ends an epoch.
 #![tactic(auto)]

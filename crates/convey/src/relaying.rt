@@ -11,7 +11,7 @@ ghost use Rattle.convey.specs.Way.{IsReady, PassedOn};
 
 use hop_core::RankState;
 
-/// Relays from the hop before the last one down to the first.
+/// PassesThrough from the hop before the last one down to the first.
 pub(crate) fn relay_all<const CAP: usize, const HOPS: usize>(state: &mut RankState<CAP, HOPS>)
     requires home { state.old.lent ≡ Lent.Nothing }
     requires hops { length state.old.dims ≡ HOPS }
@@ -27,7 +27,7 @@ pub(crate) fn relay_all<const CAP: usize, const HOPS: usize>(state: &mut RankSta
     }
 }
 
-/// Relays from the links in of one hop.
+/// PassesThrough from the links in of one hop.
 pub(crate) fn relay_one<const CAP: usize, const HOPS: usize>(
     state: &mut RankState<CAP, HOPS>,
     h: u32,

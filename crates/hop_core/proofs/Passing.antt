@@ -9,7 +9,7 @@ use Rattle.route_tensor.specs.Grid.{ranks, dim, coord, place, IsGrid}
 use Rattle.route_tensor.specs.Link.{IsLink, IsOnRoute, links_before}
 use Rattle.route_tensor.specs.Neighbour.{hop_to, neighbour}
 use Rattle.route_tensor.specs.Tag.{digit, IsFair, tag_at, next_tag, sender_of, destination_of}
-use Rattle.route_tensor.specs.Pair.{belongs, items_of_pair}
+use Rattle.route_tensor.specs.Pair.{belongs, items_of_pair, PassesThrough}
 use Rattle.route_tensor.specs.Routes.{about, passed_on}
 use Rattle.route_tensor.proofs.Coordinates.{coord-place_low, coord-place_high}
 use Rattle.route_tensor.proofs.Links.{coord_in}
@@ -17,7 +17,7 @@ use Rattle.route_tensor.proofs.Places.{place_link, route_next}
 use Rattle.route_tensor.proofs.Tags.{digit-tag_at, tag_digit_above, tag_at_fair, sender-tag_at, destination-tag_at, pair_route, pair_tag, next_tag-tag_at}
 use Rattle.route_tensor.proofs.Neighbours.{hop_to_is, number_made, number_below, from_neighbour, coord-neighbour, neighbour_at, turned}
 use Rattle.hop_core.specs.Link.{Out, In, no_out}
-use Rattle.hop_core.specs.Relay.{PassesThrough, way_in, way_out, PassesOn}
+use Rattle.hop_core.specs.Relay.{way_in, way_out, PassesOn}
 
 -- the pair of an entry that came from neighbour i to rank r, and where it goes next
 pub record Moves (dims : List ℕ) (r i s d : ℕ) (e : Entry) : Type 0 where

@@ -9,10 +9,10 @@ use Rattle.list_laws.proofs.Lists.{each_set}
 use Rattle.bale_types.specs.declared.item.Entry.{Entry}
 use Rattle.route_tensor.specs.Link.{links_before}
 use Rattle.route_tensor.specs.Neighbour.{hop_to}
-use Rattle.route_tensor.specs.Pair.{items_of_pair}
+use Rattle.route_tensor.specs.Pair.{items_of_pair, PassesThrough}
 use Rattle.hop_core.specs.Link.{Out, In, no_out, no_in, is_finished}
 use Rattle.hop_core.specs.State.{ins_of_hop}
-use Rattle.hop_core.specs.Relay.{PassesThrough, way_in, way_out, held_by, PassesOn, AddsToHop, TakesFromHop, IsStopped, waiting}
+use Rattle.hop_core.specs.Relay.{way_in, way_out, held_by, PassesOn, AddsToHop, TakesFromHop, IsStopped, waiting}
 use Rattle.hop_core.specs.Standing.{IsOut, IsIn}
 use Rattle.hop_core.proofs.Marks.{hop_unfinished}
 use Rattle.hop_core.proofs.Going.{adds_none, adds_both}

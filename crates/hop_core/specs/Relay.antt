@@ -3,22 +3,13 @@ use Rattle.std.specs.Prelude.{◌≡◌, ◌≢◌, ℕ, ◌+◌, ◌-◌, ◌<�
 use Rattle.std.specs.List.{sum_by}
 use Rattle.bale_types.specs.declared.item.Entry.{Entry}
 use Rattle.bale_types.specs.declared.item.Item.{Item}
-use Rattle.route_tensor.specs.Grid.{ranks, coord, place}
+use Rattle.route_tensor.specs.Grid.{coord}
 use Rattle.route_tensor.specs.Link.{links_before}
 use Rattle.route_tensor.specs.Neighbour.{hop_to}
 use Rattle.route_tensor.specs.Tag.{digit}
-use Rattle.route_tensor.specs.Pair.{items_of_pair}
+use Rattle.route_tensor.specs.Pair.{PassesThrough, items_of_pair}
 use Rattle.hop_core.specs.Link.{Out, In, no_out, no_in}
 use Rattle.hop_core.specs.State.{State}
-
--- A pair of ranks whose route has rank r between hop h and hop h + 1.
--- In the grid 2x2x2 rank 0 is there for the pair from 1 to 6 with h = 1.
-pub record PassesThrough (dims : List ℕ) (r s d h : ℕ) : Type 0 where
-  pub sender : s < ranks dims
-  pub destination : d < ranks dims
-  pub first_hop : 1 ≤ h
-  pub last_hop : h < length dims
-  pub here : place dims s d h ≡ r
 
 -- The number of the link in over which the entries of s come to a rank on hop h, and that of the link out over which
 -- those for d leave it.

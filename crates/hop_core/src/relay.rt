@@ -6,7 +6,8 @@ ghost use Rattle.route_tensor.specs.Grid.{IsGrid};
 ghost use Rattle.route_tensor.specs.Neighbour.{hop_to};
 ghost use Rattle.hop_core.specs.Link.{no_out, no_in, is_finished};
 ghost use Rattle.hop_core.specs.Standing.{IsOut, IsIn};
-ghost use Rattle.hop_core.specs.Relay.{PassesOn, PassesThrough, held_by, AddsToHop, TakesFromHop, IsStopped, waiting};
+ghost use Rattle.hop_core.specs.Relay.{PassesOn, held_by, AddsToHop, TakesFromHop, IsStopped, waiting};
+ghost use Rattle.route_tensor.specs.Pair.{PassesThrough};
 ghost use Rattle.hop_core.specs.State.{ins_of_hop};
 ghost use Rattle.std.specs.List.{list_all};
 

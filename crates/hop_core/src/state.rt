@@ -10,7 +10,8 @@ ghost use Rattle.route_tensor.specs.Neighbour.{hop_to, neighbour, out_index, in_
 ghost use Rattle.route_tensor.specs.Tag.{IsFair, tag_at, sender_of};
 ghost use Rattle.hop_core.specs.Link.{Out, In, no_out, no_in, is_due, is_wanted, with_entry};
 ghost use Rattle.hop_core.specs.State.{out_at, in_at, with_out, with_in, at_end, phase_of, lowest_unread, pull_from, pulled_from, unpulled, reopened, resumed};
-ghost use Rattle.hop_core.specs.Relay.{PassesThrough, held, AddsToHop, TakesFromHop, IsStopped, waiting};
+ghost use Rattle.hop_core.specs.Relay.{held, AddsToHop, TakesFromHop, IsStopped, waiting};
+ghost use Rattle.route_tensor.specs.Pair.{PassesThrough};
 
 use crate::inboxes::{InLink, first_unread, hop_finished, links_in, resume_all};
 use crate::lent::Lent;

@@ -1,5 +1,5 @@
--- What holds at each place of a list.
-use Rattle.std.specs.Prelude.{ℕ, ◌<◌, List, length, slice_index_or, slice_set}
+-- What holds at each place of a list; fronts of lists; functions that differ at one number.
+use Rattle.std.specs.Prelude.{◌≡◌, ℕ, ◌<◌, ◌==◌, cond, List, ◌++◌, length, slice_index_or, slice_set}
 
 -- A fact of each place, counted from 0, and of the element that stands there.
 -- EachAt P xs is P 0 x0, P 1 x1, .. for the list x0, x1, ..
@@ -12,3 +12,15 @@ EachAt {X} P xs = (k : ℕ) (d : X) → k < length xs → P k (slice_index_or xs
 -- The list 5, 6, 7 changed at 1 by (λ v. v + 10) is 5, 16, 7.
 abbrev pub changed_at : {X : Type 0} → List X → ℕ → X → (X → X) → List X
 changed_at xs i d f = slice_set xs i (f (slice_index_or xs i d))
+
+-- A list is the front of another.
+-- whole = front ++ rest
+-- [1, 2] begins [1, 2, 3]; every list begins itself.
+pub record Begins {T : Type 0} (front whole : List T) : Type 0 where
+  pub rest : List T
+  pub is : whole ≡ front ++ rest
+
+-- A function of a number with another value at l.
+-- changed f l x is x at l, and f elsewhere.
+abbrev pub changed : {X : Type 0} → (ℕ → X) → ℕ → X → ℕ → X
+changed f l x = λ m. cond (m == l) x (f m)

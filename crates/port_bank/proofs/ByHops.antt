@@ -12,7 +12,9 @@ use Rattle.route_tensor.specs.Tag.{IsFair}
 use Rattle.route_tensor.specs.Ends.{hop_at, sender_at, reader_at}
 use Rattle.route_tensor.proofs.Links.{link_within}
 use Rattle.port_bank.specs.Logs.{Logs, lasts, segment, added, starting_at, ending_at}
-use Rattle.port_bank.specs.Flow.{hop_link, belongs, items_of, flow, Begins}
+use Rattle.port_bank.specs.Flow.{hop_link, items_of, flow}
+use Rattle.route_tensor.specs.Pair.{belongs}
+use Rattle.list_laws.specs.Lists.{Begins}
 use Rattle.port_bank.specs.Relay.{RelayLaw}
 use Rattle.port_bank.specs.Plain.{Bank, sent_of, got_of, others_of, empty_bank}
 use Rattle.port_bank.proofs.Closing.{channel-empty, law_nothing}

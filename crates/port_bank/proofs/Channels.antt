@@ -1,7 +1,7 @@
 -- A bank with another channel at one link, read by link.
 use Rattle.std.proofs.Common.{◌≡◌, ◌≢◌, ℕ, ◌<◌, cond, length, get_or-set_same, get_or-set_other, refl, sym, ap, subst, ◌∙◌, inl, inr, eq-eqb, ne_eqb}
 use Rattle.std.proofs.lemmas.Bool.{cases_eq}
-use Rattle.port_bank.specs.Port.{changed}
+use Rattle.list_laws.specs.Lists.{changed}
 use Rattle.port_bank.specs.Plain.{Bank, Channel, unused, channel_at, with_channel}
 
 pub changed-here : {X : Type 0} (f : ℕ → X) (l : ℕ) (x : X) → changed f l x l ≡ x

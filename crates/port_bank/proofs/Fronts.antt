@@ -4,7 +4,7 @@ use Rattle.std.specs.List.{filter, flat_map}
 use Rattle.std.proofs.lemmas.List.{append-nil, append_assoc, map-append}
 use Rattle.std.proofs.lemmas.List.Elements.{filter-append}
 use Rattle.std.proofs.lemmas.List.Concat.{flat_map-append}
-use Rattle.port_bank.specs.Flow.{Begins}
+use Rattle.list_laws.specs.Lists.{Begins}
 
 module _ {T : Type 0} where
   pub begins_refl : (xs : List T) → Begins xs xs

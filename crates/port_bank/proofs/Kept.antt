@@ -6,8 +6,10 @@ use Rattle.route_tensor.specs.Grid.{place, IsGrid}
 use Rattle.route_tensor.specs.Link.{links}
 use Rattle.route_tensor.specs.Ends.{hop_at, sender_at, reader_at}
 use Rattle.port_bank.specs.Logs.{Logs, lasts, segment, added}
-use Rattle.port_bank.specs.Flow.{hop_link, belongs, items_of, flow, Begins}
-use Rattle.port_bank.specs.Relay.{HasFairTags, Relays, RelayLaw}
+use Rattle.port_bank.specs.Flow.{hop_link, items_of, flow}
+use Rattle.route_tensor.specs.Pair.{belongs, PassesThrough}
+use Rattle.list_laws.specs.Lists.{Begins}
+use Rattle.port_bank.specs.Relay.{HasFairTags, RelayLaw}
 use Rattle.port_bank.proofs.Fronts.{begins_refl, begins_more, begins_trans}
 use Rattle.port_bank.proofs.Segments.{lasts_begins, items_begins, items_same}
 use Rattle.port_bank.proofs.Routes.{hop-on_route, sender-on_route, reader-on_route, link-on_route}
@@ -44,7 +46,7 @@ pub record Between (dims : List ℕ) (r m l : ℕ) : Type 0 where
   pub from : sender_at dims l ≡ r
   pub next : hop_at dims l ≡ hop_at dims m + 1
 
-pub between : (dims : List ℕ) (r s d h : ℕ) → IsGrid dims → Relays dims r s d h → Between dims r (hop_link dims s d h) (hop_link dims s d (h + 1))
+pub between : (dims : List ℕ) (r s d h : ℕ) → IsGrid dims → PassesThrough dims r s d h → Between dims r (hop_link dims s d h) (hop_link dims s d (h + 1))
 between dims r s d h g p =
     let first : 1 ≤ h = p.first_hop in
     let last : h < length dims = p.last_hop in

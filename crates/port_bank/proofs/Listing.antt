@@ -3,7 +3,7 @@ use Rattle.std.proofs.Common.{◌≡◌, ◌≢◌, ℕ, zero, suc, ◌+◌, ◌
 use Rattle.std.proofs.lemmas.Bool.{cases_eq, cases_lt, lt-ltb, le-ltb}
 use Rattle.bale_types.specs.declared.item.Item.{Item}
 use Rattle.list_laws.proofs.Lists.{get_before, get_last}
-use Rattle.port_bank.specs.Flow.{Begins}
+use Rattle.list_laws.specs.Lists.{Begins}
 use Rattle.port_bank.specs.Machine.{ItemLists, for_ranks, with_item, without_last, Part, IsThrough, done_of}
 
 pub for_ranks-within : (n : ℕ) (lists : ItemLists) (e r : ℕ) → r < n → for_ranks n lists e r ≡ lists e r

@@ -9,8 +9,10 @@ use Rattle.route_tensor.specs.Grid.{ranks, place, IsGrid}
 use Rattle.route_tensor.specs.Link.{links}
 use Rattle.route_tensor.proofs.Coordinates.{place_below}
 use Rattle.port_bank.specs.Logs.{Logs, lasts}
-use Rattle.port_bank.specs.Flow.{hop_link, flow, Begins}
-use Rattle.port_bank.specs.Relay.{Relays, RelayLaw}
+use Rattle.port_bank.specs.Flow.{hop_link, flow}
+use Rattle.list_laws.specs.Lists.{Begins}
+use Rattle.port_bank.specs.Relay.{RelayLaw}
+use Rattle.route_tensor.specs.Pair.{PassesThrough}
 use Rattle.port_bank.proofs.Fronts.{begins_trans}
 use Rattle.port_bank.proofs.Segments.{lasts_begins}
 use Rattle.port_bank.proofs.Kept.{flow_begins, flow_same, between}
@@ -25,7 +27,7 @@ pub record Keeps (dims : List ℕ) (sent got : Logs) : Type 0 where
 
 module _ (dims : List ℕ) (sent got : Logs) (k : Keeps dims sent got) (s d e : ℕ) (from : s < ranks dims) (to : d < ranks dims) where
   -- the rank after hop h relays the pair
-  relays_at : (h : ℕ) → 1 ≤ h → h < length dims → Relays dims (place dims s d h) s d h
+  relays_at : (h : ℕ) → 1 ≤ h → h < length dims → PassesThrough dims (place dims s d h) s d h
   relays_at h first last = record { sender = from; destination = to; first_hop = first; last_hop = last; here = refl }
 
   rank_at : (h : ℕ) → place dims s d h < ranks dims

@@ -8,10 +8,10 @@ use Rattle.list_laws.proofs.Lists.{set_same}
 use Rattle.route_tensor.specs.Grid.{IsGrid}
 use Rattle.route_tensor.specs.Ends.{sender_at, reader_at}
 use Rattle.route_tensor.specs.Link.{links}
-use Rattle.port_bank.specs.Flow.{Begins}
+use Rattle.list_laws.specs.Lists.{Begins, changed}
 use Rattle.port_bank.specs.Logs.{Logs, added, starting_at, ending_at, starting_elsewhere, ending_elsewhere}
 use Rattle.port_bank.specs.Relay.{RelayLaw}
-use Rattle.port_bank.specs.Port.{Rest, changed}
+use Rattle.port_bank.specs.Port.{Rest}
 use Rattle.port_bank.specs.declared.port.Posted.{Posted}
 use Rattle.port_bank.specs.declared.port.Posted.TheVariants.{Sent, NoRoom}
 use Rattle.port_bank.specs.declared.port.Collected.{Collected}

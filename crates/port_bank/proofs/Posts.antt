@@ -11,8 +11,10 @@ use Rattle.route_tensor.specs.Grid.{IsGrid}
 use Rattle.route_tensor.specs.Link.{links}
 use Rattle.route_tensor.specs.Ends.{hop_at, sender_at, reader_at}
 use Rattle.port_bank.specs.Logs.{Logs, lasts, segment, added}
-use Rattle.port_bank.specs.Flow.{hop_link, belongs, items_of, flow, Begins}
-use Rattle.port_bank.specs.Relay.{HasFairTags, Relays, RelayLaw}
+use Rattle.port_bank.specs.Flow.{hop_link, items_of, flow}
+use Rattle.route_tensor.specs.Pair.{belongs, PassesThrough}
+use Rattle.list_laws.specs.Lists.{Begins}
+use Rattle.port_bank.specs.Relay.{HasFairTags, RelayLaw}
 use Rattle.port_bank.proofs.Segments.{lasts-append, lasts_first}
 use Rattle.port_bank.proofs.Routes.{hop-on_route, numbered}
 use Rattle.port_bank.proofs.Kept.{added-here, added-other, flow_at}
@@ -89,10 +91,10 @@ module _ (dims : List ℕ) (logs : Logs) (l : ℕ) (p : Shipped) (s d h e : ℕ)
 -- whole: and then what is sent of each pair is all that was got.
 pub record MayPost (dims : List ℕ) (r : ℕ) (sent got : Logs) (l : ℕ) (p : Shipped) : Type 0 where
   pub fair : HasFairTags dims (hop_at dims l) p
-  pub begins : (s d h : ℕ) → Relays dims r s d h → hop_link dims s d (h + 1) ≡ l
+  pub begins : (s d h : ℕ) → PassesThrough dims r s d h → hop_link dims s d (h + 1) ≡ l
       → Begins (flow dims sent s d (h + 1) (lasts (sent l)) ++ items_of (belongs dims s d (h + 1)) (p ∷ [])) (flow dims got s d h (lasts (sent l)))
   pub closed : (m : ℕ) → p.last ≡ true → m < links dims → reader_at dims m ≡ r → hop_at dims l ≡ hop_at dims m + 1 → lasts (sent l) < lasts (got m)
-  pub whole : (s d h : ℕ) → p.last ≡ true → Relays dims r s d h → hop_link dims s d (h + 1) ≡ l
+  pub whole : (s d h : ℕ) → p.last ≡ true → PassesThrough dims r s d h → hop_link dims s d (h + 1) ≡ l
       → flow dims sent s d (h + 1) (lasts (sent l)) ++ items_of (belongs dims s d (h + 1)) (p ∷ []) ≡ flow dims got s d h (lasts (sent l))
 
 -- a mark counts once
@@ -123,7 +125,7 @@ module _ (dims : List ℕ) (r : ℕ) (sent got : Logs) (l : ℕ) (p : Shipped) (
     | inr ne ↦ subst (All (HasFairTags dims (hop_at dims m))) (sym (added-other sent l m p ne)) (law.fair m a from)
   ]
 
-  begins_after : (s d h e : ℕ) → Relays dims r s d h → Begins (flow dims (added sent l p) s d (h + 1) e) (flow dims got s d h e)
+  begins_after : (s d h e : ℕ) → PassesThrough dims r s d h → Begins (flow dims (added sent l p) s d (h + 1) e) (flow dims got s d h e)
   begins_after s d h e q = elim (cases_eq (hop_link dims s d (h + 1)) l) [
     | inl here ↦ elim (cases_eq e (lasts (sent l))) [
       | inl now ↦
@@ -145,7 +147,7 @@ module _ (dims : List ℕ) (r : ℕ) (sent got : Logs) (l : ℕ) (p : Shipped) (
     | inr other ↦ law.closed k m e a b from to next (subst (λ log. e < lasts log) (added-other sent l k p other) w)
   ]
 
-  whole_after : (s d h e : ℕ) → Relays dims r s d h → e < lasts (added sent l p (hop_link dims s d (h + 1))) → flow dims (added sent l p) s d (h + 1) e ≡ flow dims got s d h e
+  whole_after : (s d h e : ℕ) → PassesThrough dims r s d h → e < lasts (added sent l p (hop_link dims s d (h + 1))) → flow dims (added sent l p) s d (h + 1) e ≡ flow dims got s d h e
   whole_after s d h e q w = elim (cases_eq (hop_link dims s d (h + 1)) l) [
     | inl here ↦
         let is : added sent l p (hop_link dims s d (h + 1)) ≡ sent l ++ p ∷ [] = ap (added sent l p) here ∙ added-here sent l p in
@@ -172,7 +174,7 @@ may_post_first dims r sent got l p g first fair = record {
   closed = λ m mark b to next. let k : 1 ≤ hop_at dims m = (numbered dims m g b).is_link.first_hop in absurd (omega (arith, k, first, next));
   whole = λ s d h mark q here. absurd (not_first s d h q here);
 } where
-  not_first : (s d h : ℕ) → Relays dims r s d h → hop_link dims s d (h + 1) ≡ l → ⊥
+  not_first : (s d h : ℕ) → PassesThrough dims r s d h → hop_link dims s d (h + 1) ≡ l → ⊥
   not_first s d h q here =
       let a : 1 ≤ h = q.first_hop in
       let b : h < length dims = q.last_hop in

@@ -5,7 +5,8 @@ use Rattle.std.proofs.lemmas.List.Elements.{filter-append}
 use Rattle.bale_types.specs.declared.item.Entry.{Entry}
 use Rattle.item_buffer.specs.Contents.{Shipped}
 use Rattle.port_bank.specs.Logs.{lasts, segment}
-use Rattle.port_bank.specs.Flow.{items_of, Begins}
+use Rattle.port_bank.specs.Flow.{items_of}
+use Rattle.list_laws.specs.Lists.{Begins}
 use Rattle.port_bank.proofs.Fronts.{begins_nil, begins_cons, begins_map, begins_filter, begins_flat_map}
 
 pub lasts-append : (log more : List Shipped) → lasts (log ++ more) ≡ lasts log + lasts more

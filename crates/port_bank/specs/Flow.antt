@@ -1,12 +1,13 @@
 -- What a pair of ranks sends over a link.
-use Rattle.std.specs.Prelude.{◌≡◌, ℕ, ◌-◌, ◌==◌, ◌&&◌, Bool, List, ◌++◌, map}
+use Rattle.std.specs.Prelude.{ℕ, ◌-◌, Bool, List, map}
 use Rattle.std.specs.List.{filter, flat_map}
 use Rattle.bale_types.specs.declared.item.Entry.{Entry}
 use Rattle.bale_types.specs.declared.item.Item.{Item}
 use Rattle.item_buffer.specs.Contents.{Shipped}
 use Rattle.route_tensor.specs.Grid.{place}
 use Rattle.route_tensor.specs.Link.{link}
-use Rattle.route_tensor.specs.Tag.{sender_of, destination_of}
+pub use Rattle.list_laws.specs.Lists.{Begins}
+pub use Rattle.route_tensor.specs.Pair.{belongs}
 use Rattle.port_bank.specs.Logs.{Logs, segment}
 
 -- The link of hop h on the route from s to d.
@@ -14,10 +15,6 @@ use Rattle.port_bank.specs.Logs.{Logs, segment}
 -- In the grid 2x2x2 the route from 1 to 6 has on hop 2 the link (2,0,2), which has the number 17.
 abbrev pub hop_link : List ℕ → ℕ → ℕ → ℕ → ℕ
 hop_link dims s d h = link dims h (place dims s d (h - 1)) (place dims s d h)
-
--- Whether an entry on that link belongs to the pair: its sender is s and its destination is d.
-abbrev pub belongs : List ℕ → ℕ → ℕ → ℕ → Entry → Bool
-belongs dims s d h e = (sender_of dims e.tag h (place dims s d (h - 1)) == s) && (destination_of dims e.tag h (place dims s d h) == d)
 
 -- The items of those entries of some parcels that pass a test, in order.
 abbrev pub items_of : (Entry → Bool) → List Shipped → List Item
@@ -28,10 +25,3 @@ items_of keep log = map (λ e. e.item) (filter keep (flat_map (λ p. p.entries) 
 -- In the grid 2 with capacity 1, rank 0 sends x to 0, then y to 1: the flow from 0 to 1 on hop 1 is [y].
 abbrev pub flow : List ℕ → Logs → ℕ → ℕ → ℕ → ℕ → List Item
 flow dims logs s d h e = items_of (belongs dims s d h) (segment e (logs (hop_link dims s d h)))
-
--- A list is the front of another.
--- whole = front ++ rest
--- [1, 2] begins [1, 2, 3]; every list begins itself.
-pub record Begins {T : Type 0} (front whole : List T) : Type 0 where
-  pub rest : List T
-  pub is : whole ≡ front ++ rest

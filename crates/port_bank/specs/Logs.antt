@@ -1,6 +1,7 @@
 -- Link logs: all parcels that were ever posted on a link, or all that its reader collected, in order.
-use Rattle.std.specs.Prelude.{◌≡◌, ℕ, zero, suc, ◌<◌, ◌==◌, cond, List, [], ◌∷◌, ◌++◌, length, take, slice_index_or}
+use Rattle.std.specs.Prelude.{◌≡◌, ℕ, zero, suc, ◌==◌, cond, List, [], ◌∷◌, ◌++◌, length, take}
 use Rattle.std.specs.List.{filter}
+use Rattle.list_laws.specs.Lists.{EachAt}
 use Rattle.item_buffer.specs.Contents.{Shipped}
 use Rattle.route_tensor.specs.Ends.{sender_at, reader_at}
 
@@ -24,7 +25,7 @@ segment (suc e) (p ∷ ps) = cond p.last (segment e ps) (segment (suc e) ps)
 -- The epoch of every parcel is the number of parcels marked last before it.
 -- With the marks no, yes, no the epochs are 0, 0, 1.
 abbrev pub IsDated : List Shipped → Type 0
-IsDated log = (i : ℕ) (d : Shipped) → i < length log → (slice_index_or log i d).epoch ≡ lasts (take i log)
+IsDated log = EachAt (λ i p. p.epoch ≡ lasts (take i log)) log
 
 -- The logs with one more parcel on link l.
 abbrev pub added : Logs → ℕ → Shipped → Logs

@@ -2,7 +2,7 @@
 -- parcels, no hops and no tags.
 use Rattle.std.specs.Prelude.{◌≡◌, ◌≢◌, ℕ, ◌+◌, ◌-◌, ◌<◌, ◌≤◌, ◌==◌, ◌&&◌, nat_lt, ◌⊎◌, ⊤, Bool, true, false, cond, List, [], ◌∷◌, ◌++◌, length, take, slice_get, Option, Some, None, IsSome}
 use Rattle.bale_types.specs.declared.item.Item.{Item}
-use Rattle.port_bank.specs.Flow.{Begins}
+use Rattle.list_laws.specs.Lists.{Begins}
 
 -- A list of items for each epoch and rank.
 abbrev pub ItemLists : Type 0

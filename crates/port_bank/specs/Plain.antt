@@ -1,6 +1,7 @@
 -- What contracts see of a plain bank.
-use Rattle.std.specs.Prelude.{◌≡◌, ℕ, ◌+◌, ◌-◌, ◌^◌, ◌<◌, ◌≤◌, ◌==◌, min, Bool, false, List, [], ◌∷◌, ◌++◌, map, replicate, length, slice_index_or, slice_set, Result, Ok, IsErr}
+use Rattle.std.specs.Prelude.{◌≡◌, ℕ, ◌+◌, ◌<◌, ◌≤◌, ◌==◌, Bool, false, List, [], ◌∷◌, ◌++◌, map, replicate, length, slice_index_or, slice_set, Result, Ok, IsErr}
 use Rattle.bale_types.specs.declared.fault.NoMemory.{NoMemory}
+use Rattle.bale_types.specs.Stream.{next_count}
 use Rattle.item_buffer.specs.Contents.{Shipped}
 use Rattle.port_bank.specs.Logs.{Logs, starting_at, ending_at, starting_elsewhere, ending_elsewhere}
 use Rattle.route_tensor.specs.Grid.{ranks, IsGrid}
@@ -28,20 +29,16 @@ pub record Channel : Type 0 where
 abbrev pub unused : Channel
 unused = record { sent = []; got = []; looks_out = 0; looks_in = 0; listens = 0; noted = 0 }
 
--- A count that rises by one, and stands still at the last number of 64 bits.
-abbrev pub raised : ℕ → ℕ
-raised n = min (n + 1) (2 ^ 64 - 1)
-
 -- The link after its sender looked, found room and posted a parcel; and after it found none.
 abbrev pub posted : Channel → Shipped → Channel
-posted c p = record c { sent = c.sent ++ p ∷ []; looks_out = raised c.looks_out }
+posted c p = record c { sent = c.sent ++ p ∷ []; looks_out = next_count c.looks_out }
 
 abbrev pub refused : Channel → Channel
-refused c = record c { looks_out = raised c.looks_out }
+refused c = record c { looks_out = next_count c.looks_out }
 
 -- The link after its reader looked and found nothing; and after it collected a parcel.
 abbrev pub listened : Channel → Channel
-listened c = record c { looks_in = raised c.looks_in; listens = raised c.listens; noted = raised c.listens }
+listened c = record c { looks_in = next_count c.looks_in; listens = next_count c.listens; noted = next_count c.listens }
 
 abbrev pub collected : Channel → Shipped → Channel
 collected c p = record (listened c) { got = c.got ++ p ∷ [] }

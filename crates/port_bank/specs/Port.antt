@@ -1,5 +1,6 @@
 -- What a call on a port leaves as it was.
-use Rattle.std.specs.Prelude.{ℕ, List, ◌==◌, ◌||◌, cond, IsTrue, Result}
+use Rattle.std.specs.Prelude.{ℕ, List, ◌==◌, ◌||◌, IsTrue, Result}
+pub use Rattle.list_laws.specs.Lists.{changed}
 use Rattle.bale_types.specs.declared.fault.NoMemory.{NoMemory}
 use Rattle.item_buffer.specs.Contents.{Contents}
 use Rattle.port_bank.specs.declared.port.Posted.{Posted}
@@ -19,11 +20,6 @@ pub record Rest : Type 0 where
   pub bank : List ℕ
   pub sent : Logs
   pub got : Logs
-
--- A function of the link with another value at link l.
--- changed f l x is x at l, and f elsewhere.
-abbrev pub changed : {X : Type 0} → (ℕ → X) → ℕ → X → ℕ → X
-changed f l x = λ m. cond (m == l) x (f m)
 
 -- The numbers of slots that a link can have.
 unfoldable pub IsSlots : ℕ → Type 0

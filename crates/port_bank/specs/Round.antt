@@ -7,7 +7,8 @@ use Rattle.route_tensor.specs.Grid.{ranks, IsGrid}
 use Rattle.route_tensor.specs.Link.{links}
 use Rattle.route_tensor.specs.Ends.{hop_at}
 use Rattle.port_bank.specs.Logs.{Logs, lasts}
-use Rattle.port_bank.specs.Flow.{hop_link, flow, Begins}
+use Rattle.port_bank.specs.Flow.{hop_link, flow}
+use Rattle.list_laws.specs.Lists.{Begins}
 use Rattle.port_bank.specs.Link.{LinkLaw}
 use Rattle.port_bank.specs.Port.{IsSlots}
 use Rattle.port_bank.specs.Relay.{HasFairTags}

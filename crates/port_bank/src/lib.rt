@@ -4,6 +4,9 @@
 //! above knows of a transport only this trait. The transport here is the plain bank, which keeps every parcel
 //! ever posted; its ports take turns on it.
 //!
+//! `specs/Machine.antt` states the exchange machine: what the ranks of any bank do, seen as two lists of items for each
+//! epoch and ordered pair of ranks.
+//!
 //! | Call | Answer |
 //! |---|---|
 //! | `Port::post` | `Sent`; `NoRoom` where as many parcels as there are slots wait for the link's reader |

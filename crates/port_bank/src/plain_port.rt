@@ -37,7 +37,7 @@ impl<const CAP: usize> Port<CAP> for PlainPort<CAP> {
     ghost use Rattle.std.specs.Prelude.{◌+◌, ◌==◌, true, length, refl};
     ghost use Rattle.port_bank.specs.Logs.{starting_at, ending_at};
     ghost use Rattle.item_buffer.specs.Contents.{shipped};
-    ghost use Rattle.port_bank.specs.Plain.{channel_at, sent_of, got_of, others_of, DidPost, DidCollect};
+    ghost use Rattle.port_bank.specs.Plain.{channel_at, sent_of, got_of, others_of, crowded_of, idle_of, DidPost, DidCollect};
 
     type Memory = Growing;
 
@@ -53,11 +53,11 @@ impl<const CAP: usize> Port<CAP> for PlainPort<CAP> {
 
     ghost freed = { λ p l. length (got_of p.bank l) };
 
-    ghost crowded = { λ p l. length (starting_at p.bank.dims p.rank (sent_of p.bank) l) == length (got_of p.bank l) + p.bank.slots };
+    ghost crowded = { λ p l. crowded_of p.rank p.bank l };
 
     ghost known = { λ p l. length (sent_of p.bank l) };
 
-    ghost idle = { λ p l. length (ending_at p.bank.dims p.rank (got_of p.bank) l) == length (sent_of p.bank l) };
+    ghost idle = { λ p l. idle_of p.rank p.bank l };
 
     ghost looks_out = { λ p l. (channel_at p.bank l).looks_out };
 

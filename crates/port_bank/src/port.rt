@@ -7,9 +7,9 @@ ghost use Rattle.route_tensor.specs.Link.{links};
 ghost use Rattle.route_tensor.specs.Tag.{IsFair};
 ghost use Rattle.route_tensor.specs.Ends.{hop_at, sender_at, reader_at};
 ghost use Rattle.port_bank.specs.Logs.{Logs, lasts, added};
-ghost use Rattle.port_bank.specs.Flow.{Begins};
+ghost use Rattle.list_laws.specs.Lists.{Begins, changed};
 ghost use Rattle.port_bank.specs.Relay.{RelayLaw};
-ghost use Rattle.port_bank.specs.Port.{Rest, changed, IsSlots, PostDoes, CollectDoes};
+ghost use Rattle.port_bank.specs.Port.{Rest, IsSlots, PostDoes, CollectDoes};
 
 use crate::memory::Memory;
 use bale_types::NoMemory;

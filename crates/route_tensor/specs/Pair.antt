@@ -1,9 +1,18 @@
-use Rattle.std.specs.Prelude.{ℕ, ◌-◌, ◌==◌, ◌&&◌, Bool, List, map}
+use Rattle.std.specs.Prelude.{◌≡◌, ℕ, ◌-◌, ◌<◌, ◌≤◌, ◌==◌, ◌&&◌, Bool, List, length, map}
 use Rattle.std.specs.List.{filter}
 use Rattle.bale_types.specs.declared.item.Entry.{Entry}
 use Rattle.bale_types.specs.declared.item.Item.{Item}
-use Rattle.route_tensor.specs.Grid.{place}
+use Rattle.route_tensor.specs.Grid.{ranks, place}
 use Rattle.route_tensor.specs.Tag.{sender_of, destination_of}
+
+-- A pair of ranks whose route has rank r between hop h and hop h + 1.
+-- In the grid 2x2x2 rank 0 is there for the pair from 1 to 6 with h = 1.
+pub record PassesThrough (dims : List ℕ) (r s d h : ℕ) : Type 0 where
+  pub sender : s < ranks dims
+  pub destination : d < ranks dims
+  pub first_hop : 1 ≤ h
+  pub last_hop : h < length dims
+  pub here : place dims s d h ≡ r
 
 -- Whether an entry on the hop-h link of the route from s to d belongs to that pair: its sender is s and its
 -- destination is d.

@@ -3,7 +3,8 @@ use Rattle.route_tensor.specs.Link.{links}
 use Rattle.route_tensor.specs.Ends.{hop_at}
 use Rattle.hop_core.specs.State.{State}
 use Rattle.hop_core.specs.Standing.{IsState}
-use Rattle.hop_core.specs.Relay.{PassesThrough, held}
+use Rattle.hop_core.specs.Relay.{held}
+use Rattle.route_tensor.specs.Pair.{PassesThrough}
 use Rattle.convey.specs.Buffers.{out_of, in_of}
 use Rattle.convey.specs.Due.{IsBlocked}
 use Rattle.convey.specs.Way.{PassedOn}

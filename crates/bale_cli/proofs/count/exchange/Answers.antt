@@ -1,4 +1,4 @@
-use Rattle.std.proofs.Common.{rules, ◌≡◌, ℕ, List, [], ◌∷◌, length, map, IsOk, refl, sym, ap, subst, ◌∙◌, arith}
+use Rattle.std.proofs.Common.{lit<, rules, ◌≡◌, ℕ, List, [], ◌∷◌, length, map, IsOk, refl, sym, ap, subst, ◌∙◌, arith}
 use Rattle.list_laws.proofs.Results.{if_ok_is, if_ok_from}
 use Rattle.route_tensor.specs.Grid.{ranks}
 use Rattle.port_bank.specs.Logs.{Logs}
@@ -10,6 +10,7 @@ use Rattle.rank_group.specs.Nodes.{NodeState}
 use Rattle.rank_group.specs.Row.{Together}
 use Rattle.rank_group.proofs.Canon.{row_canonical}
 use Rattle.bale_cli.proofs.Rows.{row_refused, row_ranks, none_sent, none_got}
+use Rattle.port_bank.specs.Port.{IsSlots}
 use Rattle.bale_cli.proofs.count.exchange.Goals as goal
 
 pub unreachable-requires : goal.unreachable-requires
@@ -22,11 +23,15 @@ nodes_of-requires g c =
     subst (λ p. InRound count_rules p 0 c.requires.begins.0 c.requires.begins.1 c.args.progs) (sym (ap ranks row ∙ row_ranks c.args.ranks)) c.requires.begins.2 in
     (search rules, (c.requires.capacity, (c.requires.small, (ap length row, (c.requires.begins.0, c.requires.begins.1, all)))))
 
+pub new-requires-2 : goal.new-requires-2
+unfolding IsSlots
+new-requires-2 g c = (lit< tt, (c.requires.capacity, (c.requires.small, refl)))
+
 pub turn_all-requires : goal.turn_all-requires
 turn_all-requires g c =
     let row : c.in-Ok.grid ≡ c.args.ranks ∷ [] = c.in-Ok.ensures.made in
     let b : Bank = c.into_bank-bank.result in
-    let new : b ≡ empty_bank c.in-Ok.grid 2 = c.into_bank-bank.ensures.bank ∙ (c.port.ensures.bank ∙ c.in_ok-new.ensures) in
+    let new : b ≡ empty_bank c.in-Ok.grid 2 = c.into_bank-bank.ensures.bank ∙ (c.port.ensures.bank ∙ c.in_ok-new.ensures.made) in
     let dims : b.dims ≡ c.in-Ok.grid = ap (λ (x : Bank). x.dims) new in
     let slots : b.slots ≡ 2 = ap (λ (x : Bank). x.slots) new in
     let sent : sent_of b ≡ (λ l. []) = ap sent_of new ∙ none_sent c.in-Ok.grid 2 in
@@ -42,7 +47,7 @@ returns g c =
     let row : c.in-Ok.grid ≡ c.args.ranks ∷ [] = c.in-Ok.ensures.made in
     let b0 : Bank = c.into_bank-bank.result in
     let b : Bank = c.in_ok-_bank._bank in
-    let new : b0 ≡ empty_bank c.in-Ok.grid 2 = c.into_bank-bank.ensures.bank ∙ (c.port.ensures.bank ∙ c.in_ok-new.ensures) in
+    let new : b0 ≡ empty_bank c.in-Ok.grid 2 = c.into_bank-bank.ensures.bank ∙ (c.port.ensures.bank ∙ c.in_ok-new.ensures.made) in
     let dims : b0.dims ≡ c.in-Ok.grid = ap (λ (x : Bank). x.dims) new in
     let sent : sent_of b0 ≡ (λ l. []) = ap sent_of new ∙ none_sent c.in-Ok.grid 2 in
     let got : got_of b0 ≡ (λ l. []) = ap got_of new ∙ none_got c.in-Ok.grid 2 in

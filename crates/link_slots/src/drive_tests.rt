@@ -27,7 +27,7 @@ fn use_port<P: Port<2>>(port: &mut P)
 fn turned(bank: &SlotBank<2>, seat: SlotSeat<2>) -> SlotSeat<2>
     requires bank { (seat.id ≡ bank.now.id) × (seat.shape ≡ bank.now.shape) }
     ensures bank { (result.id ≡ bank.now.id) × (result.shape ≡ bank.now.shape) }
-    ensures rank { result.rank ≡ seat.entry.rank }
+    ensures rank { result.rank ≡ seat.rank }
 {
     let mut port = bank.port(seat);
     use_port(&mut port);

@@ -45,6 +45,8 @@ pub use slot_bank::SlotBank;
 #[cfg(test)]
 mod doorbell_tests;
 #[cfg(test)]
+mod drive_tests;
+#[cfg(test)]
 mod tests;
 #[cfg(test)]
 mod thread_tests;

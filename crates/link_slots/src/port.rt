@@ -7,7 +7,7 @@ use crate::seat::SlotSeat;
 use crate::slot_bank::SlotBank;
 use bale_types::NoMemory;
 use item_buffer::Parcel;
-use port_bank::{Collected, Fixed, Port, Posted};
+use port_bank::{Collected, Fixed, Memory, Port, Posted};
 
 /// The port of one rank at a slot bank. It takes no memory, and no call on it waits.
 #[derive(Drop)]
@@ -94,3 +94,6 @@ impl<'a, const CAP: usize> Port<CAP> for SlotPort<'a, CAP> {
         self.seat.collect(self.bank, link, p)
     }
 }
+
+// Callers stand on it: no call on a slot port takes memory.
+const _: () = prove!(!<<SlotPort<'static, 1> as Port<1>>::Memory as Memory>::GROWS);

@@ -1,7 +1,11 @@
 -- A refusal is known by its status, and what is said of it is what the serial answer says.
-use Rattle.std.proofs.Common.{◌≡◌, ℕ, List, Option, None, Some, Err, refl, sym, ap, subst, arith}
+use Rattle.std.proofs.Common.{◌≡◌, ℕ, List, Option, None, Some, Result, Ok, Err, refl, sym, ap, subst, arith}
 use Rattle.mtx_text.specs.declared.refusal.BadLine.{BadLine}
 use Rattle.mtx_text.specs.Grammar.{matrix_of}
+use Rattle.mtx_text.specs.Sparse.{Sparse}
+use Rattle.std.specs.Result.{IsOkAnd}
+use Rattle.bale_types.specs.Stream.{after, IsFront}
+use Rattle.bale_cli.specs.Histo.{histo_lines}
 use Rattle.bale_cli.specs.declared.words.Command.{Command}
 use Rattle.bale_cli.specs.declared.refusal.Refusal.{Refusal}
 use Rattle.bale_cli.specs.declared.refusal.Refusal.TheVariants.{Usage, ReadFault, BadMatrix, WriteFault, NoMemory}
@@ -100,3 +104,13 @@ decided T ReadFault two three seven = three refl
 decided T (BadMatrix b) two three seven = tt
 decided T WriteFault two three seven = tt
 decided T NoMemory two three seven = seven refl
+
+-- a front of the lines of the matrix is a front of what the serial answer writes
+pub answer_front : (taken old : Option (List ℕ)) (command : Option Command) (text : List ℕ) → (command ≡ None → ⊥)
+    → IsOkAnd (matrix_of text) (λ m. IsFront taken (after old (histo_lines m.entries m.cols))) → IsFront taken (after old (answer_to command text).out)
+answer_front taken old None text some front = absurd (some refl)
+answer_front taken old (Some c) text some front = at (matrix_of text) front
+  where
+    at : (m : Result Sparse BadLine) → IsOkAnd m (λ m. IsFront taken (after old (histo_lines m.entries m.cols))) → IsFront taken (after old (answer_for m).out)
+    at (Ok m) h = h
+    at (Err b) h = absurd h

@@ -20,6 +20,7 @@ pub fn write_histo<K: Sink>(
         OnErr result (IsFront (K.taken out.new.sink.now) (after (appended K.taken out.old) (histo_lines entries cols))) }
     ensures cause { HasCause (K.faults out.old.sink.now) (K.faults out.new.sink.now) result }
     ensures never_falls { K.faults out.old.sink.now ≤ K.faults out.new.sink.now }
+    ensures held { IsFront (K.taken out.old.sink.now) (K.taken out.new.sink.now) }
     ensures same_sink { out.new.sink.ghost_name ≡ out.old.sink.ghost_name }
 {
     for j in 0..cols {
@@ -34,6 +35,7 @@ fn write_line<K: Sink>(out: &mut Out<'_, K>, j: u32, count: u32) -> Result<(), F
     ensures err { OnErr result (IsFront (K.taken out.new.sink.now) (after (appended K.taken out.old) (histo_line j count))) }
     ensures cause { HasCause (K.faults out.old.sink.now) (K.faults out.new.sink.now) result }
     ensures never_falls { K.faults out.old.sink.now ≤ K.faults out.new.sink.now }
+    ensures held { IsFront (K.taken out.old.sink.now) (K.taken out.new.sink.now) }
     ensures same_sink { out.new.sink.ghost_name ≡ out.old.sink.ghost_name }
 {
     let mut line = Line::new();

@@ -47,11 +47,13 @@ pub fn run<S: Source, K: Sink, E: Sink>(
     ensures read_whole { (text : List ℕ) → S.left source.old ≡ Some text → result.status ≢ 2 → result.status ≢ 3 → result.status ≢ 7 →
         S.left source.new ≡ Some (drop 16_777_217 text) }
 
-    // At 0 out has the answer, at 4 a front of it, and else nothing.
+    // At 0 out has taken the answer, at 4 a front of it, and else nothing; what it held stays, so at 4 it has what it held and then a front
+    // of the answer.
     ensures answer { (text : List ℕ) → S.left source.old ≡ Some text → result.status ≡ 0 →
         K.taken out.new ≡ after (K.taken out.old) (serial_answer (map string_bytes words.now) text).out }
     ensures front { (text : List ℕ) → S.left source.old ≡ Some text → result.status ≡ 4 →
         IsFront (K.taken out.new) (after (K.taken out.old) (serial_answer (map string_bytes words.now) text).out) }
+    ensures held { IsFront (K.taken out.old) (K.taken out.new) }
     ensures no_answer { result.status ≢ 0 → result.status ≢ 4 → K.taken out.new ≡ K.taken out.old }
 
     // What is said on err is whole unless its own faults rose; the text matters at 5 alone.
@@ -59,6 +61,7 @@ pub fn run<S: Source, K: Sink, E: Sink>(
         E.taken err.new ≡ after (E.taken err.old) (said result.status (serial_answer (map string_bytes words.now) text)) }
     ensures said_front { (text : List ℕ) → (result.status ≡ 5 → S.left source.old ≡ Some text) →
         IsFront (E.taken err.new) (after (E.taken err.old) (said result.status (serial_answer (map string_bytes words.now) text))) }
+    ensures said_held { IsFront (E.taken err.old) (E.taken err.new) }
     ensures silent { result.status ≡ 0 → E.taken err.new ≡ E.taken err.old }
 {
     match answer(alloc, words, source, out) {
@@ -87,6 +90,7 @@ fn answer<S: Source, K: Sink>(
         OnOk result (IsOkAnd (matrix_of text) (λ m. K.taken out.new ≡ after (K.taken out.old) (histo_lines m.entries m.cols))) }
     ensures front { (text : List ℕ) → S.left source.old ≡ Some text → result ≡ Err Refusal.WriteFault →
         IsOkAnd (matrix_of text) (λ m. IsFront (K.taken out.new) (after (K.taken out.old) (histo_lines m.entries m.cols))) }
+    ensures held { IsFront (K.taken out.old) (K.taken out.new) }
     ensures unread { result ≡ Err Refusal.Usage → S.left source.new ≡ S.left source.old }
     ensures read_whole { (text : List ℕ) → S.left source.old ≡ Some text → IsDecided result → S.left source.new ≡ Some (drop 16_777_217 text) }
     ensures no_answer { (r : _) → result ≡ Err r → r ≢ Refusal.WriteFault → K.taken out.new ≡ K.taken out.old }
@@ -131,6 +135,7 @@ fn write_answer<K: Sink>(sink: &mut K, cols: u32, counts: &Vec<u32>) -> Result<(
         OnOk result (K.taken sink.new ≡ after (K.taken sink.old) (histo_lines entries cols)) }
     ensures front { (entries : _) → IsCounted cols entries counts.now →
         OnErr result (IsFront (K.taken sink.new) (after (K.taken sink.old) (histo_lines entries cols))) }
+    ensures held { IsFront (K.taken sink.old) (K.taken sink.new) }
     ensures cause { HasCause (K.faults sink.old) (K.faults sink.new) result }
 {
     let mut out = Out::new(sink);
@@ -144,6 +149,7 @@ fn write_all<K: Sink>(out: &mut Out<'_, K>, cols: u32, counts: &Vec<u32>) -> Res
     ensures front { (entries : _) → IsCounted cols entries counts.now →
         OnErr result (IsFront (K.taken out.new.sink.now) (after (appended K.taken out.old) (histo_lines entries cols))) }
     ensures cause { HasCause (K.faults out.old.sink.now) (K.faults out.new.sink.now) result }
+    ensures held { IsFront (K.taken out.old.sink.now) (K.taken out.new.sink.now) }
     ensures same_sink { out.new.sink.ghost_name ≡ out.old.sink.ghost_name }
 {
     write_histo(out, cols, counts)?;

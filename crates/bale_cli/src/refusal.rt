@@ -79,6 +79,7 @@ impl Refusal {
 pub fn report<E: Sink>(err: &mut E, refusal: Refusal)
     ensures said { ¬ Rose (E.faults err.old) (E.faults err.new) → E.taken err.new ≡ after (E.taken err.old) (refusal_text refusal) }
     ensures front { IsFront (E.taken err.new) (after (E.taken err.old) (refusal_text refusal)) }
+    ensures held { IsFront (E.taken err.old) (E.taken err.new) }
     ensures never_falls { E.faults err.old ≤ E.faults err.new }
 {
     let line = line_of(refusal);
@@ -92,6 +93,7 @@ fn say<E: Sink>(out: &mut Out<'_, E>, bytes: &[u8])
         E.taken out.new.sink.now ≡ after (appended E.taken out.old) bytes.now }
     ensures front { IsFront (E.taken out.new.sink.now) (after (appended E.taken out.old) bytes.now) }
     ensures never_falls { E.faults out.old.sink.now ≤ E.faults out.new.sink.now }
+    ensures held { IsFront (E.taken out.old.sink.now) (E.taken out.new.sink.now) }
     ensures same_sink { out.new.sink.ghost_name ≡ out.old.sink.ghost_name }
 {
     if out.text(bytes).is_ok() {

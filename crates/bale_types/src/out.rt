@@ -36,6 +36,7 @@ impl<'a, K: Sink> Out<'a, K> {
     /// An empty buffer in front of `sink`.
     pub fn new(sink: &'a mut K) -> Out<'a, K>
         ensures appended { appended K.taken result ≡ K.taken sink.entry.now }
+        ensures taken { K.taken result.sink.now ≡ K.taken sink.entry.now }
         ensures faults { K.faults result.sink.now ≡ K.faults sink.entry.now }
         ensures empty { result.len ≡ 0 }
         ensures same_sink { result.sink.ghost_name ≡ sink.entry.ghost_name }

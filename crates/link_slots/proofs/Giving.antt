@@ -20,10 +20,11 @@ use Rattle.link_slots.specs.declared.ear.Ear.{Ear}
 use Rattle.link_slots.specs.declared.rank_ends.RankEnds.{RankEnds}
 use Rattle.link_slots.specs.declared.rank_ends.EndedCounts.{EndedCounts}
 use Rattle.link_slots.specs.Logs.{OutLog, InLog, Logs, no_out, no_in, out_of, in_of, got_of}
-use Rattle.link_slots.specs.View.{no_logs, own_logs, logs_or, Speaks, without_pick, pick_alone, speaking_for, gathered}
+use Rattle.link_slots.specs.View.{no_logs, own_logs, logs_or, Speaks, IsAlone, without_pick, pick_alone, speaking_for, gathered}
 use Rattle.link_slots.specs.Hands.{Holds}
 use Rattle.link_slots.specs.Shape.{Shape, IsShape, wiring, IsBlank}
 use Rattle.link_slots.specs.Told.{Knowing}
+use Rattle.link_slots.specs.Own.{IsOwn}
 use Rattle.link_slots.specs.Counts.{IsOutEnd, IsInEnd, IsHeard, counted}
 use Rattle.link_slots.specs.Seat.{IsSeat}
 use Rattle.link_slots.specs.Gathering.{IsGathering, AreNew}
@@ -66,14 +67,21 @@ module _ (shape : Shape) where
     waiting = λ l n p a b lo e. absurd (none_seen n p (ap (λ (z : InLog Contents). get_elem? z.seen n) (sym (no_in_at l)) ∙ e));
   }
 
-  new_seat : (cap : ℕ) (v : Knowing) (r : ℕ) (e : RankEnds) → IsShape shape → v.shape ≡ shape → v.pick ≡ r → r < ranks shape.dims → Speaks v → own_logs v ≡ no_logs (links shape.dims) → AreNew (links shape.dims) e
+  new_seat : (cap : ℕ) (v : Knowing) (r : ℕ) (e : RankEnds) → IsShape shape → v.shape ≡ shape → v.pick ≡ r → r < ranks shape.dims → Speaks v → IsAlone v → own_logs v ≡ no_logs (links shape.dims) → AreNew (links shape.dims) e
       → IsSeat cap shape (v, []) r e.outs.items e.ins.items e.ears.items e.ended.items
-  new_seat cap v r e is of pick small speaks own new =
+  new_seat cap v r e is of pick small speaks alone own new =
       let n : ℕ = links shape.dims in
       let out_at : (l : ℕ) → out_of (own_logs v) l ≡ no_out = λ l. ap (λ (z : Logs Contents). out_of z l) own ∙ no_out_at l in
       let in_at : (l : ℕ) → in_of (own_logs v) l ≡ no_in = λ l. ap (λ (z : Logs Contents). in_of z l) own ∙ no_in_at l in record {
         shaped = is;
         manned = record { of = of; speaks = speaks; holds = subst (λ (z : Logs Contents). Holds IsBlank (wiring shape) v.pick z []) (sym own) (no_hands v.pick) };
+        alone = alone;
+        own = record {
+          outs = ap (λ (z : Logs Contents). length z.outs) own ∙ length-replicate n no_out;
+          ins = ap (λ (z : Logs Contents). length z.ins) own ∙ length-replicate n no_in;
+          sent = λ l ne. ap (λ (z : OutLog Contents). z.sent) (out_at l);
+          got = λ l ne. ap (λ (z : InLog Contents). take z.taken z.seen) (in_at l);
+        };
         rank_is = pick;
         rank_small = small;
         outs_many = ap length new.outs ∙ length-replicate n _;
@@ -107,6 +115,14 @@ module _ (v : Knowing) (r : ℕ) (x : Logs Contents) (at : get_or v.lists r None
   pub alone_own : own_logs (pick_alone (speaking_for v r)) ≡ x
   alone_own = ap logs_or alone_at
 
+  pub alone_alone : IsAlone (pick_alone (speaking_for v r))
+  alone_alone q ne = get_or-set_other (map (λ _. None) v.lists) r q (get_or v.lists r None) None ne ∙ nones v.lists q
+    where
+      nones : {A : Type 0} (l : List A) (q : ℕ) → ◌≡◌ {A = Option (Logs Contents)} (get_or (map (λ _. None) l) q None) None
+      nones [] q = refl
+      nones (x ∷ xs) zero = refl
+      nones (x ∷ xs) (suc q) = nones xs q
+
   pub alone_speaks : Speaks (pick_alone (speaking_for v r))
   alone_speaks = alone_at ∙ ap Some (sym alone_own)
 
@@ -117,7 +133,7 @@ given_seat cap shape v r e m is of small many at new me =
     let inside : r < length v.lists = omega arith in
     let shaped : m.0.shape ≡ shape = ap (λ (z : Me Contents Knowing). z.0.shape) me ∙ of in
     subst (λ (z : Shape × Me Contents Knowing). IsSeat cap z.0 z.1 r e.outs.items e.ins.items e.ears.items e.ended.items) (λ k. (sym shaped k, sym me k))
-    (new_seat shape cap (pick_alone (speaking_for v r)) r e is of refl small (alone_speaks v r (no_logs (links shape.dims)) at inside) (alone_own v r (no_logs (links shape.dims)) at inside) new)
+    (new_seat shape cap (pick_alone (speaking_for v r)) r e is of refl small (alone_speaks v r (no_logs (links shape.dims)) at inside) (alone_alone v r (no_logs (links shape.dims)) at inside) (alone_own v r (no_logs (links shape.dims)) at inside) new)
 
 read_none : {A : Type 0} (l : List (Option A)) (i : ℕ) → get_or (set l i None) i None ≡ None
 read_none [] i = refl
@@ -138,6 +154,7 @@ left_gathering shape m m' ends ended r is me =
       each_new = λ q e h. ⊎_elim (λ t. absurd (no_some e t.1))
           (λ t. let old = is.each_new q e t.1 in (old.0, ap (λ (z : List (Option (Logs Contents))). get_or z q None) lists ∙ get_or-set_other m.0.lists r q None None t.0 ∙ old.1))
           (seats.written ends r q None e h);
+      each_own = λ q x h. ⊎_elim (λ t. absurd (no_some x t.1)) (λ t. is.each_own q x t.1) (seats.written m.0.lists r q None x (sym (ap (λ (z : List (Option (Logs Contents))). get_or z q None) lists) ∙ h));
       ended_many = length-set ended r None ∙ is.ended_many;
       each_ended = λ q l a b. dite (ℕ_discrete q r)
           (λ s. ap (λ (z : Option EndedCounts). ended_of z l) (ap (λ (z : ℕ). get_or (set ended r None) z None) s ∙ read_none ended r)
@@ -154,10 +171,10 @@ pub rank_word : (shape : Shape) (r : ℕ) → IsGrid shape.dims → r < ranks sh
 rank_word shape r g h = let f = g.some in let p : ranks shape.dims * 1 ≤ ranks shape.dims * length shape.dims = mul-le-mul_left (ranks shape.dims) f in let q = mul-one (ranks shape.dims) in omega arith
 
 -- what the gathering seat has after it took in a rank's view
-pub more_gathered : (shape : Shape) (m m' : Me Contents Knowing) (u : Knowing) (ends : List (Option RankEnds)) (ended : List (Option EndedCounts)) (e : EndedCounts) → IsGathering shape m ends ended → u.shape ≡ shape → u.pick < ranks shape.dims → Speaks u
+pub more_gathered : (shape : Shape) (m m' : Me Contents Knowing) (u : Knowing) (ends : List (Option RankEnds)) (ended : List (Option EndedCounts)) (e : EndedCounts) → IsGathering shape m ends ended → u.shape ≡ shape → u.pick < ranks shape.dims → Speaks u → IsOwn shape.dims u.pick (own_logs u)
     → ((l : ℕ) → l < links shape.dims → reader_at shape.dims l ≡ u.pick → get_or e.counts.items l 0 ≡ counted (lasts (map shipped (got_of (own_logs u) l))))
     → m' ≡ (gathered m.0 u, m.1) → IsGathering m'.0.shape m' (set ends u.pick None) (set ended u.pick (Some e))
-more_gathered shape m m' u ends ended e is of small speaks counts me =
+more_gathered shape m m' u ends ended e is of small speaks own counts me =
     let r : ℕ = u.pick in
     let shaped : m'.0.shape ≡ shape = ap (λ (z : Me Contents Knowing). z.0.shape) me ∙ of in
     let lists : m'.0.lists ≡ set m.0.lists r (Some (own_logs u)) = ap (λ (z : Me Contents Knowing). z.0.lists) me ∙ ap (set m.0.lists r) speaks in
@@ -170,6 +187,8 @@ more_gathered shape m m' u ends ended e is of small speaks counts me =
       each_new = λ q f h. ⊎_elim (λ t. absurd (no_some f t.1))
           (λ t. let old = is.each_new q f t.1 in (old.0, ap (λ (z : List (Option (Logs Contents))). get_or z q None) lists ∙ get_or-set_other m.0.lists r q (Some (own_logs u)) None t.0 ∙ old.1))
           (seats.written ends r q None f h);
+      each_own = λ q x h. ⊎_elim (λ t. let same : own_logs u ≡ x = (let e : Some (own_logs u) ≡ Some x = t.1 in cc) in subst (λ (z : ℕ × Logs Contents). IsOwn shape.dims z.0 z.1) (λ k. (sym t.0 k, same k)) own) (λ t. is.each_own q x t.1)
+          (seats.written m.0.lists r q (Some (own_logs u)) x (sym (ap (λ (z : List (Option (Logs Contents))). get_or z q None) lists) ∙ h));
       ended_many = length-set ended r (Some e) ∙ is.ended_many;
       each_ended = λ q l a b. dite (ℕ_discrete q r)
           (λ s. ap (λ (z : Option EndedCounts). ended_of z l) (ap (λ (z : ℕ). get_or (set ended r (Some e)) z None) s ∙ get_or-set_same ended r (Some e) None (let n = is.ended_many in omega arith))

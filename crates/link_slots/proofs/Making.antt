@@ -18,13 +18,14 @@ use Rattle.link_slots.specs.declared.rank_ends.EndedCounts.{EndedCounts}
 use Rattle.item_buffer.specs.Contents.{shipped}
 use Rattle.port_bank.specs.Logs.{lasts}
 use Rattle.link_slots.specs.Logs.{got_of}
+use Rattle.link_slots.specs.Own.{IsOwn}
 use Rattle.link_slots.specs.Counts.{counted}
 use Rattle.link_slots.specs.View.{first_view, no_logs, logs_or}
 use Rattle.link_slots.specs.Closed.{logs_at, ended_of}
 use Rattle.link_slots.specs.Shape.{Shape, IsShape, wiring, IsBlank, MayFollow, KeepsLaw}
 use Rattle.link_slots.specs.Told.{Knowing, IsLawful}
 use Rattle.link_slots.specs.Gathering.{IsGathering, AreNew, HasNew, is_gone}
-use Rattle.link_slots.proofs.Opening.{opens, no_got}
+use Rattle.link_slots.proofs.Opening.{opens, no_sent, no_got, same_some, some_there}
 use Rattle.link_slots.proofs.Wires.{wired}
 
 not_slots : (n : ℕ) → 8 < n → ((eqb n 1) || (eqb n 2) || (eqb n 4) || (eqb n 8)) ≡ false
@@ -48,7 +49,7 @@ one_value (suc n) (suc k) a b e = one_value n k a b e
 pub opens_lawful : (cap : ℕ) (shape : Shape) (words : List ℕ) (slots : List Contents) → IsShape shape → words ≡ replicate (2 * links shape.dims + ranks shape.dims * length shape.dims) 0 → slots ≡ replicate (shape.slots * links shape.dims) (blank 0)
     → IsLawful cap shape (opening words slots (first_view shape (ranks shape.dims) (links shape.dims)))
 opens_lawful cap shape words slots is zeros blanks =
-    opens IsBlank (MayFollow shape.dims cap) (KeepsLaw shape.dims) shape (wiring shape) (wired shape is) (ranks shape.dims) words slots zeros
+    opens IsBlank (MayFollow shape.dims cap) (KeepsLaw shape.dims) shape (wiring shape) (wired shape is) words slots zeros
     (ap length blanks ∙ length-replicate (shape.slots * links shape.dims) (blank 0))
     (λ k b e. let same : b ≡ blank 0 = one_value (shape.slots * links shape.dims) k (blank 0) b (ap (λ (z : List Contents). get_elem? z k) (sym blanks) ∙ e) in subst (λ (z : Contents). z ≡ blank z.epoch) (sym same) refl)
     (λ r. law_nothing shape.dims r (λ l. []))
@@ -71,11 +72,6 @@ in_range [] r x e = absurd (let n : None ≡ Some x = e in cc)
 in_range (y ∷ ys) zero x e = omega arith
 in_range (y ∷ ys) (suc r) x e = let h = in_range ys r x e in omega arith
 
-some_at : {A : Type 0} (n r : ℕ) (a : A) → r < n → get_or (replicate n (Some a)) r None ≡ Some a
-some_at zero r a h = absurd (omega arith)
-some_at (suc n) zero a h = refl
-some_at (suc n) (suc r) a h = some_at n r a (omega arith)
-
 pub first_gathering : (shape : Shape) (m : Me Contents Knowing) (ends : List (Option RankEnds)) (ended : List (Option EndedCounts)) → IsShape shape → m ≡ (first_view shape (ranks shape.dims) (links shape.dims), []) → length ends ≡ ranks shape.dims → All (HasNew (links shape.dims)) ends → ended ≡ replicate (ranks shape.dims) None
     → IsGathering m.0.shape m ends ended
 first_gathering shape m ends ended is me many new none =
@@ -88,8 +84,15 @@ first_gathering shape m ends ended is me many new none =
       ends_many = many;
       each_new = λ r e at. (
         kept_new (links shape.dims) ends r e new at,
-        ap (λ (z : Me Contents Knowing). get_or z.0.lists r None) me ∙ some_at (ranks shape.dims) r (no_logs (links shape.dims)) (let h = in_range ends r e at in omega arith),
+        ap (λ (z : Me Contents Knowing). get_or z.0.lists r None) me ∙ some_there (ranks shape.dims) r (no_logs (links shape.dims)) (let h = in_range ends r e at in omega arith),
       );
+      each_own = λ r x at. let same : x ≡ no_logs (links shape.dims) = same_some (ranks shape.dims) r (no_logs (links shape.dims)) x (sym (ap (λ (z : Me Contents Knowing). get_or z.0.lists r None) me) ∙ at) in
+          subst (IsOwn shape.dims r) (sym same) (record {
+            outs = length-replicate (links shape.dims) _;
+            ins = length-replicate (links shape.dims) _;
+            sent = λ l ne. ap (λ (f : ℕ → List Contents). f l) (no_sent Contents (links shape.dims));
+            got = λ l ne. ap (λ (f : ℕ → List Contents). f l) (no_got Contents (links shape.dims));
+          });
       ended_many = ap length none ∙ length-replicate (ranks shape.dims) None;
       each_ended = λ r l a b. ap (λ (z : List (Option EndedCounts)). ended_of (get_or z r None) l) none ∙ ap (λ (z : Option EndedCounts). ended_of z l) (nones (ranks shape.dims) r)
           ∙ ap (λ (z : List Contents). counted (lasts (map shipped z))) (sym (ap (λ (z : Me Contents Knowing). got_of (logs_at z.0.lists r) l) me ∙ nothing_got (links shape.dims) (ranks shape.dims) r l));

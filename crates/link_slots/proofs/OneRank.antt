@@ -2,11 +2,12 @@
 use Rattle.std.proofs.Common.{◌≡◌, ◌≢◌, ℕ, zero, suc, ◌+◌, ◌*◌, ◌^◌, ◌<◌, Bool, cond, eqb, List, [], ◌∷◌, length, get_or, set, sym, refl, ap, ◌∙◌, subst, ⊎_elim, arith, Option, Some, None, length-set, get_or-set_same, get_or-set_other, eq-eqb, ne_eqb}
 use mathlib.Core.Logic.{dite}
 use mathlib.Core.Option as maybe
-use mathlib.Core.Option.{some}
+use mathlib.Core.Option.{some, some-injective}
 use native.Mathlib.Decide.{ℕ_discrete}
 use lib.ListN.{get_elem?}
 use Rattle.atomic_table.specs.Table.{State}
-use Rattle.atomic_table.proofs.Lists.{at_set}
+use Rattle.atomic_table.proofs.Lists.{at_set, set_here, set_else}
+use Rattle.link_slots.proofs.Lookups.{at_inside}
 use Rattle.link_slots.specs.Logs.{OutLog, InLog, Logs, no_out, no_in, out_of, in_of, with_out, with_in, sent_of, got_of}
 use Rattle.link_slots.specs.View.{View, own_logs, with_logs, Speaks}
 use Rattle.link_slots.specs.Wiring.{Wiring, IsWired, slot_of, posted_word, released_word, bell_word}
@@ -124,6 +125,16 @@ module _ {D T : Type 0} (Blank : T → Type 0) (Good : ℕ → List T → T → 
             let other : r ≢ v.pick = λ same. t.0 (sym old.0 ∙ ap ok.owner same ∙ known.0) in
             (old.0, old.1 ∙ sym (put_else ok.logs v.pick x r other), old.2))
             (at_set s.views id j (with_logs v x) u there);
+        owned = λ r h. let old = ok.owned r h in dite (ℕ_discrete (ok.owner r) id)
+            (λ mine. let same : old.0 ≡ v = some-injective old.0 v (sym old.1 ∙ ap (get_elem? s.views) mine ∙ at) in (
+              with_logs v x,
+              ap (get_elem? (set s.views id (with_logs v x))) mine ∙ set_here s.views id (with_logs v x) (at_inside s.views id v at),
+              dite (ℕ_discrete r v.pick)
+                  (λ e. ap (get_or_none (set v.lists v.pick (Some x))) e ∙ get_or-set_same v.lists v.pick (Some x) None long ∙ ap Some (sym (ap logs' e ∙ put_here ok.logs v.pick x)))
+                  (λ ne. get_or-set_other v.lists v.pick r (Some x) None ne ∙ ap (λ (z : View D T). get_or z.lists r None) (sym same) ∙ old.2 ∙ ap Some (sym (put_else ok.logs v.pick x r ne))),
+            ))
+            (λ apart. let ne : r ≢ v.pick = λ e. apart (ap ok.owner e ∙ known.0) in
+            (old.0, set_else s.views id (ok.owner r) (with_logs v x) apart ∙ old.1, old.2 ∙ ap Some (sym (put_else ok.logs v.pick x r ne))));
       }
     where
       get_or_none : List (Option (Logs T)) → ℕ → Option (Logs T)

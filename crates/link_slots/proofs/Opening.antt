@@ -26,6 +26,11 @@ module _ {A : Type 0} where
   same_some (suc n) zero a b e = cc
   same_some (suc n) (suc i) a b e = same_some n i a b e
 
+  pub some_there : (n i : ℕ) (a : A) → i < n → get_or (replicate n (Some a)) i None ≡ Some a
+  some_there zero i a h = absurd (omega arith)
+  some_there (suc n) zero a h = refl
+  some_there (suc n) (suc i) a h = some_there n i a (omega arith)
+
 module _ (T : Type 0) where
   pub no_sent : (links : ℕ) → sent_of {T = T} (no_logs links) ≡ (λ (l : ℕ). [])
   no_sent links = λ k l. ap (λ (o : OutLog T). o.sent) (all_one links l no_out) k
@@ -37,9 +42,9 @@ none_first : {T : Type 0} (n : ℕ) (p : T) → get_elem? [] n ≡ some p → �
 none_first n p e = some-ne-none p (sym e)
 
 module _ {D T : Type 0} (Blank : T → Type 0) (Good : ℕ → List T → T → Type 0) (Law : ℕ → (ℕ → List T) → (ℕ → List T) → Type 0) (shape : D) (w : Wiring) (wired : IsWired w) where
-  pub opens : (ranks : ℕ) (words : List ℕ) (slots : List T) → words ≡ replicate (2 * w.links + w.bells) 0 → length slots ≡ w.slots * w.links → ((k : ℕ) (b : T) → get_elem? slots k ≡ some b → Blank b)
-      → ((r : ℕ) → Law r (λ _. []) (λ _. [])) → Lawful Blank Good Law shape w (opening words slots (first_view shape ranks w.links))
-  opens ranks words slots zeros deep blank law =
+  pub opens : (words : List ℕ) (slots : List T) → words ≡ replicate (2 * w.links + w.bells) 0 → length slots ≡ w.slots * w.links → ((k : ℕ) (b : T) → get_elem? slots k ≡ some b → Blank b)
+      → ((r : ℕ) → Law r (λ _. []) (λ _. [])) → Lawful Blank Good Law shape w (opening words slots (first_view shape w.ranks w.links))
+  opens words slots zeros deep blank law =
       let N : ℕ = 2 * w.links + w.bells in
       let zero_at : (k : ℕ) → get_or words k 0 ≡ 0 = λ k. ap (λ (z : List ℕ). get_or z k 0) zeros ∙ all_one N k 0 in
       let homes : List (maybe.Option T) = map some slots in record {
@@ -68,7 +73,8 @@ module _ {D T : Type 0} (Blank : T → Type 0) (Good : ℕ → List T → T → 
         });
         no_other_bits = λ b h. subst (λ (z : ℕ). z < 2 ^ w.width b) (sym (zero_at (2 * w.links + b))) (pow_pos (w.width b));
         each_rank = λ r. (length-replicate w.links no_out, length-replicate w.links no_in, subst (λ (z : (ℕ → List T) × (ℕ → List T)). Law r z.0 z.1) (λ k. (sym (no_sent T w.links) k, sym (no_got T w.links) k)) (law r));
-        each_seat = λ j v at r x e. first_seat ranks j v at r x e;
+        each_seat = λ j v at r x e. first_seat w.ranks j v at r x e;
+        owned = λ r h. (first_view shape w.ranks w.links, refl, some_there w.ranks r (no_logs w.links) h);
       }
     where
       first_seat : (ranks j : ℕ) (v : View D T) → get_elem? (first_view shape ranks w.links ∷ []) j ≡ some v → (r : ℕ) (x : Logs T) → get_or v.lists r None ≡ Some x → (0 ≡ j) × (x ≡ no_logs w.links) × (v.shape ≡ shape)

@@ -1,5 +1,5 @@
 -- A rank's seat keeps its counts under a post and a collect.
-use Rattle.std.proofs.Common.{◌≡◌, ◌≢◌, ℕ, suc, ◌+◌, ◌<◌, ◌≤◌, Bool, true, false, cond, List, [], ◌∷◌, ◌++◌, map, length, get_or, take, drop, set, sym, refl, ap, ◌∙◌, subst, arith, Option, None, length-set, length-append, get_or-set_same, get_or-set_other, eq-eqb, ne_eqb}
+use Rattle.std.proofs.Common.{◌≡◌, ◌≢◌, ℕ, suc, ◌+◌, ◌<◌, ◌≤◌, Bool, true, false, cond, List, [], ◌∷◌, ◌++◌, map, length, get_or, take, drop, set, sym, refl, ap, ◌∙◌, subst, arith, Option, None, Some, length-set, length-append, get_or-set_same, get_or-set_other, eq-eqb, ne_eqb}
 use Rattle.std.specs.List.{All}
 use Rattle.std.proofs.lemmas.List.{map-append, take-append-drop, take-append-le}
 use mathlib.Core.Option.{some}
@@ -83,6 +83,14 @@ module _ (cap : ℕ) (shape : Shape) (m m' : Me Contents Knowing) (rank l : ℕ)
       subst (λ (z : Shape). IsSeat cap z m' rank (set outs l e) ins ears ended) (sym manned.of) (record {
         shaped = is.shaped;
         manned = manned;
+        alone = λ r ne. let other : r ≢ m.0.pick = λ e. ne (e ∙ sym (ap (λ (v : Knowing). v.pick) here)) in
+            ap (λ (z : Knowing). get_or z.lists r None) here ∙ get_or-set_other m.0.lists m.0.pick r (Some (with_out (own_logs m.0) l o)) None other ∙ is.alone r other;
+        own = record {
+          outs = ap (λ (z : Logs Contents). length z.outs) own ∙ length-set (own_logs m.0).outs l o ∙ is.lists_out;
+          ins = ap (λ (z : Logs Contents). length z.ins) own ∙ is.lists_in;
+          sent = λ k ne. ap (λ (z : OutLog Contents). z.sent) (outs_else k (λ e. ne (ap (sender_at shape.dims) e ∙ mine))) ∙ is.own.sent k ne;
+          got = λ k ne. ap (λ (z : InLog Contents). got z) (ins_same k) ∙ is.own.got k ne;
+        };
         rank_is = ap (λ (v : Knowing). v.pick) here ∙ is.rank_is;
         rank_small = is.rank_small;
         outs_many = length-set outs l e ∙ is.outs_many;
@@ -110,6 +118,14 @@ module _ (cap : ℕ) (shape : Shape) (m m' : Me Contents Knowing) (rank l : ℕ)
       subst (λ (z : Shape). IsSeat cap z m' rank outs (set ins l e) (set ears hop ear) (set ended l now)) (sym manned.of) (record {
         shaped = is.shaped;
         manned = manned;
+        alone = λ r ne. let other : r ≢ m.0.pick = λ e. ne (e ∙ sym (ap (λ (v : Knowing). v.pick) here)) in
+            ap (λ (z : Knowing). get_or z.lists r None) here ∙ get_or-set_other m.0.lists m.0.pick r (Some y') None other ∙ is.alone r other;
+        own = record {
+          outs = ap length others.outs ∙ is.lists_out;
+          ins = others.long ∙ is.lists_in;
+          sent = λ k ne. ap (λ (z : OutLog Contents). z.sent) (outs_same k) ∙ is.own.sent k ne;
+          got = λ k ne. let other : k ≢ l = λ e. ne (ap (reader_at shape.dims) e ∙ mine) in (λ j. take (others.taken k other j) (others.seen k other j)) ∙ is.own.got k ne;
+        };
         rank_is = ap (λ (v : Knowing). v.pick) here ∙ is.rank_is;
         rank_small = is.rank_small;
         outs_many = is.outs_many;

@@ -1,15 +1,18 @@
 -- A rank's lists pass from view to view: pick, split and join keep the rule.
-use Rattle.std.proofs.Common.{◌≡◌, ◌≢◌, ℕ, zero, suc, ◌*◌, ◌⊎◌, Bool, cond, eqb, List, [], ◌∷◌, ◌++◌, map, length, get_or, set, sym, refl, ap, ◌∙◌, subst, inl, inr, ⊎_elim, arith, Option, Some, None, eq-eqb, ne_eqb}
+use Rattle.std.proofs.Common.{◌≡◌, ◌≢◌, ℕ, zero, suc, ◌*◌, ◌<◌, ◌⊎◌, Bool, cond, eqb, List, [], ◌∷◌, ◌++◌, map, length, get_or, set, sym, refl, ap, ◌∙◌, subst, inl, inr, ⊎_elim, arith, Option, Some, None, eq-eqb, ne_eqb, get_or-set_same, get_or-set_other}
+use Rattle.std.proofs.lemmas.List.{length-map}
+use mathlib.Core.Logic.{dite}
+use native.Mathlib.Decide.{ℕ_discrete}
 use Rattle.std.proofs.lemmas.List.{set-get_or}
-use mathlib.Core.Option.{some}
+use mathlib.Core.Option.{some, some-injective}
 use lib.ListN.{get_elem?}
 use Rattle.atomic_table.specs.Table.{State, keeps, Allows, Splits, Joins}
-use Rattle.atomic_table.proofs.Lists.{at_set}
+use Rattle.atomic_table.proofs.Lists.{at_set, set_here, set_else, at_longer, at_last}
 use Rattle.link_slots.specs.Logs.{Logs}
-use Rattle.link_slots.specs.View.{View, own_logs, Speaks, without_pick, pick_alone, gathered, spent, emptied, speaking_for}
+use Rattle.link_slots.specs.View.{View, own_logs, Speaks, IsAlone, without_pick, pick_alone, gathered, spent, emptied, speaking_for}
 use Rattle.link_slots.specs.Wiring.{Wiring}
 use Rattle.link_slots.specs.Bank.{Lawful}
-use Rattle.link_slots.proofs.Lookups.{snoc_case}
+use Rattle.link_slots.proofs.Lookups.{snoc_case, at_inside}
 use Rattle.link_slots.proofs.OneRank.{put, put_here, put_else}
 
 none_there : {A : Type 0} (l : List (Option A)) (r : ℕ) (y : A) → get_or (map (λ (_ : Option A). None) l) r None ≡ Some y → ⊥
@@ -29,6 +32,11 @@ module _ {A : Type 0} where
   written (x ∷ xs) (suc k) zero a y e = inr ((λ h. omega arith), e)
   written (x ∷ xs) (suc k) (suc r) a y e = ⊎_elim (λ t. inl (ap suc t.0, t.1)) (λ t. inr ((λ h. t.0 (omega arith)), t.1)) (written xs k r a y e)
 
+listed : {A : Type 0} (l : List (Option A)) (r : ℕ) (x : A) → get_or l r None ≡ Some x → r < length l
+listed [] r x e = cc
+listed (y ∷ ys) zero x e = omega arith
+listed (y ∷ ys) (suc r) x e = let h = listed ys r x e in omega arith
+
 no_some : {A : Type 0} (y : A) → None ≡ Some y → ⊥
 no_some y e = cc
 
@@ -39,8 +47,9 @@ module _ {D T : Type 0} (Blank : T → Type 0) (Good : ℕ → List T → T → 
   -- the rule speaks of the views by one clause alone
   reseated : (s : State T (View D T)) (ok : Rule s) (owner : ℕ → ℕ) (views : List (View D T))
       → ((j : ℕ) (v : View D T) → get_elem? views j ≡ some v → (r : ℕ) (x : Logs T) → get_or v.lists r None ≡ Some x → (owner r ≡ j) × (x ≡ ok.logs r) × (v.shape ≡ shape))
+      → ((r : ℕ) → r < w.ranks → (v : View D T) × (get_elem? views (owner r) ≡ some v) × (get_or v.lists r None ≡ Some (ok.logs r)))
       → Rule (record { words = s.words; homes = s.homes; views = views })
-  reseated s ok owner views seats = record {
+  reseated s ok owner views seats owns = record {
     logs = ok.logs;
     owner = owner;
     wide = ok.wide;
@@ -50,7 +59,17 @@ module _ {D T : Type 0} (Blank : T → Type 0) (Good : ℕ → List T → T → 
     no_other_bits = ok.no_other_bits;
     each_rank = ok.each_rank;
     each_seat = seats;
+    owned = owns;
   }
+
+  -- a rank's lists stay in the seat that has them, where that seat's view keeps them
+  still_owned : (s : State T (View D T)) (ok : Rule s) (id : ℕ) (v u : View D T) → get_elem? s.views id ≡ some v → (r : ℕ) → r < w.ranks → (ok.owner r ≡ id → get_or u.lists r None ≡ get_or v.lists r None)
+      → (z : View D T) × (get_elem? (set s.views id u) (ok.owner r) ≡ some z) × (get_or z.lists r None ≡ Some (ok.logs r))
+  still_owned s ok id v u at r h same =
+      let old = ok.owned r h in dite (ℕ_discrete (ok.owner r) id)
+      (λ mine. let is : old.0 ≡ v = some-injective old.0 v (sym old.1 ∙ ap (get_elem? s.views) mine ∙ at) in
+      (u, ap (get_elem? (set s.views id u)) mine ∙ set_here s.views id u (at_inside s.views id v at), same mine ∙ ap (λ (z : View D T). get_or z.lists r None) (sym is) ∙ old.2))
+      (λ apart. (old.0, set_else s.views id (ok.owner r) u apart ∙ old.1, old.2))
 
   -- a load by whose word the seat's next rank is picked
   pub pick : (id k q : ℕ) (v : View D T) (c : List (ℕ × T))
@@ -62,7 +81,7 @@ module _ {D T : Type 0} (Blank : T → Type 0) (Good : ℕ → List T → T → 
     subst (λ (z : List ℕ). Rule (record { words = z; homes = s.homes; views = set s.views id (speaking_for v q) })) (sym (set-get_or s.words k 0))
         (reseated s ok ok.owner (set s.views id (speaking_for v q)) (λ j u there r x e. ⊎_elim
         (λ t. let old = ok.each_seat id v at r x (ap (λ (z : View D T). get_or z.lists r None) t.1 ∙ e) in (old.0 ∙ sym t.0, old.1, ap (λ (z : View D T). z.shape) (sym t.1) ∙ old.2))
-        (λ t. ok.each_seat j u t.1 r x e) (at_set s.views id j (speaking_for v q) u there))),
+        (λ t. ok.each_seat j u t.1 r x e) (at_set s.views id j (speaking_for v q) u there)) (λ r h. still_owned s ok id v (speaking_for v q) at r h (λ _. refl))),
     refl,
   )
 
@@ -87,6 +106,19 @@ module _ {D T : Type 0} (Blank : T → Type 0) (Good : ℕ → List T → T → 
       (λ q. absurd (none_there v.lists r x q.1))
       (written (map (λ _. None) v.lists) v.pick r (get_or v.lists v.pick None) x e'))
       (snoc_case (set s.views id (without_pick v)) (pick_alone v) u j there))
+      (λ r h. dite (ℕ_discrete r v.pick)
+      (λ e. (
+        pick_alone v,
+        ap (get_elem? (set s.views id (without_pick v) ++ pick_alone v ∷ [])) (ap owner e ∙ put_here ok.owner v.pick new) ∙ at_last (set s.views id (without_pick v)) (pick_alone v) new refl,
+        ap (λ (z : ℕ). get_or (pick_alone v).lists z None) e
+            ∙ get_or-set_same (map (λ _. None) v.lists) v.pick (get_or v.lists v.pick None) None (subst (λ (z : ℕ). v.pick < z) (sym (length-map v.lists (λ _. None))) (listed v.lists v.pick (own_logs v) speaks))
+            ∙ speaks ∙ ap Some (known.1 ∙ ap ok.logs (sym e)),
+      ))
+      (λ ne. let old = still_owned s ok id v (without_pick v) at r h (λ _. get_or-set_other v.lists v.pick r None None ne) in (
+        old.0,
+        ap (get_elem? (set s.views id (without_pick v) ++ pick_alone v ∷ [])) (put_else ok.owner v.pick new r ne) ∙ at_longer (set s.views id (without_pick v)) (pick_alone v ∷ []) (ok.owner r) old.0 old.1,
+        old.2,
+      )))
 
   moved_here : (owner : ℕ → ℕ) (id new r : ℕ) → owner r ≡ id → cond (eqb (owner r) id) new (owner r) ≡ new
   moved_here owner id new r e = ap (λ (b : Bool). cond b new (owner r)) (eq-eqb (owner r) id e)
@@ -107,9 +139,21 @@ module _ {D T : Type 0} (Blank : T → Type 0) (Good : ℕ → List T → T → 
       (λ t. let old = ok.each_seat id v at r x (ap (λ (z : View D T). get_or z.lists r None) t.1 ∙ e) in
       (moved_here ok.owner id new r old.0 ∙ sym t.0, old.1, ap (λ (z : View D T). z.shape) (sym t.1) ∙ old.2))
       (snoc_case (set s.views id (emptied v)) v u j there))
+      (λ r h. let old = ok.owned r h in dite (ℕ_discrete (ok.owner r) id)
+      (λ mine. let is : old.0 ≡ v = some-injective old.0 v (sym old.1 ∙ ap (get_elem? s.views) mine ∙ at) in (
+        v,
+        ap (get_elem? (set s.views id (emptied v) ++ v ∷ [])) (moved_here ok.owner id new r mine) ∙ at_last (set s.views id (emptied v)) v new refl,
+        ap (λ (z : View D T). get_or z.lists r None) (sym is) ∙ old.2,
+      ))
+      (λ apart. (
+        old.0,
+        ap (get_elem? (set s.views id (emptied v) ++ v ∷ [])) (moved_else ok.owner id new r apart)
+            ∙ at_longer (set s.views id (emptied v)) (v ∷ []) (ok.owner r) old.0 (set_else s.views id (ok.owner r) (emptied v) apart ∙ old.1),
+        old.2,
+      )))
 
-  pub join : (nowhere : D) (id other : ℕ) (v u : View D T) → Speaks u → Joins Rule id v other u (gathered v u) (spent nowhere)
-  join nowhere id other v u speaks s ok at ne at_other =
+  pub join : (nowhere : D) (id other : ℕ) (v u : View D T) → Speaks u → IsAlone u → u.pick < length v.lists → Joins Rule id v other u (gathered v u) (spent nowhere)
+  join nowhere id other v u speaks alone long s ok at ne at_other =
       let there : get_elem? s.views other ≡ some u = ⊎_elim (λ t. absurd (ne t.0)) (λ t. t.1) (at_set s.views id other (gathered v u) u at_other) in
       let known = ok.each_seat other u there u.pick (own_logs u) speaks in
       let owner : ℕ → ℕ = put ok.owner u.pick id in
@@ -126,3 +170,18 @@ module _ {D T : Type 0} (Blank : T → Type 0) (Good : ℕ → List T → T → 
       (put_else ok.owner u.pick id r apart ∙ old.0, old.1, old.2))
       (at_set s.views id j (gathered v u) z t.1))
       (at_set (set s.views id (gathered v u)) other j (spent nowhere) z found))
+      (λ r h. dite (ℕ_discrete r u.pick)
+      (λ e. (
+        gathered v u,
+        ap (get_elem? (set (set s.views id (gathered v u)) other (spent nowhere))) (ap owner e ∙ put_here ok.owner u.pick id) ∙ set_else (set s.views id (gathered v u)) other id (spent nowhere) (λ q. ne (sym q))
+            ∙ set_here s.views id (gathered v u) (at_inside s.views id v at),
+        ap (λ (z : ℕ). get_or (set v.lists u.pick (get_or u.lists u.pick None)) z None) e ∙ get_or-set_same v.lists u.pick (get_or u.lists u.pick None) None long ∙ speaks ∙ ap Some (known.1 ∙ ap ok.logs (sym e)),
+      ))
+      (λ n.
+      let old = ok.owned r h in
+      let kept = still_owned s ok id v (gathered v u) at r h (λ _. get_or-set_other v.lists u.pick r (get_or u.lists u.pick None) None n) in
+      let apart : ok.owner r ≢ other = λ q. no_some (ok.logs r) (sym (alone r n) ∙ ap (λ (z : View D T). get_or z.lists r None) (some-injective u old.0 (sym there ∙ ap (get_elem? s.views) (sym q) ∙ old.1)) ∙ old.2) in (
+        kept.0,
+        ap (get_elem? (set (set s.views id (gathered v u)) other (spent nowhere))) (put_else ok.owner u.pick id r n) ∙ set_else (set s.views id (gathered v u)) other (ok.owner r) (spent nowhere) apart ∙ kept.1,
+        kept.2,
+      )))

@@ -1,5 +1,5 @@
 -- A lawful bank, when it is closed, keeps the laws of a round.
-use Rattle.std.proofs.Common.{◌≡◌, ℕ, zero, suc, ◌-◌, ◌^◌, min, ◌<◌, ◌≤◌, List, [], ◌∷◌, ◌++◌, map, length, get_or, take, drop, sym, refl, ap, ◌∙◌, subst, arith, append_assoc, length-append}
+use Rattle.std.proofs.Common.{◌≡◌, ℕ, zero, suc, ◌-◌, ◌^◌, min, ◌<◌, ◌≤◌, true, false, Bool, cond, eqb, eq-eqb, ne_eqb, Option, Some, None, IsSome, List, [], ◌∷◌, ◌++◌, map, length, get_or, take, drop, sym, refl, ap, ◌∙◌, subst, arith, append_assoc, length-append}
 use Rattle.std.proofs.lemmas.List.{length-map, take-append-drop, length-take-le}
 use Rattle.std.proofs.Math.Seq.{get_or-append_seam}
 use lib.ListN.{get_or-append, get_elem?}
@@ -12,7 +12,7 @@ use Rattle.item_buffer.specs.Contents.{Contents, Shipped, shipped}
 use Rattle.route_tensor.specs.Grid.{ranks}
 use Rattle.route_tensor.specs.Link.{links}
 use Rattle.route_tensor.specs.Ends.{sender_at, reader_at}
-use Rattle.port_bank.specs.Logs.{lasts}
+use Rattle.port_bank.specs.Logs.{lasts, starting_at, ending_at}
 use Rattle.port_bank.specs.Link.{LinkLaw}
 use Rattle.port_bank.specs.Relay.{RelayLaw}
 use Rattle.port_bank.specs.Round.{Round, logs_of, IsRound, ended_by_all}
@@ -24,7 +24,9 @@ use Rattle.link_slots.specs.Logs.{OutLog, InLog, Logs, no_out, no_in, out_of, in
 use Rattle.link_slots.specs.Link.{LinkOk}
 use Rattle.link_slots.specs.Shape.{Shape, IsShape, wiring, IsBlank, MayFollow, shipped_all}
 use Rattle.link_slots.specs.Told.{Knowing, IsLawful}
-use Rattle.link_slots.specs.Closed.{each_below, logs_at, slot_round, AllThere}
+use Rattle.link_slots.specs.Closed.{each_below, logs_at, round_of, slot_round, AllThere}
+use Rattle.link_slots.specs.Own.{IsOwn}
+use Rattle.link_slots.specs.View.{logs_or}
 use Rattle.link_slots.proofs.Lookups.{at_there, read}
 use Rattle.link_slots.proofs.Wires.{ends_join}
 
@@ -67,34 +69,33 @@ link_law cap shape l o i ws hs ok =
       fits = λ k d h. let f = fine k d h in subst (λ (z : Shipped). length z.entries ≤ cap) (sym f.1) f.2.fits;
     }
 
-pub settled : (cap : ℕ) (shape : Shape) (s : State Contents Knowing) (id : ℕ) (v : Knowing) → IsShape shape → IsLawful cap shape s → get_elem? s.views id ≡ some v → AllThere shape v.lists → IsRound (slot_round shape cap v.lists)
-settled cap shape s id v is ok at all =
-    let dims : List ℕ = shape.dims in let n : ℕ = links dims in let round : Round = slot_round shape cap v.lists in
-    let known : (r : ℕ) → r < ranks dims → logs_at v.lists r ≡ ok.logs r = λ r h. (ok.each_seat id v at r (logs_at v.lists r) (all r h)).1 in
+pub live : (cap : ℕ) (shape : Shape) (s : State Contents Knowing) → IsShape shape → (ok : IsLawful cap shape s) → IsRound (round_of shape cap ok.logs)
+live cap shape s is ok =
+    let dims : List ℕ = shape.dims in let n : ℕ = links dims in let round : Round = round_of shape cap ok.logs in
     let from : (l : ℕ) → l < n → sender_at dims l < ranks dims = λ l h. (ends_join dims is.grid l h).sender in
     let to : (l : ℕ) → l < n → reader_at dims l < ranks dims = λ l h. (ends_join dims is.grid l h).reader in
     let sent_at : (l : ℕ) → l < n → logs_of round.sent l ≡ map shipped (sent_of (ok.logs (sender_at dims l)) l) =
-    λ l h. at_each_below (λ k. map shipped (sent_of (logs_at v.lists (sender_at dims k)) k)) n l [] h ∙ ap (λ (z : Logs Contents). map shipped (sent_of z l)) (known (sender_at dims l) (from l h)) in
+    λ l h. at_each_below (λ k. map shipped (sent_of (ok.logs (sender_at dims k)) k)) n l [] h in
     let got_at : (l : ℕ) → l < n → logs_of round.got l ≡ map shipped (got_of (ok.logs (reader_at dims l)) l) =
-    λ l h. at_each_below (λ k. map shipped (got_of (logs_at v.lists (reader_at dims k)) k)) n l [] h ∙ ap (λ (z : Logs Contents). map shipped (got_of z l)) (known (reader_at dims l) (to l h)) in
+    λ l h. at_each_below (λ k. map shipped (got_of (ok.logs (reader_at dims k)) k)) n l [] h in
     let law : (l : ℕ) → l < n → LinkLaw cap shape.slots (logs_of round.sent l) (logs_of round.got l) =
     λ l h. subst (λ (z : List Shipped × List Shipped). LinkLaw cap shape.slots z.0 z.1) (λ k. (sym (sent_at l h) k, sym (got_at l h) k))
     (link_law cap shape l (out_of (ok.logs (sender_at dims l)) l) (in_of (ok.logs (reader_at dims l)) l) s.words s.homes (ok.each_link l h)) in
     let sent_own : (r l : ℕ) → sender_at dims l ≡ r → map shipped (sent_of (ok.logs r) l) ≡ logs_of round.sent l =
     λ r l e. dite (dec_le (suc l) n)
     (λ h. ap (λ (z : ℕ). map shipped (sent_of (ok.logs z) l)) (sym e) ∙ sym (sent_at l h))
-    (λ h. ap (λ (z : OutLog Contents). map shipped z.sent) (past_end (ok.logs r).outs l no_out (let q = (ok.each_rank r).0 in omega arith)) ∙ sym (past_end round.sent l [] (let q = length-each_below (λ k. map shipped (sent_of (logs_at v.lists (sender_at dims k)) k)) n in omega arith))) in
+    (λ h. ap (λ (z : OutLog Contents). map shipped z.sent) (past_end (ok.logs r).outs l no_out (let q = (ok.each_rank r).0 in omega arith)) ∙ sym (past_end round.sent l [] (let q = length-each_below (λ k. map shipped (sent_of (ok.logs (sender_at dims k)) k)) n in omega arith))) in
     let got_own : (r l : ℕ) → reader_at dims l ≡ r → map shipped (got_of (ok.logs r) l) ≡ logs_of round.got l =
     λ r l e. dite (dec_le (suc l) n)
     (λ h. ap (λ (z : ℕ). map shipped (got_of (ok.logs z) l)) (sym e) ∙ sym (got_at l h))
-    (λ h. ap (λ (z : InLog Contents). map shipped (got z)) (past_end (ok.logs r).ins l no_in (let q = (ok.each_rank r).1 in omega arith)) ∙ sym (past_end round.got l [] (let q = length-each_below (λ k. map shipped (got_of (logs_at v.lists (reader_at dims k)) k)) n in omega arith))) in
-    let many : length round.got ≡ n = length-each_below (λ k. map shipped (got_of (logs_at v.lists (reader_at dims k)) k)) n in
+    (λ h. ap (λ (z : InLog Contents). map shipped (got z)) (past_end (ok.logs r).ins l no_in (let q = (ok.each_rank r).1 in omega arith)) ∙ sym (past_end round.got l [] (let q = length-each_below (λ k. map shipped (got_of (ok.logs (reader_at dims k)) k)) n in omega arith))) in
+    let many : length round.got ≡ n = length-each_below (λ k. map shipped (got_of (ok.logs (reader_at dims k)) k)) n in
     let kept : (r : ℕ) → r < ranks dims → RelayLaw dims r (logs_of round.sent) (logs_of round.got) =
     λ r h. law_own dims r (shipped_all (sent_of (ok.logs r))) (logs_of round.sent) (shipped_all (got_of (ok.logs r))) (logs_of round.got) is.grid (sent_own r) (got_own r) (ok.each_rank r).2 in
     record {
       grid = is.grid;
       counts = is.counts;
-      all_sent = length-each_below (λ k. map shipped (sent_of (logs_at v.lists (sender_at dims k)) k)) n;
+      all_sent = length-each_below (λ k. map shipped (sent_of (ok.logs (sender_at dims k)) k)) n;
       all_got = many;
       each_link = law;
       fair = λ l h. (kept (sender_at dims l) (from l h)).fair l h refl;
@@ -104,6 +105,57 @@ settled cap shape s id v is ok at all =
         relays = kept;
       }) many;
     }
+
+same_below : {A : Type 0} (f g : ℕ → A) (n : ℕ) → ((i : ℕ) → i < n → f i ≡ g i) → each_below f n ≡ each_below g n
+same_below f g zero same = refl
+same_below f g (suc n) same = λ k. same_below f g n (λ i h. same i (omega arith)) k ++ same n (omega arith) k ∷ []
+
+pub is_there : (o : Option (Logs Contents)) → IsSome o → o ≡ Some (logs_or o)
+is_there None h = absurd (let e : false ≡ true = h in cc)
+is_there (Some x) h = refl
+
+pub settled : (cap : ℕ) (shape : Shape) (s : State Contents Knowing) (id : ℕ) (v : Knowing) → IsShape shape → IsLawful cap shape s → get_elem? s.views id ≡ some v → AllThere shape v.lists → IsRound (slot_round shape cap v.lists)
+settled cap shape s id v is ok at all =
+    let dims : List ℕ = shape.dims in
+    let known : (r : ℕ) → r < ranks dims → ok.logs r ≡ logs_at v.lists r = λ r h. sym (ok.each_seat id v at r (logs_at v.lists r) (is_there (get_or v.lists r None) (all r h))).1 in
+    let sent = same_below (λ l. map shipped (sent_of (ok.logs (sender_at dims l)) l)) (λ l. map shipped (sent_of (logs_at v.lists (sender_at dims l)) l)) (links dims)
+    (λ l h. ap (λ (z : Logs Contents). map shipped (sent_of z l)) (known (sender_at dims l) (ends_join dims is.grid l h).sender)) in
+    let got = same_below (λ l. map shipped (got_of (ok.logs (reader_at dims l)) l)) (λ l. map shipped (got_of (logs_at v.lists (reader_at dims l)) l)) (links dims)
+    (λ l h. ap (λ (z : Logs Contents). map shipped (got_of z l)) (known (reader_at dims l) (ends_join dims is.grid l h).reader)) in
+    subst IsRound (λ k. record { dims = dims; cap = cap; slots = shape.slots; by_slots = true; sent = sent k; got = got k }) (live cap shape s is ok)
+
+-- of each gathered rank the round's logs are those of its lists
+module _ (shape : Shape) (cap : ℕ) (lists : List (Option (Logs Contents))) (r : ℕ) (x : Logs Contents) (at : get_or lists r None ≡ Some x) (own : IsOwn shape.dims r x) where
+  is_x : logs_at lists r ≡ x
+  is_x = ap logs_or at
+
+  pub sent_there : starting_at shape.dims r (logs_of (slot_round shape cap lists).sent) ≡ shipped_all (sent_of x)
+  sent_there = λ k l. each l k
+    where
+      all : ℕ → List Shipped
+      all l = map shipped (sent_of (logs_at lists (sender_at shape.dims l)) l)
+
+      each : (l : ℕ) → cond (eqb (sender_at shape.dims l) r) (logs_of (slot_round shape cap lists).sent l) [] ≡ map shipped (sent_of x l)
+      each l = dite (ℕ_discrete (sender_at shape.dims l) r)
+          (λ mine. ap (λ (b : Bool). cond b (logs_of (slot_round shape cap lists).sent l) []) (eq-eqb (sender_at shape.dims l) r mine)
+          ∙ dite (dec_le (suc l) (links shape.dims))
+          (λ h. at_each_below all (links shape.dims) l [] h ∙ ap (λ (q : ℕ). map shipped (sent_of (logs_at lists q) l)) mine ∙ ap (λ (z : Logs Contents). map shipped (sent_of z l)) is_x)
+          (λ h. past_end (each_below all (links shape.dims)) l [] (let q = length-each_below all (links shape.dims) in omega arith) ∙ ap (λ (z : OutLog Contents). map shipped z.sent) (sym (past_end x.outs l no_out (let q = own.outs in omega arith)))))
+          (λ ne. ap (λ (b : Bool). cond b (logs_of (slot_round shape cap lists).sent l) []) (ne_eqb (sender_at shape.dims l) r ne) ∙ ap (map shipped) (sym (own.sent l ne)))
+
+  pub got_there : ending_at shape.dims r (logs_of (slot_round shape cap lists).got) ≡ shipped_all (got_of x)
+  got_there = λ k l. each l k
+    where
+      all : ℕ → List Shipped
+      all l = map shipped (got_of (logs_at lists (reader_at shape.dims l)) l)
+
+      each : (l : ℕ) → cond (eqb (reader_at shape.dims l) r) (logs_of (slot_round shape cap lists).got l) [] ≡ map shipped (got_of x l)
+      each l = dite (ℕ_discrete (reader_at shape.dims l) r)
+          (λ mine. ap (λ (b : Bool). cond b (logs_of (slot_round shape cap lists).got l) []) (eq-eqb (reader_at shape.dims l) r mine)
+          ∙ dite (dec_le (suc l) (links shape.dims))
+          (λ h. at_each_below all (links shape.dims) l [] h ∙ ap (λ (q : ℕ). map shipped (got_of (logs_at lists q) l)) mine ∙ ap (λ (z : Logs Contents). map shipped (got_of z l)) is_x)
+          (λ h. past_end (each_below all (links shape.dims)) l [] (let q = length-each_below all (links shape.dims) in omega arith) ∙ ap (λ (z : InLog Contents). map shipped (got z)) (sym (past_end x.ins l no_in (let q = own.ins in omega arith)))))
+          (λ ne. ap (λ (b : Bool). cond b (logs_of (slot_round shape cap lists).got l) []) (ne_eqb (reader_at shape.dims l) r ne) ∙ ap (map shipped) (sym (own.got l ne)))
 
 -- the least of the ended epochs, with one link more
 pub least_next : (f : ℕ → List Shipped) (n least e : ℕ) → (n ≡ 0 → least ≡ 2 ^ 64 - 1) → (0 < n → least ≡ counted (ended_by_all (each_below f n))) → e ≡ counted (lasts (f n)) → min least e ≡ counted (ended_by_all (each_below f (suc n)))

@@ -9,7 +9,7 @@ use Rattle.link_slots.specs.Wiring.{Wiring}
 use Rattle.link_slots.specs.Link.{LinkOk, BellOk}
 
 module _ {D T : Type 0} (Blank : T → Type 0) (Good : ℕ → List T → T → Type 0) (Law : ℕ → (ℕ → List T) → (ℕ → List T) → Type 0) (shape : D) (w : Wiring) where
-  -- There are lists of each rank, which stand in one seat's view alone, that of `owner` (part v). Each link meets parts (i), (iv) and (vi)
+  -- There are lists of each rank, which stand in one seat's view, that of `owner`, and in no other (part v). Each link meets parts (i), (iv) and (vi)
   -- by the lists of its sender and its reader, each rank's lists meet the relay law (parts ii and iii), and no doorbell has other bits.
   pub record Lawful (s : State T (View D T)) : Type 0 where
     pub logs : ℕ → Logs T
@@ -21,3 +21,4 @@ module _ {D T : Type 0} (Blank : T → Type 0) (Good : ℕ → List T → T → 
     pub no_other_bits : (b : ℕ) → b < w.bells → slice_index_or s.words (2 * w.links + b) 0 < 2 ^ w.width b
     pub each_rank : (r : ℕ) → (length (logs r).outs ≡ w.links) × (length (logs r).ins ≡ w.links) × Law r (sent_of (logs r)) (got_of (logs r))
     pub each_seat : (j : ℕ) (v : View D T) → get_elem? s.views j ≡ some v → (r : ℕ) (x : Logs T) → slice_index_or v.lists r None ≡ Some x → (owner r ≡ j) × (x ≡ logs r) × (v.shape ≡ shape)
+    pub owned : (r : ℕ) → r < w.ranks → (v : View D T) × (get_elem? s.views (owner r) ≡ some v) × (slice_index_or v.lists r None ≡ Some (logs r))

@@ -13,6 +13,7 @@ use Rattle.link_slots.specs.Logs.{Logs, got_of}
 use Rattle.link_slots.specs.View.{no_logs}
 use Rattle.link_slots.specs.Shape.{Shape, IsShape}
 use Rattle.link_slots.specs.Told.{Knowing}
+use Rattle.link_slots.specs.Own.{IsOwn}
 use Rattle.link_slots.specs.Counts.{counted}
 use Rattle.link_slots.specs.Closed.{logs_at, ended_of}
 
@@ -40,7 +41,7 @@ abbrev pub HasNew : ℕ → Option RankEnds → Type 0
 HasNew count (Some e) = AreNew count e
 HasNew count None = ⊥
 
--- It holds no slot, and has new counts and empty lists for each rank whose seat is to come; and for each rank how many epochs its links in
+-- It holds no slot, has lists of each rank that are of its own links, has new counts and empty lists for each rank whose seat is to come; and for each rank how many epochs its links in
 -- have ended, by the lists that it has.
 pub record IsGathering (shape : Shape) (m : Me Contents Knowing) (ends : List (Option RankEnds)) (ended : List (Option EndedCounts)) : Type 0 where
   pub shaped : IsShape shape
@@ -49,5 +50,6 @@ pub record IsGathering (shape : Shape) (m : Me Contents Knowing) (ends : List (O
   pub lists_many : length m.0.lists ≡ ranks shape.dims
   pub ends_many : length ends ≡ ranks shape.dims
   pub each_new : (r : ℕ) (e : RankEnds) → slice_index_or ends r None ≡ Some e → AreNew (links shape.dims) e × (slice_index_or m.0.lists r None ≡ Some (no_logs (links shape.dims)))
+  pub each_own : (r : ℕ) (x : Logs Contents) → slice_index_or m.0.lists r None ≡ Some x → IsOwn shape.dims r x
   pub ended_many : length ended ≡ ranks shape.dims
   pub each_ended : (r l : ℕ) → l < links shape.dims → reader_at shape.dims l ≡ r → ended_of (slice_index_or ended r None) l ≡ counted (lasts (map shipped (got_of (logs_at m.0.lists r) l)))

@@ -8,8 +8,10 @@ pub mod Plays
 pub mod Shape
 pub mod Told
 pub mod Counts
+pub mod Own
 pub mod Doorbell
 pub mod Seen
 pub mod Seat
 pub mod Closed
 pub mod Gathering
+pub mod Does

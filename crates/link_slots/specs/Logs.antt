@@ -40,6 +40,10 @@ module _ {T : Type 0} where
   abbrev pub taken_more : InLog T → InLog T
   taken_more i = record { seen = i.seen; taken = suc i.taken; marked = i.marked; hears = i.hears; heard = i.heard; look_ins = i.look_ins }
 
+  -- A look for room found every slot taken: the sender may post no more, and nothing else is changed.
+  abbrev pub found_full : OutLog T → OutLog T
+  found_full o = record { sent = o.sent; room = length o.sent; offered = o.offered; looks = suc o.looks }
+
 pub record Logs (T : Type 0) : Type 0 where
   pub outs : List (OutLog T)
   pub ins : List (InLog T)

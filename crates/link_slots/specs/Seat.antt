@@ -12,15 +12,18 @@ use Rattle.link_slots.specs.declared.ear.Ear.{Ear}
 use Rattle.link_slots.specs.declared.wire.Wire.{Wire}
 use Rattle.atomic_table.specs.Seated.{TableId}
 use Rattle.link_slots.specs.Logs.{out_of, in_of, got_of}
-use Rattle.link_slots.specs.View.{own_logs}
+use Rattle.link_slots.specs.View.{own_logs, IsAlone}
 use Rattle.link_slots.specs.Shape.{Shape, IsShape, IsBoard}
 use Rattle.link_slots.specs.Told.{Knowing, IsManned}
+use Rattle.link_slots.specs.Own.{IsOwn}
 use Rattle.link_slots.specs.Counts.{IsOutEnd, IsInEnd, IsHeard, AreGood, IsWire, counted}
 
 -- The seat speaks for its rank, and its counts are those of the rank's links.
 pub record IsSeat (cap : ℕ) (shape : Shape) (m : Me Contents Knowing) (rank : ℕ) (outs : List OutEnd) (ins : List InEnd) (ears : List Ear) (ended : List ℕ) : Type 0 where
   pub shaped : IsShape shape
   pub manned : IsManned shape m
+  pub alone : IsAlone m.0
+  pub own : IsOwn shape.dims rank (own_logs m.0)
   pub rank_is : m.0.pick ≡ rank
   pub rank_small : rank < ranks shape.dims
   pub outs_many : length outs ≡ links shape.dims

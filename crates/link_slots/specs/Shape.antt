@@ -29,6 +29,7 @@ pub record IsShape (s : Shape) : Type 0 where
 abbrev pub wiring : Shape → Wiring
 wiring s = record {
   slots = s.slots;
+  ranks = ranks s.dims;
   links = links s.dims;
   bells = ranks s.dims * length s.dims;
   from = sender_at s.dims;

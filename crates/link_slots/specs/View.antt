@@ -1,5 +1,5 @@
 -- What a seat knows.
-use Rattle.std.specs.Prelude.{◌≡◌, ℕ, List, [], map, replicate, slice_index_or, slice_set, Option, Some, None}
+use Rattle.std.specs.Prelude.{◌≡◌, ◌≢◌, ℕ, List, [], map, replicate, slice_index_or, slice_set, Option, Some, None}
 use Rattle.link_slots.specs.Logs.{Logs, no_out, no_in}
 
 -- Which bank the seat is of, the lists of the ranks that it has, by rank, and the rank that it speaks for. A rank's own seat has that
@@ -29,6 +29,10 @@ module _ {D T : Type 0} where
   -- The seat has the lists of the rank that it speaks for.
   abbrev pub Speaks : View D T → Type 0
   Speaks v = slice_index_or v.lists v.pick None ≡ Some (own_logs v)
+
+  -- It has no other rank's lists.
+  abbrev pub IsAlone : View D T → Type 0
+  IsAlone v = (r : ℕ) → r ≢ v.pick → slice_index_or v.lists r None ≡ None
 
   -- The gathering seat at first: the empty lists of all ranks.
   abbrev pub first_view : D → ℕ → ℕ → View D T

@@ -1,8 +1,9 @@
--- Who sends and who reads on each link of a bank, through how many slots, and which bit of which doorbell is rung for it.
+-- Who sends and who reads on each link of a bank of some ranks, through how many slots, and which bit of which doorbell is rung for it.
 use Rattle.std.specs.Prelude.{◌≡◌, ℕ, ◌+◌, ◌*◌, ◌%◌, ◌<◌, ◌≤◌}
 
 pub record Wiring : Type 0 where
   pub slots : ℕ
+  pub ranks : ℕ
   pub links : ℕ
   pub bells : ℕ
   pub from : ℕ → ℕ

@@ -209,6 +209,7 @@ struct Row {
 }
 
 /// Makes the calls at a bank of the grid 2 with two slots, and answers how many came out as their rows say.
+#[tactic(auto, unfolding(port_bank::specs::Port::IsSlots))]
 fn rows_kept(alloc: Global, rows: &[Row]) -> Result<u32, NoMemory>
     requires few { length rows.now < 1000 }
 {

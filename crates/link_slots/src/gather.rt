@@ -1,5 +1,5 @@
 //! The gathering seat: it gives out the seat of each rank, and takes in what the ranks know at the end.
-ghost use Rattle.std.specs.Prelude.{◌≡◌, ◌<◌, ◌≤◌, false, true, length, replicate, slice_index_or, slice_set, Some, None};
+ghost use Rattle.std.specs.Prelude.{◌≡◌, ◌≢◌, ℕ, ◌<◌, ◌≤◌, false, true, length, replicate, slice_index_or, slice_set, Some, None};
 ghost use Rattle.route_tensor.specs.Grid.{ranks};
 ghost use Rattle.route_tensor.specs.Link.{links};
 ghost use Rattle.link_slots.specs.View.{no_logs};
@@ -85,6 +85,9 @@ impl<const CAP: usize> GatherSeat<CAP> {
         requires seat { (seat.id ≡ top.now.table_id) × (seat.shape ≡ top.now.key) }
         requires board { IsBoard top.now.key top.now.table_id }
         ensures gather { self.new ≡ record self.old { lists = slice_set self.old.lists seat.entry.rank (Some seat.entry.lists); given = slice_set self.old.given seat.entry.rank true } }
+        ensures rank { seat.entry.rank < ranks top.now.key.dims }
+        ensures there { slice_index_or self.new.lists seat.entry.rank None ≡ Some seat.entry.lists }
+        ensures others { (r : ℕ) → r ≢ seat.entry.rank → slice_index_or self.new.lists r None ≡ slice_index_or self.old.lists r None }
     {
         let SlotSeat {
             mut place,
@@ -107,6 +110,9 @@ impl<const CAP: usize> SlotBank<CAP> {
         requires bank { (g.old.id ≡ self.now.id) × (g.old.shape ≡ self.now.shape) }
         requires seat { (seat.id ≡ self.now.id) × (seat.shape ≡ self.now.shape) }
         ensures gather { g.new ≡ record g.old { lists = slice_set g.old.lists seat.entry.rank (Some seat.entry.lists); given = slice_set g.old.given seat.entry.rank true } }
+        ensures rank { seat.entry.rank < ranks self.now.shape.dims }
+        ensures there { slice_index_or g.new.lists seat.entry.rank None ≡ Some seat.entry.lists }
+        ensures others { (r : ℕ) → r ≢ seat.entry.rank → slice_index_or g.new.lists r None ≡ slice_index_or g.old.lists r None }
     {
         g.take_in(&self.board.shared, seat);
     }

@@ -13,6 +13,7 @@
 //! | `SlotBank::port`, `SlotPort::into_seat` | the rank's port, by the trait of port_bank, and its seat back |
 //! | `SlotBank::gather` | the gathering seat knows what the rank sent and got |
 //! | `SlotBank::close` | a closed round, on which what each rank pulled is what the others pushed |
+//! | `live_law` | the laws of a closed round hold of a bank's lists at every moment |
 //! | `SlotRound::ranks`, `SlotRound::epochs` | the number of ranks; how many epochs every link has ended |
 #![tactic(auto)]
 
@@ -21,6 +22,7 @@ mod collect;
 mod ear;
 mod ends;
 mod gather;
+mod live;
 mod plan;
 mod plays;
 mod port;
@@ -34,6 +36,7 @@ mod view;
 mod wire;
 
 pub use gather::GatherSeat;
+pub use live::live_law;
 pub use port::SlotPort;
 pub use round::SlotRound;
 pub use seat::SlotSeat;
@@ -41,6 +44,8 @@ pub use slot_bank::SlotBank;
 
 #[cfg(test)]
 mod doorbell_tests;
+#[cfg(test)]
+mod drive_tests;
 #[cfg(test)]
 mod tests;
 #[cfg(test)]

@@ -1,11 +1,13 @@
 //! A rank's port: its seat, with the bank.
+ghost use Rattle.atomic_table.specs.Seated.{TableId};
+ghost use Rattle.link_slots.specs.Seen.{named};
 ghost use Rattle.std.specs.Prelude.{◌≡◌, ◌≢◌, ℕ, ◌+◌, ◌==◌, Bool, true, List, length, refl};
 
 use crate::seat::SlotSeat;
 use crate::slot_bank::SlotBank;
 use bale_types::NoMemory;
 use item_buffer::Parcel;
-use port_bank::{Collected, Fixed, Port, Posted};
+use port_bank::{Collected, Fixed, Memory, Port, Posted};
 
 /// The port of one rank at a slot bank. It takes no memory, and no call on it waits.
 #[derive(Drop)]
@@ -28,7 +30,8 @@ impl<const CAP: usize> SlotBank<CAP> {
 impl<'a, const CAP: usize> SlotPort<'a, CAP> {
     /// The seat, with what this rank sent and got.
     pub fn into_seat(self) -> SlotSeat<CAP>
-        ensures { result ≡ self.entry.seat }
+        ensures seat { result ≡ self.entry.seat }
+        ensures one_bank { (id : TableId) → named self.entry.seat.id ≡ named id → self.entry.seat.id ≡ id }
     {
         let SlotPort { bank: _, seat } = self;
         seat
@@ -36,8 +39,9 @@ impl<'a, const CAP: usize> SlotPort<'a, CAP> {
 }
 
 impl<'a, const CAP: usize> Port<CAP> for SlotPort<'a, CAP> {
-    ghost use Rattle.std.specs.Prelude.{⊤, ◌+◌, ◌==◌, [], length, refl};
+    ghost use Rattle.std.specs.Prelude.{◌+◌, ◌==◌, [], length, refl};
     ghost use Rattle.link_slots.specs.Logs.{out_of};
+    ghost use Rattle.link_slots.specs.Does.{DidPost, DidCollect};
     ghost use Rattle.link_slots.specs.Seen.{posted_on, collected_from, freed, known, listened, noted_at, named};
 
     type Memory = Fixed;
@@ -70,9 +74,9 @@ impl<'a, const CAP: usize> Port<CAP> for SlotPort<'a, CAP> {
 
     ghost rest = { λ p. record { bank = named p.seat.id; sent = λ l. []; got = λ l. [] } };
 
-    ghost post_does = { λ old l p result new. ⊤ };
+    ghost post_does = { λ old l p result new. DidPost old.seat new.seat l p result };
 
-    ghost collect_does = { λ old l p result new. ⊤ };
+    ghost collect_does = { λ old l p result new. DidCollect old.seat new.seat l result };
 
     ghost crowded_is = { λ p l. refl };
 
@@ -90,3 +94,6 @@ impl<'a, const CAP: usize> Port<CAP> for SlotPort<'a, CAP> {
         self.seat.collect(self.bank, link, p)
     }
 }
+
+// Callers stand on it: no call on a slot port takes memory.
+const _: () = prove!(!<<SlotPort<'static, 1> as Port<1>>::Memory as Memory>::GROWS);

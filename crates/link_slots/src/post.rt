@@ -3,7 +3,7 @@ ghost use Rattle.std.specs.Prelude.{◌≡◌, ◌≢◌, ℕ, suc, ◌+◌, ◌
 ghost use Rattle.item_buffer.specs.Contents.{Contents};
 ghost use Rattle.route_tensor.specs.Link.{links};
 ghost use Rattle.route_tensor.specs.Ends.{sender_at, reader_at};
-ghost use Rattle.link_slots.specs.Logs.{OutLog, out_of, in_of, with_out, sent_of, got_of, sent_more};
+ghost use Rattle.link_slots.specs.Logs.{OutLog, out_of, in_of, with_out, sent_of, got_of, sent_more, found_full};
 ghost use Rattle.link_slots.specs.View.{own_logs, with_logs};
 ghost use Rattle.link_slots.specs.Shape.{IsBoard, wiring, IsBlank, MayFollow, KeepsLaw};
 ghost use Rattle.link_slots.specs.Told.{IsManned};
@@ -36,6 +36,7 @@ fn make_room<const CAP: usize>(
     ensures here { place.new.me.0 ≡ with_logs place.old.me.0 (with_out (own_logs place.old.me.0) link (out_of (own_logs place.new.me.0) link)) }
     ensures sent { (out_of (own_logs place.new.me.0) link).sent ≡ (out_of (own_logs place.old.me.0) link).sent }
     ensures looks { (out_of (own_logs place.old.me.0) link).looks ≤ (out_of (own_logs place.new.me.0) link).looks }
+    ensures found { end.new.spare ≡ 0 → out_of (own_logs place.new.me.0) link ≡ found_full (out_of (own_logs place.old.me.0) link) }
     ensures looked { end.new.spare ≡ 0 → (out_of (own_logs place.new.me.0) link).looks ≡ suc (out_of (own_logs place.old.me.0) link).looks }
     ensures all_room { end.new.spare ≡ 0 → top.now.key.slots ≤ (out_of (own_logs place.new.me.0) link).room }
 {
@@ -73,6 +74,7 @@ pub(crate) fn post_on<const CAP: usize>(
     ensures emptied { result ≡ Posted.Sent → IsBlank parcel.new }
     ensures room { result ≡ Posted.Sent → length (out_of (own_logs place.old.me.0) link).sent < (out_of (own_logs place.new.me.0) link).room }
     ensures looks { (out_of (own_logs place.old.me.0) link).looks ≤ (out_of (own_logs place.new.me.0) link).looks }
+    ensures found { result ≡ Posted.NoRoom → out_of (own_logs place.new.me.0) link ≡ found_full (out_of (own_logs place.old.me.0) link) }
     ensures looked { result ≡ Posted.NoRoom → (out_of (own_logs place.new.me.0) link).looks ≡ suc (out_of (own_logs place.old.me.0) link).looks }
     ensures full { result ≡ Posted.NoRoom → (out_of (own_logs place.new.me.0) link).room ≡ length (out_of (own_logs place.old.me.0) link).sent }
     ensures all_room { result ≡ Posted.NoRoom → top.now.key.slots ≤ (out_of (own_logs place.new.me.0) link).room }

@@ -3,7 +3,7 @@ ghost use Rattle.std.specs.Prelude.{◌≡◌, ◌<◌, false, length, slice_ind
 ghost use Rattle.std.specs.Mem.Slots.{slots_len, slots_filled, IsFull};
 ghost use Rattle.route_tensor.specs.Grid.{ranks};
 ghost use Rattle.link_slots.specs.Shape.{IsBoard};
-ghost use Rattle.port_bank.specs.Round.{epochs_of};
+ghost use Rattle.port_bank.specs.Round.{IsRound, epochs_of};
 ghost use Rattle.link_slots.specs.Counts.{counted};
 ghost use Rattle.link_slots.specs.Closed.{IsSettled, ended_of};
 
@@ -37,20 +37,22 @@ impl Model for SlotRound {
 
     ghost view = { λ r. slot_round (record { dims = r.grid; slots = r.slots }) r.cap (lists_of r.last.value.views) };
 
-    ghost invariant = { λ r. IsEnding (record { dims = r.grid; slots = r.slots }) (lists_of r.last.value.views) r.ended.items };
+    ghost invariant = { λ r. IsEnding r.cap (record { dims = r.grid; slots = r.slots }) (lists_of r.last.value.views) r.ended.items };
 }
 
 impl SlotRound {
     /// The number of ranks.
     pub fn ranks(&self) -> u32
-        ensures { result ≡ ranks self.now.dims }
+        ensures value { result ≡ ranks self.now.dims }
+        ensures round { IsRound self.now }
     {
         self.grid.ranks()
     }
 
     /// How many epochs every link has ended. The count stands still at the last number.
     pub fn epochs(&self) -> u64
-        ensures { result ≡ counted (epochs_of self.now) }
+        ensures value { result ≡ counted (epochs_of self.now) }
+        ensures round { IsRound self.now }
     {
         let mut least = u64::MAX;
         for link in 0..self.grid.links() {

@@ -6,7 +6,7 @@ ghost use Rattle.route_tensor.specs.Ends.{hop_at, sender_at, reader_at};
 ghost use Rattle.port_bank.specs.Logs.{lasts, added};
 ghost use Rattle.port_bank.specs.Flow.{Begins};
 ghost use Rattle.port_bank.specs.Relay.{RelayLaw};
-ghost use Rattle.link_slots.specs.Logs.{OutLog, out_of, in_of, with_out, with_in, taken_more, got_of};
+ghost use Rattle.link_slots.specs.Logs.{OutLog, out_of, in_of, with_out, with_in, taken_more, found_full, got_of};
 ghost use Rattle.link_slots.specs.Shape.{MayFollow};
 ghost use Rattle.bale_types.specs.Stream.{Rose};
 ghost use Rattle.port_bank.specs.Port.{changed, IsSlots};
@@ -83,6 +83,7 @@ impl<const CAP: usize> SlotSeat<CAP> {
         ensures room { result ≡ Posted.Sent → length (out_of self.old.lists link).sent < (out_of self.new.lists link).room }
         ensures room_is { ((out_of self.new.lists link).room ≡ 0) ⊎ (self.old.shape.slots ≤ (out_of self.new.lists link).room) }
         ensures looks { (out_of self.old.lists link).looks ≤ (out_of self.new.lists link).looks }
+        ensures found { result ≡ Posted.NoRoom → out_of self.new.lists link ≡ found_full (out_of self.old.lists link) }
         ensures looked { result ≡ Posted.NoRoom → (out_of self.new.lists link).looks ≡ suc (out_of self.old.lists link).looks }
         ensures full { result ≡ Posted.NoRoom → (out_of self.new.lists link).room ≡ length (out_of self.old.lists link).sent }
         ensures all_room { result ≡ Posted.NoRoom → self.old.shape.slots ≤ (out_of self.new.lists link).room }

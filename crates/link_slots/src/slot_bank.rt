@@ -1,15 +1,17 @@
 //! The slot bank: the table that all ranks' seats share, and the way of each link.
-ghost use Rattle.std.specs.Prelude.{◌≡◌, ◌<◌, ◌≤◌, false, [], length, replicate, IfOk, Some};
+ghost use Rattle.std.specs.Prelude.{◌≡◌, ◌<◌, ◌≤◌, false, [], length, replicate, IfOk, Some, None, slice_index_or};
 ghost use Rattle.std.specs.List.{All};
 ghost use Rattle.item_buffer.specs.Contents.{blank};
 ghost use Rattle.route_tensor.specs.Grid.{ranks};
 ghost use Rattle.route_tensor.specs.Link.{links};
 ghost use Rattle.port_bank.specs.Port.{IsSlots};
-ghost use Rattle.port_bank.specs.Round.{IsRound};
+ghost use Rattle.port_bank.specs.Logs.{starting_at, ending_at};
+ghost use Rattle.port_bank.specs.Round.{IsRound, logs_of};
 ghost use Rattle.link_slots.specs.Closed.{slot_round, AllThere};
 ghost use Rattle.atomic_table.specs.Table.{opening};
 ghost use Rattle.link_slots.specs.View.{no_logs, first_view};
 ghost use Rattle.link_slots.specs.Told.{IsLawful};
+ghost use Rattle.link_slots.specs.Seen.{Manning, posted_on, collected_from};
 
 use crate::bank::{Board, Place};
 use crate::gather::GatherSeat;
@@ -85,12 +87,15 @@ impl<const CAP: usize> SlotBank<CAP> {
 }
 
 impl<const CAP: usize> SlotBank<CAP> {
-    /// Ends the exchange. Where each rank's seat was gathered or never given out, what each rank pulled is the front of what the others
-    /// pushed toward it, and all of it in each epoch that every link has ended.
+    /// Ends the exchange, where each rank's seat was gathered or never given out: what each rank pulled is the front of what the others
+    /// pushed toward it, and all of it in each epoch that every link has ended. Of each gathered rank, the round has the logs of its seat.
     pub fn close(self, g: GatherSeat<CAP>) -> SlotRound
         requires bank { (g.id ≡ self.id) × (g.shape ≡ self.shape) }
+        requires all_there { AllThere self.shape g.lists }
         ensures round { result ≡ slot_round self.entry.shape CAP g.entry.lists }
-        ensures in_order { AllThere self.entry.shape g.entry.lists → IsRound result }
+        ensures in_order { IsRound result }
+        ensures sent { (s : Manning) → slice_index_or g.entry.lists s.rank None ≡ Some s.lists → starting_at self.entry.shape.dims s.rank (logs_of result.sent) ≡ posted_on s }
+        ensures got { (s : Manning) → slice_index_or g.entry.lists s.rank None ≡ Some s.lists → ending_at self.entry.shape.dims s.rank (logs_of result.got) ≡ collected_from s }
     {
         let SlotBank {
             board,

@@ -1,5 +1,5 @@
 //! The slot bank by hand and the plain bank by the same rows, with ample memory.
-ghost use Rattle.std.specs.Prelude.{◌≡◌, ◌+◌, ◌<◌, ◌≤◌, Some, if◌then◌else◌, OnOk, length};
+ghost use Rattle.std.specs.Prelude.{◌≡◌, ◌+◌, ◌<◌, ◌≤◌, false, Some, if◌then◌else◌, IfOk, OnOk, length};
 ghost use Rattle.item_buffer.specs.Contents.{blank};
 ghost use Rattle.route_tensor.specs.Grid.{IsGrid};
 ghost use Rattle.route_tensor.specs.Link.{links};
@@ -11,7 +11,7 @@ ghost use Rattle.port_bank.specs.Relay.{RelayLaw};
 use crate::SlotBank;
 use bale_types::{Entry, Item, NoMemory, Tag};
 use item_buffer::Parcel;
-use port_bank::{Collected, PlainBank, Port, Posted};
+use port_bank::{Collected, Memory, PlainBank, Port, Posted};
 use route_tensor::Grid;
 use std::alloc::Global;
 use std::test::Fail;
@@ -231,27 +231,40 @@ fn both_make(alloc: Global, slots: u32, calls: &[Call]) -> Result<(Outcome, Outc
     Ok(((first, first_epochs), (second, second_epochs)))
 }
 
-/// A bank whose one rank does nothing: its seat is given out, gathered, and the bank closed.
-fn opens_and_closes(alloc: Global) -> Result<(u32, u64), NoMemory> {
+/// Whether a port's posts may take memory: the constant, which is the member that contracts see.
+fn takes_memory<P: Port<1>>(_port: &P) -> bool
+    ensures { result ≡ P.Memory.GROWS }
+{
+    <P::Memory as Memory>::GROWS
+}
+
+/// A bank whose one rank does nothing: its seat is given out, gathered, and the bank closed. Whether its port takes memory, and what the
+/// round tells.
+#[tactic(auto, unfolding(port_bank::specs::Port::IsSlots))]
+fn opens_and_closes(alloc: Global) -> Result<(bool, u32, u64), NoMemory>
+    ensures { IfOk result (λ told. told.0 ≡ false) }
+{
     let Ok(grid) = Grid::new(&[1]) else {
-        return Ok((0, 0));
+        return Ok((false, 0, 0));
     };
     let (_, from, _) = grid.ends(0);
     let (bank, mut gather) = SlotBank::<1>::new(alloc, &grid, 2)?;
     let seat = bank.seat(&mut gather, from);
     let port = bank.port(seat);
+    let grows = takes_memory(&port);
     bank.gather(&mut gather, port.into_seat());
     let round = bank.close(gather);
-    Ok((round.ranks(), round.epochs()))
+    Ok((grows, round.ranks(), round.epochs()))
 }
 
 #[test]
 fn opened_and_closed(rt: HostRuntime) -> Result<(), Fail> {
-    assert_eq!(rt; opens_and_closes(rt.alloc())?, (1, 0));
+    assert_eq!(rt; opens_and_closes(rt.alloc())?, (false, 1, 0));
     Ok(())
 }
 
 #[test]
+#[tactic(auto, unfolding(port_bank::specs::Port::IsSlots))]
 fn slot_bank_by_hand(rt: HostRuntime) -> Result<(), Fail> {
     let calls = [
         Post(1),
@@ -271,6 +284,7 @@ fn slot_bank_by_hand(rt: HostRuntime) -> Result<(), Fail> {
 }
 
 #[test]
+#[tactic(auto, unfolding(port_bank::specs::Port::IsSlots))]
 fn slots_by_hand(rt: HostRuntime) -> Result<(), Fail> {
     let calls = [Post(1), Post(2), Collect, Post(2), Collect, Collect];
     let want = [Sent, NoRoom, Got(1), Sent, Got(2), Nothing];
@@ -286,6 +300,7 @@ fn slots_by_hand(rt: HostRuntime) -> Result<(), Fail> {
 }
 
 #[test]
+#[tactic(auto, unfolding(port_bank::specs::Port::IsSlots))]
 fn two_epochs_ended(rt: HostRuntime) -> Result<(), Fail> {
     let calls = [
         Post(1),

@@ -87,6 +87,7 @@ fn collect_numbers<R: Wait>(
 
 /// Passes the numbers below `count` from a thread of rank 0 to one of rank 1 in the grid 2, through two slots, and answers how many came
 /// when they were due.
+#[tactic(auto, unfolding(port_bank::specs::Port::IsSlots))]
 fn numbers_passed<R: Threads + Wait + Sync>(
     rt: &R,
     alloc: Global,

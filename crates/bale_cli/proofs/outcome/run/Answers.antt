@@ -4,7 +4,7 @@ use Rattle.bale_cli.specs.declared.refusal.Refusal.{Refusal}
 use Rattle.bale_cli.specs.declared.refusal.Refusal.TheVariants.{Usage}
 use Rattle.bale_cli.specs.Answer.{status_of}
 use Rattle.bale_cli.specs.Words.{command_of}
-use Rattle.bale_cli.proofs.Endings.{not_zero, is_usage, usage_is, is_read_fault, is_write_fault, write_fault_is, bad_is, status_same, said_at, decided}
+use Rattle.bale_cli.proofs.Endings.{not_zero, is_usage, usage_is, is_read_fault, is_write_fault, write_fault_is, bad_is, status_same, said_at, decided, answer_front}
 use Rattle.bale_cli.proofs.outcome.run.Goals as goal
 
 pub returns-in-Err-clause-usage : goal.returns-in-Err-clause-usage
@@ -63,3 +63,9 @@ pub returns-in-Err-clause-read_whole : goal.returns-in-Err-clause-read_whole
 returns-in-Err-clause-read_whole g c = λ text told two three seven.
     c.in-Err.ensures.read_whole text told
     (decided (Unit {0}) c.in-Err.refusal (λ e. two (c.status.ensures ∙ e)) (λ e. three (c.status.ensures ∙ e)) (λ e. seven (c.status.ensures ∙ e)))
+
+pub returns-in-Err-clause-front : goal.returns-in-Err-clause-front
+returns-in-Err-clause-front g c = λ text told four.
+    answer_front (g.K.Sink.taken c.answer.new.out) (g.K.Sink.taken c.args.out.now) (command_of (map string_bytes c.args.words.now)) text
+    (λ none. let e = c.in-Err.ensures.usage.1 none in let f = is_write_fault c.in-Err.refusal (sym c.status.ensures ∙ four) in cc)
+    (c.in-Err.ensures.front text told (ap (λ (r : Refusal). Err r) (is_write_fault c.in-Err.refusal (sym c.status.ensures ∙ four))))

@@ -27,8 +27,8 @@ loop-link-preserved c =
       some = λ h. next ∙ ap (λ (z : ℕ). counted (ended_by_all (each_below f z))) (let q : suc n ≡ n + 1 = omega arith in q);
     }
 
-pub returns : goal.returns
-returns c =
+pub returns-clause-value : goal.returns-clause-value
+returns-clause-value c =
     let r = c.self.inside in let n : ℕ = c.loop-link.link in let f : ℕ → List Shipped = λ k. map shipped (got_of (logs_at (lists_of r.last.value.views) (reader_at r.grid k)) k) in
     let all : n ≡ links r.grid = (let a = c.loop-link-test.false in let b = c.links-link-end.ensures.value in let d = c.loop-link.auto.link-end in omega arith) in
-    c.loop-link.invariant.some (let s = some_links r.grid c.self.invariant.grid in omega arith) ∙ ap (λ (z : ℕ). counted (ended_by_all (each_below f z))) all ∙ ap (λ z. counted (epochs_of z)) c.self.view_is
+    c.loop-link.invariant.some (let s = some_links r.grid c.self.invariant.round.grid in omega arith) ∙ ap (λ (z : ℕ). counted (ended_by_all (each_below f z))) all ∙ ap (λ z. counted (epochs_of z)) c.self.view_is

@@ -1,4 +1,7 @@
+pub mod FiniteMaps
+pub mod Folds
 pub mod Front
+pub mod Gathered
 pub mod Caps
 pub mod Chains
 pub mod Cuts
@@ -6,7 +9,12 @@ pub mod Decides
 pub mod Digits
 pub mod Keys
 pub mod Lawful
+pub mod Merged
+pub mod Nearest
 pub mod Numbered
+pub mod OfCells
+pub mod PlaceOrder
 pub mod PlainLines
+pub mod Raised
 pub mod Steps
 pub mod Walk

@@ -4,8 +4,10 @@ pub mod Sparse
 pub mod Grammar
 pub mod Answers
 pub mod Capped
+pub mod Cells
 pub mod Chains
 pub mod Drafts
+pub mod Maps
 pub mod Reasons
 pub mod Places
 pub mod PlainLines

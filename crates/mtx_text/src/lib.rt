@@ -10,6 +10,9 @@
 //! | [`Matrix::rows`], [`Matrix::cols`], [`Matrix::kind`] | the parts | |
 //! | [`Matrix::entries`] | loops over all entries | a slice of triples, in the order of the lines |
 //! | [`Matrix::len`], [`Matrix::get`] | one entry | `None` exactly past the end |
+//! | [`entries_are_a_map`] | a law: the list and the finite map of a matrix say the same | |
+//! | [`Cells`] | an ordered map from places to values: [`Cells::put`], [`Cells::raise`], [`Cells::at_or_after`] | |
+//! | [`Matrix::of_cells`], [`Matrix::of_all_cells`] | the matrix of cells, by row and then column | |
 //! | [`Reason::text`] | what to print of a bad line | |
 #![tactic(auto)]
 
@@ -17,14 +20,18 @@ mod apart;
 mod banner;
 mod careful;
 mod cell;
+mod cells;
 mod draft;
 mod entries;
+mod finite_map;
 mod integer;
 mod kind;
 mod lines;
 mod matrix;
 mod numbers;
+mod of_cells;
 mod parse;
+mod place_order;
 mod places;
 mod plain;
 mod read;
@@ -34,6 +41,8 @@ mod sizes;
 mod tests;
 mod words;
 
+pub use cells::Cells;
+pub use finite_map::entries_are_a_map;
 pub use kind::Kind;
 pub use matrix::Matrix;
 pub use parse::parse_matrix;

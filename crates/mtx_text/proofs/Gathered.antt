@@ -3,7 +3,8 @@ use Rattle.std.proofs.Common.{ℕ, zero, suc, ◌+◌, ◌-◌, ◌*◌, ◌^◌
 use Rattle.std.specs.List.{All, AllPairs, fold, flat_map}
 use Rattle.std.specs.Int.{int_max}
 use Rattle.std.proofs.lemmas.Bool.{false≢true, cases_Bool, cases_lt, false_from_ne_true}
-use Rattle.std.proofs.lemmas.List.{append-nil, append_assoc, length_push, get_or_push, get_or_default, take-append-le, take_all, take-append-drop}
+use Rattle.std.proofs.lemmas.List.{append-nil, append_assoc, length_push, get_or_push, get_or_default, take-append-le, take_all, take_more, take-append-drop}
+use Rattle.std.proofs.lemmas.List.Concat.{flat_map-append}
 use Rattle.std.proofs.lemmas.List.Quantifiers.{all_pairs_push}
 use Rattle.std.proofs.lemmas.List.Elements.{All-cons, All-head, All-tail, All-nil, All-append}
 use Rattle.std.proofs.lemmas.List.Sums.{fold-append, fold_push}
@@ -47,7 +48,8 @@ abbrev pub most_of : Option ℤ → Option ℤ → Option ℤ
 most_of o None = o
 most_of o (Some v) = Some (most o v)
 
-most_nothing : (o : Option ℤ) → most_of None o ≡ o
+-- a value that is missing is the least
+pub most_nothing : (o : Option ℤ) → most_of None o ≡ o
 most_nothing None = refl
 most_nothing (Some v) = refl
 
@@ -122,9 +124,9 @@ gathered_append xs ts =
     ∙ raised_gathered (gathered xs) ts (gathered_ordered xs)
     ∙ sym (fold-append (λ cells t. raised t cells) [] xs ts)
 
--- what holds of the places of the triples holds of those of the cells
-pub gathered_all : (P : Triple → Type 0) → ((s t : Triple) → P s → P (greater s t)) → (ts : List Triple) → All P ts → All P (gathered ts)
-gathered_all P place ts h = from [] ts (All-nil P) h
+-- what holds of the triples holds of the cells, where two at one place keep it
+pub gathered_all : (P : Triple → Type 0) → ((s t : Triple) → s.i ≡ t.i → s.j ≡ t.j → P s → P t → P (greater s t)) → (ts : List Triple) → All P ts → All P (gathered ts)
+gathered_all P both ts h = from [] ts (All-nil P) h
   where
     one : (t : Triple) (cells : List Triple) → P t → All P cells → All P (raised t cells)
     one t [] p h = All-cons P t [] p h
@@ -132,7 +134,7 @@ gathered_all P place ts h = from [] ts (All-nil P) h
         elim (place_cases c t) [
           | inl x ↦ subst (All P) (sym (raised_later t c cells x)) (All-cons P c (raised t cells) (All-head P c cells h) (one t cells p (All-tail P c cells h)))
           | inr o ↦ elim o [
-            | inl x ↦ subst (All P) (sym (raised_here t c cells x.0 x.1)) (All-cons P (greater c t) cells (place c t (All-head P c cells h)) (All-tail P c cells h))
+            | inl x ↦ subst (All P) (sym (raised_here t c cells x.0 x.1)) (All-cons P (greater c t) cells (both c t x.0 x.1 (All-head P c cells h) p) (All-tail P c cells h))
             | inr x ↦ subst (All P) (sym (raised_first t c cells x)) (All-cons P t (c ∷ cells) p h)
           ]
         ]
@@ -206,3 +208,18 @@ gathered_from ts n h =
     ap (λ cells. raised_all cells (drop n ts)) (sym (gathered_itself (take n ts) h))
     ∙ sym (fold-append (λ cells t. raised t cells) [] (take n ts) (drop n ts))
     ∙ ap gathered (take-append-drop n ts)
+
+-- triples that gather alike gather alike with more
+pub gathered_alike : (xs ys more : List Triple) → gathered xs ≡ gathered ys → gathered (xs ++ more) ≡ gathered (ys ++ more)
+gathered_alike xs ys more e =
+    fold-append (λ cells t. raised t cells) [] xs more
+    ∙ ap (λ cells. raised_all cells more) e
+    ∙ sym (fold-append (λ cells t. raised t cells) [] ys more)
+
+-- one more map
+pub together_more : (maps : List (List Triple)) (k : ℕ) (cells : List Triple) → k < length maps → cells ≡ get_or maps k cells
+    → together (take (k + 1) maps) ≡ gathered (flat_map (λ cells. cells) (take k maps) ++ cells)
+together_more maps k cells l e =
+    ap together (take_more maps k cells l)
+    ∙ ap gathered (flat_map-append (λ cells. cells) (take k maps) (get_or maps k cells ∷ []))
+    ∙ ap (λ ts. gathered (flat_map (λ cells. cells) (take k maps) ++ ts)) (append-nil (get_or maps k cells) ∙ sym e)

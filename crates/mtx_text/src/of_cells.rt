@@ -1,8 +1,8 @@
 //! Matrices of cells.
-ghost use Rattle.std.specs.Prelude.{◌≡◌, ◌≤◌, ◌++◌, [], length, IfOk};
+ghost use Rattle.std.specs.Prelude.{◌≡◌, ◌≤◌, ◌++◌, [], length, IfOk, OnOk};
 ghost use Rattle.std.specs.List.{All};
 ghost use Rattle.mtx_text.specs.Sparse.{IsEntry};
-ghost use Rattle.mtx_text.specs.Cells.{gathered, together, sparse};
+ghost use Rattle.mtx_text.specs.Cells.{InOrder, gathered, together, sparse};
 
 use crate::cells::Cells;
 use crate::kind::Kind;
@@ -53,7 +53,8 @@ impl Matrix {
         requires tall { rows ≤ 16_384 }
         requires wide { cols ≤ 16_384 }
         requires inside { All (λ t. IsEntry (sparse rows cols kind []) t) (together all.now) }
-        ensures { IfOk result (λ m. m ≡ sparse rows cols kind (together all.now)) }
+        ensures matrix { IfOk result (λ m. m ≡ sparse rows cols kind (together all.now)) }
+        ensures ordered { OnOk result (All (λ cells. InOrder cells) all.now) }
     {
         let mut triples = Vec::new(alloc);
         for cells in all {

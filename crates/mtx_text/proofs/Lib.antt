@@ -18,3 +18,6 @@ pub mod PlainLines
 pub mod Raised
 pub mod Steps
 pub mod Walk
+pub mod ReadAgain
+pub mod WrittenMatrix
+pub mod WrittenPieces

@@ -11,3 +11,4 @@ pub mod Maps
 pub mod Reasons
 pub mod Places
 pub mod PlainLines
+pub mod Written

@@ -7,6 +7,7 @@
 //! |---|---|---|
 //! | [`parse_matrix`] | a text in memory | its matrix, or its first bad line |
 //! | [`read_matrix`] | the text of a source | the same, or that a read failed |
+//! | [`write_matrix`] | a matrix as text | that text is read as the same matrix |
 //! | [`Matrix::rows`], [`Matrix::cols`], [`Matrix::kind`] | the parts | |
 //! | [`Matrix::entries`] | loops over all entries | a slice of triples, in the order of the lines |
 //! | [`Matrix::len`], [`Matrix::get`] | one entry | `None` exactly past the end |
@@ -40,6 +41,7 @@ mod sizes;
 #[cfg(test)]
 mod tests;
 mod words;
+mod write;
 
 pub use cells::Cells;
 pub use finite_map::entries_are_a_map;
@@ -48,3 +50,4 @@ pub use matrix::Matrix;
 pub use parse::parse_matrix;
 pub use read::read_matrix;
 pub use refusal::{BadLine, ParseFault, ReadFault, Reason};
+pub use write::write_matrix;

@@ -16,6 +16,7 @@ pub mod OfCells
 pub mod PlaceOrder
 pub mod PlainLines
 pub mod Raised
+pub mod Shuffles
 pub mod Steps
 pub mod Walk
 pub mod ReadAgain

@@ -12,3 +12,5 @@ pub mod Reasons
 pub mod Places
 pub mod PlainLines
 pub mod Written
+pub mod Permutations
+pub mod Seeds

@@ -37,6 +37,7 @@ mod places;
 mod plain;
 mod read;
 mod refusal;
+mod seeds;
 mod sizes;
 #[cfg(test)]
 mod tests;
@@ -50,4 +51,5 @@ pub use matrix::Matrix;
 pub use parse::parse_matrix;
 pub use read::read_matrix;
 pub use refusal::{BadLine, ParseFault, ReadFault, Reason};
+pub use seeds::Words;
 pub use write::write_matrix;

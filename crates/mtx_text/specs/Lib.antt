@@ -1,6 +1,7 @@
 pub mod Lines
 pub mod Integers
 pub mod Sparse
+pub mod Generated
 pub mod Grammar
 pub mod Answers
 pub mod Capped

@@ -1,4 +1,4 @@
-//! Matrices from text: the Matrix Market exchange format in coordinate form, as this project reads it.
+//! Matrices from text, to text, of cells and of seeds: the Matrix Market exchange format in coordinate form, as this project reads it.
 //!
 //! The grammar is the definition *the matrix of a text* (`specs/Grammar.antt`): each text has a matrix, or a
 //! first bad line and the reason why it is bad. The reader gives exactly that.
@@ -14,6 +14,8 @@
 //! | [`entries_are_a_map`] | a law: the list and the finite map of a matrix say the same | |
 //! | [`Cells`] | an ordered map from places to values: [`Cells::put`], [`Cells::raise`], [`Cells::at_or_after`] | |
 //! | [`Matrix::of_cells`], [`Matrix::of_all_cells`] | the matrix of cells, by row and then column | |
+//! | [`Words`] | the words of a seed, and permutations drawn from them | |
+//! | [`gen_matrix`] | a matrix generated from a seed | |
 //! | [`Reason::text`] | what to print of a bad line | |
 #![tactic(auto)]
 
@@ -25,6 +27,7 @@ mod cells;
 mod draft;
 mod entries;
 mod finite_map;
+mod generate;
 mod integer;
 mod kind;
 mod lines;
@@ -46,6 +49,7 @@ mod write;
 
 pub use cells::Cells;
 pub use finite_map::entries_are_a_map;
+pub use generate::gen_matrix;
 pub use kind::Kind;
 pub use matrix::Matrix;
 pub use parse::parse_matrix;

@@ -1,4 +1,8 @@
+pub mod FiniteMaps
+pub mod Folds
 pub mod Front
+pub mod Gathered
+pub mod Bands
 pub mod Caps
 pub mod Chains
 pub mod Cuts
@@ -6,7 +10,16 @@ pub mod Decides
 pub mod Digits
 pub mod Keys
 pub mod Lawful
+pub mod Merged
+pub mod Nearest
 pub mod Numbered
+pub mod OfCells
+pub mod PlaceOrder
 pub mod PlainLines
+pub mod Raised
+pub mod Shuffles
 pub mod Steps
 pub mod Walk
+pub mod ReadAgain
+pub mod WrittenMatrix
+pub mod WrittenPieces

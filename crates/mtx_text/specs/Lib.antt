@@ -1,11 +1,17 @@
 pub mod Lines
 pub mod Integers
 pub mod Sparse
+pub mod Generated
 pub mod Grammar
 pub mod Answers
 pub mod Capped
+pub mod Cells
 pub mod Chains
 pub mod Drafts
+pub mod Maps
 pub mod Reasons
 pub mod Places
 pub mod PlainLines
+pub mod Written
+pub mod Permutations
+pub mod Seeds

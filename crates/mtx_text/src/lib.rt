@@ -1,4 +1,4 @@
-//! Matrices from text: the Matrix Market exchange format in coordinate form, as this project reads it.
+//! Matrices from text, to text, of cells and of seeds: the Matrix Market exchange format in coordinate form, as this project reads it.
 //!
 //! The grammar is the definition *the matrix of a text* (`specs/Grammar.antt`): each text has a matrix, or a
 //! first bad line and the reason why it is bad. The reader gives exactly that.
@@ -7,9 +7,15 @@
 //! |---|---|---|
 //! | [`parse_matrix`] | a text in memory | its matrix, or its first bad line |
 //! | [`read_matrix`] | the text of a source | the same, or that a read failed |
+//! | [`write_matrix`] | a matrix as text | that text is read as the same matrix |
 //! | [`Matrix::rows`], [`Matrix::cols`], [`Matrix::kind`] | the parts | |
 //! | [`Matrix::entries`] | loops over all entries | a slice of triples, in the order of the lines |
 //! | [`Matrix::len`], [`Matrix::get`] | one entry | `None` exactly past the end |
+//! | [`entries_are_a_map`] | a law: the list and the finite map of a matrix say the same | |
+//! | [`Cells`] | an ordered map from places to values: [`Cells::put`], [`Cells::raise`], [`Cells::at_or_after`] | |
+//! | [`Matrix::of_cells`], [`Matrix::of_all_cells`] | the matrix of cells, by row and then column | |
+//! | [`Words`] | the words of a seed, and permutations drawn from them | |
+//! | [`gen_matrix`] | a matrix generated from a seed | |
 //! | [`Reason::text`] | what to print of a bad line | |
 #![tactic(auto)]
 
@@ -17,25 +23,37 @@ mod apart;
 mod banner;
 mod careful;
 mod cell;
+mod cells;
 mod draft;
 mod entries;
+mod finite_map;
+mod generate;
 mod integer;
 mod kind;
 mod lines;
 mod matrix;
 mod numbers;
+mod of_cells;
 mod parse;
+mod place_order;
 mod places;
 mod plain;
 mod read;
 mod refusal;
+mod seeds;
 mod sizes;
 #[cfg(test)]
 mod tests;
 mod words;
+mod write;
 
+pub use cells::Cells;
+pub use finite_map::entries_are_a_map;
+pub use generate::gen_matrix;
 pub use kind::Kind;
 pub use matrix::Matrix;
 pub use parse::parse_matrix;
 pub use read::read_matrix;
 pub use refusal::{BadLine, ParseFault, ReadFault, Reason};
+pub use seeds::Words;
+pub use write::write_matrix;

@@ -1,3 +1,4 @@
 pub mod Deals
 pub mod Doubles
+pub mod Joined
 pub mod Turns

@@ -5,16 +5,19 @@
 //! |---|---|---|
 //! | [`split`] | a matrix dealt out to ranks | entry number `e` stands in the part of rank `e mod P` |
 //! | [`Parts::len`], [`Parts::get`] | a rank's part | its entries with their numbers, `None` exactly past the end |
+//! | [`join`] | the cells of all ranks | the matrix that has them, by row and then column |
 //! | [`is_permutation`] | a list of new numbers | whether it has each number below `n` once |
 //!
 //! `specs/Deals.antt` has the words for dealing, and `proofs/Deals.antt` what holds of every deal: counts, sums
 //! and filters over the hands are those over the whole list.
 #![tactic(auto)]
 
+mod joining;
 mod parts;
 mod permutations;
 #[cfg(test)]
 mod tests;
 
+pub use joining::join;
 pub use parts::{Parts, split};
 pub use permutations::is_permutation;

@@ -1,0 +1,33 @@
+-- Cells in order are the entries of a matrix.
+use Rattle.std.proofs.Common.{ℕ, ◌<◌, ◌≤◌, ◌≡◌, true, List, [], length, get_or, arith, inl, inr, sym, subst}
+use Rattle.std.specs.List.{All, AllPairs}
+use Rattle.bale_types.specs.declared.triple.Triple.{Triple}
+use Rattle.mtx_text.specs.declared.kind.Kind.{Kind}
+use Rattle.mtx_text.specs.Sparse.{Sparse, IsSparse, IsEntry, SamePlace}
+use Rattle.mtx_text.specs.Cells.{InOrder, is_before, sparse}
+use Rattle.mtx_text.proofs.PlaceOrder.{not_same}
+use Rattle.mtx_text.proofs.Raised.{greater}
+use Rattle.std.proofs.lemmas.Bool.{cases_Bool, cond-true, cond-false}
+use Rattle.std.specs.Prelude.{int_lt}
+
+pub lawful : (rows cols : ℕ) (kind : Kind) (cells : List Triple) → rows ≤ 16_384 → cols ≤ 16_384 → length cells ≤ 524_288
+    → All (λ t. IsEntry (sparse rows cols kind []) t) cells → InOrder cells → IsSparse (sparse rows cols kind cells)
+lawful rows cols kind cells tall wide few inside order = record {
+  tall = tall;
+  wide = wide;
+  few = few;
+  inside = λ k d l. (let h : IsEntry (sparse rows cols kind []) (get_or cells k d) = inside k d l in record { row = h.row; col = h.col; limit = h.limit; one = h.one });
+  once = λ i j d l m same. apart (get_or cells i d) (get_or cells j d) (order i j d l m) same;
+}
+  where
+    apart : (s t : Triple) → is_before s t ≡ true → SamePlace s t → ⊥
+    apart s t b same = not_same s.i s.j t.i t.j b same.row same.col
+
+-- of two entries at one place, that with the greater value is one too
+pub greater_entry : (m : Sparse) (s t : Triple) → s.i ≡ t.i → s.j ≡ t.j → IsEntry m s → IsEntry m t → IsEntry m (greater s t)
+greater_entry m s t e f a b =
+    elim (cases_Bool (int_lt t.v s.v)) [
+      | inl h ↦ subst (λ v. IsEntry m (record { i = s.i; j = s.j; v = v })) (sym (cond-true (int_lt t.v s.v) s.v t.v h)) a
+      | inr h ↦ subst (λ v. IsEntry m (record { i = s.i; j = s.j; v = v })) (sym (cond-false (int_lt t.v s.v) s.v t.v h))
+          (subst (λ i. IsEntry m (record { i = i; j = s.j; v = t.v })) (sym e) (subst (λ j. IsEntry m (record { i = t.i; j = j; v = t.v })) (sym f) b))
+    ]

@@ -1,0 +1,15 @@
+use Rattle.std.proofs.Common.{ℕ, ◌≡◌, ◌≤◌, ◌-◌, vec_len}
+use Rattle.mtx_text.specs.Permutations.{Permutes}
+use Rattle.mtx_text.specs.Seeds.{shuffled, drawn}
+use Rattle.mtx_text.proofs.seeds.Words.permutation.Given as goal
+
+abbrev pub invariant-loop-i : goal.invariant-loop-i
+invariant-loop-i l = record {
+  size : vec_len l.list ≡ l.n;
+  high : l.i ≤ l.n;
+  left : shuffled (l.i - 1) l.list.items l.self ≡ drawn l.n l.initial.self;
+  permutes : Permutes l.n l.list.items;
+}
+
+abbrev pub decreases-loop-i : goal.decreases-loop-i
+decreases-loop-i l = l.i

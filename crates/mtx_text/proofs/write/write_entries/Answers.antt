@@ -1,0 +1,17 @@
+use Rattle.std.proofs.Common.{rules}
+use Rattle.bale_types.proofs.Moves.{on_err_any, front_in_loop}
+use Rattle.mtx_text.specs.Written.{entry_text}
+use Rattle.mtx_text.proofs.WrittenPieces.{pieces_more}
+use Rattle.mtx_text.proofs.write.write_entries.Goals as goal
+
+pub loop-t-preserved : goal.loop-t-preserved
+loop-t-preserved g c = record {
+  so_far = pieces_more (entry_text c.args.kind) _ _ _ c.args.entries.now c.loop-t.t-index _ c.loop-t-test.true c.in_ok-write_entry.ensures.ok c.loop-t.invariant.so_far;
+  faults = search rules;
+  same_sink = search rules;
+}
+
+pub returns-in_err-write_entry-clause-err : goal.returns-in_err-write_entry-clause-err
+returns-in_err-write_entry-clause-err g c =
+    on_err_any c.from_residual.result
+    (front_in_loop (entry_text c.args.kind) _ _ _ c.args.entries.now c.loop-t.t-index _ c.loop-t-test.true c.loop-t.invariant.so_far c.in_err-write_entry.ensures.err)

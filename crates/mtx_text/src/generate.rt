@@ -1,0 +1,90 @@
+//! Matrices generated from a seed.
+ghost use Rattle.std.specs.Prelude.{◌≡◌, ◌≤◌, ◌+◌, ◌*◌, ◌<◌, ◌^◌, ◌++◌, ◌%◌, [], pos, slice_index, vec_len, length, IfOk, OnOk};
+ghost use Rattle.std.specs.List.{All};
+ghost use Rattle.mtx_text.specs.declared.kind.Kind.TheVariants.{Integer};
+ghost use Rattle.mtx_text.specs.Permutations.{Permutes};
+ghost use Rattle.mtx_text.specs.Sparse.{IsEntry};
+ghost use Rattle.mtx_text.specs.Cells.{sparse};
+ghost use Rattle.mtx_text.specs.Generated.{hidden, positions, generated};
+
+use crate::apart::are_apart;
+use crate::kind::Kind;
+use crate::matrix::Matrix;
+use crate::seeds::Words;
+use bale_types::{NoMemory, Triple};
+use std::alloc::{AllocError, Global};
+
+/// The matrix of `n` rows and columns and `m` entries that a seed stands for: an upper triangular band with a
+/// full diagonal, hidden under a permutation of the rows and one of the columns.
+///
+/// # Errors
+///
+/// `NoMemory` where there was none.
+pub fn gen_matrix(alloc: Global, n: u32, m: u32, seed: u64) -> Result<Matrix, NoMemory>
+    requires some { 1 ≤ n }
+    requires tall { n ≤ 16_384 }
+    requires full { n ≤ m }
+    requires few { m ≤ 262_144 }
+    requires room { 2 * m ≤ n * (n + 1) }
+    ensures { IfOk result (λ g. g ≡ generated n m seed) }
+{
+    let mut words = Words::of_seed(seed);
+    let rows = words.permutation(alloc, n)?;
+    let cols = words.permutation(alloc, n)?;
+    let entries = hide(alloc, n, m, &rows, &cols, words)?;
+    if are_apart(alloc, n, entries.as_slice())? {
+        Ok(Matrix::of_parts(n, n, Kind::Integer, entries))
+    } else {
+        Err(NoMemory)
+    }
+}
+
+/// The entries of the band, with a word drawn for each.
+fn hide(
+    alloc: Global,
+    n: u32,
+    m: u32,
+    rows: &Vec<u32>,
+    cols: &Vec<u32>,
+    words: Words,
+) -> Result<Vec<Triple>, AllocError>
+    requires tall { n ≤ 16_384 }
+    requires few { m ≤ 262_144 }
+    requires room { 2 * m ≤ n * (n + 1) }
+    requires rows { Permutes n rows.now.items }
+    requires cols { Permutes n cols.now.items }
+    ensures hidden { IfOk result (λ v. v.items ≡ hidden rows.now.items cols.now.items words (positions n m)) }
+    ensures inside { IfOk result (λ v. All (λ t. IsEntry (sparse n n Integer []) t) v.items) }
+    ensures few { IfOk result (λ v. length v.items ≡ m) }
+{
+    let mut words = words;
+    let mut entries = Vec::with_capacity(alloc, m as usize)?;
+    let mut distance = 0;
+    let mut row = 0;
+    let mut left = m;
+    while left > 0 {
+        let word = words.draw();
+        entries.push(entry_at(rows, cols, row, row + distance, word))?;
+        left -= 1;
+        row += 1;
+        if row + distance == n {
+            row = 0;
+            distance += 1;
+        }
+    }
+    Ok(entries)
+}
+
+/// The entry that hides a position, with the value of a word.
+#[inline(always)]
+fn entry_at(rows: &Vec<u32>, cols: &Vec<u32>, row: u32, col: u32, word: u32) -> Triple
+    requires row { row < vec_len rows.now }
+    requires col { col < vec_len cols.now }
+    ensures { result ≡ record { i = slice_index rows.now.items row; j = slice_index cols.now.items col; v = pos (1 + word % 1000) } }
+{
+    Triple {
+        i: rows[row as usize],
+        j: cols[col as usize],
+        v: (word % 1_000) as i64 + 1,
+    }
+}

@@ -1,0 +1,80 @@
+//! Matrices of cells.
+ghost use Rattle.std.specs.Prelude.{◌≡◌, ◌≤◌, ◌++◌, [], length, IfOk, OnOk};
+ghost use Rattle.std.specs.List.{All};
+ghost use Rattle.mtx_text.specs.Sparse.{IsEntry};
+ghost use Rattle.mtx_text.specs.Cells.{InOrder, gathered, together, sparse};
+
+use crate::cells::Cells;
+use crate::kind::Kind;
+use crate::matrix::Matrix;
+use crate::place_order::gather;
+use bale_types::{NoMemory, Triple};
+use std::alloc::Global;
+
+/// Entries of a matrix at most.
+const MOST_ENTRIES: usize = 524_288;
+
+impl Matrix {
+    /// The matrix of cells, ordered by row and then column.
+    ///
+    /// # Errors
+    ///
+    /// `NoMemory` where there was none, or where there are more cells than the 524,288 entries of a matrix.
+    pub fn of_cells(
+        alloc: Global,
+        rows: u32,
+        cols: u32,
+        kind: Kind,
+        cells: &Cells,
+    ) -> Result<Matrix, NoMemory>
+        requires tall { rows ≤ 16_384 }
+        requires wide { cols ≤ 16_384 }
+        requires inside { All (λ t. IsEntry (sparse rows cols kind []) t) cells.now }
+        ensures { IfOk result (λ m. m ≡ sparse rows cols kind cells.now) }
+    {
+        let mut triples = Vec::new(alloc);
+        cells.append_to(&mut triples)?;
+        of_triples(rows, cols, kind, triples)
+    }
+
+    /// The matrix of the cells of several maps, ordered by row and then column; where some have the same place,
+    /// their greatest value counts.
+    ///
+    /// # Errors
+    ///
+    /// `NoMemory` where there was none, or where there are more cells than the 524,288 entries of a matrix.
+    pub fn of_all_cells(
+        alloc: Global,
+        rows: u32,
+        cols: u32,
+        kind: Kind,
+        all: &[Cells],
+    ) -> Result<Matrix, NoMemory>
+        requires tall { rows ≤ 16_384 }
+        requires wide { cols ≤ 16_384 }
+        requires inside { All (λ t. IsEntry (sparse rows cols kind []) t) (together all.now) }
+        ensures matrix { IfOk result (λ m. m ≡ sparse rows cols kind (together all.now)) }
+        ensures ordered { OnOk result (All (λ cells. InOrder cells) all.now) }
+    {
+        let mut triples = Vec::new(alloc);
+        for cells in all {
+            cells.append_to(&mut triples)?;
+        }
+        of_triples(rows, cols, kind, triples)
+    }
+}
+
+/// The matrix of triples in any order, of which those at one place leave the greatest value.
+fn of_triples(rows: u32, cols: u32, kind: Kind, triples: Vec<Triple>) -> Result<Matrix, NoMemory>
+    requires tall { rows ≤ 16_384 }
+    requires wide { cols ≤ 16_384 }
+    requires inside { All (λ t. IsEntry (sparse rows cols kind []) t) (gathered triples.items) }
+    ensures { IfOk result (λ m. m ≡ sparse rows cols kind (gathered triples.items)) }
+{
+    let mut triples = triples;
+    gather(&mut triples);
+    if triples.len() > MOST_ENTRIES {
+        return Err(NoMemory);
+    }
+    Ok(Matrix::of_parts(rows, cols, kind, triples))
+}

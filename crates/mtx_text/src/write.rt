@@ -1,0 +1,100 @@
+//! A matrix as text.
+ghost use Rattle.std.specs.Prelude.{◌≡◌, ◌≤◌, ◌<◌, ◌+◌, ◌^◌, ◌++◌, Ok, List, length, OnOk, OnErr};
+ghost use Rattle.std.specs.List.{flat_map};
+ghost use Rattle.bale_types.specs.Stream.{after, HasCause, IsFront};
+ghost use Rattle.bale_types.specs.Out.{appended};
+ghost use Rattle.bale_types.specs.declared.triple.Triple.{Triple};
+ghost use Rattle.mtx_text.specs.Grammar.{matrix_of};
+ghost use Rattle.mtx_text.specs.Written.{banner_text, size_text, entry_text, text_of};
+
+use crate::kind::Kind;
+use crate::matrix::Matrix;
+use bale_types::{Failed, Line, Out, Sink, Triple};
+
+/// Appends the text of a matrix: banner, sizes, and a line for each entry in the order of its list. Takes no
+/// memory. What was written is read as the same matrix, where it has no more entries than a text may have.
+///
+/// # Errors
+///
+/// `Failed` where the sink's faults rose in this call.
+pub fn write_matrix<K: Sink>(m: &Matrix, out: &mut Out<'_, K>) -> Result<(), Failed>
+    ensures ok { OnOk result (appended K.taken out.new ≡ after (appended K.taken out.old) (text_of m.now)) }
+    ensures err { OnErr result (IsFront (K.taken out.new.sink.now) (after (appended K.taken out.old) (text_of m.now))) }
+    ensures read_again { length m.now.entries ≤ 262_144 → matrix_of (text_of m.now) ≡ Ok m.now }
+    ensures cause { HasCause (K.faults out.old.sink.now) (K.faults out.new.sink.now) result }
+    ensures never_falls { K.faults out.old.sink.now ≤ K.faults out.new.sink.now }
+    ensures same_sink { out.new.sink.ghost_name ≡ out.old.sink.ghost_name }
+{
+    let entries = m.entries();
+    write_banner(out, m.kind())?;
+    write_sizes(out, m)?;
+    write_entries(out, m.kind(), entries)?;
+    Ok(())
+}
+
+fn write_banner<K: Sink>(out: &mut Out<'_, K>, kind: Kind) -> Result<(), Failed>
+    ensures ok { OnOk result (appended K.taken out.new ≡ after (appended K.taken out.old) (banner_text kind)) }
+    ensures err { OnErr result (IsFront (K.taken out.new.sink.now) (after (appended K.taken out.old) (banner_text kind))) }
+    ensures cause { HasCause (K.faults out.old.sink.now) (K.faults out.new.sink.now) result }
+    ensures never_falls { K.faults out.old.sink.now ≤ K.faults out.new.sink.now }
+    ensures same_sink { out.new.sink.ghost_name ≡ out.old.sink.ghost_name }
+{
+    match kind {
+        Kind::Integer => out.text(b"%%MatrixMarket matrix coordinate integer general\n"),
+        Kind::Pattern => out.text(b"%%MatrixMarket matrix coordinate pattern general\n"),
+    }
+}
+
+fn write_sizes<K: Sink>(out: &mut Out<'_, K>, m: &Matrix) -> Result<(), Failed>
+    ensures ok { OnOk result (appended K.taken out.new ≡ after (appended K.taken out.old) (size_text m.now)) }
+    ensures err { OnErr result (IsFront (K.taken out.new.sink.now) (after (appended K.taken out.old) (size_text m.now))) }
+    ensures cause { HasCause (K.faults out.old.sink.now) (K.faults out.new.sink.now) result }
+    ensures never_falls { K.faults out.old.sink.now ≤ K.faults out.new.sink.now }
+    ensures same_sink { out.new.sink.ghost_name ≡ out.old.sink.ghost_name }
+{
+    let mut line = Line::new();
+    line.number(m.rows());
+    line.byte(b' ');
+    line.number(m.cols());
+    line.byte(b' ');
+    line.number(m.len());
+    line.byte(b'\n');
+    out.text(line.bytes())
+}
+
+fn write_entries<K: Sink>(
+    out: &mut Out<'_, K>,
+    kind: Kind,
+    entries: &[Triple],
+) -> Result<(), Failed>
+    ensures ok { OnOk result (appended K.taken out.new ≡ after (appended K.taken out.old) (flat_map (entry_text kind) entries.now)) }
+    ensures err { OnErr result (IsFront (K.taken out.new.sink.now) (after (appended K.taken out.old) (flat_map (entry_text kind) entries.now))) }
+    ensures cause { HasCause (K.faults out.old.sink.now) (K.faults out.new.sink.now) result }
+    ensures never_falls { K.faults out.old.sink.now ≤ K.faults out.new.sink.now }
+    ensures same_sink { out.new.sink.ghost_name ≡ out.old.sink.ghost_name }
+{
+    for t in entries {
+        write_entry(out, kind, *t)?;
+    }
+    Ok(())
+}
+
+#[inline(always)]
+fn write_entry<K: Sink>(out: &mut Out<'_, K>, kind: Kind, t: Triple) -> Result<(), Failed>
+    ensures ok { OnOk result (appended K.taken out.new ≡ after (appended K.taken out.old) (entry_text kind t)) }
+    ensures err { OnErr result (IsFront (K.taken out.new.sink.now) (after (appended K.taken out.old) (entry_text kind t))) }
+    ensures cause { HasCause (K.faults out.old.sink.now) (K.faults out.new.sink.now) result }
+    ensures never_falls { K.faults out.old.sink.now ≤ K.faults out.new.sink.now }
+    ensures same_sink { out.new.sink.ghost_name ≡ out.old.sink.ghost_name }
+{
+    let mut line = Line::new();
+    line.number(t.i as u64 + 1);
+    line.byte(b' ');
+    line.number(t.j as u64 + 1);
+    if let Kind::Integer = kind {
+        line.byte(b' ');
+        line.number(t.v);
+    }
+    line.byte(b'\n');
+    out.text(line.bytes())
+}

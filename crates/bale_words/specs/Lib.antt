@@ -1,0 +1,5 @@
+pub mod Clap
+pub mod Numbers
+pub mod Options
+pub mod Pairs
+pub mod Reading

@@ -1,0 +1,8 @@
+//! The words of the command line, and what they ask for.
+#![tactic(auto)]
+
+mod fault;
+mod options;
+mod parse;
+
+pub use fault::WordsFault;

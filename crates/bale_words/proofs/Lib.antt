@@ -1,3 +1,5 @@
 pub mod Commands
 pub mod Given
+pub mod Parts
+pub mod Ranges
 pub mod Walks

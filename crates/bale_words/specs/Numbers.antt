@@ -28,3 +28,8 @@ all_some (o ∷ os) = option_and_then (λ n. option_map (λ ns. n ∷ ns) (all_s
 -- Parted by x (120): numbers_in 120 1 64 "2x4" = Some (2, 4); "2x", "x" and "" are none.
 unfoldable pub numbers_in : ℕ → ℕ → ℕ → List ℕ → Option (List ℕ)
 numbers_in separator low high text = all_some (map (number_in low high) (slice_split (λ b. b == separator) text))
+
+-- The parts of what is left of a text, if anything is.
+abbrev pub parts_of : ℕ → Option (List ℕ) → List (List ℕ)
+parts_of separator None = []
+parts_of separator (Some text) = slice_split (λ b. b == separator) text

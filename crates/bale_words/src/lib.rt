@@ -2,6 +2,7 @@
 #![tactic(auto)]
 
 mod fault;
+mod numbers;
 mod options;
 mod parse;
 

@@ -1,10 +1,13 @@
 -- A text in parts, one after the other.
-use Rattle.std.proofs.Common.{◌≡◌, ℕ, zero, suc, ◌<◌, ◌+◌, ◌-◌, ◌==◌, ◌||◌, ◌∙◌, ◌++◌, Bool, true, false, cond, List, [], ◌∷◌, Option, Some, None, refl, sym, ap, subst, arith, length, take, drop, get_or, map}
+use Rattle.std.proofs.Common.{◌≡◌, ℕ, zero, suc, ◌<◌, ◌+◌, ◌-◌, ◌==◌, ◌||◌, ◌∙◌, ◌++◌, Bool, true, false, cond, List, [], ◌∷◌, Option, Some, None, refl, sym, ap, subst, arith, inl, inr, length, take, drop, get_or, map}
 use Rattle.std.specs.List.{list_any, slice_split, onto_first}
 use Rattle.std.specs.Option.{option_map, option_and_then}
-use Rattle.std.proofs.lemmas.Bool.{or_parts}
+use Rattle.std.proofs.lemmas.Bool.{or_parts, cases_Bool}
 use Rattle.std.proofs.lemmas.List.{append_assoc, take_all, length-drop}
+use Rattle.route_tensor.specs.Grid.{ranks}
+use Rattle.route_tensor.specs.Refusal.{refusal}
 use Rattle.bale_words.specs.Numbers.{all_some, number_in, parts_of}
+use Rattle.bale_words.specs.Values.{generated_by, as_grid}
 
 -- cut at the first separator
 split_at : (p : ℕ → Bool) (xs : List ℕ) (i d : ℕ) → list_any p (take i xs) ≡ false → i < length xs → p (get_or xs i d) ≡ true → slice_split p xs ≡ take i xs ∷ slice_split p (drop (suc i) xs)
@@ -55,3 +58,17 @@ number_more low high done n part rest e =
 pub number_none : (low high : ℕ) (done part : List ℕ) (rest : List (List ℕ)) → number_in low high part ≡ None
     → option_map (λ ns. done ++ ns) (all_some (map (number_in low high) (part ∷ rest))) ≡ None
 number_none low high done part rest e = ap (λ o. option_map (λ ns. done ++ ns) (option_and_then (λ k. option_map (λ ns. k ∷ ns) (all_some (map (number_in low high) rest))) o)) e
+
+-- more than three parts are no generated matrix
+pub four_parts : (a b c : List ℕ) (p : ℕ → Bool) (rest : List ℕ) → generated_by (a ∷ b ∷ c ∷ slice_split p rest) ≡ None
+four_parts a b c p [] = refl
+four_parts a b c p (x ∷ xs) = elim (cases_Bool (p x)) [ inl t ↦ rw (t) refl | inr f ↦ rw (f) (go (slice_split p xs)) ]
+  where
+    go : (l : List (List ℕ)) → generated_by (a ∷ b ∷ c ∷ onto_first x l) ≡ None
+    go [] = refl
+    go (y ∷ ys) = refl
+
+-- the grid of one number, 4
+pub default_grid : as_grid (4 ∷ []) ≡ Some (4 ∷ [])
+unfolding refusal ranks
+default_grid = refl

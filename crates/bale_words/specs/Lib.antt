@@ -3,3 +3,4 @@ pub mod Numbers
 pub mod Options
 pub mod Pairs
 pub mod Reading
+pub mod Values

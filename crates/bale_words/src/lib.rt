@@ -1,9 +1,13 @@
 //! The words of the command line, and what they ask for.
 #![tactic(auto)]
 
+mod command;
 mod fault;
 mod numbers;
 mod options;
 mod parse;
+mod values;
 
+pub use command::{Application, Command, Driving, Generated, Permutations, Task, Transport};
 pub use fault::WordsFault;
+pub use numbers::Numbers;

@@ -4,3 +4,4 @@ pub mod Options
 pub mod Pairs
 pub mod Reading
 pub mod Values
+pub mod Words

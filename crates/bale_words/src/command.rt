@@ -1,6 +1,7 @@
 //! What a command line asks for.
 
 use crate::numbers::Numbers;
+use crate::travel::Travel;
 use route_tensor::Grid;
 
 /// The first word: which application is asked for.
@@ -81,13 +82,5 @@ pub struct Command {
     pub task: Task,
     /// the ranks
     pub grid: Grid,
-    pub transport: Transport,
-    /// how many parcels of a link may be on their way: 1, 2, 4 or 8
-    pub slots: u32,
-    /// whether a rank sends what it has whenever it advances
-    pub steady: bool,
-    /// how many entries a parcel holds: a power of two from 1 to 1,024
-    pub buffer: u32,
-    pub driving: Driving,
-    pub generated: Option<Generated>,
+    pub travel: Travel,
 }

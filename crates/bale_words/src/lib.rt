@@ -6,8 +6,11 @@ mod fault;
 mod numbers;
 mod options;
 mod parse;
+mod read;
+mod travel;
 mod values;
 
 pub use command::{Application, Command, Driving, Generated, Permutations, Task, Transport};
 pub use fault::WordsFault;
 pub use numbers::Numbers;
+pub use travel::Travel;

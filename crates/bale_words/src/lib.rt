@@ -13,4 +13,5 @@ mod values;
 pub use command::{Application, Command, Driving, Generated, Permutations, Task, Transport};
 pub use fault::WordsFault;
 pub use numbers::Numbers;
+pub use read::read_command;
 pub use travel::Travel;

@@ -7,6 +7,8 @@ mod numbers;
 mod options;
 mod parse;
 mod read;
+#[cfg(test)]
+mod tests;
 mod travel;
 mod values;
 

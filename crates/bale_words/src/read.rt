@@ -130,10 +130,13 @@ fn read_application(word: &str) -> Option<Application>
 }
 
 static SHARED_NAMES: [&str; 6] = ["grid", "via", "slots", "steady", "buffer", "drive"];
+
 static NAMES: [&str; 7] = ["grid", "via", "slots", "steady", "buffer", "drive", "gen"];
+
 static PERMUTE_NAMES: [&str; 10] = [
     "grid", "via", "slots", "steady", "buffer", "drive", "gen", "seed", "rperm", "cperm",
 ];
+
 static SSSP_NAMES: [&str; 9] = [
     "grid", "via", "slots", "steady", "buffer", "drive", "gen", "source", "delta",
 ];
@@ -249,13 +252,7 @@ fn read_list(alloc: Global, text: Option<&str>) -> Result<Option<Numbers>, Words
 {
     match text {
         None => Ok(None),
-        Some(text) => Ok(Some(numbers_between(
-            alloc,
-            b',',
-            0,
-            u32::MAX,
-            text.as_bytes(),
-        )?)),
+        Some(text) => Ok(Some(numbers_between(alloc, b',', 0, u32::MAX, text.as_bytes())?)),
     }
 }
 

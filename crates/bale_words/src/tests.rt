@@ -21,14 +21,22 @@ fn text_of(alloc: Global, command: &Command) -> Result<String, Fail> {
     let mut text = task_of(alloc, &command.task)?;
     let travel = command.travel;
     let grid = &command.grid;
-    text.push_str(
-        format!(in alloc; " {}/{} {:?} {} {} {} {:?}", grid.hops(), grid.ranks(), travel.transport, travel.slots, travel.steady, travel.buffer, travel.driving)?
-            .as_str(),
-    )?;
+    text.push_str(format!(in alloc;
+        " {}/{} {:?} {} {} {} {:?}",
+        grid.hops(),
+        grid.ranks(),
+        travel.transport,
+        travel.slots,
+        travel.steady,
+        travel.buffer,
+        travel.driving
+    )?
+    .as_str())?;
     if let Some(made) = travel.generated {
-        text.push_str(
-            format!(in alloc; " {},{},{}", made.rows, made.entries, made.seed)?.as_str(),
-        )?;
+        text.push_str(format!(in alloc;
+            " {},{},{}",
+            made.rows, made.entries, made.seed
+        )?.as_str())?;
     }
     Ok(text)
 }

@@ -1,12 +1,12 @@
 -- A refusal is known by its status, and what is said of it is what the serial answer says.
-use Rattle.std.proofs.Common.{◌≡◌, ℕ, List, Option, None, Some, Result, Ok, Err, refl, sym, ap, subst, arith}
+use Rattle.std.proofs.Common.{◌≡◌, ℕ, List, Option, None, Some, Result, Ok, Err, ◌⊎◌, inl, inr, refl, sym, ap, subst, arith}
 use Rattle.mtx_text.specs.declared.refusal.BadLine.{BadLine}
 use Rattle.mtx_text.specs.Grammar.{matrix_of}
 use Rattle.mtx_text.specs.Sparse.{Sparse}
 use Rattle.std.specs.Result.{IsOkAnd}
 use Rattle.bale_types.specs.Stream.{after, IsFront}
 use Rattle.bale_cli.specs.Histo.{histo_lines}
-use Rattle.bale_cli.specs.declared.words.Command.{Command}
+use Rattle.bale_cli.specs.declared.job.Job.{Job}
 use Rattle.bale_cli.specs.declared.refusal.Refusal.{Refusal}
 use Rattle.bale_cli.specs.declared.refusal.Refusal.TheVariants.{Usage, ReadFault, BadMatrix, WriteFault, NoMemory}
 use Rattle.bale_cli.specs.Answer.{Answer, IsDecided, answer_for, answer_to, said, status_of, refusal_text}
@@ -55,46 +55,46 @@ pub bad_is : (b : BadLine) → status_of (BadMatrix b) ≡ 5
 unfolding status_of
 bad_is b = refl
 
--- where the words are a command and the text's first bad line is b, the serial answer has status 5 and tells of it
-answer_bad : (command : Option Command) (text : List ℕ) (b : BadLine) → (command ≡ None → ⊥) → matrix_of text ≡ Err b
-    → answer_to command text ≡ answer_for (Err b)
+-- where the words ask for a run and the text's first bad line is b, the serial answer has status 5 and tells of it
+answer_bad : (job : Option Job) (text : List ℕ) (b : BadLine) → (job ≡ None → ⊥) → matrix_of text ≡ Err b
+    → answer_to job text ≡ answer_for (Err b)
 answer_bad None text b some bad = absurd (some refl)
 answer_bad (Some c) text b some bad = ap answer_for bad
 
 -- the status of a refusal that no fault explains is the serial answer's
-pub status_same : (r : Refusal) (command : Option Command) (text : List ℕ)
-    → (r ≡ Usage → command ≡ None) → (command ≡ None → r ≡ Usage)
+pub status_same : (r : Refusal) (job : Option Job) (text : List ℕ)
+    → (r ≡ Usage → job ≡ None) → (job ≡ None → (r ≡ Usage) ⊎ (r ≡ NoMemory))
     → ((b : BadLine) → r ≡ BadMatrix b → matrix_of text ≡ Err b)
     → (status_of r ≡ 3 → ⊥) → (status_of r ≡ 4 → ⊥) → (status_of r ≡ 7 → ⊥)
-    → status_of r ≡ (answer_to command text).status
+    → status_of r ≡ (answer_to job text).status
 unfolding status_of
-status_same Usage command text none usage bad three four seven = ap (λ (c : Option Command). (answer_to c text).status) (sym (none refl))
-status_same ReadFault command text none usage bad three four seven = absurd (three refl)
-status_same (BadMatrix b) command text none usage bad three four seven =
-    let other : command ≡ None → ⊥ = λ e. let h = usage e in cc in
-    ap (λ (a : Answer). a.status) (sym (answer_bad command text b other (bad b refl)))
-status_same WriteFault command text none usage bad three four seven = absurd (four refl)
-status_same NoMemory command text none usage bad three four seven = absurd (seven refl)
+status_same Usage job text none usage bad three four seven = ap (λ (c : Option Job). (answer_to c text).status) (sym (none refl))
+status_same ReadFault job text none usage bad three four seven = absurd (three refl)
+status_same (BadMatrix b) job text none usage bad three four seven =
+    let other : job ≡ None → ⊥ = λ e. elim (usage e) [ inl h ↦ cc | inr h ↦ cc ] in
+    ap (λ (a : Answer). a.status) (sym (answer_bad job text b other (bad b refl)))
+status_same WriteFault job text none usage bad three four seven = absurd (four refl)
+status_same NoMemory job text none usage bad three four seven = absurd (seven refl)
 
 -- what is said of a refusal
-pub said_is : (r : Refusal) (command : Option Command) (text : List ℕ)
-    → (r ≡ Usage → command ≡ None) → (command ≡ None → r ≡ Usage)
+pub said_is : (r : Refusal) (job : Option Job) (text : List ℕ)
+    → (r ≡ Usage → job ≡ None) → (job ≡ None → (r ≡ Usage) ⊎ (r ≡ NoMemory))
     → ((b : BadLine) → r ≡ BadMatrix b → matrix_of text ≡ Err b)
-    → said (status_of r) (answer_to command text) ≡ refusal_text r
+    → said (status_of r) (answer_to job text) ≡ refusal_text r
 unfolding status_of refusal_text
-said_is Usage command text none usage bad = ap (λ (c : Option Command). (answer_to c text).err) (none refl)
-said_is ReadFault command text none usage bad = refl
-said_is (BadMatrix b) command text none usage bad =
-    let other : command ≡ None → ⊥ = λ e. let h = usage e in cc in
-    ap (λ (a : Answer). a.err) (answer_bad command text b other (bad b refl))
-said_is WriteFault command text none usage bad = refl
-said_is NoMemory command text none usage bad = refl
+said_is Usage job text none usage bad = ap (λ (c : Option Job). (answer_to c text).err) (none refl)
+said_is ReadFault job text none usage bad = refl
+said_is (BadMatrix b) job text none usage bad =
+    let other : job ≡ None → ⊥ = λ e. elim (usage e) [ inl h ↦ cc | inr h ↦ cc ] in
+    ap (λ (a : Answer). a.err) (answer_bad job text b other (bad b refl))
+said_is WriteFault job text none usage bad = refl
+said_is NoMemory job text none usage bad = refl
 
-pub said_at : (n : ℕ) (r : Refusal) (command : Option Command) (text : List ℕ) → n ≡ status_of r
-    → (r ≡ Usage → command ≡ None) → (command ≡ None → r ≡ Usage)
+pub said_at : (n : ℕ) (r : Refusal) (job : Option Job) (text : List ℕ) → n ≡ status_of r
+    → (r ≡ Usage → job ≡ None) → (job ≡ None → (r ≡ Usage) ⊎ (r ≡ NoMemory))
     → ((b : BadLine) → r ≡ BadMatrix b → matrix_of text ≡ Err b)
-    → said n (answer_to command text) ≡ refusal_text r
-said_at n r command text same none usage bad = subst (λ (m : ℕ). said m (answer_to command text) ≡ refusal_text r) (sym same) (said_is r command text none usage bad)
+    → said n (answer_to job text) ≡ refusal_text r
+said_at n r job text same none usage bad = subst (λ (m : ℕ). said m (answer_to job text) ≡ refusal_text r) (sym same) (said_is r job text none usage bad)
 
 -- a refusal that is neither of words nor of a fault before the answer came after the text was read
 pub decided : (T : Type 0) (r : Refusal) → (status_of r ≡ 2 → ⊥) → (status_of r ≡ 3 → ⊥) → (status_of r ≡ 7 → ⊥) → IsDecided {T = T} (Err r)
@@ -106,11 +106,24 @@ decided T WriteFault two three seven = tt
 decided T NoMemory two three seven = seven refl
 
 -- a front of the lines of the matrix is a front of what the serial answer writes
-pub answer_front : (taken old : Option (List ℕ)) (command : Option Command) (text : List ℕ) → (command ≡ None → ⊥)
-    → IsOkAnd (matrix_of text) (λ m. IsFront taken (after old (histo_lines m.entries m.cols))) → IsFront taken (after old (answer_to command text).out)
+pub answer_front : (taken old : Option (List ℕ)) (job : Option Job) (text : List ℕ) → (job ≡ None → ⊥)
+    → IsOkAnd (matrix_of text) (λ m. IsFront taken (after old (histo_lines m.entries m.cols))) → IsFront taken (after old (answer_to job text).out)
 answer_front taken old None text some front = absurd (some refl)
 answer_front taken old (Some c) text some front = at (matrix_of text) front
   where
     at : (m : Result Sparse BadLine) → IsOkAnd m (λ m. IsFront taken (after old (histo_lines m.entries m.cols))) → IsFront taken (after old (answer_for m).out)
     at (Ok m) h = h
     at (Err b) h = absurd h
+
+pub memory_is : status_of NoMemory ≡ 7
+unfolding status_of
+memory_is = refl
+
+-- a refusal of words
+pub refused : {T : Type 0} (r : Refusal) → (Err {T = T} r ≡ Err Usage) ⊎ (Err {T = T} r ≡ Err NoMemory) → (r ≡ Usage) ⊎ (r ≡ NoMemory)
+refused r (inl e) = inl (cc)
+refused r (inr e) = inr (cc)
+
+pub not_write : (r : Refusal) → (r ≡ Usage) ⊎ (r ≡ NoMemory) → r ≡ WriteFault → ⊥
+not_write r (inl e) w = cc
+not_write r (inr e) w = cc

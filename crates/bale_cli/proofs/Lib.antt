@@ -1,4 +1,3 @@
-pub mod Numbers
 pub mod Dealings
 pub mod Owners
 pub mod Lines

@@ -6,10 +6,10 @@ use Rattle.mtx_text.specs.declared.refusal.ReadFault.TheVariants as read_fault
 use Rattle.mtx_text.specs.Sparse.{Sparse}
 use Rattle.mtx_text.specs.Grammar.{matrix_of}
 use Rattle.mtx_text.specs.Reasons.{reason_text}
-use Rattle.bale_cli.specs.declared.words.Command.{Command}
+use Rattle.bale_cli.specs.declared.job.Job.{Job}
 use Rattle.bale_cli.specs.declared.refusal.Refusal.{Refusal}
 use Rattle.bale_cli.specs.declared.refusal.Refusal.TheVariants as refusal
-use Rattle.bale_cli.specs.Words.{command_of}
+use Rattle.bale_cli.specs.Jobs.{job_of}
 use Rattle.bale_cli.specs.Histo.{histo_lines}
 
 -- What is said of a bad line: its number, and why it is bad.
@@ -59,10 +59,10 @@ abbrev pub answer_for : Result Sparse BadLine → Answer
 answer_for (Err b) = record { status = 5; out = []; err = bad_line_text b }
 answer_for (Ok m) = record { status = 0; out = histo_lines m.entries m.cols; err = [] }
 
--- The answer to a command, and to words that are none.
-abbrev pub answer_to : Option Command → List ℕ → Answer
+-- The answer to what can be run, and to words that ask for nothing of the kind.
+abbrev pub answer_to : Option Job → List ℕ → Answer
 answer_to None text = record { status = 2; out = []; err = refusal_text refusal.Usage }
-answer_to (Some command) text = answer_for (matrix_of text)
+answer_to (Some job) text = answer_for (matrix_of text)
 
 -- The serial answer: what the words ask for, of the matrix of the text. No rank, buffer or link occurs in it.
 -- 2 and "bale: usage" where the words are no command; 5 and the first bad line where the text has no matrix;
@@ -70,7 +70,7 @@ answer_to (Some command) text = answer_for (matrix_of text)
 -- For "histo --grid 4 --buffer 2 --drive serial" and "%%MatrixMarket matrix coordinate pattern general/2 2 0/"
 -- it is 0 with "1 0/2 0/" on out, with / for LF.
 abbrev pub serial_answer : List (List ℕ) → List ℕ → Answer
-serial_answer words text = answer_to (command_of words) text
+serial_answer words text = answer_to (job_of words) text
 
 -- What is said on err at a status: nothing at 0, of a fault its text, else what the serial answer says.
 -- At 3 it is "bale: read fault\n"; at 5 it is the bad line and its reason.

@@ -3,7 +3,6 @@
 //! | Call | For |
 //! |---|---|
 //! | [`run`] | from the words and the bytes that come in to the bytes that go out |
-//! | [`read_command`] | what the words ask for, if they are a command |
 //! | [`report`] | to say on a sink why a run ended without an answer |
 #![tactic(auto)]
 
@@ -11,13 +10,13 @@ mod count;
 mod deal;
 mod gather;
 mod histo;
+mod job;
 mod outcome;
 mod refusal;
-mod words;
 
 pub use outcome::{Outcome, run};
 pub use refusal::{Refusal, report};
-pub use words::{Command, read_command};
+pub use job::Job;
 
 #[cfg(test)]
 mod tests;

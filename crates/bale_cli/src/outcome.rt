@@ -1,17 +1,17 @@
 //! The top call: from the words and the bytes that come in to the bytes that go out.
-ghost use Rattle.std.specs.Prelude.{◌≡◌, ◌≢◌, ◌↔◌, ◌≤◌, ℕ, List, Option, Some, None, Ok, Err, map, drop, string_bytes, vec_len, OnOk, OnErr, IfOk, IsOkAnd, ◌<◌};
+ghost use Rattle.std.specs.Prelude.{◌≡◌, ◌≢◌, ◌⊎◌, ◌≤◌, ℕ, List, Option, Some, None, Ok, Err, map, drop, string_bytes, vec_len, OnOk, OnErr, IfOk, IsOkAnd, ◌<◌};
 ghost use Rattle.bale_types.specs.Stream.{after, HasCause, IsFront, Rose};
 ghost use Rattle.bale_types.specs.Out.{appended};
 ghost use Rattle.mtx_text.specs.Grammar.{matrix_of};
 ghost use Rattle.bale_cli.specs.Answer.{serial_answer, said, IsDecided};
 ghost use Rattle.bale_cli.specs.Counting.{IsCounted};
 ghost use Rattle.bale_cli.specs.Histo.{histo_lines};
-ghost use Rattle.bale_cli.specs.Words.{command_of};
+ghost use Rattle.bale_cli.specs.Jobs.{job_of};
 
 use crate::count::count_columns;
 use crate::histo::write_histo;
 use crate::refusal::{Refusal, report};
-use crate::words::{Command, read_command};
+use crate::job::{Job, read_job};
 use bale_types::{Failed, NoMemory, Out, Sink, Source};
 use mtx_text::{Matrix, read_matrix};
 use std::alloc::Global;
@@ -36,7 +36,8 @@ pub fn run<S: Source, K: Sink, E: Sink>(
     err: &mut E,
 ) -> Outcome
     // The status is the serial answer's; a fault has its cause outside, and want of memory is free.
-    ensures usage { (result.status ≡ 2) ↔ (command_of (map string_bytes words.now) ≡ None) }
+    ensures usage { result.status ≡ 2 → job_of (map string_bytes words.now) ≡ None }
+    ensures no_command { job_of (map string_bytes words.now) ≡ None → result.status ≢ 7 → result.status ≡ 2 }
     ensures status { (text : List ℕ) → S.left source.old ≡ Some text → result.status ≢ 3 → result.status ≢ 4 → result.status ≢ 7 →
         result.status ≡ (serial_answer (map string_bytes words.now) text).status }
     ensures read_fault { result.status ≡ 3 → Rose (S.faults source.old) (S.faults source.new) }
@@ -82,7 +83,8 @@ fn answer<S: Source, K: Sink>(
     source: &mut S,
     out: &mut K,
 ) -> Result<(), Refusal>
-    ensures usage { (result ≡ Err Refusal.Usage) ↔ (command_of (map string_bytes words.now) ≡ None) }
+    ensures usage { result ≡ Err Refusal.Usage → job_of (map string_bytes words.now) ≡ None }
+    ensures no_command { job_of (map string_bytes words.now) ≡ None → (result ≡ Err Refusal.Usage) ⊎ (result ≡ Err Refusal.NoMemory) }
     ensures read_fault { result ≡ Err Refusal.ReadFault → Rose (S.faults source.old) (S.faults source.new) }
     ensures bad { (text : List ℕ) (b : _) → S.left source.old ≡ Some text → result ≡ Err (Refusal.BadMatrix b) → matrix_of text ≡ Err b }
     ensures write_fault { result ≡ Err Refusal.WriteFault → Rose (K.faults out.old) (K.faults out.new) }
@@ -95,25 +97,23 @@ fn answer<S: Source, K: Sink>(
     ensures read_whole { (text : List ℕ) → S.left source.old ≡ Some text → IsDecided result → S.left source.new ≡ Some (drop 16_777_217 text) }
     ensures no_answer { (r : _) → result ≡ Err r → r ≢ Refusal.WriteFault → K.taken out.new ≡ K.taken out.old }
 {
-    let Some(command) = read_command(words) else {
-        return Err(Refusal::Usage);
-    };
+    let job = read_job(alloc, words)?;
     let matrix = read_matrix(alloc, source)?;
-    let counts = count(alloc, command, &matrix)?;
+    let counts = count(alloc, job, &matrix)?;
     write_answer(out, matrix.cols(), &counts)?;
     Ok(())
 }
 
-/// The counts of the matrix's columns, by an exchange with buffers of the size that the command names.
-fn count(alloc: Global, command: Command, matrix: &Matrix) -> Result<Vec<u32>, NoMemory>
-    requires some { 0 < command.ranks }
-    requires few { command.ranks ≤ 64 }
+/// The counts of the matrix's columns, by an exchange with buffers of the size that the words name.
+fn count(alloc: Global, job: Job, matrix: &Matrix) -> Result<Vec<u32>, NoMemory>
+    requires some { 0 < job.ranks }
+    requires few { job.ranks ≤ 64 }
     ensures { IfOk result (IsCounted matrix.now.cols matrix.now.entries) }
 {
-    let ranks = command.ranks;
+    let ranks = job.ranks;
     let cols = matrix.cols();
     let entries = matrix.entries();
-    match command.buffer {
+    match job.buffer {
         1 => count_columns::<1>(alloc, ranks, cols, entries),
         2 => count_columns::<2>(alloc, ranks, cols, entries),
         4 => count_columns::<4>(alloc, ranks, cols, entries),

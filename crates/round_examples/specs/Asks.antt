@@ -90,6 +90,6 @@ ask_rules =
       may_be_sent = is_asked;
       absorbed = λ s from x. record s { queries = cond (s.round == 0) (noted s.queries from x) s.queries; answers = cond (s.round == 0) s.answers (answered s.answers x) };
       vote = λ s. 0;
-      goes_on = λ round votes. round == 0;
+      goes_on = λ shape round votes. round == 0;
       ended = λ s votes. record s { round = min (s.round + 1) (2 ^ 64 - 1); outgoing = cond (s.round == 0) (replies_from s.table 0 s.queries) [] };
     }

@@ -49,6 +49,6 @@ count_rules =
       may_be_sent = is_named;
       absorbed = λ s from x. record s { counts = raised s.counts x };
       vote = λ s. 0;
-      goes_on = λ round votes. false;
+      goes_on = λ shape round votes. false;
       ended = λ s votes. record s { round = min (s.round + 1) (2 ^ 64 - 1) };
     }

@@ -6,11 +6,11 @@ use Rattle.list_laws.proofs.Lists.{find, within, get_map, get_once}
 use Rattle.list_laws.proofs.Sums.{total_list, total_part, total_same}
 use Rattle.round_program.specs.Rules.{Rules}
 use Rattle.round_program.specs.Laws.{Laws, Fits}
-use Rattle.round_program.specs.Canonical.{absorb_upto, absorbed_round, states_at, votes_at, emitted, emitted_of, emitted_by, HasRounds, InRound}
+use Rattle.round_program.specs.Canonical.{absorb_upto, absorbed_round, states_at, votes_at, emitted, emitted_of, emitted_by, shape_of, HasRounds, InRound}
 use Rattle.round_program.specs.Orders.{fitting}
 use Rattle.round_program.specs.Epochs.{PairLists, vote_item, heard, worked, Voted, told, spoiled, Own, Closes, EveryRunIsCanonical}
 use Rattle.round_program.proofs.Orders.{upto_ext, fitting_all, emitted_by_fits}
-use Rattle.round_program.proofs.Members.{in_round_at, absorbed_in}
+use Rattle.round_program.proofs.Members.{in_round_at, absorbed_in, shape_is}
 
 -- a run at one moment: what the theorem is given
 record Run {S : Type 0} (R : Rules S) (p : ℕ) (shape : List ℕ) (most : ℕ) (starts : List S) (completed done : ℕ → ℕ) (h : ℕ → ℕ → S) (ls : ℕ → PairLists) : Type 0 where
@@ -104,24 +104,31 @@ at_each {R = R} {p = p} {starts = starts} {completed = completed} {h = h} {ls = 
     get_map (λ t. R.ended t (votes_at R starts m)) (absorbed_round R (states_at R starts m)) r (worked R p (h r) (ls r) m) (worked_by run m at_m r r lr lr over)
     ∙ ap Some (ap (R.ended (worked R p (h r) (ls r) m)) (sym (heard_by run m at_m r lr over)) ∙ sym ((run.own r lr).next m over))
 
+-- the shape of a rank's state is that of the run
+shape_by : {S : Type 0} {R : Rules S} {p : ℕ} {shape : List ℕ} {most : ℕ} {starts : List S} {completed done : ℕ → ℕ} {h : ℕ → ℕ → S} {ls : ℕ → PairLists} → Run R p shape most starts completed done h ls → (m r : ℕ) → r < p → 2 * m ≤ completed r → R.shape (h r m) ≡ shape_of R starts
+shape_by {R = R} {p = p} {shape = shape} {most = most} {starts = starts} {h = h} run m r lr c =
+    let all : InRound R p (min m (2 ^ 64 - 1)) shape most (states_at R starts m) = in_round_at R run.laws p shape most starts m run.start in
+    (all.each r (h r m) (at_each run m r lr c)).same_shape ∙ sym (shape_is R p 0 shape most starts (omega arith) run.start)
+
 -- no rank goes past the last round
 bounded_by : {S : Type 0} {R : Rules S} {p : ℕ} {shape : List ℕ} {most : ℕ} {starts : List S} {completed done : ℕ → ℕ} {h : ℕ → ℕ → S} {ls : ℕ → PairLists} → Run R p shape most starts completed done h ls → (n r : ℕ) → HasRounds R starts n → r < p → completed r ≤ 2 * n
-bounded_by {R = R} {p = p} {starts = starts} {completed = completed} {done = done} {ls = ls} run n r rounds lr =
+bounded_by {R = R} {p = p} {starts = starts} {completed = completed} {done = done} {h = h} {ls = ls} run n r rounds lr =
     elim (cases_lt (2 * n) (completed r)) [
       | inl past ↦
           let some : 0 < n = rounds.some in
           let low : completed r ≤ done r = (run.own r lr).done_low in
-          let goes : R.goes_on (n - 1) (heard p (ls r) (n - 1)) ≡ true = (run.own r lr).goes (n - 1) (omega arith) in
+          let goes : R.goes_on (R.shape (h r (n - 1))) (n - 1) (heard p (ls r) (n - 1)) ≡ true = (run.own r lr).goes (n - 1) (omega arith) in
+          let same : R.shape (h r (n - 1)) ≡ shape_of R starts = shape_by run (n - 1) r lr (omega arith) in
           let sum : heard p (ls r) (n - 1) ≡ votes_at R starts (n - 1) = heard_by run (n - 1) (at_each run (n - 1)) r lr (omega arith) in
-          absurd (both_ways (R.goes_on (n - 1) (votes_at R starts (n - 1))) rounds.stops (ap (R.goes_on (n - 1)) (sym sum) ∙ goes))
+          absurd (both_ways (R.goes_on (shape_of R starts) (n - 1) (votes_at R starts (n - 1))) rounds.stops (ap (R.goes_on (shape_of R starts) (n - 1)) (sym sum) ∙ (ap (λ a. R.goes_on a (n - 1) (heard p (ls r) (n - 1))) (sym same) ∙ goes)))
       | inr within' ↦ within'
     ]
 
-stopped_by : {S : Type 0} {R : Rules S} {p : ℕ} {shape : List ℕ} {most : ℕ} {starts : List S} {completed done : ℕ → ℕ} {h : ℕ → ℕ → S} {ls : ℕ → PairLists} → Run R p shape most starts completed done h ls → (n r m : ℕ) → HasRounds R starts n → r < p → 2 * m + 2 ≤ completed r → R.goes_on m (heard p (ls r) m) ≡ false → m + 1 ≡ n
-stopped_by {R = R} {p = p} {starts = starts} {completed = completed} {ls = ls} run n r m rounds lr c stops =
+stopped_by : {S : Type 0} {R : Rules S} {p : ℕ} {shape : List ℕ} {most : ℕ} {starts : List S} {completed done : ℕ → ℕ} {h : ℕ → ℕ → S} {ls : ℕ → PairLists} → Run R p shape most starts completed done h ls → (n r m : ℕ) → HasRounds R starts n → r < p → 2 * m + 2 ≤ completed r → R.goes_on (R.shape (h r m)) m (heard p (ls r) m) ≡ false → m + 1 ≡ n
+stopped_by {R = R} {p = p} {starts = starts} {completed = completed} {h = h} {ls = ls} run n r m rounds lr c stops =
     let high : completed r ≤ 2 * n = bounded_by run n r rounds lr in
     elim (cases_lt (m + 1) n) [
-      | inl early ↦ absurd (both_ways (R.goes_on m (votes_at R starts m)) (ap (R.goes_on m) (sym (heard_by run m (at_each run m) r lr c)) ∙ stops) (rounds.goes m early))
+      | inl early ↦ absurd (both_ways (R.goes_on (shape_of R starts) m (votes_at R starts m)) (ap (R.goes_on (shape_of R starts) m) (sym (heard_by run m (at_each run m) r lr c)) ∙ (ap (λ a. R.goes_on a m (heard p (ls r) m)) (sym (shape_by run m r lr (omega arith))) ∙ stops)) (rounds.goes m early))
       | inr late ↦ omega arith
     ]
 
@@ -139,7 +146,7 @@ every_run {S} R laws p shape most starts completed done h ls start begins own cl
     }
 
 -- a rank's vote is the same toward all ranks
-vote_alike : {S : Type 0} (R : Rules S) (p m r q : ℕ) (h : ℕ → S) (l : PairLists) → r < p → q < p → Voted R p h l m → l.pushed (2 * m + 1) r ≡ l.pushed (2 * m + 1) q
+pub vote_alike : {S : Type 0} (R : Rules S) (p m r q : ℕ) (h : ℕ → S) (l : PairLists) → r < p → q < p → Voted R p h l m → l.pushed (2 * m + 1) r ≡ l.pushed (2 * m + 1) q
 vote_alike R p m r q h l lr lq (told es vs) = vs r lr ∙ sym (vs q lq)
 vote_alike R p m r q h l lr lq (spoiled vs) = vs r lr ∙ sym (vs q lq)
 

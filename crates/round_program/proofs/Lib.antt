@@ -1,4 +1,5 @@
 pub mod Epochs
+pub mod Injections
 pub mod Items
 pub mod Members
 pub mod Orders

@@ -1,12 +1,12 @@
 -- The programs of a run stay those of one run, round after round.
-use Rattle.std.proofs.Common.{ℕ, inl, inr, zero, suc, ◌+◌, ◌-◌, ◌^◌, ◌<◌, ◌≤◌, ◌*◌, ◌≡◌, min, sum_by, List, Some, length, slice_get, All, arith, sym, ap, ◌∙◌, subst}
+use Rattle.std.proofs.Common.{ℕ, inl, inr, zero, suc, ◌+◌, ◌-◌, ◌^◌, ◌<◌, ◌≤◌, ◌*◌, ◌≡◌, min, sum_by, List, Some, length, slice_get, All, arith, refl, sym, ap, ◌∙◌, subst, [], ◌∷◌}
 use Rattle.std.proofs.lemmas.Bool.{both_ways, cases_order}
 use Rattle.std.proofs.lemmas.List.{length-map}
 use Rattle.std.proofs.lemmas.List.Sums.{sum_by-le}
 use Rattle.list_laws.proofs.Lists.{got_map, all_from_gets}
 use Rattle.round_program.specs.Rules.{Rules}
 use Rattle.round_program.specs.Laws.{Laws, SameRound, NextRound, Fits}
-use Rattle.round_program.specs.Canonical.{absorb_upto, absorbed_round, end_all, states_at, vote_sum, votes_at, emitted_by, HasRounds, InRound, Member}
+use Rattle.round_program.specs.Canonical.{absorb_upto, absorbed_round, end_all, states_at, vote_sum, votes_at, emitted_by, shape_of, HasRounds, InRound, Member}
 use Rattle.round_program.proofs.Orders.{upto_same, emitted_by_fits}
 
 -- a state of the same round is the same rank's
@@ -87,11 +87,16 @@ votes_add_up {S} R laws p n shape most ss all few =
     let size : length ss ≡ p = all.size in
     omega arith
 
+-- the shape of a run is the one that its programs share
+pub shape_is : {S : Type 0} (R : Rules S) (p n : ℕ) (shape : List ℕ) (most : ℕ) (ss : List S) → 0 < p → InRound R p n shape most ss → shape_of R ss ≡ shape
+shape_is R p n shape most [] some all = absurd (let size : 0 ≡ p = all.size in omega arith)
+shape_is R p n shape most (s ∷ ss) some all = (all.each 0 s refl).same_shape
+
 -- a run has one number of rounds
 pub rounds_once : {S : Type 0} (R : Rules S) (starts : List S) (m n : ℕ) → HasRounds R starts m → HasRounds R starts n → m ≡ n
 rounds_once R starts m n a b =
     elim (cases_order m n) [
       | inl e ↦ e
-      | inr (inl less) ↦ absurd (both_ways (R.goes_on (m - 1) (votes_at R starts (m - 1))) a.stops (b.goes (m - 1) (let some : 0 < m = a.some in omega arith)))
-      | inr (inr more) ↦ absurd (both_ways (R.goes_on (n - 1) (votes_at R starts (n - 1))) b.stops (a.goes (n - 1) (let some : 0 < n = b.some in omega arith)))
+      | inr (inl less) ↦ absurd (both_ways (R.goes_on (shape_of R starts) (m - 1) (votes_at R starts (m - 1))) a.stops (b.goes (m - 1) (let some : 0 < m = a.some in omega arith)))
+      | inr (inr more) ↦ absurd (both_ways (R.goes_on (shape_of R starts) (n - 1) (votes_at R starts (n - 1))) b.stops (a.goes (n - 1) (let some : 0 < n = b.some in omega arith)))
     ]

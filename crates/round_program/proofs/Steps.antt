@@ -13,11 +13,11 @@ pub record SameBefore (completed done : ℕ) (l k : PairLists) : Type 0 where
   pub pushed : (e d : ℕ) → e < done → k.pushed e d ≡ l.pushed e d
   pub pulled : (e f : ℕ) → e < completed → k.pulled e f ≡ l.pulled e f
 
-heard_same : (p completed done : ℕ) (l k : PairLists) (m : ℕ) → SameBefore completed done l k → 2 * m + 2 ≤ completed → heard p k m ≡ heard p l m
+pub heard_same : (p completed done : ℕ) (l k : PairLists) (m : ℕ) → SameBefore completed done l k → 2 * m + 2 ≤ completed → heard p k m ≡ heard p l m
 heard_same p completed done l k m same c =
     ap (λ n. min n (2 ^ 64 - 1)) (total_same p (λ f. sum_by (λ x. x.a) (k.pulled (2 * m + 1) f)) (λ f. sum_by (λ x. x.a) (l.pulled (2 * m + 1) f)) (λ f b. ap (sum_by (λ x. x.a)) (same.pulled (2 * m + 1) f (omega arith))))
 
-worked_same : {S : Type 0} (R : Rules S) (p completed done : ℕ) (h g : ℕ → S) (l k : PairLists) (m : ℕ) → SameBefore completed done l k → 2 * m < completed → g m ≡ h m → worked R p g k m ≡ worked R p h l m
+pub worked_same : {S : Type 0} (R : Rules S) (p completed done : ℕ) (h g : ℕ → S) (l k : PairLists) (m : ℕ) → SameBefore completed done l k → 2 * m < completed → g m ≡ h m → worked R p g k m ≡ worked R p h l m
 worked_same R p completed done h g l k m same c e =
     ap (λ s. after_pulls R s (k.pulled (2 * m)) p) e ∙ upto_ext R (h m) (λ f. fitting R (h m) f (k.pulled (2 * m) f)) (λ f. fitting R (h m) f (l.pulled (2 * m) f)) p (λ f b. ap (fitting R (h m) f) (same.pulled (2 * m) f c))
 
@@ -42,7 +42,7 @@ own_same R p completed done h g l k same hist own =
           ∙ (own.next m c
           ∙ (ap (λ s. R.ended s (heard p l m)) (sym (worked_same R p completed done h g l k m same (omega arith) (hist m (omega arith))))
           ∙ ap (R.ended (worked R p g k m)) (sym (heard_same p completed done l k m same c))));
-      goes = λ m c. ap (R.goes_on m) (heard_same p completed done l k m same (omega arith)) ∙ own.goes m c;
+      goes = λ m c. ap (λ s. R.goes_on (R.shape s) m (heard p k m)) (hist m (omega arith)) ∙ (ap (R.goes_on (R.shape (h m)) m) (heard_same p completed done l k m same (omega arith)) ∙ own.goes m c);
     }
 
 -- before the first round
@@ -58,7 +58,7 @@ own_start R p h l =
     }
 
 -- the rank is done with the work of round m, which it began because the program goes on
-pub own_work_done : {S : Type 0} (R : Rules S) (p m : ℕ) (h : ℕ → S) (l : PairLists) → ((k : ℕ) → k + 1 ≡ m → R.goes_on k (heard p l k) ≡ true) → Own R p (2 * m) (2 * m) h l → Own R p (2 * m) (2 * m + 1) h l
+pub own_work_done : {S : Type 0} (R : Rules S) (p m : ℕ) (h : ℕ → S) (l : PairLists) → ((k : ℕ) → k + 1 ≡ m → R.goes_on (R.shape (h k)) k (heard p l k) ≡ true) → Own R p (2 * m) (2 * m) h l → Own R p (2 * m) (2 * m + 1) h l
 own_work_done R p m h l goes own =
     record {
       done_low = omega arith;

@@ -1,5 +1,5 @@
 -- The canonical run: what the programs of all ranks compute together, with no word on how items travel.
-use Rattle.std.specs.Prelude.{ℕ, zero, suc, ◌+◌, ◌-◌, ◌^◌, ◌<◌, ◌≡◌, ◌==◌, min, true, false, List, [], Option, None, Some, map, length, slice_get}
+use Rattle.std.specs.Prelude.{ℕ, zero, suc, ◌+◌, ◌-◌, ◌^◌, ◌<◌, ◌≤◌, ◌≡◌, ◌==◌, min, true, false, List, [], ◌∷◌, Option, None, Some, map, length, slice_get}
 use Rattle.std.specs.List.{filter, fold, sum_by}
 use Rattle.bale_types.specs.declared.Item.{Item}
 use Rattle.round_program.specs.Rules.{Rules}
@@ -64,12 +64,29 @@ votes_at R starts n = vote_sum R (absorbed_round R (states_at R starts n))
 abbrev pub items_at : {S : Type 0} → Rules S → List S → ℕ → ℕ
 items_at R starts n = sum_by (λ s. length (R.emissions s)) (states_at R starts n)
 
+-- The shape of a run, which all its ranks share: that of its first program.
+abbrev pub shape_of : {S : Type 0} → Rules S → List S → List ℕ
+shape_of R [] = []
+shape_of R (s ∷ ss) = R.shape s
+
 -- The canonical run has n rounds: it goes on after each round but the last, whose number is n - 1.
 -- A run of histo has 1 round, a run of ig 3.
 pub record HasRounds {S : Type 0} (R : Rules S) (starts : List S) (n : ℕ) : Type 0 where
   pub some : 0 < n
-  pub goes : (m : ℕ) → m + 1 < n → R.goes_on m (votes_at R starts m) ≡ true
-  pub stops : R.goes_on (n - 1) (votes_at R starts (n - 1)) ≡ false
+  pub goes : (m : ℕ) → m + 1 < n → R.goes_on (shape_of R starts) m (votes_at R starts m) ≡ true
+  pub stops : R.goes_on (shape_of R starts) (n - 1) (votes_at R starts (n - 1)) ≡ false
+
+-- The canonical run ends, after at most so many rounds. A run of ig ends within 3.
+pub record EndsWithin {S : Type 0} (R : Rules S) (starts : List S) (most : ℕ) : Type 0 where
+  pub rounds : ℕ
+  pub has_rounds : HasRounds R starts rounds
+  pub at_most : rounds ≤ most
+
+-- Programs in the states in which the canonical run leaves them: those after its last round.
+pub record HaveEnded {S : Type 0} (R : Rules S) (starts ends : List S) : Type 0 where
+  pub rounds : ℕ
+  pub has_rounds : HasRounds R starts rounds
+  pub states : ends ≡ states_at R starts rounds
 
 -- A program of rank r in round n of a run of p ranks, with the shape and the bound that all ranks of the run share.
 pub record Member {S : Type 0} (R : Rules S) (p n : ℕ) (shape : List ℕ) (most r : ℕ) (s : S) : Type 0 where

@@ -46,7 +46,7 @@ pub record Own {S : Type 0} (R : Rules S) (p completed done : ℕ) (h : ℕ → 
   -- a completed round ends with the votes that were heard
   pub next : (m : ℕ) → 2 * m + 2 ≤ completed → h (suc m) ≡ R.ended (worked R p h l m) (heard p l m)
   -- a rank begins another round only where the program goes on
-  pub goes : (m : ℕ) → 2 * m + 2 < done → R.goes_on m (heard p l m) ≡ true
+  pub goes : (m : ℕ) → 2 * m + 2 < done → R.goes_on (R.shape (h m)) m (heard p l m) ≡ true
 
 -- What all ranks together know of an epoch that one of them has completed: all were done in it, and what was
 -- pulled is what was pushed.
@@ -68,7 +68,7 @@ pub record IsCanonical {S : Type 0} (R : Rules S) (p : ℕ) (starts : List S) (c
   -- no rank goes past the last round
   pub bounded : (n r : ℕ) → HasRounds R starts n → r < p → completed r ≤ 2 * n
   -- and a rank that stops has completed it
-  pub stopped : (n r m : ℕ) → HasRounds R starts n → r < p → 2 * m + 2 ≤ completed r → R.goes_on m (heard p (ls r) m) ≡ false → m + 1 ≡ n
+  pub stopped : (n r m : ℕ) → HasRounds R starts n → r < p → 2 * m + 2 ≤ completed r → R.goes_on (R.shape (h r m)) m (heard p (ls r) m) ≡ false → m + 1 ≡ n
 
 -- At every moment, with the ranks in different rounds, each rank's states are those of the canonical run.
 abbrev pub EveryRunIsCanonical : {S : Type 0} → Rules S → Type 0

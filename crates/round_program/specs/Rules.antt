@@ -20,7 +20,7 @@ pub record Rules (S : Type 0) : Type 1 where
   -- the state after an item of a sender was absorbed
   pub absorbed : S → ℕ → Item → S
   pub vote : S → ℕ
-  -- whether another round follows a round with this number and this sum of votes
-  pub goes_on : ℕ → ℕ → Bool
+  -- whether another round follows, for a run of this shape, a round with this number and this sum of votes
+  pub goes_on : List ℕ → ℕ → ℕ → Bool
   -- the state after the round ended with this sum of votes
   pub ended : S → ℕ → S

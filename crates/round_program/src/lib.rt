@@ -15,9 +15,11 @@
 //! | `Asker` | one rank's part of an exchange of queries and replies |
 //! | `every_order` | the interleaving theorem: every order of absorbs gives the canonical state |
 //! | `every_run` | the theorem over all rounds: at every moment each rank is within the canonical run |
+//! | `same_runs` | one program as a case of another: a run of the cases is the run of the program |
 //!
 //! The definitions, in the order in which to read them: `Rules` (a program's meanings), `Laws`, `Canonical` (the canonical
-//! run), `Orders` (the interleaving theorem), `Epochs` (the theorem over all rounds), `Talks` (askers).
+//! run), `Orders` (the interleaving theorem), `Epochs` (the theorem over all rounds), `Injections` (one program as a case of
+//! another), `Talks` (askers).
 #![tactic(auto)]
 
 mod asker;
@@ -30,4 +32,4 @@ mod theorems;
 pub use asker::Asker;
 pub use program::Program;
 pub use progs::Progs;
-pub use theorems::{every_order, every_run};
+pub use theorems::{every_order, every_run, same_runs};

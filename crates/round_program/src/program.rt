@@ -26,7 +26,7 @@ use bale_types::{Item, NoMemory};
 /// 3. an absorb changes no rank, ranks, round, shape, most or emission, so it changes no `fits` either;
 /// 4. a vote is below 2^32;
 /// 5. the end of a round keeps rank, ranks, shape and most and begins the next round, and whether a round
-///    follows depends on the round and the votes alone.
+///    follows depends on the shape, the round and the votes alone. All ranks of a run share the shape, so all agree.
 ///
 /// A program that answered `NoMemory` isn't used again for answers. Its emissions of the round stay as they were, so
 /// that what it began to send can be sent.
@@ -76,13 +76,13 @@ pub trait Program: Drop {
     /// Whether another round follows, if the votes of all ranks have the sum `votes`. A rank that has no memory for the next
     /// round learns from it whether there is one.
     fn goes_on(&self, votes: u64) -> bool
-        ensures { result ≡ rules.goes_on (rules.round self.now) votes };
+        ensures { result ≡ rules.goes_on (rules.shape self.now) (rules.round self.now) votes };
 
     /// Ends the round and begins the next, and answers whether it is one of the run. After `NoMemory` the emissions are as
     /// before.
     fn end_round(&mut self, votes: u64) -> Result<bool, NoMemory>
         ensures ended { OnOk result (self.new ≡ rules.ended self.old votes) }
-        ensures answer { IfOk result (λ more. more ≡ rules.goes_on (rules.round self.old) votes) }
+        ensures answer { IfOk result (λ more. more ≡ rules.goes_on (rules.shape self.old) (rules.round self.old) votes) }
         ensures refused { OnErr result (rules.emissions self.new ≡ rules.emissions self.old) };
 
     ghost laws: { Laws rules };

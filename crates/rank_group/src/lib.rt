@@ -19,14 +19,26 @@
 #![tactic(auto)]
 
 mod absorbing;
+mod closed_round;
+mod ending;
 mod node;
+mod row_node;
 mod pushing;
 mod row;
+mod sending;
+mod sends;
+mod steps;
+mod taking;
 mod turn;
+mod via;
 
+pub use closed_round::{ClosedRound, Rounds};
 pub use node::Node;
+pub use row_node::RowNode;
 pub use row::{finish, nodes_of, turn_all};
+pub use steps::Steps;
 pub use turn::Turn;
+pub use via::Via;
 
 #[cfg(test)]
 mod slot_tests;

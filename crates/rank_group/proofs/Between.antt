@@ -128,10 +128,10 @@ module _ {S : Type 0} (R : Rules S) (laws : Laws R) (p rank : ℕ) (h : ℕ → 
       by false c = told (is.within.emitted_all refl c) (says (R.vote (worked R p h (lists_of part) round)) ((is.within.vote v q refl).1 ∙ ap (λ b. cond b spoiled_vote (R.vote (worked R p h (lists_of part) round))) c))
 
 -- the history up to a round is as it was
-extended_before : {S : Type 0} (h : ℕ → S) (m : ℕ) (s : S) (k : ℕ) → k ≢ m → extended h m s k ≡ h k
+pub extended_before : {S : Type 0} (h : ℕ → S) (m : ℕ) (s : S) (k : ℕ) → k ≢ m → extended h m s k ≡ h k
 extended_before h m s k apart = ap (λ b. cond b s (h k)) (ne_eqb k m apart)
 
-extended_at : {S : Type 0} (h : ℕ → S) (m : ℕ) (s : S) → extended h m s m ≡ s
+pub extended_at : {S : Type 0} (h : ℕ → S) (m : ℕ) (s : S) → extended h m s m ≡ s
 extended_at h m s = ap (λ b. cond b s (h m)) (eq-eqb m m refl)
 
 -- the rank after its round: completed, with the next state at the end of its history

@@ -4,12 +4,15 @@ pub mod Kept
 pub mod Absorbed
 pub mod Took
 pub mod Offered
+pub mod Counted
 pub mod Moved
 pub mod Halted
 pub mod Begun
 pub mod Fresh
 pub mod Between
 pub mod Onward
+pub mod Ranked
+pub mod Worlds
 pub mod Turned
 pub mod Stuck
 pub mod Sweeps

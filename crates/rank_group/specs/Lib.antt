@@ -7,6 +7,7 @@ pub mod Runs
 pub mod Nodes
 pub mod Stuck
 pub mod Next
+pub mod Ranks
 pub mod Rounds
 pub mod Told
 pub mod Pulls

@@ -28,6 +28,7 @@ mod row;
 mod sending;
 mod sends;
 mod steps;
+mod sweeping;
 mod taking;
 mod turn;
 mod via;

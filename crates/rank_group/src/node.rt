@@ -178,6 +178,7 @@ impl<Q: Program, const CAP: usize, const HOPS: usize> Node<Q, CAP, HOPS> {
         // After the votes comes the next round, exactly where the program goes on; its state is the one with memory.
         ensures work { is_voting self.old.run.sends ≡ true → result ≡ Ok true → (h : ℕ → Q) (sent got : Logs) → IsNode Q.rules h self.old sent got
             → IsNode Q.rules (extended h (self.old.run.round + 1) (Q.rules.ended self.old.run.prog self.old.run.sum)) self.new sent got }
+        ensures stays { result ≡ Ok false → self.new.conveyor ≡ self.old.conveyor }
         ensures stopped { result ≡ Ok false → (h : ℕ → Q) (sent got : Logs) → IsNode Q.rules h self.old sent got → HasStopped Q.rules h self.new sent got }
 
         // No memory: never on the way to an epoch that follows, and always where the sum says that some rank had none.

@@ -204,3 +204,19 @@ module _ (dims : List ℕ) (sent got : Logs) (k : Keeps dims sent got) (fair : (
                 let y = total_le (ranks dims) (λ d. total (links dims) (λ l. pick l i s d)) (λ d. length (flow dims sent s d 1 e)) (λ d to. one i s d hop from to) in
                 omega (arith, x, y)) in
             omega (arith, a, b)
+
+-- a flow reads one log
+pub flow_alike : (dims : List ℕ) (a b : Logs) (s d h e : ℕ) → a (hop_link dims s d h) ≡ b (hop_link dims s d h) → flow dims a s d h e ≡ flow dims b s d h e
+flow_alike dims a b s d h e same = ap (λ log. items_of (belongs dims s d h) (segment e log)) same
+
+-- each parcel that isn't marked last has an entry
+some_entry : (steady : Bool) (cap : ℕ) (p : Shipped) → 0 < cap → IsFilled steady cap p → 0 < length p.entries
+some_entry true cap p some f = f
+some_entry false cap p some f = omega (arith, some, f)
+
+pub log_short : (steady : Bool) (cap : ℕ) (log : List Shipped) → 0 < cap → IsConveyorShape steady cap log → length log ≤ length (entries_of log) + lasts log
+log_short steady cap [] some shape = omega arith
+log_short steady cap (p ∷ ps) some shape = by p.last refl (log_short steady cap ps some (all_tail (λ q. q.last ≡ false → IsFilled steady cap q) p ps shape)) where
+  by : (b : Bool) → p.last ≡ b → length ps ≤ length (entries_of ps) + lasts ps → length (p ∷ ps) ≤ length (entries_of (p ∷ ps)) + lasts (p ∷ ps)
+  by true c rest = omega (arith, rest, length-append p.entries (entries_of ps), lasts_first p ps true c)
+  by false c rest = omega (arith, rest, length-append p.entries (entries_of ps), lasts_first p ps false c, some_entry steady cap p some (all_head (λ q. q.last ≡ false → IsFilled steady cap q) p ps shape c))

@@ -13,6 +13,8 @@ pub mod Between
 pub mod Onward
 pub mod Ranked
 pub mod Worlds
+pub mod Pushed
+pub mod Bounds
 pub mod Turned
 pub mod Stuck
 pub mod Sweeps

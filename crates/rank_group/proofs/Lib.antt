@@ -15,6 +15,7 @@ pub mod Ranked
 pub mod Worlds
 pub mod Pushed
 pub mod Bounds
+pub mod Moves
 pub mod Turned
 pub mod Stuck
 pub mod Sweeps

@@ -7,12 +7,15 @@ use Rattle.route_tensor.specs.Grid.{ranks, IsGrid}
 use Rattle.route_tensor.specs.Link.{links}
 use Rattle.port_bank.specs.Logs.{Logs, starting_at, ending_at}
 use Rattle.port_bank.specs.Link.{LinkLaw}
+use Rattle.port_bank.specs.Relay.{RelayLaw}
+use Rattle.route_tensor.specs.Ends.{reader_at}
+use Rattle.rank_group.proofs.Counted.{entries_of}
 use Rattle.port_bank.specs.Machine.{Part, completed_of, done_of, EpochsClose}
 use Rattle.hop_core.specs.declared.phase.Phase.{Phase}
 use Rattle.hop_core.specs.declared.phase.Phase.TheVariants.{Dormant, Complete}
 use Rattle.hop_core.specs.declared.lent.Lent.TheVariants as lent
 use Rattle.hop_core.specs.State.{State}
-use Rattle.convey.specs.Buffers.{Buffers, buffers_of, is_complete}
+use Rattle.convey.specs.Buffers.{Buffers, buffers_of, in_of, is_complete}
 use Rattle.convey.specs.Agreement.{Agrees}
 use Rattle.convey.specs.Law.{IsSound, AgreeTogether, state_of, ClosesLaw}
 use Rattle.convey.specs.Parts.{part_of}
@@ -76,10 +79,18 @@ history_in h (Some n) = cond n.over (extended h (n.node.run.round + 1) n.node.ru
 abbrev pub part_at : {S : Type 0} → List ℕ → List (RankState S) → Logs → Logs → ℕ → Part
 part_at dims rs sent got r = part_of (buffers_of (conveyor_in (slice_get rs r))) (starting_at dims r sent) (ending_at dims r got)
 
+-- how many entries lie in the inbox of a link
+abbrev pub inbox : {S : Type 0} → List ℕ → List (RankState S) → ℕ → ℕ
+inbox dims rs l = length (in_of (conveyor_in (slice_get rs (reader_at dims l))) l).parcel.untaken
+
 -- all ranks over one bank
 pub record World {S : Type 0} (R : Rules S) (dims : List ℕ) (cap slots : ℕ) (steady : Bool) (starts : List S) (h : ℕ → ℕ → S) (rs : List (RankState S)) (sent got : Logs) : Type 0 where
   pub grid : IsGrid dims
   pub links_keep : (l : ℕ) → l < links dims → LinkLaw cap slots (sent l) (got l)
+  pub none_past : (l : ℕ) → links dims ≤ l → (sent l ≡ []) × (got l ≡ [])
+  pub relays : (r : ℕ) → r < ranks dims → RelayLaw dims r sent got
+  pub some : 0 < cap
+  pub inboxes : (l : ℕ) → l < links dims → inbox dims rs l ≤ length (entries_of (got l))
   pub all : length rs ≡ ranks dims
   pub each : (r : ℕ) (n : RankState S) → slice_get rs r ≡ Some n → HasRank R dims cap steady r (h r) n sent got
   pub begins : (r : ℕ) (s : S) → slice_get starts r ≡ Some s → h r 0 ≡ s

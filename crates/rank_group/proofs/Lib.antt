@@ -16,6 +16,8 @@ pub mod Worlds
 pub mod Pushed
 pub mod Bounds
 pub mod Moves
+pub mod Swept
+pub mod Resting
 pub mod Turned
 pub mod Stuck
 pub mod Sweeps

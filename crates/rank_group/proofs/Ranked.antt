@@ -116,7 +116,7 @@ module _ {S : Type 0} (R : Rules S) (dims : List ℕ) (cap slots r : ℕ) where
           stopped = λ e. absurd (true≢false (sym e ∙ still));
           shape = turned_shape steady h Going n n' sent got sent' got' t is;
         });
-        left = λ steady h is e same s g. record { stuck = t.stuck h (is.runs on) s g; going = t.going refl };
+        left = λ steady h is e same s g. record { stuck = t.stuck h (is.runs on) s g; going = t.going refl; stays = t.node_epoch };
       }
 
 -- what `next` tells

@@ -74,6 +74,7 @@ pub record AfterTurn {S : Type 0} (R : Rules S) (dims : List ℕ) (cap slots r :
 pub record IsLeft (c c' : State) (sent got sent' got' : Logs) (is_crowded is_idle : ℕ → Bool) : Type 0 where
   pub stuck : IsStuck c c' sent got sent' got' is_crowded is_idle
   pub going : c'.phase ≢ Complete
+  pub stays : c'.epoch ≡ c.epoch
 
 -- What the turn of rank r leaves, with the step to its next epoch where one has ended.
 -- lies: an inbox holds at most what it held and what came.

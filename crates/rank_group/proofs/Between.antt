@@ -1,12 +1,12 @@
 -- A node goes from one epoch to the next.
-use Rattle.std.proofs.Common.{◌≡◌, ◌≢◌, ℕ, zero, suc, ◌+◌, ◌*◌, ◌-◌, ◌^◌, ◌<◌, ◌≤◌, ◌==◌, min, Bool, true, false, cond, List, [], ◌∷◌, ◌++◌, length, map, take, None, refl, sym, ap, subst, ◌∙◌, arith, inl, inr, sum_by}
-use Rattle.std.proofs.lemmas.Bool.{cases_eq, cases_Bool, true≢false, false≢true, eq-eqb, ne_eqb}
+use Rattle.std.proofs.Common.{◌≡◌, ◌≢◌, ℕ, suc, ◌+◌, ◌*◌, ◌-◌, ◌^◌, ◌<◌, ◌≤◌, min, Bool, true, false, cond, List, [], ◌∷◌, ◌++◌, length, take, refl, sym, ap, subst, ◌∙◌, arith, inl, inr, sum_by}
+use Rattle.std.proofs.lemmas.Bool.{cases_eq, true≢false, false≢true, eq-eqb, ne_eqb}
 use Rattle.std.proofs.lemmas.List.{take_all, append-nil}
 use Rattle.bale_types.specs.declared.item.Item.{Item}
 use Rattle.list_laws.specs.Sums.{total}
 use Rattle.list_laws.proofs.Sums.{total_zero}
 use Rattle.port_bank.specs.Flow.{Begins}
-use Rattle.port_bank.specs.Machine.{Part, IsOwnStep, after}
+use Rattle.port_bank.specs.Machine.{Part, after}
 use Rattle.port_bank.specs.Machine.Step.{Reset}
 use Rattle.round_program.specs.Rules.{Rules}
 use Rattle.round_program.specs.Laws.{Laws, SameRound, NextRound}
@@ -14,13 +14,13 @@ use Rattle.round_program.specs.Canonical.{items_of, emitted}
 use Rattle.round_program.specs.Orders.{fitting, after_pulls}
 use Rattle.round_program.specs.Epochs.{PairLists, vote_item, heard, worked, Voted, told, spoiled, Own}
 use Rattle.round_program.proofs.Orders.{upto_ext, upto_none, pulls_same}
-use Rattle.round_program.proofs.Steps.{SameBefore, own_same, own_work_done, own_work_over, own_vote_done, own_round_over}
+use Rattle.round_program.proofs.Steps.{own_same, own_work_done, own_work_over, own_vote_done, own_round_over}
 use Rattle.rank_group.specs.declared.sends.Sends.{Sends}
 use Rattle.rank_group.specs.declared.sends.Sends.TheVariants.{Emissions, Nothing, Votes}
 use Rattle.rank_group.specs.Sending.{votes_to, to_send, is_voting, epoch_of, spoiled_vote}
-use Rattle.rank_group.specs.Runs.{lists_of, Running, HasPassed, IsWithin, HasTaken}
+use Rattle.rank_group.specs.Runs.{lists_of, HasTaken}
 use Rattle.rank_group.specs.Next.{extended}
-use Rattle.rank_group.proofs.Ballots.{votes_length, votes_each}
+use Rattle.rank_group.proofs.Ballots.{votes_each}
 
 -- where all is pushed, what a rank was sent is all that goes to it
 all_of : (items : List (ℕ × Item)) (next d : ℕ) → next ≡ length items → items_of d (take next items) ≡ items_of d items
@@ -112,20 +112,20 @@ module _ {S : Type 0} (R : Rules S) (laws : Laws R) (p rank : ℕ) (h : ℕ → 
   -- what it told in the round that it ends
   pub voted : (v q : ℕ) → HasTaken R p rank h round (Votes v q) next prog sum lost part → Voted R p h (lists_of part) round
   voted v q is = by lost refl where
-      e : part.epoch ≡ 2 * round + 1
-      e = is.passed.epoch
+    e : part.epoch ≡ 2 * round + 1
+    e = is.passed.epoch
 
-      all : next ≡ length (votes_to q v)
-      all = is.within.all_pushed done
+    all : next ≡ length (votes_to q v)
+    all = is.within.all_pushed done
 
-      says : (w : ℕ) → v ≡ w → (d : ℕ) → d < p → part.pushed (2 * round + 1) d ≡ vote_item w ∷ []
-      says w same d b =
-          subst (λ k. part.pushed k d ≡ items_of d (take next (votes_to q v))) e (is.within.pushed d b)
-          ∙ (all_of (votes_to q v) next d all ∙ (votes_each q v d (subst (λ k. d < k) (sym (is.within.vote v q refl).0) b) ∙ ap (λ k. vote_item k ∷ []) same))
+    says : (w : ℕ) → v ≡ w → (d : ℕ) → d < p → part.pushed (2 * round + 1) d ≡ vote_item w ∷ []
+    says w same d b =
+        subst (λ k. part.pushed k d ≡ items_of d (take next (votes_to q v))) e (is.within.pushed d b)
+        ∙ (all_of (votes_to q v) next d all ∙ (votes_each q v d (subst (λ k. d < k) (sym (is.within.vote v q refl).0) b) ∙ ap (λ k. vote_item k ∷ []) same))
 
-      by : (b : Bool) → lost ≡ b → Voted R p h (lists_of part) round
-      by true c = spoiled (says spoiled_vote ((is.within.vote v q refl).1 ∙ ap (λ b. cond b spoiled_vote (R.vote (worked R p h (lists_of part) round))) c))
-      by false c = told (is.within.emitted_all refl c) (says (R.vote (worked R p h (lists_of part) round)) ((is.within.vote v q refl).1 ∙ ap (λ b. cond b spoiled_vote (R.vote (worked R p h (lists_of part) round))) c))
+    by : (b : Bool) → lost ≡ b → Voted R p h (lists_of part) round
+    by true c = spoiled (says spoiled_vote ((is.within.vote v q refl).1 ∙ ap (λ b. cond b spoiled_vote (R.vote (worked R p h (lists_of part) round))) c))
+    by false c = told (is.within.emitted_all refl c) (says (R.vote (worked R p h (lists_of part) round)) ((is.within.vote v q refl).1 ∙ ap (λ b. cond b spoiled_vote (R.vote (worked R p h (lists_of part) round))) c))
 
 -- the history up to a round is as it was
 pub extended_before : {S : Type 0} (h : ℕ → S) (m : ℕ) (s : S) (k : ℕ) → k ≢ m → extended h m s k ≡ h k

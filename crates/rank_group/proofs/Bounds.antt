@@ -1,17 +1,14 @@
 -- What a run moves at most.
-use Rattle.std.proofs.Common.{◌≡◌, ◌≢◌, ℕ, zero, suc, ◌+◌, ◌-◌, ◌*◌, ◌^◌, ◌<◌, ◌≤◌, ◌==◌, Bool, true, false, cond, min, List, [], ◌∷◌, ◌++◌, length, Option, Some, None, slice_get, sum_by, All, refl, sym, ap, subst, ◌∙◌, arith, inl, inr}
-use Rattle.std.proofs.lemmas.Bool.{cases_Bool, cases_eq, cases_lt, true≢false}
-use Rattle.std.proofs.Math.Nat.{mul-add, mul-le-mul_left}
+use Rattle.std.proofs.Common.{◌≡◌, ℕ, zero, suc, ◌+◌, ◌-◌, ◌*◌, ◌^◌, ◌<◌, ◌≤◌, Bool, true, false, cond, min, List, length, Some, slice_get, All, refl, sym, ap, subst, ◌∙◌, arith, inl, inr}
+use Rattle.std.proofs.lemmas.Bool.{cases_Bool, cases_lt}
 use Rattle.bale_types.specs.declared.item.Item.{Item}
 use Rattle.list_laws.specs.Sums.{total}
-use Rattle.list_laws.proofs.Sums.{total_le, total_same, total_zero, total_bound, total_list}
-use Rattle.list_laws.proofs.Lists.{find, within}
-use Rattle.route_tensor.specs.Grid.{ranks, IsGrid}
-use Rattle.route_tensor.specs.Link.{links}
-use Rattle.port_bank.specs.Logs.{Logs, lasts, starting_at, ending_at}
-use Rattle.port_bank.specs.Flow.{hop_link, flow}
+use Rattle.list_laws.proofs.Sums.{total_le, total_zero, total_bound, total_list}
+use Rattle.list_laws.proofs.Lists.{find}
+use Rattle.route_tensor.specs.Grid.{ranks}
+use Rattle.port_bank.specs.Logs.{Logs, starting_at, ending_at}
+use Rattle.port_bank.specs.Flow.{flow}
 use Rattle.port_bank.specs.Machine.{Part}
-use Rattle.hop_core.specs.State.{State}
 use Rattle.convey.specs.Buffers.{buffers_of}
 use Rattle.convey.specs.Law.{ClosesLaw}
 use Rattle.convey.specs.Parts.{part_of}
@@ -22,9 +19,7 @@ use Rattle.round_program.specs.Epochs.{IsCanonical}
 use Rattle.round_program.proofs.Items.{items_total}
 use Rattle.round_program.proofs.Members.{in_round_at}
 use Rattle.rank_group.specs.Sending.{is_voting, epoch_of}
-use Rattle.rank_group.specs.Runs.{Running, HasPassed, IsWithin, HasTaken}
 use Rattle.rank_group.specs.Next.{extended}
-use Rattle.rank_group.specs.Nodes.{NodeState, IsNode}
 use Rattle.rank_group.specs.Ranks.{RankState, HasRank, progress}
 use Rattle.rank_group.proofs.Emitted.{receivers_below}
 use Rattle.rank_group.proofs.Between.{extended_before}

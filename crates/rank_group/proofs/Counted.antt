@@ -1,23 +1,21 @@
 -- How much a bank's links carry, by what is pushed.
-use Rattle.std.proofs.Common.{◌≡◌, ◌≢◌, ℕ, zero, suc, ◌+◌, ◌-◌, ◌*◌, ◌<◌, ◌≤◌, ◌==◌, ◌&&◌, Bool, true, false, cond, List, [], ◌∷◌, ◌++◌, length, length-append, map, filter, flat_map, All, refl, sym, ap, subst, ◌∙◌, arith, eq-eqb, inl, inr}
-use Rattle.std.proofs.lemmas.Bool.{cases_eq, cases_lt, ne_eqb}
+use Rattle.std.proofs.Common.{◌≡◌, ℕ, zero, suc, ◌+◌, ◌-◌, ◌*◌, ◌<◌, ◌≤◌, ◌==◌, ◌&&◌, Bool, true, false, cond, List, [], ◌∷◌, length, length-append, filter, flat_map, All, refl, sym, ap, subst, ◌∙◌, arith, eq-eqb, inl, inr}
+use Rattle.std.proofs.lemmas.Bool.{cases_eq, ne_eqb}
 use Rattle.std.proofs.lemmas.List.{append-nil, length-map}
-use Rattle.std.proofs.lemmas.List.Elements.{All-nil, All-append, filter-append}
 use Rattle.bale_types.specs.declared.item.Entry.{Entry}
-use Rattle.bale_types.specs.declared.item.Item.{Item}
 use Rattle.item_buffer.specs.Contents.{Shipped}
 use Rattle.route_tensor.specs.Grid.{ranks, place, IsGrid}
-use Rattle.route_tensor.specs.Link.{links, link, IsLink, IsOnRoute}
+use Rattle.route_tensor.specs.Link.{links, link, IsOnRoute}
 use Rattle.route_tensor.specs.Tag.{IsFair, sender_of, destination_of}
 use Rattle.route_tensor.specs.Ends.{hop_at, sender_at, reader_at}
 use Rattle.route_tensor.proofs.Tags.{pair_route}
 use Rattle.route_tensor.proofs.Coordinates.{place_below}
 use Rattle.list_laws.specs.Sums.{total}
-use Rattle.list_laws.proofs.Sums.{total_le, total_same, total_add, total_const, total_zero, total_bound, total_swap, total_part, total_one, total_lt}
+use Rattle.list_laws.proofs.Sums.{total_le, total_same, total_zero, total_bound, total_swap, total_part, total_lt}
 use Rattle.list_laws.proofs.Lists.{all_head, all_tail}
 use Rattle.port_bank.specs.Logs.{Logs, lasts, segment}
 use Rattle.port_bank.specs.Flow.{hop_link, belongs, flow, items_of, Begins}
-use Rattle.port_bank.specs.Relay.{HasFairTags, RelayLaw, Relays}
+use Rattle.port_bank.specs.Relay.{HasFairTags, Relays}
 use Rattle.port_bank.specs.Shapes.{IsFilled, IsConveyorShape}
 use Rattle.port_bank.proofs.Fronts.{begins_refl, begins_trans, begins_shorter}
 use Rattle.port_bank.proofs.Kept.{flow_begins}
@@ -200,9 +198,9 @@ module _ (dims : List ℕ) (sent got : Logs) (k : Keeps dims sent got) (fair : (
         by_hop i hop =
             let a = total_swap (links dims) (ranks dims) (λ l s. total (ranks dims) (λ d. pick l i s d)) in
             let b = total_le (ranks dims) (λ s. total (links dims) (λ l. total (ranks dims) (λ d. pick l i s d))) (λ s. total (ranks dims) (λ d. length (flow dims sent s d 1 e))) (λ s from.
-                let x = total_swap (links dims) (ranks dims) (λ l d. pick l i s d) in
-                let y = total_le (ranks dims) (λ d. total (links dims) (λ l. pick l i s d)) (λ d. length (flow dims sent s d 1 e)) (λ d to. one i s d hop from to) in
-                omega (arith, x, y)) in
+            let x = total_swap (links dims) (ranks dims) (λ l d. pick l i s d) in
+            let y = total_le (ranks dims) (λ d. total (links dims) (λ l. pick l i s d)) (λ d. length (flow dims sent s d 1 e)) (λ d to. one i s d hop from to) in
+            omega (arith, x, y)) in
             omega (arith, a, b)
 
 -- a flow reads one log

@@ -1,8 +1,7 @@
 -- A node that hasn't turned.
-use Rattle.std.proofs.Common.{◌≡◌, ◌≢◌, ℕ, ◌+◌, ◌*◌, ◌<◌, ◌==◌, Bool, true, false, cond, List, [], replicate, nat_lt, None, refl, sym, ap, subst, ◌∙◌, arith}
+use Rattle.std.proofs.Common.{◌≡◌, ◌≢◌, ℕ, false, List, [], replicate, None, refl, sym, ap, subst, ◌∙◌, arith}
 use Rattle.std.proofs.lemmas.Bool.{false≢true}
 use Rattle.route_tensor.specs.Grid.{ranks}
-use Rattle.port_bank.specs.Logs.{Logs}
 use Rattle.port_bank.specs.Machine.{Part}
 use Rattle.port_bank.specs.Machine.Step.{Idle}
 use Rattle.hop_core.specs.declared.phase.Phase.{Phase}
@@ -19,7 +18,7 @@ use Rattle.round_program.specs.Orders.{fitting}
 use Rattle.round_program.proofs.Orders.{upto_ext, upto_none}
 use Rattle.round_program.proofs.Steps.{own_start}
 use Rattle.rank_group.specs.declared.sends.Sends.TheVariants.{Emissions}
-use Rattle.rank_group.specs.Runs.{lists_of, HasPassed, IsWithin, HasTaken}
+use Rattle.rank_group.specs.Runs.{lists_of, HasTaken}
 use Rattle.rank_group.specs.Nodes.{IsNode}
 use Rattle.rank_group.proofs.Begun.{no_logs, IsNew, new_part, new_links}
 use Rattle.rank_group.proofs.Took.{taken_same}

@@ -1,12 +1,12 @@
 -- What a rank knows of the epochs that are over stays, as its lists grow in the current one.
-use Rattle.std.proofs.Common.{◌≡◌, ◌≢◌, ℕ, suc, ◌+◌, ◌*◌, ◌-◌, ◌^◌, ◌<◌, ◌≤◌, Bool, true, false, cond, List, [], length, refl, sym, ap, subst, ◌∙◌, arith}
+use Rattle.std.proofs.Common.{◌≡◌, ◌≢◌, ℕ, ◌+◌, ◌*◌, ◌<◌, ◌≤◌, Bool, true, false, List, length, refl, sym, ap, subst, ◌∙◌, arith}
 use Rattle.bale_types.specs.declared.item.Item.{Item}
 use Rattle.port_bank.specs.Flow.{Begins}
 use Rattle.port_bank.specs.Machine.{Part}
 use Rattle.round_program.specs.Rules.{Rules}
 use Rattle.round_program.specs.Canonical.{emitted}
-use Rattle.round_program.specs.Epochs.{PairLists, heard, worked, Own}
-use Rattle.round_program.proofs.Steps.{SameBefore, own_same, heard_same, worked_same}
+use Rattle.round_program.specs.Epochs.{Own}
+use Rattle.round_program.proofs.Steps.{SameBefore, own_same, heard_same}
 use Rattle.rank_group.specs.Sending.{epoch_of}
 use Rattle.rank_group.specs.Runs.{lists_of, HasPassed}
 

@@ -1,7 +1,6 @@
 -- What a turn leaves of a node.
-use Rattle.std.proofs.Common.{◌≡◌, ◌≢◌, ℕ, ◌+◌, ◌*◌, ◌≤◌, ◌==◌, Bool, true, false, cond, List, length, Option, None, refl, sym, ap, subst, ◌∙◌, arith, eqb-true, inl, inr}
+use Rattle.std.proofs.Common.{◌≡◌, ◌≢◌, ℕ, ◌*◌, ◌≤◌, ◌==◌, Bool, true, false, cond, List, length, None, refl, sym, ap, subst, ◌∙◌, arith, eqb-true, inl, inr}
 use Rattle.std.proofs.lemmas.Bool.{cases_Bool, true≢false, eq-eqb}
-use Rattle.bale_types.specs.declared.item.Item.{Item}
 use Rattle.route_tensor.specs.Grid.{ranks}
 use Rattle.port_bank.specs.Logs.{Logs}
 use Rattle.hop_core.specs.declared.phase.Phase.TheVariants.{Dormant, Working}
@@ -17,9 +16,9 @@ use Rattle.round_program.specs.Orders.{after_pulls}
 use Rattle.round_program.specs.Epochs.{heard, worked}
 use Rattle.rank_group.specs.declared.sends.Sends.{Sends}
 use Rattle.rank_group.specs.Sending.{to_send, is_voting, epoch_of, spoiled_vote}
-use Rattle.rank_group.specs.Runs.{lists_of, Running, HasPassed, IsWithin, HasTaken}
+use Rattle.rank_group.specs.Runs.{lists_of, HasTaken}
 use Rattle.rank_group.specs.Pulls.{PushedOn}
-use Rattle.rank_group.specs.Nodes.{NodeState, AllRead, IsMoving, IsNode}
+use Rattle.rank_group.specs.Nodes.{NodeState, AllRead, IsNode}
 use Rattle.rank_group.proofs.Kept.{passed_same}
 use Rattle.rank_group.proofs.Took.{taken_same}
 

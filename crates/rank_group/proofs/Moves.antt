@@ -1,39 +1,37 @@
 -- What moves in a run: parcels are posted and collected, and entries taken from inboxes.
-use Rattle.std.proofs.Common.{◌≡◌, ◌≢◌, ℕ, zero, suc, ◌+◌, ◌-◌, ◌*◌, ◌<◌, ◌≤◌, ◌==◌, Bool, true, false, cond, List, [], ◌∷◌, ◌++◌, length, length-append, Option, Some, None, slice_get, All, refl, sym, ap, subst, ◌∙◌, arith, inl, inr}
-use Rattle.std.specs.List.{flat_map}
-use Rattle.std.proofs.lemmas.Bool.{cases_Bool, cases_eq, cases_lt, true≢false, eq-eqb, ne_eqb}
+use Rattle.std.proofs.Common.{◌≡◌, ℕ, zero, suc, ◌+◌, ◌-◌, ◌*◌, ◌<◌, ◌≤◌, Bool, true, false, cond, List, [], ◌∷◌, length, Some, slice_get, All, refl, sym, ap, subst, ◌∙◌, arith, inl, inr}
+use Rattle.std.proofs.lemmas.Bool.{cases_Bool}
 use Rattle.std.proofs.lemmas.List.Elements.{All-nil, All-cons}
 use Rattle.std.proofs.Math.Nat.{mul-add, mul-le-mul_left}
 use Rattle.bale_types.specs.declared.item.Entry.{Entry}
 use Rattle.item_buffer.specs.Contents.{Shipped}
 use Rattle.list_laws.specs.Sums.{total}
-use Rattle.list_laws.proofs.Sums.{total_le, total_same, total_add, total_const, total_swap, total_lt}
-use Rattle.list_laws.proofs.Lists.{find, within, get_once, all_head, all_tail}
-use Rattle.route_tensor.specs.Grid.{ranks, IsGrid}
+use Rattle.list_laws.proofs.Sums.{total_le, total_same, total_add, total_const, total_swap}
+use Rattle.list_laws.proofs.Lists.{find, all_head, all_tail}
+use Rattle.route_tensor.specs.Grid.{ranks}
 use Rattle.route_tensor.specs.Link.{links}
 use Rattle.route_tensor.specs.Tag.{IsFair}
-use Rattle.route_tensor.specs.Ends.{hop_at, sender_at, reader_at}
-use Rattle.port_bank.specs.Logs.{Logs, lasts, segment, starting_at, ending_at}
+use Rattle.route_tensor.specs.Ends.{hop_at, sender_at}
+use Rattle.port_bank.specs.Logs.{Logs, lasts, segment, starting_at}
 use Rattle.port_bank.specs.Flow.{Begins}
 use Rattle.port_bank.specs.Relay.{HasFairTags}
 use Rattle.port_bank.specs.Shapes.{IsConveyorShape}
 use Rattle.port_bank.proofs.Fronts.{begins_shorter, begins_flat_map}
 use Rattle.port_bank.proofs.Pipeline.{Keeps}
 use Rattle.port_bank.proofs.Routes.{numbered}
-use Rattle.hop_core.specs.State.{State}
 use Rattle.convey.specs.Agreement.{lasts_in}
-use Rattle.convey.specs.Buffers.{in_of, out_of}
+use Rattle.convey.specs.Buffers.{out_of}
 use Rattle.convey.specs.Law.{ClosesLaw}
 use Rattle.convey.proofs.OneRank.{starting-own}
 use Rattle.round_program.specs.Rules.{Rules}
 use Rattle.round_program.specs.Laws.{Laws}
 use Rattle.round_program.specs.Canonical.{HasRounds, InRound}
-use Rattle.rank_group.specs.Ranks.{RankState, HasRank, progress}
+use Rattle.rank_group.specs.Ranks.{RankState, HasRank}
 use Rattle.rank_group.proofs.Bounded.{all_flat}
 use Rattle.rank_group.proofs.Bounds.{pushed_all, none_past}
 use Rattle.rank_group.proofs.Counted.{entries_of, by_segments, pushed_in, all_links, log_short}
 use Rattle.rank_group.proofs.Pushed.{items_before}
-use Rattle.rank_group.proofs.Worlds.{World, Core, core, conveyor_in, inbox, still_within, over_at_last}
+use Rattle.rank_group.proofs.Worlds.{World, Core, core, inbox, still_within, over_at_last}
 
 -- what moved so far
 abbrev pub move_of : {S : Type 0} → List ℕ → List (RankState S) → Logs → Logs → ℕ → ℕ

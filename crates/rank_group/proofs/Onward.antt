@@ -1,5 +1,5 @@
 -- What `next` leaves of a node.
-use Rattle.std.proofs.Common.{◌≡◌, ◌≢◌, ℕ, ◌+◌, ◌*◌, ◌-◌, ◌^◌, ◌<◌, ◌≤◌, Bool, true, false, cond, List, [], length, map, None, refl, sym, ap, subst, ◌∙◌, arith, inl, inr, get_or}
+use Rattle.std.proofs.Common.{◌≡◌, ◌≢◌, ℕ, ◌+◌, ◌-◌, ◌^◌, ◌<◌, Bool, true, false, cond, List, length, map, None, sym, ap, subst, ◌∙◌, arith, inl, inr}
 use Rattle.std.proofs.lemmas.Bool.{cases_Bool, true≢false}
 use Rattle.std.proofs.Math.ListN.{get_or-map}
 use Rattle.route_tensor.specs.Grid.{ranks}
@@ -14,7 +14,7 @@ use Rattle.hop_core.specs.declared.phase.Phase.TheVariants.{Dormant, Working, Co
 use Rattle.hop_core.specs.Link.{no_in}
 use Rattle.hop_core.specs.State.{State, reopened, resumed}
 use Rattle.convey.specs.Buffers.{buffers_of, in_of}
-use Rattle.convey.specs.Conveyors.{AgreesWith, KeepsAgreement, IsStepOf}
+use Rattle.convey.specs.Conveyors.{KeepsAgreement, IsStepOf}
 use Rattle.convey.specs.Law.{IsSound}
 use Rattle.convey.specs.Parts.{part_of}
 use Rattle.round_program.specs.Rules.{Rules}
@@ -24,7 +24,7 @@ use Rattle.rank_group.specs.declared.sends.Sends.TheVariants.{Emissions, Nothing
 use Rattle.rank_group.specs.Sending.{is_voting, epoch_of, spoiled_vote}
 use Rattle.rank_group.specs.Runs.{HasTaken}
 use Rattle.rank_group.specs.Nodes.{NodeState, IsMoving, IsNode}
-use Rattle.rank_group.specs.Next.{extended, HasStopped}
+use Rattle.rank_group.specs.Next.{extended}
 use Rattle.rank_group.proofs.Between.{to_votes, to_work}
 
 -- a conveyor that went on to the next epoch

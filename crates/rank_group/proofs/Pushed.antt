@@ -1,13 +1,10 @@
 -- How many items are pushed in each epoch of a run.
-use Rattle.std.proofs.Common.{◌≡◌, ◌≢◌, ℕ, zero, suc, ◌+◌, ◌-◌, ◌*◌, ◌^◌, ◌<◌, ◌≤◌, ◌==◌, Bool, true, false, cond, min, List, [], ◌∷◌, ◌++◌, length, length-append, take, drop, Option, Some, None, slice_get, nat_lt, sum_by, All, refl, sym, ap, subst, ◌∙◌, arith, inl, inr}
-use Rattle.std.proofs.lemmas.Bool.{cases_Bool, cases_eq, cases_lt, cases_order, true≢false, lt-ltb}
+use Rattle.std.proofs.Common.{◌≡◌, ℕ, zero, suc, ◌+◌, ◌*◌, ◌<◌, ◌≤◌, Bool, cond, List, [], ◌∷◌, ◌++◌, length, length-append, take, drop, Option, Some, None, refl, sym, ap, subst, ◌∙◌, arith, inl, inr}
+use Rattle.std.proofs.lemmas.Bool.{cases_lt, cases_order, lt-ltb}
 use Rattle.bale_types.specs.declared.item.Item.{Item}
-use Rattle.list_laws.specs.Sums.{total}
-use Rattle.list_laws.proofs.Sums.{total_le, total_zero, total_bound, total_list}
-use Rattle.list_laws.proofs.Lists.{find, within}
 use Rattle.route_tensor.specs.Grid.{ranks, IsGrid}
 use Rattle.port_bank.specs.Logs.{Logs, starting_at, ending_at}
-use Rattle.port_bank.specs.Flow.{hop_link, flow, Begins}
+use Rattle.port_bank.specs.Flow.{hop_link, flow}
 use Rattle.port_bank.specs.Machine.{Part}
 use Rattle.port_bank.proofs.Fronts.{begins_shorter}
 use Rattle.hop_core.specs.State.{State}
@@ -15,13 +12,12 @@ use Rattle.convey.specs.Buffers.{buffers_of}
 use Rattle.convey.specs.Parts.{part_of, pushed_to}
 use Rattle.convey.proofs.OneRank.{starting-own, first_link}
 use Rattle.round_program.specs.Rules.{Rules}
-use Rattle.round_program.specs.Laws.{Laws}
-use Rattle.round_program.specs.Canonical.{items_of, emitted, items_at, states_at}
-use Rattle.round_program.proofs.Items.{items_push, items_total}
+use Rattle.round_program.specs.Canonical.{items_of, emitted, items_at}
+use Rattle.round_program.proofs.Items.{items_push}
 use Rattle.rank_group.specs.declared.sends.Sends.{Sends}
 use Rattle.rank_group.specs.declared.sends.Sends.TheVariants.{Emissions, Nothing, Votes}
-use Rattle.rank_group.specs.Sending.{to_send, votes_to, is_voting, epoch_of}
-use Rattle.rank_group.specs.Runs.{Running, HasPassed, IsWithin, HasTaken}
+use Rattle.rank_group.specs.Sending.{votes_to}
+use Rattle.rank_group.specs.Runs.{HasTaken}
 use Rattle.rank_group.proofs.Ballots.{votes_each}
 use Rattle.rank_group.proofs.Counted.{flow_alike}
 

@@ -1,9 +1,8 @@
 -- What the turn of a rank leaves over a plain bank.
-use Rattle.std.proofs.Common.{◌≡◌, ◌≢◌, ℕ, ◌+◌, ◌*◌, ◌<◌, ◌≤◌, ◌==◌, Bool, true, false, cond, not, List, [], ◌++◌, length, Result, Ok, Some, None, refl, sym, ap, subst, ◌∙◌, arith, inl, inr}
+use Rattle.std.proofs.Common.{◌≡◌, ◌≢◌, ℕ, ◌+◌, ◌<◌, ◌≤◌, Bool, true, false, cond, not, List, [], ◌++◌, length, refl, sym, ap, subst, ◌∙◌, arith, inl, inr}
 use Rattle.std.specs.List.{flat_map}
 use Rattle.std.proofs.lemmas.Bool.{cases_Bool, true≢false}
 use Rattle.std.proofs.lemmas.List.{append-nil}
-use Rattle.bale_types.specs.declared.fault.NoMemory.{NoMemory}
 use Rattle.item_buffer.specs.Contents.{Shipped}
 use Rattle.route_tensor.specs.Link.{links}
 use Rattle.route_tensor.specs.Ends.{reader_at}
@@ -22,9 +21,8 @@ use Rattle.rank_group.specs.Sending.{is_voting}
 use Rattle.rank_group.specs.Nodes.{NodeState, IsNode}
 use Rattle.rank_group.specs.Stuck.{IsStuck}
 use Rattle.rank_group.specs.Next.{extended, HasStopped}
-use Rattle.rank_group.specs.Ranks.{RankState, HasRank, AfterTurn, AfterRank, IsLeft, progress, crowded_in, idle_in}
+use Rattle.rank_group.specs.Ranks.{RankState, HasRank, AfterTurn, AfterRank, progress}
 use Rattle.rank_group.proofs.Between.{extended_before}
-use Rattle.rank_group.proofs.Halted.{ok_once}
 
 -- what a turn tells over the port of rank r of a bank, where the port after it is that of rank r' of another
 pub record PortTurn {S : Type 0} (R : Rules S) (cap : ℕ) (turn : Turn) (n n' : NodeState S) (b : Bank) (r : ℕ) (b' : Bank) (r' : ℕ) : Type 0 where
@@ -108,14 +106,18 @@ module _ {S : Type 0} (R : Rules S) (dims : List ℕ) (cap slots r : ℕ) where
         forward = let a : progress n ≡ n.node.conveyor.epoch = ap (λ b. cond b (n.node.conveyor.epoch + 1) n.node.conveyor.epoch) on in
             let b : cond over (n'.conveyor.epoch + 1) n'.conveyor.epoch ≡ n'.conveyor.epoch = ap (λ b. cond b (n'.conveyor.epoch + 1) n'.conveyor.epoch) still in
             omega (arith, a, b, t.node_epoch);
-        kept = λ steady h is. (h, refl, record {
-          same_dims = t.node_dims ∙ is.same_dims;
-          same_rank = t.node_rank ∙ is.same_rank;
-          same_steady = t.node_steady ∙ is.same_steady;
-          runs = λ e. turned_runs steady h Going n n' sent got sent' got' on t is;
-          stopped = λ e. absurd (true≢false (sym e ∙ still));
-          shape = turned_shape steady h Going n n' sent got sent' got' t is;
-        });
+        kept = λ steady h is. (
+          h,
+          refl,
+          record {
+            same_dims = t.node_dims ∙ is.same_dims;
+            same_rank = t.node_rank ∙ is.same_rank;
+            same_steady = t.node_steady ∙ is.same_steady;
+            runs = λ e. turned_runs steady h Going n n' sent got sent' got' on t is;
+            stopped = λ e. absurd (true≢false (sym e ∙ still));
+            shape = turned_shape steady h Going n n' sent got sent' got' t is;
+          },
+        );
         left = λ steady h is e same s g. record { stuck = t.stuck h (is.runs on) s g; going = t.going refl; stays = t.node_epoch };
       }
 

@@ -1,31 +1,29 @@
 -- A sweep in which nothing moved ends the least epoch.
-use Rattle.std.proofs.Common.{◌≡◌, ◌≢◌, ◌⊎◌, ℕ, zero, suc, ◌+◌, ◌-◌, ◌*◌, ◌<◌, ◌≤◌, ◌==◌, ◌&&◌, not, Bool, true, false, cond, List, [], ◌∷◌, ◌++◌, length, Option, Some, None, slice_get, refl, sym, ap, subst, ◌∙◌, arith, inl, inr, eqb-true}
-use Rattle.std.proofs.lemmas.Bool.{cases_Bool, cases_eq, cases_lt, true≢false}
-use Rattle.std.proofs.lemmas.List.{append-nil}
+use Rattle.std.proofs.Common.{◌≡◌, ℕ, ◌+◌, ◌*◌, ◌<◌, ◌≤◌, ◌==◌, ◌&&◌, not, Bool, true, false, cond, List, [], length, Some, slice_get, refl, sym, ap, subst, ◌∙◌, arith, inl, inr, eqb-true}
+use Rattle.std.proofs.lemmas.Bool.{cases_eq, cases_lt, true≢false}
 use Rattle.bale_types.specs.declared.item.Entry.{Entry}
 use Rattle.list_laws.proofs.Lists.{find, within, get_once}
-use Rattle.route_tensor.specs.Grid.{ranks, IsGrid}
+use Rattle.route_tensor.specs.Grid.{ranks}
 use Rattle.route_tensor.specs.Link.{links}
 use Rattle.route_tensor.specs.Ends.{hop_at, sender_at, reader_at}
 use Rattle.port_bank.specs.Logs.{Logs, starting_at, ending_at}
 use Rattle.hop_core.specs.declared.phase.Phase.TheVariants.{Complete}
 use Rattle.hop_core.specs.Link.{In, is_wanted}
 use Rattle.hop_core.specs.State.{State}
-use Rattle.convey.specs.Agreement.{Ends}
-use Rattle.convey.specs.Buffers.{buffers_of, in_of, out_of, is_complete}
+use Rattle.convey.specs.Buffers.{in_of, is_complete}
 use Rattle.convey.specs.Conveyors.{AgreesWith}
-use Rattle.convey.specs.Due.{Wants, IsOver, NextIs, next_link}
+use Rattle.convey.specs.Due.{IsOver, NextIs, next_link}
 use Rattle.convey.specs.Law.{ClosesLaw}
-use Rattle.convey.specs.Rest.{IsBusy, HasBusy, IsAtRest, IsRestingSweep, RestLaw}
+use Rattle.convey.specs.Rest.{IsBusy, IsAtRest, IsRestingSweep, RestLaw}
 use Rattle.convey.proofs.OneRank.{starting-own, ending-own}
 use Rattle.round_program.specs.Rules.{Rules}
 use Rattle.round_program.specs.Laws.{Laws}
 use Rattle.round_program.specs.Canonical.{HasRounds, InRound}
 use Rattle.rank_group.specs.Nodes.{IsMoving}
-use Rattle.rank_group.specs.Ranks.{RankState, HasRank, IsLeft, progress, crowded_in, idle_in}
+use Rattle.rank_group.specs.Ranks.{RankState, progress, crowded_in}
 use Rattle.rank_group.proofs.Onward.{done_of_complete}
 use Rattle.rank_group.proofs.Swept.{Rests}
-use Rattle.rank_group.proofs.Worlds.{World, Core, core, nowhere, still_within, over_at_last}
+use Rattle.rank_group.proofs.Worlds.{World, Core, core, nowhere, over_at_last}
 
 -- a crowded link has parcels on their way
 busy : (dims : List ℕ) (slots r : ℕ) (sent got : Logs) (l : ℕ) → 0 < slots → sender_at dims l ≡ r → crowded_in dims slots r sent got l ≡ true → IsBusy sent got l
@@ -156,17 +154,17 @@ module _ {S : Type 0} (R : Rules S) (laws : Laws R) (law : ClosesLaw) (rest : Re
                 },
               )
           | inr apart ↦ (
-                c,
-                c,
-                record {
-                  same_dims = has.same_dims;
-                  same_rank = has.same_rank;
-                  agrees = i.moving.agrees;
-                  late = omega (arith, p, low');
-                  turn = λ same. absurd (apart (p ∙ same));
-                  left = λ y from o k. absurd (apart (ap (λ (z : RankState S). progress z) (get_once rs r x y at from) ∙ k));
-                },
-              )
+            c,
+            c,
+            record {
+              same_dims = has.same_dims;
+              same_rank = has.same_rank;
+              agrees = i.moving.agrees;
+              late = omega (arith, p, low');
+              turn = λ same. absurd (apart (p ∙ same));
+              left = λ y from o k. absurd (apart (ap (λ (z : RankState S). progress z) (get_once rs r x y at from) ∙ k));
+            },
+          )
         ]
 
   -- with a state for every number

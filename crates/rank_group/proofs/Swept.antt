@@ -1,25 +1,22 @@
 -- One more rank is turned in a sweep.
-use Rattle.std.proofs.Common.{◌≡◌, ◌≢◌, ℕ, zero, suc, ◌+◌, ◌-◌, ◌*◌, ◌<◌, ◌≤◌, ◌==◌, Bool, true, false, cond, List, [], ◌∷◌, ◌++◌, length, length-append, Option, Some, None, slice_get, refl, sym, ap, subst, ◌∙◌, arith, inl, inr, eqb-true}
-use Rattle.std.specs.List.{flat_map}
-use Rattle.std.proofs.lemmas.Bool.{cases_Bool, cases_eq, cases_lt, true≢false, eq-eqb, ne_eqb}
+use Rattle.std.proofs.Common.{◌≡◌, ◌≢◌, ℕ, ◌+◌, ◌<◌, ◌≤◌, ◌==◌, Bool, true, false, cond, List, [], ◌∷◌, ◌++◌, length, length-append, Some, slice_get, sym, ap, subst, ◌∙◌, arith, inl, inr}
+use Rattle.std.proofs.lemmas.Bool.{cases_eq, cases_lt, eq-eqb, ne_eqb}
 use Rattle.std.proofs.lemmas.List.{append-nil}
-use Rattle.bale_types.specs.declared.item.Entry.{Entry}
 use Rattle.item_buffer.specs.Contents.{Shipped}
 use Rattle.list_laws.proofs.Sums.{total_le, total_lt}
-use Rattle.list_laws.proofs.Lists.{find, within, get_once}
-use Rattle.route_tensor.specs.Grid.{ranks, IsGrid}
+use Rattle.list_laws.proofs.Lists.{get_once}
+use Rattle.route_tensor.specs.Grid.{ranks}
 use Rattle.route_tensor.specs.Link.{links}
-use Rattle.route_tensor.specs.Ends.{hop_at, sender_at, reader_at}
+use Rattle.route_tensor.specs.Ends.{sender_at, reader_at}
 use Rattle.port_bank.specs.Logs.{Logs, starting_at, ending_at}
 use Rattle.port_bank.specs.Flow.{Begins}
 use Rattle.port_bank.specs.Link.{LinkLaw}
 use Rattle.port_bank.specs.Relay.{RelayLaw}
 use Rattle.port_bank.specs.Shapes.{IsConveyorShape}
 use Rattle.port_bank.proofs.Owners.{sent_elsewhere, got_elsewhere}
-use Rattle.port_bank.proofs.Routes.{numbered}
 use Rattle.hop_core.specs.State.{State}
 use Rattle.convey.specs.Buffers.{in_of}
-use Rattle.convey.proofs.OneRank.{starting-own, ending-own}
+use Rattle.convey.proofs.OneRank.{ending-own}
 use Rattle.round_program.specs.Rules.{Rules}
 use Rattle.rank_group.specs.Nodes.{IsNode}
 use Rattle.rank_group.specs.Next.{HasStopped}

@@ -25,8 +25,8 @@ use Rattle.round_program.proofs.Orders.{one_more_pull, pulls_same, fits_same}
 use Rattle.round_program.proofs.Steps.{worked_same}
 use Rattle.rank_group.specs.declared.sends.Sends.{Sends}
 use Rattle.rank_group.specs.declared.sends.Sends.TheVariants.{Emissions, Nothing, Votes}
-use Rattle.rank_group.specs.Sending.{to_send, is_voting, epoch_of, spoiled_vote}
-use Rattle.rank_group.specs.Runs.{lists_of, IsPushed, Running, HasPassed, IsWithin, HasTaken}
+use Rattle.rank_group.specs.Sending.{to_send, is_voting, spoiled_vote}
+use Rattle.rank_group.specs.Runs.{lists_of, IsPushed, HasPassed, IsWithin, HasTaken}
 use Rattle.rank_group.specs.Pulls.{SameEnds, NoMore, TakesOne}
 use Rattle.rank_group.proofs.Absorbed.{ends_pulled, pulled_same}
 use Rattle.rank_group.proofs.Ballots.{same_sends}

@@ -1,8 +1,7 @@
 -- The ranks of a drive are within the canonical run, at every moment.
-use Rattle.std.proofs.Common.{◌≡◌, ◌≢◌, ℕ, zero, suc, ◌+◌, ◌-◌, ◌*◌, ◌^◌, ◌<◌, ◌≤◌, ◌==◌, Bool, true, false, cond, min, List, [], ◌∷◌, ◌++◌, length, Option, Some, None, slice_get, nat_lt, refl, sym, ap, subst, ◌∙◌, arith, inl, inr}
-use Rattle.std.proofs.lemmas.Bool.{cases_Bool, cases_eq, cases_lt, both_ways, true≢false, lt-ltb, eq-eqb}
-use Rattle.bale_types.specs.declared.item.Item.{Item}
-use Rattle.list_laws.proofs.Lists.{find, within, get_once}
+use Rattle.std.proofs.Common.{◌≡◌, ℕ, ◌+◌, ◌-◌, ◌*◌, ◌^◌, ◌<◌, ◌≤◌, Bool, true, false, cond, min, List, [], length, Option, Some, None, slice_get, refl, sym, ap, subst, ◌∙◌, arith, inl, inr}
+use Rattle.std.proofs.lemmas.Bool.{cases_Bool, cases_lt, both_ways, true≢false}
+use Rattle.list_laws.proofs.Lists.{find, within}
 use Rattle.route_tensor.specs.Grid.{ranks, IsGrid}
 use Rattle.route_tensor.specs.Link.{links}
 use Rattle.port_bank.specs.Logs.{Logs, starting_at, ending_at}
@@ -11,8 +10,7 @@ use Rattle.port_bank.specs.Relay.{RelayLaw}
 use Rattle.route_tensor.specs.Ends.{reader_at}
 use Rattle.rank_group.proofs.Counted.{entries_of}
 use Rattle.port_bank.specs.Machine.{Part, completed_of, done_of, EpochsClose}
-use Rattle.hop_core.specs.declared.phase.Phase.{Phase}
-use Rattle.hop_core.specs.declared.phase.Phase.TheVariants.{Dormant, Complete}
+use Rattle.hop_core.specs.declared.phase.Phase.TheVariants.{Dormant}
 use Rattle.hop_core.specs.declared.lent.Lent.TheVariants as lent
 use Rattle.hop_core.specs.State.{State}
 use Rattle.convey.specs.Buffers.{Buffers, buffers_of, in_of, is_complete}
@@ -30,8 +28,8 @@ use Rattle.round_program.proofs.Steps.{own_work_done, own_vote_done}
 use Rattle.rank_group.specs.declared.sends.Sends.{Sends}
 use Rattle.rank_group.specs.declared.sends.Sends.TheVariants.{Emissions, Nothing, Votes}
 use Rattle.rank_group.specs.Sending.{is_voting, epoch_of}
-use Rattle.rank_group.specs.Runs.{lists_of, Running, HasPassed, IsWithin, HasTaken}
-use Rattle.rank_group.specs.Nodes.{NodeState, IsMoving, IsNode}
+use Rattle.rank_group.specs.Runs.{lists_of, HasTaken}
+use Rattle.rank_group.specs.Nodes.{IsNode}
 use Rattle.rank_group.specs.Next.{extended, HasStopped}
 use Rattle.rank_group.specs.Ranks.{RankState, HasRank, progress}
 use Rattle.rank_group.proofs.Between.{voted, own_ended, extended_before, extended_at}

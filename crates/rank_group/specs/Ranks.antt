@@ -1,11 +1,9 @@
 -- The nodes of all ranks over one plain bank.
-use Rattle.std.specs.Prelude.{◌≡◌, ◌≢◌, ◌⊎◌, ℕ, ◌+◌, ◌-◌, ◌*◌, ◌<◌, ◌≤◌, ◌==◌, Bool, true, false, cond, List, [], ◌∷◌, ◌++◌, length, slice_get, Option, Some, None}
+use Rattle.std.specs.Prelude.{◌≡◌, ◌≢◌, ℕ, ◌+◌, ◌<◌, ◌≤◌, ◌==◌, Bool, true, false, cond, List, ◌++◌, length, slice_get, Some}
 use Rattle.std.specs.List.{All, flat_map}
 use Rattle.item_buffer.specs.Contents.{Shipped}
-use Rattle.route_tensor.specs.Grid.{ranks}
 use Rattle.route_tensor.specs.Link.{links}
 use Rattle.route_tensor.specs.Ends.{reader_at}
-use Rattle.list_laws.specs.Sums.{total}
 use Rattle.port_bank.specs.Logs.{Logs, starting_at, ending_at, starting_elsewhere, ending_elsewhere}
 use Rattle.port_bank.specs.Flow.{Begins}
 use Rattle.port_bank.specs.Shapes.{IsConveyorShape}

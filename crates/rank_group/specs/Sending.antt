@@ -1,5 +1,5 @@
 -- What a node sends in an epoch: the emissions of a round, or the votes on it.
-use Rattle.std.specs.Prelude.{◌≡◌, ℕ, zero, suc, ◌+◌, ◌*◌, ◌^◌, ◌-◌, Bool, true, false, cond, List, [], ◌∷◌, ◌++◌}
+use Rattle.std.specs.Prelude.{ℕ, zero, suc, ◌+◌, ◌*◌, ◌^◌, ◌-◌, Bool, true, false, cond, List, [], ◌∷◌, ◌++◌}
 use Rattle.bale_types.specs.declared.item.Item.{Item}
 use Rattle.round_program.specs.Rules.{Rules}
 use Rattle.round_program.specs.Epochs.{vote_item}

@@ -63,7 +63,13 @@ impl<Q, const CAP: usize, const HOPS: usize> Model for Node<Q, CAP, HOPS> {
 
 impl<Q: Program, const CAP: usize, const HOPS: usize> Node<Q, CAP, HOPS> {
     /// A node that hasn't turned, for a program of a rank of the grid in its first round.
-    pub fn new(alloc: Global, grid: &Grid, via: Via, prog: Q, steady: bool) -> Result<Self, NoMemory>
+    pub fn new(
+        alloc: Global,
+        grid: &Grid,
+        via: Via,
+        prog: Q,
+        steady: bool,
+    ) -> Result<Self, NoMemory>
         requires some { 0 < CAP }
         requires small { CAP ≤ 1024 }
         requires hops { length grid.now ≡ HOPS }
@@ -107,7 +113,11 @@ impl<Q: Program, const CAP: usize, const HOPS: usize> Node<Q, CAP, HOPS> {
     /// # Errors
     /// `NoMemory` comes only from the port's post. An absorb that found none spoils the node, which goes on turning and
     /// drops what comes, so that no other rank is kept from its end.
-    pub fn turn<P: Port<CAP>, L: Ledger>(&mut self, port: &mut P, steps: &mut Steps<L>) -> Result<Turn, NoMemory>
+    pub fn turn<P: Port<CAP>, L: Ledger>(
+        &mut self,
+        port: &mut P,
+        steps: &mut Steps<L>,
+    ) -> Result<Turn, NoMemory>
         requires same_dims { P.dims port.old ≡ self.old.conveyor.dims }
         requires same_rank { P.rank port.old ≡ self.old.conveyor.rank }
         requires node { (h : ℕ → Q) × IsNode Q.rules h self.old (P.sent port.old) (P.got port.old) }

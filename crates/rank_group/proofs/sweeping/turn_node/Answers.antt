@@ -19,7 +19,7 @@ turn-requires g c =
           (
             c.requires.node.0,
             subst (λ (b : Bank). IsNode R c.requires.node.0 c.args.node.now (starting_at b.dims c.port-port.result.rank (sent_of b)) (ending_at b.dims c.port-port.result.rank (got_of b))) (sym eb)
-            (subst (λ r. IsNode R c.requires.node.0 c.args.node.now (starting_at c.args.bank.dims r (sent_of c.args.bank)) (ending_at c.args.bank.dims r (got_of c.args.bank))) (sym er) c.requires.node.1),
+                (subst (λ r. IsNode R c.requires.node.0 c.args.node.now (starting_at c.args.bank.dims r (sent_of c.args.bank)) (ending_at c.args.bank.dims r (got_of c.args.bank))) (sym er) c.requires.node.1),
           ),
         ),
       ),

@@ -1,8 +1,7 @@
-use Rattle.std.proofs.Common.{rules, ◌≡◌, ◌<◌, ◌^◌, false, not, ap, Ok, ◌∙◌, sym, subst}
+use Rattle.std.proofs.Common.{rules, ◌<◌, ◌^◌, not, ap, Ok, ◌∙◌, sym, subst}
 use Rattle.port_bank.specs.Plain.{sent_of, got_of}
 use Rattle.port_bank.specs.Logs.{starting_at, ending_at}
 use Rattle.rank_group.specs.declared.turn.Turn.{Turn}
-use Rattle.rank_group.specs.Nodes.{IsNode}
 use Rattle.rank_group.specs.Ranks.{RankState, HasRank, AfterTurn, AfterRank}
 use Rattle.rank_group.proofs.Ranked.{rank_over, rank_going, rank_ended, NextTold}
 use Rattle.rank_group.proofs.Halted.{ok_once}

@@ -1,4 +1,4 @@
-use Rattle.std.proofs.Common.{rules, ◌≡◌, ℕ, ◌+◌, ◌<◌, ◌==◌, List, [], ◌++◌, length, All, Some, slice_get, arith, refl, sym, ap, subst, ◌∙◌}
+use Rattle.std.proofs.Common.{rules, ◌≡◌, ℕ, ◌<◌, ◌==◌, List, length, All, Some, slice_get, arith, refl, sym, ap, subst, ◌∙◌}
 use Rattle.bale_types.specs.declared.item.Item.{Item}
 use Rattle.item_buffer.specs.Contents.{Shipped}
 use Rattle.route_tensor.specs.Grid.{ranks}
@@ -9,10 +9,9 @@ use Rattle.std.specs.List.{flat_map}
 use Rattle.hop_core.specs.State.{State}
 use Rattle.convey.specs.Progress.{progress_of}
 use Rattle.convey.specs.Buffers.{in_of, is_complete}
-use Rattle.rank_group.specs.Sending.{to_send, is_voting}
-use Rattle.rank_group.specs.Runs.{Running}
+use Rattle.rank_group.specs.Sending.{to_send}
 use Rattle.rank_group.specs.Nodes.{NodeState, IsNode}
-use Rattle.rank_group.specs.Stuck.{IsStuck, WasRefused}
+use Rattle.rank_group.specs.Stuck.{IsStuck}
 use Rattle.rank_group.proofs.Ballots.{send_below, same_sends}
 use Rattle.rank_group.proofs.Moved.{AfterPush, AfterAdvance, AfterTakes, moved, still_working, done_stays}
 use Rattle.rank_group.proofs.Halted.{Advanced, complete_from, lies_less, ok_once, stuck}

@@ -25,7 +25,8 @@ use Rattle.rank_group.proofs.Emitted.{receivers_below}
 use Rattle.rank_group.proofs.Between.{extended_before}
 use Rattle.rank_group.proofs.Counted.{pushed_in}
 use Rattle.rank_group.proofs.Pushed.{work_few, votes_few, flow_pushed, items_before, count_in}
-use Rattle.rank_group.proofs.Worlds.{World, Core, core, progress_in, history_in, canonical, still_within, over_at_last}
+use Rattle.rank_group.proofs.Worlds.{Core, core, canonical, still_within, over_at_last}
+use Rattle.rank_group.specs.Worlds.{progress_in, history_in, World}
 
 -- two epochs a round
 by_rounds : (f : ℕ → ℕ) (g : ℕ → ℕ) (q n : ℕ) → ((m : ℕ) → m < n → f (2 * m) ≤ g m) → ((m : ℕ) → m < n → f (2 * m + 1) ≤ q) → (sum : ℕ → ℕ) → sum 0 ≡ 0 → ((m : ℕ) → sum (suc m) ≡ sum m + (g m + q)) → total (2 * n) f ≤ sum n

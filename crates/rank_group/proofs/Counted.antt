@@ -1,5 +1,5 @@
 -- How much a bank's links carry, by what is pushed.
-use Rattle.std.proofs.Common.{◌≡◌, ℕ, zero, suc, ◌+◌, ◌-◌, ◌*◌, ◌<◌, ◌≤◌, ◌==◌, ◌&&◌, Bool, true, false, cond, List, [], ◌∷◌, length, length-append, filter, flat_map, All, refl, sym, ap, subst, ◌∙◌, arith, eq-eqb, inl, inr}
+use Rattle.std.proofs.Common.{◌≡◌, ℕ, zero, suc, ◌+◌, ◌-◌, ◌*◌, ◌<◌, ◌≤◌, ◌==◌, ◌&&◌, Bool, true, false, cond, List, [], ◌∷◌, length, length-append, filter, All, refl, sym, ap, subst, ◌∙◌, arith, eq-eqb, inl, inr}
 use Rattle.std.proofs.lemmas.Bool.{cases_eq, ne_eqb}
 use Rattle.std.proofs.lemmas.List.{append-nil, length-map}
 use Rattle.bale_types.specs.declared.item.Entry.{Entry}
@@ -22,10 +22,7 @@ use Rattle.port_bank.proofs.Kept.{flow_begins}
 use Rattle.port_bank.proofs.Pipeline.{Keeps}
 use Rattle.port_bank.proofs.Routes.{IsNumber, numbered, link-on_route}
 use Rattle.port_bank.proofs.Segments.{lasts_first}
-
--- the entries of some parcels
-abbrev pub entries_of : List Shipped → List Entry
-entries_of log = flat_map (λ p. p.entries) log
+use Rattle.rank_group.specs.Worlds.{entries_of}
 
 -- a log's entries are those of its segments
 segments_first : (n : ℕ) (f g : ℕ → ℕ) → ((e : ℕ) → g e ≡ f (suc e)) → total (suc n) f ≡ f 0 + total n g

@@ -18,6 +18,7 @@ pub mod Bounds
 pub mod Moves
 pub mod Swept
 pub mod Resting
+pub mod Orders
 pub mod Turned
 pub mod Stuck
 pub mod Sweeps

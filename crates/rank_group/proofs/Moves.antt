@@ -1,5 +1,5 @@
 -- What moves in a run: parcels are posted and collected, and entries taken from inboxes.
-use Rattle.std.proofs.Common.{◌≡◌, ℕ, zero, suc, ◌+◌, ◌-◌, ◌*◌, ◌<◌, ◌≤◌, Bool, true, false, cond, List, [], ◌∷◌, length, Some, slice_get, All, refl, sym, ap, subst, ◌∙◌, arith, inl, inr}
+use Rattle.std.proofs.Common.{◌≡◌, ℕ, zero, suc, ◌+◌, ◌*◌, ◌<◌, ◌≤◌, Bool, true, false, cond, List, [], ◌∷◌, length, Some, slice_get, All, refl, sym, ap, subst, ◌∙◌, arith, inl, inr}
 use Rattle.std.proofs.lemmas.Bool.{cases_Bool}
 use Rattle.std.proofs.lemmas.List.Elements.{All-nil, All-cons}
 use Rattle.std.proofs.Math.Nat.{mul-add, mul-le-mul_left}
@@ -29,16 +29,10 @@ use Rattle.round_program.specs.Canonical.{HasRounds, InRound}
 use Rattle.rank_group.specs.Ranks.{RankState, HasRank}
 use Rattle.rank_group.proofs.Bounded.{all_flat}
 use Rattle.rank_group.proofs.Bounds.{pushed_all, none_past}
-use Rattle.rank_group.proofs.Counted.{entries_of, by_segments, pushed_in, all_links, log_short}
+use Rattle.rank_group.proofs.Counted.{by_segments, pushed_in, all_links, log_short}
 use Rattle.rank_group.proofs.Pushed.{items_before}
-use Rattle.rank_group.proofs.Worlds.{World, Core, core, inbox, still_within, over_at_last}
-
--- what moved so far
-abbrev pub move_of : {S : Type 0} → List ℕ → List (RankState S) → Logs → Logs → ℕ → ℕ
-move_of dims rs sent got l = length (sent l) + length (got l) + (length (entries_of (got l)) - inbox dims rs l)
-
-abbrev pub moves : {S : Type 0} → List ℕ → List (RankState S) → Logs → Logs → ℕ
-moves dims rs sent got = total (links dims) (move_of dims rs sent got)
+use Rattle.rank_group.proofs.Worlds.{Core, core, still_within, over_at_last}
+use Rattle.rank_group.specs.Worlds.{entries_of, World, move_of, moves}
 
 total_times : (n k : ℕ) (f : ℕ → ℕ) → total n (λ e. k * f e) ≡ k * total n f
 total_times zero k f = omega arith

@@ -1,6 +1,6 @@
 -- A sweep in which nothing moved ends the least epoch.
-use Rattle.std.proofs.Common.{◌≡◌, ℕ, ◌+◌, ◌*◌, ◌<◌, ◌≤◌, ◌==◌, ◌&&◌, not, Bool, true, false, cond, List, [], length, Some, slice_get, refl, sym, ap, subst, ◌∙◌, arith, inl, inr, eqb-true}
-use Rattle.std.proofs.lemmas.Bool.{cases_eq, cases_lt, true≢false}
+use Rattle.std.proofs.Common.{◌^◌, ◌≡◌, ℕ, ◌+◌, ◌*◌, ◌<◌, ◌≤◌, ◌==◌, ◌&&◌, not, Bool, true, false, cond, List, [], length, Some, slice_get, refl, sym, ap, subst, ◌∙◌, arith, inl, inr, eqb-true}
+use Rattle.std.proofs.lemmas.Bool.{cases_Bool, cases_eq, cases_lt, true≢false}
 use Rattle.bale_types.specs.declared.item.Entry.{Entry}
 use Rattle.list_laws.proofs.Lists.{find, within, get_once}
 use Rattle.route_tensor.specs.Grid.{ranks}
@@ -22,8 +22,8 @@ use Rattle.round_program.specs.Canonical.{HasRounds, InRound}
 use Rattle.rank_group.specs.Nodes.{IsMoving}
 use Rattle.rank_group.specs.Ranks.{RankState, progress, crowded_in}
 use Rattle.rank_group.proofs.Onward.{done_of_complete}
-use Rattle.rank_group.proofs.Swept.{Rests}
-use Rattle.rank_group.proofs.Worlds.{World, Core, core, nowhere, over_at_last}
+use Rattle.rank_group.proofs.Worlds.{Core, core, still_within, over_at_last}
+use Rattle.rank_group.specs.Worlds.{nowhere, World, Rests, Plan}
 
 -- a crowded link has parcels on their way
 busy : (dims : List ℕ) (slots r : ℕ) (sent got : Logs) (l : ℕ) → 0 < slots → sender_at dims l ≡ r → crowded_in dims slots r sent got l ≡ true → IsBusy sent got l
@@ -204,3 +204,12 @@ module _ {S : Type 0} (R : Rules S) (laws : Laws R) (law : ClosesLaw) (rest : Re
             let low : r < ranks dims = omega (arith, within rs r x at, w.all) in
             let t = ((all_two r).2 low).left x at on here in
             absurd (t.1 (rest dims cap slots e (λ k. (all_two k).0) (λ k. (all_two k).1) sent got sweep r low t.0))
+
+-- the epochs of a run are few
+pub epoch_few : {S : Type 0} (R : Rules S) → Laws R → ClosesLaw → (dims : List ℕ) (cap slots : ℕ) (steady : Bool) (starts : List S) (h : ℕ → ℕ → S) (rs : List (RankState S)) (sent got : Logs) → World R dims cap slots steady starts h rs sent got
+    → (n : ℕ) → Plan R dims slots starts n → (r : ℕ) (x : RankState S) → slice_get rs r ≡ Some x → x.node.conveyor.epoch < 2 ^ 63
+epoch_few R laws law dims cap slots steady starts h rs sent got w n p r x at =
+    elim (cases_Bool x.over) [
+      | inl t ↦ let e = (over_at_last R laws law dims cap slots steady starts h rs sent got w p.shape p.most n p.start p.rounds r x at t).0 in omega (arith, e, p.few)
+      | inr f ↦ let e = still_within R laws law dims cap slots steady starts h rs sent got w p.shape p.most n p.start p.rounds r x at f in omega (arith, e, p.few)
+    ]

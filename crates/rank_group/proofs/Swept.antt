@@ -5,13 +5,10 @@ use Rattle.std.proofs.lemmas.List.{append-nil}
 use Rattle.item_buffer.specs.Contents.{Shipped}
 use Rattle.list_laws.proofs.Sums.{total_le, total_lt}
 use Rattle.list_laws.proofs.Lists.{get_once}
-use Rattle.route_tensor.specs.Grid.{ranks}
 use Rattle.route_tensor.specs.Link.{links}
 use Rattle.route_tensor.specs.Ends.{sender_at, reader_at}
 use Rattle.port_bank.specs.Logs.{Logs, starting_at, ending_at}
 use Rattle.port_bank.specs.Flow.{Begins}
-use Rattle.port_bank.specs.Link.{LinkLaw}
-use Rattle.port_bank.specs.Relay.{RelayLaw}
 use Rattle.port_bank.specs.Shapes.{IsConveyorShape}
 use Rattle.port_bank.proofs.Owners.{sent_elsewhere, got_elsewhere}
 use Rattle.hop_core.specs.State.{State}
@@ -22,9 +19,7 @@ use Rattle.rank_group.specs.Nodes.{IsNode}
 use Rattle.rank_group.specs.Next.{HasStopped}
 use Rattle.rank_group.specs.Ranks.{RankState, HasRank, AfterRank, IsLeft, progress, crowded_in, idle_in}
 use Rattle.rank_group.proofs.Sweeps.{begins_length, begins_whole}
-use Rattle.rank_group.proofs.Counted.{entries_of}
-use Rattle.rank_group.proofs.Moves.{move_of, moves}
-use Rattle.rank_group.proofs.Worlds.{World, conveyor_in, inbox}
+use Rattle.rank_group.specs.Worlds.{entries_of, conveyor_in, inbox, World, move_of, moves, Lawful, Rests}
 
 -- where a rank's own logs grow and the others stay, all grow
 grown : (own : ℕ → Bool) (old new : Logs) → ((l : ℕ) → Begins (cond (own l) (old l) []) (cond (own l) (new l) [])) → ((l : ℕ) → cond (own l) [] (new l) ≡ cond (own l) [] (old l)) → (l : ℕ) → Begins (old l) (new l)
@@ -32,12 +27,6 @@ grown own old new grows same l = pick (own l) (grows l) (same l) where
   pick : (b : Bool) → Begins (cond b (old l) []) (cond b (new l) []) → cond b [] (new l) ≡ cond b [] (old l) → Begins (old l) (new l)
   pick true g s = g
   pick false g s = record { rest = []; is = s ∙ sym (append-nil (old l)) }
-
--- what holds of the logs of all ranks over a bank
-pub record Lawful (dims : List ℕ) (cap slots : ℕ) (sent got : Logs) : Type 0 where
-  pub links_keep : (l : ℕ) → l < links dims → LinkLaw cap slots (sent l) (got l)
-  pub none_past : (l : ℕ) → links dims ≤ l → (sent l ≡ []) × (got l ≡ [])
-  pub relays : (r : ℕ) → r < ranks dims → RelayLaw dims r sent got
 
 -- a rank of which nothing changed
 other_rank : {S : Type 0} (R : Rules S) (dims : List ℕ) (cap : ℕ) (steady : Bool) (r : ℕ) (h : ℕ → S) (n : RankState S) (sent got sent' got' : Logs) → starting_at dims r sent' ≡ starting_at dims r sent → ending_at dims r got' ≡ ending_at dims r got
@@ -51,15 +40,6 @@ other_rank R dims cap steady r h n sent got sent' got' es eg is =
       stopped = λ o. subst (λ f. HasStopped R h n.node f (ending_at dims r got')) (sym es) (subst (HasStopped R h n.node (starting_at dims r sent)) (sym eg) (is.stopped o));
       shape = λ l. subst (λ (f : Logs). IsConveyorShape steady cap (f l)) (sym es) (is.shape l);
     }
-
--- a rank at rest, over lists that its turn didn't change
-pub record Rests (dims : List ℕ) (slots r : ℕ) (c' : State) (sent got : Logs) : Type 0 where
-  pub c : State
-  pub same_dims : c.dims ≡ dims
-  pub same_rank : c.rank ≡ r
-  pub same_epoch : c.epoch ≡ c'.epoch
-  pub kept : (l : ℕ) → l < links dims → reader_at dims l ≡ r → length (in_of c l).parcel.untaken ≤ length (in_of c' l).parcel.untaken
-  pub left : IsLeft c c' (starting_at dims r sent) (ending_at dims r got) (starting_at dims r sent) (ending_at dims r got) (crowded_in dims slots r sent got) (idle_in dims r sent got)
 
 module _ {S : Type 0} (R : Rules S) (dims : List ℕ) (cap slots : ℕ) (steady : Bool) (starts : List S) (h : ℕ → ℕ → S) (r : ℕ) (n n' : RankState S) (rs rs' : List (RankState S)) (sent got sent' got' : Logs)
     (w : World R dims cap slots steady starts h rs sent got) (at : slice_get rs r ≡ Some n) (at' : slice_get rs' r ≡ Some n') (others : (k : ℕ) → k ≢ r → slice_get rs' k ≡ slice_get rs k) (size : length rs' ≡ length rs)

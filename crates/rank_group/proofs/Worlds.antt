@@ -1,19 +1,12 @@
 -- The ranks of a drive are within the canonical run, at every moment.
-use Rattle.std.proofs.Common.{◌≡◌, ℕ, ◌+◌, ◌-◌, ◌*◌, ◌^◌, ◌<◌, ◌≤◌, Bool, true, false, cond, min, List, [], length, Option, Some, None, slice_get, refl, sym, ap, subst, ◌∙◌, arith, inl, inr}
+use Rattle.std.proofs.Common.{◌≡◌, ℕ, ◌+◌, ◌-◌, ◌*◌, ◌^◌, ◌<◌, ◌≤◌, Bool, true, false, cond, min, List, Option, Some, None, slice_get, refl, sym, ap, subst, ◌∙◌, arith, inl, inr}
 use Rattle.std.proofs.lemmas.Bool.{cases_Bool, cases_lt, both_ways, true≢false}
 use Rattle.list_laws.proofs.Lists.{find, within}
-use Rattle.route_tensor.specs.Grid.{ranks, IsGrid}
-use Rattle.route_tensor.specs.Link.{links}
+use Rattle.route_tensor.specs.Grid.{ranks}
 use Rattle.port_bank.specs.Logs.{Logs, starting_at, ending_at}
-use Rattle.port_bank.specs.Link.{LinkLaw}
-use Rattle.port_bank.specs.Relay.{RelayLaw}
-use Rattle.route_tensor.specs.Ends.{reader_at}
-use Rattle.rank_group.proofs.Counted.{entries_of}
 use Rattle.port_bank.specs.Machine.{Part, completed_of, done_of, EpochsClose}
-use Rattle.hop_core.specs.declared.phase.Phase.TheVariants.{Dormant}
-use Rattle.hop_core.specs.declared.lent.Lent.TheVariants as lent
 use Rattle.hop_core.specs.State.{State}
-use Rattle.convey.specs.Buffers.{Buffers, buffers_of, in_of, is_complete}
+use Rattle.convey.specs.Buffers.{Buffers, buffers_of, is_complete}
 use Rattle.convey.specs.Agreement.{Agrees}
 use Rattle.convey.specs.Law.{IsSound, AgreeTogether, state_of, ClosesLaw}
 use Rattle.convey.specs.Parts.{part_of}
@@ -34,6 +27,7 @@ use Rattle.rank_group.specs.Next.{extended, HasStopped}
 use Rattle.rank_group.specs.Ranks.{RankState, HasRank, progress}
 use Rattle.rank_group.proofs.Between.{voted, own_ended, extended_before, extended_at}
 use Rattle.rank_group.proofs.Onward.{done_of_complete}
+use Rattle.rank_group.specs.Worlds.{conveyor_in, progress_in, history_in, part_at, World}
 
 -- what a rank knows of itself, within an epoch
 pub own_now : {S : Type 0} (R : Rules S) → Laws R → (p rank : ℕ) (h : ℕ → S) (round : ℕ) (sends : Sends) (next : ℕ) (prog : S) (sum : ℕ) (spoiled : Bool) (part : Part)
@@ -56,42 +50,6 @@ own_now {S} R laws p rank h round sends next prog sum spoiled part is = by part.
   by : (b : Bool) → part.done ≡ b → Own R p part.epoch (done_of part) h (lists_of part)
   by true d = subst (λ k. Own R p part.epoch k h (lists_of part)) (sym (ap (λ b. cond b (part.epoch + 1) part.epoch) d)) (at sends d is)
   by false d = subst (λ k. Own R p part.epoch k h (lists_of part)) (sym (ap (λ b. cond b (part.epoch + 1) part.epoch) d)) is.passed.own
-
--- a rank that has none: no state of a conveyor
-pub nowhere : State
-nowhere = record { dims = []; rank = 0; cap = 0; steady = false; outs = []; ins = []; done = false; phase = Dormant; epoch = 0; lent = lent.Nothing; pulled = None }
-
-abbrev pub conveyor_in : {S : Type 0} → Option (RankState S) → State
-conveyor_in None = nowhere
-conveyor_in (Some n) = n.node.conveyor
-
-abbrev pub progress_in : {S : Type 0} → Option (RankState S) → ℕ
-progress_in None = 0
-progress_in (Some n) = progress n
-
--- a history with the state in which a run has ended
-abbrev pub history_in : {S : Type 0} → (ℕ → S) → Option (RankState S) → ℕ → S
-history_in h None = h
-history_in h (Some n) = cond n.over (extended h (n.node.run.round + 1) n.node.run.prog) h
-
-abbrev pub part_at : {S : Type 0} → List ℕ → List (RankState S) → Logs → Logs → ℕ → Part
-part_at dims rs sent got r = part_of (buffers_of (conveyor_in (slice_get rs r))) (starting_at dims r sent) (ending_at dims r got)
-
--- how many entries lie in the inbox of a link
-abbrev pub inbox : {S : Type 0} → List ℕ → List (RankState S) → ℕ → ℕ
-inbox dims rs l = length (in_of (conveyor_in (slice_get rs (reader_at dims l))) l).parcel.untaken
-
--- all ranks over one bank
-pub record World {S : Type 0} (R : Rules S) (dims : List ℕ) (cap slots : ℕ) (steady : Bool) (starts : List S) (h : ℕ → ℕ → S) (rs : List (RankState S)) (sent got : Logs) : Type 0 where
-  pub grid : IsGrid dims
-  pub links_keep : (l : ℕ) → l < links dims → LinkLaw cap slots (sent l) (got l)
-  pub none_past : (l : ℕ) → links dims ≤ l → (sent l ≡ []) × (got l ≡ [])
-  pub relays : (r : ℕ) → r < ranks dims → RelayLaw dims r sent got
-  pub some : 0 < cap
-  pub inboxes : (l : ℕ) → l < links dims → inbox dims rs l ≤ length (entries_of (got l))
-  pub all : length rs ≡ ranks dims
-  pub each : (r : ℕ) (n : RankState S) → slice_get rs r ≡ Some n → HasRank R dims cap steady r (h r) n sent got
-  pub begins : (r : ℕ) (s : S) → slice_get starts r ≡ Some s → h r 0 ≡ s
 
 -- the node of a rank as it was before its run ended
 pub record Core {S : Type 0} (R : Rules S) (dims : List ℕ) (r : ℕ) (h : ℕ → S) (n : RankState S) (sent got : Logs) : Type 0 where

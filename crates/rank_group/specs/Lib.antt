@@ -8,6 +8,7 @@ pub mod Nodes
 pub mod Stuck
 pub mod Next
 pub mod Ranks
+pub mod Worlds
 pub mod Rounds
 pub mod Told
 pub mod Pulls

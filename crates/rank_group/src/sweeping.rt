@@ -2,12 +2,14 @@
 //!
 //! In a sweep some parcel is posted or collected, or some entry is taken from an inbox; or else the least epoch is over for
 //! every rank that is in it. Each of these happens only so often, which bounds the number of sweeps.
-ghost use Rattle.std.specs.Prelude.{◌≡◌, ◌≢◌, ℕ, ◌+◌, ◌*◌, ◌^◌, ◌<◌, ◌≤◌, List, length, slice_get, Some, IfOk, OnOk, true, false};
+ghost use Rattle.std.specs.Prelude.{◌≡◌, ◌≢◌, ℕ, ◌+◌, ◌*◌, ◌^◌, ◌<◌, ◌≤◌, Bool, List, length, slice_get, Some, IfOk, OnOk, true, false};
 ghost use Rattle.route_tensor.specs.Grid.{ranks};
 ghost use Rattle.port_bank.specs.Plain.{IsBank, sent_of, got_of};
 ghost use Rattle.port_bank.specs.Logs.{starting_at, ending_at};
+ghost use Rattle.convey.specs.Law.{ClosesLaw};
 ghost use Rattle.rank_group.specs.Nodes.{IsNode};
-ghost use Rattle.rank_group.specs.Ranks.{RankState, HasRank, AfterTurn, AfterRank};
+ghost use Rattle.rank_group.specs.Worlds.{Plan, World, SweptTo};
+ghost use Rattle.rank_group.specs.Ranks.{RankState, HasRank, AfterTurn, AfterRank, IsOrder};
 
 use crate::node::Node;
 use crate::steps::Steps;
@@ -84,4 +86,52 @@ fn turn_node<const CAP: usize, const HOPS: usize, Q: Program, L: Ledger>(
     let mut port = bank.port(number);
     let turn = node.turn(&mut port, steps)?;
     Ok((port.into_bank(), turn))
+}
+
+/// Turns the rank with a number.
+fn turn_one<const CAP: usize, const HOPS: usize, Q: Program, L: Ledger>(
+    bank: PlainBank<CAP>,
+    all: &mut Vec<Rank<Q, CAP, HOPS>>,
+    number: u32,
+    steps: &mut Steps<L>,
+) -> Result<PlainBank<CAP>, NoMemory>
+    requires number { number < ranks bank.dims }
+    requires law { ClosesLaw }
+    requires world { (steady : Bool) × (starts : List Q) × (n : ℕ) × (h : ℕ → ℕ → Q) × Plan Q.rules bank.dims bank.slots starts n × World Q.rules bank.dims CAP bank.slots steady starts h all.old.items (sent_of bank) (got_of bank) }
+    ensures size { length all.new.items ≡ length all.old.items }
+    ensures others { (k : ℕ) → k ≢ number → slice_get all.new.items k ≡ slice_get all.old.items k }
+    ensures lawful { IfOk result (λ b. IsBank CAP b) }
+    ensures same_dims { IfOk result (λ b. b.dims ≡ bank.entry.dims) }
+    ensures same_slots { IfOk result (λ b. b.slots ≡ bank.entry.slots) }
+    ensures most_steps { steps.new ≤ steps.old + 1 }
+    ensures turned { (n n' : RankState Q) → slice_get all.old.items number ≡ Some n → slice_get all.new.items number ≡ Some n'
+        → IfOk result (λ b. AfterRank Q.rules bank.entry.dims CAP bank.entry.slots number n n' (sent_of bank.entry) (got_of bank.entry) (sent_of b) (got_of b)) }
+{
+    turn_rank(bank, &mut all[number as usize], number, steps)
+}
+
+/// Turns each rank once, in the order given.
+fn sweep<const CAP: usize, const HOPS: usize, Q: Program, L: Ledger>(
+    bank: PlainBank<CAP>,
+    all: &mut Vec<Rank<Q, CAP, HOPS>>,
+    order: &[u32],
+    steps: &mut Steps<L>,
+) -> Result<PlainBank<CAP>, NoMemory>
+    requires law { ClosesLaw }
+    requires order { IsOrder (ranks bank.dims) order.now }
+    requires lawful { IsBank CAP bank }
+    requires world { (steady : Bool) × (starts : List Q) × (n : ℕ) × (h : ℕ → ℕ → Q) × Plan Q.rules bank.dims bank.slots starts n × World Q.rules bank.dims CAP bank.slots steady starts h all.old.items (sent_of bank) (got_of bank) }
+    ensures lawful { IfOk result (λ b. IsBank CAP b) }
+    ensures same_dims { IfOk result (λ b. b.dims ≡ bank.entry.dims) }
+    ensures same_slots { IfOk result (λ b. b.slots ≡ bank.entry.slots) }
+    ensures most_steps { steps.new ≤ steps.old + length order.now }
+    ensures swept { (steady : Bool) (starts : List Q) (n : ℕ) (h : ℕ → ℕ → Q) → Plan Q.rules bank.entry.dims bank.entry.slots starts n
+        → World Q.rules bank.entry.dims CAP bank.entry.slots steady starts h all.old.items (sent_of bank.entry) (got_of bank.entry)
+        → IfOk result (λ b. SweptTo Q.rules bank.entry.dims CAP bank.entry.slots steady starts order.now (length order.now) all.old.items (sent_of bank.entry) (got_of bank.entry) all.new.items (sent_of b) (got_of b)) }
+{
+    let mut bank = bank;
+    for i in 0..order.len() {
+        bank = turn_one(bank, all, order[i], steps)?;
+    }
+    Ok(bank)
 }

@@ -15,7 +15,8 @@ use Rattle.list_laws.proofs.Sums.{total_le, total_same, total_zero, total_bound,
 use Rattle.list_laws.proofs.Lists.{all_head, all_tail}
 use Rattle.port_bank.specs.Logs.{Logs, lasts, segment}
 use Rattle.port_bank.specs.Flow.{hop_link, belongs, flow, items_of, Begins}
-use Rattle.port_bank.specs.Relay.{HasFairTags, Relays}
+use Rattle.route_tensor.specs.Pair.{PassesThrough}
+use Rattle.port_bank.specs.Relay.{HasFairTags}
 use Rattle.port_bank.specs.Shapes.{IsFilled, IsConveyorShape}
 use Rattle.port_bank.proofs.Fronts.{begins_refl, begins_trans, begins_shorter}
 use Rattle.port_bank.proofs.Kept.{flow_begins}
@@ -139,7 +140,7 @@ sent_front dims sent got k s d e from to zero last = begins_refl (flow dims sent
 sent_front dims sent got k s d e from to (suc n) last =
     let next : suc n + 1 ≡ suc (suc n) = omega arith in
     let rank : place dims s d (suc n) < ranks dims = place_below dims s d (suc n) k.grid.positive from to in
-    let relays : Relays dims (place dims s d (suc n)) s d (suc n) = record { sender = from; destination = to; first_hop = omega arith; last_hop = omega (arith, last); here = refl } in
+    let relays : PassesThrough dims (place dims s d (suc n)) s d (suc n) = record { sender = from; destination = to; first_hop = omega arith; last_hop = omega (arith, last); here = refl } in
     let hop : Begins (flow dims sent s d (suc n + 1) e) (flow dims got s d (suc n) e) = (k.relays (place dims s d (suc n)) rank).begins s d (suc n) e relays in
     let link : Begins (flow dims got s d (suc n) e) (flow dims sent s d (suc n) e) =
     flow_begins dims got sent s d (suc n) e (k.fronts (hop_link dims s d (suc n)) (link-on_route dims s d (suc n) k.grid from to (omega arith) (omega (arith, last)))) in

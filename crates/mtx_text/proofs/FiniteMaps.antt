@@ -1,5 +1,5 @@
 -- Entries at places of their own are a finite map.
-use Rattle.std.proofs.Common.{ℕ, zero, suc, ◌+◌, ◌<◌, ◌≡◌, ℤ, true, false, List, [], ◌∷◌, Some, None, Contains, length, get_or, slice_get, arith, rules, inl, inr, refl, sym, ap, ◌∙◌, subst}
+use Rattle.std.proofs.Common.{ℕ, zero, suc, ◌<◌, ◌≡◌, ℤ, false, List, [], ◌∷◌, Some, Contains, length, get_or, slice_get, arith, rules, inl, inr, refl, sym, ◌∙◌, subst}
 use Rattle.std.specs.List.{AllPairs}
 use Rattle.std.proofs.lemmas.Bool.{cases_Bool, false_from_ne_true}
 use Rattle.std.proofs.lemmas.Option.{same_Some, slice_get_within, get_or_from_slice_get}

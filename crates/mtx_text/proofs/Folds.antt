@@ -1,7 +1,6 @@
 -- A fold by steps that may be made in any order.
-use Rattle.std.proofs.Common.{ℕ, zero, suc, ◌+◌, ◌<◌, ◌≤◌, ◌≡◌, List, [], ◌∷◌, length, get_or, set, IsPermutation, arith, refl, sym, ap, ◌∙◌}
+use Rattle.std.proofs.Common.{ℕ, zero, suc, ◌<◌, ◌≡◌, List, [], ◌∷◌, length, get_or, set, IsPermutation, arith, refl, ap, ◌∙◌}
 use Rattle.std.specs.List.{fold, swap}
-use Rattle.std.proofs.lemmas.List.Edits.{swap_is}
 use Rattle.std.proofs.lemmas.List.Sorted.{IsPermutation-keeps}
 
 -- where two steps commute at each state of a kind P that steps keep, permuted lists fold alike

@@ -1,18 +1,17 @@
 -- Ordered maps of triples in any order.
-use Rattle.std.proofs.Common.{ℕ, zero, suc, ◌+◌, ◌-◌, ◌*◌, ◌^◌, ◌<◌, ◌≤◌, ◌≡◌, ◌⊎◌, ℤ, Bool, true, false, cond, List, [], ◌∷◌, ◌++◌, Option, Some, None, length, get_or, take, drop, IsPermutation, arith, rules, inl, inr, refl, sym, ap, ◌∙◌, subst}
-use Rattle.std.specs.List.{All, AllPairs, fold, flat_map}
-use Rattle.std.specs.Int.{int_max}
-use Rattle.std.proofs.lemmas.Bool.{false≢true, cases_Bool, cases_lt, false_from_ne_true}
-use Rattle.std.proofs.lemmas.List.{append-nil, append_assoc, length_push, get_or_push, get_or_default, take-append-le, take_all, take_more, take-append-drop}
+use Rattle.std.proofs.Common.{ℕ, ◌+◌, ◌-◌, ◌<◌, ◌≤◌, ◌≡◌, ℤ, Bool, true, false, cond, List, [], ◌∷◌, ◌++◌, Option, Some, None, length, get_or, take, drop, IsPermutation, arith, rules, inl, inr, refl, sym, ap, ◌∙◌, subst}
+use Rattle.std.specs.List.{All, fold, flat_map}
+use Rattle.std.proofs.lemmas.Bool.{cases_Bool, cases_lt}
+use Rattle.std.proofs.lemmas.List.{append-nil, length_push, get_or_push, get_or_default, take-append-le, take_all, take_more, take-append-drop}
 use Rattle.std.proofs.lemmas.List.Concat.{flat_map-append}
 use Rattle.std.proofs.lemmas.List.Quantifiers.{all_pairs_push}
-use Rattle.std.proofs.lemmas.List.Elements.{All-cons, All-head, All-tail, All-nil, All-append}
+use Rattle.std.proofs.lemmas.List.Elements.{All-cons, All-head, All-tail, All-nil}
 use Rattle.std.proofs.lemmas.List.Sums.{fold-append, fold_push}
 use Rattle.bale_types.specs.declared.triple.Triple.{Triple}
 use Rattle.mtx_text.specs.Maps.{is_at, value_at}
-use Rattle.mtx_text.specs.Cells.{is_before, comes_before, InOrder, raised, raised_all, gathered, first_from, together}
+use Rattle.mtx_text.specs.Cells.{is_before, InOrder, raised, raised_all, gathered, together}
 use Rattle.mtx_text.proofs.Folds.{fold_permutes}
-use Rattle.mtx_text.proofs.PlaceOrder.{pairs_head, pairs_tail, pairs_cons, pairs_none, before_trans, before_parts, place_cases, not_same, not_after, not_before_itself, row_before, column_before}
+use Rattle.mtx_text.proofs.PlaceOrder.{pairs_head, pairs_tail, pairs_cons, pairs_none, before_trans, place_cases}
 use Rattle.mtx_text.proofs.Raised.{most, lifted, greater, raised_ordered, value_raised, same_cells, none_ahead, raised_comm, max_assoc, raised_later, raised_first, raised_here}
 
 abbrev Ahead : Triple → Triple → Type 0
@@ -124,24 +123,25 @@ gathered_append xs ts =
     ∙ raised_gathered (gathered xs) ts (gathered_ordered xs)
     ∙ sym (fold-append (λ cells t. raised t cells) [] xs ts)
 
+-- what holds of the cells and of a triple holds once they were raised to it, where two at one place keep it
+pub raised_keeps : (P : Triple → Type 0) → ((s t : Triple) → s.i ≡ t.i → s.j ≡ t.j → P s → P t → P (greater s t)) → (t : Triple) (cells : List Triple) → P t → All P cells → All P (raised t cells)
+raised_keeps P both t [] p h = All-cons P t [] p h
+raised_keeps P both t (c ∷ cells) p h =
+    elim (place_cases c t) [
+      | inl x ↦ subst (All P) (sym (raised_later t c cells x)) (All-cons P c (raised t cells) (All-head P c cells h) (raised_keeps P both t cells p (All-tail P c cells h)))
+      | inr o ↦ elim o [
+        | inl x ↦ subst (All P) (sym (raised_here t c cells x.0 x.1)) (All-cons P (greater c t) cells (both c t x.0 x.1 (All-head P c cells h) p) (All-tail P c cells h))
+        | inr x ↦ subst (All P) (sym (raised_first t c cells x)) (All-cons P t (c ∷ cells) p h)
+      ]
+    ]
+
 -- what holds of the triples holds of the cells, where two at one place keep it
 pub gathered_all : (P : Triple → Type 0) → ((s t : Triple) → s.i ≡ t.i → s.j ≡ t.j → P s → P t → P (greater s t)) → (ts : List Triple) → All P ts → All P (gathered ts)
 gathered_all P both ts h = from [] ts (All-nil P) h
   where
-    one : (t : Triple) (cells : List Triple) → P t → All P cells → All P (raised t cells)
-    one t [] p h = All-cons P t [] p h
-    one t (c ∷ cells) p h =
-        elim (place_cases c t) [
-          | inl x ↦ subst (All P) (sym (raised_later t c cells x)) (All-cons P c (raised t cells) (All-head P c cells h) (one t cells p (All-tail P c cells h)))
-          | inr o ↦ elim o [
-            | inl x ↦ subst (All P) (sym (raised_here t c cells x.0 x.1)) (All-cons P (greater c t) cells (both c t x.0 x.1 (All-head P c cells h) p) (All-tail P c cells h))
-            | inr x ↦ subst (All P) (sym (raised_first t c cells x)) (All-cons P t (c ∷ cells) p h)
-          ]
-        ]
-
     from : (cells ts : List Triple) → All P cells → All P ts → All P (raised_all cells ts)
     from cells [] a h = a
-    from cells (t ∷ ts) a h = from (raised t cells) ts (one t cells (All-head P t ts h) a) (All-tail P t ts h)
+    from cells (t ∷ ts) a h = from (raised t cells) ts (raised_keeps P both t cells (All-head P t ts h) a) (All-tail P t ts h)
 
 -- ---- The last of cells in order
 

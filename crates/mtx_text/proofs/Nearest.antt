@@ -1,17 +1,15 @@
 -- The first cell from a place on.
-use Rattle.std.proofs.Common.{ℕ, zero, suc, ◌+◌, ◌-◌, ◌<◌, ◌≤◌, ◌≡◌, ◌⊎◌, pos, Bool, true, false, ◌||◌, cond, List, [], ◌∷◌, ◌++◌, Option, Some, None, length, get_or, slice_get, arith, rules, inl, inr, refl, sym, ap, ◌∙◌, subst}
+use Rattle.std.proofs.Common.{ℕ, zero, suc, ◌<◌, ◌≤◌, ◌≡◌, pos, Bool, true, false, ◌||◌, cond, List, [], ◌∷◌, Option, Some, None, length, get_or, slice_get, arith, inl, inr, refl, sym, ap, ◌∙◌, subst}
 use Rattle.std.specs.List.{All}
-use Rattle.std.specs.Int.{int_max}
-use Rattle.std.proofs.lemmas.Bool.{false≢true, cases_Bool, cases_lt, cases_eq, false_from_ne_true, or_right}
-use Rattle.std.proofs.lemmas.List.Elements.{All-cons, All-head, All-tail, All-nil}
-use Rattle.std.proofs.lemmas.Option.{slice_get_past, slice_get-get_or}
+use Rattle.std.proofs.lemmas.Bool.{false≢true, cases_Bool, cases_eq, false_from_ne_true}
+use Rattle.std.proofs.lemmas.List.Elements.{All-cons, All-head, All-tail}
 use Rattle.std.proofs.lemmas.List.{get_or_default}
 use Rattle.bale_types.specs.declared.triple.Triple.{Triple}
 use Rattle.mtx_text.specs.Grammar.{has_place}
 use Rattle.mtx_text.specs.Maps.{is_at}
-use Rattle.mtx_text.specs.Cells.{is_before, comes_before, InOrder, raised, raised_all, first_from}
-use Rattle.mtx_text.proofs.PlaceOrder.{pairs_head, pairs_tail, before_trans, place_cases, not_same, not_after, not_before_itself, all_after}
-use Rattle.mtx_text.proofs.Raised.{greater, raised_later, raised_first, raised_here, not_at, at_from, raised_ordered}
+use Rattle.mtx_text.specs.Cells.{is_before, comes_before, InOrder, raised, first_from}
+use Rattle.mtx_text.proofs.PlaceOrder.{pairs_tail, before_trans, place_cases, not_after, not_before_itself, all_after}
+use Rattle.mtx_text.proofs.Raised.{greater, raised_later, raised_first, raised_here, not_at, at_from}
 
 abbrev Ahead : Triple → Triple → Type 0
 Ahead s t = is_before s t ≡ true

@@ -1,14 +1,16 @@
 -- Cells in order are the entries of a matrix.
-use Rattle.std.proofs.Common.{ℕ, ◌<◌, ◌≤◌, ◌≡◌, true, List, [], length, get_or, arith, inl, inr, sym, subst}
+use Rattle.std.proofs.Common.{ℕ, ◌<◌, ◌≤◌, ◌≡◌, true, List, [], length, get_or, inl, inr, sym, subst}
 use Rattle.std.specs.List.{All, AllPairs}
 use Rattle.bale_types.specs.declared.triple.Triple.{Triple}
 use Rattle.mtx_text.specs.declared.kind.Kind.{Kind}
 use Rattle.mtx_text.specs.Sparse.{Sparse, IsSparse, IsEntry, SamePlace}
-use Rattle.mtx_text.specs.Cells.{InOrder, is_before, sparse}
+use Rattle.mtx_text.specs.Cells.{InOrder, is_before, raised, sparse}
 use Rattle.mtx_text.proofs.PlaceOrder.{not_same}
 use Rattle.mtx_text.proofs.Raised.{greater}
+use Rattle.mtx_text.proofs.Gathered.{raised_keeps}
 use Rattle.std.proofs.lemmas.Bool.{cases_Bool, cond-true, cond-false}
-use Rattle.std.specs.Prelude.{int_lt}
+use Rattle.std.specs.Prelude.{ℤ, pos, nat_abs, int_lt}
+use Rattle.mtx_text.specs.declared.kind.Kind.TheVariants.{Integer, Pattern}
 
 pub lawful_apart : (rows cols : ℕ) (kind : Kind) (cells : List Triple) → rows ≤ 16_384 → cols ≤ 16_384 → length cells ≤ 524_288
     → All (λ t. IsEntry (sparse rows cols kind []) t) cells → AllPairs (λ s t. ¬ SamePlace s t) cells → IsSparse (sparse rows cols kind cells)
@@ -41,3 +43,19 @@ greater_entry m s t e f a b =
       | inr h ↦ subst (λ v. IsEntry m (record { i = s.i; j = s.j; v = v })) (sym (cond-false (int_lt t.v s.v) s.v t.v h))
           (subst (λ i. IsEntry m (record { i = i; j = s.j; v = t.v })) (sym e) (subst (λ j. IsEntry m (record { i = t.i; j = j; v = t.v })) (sym f) b))
     ]
+
+-- a value raised inside the matrix leaves the cells inside it
+pub raised_inside : (rows cols : ℕ) (kind : Kind) (t : Triple) (cells : List Triple) → IsEntry (sparse rows cols kind []) t
+    → All (λ u. IsEntry (sparse rows cols kind []) u) cells → All (λ u. IsEntry (sparse rows cols kind []) u) (raised t cells)
+raised_inside rows cols kind t cells e all =
+    raised_keeps (λ u. IsEntry (sparse rows cols kind []) u) (greater_entry (sparse rows cols kind [])) t cells e all
+
+-- the same of an integer
+pub integer_inside : (rows cols i j : ℕ) (v : ℤ) (cells new : List Triple) → i < rows → j < cols → nat_abs v ≤ 1_000_000_000_000
+    → new ≡ raised (record { i = i; j = j; v = v }) cells → All (λ u. IsEntry (sparse rows cols Integer []) u) cells → All (λ u. IsEntry (sparse rows cols Integer []) u) new
+integer_inside rows cols i j v cells new row col limit e all =
+    subst (All (λ u. IsEntry (sparse rows cols Integer []) u)) (sym e)
+    (raised_inside rows cols Integer (record { i = i; j = j; v = v }) cells (record { row = row; col = col; limit = limit; one = not_pattern v }) all)
+  where
+    not_pattern : (v : ℤ) → Integer ≡ Pattern → v ≡ pos 1
+    not_pattern v e = search

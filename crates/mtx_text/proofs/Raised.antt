@@ -1,6 +1,6 @@
 -- What a raise leaves: the value at each place, and cells in order.
-use Rattle.std.proofs.Common.{ℕ, zero, suc, ◌+◌, ◌<◌, ◌≤◌, ◌≡◌, ◌⊎◌, ℤ, Bool, true, false, ◌&&◌, ◌||◌, cond, eqb, ltb, List, [], ◌∷◌, ◌++◌, Option, Some, None, length, get_or, arith, rules, inl, inr, refl, sym, ap, ◌∙◌, subst}
-use Rattle.std.specs.List.{All, AllPairs}
+use Rattle.std.proofs.Common.{ℕ, ◌≡◌, ℤ, Bool, true, false, cond, eqb, List, [], ◌∷◌, Option, Some, None, arith, rules, inl, inr, refl, sym, ap, ◌∙◌, subst}
+use Rattle.std.specs.List.{All}
 use Rattle.std.specs.Int.{int_max}
 use Rattle.std.proofs.lemmas.Bool.{false≢true, eq-eqb, eqb-true, cases_Bool, and_from, and_parts, false_from_ne_true}
 use Rattle.std.proofs.lemmas.List.Elements.{All-cons, All-head, All-tail}
@@ -8,8 +8,8 @@ use Rattle.std.proofs.lemmas.Option.{same_Some}
 use Rattle.std.proofs.lemmas.Int.{ints, clamps}
 use Rattle.bale_types.specs.declared.triple.Triple.{Triple}
 use Rattle.mtx_text.specs.Maps.{is_at, value_at}
-use Rattle.mtx_text.specs.Cells.{is_before, comes_before, InOrder, raised}
-use Rattle.mtx_text.proofs.PlaceOrder.{pairs_head, pairs_tail, pairs_cons, pairs_none, before_trans, place_cases, not_same, not_after, not_before_itself, all_after}
+use Rattle.mtx_text.specs.Cells.{is_before, InOrder, raised}
+use Rattle.mtx_text.proofs.PlaceOrder.{pairs_head, pairs_tail, pairs_cons, pairs_none, place_cases, not_same, not_after, not_before_itself, all_after}
 
 abbrev Ahead : Triple → Triple → Type 0
 Ahead s t = is_before s t ≡ true

@@ -1,21 +1,19 @@
 -- What was written of a matrix is read as the same matrix.
-use Rattle.std.proofs.Common.{ℕ, zero, suc, ◌+◌, ◌-◌, ◌*◌, ◌^◌, ◌<◌, ◌≤◌, ◌≡◌, ℤ, pos, negsuc, nat_abs, Bool, true, false, not, ◌&&◌, ◌||◌, cond, eqb, ltb, List, [], ◌∷◌, ◌++◌, Option, Some, None, Ok, Err, map, length, take, drop, get_or, codes, decimal, nat_lt, nat_le, arith, rules, inl, inr, refl, sym, ap, ap₂, ◌∙◌, subst}
+use Rattle.std.proofs.Common.{ℕ, suc, ◌^◌, ◌<◌, ◌≤◌, ◌≡◌, ℤ, pos, negsuc, nat_abs, Bool, true, false, not, ◌&&◌, cond, eqb, List, [], ◌∷◌, ◌++◌, Some, None, map, length, decimal, nat_lt, nat_le, arith, refl, ap, ◌∙◌}
 use Rattle.std.specs.Int.{IsInRange}
 use Rattle.std.specs.Char.{is_ascii_digit, digit_value}
 use Rattle.std.specs.Fmt.{signed_decimal}
-use Rattle.std.specs.List.{All, AllPairs, filter, flat_map, slice_split, onto_first, list_all, list_any}
+use Rattle.std.specs.List.{filter, slice_split, onto_first, list_all}
 use Rattle.std.specs.Str.Parse.{AllDigits, IsNumeral, digits_value}
-use Rattle.std.proofs.lemmas.Bool.{cases_Bool, leb-true, or_from, and_parts, and_from, eqb-true, ne_eqb, not-true, lt-ltb, le-ltb, le-leb, eq-eqb}
+use Rattle.std.proofs.lemmas.Bool.{leb-true, or_from, and_parts, and_from, ne_eqb, not-true, lt-ltb, le-leb}
 use Rattle.std.proofs.lemmas.Fmt.{decimal_is_IsNumeral}
-use Rattle.std.proofs.lemmas.List.{append_assoc, append-nil}
+use Rattle.std.proofs.lemmas.List.{append_assoc}
 use Rattle.std.proofs.lemmas.List.Folds.{list_all-append}
 use Rattle.std.proofs.lemmas.Str.Parse.{digit_at}
-use Rattle.bale_types.specs.declared.triple.Triple.{Triple}
-use Rattle.mtx_text.specs.Lines.{pieces, without_cr, lines_of, is_blank, words_of, is_skipped, Line, lines_from}
+use Rattle.mtx_text.specs.Lines.{pieces, without_cr, lines_of, is_blank, words_of}
 use Rattle.mtx_text.specs.declared.integer.Integer.{Integer}
 use Rattle.std.specs.Option.{option_map}
 use Rattle.mtx_text.specs.Integers.{digits_of, integer_of, signed, value_of}
-use Rattle.mtx_text.specs.Written.{banner_text, size_text, entry_text, text_of}
 
 -- ---- Lines
 

@@ -1,7 +1,7 @@
 -- The lines that were written of a matrix, read one after the other.
-use Rattle.std.proofs.Common.{ℕ, zero, suc, ◌+◌, ◌-◌, ◌*◌, ◌^◌, ◌<◌, ◌≤◌, ◌≡◌, ℤ, pos, negsuc, nat_abs, Bool, true, false, not, ◌&&◌, ◌||◌, cond, eqb, ltb, leb, List, [], ◌∷◌, ◌++◌, Option, Some, None, Result, Ok, Err, map, length, take, drop, get_or, codes, decimal, sum_by, arith, rules, inl, inr, refl, sym, ap, ap₂, ◌∙◌, subst}
+use Rattle.std.proofs.Common.{ℕ, suc, ◌+◌, ◌-◌, ◌*◌, ◌<◌, ◌≤◌, ◌≡◌, ℤ, pos, negsuc, nat_abs, true, false, ◌&&◌, ◌||◌, cond, eqb, ltb, List, [], ◌∷◌, ◌++◌, Some, Ok, map, length, take, drop, get_or, codes, decimal, sum_by, arith, refl, sym, ap, ap₂, ◌∙◌, subst}
 use Rattle.std.specs.Fmt.{signed_decimal}
-use Rattle.std.specs.List.{All, AllPairs, flat_map, list_all, list_any}
+use Rattle.std.specs.List.{All, AllPairs, flat_map, list_all}
 use Rattle.std.specs.Str.Parse.{IsNumeral}
 use Rattle.std.proofs.lemmas.Bool.{le-ltb, le-leb, eqb-true, ne_eqb, and_from, or_from, and_parts, false_from_ne_true}
 use Rattle.std.proofs.lemmas.Fmt.{decimal_is_IsNumeral, length-decimal-le, length_signed_le}
@@ -18,12 +18,10 @@ use Rattle.mtx_text.specs.declared.kind.Kind.TheVariants as kind
 use Rattle.mtx_text.specs.declared.banner.Form.{Form}
 use Rattle.mtx_text.specs.declared.banner.Symmetry.TheVariants.{General}
 use Rattle.mtx_text.specs.declared.sizes.Sizes.{Sizes}
-use Rattle.mtx_text.specs.declared.integer.Integer.{Integer}
-use Rattle.mtx_text.specs.declared.refusal.BadLine.{BadLine}
 use Rattle.mtx_text.specs.Lines.{lines_of, words_of, is_skipped, Line, lines_from}
-use Rattle.mtx_text.specs.Integers.{integer_of, signed, value_of}
+use Rattle.mtx_text.specs.Integers.{integer_of, signed}
 use Rattle.mtx_text.specs.Sparse.{Sparse, IsSparse, IsEntry, SamePlace}
-use Rattle.mtx_text.specs.Grammar.{matrix_of, lines_read, body_of, sizes_by, cell_by, entry_of, entries_in, entries_of, has_place, form_of, within_limits, place_of, value_within, is_index, in_line}
+use Rattle.mtx_text.specs.Grammar.{matrix_of, lines_read, body_of, sizes_by, cell_by, entry_of, entries_in, entries_of, has_place, form_of, place_of, value_within, is_index}
 use Rattle.mtx_text.specs.Written.{banner_text, size_text, entry_text, text_of}
 use Rattle.mtx_text.proofs.PlaceOrder.{pairs_head, pairs_tail}
 use Rattle.mtx_text.proofs.ReadAgain.{IsWord, decimal_word, signed_word, decimal_read, signed_read, read_as, value_is, size_is, two_words, three_words, inner_two, inner_three, line_here, is_inner}

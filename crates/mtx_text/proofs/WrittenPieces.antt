@@ -5,8 +5,6 @@ use Rattle.std.proofs.lemmas.List.{append_assoc, append-nil, take_more}
 use Rattle.std.proofs.lemmas.List.Concat.{flat_map-append}
 use Rattle.bale_types.specs.Stream.{after, IsFront}
 use Rattle.bale_types.proofs.Moves.{after-after, after-nil, front_joined}
-use Rattle.mtx_text.specs.Sparse.{Sparse}
-use Rattle.mtx_text.specs.Written.{banner_text, size_text, entry_text, text_of}
 
 pub pieces_more : {X : Type 0} (f : X → List ℕ) (old mid new : Option (List ℕ)) (xs : List X) (i : ℕ) (d : X) → i < length xs
     → new ≡ after mid (f (get_or xs i d)) → mid ≡ after old (flat_map f (take i xs)) → new ≡ after old (flat_map f (take (i + 1) xs))

@@ -1,6 +1,12 @@
 //! Worked matrices written, made of cells and of seeds, and that calls succeed with ample memory.
+ghost use Rattle.std.specs.Prelude.{◌≤◌, ◌<◌, [], nat_abs, OnOk};
+ghost use Rattle.std.specs.List.{All};
+ghost use Rattle.mtx_text.specs.declared.kind.Kind.TheVariants.{Integer};
+ghost use Rattle.mtx_text.specs.Sparse.{IsEntry};
+ghost use Rattle.mtx_text.specs.Cells.{sparse};
+
 use super::*;
-use bale_types::{MemSink, Out, Triple};
+use bale_types::{MemSink, NoMemory, Out, Triple};
 use std::alloc::Global;
 use std::test::Fail;
 
@@ -70,6 +76,49 @@ fn cells_by_hand(rt: HostRuntime) -> Result<(), Fail> {
         );
     }
     assert!(rt; list.len() == 4);
+    Ok(())
+}
+
+/// Raises a value inside a matrix of integers with `rows` rows and `cols` columns.
+fn raise_inside(
+    cells: &mut Cells,
+    rows: u32,
+    cols: u32,
+    i: u32,
+    j: u32,
+    v: i64,
+) -> Result<(), NoMemory>
+    requires row { i < rows }
+    requires col { j < cols }
+    requires limit { nat_abs v ≤ 1_000_000_000_000 }
+    requires inside { All (λ t. IsEntry (sparse rows cols Integer []) t) cells.old }
+    ensures { OnOk result (All (λ t. IsEntry (sparse rows cols Integer []) t) cells.new) }
+{
+    cells.raise(i, j, v)?;
+    Ok(())
+}
+
+#[test]
+fn matrices_of_cells(rt: HostRuntime) -> Result<(), Fail> {
+    // transpose: its entries come by the rows of the matrix before it
+    let mut cells = Cells::new(rt.alloc());
+    raise_inside(&mut cells, 3, 2, 2, 0, -7)?;
+    raise_inside(&mut cells, 3, 2, 0, 1, 4)?;
+    let transposed = Matrix::of_cells(rt.alloc(), 3, 2, Kind::Integer, &cells)?;
+    let text = b"%%MatrixMarket matrix coordinate integer general\n3 2 2\n1 2 4\n3 1 -7\n";
+    let taken = written(rt.alloc(), &transposed)?;
+    assert!(rt; taken.as_slice() == text.as_slice());
+    let again = parse_matrix(rt.alloc(), taken.as_slice())?;
+    assert!(rt; again.entries() == transposed.entries());
+    // permute_by_lists
+    let mut cells = Cells::new(rt.alloc());
+    raise_inside(&mut cells, 3, 3, 1, 0, 9)?;
+    let permuted = Matrix::of_cells(rt.alloc(), 3, 3, Kind::Integer, &cells)?;
+    let text = b"%%MatrixMarket matrix coordinate integer general\n3 3 1\n2 1 9\n";
+    let taken = written(rt.alloc(), &permuted)?;
+    assert!(rt; taken.as_slice() == text.as_slice());
+    let again = parse_matrix(rt.alloc(), taken.as_slice())?;
+    assert!(rt; again.entries() == permuted.entries());
     Ok(())
 }
 

@@ -1,17 +1,17 @@
 -- When a list is a permutation of the numbers below n: each of them comes once.
-use Rattle.std.proofs.Common.{ℕ, zero, suc, ◌+◌, ◌-◌, ◌*◌, ◌<◌, ◌≤◌, ◌≡◌, Bool, true, false, cond, eqb, List, [], ◌∷◌, ◌++◌, length, get_or, set, take, count_by, sum_by, IsPermutation, arith, inl, inr, refl, sym, ap, ◌∙◌, subst}
+use Rattle.std.proofs.Common.{ℕ, zero, suc, ◌+◌, ◌*◌, ◌<◌, ◌≤◌, ◌≡◌, Bool, true, false, cond, eqb, List, [], ◌∷◌, length, get_or, set, take, sum_by, IsPermutation, arith, inl, inr, refl, sym, ap, ◌∙◌, subst}
 use Rattle.std.specs.List.{All, range_with_len, remove}
-use Rattle.std.proofs.lemmas.Bool.{cases_Bool, cases_eq, cases_lt, eq-eqb, ne_eqb, eqb-true}
+use Rattle.std.proofs.lemmas.Bool.{cases_eq, eq-eqb, ne_eqb}
 use Rattle.std.proofs.lemmas.List.{nil_from_length, take_all, get_or-set_same, get_or-set_other}
-use Rattle.std.proofs.lemmas.List.Elements.{All-head, All-tail, All-cons, All-get_or}
-use Rattle.std.proofs.lemmas.List.FromFn.{length-range_with_len, get_or-range_with_len}
+use Rattle.std.proofs.lemmas.List.Elements.{All-head, All-tail, All-cons}
 use Rattle.std.proofs.lemmas.List.Sorted.{IsPermutation-refl, IsPermutation-trans, IsPermutation-sym, IsPermutation-cons, IsPermutation-to_front, IsPermutation-remove, All-permutation, length_permutation, sum_by-IsPermutation}
-use Rattle.std.proofs.lemmas.List.Sums.{sum_by-cons, sum_by_more, sum_by_push, sum_by-take-le, sum_by-le, count_by-le-length, length-filter}
+use Rattle.std.proofs.lemmas.List.Sums.{sum_by-cons, sum_by_more, sum_by-take-le, length-filter}
 use Rattle.list_laws.specs.Sums.{total}
 use Rattle.list_laws.proofs.Sums.{total_bound}
 use Rattle.sparse_rows.specs.Deals.{dealt}
 use Rattle.sparse_rows.specs.Permutations.{Permutes}
-use Rattle.sparse_rows.proofs.Deals.{dealt_sum, dealt_count, range_more}
+use Rattle.mtx_text.proofs.Shuffles.{range_more}
+use Rattle.sparse_rows.proofs.Deals.{dealt_sum}
 
 abbrev pub one_if : Bool → ℕ
 one_if b = cond b 1 0
@@ -89,15 +89,7 @@ all_once (suc n) p len below once =
           (IsPermutation-trans _ _ _ start (IsPermutation-trans _ _ _ (IsPermutation-cons n _ _ smaller) (IsPermutation-sym _ _ moved)))
     ]
 
--- a permutation has n elements, all below n, and none of them twice
-pub as_many : (n : ℕ) (p : List ℕ) → Permutes n p → length p ≡ n
-as_many n p h = length_permutation (range_with_len 0 n) p h ∙ length-range_with_len 0 n
-
-pub all_below : (n : ℕ) (p : List ℕ) → Permutes n p → All (λ x. x < n) p
-all_below n p h = All-permutation (λ x. x < n) (range_with_len 0 n) p h (λ k d l.
-    let k_below : k < n = omega (arith, length-range_with_len 0 n) in
-    omega (arith, get_or-range_with_len 0 n k d k_below))
-
+-- a permutation has none of its elements twice
 range_once : (a n v : ℕ) → times v (range_with_len a n) ≤ 1
 range_once a n v = (range_from a n v).1
   where

@@ -1,7 +1,7 @@
 -- The cells of all ranks together, where each rank has rows of its own.
-use Rattle.std.proofs.Common.{ℕ, zero, suc, ◌+◌, ◌-◌, ◌%◌, ◌<◌, ◌≤◌, ◌≡◌, ◌≢◌, ℤ, true, false, List, [], ◌∷◌, ◌++◌, Option, Some, None, length, get_or, arith, inl, inr, refl, sym, ap, ap₂, ◌∙◌, subst}
-use Rattle.std.specs.List.{All, fold, flat_map}
-use Rattle.std.proofs.lemmas.Bool.{cases_eq, cases_lt, cases_Bool, false_from_ne_true}
+use Rattle.std.proofs.Common.{ℕ, suc, ◌+◌, ◌-◌, ◌%◌, ◌<◌, ◌≤◌, ◌≡◌, ◌≢◌, false, List, [], ◌∷◌, None, get_or, arith, inl, inr, refl, sym, ap, ap₂, ◌∙◌, subst}
+use Rattle.std.specs.List.{All, flat_map}
+use Rattle.std.proofs.lemmas.Bool.{cases_eq, false_from_ne_true}
 use Rattle.std.proofs.lemmas.List.Elements.{All-head, All-tail, All-nil, All-append}
 use Rattle.std.proofs.lemmas.List.Sums.{fold-append}
 use Rattle.list_laws.specs.Lists.{EachAt}
@@ -9,7 +9,7 @@ use Rattle.bale_types.specs.declared.triple.Triple.{Triple}
 use Rattle.mtx_text.specs.declared.kind.Kind.{Kind}
 use Rattle.mtx_text.specs.Sparse.{IsEntry}
 use Rattle.mtx_text.specs.Maps.{is_at, value_at}
-use Rattle.mtx_text.specs.Cells.{InOrder, raised, raised_all, gathered, together, sparse}
+use Rattle.mtx_text.specs.Cells.{InOrder, raised, raised_all, together, sparse}
 use Rattle.mtx_text.proofs.Gathered.{gathered_itself, gathered_all, value_both, most_of, most_nothing}
 use Rattle.mtx_text.proofs.OfCells.{greater_entry}
 use Rattle.mtx_text.proofs.Raised.{at_parts, value_later}

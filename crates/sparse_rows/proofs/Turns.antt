@@ -1,6 +1,6 @@
 -- Entries dealt out in turn: where a rank's entries stand, and how many there are.
-use Rattle.std.proofs.Common.{ℕ, zero, suc, ◌+◌, ◌-◌, ◌*◌, ◌/◌, ◌%◌, ◌<◌, ◌≤◌, ◌≡◌, Bool, true, false, cond, eqb, List, [], ◌∷◌, Some, None, Option, map, length, get_or, slice_get, arith, inl, inr, refl, sym, ap, ◌∙◌}
-use Rattle.std.specs.List.{filter, enumerate_from, range_with_len}
+use Rattle.std.proofs.Common.{ℕ, zero, suc, ◌+◌, ◌-◌, ◌*◌, ◌/◌, ◌%◌, ◌<◌, ◌≤◌, ◌≡◌, true, false, cond, eqb, List, [], ◌∷◌, Some, None, length, get_or, slice_get, arith, inl, inr, refl, sym, ap, ◌∙◌}
+use Rattle.std.specs.List.{enumerate_from}
 use Rattle.std.specs.Option.{option_map}
 use Rattle.std.proofs.lemmas.Bool.{cases_lt, eq-eqb, ne_eqb}
 use Rattle.std.proofs.lemmas.Nat.{mod-mul-add, div-mul-add, div-add-mod', mul-le}

@@ -1,8 +1,5 @@
-use Rattle.std.proofs.Common.{Option, Some, None, cond, sym, ap, ◌∙◌}
-use Rattle.bale_types.specs.declared.triple.Triple.{Triple}
-use Rattle.mtx_text.specs.Cells.{comes_before, is_before}
-use Rattle.mtx_text.proofs.Nearest.{nearer_is, near, with_one}
-use Rattle.mtx_text.proofs.Raised.{greater}
+use Rattle.std.proofs.Common.{Some, cond, sym, ap, ◌∙◌}
+use Rattle.mtx_text.proofs.Nearest.{nearer_is, near}
 use Rattle.mtx_text.proofs.cells.nearer.Goals as goal
 
 pub returns-then-comes_before : goal.returns-then-comes_before

@@ -1,6 +1,6 @@
-use Rattle.std.proofs.Common.{◌≡◌, ◌+◌, get_or, take, arith, sym, ap, ◌∙◌}
+use Rattle.std.proofs.Common.{take, sym, ap, ◌∙◌}
 use Rattle.std.proofs.lemmas.List.Sums.{fold_more}
-use Rattle.mtx_text.specs.Cells.{InOrder, raised, raised_all, first_from}
+use Rattle.mtx_text.specs.Cells.{raised, raised_all, first_from}
 use Rattle.mtx_text.proofs.Gathered.{raised_all_ordered}
 use Rattle.mtx_text.proofs.cells.nearest.Goals as goal
 

@@ -1,4 +1,4 @@
-use Rattle.std.proofs.Common.{◌+◌, ◌-◌, ◌<◌, ◌≡◌, [], ◌∷◌, length, arith, sym, ◌∙◌}
+use Rattle.std.proofs.Common.{[], ◌∷◌, arith, sym, ◌∙◌}
 use Rattle.mtx_text.proofs.Gathered.{settled_stays, settled_more}
 use Rattle.mtx_text.proofs.cells.settled_with.Goals as goal
 

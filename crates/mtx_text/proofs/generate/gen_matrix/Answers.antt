@@ -1,4 +1,4 @@
-use Rattle.std.proofs.Common.{◌≡◌, ◌≤◌, length, arith, sym, subst}
+use Rattle.std.proofs.Common.{arith, sym, subst}
 use Rattle.std.specs.List.{AllPairs}
 use Rattle.mtx_text.proofs.BandPlaces.{places_apart, Apart}
 use Rattle.mtx_text.proofs.OfCells.{lawful_apart}

@@ -1,4 +1,4 @@
-use Rattle.std.proofs.Common.{ℕ, suc, ◌≡◌, ◌+◌, ◌-◌, ◌%◌, ◌<◌, ◌≤◌, ◌++◌, [], ◌∷◌, List, pos, slice_index, length, take, arith, rules, refl, sym, ap, ap₂, ◌∙◌, subst}
+use Rattle.std.proofs.Common.{suc, ◌≡◌, ◌+◌, ◌-◌, ◌%◌, ◌<◌, ◌++◌, [], ◌∷◌, pos, slice_index, length, take, arith, rules, sym, ap, ap₂, ◌∙◌, subst}
 use Rattle.std.specs.List.{All}
 use Rattle.std.proofs.lemmas.List.{length_push}
 use Rattle.std.proofs.lemmas.List.Elements.{All-nil, All-push}
@@ -7,7 +7,7 @@ use Rattle.mtx_text.specs.declared.kind.Kind.TheVariants.{Integer}
 use Rattle.mtx_text.specs.Sparse.{IsEntry}
 use Rattle.mtx_text.specs.Cells.{sparse}
 use Rattle.mtx_text.specs.Seeds.{word, step}
-use Rattle.mtx_text.specs.Generated.{hidden, positions}
+use Rattle.mtx_text.specs.Generated.{hidden}
 use Rattle.mtx_text.proofs.Bands.{rest_from, rest_start, rest_step, rest_turn, room_start, on_band, hidden_more, entry_inside, as_many}
 use Rattle.mtx_text.proofs.generate.hide.Goals as goal
 

@@ -1,6 +1,4 @@
-use Rattle.std.proofs.Common.{◌≡◌, ◌≤◌, List, length, arith, sym, subst}
-use Rattle.std.specs.List.{All}
-use Rattle.bale_types.specs.declared.triple.Triple.{Triple}
+use Rattle.std.proofs.Common.{◌≤◌, length, arith, sym, subst}
 use Rattle.mtx_text.specs.Cells.{gathered, sparse}
 use Rattle.mtx_text.specs.Sparse.{IsSparse}
 use Rattle.mtx_text.proofs.Gathered.{gathered_ordered}

@@ -1,5 +1,4 @@
 use Rattle.std.proofs.Common.{◌≡◌, ◌++◌, [], ◌∷◌, rules, sym, ap, ◌∙◌}
-use Rattle.std.specs.List.{range_with_len}
 use Rattle.mtx_text.proofs.Shuffles.{range_more}
 use Rattle.mtx_text.proofs.seeds.numbers_below.Goals as goal
 

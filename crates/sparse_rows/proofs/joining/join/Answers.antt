@@ -1,8 +1,8 @@
-use Rattle.std.proofs.Common.{ℕ, ◌≡◌, List, length, sym, ap, ◌∙◌, subst}
+use Rattle.std.proofs.Common.{length, sym, ap, ◌∙◌, subst}
 use Rattle.std.specs.List.{flat_map}
 use Rattle.mtx_text.specs.Sparse.{Sparse}
 use Rattle.mtx_text.specs.Maps.{at}
-use Rattle.mtx_text.specs.Cells.{InOrder, together, sparse}
+use Rattle.mtx_text.specs.Cells.{InOrder}
 use Rattle.mtx_text.proofs.Gathered.{gathered_ordered}
 use Rattle.sparse_rows.proofs.Joined.{values_joined, all_inside}
 use Rattle.sparse_rows.proofs.joining.join.Goals as goal

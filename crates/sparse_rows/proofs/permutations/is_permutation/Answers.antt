@@ -1,9 +1,9 @@
-use Rattle.std.proofs.Common.{ℕ, ◌+◌, ◌<◌, ◌≤◌, ◌≡◌, false, true, refl, length, get_or, take, arith, sym, ap, ◌∙◌, rules}
-use Rattle.std.specs.List.{All}
+use Rattle.std.proofs.Common.{◌<◌, ◌≡◌, false, true, refl, length, get_or, take, arith, sym, ap, ◌∙◌, rules}
 use Rattle.std.proofs.lemmas.Bool.{false≢true}
 use Rattle.std.proofs.lemmas.List.{get_or_read_under}
 use Rattle.std.proofs.lemmas.List.Elements.{All-more, All-get_or}
-use Rattle.sparse_rows.proofs.Doubles.{times, as_many, all_below, comes_twice, marks_more, walked, one_if}
+use Rattle.mtx_text.proofs.Bands.{as_many, all_below}
+use Rattle.sparse_rows.proofs.Doubles.{times, comes_twice, marks_more, walked, one_if}
 use Rattle.sparse_rows.proofs.permutations.is_permutation.Goals as goal
 
 pub returns-then-p-n : goal.returns-then-p-n

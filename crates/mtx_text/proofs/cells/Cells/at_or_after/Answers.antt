@@ -1,6 +1,6 @@
-use Rattle.std.proofs.Common.{◌≡◌, take, drop, sym, ap, ◌∙◌, subst}
+use Rattle.std.proofs.Common.{take, drop, ap, ◌∙◌, subst}
 use Rattle.std.proofs.lemmas.List.{take_rest}
-use Rattle.mtx_text.specs.Cells.{InOrder, gathered, first_from, raised_all}
+use Rattle.mtx_text.specs.Cells.{InOrder, first_from, raised_all}
 use Rattle.mtx_text.proofs.Gathered.{gathered_ordered, gathered_from}
 use Rattle.mtx_text.proofs.cells.Cells.at_or_after.Goals as goal
 

@@ -1,4 +1,4 @@
-use Rattle.std.proofs.Common.{◌≤◌, take, arith, rules, sym, ap, ◌∙◌, subst}
+use Rattle.std.proofs.Common.{arith, rules, sym, ap, ◌∙◌, subst}
 use Rattle.std.proofs.lemmas.List.{take_all}
 use Rattle.mtx_text.specs.Cells.{InOrder, gathered}
 use Rattle.mtx_text.proofs.Gathered.{gathered_twice, gathered_ordered}

@@ -1,8 +1,8 @@
-use Rattle.std.proofs.Common.{◌≡◌, ◌+◌, ◌≤◌, length, take, arith, rules, sym, ap, ◌∙◌, subst}
+use Rattle.std.proofs.Common.{take, rules, sym, ◌∙◌, subst}
 use Rattle.std.specs.List.{All, flat_map}
 use Rattle.std.proofs.lemmas.List.{take_all}
 use Rattle.std.proofs.lemmas.List.Elements.{All-more}
-use Rattle.mtx_text.specs.Cells.{InOrder, gathered, together}
+use Rattle.mtx_text.specs.Cells.{InOrder}
 use Rattle.mtx_text.proofs.Gathered.{gathered_alike, together_more}
 use Rattle.mtx_text.proofs.matrix.Matrix.of_all_cells.Goals as goal
 

@@ -1,10 +1,10 @@
-use Rattle.std.proofs.Common.{ℕ, ◌+◌, ◌-◌, ◌%◌, ◌<◌, ◌≤◌, ◌≡◌, IsPermutation, length, arith, rules, sym, ap, ap₂, ◌∙◌, subst}
+use Rattle.std.proofs.Common.{ℕ, ◌+◌, ◌-◌, ◌%◌, ◌<◌, ◌≡◌, length, arith, rules, sym, ap, ap₂, ◌∙◌, subst}
 use Rattle.std.specs.List.{range_with_len, swap}
 use Rattle.std.proofs.lemmas.List.FromFn.{length-range_with_len}
 use Rattle.std.proofs.lemmas.List.Sorted.{IsPermutation-refl}
 use Rattle.std.proofs.lemmas.Nat.{mod_below}
 use Rattle.mtx_text.specs.Permutations.{Permutes}
-use Rattle.mtx_text.specs.Seeds.{shuffled, drawn, word, step}
+use Rattle.mtx_text.specs.Seeds.{shuffled}
 use Rattle.mtx_text.proofs.Shuffles.{shuffled_step, permutes_swap}
 use Rattle.mtx_text.proofs.seeds.Words.permutation.Goals as goal
 

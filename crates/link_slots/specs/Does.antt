@@ -12,12 +12,14 @@ use Rattle.link_slots.specs.Logs.{out_of, in_of, with_out, with_in, found_full, 
 use Rattle.link_slots.specs.Doorbell.{is_due, HeardWhere, LookedFor}
 use Rattle.link_slots.specs.Seen.{Manning, collected_from, known, noted_at}
 
--- A post of p on link l, from the seat s to s': it changes that link's lists alone. At Sent every parcel of the link is offered; at NoRoom
+-- A post of p on link l, from the seat s to s': it changes that link's lists alone. Where an empty slot is at hand the parcel is sent
+-- without a look for room. At Sent every parcel of the link is offered; at NoRoom
 -- the port looked once and nobody was rung for.
 pub record DidPost (s s' : Manning) (l : ℕ) (p : Contents) (r : Result Posted NoMemory) : Type 0 where
   pub here : s' ≡ record s { lists = with_out s.lists l (out_of s'.lists l) }
   pub sent : r ≡ Ok Sent → (out_of s'.lists l).sent ≡ (out_of s.lists l).sent ++ p ∷ []
   pub offered : r ≡ Ok Sent → (out_of s'.lists l).offered ≡ length (out_of s'.lists l).sent
+  pub at_hand : length (out_of s.lists l).sent < (out_of s.lists l).room → (r ≡ Ok Sent) × ((out_of s'.lists l).looks ≡ (out_of s.lists l).looks)
   pub looked : r ≡ Ok NoRoom → out_of s'.lists l ≡ found_full (out_of s.lists l)
 
 -- A collect on link l, from the seat s to s'. Where a parcel was at hand it is taken, with no step of looking. Else the doorbell of the

@@ -2,6 +2,7 @@ pub mod FiniteMaps
 pub mod Folds
 pub mod Front
 pub mod Gathered
+pub mod BandPlaces
 pub mod Bands
 pub mod Caps
 pub mod Chains

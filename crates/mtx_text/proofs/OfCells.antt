@@ -10,6 +10,16 @@ use Rattle.mtx_text.proofs.Raised.{greater}
 use Rattle.std.proofs.lemmas.Bool.{cases_Bool, cond-true, cond-false}
 use Rattle.std.specs.Prelude.{int_lt}
 
+pub lawful_apart : (rows cols : ℕ) (kind : Kind) (cells : List Triple) → rows ≤ 16_384 → cols ≤ 16_384 → length cells ≤ 524_288
+    → All (λ t. IsEntry (sparse rows cols kind []) t) cells → AllPairs (λ s t. ¬ SamePlace s t) cells → IsSparse (sparse rows cols kind cells)
+lawful_apart rows cols kind cells tall wide few inside once = record {
+  tall = tall;
+  wide = wide;
+  few = few;
+  inside = λ k d l. (let h : IsEntry (sparse rows cols kind []) (get_or cells k d) = inside k d l in record { row = h.row; col = h.col; limit = h.limit; one = h.one });
+  once = once;
+}
+
 pub lawful : (rows cols : ℕ) (kind : Kind) (cells : List Triple) → rows ≤ 16_384 → cols ≤ 16_384 → length cells ≤ 524_288
     → All (λ t. IsEntry (sparse rows cols kind []) t) cells → InOrder cells → IsSparse (sparse rows cols kind cells)
 lawful rows cols kind cells tall wide few inside order = record {

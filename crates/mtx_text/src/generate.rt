@@ -7,7 +7,6 @@ ghost use Rattle.mtx_text.specs.Sparse.{IsEntry};
 ghost use Rattle.mtx_text.specs.Cells.{sparse};
 ghost use Rattle.mtx_text.specs.Generated.{hidden, positions, generated};
 
-use crate::apart::are_apart;
 use crate::kind::Kind;
 use crate::matrix::Matrix;
 use crate::seeds::Words;
@@ -32,11 +31,7 @@ pub fn gen_matrix(alloc: Global, n: u32, m: u32, seed: u64) -> Result<Matrix, No
     let rows = words.permutation(alloc, n)?;
     let cols = words.permutation(alloc, n)?;
     let entries = hide(alloc, n, m, &rows, &cols, words)?;
-    if are_apart(alloc, n, entries.as_slice())? {
-        Ok(Matrix::of_parts(n, n, Kind::Integer, entries))
-    } else {
-        Err(NoMemory)
-    }
+    Ok(Matrix::of_parts(n, n, Kind::Integer, entries))
 }
 
 /// The entries of the band, with a word drawn for each.

@@ -44,6 +44,8 @@ mod seeds;
 mod sizes;
 #[cfg(test)]
 mod tests;
+#[cfg(test)]
+mod tests_of_cells;
 mod words;
 mod write;
 

@@ -18,14 +18,14 @@ use Rattle.round_program.specs.Rules.{Rules}
 use Rattle.round_program.specs.Laws.{Laws, fits}
 use Rattle.round_program.specs.Orders.{after_pulls}
 use Rattle.round_program.proofs.Orders.{one_more_pull, pulls_same, fits_same}
-use Rattle.rank_group.specs.Parts.{HasDone}
+use Rattle.rank_group.specs.RowParts.{HasDone}
 use Rattle.route_tensor.specs.Grid.{ranks}
 use Rattle.port_bank.specs.Logs.{Logs}
 use Rattle.hop_core.specs.declared.phase.Phase.TheVariants.{Dormant}
 use Rattle.convey.specs.Buffers.{buffers_of, in_of}
 use Rattle.convey.specs.Conveyors.{AgreesWith, KeepsAgreement, IsStepOf}
 use Rattle.convey.specs.Parts.{part_of}
-use Rattle.rank_group.specs.Pulls.{SameEnds}
+use Rattle.rank_group.specs.RowPulls.{SameEnds}
 
 -- a link in whose inbox changes has ended where it had
 ends_set : (ins : List In) (i j : ℕ) (y : In) → y.ended ≡ (get_or ins i no_in).ended → (get_or (set ins i y) j no_in).ended ≡ (get_or ins j no_in).ended

@@ -19,8 +19,8 @@ use Rattle.convey.specs.Parts.{part_of, pushed_to, pulled_of}
 use Rattle.round_program.specs.Rules.{Rules}
 use Rattle.round_program.specs.Orders.{fitting}
 use Rattle.round_program.proofs.Orders.{upto_ext, upto_none}
-use Rattle.rank_group.specs.Parts.{HasDone}
-use Rattle.rank_group.specs.Nodes.{IsNode}
+use Rattle.rank_group.specs.RowParts.{HasDone}
+use Rattle.rank_group.specs.RowNodes.{IsRowNode}
 use Rattle.rank_group.proofs.Absorbed.{idle_done}
 
 -- empty logs
@@ -43,7 +43,7 @@ none_pushed st new e d =
     (ap (items_among (belongs st.dims st.rank d 1)) (new.outs (hop_link st.dims st.rank d 1)))
 
 -- nothing was pushed and nothing pulled
-new_part : (st : State) → IsNew st → (e d : ℕ) → ((part_of (buffers_of st) no_logs no_logs).pushed e d ≡ []) × ((part_of (buffers_of st) no_logs no_logs).pulled e d ≡ [])
+pub new_part : (st : State) → IsNew st → (e d : ℕ) → ((part_of (buffers_of st) no_logs no_logs).pushed e d ≡ []) × ((part_of (buffers_of st) no_logs no_logs).pulled e d ≡ [])
 new_part st new e d =
     (either (nat_lt d (ranks st.dims)) (pushed_to (buffers_of st) no_logs e d) [] (none_pushed st new e d), either (nat_lt d (ranks st.dims)) (pulled_of (buffers_of st) no_logs e d) [] (take-nil _))
 
@@ -78,7 +78,7 @@ not_dormant p w d = absurd (cc)
 
 pub new_node : {S : Type 0} (R : Rules S) (prog : S) (n : ℕ) (st st' : State) → st.outs ≡ replicate n no_out → st.ins ≡ replicate n no_in → st.done ≡ false
     → AgreesWith st no_logs no_logs → st' ≡ record st { phase = Working; pulled = None } → KeepsAgreement st st' → IsStepOf Idle st st'
-    → R.valid prog → R.rank prog ≡ st.rank → R.ranks prog ≡ ranks st.dims → IsSound (buffers_of st') → IsNode R prog (record { prog = prog; conveyor = st'; next = 0; spoiled = false }) no_logs no_logs
+    → R.valid prog → R.rank prog ≡ st.rank → R.ranks prog ≡ ranks st.dims → IsSound (buffers_of st') → IsRowNode R prog (record { prog = prog; conveyor = st'; next = 0; spoiled = false }) no_logs no_logs
 new_node R prog n st st' outs ins done agrees new kept step valid rank all sound =
     let is : IsNew st = new_links n st outs ins done in
     let dims : st'.dims ≡ st.dims = ap (λ (t : State). t.dims) new in

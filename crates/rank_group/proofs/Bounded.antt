@@ -28,7 +28,7 @@ use Rattle.convey.specs.Parts.{pushed_to}
 use Rattle.convey.proofs.OneRank.{OneRank, starting-own, one_rank_of}
 use Rattle.round_program.specs.Rules.{Rules}
 use Rattle.round_program.specs.Canonical.{items_of}
-use Rattle.rank_group.specs.Nodes.{NodeState}
+use Rattle.rank_group.specs.RowNodes.{RowState}
 use Rattle.rank_group.specs.Row.{HasNode}
 
 -- a log where each parcel that isn't marked last has an entry
@@ -133,19 +133,19 @@ one_hop dims l g one below =
     }
 
 -- what a node knows of its rank
-pub node_rank : {S : Type 0} (R : Rules S) (dims : List ℕ) (cap r : ℕ) (start : S) (n : NodeState S) (sent got : Logs) → IsGrid dims → r < ranks dims → HasNode R dims cap r start n sent got
+pub node_rank : {S : Type 0} (R : Rules S) (dims : List ℕ) (cap r : ℕ) (start : S) (n : RowState S) (sent got : Logs) → IsGrid dims → r < ranks dims → HasNode R dims cap r start n sent got
     → OneRank dims r (buffers_of n.conveyor) sent got
 node_rank R dims cap r start n sent got g own is = one_rank_of dims r (buffers_of n.conveyor) sent got is.same_dims is.same_rank g own is.node.sound is.node.agrees
 
 -- the part of the machine tells what a node pushed toward a rank
-pub node_pushed : {S : Type 0} (R : Rules S) (dims : List ℕ) (cap r d : ℕ) (start : S) (n : NodeState S) (sent got : Logs) → d < ranks dims → HasNode R dims cap r start n sent got
+pub node_pushed : {S : Type 0} (R : Rules S) (dims : List ℕ) (cap r d : ℕ) (start : S) (n : RowState S) (sent got : Logs) → d < ranks dims → HasNode R dims cap r start n sent got
     → pushed_to (buffers_of n.conveyor) (starting_at dims r sent) n.conveyor.epoch d ≡ items_of d (take n.next (R.emissions start))
 node_pushed R dims cap r d start n sent got to is =
     let below : d < ranks n.conveyor.dims = subst (λ ds. d < ranks ds) (sym is.same_dims) to in
     sym (ap (λ c. cond c (pushed_to (buffers_of n.conveyor) (starting_at dims r sent) n.conveyor.epoch d) []) (lt-ltb d (ranks n.conveyor.dims) below)) ∙ is.node.has_done.pushed d below
 
 -- what a node sent toward a rank is at most what its program emits
-pub flow_few : {S : Type 0} (R : Rules S) (dims : List ℕ) (cap r d : ℕ) (start : S) (n : NodeState S) (sent got : Logs) → IsGrid dims → r < ranks dims → d < ranks dims
+pub flow_few : {S : Type 0} (R : Rules S) (dims : List ℕ) (cap r d : ℕ) (start : S) (n : RowState S) (sent got : Logs) → IsGrid dims → r < ranks dims → d < ranks dims
     → HasNode R dims cap r start n sent got → length (flow dims sent r d 1 0) ≤ length (R.emissions start)
 flow_few R dims cap r d start n sent got g own to is =
     let b = buffers_of n.conveyor in
@@ -156,7 +156,7 @@ flow_few R dims cap r d start n sent got g own to is =
     subst (λ e. length (flow dims sent r d 1 e) ≤ length (R.emissions start)) is.first short
 
 -- each parcel has an entry, which is an emission, or it ends the epoch, which one does
-pub sent_bound : {S : Type 0} (R : Rules S) (dims : List ℕ) (cap r l : ℕ) (start : S) (n : NodeState S) (sent got : Logs) → IsGrid dims → r < ranks dims → length dims ≡ 1 → 0 < cap
+pub sent_bound : {S : Type 0} (R : Rules S) (dims : List ℕ) (cap r l : ℕ) (start : S) (n : RowState S) (sent got : Logs) → IsGrid dims → r < ranks dims → length dims ≡ 1 → 0 < cap
     → HasNode R dims cap r start n sent got → l < links dims → sender_at dims l ≡ r → length (sent l) ≤ length (R.emissions start) + 1
 sent_bound R dims cap r l start n sent got g own one some is below from =
     let b = buffers_of n.conveyor in

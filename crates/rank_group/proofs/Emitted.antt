@@ -16,7 +16,7 @@ use Rattle.round_program.specs.Rules.{Rules}
 use Rattle.round_program.specs.Laws.{Laws}
 use Rattle.round_program.specs.Canonical.{items_of}
 use Rattle.round_program.proofs.Items.{items_more, items_more_other}
-use Rattle.rank_group.specs.Pulls.{PushedOn}
+use Rattle.rank_group.specs.RowPulls.{PushedOn}
 
 -- the ranks that a program's emissions go to are those of the run
 pub receivers_below : {S : Type 0} (R : Rules S) → Laws R → (s : S) → R.valid s → All (λ (e : ℕ × Item). e.0 < R.ranks s) (R.emissions s)

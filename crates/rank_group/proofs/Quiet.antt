@@ -18,7 +18,7 @@ use Rattle.convey.specs.Buffers.{in_of, out_of}
 use Rattle.convey.proofs.OneRank.{FirstLink, first_link}
 use Rattle.round_program.specs.Rules.{Rules}
 use Rattle.round_program.specs.Laws.{Laws}
-use Rattle.rank_group.specs.Nodes.{NodeState, IsStuck}
+use Rattle.rank_group.specs.RowNodes.{RowState, IsStuck}
 use Rattle.rank_group.specs.Row.{HasNode, Together, LogsLaw, crowded_in, idle_in}
 use Rattle.rank_group.proofs.Emitted.{receivers_below}
 use Rattle.rank_group.proofs.Stuck.{only_hop}
@@ -53,13 +53,13 @@ one_last : (b : Bool) → lasts_in 0 b ≤ 1
 one_last true = omega arith
 one_last false = omega arith
 
-module _ {S : Type 0} (R : Rules S) (laws : Laws R) (dims : List ℕ) (cap slots : ℕ) (starts : List S) (nodes : List (NodeState S)) (sent got : Logs)
+module _ {S : Type 0} (R : Rules S) (laws : Laws R) (dims : List ℕ) (cap slots : ℕ) (starts : List S) (nodes : List (RowState S)) (sent got : Logs)
     (law : LogsLaw dims cap slots sent got) (some : 0 < slots) (one : length dims ≡ 1) (all : Together R dims cap starts nodes sent got)
-    (stuck : (r : ℕ) (s : S) (n : NodeState S) → slice_get starts r ≡ Some s → slice_get nodes r ≡ Some n → IsStuck (R.emissions s) dims r n.conveyor n.next (crowded_in dims slots r sent got) (idle_in dims r sent got)) where
+    (stuck : (r : ℕ) (s : S) (n : RowState S) → slice_get starts r ≡ Some s → slice_get nodes r ≡ Some n → IsStuck (R.emissions s) dims r n.conveyor n.next (crowded_in dims slots r sent got) (idle_in dims r sent got)) where
   -- one rank
   record Rank (r : ℕ) : Type 0 where
     start : S
-    node : NodeState S
+    node : RowState S
     from : slice_get starts r ≡ Some start
     at : slice_get nodes r ≡ Some node
     has : HasNode R dims cap r start node sent got
@@ -147,8 +147,8 @@ module _ {S : Type 0} (R : Rules S) (laws : Laws R) (dims : List ℕ) (cap slots
   rank_over : (r : ℕ) (q : Rank r) → r < ranks dims → q.node.conveyor.phase ≡ Complete
   rank_over r q own = q.left.over one (done r q own) (λ l below from. closed r l q own below from) (λ l below to. ended r l q below to)
 
-  pub quiet_over : (r : ℕ) (n : NodeState S) → slice_get nodes r ≡ Some n → n.conveyor.phase ≡ Complete
+  pub quiet_over : (r : ℕ) (n : RowState S) → slice_get nodes r ≡ Some n → n.conveyor.phase ≡ Complete
   quiet_over r n at =
       let own : r < ranks dims = omega (arith, within nodes r n at, all.all_nodes) in
       let q : Rank r = rank_at r own in
-      ap (λ (m : NodeState S). m.conveyor.phase) (get_once nodes r n q.node at q.at) ∙ rank_over r q own
+      ap (λ (m : RowState S). m.conveyor.phase) (get_once nodes r n q.node at q.at) ∙ rank_over r q own

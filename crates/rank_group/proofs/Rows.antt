@@ -23,14 +23,14 @@ use Rattle.convey.specs.Buffers.{is_complete}
 use Rattle.round_program.specs.Rules.{Rules}
 use Rattle.round_program.specs.Laws.{Laws}
 use Rattle.round_program.specs.Canonical.{InRound}
-use Rattle.rank_group.specs.Nodes.{NodeState, IsNode, IsStuck}
+use Rattle.rank_group.specs.RowNodes.{RowState, IsRowNode, IsStuck}
 use Rattle.rank_group.specs.Row.{HasNode, Together, AfterTurn, SweptTo, LogsLaw, weight}
 use Rattle.rank_group.proofs.Bounded.{sent_bound}
 use Rattle.rank_group.proofs.Sweeps.{begins_length, swept_none, swept_more}
 use Rattle.rank_group.proofs.Quiet.{quiet_over}
 
 -- what a turn tells over the port of rank r of a bank, where the port after it is that of rank r' of another
-pub record PortTurn {S : Type 0} (R : Rules S) (cap : ℕ) (n n' : NodeState S) (b : Bank) (r : ℕ) (b' : Bank) (r' : ℕ) : Type 0 where
+pub record PortTurn {S : Type 0} (R : Rules S) (cap : ℕ) (n n' : RowState S) (b : Bank) (r : ℕ) (b' : Bank) (r' : ℕ) : Type 0 where
   pub dims : b'.dims ≡ b.dims
   pub slots : b'.slots ≡ b.slots
   pub rest : others_of r' b' ≡ others_of r b
@@ -41,12 +41,12 @@ pub record PortTurn {S : Type 0} (R : Rules S) (cap : ℕ) (n n' : NodeState S) 
   pub sent_grows : (l : ℕ) → Begins (starting_at b.dims r (sent_of b) l) (starting_at b'.dims r' (sent_of b') l)
   pub got_grows : (l : ℕ) → Begins (ending_at b.dims r (got_of b) l) (ending_at b'.dims r' (got_of b') l)
   pub shape : (l : ℕ) → IsConveyorShape n.conveyor.steady cap (starting_at b.dims r (sent_of b) l) → IsConveyorShape n.conveyor.steady cap (starting_at b'.dims r' (sent_of b') l)
-  pub kept : (start : S) → IsNode R start n (starting_at b.dims r (sent_of b)) (ending_at b.dims r (got_of b)) → IsNode R start n' (starting_at b'.dims r' (sent_of b')) (ending_at b'.dims r' (got_of b'))
-  pub stuck : (start : S) → IsNode R start n (starting_at b.dims r (sent_of b)) (ending_at b.dims r (got_of b))
+  pub kept : (start : S) → IsRowNode R start n (starting_at b.dims r (sent_of b)) (ending_at b.dims r (got_of b)) → IsRowNode R start n' (starting_at b'.dims r' (sent_of b')) (ending_at b'.dims r' (got_of b'))
+  pub stuck : (start : S) → IsRowNode R start n (starting_at b.dims r (sent_of b)) (ending_at b.dims r (got_of b))
       → ((l : ℕ) → starting_at b'.dims r' (sent_of b') l ≡ starting_at b.dims r (sent_of b) l) → ((l : ℕ) → ending_at b'.dims r' (got_of b') l ≡ ending_at b.dims r (got_of b) l)
       → IsStuck (R.emissions start) n'.conveyor.dims n'.conveyor.rank n'.conveyor n'.next (crowded_of r' b') (idle_of r' b')
 
-pub after_turn : {S : Type 0} (R : Rules S) (cap r : ℕ) (n n' : NodeState S) (b b' : Bank) (q q' : ℕ) → q ≡ r → q' ≡ q → n.conveyor.dims ≡ b.dims → n.conveyor.rank ≡ r → PortTurn R cap n n' b q b' q'
+pub after_turn : {S : Type 0} (R : Rules S) (cap r : ℕ) (n n' : RowState S) (b b' : Bank) (q q' : ℕ) → q ≡ r → q' ≡ q → n.conveyor.dims ≡ b.dims → n.conveyor.rank ≡ r → PortTurn R cap n n' b q b' q'
     → AfterTurn R b.dims cap b.slots r n n' (sent_of b) (got_of b) (sent_of b') (got_of b')
 after_turn R cap r n n' b b' q q' own same nd nr turn =
     let b'' : Bank = record { dims = b.dims; slots = b.slots; channels = b'.channels } in
@@ -83,7 +83,7 @@ logs_law cap b dims slots is ed es =
     }))
 
 -- no log is longer than all emissions and a last parcel, so the logs of all links are bounded
-pub weight_bound : {S : Type 0} (R : Rules S) (dims : List ℕ) (cap slots most : ℕ) (starts : List S) (nodes : List (NodeState S)) (sent got : Logs) → LogsLaw dims cap slots sent got → length dims ≡ 1 → 0 < cap
+pub weight_bound : {S : Type 0} (R : Rules S) (dims : List ℕ) (cap slots most : ℕ) (starts : List S) (nodes : List (RowState S)) (sent got : Logs) → LogsLaw dims cap slots sent got → length dims ≡ 1 → 0 < cap
     → Together R dims cap starts nodes sent got → ((r : ℕ) (s : S) → slice_get starts r ≡ Some s → length (R.emissions s) ≤ most) → weight dims sent got ≤ links dims * (2 * (most + 1))
 weight_bound R dims cap slots most starts nodes sent got law one some all few =
     total_bound (links dims) (2 * (most + 1)) (λ l. length (sent l) + length (got l)) (λ l below.
@@ -98,7 +98,7 @@ sum_part : {X : Type 0} (f : X → ℕ) (xs : List X) (i : ℕ) (x : X) → slic
 sum_part f xs i x is = subst (λ y. f y ≤ sum_by f xs) (get_or_from_slice_get xs i x x is) (get_or-le-sum_by f xs i x (within xs i x is))
 
 -- the emissions of all nodes are as many as each rank's start has, and more
-pub all_emissions : {S : Type 0} (R : Rules S) (dims : List ℕ) (cap : ℕ) (starts : List S) (nodes : List (NodeState S)) (sent got : Logs) → Together R dims cap starts nodes sent got
+pub all_emissions : {S : Type 0} (R : Rules S) (dims : List ℕ) (cap : ℕ) (starts : List S) (nodes : List (RowState S)) (sent got : Logs) → Together R dims cap starts nodes sent got
     → (r : ℕ) (s : S) → slice_get starts r ≡ Some s → length (R.emissions s) ≤ sum_by (λ n. length (R.emissions n.prog)) nodes
 all_emissions R dims cap starts nodes sent got all r s from =
     let n = find nodes r (omega (arith, within starts r s from, all.all_starts, all.all_nodes)) in
@@ -106,20 +106,20 @@ all_emissions R dims cap starts nodes sent got all r s from =
     omega (arith, ap length e, sum_part (λ n. length (R.emissions n.prog)) nodes r n.0 n.1)
 
 -- a sweep after the turns of the ranks below i
-pub record Sweeping {S : Type 0} (R : Rules S) (cap : ℕ) (nodes0 : List (NodeState S)) (b0 : Bank) (i : ℕ) (nodes : List (NodeState S)) (b : Bank) : Type 0 where
+pub record Sweeping {S : Type 0} (R : Rules S) (cap : ℕ) (nodes0 : List (RowState S)) (b0 : Bank) (i : ℕ) (nodes : List (RowState S)) (b : Bank) : Type 0 where
   pub lawful : IsBank cap b
   pub same_dims : b.dims ≡ b0.dims
   pub same_slots : b.slots ≡ b0.slots
   pub size : length nodes ≡ length nodes0
   pub swept : (starts : List S) → Together R b0.dims cap starts nodes0 (sent_of b0) (got_of b0) → SweptTo R b0.dims cap b0.slots i starts nodes (sent_of b0) (got_of b0) (sent_of b) (got_of b)
 
-pub sweeping_none : {S : Type 0} (R : Rules S) (cap : ℕ) (nodes : List (NodeState S)) (b : Bank) → IsBank cap b → Sweeping R cap nodes b 0 nodes b
+pub sweeping_none : {S : Type 0} (R : Rules S) (cap : ℕ) (nodes : List (RowState S)) (b : Bank) → IsBank cap b → Sweeping R cap nodes b 0 nodes b
 sweeping_none R cap nodes b is =
     record { lawful = is; same_dims = refl; same_slots = refl; size = refl; swept = λ starts all. swept_none R b.dims cap b.slots starts nodes (sent_of b) (got_of b) all }
 
-pub sweeping_more : {S : Type 0} (R : Rules S) (cap : ℕ) (nodes0 : List (NodeState S)) (b0 : Bank) (i : ℕ) (nodes : List (NodeState S)) (b : Bank) (nodes' : List (NodeState S)) (b' : Bank)
+pub sweeping_more : {S : Type 0} (R : Rules S) (cap : ℕ) (nodes0 : List (RowState S)) (b0 : Bank) (i : ℕ) (nodes : List (RowState S)) (b : Bank) (nodes' : List (RowState S)) (b' : Bank)
     → Sweeping R cap nodes0 b0 i nodes b → i < length nodes → IsBank cap b' → b'.dims ≡ b.dims → b'.slots ≡ b.slots → length nodes' ≡ length nodes → ((k : ℕ) → k ≢ i → slice_get nodes' k ≡ slice_get nodes k)
-    → ((n n' : NodeState S) → slice_get nodes i ≡ Some n → slice_get nodes' i ≡ Some n' → AfterTurn R b.dims cap b.slots i n n' (sent_of b) (got_of b) (sent_of b') (got_of b'))
+    → ((n n' : RowState S) → slice_get nodes i ≡ Some n → slice_get nodes' i ≡ Some n' → AfterTurn R b.dims cap b.slots i n n' (sent_of b) (got_of b) (sent_of b') (got_of b'))
     → Sweeping R cap nodes0 b0 (i + 1) nodes' b'
 sweeping_more R cap nodes0 b0 i nodes b nodes' b' w below is' ed es size others turn =
     let n = find nodes i below in
@@ -138,21 +138,21 @@ sweeping_more R cap nodes0 b0 i nodes b nodes' b' w below is' ed es size others 
     }
 
 -- sweeps so far
-pub record Turning {S : Type 0} (R : Rules S) (cap : ℕ) (nodes0 : List (NodeState S)) (b0 : Bank) (nodes : List (NodeState S)) (b : Bank) : Type 0 where
+pub record Turning {S : Type 0} (R : Rules S) (cap : ℕ) (nodes0 : List (RowState S)) (b0 : Bank) (nodes : List (RowState S)) (b : Bank) : Type 0 where
   pub lawful : IsBank cap b
   pub same_dims : b.dims ≡ b0.dims
   pub same_slots : b.slots ≡ b0.slots
   pub kept : (starts : List S) → Together R b0.dims cap starts nodes0 (sent_of b0) (got_of b0) → Together R b0.dims cap starts nodes (sent_of b) (got_of b)
 
-pub turning_none : {S : Type 0} (R : Rules S) (cap : ℕ) (nodes : List (NodeState S)) (b : Bank) → IsBank cap b → Turning R cap nodes b nodes b
+pub turning_none : {S : Type 0} (R : Rules S) (cap : ℕ) (nodes : List (RowState S)) (b : Bank) → IsBank cap b → Turning R cap nodes b nodes b
 turning_none R cap nodes b is = record { lawful = is; same_dims = refl; same_slots = refl; kept = λ starts all. all }
 
 -- the nodes over the bank of the moment
-pub together_now : {S : Type 0} (R : Rules S) (cap : ℕ) (nodes0 : List (NodeState S)) (b0 : Bank) (nodes : List (NodeState S)) (b : Bank) (starts : List S) → Turning R cap nodes0 b0 nodes b
+pub together_now : {S : Type 0} (R : Rules S) (cap : ℕ) (nodes0 : List (RowState S)) (b0 : Bank) (nodes : List (RowState S)) (b : Bank) (starts : List S) → Turning R cap nodes0 b0 nodes b
     → Together R b0.dims cap starts nodes0 (sent_of b0) (got_of b0) → Together R b.dims cap starts nodes (sent_of b) (got_of b)
 together_now R cap nodes0 b0 nodes b starts w all = subst (λ (d : List ℕ). Together R d cap starts nodes (sent_of b) (got_of b)) (sym w.same_dims) (w.kept starts all)
 
-pub turning_more : {S : Type 0} (R : Rules S) (cap : ℕ) (nodes0 : List (NodeState S)) (b0 : Bank) (nodes : List (NodeState S)) (b : Bank) (nodes' : List (NodeState S)) (b' : Bank) → Turning R cap nodes0 b0 nodes b
+pub turning_more : {S : Type 0} (R : Rules S) (cap : ℕ) (nodes0 : List (RowState S)) (b0 : Bank) (nodes : List (RowState S)) (b : Bank) (nodes' : List (RowState S)) (b' : Bank) → Turning R cap nodes0 b0 nodes b
     → IsBank cap b' → b'.dims ≡ b.dims → b'.slots ≡ b.slots
     → ((starts : List S) → Together R b.dims cap starts nodes (sent_of b) (got_of b) → SweptTo R b.dims cap b.slots (length nodes) starts nodes' (sent_of b) (got_of b) (sent_of b') (got_of b'))
     → Turning R cap nodes0 b0 nodes' b'
@@ -184,14 +184,14 @@ complete_phase Endgame e = absurd (cc)
 complete_phase Cleanup e = absurd (cc)
 complete_phase Complete e = refl
 
-abbrev pub is_over : {S : Type 0} → NodeState S → Bool
+abbrev pub is_over : {S : Type 0} → RowState S → Bool
 is_over n = is_complete n.conveyor.phase
 
 -- a sweep after which an epoch goes on has moved a parcel, so there are fewer left to move
-abbrev pub measure : {S : Type 0} → Rules S → List (NodeState S) → Bank → Bank → ℕ
+abbrev pub measure : {S : Type 0} → Rules S → List (RowState S) → Bank → Bank → ℕ
 measure R nodes0 b0 b = links b0.dims * (2 * (sum_by (λ n. length (R.emissions n.prog)) nodes0 + 1)) - weight b0.dims (sent_of b) (got_of b)
 
-pub fewer_left : {S : Type 0} (R : Rules S) → Laws R → (cap : ℕ) (nodes0 : List (NodeState S)) (b0 : Bank) (nodes : List (NodeState S)) (b : Bank) (nodes' : List (NodeState S)) (b' : Bank) (starts : List S) → Turning R cap nodes0 b0 nodes b
+pub fewer_left : {S : Type 0} (R : Rules S) → Laws R → (cap : ℕ) (nodes0 : List (RowState S)) (b0 : Bank) (nodes : List (RowState S)) (b : Bank) (nodes' : List (RowState S)) (b' : Bank) (starts : List S) → Turning R cap nodes0 b0 nodes b
     → length b0.dims ≡ 1 → 0 < b0.slots → 0 < cap → Together R b0.dims cap starts nodes0 (sent_of b0) (got_of b0) → IsBank cap b' → b'.dims ≡ b.dims → b'.slots ≡ b.slots
     → SweptTo R b.dims cap b.slots (length nodes) starts nodes' (sent_of b) (got_of b) (sent_of b') (got_of b') → list_all is_over nodes' ≡ false → measure R nodes0 b0 b' < measure R nodes0 b0 b
 fewer_left R laws cap nodes0 b0 nodes b nodes' b' starts w one some cap_some all is' ed es swept going =
@@ -211,10 +211,10 @@ fewer_left R laws cap nodes0 b0 nodes b nodes' b' starts w one some cap_some all
     ]
 
 -- the nodes made so far, over empty logs, and the programs that are left
-pub record Filling {S : Type 0} (R : Rules S) (cap : ℕ) (dims : List ℕ) (starts rest : List S) (nodes : List (NodeState S)) : Type 0 where
+pub record Filling {S : Type 0} (R : Rules S) (cap : ℕ) (dims : List ℕ) (starts rest : List S) (nodes : List (RowState S)) : Type 0 where
   pub left : rest ≡ drop (length nodes) starts
   pub low : length nodes ≤ length starts
-  pub each : (r : ℕ) (s : S) (n : NodeState S) → slice_get starts r ≡ Some s → slice_get nodes r ≡ Some n → HasNode R dims cap r s n (λ l. []) (λ l. [])
+  pub each : (r : ℕ) (s : S) (n : RowState S) → slice_get starts r ≡ Some s → slice_get nodes r ≡ Some n → HasNode R dims cap r s n (λ l. []) (λ l. [])
 
 pub filling_none : {S : Type 0} (R : Rules S) (cap : ℕ) (dims : List ℕ) (starts : List S) → Filling R cap dims starts starts []
 filling_none R cap dims starts = record { left = refl; low = omega arith; each = λ r s n from at. absurd (none_at r n at) } where
@@ -227,12 +227,12 @@ front_at xs zero x at = at
 front_at [] (suc k) x at = at
 front_at (y ∷ ys) (suc k) x at = front_at ys k x at
 
-pub next_prog : {S : Type 0} (R : Rules S) (cap : ℕ) (dims : List ℕ) (starts rest : List S) (nodes : List (NodeState S)) (q : S) → Filling R cap dims starts rest nodes → slice_get rest 0 ≡ Some q → slice_get starts (length nodes) ≡ Some q
+pub next_prog : {S : Type 0} (R : Rules S) (cap : ℕ) (dims : List ℕ) (starts rest : List S) (nodes : List (RowState S)) (q : S) → Filling R cap dims starts rest nodes → slice_get rest 0 ≡ Some q → slice_get starts (length nodes) ≡ Some q
 next_prog R cap dims starts rest nodes q f at = front_at starts (length nodes) q (ap (λ xs. slice_get xs 0) (sym f.left) ∙ at)
 
-pub filling_more : {S : Type 0} (R : Rules S) (cap : ℕ) (dims : List ℕ) (p : ℕ) (shape : List ℕ) (most : ℕ) (starts rest rest' : List S) (nodes nodes' : List (NodeState S)) (q : S) (n : NodeState S)
+pub filling_more : {S : Type 0} (R : Rules S) (cap : ℕ) (dims : List ℕ) (p : ℕ) (shape : List ℕ) (most : ℕ) (starts rest rest' : List S) (nodes nodes' : List (RowState S)) (q : S) (n : RowState S)
     → Filling R cap dims starts rest nodes → InRound R p 0 shape most starts → slice_get rest 0 ≡ Some q → rest' ≡ drop 1 rest → nodes' ≡ nodes ++ n ∷ []
-    → IsNode R q n (λ l. []) (λ l. []) → n.conveyor.dims ≡ dims → n.conveyor.rank ≡ R.rank q → n.conveyor.steady ≡ false → n.conveyor.epoch ≡ 0 → Filling R cap dims starts rest' nodes'
+    → IsRowNode R q n (λ l. []) (λ l. []) → n.conveyor.dims ≡ dims → n.conveyor.rank ≡ R.rank q → n.conveyor.steady ≡ false → n.conveyor.epoch ≡ 0 → Filling R cap dims starts rest' nodes'
 filling_more R cap dims p shape most starts rest rest' nodes nodes' q n f all at gone more node nd nr ns ne =
     let k = length nodes in
     let here : slice_get starts k ≡ Some q = next_prog R cap dims starts rest nodes q f at in
@@ -241,7 +241,7 @@ filling_more R cap dims p shape most starts rest rest' nodes nodes' q n f all at
     let no_sent : (r : ℕ) → starting_at dims r (λ l. []) ≡ (λ l. []) = λ r i l. either_none (sender_at dims l == r) i in
     let no_got : (r : ℕ) → ending_at dims r (λ l. []) ≡ (λ l. []) = λ r i l. either_none (reader_at dims l == r) i in
     let made : HasNode R dims cap k q n (λ l. []) (λ l. []) = record {
-      node = subst (λ (s : Logs). IsNode R q n s (ending_at dims k (λ l. []))) (sym (no_sent k)) (subst (λ (g : Logs). IsNode R q n (λ l. []) g) (sym (no_got k)) node);
+      node = subst (λ (s : Logs). IsRowNode R q n s (ending_at dims k (λ l. []))) (sym (no_sent k)) (subst (λ (g : Logs). IsRowNode R q n (λ l. []) g) (sym (no_got k)) node);
       same_dims = nd;
       same_rank = nr ∙ (all.each k q here).own_rank;
       first = ne;
@@ -269,7 +269,7 @@ filling_more R cap dims p shape most starts rest rest' nodes nodes' q n f all at
       drop_more_one (suc k) [] = refl
       drop_more_one (suc k) (x ∷ xs) = drop_more_one k xs
 
-pub filled : {S : Type 0} (R : Rules S) (cap : ℕ) (dims : List ℕ) (shape : List ℕ) (most : ℕ) (starts rest : List S) (nodes : List (NodeState S)) → Filling R cap dims starts rest nodes
+pub filled : {S : Type 0} (R : Rules S) (cap : ℕ) (dims : List ℕ) (shape : List ℕ) (most : ℕ) (starts rest : List S) (nodes : List (RowState S)) → Filling R cap dims starts rest nodes
     → InRound R (ranks dims) 0 shape most starts → slice_get rest 0 ≡ None → Together R dims cap starts nodes (λ l. []) (λ l. [])
 filled R cap dims shape most starts rest nodes f all none =
     record { all_starts = all.size; all_nodes = omega (arith, f.low, all.size, none_left starts (length nodes) (ap (λ xs. slice_get xs 0) (sym f.left) ∙ none)); each = f.each } where
@@ -284,16 +284,16 @@ fewer_progs [] ys x at gone = absurd (cc)
 fewer_progs (y ∷ xs) ys x at gone = omega (arith, ap length gone)
 
 -- the programs of the nodes taken apart so far
-pub record Finishing {S : Type 0} (progs : List S) (nodes : List (NodeState S)) : Type 0 where
+pub record Finishing {S : Type 0} (progs : List S) (nodes : List (RowState S)) : Type 0 where
   pub is : progs ≡ map (λ n. n.prog) nodes
-  pub unspoiled : (r : ℕ) (n : NodeState S) → slice_get nodes r ≡ Some n → n.spoiled ≡ false
+  pub unspoiled : (r : ℕ) (n : RowState S) → slice_get nodes r ≡ Some n → n.spoiled ≡ false
 
 pub finishing_none : {S : Type 0} → Finishing {S = S} [] []
 finishing_none = record { is = refl; unspoiled = λ r n at. absurd (none_at r n at) } where
   none_at : {X : Type 0} (r : ℕ) (n : X) → slice_get [] r ≡ Some n → ⊥
   none_at r n at = cc
 
-pub finishing_more : {S : Type 0} (progs progs' : List S) (nodes : List (NodeState S)) (n : NodeState S) (q : S) → Finishing progs nodes → progs' ≡ progs ++ q ∷ [] → q ≡ n.prog → n.spoiled ≡ false → Finishing progs' (nodes ++ n ∷ [])
+pub finishing_more : {S : Type 0} (progs progs' : List S) (nodes : List (RowState S)) (n : RowState S) (q : S) → Finishing progs nodes → progs' ≡ progs ++ q ∷ [] → q ≡ n.prog → n.spoiled ≡ false → Finishing progs' (nodes ++ n ∷ [])
 finishing_more progs progs' nodes n q f more same fine =
     record {
       is = more ∙ (ap (λ x. progs ++ x ∷ []) same ∙ (ap (λ ps. ps ++ n.prog ∷ []) f.is ∙ sym (map-append (λ m. m.prog) nodes (n ∷ []))));
@@ -301,6 +301,6 @@ finishing_more progs progs' nodes n q f more same fine =
         | inl below ↦ f.unspoiled r m (sym (get_before nodes (n ∷ []) r below) ∙ at)
         | inr past ↦
             let k : r ≡ length nodes = omega (arith, past, within (nodes ++ n ∷ []) r m at, length-append nodes (n ∷ [])) in
-            subst (λ (x : NodeState _). x.spoiled ≡ false) (get_once (nodes ++ n ∷ []) (length nodes) n m (get_last nodes n) (subst (λ i. slice_get (nodes ++ n ∷ []) i ≡ Some m) k at)) fine
+            subst (λ (x : RowState _). x.spoiled ≡ false) (get_once (nodes ++ n ∷ []) (length nodes) n m (get_last nodes n) (subst (λ i. slice_get (nodes ++ n ∷ []) i ≡ Some m) k at)) fine
       ];
     }

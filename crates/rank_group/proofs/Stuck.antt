@@ -22,8 +22,8 @@ use Rattle.convey.specs.Progress.{progress_of}
 use Rattle.convey.specs.declared.progress.Progress.TheVariants as progress
 use Rattle.convey.proofs.OneRank.{FirstLink, first_link}
 use Rattle.round_program.specs.Rules.{Rules}
-use Rattle.rank_group.specs.Pulls.{SameEnds}
-use Rattle.rank_group.specs.Nodes.{NodeState, IsNode, IsStuck}
+use Rattle.rank_group.specs.RowPulls.{SameEnds}
+use Rattle.rank_group.specs.RowNodes.{RowState, IsRowNode, IsStuck}
 use Rattle.rank_group.proofs.Turned.{AfterPush, AfterAdvance, AfterPulls}
 
 -- the phase of an advance that answers Complete
@@ -64,12 +64,12 @@ pub record Advanced (c c' : State) (cap : ℕ) (sent sent' got got' : Logs) (is_
   pub lies : (l : ℕ) → l < links c.dims → reader_at c.dims l ≡ c.rank → got' l ≡ got l → Ends (in_of c l).parcel.untaken (in_of c' l).parcel.untaken
   pub completes : IsOver c' → c'.phase ≡ Complete
 
-module _ {S : Type 0} (R : Rules S) (start : S) (n : NodeState S) (c1 c2 c3 : State) (next cap : ℕ) (prog : S) (spoiled done complete : Bool) (sent got sent' got' : Logs) (is_crowded is_idle : ℕ → Bool)
+module _ {S : Type 0} (R : Rules S) (start : S) (n : RowState S) (c1 c2 c3 : State) (next cap : ℕ) (prog : S) (spoiled done complete : Bool) (sent got sent' got' : Logs) (is_crowded is_idle : ℕ → Bool)
     (grid : IsGrid c3.dims) (own : c3.rank < ranks c3.dims) (push : AfterPush R n c1 next sent got)
     (refused : (to : ℕ) (x : Item) → slice_get (R.emissions n.prog) next ≡ Some (to, x) → standing_toward c1 to ≡ cap)
     (receiver : (to : ℕ) (x : Item) → slice_get (R.emissions n.prog) next ≡ Some (to, x) → to < ranks c1.dims)
     (all : done ≡ (next == length (R.emissions n.prog))) (moved : AfterAdvance c1 c2 done complete sent got sent' got') (advanced : Advanced c1 c2 cap sent sent' got got' is_crowded is_idle)
-    (pulls : AfterPulls R c2 c3 n.prog prog n.spoiled spoiled sent' got') (ends : SameEnds c2 c3) (is : IsNode R start n sent got)
+    (pulls : AfterPulls R c2 c3 n.prog prog n.spoiled spoiled sent' got') (ends : SameEnds c2 c3) (is : IsRowNode R start n sent got)
     (sent_same : (l : ℕ) → sent' l ≡ sent l) (got_same : (l : ℕ) → got' l ≡ got l) where
   dims3 : c3.dims ≡ c2.dims
   dims3 = ap (λ (c : State). c.dims) pulls.same

@@ -11,7 +11,7 @@ use Rattle.port_bank.specs.Flow.{Begins}
 use Rattle.port_bank.specs.Shapes.{IsConveyorShape}
 use Rattle.port_bank.proofs.Owners.{sent_elsewhere, got_elsewhere}
 use Rattle.round_program.specs.Rules.{Rules}
-use Rattle.rank_group.specs.Nodes.{NodeState, IsNode, IsStuck}
+use Rattle.rank_group.specs.RowNodes.{RowState, IsRowNode, IsStuck}
 use Rattle.rank_group.specs.Row.{HasNode, Together, AfterTurn, SweptTo, LogsLaw, weight, crowded_in, idle_in}
 
 begins_same : {T : Type 0} (xs ys : List T) → ys ≡ xs → Begins xs ys
@@ -35,10 +35,10 @@ grown own old new grows same l = pick (own l) (grows l) (same l) where
   pick true g s = g
   pick false g s = begins_same (old l) (new l) s
 
-pub sent_grown : {S : Type 0} (R : Rules S) (dims : List ℕ) (cap slots r : ℕ) (n n' : NodeState S) (sent got sent' got' : Logs) → AfterTurn R dims cap slots r n n' sent got sent' got' → (l : ℕ) → Begins (sent l) (sent' l)
+pub sent_grown : {S : Type 0} (R : Rules S) (dims : List ℕ) (cap slots r : ℕ) (n n' : RowState S) (sent got sent' got' : Logs) → AfterTurn R dims cap slots r n n' sent got sent' got' → (l : ℕ) → Begins (sent l) (sent' l)
 sent_grown R dims cap slots r n n' sent got sent' got' t = grown (λ l. sender_at dims l == r) sent sent' t.sent_grows (λ l. ap (λ (f : Logs). f l) t.sent_elsewhere)
 
-pub got_grown : {S : Type 0} (R : Rules S) (dims : List ℕ) (cap slots r : ℕ) (n n' : NodeState S) (sent got sent' got' : Logs) → AfterTurn R dims cap slots r n n' sent got sent' got' → (l : ℕ) → Begins (got l) (got' l)
+pub got_grown : {S : Type 0} (R : Rules S) (dims : List ℕ) (cap slots r : ℕ) (n n' : RowState S) (sent got sent' got' : Logs) → AfterTurn R dims cap slots r n n' sent got sent' got' → (l : ℕ) → Begins (got l) (got' l)
 got_grown R dims cap slots r n n' sent got sent' got' t = grown (λ l. reader_at dims l == r) got got' t.got_grows (λ l. ap (λ (f : Logs). f l) t.got_elsewhere)
 
 -- growing logs grow heavier
@@ -79,11 +79,11 @@ same_weight dims cap slots sent got sent' got' law law' s g light =
       ]
 
 -- a node over other logs that are the same for its rank
-other_node : {S : Type 0} (R : Rules S) (dims : List ℕ) (cap r : ℕ) (s : S) (n : NodeState S) (sent got sent' got' : Logs) → starting_at dims r sent' ≡ starting_at dims r sent → ending_at dims r got' ≡ ending_at dims r got
+other_node : {S : Type 0} (R : Rules S) (dims : List ℕ) (cap r : ℕ) (s : S) (n : RowState S) (sent got sent' got' : Logs) → starting_at dims r sent' ≡ starting_at dims r sent → ending_at dims r got' ≡ ending_at dims r got
     → HasNode R dims cap r s n sent got → HasNode R dims cap r s n sent' got'
 other_node R dims cap r s n sent got sent' got' es eg h =
     record {
-      node = subst (λ f. IsNode R s n f (ending_at dims r got')) (sym es) (subst (IsNode R s n (starting_at dims r sent)) (sym eg) h.node);
+      node = subst (λ f. IsRowNode R s n f (ending_at dims r got')) (sym es) (subst (IsRowNode R s n (starting_at dims r sent)) (sym eg) h.node);
       same_dims = h.same_dims;
       same_rank = h.same_rank;
       first = h.first;
@@ -92,7 +92,7 @@ other_node R dims cap r s n sent got sent' got' es eg h =
     }
 
 -- the node that was turned
-turned_node : {S : Type 0} (R : Rules S) (dims : List ℕ) (cap slots r : ℕ) (s : S) (n n' : NodeState S) (sent got sent' got' : Logs) → AfterTurn R dims cap slots r n n' sent got sent' got'
+turned_node : {S : Type 0} (R : Rules S) (dims : List ℕ) (cap slots r : ℕ) (s : S) (n n' : RowState S) (sent got sent' got' : Logs) → AfterTurn R dims cap slots r n n' sent got sent' got'
     → HasNode R dims cap r s n sent got → HasNode R dims cap r s n' sent' got'
 turned_node R dims cap slots r s n n' sent got sent' got' t h =
     record {
@@ -104,11 +104,11 @@ turned_node R dims cap slots r s n n' sent got sent' got' t h =
       shape = λ l. subst (λ b. IsConveyorShape b cap (starting_at dims r sent' l)) h.not_steady (t.shape l (subst (λ b. IsConveyorShape b cap (starting_at dims r sent l)) (sym h.not_steady) (h.shape l)));
     }
 
-pub swept_none : {S : Type 0} (R : Rules S) (dims : List ℕ) (cap slots : ℕ) (starts : List S) (nodes : List (NodeState S)) (sent got : Logs)
+pub swept_none : {S : Type 0} (R : Rules S) (dims : List ℕ) (cap slots : ℕ) (starts : List S) (nodes : List (RowState S)) (sent got : Logs)
     → Together R dims cap starts nodes sent got → SweptTo R dims cap slots 0 starts nodes sent got sent got
 swept_none R dims cap slots starts nodes sent got all = record { together = all; heavier = omega arith; stuck = λ light r s n below. absurd (omega (arith, below)) }
 
-module _ {S : Type 0} (R : Rules S) (dims : List ℕ) (cap slots i : ℕ) (starts : List S) (nodes nodes' : List (NodeState S)) (n n' : NodeState S) (sent0 got0 sent got sent' got' : Logs)
+module _ {S : Type 0} (R : Rules S) (dims : List ℕ) (cap slots i : ℕ) (starts : List S) (nodes nodes' : List (RowState S)) (n n' : RowState S) (sent0 got0 sent got sent' got' : Logs)
     (law : LogsLaw dims cap slots sent got) (law' : LogsLaw dims cap slots sent' got') (is : slice_get nodes i ≡ Some n) (is' : slice_get nodes' i ≡ Some n')
     (others : (k : ℕ) → k ≢ i → slice_get nodes' k ≡ slice_get nodes k) (size : length nodes' ≡ length nodes) (t : AfterTurn R dims cap slots i n n' sent got sent' got') where
   pub turned_all : Together R dims cap starts nodes sent got → Together R dims cap starts nodes' sent' got'
@@ -140,7 +140,7 @@ module _ {S : Type 0} (R : Rules S) (dims : List ℕ) (cap slots i : ℕ) (start
             elim (cases_eq r i) [
               | inl here ↦
                   subst (λ q. IsStuck (R.emissions s) dims q m.conveyor m.next (crowded_in dims slots q sent' got') (idle_in dims q sent' got')) (sym here)
-                  (subst (λ (x : NodeState S). IsStuck (R.emissions s) dims i x.conveyor x.next (crowded_in dims slots i sent' got') (idle_in dims i sent' got')) (get_once nodes' i n' m is' (subst (λ q. slice_get nodes' q ≡ Some m) here at))
+                  (subst (λ (x : RowState S). IsStuck (R.emissions s) dims i x.conveyor x.next (crowded_in dims slots i sent' got') (idle_in dims i sent' got')) (get_once nodes' i n' m is' (subst (λ q. slice_get nodes' q ≡ Some m) here at))
                   (t.stuck s (w.together.each i s n (subst (λ q. slice_get starts q ≡ Some s) here from) is).node (λ l. ap (λ (f : Logs). starting_at dims i f l) same.0) (λ l. ap (λ (f : Logs). ending_at dims i f l) same.1)))
               | inr apart ↦
                   subst (λ f. IsStuck (R.emissions s) dims r m.conveyor m.next (crowded_in dims slots r f got') (idle_in dims r f got')) (sym same.0)

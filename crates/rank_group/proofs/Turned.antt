@@ -14,9 +14,9 @@ use Rattle.convey.specs.Parts.{part_of}
 use Rattle.convey.specs.Progress.{advance_step}
 use Rattle.round_program.specs.Rules.{Rules}
 use Rattle.round_program.specs.Orders.{after_pulls}
-use Rattle.rank_group.specs.Parts.{IsPushed, HasDone}
-use Rattle.rank_group.specs.Pulls.{PushedOn}
-use Rattle.rank_group.specs.Nodes.{NodeState, AllRead, IsNode}
+use Rattle.rank_group.specs.RowParts.{IsPushed, HasDone}
+use Rattle.rank_group.specs.RowPulls.{PushedOn}
+use Rattle.rank_group.specs.RowNodes.{RowState, AllRead, IsRowNode}
 
 -- after the pushes
 pub pushed_done : {S : Type 0} (R : Rules S) (p : ℕ) (start prog : S) (next next' : ℕ) (spoiled : Bool) (part part' : Part) → PushedOn (R.emissions prog) p next next' part part'
@@ -53,7 +53,7 @@ advanced_done R p start prog next spoiled part part' false false true all step i
 advanced_done R p start prog next spoiled part part' false false false all step is = kept_done R p start prog next spoiled part part' step.is is
 
 -- what pushing leaves of a node
-pub record AfterPush {S : Type 0} (R : Rules S) (n : NodeState S) (c : State) (next : ℕ) (sent got : Logs) : Type 0 where
+pub record AfterPush {S : Type 0} (R : Rules S) (n : RowState S) (c : State) (next : ℕ) (sent got : Logs) : Type 0 where
   pub same : c ≡ record n.conveyor { outs = c.outs; pulled = c.pulled }
   pub agrees : AgreesWith c sent got
   pub on : PushedOn (R.emissions n.prog) (ranks n.conveyor.dims) n.next next (part_of (buffers_of n.conveyor) sent got) (part_of (buffers_of c) sent got)
@@ -79,10 +79,10 @@ pub record AfterPulls {S : Type 0} (R : Rules S) (c c' : State) (prog prog' : S)
   pub absorbed : (start : S) (next : ℕ) → AgreesWith c sent got → HasDone R (ranks c.dims) start prog next spoiled (part_of (buffers_of c) sent got)
       → HasDone R (ranks c.dims) start prog' next spoiled' (part_of (buffers_of c') sent got)
 
-pub turned : {S : Type 0} (R : Rules S) (start : S) (n : NodeState S) (c1 c2 c3 : State) (next : ℕ) (prog : S) (spoiled done complete : Bool) (sent got sent' got' : Logs)
+pub turned : {S : Type 0} (R : Rules S) (start : S) (n : RowState S) (c1 c2 c3 : State) (next : ℕ) (prog : S) (spoiled done complete : Bool) (sent got sent' got' : Logs)
     → AfterPush R n c1 next sent got → done ≡ (next == length (R.emissions n.prog)) → AfterAdvance c1 c2 done complete sent got sent' got'
-    → AfterPulls R c2 c3 n.prog prog n.spoiled spoiled sent' got' → IsNode R start n sent got
-    → IsNode R start (record { prog = prog; conveyor = c3; next = next; spoiled = spoiled }) sent' got'
+    → AfterPulls R c2 c3 n.prog prog n.spoiled spoiled sent' got' → IsRowNode R start n sent got
+    → IsRowNode R start (record { prog = prog; conveyor = c3; next = next; spoiled = spoiled }) sent' got'
 turned R start n c1 c2 c3 next prog spoiled done complete sent got sent' got' push all moved pulls is =
     let p0 = ranks n.conveyor.dims in
     let dims1 : c1.dims ≡ n.conveyor.dims = ap (λ (c : State). c.dims) push.same in
@@ -110,8 +110,8 @@ turned R start n c1 c2 c3 next prog spoiled done complete sent got sent' got' pu
     }
 
 -- a rank that isn't done after its pushes is still working
-pub still_working : {S : Type 0} (R : Rules S) (start : S) (n : NodeState S) (c : State) (next : ℕ) (sent got : Logs)
-    → AfterPush R n c next sent got → IsNode R start n sent got → (next == length (R.emissions n.prog)) ≡ false → c.phase ≡ Working
+pub still_working : {S : Type 0} (R : Rules S) (start : S) (n : RowState S) (c : State) (next : ℕ) (sent got : Logs)
+    → AfterPush R n c next sent got → IsRowNode R start n sent got → (next == length (R.emissions n.prog)) ≡ false → c.phase ≡ Working
 still_working R start n c next sent got push is left =
     ap (λ (t : State). t.phase) push.same ∙ is.working
     (elim (cases_Bool n.conveyor.done) [
@@ -120,8 +120,8 @@ still_working R start n c next sent got push is left =
     ])
 
 -- and one that is done has pushed all
-pub done_stays : {S : Type 0} (R : Rules S) (start : S) (n : NodeState S) (c : State) (next : ℕ) (sent got : Logs)
-    → AfterPush R n c next sent got → IsNode R start n sent got → c.done ≡ true → (next == length (R.emissions n.prog)) ≡ true
+pub done_stays : {S : Type 0} (R : Rules S) (start : S) (n : RowState S) (c : State) (next : ℕ) (sent got : Logs)
+    → AfterPush R n c next sent got → IsRowNode R start n sent got → c.done ≡ true → (next == length (R.emissions n.prog)) ≡ true
 done_stays R start n c next sent got push is d =
     let was : n.conveyor.done ≡ true = sym (ap (λ (t : State). t.done) push.same) ∙ d in
     eq-eqb next (length (R.emissions n.prog)) (omega (arith, push.forward, push.low, is.has_done.all_pushed was, ap length is.has_done.emissions))

@@ -1,4 +1,14 @@
-pub mod Parts
-pub mod Nodes
-pub mod Pulls
+pub mod RowParts
+pub mod RowNodes
+pub mod RowPulls
 pub mod Row
+pub mod Sending
+pub mod Runs
+pub mod Nodes
+pub mod Stuck
+pub mod Next
+pub mod Ranks
+pub mod Worlds
+pub mod Rounds
+pub mod Told
+pub mod Pulls

@@ -6,9 +6,9 @@ ghost use Rattle.convey.specs.Buffers.{buffers_of};
 ghost use Rattle.convey.specs.Conveyors.{AgreesWith, KeepsAgreement};
 ghost use Rattle.convey.specs.Parts.{part_of};
 ghost use Rattle.round_program.specs.Laws.{fits};
-ghost use Rattle.rank_group.specs.Parts.{HasDone};
-ghost use Rattle.rank_group.specs.Nodes.{AllRead};
-ghost use Rattle.rank_group.specs.Pulls.{SameEnds};
+ghost use Rattle.rank_group.specs.RowParts.{HasDone};
+ghost use Rattle.rank_group.specs.RowNodes.{AllRead};
+ghost use Rattle.rank_group.specs.RowPulls.{SameEnds};
 
 use bale_types::Item;
 use convey::{Conveyor, Phase};

@@ -19,14 +19,27 @@
 #![tactic(auto)]
 
 mod absorbing;
+mod closed_round;
+mod ending;
 mod node;
 mod pushing;
 mod row;
+mod row_node;
+mod sending;
+mod sends;
+mod steps;
+mod sweeping;
+mod taking;
 mod turn;
+mod via;
 
+pub use closed_round::{ClosedRound, Rounds};
 pub use node::Node;
 pub use row::{finish, nodes_of, turn_all};
+pub use row_node::RowNode;
+pub use steps::Steps;
 pub use turn::Turn;
+pub use via::Via;
 
 #[cfg(test)]
 mod slot_tests;

@@ -7,7 +7,7 @@ ghost use Rattle.port_bank.specs.Logs.{Logs};
 ghost use Rattle.convey.specs.Buffers.{buffers_of};
 ghost use Rattle.convey.specs.Conveyors.{AgreesWith, KeepsAgreement, standing_toward};
 ghost use Rattle.convey.specs.Parts.{part_of};
-ghost use Rattle.rank_group.specs.Pulls.{PushedOn};
+ghost use Rattle.rank_group.specs.RowPulls.{PushedOn};
 
 use convey::{Conveyor, Phase, Pushed};
 use round_program::Program;

@@ -9,10 +9,10 @@ ghost use Rattle.port_bank.specs.Logs.{starting_at, ending_at};
 ghost use Rattle.port_bank.specs.Plain.{IsBank, sent_of, got_of};
 ghost use Rattle.convey.specs.Buffers.{is_complete};
 ghost use Rattle.round_program.specs.Canonical.{InRound};
-ghost use Rattle.rank_group.specs.Nodes.{NodeState, IsNode};
+ghost use Rattle.rank_group.specs.RowNodes.{RowState, IsRowNode};
 ghost use Rattle.rank_group.specs.Row.{Together, AfterTurn, SweptTo};
 
-use crate::node::Node;
+use crate::row_node::RowNode;
 use bale_types::NoMemory;
 use convey::Phase;
 use port_bank::PlainBank;
@@ -28,7 +28,7 @@ pub fn nodes_of<const CAP: usize, Q: Program>(
     alloc: Global,
     grid: &Grid,
     progs: Progs<Q>,
-) -> Result<Vec<Node<Q, CAP, 1>>, NoMemory>
+) -> Result<Vec<RowNode<Q, CAP, 1>>, NoMemory>
     requires some { 0 < CAP }
     requires small { CAP ≤ 1024 }
     requires one { length grid.now ≡ 1 }
@@ -38,7 +38,7 @@ pub fn nodes_of<const CAP: usize, Q: Program>(
     let mut progs = progs;
     let mut nodes = Vec::new(alloc);
     while let Some(prog) = progs.take_first() {
-        let node = Node::new(alloc, grid, prog, false)?;
+        let node = RowNode::new(alloc, grid, prog, false)?;
         nodes.push(node)?;
     }
     Ok(nodes)
@@ -50,14 +50,14 @@ pub fn nodes_of<const CAP: usize, Q: Program>(
 /// `NoMemory` comes only from the bank. An absorb that found none spoils its node and ends nothing.
 pub fn turn_all<const CAP: usize, Q: Program>(
     bank: PlainBank<CAP>,
-    nodes: &mut Vec<Node<Q, CAP, 1>>,
+    nodes: &mut Vec<RowNode<Q, CAP, 1>>,
 ) -> Result<PlainBank<CAP>, NoMemory>
     requires some { 0 < CAP }
     requires one { length bank.dims ≡ 1 }
     requires slots { 0 < bank.slots }
     requires lawful { IsBank CAP bank }
     requires together { (starts : List Q) × Together Q.rules bank.dims CAP starts nodes.old.items (sent_of bank) (got_of bank) }
-    ensures over { OnOk result ((r : ℕ) (n : NodeState Q) → slice_get nodes.new.items r ≡ Some n → n.conveyor.phase ≡ Phase.Complete) }
+    ensures over { OnOk result ((r : ℕ) (n : RowState Q) → slice_get nodes.new.items r ≡ Some n → n.conveyor.phase ≡ Phase.Complete) }
     ensures lawful { IfOk result (λ b. IsBank CAP b) }
     ensures same_dims { IfOk result (λ b. b.dims ≡ bank.entry.dims) }
     ensures together { (starts : List Q) → Together Q.rules bank.entry.dims CAP starts nodes.old.items (sent_of bank.entry) (got_of bank.entry)
@@ -75,7 +75,7 @@ pub fn turn_all<const CAP: usize, Q: Program>(
 /// Turns each node once, in order.
 fn sweep<const CAP: usize, Q: Program>(
     bank: PlainBank<CAP>,
-    nodes: &mut Vec<Node<Q, CAP, 1>>,
+    nodes: &mut Vec<RowNode<Q, CAP, 1>>,
 ) -> Result<PlainBank<CAP>, NoMemory>
     requires lawful { IsBank CAP bank }
     requires together { (starts : List Q) × Together Q.rules bank.dims CAP starts nodes.old.items (sent_of bank) (got_of bank) }
@@ -95,7 +95,7 @@ fn sweep<const CAP: usize, Q: Program>(
 /// Turns the node of a rank.
 fn turn_one<const CAP: usize, Q: Program>(
     bank: PlainBank<CAP>,
-    nodes: &mut Vec<Node<Q, CAP, 1>>,
+    nodes: &mut Vec<RowNode<Q, CAP, 1>>,
     rank: usize,
 ) -> Result<PlainBank<CAP>, NoMemory>
     requires rank { rank < length nodes.old.items }
@@ -106,7 +106,7 @@ fn turn_one<const CAP: usize, Q: Program>(
     ensures lawful { IfOk result (λ b. IsBank CAP b) }
     ensures same_dims { IfOk result (λ b. b.dims ≡ bank.entry.dims) }
     ensures same_slots { IfOk result (λ b. b.slots ≡ bank.entry.slots) }
-    ensures turned { (n n' : NodeState Q) → slice_get nodes.old.items rank ≡ Some n → slice_get nodes.new.items rank ≡ Some n'
+    ensures turned { (n n' : RowState Q) → slice_get nodes.old.items rank ≡ Some n → slice_get nodes.new.items rank ≡ Some n'
         → IfOk result (λ b. AfterTurn Q.rules bank.entry.dims CAP bank.entry.slots rank n n' (sent_of bank.entry) (got_of bank.entry) (sent_of b) (got_of b)) }
 {
     turn_at(bank, &mut nodes[rank], rank as u32)
@@ -115,13 +115,13 @@ fn turn_one<const CAP: usize, Q: Program>(
 /// Turns a node over its rank's port.
 fn turn_at<const CAP: usize, Q: Program>(
     bank: PlainBank<CAP>,
-    node: &mut Node<Q, CAP, 1>,
+    node: &mut RowNode<Q, CAP, 1>,
     rank: u32,
 ) -> Result<PlainBank<CAP>, NoMemory>
     requires rank { rank < ranks bank.dims }
     requires same_dims { node.old.conveyor.dims ≡ bank.dims }
     requires same_rank { node.old.conveyor.rank ≡ rank }
-    requires node { (start : Q) × IsNode Q.rules start node.old (starting_at bank.dims rank (sent_of bank)) (ending_at bank.dims rank (got_of bank)) }
+    requires node { (start : Q) × IsRowNode Q.rules start node.old (starting_at bank.dims rank (sent_of bank)) (ending_at bank.dims rank (got_of bank)) }
     ensures lawful { IfOk result (λ b. IsBank CAP b) }
     ensures same_dims { IfOk result (λ b. b.dims ≡ bank.entry.dims) }
     ensures same_slots { IfOk result (λ b. b.slots ≡ bank.entry.slots) }
@@ -133,7 +133,7 @@ fn turn_at<const CAP: usize, Q: Program>(
 }
 
 /// Whether the epoch is over for every node.
-fn all_over<const CAP: usize, Q: Program>(nodes: &[Node<Q, CAP, 1>]) -> bool
+fn all_over<const CAP: usize, Q: Program>(nodes: &[RowNode<Q, CAP, 1>]) -> bool
     ensures { result ≡ list_all (λ n. is_complete n.conveyor.phase) nodes.now }
 {
     for node in nodes {
@@ -150,10 +150,10 @@ fn all_over<const CAP: usize, Q: Program>(nodes: &[Node<Q, CAP, 1>]) -> bool
 /// `NoMemory` where an absorb of one of them found none, or the list did.
 pub fn finish<const CAP: usize, Q: Program>(
     alloc: Global,
-    nodes: Vec<Node<Q, CAP, 1>>,
+    nodes: Vec<RowNode<Q, CAP, 1>>,
 ) -> Result<Progs<Q>, NoMemory>
     ensures progs { IfOk result (λ ps. ps ≡ map (λ n. n.prog) nodes.items) }
-    ensures unspoiled { IsOk result → (r : ℕ) (n : NodeState Q) → slice_get nodes.items r ≡ Some n → n.spoiled ≡ false }
+    ensures unspoiled { IsOk result → (r : ℕ) (n : RowState Q) → slice_get nodes.items r ≡ Some n → n.spoiled ≡ false }
 {
     let mut progs = Progs::new(alloc);
     for node in nodes {

@@ -6,7 +6,7 @@ use Rattle.port_bank.specs.Plain.{Bank, IsBank, sent_of, got_of, empty_bank}
 use Rattle.round_program.specs.Canonical.{InRound, absorbed_round}
 use Rattle.round_examples.specs.Counts.{CountState, count_rules}
 use Rattle.round_examples.specs.CountLaws.{count_laws}
-use Rattle.rank_group.specs.Nodes.{NodeState}
+use Rattle.rank_group.specs.RowNodes.{RowState}
 use Rattle.rank_group.specs.Row.{Together}
 use Rattle.rank_group.proofs.Canon.{row_canonical}
 use Rattle.bale_cli.proofs.Rows.{row_refused, row_ranks, none_sent, none_got}
@@ -62,7 +62,7 @@ returns g c =
     let one : b.dims ≡ c.args.ranks ∷ [] = c.in_ok-_bank.ensures.same_dims ∙ (dims ∙ row) in
     record {
       absorbed = if_ok_from (λ ps. ps ≡ absorbed_round count_rules c.args.progs) c.finish.result (λ ps ok.
-          if_ok_is (λ ps. ps ≡ map (λ (n : NodeState CountState). n.prog) c.turn_all.new.nodes.items) c.finish.result ps ok c.finish.ensures.progs
+          if_ok_is (λ ps. ps ≡ map (λ (n : RowState CountState). n.prog) c.turn_all.new.nodes.items) c.finish.result ps ok c.finish.ensures.progs
           ∙ row_canonical count_rules count_laws c.args.ranks c.requires.begins.0 c.requires.begins.1 g.row.CAP b.slots c.args.progs c.turn_all.new.nodes.items b.dims (sent_of b) (got_of b)
           is.grid (ap ranks one ∙ row_ranks c.args.ranks) (ap length one) is.each_link c.requires.begins.2 last c.in_ok-_bank.ensures.over (c.finish.ensures.unspoiled (subst IsOk (sym ok) refl)));
     }

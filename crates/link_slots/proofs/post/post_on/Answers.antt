@@ -61,3 +61,16 @@ returns-clause-end g c =
     end_posted key.slots o1 (out_of (own_logs v3) l) c.args.parcel.now c.make_room.new.end.sent c.make_room.new.end.place k _ _
     (subst (IsOutEnd key.slots o1 c.make_room.new.end.sent c.make_room.new.end.place) more c.make_room.ensures.end)
     (ap (λ (z : OutLog Contents). z.sent) at) (ap (λ (z : OutLog Contents). z.room) at) refl (c.next_place-end.ensures ∙ ap (λ (z : ℕ). (c.make_room.new.end.place + 1) % z) c.requires.slots)
+
+-- with an empty slot at hand nothing was looked for
+pub returns-clause-at_hand : goal.returns-clause-at_hand
+returns-clause-at_hand g c = λ room.
+    let v : Knowing = c.args.place.now.me.0 in let v1 : Knowing = c.make_room.new.place.me.0 in let v2 : Knowing = c.send.new.place.me.0 in let v3 : Knowing = c.ring.new.place.me.0 in let l : ℕ = c.args.link in
+    let speaks = c.requires.seat.speaks in let long = c.requires.long in
+    let e1 = c.make_room.ensures.here in
+    let e2 = then_out v speaks l long v1 v2 _ _ e1 c.send.ensures.posted in
+    let at2 : out_of (own_logs v2) l ≡ sent_more (out_of (own_logs v1) l) c.args.parcel.now = out_after v1 v2 (speaks_after v speaks l long v1 _ e1) l (own_logs v1) _ c.send.ensures.posted (long_after v speaks l long v1 _ e1) in
+    let at3 : out_of (own_logs v3) l ≡ all_offered (out_of (own_logs v2) l) = out_after v2 v3 (speaks_after v speaks l long v2 _ e2) l (own_logs v2) _ c.ring.ensures.rung (long_after v speaks l long v2 _ e2) in
+    let spare = c.requires.end.spare_is in
+    let same = c.make_room.ensures.ready (λ none. absurd (omega arith)) in
+    (refl, ap (λ (z : OutLog Contents). z.looks) (at3 ∙ ap all_offered at2) ∙ ap (λ z. (out_of (own_logs z.me.0) l).looks) same)

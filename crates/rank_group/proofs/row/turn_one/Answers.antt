@@ -2,7 +2,7 @@ use Rattle.std.proofs.Common.{rules, ◌≡◌, length, slice_get, slice_set, So
 use Rattle.std.proofs.lemmas.Option.{slice_get_read}
 use Rattle.list_laws.proofs.Lists.{find, get_once, get_here, get_other}
 use Rattle.port_bank.specs.Plain.{sent_of, got_of}
-use Rattle.rank_group.specs.Nodes.{NodeState}
+use Rattle.rank_group.specs.RowNodes.{RowState}
 use Rattle.rank_group.specs.Row.{AfterTurn}
 use Rattle.rank_group.proofs.row.turn_one.Goals as goal
 
@@ -28,6 +28,6 @@ returns-clause-turned g c = λ n n' was now.
     let at : slice_get nodes r ≡ Some c.index_mut.result.now = slice_get_read nodes (length nodes) r c.index_mut.result.now refl c.requires.rank c.index_mut.ensures.value in
     let same : c.index_mut.result.now ≡ n = get_once nodes r c.index_mut.result.now n at was in
     let same' : c.turn_at.new.node ≡ n' = get_once (slice_set nodes r c.turn_at.new.node) r c.turn_at.new.node n' (get_here nodes r c.turn_at.new.node c.requires.rank) now in
-    subst (λ (m : NodeState g.row.Q.Denot). IfOk c.turn_at.result (λ b. AfterTurn g.Q.Program.rules c.args.bank.dims g.row.CAP c.args.bank.slots r m n' (sent_of c.args.bank) (got_of c.args.bank) (sent_of b) (got_of b))) same
-    (subst (λ (m : NodeState g.row.Q.Denot). IfOk c.turn_at.result (λ b. AfterTurn g.Q.Program.rules c.args.bank.dims g.row.CAP c.args.bank.slots r c.index_mut.result.now m (sent_of c.args.bank) (got_of c.args.bank) (sent_of b) (got_of b))) same'
+    subst (λ (m : RowState g.row.Q.Denot). IfOk c.turn_at.result (λ b. AfterTurn g.Q.Program.rules c.args.bank.dims g.row.CAP c.args.bank.slots r m n' (sent_of c.args.bank) (got_of c.args.bank) (sent_of b) (got_of b))) same
+    (subst (λ (m : RowState g.row.Q.Denot). IfOk c.turn_at.result (λ b. AfterTurn g.Q.Program.rules c.args.bank.dims g.row.CAP c.args.bank.slots r c.index_mut.result.now m (sent_of c.args.bank) (got_of c.args.bank) (sent_of b) (got_of b))) same'
     c.turn_at.ensures.turned)

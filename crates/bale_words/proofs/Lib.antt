@@ -1,0 +1,6 @@
+pub mod Commands
+pub mod Given
+pub mod Parts
+pub mod Ranges
+pub mod Refused
+pub mod Walks

@@ -1,0 +1,90 @@
+-- The command line: which lists of words are accepted, and what they ask for.
+use Rattle.std.specs.Prelude.{ℕ, Bool, true, false, ◌-◌, ◌^◌, List, [], ◌∷◌, ◌++◌, Option, Some, None, codes, if◌then◌else◌}
+use Rattle.std.specs.Option.{option_map, option_and_then}
+use Rattle.bale_words.specs.declared.command.Application.{Application}
+use Rattle.bale_words.specs.declared.command.Application.TheVariants as application
+use Rattle.bale_words.specs.declared.command.Command.{Command}
+use Rattle.bale_words.specs.declared.command.Task.{Task}
+use Rattle.bale_words.specs.declared.command.Task.TheVariants as task
+use Rattle.bale_words.specs.declared.command.Permutations.{Permutations}
+use Rattle.bale_words.specs.declared.command.Permutations.TheVariants.{Lists, Seed}
+use Rattle.bale_words.specs.declared.command.Transport.TheVariants.{Convey}
+use Rattle.bale_words.specs.declared.command.Driving.TheVariants.{Threads}
+use Rattle.bale_words.specs.declared.travel.Travel.{Travel}
+use Rattle.bale_words.specs.Numbers.{number_in, numbers_in}
+use Rattle.bale_words.specs.Options.{Given, given_of, accepted, value_in}
+use Rattle.bale_words.specs.Values.{is_text, or_default, if_given, grid_of, slots_of, buffer_of, steady_of, driving_of, transport_of, generated_of}
+
+-- The application that the first word names.
+unfoldable pub application_of : List ℕ → Option Application
+application_of word =
+    if is_text (codes "histo") word then Some application.Histo else (if is_text (codes "ig") word then Some application.Ig
+    else (if is_text (codes "permute") word then Some application.Permute else (if is_text (codes "transpose") word then Some application.Transpose
+    else (if is_text (codes "topo") word then Some application.Topo else (if is_text (codes "sssp") word then Some application.Sssp
+    else (if is_text (codes "tally") word then Some application.Tally else None))))))
+
+-- The options of every application.
+abbrev pub shared_names : List (List ℕ)
+shared_names = codes "grid" ∷ codes "via" ∷ codes "slots" ∷ codes "steady" ∷ codes "buffer" ∷ codes "drive" ∷ []
+
+-- The options of an application.
+abbrev pub names_of : Application → List (List ℕ)
+names_of application.Permute = shared_names ++ codes "gen" ∷ codes "seed" ∷ codes "rperm" ∷ codes "cperm" ∷ []
+names_of application.Sssp = shared_names ++ codes "gen" ∷ codes "source" ∷ codes "delta" ∷ []
+names_of application.Tally = shared_names
+names_of _ = shared_names ++ codes "gen" ∷ []
+
+-- The permutations: of a seed, which goes with no list; or of lists of numbers joined by commas.
+abbrev pub permutations_of : Option (List ℕ) → Option (List ℕ) → Option (List ℕ) → Option Permutations
+permutations_of (Some seed) None None = option_map (λ s. Seed s) (number_in 0 (2 ^ 64 - 1) seed)
+permutations_of (Some seed) rows cols = None
+permutations_of None rows cols =
+    option_and_then (λ r. option_map (λ c. Lists r c) (if_given (numbers_in 44 0 (2 ^ 32 - 1)) cols)) (if_given (numbers_in 44 0 (2 ^ 32 - 1)) rows)
+
+-- What an application is told: of sssp the source, 1 where it isn't given, and the width of a bucket.
+abbrev pub search_of : Option (List ℕ) → Option (List ℕ) → Option Task
+search_of source delta =
+    option_and_then (λ s. option_map (λ d. task.Sssp s d) (if_given (number_in 1 1000000000000) delta)) (or_default 1 (number_in 0 (2 ^ 32 - 1)) source)
+
+abbrev pub task_in : Application → List Given → Option Task
+task_in application.Histo gs = Some task.Histo
+task_in application.Ig gs = Some task.Ig
+task_in application.Permute gs = option_map (λ p. task.Permute p) (permutations_of (value_in (codes "seed") gs) (value_in (codes "rperm") gs) (value_in (codes "cperm") gs))
+task_in application.Transpose gs = Some task.Transpose
+task_in application.Topo gs = Some task.Topo
+task_in application.Sssp gs = search_of (value_in (codes "source") gs) (value_in (codes "delta") gs)
+task_in application.Tally gs = Some task.Tally
+
+-- How the items travel, and what stands in the place of a text: transport, slots, steady, buffer, drive, generated matrix.
+unfoldable pub travel_of : Application → Option (List ℕ) → Option (List ℕ) → Option (List ℕ) → Option (List ℕ) → Option (List ℕ) → Option (List ℕ) → Option Travel
+travel_of a via slots steady buffer drive gen =
+    option_and_then (λ v. option_and_then (λ s. option_and_then (λ st. option_and_then (λ b. option_and_then (λ d. option_map (λ g.
+    record { transport = v; slots = s; steady = st; buffer = b; driving = d; generated = g })
+    (if_given generated_of gen)) (or_default Threads driving_of drive)) (or_default 64 buffer_of buffer)) (or_default false steady_of steady))
+    (or_default 2 slots_of slots)) (or_default Convey (transport_of a) via)
+
+abbrev pub travel_in : Application → List Given → Option Travel
+travel_in a gs =
+    travel_of a (value_in (codes "via") gs) (value_in (codes "slots") gs) (value_in (codes "steady") gs) (value_in (codes "buffer") gs)
+    (value_in (codes "drive") gs) (value_in (codes "gen") gs)
+
+-- The command of an application and its options.
+abbrev pub command_in : Application → List Given → Option Command
+command_in a gs =
+    option_and_then (λ grid. option_and_then (λ travel. option_map (λ t. record { task = t; grid = grid; travel = travel }) (task_in a gs)) (travel_in a gs))
+    (or_default (4 ∷ []) grid_of (value_in (codes "grid") gs))
+
+-- The options are the application's own, and none is given twice.
+abbrev pub command_by : Application → Option (List Given) → Option Command
+command_by a None = None
+command_by a (Some gs) = if accepted (names_of a) gs then command_in a gs else None
+
+abbrev pub command_with : Option Application → List (List ℕ) → Option Command
+command_with None words = None
+command_with (Some a) words = command_by a (given_of words)
+
+-- The command that the words after the program's name give: the application, and then its options.
+-- The words histo, --grid, 2x2 give histo on the grid 2x2, with two slots and all other defaults; the words histo, --grid, 65 give nothing.
+abbrev pub command_of : List (List ℕ) → Option Command
+command_of [] = None
+command_of (first ∷ words) = command_with (application_of first) words

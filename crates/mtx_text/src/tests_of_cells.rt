@@ -1,0 +1,108 @@
+//! Worked matrices written, made of cells and of seeds, and that calls succeed with ample memory.
+use super::*;
+use bale_types::{MemSink, Out, Triple};
+use std::alloc::Global;
+use std::test::Fail;
+
+/// What is written of a matrix.
+fn written(alloc: Global, m: &Matrix) -> Result<Vec<u8>, Fail> {
+    let mut sink = MemSink::new(alloc, 4_096, 7, &[])?;
+    let mut out = Out::new(&mut sink);
+    write_matrix(m, &mut out)?;
+    out.flush()?;
+    Ok(Vec::from_slice(alloc, sink.taken())?)
+}
+
+#[test]
+fn texts_written(rt: HostRuntime) -> Result<(), Fail> {
+    let rows = [
+        // transpose, permute_by_lists, permute_by_seed: what goes in and what comes out
+        "%%MatrixMarket matrix coordinate integer general\n2 3 2\n1 3 -7\n2 1 4\n",
+        "%%MatrixMarket matrix coordinate integer general\n3 2 2\n1 2 4\n3 1 -7\n",
+        "%%MatrixMarket matrix coordinate integer general\n3 3 1\n2 1 9\n",
+        "%%MatrixMarket matrix coordinate integer general\n3 3 2\n1 3 6\n3 2 5\n",
+        "%%MatrixMarket matrix coordinate integer general\n1 1 1\n1 1 -1000000000000\n",
+        "%%MatrixMarket matrix coordinate pattern general\n3 3 4\n1 1\n1 3\n2 3\n3 3\n",
+        "%%MatrixMarket matrix coordinate pattern general\n0 0 0\n",
+    ];
+    for text in rows {
+        let m = parse_matrix(rt.alloc(), text.as_bytes())?;
+        let again = written(rt.alloc(), &m)?;
+        assert!(rt; again.as_slice() == text.as_bytes(), "{text}");
+    }
+    Ok(())
+}
+
+#[test]
+fn cells_by_hand(rt: HostRuntime) -> Result<(), Fail> {
+    let mut cells = Cells::new(rt.alloc());
+    assert!(rt; cells.at_or_after(0, 0) == None);
+    cells.raise(2, 0, -7)?;
+    cells.raise(0, 1, 3)?;
+    assert!(rt; cells.put(0, 2, 1)? && !cells.put(0, 1, 9)? && cells.put(1, 5, 2)?);
+    cells.raise(0, 1, 4)?;
+    cells.raise(0, 1, 2)?;
+    let wanted = [(0, 1, 4), (0, 2, 1), (1, 5, 2), (2, 0, -7)];
+    for settled in [false, true] {
+        let (mut i, mut j) = (0, 0);
+        for (row, col, v) in wanted {
+            let c = cells.at_or_after(i, j);
+            assert!(rt;
+                c == Some(Triple { i: row, j: col, v }),
+                "{row} {col}, settled {settled}"
+            );
+            (i, j) = (row, col + 1);
+        }
+        assert!(rt;
+            cells.at_or_after(i, j) == None && cells.at_or_after(u32::MAX, u32::MAX) == None
+        );
+        cells.settle();
+    }
+    let list = cells.into_entries();
+    for (e, (i, j, v)) in wanted.iter().enumerate() {
+        assert!(rt;
+            list.as_slice().get(e)
+                == Some(&Triple {
+                    i: *i,
+                    j: *j,
+                    v: *v
+                })
+        );
+    }
+    assert!(rt; list.len() == 4);
+    Ok(())
+}
+
+#[test]
+fn many_cells(rt: HostRuntime) -> Result<(), Fail> {
+    // more than may wait: put settles in between
+    let mut cells = Cells::new(rt.alloc());
+    for k in 0..3_000 {
+        let place = k * 1_237 % 3_000;
+        assert!(rt; cells.put(place / 60, place % 60, k as i64)?);
+        assert!(rt; !cells.put(place / 60, place % 60, 0)?);
+    }
+    assert!(rt; cells.into_entries().len() == 3_000);
+    Ok(())
+}
+
+#[test]
+fn words_of_seed_42(rt: HostRuntime) -> Result<(), Fail> {
+    let mut words = Words::of_seed(42);
+    for wanted in [0xa15c02b7, 0x7b47f409, 0xba1d3330, 0x83d2f293, 0xbfa4784b] {
+        assert!(rt; words.draw() == wanted, "{wanted}");
+    }
+    Ok(())
+}
+
+#[test]
+fn generated_matrices(rt: HostRuntime) -> Result<(), Fail> {
+    let m = gen_matrix(rt.alloc(), 2, 3, 42)?;
+    let text =
+        b"%%MatrixMarket matrix coordinate integer general\n2 2 3\n1 1 825\n2 2 956\n1 2 956\n";
+    assert!(rt; written(rt.alloc(), &m)?.as_slice() == text.as_slice());
+    let one = gen_matrix(rt.alloc(), 1, 1, 42)?;
+    let text = b"%%MatrixMarket matrix coordinate integer general\n1 1 1\n1 1 784\n";
+    assert!(rt; written(rt.alloc(), &one)?.as_slice() == text.as_slice());
+    Ok(())
+}

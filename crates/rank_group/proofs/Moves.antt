@@ -1,0 +1,121 @@
+-- What moves in a run: parcels are posted and collected, and entries taken from inboxes.
+use Rattle.std.proofs.Common.{◌≡◌, ℕ, zero, suc, ◌+◌, ◌*◌, ◌<◌, ◌≤◌, Bool, true, false, cond, List, [], ◌∷◌, length, Some, slice_get, All, refl, sym, ap, subst, ◌∙◌, arith, inl, inr}
+use Rattle.std.proofs.lemmas.Bool.{cases_Bool}
+use Rattle.std.proofs.lemmas.List.Elements.{All-nil, All-cons}
+use Rattle.std.proofs.Math.Nat.{mul-add, mul-le-mul_left}
+use Rattle.bale_types.specs.declared.item.Entry.{Entry}
+use Rattle.item_buffer.specs.Contents.{Shipped}
+use Rattle.list_laws.specs.Sums.{total}
+use Rattle.list_laws.proofs.Sums.{total_le, total_same, total_add, total_const, total_swap}
+use Rattle.list_laws.proofs.Lists.{find, all_head, all_tail}
+use Rattle.route_tensor.specs.Grid.{ranks}
+use Rattle.route_tensor.specs.Link.{links}
+use Rattle.route_tensor.specs.Tag.{IsFair}
+use Rattle.route_tensor.specs.Ends.{hop_at, sender_at}
+use Rattle.port_bank.specs.Logs.{Logs, lasts, segment, starting_at}
+use Rattle.port_bank.specs.Flow.{Begins}
+use Rattle.port_bank.specs.Relay.{HasFairTags}
+use Rattle.port_bank.specs.Shapes.{IsConveyorShape}
+use Rattle.port_bank.proofs.Fronts.{begins_shorter, begins_flat_map}
+use Rattle.port_bank.proofs.Pipeline.{Keeps}
+use Rattle.port_bank.proofs.Routes.{numbered}
+use Rattle.convey.specs.Agreement.{lasts_in}
+use Rattle.convey.specs.Buffers.{out_of}
+use Rattle.convey.specs.Law.{ClosesLaw}
+use Rattle.convey.proofs.OneRank.{starting-own}
+use Rattle.round_program.specs.Rules.{Rules}
+use Rattle.round_program.specs.Laws.{Laws}
+use Rattle.round_program.specs.Canonical.{HasRounds, InRound}
+use Rattle.rank_group.specs.Ranks.{RankState, HasRank}
+use Rattle.rank_group.proofs.Bounded.{all_flat}
+use Rattle.rank_group.proofs.Bounds.{pushed_all, none_past}
+use Rattle.rank_group.proofs.Counted.{by_segments, pushed_in, all_links, log_short}
+use Rattle.rank_group.proofs.Pushed.{items_before}
+use Rattle.rank_group.proofs.Worlds.{Core, core, still_within, over_at_last}
+use Rattle.rank_group.specs.Worlds.{entries_of, World, move_of, moves}
+
+total_times : (n k : ℕ) (f : ℕ → ℕ) → total n (λ e. k * f e) ≡ k * total n f
+total_times zero k f = omega arith
+total_times (suc n) k f = ap (λ t. t + k * f n) (total_times n k f) ∙ sym (mul-add k (total n f) (f n))
+
+all_segment : (P : Shipped → Type 0) (e : ℕ) (log : List Shipped) → All P log → All P (segment e log)
+all_segment P e [] a = subst (All P) (sym (none e)) a where
+  none : (e : ℕ) → segment e [] ≡ []
+  none zero = refl
+  none (suc e) = refl
+all_segment P zero (p ∷ ps) a = by p.last (all_segment P zero ps (all_tail P p ps a)) where
+  by : (b : Bool) → All P (segment zero ps) → All P (p ∷ cond b [] (segment zero ps))
+  by true rest = All-cons P p [] (all_head P p ps a) (All-nil P)
+  by false rest = All-cons P p (segment zero ps) (all_head P p ps a) rest
+all_segment P (suc e) (p ∷ ps) a = by p.last (all_segment P e ps (all_tail P p ps a)) (all_segment P (suc e) ps (all_tail P p ps a)) where
+  by : (b : Bool) → All P (segment e ps) → All P (segment (suc e) ps) → All P (cond b (segment e ps) (segment (suc e) ps))
+  by true x y = x
+  by false x y = y
+
+module _ {S : Type 0} (R : Rules S) (laws : Laws R) (law : ClosesLaw) (dims : List ℕ) (cap slots : ℕ) (steady : Bool) (starts : List S) (h : ℕ → ℕ → S) (rs : List (RankState S)) (sent got : Logs) (w : World R dims cap slots steady starts h rs sent got)
+    (shape : List ℕ) (most n : ℕ) (start : InRound R (ranks dims) 0 shape most starts) (rounds : HasRounds R starts n) where
+  epoch_low : (s : ℕ) (x : RankState S) → slice_get rs s ≡ Some x → x.node.conveyor.epoch < 2 * n
+  epoch_low s x at = elim (cases_Bool x.over) [
+    | inl t ↦ let e = (over_at_last R laws law dims cap slots steady starts h rs sent got w shape most n start rounds s x at t).0 in omega (arith, e)
+    | inr f ↦ still_within R laws law dims cap slots steady starts h rs sent got w shape most n start rounds s x at f
+  ]
+
+  keeps : Keeps dims sent got
+  keeps = record { grid = w.grid; fronts = λ l below. (w.links_keep l below).begins; relays = w.relays }
+
+  fair : (l : ℕ) → l < links dims → All (HasFairTags dims (hop_at dims l)) (sent l)
+  fair l below = let k = numbered dims l w.grid below in (w.relays (sender_at dims l) k.is_link.sender).fair l below refl
+
+  fair_in : (e l : ℕ) → l < links dims → All (λ (x : Entry). IsFair dims (hop_at dims l) x.tag) (entries_of (segment e (sent l)))
+  fair_in e l below = all_flat (λ (x : Entry). IsFair dims (hop_at dims l) x.tag) (λ (p : Shipped). p.entries) (segment e (sent l)) (all_segment (HasFairTags dims (hop_at dims l)) e (sent l) (fair l below))
+
+  -- a link ends at most two epochs a round
+  lasts_few : (l : ℕ) → l < links dims → lasts (sent l) ≤ 2 * n
+  lasts_few l below =
+      let k = numbered dims l w.grid below in
+      let s : ℕ = sender_at dims l in
+      let from : s < ranks dims = k.is_link.sender in
+      let x : (x : RankState S) × (slice_get rs s ≡ Some x) = find rs s (omega (arith, from, w.all)) in
+      let has : HasRank R dims cap steady s (h s) x.0 sent got = w.each s x.0 x.1 in
+      let i : Core R dims s (h s) x.0 sent got = core R dims cap steady s (h s) x.0 sent got has in
+      let out = i.is.moving.agrees.outs l (subst (λ ds. l < links ds) (sym has.same_dims) below) (ap (λ ds. sender_at ds l) has.same_dims ∙ sym has.same_rank) in
+      let own : starting_at dims s sent l ≡ sent l = starting-own dims s sent l refl in
+      let few : lasts_in x.0.node.conveyor.epoch (out_of x.0.node.conveyor l).closed ≤ x.0.node.conveyor.epoch + 1 = one_more x.0.node.conveyor.epoch (out_of x.0.node.conveyor l).closed in
+      let low = epoch_low s x.0 x.1 in
+      omega (arith, ap lasts own, out.lasts, few, low) where
+        one_more : (e : ℕ) (b : Bool) → lasts_in e b ≤ e + 1
+        one_more e true = omega arith
+        one_more e false = omega arith
+
+  -- the entries that were sent
+  sent_all : total (links dims) (λ l. length (entries_of (sent l))) ≤ length dims * items_before R (ranks dims) starts n
+  sent_all =
+      let E : ℕ = suc (2 * n) in
+      let a = total_same (links dims) (λ l. length (entries_of (sent l))) (λ l. total E (λ e. length (entries_of (segment e (sent l))))) (λ l below. by_segments E (sent l) (let few = lasts_few l below in omega (arith, few))) in
+      let b = total_swap (links dims) E (λ l e. length (entries_of (segment e (sent l)))) in
+      let c = total_le E (λ e. total (links dims) (λ l. length (entries_of (segment e (sent l))))) (λ e. length dims * pushed_in dims sent e) (λ e low. all_links dims sent got keeps fair e (fair_in e)) in
+      let d = total_times E (length dims) (pushed_in dims sent) in
+      let p = pushed_all R laws law dims cap slots steady starts h rs sent got w shape most n start rounds in
+      let q = none_past R laws law dims cap slots steady starts h rs sent got w shape most n start rounds in
+      let r : total E (pushed_in dims sent) ≤ items_before R (ranks dims) starts n = omega (arith, p, q) in
+      let t = mul-le-mul_left (length dims) r in
+      omega (arith, a, b, c, d, t)
+
+  -- all moves
+  pub moves_few : moves dims rs sent got ≤ 3 * (length dims * items_before R (ranks dims) starts n) + links dims * (4 * n)
+  moves_few =
+      let a = total_le (links dims) (move_of dims rs sent got) (λ l. 3 * length (entries_of (sent l)) + 4 * n) one in
+      let b = total_add (links dims) (λ l. 3 * length (entries_of (sent l))) (λ l. 4 * n) in
+      let c = total_times (links dims) 3 (λ l. length (entries_of (sent l))) in
+      let d = total_const (links dims) (4 * n) in
+      omega (arith, a, b, c, d, sent_all) where
+        one : (l : ℕ) → l < links dims → move_of dims rs sent got l ≤ 3 * length (entries_of (sent l)) + 4 * n
+        one l below =
+            let front : Begins (got l) (sent l) = (w.links_keep l below).begins in
+            let g = begins_shorter (got l) (sent l) front in
+            let e = begins_shorter (entries_of (got l)) (entries_of (sent l)) (begins_flat_map (λ (p : Shipped). p.entries) (got l) (sent l) front) in
+            let k = numbered dims l w.grid below in
+            let x : (x : RankState S) × (slice_get rs (sender_at dims l) ≡ Some x) = find rs (sender_at dims l) (let from = k.is_link.sender in omega (arith, from, w.all)) in
+            let s = log_short steady cap (sent l) w.some (subst (IsConveyorShape steady cap) (starting-own dims (sender_at dims l) sent l refl) ((w.each (sender_at dims l) x.0 x.1).shape l)) in
+            let f = lasts_few l below in
+            omega (arith, g, e, s, f)

@@ -1,0 +1,215 @@
+-- A sweep in which nothing moved ends the least epoch.
+use Rattle.std.proofs.Common.{◌^◌, ◌≡◌, ℕ, ◌+◌, ◌*◌, ◌<◌, ◌≤◌, ◌==◌, ◌&&◌, not, Bool, true, false, cond, List, [], length, Some, slice_get, refl, sym, ap, subst, ◌∙◌, arith, inl, inr, eqb-true}
+use Rattle.std.proofs.lemmas.Bool.{cases_Bool, cases_eq, cases_lt, true≢false}
+use Rattle.bale_types.specs.declared.item.Entry.{Entry}
+use Rattle.list_laws.proofs.Lists.{find, within, get_once}
+use Rattle.route_tensor.specs.Grid.{ranks}
+use Rattle.route_tensor.specs.Link.{links}
+use Rattle.route_tensor.specs.Ends.{hop_at, sender_at, reader_at}
+use Rattle.port_bank.specs.Logs.{Logs, starting_at, ending_at}
+use Rattle.hop_core.specs.declared.phase.Phase.TheVariants.{Complete}
+use Rattle.hop_core.specs.Link.{In, is_wanted}
+use Rattle.hop_core.specs.State.{State}
+use Rattle.convey.specs.Buffers.{in_of, is_complete}
+use Rattle.convey.specs.Conveyors.{AgreesWith}
+use Rattle.convey.specs.Due.{IsOver, NextIs, next_link}
+use Rattle.convey.specs.Law.{ClosesLaw}
+use Rattle.convey.specs.Rest.{IsBusy, IsAtRest, IsRestingSweep, RestLaw}
+use Rattle.convey.proofs.OneRank.{starting-own, ending-own}
+use Rattle.round_program.specs.Rules.{Rules}
+use Rattle.round_program.specs.Laws.{Laws}
+use Rattle.round_program.specs.Canonical.{HasRounds, InRound}
+use Rattle.rank_group.specs.Nodes.{IsMoving}
+use Rattle.rank_group.specs.Ranks.{RankState, progress, crowded_in}
+use Rattle.rank_group.proofs.Onward.{done_of_complete}
+use Rattle.rank_group.proofs.Worlds.{Core, core, still_within, over_at_last}
+use Rattle.rank_group.specs.Worlds.{nowhere, World, Rests, Plan}
+
+-- a crowded link has parcels on their way
+busy : (dims : List ℕ) (slots r : ℕ) (sent got : Logs) (l : ℕ) → 0 < slots → sender_at dims l ≡ r → crowded_in dims slots r sent got l ≡ true → IsBusy sent got l
+busy dims slots r sent got l some from full =
+    let e : length (starting_at dims r sent l) ≡ length (got l) + slots = eqb-true (length (starting_at dims r sent l)) (length (got l) + slots) full in
+    let own = ap length (starting-own dims r sent l from) in
+    omega (arith, e, own, some)
+
+-- a rank that its turn left in its epoch is at rest
+pub at_rest : (dims : List ℕ) (slots r : ℕ) (c' : State) (sent got : Logs) → 0 < slots → (x : Rests dims slots r c' sent got) → IsAtRest dims r x.left.stuck.before x.left.stuck.after sent got
+at_rest dims slots r c' sent got some x =
+    let s = x.left.stuck in
+    let d : x.c.dims ≡ dims = x.same_dims in
+    let q : x.c.rank ≡ r = x.same_rank in
+    let below : (l : ℕ) → l < links dims → l < links x.c.dims = λ l b. subst (λ ds. l < links ds) (sym d) b in
+    let reader : (l : ℕ) → reader_at dims l ≡ r → reader_at x.c.dims l ≡ x.c.rank = λ l e. subst (λ ds. reader_at ds l ≡ x.c.rank) (sym d) (e ∙ sym q) in
+    let sender : (l : ℕ) → sender_at dims l ≡ r → sender_at x.c.dims l ≡ x.c.rank = λ l e. subst (λ ds. sender_at ds l ≡ x.c.rank) (sym d) (e ∙ sym q) in
+    record {
+      same_dims = s.dims_after;
+      same_rank = s.rank_after;
+      same_epoch = s.epoch_after;
+      agrees = s.agrees_before;
+      pushed = elim s.pushed [
+        | inl done ↦ inl done
+        | inr c ↦ inr (let from : sender_at dims c.link ≡ r = subst (λ ds. sender_at ds c.link ≡ r) d (c.sender ∙ q) in
+            record { link = c.link; below = subst (λ ds. c.link < links ds) d c.below; sender = from; busy = busy dims slots r sent got c.link some from c.crowded })
+      ];
+      read = λ l b e o. s.read l (below l b) (reader l e) (subst (λ ds. hop_at ds l ≡ length ds) (sym d) o);
+      lies = λ l b e. s.lies l (below l b) (reader l e);
+      kept = λ l b e o. omega (arith, ap length (s.ins_before l), x.kept l b e, s.ins_after l);
+      idle = λ l b e wants.
+          let i : length (ending_at dims r got l) ≡ length (sent l) = eqb-true (length (ending_at dims r got l)) (length (sent l)) (s.idle l (below l b) (reader l e) wants) in
+          let own = ap length (ending-own dims r got l e) in
+          omega (arith, i, own);
+      stopped = λ l y b e o first.
+          let next = s.stopped l y (below l b) (reader l e) (subst (λ ds. hop_at ds l < length ds) (sym d) o) first in
+          let here : NextIs dims r l y.tag (λ m. crowded_in dims slots r sent got m ≡ true) =
+          subst (λ ds. NextIs ds r l y.tag (λ m. crowded_in dims slots r sent got m ≡ true)) d (subst (λ k. NextIs x.c.dims k l y.tag (λ m. crowded_in dims slots r sent got m ≡ true)) q next) in
+          record { below = here.below; sender = here.sender; hop = here.hop; holds = busy dims slots r sent got (next_link dims r (hop_at dims l) y.tag) some here.sender here.holds };
+      closing = λ l b e hop arrived still. busy dims slots r sent got l some e (s.closing l (below l b) (sender l e) (λ o. hop (subst (λ ds. hop_at ds l ≡ 1) d o)) arrived still);
+    }
+
+-- so is one whose epoch is over
+pub complete_rests : (dims : List ℕ) (r : ℕ) (c : State) (sent got : Logs) → c.dims ≡ dims → c.rank ≡ r → c.phase ≡ Complete → IsMoving c (starting_at dims r sent) (ending_at dims r got) → IsAtRest dims r c c sent got
+complete_rests dims r c sent got d q over is =
+    let full : is_complete c.phase ≡ true = ap is_complete over in
+    let below : (l : ℕ) → l < links dims → l < links c.dims = λ l b. subst (λ ds. l < links ds) (sym d) b in
+    let reader : (l : ℕ) → reader_at dims l ≡ r → reader_at c.dims l ≡ c.rank = λ l e. subst (λ ds. reader_at ds l ≡ c.rank) (sym d) (e ∙ sym q) in
+    let sender : (l : ℕ) → sender_at dims l ≡ r → sender_at c.dims l ≡ c.rank = λ l e. subst (λ ds. sender_at ds l ≡ c.rank) (sym d) (e ∙ sym q) in
+    record {
+      same_dims = refl;
+      same_rank = refl;
+      same_epoch = refl;
+      agrees = is.agrees;
+      pushed = inl (done_of_complete c _ _ is over);
+      read = λ l b e o. is.sound.all_read full l (below l b) (reader l e);
+      lies = λ l b e. record { front = []; is = refl };
+      kept = λ l b e o. omega arith;
+      idle = λ l b e wants. absurd (ended_wants (in_of c l) (is.sound.all_ended full l (below l b) (reader l e)) wants);
+      stopped = λ l y b e o first. absurd (no_first y (in_of c l).parcel.untaken (is.sound.all_read full l (below l b) (reader l e)) first);
+      closing = λ l b e hop arrived still. absurd (true≢false (sym (is.sound.all_closed full l (below l b) (sender l e)) ∙ still));
+    } where
+      and_false : (b : Bool) → (b && false) ≡ false
+      and_false true = refl
+      and_false false = refl
+
+      ended_wants : (x : In) → x.ended ≡ true → is_wanted x ≡ true → ⊥
+      ended_wants x e w = true≢false (sym w ∙ (ap (λ b. (length x.parcel.untaken == 0) && not b) e ∙ and_false (length x.parcel.untaken == 0)))
+
+      no_first : (y : Entry) (xs : List Entry) → xs ≡ [] → slice_get xs 0 ≡ Some y → ⊥
+      no_first y xs none first = let b = within xs 0 y first in omega (arith, b, ap length none)
+
+module _ {S : Type 0} (R : Rules S) (laws : Laws R) (law : ClosesLaw) (rest : RestLaw) (dims : List ℕ) (cap slots : ℕ) (steady : Bool) (starts : List S) (h : ℕ → ℕ → S) (rs : List (RankState S)) (sent got : Logs) (w : World R dims cap slots steady starts h rs sent got)
+    (shape : List ℕ) (most n : ℕ) (start : InRound R (ranks dims) 0 shape most starts) (rounds : HasRounds R starts n) (some : 0 < slots) (e : ℕ) (before : e < 2 * n)
+    (least : (r : ℕ) (x : RankState S) → slice_get rs r ≡ Some x → e ≤ progress x)
+    (rested : (r : ℕ) (x : RankState S) → slice_get rs r ≡ Some x → x.over ≡ false → progress x ≡ e → Rests dims slots r x.node.conveyor sent got) where
+  -- what is known of the conveyor of rank r, just before its latest advance and just after it
+  record Two (r : ℕ) (old new : State) : Type 0 where
+    same_dims : new.dims ≡ dims
+    same_rank : new.rank ≡ r
+    agrees : AgreesWith new (starting_at dims r sent) (ending_at dims r got)
+    late : e ≤ new.epoch
+    turn : new.epoch ≡ e → IsAtRest dims r old new sent got
+    left : (x : RankState S) → slice_get rs r ≡ Some x → x.over ≡ false → progress x ≡ e → (new.epoch ≡ e) × (IsOver new → ⊥)
+
+  two : (r : ℕ) → r < ranks dims → (old : State) × (new : State) × Two r old new
+  two r low = by x.0 x.1 x.0.over refl where
+    x : (x : RankState S) × (slice_get rs r ≡ Some x)
+    x = find rs r (omega (arith, low, w.all))
+
+    by : (x : RankState S) → slice_get rs r ≡ Some x → (b : Bool) → x.over ≡ b → (old : State) × (new : State) × Two r old new
+    by x at true over =
+        let has = w.each r x at in
+        let i : Core R dims r (h r) x sent got = core R dims cap steady r (h r) x sent got has in
+        let last = (over_at_last R laws law dims cap slots steady starts h rs sent got w shape most n start rounds r x at over).0 in
+        let c = x.node.conveyor in (
+          c,
+          c,
+          record {
+            same_dims = has.same_dims;
+            same_rank = has.same_rank;
+            agrees = i.is.moving.agrees;
+            late = omega (arith, last, before);
+            turn = λ _. complete_rests dims r c sent got has.same_dims has.same_rank (has.stopped over).complete i.is.moving;
+            left = λ y from on. absurd (true≢false (sym over ∙ (ap (λ (z : RankState S). z.over) (get_once rs r x y at from) ∙ on)));
+          },
+        )
+    by x at false on =
+        let has = w.each r x at in
+        let i = has.runs on in
+        let c = x.node.conveyor in
+        let p : progress x ≡ c.epoch = ap (λ b. cond b (c.epoch + 1) c.epoch) on in
+        let low' = least r x at in
+        elim (cases_eq (progress x) e) [
+          | inl here ↦
+              let q : Rests dims slots r c sent got = rested r x at on here in
+              let s = q.left.stuck in
+              let at_e : s.after.epoch ≡ e = s.epoch_after ∙ (s.epoch_before ∙ (q.same_epoch ∙ (sym p ∙ here))) in (
+                s.before,
+                s.after,
+                record {
+                  same_dims = s.dims_after ∙ (s.dims_before ∙ q.same_dims);
+                  same_rank = s.rank_after ∙ (s.rank_before ∙ q.same_rank);
+                  agrees = s.agrees_after;
+                  late = omega (arith, at_e);
+                  turn = λ _. at_rest dims slots r c sent got some q;
+                  left = λ y from o k. (at_e, λ over. q.left.going (s.over over));
+                },
+              )
+          | inr apart ↦ (
+            c,
+            c,
+            record {
+              same_dims = has.same_dims;
+              same_rank = has.same_rank;
+              agrees = i.moving.agrees;
+              late = omega (arith, p, low');
+              turn = λ same. absurd (apart (p ∙ same));
+              left = λ y from o k. absurd (apart (ap (λ (z : RankState S). progress z) (get_once rs r x y at from) ∙ k));
+            },
+          )
+        ]
+
+  -- with a state for every number
+  all_two : (r : ℕ) → (old : State) × (new : State) × (r < ranks dims → Two r old new)
+  all_two r = elim (cases_lt r (ranks dims)) [
+    | inl low ↦ let t = two r low in (t.0, t.1, λ _. t.2)
+    | inr past ↦ (nowhere, nowhere, λ low. absurd (omega (arith, low, past)))
+  ]
+
+  sweep : IsRestingSweep dims cap slots e (λ r. (all_two r).0) (λ r. (all_two r).1) sent got
+  sweep =
+      record {
+        grid = w.grid;
+        links_keep = w.links_keep;
+        same_dims = λ r low. ((all_two r).2 low).same_dims;
+        same_rank = λ r low. ((all_two r).2 low).same_rank;
+        agrees = λ r low. ((all_two r).2 low).agrees;
+        least = λ r low. ((all_two r).2 low).late;
+        turns = λ r low same. ((all_two r).2 low).turn same;
+      }
+
+  -- every rank is past the least epoch
+  pub all_past : (r : ℕ) (x : RankState S) → slice_get rs r ≡ Some x → e + 1 ≤ progress x
+  all_past r x at =
+      let low : r < ranks dims = omega (arith, within rs r x at, w.all) in
+      let least' = least r x at in
+      elim (cases_eq (progress x) e) [
+        | inl here ↦ by x.over refl here
+        | inr apart ↦ omega (arith, least', apart)
+      ] where
+        by : (b : Bool) → x.over ≡ b → progress x ≡ e → e + 1 ≤ progress x
+        by true over here =
+            let last = (over_at_last R laws law dims cap slots steady starts h rs sent got w shape most n start rounds r x at over).0 in
+            let p : progress x ≡ x.node.conveyor.epoch + 1 = ap (λ b. cond b (x.node.conveyor.epoch + 1) x.node.conveyor.epoch) over in
+            omega (arith, last, p, before)
+        by false on here =
+            let low : r < ranks dims = omega (arith, within rs r x at, w.all) in
+            let t = ((all_two r).2 low).left x at on here in
+            absurd (t.1 (rest dims cap slots e (λ k. (all_two k).0) (λ k. (all_two k).1) sent got sweep r low t.0))
+
+-- the epochs of a run are few
+pub epoch_few : {S : Type 0} (R : Rules S) → Laws R → ClosesLaw → (dims : List ℕ) (cap slots : ℕ) (steady : Bool) (starts : List S) (h : ℕ → ℕ → S) (rs : List (RankState S)) (sent got : Logs) → World R dims cap slots steady starts h rs sent got
+    → (n : ℕ) → Plan R dims slots starts n → (r : ℕ) (x : RankState S) → slice_get rs r ≡ Some x → x.node.conveyor.epoch < 2 ^ 63
+epoch_few R laws law dims cap slots steady starts h rs sent got w n p r x at =
+    elim (cases_Bool x.over) [
+      | inl t ↦ let e = (over_at_last R laws law dims cap slots steady starts h rs sent got w p.shape p.most n p.start p.rounds r x at t).0 in omega (arith, e, p.few)
+      | inr f ↦ let e = still_within R laws law dims cap slots steady starts h rs sent got w p.shape p.most n p.start p.rounds r x at f in omega (arith, e, p.few)
+    ]

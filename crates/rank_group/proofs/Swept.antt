@@ -1,0 +1,160 @@
+-- One more rank is turned in a sweep.
+use Rattle.std.proofs.Common.{◌≡◌, ◌≢◌, ℕ, ◌+◌, ◌<◌, ◌≤◌, ◌==◌, Bool, true, false, cond, List, [], ◌∷◌, ◌++◌, length, length-append, Some, slice_get, sym, ap, subst, ◌∙◌, arith, inl, inr}
+use Rattle.std.proofs.lemmas.Bool.{cases_eq, cases_lt, eq-eqb, ne_eqb}
+use Rattle.std.proofs.lemmas.List.{append-nil}
+use Rattle.item_buffer.specs.Contents.{Shipped}
+use Rattle.list_laws.proofs.Sums.{total_le, total_lt}
+use Rattle.list_laws.proofs.Lists.{get_once}
+use Rattle.route_tensor.specs.Link.{links}
+use Rattle.route_tensor.specs.Ends.{sender_at, reader_at}
+use Rattle.port_bank.specs.Logs.{Logs, starting_at, ending_at}
+use Rattle.port_bank.specs.Flow.{Begins}
+use Rattle.port_bank.specs.Shapes.{IsConveyorShape}
+use Rattle.port_bank.proofs.Owners.{sent_elsewhere, got_elsewhere}
+use Rattle.hop_core.specs.State.{State}
+use Rattle.convey.specs.Buffers.{in_of}
+use Rattle.convey.proofs.OneRank.{ending-own}
+use Rattle.round_program.specs.Rules.{Rules}
+use Rattle.rank_group.specs.Nodes.{IsNode}
+use Rattle.rank_group.specs.Next.{HasStopped}
+use Rattle.rank_group.specs.Ranks.{RankState, HasRank, AfterRank, IsLeft, progress, crowded_in, idle_in}
+use Rattle.rank_group.proofs.Sweeps.{begins_length, begins_whole}
+use Rattle.rank_group.specs.Worlds.{entries_of, conveyor_in, inbox, World, move_of, moves, Lawful, Rests}
+
+-- where a rank's own logs grow and the others stay, all grow
+grown : (own : ℕ → Bool) (old new : Logs) → ((l : ℕ) → Begins (cond (own l) (old l) []) (cond (own l) (new l) [])) → ((l : ℕ) → cond (own l) [] (new l) ≡ cond (own l) [] (old l)) → (l : ℕ) → Begins (old l) (new l)
+grown own old new grows same l = pick (own l) (grows l) (same l) where
+  pick : (b : Bool) → Begins (cond b (old l) []) (cond b (new l) []) → cond b [] (new l) ≡ cond b [] (old l) → Begins (old l) (new l)
+  pick true g s = g
+  pick false g s = record { rest = []; is = s ∙ sym (append-nil (old l)) }
+
+-- a rank of which nothing changed
+other_rank : {S : Type 0} (R : Rules S) (dims : List ℕ) (cap : ℕ) (steady : Bool) (r : ℕ) (h : ℕ → S) (n : RankState S) (sent got sent' got' : Logs) → starting_at dims r sent' ≡ starting_at dims r sent → ending_at dims r got' ≡ ending_at dims r got
+    → HasRank R dims cap steady r h n sent got → HasRank R dims cap steady r h n sent' got'
+other_rank R dims cap steady r h n sent got sent' got' es eg is =
+    record {
+      same_dims = is.same_dims;
+      same_rank = is.same_rank;
+      same_steady = is.same_steady;
+      runs = λ o. subst (λ f. IsNode R h n.node f (ending_at dims r got')) (sym es) (subst (IsNode R h n.node (starting_at dims r sent)) (sym eg) (is.runs o));
+      stopped = λ o. subst (λ f. HasStopped R h n.node f (ending_at dims r got')) (sym es) (subst (HasStopped R h n.node (starting_at dims r sent)) (sym eg) (is.stopped o));
+      shape = λ l. subst (λ (f : Logs). IsConveyorShape steady cap (f l)) (sym es) (is.shape l);
+    }
+
+module _ {S : Type 0} (R : Rules S) (dims : List ℕ) (cap slots : ℕ) (steady : Bool) (starts : List S) (h : ℕ → ℕ → S) (r : ℕ) (n n' : RankState S) (rs rs' : List (RankState S)) (sent got sent' got' : Logs)
+    (w : World R dims cap slots steady starts h rs sent got) (at : slice_get rs r ≡ Some n) (at' : slice_get rs' r ≡ Some n') (others : (k : ℕ) → k ≢ r → slice_get rs' k ≡ slice_get rs k) (size : length rs' ≡ length rs)
+    (t : AfterRank R dims cap slots r n n' sent got sent' got') (law : Lawful dims cap slots sent' got') where
+  sent_grows : (l : ℕ) → Begins (sent l) (sent' l)
+  sent_grows = grown (λ l. sender_at dims l == r) sent sent' t.sent_grows (λ l. ap (λ (f : Logs). f l) t.sent_elsewhere)
+
+  got_grows : (l : ℕ) → Begins (got l) (got' l)
+  got_grows = grown (λ l. reader_at dims l == r) got got' t.got_grows (λ l. ap (λ (f : Logs). f l) t.got_elsewhere)
+
+  entries_more : (l : ℕ) → length (entries_of (got' l)) ≡ length (entries_of (got l)) + length (entries_of (got_grows l).rest)
+  entries_more l = ap (λ g. length (entries_of g)) (got_grows l).is ∙ by (got l) (got_grows l).rest where
+    by : (xs ys : List Shipped) → length (entries_of (xs ++ ys)) ≡ length (entries_of xs) + length (entries_of ys)
+    by [] ys = omega arith
+    by (x ∷ xs) ys = omega (arith, length-append x.entries (entries_of (xs ++ ys)), length-append x.entries (entries_of xs), by xs ys)
+
+  -- an inbox has at most what it had and what came
+  inbox_step : (l : ℕ) → l < links dims → inbox dims rs' l + length (entries_of (got l)) ≤ inbox dims rs l + length (entries_of (got' l))
+  inbox_step l below = elim (cases_eq (reader_at dims l) r) [
+    | inl here ↦
+        let was : inbox dims rs l ≡ length (in_of n.node.conveyor l).parcel.untaken = ap (λ k. length (in_of (conveyor_in (slice_get rs k)) l).parcel.untaken) here ∙ ap (λ o. length (in_of (conveyor_in o) l).parcel.untaken) at in
+        let now : inbox dims rs' l ≡ length (in_of n'.node.conveyor l).parcel.untaken = ap (λ k. length (in_of (conveyor_in (slice_get rs' k)) l).parcel.untaken) here ∙ ap (λ o. length (in_of (conveyor_in o) l).parcel.untaken) at' in
+        let own : ending_at dims r got' l ≡ ending_at dims r got l ++ (got_grows l).rest = ending-own dims r got' l here ∙ ((got_grows l).is ∙ ap (λ g. g ++ (got_grows l).rest) (sym (ending-own dims r got l here))) in
+        let less = t.lies l (got_grows l).rest below here own in
+        omega (arith, was, now, less, entries_more l)
+    | inr apart ↦
+        let same : inbox dims rs' l ≡ inbox dims rs l = ap (λ o. length (in_of (conveyor_in o) l).parcel.untaken) (others (reader_at dims l) apart) in
+        omega (arith, same, entries_more l)
+  ]
+
+  step : (l : ℕ) → l < links dims → move_of dims rs sent got l ≤ move_of dims rs' sent' got' l
+  step l below = omega (arith, inbox_step l below, w.inboxes l below, begins_length (sent l) (sent' l) (sent_grows l), begins_length (got l) (got' l) (got_grows l))
+
+  pub moves_on : moves dims rs sent got ≤ moves dims rs' sent' got'
+  moves_on = total_le (links dims) (move_of dims rs sent got) (move_of dims rs' sent' got') step
+
+  level : moves dims rs' sent' got' ≤ moves dims rs sent got → (l : ℕ) → l < links dims → move_of dims rs' sent' got' l ≤ move_of dims rs sent got l
+  level light l below = elim (cases_lt (move_of dims rs sent got l) (move_of dims rs' sent' got' l)) [
+    | inl less ↦ absurd (omega (arith, light, total_lt (links dims) (move_of dims rs sent got) (move_of dims rs' sent' got') l below less step))
+    | inr more ↦ omega (arith, more)
+  ]
+
+  -- where nothing moved the lists are as before
+  pub sent_same : moves dims rs' sent' got' ≤ moves dims rs sent got → sent' ≡ sent
+  sent_same light = λ i l. one l i where
+    one : (l : ℕ) → sent' l ≡ sent l
+    one l = elim (cases_lt l (links dims)) [
+      | inl below ↦ begins_whole (sent l) (sent' l) (sent_grows l) (omega (arith, level light l below, inbox_step l below, w.inboxes l below, begins_length (got l) (got' l) (got_grows l)))
+      | inr past ↦ (law.none_past l (omega (arith, past))).0 ∙ sym (w.none_past l (omega (arith, past))).0
+    ]
+
+  pub got_same : moves dims rs' sent' got' ≤ moves dims rs sent got → got' ≡ got
+  got_same light = λ i l. one l i where
+    one : (l : ℕ) → got' l ≡ got l
+    one l = elim (cases_lt l (links dims)) [
+      | inl below ↦ begins_whole (got l) (got' l) (got_grows l) (omega (arith, level light l below, inbox_step l below, w.inboxes l below, begins_length (sent l) (sent' l) (sent_grows l)))
+      | inr past ↦ (law.none_past l (omega (arith, past))).1 ∙ sym (w.none_past l (omega (arith, past))).1
+    ]
+
+  -- and no inbox shrank
+  inbox_same : moves dims rs' sent' got' ≤ moves dims rs sent got → (l : ℕ) → l < links dims → inbox dims rs l ≤ inbox dims rs' l
+  inbox_same light l below =
+      let e = ap (λ (g : Logs). length (entries_of (g l))) (got_same light) in
+      omega (arith, level light l below, w.inboxes l below, e, inbox_step l below, begins_length (sent l) (sent' l) (sent_grows l), begins_length (got l) (got' l) (got_grows l))
+
+  -- all ranks after the turn
+  pub world_on : (g : ℕ → ℕ → S) × World R dims cap slots steady starts g rs' sent' got'
+  world_on =
+      let kept = t.kept steady (h r) (w.each r n at) in
+      let g : ℕ → ℕ → S = λ k. cond (k == r) kept.0 (h k) in (
+        g,
+        record {
+          grid = w.grid;
+          links_keep = law.links_keep;
+          none_past = law.none_past;
+          relays = law.relays;
+          some = w.some;
+          inboxes = λ l below. omega (arith, inbox_step l below, w.inboxes l below);
+          all = size ∙ w.all;
+          each = λ k x now. elim (cases_eq k r) [
+            | inl here ↦
+                let e : n' ≡ x = get_once rs' r n' x at' (subst (λ q. slice_get rs' q ≡ Some x) here now) in
+                subst (λ f. HasRank R dims cap steady k f x sent' got') (sym (ap (λ b. cond b kept.0 (h k)) (eq-eqb k r here)))
+                (subst (λ q. HasRank R dims cap steady q kept.0 x sent' got') (sym here) (subst (λ y. HasRank R dims cap steady r kept.0 y sent' got') e kept.2))
+            | inr apart ↦
+                subst (λ f. HasRank R dims cap steady k f x sent' got') (sym (ap (λ b. cond b kept.0 (h k)) (ne_eqb k r apart)))
+                (other_rank R dims cap steady k (h k) x sent got sent' got' (sent_elsewhere dims r k sent sent' apart t.sent_elsewhere) (got_elsewhere dims r k got got' apart t.got_elsewhere) (w.each k x (sym (others k apart) ∙ now)))
+          ];
+          begins = λ k s from. elim (cases_eq k r) [
+            | inl here ↦ ap (λ b. cond b kept.0 (h k) 0) (eq-eqb k r here) ∙ (kept.1 ∙ (ap (λ q. h q 0) (sym here) ∙ w.begins k s from))
+            | inr apart ↦ ap (λ b. cond b kept.0 (h k) 0) (ne_eqb k r apart) ∙ w.begins k s from
+          ];
+        },
+      )
+
+  -- the rank that was turned, where it stayed in its epoch and nothing moved
+  pub rests_here : moves dims rs' sent' got' ≤ moves dims rs sent got → n'.over ≡ false → progress n' ≡ progress n → Rests dims slots r n'.node.conveyor sent' got'
+  rests_here light on same =
+      let has = w.each r n at in
+      let es = sent_same light in
+      let eg = got_same light in
+      let left = t.left steady (h r) has on same (λ l. ap (λ (f : Logs). starting_at dims r f l) es) (λ l. ap (λ (f : Logs). ending_at dims r f l) eg) in
+      record {
+        c = n.node.conveyor;
+        same_dims = has.same_dims;
+        same_rank = has.same_rank;
+        same_epoch = sym left.stays;
+        kept = λ l below to.
+            let was : inbox dims rs l ≡ length (in_of n.node.conveyor l).parcel.untaken = ap (λ k. length (in_of (conveyor_in (slice_get rs k)) l).parcel.untaken) to ∙ ap (λ o. length (in_of (conveyor_in o) l).parcel.untaken) at in
+            let now : inbox dims rs' l ≡ length (in_of n'.node.conveyor l).parcel.untaken = ap (λ k. length (in_of (conveyor_in (slice_get rs' k)) l).parcel.untaken) to ∙ ap (λ o. length (in_of (conveyor_in o) l).parcel.untaken) at' in
+            omega (arith, was, now, inbox_same light l below);
+        left = subst (λ f. IsLeft n.node.conveyor n'.node.conveyor (starting_at dims r f) (ending_at dims r got') (starting_at dims r sent') (ending_at dims r got') (crowded_in dims slots r sent' got') (idle_in dims r sent' got')) (sym es)
+            (subst (λ f. IsLeft n.node.conveyor n'.node.conveyor (starting_at dims r sent) (ending_at dims r f) (starting_at dims r sent') (ending_at dims r got') (crowded_in dims slots r sent' got') (idle_in dims r sent' got')) (sym eg) left);
+      }
+
+  -- the ranks that rested go on resting
+  pub rests_on : moves dims rs' sent' got' ≤ moves dims rs sent got → (k : ℕ) (c : State) → Rests dims slots k c sent got → Rests dims slots k c sent' got'
+  rests_on light k c rest = subst (λ f. Rests dims slots k c f got') (sym (sent_same light)) (subst (Rests dims slots k c sent) (sym (got_same light)) rest)

@@ -1,0 +1,243 @@
+-- The ranks of a drive are within the canonical run, at every moment.
+use Rattle.std.proofs.Common.{◌≡◌, ℕ, ◌+◌, ◌-◌, ◌*◌, ◌^◌, ◌<◌, ◌≤◌, Bool, true, false, cond, min, List, Option, Some, None, slice_get, refl, sym, ap, subst, ◌∙◌, arith, inl, inr}
+use Rattle.std.proofs.lemmas.Bool.{cases_Bool, cases_lt, both_ways, true≢false}
+use Rattle.list_laws.proofs.Lists.{find, within}
+use Rattle.route_tensor.specs.Grid.{ranks}
+use Rattle.port_bank.specs.Logs.{Logs, starting_at, ending_at}
+use Rattle.port_bank.specs.Machine.{Part, completed_of, done_of, EpochsClose}
+use Rattle.hop_core.specs.State.{State}
+use Rattle.convey.specs.Buffers.{Buffers, buffers_of, is_complete}
+use Rattle.convey.specs.Agreement.{Agrees}
+use Rattle.convey.specs.Law.{IsSound, AgreeTogether, state_of, ClosesLaw}
+use Rattle.convey.specs.Parts.{part_of}
+use Rattle.round_program.specs.Rules.{Rules}
+use Rattle.round_program.specs.Laws.{Laws, SameRound}
+use Rattle.round_program.proofs.Orders.{pulls_same}
+use Rattle.round_program.specs.Canonical.{HasRounds, InRound, states_at, votes_at, shape_of}
+use Rattle.round_program.specs.Epochs.{PairLists, heard, worked, Own, Closes, IsCanonical}
+use Rattle.round_program.proofs.Epochs.{every_run}
+use Rattle.round_program.proofs.Members.{in_round_at, shape_is}
+use Rattle.round_program.proofs.Steps.{own_work_done, own_vote_done}
+use Rattle.rank_group.specs.declared.sends.Sends.{Sends}
+use Rattle.rank_group.specs.declared.sends.Sends.TheVariants.{Emissions, Nothing, Votes}
+use Rattle.rank_group.specs.Sending.{is_voting, epoch_of}
+use Rattle.rank_group.specs.Runs.{lists_of, HasTaken}
+use Rattle.rank_group.specs.Nodes.{IsNode}
+use Rattle.rank_group.specs.Next.{extended, HasStopped}
+use Rattle.rank_group.specs.Ranks.{RankState, HasRank, progress}
+use Rattle.rank_group.proofs.Between.{voted, own_ended, extended_before, extended_at}
+use Rattle.rank_group.proofs.Onward.{done_of_complete}
+use Rattle.rank_group.specs.Worlds.{conveyor_in, progress_in, history_in, part_at, World}
+
+-- what a rank knows of itself, within an epoch
+pub own_now : {S : Type 0} (R : Rules S) → Laws R → (p rank : ℕ) (h : ℕ → S) (round : ℕ) (sends : Sends) (next : ℕ) (prog : S) (sum : ℕ) (spoiled : Bool) (part : Part)
+    → HasTaken R p rank h round sends next prog sum spoiled part → Own R p part.epoch (done_of part) h (lists_of part)
+own_now {S} R laws p rank h round sends next prog sum spoiled part is = by part.done refl where
+  l : PairLists
+  l = lists_of part
+
+  at : (s : Sends) → part.done ≡ true → HasTaken R p rank h round s next prog sum spoiled part → Own R p part.epoch (part.epoch + 1) h (lists_of part)
+  at Emissions d t = let e : part.epoch ≡ 2 * round = t.passed.epoch in
+      subst (λ k. Own R p k (k + 1) h (lists_of part)) (sym e) (own_work_done R p round h (lists_of part) t.passed.goes (subst (λ k. Own R p k k h (lists_of part)) e t.passed.own))
+  at Nothing d t = let e : part.epoch ≡ 2 * round = t.passed.epoch in
+      subst (λ k. Own R p k (k + 1) h (lists_of part)) (sym e) (own_work_done R p round h (lists_of part) t.passed.goes (subst (λ k. Own R p k k h (lists_of part)) e t.passed.own))
+  at (Votes v q) d t = let e : part.epoch ≡ 2 * round + 1 = t.passed.epoch in
+      let two : 2 * round + 2 ≡ part.epoch + 1 = omega (arith, e) in
+      subst (λ k. Own R p part.epoch k h (lists_of part)) two
+      (subst (λ k. Own R p k (2 * round + 2) h (lists_of part)) (sym e)
+      (own_vote_done R p round h (lists_of part) (voted R laws p rank h round next prog sum spoiled part d v q t) (subst (λ k. Own R p k k h (lists_of part)) e t.passed.own)))
+
+  by : (b : Bool) → part.done ≡ b → Own R p part.epoch (done_of part) h (lists_of part)
+  by true d = subst (λ k. Own R p part.epoch k h (lists_of part)) (sym (ap (λ b. cond b (part.epoch + 1) part.epoch) d)) (at sends d is)
+  by false d = subst (λ k. Own R p part.epoch k h (lists_of part)) (sym (ap (λ b. cond b (part.epoch + 1) part.epoch) d)) is.passed.own
+
+-- the node of a rank as it was before its run ended
+pub record Core {S : Type 0} (R : Rules S) (dims : List ℕ) (r : ℕ) (h : ℕ → S) (n : RankState S) (sent got : Logs) : Type 0 where
+  pub prog : S
+  pub is : IsNode R h (record { run = record n.node.run { prog = prog }; conveyor = n.node.conveyor }) (starting_at dims r sent) (ending_at dims r got)
+
+pub core : {S : Type 0} (R : Rules S) (dims : List ℕ) (cap : ℕ) (steady : Bool) (r : ℕ) (h : ℕ → S) (n : RankState S) (sent got : Logs) → HasRank R dims cap steady r h n sent got → Core R dims r h n sent got
+core R dims cap steady r h n sent got is =
+    elim (cases_Bool n.over) [
+      | inl over ↦ let s = is.stopped over in record { prog = s.worked; is = s.node }
+      | inr on ↦ record { prog = n.node.run.prog; is = is.runs on }
+    ]
+
+-- what a rank knows of itself
+module _ {S : Type 0} (R : Rules S) (laws : Laws R) (dims : List ℕ) (cap : ℕ) (steady : Bool) (r : ℕ) (h : ℕ → S) (n : RankState S) (sent got : Logs) (is : HasRank R dims cap steady r h n sent got) where
+  abbrev part : Part
+  part = part_of (buffers_of n.node.conveyor) (starting_at dims r sent) (ending_at dims r got)
+
+  stopped : HasStopped R h n.node (starting_at dims r sent) (ending_at dims r got) → (s : Sends) → n.node.run.sends ≡ s → is_voting s ≡ true
+      → Own R (ranks dims) (n.node.conveyor.epoch + 1) (done_of part) (extended h (n.node.run.round + 1) n.node.run.prog) (lists_of part)
+  stopped t Emissions e v = absurd (true≢false (sym v))
+  stopped t Nothing e v = absurd (true≢false (sym v))
+  stopped t (Votes v q) e vote =
+      let done : n.node.conveyor.done ≡ true = done_of_complete n.node.conveyor _ _ t.node.moving t.complete in
+      let own : HasTaken R (ranks n.node.conveyor.dims) n.node.conveyor.rank h n.node.run.round n.node.run.sends n.node.run.next t.worked n.node.run.sum n.node.run.spoiled part = record { passed = t.node.passed; within = t.node.within } in
+      let own1 : HasTaken R (ranks n.node.conveyor.dims) n.node.conveyor.rank h n.node.run.round (Votes v q) n.node.run.next t.worked n.node.run.sum false part =
+      subst (λ b. HasTaken R (ranks n.node.conveyor.dims) n.node.conveyor.rank h n.node.run.round (Votes v q) n.node.run.next t.worked n.node.run.sum b part) t.unspoiled
+      (subst (λ x. HasTaken R (ranks n.node.conveyor.dims) n.node.conveyor.rank h n.node.run.round x n.node.run.next t.worked n.node.run.sum n.node.run.spoiled part) e own) in
+      let o = own_ended R laws (ranks n.node.conveyor.dims) n.node.conveyor.rank h n.node.run.round n.node.run.next t.worked n.node.run.sum part v q done t.clean own1 in
+      let here : n.node.conveyor.epoch ≡ 2 * n.node.run.round + 1 = own1.passed.epoch in
+      let two : 2 * n.node.run.round + 2 ≡ n.node.conveyor.epoch + 1 = omega (arith, here) in
+      let d : done_of part ≡ n.node.conveyor.epoch + 1 = ap (λ b. cond b (n.node.conveyor.epoch + 1) n.node.conveyor.epoch) done in
+      subst (λ k. Own R (ranks dims) (n.node.conveyor.epoch + 1) k (extended h (n.node.run.round + 1) n.node.run.prog) (lists_of part)) (sym d)
+      (subst (λ k. Own R (ranks dims) k k (extended h (n.node.run.round + 1) n.node.run.prog) (lists_of part)) two
+      (subst (λ x. Own R (ranks dims) (2 * n.node.run.round + 2) (2 * n.node.run.round + 2) (extended h (n.node.run.round + 1) x) (lists_of part)) (sym t.ended)
+      (subst (λ (ds : List ℕ). Own R (ranks ds) (2 * n.node.run.round + 2) (2 * n.node.run.round + 2) (extended h (n.node.run.round + 1) (R.ended t.worked n.node.run.sum)) (lists_of part)) is.same_dims o)))
+
+  own_by : (b : Bool) → n.over ≡ b → Own R (ranks dims) (progress n) (done_of part) (history_in h (Some n)) (lists_of part)
+  own_by true over =
+      subst (λ b. Own R (ranks dims) (cond b (n.node.conveyor.epoch + 1) n.node.conveyor.epoch) (done_of part) (cond b (extended h (n.node.run.round + 1) n.node.run.prog) h) (lists_of part)) (sym over)
+      (stopped (is.stopped over) n.node.run.sends refl (is.stopped over).voting)
+  own_by false on =
+      let i = is.runs on in
+      subst (λ b. Own R (ranks dims) (cond b (n.node.conveyor.epoch + 1) n.node.conveyor.epoch) (done_of part) (cond b (extended h (n.node.run.round + 1) n.node.run.prog) h) (lists_of part)) (sym on)
+      (subst (λ (ds : List ℕ). Own R (ranks ds) n.node.conveyor.epoch (done_of part) h (lists_of part)) is.same_dims
+      (own_now R laws (ranks n.node.conveyor.dims) n.node.conveyor.rank h n.node.run.round n.node.run.sends n.node.run.next n.node.run.prog n.node.run.sum n.node.run.spoiled part (record { passed = i.passed; within = i.within })))
+
+  pub own_in : Own R (ranks dims) (progress n) (done_of (part_of (buffers_of n.node.conveyor) (starting_at dims r sent) (ending_at dims r got))) (history_in h (Some n)) (lists_of (part_of (buffers_of n.node.conveyor) (starting_at dims r sent) (ending_at dims r got)))
+  own_in = own_by n.over refl
+
+module _ {S : Type 0} (R : Rules S) (laws : Laws R) (law : ClosesLaw) (dims : List ℕ) (cap slots : ℕ) (steady : Bool) (starts : List S) (h : ℕ → ℕ → S) (rs : List (RankState S)) (sent got : Logs) (w : World R dims cap slots steady starts h rs sent got) where
+  abbrev buffers_at : ℕ → Buffers
+  buffers_at r = buffers_of (conveyor_in (slice_get rs r))
+
+  rank_at : (r : ℕ) → r < ranks dims → (n : RankState S) × (slice_get rs r ≡ Some n)
+  rank_at r low = find rs r (omega (arith, low, w.all))
+
+  pub together : AgreeTogether dims cap slots buffers_at sent got
+  together =
+      record {
+        grid = w.grid;
+        links_keep = w.links_keep;
+        same_dims = λ r low. by r low (λ c. c.dims ≡ dims) (λ n is. is.same_dims);
+        same_rank = λ r low. by r low (λ c. c.rank ≡ r) (λ n is. is.same_rank);
+        sound = λ r low. by r low (λ c. IsSound (buffers_of c)) (λ n is. (core R dims cap steady r (h r) n sent got is).is.moving.sound);
+        agree = λ r low. by r low (λ c. Agrees (buffers_of c) (starting_at dims r sent) (ending_at dims r got)) (λ n is. (core R dims cap steady r (h r) n sent got is).is.moving.agrees);
+      } where
+        by : (r : ℕ) → r < ranks dims → (P : State → Type 0) → ((n : RankState S) → HasRank R dims cap steady r (h r) n sent got → P n.node.conveyor) → P (conveyor_in (slice_get rs r))
+        by r low P f = let n = rank_at r low in subst (λ o. P (conveyor_in o)) (sym n.1) (f n.0 (w.each r n.0 n.1))
+
+  pub closes : EpochsClose (ranks dims) (state_of dims buffers_at sent got)
+  closes = law dims cap slots buffers_at sent got together
+
+  abbrev completed : ℕ → ℕ
+  completed r = progress_in (slice_get rs r)
+
+  abbrev lists : ℕ → PairLists
+  lists r = lists_of (part_at dims rs sent got r)
+
+  abbrev history : ℕ → ℕ → S
+  history r = history_in (h r) (slice_get rs r)
+
+  own_at : (r : ℕ) → r < ranks dims → Own R (ranks dims) (completed r) (done_of (part_at dims rs sent got r)) (history r) (lists r)
+  own_at r low =
+      let n = rank_at r low in
+      subst (λ o. Own R (ranks dims) (progress_in o) (done_of (part_of (buffers_of (conveyor_in o)) (starting_at dims r sent) (ending_at dims r got))) (history_in (h r) o) (lists_of (part_of (buffers_of (conveyor_in o)) (starting_at dims r sent) (ending_at dims r got)))) (sym n.1)
+      (own_in R laws dims cap steady r (h r) n.0 sent got (w.each r n.0 n.1))
+
+  -- no more epochs are completed than the conveyors tell
+  completed_low : (r : ℕ) → r < ranks dims → completed r ≤ completed_of (part_at dims rs sent got r)
+  completed_low r low =
+      let n = rank_at r low in
+      subst (λ o. progress_in o ≤ completed_of (part_of (buffers_of (conveyor_in o)) (starting_at dims r sent) (ending_at dims r got))) (sym n.1) (by n.0 (w.each r n.0 n.1) n.0.over refl) where
+        by : (n : RankState S) → HasRank R dims cap steady r (h r) n sent got → (b : Bool) → n.over ≡ b → progress n ≤ cond (is_complete n.node.conveyor.phase) (n.node.conveyor.epoch + 1) n.node.conveyor.epoch
+        by n is true over =
+            let c : is_complete n.node.conveyor.phase ≡ true = ap is_complete (is.stopped over).complete in
+            let a : progress n ≡ n.node.conveyor.epoch + 1 = ap (λ b. cond b (n.node.conveyor.epoch + 1) n.node.conveyor.epoch) over in
+            let b : cond (is_complete n.node.conveyor.phase) (n.node.conveyor.epoch + 1) n.node.conveyor.epoch ≡ n.node.conveyor.epoch + 1 = ap (λ b. cond b (n.node.conveyor.epoch + 1) n.node.conveyor.epoch) c in
+            omega (arith, a, b)
+        by n is false on =
+            let a : progress n ≡ n.node.conveyor.epoch = ap (λ b. cond b (n.node.conveyor.epoch + 1) n.node.conveyor.epoch) on in
+            elim (cases_Bool (is_complete n.node.conveyor.phase)) [
+              | inl c ↦ let b : cond (is_complete n.node.conveyor.phase) (n.node.conveyor.epoch + 1) n.node.conveyor.epoch ≡ n.node.conveyor.epoch + 1 = ap (λ b. cond b (n.node.conveyor.epoch + 1) n.node.conveyor.epoch) c in omega (arith, a, b)
+              | inr c ↦ let b : cond (is_complete n.node.conveyor.phase) (n.node.conveyor.epoch + 1) n.node.conveyor.epoch ≡ n.node.conveyor.epoch = ap (λ b. cond b (n.node.conveyor.epoch + 1) n.node.conveyor.epoch) c in omega (arith, a, b)
+            ]
+
+  closed : Closes (ranks dims) completed (λ r. done_of (part_at dims rs sent got r)) lists
+  closed =
+      record {
+        all_done = λ r f lr lf. let a = closes.all_done r f lr lf in let b = completed_low r lr in omega (arith, a, b);
+        whole = λ r f e lr lf c. let b = completed_low r lr in closes.whole r f e lr lf (omega (arith, b, c));
+      }
+
+  begins_at : (r : ℕ) (s : S) → slice_get starts r ≡ Some s → history r 0 ≡ s
+  begins_at r s at = by (slice_get rs r) ∙ w.begins r s at where
+    by : (o : Option (RankState S)) → history_in (h r) o 0 ≡ h r 0
+    by None = refl
+    by (Some n) = elim (cases_Bool n.over) [
+      | inl over ↦ ap (λ b. cond b (extended (h r) (n.node.run.round + 1) n.node.run.prog) (h r) 0) over ∙ extended_before (h r) (n.node.run.round + 1) n.node.run.prog 0 (λ q. omega (arith, q))
+      | inr on ↦ ap (λ b. cond b (extended (h r) (n.node.run.round + 1) n.node.run.prog) (h r) 0) on
+    ]
+
+  -- so the ranks are within the canonical run
+  pub canonical : (shape : List ℕ) (most : ℕ) → InRound R (ranks dims) 0 shape most starts → IsCanonical R (ranks dims) starts completed history lists
+  canonical shape most start = every_run R laws (ranks dims) shape most starts completed (λ r. done_of (part_at dims rs sent got r)) history lists start begins_at own_at closed
+
+  -- no rank goes past the last round, and one whose run is over has ended it
+  module _ (shape : List ℕ) (most n : ℕ) (start : InRound R (ranks dims) 0 shape most starts) (rounds : HasRounds R starts n) where
+    run : IsCanonical R (ranks dims) starts completed history lists
+    run = canonical shape most start
+
+    -- the shape of a rank's state as a round began
+    shape_at : (m r : ℕ) → r < ranks dims → 2 * m ≤ completed r → R.shape (history r m) ≡ shape_of R starts
+    shape_at m r low c =
+        let all : InRound R (ranks dims) (min m (2 ^ 64 - 1)) shape most (states_at R starts m) = in_round_at R laws (ranks dims) shape most starts m start in
+        (all.each r (history r m) (run.states r m low c)).same_shape ∙ sym (shape_is R (ranks dims) 0 shape most starts (omega (arith, low)) start)
+
+    -- a rank whose run goes on hasn't completed the last round
+    pub still_within : (r : ℕ) (x : RankState S) → slice_get rs r ≡ Some x → x.over ≡ false → x.node.conveyor.epoch < 2 * n
+    still_within r x at on =
+        let low : r < ranks dims = omega (arith, within rs r x at, w.all) in
+        let here : completed r ≡ x.node.conveyor.epoch = ap progress_in at ∙ ap (λ b. cond b (x.node.conveyor.epoch + 1) x.node.conveyor.epoch) on in
+        let high : completed r ≤ 2 * n = run.bounded n r rounds low in
+        let some : 0 < n = rounds.some in
+        elim (cases_lt x.node.conveyor.epoch (2 * n)) [
+          | inl b ↦ b
+          | inr past ↦
+              let e : x.node.conveyor.epoch ≡ 2 * n = omega (arith, past, here, high) in
+              let i = (w.each r x at).runs on in
+              let full : completed r ≡ 2 * n = here ∙ e in
+              let d : x.node.conveyor.dims ≡ dims = (w.each r x at).same_dims in
+              let last : n - 1 + 1 ≡ x.node.run.round = round_is (is_voting x.node.run.sends) x.node.run.round i.passed.epoch e some in
+              let hist : history r (n - 1) ≡ h r (n - 1) = ap (λ o. history_in (h r) o (n - 1)) at ∙ ap (λ b. cond b (extended (h r) (x.node.run.round + 1) x.node.run.prog) (h r) (n - 1)) on in
+              let own : PairLists = lists_of (part_of (buffers_of x.node.conveyor) (starting_at dims r sent) (ending_at dims r got)) in
+              let same : lists r ≡ own = ap (λ o. lists_of (part_of (buffers_of (conveyor_in o)) (starting_at dims r sent) (ending_at dims r got))) at in
+              let goes : R.goes_on (R.shape (h r (n - 1))) (n - 1) (heard (ranks x.node.conveyor.dims) own (n - 1)) ≡ true = i.passed.goes (n - 1) last in
+              let sums : heard (ranks dims) (lists r) (n - 1) ≡ votes_at R starts (n - 1) = run.sums r (n - 1) low (omega (arith, full, some)) in
+              let sums' : heard (ranks x.node.conveyor.dims) own (n - 1) ≡ votes_at R starts (n - 1) =
+              ap (λ ds. heard (ranks ds) own (n - 1)) d ∙ (ap (λ l. heard (ranks dims) l (n - 1)) (sym same) ∙ sums) in
+              let shapes : R.shape (h r (n - 1)) ≡ shape_of R starts = ap R.shape (sym hist) ∙ shape_at (n - 1) r low (omega (arith, full, some)) in
+              absurd (both_ways (R.goes_on (shape_of R starts) (n - 1) (votes_at R starts (n - 1))) rounds.stops
+              (ap (λ k. R.goes_on (shape_of R starts) (n - 1) k) (sym sums') ∙ (ap (λ a. R.goes_on a (n - 1) (heard (ranks x.node.conveyor.dims) own (n - 1))) (sym shapes) ∙ goes)))
+        ] where
+          round_is : (v : Bool) (m : ℕ) {e : ℕ} → e ≡ epoch_of m v → e ≡ 2 * n → 0 < n → n - 1 + 1 ≡ m
+          round_is true m is e some = absurd (omega (arith, is, e))
+          round_is false m is e some = omega (arith, is, e, some)
+
+    -- a rank whose run is over is in the last epoch, with the state in which the run ends
+    pub over_at_last : (r : ℕ) (x : RankState S) → slice_get rs r ≡ Some x → x.over ≡ true → (x.node.conveyor.epoch + 1 ≡ 2 * n) × (slice_get (states_at R starts n) r ≡ Some x.node.run.prog)
+    over_at_last r x at over =
+        let low : r < ranks dims = omega (arith, within rs r x at, w.all) in
+        let t = (w.each r x at).stopped over in
+        let i = t.node in
+        let d : x.node.conveyor.dims ≡ dims = (w.each r x at).same_dims in
+        let m : ℕ = x.node.run.round in
+        let e : x.node.conveyor.epoch ≡ 2 * m + 1 = i.passed.epoch ∙ ap (epoch_of m) t.voting in
+        let here : completed r ≡ x.node.conveyor.epoch + 1 = ap progress_in at ∙ ap (λ b. cond b (x.node.conveyor.epoch + 1) x.node.conveyor.epoch) over in
+        let full : completed r ≡ 2 * m + 2 = omega (arith, here, e) in
+        let own : PairLists = lists_of (part_of (buffers_of x.node.conveyor) (starting_at dims r sent) (ending_at dims r got)) in
+        let same : lists r ≡ own = ap (λ o. lists_of (part_of (buffers_of (conveyor_in o)) (starting_at dims r sent) (ending_at dims r got))) at in
+        let hist : (k : ℕ) → history r k ≡ extended (h r) (m + 1) x.node.run.prog k = λ k. ap (λ o. history_in (h r) o k) at ∙ ap (λ b. cond b (extended (h r) (m + 1) x.node.run.prog) (h r) k) over in
+        let worked' : t.worked ≡ worked R (ranks x.node.conveyor.dims) (h r) own m = i.within.works t.unspoiled in
+        let alike : SameRound R (h r m) t.worked = subst (SameRound R (h r m)) (sym worked') (pulls_same R laws (h r m) (own.pulled (2 * m)) (ranks x.node.conveyor.dims) i.passed.valid) in
+        let at_m : history r m ≡ h r m = hist m ∙ extended_before (h r) (m + 1) x.node.run.prog m (λ q. omega (arith, q)) in
+        let sums : x.node.run.sum ≡ heard (ranks dims) (lists r) m = i.within.hears t.voting ∙ (ap (λ ds. heard (ranks ds) own m) d ∙ ap (λ l. heard (ranks dims) l m) (sym same)) in
+        let stops : R.goes_on (R.shape (history r m)) m (heard (ranks dims) (lists r) m) ≡ false =
+        ap (λ s. R.goes_on (R.shape s) m (heard (ranks dims) (lists r) m)) at_m ∙ (ap (λ a. R.goes_on a m (heard (ranks dims) (lists r) m)) (sym alike.shape)
+        ∙ (ap (λ k. R.goes_on (R.shape t.worked) k (heard (ranks dims) (lists r) m)) (sym (alike.round ∙ i.passed.own_round)) ∙ (ap (R.goes_on (R.shape t.worked) (R.round t.worked)) (sym sums) ∙ t.stops))) in
+        let last : m + 1 ≡ n = run.stopped n r m rounds low (omega (arith, full)) stops in
+        let state : slice_get (states_at R starts n) r ≡ Some (history r n) = run.states r n low (omega (arith, full, last)) in
+        (omega (arith, e, last), state ∙ ap Some (hist n ∙ (ap (extended (h r) (m + 1) x.node.run.prog) (sym last) ∙ extended_at (h r) (m + 1) x.node.run.prog)))

@@ -1,0 +1,53 @@
+use Rattle.std.proofs.Common.{rules, ◌≡◌, ◌<◌, length, get_or, arith, subst, sym, refl}
+use Rattle.list_laws.proofs.Lists.{all_get}
+use Rattle.route_tensor.specs.Grid.{ranks}
+use Rattle.port_bank.specs.Plain.{sent_of, got_of}
+use Rattle.rank_group.specs.Worlds.{SweptTo}
+use Rattle.rank_group.proofs.Orders.{sweeping_more, swept_none, world_at, order_at}
+use Rattle.rank_group.proofs.sweeping.sweep.Goals as goal
+
+pub loop-i-init : goal.loop-i-init
+loop-i-init g c =
+    record {
+      is_bank = c.requires.lawful;
+      same_dims = refl;
+      same_slots = refl;
+      most_steps = omega arith;
+      size = refl;
+      swept = λ steady starts n h p w. swept_none g.Q.Program.rules c.args.bank.dims g.row.CAP c.args.bank.slots steady starts c.args.order.now h c.args.all.now.items (sent_of c.args.bank) (got_of c.args.bank) w;
+    }
+
+pub turn_one-requires : goal.turn_one-requires
+turn_one-requires g c =
+    let v = c.loop-i.invariant in
+    let q = c.requires.world in
+    let low : c.loop-i.i < length c.args.order.now = c.loop-i-test.true in
+    let number = all_get (λ r. r < ranks c.args.bank.dims) c.args.order.now c.loop-i.i (get_or c.args.order.now c.loop-i.i 0) c.requires.order.below (order_at c.args.order.now c.loop-i.i low) in (
+      search rules,
+      (
+        search rules,
+        (
+          subst (λ d. get_or c.args.order.now c.loop-i.i 0 < ranks d) (sym v.same_dims) number,
+          (
+            c.requires.law,
+            world_at g.Q.Program.rules g.row.CAP c.args.order.now c.args.all.now.items c.args.bank c.args.steps.now c.loop-i.i c.loop-i.all.items c.loop-i.bank c.loop-i.steps v q.0 q.1 q.2 q.3 q.4 q.5,
+          ),
+        ),
+      ),
+    )
+
+pub loop-i-preserved : goal.loop-i-preserved
+loop-i-preserved g c =
+    let v = c.loop-i.invariant in
+    let low : c.loop-i.i < length c.args.order.now = c.loop-i-test.true in
+    let at = order_at c.args.order.now c.loop-i.i low in
+    let number = all_get (λ r. r < ranks c.args.bank.dims) c.args.order.now c.loop-i.i (get_or c.args.order.now c.loop-i.i 0) c.requires.order.below at in
+    sweeping_more g.Q.Program.rules g.row.CAP c.args.order.now c.args.all.now.items c.args.bank c.args.steps.now c.loop-i.i (get_or c.args.order.now c.loop-i.i 0) c.loop-i.all.items c.turn_one.new.all.items c.loop-i.bank c.in_ok-bank.bank c.loop-i.steps c.turn_one.new.steps
+    v at (subst (λ d. get_or c.args.order.now c.loop-i.i 0 < ranks d) (sym v.same_dims) number) c.in_ok-bank.ensures.lawful c.in_ok-bank.ensures.same_dims c.in_ok-bank.ensures.same_slots c.turn_one.ensures.most_steps
+    c.turn_one.ensures.size c.turn_one.ensures.others c.in_ok-bank.ensures.turned
+
+pub returns-clause-swept : goal.returns-clause-swept
+returns-clause-swept g c = λ steady starts n h p w.
+    let end : c.loop-i.i ≡ length c.args.order.now = omega (arith, c.loop-i-test.false, c.loop-i.auto.i-end) in
+    subst (λ i. SweptTo g.Q.Program.rules c.args.bank.dims g.row.CAP c.args.bank.slots steady starts c.args.order.now i c.args.all.now.items (sent_of c.args.bank) (got_of c.args.bank) c.loop-i.all.items (sent_of c.loop-i.bank) (got_of c.loop-i.bank)) end
+    (c.loop-i.invariant.swept steady starts n h p w)

@@ -1,0 +1,54 @@
+use Rattle.std.proofs.Common.{rules, ◌≡◌, Ok, ap, ◌∙◌, sym, subst}
+use Rattle.port_bank.specs.Plain.{Bank, sent_of, got_of}
+use Rattle.port_bank.specs.Logs.{starting_at, ending_at}
+use Rattle.rank_group.specs.Nodes.{IsNode}
+use Rattle.rank_group.specs.Ranks.{AfterTurn}
+use Rattle.rank_group.proofs.Ranked.{PortTurn, after_turn}
+use Rattle.rank_group.proofs.sweeping.turn_node.Goals as goal
+
+pub turn-requires : goal.turn-requires
+turn-requires g c =
+    let R = g.Q.Program.rules in
+    let eb = c.port-port.ensures.bank in
+    let er = c.port-port.ensures.rank in (
+      search rules,
+      (
+        subst (λ (b : Bank). b.dims ≡ c.args.node.now.conveyor.dims) (sym eb) (sym c.requires.same_dims),
+        (
+          er ∙ sym c.requires.same_rank,
+          (
+            c.requires.node.0,
+            subst (λ (b : Bank). IsNode R c.requires.node.0 c.args.node.now (starting_at b.dims c.port-port.result.rank (sent_of b)) (ending_at b.dims c.port-port.result.rank (got_of b))) (sym eb)
+                (subst (λ r. IsNode R c.requires.node.0 c.args.node.now (starting_at c.args.bank.dims r (sent_of c.args.bank)) (ending_at c.args.bank.dims r (got_of c.args.bank))) (sym er) c.requires.node.1),
+          ),
+        ),
+      ),
+    )
+
+pub returns-clause-turned : goal.returns-clause-turned
+returns-clause-turned g c =
+    let R = g.Q.Program.rules in
+    let n = c.args.node.now in
+    let n' = c.turn.new.self in
+    let b0 : Bank = c.port-port.result.bank in
+    let b1 : Bank = c.turn.new.port.bank in
+    let told : PortTurn R g.row.CAP c.in_ok-turn.turn n n' b0 c.port-port.result.rank b1 c.turn.new.port.rank = record {
+      dims = c.turn.ensures.same_dims;
+      slots = c.turn.ensures.same_slots;
+      rest = c.turn.ensures.rest;
+      node_dims = c.turn.ensures.self_dims;
+      node_rank = c.turn.ensures.self_rank;
+      node_steady = c.turn.ensures.steady;
+      node_epoch = c.turn.ensures.epoch;
+      sent_grows = c.turn.ensures.sent_grows;
+      got_grows = c.turn.ensures.got_grows;
+      shape = c.turn.ensures.shape;
+      lies = c.turn.ensures.lies;
+      kept = c.turn.ensures.kept;
+      ended = λ e. c.in_ok-turn.ensures.ended (ap Ok e);
+      going = λ e. c.in_ok-turn.ensures.going (ap Ok e);
+      stuck = c.in_ok-turn.ensures.stuck;
+    } in
+    subst (λ (b : Bank). AfterTurn R c.args.bank.dims g.row.CAP c.args.bank.slots c.args.number c.in_ok-turn.turn n n' (sent_of c.args.bank) (got_of c.args.bank) (sent_of b) (got_of b)) (sym c.into_bank.ensures.bank)
+    (after_turn R g.row.CAP c.args.number c.in_ok-turn.turn n n' c.args.bank b1 c.port-port.result.rank c.turn.new.port.rank c.port-port.ensures.rank c.turn.ensures.same_rank c.requires.same_dims c.requires.same_rank
+    (subst (λ (b : Bank). PortTurn R g.row.CAP c.in_ok-turn.turn n n' b c.port-port.result.rank b1 c.turn.new.port.rank) c.port-port.ensures.bank told))

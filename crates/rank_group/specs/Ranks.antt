@@ -1,0 +1,91 @@
+-- The nodes of all ranks over one plain bank.
+use Rattle.std.specs.Prelude.{◌≡◌, ◌≢◌, ℕ, ◌+◌, ◌<◌, ◌≤◌, ◌==◌, Bool, true, false, cond, List, ◌++◌, length, slice_get, Some}
+use Rattle.std.specs.List.{All, flat_map}
+use Rattle.item_buffer.specs.Contents.{Shipped}
+use Rattle.route_tensor.specs.Link.{links}
+use Rattle.route_tensor.specs.Ends.{reader_at}
+use Rattle.port_bank.specs.Logs.{Logs, starting_at, ending_at, starting_elsewhere, ending_elsewhere}
+use Rattle.port_bank.specs.Flow.{Begins}
+use Rattle.port_bank.specs.Shapes.{IsConveyorShape}
+use Rattle.hop_core.specs.declared.phase.Phase.TheVariants.{Complete}
+use Rattle.hop_core.specs.State.{State}
+use Rattle.convey.specs.Buffers.{in_of}
+use Rattle.round_program.specs.Rules.{Rules}
+use Rattle.rank_group.specs.declared.turn.Turn.{Turn}
+use Rattle.rank_group.specs.declared.turn.Turn.TheVariants.{Going, Ended}
+use Rattle.rank_group.specs.Nodes.{NodeState, IsNode}
+use Rattle.rank_group.specs.Stuck.{IsStuck}
+use Rattle.rank_group.specs.Next.{HasStopped}
+
+-- A node, and whether its run is over.
+pub record RankState (S : Type 0) : Type 0 where
+  pub node : NodeState S
+  pub over : Bool
+
+-- The orders in which a sweep may turn p ranks: each of them once.
+pub record IsOrder (p : ℕ) (order : List ℕ) : Type 0 where
+  pub size : length order ≡ p
+  pub below : All (λ r. r < p) order
+  pub each : (r : ℕ) → r < p → (i : ℕ) × (slice_get order i ≡ Some r)
+
+-- Rank r over the logs of all ranks; h m is the state of its program as round m began.
+pub record HasRank {S : Type 0} (R : Rules S) (dims : List ℕ) (cap : ℕ) (steady : Bool) (r : ℕ) (h : ℕ → S) (n : RankState S) (sent got : Logs) : Type 0 where
+  pub same_dims : n.node.conveyor.dims ≡ dims
+  pub same_rank : n.node.conveyor.rank ≡ r
+  pub same_steady : n.node.conveyor.steady ≡ steady
+  pub runs : n.over ≡ false → IsNode R h n.node (starting_at dims r sent) (ending_at dims r got)
+  pub stopped : n.over ≡ true → HasStopped R h n.node (starting_at dims r sent) (ending_at dims r got)
+  pub shape : (l : ℕ) → IsConveyorShape steady cap (starting_at dims r sent l)
+
+-- How many epochs a rank has completed.
+abbrev pub progress : {S : Type 0} → RankState S → ℕ
+progress n = cond n.over (n.node.conveyor.epoch + 1) n.node.conveyor.epoch
+
+-- Whether no slot is free on rank r's link l out, and whether nothing waits on its link l in, by the logs of all ranks.
+abbrev pub crowded_in : List ℕ → ℕ → ℕ → Logs → Logs → ℕ → Bool
+crowded_in dims slots r sent got l = length (starting_at dims r sent l) == length (got l) + slots
+
+abbrev pub idle_in : List ℕ → ℕ → Logs → Logs → ℕ → Bool
+idle_in dims r sent got l = length (ending_at dims r got l) == length (sent l)
+
+-- What the turn of the node of rank r leaves.
+pub record AfterTurn {S : Type 0} (R : Rules S) (dims : List ℕ) (cap slots r : ℕ) (turn : Turn) (n n' : NodeState S) (sent got sent' got' : Logs) : Type 0 where
+  pub sent_elsewhere : starting_elsewhere dims r sent' ≡ starting_elsewhere dims r sent
+  pub got_elsewhere : ending_elsewhere dims r got' ≡ ending_elsewhere dims r got
+  pub node_dims : n'.conveyor.dims ≡ n.conveyor.dims
+  pub node_rank : n'.conveyor.rank ≡ n.conveyor.rank
+  pub node_steady : n'.conveyor.steady ≡ n.conveyor.steady
+  pub node_epoch : n'.conveyor.epoch ≡ n.conveyor.epoch
+  pub sent_grows : (l : ℕ) → Begins (starting_at dims r sent l) (starting_at dims r sent' l)
+  pub got_grows : (l : ℕ) → Begins (ending_at dims r got l) (ending_at dims r got' l)
+  pub shape : (l : ℕ) → IsConveyorShape n.conveyor.steady cap (starting_at dims r sent l) → IsConveyorShape n.conveyor.steady cap (starting_at dims r sent' l)
+  pub lies : (l : ℕ) (more : List Shipped) → l < links dims → reader_at dims l ≡ r → ending_at dims r got' l ≡ ending_at dims r got l ++ more
+      → length (in_of n'.conveyor l).parcel.untaken ≤ length (in_of n.conveyor l).parcel.untaken + length (flat_map (λ p. p.entries) more)
+  pub kept : (h : ℕ → S) → IsNode R h n (starting_at dims r sent) (ending_at dims r got) → IsNode R h n' (starting_at dims r sent') (ending_at dims r got')
+  pub ended : turn ≡ Ended → n'.conveyor.phase ≡ Complete
+  pub going : turn ≡ Going → n'.conveyor.phase ≢ Complete
+  pub stuck : (h : ℕ → S) → IsNode R h n (starting_at dims r sent) (ending_at dims r got)
+      → ((l : ℕ) → starting_at dims r sent' l ≡ starting_at dims r sent l) → ((l : ℕ) → ending_at dims r got' l ≡ ending_at dims r got l)
+      → IsStuck n.conveyor n'.conveyor (starting_at dims r sent) (ending_at dims r got) (starting_at dims r sent') (ending_at dims r got') (crowded_in dims slots r sent' got') (idle_in dims r sent' got')
+
+-- A rank that a turn left in its epoch, having moved no parcel: its epoch isn't over.
+pub record IsLeft (c c' : State) (sent got sent' got' : Logs) (is_crowded is_idle : ℕ → Bool) : Type 0 where
+  pub stuck : IsStuck c c' sent got sent' got' is_crowded is_idle
+  pub going : c'.phase ≢ Complete
+  pub stays : c'.epoch ≡ c.epoch
+
+-- What the turn of rank r leaves, with the step to its next epoch where one has ended.
+-- lies: an inbox holds at most what it held and what came.
+-- forward: its epochs only go on. left: where it is in the same epoch and no parcel was moved, it was left there.
+pub record AfterRank {S : Type 0} (R : Rules S) (dims : List ℕ) (cap slots r : ℕ) (n n' : RankState S) (sent got sent' got' : Logs) : Type 0 where
+  pub sent_elsewhere : starting_elsewhere dims r sent' ≡ starting_elsewhere dims r sent
+  pub got_elsewhere : ending_elsewhere dims r got' ≡ ending_elsewhere dims r got
+  pub sent_grows : (l : ℕ) → Begins (starting_at dims r sent l) (starting_at dims r sent' l)
+  pub got_grows : (l : ℕ) → Begins (ending_at dims r got l) (ending_at dims r got' l)
+  pub lies : (l : ℕ) (more : List Shipped) → l < links dims → reader_at dims l ≡ r → ending_at dims r got' l ≡ ending_at dims r got l ++ more
+      → length (in_of n'.node.conveyor l).parcel.untaken ≤ length (in_of n.node.conveyor l).parcel.untaken + length (flat_map (λ p. p.entries) more)
+  pub forward : progress n ≤ progress n'
+  pub kept : (steady : Bool) (h : ℕ → S) → HasRank R dims cap steady r h n sent got → (g : ℕ → S) × (g 0 ≡ h 0) × HasRank R dims cap steady r g n' sent' got'
+  pub left : (steady : Bool) (h : ℕ → S) → HasRank R dims cap steady r h n sent got → n'.over ≡ false → progress n' ≡ progress n
+      → ((l : ℕ) → starting_at dims r sent' l ≡ starting_at dims r sent l) → ((l : ℕ) → ending_at dims r got' l ≡ ending_at dims r got l)
+      → IsLeft n.node.conveyor n'.node.conveyor (starting_at dims r sent) (ending_at dims r got) (starting_at dims r sent') (ending_at dims r got') (crowded_in dims slots r sent' got') (idle_in dims r sent' got')

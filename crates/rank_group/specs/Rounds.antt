@@ -1,0 +1,8 @@
+-- What contracts see of a closed round.
+use Rattle.port_bank.specs.Round.{Round}
+use Rattle.rank_group.specs.declared.closed_round.ClosedRound.{ClosedRound}
+use Rattle.rank_group.specs.declared.closed_round.ClosedRound.TheVariants.{Plain}
+
+-- The round inside.
+abbrev pub round_of : ClosedRound → Round
+round_of (Plain round) = round

@@ -1,0 +1,56 @@
+-- What a turn over a conveyor leaves that moved no parcel, and why.
+use Rattle.std.specs.Prelude.{◌≡◌, ◌⊎◌, ℕ, ◌<◌, ◌≤◌, Bool, true, false, List, [], length, slice_get, Some}
+use Rattle.bale_types.specs.declared.item.Entry.{Entry}
+use Rattle.route_tensor.specs.Link.{links}
+use Rattle.route_tensor.specs.Ends.{hop_at, sender_at, reader_at}
+use Rattle.port_bank.specs.Logs.{Logs}
+use Rattle.hop_core.specs.declared.phase.Phase.TheVariants.{Complete}
+use Rattle.hop_core.specs.State.{State}
+use Rattle.convey.specs.Buffers.{buffers_of, out_of, in_of}
+use Rattle.convey.specs.Agreement.{Ends}
+use Rattle.convey.specs.Conveyors.{AgreesWith, standing_toward}
+use Rattle.convey.specs.Arrived.{HasArrived}
+use Rattle.convey.specs.Due.{Wants, IsOver, NextIs}
+
+-- Of a rank's links out there is one that is crowded.
+pub record HasCrowded (dims : List ℕ) (rank : ℕ) (is_crowded : ℕ → Bool) : Type 0 where
+  pub link : ℕ
+  pub below : link < links dims
+  pub sender : sender_at dims link ≡ rank
+  pub crowded : is_crowded link ≡ true
+
+-- A turn that moved no parcel took the conveyor c to c'. `before` is the conveyor just before the turn's advance, and
+-- `after` just after it: pushes fill open parcels before it, and pulls empty inboxes of the last hop after it.
+-- pushed: the rank is done, or a link out is crowded, toward the receiver of the push that was refused.
+-- read: all that came was pulled. lies: of each inbox the end is left.
+-- idle: where an inbox wanted a parcel, its link is idle.
+-- stopped: where entries are left in an inbox below the last hop, the next link of the first one is crowded.
+-- closing: a link out that may be closed, and isn't, is crowded.
+-- over: where the epoch is over, the conveyor is complete.
+pub record IsStuck (c c' : State) (sent got sent' got' : Logs) (is_crowded is_idle : ℕ → Bool) : Type 0 where
+  pub before : State
+  pub after : State
+  pub dims_before : before.dims ≡ c.dims
+  pub rank_before : before.rank ≡ c.rank
+  pub epoch_before : before.epoch ≡ c.epoch
+  pub dims_after : after.dims ≡ before.dims
+  pub rank_after : after.rank ≡ before.rank
+  pub epoch_after : after.epoch ≡ before.epoch
+  pub ins_before : (l : ℕ) → (in_of before l).parcel.untaken ≡ (in_of c l).parcel.untaken
+  pub ins_after : (l : ℕ) → length (in_of c' l).parcel.untaken ≤ length (in_of after l).parcel.untaken
+  pub agrees_before : AgreesWith before sent got
+  pub agrees_after : AgreesWith after sent' got'
+  pub pushed : (after.done ≡ true) ⊎ HasCrowded c.dims c.rank is_crowded
+  pub read : (l : ℕ) → l < links c.dims → reader_at c.dims l ≡ c.rank → hop_at c.dims l ≡ length c.dims → (in_of before l).parcel.untaken ≡ []
+  pub lies : (l : ℕ) → l < links c.dims → reader_at c.dims l ≡ c.rank → Ends (in_of before l).parcel.untaken (in_of after l).parcel.untaken
+  pub idle : (l : ℕ) → l < links c.dims → reader_at c.dims l ≡ c.rank → Wants before l → is_idle l ≡ true
+  pub stopped : (l : ℕ) (e : Entry) → l < links c.dims → reader_at c.dims l ≡ c.rank → hop_at c.dims l < length c.dims → slice_get (in_of after l).parcel.untaken 0 ≡ Some e
+      → NextIs c.dims c.rank l e.tag (λ m. is_crowded m ≡ true)
+  pub closing : (l : ℕ) → l < links c.dims → sender_at c.dims l ≡ c.rank → (hop_at c.dims l ≡ 1 → after.done ≡ true) → HasArrived (buffers_of after) l → (out_of after l).closed ≡ false → is_crowded l ≡ true
+  pub over : IsOver after → c'.phase ≡ Complete
+
+-- A push toward a rank was refused: after the turn's pushes the open parcel toward it held as many entries as it can.
+pub record WasRefused (c : State) (to cap : ℕ) : Type 0 where
+  pub at_push : State
+  pub same : at_push ≡ record c { outs = at_push.outs; pulled = at_push.pulled }
+  pub full : standing_toward at_push to ≡ cap

@@ -1,0 +1,55 @@
+-- What a run exchanged, as its closed rounds tell it.
+use Rattle.std.specs.Prelude.{◌≡◌, ℕ, zero, suc, ◌+◌, ◌*◌, ◌<◌, Bool, List, [], ◌∷◌, length, Option, Some, None, slice_get}
+use Rattle.bale_types.specs.declared.item.Item.{Item}
+use Rattle.route_tensor.specs.Grid.{ranks}
+use Rattle.route_tensor.specs.Link.{links}
+use Rattle.port_bank.specs.Logs.{lasts}
+use Rattle.convey.specs.Agreement.{EndsLast}
+use Rattle.port_bank.specs.Shapes.{IsConveyorShape}
+use Rattle.port_bank.specs.Round.{Round, logs_of, pushed, pulled}
+use Rattle.round_program.specs.Rules.{Rules}
+use Rattle.round_program.specs.Canonical.{absorbed_round, states_at, items_at, emitted_by}
+use Rattle.round_program.specs.Epochs.{vote_item}
+
+-- With what a bank was made: the grid, the capacity of a parcel, the slots of a link, and whether it was a slot bank.
+pub record Made : Type 0 where
+  pub dims : List ℕ
+  pub cap : ℕ
+  pub slots : ℕ
+  pub by_slots : Bool
+
+-- What a program votes, on its way; of no program there is no item.
+abbrev pub vote_sent : {S : Type 0} → Rules S → Option S → List Item
+vote_sent R None = []
+vote_sent R (Some s) = vote_item (R.vote s) ∷ []
+
+-- A closed round tells a run of n rounds that began in some states.
+-- bank: it was made as asked.
+-- ended, by_last: each link ended two epochs a round, and nothing came after them. collected: all parcels were.
+-- work: in epoch 2m each rank pushed toward each rank what it emits to it in round m of the canonical run.
+-- votes: in epoch 2m + 1 it pushed its one vote on round m.
+-- all_came: each rank pulled what was pushed toward it.
+-- shape: each parcel is filled as conveyors fill it, steady or not.
+-- With two ranks and six rounds there are 12 epochs; in each odd one each of the four pairs has one item.
+pub record TellsRun {S : Type 0} (R : Rules S) (starts : List S) (n : ℕ) (made : Made) (steady : Bool) (round : Round) : Type 0 where
+  pub bank : record { dims = round.dims; cap = round.cap; slots = round.slots; by_slots = round.by_slots } ≡ made
+  pub ended : (l : ℕ) → l < links round.dims → lasts (logs_of round.sent l) ≡ 2 * n
+  pub by_last : (l : ℕ) → l < links round.dims → EndsLast (logs_of round.sent l)
+  pub collected : (l : ℕ) → l < links round.dims → logs_of round.got l ≡ logs_of round.sent l
+  pub work : (m s d : ℕ) → m < n → s < ranks round.dims → d < ranks round.dims → pushed round (2 * m) s d ≡ emitted_by R (states_at R starts m) d s
+  pub votes : (m s d : ℕ) → m < n → s < ranks round.dims → d < ranks round.dims → pushed round (2 * m + 1) s d ≡ vote_sent R (slice_get (absorbed_round R (states_at R starts m)) s)
+  pub all_came : (e s d : ℕ) → s < ranks round.dims → d < ranks round.dims → pulled round e d s ≡ pushed round e s d
+  pub shape : (l : ℕ) → l < links round.dims → IsConveyorShape steady round.cap (logs_of round.sent l)
+
+-- How many turns an epoch takes at most in which so many items are sent: each turn but P of them moves something, and a
+-- parcel or an entry moves at most so often.
+-- one_rank: turns_of (1) 4 is 1 * (4 * 4 + 2 * 1 + 1) = 19.
+abbrev pub turns_of : List ℕ → ℕ → ℕ
+turns_of dims items = ranks dims * (items * (3 * length dims + 1) + 2 * links dims + 1)
+
+-- How many turns the first n rounds of a run take at most: those of each round's work, and those of its votes, one from
+-- each rank to each.
+-- For one rank, four entries and one round it is 19 + 7 = 26.
+abbrev pub turns_within : {S : Type 0} → Rules S → List ℕ → List S → ℕ → ℕ
+turns_within R dims starts zero = 0
+turns_within R dims starts (suc n) = turns_within R dims starts n + (turns_of dims (items_at R starts n) + turns_of dims (ranks dims * ranks dims))

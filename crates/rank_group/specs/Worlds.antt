@@ -1,0 +1,104 @@
+-- All ranks of a drive over one plain bank, and what a sweep over them leaves.
+use Rattle.std.specs.Prelude.{◌≡◌, ℕ, ◌+◌, ◌-◌, ◌^◌, ◌<◌, ◌≤◌, Bool, false, cond, List, [], length, Option, Some, None, slice_get}
+use Rattle.std.specs.List.{flat_map}
+use Rattle.bale_types.specs.declared.item.Entry.{Entry}
+use Rattle.item_buffer.specs.Contents.{Shipped}
+use Rattle.list_laws.specs.Sums.{total}
+use Rattle.route_tensor.specs.Grid.{ranks, IsGrid}
+use Rattle.route_tensor.specs.Link.{links}
+use Rattle.route_tensor.specs.Ends.{reader_at}
+use Rattle.port_bank.specs.Logs.{Logs, starting_at, ending_at}
+use Rattle.port_bank.specs.Link.{LinkLaw}
+use Rattle.port_bank.specs.Machine.{Part}
+use Rattle.port_bank.specs.Relay.{RelayLaw}
+use Rattle.hop_core.specs.declared.phase.Phase.TheVariants.{Dormant}
+use Rattle.hop_core.specs.declared.lent.Lent.TheVariants as lent
+use Rattle.hop_core.specs.State.{State}
+use Rattle.convey.specs.Buffers.{buffers_of, in_of}
+use Rattle.convey.specs.Parts.{part_of}
+use Rattle.round_program.specs.Rules.{Rules}
+use Rattle.round_program.specs.Canonical.{HasRounds, InRound}
+use Rattle.rank_group.specs.Next.{extended}
+use Rattle.rank_group.specs.Ranks.{RankState, HasRank, IsLeft, progress, crowded_in, idle_in}
+
+-- the entries of some parcels
+abbrev pub entries_of : List Shipped → List Entry
+entries_of log = flat_map (λ p. p.entries) log
+
+-- a rank that has none: no state of a conveyor
+abbrev pub nowhere : State
+nowhere = record { dims = []; rank = 0; cap = 0; steady = false; outs = []; ins = []; done = false; phase = Dormant; epoch = 0; lent = lent.Nothing; pulled = None }
+
+abbrev pub conveyor_in : {S : Type 0} → Option (RankState S) → State
+conveyor_in None = nowhere
+conveyor_in (Some n) = n.node.conveyor
+
+abbrev pub progress_in : {S : Type 0} → Option (RankState S) → ℕ
+progress_in None = 0
+progress_in (Some n) = progress n
+
+-- a history with the state in which a run has ended
+abbrev pub history_in : {S : Type 0} → (ℕ → S) → Option (RankState S) → ℕ → S
+history_in h None = h
+history_in h (Some n) = cond n.over (extended h (n.node.run.round + 1) n.node.run.prog) h
+
+abbrev pub part_at : {S : Type 0} → List ℕ → List (RankState S) → Logs → Logs → ℕ → Part
+part_at dims rs sent got r = part_of (buffers_of (conveyor_in (slice_get rs r))) (starting_at dims r sent) (ending_at dims r got)
+
+-- how many entries lie in the inbox of a link
+abbrev pub inbox : {S : Type 0} → List ℕ → List (RankState S) → ℕ → ℕ
+inbox dims rs l = length (in_of (conveyor_in (slice_get rs (reader_at dims l))) l).parcel.untaken
+
+-- all ranks over one bank
+pub record World {S : Type 0} (R : Rules S) (dims : List ℕ) (cap slots : ℕ) (steady : Bool) (starts : List S) (h : ℕ → ℕ → S) (rs : List (RankState S)) (sent got : Logs) : Type 0 where
+  pub grid : IsGrid dims
+  pub links_keep : (l : ℕ) → l < links dims → LinkLaw cap slots (sent l) (got l)
+  pub none_past : (l : ℕ) → links dims ≤ l → (sent l ≡ []) × (got l ≡ [])
+  pub relays : (r : ℕ) → r < ranks dims → RelayLaw dims r sent got
+  pub some : 0 < cap
+  pub inboxes : (l : ℕ) → l < links dims → inbox dims rs l ≤ length (entries_of (got l))
+  pub all : length rs ≡ ranks dims
+  pub each : (r : ℕ) (n : RankState S) → slice_get rs r ≡ Some n → HasRank R dims cap steady r (h r) n sent got
+  pub begins : (r : ℕ) (s : S) → slice_get starts r ≡ Some s → h r 0 ≡ s
+
+-- what moved so far
+abbrev pub move_of : {S : Type 0} → List ℕ → List (RankState S) → Logs → Logs → ℕ → ℕ
+move_of dims rs sent got l = length (sent l) + length (got l) + (length (entries_of (got l)) - inbox dims rs l)
+
+abbrev pub moves : {S : Type 0} → List ℕ → List (RankState S) → Logs → Logs → ℕ
+moves dims rs sent got = total (links dims) (move_of dims rs sent got)
+
+-- what holds of the logs of all ranks over a bank
+pub record Lawful (dims : List ℕ) (cap slots : ℕ) (sent got : Logs) : Type 0 where
+  pub links_keep : (l : ℕ) → l < links dims → LinkLaw cap slots (sent l) (got l)
+  pub none_past : (l : ℕ) → links dims ≤ l → (sent l ≡ []) × (got l ≡ [])
+  pub relays : (r : ℕ) → r < ranks dims → RelayLaw dims r sent got
+
+-- a rank at rest, over lists that its turn didn't change
+pub record Rests (dims : List ℕ) (slots r : ℕ) (c' : State) (sent got : Logs) : Type 0 where
+  pub c : State
+  pub same_dims : c.dims ≡ dims
+  pub same_rank : c.rank ≡ r
+  pub same_epoch : c.epoch ≡ c'.epoch
+  pub kept : (l : ℕ) → l < links dims → reader_at dims l ≡ r → length (in_of c l).parcel.untaken ≤ length (in_of c' l).parcel.untaken
+  pub left : IsLeft c c' (starting_at dims r sent) (ending_at dims r got) (starting_at dims r sent) (ending_at dims r got) (crowded_in dims slots r sent got) (idle_in dims r sent got)
+
+-- What a drive is given: programs that begin one run of n rounds, and links with some slots.
+pub record Plan {S : Type 0} (R : Rules S) (dims : List ℕ) (slots : ℕ) (starts : List S) (n : ℕ) : Type 0 where
+  pub shape : List ℕ
+  pub most : ℕ
+  pub start : InRound R (ranks dims) 0 shape most starts
+  pub rounds : HasRounds R starts n
+  pub few : n < 2 ^ 62
+  pub some : 0 < slots
+
+-- What the turns of the first i ranks of an order leave of all ranks.
+-- forward: no rank goes back. grown: what moved stays moved.
+-- rests: where nothing moved, each rank that was turned and is in its epoch still is at rest.
+pub record SweptTo {S : Type 0} (R : Rules S) (dims : List ℕ) (cap slots : ℕ) (steady : Bool) (starts : List S) (order : List ℕ) (i : ℕ) (rs0 : List (RankState S)) (sent0 got0 : Logs) (rs : List (RankState S)) (sent got : Logs) : Type 0 where
+  pub h : ℕ → ℕ → S
+  pub world : World R dims cap slots steady starts h rs sent got
+  pub grown : moves dims rs0 sent0 got0 ≤ moves dims rs sent got
+  pub forward : (r : ℕ) (x0 x : RankState S) → slice_get rs0 r ≡ Some x0 → slice_get rs r ≡ Some x → progress x0 ≤ progress x
+  pub rests : moves dims rs sent got ≤ moves dims rs0 sent0 got0 → (j r : ℕ) → j < i → slice_get order j ≡ Some r → (x0 x : RankState S) → slice_get rs0 r ≡ Some x0 → slice_get rs r ≡ Some x
+      → x.over ≡ false → progress x ≡ progress x0 → Rests dims slots r x.node.conveyor sent got

@@ -1,0 +1,87 @@
+//! What is left of a run's bank.
+ghost use Rattle.std.specs.Prelude.{◌≡◌, ◌++◌, ◌∷◌, [], List, length, slice_get, OnOk, OnErr};
+ghost use Rattle.std.specs.Option.{option_copied};
+ghost use Rattle.route_tensor.specs.Grid.{ranks};
+ghost use Rattle.port_bank.specs.Round.{epochs_of};
+ghost use Rattle.rank_group.specs.Rounds.{round_of};
+
+use bale_types::NoMemory;
+use port_bank::PlainRound;
+use std::alloc::Global;
+use std::marker::Model;
+
+/// All parcels that were posted and collected in a run, closed.
+#[derive(Drop)]
+pub enum ClosedRound {
+    /// On a plain bank.
+    Plain(PlainRound),
+}
+
+impl ClosedRound {
+    /// The number of ranks.
+    pub fn ranks(&self) -> u32
+        ensures { result ≡ ranks (round_of self.now).dims }
+    {
+        match self {
+            ClosedRound::Plain(round) => round.ranks(),
+        }
+    }
+
+    /// How many epochs every link has ended.
+    pub fn epochs(&self) -> u64
+        ensures { result ≡ epochs_of (round_of self.now) }
+    {
+        match self {
+            ClosedRound::Plain(round) => round.epochs(),
+        }
+    }
+}
+
+/// The closed rounds of a run, in order.
+#[derive(Drop)]
+pub struct Rounds {
+    list: Vec<ClosedRound>,
+}
+
+impl Model for Rounds {
+    ghost use Rattle.std.specs.Prelude.{List};
+    ghost use Rattle.rank_group.specs.declared.closed_round.ClosedRound.{ClosedRound};
+
+    ghost Value = { List ClosedRound };
+
+    ghost view = { λ r. r.list.items };
+}
+
+impl Rounds {
+    /// An empty list, whose later growth takes memory from `alloc`.
+    pub fn new(alloc: Global) -> Rounds
+        ensures { result ≡ [] }
+    {
+        Rounds {
+            list: Vec::new(alloc),
+        }
+    }
+
+    /// Puts `c` at the end. After `NoMemory` the list is as before, and `c` is dropped.
+    pub fn add(&mut self, c: ClosedRound) -> Result<(), NoMemory>
+        ensures added { OnOk result (self.new ≡ self.old ++ c ∷ []) }
+        ensures refused { OnErr result (self.new ≡ self.old) }
+    {
+        self.list.push(c)?;
+        Ok(())
+    }
+
+    /// The number of closed rounds.
+    pub fn len(&self) -> usize
+        ensures { result ≡ length self.now }
+    {
+        self.list.len()
+    }
+
+    /// The closed round number `i`, or `None` exactly past the end.
+    pub fn get(&self, i: usize) -> Option<&ClosedRound>
+        ensures { option_copied result ≡ slice_get self.now i }
+    {
+        self.list.get(i)
+    }
+}

@@ -1,0 +1,137 @@
+//! Turns the nodes of all ranks over one plain bank, sweep after sweep.
+//!
+//! In a sweep some parcel is posted or collected, or some entry is taken from an inbox; or else the least epoch is over for
+//! every rank that is in it. Each of these happens only so often, which bounds the number of sweeps.
+ghost use Rattle.std.specs.Prelude.{◌≡◌, ◌≢◌, ℕ, ◌+◌, ◌*◌, ◌^◌, ◌<◌, ◌≤◌, Bool, List, length, slice_get, Some, IfOk, OnOk, true, false};
+ghost use Rattle.route_tensor.specs.Grid.{ranks};
+ghost use Rattle.port_bank.specs.Plain.{IsBank, sent_of, got_of};
+ghost use Rattle.port_bank.specs.Logs.{starting_at, ending_at};
+ghost use Rattle.convey.specs.Law.{ClosesLaw};
+ghost use Rattle.rank_group.specs.Nodes.{IsNode};
+ghost use Rattle.rank_group.specs.Worlds.{Plan, World, SweptTo};
+ghost use Rattle.rank_group.specs.Ranks.{RankState, HasRank, AfterTurn, AfterRank, IsOrder};
+
+use crate::node::Node;
+use crate::steps::Steps;
+use crate::turn::Turn;
+use bale_types::NoMemory;
+use port_bank::PlainBank;
+use round_program::Program;
+use std::marker::Model;
+use std::sync::ledger::Ledger;
+
+/// A rank of a drive.
+#[derive(Drop)]
+pub struct Rank<Q, const CAP: usize, const HOPS: usize> {
+    node: Node<Q, CAP, HOPS>,
+    /// No epoch follows: the node isn't turned again.
+    over: bool,
+}
+
+impl<Q, const CAP: usize, const HOPS: usize> Model for Rank<Q, CAP, HOPS> {
+    ghost use Rattle.rank_group.specs.Ranks.{RankState};
+
+    ghost Value = { RankState Q };
+
+    ghost view = { λ r. record { node = r.node; over = r.over } };
+}
+
+/// Turns the node of a rank, where its run isn't over, and goes on to its next epoch, where one has ended.
+fn turn_rank<const CAP: usize, const HOPS: usize, Q: Program, L: Ledger>(
+    bank: PlainBank<CAP>,
+    rank: &mut Rank<Q, CAP, HOPS>,
+    number: u32,
+    steps: &mut Steps<L>,
+) -> Result<PlainBank<CAP>, NoMemory>
+    requires number { number < ranks bank.dims }
+    requires few { rank.old.node.conveyor.epoch < 2 ^ 63 }
+    requires rank { (steady : _) × (h : ℕ → Q) × HasRank Q.rules bank.dims CAP steady number h rank.old (sent_of bank) (got_of bank) }
+    ensures lawful { IfOk result (λ b. IsBank CAP b) }
+    ensures same_dims { IfOk result (λ b. b.dims ≡ bank.entry.dims) }
+    ensures same_slots { IfOk result (λ b. b.slots ≡ bank.entry.slots) }
+    ensures most_steps { steps.new ≤ steps.old + 1 }
+    ensures steps { IfOk result (λ b. rank.old.over ≡ false → steps.new ≡ steps.old + 1) }
+    ensures turned { IfOk result (λ b. AfterRank Q.rules bank.entry.dims CAP bank.entry.slots number rank.old rank.new (sent_of bank.entry) (got_of bank.entry) (sent_of b) (got_of b)) }
+{
+    if rank.over {
+        return Ok(bank);
+    }
+    let (bank, turn) = turn_node(bank, &mut rank.node, number, steps)?;
+    match turn {
+        Turn::Going => Ok(bank),
+        Turn::Ended => {
+            rank.over = !rank.node.next()?;
+            Ok(bank)
+        }
+    }
+}
+
+/// Turns a node over its rank's port.
+fn turn_node<const CAP: usize, const HOPS: usize, Q: Program, L: Ledger>(
+    bank: PlainBank<CAP>,
+    node: &mut Node<Q, CAP, HOPS>,
+    number: u32,
+    steps: &mut Steps<L>,
+) -> Result<(PlainBank<CAP>, Turn), NoMemory>
+    requires number { number < ranks bank.dims }
+    requires same_dims { node.old.conveyor.dims ≡ bank.dims }
+    requires same_rank { node.old.conveyor.rank ≡ number }
+    requires node { (h : ℕ → Q) × IsNode Q.rules h node.old (starting_at bank.dims number (sent_of bank)) (ending_at bank.dims number (got_of bank)) }
+    ensures lawful { IfOk result (λ b. IsBank CAP b.0) }
+    ensures same_dims { IfOk result (λ b. b.0.dims ≡ bank.entry.dims) }
+    ensures same_slots { IfOk result (λ b. b.0.slots ≡ bank.entry.slots) }
+    ensures steps { steps.new ≡ steps.old + 1 }
+    ensures turned { IfOk result (λ b. AfterTurn Q.rules bank.entry.dims CAP bank.entry.slots number b.1 node.old node.new (sent_of bank.entry) (got_of bank.entry) (sent_of b.0) (got_of b.0)) }
+{
+    let mut port = bank.port(number);
+    let turn = node.turn(&mut port, steps)?;
+    Ok((port.into_bank(), turn))
+}
+
+/// Turns the rank with a number.
+fn turn_one<const CAP: usize, const HOPS: usize, Q: Program, L: Ledger>(
+    bank: PlainBank<CAP>,
+    all: &mut Vec<Rank<Q, CAP, HOPS>>,
+    number: u32,
+    steps: &mut Steps<L>,
+) -> Result<PlainBank<CAP>, NoMemory>
+    requires number { number < ranks bank.dims }
+    requires law { ClosesLaw }
+    requires world { (steady : Bool) × (starts : List Q) × (n : ℕ) × (h : ℕ → ℕ → Q) × Plan Q.rules bank.dims bank.slots starts n × World Q.rules bank.dims CAP bank.slots steady starts h all.old.items (sent_of bank) (got_of bank) }
+    ensures size { length all.new.items ≡ length all.old.items }
+    ensures others { (k : ℕ) → k ≢ number → slice_get all.new.items k ≡ slice_get all.old.items k }
+    ensures lawful { IfOk result (λ b. IsBank CAP b) }
+    ensures same_dims { IfOk result (λ b. b.dims ≡ bank.entry.dims) }
+    ensures same_slots { IfOk result (λ b. b.slots ≡ bank.entry.slots) }
+    ensures most_steps { steps.new ≤ steps.old + 1 }
+    ensures turned { (n n' : RankState Q) → slice_get all.old.items number ≡ Some n → slice_get all.new.items number ≡ Some n'
+        → IfOk result (λ b. AfterRank Q.rules bank.entry.dims CAP bank.entry.slots number n n' (sent_of bank.entry) (got_of bank.entry) (sent_of b) (got_of b)) }
+{
+    turn_rank(bank, &mut all[number as usize], number, steps)
+}
+
+/// Turns each rank once, in the order given.
+fn sweep<const CAP: usize, const HOPS: usize, Q: Program, L: Ledger>(
+    bank: PlainBank<CAP>,
+    all: &mut Vec<Rank<Q, CAP, HOPS>>,
+    order: &[u32],
+    steps: &mut Steps<L>,
+) -> Result<PlainBank<CAP>, NoMemory>
+    requires law { ClosesLaw }
+    requires order { IsOrder (ranks bank.dims) order.now }
+    requires lawful { IsBank CAP bank }
+    requires world { (steady : Bool) × (starts : List Q) × (n : ℕ) × (h : ℕ → ℕ → Q) × Plan Q.rules bank.dims bank.slots starts n × World Q.rules bank.dims CAP bank.slots steady starts h all.old.items (sent_of bank) (got_of bank) }
+    ensures lawful { IfOk result (λ b. IsBank CAP b) }
+    ensures same_dims { IfOk result (λ b. b.dims ≡ bank.entry.dims) }
+    ensures same_slots { IfOk result (λ b. b.slots ≡ bank.entry.slots) }
+    ensures most_steps { steps.new ≤ steps.old + length order.now }
+    ensures swept { (steady : Bool) (starts : List Q) (n : ℕ) (h : ℕ → ℕ → Q) → Plan Q.rules bank.entry.dims bank.entry.slots starts n
+        → World Q.rules bank.entry.dims CAP bank.entry.slots steady starts h all.old.items (sent_of bank.entry) (got_of bank.entry)
+        → IfOk result (λ b. SweptTo Q.rules bank.entry.dims CAP bank.entry.slots steady starts order.now (length order.now) all.old.items (sent_of bank.entry) (got_of bank.entry) all.new.items (sent_of b) (got_of b)) }
+{
+    let mut bank = bank;
+    for i in 0..order.len() {
+        bank = turn_one(bank, all, order[i], steps)?;
+    }
+    Ok(bank)
+}

@@ -120,10 +120,38 @@ unfolding status_of
 memory_is = refl
 
 -- a refusal of words
-pub refused : {T : Type 0} (r : Refusal) → (Err {T = T} r ≡ Err Usage) ⊎ (Err {T = T} r ≡ Err NoMemory) → (r ≡ Usage) ⊎ (r ≡ NoMemory)
+pub refused : (r : Refusal) → (◌≡◌ {A = Result (Unit {0}) Refusal} (Err r) (Err Usage)) ⊎ (◌≡◌ {A = Result (Unit {0}) Refusal} (Err r) (Err NoMemory)) → (r ≡ Usage) ⊎ (r ≡ NoMemory)
 refused r (inl e) = inl (cc)
 refused r (inr e) = inr (cc)
 
 pub not_write : (r : Refusal) → (r ≡ Usage) ⊎ (r ≡ NoMemory) → r ≡ WriteFault → ⊥
 not_write r (inl e) w = cc
 not_write r (inr e) w = cc
+
+-- it comes before the text is read
+pub undecided : (T : Type 0) (r : Refusal) → (r ≡ Usage) ⊎ (r ≡ NoMemory) → IsDecided {T = T} (Err r) → ⊥
+undecided T r (inl e) d = subst (λ k. IsDecided {T = T} (Err k)) e d
+undecided T r (inr e) d = subst (λ k. IsDecided {T = T} (Err k)) e d
+
+-- an answer is none
+pub not_refused : (u : Unit {0}) → (◌≡◌ {A = Result (Unit {0}) Refusal} (Ok u) (Err Usage)) ⊎ (◌≡◌ {A = Result (Unit {0}) Refusal} (Ok u) (Err NoMemory)) → ⊥
+not_refused u (inl e) = cc
+not_refused u (inr e) = cc
+
+-- where there is an answer, it is the serial one
+pub answer_status : (job : Option Job) (text : List ℕ) (P : Sparse → Type 0) → (job ≡ None → ⊥) → IsOkAnd (matrix_of text) P → 0 ≡ (answer_to job text).status
+answer_status None text P some h = absurd (some refl)
+answer_status (Some j) text P some h = at (matrix_of text) h
+  where
+    at : (m : Result Sparse BadLine) → IsOkAnd m P → 0 ≡ (answer_for m).status
+    at (Ok m) h = refl
+    at (Err b) h = absurd h
+
+pub answer_out : (taken old : Option (List ℕ)) (job : Option Job) (text : List ℕ) → (job ≡ None → ⊥)
+    → IsOkAnd (matrix_of text) (λ m. taken ≡ after old (histo_lines m.entries m.cols)) → taken ≡ after old (answer_to job text).out
+answer_out taken old None text some h = absurd (some refl)
+answer_out taken old (Some j) text some h = at (matrix_of text) h
+  where
+    at : (m : Result Sparse BadLine) → IsOkAnd m (λ m. taken ≡ after old (histo_lines m.entries m.cols)) → taken ≡ after old (answer_for m).out
+    at (Ok m) h = h
+    at (Err b) h = absurd h

@@ -14,9 +14,9 @@ mod job;
 mod outcome;
 mod refusal;
 
+pub use job::Job;
 pub use outcome::{Outcome, run};
 pub use refusal::{Refusal, report};
-pub use job::Job;
 
 #[cfg(test)]
 mod tests;

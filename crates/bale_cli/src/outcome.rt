@@ -10,8 +10,8 @@ ghost use Rattle.bale_cli.specs.Jobs.{job_of};
 
 use crate::count::count_columns;
 use crate::histo::write_histo;
-use crate::refusal::{Refusal, report};
 use crate::job::{Job, read_job};
+use crate::refusal::{Refusal, report};
 use bale_types::{Failed, NoMemory, Out, Sink, Source};
 use mtx_text::{Matrix, read_matrix};
 use std::alloc::Global;
@@ -97,7 +97,10 @@ fn answer<S: Source, K: Sink>(
     ensures read_whole { (text : List ℕ) → S.left source.old ≡ Some text → IsDecided result → S.left source.new ≡ Some (drop 16_777_217 text) }
     ensures no_answer { (r : _) → result ≡ Err r → r ≢ Refusal.WriteFault → K.taken out.new ≡ K.taken out.old }
 {
-    let job = read_job(alloc, words)?;
+    let job = match read_job(alloc, words) {
+        Ok(job) => job,
+        Err(refusal) => return Err(refusal),
+    };
     let matrix = read_matrix(alloc, source)?;
     let counts = count(alloc, job, &matrix)?;
     write_answer(out, matrix.cols(), &counts)?;

@@ -53,7 +53,7 @@ fn grids_and_buffers_give_one_answer(rt: HostRuntime) -> Result<(), Fail> {
         "histo --grid 1 --buffer 64 --drive serial",
         "histo --grid 64 --buffer 1 --drive serial",
         "histo --grid 004 --buffer 1024 --drive serial",
-        "histo --grid 3 --buffer 2 --drive serial",
+        "histo --drive=serial --slots 2 --grid=3 --steady no --via convey",
     ];
     for words in words {
         assert_eq!(rt;
@@ -67,17 +67,15 @@ fn grids_and_buffers_give_one_answer(rt: HostRuntime) -> Result<(), Fail> {
 
 #[test]
 fn other_words_are_refused(rt: HostRuntime) -> Result<(), Fail> {
+    // No command, and then commands that don't run yet.
     let words = [
-        "",
+        "histo --grid 65 --drive serial",
+        "histo --drive serial more",
         "histo",
-        "histo --grid 4 --buffer 3 --drive serial",
-        "histo --grid 65 --buffer 2 --drive serial",
-        "histo --grid 0 --buffer 2 --drive serial",
-        "histo --grid +4 --buffer 2 --drive serial",
-        "histo --grid 4 --buffer 2048 --drive serial",
-        "histo --grid 4 --buffer 2 --drive threads",
-        "histo --grid 4 --buffer 2 --drive serial more",
-        "--grid 4 histo --buffer 2 --drive serial",
+        "ig --drive serial",
+        "histo --grid 2x2 --drive serial",
+        "histo --slots 4 --drive serial",
+        "histo --gen 2,3,42 --drive serial",
     ];
     for words in words {
         assert_eq!(rt;

@@ -78,6 +78,7 @@ impl<Q: Program, const CAP: usize, const HOPS: usize> Node<Q, CAP, HOPS> {
         requires first { Q.rules.round prog ≡ 0 }
         ensures node { IfOk result (λ n. IsNode Q.rules (λ m. prog) n (λ l. []) (λ l. [])) }
         ensures prog { IfOk result (λ n. n.run.prog ≡ prog) }
+        ensures next { IfOk result (λ n. n.run.next ≡ 0) }
         ensures dims { IfOk result (λ n. n.conveyor.dims ≡ grid.now) }
         ensures rank { IfOk result (λ n. n.conveyor.rank ≡ Q.rules.rank prog) }
         ensures steady { IfOk result (λ n. n.conveyor.steady ≡ steady) }

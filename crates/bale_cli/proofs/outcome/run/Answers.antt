@@ -4,7 +4,7 @@ use Rattle.bale_cli.specs.declared.refusal.Refusal.{Refusal}
 use Rattle.bale_cli.specs.declared.refusal.Refusal.TheVariants.{Usage}
 use Rattle.bale_cli.specs.Answer.{status_of}
 use Rattle.bale_cli.specs.Jobs.{job_of}
-use Rattle.bale_cli.proofs.Endings.{not_zero, is_usage, usage_is, is_read_fault, is_write_fault, write_fault_is, bad_is, status_same, said_at, decided, answer_front, memory_is, refused, not_write}
+use Rattle.bale_cli.proofs.Endings.{not_zero, is_usage, usage_is, is_read_fault, is_write_fault, write_fault_is, bad_is, status_same, said_at, decided, answer_front, memory_is, refused, not_write, not_refused, answer_status, answer_out}
 use Rattle.bale_cli.proofs.outcome.run.Goals as goal
 
 pub returns-in-Err-clause-usage : goal.returns-in-Err-clause-usage
@@ -73,3 +73,12 @@ returns-in-Err-clause-front g c = λ text told four.
     answer_front (g.K.Sink.taken c.answer.new.out) (g.K.Sink.taken c.args.out.now) (job_of (map string_bytes c.args.words.now)) text
     (λ none. not_write c.in-Err.refusal (refused c.in-Err.refusal (c.in-Err.ensures.no_command none)) (is_write_fault c.in-Err.refusal (sym c.status.ensures ∙ four)))
     (c.in-Err.ensures.front text told (ap (λ (r : Refusal). Err r) (is_write_fault c.in-Err.refusal (sym c.status.ensures ∙ four))))
+
+pub returns-in-Ok-clause-status : goal.returns-in-Ok-clause-status
+returns-in-Ok-clause-status g c = λ text told three four seven.
+    answer_status (job_of (map string_bytes c.args.words.now)) text _ (λ none. not_refused _ (c.in-Ok.ensures.no_command none)) (c.in-Ok.ensures.done text told)
+
+pub returns-in-Ok-clause-answer : goal.returns-in-Ok-clause-answer
+returns-in-Ok-clause-answer g c = λ text told zero.
+    answer_out (g.K.Sink.taken c.answer.new.out) (g.K.Sink.taken c.args.out.now) (job_of (map string_bytes c.args.words.now)) text
+    (λ none. not_refused _ (c.in-Ok.ensures.no_command none)) (c.in-Ok.ensures.done text told)

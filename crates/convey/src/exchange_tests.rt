@@ -145,6 +145,7 @@ fn epoch(
 }
 
 /// Two epochs: how many the bank has ended, where no call answers otherwise than it should.
+#[tactic(auto, unfolding(port_bank::specs::Port::IsSlots))]
 fn exchange(alloc: Global, pulled: &mut Vec<Got>) -> Result<Option<u64>, NoMemory> {
     let Ok(grid) = Grid::new(&[2, 2, 2]) else {
         return Ok(None);

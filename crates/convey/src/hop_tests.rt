@@ -321,6 +321,7 @@ fn two_epochs<const CAP: usize>(
     Ok(Some(bank.close().epochs()))
 }
 
+#[tactic(auto, unfolding(port_bank::specs::Port::IsSlots))]
 #[test]
 fn two_epochs_by_hand(rt: HostRuntime) -> Result<(), Fail> {
     for (cap, slots) in [(1, 1), (2, 2)] {

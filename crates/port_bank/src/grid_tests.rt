@@ -74,6 +74,7 @@ fn collect_last(
 
 /// Ends two epochs on every link of the grid 2x2x2 with one slot per link, and closes the bank: how many epochs it
 /// has ended, where no link was stuck.
+#[tactic(auto, unfolding(crate::specs::Port::IsSlots))]
 fn two_epochs(alloc: Global) -> Result<Option<u64>, NoMemory> {
     let Ok(grid) = Grid::new(&[2, 2, 2]) else {
         return Ok(None);

@@ -172,6 +172,7 @@ fn makes_steps(alloc: Global, slots: u32, steps: &[Step]) -> Result<Option<u64>,
     Ok(Some(round.epochs()))
 }
 
+#[tactic(auto, unfolding(crate::specs::Port::IsSlots))]
 #[test]
 fn slot_bank_by_hand(rt: HostRuntime) -> Result<(), Fail> {
     let two_slots = [
@@ -188,6 +189,7 @@ fn slot_bank_by_hand(rt: HostRuntime) -> Result<(), Fail> {
     Ok(())
 }
 
+#[tactic(auto, unfolding(crate::specs::Port::IsSlots))]
 #[test]
 fn slots_by_hand(rt: HostRuntime) -> Result<(), Fail> {
     let one_slot = [
@@ -211,6 +213,7 @@ fn slots_by_hand(rt: HostRuntime) -> Result<(), Fail> {
 }
 
 /// Two epochs on one link, of which the reader has seen the end of as many as it collected last parcels.
+#[tactic(auto, unfolding(crate::specs::Port::IsSlots))]
 #[test]
 fn epochs_by_hand(rt: HostRuntime) -> Result<(), Fail> {
     let two_epochs = [

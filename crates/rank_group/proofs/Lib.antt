@@ -18,6 +18,8 @@ pub mod Bounds
 pub mod Moves
 pub mod Swept
 pub mod Resting
+pub mod Potential
+pub mod Driven
 pub mod Orders
 pub mod Turned
 pub mod Stuck

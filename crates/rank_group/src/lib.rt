@@ -25,6 +25,7 @@ mod node;
 mod pushing;
 mod row;
 mod row_node;
+mod running;
 mod sending;
 mod sends;
 mod steps;

@@ -20,6 +20,7 @@ pub mod Swept
 pub mod Resting
 pub mod Potential
 pub mod Driven
+pub mod Making
 pub mod Orders
 pub mod Turned
 pub mod Stuck

@@ -23,6 +23,7 @@ mod closed_round;
 mod ending;
 mod node;
 mod pushing;
+mod ranks;
 mod row;
 mod row_node;
 mod running;

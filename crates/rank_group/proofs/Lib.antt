@@ -21,6 +21,8 @@ pub mod Resting
 pub mod Potential
 pub mod Driven
 pub mod Making
+pub mod Telling
+pub mod Ended
 pub mod Orders
 pub mod Turned
 pub mod Stuck

@@ -20,6 +20,7 @@
 
 mod absorbing;
 mod closed_round;
+mod drive;
 mod ending;
 mod node;
 mod pushing;
@@ -36,6 +37,7 @@ mod turn;
 mod via;
 
 pub use closed_round::{ClosedRound, Rounds};
+pub use drive::{Finished, drive_serial};
 pub use node::Node;
 pub use row::{finish, nodes_of, turn_all};
 pub use row_node::RowNode;

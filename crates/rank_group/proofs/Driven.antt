@@ -188,14 +188,14 @@ module _ {S : Type 0} (R : Rules S) (cap : ℕ) (rs0 : List (RankState S)) (b0 :
   module _ (laws : Laws R) (law : ClosesLaw) (rest : RestLaw) (order : List ℕ) (is : IsOrder (ranks b0.dims) order) (on : GoesOn rs) (rs' : List (RankState S)) (b' : Bank) (steps' : ℕ)
       (lawful : IsBank cap b') (ed : b'.dims ≡ b.dims) (es : b'.slots ≡ b.slots) (turned : steps' ≤ steps + length order)
       (swept : (steady : Bool) (starts : List S) (n : ℕ) (h : ℕ → ℕ → S) → Plan R b.dims b.slots starts n → World R b.dims cap b.slots steady starts h rs (sent_of b) (got_of b)
-          → SweptTo R b.dims cap b.slots steady starts order (length order) rs (sent_of b) (got_of b) rs' (sent_of b') (got_of b')) where
+      → SweptTo R b.dims cap b.slots steady starts order (length order) rs (sent_of b) (got_of b) rs' (sent_of b') (got_of b')) where
     swept_at : (steady : Bool) (starts : List S) (n : ℕ) (h : ℕ → ℕ → S) → Plan R b0.dims b0.slots starts n → World R b0.dims cap b0.slots steady starts h rs (sent_of b) (got_of b)
         → SweptTo R b0.dims cap b0.slots steady starts order (length order) rs (sent_of b) (got_of b) rs' (sent_of b') (got_of b')
     swept_at =
         subst (λ d. (steady : Bool) (starts : List S) (n : ℕ) (h : ℕ → ℕ → S) → Plan R d b0.slots starts n → World R d cap b0.slots steady starts h rs (sent_of b) (got_of b)
-            → SweptTo R d cap b0.slots steady starts order (length order) rs (sent_of b) (got_of b) rs' (sent_of b') (got_of b')) v.same_dims
+        → SweptTo R d cap b0.slots steady starts order (length order) rs (sent_of b) (got_of b) rs' (sent_of b') (got_of b')) v.same_dims
         (subst (λ k. (steady : Bool) (starts : List S) (n : ℕ) (h : ℕ → ℕ → S) → Plan R b.dims k starts n → World R b.dims cap k steady starts h rs (sent_of b) (got_of b)
-            → SweptTo R b.dims cap k steady starts order (length order) rs (sent_of b) (got_of b) rs' (sent_of b') (got_of b')) v.same_slots swept)
+        → SweptTo R b.dims cap k steady starts order (length order) rs (sent_of b) (got_of b) rs' (sent_of b') (got_of b')) v.same_slots swept)
 
     pub driving_more : Driving R cap rs0 b0 steps0 rs' b' steps'
     driving_more =

@@ -16,7 +16,7 @@ run_all-requires g c = (
       (
         c.in_ok-bank.ensures.lawful,
         run_needs g.Q.Program.rules g.met.Q.Program.laws g.row.CAP c.args.grid.now c.args.slots c.args.steady c.args.progs c.requires.begins.0 c.requires.begins.1 c.requires.begins.2 c.requires.begins.3 c.in_ok-all.all.items c.in_ok-all.ensures.fresh c.requires.some
-    c.in_ok-bank.bank c.in_ok-bank.ensures.made c.in_ok-bank.ensures.lawful,
+            c.in_ok-bank.bank c.in_ok-bank.ensures.made c.in_ok-bank.ensures.lawful,
       ),
     ),
   ),
@@ -55,8 +55,7 @@ returns-clause-rounds g c =
     let w = world_after g.Q.Program.rules g.met.Q.Program.laws g.row.CAP c.args.grid.now c.args.slots c.args.steady c.args.progs c.requires.begins.0 c.requires.begins.1 c.requires.begins.2 c.requires.begins.3 c.in_ok-all.all.items c.in_ok-all.ensures.fresh c.requires.some
     c.in_ok-bank.bank c.in_ok-bank.ensures.made c.in_ok-bank.ensures.lawful c.run_all.new.all.items c.in_ok-bank-2.bank c.in_ok-bank-2.ensures.world in
     let ed = c.in_ok-bank-2.ensures.same_dims ∙ ap (λ (b : Bank). b.dims) c.in_ok-bank.ensures.made in
-    let es = c.in_ok-bank-2.ensures.same_slots ∙ ap (λ (b : Bank). b.slots) c.in_ok-bank.ensures.made in
-    (
+    let es = c.in_ok-bank-2.ensures.same_slots ∙ ap (λ (b : Bank). b.slots) c.in_ok-bank.ensures.made in (
       Plain c.close.result,
       c.in_ok-add.ensures.added ∙ ap (λ xs. xs ++ Plain c.close.result ∷ []) c.new-rounds.ensures,
       λ n rounds. told g.Q.Program.rules g.met.Q.Program.laws c.closes_law.ensures g.row.CAP c.args.grid.now c.args.slots c.args.steady c.args.progs w.0 c.run_all.new.all.items c.in_ok-bank-2.bank ed es w.1 (c.in_ok-bank-2.ensures.over) c.requires.begins.0 c.requires.begins.1 n c.requires.begins.2 rounds c.close.result c.close.ensures.round c.close.ensures.in_order,

@@ -18,6 +18,11 @@ pub mod Bounds
 pub mod Moves
 pub mod Swept
 pub mod Resting
+pub mod Potential
+pub mod Driven
+pub mod Making
+pub mod Telling
+pub mod Ended
 pub mod Orders
 pub mod Turned
 pub mod Stuck

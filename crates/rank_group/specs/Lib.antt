@@ -9,6 +9,7 @@ pub mod Stuck
 pub mod Next
 pub mod Ranks
 pub mod Worlds
+pub mod Drives
 pub mod Rounds
 pub mod Told
 pub mod Pulls

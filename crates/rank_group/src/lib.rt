@@ -2,29 +2,33 @@
 //!
 //! A *node* is one rank: its program and its conveyor. A *turn* pushes what the program emits until an open parcel is
 //! full, advances the conveyor once, and absorbs all that came. A turn never waits, so nodes may be turned in
-//! whatever order.
+//! whatever order. A *sweep* turns each rank once, and `drive_serial` makes sweeps until no epoch follows for any rank.
 //!
 //! | Call | What it does |
 //! |---|---|
+//! | `drive_serial` | drives the programs of all ranks from their first round to their last, on one thread |
 //! | `Node::new` | a node that hasn't turned, for a program of the grid |
 //! | `Node::turn` | one turn; `Ended` exactly where the epoch is over for this rank |
-//! | `Node::is_over` | whether the epoch is over for this rank |
-//! | `Node::into_prog` | the program, unless an absorb found no memory |
+//! | `Node::next` | goes on to the next epoch, where one follows |
 //! | `nodes_of` | a node for each program of a round |
 //! | `turn_all` | turns the nodes of a grid of one number on one thread, until the epoch is over for each |
 //! | `finish` | the programs of the nodes |
 //!
-//! `specs/Parts` says what a program has done, against its rank's part of the exchange machine: which of its emissions
-//! are pushed, and that its state is the one that its pulls make of the start, in whatever order they came.
+//! `specs/Told` says what the closed round of a run tells, and how many turns a run takes at most. `specs/Runs` says what a
+//! rank has done, against its part of the exchange machine: which of its emissions are pushed, and that its state is the
+//! one that its pulls make of the start, in whatever order they came.
 #![tactic(auto)]
 
 mod absorbing;
 mod closed_round;
+mod drive;
 mod ending;
 mod node;
 mod pushing;
+mod ranks;
 mod row;
 mod row_node;
+mod running;
 mod sending;
 mod sends;
 mod steps;
@@ -34,6 +38,7 @@ mod turn;
 mod via;
 
 pub use closed_round::{ClosedRound, Rounds};
+pub use drive::{Finished, drive_serial};
 pub use node::Node;
 pub use row::{finish, nodes_of, turn_all};
 pub use row_node::RowNode;

@@ -235,6 +235,22 @@ impl<Q: Program, const CAP: usize, const HOPS: usize> Node<Q, CAP, HOPS> {
             Follows::SpoiledNothing => return Err(NoMemory),
         }
     }
+
+    /// The program.
+    pub(crate) fn into_prog(self) -> Q
+        ensures { result ≡ self.run.prog }
+    {
+        let Node {
+            prog,
+            conveyor: _,
+            rank_count: _,
+            round: _,
+            sends: _,
+            next: _,
+            taken: _,
+        } = self;
+        Box::into_inner(prog)
+    }
 }
 
 /// What a turn tells, by how far its advance came.

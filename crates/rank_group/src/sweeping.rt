@@ -23,9 +23,9 @@ use std::sync::ledger::Ledger;
 /// A rank of a drive.
 #[derive(Drop)]
 pub struct Rank<Q, const CAP: usize, const HOPS: usize> {
-    node: Node<Q, CAP, HOPS>,
+    pub(crate) node: Node<Q, CAP, HOPS>,
     /// No epoch follows: the node isn't turned again.
-    over: bool,
+    pub(crate) over: bool,
 }
 
 impl<Q, const CAP: usize, const HOPS: usize> Model for Rank<Q, CAP, HOPS> {
@@ -111,7 +111,7 @@ fn turn_one<const CAP: usize, const HOPS: usize, Q: Program, L: Ledger>(
 }
 
 /// Turns each rank once, in the order given.
-fn sweep<const CAP: usize, const HOPS: usize, Q: Program, L: Ledger>(
+pub(crate) fn sweep<const CAP: usize, const HOPS: usize, Q: Program, L: Ledger>(
     bank: PlainBank<CAP>,
     all: &mut Vec<Rank<Q, CAP, HOPS>>,
     order: &[u32],

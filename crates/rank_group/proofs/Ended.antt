@@ -1,0 +1,152 @@
+-- A drive's beginning and its end.
+use Rattle.std.proofs.Common.{◌≡◌, ℕ, zero, suc, ◌+◌, ◌*◌, ◌^◌, ◌<◌, ◌≤◌, ◌==◌, Bool, true, false, cond, List, [], ◌∷◌, length, map, get_or, slice_get, Option, Some, None, All, refl, sym, ap, subst, ◌∙◌, arith}
+use Rattle.std.proofs.lemmas.Bool.{true≢false}
+use Rattle.std.proofs.lemmas.List.{length-map}
+use Rattle.std.proofs.lemmas.Option.{get_or_from_slice_get}
+use Rattle.item_buffer.specs.Contents.{Shipped}
+use Rattle.list_laws.proofs.Lists.{find, within, get_map, got_map, same_reads}
+use Rattle.route_tensor.specs.Grid.{ranks, IsGrid}
+use Rattle.route_tensor.specs.Link.{links}
+use Rattle.route_tensor.specs.Ends.{reader_at}
+use Rattle.port_bank.specs.Logs.{Logs, starting_at, ending_at}
+use Rattle.port_bank.specs.Plain.{Bank, Channel, unused, IsBank, sent_of, got_of, empty_bank, closed}
+use Rattle.port_bank.specs.Port.{IsSlots}
+use Rattle.port_bank.specs.Round.{Round, IsRound, logs_of}
+use Rattle.port_bank.specs.Shapes.{IsConveyorShape}
+use Rattle.port_bank.proofs.Closing.{none_sent, none_got}
+use Rattle.convey.specs.Buffers.{in_of}
+use Rattle.convey.specs.Law.{ClosesLaw}
+use Rattle.round_program.specs.Rules.{Rules}
+use Rattle.round_program.specs.Laws.{Laws}
+use Rattle.round_program.specs.Canonical.{HasRounds, InRound, EndsWithin, HaveEnded, states_at}
+use Rattle.round_program.proofs.Members.{in_round_at, rounds_once}
+use Rattle.rank_group.specs.Nodes.{IsNode}
+use Rattle.rank_group.specs.Ranks.{RankState, HasRank}
+use Rattle.rank_group.specs.Told.{TellsRun, turns_within}
+use Rattle.route_tensor.proofs.Coordinates.{ranks_some}
+use Rattle.rank_group.proofs.Orders.{lawful}
+use Rattle.rank_group.proofs.Telling.{tells_run}
+use Rattle.rank_group.proofs.Worlds.{over_at_last}
+use Rattle.rank_group.specs.Worlds.{World, Plan, inbox, entries_of, conveyor_in}
+use Rattle.rank_group.specs.Drives.{progs_of, IsFresh, AreFresh}
+
+-- all ranks as a drive begins, over its bank
+pub record Begun {S : Type 0} (R : Rules S) (cap : ℕ) (steady : Bool) (starts : List S) (n : ℕ) (rs : List (RankState S)) (b : Bank) : Type 0 where
+  pub h : ℕ → ℕ → S
+  pub plan : Plan R b.dims b.slots starts n
+  pub few : n ≤ plan.most
+  pub world : World R b.dims cap b.slots steady starts h rs (sent_of b) (got_of b)
+
+slots_some : (slots : ℕ) → IsSlots slots → 0 < slots
+unfolding IsSlots
+slots_some zero is = absurd (true≢false (sym is))
+slots_some (suc n) is = omega arith
+
+pub begun : {S : Type 0} (R : Rules S) → Laws R → (cap : ℕ) (dims : List ℕ) (slots : ℕ) (steady : Bool) (starts : List S) (shape : List ℕ) (most n : ℕ) (rs : List (RankState S)) → AreFresh R dims steady starts rs → 0 < cap → IsBank cap (empty_bank dims slots)
+    → InRound R (ranks dims) 0 shape most starts → HasRounds R starts n → n ≤ most → Begun R cap steady starts n rs (empty_bank dims slots)
+begun {S} R laws cap dims slots steady starts shape most n rs fresh some is start rounds low =
+    let b : Bank = empty_bank dims slots in
+    let law = lawful cap b dims slots is refl refl in
+    let first : (s : S) × (slice_get starts 0 ≡ Some s) = find starts 0 (let positive = ranks_some dims is.grid.positive in omega (arith, start.size, positive)) in
+    let member = start.each 0 first.0 first.1 in
+    let h : ℕ → ℕ → S = λ r m. get_or starts r first.0 in
+    let size : length rs ≡ ranks dims = sym (length-map rs (λ (n : RankState S). n.node.run.prog)) ∙ (ap length fresh.programs ∙ start.size) in
+    let no_sent : (r : ℕ) → ◌≡◌ {A = Logs} (starting_at dims r (sent_of b)) (λ l. []) = λ r i l. none_sent dims slots r l i in
+    let no_got : (r : ℕ) → ◌≡◌ {A = Logs} (ending_at dims r (got_of b)) (λ l. []) = λ r i l. none_got dims slots r l i in
+    record {
+      h = h;
+      plan = record { shape = shape; most = most; start = start; rounds = rounds; few = (let a = laws.most_below first.0 member.valid in omega (arith, a, member.same_most, low)); some = slots_some slots is.counts };
+      few = low;
+      world = record {
+        grid = is.grid;
+        links_keep = law.links_keep;
+        none_past = law.none_past;
+        relays = law.relays;
+        some = some;
+        inboxes = λ l below. omega (arith, unread l);
+        all = size;
+        each = λ r x at.
+            let f = fresh.each r x at in
+            let prog : slice_get starts r ≡ Some x.node.run.prog = ap (λ ps. slice_get ps r) (sym fresh.programs) ∙ get_map (λ (n : RankState S). n.node.run.prog) rs r x at in
+            let same : x.node.run.prog ≡ get_or starts r first.0 = sym (get_or_from_slice_get starts r x.node.run.prog first.0 prog) in
+            record {
+              same_dims = f.same_dims;
+              same_rank = f.same_rank;
+              same_steady = f.same_steady;
+              runs = λ on. subst (λ s. IsNode R (λ m. s) x.node (starting_at dims r (sent_of b)) (ending_at dims r (got_of b))) same
+                  (subst (λ (a : Logs). IsNode R (λ m. x.node.run.prog) x.node a (ending_at dims r (got_of b))) (sym (no_sent r)) (subst (λ (a : Logs). IsNode R (λ m. x.node.run.prog) x.node (λ l. []) a) (sym (no_got r)) f.node));
+              stopped = λ over. absurd (true≢false (sym over ∙ f.on));
+              shape = λ l. subst (λ (a : Logs). IsConveyorShape steady cap (a l)) (sym (no_sent r)) (λ i d below. absurd (omega (arith, below)));
+            };
+        begins = λ r s at. get_or_from_slice_get starts r s first.0 at;
+      };
+    } where
+      unread : (l : ℕ) → inbox dims rs l ≡ 0
+      unread l = by (slice_get rs (reader_at dims l)) refl where
+        by : (o : Option (RankState S)) → slice_get rs (reader_at dims l) ≡ o → length (in_of (conveyor_in (slice_get rs (reader_at dims l))) l).parcel.untaken ≡ 0
+        by None e = ap (λ o. length (in_of (conveyor_in o) l).parcel.untaken) e
+        by (Some x) e = ap (λ o. length (in_of (conveyor_in o) l).parcel.untaken) e ∙ ap length ((fresh.each (reader_at dims l) x e).unread l)
+
+module _ {S : Type 0} (R : Rules S) (laws : Laws R) (cap : ℕ) (dims : List ℕ) (slots : ℕ) (steady : Bool) (starts : List S) (shape : List ℕ) (most : ℕ) (start : InRound R (ranks dims) 0 shape most starts) (ends : EndsWithin R starts most)
+    (rs : List (RankState S)) (fresh : AreFresh R dims steady starts rs) (some : 0 < cap) (b : Bank) (made : b ≡ empty_bank dims slots) (is : IsBank cap b) where
+  begun_at : (n : ℕ) → HasRounds R starts n → Begun R cap steady starts n rs b
+  begun_at n rounds =
+      subst (Begun R cap steady starts n rs) (sym made)
+      (begun R laws cap dims slots steady starts shape most n rs fresh some (subst (IsBank cap) made is) start rounds (let e = rounds_once R starts n ends.rounds rounds ends.has_rounds in let l = ends.at_most in omega (arith, e, l)))
+
+  -- what the sweeps need
+  pub run_needs : (steady : Bool) × (n : ℕ) × (h : ℕ → ℕ → S) × (plan : Plan R b.dims b.slots (progs_of rs) n) × (n ≤ plan.most) × World R b.dims cap b.slots steady (progs_of rs) h rs (sent_of b) (got_of b)
+  run_needs =
+      let x : Begun R cap steady (progs_of rs) ends.rounds rs b = subst (λ ps. Begun R cap steady ps ends.rounds rs b) (sym fresh.programs) (begun_at ends.rounds ends.has_rounds) in
+      (steady, ends.rounds, x.h, x.plan, x.few, x.world)
+
+  -- and what they leave
+  pub steps_at : (steps steps' : ℕ) → ((steady : Bool) (starts : List S) (n : ℕ) (h : ℕ → ℕ → S) → Plan R b.dims b.slots starts n → World R b.dims cap b.slots steady starts h rs (sent_of b) (got_of b) → steps' ≤ steps + turns_within R b.dims starts n)
+      → (n : ℕ) → HasRounds R starts n → steps' ≤ steps + turns_within R dims starts n
+  steps_at steps steps' told n rounds =
+      let x = begun_at n rounds in
+      subst (λ ds. steps' ≤ steps + turns_within R ds starts n) (ap (λ (y : Bank). y.dims) made) (told steady starts n x.h x.plan x.world)
+
+  pub world_after : (rs' : List (RankState S)) (b' : Bank) → ((steady : Bool) (starts : List S) (n : ℕ) (h : ℕ → ℕ → S) → Plan R b.dims b.slots starts n → World R b.dims cap b.slots steady starts h rs (sent_of b) (got_of b)
+      → (g : ℕ → ℕ → S) × World R b.dims cap b.slots steady starts g rs' (sent_of b') (got_of b')) → (g : ℕ → ℕ → S) × World R dims cap slots steady starts g rs' (sent_of b') (got_of b')
+  world_after rs' b' told =
+      let x = begun_at ends.rounds ends.has_rounds in
+      let w = told steady starts ends.rounds x.h x.plan x.world in
+      (w.0, subst (λ (y : Bank). World R y.dims cap y.slots steady starts w.0 rs' (sent_of b') (got_of b')) made w.1)
+
+logs_map : (f : Channel → List Shipped) (channels : List Channel) → f unused ≡ [] → (l : ℕ) → logs_of (map f channels) l ≡ f (get_or channels l unused)
+logs_map f [] e l = sym e
+logs_map f (c ∷ channels) e zero = refl
+logs_map f (c ∷ channels) e (suc l) = logs_map f channels e l
+
+module _ {S : Type 0} (R : Rules S) (laws : Laws R) (law : ClosesLaw) (cap : ℕ) (dims : List ℕ) (slots : ℕ) (steady : Bool) (starts : List S) (h : ℕ → ℕ → S) (rs : List (RankState S)) (b : Bank)
+    (ed : b.dims ≡ dims) (es : b.slots ≡ slots) (w : World R dims cap slots steady starts h rs (sent_of b) (got_of b)) (over : (r : ℕ) (x : RankState S) → slice_get rs r ≡ Some x → x.over ≡ true)
+    (shape : List ℕ) (most n : ℕ) (start : InRound R (ranks dims) 0 shape most starts) (rounds : HasRounds R starts n) where
+  -- the programs are those of the canonical run's end
+  pub have_ended : (ends : List S) → ends ≡ progs_of rs → HaveEnded R starts ends
+  have_ended ends is =
+      record {
+        rounds = n;
+        has_rounds = rounds;
+        states = is ∙ same_reads (progs_of rs) (states_at R starts n)
+            (length-map rs (λ (n : RankState S). n.node.run.prog) ∙ (w.all ∙ sym (in_round_at R laws (ranks dims) shape most starts n start).size))
+            (λ r s at.
+            let x = got_map (λ (n : RankState S). n.node.run.prog) rs r s at in
+            (over_at_last R laws law dims cap slots steady starts h rs (sent_of b) (got_of b) w shape most n start rounds r x.0 x.1 (over r x.0 x.1)).1 ∙ ap Some x.2);
+      }
+
+  -- and the closed bank tells the run
+  pub told : (round : Round) → round ≡ closed cap b → IsRound round → TellsRun R starts n (record { dims = dims; cap = cap; slots = slots; by_slots = false }) steady round
+  told round is in_order =
+      subst (λ c. TellsRun R starts n (record { dims = dims; cap = cap; slots = slots; by_slots = false }) steady c) (sym is)
+      (tells_run R laws law (closed cap b) cap slots steady starts h rs world (subst IsRound is in_order).in_order over shape most n (subst (λ ds. InRound R (ranks ds) 0 shape most starts) (sym ed) start) rounds
+      (record { dims = dims; cap = cap; slots = slots; by_slots = false }) (ap (λ ds. record { dims = ds; cap = cap; slots = b.slots; by_slots = false }) ed ∙ ap (λ k. record { dims = dims; cap = cap; slots = k; by_slots = false }) es) refl) where
+        sent : ◌≡◌ {A = Logs} (sent_of b) (logs_of (map (λ c. c.sent) b.channels))
+        sent = λ i l. sym (logs_map (λ c. c.sent) b.channels refl l) i
+
+        got : ◌≡◌ {A = Logs} (got_of b) (logs_of (map (λ c. c.got) b.channels))
+        got = λ i l. sym (logs_map (λ c. c.got) b.channels refl l) i
+
+        world : World R b.dims cap slots steady starts h rs (logs_of (map (λ c. c.sent) b.channels)) (logs_of (map (λ c. c.got) b.channels))
+        world = subst (λ ds. World R ds cap slots steady starts h rs (logs_of (map (λ c. c.sent) b.channels)) (logs_of (map (λ c. c.got) b.channels))) (sym ed)
+            (subst (λ (f : Logs). World R dims cap slots steady starts h rs f (logs_of (map (λ c. c.got) b.channels))) sent (subst (λ (f : Logs). World R dims cap slots steady starts h rs (sent_of b) f) got w))

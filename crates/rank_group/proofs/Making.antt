@@ -1,0 +1,76 @@
+-- The ranks of a drive are made, and taken apart.
+use Rattle.std.proofs.Common.{◌≡◌, ℕ, zero, suc, ◌+◌, ◌<◌, ◌≤◌, ◌==◌, Bool, true, false, cond, List, [], ◌∷◌, ◌++◌, length, length-append, drop, map, slice_get, Some, None, refl, sym, ap, subst, ◌∙◌, arith, inl, inr}
+use Rattle.std.proofs.lemmas.Bool.{cases_lt}
+use Rattle.std.proofs.lemmas.List.{map-append, length-map, append-nil}
+use Rattle.list_laws.proofs.Lists.{within, get_once, get_last, get_before}
+use Rattle.convey.specs.Buffers.{in_of}
+use Rattle.round_program.specs.Rules.{Rules}
+use Rattle.round_program.specs.Canonical.{InRound}
+use Rattle.rank_group.specs.Nodes.{NodeState, IsNode}
+use Rattle.rank_group.specs.Ranks.{RankState}
+use Rattle.rank_group.specs.Drives.{progs_of, IsFresh, AreFresh}
+
+-- ranks for the programs so far
+pub record Making {S : Type 0} (R : Rules S) (dims : List ℕ) (steady : Bool) (starts rest : List S) (rs : List (RankState S)) : Type 0 where
+  pub left : starts ≡ progs_of rs ++ rest
+  pub each : (r : ℕ) (n : RankState S) → slice_get rs r ≡ Some n → IsFresh R dims steady r n
+
+pub making_none : {S : Type 0} (R : Rules S) (dims : List ℕ) (steady : Bool) (starts : List S) → Making R dims steady starts starts []
+making_none R dims steady starts = record { left = refl; each = λ r n at. absurd (omega (arith, within [] r n at)) }
+
+at_end : {X : Type 0} (xs ys : List X) (q : X) → slice_get (xs ++ q ∷ ys) (length xs) ≡ Some q
+at_end [] ys q = refl
+at_end (x ∷ xs) ys q = at_end xs ys q
+
+shift : {X : Type 0} (xs ys : List X) (q : X) → (xs ++ q ∷ []) ++ ys ≡ xs ++ q ∷ ys
+shift [] ys q = refl
+shift (x ∷ xs) ys q = ap (λ zs. x ∷ zs) (shift xs ys q)
+
+first_of : {X : Type 0} (xs : List X) (q : X) → slice_get xs 0 ≡ Some q → xs ≡ q ∷ drop 1 xs
+first_of [] q at = absurd (omega (arith, within [] 0 q at))
+first_of (x ∷ xs) q at = ap (λ y. y ∷ xs) (get_once (x ∷ xs) 0 x q refl at)
+
+none_of : {X : Type 0} (xs : List X) → slice_get xs 0 ≡ None → xs ≡ []
+none_of [] e = refl
+none_of (x ∷ xs) e = absurd (cc)
+
+module _ {S : Type 0} (R : Rules S) (dims : List ℕ) (steady : Bool) (starts rest : List S) (rs : List (RankState S)) (f : Making R dims steady starts rest rs) where
+  -- the next program is that of the next rank
+  pub next_prog : (q : S) → slice_get rest 0 ≡ Some q → slice_get starts (length rs) ≡ Some q
+  next_prog q at =
+      ap (λ xs. slice_get xs (length rs)) (f.left ∙ ap (λ ys. progs_of rs ++ ys) (first_of rest q at))
+      ∙ (ap (slice_get (progs_of rs ++ q ∷ drop 1 rest)) (sym (length-map rs (λ (n : RankState S). n.node.run.prog))) ∙ at_end (progs_of rs) (drop 1 rest) q)
+
+  pub making_more : (p : ℕ) (shape : List ℕ) (most : ℕ) (rest' : List S) (rs' : List (RankState S)) (q : S) (n : NodeState S) → InRound R p 0 shape most starts → slice_get rest 0 ≡ Some q → rest' ≡ drop 1 rest
+      → rs' ≡ rs ++ record { node = n; over = false } ∷ [] → IsNode R (λ m. q) n (λ l. []) (λ l. []) → n.run.prog ≡ q → n.conveyor.dims ≡ dims → n.conveyor.rank ≡ R.rank q → n.conveyor.steady ≡ steady
+      → ((l : ℕ) → (in_of n.conveyor l).parcel.untaken ≡ []) → Making R dims steady starts rest' rs'
+  making_more p shape most rest' rs' q n all at gone more node np nd nr ns unread =
+      let x : RankState S = record { node = n; over = false } in
+      let made : IsFresh R dims steady (length rs) x = record {
+        on = refl;
+        same_dims = nd;
+        same_rank = nr ∙ (all.each (length rs) q (next_prog q at)).own_rank;
+        same_steady = ns;
+        node = subst (λ (s : S). IsNode R (λ m. s) n (λ l. []) (λ l. [])) (sym np) node;
+        unread = unread;
+      } in
+      let size : length (rs ++ x ∷ []) ≡ length rs + 1 = length-append rs (x ∷ []) in
+      record {
+        left = f.left ∙ (ap (λ ys. progs_of rs ++ ys) (first_of rest q at) ∙ (sym (shift (progs_of rs) (drop 1 rest) q)
+            ∙ (ap (λ s. (progs_of rs ++ s ∷ []) ++ drop 1 rest) (sym np) ∙ (ap (λ ps. ps ++ drop 1 rest) (sym (map-append (λ (m : RankState S). m.node.run.prog) rs (x ∷ []))) ∙ (ap (λ ys. progs_of ys ++ drop 1 rest) (sym more) ∙ ap (λ ys. progs_of rs' ++ ys) (sym gone))))));
+        each = λ r m now. elim (cases_lt r (length rs)) [
+          | inl below ↦ f.each r m (sym (get_before rs (x ∷ []) r below) ∙ (ap (λ ns. slice_get ns r) (sym more) ∙ now))
+          | inr past ↦
+              let same : r ≡ length rs = omega (arith, past, within rs' r m now, ap length more, size) in
+              let is : x ≡ m = get_once (rs ++ x ∷ []) (length rs) x m (get_last rs x) (ap (λ ns. slice_get ns (length rs)) (sym more) ∙ subst (λ i. slice_get rs' i ≡ Some m) same now) in
+              subst (λ i. IsFresh R dims steady i m) (sym same) (subst (λ y. IsFresh R dims steady (length rs) y) is made)
+        ];
+      }
+
+  pub making_all : slice_get rest 0 ≡ None → AreFresh R dims steady starts rs
+  making_all none = record { programs = sym (f.left ∙ (ap (λ ys. progs_of rs ++ ys) (none_of rest none) ∙ append-nil (progs_of rs))); each = f.each }
+
+-- the programs of the ranks so far
+pub taken_more : {S : Type 0} (progs progs' : List S) (rs : List (RankState S)) (n : RankState S) (q : S) → progs ≡ progs_of rs → progs' ≡ progs ++ q ∷ [] → q ≡ n.node.run.prog → progs' ≡ progs_of (rs ++ n ∷ [])
+taken_more progs progs' rs n q is more same =
+    more ∙ (ap (λ x. progs ++ x ∷ []) same ∙ (ap (λ ps. ps ++ n.node.run.prog ∷ []) is ∙ sym (map-append (λ m. m.node.run.prog) rs (n ∷ []))))

@@ -1,0 +1,72 @@
+//! One call that drives all ranks of a grid on one thread.
+ghost use Rattle.std.specs.Prelude.{◌≡◌, ℕ, ◌+◌, ◌<◌, ◌≤◌, false, List, [], ◌∷◌, length, IfOk};
+ghost use Rattle.route_tensor.specs.Grid.{ranks};
+ghost use Rattle.port_bank.specs.Port.{IsSlots};
+ghost use Rattle.round_program.specs.Canonical.{InRound, HasRounds, EndsWithin, HaveEnded};
+ghost use Rattle.rank_group.specs.declared.closed_round.ClosedRound.{ClosedRound};
+ghost use Rattle.rank_group.specs.Ranks.{IsOrder};
+ghost use Rattle.rank_group.specs.Rounds.{round_of};
+ghost use Rattle.rank_group.specs.Told.{TellsRun, turns_within};
+
+use crate::closed_round::{ClosedRound, Rounds};
+use crate::ranks::{ranks_of, take_progs};
+use crate::running::run_all;
+use crate::steps::Steps;
+use crate::via::Via;
+use bale_types::NoMemory;
+use convey::closes_law;
+use port_bank::PlainBank;
+use round_program::{Program, Progs};
+use route_tensor::Grid;
+use std::alloc::Global;
+use std::sync::ledger::Ledger;
+
+/// What a run leaves: the programs after their last round, by rank, and what they exchanged.
+#[derive(Drop)]
+pub struct Finished<Q> {
+    pub progs: Progs<Q>,
+    pub rounds: Rounds,
+}
+
+/// Drives the programs of all ranks, from their first round to their last, over one bank with parcels of `CAP` entries and
+/// `slots` (1, 2, 4 or 8) parcels on a link at a time. Each sweep turns the ranks in the order given, until no epoch follows
+/// for any. Each turn raises `steps` by one.
+///
+/// # Errors
+/// `NoMemory` where a program, a node, the bank or the result found none. The programs are dropped.
+pub fn drive_serial<const CAP: usize, const HOPS: usize, Q: Program, L: Ledger>(
+    alloc: Global,
+    grid: &Grid,
+    via: Via,
+    slots: u32,
+    steady: bool,
+    order: &[u32],
+    progs: Progs<Q>,
+    steps: &mut Steps<L>,
+) -> Result<Finished<Q>, NoMemory>
+    requires some { 0 < CAP }
+    requires small { CAP ≤ 1024 }
+    requires hops { length grid.now ≡ HOPS }
+    requires slots { IsSlots slots }
+    requires order { IsOrder (ranks grid.now) order.now }
+    requires begins { (shape : List ℕ) × (most : ℕ) × InRound Q.rules (ranks grid.now) 0 shape most progs × EndsWithin Q.rules progs most }
+
+    // The programs are as the canonical run leaves them.
+    ensures ended { IfOk result (λ f. HaveEnded Q.rules progs f.progs) }
+
+    // One closed round tells what was exchanged.
+    ensures rounds { IfOk result (λ f. (c : ClosedRound) × (f.rounds ≡ c ∷ []) × ((n : ℕ) → HasRounds Q.rules progs n
+        → TellsRun Q.rules progs n (record { dims = grid.now; cap = CAP; slots = slots; by_slots = false }) steady (round_of c))) }
+
+    // The turns are bounded before the run, also where it ends in `NoMemory`.
+    ensures steps { (n : ℕ) → HasRounds Q.rules progs n → steps.new ≤ steps.old + turns_within Q.rules grid.now progs n }
+{
+    closes_law();
+    let mut all = ranks_of::<CAP, HOPS, Q>(alloc, grid, via, steady, progs)?;
+    let bank = PlainBank::<CAP>::new(alloc, grid, slots)?;
+    let bank = run_all(bank, &mut all, order, steps)?;
+    let mut rounds = Rounds::new(alloc);
+    rounds.add(ClosedRound::Plain(bank.close()))?;
+    let progs = take_progs::<CAP, HOPS, Q>(alloc, all)?;
+    Ok(Finished { progs, rounds })
+}

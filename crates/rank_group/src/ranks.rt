@@ -1,0 +1,51 @@
+//! The ranks of a drive, as it begins and ends.
+ghost use Rattle.std.specs.Prelude.{◌≡◌, ℕ, ◌<◌, ◌≤◌, List, length, IfOk};
+ghost use Rattle.route_tensor.specs.Grid.{ranks};
+ghost use Rattle.round_program.specs.Canonical.{InRound};
+ghost use Rattle.rank_group.specs.Drives.{progs_of, AreFresh};
+
+use crate::node::Node;
+use crate::sweeping::Rank;
+use crate::via::Via;
+use bale_types::NoMemory;
+use round_program::{Program, Progs};
+use route_tensor::Grid;
+use std::alloc::Global;
+
+/// A rank for each program, that hasn't turned.
+pub(crate) fn ranks_of<const CAP: usize, const HOPS: usize, Q: Program>(
+    alloc: Global,
+    grid: &Grid,
+    via: Via,
+    steady: bool,
+    progs: Progs<Q>,
+) -> Result<Vec<Rank<Q, CAP, HOPS>>, NoMemory>
+    requires some { 0 < CAP }
+    requires small { CAP ≤ 1024 }
+    requires hops { length grid.now ≡ HOPS }
+    requires begins { (shape : List ℕ) × (most : ℕ) × InRound Q.rules (ranks grid.now) 0 shape most progs }
+    ensures fresh { IfOk result (λ all. AreFresh Q.rules grid.now steady progs all.items) }
+{
+    let mut progs = progs;
+    let mut all = Vec::new(alloc);
+    while let Some(prog) = progs.take_first() {
+        let node = Node::new(alloc, grid, via, prog, steady)?;
+        all.push(Rank { node, over: false })?;
+    }
+    Ok(all)
+}
+
+/// The programs of the ranks, in order.
+pub(crate) fn take_progs<const CAP: usize, const HOPS: usize, Q: Program>(
+    alloc: Global,
+    all: Vec<Rank<Q, CAP, HOPS>>,
+) -> Result<Progs<Q>, NoMemory>
+    ensures progs { IfOk result (λ ps. ps ≡ progs_of all.items) }
+{
+    let mut progs = Progs::new(alloc);
+    for rank in all {
+        let Rank { node, over: _ } = rank;
+        progs.add(node.into_prog())?;
+    }
+    Ok(progs)
+}

@@ -1,0 +1,62 @@
+//! Sweeps over all ranks, until the run of each is over.
+ghost use Rattle.std.specs.Prelude.{◌≡◌, ℕ, ◌+◌, ◌≤◌, Bool, true, slice_get, Some, IfOk, OnOk};
+ghost use Rattle.std.specs.List.{list_all};
+ghost use Rattle.route_tensor.specs.Grid.{ranks};
+ghost use Rattle.port_bank.specs.Plain.{IsBank, sent_of, got_of};
+ghost use Rattle.rank_group.specs.Told.{turns_within};
+ghost use Rattle.rank_group.specs.Worlds.{Plan, World};
+ghost use Rattle.rank_group.specs.Drives.{progs_of};
+ghost use Rattle.rank_group.specs.Ranks.{RankState, IsOrder};
+
+use crate::steps::Steps;
+use crate::sweeping::{Rank, sweep};
+use bale_types::NoMemory;
+use convey::{closes_law, rest_law};
+use port_bank::PlainBank;
+use round_program::Program;
+use std::sync::ledger::Ledger;
+
+/// Turns all ranks, sweep after sweep, until no epoch follows for any.
+pub(crate) fn run_all<const CAP: usize, const HOPS: usize, Q: Program, L: Ledger>(
+    bank: PlainBank<CAP>,
+    all: &mut Vec<Rank<Q, CAP, HOPS>>,
+    order: &[u32],
+    steps: &mut Steps<L>,
+) -> Result<PlainBank<CAP>, NoMemory>
+    requires order { IsOrder (ranks bank.dims) order.now }
+    requires lawful { IsBank CAP bank }
+    requires world { (steady : Bool) × (n : ℕ) × (h : ℕ → ℕ → Q) × (plan : Plan Q.rules bank.dims bank.slots (progs_of all.old.items) n) × (n ≤ plan.most)
+        × World Q.rules bank.dims CAP bank.slots steady (progs_of all.old.items) h all.old.items (sent_of bank) (got_of bank) }
+    ensures lawful { IfOk result (λ b. IsBank CAP b) }
+    ensures same_dims { IfOk result (λ b. b.dims ≡ bank.entry.dims) }
+    ensures same_slots { IfOk result (λ b. b.slots ≡ bank.entry.slots) }
+    ensures over { OnOk result ((r : ℕ) (x : RankState Q) → slice_get all.new.items r ≡ Some x → x.over ≡ true) }
+    ensures world { (steady : Bool) (starts : _) (n : ℕ) (h : ℕ → ℕ → Q) → Plan Q.rules bank.entry.dims bank.entry.slots starts n
+        → World Q.rules bank.entry.dims CAP bank.entry.slots steady starts h all.old.items (sent_of bank.entry) (got_of bank.entry)
+        → IfOk result (λ b. (g : ℕ → ℕ → Q) × World Q.rules bank.entry.dims CAP bank.entry.slots steady starts g all.new.items (sent_of b) (got_of b)) }
+    ensures steps { (steady : Bool) (starts : _) (n : ℕ) (h : ℕ → ℕ → Q) → Plan Q.rules bank.entry.dims bank.entry.slots starts n
+        → World Q.rules bank.entry.dims CAP bank.entry.slots steady starts h all.old.items (sent_of bank.entry) (got_of bank.entry)
+        → steps.new ≤ steps.old + turns_within Q.rules bank.entry.dims starts n }
+{
+    closes_law();
+    rest_law();
+    let mut bank = bank;
+    loop {
+        if all_over(all) {
+            return Ok(bank);
+        }
+        bank = sweep(bank, all, order, steps)?;
+    }
+}
+
+/// Whether no epoch follows for any rank.
+fn all_over<const CAP: usize, const HOPS: usize, Q: Program>(all: &[Rank<Q, CAP, HOPS>]) -> bool
+    ensures { result ≡ list_all (λ x. x.over) all.now }
+{
+    for rank in all {
+        if !rank.over {
+            return false;
+        }
+    }
+    true
+}

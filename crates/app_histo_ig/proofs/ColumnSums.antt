@@ -4,7 +4,6 @@ use Rattle.std.specs.List.{fold, sum_by, enumerate_from}
 use Rattle.std.proofs.Math.Nat.{mod-lt}
 use Rattle.std.proofs.lemmas.Bool.{cases_eq, eq-eqb, ne_eqb}
 use Rattle.std.proofs.lemmas.List.{get_or-set_same, get_or-set_other}
-use Rattle.std.proofs.lemmas.List.Elements.{All-nil, All-cons}
 use Rattle.std.proofs.lemmas.List.Sums.{sum_by-cons}
 use Rattle.bale_types.specs.declared.Item.{Item}
 use Rattle.bale_types.specs.declared.triple.Triple.{Triple}
@@ -13,7 +12,7 @@ use Rattle.sparse_rows.specs.Deals.{dealt}
 use Rattle.app_histo_ig.specs.Owners.{Numbered, column_owner, risen}
 use Rattle.app_histo_ig.specs.OwnerLaws.{risen_len}
 use Rattle.app_histo_ig.proofs.Places.{place_own}
-use Rattle.app_histo_ig.proofs.EveryEntry.{came_to}
+use Rattle.app_histo_ig.proofs.EveryEntry.{came_to, came_keyed}
 
 -- a list of numbers after all that came
 abbrev pub risen_all : ℕ → List ℕ → List (ℕ × Item) → List ℕ
@@ -63,18 +62,7 @@ column_item value e = record { a = e.1.j; b = value e; c = 0 }
 -- what comes to a column's owner is for its columns
 pub came_own : (ranks r : ℕ) (from value : Numbered → ℕ) (es : List Numbered)
     → All {X = ℕ × Item} (λ w. w.1.a % ranks ≡ r) (came_to from (column_owner ranks) (column_item value) r es)
-came_own ranks r from value [] = All-nil (λ (w : ℕ × Item). w.1.a % ranks ≡ r)
-came_own ranks r from value (e ∷ es) =
-    let rest : All {X = ℕ × Item} (λ w. w.1.a % ranks ≡ r) (came_to from (column_owner ranks) (column_item value) r es) = came_own ranks r from value es in
-    elim (cases_eq (column_owner ranks e) r) [
-      | inl same ↦
-          subst (λ b. All {X = ℕ × Item} (λ w. w.1.a % ranks ≡ r) (map (λ x. (from x, column_item value x)) (cond b (e ∷ dealt (column_owner ranks) r es) (dealt (column_owner ranks) r es))))
-          (sym (eq-eqb (column_owner ranks e) r same))
-          (All-cons (λ (w : ℕ × Item). w.1.a % ranks ≡ r) (from e, column_item value e) (came_to from (column_owner ranks) (column_item value) r es) same rest)
-      | inr apart ↦
-          subst (λ b. All {X = ℕ × Item} (λ w. w.1.a % ranks ≡ r) (map (λ x. (from x, column_item value x)) (cond b (e ∷ dealt (column_owner ranks) r es) (dealt (column_owner ranks) r es))))
-          (sym (ne_eqb (column_owner ranks e) r apart)) rest
-    ]
+came_own ranks r from value es = came_keyed (λ w. w.1.a % ranks ≡ r) from (column_owner ranks) (column_item value) r es (λ x same. same)
 
 -- and what is added for column j is the sum over the column's entries
 pub came_sum : (ranks j : ℕ) (from value : Numbered → ℕ) (es : List Numbered)

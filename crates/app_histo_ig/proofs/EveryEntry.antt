@@ -1,10 +1,11 @@
 -- Every element of a list that is dealt out reaches its receiver once: after a round in which the ranks emit what is
 -- theirs of a list, each rank is as if it alone had gone through the list and absorbed what is sent to it.
 use Rattle.std.proofs.Common.{ℕ, ◌<◌, ◌≤◌, ◌≡◌, Bool, true, false, cond, eqb, List, [], ◌∷◌, Some, map, length, slice_get, All, arith, inl, inr, refl, sym, ap, ◌∙◌, subst}
-use Rattle.std.proofs.lemmas.Bool.{cases_lt, ne_eqb}
+use Rattle.std.proofs.lemmas.Bool.{cases_eq, cases_lt, eq-eqb, ne_eqb}
+use Rattle.std.proofs.lemmas.List.Elements.{All-nil, All-cons}
 use Rattle.std.proofs.lemmas.Option.{slice_get_past}
 use Rattle.bale_types.specs.declared.Item.{Item}
-use Rattle.list_laws.proofs.Lists.{find, all_head, all_tail}
+use Rattle.list_laws.proofs.Lists.{find, within, all_head, all_tail}
 use Rattle.round_program.specs.Rules.{Rules}
 use Rattle.round_program.specs.Laws.{Laws}
 use Rattle.round_program.specs.Canonical.{items_of, emitted, emitted_of, absorbed_round, InRound}
@@ -37,7 +38,7 @@ dealt_past owner p r (x ∷ xs) low past =
     ∙ dealt_past owner p r xs (all_tail (λ x. owner x < p) x xs low) past
 
 -- of what comes to rank r, the items of one sender
-came_from : {X : Type 0} (from to : X → ℕ) (item : X → Item) (r f : ℕ) (xs : List X)
+pub came_from : {X : Type 0} (from to : X → ℕ) (item : X → Item) (r f : ℕ) (xs : List X)
     → items_of f (came_to from to item r xs) ≡ map item (dealt to r (dealt from f xs))
 came_from from to item r f xs =
     items_of_map from item f (dealt to r xs) ∙ ap (map item) (filter_dealt to r (λ x. eqb (from x) f) xs)
@@ -45,16 +46,17 @@ came_from from to item r f xs =
 -- what each rank emits to each is what is theirs of the list: then so is what each absorbs
 pub every_entry : {S X : Type 0} (R : Rules S) → Laws R → (p n : ℕ) (shape : List ℕ) (most : ℕ) (ss : List S) (from to : X → ℕ) (item : X → Item) (xs : List X)
     → InRound R p n shape most ss → All (λ x. from x < p) xs
-    → ((f r : ℕ) (s : S) → slice_get ss f ≡ Some s → emitted R s r ≡ map item (dealt to r (dealt from f xs)))
+    → ((f r : ℕ) (s : S) → r < p → slice_get ss f ≡ Some s → emitted R s r ≡ map item (dealt to r (dealt from f xs)))
     → (r : ℕ) (s : S) → slice_get ss r ≡ Some s
     → slice_get (absorbed_round R ss) r ≡ Some (absorb_each R s (came_to from to item r xs))
 every_entry R laws p n shape most ss from to item xs all low sends r s at =
+    let low_r : r < p = subst (λ k. r < k) all.size (within ss r s at) in
     canonical_order R laws p n shape most ss r s (came_to from to item r xs) all at (λ f.
     came_from from to item r f xs
     ∙ (elim (cases_lt f (length ss)) [
       | inl l ↦
           let t : (t : _) × (slice_get ss f ≡ Some t) = find ss f l in
-          sym (ap (λ o. emitted_of R o r) t.1 ∙ sends f r t.0 t.1)
+          sym (ap (λ o. emitted_of R o r) t.1 ∙ sends f r t.0 low_r t.1)
       | inr past ↦
           ap (λ ys. map item (dealt to r ys)) (dealt_past from p f xs low (subst (λ k. k ≤ f) all.size past))
           ∙ sym (ap (λ o. emitted_of R o r) (slice_get_past ss f past))
@@ -67,5 +69,19 @@ pub every_owned : {S X : Type 0} (R : Rules S) → Laws R → (p n : ℕ) (shape
     → (r : ℕ) (s : S) → slice_get ss r ≡ Some s
     → slice_get (absorbed_round R ss) r ≡ Some (absorb_each R s (came_to from to item r xs))
 every_owned R laws p n shape most ss from to item xs all low sends =
-    every_entry R laws p n shape most ss from to item xs all low (λ f r s at.
+    every_entry R laws p n shape most ss from to item xs all low (λ f r s low_r at.
     ap (items_of r) (sends f s at) ∙ items_of_map to item r (dealt from f xs))
+
+-- what comes to a rank has the key of that rank, where an item's key tells its receiver
+pub came_keyed : {X : Type 0} (P : ℕ × Item → Type 0) (from to : X → ℕ) (item : X → Item) (r : ℕ) (xs : List X)
+    → ((x : X) → to x ≡ r → P (from x, item x)) → All P (came_to from to item r xs)
+came_keyed P from to item r [] key = All-nil P
+came_keyed P from to item r (x ∷ xs) key =
+    let rest : All P (came_to from to item r xs) = came_keyed P from to item r xs key in
+    elim (cases_eq (to x) r) [
+      | inl same ↦
+          subst (λ b. All P (map (λ x. (from x, item x)) (cond b (x ∷ dealt to r xs) (dealt to r xs)))) (sym (eq-eqb (to x) r same))
+          (All-cons P (from x, item x) (came_to from to item r xs) (key x same) rest)
+      | inr apart ↦
+          subst (λ b. All P (map (λ x. (from x, item x)) (cond b (x ∷ dealt to r xs) (dealt to r xs)))) (sym (ne_eqb (to x) r apart)) rest
+    ]

@@ -1,5 +1,5 @@
 -- Sums of words are words of sums, as long as the sums are far from the ends of 64 bits.
-use Rattle.std.proofs.Common.{◌≡◌, ℕ, ◌+◌, ◌-◌, ◌*◌, ◌%◌, ◌<◌, ◌≤◌, ◌^◌, ◌==◌, cond, Bool, true, false, List, [], ◌∷◌, All, map, length, arith, refl, sym, ap, ◌∙◌, subst, inl, inr, ℤ, pos, negsuc, ◌+ℤ◌}
+use Rattle.std.proofs.Common.{◌≡◌, ℕ, ◌+◌, ◌*◌, ◌%◌, ◌<◌, ◌≤◌, ◌^◌, ◌==◌, cond, List, [], ◌∷◌, All, map, length, arith, refl, sym, ap, ◌∙◌, subst, inl, inr, ℤ, pos, negsuc, ◌+ℤ◌}
 use Rattle.std.specs.Prelude.{nat_abs}
 use Rattle.std.specs.List.{sum_by, fold, filter}
 use Rattle.std.proofs.lemmas.Int.{ints}

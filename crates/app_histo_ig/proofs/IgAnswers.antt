@@ -1,29 +1,22 @@
 -- The answer that an entry's rank has after the run, as a word and as a number.
-use Rattle.std.proofs.Common.{◌≡◌, ℕ, zero, suc, ◌+◌, ◌-◌, ◌*◌, ◌/◌, ◌%◌, ◌<◌, ◌≤◌, ◌^◌, ◌==◌, cond, eqb, max, Bool, true, false, List, [], ◌∷◌, Some, None, All, map, length, get_or, slice_get, replicate, arith, refl, sym, ap, ◌∙◌, subst, inl, inr, ℤ, pos, negsuc, ◌+ℤ◌}
-use Rattle.std.specs.Prelude.{nat_abs}
-use Rattle.std.specs.List.{range_with_len, sum_by, enumerate_from, fold, filter}
+use Rattle.std.proofs.Common.{◌≡◌, ℕ, zero, suc, ◌+◌, ◌-◌, ◌*◌, ◌/◌, ◌%◌, ◌<◌, ◌≤◌, ◌==◌, cond, max, List, [], ◌∷◌, Some, All, map, length, get_or, slice_get, replicate, arith, refl, sym, ap, ◌∙◌, subst, inl, inr}
+use Rattle.std.specs.List.{enumerate_from}
 use Rattle.std.proofs.Math.Nat.{mod-lt}
 use Rattle.std.proofs.lemmas.Nat.{div-add-mod', le-div}
-use Rattle.std.proofs.lemmas.Int.{ints}
-use Rattle.std.proofs.lemmas.Bool.{cases_eq, cases_Bool, eq-eqb, ne_eqb}
-use Rattle.std.proofs.lemmas.Bool.Decides.{nat_tests}
+use Rattle.std.proofs.lemmas.Bool.{cases_eq, eq-eqb, ne_eqb}
 use Rattle.std.proofs.lemmas.List.{get_or-set_same, get_or-set_other, get_or-replicate, length-replicate}
-use Rattle.std.proofs.lemmas.List.Sums.{sum_by-cons}
-use Rattle.std.proofs.lemmas.List.FromFn.{length-enumerate_from}
 use Rattle.bale_types.specs.declared.Item.{Item}
 use Rattle.bale_types.specs.declared.triple.Triple.{Triple}
-use Rattle.bale_types.specs.Bits.{twos_complement, from_twos_complement}
 use Rattle.list_laws.proofs.Lists.{get_once, all_head, all_tail, changed_len}
-use Rattle.mtx_text.specs.Sparse.{Sparse, IsSparse}
+use Rattle.mtx_text.specs.Sparse.{Sparse}
 use Rattle.sparse_rows.specs.Deals.{dealt}
 use Rattle.sparse_rows.proofs.Turns.{turn_count}
 use Rattle.app_histo_ig.specs.Owners.{Numbered, numbered, entry_owner, column_owner, own_entries}
 use Rattle.app_histo_ig.specs.Igs.{IgState, answered}
-use Rattle.app_histo_ig.specs.IgLines.{column_sum}
-use Rattle.app_histo_ig.specs.IgRuns.{ig_begins, IgEnded}
+use Rattle.app_histo_ig.specs.IgRuns.{IgEnded}
 use Rattle.app_histo_ig.proofs.EveryEntry.{came_to, came_keyed}
 use Rattle.app_histo_ig.proofs.Places.{place_own}
-use Rattle.app_histo_ig.proofs.IgRounds.{column_bits, answer_item, replies, answered_all, answers_of, over}
+use Rattle.app_histo_ig.proofs.IgRounds.{column_bits, answer_item, replies, answered_all, answers_of}
 use Rattle.app_histo_ig.proofs.IgOwners.{ended_at}
 
 -- the greatest of a function's values, 0 for none

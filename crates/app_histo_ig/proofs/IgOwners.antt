@@ -1,5 +1,5 @@
 -- What the ranks of ig have after three rounds.
-use Rattle.std.proofs.Common.{◌≡◌, ℕ, suc, ◌+◌, ◌/◌, ◌%◌, ◌<◌, ◌≤◌, ◌^◌, ◌==◌, cond, eqb, List, [], ◌∷◌, Some, None, All, map, length, get_or, slice_get, replicate, arith, refl, sym, ap, ◌∙◌, subst, inl, inr, lit<}
+use Rattle.std.proofs.Common.{◌≡◌, ℕ, ◌+◌, ◌/◌, ◌%◌, ◌<◌, ◌^◌, ◌==◌, cond, eqb, List, [], ◌∷◌, Some, None, All, map, length, get_or, slice_get, replicate, arith, refl, sym, ap, ◌∙◌, subst, lit<}
 use Rattle.std.specs.List.{range_with_len, sum_by}
 use Rattle.std.proofs.Math.Nat.{mod-lt}
 use Rattle.std.proofs.lemmas.Bool.{eqb-true}
@@ -7,7 +7,6 @@ use Rattle.std.proofs.lemmas.List.{get_or-replicate, length-replicate}
 use Rattle.std.proofs.lemmas.List.Elements.{All-filter, filter_passes}
 use Rattle.std.proofs.lemmas.List.FromFn.{length-map-range_with_len}
 use Rattle.std.proofs.lemmas.Simd.{map-map}
-use Rattle.bale_types.specs.declared.Item.{Item}
 use Rattle.bale_types.specs.declared.triple.Triple.{Triple}
 use Rattle.bale_types.specs.Bits.{twos_complement}
 use Rattle.list_laws.proofs.Lists.{get_once, all_head, all_tail}
@@ -18,11 +17,11 @@ use Rattle.round_program.proofs.Members.{rounds_once, in_round}
 use Rattle.sparse_rows.specs.Deals.{dealt}
 use Rattle.sparse_rows.proofs.Deals.{filter_dealt}
 use Rattle.app_histo_ig.specs.Owners.{Numbered, numbered, entry_owner, column_owner, own_entries, places_for}
-use Rattle.app_histo_ig.specs.Igs.{IgState, ig_rules, value_item, query_item, to_ask, reply_to, replies_from}
+use Rattle.app_histo_ig.specs.Igs.{IgState, ig_rules, value_item, to_ask, reply_to}
 use Rattle.app_histo_ig.specs.IgLaws.{ig_laws}
 use Rattle.app_histo_ig.specs.IgRuns.{ig_begins, ig_starts, IgEnded}
-use Rattle.app_histo_ig.proofs.EveryEntry.{came_to, came_from, every_owned, every_entry}
-use Rattle.app_histo_ig.proofs.ColumnSums.{for_column, risen_all, risen_sum, came_own, came_sum, numbered_sum, all_owned}
+use Rattle.app_histo_ig.proofs.EveryEntry.{came_from, every_owned, every_entry}
+use Rattle.app_histo_ig.proofs.ColumnSums.{for_column, risen_sum, came_own, came_sum, numbered_sum, all_owned}
 use Rattle.app_histo_ig.proofs.Places.{place_below}
 use Rattle.app_histo_ig.proofs.Starts.{made_at, made_from, all_numbered, round_made}
 use Rattle.app_histo_ig.proofs.IgRounds.{column_bits, values, ask_item, queries, answer_item, replies, sums_of, by_sender, asking, replying, answers_of, over, each_risen, each_noted, each_answered, starts_in_round, three_rounds}
@@ -32,14 +31,14 @@ use Rattle.app_histo_ig.proofs.IgQueries.{noted_from_none, replies_to}
 first_round : (ranks : ℕ) (m : Sparse) → 0 < ranks → IsSparse m → states_at ig_rules (ig_starts ranks m) 1 ≡ map (asking ranks m) (range_with_len 0 ranks)
 first_round ranks m some is =
     round_made ig_rules ranks (ig_begins ranks m) (asking ranks m) (λ r votes low t at.
-        let absorbed : slice_get (absorbed_round ig_rules (ig_starts ranks m)) r ≡ Some (absorb_each ig_rules (ig_begins ranks m r) (values ranks m r)) =
-        every_owned ig_rules ig_laws ranks 0 (m.cols ∷ []) 3 (ig_starts ranks m) (entry_owner ranks) (column_owner ranks) value_item (numbered m.entries)
-        (starts_in_round ranks m is) (all_owned ranks 0 m.entries some)
-        (λ f s here. ap ig_rules.emissions (sym (made_from (ig_begins ranks m) ranks f s here).1))
-        r (ig_begins ranks m r) (made_at (ig_begins ranks m) ranks r low) in
-        let same : t ≡ record (ig_begins ranks m r) { sums = sums_of ranks m r } =
-        get_once (absorbed_round ig_rules (ig_starts ranks m)) r t _ at absorbed ∙ each_risen (ig_begins ranks m r) (values ranks m r) in
-        ap (λ s. ig_rules.ended s votes) same)
+    let absorbed : slice_get (absorbed_round ig_rules (ig_starts ranks m)) r ≡ Some (absorb_each ig_rules (ig_begins ranks m r) (values ranks m r)) =
+    every_owned ig_rules ig_laws ranks 0 (m.cols ∷ []) 3 (ig_starts ranks m) (entry_owner ranks) (column_owner ranks) value_item (numbered m.entries)
+    (starts_in_round ranks m is) (all_owned ranks 0 m.entries some)
+    (λ f s here. ap ig_rules.emissions (sym (made_from (ig_begins ranks m) ranks f s here).1))
+    r (ig_begins ranks m r) (made_at (ig_begins ranks m) ranks r low) in
+    let same : t ≡ record (ig_begins ranks m r) { sums = sums_of ranks m r } =
+    get_once (absorbed_round ig_rules (ig_starts ranks m)) r t _ at absorbed ∙ each_risen (ig_begins ranks m r) (values ranks m r) in
+    ap (λ s. ig_rules.ended s votes) same)
 
 -- round 1
 second_round : (ranks : ℕ) (m : Sparse) → 0 < ranks → IsSparse m → states_at ig_rules (ig_starts ranks m) 2 ≡ map (replying ranks m) (range_with_len 0 ranks)
@@ -49,15 +48,15 @@ second_round ranks m some is =
     subst (InRound ig_rules ranks 1 (m.cols ∷ []) 3) (first_round ranks m some is) (in_round ig_rules ig_laws ranks (m.cols ∷ []) 3 (ig_starts ranks m) 1 (starts_in_round ranks m is) (lit< tt)) in
     ap (round_of ig_rules) (first_round ranks m some is)
     ∙ round_made ig_rules ranks (asking ranks m) (replying ranks m) (λ r votes low t at.
-        let absorbed : slice_get (absorbed_round ig_rules ss) r ≡ Some (absorb_each ig_rules (asking ranks m r) (queries ranks m r)) =
-        every_owned ig_rules ig_laws ranks 1 (m.cols ∷ []) 3 ss (entry_owner ranks) (column_owner ranks) ask_item (numbered m.entries)
-        begun (all_owned ranks 0 m.entries some)
-        (λ f s here. ap ig_rules.emissions (sym (made_from (asking ranks m) ranks f s here).1) ∙ map-map (to_ask ranks) (λ (e : Numbered). (e.0, e.1.j)) (own_entries ranks f m.entries))
-        r (asking ranks m r) (made_at (asking ranks m) ranks r low) in
-        let same : t ≡ record (asking ranks m r) { queries = by_sender ranks (queries ranks m r) } =
-        get_once (absorbed_round ig_rules ss) r t _ at absorbed ∙ each_noted (asking ranks m r) (queries ranks m r)
-        ∙ ap (λ qs. record (asking ranks m r) { queries = qs }) (noted_from_none ranks (queries ranks m r)) in
-        ap (λ s. ig_rules.ended s votes) same)
+    let absorbed : slice_get (absorbed_round ig_rules ss) r ≡ Some (absorb_each ig_rules (asking ranks m r) (queries ranks m r)) =
+    every_owned ig_rules ig_laws ranks 1 (m.cols ∷ []) 3 ss (entry_owner ranks) (column_owner ranks) ask_item (numbered m.entries)
+    begun (all_owned ranks 0 m.entries some)
+    (λ f s here. ap ig_rules.emissions (sym (made_from (asking ranks m) ranks f s here).1) ∙ map-map (to_ask ranks) (λ (e : Numbered). (e.0, e.1.j)) (own_entries ranks f m.entries))
+    r (asking ranks m r) (made_at (asking ranks m) ranks r low) in
+    let same : t ≡ record (asking ranks m r) { queries = by_sender ranks (queries ranks m r) } =
+    get_once (absorbed_round ig_rules ss) r t _ at absorbed ∙ each_noted (asking ranks m r) (queries ranks m r)
+    ∙ ap (λ qs. record (asking ranks m r) { queries = qs }) (noted_from_none ranks (queries ranks m r)) in
+    ap (λ s. ig_rules.ended s votes) same)
 
 -- the sum that a column's owner has
 owner_sum : (ranks : ℕ) (m : Sparse) (j : ℕ) → 0 < ranks → j < m.cols → get_or (sums_of ranks m (j % ranks)) (j / ranks) 0 ≡ column_bits m.entries j
@@ -106,14 +105,14 @@ third_round ranks m some is =
     subst (InRound ig_rules ranks 2 (m.cols ∷ []) 3) (second_round ranks m some is) (in_round ig_rules ig_laws ranks (m.cols ∷ []) 3 (ig_starts ranks m) 2 (starts_in_round ranks m is) (lit< tt)) in
     ap (round_of ig_rules) (second_round ranks m some is)
     ∙ round_made ig_rules ranks (replying ranks m) (over ranks m) (λ r votes low t at.
-        let absorbed : slice_get (absorbed_round ig_rules ss) r ≡ Some (absorb_each ig_rules (replying ranks m r) (replies ranks m r)) =
-        every_entry ig_rules ig_laws ranks 2 (m.cols ∷ []) 3 ss (column_owner ranks) (entry_owner ranks) (answer_item m.entries) (numbered m.entries)
-        begun (λ k d l. mod-lt _ some)
-        (λ f to s below here. ap (λ s. emitted ig_rules s to) (sym (made_from (replying ranks m) ranks f s here).1) ∙ replied ranks m f to some is below)
-        r (replying ranks m r) (made_at (replying ranks m) ranks r low) in
-        let same : t ≡ record (replying ranks m r) { answers = answers_of ranks m r } =
-        get_once (absorbed_round ig_rules ss) r t _ at absorbed ∙ each_answered (replying ranks m r) (replies ranks m r) in
-        ap (λ s. ig_rules.ended s votes) same)
+    let absorbed : slice_get (absorbed_round ig_rules ss) r ≡ Some (absorb_each ig_rules (replying ranks m r) (replies ranks m r)) =
+    every_entry ig_rules ig_laws ranks 2 (m.cols ∷ []) 3 ss (column_owner ranks) (entry_owner ranks) (answer_item m.entries) (numbered m.entries)
+    begun (λ k d l. mod-lt _ some)
+    (λ f to s below here. ap (λ s. emitted ig_rules s to) (sym (made_from (replying ranks m) ranks f s here).1) ∙ replied ranks m f to some is below)
+    r (replying ranks m r) (made_at (replying ranks m) ranks r low) in
+    let same : t ≡ record (replying ranks m r) { answers = answers_of ranks m r } =
+    get_once (absorbed_round ig_rules ss) r t _ at absorbed ∙ each_answered (replying ranks m r) (replies ranks m r) in
+    ap (λ s. ig_rules.ended s votes) same)
 
 -- the programs after their run
 pub ended_are : (m : Sparse) (ps : List IgState) (h : IgEnded m ps) → ps ≡ map (over h.ranks m) (range_with_len 0 h.ranks)

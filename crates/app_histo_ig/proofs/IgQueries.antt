@@ -1,11 +1,11 @@
 -- The lists of queries by sender, and the replies to them.
-use Rattle.std.proofs.Common.{◌≡◌, ℕ, zero, suc, ◌+◌, ◌/◌, ◌<◌, ◌≤◌, ◌≢◌, ◌++◌, cond, eqb, List, [], ◌∷◌, Some, All, map, length, get_or, slice_get, slice_set, replicate, arith, refl, sym, ap, ◌∙◌, subst, inl, inr, add-one, append_assoc}
+use Rattle.std.proofs.Common.{◌≡◌, ℕ, zero, suc, ◌+◌, ◌<◌, ◌≤◌, ◌≢◌, ◌++◌, List, [], ◌∷◌, Some, map, length, get_or, slice_get, replicate, arith, refl, sym, ap, ◌∙◌, subst, inl, inr, add-one, append_assoc}
 use Rattle.std.specs.List.{range_with_len}
-use Rattle.std.proofs.lemmas.Bool.{cases_eq, cases_lt}
+use Rattle.std.proofs.lemmas.Bool.{cases_eq}
 use Rattle.std.proofs.lemmas.List.{append-nil, get_or-replicate, length-replicate}
 use Rattle.std.proofs.lemmas.List.FromFn.{length-map-range_with_len, get_or-map-range_with_len, fill_by_all}
 use Rattle.bale_types.specs.declared.Item.{Item}
-use Rattle.list_laws.proofs.Lists.{all_head, all_tail, get_once, within, get_here, get_other, set_len, same_reads}
+use Rattle.list_laws.proofs.Lists.{get_once, within, get_here, get_other, set_len, same_reads}
 use Rattle.round_program.specs.Canonical.{items_of}
 use Rattle.round_program.proofs.Items.{items_push, items_here, items_other}
 use Rattle.app_histo_ig.specs.Igs.{reply_to, replies_from, noted}
@@ -19,21 +19,21 @@ noted_one n before e =
     let list : List Item = get_or old e.0 [] ++ e.1 ∷ [] in
     let size : length (noted old e.0 e.1) ≡ n = set_len old e.0 list ∙ length-map-range_with_len (λ f. items_of f before) 0 n in
     same_reads (noted old e.0 e.1) (by_sender n (before ++ e ∷ [])) (size ∙ sym (length-map-range_with_len (λ f. items_of f (before ++ e ∷ [])) 0 n)) (λ i x at.
-        let low : i < n = subst (λ k. i < k) size (within (noted old e.0 e.1) i x at) in
-        let there : slice_get old i ≡ Some (items_of i before) = made_at (λ f. items_of f before) n i low in
-        made_at (λ f. items_of f (before ++ e ∷ [])) n i low
-        ∙ (elim (cases_eq i e.0) [
-          | inl same ↦
-              let inside : e.0 < length old = subst (λ k. k < length old) same (within old i (items_of i before) there) in
-              let here : slice_get (noted old e.0 e.1) i ≡ Some list = ap (slice_get (noted old e.0 e.1)) same ∙ get_here old e.0 list inside in
-              let was : get_or old e.0 [] ≡ items_of e.0 before = get_or-map-range_with_len (λ f. items_of f before) 0 n e.0 e.0 [] (subst (λ k. k < n) same low) (omega arith) in
-              ap Some (ap (λ k. items_of k (before ++ e ∷ [])) same ∙ items_push e.0 before (e ∷ []) ∙ ap (λ xs. items_of e.0 before ++ xs) (items_here e [])
-              ∙ ap (λ xs. xs ++ e.1 ∷ []) (sym was) ∙ get_once (noted old e.0 e.1) i list x here at)
-          | inr other ↦
-              let here : slice_get (noted old e.0 e.1) i ≡ Some (items_of i before) = get_other old e.0 i list other ∙ there in
-              ap Some (items_push i before (e ∷ []) ∙ ap (λ xs. items_of i before ++ xs) (items_other i e [] (λ q. other (sym q))) ∙ append-nil (items_of i before)
-              ∙ get_once (noted old e.0 e.1) i (items_of i before) x here at)
-        ]))
+    let low : i < n = subst (λ k. i < k) size (within (noted old e.0 e.1) i x at) in
+    let there : slice_get old i ≡ Some (items_of i before) = made_at (λ f. items_of f before) n i low in
+    made_at (λ f. items_of f (before ++ e ∷ [])) n i low
+    ∙ (elim (cases_eq i e.0) [
+      | inl same ↦
+          let inside : e.0 < length old = subst (λ k. k < length old) same (within old i (items_of i before) there) in
+          let here : slice_get (noted old e.0 e.1) i ≡ Some list = ap (slice_get (noted old e.0 e.1)) same ∙ get_here old e.0 list inside in
+          let was : get_or old e.0 [] ≡ items_of e.0 before = get_or-map-range_with_len (λ f. items_of f before) 0 n e.0 e.0 [] (subst (λ k. k < n) same low) (omega arith) in
+          ap Some (ap (λ k. items_of k (before ++ e ∷ [])) same ∙ items_push e.0 before (e ∷ []) ∙ ap (λ xs. items_of e.0 before ++ xs) (items_here e [])
+          ∙ ap (λ xs. xs ++ e.1 ∷ []) (sym was) ∙ get_once (noted old e.0 e.1) i list x here at)
+      | inr other ↦
+          let here : slice_get (noted old e.0 e.1) i ≡ Some (items_of i before) = get_other old e.0 i list other ∙ there in
+          ap Some (items_push i before (e ∷ []) ∙ ap (λ xs. items_of i before ++ xs) (items_other i e [] (λ q. other (sym q))) ∙ append-nil (items_of i before)
+          ∙ get_once (noted old e.0 e.1) i (items_of i before) x here at)
+    ]))
 
 noted_more : (n : ℕ) (before came : List (ℕ × Item)) → noted_all (by_sender n before) came ≡ by_sender n (before ++ came)
 noted_more n before [] = ap (by_sender n) (sym (append-nil before))

@@ -1,33 +1,23 @@
 -- The three rounds of ig, one after the other, and what each rank has after them.
-use Rattle.std.proofs.Common.{◌≡◌, ℕ, zero, suc, ◌+◌, ◌/◌, ◌%◌, ◌<◌, ◌≤◌, ◌^◌, ◌==◌, ◌++◌, cond, eqb, Bool, true, false, List, [], ◌∷◌, Some, None, All, map, length, get_or, slice_get, slice_set, replicate, arith, refl, sym, ap, ◌∙◌, subst, inl, inr, lit<, add-one, ℤ, pos, negsuc}
+use Rattle.std.proofs.Common.{◌≡◌, ℕ, ◌+◌, ◌%◌, ◌<◌, ◌≤◌, ◌^◌, ◌==◌, cond, true, List, [], ◌∷◌, All, map, length, get_or, replicate, arith, refl, ap, ◌∙◌, lit<, ℤ, pos, negsuc}
 use Rattle.std.specs.List.{range_with_len, sum_by, enumerate_from, fold}
-use Rattle.std.proofs.Math.Nat.{mod-lt}
-use Rattle.std.proofs.lemmas.Bool.{cases_eq, cases_lt, eq-eqb, ne_eqb, eqb-true}
 use Rattle.std.proofs.lemmas.Bool.Decides.{nat_tests}
-use Rattle.std.proofs.lemmas.List.{append-nil, get_or-replicate, length-replicate}
+use Rattle.std.proofs.lemmas.List.{length-replicate}
 use Rattle.std.specs.Prelude.{nat_abs}
-use Rattle.std.proofs.lemmas.List.Elements.{All-cons, All-map, All-filter, filter_passes, All-replicate, All-nil}
-use Rattle.std.proofs.lemmas.List.FromFn.{length-map-range_with_len, get_or-map-range_with_len, fill_by_all}
-use Rattle.std.proofs.lemmas.Simd.{map-map}
+use Rattle.std.proofs.lemmas.List.Elements.{All-cons, All-map, All-filter, All-replicate, All-nil}
 use Rattle.bale_types.specs.declared.Item.{Item}
 use Rattle.bale_types.specs.declared.triple.Triple.{Triple}
 use Rattle.bale_types.specs.Bits.{twos_complement}
-use Rattle.list_laws.proofs.Lists.{all_head, all_tail, get_once, within, get_here, get_other, set_len, same_reads}
+use Rattle.list_laws.proofs.Lists.{all_head, all_tail}
 use Rattle.mtx_text.specs.Sparse.{Sparse, IsSparse}
-use Rattle.round_program.specs.Canonical.{items_of, absorbed_round, states_at, HasRounds, EndsWithin, InRound, Member}
+use Rattle.round_program.specs.Canonical.{items_of, HasRounds, EndsWithin, InRound}
 use Rattle.round_program.specs.Orders.{absorb_each}
-use Rattle.round_program.proofs.Items.{items_push, items_here, items_other}
-use Rattle.round_program.proofs.Members.{rounds_once, in_round}
-use Rattle.sparse_rows.specs.Deals.{dealt}
-use Rattle.sparse_rows.proofs.Deals.{filter_dealt}
 use Rattle.app_histo_ig.specs.Owners.{Numbered, numbered, entry_owner, column_owner, own_entries, places_for, risen}
-use Rattle.app_histo_ig.specs.Igs.{IgState, IsIg, IsQuery, ig_rules, may_ig, value_item, query_item, to_ask, reply_to, replies_from, noted, answered}
-use Rattle.app_histo_ig.specs.IgLaws.{ig_laws}
-use Rattle.app_histo_ig.specs.IgRuns.{ig_begins, ig_starts, IgEnded}
-use Rattle.app_histo_ig.proofs.EveryEntry.{came_to, came_from, every_owned, every_entry}
-use Rattle.app_histo_ig.proofs.ColumnSums.{risen_all, risen_sum, column_item, came_own, came_sum, numbered_sum, all_owned}
-use Rattle.app_histo_ig.proofs.Places.{place_below}
-use Rattle.app_histo_ig.proofs.Starts.{made_at, made_from, made_in_round, all_numbered, round_made}
+use Rattle.app_histo_ig.specs.Igs.{IgState, IsIg, IsQuery, ig_rules, may_ig, value_item, query_item, to_ask, replies_from, noted, answered}
+use Rattle.app_histo_ig.specs.IgRuns.{ig_begins, ig_starts}
+use Rattle.app_histo_ig.proofs.EveryEntry.{came_to}
+use Rattle.app_histo_ig.proofs.ColumnSums.{risen_all}
+use Rattle.app_histo_ig.proofs.Starts.{made_in_round, all_numbered}
 
 -- the sum of a column as a word
 abbrev pub column_bits : List Triple → ℕ → ℕ

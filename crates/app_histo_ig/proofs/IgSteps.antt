@@ -1,12 +1,11 @@
 -- What a step of the code leaves, where a rank is one of ig.
-use Rattle.std.proofs.Common.{ℕ, min, lit<, ◌/◌, ◌≤◌, ◌+◌, ◌-◌, ◌^◌, ◌<◌, ◌≡◌, ◌==◌, ◌++◌, ◌∷◌, [], Bool, true, false, cond, All, List, Some, map, length, get_or, slice_get, slice_set, arith, sym, ap, ◌∙◌, subst}
-use Rattle.std.proofs.lemmas.Bool.{eq-eqb}
+use Rattle.std.proofs.Common.{ℕ, min, lit<, ◌/◌, ◌+◌, ◌-◌, ◌^◌, ◌<◌, ◌≡◌, ◌==◌, ◌++◌, ◌∷◌, [], Bool, true, false, cond, All, List, Some, map, length, get_or, slice_get, slice_set, arith, sym, ap, ◌∙◌, subst}
 use Rattle.bale_types.specs.declared.Item.{Item}
 use Rattle.list_laws.proofs.Lists.{map_changed, map_unchanged}
 use Rattle.round_program.specs.Laws.{Fits}
-use Rattle.app_histo_ig.specs.Owners.{risen, places_for}
+use Rattle.app_histo_ig.specs.Owners.{risen}
 use Rattle.app_histo_ig.specs.Igs.{IgState, IsIg, IsQuery, ig_rules, noted, next_outgoing, to_ask, replies_from}
-use Rattle.app_histo_ig.specs.IgLaws.{ig_laws, is_query, noted_asked, noted_len, sums_len, sums_words, next_fit}
+use Rattle.app_histo_ig.specs.IgLaws.{ig_laws, is_query, noted_asked, noted_len, sums_len, sums_words}
 use Rattle.app_histo_ig.proofs.Places.{place_below}
 
 -- one list of many grew by an item, or none did
@@ -18,7 +17,11 @@ note_is f xs i x y item false e h = map_unchanged f xs i x y e h
 pub note_valid : (s : IgState) (from : ℕ) (x : Item) (b : Bool) (queries : List (List Item)) → IsIg s → Fits ig_rules s from x → s.round ≡ 1 → queries ≡ cond b (noted s.queries from x) s.queries → IsIg (record s { queries = queries })
 note_valid s from x true queries v e z h =
     record {
-      own_rank = v.own_rank; wide = v.wide; named = v.named; words = v.words; places = v.places;
+      own_rank = v.own_rank;
+      wide = v.wide;
+      named = v.named;
+      words = v.words;
+      places = v.places;
       senders = ap length h ∙ noted_len true s.queries from x ∙ v.senders;
       asked = subst (All (All (IsQuery s.cols))) (sym h) (noted_asked s.cols s.queries from x (is_query s.cols s.ranks s.round s.rank from x e (omega arith)).0 v.asked);
       fit = v.fit;
@@ -28,10 +31,14 @@ note_valid s from x false queries v e z h = subst (λ q. IsIg (record s { querie
 pub rise_valid : (s : IgState) (x : Item) (sums : List ℕ) → IsIg s → sums ≡ risen s.ranks s.sums x → IsIg (record s { sums = sums })
 rise_valid s x sums v h =
     record {
-      own_rank = v.own_rank; wide = v.wide; named = v.named;
+      own_rank = v.own_rank;
+      wide = v.wide;
+      named = v.named;
       words = subst (All (λ w. w < 2 ^ 64)) (sym h) (sums_words true s.ranks s.sums x v.words);
       places = ap length h ∙ sums_len true s.ranks s.sums x ∙ v.places;
-      senders = v.senders; asked = v.asked; fit = v.fit;
+      senders = v.senders;
+      asked = v.asked;
+      fit = v.fit;
     }
 
 -- the state after a round, from its two fields that change

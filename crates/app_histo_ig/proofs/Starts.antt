@@ -74,6 +74,6 @@ round_made {S} R p f g made =
     let size : length (round_of R ss) ≡ p =
     length-map (absorbed_round R ss) (λ s. R.ended s votes) ∙ length-map ss _ ∙ length-map-range_with_len f 0 p in
     same_reads (round_of R ss) (map g (range_with_len 0 p)) (size ∙ sym (length-map-range_with_len g 0 p)) (λ r x at.
-        let low : r < p = subst (λ n. r < n) size (within (round_of R ss) r x at) in
-        let from = got_map (λ s. R.ended s votes) (absorbed_round R ss) r x at in
-        made_at g p r low ∙ ap Some (sym (made r votes low from.0 from.1) ∙ from.2))
+    let low : r < p = subst (λ n. r < n) size (within (round_of R ss) r x at) in
+    let from = got_map (λ s. R.ended s votes) (absorbed_round R ss) r x at in
+    made_at g p r low ∙ ap Some (sym (made r votes low from.0 from.1) ∙ from.2))

@@ -7,7 +7,7 @@ use Rattle.std.proofs.lemmas.Bool.Decides.{nat_tests}
 use Rattle.std.proofs.lemmas.List.Elements.{All-nil, All-map, All-append, All-push}
 use Rattle.bale_types.specs.declared.Item.{Item}
 use Rattle.list_laws.proofs.Lists.{changed_comm, changed_len, changed_all, all_head, all_tail}
-use Rattle.round_program.specs.Laws.{Laws, Fits, SameRound, NextRound, IsItem}
+use Rattle.round_program.specs.Laws.{Laws, Fits, SameRound, IsItem}
 use Rattle.app_histo_ig.specs.Owners.{risen}
 use Rattle.app_histo_ig.specs.OwnerLaws.{risen_comm, risen_len}
 use Rattle.app_histo_ig.specs.Igs.{IgState, IsIg, IsQuery, ig_rules, may_ig, noted, answered, replies_from, reply_to, to_ask, next_outgoing}
@@ -151,8 +151,12 @@ ig_laws =
       keeps = λ s f x v e. keeps s f x v e;
       vote_below = λ s v. lit< tt;
       next = λ s votes v l. record {
-          valid = record { own_rank = v.own_rank; wide = v.wide; named = v.named; words = v.words; places = v.places; senders = v.senders; asked = v.asked; fit = next_fit s v };
-          rank = refl; ranks = refl; round = refl; shape = refl; most = refl
+        valid = record { own_rank = v.own_rank; wide = v.wide; named = v.named; words = v.words; places = v.places; senders = v.senders; asked = v.asked; fit = next_fit s v };
+        rank = refl;
+        ranks = refl;
+        round = refl;
+        shape = refl;
+        most = refl;
       };
       within = ig_within;
       most_below = λ s v. lit< tt;

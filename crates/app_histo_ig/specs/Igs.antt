@@ -90,9 +90,9 @@ ig_rules =
       emissions = λ s. s.outgoing;
       may_be_sent = may_ig;
       absorbed = λ s from x. record s {
-          sums = cond (s.round == 0) (risen s.ranks s.sums x) s.sums;
-          queries = cond (s.round == 1) (noted s.queries from x) s.queries;
-          answers = cond (nat_lt 1 s.round) (answered s.ranks s.answers x) s.answers
+        sums = cond (s.round == 0) (risen s.ranks s.sums x) s.sums;
+        queries = cond (s.round == 1) (noted s.queries from x) s.queries;
+        answers = cond (nat_lt 1 s.round) (answered s.ranks s.answers x) s.answers;
       };
       vote = λ s. 0;
       goes_on = λ shape round votes. nat_lt round 2;

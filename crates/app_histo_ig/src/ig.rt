@@ -59,10 +59,28 @@ pub(crate) struct Begins {
 impl Ig {
     /// A rank before its first round.
     pub(crate) fn new(alloc: Global, rank: u32, ranks: u32, cols: u32, begins: Begins) -> Ig
-        requires { IsIg (record { rank = rank; ranks = ranks; round = 0; cols = cols; own = begins.own.items; sums = begins.sums.items;
-            queries = map (λ l. l.items) begins.queries.items; outgoing = begins.outgoing.items; answers = begins.answers.items }) }
-        ensures { result ≡ record { rank = rank; ranks = ranks; round = 0; cols = cols; own = begins.own.items; sums = begins.sums.items;
-            queries = map (λ l. l.items) begins.queries.items; outgoing = begins.outgoing.items; answers = begins.answers.items } }
+        requires { IsIg (record {
+          rank = rank;
+          ranks = ranks;
+          round = 0;
+          cols = cols;
+          own = begins.own.items;
+          sums = begins.sums.items;
+          queries = map (λ l. l.items) begins.queries.items;
+          outgoing = begins.outgoing.items;
+          answers = begins.answers.items;
+        }) }
+        ensures { result ≡ record {
+          rank = rank;
+          ranks = ranks;
+          round = 0;
+          cols = cols;
+          own = begins.own.items;
+          sums = begins.sums.items;
+          queries = map (λ l. l.items) begins.queries.items;
+          outgoing = begins.outgoing.items;
+          answers = begins.answers.items;
+        } }
     {
         Ig {
             alloc,

@@ -20,11 +20,7 @@ pub(crate) fn rise(sums: &mut Vec<u64>, ranks: u32, item: Item)
 }
 
 /// Appends a query to its sender's list.
-pub(crate) fn note(
-    queries: &mut Vec<Vec<Item>>,
-    from: usize,
-    item: Item,
-) -> Result<(), NoMemory>
+pub(crate) fn note(queries: &mut Vec<Vec<Item>>, from: usize, item: Item) -> Result<(), NoMemory>
     requires { from < length queries.old.items }
     ensures { map (λ l. l.items) queries.new.items ≡ (if is_ok result then noted (map (λ l. l.items) queries.old.items) from item else map (λ l. l.items) queries.old.items) }
 {

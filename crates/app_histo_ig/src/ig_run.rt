@@ -42,13 +42,7 @@ pub fn ig_start(alloc: Global, m: &Matrix, ranks: u32) -> Result<Progs<Ig>, NoMe
 }
 
 /// One rank's program.
-fn part_of(
-    alloc: Global,
-    m: &Matrix,
-    parts: &Parts,
-    ranks: u32,
-    rank: u32,
-) -> Result<Ig, NoMemory>
+fn part_of(alloc: Global, m: &Matrix, parts: &Parts, ranks: u32, rank: u32) -> Result<Ig, NoMemory>
     requires rank { rank < ranks }
     requires parts { parts.now ≡ parts_of ranks m.now.entries }
     ensures { IfOk result (λ s. s ≡ ig_begins ranks m.now rank) }

@@ -1,4 +1,4 @@
-use Rattle.std.proofs.Common.{◌≡◌, ◌<◌, rules, List, ℕ, w64, length, subst, ◌∙◌}
+use Rattle.std.proofs.Common.{◌<◌, rules, List, w64, length, subst, ◌∙◌}
 use mir.Val.{SFits}
 use Rattle.std.proofs.lemmas.Int.{to_z-of_z}
 use Rattle.bale_types.specs.declared.triple.Triple.{Triple}

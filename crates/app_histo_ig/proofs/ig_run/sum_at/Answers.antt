@@ -1,4 +1,4 @@
-use Rattle.std.proofs.Common.{w64, ℕ, ◌∙◌, ◌<◌, ◌≡◌, ◌/◌, ◌%◌, Some, None, slice_get, length, get_or, ap, sym, subst}
+use Rattle.std.proofs.Common.{w64, ◌∙◌, ◌<◌, ◌≡◌, ◌/◌, ◌%◌, Some, None, slice_get, length, get_or, ap, sym, subst}
 use Rattle.std.proofs.Math.Nat.{mod-lt}
 use Rattle.std.specs.Option.{option_copied}
 use mir.Val.{SFits}

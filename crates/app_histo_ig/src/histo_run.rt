@@ -127,7 +127,8 @@ fn count_of(p: &Progs<Histo>, j: u32) -> u64
     owner.counts()[j as usize / ranks]
 }
 
-fn write_line<K: Sink>(out: &mut Out<'_, K>, j: u32, count: u64) -> Result<(), Failed>
+/// Writes one line.
+pub(crate) fn write_line<K: Sink>(out: &mut Out<'_, K>, j: u32, count: u64) -> Result<(), Failed>
     requires { j + 1 < 2 ^ 32 }
     ensures ok { OnOk result (appended K.taken out.new ≡ after (appended K.taken out.old) (histo_line j count)) }
     ensures err { OnErr result (IsFront (K.taken out.new.sink.now) (after (appended K.taken out.old) (histo_line j count))) }

@@ -159,7 +159,13 @@ fn sum_at(p: &Progs<Ig>, m: &Matrix, e: usize) -> i64
     value_of(own.answers()[e / ranks])
 }
 
-fn write_line<K: Sink>(out: &mut Out<'_, K>, i: u32, j: u32, sum: i64) -> Result<(), Failed>
+/// Writes one line.
+pub(crate) fn write_line<K: Sink>(
+    out: &mut Out<'_, K>,
+    i: u32,
+    j: u32,
+    sum: i64,
+) -> Result<(), Failed>
     requires row { i + 1 < 2 ^ 32 }
     requires column { j + 1 < 2 ^ 32 }
     ensures ok { OnOk result (appended K.taken out.new ≡ after (appended K.taken out.old) (ig_line i j sum)) }

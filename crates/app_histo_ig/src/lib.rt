@@ -19,6 +19,8 @@ mod histo_run;
 mod ig;
 mod ig_lists;
 mod ig_run;
+#[cfg(test)]
+mod tests;
 
 pub use histo::Histo;
 pub use histo_run::{histo_start, histo_write};

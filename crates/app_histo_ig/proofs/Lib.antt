@@ -1,0 +1,13 @@
+pub mod ColumnSums
+pub mod ColumnWords
+pub mod EveryEntry
+pub mod HistoOwners
+pub mod HistoText
+pub mod IgAnswers
+pub mod IgOwners
+pub mod IgQueries
+pub mod IgRounds
+pub mod IgSteps
+pub mod IgText
+pub mod Places
+pub mod Starts

@@ -1,0 +1,8 @@
+use Rattle.std.proofs.Common.{[], get_or, sym}
+use Rattle.app_histo_ig.specs.Owners.{Numbered}
+use Rattle.app_histo_ig.proofs.Starts.{fields_more}
+use Rattle.app_histo_ig.proofs.histo_run.columns_of.Goals as goal
+
+pub loop-x-preserved : goal.loop-x-preserved
+loop-x-preserved c =
+    fields_more (λ (e : Numbered). e.1.j) (get_or c.args.parts.now c.args.rank []) c.loop-x.x (c.in-Some._number, c.in-Some.entry) c.loop-x.columns.items _ c.loop-x.invariant (sym c.in-Some.ensures) c.in_ok-push.ensures.items

@@ -1,0 +1,14 @@
+use Rattle.std.proofs.Common.{◌≡◌, ◌≤◌, take}
+use Rattle.std.specs.List.{flat_map}
+use Rattle.bale_types.specs.Stream.{after, IsFront}
+use Rattle.bale_types.specs.Out.{appended}
+use Rattle.app_histo_ig.specs.IgLines.{column_sum, ig_line}
+use Rattle.app_histo_ig.proofs.ig_run.ig_write.Given as goal
+
+abbrev pub invariant-loop-e : goal.invariant-loop-e
+invariant-loop-e g l = record {
+  so_far : appended g.K.Sink.taken l.out ≡ after (appended g.K.Sink.taken l.initial.out) (flat_map (λ t. ig_line t.i t.j (column_sum t.j l.m.entries)) (take l.e l.m.entries));
+  faults : g.K.Sink.faults l.initial.out.sink.now ≤ g.K.Sink.faults l.out.sink.now;
+  grows : IsFront (g.K.Sink.taken l.initial.out.sink.now) (g.K.Sink.taken l.out.sink.now);
+  same_sink : l.out.sink.ghost_name ≡ l.initial.out.sink.ghost_name;
+}

@@ -1,0 +1,8 @@
+use Rattle.std.proofs.Common.{ℕ, [], get_or, sym}
+use Rattle.app_histo_ig.specs.Owners.{Numbered}
+use Rattle.app_histo_ig.proofs.Starts.{fields_more}
+use Rattle.app_histo_ig.proofs.ig_run.own_of.Goals as goal
+
+pub loop-x-preserved : goal.loop-x-preserved
+loop-x-preserved c =
+    fields_more {Y = ℕ × ℕ} (λ (e : Numbered). (e.0, e.1.j)) (get_or c.args.parts.now c.args.rank []) c.loop-x.x (c.in-Some.number, c.in-Some.entry) c.loop-x.own.items _ c.loop-x.invariant (sym c.in-Some.ensures) c.in_ok-push.ensures.items

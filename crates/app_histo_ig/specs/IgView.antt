@@ -1,0 +1,18 @@
+-- The state of a rank of ig, read from the fields.
+use Rattle.std.specs.Prelude.{map}
+use Rattle.app_histo_ig.specs.declared.ig.Ig.TheInside.{Inside}
+use Rattle.app_histo_ig.specs.Igs.{IgState}
+
+abbrev pub ig_state : Inside → IgState
+ig_state s =
+    record {
+      rank = s.rank;
+      ranks = s.ranks;
+      round = s.round;
+      cols = s.cols;
+      own = s.own.items;
+      sums = s.sums.items;
+      queries = map (λ l. l.items) s.queries.items;
+      outgoing = s.outgoing.items;
+      answers = s.answers.items;
+    }

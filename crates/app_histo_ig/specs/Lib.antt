@@ -1,0 +1,12 @@
+pub mod HistoLaws
+pub mod HistoLines
+pub mod HistoRuns
+pub mod HistoView
+pub mod Histos
+pub mod IgLaws
+pub mod IgLines
+pub mod IgRuns
+pub mod IgView
+pub mod Igs
+pub mod OwnerLaws
+pub mod Owners

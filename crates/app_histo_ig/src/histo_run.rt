@@ -1,0 +1,146 @@
+//! histo's start, and its answer as text.
+
+ghost use Rattle.std.specs.Prelude.{◌≡◌, ◌≢◌, ◌<◌, ◌≤◌, ◌+◌, ◌^◌, ◌%◌, ◌/◌, [], ◌∷◌, length, map, replicate, slice_index_or, IfOk, OnOk, OnErr};
+ghost use Rattle.bale_types.specs.Stream.{after, HasCause, IsFront};
+ghost use Rattle.bale_types.specs.Out.{appended};
+ghost use Rattle.mtx_text.specs.Sparse.{Sparse, IsSparse};
+ghost use Rattle.sparse_rows.specs.Parts.{parts_of};
+ghost use Rattle.round_program.specs.Canonical.{InRound, EndsWithin};
+ghost use Rattle.app_histo_ig.specs.Histos.{histo_rules};
+ghost use Rattle.app_histo_ig.specs.HistoLines.{in_column, histo_line, histo_lines};
+ghost use Rattle.app_histo_ig.specs.HistoRuns.{histo_begins, histo_starts, HistoEnded};
+
+use crate::histo::Histo;
+use bale_types::{Failed, Line, NoMemory, Out, Sink};
+use mtx_text::Matrix;
+use round_program::Progs;
+use sparse_rows::{Parts, split};
+use std::alloc::Global;
+
+/// The programs of histo on `ranks` ranks, from 1 to 64, in round 0 of a run of one round.
+///
+/// # Errors
+///
+/// `NoMemory` where there was none for the programs.
+pub fn histo_start(alloc: Global, m: &Matrix, ranks: u32) -> Result<Progs<Histo>, NoMemory>
+    requires some { 1 ≤ ranks }
+    requires few { ranks ≤ 64 }
+    ensures starts { IfOk result (λ ps. ps ≡ histo_starts ranks m.now) }
+    ensures begins { IfOk result (λ ps. InRound histo_rules ranks 0 (m.now.cols ∷ []) 1 ps) }
+    ensures ends { IfOk result (λ ps. EndsWithin histo_rules ps 1) }
+{
+    let parts = split(alloc, m, ranks)?;
+    let _kept = m.entries();
+    let mut progs = Progs::new(alloc);
+    for rank in 0..ranks {
+        progs.add(part_of(alloc, m, &parts, ranks, rank)?)?;
+    }
+    Ok(progs)
+}
+
+/// One rank's program.
+fn part_of(
+    alloc: Global,
+    m: &Matrix,
+    parts: &Parts,
+    ranks: u32,
+    rank: u32,
+) -> Result<Histo, NoMemory>
+    requires rank { rank < ranks }
+    requires parts { parts.now ≡ parts_of ranks m.now.entries }
+    ensures { IfOk result (λ s. s ≡ histo_begins ranks m.now rank) }
+{
+    let _kept = m.entries();
+    let columns = columns_of(alloc, parts, rank)?;
+    let places = (m.cols() / ranks + 1) as usize;
+    let counts = zeros(alloc, places)?;
+    Ok(Histo::new(rank, ranks, m.cols(), columns, counts))
+}
+
+/// So many numbers 0.
+fn zeros(alloc: Global, n: usize) -> Result<Vec<u64>, NoMemory>
+    ensures { IfOk result (λ v. v.items ≡ replicate n 0) }
+{
+    Ok(vec![in alloc; 0u64; n]?)
+}
+
+/// The columns of a rank's entries.
+fn columns_of(alloc: Global, parts: &Parts, rank: u32) -> Result<Vec<u32>, NoMemory>
+    requires { rank < length parts.now }
+    ensures { IfOk result (λ v. v.items ≡ map (λ e. e.1.j) (slice_index_or parts.now rank [])) }
+{
+    let mut columns = Vec::with_capacity(alloc, parts.len(rank))?;
+    for x in 0..parts.len(rank) {
+        let Some((_number, entry)) = parts.get(rank, x) else {
+            unreachable!()
+        };
+        columns.push(entry.j)?;
+    }
+    Ok(columns)
+}
+
+/// Writes a line for each column, in order: its number from 1 and how many entries it has. The programs are those of
+/// `histo_start` after their run. No memory is taken.
+///
+/// # Errors
+///
+/// `Failed` where the sink's faults rose in this call.
+pub fn histo_write<K: Sink>(p: &Progs<Histo>, out: &mut Out<'_, K>) -> Result<(), Failed>
+    requires ended { (m : Sparse) × HistoEnded m p.now }
+    ensures ok { (m : Sparse) → HistoEnded m p.now →
+        OnOk result (appended K.taken out.new ≡ after (appended K.taken out.old) (histo_lines m.entries m.cols)) }
+    ensures err { (m : Sparse) → HistoEnded m p.now →
+        OnErr result (IsFront (K.taken out.new.sink.now) (after (appended K.taken out.old) (histo_lines m.entries m.cols))) }
+    ensures cause { HasCause (K.faults out.old.sink.now) (K.faults out.new.sink.now) result }
+    ensures never_falls { K.faults out.old.sink.now ≤ K.faults out.new.sink.now }
+    ensures grows { IsFront (K.taken out.old.sink.now) (K.taken out.new.sink.now) }
+    ensures same_sink { out.new.sink.ghost_name ≡ out.old.sink.ghost_name }
+{
+    let cols = columns_counted(p);
+    for j in 0..cols {
+        write_line(out, j, count_of(p, j))?;
+    }
+    Ok(())
+}
+
+/// How many columns there are.
+fn columns_counted(p: &Progs<Histo>) -> u32
+    requires { (m : Sparse) × HistoEnded m p.now }
+    ensures columns { (m : Sparse) → HistoEnded m p.now → result ≡ m.cols }
+    ensures few { result ≤ 16384 }
+{
+    let Some(first) = p.get(0) else {
+        unreachable!()
+    };
+    first.cols()
+}
+
+/// The count of a column, as its owner has it.
+fn count_of(p: &Progs<Histo>, j: u32) -> u64
+    requires { (m : Sparse) × HistoEnded m p.now × (j < m.cols) }
+    ensures { (m : Sparse) → HistoEnded m p.now → result ≡ in_column j m.entries }
+{
+    let ranks = p.len();
+    let Some(owner) = p.get(j as usize % ranks) else {
+        unreachable!()
+    };
+    owner.counts()[j as usize / ranks]
+}
+
+/// Writes one line.
+pub(crate) fn write_line<K: Sink>(out: &mut Out<'_, K>, j: u32, count: u64) -> Result<(), Failed>
+    requires { j + 1 < 2 ^ 32 }
+    ensures ok { OnOk result (appended K.taken out.new ≡ after (appended K.taken out.old) (histo_line j count)) }
+    ensures err { OnErr result (IsFront (K.taken out.new.sink.now) (after (appended K.taken out.old) (histo_line j count))) }
+    ensures cause { HasCause (K.faults out.old.sink.now) (K.faults out.new.sink.now) result }
+    ensures never_falls { K.faults out.old.sink.now ≤ K.faults out.new.sink.now }
+    ensures grows { IsFront (K.taken out.old.sink.now) (K.taken out.new.sink.now) }
+    ensures same_sink { out.new.sink.ghost_name ≡ out.old.sink.ghost_name }
+{
+    let mut line = Line::new();
+    line.number(j + 1);
+    line.byte(b' ');
+    line.number(count);
+    line.byte(b'\n');
+    out.text(line.bytes())
+}

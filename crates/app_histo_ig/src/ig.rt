@@ -1,0 +1,174 @@
+//! ig: each entry of a matrix gets to know the sum of its column, which the column's owner has.
+
+ghost use Rattle.std.specs.Prelude.{◌≡◌, ◌<◌, ◌^◌, [], length, map};
+ghost use Rattle.std.specs.List.{All};
+ghost use Rattle.app_histo_ig.specs.Owners.{places_for};
+ghost use Rattle.app_histo_ig.specs.Igs.{IsIg};
+
+use crate::ig_lists::{after_round, note, raise, rise};
+use bale_types::{Item, NoMemory};
+use round_program::Program;
+use std::alloc::Global;
+use std::marker::Model;
+
+/// One rank's part of ig, in three rounds: the owner of each column adds up its values; each rank asks for the column of
+/// each of its entries; and the owners reply. Column `j` belongs to rank `j mod ranks`, which keeps its sum at place
+/// `j div ranks`. Sums are words, as `bits_of` gives them, and rise modulo 2^64.
+#[derive(Drop)]
+pub struct Ig {
+    alloc: Global,
+    rank: u32,
+    ranks: u32,
+    round: u64,
+    /// the matrix's number of columns
+    cols: u32,
+    /// the rank's entries, in order: the number of each in the matrix, and its column
+    own: Vec<(u32, u32)>,
+    /// the sums of own columns
+    sums: Vec<u64>,
+    /// the queries that came, by sender, in order
+    queries: Vec<Vec<Item>>,
+    /// what is sent in this round: values, then queries, then replies
+    outgoing: Vec<(u32, Item)>,
+    /// the sum of each own entry's column; that of entry number `e` stands at `e div ranks`
+    answers: Vec<u64>,
+}
+
+impl Model for Ig {
+    ghost use Rattle.app_histo_ig.specs.Igs.{IgState, IsIg};
+
+    ghost Value = { IgState };
+
+    ghost use Rattle.app_histo_ig.specs.IgView.{ig_state};
+
+    ghost view = { ig_state };
+
+    ghost invariant = { λ s. IsIg (ig_state s) };
+}
+
+/// What a rank of ig begins with, beside its numbers.
+#[derive(Drop)]
+pub(crate) struct Begins {
+    pub(crate) own: Vec<(u32, u32)>,
+    pub(crate) sums: Vec<u64>,
+    pub(crate) queries: Vec<Vec<Item>>,
+    pub(crate) outgoing: Vec<(u32, Item)>,
+    pub(crate) answers: Vec<u64>,
+}
+
+impl Ig {
+    /// A rank before its first round.
+    pub(crate) fn new(alloc: Global, rank: u32, ranks: u32, cols: u32, begins: Begins) -> Ig
+        requires { IsIg (record {
+          rank = rank;
+          ranks = ranks;
+          round = 0;
+          cols = cols;
+          own = begins.own.items;
+          sums = begins.sums.items;
+          queries = map (λ l. l.items) begins.queries.items;
+          outgoing = begins.outgoing.items;
+          answers = begins.answers.items;
+        }) }
+        ensures { result ≡ record {
+          rank = rank;
+          ranks = ranks;
+          round = 0;
+          cols = cols;
+          own = begins.own.items;
+          sums = begins.sums.items;
+          queries = map (λ l. l.items) begins.queries.items;
+          outgoing = begins.outgoing.items;
+          answers = begins.answers.items;
+        } }
+    {
+        Ig {
+            alloc,
+            rank,
+            ranks,
+            round: 0,
+            cols,
+            own: begins.own,
+            sums: begins.sums,
+            queries: begins.queries,
+            outgoing: begins.outgoing,
+            answers: begins.answers,
+        }
+    }
+
+    /// The sum of each own entry's column, as a word.
+    pub(crate) fn answers(&self) -> &[u64]
+        ensures { result.now ≡ self.now.answers }
+    {
+        &self.answers
+    }
+}
+
+impl Program for Ig {
+    ghost use Rattle.app_histo_ig.specs.Igs.{ig_rules};
+    ghost use Rattle.app_histo_ig.specs.IgLaws.{ig_laws};
+
+    ghost rules = { ig_rules };
+
+    ghost laws = { ig_laws };
+
+    fn rank(&self) -> u32 {
+        self.rank
+    }
+
+    fn ranks(&self) -> u32 {
+        self.ranks
+    }
+
+    fn round(&self) -> u64 {
+        self.round
+    }
+
+    fn count(&self) -> u64 {
+        self.outgoing.len() as u64
+    }
+
+    fn emission(&self, i: u64) -> (u32, Item) {
+        self.outgoing[i as usize]
+    }
+
+    fn fits(&self, from: u32, item: Item) -> bool {
+        from < self.ranks
+            && (self.round > 1
+                || (item.a < self.cols as u64 && item.a as u32 % self.ranks == self.rank))
+    }
+
+    fn absorb(&mut self, from: u32, item: Item) -> Result<(), NoMemory> {
+        if self.round == 0 {
+            rise(&mut self.sums, self.ranks, item);
+            return Ok(());
+        }
+        if self.round == 1 {
+            return note(&mut self.queries, from as usize, item);
+        }
+        raise(&mut self.answers, self.ranks, item);
+        Ok(())
+    }
+
+    fn vote(&self) -> u64 {
+        0
+    }
+
+    fn goes_on(&self, votes: u64) -> bool {
+        self.round < 2
+    }
+
+    fn end_round(&mut self, votes: u64) -> Result<bool, NoMemory> {
+        let goes_on = self.round < 2;
+        self.outgoing = after_round(
+            self.alloc,
+            self.round,
+            self.ranks,
+            &self.own,
+            &self.sums,
+            &self.queries,
+        )?;
+        self.round = self.round.saturating_add(1);
+        Ok(goes_on)
+    }
+}

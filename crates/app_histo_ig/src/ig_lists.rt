@@ -1,0 +1,133 @@
+//! The lists of a rank of ig: sums, queries, replies and answers.
+
+ghost use Rattle.std.specs.Prelude.{◌≡◌, ◌≢◌, ◌<◌, ◌≤◌, ◌^◌, ◌/◌, ◌==◌, ◌++◌, [], IfOk, OnOk, is_ok, if◌then◌else◌, length, map};
+ghost use Rattle.std.specs.List.{All};
+ghost use Rattle.app_histo_ig.specs.Owners.{places_for, risen};
+ghost use Rattle.app_histo_ig.specs.Igs.{IsQuery, noted, answered, to_ask, reply_to, replies_from};
+
+use bale_types::{Item, NoMemory};
+use std::alloc::Global;
+
+/// Adds the value `b` to the sum of column `a`, modulo 2^64.
+pub(crate) fn rise(sums: &mut Vec<u64>, ranks: u32, item: Item)
+    requires some { 0 < ranks }
+    requires column { item.a < 2 ^ 32 }
+    requires place { item.a / ranks < length sums.old.items }
+    ensures { sums.new.items ≡ risen ranks sums.old.items item }
+{
+    let place = (item.a as u32 / ranks) as usize;
+    sums[place] = sums[place].wrapping_add(item.b);
+}
+
+/// Appends a query to its sender's list.
+pub(crate) fn note(queries: &mut Vec<Vec<Item>>, from: usize, item: Item) -> Result<(), NoMemory>
+    requires { from < length queries.old.items }
+    ensures { map (λ l. l.items) queries.new.items ≡ (if is_ok result then noted (map (λ l. l.items) queries.old.items) from item else map (λ l. l.items) queries.old.items) }
+{
+    queries[from].push(item).map_err(|_| NoMemory)
+}
+
+/// Takes the answer `b` of entry number `a` in, where there is a place for it and no greater one stands there.
+pub(crate) fn raise(answers: &mut Vec<u64>, ranks: u32, item: Item)
+    requires { 0 < ranks }
+    ensures { answers.new.items ≡ answered ranks answers.old.items item }
+{
+    let at = item.a / ranks as u64;
+    if at < answers.len() as u64 {
+        let i = at as usize;
+        answers[i] = answers[i].max(item.b);
+    }
+}
+
+/// What is sent after a round: queries after round 0, replies after round 1, and then nothing.
+pub(crate) fn after_round(
+    alloc: Global,
+    round: u64,
+    ranks: u32,
+    own: &[(u32, u32)],
+    sums: &[u64],
+    queries: &[Vec<Item>],
+) -> Result<Vec<(u32, Item)>, NoMemory>
+    requires some { 0 < ranks }
+    requires senders { length queries.now < 2 ^ 32 }
+    requires asked { All (All (λ x. (x.a < 2 ^ 32) × (x.a / ranks < length sums.now))) (map (λ l. l.items) queries.now) }
+    ensures { IfOk result (λ v. v.items ≡ (if round == 0 then map (to_ask ranks) own.now
+        else if round == 1 then replies_from ranks sums.now 0 (map (λ l. l.items) queries.now) else [])) }
+{
+    if round == 0 {
+        return asks(alloc, ranks, own);
+    }
+    if round == 1 {
+        return replies(alloc, ranks, sums, queries);
+    }
+    Ok(Vec::new(alloc))
+}
+
+/// A query for each own entry.
+fn asks(alloc: Global, ranks: u32, own: &[(u32, u32)]) -> Result<Vec<(u32, Item)>, NoMemory>
+    requires { 0 < ranks }
+    ensures { IfOk result (λ v. v.items ≡ map (to_ask ranks) own.now) }
+{
+    let mut outgoing = Vec::with_capacity(alloc, own.len())?;
+    for entry in own {
+        let (number, column) = *entry;
+        let query = Item {
+            a: column as u64,
+            b: number as u64,
+            c: 0,
+        };
+        outgoing.push((column % ranks, query))?;
+    }
+    Ok(outgoing)
+}
+
+/// The replies to lists of queries, by sender.
+fn replies(
+    alloc: Global,
+    ranks: u32,
+    sums: &[u64],
+    queries: &[Vec<Item>],
+) -> Result<Vec<(u32, Item)>, NoMemory>
+    requires some { 0 < ranks }
+    requires senders { length queries.now < 2 ^ 32 }
+    requires asked { All (All (λ x. (x.a < 2 ^ 32) × (x.a / ranks < length sums.now))) (map (λ l. l.items) queries.now) }
+    ensures { IfOk result (λ v. v.items ≡ replies_from ranks sums.now 0 (map (λ l. l.items) queries.now)) }
+{
+    let mut outgoing = Vec::with_capacity(alloc, how_many(queries))?;
+    for (from, list) in queries.iter().enumerate() {
+        reply_all(&mut outgoing, ranks, sums, from as u32, list)?;
+    }
+    Ok(outgoing)
+}
+
+/// How many queries there are, so that their replies take one allocation.
+fn how_many(queries: &[Vec<Item>]) -> usize {
+    let mut count = 0usize;
+    for list in queries {
+        count = count.saturating_add(list.len());
+    }
+    count
+}
+
+/// Appends the replies to one sender's queries.
+fn reply_all(
+    outgoing: &mut Vec<(u32, Item)>,
+    ranks: u32,
+    sums: &[u64],
+    from: u32,
+    queries: &[Item],
+) -> Result<(), NoMemory>
+    requires some { 0 < ranks }
+    requires asked { All (λ x. (x.a < 2 ^ 32) × (x.a / ranks < length sums.now)) queries.now }
+    ensures { OnOk result (outgoing.new.items ≡ outgoing.old.items ++ map (reply_to ranks sums.now from) queries.now) }
+{
+    for query in queries {
+        let reply = Item {
+            a: query.b,
+            b: sums[(query.a as u32 / ranks) as usize],
+            c: 0,
+        };
+        outgoing.push((from, reply))?;
+    }
+    Ok(())
+}

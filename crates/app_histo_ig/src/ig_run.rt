@@ -1,0 +1,186 @@
+//! ig's start, and its answer as text.
+
+ghost use Rattle.std.specs.Prelude.{◌≡◌, ◌≢◌, ◌<◌, ◌≤◌, ◌+◌, ◌^◌, ◌%◌, ◌/◌, [], ◌∷◌, length, map, replicate, slice_get, slice_index_or, Some, IfOk, OnOk, OnErr};
+ghost use Rattle.bale_types.specs.Stream.{after, HasCause, IsFront};
+ghost use Rattle.bale_types.specs.Out.{appended};
+ghost use Rattle.bale_types.specs.Bits.{twos_complement};
+ghost use Rattle.bale_types.specs.declared.triple.Triple.{Triple};
+ghost use Rattle.mtx_text.specs.Sparse.{Sparse, IsSparse};
+ghost use Rattle.sparse_rows.specs.Parts.{parts_of};
+ghost use Rattle.round_program.specs.Canonical.{InRound, EndsWithin};
+ghost use Rattle.app_histo_ig.specs.Owners.{column_owner, places_for};
+ghost use Rattle.app_histo_ig.specs.Igs.{ig_rules, value_item};
+ghost use Rattle.app_histo_ig.specs.IgLines.{column_sum, ig_line, ig_lines};
+ghost use Rattle.app_histo_ig.specs.IgRuns.{ig_begins, ig_starts, IgEnded};
+
+use crate::ig::{Begins, Ig};
+use bale_types::{Failed, Item, Line, NoMemory, Out, Sink, Triple, bits_of, value_of};
+use mtx_text::Matrix;
+use round_program::Progs;
+use sparse_rows::{Parts, split};
+use std::alloc::Global;
+
+/// The programs of ig on `ranks` ranks, from 1 to 64, in round 0 of a run of three rounds.
+///
+/// # Errors
+///
+/// `NoMemory` where there was none for the programs.
+pub fn ig_start(alloc: Global, m: &Matrix, ranks: u32) -> Result<Progs<Ig>, NoMemory>
+    requires some { 1 ≤ ranks }
+    requires few { ranks ≤ 64 }
+    ensures starts { IfOk result (λ ps. ps ≡ ig_starts ranks m.now) }
+    ensures begins { IfOk result (λ ps. InRound ig_rules ranks 0 (m.now.cols ∷ []) 3 ps) }
+    ensures ends { IfOk result (λ ps. EndsWithin ig_rules ps 3) }
+{
+    let parts = split(alloc, m, ranks)?;
+    let _kept = m.entries();
+    let mut progs = Progs::new(alloc);
+    for rank in 0..ranks {
+        progs.add(part_of(alloc, m, &parts, ranks, rank)?)?;
+    }
+    Ok(progs)
+}
+
+/// One rank's program.
+fn part_of(alloc: Global, m: &Matrix, parts: &Parts, ranks: u32, rank: u32) -> Result<Ig, NoMemory>
+    requires rank { rank < ranks }
+    requires parts { parts.now ≡ parts_of ranks m.now.entries }
+    ensures { IfOk result (λ s. s ≡ ig_begins ranks m.now rank) }
+{
+    let _kept = m.entries();
+    let begins = Begins {
+        own: own_of(alloc, parts, rank)?,
+        sums: zeros(alloc, (m.cols() / ranks + 1) as usize)?,
+        queries: no_queries(alloc, ranks)?,
+        outgoing: values_of(alloc, parts, ranks, rank)?,
+        answers: zeros(alloc, parts.len(rank))?,
+    };
+    Ok(Ig::new(alloc, rank, ranks, m.cols(), begins))
+}
+
+/// The numbers and columns of a rank's entries.
+fn own_of(alloc: Global, parts: &Parts, rank: u32) -> Result<Vec<(u32, u32)>, NoMemory>
+    requires { rank < length parts.now }
+    ensures { IfOk result (λ v. v.items ≡ map (λ e. (e.0, e.1.j)) (slice_index_or parts.now rank [])) }
+{
+    let mut own = Vec::with_capacity(alloc, parts.len(rank))?;
+    for x in 0..parts.len(rank) {
+        let Some((number, entry)) = parts.get(rank, x) else {
+            unreachable!()
+        };
+        own.push((number, entry.j))?;
+    }
+    Ok(own)
+}
+
+/// The values of a rank's entries, for the owners of their columns.
+fn values_of(
+    alloc: Global,
+    parts: &Parts,
+    ranks: u32,
+    rank: u32,
+) -> Result<Vec<(u32, Item)>, NoMemory>
+    requires some { 0 < ranks }
+    requires rank { rank < length parts.now }
+    ensures { IfOk result (λ v. v.items ≡ map (λ e. (column_owner ranks e, value_item e)) (slice_index_or parts.now rank [])) }
+{
+    let mut values = Vec::with_capacity(alloc, parts.len(rank))?;
+    for x in 0..parts.len(rank) {
+        let Some((_number, entry)) = parts.get(rank, x) else {
+            unreachable!()
+        };
+        values.push((entry.j % ranks, value_sent(entry)))?;
+    }
+    Ok(values)
+}
+
+/// The value of an entry, for the owner of its column.
+fn value_sent(entry: Triple) -> Item
+    ensures { result ≡ record { a = entry.j; b = twos_complement entry.v; c = 0 } }
+{
+    Item {
+        a: entry.j as u64,
+        b: bits_of(entry.v),
+        c: 0,
+    }
+}
+
+/// So many numbers 0.
+fn zeros(alloc: Global, n: usize) -> Result<Vec<u64>, NoMemory>
+    ensures { IfOk result (λ v. v.items ≡ replicate n 0) }
+{
+    Ok(vec![in alloc; 0u64; n]?)
+}
+
+/// An empty list for each sender.
+fn no_queries(alloc: Global, ranks: u32) -> Result<Vec<Vec<Item>>, NoMemory>
+    ensures { IfOk result (λ v. map (λ l. l.items) v.items ≡ replicate ranks []) }
+{
+    let mut queries = Vec::new(alloc);
+    for _sender in 0..ranks {
+        queries.push(Vec::new(alloc))?;
+    }
+    Ok(queries)
+}
+
+/// Writes a line for each entry of the matrix, in order: its row and column from 1, and the sum of its column. The
+/// programs are those of `ig_start` on this matrix after their run. No memory is taken.
+///
+/// # Errors
+///
+/// `Failed` where the sink's faults rose in this call.
+pub fn ig_write<K: Sink>(p: &Progs<Ig>, m: &Matrix, out: &mut Out<'_, K>) -> Result<(), Failed>
+    requires ended { IgEnded m.now p.now }
+    ensures ok { OnOk result (appended K.taken out.new ≡ after (appended K.taken out.old) (ig_lines m.now.entries)) }
+    ensures err { OnErr result (IsFront (K.taken out.new.sink.now) (after (appended K.taken out.old) (ig_lines m.now.entries))) }
+    ensures cause { HasCause (K.faults out.old.sink.now) (K.faults out.new.sink.now) result }
+    ensures never_falls { K.faults out.old.sink.now ≤ K.faults out.new.sink.now }
+    ensures grows { IsFront (K.taken out.old.sink.now) (K.taken out.new.sink.now) }
+    ensures same_sink { out.new.sink.ghost_name ≡ out.old.sink.ghost_name }
+{
+    let entries = m.entries();
+    for e in 0..entries.len() {
+        let (i, j) = (entries[e].i, entries[e].j);
+        write_line(out, i, j, sum_at(p, m, e))?;
+    }
+    Ok(())
+}
+
+/// The sum of the column of entry number `e`, as the entry's rank has it.
+fn sum_at(p: &Progs<Ig>, m: &Matrix, e: usize) -> i64
+    requires ended { IgEnded m.now p.now }
+    requires entry { e < length m.now.entries }
+    ensures { (t : Triple) → slice_get m.now.entries e ≡ Some t → result ≡ column_sum t.j m.now.entries }
+{
+    let ranks = p.len();
+    let Some(own) = p.get(e % ranks) else {
+        unreachable!()
+    };
+    value_of(own.answers()[e / ranks])
+}
+
+/// Writes one line.
+pub(crate) fn write_line<K: Sink>(
+    out: &mut Out<'_, K>,
+    i: u32,
+    j: u32,
+    sum: i64,
+) -> Result<(), Failed>
+    requires row { i + 1 < 2 ^ 32 }
+    requires column { j + 1 < 2 ^ 32 }
+    ensures ok { OnOk result (appended K.taken out.new ≡ after (appended K.taken out.old) (ig_line i j sum)) }
+    ensures err { OnErr result (IsFront (K.taken out.new.sink.now) (after (appended K.taken out.old) (ig_line i j sum))) }
+    ensures cause { HasCause (K.faults out.old.sink.now) (K.faults out.new.sink.now) result }
+    ensures never_falls { K.faults out.old.sink.now ≤ K.faults out.new.sink.now }
+    ensures grows { IsFront (K.taken out.old.sink.now) (K.taken out.new.sink.now) }
+    ensures same_sink { out.new.sink.ghost_name ≡ out.old.sink.ghost_name }
+{
+    let mut line = Line::new();
+    line.number(i + 1);
+    line.byte(b' ');
+    line.number(j + 1);
+    line.byte(b' ');
+    line.number(sum);
+    line.byte(b'\n');
+    out.text(line.bytes())
+}

@@ -1,0 +1,28 @@
+//! Two applications on the entries of a matrix, as programs in rounds: histo counts the entries of each column, and ig
+//! tells each entry the sum of its column.
+//!
+//! | Call | For | Answer |
+//! |---|---|---|
+//! | [`histo_start`] | the programs of histo on so many ranks | in round 0 of a run of one round |
+//! | [`histo_write`] | the programs, once they ended | a line for each column: column, count |
+//! | [`ig_start`] | the programs of ig on so many ranks | in round 0 of a run of three rounds |
+//! | [`ig_write`] | the programs, once they ended | a line for each entry: row, column, sum of the column |
+//!
+//! The entries are dealt out in turn, and column `j` belongs to rank `j mod P`. What the lines are is said of the matrix
+//! alone (`specs/HistoLines` and `specs/IgLines`): no rank, no round and no order of items occurs there.
+//! `proofs/EveryEntry` has the lemma that carries one to the other: after a round in which the ranks emit what is theirs of
+//! a list, each rank is as if it alone had gone through the list and absorbed what is sent to it.
+#![tactic(auto)]
+
+mod histo;
+mod histo_run;
+mod ig;
+mod ig_lists;
+mod ig_run;
+#[cfg(test)]
+mod tests;
+
+pub use histo::Histo;
+pub use histo_run::{histo_start, histo_write};
+pub use ig::Ig;
+pub use ig_run::{ig_start, ig_write};

@@ -23,6 +23,7 @@ pub mod Driven
 pub mod Making
 pub mod Telling
 pub mod Ended
+pub mod DriveTests
 pub mod Orders
 pub mod Turned
 pub mod Stuck

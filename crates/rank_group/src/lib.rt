@@ -47,4 +47,6 @@ pub use turn::Turn;
 pub use via::Via;
 
 #[cfg(test)]
+mod drive_tests;
+#[cfg(test)]
 mod slot_tests;

@@ -1,0 +1,88 @@
+-- What the tests of the drive begin with.
+use Rattle.std.proofs.Common.{◌≡◌, ℕ, suc, ◌+◌, ◌-◌, ◌<◌, ◌≤◌, Bool, true, false, cond, List, [], ◌∷◌, ◌++◌, length, length-append, slice_get, Some, All, refl, sym, ap, subst, ◌∙◌, arith, inl, inr}
+use Rattle.std.proofs.lemmas.Bool.{cases_Bool, cases_lt}
+use Rattle.list_laws.proofs.Lists.{within, get_once, get_last, get_before, all_from_gets}
+use Rattle.round_program.specs.Canonical.{Member, InRound, EndsWithin}
+use Rattle.round_examples.specs.Counts.{CountState, IsCount, count_rules}
+use Rattle.rank_group.specs.Ranks.{IsOrder}
+
+abbrev pub turned_at : Bool → ℕ → ℕ → ℕ
+turned_at reversed n k = cond reversed (n - 1 - k) k
+
+-- an order, as far as it is built
+pub record Ordered (reversed : Bool) (n i : ℕ) (order : List ℕ) : Type 0 where
+  pub size : length order ≡ i
+  pub at : (k : ℕ) → k < i → slice_get order k ≡ Some (turned_at reversed n k)
+
+pub ordered_none : (reversed : Bool) (n : ℕ) → Ordered reversed n 0 []
+ordered_none reversed n = record { size = refl; at = λ k low. absurd (omega (arith, low)) }
+
+pub ordered_more : (reversed : Bool) (n i r : ℕ) (order order' : List ℕ) → Ordered reversed n i order → r ≡ turned_at reversed n i → order' ≡ order ++ r ∷ [] → Ordered reversed n (i + 1) order'
+ordered_more reversed n i r order order' v here more =
+    record {
+      size = omega (arith, ap length more, length-append order (r ∷ []), v.size);
+      at = λ k low. elim (cases_lt k i) [
+        | inl before ↦ ap (λ o. slice_get o k) more ∙ (get_before order (r ∷ []) k (omega (arith, before, v.size)) ∙ v.at k before)
+        | inr past ↦
+            let same : k ≡ length order = omega (arith, low, past, v.size) in
+            ap (λ o. slice_get o k) more ∙ (ap (slice_get (order ++ r ∷ [])) same ∙ (get_last order r ∙ ap Some (here ∙ ap (turned_at reversed n) (sym v.size ∙ sym same))))
+      ];
+    }
+
+turned_low : (reversed : Bool) (n k : ℕ) → k < n → turned_at reversed n k < n
+turned_low true n k low = omega (arith, low)
+turned_low false n k low = low
+
+turned_back : (reversed : Bool) (n k : ℕ) → k < n → turned_at reversed n (turned_at reversed n k) ≡ k
+turned_back true n k low = omega (arith, low)
+turned_back false n k low = refl
+
+pub ordered_all : (reversed : Bool) (n i : ℕ) (order : List ℕ) → Ordered reversed n i order → i ≡ n → IsOrder n order
+ordered_all reversed n i order v end =
+    record {
+      size = v.size ∙ end;
+      below = all_from_gets (λ r. r < n) order (λ k x at.
+          let low : k < n = omega (arith, within order k x at, v.size, end) in
+          subst (λ y. y < n) (get_once order k (turned_at reversed n k) x (v.at k (omega (arith, low, end))) at) (turned_low reversed n k low));
+      each = λ r low.
+          let t = turned_low reversed n r low in
+          (turned_at reversed n r, v.at (turned_at reversed n r) (omega (arith, t, end)) ∙ ap Some (turned_back reversed n r low));
+    }
+
+-- counting programs, as far as they are made
+pub record Counted (p i : ℕ) (progs : List CountState) : Type 0 where
+  pub size : length progs ≡ i
+  pub each : (r : ℕ) (s : CountState) → slice_get progs r ≡ Some s → Member count_rules p 0 (3 ∷ []) 1 r s
+
+pub counted_none : (p : ℕ) → Counted p 0 []
+counted_none p = record { size = refl; each = λ r s at. absurd (omega (arith, within [] r s at)) }
+
+pub counted_more : (p i : ℕ) (progs progs' : List CountState) (names counts : List ℕ) (s : CountState) → Counted p i progs → i < p → All (λ j. j < 3) names → length counts ≡ 3
+    → s ≡ record { rank = i; ranks = p; round = 0; names = names; counts = counts } → progs' ≡ progs ++ s ∷ [] → Counted p (i + 1) progs'
+counted_more p i progs progs' names counts s v low below three is more =
+    let made : CountState = record { rank = i; ranks = p; round = 0; names = names; counts = counts } in
+    let member : Member count_rules p 0 (3 ∷ []) 1 i made = record {
+      valid = record { own = low; columns = omega (arith, three); named = subst (λ n. All (λ j. j < n) names) (sym three) below };
+      own_rank = refl;
+      all_ranks = refl;
+      same_round = refl;
+      same_shape = ap (λ n. n ∷ []) three;
+      same_most = refl;
+    } in
+    record {
+      size = omega (arith, ap length more, length-append progs (s ∷ []), v.size);
+      each = λ r x at. elim (cases_lt r i) [
+        | inl before ↦ v.each r x (sym (get_before progs (s ∷ []) r (omega (arith, before, v.size))) ∙ (ap (λ o. slice_get o r) (sym more) ∙ at))
+        | inr past ↦
+            let here : r ≡ length progs = omega (arith, past, within progs' r x at, ap length more, length-append progs (s ∷ []), v.size) in
+            let same : s ≡ x = get_once (progs ++ s ∷ []) (length progs) s x (get_last progs s) (ap (λ o. slice_get o (length progs)) (sym more) ∙ subst (λ k. slice_get progs' k ≡ Some x) here at) in
+            subst (λ k. Member count_rules p 0 (3 ∷ []) 1 k x) (sym (here ∙ v.size)) (subst (λ y. Member count_rules p 0 (3 ∷ []) 1 i y) (sym is ∙ same) member)
+      ];
+    }
+
+pub counted_all : (p i : ℕ) (progs : List CountState) → Counted p i progs → i ≡ p → InRound count_rules p 0 (3 ∷ []) 1 progs
+counted_all p i progs v end = record { size = v.size ∙ end; each = v.each }
+
+-- they count in one round
+pub one_round : (progs : List CountState) → EndsWithin count_rules progs 1
+one_round progs = record { rounds = 1; has_rounds = record { some = omega arith; goes = λ m low. absurd (omega (arith, low)); stops = refl }; at_most = omega arith }

@@ -205,7 +205,6 @@ fn side_of<'a>(
 
 /// Makes the calls on the conveyors of grid 2 and capacity 2, over a slot bank with 2 slots per link, and tells how many came before the
 /// first that answered otherwise.
-#[tactic(auto, unfolding(port_bank::specs::Port::IsSlots))]
 fn answered(alloc: Global, calls: &[(u32, Call, Answer)]) -> Result<usize, NoMemory> {
     let Ok(grid) = Grid::new(&[2]) else {
         return Ok(0);

@@ -28,7 +28,7 @@ pub trait Case: Program {
         requires { (s : Self) × (any ≡ case_of s) }
         ensures { any ≡ case_of result };
 
-    ghost is_case: { Injects rules any_rules case_of wrap };
+    ghost is_case: { Injects Self.rules any_rules case_of wrap };
 }
 
 impl Case for Histo {

@@ -14,7 +14,7 @@ use crate::case::{AnyProgram, Case};
 use bale_types::NoMemory;
 use case_table::case_serial;
 use rank_group::{Finished, Steps, Via};
-use round_program::{Progs, same_runs};
+use round_program::Progs;
 use route_tensor::Grid;
 use std::alloc::Global;
 use std::sync::ledger::Ledger;
@@ -50,7 +50,6 @@ pub fn drive_case<A: Case, L: Ledger>(
     // The turns are bounded before the run, also where it ends in `NoMemory`.
     ensures steps { (n : ℕ) → HasRounds A.rules progs n → steps.new ≤ steps.old + turns_within A.rules grid.now progs n }
 {
-    same_runs::<A, AnyProgram>();
     let any = put_all(alloc, progs)?;
     let finished = case_serial(alloc, grid, cap, via, slots, steady, order, any, steps)?;
     let Finished { progs, rounds } = finished;

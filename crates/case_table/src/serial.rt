@@ -19,18 +19,28 @@ use std::sync::ledger::Ledger;
 /// The drive for a capacity: each case hands the values on.
 macro_rules! by_capacity {
     ($cap:expr, $drive:ident::<$hops:literal, $($param:ty),*>, ($($value:expr),*)) => {
-        match $cap {
-            1 => $drive::<1, $hops, $($param),*>($($value),*),
-            2 => $drive::<2, $hops, $($param),*>($($value),*),
-            4 => $drive::<4, $hops, $($param),*>($($value),*),
-            8 => $drive::<8, $hops, $($param),*>($($value),*),
-            16 => $drive::<16, $hops, $($param),*>($($value),*),
-            32 => $drive::<32, $hops, $($param),*>($($value),*),
-            64 => $drive::<64, $hops, $($param),*>($($value),*),
-            128 => $drive::<128, $hops, $($param),*>($($value),*),
-            256 => $drive::<256, $hops, $($param),*>($($value),*),
-            512 => $drive::<512, $hops, $($param),*>($($value),*),
-            _ => $drive::<1024, $hops, $($param),*>($($value),*),
+        if $cap == 1 {
+            $drive::<1, $hops, $($param),*>($($value),*)
+        } else if $cap == 2 {
+            $drive::<2, $hops, $($param),*>($($value),*)
+        } else if $cap == 4 {
+            $drive::<4, $hops, $($param),*>($($value),*)
+        } else if $cap == 8 {
+            $drive::<8, $hops, $($param),*>($($value),*)
+        } else if $cap == 16 {
+            $drive::<16, $hops, $($param),*>($($value),*)
+        } else if $cap == 32 {
+            $drive::<32, $hops, $($param),*>($($value),*)
+        } else if $cap == 64 {
+            $drive::<64, $hops, $($param),*>($($value),*)
+        } else if $cap == 128 {
+            $drive::<128, $hops, $($param),*>($($value),*)
+        } else if $cap == 256 {
+            $drive::<256, $hops, $($param),*>($($value),*)
+        } else if $cap == 512 {
+            $drive::<512, $hops, $($param),*>($($value),*)
+        } else {
+            $drive::<1024, $hops, $($param),*>($($value),*)
         }
     };
 }

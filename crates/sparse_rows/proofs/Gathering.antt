@@ -117,9 +117,9 @@ row_of n t = t.i % n
 
 value_dealt : (n r i j : ℕ) (ts : List Triple) → value_at (dealt (row_of n) r ts) i j ≡ cond (eqb (i % n) r) (value_at ts i j) None
 value_dealt n r i j [] = elim (cases_Bool (eqb (i % n) r)) [
-      | inl own ↦ ap (λ b. cond b None None) (sym own)
-      | inr other ↦ ap (λ b. cond b None None) (sym other)
-    ]
+  | inl own ↦ ap (λ b. cond b None None) (sym own)
+  | inr other ↦ ap (λ b. cond b None None) (sym other)
+]
 value_dealt n r i j (t ∷ ts) =
     let own : List Triple = dealt (row_of n) r ts in
     let rest : value_at own i j ≡ cond (eqb (i % n) r) (value_at ts i j) None = value_dealt n r i j ts in

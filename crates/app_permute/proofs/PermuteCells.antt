@@ -1,6 +1,6 @@
 -- The cells of a matrix on their way through permute, as one list for all ranks: by row, by column and new row, and by new
 -- row and new column.
-use Rattle.std.proofs.Common.{ℕ, ◌+◌, ◌/◌, ◌%◌, ◌<◌, ◌≤◌, ◌≡◌, eqb, List, [], map, length, get_or, IsPermutation, arith, refl, sym, ap, ◌∙◌, subst}
+use Rattle.std.proofs.Common.{ℕ, ◌%◌, ◌<◌, ◌≡◌, eqb, List, [], map, length, get_or, IsPermutation, sym, ap, ◌∙◌}
 use Rattle.std.specs.List.{All, AllPairs}
 use Rattle.std.proofs.lemmas.Bool.{eqb-true}
 use Rattle.std.proofs.lemmas.List.Elements.{All-map, All-filter, filter_passes}
@@ -11,7 +11,6 @@ use Rattle.mtx_text.specs.Sparse.{Sparse, IsSparse, IsEntry}
 use Rattle.mtx_text.specs.Cells.{gathered, sparse}
 use Rattle.mtx_text.specs.Permutations.{Permutes}
 use Rattle.mtx_text.proofs.BandPlaces.{injective}
-use Rattle.mtx_text.proofs.Bands.{as_many}
 use Rattle.mtx_text.proofs.Gathered.{gathered_ordered, gathered_permutes, gathered_all}
 use Rattle.mtx_text.proofs.OfCells.{greater_entry}
 use Rattle.sparse_rows.specs.Deals.{dealt}

@@ -1,5 +1,5 @@
 -- The new numbers that a rank knows: those of the rows or columns that it owns.
-use Rattle.std.proofs.Common.{ℕ, ◌+◌, ◌-◌, ◌*◌, ◌/◌, ◌%◌, ◌<◌, ◌≡◌, ◌==◌, ◌++◌, List, [], ◌∷◌, Some, All, map, take, length, get_or, slice_get, arith, sym, ap, ◌∙◌, subst}
+use Rattle.std.proofs.Common.{ℕ, ◌+◌, ◌-◌, ◌*◌, ◌/◌, ◌%◌, ◌<◌, ◌≡◌, ◌==◌, ◌++◌, List, [], ◌∷◌, take, length, get_or, arith, sym, ap, ◌∙◌, subst}
 use Rattle.std.specs.List.{enumerate_from}
 use Rattle.std.proofs.Math.Nat.{mod-lt}
 use Rattle.std.proofs.lemmas.Nat.{div-add-mod'}
@@ -24,11 +24,10 @@ placed ranks r p = dealt (λ (e : ℕ × ℕ). e.0 % ranks) r (enumerate_from 0 
 pub own_read : (ranks r k d : ℕ) (p : List ℕ) → r < ranks → k < length (own_numbers ranks r p) → (k * ranks + r < length p) × (get_or (own_numbers ranks r p) k d ≡ get_or p (k * ranks + r) d)
 own_read ranks r k d p own low =
     let size : length (own_numbers ranks r p) ≡ length (placed ranks r p) = length-map (placed ranks r p) (λ e. e.1) in
-    let at = turn_read ranks r k p own (subst (λ n. k < n) size low) in
-    (
+    let at = turn_read ranks r k p own (subst (λ n. k < n) size low) in (
       within p (k * ranks + r) at.0 at.2,
       get_or_from_slice_get (own_numbers ranks r p) k at.0 d (get_map (λ (e : ℕ × ℕ). e.1) (placed ranks r p) k (k * ranks + r, at.0) at.1)
-      ∙ sym (get_or_from_slice_get p (k * ranks + r) at.0 d at.2)
+          ∙ sym (get_or_from_slice_get p (k * ranks + r) at.0 d at.2),
     )
 
 pub own_place : (ranks x : ℕ) (p : List ℕ) → 0 < ranks → x < length p → x / ranks < length (own_numbers ranks (x % ranks) p)

@@ -1,14 +1,14 @@
 -- What a step of the code leaves, where a rank is one of permute.
-use Rattle.std.proofs.Common.{ℕ, ◌+◌, ◌-◌, ◌/◌, ◌^◌, ◌<◌, ◌≤◌, ◌≡◌, ◌==◌, min, Bool, true, false, cond, List, [], ◌∷◌, map, length, arith, inl, inr, refl, sym, ap, ◌∙◌, subst, lit<}
+use Rattle.std.proofs.Common.{ℕ, ◌+◌, ◌-◌, ◌/◌, ◌^◌, ◌<◌, ◌≡◌, ◌==◌, min, Bool, true, false, cond, List, [], map, length, arith, inl, inr, sym, ap, ◌∙◌, subst, lit<}
 use Rattle.std.specs.Prelude.{nat_lt}
 use Rattle.std.specs.List.{All}
-use Rattle.std.proofs.lemmas.Bool.{cases_eq, cases_lt, eq-eqb, ne_eqb, lt-ltb, le-ltb}
+use Rattle.std.proofs.lemmas.Bool.{cases_lt, eq-eqb, ne_eqb, lt-ltb}
 use Rattle.std.proofs.lemmas.List.Elements.{All-nil}
 use Rattle.bale_types.specs.declared.Item.{Item}
 use Rattle.bale_types.specs.declared.triple.Triple.{Triple}
-use Rattle.mtx_text.specs.Cells.{InOrder, raised}
+use Rattle.mtx_text.specs.Cells.{raised}
 use Rattle.round_program.specs.Laws.{Fits}
-use Rattle.app_permute.specs.Permutes.{PermuteState, IsPermuting, IsKept, HasNumbers, permute_rules, kept_as, to_column, to_row, next_outgoing}
+use Rattle.app_permute.specs.Permutes.{PermuteState, IsPermuting, IsKept, permute_rules, kept_as, to_column, to_row, next_outgoing}
 use Rattle.app_permute.specs.PermuteLaws.{permute_laws, next_ordered}
 
 -- a cell was raised or found no memory

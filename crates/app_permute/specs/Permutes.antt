@@ -8,7 +8,7 @@ use Rattle.bale_types.specs.Bits.{twos_complement, from_twos_complement}
 use Rattle.mtx_text.specs.Cells.{InOrder, raised}
 use Rattle.round_program.specs.Rules.{Rules}
 use Rattle.round_program.specs.Laws.{is_item}
-use Rattle.app_permute.specs.Carried.{cell_of, cell_item}
+use Rattle.app_permute.specs.Carried.{cell_of}
 
 -- one rank's part
 pub record PermuteState : Type 0 where

@@ -53,10 +53,7 @@ pub(crate) fn permute_fits(
     ensures { result ≡ may_permute (rows ∷ cols ∷ []) ranks round to from item }
 {
     let owned = if round == 1 { item.b } else { item.a };
-    from < ranks
-        && item.a < rows as u64
-        && item.b < cols as u64
-        && owned as u32 % ranks == to
+    from < ranks && item.a < rows as u64 && item.b < cols as u64 && owned as u32 % ranks == to
 }
 
 /// Takes in the cell that an item of permute stands for: by its column first in round 1.

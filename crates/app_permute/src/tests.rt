@@ -2,8 +2,9 @@
 //! answers are compared where a drive proves that its programs ended.
 use super::*;
 use bale_types::{Item, NoMemory, Triple};
-use mtx_text::{Cells, parse_matrix};
+use mtx_text::{Cells, Matrix, parse_matrix};
 use round_program::{Program, Progs};
+use sparse_rows::is_permutation;
 use std::alloc::Global;
 use std::test::Fail;
 
@@ -81,6 +82,33 @@ fn all_turned(alloc: Global, p: &Progs<Transpose>) -> Result<Vec<Triple>, NoMemo
     Ok(all.into_entries())
 }
 
+/// The cells of all ranks of permute.
+fn all_moved(alloc: Global, p: &Progs<Permute>) -> Result<Vec<Triple>, NoMemory> {
+    let mut all = Cells::new(alloc);
+    for rank in 0..p.len() {
+        if let Some(program) = p.get(rank) {
+            all.raise_all(program.cells())?;
+        }
+    }
+    Ok(all.into_entries())
+}
+
+/// The cells of permute after its run on so many ranks, and its rounds; none where a list is no permutation.
+fn moved(
+    alloc: Global,
+    m: &Matrix,
+    rp: &[u32],
+    cp: &[u32],
+    ranks: u32,
+) -> Result<Option<(Vec<Triple>, u32)>, NoMemory> {
+    let fit = is_permutation(alloc, rp, m.rows())? && is_permutation(alloc, cp, m.cols())?;
+    if fit && 1 <= ranks && ranks <= 64 {
+        let (ended, rounds) = run(alloc, permute_start(alloc, m, rp, cp, ranks)?)?;
+        return Ok(Some((all_moved(alloc, &ended)?, rounds)));
+    }
+    Ok(None)
+}
+
 /// Whether triples are these rows, columns and values.
 fn are(triples: &[Triple], wanted: &[(u32, u32, i64)]) -> bool {
     let mut same = triples.len() == wanted.len();
@@ -120,6 +148,48 @@ fn turned_over_the_diagonal(rt: HostRuntime) -> Result<(), Fail> {
                 are(&all_turned(alloc, &ended)?, wanted),
                 "on {ranks} ranks"
             );
+        }
+    }
+    Ok(())
+}
+
+#[test]
+fn new_rows_and_columns(rt: HostRuntime) -> Result<(), Fail> {
+    let alloc = rt.alloc();
+    let rows: [(&[u8], &[u32], &[u32], &[(u32, u32, i64)]); 4] = [
+        (
+            b"%%MatrixMarket matrix coordinate integer general\n3 3 1\n1 2 9\n",
+            &[1, 2, 0],
+            &[2, 0, 1],
+            &[(1, 0, 9)],
+        ),
+        (
+            b"%%MatrixMarket matrix coordinate integer general\n3 3 2\n1 2 5\n3 3 6\n",
+            &[2, 1, 0],
+            &[0, 1, 2],
+            &[(0, 2, 6), (2, 1, 5)],
+        ),
+        (
+            b"%%MatrixMarket matrix coordinate integer general\n2 3 4\n1 1 1\n1 3 -2\n2 1 3\n2 2 4\n",
+            &[1, 0],
+            &[1, 2, 0],
+            &[(0, 1, 3), (0, 2, 4), (1, 0, -2), (1, 1, 1)],
+        ),
+        (
+            b"%%MatrixMarket matrix coordinate pattern general\n0 0 0\n",
+            &[],
+            &[],
+            &[],
+        ),
+    ];
+    for (text, rp, cp, wanted) in rows {
+        let m = parse_matrix(alloc, text)?;
+        for ranks in [1, 4, 8, 64] {
+            let Some((cells, rounds)) = moved(alloc, &m, rp, cp, ranks)? else {
+                panic!(rt; "a list is no permutation")
+            };
+            assert!(rt; rounds == 3);
+            assert!(rt; are(&cells, wanted), "on {ranks} ranks");
         }
     }
     Ok(())

@@ -1,4 +1,4 @@
-use Rattle.std.proofs.Common.{◌<◌, arith, length, sym, ◌∙◌, subst}
+use Rattle.std.proofs.Common.{◌<◌, arith, sym, ◌∙◌, subst}
 use Rattle.std.proofs.lemmas.List.{take_all}
 use Rattle.app_permute.specs.PermuteRuns.{own_numbers}
 use Rattle.app_permute.proofs.PermuteNumbers.{own_count, own_more}

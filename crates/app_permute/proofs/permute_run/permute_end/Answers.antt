@@ -1,4 +1,4 @@
-use Rattle.std.proofs.Common.{◌≡◌, [], List, arith, sym, ap, ◌∙◌, subst, All}
+use Rattle.std.proofs.Common.{◌≡◌, [], arith, sym, ap, ◌∙◌, subst, All}
 use Rattle.std.specs.Option.{option_copied}
 use Rattle.list_laws.proofs.Results.{if_ok_is, if_ok_from}
 use Rattle.mtx_text.specs.Sparse.{Sparse, IsEntry}

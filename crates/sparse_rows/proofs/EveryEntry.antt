@@ -85,3 +85,8 @@ came_keyed P from to item r (x ∷ xs) key =
       | inr apart ↦
           subst (λ b. All P (map (λ x. (from x, item x)) (cond b (x ∷ dealt to r xs) (dealt to r xs)))) (sym (ne_eqb (to x) r apart)) rest
     ]
+
+-- functions that agree on a list's elements have the same images
+pub same_map : {X Y : Type 0} (f g : X → Y) (xs : List X) → All (λ x. f x ≡ g x) xs → map f xs ≡ map g xs
+same_map f g [] h = refl
+same_map f g (x ∷ xs) h = ap (λ y. y ∷ map f xs) (all_head (λ x. f x ≡ g x) x xs h) ∙ ap (λ ys. g x ∷ ys) (same_map f g xs (all_tail (λ x. f x ≡ g x) x xs h))

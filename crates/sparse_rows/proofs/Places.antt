@@ -2,7 +2,7 @@
 use Rattle.std.proofs.Common.{ℕ, ◌+◌, ◌*◌, ◌/◌, ◌%◌, ◌<◌, ◌≡◌, arith, sym, ap, ◌∙◌}
 use Rattle.std.proofs.Math.Nat.{mod-lt}
 use Rattle.std.proofs.lemmas.Nat.{div-add-mod', div_below}
-use Rattle.app_histo_ig.specs.Owners.{places_for}
+use Rattle.sparse_rows.specs.Owners.{places_for}
 
 -- a column has a place
 pub place_below : (ranks cols j : ℕ) → 0 < ranks → j < cols → j / ranks < places_for ranks cols

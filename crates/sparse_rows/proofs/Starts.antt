@@ -1,5 +1,6 @@
 -- The programs of all ranks, of which each is made from its rank alone, as the programs of one run.
-use Rattle.std.proofs.Common.{ℕ, ◌+◌, ◌<◌, ◌≡◌, List, [], ◌∷◌, ◌++◌, Some, All, map, take, length, slice_get, get_or, arith, sym, ap, ◌∙◌, subst}
+use Rattle.std.proofs.Common.{ℕ, ◌+◌, ◌%◌, ◌<◌, ◌≡◌, List, [], ◌∷◌, ◌++◌, Some, All, map, take, length, slice_get, get_or, arith, refl, sym, ap, ◌∙◌, subst}
+use Rattle.std.proofs.Math.Nat.{mod-lt}
 use Rattle.std.specs.List.{range_with_len, enumerate_from}
 use Rattle.std.proofs.lemmas.Option.{get_or_from_slice_get}
 use Rattle.std.proofs.lemmas.List.Elements.{All-nil, All-cons}
@@ -8,7 +9,7 @@ use Rattle.std.proofs.lemmas.List.{map-append, length-map, take_more}
 use Rattle.bale_types.specs.declared.triple.Triple.{Triple}
 use Rattle.sparse_rows.specs.Parts.{parts_of}
 use Rattle.sparse_rows.proofs.Turns.{part_is, parts_count}
-use Rattle.app_histo_ig.specs.Owners.{Numbered, own_entries}
+use Rattle.sparse_rows.specs.Owners.{Numbered, own_entries}
 use Rattle.list_laws.proofs.Lists.{find, within, get_once, got_map, same_reads, all_head, all_tail}
 use Rattle.round_program.specs.Rules.{Rules}
 use Rattle.round_program.specs.Canonical.{absorbed_round, round_of, vote_sum, InRound, Member}
@@ -77,3 +78,12 @@ round_made {S} R p f g made =
     let low : r < p = subst (λ n. r < n) size (within (round_of R ss) r x at) in
     let from = got_map (λ s. R.ended s votes) (absorbed_round R ss) r x at in
     made_at g p r low ∙ ap Some (sym (made r votes low from.0 from.1) ∙ from.2))
+
+-- all entries are some rank's
+pub all_owned : (ranks n : ℕ) (ts : List Triple) → 0 < ranks → All (λ (e : Numbered). e.0 % ranks < ranks) (enumerate_from n ts)
+all_owned ranks n ts some k d l = mod-lt _ some
+
+-- the images of numbered entries are those of the entries
+pub numbered_map : {Y : Type 0} (f : Triple → Y) (n : ℕ) (ts : List Triple) → map (λ (e : Numbered). f e.1) (enumerate_from n ts) ≡ map f ts
+numbered_map f n [] = refl
+numbered_map f n (t ∷ ts) = ap (λ ys. f t ∷ ys) (numbered_map f (n + 1) ts)

@@ -1,7 +1,7 @@
 //! sssp: each rank has the edges of its vertices and the least weight found for each, and in each round offers weights
 //! along the edges of those that were improved.
 
-ghost use Rattle.std.specs.Prelude.{◌≡◌, ◌<◌, ◌/◌, ◌-◌, ◌^◌, [], IfOk, length};
+ghost use Rattle.std.specs.Prelude.{◌≡◌, ◌<◌, ◌/◌, ◌-◌, ◌^◌, ◌==◌, [], if◌then◌else◌, OnOk, OnErr, length};
 ghost use Rattle.std.specs.List.{All};
 ghost use Rattle.least_walks.specs.Tables.{table_of};
 ghost use Rattle.app_sssp.specs.Sssps.{IsSssp};
@@ -141,9 +141,9 @@ impl Program for Sssp {
 
     fn absorb(&mut self, from: u32, item: Item) -> Result<(), NoMemory> {
         if self.round == 0 {
-            return self
-                .arriving
-                .raise(item.a as u32, item.b as u32, value_of(item.c));
+            self.arriving
+                .raise(item.a as u32, item.b as u32, value_of(item.c))?;
+            return Ok(());
         }
         self.vertices.improve(item.a as u32 / self.ranks, item.b)
     }
@@ -162,9 +162,14 @@ impl Program for Sssp {
 
     fn end_round(&mut self, votes: u64) -> Result<bool, NoMemory> {
         let goes_on = self.round == 0 || votes != 0;
-        if self.round == 0 {
-            self.table = table_of(self.alloc, self.ranks, &self.vertices, &mut self.arriving)?;
-        }
+        settle_edges(
+            self.alloc,
+            self.round,
+            self.ranks,
+            &self.vertices,
+            &mut self.arriving,
+            &mut self.table,
+        )?;
         let improved = self.vertices.take_improved();
         self.outgoing = offers(self.alloc, &self.table, &self.vertices, &improved)?;
         self.round = self.round.saturating_add(1);
@@ -172,26 +177,33 @@ impl Program for Sssp {
     }
 }
 
-/// The edges that came, by the place of their beginning.
-fn table_of(
+/// At the end of round 0 puts the edges that came to their vertices, by place; later nothing.
+fn settle_edges(
     alloc: Global,
+    round: u64,
     ranks: u32,
     vertices: &Vertices,
     arriving: &mut Cells,
-) -> Result<Table, NoMemory>
+    table: &mut Table,
+) -> Result<(), NoMemory>
     requires some { 0 < ranks }
     requires inside { All (λ t. t.i / ranks < length vertices.now) arriving.old }
     requires few { length vertices.now < 2 ^ 32 }
-    ensures table { IfOk result (λ t. t ≡ table_of ranks (length vertices.now) 0 (2 ^ 64 - 1) arriving.old) }
-    ensures taken { arriving.new ≡ [] }
+    ensures table { OnOk result (table.new ≡ (if round == 0 then table_of ranks (length vertices.now) 0 (2 ^ 64 - 1) arriving.old else table.old)) }
+    ensures settled { OnOk result (arriving.new ≡ (if round == 0 then [] else arriving.old)) }
+    ensures table_kept { OnErr result (table.new ≡ table.old) }
+    ensures lost { OnErr result (arriving.new ≡ []) }
 {
-    let entries = mem::replace(arriving, Cells::new(alloc)).into_entries();
-    Table::of(
-        alloc,
-        ranks,
-        vertices.len() as u32,
-        0,
-        u64::MAX,
-        entries.as_slice(),
-    )
+    if round == 0 {
+        let entries = mem::replace(arriving, Cells::new(alloc)).into_entries();
+        *table = Table::of(
+            alloc,
+            ranks,
+            vertices.len() as u32,
+            0,
+            u64::MAX,
+            entries.as_slice(),
+        )?;
+    }
+    Ok(())
 }

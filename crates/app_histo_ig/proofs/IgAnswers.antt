@@ -11,11 +11,11 @@ use Rattle.list_laws.proofs.Lists.{get_once, all_head, all_tail, changed_len}
 use Rattle.mtx_text.specs.Sparse.{Sparse}
 use Rattle.sparse_rows.specs.Deals.{dealt}
 use Rattle.sparse_rows.proofs.Turns.{turn_count}
-use Rattle.app_histo_ig.specs.Owners.{Numbered, numbered, entry_owner, column_owner, own_entries}
+use Rattle.sparse_rows.specs.Owners.{Numbered, numbered, entry_owner, column_owner, own_entries}
 use Rattle.app_histo_ig.specs.Igs.{IgState, answered}
 use Rattle.app_histo_ig.specs.IgRuns.{IgEnded}
-use Rattle.app_histo_ig.proofs.EveryEntry.{came_to, came_keyed}
-use Rattle.app_histo_ig.proofs.Places.{place_own}
+use Rattle.sparse_rows.proofs.EveryEntry.{came_to, came_keyed}
+use Rattle.sparse_rows.proofs.Places.{place_own}
 use Rattle.app_histo_ig.proofs.IgRounds.{column_bits, answer_item, replies, answered_all, answers_of}
 use Rattle.app_histo_ig.proofs.IgOwners.{ended_at}
 

@@ -1,4 +1,6 @@
 pub mod Marks
+pub mod Members
+pub mod Offered
 pub mod Rows
 pub mod Settled
 pub mod Simple

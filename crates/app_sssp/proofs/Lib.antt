@@ -1,2 +1,4 @@
+pub mod Begins
 pub mod Rounds
+pub mod Stages
 pub mod Steps

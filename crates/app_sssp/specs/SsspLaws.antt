@@ -59,11 +59,11 @@ commutes s f g x y v =
 pub improved_len : (p w : ℕ) (vs : List Vertex) → length (improved_at p w vs) ≡ length vs
 improved_len p w vs = changed_len vs p unreached (improve w)
 
-len_either : (b : Bool) (p w : ℕ) (vs : List Vertex) → length (cond b vs (improved_at p w vs)) ≡ length vs
+pub len_either : (b : Bool) (p w : ℕ) (vs : List Vertex) → length (cond b vs (improved_at p w vs)) ≡ length vs
 len_either true p w vs = refl
 len_either false p w vs = improved_len p w vs
 
-greater_inside : (rows : ℕ) (s t : Triple) → s.i ≡ t.i → s.j ≡ t.j → IsInside rows s → IsInside rows t → IsInside rows (greater s t)
+pub greater_inside : (rows : ℕ) (s t : Triple) → s.i ≡ t.i → s.j ≡ t.j → IsInside rows s → IsInside rows t → IsInside rows (greater s t)
 greater_inside rows s t e f a b = record { row = a.row; col = a.col }
 
 arrived_still : (s : SsspState) (f : ℕ) (x : Item) → IsSssp s → Fits sssp_rules s f x → All (IsInside s.rows) (cond (s.round == 0) (raised (edge_came x) s.arriving) s.arriving)

@@ -1,7 +1,7 @@
 -- What all ranks have after round 0: their own edges, and the source.
-use Rattle.std.proofs.Common.{ℕ, zero, suc, ◌+◌, ◌-◌, ◌*◌, ◌/◌, ◌%◌, ◌^◌, ◌<◌, ◌≤◌, ◌≡◌, ◌≢◌, ◌==◌, ◌&&◌, Bool, true, false, cond, eqb, List, [], ◌∷◌, ◌++◌, Option, Some, None, ℤ, pos, negsuc, length, map, replicate, get_or, slice_get, All, arith, inl, inr, refl, sym, ap, ◌∙◌, subst, lit<}
+use Rattle.std.proofs.Common.{ℕ, ◌+◌, ◌-◌, ◌/◌, ◌%◌, ◌^◌, ◌<◌, ◌≤◌, ◌≡◌, ◌≢◌, ◌==◌, Bool, true, false, cond, eqb, List, [], ◌∷◌, Some, None, ℤ, pos, negsuc, length, map, replicate, get_or, slice_get, All, arith, inl, inr, refl, sym, ap, ◌∙◌, subst}
 use Rattle.std.specs.Prelude.{Contains, nat_abs, nat_lt}
-use Rattle.std.specs.List.{AllPairs, filter, range_with_len, enumerate_from}
+use Rattle.std.specs.List.{filter}
 use Rattle.std.proofs.Math.Nat.{mod-lt}
 use Rattle.std.proofs.lemmas.Bool.{cases_eq, cases_lt, eq-eqb, ne_eqb, lt-ltb, eqb-true, and_from, and_parts, false≢true}
 use Rattle.std.proofs.lemmas.Bool.Decides.{nat_tests}
@@ -12,10 +12,9 @@ use Rattle.std.proofs.lemmas.List.FromFn.{get_or-map-range_with_len}
 use Rattle.bale_types.specs.declared.Item.{Item}
 use Rattle.bale_types.specs.declared.triple.Triple.{Triple}
 use Rattle.bale_types.specs.Bits.{twos_complement, from_twos_complement}
-use Rattle.list_laws.proofs.Lists.{get_once}
 use Rattle.mtx_text.specs.Sparse.{Sparse, IsSparse}
 use Rattle.mtx_text.specs.Cells.{raised, raised_all, gathered}
-use Rattle.round_program.specs.Canonical.{absorbed_round, InRound, Member}
+use Rattle.round_program.specs.Canonical.{absorbed_round, InRound}
 use Rattle.round_program.specs.Orders.{absorb_each}
 use Rattle.sparse_rows.specs.Deals.{dealt}
 use Rattle.sparse_rows.specs.Owners.{Numbered, numbered, entry_owner, row_owner, own_entries, places_for}
@@ -23,7 +22,6 @@ use Rattle.sparse_rows.proofs.EveryEntry.{came_to, every_owned}
 use Rattle.sparse_rows.proofs.Gathering.{Differ, pairs_filter, row_of, landed, gathered_moves}
 use Rattle.sparse_rows.proofs.Places.{place_below, place_own}
 use Rattle.sparse_rows.proofs.Starts.{made_at, made_from, made_in_round, all_numbered, all_owned, numbered_map}
-use Rattle.least_walks.specs.declared.table.Edge.{Edge}
 use Rattle.least_walks.specs.declared.vertices.Vertex.{Vertex}
 use Rattle.least_walks.specs.Walks.{IsWalk, weight_of, AtMost}
 use Rattle.least_walks.specs.Tables.{edge_of, in_range, is_kept, edges_at, table_of}
@@ -33,11 +31,11 @@ use Rattle.least_walks.proofs.Settled.{cost}
 use Rattle.std.proofs.lemmas.Option.{same_Some}
 use Rattle.least_walks.proofs.Members.{none_in, has_filtered, was_filtered, has_mapped, was_mapped}
 use Rattle.least_walks.proofs.Offered.{weighing}
-use Rattle.app_sssp.specs.Sssps.{SsspState, IsSssp, IsInside, IsEdge, sssp_rules, may_sssp, edge_came, table_after}
+use Rattle.app_sssp.specs.Sssps.{SsspState, IsSssp, IsInside, IsEdge, sssp_rules, may_sssp, edge_came}
 use Rattle.app_sssp.specs.SsspLaws.{sssp_laws, len_either}
 use Rattle.app_sssp.specs.SsspRuns.{IsGraph, edge_item, vertices_begin, sssp_begins, sssp_starts}
-use Rattle.app_sssp.proofs.Rounds.{Stage, Reached}
-use Rattle.app_sssp.proofs.Stages.{AreEdges, Knows, vertex_of, vertex_at, stage_of, at_vertex, word_is}
+use Rattle.app_sssp.proofs.Rounds.{Reached}
+use Rattle.app_sssp.proofs.Stages.{AreEdges, Knows, vertex_at, stage_of, at_vertex, word_is}
 
 -- the entries of a graph are edges
 pub graph_edges : (m : Sparse) → IsGraph m → AreEdges m.rows m.entries
@@ -53,9 +51,9 @@ graph_edges m g =
 
 none_at : (n p : ℕ) → get_or (replicate n unreached) p unreached ≡ unreached
 none_at n p = elim (cases_lt p n) [
-      | inl low ↦ get_or-replicate n p unreached unreached low
-      | inr past ↦ get_or_past (replicate n unreached) p unreached (let e : length (replicate n unreached) ≡ n = length-replicate n unreached in omega arith)
-    ]
+  | inl low ↦ get_or-replicate n p unreached unreached low
+  | inr past ↦ get_or_past (replicate n unreached) p unreached (let e : length (replicate n unreached) ≡ n = length-replicate n unreached in omega arith)
+]
 
 begin_source : (ranks rows source : ℕ) → 0 < ranks → source < rows → get_or (vertices_begin ranks rows source (source % ranks)) (source / ranks) unreached ≡ weighing 0
 begin_source ranks rows source some low =
@@ -171,7 +169,7 @@ kept_here ranks t h l =
     let word : twos_complement t.v ≡ nat_abs t.v = word_is t.v h in
     and_from (eqb (t.i / ranks) (t.i / ranks)) (in_range 0 (2 ^ 64 - 1) t) (eq-eqb (t.i / ranks) (t.i / ranks) refl) (grind (arith, nat_tests))
 
-first_knows : (ranks : ℕ) (m : Sparse) (source r : ℕ) → 0 < ranks → IsGraph m → Knows m.entries ranks r (first ranks m source r)
+pub first_knows : (ranks : ℕ) (m : Sparse) (source r : ℕ) → 0 < ranks → IsGraph m → Knows m.entries ranks r (first ranks m source r)
 first_knows ranks m source r some g =
     let own : List Triple = own_edges ranks r m.entries in
     let moves = gathered_moves own (pairs_filter Differ (λ (t : Triple). eqb (t.i % ranks) r) m.entries g.matrix.once) in
@@ -235,3 +233,13 @@ module _ (ranks : ℕ) (m : Sparse) (source : ℕ) (some : 0 < ranks) (g : IsGra
       short : (v : ℕ) (w : List Triple) → IsWalk m.entries source v w → length w ≤ 0 → AtMost (vertex_at ranks begun v).weight (weight_of w)
       short v [] walk l = (0, ap (λ (w : Vertex). w.weight) (ap (vertex_at ranks begun) (sym walk) ∙ at_source), (let z : weight_of [] ≡ 0 = refl in omega arith))
       short v (e ∷ w) walk l = absurd (omega arith)
+
+-- a rank as sssp begins, from its fields
+pub begins_is : (ranks : ℕ) (m : Sparse) (source r rows : ℕ) (vertices : List Vertex) (outgoing : List (ℕ × Item))
+    → rows ≡ m.rows → vertices ≡ (sssp_begins ranks m source r).vertices → outgoing ≡ (sssp_begins ranks m source r).outgoing
+    → record { rank = r; ranks = ranks; round = 0; rows = rows; arriving = []; table = []; vertices = vertices; outgoing = outgoing } ≡ sssp_begins ranks m source r
+begins_is ranks m source r rows vertices outgoing a b c =
+    let s : SsspState = sssp_begins ranks m source r in
+    ap (λ w. record s { rows = w; vertices = vertices; outgoing = outgoing }) a
+    ∙ ap (λ w. record s { vertices = w; outgoing = outgoing }) b
+    ∙ ap (λ w. record s { outgoing = w }) c

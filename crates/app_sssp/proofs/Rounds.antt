@@ -1,5 +1,5 @@
 -- Rounds of improvements, over all vertices: what is found after each, and that they end.
-use Rattle.std.proofs.Common.{ℕ, zero, suc, ◌+◌, ◌*◌, ◌≤◌, ◌<◌, ◌≡◌, Bool, true, false, List, [], ◌∷◌, ◌++◌, Option, Some, None, length, All, arith, refl, sym, ap, ◌∙◌, subst, inl, inr, ◌⊎◌}
+use Rattle.std.proofs.Common.{ℕ, ◌+◌, ◌*◌, ◌≤◌, ◌<◌, ◌≡◌, Bool, true, false, List, [], ◌∷◌, ◌++◌, Option, Some, length, All, arith, refl, sym, ap, ◌∙◌, subst, inl, inr, ◌⊎◌}
 use Rattle.std.specs.Prelude.{Contains}
 use Rattle.std.proofs.lemmas.Bool.{cases_Bool, cases_lt, false≢true}
 use Rattle.std.proofs.lemmas.List.{length_push}
@@ -7,7 +7,7 @@ use Rattle.std.proofs.lemmas.List.Elements.{All-contains}
 use Rattle.std.proofs.lemmas.Option.{same_Some}
 use Rattle.bale_types.specs.declared.triple.Triple.{Triple}
 use Rattle.least_walks.specs.Walks.{IsWalk, weight_of, AtMost, IsLeast}
-use Rattle.least_walks.proofs.Settled.{cost, at_most_le, walk_push, weight_push, Walked, Relaxed, least_at}
+use Rattle.least_walks.proofs.Settled.{cost, at_most_le, walk_push, weight_push, Walked, least_at}
 use Rattle.least_walks.proofs.Simple.{IsSimple, simple_of, simple_short}
 
 -- what all ranks together have found as a round ends, and which vertices were improved in it
@@ -101,9 +101,11 @@ next_reached es s limit r x y few at round =
         | inr new' ↦
             let i : Improved es x y v = new'.1 in
             let w = at.walked i.edge.i i.before i.from in
-            let is : m ≡ i.before + cost i.edge = same_Some m (i.before + cost i.edge) (sym found ∙ i.new) in
-            (w.0 ++ i.edge ∷ [], subst (λ t. IsWalk es s t (w.0 ++ i.edge ∷ [])) i.to (walk_push es s i.edge.i w.0 i.edge w.1 i.is refl),
-            weight_push w.0 i.edge ∙ ap (λ k. k + cost i.edge) w.2 ∙ sym is)
+            let is : m ≡ i.before + cost i.edge = same_Some m (i.before + cost i.edge) (sym found ∙ i.new) in (
+              w.0 ++ i.edge ∷ [],
+              subst (λ t. IsWalk es s t (w.0 ++ i.edge ∷ [])) i.to (walk_push es s i.edge.i w.0 i.edge w.1 i.is refl),
+              weight_push w.0 i.edge ∙ ap (λ k. k + cost i.edge) w.2 ∙ sym is,
+            )
       ];
       start = falls es x y round s 0 at.start;
       settled = λ e has calm m found. elim (round.each e.i) [

@@ -1,9 +1,8 @@
 -- One round of the canonical run of sssp, as a round of improvements over all vertices.
-use Rattle.std.proofs.Common.{ℕ, zero, suc, ◌+◌, ◌-◌, ◌*◌, ◌/◌, ◌%◌, ◌^◌, ◌<◌, ◌≤◌, ◌≡◌, ◌≢◌, ◌==◌, min, Bool, true, false, cond, List, [], ◌∷◌, ◌++◌, Option, Some, None, ℤ, pos, length, map, get_or, slice_get, All, arith, inl, inr, refl, sym, ap, ◌∙◌, subst, ◌⊎◌}
+use Rattle.std.proofs.Common.{ℕ, zero, suc, ◌+◌, ◌-◌, ◌/◌, ◌%◌, ◌^◌, ◌<◌, ◌≤◌, ◌≡◌, ◌≢◌, ◌==◌, min, true, false, cond, List, [], ◌∷◌, Option, Some, None, ℤ, pos, length, map, get_or, slice_get, All, arith, inl, inr, refl, sym, ap, ◌∙◌, subst, ◌⊎◌}
 use Rattle.std.specs.Prelude.{Contains, nat_abs}
-use Rattle.std.specs.List.{fold}
 use Rattle.std.proofs.Math.Nat.{mod-lt}
-use Rattle.std.proofs.lemmas.Bool.{cases_eq, ne_eqb}
+use Rattle.std.proofs.lemmas.Bool.{ne_eqb}
 use Rattle.std.proofs.lemmas.List.{length-map}
 use Rattle.std.proofs.lemmas.List.Elements.{All-contains}
 use Rattle.std.proofs.lemmas.List.Sums.{fold-append}
@@ -12,18 +11,18 @@ use Rattle.bale_types.specs.declared.triple.Triple.{Triple}
 use Rattle.bale_types.specs.Bits.{twos_complement}
 use Rattle.list_laws.proofs.Lists.{find, within, get_once, get_map}
 use Rattle.mtx_text.specs.Cells.{raised}
-use Rattle.round_program.specs.Canonical.{items_of, emitted, emitted_of, emitted_by, absorb_all, absorb_upto, absorbed_round, end_all, vote_sum, InRound}
+use Rattle.round_program.specs.Canonical.{items_of, emitted_of, emitted_by, absorb_all, absorb_upto, absorbed_round, end_all, vote_sum, InRound}
 use Rattle.sparse_rows.specs.Owners.{places_for}
 use Rattle.sparse_rows.proofs.Places.{place_below, place_own}
 use Rattle.least_walks.specs.declared.table.Edge.{Edge}
 use Rattle.least_walks.specs.declared.vertices.Vertex.{Vertex}
 use Rattle.least_walks.specs.Walks.{AtMost}
-use Rattle.least_walks.specs.Tables.{edge_of, offer, offers, table_of}
+use Rattle.least_walks.specs.Tables.{edge_of, offer, table_of}
 use Rattle.least_walks.specs.Vertices.{unreached, improved_at, marked, calm}
-use Rattle.least_walks.proofs.Settled.{cost, at_most_le}
+use Rattle.least_walks.proofs.Settled.{cost}
 use Rattle.least_walks.proofs.Members.{has_item, was_item, upto, has_upto, was_upto}
-use Rattle.least_walks.proofs.Offered.{weighing, taken, taken_done, Took, taken_cases, Offering, has_offer, was_offered, has_mark, was_marked, calm_at}
-use Rattle.app_sssp.specs.Sssps.{SsspState, IsSssp, sssp_rules, edge_came, table_after}
+use Rattle.least_walks.proofs.Offered.{taken, taken_done, Took, taken_cases, Offering, has_offer, was_offered, has_mark, calm_at}
+use Rattle.app_sssp.specs.Sssps.{SsspState, sssp_rules, edge_came, table_after}
 use Rattle.app_sssp.proofs.Rounds.{Stage, Improved, Round}
 
 -- a vertex as its owner has it
@@ -84,7 +83,6 @@ module _ (es : List Triple) (rows ranks n : ℕ) (ss : List SsspState) (shape : 
     (all : InRound sssp_rules ranks n shape most ss) (size : (r : ℕ) (s : SsspState) → slice_get ss r ≡ Some s → s.rows ≡ rows)
     (knows : (r : ℕ) (s : SsspState) → slice_get ss r ≡ Some s → Knows es ranks r s)
     (low : (v k : ℕ) → (stage_of ranks ss).found v ≡ Some k → k ≤ 2 ^ 60) where
-
   abbrev next : SsspState → SsspState
   next s = sssp_rules.ended s (vote_sum sssp_rules ss)
 

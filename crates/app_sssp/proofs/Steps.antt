@@ -1,5 +1,5 @@
 -- What a step of the code leaves, where a rank is one of sssp.
-use Rattle.std.proofs.Common.{ℕ, min, lit<, ◌/◌, ◌+◌, ◌-◌, ◌^◌, ◌<◌, ◌≤◌, ◌≡◌, ◌==◌, ◌++◌, ◌∷◌, [], Bool, true, false, cond, All, List, Some, map, length, get_or, slice_get, slice_set, arith, sym, ap, ◌∙◌, subst}
+use Rattle.std.proofs.Common.{ℕ, min, ◌/◌, ◌+◌, ◌-◌, ◌^◌, ◌<◌, ◌≤◌, ◌≡◌, ◌==◌, [], cond, All, List, map, length, get_or, arith, sym, ap, ◌∙◌, subst}
 use Rattle.std.proofs.lemmas.Bool.Decides.{nat_tests}
 use Rattle.std.proofs.lemmas.List.{length-map}
 use Rattle.std.proofs.lemmas.List.Elements.{All-nil}
@@ -9,15 +9,14 @@ use Rattle.mtx_text.specs.Cells.{InOrder, raised}
 use Rattle.mtx_text.proofs.Raised.{raised_ordered}
 use Rattle.mtx_text.proofs.Gathered.{raised_keeps}
 use Rattle.round_program.specs.Laws.{Fits}
-use Rattle.sparse_rows.specs.Owners.{places_for}
 use Rattle.sparse_rows.proofs.Places.{place_below}
 use Rattle.least_walks.specs.declared.table.Edge.{Edge}
 use Rattle.least_walks.specs.declared.vertices.Vertex.{Vertex}
-use Rattle.least_walks.specs.Tables.{table_of, offers}
+use Rattle.least_walks.specs.Tables.{offers}
 use Rattle.least_walks.specs.Vertices.{marked, calm}
 use Rattle.least_walks.proofs.Marks.{marked_below}
-use Rattle.app_sssp.specs.Sssps.{SsspState, IsSssp, IsInside, sssp_rules, may_sssp, table_after}
-use Rattle.app_sssp.specs.SsspLaws.{greater_inside, table_after_edges, table_after_len, ended_valid}
+use Rattle.app_sssp.specs.Sssps.{SsspState, IsSssp, IsInside, sssp_rules, table_after}
+use Rattle.app_sssp.specs.SsspLaws.{greater_inside, table_after_len, ended_valid}
 
 -- what fits names a vertex that has a place here
 pub vertex_place : (s : SsspState) (f : ℕ) (x : Item) → IsSssp s → Fits sssp_rules s f x → (x.a < 2 ^ 32) × (x.a / s.ranks < length s.vertices)

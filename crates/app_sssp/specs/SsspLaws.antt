@@ -1,24 +1,22 @@
 -- The laws of sssp.
-use Rattle.std.proofs.Common.{ℕ, suc, ◌+◌, ◌-◌, ◌/◌, ◌%◌, ◌^◌, ◌<◌, ◌≤◌, ◌≡◌, ◌≢◌, ◌==◌, min, max, Bool, true, false, not, List, [], ◌∷◌, ◌++◌, Option, Some, None, map, cond, length, get_or, All, arith, refl, sym, ap, ◌∙◌, subst, inl, inr, lit<}
-use Rattle.std.specs.Prelude.{nat_lt}
-use Rattle.std.specs.List.{filter, range_with_len, flat_map}
-use Rattle.std.proofs.lemmas.Bool.{cases_eq, cases_lt, cases_Bool, eq-eqb, ne_eqb}
+use Rattle.std.proofs.Common.{ℕ, ◌+◌, ◌-◌, ◌/◌, ◌%◌, ◌^◌, ◌<◌, ◌≤◌, ◌≡◌, ◌==◌, min, Bool, true, false, List, [], ◌∷◌, Option, Some, None, map, cond, length, get_or, All, arith, refl, sym, ap, ◌∙◌, subst, inl, inr, lit<}
+use Rattle.std.specs.List.{filter, range_with_len}
+use Rattle.std.proofs.lemmas.Bool.{cases_eq, cases_lt, eq-eqb, ne_eqb}
 use Rattle.std.proofs.lemmas.List.{get_or_past, length-map}
 use Rattle.std.proofs.Math.Nat.{div-le_self}
 use Rattle.std.proofs.lemmas.Bool.Decides.{nat_tests}
-use Rattle.std.proofs.lemmas.List.Elements.{All-nil, All-map, All-append, All-push, All-filter}
+use Rattle.std.proofs.lemmas.List.Elements.{All-nil, All-map, All-append, All-filter}
 use Rattle.bale_types.specs.declared.Item.{Item}
 use Rattle.bale_types.specs.declared.triple.Triple.{Triple}
-use Rattle.list_laws.proofs.Lists.{changed_comm, changed_len, changed_all, all_head, all_tail}
+use Rattle.list_laws.proofs.Lists.{changed_comm, changed_len}
 use Rattle.mtx_text.specs.Cells.{InOrder, raised}
 use Rattle.mtx_text.proofs.Raised.{raised_ordered, raised_comm, greater}
 use Rattle.mtx_text.proofs.Gathered.{raised_keeps}
 use Rattle.round_program.specs.Laws.{Laws, Fits, SameRound, IsItem}
-use Rattle.sparse_rows.specs.Owners.{places_for}
 use Rattle.least_walks.specs.declared.table.Edge.{Edge}
 use Rattle.least_walks.specs.declared.vertices.Vertex.{Vertex}
 use Rattle.least_walks.specs.Tables.{table_of, edges_at, is_kept, edge_of, offers, offers_at, offers_from, offer}
-use Rattle.least_walks.specs.Vertices.{unreached, improve, improved_at, marked, marked_from, calm}
+use Rattle.least_walks.specs.Vertices.{unreached, improve, improved_at, marked, calm}
 use Rattle.least_walks.proofs.Marks.{improve_comm, marked_count}
 use Rattle.least_walks.proofs.Rows.{table_len}
 use Rattle.app_sssp.specs.Sssps.{SsspState, IsSssp, IsEdge, IsInside, sssp_rules, may_sssp, edge_came, table_after}
@@ -145,9 +143,9 @@ offers_from_fit rows ranks round rank (Some m) es own wide late h =
 
 row_at : (P : Edge → Type 0) (table : List (List Edge)) (p : ℕ) → All (All P) table → All P (get_or table p [])
 row_at P table p h = elim (cases_lt p (length table)) [
-      | inl low ↦ h p [] low
-      | inr past ↦ subst (All P) (sym (get_or_past table p [] past)) (All-nil P)
-    ]
+  | inl low ↦ h p [] low
+  | inr past ↦ subst (All P) (sym (get_or_past table p [] past)) (All-nil P)
+]
 
 pub offers_fit : (rows ranks round rank : ℕ) (table : List (List Edge)) (vs : List Vertex) (places : List ℕ) → rank < ranks → rows ≤ 16384 → 0 < round → All (All (IsEdge ranks rows)) table
     → All (Offered rows ranks round rank) (offers table vs places)

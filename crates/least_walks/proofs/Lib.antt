@@ -4,3 +4,4 @@ pub mod Offered
 pub mod Rows
 pub mod Settled
 pub mod Simple
+pub mod Texts

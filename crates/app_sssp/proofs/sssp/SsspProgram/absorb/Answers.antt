@@ -2,7 +2,7 @@ use Rattle.std.proofs.Common.{sym, subst, refl}
 use Rattle.round_program.specs.Laws.{Fits}
 use Rattle.app_sssp.specs.Sssps.{sssp_rules}
 use Rattle.app_sssp.specs.SsspView.{sssp_state}
-use Rattle.app_sssp.proofs.Steps.{came_valid, same_valid}
+use Rattle.app_sssp.proofs.Steps.{came_valid}
 use Rattle.app_sssp.proofs.sssp.SsspProgram.absorb.Goals as goal
 
 pub invariant_of-self-then-self-eq0 : goal.invariant_of-self-then-self-eq0

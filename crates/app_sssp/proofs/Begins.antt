@@ -27,7 +27,7 @@ use Rattle.least_walks.specs.Walks.{IsWalk, weight_of, AtMost}
 use Rattle.least_walks.specs.Tables.{edge_of, in_range, is_kept, edges_at, table_of}
 use Rattle.least_walks.specs.Vertices.{unreached, improve, improved_at}
 use Rattle.least_walks.proofs.Rows.{table_len}
-use Rattle.least_walks.proofs.Settled.{cost}
+use Rattle.least_walks.proofs.Settled.{cost, all_plain}
 use Rattle.std.proofs.lemmas.Option.{same_Some}
 use Rattle.least_walks.proofs.Members.{none_in, has_filtered, was_filtered, has_mapped, was_mapped}
 use Rattle.least_walks.proofs.Offered.{weighing}
@@ -43,7 +43,7 @@ graph_edges m g =
     record {
       from = λ k d l. (g.matrix.inside k d l).row;
       to = λ k d l. subst (λ n. (get_or m.entries k d).j < n) g.square (g.matrix.inside k d l).col;
-      plain = g.weights;
+      plain = all_plain m.entries g.weights;
       light = λ k d l. (g.matrix.inside k d l).limit;
     }
 
@@ -139,7 +139,7 @@ came_own : (ranks : ℕ) (m : Sparse) (r : ℕ) → IsGraph m
     → map (λ (e : ℕ × Item). edge_came e.1) (came_to (entry_owner ranks) (row_owner ranks) edge_item r (numbered m.entries)) ≡ own_edges ranks r m.entries
 came_own ranks m r g =
     landed (entry_owner ranks) edge_item (λ (e : Numbered). e.1) edge_came ranks r (numbered m.entries)
-    (all_numbered (λ (t : Triple). edge_came (record { a = t.i; b = t.j; c = twos_complement t.v }) ≡ t) 0 m.entries (λ k d l. item_back (get_or m.entries k d) (g.weights k d l) (g.matrix.inside k d l).limit))
+    (all_numbered (λ (t : Triple). edge_came (record { a = t.i; b = t.j; c = twos_complement t.v }) ≡ t) 0 m.entries (λ k d l. item_back (get_or m.entries k d) ((graph_edges m g).plain k d l) (g.matrix.inside k d l).limit))
     ∙ ap (own_edges ranks r) (numbered_map (λ (t : Triple). t) 0 m.entries ∙ map_itself m.entries)
   where
     map_itself : (ts : List Triple) → map (λ (t : Triple). t) ts ≡ ts
@@ -190,7 +190,7 @@ first_knows ranks m source r some g =
           subst (λ es. Contains es (edge_of ranks t)) (sym (has_place ranks places (gathered own) (t.i / ranks) low))
           (has_mapped (edge_of ranks) (filter (is_kept ranks 0 (2 ^ 64 - 1) (t.i / ranks)) (gathered own)) t
           (has_filtered (is_kept ranks 0 (2 ^ 64 - 1) (t.i / ranks)) (gathered own) t (Contains-permutation own (gathered own) t moves mine)
-          (kept_here ranks t (All-contains (λ (t : Triple). t.v ≡ pos (nat_abs t.v)) m.entries t g.weights h) (All-contains (λ (t : Triple). cost t ≤ 1_000_000_000_000) m.entries t (graph_edges m g).light h))));
+          (kept_here ranks t (All-contains (λ (t : Triple). t.v ≡ pos (nat_abs t.v)) m.entries t (graph_edges m g).plain h) (All-contains (λ (t : Triple). cost t ≤ 1_000_000_000_000) m.entries t (graph_edges m g).light h))));
     }
 
 -- ---- What is found

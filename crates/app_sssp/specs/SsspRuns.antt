@@ -1,5 +1,5 @@
 -- The runs of sssp: how its programs begin, and what it is to have ended.
-use Rattle.std.specs.Prelude.{ℕ, ◌<◌, ◌≤◌, ◌≡◌, ◌==◌, ◌%◌, ◌/◌, List, [], map, replicate, pos, cond, nat_abs}
+use Rattle.std.specs.Prelude.{ℕ, ◌<◌, ◌≤◌, ◌≡◌, true, ◌==◌, ◌%◌, ◌/◌, List, [], map, replicate, pos, cond, nat_abs}
 use Rattle.std.specs.List.{All, range_with_len}
 use Rattle.bale_types.specs.declared.Item.{Item}
 use Rattle.bale_types.specs.Bits.{twos_complement}
@@ -8,13 +8,14 @@ use Rattle.round_program.specs.Canonical.{HaveEnded}
 use Rattle.sparse_rows.specs.Owners.{Numbered, own_entries, places_for, row_owner}
 use Rattle.least_walks.specs.declared.vertices.Vertex.{Vertex}
 use Rattle.least_walks.specs.Vertices.{unreached, improved_at}
+use Rattle.least_walks.specs.Walks.{no_negative}
 use Rattle.app_sssp.specs.Sssps.{SsspState, sssp_rules}
 
 -- A matrix whose entries are edges: it is square, and no value is negative.
 pub record IsGraph (m : Sparse) : Type 0 where
   pub matrix : IsSparse m
   pub square : m.cols ≡ m.rows
-  pub weights : All (λ t. t.v ≡ pos (nat_abs t.v)) m.entries
+  pub weights : no_negative m.entries ≡ true
 
 -- An entry on its way to the owner of its row.
 abbrev pub edge_item : Numbered → Item

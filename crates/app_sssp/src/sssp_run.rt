@@ -1,6 +1,6 @@
 //! sssp's start, and its answer as text.
 
-ghost use Rattle.std.specs.Prelude.{ℕ, pos, nat_abs, ◌==◌, if◌then◌else◌, ◌≡◌, ◌≢◌, ◌<◌, ◌≤◌, ◌+◌, ◌^◌, ◌%◌, ◌/◌, [], ◌∷◌, length, map, replicate, slice_index_or, Option, IfOk, OnOk, OnErr};
+ghost use Rattle.std.specs.Prelude.{ℕ, true, ◌==◌, if◌then◌else◌, ◌≡◌, ◌≢◌, ◌<◌, ◌≤◌, ◌+◌, ◌^◌, ◌%◌, ◌/◌, [], ◌∷◌, length, map, replicate, slice_index_or, Option, IfOk, OnOk, OnErr};
 ghost use Rattle.std.specs.List.{All};
 ghost use Rattle.least_walks.specs.Vertices.{unreached, improved_at};
 ghost use Rattle.bale_types.specs.Stream.{after, HasCause, IsFront};
@@ -10,7 +10,7 @@ ghost use Rattle.mtx_text.specs.Sparse.{Sparse};
 ghost use Rattle.sparse_rows.specs.Parts.{parts_of};
 ghost use Rattle.sparse_rows.specs.Owners.{row_owner, places_for};
 ghost use Rattle.round_program.specs.Canonical.{InRound, EndsWithin};
-ghost use Rattle.least_walks.specs.Walks.{IsLeast, AreLeast};
+ghost use Rattle.least_walks.specs.Walks.{no_negative, IsLeast, AreLeast};
 ghost use Rattle.least_walks.specs.Lines.{sssp_lines};
 ghost use Rattle.app_sssp.specs.Sssps.{sssp_rules};
 ghost use Rattle.app_sssp.specs.SsspRuns.{IsGraph, edge_item, vertices_begin, sssp_begins, sssp_starts, SsspEnded};
@@ -38,7 +38,7 @@ pub fn sssp_start(
     requires some { 1 ≤ ranks }
     requires few { ranks ≤ 64 }
     requires square { m.now.cols ≡ m.now.rows }
-    requires weights { All (λ t. t.v ≡ pos (nat_abs t.v)) m.now.entries }
+    requires weights { no_negative m.now.entries ≡ true }
     requires source { source < m.now.rows }
     ensures starts { IfOk result (λ ps. ps ≡ sssp_starts ranks m.now source) }
     ensures begins { IfOk result (λ ps. InRound sssp_rules ranks 0 (m.now.rows ∷ []) (m.now.rows + 1) ps) }

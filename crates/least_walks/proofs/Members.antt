@@ -16,9 +16,9 @@ module _ {X : Type 0} where
 
   pub has_cases : (x y : X) (xs : List X) → Contains (x ∷ xs) y → (x ≡ y) ⊎ Contains xs y
   has_cases x y xs h = elim (Contains-append_cases (x ∷ []) xs y h) [
-        | inl one ↦ inl (only x y one)
-        | inr rest ↦ inr rest
-      ]
+    | inl one ↦ inl (only x y one)
+    | inr rest ↦ inr rest
+  ]
     where
       only : (x y : X) → Contains (x ∷ []) y → x ≡ y
       only x y h = first h.0 h.1 h.2

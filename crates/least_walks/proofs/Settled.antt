@@ -1,10 +1,10 @@
 -- Where no edge improves a weight, every weight is least: by induction on the walk.
-use Rattle.std.proofs.Common.{ℕ, ◌+◌, ◌≤◌, ◌≡◌, List, [], ◌∷◌, ◌++◌, Option, Some, None, arith, refl, sym, ap, ◌∙◌, subst}
-use Rattle.std.specs.Prelude.{Contains, nat_abs}
+use Rattle.std.proofs.Common.{ℕ, ℤ, pos, negsuc, true, not, All, get_or, ◌+◌, ◌≤◌, ◌≡◌, List, [], ◌∷◌, ◌++◌, Option, Some, None, arith, refl, sym, ap, ◌∙◌, subst}
+use Rattle.std.specs.Prelude.{Contains, nat_abs, int_lt}
 use Rattle.std.proofs.lemmas.Option.{same_Some}
-use Rattle.std.proofs.lemmas.List.Sums.{sum_by-cons, sum_by-append}
+use Rattle.std.proofs.lemmas.List.Sums.{AllPass-from_list_all, sum_by-cons, sum_by-append}
 use Rattle.bale_types.specs.declared.triple.Triple.{Triple}
-use Rattle.least_walks.specs.Walks.{IsWalk, weight_of, AtMost, IsLeast}
+use Rattle.least_walks.specs.Walks.{IsWalk, no_negative, weight_of, AtMost, IsLeast}
 
 -- the weight of an edge
 abbrev pub cost : Triple → ℕ
@@ -12,6 +12,14 @@ cost e = nat_abs e.v
 
 pub weight_cons : (e : Triple) (w : List Triple) → weight_of (e ∷ w) ≡ cost e + weight_of w
 weight_cons e w = sum_by-cons cost e w
+
+-- a value that isn't negative is the number that it has
+pub plain_is : (v : ℤ) → not (int_lt v (pos 0)) ≡ true → v ≡ pos (nat_abs v)
+plain_is (pos n) h = refl
+plain_is (negsuc n) h = absurd (cc)
+
+pub all_plain : (es : List Triple) → no_negative es ≡ true → All (λ (t : Triple). t.v ≡ pos (nat_abs t.v)) es
+all_plain es h = λ k d l. plain_is (get_or es k d).v (AllPass-from_list_all (λ (t : Triple). not (int_lt t.v (pos 0))) es h k d l)
 
 -- a walk and one more edge
 pub walk_push : (es : List Triple) (s t : ℕ) (w : List Triple) (e : Triple) → IsWalk es s t w → Contains es e → e.i ≡ t → IsWalk es s e.j (w ++ e ∷ [])

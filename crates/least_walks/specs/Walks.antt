@@ -1,6 +1,6 @@
 -- Walks over the entries of a matrix, and the least weight of a walk.
-use Rattle.std.specs.Prelude.{ℕ, ◌≡◌, ◌≤◌, ◌<◌, List, [], ◌∷◌, Option, Some, Contains, nat_abs}
-use Rattle.std.specs.List.{sum_by}
+use Rattle.std.specs.Prelude.{ℕ, pos, int_lt, Bool, not, ◌≡◌, ◌≤◌, ◌<◌, List, [], ◌∷◌, Option, Some, Contains, nat_abs}
+use Rattle.std.specs.List.{sum_by, list_all}
 use Rattle.bale_types.specs.declared.triple.Triple.{Triple}
 use Rattle.mtx_text.specs.Sparse.{Sparse}
 
@@ -10,6 +10,12 @@ use Rattle.mtx_text.specs.Sparse.{Sparse}
 abbrev pub IsWalk : List Triple → ℕ → ℕ → List Triple → Type 0
 IsWalk entries s t [] = s ≡ t
 IsWalk entries s t (e ∷ walk) = Contains entries e × (e.i ≡ s) × IsWalk entries e.j t walk
+
+-- No value is negative, so each is the weight of an edge.
+-- no_negative (e1, .., ek) = e1.v is at least 0, and .., and ek.v is at least 0
+-- of (0,1,3), (1,2,0) true, and of (0,1,3), (1,2,-1) false
+abbrev pub no_negative : List Triple → Bool
+no_negative entries = list_all (λ e. not (int_lt e.v (pos 0))) entries
 
 -- The weight of a walk: the sum of its values, of which none is negative.
 -- weight_of (e1, .., ek) = e1.v + .. + ek.v

@@ -8,6 +8,7 @@
 //! | [`Vertices`] | the least weight found for each own vertex, and which were improved |
 //! | [`Table`] | the edges of own vertices, those of each vertex together |
 //! | [`offers`] | what vertices offer along their edges |
+//! | [`no_negative`] | whether the entries can be edges |
 //! | [`write_vertex`] | the line of a vertex |
 //!
 //! `proofs/Settled` has the lemma on which every answer stands: where no edge improves a weight, each is least.
@@ -19,7 +20,9 @@ mod table;
 #[cfg(test)]
 mod tests;
 mod vertices;
+mod weights;
 
 pub use lines::write_vertex;
 pub use table::{Edge, Table, offers};
 pub use vertices::{Vertex, Vertices};
+pub use weights::no_negative;

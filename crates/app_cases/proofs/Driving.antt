@@ -35,7 +35,10 @@ module _ {S T : Type 0} {R : Rules S} {Q : Rules T} {i : S → T} {w : List ℕ 
   pub rounds : (made : Made) (steady : Bool) (rs : List ClosedRound)
       → ((c : ClosedRound) × (rs ≡ c ∷ []) × ((n : ℕ) → HasRounds Q any n → TellsRun Q any n made steady (round_of c)))
       → (c : ClosedRound) × (rs ≡ c ∷ []) × ((n : ℕ) → HasRounds R starts n → TellsRun R starts n made steady (round_of c))
-  rounds made steady rs t =
-      (t.0, t.1, λ n h.
-      tells_case case same starts n made steady (round_of t.0)
-      (subst (λ a. TellsRun Q a n made steady (round_of t.0)) put (t.2 n (subst (λ a. HasRounds Q a n) (sym put) (same.has_rounds starts n some h)))))
+  rounds made steady rs t = (
+    t.0,
+    t.1,
+    λ n h.
+        tells_case case same starts n made steady (round_of t.0)
+        (subst (λ a. TellsRun Q a n made steady (round_of t.0)) put (t.2 n (subst (λ a. HasRounds Q a n) (sym put) (same.has_rounds starts n some h)))),
+  )

@@ -27,7 +27,7 @@ one_put f all done done' left left' x p s d e =
           p.parts
           ∙ (ap (λ l. done ++ map f l) (first_is left x s)
           ∙ (sym (append_assoc done (f x ∷ []) (map f (drop 1 left)))
-          ∙ (ap (λ z. z ++ map f (drop 1 left)) (sym e) ∙ ap (λ l. done' ++ map f l) (sym d))))
+          ∙ (ap (λ z. z ++ map f (drop 1 left)) (sym e) ∙ ap (λ l. done' ++ map f l) (sym d))));
     }
 
 pub all_put : {X Y : Type 0} (f : X → Y) (all : List X) (done : List Y) (left : List X) → Put f all done left → slice_get left 0 ≡ None → done ≡ map f all

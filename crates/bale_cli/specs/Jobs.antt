@@ -4,6 +4,7 @@ use Rattle.std.specs.Option.{option_and_then}
 use Rattle.bale_words.specs.declared.command.Command.{Command}
 use Rattle.bale_words.specs.declared.command.Task.{Task}
 use Rattle.bale_words.specs.declared.command.Task.TheVariants as task
+use Rattle.bale_words.specs.declared.command.Permutations.TheVariants.{Seed}
 use Rattle.bale_words.specs.declared.command.Transport.{Transport}
 use Rattle.bale_words.specs.declared.command.Transport.TheVariants.{Convey}
 use Rattle.bale_words.specs.declared.command.Driving.{Driving}
@@ -14,6 +15,9 @@ use Rattle.bale_words.specs.Words.{command_of}
 abbrev pub is_ready : Task → Bool
 is_ready task.Histo = true
 is_ready task.Ig = true
+is_ready (task.Permute (Seed seed)) = true
+is_ready task.Transpose = true
+is_ready (task.Sssp source None) = true
 is_ready _ = false
 
 abbrev pub is_convey : Transport → Bool

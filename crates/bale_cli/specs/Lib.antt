@@ -1,3 +1,4 @@
 pub mod Answer
+pub mod Fitness
 pub mod Jobs
 pub mod Tasks

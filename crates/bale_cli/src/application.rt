@@ -23,9 +23,9 @@ pub(crate) trait Application {
     ghost serves: { Self → Sparse → Type 0 };
     /// the programs of so many ranks as they begin
     ghost starts: { Self → ℕ → Sparse → List Self.Prog };
-    /// the bytes of the answer
-    ghost lines: { Self → Sparse → List ℕ };
-    /// this is the answer for a matrix
+    /// these bytes are the answer for a matrix
+    ghost is_answer: { Self → Sparse → List ℕ → Type 0 };
+    /// from this they are written
     ghost answers: { Self → Sparse → Self.Answer → Type 0 };
 
     /// The programs of so many ranks, from 1 to 64, in round 0.
@@ -55,8 +55,9 @@ pub(crate) trait Application {
         out: &mut Out<'_, K>,
     ) -> Result<(), Failed>
         requires answers { answers self.now m.now answer.now }
-        ensures ok { OnOk result (appended K.taken out.new ≡ after (appended K.taken out.old) (lines self.now m.now)) }
-        ensures err { OnErr result (IsFront (K.taken out.new.sink.now) (after (appended K.taken out.old) (lines self.now m.now))) }
+        ensures there_is { (bytes : List ℕ) × is_answer self.now m.now bytes }
+        ensures ok { (bytes : List ℕ) → is_answer self.now m.now bytes → OnOk result (appended K.taken out.new ≡ after (appended K.taken out.old) bytes) }
+        ensures err { (bytes : List ℕ) → is_answer self.now m.now bytes → OnErr result (IsFront (K.taken out.new.sink.now) (after (appended K.taken out.old) bytes)) }
         ensures cause { HasCause (K.faults out.old.sink.now) (K.faults out.new.sink.now) result }
         ensures never_falls { K.faults out.old.sink.now ≤ K.faults out.new.sink.now }
         ensures grows { IsFront (K.taken out.old.sink.now) (K.taken out.new.sink.now) }

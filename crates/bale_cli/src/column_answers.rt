@@ -18,6 +18,7 @@ use std::alloc::Global;
 pub(crate) struct HistoAnswer;
 
 impl Application for HistoAnswer {
+    ghost use Rattle.std.specs.Prelude.{◌≡◌};
     ghost use Rattle.app_histo_ig.specs.HistoLines.{histo_lines};
 
     type Prog = Histo;
@@ -28,7 +29,7 @@ impl Application for HistoAnswer {
 
     ghost starts = { λ _. histo_starts };
 
-    ghost lines = { λ _ m. histo_lines m.entries m.cols };
+    ghost is_answer = { λ _ m bytes. bytes ≡ histo_lines m.entries m.cols };
 
     ghost answers = { λ _ m ps. HistoEnded m ps };
 
@@ -59,6 +60,7 @@ impl Application for HistoAnswer {
 pub(crate) struct IgAnswer;
 
 impl Application for IgAnswer {
+    ghost use Rattle.std.specs.Prelude.{◌≡◌};
     ghost use Rattle.app_histo_ig.specs.IgLines.{ig_lines};
 
     type Prog = Ig;
@@ -69,7 +71,7 @@ impl Application for IgAnswer {
 
     ghost starts = { λ _. ig_starts };
 
-    ghost lines = { λ _ m. ig_lines m.entries };
+    ghost is_answer = { λ _ m bytes. bytes ≡ ig_lines m.entries };
 
     ghost answers = { λ _ m ps. IgEnded m ps };
 

@@ -5,7 +5,7 @@ ghost use Rattle.bale_words.specs.Ranges.{InRanges};
 ghost use Rattle.bale_cli.specs.Jobs.{job_of, runs, is_ready};
 
 use crate::refusal::Refusal;
-use bale_words::{Command, Driving, Task, Transport, WordsFault, read_command};
+use bale_words::{Command, Driving, Permutations, Task, Transport, WordsFault, read_command};
 use std::alloc::Global;
 
 /// The command that the words give. Words that ask for what the program can't run yet are refused as no command.
@@ -43,5 +43,12 @@ fn runs(command: &Command) -> bool
 fn is_ready(task: &Task) -> bool
     ensures { result ≡ is_ready task.now }
 {
-    matches!(task, Task::Histo | Task::Ig)
+    matches!(
+        task,
+        Task::Histo
+            | Task::Ig
+            | Task::Permute(Permutations::Seed(_))
+            | Task::Transpose
+            | Task::Sssp(_, None)
+    )
 }

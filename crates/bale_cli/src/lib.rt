@@ -6,7 +6,8 @@
 //! | [`report`] | to say on a sink why a run ended without an answer |
 //!
 //! Read `specs/Answer` first: the serial answer, about the words and the matrix alone. Then `specs/Jobs` (what runs), and
-//! `specs/Tasks` (what each application answers, and which programs' run the rounds tell).
+//! `specs/Tasks` (what each application answers, and which programs' run the rounds tell), `specs/Fitness` (which
+//! matrices an application has an answer for).
 #![tactic(auto)]
 
 mod application;
@@ -14,11 +15,15 @@ mod column_answers;
 mod exchange;
 mod finish;
 mod job;
+mod matrix_answers;
 mod refusal;
 mod run;
+mod unfit;
+mod walk_answers;
 
 pub use refusal::{Refusal, report};
 pub use run::{Outcome, run_serial};
+pub use unfit::Unfit;
 
 #[cfg(test)]
 mod tests;

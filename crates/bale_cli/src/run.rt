@@ -5,13 +5,14 @@ ghost use Rattle.bale_types.specs.Stream.{after, HasCause, IsFront, Rose};
 ghost use Rattle.mtx_text.specs.Sparse.{Sparse};
 ghost use Rattle.mtx_text.specs.Grammar.{matrix_of};
 ghost use Rattle.bale_words.specs.declared.command.Command.{Command};
-ghost use Rattle.bale_cli.specs.Answer.{serial_answer, said, refusal_text, IsOfText, Asked, Wrote};
+ghost use Rattle.bale_cli.specs.Answer.{serial_answer, said, refusal_text, IsOfText, IsUnfit, Asked, Wrote};
 ghost use Rattle.bale_cli.specs.Jobs.{job_of};
 ghost use Rattle.bale_cli.specs.Tasks.{made_for, TellsTask, TurnsOfTask};
 
 use crate::finish::{Finish, ran};
 use crate::job::read_job;
 use crate::refusal::{Refusal, report};
+use crate::unfit::unfitness;
 use bale_types::{Sink, Source};
 use mtx_text::read_matrix;
 use rank_group::{Rounds, Steps};
@@ -21,7 +22,7 @@ use std::sync::ledger::Ledger;
 /// How a run ended.
 #[derive(Drop)]
 pub struct Outcome {
-    /// 0, or the status of the refusal: 2 usage, 3 read fault, 4 write fault, 5 no matrix, 7 no memory
+    /// 0, or the status of the refusal: 2 usage, 3 read fault, 4 write fault, 5 no matrix, 6 unfit, 7 no memory
     pub status: u8,
     /// What was exchanged: one closed round where an answer was written or its writing failed, else none.
     pub rounds: Rounds,
@@ -48,7 +49,7 @@ pub fn run_serial<S: Source, K: Sink, E: Sink, L: Ledger>(
     ensures read_fault { result.status ≡ 3 → Rose (S.faults source.old) (S.faults source.new) }
     ensures write_fault { result.status ≡ 4 → Rose (K.faults out.old) (K.faults out.new) }
 
-    // No byte is read at 2; at 0, 4 and 5 the text was read whole, or to one byte past its limit.
+    // No byte is read at 2; at 0, 4, 5 and 6 the text was read whole, or to one byte past its limit.
     ensures unread { result.status ≡ 2 → S.left source.new ≡ S.left source.old }
     ensures read_whole { (text : List ℕ) → S.left source.old ≡ Some text → result.status ≢ 2 → result.status ≢ 3 → result.status ≢ 7 →
         S.left source.new ≡ Some (drop 16_777_217 text) }
@@ -56,16 +57,16 @@ pub fn run_serial<S: Source, K: Sink, E: Sink, L: Ledger>(
     // At 0 out has taken the answer, at 4 a front of it, and else nothing; what it held stays, so at 4 it has what it held and then a front
     // of the answer.
     ensures answer { (text : List ℕ) → S.left source.old ≡ Some text → result.status ≡ 0 →
-        K.taken out.new ≡ after (K.taken out.old) (serial_answer (map string_bytes words.now) text).out }
+        Wrote (job_of (map string_bytes words.now)) text (λ bytes. K.taken out.new ≡ after (K.taken out.old) bytes) }
     ensures front { (text : List ℕ) → S.left source.old ≡ Some text → result.status ≡ 4 →
-        IsFront (K.taken out.new) (after (K.taken out.old) (serial_answer (map string_bytes words.now) text).out) }
+        Wrote (job_of (map string_bytes words.now)) text (λ bytes. IsFront (K.taken out.new) (after (K.taken out.old) bytes)) }
     ensures held { IsFront (K.taken out.old) (K.taken out.new) }
     ensures no_answer { result.status ≢ 0 → result.status ≢ 4 → K.taken out.new ≡ K.taken out.old }
 
-    // What is said on err is whole unless its own faults rose; the text matters at 5 alone.
-    ensures said { (text : List ℕ) → (result.status ≡ 5 → S.left source.old ≡ Some text) → ¬ Rose (E.faults err.old) (E.faults err.new) →
+    // What is said on err is whole unless its own faults rose; the text matters at 5 and 6 alone.
+    ensures said { (text : List ℕ) → ((result.status ≡ 5) ⊎ (result.status ≡ 6) → S.left source.old ≡ Some text) → ¬ Rose (E.faults err.old) (E.faults err.new) →
         E.taken err.new ≡ after (E.taken err.old) (said result.status (serial_answer (map string_bytes words.now) text)) }
-    ensures said_front { (text : List ℕ) → (result.status ≡ 5 → S.left source.old ≡ Some text) →
+    ensures said_front { (text : List ℕ) → ((result.status ≡ 5) ⊎ (result.status ≡ 6) → S.left source.old ≡ Some text) →
         IsFront (E.taken err.new) (after (E.taken err.old) (said result.status (serial_answer (map string_bytes words.now) text))) }
     ensures said_held { IsFront (E.taken err.old) (E.taken err.new) }
     ensures silent { result.status ≡ 0 → E.taken err.new ≡ E.taken err.old }
@@ -124,11 +125,10 @@ fn answer<S: Source, K: Sink, L: Ledger>(
     ensures no_command { job_of (map string_bytes words.now) ≡ None → IsErrAnd result (λ r. (r ≡ Refusal.Usage) ⊎ (r ≡ Refusal.NoMemory)) }
     ensures read_fault { result ≡ Err Refusal.ReadFault → Rose (S.faults source.old) (S.faults source.new) }
     ensures bad { (text : List ℕ) (b : _) → S.left source.old ≡ Some text → result ≡ Err (Refusal.BadMatrix b) → matrix_of text ≡ Err b }
+    ensures unfit { (text : List ℕ) (u : _) → S.left source.old ≡ Some text → result ≡ Err (Refusal.Unfit u) → IsUnfit (job_of (map string_bytes words.now)) text u }
     ensures no_fault { IfErr result (λ r. r ≢ Refusal.WriteFault) }
-    ensures done { (text : List ℕ) → S.left source.old ≡ Some text →
-        IfOk result (λ f. OnOk f.written (Wrote (job_of (map string_bytes words.now)) text (λ bytes. K.taken out.new ≡ after (K.taken out.old) bytes))) }
-    ensures front { (text : List ℕ) → S.left source.old ≡ Some text →
-        IfOk result (λ f. OnErr f.written (Wrote (job_of (map string_bytes words.now)) text (λ bytes. IsFront (K.taken out.new) (after (K.taken out.old) bytes)))) }
+    ensures wrote { (text : List ℕ) → S.left source.old ≡ Some text → IfOk result (λ f. Wrote (job_of (map string_bytes words.now)) text
+        (λ bytes. OnOk f.written (K.taken out.new ≡ after (K.taken out.old) bytes) × OnErr f.written (IsFront (K.taken out.new) (after (K.taken out.old) bytes)))) }
     ensures cause { IfOk result (λ f. HasCause (K.faults out.old) (K.faults out.new) f.written) }
     ensures held { IsFront (K.taken out.old) (K.taken out.new) }
     ensures unread { result ≡ Err Refusal.Usage → S.left source.new ≡ S.left source.old }
@@ -146,6 +146,9 @@ fn answer<S: Source, K: Sink, L: Ledger>(
         Err(refusal) => return Err(refusal),
     };
     let matrix = read_matrix(alloc, source)?;
+    if let Some(unfit) = unfitness(&command.task, &matrix, true) {
+        return Err(Refusal::Unfit(unfit));
+    }
     let finish = ran(alloc, &command, &matrix, out, steps)?;
     Ok(finish)
 }

@@ -99,19 +99,48 @@ fn grids_and_buffers_give_one_answer(rt: HostRuntime) -> Result<(), Fail> {
     Ok(())
 }
 
-/// The matrix of 2 rows and 3 columns with -7 at (1,3) and 4 at (2,1).
+/// A matrix of 2 rows and 3 columns with -7 at (1,3) and 4 at (2,1).
 const TWO: &[u8] = b"%%MatrixMarket matrix coordinate integer general\n2 3 2\n1 3 -7\n2 1 4\n";
+
+/// Answers of applications: words, what follows the banner, and the answer with the banner written as `I`.
+const ANSWERS: &str = "\
+ig --buffer 1;2 3 2/1 3 -7/2 1 4/;0 1 3 -7/2 1 4/
+ig --grid 2x2;2 3 2/1 3 -7/2 1 4/;0 1 3 -7/2 1 4/
+ig --grid 4x4x4;2 3 2/1 3 -7/2 1 4/;0 1 3 -7/2 1 4/
+transpose;2 3 2/1 3 -7/2 1 4/;0 I/3 2 2/1 2 4/3 1 -7/
+transpose --grid 2x2x2 --buffer 1;2 3 2/1 3 -7/2 1 4/;0 I/3 2 2/1 2 4/3 1 -7/
+transpose;1 1 1/1 1 1000000000000/;0 I/1 1 1/1 1 1000000000000/
+transpose;1 1 1/1 1 -0000001000000000000/;0 I/1 1 1/1 1 -1000000000000/
+transpose;1 1 1/1 1 1000000000001/;5 bale: line 3: bad value/
+permute --seed 42;3 3 2/1 2 5/3 3 6/;0 I/3 3 2/1 3 6/3 2 5/
+permute --seed 42 --grid 2x2 --buffer 1;3 3 2/1 2 5/3 3 6/;0 I/3 3 2/1 3 6/3 2 5/
+sssp --source 1;4 4 4/1 2 5/1 3 2/3 2 1/2 4 7/;0 1 0/2 3/3 2/4 10/
+sssp --source 1 --grid 2x2x2 --buffer 1;4 4 4/1 2 5/1 3 2/3 2 1/2 4 7/;0 1 0/2 3/3 2/4 10/
+sssp --source 4;4 4 4/1 2 5/1 3 2/3 2 1/2 4 7/;0 1 -/2 -/3 -/4 0/
+sssp --source 5;4 4 4/1 2 5/1 3 2/3 2 1/2 4 7/;6 bale: unfit: source out of range/
+sssp --source 0;4 4 4/1 2 5/1 3 2/3 2 1/2 4 7/;6 bale: unfit: source out of range/
+sssp;2 2 1/1 2 -1/;6 bale: unfit: negative weight/
+sssp;0 0 0/;6 bale: unfit: source out of range/
+sssp;1 2 0/;6 bale: unfit: matrix is not square/
+";
 
 #[test]
 fn applications_and_their_answers(rt: HostRuntime) -> Result<(), Fail> {
-    let cases = [
-        // ig_on_every_transport
-        ("ig --buffer 1 --drive serial", "0 1 3 -7\n2 1 4\n"),
-        ("ig --grid 2x2 --drive serial", "0 1 3 -7\n2 1 4\n"),
-        ("ig --grid 4x4x4 --drive serial", "0 1 3 -7\n2 1 4\n"),
-    ];
-    for (words, want) in cases {
-        assert_eq!(rt; answer(rt.alloc(), words, TWO)?.as_str(), want, "{words}");
+    let alloc = rt.alloc();
+    let banner = "%%MatrixMarket matrix coordinate integer general\n";
+    for case in ANSWERS.lines() {
+        let mut parts = case.split(';');
+        let (Some(words), Some(rest), Some(want)) = (parts.next(), parts.next(), parts.next())
+        else {
+            continue;
+        };
+        let words = format!(in alloc; "{words} --drive serial")?;
+        let rest = rest.replace(alloc, "/", "\n")?;
+        let text = format!(in alloc; "{banner}{rest}")?;
+        let want = want.replace(alloc, "/", "\n")?;
+        let want = want.replace(alloc, "I\n", banner)?;
+        let got = answer(alloc, words.as_str(), text.as_bytes())?;
+        assert_eq!(rt; got.as_str(), want.as_str(), "{case}");
     }
     Ok(())
 }
@@ -156,6 +185,8 @@ fn other_words_are_refused(rt: HostRuntime) -> Result<(), Fail> {
         "histo --drive serial more",
         "histo",
         "topo --drive serial",
+        "permute --rperm 2,3,1 --drive serial",
+        "sssp --delta 3 --drive serial",
         "ig --via exstack --drive serial",
         "histo --gen 2,3,42 --drive serial",
     ];

@@ -1,0 +1,4 @@
+pub mod Claimed
+pub mod Counting
+pub mod LevelFacts
+pub mod Printed

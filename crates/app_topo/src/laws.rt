@@ -1,0 +1,4 @@
+//! Laws of the order.
+
+/// Nothing yet.
+pub fn nothing() {}

@@ -1,0 +1,4 @@
+//! The topological order of a square matrix, by levels.
+#![tactic(auto)]
+
+mod laws;

@@ -199,7 +199,9 @@ impl<const CAP: usize, const HOPS: usize> Conveyor<CAP, HOPS> {
     pub fn pull_all(&mut self, number: u32)
         requires begun { self.old.phase ≢ Phase.Dormant }
         requires lowest { lowest_unread self.old ≡ Some number }
-        ensures { self.new ≡ pulls (length (in_at self.old number).parcel.untaken) self.old }
+        ensures state { self.new ≡ pulls (length (in_at self.old number).parcel.untaken) self.old }
+        ensures same { self.new ≡ record self.old { ins = self.new.ins; pulled = self.new.pulled } }
+        ensures kept { KeepsAgreement self.old self.new }
     {
         self.state.known();
         self.state.pull_all(number);

@@ -22,39 +22,39 @@ pub returns-clause-begun : goal.returns-clause-begun
 returns-clause-begun g c =
     let count : c.loop-entry.entry-index ≡ length (in_at c.args.conveyor.now c.args.number).parcel.untaken = omega (arith, c.loop-entry-test.false, c.loop-entry.auto.entry-index-end, ap length c.batch-entry-items.ensures.value) in
     let last = pulls_at g.Q.Program.rules c.args.conveyor.now c.pull_all.new.self c.loop-entry.entry-index _ c.args.prog.now c.loop-entry.prog c.args.spoiled c.loop-entry.spoiled
-    count c.pull_all.ensures c.loop-entry.invariant.absorbs in
+    count c.pull_all.ensures.state c.loop-entry.invariant.absorbs in
     last.begun
 
 pub returns-clause-same : goal.returns-clause-same
 returns-clause-same g c =
     let count : c.loop-entry.entry-index ≡ length (in_at c.args.conveyor.now c.args.number).parcel.untaken = omega (arith, c.loop-entry-test.false, c.loop-entry.auto.entry-index-end, ap length c.batch-entry-items.ensures.value) in
     let last = pulls_at g.Q.Program.rules c.args.conveyor.now c.pull_all.new.self c.loop-entry.entry-index _ c.args.prog.now c.loop-entry.prog c.args.spoiled c.loop-entry.spoiled
-    count c.pull_all.ensures c.loop-entry.invariant.absorbs in
+    count c.pull_all.ensures.state c.loop-entry.invariant.absorbs in
     last.same
 
 pub returns-clause-ends : goal.returns-clause-ends
 returns-clause-ends g c =
     let count : c.loop-entry.entry-index ≡ length (in_at c.args.conveyor.now c.args.number).parcel.untaken = omega (arith, c.loop-entry-test.false, c.loop-entry.auto.entry-index-end, ap length c.batch-entry-items.ensures.value) in
     let last = pulls_at g.Q.Program.rules c.args.conveyor.now c.pull_all.new.self c.loop-entry.entry-index _ c.args.prog.now c.loop-entry.prog c.args.spoiled c.loop-entry.spoiled
-    count c.pull_all.ensures c.loop-entry.invariant.absorbs in
+    count c.pull_all.ensures.state c.loop-entry.invariant.absorbs in
     last.ends
 
 pub returns-clause-kept : goal.returns-clause-kept
 returns-clause-kept g c =
     let count : c.loop-entry.entry-index ≡ length (in_at c.args.conveyor.now c.args.number).parcel.untaken = omega (arith, c.loop-entry-test.false, c.loop-entry.auto.entry-index-end, ap length c.batch-entry-items.ensures.value) in
     let last = pulls_at g.Q.Program.rules c.args.conveyor.now c.pull_all.new.self c.loop-entry.entry-index _ c.args.prog.now c.loop-entry.prog c.args.spoiled c.loop-entry.spoiled
-    count c.pull_all.ensures c.loop-entry.invariant.absorbs in
+    count c.pull_all.ensures.state c.loop-entry.invariant.absorbs in
     last.kept
 
 pub returns-clause-absorbed : goal.returns-clause-absorbed
 returns-clause-absorbed g c =
     let count : c.loop-entry.entry-index ≡ length (in_at c.args.conveyor.now c.args.number).parcel.untaken = omega (arith, c.loop-entry-test.false, c.loop-entry.auto.entry-index-end, ap length c.batch-entry-items.ensures.value) in
     let last = pulls_at g.Q.Program.rules c.args.conveyor.now c.pull_all.new.self c.loop-entry.entry-index _ c.args.prog.now c.loop-entry.prog c.args.spoiled c.loop-entry.spoiled
-    count c.pull_all.ensures c.loop-entry.invariant.absorbs in
+    count c.pull_all.ensures.state c.loop-entry.invariant.absorbs in
     last.absorbed
 
 pub returns-clause-less : goal.returns-clause-less
 returns-clause-less g c =
     let count : c.loop-entry.entry-index ≡ length (in_at c.args.conveyor.now c.args.number).parcel.untaken = omega (arith, c.loop-entry-test.false, c.loop-entry.auto.entry-index-end, ap length c.batch-entry-items.ensures.value) in
-    let is : waiting c.pull_all.new.self.ins ≡ waiting (pulls c.loop-entry.entry-index c.args.conveyor.now).ins = ap (λ (t : State). waiting t.ins) (c.pull_all.ensures ∙ ap (λ j. pulls j c.args.conveyor.now) (sym count)) in
+    let is : waiting c.pull_all.new.self.ins ≡ waiting (pulls c.loop-entry.entry-index c.args.conveyor.now).ins = ap (λ (t : State). waiting t.ins) (c.pull_all.ensures.state ∙ ap (λ j. pulls j c.args.conveyor.now) (sym count)) in
     omega (arith, is, c.loop-entry.invariant.fewer, count, c.batch-entry-items.ensures.some, ap length c.batch-entry-items.ensures.value)

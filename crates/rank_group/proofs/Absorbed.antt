@@ -1,5 +1,5 @@
 -- One more item is pulled, and absorbed.
-use Rattle.std.proofs.Common.{◌≡◌, ◌≢◌, ℕ, ◌+◌, ◌<◌, ◌==◌, ◌&&◌, Bool, false, cond, List, [], ◌∷◌, ◌++◌, length, slice_get, Option, Some, None, refl, sym, ap, subst, ◌∙◌, arith, get_or, set, sum_by, zero, suc, drop}
+use Rattle.std.proofs.Common.{◌≡◌, ◌≢◌, ℕ, ◌+◌, ◌<◌, ◌==◌, ◌&&◌, Bool, false, cond, List, [], ◌∷◌, ◌++◌, length, slice_get, Option, Some, None, refl, sym, ap, subst, ◌∙◌, arith, get_or, set, sum_by, zero, suc, drop, ◌≤◌, add-one}
 use Rattle.std.proofs.lemmas.Bool.{eq-eqb, ne_eqb}
 use Rattle.std.proofs.Math.ListN.{get_or-map}
 use Rattle.std.proofs.lemmas.List.Sums.{sum_by-set}
@@ -11,7 +11,7 @@ use Rattle.route_tensor.specs.Neighbour.{neighbour, in_index}
 use Rattle.route_tensor.specs.Tag.{sender_of}
 use Rattle.hop_core.specs.Link.{In, no_in, with_first_taken}
 use Rattle.hop_core.specs.Relay.{waiting}
-use Rattle.hop_core.specs.State.{State, in_at, lowest_unread, pull_from, pulled_from}
+use Rattle.hop_core.specs.State.{State, in_at, lowest_unread, pull_from, pulled_from, pulls}
 use Rattle.port_bank.specs.Machine.{Part, IsOwnStep}
 use Rattle.port_bank.specs.Machine.Step.{Pull, Idle}
 use Rattle.round_program.specs.Rules.{Rules}
@@ -23,7 +23,7 @@ use Rattle.route_tensor.specs.Grid.{ranks}
 use Rattle.port_bank.specs.Logs.{Logs}
 use Rattle.hop_core.specs.declared.phase.Phase.TheVariants.{Dormant}
 use Rattle.convey.specs.Buffers.{buffers_of, in_of}
-use Rattle.convey.specs.Conveyors.{AgreesWith, KeepsAgreement, IsStepOf}
+use Rattle.convey.specs.Conveyors.{AgreesWith, KeepsAgreement, IsStepOf, GivesNext}
 use Rattle.convey.specs.Parts.{part_of}
 use Rattle.rank_group.specs.RowPulls.{SameEnds}
 
@@ -144,3 +144,37 @@ pulls_end R old c c' prog prog' spoiled spoiled' is new kept step =
       absorbed = λ start next sent got a done.
           idle_done R (ranks old.dims) start prog' next spoiled' (part_of (buffers_of c) sent got) (part_of (buffers_of c') sent got) (step sent got (is.kept sent got a)) (is.absorbed start next sent got a done);
     }
+
+pub fewer_next : (st : State) (n from : ℕ) (x : Item) (most : ℕ) → n + waiting (pulls n st).ins ≤ most → GivesNext (pulls n st) from x → n + 1 + waiting (pulls (n + 1) st).ins ≤ most
+fewer_next st n from x most is next =
+    let less : waiting (pulls (suc n) st).ins < waiting (pulls n st).ins = fewer_from (pulls n st) (lowest_unread (pulls n st)) (from, x) next.value in
+    subst (λ m. n + 1 + waiting (pulls m st).ins ≤ most) (sym (add-one n)) (omega (arith, less, is))
+
+-- pulls after pulls
+pub pulls_both : {S : Type 0} (R : Rules S) (old c c' : State) (prog mid prog' : S) (spoiled now after : Bool) → Pulls R old c prog mid spoiled now → Pulls R c c' mid prog' now after → Pulls R old c' prog prog' spoiled after
+pulls_both R old c c' prog mid prog' spoiled now after p q =
+    let dims : ranks c.dims ≡ ranks old.dims = ap (λ (t : State). ranks t.dims) p.same in
+    record {
+      begun = q.begun;
+      same = q.same ∙ ap (λ (t : State). record t { ins = c'.ins; pulled = c'.pulled }) p.same;
+      ends = λ l. q.ends l ∙ p.ends l;
+      kept = λ sent got a. q.kept sent got (p.kept sent got a);
+      absorbed = λ start next sent got a done.
+          subst (λ n. HasDone R n start prog' next after (part_of (buffers_of c') sent got)) dims
+          (q.absorbed start next sent got (p.kept sent got a)
+          (subst (λ n. HasDone R n start mid next now (part_of (buffers_of c) sent got)) (sym dims) (p.absorbed start next sent got a done)));
+    }
+
+-- after so many pulls of one inbox as after n, and one more
+pub pulls_next : {S : Type 0} (R : Rules S) → Laws R → (st : State) (n : ℕ) (prog mid prog' : S) (from from' : ℕ) (x : Item) (spoiled now after : Bool)
+    → Pulls R st (pulls n st) prog mid spoiled now → GivesNext (pulls n st) from x → from' ≡ from
+    → R.emissions prog' ≡ R.emissions mid → (after ≡ false → now ≡ false) → (after ≡ false → prog' ≡ cond (fits R mid from' x) (R.absorbed mid from' x) mid)
+    → Pulls R st (pulls (n + 1) st) prog prog' spoiled after
+pulls_next R laws st n prog mid prog' from from' x spoiled now after is next same emissions unspoiled absorbed =
+    subst (λ m. Pulls R st (pulls m st) prog prog' spoiled after) (sym (add-one n))
+    (pulls_more R laws st (pulls n st) (pulls (suc n) st) prog mid prog' from x spoiled now after is refl next.kept next.sender next.step emissions unspoiled
+    (subst (λ f. after ≡ false → prog' ≡ cond (fits R mid f x) (R.absorbed mid f x) mid) same absorbed))
+
+-- after all of one inbox
+pub pulls_at : {S : Type 0} (R : Rules S) (st new : State) (n m : ℕ) (prog prog' : S) (spoiled spoiled' : Bool) → n ≡ m → new ≡ pulls m st → Pulls R st (pulls n st) prog prog' spoiled spoiled' → Pulls R st new prog prog' spoiled spoiled'
+pulls_at R st new n m prog prog' spoiled spoiled' count is absorbs = subst (λ t. Pulls R st t prog prog' spoiled spoiled') (sym (is ∙ ap (λ j. pulls j st) (sym count))) absorbs

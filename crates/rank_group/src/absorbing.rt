@@ -1,5 +1,7 @@
 //! Absorbs what a conveyor gives.
-ghost use Rattle.std.specs.Prelude.{◌≡◌, ◌≢◌, ℕ, ◌<◌, ◌≤◌, cond, false, List, length};
+ghost use Rattle.std.specs.Prelude.{◌≡◌, ◌≢◌, ℕ, ◌<◌, ◌≤◌, cond, false, List, length, Some};
+ghost use Rattle.hop_core.specs.Relay.{waiting};
+ghost use Rattle.hop_core.specs.State.{lowest_unread};
 ghost use Rattle.route_tensor.specs.Grid.{ranks};
 ghost use Rattle.port_bank.specs.Logs.{Logs};
 ghost use Rattle.convey.specs.Buffers.{buffers_of};
@@ -31,9 +33,36 @@ pub(crate) fn absorb_all<Q: Program, const CAP: usize, const HOPS: usize>(
         → HasDone Q.rules (ranks conveyor.old.dims) start prog.new next result (part_of (buffers_of conveyor.new) sent got) }
 {
     let mut spoiled = spoiled;
-    while let Some((from, item)) = conveyor.pull() {
-        spoiled = absorb_one(prog, from, item, spoiled);
+    while let Some(number) = conveyor.unread() {
+        spoiled = absorb_batch(prog, conveyor, number, spoiled);
     }
+    spoiled
+}
+
+/// Absorbs all items of the link in from which the next pull takes.
+fn absorb_batch<Q: Program, const CAP: usize, const HOPS: usize>(
+    prog: &mut Q,
+    conveyor: &mut Conveyor<CAP, HOPS>,
+    number: u32,
+    spoiled: bool,
+) -> bool
+    requires begun { conveyor.old.phase ≢ Phase.Dormant }
+    requires lowest { lowest_unread conveyor.old ≡ Some number }
+    ensures begun { conveyor.new.phase ≢ Phase.Dormant }
+    ensures same { conveyor.new ≡ record conveyor.old { ins = conveyor.new.ins; pulled = conveyor.new.pulled } }
+    ensures ends { SameEnds conveyor.old conveyor.new }
+    ensures less { waiting conveyor.new.ins < waiting conveyor.old.ins }
+    ensures kept { KeepsAgreement conveyor.old conveyor.new }
+    ensures absorbed { (start : Q) (next : ℕ) (sent got : Logs) → AgreesWith conveyor.old sent got
+        → HasDone Q.rules (ranks conveyor.old.dims) start prog.old next spoiled (part_of (buffers_of conveyor.old) sent got)
+        → HasDone Q.rules (ranks conveyor.old.dims) start prog.new next result (part_of (buffers_of conveyor.new) sent got) }
+{
+    let mut spoiled = spoiled;
+    for entry in conveyor.batch(number) {
+        let from = conveyor.sender_of(number, entry.tag);
+        spoiled = absorb_one(prog, from, entry.item, spoiled);
+    }
+    conveyor.pull_all(number);
     spoiled
 }
 

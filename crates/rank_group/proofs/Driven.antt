@@ -103,10 +103,10 @@ module _ {S : Type 0} (R : Rules S) (laws : Laws R) (law : ClosesLaw) (rest : Re
   module _ (order : List ℕ) (is : IsOrder (ranks dims) order) (h : ℕ → ℕ → S) (rs rs' : List (RankState S)) (sent got sent' got' : Logs)
       (w : World R dims cap slots steady starts h rs sent got) (on : GoesOn rs) (s : SweptTo R dims cap slots steady starts order (length order) rs sent got rs' sent' got') where
     before : (r : ℕ) (x : RankState S) → slice_get rs' r ≡ Some x → (y : RankState S) × (slice_get rs r ≡ Some y)
-    before r x at = find rs r (omega (arith, within rs' r x at, s.world.all, w.all))
+    before r x at = find rs r (omega (arith, within rs' r x at, s.world.ranked.all, w.ranked.all))
 
     some : 0 < length rs'
-    some = omega (arith, within rs on.rank on.state on.at, s.world.all, w.all)
+    some = omega (arith, within rs on.rank on.state on.at, s.world.ranked.all, w.ranked.all)
 
     -- the least epoch doesn't fall
     kept : (r : ℕ) (x : RankState S) → slice_get rs' r ≡ Some x → least rs ≤ progress x
@@ -138,7 +138,7 @@ module _ {S : Type 0} (R : Rules S) (laws : Laws R) (law : ClosesLaw) (rest : Re
               let y = before r x at in
               let a = least_low rs r y.0 y.1 in
               let b = s.forward r y.0 x y.1 at in
-              let place = is.each r (omega (arith, within rs' r x at, s.world.all)) in
+              let place = is.each r (omega (arith, within rs' r x at, s.world.ranked.all)) in
               s.rests light place.0 r (within order place.0 r place.1) place.1 y.0 x y.1 at over (omega (arith, a, b, here))
 
     pub count_more : (steps0 steps steps' : ℕ) → steps ≤ steps0 + ranks dims * (moves dims rs sent got + least rs) → steps' ≤ steps + length order
@@ -215,7 +215,7 @@ module _ {S : Type 0} (R : Rules S) (cap : ℕ) (rs0 : List (RankState S)) (b0 :
         let s = swept_at steady (progs_of rs0) n r.h p r.world in
         let m = more R laws law rest b0.dims cap b0.slots steady (progs_of rs0) n p order is r.h rs rs' (sent_of b) (got_of b) (sent_of b') (got_of b') r.world on s in
         let l = low R laws law rest b0.dims cap b0.slots steady (progs_of rs0) n p s.h rs' (sent_of b') (got_of b') s.world in
-        let some : 0 < length rs0 = omega (arith, within rs on.rank on.state on.at, r.world.all, w0.all) in
+        let some : 0 < length rs0 = omega (arith, within rs on.rank on.state on.at, r.world.ranked.all, w0.ranked.all) in
         let top = sweeps_more R b0.dims (progs_of rs0) n (most_of R (progs_of rs0)) (omega (arith, few, first rs0 refl some)) in
         omega (arith, m, l, top) where
           first : (xs : List (RankState S)) → rs0 ≡ xs → 0 < length xs → most_of R (progs_of xs) ≡ p.most

@@ -11,6 +11,7 @@ pub mod Begun
 pub mod Fresh
 pub mod Between
 pub mod Onward
+pub mod OneTurn
 pub mod Ranked
 pub mod Worlds
 pub mod Pushed

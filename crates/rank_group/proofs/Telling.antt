@@ -85,7 +85,7 @@ none_after e log ends low =
     ap (segment e) ends.is ∙ (segment_then e ends.front ends.final (λ same. omega (arith, same, n, low)) ∙ segment_past ends.front e (omega (arith, n, low)))
 
 module _ {S : Type 0} (R : Rules S) (laws : Laws R) (law : ClosesLaw) (round : Round) (cap slots : ℕ) (steady : Bool) (starts : List S) (h : ℕ → ℕ → S) (rs : List (RankState S))
-    (w : World R round.dims cap slots steady starts h rs (logs_of round.sent) (logs_of round.got)) (close : CloseLaw round) (over : (r : ℕ) (x : RankState S) → slice_get rs r ≡ Some x → x.over ≡ true)
+    (w : AllRanks R round.dims cap slots steady starts h rs (logs_of round.sent) (logs_of round.got)) (close : CloseLaw round) (over : (r : ℕ) (x : RankState S) → slice_get rs r ≡ Some x → x.over ≡ true)
     (shape : List ℕ) (most n : ℕ) (start : InRound R (ranks round.dims) 0 shape most starts) (rounds : HasRounds R starts n) where
   abbrev dims : List ℕ
   dims = round.dims

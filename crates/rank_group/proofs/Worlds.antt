@@ -100,7 +100,7 @@ module _ {S : Type 0} (R : Rules S) (laws : Laws R) (dims : List ℕ) (cap : ℕ
   pub own_in : Own R (ranks dims) (progress n) (done_of (part_of (buffers_of n.node.conveyor) (starting_at dims r sent) (ending_at dims r got))) (history_in h (Some n)) (lists_of (part_of (buffers_of n.node.conveyor) (starting_at dims r sent) (ending_at dims r got)))
   own_in = own_by n.over refl
 
-module _ {S : Type 0} (R : Rules S) (laws : Laws R) (law : ClosesLaw) (dims : List ℕ) (cap slots : ℕ) (steady : Bool) (starts : List S) (h : ℕ → ℕ → S) (rs : List (RankState S)) (sent got : Logs) (w : World R dims cap slots steady starts h rs sent got) where
+module _ {S : Type 0} (R : Rules S) (laws : Laws R) (law : ClosesLaw) (dims : List ℕ) (cap slots : ℕ) (steady : Bool) (starts : List S) (h : ℕ → ℕ → S) (rs : List (RankState S)) (sent got : Logs) (w : AllRanks R dims cap slots steady starts h rs sent got) where
   abbrev buffers_at : ℕ → Buffers
   buffers_at r = buffers_of (conveyor_in (slice_get rs r))
 

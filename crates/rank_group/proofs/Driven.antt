@@ -66,11 +66,11 @@ module _ {S : Type 0} (R : Rules S) (laws : Laws R) (law : ClosesLaw) (rest : Re
             elim (cases_Bool x.over) [
               | inl t ↦
                   let p : progress x ≡ x.node.conveyor.epoch + 1 = ap (λ b. cond b (x.node.conveyor.epoch + 1) x.node.conveyor.epoch) t in
-                  let b = (over_at_last R laws law dims cap slots steady starts h rs sent got w plan.shape plan.most n plan.start plan.rounds 0 x at t).0 in
+                  let b = (over_at_last R laws law dims cap slots steady starts h rs sent got w.ranked plan.shape plan.most n plan.start plan.rounds 0 x at t).0 in
                   omega (arith, a, p, b)
               | inr f ↦
                   let p : progress x ≡ x.node.conveyor.epoch = ap (λ b. cond b (x.node.conveyor.epoch + 1) x.node.conveyor.epoch) f in
-                  let b = still_within R laws law dims cap slots steady starts h rs sent got w plan.shape plan.most n plan.start plan.rounds 0 x at f in
+                  let b = still_within R laws law dims cap slots steady starts h rs sent got w.ranked plan.shape plan.most n plan.start plan.rounds 0 x at f in
                   omega (arith, a, p, b)
             ]
 
@@ -81,7 +81,7 @@ module _ {S : Type 0} (R : Rules S) (laws : Laws R) (law : ClosesLaw) (rest : Re
       let a = least_low rs on.rank on.state on.at in
       let x = on.state in
       let p : progress x ≡ x.node.conveyor.epoch = ap (λ b. cond b (x.node.conveyor.epoch + 1) x.node.conveyor.epoch) on.still in
-      let b = still_within R laws law dims cap slots steady starts h rs sent got w plan.shape plan.most n plan.start plan.rounds on.rank x on.at on.still in
+      let b = still_within R laws law dims cap slots steady starts h rs sent got w.ranked plan.shape plan.most n plan.start plan.rounds on.rank x on.at on.still in
       omega (arith, m, a, p, b)
 
   -- so the turns are bounded
@@ -127,7 +127,7 @@ module _ {S : Type 0} (R : Rules S) (laws : Laws R) (law : ClosesLaw) (rest : Re
               let x = on.state in
               let a = least_low rs on.rank x on.at in
               let p : progress x ≡ x.node.conveyor.epoch = ap (λ b. cond b (x.node.conveyor.epoch + 1) x.node.conveyor.epoch) on.still in
-              let b = still_within R laws law dims cap slots steady starts h rs sent got w plan.shape plan.most n plan.start plan.rounds on.rank x on.at on.still in
+              let b = still_within R laws law dims cap slots steady starts h rs sent got w.ranked plan.shape plan.most n plan.start plan.rounds on.rank x on.at on.still in
               let past = all_past R laws law rest dims cap slots steady starts s.h rs' sent' got' s.world plan.shape plan.most n plan.start plan.rounds plan.some (least rs) (omega (arith, a, p, b)) kept (rested light) in
               let up = least_high rs' (least rs + 1) some past in
               let g = s.grown in

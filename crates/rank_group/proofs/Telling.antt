@@ -26,7 +26,7 @@ use Rattle.round_program.specs.Laws.{Laws}
 use Rattle.round_program.specs.Canonical.{emitted, emitted_of, emitted_by, absorbed_round, states_at, HasRounds, InRound}
 use Rattle.round_program.specs.Epochs.{IsCanonical, worked, vote_item}
 use Rattle.rank_group.specs.Next.{HasStopped}
-use Rattle.rank_group.specs.Ranks.{RankState, HasRank, progress}
+use Rattle.rank_group.specs.Ranks.{RankState, HasRank, AllRanks, progress}
 use Rattle.rank_group.specs.Runs.{lists_of}
 use Rattle.rank_group.specs.Told.{Made, TellsRun, vote_sent}
 use Rattle.rank_group.proofs.Worlds.{canonical, over_at_last}

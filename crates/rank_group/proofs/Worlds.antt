@@ -24,7 +24,7 @@ use Rattle.rank_group.specs.Sending.{is_voting, epoch_of}
 use Rattle.rank_group.specs.Runs.{lists_of, HasTaken}
 use Rattle.rank_group.specs.Nodes.{IsNode}
 use Rattle.rank_group.specs.Next.{extended, HasStopped}
-use Rattle.rank_group.specs.Ranks.{RankState, HasRank, progress}
+use Rattle.rank_group.specs.Ranks.{RankState, HasRank, AllRanks, progress}
 use Rattle.rank_group.proofs.Between.{voted, own_ended, extended_before, extended_at}
 use Rattle.rank_group.proofs.Onward.{done_of_complete}
 use Rattle.rank_group.specs.Worlds.{conveyor_in, progress_in, history_in, part_at, World}

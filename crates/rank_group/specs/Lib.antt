@@ -8,6 +8,7 @@ pub mod Nodes
 pub mod Stuck
 pub mod Next
 pub mod Ranks
+pub mod Seats
 pub mod Worlds
 pub mod Drives
 pub mod Rounds

@@ -20,25 +20,30 @@
 #![tactic(auto)]
 
 mod absorbing;
+mod at_port;
 mod closed_round;
 mod drive;
 mod ending;
+mod gate;
 mod node;
 mod pushing;
 mod ranks;
 mod row;
 mod row_node;
 mod running;
+mod seated;
 mod sending;
 mod sends;
 mod steps;
 mod sweeping;
 mod taking;
 mod turn;
+mod turning;
 mod via;
 
 pub use closed_round::{ClosedRound, Rounds};
 pub use drive::{Finished, drive_serial};
+pub use gate::{Gate, OpenGate};
 pub use node::Node;
 pub use row::{finish, nodes_of, turn_all};
 pub use row_node::RowNode;

@@ -12,6 +12,7 @@ pub mod Fresh
 pub mod Between
 pub mod Onward
 pub mod OneTurn
+pub mod OnWay
 pub mod Ranked
 pub mod Worlds
 pub mod Pushed

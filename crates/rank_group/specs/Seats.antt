@@ -1,37 +1,49 @@
 -- Ranks that sit at a slot bank.
-use Rattle.std.specs.Prelude.{◌≡◌, ℕ, ◌≤◌, Bool, false, List, map, slice_get, Some}
+use Rattle.std.specs.Prelude.{◌≡◌, ℕ, ◌≤◌, Bool, false, List, length, slice_get, Some}
 use Rattle.port_bank.specs.Logs.{Logs}
 use Rattle.link_slots.specs.Seen.{Bank, Manning, posted_on, collected_from}
 use Rattle.round_program.specs.Rules.{Rules}
 use Rattle.rank_group.specs.Ranks.{RankState, IsRank}
 
--- A rank and its seat: how many turns it made, whether memory was wanting at the end of its run, and what it was before its first turn.
+-- A rank and its seat: how many turns it made, and whether memory was wanting at the end of its run.
 pub record SeatedState (S : Type 0) : Type 0 where
   pub rank : RankState S
   pub seat : Manning
   pub turns : ℕ
   pub lost : Bool
-  pub first : RankState S
 
--- It is on the way from what it was before its first turn, by its seat's lists; h m is the state of its program as round m began.
--- runs: unless memory was wanting at the end of its run, it is a rank of the run. few: it is in no later epoch than it made turns.
-pub record IsOnWay {S : Type 0} (R : Rules S) (cap : ℕ) (x : SeatedState S) : Type 0 where
-  pub h : ℕ → S
-  pub begins : h 0 ≡ x.first.node.run.prog
-  pub runs : x.lost ≡ false → IsRank R x.seat.shape.dims cap x.first.node.conveyor.steady x.seat.rank h x.rank (posted_on x.seat) (collected_from x.seat)
+-- the bank at which it sits
+abbrev pub bank_of : {S : Type 0} → SeatedState S → Bank
+bank_of x = record { id = x.seat.id; shape = x.seat.shape }
+
+-- By its seat's lists it is a rank of a run; h m is the state of its program as round m began. Nothing is said where memory was wanting.
+-- few: it is in no later epoch than it made turns.
+pub record IsOnWay {S : Type 0} (R : Rules S) (cap : ℕ) (steady : Bool) (h : ℕ → S) (x : SeatedState S) : Type 0 where
+  pub runs : x.lost ≡ false → IsRank R x.seat.shape.dims cap steady x.seat.rank h x.rank (posted_on x.seat) (collected_from x.seat)
   pub few : x.lost ≡ false → x.rank.over ≡ false → x.rank.node.conveyor.epoch ≤ x.turns
 
--- Where it comes from, which no turn changes: what it was before its first turn, the bank at which it sits, and its number there.
-pub record Origin (S : Type 0) : Type 0 where
-  pub first : RankState S
-  pub bank : Bank
-  pub number : ℕ
+-- The same, of some run.
+pub record HasWay {S : Type 0} (R : Rules S) (cap : ℕ) (x : SeatedState S) : Type 0 where
+  pub steady : Bool
+  pub h : ℕ → S
+  pub way : IsOnWay R cap steady h x
 
-abbrev pub origin : {S : Type 0} → SeatedState S → Origin S
-origin x = record { first = x.first; bank = record { id = x.seat.id; shape = x.seat.shape }; number = x.seat.rank }
+-- Turns took a rank from x to y: it sits where it sat, and is still on the way of its run.
+pub record Ran {S : Type 0} (R : Rules S) (cap : ℕ) (x y : SeatedState S) : Type 0 where
+  pub bank : bank_of y ≡ bank_of x
+  pub number : y.seat.rank ≡ x.seat.rank
+  pub kept : (steady : Bool) (h : ℕ → S) → IsOnWay R cap steady h x → (g : ℕ → S) × (g 0 ≡ h 0) × IsOnWay R cap steady g y
 
--- The ranks of a drive, which sit at one bank in order.
-pub record AreSeated {S : Type 0} (b : Bank) (firsts : List (RankState S)) (os : List (Origin S)) : Type 0 where
-  pub first : map (λ o. o.first) os ≡ firsts
-  pub bank : (r : ℕ) (o : Origin S) → slice_get os r ≡ Some o → o.bank ≡ b
-  pub number : (r : ℕ) (o : Origin S) → slice_get os r ≡ Some o → o.number ≡ r
+-- The same of each of some ranks.
+pub record AllRan {S : Type 0} (R : Rules S) (cap : ℕ) (xs ys : List (SeatedState S)) : Type 0 where
+  pub all : length ys ≡ length xs
+  pub each : (r : ℕ) (x y : SeatedState S) → slice_get xs r ≡ Some x → slice_get ys r ≡ Some y → Ran R cap x y
+
+-- A rank that is turned, and what it was when it came to its port.
+pub record PortState (S : Type 0) : Type 0 where
+  pub first : SeatedState S
+  pub now : SeatedState S
+
+pub record IsAtPort {S : Type 0} (R : Rules S) (cap : ℕ) (p : PortState S) : Type 0 where
+  pub way : HasWay R cap p.now
+  pub ran : Ran R cap p.first p.now

@@ -1,6 +1,6 @@
 //! A rank at its port, which can be turned.
 ghost use Rattle.std.specs.Prelude.{◌≡◌, ◌<◌, ◌^◌, ◌||◌, false};
-ghost use Rattle.rank_group.specs.Seats.{origin};
+ghost use Rattle.rank_group.specs.Seats.{bank_of, Ran};
 
 use crate::gate::Gate;
 use crate::seated::Seated;
@@ -29,32 +29,37 @@ pub struct AtPort<'a, Q: Program, const CAP: usize, const HOPS: usize> {
     turns: u64,
     /// Its run is over, and memory was wanting.
     lost: bool,
-    /// The rank before its first turn, for contracts alone.
-    first: Snapshot<Rank<Q, CAP, HOPS>>,
+    /// What it was when it came, for contracts alone.
+    first: Snapshot<Seated<Q, CAP, HOPS>>,
 }
 
 impl<'a, Q: Program, const CAP: usize, const HOPS: usize> Model for AtPort<'a, Q, CAP, HOPS> {
-    ghost use Rattle.rank_group.specs.Seats.{SeatedState, IsOnWay};
+    ghost use Rattle.rank_group.specs.Seats.{PortState, IsAtPort};
 
-    ghost Value = { SeatedState Q };
+    ghost Value = { PortState Q };
 
-    ghost view = { λ s. record { rank = s.rank; seat = s.port.seat; turns = s.turns; lost = s.lost; first = s.first.value } };
+    ghost view = { λ s. record { first = s.first.value; now = record { rank = s.rank; seat = s.port.seat; turns = s.turns; lost = s.lost } } };
 
-    ghost invariant = { λ s. IsOnWay Q.rules CAP (record { rank = s.rank; seat = s.port.seat; turns = s.turns; lost = s.lost; first = s.first.value }) };
+    ghost invariant = { λ s. IsAtPort Q.rules CAP (record { first = s.first.value; now = record { rank = s.rank; seat = s.port.seat; turns = s.turns; lost = s.lost } }) };
 }
 
 impl<'a, Q: Program, const CAP: usize, const HOPS: usize> AtPort<'a, Q, CAP, HOPS> {
-    /// A rank goes to its port.
-    pub(crate) fn new(bank: &'a SlotBank<CAP>, seated: Seated<Q, CAP, HOPS>) -> Self
-        requires bank { (origin seated).bank ≡ bank.now }
-        ensures same { result ≡ seated }
+    /// A rank goes to its port; `first` is what it was before.
+    pub(crate) fn new(
+        bank: &'a SlotBank<CAP>,
+        seated: Seated<Q, CAP, HOPS>,
+        first: Snapshot<Seated<Q, CAP, HOPS>>,
+    ) -> Self
+        requires bank { bank_of seated ≡ bank.now }
+        requires ran { Ran Q.rules CAP first.value seated }
+        ensures first { result.first ≡ first.value }
+        ensures now { result.now ≡ seated }
     {
         let Seated {
             rank,
             seat,
             turns,
             lost,
-            first,
         } = seated;
         AtPort {
             rank,
@@ -67,27 +72,27 @@ impl<'a, Q: Program, const CAP: usize, const HOPS: usize> AtPort<'a, Q, CAP, HOP
 
     /// The rank takes its seat along.
     pub(crate) fn into_seated(self) -> Seated<Q, CAP, HOPS>
-        ensures same { result ≡ self.entry }
+        ensures now { result ≡ self.entry.now }
+        ensures ran { Ran Q.rules CAP self.entry.first result }
     {
         let AtPort {
             rank,
             port,
             turns,
             lost,
-            first,
+            first: _,
         } = self;
         Seated {
             rank,
             seat: port.into_seat(),
             turns,
             lost,
-            first,
         }
     }
 
     /// Whether no epoch follows: the rank isn't turned again.
     pub(crate) fn is_over(&self) -> bool
-        ensures { result ≡ (self.now.rank.over || self.now.lost) }
+        ensures { result ≡ (self.now.now.rank.over || self.now.now.lost) }
     {
         self.rank.over || self.lost
     }
@@ -99,8 +104,8 @@ impl<'a, Q: Program, const CAP: usize, const HOPS: usize> AtPort<'a, Q, CAP, HOP
         gate: &G,
         steps: &mut Steps<L>,
     ) -> bool
-        requires going { (self.old.rank.over || self.old.lost) ≡ false }
-        ensures origin { origin self.new ≡ origin self.old }
+        requires going { (self.old.now.rank.over || self.old.now.lost) ≡ false }
+        ensures first { self.new.first ≡ self.old.first }
     {
         await_turn(rt, self.turns);
         gate.turn(self.port.rank(), self.turns);

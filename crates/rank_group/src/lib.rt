@@ -20,11 +20,14 @@
 #![tactic(auto)]
 
 mod absorbing;
+mod alone;
 mod at_port;
+mod child;
 mod closed_round;
 mod drive;
 mod ending;
 mod gate;
+mod job;
 mod node;
 mod pushing;
 mod ranks;
@@ -34,6 +37,7 @@ mod running;
 mod seated;
 mod sending;
 mod sends;
+mod shared;
 mod steps;
 mod sweeping;
 mod taking;

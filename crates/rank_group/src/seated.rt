@@ -4,7 +4,6 @@ use crate::sweeping::Rank;
 use link_slots::SlotSeat;
 use round_program::Program;
 use std::marker::Model;
-use std::snapshot::Snapshot;
 
 /// A rank and its seat.
 #[derive(Drop)]
@@ -15,16 +14,14 @@ pub struct Seated<Q: Program, const CAP: usize, const HOPS: usize> {
     pub(crate) turns: u64,
     /// Its run is over, and memory was wanting.
     pub(crate) lost: bool,
-    /// The rank before its first turn, for contracts alone.
-    pub(crate) first: Snapshot<Rank<Q, CAP, HOPS>>,
 }
 
 impl<Q: Program, const CAP: usize, const HOPS: usize> Model for Seated<Q, CAP, HOPS> {
-    ghost use Rattle.rank_group.specs.Seats.{SeatedState, IsOnWay};
+    ghost use Rattle.rank_group.specs.Seats.{SeatedState, HasWay};
 
     ghost Value = { SeatedState Q };
 
-    ghost view = { λ s. record { rank = s.rank; seat = s.seat; turns = s.turns; lost = s.lost; first = s.first.value } };
+    ghost view = { λ s. record { rank = s.rank; seat = s.seat; turns = s.turns; lost = s.lost } };
 
-    ghost invariant = { λ s. IsOnWay Q.rules CAP (record { rank = s.rank; seat = s.seat; turns = s.turns; lost = s.lost; first = s.first.value }) };
+    ghost invariant = { λ s. HasWay Q.rules CAP (record { rank = s.rank; seat = s.seat; turns = s.turns; lost = s.lost }) };
 }

@@ -28,6 +28,7 @@ mod drive;
 mod ending;
 mod gate;
 mod job;
+mod keeper;
 mod node;
 mod pushing;
 mod ranks;

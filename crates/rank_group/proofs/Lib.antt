@@ -13,6 +13,7 @@ pub mod Between
 pub mod Onward
 pub mod OneTurn
 pub mod OnWay
+pub mod Joining
 pub mod Ranked
 pub mod Worlds
 pub mod Pushed

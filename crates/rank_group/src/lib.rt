@@ -42,6 +42,7 @@ mod shared;
 mod steps;
 mod sweeping;
 mod taking;
+mod together;
 mod turn;
 mod turning;
 mod via;

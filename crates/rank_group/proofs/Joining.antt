@@ -1,7 +1,7 @@
 -- Ranks come back, one after the other.
 use Rattle.std.proofs.Common.{◌≡◌, ℕ, ◌+◌, ◌<◌, ◌||◌, true, List, [], ◌∷◌, ◌++◌, length, length-append, map, slice_get, Some, All, refl, sym, ap, subst, ◌∙◌, arith, inl, inr}
 use Rattle.std.proofs.lemmas.Bool.{cases_lt}
-use Rattle.list_laws.proofs.Lists.{within, get_once, get_last, get_before, get_map, all_get, all_from_gets}
+use Rattle.list_laws.proofs.Lists.{within, get_once, get_last, get_before, get_map, all_get}
 use Rattle.round_program.specs.Rules.{Rules}
 use Rattle.rank_group.specs.Seats.{SeatedState, Ran, AllRan}
 
@@ -10,25 +10,18 @@ at_hand : {X : Type 0} (xs rest : List X) (x : X) → slice_get (xs ++ x ∷ res
 at_hand [] rest x = refl
 at_hand (y ∷ xs) rest x = at_hand xs rest x
 
+pub next_is : {X : Type 0} (xs rest all now : List X) (x : X) → xs ++ now ≡ all → now ≡ x ∷ rest → slice_get all (length xs) ≡ Some x
+next_is xs rest all now x left is = ap (λ ys. slice_get ys (length xs)) (sym left ∙ ap (λ ys. xs ++ ys) is) ∙ at_hand xs rest x
+
 pub holds_at_hand : {X Y : Type 0} (f : X → Y) (P : Y → Type 0) (xs rest all now : List X) (x : X) → xs ++ now ≡ all → now ≡ x ∷ rest → All P (map f all) → P (f x)
 holds_at_hand f P xs rest all now x left is each =
-    all_get P (map f all) (length xs) (f x) each (get_map f all (length xs) x (ap (λ ys. slice_get ys (length xs)) (sym left ∙ ap (λ ys. xs ++ ys) is) ∙ at_hand xs rest x))
+    all_get P (map f all) (length xs) (f x) each (get_map f all (length xs) x (next_is xs rest all now x left is))
 
 pub one_less : {X : Type 0} (xs rest all now : List X) (x : X) → xs ++ now ≡ all → now ≡ x ∷ rest → (xs ++ x ∷ []) ++ rest ≡ all
 one_less {X} xs rest all now x left is = by xs ∙ (ap (λ ys. xs ++ ys) (sym is) ∙ left) where
   by : (ys : List X) → (ys ++ x ∷ []) ++ rest ≡ ys ++ x ∷ rest
   by [] = refl
   by (y ∷ ys) = ap (λ zs. y ∷ zs) (by ys)
-
-pub all_more : {X : Type 0} (P : X → Type 0) (xs : List X) (x : X) → All P xs → P x → All P (xs ++ x ∷ [])
-all_more {X} P xs x each is = all_from_gets P (xs ++ x ∷ []) at where
-  at : (i : ℕ) (y : X) → slice_get (xs ++ x ∷ []) i ≡ Some y → P y
-  at i y here = elim (cases_lt i (length xs)) [
-    | inl low ↦ all_get P xs i y each (sym (get_before xs (x ∷ []) i low) ∙ here)
-    | inr past ↦
-        let e : i ≡ length xs = omega (arith, past, within (xs ++ x ∷ []) i y here, length-append xs (x ∷ [])) in
-        subst P (get_once (xs ++ x ∷ []) (length xs) x y (get_last xs x) (subst (λ k. slice_get (xs ++ x ∷ []) k ≡ Some y) e here)) is
-  ]
 
 pub ran_more : {S : Type 0} (R : Rules S) (cap : ℕ) (xs ys : List (SeatedState S)) (x y : SeatedState S) → AllRan R cap xs ys → Ran R cap x y → AllRan R cap (xs ++ x ∷ []) (ys ++ y ∷ [])
 ran_more {S} R cap xs ys x y all ran = record { all = omega (arith, length-append xs (x ∷ []), length-append ys (y ∷ []), all.all); each = at } where

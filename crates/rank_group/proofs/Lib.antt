@@ -14,6 +14,7 @@ pub mod Onward
 pub mod OneTurn
 pub mod OnWay
 pub mod Joining
+pub mod Places
 pub mod Ranked
 pub mod Worlds
 pub mod Pushed

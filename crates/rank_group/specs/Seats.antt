@@ -47,3 +47,13 @@ pub record PortState (S : Type 0) : Type 0 where
 pub record IsAtPort {S : Type 0} (R : Rules S) (cap : ℕ) (p : PortState S) : Type 0 where
   pub way : HasWay R cap p.now
   pub ran : Ran R cap p.first p.now
+
+-- A rank that hasn't turned sits at the bank b with the number r.
+pub record IsSeated {S : Type 0} (R : Rules S) (cap : ℕ) (steady : Bool) (b : Bank) (r : ℕ) (x : SeatedState S) : Type 0 where
+  pub bank : bank_of x ≡ b
+  pub number : x.seat.rank ≡ r
+  pub way : IsOnWay R cap steady (λ m. x.rank.node.run.prog) x
+
+-- Ranks that haven't turned sit at the bank b in order.
+abbrev pub AreSeated : {S : Type 0} → Rules S → ℕ → Bool → Bank → List (SeatedState S) → Type 0
+AreSeated {S} R cap steady b xs = (r : ℕ) (x : SeatedState S) → slice_get xs r ≡ Some x → IsSeated R cap steady b r x

@@ -36,6 +36,7 @@ mod row;
 mod row_node;
 mod running;
 mod seated;
+mod seating;
 mod sending;
 mod sends;
 mod shared;

@@ -1,11 +1,12 @@
 use Rattle.std.proofs.Common.{rules, ◌≡◌, ◌≤◌, ◌<◌, ◌||◌, true, List, [], ◌∷◌, ◌++◌, length, map, sym, ap, subst, ◌∙◌, arith}
 use Rattle.std.specs.List.{All}
 use Rattle.std.proofs.lemmas.List.{map-append}
+use Rattle.std.proofs.lemmas.List.Elements.{All-push}
 use Rattle.std.specs.Vec.Iter.{into_iter_items}
 use Rattle.rank_group.specs.Seats.{SeatedState, bank_of, AllRan}
 use Rattle.rank_group.specs.Children.{first_of}
 use Rattle.rank_group.proofs.OnWay.{ran_on}
-use Rattle.rank_group.proofs.Joining.{holds_at_hand, one_less, all_more, ran_more}
+use Rattle.rank_group.proofs.Joining.{holds_at_hand, one_less, ran_more}
 use Rattle.rank_group.proofs.together.join_all.Goals as goal
 
 pub run_alone-seated-requires : goal.run_alone-seated-requires
@@ -26,6 +27,6 @@ loop-child-preserved g c =
       ran = subst (λ ys. AllRan R g.row.CAP (map first_of (c.loop-child.yielded ++ c.in-Some.child ∷ [])) ys) (sym more)
           (subst (λ zs. AllRan R g.row.CAP zs (c.loop-child.ended.items ++ y ∷ [])) (sym (map-append first_of c.loop-child.yielded (c.in-Some.child ∷ [])))
           (ran_more R g.row.CAP xs c.loop-child.ended.items x y v.ran (ran_on R g.row.CAP x c.join.result y c.join.ensures c.run_alone-seated.ensures.ran)));
-      over = subst (λ (ys : List (SeatedState g.row.Q.Denot)). All (λ z. (z.rank.over || z.lost) ≡ true) ys) (sym more) (all_more (λ z. (z.rank.over || z.lost) ≡ true) c.loop-child.ended.items y v.over c.run_alone-seated.ensures.over);
+      over = subst (λ (ys : List (SeatedState g.row.Q.Denot)). All (λ z. (z.rank.over || z.lost) ≡ true) ys) (sym more) (All-push (λ z. (z.rank.over || z.lost) ≡ true) c.loop-child.ended.items y v.over c.run_alone-seated.ensures.over);
       room = omega (arith, v.room, c.push.ensures.capacity);
     }

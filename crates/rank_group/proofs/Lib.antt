@@ -15,6 +15,7 @@ pub mod OneTurn
 pub mod OnWay
 pub mod Joining
 pub mod Places
+pub mod Threaded
 pub mod Ranked
 pub mod Worlds
 pub mod Pushed

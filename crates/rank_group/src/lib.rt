@@ -43,6 +43,7 @@ mod shared;
 mod steps;
 mod sweeping;
 mod taking;
+mod threads;
 mod together;
 mod turn;
 mod turning;
@@ -55,6 +56,7 @@ pub use node::Node;
 pub use row::{finish, nodes_of, turn_all};
 pub use row_node::RowNode;
 pub use steps::Steps;
+pub use threads::drive_threads;
 pub use turn::Turn;
 pub use via::Via;
 

@@ -1,18 +1,16 @@
 -- All sweeps of a run.
-use Rattle.std.proofs.Common.{◌≡◌, ℕ, zero, suc, ◌+◌, ◌-◌, ◌*◌, ◌<◌, ◌≤◌, ◌&&◌, Bool, true, false, cond, List, [], ◌∷◌, length, map, Some, slice_get, refl, sym, ap, subst, ◌∙◌, arith, inl, inr}
+use Rattle.std.proofs.Common.{◌≡◌, ℕ, zero, suc, ◌+◌, ◌-◌, ◌*◌, ◌<◌, ◌≤◌, ◌&&◌, Bool, true, false, cond, List, [], ◌∷◌, length, Some, slice_get, refl, sym, ap, subst, ◌∙◌, arith, inl, inr}
 use Rattle.std.proofs.lemmas.Bool.{cases_Bool, cases_lt, true≢false, and_parts}
 use Rattle.std.proofs.Math.Nat.{mul-le-mul_left}
 use Rattle.std.specs.List.{list_all}
 use Rattle.list_laws.proofs.Lists.{find, within, get_once}
 use Rattle.route_tensor.specs.Grid.{ranks}
-use Rattle.route_tensor.specs.Link.{links}
 use Rattle.port_bank.specs.Logs.{Logs}
 use Rattle.port_bank.specs.Plain.{Bank, IsBank, sent_of, got_of}
 use Rattle.convey.specs.Law.{ClosesLaw}
 use Rattle.convey.specs.Rest.{RestLaw}
 use Rattle.round_program.specs.Rules.{Rules}
 use Rattle.round_program.specs.Laws.{Laws}
-use Rattle.round_program.specs.Canonical.{InRound}
 use Rattle.rank_group.specs.Told.{turns_within}
 use Rattle.rank_group.specs.Ranks.{RankState, IsOrder, progress}
 use Rattle.rank_group.proofs.Worlds.{still_within, over_at_last}

@@ -1,12 +1,11 @@
 -- A drive's beginning and its end.
-use Rattle.std.proofs.Common.{◌≡◌, ℕ, zero, suc, ◌+◌, ◌*◌, ◌^◌, ◌<◌, ◌≤◌, ◌==◌, Bool, true, false, cond, List, [], ◌∷◌, length, map, get_or, slice_get, Option, Some, None, All, refl, sym, ap, subst, ◌∙◌, arith}
+use Rattle.std.proofs.Common.{◌≡◌, ℕ, zero, suc, ◌+◌, ◌<◌, ◌≤◌, Bool, true, false, List, [], ◌∷◌, length, map, get_or, slice_get, Option, Some, None, refl, sym, ap, subst, ◌∙◌, arith}
 use Rattle.std.proofs.lemmas.Bool.{true≢false}
 use Rattle.std.proofs.lemmas.List.{length-map}
 use Rattle.std.proofs.lemmas.Option.{get_or_from_slice_get}
 use Rattle.item_buffer.specs.Contents.{Shipped}
-use Rattle.list_laws.proofs.Lists.{find, within, get_map, got_map, same_reads}
-use Rattle.route_tensor.specs.Grid.{ranks, IsGrid}
-use Rattle.route_tensor.specs.Link.{links}
+use Rattle.list_laws.proofs.Lists.{find, get_map, got_map, same_reads}
+use Rattle.route_tensor.specs.Grid.{ranks}
 use Rattle.route_tensor.specs.Ends.{reader_at}
 use Rattle.port_bank.specs.Logs.{Logs, starting_at, ending_at}
 use Rattle.port_bank.specs.Plain.{Bank, Channel, unused, IsBank, sent_of, got_of, empty_bank, closed}
@@ -27,8 +26,8 @@ use Rattle.route_tensor.proofs.Coordinates.{ranks_some}
 use Rattle.rank_group.proofs.Orders.{lawful}
 use Rattle.rank_group.proofs.Telling.{tells_run}
 use Rattle.rank_group.proofs.Worlds.{over_at_last}
-use Rattle.rank_group.specs.Worlds.{World, Plan, inbox, entries_of, conveyor_in}
-use Rattle.rank_group.specs.Drives.{progs_of, IsFresh, AreFresh}
+use Rattle.rank_group.specs.Worlds.{World, Plan, inbox, conveyor_in}
+use Rattle.rank_group.specs.Drives.{progs_of, AreFresh}
 
 -- all ranks as a drive begins, over its bank
 pub record Begun {S : Type 0} (R : Rules S) (cap : ℕ) (steady : Bool) (starts : List S) (n : ℕ) (rs : List (RankState S)) (b : Bank) : Type 0 where

@@ -1,11 +1,11 @@
 -- A rank on its way stays on it by a turn.
-use Rattle.std.proofs.Common.{◌≡◌, ℕ, ◌+◌, ◌≤◌, ◌||◌, Bool, true, false, refl, sym, ap, subst, ◌∙◌, arith}
+use Rattle.std.proofs.Common.{◌≡◌, ℕ, ◌+◌, ◌≤◌, ◌||◌, Bool, true, false, refl, sym, subst, ◌∙◌, arith}
 use Rattle.std.proofs.lemmas.Bool.{true≢false}
 use Rattle.link_slots.specs.Seen.{Manning, named, posted_on, collected_from}
 use Rattle.link_slots.proofs.Ported.{one_bank}
 use Rattle.round_program.specs.Rules.{Rules}
 use Rattle.rank_group.specs.Ranks.{RankState, IsRank}
-use Rattle.rank_group.specs.Seats.{SeatedState, bank_of, IsOnWay, HasWay, Ran, IsAtPort}
+use Rattle.rank_group.specs.Seats.{SeatedState, bank_of, Ran, IsAtPort}
 
 -- neither of two, where their or is false
 pub neither : (a b : Bool) → (a || b) ≡ false → (a ≡ false) × (b ≡ false)
@@ -39,7 +39,7 @@ module _ {S : Type 0} (R : Rules S) (cap : ℕ) (x : SeatedState S) (rank : Rank
   -- by a turn
   pub turned : x.lost ≡ false → x.rank.over ≡ false → (rank.over ≡ false → rank.node.conveyor.epoch ≤ x.rank.node.conveyor.epoch + 1)
       → ((steady : Bool) (h : ℕ → S) → IsRank R x.seat.shape.dims cap steady x.seat.rank h x.rank (posted_on x.seat) (collected_from x.seat)
-          → (g : ℕ → S) × (g 0 ≡ h 0) × IsRank R x.seat.shape.dims cap steady x.seat.rank g rank (posted_on seat) (collected_from seat))
+      → (g : ℕ → S) × (g 0 ≡ h 0) × IsRank R x.seat.shape.dims cap steady x.seat.rank g rank (posted_on seat) (collected_from seat))
       → Ran R cap x (record { rank = rank; seat = seat; turns = x.turns + 1; lost = x.lost })
   turned kept going epoch more =
       record {

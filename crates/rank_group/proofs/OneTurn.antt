@@ -1,5 +1,5 @@
 -- What a turn leaves of one rank, over its own logs, whatever port it was turned at.
-use Rattle.std.proofs.Common.{◌≡◌, ℕ, ◌+◌, ◌*◌, ◌-◌, ◌^◌, Bool, true, false, not, List, refl, sym, ap, subst, ◌∙◌, arith}
+use Rattle.std.proofs.Common.{◌≡◌, ℕ, ◌+◌, Bool, true, false, not, List, refl, sym, ap, subst, ◌∙◌, arith}
 use Rattle.std.proofs.lemmas.Bool.{true≢false}
 use Rattle.port_bank.specs.Logs.{Logs}
 use Rattle.port_bank.specs.Shapes.{IsConveyorShape}

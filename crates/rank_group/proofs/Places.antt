@@ -1,22 +1,20 @@
 -- The ranks of a drive get their seats, and leave them.
-use Rattle.std.proofs.Common.{◌≡◌, ◌≢◌, ℕ, ◌+◌, ◌<◌, ◌≤◌, Bool, true, false, List, [], ◌∷◌, ◌++◌, length, length-append, map, get_or, slice_get, slice_set, Some, None, All, refl, sym, ap, subst, ◌∙◌, arith, inl, inr}
+use Rattle.std.proofs.Common.{◌≡◌, ◌≢◌, ℕ, ◌+◌, ◌<◌, ◌≤◌, Bool, true, false, List, [], ◌∷◌, ◌++◌, length, length-append, map, get_or, slice_get, slice_set, Some, None, All, sym, ap, subst, ◌∙◌, arith, inl, inr}
 use Rattle.std.proofs.lemmas.Bool.{cases_lt}
 use Rattle.std.proofs.lemmas.List.{length-map, map-append, get_or-set_other}
 use Rattle.std.proofs.lemmas.List.Elements.{All-push}
 use Rattle.item_buffer.specs.Contents.{Contents}
 use Rattle.list_laws.specs.Lists.{EachAt}
-use Rattle.list_laws.proofs.Lists.{within, get_once, get_last, get_before, each_get, each_push, each_weaker}
+use Rattle.list_laws.proofs.Lists.{within, get_once, get_last, get_before, each_get, each_push}
 use Rattle.route_tensor.specs.Grid.{ranks}
 use Rattle.route_tensor.specs.Link.{links}
 use Rattle.port_bank.specs.Logs.{Logs}
-use Rattle.port_bank.specs.Shapes.{IsConveyorShape}
 use Rattle.link_slots.specs.Gathering.{Gathering}
 use Rattle.link_slots.specs.Seen.{Bank, Manning, posted_on, collected_from}
 use Rattle.link_slots.specs.Shape.{shipped_all}
 use Rattle.link_slots.specs.View.{no_logs}
 use Rattle.link_slots.proofs.Opening.{no_sent, no_got}
 use Rattle.round_program.specs.Rules.{Rules}
-use Rattle.rank_group.specs.Nodes.{IsNode}
 use Rattle.rank_group.specs.Ranks.{RankState, IsRank}
 use Rattle.rank_group.specs.Drives.{IsFresh, AreFresh}
 use Rattle.rank_group.specs.Seats.{SeatedState, IsSeated}

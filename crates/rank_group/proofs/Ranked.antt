@@ -17,7 +17,6 @@ use Rattle.convey.specs.Buffers.{in_of}
 use Rattle.round_program.specs.Rules.{Rules}
 use Rattle.rank_group.specs.declared.turn.Turn.{Turn}
 use Rattle.rank_group.specs.declared.turn.Turn.TheVariants.{Going, Ended}
-use Rattle.rank_group.specs.Sending.{is_voting}
 use Rattle.rank_group.specs.Nodes.{NodeState, IsNode}
 use Rattle.rank_group.specs.Stuck.{IsStuck}
 use Rattle.rank_group.specs.Ranks.{RankState, HasRank, AfterTurn, AfterRank, progress}

@@ -11,10 +11,8 @@ use Rattle.port_bank.specs.Round.{Round, IsRound, logs_of}
 use Rattle.link_slots.specs.Closed.{slot_round, AllThere}
 use Rattle.link_slots.specs.Gathering.{Gathering}
 use Rattle.link_slots.specs.Seen.{Bank, Manning, posted_on, collected_from}
-use Rattle.convey.specs.Law.{ClosesLaw}
 use Rattle.round_program.specs.Rules.{Rules}
-use Rattle.round_program.specs.Laws.{Laws}
-use Rattle.round_program.specs.Canonical.{InRound, HasRounds}
+use Rattle.round_program.specs.Canonical.{InRound}
 use Rattle.rank_group.specs.Ranks.{RankState, IsRank, HasRank, AllRanks}
 use Rattle.rank_group.specs.Drives.{progs_of, AreFresh}
 use Rattle.rank_group.specs.Seats.{SeatedState, bank_of, IsOnWay, Ran, AllRan, IsSeated, AreSeated}

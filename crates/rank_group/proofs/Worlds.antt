@@ -27,7 +27,7 @@ use Rattle.rank_group.specs.Next.{extended, HasStopped}
 use Rattle.rank_group.specs.Ranks.{RankState, HasRank, AllRanks, progress}
 use Rattle.rank_group.proofs.Between.{voted, own_ended, extended_before, extended_at}
 use Rattle.rank_group.proofs.Onward.{done_of_complete}
-use Rattle.rank_group.specs.Worlds.{conveyor_in, progress_in, history_in, part_at, World}
+use Rattle.rank_group.specs.Worlds.{conveyor_in, progress_in, history_in, part_at}
 
 -- what a rank knows of itself, within an epoch
 pub own_now : {S : Type 0} (R : Rules S) → Laws R → (p rank : ℕ) (h : ℕ → S) (round : ℕ) (sends : Sends) (next : ℕ) (prog : S) (sum : ℕ) (spoiled : Bool) (part : Part)

@@ -1,6 +1,5 @@
 -- Ranks that sit at a slot bank.
 use Rattle.std.specs.Prelude.{◌≡◌, ℕ, ◌≤◌, Bool, false, List, length, slice_get, Some}
-use Rattle.port_bank.specs.Logs.{Logs}
 use Rattle.link_slots.specs.Seen.{Bank, Manning, posted_on, collected_from}
 use Rattle.round_program.specs.Rules.{Rules}
 use Rattle.rank_group.specs.Ranks.{RankState, IsRank}

@@ -21,8 +21,7 @@ pub struct Alone<'a, R: Wait, Q: Program, G: Gate, const CAP: usize, const HOPS:
 }
 
 impl<'a, R: Wait, Q: Program, G: Gate, const CAP: usize, const HOPS: usize> Job
-    for Alone<'a, R, Q, G, CAP, HOPS>
-{
+    for Alone<'a, R, Q, G, CAP, HOPS> {
     ghost use Rattle.std.specs.Prelude.{◌≡◌, ◌||◌, true};
 
     ghost ran = { λ a b. (b.at.first ≡ a.at.first) × ((b.at.now.rank.over || b.at.now.lost) ≡ true) };
@@ -42,14 +41,7 @@ impl<'a, R: Wait, Q: Program, G: Gate, const CAP: usize, const HOPS: usize> Job
 }
 
 /// Turns a rank until its run is over.
-pub(crate) fn run_alone<
-    'a,
-    R: Wait,
-    Q: Program,
-    G: Gate,
-    const CAP: usize,
-    const HOPS: usize,
->(
+pub(crate) fn run_alone<'a, R: Wait, Q: Program, G: Gate, const CAP: usize, const HOPS: usize>(
     shared: &'a Shared<'a, R, G, CAP, HOPS>,
     seated: Seated<Q, CAP, HOPS>,
 ) -> Seated<Q, CAP, HOPS>

@@ -21,8 +21,7 @@ pub struct SameRank<Q: Program, const CAP: usize, const HOPS: usize> {
 }
 
 impl<Q: Program, const CAP: usize, const HOPS: usize> Promise<Seated<Q, CAP, HOPS>>
-    for SameRank<Q, CAP, HOPS>
-{
+    for SameRank<Q, CAP, HOPS> {
     ghost use Rattle.rank_group.specs.Seats.{Ran};
 
     ghost kept_by = { λ p r. Ran Q.rules CAP p.was.value r };

@@ -30,8 +30,7 @@ pub struct Keeper<'a, R: Wait, Q: Program, G: Gate, const CAP: usize, const HOPS
 }
 
 impl<'a, R: Wait, Q: Program, G: Gate, const CAP: usize, const HOPS: usize> Job
-    for Keeper<'a, R, Q, G, CAP, HOPS>
-{
+    for Keeper<'a, R, Q, G, CAP, HOPS> {
     ghost use Rattle.std.specs.Prelude.{◌≡◌, map};
     ghost use Rattle.rank_group.specs.Children.{first_of};
 
@@ -54,14 +53,7 @@ impl<'a, R: Wait, Q: Program, G: Gate, const CAP: usize, const HOPS: usize> Job
 }
 
 /// Turns the ranks that the caller keeps, in turns, until the run of each is over.
-pub(crate) fn run_kept<
-    'a,
-    R: Wait,
-    Q: Program,
-    G: Gate,
-    const CAP: usize,
-    const HOPS: usize,
->(
+pub(crate) fn run_kept<'a, R: Wait, Q: Program, G: Gate, const CAP: usize, const HOPS: usize>(
     shared: &'a Shared<'a, R, G, CAP, HOPS>,
     children: Vec<Child<'a, Q, CAP, HOPS>>,
 ) -> Vec<Child<'a, Q, CAP, HOPS>>
@@ -75,15 +67,7 @@ pub(crate) fn run_kept<
 }
 
 /// Turns each rank once that the caller keeps, where its run isn't over.
-fn sweep_kept<
-    'a,
-    R: Wait,
-    Q: Program,
-    G: Gate,
-    L: Ledger,
-    const CAP: usize,
-    const HOPS: usize,
->(
+fn sweep_kept<'a, R: Wait, Q: Program, G: Gate, L: Ledger, const CAP: usize, const HOPS: usize>(
     shared: &Shared<'a, R, G, CAP, HOPS>,
     children: &mut Vec<Child<'a, Q, CAP, HOPS>>,
     steps: &mut Steps<L>,
@@ -98,15 +82,7 @@ fn sweep_kept<
 }
 
 /// Turns a rank once, where the caller keeps it and its run isn't over.
-fn turn_kept<
-    'a,
-    R: Wait,
-    Q: Program,
-    G: Gate,
-    L: Ledger,
-    const CAP: usize,
-    const HOPS: usize,
->(
+fn turn_kept<'a, R: Wait, Q: Program, G: Gate, L: Ledger, const CAP: usize, const HOPS: usize>(
     shared: &Shared<'a, R, G, CAP, HOPS>,
     child: &mut Child<'a, Q, CAP, HOPS>,
     steps: &mut Steps<L>,

@@ -1,4 +1,4 @@
-use Rattle.std.proofs.Common.{◌≡◌, map, length}
+use Rattle.std.proofs.Common.{◌≡◌, map}
 use Rattle.rank_group.specs.Children.{first_of}
 use Rattle.rank_group.proofs.keeper.sweep_kept.Given as goal
 

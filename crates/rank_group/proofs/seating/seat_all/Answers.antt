@@ -1,4 +1,3 @@
-use Rattle.std.proofs.Common.{◌≡◌}
 use Rattle.std.specs.Vec.Iter.{into_iter_items}
 use Rattle.rank_group.proofs.Places.{seated, seating_more}
 use Rattle.rank_group.proofs.seating.seat_all.Goals as goal

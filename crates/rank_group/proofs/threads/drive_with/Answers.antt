@@ -34,11 +34,11 @@ gather_all-requires g c =
           (
             search rules,
             (
-            c.seat_all.ensures.bank,
-            (
-              sat_at R g.row.CAP c.in_ok-bank.bank c.args.steady c.args.progs c.requires.begins.0 c.requires.begins.1 start c.in_ok-all.all.items fresh c.in_ok-seated.seated.items c.in_ok-ended.ended.items c.in_ok-seated.ensures.ranks seated c.in_ok-ended.ensures.ran,
-              numbered_at R g.row.CAP c.in_ok-bank.bank c.args.steady c.args.progs c.requires.begins.0 c.requires.begins.1 start c.in_ok-all.all.items fresh c.in_ok-seated.seated.items c.in_ok-ended.ended.items c.in_ok-seated.ensures.ranks seated c.in_ok-ended.ensures.ran,
-            ),
+              c.seat_all.ensures.bank,
+              (
+                sat_at R g.row.CAP c.in_ok-bank.bank c.args.steady c.args.progs c.requires.begins.0 c.requires.begins.1 start c.in_ok-all.all.items fresh c.in_ok-seated.seated.items c.in_ok-ended.ended.items c.in_ok-seated.ensures.ranks seated c.in_ok-ended.ensures.ran,
+                numbered_at R g.row.CAP c.in_ok-bank.bank c.args.steady c.args.progs c.requires.begins.0 c.requires.begins.1 start c.in_ok-all.all.items fresh c.in_ok-seated.seated.items c.in_ok-ended.ended.items c.in_ok-seated.ensures.ranks seated c.in_ok-ended.ensures.ran,
+              ),
             ),
           ),
         ),

@@ -1,4 +1,4 @@
-use Rattle.std.proofs.Common.{rules, ◌≡◌, ◌<◌, ◌^◌, ℕ, false, not, refl, ap, Ok, ◌∙◌, sym, subst}
+use Rattle.std.proofs.Common.{rules, ◌<◌, ◌^◌, refl, ap, Ok, ◌∙◌, sym, subst}
 use Rattle.rank_group.specs.Ranks.{RankState, IsRank}
 use Rattle.rank_group.proofs.OneTurn.{OneTurn, NextTold, stays_in, goes_on}
 use Rattle.rank_group.proofs.Halted.{ok_once}

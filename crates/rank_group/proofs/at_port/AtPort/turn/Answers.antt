@@ -1,4 +1,4 @@
-use Rattle.std.proofs.Common.{rules, ◌≡◌, ◌||◌, refl, ap, ◌∙◌, arith}
+use Rattle.std.proofs.Common.{rules, ◌||◌, refl, ap, ◌∙◌, arith}
 use Rattle.port_bank.specs.Port.{Rest}
 use Rattle.rank_group.specs.Seats.{SeatedState, PortState}
 use Rattle.rank_group.proofs.OnWay.{neither, turned, gave_up, stays_at, one_place}

@@ -43,18 +43,18 @@ module _ {S : Type 0} (R : Rules S) (laws : Laws R) (law : ClosesLaw) (dims : Li
   -- one rank's items of a round's work
   work_of : (m s : ℕ) → m < n → s < ranks dims → total (ranks dims) (λ d. length (flow dims sent s d 1 (2 * m))) ≤ count_in R (slice_get (states_at R starts m) s)
   work_of m s low from =
-      let x : (x : RankState S) × (slice_get rs s ≡ Some x) = find rs s (omega (arith, from, w.all)) in
-      let has : HasRank R dims cap steady s (h s) x.0 sent got = w.each s x.0 x.1 in
+      let x : (x : RankState S) × (slice_get rs s ≡ Some x) = find rs s (omega (arith, from, w.ranked.all)) in
+      let has : HasRank R dims cap steady s (h s) x.0 sent got = w.ranked.each s x.0 x.1 in
       let i : Core R dims s (h s) x.0 sent got = core R dims cap steady s (h s) x.0 sent got has in
       let part : Part = part_of (buffers_of x.0.node.conveyor) (starting_at dims s sent) (ending_at dims s got) in
       let few : (d : ℕ) → d < ranks dims → length (flow dims sent s d 1 (2 * m)) ≤ length (part.pushed (2 * m) d) =
-      λ d to. flow_pushed dims x.0.node.conveyor sent got s d (2 * m) w.grid has.same_dims has.same_rank from to in
+      λ d to. flow_pushed dims x.0.node.conveyor sent got s d (2 * m) w.ranked.grid has.same_dims has.same_rank from to in
       elim (cases_lt x.0.node.conveyor.epoch (2 * m)) [
         | inl ahead ↦
             let none = total_zero (ranks dims) (λ d. length (flow dims sent s d 1 (2 * m))) (λ d to. let a = few d to in let b = (i.is.passed.ahead (2 * m) d ahead).0 in omega (arith, a, ap length b)) in
             omega (arith, none)
         | inr begun ↦
-            let run : IsCanonical R (ranks dims) starts (λ r. progress_in (slice_get rs r)) (λ r. history_in (h r) (slice_get rs r)) _ = canonical R laws law dims cap slots steady starts h rs sent got w shape most start in
+            let run : IsCanonical R (ranks dims) starts (λ r. progress_in (slice_get rs r)) (λ r. history_in (h r) (slice_get rs r)) _ = canonical R laws law dims cap slots steady starts h rs sent got w.ranked shape most start in
             let far : 2 * m ≤ progress_in (slice_get rs s) = subst (λ o. 2 * m ≤ progress_in o) (sym x.1) (reach x.0 begun) in
             let early : m ≤ x.0.node.run.round = round_low (is_voting x.0.node.run.sends) x.0.node.run.round i.is.passed.epoch begun in
             let hist : history_in (h s) (slice_get rs s) m ≡ h s m = ap (λ o. history_in (h s) o m) x.1 ∙ before x.0 early in
@@ -88,12 +88,12 @@ module _ {S : Type 0} (R : Rules S) (laws : Laws R) (law : ClosesLaw) (dims : Li
   -- one rank's votes on a round
   votes_of : (m s : ℕ) → s < ranks dims → total (ranks dims) (λ d. length (flow dims sent s d 1 (2 * m + 1))) ≤ ranks dims
   votes_of m s from =
-      let x : (x : RankState S) × (slice_get rs s ≡ Some x) = find rs s (omega (arith, from, w.all)) in
-      let has : HasRank R dims cap steady s (h s) x.0 sent got = w.each s x.0 x.1 in
+      let x : (x : RankState S) × (slice_get rs s ≡ Some x) = find rs s (omega (arith, from, w.ranked.all)) in
+      let has : HasRank R dims cap steady s (h s) x.0 sent got = w.ranked.each s x.0 x.1 in
       let i : Core R dims s (h s) x.0 sent got = core R dims cap steady s (h s) x.0 sent got has in
       let part : Part = part_of (buffers_of x.0.node.conveyor) (starting_at dims s sent) (ending_at dims s got) in
       let b = total_bound (ranks dims) 1 (λ d. length (flow dims sent s d 1 (2 * m + 1)))
-      (λ d to. let a = flow_pushed dims x.0.node.conveyor sent got s d (2 * m + 1) w.grid has.same_dims has.same_rank from to in
+      (λ d to. let a = flow_pushed dims x.0.node.conveyor sent got s d (2 * m + 1) w.ranked.grid has.same_dims has.same_rank from to in
       let v = votes_few R (ranks x.0.node.conveyor.dims) x.0.node.conveyor.rank (h s) x.0.node.run.round x.0.node.run.sends x.0.node.run.next i.prog x.0.node.run.sum x.0.node.run.spoiled part (record { passed = i.is.passed; within = i.is.within }) m d (subst (λ ds. d < ranks ds) (sym has.same_dims) to) in
       omega (arith, a, v)) in
       omega (arith, b)
@@ -119,14 +119,14 @@ module _ {S : Type 0} (R : Rules S) (laws : Laws R) (law : ClosesLaw) (dims : Li
       total_zero (ranks dims) (λ s. total (ranks dims) (λ d. length (flow dims sent s d 1 (2 * n))))
       (λ s from. total_zero (ranks dims) (λ d. length (flow dims sent s d 1 (2 * n)))
       (λ d to.
-      let x : (x : RankState S) × (slice_get rs s ≡ Some x) = find rs s (omega (arith, from, w.all)) in
-      let has : HasRank R dims cap steady s (h s) x.0 sent got = w.each s x.0 x.1 in
+      let x : (x : RankState S) × (slice_get rs s ≡ Some x) = find rs s (omega (arith, from, w.ranked.all)) in
+      let has : HasRank R dims cap steady s (h s) x.0 sent got = w.ranked.each s x.0 x.1 in
       let i : Core R dims s (h s) x.0 sent got = core R dims cap steady s (h s) x.0 sent got has in
-      let a = flow_pushed dims x.0.node.conveyor sent got s d (2 * n) w.grid has.same_dims has.same_rank from to in
+      let a = flow_pushed dims x.0.node.conveyor sent got s d (2 * n) w.ranked.grid has.same_dims has.same_rank from to in
       let e = (i.is.passed.ahead (2 * n) d (epoch_low s x.0 x.1)).0 in
       omega (arith, a, ap length e))) where
         epoch_low : (s : ℕ) (x : RankState S) → slice_get rs s ≡ Some x → x.node.conveyor.epoch < 2 * n
         epoch_low s x at = elim (cases_Bool x.over) [
-          | inl t ↦ let e = (over_at_last R laws law dims cap slots steady starts h rs sent got w shape most n start rounds s x at t).0 in omega (arith, e)
-          | inr f ↦ still_within R laws law dims cap slots steady starts h rs sent got w shape most n start rounds s x at f
+          | inl t ↦ let e = (over_at_last R laws law dims cap slots steady starts h rs sent got w.ranked shape most n start rounds s x at t).0 in omega (arith, e)
+          | inr f ↦ still_within R laws law dims cap slots steady starts h rs sent got w.ranked shape most n start rounds s x at f
         ]

@@ -1,9 +1,9 @@
 -- What the tests of the drive begin with.
-use Rattle.std.proofs.Common.{◌≡◌, ℕ, suc, ◌+◌, ◌-◌, ◌<◌, ◌≤◌, Bool, true, false, cond, List, [], ◌∷◌, ◌++◌, length, length-append, slice_get, Some, All, refl, sym, ap, subst, ◌∙◌, arith, inl, inr}
-use Rattle.std.proofs.lemmas.Bool.{cases_Bool, cases_lt}
+use Rattle.std.proofs.Common.{◌≡◌, ℕ, ◌+◌, ◌-◌, ◌<◌, Bool, true, false, cond, List, [], ◌∷◌, ◌++◌, length, length-append, slice_get, Some, All, refl, sym, ap, subst, ◌∙◌, arith, inl, inr}
+use Rattle.std.proofs.lemmas.Bool.{cases_lt}
 use Rattle.list_laws.proofs.Lists.{within, get_once, get_last, get_before, all_from_gets}
 use Rattle.round_program.specs.Canonical.{Member, InRound, EndsWithin}
-use Rattle.round_examples.specs.Counts.{CountState, IsCount, count_rules}
+use Rattle.round_examples.specs.Counts.{CountState, count_rules}
 use Rattle.rank_group.specs.Ranks.{IsOrder}
 
 abbrev pub turned_at : Bool → ℕ → ℕ → ℕ

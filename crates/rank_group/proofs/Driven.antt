@@ -1,18 +1,16 @@
 -- All sweeps of a run.
-use Rattle.std.proofs.Common.{◌≡◌, ℕ, zero, suc, ◌+◌, ◌-◌, ◌*◌, ◌<◌, ◌≤◌, ◌&&◌, Bool, true, false, cond, List, [], ◌∷◌, length, map, Some, slice_get, refl, sym, ap, subst, ◌∙◌, arith, inl, inr}
+use Rattle.std.proofs.Common.{◌≡◌, ℕ, zero, suc, ◌+◌, ◌-◌, ◌*◌, ◌<◌, ◌≤◌, ◌&&◌, Bool, true, false, cond, List, [], ◌∷◌, length, Some, slice_get, refl, sym, ap, subst, ◌∙◌, arith, inl, inr}
 use Rattle.std.proofs.lemmas.Bool.{cases_Bool, cases_lt, true≢false, and_parts}
 use Rattle.std.proofs.Math.Nat.{mul-le-mul_left}
 use Rattle.std.specs.List.{list_all}
 use Rattle.list_laws.proofs.Lists.{find, within, get_once}
 use Rattle.route_tensor.specs.Grid.{ranks}
-use Rattle.route_tensor.specs.Link.{links}
 use Rattle.port_bank.specs.Logs.{Logs}
 use Rattle.port_bank.specs.Plain.{Bank, IsBank, sent_of, got_of}
 use Rattle.convey.specs.Law.{ClosesLaw}
 use Rattle.convey.specs.Rest.{RestLaw}
 use Rattle.round_program.specs.Rules.{Rules}
 use Rattle.round_program.specs.Laws.{Laws}
-use Rattle.round_program.specs.Canonical.{InRound}
 use Rattle.rank_group.specs.Told.{turns_within}
 use Rattle.rank_group.specs.Ranks.{RankState, IsOrder, progress}
 use Rattle.rank_group.proofs.Worlds.{still_within, over_at_last}
@@ -66,11 +64,11 @@ module _ {S : Type 0} (R : Rules S) (laws : Laws R) (law : ClosesLaw) (rest : Re
             elim (cases_Bool x.over) [
               | inl t ↦
                   let p : progress x ≡ x.node.conveyor.epoch + 1 = ap (λ b. cond b (x.node.conveyor.epoch + 1) x.node.conveyor.epoch) t in
-                  let b = (over_at_last R laws law dims cap slots steady starts h rs sent got w plan.shape plan.most n plan.start plan.rounds 0 x at t).0 in
+                  let b = (over_at_last R laws law dims cap slots steady starts h rs sent got w.ranked plan.shape plan.most n plan.start plan.rounds 0 x at t).0 in
                   omega (arith, a, p, b)
               | inr f ↦
                   let p : progress x ≡ x.node.conveyor.epoch = ap (λ b. cond b (x.node.conveyor.epoch + 1) x.node.conveyor.epoch) f in
-                  let b = still_within R laws law dims cap slots steady starts h rs sent got w plan.shape plan.most n plan.start plan.rounds 0 x at f in
+                  let b = still_within R laws law dims cap slots steady starts h rs sent got w.ranked plan.shape plan.most n plan.start plan.rounds 0 x at f in
                   omega (arith, a, p, b)
             ]
 
@@ -81,7 +79,7 @@ module _ {S : Type 0} (R : Rules S) (laws : Laws R) (law : ClosesLaw) (rest : Re
       let a = least_low rs on.rank on.state on.at in
       let x = on.state in
       let p : progress x ≡ x.node.conveyor.epoch = ap (λ b. cond b (x.node.conveyor.epoch + 1) x.node.conveyor.epoch) on.still in
-      let b = still_within R laws law dims cap slots steady starts h rs sent got w plan.shape plan.most n plan.start plan.rounds on.rank x on.at on.still in
+      let b = still_within R laws law dims cap slots steady starts h rs sent got w.ranked plan.shape plan.most n plan.start plan.rounds on.rank x on.at on.still in
       omega (arith, m, a, p, b)
 
   -- so the turns are bounded
@@ -103,10 +101,10 @@ module _ {S : Type 0} (R : Rules S) (laws : Laws R) (law : ClosesLaw) (rest : Re
   module _ (order : List ℕ) (is : IsOrder (ranks dims) order) (h : ℕ → ℕ → S) (rs rs' : List (RankState S)) (sent got sent' got' : Logs)
       (w : World R dims cap slots steady starts h rs sent got) (on : GoesOn rs) (s : SweptTo R dims cap slots steady starts order (length order) rs sent got rs' sent' got') where
     before : (r : ℕ) (x : RankState S) → slice_get rs' r ≡ Some x → (y : RankState S) × (slice_get rs r ≡ Some y)
-    before r x at = find rs r (omega (arith, within rs' r x at, s.world.all, w.all))
+    before r x at = find rs r (omega (arith, within rs' r x at, s.world.ranked.all, w.ranked.all))
 
     some : 0 < length rs'
-    some = omega (arith, within rs on.rank on.state on.at, s.world.all, w.all)
+    some = omega (arith, within rs on.rank on.state on.at, s.world.ranked.all, w.ranked.all)
 
     -- the least epoch doesn't fall
     kept : (r : ℕ) (x : RankState S) → slice_get rs' r ≡ Some x → least rs ≤ progress x
@@ -127,7 +125,7 @@ module _ {S : Type 0} (R : Rules S) (laws : Laws R) (law : ClosesLaw) (rest : Re
               let x = on.state in
               let a = least_low rs on.rank x on.at in
               let p : progress x ≡ x.node.conveyor.epoch = ap (λ b. cond b (x.node.conveyor.epoch + 1) x.node.conveyor.epoch) on.still in
-              let b = still_within R laws law dims cap slots steady starts h rs sent got w plan.shape plan.most n plan.start plan.rounds on.rank x on.at on.still in
+              let b = still_within R laws law dims cap slots steady starts h rs sent got w.ranked plan.shape plan.most n plan.start plan.rounds on.rank x on.at on.still in
               let past = all_past R laws law rest dims cap slots steady starts s.h rs' sent' got' s.world plan.shape plan.most n plan.start plan.rounds plan.some (least rs) (omega (arith, a, p, b)) kept (rested light) in
               let up = least_high rs' (least rs + 1) some past in
               let g = s.grown in
@@ -138,7 +136,7 @@ module _ {S : Type 0} (R : Rules S) (laws : Laws R) (law : ClosesLaw) (rest : Re
               let y = before r x at in
               let a = least_low rs r y.0 y.1 in
               let b = s.forward r y.0 x y.1 at in
-              let place = is.each r (omega (arith, within rs' r x at, s.world.all)) in
+              let place = is.each r (omega (arith, within rs' r x at, s.world.ranked.all)) in
               s.rests light place.0 r (within order place.0 r place.1) place.1 y.0 x y.1 at over (omega (arith, a, b, here))
 
     pub count_more : (steps0 steps steps' : ℕ) → steps ≤ steps0 + ranks dims * (moves dims rs sent got + least rs) → steps' ≤ steps + length order
@@ -215,7 +213,7 @@ module _ {S : Type 0} (R : Rules S) (cap : ℕ) (rs0 : List (RankState S)) (b0 :
         let s = swept_at steady (progs_of rs0) n r.h p r.world in
         let m = more R laws law rest b0.dims cap b0.slots steady (progs_of rs0) n p order is r.h rs rs' (sent_of b) (got_of b) (sent_of b') (got_of b') r.world on s in
         let l = low R laws law rest b0.dims cap b0.slots steady (progs_of rs0) n p s.h rs' (sent_of b') (got_of b') s.world in
-        let some : 0 < length rs0 = omega (arith, within rs on.rank on.state on.at, r.world.all, w0.all) in
+        let some : 0 < length rs0 = omega (arith, within rs on.rank on.state on.at, r.world.ranked.all, w0.ranked.all) in
         let top = sweeps_more R b0.dims (progs_of rs0) n (most_of R (progs_of rs0)) (omega (arith, few, first rs0 refl some)) in
         omega (arith, m, l, top) where
           first : (xs : List (RankState S)) → rs0 ≡ xs → 0 < length xs → most_of R (progs_of xs) ≡ p.most

@@ -1,12 +1,11 @@
 -- A drive's beginning and its end.
-use Rattle.std.proofs.Common.{◌≡◌, ℕ, zero, suc, ◌+◌, ◌*◌, ◌^◌, ◌<◌, ◌≤◌, ◌==◌, Bool, true, false, cond, List, [], ◌∷◌, length, map, get_or, slice_get, Option, Some, None, All, refl, sym, ap, subst, ◌∙◌, arith}
+use Rattle.std.proofs.Common.{◌≡◌, ℕ, zero, suc, ◌+◌, ◌<◌, ◌≤◌, Bool, true, false, List, [], ◌∷◌, length, map, get_or, slice_get, Option, Some, None, refl, sym, ap, subst, ◌∙◌, arith}
 use Rattle.std.proofs.lemmas.Bool.{true≢false}
 use Rattle.std.proofs.lemmas.List.{length-map}
 use Rattle.std.proofs.lemmas.Option.{get_or_from_slice_get}
 use Rattle.item_buffer.specs.Contents.{Shipped}
-use Rattle.list_laws.proofs.Lists.{find, within, get_map, got_map, same_reads}
-use Rattle.route_tensor.specs.Grid.{ranks, IsGrid}
-use Rattle.route_tensor.specs.Link.{links}
+use Rattle.list_laws.proofs.Lists.{find, get_map, got_map, same_reads}
+use Rattle.route_tensor.specs.Grid.{ranks}
 use Rattle.route_tensor.specs.Ends.{reader_at}
 use Rattle.port_bank.specs.Logs.{Logs, starting_at, ending_at}
 use Rattle.port_bank.specs.Plain.{Bank, Channel, unused, IsBank, sent_of, got_of, empty_bank, closed}
@@ -21,14 +20,14 @@ use Rattle.round_program.specs.Laws.{Laws}
 use Rattle.round_program.specs.Canonical.{HasRounds, InRound, EndsWithin, HaveEnded, states_at}
 use Rattle.round_program.proofs.Members.{in_round_at, rounds_once}
 use Rattle.rank_group.specs.Nodes.{IsNode}
-use Rattle.rank_group.specs.Ranks.{RankState, HasRank}
+use Rattle.rank_group.specs.Ranks.{RankState, AllRanks}
 use Rattle.rank_group.specs.Told.{TellsRun, turns_within}
 use Rattle.route_tensor.proofs.Coordinates.{ranks_some}
 use Rattle.rank_group.proofs.Orders.{lawful}
 use Rattle.rank_group.proofs.Telling.{tells_run}
 use Rattle.rank_group.proofs.Worlds.{over_at_last}
-use Rattle.rank_group.specs.Worlds.{World, Plan, inbox, entries_of, conveyor_in}
-use Rattle.rank_group.specs.Drives.{progs_of, IsFresh, AreFresh}
+use Rattle.rank_group.specs.Worlds.{World, Plan, inbox, conveyor_in}
+use Rattle.rank_group.specs.Drives.{progs_of, AreFresh}
 
 -- all ranks as a drive begins, over its bank
 pub record Begun {S : Type 0} (R : Rules S) (cap : ℕ) (steady : Bool) (starts : List S) (n : ℕ) (rs : List (RankState S)) (b : Bank) : Type 0 where
@@ -58,27 +57,29 @@ begun {S} R laws cap dims slots steady starts shape most n rs fresh some is star
       plan = record { shape = shape; most = most; start = start; rounds = rounds; few = (let a = laws.most_below first.0 member.valid in omega (arith, a, member.same_most, low)); some = slots_some slots is.counts };
       few = low;
       world = record {
-        grid = is.grid;
-        links_keep = law.links_keep;
+        ranked = record {
+          grid = is.grid;
+          links_keep = law.links_keep;
+          all = size;
+          each = λ r x at.
+              let f = fresh.each r x at in
+              let prog : slice_get starts r ≡ Some x.node.run.prog = ap (λ ps. slice_get ps r) (sym fresh.programs) ∙ get_map (λ (n : RankState S). n.node.run.prog) rs r x at in
+              let same : x.node.run.prog ≡ get_or starts r first.0 = sym (get_or_from_slice_get starts r x.node.run.prog first.0 prog) in
+              record {
+                same_dims = f.same_dims;
+                same_rank = f.same_rank;
+                same_steady = f.same_steady;
+                runs = λ on. subst (λ s. IsNode R (λ m. s) x.node (starting_at dims r (sent_of b)) (ending_at dims r (got_of b))) same
+                    (subst (λ (a : Logs). IsNode R (λ m. x.node.run.prog) x.node a (ending_at dims r (got_of b))) (sym (no_sent r)) (subst (λ (a : Logs). IsNode R (λ m. x.node.run.prog) x.node (λ l. []) a) (sym (no_got r)) f.node));
+                stopped = λ over. absurd (true≢false (sym over ∙ f.on));
+                shape = λ l. subst (λ (a : Logs). IsConveyorShape steady cap (a l)) (sym (no_sent r)) (λ i d below. absurd (omega (arith, below)));
+              };
+          begins = λ r s at. get_or_from_slice_get starts r s first.0 at;
+        };
         none_past = law.none_past;
         relays = law.relays;
         some = some;
         inboxes = λ l below. omega (arith, unread l);
-        all = size;
-        each = λ r x at.
-            let f = fresh.each r x at in
-            let prog : slice_get starts r ≡ Some x.node.run.prog = ap (λ ps. slice_get ps r) (sym fresh.programs) ∙ get_map (λ (n : RankState S). n.node.run.prog) rs r x at in
-            let same : x.node.run.prog ≡ get_or starts r first.0 = sym (get_or_from_slice_get starts r x.node.run.prog first.0 prog) in
-            record {
-              same_dims = f.same_dims;
-              same_rank = f.same_rank;
-              same_steady = f.same_steady;
-              runs = λ on. subst (λ s. IsNode R (λ m. s) x.node (starting_at dims r (sent_of b)) (ending_at dims r (got_of b))) same
-                  (subst (λ (a : Logs). IsNode R (λ m. x.node.run.prog) x.node a (ending_at dims r (got_of b))) (sym (no_sent r)) (subst (λ (a : Logs). IsNode R (λ m. x.node.run.prog) x.node (λ l. []) a) (sym (no_got r)) f.node));
-              stopped = λ over. absurd (true≢false (sym over ∙ f.on));
-              shape = λ l. subst (λ (a : Logs). IsConveyorShape steady cap (a l)) (sym (no_sent r)) (λ i d below. absurd (omega (arith, below)));
-            };
-        begins = λ r s at. get_or_from_slice_get starts r s first.0 at;
       };
     } where
       unread : (l : ℕ) → inbox dims rs l ≡ 0
@@ -119,22 +120,23 @@ logs_map f [] e l = sym e
 logs_map f (c ∷ channels) e zero = refl
 logs_map f (c ∷ channels) e (suc l) = logs_map f channels e l
 
-module _ {S : Type 0} (R : Rules S) (laws : Laws R) (law : ClosesLaw) (cap : ℕ) (dims : List ℕ) (slots : ℕ) (steady : Bool) (starts : List S) (h : ℕ → ℕ → S) (rs : List (RankState S)) (b : Bank)
-    (ed : b.dims ≡ dims) (es : b.slots ≡ slots) (w : World R dims cap slots steady starts h rs (sent_of b) (got_of b)) (over : (r : ℕ) (x : RankState S) → slice_get rs r ≡ Some x → x.over ≡ true)
-    (shape : List ℕ) (most n : ℕ) (start : InRound R (ranks dims) 0 shape most starts) (rounds : HasRounds R starts n) where
-  -- the programs are those of the canonical run's end
-  pub have_ended : (ends : List S) → ends ≡ progs_of rs → HaveEnded R starts ends
-  have_ended ends is =
-      record {
-        rounds = n;
-        has_rounds = rounds;
-        states = is ∙ same_reads (progs_of rs) (states_at R starts n)
-            (length-map rs (λ (n : RankState S). n.node.run.prog) ∙ (w.all ∙ sym (in_round_at R laws (ranks dims) shape most starts n start).size))
-            (λ r s at.
-            let x = got_map (λ (n : RankState S). n.node.run.prog) rs r s at in
-            (over_at_last R laws law dims cap slots steady starts h rs (sent_of b) (got_of b) w shape most n start rounds r x.0 x.1 (over r x.0 x.1)).1 ∙ ap Some x.2);
-      }
+-- the programs of ranks whose runs are over are those of the canonical run's end
+pub have_ended : {S : Type 0} (R : Rules S) → Laws R → ClosesLaw → (cap : ℕ) (dims : List ℕ) (slots : ℕ) (steady : Bool) (starts : List S) (h : ℕ → ℕ → S) (rs : List (RankState S)) (sent got : Logs) → AllRanks R dims cap slots steady starts h rs sent got
+    → ((r : ℕ) (x : RankState S) → slice_get rs r ≡ Some x → x.over ≡ true) → (shape : List ℕ) (most n : ℕ) → InRound R (ranks dims) 0 shape most starts → HasRounds R starts n → (ends : List S) → ends ≡ progs_of rs → HaveEnded R starts ends
+have_ended {S} R laws law cap dims slots steady starts h rs sent got w over shape most n start rounds ends is =
+    record {
+      rounds = n;
+      has_rounds = rounds;
+      states = is ∙ same_reads (progs_of rs) (states_at R starts n)
+          (length-map rs (λ (n : RankState S). n.node.run.prog) ∙ (w.all ∙ sym (in_round_at R laws (ranks dims) shape most starts n start).size))
+          (λ r s at.
+          let x = got_map (λ (n : RankState S). n.node.run.prog) rs r s at in
+          (over_at_last R laws law dims cap slots steady starts h rs sent got w shape most n start rounds r x.0 x.1 (over r x.0 x.1)).1 ∙ ap Some x.2);
+    }
 
+module _ {S : Type 0} (R : Rules S) (laws : Laws R) (law : ClosesLaw) (cap : ℕ) (dims : List ℕ) (slots : ℕ) (steady : Bool) (starts : List S) (h : ℕ → ℕ → S) (rs : List (RankState S)) (b : Bank)
+    (ed : b.dims ≡ dims) (es : b.slots ≡ slots) (w : AllRanks R dims cap slots steady starts h rs (sent_of b) (got_of b)) (over : (r : ℕ) (x : RankState S) → slice_get rs r ≡ Some x → x.over ≡ true)
+    (shape : List ℕ) (most n : ℕ) (start : InRound R (ranks dims) 0 shape most starts) (rounds : HasRounds R starts n) where
   -- and the closed bank tells the run
   pub told : (round : Round) → round ≡ closed cap b → IsRound round → TellsRun R starts n (record { dims = dims; cap = cap; slots = slots; by_slots = false }) steady round
   told round is in_order =
@@ -147,6 +149,6 @@ module _ {S : Type 0} (R : Rules S) (laws : Laws R) (law : ClosesLaw) (cap : ℕ
         got : ◌≡◌ {A = Logs} (got_of b) (logs_of (map (λ c. c.got) b.channels))
         got = λ i l. sym (logs_map (λ c. c.got) b.channels refl l) i
 
-        world : World R b.dims cap slots steady starts h rs (logs_of (map (λ c. c.sent) b.channels)) (logs_of (map (λ c. c.got) b.channels))
-        world = subst (λ ds. World R ds cap slots steady starts h rs (logs_of (map (λ c. c.sent) b.channels)) (logs_of (map (λ c. c.got) b.channels))) (sym ed)
-            (subst (λ (f : Logs). World R dims cap slots steady starts h rs f (logs_of (map (λ c. c.got) b.channels))) sent (subst (λ (f : Logs). World R dims cap slots steady starts h rs (sent_of b) f) got w))
+        world : AllRanks R b.dims cap slots steady starts h rs (logs_of (map (λ c. c.sent) b.channels)) (logs_of (map (λ c. c.got) b.channels))
+        world = subst (λ ds. AllRanks R ds cap slots steady starts h rs (logs_of (map (λ c. c.sent) b.channels)) (logs_of (map (λ c. c.got) b.channels))) (sym ed)
+            (subst (λ (f : Logs). AllRanks R dims cap slots steady starts h rs f (logs_of (map (λ c. c.got) b.channels))) sent (subst (λ (f : Logs). AllRanks R dims cap slots steady starts h rs (sent_of b) f) got w))

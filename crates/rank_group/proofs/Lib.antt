@@ -11,6 +11,11 @@ pub mod Begun
 pub mod Fresh
 pub mod Between
 pub mod Onward
+pub mod OneTurn
+pub mod OnWay
+pub mod Joining
+pub mod Places
+pub mod Threaded
 pub mod Ranked
 pub mod Worlds
 pub mod Pushed

@@ -1,5 +1,5 @@
 -- The ranks of a drive are made, and taken apart.
-use Rattle.std.proofs.Common.{◌≡◌, ℕ, zero, suc, ◌+◌, ◌<◌, ◌≤◌, ◌==◌, Bool, true, false, cond, List, [], ◌∷◌, ◌++◌, length, length-append, drop, map, slice_get, Some, None, refl, sym, ap, subst, ◌∙◌, arith, inl, inr}
+use Rattle.std.proofs.Common.{◌≡◌, ℕ, ◌+◌, Bool, false, List, [], ◌∷◌, ◌++◌, length, length-append, drop, slice_get, Some, None, refl, sym, ap, subst, ◌∙◌, arith, inl, inr}
 use Rattle.std.proofs.lemmas.Bool.{cases_lt}
 use Rattle.std.proofs.lemmas.List.{map-append, length-map, append-nil}
 use Rattle.list_laws.proofs.Lists.{within, get_once, get_last, get_before}
@@ -42,15 +42,16 @@ module _ {S : Type 0} (R : Rules S) (dims : List ℕ) (steady : Bool) (starts re
       ∙ (ap (slice_get (progs_of rs ++ q ∷ drop 1 rest)) (sym (length-map rs (λ (n : RankState S). n.node.run.prog))) ∙ at_end (progs_of rs) (drop 1 rest) q)
 
   pub making_more : (p : ℕ) (shape : List ℕ) (most : ℕ) (rest' : List S) (rs' : List (RankState S)) (q : S) (n : NodeState S) → InRound R p 0 shape most starts → slice_get rest 0 ≡ Some q → rest' ≡ drop 1 rest
-      → rs' ≡ rs ++ record { node = n; over = false } ∷ [] → IsNode R (λ m. q) n (λ l. []) (λ l. []) → n.run.prog ≡ q → n.conveyor.dims ≡ dims → n.conveyor.rank ≡ R.rank q → n.conveyor.steady ≡ steady
+      → rs' ≡ rs ++ record { node = n; over = false } ∷ [] → IsNode R (λ m. q) n (λ l. []) (λ l. []) → n.run.prog ≡ q → n.conveyor.dims ≡ dims → n.conveyor.rank ≡ R.rank q → n.conveyor.steady ≡ steady → n.conveyor.epoch ≡ 0
       → ((l : ℕ) → (in_of n.conveyor l).parcel.untaken ≡ []) → Making R dims steady starts rest' rs'
-  making_more p shape most rest' rs' q n all at gone more node np nd nr ns unread =
+  making_more p shape most rest' rs' q n all at gone more node np nd nr ns epoch unread =
       let x : RankState S = record { node = n; over = false } in
       let made : IsFresh R dims steady (length rs) x = record {
         on = refl;
         same_dims = nd;
         same_rank = nr ∙ (all.each (length rs) q (next_prog q at)).own_rank;
         same_steady = ns;
+        epoch = epoch;
         node = subst (λ (s : S). IsNode R (λ m. s) n (λ l. []) (λ l. [])) (sym np) node;
         unread = unread;
       } in

@@ -56,15 +56,15 @@ module _ {S : Type 0} (R : Rules S) (laws : Laws R) (law : ClosesLaw) (dims : Li
     (shape : List ℕ) (most n : ℕ) (start : InRound R (ranks dims) 0 shape most starts) (rounds : HasRounds R starts n) where
   epoch_low : (s : ℕ) (x : RankState S) → slice_get rs s ≡ Some x → x.node.conveyor.epoch < 2 * n
   epoch_low s x at = elim (cases_Bool x.over) [
-    | inl t ↦ let e = (over_at_last R laws law dims cap slots steady starts h rs sent got w shape most n start rounds s x at t).0 in omega (arith, e)
-    | inr f ↦ still_within R laws law dims cap slots steady starts h rs sent got w shape most n start rounds s x at f
+    | inl t ↦ let e = (over_at_last R laws law dims cap slots steady starts h rs sent got w.ranked shape most n start rounds s x at t).0 in omega (arith, e)
+    | inr f ↦ still_within R laws law dims cap slots steady starts h rs sent got w.ranked shape most n start rounds s x at f
   ]
 
   keeps : Keeps dims sent got
-  keeps = record { grid = w.grid; fronts = λ l below. (w.links_keep l below).begins; relays = w.relays }
+  keeps = record { grid = w.ranked.grid; fronts = λ l below. (w.ranked.links_keep l below).begins; relays = w.relays }
 
   fair : (l : ℕ) → l < links dims → All (HasFairTags dims (hop_at dims l)) (sent l)
-  fair l below = let k = numbered dims l w.grid below in (w.relays (sender_at dims l) k.is_link.sender).fair l below refl
+  fair l below = let k = numbered dims l w.ranked.grid below in (w.relays (sender_at dims l) k.is_link.sender).fair l below refl
 
   fair_in : (e l : ℕ) → l < links dims → All (λ (x : Entry). IsFair dims (hop_at dims l) x.tag) (entries_of (segment e (sent l)))
   fair_in e l below = all_flat (λ (x : Entry). IsFair dims (hop_at dims l) x.tag) (λ (p : Shipped). p.entries) (segment e (sent l)) (all_segment (HasFairTags dims (hop_at dims l)) e (sent l) (fair l below))
@@ -72,11 +72,11 @@ module _ {S : Type 0} (R : Rules S) (laws : Laws R) (law : ClosesLaw) (dims : Li
   -- a link ends at most two epochs a round
   lasts_few : (l : ℕ) → l < links dims → lasts (sent l) ≤ 2 * n
   lasts_few l below =
-      let k = numbered dims l w.grid below in
+      let k = numbered dims l w.ranked.grid below in
       let s : ℕ = sender_at dims l in
       let from : s < ranks dims = k.is_link.sender in
-      let x : (x : RankState S) × (slice_get rs s ≡ Some x) = find rs s (omega (arith, from, w.all)) in
-      let has : HasRank R dims cap steady s (h s) x.0 sent got = w.each s x.0 x.1 in
+      let x : (x : RankState S) × (slice_get rs s ≡ Some x) = find rs s (omega (arith, from, w.ranked.all)) in
+      let has : HasRank R dims cap steady s (h s) x.0 sent got = w.ranked.each s x.0 x.1 in
       let i : Core R dims s (h s) x.0 sent got = core R dims cap steady s (h s) x.0 sent got has in
       let out = i.is.moving.agrees.outs l (subst (λ ds. l < links ds) (sym has.same_dims) below) (ap (λ ds. sender_at ds l) has.same_dims ∙ sym has.same_rank) in
       let own : starting_at dims s sent l ≡ sent l = starting-own dims s sent l refl in
@@ -111,11 +111,11 @@ module _ {S : Type 0} (R : Rules S) (laws : Laws R) (law : ClosesLaw) (dims : Li
       omega (arith, a, b, c, d, sent_all) where
         one : (l : ℕ) → l < links dims → move_of dims rs sent got l ≤ 3 * length (entries_of (sent l)) + 4 * n
         one l below =
-            let front : Begins (got l) (sent l) = (w.links_keep l below).begins in
+            let front : Begins (got l) (sent l) = (w.ranked.links_keep l below).begins in
             let g = begins_shorter (got l) (sent l) front in
             let e = begins_shorter (entries_of (got l)) (entries_of (sent l)) (begins_flat_map (λ (p : Shipped). p.entries) (got l) (sent l) front) in
-            let k = numbered dims l w.grid below in
-            let x : (x : RankState S) × (slice_get rs (sender_at dims l) ≡ Some x) = find rs (sender_at dims l) (let from = k.is_link.sender in omega (arith, from, w.all)) in
-            let s = log_short steady cap (sent l) w.some (subst (IsConveyorShape steady cap) (starting-own dims (sender_at dims l) sent l refl) ((w.each (sender_at dims l) x.0 x.1).shape l)) in
+            let k = numbered dims l w.ranked.grid below in
+            let x : (x : RankState S) × (slice_get rs (sender_at dims l) ≡ Some x) = find rs (sender_at dims l) (let from = k.is_link.sender in omega (arith, from, w.ranked.all)) in
+            let s = log_short steady cap (sent l) w.some (subst (IsConveyorShape steady cap) (starting-own dims (sender_at dims l) sent l refl) ((w.ranked.each (sender_at dims l) x.0 x.1).shape l)) in
             let f = lasts_few l below in
             omega (arith, g, e, s, f)

@@ -39,8 +39,8 @@ pub swept_more : {S : Type 0} (R : Rules S) (dims : List ℕ) (cap slots : ℕ) 
     → SweptTo R dims cap slots steady starts order i rs0 sent0 got0 rs sent got → SweptTo R dims cap slots steady starts order (i + 1) rs0 sent0 got0 rs' sent' got'
 swept_more {S} R dims cap slots steady starts order i r rs0 rs rs' sent0 got0 sent got sent' got' here low size others law turned v =
     let w = v.world in
-    let n : (n : RankState S) × (slice_get rs r ≡ Some n) = find rs r (omega (arith, low, w.all)) in
-    let n' : (n' : RankState S) × (slice_get rs' r ≡ Some n') = find rs' r (omega (arith, low, w.all, size)) in
+    let n : (n : RankState S) × (slice_get rs r ≡ Some n) = find rs r (omega (arith, low, w.ranked.all)) in
+    let n' : (n' : RankState S) × (slice_get rs' r ≡ Some n') = find rs' r (omega (arith, low, w.ranked.all, size)) in
     let t : AfterRank R dims cap slots r n.0 n'.0 sent got sent' got' = turned n.0 n'.0 n.1 n'.1 in
     let on = world_on R dims cap slots steady starts v.h r n.0 n'.0 rs rs' sent got sent' got' w n.1 n'.1 others size t law in
     let more = moves_on R dims cap slots steady starts v.h r n.0 n'.0 rs rs' sent got sent' got' w n.1 n'.1 others size t law in

@@ -1,5 +1,5 @@
 -- How many sweeps a run takes.
-use Rattle.std.proofs.Common.{◌≡◌, ℕ, zero, suc, ◌+◌, ◌-◌, ◌*◌, ◌<◌, ◌≤◌, Bool, true, false, cond, min, List, [], ◌∷◌, length, Some, slice_get, refl, sym, ap, arith, inl, inr}
+use Rattle.std.proofs.Common.{◌≡◌, ℕ, zero, suc, ◌+◌, ◌*◌, ◌<◌, ◌≤◌, min, List, [], ◌∷◌, length, Some, slice_get, refl, ap, arith, inl, inr}
 use Rattle.std.proofs.lemmas.Bool.{cases_lt}
 use Rattle.std.proofs.Math.Nat.{mul-le-mul_left}
 use Rattle.list_laws.proofs.Lists.{within, get_once}
@@ -7,7 +7,7 @@ use Rattle.route_tensor.specs.Grid.{ranks}
 use Rattle.route_tensor.specs.Link.{links}
 use Rattle.round_program.specs.Rules.{Rules}
 use Rattle.round_program.specs.Canonical.{items_at}
-use Rattle.rank_group.specs.Told.{turns_of, turns_within}
+use Rattle.rank_group.specs.Told.{turns_within}
 use Rattle.rank_group.specs.Ranks.{RankState, progress}
 use Rattle.rank_group.proofs.Pushed.{items_before}
 

@@ -17,12 +17,10 @@ use Rattle.convey.specs.Buffers.{in_of}
 use Rattle.round_program.specs.Rules.{Rules}
 use Rattle.rank_group.specs.declared.turn.Turn.{Turn}
 use Rattle.rank_group.specs.declared.turn.Turn.TheVariants.{Going, Ended}
-use Rattle.rank_group.specs.Sending.{is_voting}
 use Rattle.rank_group.specs.Nodes.{NodeState, IsNode}
 use Rattle.rank_group.specs.Stuck.{IsStuck}
-use Rattle.rank_group.specs.Next.{extended, HasStopped}
 use Rattle.rank_group.specs.Ranks.{RankState, HasRank, AfterTurn, AfterRank, progress}
-use Rattle.rank_group.proofs.Between.{extended_before}
+use Rattle.rank_group.proofs.OneTurn.{OneTurn, NextTold, stays_in, goes_on}
 
 -- what a turn tells over the port of rank r of a bank, where the port after it is that of rank r' of another
 pub record PortTurn {S : Type 0} (R : Rules S) (cap : ℕ) (turn : Turn) (n n' : NodeState S) (b : Bank) (r : ℕ) (b' : Bank) (r' : ℕ) : Type 0 where
@@ -84,15 +82,9 @@ module _ {S : Type 0} (R : Rules S) (dims : List ℕ) (cap slots r : ℕ) where
         left = λ steady h is still. absurd (true≢false (sym over ∙ still));
       }
 
-  -- a rank that was turned
-  turned_runs : (steady : Bool) (h : ℕ → S) (turn : Turn) (n : RankState S) (n' : NodeState S) (sent got sent' got' : Logs) → n.over ≡ false → AfterTurn R dims cap slots r turn n.node n' sent got sent' got'
-      → HasRank R dims cap steady r h n sent got → IsNode R h n' (starting_at dims r sent') (ending_at dims r got')
-  turned_runs steady h turn n n' sent got sent' got' on t is = t.kept h (is.runs on)
-
-  turned_shape : (steady : Bool) (h : ℕ → S) (turn : Turn) (n : RankState S) (n' : NodeState S) (sent got sent' got' : Logs) → AfterTurn R dims cap slots r turn n.node n' sent got sent' got'
-      → HasRank R dims cap steady r h n sent got → (l : ℕ) → IsConveyorShape steady cap (starting_at dims r sent' l)
-  turned_shape steady h turn n n' sent got sent' got' t is l =
-      subst (λ b. IsConveyorShape b cap (starting_at dims r sent' l)) is.same_steady (t.shape l (subst (λ b. IsConveyorShape b cap (starting_at dims r sent l)) (sym is.same_steady) (is.shape l)))
+  -- a turn is one over the rank's own logs
+  own_turn : (turn : Turn) (n n' : NodeState S) (sent got sent' got' : Logs) → AfterTurn R dims cap slots r turn n n' sent got sent' got' → OneTurn R cap n n' (starting_at dims r sent) (ending_at dims r got) (starting_at dims r sent') (ending_at dims r got')
+  own_turn turn n n' sent got sent' got' t = record { dims = t.node_dims; rank = t.node_rank; steady = t.node_steady; shape = t.shape; kept = t.kept }
 
   pub rank_going : (n : RankState S) (n' : NodeState S) (over : Bool) (sent got sent' got' : Logs) → n.over ≡ false → over ≡ false → AfterTurn R dims cap slots r Going n.node n' sent got sent' got'
       → AfterRank R dims cap slots r n (record { node = n'; over = over }) sent got sent' got'
@@ -106,32 +98,9 @@ module _ {S : Type 0} (R : Rules S) (dims : List ℕ) (cap slots r : ℕ) where
         forward = let a : progress n ≡ n.node.conveyor.epoch = ap (λ b. cond b (n.node.conveyor.epoch + 1) n.node.conveyor.epoch) on in
             let b : cond over (n'.conveyor.epoch + 1) n'.conveyor.epoch ≡ n'.conveyor.epoch = ap (λ b. cond b (n'.conveyor.epoch + 1) n'.conveyor.epoch) still in
             omega (arith, a, b, t.node_epoch);
-        kept = λ steady h is. (
-          h,
-          refl,
-          record {
-            same_dims = t.node_dims ∙ is.same_dims;
-            same_rank = t.node_rank ∙ is.same_rank;
-            same_steady = t.node_steady ∙ is.same_steady;
-            runs = λ e. turned_runs steady h Going n n' sent got sent' got' on t is;
-            stopped = λ e. absurd (true≢false (sym e ∙ still));
-            shape = turned_shape steady h Going n n' sent got sent' got' t is;
-          },
-        );
+        kept = λ steady h is. (h, refl, stays_in R dims cap r steady h n n' _ _ _ _ is on (own_turn Going n.node n' sent got sent' got' t) over still);
         left = λ steady h is e same s g. record { stuck = t.stuck h (is.runs on) s g; going = t.going refl; stays = t.node_epoch };
       }
-
--- what `next` tells
-pub record NextTold {S : Type 0} (R : Rules S) (n n' : NodeState S) (more : Bool) : Type 0 where
-  pub self_dims : n'.conveyor.dims ≡ n.conveyor.dims
-  pub self_rank : n'.conveyor.rank ≡ n.conveyor.rank
-  pub steady : n'.conveyor.steady ≡ n.conveyor.steady
-  pub epoch : more ≡ true → n'.conveyor.epoch ≡ n.conveyor.epoch + 1
-  pub unread : (l : ℕ) → (in_of n'.conveyor l).parcel.untaken ≡ (in_of n.conveyor l).parcel.untaken
-  pub votes : is_voting n.run.sends ≡ false → (more ≡ true) × ((h : ℕ → S) (sent got : Logs) → IsNode R h n sent got → IsNode R h n' sent got)
-  pub work : is_voting n.run.sends ≡ true → more ≡ true → (h : ℕ → S) (sent got : Logs) → IsNode R h n sent got → IsNode R (extended h (n.run.round + 1) (R.ended n.run.prog n.run.sum)) n' sent got
-  pub stays : more ≡ false → n'.conveyor ≡ n.conveyor
-  pub stopped : more ≡ false → (h : ℕ → S) (sent got : Logs) → IsNode R h n sent got → HasStopped R h n' sent got
 
 module _ {S : Type 0} (R : Rules S) (dims : List ℕ) (cap slots r : ℕ) (n : RankState S) (n1 n2 : NodeState S) (more : Bool) (sent got sent' got' : Logs)
     (on : n.over ≡ false) (t : AfterTurn R dims cap slots r Ended n.node n1 sent got sent' got') (x : NextTold R n1 n2 more) where
@@ -145,28 +114,7 @@ module _ {S : Type 0} (R : Rules S) (dims : List ℕ) (cap slots r : ℕ) (n : R
   n' = record { node = n2; over = not more }
 
   ended_kept : (steady : Bool) (h : ℕ → S) → HasRank R dims cap steady r h n sent got → (g : ℕ → S) × (g 0 ≡ h 0) × HasRank R dims cap steady r g n' sent' got'
-  ended_kept steady h is = by more refl (is_voting n1.run.sends) refl where
-    node1 : IsNode R h n1 (starting_at dims r sent') (ending_at dims r got')
-    node1 = t.kept h (is.runs on)
-
-    has : (g : ℕ → S) → (not more ≡ false → IsNode R g n2 (starting_at dims r sent') (ending_at dims r got')) → (not more ≡ true → HasStopped R g n2 (starting_at dims r sent') (ending_at dims r got'))
-        → HasRank R dims cap steady r g n' sent' got'
-    has g runs stopped =
-        record {
-          same_dims = x.self_dims ∙ (t.node_dims ∙ is.same_dims);
-          same_rank = x.self_rank ∙ (t.node_rank ∙ is.same_rank);
-          same_steady = x.steady ∙ (t.node_steady ∙ is.same_steady);
-          runs = runs;
-          stopped = stopped;
-          shape = turned_shape R dims cap slots r steady h Ended n n1 sent got sent' got' t is;
-        }
-
-    by : (b : Bool) → more ≡ b → (v : Bool) → is_voting n1.run.sends ≡ v → (g : ℕ → S) × (g 0 ≡ h 0) × HasRank R dims cap steady r g n' sent' got'
-    by true m false v = (h, refl, has h (λ e. (x.votes v).1 h _ _ node1) (λ e. absurd (true≢false (sym e ∙ ap not m))))
-    by true m true v =
-        let g : ℕ → S = extended h (n1.run.round + 1) (R.ended n1.run.prog n1.run.sum) in
-        (g, extended_before h (n1.run.round + 1) (R.ended n1.run.prog n1.run.sum) 0 (λ q. omega (arith, q)), has g (λ e. x.work v m h _ _ node1) (λ e. absurd (true≢false (sym e ∙ ap not m))))
-    by false m v e = (h, refl, has h (λ q. absurd (true≢false (sym (ap not m) ∙ q))) (λ q. x.stopped m h _ _ node1))
+  ended_kept steady h is = goes_on R dims cap r steady h n n1 _ _ _ _ is on (own_turn R dims cap slots r Ended n.node n1 sent got sent' got' t) n2 more x
 
   pub rank_ended : AfterRank R dims cap slots r n (record { node = n2; over = not more }) sent got sent' got'
   rank_ended =

@@ -112,13 +112,13 @@ module _ {S : Type 0} (R : Rules S) (laws : Laws R) (law : ClosesLaw) (rest : Re
   two : (r : ℕ) → r < ranks dims → (old : State) × (new : State) × Two r old new
   two r low = by x.0 x.1 x.0.over refl where
     x : (x : RankState S) × (slice_get rs r ≡ Some x)
-    x = find rs r (omega (arith, low, w.all))
+    x = find rs r (omega (arith, low, w.ranked.all))
 
     by : (x : RankState S) → slice_get rs r ≡ Some x → (b : Bool) → x.over ≡ b → (old : State) × (new : State) × Two r old new
     by x at true over =
-        let has = w.each r x at in
+        let has = w.ranked.each r x at in
         let i : Core R dims r (h r) x sent got = core R dims cap steady r (h r) x sent got has in
-        let last = (over_at_last R laws law dims cap slots steady starts h rs sent got w shape most n start rounds r x at over).0 in
+        let last = (over_at_last R laws law dims cap slots steady starts h rs sent got w.ranked shape most n start rounds r x at over).0 in
         let c = x.node.conveyor in (
           c,
           c,
@@ -132,7 +132,7 @@ module _ {S : Type 0} (R : Rules S) (laws : Laws R) (law : ClosesLaw) (rest : Re
           },
         )
     by x at false on =
-        let has = w.each r x at in
+        let has = w.ranked.each r x at in
         let i = has.runs on in
         let c = x.node.conveyor in
         let p : progress x ≡ c.epoch = ap (λ b. cond b (c.epoch + 1) c.epoch) on in
@@ -177,8 +177,8 @@ module _ {S : Type 0} (R : Rules S) (laws : Laws R) (law : ClosesLaw) (rest : Re
   sweep : IsRestingSweep dims cap slots e (λ r. (all_two r).0) (λ r. (all_two r).1) sent got
   sweep =
       record {
-        grid = w.grid;
-        links_keep = w.links_keep;
+        grid = w.ranked.grid;
+        links_keep = w.ranked.links_keep;
         same_dims = λ r low. ((all_two r).2 low).same_dims;
         same_rank = λ r low. ((all_two r).2 low).same_rank;
         agrees = λ r low. ((all_two r).2 low).agrees;
@@ -189,7 +189,7 @@ module _ {S : Type 0} (R : Rules S) (laws : Laws R) (law : ClosesLaw) (rest : Re
   -- every rank is past the least epoch
   pub all_past : (r : ℕ) (x : RankState S) → slice_get rs r ≡ Some x → e + 1 ≤ progress x
   all_past r x at =
-      let low : r < ranks dims = omega (arith, within rs r x at, w.all) in
+      let low : r < ranks dims = omega (arith, within rs r x at, w.ranked.all) in
       let least' = least r x at in
       elim (cases_eq (progress x) e) [
         | inl here ↦ by x.over refl here
@@ -197,11 +197,11 @@ module _ {S : Type 0} (R : Rules S) (laws : Laws R) (law : ClosesLaw) (rest : Re
       ] where
         by : (b : Bool) → x.over ≡ b → progress x ≡ e → e + 1 ≤ progress x
         by true over here =
-            let last = (over_at_last R laws law dims cap slots steady starts h rs sent got w shape most n start rounds r x at over).0 in
+            let last = (over_at_last R laws law dims cap slots steady starts h rs sent got w.ranked shape most n start rounds r x at over).0 in
             let p : progress x ≡ x.node.conveyor.epoch + 1 = ap (λ b. cond b (x.node.conveyor.epoch + 1) x.node.conveyor.epoch) over in
             omega (arith, last, p, before)
         by false on here =
-            let low : r < ranks dims = omega (arith, within rs r x at, w.all) in
+            let low : r < ranks dims = omega (arith, within rs r x at, w.ranked.all) in
             let t = ((all_two r).2 low).left x at on here in
             absurd (t.1 (rest dims cap slots e (λ k. (all_two k).0) (λ k. (all_two k).1) sent got sweep r low t.0))
 
@@ -210,6 +210,6 @@ pub epoch_few : {S : Type 0} (R : Rules S) → Laws R → ClosesLaw → (dims : 
     → (n : ℕ) → Plan R dims slots starts n → (r : ℕ) (x : RankState S) → slice_get rs r ≡ Some x → x.node.conveyor.epoch < 2 ^ 63
 epoch_few R laws law dims cap slots steady starts h rs sent got w n p r x at =
     elim (cases_Bool x.over) [
-      | inl t ↦ let e = (over_at_last R laws law dims cap slots steady starts h rs sent got w p.shape p.most n p.start p.rounds r x at t).0 in omega (arith, e, p.few)
-      | inr f ↦ let e = still_within R laws law dims cap slots steady starts h rs sent got w p.shape p.most n p.start p.rounds r x at f in omega (arith, e, p.few)
+      | inl t ↦ let e = (over_at_last R laws law dims cap slots steady starts h rs sent got w.ranked p.shape p.most n p.start p.rounds r x at t).0 in omega (arith, e, p.few)
+      | inr f ↦ let e = still_within R laws law dims cap slots steady starts h rs sent got w.ranked p.shape p.most n p.start p.rounds r x at f in omega (arith, e, p.few)
     ]

@@ -108,37 +108,39 @@ module _ {S : Type 0} (R : Rules S) (dims : List ℕ) (cap slots : ℕ) (steady 
   -- all ranks after the turn
   pub world_on : (g : ℕ → ℕ → S) × World R dims cap slots steady starts g rs' sent' got'
   world_on =
-      let kept = t.kept steady (h r) (w.each r n at) in
+      let kept = t.kept steady (h r) (w.ranked.each r n at) in
       let g : ℕ → ℕ → S = λ k. cond (k == r) kept.0 (h k) in (
         g,
         record {
-          grid = w.grid;
-          links_keep = law.links_keep;
+          ranked = record {
+            grid = w.ranked.grid;
+            links_keep = law.links_keep;
+            all = size ∙ w.ranked.all;
+            each = λ k x now. elim (cases_eq k r) [
+              | inl here ↦
+                  let e : n' ≡ x = get_once rs' r n' x at' (subst (λ q. slice_get rs' q ≡ Some x) here now) in
+                  subst (λ f. HasRank R dims cap steady k f x sent' got') (sym (ap (λ b. cond b kept.0 (h k)) (eq-eqb k r here)))
+                  (subst (λ q. HasRank R dims cap steady q kept.0 x sent' got') (sym here) (subst (λ y. HasRank R dims cap steady r kept.0 y sent' got') e kept.2))
+              | inr apart ↦
+                  subst (λ f. HasRank R dims cap steady k f x sent' got') (sym (ap (λ b. cond b kept.0 (h k)) (ne_eqb k r apart)))
+                  (other_rank R dims cap steady k (h k) x sent got sent' got' (sent_elsewhere dims r k sent sent' apart t.sent_elsewhere) (got_elsewhere dims r k got got' apart t.got_elsewhere) (w.ranked.each k x (sym (others k apart) ∙ now)))
+            ];
+            begins = λ k s from. elim (cases_eq k r) [
+              | inl here ↦ ap (λ b. cond b kept.0 (h k) 0) (eq-eqb k r here) ∙ (kept.1 ∙ (ap (λ q. h q 0) (sym here) ∙ w.ranked.begins k s from))
+              | inr apart ↦ ap (λ b. cond b kept.0 (h k) 0) (ne_eqb k r apart) ∙ w.ranked.begins k s from
+            ];
+          };
           none_past = law.none_past;
           relays = law.relays;
           some = w.some;
           inboxes = λ l below. omega (arith, inbox_step l below, w.inboxes l below);
-          all = size ∙ w.all;
-          each = λ k x now. elim (cases_eq k r) [
-            | inl here ↦
-                let e : n' ≡ x = get_once rs' r n' x at' (subst (λ q. slice_get rs' q ≡ Some x) here now) in
-                subst (λ f. HasRank R dims cap steady k f x sent' got') (sym (ap (λ b. cond b kept.0 (h k)) (eq-eqb k r here)))
-                (subst (λ q. HasRank R dims cap steady q kept.0 x sent' got') (sym here) (subst (λ y. HasRank R dims cap steady r kept.0 y sent' got') e kept.2))
-            | inr apart ↦
-                subst (λ f. HasRank R dims cap steady k f x sent' got') (sym (ap (λ b. cond b kept.0 (h k)) (ne_eqb k r apart)))
-                (other_rank R dims cap steady k (h k) x sent got sent' got' (sent_elsewhere dims r k sent sent' apart t.sent_elsewhere) (got_elsewhere dims r k got got' apart t.got_elsewhere) (w.each k x (sym (others k apart) ∙ now)))
-          ];
-          begins = λ k s from. elim (cases_eq k r) [
-            | inl here ↦ ap (λ b. cond b kept.0 (h k) 0) (eq-eqb k r here) ∙ (kept.1 ∙ (ap (λ q. h q 0) (sym here) ∙ w.begins k s from))
-            | inr apart ↦ ap (λ b. cond b kept.0 (h k) 0) (ne_eqb k r apart) ∙ w.begins k s from
-          ];
         },
       )
 
   -- the rank that was turned, where it stayed in its epoch and nothing moved
   pub rests_here : moves dims rs' sent' got' ≤ moves dims rs sent got → n'.over ≡ false → progress n' ≡ progress n → Rests dims slots r n'.node.conveyor sent' got'
   rests_here light on same =
-      let has = w.each r n at in
+      let has = w.ranked.each r n at in
       let es = sent_same light in
       let eg = got_same light in
       let left = t.left steady (h r) has on same (λ l. ap (λ (f : Logs). starting_at dims r f l) es) (λ l. ap (λ (f : Logs). ending_at dims r f l) eg) in

@@ -1,10 +1,9 @@
 -- What is left of the bank tells the run, where no epoch follows for any rank.
-use Rattle.std.proofs.Common.{◌≡◌, ℕ, zero, suc, ◌+◌, ◌*◌, ◌<◌, ◌≤◌, Bool, true, false, cond, List, [], ◌∷◌, ◌++◌, length, map, slice_get, Some, refl, sym, ap, subst, ◌∙◌, arith, inl, inr}
-use Rattle.std.proofs.lemmas.Bool.{cases_Bool, cases_lt, cases_eq, lt-ltb}
+use Rattle.std.proofs.Common.{◌≡◌, ℕ, zero, suc, ◌+◌, ◌*◌, ◌<◌, ◌≤◌, Bool, true, false, cond, List, [], ◌∷◌, ◌++◌, length, slice_get, Some, refl, sym, ap, subst, ◌∙◌, arith, inl, inr}
+use Rattle.std.proofs.lemmas.Bool.{cases_Bool, cases_lt, lt-ltb}
 use Rattle.std.proofs.lemmas.List.{append-nil}
-use Rattle.bale_types.specs.declared.item.Item.{Item}
 use Rattle.item_buffer.specs.Contents.{Shipped}
-use Rattle.list_laws.proofs.Lists.{find, within}
+use Rattle.list_laws.proofs.Lists.{find}
 use Rattle.route_tensor.specs.Grid.{ranks}
 use Rattle.route_tensor.specs.Link.{links}
 use Rattle.route_tensor.specs.Ends.{sender_at, reader_at}
@@ -23,14 +22,14 @@ use Rattle.convey.specs.Parts.{part_of, pushed_to}
 use Rattle.convey.proofs.OneRank.{OneRank, one_rank_of, starting-own, ending-own, first_link, last_link}
 use Rattle.round_program.specs.Rules.{Rules}
 use Rattle.round_program.specs.Laws.{Laws}
-use Rattle.round_program.specs.Canonical.{emitted, emitted_of, emitted_by, absorbed_round, states_at, HasRounds, InRound}
-use Rattle.round_program.specs.Epochs.{IsCanonical, worked, vote_item}
+use Rattle.round_program.specs.Canonical.{emitted_of, emitted_by, absorbed_round, states_at, HasRounds, InRound}
+use Rattle.round_program.specs.Epochs.{IsCanonical}
 use Rattle.rank_group.specs.Next.{HasStopped}
-use Rattle.rank_group.specs.Ranks.{RankState, HasRank, progress}
+use Rattle.rank_group.specs.Ranks.{RankState, HasRank, AllRanks}
 use Rattle.rank_group.specs.Runs.{lists_of}
 use Rattle.rank_group.specs.Told.{Made, TellsRun, vote_sent}
 use Rattle.rank_group.proofs.Worlds.{canonical, over_at_last}
-use Rattle.rank_group.specs.Worlds.{World, progress_in, history_in, conveyor_in, part_at}
+use Rattle.rank_group.specs.Worlds.{progress_in, history_in, conveyor_in, part_at}
 
 -- whether the latest parcel of a log is marked last
 closes : List Shipped → Bool
@@ -85,7 +84,7 @@ none_after e log ends low =
     ap (segment e) ends.is ∙ (segment_then e ends.front ends.final (λ same. omega (arith, same, n, low)) ∙ segment_past ends.front e (omega (arith, n, low)))
 
 module _ {S : Type 0} (R : Rules S) (laws : Laws R) (law : ClosesLaw) (round : Round) (cap slots : ℕ) (steady : Bool) (starts : List S) (h : ℕ → ℕ → S) (rs : List (RankState S))
-    (w : World R round.dims cap slots steady starts h rs (logs_of round.sent) (logs_of round.got)) (close : CloseLaw round) (over : (r : ℕ) (x : RankState S) → slice_get rs r ≡ Some x → x.over ≡ true)
+    (w : AllRanks R round.dims cap slots steady starts h rs (logs_of round.sent) (logs_of round.got)) (close : CloseLaw round) (over : (r : ℕ) (x : RankState S) → slice_get rs r ≡ Some x → x.over ≡ true)
     (shape : List ℕ) (most n : ℕ) (start : InRound R (ranks round.dims) 0 shape most starts) (rounds : HasRounds R starts n) where
   abbrev dims : List ℕ
   dims = round.dims

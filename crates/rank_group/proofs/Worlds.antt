@@ -24,10 +24,10 @@ use Rattle.rank_group.specs.Sending.{is_voting, epoch_of}
 use Rattle.rank_group.specs.Runs.{lists_of, HasTaken}
 use Rattle.rank_group.specs.Nodes.{IsNode}
 use Rattle.rank_group.specs.Next.{extended, HasStopped}
-use Rattle.rank_group.specs.Ranks.{RankState, HasRank, progress}
+use Rattle.rank_group.specs.Ranks.{RankState, HasRank, AllRanks, progress}
 use Rattle.rank_group.proofs.Between.{voted, own_ended, extended_before, extended_at}
 use Rattle.rank_group.proofs.Onward.{done_of_complete}
-use Rattle.rank_group.specs.Worlds.{conveyor_in, progress_in, history_in, part_at, World}
+use Rattle.rank_group.specs.Worlds.{conveyor_in, progress_in, history_in, part_at}
 
 -- what a rank knows of itself, within an epoch
 pub own_now : {S : Type 0} (R : Rules S) → Laws R → (p rank : ℕ) (h : ℕ → S) (round : ℕ) (sends : Sends) (next : ℕ) (prog : S) (sum : ℕ) (spoiled : Bool) (part : Part)
@@ -100,7 +100,7 @@ module _ {S : Type 0} (R : Rules S) (laws : Laws R) (dims : List ℕ) (cap : ℕ
   pub own_in : Own R (ranks dims) (progress n) (done_of (part_of (buffers_of n.node.conveyor) (starting_at dims r sent) (ending_at dims r got))) (history_in h (Some n)) (lists_of (part_of (buffers_of n.node.conveyor) (starting_at dims r sent) (ending_at dims r got)))
   own_in = own_by n.over refl
 
-module _ {S : Type 0} (R : Rules S) (laws : Laws R) (law : ClosesLaw) (dims : List ℕ) (cap slots : ℕ) (steady : Bool) (starts : List S) (h : ℕ → ℕ → S) (rs : List (RankState S)) (sent got : Logs) (w : World R dims cap slots steady starts h rs sent got) where
+module _ {S : Type 0} (R : Rules S) (laws : Laws R) (law : ClosesLaw) (dims : List ℕ) (cap slots : ℕ) (steady : Bool) (starts : List S) (h : ℕ → ℕ → S) (rs : List (RankState S)) (sent got : Logs) (w : AllRanks R dims cap slots steady starts h rs sent got) where
   abbrev buffers_at : ℕ → Buffers
   buffers_at r = buffers_of (conveyor_in (slice_get rs r))
 

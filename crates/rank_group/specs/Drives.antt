@@ -15,6 +15,7 @@ pub record IsFresh {S : Type 0} (R : Rules S) (dims : List ℕ) (steady : Bool) 
   pub same_dims : n.node.conveyor.dims ≡ dims
   pub same_rank : n.node.conveyor.rank ≡ r
   pub same_steady : n.node.conveyor.steady ≡ steady
+  pub epoch : n.node.conveyor.epoch ≡ 0
   pub node : IsNode R (λ m. n.node.run.prog) n.node (λ l. []) (λ l. [])
   pub unread : (l : ℕ) → (in_of n.node.conveyor l).parcel.untaken ≡ []
 

@@ -8,6 +8,8 @@ pub mod Nodes
 pub mod Stuck
 pub mod Next
 pub mod Ranks
+pub mod Seats
+pub mod Children
 pub mod Worlds
 pub mod Drives
 pub mod Rounds

@@ -1,10 +1,12 @@
--- The nodes of all ranks over one plain bank.
+-- The ranks of a run, each a node, and what a turn leaves of one.
 use Rattle.std.specs.Prelude.{◌≡◌, ◌≢◌, ℕ, ◌+◌, ◌<◌, ◌≤◌, ◌==◌, Bool, true, false, cond, List, ◌++◌, length, slice_get, Some}
 use Rattle.std.specs.List.{All, flat_map}
 use Rattle.item_buffer.specs.Contents.{Shipped}
+use Rattle.route_tensor.specs.Grid.{ranks, IsGrid}
 use Rattle.route_tensor.specs.Link.{links}
 use Rattle.route_tensor.specs.Ends.{reader_at}
 use Rattle.port_bank.specs.Logs.{Logs, starting_at, ending_at, starting_elsewhere, ending_elsewhere}
+use Rattle.port_bank.specs.Link.{LinkLaw}
 use Rattle.port_bank.specs.Flow.{Begins}
 use Rattle.port_bank.specs.Shapes.{IsConveyorShape}
 use Rattle.hop_core.specs.declared.phase.Phase.TheVariants.{Complete}
@@ -28,14 +30,27 @@ pub record IsOrder (p : ℕ) (order : List ℕ) : Type 0 where
   pub below : All (λ r. r < p) order
   pub each : (r : ℕ) → r < p → (i : ℕ) × (slice_get order i ≡ Some r)
 
--- Rank r over the logs of all ranks; h m is the state of its program as round m began.
-pub record HasRank {S : Type 0} (R : Rules S) (dims : List ℕ) (cap : ℕ) (steady : Bool) (r : ℕ) (h : ℕ → S) (n : RankState S) (sent got : Logs) : Type 0 where
+-- Rank r over its own logs, of what it sent and of what it got; h m is the state of its program as round m began.
+pub record IsRank {S : Type 0} (R : Rules S) (dims : List ℕ) (cap : ℕ) (steady : Bool) (r : ℕ) (h : ℕ → S) (n : RankState S) (sent got : Logs) : Type 0 where
   pub same_dims : n.node.conveyor.dims ≡ dims
   pub same_rank : n.node.conveyor.rank ≡ r
   pub same_steady : n.node.conveyor.steady ≡ steady
-  pub runs : n.over ≡ false → IsNode R h n.node (starting_at dims r sent) (ending_at dims r got)
-  pub stopped : n.over ≡ true → HasStopped R h n.node (starting_at dims r sent) (ending_at dims r got)
-  pub shape : (l : ℕ) → IsConveyorShape steady cap (starting_at dims r sent l)
+  pub runs : n.over ≡ false → IsNode R h n.node sent got
+  pub stopped : n.over ≡ true → HasStopped R h n.node sent got
+  pub shape : (l : ℕ) → IsConveyorShape steady cap (sent l)
+
+-- The same over the logs of all ranks.
+abbrev pub HasRank : {S : Type 0} → Rules S → List ℕ → ℕ → Bool → ℕ → (ℕ → S) → RankState S → Logs → Logs → Type 0
+HasRank R dims cap steady r h n sent got = IsRank R dims cap steady r h n (starting_at dims r sent) (ending_at dims r got)
+
+-- The ranks of a run over the logs of all links, whatever bank these are of; h r m is the state of rank r's program as round m began.
+-- links_keep: each link keeps its law. each: each rank keeps to its own logs. begins: the programs began in the states `starts`.
+pub record AllRanks {S : Type 0} (R : Rules S) (dims : List ℕ) (cap slots : ℕ) (steady : Bool) (starts : List S) (h : ℕ → ℕ → S) (rs : List (RankState S)) (sent got : Logs) : Type 0 where
+  pub grid : IsGrid dims
+  pub links_keep : (l : ℕ) → l < links dims → LinkLaw cap slots (sent l) (got l)
+  pub all : length rs ≡ ranks dims
+  pub each : (r : ℕ) (n : RankState S) → slice_get rs r ≡ Some n → HasRank R dims cap steady r (h r) n sent got
+  pub begins : (r : ℕ) (s : S) → slice_get starts r ≡ Some s → h r 0 ≡ s
 
 -- How many epochs a rank has completed.
 abbrev pub progress : {S : Type 0} → RankState S → ℕ

@@ -4,7 +4,7 @@ use Rattle.std.specs.List.{flat_map}
 use Rattle.bale_types.specs.declared.item.Entry.{Entry}
 use Rattle.item_buffer.specs.Contents.{Shipped}
 use Rattle.list_laws.specs.Sums.{total}
-use Rattle.route_tensor.specs.Grid.{ranks, IsGrid}
+use Rattle.route_tensor.specs.Grid.{ranks}
 use Rattle.route_tensor.specs.Link.{links}
 use Rattle.route_tensor.specs.Ends.{reader_at}
 use Rattle.port_bank.specs.Logs.{Logs, starting_at, ending_at}
@@ -19,7 +19,7 @@ use Rattle.convey.specs.Parts.{part_of}
 use Rattle.round_program.specs.Rules.{Rules}
 use Rattle.round_program.specs.Canonical.{HasRounds, InRound}
 use Rattle.rank_group.specs.Next.{extended}
-use Rattle.rank_group.specs.Ranks.{RankState, HasRank, IsLeft, progress, crowded_in, idle_in}
+use Rattle.rank_group.specs.Ranks.{RankState, AllRanks, IsLeft, progress, crowded_in, idle_in}
 
 -- the entries of some parcels
 abbrev pub entries_of : List Shipped → List Entry
@@ -49,17 +49,13 @@ part_at dims rs sent got r = part_of (buffers_of (conveyor_in (slice_get rs r)))
 abbrev pub inbox : {S : Type 0} → List ℕ → List (RankState S) → ℕ → ℕ
 inbox dims rs l = length (in_of (conveyor_in (slice_get rs (reader_at dims l))) l).parcel.untaken
 
--- all ranks over one bank
+-- all ranks over one plain bank
 pub record World {S : Type 0} (R : Rules S) (dims : List ℕ) (cap slots : ℕ) (steady : Bool) (starts : List S) (h : ℕ → ℕ → S) (rs : List (RankState S)) (sent got : Logs) : Type 0 where
-  pub grid : IsGrid dims
-  pub links_keep : (l : ℕ) → l < links dims → LinkLaw cap slots (sent l) (got l)
+  pub ranked : AllRanks R dims cap slots steady starts h rs sent got
   pub none_past : (l : ℕ) → links dims ≤ l → (sent l ≡ []) × (got l ≡ [])
   pub relays : (r : ℕ) → r < ranks dims → RelayLaw dims r sent got
   pub some : 0 < cap
   pub inboxes : (l : ℕ) → l < links dims → inbox dims rs l ≤ length (entries_of (got l))
-  pub all : length rs ≡ ranks dims
-  pub each : (r : ℕ) (n : RankState S) → slice_get rs r ≡ Some n → HasRank R dims cap steady r (h r) n sent got
-  pub begins : (r : ℕ) (s : S) → slice_get starts r ≡ Some s → h r 0 ≡ s
 
 -- what moved so far
 abbrev pub move_of : {S : Type 0} → List ℕ → List (RankState S) → Logs → Logs → ℕ → ℕ

@@ -2,10 +2,10 @@
 ghost use Rattle.std.specs.Prelude.{◌≡◌, ◌++◌, ◌∷◌, [], List, length, slice_get, OnOk, OnErr};
 ghost use Rattle.std.specs.Option.{option_copied};
 ghost use Rattle.route_tensor.specs.Grid.{ranks};
-ghost use Rattle.port_bank.specs.Round.{epochs_of};
-ghost use Rattle.rank_group.specs.Rounds.{round_of};
+ghost use Rattle.rank_group.specs.Rounds.{round_of, told_epochs};
 
 use bale_types::NoMemory;
+use link_slots::SlotRound;
 use port_bank::PlainRound;
 use std::alloc::Global;
 use std::marker::Model;
@@ -15,6 +15,8 @@ use std::marker::Model;
 pub enum ClosedRound {
     /// On a plain bank.
     Plain(PlainRound),
+    /// On a slot bank, which threads shared.
+    Slots(SlotRound),
 }
 
 impl ClosedRound {
@@ -24,15 +26,17 @@ impl ClosedRound {
     {
         match self {
             ClosedRound::Plain(round) => round.ranks(),
+            ClosedRound::Slots(round) => round.ranks(),
         }
     }
 
-    /// How many epochs every link has ended.
+    /// How many epochs every link has ended; of a slot bank the count stands still at the last number.
     pub fn epochs(&self) -> u64
-        ensures { result ≡ epochs_of (round_of self.now) }
+        ensures { result ≡ told_epochs self.now }
     {
         match self {
             ClosedRound::Plain(round) => round.epochs(),
+            ClosedRound::Slots(round) => round.epochs(),
         }
     }
 }
@@ -68,6 +72,16 @@ impl Rounds {
         ensures refused { OnErr result (self.new ≡ self.old) }
     {
         self.list.push(c)?;
+        Ok(())
+    }
+
+    /// Puts the rounds of `more` at the end, in order. After `NoMemory` the list is as before, and `more` is dropped.
+    pub fn append(&mut self, more: Rounds) -> Result<(), NoMemory>
+        ensures added { OnOk result (self.new ≡ self.old ++ more) }
+        ensures refused { OnErr result (self.new ≡ self.old) }
+    {
+        let mut more = more;
+        self.list.append(&mut more.list)?;
         Ok(())
     }
 

@@ -20,29 +20,43 @@
 #![tactic(auto)]
 
 mod absorbing;
+mod alone;
+mod at_port;
+mod child;
 mod closed_round;
 mod drive;
 mod ending;
+mod gate;
+mod job;
+mod keeper;
 mod node;
 mod pushing;
 mod ranks;
 mod row;
 mod row_node;
 mod running;
+mod seated;
+mod seating;
 mod sending;
 mod sends;
+mod shared;
 mod steps;
 mod sweeping;
 mod taking;
+mod threads;
+mod together;
 mod turn;
+mod turning;
 mod via;
 
 pub use closed_round::{ClosedRound, Rounds};
 pub use drive::{Finished, drive_serial};
+pub use gate::{Gate, OpenGate};
 pub use node::Node;
 pub use row::{finish, nodes_of, turn_all};
 pub use row_node::RowNode;
 pub use steps::Steps;
+pub use threads::drive_threads;
 pub use turn::Turn;
 pub use via::Via;
 

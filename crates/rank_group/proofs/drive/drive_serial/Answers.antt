@@ -1,5 +1,5 @@
 use Rattle.std.proofs.Common.{rules, [], ◌∷◌, ◌++◌, sym, ap, subst, ◌∙◌}
-use Rattle.port_bank.specs.Plain.{Bank}
+use Rattle.port_bank.specs.Plain.{Bank, sent_of, got_of}
 use Rattle.route_tensor.specs.Grid.{ranks}
 use Rattle.rank_group.specs.Ranks.{IsOrder}
 use Rattle.rank_group.specs.declared.closed_round.ClosedRound.TheVariants.{Plain}
@@ -46,9 +46,7 @@ pub returns-clause-ended : goal.returns-clause-ended
 returns-clause-ended g c =
     let w = world_after g.Q.Program.rules g.met.Q.Program.laws g.row.CAP c.args.grid.now c.args.slots c.args.steady c.args.progs c.requires.begins.0 c.requires.begins.1 c.requires.begins.2 c.requires.begins.3 c.in_ok-all.all.items c.in_ok-all.ensures.fresh c.requires.some
     c.in_ok-bank.bank c.in_ok-bank.ensures.made c.in_ok-bank.ensures.lawful c.run_all.new.all.items c.in_ok-bank-2.bank c.in_ok-bank-2.ensures.world in
-    let ed = c.in_ok-bank-2.ensures.same_dims ∙ ap (λ (b : Bank). b.dims) c.in_ok-bank.ensures.made in
-    let es = c.in_ok-bank-2.ensures.same_slots ∙ ap (λ (b : Bank). b.slots) c.in_ok-bank.ensures.made in
-    have_ended g.Q.Program.rules g.met.Q.Program.laws c.closes_law.ensures g.row.CAP c.args.grid.now c.args.slots c.args.steady c.args.progs w.0 c.run_all.new.all.items c.in_ok-bank-2.bank ed es w.1 (c.in_ok-bank-2.ensures.over) c.requires.begins.0 c.requires.begins.1 c.requires.begins.3.rounds c.requires.begins.2 c.requires.begins.3.has_rounds c.in_ok-progs.progs c.in_ok-progs.ensures.progs
+    have_ended g.Q.Program.rules g.met.Q.Program.laws c.closes_law.ensures g.row.CAP c.args.grid.now c.args.slots c.args.steady c.args.progs w.0 c.run_all.new.all.items (sent_of c.in_ok-bank-2.bank) (got_of c.in_ok-bank-2.bank) w.1.ranked (c.in_ok-bank-2.ensures.over) c.requires.begins.0 c.requires.begins.1 c.requires.begins.3.rounds c.requires.begins.2 c.requires.begins.3.has_rounds c.in_ok-progs.progs c.in_ok-progs.ensures.progs
 
 pub returns-clause-rounds : goal.returns-clause-rounds
 returns-clause-rounds g c =
@@ -58,5 +56,5 @@ returns-clause-rounds g c =
     let es = c.in_ok-bank-2.ensures.same_slots ∙ ap (λ (b : Bank). b.slots) c.in_ok-bank.ensures.made in (
       Plain c.close.result,
       c.in_ok-add.ensures.added ∙ ap (λ xs. xs ++ Plain c.close.result ∷ []) c.new-rounds.ensures,
-      λ n rounds. told g.Q.Program.rules g.met.Q.Program.laws c.closes_law.ensures g.row.CAP c.args.grid.now c.args.slots c.args.steady c.args.progs w.0 c.run_all.new.all.items c.in_ok-bank-2.bank ed es w.1 (c.in_ok-bank-2.ensures.over) c.requires.begins.0 c.requires.begins.1 n c.requires.begins.2 rounds c.close.result c.close.ensures.round c.close.ensures.in_order,
+      λ n rounds. told g.Q.Program.rules g.met.Q.Program.laws c.closes_law.ensures g.row.CAP c.args.grid.now c.args.slots c.args.steady c.args.progs w.0 c.run_all.new.all.items c.in_ok-bank-2.bank ed es w.1.ranked (c.in_ok-bank-2.ensures.over) c.requires.begins.0 c.requires.begins.1 n c.requires.begins.2 rounds c.close.result c.close.ensures.round c.close.ensures.in_order,
     )

@@ -1,9 +1,7 @@
-use Rattle.std.proofs.Common.{[], ◌∷◌, refl, sym, ap, subst, ◌∙◌}
-use Rattle.route_tensor.specs.Grid.{ranks}
+use Rattle.std.proofs.Common.{[], ◌∷◌, refl, subst}
 use Rattle.port_bank.specs.Port.{IsSlots}
 use Rattle.round_program.specs.Canonical.{InRound}
 use Rattle.round_examples.specs.Counts.{count_rules}
-use Rattle.rank_group.specs.Ranks.{IsOrder}
 use Rattle.rank_group.proofs.DriveTests.{one_round}
 use Rattle.rank_group.proofs.drive_tests.count.Goals as goal
 

@@ -1,4 +1,4 @@
-use Rattle.std.proofs.Common.{length, replicate, arith, ap, ◌∙◌}
+use Rattle.std.proofs.Common.{arith}
 use Rattle.rank_group.proofs.DriveTests.{counted_more}
 use Rattle.rank_group.proofs.drive_tests.counts_of.Goals as goal
 

@@ -1,0 +1,73 @@
+-- What a turn leaves of one rank, over its own logs, whatever port it was turned at.
+use Rattle.std.proofs.Common.{◌≡◌, ℕ, ◌+◌, Bool, true, false, not, List, refl, sym, ap, subst, ◌∙◌, arith}
+use Rattle.std.proofs.lemmas.Bool.{true≢false}
+use Rattle.port_bank.specs.Logs.{Logs}
+use Rattle.port_bank.specs.Shapes.{IsConveyorShape}
+use Rattle.convey.specs.Buffers.{in_of}
+use Rattle.round_program.specs.Rules.{Rules}
+use Rattle.rank_group.specs.Sending.{is_voting}
+use Rattle.rank_group.specs.Nodes.{NodeState, IsNode}
+use Rattle.rank_group.specs.Next.{extended, HasStopped}
+use Rattle.rank_group.specs.Ranks.{RankState, IsRank}
+use Rattle.rank_group.proofs.Between.{extended_before}
+
+-- what a turn tells of a node
+pub record OneTurn {S : Type 0} (R : Rules S) (cap : ℕ) (n n' : NodeState S) (sent got sent' got' : Logs) : Type 0 where
+  pub dims : n'.conveyor.dims ≡ n.conveyor.dims
+  pub rank : n'.conveyor.rank ≡ n.conveyor.rank
+  pub steady : n'.conveyor.steady ≡ n.conveyor.steady
+  pub shape : (l : ℕ) → IsConveyorShape n.conveyor.steady cap (sent l) → IsConveyorShape n.conveyor.steady cap (sent' l)
+  pub kept : (h : ℕ → S) → IsNode R h n sent got → IsNode R h n' sent' got'
+
+-- what `next` tells
+pub record NextTold {S : Type 0} (R : Rules S) (n n' : NodeState S) (more : Bool) : Type 0 where
+  pub self_dims : n'.conveyor.dims ≡ n.conveyor.dims
+  pub self_rank : n'.conveyor.rank ≡ n.conveyor.rank
+  pub steady : n'.conveyor.steady ≡ n.conveyor.steady
+  pub epoch : more ≡ true → n'.conveyor.epoch ≡ n.conveyor.epoch + 1
+  pub unread : (l : ℕ) → (in_of n'.conveyor l).parcel.untaken ≡ (in_of n.conveyor l).parcel.untaken
+  pub votes : is_voting n.run.sends ≡ false → (more ≡ true) × ((h : ℕ → S) (sent got : Logs) → IsNode R h n sent got → IsNode R h n' sent got)
+  pub work : is_voting n.run.sends ≡ true → more ≡ true → (h : ℕ → S) (sent got : Logs) → IsNode R h n sent got → IsNode R (extended h (n.run.round + 1) (R.ended n.run.prog n.run.sum)) n' sent got
+  pub stays : more ≡ false → n'.conveyor ≡ n.conveyor
+  pub stopped : more ≡ false → (h : ℕ → S) (sent got : Logs) → IsNode R h n sent got → HasStopped R h n' sent got
+
+module _ {S : Type 0} (R : Rules S) (dims : List ℕ) (cap r : ℕ) (steady : Bool) (h : ℕ → S) (n : RankState S) (n1 : NodeState S) (sent got sent' got' : Logs)
+    (is : IsRank R dims cap steady r h n sent got) (on : n.over ≡ false) (t : OneTurn R cap n.node n1 sent got sent' got') where
+  shaped : (l : ℕ) → IsConveyorShape steady cap (sent' l)
+  shaped l = subst (λ b. IsConveyorShape b cap (sent' l)) is.same_steady (t.shape l (subst (λ b. IsConveyorShape b cap (sent l)) (sym is.same_steady) (is.shape l)))
+
+  -- a rank that stays in its epoch
+  pub stays_in : (over : Bool) → over ≡ false → IsRank R dims cap steady r h (record { node = n1; over = over }) sent' got'
+  stays_in over still =
+      record {
+        same_dims = t.dims ∙ is.same_dims;
+        same_rank = t.rank ∙ is.same_rank;
+        same_steady = t.steady ∙ is.same_steady;
+        runs = λ e. t.kept h (is.runs on);
+        stopped = λ e. absurd (true≢false (sym e ∙ still));
+        shape = shaped;
+      }
+
+  -- and one that goes on, where an epoch follows
+  pub goes_on : (n2 : NodeState S) (more : Bool) → NextTold R n1 n2 more → (g : ℕ → S) × (g 0 ≡ h 0) × IsRank R dims cap steady r g (record { node = n2; over = not more }) sent' got'
+  goes_on n2 more x = by more refl (is_voting n1.run.sends) refl where
+    node1 : IsNode R h n1 sent' got'
+    node1 = t.kept h (is.runs on)
+
+    has : (g : ℕ → S) → (not more ≡ false → IsNode R g n2 sent' got') → (not more ≡ true → HasStopped R g n2 sent' got') → IsRank R dims cap steady r g (record { node = n2; over = not more }) sent' got'
+    has g runs stopped =
+        record {
+          same_dims = x.self_dims ∙ (t.dims ∙ is.same_dims);
+          same_rank = x.self_rank ∙ (t.rank ∙ is.same_rank);
+          same_steady = x.steady ∙ (t.steady ∙ is.same_steady);
+          runs = runs;
+          stopped = stopped;
+          shape = shaped;
+        }
+
+    by : (b : Bool) → more ≡ b → (v : Bool) → is_voting n1.run.sends ≡ v → (g : ℕ → S) × (g 0 ≡ h 0) × IsRank R dims cap steady r g (record { node = n2; over = not more }) sent' got'
+    by true m false v = (h, refl, has h (λ e. (x.votes v).1 h _ _ node1) (λ e. absurd (true≢false (sym e ∙ ap not m))))
+    by true m true v =
+        let g : ℕ → S = extended h (n1.run.round + 1) (R.ended n1.run.prog n1.run.sum) in
+        (g, extended_before h (n1.run.round + 1) (R.ended n1.run.prog n1.run.sum) 0 (λ q. omega (arith, q)), has g (λ e. x.work v m h _ _ node1) (λ e. absurd (true≢false (sym e ∙ ap not m))))
+    by false m v e = (h, refl, has h (λ q. absurd (true≢false (sym (ap not m) ∙ q))) (λ q. x.stopped m h _ _ node1))

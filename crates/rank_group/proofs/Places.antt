@@ -1,0 +1,117 @@
+-- The ranks of a drive get their seats, and leave them.
+use Rattle.std.proofs.Common.{◌≡◌, ◌≢◌, ℕ, ◌+◌, ◌<◌, ◌≤◌, Bool, true, false, List, [], ◌∷◌, ◌++◌, length, length-append, map, get_or, slice_get, slice_set, Some, None, All, sym, ap, subst, ◌∙◌, arith, inl, inr}
+use Rattle.std.proofs.lemmas.Bool.{cases_lt}
+use Rattle.std.proofs.lemmas.List.{length-map, map-append, get_or-set_other}
+use Rattle.std.proofs.lemmas.List.Elements.{All-push}
+use Rattle.item_buffer.specs.Contents.{Contents}
+use Rattle.list_laws.specs.Lists.{EachAt}
+use Rattle.list_laws.proofs.Lists.{within, get_once, get_last, get_before, each_get, each_push}
+use Rattle.route_tensor.specs.Grid.{ranks}
+use Rattle.route_tensor.specs.Link.{links}
+use Rattle.port_bank.specs.Logs.{Logs}
+use Rattle.link_slots.specs.Gathering.{Gathering}
+use Rattle.link_slots.specs.Seen.{Bank, Manning, posted_on, collected_from}
+use Rattle.link_slots.specs.Shape.{shipped_all}
+use Rattle.link_slots.specs.View.{no_logs}
+use Rattle.link_slots.proofs.Opening.{no_sent, no_got}
+use Rattle.round_program.specs.Rules.{Rules}
+use Rattle.rank_group.specs.Ranks.{RankState, IsRank}
+use Rattle.rank_group.specs.Drives.{IsFresh, AreFresh}
+use Rattle.rank_group.specs.Seats.{SeatedState, IsSeated}
+use Rattle.rank_group.proofs.Joining.{one_less, next_is}
+
+-- some ranks have their seats
+pub record Seating {S : Type 0} (R : Rules S) (cap : ℕ) (b : Bank) (gather : Gathering) (number : ℕ) (all taken rest : List (RankState S)) (xs : List (SeatedState S)) : Type 0 where
+  pub left : taken ++ rest ≡ all
+  pub bank : (gather.id ≡ b.id) × (gather.shape ≡ b.shape)
+  pub count : number ≡ length taken
+  pub none : (r : ℕ) → length taken ≤ r → r < ranks b.shape.dims → get_or gather.given r true ≡ false
+  pub ranks_are : map (λ x. x.rank) xs ≡ taken
+  pub each : (steady : Bool) (starts : List S) → AreFresh R b.shape.dims steady starts all → (r : ℕ) (x : SeatedState S) → slice_get xs r ≡ Some x → IsSeated R cap steady b r x
+
+module _ {S : Type 0} (R : Rules S) (cap : ℕ) (b : Bank) (gather : Gathering) (number : ℕ) (all taken rest now : List (RankState S)) (xs : List (SeatedState S)) (s : Seating R cap b gather number all taken now xs) where
+  -- one more gets its seat
+  module _ (gather' : Gathering) (rank : RankState S) (seat : Manning) (is : now ≡ rank ∷ rest) (lists : _) (gave : gather' ≡ record gather { lists = lists; given = slice_set gather.given number true })
+      (noted ended : List ℕ) (seat_is : seat ≡ record { id = b.id; shape = b.shape; rank = number; lists = no_logs (links b.shape.dims); noted = noted; ended = ended }) where
+    abbrev x : SeatedState S
+    x = record { rank = rank; seat = seat; turns = 0; lost = false }
+
+    none_sent : ◌≡◌ {A = Logs} (posted_on seat) (λ l. [])
+    none_sent = ap posted_on seat_is ∙ ap shipped_all (no_sent Contents (links b.shape.dims))
+
+    none_got : ◌≡◌ {A = Logs} (collected_from seat) (λ l. [])
+    none_got = ap collected_from seat_is ∙ ap shipped_all (no_got Contents (links b.shape.dims))
+
+    size : length xs ≡ length taken
+    size = sym (length-map xs (λ (y : SeatedState S). y.rank)) ∙ ap length s.ranks_are
+
+    pub seated : (steady : Bool) (starts : List S) → AreFresh R b.shape.dims steady starts all → IsSeated R cap steady b (length taken) x
+    seated steady starts fresh =
+        let f : IsFresh R b.shape.dims steady (length taken) rank = fresh.each (length taken) rank (next_is taken rest all now rank s.left is) in
+        let h : ℕ → S = λ m. rank.node.run.prog in
+        let own : IsRank R b.shape.dims cap steady (length taken) h rank (λ l. []) (λ l. []) = record {
+          same_dims = f.same_dims;
+          same_rank = f.same_rank;
+          same_steady = f.same_steady;
+          runs = λ on. f.node;
+          stopped = λ over. absurd (cc);
+          shape = λ l i d below. absurd (omega (arith, below));
+        } in
+        record {
+          bank = ap (λ (m : Manning). record { id = m.id; shape = m.shape }) seat_is;
+          number = ap (λ (m : Manning). m.rank) seat_is ∙ s.count;
+          way = record {
+            runs = λ kept. subst (λ ds. IsRank R ds cap steady seat.rank h rank (posted_on seat) (collected_from seat)) (sym (ap (λ (m : Manning). m.shape.dims) seat_is))
+                (subst (λ k. IsRank R b.shape.dims cap steady k h rank (posted_on seat) (collected_from seat)) (sym (ap (λ (m : Manning). m.rank) seat_is ∙ s.count))
+                (subst (λ (a : Logs). IsRank R b.shape.dims cap steady (length taken) h rank a (collected_from seat)) (sym none_sent)
+                (subst (λ (a : Logs). IsRank R b.shape.dims cap steady (length taken) h rank (λ l. []) a) (sym none_got) own)));
+            few = λ kept on. let e = f.epoch in omega (arith, e);
+          };
+        }
+
+    pub seating_more : (xs' : List (SeatedState S)) → xs' ≡ xs ++ record { rank = rank; seat = seat; turns = 0; lost = false } ∷ [] → Seating R cap b gather' (number + 1) all (taken ++ rank ∷ []) rest xs'
+    seating_more xs' more =
+        record {
+          left = one_less taken rest all now rank s.left is;
+          bank = (ap (λ (g : Gathering). g.id) gave ∙ s.bank.0, ap (λ (g : Gathering). g.shape) gave ∙ s.bank.1);
+          count = omega (arith, s.count, length-append taken (rank ∷ []));
+          none = λ r past low.
+              let late : length taken + 1 ≤ r = omega (arith, past, length-append taken (rank ∷ [])) in
+              ap (λ (g : Gathering). get_or g.given r true) gave ∙ (get_or-set_other gather.given number r true true (λ e. omega (arith, e, s.count, late)) ∙ s.none r (omega (arith, late)) low);
+          ranks_are = ap (map (λ (y : SeatedState S). y.rank)) more ∙ (map-append (λ (y : SeatedState S). y.rank) xs (x ∷ []) ∙ ap (λ ys. ys ++ rank ∷ []) s.ranks_are);
+          each = λ steady starts fresh r y at. elim (cases_lt r (length xs)) [
+            | inl low ↦ s.each steady starts fresh r y (sym (get_before xs (x ∷ []) r low) ∙ (ap (λ zs. slice_get zs r) (sym more) ∙ at))
+            | inr past ↦
+                let here : slice_get (xs ++ x ∷ []) r ≡ Some y = ap (λ zs. slice_get zs r) (sym more) ∙ at in
+                let e : r ≡ length xs = omega (arith, past, within (xs ++ x ∷ []) r y here, length-append xs (x ∷ [])) in
+                let same : x ≡ y = get_once (xs ++ x ∷ []) (length xs) x y (get_last xs x) (subst (λ k. slice_get (xs ++ x ∷ []) k ≡ Some y) e here) in
+                subst (λ z. IsSeated R cap steady b r z) same (subst (λ k. IsSeated R cap steady b k x) (sym (e ∙ size)) (seated steady starts fresh))
+          ];
+        }
+
+-- some ranks have left their seats
+pub record Leaving {S : Type 0} (b : Bank) (gather : Gathering) (all taken rest : List (SeatedState S)) (rs : List (RankState S)) : Type 0 where
+  pub left : taken ++ rest ≡ all
+  pub bank : (gather.id ≡ b.id) × (gather.shape ≡ b.shape)
+  pub ranks_are : rs ≡ map (λ y. y.rank) taken
+  pub kept : All (λ y. y.lost ≡ false) taken
+  pub there : EachAt (λ r y. get_or gather.lists r None ≡ Some y.seat.lists) taken
+
+module _ {S : Type 0} (b : Bank) (gather : Gathering) (all taken rest now : List (SeatedState S)) (rs : List (RankState S)) (s : Leaving b gather all taken now rs) (y : SeatedState S) (is : now ≡ y ∷ rest) where
+  -- the next sits at its place
+  pub next_number : EachAt (λ r (x : SeatedState S). x.seat.rank ≡ r) all → y.seat.rank ≡ length taken
+  next_number number = each_get (λ r (x : SeatedState S). x.seat.rank ≡ r) all (length taken) y number (next_is taken rest all now y s.left is)
+
+  pub leaving_more : (gather' : Gathering) (rs' : List (RankState S)) → y.seat.rank ≡ length taken → y.lost ≡ false → (gather'.id ≡ gather.id) × (gather'.shape ≡ gather.shape)
+      → get_or gather'.lists y.seat.rank None ≡ Some y.seat.lists → ((r : ℕ) → r ≢ y.seat.rank → get_or gather'.lists r None ≡ get_or gather.lists r None) → rs' ≡ rs ++ y.rank ∷ []
+      → Leaving b gather' all (taken ++ y ∷ []) rest rs'
+  leaving_more gather' rs' number lost same there others more =
+      record {
+        left = one_less taken rest all now y s.left is;
+        bank = (same.0 ∙ s.bank.0, same.1 ∙ s.bank.1);
+        ranks_are = more ∙ (ap (λ ns. ns ++ y.rank ∷ []) s.ranks_are ∙ sym (map-append (λ (x : SeatedState S). x.rank) taken (y ∷ [])));
+        kept = All-push (λ (x : SeatedState S). x.lost ≡ false) taken y s.kept lost;
+        there = each_push (λ r (x : SeatedState S). get_or gather'.lists r None ≡ Some x.seat.lists) taken y
+            (λ r d low. others r (λ e. omega (arith, e, number, low)) ∙ s.there r d low)
+            (subst (λ k. get_or gather'.lists k None ≡ Some y.seat.lists) number there);
+      }

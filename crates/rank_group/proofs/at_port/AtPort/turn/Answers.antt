@@ -1,0 +1,35 @@
+use Rattle.std.proofs.Common.{rules, ◌||◌, refl, ap, ◌∙◌, arith}
+use Rattle.port_bank.specs.Port.{Rest}
+use Rattle.rank_group.specs.Seats.{SeatedState, PortState}
+use Rattle.rank_group.proofs.OnWay.{neither, turned, gave_up, stays_at, one_place}
+use Rattle.rank_group.proofs.at_port.AtPort.turn.Goals as goal
+
+pub turn_over-requires : goal.turn_over-requires
+turn_over-requires g c =
+    let i = c.self.inside in
+    let n = neither i.rank.over i.lost (ap (λ (x : PortState g.row.Q.Denot). x.now.rank.over || x.now.lost) c.self.view_is ∙ c.requires.going) in
+    let w = c.self.invariant.way in
+    let few = w.way.few n.1 n.0 in
+    let below = c.await_turn.ensures in
+    (search rules, (refl, (n.0, (omega (arith, few, below), (w.steady, w.h, w.way.runs n.1)))))
+
+pub invariant_of-self : goal.invariant_of-self
+invariant_of-self g c =
+    let i = c.self.inside in
+    let R = g.Q.Program.rules in
+    let n = neither i.rank.over i.lost (ap (λ (x : PortState g.row.Q.Denot). x.now.rank.over || x.now.lost) c.self.view_is ∙ c.requires.going) in
+    let x : SeatedState g.row.Q.Denot = record { rank = i.rank; seat = i.port.seat; turns = i.turns; lost = i.lost } in
+    let t = c.turn_over.ensures in
+    let seat = c.turn_over.new.port.seat in
+    let same = one_place x seat (ap (λ (r : Rest). r.bank) t.rest) t.same_dims t.same_slots in
+    stays_at R g.row.CAP i.first.value x _ c.self.invariant (turned R g.row.CAP x c.turn_over.new.rank seat same t.same_rank n.1 n.0 c.in-Ok.ensures.epoch c.in-Ok.ensures.kept)
+
+pub invariant_of-self-in-Err : goal.invariant_of-self-in-Err
+invariant_of-self-in-Err g c =
+    let i = c.self.inside in
+    let R = g.Q.Program.rules in
+    let x : SeatedState g.row.Q.Denot = record { rank = i.rank; seat = i.port.seat; turns = i.turns; lost = i.lost } in
+    let t = c.turn_over.ensures in
+    let seat = c.turn_over.new.port.seat in
+    let same = one_place x seat (ap (λ (r : Rest). r.bank) t.rest) t.same_dims t.same_slots in
+    stays_at R g.row.CAP i.first.value x _ c.self.invariant (gave_up R g.row.CAP x c.turn_over.new.rank seat same t.same_rank)

@@ -1,0 +1,113 @@
+//! The ranks that the caller keeps, since no thread could be started for them.
+ghost use Rattle.std.specs.Prelude.{◌≡◌, map};
+ghost use Rattle.rank_group.specs.Children.{first_of};
+
+use crate::child::Child;
+use crate::gate::Gate;
+use crate::job::{Job, do_job};
+use crate::shared::Shared;
+use crate::steps::Steps;
+use round_program::Program;
+use std::sync::Wait;
+use std::sync::ledger::Ledger;
+use std::thread;
+
+/// How far the ranks are that the caller keeps, after a turn of each.
+#[derive(Clone, Copy, PartialEq, Eq, Debug)]
+pub(crate) enum Kept {
+    /// No epoch follows for any of them.
+    Over,
+    /// No turn moved anything.
+    Still,
+    /// Some turn moved something.
+    Moved,
+}
+
+/// All ranks of a drive, of which the caller turns those that it keeps.
+pub struct Keeper<'a, R: Wait, Q: Program, G: Gate, const CAP: usize, const HOPS: usize> {
+    shared: &'a Shared<'a, R, G, CAP, HOPS>,
+    children: Vec<Child<'a, Q, CAP, HOPS>>,
+}
+
+impl<'a, R: Wait, Q: Program, G: Gate, const CAP: usize, const HOPS: usize> Job
+    for Keeper<'a, R, Q, G, CAP, HOPS> {
+    ghost use Rattle.std.specs.Prelude.{◌≡◌, map};
+    ghost use Rattle.rank_group.specs.Children.{first_of};
+
+    ghost ran = { λ a b. map first_of b.children.items ≡ map first_of a.children.items };
+
+    fn work<L: Ledger>(self, steps: &mut Steps<L>) -> Self {
+        let Keeper {
+            shared,
+            mut children,
+        } = self;
+        for _ in shared.rt.forever() {
+            match sweep_kept(shared, &mut children, steps) {
+                Kept::Over => return Keeper { shared, children },
+                Kept::Still => thread::yield_now(),
+                Kept::Moved => {}
+            }
+        }
+        unreachable!()
+    }
+}
+
+/// Turns the ranks that the caller keeps, in turns, until the run of each is over.
+pub(crate) fn run_kept<'a, R: Wait, Q: Program, G: Gate, const CAP: usize, const HOPS: usize>(
+    shared: &'a Shared<'a, R, G, CAP, HOPS>,
+    children: Vec<Child<'a, Q, CAP, HOPS>>,
+) -> Vec<Child<'a, Q, CAP, HOPS>>
+    ensures { map first_of result.items ≡ map first_of children.entry.items }
+{
+    let Keeper {
+        shared: _,
+        children,
+    } = do_job(Keeper { shared, children });
+    children
+}
+
+/// Turns each rank once that the caller keeps, where its run isn't over.
+fn sweep_kept<'a, R: Wait, Q: Program, G: Gate, L: Ledger, const CAP: usize, const HOPS: usize>(
+    shared: &Shared<'a, R, G, CAP, HOPS>,
+    children: &mut Vec<Child<'a, Q, CAP, HOPS>>,
+    steps: &mut Steps<L>,
+) -> Kept
+    ensures { map first_of children.new.items ≡ map first_of children.old.items }
+{
+    let mut kept = Kept::Over;
+    for i in 0..children.len() {
+        kept = both(kept, turn_kept(shared, &mut children[i], steps));
+    }
+    kept
+}
+
+/// Turns a rank once, where the caller keeps it and its run isn't over.
+fn turn_kept<'a, R: Wait, Q: Program, G: Gate, L: Ledger, const CAP: usize, const HOPS: usize>(
+    shared: &Shared<'a, R, G, CAP, HOPS>,
+    child: &mut Child<'a, Q, CAP, HOPS>,
+    steps: &mut Steps<L>,
+) -> Kept
+    ensures { first_of child.new ≡ first_of child.old }
+{
+    match child {
+        Child::There(_) => Kept::Over,
+        Child::Here(at) => {
+            if at.is_over() {
+                Kept::Over
+            } else if at.turn(shared.rt, shared.gate, steps) {
+                Kept::Moved
+            } else {
+                Kept::Still
+            }
+        }
+    }
+}
+
+/// How far two ranks are.
+fn both(a: Kept, b: Kept) -> Kept {
+    match (a, b) {
+        (Kept::Moved, _) | (_, Kept::Moved) => Kept::Moved,
+        (Kept::Still, _) | (_, Kept::Still) => Kept::Still,
+        (Kept::Over, Kept::Over) => Kept::Over,
+    }
+}

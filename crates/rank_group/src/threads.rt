@@ -1,0 +1,106 @@
+//! One call that drives all ranks of a grid, each on a thread of its own.
+ghost use Rattle.std.specs.Prelude.{◌≡◌, ℕ, ◌<◌, ◌≤◌, true, List, [], ◌∷◌, length, IfOk};
+ghost use Rattle.route_tensor.specs.Grid.{ranks};
+ghost use Rattle.port_bank.specs.Port.{IsSlots};
+ghost use Rattle.round_program.specs.Canonical.{InRound, HasRounds, EndsWithin, HaveEnded};
+ghost use Rattle.rank_group.specs.declared.closed_round.ClosedRound.{ClosedRound};
+ghost use Rattle.rank_group.specs.Rounds.{round_of};
+ghost use Rattle.rank_group.specs.Told.{TellsRun};
+
+use crate::closed_round::{ClosedRound, Rounds};
+use crate::drive::Finished;
+use crate::gate::Gate;
+use crate::ranks::{ranks_of, take_progs};
+use crate::seating::{gather_all, seat_all};
+use crate::together::run_together;
+use crate::via::Via;
+use bale_types::NoMemory;
+use convey::closes_law;
+use link_slots::SlotBank;
+use round_program::{Program, Progs};
+use route_tensor::Grid;
+use std::alloc::Global;
+use std::sync::Wait;
+use std::thread::Threads;
+
+/// Drives the programs of all ranks, from their first round to their last, each on a thread of its own, over one slot bank
+/// with parcels of `CAP` entries and `slots` (1, 2, 4 or 8) parcels on a link at a time. The threads are up over all rounds.
+/// Before each turn of a rank the gate is told of it. A rank whose thread can't be started is driven by the caller, in turns
+/// with the others of its kind.
+///
+/// It waits for its threads, and returns where they do.
+///
+/// # Errors
+/// `NoMemory` where a program, a node, the bank or the result found none. The programs are dropped.
+pub fn drive_threads<
+    const CAP: usize,
+    const HOPS: usize,
+    R: Threads + Wait + Sync,
+    Q: Program + Send,
+    G: Gate + Sync,
+>(
+    rt: &R,
+    alloc: Global,
+    grid: &Grid,
+    via: Via,
+    slots: u32,
+    steady: bool,
+    progs: Progs<Q>,
+    gate: &G,
+) -> Result<Finished<Q>, NoMemory>
+    requires some { 0 < CAP }
+    requires small { CAP ≤ 1024 }
+    requires hops { length grid.now ≡ HOPS }
+    requires slots { IsSlots slots }
+    requires begins { (shape : List ℕ) × (most : ℕ) × InRound Q.rules (ranks grid.now) 0 shape most progs × EndsWithin Q.rules progs most }
+
+    // The programs are as the canonical run leaves them.
+    ensures ended { IfOk result (λ f. HaveEnded Q.rules progs f.progs) }
+
+    // One closed round tells what was exchanged.
+    ensures rounds { IfOk result (λ f. (c : ClosedRound) × (f.rounds ≡ c ∷ []) × ((n : ℕ) → HasRounds Q.rules progs n
+        → TellsRun Q.rules progs n (record { dims = grid.now; cap = CAP; slots = slots; by_slots = true }) steady (round_of c))) }
+{
+    let threads = grid.ranks() as usize;
+    drive_with::<CAP, HOPS, R, Q, G>(rt, alloc, grid, via, slots, steady, progs, gate, threads)
+}
+
+/// The same with so many threads at most: the caller drives the ranks from the number `threads` on.
+pub(crate) fn drive_with<
+    const CAP: usize,
+    const HOPS: usize,
+    R: Threads + Wait + Sync,
+    Q: Program + Send,
+    G: Gate + Sync,
+>(
+    rt: &R,
+    alloc: Global,
+    grid: &Grid,
+    via: Via,
+    slots: u32,
+    steady: bool,
+    progs: Progs<Q>,
+    gate: &G,
+    threads: usize,
+) -> Result<Finished<Q>, NoMemory>
+    requires some { 0 < CAP }
+    requires small { CAP ≤ 1024 }
+    requires hops { length grid.now ≡ HOPS }
+    requires slots { IsSlots slots }
+    requires begins { (shape : List ℕ) × (most : ℕ) × InRound Q.rules (ranks grid.now) 0 shape most progs × EndsWithin Q.rules progs most }
+    ensures ended { IfOk result (λ f. HaveEnded Q.rules progs f.progs) }
+    ensures rounds { IfOk result (λ f. (c : ClosedRound) × (f.rounds ≡ c ∷ []) × ((n : ℕ) → HasRounds Q.rules progs n
+        → TellsRun Q.rules progs n (record { dims = grid.now; cap = CAP; slots = slots; by_slots = true }) steady (round_of c))) }
+{
+    closes_law();
+    let _few = grid.ranks();
+    let all = ranks_of::<CAP, HOPS, Q>(alloc, grid, via, steady, progs)?;
+    let (bank, mut gather) = SlotBank::<CAP>::new(alloc, grid, slots)?;
+    let seated = seat_all(alloc, &bank, &mut gather, all)?;
+    let ended = run_together(rt, alloc, &bank, gate, threads, seated)?;
+    let over = gather_all(alloc, &bank, &mut gather, ended)?;
+    let mut rounds = Rounds::new(alloc);
+    rounds.add(ClosedRound::Slots(bank.close(gather)))?;
+    let progs = take_progs::<CAP, HOPS, Q>(alloc, over)?;
+    Ok(Finished { progs, rounds })
+}

@@ -1,0 +1,44 @@
+//! Turns a rank over a port that takes no memory.
+ghost use Rattle.std.specs.Prelude.{◌≡◌, ℕ, ◌+◌, ◌^◌, ◌<◌, ◌≤◌, Bool, false, OnOk};
+ghost use Rattle.rank_group.specs.Ranks.{IsRank};
+
+use crate::steps::Steps;
+use crate::sweeping::Rank;
+use crate::turn::Turn;
+use bale_types::NoMemory;
+use port_bank::Port;
+use round_program::Program;
+use std::sync::ledger::Ledger;
+
+/// Turns the node of a rank, and goes on to its next epoch where one has ended. Answers whether anything moved.
+///
+/// # Errors
+/// `NoMemory` comes only where no epoch follows.
+pub(crate) fn turn_over<const CAP: usize, const HOPS: usize, Q: Program, P: Port<CAP>, L: Ledger>(
+    rank: &mut Rank<Q, CAP, HOPS>,
+    port: &mut P,
+    steps: &mut Steps<L>,
+) -> Result<bool, NoMemory>
+    requires fixed { P.Memory.GROWS ≡ false }
+    requires going { rank.old.over ≡ false }
+    requires few { rank.old.node.conveyor.epoch < 2 ^ 63 }
+    requires rank { (steady : Bool) × (h : ℕ → Q) × IsRank Q.rules (P.dims port.old) CAP steady (P.rank port.old) h rank.old (P.sent port.old) (P.got port.old) }
+    ensures same_dims { P.dims port.new ≡ P.dims port.old }
+    ensures same_rank { P.rank port.new ≡ P.rank port.old }
+    ensures same_slots { P.slots port.new ≡ P.slots port.old }
+    ensures rest { P.rest port.new ≡ P.rest port.old }
+    ensures epoch { OnOk result (rank.new.over ≡ false → rank.new.node.conveyor.epoch ≤ rank.old.node.conveyor.epoch + 1) }
+    ensures kept { OnOk result ((steady : Bool) (h : ℕ → Q) → IsRank Q.rules (P.dims port.old) CAP steady (P.rank port.old) h rank.old (P.sent port.old) (P.got port.old)
+        → (g : ℕ → Q) × (g 0 ≡ h 0) × IsRank Q.rules (P.dims port.old) CAP steady (P.rank port.old) g rank.new (P.sent port.new) (P.got port.new)) }
+{
+    let Ok(turn) = rank.node.turn(port, steps) else {
+        unreachable!()
+    };
+    match turn {
+        Turn::Going => Ok(true),
+        Turn::Ended => {
+            rank.over = !rank.node.next()?;
+            Ok(true)
+        }
+    }
+}

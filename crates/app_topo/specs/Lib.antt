@@ -1,2 +1,4 @@
 pub mod Levels
+pub mod TopoLaws
+pub mod Topos
 pub mod Triangular

@@ -2,3 +2,5 @@ pub mod Claimed
 pub mod Counting
 pub mod LevelFacts
 pub mod Printed
+pub mod TopoLists
+pub mod TopoSteps

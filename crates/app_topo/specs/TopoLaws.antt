@@ -43,10 +43,10 @@ own_item size ranks round to from x h = own_by (cond (round == 0) (nat_lt x.c 2)
 
 -- ---- Each absorb keeps the rank in order
 
-added_len : (ranks : ℕ) (numbers : List ℕ) (x b : ℕ) → length (added ranks numbers x b) ≡ length numbers
+pub added_len : (ranks : ℕ) (numbers : List ℕ) (x b : ℕ) → length (added ranks numbers x b) ≡ length numbers
 added_len ranks numbers x b = changed_len numbers (x / ranks) 0 (λ v. (v + b) % 2 ^ 64)
 
-raised_in : (size : ℕ) (t : Triple) (cells : List Triple) → IsInside size t → All (IsInside size) cells → All (IsInside size) (raised t cells)
+pub raised_in : (size : ℕ) (t : Triple) (cells : List Triple) → IsInside size t → All (IsInside size) cells → All (IsInside size) (raised t cells)
 raised_in size t cells h all = raised_keeps (IsInside size) (λ s u e f a b. a) t cells h all
 
 spot_inside : (size a b : ℕ) → a < size → b < size → IsInside size (spot a b)
@@ -78,6 +78,7 @@ entered_valid s x v o =
       count_places = v.count_places;
       few = v.few;
       inside = v.inside;
+      sorted = v.sorted;
       came_inside = either (x.c == 0) (All (IsInside s.size)) s.came (raised (spot x.a x.b) s.came) v.came_inside (raised_in s.size (spot x.a x.b) s.came (spot_inside s.size x.a x.b o.a_low o.b_low) v.came_inside);
       ordered = either (x.c == 0) InOrder s.came (raised (spot x.a x.b) s.came) v.ordered (raised_ordered (spot x.a x.b) s.came v.ordered);
       fit = v.fit;
@@ -94,6 +95,7 @@ claimed_valid s x v o =
       count_places = added_len s.ranks s.counts x.a 1 ∙ v.count_places;
       few = (let few : s.fresh < 2 ^ 32 = v.few in either (number_at s.ranks s.counts x.a == 0) (λ n. n < 2 ^ 32) (min (s.fresh + 1) (2 ^ 32 - 1)) s.fresh (omega arith) few);
       inside = v.inside;
+      sorted = v.sorted;
       came_inside = raised_in s.size (spot x.a 0) s.came (spot_inside s.size x.a 0 o.a_low (omega arith)) v.came_inside;
       ordered = raised_ordered (spot x.a 0) s.came v.ordered;
       fit = v.fit;
@@ -111,6 +113,7 @@ fallen_valid s x v o =
       count_places = v.count_places;
       few = v.few;
       inside = v.inside;
+      sorted = v.sorted;
       came_inside = maybe_in s.size b (spot x.a 0) s.came (spot_inside s.size x.a 0 o.a_low (omega arith)) v.came_inside;
       ordered = maybe_ordered b (spot x.a 0) s.came v.ordered;
       fit = v.fit;
@@ -278,11 +281,11 @@ fall_fits size ranks rank round u own wide row col n o =
     let rest : (nat_lt rank ranks && nat_lt u.j size && nat_lt u.i size && u.j % ranks == u.j % ranks && is_item (to_fall ranks u).1 && true) ≡ true = grind (arith, nat_tests) in
     ap (λ k. nat_lt rank ranks && nat_lt u.j size && nat_lt u.i size && u.j % ranks == u.j % ranks && is_item (to_fall ranks u).1 && k) kind ∙ rest
 
-claims_fit : (s : TopoState) (round : ℕ) (rows : List ℕ) → IsTopo s → round ≢ 0 → round % 2 ≡ 1 → All (FitsIn s round) (claims_of s rows)
+claims_fit : (s : TopoState) (round : ℕ) (rows : List ℕ) → IsTopo s → round ≢ 0 → round % 2 ≡ 1 → All (FitsIn s round) (claims_of s.ranks s.size s.numbers s.sums rows)
 claims_fit s round rows v n o =
-    All-map (FitsIn s round) (λ i. to_claim s.ranks i (number_at s.ranks s.sums i)) (filter (claims_now s) rows) (λ k d l.
-    let i : ℕ = get_or (filter (claims_now s) rows) k d in
-    let test : claims_now s i ≡ true = filter_passes (claims_now s) rows k d l in
+    All-map (FitsIn s round) (λ i. to_claim s.ranks i (number_at s.ranks s.sums i)) (filter (claims_now s.ranks s.size s.numbers s.sums) rows) (λ k d l.
+    let i : ℕ = get_or (filter (claims_now s.ranks s.size s.numbers s.sums) rows) k d in
+    let test : claims_now s.ranks s.size s.numbers s.sums i ≡ true = filter_passes (claims_now s.ranks s.size s.numbers s.sums) rows k d l in
     let parts = and_parts (number_at s.ranks s.numbers i == 1 && nat_lt (number_at s.ranks s.sums i) s.size) (nat_lt i s.size) test in
     let two = and_parts (number_at s.ranks s.numbers i == 1) (nat_lt (number_at s.ranks s.sums i) s.size) parts.0 in
     claim_fits s.size s.ranks s.rank round i (number_at s.ranks s.sums i) v.own v.wide (ltb-true i s.size parts.1) (ltb-true (number_at s.ranks s.sums i) s.size two.1) n o)
@@ -298,9 +301,9 @@ falls_fit s round (c ∷ cs) v n o =
 pub next_fit : (s : TopoState) → IsTopo s → All (FitsIn s (min (s.round + 1) (2 ^ 64 - 1))) (next_outgoing s)
 next_fit s v =
     let round : ℕ = min (s.round + 1) (2 ^ 64 - 1) in
-    let rows : List (ℕ × Item) = claims_of s (own_rows s.ranks s.rank s.size) in
-    let falls : List (ℕ × Item) = falls_of s in
-    let later : List (ℕ × Item) = claims_of s (map (λ u. u.i) s.came) in
+    let rows : List (ℕ × Item) = claims_of s.ranks s.size s.numbers s.sums (own_rows s.ranks s.rank s.size) in
+    let falls : List (ℕ × Item) = cond (nat_lt s.round (2 ^ 64 - 1)) (falls_of s.ranks s.columns s.came) [] in
+    let later : List (ℕ × Item) = claims_of s.ranks s.size s.numbers s.sums (map (λ u. u.i) s.came) in
     let all : List (ℕ × Item) = flat_map (λ c. map (to_fall s.ranks) (filter (λ u. u.i == c.i) s.columns)) s.came in
     elim (kind_of s) [
       | first z ↦ subst (All (FitsIn s round)) (sym (in_first s rows falls later z)) (claims_fit s round (own_rows s.ranks s.rank s.size) v (omega arith) (omega arith))
@@ -329,6 +332,7 @@ topo_laws =
           count_places = v.count_places;
           few = lit< tt;
           inside = either (s.round == 0) (All (IsInside s.size)) s.came s.columns v.came_inside v.inside;
+          sorted = either (s.round == 0) InOrder s.came s.columns v.ordered v.sorted;
           came_inside = All-nil (IsInside s.size);
           ordered = pairs_none (λ t u. is_before t u ≡ true);
           fit = next_fit s v;

@@ -5,16 +5,11 @@ use Rattle.std.specs.List.{All, filter, flat_map, range_with_len}
 use Rattle.bale_types.specs.declared.Item.{Item}
 use Rattle.bale_types.specs.declared.triple.Triple.{Triple}
 use Rattle.list_laws.specs.Lists.{changed_at}
+use Rattle.app_topo.specs.declared.placed.Placed.{Placed}
 use Rattle.mtx_text.specs.Cells.{InOrder, raised}
 use Rattle.round_program.specs.Rules.{Rules}
 use Rattle.round_program.specs.Laws.{is_item}
 use Rattle.sparse_rows.specs.Owners.{places_for}
-
--- a row that has claimed: its level, itself, and the column
-pub record Placed : Type 0 where
-  pub level : ℕ
-  pub row : ℕ
-  pub column : ℕ
 
 -- one rank's part; row or column number x stands at x div ranks in a list of own rows or columns
 pub record TopoState : Type 0 where
@@ -67,21 +62,25 @@ abbrev pub own_rows : ℕ → ℕ → ℕ → List ℕ
 own_rows ranks rank size = map (λ k. k * ranks + rank) (range_with_len 0 (places_for ranks size))
 
 -- of some rows, those whose number is 1; a row whose sum is no column is left out
-abbrev pub claims_now : TopoState → ℕ → Bool
-claims_now s i = number_at s.ranks s.numbers i == 1 && nat_lt (number_at s.ranks s.sums i) s.size && nat_lt i s.size
+abbrev pub claims_now : ℕ → ℕ → List ℕ → List ℕ → ℕ → Bool
+claims_now ranks size numbers sums i = number_at ranks numbers i == 1 && nat_lt (number_at ranks sums i) size && nat_lt i size
 
-abbrev pub claims_of : TopoState → List ℕ → List (ℕ × Item)
-claims_of s rows = map (λ i. to_claim s.ranks i (number_at s.ranks s.sums i)) (filter (claims_now s) rows)
+abbrev pub claims_of : ℕ → ℕ → List ℕ → List ℕ → List ℕ → List (ℕ × Item)
+claims_of ranks size numbers sums rows = map (λ i. to_claim ranks i (number_at ranks sums i)) (filter (claims_now ranks size numbers sums) rows)
 
--- the falls of all rows of the columns that were claimed; none where the round's number stands still
-abbrev pub falls_of : TopoState → List (ℕ × Item)
-falls_of s = cond (nat_lt s.round (2 ^ 64 - 1)) (flat_map (λ c. map (to_fall s.ranks) (filter (λ u. u.i == c.i) s.columns)) s.came) []
+-- the falls of all rows of the columns that were claimed
+abbrev pub falls_of : ℕ → List Triple → List Triple → List (ℕ × Item)
+falls_of ranks columns came = flat_map (λ c. map (to_fall ranks) (filter (λ u. u.i == c.i) columns)) came
 
--- what is sent after a round: the first claims after round 0, falls after an odd round, claims after a later even one
+-- what is sent after a round: the first claims after round 0, falls after an odd round (none where its number stands still),
+-- claims after a later even one
+abbrev pub sent_after : ℕ → ℕ → ℕ → ℕ → List ℕ → List ℕ → List Triple → List Triple → List (ℕ × Item)
+sent_after round rank ranks size numbers sums columns came =
+    cond (round == 0) (claims_of ranks size numbers sums (own_rows ranks rank size))
+    (cond (round % 2 == 1) (cond (nat_lt round (2 ^ 64 - 1)) (falls_of ranks columns came) []) (claims_of ranks size numbers sums (map (λ u. u.i) came)))
+
 abbrev pub next_outgoing : TopoState → List (ℕ × Item)
-next_outgoing s =
-    cond (s.round == 0) (claims_of s (own_rows s.ranks s.rank s.size))
-    (cond (s.round % 2 == 1) (falls_of s) (claims_of s (map (λ u. u.i) s.came)))
+next_outgoing s = sent_after s.round s.rank s.ranks s.size s.numbers s.sums s.columns s.came
 
 -- ---- What is absorbed
 
@@ -132,6 +131,7 @@ pub record IsTopo (s : TopoState) : Type 0 where
   pub count_places : length s.counts ≡ places_for s.ranks s.size
   pub few : s.fresh < 2 ^ 32
   pub inside : All (IsInside s.size) s.columns
+  pub sorted : InOrder s.columns
   pub came_inside : All (IsInside s.size) s.came
   pub ordered : InOrder s.came
   pub fit : All (λ e. may_topo (s.size ∷ []) s.ranks s.round e.0 s.rank e.1 ≡ true) s.outgoing

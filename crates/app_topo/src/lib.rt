@@ -1,4 +1,11 @@
-//! The topological order of a square matrix, by levels.
+//! The topological order of a square matrix, by levels: rows and columns in an order in which the matrix is upper triangular
+//! with a full diagonal, where there is one.
 #![tactic(auto)]
 
-mod laws;
+mod lists;
+mod marks;
+mod placed;
+mod topo;
+
+pub use placed::Placed;
+pub use topo::Topo;

@@ -3,4 +3,5 @@ pub mod Counting
 pub mod LevelFacts
 pub mod Printed
 pub mod TopoLists
+pub mod TopoStart
 pub mod TopoSteps

@@ -6,6 +6,8 @@ mod lists;
 mod marks;
 mod placed;
 mod topo;
+mod topo_run;
 
 pub use placed::Placed;
 pub use topo::Topo;
+pub use topo_run::topo_start;

@@ -2,6 +2,9 @@ pub mod Claimed
 pub mod Counting
 pub mod LevelFacts
 pub mod Printed
+pub mod TopoClaims
 pub mod TopoLists
 pub mod TopoStart
+pub mod TopoStates
 pub mod TopoSteps
+pub mod TopoTables

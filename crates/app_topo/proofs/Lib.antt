@@ -2,7 +2,9 @@ pub mod Claimed
 pub mod Counting
 pub mod LevelFacts
 pub mod Printed
+pub mod TopoClaimRound
 pub mod TopoClaims
+pub mod TopoFalls
 pub mod TopoLists
 pub mod TopoStart
 pub mod TopoStates

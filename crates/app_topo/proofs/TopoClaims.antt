@@ -39,37 +39,37 @@ use Rattle.app_topo.proofs.TopoStates.{claims, next, by_column, freed, is_freed,
 abbrev pub claims_all : TopoState → List (ℕ × Item) → TopoState
 claims_all s came = fold (λ u e. claimed_by u e.1) s came
 
-each_claimed : (s : TopoState) (came : List (ℕ × Item)) → s.round ≢ 0 → s.round % 2 ≡ 1 → absorb_each topo_rules s came ≡ claims_all s came
+pub each_claimed : (s : TopoState) (came : List (ℕ × Item)) → s.round ≢ 0 → s.round % 2 ≡ 1 → absorb_each topo_rules s came ≡ claims_all s came
 each_claimed s [] n o = refl
 each_claimed s (e ∷ es) n o =
     ap (λ u. absorb_each topo_rules u es) (in_odd s (entered s e.1) (claimed_by s e.1) (fallen s e.1) n o) ∙ each_claimed (claimed_by s e.1) es n o
 
-abbrev every : Item → Bool
+abbrev pub every : Item → Bool
 every x = true
 
-abbrev one_each : Item → ℕ
+abbrev pub one_each : Item → ℕ
 one_each x = 1
 
-claims_parts : (s : TopoState) (came : List (ℕ × Item))
+pub claims_parts : (s : TopoState) (came : List (ℕ × Item))
     → claims_all s came ≡ record s { counts = added_all s.ranks every one_each s.counts came; fresh = (claims_all s came).fresh; came = raised_all s.came (map (λ e. spot e.1.a 0) came) }
 claims_parts s [] = refl
 claims_parts s (e ∷ es) = claims_parts (claimed_by s e.1) es
 
 -- ---- The counts
 
-claims_short : (m : Sparse) (t : ℕ) → length (claims m t) ≤ m.rows
+pub claims_short : (m : Sparse) (t : ℕ) → length (claims m t) ≤ m.rows
 claims_short m t =
     let sum : total m.rows (λ i. row_claims i (claims m t)) ≡ length (claims m t) = count_total m.rows (λ (c : Claim). c.0) (claims m t) (rows_below m.rows m.entries t) in
     let few : total m.rows (λ i. row_claims i (claims m t)) ≤ m.rows * 1 = total_bound m.rows 1 (λ i. row_claims i (claims m t)) (λ i l. rows_once m.rows m.entries t i) in
     omega arith
 
-col_few : (m : Sparse) (t j : ℕ) → col_claims j (claims m t) ≤ m.rows
+pub col_few : (m : Sparse) (t j : ℕ) → col_claims j (claims m t) ≤ m.rows
 col_few m t j = omega (arith, count_by-le-length (λ (c : Claim). eqb c.1 j) (claims m t), claims_short m t)
 
-abbrev come_claims : ℕ → Sparse → ℕ → ℕ → List (ℕ × Item)
+abbrev pub come_claims : ℕ → Sparse → ℕ → ℕ → List (ℕ × Item)
 come_claims ranks m t r = came_to (claim_row ranks) (claim_column ranks) claim_item r (next m t)
 
-next_inside : (m : Sparse) (t : ℕ) → m.rows ≡ m.cols → IsSparse m → All (λ (c : Claim). c.1 < m.rows) (next m t)
+pub next_inside : (m : Sparse) (t : ℕ) → m.rows ≡ m.cols → IsSparse m → All (λ (c : Claim). c.1 < m.rows) (next m t)
 next_inside m t square is = λ k d l.
     let all : All (λ (c : Claim). c.1 < m.rows) (claims m (suc t)) = cols_below m.rows m.entries (suc t) (λ k d l. subst (λ n. (get_or m.entries k d).j < n) (sym square) (is.inside k d l).col) in
     later (λ (c : Claim). c.1 < m.rows) (claims m t) (next m t) all k d l
@@ -83,7 +83,7 @@ come_own ranks m t r low =
     All-map (IsFor ranks r m.rows) (λ c. (claim_row ranks c, claim_item c)) (dealt (claim_column ranks) r (next m t)) (λ k d l.
     (eqb-true _ r (filter_passes (λ c. eqb (claim_column ranks c) r) (next m t) k d l), All-filter (λ c. eqb (claim_column ranks c) r) (λ (c : Claim). c.1 < m.rows) (next m t) low k d l))
 
-counts_after : (ranks : ℕ) (m : Sparse) (t r : ℕ) → r < ranks → m.rows ≡ m.cols → IsSparse m
+pub counts_after : (ranks : ℕ) (m : Sparse) (t r : ℕ) → r < ranks → m.rows ≡ m.cols → IsSparse m
     → added_all ranks every one_each (table ranks r m.rows (λ j. col_claims j (claims m t))) (come_claims ranks m t r) ≡ table ranks r m.rows (λ j. col_claims j (claims m (suc t)))
 counts_after ranks m t r low square is =
     let tall : m.rows ≤ 16384 = is.tall in
@@ -97,13 +97,13 @@ counts_after ranks m t r low square is =
 -- ---- The falls that follow
 
 -- a filter by what all elements agree on
-filter_same : {X : Type 0} (p q : X → Bool) (xs : List X) → All (λ x. p x ≡ q x) xs → filter p xs ≡ filter q xs
+pub filter_same : {X : Type 0} (p q : X → Bool) (xs : List X) → All (λ x. p x ≡ q x) xs → filter p xs ≡ filter q xs
 filter_same p q [] h = refl
 filter_same p q (x ∷ xs) h =
     ap (λ b. cond b (x ∷ filter p xs) (filter p xs)) (All-head (λ x. p x ≡ q x) x xs h) ∙ ap (λ ys. cond (q x) (x ∷ ys) ys) (filter_same p q xs (All-tail (λ x. p x ≡ q x) x xs h))
 
 -- the columns that were claimed, as rising marks
-abbrev mark_of : Claim → Triple
+abbrev pub mark_of : Claim → Triple
 mark_of c = spot c.1 0
 
 abbrev IsMark : Triple → Type 0
@@ -194,7 +194,7 @@ falls_filter (c ∷ cs) cols order flat rise =
 
 -- ---- What is marked
 
-raised_count : (j : ℕ) (t : Triple) (cells : List Triple) → (count_by (λ c. c.i == j) (raised t cells) ≤ count_by (λ c. c.i == j) (t ∷ cells)) × (count_by (λ c. c.i == j) (t ∷ cells) ≤ 2 * count_by (λ c. c.i == j) (raised t cells))
+pub raised_count : (j : ℕ) (t : Triple) (cells : List Triple) → (count_by (λ c. c.i == j) (raised t cells) ≤ count_by (λ c. c.i == j) (t ∷ cells)) × (count_by (λ c. c.i == j) (t ∷ cells) ≤ 2 * count_by (λ c. c.i == j) (raised t cells))
 raised_count j t [] = (omega arith, omega arith)
 raised_count j t (c ∷ cs) =
     let p : Triple → Bool = λ c. eqb c.i j in
@@ -219,7 +219,7 @@ raised_count j t (c ∷ cs) =
       ]
     ]
 
-gathered_marks : (j : ℕ) (ts : List Triple) → (0 < count_by (λ c. c.i == j) ts → 0 < count_by (λ c. c.i == j) (gathered ts)) × (0 < count_by (λ c. c.i == j) (gathered ts) → 0 < count_by (λ c. c.i == j) ts)
+pub gathered_marks : (j : ℕ) (ts : List Triple) → (0 < count_by (λ c. c.i == j) ts → 0 < count_by (λ c. c.i == j) (gathered ts)) × (0 < count_by (λ c. c.i == j) (gathered ts) → 0 < count_by (λ c. c.i == j) ts)
 gathered_marks j [] = (λ h. h, λ h. h)
 gathered_marks j (t ∷ ts) =
     let p : Triple → Bool = λ c. eqb c.i j in
@@ -237,7 +237,7 @@ gathered_marks j (t ∷ ts) =
           (λ h. omega (arith, is, both.1, a), λ h. omega (arith, b))
     ]
 
-pos_same : (a b : ℕ) → (0 < a → 0 < b) → (0 < b → 0 < a) → nat_lt 0 a ≡ nat_lt 0 b
+pub pos_same : (a b : ℕ) → (0 < a → 0 < b) → (0 < b → 0 < a) → nat_lt 0 a ≡ nat_lt 0 b
 pos_same a b f g =
     elim (cases_lt 0 a) [
       | inl some ↦ lt-ltb 0 a some ∙ sym (lt-ltb 0 b (f some))
@@ -247,7 +247,7 @@ pos_same a b f g =
       ]
     ]
 
-dealt_counts : {X : Type 0} (owner : X → ℕ) (r : ℕ) (p : X → Bool) (xs : List X) → ((x : X) → p x ≡ true → owner x ≡ r) → count_by p (dealt owner r xs) ≡ count_by p xs
+pub dealt_counts : {X : Type 0} (owner : X → ℕ) (r : ℕ) (p : X → Bool) (xs : List X) → ((x : X) → p x ≡ true → owner x ≡ r) → count_by p (dealt owner r xs) ≡ count_by p xs
 dealt_counts owner r p [] own = refl
 dealt_counts {X} owner r p (x ∷ xs) own =
     let mine : List X = dealt owner r xs in
@@ -263,7 +263,7 @@ dealt_counts {X} owner r p (x ∷ xs) own =
           ])
     ]
 
-map_counts : {X Y : Type 0} (p : Y → Bool) (f : X → Y) (xs : List X) → count_by p (map f xs) ≡ count_by (λ x. p (f x)) xs
+pub map_counts : {X Y : Type 0} (p : Y → Bool) (f : X → Y) (xs : List X) → count_by p (map f xs) ≡ count_by (λ x. p (f x)) xs
 map_counts p f [] = refl
 map_counts p f (x ∷ xs) = count_cons p (f x) (map f xs) ∙ ap (λ k. one_if (p (f x)) + k) (map_counts p f xs) ∙ sym (count_cons (λ x. p (f x)) x xs)
 
@@ -272,7 +272,7 @@ flat_mapped g f [] = refl
 flat_mapped g f (x ∷ xs) = ap (λ ys. map g (f x) ++ ys) (flat_mapped g f xs) ∙ sym (map-append g (f x) (flat_map f xs))
 
 -- the marks of a rank
-abbrev own_marks : ℕ → Sparse → ℕ → ℕ → List Triple
+abbrev pub own_marks : ℕ → Sparse → ℕ → ℕ → List Triple
 own_marks ranks m t r = gathered (map mark_of (dealt (claim_column ranks) r (next m t)))
 
 own_marked : (ranks : ℕ) (m : Sparse) (t r j : ℕ) → j % ranks ≡ r → marked j (own_marks ranks m t r) ≡ is_freed m t j
@@ -284,7 +284,7 @@ own_marked ranks m t r j own =
     pos_same (count_by (λ c. c.i == j) (own_marks ranks m t r)) (col_claims j (next m t))
     (λ h. subst (λ k. 0 < k) same (both.1 h)) (λ h. both.0 (subst (λ k. 0 < k) (sym same) h))
 
-own_falls : (ranks : ℕ) (m : Sparse) (t r : ℕ) → falls_of ranks (dealt (row_of ranks) r (by_column m)) (own_marks ranks m t r) ≡ map (to_fall ranks) (dealt (row_of ranks) r (freed m t))
+pub own_falls : (ranks : ℕ) (m : Sparse) (t r : ℕ) → falls_of ranks (dealt (row_of ranks) r (by_column m)) (own_marks ranks m t r) ≡ map (to_fall ranks) (dealt (row_of ranks) r (freed m t))
 own_falls ranks m t r =
     let cols : List Triple = dealt (row_of ranks) r (by_column m) in
     let flat : All IsMark (own_marks ranks m t r) =

@@ -158,11 +158,11 @@ keeps s f x v e =
 added_comm : (ranks : ℕ) (numbers : List ℕ) (x y b c : ℕ) → added ranks (added ranks numbers x b) y c ≡ added ranks (added ranks numbers y c) x b
 added_comm ranks numbers x y b c = changed_comm numbers (x / ranks) (y / ranks) 0 (λ v. (v + b) % 2 ^ 64) (λ v. (v + c) % 2 ^ 64) (λ e v. omega arith)
 
-added_here : (ranks : ℕ) (numbers : List ℕ) (x y b : ℕ) → x / ranks ≡ y / ranks → x / ranks < length numbers → number_at ranks (added ranks numbers x b) y ≡ (number_at ranks numbers x + b) % 2 ^ 64
+pub added_here : (ranks : ℕ) (numbers : List ℕ) (x y b : ℕ) → x / ranks ≡ y / ranks → x / ranks < length numbers → number_at ranks (added ranks numbers x b) y ≡ (number_at ranks numbers x + b) % 2 ^ 64
 added_here ranks numbers x y b same low =
     ap (λ k. get_or (added ranks numbers x b) k 0) (sym same) ∙ get_or-set_same numbers (x / ranks) ((number_at ranks numbers x + b) % 2 ^ 64) 0 low
 
-added_there : (ranks : ℕ) (numbers : List ℕ) (x y b : ℕ) → x / ranks ≢ y / ranks → number_at ranks (added ranks numbers x b) y ≡ number_at ranks numbers y
+pub added_there : (ranks : ℕ) (numbers : List ℕ) (x y b : ℕ) → x / ranks ≢ y / ranks → number_at ranks (added ranks numbers x b) y ≡ number_at ranks numbers y
 added_there ranks numbers x y b other = get_or-set_other numbers (x / ranks) (y / ranks) ((number_at ranks numbers x + b) % 2 ^ 64) 0 (λ e. other (sym e))
 
 -- a conditional step commutes

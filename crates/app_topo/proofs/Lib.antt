@@ -6,6 +6,7 @@ pub mod TopoClaimRound
 pub mod TopoClaims
 pub mod TopoFalls
 pub mod TopoLists
+pub mod TopoReady
 pub mod TopoStart
 pub mod TopoStates
 pub mod TopoSteps

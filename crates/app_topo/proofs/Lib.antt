@@ -4,6 +4,7 @@ pub mod LevelFacts
 pub mod Printed
 pub mod TopoClaimRound
 pub mod TopoClaims
+pub mod TopoFallRound
 pub mod TopoFalls
 pub mod TopoLists
 pub mod TopoReady

@@ -151,7 +151,7 @@ rises u v h =
       | inr same ↦ (let e : u.i ≡ v.i = same.0 in omega arith)
     ]
 
-rises_more : (u v : Triple) → is_before u v ≡ true → u.j ≡ 0 → v.j ≡ 0 → u.i < v.i
+pub rises_more : (u v : Triple) → is_before u v ≡ true → u.j ≡ 0 → v.j ≡ 0 → u.i < v.i
 rises_more u v h a b =
     elim (before_parts u.i u.j v.i v.j h) [
       | inl less ↦ less

@@ -125,7 +125,7 @@ in_filter p i xs h =
         ]
 
 -- and one that passes and comes in the list comes in the filter
-to_filter : (p : ℕ → Bool) (i : ℕ) (xs : List ℕ) → p i ≡ true → 0 < comes i xs → 0 < comes i (filter p xs)
+pub to_filter : (p : ℕ → Bool) (i : ℕ) (xs : List ℕ) → p i ≡ true → 0 < comes i xs → 0 < comes i (filter p xs)
 to_filter p i [] t h = h
 to_filter p i (x ∷ xs) t h =
     let s : comes i (x ∷ xs) ≡ one_if (eqb x i) + comes i xs = count_cons (λ y. eqb y i) x xs in
@@ -142,7 +142,7 @@ to_filter p i (x ∷ xs) t h =
           ]
     ]
 
-in_range : (n i : ℕ) → i < n → 0 < comes i (range_with_len 0 n)
+pub in_range : (n i : ℕ) → i < n → 0 < comes i (range_with_len 0 n)
 in_range n i low = (let at_it : get_or (range_with_len 0 n) i i ≡ i = get_or-range_with_len 0 n i i low ∙ omega arith in
     counted (λ y. eqb y i) (range_with_len 0 n) i (i, omega (arith, length-range_with_len 0 n), at_it) (eq-eqb i i refl))
 
@@ -157,7 +157,7 @@ range_below n i h =
 -- ---- Which rows are ready
 
 -- a row that has claimed has no entry left
-claimed_closed : (m : Sparse) (t i : ℕ) → 0 < row_claims i (claims m t) → open_number m (claims m t) i ≡ 0
+pub claimed_closed : (m : Sparse) (t i : ℕ) → 0 < row_claims i (claims m t) → open_number m (claims m t) i ≡ 0
 claimed_closed m t i some =
     elim (cases_eq (open_number m (claims m t) i) 0) [
       | inl none ↦ none

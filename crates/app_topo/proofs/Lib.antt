@@ -6,6 +6,7 @@ pub mod TopoClaimRound
 pub mod TopoClaims
 pub mod TopoFallRound
 pub mod TopoFalls
+pub mod TopoFirstRound
 pub mod TopoLists
 pub mod TopoReady
 pub mod TopoStart

@@ -267,7 +267,7 @@ pub map_counts : {X Y : Type 0} (p : Y → Bool) (f : X → Y) (xs : List X) →
 map_counts p f [] = refl
 map_counts p f (x ∷ xs) = count_cons p (f x) (map f xs) ∙ ap (λ k. one_if (p (f x)) + k) (map_counts p f xs) ∙ sym (count_cons (λ x. p (f x)) x xs)
 
-flat_mapped : {X Y Z : Type 0} (g : Y → Z) (f : X → List Y) (xs : List X) → flat_map (λ x. map g (f x)) xs ≡ map g (flat_map f xs)
+pub flat_mapped : {X Y Z : Type 0} (g : Y → Z) (f : X → List Y) (xs : List X) → flat_map (λ x. map g (f x)) xs ≡ map g (flat_map f xs)
 flat_mapped g f [] = refl
 flat_mapped g f (x ∷ xs) = ap (λ ys. map g (f x) ++ ys) (flat_mapped g f xs) ∙ sym (map-append g (f x) (flat_map f xs))
 

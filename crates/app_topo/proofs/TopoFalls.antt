@@ -76,7 +76,7 @@ split_sum m t i f (e ∷ es) =
 
 -- ---- What is freed, as the falls tell it
 
-flip_differ : (m : Sparse) → IsSparse m → AllPairs Differ (map (λ t. spot t.j t.i) m.entries)
+pub flip_differ : (m : Sparse) → IsSparse m → AllPairs Differ (map (λ t. spot t.j t.i) m.entries)
 flip_differ m is =
     pairs_map (IsEntry m) Differ Differ (λ t. spot t.j t.i) m.entries (λ s t a b differ same. differ (record { row = same.col; col = same.row })) is.inside is.once
 

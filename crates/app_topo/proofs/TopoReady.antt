@@ -90,7 +90,7 @@ ready_rows ranks m t r = dealt (λ i. i % ranks) r (filter (is_ready m.entries (
 own_next : (ranks : ℕ) (m : Sparse) (t r : ℕ) → dealt (claim_row ranks) r (next m t) ≡ map (λ i. (i, open_column m.entries (claims m t) i)) (ready_rows ranks m t r)
 own_next ranks m t r = dealt_map (claim_row ranks) r (λ i. (i, open_column m.entries (claims m t) i)) (filter (is_ready m.entries (claims m t)) (range_with_len 0 m.rows))
 
-range_up : (a n : ℕ) → AllPairs Less (range_with_len a n)
+pub range_up : (a n : ℕ) → AllPairs Less (range_with_len a n)
 range_up a n i j d l low =
     let size : length (range_with_len a n) ≡ n = length-range_with_len a n in
     let x : get_or (range_with_len a n) i d ≡ a + i = get_or-range_with_len a n i d (omega arith) in

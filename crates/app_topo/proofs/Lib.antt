@@ -9,6 +9,7 @@ pub mod TopoFalls
 pub mod TopoFirstRound
 pub mod TopoLists
 pub mod TopoReady
+pub mod TopoRun
 pub mod TopoStart
 pub mod TopoStates
 pub mod TopoSteps

@@ -14,7 +14,8 @@ use round_program::Progs;
 use sparse_rows::{Parts, split};
 use std::alloc::Global;
 
-/// The programs of topo on `ranks` ranks, from 1 to 64, in round 0. The matrix is square.
+/// The programs of topo on `ranks` ranks, from 1 to 64, in round 0 of a run of at most `2n + 2` rounds for `n` rows. The matrix is
+/// square.
 ///
 /// # Errors
 ///
@@ -25,6 +26,7 @@ pub fn topo_start(alloc: Global, m: &Matrix, ranks: u32) -> Result<Progs<Topo>, 
     requires few { ranks ≤ 64 }
     ensures starts { IfOk result (λ ps. ps ≡ topo_starts ranks m.now) }
     ensures begins { IfOk result (λ ps. InRound topo_rules ranks 0 (m.now.rows ∷ []) (2 * m.now.rows + 2) ps) }
+    ensures ends { IfOk result (λ ps. EndsWithin topo_rules ps (2 * m.now.rows + 2)) }
 {
     let parts = split(alloc, m, ranks)?;
     let _kept = m.entries();

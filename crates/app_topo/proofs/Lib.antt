@@ -4,6 +4,7 @@ pub mod LevelFacts
 pub mod Printed
 pub mod TopoClaimRound
 pub mod TopoClaims
+pub mod TopoEnding
 pub mod TopoFallRound
 pub mod TopoFalls
 pub mod TopoFirstRound

@@ -1,4 +1,5 @@
 pub mod Levels
+pub mod TopoEnds
 pub mod TopoLaws
 pub mod TopoRuns
 pub mod TopoView

@@ -15,3 +15,4 @@ pub mod TopoStart
 pub mod TopoStates
 pub mod TopoSteps
 pub mod TopoTables
+pub mod TopoText

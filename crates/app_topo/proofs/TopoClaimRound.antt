@@ -1,33 +1,30 @@
 -- An odd round of topo takes the ranks from the claims of a level to what they free, and its votes tell whether the level has
 -- a row.
-use Rattle.std.proofs.Common.{ℕ, zero, suc, ◌+◌, ◌-◌, ◌*◌, ◌/◌, ◌%◌, ◌^◌, ◌<◌, ◌≤◌, ◌≡◌, ◌≢◌, ◌==◌, ◌++◌, min, Bool, true, false, cond, eqb, List, [], ◌∷◌, Some, map, length, get_or, slice_get, sum_by, All, arith, inl, inr, refl, sym, ap, ◌∙◌, subst}
+use Rattle.std.proofs.Common.{ℕ, zero, suc, ◌+◌, ◌-◌, ◌*◌, ◌/◌, ◌%◌, ◌^◌, ◌<◌, ◌≤◌, ◌≡◌, ◌≢◌, ◌==◌, ◌++◌, min, Bool, true, false, cond, List, [], ◌∷◌, Some, map, slice_get, sum_by, All, arith, refl, sym, ap, ◌∙◌, subst}
 use Rattle.std.specs.Prelude.{nat_lt}
 use Rattle.std.specs.List.{range_with_len}
 use Rattle.std.proofs.Math.Nat.{mod-lt}
-use Rattle.std.proofs.lemmas.Bool.{cases_Bool, cases_eq, eq-eqb, ne_eqb, lt-ltb}
+use Rattle.std.proofs.lemmas.Bool.{eq-eqb, ne_eqb, lt-ltb}
 use Rattle.std.proofs.lemmas.Simd.{map-map}
 use Rattle.std.proofs.lemmas.List.Elements.{All-head}
 use Rattle.std.proofs.lemmas.List.Sums.{sum_by-cons}
 use Rattle.bale_types.specs.declared.Item.{Item}
-use Rattle.bale_types.specs.declared.triple.Triple.{Triple}
 use Rattle.list_laws.proofs.Lists.{get_once, within}
 use Rattle.mtx_text.specs.Sparse.{Sparse, IsSparse}
 use Rattle.mtx_text.specs.Cells.{raised_all, gathered}
 use Rattle.round_program.specs.Canonical.{absorbed_round, round_of, vote_sum, InRound}
-use Rattle.round_program.specs.Orders.{absorb_each}
 use Rattle.round_program.proofs.Members.{absorbed_in}
 use Rattle.sparse_rows.specs.Deals.{dealt}
 use Rattle.sparse_rows.proofs.EveryEntry.{every_owned}
-use Rattle.sparse_rows.proofs.Gathering.{row_of}
 use Rattle.sparse_rows.proofs.Starts.{made_at, made_from, round_made}
 use Rattle.app_topo.specs.declared.placed.Placed.{Placed}
-use Rattle.app_topo.specs.Levels.{Claim, col_claims, level}
-use Rattle.app_topo.specs.Topos.{TopoState, topo_rules, spot, number_at, to_fall, falls_of, placed_in, next_outgoing, claims_of, own_rows, claimed_by}
+use Rattle.app_topo.specs.Levels.{Claim, col_claims}
+use Rattle.app_topo.specs.Topos.{TopoState, topo_rules, spot, number_at, falls_of, placed_in, next_outgoing, claims_of, own_rows, claimed_by}
 use Rattle.app_topo.specs.TopoLaws.{topo_laws, in_odd}
 use Rattle.app_topo.proofs.LevelFacts.{IsNext, level_next, next_free}
 use Rattle.app_topo.proofs.TopoTables.{table, table_at}
-use Rattle.app_topo.proofs.TopoStates.{claims, next, by_column, freed, claim_row, claim_column, claim_item, placed_upto, claiming, freeing}
-use Rattle.app_topo.proofs.TopoClaims.{claims_all, each_claimed, claims_parts, come_claims, counts_after, next_inside, mark_of, own_marks, own_falls}
+use Rattle.app_topo.proofs.TopoStates.{claims, next, claim_row, claim_column, claim_item, claiming, freeing}
+use Rattle.app_topo.proofs.TopoClaims.{claims_all, each_claimed, claims_parts, come_claims, counts_after, next_inside, own_marks, own_falls}
 
 abbrev pub all_claiming : ℕ → Sparse → ℕ → List TopoState
 all_claiming ranks m t = map (claiming ranks m t) (range_with_len 0 ranks)

@@ -1,16 +1,13 @@
 -- An odd round of topo: rows claim columns.
-use Rattle.std.proofs.Common.{ℕ, zero, suc, ◌+◌, ◌-◌, ◌*◌, ◌/◌, ◌%◌, ◌^◌, ◌<◌, ◌≤◌, ◌≡◌, ◌≢◌, ◌==◌, ◌++◌, min, Bool, true, false, cond, eqb, List, [], ◌∷◌, Some, map, length, get_or, slice_get, sum_by, count_by, All, arith, inl, inr, refl, sym, ap, ◌∙◌, subst}
+use Rattle.std.proofs.Common.{ℕ, suc, ◌+◌, ◌*◌, ◌%◌, ◌<◌, ◌≤◌, ◌≡◌, ◌≢◌, ◌==◌, ◌++◌, Bool, true, false, cond, eqb, List, [], ◌∷◌, map, length, get_or, sum_by, count_by, All, arith, inl, inr, refl, sym, ap, ◌∙◌, subst}
 use Rattle.std.specs.Prelude.{nat_lt}
-use Rattle.std.specs.List.{AllPairs, fold, filter, flat_map, range_with_len}
-use Rattle.std.proofs.Math.Nat.{mod-lt}
+use Rattle.std.specs.List.{AllPairs, fold, filter, flat_map}
 use Rattle.std.proofs.lemmas.Bool.{cases_Bool, cases_eq, cases_lt, eq-eqb, ne_eqb, eqb-true, lt-ltb, le-ltb, ltb-true}
-use Rattle.std.proofs.lemmas.Simd.{map-map}
 use Rattle.std.proofs.lemmas.List.{map-append}
 use Rattle.std.proofs.lemmas.List.Elements.{All-head, All-tail, All-map, All-filter, All-contains, filter_passes}
 use Rattle.std.proofs.lemmas.List.Sums.{count_by-le-length}
 use Rattle.bale_types.specs.declared.Item.{Item}
 use Rattle.bale_types.specs.declared.triple.Triple.{Triple}
-use Rattle.list_laws.proofs.Lists.{get_once}
 use Rattle.list_laws.specs.Sums.{total}
 use Rattle.list_laws.proofs.Sums.{total_bound}
 use Rattle.mtx_text.specs.Sparse.{Sparse, IsSparse}
@@ -18,21 +15,19 @@ use Rattle.mtx_text.specs.Cells.{is_before, InOrder, raised, raised_all, gathere
 use Rattle.mtx_text.proofs.PlaceOrder.{pairs_head, pairs_tail, before_parts, place_cases}
 use Rattle.mtx_text.proofs.Raised.{greater, raised_first, raised_later, raised_here}
 use Rattle.mtx_text.proofs.Gathered.{gathered_ordered, gathered_all}
-use Rattle.round_program.specs.Canonical.{absorbed_round, round_of, InRound}
 use Rattle.round_program.specs.Orders.{absorb_each}
 use Rattle.sparse_rows.specs.Deals.{dealt}
 use Rattle.sparse_rows.proofs.Deals.{filter_dealt, filter_none}
 use Rattle.sparse_rows.proofs.Doubles.{one_if}
-use Rattle.sparse_rows.proofs.EveryEntry.{came_to, came_keyed, every_owned}
+use Rattle.sparse_rows.proofs.EveryEntry.{came_to}
 use Rattle.sparse_rows.proofs.Gathering.{row_of, pairs_filter, gathered_cons}
-use Rattle.sparse_rows.proofs.Starts.{made_at, made_from, round_made}
 use Rattle.app_topo.specs.Levels.{Claim, row_claims, col_claims}
-use Rattle.app_topo.specs.Topos.{TopoState, topo_rules, spot, number_at, to_fall, falls_of, placed_in, entered, claimed_by, fallen}
-use Rattle.app_topo.specs.TopoLaws.{topo_laws, in_odd}
+use Rattle.app_topo.specs.Topos.{TopoState, topo_rules, spot, to_fall, falls_of, entered, claimed_by, fallen}
+use Rattle.app_topo.specs.TopoLaws.{in_odd}
 use Rattle.app_topo.proofs.Counting.{count_cons, count_append, count_total, found_by}
-use Rattle.app_topo.proofs.LevelFacts.{IsNext, level_next, rows_once, rows_below, cols_below}
-use Rattle.app_topo.proofs.TopoTables.{table, table_at, added_all, share, IsFor, added_total, came_share}
-use Rattle.app_topo.proofs.TopoStates.{claims, next, by_column, freed, is_freed, claim_row, claim_column, claim_item, placed_upto, claiming, freeing}
+use Rattle.app_topo.proofs.LevelFacts.{rows_once, rows_below, cols_below}
+use Rattle.app_topo.proofs.TopoTables.{table, added_all, share, IsFor, added_total, came_share}
+use Rattle.app_topo.proofs.TopoStates.{claims, next, by_column, freed, is_freed, claim_row, claim_column, claim_item}
 
 -- ---- What the absorbs of an odd round leave
 

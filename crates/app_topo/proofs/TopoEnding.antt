@@ -1,8 +1,8 @@
 -- What the ranks of topo have in the end, taken together.
-use Rattle.std.proofs.Common.{ℕ, zero, suc, ◌+◌, ◌-◌, ◌*◌, ◌/◌, ◌%◌, ◌^◌, ◌<◌, ◌≤◌, ◌≡◌, ◌≢◌, ◌==◌, ◌&&◌, ◌++◌, Bool, true, false, cond, eqb, List, [], ◌∷◌, Some, None, Option, map, length, get_or, slice_get, reverse, All, arith, inl, inr, refl, sym, ap, ap₂, ◌∙◌, subst, lit<}
+use Rattle.std.proofs.Common.{ℕ, zero, suc, ◌+◌, ◌-◌, ◌*◌, ◌/◌, ◌%◌, ◌^◌, ◌<◌, ◌≤◌, ◌≡◌, ◌≢◌, ◌==◌, ◌++◌, Bool, true, false, cond, eqb, List, [], ◌∷◌, Some, None, map, length, get_or, slice_get, reverse, All, arith, inl, inr, refl, sym, ap, ap₂, ◌∙◌, subst}
 use Rattle.std.specs.List.{AllPairs, filter, flat_map, list_all, range_with_len}
 use Rattle.std.proofs.Math.Nat.{mod-lt}
-use Rattle.std.proofs.lemmas.Bool.{cases_Bool, cases_eq, eq-eqb, ne_eqb, eqb-true, and_from, and_parts}
+use Rattle.std.proofs.lemmas.Bool.{cases_Bool, eq-eqb, eqb-true, and_from, and_parts}
 use Rattle.std.proofs.lemmas.Bool.Decides.{nat_tests}
 use Rattle.std.proofs.lemmas.Simd.{map-map}
 use Rattle.std.proofs.lemmas.List.{map-append, append-nil, length-map}
@@ -27,7 +27,7 @@ use Rattle.sparse_rows.proofs.Starts.{made_at}
 use Rattle.sparse_rows.proofs.Places.{place_below}
 use Rattle.sparse_rows.specs.Owners.{places_for}
 use Rattle.app_topo.specs.declared.placed.Placed.{Placed}
-use Rattle.app_topo.specs.Levels.{Claim, row_claims, col_claims, is_ready, open_column, level, claims_after, is_complete, topo_order, row_position, col_position}
+use Rattle.app_topo.specs.Levels.{Claim, row_claims, col_claims, is_ready, open_column, is_complete, topo_order, row_position, col_position}
 use Rattle.app_topo.specs.Triangular.{IsValid}
 use Rattle.app_topo.specs.Topos.{TopoState, number_at}
 use Rattle.app_topo.specs.TopoRuns.{TopoEnded}

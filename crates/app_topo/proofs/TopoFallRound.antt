@@ -1,14 +1,14 @@
 -- An even round of topo takes the ranks from what a level frees to the claims of the next level.
-use Rattle.std.proofs.Common.{ℕ, zero, suc, ◌+◌, ◌-◌, ◌*◌, ◌/◌, ◌%◌, ◌^◌, ◌<◌, ◌≤◌, ◌≡◌, ◌≢◌, ◌==◌, ◌++◌, min, Bool, true, false, cond, eqb, List, [], ◌∷◌, Some, map, length, get_or, slice_get, count_by, All, arith, inl, inr, refl, sym, ap, ◌∙◌, subst}
+use Rattle.std.proofs.Common.{ℕ, suc, ◌+◌, ◌-◌, ◌*◌, ◌/◌, ◌%◌, ◌^◌, ◌<◌, ◌≤◌, ◌≡◌, ◌≢◌, ◌==◌, ◌++◌, min, Bool, true, false, cond, eqb, List, [], ◌∷◌, Some, map, length, slice_get, count_by, All, arith, inl, inr, refl, sym, ap, ◌∙◌, subst}
 use Rattle.std.specs.Prelude.{nat_lt}
 use Rattle.std.specs.List.{AllPairs, fold, filter, range_with_len}
 use Rattle.std.proofs.Math.Nat.{mod-lt}
-use Rattle.std.proofs.lemmas.Bool.{cases_Bool, cases_eq, cases_lt, eq-eqb, ne_eqb, eqb-true}
+use Rattle.std.proofs.lemmas.Bool.{cases_eq, cases_lt, eq-eqb, ne_eqb, eqb-true}
 use Rattle.std.proofs.lemmas.List.Elements.{All-head, All-tail, All-nil, All-map}
 use Rattle.std.proofs.lemmas.List.FromFn.{length-map-range_with_len}
 use Rattle.bale_types.specs.declared.Item.{Item}
 use Rattle.bale_types.specs.declared.triple.Triple.{Triple}
-use Rattle.list_laws.proofs.Lists.{get_once, changed_len}
+use Rattle.list_laws.proofs.Lists.{get_once}
 use Rattle.mtx_text.specs.Sparse.{Sparse, IsSparse}
 use Rattle.mtx_text.specs.Cells.{is_before, InOrder, raised}
 use Rattle.mtx_text.proofs.PlaceOrder.{pairs_none}
@@ -23,15 +23,15 @@ use Rattle.sparse_rows.proofs.EveryEntry.{every_owned}
 use Rattle.sparse_rows.proofs.Gathering.{row_of, pairs_map}
 use Rattle.sparse_rows.proofs.Places.{place_own, place_below}
 use Rattle.sparse_rows.proofs.Starts.{made_at, made_from, round_made}
-use Rattle.app_topo.specs.Levels.{Claim, row_claims, col_claims, is_ready, open_column, level}
+use Rattle.app_topo.specs.Levels.{Claim, row_claims, is_ready, open_column}
 use Rattle.app_topo.specs.Topos.{TopoState, topo_rules, spot, number_at, placed_in, next_outgoing, claims_of, falls_of, own_rows, entered, claimed_by, fallen}
 use Rattle.app_topo.specs.TopoLaws.{topo_laws, in_even, added_here, added_there, added_len}
 use Rattle.app_topo.proofs.Counting.{count_cons, count_append}
 use Rattle.app_topo.proofs.LevelFacts.{IsReady, ready_from}
 use Rattle.app_topo.proofs.TopoTables.{table, table_at, added_all, IsFor}
-use Rattle.app_topo.proofs.TopoStates.{claims, next, by_column, freed, open_number, fall_item, claiming, freeing}
+use Rattle.app_topo.proofs.TopoStates.{claims, next, freed, open_number, fall_item, claiming, freeing}
 use Rattle.app_topo.proofs.TopoClaims.{every, raised_count, dealt_counts, map_counts, rises_more}
-use Rattle.app_topo.proofs.TopoClaimRound.{all_claiming, IsClaiming}
+use Rattle.app_topo.proofs.TopoClaimRound.{all_claiming}
 use Rattle.app_topo.proofs.TopoFalls.{minus_one, minus_column, come_falls, falls_own, numbers_after, sums_after, number_falls, lost}
 use Rattle.app_topo.proofs.TopoReady.{Less, comes, claims_next, ready_where, claimed_closed, to_filter, in_range}
 

@@ -1,9 +1,9 @@
 -- An even round of topo: what a level frees is taken off the numbers and sums of the rows.
-use Rattle.std.proofs.Common.{ℕ, zero, suc, ◌+◌, ◌-◌, ◌*◌, ◌/◌, ◌%◌, ◌^◌, ◌<◌, ◌≤◌, ◌≡◌, ◌≢◌, ◌==◌, ◌&&◌, ◌⊎◌, Bool, true, false, cond, eqb, List, [], ◌∷◌, ◌++◌, map, length, get_or, take, sum_by, count_by, All, IsPermutation, arith, inl, inr, refl, sym, ap, ◌∙◌, subst}
+use Rattle.std.proofs.Common.{ℕ, suc, ◌+◌, ◌-◌, ◌*◌, ◌%◌, ◌^◌, ◌<◌, ◌≤◌, ◌≡◌, ◌==◌, ◌&&◌, Bool, true, false, cond, eqb, List, [], ◌∷◌, map, length, get_or, sum_by, count_by, All, arith, inl, inr, refl, sym, ap, ◌∙◌, subst}
 use Rattle.std.specs.Prelude.{nat_lt}
-use Rattle.std.specs.List.{AllPairs, Contains, fold, filter}
-use Rattle.std.proofs.lemmas.Bool.{cases_Bool, cases_eq, cases_lt, eq-eqb, ne_eqb, eqb-true, lt-ltb, le-ltb, ltb-true}
-use Rattle.std.proofs.lemmas.List.Elements.{All-head, All-tail, All-map, All-filter, All-contains, Contains-get_or, filter_passes}
+use Rattle.std.specs.List.{AllPairs, filter}
+use Rattle.std.proofs.lemmas.Bool.{cases_Bool, cases_eq, cases_lt, eq-eqb, ne_eqb, eqb-true, lt-ltb, le-ltb}
+use Rattle.std.proofs.lemmas.List.Elements.{All-head, All-tail, All-map, All-filter, All-contains, filter_passes}
 use Rattle.std.proofs.lemmas.List.Sums.{sum_by-cons, count_by-le-length}
 use Rattle.std.proofs.lemmas.List.Sorted.{sum_by-IsPermutation}
 use Rattle.bale_types.specs.declared.Item.{Item}
@@ -15,13 +15,13 @@ use Rattle.sparse_rows.specs.Deals.{dealt}
 use Rattle.sparse_rows.proofs.Doubles.{one_if}
 use Rattle.sparse_rows.proofs.EveryEntry.{came_to}
 use Rattle.sparse_rows.proofs.Gathering.{row_of, Differ, pairs_map, gathered_moves}
-use Rattle.app_topo.specs.Levels.{Claim, row_claims, col_claims, is_open, open_column, level}
+use Rattle.app_topo.specs.Levels.{Claim, col_claims, is_open, open_column}
 use Rattle.app_topo.specs.Topos.{spot}
-use Rattle.app_topo.proofs.Counting.{count_cons, count_append, found_by, counted, a_place}
-use Rattle.app_topo.proofs.LevelFacts.{IsNext, level_next, next_free, in_turn, open_parts}
+use Rattle.app_topo.proofs.Counting.{count_cons, count_append, found_by}
+use Rattle.app_topo.proofs.LevelFacts.{IsNext, level_next, next_free}
 use Rattle.app_topo.proofs.TopoTables.{table, added_all, share, IsFor, added_total, came_share}
 use Rattle.app_topo.proofs.TopoStates.{claims, next, by_column, freed, is_freed, open_number, fall_item}
-use Rattle.app_topo.proofs.TopoClaims.{every, next_inside}
+use Rattle.app_topo.proofs.TopoClaims.{every}
 
 -- ---- Open before: open still, or freed
 
@@ -57,6 +57,7 @@ part_of v true a b h =
   where
     sum_zero : (v : ℕ) → v ≡ 0 + v
     sum_zero v = omega arith
+
     zero_sum : (v : ℕ) → v ≡ v + 0
     zero_sum v = omega arith
 

@@ -1,27 +1,27 @@
 -- The first round of topo takes the ranks from the entries to the claims of level 0.
-use Rattle.std.proofs.Common.{ℕ, zero, suc, ◌+◌, ◌-◌, ◌*◌, ◌/◌, ◌%◌, ◌^◌, ◌<◌, ◌≤◌, ◌≡◌, ◌≢◌, ◌==◌, ◌&&◌, ◌++◌, not, min, Bool, true, false, cond, eqb, List, [], ◌∷◌, Some, map, length, get_or, slice_get, replicate, sum_by, count_by, All, arith, inl, inr, refl, sym, ap, ap₂, ◌∙◌, subst}
-use Rattle.std.specs.List.{AllPairs, fold, filter, flat_map, range_with_len, enumerate_from}
+use Rattle.std.proofs.Common.{ℕ, suc, ◌+◌, ◌*◌, ◌/◌, ◌%◌, ◌<◌, ◌≤◌, ◌≡◌, ◌==◌, ◌&&◌, Bool, true, false, cond, eqb, List, [], ◌∷◌, Some, map, get_or, slice_get, replicate, sum_by, All, arith, inl, inr, refl, sym, ap, ◌∙◌, subst}
+use Rattle.std.specs.List.{AllPairs, fold, flat_map, range_with_len, enumerate_from}
 use Rattle.std.proofs.Math.Nat.{mod-lt}
-use Rattle.std.proofs.lemmas.Bool.{cases_Bool, cases_eq, eq-eqb, ne_eqb, eqb-true}
+use Rattle.std.proofs.lemmas.Bool.{cases_Bool, eq-eqb, eqb-true}
 use Rattle.std.proofs.lemmas.Nat.{mod-mul-add, div-add-mod', mul-le}
 use Rattle.std.proofs.lemmas.List.{get_or-replicate, length-replicate}
 use Rattle.std.proofs.lemmas.List.Elements.{All-head, All-tail, All-nil, All-cons, All-map, All-filter, filter_passes}
-use Rattle.std.proofs.lemmas.List.FromFn.{length-map-range_with_len, get_or-map-range_with_len, fill_by_all, length-range_with_len}
+use Rattle.std.proofs.lemmas.List.FromFn.{length-map-range_with_len, get_or-map-range_with_len, fill_by_all}
 use Rattle.std.proofs.lemmas.List.Sums.{sum_by-cons}
 use Rattle.bale_types.specs.declared.Item.{Item}
 use Rattle.bale_types.specs.declared.triple.Triple.{Triple}
 use Rattle.list_laws.proofs.Lists.{get_once}
 use Rattle.mtx_text.specs.Sparse.{Sparse, IsSparse}
-use Rattle.mtx_text.specs.Cells.{raised, raised_all, gathered}
-use Rattle.round_program.specs.Canonical.{absorbed_round, round_of, InRound}
+use Rattle.mtx_text.specs.Cells.{raised, raised_all}
+use Rattle.round_program.specs.Canonical.{absorbed_round, round_of}
 use Rattle.round_program.specs.Orders.{absorb_each}
 use Rattle.sparse_rows.specs.Deals.{dealt}
-use Rattle.sparse_rows.specs.Owners.{Numbered, numbered, entry_owner, own_entries, places_for}
+use Rattle.sparse_rows.specs.Owners.{Numbered, numbered, entry_owner, places_for}
 use Rattle.sparse_rows.proofs.EveryEntry.{came_to, every_owned}
 use Rattle.sparse_rows.proofs.Gathering.{row_of, pairs_map, gathered_dealt}
 use Rattle.sparse_rows.proofs.Places.{place_below}
-use Rattle.sparse_rows.proofs.Starts.{made_at, made_from, round_made, all_numbered}
-use Rattle.app_topo.specs.Levels.{col_claims, is_open, open_column}
+use Rattle.sparse_rows.proofs.Starts.{made_at, made_from, round_made}
+use Rattle.app_topo.specs.Levels.{is_open, open_column}
 use Rattle.app_topo.specs.Topos.{TopoState, topo_rules, spot, entered, claimed_by, fallen, own_rows, next_outgoing}
 use Rattle.app_topo.specs.TopoLaws.{topo_laws, in_first}
 use Rattle.app_topo.specs.TopoRuns.{for_row, for_column, first_sent, topo_begins, topo_starts}
@@ -148,10 +148,11 @@ rows_come i n amount ranks (t ∷ ts) =
 
 first_own : (ranks : ℕ) (m : Sparse) (r : ℕ) → m.rows ≡ m.cols → IsSparse m → All (IsFor ranks r m.rows) (come_first ranks m r)
 first_own ranks m r square is =
-    All-map (IsFor ranks r m.rows) (λ w. (sent_from ranks w, sent_item w)) (dealt (λ w. (sent_item w).a % ranks) r (sent_list (numbered m.entries))) (λ k d l.
-    (eqb-true _ r (filter_passes (λ w. eqb ((sent_item w).a % ranks) r) (sent_list (numbered m.entries)) k d l),
-    All-filter (λ w. eqb ((sent_item w).a % ranks) r) (λ w. (sent_item w).a < m.rows) (sent_list (numbered m.entries))
-    (low m.rows 0 m.entries (λ k d l. ((is.inside k d l).row, subst (λ n. (get_or m.entries k d).j < n) (sym square) (is.inside k d l).col))) k d l))
+    All-map (IsFor ranks r m.rows) (λ w. (sent_from ranks w, sent_item w)) (dealt (λ w. (sent_item w).a % ranks) r (sent_list (numbered m.entries))) (λ k d l. (
+      eqb-true _ r (filter_passes (λ w. eqb ((sent_item w).a % ranks) r) (sent_list (numbered m.entries)) k d l),
+      All-filter (λ w. eqb ((sent_item w).a % ranks) r) (λ w. (sent_item w).a < m.rows) (sent_list (numbered m.entries))
+          (low m.rows 0 m.entries (λ k d l. ((is.inside k d l).row, subst (λ n. (get_or m.entries k d).j < n) (sym square) (is.inside k d l).col))) k d l,
+    ))
   where
     low : (size n : ℕ) (es : List Triple) → All (λ (t : Triple). (t.i < size) × (t.j < size)) es → All (λ w. (sent_item w).a < size) (sent_list (enumerate_from n es))
     low size n [] h = All-nil (λ w. (sent_item w).a < size)

@@ -1,16 +1,15 @@
 -- The lists that a rank of topo sends, one row or column further.
-use Rattle.std.proofs.Common.{ℕ, zero, suc, ◌+◌, ◌*◌, ◌/◌, ◌%◌, ◌<◌, ◌≤◌, ◌≡◌, ◌≢◌, ◌==◌, true, false, cond, eqb, List, [], ◌∷◌, ◌++◌, map, length, get_or, take, All, arith, inl, inr, refl, sym, ap, ◌∙◌, subst, pos, append_assoc}
-use Rattle.std.specs.List.{filter, flat_map, range_with_len}
+use Rattle.std.proofs.Common.{ℕ, zero, suc, ◌+◌, ◌*◌, ◌/◌, ◌<◌, ◌≤◌, ◌≡◌, ◌==◌, cond, eqb, List, [], ◌∷◌, ◌++◌, map, length, get_or, take, arith, inl, inr, refl, sym, ap, ◌∙◌, subst, pos, append_assoc}
+use Rattle.std.specs.List.{filter, range_with_len}
 use Rattle.std.proofs.lemmas.Bool.{cases_lt, eq-eqb, ne_eqb}
-use Rattle.std.proofs.lemmas.Nat.{div-add-mod', div-mul-add, mul-le}
-use Rattle.std.proofs.lemmas.List.{map-append, take_more, take_all}
+use Rattle.std.proofs.lemmas.Nat.{div-mul-add}
+use Rattle.std.proofs.lemmas.List.{map-append, take_more}
 use Rattle.std.proofs.lemmas.List.Elements.{filter-append}
 use Rattle.std.proofs.lemmas.List.FromFn.{map-range_with_len_more}
 use Rattle.bale_types.specs.declared.Item.{Item}
 use Rattle.bale_types.specs.declared.triple.Triple.{Triple}
 use Rattle.mtx_text.specs.Cells.{InOrder}
 use Rattle.mtx_text.proofs.PlaceOrder.{before_parts}
-use Rattle.sparse_rows.specs.Owners.{places_for}
 use Rattle.app_topo.specs.Topos.{claims_of, claims_now, to_claim, to_fall, number_at}
 
 pub claims_more : (ranks size : ℕ) (numbers sums rows : List ℕ) (i : ℕ) → claims_of ranks size numbers sums (rows ++ i ∷ []) ≡ claims_of ranks size numbers sums rows ++ claims_of ranks size numbers sums (i ∷ [])

@@ -1,28 +1,24 @@
 -- The rows that claim next: those whose number fell to 1 are the ready ones.
-use Rattle.std.proofs.Common.{ℕ, zero, suc, ◌+◌, ◌-◌, ◌*◌, ◌/◌, ◌%◌, ◌^◌, ◌<◌, ◌≤◌, ◌≡◌, ◌≢◌, ◌==◌, ◌&&◌, Bool, true, false, cond, eqb, List, [], ◌∷◌, ◌++◌, map, length, get_or, take, count_by, All, arith, inl, inr, refl, sym, ap, ap₂, ◌∙◌, subst}
+use Rattle.std.proofs.Common.{ℕ, zero, suc, ◌+◌, ◌%◌, ◌<◌, ◌≤◌, ◌≡◌, ◌==◌, ◌&&◌, Bool, true, cond, eqb, List, [], ◌∷◌, map, length, get_or, take, count_by, All, arith, inl, inr, refl, sym, ap, ◌∙◌, subst}
 use Rattle.std.specs.Prelude.{nat_lt}
-use Rattle.std.specs.List.{AllPairs, Contains, fold, filter, range_with_len}
-use Rattle.std.proofs.Math.Nat.{mod-lt}
+use Rattle.std.specs.List.{AllPairs, filter, range_with_len}
 use Rattle.std.proofs.lemmas.Bool.{cases_Bool, cases_eq, cases_lt, eq-eqb, ne_eqb, eqb-true, lt-ltb, ltb-true, and_from, and_parts}
-use Rattle.std.proofs.lemmas.List.Elements.{All-head, All-tail, All-nil, All-cons, All-map, All-filter, All-weaker, All-contains, Contains-get_or, filter_passes}
+use Rattle.std.proofs.lemmas.List.Elements.{All-head, All-tail, All-nil, All-cons, All-filter, All-contains, filter_passes}
 use Rattle.std.proofs.lemmas.List.FromFn.{length-range_with_len, get_or-range_with_len}
 use Rattle.std.proofs.lemmas.Simd.{map-map}
-use Rattle.bale_types.specs.declared.Item.{Item}
-use Rattle.bale_types.specs.declared.triple.Triple.{Triple}
-use Rattle.mtx_text.specs.Sparse.{Sparse, IsSparse, IsEntry}
-use Rattle.mtx_text.specs.Cells.{is_before, InOrder, raised}
-use Rattle.mtx_text.proofs.PlaceOrder.{pairs_head, pairs_tail, pairs_none, pairs_cons}
+use Rattle.mtx_text.specs.Sparse.{Sparse, IsSparse}
+use Rattle.mtx_text.proofs.PlaceOrder.{pairs_head, pairs_tail}
 use Rattle.sparse_rows.specs.Deals.{dealt}
 use Rattle.sparse_rows.proofs.Doubles.{one_if}
 use Rattle.sparse_rows.proofs.EveryEntry.{same_map}
-use Rattle.sparse_rows.proofs.Gathering.{pairs_filter, pairs_map, dealt_map}
-use Rattle.app_topo.specs.Levels.{Claim, row_claims, col_claims, is_open, is_ready, open_column, level}
+use Rattle.sparse_rows.proofs.Gathering.{pairs_filter, dealt_map}
+use Rattle.app_topo.specs.Levels.{Claim, row_claims, col_claims, is_open, is_ready, open_column}
 use Rattle.app_topo.specs.Topos.{number_at, claims_of, claims_now, to_claim}
-use Rattle.app_topo.proofs.Counting.{count_cons, count_append, found_by, counted, none_counted, a_place}
-use Rattle.app_topo.proofs.LevelFacts.{IsNext, IsReady, IsOpen, ready_parts, ready_from, open_parts, level_next, level_holds, in_turn, rows_once}
+use Rattle.app_topo.proofs.Counting.{count_cons, found_by, counted, a_place}
+use Rattle.app_topo.proofs.LevelFacts.{IsReady, IsOpen, ready_parts, ready_from, open_parts, in_turn}
 use Rattle.app_topo.proofs.TopoTables.{table, table_at}
 use Rattle.app_topo.proofs.TopoStates.{claims, next, open_number, claim_row, claim_column, claim_item}
-use Rattle.app_topo.proofs.TopoClaims.{next_inside, dealt_counts, map_counts}
+use Rattle.app_topo.proofs.TopoClaims.{next_inside}
 
 -- ---- Rising lists with the same members are one
 

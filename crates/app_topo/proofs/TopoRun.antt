@@ -1,17 +1,17 @@
 -- The run of topo: with l levels it has 2l + 2 rounds, and ends with the claims of all levels.
-use Rattle.std.proofs.Common.{ℕ, zero, suc, ◌+◌, ◌-◌, ◌*◌, ◌/◌, ◌%◌, ◌^◌, ◌<◌, ◌≤◌, ◌≡◌, ◌≢◌, ◌==◌, ◌⊎◌, ◌||◌, ◌++◌, not, Bool, true, false, List, [], ◌∷◌, Some, map, length, slice_get, arith, inl, inr, refl, sym, ap, ◌∙◌, subst, append-nil}
+use Rattle.std.proofs.Common.{ℕ, zero, suc, ◌+◌, ◌-◌, ◌*◌, ◌/◌, ◌%◌, ◌<◌, ◌≤◌, ◌≡◌, ◌≢◌, ◌==◌, ◌⊎◌, ◌||◌, ◌++◌, not, List, [], ◌∷◌, map, length, arith, inl, inr, refl, sym, ap, ◌∙◌, subst, append-nil}
 use Rattle.std.specs.List.{range_with_len}
 use Rattle.std.proofs.lemmas.Bool.{cases_eq, eq-eqb, ne_eqb}
 use Rattle.std.proofs.lemmas.List.{length-append}
 use Rattle.mtx_text.specs.Sparse.{Sparse, IsSparse}
-use Rattle.round_program.specs.Canonical.{absorbed_round, round_of, states_at, votes_at, vote_sum, shape_of, HasRounds, EndsWithin, InRound}
+use Rattle.round_program.specs.Canonical.{absorbed_round, round_of, states_at, votes_at, vote_sum, HasRounds, EndsWithin, InRound}
 use Rattle.round_program.proofs.Members.{rounds_once, in_round}
-use Rattle.app_topo.specs.Levels.{Claim, level, claims_after}
+use Rattle.app_topo.specs.Levels.{level}
 use Rattle.app_topo.specs.Topos.{TopoState, topo_rules}
 use Rattle.app_topo.specs.TopoLaws.{topo_laws}
 use Rattle.app_topo.specs.TopoRuns.{topo_starts, TopoEnded}
 use Rattle.app_topo.proofs.TopoStart.{starts_in_round}
-use Rattle.app_topo.proofs.TopoStates.{claims, next, claiming, freeing}
+use Rattle.app_topo.proofs.TopoStates.{claims, next, freeing}
 use Rattle.app_topo.proofs.TopoClaims.{claims_short}
 use Rattle.app_topo.proofs.TopoClaimRound.{all_claiming, IsClaiming, claim_round, votes_some, votes_none}
 use Rattle.app_topo.proofs.TopoFallRound.{IsFreeing, fall_round}

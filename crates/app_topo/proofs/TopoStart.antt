@@ -1,5 +1,5 @@
 -- topo's programs begin as those of one run.
-use Rattle.std.proofs.Common.{◌≡◌, ℕ, ◌+◌, ◌*◌, ◌%◌, ◌<◌, ◌≤◌, ◌^◌, ◌==◌, true, List, [], ◌∷◌, ◌++◌, Some, All, map, take, length, get_or, slice_get, replicate, arith, refl, sym, ap, ◌∙◌, subst, lit<, append_assoc}
+use Rattle.std.proofs.Common.{◌≡◌, ℕ, ◌+◌, ◌*◌, ◌%◌, ◌<◌, ◌≤◌, ◌==◌, true, List, [], ◌∷◌, ◌++◌, Some, All, take, get_or, slice_get, arith, refl, sym, ap, ◌∙◌, subst, lit<, append_assoc}
 use Rattle.std.specs.List.{flat_map}
 use Rattle.std.proofs.lemmas.Bool.Decides.{nat_tests}
 use Rattle.std.proofs.lemmas.List.{length-replicate, take_more}
@@ -9,11 +9,11 @@ use Rattle.std.proofs.lemmas.Option.{get_or_from_slice_get}
 use Rattle.bale_types.specs.declared.Item.{Item}
 use Rattle.bale_types.specs.declared.triple.Triple.{Triple}
 use Rattle.list_laws.proofs.Lists.{within, all_head, all_tail}
-use Rattle.mtx_text.specs.Sparse.{Sparse, IsSparse, IsEntry}
+use Rattle.mtx_text.specs.Sparse.{Sparse, IsSparse}
 use Rattle.mtx_text.specs.Cells.{is_before}
 use Rattle.mtx_text.proofs.PlaceOrder.{pairs_none}
 use Rattle.round_program.specs.Canonical.{InRound}
-use Rattle.sparse_rows.specs.Owners.{Numbered, numbered, entry_owner, own_entries, row_owner, column_owner, places_for}
+use Rattle.sparse_rows.specs.Owners.{Numbered, numbered, own_entries, row_owner, column_owner, places_for}
 use Rattle.sparse_rows.proofs.Starts.{made_in_round, all_numbered}
 use Rattle.app_topo.specs.Topos.{TopoState, IsTopo, IsInside, topo_rules, may_topo}
 use Rattle.app_topo.specs.TopoRuns.{first_sent, for_row, for_column, topo_begins, topo_starts}
@@ -40,6 +40,7 @@ sent_fits size ranks r (e ∷ es) low wide h =
   where
     row_fits : (size ranks r : ℕ) (t : Triple) → r < ranks → size ≤ 16384 → t.i < size → t.j < size → may_topo (size ∷ []) ranks 0 (t.i % ranks) r (record { a = t.i; b = t.j; c = 0 }) ≡ true
     row_fits size ranks r t low wide row col = grind (arith, nat_tests)
+
     column_fits : (size ranks r : ℕ) (t : Triple) → r < ranks → size ≤ 16384 → t.i < size → t.j < size → may_topo (size ∷ []) ranks 0 (t.j % ranks) r (record { a = t.j; b = t.i; c = 1 }) ≡ true
     column_fits size ranks r t low wide row col = grind (arith, nat_tests)
 

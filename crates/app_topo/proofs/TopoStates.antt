@@ -1,5 +1,5 @@
 -- The states of topo's ranks between the rounds, by levels.
-use Rattle.std.proofs.Common.{ℕ, zero, suc, ◌+◌, ◌*◌, ◌%◌, ◌<◌, ◌≡◌, ◌==◌, ◌++◌, List, [], ◌∷◌, map, count_by}
+use Rattle.std.proofs.Common.{ℕ, zero, suc, ◌+◌, ◌*◌, ◌%◌, ◌++◌, List, [], map, count_by}
 use Rattle.std.specs.Prelude.{nat_lt, Bool}
 use Rattle.std.specs.List.{filter}
 use Rattle.bale_types.specs.declared.Item.{Item}

@@ -1,16 +1,14 @@
 -- What a step of the code leaves, where a rank is one of topo.
-use Rattle.std.proofs.Common.{ℕ, ◌+◌, ◌-◌, ◌/◌, ◌%◌, ◌^◌, ◌<◌, ◌≤◌, ◌≡◌, ◌==◌, ◌++◌, ◌&&◌, min, Bool, true, false, cond, List, [], ◌∷◌, map, length, get_or, All, arith, inl, inr, refl, sym, ap, ◌∙◌, subst, lit<}
-use Rattle.std.specs.Prelude.{nat_lt}
+use Rattle.std.proofs.Common.{ℕ, ◌+◌, ◌-◌, ◌/◌, ◌^◌, ◌<◌, ◌≡◌, ◌==◌, min, Bool, true, false, cond, List, [], length, get_or, All, arith, sym, ap, ◌∙◌, subst, lit<}
 use Rattle.bale_types.specs.declared.Item.{Item}
 use Rattle.bale_types.specs.declared.triple.Triple.{Triple}
-use Rattle.list_laws.proofs.Lists.{changed_len}
 use Rattle.mtx_text.specs.Cells.{InOrder, raised}
 use Rattle.mtx_text.proofs.Raised.{raised_ordered}
 use Rattle.sparse_rows.specs.Owners.{places_for}
 use Rattle.sparse_rows.proofs.Places.{place_below}
 use Rattle.app_topo.specs.declared.placed.Placed.{Placed}
-use Rattle.app_topo.specs.Topos.{TopoState, IsTopo, IsInside, topo_rules, may_topo, spot, added, number_at, sent_after, next_outgoing}
-use Rattle.app_topo.specs.TopoLaws.{IsOwn, topo_laws, own_item, raised_in, added_len}
+use Rattle.app_topo.specs.Topos.{TopoState, IsTopo, IsInside, topo_rules, spot, sent_after, next_outgoing}
+use Rattle.app_topo.specs.TopoLaws.{IsOwn, topo_laws, own_item, raised_in}
 
 -- a number has a place
 pub own_place : (s : TopoState) (x : Item) → IsTopo s → IsOwn s.size s.ranks s.rank x → x.a / s.ranks < places_for s.ranks s.size
@@ -38,6 +36,7 @@ kept_valid s numbers sums counts fresh b t came v n m c few inside is =
     in_either : (b : Bool) → All (IsInside s.size) (cond b (raised t s.came) s.came)
     in_either true = raised_in s.size t s.came inside v.came_inside
     in_either false = v.came_inside
+
     order_either : (b : Bool) → InOrder (cond b (raised t s.came) s.came)
     order_either true = raised_ordered t s.came v.ordered
     order_either false = v.ordered

@@ -1,5 +1,5 @@
 -- The claims that the ranks have in the end, as cells by level and row.
-use Rattle.std.specs.Prelude.{ℕ, List}
+use Rattle.std.specs.Prelude.{ℕ}
 use Rattle.bale_types.specs.declared.triple.Triple.{Triple}
 use Rattle.bale_types.specs.Bits.{twos_complement, from_twos_complement}
 use Rattle.app_topo.specs.declared.placed.Placed.{Placed}

@@ -1,21 +1,19 @@
 -- The laws of topo.
-use Rattle.std.proofs.Common.{ℕ, ◌+◌, ◌-◌, ◌*◌, ◌/◌, ◌%◌, ◌^◌, ◌<◌, ◌≤◌, ◌≡◌, ◌≢◌, ◌==◌, ◌&&◌, min, Bool, true, false, eqb, List, [], ◌∷◌, ◌++◌, map, cond, length, get_or, set, arith, refl, sym, ap, ap₂, ◌∙◌, subst, inl, inr, lit<, pos}
+use Rattle.std.proofs.Common.{ℕ, ◌+◌, ◌-◌, ◌/◌, ◌%◌, ◌^◌, ◌<◌, ◌≡◌, ◌≢◌, ◌==◌, ◌&&◌, min, Bool, true, false, List, [], ◌∷◌, map, cond, length, get_or, set, arith, refl, sym, ap, ap₂, ◌∙◌, subst, inl, inr, lit<}
 use Rattle.std.specs.Prelude.{nat_lt}
-use Rattle.std.specs.List.{All, filter, flat_map, range_with_len}
-use Rattle.std.proofs.lemmas.Bool.{cases_Bool, cases_eq, cases_lt, eq-eqb, ne_eqb, eqb-true, and_from, and_parts, ltb-true, lt-ltb, le-ltb}
+use Rattle.std.specs.List.{All, filter, flat_map}
+use Rattle.std.proofs.lemmas.Bool.{cases_eq, cases_lt, eq-eqb, ne_eqb, and_parts, ltb-true, lt-ltb, le-ltb}
 use Rattle.std.proofs.lemmas.Bool.Decides.{nat_tests}
-use Rattle.std.proofs.lemmas.List.{get_or-set_same, get_or-set_other, get_or_past}
+use Rattle.std.proofs.lemmas.List.{get_or-set_same, get_or-set_other}
 use Rattle.std.proofs.lemmas.List.Elements.{All-nil, All-map, All-filter, All-append, filter_passes}
-use Rattle.std.proofs.Math.Nat.{mod-lt}
 use Rattle.bale_types.specs.declared.Item.{Item}
 use Rattle.bale_types.specs.declared.triple.Triple.{Triple}
-use Rattle.list_laws.proofs.Lists.{changed_comm, changed_len, all_head, all_tail}
+use Rattle.list_laws.proofs.Lists.{changed_comm, changed_len}
 use Rattle.mtx_text.specs.Cells.{is_before, InOrder, raised}
 use Rattle.mtx_text.proofs.PlaceOrder.{pairs_none}
-use Rattle.mtx_text.proofs.Raised.{greater, raised_comm, raised_ordered}
+use Rattle.mtx_text.proofs.Raised.{raised_comm, raised_ordered}
 use Rattle.mtx_text.proofs.Gathered.{raised_keeps}
 use Rattle.round_program.specs.Laws.{Laws, Fits, SameRound, IsItem, is_item}
-use Rattle.sparse_rows.specs.Owners.{places_for}
 use Rattle.sparse_rows.proofs.Places.{place_own}
 use Rattle.app_topo.specs.Topos.{TopoState, IsTopo, IsInside, topo_rules, may_topo, spot, added, number_at, to_claim, to_fall, own_rows, claims_now, claims_of, falls_of, next_outgoing, entered, claimed_by, fallen}
 
@@ -128,9 +126,9 @@ pub data Kind (s : TopoState) : Type 0 where
 
 pub kind_of : (s : TopoState) → Kind s
 kind_of s = elim (cases_eq s.round 0) [
-      | inl z ↦ first z
-      | inr n ↦ elim (cases_eq (s.round % 2) 1) [ inl o ↦ odd n o | inr e ↦ even n e ]
-    ]
+  | inl z ↦ first z
+  | inr n ↦ elim (cases_eq (s.round % 2) 1) [ inl o ↦ odd n o | inr e ↦ even n e ]
+]
 
 pub in_first : {X : Type 0} (s : TopoState) (a b c : X) → s.round ≡ 0 → cond (s.round == 0) a (cond (s.round % 2 == 1) b c) ≡ a
 in_first s a b c z = ap (λ t. cond t a (cond (s.round % 2 == 1) b c)) (eq-eqb s.round 0 z)

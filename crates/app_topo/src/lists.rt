@@ -222,7 +222,11 @@ pub(crate) fn keep_claims(
 }
 
 /// Notes rows of a level.
-fn place_all(claimed: &mut Vec<Placed>, level: u64, outgoing: &[(u32, Item)]) -> Result<(), NoMemory>
+fn place_all(
+    claimed: &mut Vec<Placed>,
+    level: u64,
+    outgoing: &[(u32, Item)],
+) -> Result<(), NoMemory>
     requires { All (λ e. (e.1.a < 2 ^ 32) × (e.1.b < 2 ^ 32)) outgoing.now }
     ensures { OnOk result (claimed.new.items ≡ claimed.old.items ++ map (λ e. record { level = level; row = e.1.b; column = e.1.a }) outgoing.now) }
 {

@@ -85,8 +85,16 @@ fn entries_of(
             unreachable!()
         };
         let (row, column) = (entry.i as u64, entry.j as u64);
-        let for_row = Item { a: row, b: column, c: 0 };
-        let for_column = Item { a: column, b: row, c: 1 };
+        let for_row = Item {
+            a: row,
+            b: column,
+            c: 0,
+        };
+        let for_column = Item {
+            a: column,
+            b: row,
+            c: 1,
+        };
         outgoing.push((entry.i % ranks, for_row))?;
         outgoing.push((entry.j % ranks, for_column))?;
     }

@@ -1,5 +1,4 @@
-use Rattle.std.proofs.Common.{sym, subst}
-use Rattle.app_topo.proofs.TopoLists.{rows_more, row_place}
+use Rattle.app_topo.proofs.TopoLists.{rows_more}
 use Rattle.app_topo.proofs.lists.first_claims.Goals as goal
 
 pub loop-place-preserved : goal.loop-place-preserved

@@ -1,6 +1,4 @@
-use Rattle.std.proofs.Common.{ℕ, ◌+◌, ◌-◌, ◌/◌, ◌<◌, ◌≤◌, ◌≡◌, length, get_or, arith, subst, pos}
-use Rattle.std.proofs.lemmas.List.{get_or_default}
-use Rattle.bale_types.specs.declared.triple.Triple.{Triple}
+use Rattle.std.proofs.Common.{ℕ, ◌+◌, ◌-◌, ◌/◌, ◌<◌, ◌≤◌, length, get_or, arith, subst}
 use Rattle.app_topo.proofs.TopoLists.{rows_rise, row_same}
 use Rattle.app_topo.proofs.lists.first_of.Goals as goal
 

@@ -1,7 +1,6 @@
-use Rattle.std.proofs.Common.{ℕ, ◌+◌, ◌≤◌, ◌≡◌, [], ◌++◌, map, length, get_or, take, arith, sym, ap, ◌∙◌, append-nil}
-use Rattle.bale_types.specs.declared.triple.Triple.{Triple}
+use Rattle.std.proofs.Common.{◌≤◌, ◌≡◌, ◌++◌, map, take, arith, sym, ap, ◌∙◌, append-nil}
 use Rattle.app_topo.specs.Topos.{to_fall}
-use Rattle.app_topo.proofs.TopoLists.{in_column, none_in_front, none_behind, starts_early, falls_more, row_same}
+use Rattle.app_topo.proofs.TopoLists.{in_column, none_in_front, none_behind, starts_early}
 use Rattle.app_topo.proofs.lists.push_falls.Goals as goal
 
 pub loop-at-init : goal.loop-at-init

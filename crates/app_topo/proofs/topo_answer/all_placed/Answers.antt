@@ -1,4 +1,4 @@
-use Rattle.std.proofs.Common.{◌≡◌, ◌<◌, ◌^◌, map, arith, sym, ap, ◌∙◌, subst, All}
+use Rattle.std.proofs.Common.{◌<◌, ◌^◌, map, arith, sym, ap, ◌∙◌, subst, All}
 use Rattle.std.specs.Option.{option_copied}
 use Rattle.bale_types.specs.declared.triple.Triple.{Triple}
 use Rattle.bale_types.specs.Bits.{twos_complement}

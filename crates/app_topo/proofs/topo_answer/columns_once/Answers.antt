@@ -1,4 +1,4 @@
-use Rattle.std.proofs.Common.{◌<◌, ◌==◌, sym, subst, ◌∙◌, arith}
+use Rattle.std.proofs.Common.{◌==◌, sym, ◌∙◌, arith}
 use Rattle.std.proofs.lemmas.Bool.{eq-eqb, ne_eqb}
 use Rattle.app_topo.specs.Levels.{claims_after, col_claims}
 use Rattle.app_topo.proofs.TopoEnding.{once_more, once_broken}

@@ -226,3 +226,10 @@ in_turn n es (suc t) = λ k d u l there row.
             | inr taken ↦ omega arith
           ])
     ]
+
+-- a column that a level claims was free
+pub next_free : (n : ℕ) (es : List Triple) (claims : List Claim) (c : Claim) → IsNext n es claims c → col_claims c.1 claims ≡ 0
+next_free n es claims c h =
+    let one : count_by (is_open claims c.0) es ≡ 1 = h.ready.one in
+    let t = found_by (is_open claims c.0) es (omega arith) in
+    ap (λ j. col_claims j claims) (sym (next_column n es claims c t.0 h t.1 t.2)) ∙ (open_parts claims c.0 t.0 t.2).free

@@ -2,3 +2,17 @@ pub mod Claimed
 pub mod Counting
 pub mod LevelFacts
 pub mod Printed
+pub mod TopoClaimRound
+pub mod TopoClaims
+pub mod TopoEnding
+pub mod TopoFallRound
+pub mod TopoFalls
+pub mod TopoFirstRound
+pub mod TopoLists
+pub mod TopoReady
+pub mod TopoRun
+pub mod TopoStart
+pub mod TopoStates
+pub mod TopoSteps
+pub mod TopoTables
+pub mod TopoText

@@ -67,7 +67,7 @@ raised_moves t (c ∷ cells) h =
       ]
     ]
 
-gathered_cons : (t : Triple) (ts : List Triple) → gathered (t ∷ ts) ≡ raised t (gathered ts)
+pub gathered_cons : (t : Triple) (ts : List Triple) → gathered (t ∷ ts) ≡ raised t (gathered ts)
 gathered_cons t ts = gathered_permutes (ts ++ t ∷ []) (t ∷ ts) (IsPermutation-to_front ts t) ∙ gathered_push ts t
 
 pub gathered_moves : (ts : List Triple) → AllPairs Differ ts → IsPermutation ts (gathered ts)

@@ -1,4 +1,0 @@
-//! Laws of the order.
-
-/// Nothing yet.
-pub fn nothing() {}

@@ -1,3 +1,5 @@
 pub mod Ascending
+pub mod BucketEnds
 pub mod Buckets
+pub mod OfferRounds
 pub mod Steps

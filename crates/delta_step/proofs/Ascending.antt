@@ -52,7 +52,7 @@ rising_from : (xs : List ℕ) → Strict xs → IsNonDecreasing xs
 rising_from [] h = λ i j d l m. absurd (omega arith)
 rising_from (x ∷ xs) h = rising_cons x xs (λ k d l. (let a : x < get_or xs k d = h.0 k d l in omega arith)) (rising_from xs h.1)
 
-in_range_of : (q k n : ℕ) → k ≤ q → q < k + n → Contains (range_with_len k n) q
+pub in_range_of : (q k n : ℕ) → k ≤ q → q < k + n → Contains (range_with_len k n) q
 in_range_of q k zero l m = absurd (omega arith)
 in_range_of q k (suc n) l m =
     elim (cases_eq k q) [
@@ -83,7 +83,7 @@ never q (x ∷ xs) h =
     let none : times q xs ≡ 0 = never q xs (λ c. h (has_tail x q xs c)) in
     omega arith)
 
-any_has : (q : ℕ) (xs : List ℕ) → Contains xs q → list_any (eqb q) xs ≡ true
+pub any_has : (q : ℕ) (xs : List ℕ) → Contains xs q → list_any (eqb q) xs ≡ true
 any_has q [] c = absurd (none_in q c)
 any_has q (x ∷ xs) c =
     elim (has_cases x q xs c) [
@@ -99,7 +99,7 @@ any_has q (x ∷ xs) c =
     right_true true b h = refl
     right_true false b h = h
 
-has_any : (q : ℕ) (xs : List ℕ) → list_any (eqb q) xs ≡ true → Contains xs q
+pub has_any : (q : ℕ) (xs : List ℕ) → list_any (eqb q) xs ≡ true → Contains xs q
 has_any q [] h = absurd (false≢true h)
 has_any q (x ∷ xs) h =
     elim (cases_Bool (eqb q x)) [

@@ -3,3 +3,4 @@ pub mod BucketEnds
 pub mod Buckets
 pub mod OfferRounds
 pub mod Steps
+pub mod Transits

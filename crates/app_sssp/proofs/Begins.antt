@@ -85,7 +85,7 @@ begin_len ranks rows source r = either (source % ranks == r)
 
 -- ---- The start is that of a run
 
-word_low : (v : ℤ) → nat_abs v ≤ 1_000_000_000_000 → twos_complement v < 2 ^ 64
+pub word_low : (v : ℤ) → nat_abs v ≤ 1_000_000_000_000 → twos_complement v < 2 ^ 64
 word_low (pos n) h = omega arith
 word_low (negsuc n) h = omega arith
 

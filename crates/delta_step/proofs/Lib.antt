@@ -1,4 +1,5 @@
 pub mod Ascending
+pub mod Begins
 pub mod BucketEnds
 pub mod Buckets
 pub mod FindRounds

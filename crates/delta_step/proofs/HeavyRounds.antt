@@ -105,7 +105,7 @@ module _ (es : List Triple) (rows width ranks n k : ℕ) (ss : List DeltaState) 
       sent (λ r. table_in (slice_get ss r)) (λ r. places_in (slice_get ss r)) sends sound complete
       (λ v k found. low v k (sym (ap (λ (w : Vertex). w.weight) (begun_vertex v)) ∙ found)))
 
-  heavy_was : (r : ℕ) (t : DeltaState) → slice_get heavy_later r ≡ Some t → (s : DeltaState) × (vs : List Vertex) × (slice_get ss r ≡ Some s) × (t ≡ record (finished s) { vertices = vs })
+  pub heavy_was : (r : ℕ) (t : DeltaState) → slice_get heavy_later r ≡ Some t → (s : DeltaState) × (vs : List Vertex) × (slice_get ss r ≡ Some s) × (t ≡ record (finished s) { vertices = vs })
   heavy_was r t at =
       let u = was_at es rows ranks k begun shape most some edges next_in
       (λ r t at. (let s = begun_from r t at in ap (λ (u : DeltaState). u.rows) s.2 ∙ static.size r s.0 s.1))

@@ -4,6 +4,7 @@ pub mod BucketEnds
 pub mod Buckets
 pub mod FindRounds
 pub mod HeavyRounds
+pub mod Looks
 pub mod OfferRounds
 pub mod Steps
 pub mod Transits

@@ -66,20 +66,20 @@ offers_same es sent x z y f g round =
 
 -- ---- Picked places
 
-has_pick : (test : Vertex → Bool) (vs : List Vertex) (p : ℕ) → ((get_or vs p unreached).improved && test (get_or vs p unreached)) ≡ true → Contains (picked test vs) p
+pub has_pick : (test : Vertex → Bool) (vs : List Vertex) (p : ℕ) → ((get_or vs p unreached).improved && test (get_or vs p unreached)) ≡ true → Contains (picked test vs) p
 has_pick test vs p h =
     let parts = and_parts (get_or vs p unreached).improved (test (get_or vs p unreached)) h in
     subst (λ ps. Contains ps p) (picks_all test vs)
     (has_filtered (λ q. test (get_or vs q unreached)) (marked vs) p (subst (Contains (marked vs)) (let z : 0 + p ≡ p = omega arith in z) (has_mark 0 vs p parts.0)) parts.1)
 
-was_pick : (test : Vertex → Bool) (vs : List Vertex) (p : ℕ) → Contains (picked test vs) p → ((get_or vs p unreached).improved && test (get_or vs p unreached)) ≡ true
+pub was_pick : (test : Vertex → Bool) (vs : List Vertex) (p : ℕ) → Contains (picked test vs) p → ((get_or vs p unreached).improved && test (get_or vs p unreached)) ≡ true
 was_pick test vs p h =
     let f = was_filtered (λ q. test (get_or vs q unreached)) (marked vs) p (subst (λ ps. Contains ps p) (sym (picks_all test vs)) h) in
     let m = was_marked 0 vs p f.0 in
     let is : p ≡ m.0 = (let e : p ≡ 0 + m.0 = m.1 in omega arith) in
     and_from (get_or vs p unreached).improved (test (get_or vs p unreached)) (ap (λ q. (get_or vs q unreached).improved) is ∙ m.3) f.1
 
-picked_any : (test : Vertex → Bool) (vs : List Vertex) (p : ℕ) → list_any (eqb p) (picked test vs) ≡ ((get_or vs p unreached).improved && test (get_or vs p unreached))
+pub picked_any : (test : Vertex → Bool) (vs : List Vertex) (p : ℕ) → list_any (eqb p) (picked test vs) ≡ ((get_or vs p unreached).improved && test (get_or vs p unreached))
 picked_any test vs p =
     elim (cases_Bool ((get_or vs p unreached).improved && test (get_or vs p unreached))) [
       | inl t ↦ any_has p (picked test vs) (has_pick test vs p t) ∙ sym t

@@ -35,6 +35,7 @@ delta_starts ranks m source width = map (delta_begins ranks m source width) (ran
 pub record DeltaEnded (m : Sparse) (source : ℕ) (programs : List DeltaState) : Type 0 where
   pub ranks : ℕ
   pub some : 1 ≤ ranks
+  pub few : ranks ≤ 64
   pub width : ℕ
   pub positive : 1 ≤ width
   pub narrow : width ≤ 1_000_000_000_000

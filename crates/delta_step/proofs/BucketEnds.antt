@@ -7,7 +7,7 @@ use Rattle.std.proofs.lemmas.List.Elements.{All-contains, All-filter}
 use Rattle.std.proofs.lemmas.Option.{same_Some}
 use Rattle.bale_types.specs.declared.triple.Triple.{Triple}
 use Rattle.list_laws.specs.Sums.{total}
-use Rattle.list_laws.proofs.Sums.{total_lt}
+use Rattle.list_laws.proofs.Sums.{total_lt, total_bound}
 use Rattle.least_walks.specs.Walks.{IsWalk, weight_of, AtMost}
 use Rattle.least_walks.specs.Vertices.{weight_in}
 use Rattle.least_walks.proofs.Members.{has_filtered, was_filtered}
@@ -160,3 +160,10 @@ fewer_left n low high v m old new l drops inside found from below =
               subst (λ (b : Bool). cond {A = ℕ} b 1 0 ≤ later_one low (old k)) (sym t) (subst (λ (b : Bool). 1 ≤ cond {A = ℕ} b 1 0) (sym was) (omega arith))
           | inr f ↦ subst (λ (b : Bool). cond {A = ℕ} b 1 0 ≤ later_one low (old k)) (sym f) (omega arith)
         ]
+
+pub later_most : (n floor : ℕ) (found : ℕ → Option ℕ) → left_count n floor found ≤ n * 1
+later_most n floor found = total_bound n 1 (λ v. later_one floor (found v)) (λ k l. one (is_later floor (found k)))
+  where
+    one : (b : Bool) → cond {A = ℕ} b 1 0 ≤ 1
+    one true = omega arith
+    one false = omega arith

@@ -10,7 +10,7 @@ use Rattle.least_walks.specs.Walks.{IsWalk, AtMost}
 use Rattle.least_walks.specs.Vertices.{weight_in}
 use Rattle.least_walks.proofs.Settled.{cost}
 use Rattle.app_sssp.proofs.Rounds.{Stage}
-use Rattle.delta_step.proofs.Buckets.{is_light, Took, Offers, Owes, Within, Beyond, calmed_stage}
+use Rattle.delta_step.proofs.Buckets.{is_light, Took, Offers, Owes, Within, Beyond, active, calmed_stage}
 
 -- pending vertices have weights
 abbrev pub Weighed : Stage → Type 0
@@ -112,3 +112,6 @@ module _ {X : Type 0} (f : X → ℕ) where
         | inl l ↦ (0, x, refl, l)
         | inr m ↦ (let rest = sum_some xs (omega arith) in (suc rest.0, rest.1, rest.2, rest.3))
       ]
+
+pub look_active : (width b : ℕ) (x y : Stage) → ((v : ℕ) → y.found v ≡ x.found v) → ((v : ℕ) → y.fresh v ≡ x.fresh v) → (u : ℕ) → active width b x u ≡ true → active width b y u ≡ true
+look_active width b x y f g u h = ap (λ a. a && weight_in width b (y.found u)) (g u) ∙ ap (λ o. x.fresh u && weight_in width b o) (f u) ∙ h

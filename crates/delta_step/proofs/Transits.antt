@@ -89,12 +89,12 @@ picked_any test vs p =
       ]
     ]
 
-calm_at : (test : Vertex → Bool) (vs : List Vertex) (p : ℕ) → test unreached ≡ false → get_or (map (calm_if test) vs) p unreached ≡ calm_if test (get_or vs p unreached)
+pub calm_at : (test : Vertex → Bool) (vs : List Vertex) (p : ℕ) → test unreached ≡ false → get_or (map (calm_if test) vs) p unreached ≡ calm_if test (get_or vs p unreached)
 calm_at test [] p h = sym (ap (λ b. cond b (calm unreached) unreached) h)
 calm_at test (v ∷ vs) zero h = refl
 calm_at test (v ∷ vs) (suc p) h = calm_at test vs p h
 
-calm_weight : (test : Vertex → Bool) (v : Vertex) → (calm_if test v).weight ≡ v.weight
+pub calm_weight : (test : Vertex → Bool) (v : Vertex) → (calm_if test v).weight ≡ v.weight
 calm_weight test v = elim (cases_Bool (test v)) [
       | inl t ↦ ap (λ b. (cond b (calm v) v).weight) t
       | inr f ↦ ap (λ b. (cond b (calm v) v).weight) f

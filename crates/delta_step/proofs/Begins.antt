@@ -1,9 +1,9 @@
 -- What all ranks have after the first round: their own edges, and the source.
-use Rattle.std.proofs.Common.{ℕ, zero, suc, ◌+◌, ◌-◌, ◌*◌, ◌/◌, ◌%◌, ◌^◌, ◌<◌, ◌≤◌, ◌≡◌, ◌≢◌, ◌==◌, ◌&&◌, not, Bool, true, false, cond, eqb, List, [], ◌∷◌, Option, Some, None, ℤ, pos, length, map, get_or, slice_get, All, arith, inl, inr, refl, sym, ap, ◌∙◌, subst, lit<}
+use Rattle.std.proofs.Common.{ℕ, ◌+◌, ◌-◌, ◌*◌, ◌/◌, ◌%◌, ◌^◌, ◌<◌, ◌≤◌, ◌≡◌, ◌≢◌, ◌==◌, ◌&&◌, not, Bool, true, false, eqb, List, [], ◌∷◌, Some, None, pos, length, map, get_or, slice_get, All, arith, inl, inr, refl, sym, ap, ◌∙◌, subst}
 use Rattle.std.specs.Prelude.{Contains, nat_abs, nat_le}
-use Rattle.std.specs.List.{filter, range_with_len, enumerate_from}
+use Rattle.std.specs.List.{filter}
 use Rattle.std.proofs.Math.Nat.{mod-lt}
-use Rattle.std.proofs.lemmas.Bool.{cases_Bool, cases_eq, cases_lt, eq-eqb, ne_eqb, eqb-true, and_from, and_parts, false≢true, le-leb, leb-true, leb-false}
+use Rattle.std.proofs.lemmas.Bool.{cases_Bool, cases_eq, cases_lt, eq-eqb, eqb-true, and_from, and_parts, false≢true, le-leb, leb-true}
 use Rattle.std.proofs.lemmas.Bool.Decides.{nat_tests}
 use Rattle.std.proofs.lemmas.Option.{same_Some}
 use Rattle.std.proofs.lemmas.List.{get_or_past}
@@ -13,19 +13,16 @@ use Rattle.std.proofs.lemmas.List.FromFn.{get_or-map-range_with_len}
 use Rattle.bale_types.specs.declared.Item.{Item}
 use Rattle.bale_types.specs.declared.triple.Triple.{Triple}
 use Rattle.bale_types.specs.Bits.{twos_complement}
-use Rattle.list_laws.proofs.Lists.{get_once}
 use Rattle.mtx_text.specs.Sparse.{Sparse, IsSparse}
 use Rattle.mtx_text.specs.Cells.{raised, raised_all, gathered}
-use Rattle.round_program.specs.Canonical.{absorbed_round, InRound, Member}
+use Rattle.round_program.specs.Canonical.{absorbed_round, InRound}
 use Rattle.round_program.specs.Orders.{absorb_each}
 use Rattle.sparse_rows.specs.Owners.{Numbered, numbered, entry_owner, row_owner, own_entries, places_for}
 use Rattle.sparse_rows.proofs.EveryEntry.{came_to, every_owned}
 use Rattle.sparse_rows.proofs.Gathering.{Differ, pairs_filter, gathered_moves}
 use Rattle.sparse_rows.proofs.Places.{place_below}
 use Rattle.sparse_rows.proofs.Starts.{made_at, made_from, made_in_round, all_numbered, all_owned}
-use Rattle.least_walks.specs.declared.table.Edge.{Edge}
 use Rattle.least_walks.specs.declared.vertices.Vertex.{Vertex}
-use Rattle.least_walks.specs.Walks.{IsWalk, weight_of, AtMost}
 use Rattle.least_walks.specs.Tables.{edge_of, in_range, is_kept, edges_at, table_of}
 use Rattle.least_walks.specs.Vertices.{unreached}
 use Rattle.least_walks.proofs.Rows.{table_len}
@@ -34,7 +31,6 @@ use Rattle.least_walks.proofs.Members.{none_in, has_filtered, was_filtered, has_
 use Rattle.least_walks.proofs.Offered.{weighing}
 use Rattle.app_sssp.specs.Sssps.{IsInside, IsEdge, edge_came}
 use Rattle.app_sssp.specs.SsspRuns.{IsGraph, edge_item, vertices_begin}
-use Rattle.app_sssp.proofs.Rounds.{Stage}
 use Rattle.app_sssp.proofs.Stages.{word_is}
 use Rattle.app_sssp.proofs.Begins.{graph_edges, begin_source, begin_other, begin_len, word_low, own_edges, came_own}
 use Rattle.delta_step.specs.declared.phase.Phase.TheVariants.{First}
@@ -42,7 +38,7 @@ use Rattle.delta_step.specs.Deltas.{DeltaState, IsDelta, delta_rules, may_delta}
 use Rattle.delta_step.specs.DeltaLaws.{delta_laws}
 use Rattle.delta_step.specs.DeltaRuns.{delta_begins, delta_starts}
 use Rattle.delta_step.proofs.Buckets.{is_light, Owes, none_open}
-use Rattle.delta_step.proofs.OfferRounds.{vertex_of, vertex_at, stage_of, at_vertex}
+use Rattle.delta_step.proofs.OfferRounds.{vertex_at, stage_of, at_vertex}
 use Rattle.delta_step.proofs.Transits.{Keeps}
 
 -- ---- The start is that of a run

@@ -1,19 +1,16 @@
 -- The rounds of a bucket over all vertices: light rounds, which end, and a heavy one.
-use Rattle.std.proofs.Common.{ℕ, zero, suc, ◌+◌, ◌*◌, ◌/◌, ◌%◌, ◌≤◌, ◌<◌, ◌≡◌, ◌≢◌, Bool, true, false, not, ◌&&◌, ◌||◌, cond, eqb, List, [], ◌∷◌, ◌++◌, Option, Some, None, length, All, arith, refl, sym, ap, ◌∙◌, subst, inl, inr, ◌⊎◌, ◌-◌}
+use Rattle.std.proofs.Common.{ℕ, suc, ◌+◌, ◌*◌, ◌/◌, ◌%◌, ◌≤◌, ◌<◌, ◌≡◌, Bool, true, false, not, ◌&&◌, ◌||◌, List, [], ◌∷◌, ◌++◌, Option, Some, None, length, All, arith, refl, sym, ap, ◌∙◌, subst, inl, inr, ◌⊎◌, ◌-◌}
 use Rattle.std.specs.Prelude.{Contains, nat_le}
 use Rattle.std.specs.List.{filter}
 use Rattle.std.proofs.Math.Nat.{mod-lt}
-use Rattle.std.proofs.lemmas.Bool.{cases_Bool, cases_eq, cases_lt, eqb-true, eq-eqb, and_from, and_parts, or_left, or_right, or_cases, false≢true, le-leb, leb-true, leb-false}
+use Rattle.std.proofs.lemmas.Bool.{cases_Bool, cases_lt, eqb-true, eq-eqb, and_from, and_parts, or_left, or_right, or_cases, false≢true, leb-true, leb-false}
 use Rattle.std.proofs.lemmas.Nat.{div-add-mod', div-mul-add}
-use Rattle.std.proofs.lemmas.List.{length_push}
-use Rattle.std.proofs.lemmas.List.Elements.{All-contains, All-filter}
+use Rattle.std.proofs.lemmas.List.Elements.{All-contains}
 use Rattle.std.proofs.lemmas.Option.{same_Some}
 use Rattle.bale_types.specs.declared.triple.Triple.{Triple}
 use Rattle.least_walks.specs.Walks.{IsWalk, weight_of, AtMost}
 use Rattle.least_walks.specs.Vertices.{weight_in}
-use Rattle.least_walks.proofs.Members.{has_filtered, was_filtered}
 use Rattle.least_walks.proofs.Settled.{cost, at_most_le, walk_push, weight_push, Walked}
-use Rattle.least_walks.proofs.Simple.{IsSimple, simple_of, simple_short}
 use Rattle.app_sssp.proofs.Rounds.{Stage}
 
 -- an edge is light
@@ -68,9 +65,11 @@ offers_walked es sent s x y round walked v m found =
       | inr new' ↦
           let i : Took es sent x y v = new'.1 in
           let w = walked i.edge.i i.before i.from in
-          let is : m ≡ i.before + cost i.edge = same_Some m (i.before + cost i.edge) (sym found ∙ i.new) in
-          (w.0 ++ i.edge ∷ [], subst (λ t. IsWalk es s t (w.0 ++ i.edge ∷ [])) i.to (walk_push es s i.edge.i w.0 i.edge w.1 i.is refl),
-          weight_push w.0 i.edge ∙ ap (λ k. k + cost i.edge) w.2 ∙ sym is)
+          let is : m ≡ i.before + cost i.edge = same_Some m (i.before + cost i.edge) (sym found ∙ i.new) in (
+            w.0 ++ i.edge ∷ [],
+            subst (λ t. IsWalk es s t (w.0 ++ i.edge ∷ [])) i.to (walk_push es s i.edge.i w.0 i.edge w.1 i.is refl),
+            weight_push w.0 i.edge ∙ ap (λ k. k + cost i.edge) w.2 ∙ sym is,
+          )
     ]
 
 -- the active vertices of a bucket: pending, and with weights in it
@@ -202,11 +201,13 @@ light_within es width b top open' x y some room old round =
             let o = was_open v isopen in
             let n = new_in v m found i in
             let high : o.0 < b * width + width = o.2 in
-            let is : m ≡ i.before + cost i.edge = same_Some m (i.before + cost i.edge) (sym found ∙ i.new) in
-            (n.0, elim (cases_lt m (b * width + width)) [
-              | inl l ↦ l
-              | inr g ↦ absurd (i.less (o.0, o.1, (let k : o.0 ≤ i.before + cost i.edge = omega arith in k)))
-            ])
+            let is : m ≡ i.before + cost i.edge = same_Some m (i.before + cost i.edge) (sym found ∙ i.new) in (
+              n.0,
+              elim (cases_lt m (b * width + width)) [
+                | inl l ↦ l
+                | inr g ↦ absurd (i.less (o.0, o.1, (let k : o.0 ≤ i.before + cost i.edge = omega arith in k)))
+              ],
+            )
       ];
       below = λ v m found. elim (round.each v) [
         | inl same ↦ old.below v m (sym same.0 ∙ found)

@@ -1,28 +1,26 @@
 -- A find round of the canonical run: vertices stay, and all ranks hear of the least bucket with a pending vertex.
-use Rattle.std.proofs.Common.{ℕ, zero, suc, ◌+◌, ◌*◌, ◌-◌, ◌/◌, ◌%◌, ◌^◌, ◌<◌, ◌≤◌, ◌≡◌, ◌≢◌, ◌==◌, min, ◌&&◌, not, Bool, true, false, cond, eqb, List, [], ◌∷◌, ◌++◌, Option, Some, None, map, length, get_or, slice_get, All, arith, inl, inr, refl, sym, ap, ◌∙◌, subst, ◌⊎◌}
+use Rattle.std.proofs.Common.{ℕ, zero, suc, ◌+◌, ◌*◌, ◌/◌, ◌%◌, ◌^◌, ◌<◌, ◌≤◌, ◌≡◌, min, not, true, false, eqb, List, [], ◌∷◌, ◌++◌, Option, Some, None, map, length, get_or, slice_get, arith, inl, inr, refl, sym, ap, ◌∙◌, subst, ◌⊎◌}
 use Rattle.std.specs.Prelude.{Contains}
 use Rattle.std.specs.List.{fold, range_with_len, list_any}
 use Rattle.std.proofs.Math.Nat.{mod-lt, mul-le-mul_left, mul-le-mul_right, div-mul-le_self}
 use Rattle.std.proofs.lemmas.Nat.{div-mul-add, mod-mul-add}
 use Rattle.round_program.proofs.Items.{items_here, items_other}
-use Rattle.std.proofs.lemmas.Bool.{cases_Bool, cases_eq, cases_lt, and_from, eqb-true, eq-eqb, false≢true}
+use Rattle.std.proofs.lemmas.Bool.{cases_eq, cases_lt, and_from, eq-eqb}
 use Rattle.std.proofs.lemmas.List.{length-map}
 use Rattle.std.proofs.lemmas.List.Sums.{fold-append}
 use Rattle.std.proofs.lemmas.Option.{same_Some}
 use Rattle.bale_types.specs.declared.Item.{Item}
 use Rattle.bale_types.specs.declared.triple.Triple.{Triple}
-use Rattle.list_laws.proofs.Lists.{find, within, get_map, got_map, get_once}
-use Rattle.round_program.specs.Canonical.{items_of, emitted_of, emitted_by, absorb_all, absorb_upto, absorbed_round, end_all, vote_sum, InRound}
+use Rattle.list_laws.proofs.Lists.{find, within, get_map, get_once}
+use Rattle.round_program.specs.Canonical.{items_of, emitted_of, emitted_by, absorb_all, absorb_upto, absorbed_round, InRound}
 use Rattle.least_walks.specs.declared.vertices.Vertex.{Vertex}
 use Rattle.least_walks.specs.Vertices.{unreached, marked, weight_in, lesser, least_marked}
-use Rattle.least_walks.proofs.Members.{has_head, has_tail, has_cases, none_in, has_mapped, was_mapped, has_item, was_item, upto, has_upto, was_upto}
+use Rattle.least_walks.proofs.Members.{has_head, has_tail, has_cases, none_in, upto, has_upto, was_upto}
 use Rattle.least_walks.proofs.Offered.{has_mark, was_marked}
-use Rattle.app_sssp.proofs.Rounds.{Stage}
-use Rattle.delta_step.specs.declared.phase.Phase.TheVariants.{First, Find, Light, Heavy}
-use Rattle.delta_step.specs.Deltas.{DeltaState, IsDelta, delta_rules, no_bucket, bucket_of, announced, finding, absorbed_in}
-use Rattle.delta_step.proofs.Ascending.{in_range_of}
-use Rattle.delta_step.proofs.Buckets.{is_light, active, bucket_low}
-use Rattle.delta_step.proofs.OfferRounds.{vertex_of, vertex_at, stage_of, at_vertex}
+use Rattle.delta_step.specs.declared.phase.Phase.TheVariants.{Find}
+use Rattle.delta_step.specs.Deltas.{DeltaState, delta_rules, no_bucket, bucket_of, announced, absorbed_in}
+use Rattle.delta_step.proofs.Buckets.{is_light, active}
+use Rattle.delta_step.proofs.OfferRounds.{vertex_at, stage_of, at_vertex}
 use Rattle.delta_step.proofs.Transits.{Keeps, Static, open_of, at_open}
 
 -- ---- The least bucket of some items
@@ -169,7 +167,6 @@ module _ (es : List Triple) (rows width ranks k : ℕ) (begun : List DeltaState)
     (finding' : (r : ℕ) (t : DeltaState) → slice_get begun r ≡ Some t → IsFinding width t)
     (low : (v k : ℕ) → (stage_of ranks begun).found v ≡ Some k → k ≤ 2 ^ 60)
     (weighed : (v : ℕ) → (stage_of ranks begun).fresh v ≡ true → (m : ℕ) × ((stage_of ranks begun).found v ≡ Some m)) where
-
   abbrev word_of : ℕ → Item
   word_of b = record { a = b; b = 0; c = 0 }
 
@@ -314,9 +311,11 @@ module _ (es : List Triple) (rows width ranks k : ℕ) (begun : List DeltaState)
                 let u : ℕ = q.0 * ranks + f in
                 let place : u / ranks ≡ q.0 = div-mul-add q.0 ranks f l in
                 let here : vertex_at ranks begun u ≡ get_or t.vertices q.0 unreached = at_vertex ranks begun f t u at (mod-mul-add q.0 ranks f l) ∙ ap (λ j. get_or t.vertices j unreached) place in
-                let weight : (vertex_at ranks begun u).weight ≡ Some k = ap (λ (w : Vertex). w.weight) here ∙ ap (λ j. (get_or t.vertices j unreached).weight) (sym p) ∙ at_p.2 in
-                (u, and_from (vertex_at ranks begun u).improved (weight_in width found_bucket (vertex_at ranks begun u).weight) (ap (λ (w : Vertex). w.improved) here ∙ q.3)
-                (ap (weight_in width found_bucket) weight ∙ eq-eqb (k / width) found_bucket div))
+                let weight : (vertex_at ranks begun u).weight ≡ Some k = ap (λ (w : Vertex). w.weight) here ∙ ap (λ j. (get_or t.vertices j unreached).weight) (sym p) ∙ at_p.2 in (
+                  u,
+                  and_from (vertex_at ranks begun u).improved (weight_in width found_bucket (vertex_at ranks begun u).weight) (ap (λ (w : Vertex). w.improved) here ∙ q.3)
+                      (ap (weight_in width found_bucket) weight ∙ eq-eqb (k / width) found_bucket div),
+                )
           ]
         where
           nobody : (k : ℕ) → None ≡ Some k → ⊥

@@ -1,10 +1,9 @@
 -- A heavy round of the canonical run, after the last light round of a bucket.
-use Rattle.std.proofs.Common.{ℕ, zero, suc, ◌+◌, ◌-◌, ◌/◌, ◌%◌, ◌^◌, ◌<◌, ◌≤◌, ◌≡◌, ◌&&◌, not, Bool, true, false, cond, eqb, List, [], ◌∷◌, Option, Some, None, length, get_or, slice_get, All, arith, inl, inr, refl, sym, ap, ◌∙◌, subst}
+use Rattle.std.proofs.Common.{ℕ, ◌/◌, ◌%◌, ◌^◌, ◌<◌, ◌≤◌, ◌≡◌, not, Bool, true, eqb, List, [], Option, Some, None, length, get_or, slice_get, arith, inr, refl, sym, ap, ◌∙◌, subst}
 use Rattle.std.specs.Prelude.{Contains}
 use Rattle.std.specs.List.{list_any, range_with_len}
 use Rattle.std.proofs.Math.Nat.{mod-lt}
 use Rattle.std.proofs.lemmas.Bool.{and_from, and_parts}
-use Rattle.std.proofs.lemmas.List.{length-map}
 use Rattle.std.proofs.lemmas.List.Elements.{All-contains}
 use Rattle.bale_types.specs.declared.triple.Triple.{Triple}
 use Rattle.list_laws.proofs.Lists.{find, get_map, got_map}
@@ -14,23 +13,20 @@ use Rattle.sparse_rows.proofs.Places.{place_below}
 use Rattle.least_walks.specs.declared.table.Edge.{Edge}
 use Rattle.least_walks.specs.declared.vertices.Vertex.{Vertex}
 use Rattle.least_walks.specs.Tables.{edge_of, offers}
-use Rattle.least_walks.specs.Vertices.{unreached}
 use Rattle.least_walks.proofs.Members.{has_filtered, was_filtered}
-use Rattle.app_sssp.proofs.Rounds.{Stage}
 use Rattle.app_sssp.proofs.Stages.{AreEdges}
 use Rattle.delta_step.specs.declared.phase.Phase.TheVariants.{Heavy}
-use Rattle.delta_step.specs.Deltas.{DeltaState, IsDelta, delta_rules, ascending, finished}
+use Rattle.delta_step.specs.Deltas.{DeltaState, delta_rules, ascending, finished}
 use Rattle.delta_step.proofs.Ascending.{in_range_of}
 use Rattle.delta_step.proofs.Buckets.{Offers, is_light, heavy_sent}
-use Rattle.delta_step.proofs.OfferRounds.{vertex_of, vertex_at, stage_of, at_vertex, offer_round, was_at}
-use Rattle.delta_step.proofs.Transits.{Keeps, Static, open_in, open_of, at_open, offers_same}
+use Rattle.delta_step.proofs.OfferRounds.{vertex_at, stage_of, at_vertex, offer_round, was_at}
+use Rattle.delta_step.proofs.Transits.{Keeps, Static, open_of, at_open, offers_same}
 
 module _ (es : List Triple) (rows width ranks n k : ℕ) (ss : List DeltaState) (shape : List ℕ) (most : ℕ) (some : 0 < ranks) (edges : AreEdges rows es)
     (all : InRound delta_rules ranks n shape most ss) (next_in : InRound delta_rules ranks k shape most (end_all delta_rules ss))
     (static : Static es rows width ranks ss)
     (low : (v k : ℕ) → (stage_of ranks ss).found v ≡ Some k → k ≤ 2 ^ 60)
     (becomes : (r : ℕ) (s : DeltaState) → slice_get ss r ≡ Some s → delta_rules.ended s (vote_sum delta_rules ss) ≡ finished s) where
-
   abbrev begun : List DeltaState
   begun = end_all delta_rules ss
 
@@ -84,11 +80,12 @@ module _ (es : List Triple) (rows width ranks n k : ℕ) (ss : List DeltaState) 
       let member = all.each r s.0 s.1 in
       let place : e.i / ranks < length s.0.vertices =
       subst (λ l. e.i / ranks < l) (sym (member.valid.places ∙ ap (λ p. places_for p s.0.rows) member.all_ranks ∙ ap (places_for ranks) (static.size r s.0 s.1)))
-      (place_below ranks rows e.i some (All-contains (λ (t : Triple). t.i < rows) es e edges.from has)) in
-      (subst (λ o. Contains (places_in o) (e.i / ranks)) (sym s.1)
-      (has_filtered (λ p. list_any (eqb p) s.0.settled) (range_with_len 0 (length s.0.vertices)) (e.i / ranks) (in_range_of (e.i / ranks) 0 (length s.0.vertices) (omega arith) (omega arith))
-      (sym (at_open ranks ss r s.0 e.i s.1 own) ∙ parts.1)),
-      subst (λ o. Contains (get_or (table_in o) (e.i / ranks) []) (edge_of ranks e)) (sym s.1) ((static.heavy r s.0 s.1).complete e has parts.0 own))
+      (place_below ranks rows e.i some (All-contains (λ (t : Triple). t.i < rows) es e edges.from has)) in (
+        subst (λ o. Contains (places_in o) (e.i / ranks)) (sym s.1)
+            (has_filtered (λ p. list_any (eqb p) s.0.settled) (range_with_len 0 (length s.0.vertices)) (e.i / ranks) (in_range_of (e.i / ranks) 0 (length s.0.vertices) (omega arith) (omega arith))
+            (sym (at_open ranks ss r s.0 e.i s.1 own) ∙ parts.1)),
+        subst (λ o. Contains (get_or (table_in o) (e.i / ranks) []) (edge_of ranks e)) (sym s.1) ((static.heavy r s.0 s.1).complete e has parts.0 own),
+      )
 
   sends : (r : ℕ) (t : DeltaState) → slice_get begun r ≡ Some t → t.outgoing ≡ offers (table_in (slice_get ss r)) t.vertices (places_in (slice_get ss r))
   sends r t at =

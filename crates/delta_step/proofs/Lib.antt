@@ -7,6 +7,7 @@ pub mod FindRounds
 pub mod HeavyRounds
 pub mod Looks
 pub mod OfferRounds
+pub mod Owners
 pub mod Runs
 pub mod Steps
 pub mod Transits

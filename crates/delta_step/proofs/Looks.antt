@@ -1,6 +1,5 @@
 -- Facts of stages carry over to stages that look the same, and pending vertices have weights.
-use Rattle.std.proofs.Common.{ℕ, ◌+◌, ◌*◌, ◌≤◌, ◌<◌, ◌≡◌, Bool, true, false, not, ◌&&◌, List, [], ◌∷◌, Option, Some, None, length, slice_get, All, arith, inl, inr, refl, sym, ap, ◌∙◌, subst, ◌⊎◌, sum_by, zero, suc}
-use Rattle.std.specs.Prelude.{Contains}
+use Rattle.std.proofs.Common.{ℕ, ◌+◌, ◌≤◌, ◌<◌, ◌≡◌, Bool, true, not, ◌&&◌, List, [], ◌∷◌, Some, None, length, slice_get, All, arith, inl, inr, refl, sym, ap, ◌∙◌, subst, sum_by, zero, suc}
 use Rattle.std.proofs.lemmas.Bool.{and_parts, cases_lt}
 use Rattle.std.proofs.lemmas.Option.{same_Some}
 use Rattle.std.proofs.lemmas.List.Elements.{All-contains, All-head, All-tail}
@@ -10,7 +9,7 @@ use Rattle.least_walks.specs.Walks.{IsWalk, AtMost}
 use Rattle.least_walks.specs.Vertices.{weight_in}
 use Rattle.least_walks.proofs.Settled.{cost}
 use Rattle.app_sssp.proofs.Rounds.{Stage}
-use Rattle.delta_step.proofs.Buckets.{is_light, Took, Offers, Owes, Within, Beyond, active, calmed_stage}
+use Rattle.delta_step.proofs.Buckets.{Offers, Owes, Within, Beyond, active, calmed_stage}
 
 -- pending vertices have weights
 abbrev pub Weighed : Stage → Type 0

@@ -1,5 +1,5 @@
 -- A light or heavy round of the canonical run, as a round of offers over all vertices.
-use Rattle.std.proofs.Common.{ℕ, zero, suc, ◌+◌, ◌-◌, ◌*◌, ◌/◌, ◌%◌, ◌^◌, ◌<◌, ◌≤◌, ◌≡◌, ◌≢◌, ◌==◌, ◌&&◌, Bool, true, false, cond, List, [], ◌∷◌, ◌++◌, Option, Some, None, pos, length, map, get_or, slice_get, All, arith, inl, inr, refl, sym, ap, ◌∙◌, subst, ◌⊎◌}
+use Rattle.std.proofs.Common.{ℕ, zero, suc, ◌+◌, ◌/◌, ◌%◌, ◌^◌, ◌<◌, ◌≤◌, ◌≡◌, ◌==◌, ◌&&◌, Bool, true, cond, List, [], ◌∷◌, Option, Some, None, pos, length, get_or, slice_get, inl, inr, refl, sym, ap, ◌∙◌, subst, ◌⊎◌}
 use Rattle.std.specs.Prelude.{Contains, nat_abs, nat_lt}
 use Rattle.std.specs.List.{filter, fold}
 use Rattle.std.proofs.Math.Nat.{mod-lt}
@@ -21,12 +21,11 @@ use Rattle.least_walks.specs.Tables.{edge_of, offer, offers}
 use Rattle.least_walks.specs.Vertices.{unreached, improved_at}
 use Rattle.least_walks.proofs.Settled.{cost}
 use Rattle.least_walks.proofs.Members.{has_item, was_item, upto, has_upto, was_upto, has_filtered, was_filtered}
-use Rattle.least_walks.proofs.Offered.{weighing, taken, taken_done, taken_len, Took, taken_cases, Offering, has_offer, was_offered}
+use Rattle.least_walks.proofs.Offered.{taken, taken_done, Took, taken_cases, Offering, has_offer, was_offered}
 use Rattle.app_sssp.proofs.Rounds.{Stage}
 use Rattle.app_sssp.proofs.Stages.{AreEdges, sum_is}
-use Rattle.delta_step.specs.declared.phase.Phase.{Phase}
-use Rattle.delta_step.specs.declared.phase.Phase.TheVariants.{First, Find, Light, Heavy}
-use Rattle.delta_step.specs.Deltas.{DeltaState, IsDelta, delta_rules, offered, absorbed_in}
+use Rattle.delta_step.specs.declared.phase.Phase.TheVariants.{Light, Heavy}
+use Rattle.delta_step.specs.Deltas.{DeltaState, delta_rules, absorbed_in}
 use Rattle.delta_step.proofs.Buckets.{Offers}
 use Rattle.delta_step.proofs.Buckets as buckets
 
@@ -99,11 +98,10 @@ module _ (es : List Triple) (rows ranks n : ℕ) (ss : List DeltaState) (shape :
     (sent : Triple → Bool) (table : ℕ → List (List Edge)) (places : ℕ → List ℕ)
     (sends : (r : ℕ) (s : DeltaState) → slice_get ss r ≡ Some s → s.outgoing ≡ offers (table r) s.vertices (places r))
     (sound : (r : ℕ) (s : DeltaState) → slice_get ss r ≡ Some s → (p : ℕ) (e : Edge) → Contains (places r) p → Contains (get_or (table r) p []) e
-        → (t : Triple) × Contains es t × (t.i % ranks ≡ r) × (t.i / ranks ≡ p) × (edge_of ranks t ≡ e) × (sent t ≡ true))
+    → (t : Triple) × Contains es t × (t.i % ranks ≡ r) × (t.i / ranks ≡ p) × (edge_of ranks t ≡ e) × (sent t ≡ true))
     (complete : (r : ℕ) (s : DeltaState) → slice_get ss r ≡ Some s → (t : Triple) → Contains es t → sent t ≡ true → t.i % ranks ≡ r
-        → Contains (places r) (t.i / ranks) × Contains (get_or (table r) (t.i / ranks) []) (edge_of ranks t))
+    → Contains (places r) (t.i / ranks) × Contains (get_or (table r) (t.i / ranks) []) (edge_of ranks t))
     (low : (v k : ℕ) → (stage_of ranks ss).found v ≡ Some k → k ≤ 2 ^ 60) where
-
   abbrev pub later : List DeltaState
   later = absorbed_round delta_rules ss
 

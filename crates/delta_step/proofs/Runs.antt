@@ -1,37 +1,34 @@
 -- The canonical run of delta-stepping: bucket after bucket, until nothing is pending.
-use Rattle.std.proofs.Common.{ℕ, zero, suc, ◌+◌, ◌-◌, ◌*◌, ◌/◌, ◌%◌, ◌^◌, ◌<◌, ◌≤◌, ◌≡◌, ◌≢◌, ◌==◌, ◌&&◌, min, not, Bool, true, false, cond, eqb, List, [], ◌∷◌, Option, Some, None, length, map, get_or, slice_get, sum_by, All, arith, inl, inr, refl, sym, ap, ◌∙◌, subst, ◌⊎◌, lit<}
+use Rattle.std.proofs.Common.{ℕ, zero, suc, ◌+◌, ◌-◌, ◌*◌, ◌/◌, ◌%◌, ◌^◌, ◌<◌, ◌≤◌, ◌≡◌, ◌≢◌, ◌&&◌, min, not, Bool, true, false, cond, List, [], ◌∷◌, Option, Some, length, get_or, slice_get, sum_by, All, arith, inl, inr, refl, sym, ap, ◌∙◌, subst}
 use Rattle.std.specs.Prelude.{Contains, nat_lt}
-use Rattle.std.specs.List.{list_any}
 use Rattle.std.proofs.Math.Nat.{mod-lt, mul-le-mul, mul-le-mul_right}
-use Rattle.std.proofs.lemmas.Bool.{cases_eq, cases_lt, cases_Bool, and_from, and_parts, lt-ltb, le-ltb, le-leb, ltb-true, ltb-false, false≢true}
+use Rattle.std.proofs.lemmas.Bool.{cases_eq, cases_lt, cases_Bool, and_parts, le-ltb, le-leb, ltb-false, false≢true}
 use Rattle.std.proofs.lemmas.Nat.{div-mul-add, mod-mul-add}
-use Rattle.std.proofs.lemmas.List.{length-map}
 use Rattle.std.proofs.lemmas.List.Sums.{sum_by-le, get_or-le-sum_by}
-use Rattle.std.proofs.lemmas.List.Elements.{All-contains}
-use Rattle.std.proofs.lemmas.Option.{same_Some, get_or_from_slice_get}
+use Rattle.std.proofs.lemmas.Option.{get_or_from_slice_get}
 use Rattle.bale_types.specs.declared.triple.Triple.{Triple}
-use Rattle.list_laws.proofs.Lists.{find, within, get_once, get_map, got_map, all_from_gets}
-use Rattle.list_laws.proofs.Sums.{total_bound, total_same, total_part}
-use Rattle.mtx_text.specs.Sparse.{Sparse, IsSparse}
+use Rattle.list_laws.proofs.Lists.{find, within, get_map, got_map, all_from_gets}
+use Rattle.list_laws.proofs.Sums.{total_same, total_part}
+use Rattle.mtx_text.specs.Sparse.{Sparse}
 use Rattle.round_program.specs.Canonical.{absorbed_round, end_all, states_at, votes_at, vote_sum, InRound}
 use Rattle.round_program.proofs.Members.{in_round, absorbed_in}
 use Rattle.least_walks.specs.declared.vertices.Vertex.{Vertex}
 use Rattle.least_walks.specs.Walks.{AtMost, IsLeast}
 use Rattle.least_walks.specs.Vertices.{unreached, marked, in_bucket, weight_in, picked}
-use Rattle.least_walks.proofs.Settled.{cost, least_at}
+use Rattle.least_walks.proofs.Settled.{least_at}
 use Rattle.least_walks.proofs.Members.{has_head}
 use Rattle.least_walks.proofs.Offered.{none_improved, was_marked}
 use Rattle.app_sssp.specs.SsspRuns.{IsGraph}
 use Rattle.app_sssp.proofs.Rounds.{Stage}
 use Rattle.app_sssp.proofs.Begins.{graph_edges}
-use Rattle.delta_step.specs.declared.phase.Phase.TheVariants.{First, Find, Light, Heavy}
-use Rattle.delta_step.specs.Deltas.{DeltaState, delta_rules, vote_in, ended_in, finding, sorted_out, activated, finished}
+use Rattle.delta_step.specs.declared.phase.Phase.TheVariants.{Find, Light, Heavy}
+use Rattle.delta_step.specs.Deltas.{DeltaState, delta_rules, vote_in, ended_in, finding, activated, finished}
 use Rattle.delta_step.specs.DeltaLaws.{delta_laws}
 use Rattle.delta_step.specs.DeltaRuns.{delta_starts}
-use Rattle.delta_step.proofs.Buckets.{is_light, Took, Offers, offers_fall, Owes, active, calmed_stage, light_sent, heavy_sent, opened, none_open, light_owes, heavy_owes, bucket_low, Within, light_within, Beyond, heavy_beyond, Lit, lit_begins}
+use Rattle.delta_step.proofs.Buckets.{is_light, Offers, offers_fall, Owes, active, calmed_stage, light_sent, heavy_sent, opened, none_open, light_owes, heavy_owes, bucket_low, Within, light_within, Beyond, heavy_beyond, Lit, lit_begins}
 use Rattle.delta_step.proofs.BucketEnds.{lit_more, lit_ends, left_count, fewer_left, later_one}
-use Rattle.delta_step.proofs.OfferRounds.{vertex_of, vertex_at, stage_of, at_vertex}
-use Rattle.delta_step.proofs.Transits.{Keeps, Static, open_of, at_open, has_pick, was_pick, light_round, light_was, light_open, light_static, light_phase, light_bucket}
+use Rattle.delta_step.proofs.OfferRounds.{vertex_at, stage_of, at_vertex}
+use Rattle.delta_step.proofs.Transits.{Keeps, Static, open_of, has_pick, was_pick, light_round, light_open, light_static, light_phase, light_bucket}
 use Rattle.delta_step.proofs.HeavyRounds.{heavy_round, heavy_static, heavy_phase}
 use Rattle.delta_step.proofs.FindRounds.{IsFinding, found_bucket, find_found, find_fresh, find_static, find_phase, find_bucket, find_open, bucket_floor, bucket_reached}
 use Rattle.delta_step.proofs.Looks.{Weighed, offers_weighed, calmed_weighed, look_weighed, owes_open, look_owes, within_open, look_beyond, look_active, walk_inside, sum_more, sum_some}
@@ -261,9 +258,11 @@ module _ (ranks : ℕ) (m : Sparse) (source width : ℕ) (some : 0 < ranks) (few
         beyond = look_beyond width floor (F * RISE) (stage r) (stage (suc r)) found fresh beyond;
         b_floor = λ v k pending at. bucket_floor es m.rows width ranks (suc r) begun shape most some positive next static finds low weights v k (g' v ∙ sym (fresh v) ∙ pending) (f v ∙ sym (found v) ∙ at);
         b_reached = λ v k pending at.
-            (let u = bucket_reached es m.rows width ranks (suc r) begun shape most some positive next static finds low weights v k (g' v ∙ sym (fresh v) ∙ pending) (f v ∙ sym (found v) ∙ at) in
-            (u.0, look_active width (found_bucket es m.rows width ranks (suc r) begun shape most some positive next static finds low weights) (stage_of ranks begun) (stage (suc r))
-            (λ v. found v ∙ sym (f v)) (λ v. fresh v ∙ sym (g' v)) u.0 u.1));
+            (let u = bucket_reached es m.rows width ranks (suc r) begun shape most some positive next static finds low weights v k (g' v ∙ sym (fresh v) ∙ pending) (f v ∙ sym (found v) ∙ at) in (
+              u.0,
+              look_active width (found_bucket es m.rows width ranks (suc r) begun shape most some positive next static finds low weights) (stage_of ranks begun) (stage (suc r))
+                  (λ v. found v ∙ sym (f v)) (λ v. fresh v ∙ sym (g' v)) u.0 u.1,
+            ));
         closed = find_open es m.rows width ranks (suc r) begun shape most some positive next static finds low weights;
         room = subst (λ k. k + F ≤ m.rows) (sym (count_same (stage (suc r)).found (stage r).found found)) room;
         quiet = quiet;
@@ -301,9 +300,11 @@ module _ (ranks : ℕ) (m : Sparse) (source width : ℕ) (some : 0 < ranks) (few
       one_of : (j : ℕ) (s : DeltaState) → slice_get (full r) j ≡ Some s → j < ranks → (ps : List ℕ) → marked s.vertices ≡ ps → 0 < length ps → (v : ℕ) × ((stage r).fresh v ≡ true)
       one_of j s at low [] e l = absurd (omega arith)
       one_of j s at low (p ∷ ps) e l =
-          let q = was_marked 0 s.vertices p (subst (λ qs. Contains qs p) (sym e) (has_head p ps)) in
-          (q.0 * ranks + j, ap (λ (w : Vertex). w.improved) (at_vertex ranks (full r) j s (q.0 * ranks + j) at (mod-mul-add q.0 ranks j low))
-          ∙ ap (λ k. (get_or s.vertices k unreached).improved) (div-mul-add q.0 ranks j low) ∙ q.3)
+          let q = was_marked 0 s.vertices p (subst (λ qs. Contains qs p) (sym e) (has_head p ps)) in (
+            q.0 * ranks + j,
+            ap (λ (w : Vertex). w.improved) (at_vertex ranks (full r) j s (q.0 * ranks + j) at (mod-mul-add q.0 ranks j low))
+                ∙ ap (λ k. (get_or s.vertices k unreached).improved) (div-mul-add q.0 ranks j low) ∙ q.3,
+          )
 
   -- ---- From one find round to the next
 

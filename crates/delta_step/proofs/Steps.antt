@@ -1,5 +1,5 @@
 -- What a step of the code leaves, where a rank is one of delta-stepping.
-use Rattle.std.proofs.Common.{ℕ, min, ◌+◌, ◌-◌, ◌/◌, ◌^◌, ◌<◌, ◌≤◌, ◌≡◌, ◌≢◌, ◌++◌, [], ◌∷◌, Bool, List, map, length, get_or, All, arith, sym, ap, ◌∙◌, subst}
+use Rattle.std.proofs.Common.{ℕ, ◌+◌, ◌/◌, ◌<◌, ◌≤◌, ◌≡◌, ◌≢◌, ◌++◌, [], Bool, List, map, length, get_or, All, arith, sym, ap, ◌∙◌, subst}
 use Rattle.std.proofs.Math.Nat.{div-le_self}
 use Rattle.std.proofs.lemmas.List.{length-map}
 use Rattle.std.proofs.lemmas.List.Elements.{All-nil, All-append}

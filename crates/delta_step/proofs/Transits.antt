@@ -1,34 +1,30 @@
 -- From one round of the canonical run to the next: light rounds, heavy rounds and find rounds.
-use Rattle.std.proofs.Common.{ℕ, zero, suc, ◌+◌, ◌-◌, ◌*◌, ◌/◌, ◌%◌, ◌^◌, ◌<◌, ◌≤◌, ◌≡◌, ◌≢◌, ◌==◌, ◌&&◌, ◌||◌, not, Bool, true, false, cond, eqb, List, [], ◌∷◌, ◌++◌, Option, Some, None, length, map, get_or, slice_get, All, arith, inl, inr, refl, sym, ap, ◌∙◌, subst, ◌⊎◌}
-use Rattle.std.specs.Prelude.{Contains, nat_lt}
-use Rattle.std.specs.List.{filter, list_any, range_with_len}
+use Rattle.std.proofs.Common.{ℕ, zero, suc, ◌+◌, ◌/◌, ◌%◌, ◌^◌, ◌<◌, ◌≤◌, ◌≡◌, ◌&&◌, ◌||◌, not, Bool, true, false, cond, eqb, List, [], ◌∷◌, Option, Some, None, length, map, get_or, slice_get, arith, inl, inr, refl, sym, ap, ◌∙◌, subst}
+use Rattle.std.specs.Prelude.{Contains}
+use Rattle.std.specs.List.{list_any}
 use Rattle.std.proofs.Math.Nat.{mod-lt}
-use Rattle.std.proofs.lemmas.Bool.{cases_Bool, cases_eq, and_from, and_parts, false≢true, eq-eqb}
+use Rattle.std.proofs.lemmas.Bool.{cases_Bool, and_from, and_parts, false≢true}
 use Rattle.std.proofs.lemmas.List.{length-map}
 use Rattle.std.proofs.lemmas.List.Folds.{list_any-append}
-use Rattle.std.proofs.lemmas.List.Elements.{All-contains}
-use Rattle.bale_types.specs.declared.Item.{Item}
 use Rattle.bale_types.specs.declared.triple.Triple.{Triple}
-use Rattle.list_laws.proofs.Lists.{find, within, get_map, got_map, get_once}
+use Rattle.list_laws.proofs.Lists.{find, get_map, got_map}
 use Rattle.round_program.specs.Canonical.{absorbed_round, end_all, vote_sum, InRound}
-use Rattle.sparse_rows.specs.Owners.{places_for}
-use Rattle.sparse_rows.proofs.Places.{place_below}
 use Rattle.least_walks.specs.declared.table.Edge.{Edge}
 use Rattle.least_walks.specs.declared.vertices.Vertex.{Vertex}
 use Rattle.least_walks.specs.Walks.{AtMost}
 use Rattle.least_walks.specs.Tables.{edge_of, offers}
 use Rattle.least_walks.specs.Vertices.{unreached, marked, in_bucket, weight_in, picked, calm, calm_if}
-use Rattle.least_walks.proofs.Marks.{picks_all, picked_below}
+use Rattle.least_walks.proofs.Marks.{picks_all}
 use Rattle.least_walks.proofs.Members.{has_filtered, was_filtered}
 use Rattle.least_walks.proofs.Offered.{has_mark, was_marked}
 use Rattle.least_walks.proofs.Settled.{cost}
 use Rattle.app_sssp.proofs.Rounds.{Stage}
 use Rattle.app_sssp.proofs.Stages.{AreEdges}
-use Rattle.delta_step.specs.declared.phase.Phase.TheVariants.{First, Find, Light, Heavy}
-use Rattle.delta_step.specs.Deltas.{DeltaState, IsDelta, delta_rules, ended_in, ascending, activated, finished}
-use Rattle.delta_step.proofs.Ascending.{has_any, any_has, in_range_of}
-use Rattle.delta_step.proofs.Buckets.{Offers, is_light, active, calmed_stage, light_sent, heavy_sent, opened}
-use Rattle.delta_step.proofs.OfferRounds.{vertex_of, vertex_at, stage_of, at_vertex, offer_round, was_at}
+use Rattle.delta_step.specs.declared.phase.Phase.TheVariants.{Light}
+use Rattle.delta_step.specs.Deltas.{DeltaState, delta_rules, activated}
+use Rattle.delta_step.proofs.Ascending.{has_any, any_has}
+use Rattle.delta_step.proofs.Buckets.{Offers, is_light, active, calmed_stage, light_sent, opened}
+use Rattle.delta_step.proofs.OfferRounds.{vertex_at, stage_of, at_vertex, offer_round, was_at}
 
 -- the edges that a rank has of those that pass a test
 pub record Keeps (es : List Triple) (ranks r : ℕ) (test : Triple → Bool) (table : List (List Edge)) : Type 0 where
@@ -96,15 +92,15 @@ calm_at test (v ∷ vs) (suc p) h = calm_at test vs p h
 
 pub calm_weight : (test : Vertex → Bool) (v : Vertex) → (calm_if test v).weight ≡ v.weight
 calm_weight test v = elim (cases_Bool (test v)) [
-      | inl t ↦ ap (λ b. (cond b (calm v) v).weight) t
-      | inr f ↦ ap (λ b. (cond b (calm v) v).weight) f
-    ]
+  | inl t ↦ ap (λ b. (cond b (calm v) v).weight) t
+  | inr f ↦ ap (λ b. (cond b (calm v) v).weight) f
+]
 
 calm_mark : (test : Vertex → Bool) (v : Vertex) → (calm_if test v).improved ≡ (v.improved && not (test v))
 calm_mark test v = elim (cases_Bool (test v)) [
-      | inl t ↦ ap (λ b. (cond b (calm v) v).improved) t ∙ sym (ap (λ b. v.improved && not b) t ∙ never v.improved)
-      | inr f ↦ ap (λ b. (cond b (calm v) v).improved) f ∙ sym (ap (λ b. v.improved && not b) f ∙ always v.improved)
-    ]
+  | inl t ↦ ap (λ b. (cond b (calm v) v).improved) t ∙ sym (ap (λ b. v.improved && not b) t ∙ never v.improved)
+  | inr f ↦ ap (λ b. (cond b (calm v) v).improved) f ∙ sym (ap (λ b. v.improved && not b) f ∙ always v.improved)
+]
   where
     never : (b : Bool) → (b && false) ≡ false
     never true = refl
@@ -121,7 +117,6 @@ module _ (es : List Triple) (rows width ranks n k b : ℕ) (ss : List DeltaState
     (static : Static es rows width ranks ss) (bucket : (r : ℕ) (s : DeltaState) → slice_get ss r ≡ Some s → s.bucket ≡ b)
     (low : (v k : ℕ) → (stage_of ranks ss).found v ≡ Some k → k ≤ 2 ^ 60)
     (becomes : (r : ℕ) (s : DeltaState) → slice_get ss r ≡ Some s → delta_rules.ended s (vote_sum delta_rules ss) ≡ activated s) where
-
   abbrev begun : List DeltaState
   begun = end_all delta_rules ss
 
@@ -193,9 +188,10 @@ module _ (es : List Triple) (rows width ranks n k b : ℕ) (ss : List DeltaState
       → Contains (places_in (slice_get ss r)) (e.i / ranks) × Contains (get_or (table_in (slice_get ss r)) (e.i / ranks) []) (edge_of ranks e)
   complete r t at e has is_sent own =
       let s = begun_from r t at in
-      let parts = and_parts (is_light width e) (active width b (stage_of ranks ss) e.i) is_sent in
-      (subst (λ o. Contains (places_in o) (e.i / ranks)) (sym s.1) (has_pick (in_bucket s.0.width s.0.bucket) s.0.vertices (e.i / ranks) (sym (active_is r s.0 e.i s.1 own) ∙ parts.1)),
-      subst (λ o. Contains (get_or (table_in o) (e.i / ranks) []) (edge_of ranks e)) (sym s.1) ((static.light r s.0 s.1).complete e has parts.0 own))
+      let parts = and_parts (is_light width e) (active width b (stage_of ranks ss) e.i) is_sent in (
+        subst (λ o. Contains (places_in o) (e.i / ranks)) (sym s.1) (has_pick (in_bucket s.0.width s.0.bucket) s.0.vertices (e.i / ranks) (sym (active_is r s.0 e.i s.1 own) ∙ parts.1)),
+        subst (λ o. Contains (get_or (table_in o) (e.i / ranks) []) (edge_of ranks e)) (sym s.1) ((static.light r s.0 s.1).complete e has parts.0 own),
+      )
 
   sends : (r : ℕ) (t : DeltaState) → slice_get begun r ≡ Some t → t.outgoing ≡ offers (table_in (slice_get ss r)) t.vertices (places_in (slice_get ss r))
   sends r t at =

@@ -1,9 +1,9 @@
 -- The laws of delta-stepping.
-use Rattle.std.proofs.Common.{ℕ, suc, ◌+◌, ◌-◌, ◌*◌, ◌/◌, ◌%◌, ◌^◌, ◌<◌, ◌≤◌, ◌≡◌, ◌≢◌, ◌==◌, ◌&&◌, min, max, Bool, true, false, not, List, [], ◌∷◌, ◌++◌, Option, Some, None, map, cond, length, get_or, All, arith, refl, sym, ap, ◌∙◌, subst, inl, inr, lit<}
+use Rattle.std.proofs.Common.{ℕ, ◌+◌, ◌-◌, ◌*◌, ◌/◌, ◌%◌, ◌^◌, ◌<◌, ◌≤◌, ◌≡◌, ◌≢◌, ◌==◌, ◌&&◌, min, Bool, true, false, List, [], ◌∷◌, ◌++◌, Option, Some, None, map, cond, length, get_or, All, arith, refl, sym, ap, ◌∙◌, subst, inl, inr, lit<}
 use Rattle.std.specs.Prelude.{nat_lt}
-use Rattle.std.specs.List.{filter, list_any, range_with_len, flat_map}
+use Rattle.std.specs.List.{list_any, range_with_len}
 use Rattle.std.proofs.Math.Nat.{div-le_self, mul-le-mul}
-use Rattle.std.proofs.lemmas.Bool.{cases_eq, cases_lt, cases_Bool, eq-eqb, ne_eqb}
+use Rattle.std.proofs.lemmas.Bool.{cases_lt}
 use Rattle.std.proofs.lemmas.Bool.Decides.{nat_tests}
 use Rattle.std.proofs.lemmas.List.{get_or_past, length-map}
 use Rattle.std.proofs.lemmas.List.Elements.{All-nil, All-map, All-append, All-filter}
@@ -16,7 +16,7 @@ use Rattle.mtx_text.proofs.Gathered.{raised_keeps}
 use Rattle.round_program.specs.Laws.{Laws, Fits, SameRound, IsItem}
 use Rattle.least_walks.specs.declared.table.Edge.{Edge}
 use Rattle.least_walks.specs.declared.vertices.Vertex.{Vertex}
-use Rattle.least_walks.specs.Tables.{table_of, offers, offers_at, offers_from, offer}
+use Rattle.least_walks.specs.Tables.{offers, offers_at, offers_from, offer}
 use Rattle.least_walks.specs.Vertices.{unreached, improved_at, marked, in_bucket, picked, calm_if, least_marked}
 use Rattle.least_walks.proofs.Marks.{marked_count, picked_count, picked_below}
 use Rattle.least_walks.proofs.Rows.{table_len}
@@ -24,7 +24,7 @@ use Rattle.app_sssp.specs.Sssps.{IsEdge, IsInside, edge_came}
 use Rattle.app_sssp.specs.SsspLaws.{improved_comm, improved_len, greater_inside, table_edges}
 use Rattle.delta_step.specs.declared.phase.Phase.{Phase}
 use Rattle.delta_step.specs.declared.phase.Phase.TheVariants.{First, Find, Light, Heavy}
-use Rattle.delta_step.specs.Deltas.{DeltaState, IsDelta, delta_rules, may_delta, no_bucket, bucket_of, announced, ascending, offered, absorbed_in, vote_in, finding, sorted_out, activated, finished, ended_in}
+use Rattle.delta_step.specs.Deltas.{DeltaState, IsDelta, delta_rules, may_delta, bucket_of, announced, ascending, offered, absorbed_in, vote_in, finding, sorted_out, activated, finished, ended_in}
 
 delta_within : (shape : List ℕ) (ranks round to from : ℕ) (x : Item) → may_delta shape ranks round to from x ≡ true → (to < ranks) × (from < ranks) × IsItem x
 delta_within [] ranks round to from x h = absurd (cc)
@@ -165,9 +165,9 @@ offers_from_fit rows ranks round rank (Some m) es own wide late h =
 
 row_at : (P : Edge → Type 0) (table : List (List Edge)) (p : ℕ) → All (All P) table → All P (get_or table p [])
 row_at P table p h = elim (cases_lt p (length table)) [
-      | inl low ↦ h p [] low
-      | inr past ↦ subst (All P) (sym (get_or_past table p [] past)) (All-nil P)
-    ]
+  | inl low ↦ h p [] low
+  | inr past ↦ subst (All P) (sym (get_or_past table p [] past)) (All-nil P)
+]
 
 pub offers_fit : (rows ranks round rank : ℕ) (table : List (List Edge)) (vs : List Vertex) (places : List ℕ) → rank < ranks → rows ≤ 16384 → 0 < round → All (All (IsEdge ranks rows)) table
     → All (Sent rows ranks round rank) (offers table vs places)

@@ -59,6 +59,81 @@ impl Model for Delta {
     ghost invariant = { λ s. IsDelta (delta_state s) };
 }
 
+impl Delta {
+    /// A rank before its first round.
+    pub(crate) fn new(
+        alloc: Global,
+        rank: u32,
+        ranks: u32,
+        rows: u32,
+        width: u64,
+        vertices: Vertices,
+        outgoing: Vec<(u32, Item)>,
+    ) -> Delta
+        requires { IsDelta (record {
+          rank = rank;
+          ranks = ranks;
+          round = 0;
+          rows = rows;
+          width = width;
+          phase = First;
+          arriving = [];
+          light = [];
+          heavy = [];
+          vertices = vertices;
+          bucket = 0;
+          settled = [];
+          outgoing = outgoing.items;
+        }) }
+        ensures { result ≡ record {
+          rank = rank;
+          ranks = ranks;
+          round = 0;
+          rows = rows;
+          width = width;
+          phase = First;
+          arriving = [];
+          light = [];
+          heavy = [];
+          vertices = vertices;
+          bucket = 0;
+          settled = [];
+          outgoing = outgoing.items;
+        } }
+    {
+        Delta {
+            alloc,
+            rank,
+            ranks,
+            round: 0,
+            rows,
+            width,
+            phase: Phase::First,
+            arriving: Cells::new(alloc),
+            light: Table::new(alloc),
+            heavy: Table::new(alloc),
+            vertices,
+            bucket: 0,
+            settled: Vec::new(alloc),
+            outgoing,
+        }
+    }
+
+    /// The number of vertices of all ranks.
+    pub(crate) fn rows(&self) -> u32
+        ensures { result ≡ self.now.rows }
+    {
+        self.rows
+    }
+
+    /// The own vertices; vertex `i` stands at `i div ranks`.
+    pub(crate) fn vertices(&self) -> &Vertices
+        ensures { result.now ≡ self.now.vertices }
+    {
+        &self.vertices
+    }
+}
+
 impl Program for Delta {
     ghost use Rattle.delta_step.specs.Deltas.{delta_rules};
     ghost use Rattle.delta_step.specs.DeltaLaws.{delta_laws};

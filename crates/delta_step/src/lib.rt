@@ -11,7 +11,9 @@
 #![tactic(auto)]
 
 mod delta;
+mod delta_run;
 mod phase;
 
 pub use delta::Delta;
+pub use delta_run::{delta_start, delta_write};
 pub use phase::Phase;

@@ -1,4 +1,4 @@
-use Rattle.std.proofs.Common.{◌≢◌, refl, sym, subst, ap, ◌∙◌}
+use Rattle.std.proofs.Common.{◌≢◌, refl, sym, subst}
 use Rattle.delta_step.specs.declared.phase.Phase.TheVariants.{First}
 use Rattle.delta_step.specs.Deltas.{DeltaState}
 use Rattle.delta_step.specs.DeltaView.{delta_state}

@@ -1,4 +1,4 @@
-use Rattle.std.proofs.Common.{◌^◌, ◌-◌, ◌+◌, refl, sym, subst, ap, ◌∙◌, length}
+use Rattle.std.proofs.Common.{◌^◌, ◌-◌, ◌+◌, refl, ap, ◌∙◌, length}
 use Rattle.least_walks.specs.Tables.{table_of}
 use Rattle.delta_step.specs.DeltaView.{delta_state}
 use Rattle.delta_step.proofs.Steps.{sorted_from}

@@ -13,6 +13,8 @@
 mod delta;
 mod delta_run;
 mod phase;
+#[cfg(test)]
+mod tests;
 
 pub use delta::Delta;
 pub use delta_run::{delta_start, delta_write};

@@ -49,13 +49,13 @@ graph_edges m g =
 
 -- ---- The vertices at the start
 
-none_at : (n p : ℕ) → get_or (replicate n unreached) p unreached ≡ unreached
+pub none_at : (n p : ℕ) → get_or (replicate n unreached) p unreached ≡ unreached
 none_at n p = elim (cases_lt p n) [
   | inl low ↦ get_or-replicate n p unreached unreached low
   | inr past ↦ get_or_past (replicate n unreached) p unreached (let e : length (replicate n unreached) ≡ n = length-replicate n unreached in omega arith)
 ]
 
-begin_source : (ranks rows source : ℕ) → 0 < ranks → source < rows → get_or (vertices_begin ranks rows source (source % ranks)) (source / ranks) unreached ≡ weighing 0
+pub begin_source : (ranks rows source : ℕ) → 0 < ranks → source < rows → get_or (vertices_begin ranks rows source (source % ranks)) (source / ranks) unreached ≡ weighing 0
 begin_source ranks rows source some low =
     let none : List Vertex = replicate (places_for ranks rows) unreached in
     let place : source / ranks < length none = subst (λ n. source / ranks < n) (sym (length-replicate (places_for ranks rows) unreached)) (place_below ranks rows source some low) in
@@ -63,7 +63,7 @@ begin_source ranks rows source some low =
     ∙ get_or-set_same none (source / ranks) (improve 0 (get_or none (source / ranks) unreached)) unreached place
     ∙ ap (improve 0) (none_at (places_for ranks rows) (source / ranks))
 
-begin_other : (ranks rows source v : ℕ) → 0 < ranks → v ≢ source → get_or (vertices_begin ranks rows source (v % ranks)) (v / ranks) unreached ≡ unreached
+pub begin_other : (ranks rows source v : ℕ) → 0 < ranks → v ≢ source → get_or (vertices_begin ranks rows source (v % ranks)) (v / ranks) unreached ≡ unreached
 begin_other ranks rows source v some apart =
     let none : List Vertex = replicate (places_for ranks rows) unreached in
     elim (cases_eq (source % ranks) (v % ranks)) [
@@ -76,7 +76,7 @@ begin_other ranks rows source v some apart =
           ∙ none_at (places_for ranks rows) (v / ranks)
     ]
 
-begin_len : (ranks rows source r : ℕ) → length (vertices_begin ranks rows source r) ≡ places_for ranks rows
+pub begin_len : (ranks rows source r : ℕ) → length (vertices_begin ranks rows source r) ≡ places_for ranks rows
 begin_len ranks rows source r = either (source % ranks == r)
   where
     either : (b : Bool) → length (cond b (improved_at (source / ranks) 0 (replicate (places_for ranks rows) unreached)) (replicate (places_for ranks rows) unreached)) ≡ places_for ranks rows
@@ -85,11 +85,11 @@ begin_len ranks rows source r = either (source % ranks == r)
 
 -- ---- The start is that of a run
 
-word_low : (v : ℤ) → nat_abs v ≤ 1_000_000_000_000 → twos_complement v < 2 ^ 64
+pub word_low : (v : ℤ) → nat_abs v ≤ 1_000_000_000_000 → twos_complement v < 2 ^ 64
 word_low (pos n) h = omega arith
 word_low (negsuc n) h = omega arith
 
-begins_fit : (ranks : ℕ) (m : Sparse) (r : ℕ) → r < ranks → IsSparse m → m.cols ≡ m.rows → All {X = ℕ × Item} (λ e. may_sssp (m.rows ∷ []) ranks 0 e.0 r e.1 ≡ true) (map (λ (e : Numbered). (row_owner ranks e, edge_item e)) (own_entries ranks r m.entries))
+pub begins_fit : (ranks : ℕ) (m : Sparse) (r : ℕ) → r < ranks → IsSparse m → m.cols ≡ m.rows → All {X = ℕ × Item} (λ e. may_sssp (m.rows ∷ []) ranks 0 e.0 r e.1 ≡ true) (map (λ (e : Numbered). (row_owner ranks e, edge_item e)) (own_entries ranks r m.entries))
 begins_fit ranks m r low is square =
     All-map {X = ℕ × Item} (λ e. may_sssp (m.rows ∷ []) ranks 0 e.0 r e.1 ≡ true) (λ (e : Numbered). (row_owner ranks e, edge_item e)) (own_entries ranks r m.entries)
     (All-filter (λ (e : Numbered). e.0 % ranks == r) (λ (e : Numbered). may_sssp (m.rows ∷ []) ranks 0 (row_owner ranks e) r (edge_item e) ≡ true) (numbered m.entries)
@@ -135,7 +135,7 @@ item_back t h l = ap (λ v. record { i = t.i; j = t.j; v = v }) (word_back t.v h
 abbrev pub own_edges : ℕ → ℕ → List Triple → List Triple
 own_edges ranks r es = dealt (row_of ranks) r es
 
-came_own : (ranks : ℕ) (m : Sparse) (r : ℕ) → IsGraph m
+pub came_own : (ranks : ℕ) (m : Sparse) (r : ℕ) → IsGraph m
     → map (λ (e : ℕ × Item). edge_came e.1) (came_to (entry_owner ranks) (row_owner ranks) edge_item r (numbered m.entries)) ≡ own_edges ranks r m.entries
 came_own ranks m r g =
     landed (entry_owner ranks) edge_item (λ (e : Numbered). e.1) edge_came ranks r (numbered m.entries)
@@ -161,10 +161,10 @@ first_at ranks m source r some g low =
 
 -- ---- Its edges
 
-has_place : (ranks places : ℕ) (ts : List Triple) (p : ℕ) → p < places → get_or (table_of ranks places 0 (2 ^ 64 - 1) ts) p [] ≡ edges_at ranks 0 (2 ^ 64 - 1) ts p
+pub has_place : (ranks places : ℕ) (ts : List Triple) (p : ℕ) → p < places → get_or (table_of ranks places 0 (2 ^ 64 - 1) ts) p [] ≡ edges_at ranks 0 (2 ^ 64 - 1) ts p
 has_place ranks places ts p low = get_or-map-range_with_len (edges_at ranks 0 (2 ^ 64 - 1) ts) 0 places p p [] low (omega arith)
 
-kept_here : (ranks : ℕ) (t : Triple) → t.v ≡ pos (nat_abs t.v) → nat_abs t.v ≤ 1_000_000_000_000 → is_kept ranks 0 (2 ^ 64 - 1) (t.i / ranks) t ≡ true
+pub kept_here : (ranks : ℕ) (t : Triple) → t.v ≡ pos (nat_abs t.v) → nat_abs t.v ≤ 1_000_000_000_000 → is_kept ranks 0 (2 ^ 64 - 1) (t.i / ranks) t ≡ true
 kept_here ranks t h l =
     let word : twos_complement t.v ≡ nat_abs t.v = word_is t.v h in
     and_from (eqb (t.i / ranks) (t.i / ranks)) (in_range 0 (2 ^ 64 - 1) t) (eq-eqb (t.i / ranks) (t.i / ranks) refl) (grind (arith, nat_tests))

@@ -59,7 +59,7 @@ falls es x y round v n h =
     le_or_less a b = elim (cases_lt a b) [ inl l ↦ inl (omega arith) | inr m ↦ inr m ]
 
 -- a walk of one edge or more ends with an edge
-record Last (es : List Triple) (s t : ℕ) (w : List Triple) : Type 0 where
+pub record Last (es : List Triple) (s t : ℕ) (w : List Triple) : Type 0 where
   pub front : List Triple
   pub edge : Triple
   pub is : w ≡ front ++ edge ∷ []
@@ -67,7 +67,7 @@ record Last (es : List Triple) (s t : ℕ) (w : List Triple) : Type 0 where
   pub has : Contains es edge
   pub to : edge.j ≡ t
 
-last_edge : (es : List Triple) (s t : ℕ) (e : Triple) (w : List Triple) → IsWalk es s t (e ∷ w) → Last es s t (e ∷ w)
+pub last_edge : (es : List Triple) (s t : ℕ) (e : Triple) (w : List Triple) → IsWalk es s t (e ∷ w) → Last es s t (e ∷ w)
 last_edge es s t e [] h = record { front = []; edge = e; is = refl; walk = sym h.1; has = h.0; to = h.2 }
 last_edge es s t e (d ∷ w) h =
     let rest : Last es e.j t (d ∷ w) = last_edge es e.j t d w h.2 in

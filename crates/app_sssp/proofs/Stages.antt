@@ -67,7 +67,7 @@ upto_later s lists (suc k) n =
 pub word_is : (v : ℤ) → v ≡ pos (nat_abs v) → twos_complement v ≡ nat_abs v
 word_is v h = ap twos_complement h
 
-sum_is : (t : Triple) (k : ℕ) → t.v ≡ pos (nat_abs t.v) → cost t ≤ 1_000_000_000_000 → k ≤ 2 ^ 60 → (k + twos_complement t.v) % 2 ^ 64 ≡ k + cost t
+pub sum_is : (t : Triple) (k : ℕ) → t.v ≡ pos (nat_abs t.v) → cost t ≤ 1_000_000_000_000 → k ≤ 2 ^ 60 → (k + twos_complement t.v) % 2 ^ 64 ≡ k + cost t
 sum_is t k h c l = (let e : twos_complement t.v ≡ cost t = word_is t.v h in omega arith)
 
 -- the edges of a matrix: inside it, and of weights within the limits

@@ -1,6 +1,6 @@
 -- The runs of sssp: how its programs begin, and what it is to have ended.
-use Rattle.std.specs.Prelude.{ℕ, ◌<◌, ◌≤◌, ◌≡◌, true, ◌==◌, ◌%◌, ◌/◌, List, [], map, replicate, pos, cond, nat_abs}
-use Rattle.std.specs.List.{All, range_with_len}
+use Rattle.std.specs.Prelude.{ℕ, ◌<◌, ◌≤◌, ◌≡◌, true, ◌==◌, ◌%◌, ◌/◌, List, [], map, replicate, cond}
+use Rattle.std.specs.List.{range_with_len}
 use Rattle.bale_types.specs.declared.Item.{Item}
 use Rattle.bale_types.specs.Bits.{twos_complement}
 use Rattle.mtx_text.specs.Sparse.{Sparse, IsSparse}

@@ -75,8 +75,12 @@ fn part_of(
     Ok(Sssp::new(alloc, rank, ranks, m.rows(), vertices, outgoing))
 }
 
-/// The vertices of a rank at the start.
-fn vertices_of(
+/// The vertices of a rank at the start, at so many places: the source is improved, where it is an own one.
+///
+/// # Errors
+///
+/// `NoMemory` where there was none.
+pub fn vertices_of(
     alloc: Global,
     ranks: u32,
     places: usize,
@@ -95,7 +99,11 @@ fn vertices_of(
 }
 
 /// A rank's entries, for the owners of their rows.
-fn edges_of(
+///
+/// # Errors
+///
+/// `NoMemory` where there was none.
+pub fn edges_of(
     alloc: Global,
     parts: &Parts,
     ranks: u32,

@@ -1,5 +1,6 @@
 -- The vertices of a rank, each with the least weight found so far, and which of them were improved.
-use Rattle.std.specs.Prelude.{ℕ, suc, Bool, true, false, List, [], ◌∷◌, Option, None, Some, nat_lt, if◌then◌else◌}
+use Rattle.std.specs.Prelude.{ℕ, suc, Bool, true, false, ◌&&◌, ◌==◌, ◌/◌, min, List, [], ◌∷◌, Option, None, Some, nat_lt, slice_index_or, if◌then◌else◌}
+use Rattle.std.specs.List.{fold}
 use Rattle.list_laws.specs.Lists.{changed_at}
 use Rattle.least_walks.specs.declared.vertices.Vertex.{Vertex}
 
@@ -34,3 +35,34 @@ marked vs = marked_from 0 vs
 -- A vertex with its mark taken away.
 abbrev pub calm : Vertex → Vertex
 calm v = record { weight = v.weight; improved = false }
+
+-- A weight stands in a bucket: divided by the bucket's width it gives the bucket's number.
+-- with width 3, weights 6, 7 and 8 stand in bucket 2
+abbrev pub weight_in : ℕ → ℕ → Option ℕ → Bool
+weight_in width bucket None = false
+weight_in width bucket (Some m) = m / width == bucket
+
+abbrev pub in_bucket : ℕ → ℕ → Vertex → Bool
+in_bucket width bucket v = weight_in width bucket v.weight
+
+-- The places of the improved vertices that pass a test, ascending, of vertices of which the first stands at place k.
+abbrev pub picked_from : (Vertex → Bool) → ℕ → List Vertex → List ℕ
+picked_from test k [] = []
+picked_from test k (v ∷ vs) = if v.improved && test v then k ∷ picked_from test (suc k) vs else picked_from test (suc k) vs
+
+abbrev pub picked : (Vertex → Bool) → List Vertex → List ℕ
+picked test vs = picked_from test 0 vs
+
+-- A vertex with its mark taken away, if it passes a test.
+abbrev pub calm_if : (Vertex → Bool) → Vertex → Vertex
+calm_if test v = if test v then calm v else v
+
+-- The lesser of two weights, of which either may be missing.
+abbrev pub lesser : Option ℕ → Option ℕ → Option ℕ
+lesser None b = b
+lesser (Some a) None = Some a
+lesser (Some a) (Some b) = Some (min a b)
+
+-- The least weight of an improved vertex, or None where none is improved.
+abbrev pub least_marked : List Vertex → Option ℕ
+least_marked vs = fold (λ w p. lesser w (slice_index_or vs p unreached).weight) None (marked vs)

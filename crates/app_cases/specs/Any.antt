@@ -6,7 +6,9 @@ use Rattle.app_histo_ig.specs.Histos.{HistoState, histo_rules}
 use Rattle.app_histo_ig.specs.Igs.{IgState, ig_rules}
 use Rattle.app_permute.specs.Permutes.{PermuteState, permute_rules}
 use Rattle.app_permute.specs.Transposes.{TransposeState, transpose_rules}
+use Rattle.app_topo.specs.Topos.{TopoState, topo_rules}
 use Rattle.app_sssp.specs.Sssps.{SsspState, sssp_rules}
+use Rattle.delta_step.specs.Deltas.{DeltaState, delta_rules}
 
 -- A rank of one of the applications.
 abbrev pub ColumnState : Type 0
@@ -15,8 +17,14 @@ ColumnState = Either HistoState IgState
 abbrev pub MoveState : Type 0
 MoveState = Either PermuteState TransposeState
 
+abbrev pub WalkState : Type 0
+WalkState = Either SsspState DeltaState
+
+abbrev pub GraphState : Type 0
+GraphState = Either TopoState WalkState
+
 abbrev pub OtherState : Type 0
-OtherState = Either MoveState SsspState
+OtherState = Either MoveState GraphState
 
 abbrev pub AnyState : Type 0
 AnyState = Either ColumnState OtherState
@@ -28,8 +36,14 @@ column_rules = either_rules histo_rules ig_rules
 abbrev pub move_rules : Rules MoveState
 move_rules = either_rules permute_rules transpose_rules
 
+abbrev pub walk_rules : Rules WalkState
+walk_rules = either_rules sssp_rules delta_rules
+
+abbrev pub graph_rules : Rules GraphState
+graph_rules = either_rules topo_rules walk_rules
+
 abbrev pub other_rules : Rules OtherState
-other_rules = either_rules move_rules sssp_rules
+other_rules = either_rules move_rules graph_rules
 
 abbrev pub any_rules : Rules AnyState
 any_rules = either_rules column_rules other_rules

@@ -7,8 +7,10 @@ use Rattle.app_histo_ig.specs.Histos.{HistoState, histo_rules}
 use Rattle.app_histo_ig.specs.Igs.{IgState, ig_rules}
 use Rattle.app_permute.specs.Permutes.{PermuteState, permute_rules}
 use Rattle.app_permute.specs.Transposes.{TransposeState, transpose_rules}
+use Rattle.app_topo.specs.Topos.{TopoState, topo_rules}
 use Rattle.app_sssp.specs.Sssps.{SsspState, sssp_rules}
-use Rattle.app_cases.specs.Any.{AnyState, column_rules, move_rules, other_rules, any_rules}
+use Rattle.delta_step.specs.Deltas.{DeltaState, delta_rules}
+use Rattle.app_cases.specs.Any.{AnyState, column_rules, move_rules, walk_rules, graph_rules, other_rules, any_rules}
 
 abbrev pub histo_case : HistoState → AnyState
 histo_case s = Left (Left s)
@@ -35,7 +37,7 @@ abbrev pub permute_shape : List ℕ → List ℕ
 permute_shape shape = 1 ∷ 0 ∷ 0 ∷ shape
 
 pub permute_is_case : Injects permute_rules any_rules permute_case permute_shape
-permute_is_case = case_of_case (case_of_case (left_is_case permute_rules transpose_rules) (left_is_case move_rules sssp_rules)) (right_is_case column_rules other_rules)
+permute_is_case = case_of_case (case_of_case (left_is_case permute_rules transpose_rules) (left_is_case move_rules graph_rules)) (right_is_case column_rules other_rules)
 
 abbrev pub transpose_case : TransposeState → AnyState
 transpose_case s = Right (Left (Right s))
@@ -44,13 +46,31 @@ abbrev pub transpose_shape : List ℕ → List ℕ
 transpose_shape shape = 1 ∷ 0 ∷ 1 ∷ shape
 
 pub transpose_is_case : Injects transpose_rules any_rules transpose_case transpose_shape
-transpose_is_case = case_of_case (case_of_case (right_is_case permute_rules transpose_rules) (left_is_case move_rules sssp_rules)) (right_is_case column_rules other_rules)
+transpose_is_case = case_of_case (case_of_case (right_is_case permute_rules transpose_rules) (left_is_case move_rules graph_rules)) (right_is_case column_rules other_rules)
+
+abbrev pub topo_case : TopoState → AnyState
+topo_case s = Right (Right (Left s))
+
+abbrev pub topo_shape : List ℕ → List ℕ
+topo_shape shape = 1 ∷ 1 ∷ 0 ∷ shape
+
+pub topo_is_case : Injects topo_rules any_rules topo_case topo_shape
+topo_is_case = case_of_case (case_of_case (left_is_case topo_rules walk_rules) (right_is_case move_rules graph_rules)) (right_is_case column_rules other_rules)
 
 abbrev pub sssp_case : SsspState → AnyState
-sssp_case s = Right (Right s)
+sssp_case s = Right (Right (Right (Left s)))
 
 abbrev pub sssp_shape : List ℕ → List ℕ
-sssp_shape shape = 1 ∷ 1 ∷ shape
+sssp_shape shape = 1 ∷ 1 ∷ 1 ∷ 0 ∷ shape
 
 pub sssp_is_case : Injects sssp_rules any_rules sssp_case sssp_shape
-sssp_is_case = case_of_case (right_is_case move_rules sssp_rules) (right_is_case column_rules other_rules)
+sssp_is_case = case_of_case (case_of_case (case_of_case (left_is_case sssp_rules delta_rules) (right_is_case topo_rules walk_rules)) (right_is_case move_rules graph_rules)) (right_is_case column_rules other_rules)
+
+abbrev pub delta_case : DeltaState → AnyState
+delta_case s = Right (Right (Right (Right s)))
+
+abbrev pub delta_shape : List ℕ → List ℕ
+delta_shape shape = 1 ∷ 1 ∷ 1 ∷ 1 ∷ shape
+
+pub delta_is_case : Injects delta_rules any_rules delta_case delta_shape
+delta_is_case = case_of_case (case_of_case (case_of_case (right_is_case sssp_rules delta_rules) (right_is_case topo_rules walk_rules)) (right_is_case move_rules graph_rules)) (right_is_case column_rules other_rules)

@@ -7,11 +7,16 @@ ghost use Rattle.app_cases.specs.Any.{AnyState, any_rules};
 use app_histo_ig::{Histo, Ig};
 use app_permute::{Permute, Transpose};
 use app_sssp::Sssp;
+use app_topo::Topo;
+use delta_step::Delta;
 use either::{Either, Left, Right};
 use round_program::Program;
 
 /// Any of the applications.
-pub type AnyProgram = Either<Either<Histo, Ig>, Either<Either<Permute, Transpose>, Sssp>>;
+pub type AnyProgram = Either<
+    Either<Histo, Ig>,
+    Either<Either<Permute, Transpose>, Either<Topo, Either<Sssp, Delta>>>,
+>;
 
 /// A program that is one of the applications.
 pub trait Case: Program {
@@ -117,6 +122,27 @@ impl Case for Transpose {
     }
 }
 
+impl Case for Topo {
+    ghost use Rattle.app_cases.specs.Cases.{topo_case, topo_shape, topo_is_case};
+
+    ghost case_of = { topo_case };
+
+    ghost wrap = { topo_shape };
+
+    ghost is_case = { topo_is_case };
+
+    fn put(self) -> AnyProgram {
+        Right(Right(Left(self)))
+    }
+
+    fn taken(any: AnyProgram) -> Topo {
+        match any {
+            Right(Right(Left(topo))) => topo,
+            _ => unreachable!(),
+        }
+    }
+}
+
 impl Case for Sssp {
     ghost use Rattle.app_cases.specs.Cases.{sssp_case, sssp_shape, sssp_is_case};
 
@@ -127,12 +153,33 @@ impl Case for Sssp {
     ghost is_case = { sssp_is_case };
 
     fn put(self) -> AnyProgram {
-        Right(Right(self))
+        Right(Right(Right(Left(self))))
     }
 
     fn taken(any: AnyProgram) -> Sssp {
         match any {
-            Right(Right(sssp)) => sssp,
+            Right(Right(Right(Left(sssp)))) => sssp,
+            _ => unreachable!(),
+        }
+    }
+}
+
+impl Case for Delta {
+    ghost use Rattle.app_cases.specs.Cases.{delta_case, delta_shape, delta_is_case};
+
+    ghost case_of = { delta_case };
+
+    ghost wrap = { delta_shape };
+
+    ghost is_case = { delta_is_case };
+
+    fn put(self) -> AnyProgram {
+        Right(Right(Right(Right(self))))
+    }
+
+    fn taken(any: AnyProgram) -> Delta {
+        match any {
+            Right(Right(Right(Right(delta)))) => delta,
             _ => unreachable!(),
         }
     }

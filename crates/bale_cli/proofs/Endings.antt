@@ -4,6 +4,7 @@ use Rattle.mtx_text.specs.declared.refusal.BadLine.{BadLine}
 use Rattle.mtx_text.specs.Grammar.{matrix_of}
 use Rattle.mtx_text.specs.Sparse.{Sparse}
 use Rattle.bale_words.specs.declared.command.Command.{Command}
+use Rattle.bale_cli.specs.Tasks.{task_status}
 use Rattle.bale_cli.specs.declared.unfit.Unfit.{Unfit as Unfitness}
 use Rattle.bale_cli.specs.declared.refusal.Refusal.{Refusal}
 use Rattle.bale_cli.specs.declared.refusal.Refusal.TheVariants.{Usage, ReadFault, BadMatrix, Unfit, WriteFault, NoMemory}
@@ -17,6 +18,15 @@ not_zero (BadMatrix b) e = omega (arith, e)
 not_zero (Unfit u) e = omega (arith, e)
 not_zero WriteFault e = omega (arith, e)
 not_zero NoMemory e = omega (arith, e)
+
+pub not_one : (r : Refusal) → status_of r ≡ 1 → ⊥
+unfolding status_of
+not_one Usage e = omega (arith, e)
+not_one ReadFault e = omega (arith, e)
+not_one (BadMatrix b) e = omega (arith, e)
+not_one (Unfit u) e = omega (arith, e)
+not_one WriteFault e = omega (arith, e)
+not_one NoMemory e = omega (arith, e)
 
 pub is_usage : (r : Refusal) → status_of r ≡ 2 → r ≡ Usage
 unfolding status_of
@@ -70,7 +80,7 @@ answer_bad (Some c) text b some bad = ap (answer_for c) bad
 -- where the command doesn't fit the matrix, the serial answer has status 6 and says why
 answer_unfit : (job : Option Command) (text : List ℕ) (u : Unfitness) → IsUnfit job text u → answer_to job text ≡ record { status = 6; err = unfit_text u }
 answer_unfit job text u w =
-    ap (λ j. answer_to j text) w.asked ∙ (ap (answer_for w.command) w.read ∙ ap answer_by w.why)
+    ap (λ j. answer_to j text) w.asked ∙ (ap (answer_for w.command) w.read ∙ ap (answer_by (task_status w.command.task w.matrix)) w.why)
 
 -- the status of a refusal that no fault explains is the serial answer's
 pub status_same : (r : Refusal) (job : Option Command) (text : List ℕ)
@@ -119,10 +129,10 @@ of_text (Unfit u) two three seven = tt
 of_text WriteFault two three seven = tt
 of_text NoMemory two three seven = seven refl
 
--- what was written is the answer of a command that fits, so the status is 0
-pub wrote_status : {P : List ℕ → Type 0} {job : Option Command} {text : List ℕ} → Wrote job text P → 0 ≡ (answer_to job text).status
+-- what was written is the answer of a command that fits, with its status
+pub wrote_status : {P : List ℕ → Type 0} {job : Option Command} {text : List ℕ} (w : Wrote job text P) → task_status w.command.task w.matrix ≡ (answer_to job text).status
 wrote_status {job = job} {text = text} w =
-    sym (ap (λ (a : Answer). a.status) (ap (λ j. answer_to j text) w.asked ∙ (ap (answer_for w.command) w.read ∙ ap answer_by w.fits)))
+    sym (ap (λ (a : Answer). a.status) (ap (λ j. answer_to j text) w.asked ∙ (ap (answer_for w.command) w.read ∙ ap (answer_by (task_status w.command.task w.matrix)) w.fits)))
 
 pub memory_is : status_of NoMemory ≡ 7
 unfolding status_of

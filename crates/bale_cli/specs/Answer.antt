@@ -11,7 +11,7 @@ use Rattle.bale_words.specs.declared.command.Command.{Command}
 use Rattle.bale_cli.specs.declared.refusal.Refusal.{Refusal}
 use Rattle.bale_cli.specs.declared.refusal.Refusal.TheVariants as refusal
 use Rattle.bale_cli.specs.Jobs.{job_of}
-use Rattle.bale_cli.specs.Tasks.{IsAnswer}
+use Rattle.bale_cli.specs.Tasks.{IsAnswer, task_status}
 use Rattle.bale_cli.specs.Fitness.{unfitness}
 use Rattle.bale_cli.specs.declared.unfit.Unfit.{Unfit}
 use Rattle.bale_cli.specs.declared.unfit.Unfit.TheVariants as unfit
@@ -28,6 +28,7 @@ unfit_text unfit.NotSquare = codes "bale: unfit: matrix is not square\n"
 unfit_text unfit.NegativeWeight = codes "bale: unfit: negative weight\n"
 unfit_text unfit.Source = codes "bale: unfit: source out of range\n"
 unfit_text unfit.SerialSize = codes "bale: unfit: too large for the serial drive\n"
+unfit_text unfit.DeltaRows = codes "bale: unfit: too many rows for delta on the serial drive\n"
 
 -- What is said on err of a run that ended without an answer.
 unfoldable pub refusal_text : Refusal → List ℕ
@@ -67,15 +68,15 @@ pub record Answer : Type 0 where
   pub status : ℕ
   pub err : List ℕ
 
--- A command's answer for a matrix that it fits, or doesn't fit.
-abbrev pub answer_by : Option Unfit → Answer
-answer_by (Some u) = record { status = 6; err = unfit_text u }
-answer_by None = record { status = 0; err = [] }
+-- A command's answer for a matrix that it fits, with its own status, or that it doesn't fit.
+abbrev pub answer_by : ℕ → Option Unfit → Answer
+answer_by status (Some u) = record { status = 6; err = unfit_text u }
+answer_by status None = record { status = status; err = [] }
 
 -- A command's answer for a text that has a matrix, or that has none.
 abbrev pub answer_for : Command → Result Sparse BadLine → Answer
 answer_for c (Err b) = record { status = 5; err = bad_line_text b }
-answer_for c (Ok m) = answer_by (unfitness c.task m true)
+answer_for c (Ok m) = answer_by (task_status c.task m) (unfitness c.task m true)
 
 -- The answer to what can be run, and to words that ask for nothing of the kind.
 abbrev pub answer_to : Option Command → List ℕ → Answer
@@ -84,7 +85,8 @@ answer_to (Some c) text = answer_for c (matrix_of text)
 
 -- The serial answer: what the words ask for, of the matrix of the text. No rank, buffer or link occurs in it.
 -- 2 and "bale: usage" where the words are no command; 5 and the first bad line where the text has no matrix; 6 and the first
--- test that fails where the command doesn't fit the matrix; else 0 and, on out, the bytes that `Wrote` tells of.
+-- test that fails where the command doesn't fit the matrix; else 0, or 1 where topo finds no order, and, on out, the bytes
+-- that `Wrote` tells of.
 -- For "sssp --source 3 --drive serial" and "%%MatrixMarket matrix coordinate pattern general/2 2 0/" it is 6 with
 -- "bale: unfit: source out of range/" on err, with / for LF.
 abbrev pub serial_answer : List (List ℕ) → List ℕ → Answer
@@ -124,11 +126,12 @@ pub record HasWritten {T E : Type 0} (IsAnswer : List ℕ → Type 0) (old new :
   pub whole : OnOk written (new ≡ after old bytes)
   pub front : OnErr written (IsFront new (after old bytes))
 
--- What is said on err at a status: nothing at 0, of a fault its text, else what the serial answer says.
+-- What is said on err at a status: nothing at 0 and 1, of a fault its text, else what the serial answer says.
 -- At 3 it is "bale: read fault\n"; at 5 it is the bad line and its reason.
 abbrev pub said : ℕ → Answer → List ℕ
 said status answer =
     if status == 0 then []
+    else if status == 1 then []
     else if status == 3 then refusal_text refusal.ReadFault
     else if status == 4 then refusal_text refusal.WriteFault
     else if status == 7 then refusal_text refusal.NoMemory

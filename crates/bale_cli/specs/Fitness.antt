@@ -1,5 +1,5 @@
 -- Whether a command can be answered for a matrix: tests in their order, of which the first that fails decides.
-use Rattle.std.specs.Prelude.{ℕ, ◌*◌, ◌==◌, ◌&&◌, ◌||◌, Bool, not, nat_lt, List, [], ◌∷◌, Option, None, Some, length, if◌then◌else◌}
+use Rattle.std.specs.Prelude.{ℕ, ◌*◌, ◌==◌, ◌&&◌, ◌||◌, Bool, not, nat_lt, List, [], ◌∷◌, Option, None, Some, is_some, length, if◌then◌else◌}
 use Rattle.mtx_text.specs.Sparse.{Sparse}
 use Rattle.least_walks.specs.Walks.{no_negative}
 use Rattle.bale_words.specs.declared.command.Task.{Task}
@@ -16,11 +16,12 @@ abbrev pub first_failed : List Test → Option Unfit
 first_failed [] = None
 first_failed (t ∷ ts) = if t.0 then Some t.1 else first_failed ts
 
--- The tests of an application. The last one bounds what a serial drive stores.
+-- The tests of an application. The last two bound what a serial drive stores.
 abbrev pub tests_of : Task → Sparse → Bool → List Test
 tests_of (task.Sssp source delta) m serial =
     (not (m.cols == m.rows), unfit.NotSquare) ∷ (not (no_negative m.entries), unfit.NegativeWeight) ∷ ((source == 0) || nat_lt m.rows source, unfit.Source)
-    ∷ (serial && nat_lt 16777216 (m.rows * length m.entries), unfit.SerialSize) ∷ []
+    ∷ (serial && nat_lt 16777216 (m.rows * length m.entries), unfit.SerialSize) ∷ (serial && (is_some delta && nat_lt 1024 m.rows), unfit.DeltaRows) ∷ []
+tests_of task.Topo m serial = (not (m.cols == m.rows), unfit.NotSquare) ∷ []
 tests_of _ m serial = []
 
 -- Why an application can't be answered for a matrix, driven serially or by threads: the first of its tests that fails.

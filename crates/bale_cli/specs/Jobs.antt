@@ -17,7 +17,8 @@ is_ready task.Histo = true
 is_ready task.Ig = true
 is_ready (task.Permute (Seed seed)) = true
 is_ready task.Transpose = true
-is_ready (task.Sssp source None) = true
+is_ready task.Topo = true
+is_ready (task.Sssp source delta) = true
 is_ready _ = false
 
 abbrev pub is_convey : Transport → Bool

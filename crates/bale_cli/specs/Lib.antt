@@ -1,4 +1,5 @@
 pub mod Answer
 pub mod Fitness
 pub mod Jobs
+pub mod Orders
 pub mod Tasks

@@ -1,5 +1,5 @@
 -- What each application answers for a matrix, and which programs it runs for that.
-use Rattle.std.specs.Prelude.{◌≡◌, ◌≤◌, ◌+◌, ◌-◌, ℕ, Bool, false, List, [], ◌∷◌, Option, None}
+use Rattle.std.specs.Prelude.{◌≡◌, ◌≤◌, ◌+◌, ◌-◌, ℕ, Bool, false, List, [], ◌∷◌, Option, None, Some}
 use Rattle.route_tensor.specs.Grid.{ranks}
 use Rattle.mtx_text.specs.Sparse.{Sparse}
 use Rattle.round_program.specs.Rules.{Rules}
@@ -26,7 +26,13 @@ use Rattle.app_permute.specs.Transposes.{transpose_rules}
 use Rattle.app_permute.specs.TransposeRuns.{transpose_starts}
 use Rattle.app_sssp.specs.Sssps.{sssp_rules}
 use Rattle.app_sssp.specs.SsspRuns.{sssp_starts}
+use Rattle.app_topo.specs.Levels.{topo_order}
+use Rattle.app_topo.specs.Topos.{topo_rules}
+use Rattle.app_topo.specs.TopoRuns.{topo_starts}
+use Rattle.delta_step.specs.Deltas.{delta_rules}
+use Rattle.delta_step.specs.DeltaRuns.{delta_starts}
 use Rattle.least_walks.specs.Lines.{IsSsspAnswer}
+use Rattle.bale_cli.specs.Orders.{order_status, order_text}
 
 -- The plain bank of a command's run: its grid, the entries of a parcel, the slots of a link.
 abbrev pub made_for : Command → Made
@@ -38,8 +44,14 @@ IsAnswer task.Histo m bytes = bytes ≡ histo_lines m.entries m.cols
 IsAnswer task.Ig m bytes = bytes ≡ ig_lines m.entries
 IsAnswer (task.Permute (Seed seed)) m bytes = bytes ≡ text_of (permuted (perms_of m.rows m.cols seed).rows (perms_of m.rows m.cols seed).cols m)
 IsAnswer task.Transpose m bytes = bytes ≡ text_of (transposed m)
-IsAnswer (task.Sssp source None) m bytes = IsSsspAnswer m (source - 1) bytes
+IsAnswer task.Topo m bytes = bytes ≡ order_text (topo_order m.rows m.entries)
+IsAnswer (task.Sssp source delta) m bytes = IsSsspAnswer m (source - 1) bytes
 IsAnswer _ m bytes = ⊥
+
+-- The exit status of an answer: 1 where topo finds no order, else 0.
+abbrev pub task_status : Task → Sparse → ℕ
+task_status task.Topo m = order_status (topo_order m.rows m.entries)
+task_status _ m = 0
 
 -- The rounds of a run are one closed round, which tells the canonical run of these programs.
 pub record Tells {S : Type 0} (R : Rules S) (starts : List S) (made : Made) (steady : Bool) (rounds : List ClosedRound) : Type 0 where
@@ -57,6 +69,8 @@ TellsTask task.Ig m made steady rounds = Tells ig_rules (ig_starts (ranks made.d
 TellsTask (task.Permute (Seed seed)) m made steady rounds =
     Tells permute_rules (permute_starts (ranks made.dims) m (perms_of m.rows m.cols seed).rows (perms_of m.rows m.cols seed).cols) made steady rounds
 TellsTask task.Transpose m made steady rounds = Tells transpose_rules (transpose_starts (ranks made.dims) m) made steady rounds
+TellsTask task.Topo m made steady rounds = Tells topo_rules (topo_starts (ranks made.dims) m) made steady rounds
+TellsTask (task.Sssp source (Some delta)) m made steady rounds = Tells delta_rules (delta_starts (ranks made.dims) m (source - 1) delta) made steady rounds
 TellsTask (task.Sssp source None) m made steady rounds = Tells sssp_rules (sssp_starts (ranks made.dims) m (source - 1)) made steady rounds
 TellsTask _ m made steady rounds = ⊥
 
@@ -71,5 +85,7 @@ TurnsOfTask task.Ig m dims before after = WithinTurns ig_rules (ig_starts (ranks
 TurnsOfTask (task.Permute (Seed seed)) m dims before after =
     WithinTurns permute_rules (permute_starts (ranks dims) m (perms_of m.rows m.cols seed).rows (perms_of m.rows m.cols seed).cols) dims before after
 TurnsOfTask task.Transpose m dims before after = WithinTurns transpose_rules (transpose_starts (ranks dims) m) dims before after
+TurnsOfTask task.Topo m dims before after = WithinTurns topo_rules (topo_starts (ranks dims) m) dims before after
+TurnsOfTask (task.Sssp source (Some delta)) m dims before after = WithinTurns delta_rules (delta_starts (ranks dims) m (source - 1) delta) dims before after
 TurnsOfTask (task.Sssp source None) m dims before after = WithinTurns sssp_rules (sssp_starts (ranks dims) m (source - 1)) dims before after
 TurnsOfTask _ m dims before after = after ≡ before

@@ -25,6 +25,8 @@ pub(crate) trait Application {
     ghost starts: { Self → ℕ → Sparse → List Self.Prog };
     /// these bytes are the answer for a matrix
     ghost is_answer: { Self → Sparse → List ℕ → Type 0 };
+    /// the exit status for a matrix: 0, or 1 where the answer is that there is none
+    ghost status_for: { Self → Sparse → ℕ };
     /// from this they are written
     ghost answers: { Self → Sparse → Self.Answer → Type 0 };
 
@@ -44,8 +46,14 @@ pub(crate) trait Application {
         progs: Progs<Self::Prog>,
     ) -> Result<Self::Answer, NoMemory>
         requires serves { serves self.now m.now }
-        requires ended { (ranks : ℕ) × (1 ≤ ranks) × HaveEnded Self.Prog.rules (starts self.now ranks m.now) progs }
+        requires ended { (ranks : ℕ) × (1 ≤ ranks) × (ranks ≤ 64) × HaveEnded Self.Prog.rules (starts self.now ranks m.now) progs }
         ensures { IfOk result (λ a. answers self.now m.now a) };
+
+    /// The exit status.
+    fn status(&self, answer: &Self::Answer, m: &Matrix) -> u8
+        requires answers { answers self.now m.now answer.now }
+        ensures value { result ≡ status_for self.now m.now }
+        ensures low { result ≤ 1 };
 
     /// Writes the answer. No memory is taken.
     fn write<K: Sink>(

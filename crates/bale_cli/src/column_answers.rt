@@ -29,6 +29,7 @@ impl Application for HistoAnswer {
 
     ghost starts = { λ _. histo_starts };
 
+    ghost status_for = { λ _ _. 0 };
     ghost is_answer = { λ _ m bytes. bytes ≡ histo_lines m.entries m.cols };
 
     ghost answers = { λ _ m ps. HistoEnded m ps };
@@ -39,11 +40,15 @@ impl Application for HistoAnswer {
 
     fn end(&self, alloc: Global, m: &Matrix, progs: Progs<Histo>) -> Result<Progs<Histo>, NoMemory>
         requires serves { Unit {0} }
-        requires ended { (ranks : ℕ) × (1 ≤ ranks) × HaveEnded histo_rules (histo_starts ranks m.now) progs }
+        requires ended { (ranks : ℕ) × (1 ≤ ranks) × (ranks ≤ 64) × HaveEnded histo_rules (histo_starts ranks m.now) progs }
         ensures { IfOk result (λ a. HistoEnded m.now a) }
     {
         let _sparse = m.entries();
         Ok(progs)
+    }
+
+    fn status(&self, answer: &Progs<Histo>, m: &Matrix) -> u8 {
+        0
     }
 
     fn write<K: Sink>(
@@ -71,6 +76,7 @@ impl Application for IgAnswer {
 
     ghost starts = { λ _. ig_starts };
 
+    ghost status_for = { λ _ _. 0 };
     ghost is_answer = { λ _ m bytes. bytes ≡ ig_lines m.entries };
 
     ghost answers = { λ _ m ps. IgEnded m ps };
@@ -81,11 +87,15 @@ impl Application for IgAnswer {
 
     fn end(&self, alloc: Global, m: &Matrix, progs: Progs<Ig>) -> Result<Progs<Ig>, NoMemory>
         requires serves { Unit {0} }
-        requires ended { (ranks : ℕ) × (1 ≤ ranks) × HaveEnded ig_rules (ig_starts ranks m.now) progs }
+        requires ended { (ranks : ℕ) × (1 ≤ ranks) × (ranks ≤ 64) × HaveEnded ig_rules (ig_starts ranks m.now) progs }
         ensures { IfOk result (λ a. IgEnded m.now a) }
     {
         let _sparse = m.entries();
         Ok(progs)
+    }
+
+    fn status(&self, answer: &Progs<Ig>, m: &Matrix) -> u8 {
+        0
     }
 
     fn write<K: Sink>(

@@ -7,13 +7,14 @@ ghost use Rattle.bale_words.specs.Ranges.{InRanges};
 ghost use Rattle.bale_cli.specs.Jobs.{runs};
 ghost use Rattle.bale_cli.specs.Answer.{HasWritten};
 ghost use Rattle.bale_cli.specs.Fitness.{unfitness};
-ghost use Rattle.bale_cli.specs.Tasks.{IsAnswer, made_for, Tells, TellsTask, WithinTurns, TurnsOfTask};
+ghost use Rattle.bale_cli.specs.Tasks.{IsAnswer, task_status, made_for, Tells, TellsTask, WithinTurns, TurnsOfTask};
 
 use crate::application::Application;
 use crate::column_answers::{HistoAnswer, IgAnswer};
 use crate::exchange::exchanged;
 use crate::matrix_answers::{PermuteAnswer, TransposeAnswer};
-use crate::walk_answers::SsspAnswer;
+use crate::order_answer::OrderAnswer;
+use crate::walk_answers::{DeltaAnswer, SsspAnswer};
 use app_permute::seed_perms;
 use bale_types::{Failed, NoMemory, Out, Sink};
 use bale_words::{Command, Permutations, Task};
@@ -22,9 +23,10 @@ use rank_group::{Rounds, Steps};
 use std::alloc::Global;
 use std::sync::ledger::Ledger;
 
-/// A run that came to its end: whether the answer was written, and what was exchanged.
+/// A run that came to its end: the answer's status, whether it was written, and what was exchanged.
 #[derive(Drop)]
 pub(crate) struct Finish {
+    pub(crate) status: u8,
     pub(crate) written: Result<(), Failed>,
     pub(crate) rounds: Rounds,
 }
@@ -40,6 +42,8 @@ pub(crate) fn ran<K: Sink, L: Ledger>(
     requires runs { runs command.now ≡ true }
     requires ranges { InRanges command.now }
     requires fits { unfitness command.now.task m.now true ≡ None }
+    ensures status { IfOk result (λ f. f.status ≡ task_status command.now.task m.now) }
+    ensures low { IfOk result (λ f. f.status ≤ 1) }
     ensures answer { IfOk result (λ f. HasWritten (IsAnswer command.now.task m.now) (K.taken out.old) (K.taken out.new) f.written) }
     ensures cause { IfOk result (λ f. HasCause (K.faults out.old) (K.faults out.new) f.written) }
     ensures held { IsFront (K.taken out.old) (K.taken out.new) }
@@ -56,9 +60,16 @@ pub(crate) fn ran<K: Sink, L: Ledger>(
             ran_as(alloc, &PermuteAnswer { perms }, m, command, out, steps)
         }
         Task::Transpose => ran_as(alloc, &TransposeAnswer, m, command, out, steps),
+        Task::Topo => ran_as(alloc, &OrderAnswer, m, command, out, steps),
         Task::Sssp(source, None) => {
             let source = *source - 1;
             ran_as(alloc, &SsspAnswer { source }, m, command, out, steps)
+        }
+        Task::Sssp(source, Some(delta)) => {
+            let source = *source - 1;
+            let delta = *delta;
+            let app = DeltaAnswer { source, delta };
+            ran_as(alloc, &app, m, command, out, steps)
         }
         _ => unreachable!(),
     }
@@ -75,6 +86,8 @@ fn ran_as<A: Application, K: Sink, L: Ledger>(
 ) -> Result<Finish, NoMemory>
     requires serves { A.serves app.now m.now }
     requires ranges { InRanges command.now }
+    ensures status { IfOk result (λ f. f.status ≡ A.status_for app.now m.now) }
+    ensures low { IfOk result (λ f. f.status ≤ 1) }
     ensures answer { IfOk result (λ f. HasWritten (A.is_answer app.now m.now) (K.taken out.old) (K.taken out.new) f.written) }
     ensures cause { IfOk result (λ f. HasCause (K.faults out.old) (K.faults out.new) f.written) }
     ensures held { IsFront (K.taken out.old) (K.taken out.new) }
@@ -83,8 +96,13 @@ fn ran_as<A: Application, K: Sink, L: Ledger>(
     ensures steps { WithinTurns A.Prog.rules (A.starts app.now (ranks command.now.grid) m.now) command.now.grid steps.old steps.new }
 {
     let (answer, rounds) = exchanged(alloc, app, m, command, steps)?;
+    let status = app.status(&answer, m);
     let written = write_answer(app, &answer, m, out);
-    Ok(Finish { written, rounds })
+    Ok(Finish {
+        status,
+        written,
+        rounds,
+    })
 }
 
 /// Writes the answer through a buffer.

@@ -49,6 +49,7 @@ fn is_ready(task: &Task) -> bool
             | Task::Ig
             | Task::Permute(Permutations::Seed(_))
             | Task::Transpose
-            | Task::Sssp(_, None)
+            | Task::Topo
+            | Task::Sssp(_, _)
     )
 }

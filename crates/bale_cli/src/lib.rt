@@ -16,6 +16,7 @@ mod exchange;
 mod finish;
 mod job;
 mod matrix_answers;
+mod order_answer;
 mod refusal;
 mod run;
 mod unfit;

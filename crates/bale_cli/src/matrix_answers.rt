@@ -39,6 +39,7 @@ impl Application for PermuteAnswer {
 
     ghost starts = { λ app ranks m. permute_starts ranks m app.perms.rows app.perms.cols };
 
+    ghost status_for = { λ _ _. 0 };
     ghost is_answer = { λ app m bytes. bytes ≡ text_of (permuted app.perms.rows app.perms.cols m) };
 
     ghost answers = { λ app m b. b ≡ permuted app.perms.rows app.perms.cols m };
@@ -49,11 +50,15 @@ impl Application for PermuteAnswer {
 
     fn end(&self, alloc: Global, m: &Matrix, progs: Progs<Permute>) -> Result<Matrix, NoMemory>
         requires serves { (Permutes m.now.rows self.now.perms.rows) × (Permutes m.now.cols self.now.perms.cols) }
-        requires ended { (ranks : ℕ) × (1 ≤ ranks) × HaveEnded permute_rules (permute_starts ranks m.now self.now.perms.rows self.now.perms.cols) progs }
+        requires ended { (ranks : ℕ) × (1 ≤ ranks) × (ranks ≤ 64) × HaveEnded permute_rules (permute_starts ranks m.now self.now.perms.rows self.now.perms.cols) progs }
         ensures { IfOk result (λ b. b ≡ permuted self.now.perms.rows self.now.perms.cols m.now) }
     {
         let _sparse = m.entries();
         permute_end(alloc, m, &progs)
+    }
+
+    fn status(&self, answer: &Matrix, m: &Matrix) -> u8 {
+        0
     }
 
     fn write<K: Sink>(
@@ -83,6 +88,7 @@ impl Application for TransposeAnswer {
 
     ghost starts = { λ _. transpose_starts };
 
+    ghost status_for = { λ _ _. 0 };
     ghost is_answer = { λ _ m bytes. bytes ≡ text_of (transposed m) };
 
     ghost answers = { λ _ m b. b ≡ transposed m };
@@ -93,11 +99,15 @@ impl Application for TransposeAnswer {
 
     fn end(&self, alloc: Global, m: &Matrix, progs: Progs<Transpose>) -> Result<Matrix, NoMemory>
         requires serves { Unit {0} }
-        requires ended { (ranks : ℕ) × (1 ≤ ranks) × HaveEnded transpose_rules (transpose_starts ranks m.now) progs }
+        requires ended { (ranks : ℕ) × (1 ≤ ranks) × (ranks ≤ 64) × HaveEnded transpose_rules (transpose_starts ranks m.now) progs }
         ensures { IfOk result (λ b. b ≡ transposed m.now) }
     {
         let _sparse = m.entries();
         transpose_end(alloc, m, &progs)
+    }
+
+    fn status(&self, answer: &Matrix, m: &Matrix) -> u8 {
+        0
     }
 
     fn write<K: Sink>(

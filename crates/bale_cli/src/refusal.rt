@@ -136,12 +136,13 @@ fn bad_line(line: &mut Line, bad: BadLine)
 #[tactic(auto, unfolding(crate::specs::Answer::unfit_text))]
 fn text_of_unfit(unfit: Unfit) -> &'static [u8]
     ensures text { result.now ≡ unfit_text unfit }
-    ensures short { length result.now ≤ 48 }
+    ensures short { length result.now ≤ 64 }
 {
     match unfit {
         Unfit::NotSquare => b"bale: unfit: matrix is not square\n",
         Unfit::NegativeWeight => b"bale: unfit: negative weight\n",
         Unfit::Source => b"bale: unfit: source out of range\n",
         Unfit::SerialSize => b"bale: unfit: too large for the serial drive\n",
+        Unfit::DeltaRows => b"bale: unfit: too many rows for delta on the serial drive\n",
     }
 }

@@ -1,5 +1,5 @@
 //! The top call: from the words and the bytes that come in to the bytes that go out.
-ghost use Rattle.std.specs.Prelude.{◌≡◌, ◌≢◌, ◌⊎◌, ℕ, [], List, Option, Some, None, Ok, Err, map, drop, string_bytes, OnOk, OnErr, IfOk, IfErr};
+ghost use Rattle.std.specs.Prelude.{◌≡◌, ◌≢◌, ◌⊎◌, ◌≤◌, ℕ, [], List, Option, Some, None, Ok, Err, map, drop, string_bytes, OnOk, OnErr, IfOk, IfErr};
 ghost use Rattle.std.specs.Result.{IsErrAnd};
 ghost use Rattle.bale_types.specs.Stream.{after, HasCause, IsFront, Rose};
 ghost use Rattle.mtx_text.specs.Sparse.{Sparse};
@@ -22,7 +22,7 @@ use std::sync::ledger::Ledger;
 /// How a run ended.
 #[derive(Drop)]
 pub struct Outcome {
-    /// 0, or the status of the refusal: 2 usage, 3 read fault, 4 write fault, 5 no matrix, 6 unfit, 7 no memory
+    /// 0, or 1 where topo finds no order, or the status of the refusal: 2 usage, 3 read fault, 4 write fault, 5 no matrix, 6 unfit, 7 no memory
     pub status: u8,
     /// What was exchanged: one closed round where an answer was written or its writing failed, else none.
     pub rounds: Rounds,
@@ -49,19 +49,19 @@ pub fn run_serial<S: Source, K: Sink, E: Sink, L: Ledger>(
     ensures read_fault { result.status ≡ 3 → Rose (S.faults source.old) (S.faults source.new) }
     ensures write_fault { result.status ≡ 4 → Rose (K.faults out.old) (K.faults out.new) }
 
-    // No byte is read at 2; at 0, 4, 5 and 6 the text was read whole, or to one byte past its limit.
+    // No byte is read at 2; at 0, 1, 4, 5 and 6 the text was read whole, or to one byte past its limit.
     ensures unread { result.status ≡ 2 → S.left source.new ≡ S.left source.old }
     ensures read_whole { (text : List ℕ) → S.left source.old ≡ Some text → result.status ≢ 2 → result.status ≢ 3 → result.status ≢ 7 →
         S.left source.new ≡ Some (drop 16_777_217 text) }
 
-    // At 0 out has taken the answer, at 4 a front of it, and else nothing; what it held stays, so at 4 it has what it held and then a front
+    // At 0 and 1 out has taken the answer, at 4 a front of it, and else nothing; what it held stays, so at 4 it has what it held and then a front
     // of the answer.
-    ensures answer { (text : List ℕ) → S.left source.old ≡ Some text → result.status ≡ 0 →
+    ensures answer { (text : List ℕ) → S.left source.old ≡ Some text → (result.status ≡ 0) ⊎ (result.status ≡ 1) →
         Wrote (job_of (map string_bytes words.now)) text (λ bytes. K.taken out.new ≡ after (K.taken out.old) bytes) }
     ensures front { (text : List ℕ) → S.left source.old ≡ Some text → result.status ≡ 4 →
         Wrote (job_of (map string_bytes words.now)) text (λ bytes. IsFront (K.taken out.new) (after (K.taken out.old) bytes)) }
     ensures held { IsFront (K.taken out.old) (K.taken out.new) }
-    ensures no_answer { result.status ≢ 0 → result.status ≢ 4 → K.taken out.new ≡ K.taken out.old }
+    ensures no_answer { result.status ≢ 0 → result.status ≢ 1 → result.status ≢ 4 → K.taken out.new ≡ K.taken out.old }
 
     // What is said on err is whole unless its own faults rose; the text matters at 5 and 6 alone.
     ensures said { (text : List ℕ) → ((result.status ≡ 5) ⊎ (result.status ≡ 6) → S.left source.old ≡ Some text) → ¬ Rose (E.faults err.old) (E.faults err.new) →
@@ -69,18 +69,18 @@ pub fn run_serial<S: Source, K: Sink, E: Sink, L: Ledger>(
     ensures said_front { (text : List ℕ) → ((result.status ≡ 5) ⊎ (result.status ≡ 6) → S.left source.old ≡ Some text) →
         IsFront (E.taken err.new) (after (E.taken err.old) (said result.status (serial_answer (map string_bytes words.now) text))) }
     ensures said_held { IsFront (E.taken err.old) (E.taken err.new) }
-    ensures silent { result.status ≡ 0 → E.taken err.new ≡ E.taken err.old }
+    ensures silent { (result.status ≡ 0) ⊎ (result.status ≡ 1) → E.taken err.new ≡ E.taken err.old }
 
-    // At 0 and 4 the rounds tell the canonical run of the application's programs for the matrix read, over a plain bank of
+    // At 0, 1 and 4 the rounds tell the canonical run of the application's programs for the matrix read, over a plain bank of
     // the grid, the capacity and the slots that the words name; else there are none.
-    ensures rounds { (text : List ℕ) (c : Command) (m : Sparse) → Asked (S.left source.old) (map string_bytes words.now) text c m → (result.status ≡ 0) ⊎ (result.status ≡ 4) →
+    ensures rounds { (text : List ℕ) (c : Command) (m : Sparse) → Asked (S.left source.old) (map string_bytes words.now) text c m → (result.status ≡ 0) ⊎ (result.status ≡ 1) ⊎ (result.status ≡ 4) →
         TellsTask c.task m (made_for c) c.travel.steady result.rounds }
-    ensures no_rounds { result.status ≢ 0 → result.status ≢ 4 → result.rounds ≡ [] }
+    ensures no_rounds { result.status ≢ 0 → result.status ≢ 1 → result.status ≢ 4 → result.rounds ≡ [] }
 
     // The turns are bounded by the words and the matrix, at 7 too; a refusal makes none.
     ensures steps { (text : List ℕ) (c : Command) (m : Sparse) → Asked (S.left source.old) (map string_bytes words.now) text c m →
         TurnsOfTask c.task m c.grid steps.old steps.new }
-    ensures no_turns { result.status ≢ 0 → result.status ≢ 4 → result.status ≢ 7 → steps.new ≡ steps.old }
+    ensures no_turns { result.status ≢ 0 → result.status ≢ 1 → result.status ≢ 4 → result.status ≢ 7 → steps.new ≡ steps.old }
 {
     match answer(alloc, words, source, out, steps) {
         Ok(finish) => ended(finish, err),
@@ -96,16 +96,22 @@ pub fn run_serial<S: Source, K: Sink, E: Sink, L: Ledger>(
 
 /// The outcome of a run that came to its end, and what is said of it.
 fn ended<E: Sink>(finish: Finish, err: &mut E) -> Outcome
+    requires low { finish.status ≤ 1 }
     ensures rounds { result.rounds ≡ finish.rounds }
-    ensures written { OnOk finish.written ((result.status ≡ 0) × (E.taken err.new ≡ E.taken err.old)) }
+    ensures kind { (result.status ≤ 1) ⊎ (result.status ≡ 4) }
+    ensures written { OnOk finish.written ((result.status ≡ finish.status) × (result.status ≤ 1) × (E.taken err.new ≡ E.taken err.old)) }
     ensures unwritten { OnErr finish.written (result.status ≡ 4) }
     ensures said { OnErr finish.written (¬ Rose (E.faults err.old) (E.faults err.new) → E.taken err.new ≡ after (E.taken err.old) (refusal_text Refusal.WriteFault)) }
     ensures front { OnErr finish.written (IsFront (E.taken err.new) (after (E.taken err.old) (refusal_text Refusal.WriteFault))) }
     ensures held { IsFront (E.taken err.old) (E.taken err.new) }
 {
-    let Finish { written, rounds } = finish;
+    let Finish {
+        status,
+        written,
+        rounds,
+    } = finish;
     match written {
-        Ok(()) => Outcome { status: 0, rounds },
+        Ok(()) => Outcome { status, rounds },
         Err(_) => {
             report(err, Refusal::WriteFault);
             Outcome { status: 4, rounds }
@@ -129,6 +135,8 @@ fn answer<S: Source, K: Sink, L: Ledger>(
     ensures no_fault { IfErr result (λ r. r ≢ Refusal.WriteFault) }
     ensures wrote { (text : List ℕ) → S.left source.old ≡ Some text → IfOk result (λ f. Wrote (job_of (map string_bytes words.now)) text
         (λ bytes. OnOk f.written (K.taken out.new ≡ after (K.taken out.old) bytes) × OnErr f.written (IsFront (K.taken out.new) (after (K.taken out.old) bytes)))) }
+    ensures status { (text : List ℕ) → S.left source.old ≡ Some text → IfOk result (λ f. f.status ≡ (serial_answer (map string_bytes words.now) text).status) }
+    ensures low { IfOk result (λ f. f.status ≤ 1) }
     ensures cause { IfOk result (λ f. HasCause (K.faults out.old) (K.faults out.new) f.written) }
     ensures held { IsFront (K.taken out.old) (K.taken out.new) }
     ensures unread { result ≡ Err Refusal.Usage → S.left source.new ≡ S.left source.old }

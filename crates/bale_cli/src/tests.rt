@@ -119,6 +119,19 @@ sssp --source 1 --grid 2x2x2 --buffer 1;4 4 4/1 2 5/1 3 2/3 2 1/2 4 7/;0 1 0/2 3
 sssp --source 4;4 4 4/1 2 5/1 3 2/3 2 1/2 4 7/;0 1 -/2 -/3 -/4 0/
 sssp --source 5;4 4 4/1 2 5/1 3 2/3 2 1/2 4 7/;6 bale: unfit: source out of range/
 sssp --source 0;4 4 4/1 2 5/1 3 2/3 2 1/2 4 7/;6 bale: unfit: source out of range/
+sssp --delta 3;4 4 4/1 2 5/1 3 2/3 2 1/2 4 7/;0 1 0/2 3/3 2/4 10/
+sssp --delta 3 --grid 2x2x2 --buffer 1;4 4 4/1 2 5/1 3 2/3 2 1/2 4 7/;0 1 0/2 3/3 2/4 10/
+sssp --delta 3 --source 4;4 4 4/1 2 5/1 3 2/3 2 1/2 4 7/;0 1 -/2 -/3 -/4 0/
+sssp --delta 3 --source 5;4 4 4/1 2 5/1 3 2/3 2 1/2 4 7/;6 bale: unfit: source out of range/
+sssp --delta 5;1025 1025 0/;6 bale: unfit: too many rows for delta on the serial drive/
+topo;3 3 4/1 1 1/1 2 1/2 2 1/3 3 1/;0 1 1 1/2 3 3/3 2 2/
+topo --grid 2x2x2 --buffer 1;3 3 4/1 1 1/1 2 1/2 2 1/3 3 1/;0 1 1 1/2 3 3/3 2 2/
+topo --slots 1 --steady yes;3 3 4/1 1 1/1 2 1/2 2 1/3 3 1/;0 1 1 1/2 3 3/3 2 2/
+topo;2 2 4/1 1 1/1 2 1/2 1 1/2 2 1/;1 not triangular/
+topo;2 2 3/1 1 1/1 2 1/2 1 1/;0 1 1 2/2 2 1/
+topo;2 2 2/1 1 1/2 1 1/;1 not triangular/
+topo;0 0 0/;0 
+topo;1 2 0/;6 bale: unfit: matrix is not square/
 sssp;2 2 1/1 2 -1/;6 bale: unfit: negative weight/
 sssp;0 0 0/;6 bale: unfit: source out of range/
 sssp;1 2 0/;6 bale: unfit: matrix is not square/
@@ -145,12 +158,25 @@ fn applications_and_their_answers(rt: HostRuntime) -> Result<(), Fail> {
     Ok(())
 }
 
+/// A matrix of which two rows get their level together.
+const TIES: &[u8] =
+    b"%%MatrixMarket matrix coordinate pattern general\n3 3 4\n1 1\n1 2\n2 2\n3 3\n";
+
+/// Four vertices, of which three are reached from the first.
+const WALKS: &[u8] =
+    b"%%MatrixMarket matrix coordinate integer general\n4 4 4\n1 2 5\n1 3 2\n3 2 1\n2 4 7\n";
+
 #[test]
 fn rounds_are_told(rt: HostRuntime) -> Result<(), Fail> {
     // The words, the text, and then the status, the closed rounds and their epochs: two a round.
     let cases = [
         ("histo --drive serial", ONE, 0, 1, 2),
         ("ig --drive serial --grid 2", TWO, 0, 1, 6),
+        // votes_in_epochs, sssp, delta
+        ("topo --drive serial --grid 2", TIES, 0, 1, 12),
+        ("sssp --drive serial", WALKS, 0, 1, 10),
+        ("sssp --drive serial --delta 3", WALKS, 0, 1, 24),
+        ("sssp --drive serial --delta 3 --source 4", WALKS, 0, 1, 10),
         ("ig --drive serial", b"".as_slice(), 5, 0, 0),
         ("ig", TWO, 2, 0, 0),
     ];
@@ -184,9 +210,8 @@ fn other_words_are_refused(rt: HostRuntime) -> Result<(), Fail> {
         "histo --grid 65 --drive serial",
         "histo --drive serial more",
         "histo",
-        "topo --drive serial",
+        "tally --drive serial",
         "permute --rperm 2,3,1 --drive serial",
-        "sssp --delta 3 --drive serial",
         "ig --via exstack --drive serial",
         "histo --gen 2,3,42 --drive serial",
     ];

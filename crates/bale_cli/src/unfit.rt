@@ -1,8 +1,8 @@
 //! Whether a command can be answered for a matrix.
 
-ghost use Rattle.std.specs.Prelude.{◌≡◌, ◌*◌, ◌≤◌, ◌+◌, ◌<◌, ◌==◌, ◌||◌, ◌&&◌, nat_lt, true, length};
+ghost use Rattle.std.specs.Prelude.{◌≡◌, ◌*◌, ◌≤◌, ◌+◌, ◌<◌, ◌==◌, ◌||◌, ◌&&◌, nat_lt, is_some, true, length};
 ghost use Rattle.least_walks.specs.Walks.{no_negative};
-ghost use Rattle.bale_words.specs.declared.command.Task.TheVariants.{Sssp};
+ghost use Rattle.bale_words.specs.declared.command.Task.TheVariants.{Sssp, Topo};
 ghost use Rattle.bale_cli.specs.Fitness.{unfitness};
 
 use bale_words::Task;
@@ -20,6 +20,8 @@ pub enum Unfit {
     Source,
     /// A serial drive would store more than rows times entries allow: 16,777,216.
     SerialSize,
+    /// Delta-stepping on a serial drive would store the votes of too many rounds: more than 1,024 rows.
+    DeltaRows,
 }
 
 /// The first test that fails, of those of the task, for this matrix, driven serially or by threads.
@@ -27,14 +29,15 @@ pub(crate) fn unfitness(task: &Task, m: &Matrix, serial: bool) -> Option<Unfit>
     ensures { result ≡ unfitness task.now m.now serial }
 {
     match task {
-        Task::Sssp(source, _) => no_walks(m, *source, serial),
+        Task::Topo => no_order(m, serial),
+        Task::Sssp(source, delta) => no_walks(m, *source, *delta, serial),
         _ => None,
     }
 }
 
 /// Why least walks from a source can't be answered; the source is counted from 1.
-fn no_walks(m: &Matrix, source: u32, serial: bool) -> Option<Unfit>
-    ensures { (delta : _) → result ≡ unfitness (Sssp source delta) m.now serial }
+fn no_walks(m: &Matrix, source: u32, delta: Option<u64>, serial: bool) -> Option<Unfit>
+    ensures { result ≡ unfitness (Sssp source delta) m.now serial }
 {
     let entries = m.entries();
     if m.cols() != m.rows() {
@@ -48,6 +51,19 @@ fn no_walks(m: &Matrix, source: u32, serial: bool) -> Option<Unfit>
     }
     if serial && m.rows() as u64 * entries.len() as u64 > 16_777_216 {
         return Some(Unfit::SerialSize);
+    }
+    if serial && delta.is_some() && m.rows() > 1024 {
+        return Some(Unfit::DeltaRows);
+    }
+    None
+}
+
+/// Why there can be no order of rows and columns.
+fn no_order(m: &Matrix, serial: bool) -> Option<Unfit>
+    ensures { result ≡ unfitness Topo m.now serial }
+{
+    if m.cols() != m.rows() {
+        return Some(Unfit::NotSquare);
     }
     None
 }

@@ -24,7 +24,7 @@ drive_case-requires-clause-some g c =
 pub end-requires-clause-ended : goal.end-requires-clause-ended
 end-requires-clause-ended g c =
     let some : 0 < c.ranks.result = subst (λ n. 0 < n) (sym c.ranks.ensures.value) (ranks_some _ c.ranks.ensures.grid.positive) in
-    (c.ranks.result, omega (arith, some), subst (λ ps. HaveEnded g.A.Prog.Program.rules ps c.in_ok-finished.finished.progs) c.in_ok-progs.ensures.starts c.in_ok-finished.ensures.ended)
+    (c.ranks.result, omega (arith, some), subst (λ n. n ≤ 64) (sym c.ranks.ensures.value) c.ranks.ensures.grid.small, subst (λ ps. HaveEnded g.A.Prog.Program.rules ps c.in_ok-finished.finished.progs) c.in_ok-progs.ensures.starts c.in_ok-finished.ensures.ended)
 
 pub returns-clause-rounds : goal.returns-clause-rounds
 returns-clause-rounds g c =

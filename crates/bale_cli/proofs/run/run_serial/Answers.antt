@@ -3,34 +3,37 @@ use Rattle.bale_types.specs.Stream.{after, IsFront}
 use Rattle.bale_cli.specs.declared.refusal.Refusal.{Refusal}
 use Rattle.bale_cli.specs.Answer.{serial_answer, status_of}
 use Rattle.bale_cli.specs.Jobs.{job_of}
-use Rattle.bale_cli.proofs.Endings.{not_zero, is_usage, usage_is, is_read_fault, is_write_fault, bad_is, unfit_is, status_same, said_at, of_text, memory_is}
-use Rattle.bale_cli.proofs.Finishes.{ok_status, ok_answer, ok_front, ok_said, ok_said_front}
+use Rattle.bale_cli.proofs.Endings.{not_zero, not_one, is_usage, usage_is, is_read_fault, is_write_fault, bad_is, unfit_is, status_same, said_at, of_text, memory_is}
+use Rattle.bale_cli.proofs.Finishes.{ok_status, ok_answer, ok_front, ok_said, ok_said_front, ok_silent}
 use Rattle.bale_cli.proofs.run.run_serial.Goals as goal
 
 pub returns-in-Ok-clause-status : goal.returns-in-Ok-clause-status
 returns-in-Ok-clause-status g c = λ text told three four seven.
-    ok_status c.in-Ok.finish.written c.ended.result.status _ (job_of (map string_bytes c.args.words.now)) text _ c.ended.ensures.written c.ended.ensures.unwritten
-    (c.in-Ok.ensures.wrote text told) four
+    ok_status c.in-Ok.finish.written c.ended.result.status c.in-Ok.finish.status _ _ _ c.ended.ensures.written c.ended.ensures.unwritten (c.in-Ok.ensures.status text told) four
 
 pub returns-in-Ok-clause-answer : goal.returns-in-Ok-clause-answer
-returns-in-Ok-clause-answer g c = λ text told zero.
+returns-in-Ok-clause-answer g c = λ text told low.
     ok_answer c.in-Ok.finish.written c.ended.result.status (job_of (map string_bytes c.args.words.now)) text (g.K.Sink.taken c.args.out.now) (g.K.Sink.taken c.answer.new.out)
-    c.ended.ensures.unwritten (c.in-Ok.ensures.wrote text told) zero
+    c.ended.ensures.unwritten (c.in-Ok.ensures.wrote text told) low
 
 pub returns-in-Ok-clause-front : goal.returns-in-Ok-clause-front
 returns-in-Ok-clause-front g c = λ text told four.
-    ok_front c.in-Ok.finish.written c.ended.result.status _ (job_of (map string_bytes c.args.words.now)) text (g.K.Sink.taken c.args.out.now) (g.K.Sink.taken c.answer.new.out)
+    ok_front c.in-Ok.finish.written c.ended.result.status _ _ (job_of (map string_bytes c.args.words.now)) text (g.K.Sink.taken c.args.out.now) (g.K.Sink.taken c.answer.new.out)
     c.ended.ensures.written (c.in-Ok.ensures.wrote text told) four
 
 pub returns-in-Ok-clause-said : goal.returns-in-Ok-clause-said
 returns-in-Ok-clause-said g c = λ text told calm.
     ok_said c.in-Ok.finish.written c.ended.result.status (serial_answer (map string_bytes c.args.words.now) text) (g.E.Sink.taken c.args.err.now) (g.E.Sink.taken c.ended.new.err)
-    _ c.ended.ensures.written c.ended.ensures.unwritten c.ended.ensures.said calm
+    _ _ c.ended.ensures.written c.ended.ensures.unwritten c.ended.ensures.said calm
 
 pub returns-in-Ok-clause-said_front : goal.returns-in-Ok-clause-said_front
 returns-in-Ok-clause-said_front g c = λ text told.
     ok_said_front c.in-Ok.finish.written c.ended.result.status (serial_answer (map string_bytes c.args.words.now) text) (g.E.Sink.taken c.args.err.now) (g.E.Sink.taken c.ended.new.err)
-    c.ended.ensures.written c.ended.ensures.unwritten c.ended.ensures.front
+    _ c.ended.ensures.written c.ended.ensures.unwritten c.ended.ensures.front
+
+pub returns-in-Ok-clause-silent : goal.returns-in-Ok-clause-silent
+returns-in-Ok-clause-silent g c = λ low.
+    ok_silent c.in-Ok.finish.written c.ended.result.status (g.E.Sink.taken c.args.err.now) (g.E.Sink.taken c.ended.new.err) _ _ c.ended.ensures.written c.ended.ensures.unwritten low
 
 pub returns-in-Err-clause-usage : goal.returns-in-Err-clause-usage
 returns-in-Err-clause-usage g c = λ two. c.in-Err.ensures.usage (ap (λ (r : Refusal). Err r) (is_usage c.in-Err.refusal (sym c.status.ensures ∙ two)))
@@ -68,10 +71,12 @@ returns-in-Err-clause-read_whole g c = λ text told two three seven.
     (of_text c.in-Err.refusal (λ e. two (c.status.ensures ∙ e)) (λ e. three (c.status.ensures ∙ e)) (λ e. seven (c.status.ensures ∙ e)))
 
 pub returns-in-Err-clause-answer : goal.returns-in-Err-clause-answer
-returns-in-Err-clause-answer g c = λ text told zero. absurd (not_zero c.in-Err.refusal (sym c.status.ensures ∙ zero))
+returns-in-Err-clause-answer g c = λ text told low.
+    absurd (elim low [ | inl zero ↦ not_zero c.in-Err.refusal (sym c.status.ensures ∙ zero) | inr one ↦ not_one c.in-Err.refusal (sym c.status.ensures ∙ one) ])
 
 pub returns-in-Err-clause-silent : goal.returns-in-Err-clause-silent
-returns-in-Err-clause-silent g c = λ zero. absurd (not_zero c.in-Err.refusal (sym c.status.ensures ∙ zero))
+returns-in-Err-clause-silent g c = λ low.
+    absurd (elim low [ | inl zero ↦ not_zero c.in-Err.refusal (sym c.status.ensures ∙ zero) | inr one ↦ not_one c.in-Err.refusal (sym c.status.ensures ∙ one) ])
 
 pub returns-in-Err-clause-said : goal.returns-in-Err-clause-said
 returns-in-Err-clause-said g c = λ text told calm.
@@ -95,11 +100,14 @@ pub returns-in-Err-clause-rounds : goal.returns-in-Err-clause-rounds
 returns-in-Err-clause-rounds g c = λ text command m asked ended.
     absurd (elim ended [
       | inl zero ↦ not_zero c.in-Err.refusal (sym c.status.ensures ∙ zero)
-      | inr four ↦ c.in-Err.ensures.no_fault (is_write_fault c.in-Err.refusal (sym c.status.ensures ∙ four))
+      | inr more ↦ elim more [
+        | inl one ↦ not_one c.in-Err.refusal (sym c.status.ensures ∙ one)
+        | inr four ↦ c.in-Err.ensures.no_fault (is_write_fault c.in-Err.refusal (sym c.status.ensures ∙ four))
+      ]
     ])
 
 pub returns-in-Err-clause-no_turns : goal.returns-in-Err-clause-no_turns
-returns-in-Err-clause-no_turns g c = λ zero four seven.
+returns-in-Err-clause-no_turns g c = λ zero one four seven.
     c.in-Err.ensures.no_turns (λ memory. seven (c.status.ensures ∙ ap status_of memory ∙ memory_is))
 
 pub returns-in-Err-clause-front : goal.returns-in-Err-clause-front

@@ -1,5 +1,5 @@
 -- What is told of a run that came to its end, whether or not its answer was written.
-use Rattle.std.proofs.Common.{ℕ, zero, suc, ◌≡◌, ◌≢◌, ◌≤◌, List, Option, Result, Ok, Err, OnOk, OnErr, sym, ap, subst, ◌∙◌, arith}
+use Rattle.std.proofs.Common.{ℕ, zero, suc, ◌≡◌, ◌≢◌, ◌≤◌, List, Option, Result, Ok, Err, OnOk, OnErr, sym, ap, subst, ◌∙◌, arith, ◌⊎◌, [], inl, inr, refl}
 use Rattle.bale_types.specs.Stream.{after, IsFront}
 use Rattle.bale_types.proofs.Moves.{after-nil, front_same}
 use Rattle.bale_words.specs.declared.command.Command.{Command}

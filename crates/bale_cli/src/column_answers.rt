@@ -30,6 +30,7 @@ impl Application for HistoAnswer {
     ghost starts = { λ _. histo_starts };
 
     ghost status_for = { λ _ _. 0 };
+
     ghost is_answer = { λ _ m bytes. bytes ≡ histo_lines m.entries m.cols };
 
     ghost answers = { λ _ m ps. HistoEnded m ps };
@@ -77,6 +78,7 @@ impl Application for IgAnswer {
     ghost starts = { λ _. ig_starts };
 
     ghost status_for = { λ _ _. 0 };
+
     ghost is_answer = { λ _ m bytes. bytes ≡ ig_lines m.entries };
 
     ghost answers = { λ _ m ps. IgEnded m ps };

@@ -40,6 +40,7 @@ impl Application for PermuteAnswer {
     ghost starts = { λ app ranks m. permute_starts ranks m app.perms.rows app.perms.cols };
 
     ghost status_for = { λ _ _. 0 };
+
     ghost is_answer = { λ app m bytes. bytes ≡ text_of (permuted app.perms.rows app.perms.cols m) };
 
     ghost answers = { λ app m b. b ≡ permuted app.perms.rows app.perms.cols m };
@@ -89,6 +90,7 @@ impl Application for TransposeAnswer {
     ghost starts = { λ _. transpose_starts };
 
     ghost status_for = { λ _ _. 0 };
+
     ghost is_answer = { λ _ m bytes. bytes ≡ text_of (transposed m) };
 
     ghost answers = { λ _ m b. b ≡ transposed m };

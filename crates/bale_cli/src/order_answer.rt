@@ -26,20 +26,20 @@ impl Application for OrderAnswer {
     ghost use Rattle.bale_cli.specs.Orders.{order_status, order_text};
 
     type Prog = Topo;
+
     type Answer = Option<TopoOrder>;
 
     ghost serves = { λ _ m. m.rows ≡ m.cols };
+
     ghost starts = { λ _. topo_starts };
+
     ghost status_for = { λ _ m. order_status (topo_order m.rows m.entries) };
+
     ghost is_answer = { λ _ m bytes. bytes ≡ order_text (topo_order m.rows m.entries) };
+
     ghost answers = { λ _ m o. o ≡ topo_order m.rows m.entries };
 
-    fn start(
-        &self,
-        alloc: Global,
-        m: &Matrix,
-        ranks: u32,
-    ) -> Result<Progs<Topo>, NoMemory> {
+    fn start(&self, alloc: Global, m: &Matrix, ranks: u32) -> Result<Progs<Topo>, NoMemory> {
         topo_start(alloc, m, ranks)
     }
 

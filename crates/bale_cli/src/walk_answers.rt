@@ -38,6 +38,7 @@ impl Application for SsspAnswer {
     ghost starts = { λ app ranks m. sssp_starts ranks m app.source };
 
     ghost status_for = { λ _ _. 0 };
+
     ghost is_answer = { λ app m bytes. IsSsspAnswer m app.source bytes };
 
     ghost answers = { λ app m ps. SsspEnded m app.source ps };
@@ -93,6 +94,7 @@ impl Application for DeltaAnswer {
     ghost starts = { λ app ranks m. delta_starts ranks m app.source app.delta };
 
     ghost status_for = { λ _ _. 0 };
+
     ghost is_answer = { λ app m bytes. IsSsspAnswer m app.source bytes };
 
     ghost answers = { λ app m ps. DeltaEnded m app.source ps };

@@ -7,10 +7,14 @@
 //! | Call | Chooses among the cases of |
 //! |---|---|
 //! | `case_serial` | `drive_serial` |
+//! | `case_threads` | `drive_threads` |
 //!
 //! `specs/Capacities` says which capacities there are.
 #![tactic(auto)]
 
+mod capacities;
 mod serial;
+mod threads;
 
 pub use serial::case_serial;
+pub use threads::case_threads;

@@ -9,41 +9,13 @@ ghost use Rattle.rank_group.specs.Rounds.{round_of};
 ghost use Rattle.rank_group.specs.Told.{TellsRun, turns_within};
 ghost use Rattle.case_table.specs.Capacities.{IsCapacity};
 
+use crate::capacities::by_capacity;
 use bale_types::NoMemory;
 use rank_group::{Finished, Steps, Via, drive_serial};
 use round_program::{Program, Progs};
 use route_tensor::Grid;
 use std::alloc::Global;
 use std::sync::ledger::Ledger;
-
-/// The drive for a capacity: each case hands the values on.
-macro_rules! by_capacity {
-    ($cap:expr, $drive:ident::<$hops:literal, $($param:ty),*>, ($($value:expr),*)) => {
-        if $cap == 1 {
-            $drive::<1, $hops, $($param),*>($($value),*)
-        } else if $cap == 2 {
-            $drive::<2, $hops, $($param),*>($($value),*)
-        } else if $cap == 4 {
-            $drive::<4, $hops, $($param),*>($($value),*)
-        } else if $cap == 8 {
-            $drive::<8, $hops, $($param),*>($($value),*)
-        } else if $cap == 16 {
-            $drive::<16, $hops, $($param),*>($($value),*)
-        } else if $cap == 32 {
-            $drive::<32, $hops, $($param),*>($($value),*)
-        } else if $cap == 64 {
-            $drive::<64, $hops, $($param),*>($($value),*)
-        } else if $cap == 128 {
-            $drive::<128, $hops, $($param),*>($($value),*)
-        } else if $cap == 256 {
-            $drive::<256, $hops, $($param),*>($($value),*)
-        } else if $cap == 512 {
-            $drive::<512, $hops, $($param),*>($($value),*)
-        } else {
-            $drive::<1024, $hops, $($param),*>($($value),*)
-        }
-    };
-}
 
 /// Drives the programs of all ranks on one thread, as `drive_serial` does, over parcels of `cap` entries (a power of two from 1 to 1,024) and
 /// routes of as many hops as the grid has numbers.
@@ -105,7 +77,11 @@ fn on_one_hop<Q: Program, L: Ledger>(
         → TellsRun Q.rules progs n (record { dims = grid.now; cap = cap; slots = slots; by_slots = false }) steady (round_of c))) }
     ensures steps { (n : ℕ) → HasRounds Q.rules progs n → steps.new ≤ steps.old + turns_within Q.rules grid.now progs n }
 {
-    by_capacity!(cap, drive_serial::<1, Q, L>, (alloc, grid, via, slots, steady, order, progs, steps))
+    by_capacity!(
+        cap,
+        drive_serial::<1, Q, L>,
+        (alloc, grid, via, slots, steady, order, progs, steps)
+    )
 }
 
 /// The cases of two hops.
@@ -130,7 +106,11 @@ fn on_two_hops<Q: Program, L: Ledger>(
         → TellsRun Q.rules progs n (record { dims = grid.now; cap = cap; slots = slots; by_slots = false }) steady (round_of c))) }
     ensures steps { (n : ℕ) → HasRounds Q.rules progs n → steps.new ≤ steps.old + turns_within Q.rules grid.now progs n }
 {
-    by_capacity!(cap, drive_serial::<2, Q, L>, (alloc, grid, via, slots, steady, order, progs, steps))
+    by_capacity!(
+        cap,
+        drive_serial::<2, Q, L>,
+        (alloc, grid, via, slots, steady, order, progs, steps)
+    )
 }
 
 /// The cases of three hops.
@@ -155,5 +135,9 @@ fn on_three_hops<Q: Program, L: Ledger>(
         → TellsRun Q.rules progs n (record { dims = grid.now; cap = cap; slots = slots; by_slots = false }) steady (round_of c))) }
     ensures steps { (n : ℕ) → HasRounds Q.rules progs n → steps.new ≤ steps.old + turns_within Q.rules grid.now progs n }
 {
-    by_capacity!(cap, drive_serial::<3, Q, L>, (alloc, grid, via, slots, steady, order, progs, steps))
+    by_capacity!(
+        cap,
+        drive_serial::<3, Q, L>,
+        (alloc, grid, via, slots, steady, order, progs, steps)
+    )
 }

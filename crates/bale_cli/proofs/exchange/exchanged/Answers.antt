@@ -1,4 +1,4 @@
-use Rattle.std.proofs.Common.{◌<◌, ◌∙◌, ap, subst, sym, arith}
+use Rattle.std.proofs.Common.{◌<◌, ◌∙◌, ap, subst, sym, arith, ◌≤◌}
 use Rattle.route_tensor.proofs.Coordinates.{ranks_some}
 use Rattle.round_program.specs.Canonical.{HaveEnded}
 use Rattle.bale_cli.specs.Tasks.{made_for, Tells, WithinTurns}

@@ -72,11 +72,11 @@ returns-in-Err-clause-read_whole g c = λ text told two three seven.
 
 pub returns-in-Err-clause-answer : goal.returns-in-Err-clause-answer
 returns-in-Err-clause-answer g c = λ text told low.
-    absurd (elim low [ | inl zero ↦ not_zero c.in-Err.refusal (sym c.status.ensures ∙ zero) | inr one ↦ not_one c.in-Err.refusal (sym c.status.ensures ∙ one) ])
+    absurd (elim low [ inl zero ↦ not_zero c.in-Err.refusal (sym c.status.ensures ∙ zero) | inr one ↦ not_one c.in-Err.refusal (sym c.status.ensures ∙ one) ])
 
 pub returns-in-Err-clause-silent : goal.returns-in-Err-clause-silent
 returns-in-Err-clause-silent g c = λ low.
-    absurd (elim low [ | inl zero ↦ not_zero c.in-Err.refusal (sym c.status.ensures ∙ zero) | inr one ↦ not_one c.in-Err.refusal (sym c.status.ensures ∙ one) ])
+    absurd (elim low [ inl zero ↦ not_zero c.in-Err.refusal (sym c.status.ensures ∙ zero) | inr one ↦ not_one c.in-Err.refusal (sym c.status.ensures ∙ one) ])
 
 pub returns-in-Err-clause-said : goal.returns-in-Err-clause-said
 returns-in-Err-clause-said g c = λ text told calm.

@@ -1,16 +1,16 @@
 -- What a run answers: a status, the bytes for out and the bytes for err.
-use Rattle.std.specs.Prelude.{ℕ, List, [], ◌∷◌, ◌++◌, ◌==◌, Option, Some, None, Result, Ok, Err, codes, decimal, if◌then◌else◌}
+use Rattle.std.specs.Prelude.{◌≡◌, ℕ, List, [], ◌∷◌, ◌++◌, ◌==◌, Option, Some, None, Result, Ok, Err, codes, decimal, if◌then◌else◌}
 use Rattle.mtx_text.specs.declared.refusal.BadLine.{BadLine}
 use Rattle.mtx_text.specs.declared.refusal.ReadFault.{ReadFault}
 use Rattle.mtx_text.specs.declared.refusal.ReadFault.TheVariants as read_fault
 use Rattle.mtx_text.specs.Sparse.{Sparse}
 use Rattle.mtx_text.specs.Grammar.{matrix_of}
 use Rattle.mtx_text.specs.Reasons.{reason_text}
-use Rattle.bale_cli.specs.declared.job.Job.{Job}
+use Rattle.bale_words.specs.declared.command.Command.{Command}
 use Rattle.bale_cli.specs.declared.refusal.Refusal.{Refusal}
 use Rattle.bale_cli.specs.declared.refusal.Refusal.TheVariants as refusal
 use Rattle.bale_cli.specs.Jobs.{job_of}
-use Rattle.bale_cli.specs.Histo.{histo_lines}
+use Rattle.bale_cli.specs.Tasks.{lines_of}
 
 -- What is said of a bad line: its number, and why it is bad.
 -- bad_line_text (line 4, too few entries) = "bale: line 4: too few entries\n"
@@ -39,14 +39,13 @@ refusal_of read_fault.Source = refusal.ReadFault
 refusal_of (read_fault.Bad b) = refusal.BadMatrix b
 refusal_of read_fault.NoMemory = refusal.NoMemory
 
--- The text was read as far as it counts: there is an answer, a bad line or a failed write.
-abbrev pub IsDecided : {T : Type 0} → Result T Refusal → Type 0
-IsDecided (Ok x) = Unit {0}
-IsDecided (Err (refusal.BadMatrix b)) = Unit {0}
-IsDecided (Err refusal.WriteFault) = Unit {0}
-IsDecided (Err refusal.Usage) = ⊥
-IsDecided (Err refusal.ReadFault) = ⊥
-IsDecided (Err refusal.NoMemory) = ⊥
+-- A refusal that came after the text was read as far as it counts: a bad line, or a failed write.
+abbrev pub IsOfText : Refusal → Type 0
+IsOfText refusal.Usage = ⊥
+IsOfText refusal.ReadFault = ⊥
+IsOfText (refusal.BadMatrix b) = Unit {0}
+IsOfText refusal.WriteFault = Unit {0}
+IsOfText refusal.NoMemory = ⊥
 
 -- A status, and what is written to out and to err.
 pub record Answer : Type 0 where
@@ -54,23 +53,37 @@ pub record Answer : Type 0 where
   pub out : List ℕ
   pub err : List ℕ
 
--- The answer for a text that has a matrix, or that has none.
-abbrev pub answer_for : Result Sparse BadLine → Answer
-answer_for (Err b) = record { status = 5; out = []; err = bad_line_text b }
-answer_for (Ok m) = record { status = 0; out = histo_lines m.entries m.cols; err = [] }
+-- A command's answer for a text that has a matrix, or that has none.
+abbrev pub answer_for : Command → Result Sparse BadLine → Answer
+answer_for c (Err b) = record { status = 5; out = []; err = bad_line_text b }
+answer_for c (Ok m) = record { status = 0; out = lines_of c.task m; err = [] }
 
 -- The answer to what can be run, and to words that ask for nothing of the kind.
-abbrev pub answer_to : Option Job → List ℕ → Answer
+abbrev pub answer_to : Option Command → List ℕ → Answer
 answer_to None text = record { status = 2; out = []; err = refusal_text refusal.Usage }
-answer_to (Some job) text = answer_for (matrix_of text)
+answer_to (Some c) text = answer_for c (matrix_of text)
 
 -- The serial answer: what the words ask for, of the matrix of the text. No rank, buffer or link occurs in it.
 -- 2 and "bale: usage" where the words are no command; 5 and the first bad line where the text has no matrix;
--- else 0 and the lines of histo.
+-- else 0 and the lines of the application.
 -- For "histo --grid 4 --buffer 2 --drive serial" and "%%MatrixMarket matrix coordinate pattern general/2 2 0/"
 -- it is 0 with "1 0/2 0/" on out, with / for LF.
 abbrev pub serial_answer : List (List ℕ) → List ℕ → Answer
 serial_answer words text = answer_to (job_of words) text
+
+-- What was asked of a run: the words give this command, and the source told a text with this matrix.
+pub record Asked (left : Option (List ℕ)) (words : List (List ℕ)) (text : List ℕ) (c : Command) (m : Sparse) : Type 0 where
+  pub told : left ≡ Some text
+  pub job : job_of words ≡ Some c
+  pub matrix : matrix_of text ≡ Ok m
+
+-- What a run wrote: the lines of some command for some matrix, which are those of the words and of the text.
+pub record Wrote (job : Option Command) (text : List ℕ) (P : List ℕ → Type 0) : Type 0 where
+  pub command : Command
+  pub asked : job ≡ Some command
+  pub matrix : Sparse
+  pub read : matrix_of text ≡ Ok matrix
+  pub lines : P (lines_of command.task matrix)
 
 -- What is said on err at a status: nothing at 0, of a fault its text, else what the serial answer says.
 -- At 3 it is "bale: read fault\n"; at 5 it is the bad line and its reason.

@@ -18,7 +18,7 @@ pub ok_answer : {T E : Type 0} (written : Result T E) (status : ℕ) (job : Opti
     → (status ≡ 0) ⊎ (status ≡ 1) → Wrote job text (λ bytes. new ≡ after old bytes)
 ok_answer (Ok x) status job text old new u d low =
     record { command = d.command; asked = d.asked; matrix = d.matrix; read = d.read; fits = d.fits; bytes = d.bytes; answers = d.answers; wrote = d.wrote.0 }
-ok_answer (Err e) status job text old new u d (inl zero) = absurd (omega (arith, u, zero))
+ok_answer (Err e) status job text old new u d (inl none) = absurd (omega (arith, u, none))
 ok_answer (Err e) status job text old new u d (inr one) = absurd (omega (arith, u, one))
 
 pub ok_front : {T E : Type 0} (written : Result T E) (status : ℕ) (P Q : Type 0) (job : Option Command) (text : List ℕ) (old new : Option (List ℕ))
@@ -51,5 +51,5 @@ ok_said_front (Err e) status answer taken taken' P w u s = subst (λ n. IsFront 
 pub ok_silent : {T E : Type 0} (written : Result T E) (status : ℕ) (taken taken' : Option (List ℕ)) (P Q : Type 0)
     → OnOk written (P × Q × (taken' ≡ taken)) → OnErr written (status ≡ 4) → (status ≡ 0) ⊎ (status ≡ 1) → taken' ≡ taken
 ok_silent (Ok x) status taken taken' P Q w u low = w.2
-ok_silent (Err e) status taken taken' P Q w u (inl zero) = absurd (omega (arith, u, zero))
+ok_silent (Err e) status taken taken' P Q w u (inl none) = absurd (omega (arith, u, none))
 ok_silent (Err e) status taken taken' P Q w u (inr one) = absurd (omega (arith, u, one))

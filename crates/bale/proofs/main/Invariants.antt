@@ -1,4 +1,4 @@
 use Rattle.bale.proofs.main.Given as goal
 
-abbrev pub ghosts-run-status : goal.ghosts-run-status
-ghosts-run-status a = record { name = a.blank.name; parts = a.blank.parts }
+abbrev pub ghosts-run : goal.ghosts-run
+ghosts-run a = record { name = a.blank.name; parts = a.blank.parts }

@@ -64,3 +64,5 @@ pub use via::Via;
 mod drive_tests;
 #[cfg(test)]
 mod slot_tests;
+#[cfg(test)]
+mod watched_tests;

@@ -1,7 +1,6 @@
 -- What a column's owner has added up, once it has absorbed a number for each entry of its columns.
 use Rattle.std.proofs.Common.{ℕ, ◌+◌, ◌/◌, ◌%◌, ◌^◌, ◌<◌, ◌≡◌, ◌==◌, cond, List, [], ◌∷◌, map, length, get_or, All, arith, inl, inr, refl, sym, ap, ◌∙◌, subst}
 use Rattle.std.specs.List.{fold, sum_by, enumerate_from}
-use Rattle.std.proofs.Math.Nat.{mod-lt}
 use Rattle.std.proofs.lemmas.Bool.{cases_eq, eq-eqb, ne_eqb}
 use Rattle.std.proofs.lemmas.List.{get_or-set_same, get_or-set_other}
 use Rattle.std.proofs.lemmas.List.Sums.{sum_by-cons}
@@ -9,10 +8,11 @@ use Rattle.bale_types.specs.declared.Item.{Item}
 use Rattle.bale_types.specs.declared.triple.Triple.{Triple}
 use Rattle.list_laws.proofs.Lists.{all_head, all_tail}
 use Rattle.sparse_rows.specs.Deals.{dealt}
-use Rattle.app_histo_ig.specs.Owners.{Numbered, column_owner, risen}
+use Rattle.sparse_rows.specs.Owners.{Numbered, column_owner}
+use Rattle.app_histo_ig.specs.Owners.{risen}
 use Rattle.app_histo_ig.specs.OwnerLaws.{risen_len}
-use Rattle.app_histo_ig.proofs.Places.{place_own}
-use Rattle.app_histo_ig.proofs.EveryEntry.{came_to, came_keyed}
+use Rattle.sparse_rows.proofs.Places.{place_own}
+use Rattle.sparse_rows.proofs.EveryEntry.{came_to, came_keyed}
 
 -- a list of numbers after all that came
 abbrev pub risen_all : ℕ → List ℕ → List (ℕ × Item) → List ℕ
@@ -91,7 +91,3 @@ pub numbered_sum : (f : Triple → ℕ) (n : ℕ) (ts : List Triple) → sum_by 
 numbered_sum f n [] = refl
 numbered_sum f n (t ∷ ts) =
     sum_by-cons (λ (e : Numbered). f e.1) (n, t) (enumerate_from (n + 1) ts) ∙ ap (λ k. f t + k) (numbered_sum f (n + 1) ts) ∙ sym (sum_by-cons f t ts)
-
--- all entries are some rank's
-pub all_owned : (ranks n : ℕ) (ts : List Triple) → 0 < ranks → All (λ (e : Numbered). e.0 % ranks < ranks) (enumerate_from n ts)
-all_owned ranks n ts some k d l = mod-lt _ some

@@ -15,15 +15,16 @@ use Rattle.round_program.specs.Canonical.{absorbed_round, states_at, votes_at, H
 use Rattle.round_program.specs.Orders.{absorb_each}
 use Rattle.round_program.proofs.Members.{rounds_once}
 use Rattle.sparse_rows.specs.Deals.{dealt}
-use Rattle.app_histo_ig.specs.Owners.{Numbered, numbered, entry_owner, column_owner, own_entries, places_for, risen}
+use Rattle.sparse_rows.specs.Owners.{Numbered, numbered, entry_owner, column_owner, own_entries, places_for}
+use Rattle.app_histo_ig.specs.Owners.{risen}
 use Rattle.app_histo_ig.specs.Histos.{HistoState, histo_rules, to_column}
 use Rattle.app_histo_ig.specs.HistoLaws.{histo_laws}
 use Rattle.app_histo_ig.specs.HistoLines.{in_column}
 use Rattle.app_histo_ig.specs.HistoRuns.{histo_begins, histo_starts, HistoEnded}
-use Rattle.app_histo_ig.proofs.EveryEntry.{came_to, every_owned}
-use Rattle.app_histo_ig.proofs.ColumnSums.{risen_all, risen_all_len, risen_sum, column_item, came_own, came_sum, numbered_sum, all_owned}
-use Rattle.app_histo_ig.proofs.Places.{place_below}
-use Rattle.app_histo_ig.proofs.Starts.{made_at, made_from, made_in_round, all_numbered}
+use Rattle.sparse_rows.proofs.EveryEntry.{came_to, every_owned}
+use Rattle.app_histo_ig.proofs.ColumnSums.{risen_all, risen_all_len, risen_sum, column_item, came_own, came_sum, numbered_sum}
+use Rattle.sparse_rows.proofs.Places.{place_below}
+use Rattle.sparse_rows.proofs.Starts.{made_at, made_from, made_in_round, all_numbered, all_owned}
 
 own_inside : (ranks rank cols : ℕ) (ts : List Triple) → All (λ (t : Triple). t.j < cols) ts → All (λ j. j < cols) (map (λ (e : Numbered). e.1.j) (own_entries ranks rank ts))
 own_inside ranks rank cols ts inside =

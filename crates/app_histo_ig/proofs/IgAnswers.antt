@@ -10,12 +10,12 @@ use Rattle.bale_types.specs.declared.triple.Triple.{Triple}
 use Rattle.list_laws.proofs.Lists.{get_once, all_head, all_tail, changed_len}
 use Rattle.mtx_text.specs.Sparse.{Sparse}
 use Rattle.sparse_rows.specs.Deals.{dealt}
-use Rattle.sparse_rows.proofs.Turns.{turn_count}
-use Rattle.app_histo_ig.specs.Owners.{Numbered, numbered, entry_owner, column_owner, own_entries}
+use Rattle.sparse_rows.proofs.Turns.{turn_place}
+use Rattle.sparse_rows.specs.Owners.{Numbered, numbered, entry_owner, column_owner, own_entries}
 use Rattle.app_histo_ig.specs.Igs.{IgState, answered}
 use Rattle.app_histo_ig.specs.IgRuns.{IgEnded}
-use Rattle.app_histo_ig.proofs.EveryEntry.{came_to, came_keyed}
-use Rattle.app_histo_ig.proofs.Places.{place_own}
+use Rattle.sparse_rows.proofs.EveryEntry.{came_to, came_keyed}
+use Rattle.sparse_rows.proofs.Places.{place_own}
 use Rattle.app_histo_ig.proofs.IgRounds.{column_bits, answer_item, replies, answered_all, answers_of}
 use Rattle.app_histo_ig.proofs.IgOwners.{ended_at}
 
@@ -100,18 +100,6 @@ most_is f e n (suc i) (u ∷ ts) t place at =
     let rest : most_by (λ (x : Numbered). cond (x.0 == e) (f x.1) 0) (enumerate_from (n + 1) ts) ≡ f t = most_is f e (n + 1) i ts t (omega arith) at in
     omega (arith, missed, rest)
 
--- there is a place for each own entry
-own_place : (ranks e : ℕ) (ts : List Triple) → 0 < ranks → e < length ts → e / ranks < length (own_entries ranks (e % ranks) ts)
-own_place ranks e ts some low =
-    let r : ℕ = e % ranks in
-    let part : r < ranks = mod-lt e some in
-    let whole : e / ranks * ranks + r ≡ e = div-add-mod' e ranks in
-    let start : 0 + r ≡ 0 * ranks + r = grind arith in
-    let count : length (own_entries ranks r ts) ≡ (length ts + (ranks - 1 - r)) / ranks = turn_count ranks r ts 0 0 r (ranks - 1 - r) part (omega arith) start in
-    let up : (e / ranks + 1) * ranks ≡ e / ranks * ranks + ranks = grind arith in
-    let least : e / ranks + 1 ≤ (length ts + (ranks - 1 - r)) / ranks = le-div (e / ranks + 1) (length ts + (ranks - 1 - r)) ranks some (omega arith) in
-    omega arith
-
 pub record HasSum (m : Sparse) (ranks e : ℕ) (t : Triple) (answers : List ℕ) : Type 0 where
   pub place : e / ranks < length answers
   pub word : get_or answers (e / ranks) 0 ≡ column_bits m.entries t.j
@@ -124,7 +112,7 @@ answer_is : (ranks : ℕ) (m : Sparse) (e : ℕ) (t : Triple) → 0 < ranks → 
 answer_is ranks m e t some low at =
     let count : ℕ = length (own_entries ranks (e % ranks) m.entries) in
     let zeros : List ℕ = replicate count 0 in
-    let place : e / ranks < count = own_place ranks e m.entries some low in
+    let place : e / ranks < count = turn_place ranks e m.entries some low in
     let size : length zeros ≡ count = length-replicate count 0 in
     let inside : e / ranks < length zeros = omega (arith, size, place) in
     let none : get_or zeros (e / ranks) 0 ≡ 0 = get_or-replicate count (e / ranks) 0 0 place in

@@ -1,5 +1,5 @@
 -- What the ranks of ig have after three rounds.
-use Rattle.std.proofs.Common.{◌≡◌, ℕ, ◌+◌, ◌/◌, ◌%◌, ◌<◌, ◌^◌, ◌==◌, cond, eqb, List, [], ◌∷◌, Some, None, All, map, length, get_or, slice_get, replicate, arith, refl, sym, ap, ◌∙◌, subst, lit<}
+use Rattle.std.proofs.Common.{◌≡◌, ℕ, ◌+◌, ◌/◌, ◌%◌, ◌<◌, ◌^◌, ◌==◌, cond, eqb, List, [], ◌∷◌, Some, None, map, length, get_or, slice_get, replicate, arith, sym, ap, ◌∙◌, subst, lit<}
 use Rattle.std.specs.List.{range_with_len, sum_by}
 use Rattle.std.proofs.Math.Nat.{mod-lt}
 use Rattle.std.proofs.lemmas.Bool.{eqb-true}
@@ -9,21 +9,21 @@ use Rattle.std.proofs.lemmas.List.FromFn.{length-map-range_with_len}
 use Rattle.std.proofs.lemmas.Simd.{map-map}
 use Rattle.bale_types.specs.declared.triple.Triple.{Triple}
 use Rattle.bale_types.specs.Bits.{twos_complement}
-use Rattle.list_laws.proofs.Lists.{get_once, all_head, all_tail}
+use Rattle.list_laws.proofs.Lists.{get_once}
 use Rattle.mtx_text.specs.Sparse.{Sparse, IsSparse}
 use Rattle.round_program.specs.Canonical.{items_of, emitted, absorbed_round, round_of, states_at, InRound}
 use Rattle.round_program.specs.Orders.{absorb_each}
 use Rattle.round_program.proofs.Members.{rounds_once, in_round}
 use Rattle.sparse_rows.specs.Deals.{dealt}
 use Rattle.sparse_rows.proofs.Deals.{filter_dealt}
-use Rattle.app_histo_ig.specs.Owners.{Numbered, numbered, entry_owner, column_owner, own_entries, places_for}
+use Rattle.sparse_rows.specs.Owners.{Numbered, numbered, entry_owner, column_owner, own_entries, places_for}
 use Rattle.app_histo_ig.specs.Igs.{IgState, ig_rules, value_item, to_ask, reply_to}
 use Rattle.app_histo_ig.specs.IgLaws.{ig_laws}
 use Rattle.app_histo_ig.specs.IgRuns.{ig_begins, ig_starts, IgEnded}
-use Rattle.app_histo_ig.proofs.EveryEntry.{came_from, every_owned, every_entry}
-use Rattle.app_histo_ig.proofs.ColumnSums.{for_column, risen_sum, came_own, came_sum, numbered_sum, all_owned}
-use Rattle.app_histo_ig.proofs.Places.{place_below}
-use Rattle.app_histo_ig.proofs.Starts.{made_at, made_from, all_numbered, round_made}
+use Rattle.sparse_rows.proofs.EveryEntry.{came_from, every_owned, every_entry, same_map}
+use Rattle.app_histo_ig.proofs.ColumnSums.{for_column, risen_sum, came_own, came_sum, numbered_sum}
+use Rattle.sparse_rows.proofs.Places.{place_below}
+use Rattle.sparse_rows.proofs.Starts.{made_at, made_from, all_numbered, all_owned, round_made}
 use Rattle.app_histo_ig.proofs.IgRounds.{column_bits, values, ask_item, queries, answer_item, replies, sums_of, by_sender, asking, replying, answers_of, over, each_risen, each_noted, each_answered, starts_in_round, three_rounds}
 use Rattle.app_histo_ig.proofs.IgQueries.{noted_from_none, replies_to}
 
@@ -71,10 +71,6 @@ owner_sum ranks m j some low =
     came_sum ranks j (entry_owner ranks) (λ e. twos_complement e.1.v) (numbered m.entries) ∙ numbered_sum (λ (t : Triple). cond (t.j == j) (twos_complement t.v) 0) 0 m.entries in
     let flat : get_or zeros (j / ranks) 0 + sum_by (for_column j) (values ranks m (j % ranks)) ≡ sum_by (λ (t : Triple). cond (t.j == j) (twos_complement t.v) 0) m.entries = omega (arith, none, all) in
     sum ∙ ap (λ n. n % 2 ^ 64) flat
-
-same_map : {X Y : Type 0} (f g : X → Y) (xs : List X) → All (λ x. f x ≡ g x) xs → map f xs ≡ map g xs
-same_map f g [] h = refl
-same_map f g (x ∷ xs) h = ap (λ y. y ∷ map f xs) (all_head (λ x. f x ≡ g x) x xs h) ∙ ap (λ ys. g x ∷ ys) (same_map f g xs (all_tail (λ x. f x ≡ g x) x xs h))
 
 -- what rank f replies to rank r: to each of r's entries in f's columns, the column's sum
 replied : (ranks : ℕ) (m : Sparse) (f r : ℕ) → 0 < ranks → IsSparse m → r < ranks

@@ -10,7 +10,7 @@ use Rattle.round_program.specs.Canonical.{items_of}
 use Rattle.round_program.proofs.Items.{items_push, items_here, items_other}
 use Rattle.app_histo_ig.specs.Igs.{reply_to, replies_from, noted}
 use Rattle.app_histo_ig.proofs.IgRounds.{noted_all, by_sender}
-use Rattle.app_histo_ig.proofs.Starts.{made_at}
+use Rattle.sparse_rows.proofs.Starts.{made_at}
 
 -- one more query
 noted_one : (n : ℕ) (before : List (ℕ × Item)) (e : ℕ × Item) → noted (by_sender n before) e.0 e.1 ≡ by_sender n (before ++ e ∷ [])

@@ -12,12 +12,13 @@ use Rattle.list_laws.proofs.Lists.{all_head, all_tail}
 use Rattle.mtx_text.specs.Sparse.{Sparse, IsSparse}
 use Rattle.round_program.specs.Canonical.{items_of, HasRounds, EndsWithin, InRound}
 use Rattle.round_program.specs.Orders.{absorb_each}
-use Rattle.app_histo_ig.specs.Owners.{Numbered, numbered, entry_owner, column_owner, own_entries, places_for, risen}
+use Rattle.sparse_rows.specs.Owners.{Numbered, numbered, entry_owner, column_owner, own_entries, places_for}
+use Rattle.app_histo_ig.specs.Owners.{risen}
 use Rattle.app_histo_ig.specs.Igs.{IgState, IsIg, IsQuery, ig_rules, may_ig, value_item, query_item, to_ask, replies_from, noted, answered}
 use Rattle.app_histo_ig.specs.IgRuns.{ig_begins, ig_starts}
-use Rattle.app_histo_ig.proofs.EveryEntry.{came_to}
+use Rattle.sparse_rows.proofs.EveryEntry.{came_to}
 use Rattle.app_histo_ig.proofs.ColumnSums.{risen_all}
-use Rattle.app_histo_ig.proofs.Starts.{made_in_round, all_numbered}
+use Rattle.sparse_rows.proofs.Starts.{made_in_round, all_numbered}
 
 -- the sum of a column as a word
 abbrev pub column_bits : List Triple → ℕ → ℕ

@@ -6,7 +6,7 @@ use Rattle.round_program.specs.Laws.{Fits}
 use Rattle.app_histo_ig.specs.Owners.{risen}
 use Rattle.app_histo_ig.specs.Igs.{IgState, IsIg, IsQuery, ig_rules, noted, next_outgoing, to_ask, replies_from}
 use Rattle.app_histo_ig.specs.IgLaws.{ig_laws, is_query, noted_asked, noted_len, sums_len, sums_words}
-use Rattle.app_histo_ig.proofs.Places.{place_below}
+use Rattle.sparse_rows.proofs.Places.{place_below}
 
 -- one list of many grew by an item, or none did
 pub note_is : {X : Type 0} (f : X → List Item) (xs : List X) (i : ℕ) (x y : X) (item : Item) (b : Bool) → slice_get xs i ≡ Some x → f y ≡ cond b (f x ++ item ∷ []) (f x) → map f (slice_set xs i y) ≡ cond b (noted (map f xs) i item) (map f xs)

@@ -1,6 +1,5 @@
 pub mod ColumnSums
 pub mod ColumnWords
-pub mod EveryEntry
 pub mod HistoOwners
 pub mod HistoText
 pub mod IgAnswers
@@ -9,5 +8,3 @@ pub mod IgQueries
 pub mod IgRounds
 pub mod IgSteps
 pub mod IgText
-pub mod Places
-pub mod Starts

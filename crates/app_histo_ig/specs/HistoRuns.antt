@@ -3,7 +3,7 @@ use Rattle.std.specs.Prelude.{ℕ, ◌≤◌, List, map, replicate}
 use Rattle.std.specs.List.{range_with_len}
 use Rattle.mtx_text.specs.Sparse.{Sparse, IsSparse}
 use Rattle.round_program.specs.Canonical.{HaveEnded}
-use Rattle.app_histo_ig.specs.Owners.{own_entries, places_for}
+use Rattle.sparse_rows.specs.Owners.{own_entries, places_for}
 use Rattle.app_histo_ig.specs.Histos.{HistoState, histo_rules}
 
 -- A rank as histo begins: the columns of its entries, and 0 for each column that it owns.

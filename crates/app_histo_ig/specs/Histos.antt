@@ -4,7 +4,8 @@ use Rattle.std.specs.List.{All}
 use Rattle.bale_types.specs.declared.Item.{Item}
 use Rattle.round_program.specs.Rules.{Rules}
 use Rattle.round_program.specs.Laws.{is_item}
-use Rattle.app_histo_ig.specs.Owners.{places_for, risen}
+use Rattle.sparse_rows.specs.Owners.{places_for}
+use Rattle.app_histo_ig.specs.Owners.{risen}
 
 -- one rank's part: the columns of its entries, and the counts of the columns that it owns
 pub record HistoState : Type 0 where

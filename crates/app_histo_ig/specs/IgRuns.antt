@@ -3,7 +3,7 @@ use Rattle.std.specs.Prelude.{ℕ, ◌≤◌, List, [], map, length, replicate}
 use Rattle.std.specs.List.{range_with_len}
 use Rattle.mtx_text.specs.Sparse.{Sparse, IsSparse}
 use Rattle.round_program.specs.Canonical.{HaveEnded}
-use Rattle.app_histo_ig.specs.Owners.{own_entries, places_for, column_owner}
+use Rattle.sparse_rows.specs.Owners.{own_entries, places_for, column_owner}
 use Rattle.app_histo_ig.specs.Igs.{IgState, ig_rules, value_item}
 
 -- A rank as ig begins: its entries, 0 for each column that it owns, and the values of its entries on their way.

@@ -6,7 +6,8 @@ use Rattle.bale_types.specs.Bits.{twos_complement}
 use Rattle.list_laws.specs.Lists.{changed_at}
 use Rattle.round_program.specs.Rules.{Rules}
 use Rattle.round_program.specs.Laws.{is_item}
-use Rattle.app_histo_ig.specs.Owners.{Numbered, places_for, risen}
+use Rattle.sparse_rows.specs.Owners.{Numbered, places_for}
+use Rattle.app_histo_ig.specs.Owners.{risen}
 
 -- one rank's part
 pub record IgState : Type 0 where

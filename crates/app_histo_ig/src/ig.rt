@@ -2,7 +2,7 @@
 
 ghost use Rattle.std.specs.Prelude.{◌≡◌, ◌<◌, ◌^◌, [], length, map};
 ghost use Rattle.std.specs.List.{All};
-ghost use Rattle.app_histo_ig.specs.Owners.{places_for};
+ghost use Rattle.sparse_rows.specs.Owners.{places_for};
 ghost use Rattle.app_histo_ig.specs.Igs.{IsIg};
 
 use crate::ig_lists::{after_round, note, raise, rise};

@@ -2,7 +2,8 @@
 
 ghost use Rattle.std.specs.Prelude.{◌≡◌, ◌≢◌, ◌<◌, ◌≤◌, ◌^◌, ◌/◌, ◌==◌, ◌++◌, [], IfOk, OnOk, is_ok, if◌then◌else◌, length, map};
 ghost use Rattle.std.specs.List.{All};
-ghost use Rattle.app_histo_ig.specs.Owners.{places_for, risen};
+ghost use Rattle.sparse_rows.specs.Owners.{places_for};
+ghost use Rattle.app_histo_ig.specs.Owners.{risen};
 ghost use Rattle.app_histo_ig.specs.Igs.{IsQuery, noted, answered, to_ask, reply_to, replies_from};
 
 use bale_types::{Item, NoMemory};

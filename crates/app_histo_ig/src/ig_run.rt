@@ -8,7 +8,7 @@ ghost use Rattle.bale_types.specs.declared.triple.Triple.{Triple};
 ghost use Rattle.mtx_text.specs.Sparse.{Sparse, IsSparse};
 ghost use Rattle.sparse_rows.specs.Parts.{parts_of};
 ghost use Rattle.round_program.specs.Canonical.{InRound, EndsWithin};
-ghost use Rattle.app_histo_ig.specs.Owners.{column_owner, places_for};
+ghost use Rattle.sparse_rows.specs.Owners.{column_owner, places_for};
 ghost use Rattle.app_histo_ig.specs.Igs.{ig_rules, value_item};
 ghost use Rattle.app_histo_ig.specs.IgLines.{column_sum, ig_line, ig_lines};
 ghost use Rattle.app_histo_ig.specs.IgRuns.{ig_begins, ig_starts, IgEnded};

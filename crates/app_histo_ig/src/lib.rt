@@ -10,8 +10,8 @@
 //!
 //! The entries are dealt out in turn, and column `j` belongs to rank `j mod P`. What the lines are is said of the matrix
 //! alone (`specs/HistoLines` and `specs/IgLines`): no rank, no round and no order of items occurs there.
-//! `proofs/EveryEntry` has the lemma that carries one to the other: after a round in which the ranks emit what is theirs of
-//! a list, each rank is as if it alone had gone through the list and absorbed what is sent to it.
+//! sparse_rows' `proofs/EveryEntry` has the lemma that carries one to the other: after a round in which the ranks emit what is
+//! theirs of a list, each rank is as if it alone had gone through the list and absorbed what is sent to it.
 #![tactic(auto)]
 
 mod histo;

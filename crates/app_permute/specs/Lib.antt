@@ -1,1 +1,11 @@
+pub mod Carried
+pub mod Moved
 pub mod Perms
+pub mod PermuteLaws
+pub mod PermuteRuns
+pub mod PermuteView
+pub mod Permutes
+pub mod TransposeLaws
+pub mod TransposeRuns
+pub mod TransposeView
+pub mod Transposes

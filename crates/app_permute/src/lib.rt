@@ -1,13 +1,31 @@
-//! Rows and columns of a matrix in another order.
+//! Rows and columns of a matrix in another order: transpose turns a matrix over its diagonal, and permute gives its rows
+//! and columns new numbers. Both are programs in rounds.
 //!
 //! | Call | For | Answer |
 //! |---|---|---|
+//! | [`transpose_start`] | the programs of transpose on so many ranks | in round 0 of a run of one round |
+//! | [`transpose_end`] | the programs, once they ended | the transposed matrix |
+//! | [`permute_start`] | the programs of permute on so many ranks, with new numbers for rows and columns | in round 0 of a run of three rounds |
+//! | [`permute_end`] | the programs, once they ended | the permuted matrix |
 //! | [`seed_perms`] | permutations of rows and columns from a seed | drawn from one generator, the rows' first |
 //! | [`Perms::rows`], [`Perms::cols`] | the new numbers | the element at `x` is the new number of `x` |
+//!
+//! The entries are dealt out in turn; row `i` and column `j` belong to ranks `i mod P` and `j mod P`. What the new matrices
+//! are is said of the matrix alone (`specs/Moved`): no rank, no round and no order of items occurs there.
 #![tactic(auto)]
 
+mod carried;
 mod perms;
+mod permute;
+mod permute_lists;
+mod permute_run;
 #[cfg(test)]
 mod tests;
+mod transpose;
+mod transpose_run;
 
 pub use perms::{Perms, seed_perms};
+pub use permute::Permute;
+pub use permute_run::{permute_end, permute_start};
+pub use transpose::Transpose;
+pub use transpose_run::{transpose_end, transpose_start};

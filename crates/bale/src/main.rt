@@ -1,12 +1,18 @@
 //! The program `bale`: the command line's words, the standard streams, and the exit status.
 #![tactic(auto)]
 
-use bale_cli::{Refusal, report, run};
-use bale_types::{StderrSink, StdinSource, StdoutSink};
+ghost use Rattle.std.specs.Prelude.{◌≡◌, ◌<◌};
+
+use bale_cli::{Refusal, report, run_serial};
+use bale_types::{Sink, StderrSink, StdinSource, StdoutSink, Source};
+use rank_group::Steps;
+use std::alloc::Global;
 use std::env;
 use std::io::ErrorKind;
 use std::process::ExitCode;
+use std::marker::Brand;
 use std::rt::Env;
+use std::sync::ledger::{Blank, Ledger};
 
 fn main(rt: HostRuntime) -> ExitCode {
     let mut err = StderrSink::new(&rt);
@@ -14,14 +20,15 @@ fn main(rt: HostRuntime) -> ExitCode {
         Ok(words) => {
             let mut source = StdinSource::new(&rt);
             let mut out = StdoutSink::new(&rt);
-            let outcome = run(
+            let status = run::<Brand, _, _, _>(
                 rt.alloc(),
                 words.as_slice(),
                 &mut source,
                 &mut out,
                 &mut err,
+                Blank::new(1),
             );
-            ExitCode::from(outcome.status)
+            ExitCode::from(status)
         }
         Err(refusal) => {
             report(&mut err, refusal);
@@ -45,4 +52,21 @@ fn words<R: Env + AllocGlobal>(rt: &R) -> Result<Vec<String>, Refusal> {
         Err(e) if e.kind() == ErrorKind::OutOfMemory => Err(Refusal::NoMemory),
         Err(_) => Err(Refusal::Usage),
     }
+}
+
+/// A run whose turns nobody asks for: its status.
+fn run<L: Ledger, S: Source, K: Sink, E: Sink>(
+    alloc: Global,
+    words: &[String],
+    source: &mut S,
+    out: &mut K,
+    err: &mut E,
+    blank: Blank,
+) -> u8
+    requires name { blank.name ≡ L.name }
+    requires parts { blank.parts ≡ L.parts }
+    requires some { 0 < L.parts }
+{
+    let mut steps = Steps::<L>::new(blank);
+    run_serial(alloc, words, source, out, err, &mut steps).status
 }

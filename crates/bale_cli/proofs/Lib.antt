@@ -1,6 +1,5 @@
-pub mod Dealings
-pub mod Owners
-pub mod Lines
 pub mod Endings
+pub mod Exchanges
+pub mod Finishes
+pub mod Orders
 pub mod Reasons
-pub mod Rows

@@ -1,27 +1,40 @@
 -- What a run answers: a status, the bytes for out and the bytes for err.
-use Rattle.std.specs.Prelude.{ℕ, List, [], ◌∷◌, ◌++◌, ◌==◌, Option, Some, None, Result, Ok, Err, codes, decimal, if◌then◌else◌}
+use Rattle.std.specs.Prelude.{◌≡◌, ℕ, true, List, [], ◌∷◌, ◌++◌, ◌==◌, Option, Some, None, Result, Ok, Err, OnOk, OnErr, codes, decimal, if◌then◌else◌}
+use Rattle.bale_types.specs.Stream.{after, IsFront}
 use Rattle.mtx_text.specs.declared.refusal.BadLine.{BadLine}
 use Rattle.mtx_text.specs.declared.refusal.ReadFault.{ReadFault}
 use Rattle.mtx_text.specs.declared.refusal.ReadFault.TheVariants as read_fault
 use Rattle.mtx_text.specs.Sparse.{Sparse}
 use Rattle.mtx_text.specs.Grammar.{matrix_of}
 use Rattle.mtx_text.specs.Reasons.{reason_text}
-use Rattle.bale_cli.specs.declared.job.Job.{Job}
+use Rattle.bale_words.specs.declared.command.Command.{Command}
 use Rattle.bale_cli.specs.declared.refusal.Refusal.{Refusal}
 use Rattle.bale_cli.specs.declared.refusal.Refusal.TheVariants as refusal
 use Rattle.bale_cli.specs.Jobs.{job_of}
-use Rattle.bale_cli.specs.Histo.{histo_lines}
+use Rattle.bale_cli.specs.Tasks.{IsAnswer}
+use Rattle.bale_cli.specs.Fitness.{unfitness}
+use Rattle.bale_cli.specs.declared.unfit.Unfit.{Unfit}
+use Rattle.bale_cli.specs.declared.unfit.Unfit.TheVariants as unfit
 
 -- What is said of a bad line: its number, and why it is bad.
 -- bad_line_text (line 4, too few entries) = "bale: line 4: too few entries\n"
 unfoldable pub bad_line_text : BadLine → List ℕ
 bad_line_text b = codes "bale: line " ++ decimal b.line ++ codes ": " ++ reason_text b.reason ++ 10 ∷ []
 
+-- What is said of a command that doesn't fit its matrix.
+-- unfit_text Source = "bale: unfit: source out of range\n"
+unfoldable pub unfit_text : Unfit → List ℕ
+unfit_text unfit.NotSquare = codes "bale: unfit: matrix is not square\n"
+unfit_text unfit.NegativeWeight = codes "bale: unfit: negative weight\n"
+unfit_text unfit.Source = codes "bale: unfit: source out of range\n"
+unfit_text unfit.SerialSize = codes "bale: unfit: too large for the serial drive\n"
+
 -- What is said on err of a run that ended without an answer.
 unfoldable pub refusal_text : Refusal → List ℕ
 refusal_text refusal.Usage = codes "bale: usage\n"
 refusal_text refusal.ReadFault = codes "bale: read fault\n"
 refusal_text (refusal.BadMatrix b) = bad_line_text b
+refusal_text (refusal.Unfit u) = unfit_text u
 refusal_text refusal.WriteFault = codes "bale: write fault\n"
 refusal_text refusal.NoMemory = codes "bale: no memory\n"
 
@@ -30,6 +43,7 @@ unfoldable pub status_of : Refusal → ℕ
 status_of refusal.Usage = 2
 status_of refusal.ReadFault = 3
 status_of (refusal.BadMatrix b) = 5
+status_of (refusal.Unfit u) = 6
 status_of refusal.WriteFault = 4
 status_of refusal.NoMemory = 7
 
@@ -39,38 +53,76 @@ refusal_of read_fault.Source = refusal.ReadFault
 refusal_of (read_fault.Bad b) = refusal.BadMatrix b
 refusal_of read_fault.NoMemory = refusal.NoMemory
 
--- The text was read as far as it counts: there is an answer, a bad line or a failed write.
-abbrev pub IsDecided : {T : Type 0} → Result T Refusal → Type 0
-IsDecided (Ok x) = Unit {0}
-IsDecided (Err (refusal.BadMatrix b)) = Unit {0}
-IsDecided (Err refusal.WriteFault) = Unit {0}
-IsDecided (Err refusal.Usage) = ⊥
-IsDecided (Err refusal.ReadFault) = ⊥
-IsDecided (Err refusal.NoMemory) = ⊥
+-- A refusal that came after the text was read as far as it counts: a bad line, or a failed write.
+abbrev pub IsOfText : Refusal → Type 0
+IsOfText refusal.Usage = ⊥
+IsOfText refusal.ReadFault = ⊥
+IsOfText (refusal.BadMatrix b) = Unit {0}
+IsOfText (refusal.Unfit u) = Unit {0}
+IsOfText refusal.WriteFault = Unit {0}
+IsOfText refusal.NoMemory = ⊥
 
--- A status, and what is written to out and to err.
+-- A status, and what is said on err.
 pub record Answer : Type 0 where
   pub status : ℕ
-  pub out : List ℕ
   pub err : List ℕ
 
--- The answer for a text that has a matrix, or that has none.
-abbrev pub answer_for : Result Sparse BadLine → Answer
-answer_for (Err b) = record { status = 5; out = []; err = bad_line_text b }
-answer_for (Ok m) = record { status = 0; out = histo_lines m.entries m.cols; err = [] }
+-- A command's answer for a matrix that it fits, or doesn't fit.
+abbrev pub answer_by : Option Unfit → Answer
+answer_by (Some u) = record { status = 6; err = unfit_text u }
+answer_by None = record { status = 0; err = [] }
+
+-- A command's answer for a text that has a matrix, or that has none.
+abbrev pub answer_for : Command → Result Sparse BadLine → Answer
+answer_for c (Err b) = record { status = 5; err = bad_line_text b }
+answer_for c (Ok m) = answer_by (unfitness c.task m true)
 
 -- The answer to what can be run, and to words that ask for nothing of the kind.
-abbrev pub answer_to : Option Job → List ℕ → Answer
-answer_to None text = record { status = 2; out = []; err = refusal_text refusal.Usage }
-answer_to (Some job) text = answer_for (matrix_of text)
+abbrev pub answer_to : Option Command → List ℕ → Answer
+answer_to None text = record { status = 2; err = refusal_text refusal.Usage }
+answer_to (Some c) text = answer_for c (matrix_of text)
 
 -- The serial answer: what the words ask for, of the matrix of the text. No rank, buffer or link occurs in it.
--- 2 and "bale: usage" where the words are no command; 5 and the first bad line where the text has no matrix;
--- else 0 and the lines of histo.
--- For "histo --grid 4 --buffer 2 --drive serial" and "%%MatrixMarket matrix coordinate pattern general/2 2 0/"
--- it is 0 with "1 0/2 0/" on out, with / for LF.
+-- 2 and "bale: usage" where the words are no command; 5 and the first bad line where the text has no matrix; 6 and the first
+-- test that fails where the command doesn't fit the matrix; else 0 and, on out, the bytes that `Wrote` tells of.
+-- For "sssp --source 3 --drive serial" and "%%MatrixMarket matrix coordinate pattern general/2 2 0/" it is 6 with
+-- "bale: unfit: source out of range/" on err, with / for LF.
 abbrev pub serial_answer : List (List ℕ) → List ℕ → Answer
 serial_answer words text = answer_to (job_of words) text
+
+-- What was asked of a run: the words give this command, the source told a text with this matrix, and the command fits it.
+pub record Asked (left : Option (List ℕ)) (words : List (List ℕ)) (text : List ℕ) (c : Command) (m : Sparse) : Type 0 where
+  pub told : left ≡ Some text
+  pub job : job_of words ≡ Some c
+  pub matrix : matrix_of text ≡ Ok m
+  pub fits : unfitness c.task m true ≡ None
+
+-- The words give a command that doesn't fit the matrix of a text, and this is why.
+pub record IsUnfit (job : Option Command) (text : List ℕ) (u : Unfit) : Type 0 where
+  pub command : Command
+  pub asked : job ≡ Some command
+  pub matrix : Sparse
+  pub read : matrix_of text ≡ Ok matrix
+  pub why : unfitness command.task matrix true ≡ Some u
+
+-- What a run wrote: the bytes that are the application's answer, for the command of the words and the matrix of the text.
+-- For histo and "%%MatrixMarket matrix coordinate pattern general/2 2 0/" they are "1 0/2 0/".
+pub record Wrote (job : Option Command) (text : List ℕ) (P : List ℕ → Type 0) : Type 0 where
+  pub command : Command
+  pub asked : job ≡ Some command
+  pub matrix : Sparse
+  pub read : matrix_of text ≡ Ok matrix
+  pub fits : unfitness command.task matrix true ≡ None
+  pub bytes : List ℕ
+  pub answers : IsAnswer command.task matrix bytes
+  pub wrote : P bytes
+
+-- What a sink has taken of an answer: all of it, or a front where a write failed. `old` is what it held.
+pub record HasWritten {T E : Type 0} (IsAnswer : List ℕ → Type 0) (old new : Option (List ℕ)) (written : Result T E) : Type 0 where
+  pub bytes : List ℕ
+  pub answers : IsAnswer bytes
+  pub whole : OnOk written (new ≡ after old bytes)
+  pub front : OnErr written (IsFront new (after old bytes))
 
 -- What is said on err at a status: nothing at 0, of a fault its text, else what the serial answer says.
 -- At 3 it is "bale: read fault\n"; at 5 it is the bad line and its reason.

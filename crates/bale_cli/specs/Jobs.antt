@@ -1,20 +1,24 @@
 -- What the program can run, of what words can ask for.
-use Rattle.std.specs.Prelude.{ℕ, Bool, true, false, not, ◌==◌, ◌&&◌, List, length, Option, Some, None, is_some, if◌then◌else◌}
+use Rattle.std.specs.Prelude.{Bool, true, false, not, ◌&&◌, ℕ, List, Option, Some, None, is_some, if◌then◌else◌}
 use Rattle.std.specs.Option.{option_and_then}
-use Rattle.route_tensor.specs.Grid.{ranks}
 use Rattle.bale_words.specs.declared.command.Command.{Command}
 use Rattle.bale_words.specs.declared.command.Task.{Task}
 use Rattle.bale_words.specs.declared.command.Task.TheVariants as task
+use Rattle.bale_words.specs.declared.command.Permutations.TheVariants.{Seed}
 use Rattle.bale_words.specs.declared.command.Transport.{Transport}
 use Rattle.bale_words.specs.declared.command.Transport.TheVariants.{Convey}
 use Rattle.bale_words.specs.declared.command.Driving.{Driving}
 use Rattle.bale_words.specs.declared.command.Driving.TheVariants.{Serial}
 use Rattle.bale_words.specs.Words.{command_of}
-use Rattle.bale_cli.specs.declared.job.Job.{Job}
 
-abbrev pub is_histo : Task → Bool
-is_histo task.Histo = true
-is_histo _ = false
+-- The applications that run.
+abbrev pub is_ready : Task → Bool
+is_ready task.Histo = true
+is_ready task.Ig = true
+is_ready (task.Permute (Seed seed)) = true
+is_ready task.Transpose = true
+is_ready (task.Sssp source None) = true
+is_ready _ = false
 
 abbrev pub is_convey : Transport → Bool
 is_convey Convey = true
@@ -24,15 +28,14 @@ abbrev pub is_serial : Driving → Bool
 is_serial Serial = true
 is_serial _ = false
 
--- The table of what runs: histo of a text, on a grid of one number, over conveyors with two slots a link that aren't
--- steady, driven serially. The run has the grid's ranks, and the buffer that the command names.
-abbrev pub job_in : Command → Option Job
-job_in c =
-    if is_histo c.task && length c.grid == 1 && is_convey c.travel.transport && c.travel.slots == 2 && not c.travel.steady
-    && is_serial c.travel.driving && not (is_some c.travel.generated)
-    then Some (record { ranks = ranks c.grid; buffer = c.travel.buffer }) else None
+-- The table of what runs: these applications, of a text, over conveyors, driven serially.
+abbrev pub runs : Command → Bool
+runs c = is_ready c.task && is_convey c.travel.transport && is_serial c.travel.driving && not (is_some c.travel.generated)
 
--- The run that words ask for, if they are a command and the program can run it.
--- The words histo, --drive, serial ask for a run on 4 ranks with buffers of 64; histo alone asks for threads.
-abbrev pub job_of : List (List ℕ) → Option Job
-job_of words = option_and_then job_in (command_of words)
+abbrev pub if_it_runs : Command → Option Command
+if_it_runs c = if runs c then Some c else None
+
+-- The command that words give, if the program can run it.
+-- The words ig, --drive, serial ask for ig on 4 ranks with buffers of 64; ig alone asks for threads.
+abbrev pub job_of : List (List ℕ) → Option Command
+job_of words = option_and_then if_it_runs (command_of words)

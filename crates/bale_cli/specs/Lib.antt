@@ -1,6 +1,4 @@
 pub mod Answer
-pub mod Counting
-pub mod Dealing
-pub mod Histo
+pub mod Fitness
 pub mod Jobs
-pub mod SmallMatrix
+pub mod Tasks

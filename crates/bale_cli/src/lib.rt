@@ -1,22 +1,29 @@
-//! The program `bale` without its streams: the words of the command line, the exchange, and the top call.
+//! The program `bale` without its streams: the words of the command line, the run that they ask for, and the top call.
 //!
 //! | Call | For |
 //! |---|---|
-//! | [`run`] | from the words and the bytes that come in to the bytes that go out |
+//! | [`run_serial`] | from the words and the bytes that come in to the bytes that go out, all ranks on one thread |
 //! | [`report`] | to say on a sink why a run ended without an answer |
+//!
+//! Read `specs/Answer` first: the serial answer, about the words and the matrix alone. Then `specs/Jobs` (what runs), and
+//! `specs/Tasks` (what each application answers, and which programs' run the rounds tell), `specs/Fitness` (which
+//! matrices an application has an answer for).
 #![tactic(auto)]
 
-mod count;
-mod deal;
-mod gather;
-mod histo;
+mod application;
+mod column_answers;
+mod exchange;
+mod finish;
 mod job;
-mod outcome;
+mod matrix_answers;
 mod refusal;
+mod run;
+mod unfit;
+mod walk_answers;
 
-pub use job::Job;
-pub use outcome::{Outcome, run};
 pub use refusal::{Refusal, report};
+pub use run::{Outcome, run_serial};
+pub use unfit::Unfit;
 
 #[cfg(test)]
 mod tests;

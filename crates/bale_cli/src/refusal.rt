@@ -1,9 +1,10 @@
 //! Why a run ended without an answer.
-ghost use Rattle.std.specs.Prelude.{◌≡◌, ◌≤◌, []};
+ghost use Rattle.std.specs.Prelude.{◌≡◌, ◌≤◌, [], length};
 ghost use Rattle.bale_types.specs.Stream.{after, IsFront, Rose};
 ghost use Rattle.bale_types.specs.Out.{appended};
-ghost use Rattle.bale_cli.specs.Answer.{bad_line_text, refusal_text, status_of};
+ghost use Rattle.bale_cli.specs.Answer.{bad_line_text, refusal_text, status_of, unfit_text};
 
+use crate::unfit::Unfit;
 use bale_types::{Failed, Line, Out, Sink};
 use mtx_text::BadLine;
 
@@ -16,6 +17,8 @@ pub enum Refusal {
     ReadFault,
     /// The text has no matrix.
     BadMatrix(BadLine),
+    /// The command doesn't fit the matrix.
+    Unfit(Unfit),
     /// The sink for the answer failed.
     WriteFault,
     /// An allocation was refused.
@@ -70,6 +73,7 @@ impl Refusal {
             Refusal::ReadFault => 3,
             Refusal::WriteFault => 4,
             Refusal::BadMatrix(_) => 5,
+            Refusal::Unfit(_) => 6,
             Refusal::NoMemory => 7,
         }
     }
@@ -110,6 +114,7 @@ fn line_of(refusal: Refusal) -> Line
         Refusal::Usage => line.text(b"bale: usage\n"),
         Refusal::ReadFault => line.text(b"bale: read fault\n"),
         Refusal::BadMatrix(bad) => bad_line(&mut line, bad),
+        Refusal::Unfit(unfit) => line.text(text_of_unfit(unfit)),
         Refusal::WriteFault => line.text(b"bale: write fault\n"),
         Refusal::NoMemory => line.text(b"bale: no memory\n"),
     }
@@ -126,4 +131,17 @@ fn bad_line(line: &mut Line, bad: BadLine)
     line.text(b": ");
     line.text(bad.reason.text().as_bytes());
     line.byte(b'\n');
+}
+
+#[tactic(auto, unfolding(crate::specs::Answer::unfit_text))]
+fn text_of_unfit(unfit: Unfit) -> &'static [u8]
+    ensures text { result.now ≡ unfit_text unfit }
+    ensures short { length result.now ≤ 48 }
+{
+    match unfit {
+        Unfit::NotSquare => b"bale: unfit: matrix is not square\n",
+        Unfit::NegativeWeight => b"bale: unfit: negative weight\n",
+        Unfit::Source => b"bale: unfit: source out of range\n",
+        Unfit::SerialSize => b"bale: unfit: too large for the serial drive\n",
+    }
 }

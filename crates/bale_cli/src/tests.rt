@@ -1,19 +1,17 @@
 //! Worked runs of the whole program: words and text in, status and bytes out.
-ghost use Rattle.bale_cli.specs.SmallMatrix.{SmallDeal};
+ghost use Rattle.std.specs.Prelude.{◌≡◌, ◌<◌};
 
 use super::*;
 use bale_types::{MemSink, MemSource};
+use rank_group::Steps;
 use std::alloc::Global;
+use std::marker::Brand;
 use std::string::ToString;
+use std::sync::ledger::{Blank, Ledger};
 use std::test::Fail;
 
 /// The text of most runs: one rank's worth of everything.
 const ONE: &[u8] = b"%%MatrixMarket matrix coordinate pattern general\n3 3 4\n1 1\n1 3\n2 3\n3 3\n";
-
-/// The definitions of the dealing compute to the worked rows.
-fn small_deal()
-    ensures { SmallDeal }
-{}
 
 fn words(alloc: Global, text: &str) -> Result<Vec<String>, Fail> {
     let mut words = Vec::new(alloc);
@@ -21,6 +19,33 @@ fn words(alloc: Global, text: &str) -> Result<Vec<String>, Fail> {
         words.push(word.to_string(alloc)?)?;
     }
     Ok(words)
+}
+
+/// A run whose turns nobody asks for.
+fn run_counted<L: Ledger>(
+    alloc: Global,
+    words: &[String],
+    source: &mut MemSource,
+    out: &mut MemSink,
+    err: &mut MemSink,
+    blank: Blank,
+) -> Outcome
+    requires name { blank.name ≡ L.name }
+    requires parts { blank.parts ≡ L.parts }
+    requires some { 0 < L.parts }
+{
+    let mut steps = Steps::<L>::new(blank);
+    run_serial(alloc, words, source, out, err, &mut steps)
+}
+
+fn run_with(
+    alloc: Global,
+    words: &[String],
+    source: &mut MemSource,
+    out: &mut MemSink,
+    err: &mut MemSink,
+) -> Outcome {
+    run_counted::<Brand>(alloc, words, source, out, err, Blank::new(1))
 }
 
 /// Status, out and err of a run, as one text.
@@ -32,7 +57,7 @@ fn ran(
 ) -> Result<String, Fail> {
     let words = words(alloc, text)?;
     let mut err = MemSink::new(alloc, 4096, 4096, &[])?;
-    let outcome = run(alloc, words.as_slice(), source, out, &mut err);
+    let outcome = run_with(alloc, words.as_slice(), source, out, &mut err);
     let status = outcome.status;
     let said = str::from_utf8(err.taken())?;
     let written = str::from_utf8(out.taken())?;
@@ -50,10 +75,19 @@ const COMMAND: &str = "histo --grid 4 --buffer 2 --drive serial";
 #[test]
 fn grids_and_buffers_give_one_answer(rt: HostRuntime) -> Result<(), Fail> {
     let words = [
-        "histo --grid 1 --buffer 64 --drive serial",
+        // one_rank, many_idle_ranks, three_hops, and then every setting of slots and steady
+        "histo --grid 1 --drive serial",
         "histo --grid 64 --buffer 1 --drive serial",
+        "histo --grid 2x2x2 --buffer 1 --drive serial",
+        "histo --grid 2x2x2 --buffer 1 --drive serial --slots 1 --steady no",
+        "histo --grid 2x2x2 --buffer 1 --drive serial --slots 4 --steady no",
+        "histo --grid 2x2x2 --buffer 1 --drive serial --slots 8 --steady no",
+        "histo --grid 2x2x2 --buffer 1 --drive serial --slots 1 --steady yes",
+        "histo --grid 2x2x2 --buffer 1 --drive serial --slots 2 --steady yes",
+        "histo --grid 2x2x2 --buffer 1 --drive serial --slots 4 --steady yes",
+        "histo --grid 2x2x2 --buffer 1 --drive serial --slots 8 --steady yes",
         "histo --grid 004 --buffer 1024 --drive serial",
-        "histo --drive=serial --slots 2 --grid=3 --steady no --via convey",
+        "histo --drive=serial --slots 2 --grid=3x5 --steady no --via convey",
     ];
     for words in words {
         assert_eq!(rt;
@@ -65,6 +99,84 @@ fn grids_and_buffers_give_one_answer(rt: HostRuntime) -> Result<(), Fail> {
     Ok(())
 }
 
+/// A matrix of 2 rows and 3 columns with -7 at (1,3) and 4 at (2,1).
+const TWO: &[u8] = b"%%MatrixMarket matrix coordinate integer general\n2 3 2\n1 3 -7\n2 1 4\n";
+
+/// Answers of applications: words, what follows the banner, and the answer with the banner written as `I`.
+const ANSWERS: &str = "\
+ig --buffer 1;2 3 2/1 3 -7/2 1 4/;0 1 3 -7/2 1 4/
+ig --grid 2x2;2 3 2/1 3 -7/2 1 4/;0 1 3 -7/2 1 4/
+ig --grid 4x4x4;2 3 2/1 3 -7/2 1 4/;0 1 3 -7/2 1 4/
+transpose;2 3 2/1 3 -7/2 1 4/;0 I/3 2 2/1 2 4/3 1 -7/
+transpose --grid 2x2x2 --buffer 1;2 3 2/1 3 -7/2 1 4/;0 I/3 2 2/1 2 4/3 1 -7/
+transpose;1 1 1/1 1 1000000000000/;0 I/1 1 1/1 1 1000000000000/
+transpose;1 1 1/1 1 -0000001000000000000/;0 I/1 1 1/1 1 -1000000000000/
+transpose;1 1 1/1 1 1000000000001/;5 bale: line 3: bad value/
+permute --seed 42;3 3 2/1 2 5/3 3 6/;0 I/3 3 2/1 3 6/3 2 5/
+permute --seed 42 --grid 2x2 --buffer 1;3 3 2/1 2 5/3 3 6/;0 I/3 3 2/1 3 6/3 2 5/
+sssp --source 1;4 4 4/1 2 5/1 3 2/3 2 1/2 4 7/;0 1 0/2 3/3 2/4 10/
+sssp --source 1 --grid 2x2x2 --buffer 1;4 4 4/1 2 5/1 3 2/3 2 1/2 4 7/;0 1 0/2 3/3 2/4 10/
+sssp --source 4;4 4 4/1 2 5/1 3 2/3 2 1/2 4 7/;0 1 -/2 -/3 -/4 0/
+sssp --source 5;4 4 4/1 2 5/1 3 2/3 2 1/2 4 7/;6 bale: unfit: source out of range/
+sssp --source 0;4 4 4/1 2 5/1 3 2/3 2 1/2 4 7/;6 bale: unfit: source out of range/
+sssp;2 2 1/1 2 -1/;6 bale: unfit: negative weight/
+sssp;0 0 0/;6 bale: unfit: source out of range/
+sssp;1 2 0/;6 bale: unfit: matrix is not square/
+";
+
+#[test]
+fn applications_and_their_answers(rt: HostRuntime) -> Result<(), Fail> {
+    let alloc = rt.alloc();
+    let banner = "%%MatrixMarket matrix coordinate integer general\n";
+    for case in ANSWERS.lines() {
+        let mut parts = case.split(';');
+        let (Some(words), Some(rest), Some(want)) = (parts.next(), parts.next(), parts.next())
+        else {
+            continue;
+        };
+        let words = format!(in alloc; "{words} --drive serial")?;
+        let rest = rest.replace(alloc, "/", "\n")?;
+        let text = format!(in alloc; "{banner}{rest}")?;
+        let want = want.replace(alloc, "/", "\n")?;
+        let want = want.replace(alloc, "I\n", banner)?;
+        let got = answer(alloc, words.as_str(), text.as_bytes())?;
+        assert_eq!(rt; got.as_str(), want.as_str(), "{case}");
+    }
+    Ok(())
+}
+
+#[test]
+fn rounds_are_told(rt: HostRuntime) -> Result<(), Fail> {
+    // The words, the text, and then the status, the closed rounds and their epochs: two a round.
+    let cases = [
+        ("histo --drive serial", ONE, 0, 1, 2),
+        ("ig --drive serial --grid 2", TWO, 0, 1, 6),
+        ("ig --drive serial", b"".as_slice(), 5, 0, 0),
+        ("ig", TWO, 2, 0, 0),
+    ];
+    for (text, input, status, rounds, epochs) in cases {
+        let words = words(rt.alloc(), text)?;
+        let mut source = MemSource::new(rt.alloc(), input, 65_536, &[])?;
+        let mut out = MemSink::new(rt.alloc(), 4096, 4096, &[])?;
+        let mut err = MemSink::new(rt.alloc(), 4096, 4096, &[])?;
+        let outcome = run_with(
+            rt.alloc(),
+            words.as_slice(),
+            &mut source,
+            &mut out,
+            &mut err,
+        );
+        let told = match outcome.rounds.get(0) {
+            Some(round) => round.epochs(),
+            None => 0,
+        };
+        assert_eq!(rt; outcome.status, status, "{text}");
+        assert_eq!(rt; outcome.rounds.len(), rounds, "{text}");
+        assert_eq!(rt; told, epochs, "{text}");
+    }
+    Ok(())
+}
+
 #[test]
 fn other_words_are_refused(rt: HostRuntime) -> Result<(), Fail> {
     // No command, and then commands that don't run yet.
@@ -72,9 +184,10 @@ fn other_words_are_refused(rt: HostRuntime) -> Result<(), Fail> {
         "histo --grid 65 --drive serial",
         "histo --drive serial more",
         "histo",
-        "ig --drive serial",
-        "histo --grid 2x2 --drive serial",
-        "histo --slots 4 --drive serial",
+        "topo --drive serial",
+        "permute --rperm 2,3,1 --drive serial",
+        "sssp --delta 3 --drive serial",
+        "ig --via exstack --drive serial",
         "histo --gen 2,3,42 --drive serial",
     ];
     for words in words {
@@ -250,7 +363,7 @@ fn a_failing_err_changes_no_status(rt: HostRuntime) -> Result<(), Fail> {
     let mut source = MemSource::new(rt.alloc(), text, 65_536, &[])?;
     let mut out = MemSink::new(rt.alloc(), 100, 100, &[])?;
     let mut err = MemSink::new(rt.alloc(), 100, 100, &[1])?;
-    let outcome = run(
+    let outcome = run_with(
         rt.alloc(),
         words.as_slice(),
         &mut source,

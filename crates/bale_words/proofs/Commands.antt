@@ -1,10 +1,10 @@
 -- The command that is built name by name, and its words.
 use Rattle.std.proofs.Common.{ℕ, ◌≡◌, ◌<◌, ◌+◌, List, [], ◌∷◌, ◌++◌, map, length, take, get_or, codes, sym, ap, ◌∙◌}
 use Rattle.std.proofs.lemmas.List.{map-append, take_more}
-use Rattle.clap.specs.Simple.{App, with_rule, new_shape}
+use Rattle.clap.specs.Simple.{App, with_rule}
 use Rattle.clap.specs.Walk.{Rule}
 use Rattle.bale_words.specs.declared.options.Pair.{Pair}
-use Rattle.bale_words.specs.Options.{Given, word_of}
+use Rattle.bale_words.specs.Options.{word_of}
 use Rattle.bale_words.specs.Pairs.{given_pairs, given_pair}
 use Rattle.bale_words.specs.Clap.{app_named, option_rule, command_words}
 

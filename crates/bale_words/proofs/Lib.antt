@@ -4,3 +4,4 @@ pub mod Parts
 pub mod Ranges
 pub mod Refused
 pub mod Walks
+pub mod Within

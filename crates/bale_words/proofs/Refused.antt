@@ -1,5 +1,5 @@
 -- What is read last decides, where all else was read.
-use Rattle.std.proofs.Common.{ℕ, ◌≡◌, List, [], ◌∷◌, Option, Some, None, Result, Ok, Err, codes, sym, ap, subst}
+use Rattle.std.proofs.Common.{ℕ, ◌≡◌, List, [], ◌∷◌, Option, Some, Err, codes, sym, ap, subst}
 use Rattle.std.specs.Option.{option_map, option_and_then}
 use Rattle.bale_words.specs.declared.fault.WordsFault.{WordsFault}
 use Rattle.bale_words.specs.declared.fault.WordsFault.TheVariants.{Usage, NoMemory}

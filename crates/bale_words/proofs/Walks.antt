@@ -1,16 +1,15 @@
 -- What clap makes of one word for each option: no fault, and each option's value.
-use Rattle.std.proofs.Common.{ℕ, zero, suc, ◌<◌, ◌≡◌, ◌≢◌, ◌==◌, ◌&&◌, ◌||◌, Bool, true, false, not, cond, List, [], ◌∷◌, ◌++◌, map, length, drop, get_or, Option, Some, None, Result, Ok, Err, IfErr, codes, arith, refl, sym, ap, ◌∙◌, subst, inl, inr}
-use Rattle.std.specs.Prelude.{find, nat_lt, is_some, count_by, fold, option_and_then, slice_get, ⊤}
+use Rattle.std.proofs.Common.{ℕ, zero, suc, ◌<◌, ◌≡◌, ◌≢◌, ◌==◌, ◌&&◌, ◌||◌, Bool, true, false, not, List, [], ◌∷◌, ◌++◌, map, length, get_or, Some, None, Result, Ok, Err, IfErr, codes, arith, refl, sym, ap, ◌∙◌, subst, inl, inr}
+use Rattle.std.specs.Prelude.{nat_lt, is_some, count_by, fold}
 use Rattle.std.specs.List.{list_all, list_any}
-use Rattle.std.specs.Option.{option_map}
 use Rattle.std.specs.Str.{bytes_eq}
-use Rattle.std.proofs.lemmas.Bool.{cases_Bool, and_parts, or_parts, or_right, not-true, false≢true, true≢false}
+use Rattle.std.proofs.lemmas.Bool.{cases_Bool, and_parts, or_parts, or_right, not-true, false≢true}
 use Rattle.std.proofs.lemmas.Bool.Decides.{nat_tests}
-use Rattle.std.proofs.lemmas.List.{append_assoc, append-nil, map-append}
+use Rattle.std.proofs.lemmas.List.{append_assoc, append-nil}
 use Rattle.std.proofs.lemmas.Slice.Eq.{bytes_eq-Decides}
-use Rattle.clap.specs.Walk.{Rule, Row, Held, Walk, idle, walked, walk, walk_from, finished, with_default, has_row, arg_by_long, first_of, used, with_values, without, rows_after, nothing_held, settled, is_early_multiple}
-use Rattle.clap.specs.Lexer.{long_of, name_and_value}
-use Rattle.clap.specs.Simple.{App, Shape, built, names_of, filled, filled_from, is_simple, is_buildable, is_ready, is_ready_leaf, matches_of, new_rule, new_shape}
+use Rattle.clap.specs.Walk.{Rule, Row, Held, Walk, walked, walk, walk_from, finished, with_default, has_row, arg_by_long, first_of, used, with_values, without, rows_after, nothing_held, is_early_multiple}
+use Rattle.clap.specs.Lexer.{long_of}
+use Rattle.clap.specs.Simple.{App, Shape, built, names_of, filled_from, is_simple, is_buildable, is_ready, is_ready_leaf, matches_of, new_shape}
 use Rattle.clap.specs.Faults.{fault_of, built_fault, turn_fault, walk_fault, defaults_fault, is_simple_and_free, is_free_app}
 use Rattle.clap.specs.Kinds.{or_else, FailsBy}
 use Rattle.clap.specs.Values.{kind_of}

@@ -11,7 +11,7 @@ use Rattle.bale_words.specs.declared.command.Transport.TheVariants.{Convey, Exst
 use Rattle.bale_words.specs.declared.command.Driving.{Driving}
 use Rattle.bale_words.specs.declared.command.Driving.TheVariants.{Threads, Serial}
 use Rattle.bale_words.specs.declared.command.Generated.{Generated}
-use Rattle.bale_words.specs.Numbers.{number_in, numbers_in, within}
+use Rattle.bale_words.specs.Numbers.{number_in, numbers_in}
 
 -- A text is this word.
 unfoldable pub is_text : List ℕ → List ℕ → Bool
@@ -40,12 +40,19 @@ as_grid dims = if is_some (refusal dims) then None else Some dims
 unfoldable pub grid_of : List ℕ → Option (List ℕ)
 grid_of text = option_and_then as_grid (numbers_in 120 1 64 text)
 
+-- How many slots a link may have, and how many entries a parcel may hold.
+abbrev pub slot_counts : List ℕ
+slot_counts = 1 ∷ 2 ∷ 4 ∷ 8 ∷ []
+
+abbrev pub buffer_sizes : List ℕ
+buffer_sizes = 1 ∷ 2 ∷ 4 ∷ 8 ∷ 16 ∷ 32 ∷ 64 ∷ 128 ∷ 256 ∷ 512 ∷ 1024 ∷ []
+
 -- Slots of a link, and the entries of a parcel.
 unfoldable pub slots_of : List ℕ → Option ℕ
-slots_of text = option_and_then (one_of (1 ∷ 2 ∷ 4 ∷ 8 ∷ [])) (number_in 1 8 text)
+slots_of text = option_and_then (one_of slot_counts) (number_in 1 8 text)
 
 unfoldable pub buffer_of : List ℕ → Option ℕ
-buffer_of text = option_and_then (one_of (1 ∷ 2 ∷ 4 ∷ 8 ∷ 16 ∷ 32 ∷ 64 ∷ 128 ∷ 256 ∷ 512 ∷ 1024 ∷ [])) (number_in 1 1024 text)
+buffer_of text = option_and_then (one_of buffer_sizes) (number_in 1 1024 text)
 
 -- `yes` or `no`.
 unfoldable pub steady_of : List ℕ → Option Bool

@@ -1,5 +1,5 @@
 -- The command line: which lists of words are accepted, and what they ask for.
-use Rattle.std.specs.Prelude.{ℕ, Bool, true, false, ◌-◌, ◌^◌, List, [], ◌∷◌, ◌++◌, Option, Some, None, codes, if◌then◌else◌}
+use Rattle.std.specs.Prelude.{ℕ, false, ◌-◌, ◌^◌, List, [], ◌∷◌, ◌++◌, Option, Some, None, codes, if◌then◌else◌}
 use Rattle.std.specs.Option.{option_map, option_and_then}
 use Rattle.bale_words.specs.declared.command.Application.{Application}
 use Rattle.bale_words.specs.declared.command.Application.TheVariants as application

@@ -6,6 +6,7 @@ ghost use Rattle.std.specs.Option.{option_map};
 ghost use Rattle.clap.specs.Words.{first_value, found_of, kind_of};
 ghost use Rattle.bale_words.specs.Options.{Given, given_of, accepted, value_in, is_name};
 ghost use Rattle.bale_words.specs.Clap.{command_words};
+ghost use Rattle.bale_words.specs.Ranges.{InRanges};
 ghost use Rattle.bale_words.specs.Reading.{Reads};
 ghost use Rattle.bale_words.specs.Numbers.{number_in, numbers_in};
 ghost use Rattle.bale_words.specs.Values.{is_text, or_default, if_given};
@@ -31,6 +32,7 @@ use std::alloc::Global;
 /// `Usage` exactly where the words are no command; `NoMemory` where there was none to read them.
 pub fn read_command(alloc: Global, words: &[String]) -> Result<Command, WordsFault>
     ensures command { IfOk result (λ c. command_of (map string_bytes words.now) ≡ Some c) }
+    ensures ranges { IfOk result (λ c. InRanges c) }
     ensures usage { result ≡ Err WordsFault.Usage → command_of (map string_bytes words.now) ≡ None }
 {
     match words.split_first() {

@@ -19,5 +19,6 @@ mod Advances
 mod Quiet
 mod Pushes
 mod Pulls
+pub mod Batched
 mod Together
 mod Stations

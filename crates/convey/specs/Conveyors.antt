@@ -1,11 +1,14 @@
 -- What contracts see of a conveyor.
-use Rattle.std.specs.Prelude.{◌≡◌, ℕ, length, None}
+use Rattle.std.specs.Prelude.{◌≡◌, ℕ, ◌<◌, length, Some, None}
+use Rattle.bale_types.specs.declared.item.Item.{Item}
+use Rattle.route_tensor.specs.Grid.{ranks}
 use Rattle.port_bank.specs.Logs.{Logs}
 use Rattle.port_bank.specs.Flow.{hop_link}
 use Rattle.hop_core.specs.declared.lent.Lent.TheVariants.{Nothing}
 use Rattle.hop_core.specs.declared.phase.Phase.TheVariants.{Complete}
-use Rattle.hop_core.specs.State.{State, phase_of}
+use Rattle.hop_core.specs.State.{State, phase_of, lowest_unread, pull_from, pulled_from}
 use Rattle.port_bank.specs.Machine.{Step, IsOwnStep}
+use Rattle.port_bank.specs.Machine.Step.{Pull}
 use Rattle.convey.specs.Buffers.{buffers_of, out_of}
 use Rattle.convey.specs.Agreement.{Agrees}
 use Rattle.convey.specs.Parts.{part_of}
@@ -21,6 +24,14 @@ IsStepOf step old new = (sent got : Logs) → AgreesWith old sent got → IsOwnS
 -- A call keeps the agreement with a port that it doesn't see.
 abbrev pub KeepsAgreement : State → State → Type 0
 KeepsAgreement old new = (sent got : Logs) → AgreesWith old sent got → AgreesWith new sent got
+
+-- The next pull gives this item of this sender: it is a step of the rank's part of the exchange machine, and keeps
+-- the agreement.
+pub record GivesNext (st : State) (from : ℕ) (item : Item) : Type 0 where
+  pub value : pull_from st (lowest_unread st) ≡ Some (from, item)
+  pub sender : from < ranks st.dims
+  pub step : IsStepOf (Pull from item) st (pulled_from st (lowest_unread st))
+  pub kept : KeepsAgreement st (pulled_from st (lowest_unread st))
 
 -- How many entries stand in the open parcel toward a rank.
 abbrev pub standing_toward : State → ℕ → ℕ

@@ -9,13 +9,16 @@ ghost use Rattle.route_tensor.specs.Ends.{hop_at, sender_at, reader_at};
 ghost use Rattle.list_laws.specs.Lists.{Begins};
 ghost use Rattle.port_bank.specs.Shapes.{IsConveyorShape};
 ghost use Rattle.hop_core.specs.Link.{no_out, no_in};
-ghost use Rattle.hop_core.specs.State.{phase_of, lowest_unread, pull_from, pulled_from, unpulled, reopened, resumed};
+ghost use Rattle.hop_core.specs.State.{phase_of, in_at, lowest_unread, pull_from, pulled_from, pulls, unpulled, reopened, resumed};
+ghost use Rattle.route_tensor.specs.Neighbour.{hop_to, neighbour};
+ghost use Rattle.route_tensor.specs.Tag.{IsFair, sender_of};
+ghost use Rattle.std.specs.List.{All};
 ghost use Rattle.port_bank.specs.Machine.{IsOwnStep};
 ghost use Rattle.port_bank.specs.Machine.Step.{Push, Pull, Unpull, Reset, Idle};
 ghost use Rattle.convey.specs.Buffers.{buffers_of, out_of, in_of, is_complete};
 ghost use Rattle.convey.specs.Parts.{part_of};
 ghost use Rattle.convey.specs.Law.{IsSound};
-ghost use Rattle.convey.specs.Conveyors.{AgreesWith, IsStepOf, KeepsAgreement, standing_toward};
+ghost use Rattle.convey.specs.Conveyors.{AgreesWith, IsStepOf, KeepsAgreement, GivesNext, standing_toward};
 ghost use Rattle.convey.specs.Progress.{progress_of, advance_step};
 ghost use Rattle.bale_types.specs.Stream.{Rose};
 ghost use Rattle.hop_core.specs.declared.lent.Lent.TheVariants as Lent;
@@ -28,7 +31,7 @@ ghost use Rattle.convey.specs.Way.{WasServed};
 
 use crate::moving::move_on;
 use crate::progress::Progress;
-use bale_types::{Item, NoMemory};
+use bale_types::{Entry, Item, NoMemory, Tag};
 use hop_core::{Phase, Pushed, RankState};
 use port_bank::Port;
 use route_tensor::Grid;
@@ -148,6 +151,60 @@ impl<const CAP: usize, const HOPS: usize> Conveyor<CAP, HOPS> {
     {
         self.state.known();
         self.state.pull()
+    }
+
+    /// The link in from which the next pull takes, by the number of its neighbour. None exactly where a pull would give
+    /// none.
+    #[inline]
+    pub fn unread(&mut self) -> Option<u32>
+        requires begun { self.old.phase ≢ Phase.Dormant }
+        ensures value { result ≡ lowest_unread self.old }
+        ensures state { self.new ≡ record self.old { pulled = None } }
+        ensures still { result ≡ lowest_unread self.new }
+        ensures none_unread { result ≡ None → (l : ℕ) → l < links self.old.dims → hop_at self.old.dims l ≡ length self.old.dims → (in_of self.old l).parcel.untaken ≡ [] }
+        ensures kept { KeepsAgreement self.old self.new }
+        ensures step { IsStepOf Idle self.old self.new }
+    {
+        self.state.known();
+        self.state.unread()
+    }
+
+    /// The unread entries of that link, in order. As many pulls give their items, each with its sender.
+    #[inline]
+    pub fn batch(&self, number: u32) -> &[Entry]
+        requires lowest { lowest_unread self.now ≡ Some number }
+        ensures value { result.now ≡ (in_at self.now number).parcel.untaken }
+        ensures some { 0 < length result.now }
+        ensures within { number < sum self.now.dims }
+        ensures last { hop_to self.now.dims number ≡ length self.now.dims }
+        ensures fair { All (λ e. IsFair self.now.dims (length self.now.dims) e.tag) result.now }
+        ensures gives { (i : ℕ) (e : Entry) → slice_get result.now i ≡ Some e → GivesNext (pulls i self.now) (sender_of self.now.dims e.tag (length self.now.dims) (neighbour self.now.dims self.now.rank number)) e.item }
+    {
+        self.state.known();
+        self.state.batch(number)
+    }
+
+    /// The sender of an entry of that link with this tag.
+    #[inline]
+    pub fn sender_of(&self, number: u32, tag: Tag) -> u32
+        requires number { number < sum self.now.dims }
+        requires last { hop_to self.now.dims number ≡ length self.now.dims }
+        requires fair { IsFair self.now.dims (length self.now.dims) tag }
+        ensures { result ≡ sender_of self.now.dims tag (length self.now.dims) (neighbour self.now.dims self.now.rank number) }
+    {
+        self.state.sender_of(number, tag)
+    }
+
+    /// Pulls all unread items of that link.
+    pub fn pull_all(&mut self, number: u32)
+        requires begun { self.old.phase ≢ Phase.Dormant }
+        requires lowest { lowest_unread self.old ≡ Some number }
+        ensures state { self.new ≡ pulls (length (in_at self.old number).parcel.untaken) self.old }
+        ensures same { self.new ≡ record self.old { ins = self.new.ins; pulled = self.new.pulled } }
+        ensures kept { KeepsAgreement self.old self.new }
+    {
+        self.state.known();
+        self.state.pull_all(number);
     }
 
     /// Puts the item back that the latest call pulled, if that call was a pull that gave one.

@@ -1,21 +1,23 @@
-use Rattle.std.proofs.Common.{ℕ, ◌≡◌, ◌+◌, ◌<◌, ◌≤◌, false, List, [], ◌∷◌, ◌++◌, length, take, drop, get_or, set, sum, slice_get, None, Option, Some, arith, refl, sym, ap, subst, ◌∙◌, inl, inr}
+use Rattle.std.proofs.Common.{ℕ, zero, suc, Bool, cond, ◌==◌, ◌-◌, ne_eqb, ◌≡◌, ◌+◌, ◌<◌, ◌≤◌, false, List, [], ◌∷◌, ◌++◌, length, take, drop, get_or, set, sum, slice_get, None, Option, Some, arith, refl, sym, ap, subst, ◌∙◌, inl, inr}
 use Rattle.std.specs.List.{All}
-use Rattle.std.proofs.lemmas.Bool.{cases_eq, false≢true}
+use Rattle.std.proofs.lemmas.Bool.{cases_eq, cond-false, false≢true}
 use Rattle.std.proofs.lemmas.List.{length-set, length-take, length-drop, length_push, take_at, take-take, take_all, drop-drop, get_or-set_same, get_or-set_other, get_or_default, set-get_or}
 use Rattle.std.proofs.lemmas.List.Elements.{All-push, All-drop}
+use Rattle.std.proofs.lemmas.Option.{slice_get-get_or}
 use Rattle.list_laws.specs.Lists.{EachAt}
 use Rattle.list_laws.proofs.Lists.{each_set}
 use Rattle.bale_types.specs.declared.item.Entry.{Entry}
 use Rattle.bale_types.specs.declared.item.Item.{Item}
 use Rattle.bale_types.specs.declared.item.Tag.{Tag}
 use Rattle.route_tensor.specs.declared.routes.Onward.{Onward}
+use Rattle.route_tensor.specs.declared.routes.Neighbour.{Neighbour}
 use Rattle.route_tensor.specs.Link.{links_before}
 use Rattle.route_tensor.specs.Grid.{ranks, IsGrid}
 use Rattle.route_tensor.specs.Neighbour.{hop_to}
 use Rattle.route_tensor.specs.Tag.{digit, IsFair}
 use Rattle.route_tensor.specs.Pair.{items_of_pair}
 use Rattle.route_tensor.specs.Routes.{about, passed_on}
-use Rattle.hop_core.specs.Link.{Out, In, no_out, with_entry, with_first_taken, with_back}
+use Rattle.hop_core.specs.Link.{Out, In, no_out, with_entry, with_first_taken, read_on}
 use Rattle.hop_core.specs.Relay.{PassesOn, AddsToHop, IsStopped, way_out}
 use Rattle.hop_core.specs.Standing.{IsOut, IsIn}
 use Rattle.hop_core.proofs.Passing.{moves, one_moves, passes_none, passes_both}
@@ -194,32 +196,42 @@ step_stopped dims r cap i outs x out e step w head se eo full = λ y hy.
     subst (λ z. length (get_or outs (links_before dims (hop_to dims i + 1) + digit z.tag (hop_to dims i + 1)) no_out).parcel.untaken ≡ cap) s
     (subst (λ (z : Onward). length (get_or outs z.out no_out).parcel.untaken ≡ cap) se here)
 
--- a link whose first entry was taken and put back
-pub record PutBack (x x' : In) : Type 0 where
-  pub untaken : x'.parcel.untaken ≡ x.parcel.untaken
-  pub none : x'.parcel.back ≡ None
+-- what stands for an entry past the end
+abbrev pub no_entry : Entry
+no_entry = record { tag = record { d1 = 0; d2 = 0; d3 = 0 }; item = record { a = 0; b = 0; c = 0 } }
 
-pub put_back : (x y z : In) (e : Entry) → slice_get x.parcel.untaken 0 ≡ Some e → y ≡ record x { parcel = with_first_taken x.parcel } → z ≡ record y { parcel = with_back y.parcel.back y.parcel } → PutBack x z
-put_back x y z e head took put =
-    let b : y.parcel.back ≡ Some e = ap (λ w. w.parcel.back) took ∙ head in
-    let p : z ≡ record y { parcel = with_back (Some e) y.parcel } = put ∙ ap (λ w. record y { parcel = with_back w y.parcel }) b in
-    record {
-      untaken = ap (λ w. w.parcel.untaken) p ∙ ap (λ w. e ∷ w.parcel.untaken) took ∙ sym (by_head x.parcel.untaken e head);
-      none = ap (λ w. w.parcel.back) p;
-    }
+same_in : (u v : List Entry) (b c : Option Entry) (s t e : ℕ) (l d : Bool) → u ≡ v → b ≡ c → s ≡ t
+    → ◌≡◌ {A = In} (record { parcel = record { untaken = u; last = l; epoch = e; back = b; taken = s }; ended = d }) (record { parcel = record { untaken = v; last = l; epoch = e; back = c; taken = t }; ended = d })
+same_in u v b c s t e l d p q r = cc
 
-pub in_put_back : (dims : List ℕ) (cap h : ℕ) (x z : In) → IsIn dims cap h x → PutBack x z → IsIn dims cap h z
-in_put_back dims cap h x z k p = record {
-  fits = omega (arith, ap length p.untaken, k.fits);
-  fair = subst (λ es. All (λ y. IsFair dims h y.tag) es) (sym p.untaken) k.fair;
-  back_fair = λ e b. absurd (let q : None ≡ Some e = sym p.none ∙ b in cc);
-}
+-- the first of what is left after n entries stands at n
+next_at : (n : ℕ) (xs : List Entry) → slice_get (drop n xs) 0 ≡ slice_get xs n
+next_at zero [] = refl
+next_at (suc n) [] = refl
+next_at zero (y ∷ xs) = refl
+next_at (suc n) (y ∷ xs) = next_at n xs
 
-pub passes_put_back : (dims : List ℕ) (r h i : ℕ) (outs outs' : List Out) (x y z : In) → PassesOn dims r h i outs outs' x y → PutBack y z → PassesOn dims r h i outs outs' x z
-passes_put_back dims r h i outs outs' x y z k p = record {
-  mine = λ s d t w. ap (λ es. items_of_pair dims s d (h + 1) (get_or outs' (way_out dims d (h + 1)) no_out).parcel.untaken ++ items_of_pair dims s d h es) p.untaken ∙ k.mine s d t w;
-  others = k.others;
-}
+back_more : (n : ℕ) (b : Option Entry) (xs : List Entry) → cond (n + 1 == 0) b (slice_get xs (n + 1 - 1)) ≡ slice_get (drop n xs) 0
+back_more n b xs =
+    let e : n + 1 - 1 ≡ n = omega arith in
+    cond-false _ _ _ (ne_eqb (n + 1) 0 (λ z. absurd (omega (arith, z)))) ∙ (ap (slice_get xs) e ∙ sym (next_at n xs))
 
-pub stopped_put_back : (dims : List ℕ) (cap h : ℕ) (outs : List Out) (x z : In) → IsStopped dims cap h outs x → PutBack x z → IsStopped dims cap h outs z
-stopped_put_back dims cap h outs x z k p = λ e head. k e (sym (ap (λ es. slice_get es 0) p.untaken) ∙ head)
+-- one entry more is taken
+pub read_more : (n : ℕ) (x : In) → read_on (n + 1) x ≡ record (read_on n x) { parcel = with_first_taken (read_on n x).parcel }
+read_more n x = same_in _ _ _ _ _ _ _ _ _ (sym (drop-drop 1 n x.parcel.untaken)) (back_more n x.parcel.back x.parcel.untaken) (let e : x.parcel.taken + (n + 1) ≡ x.parcel.taken + n + 1 = omega arith in e)
+
+-- none is
+pub read_none : (x : In) → read_on 0 x ≡ x
+read_none x = let e : x.parcel.taken + 0 ≡ x.parcel.taken = omega arith in same_in _ _ _ _ _ _ _ _ _ refl refl e
+
+-- the next one
+pub read_head : (n : ℕ) (x : In) (e : Entry) → slice_get x.parcel.untaken n ≡ Some e → slice_get (read_on n x).parcel.untaken 0 ≡ Some e
+read_head n x e h = next_at n x.parcel.untaken ∙ h
+
+-- the next entry, as the loop reads it
+pub read_next : (xs : List Entry) (n : ℕ) (x : In) → xs ≡ x.parcel.untaken → n < length xs → slice_get (read_on n x).parcel.untaken 0 ≡ Some (get_or xs n no_entry)
+read_next xs n x e h = read_head n x (get_or xs n no_entry) (ap (λ ys. slice_get ys n) (sym e) ∙ slice_get-get_or xs n no_entry h)
+
+-- the step of a neighbour that stands in the table
+pub by_table : (step : Onward) (n m : Neighbour) (tag : Tag) → step ≡ passed_on n tag → n ≡ m → step ≡ passed_on m tag
+by_table step n m tag e f = e ∙ ap (λ k. passed_on k tag) f

@@ -7,4 +7,6 @@ pub mod Standing
 pub mod Relayed
 pub mod Filling
 pub mod Unread
+pub mod Batches
+pub mod Straight
 pub mod Epochs

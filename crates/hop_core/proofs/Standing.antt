@@ -151,7 +151,7 @@ state_in st i x l p k q f c lo li cu = record {
   can_unpull = cu;
 }
 
-in_fact : (st : State) (i : ℕ) → IsState st → i < sum st.dims → IsIn st.dims st.cap (hop_to st.dims i) (in_at st i)
+pub in_fact : (st : State) (i : ℕ) → IsState st → i < sum st.dims → IsIn st.dims st.cap (hop_to st.dims i) (in_at st i)
 in_fact st i k q = k.each_in i no_in (omega (arith, k.all_ins, q))
 
 pub blank_in : (dims : List ℕ) (cap h : ℕ) (x : In) → x.parcel ≡ blank 0 → IsIn dims cap h x
@@ -483,26 +483,23 @@ first_hop_out dims d g =
     let c : coord dims d 1 < dim dims 1 = coord_in dims d 1 g.positive (omega arith) g.some in
     hop_to_is dims 1 (coord dims d 1) (record { first = omega arith; last = g.some; from = omega arith; below = omega (arith, c) })
 
--- the taking of an item of the last hop
-pub pull_kept : (st : State) (ends : List Bool) (spare : Option Contents) (from i : ℕ) (x old : In) (e : Entry) → IsKept st ends spare from → from ≤ i → i < sum st.dims → st.lent ≡ lent.Nothing →
-    ((j : ℕ) → from ≤ j → j < i → is_empty (in_at st j).parcel ≡ true) → old ≡ get_or st.ins i old → slice_get old.parcel.untaken 0 ≡ Some e → x ≡ record old { parcel = with_first_taken old.parcel } →
+-- the taking of items of the last hop
+pub taken_kept : (st : State) (ends : List Bool) (spare : Option Contents) (from i : ℕ) (x : In) → IsKept st ends spare from → from ≤ i → i < sum st.dims → st.lent ≡ lent.Nothing →
+    ((j : ℕ) → from ≤ j → j < i → is_empty (in_at st j).parcel ≡ true) → IsIn st.dims st.cap (hop_to st.dims i) x → IsSome x.parcel.back →
     IsKept (in_written st i x st.lent (Some i)) ends spare i
-pull_kept st ends spare from i x old e k low q home none read head wrote =
+taken_kept st ends spare from i x k low q home none f back =
     let s = k.standing in
-    let here = in_here st i old s q read in
     let last : hop_to st.dims i ≡ length st.dims = hop_last st i s (omega (arith, low, k.from_low)) q in
-    let f : IsIn st.dims st.cap (hop_to st.dims i) old = subst (IsIn st.dims st.cap (hop_to st.dims i)) (sym here) (in_fact st i s q) in
     let n : i < length st.ins = omega (arith, s.all_ins, q) in
     record {
-      standing = state_in st i x st.lent (Some i) s q
-          (in_taken st.dims st.cap (hop_to st.dims i) old x e f wrote head (head_fair st.dims st.cap (hop_to st.dims i) old e f head))
+      standing = state_in st i x st.lent (Some i) s q f
           (inl last)
           (λ j z. absurd (out_not_nothing j (sym (sym home ∙ z))))
           (λ j z. absurd (in_not_nothing j (sym (sym home ∙ z))))
           (λ j z. subst (CanUnpull (in_written st i x st.lent (Some i))) (same_number i j z) (record {
             within = q;
             last_hop = last;
-            back = ap (λ y. is_some y.parcel.back) (get_or-set_same st.ins i x no_in n ∙ wrote) ∙ ap is_some head;
+            back = ap (λ y. is_some y.parcel.back) (get_or-set_same st.ins i x no_in n) ∙ back;
           }));
       ends_all = k.ends_all;
       ends_each = λ h d a b. k.ends_each h d a b ∙ sym (at_end_other st.dims st.ins st.done i x h q (omega arith) b (omega (arith, b, last)));
@@ -513,6 +510,18 @@ pull_kept st ends spare from i x old e k low q home none read head wrote =
       from_none = λ j a w. ap (λ y. is_empty y.parcel) (get_or-set_other st.ins i j x no_in (omega (arith, w)))
           ∙ elim (cases_lt j from) as (λ _. is_empty (in_at st j).parcel ≡ true) [ inl v ↦ k.from_none j a v | inr v ↦ none j v w ];
     }
+
+-- of one item
+pub pull_kept : (st : State) (ends : List Bool) (spare : Option Contents) (from i : ℕ) (x old : In) (e : Entry) → IsKept st ends spare from → from ≤ i → i < sum st.dims → st.lent ≡ lent.Nothing →
+    ((j : ℕ) → from ≤ j → j < i → is_empty (in_at st j).parcel ≡ true) → old ≡ get_or st.ins i old → slice_get old.parcel.untaken 0 ≡ Some e → x ≡ record old { parcel = with_first_taken old.parcel } →
+    IsKept (in_written st i x st.lent (Some i)) ends spare i
+pull_kept st ends spare from i x old e k low q home none read head wrote =
+    let s = k.standing in
+    let here = in_here st i old s q read in
+    let f : IsIn st.dims st.cap (hop_to st.dims i) old = subst (IsIn st.dims st.cap (hop_to st.dims i)) (sym here) (in_fact st i s q) in
+    taken_kept st ends spare from i x k low q home none
+    (in_taken st.dims st.cap (hop_to st.dims i) old x e f wrote head (head_fair st.dims st.cap (hop_to st.dims i) old e f head))
+    (ap (λ y. is_some y.parcel.back) wrote ∙ ap is_some head)
 
 -- nothing to take
 pub none_kept : (st : State) (ends : List Bool) (spare : Option Contents) (from i : ℕ) → IsKept st ends spare from → from ≤ i → i ≤ sum st.dims → ((j : ℕ) → from ≤ j → j < i → is_empty (in_at st j).parcel ≡ true) → IsKept (record st { pulled = None }) ends spare i

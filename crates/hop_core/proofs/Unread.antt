@@ -1,11 +1,12 @@
 use Rattle.std.proofs.Common.{ℕ, zero, suc, ◌≡◌, ◌+◌, ◌-◌, ◌<◌, ◌≤◌, Bool, true, false, List, [], ◌∷◌, length, drop, get_or, sum, slice_get, Option, Some, None, arith, refl, sym, ap, subst, ◌∙◌, inl, inr, eqb}
 use Rattle.std.specs.Option.{option_map}
-use Rattle.std.proofs.lemmas.Bool.{cases_lt, cond-true, cond-false, false≢true}
+use Rattle.std.proofs.lemmas.Bool.{cases_lt, cases_Bool, cond-true, cond-false, false≢true}
 use Rattle.std.proofs.lemmas.List.{get_or-take, get_or-drop, length-take, length-drop, take_all}
+use Rattle.std.proofs.lemmas.Option.{same_Some}
 use Rattle.bale_types.specs.declared.item.Entry.{Entry}
 use Rattle.bale_types.specs.declared.item.Item.{Item}
 use Rattle.item_buffer.specs.Contents.{Contents}
-use Rattle.route_tensor.specs.Grid.{dim}
+use Rattle.route_tensor.specs.Grid.{dim, IsGrid}
 use Rattle.route_tensor.specs.Link.{links_before}
 use Rattle.route_tensor.specs.Neighbour.{neighbour, hop_to}
 use Rattle.route_tensor.specs.Tag.{sender_of, IsFair}
@@ -35,33 +36,93 @@ record LastHop (st : State) : Type 0 where
   low : links_before st.dims (length st.dims) ≤ sum st.dims
   at : (m : ℕ) → m < sum st.dims - links_before st.dims (length st.dims) → get_or (ins_of_hop st.dims st.ins (length st.dims)) m no_in ≡ in_at st (links_before st.dims (length st.dims) + m)
 
-last_hop_of : (st : State) → IsState st → LastHop st
-last_hop_of st s =
+last_hop_of : (st : State) → IsGrid st.dims → length st.ins ≡ sum st.dims → LastHop st
+last_hop_of st g all =
     let k = length st.dims in
     let b = links_before st.dims k in
     let d = dim st.dims k in
-    let n : sum st.dims ≡ b + d = sym (ap sum (take_all k st.dims (omega arith))) ∙ before_more st.dims k s.grid.some (omega arith) in
+    let n : sum st.dims ≡ b + d = sym (ap sum (take_all k st.dims (omega arith))) ∙ before_more st.dims k g.some (omega arith) in
     record {
-      count = omega (arith, length-take d (drop b st.ins), length-drop b st.ins, s.all_ins, n);
+      count = omega (arith, length-take d (drop b st.ins), length-drop b st.ins, all, n);
       low = omega (arith, n);
       at = λ m q. get_or-take d (drop b st.ins) m no_in (omega (arith, q, n)) ∙ get_or-drop b st.ins m no_in;
     }
 
-pub unread_some : (st : State) (r : ℕ) → IsState st → links_before st.dims (length st.dims) ≤ r → r < sum st.dims → ((j : ℕ) → links_before st.dims (length st.dims) ≤ j → j < r → is_empty (in_at st j).parcel ≡ true) →
+pub unread_is : (st : State) (r : ℕ) → IsGrid st.dims → length st.ins ≡ sum st.dims → links_before st.dims (length st.dims) ≤ r → r < sum st.dims → ((j : ℕ) → links_before st.dims (length st.dims) ≤ j → j < r → is_empty (in_at st j).parcel ≡ true) →
     is_empty (in_at st r).parcel ≡ false → lowest_unread st ≡ Some r
-unread_some st r s low high none some =
+unread_is st r g all low high none some =
     let b = links_before st.dims (length st.dims) in
-    let l = last_hop_of st s in
+    let l = last_hop_of st g all in
     let e : b + (r - b) ≡ r = omega (arith, low) in
     lowest_some b (ins_of_hop st.dims st.ins (length st.dims)) (r - b) (omega (arith, l.count, low, high))
     (λ m q. ap (λ y. is_empty y.parcel) (l.at m (omega (arith, q, high, low))) ∙ none (b + m) (omega arith) (omega (arith, q, low)))
     (ap (λ y. is_empty y.parcel) (l.at (r - b) (omega (arith, high, low)) ∙ ap (in_at st) e) ∙ some)
     ∙ ap Some e
 
+pub unread_some : (st : State) (r : ℕ) → IsState st → links_before st.dims (length st.dims) ≤ r → r < sum st.dims → ((j : ℕ) → links_before st.dims (length st.dims) ≤ j → j < r → is_empty (in_at st j).parcel ≡ true) →
+    is_empty (in_at st r).parcel ≡ false → lowest_unread st ≡ Some r
+unread_some st r s low high none some = unread_is st r s.grid s.all_ins low high none some
+
+-- what a lowest one is
+record Lowest (i : ℕ) (xs : List In) (r : ℕ) : Type 0 where
+  low : i ≤ r
+  high : r < i + length xs
+  none : (m : ℕ) → i + m < r → is_empty (get_or xs m no_in).parcel ≡ true
+  some : is_empty (get_or xs (r - i) no_in).parcel ≡ false
+
+lowest_later : (i : ℕ) (x : In) (xs : List In) (r : ℕ) → is_empty x.parcel ≡ true → Lowest (suc i) xs r → Lowest i (x ∷ xs) r
+lowest_later i x xs r empty l = record {
+  low = omega (arith, l.low);
+  high = omega (arith, l.high);
+  none = later_none i x xs r empty l;
+  some = let e : r - i ≡ suc (r - suc i) = omega (arith, l.low) in ap (λ m. is_empty (get_or (x ∷ xs) m no_in).parcel) e ∙ l.some;
+}
+  where
+    later_none : (i : ℕ) (x : In) (xs : List In) (r : ℕ) → is_empty x.parcel ≡ true → Lowest (suc i) xs r → (m : ℕ) → i + m < r → is_empty (get_or (x ∷ xs) m no_in).parcel ≡ true
+    later_none i x xs r empty l zero h = empty
+    later_none i x xs r empty l (suc m) h = l.none m (omega (arith, h))
+
+lowest_is : (i : ℕ) (xs : List In) (r : ℕ) → lowest i xs ≡ Some r → Lowest i xs r
+unfolding lowest
+lowest_is i [] r h = absurd (cc)
+lowest_is i (x ∷ xs) r h = elim (cases_Bool (is_empty x.parcel)) [
+  | inl e ↦ lowest_later i x xs r e (lowest_is (suc i) xs r (sym (cond-true _ _ _ e) ∙ h))
+  | inr e ↦
+      let same : i ≡ r = same_Some i r (sym (cond-false _ _ _ e) ∙ h) in
+      subst (Lowest i (x ∷ xs)) same (record {
+        low = omega arith;
+        high = omega arith;
+        none = λ m w. absurd (omega (arith, w));
+        some = let z : i - i ≡ 0 = omega arith in ap (λ m. is_empty (get_or (x ∷ xs) m no_in).parcel) z ∙ e;
+      })
+]
+
+-- the lowest link in of the last hop that has an unread item
+pub record Unread (st : State) (r : ℕ) : Type 0 where
+  pub low : links_before st.dims (length st.dims) ≤ r
+  pub high : r < sum st.dims
+  pub none : (j : ℕ) → links_before st.dims (length st.dims) ≤ j → j < r → is_empty (in_at st j).parcel ≡ true
+  pub some : is_empty (in_at st r).parcel ≡ false
+
+pub unread_at : (st : State) (r : ℕ) → IsState st → lowest_unread st ≡ Some r → Unread st r
+unread_at st r s h =
+    let b = links_before st.dims (length st.dims) in
+    let l = last_hop_of st s.grid s.all_ins in
+    let w = lowest_is b (ins_of_hop st.dims st.ins (length st.dims)) r h in
+    let back : b + (r - b) ≡ r = omega (arith, w.low) in
+    record {
+      low = w.low;
+      high = omega (arith, w.high, w.low, l.count, l.low);
+      none = λ j a z.
+          let e : b + (j - b) ≡ j = omega (arith, a) in
+          ap (λ m. is_empty (in_at st m).parcel) (sym e) ∙ (sym (ap (λ y. is_empty y.parcel) (l.at (j - b) (omega (arith, a, z, w.high, l.count)))) ∙ w.none (j - b) (omega (arith, a, z)));
+      some = ap (λ m. is_empty (in_at st m).parcel) (sym back) ∙ (sym (ap (λ y. is_empty y.parcel) (l.at (r - b) (omega (arith, w.low, w.high, l.count)))) ∙ w.some);
+    }
+
 pub unread_none : (st : State) → IsState st → ((j : ℕ) → links_before st.dims (length st.dims) ≤ j → j < sum st.dims → is_empty (in_at st j).parcel ≡ true) → lowest_unread st ≡ None
 unread_none st s none =
     let b = links_before st.dims (length st.dims) in
-    let l = last_hop_of st s in
+    let l = last_hop_of st s.grid s.all_ins in
     lowest_none b (ins_of_hop st.dims st.ins (length st.dims))
     (λ m q. ap (λ y. is_empty y.parcel) (l.at m (omega (arith, q, l.count))) ∙ none (b + m) (omega arith) (omega (arith, q, l.count)))
 

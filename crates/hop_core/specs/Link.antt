@@ -1,7 +1,7 @@
 -- The links of one rank, as contracts see them.
 use Rattle.std.specs.Prelude.{ℕ, Bool, false, ◌==◌, ◌&&◌, ◌||◌, not, length, slice_get, drop, Option, Some, None, ◌+◌, ◌-◌, ◌∷◌, ◌++◌, []}
 use Rattle.bale_types.specs.declared.item.Entry.{Entry}
-use Rattle.item_buffer.specs.Contents.{Contents, blank}
+use Rattle.item_buffer.specs.Contents.{Contents, blank, skipped}
 
 -- A link out: its open parcel, and whether it is closed, that is, its last parcel of this epoch was sent.
 pub record Out : Type 0 where
@@ -49,3 +49,8 @@ with_first_taken c = record c { untaken = drop 1 c.untaken; back = slice_get c.u
 abbrev pub with_back : Option Entry → Contents → Contents
 with_back None c = c
 with_back (Some e) c = record c { untaken = e ∷ c.untaken; back = None; taken = c.taken - 1 }
+
+-- A link in of which the first n untaken entries were taken, one after the other.
+-- Of an inbox [x, y, z] two leave [z].
+abbrev pub read_on : ℕ → In → In
+read_on n x = record x { parcel = skipped n x.parcel }

@@ -1,5 +1,5 @@
 -- One rank's buffers, marks and phase, and what follows from them.
-use Rattle.std.specs.Prelude.{ℕ, suc, Bool, false, ◌-◌, ◌==◌, not, if◌then◌else◌, List, [], ◌∷◌, length, take, drop, slice_get, slice_set, slice_index_or, Option, Some, None}
+use Rattle.std.specs.Prelude.{ℕ, zero, suc, Bool, false, ◌-◌, ◌==◌, not, if◌then◌else◌, List, [], ◌∷◌, length, take, drop, slice_get, slice_set, slice_index_or, Option, Some, None}
 use Rattle.std.specs.List.{list_all}
 use Rattle.std.specs.Option.{option_map}
 use Rattle.bale_types.specs.declared.item.Item.{Item}
@@ -87,6 +87,12 @@ pull_from st (Some i) = first_item st i
 abbrev pub pulled_from : State → Option ℕ → State
 pulled_from st None = record st { pulled = None }
 pulled_from st (Some i) = record st { ins = slice_set st.ins i (record (in_at st i) { parcel = with_first_taken (in_at st i).parcel }); pulled = Some i }
+
+-- What n pulls leave, one after the other.
+-- Of the inboxes [], [x, y], [z] two leave [z], and three nothing.
+abbrev pub pulls : ℕ → State → State
+pulls zero st = st
+pulls (suc n) st = pulled_from (pulls n st) (lowest_unread (pulls n st))
 
 -- What an unpull leaves: the item pulled last is the first one of its inbox again.
 abbrev pub unpulled : State → Option ℕ → State

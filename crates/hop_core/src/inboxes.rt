@@ -4,7 +4,7 @@ ghost use Rattle.std.specs.Prelude.{◌≡◌, ℕ, ◌+◌, ◌-◌, ◌^◌, �
 ghost use Rattle.std.specs.List.{list_all};
 ghost use Rattle.hop_core.specs.State.{ins_of_hop, resumed};
 ghost use Rattle.item_buffer.specs.Contents.{blank};
-ghost use Rattle.hop_core.specs.Link.{no_in, is_empty, is_wanted, is_finished, with_first_taken, with_back};
+ghost use Rattle.hop_core.specs.Link.{no_in, is_empty, is_wanted, is_finished, with_first_taken, with_back, read_on};
 
 use bale_types::{Entry, NoMemory};
 use item_buffer::Parcel;
@@ -58,6 +58,23 @@ impl<const CAP: usize> InLink<CAP> {
         ensures none { result ≡ None → self.new ≡ self.old }
     {
         self.parcel.take()
+    }
+
+    /// The untaken entries, in order.
+    #[inline]
+    pub fn unread(&self) -> &[Entry]
+        ensures { result.now ≡ self.now.parcel.untaken }
+    {
+        self.parcel.untaken()
+    }
+
+    /// Takes the first `count` untaken entries.
+    #[inline]
+    pub fn skip(&mut self, count: usize)
+        requires { count ≤ length self.old.parcel.untaken }
+        ensures { self.new ≡ read_on count self.old }
+    {
+        self.parcel.skip(count);
     }
 
     /// Puts the entry taken last back in front.

@@ -25,6 +25,7 @@
 //! | `wants`, `lend_in`, `note_got` | whether an inbox is to be filled; hands it out, takes it back |
 //! | `relay` | passes entries on from one hop to the next |
 //! | `pull`, `unpull` | the next item that came, with its sender; puts it back |
+//! | `unread`, `batch`, `sender_of`, `pull_all` | the items of one inbox at once, as so many pulls would give them |
 //! | `begin`, `set_done`, `settle`, `reset` | the epoch's course |
 //!
 //! No call after `RankState::new` takes memory.

@@ -4,7 +4,7 @@ ghost use Rattle.std.specs.Prelude.{◌≡◌, ◌≢◌, ℕ, ◌+◌, ◌-◌,
 ghost use Rattle.list_laws.specs.Lists.{EachAt};
 ghost use Rattle.route_tensor.specs.Grid.{IsGrid};
 ghost use Rattle.route_tensor.specs.Neighbour.{hop_to};
-ghost use Rattle.hop_core.specs.Link.{no_out, no_in, is_finished};
+ghost use Rattle.hop_core.specs.Link.{no_out, no_in, is_finished, read_on};
 ghost use Rattle.hop_core.specs.Standing.{IsOut, IsIn};
 ghost use Rattle.hop_core.specs.Relay.{PassesOn, held_by, AddsToHop, TakesFromHop, IsStopped, waiting};
 ghost use Rattle.route_tensor.specs.Pair.{PassesThrough};
@@ -39,10 +39,36 @@ pub fn relay_link<const CAP: usize>(
     ensures ended { link.new.ended ≡ link.old.ended }
     ensures stopped { IsStopped routes.now.dims CAP (hop_to routes.now.dims i) outs.new.items link.new }
 {
+    let count = pass_on(routes, outs, link, i);
+    link.skip(count);
+    count as u64
+}
+
+/// Appends the entries of link in number `i` to the open parcels of their next links, in order, until all are there or
+/// the open parcel of the next one is full. Answers how many it appended; they are still to be taken.
+fn pass_on<const CAP: usize>(
+    routes: &Routes,
+    outs: &mut Vec<OutLink<CAP>>,
+    link: &InLink<CAP>,
+    i: u32,
+) -> usize
+    requires number { i < sum routes.now.dims }
+    requires hop { hop_to routes.now.dims i < length routes.now.dims }
+    requires all { length outs.old.items ≡ sum routes.now.dims }
+    requires each { EachAt (λ o out. IsOut routes.now.dims CAP (hop_to routes.now.dims o) out) outs.old.items }
+    requires link { IsIn routes.now.dims CAP (hop_to routes.now.dims i) link.now }
+    requires not_closed { (o : ℕ) → hop_to routes.now.dims o ≡ hop_to routes.now.dims i + 1 → 0 < length link.now.parcel.untaken → (slice_index_or outs.old.items o no_out).closed ≡ false }
+    ensures each { EachAt (λ o out. IsOut routes.now.dims CAP (hop_to routes.now.dims o) out) outs.new.items }
+    ensures link { IsIn routes.now.dims CAP (hop_to routes.now.dims i) (read_on result link.now) }
+    ensures passes_on { PassesOn routes.now.dims routes.now.rank (hop_to routes.now.dims i) i outs.old.items outs.new.items link.now (read_on result link.now) }
+    ensures adds { AddsToHop routes.now.dims (hop_to routes.now.dims i + 1) outs.old.items outs.new.items }
+    ensures within { result ≤ length link.now.parcel.untaken }
+    ensures stopped { IsStopped routes.now.dims CAP (hop_to routes.now.dims i) outs.new.items (read_on result link.now) }
+{
     let _neighbours = routes.neighbours();
     let from = routes.neighbour(i);
     let mut count = 0;
-    while let Some(entry) = link.take() {
+    for entry in link.unread() {
         let step = from.passed_on(entry.tag);
         let Item { a, b, c } = entry.item;
         let passed = Entry {
@@ -50,8 +76,7 @@ pub fn relay_link<const CAP: usize>(
             item: Item { a, b, c },
         };
         if !outs[step.out as usize].push(passed) {
-            link.untake();
-            break;
+            return count;
         }
         count += 1;
     }

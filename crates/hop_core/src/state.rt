@@ -8,8 +8,9 @@ ghost use Rattle.route_tensor.specs.Link.{links};
 ghost use Rattle.route_tensor.specs.Ends.{hop_at, sender_at, reader_at};
 ghost use Rattle.route_tensor.specs.Neighbour.{hop_to, neighbour, out_index, in_index};
 ghost use Rattle.route_tensor.specs.Tag.{IsFair, tag_at, sender_of};
+ghost use Rattle.route_tensor.specs.Routes.{first_step};
 ghost use Rattle.hop_core.specs.Link.{Out, In, no_out, no_in, is_due, is_wanted, with_entry};
-ghost use Rattle.hop_core.specs.State.{out_at, in_at, with_out, with_in, at_end, phase_of, lowest_unread, pull_from, pulled_from, unpulled, reopened, resumed};
+ghost use Rattle.hop_core.specs.State.{out_at, in_at, with_out, with_in, at_end, phase_of, lowest_unread, pull_from, pulled_from, pulls, unpulled, reopened, resumed};
 ghost use Rattle.hop_core.specs.Relay.{held, AddsToHop, TakesFromHop, IsStopped, waiting};
 ghost use Rattle.route_tensor.specs.Pair.{PassesThrough};
 
@@ -20,7 +21,7 @@ use crate::phase::{Phase, Pushed};
 use crate::relay::relay_hop;
 use bale_types::{Entry, Item, NoMemory, Tag};
 use item_buffer::Parcel;
-use route_tensor::{Grid, Routes};
+use route_tensor::{Grid, Onward, Routes};
 use std::alloc::Global;
 use std::marker::Model;
 
@@ -188,7 +189,7 @@ impl<const CAP: usize, const HOPS: usize> RankState<CAP, HOPS> {
         ensures unchanged { result ≡ Pushed.Full → self.new ≡ record self.old { pulled = None } }
     {
         self.pulled = None;
-        let step = self.routes.first(to);
+        let step = first_of::<HOPS>(&self.routes, to);
         let entry = Entry {
             tag: step.tag,
             item,
@@ -380,6 +381,64 @@ impl<const CAP: usize, const HOPS: usize> RankState<CAP, HOPS> {
         Some((sender::<HOPS>(&self.routes, from, entry.tag), entry.item))
     }
 
+    /// The link in of the last hop from which the next pull takes, by the number of its neighbour: the lowest one that has
+    /// an unread item.
+    #[inline]
+    pub fn unread(&mut self) -> Option<u32>
+        requires home { self.old.lent ≡ Lent.Nothing }
+        requires begun { self.old.phase ≢ Phase.Dormant }
+        ensures value { result ≡ lowest_unread self.old }
+        ensures state { self.new ≡ record self.old { pulled = None } }
+    {
+        self.pulled = None;
+        match first_unread(&self.ins, self.from) {
+            Some(number) => {
+                self.from = number;
+                Some(number)
+            }
+            None => {
+                self.from = self.routes.neighbours();
+                None
+            }
+        }
+    }
+
+    /// The unread entries of the link in from which the next pull takes, in order: so many pulls give their items.
+    #[inline]
+    pub fn batch(&self, number: u32) -> &[Entry]
+        requires lowest { lowest_unread self.now ≡ Some number }
+        ensures value { result.now ≡ (in_at self.now number).parcel.untaken }
+        ensures within { number < sum self.now.dims }
+        ensures last { hop_to self.now.dims number ≡ length self.now.dims }
+        ensures fair { All (λ e. IsFair self.now.dims (length self.now.dims) e.tag) result.now }
+    {
+        self.ins[number as usize].unread()
+    }
+
+    /// The sender of an entry that came with this tag on the last hop, from neighbour number `number`.
+    #[inline]
+    pub fn sender_of(&self, number: u32, tag: Tag) -> u32
+        requires number { number < sum self.now.dims }
+        requires last { hop_to self.now.dims number ≡ length self.now.dims }
+        requires fair { IsFair self.now.dims (length self.now.dims) tag }
+        ensures { result ≡ sender_of self.now.dims tag (length self.now.dims) (neighbour self.now.dims self.now.rank number) }
+    {
+        sender::<HOPS>(&self.routes, number, tag)
+    }
+
+    /// Pulls all unread items of the link in from which the next pull takes.
+    pub fn pull_all(&mut self, number: u32)
+        requires home { self.old.lent ≡ Lent.Nothing }
+        requires begun { self.old.phase ≢ Phase.Dormant }
+        requires lowest { lowest_unread self.old ≡ Some number }
+        ensures { self.new ≡ pulls (length (in_at self.old number).parcel.untaken) self.old }
+    {
+        let count = self.ins[number as usize].unread().len();
+        self.ins[number as usize].skip(count);
+        self.from = number;
+        self.pulled = Some(number);
+    }
+
     /// Puts the item back that the latest call pulled, if that call was a pull that gave one.
     pub fn unpull(&mut self) -> bool
         requires home { self.old.lent ≡ Lent.Nothing }
@@ -461,6 +520,42 @@ impl<const CAP: usize, const HOPS: usize> RankState<CAP, HOPS> {
         self.ends = ends;
         self.phase = Phase::Dormant;
         self.epoch += 1;
+    }
+}
+
+/// Where an entry for `to` goes first: on one hop to that rank itself, by no table and with a tag of zeros.
+#[inline]
+fn first_of<const HOPS: usize>(routes: &Routes, to: u32) -> Onward
+    requires hops { length routes.now.dims ≡ HOPS }
+    requires to { to < ranks routes.now.dims }
+    ensures value { result ≡ first_step routes.now.dims routes.now.rank to }
+    ensures fair { IsFair routes.now.dims 1 result.tag }
+    ensures below { result.out < sum routes.now.dims }
+{
+    if HOPS == 1 {
+        straight_to(routes, to)
+    } else {
+        routes.first(to)
+    }
+}
+
+/// On one hop an entry goes straight to its destination, and its tag has no digits.
+#[inline]
+fn straight_to(routes: &Routes, to: u32) -> Onward
+    requires one { length routes.now.dims ≡ 1 }
+    requires to { to < ranks routes.now.dims }
+    ensures value { result ≡ first_step routes.now.dims routes.now.rank to }
+    ensures fair { IsFair routes.now.dims 1 result.tag }
+    ensures below { result.out < sum routes.now.dims }
+{
+    let _grid = routes.neighbours();
+    Onward {
+        out: to,
+        tag: Tag {
+            d1: 0,
+            d2: 0,
+            d3: 0,
+        },
     }
 }
 

@@ -1,5 +1,5 @@
 -- What contracts see of a parcel, and what a link's log keeps of one.
-use Rattle.std.specs.Prelude.{◌≡◌, ℕ, Bool, false, List, [], Option, None}
+use Rattle.std.specs.Prelude.{◌≡◌, ℕ, ◌+◌, ◌-◌, ◌==◌, Bool, false, if◌then◌else◌, List, [], drop, slice_get, Option, None}
 use Rattle.bale_types.specs.declared.item.Entry.{Entry}
 
 -- A parcel: the entries that nobody took yet, its two marks, the entry that `untake` would put back, and
@@ -34,3 +34,12 @@ arrived s = record { untaken = s.entries; last = s.last; epoch = s.epoch; back =
 -- The empty fresh parcel of an epoch, not marked last.
 abbrev pub blank : ℕ → Contents
 blank epoch = record { untaken = []; last = false; epoch = epoch; back = None; taken = 0 }
+
+-- A parcel after its first n untaken entries were taken, one after the other.
+-- Of [x, y, z] two leave [z], and y to be put back; none leaves the parcel as it was.
+abbrev pub skipped : ℕ → Contents → Contents
+skipped n c = record c {
+  untaken = drop n c.untaken;
+  back = (if n == 0 then c.back else slice_get c.untaken (n - 1));
+  taken = c.taken + n;
+}

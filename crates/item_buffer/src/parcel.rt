@@ -1,8 +1,7 @@
 //! The parcel, for whoever fills, carries or empties one: ports, inboxes and open parcels.
 ghost use Rattle.std.specs.Prelude.{◌≡◌, ◌+◌, ◌-◌, ◌<◌, ◌≤◌, ◌==◌, [], ◌∷◌, ◌++◌, length, slice_get, IsSome, IfSome, IfNone, OnSome, IfOk, true, false};
-ghost use Rattle.item_buffer.specs.Contents.{Contents, blank};
+ghost use Rattle.item_buffer.specs.Contents.{Contents, blank, skipped};
 
-use arrayvec::ArrayVec;
 use bale_types::{Entry, NoMemory};
 use std::alloc::Global;
 use std::marker::Model;
@@ -11,9 +10,8 @@ use std::marker::Model;
 /// with two marks for their reader: whether the parcel is the last of its epoch, and the epoch.
 #[derive(Drop)]
 pub struct Parcel<const CAP: usize> {
-    /// A place for each entry, always full, so that a clear writes no place; boxed, so that a move of the parcel
-    /// moves no entry.
-    places: Box<ArrayVec<Entry, CAP>>,
+    /// `CAP` places, always full, so that a clear writes no place. A move of the parcel moves no entry.
+    places: Vec<Entry>,
     /// How many of the places, from the first one on, hold an entry pushed since the last clear.
     pushed: usize,
     /// How many of those entries are taken.
@@ -33,14 +31,14 @@ impl<const CAP: usize> Model for Parcel<CAP> {
     ghost Value = { Contents };
 
     ghost view = { λ p. record {
-      untaken = drop p.taken (take p.pushed p.places.value.items);
+      untaken = drop p.taken (take p.pushed p.places.items);
       last = p.last;
       epoch = p.epoch;
-      back = (if p.can_untake then slice_get (take p.pushed p.places.value.items) (p.taken - 1) else None);
+      back = (if p.can_untake then slice_get (take p.pushed p.places.items) (p.taken - 1) else None);
       taken = p.taken;
     } };
 
-    ghost invariant = { λ p. (CAP ≤ 1024) × (length p.places.value.items ≡ CAP) × (p.pushed ≤ CAP) × (p.taken ≤ p.pushed)
+    ghost invariant = { λ p. (CAP ≤ 1024) × (length p.places.items ≡ CAP) × (p.pushed ≤ CAP) × (p.taken ≤ p.pushed)
         × (p.can_untake ≡ true → 0 < p.taken) };
 }
 
@@ -51,8 +49,10 @@ impl<const CAP: usize> Parcel<CAP> {
         requires small { CAP ≤ 1024 }
         ensures { IfOk result (λ p. p ≡ blank 0) }
     {
+        let mut places = Vec::with_capacity(alloc, CAP)?;
+        places.resize(CAP, Entry::default())?;
         Ok(Parcel {
-            places: Box::new(alloc, ArrayVec::from([Entry::default(); CAP]))?,
+            places,
             pushed: 0,
             taken: 0,
             can_untake: false,
@@ -107,7 +107,39 @@ impl<const CAP: usize> Parcel<CAP> {
         }
     }
 
-    /// Puts the entry that the latest `take` gave back in front of the untaken ones.
+    /// The untaken entries, in order.
+    #[inline]
+    pub fn untaken(&self) -> &[Entry]
+        ensures { result.now ≡ self.now.untaken }
+    {
+        &self.places[self.taken..self.pushed]
+    }
+
+    /// Takes the first `count` untaken entries, as so many calls of `take` would.
+    #[inline]
+    pub fn skip(&mut self, count: usize)
+        requires { count ≤ length self.old.untaken }
+        ensures { self.new ≡ skipped count self.old }
+    {
+        if count > 0 {
+            self.taken += count;
+            self.can_untake = true;
+        }
+    }
+
+    /// Appends copies of `entries`, for which there is room. None of the parcel's entries may be taken.
+    #[inline]
+    pub fn fill(&mut self, entries: &[Entry])
+        requires fresh { self.old.taken ≡ 0 }
+        requires room { length self.old.untaken + length entries.now ≤ CAP }
+        ensures { self.new ≡ record self.old { untaken = self.old.untaken ++ entries.now } }
+    {
+        let end = self.pushed + entries.len();
+        self.places[self.pushed..end].copy_from_slice(entries);
+        self.pushed = end;
+    }
+
+    /// Puts the entry that the latest `take` or `skip` took last back in front of the untaken ones.
     pub fn untake(&mut self)
         requires { IsSome self.old.back }
         ensures { (e : _) → self.old.back ≡ Some e → self.new ≡ record self.old {

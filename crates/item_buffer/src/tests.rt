@@ -43,3 +43,20 @@ fn parcel_of_three(rt: HostRuntime) -> Result<(), Fail> {
     assert_eq!(rt; (parcel.last(), parcel.head()), (false, None));
     Ok(())
 }
+
+/// By slices: two entries are filled in behind one, the first two are skipped, and the second of these comes back.
+#[test]
+fn parcel_by_slices(rt: HostRuntime) -> Result<(), Fail> {
+    let mut parcel = Parcel::<3>::new(rt.alloc())?;
+    assert!(rt; parcel.try_push(entry(7)));
+    parcel.fill(&[entry(8), entry(9)]);
+    assert_eq!(rt; parcel.untaken(), &[entry(7), entry(8), entry(9)][..]);
+    parcel.skip(2);
+    assert_eq!(rt;
+        (parcel.head(), parcel.untaken().len()),
+        (Some(entry(9)), 1)
+    );
+    parcel.untake();
+    assert_eq!(rt; parcel.untaken(), &[entry(8), entry(9)][..]);
+    Ok(())
+}

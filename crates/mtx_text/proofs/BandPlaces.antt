@@ -29,7 +29,7 @@ ordered_apart n p a b h l m e =
     let other = IsDistinct-IsPermutation eqb flips (range_with_len 0 n) p h start in
     false≢true (sym (apart_from_distinct eqb p a b 0 other l (omega arith)) ∙ eq-eqb (get_or p a 0) (get_or p b 0) e)
 
-injective : (n : ℕ) (p : List ℕ) (a b : ℕ) → Permutes n p → a < n → b < n → get_or p a 0 ≡ get_or p b 0 → a ≡ b
+pub injective : (n : ℕ) (p : List ℕ) (a b : ℕ) → Permutes n p → a < n → b < n → get_or p a 0 ≡ get_or p b 0 → a ≡ b
 injective n p a b h l m e =
     elim (cases_order a b) [
       | inl same ↦ same

@@ -68,6 +68,19 @@ impl Cells {
         Ok(())
     }
 
+    /// Raises the values to those of other cells.
+    ///
+    /// # Errors
+    ///
+    /// `NoMemory` where there was none; the cells are as before.
+    pub fn raise_all(&mut self, other: &Cells) -> Result<(), NoMemory>
+        ensures ok { OnOk result (self.new ≡ raised_all self.old other.now) }
+        ensures err { OnErr result (self.new ≡ self.old) }
+    {
+        self.triples.extend_from_slice(other.triples.as_slice())?;
+        Ok(())
+    }
+
     /// Puts the value `v` at row `i` and column `j`, where that place is new, and says whether it was; else
     /// nothing changes.
     ///

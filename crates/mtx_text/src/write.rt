@@ -23,6 +23,7 @@ pub fn write_matrix<K: Sink>(m: &Matrix, out: &mut Out<'_, K>) -> Result<(), Fai
     ensures read_again { length m.now.entries ≤ 262_144 → matrix_of (text_of m.now) ≡ Ok m.now }
     ensures cause { HasCause (K.faults out.old.sink.now) (K.faults out.new.sink.now) result }
     ensures never_falls { K.faults out.old.sink.now ≤ K.faults out.new.sink.now }
+    ensures grows { IsFront (K.taken out.old.sink.now) (K.taken out.new.sink.now) }
     ensures same_sink { out.new.sink.ghost_name ≡ out.old.sink.ghost_name }
 {
     let entries = m.entries();
@@ -37,6 +38,7 @@ fn write_banner<K: Sink>(out: &mut Out<'_, K>, kind: Kind) -> Result<(), Failed>
     ensures err { OnErr result (IsFront (K.taken out.new.sink.now) (after (appended K.taken out.old) (banner_text kind))) }
     ensures cause { HasCause (K.faults out.old.sink.now) (K.faults out.new.sink.now) result }
     ensures never_falls { K.faults out.old.sink.now ≤ K.faults out.new.sink.now }
+    ensures grows { IsFront (K.taken out.old.sink.now) (K.taken out.new.sink.now) }
     ensures same_sink { out.new.sink.ghost_name ≡ out.old.sink.ghost_name }
 {
     match kind {
@@ -50,6 +52,7 @@ fn write_sizes<K: Sink>(out: &mut Out<'_, K>, m: &Matrix) -> Result<(), Failed>
     ensures err { OnErr result (IsFront (K.taken out.new.sink.now) (after (appended K.taken out.old) (size_text m.now))) }
     ensures cause { HasCause (K.faults out.old.sink.now) (K.faults out.new.sink.now) result }
     ensures never_falls { K.faults out.old.sink.now ≤ K.faults out.new.sink.now }
+    ensures grows { IsFront (K.taken out.old.sink.now) (K.taken out.new.sink.now) }
     ensures same_sink { out.new.sink.ghost_name ≡ out.old.sink.ghost_name }
 {
     let mut line = Line::new();
@@ -71,6 +74,7 @@ fn write_entries<K: Sink>(
     ensures err { OnErr result (IsFront (K.taken out.new.sink.now) (after (appended K.taken out.old) (flat_map (entry_text kind) entries.now))) }
     ensures cause { HasCause (K.faults out.old.sink.now) (K.faults out.new.sink.now) result }
     ensures never_falls { K.faults out.old.sink.now ≤ K.faults out.new.sink.now }
+    ensures grows { IsFront (K.taken out.old.sink.now) (K.taken out.new.sink.now) }
     ensures same_sink { out.new.sink.ghost_name ≡ out.old.sink.ghost_name }
 {
     for t in entries {
@@ -85,6 +89,7 @@ fn write_entry<K: Sink>(out: &mut Out<'_, K>, kind: Kind, t: Triple) -> Result<(
     ensures err { OnErr result (IsFront (K.taken out.new.sink.now) (after (appended K.taken out.old) (entry_text kind t))) }
     ensures cause { HasCause (K.faults out.old.sink.now) (K.faults out.new.sink.now) result }
     ensures never_falls { K.faults out.old.sink.now ≤ K.faults out.new.sink.now }
+    ensures grows { IsFront (K.taken out.old.sink.now) (K.taken out.new.sink.now) }
     ensures same_sink { out.new.sink.ghost_name ≡ out.old.sink.ghost_name }
 {
     let mut line = Line::new();

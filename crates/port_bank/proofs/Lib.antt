@@ -12,5 +12,6 @@ pub mod Owners
 pub mod Ports
 pub mod Posts
 pub mod Listing
+pub mod Storing
 mod ByHand
 mod ByHops

@@ -5,5 +5,6 @@ pub mod Link
 pub mod Shapes
 pub mod Round
 pub mod Port
+pub mod Stored
 pub mod Plain
 pub mod Machine

@@ -25,7 +25,6 @@ use std::marker::Model;
 /// The links of a grid, with the parcels of capacity `CAP` that were posted on each.
 #[derive(Drop)]
 pub struct PlainBank<const CAP: usize> {
-    alloc: Global,
     grid: Grid,
     /// How many parcels of a link may be posted and not collected.
     slots: u32,
@@ -60,7 +59,6 @@ impl<const CAP: usize> PlainBank<CAP> {
             }
         }
         Ok(PlainBank {
-            alloc,
             grid: *grid,
             slots,
             links,
@@ -83,12 +81,7 @@ impl<const CAP: usize> PlainBank<CAP> {
         ensures round { result ≡ closed CAP self.entry }
         ensures in_order { IsRound result }
     {
-        let PlainBank {
-            alloc: _,
-            grid,
-            slots,
-            links,
-        } = self;
+        let PlainBank { grid, slots, links } = self;
         PlainRound::new(grid, CAP as u32, slots, links)
     }
 
@@ -117,7 +110,7 @@ impl<const CAP: usize> PlainBank<CAP> {
         ensures number { length self.old.channels ≡ links self.old.dims }
     {
         let _fits = p.len();
-        self.links[link as usize].post(self.alloc, self.slots, p)
+        self.links[link as usize].post(self.slots, p)
     }
 
     /// Collects the next parcel of a link, for the rank at which the link ends.

@@ -16,9 +16,11 @@ use std::marker::Model;
 /// The parcels of a link in the order in which they were posted, of which the first ones are collected.
 #[derive(Drop)]
 pub(crate) struct PlainLink {
-    parcels: Vec<Stored>,
+    parcels: Stored,
     /// How many of the parcels are collected.
     collected: usize,
+    /// How many entries those hold.
+    start: usize,
     /// How often the sender looked for room; this count and those below stand still at their last number.
     looks_out: u64,
     /// How often the reader looked.
@@ -30,21 +32,23 @@ pub(crate) struct PlainLink {
 }
 
 impl Model for PlainLink {
-    ghost use Rattle.std.specs.Prelude.{◌≤◌, take, length};
+    ghost use Rattle.std.specs.Prelude.{◌≡◌, ◌≤◌, take, length};
+    ghost use Rattle.std.specs.List.{sum_by};
     ghost use Rattle.port_bank.specs.Plain.{Channel};
 
     ghost Value = { Channel };
 
     ghost view = { λ c. record {
-      sent = c.parcels.items;
-      got = take c.collected c.parcels.items;
+      sent = c.parcels;
+      got = take c.collected c.parcels;
       looks_out = c.looks_out;
       looks_in = c.looks_in;
       listens = c.listens;
       noted = c.noted;
     } };
 
-    ghost invariant = { λ c. (c.collected ≤ length c.parcels.items) × (c.noted ≤ c.listens) };
+    ghost invariant = { λ c. (c.collected ≤ length c.parcels) × (c.noted ≤ c.listens)
+        × (c.start ≡ sum_by (λ s. length s.entries) (take c.collected c.parcels)) };
 }
 
 impl PlainLink {
@@ -53,8 +57,9 @@ impl PlainLink {
         ensures { result ≡ unused }
     {
         PlainLink {
-            parcels: Vec::new(alloc),
+            parcels: Stored::new(alloc),
             collected: 0,
+            start: 0,
             looks_out: 0,
             looks_in: 0,
             listens: 0,
@@ -65,11 +70,11 @@ impl PlainLink {
     /// Looks for room below the number of slots, and posts the parcel there, which is then empty.
     pub(crate) fn post<const CAP: usize>(
         &mut self,
-        alloc: Global,
         slots: u32,
         p: &mut Parcel<CAP>,
     ) -> Result<Posted, NoMemory>
-        requires { length self.old.sent ≤ length self.old.got + slots }
+        requires bound { length self.old.sent ≤ length self.old.got + slots }
+        requires epoch { p.old.epoch ≡ lasts self.old.sent }
         ensures sent { result ≡ Ok Posted.Sent → self.new ≡ posted self.old (shipped p.old) }
         ensures emptied { result ≡ Ok Posted.Sent → p.new ≡ blank p.old.epoch }
         ensures room { result ≡ Ok Posted.Sent → length self.old.sent < length self.old.got + slots }
@@ -83,18 +88,15 @@ impl PlainLink {
             self.looks_out = self.looks_out.saturating_add(1);
             return Ok(Posted::NoRoom);
         }
-        self.parcels.reserve(1)?;
-        let stored = Stored::of(alloc, p)?;
-        let Ok(()) = self.parcels.push(stored) else {
-            unreachable!()
-        };
+        self.parcels.append(p)?;
         self.looks_out = self.looks_out.saturating_add(1);
         Ok(Posted::Sent)
     }
 
+    #[tactic(auto, using(crate::proofs::Storing::one_taken))]
     /// Looks for the next parcel that is not collected, and puts a copy of it into the empty one.
     pub(crate) fn collect<const CAP: usize>(&mut self, p: &mut Parcel<CAP>) -> Collected
-        requires empty { p.old ≡ blank p.old.epoch }
+        requires empty { p.old ≡ blank (lasts self.old.got) }
         requires fits { All (λ s. length s.entries ≤ CAP) self.old.sent }
         ensures got { result ≡ Collected.Got → self.new ≡ collected self.old (shipped p.new) }
         ensures next { result ≡ Collected.Got → slice_get self.old.sent (length self.old.got) ≡ Some (shipped p.new) }
@@ -112,7 +114,7 @@ impl PlainLink {
         if self.collected == self.parcels.len() {
             return Collected::Nothing;
         }
-        self.parcels[self.collected].copy_into(p);
+        self.start = self.parcels.copy_into(self.collected, self.start, p);
         self.collected += 1;
         Collected::Got
     }
@@ -121,12 +123,6 @@ impl PlainLink {
     pub(crate) fn ended(&self) -> u64
         ensures { result ≡ lasts self.now.got }
     {
-        let mut ended = 0;
-        for stored in &self.parcels[..self.collected] {
-            if stored.last() {
-                ended += 1;
-            }
-        }
-        ended
+        self.parcels.lasts(self.collected)
     }
 }

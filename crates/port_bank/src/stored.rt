@@ -1,79 +1,121 @@
-//! Parcels as the plain bank keeps them, for good.
-ghost use Rattle.std.specs.Prelude.{◌≡◌, ◌+◌, ◌≤◌, ◌++◌, [], length, IfOk, OnOk, OnErr, vec_len, vec_capacity};
-ghost use Rattle.item_buffer.specs.Contents.{shipped, arrived, blank, Shipped};
+//! The parcels that were posted on a link of a plain bank, kept for good.
+ghost use Rattle.std.specs.Prelude.{◌≡◌, ◌+◌, ◌<◌, ◌≤◌, ◌++◌, [], ◌∷◌, length, take, slice_get, Some, OnOk, OnErr};
+ghost use Rattle.std.specs.List.{All, sum_by};
+ghost use Rattle.item_buffer.specs.Contents.{shipped, arrived, blank};
+ghost use Rattle.port_bank.specs.Logs.{lasts};
 
 use bale_types::{Entry, NoMemory};
 use item_buffer::Parcel;
 use std::alloc::Global;
 use std::marker::Model;
 
-/// A copy of a parcel that was posted.
+/// What is kept of a parcel beside its entries: 8 bytes.
+#[derive(Clone, Copy)]
+struct Mark {
+    /// How many entries it holds.
+    count: u32,
+    /// Whether it is the last of its epoch.
+    last: bool,
+}
+
+/// Copies of parcels, in the order in which they were posted. The epoch of each is the number of last ones before it.
 #[derive(Drop)]
 pub(crate) struct Stored {
+    /// The entries of all parcels, one parcel after the other.
     entries: Vec<Entry>,
-    last: bool,
-    epoch: u64,
+    marks: Vec<Mark>,
 }
 
 impl Model for Stored {
+    ghost use Rattle.std.specs.Prelude.{◌≡◌, List, length};
+    ghost use Rattle.std.specs.List.{sum_by};
     ghost use Rattle.item_buffer.specs.Contents.{Shipped};
+    ghost use Rattle.port_bank.specs.Stored.{parcels};
 
-    ghost Value = { Shipped };
+    ghost Value = { List Shipped };
 
-    ghost view = { λ s. record { entries = s.entries.items; last = s.last; epoch = s.epoch } };
+    ghost view = { λ s. parcels 0 s.entries.items s.marks.items };
+
+    ghost invariant = { λ s. sum_by (λ m. m.count) s.marks.items ≡ length s.entries.items };
 }
 
 impl Stored {
-    /// Moves what is in the parcel into a new one, and leaves the parcel empty.
-    pub(crate) fn of<const CAP: usize>(
-        alloc: Global,
-        p: &mut Parcel<CAP>,
-    ) -> Result<Stored, NoMemory>
-        ensures stored { IfOk result (λ s. s ≡ shipped p.old) }
+    /// No parcel.
+    pub(crate) fn new(alloc: Global) -> Self
+        ensures { result ≡ [] }
+    {
+        Stored {
+            entries: Vec::new(alloc),
+            marks: Vec::new(alloc),
+        }
+    }
+
+    /// The number of parcels.
+    pub(crate) fn len(&self) -> usize
+        ensures { result ≡ length self.now }
+    {
+        self.marks.len()
+    }
+
+    /// Moves what is in the parcel behind those that are there, and leaves the parcel empty.
+    ///
+    /// # Errors
+    /// `NoMemory` changes nothing.
+    pub(crate) fn append<const CAP: usize>(&mut self, p: &mut Parcel<CAP>) -> Result<(), NoMemory>
+        requires epoch { p.old.epoch ≡ lasts self.old }
+        ensures appended { OnOk result (self.new ≡ self.old ++ shipped p.old ∷ []) }
         ensures emptied { OnOk result (p.new ≡ blank p.old.epoch) }
+        ensures unchanged { OnErr result (self.new ≡ self.old) }
         ensures kept { OnErr result (p.new ≡ p.old) }
     {
-        let mut entries = Vec::with_capacity(alloc, p.len() as usize)?;
-        let (last, epoch) = (p.last(), p.epoch());
-        move_entries(p, &mut entries);
-        p.clear();
-        Ok(Stored {
-            entries,
-            last,
-            epoch,
-        })
-    }
-
-    /// Whether it is marked as the last of its epoch.
-    pub(crate) fn last(&self) -> bool
-        ensures { result ≡ self.now.last }
-    {
-        self.last
-    }
-
-    /// Puts a copy of it into an empty parcel.
-    pub(crate) fn copy_into<const CAP: usize>(&self, p: &mut Parcel<CAP>)
-        requires empty { p.old ≡ blank p.old.epoch }
-        requires fits { length self.now.entries ≤ CAP }
-        ensures { p.new ≡ arrived self.now }
-    {
-        for entry in &self.entries {
-            let _accepted = p.try_push(*entry);
-        }
-        p.set_last(self.last);
-        p.set_epoch(self.epoch);
-    }
-}
-
-/// Moves the untaken entries behind those that are there, for which there is room.
-fn move_entries<const CAP: usize>(p: &mut Parcel<CAP>, entries: &mut Vec<Entry>)
-    requires { vec_len entries.old + length p.old.untaken ≤ vec_capacity entries.old }
-    ensures moved { entries.new.items ≡ entries.old.items ++ p.old.untaken }
-    ensures epoch { p.new.epoch ≡ p.old.epoch }
-{
-    while let Some(entry) = p.take() {
-        let Ok(()) = entries.push(entry) else {
+        self.marks.reserve(1)?;
+        self.entries.extend_from_slice(p.untaken())?;
+        let mark = Mark {
+            count: p.len(),
+            last: p.last(),
+        };
+        let Ok(()) = self.marks.push(mark) else {
             unreachable!()
         };
+        p.clear();
+        Ok(())
+    }
+
+    /// Puts a copy of parcel `number`, whose first entry is entry number `start` of all, into an empty one. Answers the
+    /// number of the first entry after it.
+    pub(crate) fn copy_into<const CAP: usize>(
+        &self,
+        number: usize,
+        start: usize,
+        p: &mut Parcel<CAP>,
+    ) -> usize
+        requires number { number < length self.now }
+        requires start { start ≡ sum_by (λ s. length s.entries) (take number self.now) }
+        requires empty { p.old ≡ blank (lasts (take number self.now)) }
+        requires fits { All (λ s. length s.entries ≤ CAP) self.now }
+        ensures value { slice_get self.now number ≡ Some (shipped p.new) }
+        ensures arrived { p.new ≡ arrived (shipped p.new) }
+        ensures end { result ≡ start + length p.new.untaken }
+    {
+        let mark = self.marks[number];
+        let end = start + mark.count as usize;
+        let entries = &self.entries[start..end];
+        p.fill(entries);
+        p.set_last(mark.last);
+        end
+    }
+
+    /// How many of the first `count` parcels are marked last.
+    pub(crate) fn lasts(&self, count: usize) -> u64
+        requires { count ≤ length self.now }
+        ensures { result ≡ lasts (take count self.now) }
+    {
+        let mut lasts = 0;
+        for mark in &self.marks[..count] {
+            if mark.last {
+                lasts += 1;
+            }
+        }
+        lasts
     }
 }

@@ -1,6 +1,5 @@
 -- One more item is pulled, and absorbed.
-use Rattle.std.proofs.Common.{◌≡◌, ◌≢◌, ℕ, ◌+◌, ◌<◌, ◌==◌, ◌&&◌, Bool, false, cond, List, [], ◌∷◌, ◌++◌, length, slice_get, Option, Some, None, refl, sym, ap, subst, ◌∙◌, arith, get_or, set, sum_by, zero, suc, drop}
-use Rattle.std.proofs.lemmas.Bool.{eq-eqb, ne_eqb}
+use Rattle.std.proofs.Common.{◌≡◌, ℕ, ◌+◌, ◌<◌, Bool, List, [], ◌∷◌, length, slice_get, Option, Some, None, refl, sym, ap, subst, ◌∙◌, arith, get_or, set, sum_by, zero, suc, drop, ◌≤◌, add-one}
 use Rattle.std.proofs.Math.ListN.{get_or-map}
 use Rattle.std.proofs.lemmas.List.Sums.{sum_by-set}
 use Rattle.std.proofs.Math.Seq.{map-set_same}
@@ -11,21 +10,9 @@ use Rattle.route_tensor.specs.Neighbour.{neighbour, in_index}
 use Rattle.route_tensor.specs.Tag.{sender_of}
 use Rattle.hop_core.specs.Link.{In, no_in, with_first_taken}
 use Rattle.hop_core.specs.Relay.{waiting}
-use Rattle.hop_core.specs.State.{State, in_at, lowest_unread, pull_from, pulled_from}
-use Rattle.port_bank.specs.Machine.{Part, IsOwnStep}
-use Rattle.port_bank.specs.Machine.Step.{Pull, Idle}
-use Rattle.round_program.specs.Rules.{Rules}
-use Rattle.round_program.specs.Laws.{Laws, fits}
-use Rattle.round_program.specs.Orders.{after_pulls}
-use Rattle.round_program.proofs.Orders.{one_more_pull, pulls_same, fits_same}
-use Rattle.rank_group.specs.RowParts.{HasDone}
-use Rattle.route_tensor.specs.Grid.{ranks}
-use Rattle.port_bank.specs.Logs.{Logs}
-use Rattle.hop_core.specs.declared.phase.Phase.TheVariants.{Dormant}
-use Rattle.convey.specs.Buffers.{buffers_of, in_of}
-use Rattle.convey.specs.Conveyors.{AgreesWith, KeepsAgreement, IsStepOf}
-use Rattle.convey.specs.Parts.{part_of}
-use Rattle.rank_group.specs.RowPulls.{SameEnds}
+use Rattle.hop_core.specs.State.{State, in_at, lowest_unread, pull_from, pulled_from, pulls}
+use Rattle.convey.specs.Conveyors.{GivesNext}
+use Rattle.rank_group.specs.Pulls.{SameEnds}
 
 -- a link in whose inbox changes has ended where it had
 ends_set : (ins : List In) (i j : ℕ) (y : In) → y.ended ≡ (get_or ins i no_in).ended → (get_or (set ins i y) j no_in).ended ≡ (get_or ins j no_in).ended
@@ -62,85 +49,12 @@ fewer_from st (Some i) p is =
     let less : length (drop 1 xs) + 1 ≡ length xs = drop_first xs some in
     omega (arith, e, less)
 
--- what a Pull leaves, where its item was absorbed
-pub pull_on : {S : Type 0} (R : Rules S) → Laws R → (p : ℕ) (start prog prog' : S) (next from : ℕ) (x : Item) (spoiled spoiled' : Bool) (part part' : Part) → from < p
-    → R.emissions prog' ≡ R.emissions prog → (spoiled' ≡ false → spoiled ≡ false) → (spoiled' ≡ false → prog' ≡ cond (fits R prog from x) (R.absorbed prog from x) prog)
-    → IsOwnStep (Pull from x) part part' → HasDone R p start prog next spoiled part → HasDone R p start prog' next spoiled' part'
-pull_on R laws p start prog prog' next from x spoiled spoiled' part part' below emissions unspoiled absorbed step is =
-    subst (HasDone R p start prog' next spoiled') (sym step.is)
-    (record {
-      valid = is.valid;
-      emissions = emissions ∙ is.emissions;
-      next_low = is.next_low;
-      all_pushed = is.all_pushed;
-      pushed = is.pushed;
-      absorbed = λ still.
-          let e = part.epoch in
-          let was : prog ≡ after_pulls R start (part.pulled e) p = is.absorbed (unspoiled still) in
-          let alike : fits R prog from x ≡ fits R start from x =
-          ap (λ s. fits R s from x) was ∙ fits_same R start (after_pulls R start (part.pulled e) p) from x (pulls_same R laws start (part.pulled e) p is.valid) in
-          let new : ℕ → List Item = λ q. cond ((e == e) && (q == from)) (part.pulled e q ++ x ∷ []) (part.pulled e q) in
-          let here : new from ≡ part.pulled e from ++ x ∷ [] =
-          ap (λ b. cond (b && (from == from)) (part.pulled e from ++ x ∷ []) (part.pulled e from)) (eq-eqb e e refl)
-          ∙ ap (λ b. cond b (part.pulled e from ++ x ∷ []) (part.pulled e from)) (eq-eqb from from refl) in
-          let other : (q : ℕ) → q ≢ from → new q ≡ part.pulled e q = λ q apart.
-          ap (λ b. cond (b && (q == from)) (part.pulled e q ++ x ∷ []) (part.pulled e q)) (eq-eqb e e refl)
-          ∙ ap (λ b. cond b (part.pulled e q ++ x ∷ []) (part.pulled e q)) (ne_eqb q from apart) in
-          let more = one_more_pull R laws start p from x (part.pulled e) new is.valid below here other in
-          absorbed still ∙ (ap (λ b. cond b (R.absorbed prog from x) prog) alike ∙ (ap (λ s. cond (fits R start from x) (R.absorbed s from x) s) was ∙ sym more));
-    })
-
--- what an Idle step leaves
-pub idle_done : {S : Type 0} (R : Rules S) (p : ℕ) (start prog : S) (next : ℕ) (spoiled : Bool) (part part' : Part)
-    → IsOwnStep Idle part part' → HasDone R p start prog next spoiled part → HasDone R p start prog next spoiled part'
-idle_done R p start prog next spoiled part part' step is =
-    subst (HasDone R p start prog next spoiled) (sym step.is)
-    (record { valid = is.valid; emissions = is.emissions; next_low = is.next_low; all_pushed = is.all_pushed; pushed = is.pushed; absorbed = is.absorbed })
-
--- a conveyor in the midst of pulls
-pub record Pulls {S : Type 0} (R : Rules S) (old c : State) (prog prog' : S) (spoiled spoiled' : Bool) : Type 0 where
-  pub begun : c.phase ≢ Dormant
-  pub same : c ≡ record old { ins = c.ins; pulled = c.pulled }
-  pub ends : SameEnds old c
-  pub kept : KeepsAgreement old c
-  pub absorbed : (start : S) (next : ℕ) (sent got : Logs) → AgreesWith old sent got → HasDone R (ranks old.dims) start prog next spoiled (part_of (buffers_of old) sent got)
-      → HasDone R (ranks old.dims) start prog' next spoiled' (part_of (buffers_of c) sent got)
-
-pub pulls_start : {S : Type 0} (R : Rules S) (old : State) (prog : S) (spoiled : Bool) → old.phase ≢ Dormant → Pulls R old old prog prog spoiled spoiled
-pulls_start R old prog spoiled begun = record { begun = begun; same = refl; ends = λ l. refl; kept = λ sent got a. a; absorbed = λ start next sent got a is. is }
-
 -- what a pull leaves of the state
 pub pulled_same : (st : State) (o : Option ℕ) → pulled_from st o ≡ record st { ins = (pulled_from st o).ins; pulled = (pulled_from st o).pulled }
 pulled_same st None = refl
 pulled_same st (Some i) = refl
 
-pub pulls_more : {S : Type 0} (R : Rules S) → Laws R → (old c c' : State) (prog mid prog' : S) (from : ℕ) (x : Item) (spoiled now after : Bool) → Pulls R old c prog mid spoiled now
-    → c' ≡ pulled_from c (lowest_unread c) → KeepsAgreement c c' → from < ranks c.dims → IsStepOf (Pull from x) c c'
-    → R.emissions prog' ≡ R.emissions mid → (after ≡ false → now ≡ false) → (after ≡ false → prog' ≡ cond (fits R mid from x) (R.absorbed mid from x) mid)
-    → Pulls R old c' prog prog' spoiled after
-pulls_more R laws old c c' prog mid prog' from x spoiled now after is new kept below step emissions unspoiled absorbed =
-    let like : c' ≡ record c { ins = c'.ins; pulled = c'.pulled } =
-    subst (λ (t : State). t ≡ record c { ins = t.ins; pulled = t.pulled }) (sym new) (pulled_same c (lowest_unread c)) in
-    let dims : c.dims ≡ old.dims = ap (λ (t : State). t.dims) is.same in
-    record {
-      begun = λ e. is.begun (sym (ap (λ (t : State). t.phase) like) ∙ e);
-      same = like ∙ ap (λ (t : State). record t { ins = c'.ins; pulled = c'.pulled }) is.same;
-      ends = λ l. subst (λ (t : State). (in_of t l).ended ≡ (in_of c l).ended) (sym new) (ends_pulled c (lowest_unread c) l) ∙ is.ends l;
-      kept = λ sent got a. kept sent got (is.kept sent got a);
-      absorbed = λ start next sent got a done.
-          pull_on R laws (ranks old.dims) start mid prog' next from x now after (part_of (buffers_of c) sent got) (part_of (buffers_of c') sent got)
-          (subst (λ (d : List ℕ). from < ranks d) dims below) emissions unspoiled absorbed (step sent got (is.kept sent got a)) (is.absorbed start next sent got a done);
-    }
-
--- the last pull, which gives nothing
-pub pulls_end : {S : Type 0} (R : Rules S) (old c c' : State) (prog prog' : S) (spoiled spoiled' : Bool) → Pulls R old c prog prog' spoiled spoiled'
-    → c' ≡ record c { pulled = None } → KeepsAgreement c c' → IsStepOf Idle c c' → Pulls R old c' prog prog' spoiled spoiled'
-pulls_end R old c c' prog prog' spoiled spoiled' is new kept step =
-    record {
-      begun = λ e. is.begun (sym (ap (λ (t : State). t.phase) new) ∙ e);
-      same = subst (λ (t : State). t ≡ record old { ins = t.ins; pulled = t.pulled }) (sym new) (ap (λ (t : State). record t { pulled = None }) is.same);
-      ends = λ l. ap (λ (t : State). (in_of t l).ended) new ∙ is.ends l;
-      kept = λ sent got a. kept sent got (is.kept sent got a);
-      absorbed = λ start next sent got a done.
-          idle_done R (ranks old.dims) start prog' next spoiled' (part_of (buffers_of c) sent got) (part_of (buffers_of c') sent got) (step sent got (is.kept sent got a)) (is.absorbed start next sent got a done);
-    }
+pub fewer_next : (st : State) (n from : ℕ) (x : Item) (most : ℕ) → n + waiting (pulls n st).ins ≤ most → GivesNext (pulls n st) from x → n + 1 + waiting (pulls (n + 1) st).ins ≤ most
+fewer_next st n from x most is next =
+    let less : waiting (pulls (suc n) st).ins < waiting (pulls n st).ins = fewer_from (pulls n st) (lowest_unread (pulls n st)) (from, x) next.value in
+    subst (λ m. n + 1 + waiting (pulls m st).ins ≤ most) (sym (add-one n)) (omega (arith, less, is))

@@ -30,10 +30,5 @@ pub mod Telling
 pub mod Ended
 pub mod DriveTests
 pub mod Orders
-pub mod Turned
-pub mod Stuck
 pub mod Sweeps
-pub mod Quiet
 pub mod Bounded
-pub mod Canon
-pub mod Rows

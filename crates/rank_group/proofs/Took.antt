@@ -1,5 +1,5 @@
 -- One more item is pulled, and summed or absorbed.
-use Rattle.std.proofs.Common.{◌≡◌, ◌≢◌, ℕ, suc, ◌+◌, ◌-◌, ◌*◌, ◌^◌, ◌<◌, ◌≤◌, ◌==◌, ◌&&◌, min, Bool, true, false, cond, List, [], ◌∷◌, ◌++◌, length, Option, Some, None, refl, sym, ap, subst, ◌∙◌, arith, get_or, set, zero, drop}
+use Rattle.std.proofs.Common.{◌≡◌, ◌≢◌, ℕ, suc, ◌+◌, ◌-◌, ◌*◌, ◌^◌, ◌<◌, ◌≤◌, ◌==◌, ◌&&◌, min, Bool, true, false, cond, List, [], ◌∷◌, ◌++◌, length, Option, Some, None, refl, sym, ap, subst, ◌∙◌, arith, get_or, set, zero, drop, add-one}
 use Rattle.std.specs.List.{sum_by}
 use Rattle.std.proofs.lemmas.Bool.{eq-eqb, ne_eqb, true≢false}
 use Rattle.std.proofs.lemmas.List.Sums.{sum_by-append}
@@ -11,9 +11,9 @@ use Rattle.port_bank.specs.Logs.{Logs}
 use Rattle.hop_core.specs.declared.phase.Phase.TheVariants.{Dormant}
 use Rattle.route_tensor.specs.Neighbour.{in_index}
 use Rattle.hop_core.specs.Link.{In, no_in, with_first_taken}
-use Rattle.hop_core.specs.State.{State, in_at, lowest_unread, pulled_from}
+use Rattle.hop_core.specs.State.{State, in_at, lowest_unread, pulled_from, pulls}
 use Rattle.convey.specs.Buffers.{buffers_of, in_of}
-use Rattle.convey.specs.Conveyors.{AgreesWith, KeepsAgreement, IsStepOf}
+use Rattle.convey.specs.Conveyors.{AgreesWith, KeepsAgreement, IsStepOf, GivesNext}
 use Rattle.convey.specs.Parts.{part_of}
 use Rattle.port_bank.specs.Machine.{Part, IsOwnStep, ItemLists, with_item, after}
 use Rattle.port_bank.specs.Machine.Step.{Pull, Idle}
@@ -231,3 +231,36 @@ takes_end R voting old c c' prog prog' sum sum' spoiled spoiled' is new kept ste
           taken_same R (ranks old.dims) rank h round sends next prog' sum' spoiled' (part_of (buffers_of c) sent got) (part_of (buffers_of c') sent got)
           (step sent got (is.kept sent got a)).is (is.taken h rank round next sends sent got v a t);
     }
+
+-- pulls after pulls
+pub takes_both : {S : Type 0} (R : Rules S) (voting : Bool) (old c c' : State) (prog mid prog' : S) (sum sum1 sum2 : ℕ) (spoiled now after : Bool) → Takes R voting old c prog mid sum sum1 spoiled now
+    → Takes R voting c c' mid prog' sum1 sum2 now after → Takes R voting old c' prog prog' sum sum2 spoiled after
+takes_both R voting old c c' prog mid prog' sum sum1 sum2 spoiled now after p q =
+    let dims : ranks c.dims ≡ ranks old.dims = ap (λ (t : State). ranks t.dims) p.same in
+    record {
+      begun = q.begun;
+      same = q.same ∙ ap (λ (t : State). record t { ins = c'.ins; pulled = c'.pulled }) p.same;
+      ends = λ l. q.ends l ∙ p.ends l;
+      fewer = λ l. omega (arith, p.fewer l, q.fewer l);
+      emissions = q.emissions ∙ p.emissions;
+      kept = λ sent got a. q.kept sent got (p.kept sent got a);
+      taken = λ h rank round next sends sent got v a t.
+          subst (λ n. HasTaken R n rank h round sends next prog' sum2 after (part_of (buffers_of c') sent got)) dims
+          (q.taken h rank round next sends sent got v (p.kept sent got a)
+          (subst (λ n. HasTaken R n rank h round sends next mid sum1 now (part_of (buffers_of c) sent got)) (sym dims) (p.taken h rank round next sends sent got v a t)));
+    }
+
+-- after so many pulls of one inbox as after n, and one more
+pub takes_next : {S : Type 0} (R : Rules S) → Laws R → (voting : Bool) (st : State) (n : ℕ) (prog mid prog' : S) (from from' : ℕ) (x : Item) (sum sum1 sum2 : ℕ) (spoiled now after : Bool)
+    → Takes R voting st (pulls n st) prog mid sum sum1 spoiled now → GivesNext (pulls n st) from x → from' ≡ from → TakesOne R voting mid prog' from' x sum1 sum2 now after
+    → Takes R voting st (pulls (n + 1) st) prog prog' sum sum2 spoiled after
+takes_next R laws voting st n prog mid prog' from from' x sum sum1 sum2 spoiled now after is next same takes =
+    subst (λ m. Takes R voting st (pulls m st) prog prog' sum sum2 spoiled after) (sym (add-one n))
+    (takes_more R laws voting st (pulls n st) (pulls (suc n) st) prog mid prog' from x sum sum1 sum2 spoiled now after is refl next.kept next.sender next.step
+    (subst (λ f. TakesOne R voting mid prog' f x sum1 sum2 now after) same takes))
+
+-- after all of one inbox
+pub takes_at : {S : Type 0} (R : Rules S) (voting : Bool) (st new : State) (n m : ℕ) (prog prog' : S) (sum sum' : ℕ) (spoiled spoiled' : Bool) → n ≡ m → new ≡ pulls m st
+    → Takes R voting st (pulls n st) prog prog' sum sum' spoiled spoiled' → Takes R voting st new prog prog' sum sum' spoiled spoiled'
+takes_at R voting st new n m prog prog' sum sum' spoiled spoiled' count is takes =
+    subst (λ t. Takes R voting st t prog prog' sum sum' spoiled spoiled') (sym (is ∙ ap (λ j. pulls j st) (sym count))) takes

@@ -1,7 +1,3 @@
-pub mod RowParts
-pub mod RowNodes
-pub mod RowPulls
-pub mod Row
 pub mod Sending
 pub mod Runs
 pub mod Nodes

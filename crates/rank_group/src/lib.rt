@@ -12,16 +12,12 @@
 //! | `Node::new` | a node that hasn't turned, for a program of the grid |
 //! | `Node::turn` | one turn; `Ended` exactly where the epoch is over for this rank |
 //! | `Node::next` | goes on to the next epoch, where one follows |
-//! | `nodes_of` | a node for each program of a round |
-//! | `turn_all` | turns the nodes of a grid of one number on one thread, until the epoch is over for each |
-//! | `finish` | the programs of the nodes |
 //!
 //! `specs/Told` says what the closed round of a run tells, and how many turns a run takes at most. `specs/Runs` says what a
 //! rank has done, against its part of the exchange machine: which of its emissions are pushed, and that its state is the
 //! one that its pulls make of the start, in whatever order they came.
 #![tactic(auto)]
 
-mod absorbing;
 mod alone;
 mod at_port;
 mod child;
@@ -32,10 +28,7 @@ mod gate;
 mod job;
 mod keeper;
 mod node;
-mod pushing;
 mod ranks;
-mod row;
-mod row_node;
 mod running;
 mod seated;
 mod seating;
@@ -55,8 +48,6 @@ pub use closed_round::{ClosedRound, Rounds};
 pub use drive::{Finished, drive_serial};
 pub use gate::{Gate, OpenGate};
 pub use node::Node;
-pub use row::{finish, nodes_of, turn_all};
-pub use row_node::RowNode;
 pub use steps::Steps;
 pub use threads::drive_threads;
 pub use turn::Turn;

@@ -1,5 +1,7 @@
 //! Takes in what a conveyor gives.
-ghost use Rattle.std.specs.Prelude.{◌≡◌, ◌≢◌, ℕ, ◌+◌, ◌<◌, ◌≤◌, cond, Bool, false, List, length};
+ghost use Rattle.std.specs.Prelude.{◌≡◌, ◌≢◌, ℕ, ◌+◌, ◌<◌, ◌≤◌, cond, Bool, false, List, length, Some};
+ghost use Rattle.hop_core.specs.Relay.{waiting};
+ghost use Rattle.hop_core.specs.State.{lowest_unread};
 ghost use Rattle.route_tensor.specs.Grid.{ranks};
 ghost use Rattle.port_bank.specs.Logs.{Logs};
 ghost use Rattle.convey.specs.Buffers.{buffers_of};
@@ -44,9 +46,39 @@ pub(crate) fn take_all<Q: Program, const CAP: usize, const HOPS: usize>(
         → HasTaken Q.rules (ranks conveyor.old.dims) rank h round sends next prog.new.value result.sum result.spoiled (part_of (buffers_of conveyor.new) sent got) }
 {
     let mut taken = taken;
-    while let Some((from, item)) = conveyor.pull() {
-        taken = take_one(prog, voting, from, item, taken);
+    while let Some(number) = conveyor.unread() {
+        taken = take_batch(prog, conveyor, number, voting, taken);
     }
+    taken
+}
+
+/// Sums or absorbs all items of the link in from which the next pull takes.
+fn take_batch<Q: Program, const CAP: usize, const HOPS: usize>(
+    prog: &mut Box<Q>,
+    conveyor: &mut Conveyor<CAP, HOPS>,
+    number: u32,
+    voting: bool,
+    taken: Taken,
+) -> Taken
+    requires begun { conveyor.old.phase ≢ Phase.Dormant }
+    requires lowest { lowest_unread conveyor.old ≡ Some number }
+    ensures begun { conveyor.new.phase ≢ Phase.Dormant }
+    ensures same { conveyor.new ≡ record conveyor.old { ins = conveyor.new.ins; pulled = conveyor.new.pulled } }
+    ensures ends { SameEnds conveyor.old conveyor.new }
+    ensures fewer { NoMore conveyor.old conveyor.new }
+    ensures less { waiting conveyor.new.ins < waiting conveyor.old.ins }
+    ensures kept { KeepsAgreement conveyor.old conveyor.new }
+    ensures emissions { Q.rules.emissions prog.new.value ≡ Q.rules.emissions prog.old.value }
+    ensures taken { (h : ℕ → Q) (rank round next : ℕ) (sends : Sends) (sent got : Logs) → is_voting sends ≡ voting → AgreesWith conveyor.old sent got
+        → HasTaken Q.rules (ranks conveyor.old.dims) rank h round sends next prog.old.value taken.sum taken.spoiled (part_of (buffers_of conveyor.old) sent got)
+        → HasTaken Q.rules (ranks conveyor.old.dims) rank h round sends next prog.new.value result.sum result.spoiled (part_of (buffers_of conveyor.new) sent got) }
+{
+    let mut taken = taken;
+    for entry in conveyor.batch(number) {
+        let from = conveyor.sender_of(number, entry.tag);
+        taken = take_one(prog, voting, from, entry.item, taken);
+    }
+    conveyor.pull_all(number);
     taken
 }
 

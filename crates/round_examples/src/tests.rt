@@ -6,6 +6,7 @@ use crate::ask::Ask;
 use crate::count::Count;
 use crate::lookup::Lookup;
 use bale_types::{Item, NoMemory};
+use either::{Either, Left, Right};
 use round_program::{Asker, Program};
 use std::alloc::Global;
 use std::test::Fail;
@@ -68,6 +69,34 @@ fn counts_of_a_small_table(rt: HostRuntime) -> Result<(), Fail> {
     assert!(rt; !goes_on);
     assert!(rt; zero.counts() == [1, 0, 1].as_slice());
     assert!(rt; one.counts() == [0, 3, 0].as_slice());
+    Ok(())
+}
+
+/// Either of the two programs.
+type CountOrAsk = Either<Count, Ask>;
+
+/// The counts of a small table once more, with each program one of two.
+#[test]
+fn either_of_two_programs(rt: HostRuntime) -> Result<(), Fail> {
+    let alloc = rt.alloc();
+    let zero = Count::new(0, 2, vec![in alloc; 0, 1, 1]?, vec![in alloc; 0, 0, 0]?);
+    let one = Count::new(1, 2, vec![in alloc; 1, 2]?, vec![in alloc; 0, 0, 0]?);
+    let mut zero: CountOrAsk = Left(zero);
+    let mut one: CountOrAsk = Left(one);
+    let goes_on = round_of_two(alloc, &mut zero, &mut one)?;
+    assert!(rt; !goes_on);
+    assert!(rt; matches!(&zero, Left(count) if count.counts() == [1, 0, 1].as_slice()));
+    assert!(rt; matches!(&one, Left(count) if count.counts() == [0, 3, 0].as_slice()));
+
+    let zero = Ask::new(alloc, 0, 2, vec![in alloc; 10, 20, 30]?, &[1, 2])?;
+    let one = Ask::new(alloc, 1, 2, vec![in alloc; 10, 20, 30]?, &[0, 1, 1])?;
+    let mut zero: CountOrAsk = Right(zero);
+    let mut one: CountOrAsk = Right(one);
+    let first = round_of_two(alloc, &mut zero, &mut one)?;
+    let second = round_of_two(alloc, &mut zero, &mut one)?;
+    assert!(rt; first && !second);
+    assert!(rt; matches!(&zero, Right(ask) if ask.answers() == [20, 30].as_slice()));
+    assert!(rt; matches!(&one, Right(ask) if ask.answers() == [10, 20, 20].as_slice()));
     Ok(())
 }
 

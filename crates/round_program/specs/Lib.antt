@@ -1,4 +1,6 @@
 pub mod Canonical
+pub mod EitherLaws
+pub mod Eithers
 pub mod Epochs
 pub mod Injections
 pub mod Laws

@@ -16,13 +16,15 @@
 //! | `every_order` | the interleaving theorem: every order of absorbs gives the canonical state |
 //! | `every_run` | the theorem over all rounds: at every moment each rank is within the canonical run |
 //! | `same_runs` | one program as a case of another: a run of the cases is the run of the program |
+//! | `Either` (of the crate either) | either of two programs is a program, and runs whichever is there: see `either_runs` |
 //!
 //! The definitions, in the order in which to read them: `Rules` (a program's meanings), `Laws`, `Canonical` (the canonical
 //! run), `Orders` (the interleaving theorem), `Epochs` (the theorem over all rounds), `Injections` (one program as a case of
-//! another), `Talks` (askers).
+//! another), `Eithers` (either of two programs), `Talks` (askers).
 #![tactic(auto)]
 
 mod asker;
+mod either_program;
 mod program;
 mod progs;
 #[cfg(test)]
@@ -32,4 +34,4 @@ mod theorems;
 pub use asker::Asker;
 pub use program::Program;
 pub use progs::Progs;
-pub use theorems::{every_order, every_run, same_runs};
+pub use theorems::{case_of_case, either_runs, every_order, every_run, same_runs};

@@ -3,10 +3,11 @@ use Rattle.std.proofs.Common.{ℕ, zero, suc, ◌+◌, ◌-◌, ◌*◌, ◌/◌
 use Rattle.std.specs.List.{enumerate_from}
 use Rattle.std.specs.Option.{option_map}
 use Rattle.std.proofs.lemmas.Bool.{cases_lt, eq-eqb, ne_eqb}
-use Rattle.std.proofs.lemmas.Nat.{mod-mul-add, div-mul-add, div-add-mod', mul-le}
-use Rattle.std.proofs.Math.Nat.{add-div_right}
+use Rattle.std.proofs.lemmas.Nat.{mod-mul-add, div-mul-add, div-add-mod', mul-le, le-div}
+use Rattle.std.proofs.Math.Nat.{add-div_right, mod-lt}
 use Rattle.std.proofs.lemmas.Option.{slice_get_past}
 use Rattle.std.proofs.lemmas.List.FromFn.{get_or-map-range_with_len, length-map-range_with_len}
+use Rattle.list_laws.proofs.Lists.{find}
 use Rattle.sparse_rows.specs.Deals.{dealt}
 use Rattle.sparse_rows.specs.Parts.{parts_of}
 use Rattle.bale_types.specs.declared.triple.Triple.{Triple}
@@ -90,6 +91,36 @@ turn_count n r {X} (t ∷ ts) q m (suc o) p l k e =
     ap (λ b. length (cond b ((m, t) ∷ rest) rest)) other
     ∙ turn_count n r ts q (m + 1) o (suc p) l (omega arith) next
     ∙ ap (λ k. k / n) s
+
+-- a number has a place with its owner
+pub turn_place : (n x : ℕ) {X : Type 0} (ts : List X) → 0 < n → x < length ts → x / n < length (dealt (λ (e : ℕ × X). e.0 % n) (x % n) (enumerate_from 0 ts))
+turn_place n x {X} ts some low =
+    let r : ℕ = x % n in
+    let part : r < n = mod-lt x some in
+    let whole : x / n * n + r ≡ x = div-add-mod' x n in
+    let start : 0 + r ≡ 0 * n + r = grind arith in
+    let count : length (dealt (λ (e : ℕ × X). e.0 % n) r (enumerate_from 0 ts)) ≡ (length ts + (n - 1 - r)) / n = turn_count n r ts 0 0 r (n - 1 - r) part (omega arith) start in
+    let up : (x / n + 1) * n ≡ x / n * n + n = grind arith in
+    let least : x / n + 1 ≤ (length ts + (n - 1 - r)) / n = le-div (x / n + 1) (length ts + (n - 1 - r)) n some (omega arith) in
+    omega arith
+
+-- what stands at a place of rank r's part is the element of that number
+pub turn_read : (n r k : ℕ) {X : Type 0} (ts : List X) → r < n → k < length (dealt (λ (e : ℕ × X). e.0 % n) r (enumerate_from 0 ts))
+    → (x : X) × (slice_get (dealt (λ (e : ℕ × X). e.0 % n) r (enumerate_from 0 ts)) k ≡ Some (k * n + r, x)) × (slice_get ts (k * n + r) ≡ Some x)
+turn_read n r k {X} ts own low =
+    let part : List (ℕ × X) = dealt (λ (e : ℕ × X). e.0 % n) r (enumerate_from 0 ts) in
+    let start : 0 + r ≡ 0 * n + r = grind arith in
+    let one : 0 + (r + k * n) ≡ k * n + r = omega arith in
+    let two : r + k * n ≡ k * n + r = omega arith in
+    let is : slice_get part k ≡ option_map {U = ℕ × X} (λ t. (k * n + r, t)) (slice_get ts (k * n + r)) =
+    turn_get n r ts 0 0 r k own own start
+    ∙ ap (λ m. option_map {U = ℕ × X} (λ t. (m, t)) (slice_get ts (r + k * n))) one
+    ∙ ap (λ m. option_map {U = ℕ × X} (λ t. (k * n + r, t)) (slice_get ts m)) two in
+    let there = find part k low in
+    elim (cases_lt (k * n + r) (length ts)) [
+      | inl inside ↦ (let x = find ts (k * n + r) inside in (x.0, is ∙ ap (option_map {U = ℕ × X} (λ t. (k * n + r, t))) x.1, x.1))
+      | inr past ↦ (let none : slice_get part k ≡ None = is ∙ ap (option_map {U = ℕ × X} (λ t. (k * n + r, t))) (slice_get_past ts (k * n + r) past) in absurd (cc))
+    ]
 
 -- the part of rank r
 pub part_is : (n : ℕ) (ts : List Triple) (r : ℕ) → r < n → get_or (parts_of n ts) r [] ≡ dealt (λ (e : ℕ × Triple). e.0 % n) r (enumerate_from 0 ts)

@@ -1,3 +1,4 @@
 pub mod Deals
+pub mod Owners
 pub mod Parts
 pub mod Permutations

@@ -9,7 +9,9 @@
 //! | [`is_permutation`] | a list of new numbers | whether it has each number below `n` once |
 //!
 //! `specs/Deals.antt` has the words for dealing, and `proofs/Deals.antt` what holds of every deal: counts, sums
-//! and filters over the hands are those over the whole list.
+//! and filters over the hands are those over the whole list. The other lemmas are on programs whose ranks own entries, rows
+//! and columns in turn: `proofs/Starts.antt` on the programs as they begin, `proofs/EveryEntry.antt` on a round in which every
+//! element of a list reaches its owner once, and `proofs/Gathering.antt` on cells that so arrive.
 #![tactic(auto)]
 
 mod joining;

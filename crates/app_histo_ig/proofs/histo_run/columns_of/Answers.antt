@@ -1,6 +1,6 @@
 use Rattle.std.proofs.Common.{[], get_or, sym}
-use Rattle.app_histo_ig.specs.Owners.{Numbered}
-use Rattle.app_histo_ig.proofs.Starts.{fields_more}
+use Rattle.sparse_rows.specs.Owners.{Numbered}
+use Rattle.sparse_rows.proofs.Starts.{fields_more}
 use Rattle.app_histo_ig.proofs.histo_run.columns_of.Goals as goal
 
 pub loop-x-preserved : goal.loop-x-preserved

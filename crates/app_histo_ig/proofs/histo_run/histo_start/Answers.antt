@@ -3,7 +3,7 @@ use Rattle.std.specs.List.{range_with_len}
 use Rattle.round_program.specs.Canonical.{InRound}
 use Rattle.app_histo_ig.specs.Histos.{histo_rules}
 use Rattle.app_histo_ig.specs.HistoRuns.{histo_begins, histo_starts}
-use Rattle.app_histo_ig.proofs.Starts.{made_more}
+use Rattle.sparse_rows.proofs.Starts.{made_more}
 use Rattle.app_histo_ig.proofs.HistoOwners.{starts_in_round}
 use Rattle.app_histo_ig.proofs.histo_run.histo_start.Goals as goal
 

@@ -1,6 +1,6 @@
 use Rattle.std.proofs.Common.{◌≡◌, ◌+◌, ◌/◌, ◌<◌, All, map, replicate, sym, ap, ◌∙◌, subst}
-use Rattle.app_histo_ig.specs.Owners.{Numbered, own_entries}
-use Rattle.app_histo_ig.proofs.Starts.{own_part, part_below}
+use Rattle.sparse_rows.specs.Owners.{Numbered, own_entries}
+use Rattle.sparse_rows.proofs.Starts.{own_part, part_below}
 use Rattle.app_histo_ig.proofs.HistoOwners.{begins_named, begins_is}
 use Rattle.app_histo_ig.proofs.histo_run.part_of.Goals as goal
 

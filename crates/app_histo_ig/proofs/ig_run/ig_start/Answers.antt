@@ -3,7 +3,7 @@ use Rattle.std.specs.List.{range_with_len}
 use Rattle.round_program.specs.Canonical.{InRound}
 use Rattle.app_histo_ig.specs.Igs.{ig_rules}
 use Rattle.app_histo_ig.specs.IgRuns.{ig_begins, ig_starts}
-use Rattle.app_histo_ig.proofs.Starts.{made_more}
+use Rattle.sparse_rows.proofs.Starts.{made_more}
 use Rattle.app_histo_ig.proofs.IgRounds.{starts_in_round, within_three}
 use Rattle.app_histo_ig.proofs.ig_run.ig_start.Goals as goal
 

@@ -1,8 +1,8 @@
 use Rattle.std.proofs.Common.{ℕ, ◌+◌, ◌/◌, length, map, replicate, sym, ap, ◌∙◌, subst}
 use Rattle.bale_types.specs.declared.Item.{Item}
-use Rattle.app_histo_ig.specs.Owners.{Numbered, column_owner}
+use Rattle.sparse_rows.specs.Owners.{Numbered, column_owner}
 use Rattle.app_histo_ig.specs.Igs.{IsIg, value_item}
-use Rattle.app_histo_ig.proofs.Starts.{own_part, part_below}
+use Rattle.sparse_rows.proofs.Starts.{own_part, part_below}
 use Rattle.app_histo_ig.proofs.IgRounds.{begins_valid, begins_is}
 use Rattle.app_histo_ig.proofs.ig_run.part_of.Goals as goal
 

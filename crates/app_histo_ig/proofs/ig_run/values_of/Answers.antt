@@ -1,8 +1,8 @@
 use Rattle.std.proofs.Common.{ℕ, [], ◌∷◌, ◌++◌, ◌%◌, get_or, sym, ap, ◌∙◌}
 use Rattle.bale_types.specs.declared.Item.{Item}
-use Rattle.app_histo_ig.specs.Owners.{Numbered, column_owner}
+use Rattle.sparse_rows.specs.Owners.{Numbered, column_owner}
 use Rattle.app_histo_ig.specs.Igs.{value_item}
-use Rattle.app_histo_ig.proofs.Starts.{fields_more}
+use Rattle.sparse_rows.proofs.Starts.{fields_more}
 use Rattle.app_histo_ig.proofs.ig_run.values_of.Goals as goal
 
 pub loop-x-preserved : goal.loop-x-preserved

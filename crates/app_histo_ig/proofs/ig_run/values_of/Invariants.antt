@@ -1,5 +1,5 @@
 use Rattle.std.proofs.Common.{◌≡◌, [], map, take, slice_index_or}
-use Rattle.app_histo_ig.specs.Owners.{column_owner}
+use Rattle.sparse_rows.specs.Owners.{column_owner}
 use Rattle.app_histo_ig.specs.Igs.{value_item}
 use Rattle.app_histo_ig.proofs.ig_run.values_of.Given as goal
 

@@ -1,4 +1,4 @@
-use Rattle.std.proofs.Common.{rules, ◌==◌, ◌∙◌, take, length, subst, sym, ap, arith, ◌≡◌, false}
+use Rattle.std.proofs.Common.{◌==◌, take, subst, arith, ◌≡◌, false}
 use Rattle.std.specs.List.{list_any}
 use Rattle.std.proofs.lemmas.Bool.{eq-eqb}
 use Rattle.std.proofs.lemmas.List.{take_all}

@@ -1,4 +1,4 @@
-use Rattle.std.proofs.Common.{◌≡◌, ◌++◌, map, length, ℕ, ◌+◌}
+use Rattle.std.proofs.Common.{◌≡◌, ◌++◌, map, length, ◌+◌}
 use Rattle.std.specs.Option.{option_map, option_map_or}
 use Rattle.bale_words.specs.Numbers.{all_some, number_in, numbers_in, parts_of}
 use Rattle.bale_words.proofs.numbers.numbers_between.Given as goal

@@ -1,5 +1,4 @@
-use Rattle.std.proofs.Common.{rules, ◌≡◌, ◌∙◌, refl, sym, string_bytes, Err, arith}
-use Rattle.bale_words.specs.declared.fault.WordsFault.TheVariants.{Usage}
+use Rattle.std.proofs.Common.{rules, string_bytes}
 use Rattle.bale_words.proofs.Given.{none_here, more_here}
 use Rattle.bale_words.proofs.options.given.Goals as goal
 

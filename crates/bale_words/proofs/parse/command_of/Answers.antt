@@ -1,4 +1,4 @@
-use Rattle.std.proofs.Common.{◌∙◌, sym, ap, map, take, refl, rules}
+use Rattle.std.proofs.Common.{◌∙◌, sym, ap, map, take}
 use Rattle.bale_words.specs.Clap.{app_named}
 use Rattle.bale_words.proofs.Commands.{map_next}
 use Rattle.bale_words.proofs.parse.command_of.Goals as goal

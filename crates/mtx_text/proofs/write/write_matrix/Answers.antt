@@ -2,7 +2,7 @@ use Rattle.std.proofs.Common.{◌≡◌, ap, ap₂, ◌∙◌, subst}
 use Rattle.std.specs.List.{flat_map}
 use Rattle.bale_types.specs.Stream.{after, IsFront}
 use Rattle.bale_types.specs.Out.{appended}
-use Rattle.bale_types.proofs.Moves.{on_err_any}
+use Rattle.bale_types.proofs.Moves.{front_of_front, on_err_any}
 use Rattle.mtx_text.specs.Written.{entry_text, banner_text, size_text}
 use Rattle.mtx_text.proofs.WrittenMatrix.{read_again}
 use Rattle.mtx_text.proofs.WrittenPieces.{front_first, front_second, front_third, all_three}
@@ -55,3 +55,22 @@ returns-in_err-write_entries-clause-read_again g c = read_again c.args.m.now c.e
 
 pub returns-clause-read_again : goal.returns-clause-read_again
 returns-clause-read_again g c = read_again c.args.m.now c.entries-entries.ensures.kept
+
+pub returns-in_err-write_sizes-clause-grows : goal.returns-in_err-write_sizes-clause-grows
+returns-in_err-write_sizes-clause-grows g c =
+    front_of_front (g.K.Sink.taken c.args.out.now.sink.now) (g.K.Sink.taken c.write_banner.new.out.sink.now) (g.K.Sink.taken c.write_sizes.new.out.sink.now)
+    c.write_banner.ensures.grows c.write_sizes.ensures.grows
+
+pub returns-in_err-write_entries-clause-grows : goal.returns-in_err-write_entries-clause-grows
+returns-in_err-write_entries-clause-grows g c =
+    front_of_front (g.K.Sink.taken c.args.out.now.sink.now) (g.K.Sink.taken c.write_sizes.new.out.sink.now) (g.K.Sink.taken c.write_entries.new.out.sink.now)
+    (front_of_front (g.K.Sink.taken c.args.out.now.sink.now) (g.K.Sink.taken c.write_banner.new.out.sink.now) (g.K.Sink.taken c.write_sizes.new.out.sink.now)
+    c.write_banner.ensures.grows c.write_sizes.ensures.grows)
+    c.write_entries.ensures.grows
+
+pub returns-clause-grows : goal.returns-clause-grows
+returns-clause-grows g c =
+    front_of_front (g.K.Sink.taken c.args.out.now.sink.now) (g.K.Sink.taken c.write_sizes.new.out.sink.now) (g.K.Sink.taken c.write_entries.new.out.sink.now)
+    (front_of_front (g.K.Sink.taken c.args.out.now.sink.now) (g.K.Sink.taken c.write_banner.new.out.sink.now) (g.K.Sink.taken c.write_sizes.new.out.sink.now)
+    c.write_banner.ensures.grows c.write_sizes.ensures.grows)
+    c.write_entries.ensures.grows

@@ -1,23 +1,26 @@
 use Rattle.std.proofs.Common.{refl}
-use Rattle.rank_group.proofs.Took.{Takes, takes_more, takes_end}
+use Rattle.rank_group.proofs.Took.{Takes, takes_both, takes_end}
 use Rattle.rank_group.proofs.taking.take_all.Goals as goal
 
-pub loop-from-preserved : goal.loop-from-preserved
-loop-from-preserved g c =
-    takes_more g.Q.Program.rules g.met.Q.Program.laws c.args.voting c.args.conveyor.now c.loop-from.conveyor c.pull.new.self c.args.prog.now.value c.loop-from.prog.value c.take_one-taken.new.prog.value
-    c.in-Some.from c.in-Some.item c.args.taken.sum c.loop-from.taken.sum c.take_one-taken.result.sum c.args.taken.spoiled c.loop-from.taken.spoiled c.take_one-taken.result.spoiled
-    c.loop-from.invariant c.pull.ensures.state c.pull.ensures.kept c.in-Some.ensures.sender c.in-Some.ensures.step_item c.take_one-taken.ensures
+pub loop-number-preserved : goal.loop-number-preserved
+loop-number-preserved g c =
+    let e = c.take_batch-taken.ensures in
+    takes_both g.Q.Program.rules c.args.voting c.args.conveyor.now c.unread.new.self c.take_batch-taken.new.conveyor c.args.prog.now.value c.loop-number.prog.value c.take_batch-taken.new.prog.value
+    c.args.taken.sum c.loop-number.taken.sum c.take_batch-taken.result.sum c.args.taken.spoiled c.loop-number.taken.spoiled c.take_batch-taken.result.spoiled
+    (takes_end g.Q.Program.rules c.args.voting c.args.conveyor.now c.loop-number.conveyor c.unread.new.self c.args.prog.now.value c.loop-number.prog.value c.args.taken.sum c.loop-number.taken.sum c.args.taken.spoiled c.loop-number.taken.spoiled c.loop-number.invariant
+    c.unread.ensures.state c.unread.ensures.kept c.unread.ensures.step)
+    (record { begun = e.begun; same = e.same; ends = e.ends; fewer = e.fewer; emissions = e.emissions; kept = e.kept; taken = e.taken })
 
 pub returns-clause-kept : goal.returns-clause-kept
 returns-clause-kept g c =
-    let last : Takes g.Q.Program.rules c.args.voting c.args.conveyor.now c.pull.new.self c.args.prog.now.value c.loop-from.prog.value c.args.taken.sum c.loop-from.taken.sum c.args.taken.spoiled c.loop-from.taken.spoiled =
-    takes_end g.Q.Program.rules c.args.voting c.args.conveyor.now c.loop-from.conveyor c.pull.new.self c.args.prog.now.value c.loop-from.prog.value c.args.taken.sum c.loop-from.taken.sum c.args.taken.spoiled c.loop-from.taken.spoiled c.loop-from.invariant
-    (c.in_default.ensures.unchanged refl) c.pull.ensures.kept (c.in_default.ensures.step_none refl) in
+    let last : Takes g.Q.Program.rules c.args.voting c.args.conveyor.now c.unread.new.self c.args.prog.now.value c.loop-number.prog.value c.args.taken.sum c.loop-number.taken.sum c.args.taken.spoiled c.loop-number.taken.spoiled =
+    takes_end g.Q.Program.rules c.args.voting c.args.conveyor.now c.loop-number.conveyor c.unread.new.self c.args.prog.now.value c.loop-number.prog.value c.args.taken.sum c.loop-number.taken.sum c.args.taken.spoiled c.loop-number.taken.spoiled c.loop-number.invariant
+    c.unread.ensures.state c.unread.ensures.kept c.unread.ensures.step in
     last.kept
 
 pub returns-clause-taken : goal.returns-clause-taken
 returns-clause-taken g c =
-    let last : Takes g.Q.Program.rules c.args.voting c.args.conveyor.now c.pull.new.self c.args.prog.now.value c.loop-from.prog.value c.args.taken.sum c.loop-from.taken.sum c.args.taken.spoiled c.loop-from.taken.spoiled =
-    takes_end g.Q.Program.rules c.args.voting c.args.conveyor.now c.loop-from.conveyor c.pull.new.self c.args.prog.now.value c.loop-from.prog.value c.args.taken.sum c.loop-from.taken.sum c.args.taken.spoiled c.loop-from.taken.spoiled c.loop-from.invariant
-    (c.in_default.ensures.unchanged refl) c.pull.ensures.kept (c.in_default.ensures.step_none refl) in
+    let last : Takes g.Q.Program.rules c.args.voting c.args.conveyor.now c.unread.new.self c.args.prog.now.value c.loop-number.prog.value c.args.taken.sum c.loop-number.taken.sum c.args.taken.spoiled c.loop-number.taken.spoiled =
+    takes_end g.Q.Program.rules c.args.voting c.args.conveyor.now c.loop-number.conveyor c.unread.new.self c.args.prog.now.value c.loop-number.prog.value c.args.taken.sum c.loop-number.taken.sum c.args.taken.spoiled c.loop-number.taken.spoiled c.loop-number.invariant
+    c.unread.ensures.state c.unread.ensures.kept c.unread.ensures.step in
     last.taken

@@ -1,0 +1,35 @@
+-- Any of the applications, as one program.
+use Rattle.either.specs.declared.Either.{Either}
+use Rattle.round_program.specs.Rules.{Rules}
+use Rattle.round_program.specs.Eithers.{either_rules}
+use Rattle.app_histo_ig.specs.Histos.{HistoState, histo_rules}
+use Rattle.app_histo_ig.specs.Igs.{IgState, ig_rules}
+use Rattle.app_permute.specs.Permutes.{PermuteState, permute_rules}
+use Rattle.app_permute.specs.Transposes.{TransposeState, transpose_rules}
+use Rattle.app_sssp.specs.Sssps.{SsspState, sssp_rules}
+
+-- A rank of one of the applications.
+abbrev pub ColumnState : Type 0
+ColumnState = Either HistoState IgState
+
+abbrev pub MoveState : Type 0
+MoveState = Either PermuteState TransposeState
+
+abbrev pub OtherState : Type 0
+OtherState = Either MoveState SsspState
+
+abbrev pub AnyState : Type 0
+AnyState = Either ColumnState OtherState
+
+-- What that application does.
+abbrev pub column_rules : Rules ColumnState
+column_rules = either_rules histo_rules ig_rules
+
+abbrev pub move_rules : Rules MoveState
+move_rules = either_rules permute_rules transpose_rules
+
+abbrev pub other_rules : Rules OtherState
+other_rules = either_rules move_rules sssp_rules
+
+abbrev pub any_rules : Rules AnyState
+any_rules = either_rules column_rules other_rules

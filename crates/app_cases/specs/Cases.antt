@@ -1,0 +1,56 @@
+-- Each application is a case of the program that is any of them: the way to its leaf, and what a run's shape is there.
+use Rattle.std.specs.Prelude.{ℕ, List, ◌∷◌}
+use Rattle.either.specs.declared.Either.TheVariants.{Left, Right}
+use Rattle.round_program.specs.Injections.{Injects}
+use Rattle.round_program.specs.EitherLaws.{left_is_case, right_is_case, case_of_case}
+use Rattle.app_histo_ig.specs.Histos.{HistoState, histo_rules}
+use Rattle.app_histo_ig.specs.Igs.{IgState, ig_rules}
+use Rattle.app_permute.specs.Permutes.{PermuteState, permute_rules}
+use Rattle.app_permute.specs.Transposes.{TransposeState, transpose_rules}
+use Rattle.app_sssp.specs.Sssps.{SsspState, sssp_rules}
+use Rattle.app_cases.specs.Any.{AnyState, column_rules, move_rules, other_rules, any_rules}
+
+abbrev pub histo_case : HistoState → AnyState
+histo_case s = Left (Left s)
+
+abbrev pub histo_shape : List ℕ → List ℕ
+histo_shape shape = 0 ∷ 0 ∷ shape
+
+pub histo_is_case : Injects histo_rules any_rules histo_case histo_shape
+histo_is_case = case_of_case (left_is_case histo_rules ig_rules) (left_is_case column_rules other_rules)
+
+abbrev pub ig_case : IgState → AnyState
+ig_case s = Left (Right s)
+
+abbrev pub ig_shape : List ℕ → List ℕ
+ig_shape shape = 0 ∷ 1 ∷ shape
+
+pub ig_is_case : Injects ig_rules any_rules ig_case ig_shape
+ig_is_case = case_of_case (right_is_case histo_rules ig_rules) (left_is_case column_rules other_rules)
+
+abbrev pub permute_case : PermuteState → AnyState
+permute_case s = Right (Left (Left s))
+
+abbrev pub permute_shape : List ℕ → List ℕ
+permute_shape shape = 1 ∷ 0 ∷ 0 ∷ shape
+
+pub permute_is_case : Injects permute_rules any_rules permute_case permute_shape
+permute_is_case = case_of_case (case_of_case (left_is_case permute_rules transpose_rules) (left_is_case move_rules sssp_rules)) (right_is_case column_rules other_rules)
+
+abbrev pub transpose_case : TransposeState → AnyState
+transpose_case s = Right (Left (Right s))
+
+abbrev pub transpose_shape : List ℕ → List ℕ
+transpose_shape shape = 1 ∷ 0 ∷ 1 ∷ shape
+
+pub transpose_is_case : Injects transpose_rules any_rules transpose_case transpose_shape
+transpose_is_case = case_of_case (case_of_case (right_is_case permute_rules transpose_rules) (left_is_case move_rules sssp_rules)) (right_is_case column_rules other_rules)
+
+abbrev pub sssp_case : SsspState → AnyState
+sssp_case s = Right (Right s)
+
+abbrev pub sssp_shape : List ℕ → List ℕ
+sssp_shape shape = 1 ∷ 1 ∷ shape
+
+pub sssp_is_case : Injects sssp_rules any_rules sssp_case sssp_shape
+sssp_is_case = case_of_case (right_is_case move_rules sssp_rules) (right_is_case column_rules other_rules)

@@ -1,0 +1,15 @@
+-- The state of a rank of transpose, read from the fields.
+use Rattle.app_permute.specs.declared.transpose.Transpose.TheInside.{Inside}
+use Rattle.app_permute.specs.Transposes.{TransposeState}
+
+abbrev pub transpose_state : Inside → TransposeState
+transpose_state s =
+    record {
+      rank = s.rank;
+      ranks = s.ranks;
+      round = s.round;
+      rows = s.rows;
+      cols = s.cols;
+      outgoing = s.outgoing.items;
+      cells = s.cells;
+    }

@@ -1,0 +1,116 @@
+//! permute's start, and its answer as a matrix.
+
+ghost use Rattle.std.specs.Prelude.{◌≡◌, ◌<◌, ◌≤◌, ◌%◌, ℕ, List, [], ◌∷◌, length, map, slice_index_or, IfOk};
+ghost use Rattle.mtx_text.specs.Permutations.{Permutes};
+ghost use Rattle.sparse_rows.specs.Owners.{row_owner};
+ghost use Rattle.sparse_rows.specs.Parts.{parts_of};
+ghost use Rattle.round_program.specs.Canonical.{InRound, EndsWithin};
+ghost use Rattle.app_permute.specs.Carried.{cell_item};
+ghost use Rattle.app_permute.specs.Moved.{permuted, IsPermuted};
+ghost use Rattle.app_permute.specs.Permutes.{permute_rules};
+ghost use Rattle.app_permute.specs.PermuteRuns.{permute_begins, permute_starts, PermuteEnded};
+
+use crate::carried::cell_sent;
+use crate::permute::{Begins, Permute};
+use crate::permute_lists::own_numbers;
+use bale_types::{Item, NoMemory};
+use mtx_text::{Cells, Matrix};
+use round_program::Progs;
+use sparse_rows::{Parts, split};
+use std::alloc::Global;
+
+/// The programs of permute on `ranks` ranks, from 1 to 64, in round 0 of a run of three rounds. `rp` and `cp` are
+/// permutations of the rows and the columns: row `i` becomes row `rp[i]`, and column `j` column `cp[j]`.
+///
+/// # Errors
+///
+/// `NoMemory` where there was none for the programs.
+pub fn permute_start(
+    alloc: Global,
+    m: &Matrix,
+    rp: &[u32],
+    cp: &[u32],
+    ranks: u32,
+) -> Result<Progs<Permute>, NoMemory>
+    requires rows { Permutes m.now.rows rp.now }
+    requires cols { Permutes m.now.cols cp.now }
+    requires some { 1 ≤ ranks }
+    requires few { ranks ≤ 64 }
+    ensures starts { IfOk result (λ ps. ps ≡ permute_starts ranks m.now rp.now cp.now) }
+    ensures begins { IfOk result (λ ps. InRound permute_rules ranks 0 (m.now.rows ∷ m.now.cols ∷ []) 3 ps) }
+    ensures ends { IfOk result (λ ps. EndsWithin permute_rules ps 3) }
+{
+    let parts = split(alloc, m, ranks)?;
+    let _kept = m.entries();
+    let mut progs = Progs::new(alloc);
+    for rank in 0..ranks {
+        progs.add(part_of(alloc, m, &parts, rp, cp, ranks, rank)?)?;
+    }
+    Ok(progs)
+}
+
+/// One rank's program.
+fn part_of(
+    alloc: Global,
+    m: &Matrix,
+    parts: &Parts,
+    rp: &[u32],
+    cp: &[u32],
+    ranks: u32,
+    rank: u32,
+) -> Result<Permute, NoMemory>
+    requires rank { rank < ranks }
+    requires parts { parts.now ≡ parts_of ranks m.now.entries }
+    requires rows { Permutes m.now.rows rp.now }
+    requires cols { Permutes m.now.cols cp.now }
+    ensures { IfOk result (λ s. s ≡ permute_begins ranks m.now rp.now cp.now rank) }
+{
+    let _kept = m.entries();
+    let begins = Begins {
+        new_rows: own_numbers(alloc, ranks, rank, rp)?,
+        new_cols: own_numbers(alloc, ranks, rank, cp)?,
+        outgoing: cells_of(alloc, parts, ranks, rank)?,
+    };
+    Ok(Permute::new(alloc, rank, ranks, m.rows(), m.cols(), begins))
+}
+
+/// The entries of a rank, for the owners of their rows.
+fn cells_of(
+    alloc: Global,
+    parts: &Parts,
+    ranks: u32,
+    rank: u32,
+) -> Result<Vec<(u32, Item)>, NoMemory>
+    requires some { 0 < ranks }
+    requires rank { rank < length parts.now }
+    ensures { IfOk result (λ v. v.items ≡ map (λ e. (row_owner ranks e, cell_item e.1)) (slice_index_or parts.now rank [])) }
+{
+    let mut outgoing = Vec::with_capacity(alloc, parts.len(rank))?;
+    for x in 0..parts.len(rank) {
+        let Some((_number, entry)) = parts.get(rank, x) else {
+            unreachable!()
+        };
+        outgoing.push((entry.i % ranks, cell_sent(entry)))?;
+    }
+    Ok(outgoing)
+}
+
+/// The permuted matrix, by row and then column. The programs are those of `permute_start` on `m` after their run.
+///
+/// # Errors
+///
+/// `NoMemory` where there was none for the matrix.
+pub fn permute_end(alloc: Global, m: &Matrix, p: &Progs<Permute>) -> Result<Matrix, NoMemory>
+    requires ended { (rp : List ℕ) × (cp : List ℕ) × PermuteEnded rp cp m.now p.now }
+    ensures matrix { (rp cp : List ℕ) → PermuteEnded rp cp m.now p.now → IfOk result (λ b. b ≡ permuted rp cp m.now) }
+    ensures values { (rp cp : List ℕ) → PermuteEnded rp cp m.now p.now → IfOk result (λ b. IsPermuted rp cp m.now b) }
+{
+    let mut all = Cells::new(alloc);
+    for rank in 0..p.len() {
+        let Some(program) = p.get(rank) else {
+            unreachable!()
+        };
+        all.raise_all(program.cells())?;
+    }
+    Matrix::of_cells(alloc, m.rows(), m.cols(), m.kind(), &all)
+}

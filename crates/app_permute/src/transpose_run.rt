@@ -1,0 +1,109 @@
+//! transpose's start, and its answer as a matrix.
+
+ghost use Rattle.std.specs.Prelude.{◌≡◌, ◌<◌, ◌≤◌, ◌%◌, [], ◌∷◌, length, map, slice_index_or, IfOk};
+ghost use Rattle.mtx_text.specs.Sparse.{Sparse, IsSparse};
+ghost use Rattle.sparse_rows.specs.Owners.{column_owner};
+ghost use Rattle.sparse_rows.specs.Parts.{parts_of};
+ghost use Rattle.round_program.specs.Canonical.{InRound, EndsWithin};
+ghost use Rattle.app_permute.specs.Carried.{cell_item};
+ghost use Rattle.app_permute.specs.Moved.{turned, transposed, IsTransposed};
+ghost use Rattle.app_permute.specs.Transposes.{transpose_rules};
+ghost use Rattle.app_permute.specs.TransposeRuns.{transpose_begins, transpose_starts, TransposeEnded};
+
+use crate::carried::cell_sent;
+use crate::transpose::Transpose;
+use bale_types::{Item, NoMemory, Triple};
+use mtx_text::{Cells, Matrix};
+use round_program::Progs;
+use sparse_rows::{Parts, split};
+use std::alloc::Global;
+
+/// The programs of transpose on `ranks` ranks, from 1 to 64, in round 0 of a run of one round.
+///
+/// # Errors
+///
+/// `NoMemory` where there was none for the programs.
+pub fn transpose_start(alloc: Global, m: &Matrix, ranks: u32) -> Result<Progs<Transpose>, NoMemory>
+    requires some { 1 ≤ ranks }
+    requires few { ranks ≤ 64 }
+    ensures starts { IfOk result (λ ps. ps ≡ transpose_starts ranks m.now) }
+    ensures begins { IfOk result (λ ps. InRound transpose_rules ranks 0 (m.now.cols ∷ m.now.rows ∷ []) 1 ps) }
+    ensures ends { IfOk result (λ ps. EndsWithin transpose_rules ps 1) }
+{
+    let parts = split(alloc, m, ranks)?;
+    let _kept = m.entries();
+    let mut progs = Progs::new(alloc);
+    for rank in 0..ranks {
+        progs.add(part_of(alloc, m, &parts, ranks, rank)?)?;
+    }
+    Ok(progs)
+}
+
+/// One rank's program.
+fn part_of(
+    alloc: Global,
+    m: &Matrix,
+    parts: &Parts,
+    ranks: u32,
+    rank: u32,
+) -> Result<Transpose, NoMemory>
+    requires rank { rank < ranks }
+    requires parts { parts.now ≡ parts_of ranks m.now.entries }
+    ensures { IfOk result (λ s. s ≡ transpose_begins ranks m.now rank) }
+{
+    let _kept = m.entries();
+    let outgoing = turned_of(alloc, parts, ranks, rank)?;
+    Ok(Transpose::new(alloc, rank, ranks, m.cols(), m.rows(), outgoing))
+}
+
+/// The entries of a rank, turned, for the owners of their columns.
+fn turned_of(
+    alloc: Global,
+    parts: &Parts,
+    ranks: u32,
+    rank: u32,
+) -> Result<Vec<(u32, Item)>, NoMemory>
+    requires some { 0 < ranks }
+    requires rank { rank < length parts.now }
+    ensures { IfOk result (λ v. v.items ≡ map (λ e. (column_owner ranks e, cell_item (turned e.1))) (slice_index_or parts.now rank [])) }
+{
+    let mut outgoing = Vec::with_capacity(alloc, parts.len(rank))?;
+    for x in 0..parts.len(rank) {
+        let Some((_number, entry)) = parts.get(rank, x) else {
+            unreachable!()
+        };
+        outgoing.push((entry.j % ranks, cell_sent(turned(entry))))?;
+    }
+    Ok(outgoing)
+}
+
+/// An entry turned over the diagonal.
+fn turned(entry: Triple) -> Triple
+    ensures { result ≡ turned entry }
+{
+    Triple {
+        i: entry.j,
+        j: entry.i,
+        v: entry.v,
+    }
+}
+
+/// The transposed matrix, by row and then column. The programs are those of `transpose_start` on `m` after their run.
+///
+/// # Errors
+///
+/// `NoMemory` where there was none for the matrix.
+pub fn transpose_end(alloc: Global, m: &Matrix, p: &Progs<Transpose>) -> Result<Matrix, NoMemory>
+    requires ended { TransposeEnded m.now p.now }
+    ensures matrix { IfOk result (λ b. b ≡ transposed m.now) }
+    ensures values { IfOk result (λ b. IsTransposed m.now b) }
+{
+    let mut all = Cells::new(alloc);
+    for rank in 0..p.len() {
+        let Some(program) = p.get(rank) else {
+            unreachable!()
+        };
+        all.raise_all(program.cells())?;
+    }
+    Matrix::of_cells(alloc, m.cols(), m.rows(), m.kind(), &all)
+}

@@ -1,0 +1,4 @@
+pub mod SsspLaws
+pub mod SsspRuns
+pub mod SsspView
+pub mod Sssps

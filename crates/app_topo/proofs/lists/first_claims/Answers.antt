@@ -1,0 +1,6 @@
+use Rattle.app_topo.proofs.TopoLists.{rows_more}
+use Rattle.app_topo.proofs.lists.first_claims.Goals as goal
+
+pub loop-place-preserved : goal.loop-place-preserved
+loop-place-preserved c =
+    rows_more c.args.ranks c.args.rank c.args.size c.loop-place.place c.args.numbers.now c.args.sums.now c.loop-place.outgoing.items _ c.loop-place.invariant c.in_ok-push_row.ensures

@@ -1,0 +1,55 @@
+-- The levels of a matrix's rows, and the order that they give.
+use Rattle.std.specs.Prelude.{ℕ, zero, suc, ◌==◌, ◌&&◌, Bool, List, [], ◌++◌, Option, None, Some, map, reverse, count_by, if◌then◌else◌, cond}
+use Rattle.std.specs.List.{filter, list_all, range_with_len, sum_by, position_or_len}
+use Rattle.bale_types.specs.declared.triple.Triple.{Triple}
+
+-- A claim: a row, and the column that it claims.
+abbrev pub Claim : Type 0
+Claim = ℕ × ℕ
+
+-- How many claims are of a row, and of a column. A row with a claim has a level; a column with a claim is taken.
+abbrev pub row_claims : ℕ → List Claim → ℕ
+row_claims i claims = count_by (λ c. c.0 == i) claims
+
+abbrev pub col_claims : ℕ → List Claim → ℕ
+col_claims j claims = count_by (λ c. c.1 == j) claims
+
+-- An entry of row i outside the taken columns.
+abbrev pub is_open : List Claim → ℕ → Triple → Bool
+is_open claims i t = t.i == i && col_claims t.j claims == 0
+
+-- A row is ready where it has no level and exactly one entry outside the taken columns.
+abbrev pub is_ready : List Triple → List Claim → ℕ → Bool
+is_ready entries claims i = row_claims i claims == 0 && count_by (is_open claims i) entries == 1
+
+-- The column of the one entry of a ready row that is outside the taken columns: the sum of the columns of all such.
+abbrev pub open_column : List Triple → List Claim → ℕ → ℕ
+open_column entries claims i = sum_by (λ t. cond (is_open claims i t) t.j 0) entries
+
+-- The next level: the ready rows of n, ascending, each with the column that it claims.
+-- (0,0), (0,1), (1,1), (2,2) with no claims: row 1 claims column 1, row 2 claims column 2
+abbrev pub level : ℕ → List Triple → List Claim → List Claim
+level n entries claims = map (λ i. (i, open_column entries claims i)) (filter (is_ready entries claims) (range_with_len 0 n))
+
+-- The claims of the levels below t, level by level.
+-- after two levels of the same entries: (1,1), (2,2), (0,0)
+abbrev pub claims_after : ℕ → List Triple → ℕ → List Claim
+claims_after n entries zero = []
+claims_after n entries (suc t) = claims_after n entries t ++ level n entries (claims_after n entries t)
+
+-- Every row of n has a level, and every column exactly one claim.
+abbrev pub is_complete : ℕ → List Claim → Bool
+is_complete n claims = list_all (λ x. row_claims x claims == 1 && col_claims x claims == 1) (range_with_len 0 n)
+
+-- The order of a square matrix: at position 0 the row and the column that were claimed last, at the last position those that
+-- were claimed first; none where some row has no level or some column not exactly one claim.
+-- of the entries above: (0,0), (2,2), (1,1); of (0,0), (0,1), (1,0), (1,1): none
+abbrev pub topo_order : ℕ → List Triple → Option (List Claim)
+topo_order n entries = if is_complete n (claims_after n entries n) then Some (reverse (claims_after n entries n)) else None
+
+-- The position of a row, and of a column.
+abbrev pub row_position : List Claim → ℕ → ℕ
+row_position order i = position_or_len (λ c. c.0 == i) order
+
+abbrev pub col_position : List Claim → ℕ → ℕ
+col_position order j = position_or_len (λ c. c.1 == j) order

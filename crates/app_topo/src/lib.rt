@@ -1,0 +1,34 @@
+//! The topological order of a square matrix, by levels: rows and columns in an order in which the matrix is upper triangular
+//! with a full diagonal, where there is one. It is a program in rounds.
+//!
+//! | Call | For | Answer |
+//! |---|---|---|
+//! | [`topo_start`] | the programs of topo on so many ranks | in round 0 of a run of at most `2n + 2` rounds |
+//! | [`topo_end`] | the programs, once they ended | the order, or `None` exactly where there is none |
+//! | [`topo_write`] | an order | a line for each position: position, row, column |
+//! | [`TopoOrder::len`], [`TopoOrder::get`] | the positions | `None` exactly past the end |
+//!
+//! Level by level, each row that has one entry left outside the taken columns claims that column, and a column that was claimed
+//! tells its rows that they have an entry less. `specs/Triangular` says what a valid order is and `specs/Levels` what the
+//! levels are; neither has a rank or a round. `proofs/Printed` and `proofs/Claimed` prove both directions: the order of the levels is
+//! valid, and where any valid pair of permutations exists, every level takes a row until all have claimed. The other proofs
+//! tie the rounds to the levels.
+#![tactic(auto)]
+
+mod lists;
+mod marks;
+mod order;
+mod placed;
+#[cfg(test)]
+mod tests;
+mod topo;
+mod topo_answer;
+mod topo_lines;
+mod topo_run;
+
+pub use order::TopoOrder;
+pub use placed::Placed;
+pub use topo::Topo;
+pub use topo_answer::topo_end;
+pub use topo_lines::topo_write;
+pub use topo_run::topo_start;

@@ -1,0 +1,251 @@
+//! What a rank of topo sends after a round: claims of rows, or falls of rows.
+
+ghost use Rattle.std.specs.Prelude.{◌≡◌, ◌<◌, ◌≤◌, ◌+◌, ◌-◌, ◌/◌, ◌%◌, ◌^◌, ◌==◌, ◌++◌, ◌∷◌, ℕ, [], nat_lt, IfOk, OnOk, if◌then◌else◌, length, map, slice_index_or};
+ghost use Rattle.std.specs.List.{All, filter, flat_map};
+ghost use Rattle.bale_types.specs.declared.triple.Triple.{Triple};
+ghost use Rattle.mtx_text.specs.Cells.{InOrder};
+ghost use Rattle.sparse_rows.specs.Owners.{places_for};
+ghost use Rattle.app_topo.specs.Topos.{claims_of, falls_of, sent_after, own_rows, to_fall, placed_in};
+
+use crate::marks::number_at;
+use crate::placed::Placed;
+use bale_types::{Item, NoMemory, Triple};
+use mtx_text::Cells;
+use std::alloc::Global;
+use std::mem;
+
+/// Takes what came out, in order.
+pub(crate) fn take_all(alloc: Global, came: &mut Cells) -> Vec<Triple>
+    ensures came { result.items ≡ came.old }
+    ensures ordered { InOrder result.items }
+    ensures none { came.new ≡ [] }
+{
+    mem::replace(came, Cells::new(alloc)).into_entries()
+}
+
+/// Appends row `i`'s claim, where its number is 1 and its sum is a column.
+fn push_claim(
+    outgoing: &mut Vec<(u32, Item)>,
+    ranks: u32,
+    size: u32,
+    numbers: &[u64],
+    sums: &[u64],
+    i: u32,
+) -> Result<(), NoMemory>
+    requires some { 0 < ranks }
+    requires number { i / ranks < length numbers.now }
+    requires sum { i / ranks < length sums.now }
+    ensures { OnOk result (outgoing.new.items ≡ outgoing.old.items ++ claims_of ranks size numbers.now sums.now (i ∷ [])) }
+{
+    let number = number_at(numbers, ranks, i as u64);
+    let sum = number_at(sums, ranks, i as u64);
+    if number == 1 && sum < size as u64 && i < size {
+        let claim = Item {
+            a: sum,
+            b: i as u64,
+            c: 2,
+        };
+        outgoing.push((sum as u32 % ranks, claim))?;
+    }
+    Ok(())
+}
+
+/// The same for a number that may be no row.
+fn push_row(
+    outgoing: &mut Vec<(u32, Item)>,
+    ranks: u32,
+    size: u32,
+    numbers: &[u64],
+    sums: &[u64],
+    row: u64,
+) -> Result<(), NoMemory>
+    requires some { 0 < ranks }
+    requires number { row / ranks < length numbers.now }
+    requires sum { row / ranks < length sums.now }
+    ensures { OnOk result (outgoing.new.items ≡ outgoing.old.items ++ claims_of ranks size numbers.now sums.now (row ∷ [])) }
+{
+    if row < size as u64 {
+        return push_claim(outgoing, ranks, size, numbers, sums, row as u32);
+    }
+    Ok(())
+}
+
+/// The claims of a rank's own rows.
+fn first_claims(
+    alloc: Global,
+    rank: u32,
+    ranks: u32,
+    size: u32,
+    numbers: &[u64],
+    sums: &[u64],
+) -> Result<Vec<(u32, Item)>, NoMemory>
+    requires rank { rank < ranks }
+    requires numbers { length numbers.now ≡ places_for ranks size }
+    requires sums { length sums.now ≡ places_for ranks size }
+    ensures { IfOk result (λ v. v.items ≡ claims_of ranks size numbers.now sums.now (own_rows ranks rank size)) }
+{
+    let mut outgoing = Vec::new(alloc);
+    for place in 0..numbers.len() {
+        let row = place as u64 * ranks as u64 + rank as u64;
+        push_row(&mut outgoing, ranks, size, numbers, sums, row)?;
+    }
+    Ok(outgoing)
+}
+
+/// The claims of the rows whose number fell to 1.
+fn later_claims(
+    alloc: Global,
+    ranks: u32,
+    size: u32,
+    numbers: &[u64],
+    sums: &[u64],
+    came: &[Triple],
+) -> Result<Vec<(u32, Item)>, NoMemory>
+    requires some { 0 < ranks }
+    requires placed { All (λ u. (u.i / ranks < length numbers.now) × (u.i / ranks < length sums.now)) came.now }
+    ensures { IfOk result (λ v. v.items ≡ claims_of ranks size numbers.now sums.now (map (λ u. u.i) came.now)) }
+{
+    let mut outgoing = Vec::new(alloc);
+    for row in came {
+        push_claim(&mut outgoing, ranks, size, numbers, sums, row.i)?;
+    }
+    Ok(outgoing)
+}
+
+/// The place of the first entry of column `c` or a later one, by halving.
+fn first_of(columns: &[Triple], c: u64) -> usize
+    requires { InOrder columns.now }
+    ensures within { result ≤ length columns.now }
+    ensures before { (k : ℕ) (d : Triple) → k < result → (slice_index_or columns.now k d).i < c }
+    ensures from { (k : ℕ) (d : Triple) → result ≤ k → k < length columns.now → c ≤ (slice_index_or columns.now k d).i }
+{
+    let mut low = 0;
+    let mut high = columns.len();
+    while low < high {
+        let middle = low + (high - low) / 2;
+        if (columns[middle].i as u64) < c {
+            low = middle + 1;
+        } else {
+            high = middle;
+        }
+    }
+    low
+}
+
+/// Appends the falls of the rows of column `c`.
+fn push_falls(
+    outgoing: &mut Vec<(u32, Item)>,
+    ranks: u32,
+    columns: &[Triple],
+    c: u32,
+) -> Result<(), NoMemory>
+    requires some { 0 < ranks }
+    requires ordered { InOrder columns.now }
+    ensures { OnOk result (outgoing.new.items ≡ outgoing.old.items ++ map (to_fall ranks) (filter (λ u. u.i == c) columns.now)) }
+{
+    let first = first_of(columns, c as u64);
+    let end = first_of(columns, c as u64 + 1);
+    for at in first..end {
+        let entry = columns[at];
+        let fall = Item {
+            a: entry.j as u64,
+            b: entry.i as u64,
+            c: 3,
+        };
+        outgoing.push((entry.j % ranks, fall))?;
+    }
+    Ok(())
+}
+
+/// The falls of the rows of the columns that were claimed.
+fn falls(
+    alloc: Global,
+    ranks: u32,
+    columns: &[Triple],
+    came: &[Triple],
+) -> Result<Vec<(u32, Item)>, NoMemory>
+    requires some { 0 < ranks }
+    requires ordered { InOrder columns.now }
+    ensures { IfOk result (λ v. v.items ≡ falls_of ranks columns.now came.now) }
+{
+    let mut outgoing = Vec::new(alloc);
+    for claimed in came {
+        push_falls(&mut outgoing, ranks, columns, claimed.i)?;
+    }
+    Ok(outgoing)
+}
+
+/// What is sent after a round: the first claims, falls, or later claims.
+pub(crate) fn after_round(
+    alloc: Global,
+    round: u64,
+    rank: u32,
+    ranks: u32,
+    size: u32,
+    numbers: &[u64],
+    sums: &[u64],
+    columns: &[Triple],
+    came: &[Triple],
+) -> Result<Vec<(u32, Item)>, NoMemory>
+    requires rank { rank < ranks }
+    requires numbers { length numbers.now ≡ places_for ranks size }
+    requires sums { length sums.now ≡ places_for ranks size }
+    requires placed { All (λ u. (u.i / ranks < length numbers.now) × (u.i / ranks < length sums.now)) came.now }
+    requires ordered { InOrder columns.now }
+    ensures { IfOk result (λ v. v.items ≡ sent_after round rank ranks size numbers.now sums.now columns.now came.now) }
+{
+    if round == 0 {
+        return first_claims(alloc, rank, ranks, size, numbers, sums);
+    }
+    if round % 2 == 1 {
+        if round < u64::MAX {
+            return falls(alloc, ranks, columns, came);
+        }
+        return Ok(Vec::new(alloc));
+    }
+    later_claims(alloc, ranks, size, numbers, sums, came)
+}
+
+/// Notes the rows whose claims were sent in an odd round: they have its level.
+pub(crate) fn keep_claims(
+    claimed: &mut Vec<Placed>,
+    round: u64,
+    outgoing: &[(u32, Item)],
+) -> Result<(), NoMemory>
+    requires { All (λ e. (e.1.a < 2 ^ 32) × (e.1.b < 2 ^ 32)) outgoing.now }
+    ensures { OnOk result (claimed.new.items ≡ (if round % 2 == 1 then claimed.old.items ++ map (placed_in round) outgoing.now else claimed.old.items)) }
+{
+    if round % 2 == 1 {
+        return place_all(claimed, (round - 1) / 2, outgoing);
+    }
+    Ok(())
+}
+
+/// Notes rows of a level.
+fn place_all(
+    claimed: &mut Vec<Placed>,
+    level: u64,
+    outgoing: &[(u32, Item)],
+) -> Result<(), NoMemory>
+    requires { All (λ e. (e.1.a < 2 ^ 32) × (e.1.b < 2 ^ 32)) outgoing.now }
+    ensures { OnOk result (claimed.new.items ≡ claimed.old.items ++ map (λ e. record { level = level; row = e.1.b; column = e.1.a }) outgoing.now) }
+{
+    for claim in outgoing {
+        let (_to, item) = *claim;
+        claimed.push(Placed {
+            level,
+            row: item.b as u32,
+            column: item.a as u32,
+        })?;
+    }
+    Ok(())
+}
+
+/// Keeps what came in round 0 as the entries of own columns.
+pub(crate) fn put_columns(columns: &mut Vec<Triple>, round: u64, came: Vec<Triple>)
+    ensures { columns.new.items ≡ (if round == 0 then came.items else columns.old.items) }
+{
+    if round == 0 {
+        *columns = came;
+    }
+}

@@ -1,0 +1,77 @@
+//! What an absorb changes of a rank of topo: numbers at places, and what came.
+
+ghost use Rattle.std.specs.Prelude.{◌≡◌, ◌<◌, ◌≤◌, ◌+◌, ◌-◌, ◌/◌, ◌%◌, ◌^◌, ◌==◌, ◌&&◌, is_ok, if◌then◌else◌, length, min};
+ghost use Rattle.mtx_text.specs.Cells.{raised};
+ghost use Rattle.app_topo.specs.Topos.{added, number_at, spot};
+
+use bale_types::NoMemory;
+use mtx_text::Cells;
+
+/// Lets the number at `x` rise by `b`, modulo 2^64.
+#[inline(always)]
+pub(crate) fn add(numbers: &mut Vec<u64>, ranks: u32, x: u64, b: u64)
+    requires some { 0 < ranks }
+    requires small { x < 2 ^ 32 }
+    requires place { x / ranks < length numbers.old.items }
+    ensures { numbers.new.items ≡ added ranks numbers.old.items x b }
+{
+    let place = (x as u32 / ranks) as usize;
+    numbers[place] = numbers[place].wrapping_add(b);
+}
+
+/// Lets the number at `x` fall by `b`, modulo 2^64.
+#[inline(always)]
+pub(crate) fn lessen(numbers: &mut Vec<u64>, ranks: u32, x: u64, b: u64)
+    requires some { 0 < ranks }
+    requires small { x < 2 ^ 32 }
+    requires place { x / ranks < length numbers.old.items }
+    ensures { numbers.new.items ≡ added ranks numbers.old.items x (2 ^ 64 - b) }
+{
+    let place = (x as u32 / ranks) as usize;
+    numbers[place] = numbers[place].wrapping_sub(b);
+}
+
+/// The number at `x`.
+#[inline(always)]
+pub(crate) fn number_at(numbers: &[u64], ranks: u32, x: u64) -> u64
+    requires some { 0 < ranks }
+    requires small { x < 2 ^ 32 }
+    requires place { x / ranks < length numbers.now }
+    ensures { result ≡ number_at ranks numbers.now x }
+{
+    numbers[(x as u32 / ranks) as usize]
+}
+
+/// Notes that `a` and `b` came.
+#[inline(always)]
+pub(crate) fn mark(came: &mut Cells, a: u64, b: u64) -> Result<(), NoMemory>
+    requires first { a < 2 ^ 32 }
+    requires second { b < 2 ^ 32 }
+    ensures { came.new ≡ (if is_ok result then raised (spot a b) came.old else came.old) }
+{
+    came.raise(a as u32, b as u32, 0)
+}
+
+/// Notes that `a` came, where so wished.
+#[inline(always)]
+pub(crate) fn mark_if(came: &mut Cells, wished: bool, a: u64) -> Result<(), NoMemory>
+    requires { a < 2 ^ 32 }
+    ensures { came.new ≡ (if is_ok result && wished then raised (spot a 0) came.old else came.old) }
+{
+    if wished {
+        return mark(came, a, 0);
+    }
+    Ok(())
+}
+
+/// How many columns were claimed for the first time, after a claim of one that had `count` claims.
+#[inline(always)]
+pub(crate) fn fresh_after(fresh: u32, count: u64) -> u32
+    ensures { result ≡ (if count == 0 then min (fresh + 1) (2 ^ 32 - 1) else fresh) }
+{
+    if count == 0 {
+        fresh.saturating_add(1)
+    } else {
+        fresh
+    }
+}

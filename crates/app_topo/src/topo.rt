@@ -1,0 +1,258 @@
+//! topo: rows claim columns, level by level.
+
+ghost use Rattle.std.specs.Prelude.{◌≡◌, ◌<◌, ◌-◌, ◌%◌, ◌==◌, [], nat_lt, OnOk, OnErr, if◌then◌else◌};
+ghost use Rattle.app_topo.specs.Topos.{IsTopo, entered, claimed_by, fallen};
+ghost use Rattle.app_topo.specs.TopoLaws.{IsOwn};
+
+use crate::lists::{after_round, keep_claims, put_columns, take_all};
+use crate::marks::{add, fresh_after, lessen, mark, mark_if, number_at};
+use crate::placed::Placed;
+use bale_types::{Item, NoMemory, Triple};
+use mtx_text::Cells;
+use round_program::Program;
+use std::alloc::Global;
+use std::marker::Model;
+
+/// One rank's part of topo. Row `i` belongs to rank `i mod ranks` and column `j` to rank `j mod ranks`; what a rank keeps of
+/// its row or column number `x` stands at place `x div ranks`.
+///
+/// In round 0 each entry goes to the owner of its row, which counts it and adds up its column, and to the owner of its column,
+/// which keeps its row. Then a row that has one entry left in columns that aren't taken claims that column (odd rounds), and a
+/// column that was claimed tells its rows that they have an entry less (even rounds).
+#[derive(Drop)]
+pub struct Topo {
+    alloc: Global,
+    rank: u32,
+    ranks: u32,
+    round: u64,
+    /// the matrix's number of rows, and of columns
+    size: u32,
+    /// how many entries of each own row are in columns that aren't taken
+    numbers: Vec<u64>,
+    /// the sums of these columns' numbers
+    sums: Vec<u64>,
+    /// the entries of own columns as column and row, in order
+    columns: Vec<Triple>,
+    /// how many rows claimed each own column
+    counts: Vec<u64>,
+    /// the own rows that have claimed
+    claimed: Vec<Placed>,
+    /// how many own columns were claimed for the first time in this round
+    fresh: u32,
+    /// what came in this round: entries of own columns, own columns claimed, or own rows whose number fell to 1
+    came: Cells,
+    /// what is sent in this round
+    outgoing: Vec<(u32, Item)>,
+}
+
+impl Model for Topo {
+    ghost use Rattle.app_topo.specs.Topos.{TopoState, IsTopo};
+
+    ghost Value = { TopoState };
+
+    ghost use Rattle.app_topo.specs.TopoView.{topo_state};
+
+    ghost view = { topo_state };
+
+    ghost invariant = { λ s. IsTopo (topo_state s) };
+}
+
+/// What a rank of topo begins with, beside its numbers.
+#[derive(Drop)]
+pub(crate) struct Begins {
+    pub(crate) numbers: Vec<u64>,
+    pub(crate) sums: Vec<u64>,
+    pub(crate) counts: Vec<u64>,
+    pub(crate) outgoing: Vec<(u32, Item)>,
+}
+
+impl Topo {
+    /// A rank before its first round.
+    pub(crate) fn new(alloc: Global, rank: u32, ranks: u32, size: u32, begins: Begins) -> Topo
+        requires { IsTopo (record {
+          rank = rank;
+          ranks = ranks;
+          round = 0;
+          size = size;
+          numbers = begins.numbers.items;
+          sums = begins.sums.items;
+          columns = [];
+          counts = begins.counts.items;
+          claimed = [];
+          fresh = 0;
+          came = [];
+          outgoing = begins.outgoing.items;
+        }) }
+        ensures { result ≡ record {
+          rank = rank;
+          ranks = ranks;
+          round = 0;
+          size = size;
+          numbers = begins.numbers.items;
+          sums = begins.sums.items;
+          columns = [];
+          counts = begins.counts.items;
+          claimed = [];
+          fresh = 0;
+          came = [];
+          outgoing = begins.outgoing.items;
+        } }
+    {
+        Topo {
+            alloc,
+            rank,
+            ranks,
+            round: 0,
+            size,
+            numbers: begins.numbers,
+            sums: begins.sums,
+            columns: Vec::new(alloc),
+            counts: begins.counts,
+            claimed: Vec::new(alloc),
+            fresh: 0,
+            came: Cells::new(alloc),
+            outgoing: begins.outgoing,
+        }
+    }
+
+    /// The own rows that have claimed, by level and then row.
+    pub(crate) fn claimed(&self) -> &[Placed]
+        ensures { result.now ≡ self.now.claimed }
+    {
+        &self.claimed
+    }
+
+    /// How many rows claimed each own column.
+    pub(crate) fn counts(&self) -> &[u64]
+        ensures { result.now ≡ self.now.counts }
+    {
+        &self.counts
+    }
+
+    /// Round 0: an entry of an own row, or of an own column.
+    fn enter(&mut self, item: Item) -> Result<(), NoMemory>
+        requires { IsOwn self.old.size self.old.ranks self.old.rank item }
+        ensures ok { OnOk result (self.new ≡ entered self.old item) }
+        ensures err { OnErr result (self.new ≡ self.old) }
+    {
+        if item.c == 0 {
+            add(&mut self.numbers, self.ranks, item.a, 1);
+            add(&mut self.sums, self.ranks, item.a, item.b);
+            return Ok(());
+        }
+        mark(&mut self.came, item.a, item.b)
+    }
+
+    /// Odd rounds: a row claims an own column.
+    fn claim(&mut self, item: Item) -> Result<(), NoMemory>
+        requires { IsOwn self.old.size self.old.ranks self.old.rank item }
+        ensures ok { OnOk result (self.new ≡ claimed_by self.old item) }
+        ensures err { OnErr result (self.new ≡ self.old) }
+    {
+        mark(&mut self.came, item.a, 0)?;
+        self.fresh = fresh_after(self.fresh, number_at(&self.counts, self.ranks, item.a));
+        add(&mut self.counts, self.ranks, item.a, 1);
+        Ok(())
+    }
+
+    /// Later even rounds: an own row has an entry less.
+    fn fall(&mut self, item: Item) -> Result<(), NoMemory>
+        requires { IsOwn self.old.size self.old.ranks self.old.rank item }
+        ensures ok { OnOk result (self.new ≡ fallen self.old item) }
+        ensures err { OnErr result (self.new ≡ self.old) }
+    {
+        let left = number_at(&self.numbers, self.ranks, item.a).wrapping_sub(1);
+        mark_if(&mut self.came, left == 1, item.a)?;
+        lessen(&mut self.numbers, self.ranks, item.a, 1);
+        lessen(&mut self.sums, self.ranks, item.a, item.b);
+        Ok(())
+    }
+}
+
+impl Program for Topo {
+    ghost use Rattle.app_topo.specs.Topos.{topo_rules};
+    ghost use Rattle.app_topo.specs.TopoLaws.{topo_laws};
+
+    ghost rules = { topo_rules };
+
+    ghost laws = { topo_laws };
+
+    fn rank(&self) -> u32 {
+        self.rank
+    }
+
+    fn ranks(&self) -> u32 {
+        self.ranks
+    }
+
+    fn round(&self) -> u64 {
+        self.round
+    }
+
+    fn count(&self) -> u64 {
+        self.outgoing.len() as u64
+    }
+
+    fn emission(&self, i: u64) -> (u32, Item) {
+        self.outgoing[i as usize]
+    }
+
+    fn fits(&self, from: u32, item: Item) -> bool {
+        from < self.ranks
+            && item.a < self.size as u64
+            && item.b < self.size as u64
+            && item.a as u32 % self.ranks == self.rank
+            && kind_fits(self.round, item.c)
+    }
+
+    fn absorb(&mut self, from: u32, item: Item) -> Result<(), NoMemory> {
+        if self.round == 0 {
+            return self.enter(item);
+        }
+        if self.round % 2 == 1 {
+            return self.claim(item);
+        }
+        self.fall(item)
+    }
+
+    fn vote(&self) -> u64 {
+        self.fresh as u64
+    }
+
+    fn goes_on(&self, votes: u64) -> bool {
+        self.round % 2 == 0 || votes != 0
+    }
+
+    fn end_round(&mut self, votes: u64) -> Result<bool, NoMemory> {
+        let goes_on = self.round % 2 == 0 || votes != 0;
+        let came = take_all(self.alloc, &mut self.came);
+        let next = after_round(
+            self.alloc,
+            self.round,
+            self.rank,
+            self.ranks,
+            self.size,
+            &self.numbers,
+            &self.sums,
+            &self.columns,
+            &came,
+        )?;
+        keep_claims(&mut self.claimed, self.round, &self.outgoing)?;
+        put_columns(&mut self.columns, self.round, came);
+        self.outgoing = next;
+        self.fresh = 0;
+        self.round = self.round.saturating_add(1);
+        Ok(goes_on)
+    }
+}
+
+/// Whether an item of this kind comes in the round.
+fn kind_fits(round: u64, kind: u64) -> bool
+    ensures { result ≡ (if round == 0 then nat_lt kind 2 else kind == 3 - round % 2) }
+{
+    if round == 0 {
+        kind < 2
+    } else {
+        kind == 3 - round % 2
+    }
+}

@@ -1,0 +1,102 @@
+//! topo's start.
+
+ghost use Rattle.std.specs.Prelude.{◌≡◌, ◌<◌, ◌≤◌, ◌*◌, ◌+◌, [], ◌∷◌, length, replicate, slice_index_or, IfOk};
+ghost use Rattle.std.specs.List.{flat_map};
+ghost use Rattle.sparse_rows.specs.Parts.{parts_of};
+ghost use Rattle.round_program.specs.Canonical.{InRound, EndsWithin};
+ghost use Rattle.app_topo.specs.Topos.{topo_rules};
+ghost use Rattle.app_topo.specs.TopoRuns.{first_sent, topo_begins, topo_starts};
+
+use crate::topo::{Begins, Topo};
+use bale_types::{Item, NoMemory};
+use mtx_text::Matrix;
+use round_program::Progs;
+use sparse_rows::{Parts, split};
+use std::alloc::Global;
+
+/// The programs of topo on `ranks` ranks, from 1 to 64, in round 0 of a run of at most `2n + 2` rounds for `n` rows. The matrix is
+/// square.
+///
+/// # Errors
+///
+/// `NoMemory` where there was none for the programs.
+pub fn topo_start(alloc: Global, m: &Matrix, ranks: u32) -> Result<Progs<Topo>, NoMemory>
+    requires square { m.now.rows ≡ m.now.cols }
+    requires some { 1 ≤ ranks }
+    requires few { ranks ≤ 64 }
+    ensures starts { IfOk result (λ ps. ps ≡ topo_starts ranks m.now) }
+    ensures begins { IfOk result (λ ps. InRound topo_rules ranks 0 (m.now.rows ∷ []) (2 * m.now.rows + 2) ps) }
+    ensures ends { IfOk result (λ ps. EndsWithin topo_rules ps (2 * m.now.rows + 2)) }
+{
+    let parts = split(alloc, m, ranks)?;
+    let _kept = m.entries();
+    let mut progs = Progs::new(alloc);
+    for rank in 0..ranks {
+        progs.add(part_of(alloc, m, &parts, ranks, rank)?)?;
+    }
+    Ok(progs)
+}
+
+/// One rank's program.
+fn part_of(
+    alloc: Global,
+    m: &Matrix,
+    parts: &Parts,
+    ranks: u32,
+    rank: u32,
+) -> Result<Topo, NoMemory>
+    requires square { m.now.rows ≡ m.now.cols }
+    requires rank { rank < ranks }
+    requires parts { parts.now ≡ parts_of ranks m.now.entries }
+    ensures { IfOk result (λ s. s ≡ topo_begins ranks m.now rank) }
+{
+    let _kept = m.entries();
+    let places = (m.rows() / ranks + 1) as usize;
+    let begins = Begins {
+        numbers: zeros(alloc, places)?,
+        sums: zeros(alloc, places)?,
+        counts: zeros(alloc, places)?,
+        outgoing: entries_of(alloc, parts, ranks, rank)?,
+    };
+    Ok(Topo::new(alloc, rank, ranks, m.rows(), begins))
+}
+
+/// So many numbers 0.
+fn zeros(alloc: Global, n: usize) -> Result<Vec<u64>, NoMemory>
+    ensures { IfOk result (λ v. v.items ≡ replicate n 0) }
+{
+    Ok(vec![in alloc; 0u64; n]?)
+}
+
+/// The entries of a rank, each for the owners of its row and of its column.
+fn entries_of(
+    alloc: Global,
+    parts: &Parts,
+    ranks: u32,
+    rank: u32,
+) -> Result<Vec<(u32, Item)>, NoMemory>
+    requires some { 0 < ranks }
+    requires rank { rank < length parts.now }
+    ensures { IfOk result (λ v. v.items ≡ flat_map (first_sent ranks) (slice_index_or parts.now rank [])) }
+{
+    let mut outgoing = Vec::with_capacity(alloc, parts.len(rank).saturating_mul(2))?;
+    for x in 0..parts.len(rank) {
+        let Some((_number, entry)) = parts.get(rank, x) else {
+            unreachable!()
+        };
+        let (row, column) = (entry.i as u64, entry.j as u64);
+        let for_row = Item {
+            a: row,
+            b: column,
+            c: 0,
+        };
+        let for_column = Item {
+            a: column,
+            b: row,
+            c: 1,
+        };
+        outgoing.push((entry.i % ranks, for_row))?;
+        outgoing.push((entry.j % ranks, for_column))?;
+    }
+    Ok(outgoing)
+}

@@ -1,0 +1,29 @@
+-- Whether a command can be answered for a matrix: tests in their order, of which the first that fails decides.
+use Rattle.std.specs.Prelude.{ℕ, ◌*◌, ◌==◌, ◌&&◌, ◌||◌, Bool, not, nat_lt, List, [], ◌∷◌, Option, None, Some, length, if◌then◌else◌}
+use Rattle.mtx_text.specs.Sparse.{Sparse}
+use Rattle.least_walks.specs.Walks.{no_negative}
+use Rattle.bale_words.specs.declared.command.Task.{Task}
+use Rattle.bale_words.specs.declared.command.Task.TheVariants as task
+use Rattle.bale_cli.specs.declared.unfit.Unfit.{Unfit}
+use Rattle.bale_cli.specs.declared.unfit.Unfit.TheVariants as unfit
+
+-- A test: whether it fails, and what is then said.
+abbrev pub Test : Type 0
+Test = Bool × Unfit
+
+-- The first test that fails.
+abbrev pub first_failed : List Test → Option Unfit
+first_failed [] = None
+first_failed (t ∷ ts) = if t.0 then Some t.1 else first_failed ts
+
+-- The tests of an application. The last one bounds what a serial drive stores.
+abbrev pub tests_of : Task → Sparse → Bool → List Test
+tests_of (task.Sssp source delta) m serial =
+    (not (m.cols == m.rows), unfit.NotSquare) ∷ (not (no_negative m.entries), unfit.NegativeWeight) ∷ ((source == 0) || nat_lt m.rows source, unfit.Source)
+    ∷ (serial && nat_lt 16777216 (m.rows * length m.entries), unfit.SerialSize) ∷ []
+tests_of _ m serial = []
+
+-- Why an application can't be answered for a matrix, driven serially or by threads: the first of its tests that fails.
+-- sssp from 5 on a matrix of 4 rows and 4 columns: the source is out of range.
+abbrev pub unfitness : Task → Sparse → Bool → Option Unfit
+unfitness t m serial = first_failed (tests_of t m serial)

@@ -1,0 +1,75 @@
+-- What each application answers for a matrix, and which programs it runs for that.
+use Rattle.std.specs.Prelude.{◌≡◌, ◌≤◌, ◌+◌, ◌-◌, ℕ, Bool, false, List, [], ◌∷◌, Option, None}
+use Rattle.route_tensor.specs.Grid.{ranks}
+use Rattle.mtx_text.specs.Sparse.{Sparse}
+use Rattle.round_program.specs.Rules.{Rules}
+use Rattle.round_program.specs.Canonical.{HasRounds}
+use Rattle.rank_group.specs.declared.closed_round.ClosedRound.{ClosedRound}
+use Rattle.rank_group.specs.Rounds.{round_of}
+use Rattle.rank_group.specs.Told.{Made, TellsRun, turns_within}
+use Rattle.bale_words.specs.declared.command.Command.{Command}
+use Rattle.bale_words.specs.declared.command.Task.{Task}
+use Rattle.bale_words.specs.declared.command.Task.TheVariants as task
+use Rattle.bale_words.specs.declared.command.Permutations.TheVariants.{Seed}
+use Rattle.mtx_text.specs.Written.{text_of}
+use Rattle.app_histo_ig.specs.HistoLines.{histo_lines}
+use Rattle.app_histo_ig.specs.HistoRuns.{histo_starts}
+use Rattle.app_histo_ig.specs.Histos.{histo_rules}
+use Rattle.app_histo_ig.specs.IgLines.{ig_lines}
+use Rattle.app_histo_ig.specs.IgRuns.{ig_starts}
+use Rattle.app_histo_ig.specs.Igs.{ig_rules}
+use Rattle.app_permute.specs.Moved.{permuted, transposed}
+use Rattle.app_permute.specs.Perms.{perms_of}
+use Rattle.app_permute.specs.Permutes.{permute_rules}
+use Rattle.app_permute.specs.PermuteRuns.{permute_starts}
+use Rattle.app_permute.specs.Transposes.{transpose_rules}
+use Rattle.app_permute.specs.TransposeRuns.{transpose_starts}
+use Rattle.app_sssp.specs.Sssps.{sssp_rules}
+use Rattle.app_sssp.specs.SsspRuns.{sssp_starts}
+use Rattle.least_walks.specs.Lines.{IsSsspAnswer}
+
+-- The plain bank of a command's run: its grid, the entries of a parcel, the slots of a link.
+abbrev pub made_for : Command → Made
+made_for c = record { dims = c.grid; cap = c.travel.buffer; slots = c.travel.slots; by_slots = false }
+
+-- These bytes are an application's answer for a matrix. What doesn't run has none.
+abbrev pub IsAnswer : Task → Sparse → List ℕ → Type 0
+IsAnswer task.Histo m bytes = bytes ≡ histo_lines m.entries m.cols
+IsAnswer task.Ig m bytes = bytes ≡ ig_lines m.entries
+IsAnswer (task.Permute (Seed seed)) m bytes = bytes ≡ text_of (permuted (perms_of m.rows m.cols seed).rows (perms_of m.rows m.cols seed).cols m)
+IsAnswer task.Transpose m bytes = bytes ≡ text_of (transposed m)
+IsAnswer (task.Sssp source None) m bytes = IsSsspAnswer m (source - 1) bytes
+IsAnswer _ m bytes = ⊥
+
+-- The rounds of a run are one closed round, which tells the canonical run of these programs.
+pub record Tells {S : Type 0} (R : Rules S) (starts : List S) (made : Made) (steady : Bool) (rounds : List ClosedRound) : Type 0 where
+  pub closed : ClosedRound
+  pub only : rounds ≡ closed ∷ []
+  pub count : ℕ
+  pub has_rounds : HasRounds R starts count
+  pub tells : TellsRun R starts count made steady (round_of closed)
+
+-- The rounds tell the canonical run of the application's programs for this matrix, over a bank that was made as said.
+-- For histo on 4 ranks: that of histo_rules, begun with histo_starts 4 m.
+abbrev pub TellsTask : Task → Sparse → Made → Bool → List ClosedRound → Type 0
+TellsTask task.Histo m made steady rounds = Tells histo_rules (histo_starts (ranks made.dims) m) made steady rounds
+TellsTask task.Ig m made steady rounds = Tells ig_rules (ig_starts (ranks made.dims) m) made steady rounds
+TellsTask (task.Permute (Seed seed)) m made steady rounds =
+    Tells permute_rules (permute_starts (ranks made.dims) m (perms_of m.rows m.cols seed).rows (perms_of m.rows m.cols seed).cols) made steady rounds
+TellsTask task.Transpose m made steady rounds = Tells transpose_rules (transpose_starts (ranks made.dims) m) made steady rounds
+TellsTask (task.Sssp source None) m made steady rounds = Tells sssp_rules (sssp_starts (ranks made.dims) m (source - 1)) made steady rounds
+TellsTask _ m made steady rounds = ⊥
+
+-- From `before` turns to `after` there are no more than a run of these programs takes at most.
+abbrev pub WithinTurns : {S : Type 0} → Rules S → List S → List ℕ → ℕ → ℕ → Type 0
+WithinTurns R starts dims before after = (n : ℕ) → HasRounds R starts n → after ≤ before + turns_within R dims starts n
+
+-- The turns of the application's run for this matrix are bounded before it. What doesn't run makes none.
+abbrev pub TurnsOfTask : Task → Sparse → List ℕ → ℕ → ℕ → Type 0
+TurnsOfTask task.Histo m dims before after = WithinTurns histo_rules (histo_starts (ranks dims) m) dims before after
+TurnsOfTask task.Ig m dims before after = WithinTurns ig_rules (ig_starts (ranks dims) m) dims before after
+TurnsOfTask (task.Permute (Seed seed)) m dims before after =
+    WithinTurns permute_rules (permute_starts (ranks dims) m (perms_of m.rows m.cols seed).rows (perms_of m.rows m.cols seed).cols) dims before after
+TurnsOfTask task.Transpose m dims before after = WithinTurns transpose_rules (transpose_starts (ranks dims) m) dims before after
+TurnsOfTask (task.Sssp source None) m dims before after = WithinTurns sssp_rules (sssp_starts (ranks dims) m (source - 1)) dims before after
+TurnsOfTask _ m dims before after = after ≡ before

@@ -1,0 +1,159 @@
+//! The drives on one thread, by capacity and hops.
+ghost use Rattle.std.specs.Prelude.{◌≡◌, ℕ, ◌+◌, ◌<◌, ◌≤◌, false, List, [], ◌∷◌, length, IfOk};
+ghost use Rattle.route_tensor.specs.Grid.{ranks};
+ghost use Rattle.port_bank.specs.Port.{IsSlots};
+ghost use Rattle.round_program.specs.Canonical.{InRound, HasRounds, EndsWithin, HaveEnded};
+ghost use Rattle.rank_group.specs.declared.closed_round.ClosedRound.{ClosedRound};
+ghost use Rattle.rank_group.specs.Ranks.{IsOrder};
+ghost use Rattle.rank_group.specs.Rounds.{round_of};
+ghost use Rattle.rank_group.specs.Told.{TellsRun, turns_within};
+ghost use Rattle.case_table.specs.Capacities.{IsCapacity};
+
+use bale_types::NoMemory;
+use rank_group::{Finished, Steps, Via, drive_serial};
+use round_program::{Program, Progs};
+use route_tensor::Grid;
+use std::alloc::Global;
+use std::sync::ledger::Ledger;
+
+/// The drive for a capacity: each case hands the values on.
+macro_rules! by_capacity {
+    ($cap:expr, $drive:ident::<$hops:literal, $($param:ty),*>, ($($value:expr),*)) => {
+        if $cap == 1 {
+            $drive::<1, $hops, $($param),*>($($value),*)
+        } else if $cap == 2 {
+            $drive::<2, $hops, $($param),*>($($value),*)
+        } else if $cap == 4 {
+            $drive::<4, $hops, $($param),*>($($value),*)
+        } else if $cap == 8 {
+            $drive::<8, $hops, $($param),*>($($value),*)
+        } else if $cap == 16 {
+            $drive::<16, $hops, $($param),*>($($value),*)
+        } else if $cap == 32 {
+            $drive::<32, $hops, $($param),*>($($value),*)
+        } else if $cap == 64 {
+            $drive::<64, $hops, $($param),*>($($value),*)
+        } else if $cap == 128 {
+            $drive::<128, $hops, $($param),*>($($value),*)
+        } else if $cap == 256 {
+            $drive::<256, $hops, $($param),*>($($value),*)
+        } else if $cap == 512 {
+            $drive::<512, $hops, $($param),*>($($value),*)
+        } else {
+            $drive::<1024, $hops, $($param),*>($($value),*)
+        }
+    };
+}
+
+/// Drives the programs of all ranks on one thread, as `drive_serial` does, over parcels of `cap` entries (a power of two from 1 to 1,024) and
+/// routes of as many hops as the grid has numbers.
+///
+/// # Errors
+/// `NoMemory` where a program, a node, the bank or the result found none. The programs are dropped.
+pub fn case_serial<Q: Program, L: Ledger>(
+    alloc: Global,
+    grid: &Grid,
+    cap: u32,
+    via: Via,
+    slots: u32,
+    steady: bool,
+    order: &[u32],
+    progs: Progs<Q>,
+    steps: &mut Steps<L>,
+) -> Result<Finished<Q>, NoMemory>
+    requires capacity { IsCapacity cap }
+    requires slots { IsSlots slots }
+    requires order { IsOrder (ranks grid.now) order.now }
+    requires begins { (shape : List ℕ) × (most : ℕ) × InRound Q.rules (ranks grid.now) 0 shape most progs × EndsWithin Q.rules progs most }
+
+    // The programs are as the canonical run leaves them.
+    ensures ended { IfOk result (λ f. HaveEnded Q.rules progs f.progs) }
+
+    // One closed round tells what was exchanged, over a bank of this capacity.
+    ensures rounds { IfOk result (λ f. (c : ClosedRound) × (f.rounds ≡ c ∷ []) × ((n : ℕ) → HasRounds Q.rules progs n
+        → TellsRun Q.rules progs n (record { dims = grid.now; cap = cap; slots = slots; by_slots = false }) steady (round_of c))) }
+
+    // The turns are bounded before the run, also where it ends in `NoMemory`.
+    ensures steps { (n : ℕ) → HasRounds Q.rules progs n → steps.new ≤ steps.old + turns_within Q.rules grid.now progs n }
+{
+    match grid.hops() {
+        1 => on_one_hop(alloc, grid, cap, via, slots, steady, order, progs, steps),
+        2 => on_two_hops(alloc, grid, cap, via, slots, steady, order, progs, steps),
+        _ => on_three_hops(alloc, grid, cap, via, slots, steady, order, progs, steps),
+    }
+}
+
+/// The cases of one hop.
+fn on_one_hop<Q: Program, L: Ledger>(
+    alloc: Global,
+    grid: &Grid,
+    cap: u32,
+    via: Via,
+    slots: u32,
+    steady: bool,
+    order: &[u32],
+    progs: Progs<Q>,
+    steps: &mut Steps<L>,
+) -> Result<Finished<Q>, NoMemory>
+    requires hops { length grid.now ≡ 1 }
+    requires capacity { IsCapacity cap }
+    requires slots { IsSlots slots }
+    requires order { IsOrder (ranks grid.now) order.now }
+    requires begins { (shape : List ℕ) × (most : ℕ) × InRound Q.rules (ranks grid.now) 0 shape most progs × EndsWithin Q.rules progs most }
+    ensures ended { IfOk result (λ f. HaveEnded Q.rules progs f.progs) }
+    ensures rounds { IfOk result (λ f. (c : ClosedRound) × (f.rounds ≡ c ∷ []) × ((n : ℕ) → HasRounds Q.rules progs n
+        → TellsRun Q.rules progs n (record { dims = grid.now; cap = cap; slots = slots; by_slots = false }) steady (round_of c))) }
+    ensures steps { (n : ℕ) → HasRounds Q.rules progs n → steps.new ≤ steps.old + turns_within Q.rules grid.now progs n }
+{
+    by_capacity!(cap, drive_serial::<1, Q, L>, (alloc, grid, via, slots, steady, order, progs, steps))
+}
+
+/// The cases of two hops.
+fn on_two_hops<Q: Program, L: Ledger>(
+    alloc: Global,
+    grid: &Grid,
+    cap: u32,
+    via: Via,
+    slots: u32,
+    steady: bool,
+    order: &[u32],
+    progs: Progs<Q>,
+    steps: &mut Steps<L>,
+) -> Result<Finished<Q>, NoMemory>
+    requires hops { length grid.now ≡ 2 }
+    requires capacity { IsCapacity cap }
+    requires slots { IsSlots slots }
+    requires order { IsOrder (ranks grid.now) order.now }
+    requires begins { (shape : List ℕ) × (most : ℕ) × InRound Q.rules (ranks grid.now) 0 shape most progs × EndsWithin Q.rules progs most }
+    ensures ended { IfOk result (λ f. HaveEnded Q.rules progs f.progs) }
+    ensures rounds { IfOk result (λ f. (c : ClosedRound) × (f.rounds ≡ c ∷ []) × ((n : ℕ) → HasRounds Q.rules progs n
+        → TellsRun Q.rules progs n (record { dims = grid.now; cap = cap; slots = slots; by_slots = false }) steady (round_of c))) }
+    ensures steps { (n : ℕ) → HasRounds Q.rules progs n → steps.new ≤ steps.old + turns_within Q.rules grid.now progs n }
+{
+    by_capacity!(cap, drive_serial::<2, Q, L>, (alloc, grid, via, slots, steady, order, progs, steps))
+}
+
+/// The cases of three hops.
+fn on_three_hops<Q: Program, L: Ledger>(
+    alloc: Global,
+    grid: &Grid,
+    cap: u32,
+    via: Via,
+    slots: u32,
+    steady: bool,
+    order: &[u32],
+    progs: Progs<Q>,
+    steps: &mut Steps<L>,
+) -> Result<Finished<Q>, NoMemory>
+    requires hops { length grid.now ≡ 3 }
+    requires capacity { IsCapacity cap }
+    requires slots { IsSlots slots }
+    requires order { IsOrder (ranks grid.now) order.now }
+    requires begins { (shape : List ℕ) × (most : ℕ) × InRound Q.rules (ranks grid.now) 0 shape most progs × EndsWithin Q.rules progs most }
+    ensures ended { IfOk result (λ f. HaveEnded Q.rules progs f.progs) }
+    ensures rounds { IfOk result (λ f. (c : ClosedRound) × (f.rounds ≡ c ∷ []) × ((n : ℕ) → HasRounds Q.rules progs n
+        → TellsRun Q.rules progs n (record { dims = grid.now; cap = cap; slots = slots; by_slots = false }) steady (round_of c))) }
+    ensures steps { (n : ℕ) → HasRounds Q.rules progs n → steps.new ≤ steps.old + turns_within Q.rules grid.now progs n }
+{
+    by_capacity!(cap, drive_serial::<3, Q, L>, (alloc, grid, via, slots, steady, order, progs, steps))
+}

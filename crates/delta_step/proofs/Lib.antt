@@ -1,0 +1,13 @@
+pub mod Ascending
+pub mod Begins
+pub mod BucketEnds
+pub mod Buckets
+pub mod Ends
+pub mod FindRounds
+pub mod HeavyRounds
+pub mod Looks
+pub mod OfferRounds
+pub mod Owners
+pub mod Runs
+pub mod Steps
+pub mod Transits

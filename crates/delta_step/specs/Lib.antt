@@ -1,0 +1,4 @@
+pub mod DeltaLaws
+pub mod DeltaRuns
+pub mod DeltaView
+pub mod Deltas

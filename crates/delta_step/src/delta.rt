@@ -1,0 +1,356 @@
+//! One rank's part of delta-stepping.
+
+ghost use Rattle.std.specs.Prelude.{◌≡◌, ◌≢◌, ◌<◌, ◌≤◌, ◌/◌, ◌+◌, ◌-◌, ◌^◌, ◌++◌, ◌&&◌, ◌==◌, nat_lt, [], if◌then◌else◌, OnOk, OnErr, IfOk, length, map, min};
+ghost use Rattle.std.specs.List.{All};
+ghost use Rattle.least_walks.specs.Tables.{table_of, offers};
+ghost use Rattle.least_walks.specs.Vertices.{improved_at, in_bucket, picked, calm_if, least_marked};
+ghost use Rattle.delta_step.specs.declared.phase.Phase.TheVariants.{First, Find, Light, Heavy};
+ghost use Rattle.delta_step.specs.Deltas.{IsDelta, DeltaState, bucket_of, announced, ascending, offered, absorbed_in, finding, sorted_out, activated, finished};
+
+use crate::phase::Phase;
+use bale_types::{Item, NoMemory, value_of};
+use least_walks::{Table, Vertices, offers};
+use mtx_text::Cells;
+use round_program::Program;
+use std::alloc::Global;
+use std::marker::Model;
+use std::mem;
+
+/// Stands for no bucket.
+const NO_BUCKET: u64 = u64::MAX;
+
+/// One rank's part of delta-stepping. Vertex `i` belongs to rank `i mod ranks`, which keeps it at place `i div ranks`.
+#[derive(Drop)]
+pub struct Delta {
+    alloc: Global,
+    rank: u32,
+    ranks: u32,
+    round: u64,
+    /// the number of vertices
+    rows: u32,
+    /// how many weights a bucket has
+    width: u64,
+    phase: Phase,
+    /// the edges of own vertices, as they come in the first round
+    arriving: Cells,
+    /// the light edges of own vertices from then on, by place
+    light: Table,
+    /// the heavy ones
+    heavy: Table,
+    /// own vertices by place; the pending ones are marked
+    vertices: Vertices,
+    /// the least bucket that was absorbed in a find round, which is then the bucket that is worked on
+    bucket: u64,
+    /// the places of own vertices that were active in this bucket
+    settled: Vec<u32>,
+    /// what is sent in this round
+    outgoing: Vec<(u32, Item)>,
+}
+
+impl Model for Delta {
+    ghost use Rattle.delta_step.specs.Deltas.{DeltaState, IsDelta};
+
+    ghost Value = { DeltaState };
+
+    ghost use Rattle.delta_step.specs.DeltaView.{delta_state};
+
+    ghost view = { delta_state };
+
+    ghost invariant = { λ s. IsDelta (delta_state s) };
+}
+
+impl Delta {
+    /// A rank before its first round.
+    pub(crate) fn new(
+        alloc: Global,
+        rank: u32,
+        ranks: u32,
+        rows: u32,
+        width: u64,
+        vertices: Vertices,
+        outgoing: Vec<(u32, Item)>,
+    ) -> Delta
+        requires { IsDelta (record {
+          rank = rank;
+          ranks = ranks;
+          round = 0;
+          rows = rows;
+          width = width;
+          phase = First;
+          arriving = [];
+          light = [];
+          heavy = [];
+          vertices = vertices;
+          bucket = 0;
+          settled = [];
+          outgoing = outgoing.items;
+        }) }
+        ensures { result ≡ record {
+          rank = rank;
+          ranks = ranks;
+          round = 0;
+          rows = rows;
+          width = width;
+          phase = First;
+          arriving = [];
+          light = [];
+          heavy = [];
+          vertices = vertices;
+          bucket = 0;
+          settled = [];
+          outgoing = outgoing.items;
+        } }
+    {
+        Delta {
+            alloc,
+            rank,
+            ranks,
+            round: 0,
+            rows,
+            width,
+            phase: Phase::First,
+            arriving: Cells::new(alloc),
+            light: Table::new(alloc),
+            heavy: Table::new(alloc),
+            vertices,
+            bucket: 0,
+            settled: Vec::new(alloc),
+            outgoing,
+        }
+    }
+
+    /// The number of vertices of all ranks.
+    pub(crate) fn rows(&self) -> u32
+        ensures { result ≡ self.now.rows }
+    {
+        self.rows
+    }
+
+    /// The own vertices; vertex `i` stands at `i div ranks`.
+    pub(crate) fn vertices(&self) -> &Vertices
+        ensures { result.now ≡ self.now.vertices }
+    {
+        &self.vertices
+    }
+}
+
+impl Program for Delta {
+    ghost use Rattle.delta_step.specs.Deltas.{delta_rules};
+    ghost use Rattle.delta_step.specs.DeltaLaws.{delta_laws};
+
+    ghost rules = { delta_rules };
+
+    ghost laws = { delta_laws };
+
+    fn rank(&self) -> u32 {
+        self.rank
+    }
+
+    fn ranks(&self) -> u32 {
+        self.ranks
+    }
+
+    fn round(&self) -> u64 {
+        self.round
+    }
+
+    fn count(&self) -> u64 {
+        self.outgoing.len() as u64
+    }
+
+    fn emission(&self, i: u64) -> (u32, Item) {
+        self.outgoing[i as usize]
+    }
+
+    fn fits(&self, from: u32, item: Item) -> bool {
+        from < self.ranks
+            && (self.round > 0
+                || (item.a < self.rows as u64
+                    && item.a as u32 % self.ranks == self.rank
+                    && item.b < self.rows as u64))
+    }
+
+    fn absorb(&mut self, from: u32, item: Item) -> Result<(), NoMemory> {
+        match self.phase {
+            Phase::First => self.take_edge(item),
+            Phase::Find => {
+                self.hear(item.a);
+                Ok(())
+            }
+            Phase::Light => self.take_offer(item),
+            Phase::Heavy => self.take_offer(item),
+        }
+    }
+
+    fn vote(&self) -> u64 {
+        match self.phase {
+            Phase::First => 1,
+            Phase::Find => self.vertices.count() as u64,
+            Phase::Light => 1 + self.vertices.count_bucket(self.width, self.bucket) as u64,
+            Phase::Heavy => 1,
+        }
+    }
+
+    fn goes_on(&self, votes: u64) -> bool {
+        votes != 0
+    }
+
+    fn end_round(&mut self, votes: u64) -> Result<bool, NoMemory> {
+        match self.phase {
+            Phase::First => self.sort_out()?,
+            Phase::Find => self.activate()?,
+            Phase::Light => {
+                if votes > self.ranks as u64 {
+                    self.activate()?
+                } else {
+                    self.finish()?
+                }
+            }
+            Phase::Heavy => self.find()?,
+        }
+        Ok(votes != 0)
+    }
+}
+
+impl Delta {
+    /// Takes an edge in.
+    fn take_edge(&mut self, item: Item) -> Result<(), NoMemory>
+        requires first { self.old.phase ≡ First }
+        requires row { item.a < self.old.rows }
+        requires col { item.b < self.old.rows }
+        ensures ok { OnOk result (self.new ≡ absorbed_in First self.old item) }
+        ensures err { OnErr result (self.new.outgoing ≡ self.old.outgoing) }
+    {
+        self.arriving
+            .raise(item.a as u32, item.b as u32, value_of(item.c))?;
+        Ok(())
+    }
+
+    /// Hears of a bucket.
+    fn hear(&mut self, bucket: u64)
+        ensures { self.new ≡ record self.old { bucket = min self.old.bucket bucket } }
+    {
+        self.bucket = self.bucket.min(bucket);
+    }
+
+    /// Takes the offer of a weight in, where its vertex is an own one.
+    fn take_offer(&mut self, item: Item) -> Result<(), NoMemory>
+        ensures ok { OnOk result (self.new ≡ record self.old { vertices = offered self.old item }) }
+        ensures err { OnErr result (self.new.outgoing ≡ self.old.outgoing) }
+    {
+        if item.a < self.rows as u64 && item.a as u32 % self.ranks == self.rank {
+            self.vertices.improve(item.a as u32 / self.ranks, item.b)?;
+        }
+        Ok(())
+    }
+
+    /// Ends the first round: edges are light or heavy, and a find round begins.
+    fn sort_out(&mut self) -> Result<(), NoMemory>
+        requires { self.old.phase ≡ First }
+        ensures ok { OnOk result (self.new ≡ finding (sorted_out self.old)) }
+        ensures err { OnErr result (self.new.outgoing ≡ self.old.outgoing) }
+    {
+        let places = self.vertices.len() as u32;
+        let entries = mem::replace(&mut self.arriving, Cells::new(self.alloc)).into_entries();
+        let light = Table::of(self.alloc, self.ranks, places, 0, self.width, &entries)?;
+        let above = self.width + 1;
+        let heavy = Table::of(self.alloc, self.ranks, places, above, u64::MAX, &entries)?;
+        let outgoing = announce(self.alloc, self.ranks, self.width, &mut self.vertices)?;
+        self.outgoing = outgoing;
+        self.light = light;
+        self.heavy = heavy;
+        self.settled.clear();
+        self.bucket = NO_BUCKET;
+        self.phase = Phase::Find;
+        self.round = self.round.saturating_add(1);
+        Ok(())
+    }
+
+    /// Begins a find round, in which no vertex is settled.
+    fn find(&mut self) -> Result<(), NoMemory>
+        requires { self.old.phase ≢ First }
+        ensures ok { OnOk result (self.new ≡ finding self.old) }
+        ensures err { OnErr result (self.new.outgoing ≡ self.old.outgoing) }
+    {
+        let outgoing = announce(self.alloc, self.ranks, self.width, &mut self.vertices)?;
+        self.outgoing = outgoing;
+        self.settled.clear();
+        self.bucket = NO_BUCKET;
+        self.phase = Phase::Find;
+        self.round = self.round.saturating_add(1);
+        Ok(())
+    }
+
+    /// Begins a light round: the pending vertices of the bucket are active and settled.
+    fn activate(&mut self) -> Result<(), NoMemory>
+        requires { self.old.phase ≢ First }
+        ensures ok { OnOk result (self.new ≡ activated self.old) }
+        ensures err { OnErr result (self.new.outgoing ≡ self.old.outgoing) }
+    {
+        let active = self.vertices.take_bucket(self.width, self.bucket)?;
+        self.settled.extend_from_slice(&active)?;
+        let outgoing = offers(self.alloc, &self.light, &self.vertices, &active)?;
+        self.outgoing = outgoing;
+        self.phase = Phase::Light;
+        self.round = self.round.saturating_add(1);
+        Ok(())
+    }
+
+    /// Begins a heavy round: the settled vertices offer along their heavy edges.
+    fn finish(&mut self) -> Result<(), NoMemory>
+        requires { self.old.phase ≢ First }
+        ensures ok { OnOk result (self.new ≡ finished self.old) }
+        ensures err { OnErr result (self.new.outgoing ≡ self.old.outgoing) }
+    {
+        put_in_order(&mut self.settled, self.vertices.len());
+        let outgoing = offers(self.alloc, &self.heavy, &self.vertices, &self.settled)?;
+        self.outgoing = outgoing;
+        self.phase = Phase::Heavy;
+        self.round = self.round.saturating_add(1);
+        Ok(())
+    }
+}
+
+/// Tells each rank the least bucket with a pending vertex.
+fn announce(
+    alloc: Global,
+    ranks: u32,
+    width: u64,
+    vertices: &mut Vertices,
+) -> Result<Vec<(u32, Item)>, NoMemory>
+    requires { 0 < width }
+    ensures told { IfOk result (λ v. v.items ≡ announced ranks (bucket_of width (least_marked vertices.old))) }
+    ensures same { vertices.new ≡ vertices.old }
+{
+    let bucket = bucket_of(width, vertices.least());
+    let mut outgoing = Vec::with_capacity(alloc, ranks as usize)?;
+    for rank in 0..ranks {
+        let item = Item {
+            a: bucket,
+            b: 0,
+            c: 0,
+        };
+        outgoing.push((rank, item))?;
+    }
+    Ok(outgoing)
+}
+
+/// The bucket of a weight.
+fn bucket_of(width: u64, least: Option<u64>) -> u64
+    requires { 0 < width }
+    ensures { result ≡ bucket_of width least }
+{
+    match least {
+        None => NO_BUCKET,
+        Some(weight) => (weight / width).min(NO_BUCKET),
+    }
+}
+
+/// Puts places below `n` in order, each once.
+fn put_in_order(places: &mut Vec<u32>, n: usize)
+    requires { All (λ p. p < n) places.old.items }
+    ensures { places.new.items ≡ ascending n places.old.items }
+{
+    places.sort_unstable();
+    places.dedup();
+}

@@ -1,0 +1,46 @@
+//! The line of a vertex in an answer.
+
+ghost use Rattle.std.specs.Prelude.{◌≡◌, ◌<◌, ◌≤◌, ◌+◌, ◌^◌, ◌++◌, length, OnOk, OnErr};
+ghost use Rattle.bale_types.specs.Stream.{after, HasCause, IsFront};
+ghost use Rattle.bale_types.specs.Out.{appended};
+ghost use Rattle.least_walks.specs.Lines.{weight_text, vertex_line};
+
+use bale_types::{Failed, Line, Out, Sink};
+
+/// Writes the line of vertex `v`: its number from 1, and its weight or `-`. No memory is taken.
+///
+/// # Errors
+///
+/// `Failed` where the sink's faults rose in this call.
+pub fn write_vertex<K: Sink>(
+    out: &mut Out<'_, K>,
+    v: u32,
+    weight: Option<u64>,
+) -> Result<(), Failed>
+    requires { v + 1 < 2 ^ 32 }
+    ensures ok { OnOk result (appended K.taken out.new ≡ after (appended K.taken out.old) (vertex_line v weight)) }
+    ensures err { OnErr result (IsFront (K.taken out.new.sink.now) (after (appended K.taken out.old) (vertex_line v weight))) }
+    ensures cause { HasCause (K.faults out.old.sink.now) (K.faults out.new.sink.now) result }
+    ensures never_falls { K.faults out.old.sink.now ≤ K.faults out.new.sink.now }
+    ensures grows { IsFront (K.taken out.old.sink.now) (K.taken out.new.sink.now) }
+    ensures same_sink { out.new.sink.ghost_name ≡ out.old.sink.ghost_name }
+{
+    let mut line = Line::new();
+    line.number(v + 1);
+    line.byte(b' ');
+    put_weight(&mut line, weight);
+    line.byte(b'\n');
+    out.text(line.bytes())
+}
+
+/// Appends a weight, or `-` where there is none.
+fn put_weight(line: &mut Line, weight: Option<u64>)
+    requires { length line.old + 20 ≤ 96 }
+    ensures bytes { line.new ≡ line.old ++ weight_text weight }
+    ensures len { length line.new ≤ length line.old + 20 }
+{
+    match weight {
+        None => line.byte(b'-'),
+        Some(n) => line.number(n),
+    }
+}

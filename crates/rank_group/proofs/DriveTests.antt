@@ -1,5 +1,5 @@
 -- What the tests of the drive begin with.
-use Rattle.std.proofs.Common.{◌≡◌, ℕ, ◌+◌, ◌-◌, ◌<◌, Bool, true, false, cond, List, [], ◌∷◌, ◌++◌, length, length-append, slice_get, Some, All, refl, sym, ap, subst, ◌∙◌, arith, inl, inr}
+use Rattle.std.proofs.Common.{◌≡◌, ℕ, ◌+◌, ◌-◌, ◌^◌, ◌<◌, Bool, true, false, cond, List, [], ◌∷◌, ◌++◌, length, length-append, slice_get, Some, All, refl, sym, ap, subst, ◌∙◌, arith, inl, inr}
 use Rattle.std.proofs.lemmas.Bool.{cases_lt}
 use Rattle.list_laws.proofs.Lists.{within, get_once, get_last, get_before, all_from_gets}
 use Rattle.round_program.specs.Canonical.{Member, InRound, EndsWithin}
@@ -50,23 +50,23 @@ ordered_all reversed n i order v end =
     }
 
 -- counting programs, as far as they are made
-pub record Counted (p i : ℕ) (progs : List CountState) : Type 0 where
+pub record Counted (p k i : ℕ) (progs : List CountState) : Type 0 where
   pub size : length progs ≡ i
-  pub each : (r : ℕ) (s : CountState) → slice_get progs r ≡ Some s → Member count_rules p 0 (3 ∷ []) 1 r s
+  pub each : (r : ℕ) (s : CountState) → slice_get progs r ≡ Some s → Member count_rules p 0 (k ∷ []) 1 r s
 
-pub counted_none : (p : ℕ) → Counted p 0 []
-counted_none p = record { size = refl; each = λ r s at. absurd (omega (arith, within [] r s at)) }
+pub counted_none : (p k : ℕ) → Counted p k 0 []
+counted_none p k = record { size = refl; each = λ r s at. absurd (omega (arith, within [] r s at)) }
 
-pub counted_more : (p i : ℕ) (progs progs' : List CountState) (names counts : List ℕ) (s : CountState) → Counted p i progs → i < p → All (λ j. j < 3) names → length counts ≡ 3
-    → s ≡ record { rank = i; ranks = p; round = 0; names = names; counts = counts } → progs' ≡ progs ++ s ∷ [] → Counted p (i + 1) progs'
-counted_more p i progs progs' names counts s v low below three is more =
+pub counted_more : (p k i : ℕ) (progs progs' : List CountState) (names counts : List ℕ) (s : CountState) → k < 2 ^ 32 → Counted p k i progs → i < p → All (λ j. j < k) names → length counts ≡ k
+    → s ≡ record { rank = i; ranks = p; round = 0; names = names; counts = counts } → progs' ≡ progs ++ s ∷ [] → Counted p k (i + 1) progs'
+counted_more p k i progs progs' names counts s small v low below size is more =
     let made : CountState = record { rank = i; ranks = p; round = 0; names = names; counts = counts } in
-    let member : Member count_rules p 0 (3 ∷ []) 1 i made = record {
-      valid = record { own = low; columns = omega (arith, three); named = subst (λ n. All (λ j. j < n) names) (sym three) below };
+    let member : Member count_rules p 0 (k ∷ []) 1 i made = record {
+      valid = record { own = low; columns = omega (arith, size, small); named = subst (λ n. All (λ j. j < n) names) (sym size) below };
       own_rank = refl;
       all_ranks = refl;
       same_round = refl;
-      same_shape = ap (λ n. n ∷ []) three;
+      same_shape = ap (λ n. n ∷ []) size;
       same_most = refl;
     } in
     record {
@@ -75,13 +75,13 @@ counted_more p i progs progs' names counts s v low below three is more =
         | inl before ↦ v.each r x (sym (get_before progs (s ∷ []) r (omega (arith, before, v.size))) ∙ (ap (λ o. slice_get o r) (sym more) ∙ at))
         | inr past ↦
             let here : r ≡ length progs = omega (arith, past, within progs' r x at, ap length more, length-append progs (s ∷ []), v.size) in
-            let same : s ≡ x = get_once (progs ++ s ∷ []) (length progs) s x (get_last progs s) (ap (λ o. slice_get o (length progs)) (sym more) ∙ subst (λ k. slice_get progs' k ≡ Some x) here at) in
-            subst (λ k. Member count_rules p 0 (3 ∷ []) 1 k x) (sym (here ∙ v.size)) (subst (λ y. Member count_rules p 0 (3 ∷ []) 1 i y) (sym is ∙ same) member)
+            let same : s ≡ x = get_once (progs ++ s ∷ []) (length progs) s x (get_last progs s) (ap (λ o. slice_get o (length progs)) (sym more) ∙ subst (λ j. slice_get progs' j ≡ Some x) here at) in
+            subst (λ j. Member count_rules p 0 (k ∷ []) 1 j x) (sym (here ∙ v.size)) (subst (λ y. Member count_rules p 0 (k ∷ []) 1 i y) (sym is ∙ same) member)
       ];
     }
 
-pub counted_all : (p i : ℕ) (progs : List CountState) → Counted p i progs → i ≡ p → InRound count_rules p 0 (3 ∷ []) 1 progs
-counted_all p i progs v end = record { size = v.size ∙ end; each = v.each }
+pub counted_all : (p k i : ℕ) (progs : List CountState) → Counted p k i progs → i ≡ p → InRound count_rules p 0 (k ∷ []) 1 progs
+counted_all p k i progs v end = record { size = v.size ∙ end; each = v.each }
 
 -- they count in one round
 pub one_round : (progs : List CountState) → EndsWithin count_rules progs 1

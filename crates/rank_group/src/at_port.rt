@@ -97,7 +97,8 @@ impl<'a, Q: Program, const CAP: usize, const HOPS: usize> AtPort<'a, Q, CAP, HOP
         self.rank.over || self.lost
     }
 
-    /// Makes one turn, once the gate was told of it. Answers whether it moved anything.
+    /// Makes one turn, once the gate was told of it. Answers whether it pushed something or
+    /// an epoch ended.
     pub(crate) fn turn<R: Wait, G: Gate, L: Ledger>(
         &mut self,
         rt: &R,

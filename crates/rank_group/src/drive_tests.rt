@@ -28,7 +28,7 @@ fn turned(ranks: u32, reversed: bool, place: u32) -> u32
 }
 
 /// The ranks from 0 on, or from the last down to 0.
-fn order_of(alloc: Global, ranks: u32, reversed: bool) -> Result<Vec<u32>, NoMemory>
+pub(crate) fn order_of(alloc: Global, ranks: u32, reversed: bool) -> Result<Vec<u32>, NoMemory>
     ensures { IfOk result (λ order. IsOrder ranks order.items) }
 {
     let mut order = Vec::new(alloc);

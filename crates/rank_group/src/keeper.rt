@@ -17,9 +17,9 @@ use std::thread;
 pub(crate) enum Kept {
     /// No epoch follows for any of them.
     Over,
-    /// No turn moved anything.
+    /// No turn pushed anything or ended an epoch.
     Still,
-    /// Some turn moved something.
+    /// Some turn did.
     Moved,
 }
 

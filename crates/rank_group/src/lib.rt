@@ -7,6 +7,8 @@
 //! | Call | What it does |
 //! |---|---|
 //! | `drive_serial` | drives the programs of all ranks from their first round to their last, on one thread |
+//! | `drive_threads` | the same, with each rank on a thread of its own |
+//! | `Gate::turn` | is called before each turn of a rank on a thread; an `OpenGate` holds nobody |
 //! | `Node::new` | a node that hasn't turned, for a program of the grid |
 //! | `Node::turn` | one turn; `Ended` exactly where the epoch is over for this rank |
 //! | `Node::next` | goes on to the next epoch, where one follows |
@@ -55,3 +57,5 @@ pub use via::Via;
 mod drive_tests;
 #[cfg(test)]
 mod slot_tests;
+#[cfg(test)]
+mod watched_tests;

@@ -236,6 +236,13 @@ impl<Q: Program, const CAP: usize, const HOPS: usize> Node<Q, CAP, HOPS> {
         }
     }
 
+    /// How many of this epoch's items are pushed.
+    pub(crate) fn pushed(&self) -> u64
+        ensures { result ≡ self.now.run.next }
+    {
+        self.next
+    }
+
     /// The program.
     pub(crate) fn into_prog(self) -> Q
         ensures { result ≡ self.run.prog }

@@ -10,7 +10,8 @@ use port_bank::Port;
 use round_program::Program;
 use std::sync::ledger::Ledger;
 
-/// Turns the node of a rank, and goes on to its next epoch where one has ended. Answers whether anything moved.
+/// Turns the node of a rank, and goes on to its next epoch where one has ended. Answers whether it pushed
+/// something or an epoch ended.
 ///
 /// # Errors
 /// `NoMemory` comes only where no epoch follows.
@@ -31,11 +32,12 @@ pub(crate) fn turn_over<const CAP: usize, const HOPS: usize, Q: Program, P: Port
     ensures kept { OnOk result ((steady : Bool) (h : ℕ → Q) → IsRank Q.rules (P.dims port.old) CAP steady (P.rank port.old) h rank.old (P.sent port.old) (P.got port.old)
         → (g : ℕ → Q) × (g 0 ≡ h 0) × IsRank Q.rules (P.dims port.old) CAP steady (P.rank port.old) g rank.new (P.sent port.new) (P.got port.new)) }
 {
+    let pushed = rank.node.pushed();
     let Ok(turn) = rank.node.turn(port, steps) else {
         unreachable!()
     };
     match turn {
-        Turn::Going => Ok(true),
+        Turn::Going => Ok(rank.node.pushed() != pushed),
         Turn::Ended => {
             rank.over = !rank.node.next()?;
             Ok(true)

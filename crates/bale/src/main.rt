@@ -4,13 +4,13 @@
 ghost use Rattle.std.specs.Prelude.{◌≡◌, ◌<◌};
 
 use bale_cli::{Refusal, report, run_serial};
-use bale_types::{Sink, StderrSink, StdinSource, StdoutSink, Source};
+use bale_types::{Sink, Source, StderrSink, StdinSource, StdoutSink};
 use rank_group::Steps;
 use std::alloc::Global;
 use std::env;
 use std::io::ErrorKind;
-use std::process::ExitCode;
 use std::marker::Brand;
+use std::process::ExitCode;
 use std::rt::Env;
 use std::sync::ledger::{Blank, Ledger};
 

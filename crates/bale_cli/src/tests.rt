@@ -99,6 +99,24 @@ fn grids_and_buffers_give_one_answer(rt: HostRuntime) -> Result<(), Fail> {
     Ok(())
 }
 
+#[test]
+fn every_case_gives_one_answer(rt: HostRuntime) -> Result<(), Fail> {
+    let buffers = [1, 2, 4, 8, 16, 32, 64, 128, 256, 512, 1024];
+    for grid in ["4", "2x2", "2x2x2"] {
+        for buffer in buffers {
+            let words = format!(in rt.alloc();
+                "histo --grid {grid} --buffer {buffer} --drive serial"
+            )?;
+            assert_eq!(rt;
+                answer(rt.alloc(), words.as_str(), ONE)?.as_str(),
+                "0 1 1\n2 0\n3 3\n",
+                "{words}"
+            );
+        }
+    }
+    Ok(())
+}
+
 /// A matrix of 2 rows and 3 columns with -7 at (1,3) and 4 at (2,1).
 const TWO: &[u8] = b"%%MatrixMarket matrix coordinate integer general\n2 3 2\n1 3 -7\n2 1 4\n";
 

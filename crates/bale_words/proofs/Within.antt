@@ -116,7 +116,7 @@ in_is a gs c e =
     map_some (λ t. record { task = t; grid = grid; travel = travel }) (task_in a gs) c e2 (λ t f3 e3.
     subst InRanges e3 (record {
       travel = travel_is a (value_in (codes "via") gs) (value_in (codes "slots") gs) (value_in (codes "steady") gs) (value_in (codes "buffer") gs) (value_in (codes "drive") gs) (value_in (codes "gen") gs) travel f2;
-      task = task_is a gs t f3
+      task = task_is a gs t f3;
     }))))
 
 by_is : (a : Application) (o : Option (List Given)) (c : Command) → command_by a o ≡ Some c → InRanges c

@@ -18,11 +18,11 @@ use Rattle.round_program.specs.Canonical.{items_of, items_at, states_at, HasRoun
 use Rattle.round_program.specs.Epochs.{IsCanonical}
 use Rattle.round_program.proofs.Items.{items_total}
 use Rattle.round_program.proofs.Members.{in_round_at}
-use Rattle.rank_group.specs.Sending.{is_voting, epoch_of}
-use Rattle.rank_group.specs.Next.{extended}
+use Rattle.rank_node.specs.Sending.{is_voting, epoch_of}
+use Rattle.rank_node.specs.Next.{extended}
 use Rattle.rank_group.specs.Ranks.{RankState, HasRank, progress}
-use Rattle.rank_group.proofs.Emitted.{receivers_below}
-use Rattle.rank_group.proofs.Between.{extended_before}
+use Rattle.rank_node.proofs.Emitted.{receivers_below}
+use Rattle.rank_node.proofs.Between.{extended_before}
 use Rattle.rank_group.proofs.Counted.{pushed_in}
 use Rattle.rank_group.proofs.Pushed.{work_few, votes_few, flow_pushed, items_before, count_in}
 use Rattle.rank_group.proofs.Worlds.{Core, core, canonical, still_within, over_at_last}

@@ -19,7 +19,7 @@ use Rattle.round_program.specs.Rules.{Rules}
 use Rattle.round_program.specs.Laws.{Laws}
 use Rattle.round_program.specs.Canonical.{HasRounds, InRound, EndsWithin, HaveEnded, states_at}
 use Rattle.round_program.proofs.Members.{in_round_at, rounds_once}
-use Rattle.rank_group.specs.Nodes.{IsNode}
+use Rattle.rank_node.specs.Nodes.{IsNode}
 use Rattle.rank_group.specs.Ranks.{RankState, AllRanks}
 use Rattle.rank_group.specs.Told.{TellsRun, turns_within}
 use Rattle.route_tensor.proofs.Coordinates.{ranks_some}

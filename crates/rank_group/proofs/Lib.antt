@@ -1,16 +1,4 @@
-pub mod Emitted
-pub mod Ballots
-pub mod Kept
-pub mod Absorbed
-pub mod Took
-pub mod Offered
 pub mod Counted
-pub mod Moved
-pub mod Halted
-pub mod Begun
-pub mod Fresh
-pub mod Between
-pub mod Onward
 pub mod OneTurn
 pub mod OnWay
 pub mod Joining

@@ -6,7 +6,7 @@ use Rattle.list_laws.proofs.Lists.{within, get_once, get_last, get_before}
 use Rattle.convey.specs.Buffers.{in_of}
 use Rattle.round_program.specs.Rules.{Rules}
 use Rattle.round_program.specs.Canonical.{InRound}
-use Rattle.rank_group.specs.Nodes.{NodeState, IsNode}
+use Rattle.rank_node.specs.Nodes.{NodeState, IsNode}
 use Rattle.rank_group.specs.Ranks.{RankState}
 use Rattle.rank_group.specs.Drives.{progs_of, IsFresh, AreFresh}
 

@@ -5,11 +5,11 @@ use Rattle.port_bank.specs.Logs.{Logs}
 use Rattle.port_bank.specs.Shapes.{IsConveyorShape}
 use Rattle.convey.specs.Buffers.{in_of}
 use Rattle.round_program.specs.Rules.{Rules}
-use Rattle.rank_group.specs.Sending.{is_voting}
-use Rattle.rank_group.specs.Nodes.{NodeState, IsNode}
-use Rattle.rank_group.specs.Next.{extended, HasStopped}
+use Rattle.rank_node.specs.Sending.{is_voting}
+use Rattle.rank_node.specs.Nodes.{NodeState, IsNode}
+use Rattle.rank_node.specs.Next.{extended, HasStopped}
 use Rattle.rank_group.specs.Ranks.{RankState, IsRank}
-use Rattle.rank_group.proofs.Between.{extended_before}
+use Rattle.rank_node.proofs.Between.{extended_before}
 
 -- what a turn tells of a node
 pub record OneTurn {S : Type 0} (R : Rules S) (cap : ℕ) (n n' : NodeState S) (sent got sent' got' : Logs) : Type 0 where

@@ -14,11 +14,11 @@ use Rattle.convey.proofs.OneRank.{starting-own, first_link}
 use Rattle.round_program.specs.Rules.{Rules}
 use Rattle.round_program.specs.Canonical.{items_of, emitted, items_at}
 use Rattle.round_program.proofs.Items.{items_push}
-use Rattle.rank_group.specs.declared.sends.Sends.{Sends}
-use Rattle.rank_group.specs.declared.sends.Sends.TheVariants.{Emissions, Nothing, Votes}
-use Rattle.rank_group.specs.Sending.{votes_to}
-use Rattle.rank_group.specs.Runs.{HasTaken}
-use Rattle.rank_group.proofs.Ballots.{votes_each}
+use Rattle.rank_node.specs.declared.sends.Sends.{Sends}
+use Rattle.rank_node.specs.declared.sends.Sends.TheVariants.{Emissions, Nothing, Votes}
+use Rattle.rank_node.specs.Sending.{votes_to}
+use Rattle.rank_node.specs.Runs.{HasTaken}
+use Rattle.rank_node.proofs.Ballots.{votes_each}
 use Rattle.rank_group.proofs.Counted.{flow_alike}
 
 -- of the first so many items no more go to a rank

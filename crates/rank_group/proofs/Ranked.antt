@@ -15,10 +15,10 @@ use Rattle.hop_core.specs.declared.phase.Phase.TheVariants.{Complete}
 use Rattle.hop_core.specs.State.{State}
 use Rattle.convey.specs.Buffers.{in_of}
 use Rattle.round_program.specs.Rules.{Rules}
-use Rattle.rank_group.specs.declared.turn.Turn.{Turn}
-use Rattle.rank_group.specs.declared.turn.Turn.TheVariants.{Going, Ended}
-use Rattle.rank_group.specs.Nodes.{NodeState, IsNode}
-use Rattle.rank_group.specs.Stuck.{IsStuck}
+use Rattle.rank_node.specs.declared.turn.Turn.{Turn}
+use Rattle.rank_node.specs.declared.turn.Turn.TheVariants.{Going, Ended}
+use Rattle.rank_node.specs.Nodes.{NodeState, IsNode}
+use Rattle.rank_node.specs.Stuck.{IsStuck}
 use Rattle.rank_group.specs.Ranks.{RankState, HasRank, AfterTurn, AfterRank, progress}
 use Rattle.rank_group.proofs.OneTurn.{OneTurn, NextTold, stays_in, goes_on}
 

@@ -19,9 +19,9 @@ use Rattle.convey.proofs.OneRank.{starting-own, ending-own}
 use Rattle.round_program.specs.Rules.{Rules}
 use Rattle.round_program.specs.Laws.{Laws}
 use Rattle.round_program.specs.Canonical.{HasRounds, InRound}
-use Rattle.rank_group.specs.Nodes.{IsMoving}
+use Rattle.rank_node.specs.Nodes.{IsMoving}
 use Rattle.rank_group.specs.Ranks.{RankState, progress, crowded_in}
-use Rattle.rank_group.proofs.Onward.{done_of_complete}
+use Rattle.rank_node.proofs.Onward.{done_of_complete}
 use Rattle.rank_group.proofs.Worlds.{Core, core, still_within, over_at_last}
 use Rattle.rank_group.specs.Worlds.{nowhere, World, Rests, Plan}
 

@@ -15,8 +15,8 @@ use Rattle.hop_core.specs.State.{State}
 use Rattle.convey.specs.Buffers.{in_of}
 use Rattle.convey.proofs.OneRank.{ending-own}
 use Rattle.round_program.specs.Rules.{Rules}
-use Rattle.rank_group.specs.Nodes.{IsNode}
-use Rattle.rank_group.specs.Next.{HasStopped}
+use Rattle.rank_node.specs.Nodes.{IsNode}
+use Rattle.rank_node.specs.Next.{HasStopped}
 use Rattle.rank_group.specs.Ranks.{RankState, HasRank, AfterRank, IsLeft, progress, crowded_in, idle_in}
 use Rattle.rank_group.proofs.Sweeps.{begins_length, begins_whole}
 use Rattle.rank_group.specs.Worlds.{entries_of, conveyor_in, inbox, World, move_of, moves, Lawful, Rests}

@@ -24,9 +24,9 @@ use Rattle.round_program.specs.Rules.{Rules}
 use Rattle.round_program.specs.Laws.{Laws}
 use Rattle.round_program.specs.Canonical.{emitted_of, emitted_by, absorbed_round, states_at, HasRounds, InRound}
 use Rattle.round_program.specs.Epochs.{IsCanonical}
-use Rattle.rank_group.specs.Next.{HasStopped}
+use Rattle.rank_node.specs.Next.{HasStopped}
 use Rattle.rank_group.specs.Ranks.{RankState, HasRank, AllRanks}
-use Rattle.rank_group.specs.Runs.{lists_of}
+use Rattle.rank_node.specs.Runs.{lists_of}
 use Rattle.rank_group.specs.Told.{Made, TellsRun, vote_sent}
 use Rattle.rank_group.proofs.Worlds.{canonical, over_at_last}
 use Rattle.rank_group.specs.Worlds.{progress_in, history_in, conveyor_in, part_at}

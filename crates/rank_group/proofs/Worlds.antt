@@ -18,15 +18,15 @@ use Rattle.round_program.specs.Epochs.{PairLists, heard, worked, Own, Closes, Is
 use Rattle.round_program.proofs.Epochs.{every_run}
 use Rattle.round_program.proofs.Members.{in_round_at, shape_is}
 use Rattle.round_program.proofs.Steps.{own_work_done, own_vote_done}
-use Rattle.rank_group.specs.declared.sends.Sends.{Sends}
-use Rattle.rank_group.specs.declared.sends.Sends.TheVariants.{Emissions, Nothing, Votes}
-use Rattle.rank_group.specs.Sending.{is_voting, epoch_of}
-use Rattle.rank_group.specs.Runs.{lists_of, HasTaken}
-use Rattle.rank_group.specs.Nodes.{IsNode}
-use Rattle.rank_group.specs.Next.{extended, HasStopped}
+use Rattle.rank_node.specs.declared.sends.Sends.{Sends}
+use Rattle.rank_node.specs.declared.sends.Sends.TheVariants.{Emissions, Nothing, Votes}
+use Rattle.rank_node.specs.Sending.{is_voting, epoch_of}
+use Rattle.rank_node.specs.Runs.{lists_of, HasTaken}
+use Rattle.rank_node.specs.Nodes.{IsNode}
+use Rattle.rank_node.specs.Next.{extended, HasStopped}
 use Rattle.rank_group.specs.Ranks.{RankState, HasRank, AllRanks, progress}
-use Rattle.rank_group.proofs.Between.{voted, own_ended, extended_before, extended_at}
-use Rattle.rank_group.proofs.Onward.{done_of_complete}
+use Rattle.rank_node.proofs.Between.{voted, own_ended, extended_before, extended_at}
+use Rattle.rank_node.proofs.Onward.{done_of_complete}
 use Rattle.rank_group.specs.Worlds.{conveyor_in, progress_in, history_in, part_at}
 
 -- what a rank knows of itself, within an epoch

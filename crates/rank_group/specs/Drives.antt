@@ -2,7 +2,7 @@
 use Rattle.std.specs.Prelude.{◌≡◌, ℕ, Bool, false, List, [], map, slice_get, Some}
 use Rattle.convey.specs.Buffers.{in_of}
 use Rattle.round_program.specs.Rules.{Rules}
-use Rattle.rank_group.specs.Nodes.{IsNode}
+use Rattle.rank_node.specs.Nodes.{IsNode}
 use Rattle.rank_group.specs.Ranks.{RankState}
 
 -- The programs of ranks.

@@ -1,8 +1,3 @@
-pub mod Sending
-pub mod Runs
-pub mod Nodes
-pub mod Stuck
-pub mod Next
 pub mod Ranks
 pub mod Seats
 pub mod Children
@@ -10,4 +5,3 @@ pub mod Worlds
 pub mod Drives
 pub mod Rounds
 pub mod Told
-pub mod Pulls

@@ -13,11 +13,11 @@ use Rattle.hop_core.specs.declared.phase.Phase.TheVariants.{Complete}
 use Rattle.hop_core.specs.State.{State}
 use Rattle.convey.specs.Buffers.{in_of}
 use Rattle.round_program.specs.Rules.{Rules}
-use Rattle.rank_group.specs.declared.turn.Turn.{Turn}
-use Rattle.rank_group.specs.declared.turn.Turn.TheVariants.{Going, Ended}
-use Rattle.rank_group.specs.Nodes.{NodeState, IsNode}
-use Rattle.rank_group.specs.Stuck.{IsStuck}
-use Rattle.rank_group.specs.Next.{HasStopped}
+use Rattle.rank_node.specs.declared.turn.Turn.{Turn}
+use Rattle.rank_node.specs.declared.turn.Turn.TheVariants.{Going, Ended}
+use Rattle.rank_node.specs.Nodes.{NodeState, IsNode}
+use Rattle.rank_node.specs.Stuck.{IsStuck}
+use Rattle.rank_node.specs.Next.{HasStopped}
 
 -- A node, and whether its run is over.
 pub record RankState (S : Type 0) : Type 0 where

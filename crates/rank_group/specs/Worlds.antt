@@ -18,7 +18,7 @@ use Rattle.convey.specs.Buffers.{buffers_of, in_of}
 use Rattle.convey.specs.Parts.{part_of}
 use Rattle.round_program.specs.Rules.{Rules}
 use Rattle.round_program.specs.Canonical.{HasRounds, InRound}
-use Rattle.rank_group.specs.Next.{extended}
+use Rattle.rank_node.specs.Next.{extended}
 use Rattle.rank_group.specs.Ranks.{RankState, AllRanks, IsLeft, progress, crowded_in, idle_in}
 
 -- the entries of some parcels

@@ -7,7 +7,7 @@ use crate::gate::Gate;
 use crate::job::{Job, do_job};
 use crate::seated::Seated;
 use crate::shared::Shared;
-use crate::steps::Steps;
+use rank_node::Steps;
 use round_program::Program;
 use std::snapshot::Snapshot;
 use std::sync::Wait;

@@ -4,12 +4,12 @@ ghost use Rattle.rank_group.specs.Seats.{bank_of, Ran};
 
 use crate::gate::Gate;
 use crate::seated::Seated;
-use crate::steps::Steps;
 use crate::sweeping::Rank;
 use crate::turning::turn_over;
 use bale_types::NoMemory;
 use link_slots::{SlotBank, SlotPort};
 use port_bank::Port;
+use rank_node::Steps;
 use round_program::Program;
 use std::marker::Model;
 use std::snapshot::Snapshot;

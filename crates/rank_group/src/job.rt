@@ -1,7 +1,7 @@
 //! Turns that are made to their end by a count of their own.
 ghost use Rattle.std.specs.Prelude.{◌≡◌, ◌<◌};
 
-use crate::steps::Steps;
+use rank_node::Steps;
 use std::marker::Brand;
 use std::sync::ledger::{Blank, Ledger};
 

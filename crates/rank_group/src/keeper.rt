@@ -6,7 +6,7 @@ use crate::child::Child;
 use crate::gate::Gate;
 use crate::job::{Job, do_job};
 use crate::shared::Shared;
-use crate::steps::Steps;
+use rank_node::Steps;
 use round_program::Program;
 use std::sync::Wait;
 use std::sync::ledger::Ledger;

@@ -4,10 +4,9 @@ ghost use Rattle.route_tensor.specs.Grid.{ranks};
 ghost use Rattle.round_program.specs.Canonical.{InRound};
 ghost use Rattle.rank_group.specs.Drives.{progs_of, AreFresh};
 
-use crate::node::Node;
 use crate::sweeping::Rank;
-use crate::via::Via;
 use bale_types::NoMemory;
+use rank_node::{Node, Via};
 use round_program::{Program, Progs};
 use route_tensor::Grid;
 use std::alloc::Global;

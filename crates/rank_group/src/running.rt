@@ -8,11 +8,11 @@ ghost use Rattle.rank_group.specs.Worlds.{Plan, World};
 ghost use Rattle.rank_group.specs.Drives.{progs_of};
 ghost use Rattle.rank_group.specs.Ranks.{RankState, IsOrder};
 
-use crate::steps::Steps;
 use crate::sweeping::{Rank, sweep};
 use bale_types::NoMemory;
 use convey::{closes_law, rest_law};
 use port_bank::PlainBank;
+use rank_node::Steps;
 use round_program::Program;
 use std::sync::ledger::Ledger;
 

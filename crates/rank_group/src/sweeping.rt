@@ -7,15 +7,13 @@ ghost use Rattle.route_tensor.specs.Grid.{ranks};
 ghost use Rattle.port_bank.specs.Plain.{IsBank, sent_of, got_of};
 ghost use Rattle.port_bank.specs.Logs.{starting_at, ending_at};
 ghost use Rattle.convey.specs.Law.{ClosesLaw};
-ghost use Rattle.rank_group.specs.Nodes.{IsNode};
+ghost use Rattle.rank_node.specs.Nodes.{IsNode};
 ghost use Rattle.rank_group.specs.Worlds.{Plan, World, SweptTo};
 ghost use Rattle.rank_group.specs.Ranks.{RankState, HasRank, AfterTurn, AfterRank, IsOrder};
 
-use crate::node::Node;
-use crate::steps::Steps;
-use crate::turn::Turn;
 use bale_types::NoMemory;
 use port_bank::PlainBank;
+use rank_node::{Node, Steps, Turn};
 use round_program::Program;
 use std::marker::Model;
 use std::sync::ledger::Ledger;

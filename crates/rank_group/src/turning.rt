@@ -2,11 +2,10 @@
 ghost use Rattle.std.specs.Prelude.{◌≡◌, ℕ, ◌+◌, ◌^◌, ◌<◌, ◌≤◌, Bool, false, OnOk};
 ghost use Rattle.rank_group.specs.Ranks.{IsRank};
 
-use crate::steps::Steps;
 use crate::sweeping::Rank;
-use crate::turn::Turn;
 use bale_types::NoMemory;
 use port_bank::Port;
+use rank_node::{Steps, Turn};
 use round_program::Program;
 use std::sync::ledger::Ledger;
 

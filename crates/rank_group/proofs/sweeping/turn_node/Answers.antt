@@ -1,7 +1,7 @@
 use Rattle.std.proofs.Common.{rules, ◌≡◌, Ok, ap, ◌∙◌, sym, subst}
 use Rattle.port_bank.specs.Plain.{Bank, sent_of, got_of}
 use Rattle.port_bank.specs.Logs.{starting_at, ending_at}
-use Rattle.rank_group.specs.Nodes.{IsNode}
+use Rattle.rank_node.specs.Nodes.{IsNode}
 use Rattle.rank_group.specs.Ranks.{AfterTurn}
 use Rattle.rank_group.proofs.Ranked.{PortTurn, after_turn}
 use Rattle.rank_group.proofs.sweeping.turn_node.Goals as goal

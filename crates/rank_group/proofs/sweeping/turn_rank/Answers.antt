@@ -1,11 +1,11 @@
 use Rattle.std.proofs.Common.{rules, ◌<◌, ◌^◌, not, ap, Ok, ◌∙◌, sym, subst}
 use Rattle.port_bank.specs.Plain.{sent_of, got_of}
 use Rattle.port_bank.specs.Logs.{starting_at, ending_at}
-use Rattle.rank_group.specs.declared.turn.Turn.{Turn}
+use Rattle.rank_node.specs.declared.turn.Turn.{Turn}
 use Rattle.rank_group.specs.Ranks.{RankState, HasRank, AfterTurn, AfterRank}
 use Rattle.rank_group.proofs.OneTurn.{NextTold}
 use Rattle.rank_group.proofs.Ranked.{rank_over, rank_going, rank_ended}
-use Rattle.rank_group.proofs.Halted.{ok_once}
+use Rattle.rank_node.proofs.Halted.{ok_once}
 use Rattle.rank_group.proofs.sweeping.turn_rank.Goals as goal
 
 pub returns-then-rank-clause-turned : goal.returns-then-rank-clause-turned

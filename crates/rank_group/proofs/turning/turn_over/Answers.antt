@@ -1,7 +1,7 @@
 use Rattle.std.proofs.Common.{rules, ◌<◌, ◌^◌, refl, ap, Ok, ◌∙◌, sym, subst}
 use Rattle.rank_group.specs.Ranks.{RankState, IsRank}
 use Rattle.rank_group.proofs.OneTurn.{OneTurn, NextTold, stays_in, goes_on}
-use Rattle.rank_group.proofs.Halted.{ok_once}
+use Rattle.rank_node.proofs.Halted.{ok_once}
 use Rattle.rank_group.proofs.turning.turn_over.Goals as goal
 
 pub turn-requires : goal.turn-requires

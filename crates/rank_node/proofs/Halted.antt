@@ -1,0 +1,141 @@
+-- What a turn leaves that moved no parcel.
+use Rattle.std.proofs.Common.{◌≡◌, ◌⊎◌, ℕ, ◌+◌, ◌<◌, ◌≤◌, ◌==◌, Bool, true, false, List, [], ◌++◌, length, length-append, slice_get, Some, Result, Ok, refl, sym, ap, subst, ◌∙◌, arith, inl, inr}
+use Rattle.std.proofs.lemmas.Bool.{eq-eqb, cases_lt}
+use Rattle.std.proofs.lemmas.List.{append-nil}
+use Rattle.std.specs.List.{flat_map}
+use Rattle.bale_types.specs.declared.item.Entry.{Entry}
+use Rattle.bale_types.specs.declared.item.Item.{Item}
+use Rattle.item_buffer.specs.Contents.{Shipped}
+use Rattle.list_laws.proofs.Lists.{find}
+use Rattle.route_tensor.specs.Grid.{ranks, IsGrid}
+use Rattle.route_tensor.specs.Link.{links}
+use Rattle.route_tensor.specs.Ends.{hop_at, sender_at, reader_at}
+use Rattle.port_bank.specs.Logs.{Logs}
+use Rattle.port_bank.specs.Flow.{hop_link}
+use Rattle.hop_core.specs.declared.phase.Phase.{Phase}
+use Rattle.hop_core.specs.declared.phase.Phase.TheVariants.{Dormant, Working, Endgame, Cleanup, Complete}
+use Rattle.hop_core.specs.State.{State}
+use Rattle.convey.specs.Agreement.{Ends}
+use Rattle.convey.specs.Arrived.{HasArrived}
+use Rattle.convey.specs.Buffers.{buffers_of, in_of, out_of}
+use Rattle.convey.specs.Conveyors.{standing_toward}
+use Rattle.convey.specs.Due.{Wants, IsOver, NextIs, next_link}
+use Rattle.convey.specs.Progress.{progress_of}
+use Rattle.convey.specs.declared.progress.Progress.TheVariants as progress
+use Rattle.convey.proofs.OneRank.{FirstLink, first_link}
+use Rattle.round_program.specs.Rules.{Rules}
+use Rattle.rank_node.specs.Sending.{to_send}
+use Rattle.rank_node.specs.Pulls.{NoMore}
+use Rattle.rank_node.specs.Nodes.{NodeState, IsNode}
+use Rattle.rank_node.specs.Stuck.{HasCrowded, IsStuck}
+use Rattle.rank_node.proofs.Moved.{AfterPush, AfterAdvance, AfterTakes}
+
+-- the phase of an advance that answers Complete
+pub complete_from : (p : Phase) → progress_of p ≡ progress.Complete → p ≡ Complete
+complete_from Dormant e = absurd (cc)
+complete_from Working e = absurd (cc)
+complete_from Endgame e = absurd (cc)
+complete_from Cleanup e = absurd (cc)
+complete_from Complete e = refl
+
+pub ok_once : {T E : Type 0} {a b : T} → ◌≡◌ {A = Result T E} (Ok a) (Ok b) → a ≡ b
+ok_once e = cc
+
+-- an inbox has at most what it had and what came
+pub lies_less : {X : Type 0} (front more back last : List X) → Ends (front ++ more) back → length last ≤ length back → length last ≤ length front + length more
+lies_less front more back last e less = omega (arith, less, length-append front more, ap length e.is, length-append e.front back)
+
+-- what an advance says of the links, where it answered
+pub record Advanced (c c' : State) (cap : ℕ) (sent sent' got got' : Logs) (is_crowded is_idle : ℕ → Bool) : Type 0 where
+  pub epoch : c'.epoch ≡ c.epoch
+  pub full : (l : ℕ) → l < links c.dims → sender_at c.dims l ≡ c.rank → sent' l ≡ sent l → length (out_of c l).parcel.untaken ≡ cap → is_crowded l ≡ true
+  pub idles : (l : ℕ) → l < links c.dims → reader_at c.dims l ≡ c.rank → Wants c l → got' l ≡ got l → sent' l ≡ sent l → is_idle l ≡ true
+  pub lies : (l : ℕ) (more : List Shipped) → l < links c.dims → reader_at c.dims l ≡ c.rank → got' l ≡ got l ++ more → Ends ((in_of c l).parcel.untaken ++ flat_map (λ p. p.entries) more) (in_of c' l).parcel.untaken
+  pub closing : (l : ℕ) → l < links c.dims → sender_at c.dims l ≡ c.rank → (hop_at c.dims l ≡ 1 → c'.done ≡ true) → HasArrived (buffers_of c') l → (out_of c' l).closed ≡ false → is_crowded l ≡ true
+  pub stopped : (l : ℕ) (e : Entry) → l < links c.dims → reader_at c.dims l ≡ c.rank → hop_at c.dims l < length c.dims → slice_get (in_of c' l).parcel.untaken 0 ≡ Some e → NextIs c.dims c.rank l e.tag (λ m. sent' m ≡ sent m → is_crowded m ≡ true)
+  pub completes : IsOver c' → c'.phase ≡ Complete
+
+module _ {S : Type 0} (R : Rules S) (h : ℕ → S) (n : NodeState S) (c1 c2 c3 : State) (next cap : ℕ) (done complete voting : Bool) (prog : S) (sum : ℕ) (spoiled : Bool) (sent got sent' got' : Logs) (is_crowded is_idle : ℕ → Bool)
+    (grid : IsGrid c3.dims) (own : c3.rank < ranks c3.dims) (push : AfterPush R n c1 next sent got)
+    (refused : (to : ℕ) (x : Item) → slice_get (to_send R n.run.prog n.run.sends) next ≡ Some (to, x) → standing_toward c1 to ≡ cap)
+    (receiver : (to : ℕ) (x : Item) → slice_get (to_send R n.run.prog n.run.sends) next ≡ Some (to, x) → to < ranks c1.dims)
+    (all : done ≡ (next == length (to_send R n.run.prog n.run.sends))) (adv : AfterAdvance c1 c2 done complete sent got sent' got') (advanced : Advanced c1 c2 cap sent sent' got got' is_crowded is_idle)
+    (takes : AfterTakes R voting c2 c3 n.run.prog prog n.run.sum sum n.run.spoiled spoiled sent' got') (fewer : NoMore c2 c3) (is : IsNode R h n sent got)
+    (sent_same : (l : ℕ) → sent' l ≡ sent l) (got_same : (l : ℕ) → got' l ≡ got l) where
+  dims1 : c1.dims ≡ n.conveyor.dims
+  dims1 = ap (λ (c : State). c.dims) push.same
+
+  rank1 : c1.rank ≡ n.conveyor.rank
+  rank1 = ap (λ (c : State). c.rank) push.same
+
+  dims31 : c3.dims ≡ c1.dims
+  dims31 = ap (λ (c : State). c.dims) takes.same ∙ adv.dims
+
+  rank31 : c3.rank ≡ c1.rank
+  rank31 = ap (λ (c : State). c.rank) takes.same ∙ adv.rank
+
+  below1 : (l : ℕ) → l < links n.conveyor.dims → l < links c1.dims
+  below1 l b = subst (λ (d : List ℕ). l < links d) (sym dims1) b
+
+  sender1 : (l : ℕ) → sender_at n.conveyor.dims l ≡ n.conveyor.rank → sender_at c1.dims l ≡ c1.rank
+  sender1 l e = subst (λ (d : List ℕ). sender_at d l ≡ c1.rank) (sym dims1) (e ∙ sym rank1)
+
+  reader1 : (l : ℕ) → reader_at n.conveyor.dims l ≡ n.conveyor.rank → reader_at c1.dims l ≡ c1.rank
+  reader1 l e = subst (λ (d : List ℕ). reader_at d l ≡ c1.rank) (sym dims1) (e ∙ sym rank1)
+
+  grid1 : IsGrid c1.dims
+  grid1 = subst IsGrid dims31 grid
+
+  own1 : c1.rank < ranks c1.dims
+  own1 = subst (λ (d : List ℕ). c1.rank < ranks d) dims31 (subst (λ r. r < ranks c3.dims) rank31 own)
+
+  -- done, or refused toward a receiver whose first link is crowded
+  pushed_or : (b : Bool) → done ≡ b → (c2.done ≡ true) ⊎ HasCrowded n.conveyor.dims n.conveyor.rank is_crowded
+  pushed_or true e = inl (adv.done_is ∙ e)
+  pushed_or false e =
+      let es = to_send R n.run.prog n.run.sends in
+      let left : next < length es = elim (cases_lt next (length es)) [ inl b ↦ b | inr p ↦ absurd (clash (eq-eqb next (length es) (omega (arith, p, push.low))) (sym all ∙ e)) ] in
+      let x : (x : ℕ × Item) × (slice_get es next ≡ Some x) = find es next left in
+      inr (toward x.0 x.1) where
+        clash : {b : Bool} → b ≡ true → b ≡ false → ⊥
+        clash t f = absurd (cc)
+
+        toward : (x : ℕ × Item) → slice_get (to_send R n.run.prog n.run.sends) next ≡ Some x → HasCrowded n.conveyor.dims n.conveyor.rank is_crowded
+        toward (to, x) at =
+            let first : FirstLink c1.dims c1.rank to = first_link c1.dims c1.rank to grid1 own1 (receiver to x at) in
+            let l : ℕ = hop_link c1.dims c1.rank to 1 in
+            record {
+              link = l;
+              below = subst (λ (d : List ℕ). l < links d) dims1 first.below;
+              sender = subst (λ (d : List ℕ). sender_at d l ≡ n.conveyor.rank) dims1 (first.sender ∙ rank1);
+              crowded = advanced.full l first.below first.sender (sent_same l) (refused to x at);
+            }
+
+  pub stuck : IsStuck n.conveyor c3 sent got sent' got' is_crowded is_idle
+  stuck =
+      record {
+        before = c1;
+        after = c2;
+        dims_before = dims1;
+        rank_before = rank1;
+        epoch_before = ap (λ (c : State). c.epoch) push.same;
+        dims_after = adv.dims;
+        rank_after = adv.rank;
+        epoch_after = advanced.epoch;
+        ins_before = λ l. ap (λ (c : State). (in_of c l).parcel.untaken) push.same;
+        ins_after = fewer;
+        agrees_before = push.agrees;
+        agrees_after = adv.agrees;
+        pushed = pushed_or done refl;
+        read = λ l b e o. ap (λ (c : State). (in_of c l).parcel.untaken) push.same ∙ is.moving.read l b e o;
+        lies = λ l b e.
+            let rest = advanced.lies l [] (below1 l b) (reader1 l e) (got_same l ∙ sym (append-nil (got l))) in
+            record { front = rest.front; is = sym (append-nil (in_of c1 l).parcel.untaken) ∙ rest.is };
+        idle = λ l b e w. advanced.idles l (below1 l b) (reader1 l e) w (got_same l) (sent_same l);
+        stopped = λ l x b e o some.
+            let next = advanced.stopped l x (below1 l b) (reader1 l e) (subst (λ (d : List ℕ). hop_at d l < length d) (sym dims1) o) some in
+            subst (λ (d : List ℕ). NextIs d n.conveyor.rank l x.tag (λ m. is_crowded m ≡ true)) dims1 (subst (λ r. NextIs c1.dims r l x.tag (λ m. is_crowded m ≡ true)) rank1
+            (record { below = next.below; sender = next.sender; hop = next.hop; holds = next.holds (sent_same (next_link c1.dims c1.rank (hop_at c1.dims l) x.tag)) }));
+        closing = λ l b e o a still. advanced.closing l (below1 l b) (sender1 l e) (λ q. o (subst (λ (d : List ℕ). hop_at d l ≡ 1) dims1 q)) a still;
+        over = λ o. ap (λ (c : State). c.phase) takes.same ∙ advanced.completes o;
+      }

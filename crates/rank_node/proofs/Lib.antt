@@ -1,0 +1,12 @@
+pub mod Emitted
+pub mod Ballots
+pub mod Kept
+pub mod Absorbed
+pub mod Took
+pub mod Offered
+pub mod Moved
+pub mod Halted
+pub mod Begun
+pub mod Fresh
+pub mod Between
+pub mod Onward

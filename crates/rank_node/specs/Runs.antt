@@ -1,0 +1,71 @@
+-- What a rank has done in a run of many epochs, against its part of the exchange machine.
+use Rattle.std.specs.Prelude.{◌≡◌, ℕ, ◌+◌, ◌*◌, ◌<◌, ◌≤◌, Bool, true, false, cond, List, [], length, take}
+use Rattle.bale_types.specs.declared.item.Item.{Item}
+use Rattle.port_bank.specs.Flow.{Begins}
+use Rattle.port_bank.specs.Machine.{Part}
+use Rattle.round_program.specs.Rules.{Rules}
+use Rattle.round_program.specs.Canonical.{items_of, emitted}
+use Rattle.round_program.specs.Epochs.{PairLists, heard, worked, Own}
+use Rattle.rank_node.specs.declared.sends.Sends.{Sends}
+use Rattle.rank_node.specs.declared.sends.Sends.TheVariants.{Emissions, Nothing, Votes}
+use Rattle.rank_node.specs.Sending.{to_send, is_voting, epoch_of, spoiled_vote}
+
+-- What a part of the machine pushed and pulled.
+abbrev pub lists_of : Part → PairLists
+lists_of part = record { pushed = part.pushed; pulled = part.pulled }
+
+-- The first so many of some items to send were pushed: toward each of p ranks, those that go to it.
+-- Of the items (1,x), (0,y), (1,z), of which two are pushed, rank 1 was sent [x] and rank 0 [y].
+abbrev pub IsPushed : List (ℕ × Item) → ℕ → ℕ → Part → Type 0
+IsPushed items p next part = (d : ℕ) → d < p → part.pushed part.epoch d ≡ items_of d (take next items)
+
+-- What a node keeps beside its conveyor: its program, the round, what it sends in this epoch and how many of those items
+-- are pushed, the sum of the votes that came, and whether memory was wanting for its program.
+pub record Running (S : Type 0) : Type 0 where
+  pub prog : S
+  pub round : ℕ
+  pub sends : Sends
+  pub next : ℕ
+  pub sum : ℕ
+  pub spoiled : Bool
+
+-- The epochs that are over for a rank of p ranks; h m is the state of its program as round m began, or the state that it
+-- would have had with memory.
+-- epoch: round m works in epoch 2m and votes in epoch 2m + 1.
+-- own: it knows of itself what the theorem over all rounds asks; goes: each round followed because the program goes on.
+-- emitted_front, one_vote: it pushed at most what its program emits, and at most one vote toward each rank.
+-- ahead: nothing was pushed or pulled in a later epoch.
+pub record HasPassed {S : Type 0} (R : Rules S) (p rank : ℕ) (h : ℕ → S) (round : ℕ) (voting : Bool) (part : Part) : Type 0 where
+  pub epoch : part.epoch ≡ epoch_of round voting
+  pub valid : R.valid (h round)
+  pub own_rank : R.rank (h round) ≡ rank
+  pub all_ranks : R.ranks (h round) ≡ p
+  pub own_round : R.round (h round) ≡ round
+  pub own : Own R p part.epoch part.epoch h (lists_of part)
+  pub goes : (m : ℕ) → m + 1 ≡ round → R.goes_on (R.shape (h m)) m (heard p (lists_of part) m) ≡ true
+  pub emitted_front : (m d : ℕ) → d < p → 2 * m < part.epoch → Begins (part.pushed (2 * m) d) (emitted R (h m) d)
+  pub one_vote : (m d : ℕ) → d < p → 2 * m + 1 < part.epoch → length (part.pushed (2 * m + 1) d) ≤ 1
+  pub ahead : (e d : ℕ) → part.epoch < e → (part.pushed e d ≡ []) × (part.pulled e d ≡ [])
+
+-- The epoch that it is in.
+-- next_low, all_pushed, pushed: the first so many of the items to send are pushed; all of them where the rank is done.
+-- nothing: it leaves out its emissions only where memory was wanting.
+-- works: unless memory was wanting, the program is in the state that the pulls of the round make of h m.
+-- vote: it votes what that state votes, and the greatest vote where memory was wanting.
+-- emitted_all: where it votes what its program votes, it has pushed all that the program emits in the round.
+-- hears: it has summed the votes that came.
+pub record IsWithin {S : Type 0} (R : Rules S) (p : ℕ) (h : ℕ → S) (run : Running S) (part : Part) : Type 0 where
+  pub next_low : run.next ≤ length (to_send R run.prog run.sends)
+  pub all_pushed : part.done ≡ true → run.next ≡ length (to_send R run.prog run.sends)
+  pub pushed : IsPushed (to_send R run.prog run.sends) p run.next part
+  pub emissions : run.sends ≡ Emissions → R.emissions run.prog ≡ R.emissions (h run.round)
+  pub nothing : run.sends ≡ Nothing → run.spoiled ≡ true
+  pub works : run.spoiled ≡ false → run.prog ≡ worked R p h (lists_of part) run.round
+  pub vote : (v q : ℕ) → run.sends ≡ Votes v q → (q ≡ p) × (v ≡ cond run.spoiled spoiled_vote (R.vote (worked R p h (lists_of part) run.round)))
+  pub emitted_all : is_voting run.sends ≡ true → run.spoiled ≡ false → (d : ℕ) → d < p → part.pushed (2 * run.round) d ≡ emitted R (h run.round) d
+  pub hears : is_voting run.sends ≡ true → run.sum ≡ heard p (lists_of part) run.round
+
+-- Both, as items are taken in.
+pub record HasTaken {S : Type 0} (R : Rules S) (p rank : ℕ) (h : ℕ → S) (round : ℕ) (sends : Sends) (next : ℕ) (prog : S) (sum : ℕ) (spoiled : Bool) (part : Part) : Type 0 where
+  pub passed : HasPassed R p rank h round (is_voting sends) part
+  pub within : IsWithin R p h (record { prog = prog; round = round; sends = sends; next = next; sum = sum; spoiled = spoiled }) part

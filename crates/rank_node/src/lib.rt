@@ -1,0 +1,33 @@
+//! One rank of a run: a program that exchanges its items over a conveyor.
+//!
+//! A *node* is a program and its rank's conveyor. A *turn* pushes what the program emits until an open parcel is full, advances
+//! the conveyor once, and absorbs all that came. A turn never waits, so nodes may be turned in whatever order, over any port.
+//!
+//! Epoch 2n is the work of round n. Epoch 2n + 1 carries its votes: each rank sends its vote to all ranks, and the sum says whether
+//! a further round follows.
+//!
+//! | Call | What it does |
+//! |---|---|
+//! | `Node::new` | a node that hasn't turned, for a program of the grid |
+//! | `Node::turn` | one turn; `Ended` exactly where the epoch is over for this rank |
+//! | `Node::next` | goes on to the next epoch, where one follows |
+//! | `Node::into_prog` | the program |
+//!
+//! `specs/Runs` says what a rank has done, against its part of the exchange machine: which of its emissions are pushed, and that its
+//! state is the one that its pulls make of the start, in whatever order they came.
+#![tactic(auto)]
+
+mod ending;
+mod node;
+mod sending;
+mod sends;
+mod steps;
+mod taking;
+mod turn;
+mod via;
+
+pub use node::Node;
+pub use sends::Sends;
+pub use steps::Steps;
+pub use turn::Turn;
+pub use via::Via;

@@ -40,6 +40,12 @@ pub use threads::drive_threads;
 #[cfg(test)]
 mod drive_tests;
 #[cfg(test)]
+mod refused_tests;
+#[cfg(test)]
+mod side_by_side_tests;
+#[cfg(test)]
 mod slot_tests;
 #[cfg(test)]
-mod watched_tests;
+mod thread_tests;
+#[cfg(test)]
+mod watched;

@@ -1,6 +1,6 @@
 use Rattle.std.proofs.Common.{refl}
 use Rattle.port_bank.specs.Port.{IsSlots}
-use Rattle.rank_group.proofs.watched_tests.run_watched.Goals as goal
+use Rattle.rank_group.proofs.watched.run_watched.Goals as goal
 
 pub drive_with-requires-clause-slots : goal.drive_with-requires-clause-slots
 unfolding IsSlots

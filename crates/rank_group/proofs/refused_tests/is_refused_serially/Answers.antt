@@ -3,7 +3,7 @@ use Rattle.port_bank.specs.Port.{IsSlots}
 use Rattle.round_program.specs.Canonical.{InRound}
 use Rattle.round_examples.specs.Counts.{count_rules}
 use Rattle.rank_group.proofs.DriveTests.{one_round}
-use Rattle.rank_group.proofs.watched_tests.is_refused_serially.Goals as goal
+use Rattle.rank_group.proofs.refused_tests.is_refused_serially.Goals as goal
 
 pub drive_serial-told-requires-clause-slots : goal.drive_serial-told-requires-clause-slots
 unfolding IsSlots

@@ -1,6 +1,6 @@
 use Rattle.std.proofs.Common.{sym, ap, subst, ◌∙◌, arith}
 use Rattle.rank_group.proofs.DriveTests.{counted_more}
-use Rattle.rank_group.proofs.watched_tests.progs_of.Goals as goal
+use Rattle.rank_group.proofs.watched.progs_of.Goals as goal
 
 pub loop-rank-preserved : goal.loop-rank-preserved
 loop-rank-preserved c =

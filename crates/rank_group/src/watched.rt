@@ -1,22 +1,19 @@
-//! Programs that note how `drive_threads` drives them.
+//! Counting programs that note how a drive turns them.
 ghost use Rattle.std.specs.Prelude.{◌≡◌, ◌<◌, ◌^◌, ◌∷◌, [], length, IfOk};
 ghost use Rattle.std.specs.List.{All};
 ghost use Rattle.round_program.specs.Canonical.{InRound};
 ghost use Rattle.round_examples.specs.Counts.{count_rules};
 
-use crate::drive_tests::order_of;
 use crate::threads::drive_with;
-use crate::{Finished, Gate, OpenGate, Steps, Via, drive_serial};
+use crate::{Finished, Gate, Via};
 use bale_types::{Item, NoMemory};
 use round_examples::Count;
 use round_program::{Program, Progs};
 use route_tensor::Grid;
 use std::alloc::Global;
-use std::marker::{Brand, Model};
+use std::marker::Model;
 use std::sync::Wait;
 use std::sync::atomic::{AtomicBool, Ordering};
-use std::sync::ledger::{Blank, Ledger};
-use std::test::Fail;
 use std::thread;
 use std::thread::Threads;
 
@@ -25,22 +22,22 @@ const TRIES: u64 = 1_000_000_000;
 
 /// What the ranks and the gate of a test tell each other.
 #[derive(Drop)]
-struct Watch {
+pub(crate) struct Watch {
     /// Rank 1's turn 1 was announced.
-    announced: AtomicBool,
+    pub(crate) announced: AtomicBool,
     /// The gate let rank 0's turn 0 go.
-    let_go: AtomicBool,
+    pub(crate) let_go: AtomicBool,
     /// Rank 1 absorbed.
-    absorbed: AtomicBool,
+    pub(crate) absorbed: AtomicBool,
     /// Rank 0, and rank 1, was asked for an emission.
     zero_asked: AtomicBool,
     one_asked: AtomicBool,
     /// Something was not as it should be.
-    noted: AtomicBool,
+    pub(crate) noted: AtomicBool,
 }
 
 impl Watch {
-    fn new() -> Watch {
+    pub(crate) fn new() -> Watch {
         Watch {
             announced: AtomicBool::new(false),
             let_go: AtomicBool::new(false),
@@ -52,7 +49,7 @@ impl Watch {
     }
 
     /// Waits for a flag; notes where it gives up.
-    fn hold(&self, flag: &AtomicBool) {
+    pub(crate) fn hold(&self, flag: &AtomicBool) {
         for _ in 0..TRIES {
             if flag.load(Ordering::SeqCst) {
                 return;
@@ -83,27 +80,9 @@ impl Watch {
     }
 }
 
-/// Holds rank 0's turn 0 until rank 1's turn 1 was announced, and its turn 1 until rank 1 absorbed.
-#[derive(Drop)]
-struct Holds<'a>(&'a Watch);
-
-impl<'a> Gate for Holds<'a> {
-    fn turn(&self, rank: u32, n: u64) {
-        match (rank, n) {
-            (1, 1) => self.0.announced.store(true, Ordering::SeqCst),
-            (0, 0) => {
-                self.0.hold(&self.0.announced);
-                self.0.let_go.store(true, Ordering::SeqCst);
-            }
-            (0, 1) => self.0.hold(&self.0.absorbed),
-            _ => {}
-        }
-    }
-}
-
 /// What a program does beside its counting.
 #[derive(Clone, Copy, PartialEq, Eq, Debug)]
-enum Deed {
+pub(crate) enum Deed {
     Counts,
     /// Notes an absorb that comes too early.
     Absorbs,
@@ -115,7 +94,7 @@ enum Deed {
 
 /// A counting program that is watched.
 #[derive(Drop)]
-struct Watched<'a> {
+pub(crate) struct Watched<'a> {
     inner: Count,
     watch: &'a Watch,
     deed: Deed,
@@ -209,7 +188,7 @@ fn names_of(alloc: Global, columns: u32, list: &[u32]) -> Result<Vec<u32>, NoMem
 }
 
 /// A watched program for each of so many ranks, each of which sends to the ranks that its list names.
-fn progs_of<'a>(
+pub(crate) fn progs_of<'a>(
     alloc: Global,
     ranks: u32,
     lists: &[&[u32]],
@@ -232,7 +211,7 @@ fn progs_of<'a>(
 }
 
 /// Drives watched programs over parcels of one entry, the first `threads` of them on a thread each.
-fn run_watched<'a, R: Threads + Wait + Sync, G: Gate + Sync>(
+pub(crate) fn run_watched<'a, R: Threads + Wait + Sync, G: Gate + Sync>(
     rt: &R,
     alloc: Global,
     grid: &Grid,
@@ -297,7 +276,7 @@ fn add_counts(all: &mut Vec<u64>, counts: &[u64]) {
 }
 
 /// The same on a grid of one number; `None` where there is no such grid.
-fn drive_on<R: Threads + Wait + Sync, G: Gate + Sync>(
+pub(crate) fn drive_on<R: Threads + Wait + Sync, G: Gate + Sync>(
     rt: &R,
     alloc: Global,
     ranks: u32,
@@ -312,184 +291,4 @@ fn drive_on<R: Threads + Wait + Sync, G: Gate + Sync>(
     };
     let told = drive_watched(rt, alloc, &grid, lists, watch, deed, gate, threads)?;
     Ok(Some(told))
-}
-
-#[test]
-fn absorbs_while_ranks_turn(rt: HostRuntime) -> Result<(), Fail> {
-    let watch = Watch::new();
-    let lists: [&[u32]; 2] = [&[1, 1], &[]];
-    let gate = Holds(&watch);
-    let told = drive_on(&rt, rt.alloc(), 2, &lists, &watch, Deed::Absorbs, &gate, 2)?;
-    let Some((counts, epochs)) = told else {
-        return Err(Fail::new("no grid"));
-    };
-    assert_eq!(rt; counts.as_slice(), [0, 2].as_slice());
-    assert_eq!(rt; epochs, 2);
-    assert!(rt; !watch.noted.load(Ordering::SeqCst));
-    Ok(())
-}
-
-#[test]
-fn two_ranks_look_for_each_other(rt: HostRuntime) -> Result<(), Fail> {
-    let watch = Watch::new();
-    let lists: [&[u32]; 2] = [&[1], &[0]];
-    let told = drive_on(
-        &rt,
-        rt.alloc(),
-        2,
-        &lists,
-        &watch,
-        Deed::Looks,
-        &OpenGate,
-        2,
-    )?;
-    let Some((counts, epochs)) = told else {
-        return Err(Fail::new("no grid"));
-    };
-    assert_eq!(rt; counts.as_slice(), [1, 1].as_slice());
-    assert_eq!(rt; epochs, 2);
-    assert!(rt; !watch.noted.load(Ordering::SeqCst));
-    Ok(())
-}
-
-/// The turns 0 and 1 that were announced.
-#[derive(Drop)]
-struct Seen {
-    firsts: Vec<AtomicBool>,
-    seconds: Vec<AtomicBool>,
-}
-
-impl Gate for Seen {
-    fn turn(&self, rank: u32, n: u64) {
-        let turns = match n {
-            0 => &self.firsts,
-            1 => &self.seconds,
-            _ => return,
-        };
-        if let Some(turn) = turns.get(rank as usize) {
-            turn.store(true, Ordering::SeqCst);
-        }
-    }
-}
-
-fn unseen(alloc: Global, count: usize) -> Result<Vec<AtomicBool>, NoMemory> {
-    let mut turns = Vec::new(alloc);
-    for _ in 0..count {
-        turns.push(AtomicBool::new(false))?;
-    }
-    Ok(turns)
-}
-
-#[test]
-fn refused_absorbs(rt: HostRuntime) -> Result<(), Fail> {
-    let all: &[u32] = &[0, 1, 2, 3];
-    let lists = [all; 4];
-    for threads in [0, 2, 4] {
-        let watch = Watch::new();
-        let gate = Seen {
-            firsts: unseen(rt.alloc(), 4)?,
-            seconds: unseen(rt.alloc(), 4)?,
-        };
-        let told = drive_on(
-            &rt,
-            rt.alloc(),
-            4,
-            &lists,
-            &watch,
-            Deed::Refuses,
-            &gate,
-            threads,
-        );
-        assert!(rt; told.is_err());
-        for turns in [&gate.firsts, &gate.seconds] {
-            assert!(rt; turns.iter().all(|turn| turn.load(Ordering::SeqCst)));
-        }
-    }
-    Ok(())
-}
-
-/// Whether `drive_serial` answers that memory was wanting, where rank 2 of four refuses each absorb.
-fn is_refused_serially<L: Ledger>(alloc: Global, blank: Blank) -> Result<bool, NoMemory>
-    requires name { blank.name ≡ L.name }
-    requires parts { blank.parts ≡ L.parts }
-    requires some { 0 < L.parts }
-{
-    let Ok(grid) = Grid::new(&[4]) else {
-        return Ok(false);
-    };
-    let watch = Watch::new();
-    let all: &[u32] = &[0, 1, 2, 3];
-    let ranks = grid.ranks();
-    let progs = progs_of(alloc, ranks, &[all; 4], &watch, Deed::Refuses)?;
-    let order = order_of(alloc, ranks, false)?;
-    let mut steps = Steps::<L>::new(blank);
-    let told = drive_serial::<1, 1, Watched<'_>, L>(
-        alloc,
-        &grid,
-        Via::Convey,
-        2,
-        false,
-        &order,
-        progs,
-        &mut steps,
-    );
-    Ok(told.is_err())
-}
-
-fn refused_serially(alloc: Global) -> Result<bool, NoMemory> {
-    is_refused_serially::<Brand>(alloc, Blank::new(1))
-}
-
-#[test]
-fn refused_absorbs_serially(rt: HostRuntime) -> Result<(), Fail> {
-    assert!(rt; refused_serially(rt.alloc())?);
-    Ok(())
-}
-
-/// The closed rounds of two runs in a row: how many there are, and the ranks of the second.
-fn rounds_of_two_runs<R: Threads + Wait + Sync>(
-    rt: &R,
-    alloc: Global,
-) -> Result<(usize, Option<u32>), NoMemory> {
-    let Ok(grid) = Grid::new(&[2]) else {
-        return Ok((0, None));
-    };
-    let watch = Watch::new();
-    let one = run_watched(rt, alloc, &grid, &[], &watch, Deed::Counts, &OpenGate, 2)?;
-    let two = run_watched(rt, alloc, &grid, &[], &watch, Deed::Counts, &OpenGate, 2)?;
-    let mut rounds = one.rounds;
-    rounds.append(two.rounds)?;
-    Ok((rounds.len(), rounds.get(1).map(|round| round.ranks())))
-}
-
-#[test]
-fn rounds_in_a_row(rt: HostRuntime) -> Result<(), Fail> {
-    assert_eq!(rt; rounds_of_two_runs(&rt, rt.alloc())?, (2, Some(2)));
-    Ok(())
-}
-
-/// Ranks that each name every column, kept by the caller or not.
-#[test]
-fn the_caller_drives_what_has_no_thread(rt: HostRuntime) -> Result<(), Fail> {
-    let all: &[u32] = &[0, 1, 2, 3, 3];
-    let lists = [all; 4];
-    for threads in [0, 1, 3, 4] {
-        let watch = Watch::new();
-        let told = drive_on(
-            &rt,
-            rt.alloc(),
-            4,
-            &lists,
-            &watch,
-            Deed::Counts,
-            &OpenGate,
-            threads,
-        )?;
-        let Some((counts, epochs)) = told else {
-            return Err(Fail::new("no grid"));
-        };
-        assert_eq!(rt; counts.as_slice(), [4, 4, 4, 8].as_slice());
-        assert_eq!(rt; epochs, 2);
-    }
-    Ok(())
 }

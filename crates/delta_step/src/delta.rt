@@ -5,7 +5,7 @@ ghost use Rattle.std.specs.List.{All};
 ghost use Rattle.least_walks.specs.Tables.{table_of, offers};
 ghost use Rattle.least_walks.specs.Vertices.{improved_at, in_bucket, picked, calm_if, least_marked};
 ghost use Rattle.delta_step.specs.declared.phase.Phase.TheVariants.{First, Find, Light, Heavy};
-ghost use Rattle.delta_step.specs.Deltas.{IsDelta, DeltaState, bucket_of, announced, ascending, offered, absorbed_in, finding, sorted_out, activated, finished};
+ghost use Rattle.delta_step.specs.Deltas.{IsDelta, DeltaState, bucket_of, announced, no_bucket, ascending, offered, absorbed_in, finding, sorted_out, activated, finished};
 
 use crate::phase::Phase;
 use bale_types::{Item, NoMemory, value_of};
@@ -259,8 +259,7 @@ impl Delta {
         self.outgoing = outgoing;
         self.light = light;
         self.heavy = heavy;
-        self.settled.clear();
-        self.bucket = NO_BUCKET;
+        begin_finding(&mut self.settled, &mut self.bucket);
         self.phase = Phase::Find;
         self.round = self.round.saturating_add(1);
         Ok(())
@@ -274,8 +273,7 @@ impl Delta {
     {
         let outgoing = announce(self.alloc, self.ranks, self.width, &mut self.vertices)?;
         self.outgoing = outgoing;
-        self.settled.clear();
-        self.bucket = NO_BUCKET;
+        begin_finding(&mut self.settled, &mut self.bucket);
         self.phase = Phase::Find;
         self.round = self.round.saturating_add(1);
         Ok(())
@@ -309,6 +307,15 @@ impl Delta {
         self.round = self.round.saturating_add(1);
         Ok(())
     }
+}
+
+/// In a find round no vertex is settled, and no bucket was heard of yet.
+fn begin_finding(settled: &mut Vec<u32>, bucket: &mut u64)
+    ensures settled { settled.new.items ≡ [] }
+    ensures bucket { bucket.new ≡ no_bucket }
+{
+    settled.clear();
+    *bucket = NO_BUCKET;
 }
 
 /// Tells each rank the least bucket with a pending vertex.

@@ -104,14 +104,21 @@ fn keep(
 {
     let weight = bits_of(t.v);
     if low <= weight && weight <= high {
-        let edge = Edge {
-            owner: t.j % ranks,
-            to: t.j,
-            weight,
-        };
-        push_edge(rows, (t.i / ranks) as usize, edge)?;
+        push_edge(rows, (t.i / ranks) as usize, edge_of(ranks, t))?;
     }
     Ok(())
+}
+
+/// The edge of an entry.
+fn edge_of(ranks: u32, t: Triple) -> Edge
+    requires { 0 < ranks }
+    ensures { result ≡ edge_of ranks t }
+{
+    Edge {
+        owner: t.j % ranks,
+        to: t.j,
+        weight: bits_of(t.v),
+    }
 }
 
 fn push_edge(rows: &mut Vec<Vec<Edge>>, place: usize, edge: Edge) -> Result<(), NoMemory>

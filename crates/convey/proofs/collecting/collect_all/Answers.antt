@@ -18,13 +18,19 @@ collect_one-requires g c =
     let own : rank < ranks dims = subst (λ r. r < ranks dims) (ap (λ t. t.rank) c.routes.ensures ∙ c.requires.ready.same_rank) (subst (λ ds. c.routes.result.now.rank < ranks ds) first c.neighbours-i-end.ensures.rank) in
     let link = c.neighbour-link.result.link_from in
     let here : link ≡ link_from dims rank c.loop-i.i = link_here link_from dims _ rank _ _ _ (ap (λ t. t.dims) c.routes-in-loop-i.ensures ∙ k.ready.same_dims) (ap (λ t. t.rank) c.routes-in-loop-i.ensures ∙ k.ready.same_rank) (ap (λ n. n.link_from) c.neighbour-link.ensures.value) in
-    let at : c.loop-i.i ≡ in_index (g.P.Port.dims c.loop-i.port) link = sym (ap (λ ds. in_index ds link) k.same_dims ∙ (ap (in_index dims) here ∙ in_index-link_from dims rank c.loop-i.i grid own below)) in
-    (search rules, (search rules, (
-      subst (λ ds. link < links ds) (sym k.same_dims) (subst (λ l. l < links dims) (sym here) (from_below dims rank _ grid own below)),
+    let at : c.loop-i.i ≡ in_index (g.P.Port.dims c.loop-i.port) link = sym (ap (λ ds. in_index ds link) k.same_dims ∙ (ap (in_index dims) here ∙ in_index-link_from dims rank c.loop-i.i grid own below)) in (
+      search rules,
       (
-        ap (λ ds. reader_at ds link) k.same_dims ∙ (ap (reader_at dims) here ∙ (from_reader dims rank _ grid own below ∙ sym k.same_rank)),
-        (at, (k.empty, ready_at _ _ _ _ _ _ _ (sym k.same_dims) (sym k.same_rank) k.ready))
-      ))))
+        search rules,
+        (
+          subst (λ ds. link < links ds) (sym k.same_dims) (subst (λ l. l < links dims) (sym here) (from_below dims rank _ grid own below)),
+          (
+            ap (λ ds. reader_at ds link) k.same_dims ∙ (ap (reader_at dims) here ∙ (from_reader dims rank _ grid own below ∙ sym k.same_rank)),
+            (at, (k.empty, ready_at _ _ _ _ _ _ _ (sym k.same_dims) (sym k.same_rank) k.ready)),
+          ),
+        ),
+      ),
+    )
 
 pub loop-i-init : goal.loop-i-init
 loop-i-init g c =

@@ -157,6 +157,19 @@ take_in-requires g c =
     let below : c.args.link < links st.dims = subst (λ ds. c.args.link < links ds) (sym c.requires.ready.same_dims) c.requires.link in
     let n : c.args.number ≡ in_index st.dims c.args.link = c.requires.number ∙ ap (λ ds. in_index ds c.args.link) (sym c.requires.ready.same_dims) in
     let within : c.args.number < sum st.dims = subst (λ i. i < sum st.dims) (sym n) (in_number st.dims c.args.link s.grid below).within in
-    let came = c.in-Got.ensures.arrived refl in
-    (search rules, (search rules, (c.requires.ready.home, (within, (sym c.wants_from.ensures ∙ c.if-not-wants_from.false,
-        (record { none_taken = ap (λ p. p.taken) came; none_back = ap (λ p. p.back) came }, fair_at st _ c.args.number c.args.link _ s below c.requires.ready.same_dims n (c.in-Got.ensures.fair refl)))))))
+    let came = c.in-Got.ensures.arrived refl in (
+      search rules,
+      (
+        search rules,
+        (
+          c.requires.ready.home,
+          (
+            within,
+            (
+              sym c.wants_from.ensures ∙ c.if-not-wants_from.false,
+              (record { none_taken = ap (λ p. p.taken) came; none_back = ap (λ p. p.back) came }, fair_at st _ c.args.number c.args.link _ s below c.requires.ready.same_dims n (c.in-Got.ensures.fair refl)),
+            ),
+          ),
+        ),
+      ),
+    )

@@ -38,8 +38,7 @@ post-requires g c =
     let below : c.args.link < links st.dims = subst (λ ds. c.args.link < links ds) (sym c.requires.ready.same_dims) c.requires.link in
     let n : c.args.number ≡ out_index st.dims c.args.link = c.requires.number ∙ ap (λ ds. out_index ds c.args.link) (sym c.requires.ready.same_dims) in
     let t = taken_out st c.args.number c.args.link c.take_out.new.parcel s below n (sym c.due_to.ensures ∙ c.if-not-due_to.false) c.take_out.ensures.parcel in
-    let q = shipped c.take_out.new.parcel in
-    (
+    let q = shipped c.take_out.new.parcel in (
       search rules,
       (
         c.requires.link,
@@ -304,10 +303,25 @@ put_back-requires g c =
     let no = not_sent _ (c.in-Ok-NoRoom.is ∙ ap Ok c.in-Ok-NoRoom.field-0-is) in
     let back = c.post.ensures.kept no in
     let mid = c.take_out.ensures.state in
-    let fair : All (λ (t : Entry). IsFair st.dims (hop_to st.dims c.args.number) t.tag) c.post.new.p.untaken = subst (λ (p : Contents). All (λ (t : Entry). IsFair st.dims (hop_to st.dims c.args.number) t.tag) p.untaken) (sym back) c.take_out.ensures.fair in
-    (search rules, (search rules, (ap (λ (u : State). u.lent) mid ∙ c.requires.ready.home, (subst (λ (u : State). c.args.number < sum u.dims) (sym mid) within,
-        (place_empty st _ c.args.number _ s within mid refl, (subst IsFresh (sym back) c.take_out.ensures.fresh,
-        subst (λ (u : State). All (λ (t : Entry). IsFair u.dims (hop_to u.dims c.args.number) t.tag) c.post.new.p.untaken) (sym mid) fair))))))
+    let fair : All (λ (t : Entry). IsFair st.dims (hop_to st.dims c.args.number) t.tag) c.post.new.p.untaken = subst (λ (p : Contents). All (λ (t : Entry). IsFair st.dims (hop_to st.dims c.args.number) t.tag) p.untaken) (sym back) c.take_out.ensures.fair in (
+      search rules,
+      (
+        search rules,
+        (
+          ap (λ (u : State). u.lent) mid ∙ c.requires.ready.home,
+          (
+            subst (λ (u : State). c.args.number < sum u.dims) (sym mid) within,
+            (
+              place_empty st _ c.args.number _ s within mid refl,
+              (
+                subst IsFresh (sym back) c.take_out.ensures.fresh,
+                subst (λ (u : State). All (λ (t : Entry). IsFair u.dims (hop_to u.dims c.args.number) t.tag) c.post.new.p.untaken) (sym mid) fair,
+              ),
+            ),
+          ),
+        ),
+      ),
+    )
 
 pub put_back-requires-in-Err : goal.put_back-requires-in-Err
 put_back-requires-in-Err g c =
@@ -319,7 +333,22 @@ put_back-requires-in-Err g c =
     let no = failed _ _ c.in-Err.is in
     let back = c.post.ensures.kept no in
     let mid = c.take_out.ensures.state in
-    let fair : All (λ (t : Entry). IsFair st.dims (hop_to st.dims c.args.number) t.tag) c.post.new.p.untaken = subst (λ (p : Contents). All (λ (t : Entry). IsFair st.dims (hop_to st.dims c.args.number) t.tag) p.untaken) (sym back) c.take_out.ensures.fair in
-    (search rules, (search rules, (ap (λ (u : State). u.lent) mid ∙ c.requires.ready.home, (subst (λ (u : State). c.args.number < sum u.dims) (sym mid) within,
-        (place_empty st _ c.args.number _ s within mid refl, (subst IsFresh (sym back) c.take_out.ensures.fresh,
-        subst (λ (u : State). All (λ (t : Entry). IsFair u.dims (hop_to u.dims c.args.number) t.tag) c.post.new.p.untaken) (sym mid) fair))))))
+    let fair : All (λ (t : Entry). IsFair st.dims (hop_to st.dims c.args.number) t.tag) c.post.new.p.untaken = subst (λ (p : Contents). All (λ (t : Entry). IsFair st.dims (hop_to st.dims c.args.number) t.tag) p.untaken) (sym back) c.take_out.ensures.fair in (
+      search rules,
+      (
+        search rules,
+        (
+          ap (λ (u : State). u.lent) mid ∙ c.requires.ready.home,
+          (
+            subst (λ (u : State). c.args.number < sum u.dims) (sym mid) within,
+            (
+              place_empty st _ c.args.number _ s within mid refl,
+              (
+                subst IsFresh (sym back) c.take_out.ensures.fresh,
+                subst (λ (u : State). All (λ (t : Entry). IsFair u.dims (hop_to u.dims c.args.number) t.tag) c.post.new.p.untaken) (sym mid) fair,
+              ),
+            ),
+          ),
+        ),
+      ),
+    )

@@ -27,9 +27,11 @@ invariant_of-self-then-finished g c =
     let f = subst (λ (s : State). All (λ (e : Entry). IsFair s.dims (hop_to s.dims c.args.number) e.tag) c.args.parcel.now.untaken) (sym c.self.view_is) c.requires.fair in
     let h : c.neighbour-hop.result.hop ≡ hop_to c.self.inside.routes.dims c.args.number = ap (λ n. n.hop) c.neighbour-hop.ensures.value in
     let q = subst (λ (s : State). c.args.number < sum s.dims) (sym c.self.view_is) c.requires.number in
-    let before : hop_to c.self.inside.routes.dims c.args.number < length c.self.inside.routes.dims = omega (arith, h, c.self.invariant.0, c.if-hop.false) in
-    (c.self.invariant.0, rw h (in_ending_kept _ _ _ _ _ _ _ k q home w c.len-fits.ensures.within c.requires.fresh.none_back f (ap (λ y. y.parcel) c.exchange-finished.ensures.state) _ before
-        (c.hop_finished.ensures ∙ ap (λ xs. list_all is_finished (ins_of_hop c.self.inside.routes.dims xs c.neighbour-hop.result.hop)) c.deref.ensures.value ∙ ap (λ j. list_all is_finished (ins_of_hop c.self.inside.routes.dims (set c.self.inside.ins.items c.args.number c.exchange-finished.new.self) j)) h)))
+    let before : hop_to c.self.inside.routes.dims c.args.number < length c.self.inside.routes.dims = omega (arith, h, c.self.invariant.0, c.if-hop.false) in (
+      c.self.invariant.0,
+      rw h (in_ending_kept _ _ _ _ _ _ _ k q home w c.len-fits.ensures.within c.requires.fresh.none_back f (ap (λ y. y.parcel) c.exchange-finished.ensures.state) _ before
+          (c.hop_finished.ensures ∙ ap (λ xs. list_all is_finished (ins_of_hop c.self.inside.routes.dims xs c.neighbour-hop.result.hop)) c.deref.ensures.value ∙ ap (λ j. list_all is_finished (ins_of_hop c.self.inside.routes.dims (set c.self.inside.ins.items c.args.number c.exchange-finished.new.self) j)) h)),
+    )
 
 pub invariant_of-self-else-finished : goal.invariant_of-self-else-finished
 invariant_of-self-else-finished g c =

@@ -3,11 +3,12 @@ use Rattle.std.proofs.Common.{◌≡◌, ◌≢◌, ℕ, ◌<◌, Bool, true, fa
 use Rattle.std.specs.List.{All, flat_map}
 use Rattle.std.proofs.lemmas.Bool.{cases_eq, false≢true}
 use Rattle.std.proofs.lemmas.List.{append-nil, append_cancel_left, get_or-set_other, get_or-set_same}
+use Rattle.bale_types.specs.declared.item.Entry.{Entry}
 use Rattle.item_buffer.specs.Contents.{Shipped}
 use Rattle.route_tensor.specs.Link.{links}
 use Rattle.route_tensor.specs.Tag.{IsFair}
 use Rattle.route_tensor.specs.Ends.{hop_at, sender_at, reader_at}
-use Rattle.route_tensor.specs.Neighbour.{in_index}
+use Rattle.route_tensor.specs.Neighbour.{hop_to, in_index}
 use Rattle.port_bank.specs.Logs.{Logs, added}
 use Rattle.list_laws.specs.Lists.{Begins}
 use Rattle.port_bank.proofs.Fronts.{begins_refl}
@@ -124,13 +125,22 @@ module _ (st : State) (link : ℕ) (x : In) (sent got got' : Logs) (s : IsState 
       let n : State = with_inbox st (in_index st.dims link) x in
       ap at_rest (got_part (buffers_of st) (buffers_of n).unread (buffers_of n).ended sent got link q s.grid a below own goes_on_now empty_now fair front (came q entries last) s.rank)
 
--- the two calls that lend and take back the inbox, as one
-pub lent_in : (st st1 st2 : State) (link : ℕ) (y x : In) (t : Lent) → st1 ≡ record st { ins = slice_set st.ins (in_index st.dims link) y; lent = t; pulled = None }
-    → st2 ≡ record st1 { ins = slice_set st1.ins (in_index st1.dims link) x; lent = Nothing; pulled = None } → st2 ≡ with_inbox st (in_index st.dims link) x
-lent_in st st1 st2 link y x t p q =
-    let back : State → State = λ u. record u { ins = slice_set u.ins (in_index u.dims link) x; lent = Nothing; pulled = None } in
-    let put : List In → State = λ ins. record st { ins = ins; lent = Nothing; pulled = None } in
-    q ∙ (ap back p ∙ ap put (set-set st.ins (in_index st.dims link) y x))
+-- the state where a parcel was taken in, by the number of the link's neighbour
+pub filled : (st new : State) (number l : ℕ) (x : In) → st.lent ≡ Nothing → number ≡ in_index st.dims l → new ≡ record st { ins = slice_set st.ins number x; pulled = None } → new ≡ with_inbox st (in_index st.dims l) x
+filled st new number l x home n e =
+    let put : ℕ → Lent → State = λ i t. record st { ins = slice_set st.ins i x; lent = t; pulled = None } in
+    e ∙ λ j. put (n j) (home j)
+
+-- tags that are fair on the link's hop are so by the number of the neighbour
+pub fair_at : (st : State) (dims : List ℕ) (number l : ℕ) (xs : List Entry) → IsState st → l < links st.dims → st.dims ≡ dims → number ≡ in_index st.dims l
+    → All (λ t. IsFair dims (hop_at dims l) t.tag) xs → All (λ t. IsFair st.dims (hop_to st.dims number) t.tag) xs
+fair_at st dims number l xs s h e n fair =
+    let hop : hop_to st.dims number ≡ hop_at st.dims l = ap (hop_to st.dims) n ∙ (in_number st.dims l s.grid h).hop in
+    subst (λ k. All (λ t. IsFair st.dims k t.tag) xs) (sym hop) (subst (λ ds. All (λ t. IsFair ds (hop_at ds l) t.tag) xs) (sym e) fair)
+
+-- nothing came, and the lists are the same
+pub still_ready : (dims : List ℕ) (rank : ℕ) (st : State) (sent sent' got got' : Logs) → sent' ≡ sent → got' ≡ got → IsReady dims rank st sent got → IsReady dims rank st sent' got'
+still_ready dims rank st sent sent' got got' a b r = subst (λ logs. IsReady dims rank st logs got') (sym a) (subst (λ logs. IsReady dims rank st sent logs) (sym b) r)
 
 -- all that a collect leaves
 pub record Collected (dims : List ℕ) (rank : ℕ) (st new : State) (link : ℕ) (sent sent' got got' : Logs) : Type 0 where

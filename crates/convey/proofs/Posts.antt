@@ -1,13 +1,13 @@
 -- What one post leaves of a rank's state.
-use Rattle.std.proofs.Common.{◌≡◌, ◌≢◌, ℕ, ◌<◌, ◌≤◌, ◌==◌, ◌&&◌, ◌||◌, ◌⊎◌, Bool, true, false, not, List, [], ◌∷◌, ◌++◌, length, slice_set, None, refl, sym, ap, subst, ◌∙◌, arith, inl, inr, length-append, set-set, eqb-true, ne_eqb, eq-eqb}
+use Rattle.std.proofs.Common.{◌≡◌, ◌≢◌, ℕ, ◌<◌, ◌≤◌, ◌==◌, ◌&&◌, ◌||◌, ◌⊎◌, Bool, true, false, not, List, [], ◌∷◌, ◌++◌, length, sum, slice_set, None, refl, sym, ap, subst, ◌∙◌, arith, inl, inr, length-append, set-set, eqb-true, ne_eqb, eq-eqb}
 use Rattle.std.specs.List.{All}
 use Rattle.std.proofs.lemmas.Bool.{cases_eq, false≢true}
 use Rattle.std.proofs.lemmas.List.{append_cancel_left, get_or-set_other, get_or-set_same}
 use Rattle.bale_types.specs.declared.item.Entry.{Entry}
-use Rattle.item_buffer.specs.Contents.{Shipped}
+use Rattle.item_buffer.specs.Contents.{Contents, Shipped, blank}
 use Rattle.route_tensor.specs.Link.{links}
 use Rattle.route_tensor.specs.Ends.{hop_at, sender_at}
-use Rattle.route_tensor.specs.Neighbour.{out_index}
+use Rattle.route_tensor.specs.Neighbour.{hop_to, out_index}
 use Rattle.port_bank.specs.Logs.{Logs, lasts, added}
 use Rattle.list_laws.specs.Lists.{Begins}
 use Rattle.port_bank.specs.Relay.{RelayLaw}
@@ -16,8 +16,8 @@ use Rattle.port_bank.proofs.Fronts.{begins_refl}
 use Rattle.port_bank.proofs.Kept.{added_grows, added-here, added-other}
 use Rattle.hop_core.specs.declared.lent.Lent.{Lent}
 use Rattle.hop_core.specs.declared.lent.Lent.TheVariants.{Nothing}
-use Rattle.hop_core.specs.Link.{Out, no_out, is_empty}
-use Rattle.hop_core.specs.State.{State, at_end}
+use Rattle.hop_core.specs.Link.{Out, no_out, is_empty, is_due}
+use Rattle.hop_core.specs.State.{State, out_at, at_end}
 use Rattle.hop_core.specs.Standing.{IsState}
 use Rattle.convey.specs.Buffers.{out_of, buffers_of}
 use Rattle.convey.specs.Agreement.{Agrees}
@@ -143,15 +143,51 @@ fills_more steady cap sent l q filled m more e =
       | inr other ↦ none_filled steady cap (sent m) more (sym (added-other sent l m q other) ∙ e)
     ]
 
--- the two calls that lend and take back the open parcel, as one
-pub lent_out : (st st1 st2 : State) (link : ℕ) (y : Out) (o : State → Out) (t : Lent) → st1 ≡ record st { outs = slice_set st.outs (out_index st.dims link) y; lent = t; pulled = None }
-    → st2 ≡ record st1 { outs = slice_set st1.outs (out_index st1.dims link) (o st1); lent = Nothing; pulled = None }
-    → o (record st { outs = slice_set st.outs (out_index st.dims link) y; lent = t; pulled = None }) ≡ o st
-    → st2 ≡ with_open st (out_index st.dims link) (o st)
-lent_out st st1 st2 link y o t p q same =
-    let back : State → State = λ u. record u { outs = slice_set u.outs (out_index u.dims link) (o u); lent = Nothing; pulled = None } in
-    let put : List Out → State = λ outs. record st { outs = outs; lent = Nothing; pulled = None } in
-    q ∙ (ap back p ∙ (ap (λ x. put (slice_set (slice_set st.outs (out_index st.dims link) y) (out_index st.dims link) x)) same ∙ ap put (set-set st.outs (out_index st.dims link) y (o st))))
+-- an open parcel that was taken out, by the number of the link's neighbour
+pub record TakenOut (st : State) (l : ℕ) (q : Contents) : Type 0 where
+  pub due : IsDue st l
+  pub entries : q.untaken ≡ (out_of st l).parcel.untaken
+  pub last : q.last ≡ at_end st.dims st.ins st.done (hop_at st.dims l)
+
+pub taken_out : (st : State) (number l : ℕ) (q : Contents) → IsState st → l < links st.dims → number ≡ out_index st.dims l
+    → is_due st.cap st.steady (at_end st.dims st.ins st.done (hop_to st.dims number)) (out_at st number) ≡ true
+    → q ≡ record (out_at st number).parcel { last = at_end st.dims st.ins st.done (hop_to st.dims number); epoch = st.epoch } → TakenOut st l q
+taken_out st number l q s h n due is =
+    let hop : hop_to st.dims number ≡ hop_at st.dims l = ap (hop_to st.dims) n ∙ (out_number st.dims l s.grid h).hop in
+    record {
+      due = subst (λ k. is_due st.cap st.steady (at_end st.dims st.ins st.done k) (out_of st l) ≡ true) hop
+          (subst (λ i. is_due st.cap st.steady (at_end st.dims st.ins st.done (hop_to st.dims number)) (out_at st i) ≡ true) n due);
+      entries = ap (λ p. p.untaken) is ∙ ap (λ i. (out_at st i).parcel.untaken) n;
+      last = ap (λ p. p.last) is ∙ ap (at_end st.dims st.ins st.done) hop;
+    }
+
+pub not_due : (st : State) (number l : ℕ) (b : Bool) → IsState st → l < links st.dims → number ≡ out_index st.dims l
+    → b ≡ is_due st.cap st.steady (at_end st.dims st.ins st.done (hop_to st.dims number)) (out_at st number) → b ≡ false → IsDue st l → ⊥
+not_due st number l b s h n is fails d =
+    let hop : hop_to st.dims number ≡ hop_at st.dims l = ap (hop_to st.dims) n ∙ (out_number st.dims l s.grid h).hop in
+    let due : is_due st.cap st.steady (at_end st.dims st.ins st.done (hop_to st.dims number)) (out_at st number) ≡ true =
+    subst (λ k. is_due st.cap st.steady (at_end st.dims st.ins st.done k) (out_at st number) ≡ true) (sym hop)
+    (subst (λ i. is_due st.cap st.steady (at_end st.dims st.ins st.done (hop_at st.dims l)) (out_at st i) ≡ true) (sym n) d) in
+    false≢true (sym fails ∙ (is ∙ due))
+
+-- an empty parcel stands in its place
+pub place_empty : (st mid : State) (number : ℕ) (o : Out) → IsState st → number < sum st.dims → mid ≡ record st { outs = slice_set st.outs number o; pulled = None } → o.parcel ≡ blank st.epoch
+    → (out_at mid number).parcel ≡ blank mid.epoch
+place_empty st mid number o s q e b =
+    subst (λ (u : State). (out_at u number).parcel ≡ blank u.epoch) (sym e) (ap (λ y. y.parcel) (get_or-set_same st.outs number o no_out (omega (arith, q, s.all_outs))) ∙ b)
+
+-- the state where it was sent, and where it was put back
+pub opened : (st new : State) (number l : ℕ) (o : Out) → st.lent ≡ Nothing → number ≡ out_index st.dims l → new ≡ record st { outs = slice_set st.outs number o; pulled = None } → new ≡ with_open st (out_index st.dims l) o
+opened st new number l o home n e =
+    let put : ℕ → Lent → State = λ i t. record st { outs = slice_set st.outs i o; lent = t; pulled = None } in
+    e ∙ λ j. put (n j) (home j)
+
+pub reopened : (st mid new : State) (number l : ℕ) (y o : Out) → st.lent ≡ Nothing → number ≡ out_index st.dims l → mid ≡ record st { outs = slice_set st.outs number y; pulled = None }
+    → new ≡ record mid { outs = slice_set mid.outs number o; pulled = None } → new ≡ with_open st (out_index st.dims l) o
+reopened st mid new number l y o home n p q =
+    let back : State → State = λ u. record u { outs = slice_set u.outs number o; pulled = None } in
+    let put : List Out → State = λ outs. record st { outs = outs; pulled = None } in
+    opened st new number l o home n (q ∙ (ap back p ∙ ap put (set-set st.outs number y o)))
 
 -- all that a post leaves
 pub record Served (dims : List ℕ) (rank : ℕ) (st new : State) (link : ℕ) (sent sent' got got' : Logs) : Type 0 where

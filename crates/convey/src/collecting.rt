@@ -1,21 +1,26 @@
 //! Collects on the links in that want a parcel.
 ghost use Rattle.std.specs.Prelude.{◌≡◌, ◌≢◌, ℕ, ◌<◌, ◌++◌, List};
 ghost use Rattle.std.specs.List.{flat_map};
-ghost use Rattle.item_buffer.specs.Contents.{Shipped};
+ghost use Rattle.item_buffer.specs.Contents.{Shipped, blank};
 ghost use Rattle.route_tensor.specs.Link.{links};
 ghost use Rattle.route_tensor.specs.Ends.{reader_at};
+ghost use Rattle.route_tensor.specs.Neighbour.{in_index};
 ghost use Rattle.convey.specs.Buffers.{in_of};
 ghost use Rattle.convey.specs.Way.{IsReady, GoesOn, WasAsked};
 
 use hop_core::RankState;
+use item_buffer::Parcel;
 use port_bank::{Collected, Port};
 
-/// Asks each link in once, in ascending order, where it wants a parcel.
+/// Asks each link in once, in ascending order, where it wants a parcel. The spare parcel, which is empty, goes round.
 pub(crate) fn collect_all<const CAP: usize, const HOPS: usize, P: Port<CAP>>(
     state: &mut RankState<CAP, HOPS>,
+    spare: &mut Parcel<CAP>,
     port: &mut P,
 )
+    requires empty { spare.old ≡ blank state.old.epoch }
     requires ready { IsReady (P.dims port.old) (P.rank port.old) state.old (P.sent port.old) (P.got port.old) }
+    ensures empty { spare.new ≡ blank state.new.epoch }
     ensures ready { IsReady (P.dims port.old) (P.rank port.old) state.new (P.sent port.new) (P.got port.new) }
     ensures goes_on { GoesOn state.old state.new (P.sent port.old) (P.sent port.new) (P.got port.old) (P.got port.new) }
     ensures outs { state.new.outs ≡ state.old.outs }
@@ -32,19 +37,24 @@ pub(crate) fn collect_all<const CAP: usize, const HOPS: usize, P: Port<CAP>>(
 {
     for i in 0..state.routes().neighbours() {
         let link = state.routes().neighbour(i).link_from;
-        collect_one(state, port, link);
+        collect_one(state, spare, port, i, link);
     }
 }
 
-/// Collects once on a link in, where it wants a parcel.
+/// Collects once on the link in from this neighbour, where it wants a parcel: into the spare parcel, which the inbox is then exchanged for.
 pub(crate) fn collect_one<const CAP: usize, const HOPS: usize, P: Port<CAP>>(
     state: &mut RankState<CAP, HOPS>,
+    spare: &mut Parcel<CAP>,
     port: &mut P,
+    number: u32,
     link: u32,
 )
     requires link { link < links (P.dims port.old) }
     requires ends_here { reader_at (P.dims port.old) link ≡ P.rank port.old }
+    requires number { number ≡ in_index (P.dims port.old) link }
+    requires empty { spare.old ≡ blank state.old.epoch }
     requires ready { IsReady (P.dims port.old) (P.rank port.old) state.old (P.sent port.old) (P.got port.old) }
+    ensures empty { spare.new ≡ blank state.new.epoch }
     ensures ready { IsReady (P.dims port.old) (P.rank port.old) state.new (P.sent port.new) (P.got port.new) }
     ensures goes_on { GoesOn state.old state.new (P.sent port.old) (P.sent port.new) (P.got port.old) (P.got port.new) }
     ensures outs { state.new.outs ≡ state.old.outs }
@@ -62,12 +72,11 @@ pub(crate) fn collect_one<const CAP: usize, const HOPS: usize, P: Port<CAP>>(
     ensures same_slots { P.slots port.new ≡ P.slots port.old }
 {
     state.known();
-    if !state.wants(link) {
+    if !state.wants_from(number) {
         return;
     }
-    let mut parcel = state.lend_in(link);
-    match port.collect(link, &mut parcel) {
-        Collected::Got => state.note_got(link, parcel, true),
-        Collected::Nothing => state.note_got(link, parcel, false),
+    match port.collect(link, spare) {
+        Collected::Got => state.take_in(number, spare),
+        Collected::Nothing => {}
     }
 }

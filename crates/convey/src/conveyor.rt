@@ -31,6 +31,7 @@ ghost use Rattle.convey.specs.Way.{WasServed};
 
 use crate::moving::move_on;
 use crate::progress::Progress;
+use crate::spare::Spare;
 use bale_types::{Entry, Item, NoMemory, Tag};
 use hop_core::{Phase, Pushed, RankState};
 use port_bank::Port;
@@ -42,6 +43,7 @@ use std::marker::Model;
 #[derive(Drop)]
 pub struct Conveyor<const CAP: usize, const HOPS: usize> {
     state: RankState<CAP, HOPS>,
+    spare: Spare<CAP>,
 }
 
 impl<const CAP: usize, const HOPS: usize> Model for Conveyor<CAP, HOPS> {
@@ -82,6 +84,7 @@ impl<const CAP: usize, const HOPS: usize> Conveyor<CAP, HOPS> {
     {
         Ok(Conveyor {
             state: RankState::new(alloc, grid, rank, steady)?,
+            spare: Spare::new(alloc)?,
         })
     }
 
@@ -299,7 +302,7 @@ impl<const CAP: usize, const HOPS: usize> Conveyor<CAP, HOPS> {
         // It is a step of the rank's part of the exchange machine.
         ensures step { IsOwnStep (advance_step self.old.done done (is_complete self.new.phase)) (part_of (buffers_of self.old) (P.sent port.old) (P.got port.old)) (part_of (buffers_of self.new) (P.sent port.new) (P.got port.new)) }
     {
-        move_on(&mut self.state, port, done)?;
+        move_on(&mut self.state, &mut self.spare, port, done)?;
         Ok(settle(&mut self.state))
     }
 

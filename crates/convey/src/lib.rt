@@ -28,6 +28,7 @@ mod moving;
 mod posting;
 mod progress;
 mod relaying;
+mod spare;
 
 pub use conveyor::Conveyor;
 pub use hop_core::{Phase, Pushed};

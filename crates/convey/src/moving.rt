@@ -8,6 +8,7 @@ ghost use Rattle.convey.specs.Way.{IsReady, MovesOn, HasServed};
 use crate::collecting::collect_all;
 use crate::posting::post_all;
 use crate::relaying::relay_all;
+use crate::spare::Spare;
 use bale_types::NoMemory;
 use hop_core::{Phase, RankState};
 use port_bank::Port;
@@ -18,6 +19,7 @@ use port_bank::Port;
 /// `NoMemory` comes only from the port's post. What was done before it stands.
 pub(crate) fn move_on<const CAP: usize, const HOPS: usize, P: Port<CAP>>(
     state: &mut RankState<CAP, HOPS>,
+    spare: &mut Spare<CAP>,
     port: &mut P,
     done: bool,
 ) -> Result<(), NoMemory>
@@ -45,9 +47,11 @@ pub(crate) fn move_on<const CAP: usize, const HOPS: usize, P: Port<CAP>>(
         return Ok(());
     }
     note_done(state, done);
-    collect_all(state, port);
+    let parcel = &mut spare.parcel;
+    parcel.set_epoch(state.epoch());
+    collect_all(state, parcel, port);
     relay_all(state);
-    post_all(state, port)
+    post_all(state, parcel, port)
 }
 
 /// Notes that nothing more is pushed in this epoch, where that is so.

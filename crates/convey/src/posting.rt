@@ -1,23 +1,29 @@
 //! Posts on the links out that are due.
 ghost use Rattle.std.specs.Prelude.{◌≡◌, ◌≢◌, ℕ, ◌+◌, ◌<◌, ◌≤◌, length, false, None, IsOk, IsErr, OnOk, Result};
+ghost use Rattle.item_buffer.specs.Contents.{blank};
 ghost use Rattle.route_tensor.specs.Link.{links};
 ghost use Rattle.route_tensor.specs.Ends.{sender_at};
+ghost use Rattle.route_tensor.specs.Neighbour.{out_index};
 ghost use Rattle.convey.specs.Buffers.{out_of};
 ghost use Rattle.convey.specs.Way.{IsReady, GoesOn, WasServed};
 
 use bale_types::NoMemory;
 use hop_core::RankState;
+use item_buffer::Parcel;
 use port_bank::{Port, Posted};
 
-/// Posts once on each link out that is due, in ascending order.
+/// Posts once on each link out that is due, in ascending order. The spare parcel, which is empty, goes round.
 ///
 /// # Errors
 /// `NoMemory` comes only from the port's post. What was posted before it stands.
 pub(crate) fn post_all<const CAP: usize, const HOPS: usize, P: Port<CAP>>(
     state: &mut RankState<CAP, HOPS>,
+    spare: &mut Parcel<CAP>,
     port: &mut P,
 ) -> Result<(), NoMemory>
+    requires empty { spare.old ≡ blank state.old.epoch }
     requires ready { IsReady (P.dims port.old) (P.rank port.old) state.old (P.sent port.old) (P.got port.old) }
+    ensures empty { spare.new ≡ blank state.new.epoch }
     ensures ready { IsReady (P.dims port.old) (P.rank port.old) state.new (P.sent port.new) (P.got port.new) }
     ensures goes_on { GoesOn state.old state.new (P.sent port.old) (P.sent port.new) (P.got port.old) (P.got port.new) }
     ensures ins { state.new.ins ≡ state.old.ins }
@@ -38,20 +44,26 @@ pub(crate) fn post_all<const CAP: usize, const HOPS: usize, P: Port<CAP>>(
 {
     for i in 0..state.routes().neighbours() {
         let link = state.routes().neighbour(i).link_to;
-        post_one(state, port, link)?;
+        post_one(state, spare, port, i, link)?;
     }
     Ok(())
 }
 
-/// Posts once on a link out, where it is due.
+/// Posts once on the link out to this neighbour, where it is due: the open parcel is exchanged for the spare one, and back where it could not be
+/// sent.
 pub(crate) fn post_one<const CAP: usize, const HOPS: usize, P: Port<CAP>>(
     state: &mut RankState<CAP, HOPS>,
+    spare: &mut Parcel<CAP>,
     port: &mut P,
+    number: u32,
     link: u32,
 ) -> Result<(), NoMemory>
     requires link { link < links (P.dims port.old) }
     requires starts_here { sender_at (P.dims port.old) link ≡ P.rank port.old }
+    requires number { number ≡ out_index (P.dims port.old) link }
+    requires empty { spare.old ≡ blank state.old.epoch }
     requires ready { IsReady (P.dims port.old) (P.rank port.old) state.old (P.sent port.old) (P.got port.old) }
+    ensures empty { spare.new ≡ blank state.new.epoch }
     ensures ready { IsReady (P.dims port.old) (P.rank port.old) state.new (P.sent port.new) (P.got port.new) }
     ensures goes_on { GoesOn state.old state.new (P.sent port.old) (P.sent port.new) (P.got port.old) (P.got port.new) }
     ensures ins { state.new.ins ≡ state.old.ins }
@@ -73,21 +85,18 @@ pub(crate) fn post_one<const CAP: usize, const HOPS: usize, P: Port<CAP>>(
     ensures same_slots { P.slots port.new ≡ P.slots port.old }
 {
     state.known();
-    if !state.due(link) {
+    if !state.due_to(number) {
         return Ok(());
     }
-    let mut parcel = state.lend_out(link);
-    match port.post(link, &mut parcel) {
-        Ok(Posted::Sent) => {
-            state.note_sent(link, parcel, true);
-            Ok(())
-        }
+    state.take_out(number, spare);
+    match port.post(link, spare) {
+        Ok(Posted::Sent) => Ok(()),
         Ok(Posted::NoRoom) => {
-            state.note_sent(link, parcel, false);
+            state.put_back(number, spare);
             Ok(())
         }
         Err(fault) => {
-            state.note_sent(link, parcel, false);
+            state.put_back(number, spare);
             Err(fault)
         }
     }

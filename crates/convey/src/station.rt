@@ -6,6 +6,7 @@ ghost use Rattle.hop_core.specs.declared.lent.Lent.TheVariants as Lent;
 use crate::collecting::collect_one;
 use crate::posting::post_one;
 use crate::relaying::relay_one;
+use crate::spare::Spare;
 use crate::{Phase, Pushed};
 use bale_types::{Item, NoMemory};
 use hop_core::RankState;
@@ -31,6 +32,7 @@ pub(crate) enum Act {
 #[derive(Drop)]
 pub(crate) struct Station<const CAP: usize, const HOPS: usize> {
     pub(crate) state: RankState<CAP, HOPS>,
+    spare: Spare<CAP>,
     /// Whether the rank has said that it is done in its epoch.
     done: bool,
     rank_count: u32,
@@ -56,6 +58,7 @@ impl<const CAP: usize, const HOPS: usize> Station<CAP, HOPS> {
     {
         Ok(Station {
             state: RankState::new(alloc, grid, rank, false)?,
+            spare: Spare::new(alloc)?,
             done: false,
             rank_count: grid.ranks(),
         })
@@ -149,7 +152,9 @@ impl<const CAP: usize, const HOPS: usize> Station<CAP, HOPS> {
         ensures same_rank { P.rank port.new ≡ P.rank port.old }
         ensures same_dims { P.dims port.new ≡ P.dims port.old }
     {
-        post_one(&mut self.state, port, link)
+        let number = self.state.routes().number_to(link);
+        self.spare.parcel.set_epoch(self.state.epoch());
+        post_one(&mut self.state, &mut self.spare.parcel, port, number, link)
     }
 
     /// Lends the inbox of a link to the rank's port, where it wants a parcel.
@@ -162,6 +167,8 @@ impl<const CAP: usize, const HOPS: usize> Station<CAP, HOPS> {
         ensures same_rank { P.rank port.new ≡ P.rank port.old }
         ensures same_dims { P.dims port.new ≡ P.dims port.old }
     {
-        collect_one(&mut self.state, port, link);
+        let number = self.state.routes().number_from(link);
+        self.spare.parcel.set_epoch(self.state.epoch());
+        collect_one(&mut self.state, &mut self.spare.parcel, port, number, link);
     }
 }

@@ -4,6 +4,7 @@ pub mod Passing
 pub mod Going
 pub mod Relaying
 pub mod Standing
+pub mod Exchanging
 pub mod Relayed
 pub mod Filling
 pub mod Unread

@@ -106,7 +106,7 @@ due_open cap steady at_end' o some empty due = false_from_ne_true o.closed (λ c
     let f : is_due cap steady at_end' o ≡ false = or_from _ _ (or_from _ _ a (and_right steady _ b)) (and_right at_end' _ d) in
     false≢true (sym f ∙ due))
 
-out_fact : (st : State) (i : ℕ) → IsState st → i < sum st.dims → IsOut st.dims st.cap (hop_to st.dims i) (out_at st i)
+pub out_fact : (st : State) (i : ℕ) → IsState st → i < sum st.dims → IsOut st.dims st.cap (hop_to st.dims i) (out_at st i)
 out_fact st i k q = k.each_out i no_out (omega (arith, k.all_outs, q))
 
 pub lend_out_kept : (st : State) (ends : List Bool) (spare spare' : Option Contents) (from i : ℕ) (o : Out) → IsKept st ends spare from → i < sum st.dims →
@@ -162,17 +162,17 @@ blank_in dims cap h x e = record {
 }
 
 -- a link that is wanted hasn't ended, and so isn't finished
-wanted_open : (x : In) → is_wanted x ≡ true → x.ended ≡ false
+pub wanted_open : (x : In) → is_wanted x ≡ true → x.ended ≡ false
 wanted_open x w = not_false_is x.ended (and_parts _ _ w).1
 
-open_unfinished : (x : In) → x.ended ≡ false → is_finished x ≡ false
+pub open_unfinished : (x : In) → x.ended ≡ false → is_finished x ≡ false
 open_unfinished x e = ap (λ b. b && is_empty x.parcel) e
 
 wanted_empty : (x : In) → is_wanted x ≡ true → is_empty x.parcel ≡ true
 wanted_empty x w = (and_parts _ _ w).0
 
 -- the ends of the hops after a write to a link that was open and stays so
-ends_open : (dims : List ℕ) (ins : List In) (done : Bool) (i : ℕ) (x : In) (h : ℕ) → i < sum dims → length ins ≡ sum dims → 1 ≤ h → h ≤ length dims →
+pub ends_open : (dims : List ℕ) (ins : List In) (done : Bool) (i : ℕ) (x : In) (h : ℕ) → i < sum dims → length ins ≡ sum dims → 1 ≤ h → h ≤ length dims →
     is_finished (get_or ins i no_in) ≡ false → is_finished x ≡ false → at_end dims (set ins i x) done h ≡ at_end dims ins done h
 ends_open dims ins done i x h q l p m a b =
     elim (cases_eq h (hop_to dims i + 1)) as (λ _. at_end dims (set ins i x) done h ≡ at_end dims ins done h) [
@@ -299,7 +299,7 @@ got_link st i x old p got k l e s =
     s ∙ ap (in_of p) (ap (λ z. z || (got && p.last)) was)
 
 -- the marks of the ends after a write to a link of hop h
-ends_marked : (dims : List ℕ) (ins ins' : List In) (done : Bool) (ends : List Bool) (i : ℕ) (x : In) (b : Bool) → i < sum dims → hop_to dims i < length dims → length dims ≤ length ends →
+pub ends_marked : (dims : List ℕ) (ins ins' : List In) (done : Bool) (ends : List Bool) (i : ℕ) (x : In) (b : Bool) → i < sum dims → hop_to dims i < length dims → length dims ≤ length ends →
     ((h : ℕ) (d : Bool) → 2 ≤ h → h ≤ length dims → get_or ends (h - 1) d ≡ at_end dims ins done h) → ins' ≡ set ins i x → b ≡ list_all is_finished (ins_of_hop dims ins' (hop_to dims i)) →
     (h : ℕ) (d : Bool) → 2 ≤ h → h ≤ length dims → get_or (set ends (hop_to dims i) b) (h - 1) d ≡ at_end dims ins' done h
 ends_marked dims ins ins' done ends i x b q l n each e eb h d p m =
@@ -326,7 +326,7 @@ hop_last st j s a w =
     hop_to_is st.dims k j (record { first = some; last = omega arith; from = a; below = omega (arith, n, w) })
 
 -- a link of the last hop is none of another hop
-not_last : (st : State) (i j from : ℕ) → IsState st → i < sum st.dims → hop_to st.dims i < length st.dims → links_before st.dims (length st.dims) ≤ j → j < sum st.dims → j ≡ i → ⊥
+pub not_last : (st : State) (i j from : ℕ) → IsState st → i < sum st.dims → hop_to st.dims i < length st.dims → links_before st.dims (length st.dims) ≤ j → j < sum st.dims → j ≡ i → ⊥
 not_last st i j from s q l a w e = absurd (omega (arith, l, hop_last st j s a w, ap (hop_to st.dims) e))
 
 -- a parcel came, or none did

@@ -129,6 +129,19 @@ impl<const CAP: usize> InLink<CAP> {
         mem::replace(&mut self.parcel, parcel)
     }
 
+    /// Exchanges the parcel at hand for the inbox. The link has ended from now on where that parcel is marked last.
+    /// Answers whether the link is finished.
+    #[inline]
+    pub fn exchange(&mut self, parcel: &mut Parcel<CAP>) -> bool
+        ensures value { result ≡ is_finished self.new }
+        ensures parcel { parcel.new ≡ self.old.parcel }
+        ensures state { self.new ≡ record { parcel = parcel.old; ended = parcel.old.last } }
+    {
+        mem::swap(&mut self.parcel, parcel);
+        self.ended = self.parcel.last();
+        self.is_finished()
+    }
+
     /// A new epoch begins.
     pub fn resume(&mut self)
         ensures { self.new ≡ record self.old { ended = false } }

@@ -31,6 +31,7 @@
 //! No call after `RankState::new` takes memory.
 #![tactic(auto)]
 
+mod carrying;
 mod inboxes;
 mod lent;
 mod open_parcels;

@@ -79,6 +79,16 @@ impl<const CAP: usize> OutLink<CAP> {
         mem::replace(&mut self.parcel, parcel)
     }
 
+    /// Exchanges the parcel at hand for the link's. The link is closed from now on, or open, as told.
+    #[inline]
+    pub fn exchange(&mut self, parcel: &mut Parcel<CAP>, closed: bool)
+        ensures parcel { parcel.new ≡ self.old.parcel }
+        ensures state { self.new ≡ record { parcel = parcel.old; closed = closed } }
+    {
+        mem::swap(&mut self.parcel, parcel);
+        self.closed = closed;
+    }
+
     /// Whether the last parcel of this epoch was sent.
     #[inline]
     pub fn is_closed(&self) -> bool

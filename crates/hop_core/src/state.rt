@@ -28,23 +28,23 @@ use std::marker::Model;
 /// The buffers, marks and phase of one rank, for parcels of `CAP` entries and routes of `HOPS` hops.
 #[derive(Drop)]
 pub struct RankState<const CAP: usize, const HOPS: usize> {
-    routes: Routes,
-    steady: bool,
+    pub(crate) routes: Routes,
+    pub(crate) steady: bool,
     /// The links out and in, by the number of the neighbour.
-    outs: Vec<OutLink<CAP>>,
-    ins: Vec<InLink<CAP>>,
-    done: bool,
+    pub(crate) outs: Vec<OutLink<CAP>>,
+    pub(crate) ins: Vec<InLink<CAP>>,
+    pub(crate) done: bool,
     /// For each hop but the first, whether it has reached its end.
-    ends: [bool; 3],
+    pub(crate) ends: [bool; 3],
     /// Stands in for the parcel that is lent.
-    spare: Option<Parcel<CAP>>,
-    lent: Lent,
-    phase: Phase,
-    epoch: u64,
+    pub(crate) spare: Option<Parcel<CAP>>,
+    pub(crate) lent: Lent,
+    pub(crate) phase: Phase,
+    pub(crate) epoch: u64,
     /// Below it no link in of the last hop has an entry.
-    from: u32,
+    pub(crate) from: u32,
     /// The link in from which the latest call pulled.
-    pulled: Option<u32>,
+    pub(crate) pulled: Option<u32>,
 }
 
 impl<const CAP: usize, const HOPS: usize> Model for RankState<CAP, HOPS> {
@@ -486,7 +486,7 @@ impl<const CAP: usize, const HOPS: usize> RankState<CAP, HOPS> {
 
     /// Whether the hop on which this neighbour lies has reached its end.
     #[inline]
-    fn at_end(&self, number: u32) -> bool
+    pub(crate) fn at_end(&self, number: u32) -> bool
         requires { number < sum self.now.dims }
         ensures { result ≡ at_end self.now.dims self.now.ins self.now.done (hop_to self.now.dims number) }
     {

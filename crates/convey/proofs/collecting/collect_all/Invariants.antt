@@ -1,10 +1,12 @@
 use Rattle.std.proofs.Common.{◌≡◌}
+use Rattle.item_buffer.specs.Contents.{blank}
 use Rattle.convey.specs.Way.{IsReady, GoesOn}
 use Rattle.convey.proofs.Ways.{Collecting}
 use Rattle.convey.proofs.collecting.collect_all.Given as goal
 
 abbrev pub invariant-loop-i : goal.invariant-loop-i
 invariant-loop-i g l = record {
+  empty : l.spare ≡ blank l.state.epoch;
   ready : IsReady (g.P.Port.dims l.fn.port) (g.P.Port.rank l.fn.port) l.state (g.P.Port.sent l.port) (g.P.Port.got l.port);
   goes_on : GoesOn l.fn.state l.state (g.P.Port.sent l.fn.port) (g.P.Port.sent l.port) (g.P.Port.got l.fn.port) (g.P.Port.got l.port);
   collecting : Collecting (g.P.Port.dims l.fn.port) (g.P.Port.rank l.fn.port) l.i l.fn.state l.state (g.P.Port.got l.fn.port) (g.P.Port.got l.port)

@@ -1,6 +1,7 @@
 use Rattle.std.proofs.Common.{◌≡◌, ℕ, false, List, length, sym, ap, subst, ◌∙◌, rules}
 use Rattle.std.proofs.lemmas.Result.{on_ok_weaker}
 use Rattle.hop_core.specs.declared.phase.Phase.TheVariants.{Complete}
+use Rattle.item_buffer.specs.Contents.{blank}
 use Rattle.hop_core.specs.State.{State}
 use Rattle.route_tensor.specs.Ends.{sender_at}
 use Rattle.convey.specs.Buffers.{is_complete}
@@ -28,13 +29,14 @@ collect_all-requires g c =
     let dims : List ℕ = g.P.Port.dims c.args.port.now in
     let rank : ℕ = g.P.Port.rank c.args.port.now in
     let r = c.requires.ready in
-    (search rules, noted_ready dims rank c.args.state.now c.note_done.new.state c.args.done _ _ c.note_done.ensures.state c.note_done.ensures.pulled r)
+    (search rules, (search rules, (search rules, noted_ready dims rank c.args.state.now c.note_done.new.state c.args.done _ _ c.note_done.ensures.state c.note_done.ensures.pulled r)))
 
 pub post_all-requires : goal.post_all-requires
 post_all-requires g c =
     let k = c.collect_all.ensures in
     let passed = c.relay_all.ensures.passed _ _ _ _ k.ready in
-    (search rules, ready_at _ _ _ _ _ _ _ (sym k.same_dims) (sym k.same_rank) passed.ready)
+    let empty : c.collect_all.new.spare ≡ blank c.relay_all.new.state.epoch = k.empty ∙ ap blank (sym passed.goes_on.epoch) in
+    (search rules, (search rules, (empty, ready_at _ _ _ _ _ _ _ (sym k.same_dims) (sym k.same_rank) passed.ready)))
 
 pub returns-clause-conveyor : goal.returns-clause-conveyor
 returns-clause-conveyor g c =

@@ -2,7 +2,8 @@ use Rattle.std.proofs.Common.{◌≡◌, ◌<◌, sum, refl, sym, ap, subst, ◌
 use Rattle.route_tensor.specs.Grid.{ranks, IsGrid}
 use Rattle.route_tensor.specs.Link.{links}
 use Rattle.route_tensor.specs.Ends.{sender_at}
-use Rattle.route_tensor.specs.Neighbour.{link_to}
+use Rattle.route_tensor.specs.Neighbour.{link_to, out_index}
+use Rattle.route_tensor.proofs.Neighbours.{out_index-link_to}
 use Rattle.convey.proofs.Ways.{to_below, to_sender, below_sum, link_here, ready_at, link_at, end_at, stays_more, waits_more, once_more, serving_none, serving_more, serving_all, goes_on_refl, goes_on_trans}
 use Rattle.convey.proofs.posting.post_all.Goals as goal
 
@@ -16,13 +17,17 @@ post_one-requires g c =
     let grid : IsGrid dims = subst IsGrid first c.neighbours-i-end.ensures.grid in
     let own : rank < ranks dims = subst (λ r. r < ranks dims) (ap (λ t. t.rank) c.routes.ensures ∙ c.requires.ready.same_rank) (subst (λ ds. c.routes.result.now.rank < ranks ds) first c.neighbours-i-end.ensures.rank) in
     let link = c.neighbour-link.result.link_to in
-    let here : link ≡ link_to dims rank c.loop-i.i = link_here link_to dims _ rank _ _ _ (ap (λ t. t.dims) c.routes-in-loop-i.ensures ∙ k.ready.same_dims) (ap (λ t. t.rank) c.routes-in-loop-i.ensures ∙ k.ready.same_rank) (ap (λ n. n.link_to) c.neighbour-link.ensures.value) in (
+    let here : link ≡ link_to dims rank c.loop-i.i = link_here link_to dims _ rank _ _ _ (ap (λ t. t.dims) c.routes-in-loop-i.ensures ∙ k.ready.same_dims) (ap (λ t. t.rank) c.routes-in-loop-i.ensures ∙ k.ready.same_rank) (ap (λ n. n.link_to) c.neighbour-link.ensures.value) in
+    let at : c.loop-i.i ≡ out_index (g.P.Port.dims c.loop-i.port) link = sym (ap (λ ds. out_index ds link) k.same_dims ∙ (ap (out_index dims) here ∙ out_index-link_to dims rank c.loop-i.i grid own below)) in (
       search rules,
       (
-        subst (λ ds. link < links ds) (sym k.same_dims) (subst (λ l. l < links dims) (sym here) (to_below dims rank _ grid own below)),
+        search rules,
         (
-          ap (λ ds. sender_at ds link) k.same_dims ∙ (ap (sender_at dims) here ∙ (to_sender dims rank _ grid own below ∙ sym k.same_rank)),
-          ready_at _ _ _ _ _ _ _ (sym k.same_dims) (sym k.same_rank) k.ready,
+          subst (λ ds. link < links ds) (sym k.same_dims) (subst (λ l. l < links dims) (sym here) (to_below dims rank _ grid own below)),
+          (
+            ap (λ ds. sender_at ds link) k.same_dims ∙ (ap (sender_at dims) here ∙ (to_sender dims rank _ grid own below ∙ sym k.same_rank)),
+            (at, (k.empty, ready_at _ _ _ _ _ _ _ (sym k.same_dims) (sym k.same_rank) k.ready)),
+          ),
         ),
       ),
     )
@@ -96,6 +101,7 @@ loop-i-init g c =
     let dims = g.P.Port.dims c.args.port.now in
     let rank = g.P.Port.rank c.args.port.now in
     record {
+      empty = c.requires.empty;
       ready = c.requires.ready;
       goes_on = goes_on_refl c.args.state.now _ _;
       serving = serving_none dims rank c.args.state.now _ _ _;
@@ -123,6 +129,7 @@ loop-i-preserved g c =
     let e = c.post_one.ensures in
     let new = ready_at dims _ rank _ _ _ _ k.same_dims k.same_rank e.ready in
     record {
+      empty = e.empty;
       ready = new;
       goes_on = goes_on_trans _ _ _ _ _ _ _ _ _ k.goes_on e.goes_on;
       serving = serving_more dims rank _ _ c.args.state.now c.loop-i.state c.post_one.new.state _ _ _ _ _ _ _ _ grid own below k.serving k.goes_on.sent_grows e.goes_on.sent_grows here (record {

@@ -1,0 +1,108 @@
+//! The way of parcels out of a rank's hands and into them, by the number of the neighbour and with a parcel of the caller's that is empty:
+//! an exchange at each call, and no parcel is lent.
+
+ghost use Rattle.std.specs.Prelude.{◌≡◌, ◌<◌, ◌≤◌, ◌==◌, ◌&&◌, ◌||◌, sum, slice_set, true, false, None};
+ghost use Rattle.std.specs.List.{All};
+ghost use Rattle.item_buffer.specs.Contents.{IsFresh, blank};
+ghost use Rattle.route_tensor.specs.Neighbour.{hop_to};
+ghost use Rattle.route_tensor.specs.Tag.{IsFair};
+ghost use Rattle.hop_core.specs.Link.{is_due, is_wanted};
+ghost use Rattle.hop_core.specs.State.{out_at, in_at, at_end};
+
+use crate::inboxes::hop_finished;
+use crate::lent::Lent;
+use crate::state::RankState;
+use item_buffer::Parcel;
+
+impl<const CAP: usize, const HOPS: usize> RankState<CAP, HOPS> {
+    /// Whether the open parcel toward this neighbour is to be sent.
+    #[inline]
+    pub fn due_to(&self, number: u32) -> bool
+        requires { number < sum self.now.dims }
+        ensures { result ≡ is_due self.now.cap self.now.steady (at_end self.now.dims self.now.ins self.now.done (hop_to self.now.dims number)) (out_at self.now number) }
+    {
+        self.outs[number as usize].is_due(self.steady, self.at_end(number))
+    }
+
+    /// Whether a parcel from this neighbour is to be collected.
+    #[inline]
+    pub fn wants_from(&self, number: u32) -> bool
+        requires { number < sum self.now.dims }
+        ensures { result ≡ is_wanted (in_at self.now number) }
+    {
+        self.ins[number as usize].is_wanted()
+    }
+
+    /// Takes the open parcel toward this neighbour out, which is due, for the empty one at hand. It counts as sent: it is
+    /// marked last exactly where its hop has reached its end, and then the link is closed. `put_back` undoes that.
+    #[inline]
+    pub fn take_out(&mut self, number: u32, parcel: &mut Parcel<CAP>)
+        requires home { self.old.lent ≡ Lent.Nothing }
+        requires number { number < sum self.old.dims }
+        requires due { is_due self.old.cap self.old.steady (at_end self.old.dims self.old.ins self.old.done (hop_to self.old.dims number)) (out_at self.old number) ≡ true }
+        requires empty { parcel.old ≡ blank self.old.epoch }
+        ensures parcel { parcel.new ≡ record (out_at self.old number).parcel { last = at_end self.old.dims self.old.ins self.old.done (hop_to self.old.dims number); epoch = self.old.epoch } }
+        ensures fresh { IsFresh parcel.new }
+        ensures fair { All (λ e. IsFair self.old.dims (hop_to self.old.dims number) e.tag) parcel.new.untaken }
+        ensures state { self.new ≡ record self.old {
+          outs = slice_set self.old.outs number (record {
+            parcel = blank self.old.epoch;
+            closed = at_end self.old.dims self.old.ins self.old.done (hop_to self.old.dims number);
+          });
+          pulled = None;
+        } }
+    {
+        self.pulled = None;
+        let last = self.at_end(number);
+        self.outs[number as usize].exchange(parcel, last);
+        parcel.set_last(last);
+        parcel.set_epoch(self.epoch);
+    }
+
+    /// Puts an open parcel back that was taken out and could not be sent, for the empty one in its place. The link is open.
+    #[inline]
+    pub fn put_back(&mut self, number: u32, parcel: &mut Parcel<CAP>)
+        requires home { self.old.lent ≡ Lent.Nothing }
+        requires number { number < sum self.old.dims }
+        requires empty { (out_at self.old number).parcel ≡ blank self.old.epoch }
+        requires fresh { IsFresh parcel.old }
+        requires fair { All (λ e. IsFair self.old.dims (hop_to self.old.dims number) e.tag) parcel.old.untaken }
+        ensures parcel { parcel.new ≡ blank self.old.epoch }
+        ensures state { self.new ≡ record self.old {
+          outs = slice_set self.old.outs number (record { parcel = parcel.old; closed = false });
+          pulled = None;
+        } }
+    {
+        self.pulled = None;
+        let _fits = parcel.len();
+        self.outs[number as usize].exchange(parcel, false);
+    }
+
+    /// Takes a parcel that came from this neighbour into the inbox, which is wanted, for the empty one there. The link has
+    /// ended from now on where the parcel is marked last.
+    #[inline]
+    pub fn take_in(&mut self, number: u32, parcel: &mut Parcel<CAP>)
+        requires home { self.old.lent ≡ Lent.Nothing }
+        requires number { number < sum self.old.dims }
+        requires wanted { is_wanted (in_at self.old number) ≡ true }
+        requires fresh { IsFresh parcel.old }
+        requires fair { All (λ e. IsFair self.old.dims (hop_to self.old.dims number) e.tag) parcel.old.untaken }
+        ensures parcel { parcel.new ≡ blank self.old.epoch }
+        ensures state { self.new ≡ record self.old {
+          ins = slice_set self.old.ins number (record { parcel = parcel.old; ended = parcel.old.last });
+          pulled = None;
+        } }
+    {
+        self.pulled = None;
+        let hop = self.routes.neighbour(number).hop;
+        let _fits = parcel.len();
+        let finished = self.ins[number as usize].exchange(parcel);
+        parcel.clear();
+        parcel.set_epoch(self.epoch);
+        if hop as usize >= HOPS {
+            self.from = self.from.min(number);
+        } else if finished {
+            self.ends[hop as usize] = hop_finished(&self.routes, &self.ins, hop);
+        }
+    }
+}

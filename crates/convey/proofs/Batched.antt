@@ -14,7 +14,7 @@ use Rattle.convey.proofs.Pulls.{pulled_kept, pulled_item, pulled_sender, pulled_
 -- without the right to unpull
 pub calm_conveyor : (hops : ℕ) (st : State) → IsConveyor hops st → IsConveyor hops (record st { pulled = None })
 unfolding phase_of
-calm_conveyor hops st k = record { home = k.home; hops_all = k.hops_all; complete = k.complete; none_back = λ e. refl }
+calm_conveyor hops st k = record { home = k.home; hops_all = k.hops_all; sent = k.sent; complete = k.complete; none_back = λ e. refl }
 
 pulled_same : (st : State) (o : Option ℕ) → pulled_from st o ≡ record st { ins = (pulled_from st o).ins; pulled = (pulled_from st o).pulled }
 pulled_same st None = refl

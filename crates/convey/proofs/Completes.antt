@@ -126,7 +126,7 @@ is_sound st s settled =
     }
 
 -- and the other way round
-link_of_number : (st : State) (i : ℕ) → IsState st → i < sum st.dims → (out_of st (link_to st.dims st.rank i)).closed ≡ (slice_index_or st.outs i no_out).closed
+pub link_of_number : (st : State) (i : ℕ) → IsState st → i < sum st.dims → (out_of st (link_to st.dims st.rank i)).closed ≡ (slice_index_or st.outs i no_out).closed
 link_of_number st i s h = ap (λ k. (slice_index_or st.outs k no_out).closed) (out_index-link_to st.dims st.rank i s.grid s.rank h)
 
 closed_each : (st : State) → IsState st → IsOver st → (i : ℕ) (d : Out) → i < length st.outs → (slice_index_or st.outs i d).closed ≡ true

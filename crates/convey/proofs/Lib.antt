@@ -14,6 +14,7 @@ mod Posts
 mod Relays
 mod Blocks
 mod Completes
+mod Sent
 mod Movements
 mod Advances
 mod Quiet

@@ -1,12 +1,12 @@
 -- What contracts see of a conveyor.
-use Rattle.std.specs.Prelude.{◌≡◌, ℕ, ◌<◌, length, Some, None}
+use Rattle.std.specs.Prelude.{◌≡◌, ℕ, ◌<◌, true, length, Some, None}
 use Rattle.bale_types.specs.declared.item.Item.{Item}
 use Rattle.route_tensor.specs.Grid.{ranks}
 use Rattle.port_bank.specs.Logs.{Logs}
 use Rattle.port_bank.specs.Flow.{hop_link}
 use Rattle.hop_core.specs.declared.lent.Lent.TheVariants.{Nothing}
-use Rattle.hop_core.specs.declared.phase.Phase.TheVariants.{Complete}
-use Rattle.hop_core.specs.State.{State, phase_of, lowest_unread, pull_from, pulled_from}
+use Rattle.hop_core.specs.declared.phase.Phase.TheVariants.{Cleanup, Complete}
+use Rattle.hop_core.specs.State.{State, all_closed, phase_of, lowest_unread, pull_from, pulled_from}
 use Rattle.port_bank.specs.Machine.{Step, IsOwnStep}
 use Rattle.port_bank.specs.Machine.Step.{Pull}
 use Rattle.convey.specs.Buffers.{buffers_of, out_of}
@@ -37,10 +37,11 @@ pub record GivesNext (st : State) (from : ℕ) (item : Item) : Type 0 where
 abbrev pub standing_toward : State → ℕ → ℕ
 standing_toward st to = length (out_of st (hop_link st.dims st.rank to 1)).parcel.untaken
 
--- What the code keeps of a conveyor: no parcel is lent, the routes have its number of hops, and in the phase Complete
--- all that the phase says still holds.
+-- What the code keeps of a conveyor: no parcel is lent, the routes have its number of hops, in the phase Cleanup each
+-- link out is closed, and in the phase Complete all that the phase says still holds.
 pub record IsConveyor (hops : ℕ) (st : State) : Type 0 where
   pub home : st.lent ≡ Nothing
   pub hops_all : length st.dims ≡ hops
+  pub sent : st.phase ≡ Cleanup → all_closed st.outs ≡ true
   pub complete : st.phase ≡ Complete → phase_of st ≡ Complete
   pub none_back : st.phase ≡ Complete → st.pulled ≡ None

@@ -13,7 +13,8 @@ use bale_types::NoMemory;
 use hop_core::{Phase, RankState};
 use port_bank::Port;
 
-/// Notes done, collects, relays and posts, in this order. A rank that is complete has nothing left to move.
+/// Notes done, collects, relays and posts, in this order. A rank that is complete has nothing left to move, and one in Cleanup nothing
+/// left to post.
 ///
 /// # Errors
 /// `NoMemory` comes only from the port's post. What was done before it stands.
@@ -51,6 +52,9 @@ pub(crate) fn move_on<const CAP: usize, const HOPS: usize, P: Port<CAP>>(
     parcel.set_epoch(state.epoch());
     collect_all(state, parcel, port);
     relay_all(state);
+    if state.phase() == Phase::Cleanup {
+        return Ok(());
+    }
     post_all(state, parcel, port)
 }
 

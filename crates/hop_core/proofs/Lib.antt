@@ -4,6 +4,8 @@ pub mod Passing
 pub mod Going
 pub mod Relaying
 pub mod Standing
+pub mod Lends
+pub mod Steps
 pub mod Exchanging
 pub mod Relayed
 pub mod Filling

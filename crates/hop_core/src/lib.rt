@@ -2,9 +2,10 @@
 //!
 //! A rank has one *open parcel* for each link that starts there, which `push` and `relay` fill, and one
 //! *inbox* for each link that ends there, which `relay` and `pull` empty. Whoever carries parcels between
-//! ranks borrows them: `lend_out` and `note_sent` for an open parcel that is due, `lend_in` and `note_got`
-//! for an inbox that is wanted. A lent parcel leaves the state by a move, so no entry is copied, and a
-//! spare one stands in for it until it comes back.
+//! ranks exchanges them for an empty one: `take_out` for an open parcel that is due, and `put_back` where it
+//! could not be sent; `take_in` for an inbox that is wanted. Or they borrow them: `lend_out` and `note_sent`,
+//! `lend_in` and `note_got`. A lent parcel leaves the state by a move, and a spare one stands in for it until
+//! it comes back. No entry is copied.
 //!
 //! An epoch ends by *last marks*. A hop has reached its end when nothing more can come to it: hop 1 once
 //! `set_done` was called, hop h + 1 once every link in of hop h has ended and its entries were passed on.
@@ -21,6 +22,8 @@
 //! | Call | What it does |
 //! |---|---|
 //! | `push` | appends an item to the open parcel toward its destination, or finds it full |
+//! | `due_to`, `take_out`, `put_back` | whether an open parcel is to be sent; exchanges it, and back where it was not sent |
+//! | `wants_from`, `take_in` | whether an inbox is to be filled; exchanges it for a parcel that came |
 //! | `due`, `lend_out`, `note_sent` | whether an open parcel is to be sent; hands it out, takes it back |
 //! | `wants`, `lend_in`, `note_got` | whether an inbox is to be filled; hands it out, takes it back |
 //! | `relay` | passes entries on from one hop to the next |
@@ -33,9 +36,12 @@
 
 mod carrying;
 mod inboxes;
+mod lending;
 mod lent;
 mod open_parcels;
 mod phase;
+mod phases;
+mod pulling;
 mod relay;
 mod state;
 

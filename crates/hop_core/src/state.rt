@@ -14,11 +14,10 @@ ghost use Rattle.hop_core.specs.State.{out_at, in_at, with_out, with_in, at_end,
 ghost use Rattle.hop_core.specs.Relay.{held, AddsToHop, TakesFromHop, IsStopped, waiting};
 ghost use Rattle.route_tensor.specs.Pair.{PassesThrough};
 
-use crate::inboxes::{InLink, first_unread, hop_finished, links_in, resume_all};
+use crate::inboxes::{InLink, links_in};
 use crate::lent::Lent;
-use crate::open_parcels::{OutLink, all_closed, links_out, reopen_all};
+use crate::open_parcels::{OutLink, links_out};
 use crate::phase::{Phase, Pushed};
-use crate::relay::relay_hop;
 use bale_types::{Entry, Item, NoMemory, Tag};
 use item_buffer::Parcel;
 use route_tensor::{Grid, Onward, Routes};
@@ -127,25 +126,6 @@ impl<const CAP: usize, const HOPS: usize> RankState<CAP, HOPS> {
         })
     }
 
-    /// Begins an epoch.
-    pub fn begin(&mut self)
-        requires dormant { self.old.phase ≡ Phase.Dormant }
-        ensures { self.new ≡ record self.old { phase = Phase.Working; pulled = None } }
-    {
-        self.pulled = None;
-        self.phase = Phase::Working;
-    }
-
-    /// How far the rank is.
-    #[inline]
-    pub fn phase(&self) -> Phase
-        ensures value { result ≡ self.now.phase }
-        ensures standing { IsState self.now }
-        ensures cap { self.now.cap ≡ CAP }
-    {
-        self.phase
-    }
-
     /// Does nothing, and tells what holds of a state at every moment.
     #[inline]
     pub fn known(&self)
@@ -190,298 +170,12 @@ impl<const CAP: usize, const HOPS: usize> RankState<CAP, HOPS> {
     {
         self.pulled = None;
         let step = first_of::<HOPS>(&self.routes, to);
-        let entry = Entry {
-            tag: step.tag,
-            item,
-        };
+        let entry = entry_to::<HOPS>(&self.routes, to, item);
         if self.outs[step.out as usize].push(entry) {
             Pushed::Accepted
         } else {
             Pushed::Full
         }
-    }
-
-    /// Says that nothing more is pushed in this epoch.
-    pub fn set_done(&mut self)
-        requires home { self.old.lent ≡ Lent.Nothing }
-        requires begun { self.old.phase ≢ Phase.Dormant }
-        ensures { self.new ≡ record self.old { done = true; pulled = None } }
-    {
-        self.pulled = None;
-        self.done = true;
-    }
-
-    /// Whether the open parcel of this link out is to be sent.
-    #[inline]
-    pub fn due(&self, link: u32) -> bool
-        requires home { self.now.lent ≡ Lent.Nothing }
-        requires link { link < links self.now.dims }
-        requires starts_here { sender_at self.now.dims link ≡ self.now.rank }
-        ensures { result ≡ is_due self.now.cap self.now.steady (at_end self.now.dims self.now.ins self.now.done (hop_at self.now.dims link)) (out_at self.now (out_index self.now.dims link)) }
-    {
-        let number = self.routes.number_to(link);
-        self.outs[number as usize].is_due(self.steady, self.at_end(number))
-    }
-
-    /// Whether a parcel of this link in is to be collected.
-    #[inline]
-    pub fn wants(&self, link: u32) -> bool
-        requires home { self.now.lent ≡ Lent.Nothing }
-        requires link { link < links self.now.dims }
-        requires ends_here { reader_at self.now.dims link ≡ self.now.rank }
-        ensures { result ≡ is_wanted (in_at self.now (in_index self.now.dims link)) }
-    {
-        let number = self.routes.number_from(link);
-        self.ins[number as usize].is_wanted()
-    }
-
-    /// Hands out the open parcel of a link that is due, marked last exactly where its hop has reached its end.
-    pub fn lend_out(&mut self, link: u32) -> Parcel<CAP>
-        requires home { self.old.lent ≡ Lent.Nothing }
-        requires link { link < links self.old.dims }
-        requires starts_here { sender_at self.old.dims link ≡ self.old.rank }
-        requires due { is_due self.old.cap self.old.steady (at_end self.old.dims self.old.ins self.old.done (hop_at self.old.dims link)) (out_at self.old (out_index self.old.dims link)) ≡ true }
-        ensures parcel { result ≡ record (out_at self.old (out_index self.old.dims link)).parcel { last = at_end self.old.dims self.old.ins self.old.done (hop_at self.old.dims link); epoch = self.old.epoch } }
-        ensures fresh { IsFresh result }
-        ensures fair { All (λ e. IsFair self.old.dims (hop_at self.old.dims link) e.tag) result.untaken }
-        ensures state { self.new ≡ record self.old {
-          outs = slice_set self.old.outs (out_index self.old.dims link) (record (out_at self.old (out_index self.old.dims link)) { parcel = blank 0 });
-          lent = Lent.Out (out_index self.old.dims link);
-          pulled = None;
-        } }
-    {
-        self.pulled = None;
-        let number = self.routes.number_to(link);
-        let last = self.at_end(number);
-        self.lent = Lent::Out(number);
-        let spare = self.spare.take().unwrap();
-        let mut parcel = self.outs[number as usize].lend(spare);
-        parcel.set_last(last);
-        parcel.set_epoch(self.epoch);
-        parcel
-    }
-
-    /// Takes back the open parcel that was lent; `sent` says whether it was sent, and so comes back empty.
-    pub fn note_sent(&mut self, link: u32, parcel: Parcel<CAP>, sent: bool)
-        requires link { link < links self.old.dims }
-        requires starts_here { sender_at self.old.dims link ≡ self.old.rank }
-        requires lent { self.old.lent ≡ Lent.Out (out_index self.old.dims link) }
-        requires fresh { IsFresh parcel }
-        requires fair { All (λ e. IsFair self.old.dims (hop_at self.old.dims link) e.tag) parcel.untaken }
-        requires emptied { sent ≡ true → parcel.untaken ≡ [] }
-        ensures { self.new ≡ record self.old {
-          outs = slice_set self.old.outs (out_index self.old.dims link) (record {
-            parcel = parcel.entry;
-            closed = sent && at_end self.old.dims self.old.ins self.old.done (hop_at self.old.dims link);
-          });
-          lent = Lent.Nothing;
-          pulled = None;
-        } }
-    {
-        self.pulled = None;
-        let number = self.routes.number_to(link);
-        let last = self.at_end(number);
-        self.lent = Lent::Nothing;
-        let _fits = parcel.len();
-        let mut spare = self.outs[number as usize].take_back(parcel, sent, last);
-        spare.clear();
-        spare.set_epoch(0);
-        self.spare = Some(spare);
-    }
-
-    /// Hands out the inbox of a link that is wanted, empty.
-    pub fn lend_in(&mut self, link: u32) -> Parcel<CAP>
-        requires home { self.old.lent ≡ Lent.Nothing }
-        requires link { link < links self.old.dims }
-        requires ends_here { reader_at self.old.dims link ≡ self.old.rank }
-        requires wanted { is_wanted (in_at self.old (in_index self.old.dims link)) ≡ true }
-        ensures parcel { result ≡ blank self.old.epoch }
-        ensures state { self.new ≡ record self.old {
-          ins = slice_set self.old.ins (in_index self.old.dims link) (record (in_at self.old (in_index self.old.dims link)) { parcel = blank 0 });
-          lent = Lent.In (in_index self.old.dims link);
-          pulled = None;
-        } }
-    {
-        self.pulled = None;
-        let number = self.routes.number_from(link);
-        self.lent = Lent::In(number);
-        let spare = self.spare.take().unwrap();
-        let mut parcel = self.ins[number as usize].lend(spare);
-        parcel.clear();
-        parcel.set_epoch(self.epoch);
-        parcel
-    }
-
-    /// Takes back the inbox that was lent; `got` says whether a parcel came.
-    pub fn note_got(&mut self, link: u32, parcel: Parcel<CAP>, got: bool)
-        requires link { link < links self.old.dims }
-        requires ends_here { reader_at self.old.dims link ≡ self.old.rank }
-        requires lent { self.old.lent ≡ Lent.In (in_index self.old.dims link) }
-        requires fresh { IsFresh parcel }
-        requires fair { All (λ e. IsFair self.old.dims (hop_at self.old.dims link) e.tag) parcel.untaken }
-        ensures { self.new ≡ record self.old {
-          ins = slice_set self.old.ins (in_index self.old.dims link) (record { parcel = parcel.entry; ended = got && parcel.entry.last });
-          lent = Lent.Nothing;
-          pulled = None;
-        } }
-    {
-        self.pulled = None;
-        let number = self.routes.number_from(link);
-        let hop = self.routes.neighbour(number).hop;
-        self.lent = Lent::Nothing;
-        let _fits = parcel.len();
-        let mut spare = self.ins[number as usize].take_back(parcel, got);
-        spare.clear();
-        spare.set_epoch(0);
-        self.spare = Some(spare);
-        if (hop as usize) < HOPS {
-            self.ends[hop as usize] = hop_finished(&self.routes, &self.ins, hop);
-        } else {
-            self.from = self.from.min(number);
-        }
-    }
-
-    /// Passes entries on from the links in of hop `h` to the open parcels of the next hop, in order, until each of these
-    /// links is empty or the open parcel of its first entry is full. Answers how many it passed on.
-    pub fn relay(&mut self, h: u32) -> u64
-        requires home { self.old.lent ≡ Lent.Nothing }
-        requires first { 1 ≤ h }
-        requires last { h < length self.old.dims }
-
-        // Of each pair of ranks that passes through, the rank holds the same items in the same order.
-        ensures held { (s d : ℕ) → PassesThrough self.old.dims self.old.rank s d h → held self.new s d h ≡ held self.old s d h }
-        ensures adds { AddsToHop self.old.dims (h + 1) self.old.outs self.new.outs }
-        ensures takes { TakesFromHop self.old.dims h self.old.ins self.new.ins }
-        ensures stopped { (i : ℕ) → i < sum self.old.dims → hop_to self.old.dims i ≡ h → IsStopped self.old.dims self.old.cap h self.new.outs (in_at self.new i) }
-        ensures count { result + waiting self.new.ins ≡ waiting self.old.ins }
-        ensures rest { self.new ≡ record self.old { outs = self.new.outs; ins = self.new.ins; pulled = None } }
-    {
-        self.pulled = None;
-        let count = relay_hop(&self.routes, &mut self.outs, &mut self.ins, h);
-        self.ends[h as usize] = hop_finished(&self.routes, &self.ins, h);
-        count
-    }
-
-    /// The first unread item of the lowest link of the last hop that has one, and its sender.
-    #[inline]
-    pub fn pull(&mut self) -> Option<(u32, Item)>
-        requires home { self.old.lent ≡ Lent.Nothing }
-        requires begun { self.old.phase ≢ Phase.Dormant }
-        ensures value { result ≡ pull_from self.old (lowest_unread self.old) }
-        ensures state { self.new ≡ pulled_from self.old (lowest_unread self.old) }
-    {
-        self.pulled = None;
-        let Some(from) = first_unread(&self.ins, self.from) else {
-            self.from = self.routes.neighbours();
-            return None;
-        };
-        let entry = self.ins[from as usize].take()?;
-        self.from = from;
-        self.pulled = Some(from);
-        Some((sender::<HOPS>(&self.routes, from, entry.tag), entry.item))
-    }
-
-    /// The link in of the last hop from which the next pull takes, by the number of its neighbour: the lowest one that has
-    /// an unread item.
-    #[inline]
-    pub fn unread(&mut self) -> Option<u32>
-        requires home { self.old.lent ≡ Lent.Nothing }
-        requires begun { self.old.phase ≢ Phase.Dormant }
-        ensures value { result ≡ lowest_unread self.old }
-        ensures state { self.new ≡ record self.old { pulled = None } }
-    {
-        self.pulled = None;
-        match first_unread(&self.ins, self.from) {
-            Some(number) => {
-                self.from = number;
-                Some(number)
-            }
-            None => {
-                self.from = self.routes.neighbours();
-                None
-            }
-        }
-    }
-
-    /// The unread entries of the link in from which the next pull takes, in order: so many pulls give their items.
-    #[inline]
-    pub fn batch(&self, number: u32) -> &[Entry]
-        requires lowest { lowest_unread self.now ≡ Some number }
-        ensures value { result.now ≡ (in_at self.now number).parcel.untaken }
-        ensures within { number < sum self.now.dims }
-        ensures last { hop_to self.now.dims number ≡ length self.now.dims }
-        ensures fair { All (λ e. IsFair self.now.dims (length self.now.dims) e.tag) result.now }
-    {
-        self.ins[number as usize].unread()
-    }
-
-    /// The sender of an entry that came with this tag on the last hop, from neighbour number `number`.
-    #[inline]
-    pub fn sender_of(&self, number: u32, tag: Tag) -> u32
-        requires number { number < sum self.now.dims }
-        requires last { hop_to self.now.dims number ≡ length self.now.dims }
-        requires fair { IsFair self.now.dims (length self.now.dims) tag }
-        ensures { result ≡ sender_of self.now.dims tag (length self.now.dims) (neighbour self.now.dims self.now.rank number) }
-    {
-        sender::<HOPS>(&self.routes, number, tag)
-    }
-
-    /// Pulls all unread items of the link in from which the next pull takes.
-    pub fn pull_all(&mut self, number: u32)
-        requires home { self.old.lent ≡ Lent.Nothing }
-        requires begun { self.old.phase ≢ Phase.Dormant }
-        requires lowest { lowest_unread self.old ≡ Some number }
-        ensures { self.new ≡ pulls (length (in_at self.old number).parcel.untaken) self.old }
-    {
-        let count = self.ins[number as usize].unread().len();
-        self.ins[number as usize].skip(count);
-        self.from = number;
-        self.pulled = Some(number);
-    }
-
-    /// Puts the item back that the latest call pulled, if that call was a pull that gave one.
-    pub fn unpull(&mut self) -> bool
-        requires home { self.old.lent ≡ Lent.Nothing }
-        ensures value { result ≡ is_some self.old.pulled }
-        ensures state { self.new ≡ unpulled self.old self.old.pulled }
-    {
-        match self.pulled {
-            Some(number) => {
-                self.ins[number as usize].untake();
-                self.from = self.from.min(number);
-                self.pulled = None;
-                true
-            }
-            None => false,
-        }
-    }
-
-    /// Sets the phase by what is done, sent, got and read.
-    pub fn settle(&mut self) -> Phase
-        requires home { self.old.lent ≡ Lent.Nothing }
-        requires begun { self.old.phase ≢ Phase.Dormant }
-        ensures value { result ≡ phase_of self.old }
-        ensures state { self.new ≡ record self.old { phase = phase_of self.old; pulled = None } }
-    {
-        self.phase = self.current_phase();
-        self.pulled = None;
-        self.phase
-    }
-
-    /// The phase by what is done, sent, got and read.
-    fn current_phase(&self) -> Phase
-        ensures { result ≡ phase_of self.now }
-    {
-        if !self.done {
-            return Phase::Working;
-        }
-        if !all_closed(&self.outs) {
-            return Phase::Endgame;
-        }
-        if !hop_finished(&self.routes, &self.ins, HOPS as u32) {
-            return Phase::Cleanup;
-        }
-        Phase::Complete
     }
 
     /// Whether the hop on which this neighbour lies has reached its end.
@@ -490,36 +184,15 @@ impl<const CAP: usize, const HOPS: usize> RankState<CAP, HOPS> {
         requires { number < sum self.now.dims }
         ensures { result ≡ at_end self.now.dims self.now.ins self.now.done (hop_to self.now.dims number) }
     {
+        if HOPS == 1 {
+            return self.done;
+        }
         let hop = self.routes.neighbour(number).hop as usize;
         if hop == 1 {
             self.done
         } else {
             self.ends[hop - 1]
         }
-    }
-
-    /// Ends an epoch that is complete.
-    pub fn reset(&mut self)
-        requires home { self.old.lent ≡ Lent.Nothing }
-        requires complete { self.old.phase ≡ Phase.Complete }
-        requires epochs { self.old.epoch < 2 ^ 63 }
-        ensures { self.new ≡ record self.old {
-          outs = map reopened self.old.outs;
-          ins = map resumed self.old.ins;
-          done = false;
-          phase = Phase.Dormant;
-          epoch = self.old.epoch + 1;
-          pulled = None;
-        } }
-    {
-        self.pulled = None;
-        reopen_all(&mut self.outs);
-        resume_all(&mut self.ins);
-        self.done = false;
-        let ends = [false; 3];
-        self.ends = ends;
-        self.phase = Phase::Dormant;
-        self.epoch += 1;
     }
 }
 
@@ -559,18 +232,20 @@ fn straight_to(routes: &Routes, to: u32) -> Onward
     }
 }
 
-/// The sender of an entry that came with this tag on the last hop, from neighbour number `i`: on one hop that neighbour.
+/// The entry for `to` with this item, as it is sent first: on one hop by no table.
 #[inline]
-fn sender<const HOPS: usize>(routes: &Routes, i: u32, tag: Tag) -> u32
+fn entry_to<const HOPS: usize>(routes: &Routes, to: u32, item: Item) -> Entry
     requires hops { length routes.now.dims ≡ HOPS }
-    requires neighbour { i < sum routes.now.dims }
-    requires last { hop_to routes.now.dims i ≡ length routes.now.dims }
-    requires fair { IsFair routes.now.dims (length routes.now.dims) tag }
-    ensures { result ≡ sender_of routes.now.dims tag (length routes.now.dims) (neighbour routes.now.dims routes.now.rank i) }
+    requires to { to < ranks routes.now.dims }
+    ensures value { result ≡ record { tag = tag_at routes.now.dims routes.now.rank to 1; item = item } }
+    ensures fair { IsFair routes.now.dims 1 result.tag }
 {
     if HOPS == 1 {
-        routes.neighbour(i).rank
+        Entry {
+            tag: straight_to(routes, to).tag,
+            item,
+        }
     } else {
-        routes.sender(i, tag)
+        routes.entry(to, item)
     }
 }

@@ -13,9 +13,9 @@ pub struct Parcel<const CAP: usize> {
     /// `CAP` places, always full, so that a clear writes no place. A move of the parcel moves no entry.
     places: Vec<Entry>,
     /// How many of the places, from the first one on, hold an entry pushed since the last clear.
-    pushed: usize,
+    pushed: u16,
     /// How many of those entries are taken.
-    taken: usize,
+    taken: u16,
     /// Whether the last entry that was taken may be put back.
     can_untake: bool,
     /// Whether no parcel of the same epoch follows on the link.
@@ -70,10 +70,10 @@ impl<const CAP: usize> Parcel<CAP> {
         ensures unchanged { result ≡ false → self.new ≡ self.old }
         ensures full { result ≡ false → length self.old.untaken ≡ CAP }
     {
-        if self.pushed == CAP {
+        if self.pushed as usize == CAP {
             return false;
         }
-        self.places[self.pushed] = entry;
+        self.places[self.pushed as usize] = entry;
         self.pushed += 1;
         true
     }
@@ -86,7 +86,7 @@ impl<const CAP: usize> Parcel<CAP> {
         if self.taken == self.pushed {
             return None;
         }
-        Some(self.places[self.taken])
+        Some(self.places[self.taken as usize])
     }
 
     /// Takes the first untaken entry.
@@ -112,7 +112,7 @@ impl<const CAP: usize> Parcel<CAP> {
     pub fn untaken(&self) -> &[Entry]
         ensures { result.now ≡ self.now.untaken }
     {
-        &self.places[self.taken..self.pushed]
+        &self.places[self.taken as usize..self.pushed as usize]
     }
 
     /// Takes the first `count` untaken entries, as so many calls of `take` would.
@@ -122,7 +122,7 @@ impl<const CAP: usize> Parcel<CAP> {
         ensures { self.new ≡ skipped count self.old }
     {
         if count > 0 {
-            self.taken += count;
+            self.taken += count as u16;
             self.can_untake = true;
         }
     }
@@ -134,9 +134,9 @@ impl<const CAP: usize> Parcel<CAP> {
         requires room { length self.old.untaken + length entries.now ≤ CAP }
         ensures { self.new ≡ record self.old { untaken = self.old.untaken ++ entries.now } }
     {
-        let end = self.pushed + entries.len();
-        self.places[self.pushed..end].copy_from_slice(entries);
-        self.pushed = end;
+        let end = self.pushed as usize + entries.len();
+        self.places[self.pushed as usize..end].copy_from_slice(entries);
+        self.pushed = end as u16;
     }
 
     /// Puts the entry that the latest `take` or `skip` took last back in front of the untaken ones.
@@ -169,7 +169,7 @@ impl<const CAP: usize> Parcel<CAP> {
         ensures within { length self.now.untaken + self.now.taken ≤ CAP }
         ensures fresh { self.now.taken ≡ 0 → self.now.back ≡ None }
     {
-        (self.pushed - self.taken) as u32
+        u32::from(self.pushed - self.taken)
     }
 
     /// Whether `CAP` entries are untaken.
@@ -177,7 +177,7 @@ impl<const CAP: usize> Parcel<CAP> {
     pub fn is_full(&self) -> bool
         ensures { result ≡ (length self.now.untaken == CAP) }
     {
-        self.pushed - self.taken == CAP
+        (self.pushed - self.taken) as usize == CAP
     }
 
     /// The most entries that the parcel can hold.

@@ -98,8 +98,8 @@ module _ {D T : Type 0} (Blank : T → Type 0) (Good : ℕ → List T → T → 
               counts = λ m h a b. get_or-set_other s.words k m _ 0 (λ e. omega arith);
               bits = λ m h ne t. rung_word s.words k (bell_word w m) (2 ^ w.bit l) (w.bit m) word t;
               no_other_bits = λ b h. dite (ℕ_discrete b (w.bell l))
-                  (λ e. subst (λ (z : ℕ). get_or words (2 * w.links + z) 0 < 2 ^ w.width z) (sym e) (subst (λ (z : ℕ). z < 2 ^ w.width (w.bell l)) (sym here) (or_lt (w.width (w.bell l)) (get_or s.words k 0) (2 ^ w.bit l) (ok.no_other_bits (w.bell l) (wired.rung l inside)) fits_in)))
-                  (λ ne. subst (λ (z : ℕ). z < 2 ^ w.width b) (sym (get_or-set_other s.words k (2 * w.links + b) _ 0 (λ e. ne (omega arith)))) (ok.no_other_bits b h));
+                  (λ e. subst (λ (z : ℕ). get_or words (16 * (2 * w.links + z)) 0 < 2 ^ w.width z) (sym e) (subst (λ (z : ℕ). z < 2 ^ w.width (w.bell l)) (sym here) (or_lt (w.width (w.bell l)) (get_or s.words k 0) (2 ^ w.bit l) (ok.no_other_bits (w.bell l) (wired.rung l inside)) fits_in)))
+                  (λ ne. subst (λ (z : ℕ). z < 2 ^ w.width b) (sym (get_or-set_other s.words k (16 * (2 * w.links + b)) _ 0 (λ e. ne (omega arith)))) (ok.no_other_bits b h));
             })
             (λ _ _ _. refl)
             (λ link. link_kept Blank Good w wired l o i s.words words s.homes s.homes (length o.sent) o.looks i.hears i.heard i.look_ins i.marked
@@ -110,12 +110,12 @@ module _ {D T : Type 0} (Blank : T → Type 0) (Good : ℕ → List T → T → 
 
   -- the doorbell b has the bits of links into the seat's rank, of which l is one
   pub hear : (id l b : ℕ) (v : View D T) (c : List (ℕ × T)) → Speaks v → l < w.links → w.to l ≡ v.pick → w.bell l ≡ b → Holds Blank w v.pick (own_logs v) c
-      → Allows Rule (w.slots * w.links) id (v, c) (2 * w.links + b) (λ _. 0) (λ n m'. heard Blank Good w b (v, c) n m')
+      → Allows Rule (w.slots * w.links) id (v, c) (16 * (2 * w.links + b)) (λ _. 0) (λ n m'. heard Blank Good w b (v, c) n m')
   hear id l b v c speaks inside mine rings held s ok deep at fits =
       let x : Logs T = own_logs v in let r : ℕ = v.pick in
       let known : x ≡ ok.logs r = (speaker Blank Good Law shape w wired s ok id v at speaks).1 in
       let lens = own_lens Blank Good Law shape w wired s ok id v at speaks in
-      let k : ℕ = 2 * w.links + b in
+      let k : ℕ = 16 * (2 * w.links + b) in
       let word : k < length s.words = (let e = ok.wide in let f = wired.rung l inside in omega arith) in
       let n : ℕ = get_or s.words k 0 in
       let words : List ℕ = set s.words k 0 in
@@ -130,7 +130,7 @@ module _ {D T : Type 0} (Blank : T → Type 0) (Good : ℕ → List T → T → 
       λ m h. let in_list : m < length x.ins = (let e = lens.1 in omega arith) in dite (ℕ_discrete (w.bell m) b)
       (λ e. let q : w.to m ≡ r = wired.one_reader m l h inside (e ∙ sym rings) ∙ mine in inl (e, ins_mine (w.to m) m q ∙ heard_here w b n x.ins m in_list e ∙ ap (heard_by (bit_at n (w.bit m))) (was (w.to m) m q)))
       (λ ne. inr (ne, dite (ℕ_discrete (w.to m) r) (λ q. ins_mine (w.to m) m q ∙ heard_else w b n x.ins m in_list ne ∙ was (w.to m) m q) (λ q. ins_other (w.to m) m q))) in
-      let low : (m : ℕ) → m < 2 * w.links → get_or words m 0 ≡ get_or s.words m 0 = λ m h. get_or-set_other s.words k m 0 0 (λ e. omega arith) in
+      let low : (m : ℕ) → m < 16 * (2 * w.links) → get_or words m 0 ≡ get_or s.words m 0 = λ m h. get_or-set_other s.words k m 0 0 (λ e. omega arith) in
       let got_same : got_of x' ≡ got_of x = λ j m. heard_kept w b n got (λ _ _. refl) x.ins m j in
       let law : Law r (sent_of x') (got_of x') = subst (λ (z : Logs T × (ℕ → List T)). Law r (sent_of z.0) z.1) (λ j. (sym known j, sym (got_same ∙ ap got_of known) j)) (ok.each_rank r).2 in
       let held' : Holds Blank w r x' c = holds_same Blank w r x x' c (λ _. refl) (λ _. refl) (λ m. heard_kept w b n (λ z. z.taken) (λ _ _. refl) x.ins m) (λ m. heard_kept w b n (λ z. z.seen) (λ _ _. refl) x.ins m) held in (
@@ -149,14 +149,14 @@ module _ {D T : Type 0} (Blank : T → Type 0) (Good : ℕ → List T → T → 
             (ins m h))
             (λ m h. let a = out_of (ok.logs (w.from m)) m in let d = in_of (ok.logs (w.to m)) m in
             ⊎_elim
-            (λ t. subst (λ (z : OutLog T × InLog T). BellOk w m z.0 z.1 words) (λ j. (sym (outs (w.from m) m) j, (ap (λ (z : ℕ). heard_by (bit_at (get_or s.words (2 * w.links + z) 0) (w.bit m)) d) t.0 ∙ sym t.1) j))
+            (λ t. subst (λ (z : OutLog T × InLog T). BellOk w m z.0 z.1 words) (λ j. (sym (outs (w.from m) m) j, (ap (λ (z : ℕ). heard_by (bit_at (get_or s.words (16 * (2 * w.links + z)) 0) (w.bit m)) d) t.0 ∙ sym t.1) j))
             (bell_heard w m a d s.words words (ok.each_bell m h)))
             (λ t. subst (λ (z : OutLog T × InLog T). BellOk w m z.0 z.1 words) (λ j. (sym (outs (w.from m) m) j, sym t.1 j))
             (bell_kept w m a a d d s.words words refl (omega arith) refl refl refl (omega arith)
             (λ e. ap (λ (z : ℕ). bit_at z (w.bit m)) (get_or-set_other s.words k (bell_word w m) 0 0 (λ z. t.0 (omega arith))) ∙ e) (ok.each_bell m h)))
             (ins m h))
             (λ d h. dite (ℕ_discrete d b)
-            (λ e. subst (λ (z : ℕ). get_or words (2 * w.links + z) 0 < 2 ^ w.width z) (sym e) (subst (λ (z : ℕ). z < 2 ^ w.width b) (sym (get_or-set_same s.words k 0 0 word)) (pow_pos (w.width b))))
-            (λ ne. subst (λ (z : ℕ). z < 2 ^ w.width d) (sym (get_or-set_other s.words k (2 * w.links + d) 0 0 (λ e. ne (omega arith)))) (ok.no_other_bits d h))),
+            (λ e. subst (λ (z : ℕ). get_or words (16 * (2 * w.links + z)) 0 < 2 ^ w.width z) (sym e) (subst (λ (z : ℕ). z < 2 ^ w.width b) (sym (get_or-set_same s.words k 0 0 word)) (pow_pos (w.width b))))
+            (λ ne. subst (λ (z : ℕ). z < 2 ^ w.width d) (sym (get_or-set_other s.words k (16 * (2 * w.links + d)) 0 0 (λ e. ne (omega arith)))) (ok.no_other_bits d h))),
         (refl, subst (λ (z : Logs T). Holds Blank w r z c) (sym (own_with v x' speaks)) held'),
       )

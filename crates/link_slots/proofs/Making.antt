@@ -46,7 +46,7 @@ one_value (suc n) zero a b e = sym (some-injective a b e)
 one_value (suc n) (suc k) a b e = one_value n k a b e
 
 -- the first state is lawful
-pub opens_lawful : (cap : ℕ) (shape : Shape) (words : List ℕ) (slots : List Contents) → IsShape shape → words ≡ replicate (2 * links shape.dims + ranks shape.dims * length shape.dims) 0 → slots ≡ replicate (shape.slots * links shape.dims) (blank 0)
+pub opens_lawful : (cap : ℕ) (shape : Shape) (words : List ℕ) (slots : List Contents) → IsShape shape → words ≡ replicate (16 * (2 * links shape.dims + ranks shape.dims * length shape.dims)) 0 → slots ≡ replicate (shape.slots * links shape.dims) (blank 0)
     → IsLawful cap shape (opening words slots (first_view shape (ranks shape.dims) (links shape.dims)))
 opens_lawful cap shape words slots is zeros blanks =
     opens IsBlank (MayFollow shape.dims cap) (KeepsLaw shape.dims) shape (wiring shape) (wired shape is) words slots zeros

@@ -33,17 +33,17 @@ module _ {A : Type 0} where
 
 -- what a step at the link l does to the words: the others' counts stay, and so do the bits that are set for them
 pub record WordsKept (w : Wiring) (l : ℕ) (ws ws' : List ℕ) : Type 0 where
-  pub counts : (k : ℕ) → k < 2 * w.links → k ≢ posted_word l → k ≢ released_word l → get_or ws' k 0 ≡ get_or ws k 0
+  pub counts : (k : ℕ) → k < 16 * (2 * w.links) → k ≢ posted_word l → k ≢ released_word l → get_or ws' k 0 ≡ get_or ws k 0
   pub bits : (m : ℕ) → m < w.links → m ≢ l → bit_at (get_or ws (bell_word w m) 0) (w.bit m) ≡ 1 → bit_at (get_or ws' (bell_word w m) 0) (w.bit m) ≡ 1
-  pub no_other_bits : (b : ℕ) → b < w.bells → get_or ws' (2 * w.links + b) 0 < 2 ^ w.width b
+  pub no_other_bits : (b : ℕ) → b < w.bells → get_or ws' (16 * (2 * w.links + b)) 0 < 2 ^ w.width b
 
 -- a step on a counting word rings nothing
-pub bells_kept : (w : Wiring) (l : ℕ) (ws ws' : List ℕ) → ((b : ℕ) → b < w.bells → get_or ws (2 * w.links + b) 0 < 2 ^ w.width b) → l < w.links
+pub bells_kept : (w : Wiring) (l : ℕ) (ws ws' : List ℕ) → ((b : ℕ) → b < w.bells → get_or ws (16 * (2 * w.links + b)) 0 < 2 ^ w.width b) → l < w.links
     → ((k : ℕ) → k ≢ posted_word l → k ≢ released_word l → get_or ws' k 0 ≡ get_or ws k 0) → WordsKept w l ws ws'
 bells_kept w l ws ws' bits inside same = record {
   counts = λ k h a b. same k a b;
   bits = λ m h ne t. ap (λ (z : ℕ). bit_at z (w.bit m)) (same (bell_word w m) (λ z. omega arith) (λ z. omega arith)) ∙ t;
-  no_other_bits = λ b h. let e = same (2 * w.links + b) (λ z. omega arith) (λ z. omega arith) in let old = bits b h in subst (λ (z : ℕ). z < 2 ^ w.width b) (sym e) old;
+  no_other_bits = λ b h. let e = same (16 * (2 * w.links + b)) (λ z. omega arith) (λ z. omega arith) in let old = bits b h in subst (λ (z : ℕ). z < 2 ^ w.width b) (sym e) old;
 }
 
 module _ {T : Type 0} (w : Wiring) (logs : ℕ → Logs T) (r : ℕ) where
@@ -99,7 +99,7 @@ module _ {D T : Type 0} (Blank : T → Type 0) (Good : ℕ → List T → T → 
       → (length x.outs ≡ w.links) × (length x.ins ≡ w.links) × Law v.pick (sent_of x) (got_of x)
       → ((l : ℕ) → l < w.links → LinkOk Blank Good w l (out_of (put ok.logs v.pick x (w.from l)) l) (in_of (put ok.logs v.pick x (w.to l)) l) words homes)
       → ((l : ℕ) → l < w.links → BellOk w l (out_of (put ok.logs v.pick x (w.from l)) l) (in_of (put ok.logs v.pick x (w.to l)) l) words)
-      → ((b : ℕ) → b < w.bells → get_or words (2 * w.links + b) 0 < 2 ^ w.width b)
+      → ((b : ℕ) → b < w.bells → get_or words (16 * (2 * w.links + b)) 0 < 2 ^ w.width b)
       → Rule (record { words = words; homes = homes; views = set s.views id (with_logs v x) })
   rank_step s ok id v x words homes at speaks as_wide as_deep mine links bells bits =
       let known = speaker s ok id v at speaks in

@@ -42,10 +42,10 @@ none_first : {T : Type 0} (n : ℕ) (p : T) → get_elem? [] n ≡ some p → �
 none_first n p e = some-ne-none p (sym e)
 
 module _ {D T : Type 0} (Blank : T → Type 0) (Good : ℕ → List T → T → Type 0) (Law : ℕ → (ℕ → List T) → (ℕ → List T) → Type 0) (shape : D) (w : Wiring) (wired : IsWired w) where
-  pub opens : (words : List ℕ) (slots : List T) → words ≡ replicate (2 * w.links + w.bells) 0 → length slots ≡ w.slots * w.links → ((k : ℕ) (b : T) → get_elem? slots k ≡ some b → Blank b)
+  pub opens : (words : List ℕ) (slots : List T) → words ≡ replicate (16 * (2 * w.links + w.bells)) 0 → length slots ≡ w.slots * w.links → ((k : ℕ) (b : T) → get_elem? slots k ≡ some b → Blank b)
       → ((r : ℕ) → Law r (λ _. []) (λ _. [])) → Lawful Blank Good Law shape w (opening words slots (first_view shape w.ranks w.links))
   opens words slots zeros deep blank law =
-      let N : ℕ = 2 * w.links + w.bells in
+      let N : ℕ = 16 * (2 * w.links + w.bells) in
       let zero_at : (k : ℕ) → get_or words k 0 ≡ 0 = λ k. ap (λ (z : List ℕ). get_or z k 0) zeros ∙ all_one N k 0 in
       let homes : List (maybe.Option T) = map some slots in record {
         logs = λ _. no_logs w.links;
@@ -71,7 +71,7 @@ module _ {D T : Type 0} (Blank : T → Type 0) (Good : ℕ → List T → T → 
           told = inr (inr (omega arith));
           looked = omega arith;
         });
-        no_other_bits = λ b h. subst (λ (z : ℕ). z < 2 ^ w.width b) (sym (zero_at (2 * w.links + b))) (pow_pos (w.width b));
+        no_other_bits = λ b h. subst (λ (z : ℕ). z < 2 ^ w.width b) (sym (zero_at (16 * (2 * w.links + b)))) (pow_pos (w.width b));
         each_rank = λ r. (length-replicate w.links no_out, length-replicate w.links no_in, subst (λ (z : (ℕ → List T) × (ℕ → List T)). Law r z.0 z.1) (λ k. (sym (no_sent T w.links) k, sym (no_got T w.links) k)) (law r));
         each_seat = λ j v at r x e. first_seat w.ranks j v at r x e;
         owned = λ r h. (first_view shape w.ranks w.links, refl, some_there w.ranks r (no_logs w.links) h);

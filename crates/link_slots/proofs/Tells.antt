@@ -98,13 +98,13 @@ module _ (cap : ℕ) (shape : Shape) (is : IsShape shape) (count : ℕ) (as_many
       (λ in' e f. let same : l ≡ q = (wired shape is).one_bit l q inside in' (omega arith) (same_power (w.bit l) (w.bit q) f) in subst (λ (z : ℕ). rung cap shape z m m') same t))
       (listening.ring IsBlank Good Law shape w (wired shape is) id l m.0 m.1 manned.speaks inside mine manned.holds))
 
-  pub hear : (m : M) (word b : ℕ) → word ≡ 2 * (wiring shape).links + b → (wiring shape).bell l ≡ b → IsManned shape m → l < links shape.dims → reader_at shape.dims l ≡ m.0.pick
+  pub hear : (m : M) (word b : ℕ) → word ≡ 16 * (2 * (wiring shape).links + b) → (wiring shape).bell l ≡ b → IsManned shape m → l < links shape.dims → reader_at shape.dims l ≡ m.0.pick
       → Allows (IsLawful cap shape) count id m word (λ _. 0) (hear_told cap (step count word 0 0 none) m)
   hear m word b at rings manned inside mine =
       let w : Wiring = wiring shape in
       subst (λ (z : ℕ). Allows (IsLawful cap shape) count id m z (λ _. 0) (hear_told cap (step count z 0 0 none) m)) (sym at)
-      (may m (2 * w.links + b) (λ _. 0) (heard cap shape b m) (hear_told cap (step count (2 * w.links + b) 0 0 none) m)
-      (λ n m' t q. subst (λ (z : Shape). 2 * w.links + b ≡ 2 * (wiring z).links + q → heard cap z q m n m') (sym manned.of)
+      (may m (16 * (2 * w.links + b)) (λ _. 0) (heard cap shape b m) (hear_told cap (step count (16 * (2 * w.links + b)) 0 0 none) m)
+      (λ n m' t q. subst (λ (z : Shape). 16 * (2 * w.links + b) ≡ 16 * (2 * (wiring z).links + q) → heard cap z q m n m') (sym manned.of)
       (λ e. let same : b ≡ q = omega arith in subst (λ (z : ℕ). heard cap shape z m n m') same t))
       (listening.hear IsBlank Good Law shape w (wired shape is) id l b m.0 m.1 manned.speaks inside mine rings manned.holds))
 

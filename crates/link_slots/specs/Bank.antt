@@ -14,11 +14,11 @@ module _ {D T : Type 0} (Blank : T → Type 0) (Good : ℕ → List T → T → 
   pub record Lawful (s : State T (View D T)) : Type 0 where
     pub logs : ℕ → Logs T
     pub owner : ℕ → ℕ
-    pub wide : length s.words ≡ 2 * w.links + w.bells
+    pub wide : length s.words ≡ 16 * (2 * w.links + w.bells)
     pub deep : length s.homes ≡ w.slots * w.links
     pub each_link : (l : ℕ) → l < w.links → LinkOk Blank Good w l (out_of (logs (w.from l)) l) (in_of (logs (w.to l)) l) s.words s.homes
     pub each_bell : (l : ℕ) → l < w.links → BellOk w l (out_of (logs (w.from l)) l) (in_of (logs (w.to l)) l) s.words
-    pub no_other_bits : (b : ℕ) → b < w.bells → slice_index_or s.words (2 * w.links + b) 0 < 2 ^ w.width b
+    pub no_other_bits : (b : ℕ) → b < w.bells → slice_index_or s.words (16 * (2 * w.links + b)) 0 < 2 ^ w.width b
     pub each_rank : (r : ℕ) → (length (logs r).outs ≡ w.links) × (length (logs r).ins ≡ w.links) × Law r (sent_of (logs r)) (got_of (logs r))
     pub each_seat : (j : ℕ) (v : View D T) → get_elem? s.views j ≡ some v → (r : ℕ) (x : Logs T) → slice_index_or v.lists r None ≡ Some x → (owner r ≡ j) × (x ≡ logs r) × (v.shape ≡ shape)
     pub owned : (r : ℕ) → r < w.ranks → (v : View D T) × (get_elem? s.views (owner r) ≡ some v) × (slice_index_or v.lists r None ≡ Some (logs r))

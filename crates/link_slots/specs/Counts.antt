@@ -48,7 +48,7 @@ AreGood cap shape l i = (n : ℕ) (p : Contents) → get_elem? i.seen n ≡ some
 -- What is kept of a link by its number: the word and the bit of its doorbell, and its hop less 1.
 -- bell = 2*links + r*k + h - 1 and mask = 2^c, for a link of hop h to rank r from a rank whose coordinate h is c
 pub record IsWire (dims : List ℕ) (l bell mask hop : ℕ) : Type 0 where
-  pub bell_is : bell ≡ 2 * links dims + (reader_at dims l * length dims + (hop_at dims l - 1))
+  pub bell_is : bell ≡ 16 * (2 * links dims + (reader_at dims l * length dims + (hop_at dims l - 1)))
   pub mask_is : mask ≡ 2 ^ coord dims (sender_at dims l) (hop_at dims l)
   pub hop_is : hop_at dims l ≡ hop + 1
 

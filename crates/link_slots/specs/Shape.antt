@@ -62,5 +62,5 @@ KeepsLaw dims r sent got = RelayLaw dims r (shipped_all sent) (shipped_all got)
 -- The table has a bank's words and slots.
 pub record IsBoard (s : Shape) (id : TableId) : Type 0 where
   pub shape : IsShape s
-  pub words : id.words ≡ 2 * links s.dims + ranks s.dims * length s.dims
+  pub words : id.words ≡ 16 * (2 * links s.dims + ranks s.dims * length s.dims)
   pub slots : id.slots ≡ s.slots * links s.dims

@@ -73,7 +73,7 @@ module _ (cap : ℕ) (st : Step Contents) (m : Me Contents Knowing) where
   ring_told n m' = (l : ℕ) → l < (wiring m.0.shape).links → st.word ≡ bell_word (wiring m.0.shape) l → st.first ≡ 2 ^ (wiring m.0.shape).bit l → rung cap m.0.shape l m m'
 
   abbrev pub hear_told : ℕ → Me Contents Knowing → Type 0
-  hear_told n m' = (b : ℕ) → st.word ≡ 2 * (wiring m.0.shape).links + b → heard cap m.0.shape b m n m'
+  hear_told n m' = (b : ℕ) → st.word ≡ 16 * (2 * (wiring m.0.shape).links + b) → heard cap m.0.shape b m n m'
 
   abbrev pub pick_told : ℕ → Me Contents Knowing → Type 0
   pick_told n m' = m' ≡ (speaking_for m.0 st.word, m.1)

@@ -12,12 +12,16 @@ pub record Wiring : Type 0 where
   pub bit : ℕ → ℕ
   pub width : ℕ → ℕ
 
+-- The bank's words stand 16 apart in the table, word number n at 16 * n, so that no two of them share a cache line, nor a pair of lines.
+abbrev pub word_at : ℕ → ℕ
+word_at n = 16 * n
+
 -- The words that count the parcels posted on a link, and those released by its reader; both modulo 2^64.
 abbrev pub posted_word : ℕ → ℕ
-posted_word l = 2 * l
+posted_word l = word_at (2 * l)
 
 abbrev pub released_word : ℕ → ℕ
-released_word l = 2 * l + 1
+released_word l = word_at (2 * l + 1)
 
 module _ (w : Wiring) where
   -- The slot through which parcel number n of a link goes: K*l + n mod K.
@@ -27,7 +31,7 @@ module _ (w : Wiring) where
 
   -- The doorbells stand behind the counting words.
   abbrev pub bell_word : ℕ → ℕ
-  bell_word l = 2 * w.links + w.bell l
+  bell_word l = word_at (2 * w.links + w.bell l)
 
   -- Each link has one bit of one doorbell, all of a doorbell's links have one reader, and a link has at least one slot.
   pub record IsWired : Type 0 where

@@ -69,7 +69,7 @@ impl<const CAP: usize> SlotBank<CAP> {
     {
         let links = grid.links() as usize;
         let ranks = grid.ranks() as usize;
-        let words = vec![in alloc; 0; 2 * links + ranks * grid.hops() as usize]?;
+        let words = vec![in alloc; 0; 16 * (2 * links + ranks * grid.hops() as usize)]?;
         let parcels = empty_parcels(alloc, slots as usize * links)?;
         let wires = wires_of(alloc, grid)?;
         let ends = all_ends(alloc, ranks, links)?;

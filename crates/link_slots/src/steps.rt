@@ -32,7 +32,7 @@ pub(crate) fn look_for_room<const CAP: usize>(
     ensures seat { IsManned top.now.key place.new.me }
     ensures found { room_found CAP top.now.key link place.old.me result place.new.me }
 {
-    top.load::<LookForRoom>(place, 2 * link as usize + 1)
+    top.load::<LookForRoom>(place, 316 * (2 * link as usize + 1))
 }
 
 /// Brings the slot of the link's next post to the front.
@@ -45,7 +45,7 @@ pub(crate) fn bring_spare<const CAP: usize>(top: &Top<CAP>, place: &mut Place<CA
     ensures seat { IsManned top.now.key place.new.me }
     ensures front { spare_brought CAP top.now.key link place.old.me place.new.me }
 {
-    top.load::<BringSpare>(place, 2 * link as usize);
+    top.load::<BringSpare>(place, 16 * (2 * link as usize));
 }
 
 /// Exchanges the parcel at hand for the one in the slot in front.
@@ -85,7 +85,7 @@ pub(crate) fn send<const CAP: usize>(
 {
     bring_spare(top, place, link);
     swap(top, place, slot, parcel);
-    top.fetch_add::<Post>(place, 2 * link as usize, 1);
+    top.fetch_add::<Post>(place, 16 * (2 * link as usize), 1);
 }
 
 /// Sets the link's bit of its reader's doorbell, for all parcels posted so far.
@@ -135,7 +135,7 @@ pub(crate) fn look_in<const CAP: usize>(top: &Top<CAP>, place: &mut Place<CAP>, 
     ensures seat { IsManned top.now.key place.new.me }
     ensures found { looked_in CAP top.now.key link place.old.me result place.new.me }
 {
-    top.load::<LookIn>(place, 2 * link as usize)
+    top.load::<LookIn>(place, 16 * (2 * link as usize))
 }
 
 /// Brings the slot of the link's next parcel to the front.
@@ -148,7 +148,7 @@ pub(crate) fn bring_parcel<const CAP: usize>(top: &Top<CAP>, place: &mut Place<C
     ensures seat { IsManned top.now.key place.new.me }
     ensures front { parcel_brought CAP top.now.key link place.old.me place.new.me }
 {
-    top.load::<BringParcel>(place, 2 * link as usize + 1);
+    top.load::<BringParcel>(place, 316 * (2 * link as usize + 1));
 }
 
 /// Takes the link's next parcel out of its slot, for the empty one at hand, and releases the slot.
@@ -173,5 +173,5 @@ pub(crate) fn receive<const CAP: usize>(
 {
     bring_parcel(top, place, link);
     swap(top, place, slot, parcel);
-    top.fetch_add::<Release>(place, 2 * link as usize + 1, 1);
+    top.fetch_add::<Release>(place, 316 * (2 * link as usize + 1), 1);
 }

@@ -27,7 +27,7 @@ fn wire_of(grid: &Grid, link: u32) -> Wire
     let (h, a, b) = grid.ends(link);
     let bells = b as usize * grid.hops() as usize + (h as usize - 1);
     Wire {
-        bell: 2 * grid.links() as usize + bells,
+        bell: 16 * (2 * grid.links() as usize + bells),
         mask: 1 << grid.coord(a, h),
         hop: h as usize - 1,
     }

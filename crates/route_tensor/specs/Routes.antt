@@ -1,4 +1,5 @@
 use Rattle.std.specs.Prelude.{◌≡◌, ℕ, ◌+◌, ◌-◌, ◌<◌, List, length, sum, slice_index_or}
+use Rattle.bale_types.specs.declared.item.Entry.{Entry}
 use Rattle.bale_types.specs.declared.item.Tag.{Tag}
 use Rattle.list_laws.specs.Lists.{EachAt}
 use Rattle.route_tensor.specs.declared.routes.Onward.{Onward}
@@ -52,3 +53,8 @@ pub record IsTable (dims : List ℕ) (r first_dim : ℕ) (firsts : List Onward) 
   pub all_numbers : length numbers ≡ links dims
   pub number_to : (i : ℕ) (d : ℕ) → i < sum dims → slice_index_or numbers (link_to dims r i) d ≡ i
   pub number_from : (i : ℕ) (d : ℕ) → i < sum dims → slice_index_or numbers (link_from dims r i) d ≡ i
+
+-- By destination, entries that have the first tag already.
+pub record IsStamped (dims : List ℕ) (r : ℕ) (stamps : List Entry) : Type 0 where
+  pub all_stamps : length stamps ≡ ranks dims
+  pub each_stamp : EachAt (λ d e. e.tag ≡ tag_at dims r d 1) stamps

@@ -11,7 +11,7 @@ ghost use Rattle.route_tensor.specs.Tag.{digit, IsFair, tag_at, sender_of};
 ghost use Rattle.route_tensor.specs.Routes.{first_step, about, passed_on};
 
 use crate::grid::Grid;
-use bale_types::{NoMemory, Tag};
+use bale_types::{Entry, Item, NoMemory, Tag};
 use std::alloc::Global;
 use std::marker::Model;
 
@@ -82,6 +82,8 @@ pub struct Routes {
     first_dim: u32,
     /// By destination.
     firsts: Vec<Onward>,
+    /// By destination: an entry with its first tag.
+    stamps: Vec<Entry>,
     /// By number.
     neighbours: Vec<Neighbour>,
     /// By link: the number of the neighbour at the link's other end, where the link is one of this rank's.
@@ -89,13 +91,13 @@ pub struct Routes {
 }
 
 impl Model for Routes {
-    ghost use Rattle.route_tensor.specs.Routes.{Site, IsTable};
+    ghost use Rattle.route_tensor.specs.Routes.{Site, IsTable, IsStamped};
 
     ghost Value = { Site };
 
     ghost view = { λ t. record { dims = t.grid; rank = t.rank } };
 
-    ghost invariant = { λ t. IsTable t.grid t.rank t.first_dim t.firsts.items t.neighbours.items t.numbers.items };
+    ghost invariant = { λ t. IsTable t.grid t.rank t.first_dim t.firsts.items t.neighbours.items t.numbers.items × IsStamped t.grid t.rank t.stamps.items };
 }
 
 impl Routes {
@@ -105,6 +107,7 @@ impl Routes {
         ensures { IfOk result (λ t. t ≡ record { dims = grid.now; rank = rank }) }
     {
         let firsts = first_steps(alloc, grid, rank)?;
+        let stamps = stamps(alloc, grid, rank)?;
         let neighbours = neighbours(alloc, grid, rank)?;
         let numbers = numbers(alloc, grid, rank, &neighbours)?;
         Ok(Routes {
@@ -112,6 +115,7 @@ impl Routes {
             rank,
             first_dim: grid.dim(1),
             firsts,
+            stamps,
             neighbours,
             numbers,
         })
@@ -160,6 +164,18 @@ impl Routes {
         ensures below { result.out < sum self.now.dims }
     {
         self.firsts[to as usize]
+    }
+
+    /// The entry for `to` with this item, as this rank sends it first. It is copied whole, so that the tag goes as one word.
+    #[inline]
+    pub fn entry(&self, to: u32, item: Item) -> Entry
+        requires { to < ranks self.now.dims }
+        ensures value { result ≡ record { tag = tag_at self.now.dims self.now.rank to 1; item = item } }
+        ensures fair { IsFair self.now.dims 1 result.tag }
+    {
+        let mut entry = self.stamps[to as usize];
+        entry.item = item;
+        entry
     }
 
     /// The sender of an entry that came with this tag on the last hop, from neighbour number `i`.
@@ -215,6 +231,22 @@ fn first_steps(alloc: Global, grid: &Grid, rank: u32) -> Result<Vec<Onward>, NoM
         })?;
     }
     Ok(steps)
+}
+
+/// By destination, entries that have the first tag from `rank`.
+fn stamps(alloc: Global, grid: &Grid, rank: u32) -> Result<Vec<Entry>, NoMemory>
+    requires { rank < ranks grid.now }
+    ensures all { IfOk result (λ stamps. length stamps.items ≡ ranks grid.now) }
+    ensures each { IfOk result (λ stamps. EachAt (λ d e. e.tag ≡ tag_at grid.now rank d 1) stamps.items) }
+{
+    let ranks = grid.ranks();
+    let mut stamps = Vec::with_capacity(alloc, ranks as usize)?;
+    for d in 0..ranks {
+        let tag = grid.tag_first(rank, d);
+        let item = Item::default();
+        stamps.push(Entry { tag, item })?;
+    }
+    Ok(stamps)
 }
 
 /// What `rank` knows of each of its neighbours.

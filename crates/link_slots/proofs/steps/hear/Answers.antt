@@ -16,10 +16,10 @@ swap-requires g c = let b = c.requires.table.1 in (
 
 pub returns-clause-heard : goal.returns-clause-heard
 returns-clause-heard g c =
-    let f = subst (λ (z : Shape). c.args.word ≡ 2 * (wiring z).links + (wiring c.args.top.now.key).bell c.args.link → heard g.row.CAP z ((wiring c.args.top.now.key).bell c.args.link) c.args.place.now.me c.swap.result c.swap.new.seat.me) c.requires.seat.of (c.swap.ensures.2 ((wiring c.args.top.now.key).bell c.args.link)) c.requires.bell in
+    let f = subst (λ (z : Shape). c.args.word ≡ 16 * (2 * (wiring z).links + (wiring c.args.top.now.key).bell c.args.link) → heard g.row.CAP z ((wiring c.args.top.now.key).bell c.args.link) c.args.place.now.me c.swap.result c.swap.new.seat.me) c.requires.seat.of (c.swap.ensures.2 ((wiring c.args.top.now.key).bell c.args.link)) c.requires.bell in
     ap (λ (z : Me Contents Knowing). z.0) f.0
 
 pub returns-clause-seat : goal.returns-clause-seat
 returns-clause-seat g c =
-    let f = subst (λ (z : Shape). c.args.word ≡ 2 * (wiring z).links + (wiring c.args.top.now.key).bell c.args.link → heard g.row.CAP z ((wiring c.args.top.now.key).bell c.args.link) c.args.place.now.me c.swap.result c.swap.new.seat.me) c.requires.seat.of (c.swap.ensures.2 ((wiring c.args.top.now.key).bell c.args.link)) c.requires.bell in
+    let f = subst (λ (z : Shape). c.args.word ≡ 16 * (2 * (wiring z).links + (wiring c.args.top.now.key).bell c.args.link) → heard g.row.CAP z ((wiring c.args.top.now.key).bell c.args.link) c.args.place.now.me c.swap.result c.swap.new.seat.me) c.requires.seat.of (c.swap.ensures.2 ((wiring c.args.top.now.key).bell c.args.link)) c.requires.bell in
     manned_with c.args.top.now.key c.args.place.now.me c.swap.new.seat.me c.requires.seat _ (ap (λ (z : Me Contents Knowing). z.0) f.0) f.1

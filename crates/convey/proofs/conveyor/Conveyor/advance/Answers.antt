@@ -4,7 +4,7 @@ use Rattle.bale_types.specs.declared.fault.NoMemory.{NoMemory}
 use Rattle.route_tensor.specs.Link.{links}
 use Rattle.route_tensor.specs.Ends.{hop_at}
 use Rattle.hop_core.specs.declared.phase.Phase.TheVariants.{Complete}
-use Rattle.hop_core.specs.State.{State, phase_of}
+use Rattle.hop_core.specs.State.{State, all_closed, phase_of}
 use Rattle.hop_core.specs.Standing.{IsState}
 use Rattle.convey.specs.declared.progress.Progress.{Progress}
 use Rattle.convey.specs.declared.progress.Progress.TheVariants.{Complete as Whole}
@@ -17,6 +17,7 @@ use Rattle.convey.proofs.Posts.{due_ending}
 use Rattle.convey.proofs.Completes.{complete_phase, is_over, over_complete, reaches_end, working, begun}
 use Rattle.convey.proofs.Movements.{not_true}
 use Rattle.convey.proofs.Advances.{advance_is, settled_agrees, over_before, phase_of-settled, forgotten, complete_answer}
+use Rattle.convey.proofs.Sent.{cleanup_sent}
 use Rattle.convey.proofs.conveyor.Conveyor.advance.Goals as goal
 
 whole : (r : Progress) → (let a : Result Progress NoMemory = Ok r in let b : Result Progress NoMemory = Ok Whole in a ≡ b) → r ≡ Whole
@@ -44,6 +45,7 @@ invariant_of-self-2 g c =
     record {
       home = ap (λ s. s.lent) e ∙ k.home;
       hops_all = ap (λ s. length s.dims) e ∙ k.hops_all;
+      sent = λ p. ap (λ s. all_closed s.outs) e ∙ cleanup_sent mid (sym (settled_phase mid c.settle.new.state e) ∙ p);
       complete = λ p. sym (settled_phase mid c.settle.new.state e) ∙ p;
       none_back = λ p. ap (λ s. s.pulled) e;
     }

@@ -2,7 +2,8 @@ use Rattle.std.proofs.Common.{sym, ap, subst, ◌≡◌, ◌∙◌, true}
 use Rattle.route_tensor.specs.Neighbour.{in_index}
 use Rattle.hop_core.specs.Link.{is_wanted}
 use Rattle.hop_core.specs.State.{State, in_at}
-use Rattle.hop_core.proofs.Standing.{lend_in_kept, in_here}
+use Rattle.hop_core.proofs.Lends.{lend_in_kept}
+use Rattle.hop_core.proofs.Standing.{in_here}
 use Rattle.hop_core.proofs.state.RankState.lend_in.Goals as goal
 
 pub invariant_of-self : goal.invariant_of-self

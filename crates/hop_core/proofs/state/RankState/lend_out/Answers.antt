@@ -3,7 +3,8 @@ use Rattle.route_tensor.specs.Ends.{hop_at}
 use Rattle.route_tensor.specs.Neighbour.{out_index}
 use Rattle.hop_core.specs.Link.{is_due}
 use Rattle.hop_core.specs.State.{State, at_end, out_at}
-use Rattle.hop_core.proofs.Standing.{lend_out_kept, out_here}
+use Rattle.hop_core.proofs.Lends.{lend_out_kept}
+use Rattle.hop_core.proofs.Standing.{out_here}
 use Rattle.hop_core.proofs.state.RankState.lend_out.Goals as goal
 
 pub invariant_of-self-2 : goal.invariant_of-self-2

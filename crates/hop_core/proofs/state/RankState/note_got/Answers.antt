@@ -10,7 +10,7 @@ use Rattle.hop_core.specs.Link.{is_finished}
 use Rattle.hop_core.specs.State.{State}
 use Rattle.std.specs.List.{list_all}
 use Rattle.hop_core.specs.State.{ins_of_hop}
-use Rattle.hop_core.proofs.Standing.{got_before_by, got_last_by, got_returns}
+use Rattle.hop_core.proofs.Lends.{got_before_by, got_last_by, got_returns}
 use Rattle.hop_core.proofs.state.RankState.note_got.Goals as goal
 
 pub invariant_of-self : goal.invariant_of-self

@@ -7,7 +7,7 @@ use Rattle.route_tensor.specs.Tag.{IsFair}
 use Rattle.item_buffer.specs.Contents.{Contents}
 use Rattle.hop_core.specs.declared.lent.Lent.TheVariants as lent
 use Rattle.hop_core.specs.State.{State}
-use Rattle.hop_core.proofs.Standing.{sent_by, sent_returns}
+use Rattle.hop_core.proofs.Lends.{sent_by, sent_returns}
 use Rattle.hop_core.proofs.state.RankState.note_sent.Goals as goal
 
 pub invariant_of-self-2 : goal.invariant_of-self-2

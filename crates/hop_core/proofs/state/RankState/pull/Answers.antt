@@ -3,7 +3,8 @@ use Rattle.route_tensor.specs.Neighbour.{hop_to}
 use Rattle.hop_core.specs.State.{State}
 use Rattle.std.specs.Option.{is_some}
 use Rattle.route_tensor.proofs.Links.{sum_small}
-use Rattle.hop_core.proofs.Standing.{pull_kept, hop_last}
+use Rattle.hop_core.proofs.Standing.{hop_last}
+use Rattle.hop_core.proofs.Steps.{pull_kept}
 use Rattle.hop_core.proofs.Unread.{scan_of, scan_all, scan_some, scan_none, pull_value, pull_state, none_value, none_state, last_fair}
 use Rattle.hop_core.proofs.state.RankState.pull.Goals as goal
 

@@ -1,4 +1,4 @@
-use Rattle.hop_core.proofs.Standing.{done_kept}
+use Rattle.hop_core.proofs.Steps.{done_kept}
 use Rattle.hop_core.proofs.state.RankState.set_done.Goals as goal
 
 pub invariant_of-self : goal.invariant_of-self

@@ -3,7 +3,7 @@ use Rattle.route_tensor.specs.Grid.{place}
 use Rattle.route_tensor.specs.Neighbour.{neighbour}
 use Rattle.route_tensor.specs.Tag.{tag_rank}
 use Rattle.route_tensor.proofs.Places.{place-zero}
-use Rattle.hop_core.proofs.state.sender.Goals as goal
+use Rattle.hop_core.proofs.pulling.sender.Goals as goal
 
 pub returns-then-this-eq1 : goal.returns-then-this-eq1
 returns-then-this-eq1 g c =

@@ -1,0 +1,106 @@
+//! The epoch's course: it begins, is done, comes to its end, and makes room for the next.
+
+ghost use Rattle.std.specs.Prelude.{◌≡◌, ◌≢◌, ℕ, ◌+◌, ◌-◌, ◌^◌, ◌<◌, ◌≤◌, ◌==◌, ◌&&◌, ◌||◌, List, [], length, sum, map, replicate, slice_set, slice_index_or, true, false, Some, None, is_some, IfOk, IsSome};
+ghost use Rattle.std.specs.List.{All};
+ghost use Rattle.item_buffer.specs.Contents.{Contents, IsFresh, blank};
+ghost use Rattle.route_tensor.specs.Grid.{ranks, coord, IsGrid};
+ghost use Rattle.route_tensor.specs.Link.{links};
+ghost use Rattle.route_tensor.specs.Ends.{hop_at, sender_at, reader_at};
+ghost use Rattle.route_tensor.specs.Neighbour.{hop_to, neighbour, out_index, in_index};
+ghost use Rattle.route_tensor.specs.Tag.{IsFair, tag_at, sender_of};
+ghost use Rattle.route_tensor.specs.Routes.{first_step};
+ghost use Rattle.hop_core.specs.Link.{Out, In, no_out, no_in, is_due, is_wanted, with_entry};
+ghost use Rattle.hop_core.specs.State.{out_at, in_at, with_out, with_in, at_end, phase_of, lowest_unread, pull_from, pulled_from, pulls, unpulled, reopened, resumed};
+ghost use Rattle.hop_core.specs.Relay.{held, AddsToHop, TakesFromHop, IsStopped, waiting};
+ghost use Rattle.route_tensor.specs.Pair.{PassesThrough};
+
+use crate::inboxes::{hop_finished, resume_all};
+use crate::lent::Lent;
+use crate::open_parcels::{all_closed, reopen_all};
+use crate::phase::Phase;
+use crate::state::RankState;
+
+impl<const CAP: usize, const HOPS: usize> RankState<CAP, HOPS> {
+    ghost use Rattle.hop_core.specs.Standing.{IsState};
+
+    /// Begins an epoch.
+    pub fn begin(&mut self)
+        requires dormant { self.old.phase ≡ Phase.Dormant }
+        ensures { self.new ≡ record self.old { phase = Phase.Working; pulled = None } }
+    {
+        self.pulled = None;
+        self.phase = Phase::Working;
+    }
+
+    /// How far the rank is.
+    #[inline]
+    pub fn phase(&self) -> Phase
+        ensures value { result ≡ self.now.phase }
+        ensures standing { IsState self.now }
+        ensures cap { self.now.cap ≡ CAP }
+    {
+        self.phase
+    }
+
+    /// Says that nothing more is pushed in this epoch.
+    pub fn set_done(&mut self)
+        requires home { self.old.lent ≡ Lent.Nothing }
+        requires begun { self.old.phase ≢ Phase.Dormant }
+        ensures { self.new ≡ record self.old { done = true; pulled = None } }
+    {
+        self.pulled = None;
+        self.done = true;
+    }
+
+    /// Sets the phase by what is done, sent, got and read.
+    pub fn settle(&mut self) -> Phase
+        requires home { self.old.lent ≡ Lent.Nothing }
+        requires begun { self.old.phase ≢ Phase.Dormant }
+        ensures value { result ≡ phase_of self.old }
+        ensures state { self.new ≡ record self.old { phase = phase_of self.old; pulled = None } }
+    {
+        self.phase = self.current_phase();
+        self.pulled = None;
+        self.phase
+    }
+
+    /// The phase by what is done, sent, got and read.
+    fn current_phase(&self) -> Phase
+        ensures { result ≡ phase_of self.now }
+    {
+        if !self.done {
+            return Phase::Working;
+        }
+        if !all_closed(&self.outs) {
+            return Phase::Endgame;
+        }
+        if !hop_finished(&self.routes, &self.ins, HOPS as u32) {
+            return Phase::Cleanup;
+        }
+        Phase::Complete
+    }
+
+    /// Ends an epoch that is complete.
+    pub fn reset(&mut self)
+        requires home { self.old.lent ≡ Lent.Nothing }
+        requires complete { self.old.phase ≡ Phase.Complete }
+        requires epochs { self.old.epoch < 2 ^ 63 }
+        ensures { self.new ≡ record self.old {
+          outs = map reopened self.old.outs;
+          ins = map resumed self.old.ins;
+          done = false;
+          phase = Phase.Dormant;
+          epoch = self.old.epoch + 1;
+          pulled = None;
+        } }
+    {
+        self.pulled = None;
+        reopen_all(&mut self.outs);
+        resume_all(&mut self.ins);
+        self.done = false;
+        let ends = [false; 3];
+        self.ends = ends;
+        self.phase = Phase::Dormant;
+        self.epoch += 1;
+    }
+}

@@ -1,0 +1,156 @@
+//! What came: it is passed on to the next hop, or pulled, one item or one inbox at a time.
+
+ghost use Rattle.std.specs.Prelude.{◌≡◌, ◌≢◌, ℕ, ◌+◌, ◌-◌, ◌^◌, ◌<◌, ◌≤◌, ◌==◌, ◌&&◌, ◌||◌, List, [], length, sum, map, replicate, slice_set, slice_index_or, true, false, Some, None, is_some, IfOk, IsSome};
+ghost use Rattle.std.specs.List.{All};
+ghost use Rattle.item_buffer.specs.Contents.{Contents, IsFresh, blank};
+ghost use Rattle.route_tensor.specs.Grid.{ranks, coord, IsGrid};
+ghost use Rattle.route_tensor.specs.Link.{links};
+ghost use Rattle.route_tensor.specs.Ends.{hop_at, sender_at, reader_at};
+ghost use Rattle.route_tensor.specs.Neighbour.{hop_to, neighbour, out_index, in_index};
+ghost use Rattle.route_tensor.specs.Tag.{IsFair, tag_at, sender_of};
+ghost use Rattle.route_tensor.specs.Routes.{first_step};
+ghost use Rattle.hop_core.specs.Link.{Out, In, no_out, no_in, is_due, is_wanted, with_entry};
+ghost use Rattle.hop_core.specs.State.{out_at, in_at, with_out, with_in, at_end, phase_of, lowest_unread, pull_from, pulled_from, pulls, unpulled, reopened, resumed};
+ghost use Rattle.hop_core.specs.Relay.{held, AddsToHop, TakesFromHop, IsStopped, waiting};
+ghost use Rattle.route_tensor.specs.Pair.{PassesThrough};
+ghost use Rattle.hop_core.specs.declared.phase.Phase.{Phase};
+
+use crate::inboxes::{first_unread, hop_finished};
+use crate::lent::Lent;
+use crate::relay::relay_hop;
+use crate::state::RankState;
+use bale_types::{Entry, Item, Tag};
+use route_tensor::Routes;
+
+impl<const CAP: usize, const HOPS: usize> RankState<CAP, HOPS> {
+    /// Passes entries on from the links in of hop `h` to the open parcels of the next hop, in order, until each of these
+    /// links is empty or the open parcel of its first entry is full. Answers how many it passed on.
+    pub fn relay(&mut self, h: u32) -> u64
+        requires home { self.old.lent ≡ Lent.Nothing }
+        requires first { 1 ≤ h }
+        requires last { h < length self.old.dims }
+
+        // Of each pair of ranks that passes through, the rank holds the same items in the same order.
+        ensures held { (s d : ℕ) → PassesThrough self.old.dims self.old.rank s d h → held self.new s d h ≡ held self.old s d h }
+        ensures adds { AddsToHop self.old.dims (h + 1) self.old.outs self.new.outs }
+        ensures takes { TakesFromHop self.old.dims h self.old.ins self.new.ins }
+        ensures stopped { (i : ℕ) → i < sum self.old.dims → hop_to self.old.dims i ≡ h → IsStopped self.old.dims self.old.cap h self.new.outs (in_at self.new i) }
+        ensures count { result + waiting self.new.ins ≡ waiting self.old.ins }
+        ensures rest { self.new ≡ record self.old { outs = self.new.outs; ins = self.new.ins; pulled = None } }
+    {
+        self.pulled = None;
+        let count = relay_hop(&self.routes, &mut self.outs, &mut self.ins, h);
+        self.ends[h as usize] = hop_finished(&self.routes, &self.ins, h);
+        count
+    }
+
+    /// The first unread item of the lowest link of the last hop that has one, and its sender.
+    #[inline]
+    pub fn pull(&mut self) -> Option<(u32, Item)>
+        requires home { self.old.lent ≡ Lent.Nothing }
+        requires begun { self.old.phase ≢ Phase.Dormant }
+        ensures value { result ≡ pull_from self.old (lowest_unread self.old) }
+        ensures state { self.new ≡ pulled_from self.old (lowest_unread self.old) }
+    {
+        self.pulled = None;
+        let Some(from) = first_unread(&self.ins, self.from) else {
+            self.from = self.routes.neighbours();
+            return None;
+        };
+        let entry = self.ins[from as usize].take()?;
+        self.from = from;
+        self.pulled = Some(from);
+        Some((sender::<HOPS>(&self.routes, from, entry.tag), entry.item))
+    }
+
+    /// The link in of the last hop from which the next pull takes, by the number of its neighbour: the lowest one that has
+    /// an unread item.
+    #[inline]
+    pub fn unread(&mut self) -> Option<u32>
+        requires home { self.old.lent ≡ Lent.Nothing }
+        requires begun { self.old.phase ≢ Phase.Dormant }
+        ensures value { result ≡ lowest_unread self.old }
+        ensures state { self.new ≡ record self.old { pulled = None } }
+    {
+        self.pulled = None;
+        match first_unread(&self.ins, self.from) {
+            Some(number) => {
+                self.from = number;
+                Some(number)
+            }
+            None => {
+                self.from = self.routes.neighbours();
+                None
+            }
+        }
+    }
+
+    /// The unread entries of the link in from which the next pull takes, in order: so many pulls give their items.
+    #[inline]
+    pub fn batch(&self, number: u32) -> &[Entry]
+        requires lowest { lowest_unread self.now ≡ Some number }
+        ensures value { result.now ≡ (in_at self.now number).parcel.untaken }
+        ensures within { number < sum self.now.dims }
+        ensures last { hop_to self.now.dims number ≡ length self.now.dims }
+        ensures fair { All (λ e. IsFair self.now.dims (length self.now.dims) e.tag) result.now }
+    {
+        self.ins[number as usize].unread()
+    }
+
+    /// The sender of an entry that came with this tag on the last hop, from neighbour number `number`.
+    #[inline]
+    pub fn sender_of(&self, number: u32, tag: Tag) -> u32
+        requires number { number < sum self.now.dims }
+        requires last { hop_to self.now.dims number ≡ length self.now.dims }
+        requires fair { IsFair self.now.dims (length self.now.dims) tag }
+        ensures { result ≡ sender_of self.now.dims tag (length self.now.dims) (neighbour self.now.dims self.now.rank number) }
+    {
+        sender::<HOPS>(&self.routes, number, tag)
+    }
+
+    /// Pulls all unread items of the link in from which the next pull takes.
+    pub fn pull_all(&mut self, number: u32)
+        requires home { self.old.lent ≡ Lent.Nothing }
+        requires begun { self.old.phase ≢ Phase.Dormant }
+        requires lowest { lowest_unread self.old ≡ Some number }
+        ensures { self.new ≡ pulls (length (in_at self.old number).parcel.untaken) self.old }
+    {
+        let count = self.ins[number as usize].unread().len();
+        self.ins[number as usize].skip(count);
+        self.from = number;
+        self.pulled = Some(number);
+    }
+
+    /// Puts the item back that the latest call pulled, if that call was a pull that gave one.
+    pub fn unpull(&mut self) -> bool
+        requires home { self.old.lent ≡ Lent.Nothing }
+        ensures value { result ≡ is_some self.old.pulled }
+        ensures state { self.new ≡ unpulled self.old self.old.pulled }
+    {
+        match self.pulled {
+            Some(number) => {
+                self.ins[number as usize].untake();
+                self.from = self.from.min(number);
+                self.pulled = None;
+                true
+            }
+            None => false,
+        }
+    }
+}
+
+/// The sender of an entry that came with this tag on the last hop, from neighbour number `i`: on one hop that neighbour.
+#[inline]
+fn sender<const HOPS: usize>(routes: &Routes, i: u32, tag: Tag) -> u32
+    requires hops { length routes.now.dims ≡ HOPS }
+    requires neighbour { i < sum routes.now.dims }
+    requires last { hop_to routes.now.dims i ≡ length routes.now.dims }
+    requires fair { IsFair routes.now.dims (length routes.now.dims) tag }
+    ensures { result ≡ sender_of routes.now.dims tag (length routes.now.dims) (neighbour routes.now.dims routes.now.rank i) }
+{
+    if HOPS == 1 {
+        routes.neighbour(i).rank
+    } else {
+        routes.sender(i, tag)
+    }
+}

@@ -32,7 +32,7 @@ pub(crate) fn look_for_room<const CAP: usize>(
     ensures seat { IsManned top.now.key place.new.me }
     ensures found { room_found CAP top.now.key link place.old.me result place.new.me }
 {
-    top.load::<LookForRoom>(place, 316 * (2 * link as usize + 1))
+    top.load::<LookForRoom>(place, 16 * (2 * link as usize + 1))
 }
 
 /// Brings the slot of the link's next post to the front.
@@ -148,7 +148,7 @@ pub(crate) fn bring_parcel<const CAP: usize>(top: &Top<CAP>, place: &mut Place<C
     ensures seat { IsManned top.now.key place.new.me }
     ensures front { parcel_brought CAP top.now.key link place.old.me place.new.me }
 {
-    top.load::<BringParcel>(place, 316 * (2 * link as usize + 1));
+    top.load::<BringParcel>(place, 16 * (2 * link as usize + 1));
 }
 
 /// Takes the link's next parcel out of its slot, for the empty one at hand, and releases the slot.
@@ -173,5 +173,5 @@ pub(crate) fn receive<const CAP: usize>(
 {
     bring_parcel(top, place, link);
     swap(top, place, slot, parcel);
-    top.fetch_add::<Release>(place, 316 * (2 * link as usize + 1), 1);
+    top.fetch_add::<Release>(place, 16 * (2 * link as usize + 1), 1);
 }

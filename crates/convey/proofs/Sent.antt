@@ -38,7 +38,20 @@ all_closed_by old new s t e same all =
 pub sent_not_due : (old new : State) (l : ℕ) → IsState old → IsState new → new.dims ≡ old.dims → ((m : ℕ) → (out_of new m).closed ≡ (out_of old m).closed) → all_closed old.outs ≡ true → l < links new.dims → IsDue new l → ⊥
 sent_not_due old new l s t e same all h d = false≢true (sym (due_open new l t h d) ∙ (same l ∙ closed_of old l s all (subst (λ ds. l < links ds) e h)))
 
+apart_phases : Cleanup ≡ Complete → ⊥
+apart_phases h = cc
+
+-- noting done, collecting and relaying open no link
+pub same_closed : (st0 st1 st2 st3 : State) (done : Bool) → st1 ≡ record st0 { done = done; pulled = st1.pulled } → st2.outs ≡ st1.outs → st2.dims ≡ st0.dims
+    → ((l : ℕ) → (out_of st3 l).closed ≡ (out_of st2 l).closed) → (l : ℕ) → (out_of st3 l).closed ≡ (out_of st0 l).closed
+same_closed st0 st1 st2 st3 done says outs d closes l =
+    let same : st2.dims ≡ st1.dims = d ∙ sym (ap (λ u. u.dims) says) in
+    closes l ∙ (ap (λ o. o.closed) (λ i. slice_index_or (outs i) (out_index (same i) l) no_out) ∙ ap (λ u. (out_of u l).closed) says)
+
 -- the phase Cleanup tells it
+pub cleanup_incomplete : (p : Phase) → p ≡ Cleanup → p ≡ Complete → ⊥
+cleanup_incomplete p a b = apart_phases (sym a ∙ b)
+
 cleanup_bits : (done closed read : Bool) → (if not done then Working else if not closed then Endgame else if not read then Cleanup else Complete) ≡ Cleanup → closed ≡ true
 cleanup_bits true true read h = refl
 cleanup_bits true false read h = cc

@@ -1,12 +1,16 @@
-use Rattle.std.proofs.Common.{◌≡◌, ℕ, false, List, length, sym, ap, subst, ◌∙◌, rules}
+use Rattle.std.proofs.Common.{◌≡◌, ℕ, ◌<◌, false, List, length, refl, sym, ap, subst, ◌∙◌, arith, rules}
 use Rattle.std.proofs.lemmas.Result.{on_ok_weaker}
-use Rattle.hop_core.specs.declared.phase.Phase.TheVariants.{Complete}
+use Rattle.hop_core.specs.declared.phase.Phase.TheVariants.{Cleanup, Complete}
 use Rattle.item_buffer.specs.Contents.{blank}
 use Rattle.hop_core.specs.State.{State}
+use Rattle.route_tensor.specs.Link.{links}
 use Rattle.route_tensor.specs.Ends.{sender_at}
+use Rattle.port_bank.specs.Logs.{Logs}
 use Rattle.convey.specs.Buffers.{is_complete}
 use Rattle.convey.specs.Way.{WasServed}
-use Rattle.convey.proofs.Ways.{ready_at, link_at, end_at}
+use Rattle.convey.specs.Due.{IsDue}
+use Rattle.convey.proofs.Ways.{ready_at, link_at, end_at, goes_on_refl}
+use Rattle.convey.proofs.Sent.{closed_of, all_closed_by, sent_not_due, same_closed, cleanup_incomplete}
 use Rattle.convey.proofs.Completes.{complete_phase}
 use Rattle.convey.proofs.Movements.{noted_ready, moves_on, has_served, over_moves, over_served}
 use Rattle.convey.proofs.Advances.{not_over}
@@ -46,8 +50,10 @@ returns-clause-conveyor g c =
     let passed = c.relay_all.ensures.passed _ _ _ _ k.ready in
     let phase : last.phase ≡ st.phase = c.post_all.ensures.goes_on.phase ∙ (passed.goes_on.phase ∙ (k.goes_on.phase ∙ ap (λ s. s.phase) c.note_done.ensures.state)) in
     let open' : is_complete st.phase ≡ false = ap is_complete (sym c.phase.ensures.value) ∙ (sym c.is_over.ensures ∙ c.if-is_over.false) in
+    let open_still : c.relay_all.new.state.phase ≡ Cleanup → ⊥ = search rules in
     record {
       home = c.post_all.ensures.ready.home;
+      sent = λ p. absurd (open_still (sym c.post_all.ensures.goes_on.phase ∙ p));
       hops_all = ap length (c.post_all.ensures.ready.same_dims ∙ (k.same_dims ∙ sym c.requires.ready.same_dims)) ∙ c.requires.conveyor.hops_all;
       complete = λ p. absurd (not_over st.phase last.phase open' phase p);
       none_back = λ p. absurd (not_over st.phase last.phase open' phase p);
@@ -82,3 +88,64 @@ returns-clause-served g c =
     _ _ _ c.relay_all.ensures.standing c.relay_all.ensures.stopped
     (λ l h from. subst (λ looks. WasServed c.post_all.new.state l (looks l) (g.P.Port.looks_out c.post_all.new.port l) (g.P.Port.crowded c.post_all.new.port l)) k.looks_out
     (served l (link_at dims _ l k.same_dims h) (end_at sender_at dims _ rank _ l k.same_dims k.same_rank from)))) e.served
+
+pub returns-then-eq-clause-ready : goal.returns-then-eq-clause-ready
+returns-then-eq-clause-ready g c = (c.relay_all.ensures.passed (g.P.Port.dims c.args.port.now) (g.P.Port.rank c.args.port.now) _ _ c.collect_all.ensures.ready).ready
+
+pub returns-then-eq-clause-conveyor : goal.returns-then-eq-clause-conveyor
+returns-then-eq-clause-conveyor g c =
+    let dims : List ℕ = g.P.Port.dims c.args.port.now in
+    let rank : ℕ = g.P.Port.rank c.args.port.now in
+    let st : State = c.args.state.now in
+    let mid : State = c.relay_all.new.state in
+    let k = c.collect_all.ensures in
+    let passed = c.relay_all.ensures.passed dims rank _ _ k.ready in
+    let cleanup : mid.phase ≡ Cleanup = search rules in
+    let phase : mid.phase ≡ st.phase = passed.goes_on.phase ∙ (k.goes_on.phase ∙ ap (λ s. s.phase) c.note_done.ensures.state) in
+    let all = c.requires.conveyor.sent (sym phase ∙ cleanup) in
+    let same_dims : mid.dims ≡ st.dims = passed.ready.same_dims ∙ sym c.requires.ready.same_dims in
+    let same = same_closed st c.note_done.new.state c.collect_all.new.state mid c.args.done c.note_done.ensures.state k.outs (k.ready.same_dims ∙ sym c.requires.ready.same_dims) passed.closes in
+    record {
+      home = passed.ready.home;
+      hops_all = ap length same_dims ∙ c.requires.conveyor.hops_all;
+      sent = λ p. all_closed_by st mid c.phase.ensures.standing c.relay_all.ensures.standing same_dims same all;
+      complete = λ p. absurd (cleanup_incomplete mid.phase cleanup p);
+      none_back = λ p. absurd (cleanup_incomplete mid.phase cleanup p);
+    }
+
+pub returns-then-eq-clause-moves_on : goal.returns-then-eq-clause-moves_on
+returns-then-eq-clause-moves_on g c =
+    let dims : List ℕ = g.P.Port.dims c.args.port.now in
+    let rank : ℕ = g.P.Port.rank c.args.port.now in
+    let st : State = c.args.state.now in
+    let mid : State = c.relay_all.new.state in
+    let k = c.collect_all.ensures in
+    let passed = c.relay_all.ensures.passed dims rank _ _ k.ready in
+    let sent' : Logs = g.P.Port.sent c.collect_all.new.port in
+    let got' : Logs = g.P.Port.got c.collect_all.new.port in
+    moves_on dims rank st c.note_done.new.state c.collect_all.new.state mid mid c.args.done (g.P.Port.sent c.args.port.now) sent' sent' (g.P.Port.got c.args.port.now) got' got'
+    c.phase.ensures.standing (sym c.requires.ready.same_dims) (sym c.requires.ready.same_rank) c.note_done.ensures.state k.goes_on k.outs k.ready passed
+    (goes_on_refl mid sent' got') refl passed.ready (λ l h from e. refl)
+    _ _ _ _ _ k.asked k.lies refl refl (λ l e. refl) k.sent (λ l h from. omega arith)
+
+pub returns-then-eq-clause-served : goal.returns-then-eq-clause-served
+returns-then-eq-clause-served g c =
+    let dims : List ℕ = g.P.Port.dims c.args.port.now in
+    let rank : ℕ = g.P.Port.rank c.args.port.now in
+    let st : State = c.args.state.now in
+    let mid : State = c.relay_all.new.state in
+    let k = c.collect_all.ensures in
+    let passed = c.relay_all.ensures.passed dims rank _ _ k.ready in
+    let cleanup : mid.phase ≡ Cleanup = search rules in
+    let phase : mid.phase ≡ st.phase = passed.goes_on.phase ∙ (k.goes_on.phase ∙ ap (λ s. s.phase) c.note_done.ensures.state) in
+    let all = c.requires.conveyor.sent (sym phase ∙ cleanup) in
+    let same_dims : mid.dims ≡ st.dims = passed.ready.same_dims ∙ sym c.requires.ready.same_dims in
+    let same = same_closed st c.note_done.new.state c.collect_all.new.state mid c.args.done c.note_done.ensures.state k.outs (k.ready.same_dims ∙ sym c.requires.ready.same_dims) passed.closes in
+    let sent' : Logs = g.P.Port.sent c.collect_all.new.port in
+    let got' : Logs = g.P.Port.got c.collect_all.new.port in
+    let not_due : (l : ℕ) → l < links dims → IsDue mid l → ⊥ = λ l h. sent_not_due st mid l c.phase.ensures.standing c.relay_all.ensures.standing same_dims same all (subst (λ ds. l < links ds) (sym passed.ready.same_dims) h) in
+    has_served dims rank st c.note_done.new.state c.collect_all.new.state mid mid c.args.done (g.P.Port.sent c.args.port.now) sent' sent' (g.P.Port.got c.args.port.now) got' got'
+    c.phase.ensures.standing (sym c.requires.ready.same_dims) (sym c.requires.ready.same_rank) c.note_done.ensures.state k.goes_on k.outs k.ready passed
+    (goes_on_refl mid sent' got') refl passed.ready (λ l h from e. refl)
+    _ _ _ c.relay_all.ensures.standing c.relay_all.ensures.stopped
+    (λ l h from. record { looked = λ d. absurd (not_due l h d); crowded = λ d. absurd (not_due l h d) })

@@ -6,8 +6,8 @@ ghost use Rattle.std.specs.Fmt.{decimal, signed_decimal};
 use itoa::{Buffer, Integer};
 use std::marker::Model;
 
-/// How many bytes a line may have: enough for four numbers of 64 bits, each with a blank or LF.
-pub const LINE_ROOM: usize = 96;
+/// How many bytes a line may have: enough for three numbers of 64 bits, each with a blank or LF.
+pub const LINE_ROOM: usize = 64;
 
 /// A line of up to `LINE_ROOM` bytes.
 #[derive(Drop)]
@@ -82,7 +82,7 @@ impl Line {
         ensures len { length self.new ≤ length self.old + 20 }
     {
         if n < 100_000 {
-            self.five_digits(n as u32);
+            self.len = five_digits(&mut self.room, self.len, n as u32);
         } else {
             self.number(n);
         }
@@ -96,7 +96,7 @@ impl Line {
         ensures len { length self.new ≤ length self.old + 20 }
     {
         if 0 <= n && n < 100_000 {
-            self.five_digits(n as u32);
+            self.len = five_digits(&mut self.room, self.len, n as u32);
         } else {
             self.number(n);
         }
@@ -137,64 +137,76 @@ impl Line {
     {
         buffer[at..at + LINE_ROOM].copy_from_slice(&self.room);
     }
+}
 
-    /// Appends a number of at most five digits.
-    #[inline(always)]
-    fn five_digits(&mut self, n: u32)
-        requires room { length self.old + 5 ≤ LINE_ROOM }
-        requires few { n < 100_000 }
-        ensures bytes { self.new ≡ self.old ++ decimal n }
-        ensures len { length self.new ≤ length self.old + 5 }
-    {
-        if n < 10_000 {
-            self.four_digits(n);
-        } else {
-            self.byte(b'0' + (n / 10_000) as u8);
-            self.pair(n / 100 % 100);
-            self.pair(n % 100);
-        }
+/// Writes a number of at most five digits behind the first `at` bytes, and says where it ends.
+#[inline(always)]
+fn five_digits(room: &mut [u8; LINE_ROOM], at: usize, n: u32) -> usize
+    requires room { at + 5 ≤ LINE_ROOM }
+    requires few { n < 100_000 }
+    ensures bytes { take result room.new ≡ take at room.old ++ decimal n }
+    ensures end { result ≤ at + 5 }
+{
+    if n < 10_000 {
+        return four_digits(room, at, n);
     }
+    let hundreds = n / 100;
+    digit(room, at, hundreds / 100);
+    pair(room, at + 1, hundreds % 100);
+    pair(room, at + 3, n % 100);
+    at + 5
+}
 
-    /// Appends a number of at most four digits.
-    #[inline(always)]
-    fn four_digits(&mut self, n: u32)
-        requires room { length self.old + 4 ≤ LINE_ROOM }
-        requires few { n < 10_000 }
-        ensures bytes { self.new ≡ self.old ++ decimal n }
-        ensures len { length self.new ≤ length self.old + 4 }
-    {
-        if n < 100 {
-            self.two_digits(n);
-        } else {
-            self.two_digits(n / 100);
-            self.pair(n % 100);
-        }
+/// The same of at most four digits.
+#[inline(always)]
+fn four_digits(room: &mut [u8; LINE_ROOM], at: usize, n: u32) -> usize
+    requires room { at + 4 ≤ LINE_ROOM }
+    requires few { n < 10_000 }
+    ensures bytes { take result room.new ≡ take at room.old ++ decimal n }
+    ensures end { result ≤ at + 4 }
+{
+    if n < 100 {
+        return two_digits(room, at, n);
     }
+    let hundreds = n / 100;
+    let next = two_digits(room, at, hundreds);
+    pair(room, next, n % 100);
+    next + 2
+}
 
-    /// Appends a number of at most two digits.
-    #[inline(always)]
-    fn two_digits(&mut self, n: u32)
-        requires room { length self.old + 2 ≤ LINE_ROOM }
-        requires few { n < 100 }
-        ensures bytes { self.new ≡ self.old ++ decimal n }
-        ensures len { length self.new ≤ length self.old + 2 }
-    {
-        if n < 10 {
-            self.byte(b'0' + n as u8);
-        } else {
-            self.pair(n);
-        }
+/// The same of at most two digits.
+#[inline(always)]
+fn two_digits(room: &mut [u8; LINE_ROOM], at: usize, n: u32) -> usize
+    requires room { at + 2 ≤ LINE_ROOM }
+    requires few { n < 100 }
+    ensures bytes { take result room.new ≡ take at room.old ++ decimal n }
+    ensures end { result ≤ at + 2 }
+{
+    if n < 10 {
+        digit(room, at, n);
+        return at + 1;
     }
+    pair(room, at, n);
+    at + 2
+}
 
-    /// Appends both digits of a number below 100.
-    #[inline(always)]
-    fn pair(&mut self, n: u32)
-        requires room { length self.old + 2 ≤ LINE_ROOM }
-        requires few { n < 100 }
-        ensures bytes { self.new ≡ self.old ++ (48 + n / 10) ∷ (48 + n % 10) ∷ [] }
-        ensures len { length self.new ≡ length self.old + 2 }
-    {
-        self.byte(b'0' + (n / 10) as u8);
-        self.byte(b'0' + (n % 10) as u8);
-    }
+/// Writes both digits of a number below 100 behind the first `at` bytes.
+#[inline(always)]
+fn pair(room: &mut [u8; LINE_ROOM], at: usize, n: u32)
+    requires room { at + 2 ≤ LINE_ROOM }
+    requires few { n < 100 }
+    ensures bytes { take (at + 2) room.new ≡ take at room.old ++ (48 + n / 10) ∷ (48 + n % 10) ∷ [] }
+{
+    digit(room, at, n / 10);
+    digit(room, at + 1, n % 10);
+}
+
+/// Writes a digit behind the first `at` bytes.
+#[inline(always)]
+fn digit(room: &mut [u8; LINE_ROOM], at: usize, n: u32)
+    requires room { at + 1 ≤ LINE_ROOM }
+    requires few { n < 10 }
+    ensures bytes { take (at + 1) room.new ≡ take at room.old ++ (48 + n) ∷ [] }
+{
+    room[at] = b'0' + n as u8;
 }

@@ -103,12 +103,31 @@ fn next_entry(form: Form, sizes: Sizes, text: &[u8], number: u64) -> Result<Entr
             kept: first_kept(text, number, plain.len),
             cell: plain.cell,
         }),
-        None => {
-            let kept = next_kept(text, number)?;
-            let cell = read_cell(form, sizes, kept.line);
-            Ok(Entry { kept, cell })
-        }
+        None => next_general(form, sizes, text, number),
     }
+}
+
+/// The same, whatever the line's form.
+#[inline(never)]
+fn next_general(form: Form, sizes: Sizes, text: &[u8], number: u64) -> Result<Entry<'_>, u64>
+    requires tall { sizes.rows ≤ 16_384 }
+    requires wide { sizes.cols ≤ 16_384 }
+    requires room { number + length text.now < 2 ^ 63 }
+    ensures kept { IfOk result (λ entry. lines_from number (lines_of text.now)
+        ≡ record { number = entry.kept.number; words = words_of entry.kept.line.now } ∷ lines_from (entry.kept.number + 1) (lines_of entry.kept.rest.now)) }
+    ensures left { IfOk result (λ entry. entry.kept.number + 1 + length (lines_of entry.kept.rest.now) ≡ number + length (lines_of text.now)) }
+    ensures room { IfOk result (λ entry. entry.kept.number + 1 + length entry.kept.rest.now ≤ number + length text.now) }
+    ensures shorter { IfOk result (λ entry. length entry.kept.rest.now < length text.now) }
+    ensures none { IfErr result (λ end. lines_from number (lines_of text.now) ≡ []) }
+    ensures end { IfErr result (λ end. end ≡ number + length (lines_of text.now)) }
+    ensures value { IfOk result (λ entry. entry.cell ≡ cell_by integer_of form sizes (words_of entry.kept.line.now)) }
+    ensures row { IfOk result (λ entry. IfOk entry.cell (λ t. t.i < sizes.rows)) }
+    ensures col { IfOk result (λ entry. IfOk entry.cell (λ t. t.j < sizes.cols)) }
+    ensures limit { IfOk result (λ entry. IfOk entry.cell (λ t. nat_abs t.v ≤ 1_000_000_000_000)) }
+{
+    let kept = next_kept(text, number)?;
+    let cell = read_cell(form, sizes, kept.line);
+    Ok(Entry { kept, cell })
 }
 
 fn bad(line: u64, reason: Reason) -> BadLine

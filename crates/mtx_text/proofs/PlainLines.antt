@@ -2,7 +2,7 @@
 use Rattle.std.proofs.Common.{◌≡◌, ◌≢◌, ℕ, zero, suc, ◌+◌, ◌-◌, ◌*◌, ◌%◌, ◌^◌, ◌<◌, ◌≤◌, nat_lt, true, false, List, [], ◌∷◌, length, get_or, take, drop, min, map, refl, sym, ◌∙◌, ap, subst, add-one, ne_eqb, length-take-le, arith}
 use native.Mathlib.Numerals.{unary_clauses}
 use Rattle.std.proofs.Math.Nat.{pow-le-pow_right}
-use Rattle.std.proofs.lemmas.Bool.{and_parts, leb-true, lt-ltb}
+use Rattle.std.proofs.lemmas.Bool.{and_parts, leb-true, le-leb, lt-ltb}
 use Rattle.std.specs.List.{list_all, slice_split, onto_first}
 use Rattle.std.specs.Option.{option_map}
 use Rattle.std.specs.Prelude.{Some, nat_le}
@@ -254,3 +254,9 @@ digit_more text i size next here digit sum n =
 
 pub none_yet : (text : List ℕ) → NumberTo text 0 0
 none_yet text = record { digits = refl; value = λ few. refl; below = λ few. omega arith }
+
+pub digit_from : (b d : ℕ) → b < 256 → d ≡ (b + 18_446_744_073_709_551_568) % 18_446_744_073_709_551_616 → d ≤ 9 → (is_ascii_digit b ≡ true) × (d ≡ b - 48)
+digit_from b d byte is small =
+    let low : 48 ≤ b = omega (arith, byte, is, small) in
+    let high : b ≤ 57 = omega (arith, byte, is, small) in
+    (rw (le-leb 48 b low, le-leb b 57 high) refl, omega (arith, low, high, is))

@@ -61,9 +61,9 @@ fn plain_three(text: &[u8]) -> Option<Plain>
     ensures fields { IfSome result (λ p. Some (p.fields.row, p.fields.column, p.fields.value)
         ≡ option_map read_three (fields_of Kind.Integer (words_of (take p.len text.now)))) }
 {
-    let row = digits_to(b' ', text)?;
+    let row = few_to(b' ', text)?;
     let after_row = behind(row.len, text);
-    let column = digits_to(b' ', after_row)?;
+    let column = few_to(b' ', after_row)?;
     let last = last_word(behind(column.len, after_row))?;
     Some(Plain {
         fields: Fields {
@@ -83,7 +83,7 @@ fn plain_two(text: &[u8]) -> Option<Plain>
     ensures fields { IfSome result (λ p. Some (p.fields.row, p.fields.column, p.fields.value)
         ≡ option_map read_three (fields_of Kind.Pattern (words_of (take p.len text.now)))) }
 {
-    let row = digits_to(b' ', text)?;
+    let row = few_to(b' ', text)?;
     let last = last_word(behind(row.len, text))?;
     Some(Plain {
         fields: Fields {
@@ -125,7 +125,21 @@ fn last_word(text: &[u8]) -> Option<Last>
     })
 }
 
-/// The digits that a text begins with, where they are few and the byte `end` follows.
+/// The digits that a text begins with, where they are as few as an index has and the byte `end` follows.
+#[inline(always)]
+fn few_to(end: u8, text: &[u8]) -> Option<Digits>
+    ensures { IfSome result (λ d. DigitsTo end text.now d.len d.size) }
+{
+    if text.len() <= UNROLLED {
+        return None;
+    }
+    match few_digits(text) {
+        Err(digits) if digits.len > 0 && text[digits.len] == end => Some(digits),
+        _ => None,
+    }
+}
+
+/// The digits that a text begins with, where they are at most `MOST_DIGITS` and the byte `end` follows.
 #[inline(always)]
 fn digits_to(end: u8, text: &[u8]) -> Option<Digits>
     ensures { IfSome result (λ d. DigitsTo end text.now d.len d.size) }
@@ -183,18 +197,18 @@ fn digit_more(text: &[u8], digits: Digits) -> Result<Digits, Digits>
     ensures read { IfOk result (λ d. IsRead text.now d) }
     ensures same { IfErr result (λ d. d ≡ digits) }
 {
-    let b = text[digits.len];
-    if !b.is_ascii_digit() {
+    let digit = (text[digits.len] as u64).wrapping_sub(b'0' as u64);
+    if digit > 9 {
         return Err(digits);
     }
     Ok(Digits {
-        size: digits.size.wrapping_mul(10).wrapping_add((b - b'0') as u64),
+        size: digits.size * 10 + digit,
         len: digits.len + 1,
     })
 }
 
 /// The digits that a text begins with, however many, where another byte follows.
-#[inline(never)]
+#[inline(always)]
 fn more_digits(text: &[u8]) -> Option<Digits>
     ensures within { IfSome result (λ d. d.len < length text.now) }
     ensures digits { IfSome result (λ d. list_all is_ascii_digit (take d.len text.now) ≡ true) }

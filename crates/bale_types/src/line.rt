@@ -6,8 +6,8 @@ ghost use Rattle.std.specs.Fmt.{decimal, signed_decimal};
 use itoa::{Buffer, Integer};
 use std::marker::Model;
 
-/// How many bytes a line may have: enough for three numbers of 64 bits, each with a blank or LF.
-pub const LINE_ROOM: usize = 64;
+/// How many bytes a line may have: enough for three numbers of 64 bits, each with a short word.
+pub const LINE_ROOM: usize = 80;
 
 /// A line of up to `LINE_ROOM` bytes.
 #[derive(Drop)]

@@ -138,9 +138,9 @@ pub(crate) fn write_line<K: Sink>(out: &mut Out<'_, K>, j: u32, count: u64) -> R
     ensures same_sink { out.new.sink.ghost_name ≡ out.old.sink.ghost_name }
 {
     let mut line = Line::new();
-    line.number(j + 1);
+    line.natural((j + 1) as u64);
     line.byte(b' ');
-    line.number(count);
+    line.natural(count);
     line.byte(b'\n');
-    out.text(line.bytes())
+    out.line(&line)
 }

@@ -176,11 +176,11 @@ pub(crate) fn write_line<K: Sink>(
     ensures same_sink { out.new.sink.ghost_name ≡ out.old.sink.ghost_name }
 {
     let mut line = Line::new();
-    line.number(i + 1);
+    line.natural((i + 1) as u64);
     line.byte(b' ');
-    line.number(j + 1);
+    line.natural((j + 1) as u64);
     line.byte(b' ');
-    line.number(sum);
+    line.integer(sum);
     line.byte(b'\n');
-    out.text(line.bytes())
+    out.line(&line)
 }

@@ -41,11 +41,11 @@ fn write_line<K: Sink>(out: &mut Out<'_, K>, x: u64, row: u32, column: u32) -> R
     ensures same_sink { out.new.sink.ghost_name ≡ out.old.sink.ghost_name }
 {
     let mut line = Line::new();
-    line.number(x + 1);
+    line.natural(x + 1);
     line.byte(b' ');
-    line.number(row as u64 + 1);
+    line.natural(row as u64 + 1);
     line.byte(b' ');
-    line.number(column as u64 + 1);
+    line.natural(column as u64 + 1);
     line.byte(b'\n');
-    out.text(line.bytes())
+    out.line(&line)
 }

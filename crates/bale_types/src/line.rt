@@ -1,12 +1,13 @@
 //! A line of an answer before it is written: put together in place, and handed on by one call of
 //! `Out::text`.
-ghost use Rattle.std.specs.Prelude.{◌≡◌, ◌+◌, ◌≤◌, [], ◌∷◌, ◌++◌, length};
+ghost use Rattle.std.specs.Prelude.{◌≡◌, ◌+◌, ◌/◌, ◌%◌, ◌<◌, ◌≤◌, [], ◌∷◌, ◌++◌, length, take};
+ghost use Rattle.std.specs.Fmt.{decimal, signed_decimal};
 
 use itoa::{Buffer, Integer};
 use std::marker::Model;
 
-/// How many bytes a line may have: enough for four numbers of 64 bits, each with a blank or LF.
-pub const LINE_ROOM: usize = 96;
+/// How many bytes a line may have: enough for three numbers of 64 bits, each with a short word.
+pub const LINE_ROOM: usize = 80;
 
 /// A line of up to `LINE_ROOM` bytes.
 #[derive(Drop)]
@@ -40,6 +41,7 @@ impl Line {
     }
 
     /// Appends one byte, for which there must be room.
+    #[inline(always)]
     pub fn byte(&mut self, b: u8)
         requires { length self.old + 1 ≤ LINE_ROOM }
         ensures bytes { self.new ≡ self.old ++ b ∷ [] }
@@ -71,10 +73,140 @@ impl Line {
         self.text(buffer.format(n).as_bytes());
     }
 
+    /// Appends the decimal text of `n`, for the longest of whose type there must be room: 20 bytes. Up to
+    /// five digits, as rows and columns have, are written in place.
+    #[inline(always)]
+    pub fn natural(&mut self, n: u64)
+        requires { length self.old + 20 ≤ LINE_ROOM }
+        ensures bytes { self.new ≡ self.old ++ decimal n }
+        ensures len { length self.new ≤ length self.old + 20 }
+    {
+        if n < 100_000 {
+            self.len = five_digits(&mut self.room, self.len, n as u32);
+        } else {
+            self.number(n);
+        }
+    }
+
+    /// The same for a number with or without a sign.
+    #[inline(always)]
+    pub fn integer(&mut self, n: i64)
+        requires { length self.old + 20 ≤ LINE_ROOM }
+        ensures bytes { self.new ≡ self.old ++ signed_decimal n }
+        ensures len { length self.new ≤ length self.old + 20 }
+    {
+        if 0 <= n && n < 100_000 {
+            self.len = five_digits(&mut self.room, self.len, n as u32);
+        } else {
+            self.number(n);
+        }
+    }
+
+    /// Goes back to the first `n` bytes.
+    #[inline(always)]
+    pub fn cut(&mut self, n: usize)
+        requires { n ≤ length self.old }
+        ensures bytes { self.new ≡ take n self.old }
+        ensures len { length self.new ≡ n }
+    {
+        self.len = n;
+    }
+
     /// The line so far.
     pub fn bytes(&self) -> &[u8]
         ensures { result.now ≡ self.now }
     {
         &self.room[..self.len]
     }
+
+    /// How many bytes the line has.
+    #[inline(always)]
+    pub fn len(&self) -> usize
+        ensures value { result ≡ length self.now }
+        ensures high { result ≤ LINE_ROOM }
+    {
+        self.len
+    }
+
+    /// Copies the whole room to an index of a buffer, whatever the line's length, so that the copy has a fixed size.
+    #[inline(always)]
+    pub(crate) fn lay(&self, buffer: &mut [u8], at: usize)
+        requires { at + LINE_ROOM ≤ length buffer.old }
+        ensures bytes { take (at + length self.now) buffer.new ≡ take at buffer.old ++ self.now }
+        ensures len { length buffer.new ≡ length buffer.old }
+    {
+        buffer[at..at + LINE_ROOM].copy_from_slice(&self.room);
+    }
+}
+
+/// Writes a number of at most five digits behind the first `at` bytes, and says where it ends.
+#[inline(always)]
+fn five_digits(room: &mut [u8; LINE_ROOM], at: usize, n: u32) -> usize
+    requires room { at + 5 ≤ LINE_ROOM }
+    requires few { n < 100_000 }
+    ensures bytes { take result room.new ≡ take at room.old ++ decimal n }
+    ensures end { result ≤ at + 5 }
+{
+    if n < 10_000 {
+        return four_digits(room, at, n);
+    }
+    let hundreds = n / 100;
+    digit(room, at, hundreds / 100);
+    pair(room, at + 1, hundreds % 100);
+    pair(room, at + 3, n % 100);
+    at + 5
+}
+
+/// The same of at most four digits.
+#[inline(always)]
+fn four_digits(room: &mut [u8; LINE_ROOM], at: usize, n: u32) -> usize
+    requires room { at + 4 ≤ LINE_ROOM }
+    requires few { n < 10_000 }
+    ensures bytes { take result room.new ≡ take at room.old ++ decimal n }
+    ensures end { result ≤ at + 4 }
+{
+    if n < 100 {
+        return two_digits(room, at, n);
+    }
+    let hundreds = n / 100;
+    let next = two_digits(room, at, hundreds);
+    pair(room, next, n % 100);
+    next + 2
+}
+
+/// The same of at most two digits.
+#[inline(always)]
+fn two_digits(room: &mut [u8; LINE_ROOM], at: usize, n: u32) -> usize
+    requires room { at + 2 ≤ LINE_ROOM }
+    requires few { n < 100 }
+    ensures bytes { take result room.new ≡ take at room.old ++ decimal n }
+    ensures end { result ≤ at + 2 }
+{
+    if n < 10 {
+        digit(room, at, n);
+        return at + 1;
+    }
+    pair(room, at, n);
+    at + 2
+}
+
+/// Writes both digits of a number below 100 behind the first `at` bytes.
+#[inline(always)]
+fn pair(room: &mut [u8; LINE_ROOM], at: usize, n: u32)
+    requires room { at + 2 ≤ LINE_ROOM }
+    requires few { n < 100 }
+    ensures bytes { take (at + 2) room.new ≡ take at room.old ++ (48 + n / 10) ∷ (48 + n % 10) ∷ [] }
+{
+    digit(room, at, n / 10);
+    digit(room, at + 1, n % 10);
+}
+
+/// Writes a digit behind the first `at` bytes.
+#[inline(always)]
+fn digit(room: &mut [u8; LINE_ROOM], at: usize, n: u32)
+    requires room { at + 1 ≤ LINE_ROOM }
+    requires few { n < 10 }
+    ensures bytes { take (at + 1) room.new ≡ take at room.old ++ (48 + n) ∷ [] }
+{
+    room[at] = b'0' + n as u8;
 }

@@ -11,6 +11,7 @@ ghost use Rattle.bale_types.specs.Stream.{after, HasCause, IsFront};
 ghost use Rattle.bale_types.specs.declared.out.TheConstants.{BUFFER};
 
 use super::fault::Failed;
+use super::line::{LINE_ROOM, Line};
 use super::stream::Sink;
 use itoa::Buffer;
 
@@ -92,6 +93,32 @@ impl<'a, K: Sink> Out<'a, K> {
             at += self.fill(&t[at..])?;
         }
         Ok(())
+    }
+
+    /// Appends a line. Where the buffer has room for the longest, it is copied without a look at its length.
+    ///
+    /// # Errors
+    ///
+    /// `Failed` where the sink's faults rose in this call.
+    #[inline(always)]
+    pub fn line(&mut self, line: &Line) -> Result<(), Failed>
+        ensures ok { OnOk result (appended K.taken self.new ≡ after (appended K.taken self.old) line.now) }
+        ensures err { OnErr result
+            (IsFront (K.taken self.new.sink.now) (after (appended K.taken self.old) line.now)) }
+        ensures kept { OnErr result (IsFront (appended K.taken self.old) (appended K.taken self.new)) }
+        ensures part { OnErr result (IsFront (appended K.taken self.new) (after (appended K.taken self.old) line.now)) }
+        ensures cause { HasCause (K.faults self.old.sink.now) (K.faults self.new.sink.now) result }
+        ensures never_falls { K.faults self.old.sink.now ≤ K.faults self.new.sink.now }
+        ensures gathers { self.old.len + length line.now < 4096 → self.new.sink.now ≡ self.old.sink.now }
+        ensures handed { self.old.len < 4096 → OnOk result (self.new.len < 4096) }
+        ensures grows { IsFront (K.taken self.old.sink.now) (K.taken self.new.sink.now) }
+        ensures same_sink { self.new.sink.ghost_name ≡ self.old.sink.ghost_name }
+    {
+        if self.len < BUFFER - LINE_ROOM {
+            self.lay(line);
+            return Ok(());
+        }
+        self.text(line.bytes())
     }
 
     /// Appends the decimal text of `n`.
@@ -186,6 +213,20 @@ impl<'a, K: Sink> Out<'a, K> {
             self.flush()?;
         }
         Ok(())
+    }
+
+    /// Lays a line behind the bytes that the buffer holds, and what is left of its room after it.
+    #[inline(always)]
+    fn lay(&mut self, line: &Line)
+        requires { self.old.len + LINE_ROOM < BUFFER }
+        ensures appended { appended K.taken self.new ≡ after (appended K.taken self.old) line.now }
+        ensures len { self.new.len ≡ self.old.len + length line.now }
+        ensures room { self.new.len < BUFFER }
+        ensures sink { self.new.sink ≡ self.old.sink }
+    {
+        let len = self.len;
+        line.lay(&mut self.buffer, len);
+        self.len = len + line.len();
     }
 
     /// Copies as many bytes from the front of `t` as fit behind those that the buffer holds.

@@ -26,21 +26,21 @@ pub fn write_vertex<K: Sink>(
     ensures same_sink { out.new.sink.ghost_name ≡ out.old.sink.ghost_name }
 {
     let mut line = Line::new();
-    line.number(v + 1);
+    line.natural((v + 1) as u64);
     line.byte(b' ');
     put_weight(&mut line, weight);
     line.byte(b'\n');
-    out.text(line.bytes())
+    out.line(&line)
 }
 
 /// Appends a weight, or `-` where there is none.
 fn put_weight(line: &mut Line, weight: Option<u64>)
-    requires { length line.old + 20 ≤ 96 }
+    requires { length line.old + 20 ≤ 64 }
     ensures bytes { line.new ≡ line.old ++ weight_text weight }
     ensures len { length line.new ≤ length line.old + 20 }
 {
     match weight {
         None => line.byte(b'-'),
-        Some(n) => line.number(n),
+        Some(n) => line.natural(n),
     }
 }

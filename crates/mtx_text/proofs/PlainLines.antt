@@ -2,7 +2,7 @@
 use Rattle.std.proofs.Common.{◌≡◌, ◌≢◌, ℕ, zero, suc, ◌+◌, ◌-◌, ◌*◌, ◌%◌, ◌^◌, ◌<◌, ◌≤◌, nat_lt, true, false, List, [], ◌∷◌, length, get_or, take, drop, min, map, refl, sym, ◌∙◌, ap, subst, add-one, ne_eqb, length-take-le, arith}
 use native.Mathlib.Numerals.{unary_clauses}
 use Rattle.std.proofs.Math.Nat.{pow-le-pow_right}
-use Rattle.std.proofs.lemmas.Bool.{and_parts, leb-true, lt-ltb}
+use Rattle.std.proofs.lemmas.Bool.{and_parts, leb-true, le-leb, lt-ltb}
 use Rattle.std.specs.List.{list_all, slice_split, onto_first}
 use Rattle.std.specs.Option.{option_map}
 use Rattle.std.specs.Prelude.{Some, nat_le}
@@ -14,7 +14,7 @@ use Rattle.mtx_text.specs.Lines.{pieces, without_cr, lines_of, lines_from, words
 use Rattle.mtx_text.specs.Integers.{integer_of}
 use Rattle.mtx_text.specs.Grammar.{fields_of}
 use Rattle.mtx_text.specs.Capped.{capped, read_three}
-use Rattle.mtx_text.specs.PlainLines.{LineAt, DigitsTo, LastAt}
+use Rattle.mtx_text.specs.PlainLines.{LineAt, DigitsTo, LastAt, NumberTo}
 use Rattle.mtx_text.proofs.Digits.{digits_step, all_step}
 use Rattle.mtx_text.proofs.Numbered.{digit_low, digit_plain, number_is}
 
@@ -234,12 +234,6 @@ pub unwrapped : (size digit : ℕ) → size < 100_000_000_000_000_000 → digit 
     → ((size * 10) % 18_446_744_073_709_551_616 + digit) % 18_446_744_073_709_551_616 ≡ size * 10 + digit
 unwrapped size digit below small = omega (arith, below, small)
 
--- the first i bytes of a text are digits, and `size` is their number, where they are few
-pub record NumberTo (text : List ℕ) (i size : ℕ) : Type 0 where
-  pub digits : list_all is_ascii_digit (take i text) ≡ true
-  pub value : i ≤ 18 → size ≡ min (digits_value 10 (take i text)) 1_000_000_000_000_000_000
-  pub below : i ≤ 18 → size < 10 ^ i
-
 pub digit_more : (text : List ℕ) (i size next : ℕ) → i < length text → is_ascii_digit (get_or text i 0) ≡ true
     → (size < 100_000_000_000_000_000 → next ≡ size * 10 + (get_or text i 0 - 48)) → NumberTo text i size → NumberTo text (i + 1) next
 digit_more text i size next here digit sum n =
@@ -257,3 +251,12 @@ digit_more text i size next here digit sum n =
           let below = below_power i size (omega (arith, few)) (n.below low) in
           rw (sum below) (next_power i size (b - 48) (n.below low) small);
     }
+
+pub none_yet : (text : List ℕ) → NumberTo text 0 0
+none_yet text = record { digits = refl; value = λ few. refl; below = λ few. omega arith }
+
+pub digit_from : (b d : ℕ) → b < 256 → d ≡ (b + 18_446_744_073_709_551_568) % 18_446_744_073_709_551_616 → d ≤ 9 → (is_ascii_digit b ≡ true) × (d ≡ b - 48)
+digit_from b d byte is small =
+    let low : 48 ≤ b = omega (arith, byte, is, small) in
+    let high : b ≤ 57 = omega (arith, byte, is, small) in
+    (rw (le-leb 48 b low, le-leb b 57 high) refl, omega (arith, low, high, is))

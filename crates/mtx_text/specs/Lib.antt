@@ -13,5 +13,6 @@ pub mod Reasons
 pub mod Places
 pub mod PlainLines
 pub mod Written
+pub mod Fronts
 pub mod Permutations
 pub mod Seeds

@@ -1,10 +1,11 @@
 -- The line that a text begins with, and its words, by how many bytes they have.
-use Rattle.std.specs.Prelude.{ℕ, ◌≡◌, ◌<◌, true, List, [], ◌∷◌, length, take, drop, get_or, min, Some}
+use Rattle.std.specs.Prelude.{ℕ, ◌≡◌, ◌^◌, ◌≤◌, ◌<◌, true, List, [], ◌∷◌, length, take, drop, get_or, min, Some}
 use Rattle.std.specs.List.{list_all}
 use Rattle.std.specs.Option.{option_map}
 use Rattle.std.specs.Char.{is_ascii_digit}
 use Rattle.std.specs.Str.Parse.{digits_value}
 use Rattle.mtx_text.specs.declared.integer.Integer.{Integer}
+use Rattle.mtx_text.specs.declared.plain.Digits.{Digits}
 use Rattle.mtx_text.specs.Lines.{lines_of, words_of}
 use Rattle.mtx_text.specs.Integers.{integer_of}
 use Rattle.mtx_text.specs.Capped.{capped}
@@ -31,3 +32,14 @@ pub record LastAt (text : List ℕ) (len : ℕ) (z : Integer) : Type 0 where
   pub line : LineAt text len
   pub word : words_of (take len text) ≡ take len text ∷ []
   pub value : Some z ≡ option_map capped (integer_of (take len text))
+
+-- A text's first `len` bytes are digits, and `size` is their number, where they are at most 18.
+--   of "12 7/" with 2 and 12
+pub record NumberTo (text : List ℕ) (len size : ℕ) : Type 0 where
+  pub digits : list_all is_ascii_digit (take len text) ≡ true
+  pub value : len ≤ 18 → size ≡ min (digits_value 10 (take len text)) 1_000_000_000_000_000_000
+  pub below : len ≤ 18 → size < 10 ^ len
+
+-- The same of digits that were read, with more bytes behind them.
+abbrev pub IsRead : List ℕ → Digits → Type 0
+IsRead text d = NumberTo text d.len d.size

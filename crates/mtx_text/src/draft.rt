@@ -1,5 +1,5 @@
 //! Entry lines read without regard to duplicates, up to the first line that is bad for another reason.
-ghost use Rattle.std.specs.Prelude.{◌≡◌, ◌+◌, ◌<◌, ◌≤◌, ◌++◌, ◌^◌, [], ◌∷◌, max, length, IfOk, IfErr, OnOk, nat_abs};
+ghost use Rattle.std.specs.Prelude.{ℕ, ◌≡◌, ◌+◌, ◌*◌, ◌<◌, ◌≤◌, ◌++◌, ◌^◌, [], ◌∷◌, max, length, IfOk, IfErr, OnOk, nat_abs};
 ghost use Rattle.std.specs.List.{All};
 ghost use Rattle.mtx_text.specs.Lines.{lines_of, lines_from, words_of};
 ghost use Rattle.mtx_text.specs.Integers.{integer_of};
@@ -48,14 +48,18 @@ pub(crate) fn read_draft(
     ensures few { IfOk result (λ draft. length draft.entries.items ≤ 524_288) }
 {
     let mut entries = Vec::new(alloc);
-    let mut left = sizes.entries;
-    let mut rest = text;
-    let mut number = number;
+    let mut run = Run {
+        rest: text,
+        number,
+        left: sizes.entries,
+        careful: 0,
+    };
     loop {
-        let Entry { kept, cell } = match next_entry(form, sizes, rest, number) {
+        run = read_plain(form, sizes, &mut entries, run)?;
+        let Entry { kept, cell } = match next_entry(form, sizes, run.rest, run.number) {
             Ok(entry) => entry,
             Err(end) => {
-                let stop = if left > 0 {
+                let stop = if run.left > 0 {
                     Some(bad(end, Reason::TooFew))
                 } else {
                     None
@@ -63,7 +67,7 @@ pub(crate) fn read_draft(
                 return Ok(Draft { entries, stop });
             }
         };
-        if left == 0 {
+        if run.left == 0 {
             let stop = Some(bad(kept.number, Reason::TooMany));
             return Ok(Draft { entries, stop });
         }
@@ -74,14 +78,87 @@ pub(crate) fn read_draft(
                 return Ok(Draft { entries, stop });
             }
         }
-        left -= 1;
-        rest = kept.rest;
-        number = kept.number + 1;
+        run = Run {
+            rest: kept.rest,
+            number: kept.number + 1,
+            left: run.left - 1,
+            careful: run.careful,
+        };
     }
 }
 
+/// How far a text was read.
+#[derive(Clone, Copy)]
+struct Run<'a> {
+    /// What is still to be read.
+    rest: &'a [u8],
+    /// The number of its first line.
+    number: u64,
+    /// How many entry lines are still to come.
+    left: u32,
+    /// How many lines are read before a plain one is looked for again.
+    careful: u32,
+}
+
+/// How many plain lines pay for the look at one that isn't.
+const PAUSE: u64 = 16;
+
+/// Reads on as long as lines are plain and their entries in range. Where lines that aren't plain come often, most of them are not
+/// even looked at.
+#[inline(never)]
+#[tactic(auto, using(crate::proofs::Steps::draft_ok))]
+fn read_plain<'a>(
+    form: Form,
+    sizes: Sizes,
+    entries: &mut Vec<Triple>,
+    run: Run<'a>,
+) -> Result<Run<'a>, AllocError>
+    requires tall { sizes.rows ≤ 16_384 }
+    requires wide { sizes.cols ≤ 16_384 }
+    requires room { run.number + length run.rest.now < 2 ^ 63 }
+    ensures draft { (end : ℕ) → IfOk result (λ r. draft_of form sizes end r.left entries.new.items (lines_from r.number (lines_of r.rest.now))
+        ≡ draft_of form sizes end run.entry.left entries.old.items (lines_from run.entry.number (lines_of run.entry.rest.now))) }
+    ensures lines { IfOk result (λ r. r.number + length (lines_of r.rest.now) ≡ run.entry.number + length (lines_of run.entry.rest.now)) }
+    ensures room { IfOk result (λ r. r.number + length r.rest.now ≤ run.entry.number + length run.entry.rest.now) }
+    ensures on { IfOk result (λ r. length r.rest.now ≤ length run.entry.rest.now) }
+    ensures within { OnOk result (All (λ t. IsWithin (max sizes.rows sizes.cols) t) entries.old.items → All (λ t. IsWithin (max sizes.rows sizes.cols) t) entries.new.items) }
+    ensures few { IfOk result (λ r. length entries.new.items + 2 * r.left ≤ length entries.old.items + 2 * run.entry.left) }
+{
+    if run.careful > 0 {
+        return Ok(Run {
+            rest: run.rest,
+            number: run.number,
+            left: run.left,
+            careful: run.careful - 1,
+        });
+    }
+    let mut rest = run.rest;
+    let mut number = run.number;
+    let mut left = run.left;
+    while left > 0 {
+        let Some(plain) = plain_cell(form, sizes, rest) else {
+            break;
+        };
+        let Ok(t) = plain.cell else {
+            break;
+        };
+        let kept = first_kept(rest, number, plain.len);
+        push(entries, sizes, form.symmetry, t)?;
+        rest = kept.rest;
+        number = kept.number + 1;
+        left -= 1;
+    }
+    let careful = if number - run.number < PAUSE { 15 } else { 0 };
+    Ok(Run {
+        rest,
+        number,
+        left,
+        careful,
+    })
+}
+
 /// The next line that counts, and what it names; else the number of the end line.
-#[inline(always)]
+#[inline(never)]
 fn next_entry(form: Form, sizes: Sizes, text: &[u8], number: u64) -> Result<Entry<'_>, u64>
     requires tall { sizes.rows ≤ 16_384 }
     requires wide { sizes.cols ≤ 16_384 }
@@ -98,17 +175,9 @@ fn next_entry(form: Form, sizes: Sizes, text: &[u8], number: u64) -> Result<Entr
     ensures col { IfOk result (λ entry. IfOk entry.cell (λ t. t.j < sizes.cols)) }
     ensures limit { IfOk result (λ entry. IfOk entry.cell (λ t. nat_abs t.v ≤ 1_000_000_000_000)) }
 {
-    match plain_cell(form, sizes, text) {
-        Some(plain) => Ok(Entry {
-            kept: first_kept(text, number, plain.len),
-            cell: plain.cell,
-        }),
-        None => {
-            let kept = next_kept(text, number)?;
-            let cell = read_cell(form, sizes, kept.line);
-            Ok(Entry { kept, cell })
-        }
-    }
+    let kept = next_kept(text, number)?;
+    let cell = read_cell(form, sizes, kept.line);
+    Ok(Entry { kept, cell })
 }
 
 fn bad(line: u64, reason: Reason) -> BadLine

@@ -1,6 +1,6 @@
 //! Plain entry lines, read in one pass: numbers of few digits, one space between two of them, and LF at once
 //! behind the last. Most texts have no other lines; whatever isn't of this form is read the general way.
-ghost use Rattle.std.specs.Prelude.{◌≡◌, ◌<◌, ◌≤◌, true, false, Some, length, take, drop, min, IfSome};
+ghost use Rattle.std.specs.Prelude.{◌≡◌, ◌<◌, ◌≤◌, true, false, Some, ◌+◌, length, take, drop, min, IfSome, IfOk, IfErr};
 ghost use Rattle.std.specs.List.{list_all};
 ghost use Rattle.std.specs.Option.{option_map};
 ghost use Rattle.std.specs.Char.{is_ascii_digit};
@@ -8,7 +8,7 @@ ghost use Rattle.std.specs.Str.Parse.{digits_value};
 ghost use Rattle.mtx_text.specs.Lines.{words_of, is_skipped};
 ghost use Rattle.mtx_text.specs.Grammar.{fields_of};
 ghost use Rattle.mtx_text.specs.Capped.{read_three};
-ghost use Rattle.mtx_text.specs.PlainLines.{LineAt, DigitsTo, LastAt};
+ghost use Rattle.mtx_text.specs.PlainLines.{LineAt, DigitsTo, LastAt, IsRead};
 
 use crate::integer::Integer;
 use crate::kind::Kind;
@@ -61,9 +61,9 @@ fn plain_three(text: &[u8]) -> Option<Plain>
     ensures fields { IfSome result (λ p. Some (p.fields.row, p.fields.column, p.fields.value)
         ≡ option_map read_three (fields_of Kind.Integer (words_of (take p.len text.now)))) }
 {
-    let row = digits_to(b' ', text)?;
+    let row = few_to(b' ', text)?;
     let after_row = behind(row.len, text);
-    let column = digits_to(b' ', after_row)?;
+    let column = few_to(b' ', after_row)?;
     let last = last_word(behind(column.len, after_row))?;
     Some(Plain {
         fields: Fields {
@@ -83,7 +83,7 @@ fn plain_two(text: &[u8]) -> Option<Plain>
     ensures fields { IfSome result (λ p. Some (p.fields.row, p.fields.column, p.fields.value)
         ≡ option_map read_three (fields_of Kind.Pattern (words_of (take p.len text.now)))) }
 {
-    let row = digits_to(b' ', text)?;
+    let row = few_to(b' ', text)?;
     let last = last_word(behind(row.len, text))?;
     Some(Plain {
         fields: Fields {
@@ -125,7 +125,21 @@ fn last_word(text: &[u8]) -> Option<Last>
     })
 }
 
-/// The digits that a text begins with, where they are few and the byte `end` follows.
+/// The digits that a text begins with, where they are as few as an index has and the byte `end` follows.
+#[inline(always)]
+fn few_to(end: u8, text: &[u8]) -> Option<Digits>
+    ensures { IfSome result (λ d. DigitsTo end text.now d.len d.size) }
+{
+    if text.len() <= UNROLLED {
+        return None;
+    }
+    match few_digits(text) {
+        Err(digits) if digits.len > 0 && text[digits.len] == end => Some(digits),
+        _ => None,
+    }
+}
+
+/// The digits that a text begins with, where they are at most `MOST_DIGITS` and the byte `end` follows.
 #[inline(always)]
 fn digits_to(end: u8, text: &[u8]) -> Option<Digits>
     ensures { IfSome result (λ d. DigitsTo end text.now d.len d.size) }
@@ -142,6 +156,60 @@ fn digits_to(end: u8, text: &[u8]) -> Option<Digits>
 /// is cheaper to count them once than to look at each whether it is one too many.
 #[inline(always)]
 fn leading(text: &[u8]) -> Option<Digits>
+    ensures within { IfSome result (λ d. d.len < length text.now) }
+    ensures digits { IfSome result (λ d. list_all is_ascii_digit (take d.len text.now) ≡ true) }
+    ensures value { IfSome result (λ d. d.len ≤ 18 → d.size ≡ min (digits_value 10 (take d.len text.now)) 1_000_000_000_000_000_000) }
+{
+    if text.len() <= UNROLLED {
+        return more_digits(text);
+    }
+    match few_digits(text) {
+        Err(digits) => Some(digits),
+        Ok(_) => more_digits(text),
+    }
+}
+
+/// As many digits as are read one by one, without a loop.
+const UNROLLED: usize = 5;
+
+/// The digits that a text begins with, as an error where they are fewer than `UNROLLED`.
+#[inline(always)]
+fn few_digits(text: &[u8]) -> Result<Digits, Digits>
+    requires { 5 < length text.now }
+    ensures few { IfErr result (λ d. d.len ≤ 5) }
+    ensures read { IfErr result (λ d. IsRead text.now d) }
+{
+    let one = digit_more(text, Digits { size: 0, len: 0 })?;
+    let two = digit_more(text, one)?;
+    let three = digit_more(text, two)?;
+    let four = digit_more(text, three)?;
+    let five = digit_more(text, four)?;
+    digit_more(text, five)
+}
+
+/// One digit more, or as an error the digits as they are, where no digit follows.
+#[inline(always)]
+fn digit_more(text: &[u8], digits: Digits) -> Result<Digits, Digits>
+    requires within { digits.len < length text.now }
+    requires few { digits.len ≤ 5 }
+    requires read { IsRead text.now digits }
+    ensures more { IfOk result (λ d. d.len ≡ digits.len + 1) }
+    ensures read { IfOk result (λ d. IsRead text.now d) }
+    ensures same { IfErr result (λ d. d ≡ digits) }
+{
+    let digit = (text[digits.len] as u64).wrapping_sub(b'0' as u64);
+    if digit > 9 {
+        return Err(digits);
+    }
+    Ok(Digits {
+        size: digits.size * 10 + digit,
+        len: digits.len + 1,
+    })
+}
+
+/// The digits that a text begins with, however many, where another byte follows.
+#[inline(always)]
+fn more_digits(text: &[u8]) -> Option<Digits>
     ensures within { IfSome result (λ d. d.len < length text.now) }
     ensures digits { IfSome result (λ d. list_all is_ascii_digit (take d.len text.now) ≡ true) }
     ensures value { IfSome result (λ d. d.len ≤ 18 → d.size ≡ min (digits_value 10 (take d.len text.now)) 1_000_000_000_000_000_000) }

@@ -1,11 +1,12 @@
 //! A matrix as text.
-ghost use Rattle.std.specs.Prelude.{◌≡◌, ◌≤◌, ◌<◌, ◌+◌, ◌^◌, ◌++◌, Ok, List, length, OnOk, OnErr};
+ghost use Rattle.std.specs.Prelude.{◌≡◌, ◌≤◌, ◌<◌, ◌+◌, ◌^◌, ◌++◌, Ok, List, length, take, OnOk, OnErr};
 ghost use Rattle.std.specs.List.{flat_map};
 ghost use Rattle.bale_types.specs.Stream.{after, HasCause, IsFront};
 ghost use Rattle.bale_types.specs.Out.{appended};
 ghost use Rattle.bale_types.specs.declared.triple.Triple.{Triple};
 ghost use Rattle.mtx_text.specs.Grammar.{matrix_of};
 ghost use Rattle.mtx_text.specs.Written.{banner_text, size_text, entry_text, text_of};
+ghost use Rattle.mtx_text.specs.Fronts.{row_text, rest_text, Names};
 
 use crate::kind::Kind;
 use crate::matrix::Matrix;
@@ -56,13 +57,13 @@ fn write_sizes<K: Sink>(out: &mut Out<'_, K>, m: &Matrix) -> Result<(), Failed>
     ensures same_sink { out.new.sink.ghost_name ≡ out.old.sink.ghost_name }
 {
     let mut line = Line::new();
-    line.number(m.rows());
+    line.natural(m.rows() as u64);
     line.byte(b' ');
-    line.number(m.cols());
+    line.natural(m.cols() as u64);
     line.byte(b' ');
-    line.number(m.len());
+    line.natural(m.len() as u64);
     line.byte(b'\n');
-    out.text(line.bytes())
+    out.line(&line)
 }
 
 fn write_entries<K: Sink>(
@@ -77,14 +78,57 @@ fn write_entries<K: Sink>(
     ensures grows { IsFront (K.taken out.old.sink.now) (K.taken out.new.sink.now) }
     ensures same_sink { out.new.sink.ghost_name ≡ out.old.sink.ghost_name }
 {
+    let mut line = Line::new();
+    let mut front = Front { row: 0, len: 0 };
     for t in entries {
-        write_entry(out, kind, *t)?;
+        front = on_row(&mut line, front, t.i as u64 + 1);
+        write_entry(out, &mut line, kind, *t)?;
     }
     Ok(())
 }
 
+/// What a line's front names: entries of one row share it.
+#[derive(Clone, Copy)]
+struct Front {
+    /// The row, from 1; 0 where the line has no front yet.
+    row: u64,
+    /// How many bytes the front has.
+    len: usize,
+}
+
+/// Leaves a line's front alone, where it is that of a row, and else writes that row's.
 #[inline(always)]
-fn write_entry<K: Sink>(out: &mut Out<'_, K>, kind: Kind, t: Triple) -> Result<(), Failed>
+fn on_row(line: &mut Line, front: Front, row: u64) -> Front
+    requires some { 0 < row }
+    requires front { Names front line.old }
+    ensures line { line.new ≡ row_text row }
+    ensures front { result ≡ record { row = row; len = length line.new } }
+    ensures short { length line.new ≤ 21 }
+{
+    if front.row == row {
+        line.cut(front.len);
+        return front;
+    }
+    line.cut(0);
+    line.natural(row);
+    line.byte(b' ');
+    Front {
+        row,
+        len: line.len(),
+    }
+}
+
+#[inline(always)]
+fn write_entry<K: Sink>(
+    out: &mut Out<'_, K>,
+    line: &mut Line,
+    kind: Kind,
+    t: Triple,
+) -> Result<(), Failed>
+    requires row { line.old ≡ row_text (t.i + 1) }
+    requires short { length line.old ≤ 21 }
+    ensures front { take (length line.old) line.new ≡ line.old }
+    ensures longer { length line.old ≤ length line.new }
     ensures ok { OnOk result (appended K.taken out.new ≡ after (appended K.taken out.old) (entry_text kind t)) }
     ensures err { OnErr result (IsFront (K.taken out.new.sink.now) (after (appended K.taken out.old) (entry_text kind t))) }
     ensures cause { HasCause (K.faults out.old.sink.now) (K.faults out.new.sink.now) result }
@@ -92,14 +136,20 @@ fn write_entry<K: Sink>(out: &mut Out<'_, K>, kind: Kind, t: Triple) -> Result<(
     ensures grows { IsFront (K.taken out.old.sink.now) (K.taken out.new.sink.now) }
     ensures same_sink { out.new.sink.ghost_name ≡ out.old.sink.ghost_name }
 {
-    let mut line = Line::new();
-    line.number(t.i as u64 + 1);
-    line.byte(b' ');
-    line.number(t.j as u64 + 1);
+    finish(line, kind, t);
+    out.line(line)
+}
+
+/// Appends what follows the row in an entry's line.
+#[inline(always)]
+fn finish(line: &mut Line, kind: Kind, t: Triple)
+    requires short { length line.old ≤ 21 }
+    ensures bytes { line.new ≡ line.old ++ rest_text kind t }
+{
+    line.natural(t.j as u64 + 1);
     if let Kind::Integer = kind {
         line.byte(b' ');
-        line.number(t.v);
+        line.integer(t.v);
     }
     line.byte(b'\n');
-    out.text(line.bytes())
 }

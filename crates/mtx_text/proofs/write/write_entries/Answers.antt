@@ -7,6 +7,7 @@ use Rattle.mtx_text.proofs.write.write_entries.Goals as goal
 pub loop-t-preserved : goal.loop-t-preserved
 loop-t-preserved g c = record {
   so_far = pieces_more (entry_text c.args.kind) _ _ _ c.args.entries.now c.loop-t.t-index _ c.loop-t-test.true c.in_ok-write_entry.ensures.ok c.loop-t.invariant.so_far;
+  front = search (rules, c.write_entry.ensures.front, c.write_entry.ensures.longer, c.on_row-front.ensures.line, c.on_row-front.ensures.front, c.on_row-front.ensures.short);
   faults = search rules;
   grows = front_of_front (g.K.Sink.taken c.args.out.now.sink.now) (g.K.Sink.taken c.loop-t.out.sink.now) (g.K.Sink.taken c.write_entry.new.out.sink.now) c.loop-t.invariant.grows c.write_entry.ensures.grows;
   same_sink = search rules;

@@ -1,7 +1,7 @@
 use Rattle.std.proofs.Common.{◌≡◌, ◌-◌, ◌<◌, true, length, get_or, rules, arith}
 use Rattle.std.specs.Char.{is_ascii_digit}
 use Rattle.mtx_text.proofs.PlainLines.{digit_more, digit_small, unwrapped}
-use Rattle.mtx_text.proofs.plain.leading.Goals as goal
+use Rattle.mtx_text.proofs.plain.more_digits.Goals as goal
 
 pub loop-i-preserved : goal.loop-i-preserved
 loop-i-preserved c =

@@ -1,5 +1,0 @@
-use Rattle.mtx_text.proofs.PlainLines.{NumberTo}
-use Rattle.mtx_text.proofs.plain.leading.Given as goal
-
-abbrev pub invariant-loop-i : goal.invariant-loop-i
-invariant-loop-i l = NumberTo l.text l.i l.size

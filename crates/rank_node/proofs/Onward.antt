@@ -1,6 +1,6 @@
 -- What `next` leaves of a node.
-use Rattle.std.proofs.Common.{◌≡◌, ◌≢◌, ℕ, ◌+◌, ◌-◌, ◌^◌, ◌<◌, Bool, true, false, cond, List, length, map, None, sym, ap, subst, ◌∙◌, arith, inl, inr}
-use Rattle.std.proofs.lemmas.Bool.{cases_Bool, true≢false}
+use Rattle.std.proofs.Common.{◌≡◌, ◌≢◌, ℕ, ◌+◌, ◌-◌, ◌^◌, ◌<◌, ◌==◌, ◌||◌, Bool, true, false, cond, List, length, map, None, refl, sym, ap, subst, ◌∙◌, arith, inl, inr}
+use Rattle.std.proofs.lemmas.Bool.{cases_Bool, true≢false, eq-eqb}
 use Rattle.std.proofs.Math.ListN.{get_or-map}
 use Rattle.route_tensor.specs.Grid.{ranks}
 use Rattle.route_tensor.specs.Link.{links}
@@ -57,6 +57,11 @@ moving_on c c' sent got b is =
 pub round_few : (round : ℕ) (voting : Bool) (e : ℕ) → e ≡ epoch_of round voting → e < 2 ^ 63 → round < 2 ^ 63
 round_few round true e is few = omega (arith, is, few)
 round_few round false e is few = omega (arith, is, few)
+
+-- where memory wasn't wanting anywhere, neither here nor by the sum
+pub not_lost : (spoiled : Bool) (sum : ℕ) (lost : Bool) → lost ≡ (spoiled || sum == 2 ^ 64 - 1) → lost ≡ false → (spoiled ≡ false) × (sum ≢ 2 ^ 64 - 1)
+not_lost true sum lost is f = absurd (true≢false (sym is ∙ f))
+not_lost false sum lost is f = (refl, λ e. true≢false (sym (eq-eqb sum (2 ^ 64 - 1) e) ∙ (sym is ∙ f)))
 
 -- a rank that is complete is done
 pub done_of_complete : (c : State) (sent got : Logs) → IsMoving c sent got → c.phase ≡ Complete → c.done ≡ true

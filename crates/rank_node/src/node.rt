@@ -5,7 +5,7 @@ ghost use Rattle.bale_types.specs.declared.item.Item.{Item};
 ghost use Rattle.item_buffer.specs.Contents.{Shipped};
 ghost use Rattle.route_tensor.specs.Grid.{ranks};
 ghost use Rattle.route_tensor.specs.Link.{links};
-ghost use Rattle.route_tensor.specs.Ends.{reader_at};
+ghost use Rattle.route_tensor.specs.Ends.{sender_at, reader_at};
 ghost use Rattle.port_bank.specs.Logs.{Logs};
 ghost use Rattle.port_bank.specs.Flow.{Begins};
 ghost use Rattle.port_bank.specs.Shapes.{IsConveyorShape};
@@ -136,9 +136,12 @@ impl<Q: Program, const CAP: usize, const HOPS: usize> Node<Q, CAP, HOPS> {
         ensures rest { P.rest port.new ≡ P.rest port.old }
         ensures memory { P.Memory.GROWS ≡ false → IsOk result }
 
-        // The lists only grow, by parcels of the conveyor's shape; and an inbox holds at most what it held and what came.
+        // It advances once: the lists only grow, each by one parcel at most, and of the conveyor's shape; and an inbox holds at
+        // most what it held and what came.
         ensures sent_grows { (l : ℕ) → Begins (P.sent port.old l) (P.sent port.new l) }
         ensures got_grows { (l : ℕ) → Begins (P.got port.old l) (P.got port.new l) }
+        ensures one_sent { (l : ℕ) → l < links self.old.conveyor.dims → sender_at self.old.conveyor.dims l ≡ self.old.conveyor.rank → length (P.sent port.new l) ≤ length (P.sent port.old l) + 1 }
+        ensures one_got { (l : ℕ) → l < links self.old.conveyor.dims → reader_at self.old.conveyor.dims l ≡ self.old.conveyor.rank → length (P.got port.new l) ≤ length (P.got port.old l) + 1 }
         ensures shape { (l : ℕ) → IsConveyorShape self.old.conveyor.steady CAP (P.sent port.old l) → IsConveyorShape self.old.conveyor.steady CAP (P.sent port.new l) }
         ensures lies { (l : ℕ) (more : List Shipped) → l < links self.old.conveyor.dims → reader_at self.old.conveyor.dims l ≡ self.old.conveyor.rank → P.got port.new l ≡ P.got port.old l ++ more
             → length (in_of self.new.conveyor l).parcel.untaken ≤ length (in_of self.old.conveyor l).parcel.untaken + length (flat_map (λ p. p.entries) more) }
@@ -205,10 +208,7 @@ impl<Q: Program, const CAP: usize, const HOPS: usize> Node<Q, CAP, HOPS> {
             self.taken.sum = 0;
             return Ok(true);
         }
-        if self.taken.spoiled {
-            return Err(NoMemory);
-        }
-        if self.taken.sum == u64::MAX {
+        if self.taken.is_lost() {
             return Err(NoMemory);
         }
         match end_prog(&mut self.prog, self.taken.sum) {

@@ -1,5 +1,5 @@
 //! Takes in what a conveyor gives.
-ghost use Rattle.std.specs.Prelude.{◌≡◌, ◌≢◌, ℕ, ◌+◌, ◌<◌, ◌≤◌, cond, Bool, false, List, length, Some};
+ghost use Rattle.std.specs.Prelude.{◌≡◌, ◌≢◌, ℕ, ◌+◌, ◌-◌, ◌^◌, ◌<◌, ◌≤◌, ◌==◌, ◌||◌, cond, Bool, false, List, length, Some};
 ghost use Rattle.hop_core.specs.Relay.{waiting};
 ghost use Rattle.hop_core.specs.State.{lowest_unread};
 ghost use Rattle.route_tensor.specs.Grid.{ranks};
@@ -25,6 +25,15 @@ pub struct Taken {
     pub sum: u64,
     /// The program found no memory: what comes for it is dropped.
     pub spoiled: bool,
+}
+
+impl Taken {
+    /// Whether memory was wanting, here or, as the votes say, at some rank: no round follows then.
+    pub(crate) fn is_lost(self) -> bool
+        ensures { result ≡ (self.spoiled || self.sum == 2 ^ 64 - 1) }
+    {
+        self.spoiled || self.sum == u64::MAX
+    }
 }
 
 /// Pulls until nothing is left, and sums or absorbs what comes.

@@ -4,7 +4,7 @@ use Rattle.rank_node.specs.Sending.{is_voting}
 use Rattle.rank_node.specs.Next.{extended}
 use Rattle.rank_node.specs.Nodes.{NodeState, IsNode}
 use Rattle.rank_node.specs.declared.sends.Sends.TheVariants.{Emissions, Nothing}
-use Rattle.rank_node.proofs.Onward.{BeginsNext, unread_same, node_votes, node_work, round_few}
+use Rattle.rank_node.proofs.Onward.{BeginsNext, unread_same, node_votes, node_work, not_lost, round_few}
 use Rattle.rank_node.proofs.node.Node.next.Goals as goal
 
 pub returns-then-not-votes_now-clause-unread : goal.returns-then-not-votes_now-clause-unread
@@ -42,10 +42,11 @@ returns-in-Round-clause-work g c = λ votes e h sent got was.
     let i : IsNode R h inside sent got = subst (λ (m : NodeState g.row.Q.Denot). IsNode R h m sent got) (sym c.self.view_is) was in
     let over = ap (λ (m : NodeState g.row.Q.Denot). m.conveyor.phase) c.self.view_is ∙ c.requires.over in
     let v : is_voting inside.run.sends ≡ true = ap (λ (m : NodeState g.row.Q.Denot). is_voting m.run.sends) c.self.view_is ∙ votes in
+    let fine = not_lost inside.run.spoiled inside.run.sum c.is_lost.result c.is_lost.ensures c.if-is_lost.false in
     let low : inside.conveyor.epoch < 2 ^ 63 = subst (λ (m : NodeState g.row.Q.Denot). m.conveyor.epoch < 2 ^ 63) (sym c.self.view_is) c.requires.epochs in
     subst (λ (m : NodeState g.row.Q.Denot). IsNode R (extended h (m.run.round + 1) (R.ended m.run.prog m.run.sum)) (record { run = record { prog = c.end_prog.new.prog.value; round = inside.run.round + 1; sends = Emissions; next = 0; sum = 0; spoiled = inside.run.spoiled }; conveyor = c.begin_epoch-in-Round.new.conveyor }) sent got) c.self.view_is
-    (subst (λ b. IsNode R (extended h (inside.run.round + 1) (R.ended inside.run.prog inside.run.sum)) (record { run = record { prog = c.end_prog.new.prog.value; round = inside.run.round + 1; sends = Emissions; next = 0; sum = 0; spoiled = b }; conveyor = c.begin_epoch-in-Round.new.conveyor }) sent got) (sym c.if-self.false) (node_work R g.met.Q.Program.laws h inside c.begin_epoch-in-Round.new.conveyor sent got b over i c.end_prog.new.prog.value false Emissions
-    (λ q. c.if-self-2.false (omega (arith, q))) (round_few inside.run.round (is_voting inside.run.sends) inside.conveyor.epoch i.passed.epoch low) ((c.in-Round.ensures.round refl).0) v (c.if-self.false) refl (λ e. (c.in-Round.ensures.round refl).1) (λ s. refl) (λ s. absurd (cc))))
+    (subst (λ b. IsNode R (extended h (inside.run.round + 1) (R.ended inside.run.prog inside.run.sum)) (record { run = record { prog = c.end_prog.new.prog.value; round = inside.run.round + 1; sends = Emissions; next = 0; sum = 0; spoiled = b }; conveyor = c.begin_epoch-in-Round.new.conveyor }) sent got) (sym fine.0) (node_work R g.met.Q.Program.laws h inside c.begin_epoch-in-Round.new.conveyor sent got b over i c.end_prog.new.prog.value false Emissions
+    fine.1 (round_few inside.run.round (is_voting inside.run.sends) inside.conveyor.epoch i.passed.epoch low) ((c.in-Round.ensures.round refl).0) v fine.0 refl (λ e. (c.in-Round.ensures.round refl).1) (λ s. refl) (λ s. absurd (cc))))
 
 pub returns-in-SpoiledRound-clause-work : goal.returns-in-SpoiledRound-clause-work
 returns-in-SpoiledRound-clause-work g c = λ votes e h sent got was.
@@ -55,7 +56,8 @@ returns-in-SpoiledRound-clause-work g c = λ votes e h sent got was.
     let i : IsNode R h inside sent got = subst (λ (m : NodeState g.row.Q.Denot). IsNode R h m sent got) (sym c.self.view_is) was in
     let over = ap (λ (m : NodeState g.row.Q.Denot). m.conveyor.phase) c.self.view_is ∙ c.requires.over in
     let v : is_voting inside.run.sends ≡ true = ap (λ (m : NodeState g.row.Q.Denot). is_voting m.run.sends) c.self.view_is ∙ votes in
+    let fine = not_lost inside.run.spoiled inside.run.sum c.is_lost.result c.is_lost.ensures c.if-is_lost.false in
     let low : inside.conveyor.epoch < 2 ^ 63 = subst (λ (m : NodeState g.row.Q.Denot). m.conveyor.epoch < 2 ^ 63) (sym c.self.view_is) c.requires.epochs in
     subst (λ (m : NodeState g.row.Q.Denot). IsNode R (extended h (m.run.round + 1) (R.ended m.run.prog m.run.sum)) (record { run = record { prog = c.end_prog.new.prog.value; round = inside.run.round + 1; sends = Nothing; next = 0; sum = 0; spoiled = true }; conveyor = c.begin_epoch-in-SpoiledRound.new.conveyor }) sent got) c.self.view_is
     ((node_work R g.met.Q.Program.laws h inside c.begin_epoch-in-SpoiledRound.new.conveyor sent got b over i c.end_prog.new.prog.value true Nothing
-    (λ q. c.if-self-2.false (omega (arith, q))) (round_few inside.run.round (is_voting inside.run.sends) inside.conveyor.epoch i.passed.epoch low) (c.in-SpoiledRound.ensures.spoiled_round refl) v (c.if-self.false) refl (λ e. absurd (cc)) (λ s. absurd (cc)) (λ s. refl)))
+    fine.1 (round_few inside.run.round (is_voting inside.run.sends) inside.conveyor.epoch i.passed.epoch low) (c.in-SpoiledRound.ensures.spoiled_round refl) v fine.0 refl (λ e. absurd (cc)) (λ s. absurd (cc)) (λ s. refl)))

@@ -3,7 +3,7 @@ use Rattle.bale_types.specs.declared.item.Item.{Item}
 use Rattle.item_buffer.specs.Contents.{Shipped}
 use Rattle.route_tensor.specs.Grid.{ranks}
 use Rattle.route_tensor.specs.Link.{links}
-use Rattle.route_tensor.specs.Ends.{reader_at}
+use Rattle.route_tensor.specs.Ends.{sender_at, reader_at}
 use Rattle.port_bank.specs.Shapes.{IsConveyorShape}
 use Rattle.std.specs.List.{flat_map}
 use Rattle.hop_core.specs.State.{State}
@@ -104,6 +104,45 @@ returns-in_err-progress-clause-kept g c = λ h was.
     } in
     moved R h inside c1 c2 c3 next prog' sum' spoiled' done (is_complete c2.phase) voting sent got sent' got' push all adv (sym c.votes_now-voting.ensures) takes i
 
+pub returns-in_err-progress-clause-steps : goal.returns-in_err-progress-clause-steps
+returns-in_err-progress-clause-steps g c = c.tick.ensures
+
+pub returns-in_err-progress-clause-sent_grows : goal.returns-in_err-progress-clause-sent_grows
+returns-in_err-progress-clause-sent_grows g c = c.advance-progress.ensures.sent_grows
+
+pub returns-in_err-progress-clause-got_grows : goal.returns-in_err-progress-clause-got_grows
+returns-in_err-progress-clause-got_grows g c = c.advance-progress.ensures.got_grows
+
+pub returns-in_err-progress-clause-same_dims : goal.returns-in_err-progress-clause-same_dims
+returns-in_err-progress-clause-same_dims g c = c.advance-progress.ensures.same_dims
+
+pub returns-in_err-progress-clause-same_rank : goal.returns-in_err-progress-clause-same_rank
+returns-in_err-progress-clause-same_rank g c = c.advance-progress.ensures.same_rank
+
+pub returns-in_err-progress-clause-same_slots : goal.returns-in_err-progress-clause-same_slots
+returns-in_err-progress-clause-same_slots g c = c.advance-progress.ensures.same_slots
+
+pub returns-in_err-progress-clause-rest : goal.returns-in_err-progress-clause-rest
+returns-in_err-progress-clause-rest g c = c.advance-progress.ensures.rest
+
+pub returns-in_err-progress-clause-one_sent : goal.returns-in_err-progress-clause-one_sent
+returns-in_err-progress-clause-one_sent g c = λ l below own.
+    let e = ap (λ (m : NodeState g.row.Q.Denot). m.conveyor) c.self.view_is in
+    let c1 = c.push_all-self-inside.new.conveyor in
+    let same : c1 ≡ record c.self.inside.conveyor { outs = c1.outs; pulled = c1.pulled } = c.push_all-self-inside.ensures.same in
+    let dims : c1.dims ≡ c.args.self.now.conveyor.dims = ap (λ (t : State). t.dims) same ∙ ap (λ (t : State). t.dims) e in
+    let rank : c1.rank ≡ c.args.self.now.conveyor.rank = ap (λ (t : State). t.rank) same ∙ ap (λ (t : State). t.rank) e in
+    c.advance-progress.ensures.one_sent l (subst (λ (d : List ℕ). l < links d) (sym dims) below) (subst (λ (d : List ℕ). sender_at d l ≡ c1.rank) (sym dims) (own ∙ sym rank))
+
+pub returns-in_err-progress-clause-one_got : goal.returns-in_err-progress-clause-one_got
+returns-in_err-progress-clause-one_got g c = λ l below own.
+    let e = ap (λ (m : NodeState g.row.Q.Denot). m.conveyor) c.self.view_is in
+    let c1 = c.push_all-self-inside.new.conveyor in
+    let same : c1 ≡ record c.self.inside.conveyor { outs = c1.outs; pulled = c1.pulled } = c.push_all-self-inside.ensures.same in
+    let dims : c1.dims ≡ c.args.self.now.conveyor.dims = ap (λ (t : State). t.dims) same ∙ ap (λ (t : State). t.dims) e in
+    let rank : c1.rank ≡ c.args.self.now.conveyor.rank = ap (λ (t : State). t.rank) same ∙ ap (λ (t : State). t.rank) e in
+    c.advance-progress.ensures.one_got l (subst (λ (d : List ℕ). l < links d) (sym dims) below) (subst (λ (d : List ℕ). reader_at d l ≡ c1.rank) (sym dims) (own ∙ sym rank))
+
 pub returns-in_err-progress-clause-shape : goal.returns-in_err-progress-clause-shape
 returns-in_err-progress-clause-shape g c = λ l was.
     let same : c.push_all-self-inside.new.conveyor.steady ≡ c.args.self.now.conveyor.steady = ap (λ (t : State). t.steady) c.push_all-self-inside.ensures.same ∙ ap (λ (m : NodeState g.row.Q.Denot). m.conveyor.steady) c.self.view_is in
@@ -188,6 +227,45 @@ returns-clause-kept g c = λ h was.
       taken = λ h rank round next sends v a. c.take_all-self-inside.ensures.taken h rank round next sends sent' got' v a;
     } in
     moved R h inside c1 c2 c3 next prog' sum' spoiled' done (is_complete c2.phase) voting sent got sent' got' push all adv (sym c.votes_now-voting.ensures) takes i
+
+pub returns-clause-steps : goal.returns-clause-steps
+returns-clause-steps g c = c.tick.ensures
+
+pub returns-clause-sent_grows : goal.returns-clause-sent_grows
+returns-clause-sent_grows g c = c.advance-progress.ensures.sent_grows
+
+pub returns-clause-got_grows : goal.returns-clause-got_grows
+returns-clause-got_grows g c = c.advance-progress.ensures.got_grows
+
+pub returns-clause-same_dims : goal.returns-clause-same_dims
+returns-clause-same_dims g c = c.advance-progress.ensures.same_dims
+
+pub returns-clause-same_rank : goal.returns-clause-same_rank
+returns-clause-same_rank g c = c.advance-progress.ensures.same_rank
+
+pub returns-clause-same_slots : goal.returns-clause-same_slots
+returns-clause-same_slots g c = c.advance-progress.ensures.same_slots
+
+pub returns-clause-rest : goal.returns-clause-rest
+returns-clause-rest g c = c.advance-progress.ensures.rest
+
+pub returns-clause-one_sent : goal.returns-clause-one_sent
+returns-clause-one_sent g c = λ l below own.
+    let e = ap (λ (m : NodeState g.row.Q.Denot). m.conveyor) c.self.view_is in
+    let c1 = c.push_all-self-inside.new.conveyor in
+    let same : c1 ≡ record c.self.inside.conveyor { outs = c1.outs; pulled = c1.pulled } = c.push_all-self-inside.ensures.same in
+    let dims : c1.dims ≡ c.args.self.now.conveyor.dims = ap (λ (t : State). t.dims) same ∙ ap (λ (t : State). t.dims) e in
+    let rank : c1.rank ≡ c.args.self.now.conveyor.rank = ap (λ (t : State). t.rank) same ∙ ap (λ (t : State). t.rank) e in
+    c.advance-progress.ensures.one_sent l (subst (λ (d : List ℕ). l < links d) (sym dims) below) (subst (λ (d : List ℕ). sender_at d l ≡ c1.rank) (sym dims) (own ∙ sym rank))
+
+pub returns-clause-one_got : goal.returns-clause-one_got
+returns-clause-one_got g c = λ l below own.
+    let e = ap (λ (m : NodeState g.row.Q.Denot). m.conveyor) c.self.view_is in
+    let c1 = c.push_all-self-inside.new.conveyor in
+    let same : c1 ≡ record c.self.inside.conveyor { outs = c1.outs; pulled = c1.pulled } = c.push_all-self-inside.ensures.same in
+    let dims : c1.dims ≡ c.args.self.now.conveyor.dims = ap (λ (t : State). t.dims) same ∙ ap (λ (t : State). t.dims) e in
+    let rank : c1.rank ≡ c.args.self.now.conveyor.rank = ap (λ (t : State). t.rank) same ∙ ap (λ (t : State). t.rank) e in
+    c.advance-progress.ensures.one_got l (subst (λ (d : List ℕ). l < links d) (sym dims) below) (subst (λ (d : List ℕ). reader_at d l ≡ c1.rank) (sym dims) (own ∙ sym rank))
 
 pub returns-clause-shape : goal.returns-clause-shape
 returns-clause-shape g c = λ l was.

@@ -1,5 +1,7 @@
+pub mod Cases
 pub mod Endings
 pub mod Exchanges
-pub mod Finishes
+pub mod Numberings
 pub mod Orders
+pub mod Outcomes
 pub mod Reasons

@@ -1,23 +1,27 @@
-//! The top call: from the words and the bytes that come in to the bytes that go out.
-ghost use Rattle.std.specs.Prelude.{◌≡◌, ◌≢◌, ◌⊎◌, ◌≤◌, ℕ, [], List, Option, Some, None, Ok, Err, map, drop, string_bytes, OnOk, OnErr, IfOk, IfErr};
+//! The top calls: from the words and the bytes that come in to the bytes that go out.
+ghost use Rattle.std.specs.Prelude.{◌≡◌, ◌≢◌, ◌⊎◌, ◌≤◌, ◌<◌, ℕ, true, false, [], List, Option, Some, None, Ok, Err, map, drop, string_bytes, OnOk, OnErr, IfOk, IfErr};
 ghost use Rattle.std.specs.Result.{IsErrAnd};
 ghost use Rattle.bale_types.specs.Stream.{after, HasCause, IsFront, Rose};
 ghost use Rattle.mtx_text.specs.Sparse.{Sparse};
-ghost use Rattle.mtx_text.specs.Grammar.{matrix_of};
 ghost use Rattle.bale_words.specs.declared.command.Command.{Command};
-ghost use Rattle.bale_cli.specs.Answer.{serial_answer, said, refusal_text, IsOfText, IsUnfit, Asked, Wrote};
-ghost use Rattle.bale_cli.specs.Jobs.{job_of};
-ghost use Rattle.bale_cli.specs.Tasks.{made_for, TellsTask, TurnsOfTask};
+ghost use Rattle.bale_words.specs.Ranges.{InRanges};
+ghost use Rattle.bale_cli.specs.Answer.{serial_answer, said, shown, refusal_text, status_of, reads, Asked, HasWritten, IsBad, IsOfText, IsUnfit, Told, Wrote};
+ghost use Rattle.bale_cli.specs.Fitness.{unfitness};
+ghost use Rattle.bale_cli.specs.Jobs.{as_asked, job_of, on_one_thread, runs};
+ghost use Rattle.bale_cli.specs.Tasks.{made_for, task_status, IsAnswer, TellsTask, TurnsOfTask};
 
-use crate::finish::{Finish, ran};
-use crate::job::read_job;
+use crate::exchange::{Finish, ran_on_threads, ran_serially};
+use crate::job::{matrix_for, read_job};
 use crate::refusal::{Refusal, report};
-use crate::unfit::unfitness;
-use bale_types::{Sink, Source};
-use mtx_text::read_matrix;
-use rank_group::{Rounds, Steps};
+use bale_types::{NoMemory, Sink, Source};
+use bale_words::{Command, Driving};
+use mtx_text::Matrix;
+use rank_group::{Gate, Rounds, Steps};
 use std::alloc::Global;
-use std::sync::ledger::Ledger;
+use std::marker::Brand;
+use std::sync::Wait;
+use std::sync::ledger::{Blank, Ledger};
+use std::thread::Threads;
 
 /// How a run ended.
 #[derive(Drop)]
@@ -28,8 +32,64 @@ pub struct Outcome {
     pub rounds: Rounds,
 }
 
-/// Runs the command of the words after the program's name on the text of `source`, all ranks on this thread, and writes
-/// the answer to `out` or why there is none to `err`. Each turn of a rank raises `steps` by one.
+/// Runs the command of the words after the program's name on the text of `source`, each rank on a thread of its own or all
+/// on this one, as the words say, and writes the answer to `out` or why there is none to `err`. Before each turn of a rank's
+/// thread the gate is told of it.
+///
+/// Where the source tells its text, out and err take exactly what the serial answer says, unless a read or a
+/// write failed or an allocation was refused. It waits for its threads, and returns where they do.
+pub fn run<R: Threads + Wait + Sync, S: Source, K: Sink, E: Sink, G: Gate + Sync>(
+    rt: &R,
+    alloc: Global,
+    words: &[String],
+    source: &mut S,
+    out: &mut K,
+    err: &mut E,
+    gate: &G,
+) -> Outcome
+    // The status is the serial answer's; a fault has its cause outside, and want of memory is free.
+    ensures usage { result.status ≡ 2 → job_of (map string_bytes words.now) ≡ None }
+    ensures no_command { job_of (map string_bytes words.now) ≡ None → result.status ≢ 7 → result.status ≡ 2 }
+    ensures status { (text : List ℕ) → Told (job_of (map string_bytes words.now)) (S.left source.old) text → result.status ≢ 3 → result.status ≢ 4 → result.status ≢ 7 →
+        result.status ≡ (serial_answer as_asked (map string_bytes words.now) text).status }
+    ensures read_fault { result.status ≡ 3 → Rose (S.faults source.old) (S.faults source.new) }
+    ensures write_fault { result.status ≡ 4 → Rose (K.faults out.old) (K.faults out.new) }
+
+    // No byte is read where the matrix is generated, nor at 2; at 0, 1, 4, 5 and 6 the text was read whole, or to one byte past its limit.
+    ensures unread { reads (job_of (map string_bytes words.now)) ≡ false → S.left source.new ≡ S.left source.old }
+    ensures read_whole { (text : List ℕ) → S.left source.old ≡ Some text → reads (job_of (map string_bytes words.now)) ≡ true →
+        result.status ≢ 3 → result.status ≢ 7 → S.left source.new ≡ Some (drop 16_777_217 text) }
+
+    // At 0 and 1 out has taken the answer, at 4 a front of it, and else nothing; what it held stays, so at 4 it has what it held and then a front
+    // of the answer.
+    ensures answer { (text : List ℕ) → Told (job_of (map string_bytes words.now)) (S.left source.old) text → (result.status ≡ 0) ⊎ (result.status ≡ 1) →
+        Wrote as_asked (job_of (map string_bytes words.now)) text (λ bytes. K.taken out.new ≡ after (K.taken out.old) bytes) }
+    ensures front { (text : List ℕ) → Told (job_of (map string_bytes words.now)) (S.left source.old) text → result.status ≡ 4 →
+        Wrote as_asked (job_of (map string_bytes words.now)) text (λ bytes. IsFront (K.taken out.new) (after (K.taken out.old) bytes)) }
+    ensures held { IsFront (K.taken out.old) (K.taken out.new) }
+    ensures no_answer { result.status ≢ 0 → result.status ≢ 1 → result.status ≢ 4 → K.taken out.new ≡ K.taken out.old }
+
+    // What is said on err is whole unless its own faults rose; the text matters at 5 and 6 alone.
+    ensures said { (text : List ℕ) → ((result.status ≡ 5) ⊎ (result.status ≡ 6) → Told (job_of (map string_bytes words.now)) (S.left source.old) text) → ¬ Rose (E.faults err.old) (E.faults err.new) →
+        E.taken err.new ≡ after (E.taken err.old) (said result.status (serial_answer as_asked (map string_bytes words.now) text)) }
+    ensures said_front { (text : List ℕ) → ((result.status ≡ 5) ⊎ (result.status ≡ 6) → Told (job_of (map string_bytes words.now)) (S.left source.old) text) →
+        IsFront (E.taken err.new) (after (E.taken err.old) (said result.status (serial_answer as_asked (map string_bytes words.now) text))) }
+    ensures said_held { IsFront (E.taken err.old) (E.taken err.new) }
+    ensures silent { (result.status ≡ 0) ⊎ (result.status ≡ 1) → E.taken err.new ≡ E.taken err.old }
+
+    // At 0, 1 and 4 the rounds tell the canonical run of the application's programs for its matrix, over a bank of
+    // the grid, the capacity and the slots that the words name: a plain one for one thread, else one of slots; else there are none.
+    ensures rounds { (text : List ℕ) (c : Command) (m : Sparse) → Asked as_asked (S.left source.old) (map string_bytes words.now) text c m → (result.status ≡ 0) ⊎ (result.status ≡ 1) ⊎ (result.status ≡ 4) →
+        TellsTask c.task m (made_for (as_asked c) c) c.travel.steady result.rounds }
+    ensures no_rounds { result.status ≢ 0 → result.status ≢ 1 → result.status ≢ 4 → result.rounds ≡ [] }
+{
+    let answered = answer(rt, alloc, words, source, out, gate);
+    outcome(alloc, answered, err)
+}
+
+/// Runs the command of the words after the program's name on the text of `source`, all ranks on this thread whatever the
+/// words say, and writes the answer to `out` or why there is none to `err`. Each turn of a rank raises `steps` by one.
+/// It always returns.
 ///
 /// Where the source tells its text, out and err take exactly what the serial answer says, unless a read or a
 /// write failed or an allocation was refused.
@@ -44,46 +104,72 @@ pub fn run_serial<S: Source, K: Sink, E: Sink, L: Ledger>(
     // The status is the serial answer's; a fault has its cause outside, and want of memory is free.
     ensures usage { result.status ≡ 2 → job_of (map string_bytes words.now) ≡ None }
     ensures no_command { job_of (map string_bytes words.now) ≡ None → result.status ≢ 7 → result.status ≡ 2 }
-    ensures status { (text : List ℕ) → S.left source.old ≡ Some text → result.status ≢ 3 → result.status ≢ 4 → result.status ≢ 7 →
-        result.status ≡ (serial_answer (map string_bytes words.now) text).status }
+    ensures status { (text : List ℕ) → Told (job_of (map string_bytes words.now)) (S.left source.old) text → result.status ≢ 3 → result.status ≢ 4 → result.status ≢ 7 →
+        result.status ≡ (serial_answer on_one_thread (map string_bytes words.now) text).status }
     ensures read_fault { result.status ≡ 3 → Rose (S.faults source.old) (S.faults source.new) }
     ensures write_fault { result.status ≡ 4 → Rose (K.faults out.old) (K.faults out.new) }
 
-    // No byte is read at 2; at 0, 1, 4, 5 and 6 the text was read whole, or to one byte past its limit.
-    ensures unread { result.status ≡ 2 → S.left source.new ≡ S.left source.old }
-    ensures read_whole { (text : List ℕ) → S.left source.old ≡ Some text → result.status ≢ 2 → result.status ≢ 3 → result.status ≢ 7 →
-        S.left source.new ≡ Some (drop 16_777_217 text) }
+    // No byte is read where the matrix is generated, nor at 2; at 0, 1, 4, 5 and 6 the text was read whole, or to one byte past its limit.
+    ensures unread { reads (job_of (map string_bytes words.now)) ≡ false → S.left source.new ≡ S.left source.old }
+    ensures read_whole { (text : List ℕ) → S.left source.old ≡ Some text → reads (job_of (map string_bytes words.now)) ≡ true →
+        result.status ≢ 3 → result.status ≢ 7 → S.left source.new ≡ Some (drop 16_777_217 text) }
 
     // At 0 and 1 out has taken the answer, at 4 a front of it, and else nothing; what it held stays, so at 4 it has what it held and then a front
     // of the answer.
-    ensures answer { (text : List ℕ) → S.left source.old ≡ Some text → (result.status ≡ 0) ⊎ (result.status ≡ 1) →
-        Wrote (job_of (map string_bytes words.now)) text (λ bytes. K.taken out.new ≡ after (K.taken out.old) bytes) }
-    ensures front { (text : List ℕ) → S.left source.old ≡ Some text → result.status ≡ 4 →
-        Wrote (job_of (map string_bytes words.now)) text (λ bytes. IsFront (K.taken out.new) (after (K.taken out.old) bytes)) }
+    ensures answer { (text : List ℕ) → Told (job_of (map string_bytes words.now)) (S.left source.old) text → (result.status ≡ 0) ⊎ (result.status ≡ 1) →
+        Wrote on_one_thread (job_of (map string_bytes words.now)) text (λ bytes. K.taken out.new ≡ after (K.taken out.old) bytes) }
+    ensures front { (text : List ℕ) → Told (job_of (map string_bytes words.now)) (S.left source.old) text → result.status ≡ 4 →
+        Wrote on_one_thread (job_of (map string_bytes words.now)) text (λ bytes. IsFront (K.taken out.new) (after (K.taken out.old) bytes)) }
     ensures held { IsFront (K.taken out.old) (K.taken out.new) }
     ensures no_answer { result.status ≢ 0 → result.status ≢ 1 → result.status ≢ 4 → K.taken out.new ≡ K.taken out.old }
 
     // What is said on err is whole unless its own faults rose; the text matters at 5 and 6 alone.
-    ensures said { (text : List ℕ) → ((result.status ≡ 5) ⊎ (result.status ≡ 6) → S.left source.old ≡ Some text) → ¬ Rose (E.faults err.old) (E.faults err.new) →
-        E.taken err.new ≡ after (E.taken err.old) (said result.status (serial_answer (map string_bytes words.now) text)) }
-    ensures said_front { (text : List ℕ) → ((result.status ≡ 5) ⊎ (result.status ≡ 6) → S.left source.old ≡ Some text) →
-        IsFront (E.taken err.new) (after (E.taken err.old) (said result.status (serial_answer (map string_bytes words.now) text))) }
+    ensures said { (text : List ℕ) → ((result.status ≡ 5) ⊎ (result.status ≡ 6) → Told (job_of (map string_bytes words.now)) (S.left source.old) text) → ¬ Rose (E.faults err.old) (E.faults err.new) →
+        E.taken err.new ≡ after (E.taken err.old) (said result.status (serial_answer on_one_thread (map string_bytes words.now) text)) }
+    ensures said_front { (text : List ℕ) → ((result.status ≡ 5) ⊎ (result.status ≡ 6) → Told (job_of (map string_bytes words.now)) (S.left source.old) text) →
+        IsFront (E.taken err.new) (after (E.taken err.old) (said result.status (serial_answer on_one_thread (map string_bytes words.now) text))) }
     ensures said_held { IsFront (E.taken err.old) (E.taken err.new) }
     ensures silent { (result.status ≡ 0) ⊎ (result.status ≡ 1) → E.taken err.new ≡ E.taken err.old }
 
-    // At 0, 1 and 4 the rounds tell the canonical run of the application's programs for the matrix read, over a plain bank of
-    // the grid, the capacity and the slots that the words name; else there are none.
-    ensures rounds { (text : List ℕ) (c : Command) (m : Sparse) → Asked (S.left source.old) (map string_bytes words.now) text c m → (result.status ≡ 0) ⊎ (result.status ≡ 1) ⊎ (result.status ≡ 4) →
-        TellsTask c.task m (made_for c) c.travel.steady result.rounds }
+    // At 0, 1 and 4 the rounds tell the canonical run of the application's programs for its matrix, over a bank of
+    // the grid, the capacity and the slots that the words name: a plain one; else there are none.
+    ensures rounds { (text : List ℕ) (c : Command) (m : Sparse) → Asked on_one_thread (S.left source.old) (map string_bytes words.now) text c m → (result.status ≡ 0) ⊎ (result.status ≡ 1) ⊎ (result.status ≡ 4) →
+        TellsTask c.task m (made_for true c) c.travel.steady result.rounds }
     ensures no_rounds { result.status ≢ 0 → result.status ≢ 1 → result.status ≢ 4 → result.rounds ≡ [] }
 
     // The turns are bounded by the words and the matrix, at 7 too; a refusal makes none.
-    ensures steps { (text : List ℕ) (c : Command) (m : Sparse) → Asked (S.left source.old) (map string_bytes words.now) text c m →
+    ensures steps { (text : List ℕ) (c : Command) (m : Sparse) → Asked on_one_thread (S.left source.old) (map string_bytes words.now) text c m →
         TurnsOfTask c.task m c.grid steps.old steps.new }
     ensures no_turns { result.status ≢ 0 → result.status ≢ 1 → result.status ≢ 4 → result.status ≢ 7 → steps.new ≡ steps.old }
 {
-    match answer(alloc, words, source, out, steps) {
-        Ok(finish) => ended(finish, err),
+    let answered = answer_serially(alloc, words, source, out, steps);
+    outcome(alloc, answered, err)
+}
+
+/// How a run ended, which is said on `err` where there is no answer.
+fn outcome<E: Sink>(alloc: Global, answered: Result<Finish, Refusal>, err: &mut E) -> Outcome
+    requires low { IfOk answered (λ f. f.status ≤ 1) }
+    ensures rounds { IfOk answered (λ f. result.rounds ≡ f.rounds) }
+    ensures no_rounds { OnErr answered (result.rounds ≡ []) }
+    ensures written { IfOk answered (λ f. OnOk f.written ((result.status ≡ f.status) × (result.status ≤ 1) × (E.taken err.new ≡ E.taken err.old))) }
+    ensures unwritten { IfOk answered (λ f. OnErr f.written ((result.status ≡ 4) × (¬ Rose (E.faults err.old) (E.faults err.new) → E.taken err.new ≡ after (E.taken err.old) (refusal_text Refusal.WriteFault))
+        × IsFront (E.taken err.new) (after (E.taken err.old) (refusal_text Refusal.WriteFault)))) }
+    ensures refused { IfErr answered (λ r. (result.status ≡ status_of r) × (¬ Rose (E.faults err.old) (E.faults err.new) → E.taken err.new ≡ after (E.taken err.old) (refusal_text r))
+        × IsFront (E.taken err.new) (after (E.taken err.old) (refusal_text r))) }
+    ensures held { IsFront (E.taken err.old) (E.taken err.new) }
+{
+    match answered {
+        Ok(
+            Finish {
+                status,
+                written: Ok(()),
+                rounds,
+            },
+        ) => Outcome { status, rounds },
+        Ok(Finish { rounds, .. }) => {
+            report(err, Refusal::WriteFault);
+            Outcome { status: 4, rounds }
+        }
         Err(refusal) => {
             report(err, refusal);
             Outcome {
@@ -94,33 +180,47 @@ pub fn run_serial<S: Source, K: Sink, E: Sink, L: Ledger>(
     }
 }
 
-/// The outcome of a run that came to its end, and what is said of it.
-fn ended<E: Sink>(finish: Finish, err: &mut E) -> Outcome
-    requires low { finish.status ≤ 1 }
-    ensures rounds { result.rounds ≡ finish.rounds }
-    ensures kind { (result.status ≤ 1) ⊎ (result.status ≡ 4) }
-    ensures written { OnOk finish.written ((result.status ≡ finish.status) × (result.status ≤ 1) × (E.taken err.new ≡ E.taken err.old)) }
-    ensures unwritten { OnErr finish.written (result.status ≡ 4) }
-    ensures said { OnErr finish.written (¬ Rose (E.faults err.old) (E.faults err.new) → E.taken err.new ≡ after (E.taken err.old) (refusal_text Refusal.WriteFault)) }
-    ensures front { OnErr finish.written (IsFront (E.taken err.new) (after (E.taken err.old) (refusal_text Refusal.WriteFault))) }
-    ensures held { IsFront (E.taken err.old) (E.taken err.new) }
+/// The run that the words ask for, and its answer on out, or why there is none.
+fn answer<R: Threads + Wait + Sync, S: Source, K: Sink, G: Gate + Sync>(
+    rt: &R,
+    alloc: Global,
+    words: &[String],
+    source: &mut S,
+    out: &mut K,
+    gate: &G,
+) -> Result<Finish, Refusal>
+    ensures usage { result ≡ Err Refusal.Usage → job_of (map string_bytes words.now) ≡ None }
+    ensures no_command { job_of (map string_bytes words.now) ≡ None → IsErrAnd result (λ r. (r ≡ Refusal.Usage) ⊎ (r ≡ Refusal.NoMemory)) }
+    ensures read_fault { result ≡ Err Refusal.ReadFault → Rose (S.faults source.old) (S.faults source.new) }
+    ensures bad { (text : List ℕ) (b : _) → Told (job_of (map string_bytes words.now)) (S.left source.old) text → result ≡ Err (Refusal.BadMatrix b) → IsBad (job_of (map string_bytes words.now)) text b }
+    ensures unfit { (text : List ℕ) (u : _) → Told (job_of (map string_bytes words.now)) (S.left source.old) text → result ≡ Err (Refusal.Unfit u) → IsUnfit as_asked (job_of (map string_bytes words.now)) text u }
+    ensures no_fault { IfErr result (λ r. r ≢ Refusal.WriteFault) }
+    ensures wrote { (text : List ℕ) → Told (job_of (map string_bytes words.now)) (S.left source.old) text → IfOk result (λ f. Wrote as_asked (job_of (map string_bytes words.now)) text
+        (λ bytes. OnOk f.written (K.taken out.new ≡ after (K.taken out.old) bytes) × OnErr f.written (IsFront (K.taken out.new) (after (K.taken out.old) bytes)))) }
+    ensures status { (text : List ℕ) → Told (job_of (map string_bytes words.now)) (S.left source.old) text → IfOk result (λ f. f.status ≡ (serial_answer as_asked (map string_bytes words.now) text).status) }
+    ensures low { IfOk result (λ f. f.status ≤ 1) }
+    ensures cause { IfOk result (λ f. HasCause (K.faults out.old) (K.faults out.new) f.written) }
+    ensures held { IsFront (K.taken out.old) (K.taken out.new) }
+    ensures unread { reads (job_of (map string_bytes words.now)) ≡ false → S.left source.new ≡ S.left source.old }
+    ensures read_whole { (text : List ℕ) → S.left source.old ≡ Some text → reads (job_of (map string_bytes words.now)) ≡ true → OnOk result (S.left source.new ≡ Some (drop 16_777_217 text)) }
+    ensures read_bad { (text : List ℕ) → S.left source.old ≡ Some text → reads (job_of (map string_bytes words.now)) ≡ true → IfErr result (λ r. IsOfText r → S.left source.new ≡ Some (drop 16_777_217 text)) }
+    ensures no_answer { OnErr result (K.taken out.new ≡ K.taken out.old) }
+    ensures rounds { (text : List ℕ) (c : Command) (m : Sparse) → Asked as_asked (S.left source.old) (map string_bytes words.now) text c m →
+        IfOk result (λ f. TellsTask c.task m (made_for (as_asked c) c) c.travel.steady f.rounds) }
 {
-    let Finish {
-        status,
-        written,
-        rounds,
-    } = finish;
-    match written {
-        Ok(()) => Outcome { status, rounds },
-        Err(_) => {
-            report(err, Refusal::WriteFault);
-            Outcome { status: 4, rounds }
-        }
-    }
+    let command = read_job(alloc, words)?;
+    let serial = command.travel.driving == Driving::Serial;
+    let matrix = matrix_for(alloc, &command, source, serial)?;
+    let finish = if serial {
+        ran_uncounted::<Brand, K>(alloc, &command, &matrix, out, Blank::new(1))?
+    } else {
+        ran_on_threads(rt, alloc, &command, &matrix, out, gate)?
+    };
+    Ok(finish)
 }
 
-/// The run that the words ask for, and its answer on out, or why there is none.
-fn answer<S: Source, K: Sink, L: Ledger>(
+/// The same, all ranks on this thread.
+fn answer_serially<S: Source, K: Sink, L: Ledger>(
     alloc: Global,
     words: &[String],
     source: &mut S,
@@ -130,33 +230,53 @@ fn answer<S: Source, K: Sink, L: Ledger>(
     ensures usage { result ≡ Err Refusal.Usage → job_of (map string_bytes words.now) ≡ None }
     ensures no_command { job_of (map string_bytes words.now) ≡ None → IsErrAnd result (λ r. (r ≡ Refusal.Usage) ⊎ (r ≡ Refusal.NoMemory)) }
     ensures read_fault { result ≡ Err Refusal.ReadFault → Rose (S.faults source.old) (S.faults source.new) }
-    ensures bad { (text : List ℕ) (b : _) → S.left source.old ≡ Some text → result ≡ Err (Refusal.BadMatrix b) → matrix_of text ≡ Err b }
-    ensures unfit { (text : List ℕ) (u : _) → S.left source.old ≡ Some text → result ≡ Err (Refusal.Unfit u) → IsUnfit (job_of (map string_bytes words.now)) text u }
+    ensures bad { (text : List ℕ) (b : _) → Told (job_of (map string_bytes words.now)) (S.left source.old) text → result ≡ Err (Refusal.BadMatrix b) → IsBad (job_of (map string_bytes words.now)) text b }
+    ensures unfit { (text : List ℕ) (u : _) → Told (job_of (map string_bytes words.now)) (S.left source.old) text → result ≡ Err (Refusal.Unfit u) → IsUnfit on_one_thread (job_of (map string_bytes words.now)) text u }
     ensures no_fault { IfErr result (λ r. r ≢ Refusal.WriteFault) }
-    ensures wrote { (text : List ℕ) → S.left source.old ≡ Some text → IfOk result (λ f. Wrote (job_of (map string_bytes words.now)) text
+    ensures wrote { (text : List ℕ) → Told (job_of (map string_bytes words.now)) (S.left source.old) text → IfOk result (λ f. Wrote on_one_thread (job_of (map string_bytes words.now)) text
         (λ bytes. OnOk f.written (K.taken out.new ≡ after (K.taken out.old) bytes) × OnErr f.written (IsFront (K.taken out.new) (after (K.taken out.old) bytes)))) }
-    ensures status { (text : List ℕ) → S.left source.old ≡ Some text → IfOk result (λ f. f.status ≡ (serial_answer (map string_bytes words.now) text).status) }
+    ensures status { (text : List ℕ) → Told (job_of (map string_bytes words.now)) (S.left source.old) text → IfOk result (λ f. f.status ≡ (serial_answer on_one_thread (map string_bytes words.now) text).status) }
     ensures low { IfOk result (λ f. f.status ≤ 1) }
     ensures cause { IfOk result (λ f. HasCause (K.faults out.old) (K.faults out.new) f.written) }
     ensures held { IsFront (K.taken out.old) (K.taken out.new) }
-    ensures unread { result ≡ Err Refusal.Usage → S.left source.new ≡ S.left source.old }
-    ensures read_whole { (text : List ℕ) → S.left source.old ≡ Some text → OnOk result (S.left source.new ≡ Some (drop 16_777_217 text)) }
-    ensures read_bad { (text : List ℕ) → S.left source.old ≡ Some text → IfErr result (λ r. IsOfText r → S.left source.new ≡ Some (drop 16_777_217 text)) }
+    ensures unread { reads (job_of (map string_bytes words.now)) ≡ false → S.left source.new ≡ S.left source.old }
+    ensures read_whole { (text : List ℕ) → S.left source.old ≡ Some text → reads (job_of (map string_bytes words.now)) ≡ true → OnOk result (S.left source.new ≡ Some (drop 16_777_217 text)) }
+    ensures read_bad { (text : List ℕ) → S.left source.old ≡ Some text → reads (job_of (map string_bytes words.now)) ≡ true → IfErr result (λ r. IsOfText r → S.left source.new ≡ Some (drop 16_777_217 text)) }
     ensures no_answer { OnErr result (K.taken out.new ≡ K.taken out.old) }
-    ensures rounds { (text : List ℕ) (c : Command) (m : Sparse) → Asked (S.left source.old) (map string_bytes words.now) text c m →
-        IfOk result (λ f. TellsTask c.task m (made_for c) c.travel.steady f.rounds) }
-    ensures steps { (text : List ℕ) (c : Command) (m : Sparse) → Asked (S.left source.old) (map string_bytes words.now) text c m →
+    ensures rounds { (text : List ℕ) (c : Command) (m : Sparse) → Asked on_one_thread (S.left source.old) (map string_bytes words.now) text c m →
+        IfOk result (λ f. TellsTask c.task m (made_for true c) c.travel.steady f.rounds) }
+    ensures steps { (text : List ℕ) (c : Command) (m : Sparse) → Asked on_one_thread (S.left source.old) (map string_bytes words.now) text c m →
         TurnsOfTask c.task m c.grid steps.old steps.new }
     ensures no_turns { IfErr result (λ r. r ≢ Refusal.NoMemory → steps.new ≡ steps.old) }
 {
-    let command = match read_job(alloc, words) {
-        Ok(command) => command,
-        Err(refusal) => return Err(refusal),
-    };
-    let matrix = read_matrix(alloc, source)?;
-    if let Some(unfit) = unfitness(&command.task, &matrix, true) {
-        return Err(Refusal::Unfit(unfit));
-    }
-    let finish = ran(alloc, &command, &matrix, out, steps)?;
+    let command = read_job(alloc, words)?;
+    let matrix = matrix_for(alloc, &command, source, true)?;
+    let finish = ran_serially(alloc, &command, &matrix, out, steps)?;
     Ok(finish)
+}
+
+/// A run on this thread whose turns nobody asks for.
+fn ran_uncounted<L: Ledger, K: Sink>(
+    alloc: Global,
+    command: &Command,
+    m: &Matrix,
+    out: &mut K,
+    blank: Blank,
+) -> Result<Finish, NoMemory>
+    requires name { blank.name ≡ L.name }
+    requires parts { blank.parts ≡ L.parts }
+    requires some { 0 < L.parts }
+    requires runs { runs command.now ≡ true }
+    requires ranges { InRanges command.now }
+    requires fits { unfitness command.now.task m.now true ≡ None }
+    ensures status { IfOk result (λ f. f.status ≡ task_status command.now.task m.now) }
+    ensures low { IfOk result (λ f. f.status ≤ 1) }
+    ensures answer { IfOk result (λ f. HasWritten (IsAnswer command.now.task m.now) (shown command.now.travel.generated) (K.taken out.old) (K.taken out.new) f.written) }
+    ensures cause { IfOk result (λ f. HasCause (K.faults out.old) (K.faults out.new) f.written) }
+    ensures held { IsFront (K.taken out.old) (K.taken out.new) }
+    ensures no_answer { OnErr result (K.taken out.new ≡ K.taken out.old) }
+    ensures rounds { IfOk result (λ f. TellsTask command.now.task m.now (made_for true command.now) command.now.travel.steady f.rounds) }
+{
+    let mut steps = Steps::<L>::new(blank);
+    ran_serially(alloc, command, m, out, &mut steps)
 }

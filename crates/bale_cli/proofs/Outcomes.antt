@@ -8,7 +8,6 @@ use Rattle.bale_cli.specs.declared.exchange.Finish.{Finish}
 use Rattle.bale_cli.specs.declared.refusal.Refusal.{Refusal}
 use Rattle.bale_cli.specs.declared.refusal.Refusal.TheVariants as refusal
 use Rattle.bale_cli.specs.Answer.{Answer, Told, Wrote, answer_to, said, reads, refusal_text, status_of}
-use Rattle.bale_cli.specs.Jobs.{job_of}
 use Rattle.bale_cli.specs.Outcomes.{Answered, IsOutcome}
 use Rattle.bale_cli.proofs.Endings.{not_zero, not_one, is_usage, usage_is, is_read_fault, is_write_fault, bad_is, unfit_is, status_same, said_is, of_text, memory_is}
 
@@ -39,10 +38,10 @@ did {Q = Q} d q = subst (λ w. OnOk w Q) d.is q
 failed : {T E P Q : Type 0} {w : Result T E} → Failed w P → OnErr w Q → Q
 failed {Q = Q} d q = subst (λ w. OnErr w Q) d.is q
 
-module _ {serial : Command → Bool} {words : List (List ℕ)} {left left' : Option (List ℕ)} {ReadRose WriteRose Rose : Type 0} {taken taken' old new : Option (List ℕ)} {status : ℕ}
+module _ {serial : Command → Bool} {job : Option Command} {left left' : Option (List ℕ)} {ReadRose WriteRose Rose : Type 0} {taken taken' old new : Option (List ℕ)} {status : ℕ}
     {rounds : List ClosedRound} where
   Known : Result Finish Refusal → Type 0
-  Known answered = Answered serial words left left' ReadRose taken taken' WriteRose answered
+  Known answered = Answered serial job left left' ReadRose taken taken' WriteRose answered
 
   Outcome : Result Finish Refusal → Type 0
   Outcome answered = IsOutcome answered old new Rose status rounds
@@ -74,11 +73,11 @@ module _ {serial : Command → Bool} {words : List (List ℕ)} {left left' : Opt
   not_four : (r : Refusal) → Known (Err r) → Outcome (Err r) → status ≡ 4 → ⊥
   not_four r a o four = a.no_fault (is_write_fault r (sym o.refused.0 ∙ four))
 
-  pub usage : (answered : Result Finish Refusal) → Known answered → Outcome answered → status ≡ 2 → job_of words ≡ None
+  pub usage : (answered : Result Finish Refusal) → Known answered → Outcome answered → status ≡ 2 → job ≡ None
   usage (Ok f) a o two = absurd (no_other f 2 o (omega arith) (λ e. omega (arith, e)) two)
   usage (Err r) a o two = a.usage (ap (λ (x : Refusal). Err x) (is_usage r (sym o.refused.0 ∙ two)))
 
-  pub no_command : (answered : Result Finish Refusal) → Known answered → Outcome answered → job_of words ≡ None → status ≢ 7 → status ≡ 2
+  pub no_command : (answered : Result Finish Refusal) → Known answered → Outcome answered → job ≡ None → status ≢ 7 → status ≡ 2
   no_command (Ok f) a o none seven = absurd (a.no_command none)
   no_command (Err r) a o none seven =
       elim (a.no_command none) [
@@ -86,13 +85,13 @@ module _ {serial : Command → Bool} {words : List (List ℕ)} {left left' : Opt
         | inr e ↦ absurd (seven (o.refused.0 ∙ ap status_of e ∙ memory_is))
       ]
 
-  pub same_status : (answered : Result Finish Refusal) → Known answered → Outcome answered → (text : List ℕ) → Told (job_of words) left text
-      → status ≢ 3 → status ≢ 4 → status ≢ 7 → status ≡ (answer_to serial (job_of words) text).status
+  pub same_status : (answered : Result Finish Refusal) → Known answered → Outcome answered → (text : List ℕ) → Told job left text
+      → status ≢ 3 → status ≢ 4 → status ≢ 7 → status ≡ (answer_to serial job text).status
   same_status (Ok f) a o text told three four seven =
       elim (ends f o) [ inl w ↦ w.fact.0 ∙ a.status text told | inr u ↦ absurd (four u.fact.0) ]
   same_status (Err r) a o text told three four seven =
       o.refused.0
-      ∙ status_same serial r (job_of words) text (λ e. a.usage (ap (λ (x : Refusal). Err x) e)) (λ b e. a.bad text b told (ap (λ (x : Refusal). Err x) e))
+      ∙ status_same serial r job text (λ e. a.usage (ap (λ (x : Refusal). Err x) e)) (λ b e. a.bad text b told (ap (λ (x : Refusal). Err x) e))
       (λ u e. a.unfit text u told (ap (λ (x : Refusal). Err x) e)) (λ e. three (o.refused.0 ∙ e)) (λ e. four (o.refused.0 ∙ e)) (λ e. seven (o.refused.0 ∙ e))
 
   pub read_fault : (answered : Result Finish Refusal) → Known answered → Outcome answered → status ≡ 3 → ReadRose
@@ -104,17 +103,17 @@ module _ {serial : Command → Bool} {words : List (List ℕ)} {left left' : Opt
       elim (ends f o) [ inl w ↦ absurd (low_not 4 (omega arith) w.fact.1 four) | inr u ↦ failed u a.cause ]
   write_fault (Err r) a o four = absurd (not_four r a o four)
 
-  pub read_whole : (answered : Result Finish Refusal) → Known answered → Outcome answered → (text : List ℕ) → left ≡ Some text → reads (job_of words) ≡ true
+  pub read_whole : (answered : Result Finish Refusal) → Known answered → Outcome answered → (text : List ℕ) → left ≡ Some text → reads job ≡ true
       → status ≢ 3 → status ≢ 7 → left' ≡ Some (drop 16777217 text)
   read_whole (Ok f) a o text told r three seven = a.read_whole text told r
   read_whole (Err x) a o text told r three seven =
       a.read_bad text told r (of_text x (λ e. no_job (a.usage (ap (λ (y : Refusal). Err y) (is_usage x e))) r) (λ e. three (o.refused.0 ∙ e)) (λ e. seven (o.refused.0 ∙ e)))
     where
-      no_job : job_of words ≡ None → reads (job_of words) ≡ true → ⊥
+      no_job : job ≡ None → reads job ≡ true → ⊥
       no_job none r = (let e : false ≡ true = sym (ap reads none) ∙ r in cc)
 
-  pub answer : (answered : Result Finish Refusal) → Known answered → Outcome answered → (text : List ℕ) → Told (job_of words) left text → (status ≡ 0) ⊎ (status ≡ 1)
-      → Wrote serial (job_of words) text (λ bytes. taken' ≡ after taken bytes)
+  pub answer : (answered : Result Finish Refusal) → Known answered → Outcome answered → (text : List ℕ) → Told job left text → (status ≡ 0) ⊎ (status ≡ 1)
+      → Wrote serial job text (λ bytes. taken' ≡ after taken bytes)
   answer (Ok f) a o text told low =
       elim (ends f o) [
         | inl w ↦
@@ -124,8 +123,8 @@ module _ {serial : Command → Bool} {words : List (List ℕ)} {left left' : Opt
       ]
   answer (Err r) a o text told low = absurd (not_low r a o low)
 
-  pub front : (answered : Result Finish Refusal) → Known answered → Outcome answered → (text : List ℕ) → Told (job_of words) left text → status ≡ 4
-      → Wrote serial (job_of words) text (λ bytes. IsFront taken' (after taken bytes))
+  pub front : (answered : Result Finish Refusal) → Known answered → Outcome answered → (text : List ℕ) → Told job left text → status ≡ 4
+      → Wrote serial job text (λ bytes. IsFront taken' (after taken bytes))
   front (Ok f) a o text told four =
       elim (ends f o) [
         | inl w ↦ absurd (low_not 4 (omega arith) w.fact.1 four)
@@ -148,30 +147,30 @@ module _ {serial : Command → Bool} {words : List (List ℕ)} {left left' : Opt
   no_answer (Ok f) a o zero_ one four = absurd (only_refused f o zero_ one four)
   no_answer (Err r) a o zero_ one four = a.no_answer
 
-  said_of : (r : Refusal) → Known (Err r) → Outcome (Err r) → (text : List ℕ) → ((status ≡ 5) ⊎ (status ≡ 6) → Told (job_of words) left text)
-      → said status (answer_to serial (job_of words) text) ≡ refusal_text r
+  said_of : (r : Refusal) → Known (Err r) → Outcome (Err r) → (text : List ℕ) → ((status ≡ 5) ⊎ (status ≡ 6) → Told job left text)
+      → said status (answer_to serial job text) ≡ refusal_text r
   said_of r a o text told =
-      ap (λ n. said n (answer_to serial (job_of words) text)) o.refused.0
-      ∙ said_is serial r (job_of words) text (λ e. a.usage (ap (λ (x : Refusal). Err x) e))
+      ap (λ n. said n (answer_to serial job text)) o.refused.0
+      ∙ said_is serial r job text (λ e. a.usage (ap (λ (x : Refusal). Err x) e))
       (λ b e. a.bad text b (told (inl (o.refused.0 ∙ ap status_of e ∙ bad_is b))) (ap (λ (x : Refusal). Err x) e))
       (λ u e. a.unfit text u (told (inr (o.refused.0 ∙ ap status_of e ∙ unfit_is u))) (ap (λ (x : Refusal). Err x) e))
 
-  pub said_whole : (answered : Result Finish Refusal) → Known answered → Outcome answered → (text : List ℕ) → ((status ≡ 5) ⊎ (status ≡ 6) → Told (job_of words) left text)
-      → ¬ Rose → new ≡ after old (said status (answer_to serial (job_of words) text))
+  pub said_whole : (answered : Result Finish Refusal) → Known answered → Outcome answered → (text : List ℕ) → ((status ≡ 5) ⊎ (status ≡ 6) → Told job left text)
+      → ¬ Rose → new ≡ after old (said status (answer_to serial job text))
   said_whole (Ok f) a o text told calm =
       elim (ends f o) [
-        | inl w ↦ w.fact.2 ∙ (sym (after-nil old) ∙ ap (after old) (sym (said_none status (answer_to serial (job_of words) text) w.fact.1)))
-        | inr u ↦ u.fact.1 calm ∙ ap (λ n. after old (said n (answer_to serial (job_of words) text))) (sym u.fact.0)
+        | inl w ↦ w.fact.2 ∙ (sym (after-nil old) ∙ ap (after old) (sym (said_none status (answer_to serial job text) w.fact.1)))
+        | inr u ↦ u.fact.1 calm ∙ ap (λ n. after old (said n (answer_to serial job text))) (sym u.fact.0)
       ]
   said_whole (Err r) a o text told calm = o.refused.1 calm ∙ ap (after old) (sym (said_of r a o text told))
 
-  pub said_front : (answered : Result Finish Refusal) → Known answered → Outcome answered → (text : List ℕ) → ((status ≡ 5) ⊎ (status ≡ 6) → Told (job_of words) left text)
-      → IsFront new (after old (said status (answer_to serial (job_of words) text)))
+  pub said_front : (answered : Result Finish Refusal) → Known answered → Outcome answered → (text : List ℕ) → ((status ≡ 5) ⊎ (status ≡ 6) → Told job left text)
+      → IsFront new (after old (said status (answer_to serial job text)))
   said_front (Ok f) a o text told =
       elim (ends f o) [
         | inl w ↦
-            subst (IsFront new) (w.fact.2 ∙ (sym (after-nil old) ∙ ap (after old) (sym (said_none status (answer_to serial (job_of words) text) w.fact.1)))) (front_same new)
-        | inr u ↦ subst (λ n. IsFront new (after old (said n (answer_to serial (job_of words) text)))) (sym u.fact.0) u.fact.2
+            subst (IsFront new) (w.fact.2 ∙ (sym (after-nil old) ∙ ap (after old) (sym (said_none status (answer_to serial job text) w.fact.1)))) (front_same new)
+        | inr u ↦ subst (λ n. IsFront new (after old (said n (answer_to serial job text)))) (sym u.fact.0) u.fact.2
       ]
   said_front (Err r) a o text told = subst (λ (all : List ℕ). IsFront new (after old all)) (sym (said_of r a o text told)) o.refused.2
 

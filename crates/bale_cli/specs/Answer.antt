@@ -118,8 +118,8 @@ reads None = false
 reads (Some c) = not (is_some c.travel.generated)
 
 -- What was asked of a run: the words give this command, this is its matrix, and the command fits it.
-pub record Asked (serial : Command → Bool) (left : Option (List ℕ)) (words : List (List ℕ)) (text : List ℕ) (c : Command) (m : Sparse) : Type 0 where
-  pub job : job_of words ≡ Some c
+pub record Asked (serial : Command → Bool) (left : Option (List ℕ)) (job : Option Command) (text : List ℕ) (c : Command) (m : Sparse) : Type 0 where
+  pub asked : job ≡ Some c
   pub told : TellsText c.travel.generated left text
   pub matrix : matrix_asked c.travel.generated text ≡ Ok m
   pub fits : unfitness c.task m (serial c) ≡ None

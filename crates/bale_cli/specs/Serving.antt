@@ -23,13 +23,21 @@ abbrev pub moves_of : Task → Sparse → TwoLists
 moves_of (task.Permute p) m = perms_for p m
 moves_of _ m = record { rows = []; cols = [] }
 
+abbrev pub ServesHisto : Task → Sparse → Type 0
+ServesHisto t m = t ≡ task.Histo
+
+abbrev pub ServesIg : Task → Sparse → Type 0
+ServesIg t m = t ≡ task.Ig
+
+abbrev pub ServesTranspose : Task → Sparse → Type 0
+ServesTranspose t m = t ≡ task.Transpose
+
 abbrev pub ServesPermute : Task → Sparse → Type 0
 ServesPermute (task.Permute p) m = Permutes m.rows (perms_for p m).rows × Permutes m.cols (perms_for p m).cols
 ServesPermute _ m = ⊥
 
 abbrev pub ServesTopo : Task → Sparse → Type 0
-ServesTopo task.Topo m = m.rows ≡ m.cols
-ServesTopo _ m = ⊥
+ServesTopo t m = (t ≡ task.Topo) × (m.rows ≡ m.cols)
 
 abbrev pub ServesSssp : Task → Sparse → Type 0
 ServesSssp (task.Sssp source None) m = (m.cols ≡ m.rows) × (no_negative m.entries ≡ true) × (1 ≤ source) × (source ≤ m.rows)

@@ -1,12 +1,12 @@
 //! histo and ig, from a matrix to their lines.
 
-ghost use Rattle.std.specs.Prelude.{ℕ, ◌≡◌, ◌≤◌, IfOk};
+ghost use Rattle.std.specs.Prelude.{ℕ, ◌≤◌, IfOk};
 ghost use Rattle.round_program.specs.Canonical.{HaveEnded};
 ghost use Rattle.app_histo_ig.specs.Histos.{histo_rules};
 ghost use Rattle.app_histo_ig.specs.HistoRuns.{histo_starts, HistoEnded};
 ghost use Rattle.app_histo_ig.specs.Igs.{ig_rules};
 ghost use Rattle.app_histo_ig.specs.IgRuns.{ig_starts, IgEnded};
-ghost use Rattle.bale_words.specs.declared.command.Task.TheVariants.{Histo, Ig};
+ghost use Rattle.bale_cli.specs.Serving.{ServesHisto, ServesIg};
 
 use crate::application::Application;
 use app_histo_ig::{Histo, Ig, histo_start, histo_write, ig_start, ig_write};
@@ -20,13 +20,13 @@ use std::alloc::Global;
 pub(crate) struct HistoAnswer;
 
 impl Application for HistoAnswer {
-    ghost use Rattle.std.specs.Prelude.{◌≡◌};
+    ghost use Rattle.bale_cli.specs.Serving.{ServesHisto};
 
     type Prog = Histo;
 
     type Answer = Progs<Histo>;
 
-    ghost serves = { λ task m. task ≡ Histo };
+    ghost serves = { ServesHisto };
 
     ghost starts = { λ _. histo_starts };
 
@@ -42,7 +42,7 @@ impl Application for HistoAnswer {
         m: &Matrix,
         progs: Progs<Histo>,
     ) -> Result<Progs<Histo>, NoMemory>
-        requires serves { task.now ≡ Histo }
+        requires serves { ServesHisto task.now m.now }
         requires ended { (ranks : ℕ) × (1 ≤ ranks) × (ranks ≤ 64) × HaveEnded histo_rules (histo_starts ranks m.now) progs }
         ensures { IfOk result (λ a. HistoEnded m.now a) }
     {
@@ -68,13 +68,13 @@ impl Application for HistoAnswer {
 pub(crate) struct IgAnswer;
 
 impl Application for IgAnswer {
-    ghost use Rattle.std.specs.Prelude.{◌≡◌};
+    ghost use Rattle.bale_cli.specs.Serving.{ServesIg};
 
     type Prog = Ig;
 
     type Answer = Progs<Ig>;
 
-    ghost serves = { λ task m. task ≡ Ig };
+    ghost serves = { ServesIg };
 
     ghost starts = { λ _. ig_starts };
 
@@ -85,7 +85,7 @@ impl Application for IgAnswer {
     }
 
     fn end(alloc: Global, task: &Task, m: &Matrix, progs: Progs<Ig>) -> Result<Progs<Ig>, NoMemory>
-        requires serves { task.now ≡ Ig }
+        requires serves { ServesIg task.now m.now }
         requires ended { (ranks : ℕ) × (1 ≤ ranks) × (ranks ≤ 64) × HaveEnded ig_rules (ig_starts ranks m.now) progs }
         ensures { IfOk result (λ a. IgEnded m.now a) }
     {

@@ -1,11 +1,11 @@
 //! The run of a command for a matrix: the programs, driven, and then the answer, written.
-ghost use Rattle.std.specs.Prelude.{◌≡◌, ◌≤◌, ◌<◌, ℕ, Bool, true, false, List, None, OnErr, IfOk};
+ghost use Rattle.std.specs.Prelude.{◌≡◌, ◌≤◌, ◌<◌, ℕ, Bool, true, false, List, None, OnErr, IfOk, IfErr};
 ghost use Rattle.bale_types.specs.Stream.{HasCause, IsFront};
 ghost use Rattle.route_tensor.specs.Grid.{ranks};
 ghost use Rattle.round_program.specs.Canonical.{HaveEnded};
 ghost use Rattle.app_cases.specs.Any.{any_rules};
 ghost use Rattle.bale_words.specs.Ranges.{InRanges};
-ghost use Rattle.bale_cli.specs.Jobs.{runs};
+ghost use Rattle.bale_cli.specs.Jobs.{as_asked, runs};
 ghost use Rattle.bale_cli.specs.Answer.{HasWritten, shown};
 ghost use Rattle.bale_cli.specs.Fitness.{unfitness};
 ghost use Rattle.bale_cli.specs.Starts.{starts_of};
@@ -13,16 +13,18 @@ ghost use Rattle.bale_cli.specs.Tasks.{IsAnswer, task_status, made_for, TellsTas
 
 use crate::finish::{Ending, finished};
 use crate::numberings::in_order;
+use crate::refusal::Refusal;
 use crate::start::started;
 use app_cases::AnyProgram;
-use bale_types::{Failed, NoMemory, Sink};
-use bale_words::{Command, Travel};
+use bale_types::{Failed, Sink};
+use bale_words::{Command, Driving, Travel};
 use case_table::{case_serial, case_threads};
 use mtx_text::Matrix;
 use rank_group::{Finished, Gate, Rounds, Steps, Via};
 use std::alloc::Global;
+use std::marker::Brand;
 use std::sync::Wait;
-use std::sync::ledger::Ledger;
+use std::sync::ledger::{Blank, Ledger};
 use std::thread::Threads;
 
 /// A run that came to its end: the answer's status, whether it was written, and what was exchanged.
@@ -40,7 +42,7 @@ pub(crate) fn ran_serially<K: Sink, L: Ledger>(
     m: &Matrix,
     out: &mut K,
     steps: &mut Steps<L>,
-) -> Result<Finish, NoMemory>
+) -> Result<Finish, Refusal>
     requires runs { runs command.now ≡ true }
     requires ranges { InRanges command.now }
     requires fits { unfitness command.now.task m.now true ≡ None }
@@ -50,6 +52,7 @@ pub(crate) fn ran_serially<K: Sink, L: Ledger>(
     ensures cause { IfOk result (λ f. HasCause (K.faults out.old) (K.faults out.new) f.written) }
     ensures held { IsFront (K.taken out.old) (K.taken out.new) }
     ensures no_answer { OnErr result (K.taken out.new ≡ K.taken out.old) }
+    ensures memory { IfErr result (λ r. r ≡ Refusal.NoMemory) }
     ensures rounds { IfOk result (λ f. TellsTask command.now.task m.now (made_for true command.now) command.now.travel.steady f.rounds) }
     ensures steps { TurnsOfTask command.now.task m.now command.now.grid steps.old steps.new }
 {
@@ -77,14 +80,14 @@ pub(crate) fn ran_serially<K: Sink, L: Ledger>(
 }
 
 /// Runs the command for a matrix, each rank on a thread of its own, and writes its answer.
-pub(crate) fn ran_on_threads<R: Threads + Wait + Sync, K: Sink, G: Gate + Sync>(
+fn ran_on_threads<R: Threads + Wait + Sync, K: Sink, G: Gate + Sync>(
     rt: &R,
     alloc: Global,
     command: &Command,
     m: &Matrix,
     out: &mut K,
     gate: &G,
-) -> Result<Finish, NoMemory>
+) -> Result<Finish, Refusal>
     requires runs { runs command.now ≡ true }
     requires ranges { InRanges command.now }
     requires fits { unfitness command.now.task m.now false ≡ None }
@@ -94,6 +97,7 @@ pub(crate) fn ran_on_threads<R: Threads + Wait + Sync, K: Sink, G: Gate + Sync>(
     ensures cause { IfOk result (λ f. HasCause (K.faults out.old) (K.faults out.new) f.written) }
     ensures held { IsFront (K.taken out.old) (K.taken out.new) }
     ensures no_answer { OnErr result (K.taken out.new ≡ K.taken out.old) }
+    ensures memory { IfErr result (λ r. r ≡ Refusal.NoMemory) }
     ensures rounds { IfOk result (λ f. TellsTask command.now.task m.now (made_for false command.now) command.now.travel.steady f.rounds) }
 {
     let grid = &command.grid;
@@ -118,6 +122,68 @@ pub(crate) fn ran_on_threads<R: Threads + Wait + Sync, K: Sink, G: Gate + Sync>(
     told(alloc, command, m, run, out)
 }
 
+/// Runs the command for a matrix as its words ask, and writes its answer.
+pub(crate) fn ran<R: Threads + Wait + Sync, K: Sink, G: Gate + Sync>(
+    rt: &R,
+    alloc: Global,
+    command: &Command,
+    m: &Matrix,
+    out: &mut K,
+    gate: &G,
+) -> Result<Finish, Refusal>
+    requires runs { runs command.now ≡ true }
+    requires ranges { InRanges command.now }
+    requires fits { unfitness command.now.task m.now (as_asked command.now) ≡ None }
+    ensures status { IfOk result (λ f. f.status ≡ task_status command.now.task m.now) }
+    ensures low { IfOk result (λ f. f.status ≤ 1) }
+    ensures answer { IfOk result (λ f. HasWritten (IsAnswer command.now.task m.now) (shown command.now.travel.generated) (K.taken out.old) (K.taken out.new) f.written) }
+    ensures cause { IfOk result (λ f. HasCause (K.faults out.old) (K.faults out.new) f.written) }
+    ensures held { IsFront (K.taken out.old) (K.taken out.new) }
+    ensures no_answer { OnErr result (K.taken out.new ≡ K.taken out.old) }
+    ensures memory { IfErr result (λ r. r ≡ Refusal.NoMemory) }
+    ensures rounds { IfOk result (λ f. TellsTask command.now.task m.now (made_for (as_asked command.now) command.now) command.now.travel.steady f.rounds) }
+{
+    if drives_serially(command) {
+        ran_uncounted::<Brand, K>(alloc, command, m, out, Blank::new(1))
+    } else {
+        ran_on_threads(rt, alloc, command, m, out, gate)
+    }
+}
+
+/// Whether the words ask for one thread.
+pub(crate) fn drives_serially(command: &Command) -> bool
+    ensures { result ≡ as_asked command.now }
+{
+    matches!(command.travel.driving, Driving::Serial)
+}
+
+/// A run on this thread whose turns nobody asks for.
+fn ran_uncounted<L: Ledger, K: Sink>(
+    alloc: Global,
+    command: &Command,
+    m: &Matrix,
+    out: &mut K,
+    blank: Blank,
+) -> Result<Finish, Refusal>
+    requires name { blank.name ≡ L.name }
+    requires parts { blank.parts ≡ L.parts }
+    requires some { 0 < L.parts }
+    requires runs { runs command.now ≡ true }
+    requires ranges { InRanges command.now }
+    requires fits { unfitness command.now.task m.now true ≡ None }
+    ensures status { IfOk result (λ f. f.status ≡ task_status command.now.task m.now) }
+    ensures low { IfOk result (λ f. f.status ≤ 1) }
+    ensures answer { IfOk result (λ f. HasWritten (IsAnswer command.now.task m.now) (shown command.now.travel.generated) (K.taken out.old) (K.taken out.new) f.written) }
+    ensures cause { IfOk result (λ f. HasCause (K.faults out.old) (K.faults out.new) f.written) }
+    ensures held { IsFront (K.taken out.old) (K.taken out.new) }
+    ensures no_answer { OnErr result (K.taken out.new ≡ K.taken out.old) }
+    ensures memory { IfErr result (λ r. r ≡ Refusal.NoMemory) }
+    ensures rounds { IfOk result (λ f. TellsTask command.now.task m.now (made_for true command.now) command.now.travel.steady f.rounds) }
+{
+    let mut steps = Steps::<L>::new(blank);
+    ran_serially(alloc, command, m, out, &mut steps)
+}
+
 /// The end of a run that was driven: its answer is written, and what was exchanged is told.
 fn told<K: Sink>(
     alloc: Global,
@@ -125,7 +191,7 @@ fn told<K: Sink>(
     m: &Matrix,
     run: Finished<AnyProgram>,
     out: &mut K,
-) -> Result<Finish, NoMemory>
+) -> Result<Finish, Refusal>
     requires runs { runs command.now ≡ true }
     requires ranges { InRanges command.now }
     requires fits { (serial : Bool) × (unfitness command.now.task m.now serial ≡ None) }
@@ -136,6 +202,7 @@ fn told<K: Sink>(
     ensures cause { IfOk result (λ f. HasCause (K.faults out.old) (K.faults out.new) f.written) }
     ensures held { IsFront (K.taken out.old) (K.taken out.new) }
     ensures no_answer { OnErr result (K.taken out.new ≡ K.taken out.old) }
+    ensures memory { IfErr result (λ r. r ≡ Refusal.NoMemory) }
     ensures rounds { IfOk result (λ f. f.rounds ≡ run.rounds) }
 {
     let Finished { progs, rounds } = run;

@@ -1,11 +1,11 @@
 //! What the program can run, of what words can ask for, and the matrix that it is asked of.
 
-ghost use Rattle.std.specs.Prelude.{◌≡◌, ◌≢◌, ◌⊎◌, ℕ, true, List, map, drop, string_bytes, Some, None, OnOk, IfOk, IfErr, Ok, Err};
+ghost use Rattle.std.specs.Prelude.{◌≡◌, ◌≢◌, ◌⊎◌, ℕ, true, false, List, map, drop, string_bytes, Some, None, OnOk, IfOk, IfErr, Ok, Err};
 ghost use Rattle.bale_types.specs.Stream.{Rose};
 ghost use Rattle.mtx_text.specs.Generated.{generated};
 ghost use Rattle.mtx_text.specs.Sparse.{Sparse};
 ghost use Rattle.bale_words.specs.Ranges.{InRanges, MayGenerate};
-ghost use Rattle.bale_cli.specs.Answer.{IsOfText, TellsText, matrix_asked};
+ghost use Rattle.bale_cli.specs.Answer.{IsOfText, Told, matrix_asked, reads};
 ghost use Rattle.bale_cli.specs.Fitness.{unfitness};
 ghost use Rattle.bale_cli.specs.Jobs.{job_of, runs, is_ready};
 
@@ -58,16 +58,16 @@ pub(crate) fn matrix_for<S: Source>(
     serial: bool,
 ) -> Result<Matrix, Refusal>
     requires ranges { InRanges command.now }
-    ensures matrix { (text : List ℕ) → TellsText command.now.travel.generated (S.left source.old) text → IfOk result (λ m. matrix_asked command.now.travel.generated text ≡ Ok m) }
+    ensures matrix { (text : List ℕ) → Told (Some command.now) (S.left source.old) text → IfOk result (λ m. matrix_asked command.now.travel.generated text ≡ Ok m) }
     ensures fits { IfOk result (λ m. unfitness command.now.task m serial ≡ None) }
     ensures read_fault { result ≡ Err Refusal.ReadFault → Rose (S.faults source.old) (S.faults source.new) }
-    ensures bad { (text : List ℕ) (b : _) → TellsText command.now.travel.generated (S.left source.old) text → result ≡ Err (Refusal.BadMatrix b) → matrix_asked command.now.travel.generated text ≡ Err b }
-    ensures unfit { (text : List ℕ) (u : Unfit) → TellsText command.now.travel.generated (S.left source.old) text → result ≡ Err (Refusal.Unfit u) →
+    ensures bad { (text : List ℕ) (b : _) → Told (Some command.now) (S.left source.old) text → result ≡ Err (Refusal.BadMatrix b) → matrix_asked command.now.travel.generated text ≡ Err b }
+    ensures unfit { (text : List ℕ) (u : Unfit) → Told (Some command.now) (S.left source.old) text → result ≡ Err (Refusal.Unfit u) →
         (m : Sparse) × (matrix_asked command.now.travel.generated text ≡ Ok m) × (unfitness command.now.task m serial ≡ Some u) }
     ensures kinds { IfErr result (λ r. (r ≢ Refusal.WriteFault) × (r ≢ Refusal.Usage)) }
-    ensures unread { (command.now.travel.generated ≡ None → ⊥) → S.left source.new ≡ S.left source.old }
-    ensures read_whole { (text : List ℕ) → S.left source.old ≡ Some text → command.now.travel.generated ≡ None → OnOk result (S.left source.new ≡ Some (drop 16_777_217 text)) }
-    ensures read_bad { (text : List ℕ) → S.left source.old ≡ Some text → command.now.travel.generated ≡ None → IfErr result (λ r. IsOfText r → S.left source.new ≡ Some (drop 16_777_217 text)) }
+    ensures unread { reads (Some command.now) ≡ false → S.left source.new ≡ S.left source.old }
+    ensures read_whole { (text : List ℕ) → S.left source.old ≡ Some text → reads (Some command.now) ≡ true → OnOk result (S.left source.new ≡ Some (drop 16_777_217 text)) }
+    ensures read_bad { (text : List ℕ) → S.left source.old ≡ Some text → reads (Some command.now) ≡ true → IfErr result (λ r. IsOfText r → S.left source.new ≡ Some (drop 16_777_217 text)) }
 {
     let matrix = match command.travel.generated {
         None => read_matrix(alloc, source)?,

@@ -11,6 +11,7 @@
 #![tactic(auto)]
 
 mod application;
+mod calls;
 mod column_answers;
 mod counter;
 mod exchange;
@@ -20,13 +21,12 @@ mod matrix_answers;
 mod numberings;
 mod order_answer;
 mod refusal;
-mod run;
 mod start;
 mod unfit;
 mod walk_answers;
 
+pub use calls::{Outcome, run, run_serial};
 pub use refusal::{Refusal, report};
-pub use run::{Outcome, run, run_serial};
 pub use unfit::Unfit;
 
 #[cfg(test)]

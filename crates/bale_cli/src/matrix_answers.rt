@@ -7,8 +7,7 @@ ghost use Rattle.app_permute.specs.Permutes.{permute_rules};
 ghost use Rattle.app_permute.specs.PermuteRuns.{permute_starts};
 ghost use Rattle.app_permute.specs.Transposes.{transpose_rules};
 ghost use Rattle.app_permute.specs.TransposeRuns.{transpose_starts};
-ghost use Rattle.bale_words.specs.declared.command.Task.TheVariants.{Transpose};
-ghost use Rattle.bale_cli.specs.Serving.{ServesPermute, moves_of};
+ghost use Rattle.bale_cli.specs.Serving.{ServesPermute, ServesTranspose, moves_of};
 
 use crate::application::Application;
 use crate::numberings::new_numbers;
@@ -96,12 +95,13 @@ impl Application for TransposeAnswer {
     ghost use Rattle.std.specs.Prelude.{◌≡◌};
     ghost use Rattle.app_permute.specs.Moved.{transposed};
     ghost use Rattle.app_permute.specs.TransposeRuns.{transpose_starts};
+    ghost use Rattle.bale_cli.specs.Serving.{ServesTranspose};
 
     type Prog = Transpose;
 
     type Answer = Matrix;
 
-    ghost serves = { λ task m. task ≡ Transpose };
+    ghost serves = { ServesTranspose };
 
     ghost starts = { λ _. transpose_starts };
 
@@ -122,7 +122,7 @@ impl Application for TransposeAnswer {
         m: &Matrix,
         progs: Progs<Transpose>,
     ) -> Result<Matrix, NoMemory>
-        requires serves { task.now ≡ Transpose }
+        requires serves { ServesTranspose task.now m.now }
         requires ended { (ranks : ℕ) × (1 ≤ ranks) × (ranks ≤ 64) × HaveEnded transpose_rules (transpose_starts ranks m.now) progs }
         ensures { IfOk result (λ b. b ≡ transposed m.now) }
     {

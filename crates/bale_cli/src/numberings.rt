@@ -1,7 +1,7 @@
 //! New numbers of rows and columns, as the words give them.
 
-ghost use Rattle.std.specs.Prelude.{◌≡◌, ℕ, IfOk};
-ghost use Rattle.std.specs.List.{range_with_len};
+ghost use Rattle.std.specs.Prelude.{◌≡◌, ℕ, nat_lt, IfOk};
+ghost use Rattle.std.specs.List.{list_all, range_with_len};
 ghost use Rattle.rank_group.specs.Ranks.{IsOrder};
 ghost use Rattle.bale_cli.specs.Numberings.{from_zero, has_each, numbers_all, new_numbers};
 
@@ -25,14 +25,22 @@ pub(crate) fn numbers_all(
         None => Ok(true),
         Some(numbers) => {
             let numbers = numbers.as_slice();
-            if numbers.iter().all(|x| *x > 0) {
+            if are_from_1(numbers) {
                 let lowered = from_zero(alloc, numbers)?;
-                has_each(alloc, n, lowered.as_slice())
+                let whole = has_each(alloc, n, lowered.as_slice())?;
+                Ok(whole)
             } else {
                 Ok(false)
             }
         }
     }
+}
+
+/// Whether all are 1 or more.
+fn are_from_1(numbers: &[u32]) -> bool
+    ensures { result ≡ list_all (λ x. nat_lt 0 x) numbers.now }
+{
+    numbers.iter().all(|x| *x > 0)
 }
 
 /// The new numbers counted from 0: those of the list, or the old ones where none is given.

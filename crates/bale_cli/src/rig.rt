@@ -1,7 +1,7 @@
 //! What the tests of the top calls share: runs of both, and their answers as texts.
 ghost use Rattle.std.specs.Prelude.{◌≡◌, ◌<◌};
 
-use crate::run::{Outcome, run, run_serial};
+use crate::calls::{Outcome, run, run_serial};
 use bale_types::{MemSink, MemSource};
 use rank_group::{OpenGate, Steps};
 use std::alloc::Global;

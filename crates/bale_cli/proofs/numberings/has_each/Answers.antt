@@ -1,4 +1,4 @@
-use Rattle.bale_cli.proofs.Numberings.{decided}
+use Rattle.bale_cli.proofs.Renumbering.{decided}
 use Rattle.bale_cli.proofs.numberings.has_each.Goals as goal
 
 pub returns : goal.returns

@@ -3,8 +3,8 @@ use Rattle.mtx_text.proofs.Shuffles.{range_more}
 use Rattle.bale_cli.proofs.Orders.{below_none, below_more, below_all}
 use Rattle.bale_cli.proofs.numberings.in_order.Goals as goal
 
-pub loop-x-initially : goal.loop-x-initially
-loop-x-initially c = search (rules, below_none)
+pub loop-x-init : goal.loop-x-init
+loop-x-init c = search (rules, below_none)
 
 pub loop-x-preserved : goal.loop-x-preserved
 loop-x-preserved c =

@@ -1,13 +1,24 @@
 -- A list has each number below n once, by the test as by the definition.
-use Rattle.std.proofs.Common.{ℕ, ◌+◌, ◌<◌, ◌≤◌, ◌≡◌, Bool, true, false, not, ◌&&◌, ◌||◌, eqb, ltb, List, [], ◌∷◌, length, sum_by, arith, inl, inr, refl, sym, ap, ◌∙◌}
-use Rattle.std.specs.List.{All, list_all, list_any}
+use Rattle.std.proofs.Common.{ℕ, zero, suc, ◌+◌, ◌-◌, ◌%◌, ◌<◌, ◌≤◌, ◌≡◌, Bool, true, false, not, ◌&&◌, ◌||◌, eqb, ltb, List, [], ◌∷◌, Option, None, Some, if◌then◌else◌, length, sum_by, arith, inl, inr, refl, sym, ap, subst, ◌∙◌}
+use Rattle.std.specs.List.{All, list_all, list_any, range_with_len, swap}
 use Rattle.std.proofs.lemmas.Bool.{cases_Bool, cases_eq, eq-eqb, ne_eqb, eqb-true, and_from, and_parts, or_parts, not-true, not_from_false, false≢true, lt-ltb, ltb-true, both_ways}
 use Rattle.std.proofs.lemmas.List.Elements.{All-head, All-tail, All-cons, All-nil}
+use Rattle.std.proofs.lemmas.List.Sorted.{IsPermutation-refl}
 use Rattle.std.proofs.lemmas.List.Sums.{sum_by-cons}
+use Rattle.std.proofs.lemmas.Nat.{mod_below}
+use Rattle.std.proofs.lemmas.Option.{none-some}
 use Rattle.mtx_text.specs.Permutations.{Permutes}
+use Rattle.mtx_text.specs.Seeds.{begun, drawn, shuffled, step, word}
+use Rattle.mtx_text.specs.Sparse.{Sparse}
 use Rattle.mtx_text.proofs.Bands.{as_many, all_below}
+use Rattle.mtx_text.proofs.Shuffles.{permutes_swap}
 use Rattle.sparse_rows.proofs.Doubles.{times, one_if, all_once, none_twice as once_each}
-use Rattle.bale_cli.specs.Numberings.{has_each, none_twice}
+use Rattle.bale_words.specs.declared.command.Permutations.{Permutations}
+use Rattle.bale_words.specs.declared.command.Permutations.TheVariants.{Lists, Seed}
+use Rattle.bale_words.specs.declared.command.Task.TheVariants as task
+use Rattle.bale_cli.specs.Fitness.{unfitness}
+use Rattle.bale_cli.specs.Numberings.{from_zero, has_each, new_numbers, none_twice, numbers_all}
+use Rattle.bale_cli.specs.Serving.{ServesPermute}
 
 -- what doesn't come in a list comes no time
 absent : (x : ℕ) (xs : List ℕ) → list_any (λ y. eqb y x) xs ≡ false → times x xs ≡ 0
@@ -83,6 +94,42 @@ each_once n p h =
 
 -- so a test that decides the definition is the other test
 pub decided : (n : ℕ) (p : List ℕ) (b : Bool) → (b ≡ true → Permutes n p) → (Permutes n p → b ≡ true) → b ≡ has_each n p
-decided n p true yes no_ = sym (each_once n p (yes refl))
-decided n p false yes no_ =
-    elim (cases_Bool (has_each n p)) [ inl e ↦ absurd (false≢true (no_ (permutes n p e))) | inr e ↦ sym e ]
+decided n p true forth back = sym (each_once n p (forth refl))
+decided n p false forth back =
+    elim (cases_Bool (has_each n p)) [ inl e ↦ absurd (false≢true (back (permutes n p e))) | inr e ↦ sym e ]
+
+-- where all numbers are 1 or more, the rest of the test decides
+pub all_some : (n : ℕ) (numbers : List ℕ) → list_all (λ x. ltb 0 x) numbers ≡ true → has_each n (from_zero numbers) ≡ numbers_all n (Some numbers)
+all_some n numbers h = sym (ap (λ b. b && has_each n (from_zero numbers)) h)
+
+-- a list that numbers all, or none, is a permutation
+pub new_permutes : (n : ℕ) (numbers : Option (List ℕ)) → numbers_all n numbers ≡ true → Permutes n (new_numbers n numbers)
+new_permutes n None h = IsPermutation-refl (range_with_len 0 n)
+new_permutes n (Some numbers) h = permutes n (from_zero numbers) (and_parts (list_all (λ x. ltb 0 x) numbers) (has_each n (from_zero numbers)) h).1
+
+-- what is drawn from a seed is one
+shuffled_permutes : (n i : ℕ) (list : List ℕ) (state : ℕ) → i < n → Permutes n list → Permutes n (shuffled i list state).0
+shuffled_permutes n zero list state low h = h
+shuffled_permutes n (suc i) list state low h =
+    shuffled_permutes n i (swap list (suc i) (word state % (i + 2))) (step state) (omega (arith, low))
+    (permutes_swap n list (suc i) (word state % (i + 2)) low (omega (arith, low, mod_below (word state) (i + 2) (omega arith))) h)
+
+drawn_permutes : (n state : ℕ) → Permutes n (drawn n state).0
+drawn_permutes zero state = IsPermutation-refl (range_with_len 0 0)
+drawn_permutes (suc k) state =
+    let same : suc k - 1 ≡ k = omega arith in
+    subst (λ i. Permutes (suc k) (shuffled i (range_with_len 0 (suc k)) state).0) (sym same)
+    (shuffled_permutes (suc k) k (range_with_len 0 (suc k)) state (omega arith) (IsPermutation-refl (range_with_len 0 (suc k))))
+
+-- a test that doesn't fail
+passes : {X : Type 0} (b : Bool) (x : X) (rest : Option X) → (if not b then Some x else rest) ≡ None → (b ≡ true) × (rest ≡ None)
+passes true x rest h = (refl, h)
+passes false x rest h = absurd (none-some x (sym h))
+
+-- the new numbers of a task that fits are permutations
+pub moves : (p : Permutations) (m : Sparse) (serial : Bool) → unfitness (task.Permute p) m serial ≡ None → ServesPermute (task.Permute p) m
+moves (Seed seed) m serial h = (drawn_permutes m.rows (begun seed), drawn_permutes m.cols (drawn m.rows (begun seed)).1)
+moves (Lists rows cols) m serial h =
+    let a = passes (numbers_all m.rows rows) _ _ h in
+    let b = passes (numbers_all m.cols cols) _ _ a.1 in
+    (new_permutes m.rows rows a.0, new_permutes m.cols cols b.0)

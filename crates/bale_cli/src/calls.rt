@@ -1,26 +1,23 @@
 //! The top calls: from the words and the bytes that come in to the bytes that go out.
 ghost use Rattle.std.specs.Prelude.{◌≡◌, ◌≢◌, ◌⊎◌, ◌≤◌, ◌<◌, ℕ, true, false, [], List, Option, Some, None, Ok, Err, map, drop, string_bytes, OnOk, OnErr, IfOk, IfErr};
-ghost use Rattle.std.specs.Result.{IsErrAnd};
 ghost use Rattle.bale_types.specs.Stream.{after, HasCause, IsFront, Rose};
 ghost use Rattle.mtx_text.specs.Sparse.{Sparse};
 ghost use Rattle.bale_words.specs.declared.command.Command.{Command};
 ghost use Rattle.bale_words.specs.Ranges.{InRanges};
-ghost use Rattle.bale_cli.specs.Answer.{serial_answer, said, shown, refusal_text, status_of, reads, Asked, HasWritten, IsBad, IsOfText, IsUnfit, Told, Wrote};
-ghost use Rattle.bale_cli.specs.Fitness.{unfitness};
+ghost use Rattle.bale_cli.specs.Answer.{serial_answer, said, refusal_text, status_of, reads, Asked, Told, Wrote};
 ghost use Rattle.bale_cli.specs.Jobs.{as_asked, job_of, on_one_thread, runs};
-ghost use Rattle.bale_cli.specs.Tasks.{made_for, task_status, IsAnswer, TellsTask, TurnsOfTask};
+ghost use Rattle.bale_cli.specs.Outcomes.{Answered};
+ghost use Rattle.bale_cli.specs.Tasks.{made_for, TellsTask, TurnsOfTask};
 
-use crate::exchange::{Finish, ran_on_threads, ran_serially};
+use crate::exchange::{Finish, drives_serially, ran, ran_serially};
 use crate::job::{matrix_for, read_job};
 use crate::refusal::{Refusal, report};
-use bale_types::{NoMemory, Sink, Source};
-use bale_words::{Command, Driving};
-use mtx_text::Matrix;
+use bale_types::{Sink, Source};
+use bale_words::Command;
 use rank_group::{Gate, Rounds, Steps};
 use std::alloc::Global;
-use std::marker::Brand;
 use std::sync::Wait;
-use std::sync::ledger::{Blank, Ledger};
+use std::sync::ledger::Ledger;
 use std::thread::Threads;
 
 /// How a run ended.
@@ -79,12 +76,12 @@ pub fn run<R: Threads + Wait + Sync, S: Source, K: Sink, E: Sink, G: Gate + Sync
 
     // At 0, 1 and 4 the rounds tell the canonical run of the application's programs for its matrix, over a bank of
     // the grid, the capacity and the slots that the words name: a plain one for one thread, else one of slots; else there are none.
-    ensures rounds { (text : List ℕ) (c : Command) (m : Sparse) → Asked as_asked (S.left source.old) (map string_bytes words.now) text c m → (result.status ≡ 0) ⊎ (result.status ≡ 1) ⊎ (result.status ≡ 4) →
+    ensures rounds { (text : List ℕ) (c : Command) (m : Sparse) → Asked as_asked (S.left source.old) (job_of (map string_bytes words.now)) text c m → (result.status ≡ 0) ⊎ (result.status ≡ 1) ⊎ (result.status ≡ 4) →
         TellsTask c.task m (made_for (as_asked c) c) c.travel.steady result.rounds }
     ensures no_rounds { result.status ≢ 0 → result.status ≢ 1 → result.status ≢ 4 → result.rounds ≡ [] }
 {
     let answered = answer(rt, alloc, words, source, out, gate);
-    outcome(alloc, answered, err)
+    outcome_of(alloc, answered, err)
 }
 
 /// Runs the command of the words after the program's name on the text of `source`, all ranks on this thread whatever the
@@ -133,21 +130,21 @@ pub fn run_serial<S: Source, K: Sink, E: Sink, L: Ledger>(
 
     // At 0, 1 and 4 the rounds tell the canonical run of the application's programs for its matrix, over a bank of
     // the grid, the capacity and the slots that the words name: a plain one; else there are none.
-    ensures rounds { (text : List ℕ) (c : Command) (m : Sparse) → Asked on_one_thread (S.left source.old) (map string_bytes words.now) text c m → (result.status ≡ 0) ⊎ (result.status ≡ 1) ⊎ (result.status ≡ 4) →
+    ensures rounds { (text : List ℕ) (c : Command) (m : Sparse) → Asked on_one_thread (S.left source.old) (job_of (map string_bytes words.now)) text c m → (result.status ≡ 0) ⊎ (result.status ≡ 1) ⊎ (result.status ≡ 4) →
         TellsTask c.task m (made_for true c) c.travel.steady result.rounds }
     ensures no_rounds { result.status ≢ 0 → result.status ≢ 1 → result.status ≢ 4 → result.rounds ≡ [] }
 
     // The turns are bounded by the words and the matrix, at 7 too; a refusal makes none.
-    ensures steps { (text : List ℕ) (c : Command) (m : Sparse) → Asked on_one_thread (S.left source.old) (map string_bytes words.now) text c m →
+    ensures steps { (text : List ℕ) (c : Command) (m : Sparse) → Asked on_one_thread (S.left source.old) (job_of (map string_bytes words.now)) text c m →
         TurnsOfTask c.task m c.grid steps.old steps.new }
     ensures no_turns { result.status ≢ 0 → result.status ≢ 1 → result.status ≢ 4 → result.status ≢ 7 → steps.new ≡ steps.old }
 {
     let answered = answer_serially(alloc, words, source, out, steps);
-    outcome(alloc, answered, err)
+    outcome_of(alloc, answered, err)
 }
 
 /// How a run ended, which is said on `err` where there is no answer.
-fn outcome<E: Sink>(alloc: Global, answered: Result<Finish, Refusal>, err: &mut E) -> Outcome
+fn outcome_of<E: Sink>(alloc: Global, answered: Result<Finish, Refusal>, err: &mut E) -> Outcome
     requires low { IfOk answered (λ f. f.status ≤ 1) }
     ensures rounds { IfOk answered (λ f. result.rounds ≡ f.rounds) }
     ensures no_rounds { OnErr answered (result.rounds ≡ []) }
@@ -189,34 +186,36 @@ fn answer<R: Threads + Wait + Sync, S: Source, K: Sink, G: Gate + Sync>(
     out: &mut K,
     gate: &G,
 ) -> Result<Finish, Refusal>
-    ensures usage { result ≡ Err Refusal.Usage → job_of (map string_bytes words.now) ≡ None }
-    ensures no_command { job_of (map string_bytes words.now) ≡ None → IsErrAnd result (λ r. (r ≡ Refusal.Usage) ⊎ (r ≡ Refusal.NoMemory)) }
-    ensures read_fault { result ≡ Err Refusal.ReadFault → Rose (S.faults source.old) (S.faults source.new) }
-    ensures bad { (text : List ℕ) (b : _) → Told (job_of (map string_bytes words.now)) (S.left source.old) text → result ≡ Err (Refusal.BadMatrix b) → IsBad (job_of (map string_bytes words.now)) text b }
-    ensures unfit { (text : List ℕ) (u : _) → Told (job_of (map string_bytes words.now)) (S.left source.old) text → result ≡ Err (Refusal.Unfit u) → IsUnfit as_asked (job_of (map string_bytes words.now)) text u }
-    ensures no_fault { IfErr result (λ r. r ≢ Refusal.WriteFault) }
-    ensures wrote { (text : List ℕ) → Told (job_of (map string_bytes words.now)) (S.left source.old) text → IfOk result (λ f. Wrote as_asked (job_of (map string_bytes words.now)) text
-        (λ bytes. OnOk f.written (K.taken out.new ≡ after (K.taken out.old) bytes) × OnErr f.written (IsFront (K.taken out.new) (after (K.taken out.old) bytes)))) }
-    ensures status { (text : List ℕ) → Told (job_of (map string_bytes words.now)) (S.left source.old) text → IfOk result (λ f. f.status ≡ (serial_answer as_asked (map string_bytes words.now) text).status) }
     ensures low { IfOk result (λ f. f.status ≤ 1) }
-    ensures cause { IfOk result (λ f. HasCause (K.faults out.old) (K.faults out.new) f.written) }
-    ensures held { IsFront (K.taken out.old) (K.taken out.new) }
-    ensures unread { reads (job_of (map string_bytes words.now)) ≡ false → S.left source.new ≡ S.left source.old }
-    ensures read_whole { (text : List ℕ) → S.left source.old ≡ Some text → reads (job_of (map string_bytes words.now)) ≡ true → OnOk result (S.left source.new ≡ Some (drop 16_777_217 text)) }
-    ensures read_bad { (text : List ℕ) → S.left source.old ≡ Some text → reads (job_of (map string_bytes words.now)) ≡ true → IfErr result (λ r. IsOfText r → S.left source.new ≡ Some (drop 16_777_217 text)) }
-    ensures no_answer { OnErr result (K.taken out.new ≡ K.taken out.old) }
-    ensures rounds { (text : List ℕ) (c : Command) (m : Sparse) → Asked as_asked (S.left source.old) (map string_bytes words.now) text c m →
-        IfOk result (λ f. TellsTask c.task m (made_for (as_asked c) c) c.travel.steady f.rounds) }
+    ensures answered { Answered as_asked (job_of (map string_bytes words.now)) (S.left source.old) (S.left source.new) (Rose (S.faults source.old) (S.faults source.new))
+        (K.taken out.old) (K.taken out.new) (Rose (K.faults out.old) (K.faults out.new)) result }
 {
-    let command = read_job(alloc, words)?;
-    let serial = command.travel.driving == Driving::Serial;
-    let matrix = matrix_for(alloc, &command, source, serial)?;
-    let finish = if serial {
-        ran_uncounted::<Brand, K>(alloc, &command, &matrix, out, Blank::new(1))?
-    } else {
-        ran_on_threads(rt, alloc, &command, &matrix, out, gate)?
-    };
-    Ok(finish)
+    match read_job(alloc, words) {
+        Ok(command) => answer_of(rt, alloc, &command, source, out, gate),
+        Err(refusal) => Err(refusal),
+    }
+}
+
+/// The run of a command, and its answer on out, or why there is none.
+fn answer_of<R: Threads + Wait + Sync, S: Source, K: Sink, G: Gate + Sync>(
+    rt: &R,
+    alloc: Global,
+    command: &Command,
+    source: &mut S,
+    out: &mut K,
+    gate: &G,
+) -> Result<Finish, Refusal>
+    requires runs { runs command.now ≡ true }
+    requires ranges { InRanges command.now }
+    ensures low { IfOk result (λ f. f.status ≤ 1) }
+    ensures answered { Answered as_asked (Some command.now) (S.left source.old) (S.left source.new) (Rose (S.faults source.old) (S.faults source.new))
+        (K.taken out.old) (K.taken out.new) (Rose (K.faults out.old) (K.faults out.new)) result }
+{
+    let serial = drives_serially(command);
+    match matrix_for(alloc, command, source, serial) {
+        Ok(matrix) => ran(rt, alloc, command, &matrix, out, gate),
+        Err(refusal) => Err(refusal),
+    }
 }
 
 /// The same, all ranks on this thread.
@@ -227,56 +226,37 @@ fn answer_serially<S: Source, K: Sink, L: Ledger>(
     out: &mut K,
     steps: &mut Steps<L>,
 ) -> Result<Finish, Refusal>
-    ensures usage { result ≡ Err Refusal.Usage → job_of (map string_bytes words.now) ≡ None }
-    ensures no_command { job_of (map string_bytes words.now) ≡ None → IsErrAnd result (λ r. (r ≡ Refusal.Usage) ⊎ (r ≡ Refusal.NoMemory)) }
-    ensures read_fault { result ≡ Err Refusal.ReadFault → Rose (S.faults source.old) (S.faults source.new) }
-    ensures bad { (text : List ℕ) (b : _) → Told (job_of (map string_bytes words.now)) (S.left source.old) text → result ≡ Err (Refusal.BadMatrix b) → IsBad (job_of (map string_bytes words.now)) text b }
-    ensures unfit { (text : List ℕ) (u : _) → Told (job_of (map string_bytes words.now)) (S.left source.old) text → result ≡ Err (Refusal.Unfit u) → IsUnfit on_one_thread (job_of (map string_bytes words.now)) text u }
-    ensures no_fault { IfErr result (λ r. r ≢ Refusal.WriteFault) }
-    ensures wrote { (text : List ℕ) → Told (job_of (map string_bytes words.now)) (S.left source.old) text → IfOk result (λ f. Wrote on_one_thread (job_of (map string_bytes words.now)) text
-        (λ bytes. OnOk f.written (K.taken out.new ≡ after (K.taken out.old) bytes) × OnErr f.written (IsFront (K.taken out.new) (after (K.taken out.old) bytes)))) }
-    ensures status { (text : List ℕ) → Told (job_of (map string_bytes words.now)) (S.left source.old) text → IfOk result (λ f. f.status ≡ (serial_answer on_one_thread (map string_bytes words.now) text).status) }
     ensures low { IfOk result (λ f. f.status ≤ 1) }
-    ensures cause { IfOk result (λ f. HasCause (K.faults out.old) (K.faults out.new) f.written) }
-    ensures held { IsFront (K.taken out.old) (K.taken out.new) }
-    ensures unread { reads (job_of (map string_bytes words.now)) ≡ false → S.left source.new ≡ S.left source.old }
-    ensures read_whole { (text : List ℕ) → S.left source.old ≡ Some text → reads (job_of (map string_bytes words.now)) ≡ true → OnOk result (S.left source.new ≡ Some (drop 16_777_217 text)) }
-    ensures read_bad { (text : List ℕ) → S.left source.old ≡ Some text → reads (job_of (map string_bytes words.now)) ≡ true → IfErr result (λ r. IsOfText r → S.left source.new ≡ Some (drop 16_777_217 text)) }
-    ensures no_answer { OnErr result (K.taken out.new ≡ K.taken out.old) }
-    ensures rounds { (text : List ℕ) (c : Command) (m : Sparse) → Asked on_one_thread (S.left source.old) (map string_bytes words.now) text c m →
-        IfOk result (λ f. TellsTask c.task m (made_for true c) c.travel.steady f.rounds) }
-    ensures steps { (text : List ℕ) (c : Command) (m : Sparse) → Asked on_one_thread (S.left source.old) (map string_bytes words.now) text c m →
+    ensures answered { Answered on_one_thread (job_of (map string_bytes words.now)) (S.left source.old) (S.left source.new) (Rose (S.faults source.old) (S.faults source.new))
+        (K.taken out.old) (K.taken out.new) (Rose (K.faults out.old) (K.faults out.new)) result }
+    ensures steps { (text : List ℕ) (c : Command) (m : Sparse) → Asked on_one_thread (S.left source.old) (job_of (map string_bytes words.now)) text c m →
         TurnsOfTask c.task m c.grid steps.old steps.new }
     ensures no_turns { IfErr result (λ r. r ≢ Refusal.NoMemory → steps.new ≡ steps.old) }
 {
-    let command = read_job(alloc, words)?;
-    let matrix = matrix_for(alloc, &command, source, true)?;
-    let finish = ran_serially(alloc, &command, &matrix, out, steps)?;
-    Ok(finish)
+    match read_job(alloc, words) {
+        Ok(command) => answer_of_serially(alloc, &command, source, out, steps),
+        Err(refusal) => Err(refusal),
+    }
 }
 
-/// A run on this thread whose turns nobody asks for.
-fn ran_uncounted<L: Ledger, K: Sink>(
+fn answer_of_serially<S: Source, K: Sink, L: Ledger>(
     alloc: Global,
     command: &Command,
-    m: &Matrix,
+    source: &mut S,
     out: &mut K,
-    blank: Blank,
-) -> Result<Finish, NoMemory>
-    requires name { blank.name ≡ L.name }
-    requires parts { blank.parts ≡ L.parts }
-    requires some { 0 < L.parts }
+    steps: &mut Steps<L>,
+) -> Result<Finish, Refusal>
     requires runs { runs command.now ≡ true }
     requires ranges { InRanges command.now }
-    requires fits { unfitness command.now.task m.now true ≡ None }
-    ensures status { IfOk result (λ f. f.status ≡ task_status command.now.task m.now) }
     ensures low { IfOk result (λ f. f.status ≤ 1) }
-    ensures answer { IfOk result (λ f. HasWritten (IsAnswer command.now.task m.now) (shown command.now.travel.generated) (K.taken out.old) (K.taken out.new) f.written) }
-    ensures cause { IfOk result (λ f. HasCause (K.faults out.old) (K.faults out.new) f.written) }
-    ensures held { IsFront (K.taken out.old) (K.taken out.new) }
-    ensures no_answer { OnErr result (K.taken out.new ≡ K.taken out.old) }
-    ensures rounds { IfOk result (λ f. TellsTask command.now.task m.now (made_for true command.now) command.now.travel.steady f.rounds) }
+    ensures answered { Answered on_one_thread (Some command.now) (S.left source.old) (S.left source.new) (Rose (S.faults source.old) (S.faults source.new))
+        (K.taken out.old) (K.taken out.new) (Rose (K.faults out.old) (K.faults out.new)) result }
+    ensures steps { (text : List ℕ) (c : Command) (m : Sparse) → Asked on_one_thread (S.left source.old) (Some command.now) text c m →
+        TurnsOfTask c.task m c.grid steps.old steps.new }
+    ensures no_turns { IfErr result (λ r. r ≢ Refusal.NoMemory → steps.new ≡ steps.old) }
 {
-    let mut steps = Steps::<L>::new(blank);
-    ran_serially(alloc, command, m, out, &mut steps)
+    match matrix_for(alloc, command, source, true) {
+        Ok(matrix) => ran_serially(alloc, command, &matrix, out, steps),
+        Err(refusal) => Err(refusal),
+    }
 }

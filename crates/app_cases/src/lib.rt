@@ -7,13 +7,13 @@
 //! |---|---|
 //! | `AnyProgram` | any of the applications |
 //! | `Case` | one of them |
-//! | `drive_case` | drives the programs of one application, by the drives for `AnyProgram` |
+//! | `put_all`, `take_all` | the programs of one application as any of them, and out again |
 //!
 //! `specs/Any` has the tree, and `specs/Cases` the way to each leaf.
 #![tactic(auto)]
 
 mod case;
-mod exchange;
+mod ways;
 
 pub use case::{AnyProgram, Case};
-pub use exchange::drive_case;
+pub use ways::{put_all, take_all};

@@ -1,14 +1,12 @@
 -- A refusal is known by its status, and what is said of it is what the serial answer says.
-use Rattle.std.proofs.Common.{◌≡◌, ℕ, List, [], Option, None, Some, Ok, Err, ◌⊎◌, inl, inr, refl, sym, ap, ◌∙◌, subst, arith}
+use Rattle.std.proofs.Common.{◌≡◌, ℕ, Bool, List, [], Option, None, Some, Ok, Err, ◌⊎◌, inl, inr, refl, sym, ap, ◌∙◌, subst, arith}
 use Rattle.mtx_text.specs.declared.refusal.BadLine.{BadLine}
-use Rattle.mtx_text.specs.Grammar.{matrix_of}
-use Rattle.mtx_text.specs.Sparse.{Sparse}
 use Rattle.bale_words.specs.declared.command.Command.{Command}
 use Rattle.bale_cli.specs.Tasks.{task_status}
 use Rattle.bale_cli.specs.declared.unfit.Unfit.{Unfit as Unfitness}
 use Rattle.bale_cli.specs.declared.refusal.Refusal.{Refusal}
 use Rattle.bale_cli.specs.declared.refusal.Refusal.TheVariants.{Usage, ReadFault, BadMatrix, Unfit, WriteFault, NoMemory}
-use Rattle.bale_cli.specs.Answer.{Answer, Wrote, IsUnfit, IsOfText, bad_line_text, unfit_text, answer_by, answer_for, answer_to, said, status_of, refusal_text}
+use Rattle.bale_cli.specs.Answer.{Answer, Wrote, IsBad, IsUnfit, IsOfText, bad_line_text, unfit_text, answer_by, answer_for, answer_to, said, status_of, refusal_text}
 
 pub not_zero : (r : Refusal) → status_of r ≡ 0 → ⊥
 unfolding status_of
@@ -71,53 +69,42 @@ pub unfit_is : (u : Unfitness) → status_of (Unfit u) ≡ 6
 unfolding status_of
 unfit_is u = refl
 
--- where the words ask for a run and the text's first bad line is b, the serial answer has status 5 and tells of it
-answer_bad : (job : Option Command) (text : List ℕ) (b : BadLine) → (job ≡ None → ⊥) → matrix_of text ≡ Err b
-    → answer_to job text ≡ record { status = 5; err = bad_line_text b }
-answer_bad None text b some bad = absurd (some refl)
-answer_bad (Some c) text b some bad = ap (answer_for c) bad
+-- where the first bad line of the text is b, the serial answer has status 5 and tells of it
+answer_bad : (serial : Command → Bool) (job : Option Command) (text : List ℕ) (b : BadLine) → IsBad job text b
+    → answer_to serial job text ≡ record { status = 5; err = bad_line_text b }
+answer_bad serial job text b w = ap (λ j. answer_to serial j text) w.asked ∙ ap (answer_for (serial w.command) w.command) w.why
 
 -- where the command doesn't fit the matrix, the serial answer has status 6 and says why
-answer_unfit : (job : Option Command) (text : List ℕ) (u : Unfitness) → IsUnfit job text u → answer_to job text ≡ record { status = 6; err = unfit_text u }
-answer_unfit job text u w =
-    ap (λ j. answer_to j text) w.asked ∙ (ap (answer_for w.command) w.read ∙ ap (answer_by (task_status w.command.task w.matrix)) w.why)
+answer_unfit : (serial : Command → Bool) (job : Option Command) (text : List ℕ) (u : Unfitness) → IsUnfit serial job text u
+    → answer_to serial job text ≡ record { status = 6; err = unfit_text u }
+answer_unfit serial job text u w =
+    ap (λ j. answer_to serial j text) w.asked
+    ∙ (ap (answer_for (serial w.command) w.command) w.read ∙ ap (answer_by (task_status w.command.task w.matrix)) w.why)
 
 -- the status of a refusal that no fault explains is the serial answer's
-pub status_same : (r : Refusal) (job : Option Command) (text : List ℕ)
-    → (r ≡ Usage → job ≡ None) → (job ≡ None → (r ≡ Usage) ⊎ (r ≡ NoMemory))
-    → ((b : BadLine) → r ≡ BadMatrix b → matrix_of text ≡ Err b) → ((u : Unfitness) → r ≡ Unfit u → IsUnfit job text u)
+pub status_same : (serial : Command → Bool) (r : Refusal) (job : Option Command) (text : List ℕ)
+    → (r ≡ Usage → job ≡ None) → ((b : BadLine) → r ≡ BadMatrix b → IsBad job text b) → ((u : Unfitness) → r ≡ Unfit u → IsUnfit serial job text u)
     → (status_of r ≡ 3 → ⊥) → (status_of r ≡ 4 → ⊥) → (status_of r ≡ 7 → ⊥)
-    → status_of r ≡ (answer_to job text).status
+    → status_of r ≡ (answer_to serial job text).status
 unfolding status_of
-status_same Usage job text none usage bad unfit three four seven = ap (λ (c : Option Command). (answer_to c text).status) (sym (none refl))
-status_same ReadFault job text none usage bad unfit three four seven = absurd (three refl)
-status_same (BadMatrix b) job text none usage bad unfit three four seven =
-    let other : job ≡ None → ⊥ = λ e. elim (usage e) [ inl h ↦ cc | inr h ↦ cc ] in
-    ap (λ (a : Answer). a.status) (sym (answer_bad job text b other (bad b refl)))
-status_same (Unfit u) job text none usage bad unfit three four seven = ap (λ (a : Answer). a.status) (sym (answer_unfit job text u (unfit u refl)))
-status_same WriteFault job text none usage bad unfit three four seven = absurd (four refl)
-status_same NoMemory job text none usage bad unfit three four seven = absurd (seven refl)
+status_same serial Usage job text none bad unfit three four seven = ap (λ (c : Option Command). (answer_to serial c text).status) (sym (none refl))
+status_same serial ReadFault job text none bad unfit three four seven = absurd (three refl)
+status_same serial (BadMatrix b) job text none bad unfit three four seven = ap (λ (a : Answer). a.status) (sym (answer_bad serial job text b (bad b refl)))
+status_same serial (Unfit u) job text none bad unfit three four seven = ap (λ (a : Answer). a.status) (sym (answer_unfit serial job text u (unfit u refl)))
+status_same serial WriteFault job text none bad unfit three four seven = absurd (four refl)
+status_same serial NoMemory job text none bad unfit three four seven = absurd (seven refl)
 
 -- what is said of a refusal
-pub said_is : (r : Refusal) (job : Option Command) (text : List ℕ)
-    → (r ≡ Usage → job ≡ None) → (job ≡ None → (r ≡ Usage) ⊎ (r ≡ NoMemory))
-    → ((b : BadLine) → r ≡ BadMatrix b → matrix_of text ≡ Err b) → ((u : Unfitness) → r ≡ Unfit u → IsUnfit job text u)
-    → said (status_of r) (answer_to job text) ≡ refusal_text r
+pub said_is : (serial : Command → Bool) (r : Refusal) (job : Option Command) (text : List ℕ)
+    → (r ≡ Usage → job ≡ None) → ((b : BadLine) → r ≡ BadMatrix b → IsBad job text b) → ((u : Unfitness) → r ≡ Unfit u → IsUnfit serial job text u)
+    → said (status_of r) (answer_to serial job text) ≡ refusal_text r
 unfolding status_of refusal_text
-said_is Usage job text none usage bad unfit = ap (λ (c : Option Command). (answer_to c text).err) (none refl)
-said_is ReadFault job text none usage bad unfit = refl
-said_is (BadMatrix b) job text none usage bad unfit =
-    let other : job ≡ None → ⊥ = λ e. elim (usage e) [ inl h ↦ cc | inr h ↦ cc ] in
-    ap (λ (a : Answer). a.err) (answer_bad job text b other (bad b refl))
-said_is (Unfit u) job text none usage bad unfit = ap (λ (a : Answer). a.err) (answer_unfit job text u (unfit u refl))
-said_is WriteFault job text none usage bad unfit = refl
-said_is NoMemory job text none usage bad unfit = refl
-
-pub said_at : (n : ℕ) (r : Refusal) (job : Option Command) (text : List ℕ) → n ≡ status_of r
-    → (r ≡ Usage → job ≡ None) → (job ≡ None → (r ≡ Usage) ⊎ (r ≡ NoMemory))
-    → ((b : BadLine) → r ≡ BadMatrix b → matrix_of text ≡ Err b) → ((u : Unfitness) → r ≡ Unfit u → IsUnfit job text u)
-    → said n (answer_to job text) ≡ refusal_text r
-said_at n r job text same none usage bad unfit = subst (λ (m : ℕ). said m (answer_to job text) ≡ refusal_text r) (sym same) (said_is r job text none usage bad unfit)
+said_is serial Usage job text none bad unfit = ap (λ (c : Option Command). (answer_to serial c text).err) (none refl)
+said_is serial ReadFault job text none bad unfit = refl
+said_is serial (BadMatrix b) job text none bad unfit = ap (λ (a : Answer). a.err) (answer_bad serial job text b (bad b refl))
+said_is serial (Unfit u) job text none bad unfit = ap (λ (a : Answer). a.err) (answer_unfit serial job text u (unfit u refl))
+said_is serial WriteFault job text none bad unfit = refl
+said_is serial NoMemory job text none bad unfit = refl
 
 -- a refusal that is neither of words nor of a fault before the answer came after the text was read
 pub of_text : (r : Refusal) → (status_of r ≡ 2 → ⊥) → (status_of r ≡ 3 → ⊥) → (status_of r ≡ 7 → ⊥) → IsOfText r
@@ -130,9 +117,11 @@ of_text WriteFault two three seven = tt
 of_text NoMemory two three seven = seven refl
 
 -- what was written is the answer of a command that fits, with its status
-pub wrote_status : {P : List ℕ → Type 0} {job : Option Command} {text : List ℕ} (w : Wrote job text P) → task_status w.command.task w.matrix ≡ (answer_to job text).status
-wrote_status {job = job} {text = text} w =
-    sym (ap (λ (a : Answer). a.status) (ap (λ j. answer_to j text) w.asked ∙ (ap (answer_for w.command) w.read ∙ ap (answer_by (task_status w.command.task w.matrix)) w.fits)))
+pub wrote_status : {P : List ℕ → Type 0} {serial : Command → Bool} {job : Option Command} {text : List ℕ} (w : Wrote serial job text P)
+    → task_status w.command.task w.matrix ≡ (answer_to serial job text).status
+wrote_status {serial = serial} {job = job} {text = text} w =
+    sym (ap (λ (a : Answer). a.status)
+    (ap (λ j. answer_to serial j text) w.asked ∙ (ap (answer_for (serial w.command) w.command) w.read ∙ ap (answer_by (task_status w.command.task w.matrix)) w.fits)))
 
 pub memory_is : status_of NoMemory ≡ 7
 unfolding status_of

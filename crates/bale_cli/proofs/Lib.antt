@@ -1,5 +1,9 @@
+pub mod Answering
+pub mod Cases
 pub mod Endings
 pub mod Exchanges
-pub mod Finishes
 pub mod Orders
+pub mod Outcomes
 pub mod Reasons
+pub mod Renumbering
+pub mod Served

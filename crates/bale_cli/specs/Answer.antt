@@ -1,5 +1,5 @@
 -- What a run answers: a status, the bytes for out and the bytes for err.
-use Rattle.std.specs.Prelude.{◌≡◌, ℕ, true, List, [], ◌∷◌, ◌++◌, ◌==◌, Option, Some, None, Result, Ok, Err, OnOk, OnErr, codes, decimal, if◌then◌else◌}
+use Rattle.std.specs.Prelude.{◌≡◌, ℕ, Bool, false, not, List, [], ◌∷◌, ◌++◌, ◌==◌, Option, Some, None, is_some, Result, Ok, Err, OnOk, OnErr, codes, decimal, if◌then◌else◌}
 use Rattle.bale_types.specs.Stream.{after, IsFront}
 use Rattle.mtx_text.specs.declared.refusal.BadLine.{BadLine}
 use Rattle.mtx_text.specs.declared.refusal.ReadFault.{ReadFault}
@@ -7,12 +7,15 @@ use Rattle.mtx_text.specs.declared.refusal.ReadFault.TheVariants as read_fault
 use Rattle.mtx_text.specs.Sparse.{Sparse}
 use Rattle.mtx_text.specs.Grammar.{matrix_of}
 use Rattle.mtx_text.specs.Reasons.{reason_text}
+use Rattle.mtx_text.specs.Generated.{generated}
 use Rattle.bale_words.specs.declared.command.Command.{Command}
+use Rattle.bale_words.specs.declared.command.Generated.{Generated}
 use Rattle.bale_cli.specs.declared.refusal.Refusal.{Refusal}
 use Rattle.bale_cli.specs.declared.refusal.Refusal.TheVariants as refusal
 use Rattle.bale_cli.specs.Jobs.{job_of}
 use Rattle.bale_cli.specs.Tasks.{IsAnswer, task_status}
 use Rattle.bale_cli.specs.Fitness.{unfitness}
+use Rattle.bale_cli.specs.Summary.{summary_of}
 use Rattle.bale_cli.specs.declared.unfit.Unfit.{Unfit}
 use Rattle.bale_cli.specs.declared.unfit.Unfit.TheVariants as unfit
 
@@ -29,6 +32,8 @@ unfit_text unfit.NegativeWeight = codes "bale: unfit: negative weight\n"
 unfit_text unfit.Source = codes "bale: unfit: source out of range\n"
 unfit_text unfit.SerialSize = codes "bale: unfit: too large for the serial drive\n"
 unfit_text unfit.DeltaRows = codes "bale: unfit: too many rows for delta on the serial drive\n"
+unfit_text unfit.RowPermutation = codes "bale: unfit: row permutation\n"
+unfit_text unfit.ColumnPermutation = codes "bale: unfit: column permutation\n"
 
 -- What is said on err of a run that ended without an answer.
 unfoldable pub refusal_text : Refusal → List ℕ
@@ -63,6 +68,11 @@ IsOfText (refusal.Unfit u) = Unit {0}
 IsOfText refusal.WriteFault = Unit {0}
 IsOfText refusal.NoMemory = ⊥
 
+-- The matrix that is asked of: the generated one, or that of the text.
+abbrev pub matrix_asked : Option Generated → List ℕ → Result Sparse BadLine
+matrix_asked None text = matrix_of text
+matrix_asked (Some g) text = Ok (generated g.rows g.entries g.seed)
+
 -- A status, and what is said on err.
 pub record Answer : Type 0 where
   pub status : ℕ
@@ -74,57 +84,83 @@ answer_by status (Some u) = record { status = 6; err = unfit_text u }
 answer_by status None = record { status = status; err = [] }
 
 -- A command's answer for a text that has a matrix, or that has none.
-abbrev pub answer_for : Command → Result Sparse BadLine → Answer
-answer_for c (Err b) = record { status = 5; err = bad_line_text b }
-answer_for c (Ok m) = answer_by (task_status c.task m) (unfitness c.task m true)
+abbrev pub answer_for : Bool → Command → Result Sparse BadLine → Answer
+answer_for serial c (Err b) = record { status = 5; err = bad_line_text b }
+answer_for serial c (Ok m) = answer_by (task_status c.task m) (unfitness c.task m serial)
 
 -- The answer to what can be run, and to words that ask for nothing of the kind.
-abbrev pub answer_to : Option Command → List ℕ → Answer
-answer_to None text = record { status = 2; err = refusal_text refusal.Usage }
-answer_to (Some c) text = answer_for c (matrix_of text)
+abbrev pub answer_to : (Command → Bool) → Option Command → List ℕ → Answer
+answer_to serial None text = record { status = 2; err = refusal_text refusal.Usage }
+answer_to serial (Some c) text = answer_for (serial c) c (matrix_asked c.travel.generated text)
 
--- The serial answer: what the words ask for, of the matrix of the text. No rank, buffer or link occurs in it.
+-- The serial answer: what the words ask for, of the matrix of the text or the generated one. No rank, buffer or link occurs in it;
+-- `serial` says which commands are driven on one thread, for which large runs are unfit.
 -- 2 and "bale: usage" where the words are no command; 5 and the first bad line where the text has no matrix; 6 and the first
 -- test that fails where the command doesn't fit the matrix; else 0, or 1 where topo finds no order, and, on out, the bytes
 -- that `Wrote` tells of.
--- For "sssp --source 3 --drive serial" and "%%MatrixMarket matrix coordinate pattern general/2 2 0/" it is 6 with
+-- For "sssp --source 3" and "%%MatrixMarket matrix coordinate pattern general/2 2 0/" it is 6 with
 -- "bale: unfit: source out of range/" on err, with / for LF.
-abbrev pub serial_answer : List (List ℕ) → List ℕ → Answer
-serial_answer words text = answer_to (job_of words) text
+abbrev pub serial_answer : (Command → Bool) → List (List ℕ) → List ℕ → Answer
+serial_answer serial words text = answer_to serial (job_of words) text
 
--- What was asked of a run: the words give this command, the source told a text with this matrix, and the command fits it.
-pub record Asked (left : Option (List ℕ)) (words : List (List ℕ)) (text : List ℕ) (c : Command) (m : Sparse) : Type 0 where
-  pub told : left ≡ Some text
-  pub job : job_of words ≡ Some c
-  pub matrix : matrix_of text ≡ Ok m
-  pub fits : unfitness c.task m true ≡ None
+-- What the source told, where the command reads it: one whose matrix is generated doesn't.
+abbrev pub TellsText : Option Generated → Option (List ℕ) → List ℕ → Type 0
+TellsText None left text = left ≡ Some text
+TellsText (Some g) left text = Unit {0}
 
--- The words give a command that doesn't fit the matrix of a text, and this is why.
-pub record IsUnfit (job : Option Command) (text : List ℕ) (u : Unfit) : Type 0 where
+abbrev pub Told : Option Command → Option (List ℕ) → List ℕ → Type 0
+Told None left text = Unit {0}
+Told (Some c) left text = TellsText c.travel.generated left text
+
+-- Whether a command reads the source.
+abbrev pub reads : Option Command → Bool
+reads None = false
+reads (Some c) = not (is_some c.travel.generated)
+
+-- What was asked of a run: the words give this command, this is its matrix, and the command fits it.
+pub record Asked (serial : Command → Bool) (left : Option (List ℕ)) (job : Option Command) (text : List ℕ) (c : Command) (m : Sparse) : Type 0 where
+  pub asked : job ≡ Some c
+  pub told : TellsText c.travel.generated left text
+  pub matrix : matrix_asked c.travel.generated text ≡ Ok m
+  pub fits : unfitness c.task m (serial c) ≡ None
+
+-- The words give a command for whose text this is the first bad line.
+pub record IsBad (job : Option Command) (text : List ℕ) (b : BadLine) : Type 0 where
+  pub command : Command
+  pub asked : job ≡ Some command
+  pub why : matrix_asked command.travel.generated text ≡ Err b
+
+-- The words give a command that doesn't fit its matrix, and this is why.
+pub record IsUnfit (serial : Command → Bool) (job : Option Command) (text : List ℕ) (u : Unfit) : Type 0 where
   pub command : Command
   pub asked : job ≡ Some command
   pub matrix : Sparse
-  pub read : matrix_of text ≡ Ok matrix
-  pub why : unfitness command.task matrix true ≡ Some u
+  pub read : matrix_asked command.travel.generated text ≡ Ok matrix
+  pub why : unfitness command.task matrix (serial command) ≡ Some u
 
--- What a run wrote: the bytes that are the application's answer, for the command of the words and the matrix of the text.
+-- What is written of an answer: its bytes, or their summary where the matrix was generated.
+abbrev pub shown : Option Generated → List ℕ → List ℕ
+shown None bytes = bytes
+shown (Some g) bytes = summary_of bytes
+
+-- What a run wrote: the bytes that are the application's answer, for the command of the words and its matrix, or their summary.
 -- For histo and "%%MatrixMarket matrix coordinate pattern general/2 2 0/" they are "1 0/2 0/".
-pub record Wrote (job : Option Command) (text : List ℕ) (P : List ℕ → Type 0) : Type 0 where
+pub record Wrote (serial : Command → Bool) (job : Option Command) (text : List ℕ) (P : List ℕ → Type 0) : Type 0 where
   pub command : Command
   pub asked : job ≡ Some command
   pub matrix : Sparse
-  pub read : matrix_of text ≡ Ok matrix
-  pub fits : unfitness command.task matrix true ≡ None
+  pub read : matrix_asked command.travel.generated text ≡ Ok matrix
+  pub fits : unfitness command.task matrix (serial command) ≡ None
   pub bytes : List ℕ
   pub answers : IsAnswer command.task matrix bytes
-  pub wrote : P bytes
+  pub wrote : P (shown command.travel.generated bytes)
 
--- What a sink has taken of an answer: all of it, or a front where a write failed. `old` is what it held.
-pub record HasWritten {T E : Type 0} (IsAnswer : List ℕ → Type 0) (old new : Option (List ℕ)) (written : Result T E) : Type 0 where
+-- What a sink has taken of an answer as it is shown: all of it, or a front where a write failed. `old` is what it held.
+pub record HasWritten {T E : Type 0} (IsAnswer : List ℕ → Type 0) (shows : List ℕ → List ℕ) (old new : Option (List ℕ)) (written : Result T E) : Type 0 where
   pub bytes : List ℕ
   pub answers : IsAnswer bytes
-  pub whole : OnOk written (new ≡ after old bytes)
-  pub front : OnErr written (IsFront new (after old bytes))
+  pub whole : OnOk written (new ≡ after old (shows bytes))
+  pub front : OnErr written (IsFront new (after old (shows bytes)))
 
 -- What is said on err at a status: nothing at 0 and 1, of a fault its text, else what the serial answer says.
 -- At 3 it is "bale: read fault\n"; at 5 it is the bad line and its reason.

@@ -4,6 +4,8 @@ use Rattle.mtx_text.specs.Sparse.{Sparse}
 use Rattle.least_walks.specs.Walks.{no_negative}
 use Rattle.bale_words.specs.declared.command.Task.{Task}
 use Rattle.bale_words.specs.declared.command.Task.TheVariants as task
+use Rattle.bale_words.specs.declared.command.Permutations.TheVariants.{Lists}
+use Rattle.bale_cli.specs.Numberings.{numbers_all}
 use Rattle.bale_cli.specs.declared.unfit.Unfit.{Unfit}
 use Rattle.bale_cli.specs.declared.unfit.Unfit.TheVariants as unfit
 
@@ -22,6 +24,7 @@ tests_of (task.Sssp source delta) m serial =
     (not (m.cols == m.rows), unfit.NotSquare) ∷ (not (no_negative m.entries), unfit.NegativeWeight) ∷ ((source == 0) || nat_lt m.rows source, unfit.Source)
     ∷ (serial && nat_lt 16777216 (m.rows * length m.entries), unfit.SerialSize) ∷ (serial && (is_some delta && nat_lt 1024 m.rows), unfit.DeltaRows) ∷ []
 tests_of task.Topo m serial = (not (m.cols == m.rows), unfit.NotSquare) ∷ []
+tests_of (task.Permute (Lists rows cols)) m serial = (not (numbers_all m.rows rows), unfit.RowPermutation) ∷ (not (numbers_all m.cols cols), unfit.ColumnPermutation) ∷ []
 tests_of _ m serial = []
 
 -- Why an application can't be answered for a matrix, driven serially or by threads: the first of its tests that fails.

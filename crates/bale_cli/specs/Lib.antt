@@ -1,5 +1,11 @@
 pub mod Answer
 pub mod Fitness
 pub mod Jobs
+pub mod Logs
+pub mod Numberings
 pub mod Orders
+pub mod Outcomes
+pub mod Serving
+pub mod Starts
+pub mod Summary
 pub mod Tasks

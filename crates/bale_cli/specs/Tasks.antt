@@ -1,5 +1,5 @@
 -- What each application answers for a matrix, and which programs it runs for that.
-use Rattle.std.specs.Prelude.{◌≡◌, ◌≤◌, ◌+◌, ◌-◌, ℕ, Bool, false, List, [], ◌∷◌, Option, None, Some}
+use Rattle.std.specs.Prelude.{◌≡◌, ◌≤◌, ◌+◌, ◌-◌, ℕ, Bool, not, List, [], ◌∷◌, Option, None, Some}
 use Rattle.route_tensor.specs.Grid.{ranks}
 use Rattle.mtx_text.specs.Sparse.{Sparse}
 use Rattle.round_program.specs.Rules.{Rules}
@@ -10,7 +10,6 @@ use Rattle.rank_group.specs.Told.{Made, TellsRun, turns_within}
 use Rattle.bale_words.specs.declared.command.Command.{Command}
 use Rattle.bale_words.specs.declared.command.Task.{Task}
 use Rattle.bale_words.specs.declared.command.Task.TheVariants as task
-use Rattle.bale_words.specs.declared.command.Permutations.TheVariants.{Seed}
 use Rattle.mtx_text.specs.Written.{text_of}
 use Rattle.app_histo_ig.specs.HistoLines.{histo_lines}
 use Rattle.app_histo_ig.specs.HistoRuns.{histo_starts}
@@ -19,7 +18,6 @@ use Rattle.app_histo_ig.specs.IgLines.{ig_lines}
 use Rattle.app_histo_ig.specs.IgRuns.{ig_starts}
 use Rattle.app_histo_ig.specs.Igs.{ig_rules}
 use Rattle.app_permute.specs.Moved.{permuted, transposed}
-use Rattle.app_permute.specs.Perms.{perms_of}
 use Rattle.app_permute.specs.Permutes.{permute_rules}
 use Rattle.app_permute.specs.PermuteRuns.{permute_starts}
 use Rattle.app_permute.specs.Transposes.{transpose_rules}
@@ -32,17 +30,19 @@ use Rattle.app_topo.specs.TopoRuns.{topo_starts}
 use Rattle.delta_step.specs.Deltas.{delta_rules}
 use Rattle.delta_step.specs.DeltaRuns.{delta_starts}
 use Rattle.least_walks.specs.Lines.{IsSsspAnswer}
+use Rattle.bale_cli.specs.Numberings.{perms_for}
 use Rattle.bale_cli.specs.Orders.{order_status, order_text}
 
--- The plain bank of a command's run: its grid, the entries of a parcel, the slots of a link.
-abbrev pub made_for : Command → Made
-made_for c = record { dims = c.grid; cap = c.travel.buffer; slots = c.travel.slots; by_slots = false }
+-- The bank of a command's run: its grid, the entries of a parcel, the slots of a link; a plain one where it is driven on one
+-- thread, and one of slots where each rank has a thread.
+abbrev pub made_for : Bool → Command → Made
+made_for serial c = record { dims = c.grid; cap = c.travel.buffer; slots = c.travel.slots; by_slots = not serial }
 
 -- These bytes are an application's answer for a matrix. What doesn't run has none.
 abbrev pub IsAnswer : Task → Sparse → List ℕ → Type 0
 IsAnswer task.Histo m bytes = bytes ≡ histo_lines m.entries m.cols
 IsAnswer task.Ig m bytes = bytes ≡ ig_lines m.entries
-IsAnswer (task.Permute (Seed seed)) m bytes = bytes ≡ text_of (permuted (perms_of m.rows m.cols seed).rows (perms_of m.rows m.cols seed).cols m)
+IsAnswer (task.Permute p) m bytes = bytes ≡ text_of (permuted (perms_for p m).rows (perms_for p m).cols m)
 IsAnswer task.Transpose m bytes = bytes ≡ text_of (transposed m)
 IsAnswer task.Topo m bytes = bytes ≡ order_text (topo_order m.rows m.entries)
 IsAnswer (task.Sssp source delta) m bytes = IsSsspAnswer m (source - 1) bytes
@@ -66,8 +66,8 @@ pub record Tells {S : Type 0} (R : Rules S) (starts : List S) (made : Made) (ste
 abbrev pub TellsTask : Task → Sparse → Made → Bool → List ClosedRound → Type 0
 TellsTask task.Histo m made steady rounds = Tells histo_rules (histo_starts (ranks made.dims) m) made steady rounds
 TellsTask task.Ig m made steady rounds = Tells ig_rules (ig_starts (ranks made.dims) m) made steady rounds
-TellsTask (task.Permute (Seed seed)) m made steady rounds =
-    Tells permute_rules (permute_starts (ranks made.dims) m (perms_of m.rows m.cols seed).rows (perms_of m.rows m.cols seed).cols) made steady rounds
+TellsTask (task.Permute p) m made steady rounds =
+    Tells permute_rules (permute_starts (ranks made.dims) m (perms_for p m).rows (perms_for p m).cols) made steady rounds
 TellsTask task.Transpose m made steady rounds = Tells transpose_rules (transpose_starts (ranks made.dims) m) made steady rounds
 TellsTask task.Topo m made steady rounds = Tells topo_rules (topo_starts (ranks made.dims) m) made steady rounds
 TellsTask (task.Sssp source (Some delta)) m made steady rounds = Tells delta_rules (delta_starts (ranks made.dims) m (source - 1) delta) made steady rounds
@@ -82,8 +82,8 @@ WithinTurns R starts dims before after = (n : ℕ) → HasRounds R starts n → 
 abbrev pub TurnsOfTask : Task → Sparse → List ℕ → ℕ → ℕ → Type 0
 TurnsOfTask task.Histo m dims before after = WithinTurns histo_rules (histo_starts (ranks dims) m) dims before after
 TurnsOfTask task.Ig m dims before after = WithinTurns ig_rules (ig_starts (ranks dims) m) dims before after
-TurnsOfTask (task.Permute (Seed seed)) m dims before after =
-    WithinTurns permute_rules (permute_starts (ranks dims) m (perms_of m.rows m.cols seed).rows (perms_of m.rows m.cols seed).cols) dims before after
+TurnsOfTask (task.Permute p) m dims before after =
+    WithinTurns permute_rules (permute_starts (ranks dims) m (perms_for p m).rows (perms_for p m).cols) dims before after
 TurnsOfTask task.Transpose m dims before after = WithinTurns transpose_rules (transpose_starts (ranks dims) m) dims before after
 TurnsOfTask task.Topo m dims before after = WithinTurns topo_rules (topo_starts (ranks dims) m) dims before after
 TurnsOfTask (task.Sssp source (Some delta)) m dims before after = WithinTurns delta_rules (delta_starts (ranks dims) m (source - 1) delta) dims before after

@@ -6,10 +6,12 @@ ghost use Rattle.app_histo_ig.specs.Histos.{histo_rules};
 ghost use Rattle.app_histo_ig.specs.HistoRuns.{histo_starts, HistoEnded};
 ghost use Rattle.app_histo_ig.specs.Igs.{ig_rules};
 ghost use Rattle.app_histo_ig.specs.IgRuns.{ig_starts, IgEnded};
+ghost use Rattle.bale_cli.specs.Serving.{ServesHisto, ServesIg};
 
 use crate::application::Application;
 use app_histo_ig::{Histo, Ig, histo_start, histo_write, ig_start, ig_write};
 use bale_types::{Failed, NoMemory, Out, Sink};
+use bale_words::Task;
 use mtx_text::Matrix;
 use round_program::Progs;
 use std::alloc::Global;
@@ -18,29 +20,29 @@ use std::alloc::Global;
 pub(crate) struct HistoAnswer;
 
 impl Application for HistoAnswer {
-    ghost use Rattle.std.specs.Prelude.{◌≡◌};
-    ghost use Rattle.app_histo_ig.specs.HistoLines.{histo_lines};
+    ghost use Rattle.bale_cli.specs.Serving.{ServesHisto};
 
     type Prog = Histo;
 
     type Answer = Progs<Histo>;
 
-    ghost serves = { λ _ m. Unit {0} };
+    ghost serves = { ServesHisto };
 
     ghost starts = { λ _. histo_starts };
 
-    ghost status_for = { λ _ _. 0 };
-
-    ghost is_answer = { λ _ m bytes. bytes ≡ histo_lines m.entries m.cols };
-
     ghost answers = { λ _ m ps. HistoEnded m ps };
 
-    fn start(&self, alloc: Global, m: &Matrix, ranks: u32) -> Result<Progs<Histo>, NoMemory> {
+    fn start(alloc: Global, task: &Task, m: &Matrix, ranks: u32) -> Result<Progs<Histo>, NoMemory> {
         histo_start(alloc, m, ranks)
     }
 
-    fn end(&self, alloc: Global, m: &Matrix, progs: Progs<Histo>) -> Result<Progs<Histo>, NoMemory>
-        requires serves { Unit {0} }
+    fn end(
+        alloc: Global,
+        task: &Task,
+        m: &Matrix,
+        progs: Progs<Histo>,
+    ) -> Result<Progs<Histo>, NoMemory>
+        requires serves { ServesHisto task.now m.now }
         requires ended { (ranks : ℕ) × (1 ≤ ranks) × (ranks ≤ 64) × HaveEnded histo_rules (histo_starts ranks m.now) progs }
         ensures { IfOk result (λ a. HistoEnded m.now a) }
     {
@@ -48,12 +50,12 @@ impl Application for HistoAnswer {
         Ok(progs)
     }
 
-    fn status(&self, answer: &Progs<Histo>, m: &Matrix) -> u8 {
+    fn status(task: &Task, answer: &Progs<Histo>, m: &Matrix) -> u8 {
         0
     }
 
     fn write<K: Sink>(
-        &self,
+        task: &Task,
         answer: &Progs<Histo>,
         m: &Matrix,
         out: &mut Out<'_, K>,
@@ -66,29 +68,24 @@ impl Application for HistoAnswer {
 pub(crate) struct IgAnswer;
 
 impl Application for IgAnswer {
-    ghost use Rattle.std.specs.Prelude.{◌≡◌};
-    ghost use Rattle.app_histo_ig.specs.IgLines.{ig_lines};
+    ghost use Rattle.bale_cli.specs.Serving.{ServesIg};
 
     type Prog = Ig;
 
     type Answer = Progs<Ig>;
 
-    ghost serves = { λ _ m. Unit {0} };
+    ghost serves = { ServesIg };
 
     ghost starts = { λ _. ig_starts };
 
-    ghost status_for = { λ _ _. 0 };
-
-    ghost is_answer = { λ _ m bytes. bytes ≡ ig_lines m.entries };
-
     ghost answers = { λ _ m ps. IgEnded m ps };
 
-    fn start(&self, alloc: Global, m: &Matrix, ranks: u32) -> Result<Progs<Ig>, NoMemory> {
+    fn start(alloc: Global, task: &Task, m: &Matrix, ranks: u32) -> Result<Progs<Ig>, NoMemory> {
         ig_start(alloc, m, ranks)
     }
 
-    fn end(&self, alloc: Global, m: &Matrix, progs: Progs<Ig>) -> Result<Progs<Ig>, NoMemory>
-        requires serves { Unit {0} }
+    fn end(alloc: Global, task: &Task, m: &Matrix, progs: Progs<Ig>) -> Result<Progs<Ig>, NoMemory>
+        requires serves { ServesIg task.now m.now }
         requires ended { (ranks : ℕ) × (1 ≤ ranks) × (ranks ≤ 64) × HaveEnded ig_rules (ig_starts ranks m.now) progs }
         ensures { IfOk result (λ a. IgEnded m.now a) }
     {
@@ -96,12 +93,12 @@ impl Application for IgAnswer {
         Ok(progs)
     }
 
-    fn status(&self, answer: &Progs<Ig>, m: &Matrix) -> u8 {
+    fn status(task: &Task, answer: &Progs<Ig>, m: &Matrix) -> u8 {
         0
     }
 
     fn write<K: Sink>(
-        &self,
+        task: &Task,
         answer: &Progs<Ig>,
         m: &Matrix,
         out: &mut Out<'_, K>,

@@ -1,62 +1,216 @@
-//! The exchange that a command asks for, and what it leaves.
-
-ghost use Rattle.std.specs.Prelude.{◌≡◌, ◌≤◌, ◌<◌, ℕ, true, false, List, length, IfOk};
+//! The run of a command for a matrix: the programs, driven, and then the answer, written.
+ghost use Rattle.std.specs.Prelude.{◌≡◌, ◌≤◌, ◌<◌, ℕ, Bool, true, false, List, None, OnErr, IfOk, IfErr};
+ghost use Rattle.bale_types.specs.Stream.{HasCause, IsFront};
 ghost use Rattle.route_tensor.specs.Grid.{ranks};
-ghost use Rattle.rank_group.specs.Ranks.{IsOrder};
+ghost use Rattle.round_program.specs.Canonical.{HaveEnded};
+ghost use Rattle.app_cases.specs.Any.{any_rules};
 ghost use Rattle.bale_words.specs.Ranges.{InRanges};
-ghost use Rattle.bale_cli.specs.Tasks.{made_for, Tells, WithinTurns};
+ghost use Rattle.bale_cli.specs.Jobs.{as_asked, runs};
+ghost use Rattle.bale_cli.specs.Answer.{HasWritten, shown};
+ghost use Rattle.bale_cli.specs.Fitness.{unfitness};
+ghost use Rattle.bale_cli.specs.Starts.{starts_of};
+ghost use Rattle.bale_cli.specs.Tasks.{IsAnswer, task_status, made_for, TellsTask, TurnsOfTask};
 
-use crate::application::Application;
-use app_cases::drive_case;
-use bale_types::NoMemory;
-use bale_words::Command;
+use crate::finish::{Ending, finished};
+use crate::numberings::in_order;
+use crate::refusal::Refusal;
+use crate::start::started;
+use app_cases::AnyProgram;
+use bale_types::{Failed, Sink};
+use bale_words::{Command, Driving, Travel};
+use case_table::{case_serial, case_threads};
 use mtx_text::Matrix;
-use rank_group::{Finished, Rounds, Steps, Via};
+use rank_group::{Finished, Gate, Rounds, Steps, Via};
 use std::alloc::Global;
-use std::sync::ledger::Ledger;
+use std::marker::Brand;
+use std::sync::Wait;
+use std::sync::ledger::{Blank, Ledger};
+use std::thread::Threads;
 
-/// Runs an application's programs on the grid of the command, on one thread: its answer, and what was exchanged.
-pub(crate) fn exchanged<A: Application, L: Ledger>(
+/// A run that came to its end: the answer's status, whether it was written, and what was exchanged.
+#[derive(Drop)]
+pub(crate) struct Finish {
+    pub(crate) status: u8,
+    pub(crate) written: Result<(), Failed>,
+    pub(crate) rounds: Rounds,
+}
+
+/// Runs the command for a matrix, all ranks on this thread, and writes its answer.
+pub(crate) fn ran_serially<K: Sink, L: Ledger>(
     alloc: Global,
-    app: &A,
-    m: &Matrix,
     command: &Command,
+    m: &Matrix,
+    out: &mut K,
     steps: &mut Steps<L>,
-) -> Result<(A::Answer, Rounds), NoMemory>
-    requires serves { A.serves app.now m.now }
+) -> Result<Finish, Refusal>
+    requires runs { runs command.now ≡ true }
     requires ranges { InRanges command.now }
-    ensures answer { IfOk result (λ r. A.answers app.now m.now r.0) }
-    ensures rounds { IfOk result (λ r. Tells A.Prog.rules (A.starts app.now (ranks command.now.grid) m.now)
-        (made_for command.now) command.now.travel.steady r.1) }
-    ensures steps { WithinTurns A.Prog.rules (A.starts app.now (ranks command.now.grid) m.now) command.now.grid steps.old steps.new }
+    requires fits { unfitness command.now.task m.now true ≡ None }
+    ensures status { IfOk result (λ f. f.status ≡ task_status command.now.task m.now) }
+    ensures low { IfOk result (λ f. f.status ≤ 1) }
+    ensures answer { IfOk result (λ f. HasWritten (IsAnswer command.now.task m.now) (shown command.now.travel.generated) (K.taken out.old) (K.taken out.new) f.written) }
+    ensures cause { IfOk result (λ f. HasCause (K.faults out.old) (K.faults out.new) f.written) }
+    ensures held { IsFront (K.taken out.old) (K.taken out.new) }
+    ensures no_answer { OnErr result (K.taken out.new ≡ K.taken out.old) }
+    ensures memory { IfErr result (λ r. r ≡ Refusal.NoMemory) }
+    ensures rounds { IfOk result (λ f. TellsTask command.now.task m.now (made_for true command.now) command.now.travel.steady f.rounds) }
+    ensures steps { TurnsOfTask command.now.task m.now command.now.grid steps.old steps.new }
 {
     let grid = &command.grid;
-    let travel = command.travel;
-    let progs = app.start(alloc, m, grid.ranks())?;
+    let Travel {
+        buffer,
+        slots,
+        steady,
+        ..
+    } = command.travel;
+    let progs = started(alloc, &command.task, m, grid.ranks())?;
     let order = in_order(alloc, grid.ranks())?;
-    let finished = drive_case(
+    let run = case_serial(
         alloc,
         grid,
-        travel.buffer,
+        buffer,
         Via::Convey,
-        travel.slots,
-        travel.steady,
+        slots,
+        steady,
         &order,
         progs,
         steps,
     )?;
-    let Finished { progs, rounds } = finished;
-    let answer = app.end(alloc, m, progs)?;
-    Ok((answer, rounds))
+    told(alloc, command, m, run, out)
 }
 
-/// The ranks from 0 on.
-fn in_order(alloc: Global, ranks: u32) -> Result<Vec<u32>, NoMemory>
-    ensures { IfOk result (λ order. IsOrder ranks order.items) }
+/// Runs the command for a matrix, each rank on a thread of its own, and writes its answer.
+fn ran_on_threads<R: Threads + Wait + Sync, K: Sink, G: Gate + Sync>(
+    rt: &R,
+    alloc: Global,
+    command: &Command,
+    m: &Matrix,
+    out: &mut K,
+    gate: &G,
+) -> Result<Finish, Refusal>
+    requires runs { runs command.now ≡ true }
+    requires ranges { InRanges command.now }
+    requires fits { unfitness command.now.task m.now false ≡ None }
+    ensures status { IfOk result (λ f. f.status ≡ task_status command.now.task m.now) }
+    ensures low { IfOk result (λ f. f.status ≤ 1) }
+    ensures answer { IfOk result (λ f. HasWritten (IsAnswer command.now.task m.now) (shown command.now.travel.generated) (K.taken out.old) (K.taken out.new) f.written) }
+    ensures cause { IfOk result (λ f. HasCause (K.faults out.old) (K.faults out.new) f.written) }
+    ensures held { IsFront (K.taken out.old) (K.taken out.new) }
+    ensures no_answer { OnErr result (K.taken out.new ≡ K.taken out.old) }
+    ensures memory { IfErr result (λ r. r ≡ Refusal.NoMemory) }
+    ensures rounds { IfOk result (λ f. TellsTask command.now.task m.now (made_for false command.now) command.now.travel.steady f.rounds) }
 {
-    let mut order = Vec::with_capacity(alloc, ranks as usize)?;
-    for rank in 0..ranks {
-        order.push(rank)?;
+    let grid = &command.grid;
+    let Travel {
+        buffer,
+        slots,
+        steady,
+        ..
+    } = command.travel;
+    let progs = started(alloc, &command.task, m, grid.ranks())?;
+    let run = case_threads(
+        rt,
+        alloc,
+        grid,
+        buffer,
+        Via::Convey,
+        slots,
+        steady,
+        progs,
+        gate,
+    )?;
+    told(alloc, command, m, run, out)
+}
+
+/// Runs the command for a matrix as its words ask, and writes its answer.
+pub(crate) fn ran<R: Threads + Wait + Sync, K: Sink, G: Gate + Sync>(
+    rt: &R,
+    alloc: Global,
+    command: &Command,
+    m: &Matrix,
+    out: &mut K,
+    gate: &G,
+) -> Result<Finish, Refusal>
+    requires runs { runs command.now ≡ true }
+    requires ranges { InRanges command.now }
+    requires fits { unfitness command.now.task m.now (as_asked command.now) ≡ None }
+    ensures status { IfOk result (λ f. f.status ≡ task_status command.now.task m.now) }
+    ensures low { IfOk result (λ f. f.status ≤ 1) }
+    ensures answer { IfOk result (λ f. HasWritten (IsAnswer command.now.task m.now) (shown command.now.travel.generated) (K.taken out.old) (K.taken out.new) f.written) }
+    ensures cause { IfOk result (λ f. HasCause (K.faults out.old) (K.faults out.new) f.written) }
+    ensures held { IsFront (K.taken out.old) (K.taken out.new) }
+    ensures no_answer { OnErr result (K.taken out.new ≡ K.taken out.old) }
+    ensures memory { IfErr result (λ r. r ≡ Refusal.NoMemory) }
+    ensures rounds { IfOk result (λ f. TellsTask command.now.task m.now (made_for (as_asked command.now) command.now) command.now.travel.steady f.rounds) }
+{
+    if drives_serially(command) {
+        ran_uncounted::<Brand, K>(alloc, command, m, out, Blank::new(1))
+    } else {
+        ran_on_threads(rt, alloc, command, m, out, gate)
     }
-    Ok(order)
+}
+
+/// Whether the words ask for one thread.
+pub(crate) fn drives_serially(command: &Command) -> bool
+    ensures { result ≡ as_asked command.now }
+{
+    matches!(command.travel.driving, Driving::Serial)
+}
+
+/// A run on this thread whose turns nobody asks for.
+fn ran_uncounted<L: Ledger, K: Sink>(
+    alloc: Global,
+    command: &Command,
+    m: &Matrix,
+    out: &mut K,
+    blank: Blank,
+) -> Result<Finish, Refusal>
+    requires name { blank.name ≡ L.name }
+    requires parts { blank.parts ≡ L.parts }
+    requires some { 0 < L.parts }
+    requires runs { runs command.now ≡ true }
+    requires ranges { InRanges command.now }
+    requires fits { unfitness command.now.task m.now true ≡ None }
+    ensures status { IfOk result (λ f. f.status ≡ task_status command.now.task m.now) }
+    ensures low { IfOk result (λ f. f.status ≤ 1) }
+    ensures answer { IfOk result (λ f. HasWritten (IsAnswer command.now.task m.now) (shown command.now.travel.generated) (K.taken out.old) (K.taken out.new) f.written) }
+    ensures cause { IfOk result (λ f. HasCause (K.faults out.old) (K.faults out.new) f.written) }
+    ensures held { IsFront (K.taken out.old) (K.taken out.new) }
+    ensures no_answer { OnErr result (K.taken out.new ≡ K.taken out.old) }
+    ensures memory { IfErr result (λ r. r ≡ Refusal.NoMemory) }
+    ensures rounds { IfOk result (λ f. TellsTask command.now.task m.now (made_for true command.now) command.now.travel.steady f.rounds) }
+{
+    let mut steps = Steps::<L>::new(blank);
+    ran_serially(alloc, command, m, out, &mut steps)
+}
+
+/// The end of a run that was driven: its answer is written, and what was exchanged is told.
+fn told<K: Sink>(
+    alloc: Global,
+    command: &Command,
+    m: &Matrix,
+    run: Finished<AnyProgram>,
+    out: &mut K,
+) -> Result<Finish, Refusal>
+    requires runs { runs command.now ≡ true }
+    requires ranges { InRanges command.now }
+    requires fits { (serial : Bool) × (unfitness command.now.task m.now serial ≡ None) }
+    requires ended { HaveEnded any_rules (starts_of command.now.task (ranks command.now.grid) m.now) run.progs }
+    ensures status { IfOk result (λ f. f.status ≡ task_status command.now.task m.now) }
+    ensures low { IfOk result (λ f. f.status ≤ 1) }
+    ensures answer { IfOk result (λ f. HasWritten (IsAnswer command.now.task m.now) (shown command.now.travel.generated) (K.taken out.old) (K.taken out.new) f.written) }
+    ensures cause { IfOk result (λ f. HasCause (K.faults out.old) (K.faults out.new) f.written) }
+    ensures held { IsFront (K.taken out.old) (K.taken out.new) }
+    ensures no_answer { OnErr result (K.taken out.new ≡ K.taken out.old) }
+    ensures memory { IfErr result (λ r. r ≡ Refusal.NoMemory) }
+    ensures rounds { IfOk result (λ f. f.rounds ≡ run.rounds) }
+{
+    let Finished { progs, rounds } = run;
+    let generated = command.travel.generated;
+    let Ending { status, written } = finished(alloc, &command.task, m, generated, progs, out)?;
+    Ok(Finish {
+        status,
+        written,
+        rounds,
+    })
 }

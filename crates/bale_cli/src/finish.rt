@@ -1,138 +1,196 @@
-//! The run of a command for a matrix: the exchange, and then the answer, written.
-ghost use Rattle.std.specs.Prelude.{◌≡◌, ◌≤◌, ℕ, List, Result, Option, None, true, OnOk, OnErr, IfOk};
-ghost use Rattle.route_tensor.specs.Grid.{ranks};
+//! The end of a run: the programs after their last round, and then the answer, written.
+
+ghost use Rattle.std.specs.Prelude.{◌≡◌, ◌≤◌, ℕ, Bool, true, List, [], Option, None, map, OnOk, OnErr, IfOk};
 ghost use Rattle.bale_types.specs.Stream.{after, HasCause, IsFront};
 ghost use Rattle.bale_types.specs.Out.{appended};
-ghost use Rattle.bale_words.specs.Ranges.{InRanges};
-ghost use Rattle.bale_cli.specs.Jobs.{runs};
-ghost use Rattle.bale_cli.specs.Answer.{HasWritten};
+ghost use Rattle.round_program.specs.Canonical.{HaveEnded};
+ghost use Rattle.app_cases.specs.Any.{any_rules};
+ghost use Rattle.bale_words.specs.Ranges.{TaskInRanges};
+ghost use Rattle.bale_cli.specs.Jobs.{is_ready};
+ghost use Rattle.bale_cli.specs.Answer.{HasWritten, shown};
 ghost use Rattle.bale_cli.specs.Fitness.{unfitness};
-ghost use Rattle.bale_cli.specs.Tasks.{IsAnswer, task_status, made_for, Tells, TellsTask, WithinTurns, TurnsOfTask};
+ghost use Rattle.bale_cli.specs.Logs.{bytes_of};
+ghost use Rattle.bale_cli.specs.Starts.{starts_of};
+ghost use Rattle.bale_cli.specs.Summary.{summary_of};
+ghost use Rattle.bale_cli.specs.Tasks.{IsAnswer, task_status};
 
 use crate::application::Application;
 use crate::column_answers::{HistoAnswer, IgAnswer};
-use crate::exchange::exchanged;
+use crate::counter::Counter;
 use crate::matrix_answers::{PermuteAnswer, TransposeAnswer};
 use crate::order_answer::OrderAnswer;
 use crate::walk_answers::{DeltaAnswer, SsspAnswer};
-use app_permute::seed_perms;
-use bale_types::{Failed, NoMemory, Out, Sink};
-use bale_words::{Command, Permutations, Task};
+use app_cases::{AnyProgram, take_all};
+use bale_types::{Failed, Line, NoMemory, Out, Sink};
+use bale_words::{Generated, Task};
 use mtx_text::Matrix;
-use rank_group::{Rounds, Steps};
+use round_program::Progs;
 use std::alloc::Global;
-use std::sync::ledger::Ledger;
 
-/// A run that came to its end: the answer's status, whether it was written, and what was exchanged.
+/// The answer's status, and whether it was written.
 #[derive(Drop)]
-pub(crate) struct Finish {
+pub(crate) struct Ending {
     pub(crate) status: u8,
     pub(crate) written: Result<(), Failed>,
-    pub(crate) rounds: Rounds,
 }
 
-/// Runs the command for a matrix, and writes its answer.
-pub(crate) fn ran<K: Sink, L: Ledger>(
+/// Writes the answer of a task for a matrix, by the programs after their last round: its bytes, or their summary where
+/// the matrix was generated.
+///
+/// # Errors
+/// `NoMemory` where the answer found none: then nothing is written.
+pub(crate) fn finished<K: Sink>(
     alloc: Global,
-    command: &Command,
+    task: &Task,
     m: &Matrix,
+    generated: Option<Generated>,
+    progs: Progs<AnyProgram>,
     out: &mut K,
-    steps: &mut Steps<L>,
-) -> Result<Finish, NoMemory>
-    requires runs { runs command.now ≡ true }
-    requires ranges { InRanges command.now }
-    requires fits { unfitness command.now.task m.now true ≡ None }
-    ensures status { IfOk result (λ f. f.status ≡ task_status command.now.task m.now) }
-    ensures low { IfOk result (λ f. f.status ≤ 1) }
-    ensures answer { IfOk result (λ f. HasWritten (IsAnswer command.now.task m.now) (K.taken out.old) (K.taken out.new) f.written) }
-    ensures cause { IfOk result (λ f. HasCause (K.faults out.old) (K.faults out.new) f.written) }
+) -> Result<Ending, NoMemory>
+    requires ready { is_ready task.now ≡ true }
+    requires ranges { TaskInRanges task.now }
+    requires fits { (serial : Bool) × (unfitness task.now m.now serial ≡ None) }
+    requires ended { (ranks : ℕ) × (1 ≤ ranks) × (ranks ≤ 64) × HaveEnded any_rules (starts_of task.now ranks m.now) progs }
+    ensures status { IfOk result (λ e. e.status ≡ task_status task.now m.now) }
+    ensures low { IfOk result (λ e. e.status ≤ 1) }
+    ensures answer { IfOk result (λ e. HasWritten (IsAnswer task.now m.now) (shown generated) (K.taken out.old) (K.taken out.new) e.written) }
+    ensures cause { IfOk result (λ e. HasCause (K.faults out.old) (K.faults out.new) e.written) }
     ensures held { IsFront (K.taken out.old) (K.taken out.new) }
     ensures no_answer { OnErr result (K.taken out.new ≡ K.taken out.old) }
-    ensures rounds { IfOk result (λ f. TellsTask command.now.task m.now (made_for command.now) command.now.travel.steady f.rounds) }
-    ensures steps { TurnsOfTask command.now.task m.now command.now.grid steps.old steps.new }
 {
     let _sparse = m.entries();
-    match &command.task {
-        Task::Histo => ran_as(alloc, &HistoAnswer, m, command, out, steps),
-        Task::Ig => ran_as(alloc, &IgAnswer, m, command, out, steps),
-        Task::Permute(Permutations::Seed(seed)) => {
-            let perms = seed_perms(alloc, m.rows(), m.cols(), *seed)?;
-            ran_as(alloc, &PermuteAnswer { perms }, m, command, out, steps)
-        }
-        Task::Transpose => ran_as(alloc, &TransposeAnswer, m, command, out, steps),
-        Task::Topo => ran_as(alloc, &OrderAnswer, m, command, out, steps),
-        Task::Sssp(source, None) => {
-            let source = *source - 1;
-            ran_as(alloc, &SsspAnswer { source }, m, command, out, steps)
-        }
-        Task::Sssp(source, Some(delta)) => {
-            let source = *source - 1;
-            let delta = *delta;
-            let app = DeltaAnswer { source, delta };
-            ran_as(alloc, &app, m, command, out, steps)
+    match task {
+        Task::Histo => finished_as::<HistoAnswer, K>(alloc, task, m, generated, progs, out),
+        Task::Ig => finished_as::<IgAnswer, K>(alloc, task, m, generated, progs, out),
+        Task::Permute(_) => finished_as::<PermuteAnswer, K>(alloc, task, m, generated, progs, out),
+        Task::Transpose => finished_as::<TransposeAnswer, K>(alloc, task, m, generated, progs, out),
+        Task::Topo => finished_as::<OrderAnswer, K>(alloc, task, m, generated, progs, out),
+        Task::Sssp(_, None) => finished_as::<SsspAnswer, K>(alloc, task, m, generated, progs, out),
+        Task::Sssp(_, Some(_)) => {
+            finished_as::<DeltaAnswer, K>(alloc, task, m, generated, progs, out)
         }
         _ => unreachable!(),
     }
 }
 
-/// Runs one application for a matrix, and writes its answer.
-fn ran_as<A: Application, K: Sink, L: Ledger>(
+/// Writes the answer of one application.
+fn finished_as<A: Application, K: Sink>(
     alloc: Global,
-    app: &A,
+    task: &Task,
     m: &Matrix,
-    command: &Command,
+    generated: Option<Generated>,
+    progs: Progs<AnyProgram>,
     out: &mut K,
-    steps: &mut Steps<L>,
-) -> Result<Finish, NoMemory>
-    requires serves { A.serves app.now m.now }
-    requires ranges { InRanges command.now }
-    ensures status { IfOk result (λ f. f.status ≡ A.status_for app.now m.now) }
-    ensures low { IfOk result (λ f. f.status ≤ 1) }
-    ensures answer { IfOk result (λ f. HasWritten (A.is_answer app.now m.now) (K.taken out.old) (K.taken out.new) f.written) }
-    ensures cause { IfOk result (λ f. HasCause (K.faults out.old) (K.faults out.new) f.written) }
+) -> Result<Ending, NoMemory>
+    requires serves { A.serves task.now m.now }
+    requires ended { (ranks : ℕ) × (1 ≤ ranks) × (ranks ≤ 64) × HaveEnded any_rules (map A.Prog.case_of (A.starts task.now ranks m.now)) progs }
+    ensures status { IfOk result (λ e. e.status ≡ task_status task.now m.now) }
+    ensures low { IfOk result (λ e. e.status ≤ 1) }
+    ensures answer { IfOk result (λ e. HasWritten (IsAnswer task.now m.now) (shown generated) (K.taken out.old) (K.taken out.new) e.written) }
+    ensures cause { IfOk result (λ e. HasCause (K.faults out.old) (K.faults out.new) e.written) }
     ensures held { IsFront (K.taken out.old) (K.taken out.new) }
     ensures no_answer { OnErr result (K.taken out.new ≡ K.taken out.old) }
-    ensures rounds { IfOk result (λ f. Tells A.Prog.rules (A.starts app.now (ranks command.now.grid) m.now) (made_for command.now) command.now.travel.steady f.rounds) }
-    ensures steps { WithinTurns A.Prog.rules (A.starts app.now (ranks command.now.grid) m.now) command.now.grid steps.old steps.new }
 {
-    let (answer, rounds) = exchanged(alloc, app, m, command, steps)?;
-    let status = app.status(&answer, m);
-    let written = write_answer(app, &answer, m, out);
-    Ok(Finish {
-        status,
-        written,
-        rounds,
-    })
+    let progs = take_all(alloc, progs)?;
+    let answer = A::end(alloc, task, m, progs)?;
+    let status = A::status(task, &answer, m);
+    let written = match generated {
+        None => write_answer::<A, K>(task, &answer, m, out),
+        Some(_) => write_summary::<A, K>(task, &answer, m, out),
+    };
+    Ok(Ending { status, written })
 }
 
 /// Writes the answer through a buffer.
 fn write_answer<A: Application, K: Sink>(
-    app: &A,
+    task: &Task,
     answer: &A::Answer,
     m: &Matrix,
     sink: &mut K,
 ) -> Result<(), Failed>
-    requires { A.answers app.now m.now answer.now }
-    ensures answer { HasWritten (A.is_answer app.now m.now) (K.taken sink.old) (K.taken sink.new) result }
+    requires serves { A.serves task.now m.now }
+    requires answers { A.answers task.now m.now answer.now }
+    ensures answer { HasWritten (IsAnswer task.now m.now) (λ bytes. bytes) (K.taken sink.old) (K.taken sink.new) result }
     ensures held { IsFront (K.taken sink.old) (K.taken sink.new) }
     ensures cause { HasCause (K.faults sink.old) (K.faults sink.new) result }
 {
     let mut out = Out::new(sink);
-    write_all(app, answer, m, &mut out)
+    write_all::<A, K>(task, answer, m, &mut out)
 }
 
 fn write_all<A: Application, K: Sink>(
-    app: &A,
+    task: &Task,
     answer: &A::Answer,
     m: &Matrix,
     out: &mut Out<'_, K>,
 ) -> Result<(), Failed>
-    requires { A.answers app.now m.now answer.now }
-    ensures answer { HasWritten (A.is_answer app.now m.now) (appended K.taken out.old) (K.taken out.new.sink.now) result }
+    requires serves { A.serves task.now m.now }
+    requires answers { A.answers task.now m.now answer.now }
+    ensures answer { HasWritten (IsAnswer task.now m.now) (λ bytes. bytes) (appended K.taken out.old) (K.taken out.new.sink.now) result }
     ensures cause { HasCause (K.faults out.old.sink.now) (K.faults out.new.sink.now) result }
     ensures held { IsFront (K.taken out.old.sink.now) (K.taken out.new.sink.now) }
     ensures same_sink { out.new.sink.ghost_name ≡ out.old.sink.ghost_name }
 {
-    app.write(answer, m, out)?;
+    A::write(task, answer, m, out)?;
     out.flush()
+}
+
+/// Counts the bytes of the answer, and writes the line of their summary.
+fn write_summary<A: Application, K: Sink>(
+    task: &Task,
+    answer: &A::Answer,
+    m: &Matrix,
+    sink: &mut K,
+) -> Result<(), Failed>
+    requires serves { A.serves task.now m.now }
+    requires answers { A.answers task.now m.now answer.now }
+    ensures answer { HasWritten (IsAnswer task.now m.now) summary_of (K.taken sink.old) (K.taken sink.new) result }
+    ensures held { IsFront (K.taken sink.old) (K.taken sink.new) }
+    ensures cause { HasCause (K.faults sink.old) (K.faults sink.new) result }
+{
+    let mut counter = Counter::new();
+    let counted = write_answer::<A, Counter>(task, answer, m, &mut counter);
+    match counted {
+        Ok(()) => write_line(&counter, sink),
+        Err(_) => unreachable!(),
+    }
+}
+
+/// Writes the line of a count through a buffer.
+fn write_line<K: Sink>(counter: &Counter, sink: &mut K) -> Result<(), Failed>
+    ensures ok { OnOk result (K.taken sink.new ≡ after (K.taken sink.old) (summary_of (bytes_of counter.now.log))) }
+    ensures err { OnErr result (IsFront (K.taken sink.new) (after (K.taken sink.old) (summary_of (bytes_of counter.now.log)))) }
+    ensures held { IsFront (K.taken sink.old) (K.taken sink.new) }
+    ensures cause { HasCause (K.faults sink.old) (K.faults sink.new) result }
+{
+    let line = summary_line(counter);
+    let mut out = Out::new(sink);
+    flushed(&mut out, line.bytes())
+}
+
+fn flushed<K: Sink>(out: &mut Out<'_, K>, bytes: &[u8]) -> Result<(), Failed>
+    ensures ok { OnOk result (K.taken out.new.sink.now ≡ after (appended K.taken out.old) bytes.now) }
+    ensures err { OnErr result (IsFront (K.taken out.new.sink.now) (after (appended K.taken out.old) bytes.now)) }
+    ensures cause { HasCause (K.faults out.old.sink.now) (K.faults out.new.sink.now) result }
+    ensures held { IsFront (K.taken out.old.sink.now) (K.taken out.new.sink.now) }
+    ensures same_sink { out.new.sink.ghost_name ≡ out.old.sink.ghost_name }
+{
+    out.text(bytes)?;
+    out.flush()
+}
+
+/// `lines L bytes B sum S`.
+#[tactic(auto, unfolding(crate::specs::Summary::summary_of))]
+fn summary_line(counter: &Counter) -> Line
+    ensures { result ≡ summary_of (bytes_of counter.now.log) }
+{
+    let mut line = Line::new();
+    line.text(b"lines ");
+    line.number(counter.lines);
+    line.text(b" bytes ");
+    line.number(counter.bytes);
+    line.text(b" sum ");
+    line.number(counter.sum);
+    line.byte(b'\n');
+    line
 }

@@ -11,20 +11,29 @@
 #![tactic(auto)]
 
 mod application;
+mod calls;
 mod column_answers;
+mod counter;
 mod exchange;
 mod finish;
 mod job;
 mod matrix_answers;
+mod numberings;
 mod order_answer;
 mod refusal;
-mod run;
+mod start;
 mod unfit;
 mod walk_answers;
 
+pub use calls::{Outcome, run, run_serial};
 pub use refusal::{Refusal, report};
-pub use run::{Outcome, run_serial};
 pub use unfit::Unfit;
 
 #[cfg(test)]
-mod tests;
+mod fault_tests;
+#[cfg(test)]
+mod rig;
+#[cfg(test)]
+mod row_tests;
+#[cfg(test)]
+mod text_tests;

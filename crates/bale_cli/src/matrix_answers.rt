@@ -2,68 +2,84 @@
 
 ghost use Rattle.std.specs.Prelude.{ℕ, ◌≡◌, ◌≤◌, IfOk};
 ghost use Rattle.round_program.specs.Canonical.{HaveEnded};
-ghost use Rattle.mtx_text.specs.Permutations.{Permutes};
 ghost use Rattle.app_permute.specs.Moved.{permuted, transposed};
 ghost use Rattle.app_permute.specs.Permutes.{permute_rules};
 ghost use Rattle.app_permute.specs.PermuteRuns.{permute_starts};
 ghost use Rattle.app_permute.specs.Transposes.{transpose_rules};
 ghost use Rattle.app_permute.specs.TransposeRuns.{transpose_starts};
+ghost use Rattle.bale_cli.specs.Serving.{ServesPermute, ServesTranspose, moves_of};
 
 use crate::application::Application;
+use crate::numberings::new_numbers;
 use app_permute::{
-    Perms, Permute, Transpose, permute_end, permute_start, transpose_end, transpose_start,
+    Permute, Transpose, permute_end, permute_start, seed_perms, transpose_end, transpose_start,
 };
 use bale_types::{Failed, NoMemory, Out, Sink};
+use bale_words::{Permutations, Task};
 use mtx_text::{Matrix, write_matrix};
 use round_program::Progs;
 use std::alloc::Global;
 
 /// The matrix with new numbers for its rows and columns.
-#[derive(Drop)]
-pub(crate) struct PermuteAnswer {
-    pub(crate) perms: Perms,
-}
+pub(crate) struct PermuteAnswer;
 
 impl Application for PermuteAnswer {
     ghost use Rattle.std.specs.Prelude.{◌≡◌};
-    ghost use Rattle.mtx_text.specs.Permutations.{Permutes};
-    ghost use Rattle.mtx_text.specs.Written.{text_of};
     ghost use Rattle.app_permute.specs.Moved.{permuted};
     ghost use Rattle.app_permute.specs.PermuteRuns.{permute_starts};
+    ghost use Rattle.bale_cli.specs.Serving.{ServesPermute, moves_of};
 
     type Prog = Permute;
 
     type Answer = Matrix;
 
-    ghost serves = { λ app m. (Permutes m.rows app.perms.rows) × (Permutes m.cols app.perms.cols) };
+    ghost serves = { ServesPermute };
 
-    ghost starts = { λ app ranks m. permute_starts ranks m app.perms.rows app.perms.cols };
+    ghost starts = { λ t ranks m. permute_starts ranks m (moves_of t m).rows (moves_of t m).cols };
 
-    ghost status_for = { λ _ _. 0 };
+    ghost answers = { λ t m b. b ≡ permuted (moves_of t m).rows (moves_of t m).cols m };
 
-    ghost is_answer = { λ app m bytes. bytes ≡ text_of (permuted app.perms.rows app.perms.cols m) };
-
-    ghost answers = { λ app m b. b ≡ permuted app.perms.rows app.perms.cols m };
-
-    fn start(&self, alloc: Global, m: &Matrix, ranks: u32) -> Result<Progs<Permute>, NoMemory> {
-        permute_start(alloc, m, self.perms.rows(), self.perms.cols(), ranks)
+    fn start(
+        alloc: Global,
+        task: &Task,
+        m: &Matrix,
+        ranks: u32,
+    ) -> Result<Progs<Permute>, NoMemory> {
+        let _sparse = m.entries();
+        match task {
+            Task::Permute(Permutations::Seed(seed)) => {
+                let perms = seed_perms(alloc, m.rows(), m.cols(), *seed)?;
+                permute_start(alloc, m, perms.rows(), perms.cols(), ranks)
+            }
+            Task::Permute(Permutations::Lists(rows, cols)) => {
+                let rows = new_numbers(alloc, m.rows(), rows)?;
+                let cols = new_numbers(alloc, m.cols(), cols)?;
+                permute_start(alloc, m, rows.as_slice(), cols.as_slice(), ranks)
+            }
+            _ => unreachable!(),
+        }
     }
 
-    fn end(&self, alloc: Global, m: &Matrix, progs: Progs<Permute>) -> Result<Matrix, NoMemory>
-        requires serves { (Permutes m.now.rows self.now.perms.rows) × (Permutes m.now.cols self.now.perms.cols) }
-        requires ended { (ranks : ℕ) × (1 ≤ ranks) × (ranks ≤ 64) × HaveEnded permute_rules (permute_starts ranks m.now self.now.perms.rows self.now.perms.cols) progs }
-        ensures { IfOk result (λ b. b ≡ permuted self.now.perms.rows self.now.perms.cols m.now) }
+    fn end(
+        alloc: Global,
+        task: &Task,
+        m: &Matrix,
+        progs: Progs<Permute>,
+    ) -> Result<Matrix, NoMemory>
+        requires serves { ServesPermute task.now m.now }
+        requires ended { (ranks : ℕ) × (1 ≤ ranks) × (ranks ≤ 64) × HaveEnded permute_rules (permute_starts ranks m.now (moves_of task.now m.now).rows (moves_of task.now m.now).cols) progs }
+        ensures { IfOk result (λ b. b ≡ permuted (moves_of task.now m.now).rows (moves_of task.now m.now).cols m.now) }
     {
         let _sparse = m.entries();
         permute_end(alloc, m, &progs)
     }
 
-    fn status(&self, answer: &Matrix, m: &Matrix) -> u8 {
+    fn status(task: &Task, answer: &Matrix, m: &Matrix) -> u8 {
         0
     }
 
     fn write<K: Sink>(
-        &self,
+        task: &Task,
         answer: &Matrix,
         m: &Matrix,
         out: &mut Out<'_, K>,
@@ -77,30 +93,36 @@ pub(crate) struct TransposeAnswer;
 
 impl Application for TransposeAnswer {
     ghost use Rattle.std.specs.Prelude.{◌≡◌};
-    ghost use Rattle.mtx_text.specs.Written.{text_of};
     ghost use Rattle.app_permute.specs.Moved.{transposed};
     ghost use Rattle.app_permute.specs.TransposeRuns.{transpose_starts};
+    ghost use Rattle.bale_cli.specs.Serving.{ServesTranspose};
 
     type Prog = Transpose;
 
     type Answer = Matrix;
 
-    ghost serves = { λ _ m. Unit {0} };
+    ghost serves = { ServesTranspose };
 
     ghost starts = { λ _. transpose_starts };
 
-    ghost status_for = { λ _ _. 0 };
-
-    ghost is_answer = { λ _ m bytes. bytes ≡ text_of (transposed m) };
-
     ghost answers = { λ _ m b. b ≡ transposed m };
 
-    fn start(&self, alloc: Global, m: &Matrix, ranks: u32) -> Result<Progs<Transpose>, NoMemory> {
+    fn start(
+        alloc: Global,
+        task: &Task,
+        m: &Matrix,
+        ranks: u32,
+    ) -> Result<Progs<Transpose>, NoMemory> {
         transpose_start(alloc, m, ranks)
     }
 
-    fn end(&self, alloc: Global, m: &Matrix, progs: Progs<Transpose>) -> Result<Matrix, NoMemory>
-        requires serves { Unit {0} }
+    fn end(
+        alloc: Global,
+        task: &Task,
+        m: &Matrix,
+        progs: Progs<Transpose>,
+    ) -> Result<Matrix, NoMemory>
+        requires serves { ServesTranspose task.now m.now }
         requires ended { (ranks : ℕ) × (1 ≤ ranks) × (ranks ≤ 64) × HaveEnded transpose_rules (transpose_starts ranks m.now) progs }
         ensures { IfOk result (λ b. b ≡ transposed m.now) }
     {
@@ -108,12 +130,12 @@ impl Application for TransposeAnswer {
         transpose_end(alloc, m, &progs)
     }
 
-    fn status(&self, answer: &Matrix, m: &Matrix) -> u8 {
+    fn status(task: &Task, answer: &Matrix, m: &Matrix) -> u8 {
         0
     }
 
     fn write<K: Sink>(
-        &self,
+        task: &Task,
         answer: &Matrix,
         m: &Matrix,
         out: &mut Out<'_, K>,

@@ -8,10 +8,12 @@ ghost use Rattle.app_topo.specs.Levels.{topo_order};
 ghost use Rattle.app_topo.specs.Topos.{topo_rules};
 ghost use Rattle.app_topo.specs.TopoRuns.{topo_starts};
 ghost use Rattle.bale_cli.specs.Orders.{order_text};
+ghost use Rattle.bale_cli.specs.Serving.{ServesTopo};
 
 use crate::application::Application;
 use app_topo::{Topo, TopoOrder, topo_end, topo_start, topo_write};
 use bale_types::{Failed, NoMemory, Out, Sink};
+use bale_words::Task;
 use mtx_text::Matrix;
 use round_program::Progs;
 use std::alloc::Global;
@@ -23,33 +25,29 @@ impl Application for OrderAnswer {
     ghost use Rattle.std.specs.Prelude.{◌≡◌};
     ghost use Rattle.app_topo.specs.Levels.{topo_order};
     ghost use Rattle.app_topo.specs.TopoRuns.{topo_starts};
-    ghost use Rattle.bale_cli.specs.Orders.{order_status, order_text};
+    ghost use Rattle.bale_cli.specs.Serving.{ServesTopo};
 
     type Prog = Topo;
 
     type Answer = Option<TopoOrder>;
 
-    ghost serves = { λ _ m. m.rows ≡ m.cols };
+    ghost serves = { ServesTopo };
 
     ghost starts = { λ _. topo_starts };
 
-    ghost status_for = { λ _ m. order_status (topo_order m.rows m.entries) };
-
-    ghost is_answer = { λ _ m bytes. bytes ≡ order_text (topo_order m.rows m.entries) };
-
     ghost answers = { λ _ m o. o ≡ topo_order m.rows m.entries };
 
-    fn start(&self, alloc: Global, m: &Matrix, ranks: u32) -> Result<Progs<Topo>, NoMemory> {
+    fn start(alloc: Global, task: &Task, m: &Matrix, ranks: u32) -> Result<Progs<Topo>, NoMemory> {
         topo_start(alloc, m, ranks)
     }
 
     fn end(
-        &self,
         alloc: Global,
+        task: &Task,
         m: &Matrix,
         progs: Progs<Topo>,
     ) -> Result<Option<TopoOrder>, NoMemory>
-        requires serves { m.now.rows ≡ m.now.cols }
+        requires serves { ServesTopo task.now m.now }
         requires ended { (ranks : ℕ) × (1 ≤ ranks) × (ranks ≤ 64) × HaveEnded topo_rules (topo_starts ranks m.now) progs }
         ensures { IfOk result (λ o. o ≡ topo_order m.now.rows m.now.entries) }
     {
@@ -57,7 +55,7 @@ impl Application for OrderAnswer {
         topo_end(alloc, m, &progs)
     }
 
-    fn status(&self, answer: &Option<TopoOrder>, m: &Matrix) -> u8 {
+    fn status(task: &Task, answer: &Option<TopoOrder>, m: &Matrix) -> u8 {
         match answer {
             Some(_) => 0,
             None => 1,
@@ -65,7 +63,7 @@ impl Application for OrderAnswer {
     }
 
     fn write<K: Sink>(
-        &self,
+        task: &Task,
         answer: &Option<TopoOrder>,
         m: &Matrix,
         out: &mut Out<'_, K>,

@@ -142,6 +142,8 @@ fn text_of_unfit(unfit: Unfit) -> &'static [u8]
         Unfit::NotSquare => b"bale: unfit: matrix is not square\n",
         Unfit::NegativeWeight => b"bale: unfit: negative weight\n",
         Unfit::Source => b"bale: unfit: source out of range\n",
+        Unfit::RowPermutation => b"bale: unfit: row permutation\n",
+        Unfit::ColumnPermutation => b"bale: unfit: column permutation\n",
         Unfit::SerialSize => b"bale: unfit: too large for the serial drive\n",
         Unfit::DeltaRows => b"bale: unfit: too many rows for delta on the serial drive\n",
     }

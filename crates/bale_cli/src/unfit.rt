@@ -1,13 +1,17 @@
 //! Whether a command can be answered for a matrix.
 
-ghost use Rattle.std.specs.Prelude.{◌≡◌, ◌*◌, ◌≤◌, ◌+◌, ◌<◌, ◌==◌, ◌||◌, ◌&&◌, nat_lt, is_some, true, length};
+ghost use Rattle.std.specs.Prelude.{◌≡◌, ◌*◌, ◌≤◌, ◌+◌, ◌<◌, ◌==◌, ◌||◌, ◌&&◌, nat_lt, is_some, true, length, IfOk};
 ghost use Rattle.least_walks.specs.Walks.{no_negative};
-ghost use Rattle.bale_words.specs.declared.command.Task.TheVariants.{Sssp, Topo};
+ghost use Rattle.bale_words.specs.declared.command.Task.TheVariants.{Permute, Sssp, Topo};
+ghost use Rattle.bale_words.specs.declared.command.Permutations.TheVariants.{Lists};
 ghost use Rattle.bale_cli.specs.Fitness.{unfitness};
 
-use bale_words::Task;
+use crate::numberings::numbers_all;
+use bale_types::NoMemory;
+use bale_words::{Numbers, Permutations, Task};
 use least_walks::no_negative;
 use mtx_text::Matrix;
+use std::alloc::Global;
 
 /// Why a command can't be answered for a matrix.
 #[derive(Clone, Copy, PartialEq, Eq, Debug)]
@@ -18,6 +22,10 @@ pub enum Unfit {
     NegativeWeight,
     /// The source is no vertex.
     Source,
+    /// The list for the rows hasn't each number from 1 to their number once.
+    RowPermutation,
+    /// The list for the columns hasn't each number from 1 to their number once.
+    ColumnPermutation,
     /// A serial drive would store more than rows times entries allow: 16,777,216.
     SerialSize,
     /// Delta-stepping on a serial drive would store the votes of too many rounds: more than 1,024 rows.
@@ -25,14 +33,42 @@ pub enum Unfit {
 }
 
 /// The first test that fails, of those of the task, for this matrix, driven serially or by threads.
-pub(crate) fn unfitness(task: &Task, m: &Matrix, serial: bool) -> Option<Unfit>
-    ensures { result ≡ unfitness task.now m.now serial }
+///
+/// # Errors
+/// `NoMemory` where the marks of a list's numbers found none.
+pub(crate) fn unfitness(
+    alloc: Global,
+    task: &Task,
+    m: &Matrix,
+    serial: bool,
+) -> Result<Option<Unfit>, NoMemory>
+    ensures { IfOk result (λ u. u ≡ unfitness task.now m.now serial) }
 {
     match task {
-        Task::Topo => no_order(m, serial),
-        Task::Sssp(source, delta) => no_walks(m, *source, *delta, serial),
-        _ => None,
+        Task::Permute(Permutations::Lists(rows, cols)) => no_moves(alloc, m, rows, cols, serial),
+        Task::Topo => Ok(no_order(m, serial)),
+        Task::Sssp(source, delta) => Ok(no_walks(m, *source, *delta, serial)),
+        _ => Ok(None),
     }
+}
+
+/// Why rows and columns can't get these new numbers.
+fn no_moves(
+    alloc: Global,
+    m: &Matrix,
+    rows: &Option<Numbers>,
+    cols: &Option<Numbers>,
+    serial: bool,
+) -> Result<Option<Unfit>, NoMemory>
+    ensures { IfOk result (λ u. u ≡ unfitness (Permute (Lists rows.now cols.now)) m.now serial) }
+{
+    if !numbers_all(alloc, m.rows(), rows)? {
+        return Ok(Some(Unfit::RowPermutation));
+    }
+    if !numbers_all(alloc, m.cols(), cols)? {
+        return Ok(Some(Unfit::ColumnPermutation));
+    }
+    Ok(None)
 }
 
 /// Why least walks from a source can't be answered; the source is counted from 1.

@@ -1,67 +1,66 @@
 //! sssp, from a matrix to its lines.
 
-ghost use Rattle.std.specs.Prelude.{ℕ, ◌≡◌, ◌≤◌, ◌<◌, true, IfOk};
+ghost use Rattle.std.specs.Prelude.{ℕ, ◌≤◌, IfOk};
 ghost use Rattle.round_program.specs.Canonical.{HaveEnded};
-ghost use Rattle.least_walks.specs.Walks.{no_negative};
 ghost use Rattle.app_sssp.specs.Sssps.{sssp_rules};
 ghost use Rattle.app_sssp.specs.SsspRuns.{sssp_starts, SsspEnded};
 ghost use Rattle.delta_step.specs.Deltas.{delta_rules};
 ghost use Rattle.delta_step.specs.DeltaRuns.{delta_starts, DeltaEnded};
+ghost use Rattle.bale_cli.specs.Serving.{ServesDelta, ServesSssp, source_of, width_of};
 
 use crate::application::Application;
 use app_sssp::{Sssp, sssp_start, sssp_write};
 use bale_types::{Failed, NoMemory, Out, Sink};
+use bale_words::Task;
 use delta_step::{Delta, delta_start, delta_write};
 use mtx_text::Matrix;
 use round_program::Progs;
 use std::alloc::Global;
 
 /// The least weight of a walk from a source to each vertex.
-#[derive(Drop)]
-pub(crate) struct SsspAnswer {
-    /// counted from 0
-    pub(crate) source: u32,
-}
+pub(crate) struct SsspAnswer;
 
 impl Application for SsspAnswer {
-    ghost use Rattle.std.specs.Prelude.{◌≡◌, ◌<◌, true};
-    ghost use Rattle.least_walks.specs.Lines.{IsSsspAnswer};
-    ghost use Rattle.least_walks.specs.Walks.{no_negative};
     ghost use Rattle.app_sssp.specs.SsspRuns.{sssp_starts, SsspEnded};
+    ghost use Rattle.bale_cli.specs.Serving.{ServesSssp, source_of};
 
     type Prog = Sssp;
 
     type Answer = Progs<Sssp>;
 
-    ghost serves = { λ app m. (m.cols ≡ m.rows) × (no_negative m.entries ≡ true) × (app.source < m.rows) };
+    ghost serves = { ServesSssp };
 
-    ghost starts = { λ app ranks m. sssp_starts ranks m app.source };
+    ghost starts = { λ t ranks m. sssp_starts ranks m (source_of t) };
 
-    ghost status_for = { λ _ _. 0 };
+    ghost answers = { λ t m ps. SsspEnded m (source_of t) ps };
 
-    ghost is_answer = { λ app m bytes. IsSsspAnswer m app.source bytes };
-
-    ghost answers = { λ app m ps. SsspEnded m app.source ps };
-
-    fn start(&self, alloc: Global, m: &Matrix, ranks: u32) -> Result<Progs<Sssp>, NoMemory> {
-        sssp_start(alloc, m, self.source, ranks)
+    fn start(alloc: Global, task: &Task, m: &Matrix, ranks: u32) -> Result<Progs<Sssp>, NoMemory> {
+        match task {
+            Task::Sssp(source, None) => sssp_start(alloc, m, *source - 1, ranks),
+            _ => unreachable!(),
+        }
     }
 
-    fn end(&self, alloc: Global, m: &Matrix, progs: Progs<Sssp>) -> Result<Progs<Sssp>, NoMemory>
-        requires serves { (m.now.cols ≡ m.now.rows) × (no_negative m.now.entries ≡ true) × (self.now.source < m.now.rows) }
-        requires ended { (ranks : ℕ) × (1 ≤ ranks) × (ranks ≤ 64) × HaveEnded sssp_rules (sssp_starts ranks m.now self.now.source) progs }
-        ensures { IfOk result (λ a. SsspEnded m.now self.now.source a) }
+    fn end(
+        alloc: Global,
+        task: &Task,
+        m: &Matrix,
+        progs: Progs<Sssp>,
+    ) -> Result<Progs<Sssp>, NoMemory>
+        requires serves { ServesSssp task.now m.now }
+        requires ended { (ranks : ℕ) × (1 ≤ ranks) × (ranks ≤ 64) × HaveEnded sssp_rules (sssp_starts ranks m.now (source_of task.now)) progs }
+        ensures { IfOk result (λ a. SsspEnded m.now (source_of task.now) a) }
     {
         let _sparse = m.entries();
         Ok(progs)
     }
 
-    fn status(&self, answer: &Progs<Sssp>, m: &Matrix) -> u8 {
+    fn status(task: &Task, answer: &Progs<Sssp>, m: &Matrix) -> u8 {
         0
     }
 
     fn write<K: Sink>(
-        &self,
+        task: &Task,
         answer: &Progs<Sssp>,
         m: &Matrix,
         out: &mut Out<'_, K>,
@@ -71,53 +70,49 @@ impl Application for SsspAnswer {
 }
 
 /// The same, by delta-stepping.
-#[derive(Drop)]
-pub(crate) struct DeltaAnswer {
-    /// counted from 0
-    pub(crate) source: u32,
-    /// the width of a bucket, from 1 to 1,000,000,000,000
-    pub(crate) delta: u64,
-}
+pub(crate) struct DeltaAnswer;
 
 impl Application for DeltaAnswer {
-    ghost use Rattle.std.specs.Prelude.{◌≡◌, ◌<◌, ◌≤◌, true};
-    ghost use Rattle.least_walks.specs.Lines.{IsSsspAnswer};
-    ghost use Rattle.least_walks.specs.Walks.{no_negative};
     ghost use Rattle.delta_step.specs.DeltaRuns.{delta_starts, DeltaEnded};
+    ghost use Rattle.bale_cli.specs.Serving.{ServesDelta, source_of, width_of};
 
     type Prog = Delta;
 
     type Answer = Progs<Delta>;
 
-    ghost serves = { λ app m. (m.cols ≡ m.rows) × (no_negative m.entries ≡ true) × (app.source < m.rows) × (1 ≤ app.delta) × (app.delta ≤ 1_000_000_000_000) };
+    ghost serves = { ServesDelta };
 
-    ghost starts = { λ app ranks m. delta_starts ranks m app.source app.delta };
+    ghost starts = { λ t ranks m. delta_starts ranks m (source_of t) (width_of t) };
 
-    ghost status_for = { λ _ _. 0 };
+    ghost answers = { λ t m ps. DeltaEnded m (source_of t) ps };
 
-    ghost is_answer = { λ app m bytes. IsSsspAnswer m app.source bytes };
-
-    ghost answers = { λ app m ps. DeltaEnded m app.source ps };
-
-    fn start(&self, alloc: Global, m: &Matrix, ranks: u32) -> Result<Progs<Delta>, NoMemory> {
-        delta_start(alloc, m, self.source, self.delta, ranks)
+    fn start(alloc: Global, task: &Task, m: &Matrix, ranks: u32) -> Result<Progs<Delta>, NoMemory> {
+        match task {
+            Task::Sssp(source, Some(delta)) => delta_start(alloc, m, *source - 1, *delta, ranks),
+            _ => unreachable!(),
+        }
     }
 
-    fn end(&self, alloc: Global, m: &Matrix, progs: Progs<Delta>) -> Result<Progs<Delta>, NoMemory>
-        requires serves { (m.now.cols ≡ m.now.rows) × (no_negative m.now.entries ≡ true) × (self.now.source < m.now.rows) × (1 ≤ self.now.delta) × (self.now.delta ≤ 1_000_000_000_000) }
-        requires ended { (ranks : ℕ) × (1 ≤ ranks) × (ranks ≤ 64) × HaveEnded delta_rules (delta_starts ranks m.now self.now.source self.now.delta) progs }
-        ensures { IfOk result (λ a. DeltaEnded m.now self.now.source a) }
+    fn end(
+        alloc: Global,
+        task: &Task,
+        m: &Matrix,
+        progs: Progs<Delta>,
+    ) -> Result<Progs<Delta>, NoMemory>
+        requires serves { ServesDelta task.now m.now }
+        requires ended { (ranks : ℕ) × (1 ≤ ranks) × (ranks ≤ 64) × HaveEnded delta_rules (delta_starts ranks m.now (source_of task.now) (width_of task.now)) progs }
+        ensures { IfOk result (λ a. DeltaEnded m.now (source_of task.now) a) }
     {
         let _sparse = m.entries();
         Ok(progs)
     }
 
-    fn status(&self, answer: &Progs<Delta>, m: &Matrix) -> u8 {
+    fn status(task: &Task, answer: &Progs<Delta>, m: &Matrix) -> u8 {
         0
     }
 
     fn write<K: Sink>(
-        &self,
+        task: &Task,
         answer: &Progs<Delta>,
         m: &Matrix,
         out: &mut Out<'_, K>,

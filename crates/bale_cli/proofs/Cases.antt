@@ -1,0 +1,87 @@
+-- What a drive tells of the programs as any of the applications, it tells of the application's own.
+use Rattle.std.proofs.Common.{ℕ, ◌≡◌, ◌<◌, ◌≤◌, ◌+◌, Bool, true, false, List, [], ◌∷◌, map, length, Option, None, Some, refl, sym, ap, ◌∙◌, subst, arith, ◌-◌}
+use Rattle.std.proofs.lemmas.List.{length-map}
+use Rattle.route_tensor.specs.Grid.{ranks}
+use Rattle.mtx_text.specs.Sparse.{Sparse}
+use Rattle.round_program.specs.Rules.{Rules}
+use Rattle.round_program.specs.Canonical.{HasRounds, HaveEnded}
+use Rattle.round_program.specs.Injections.{Injects}
+use Rattle.rank_group.specs.declared.closed_round.ClosedRound.{ClosedRound}
+use Rattle.rank_group.specs.Rounds.{round_of}
+use Rattle.rank_group.specs.Told.{Made, TellsRun, turns_within}
+use Rattle.bale_words.specs.declared.command.Task.{Task}
+use Rattle.bale_words.specs.declared.command.Task.TheVariants as task
+use Rattle.app_histo_ig.specs.HistoRuns.{histo_starts}
+use Rattle.app_histo_ig.specs.IgRuns.{ig_starts}
+use Rattle.app_permute.specs.PermuteRuns.{permute_starts}
+use Rattle.app_permute.specs.TransposeRuns.{transpose_starts}
+use Rattle.app_sssp.specs.SsspRuns.{sssp_starts}
+use Rattle.app_topo.specs.TopoRuns.{topo_starts}
+use Rattle.delta_step.specs.DeltaRuns.{delta_starts}
+use Rattle.app_cases.specs.Any.{AnyState, any_rules}
+use Rattle.app_cases.specs.Cases.{histo_case, histo_is_case, ig_case, ig_is_case, permute_case, permute_is_case, transpose_case, transpose_is_case, topo_case, topo_is_case, sssp_case, sssp_is_case, delta_case, delta_is_case}
+use Rattle.app_cases.proofs.Driving.{steps, are_cases, ended, rounds}
+use Rattle.bale_cli.specs.Jobs.{is_ready}
+use Rattle.bale_cli.specs.Numberings.{perms_for}
+use Rattle.bale_cli.specs.Starts.{starts_of}
+use Rattle.bale_cli.specs.Tasks.{Tells, TellsTask, WithinTurns, TurnsOfTask}
+
+-- What a drive tells of its programs.
+abbrev pub DriveTells : List AnyState → Made → Bool → List ClosedRound → Type 0
+DriveTells ps made steady rs = (c : ClosedRound) × (rs ≡ c ∷ []) × ((n : ℕ) → HasRounds any_rules ps n → TellsRun any_rules ps n made steady (round_of c))
+
+tells : {S : Type 0} {R : Rules S} {i : S → AnyState} {w : List ℕ → List ℕ} → Injects R any_rules i w → (starts : List S) (ps ends : List AnyState) (made : Made) (steady : Bool)
+    (rs : List ClosedRound) → ps ≡ map i starts → 0 < length ps → HaveEnded any_rules ps ends → DriveTells ps made steady rs → Tells R starts made steady rs
+tells {i = i} case starts ps ends made steady rs put some h t =
+    let few : 0 < length starts = subst (λ n. 0 < n) (ap length put ∙ length-map i starts) some in
+    let cs = are_cases case starts few ps put ends h in
+    let e = ended case starts few ps put ends cs.0 h cs.1 in
+    let r = rounds case starts few ps put made steady rs t in
+    record { closed = r.0; only = r.1; count = e.rounds; has_rounds = e.has_rounds; tells = r.2 e.rounds e.has_rounds }
+
+-- the rounds of a task's run
+pub tells_task : (t : Task) (m : Sparse) (made : Made) (steady : Bool) (rs : List ClosedRound) (ps ends : List AnyState) → is_ready t ≡ true
+    → ps ≡ starts_of t (ranks made.dims) m → 0 < length ps → HaveEnded any_rules ps ends → DriveTells ps made steady rs → TellsTask t m made steady rs
+tells_task task.Histo m made steady rs ps ends ready put some h t = tells histo_is_case (histo_starts (ranks made.dims) m) ps ends made steady rs put some h t
+tells_task task.Ig m made steady rs ps ends ready put some h t = tells ig_is_case (ig_starts (ranks made.dims) m) ps ends made steady rs put some h t
+tells_task (task.Permute p) m made steady rs ps ends ready put some h t =
+    tells permute_is_case (permute_starts (ranks made.dims) m (perms_for p m).rows (perms_for p m).cols) ps ends made steady rs put some h t
+tells_task task.Transpose m made steady rs ps ends ready put some h t = tells transpose_is_case (transpose_starts (ranks made.dims) m) ps ends made steady rs put some h t
+tells_task task.Topo m made steady rs ps ends ready put some h t = tells topo_is_case (topo_starts (ranks made.dims) m) ps ends made steady rs put some h t
+tells_task (task.Sssp source None) m made steady rs ps ends ready put some h t = tells sssp_is_case (sssp_starts (ranks made.dims) m (source - 1)) ps ends made steady rs put some h t
+tells_task (task.Sssp source (Some delta)) m made steady rs ps ends ready put some h t =
+    tells delta_is_case (delta_starts (ranks made.dims) m (source - 1) delta) ps ends made steady rs put some h t
+tells_task task.Tally m made steady rs ps ends ready put some h t = absurd cc
+
+turns : {S : Type 0} {R : Rules S} {i : S → AnyState} {w : List ℕ → List ℕ} → Injects R any_rules i w → (starts : List S) (ps : List AnyState) (dims : List ℕ) (before after : ℕ)
+    → ps ≡ map i starts → 0 < length ps → ((n : ℕ) → HasRounds any_rules ps n → after ≤ before + turns_within any_rules dims ps n) → WithinTurns R starts dims before after
+turns {i = i} case starts ps dims before after put some f =
+    steps case starts (subst (λ n. 0 < n) (ap length put ∙ length-map i starts) some) ps put dims before after f
+
+-- the turns of a task's run
+pub turns_of_task : (t : Task) (m : Sparse) (dims : List ℕ) (before after : ℕ) (ps : List AnyState) → is_ready t ≡ true
+    → ps ≡ starts_of t (ranks dims) m → 0 < length ps → ((n : ℕ) → HasRounds any_rules ps n → after ≤ before + turns_within any_rules dims ps n) → TurnsOfTask t m dims before after
+turns_of_task task.Histo m dims before after ps ready put some f = turns histo_is_case (histo_starts (ranks dims) m) ps dims before after put some f
+turns_of_task task.Ig m dims before after ps ready put some f = turns ig_is_case (ig_starts (ranks dims) m) ps dims before after put some f
+turns_of_task (task.Permute p) m dims before after ps ready put some f =
+    turns permute_is_case (permute_starts (ranks dims) m (perms_for p m).rows (perms_for p m).cols) ps dims before after put some f
+turns_of_task task.Transpose m dims before after ps ready put some f = turns transpose_is_case (transpose_starts (ranks dims) m) ps dims before after put some f
+turns_of_task task.Topo m dims before after ps ready put some f = turns topo_is_case (topo_starts (ranks dims) m) ps dims before after put some f
+turns_of_task (task.Sssp source None) m dims before after ps ready put some f = turns sssp_is_case (sssp_starts (ranks dims) m (source - 1)) ps dims before after put some f
+turns_of_task (task.Sssp source (Some delta)) m dims before after ps ready put some f =
+    turns delta_is_case (delta_starts (ranks dims) m (source - 1) delta) ps dims before after put some f
+turns_of_task task.Tally m dims before after ps ready put some f = absurd cc
+
+few : {before after : ℕ} (more : ℕ) → after ≡ before → after ≤ before + more
+few more e = omega (arith, e)
+
+-- where no turn was made, there are few
+pub none_made : (t : Task) (m : Sparse) (dims : List ℕ) (before after : ℕ) → after ≡ before → TurnsOfTask t m dims before after
+none_made task.Histo m dims before after e = λ n h. few _ e
+none_made task.Ig m dims before after e = λ n h. few _ e
+none_made (task.Permute p) m dims before after e = λ n h. few _ e
+none_made task.Transpose m dims before after e = λ n h. few _ e
+none_made task.Topo m dims before after e = λ n h. few _ e
+none_made (task.Sssp source None) m dims before after e = λ n h. few _ e
+none_made (task.Sssp source (Some delta)) m dims before after e = λ n h. few _ e
+none_made task.Tally m dims before after e = e

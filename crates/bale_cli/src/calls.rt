@@ -1,0 +1,262 @@
+//! The top calls: from the words and the bytes that come in to the bytes that go out.
+ghost use Rattle.std.specs.Prelude.{◌≡◌, ◌≢◌, ◌⊎◌, ◌≤◌, ◌<◌, ℕ, true, false, [], List, Option, Some, None, Ok, Err, map, drop, string_bytes, OnOk, OnErr, IfOk, IfErr};
+ghost use Rattle.bale_types.specs.Stream.{after, HasCause, IsFront, Rose};
+ghost use Rattle.mtx_text.specs.Sparse.{Sparse};
+ghost use Rattle.bale_words.specs.declared.command.Command.{Command};
+ghost use Rattle.bale_words.specs.Ranges.{InRanges};
+ghost use Rattle.bale_cli.specs.Answer.{serial_answer, said, refusal_text, status_of, reads, Asked, Told, Wrote};
+ghost use Rattle.bale_cli.specs.Jobs.{as_asked, job_of, on_one_thread, runs};
+ghost use Rattle.bale_cli.specs.Outcomes.{Answered};
+ghost use Rattle.bale_cli.specs.Tasks.{made_for, TellsTask, TurnsOfTask};
+
+use crate::exchange::{Finish, drives_serially, ran, ran_serially};
+use crate::job::{matrix_for, read_job};
+use crate::refusal::{Refusal, report};
+use bale_types::{Sink, Source};
+use bale_words::Command;
+use rank_group::{Gate, Rounds, Steps};
+use std::alloc::Global;
+use std::sync::Wait;
+use std::sync::ledger::Ledger;
+use std::thread::Threads;
+
+/// How a run ended.
+#[derive(Drop)]
+pub struct Outcome {
+    /// 0, or 1 where topo finds no order, or the status of the refusal: 2 usage, 3 read fault, 4 write fault, 5 no matrix, 6 unfit, 7 no memory
+    pub status: u8,
+    /// What was exchanged: one closed round where an answer was written or its writing failed, else none.
+    pub rounds: Rounds,
+}
+
+/// Runs the command of the words after the program's name on the text of `source`, each rank on a thread of its own or all
+/// on this one, as the words say, and writes the answer to `out` or why there is none to `err`. Before each turn of a rank's
+/// thread the gate is told of it.
+///
+/// Where the source tells its text, out and err take exactly what the serial answer says, unless a read or a
+/// write failed or an allocation was refused. It waits for its threads, and returns where they do.
+pub fn run<R: Threads + Wait + Sync, S: Source, K: Sink, E: Sink, G: Gate + Sync>(
+    rt: &R,
+    alloc: Global,
+    words: &[String],
+    source: &mut S,
+    out: &mut K,
+    err: &mut E,
+    gate: &G,
+) -> Outcome
+    // The status is the serial answer's; a fault has its cause outside, and want of memory is free.
+    ensures usage { result.status ≡ 2 → job_of (map string_bytes words.now) ≡ None }
+    ensures no_command { job_of (map string_bytes words.now) ≡ None → result.status ≢ 7 → result.status ≡ 2 }
+    ensures status { (text : List ℕ) → Told (job_of (map string_bytes words.now)) (S.left source.old) text → result.status ≢ 3 → result.status ≢ 4 → result.status ≢ 7 →
+        result.status ≡ (serial_answer as_asked (map string_bytes words.now) text).status }
+    ensures read_fault { result.status ≡ 3 → Rose (S.faults source.old) (S.faults source.new) }
+    ensures write_fault { result.status ≡ 4 → Rose (K.faults out.old) (K.faults out.new) }
+
+    // No byte is read where the matrix is generated, nor at 2; at 0, 1, 4, 5 and 6 the text was read whole, or to one byte past its limit.
+    ensures unread { reads (job_of (map string_bytes words.now)) ≡ false → S.left source.new ≡ S.left source.old }
+    ensures read_whole { (text : List ℕ) → S.left source.old ≡ Some text → reads (job_of (map string_bytes words.now)) ≡ true →
+        result.status ≢ 3 → result.status ≢ 7 → S.left source.new ≡ Some (drop 16_777_217 text) }
+
+    // At 0 and 1 out has taken the answer, at 4 a front of it, and else nothing; what it held stays, so at 4 it has what it held and then a front
+    // of the answer.
+    ensures answer { (text : List ℕ) → Told (job_of (map string_bytes words.now)) (S.left source.old) text → (result.status ≡ 0) ⊎ (result.status ≡ 1) →
+        Wrote as_asked (job_of (map string_bytes words.now)) text (λ bytes. K.taken out.new ≡ after (K.taken out.old) bytes) }
+    ensures front { (text : List ℕ) → Told (job_of (map string_bytes words.now)) (S.left source.old) text → result.status ≡ 4 →
+        Wrote as_asked (job_of (map string_bytes words.now)) text (λ bytes. IsFront (K.taken out.new) (after (K.taken out.old) bytes)) }
+    ensures held { IsFront (K.taken out.old) (K.taken out.new) }
+    ensures no_answer { result.status ≢ 0 → result.status ≢ 1 → result.status ≢ 4 → K.taken out.new ≡ K.taken out.old }
+
+    // What is said on err is whole unless its own faults rose; the text matters at 5 and 6 alone.
+    ensures said { (text : List ℕ) → ((result.status ≡ 5) ⊎ (result.status ≡ 6) → Told (job_of (map string_bytes words.now)) (S.left source.old) text) → ¬ Rose (E.faults err.old) (E.faults err.new) →
+        E.taken err.new ≡ after (E.taken err.old) (said result.status (serial_answer as_asked (map string_bytes words.now) text)) }
+    ensures said_front { (text : List ℕ) → ((result.status ≡ 5) ⊎ (result.status ≡ 6) → Told (job_of (map string_bytes words.now)) (S.left source.old) text) →
+        IsFront (E.taken err.new) (after (E.taken err.old) (said result.status (serial_answer as_asked (map string_bytes words.now) text))) }
+    ensures said_held { IsFront (E.taken err.old) (E.taken err.new) }
+    ensures silent { (result.status ≡ 0) ⊎ (result.status ≡ 1) → E.taken err.new ≡ E.taken err.old }
+
+    // At 0, 1 and 4 the rounds tell the canonical run of the application's programs for its matrix, over a bank of
+    // the grid, the capacity and the slots that the words name: a plain one for one thread, else one of slots; else there are none.
+    ensures rounds { (text : List ℕ) (c : Command) (m : Sparse) → Asked as_asked (S.left source.old) (job_of (map string_bytes words.now)) text c m → (result.status ≡ 0) ⊎ (result.status ≡ 1) ⊎ (result.status ≡ 4) →
+        TellsTask c.task m (made_for (as_asked c) c) c.travel.steady result.rounds }
+    ensures no_rounds { result.status ≢ 0 → result.status ≢ 1 → result.status ≢ 4 → result.rounds ≡ [] }
+{
+    let answered = answer(rt, alloc, words, source, out, gate);
+    outcome_of(alloc, answered, err)
+}
+
+/// Runs the command of the words after the program's name on the text of `source`, all ranks on this thread whatever the
+/// words say, and writes the answer to `out` or why there is none to `err`. Each turn of a rank raises `steps` by one.
+/// It always returns.
+///
+/// Where the source tells its text, out and err take exactly what the serial answer says, unless a read or a
+/// write failed or an allocation was refused.
+pub fn run_serial<S: Source, K: Sink, E: Sink, L: Ledger>(
+    alloc: Global,
+    words: &[String],
+    source: &mut S,
+    out: &mut K,
+    err: &mut E,
+    steps: &mut Steps<L>,
+) -> Outcome
+    // The status is the serial answer's; a fault has its cause outside, and want of memory is free.
+    ensures usage { result.status ≡ 2 → job_of (map string_bytes words.now) ≡ None }
+    ensures no_command { job_of (map string_bytes words.now) ≡ None → result.status ≢ 7 → result.status ≡ 2 }
+    ensures status { (text : List ℕ) → Told (job_of (map string_bytes words.now)) (S.left source.old) text → result.status ≢ 3 → result.status ≢ 4 → result.status ≢ 7 →
+        result.status ≡ (serial_answer on_one_thread (map string_bytes words.now) text).status }
+    ensures read_fault { result.status ≡ 3 → Rose (S.faults source.old) (S.faults source.new) }
+    ensures write_fault { result.status ≡ 4 → Rose (K.faults out.old) (K.faults out.new) }
+
+    // No byte is read where the matrix is generated, nor at 2; at 0, 1, 4, 5 and 6 the text was read whole, or to one byte past its limit.
+    ensures unread { reads (job_of (map string_bytes words.now)) ≡ false → S.left source.new ≡ S.left source.old }
+    ensures read_whole { (text : List ℕ) → S.left source.old ≡ Some text → reads (job_of (map string_bytes words.now)) ≡ true →
+        result.status ≢ 3 → result.status ≢ 7 → S.left source.new ≡ Some (drop 16_777_217 text) }
+
+    // At 0 and 1 out has taken the answer, at 4 a front of it, and else nothing; what it held stays, so at 4 it has what it held and then a front
+    // of the answer.
+    ensures answer { (text : List ℕ) → Told (job_of (map string_bytes words.now)) (S.left source.old) text → (result.status ≡ 0) ⊎ (result.status ≡ 1) →
+        Wrote on_one_thread (job_of (map string_bytes words.now)) text (λ bytes. K.taken out.new ≡ after (K.taken out.old) bytes) }
+    ensures front { (text : List ℕ) → Told (job_of (map string_bytes words.now)) (S.left source.old) text → result.status ≡ 4 →
+        Wrote on_one_thread (job_of (map string_bytes words.now)) text (λ bytes. IsFront (K.taken out.new) (after (K.taken out.old) bytes)) }
+    ensures held { IsFront (K.taken out.old) (K.taken out.new) }
+    ensures no_answer { result.status ≢ 0 → result.status ≢ 1 → result.status ≢ 4 → K.taken out.new ≡ K.taken out.old }
+
+    // What is said on err is whole unless its own faults rose; the text matters at 5 and 6 alone.
+    ensures said { (text : List ℕ) → ((result.status ≡ 5) ⊎ (result.status ≡ 6) → Told (job_of (map string_bytes words.now)) (S.left source.old) text) → ¬ Rose (E.faults err.old) (E.faults err.new) →
+        E.taken err.new ≡ after (E.taken err.old) (said result.status (serial_answer on_one_thread (map string_bytes words.now) text)) }
+    ensures said_front { (text : List ℕ) → ((result.status ≡ 5) ⊎ (result.status ≡ 6) → Told (job_of (map string_bytes words.now)) (S.left source.old) text) →
+        IsFront (E.taken err.new) (after (E.taken err.old) (said result.status (serial_answer on_one_thread (map string_bytes words.now) text))) }
+    ensures said_held { IsFront (E.taken err.old) (E.taken err.new) }
+    ensures silent { (result.status ≡ 0) ⊎ (result.status ≡ 1) → E.taken err.new ≡ E.taken err.old }
+
+    // At 0, 1 and 4 the rounds tell the canonical run of the application's programs for its matrix, over a bank of
+    // the grid, the capacity and the slots that the words name: a plain one; else there are none.
+    ensures rounds { (text : List ℕ) (c : Command) (m : Sparse) → Asked on_one_thread (S.left source.old) (job_of (map string_bytes words.now)) text c m → (result.status ≡ 0) ⊎ (result.status ≡ 1) ⊎ (result.status ≡ 4) →
+        TellsTask c.task m (made_for true c) c.travel.steady result.rounds }
+    ensures no_rounds { result.status ≢ 0 → result.status ≢ 1 → result.status ≢ 4 → result.rounds ≡ [] }
+
+    // The turns are bounded by the words and the matrix, at 7 too; a refusal makes none.
+    ensures steps { (text : List ℕ) (c : Command) (m : Sparse) → Asked on_one_thread (S.left source.old) (job_of (map string_bytes words.now)) text c m →
+        TurnsOfTask c.task m c.grid steps.old steps.new }
+    ensures no_turns { result.status ≢ 0 → result.status ≢ 1 → result.status ≢ 4 → result.status ≢ 7 → steps.new ≡ steps.old }
+{
+    let answered = answer_serially(alloc, words, source, out, steps);
+    outcome_of(alloc, answered, err)
+}
+
+/// How a run ended, which is said on `err` where there is no answer.
+fn outcome_of<E: Sink>(alloc: Global, answered: Result<Finish, Refusal>, err: &mut E) -> Outcome
+    requires low { IfOk answered (λ f. f.status ≤ 1) }
+    ensures rounds { IfOk answered (λ f. result.rounds ≡ f.rounds) }
+    ensures no_rounds { OnErr answered (result.rounds ≡ []) }
+    ensures written { IfOk answered (λ f. OnOk f.written ((result.status ≡ f.status) × (result.status ≤ 1) × (E.taken err.new ≡ E.taken err.old))) }
+    ensures unwritten { IfOk answered (λ f. OnErr f.written ((result.status ≡ 4) × (¬ Rose (E.faults err.old) (E.faults err.new) → E.taken err.new ≡ after (E.taken err.old) (refusal_text Refusal.WriteFault))
+        × IsFront (E.taken err.new) (after (E.taken err.old) (refusal_text Refusal.WriteFault)))) }
+    ensures refused { IfErr answered (λ r. (result.status ≡ status_of r) × (¬ Rose (E.faults err.old) (E.faults err.new) → E.taken err.new ≡ after (E.taken err.old) (refusal_text r))
+        × IsFront (E.taken err.new) (after (E.taken err.old) (refusal_text r))) }
+    ensures held { IsFront (E.taken err.old) (E.taken err.new) }
+{
+    match answered {
+        Ok(
+            Finish {
+                status,
+                written: Ok(()),
+                rounds,
+            },
+        ) => Outcome { status, rounds },
+        Ok(Finish { rounds, .. }) => {
+            report(err, Refusal::WriteFault);
+            Outcome { status: 4, rounds }
+        }
+        Err(refusal) => {
+            report(err, refusal);
+            Outcome {
+                status: refusal.status(),
+                rounds: Rounds::new(alloc),
+            }
+        }
+    }
+}
+
+/// The run that the words ask for, and its answer on out, or why there is none.
+fn answer<R: Threads + Wait + Sync, S: Source, K: Sink, G: Gate + Sync>(
+    rt: &R,
+    alloc: Global,
+    words: &[String],
+    source: &mut S,
+    out: &mut K,
+    gate: &G,
+) -> Result<Finish, Refusal>
+    ensures low { IfOk result (λ f. f.status ≤ 1) }
+    ensures answered { Answered as_asked (job_of (map string_bytes words.now)) (S.left source.old) (S.left source.new) (Rose (S.faults source.old) (S.faults source.new))
+        (K.taken out.old) (K.taken out.new) (Rose (K.faults out.old) (K.faults out.new)) result }
+{
+    match read_job(alloc, words) {
+        Ok(command) => answer_of(rt, alloc, &command, source, out, gate),
+        Err(refusal) => Err(refusal),
+    }
+}
+
+/// The run of a command, and its answer on out, or why there is none.
+fn answer_of<R: Threads + Wait + Sync, S: Source, K: Sink, G: Gate + Sync>(
+    rt: &R,
+    alloc: Global,
+    command: &Command,
+    source: &mut S,
+    out: &mut K,
+    gate: &G,
+) -> Result<Finish, Refusal>
+    requires runs { runs command.now ≡ true }
+    requires ranges { InRanges command.now }
+    ensures low { IfOk result (λ f. f.status ≤ 1) }
+    ensures answered { Answered as_asked (Some command.now) (S.left source.old) (S.left source.new) (Rose (S.faults source.old) (S.faults source.new))
+        (K.taken out.old) (K.taken out.new) (Rose (K.faults out.old) (K.faults out.new)) result }
+{
+    let serial = drives_serially(command);
+    match matrix_for(alloc, command, source, serial) {
+        Ok(matrix) => ran(rt, alloc, command, &matrix, out, gate),
+        Err(refusal) => Err(refusal),
+    }
+}
+
+/// The same, all ranks on this thread.
+fn answer_serially<S: Source, K: Sink, L: Ledger>(
+    alloc: Global,
+    words: &[String],
+    source: &mut S,
+    out: &mut K,
+    steps: &mut Steps<L>,
+) -> Result<Finish, Refusal>
+    ensures low { IfOk result (λ f. f.status ≤ 1) }
+    ensures answered { Answered on_one_thread (job_of (map string_bytes words.now)) (S.left source.old) (S.left source.new) (Rose (S.faults source.old) (S.faults source.new))
+        (K.taken out.old) (K.taken out.new) (Rose (K.faults out.old) (K.faults out.new)) result }
+    ensures steps { (text : List ℕ) (c : Command) (m : Sparse) → Asked on_one_thread (S.left source.old) (job_of (map string_bytes words.now)) text c m →
+        TurnsOfTask c.task m c.grid steps.old steps.new }
+    ensures no_turns { IfErr result (λ r. r ≢ Refusal.NoMemory → steps.new ≡ steps.old) }
+{
+    match read_job(alloc, words) {
+        Ok(command) => answer_of_serially(alloc, &command, source, out, steps),
+        Err(refusal) => Err(refusal),
+    }
+}
+
+fn answer_of_serially<S: Source, K: Sink, L: Ledger>(
+    alloc: Global,
+    command: &Command,
+    source: &mut S,
+    out: &mut K,
+    steps: &mut Steps<L>,
+) -> Result<Finish, Refusal>
+    requires runs { runs command.now ≡ true }
+    requires ranges { InRanges command.now }
+    ensures low { IfOk result (λ f. f.status ≤ 1) }
+    ensures answered { Answered on_one_thread (Some command.now) (S.left source.old) (S.left source.new) (Rose (S.faults source.old) (S.faults source.new))
+        (K.taken out.old) (K.taken out.new) (Rose (K.faults out.old) (K.faults out.new)) result }
+    ensures steps { (text : List ℕ) (c : Command) (m : Sparse) → Asked on_one_thread (S.left source.old) (Some command.now) text c m →
+        TurnsOfTask c.task m c.grid steps.old steps.new }
+    ensures no_turns { IfErr result (λ r. r ≢ Refusal.NoMemory → steps.new ≡ steps.old) }
+{
+    match matrix_for(alloc, command, source, true) {
+        Ok(matrix) => ran_serially(alloc, command, &matrix, out, steps),
+        Err(refusal) => Err(refusal),
+    }
+}

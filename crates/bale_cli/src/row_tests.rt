@@ -1,0 +1,233 @@
+//! Worked runs of each application, by both top calls.
+use crate::rig::{INTEGER, ONE, PATTERN, answer, answer_alone, answer_as_asked, run_alone, words};
+use bale_types::{MemSink, MemSource};
+use std::test::Fail;
+
+#[test]
+fn every_case_gives_one_answer(rt: HostRuntime) -> Result<(), Fail> {
+    let buffers = [1, 2, 4, 8, 16, 32, 64, 128, 256, 512, 1024];
+    for grid in ["4", "2x2", "2x2x2"] {
+        for buffer in buffers {
+            let words = format!(in rt.alloc(); "histo --grid {grid} --buffer {buffer}")?;
+            assert_eq!(rt;
+                answer(&rt, rt.alloc(), words.as_str(), ONE)?.as_str(),
+                "0 1 1\n2 0\n3 3\n",
+                "{words}"
+            );
+        }
+    }
+    Ok(())
+}
+
+#[test]
+fn every_setting(rt: HostRuntime) -> Result<(), Fail> {
+    let ties = b"%%MatrixMarket matrix coordinate pattern general\n3 3 4\n1 1\n1 2\n2 2\n3 3\n";
+    for slots in [1, 2, 4, 8] {
+        for steady in ["no", "yes"] {
+            let words = format!(in rt.alloc();
+                "histo --grid 2x2x2 --buffer 1 --slots {slots} --steady {steady}"
+            )?;
+            assert_eq!(rt;
+                answer(&rt, rt.alloc(), words.as_str(), ONE)?.as_str(),
+                "0 1 1\n2 0\n3 3\n",
+                "{words}"
+            );
+            let words = format!(in rt.alloc(); "topo --slots={slots} --steady={steady}")?;
+            assert_eq!(rt;
+                answer(&rt, rt.alloc(), words.as_str(), ties.as_slice())?.as_str(),
+                "0 1 1 1\n2 3 3\n3 2 2\n",
+                "{words}"
+            );
+        }
+    }
+    Ok(())
+}
+
+/// Rows of the applications: words, the text with its banner as `P` or `I`, and the answer with a banner as `I`. A slash stands
+/// for LF.
+const ROWS: &str = "\
+histo --grid 1;P3 3 4/1 1/1 3/2 3/3 3/;0 1 1/2 0/3 3/
+histo --grid 64 --buffer 1;P3 3 4/1 1/1 3/2 3/3 3/;0 1 1/2 0/3 3/
+histo --grid 004 --buffer 1024;P3 3 4/1 1/1 3/2 3/3 3/;0 1 1/2 0/3 3/
+histo --slots 2 --grid=3x5 --steady no --via convey;P3 3 4/1 1/1 3/2 3/3 3/;0 1 1/2 0/3 3/
+histo;P2 2 0/;0 1 0/2 0/
+histo;P0 0 0/;0 
+ig --buffer 1;I2 3 2/1 3 -7/2 1 4/;0 1 3 -7/2 1 4/
+ig --grid 2x2;I2 3 2/1 3 -7/2 1 4/;0 1 3 -7/2 1 4/
+ig --grid 4x4;I2 3 2/1 3 -7/2 1 4/;0 1 3 -7/2 1 4/
+transpose;I2 3 2/1 3 -7/2 1 4/;0 I3 2 2/1 2 4/3 1 -7/
+transpose --grid 2x2x2 --buffer 1;I2 3 2/1 3 -7/2 1 4/;0 I3 2 2/1 2 4/3 1 -7/
+transpose;I1 1 1/1 1 1000000000000/;0 I1 1 1/1 1 1000000000000/
+transpose;I1 1 1/1 1 -0000001000000000000/;0 I1 1 1/1 1 -1000000000000/
+transpose;I1 1 1/1 1 1000000000001/;5 bale: line 3: bad value/
+transpose;I1 1 1/1 1 1.0/;5 bale: line 3: bad value/
+permute --rperm 2,3,1 --cperm 3,1,2;I3 3 1/1 2 9/;0 I3 3 1/2 1 9/
+permute --rperm 2,3,1;I3 3 1/1 2 9/;0 I3 3 1/2 2 9/
+permute;I3 3 1/1 2 9/;0 I3 3 1/1 2 9/
+permute --rperm 2,2,1 --cperm 3,1,2;I3 3 1/1 2 9/;6 bale: unfit: row permutation/
+permute --rperm 0,1,2;I3 3 1/1 2 9/;6 bale: unfit: row permutation/
+permute --rperm 1,2;I3 3 1/1 2 9/;6 bale: unfit: row permutation/
+permute --cperm 2;I1 1 1/1 1 4/;6 bale: unfit: column permutation/
+permute --seed 42;I3 3 2/1 2 5/3 3 6/;0 I3 3 2/1 3 6/3 2 5/
+permute --seed 42 --grid 2x2 --buffer 1;I3 3 2/1 2 5/3 3 6/;0 I3 3 2/1 3 6/3 2 5/
+topo;P3 3 4/1 1/1 2/2 2/3 3/;0 1 1 1/2 3 3/3 2 2/
+topo --grid 2x2x2 --buffer 1;P3 3 4/1 1/1 2/2 2/3 3/;0 1 1 1/2 3 3/3 2 2/
+topo;P2 2 4/1 1/1 2/2 1/2 2/;1 not triangular/
+topo;P2 2 3/1 1/1 2/2 1/;0 1 1 2/2 2 1/
+topo;P2 2 2/1 1/2 1/;1 not triangular/
+topo;P0 0 0/;0 
+topo;P1 2 0/;6 bale: unfit: matrix is not square/
+sssp --source 1;I4 4 4/1 2 5/1 3 2/3 2 1/2 4 7/;0 1 0/2 3/3 2/4 10/
+sssp --source 1 --grid 2x2x2 --buffer 1;I4 4 4/1 2 5/1 3 2/3 2 1/2 4 7/;0 1 0/2 3/3 2/4 10/
+sssp --source 4;I4 4 4/1 2 5/1 3 2/3 2 1/2 4 7/;0 1 -/2 -/3 -/4 0/
+sssp --source 5;I4 4 4/1 2 5/1 3 2/3 2 1/2 4 7/;6 bale: unfit: source out of range/
+sssp --source 0;I4 4 4/1 2 5/1 3 2/3 2 1/2 4 7/;6 bale: unfit: source out of range/
+sssp --delta 3;I4 4 4/1 2 5/1 3 2/3 2 1/2 4 7/;0 1 0/2 3/3 2/4 10/
+sssp --delta 3 --grid 2x2x2 --buffer 1;I4 4 4/1 2 5/1 3 2/3 2 1/2 4 7/;0 1 0/2 3/3 2/4 10/
+sssp --delta 3 --source 4;I4 4 4/1 2 5/1 3 2/3 2 1/2 4 7/;0 1 -/2 -/3 -/4 0/
+sssp --delta 3 --source 5;I4 4 4/1 2 5/1 3 2/3 2 1/2 4 7/;6 bale: unfit: source out of range/
+sssp;I2 2 1/1 2 -1/;6 bale: unfit: negative weight/
+sssp;P0 0 0/;6 bale: unfit: source out of range/
+sssp;P1 2 0/;6 bale: unfit: matrix is not square/
+histo --gen 2,3,42;;0 lines 2 bytes 8 sum 282/
+sssp --gen 2,3,42;;0 lines 2 bytes 10 sum 395/
+transpose --gen 1,1,42;;0 lines 3 bytes 63 sum 5218/
+sssp --gen 2,3,42 --source 3;;6 bale: unfit: source out of range/
+histo --gen 2,4,42;;2 bale: usage/
+histo --grid 65;;2 bale: usage/
+histo --slots 3;;2 bale: usage/
+histo --drive serial more;;2 bale: usage/
+sssp --delta 0;;2 bale: usage/
+histo --delta 3;;2 bale: usage/
+histo --via biconvey;;2 bale: usage/
+tally;;2 bale: usage/
+ig --via exstack;;2 bale: usage/
+";
+
+#[test]
+fn applications_and_their_answers(rt: HostRuntime) -> Result<(), Fail> {
+    let alloc = rt.alloc();
+    for row in ROWS.lines() {
+        let mut parts = row.split(';');
+        let (Some(words), Some(text), Some(want)) = (parts.next(), parts.next(), parts.next())
+        else {
+            continue;
+        };
+        let text = text.replace(alloc, "/", "\n")?;
+        let text = text.replace(alloc, "P", PATTERN)?;
+        let text = text.replace(alloc, "I", INTEGER)?;
+        let want = want.replace(alloc, "/", "\n")?;
+        let want = want.replace(alloc, "I", INTEGER)?;
+        let got = answer(&rt, alloc, words, text.as_bytes())?;
+        assert_eq!(rt; got.as_str(), want.as_str(), "{row}");
+    }
+    Ok(())
+}
+
+#[test]
+fn a_generated_order_is_the_same_everywhere(rt: HostRuntime) -> Result<(), Fail> {
+    let alloc = rt.alloc();
+    let one = answer_alone(alloc, "topo --gen 200,2000,7 --grid 4x4x4 --buffer 8", b"")?;
+    assert!(rt; one.starts_with("0 lines 200 bytes "), "{one}");
+    for words in [
+        "topo --gen 200,2000,7 --grid 4 --buffer 8",
+        "topo --gen 200,2000,7 --grid 2x2 --buffer 8",
+        "topo --gen 200,2000,7 --grid 1 --drive serial",
+    ] {
+        let got = answer_as_asked(&rt, alloc, words, b"")?;
+        assert_eq!(rt; got.as_str(), one.as_str(), "{words}");
+    }
+    let walks = answer_alone(alloc, "sssp --gen 300,3000,5", b"")?;
+    for words in [
+        "sssp --gen 300,3000,5 --delta 1",
+        "sssp --gen 300,3000,5 --delta 500",
+    ] {
+        let got = answer_alone(alloc, words, b"")?;
+        assert_eq!(rt; got.as_str(), walks.as_str(), "{words}");
+    }
+    Ok(())
+}
+
+/// A matrix of one row of `count` entries among 16,384.
+fn one_row(alloc: std::alloc::Global, count: u32) -> Result<String, Fail> {
+    let mut text = format!(in alloc; "{PATTERN}16384 16384 {count}\n")?;
+    for j in 1..=count {
+        let line = format!(in alloc; "1 {j}\n")?;
+        text.push_str(line.as_str())?;
+    }
+    Ok(text)
+}
+
+#[test]
+fn what_is_unfit_for_one_thread_alone(rt: HostRuntime) -> Result<(), Fail> {
+    let alloc = rt.alloc();
+    let long = one_row(alloc, 1025)?;
+    let short = one_row(alloc, 1024)?;
+    assert_eq!(rt;
+        answer_alone(alloc, "sssp", long.as_bytes())?.as_str(),
+        "6 bale: unfit: too large for the serial drive\n"
+    );
+    assert_eq!(rt;
+        answer_as_asked(&rt, alloc, "sssp --drive serial", long.as_bytes())?.as_str(),
+        "6 bale: unfit: too large for the serial drive\n"
+    );
+    assert!(rt; answer_as_asked(&rt, alloc, "sssp", long.as_bytes())?.starts_with("0 1 0\n2 1\n"));
+    assert!(rt; answer_alone(alloc, "sssp", short.as_bytes())?.starts_with("0 1 0\n2 1\n"));
+    let tall = format!(in alloc; "{PATTERN}1025 1025 0\n")?;
+    assert_eq!(rt;
+        answer_alone(alloc, "sssp --delta 5", tall.as_bytes())?.as_str(),
+        "6 bale: unfit: too many rows for delta on the serial drive\n"
+    );
+    assert!(rt;
+        answer_as_asked(&rt, alloc, "sssp --delta 5", tall.as_bytes())?.starts_with("0 1 0\n2 -\n")
+    );
+    Ok(())
+}
+
+/// A matrix of 2 rows and 3 columns with -7 at (1,3) and 4 at (2,1).
+const TWO: &[u8] = b"%%MatrixMarket matrix coordinate integer general\n2 3 2\n1 3 -7\n2 1 4\n";
+
+/// A matrix of which two rows get their level together.
+const TIES: &[u8] =
+    b"%%MatrixMarket matrix coordinate pattern general\n3 3 4\n1 1\n1 2\n2 2\n3 3\n";
+
+/// Four vertices, of which three are reached from the first.
+const WALKS: &[u8] =
+    b"%%MatrixMarket matrix coordinate integer general\n4 4 4\n1 2 5\n1 3 2\n3 2 1\n2 4 7\n";
+
+#[test]
+fn rounds_are_told(rt: HostRuntime) -> Result<(), Fail> {
+    // The words, the text, and then the status, the closed rounds and their epochs: two a round.
+    let cases = [
+        ("histo", ONE, 0, 1, 2),
+        ("ig --grid 2", TWO, 0, 1, 6),
+        // votes_in_epochs, sssp, delta
+        ("topo --grid 2", TIES, 0, 1, 12),
+        ("sssp", WALKS, 0, 1, 10),
+        ("sssp --delta 3", WALKS, 0, 1, 24),
+        ("sssp --delta 3 --source 4", WALKS, 0, 1, 10),
+        ("ig", b"".as_slice(), 5, 0, 0),
+        ("ig 4", TWO, 2, 0, 0),
+    ];
+    for (text, input, status, rounds, epochs) in cases {
+        let words = words(rt.alloc(), text)?;
+        let mut source = MemSource::new(rt.alloc(), input, 65_536, &[])?;
+        let mut out = MemSink::new(rt.alloc(), 4096, 4096, &[])?;
+        let mut err = MemSink::new(rt.alloc(), 4096, 4096, &[])?;
+        let outcome = run_alone(
+            rt.alloc(),
+            words.as_slice(),
+            &mut source,
+            &mut out,
+            &mut err,
+        );
+        let told = match outcome.rounds.get(0) {
+            Some(round) => round.epochs(),
+            None => 0,
+        };
+        assert_eq!(rt; outcome.status, status, "{text}");
+        assert_eq!(rt; outcome.rounds.len(), rounds, "{text}");
+        assert_eq!(rt; told, epochs, "{text}");
+    }
+    Ok(())
+}

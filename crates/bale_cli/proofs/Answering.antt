@@ -1,11 +1,13 @@
 -- What is known of an answer, by the way that it took: refused by the words, by the matrix, or run.
-use Rattle.std.proofs.Common.{ℕ, ◌≡◌, ◌≢◌, ◌⊎◌, Bool, true, false, List, [], Option, None, Some, Result, Ok, Err, OnOk, OnErr, IfOk, IfErr, drop, refl, sym, ap, subst, ◌∙◌, inl, inr}
+use Rattle.std.proofs.Common.{ℕ, ◌≡◌, ◌≢◌, ◌⊎◌, Bool, true, false, not, is_some, List, [], Option, None, Some, Result, Ok, Err, OnOk, OnErr, IfOk, IfErr, drop, refl, sym, ap, subst, ◌∙◌, inl, inr}
+use Rattle.std.proofs.lemmas.Bool.{false≢true}
 use Rattle.std.proofs.lemmas.Option.{none-some, same_Some}
 use Rattle.bale_types.specs.Stream.{after, IsFront}
 use Rattle.bale_types.proofs.Moves.{front_same}
 use Rattle.mtx_text.specs.declared.refusal.BadLine.{BadLine}
 use Rattle.mtx_text.specs.Sparse.{Sparse}
 use Rattle.bale_words.specs.declared.command.Command.{Command}
+use Rattle.bale_words.specs.declared.command.Generated.{Generated}
 use Rattle.bale_cli.specs.declared.exchange.Finish.{Finish}
 use Rattle.bale_cli.specs.declared.refusal.Refusal.{Refusal}
 use Rattle.bale_cli.specs.declared.refusal.Refusal.TheVariants as refusal
@@ -16,11 +18,25 @@ use Rattle.bale_cli.specs.Outcomes.{Answered}
 use Rattle.bale_cli.specs.Tasks.{IsAnswer, task_status, made_for, TellsTask}
 use Rattle.bale_cli.proofs.Endings.{before_text, wrote_status}
 
-same_Err : {T E : Type 0} (r s : E) → Err {T = T} r ≡ Err s → r ≡ s
-same_Err r s e = cc
+abbrev pub err : Refusal → Result Finish Refusal
+err r = Err r
 
-same_Ok : {T E : Type 0} (a b : T) → Ok {E = E} a ≡ Ok b → a ≡ b
-same_Ok a b e = cc
+abbrev pub ok : Sparse → Result Sparse BadLine
+ok m = Ok m
+
+abbrev err_or : Refusal → Result Finish Refusal → Refusal
+err_or d (Ok f) = d
+err_or d (Err r) = r
+
+abbrev ok_or : Sparse → Result Sparse BadLine → Sparse
+ok_or d (Ok m) = m
+ok_or d (Err b) = d
+
+same_Err : (r s : Refusal) → err r ≡ err s → r ≡ s
+same_Err r s e = ap (err_or r) e
+
+same_Ok : (a b : Sparse) → ok a ≡ ok b → a ≡ b
+same_Ok a b e = ap (ok_or a) e
 
 front_kept : {taken taken' : Option (List ℕ)} → taken' ≡ taken → IsFront taken taken'
 front_kept {taken = taken} e = subst (IsFront taken) (sym e) (front_same taken)
@@ -45,6 +61,19 @@ no_read (inr e) = cc
 no_write : (refusal.WriteFault ≡ refusal.Usage) ⊎ (refusal.WriteFault ≡ refusal.NoMemory) → ⊥
 no_write (inl e) = cc
 no_write (inr e) = cc
+
+-- what was asked is this command, of this matrix
+pub same_asked : {serial : Command → Bool} {left : Option (List ℕ)} (c : Command) (m : Sparse) (text : List ℕ) (c' : Command) (m' : Sparse)
+    → ((text : List ℕ) → Told (Some c) left text → matrix_asked c.travel.generated text ≡ Ok m) → Asked serial left (Some c) text c' m' → (c ≡ c') × (m ≡ m')
+same_asked {left = left} c m text c' m' matrix a =
+    let e : c ≡ c' = same_Some c c' a.asked in
+    let told : TellsText c.travel.generated left text = subst (λ (x : Command). TellsText x.travel.generated left text) (sym e) a.told in
+    let read : matrix_asked c'.travel.generated text ≡ Ok m = subst (λ (x : Command). matrix_asked x.travel.generated text ≡ Ok m) e (matrix text told) in
+    (e, same_Ok m m' (sym read ∙ a.matrix))
+
+-- what was asked, of another spelling of the job
+pub asked_at : {serial : Command → Bool} {left : Option (List ℕ)} {job job' : Option Command} {text : List ℕ} {c : Command} {m : Sparse} → job ≡ job' → Asked serial left job text c m → Asked serial left job' text c m
+asked_at {serial = serial} {left = left} {text = text} {c = c} {m = m} e a = subst (λ (j : Option Command). Asked serial left j text c m) e a
 
 module _ {serial : Command → Bool} {left left' : Option (List ℕ)} {ReadRose WriteRose : Type 0} {taken taken' : Option (List ℕ)} where
   -- refused by the words, before anything was read
@@ -103,15 +132,6 @@ module _ {serial : Command → Bool} {left left' : Option (List ℕ)} {ReadRose 
         rounds = λ text c' m asked. tt;
       }
 
-  -- what was asked is this command, of this matrix
-  pub same_asked : (c : Command) (m : Sparse) (text : List ℕ) (c' : Command) (m' : Sparse)
-      → ((text : List ℕ) → Told (Some c) left text → matrix_asked c.travel.generated text ≡ Ok m) → Asked serial left (Some c) text c' m' → (c ≡ c') × (m ≡ m')
-  same_asked c m text c' m' matrix a =
-      let e : c ≡ c' = same_Some c c' a.asked in
-      let told : TellsText c.travel.generated left text = subst (λ (x : Command). TellsText x.travel.generated left text) (sym e) a.told in
-      let read : matrix_asked c'.travel.generated text ≡ Ok m = subst (λ (x : Command). matrix_asked x.travel.generated text ≡ Ok m) e (matrix text told) in
-      (e, same_Ok m m' (sym read ∙ a.matrix))
-
   -- run, and the answer was written, or memory was wanting
   pub ran_answered : (answered : Result Finish Refusal) (c : Command) (m : Sparse)
       → ((text : List ℕ) → Told (Some c) left text → matrix_asked c.travel.generated text ≡ Ok m) → unfitness c.task m (serial c) ≡ None
@@ -167,11 +187,11 @@ module _ {serial : Command → Bool} {left left' : Option (List ℕ)} {ReadRose 
       no_usage : refusal.NoMemory ≡ refusal.Usage → ⊥
       no_usage e = cc
 
-  -- what was asked, of another spelling of the job
-  pub asked_at : {job job' : Option Command} {text : List ℕ} {c : Command} {m : Sparse} → job ≡ job' → Asked serial left job text c m → Asked serial left job' text c m
-  asked_at {text = text} {c = c} {m = m} e a = subst (λ (j : Option Command). Asked serial left j text c m) e a
-
 -- where the only refusal is want of memory
-pub memory_only : {P : Type 0} (answered : Result Finish Refusal) → IfErr answered (λ r. r ≡ refusal.NoMemory) → IfErr answered (λ r. r ≢ refusal.NoMemory → P)
-memory_only (Ok f) memory = tt
-memory_only (Err r) memory = λ other. absurd (other memory)
+pub memory_only : (P : Type 0) (answered : Result Finish Refusal) → IfErr answered (λ r. r ≡ refusal.NoMemory) → IfErr answered (λ r. r ≢ refusal.NoMemory → P)
+memory_only P (Ok f) memory = tt
+memory_only P (Err r) memory = λ other. absurd (other memory)
+
+-- a command whose matrix is generated reads nothing
+pub generated_unread : (c : Command) (g : Generated) → c.travel.generated ≡ Some g → reads (Some c) ≡ true → ⊥
+generated_unread c g e r = false≢true (sym (ap (λ o. not (is_some o)) e) ∙ r)

@@ -1,5 +1,5 @@
 -- What a drive tells of the programs as any of the applications, it tells of the application's own.
-use Rattle.std.proofs.Common.{ℕ, ◌≡◌, ◌<◌, ◌≤◌, ◌+◌, Bool, true, false, List, [], ◌∷◌, map, length, Option, None, Some, refl, sym, ap, ◌∙◌, subst, arith, ◌-◌}
+use Rattle.std.proofs.Common.{ℕ, ◌≡◌, ◌<◌, ◌≤◌, ◌+◌, Bool, true, false, List, [], ◌∷◌, map, length, Option, None, Some, Result, Ok, Err, IfOk, refl, sym, ap, ◌∙◌, subst, arith, ◌-◌}
 use Rattle.std.proofs.lemmas.List.{length-map}
 use Rattle.route_tensor.specs.Grid.{ranks}
 use Rattle.mtx_text.specs.Sparse.{Sparse}
@@ -21,6 +21,8 @@ use Rattle.delta_step.specs.DeltaRuns.{delta_starts}
 use Rattle.app_cases.specs.Any.{AnyState, any_rules}
 use Rattle.app_cases.specs.Cases.{histo_case, histo_is_case, ig_case, ig_is_case, permute_case, permute_is_case, transpose_case, transpose_is_case, topo_case, topo_is_case, sssp_case, sssp_is_case, delta_case, delta_is_case}
 use Rattle.app_cases.proofs.Driving.{steps, are_cases, ended, rounds}
+use Rattle.bale_cli.specs.declared.exchange.Finish.{Finish}
+use Rattle.bale_cli.specs.declared.refusal.Refusal.{Refusal}
 use Rattle.bale_cli.specs.Jobs.{is_ready}
 use Rattle.bale_cli.specs.Numberings.{perms_for}
 use Rattle.bale_cli.specs.Starts.{starts_of}
@@ -33,7 +35,7 @@ DriveTells ps made steady rs = (c : ClosedRound) × (rs ≡ c ∷ []) × ((n : �
 tells : {S : Type 0} {R : Rules S} {i : S → AnyState} {w : List ℕ → List ℕ} → Injects R any_rules i w → (starts : List S) (ps ends : List AnyState) (made : Made) (steady : Bool)
     (rs : List ClosedRound) → ps ≡ map i starts → 0 < length ps → HaveEnded any_rules ps ends → DriveTells ps made steady rs → Tells R starts made steady rs
 tells {i = i} case starts ps ends made steady rs put some h t =
-    let few : 0 < length starts = subst (λ n. 0 < n) (ap length put ∙ length-map i starts) some in
+    let few : 0 < length starts = subst (λ n. 0 < n) (ap length put ∙ length-map starts i) some in
     let cs = are_cases case starts few ps put ends h in
     let e = ended case starts few ps put ends cs.0 h cs.1 in
     let r = rounds case starts few ps put made steady rs t in
@@ -56,7 +58,7 @@ tells_task task.Tally m made steady rs ps ends ready put some h t = absurd cc
 turns : {S : Type 0} {R : Rules S} {i : S → AnyState} {w : List ℕ → List ℕ} → Injects R any_rules i w → (starts : List S) (ps : List AnyState) (dims : List ℕ) (before after : ℕ)
     → ps ≡ map i starts → 0 < length ps → ((n : ℕ) → HasRounds any_rules ps n → after ≤ before + turns_within any_rules dims ps n) → WithinTurns R starts dims before after
 turns {i = i} case starts ps dims before after put some f =
-    steps case starts (subst (λ n. 0 < n) (ap length put ∙ length-map i starts) some) ps put dims before after f
+    steps case starts (subst (λ n. 0 < n) (ap length put ∙ length-map starts i) some) ps put dims before after f
 
 -- the turns of a task's run
 pub turns_of_task : (t : Task) (m : Sparse) (dims : List ℕ) (before after : ℕ) (ps : List AnyState) → is_ready t ≡ true
@@ -85,3 +87,8 @@ none_made task.Topo m dims before after e = λ n h. few _ e
 none_made (task.Sssp source None) m dims before after e = λ n h. few _ e
 none_made (task.Sssp source (Some delta)) m dims before after e = λ n h. few _ e
 none_made task.Tally m dims before after e = e
+
+-- where the rounds of a run are those that were told
+pub rounds_as : (P : List ClosedRound → Type 0) {rs : List ClosedRound} (r : Result Finish Refusal) → IfOk r (λ f. f.rounds ≡ rs) → P rs → IfOk r (λ f. P f.rounds)
+rounds_as P (Ok f) e p = subst P (sym e) p
+rounds_as P (Err x) e p = tt

@@ -1,5 +1,5 @@
 -- The promises of the top calls, from what is known of an answer and of how it is told.
-use Rattle.std.proofs.Common.{ℕ, zero, suc, ◌≡◌, ◌≢◌, ◌≤◌, ◌⊎◌, ¬, Bool, true, false, List, [], Option, None, Some, Result, Ok, Err, OnOk, OnErr, IfOk, IfErr, ◌<◌, drop, sym, ap, subst, ◌∙◌, arith, inl, inr, refl}
+use Rattle.std.proofs.Common.{ℕ, zero, suc, ◌≡◌, ◌≢◌, ◌≤◌, ◌⊎◌, Bool, true, false, List, [], Option, None, Some, Result, Ok, Err, OnOk, OnErr, IfOk, IfErr, ◌<◌, drop, sym, ap, subst, ◌∙◌, arith, inl, inr, refl}
 use Rattle.bale_types.specs.Stream.{after, IsFront}
 use Rattle.bale_types.proofs.Moves.{after-nil, front_same}
 use Rattle.rank_group.specs.declared.closed_round.ClosedRound.{ClosedRound}
@@ -38,46 +38,49 @@ did {Q = Q} d q = subst (λ w. OnOk w Q) d.is q
 failed : {T E P Q : Type 0} {w : Result T E} → Failed w P → OnErr w Q → Q
 failed {Q = Q} d q = subst (λ w. OnErr w Q) d.is q
 
+-- an answer that was written has status 0 or 1, one that wasn't 4
+ends : {old new : Option (List ℕ)} {Rose : Type 0} {status : ℕ} {rounds : List ClosedRound} (f : Finish) → IsOutcome (Ok f) old new Rose status rounds
+    → Did f.written ((status ≡ f.status) × (status ≤ 1) × (new ≡ old))
+    ⊎ Failed f.written ((status ≡ 4) × ((Rose → ⊥) → new ≡ after old (refusal_text refusal.WriteFault)) × IsFront new (after old (refusal_text refusal.WriteFault)))
+ends f o = split f.written o.written o.unwritten
+
+low_not : (status n : ℕ) → 1 < n → status ≤ 1 → status ≡ n → ⊥
+low_not status n past low e = omega (arith, past, low, e)
+
+four_not : (status n : ℕ) → n ≢ 4 → status ≡ 4 → status ≡ n → ⊥
+four_not status n other four e = other (sym e ∙ four)
+
+-- an answer has no other status
+no_other : {old new : Option (List ℕ)} {Rose : Type 0} {status : ℕ} {rounds : List ClosedRound} (f : Finish) (n : ℕ) → IsOutcome (Ok f) old new Rose status rounds
+    → 1 < n → n ≢ 4 → status ≡ n → ⊥
+no_other {status = status} f n o past other e = elim (ends f o) [ inl w ↦ low_not status n past w.fact.1 e | inr u ↦ four_not status n other u.fact.0 e ]
+
+-- a refusal is neither 0 nor 1 nor 4
+not_low : {old new : Option (List ℕ)} {Rose : Type 0} {status : ℕ} {rounds : List ClosedRound} (r : Refusal) → IsOutcome (Err r) old new Rose status rounds
+    → (status ≡ 0) ⊎ (status ≡ 1) → ⊥
+not_low r o low = elim low [ inl nought ↦ not_zero r (sym o.refused.0 ∙ nought) | inr one ↦ not_one r (sym o.refused.0 ∙ one) ]
+
+not_four : {old new : Option (List ℕ)} {Rose : Type 0} {status : ℕ} {rounds : List ClosedRound} (r : Refusal) → r ≢ refusal.WriteFault
+    → IsOutcome (Err r) old new Rose status rounds → status ≡ 4 → ⊥
+not_four r fault o four = fault (is_write_fault r (sym o.refused.0 ∙ four))
+
+-- a status that is none of an answer's is a refusal's
+neither : (n : ℕ) → n ≤ 1 → n ≢ 0 → n ≢ 1 → ⊥
+neither zero low z o = z refl
+neither (suc zero) low z o = o refl
+neither (suc (suc n)) low z o = omega (arith, low)
+
+only_refused : {old new : Option (List ℕ)} {Rose : Type 0} {status : ℕ} {rounds : List ClosedRound} (f : Finish) → IsOutcome (Ok f) old new Rose status rounds
+    → status ≢ 0 → status ≢ 1 → status ≢ 4 → ⊥
+only_refused {status = status} f o nought one four = elim (ends f o) [ inl w ↦ neither status w.fact.1 nought one | inr u ↦ four u.fact.0 ]
+
 module _ {serial : Command → Bool} {job : Option Command} {left left' : Option (List ℕ)} {ReadRose WriteRose Rose : Type 0} {taken taken' old new : Option (List ℕ)} {status : ℕ}
     {rounds : List ClosedRound} where
-  Known : Result Finish Refusal → Type 0
-  Known answered = Answered serial job left left' ReadRose taken taken' WriteRose answered
-
-  Outcome : Result Finish Refusal → Type 0
-  Outcome answered = IsOutcome answered old new Rose status rounds
-
-  -- an answer that was written has status 0 or 1, one that wasn't 4
-  Written : Finish → Type 0
-  Written f = Did f.written ((status ≡ f.status) × (status ≤ 1) × (new ≡ old))
-
-  Unwritten : Finish → Type 0
-  Unwritten f = Failed f.written ((status ≡ 4) × (¬ Rose → new ≡ after old (refusal_text refusal.WriteFault)) × IsFront new (after old (refusal_text refusal.WriteFault)))
-
-  ends : (f : Finish) → Outcome (Ok f) → Written f ⊎ Unwritten f
-  ends f o = split f.written o.written o.unwritten
-
-  low_not : (n : ℕ) → 1 < n → status ≤ 1 → status ≡ n → ⊥
-  low_not n past low e = omega (arith, past, low, e)
-
-  four_not : (n : ℕ) → n ≢ 4 → status ≡ 4 → status ≡ n → ⊥
-  four_not n other four e = other (sym e ∙ four)
-
-  -- an answer has no other status
-  no_other : (f : Finish) (n : ℕ) → Outcome (Ok f) → 1 < n → n ≢ 4 → status ≡ n → ⊥
-  no_other f n o past other e = elim (ends f o) [ inl w ↦ low_not n past w.fact.1 e | inr u ↦ four_not n other u.fact.0 e ]
-
-  -- a refusal is neither 0 nor 1 nor 4
-  not_low : (r : Refusal) → Known (Err r) → Outcome (Err r) → (status ≡ 0) ⊎ (status ≡ 1) → ⊥
-  not_low r a o low = elim low [ inl zero_ ↦ not_zero r (sym o.refused.0 ∙ zero_) | inr one ↦ not_one r (sym o.refused.0 ∙ one) ]
-
-  not_four : (r : Refusal) → Known (Err r) → Outcome (Err r) → status ≡ 4 → ⊥
-  not_four r a o four = a.no_fault (is_write_fault r (sym o.refused.0 ∙ four))
-
-  pub usage : (answered : Result Finish Refusal) → Known answered → Outcome answered → status ≡ 2 → job ≡ None
+  pub usage : (answered : Result Finish Refusal) → Answered serial job left left' ReadRose taken taken' WriteRose answered → IsOutcome answered old new Rose status rounds → status ≡ 2 → job ≡ None
   usage (Ok f) a o two = absurd (no_other f 2 o (omega arith) (λ e. omega (arith, e)) two)
   usage (Err r) a o two = a.usage (ap (λ (x : Refusal). Err x) (is_usage r (sym o.refused.0 ∙ two)))
 
-  pub no_command : (answered : Result Finish Refusal) → Known answered → Outcome answered → job ≡ None → status ≢ 7 → status ≡ 2
+  pub no_command : (answered : Result Finish Refusal) → Answered serial job left left' ReadRose taken taken' WriteRose answered → IsOutcome answered old new Rose status rounds → job ≡ None → status ≢ 7 → status ≡ 2
   no_command (Ok f) a o none seven = absurd (a.no_command none)
   no_command (Err r) a o none seven =
       elim (a.no_command none) [
@@ -85,7 +88,7 @@ module _ {serial : Command → Bool} {job : Option Command} {left left' : Option
         | inr e ↦ absurd (seven (o.refused.0 ∙ ap status_of e ∙ memory_is))
       ]
 
-  pub same_status : (answered : Result Finish Refusal) → Known answered → Outcome answered → (text : List ℕ) → Told job left text
+  pub same_status : (answered : Result Finish Refusal) → Answered serial job left left' ReadRose taken taken' WriteRose answered → IsOutcome answered old new Rose status rounds → (text : List ℕ) → Told job left text
       → status ≢ 3 → status ≢ 4 → status ≢ 7 → status ≡ (answer_to serial job text).status
   same_status (Ok f) a o text told three four seven =
       elim (ends f o) [ inl w ↦ w.fact.0 ∙ a.status text told | inr u ↦ absurd (four u.fact.0) ]
@@ -94,16 +97,16 @@ module _ {serial : Command → Bool} {job : Option Command} {left left' : Option
       ∙ status_same serial r job text (λ e. a.usage (ap (λ (x : Refusal). Err x) e)) (λ b e. a.bad text b told (ap (λ (x : Refusal). Err x) e))
       (λ u e. a.unfit text u told (ap (λ (x : Refusal). Err x) e)) (λ e. three (o.refused.0 ∙ e)) (λ e. four (o.refused.0 ∙ e)) (λ e. seven (o.refused.0 ∙ e))
 
-  pub read_fault : (answered : Result Finish Refusal) → Known answered → Outcome answered → status ≡ 3 → ReadRose
+  pub read_fault : (answered : Result Finish Refusal) → Answered serial job left left' ReadRose taken taken' WriteRose answered → IsOutcome answered old new Rose status rounds → status ≡ 3 → ReadRose
   read_fault (Ok f) a o three = absurd (no_other f 3 o (omega arith) (λ e. omega (arith, e)) three)
   read_fault (Err r) a o three = a.read_fault (ap (λ (x : Refusal). Err x) (is_read_fault r (sym o.refused.0 ∙ three)))
 
-  pub write_fault : (answered : Result Finish Refusal) → Known answered → Outcome answered → status ≡ 4 → WriteRose
+  pub write_fault : (answered : Result Finish Refusal) → Answered serial job left left' ReadRose taken taken' WriteRose answered → IsOutcome answered old new Rose status rounds → status ≡ 4 → WriteRose
   write_fault (Ok f) a o four =
-      elim (ends f o) [ inl w ↦ absurd (low_not 4 (omega arith) w.fact.1 four) | inr u ↦ failed u a.cause ]
-  write_fault (Err r) a o four = absurd (not_four r a o four)
+      elim (ends f o) [ inl w ↦ absurd (low_not status 4 (omega arith) w.fact.1 four) | inr u ↦ failed u a.cause ]
+  write_fault (Err r) a o four = absurd (not_four r a.no_fault o four)
 
-  pub read_whole : (answered : Result Finish Refusal) → Known answered → Outcome answered → (text : List ℕ) → left ≡ Some text → reads job ≡ true
+  pub read_whole : (answered : Result Finish Refusal) → Answered serial job left left' ReadRose taken taken' WriteRose answered → IsOutcome answered old new Rose status rounds → (text : List ℕ) → left ≡ Some text → reads job ≡ true
       → status ≢ 3 → status ≢ 7 → left' ≡ Some (drop 16777217 text)
   read_whole (Ok f) a o text told r three seven = a.read_whole text told r
   read_whole (Err x) a o text told r three seven =
@@ -112,42 +115,33 @@ module _ {serial : Command → Bool} {job : Option Command} {left left' : Option
       no_job : job ≡ None → reads job ≡ true → ⊥
       no_job none r = (let e : false ≡ true = sym (ap reads none) ∙ r in cc)
 
-  pub answer : (answered : Result Finish Refusal) → Known answered → Outcome answered → (text : List ℕ) → Told job left text → (status ≡ 0) ⊎ (status ≡ 1)
+  pub answer : (answered : Result Finish Refusal) → Answered serial job left left' ReadRose taken taken' WriteRose answered → IsOutcome answered old new Rose status rounds → (text : List ℕ) → Told job left text → (status ≡ 0) ⊎ (status ≡ 1)
       → Wrote serial job text (λ bytes. taken' ≡ after taken bytes)
   answer (Ok f) a o text told low =
       elim (ends f o) [
         | inl w ↦
             let d = a.wrote text told in
             record { command = d.command; asked = d.asked; matrix = d.matrix; read = d.read; fits = d.fits; bytes = d.bytes; answers = d.answers; wrote = did w d.wrote.0 }
-        | inr u ↦ absurd (elim low [ inl zero_ ↦ omega (arith, u.fact.0, zero_) | inr one ↦ omega (arith, u.fact.0, one) ])
+        | inr u ↦ absurd (elim low [ inl nought ↦ omega (arith, u.fact.0, nought) | inr one ↦ omega (arith, u.fact.0, one) ])
       ]
-  answer (Err r) a o text told low = absurd (not_low r a o low)
+  answer (Err r) a o text told low = absurd (not_low r o low)
 
-  pub front : (answered : Result Finish Refusal) → Known answered → Outcome answered → (text : List ℕ) → Told job left text → status ≡ 4
+  pub front : (answered : Result Finish Refusal) → Answered serial job left left' ReadRose taken taken' WriteRose answered → IsOutcome answered old new Rose status rounds → (text : List ℕ) → Told job left text → status ≡ 4
       → Wrote serial job text (λ bytes. IsFront taken' (after taken bytes))
   front (Ok f) a o text told four =
       elim (ends f o) [
-        | inl w ↦ absurd (low_not 4 (omega arith) w.fact.1 four)
+        | inl w ↦ absurd (low_not status 4 (omega arith) w.fact.1 four)
         | inr u ↦
             let d = a.wrote text told in
             record { command = d.command; asked = d.asked; matrix = d.matrix; read = d.read; fits = d.fits; bytes = d.bytes; answers = d.answers; wrote = failed u d.wrote.1 }
       ]
-  front (Err r) a o text told four = absurd (not_four r a o four)
+  front (Err r) a o text told four = absurd (not_four r a.no_fault o four)
 
-  -- a status that is none of an answer's is a refusal's
-  only_refused : (f : Finish) → Outcome (Ok f) → status ≢ 0 → status ≢ 1 → status ≢ 4 → ⊥
-  only_refused f o zero_ one four = elim (ends f o) [ inl w ↦ (let low : status ≤ 1 = w.fact.1 in both status low zero_ one) | inr u ↦ four u.fact.0 ]
-    where
-      both : (n : ℕ) → n ≤ 1 → n ≢ 0 → n ≢ 1 → ⊥
-      both zero low z o = z refl
-      both (suc zero) low z o = o refl
-      both (suc (suc n)) low z o = omega (arith, low)
+  pub no_answer : (answered : Result Finish Refusal) → Answered serial job left left' ReadRose taken taken' WriteRose answered → IsOutcome answered old new Rose status rounds → status ≢ 0 → status ≢ 1 → status ≢ 4 → taken' ≡ taken
+  no_answer (Ok f) a o nought one four = absurd (only_refused f o nought one four)
+  no_answer (Err r) a o nought one four = a.no_answer
 
-  pub no_answer : (answered : Result Finish Refusal) → Known answered → Outcome answered → status ≢ 0 → status ≢ 1 → status ≢ 4 → taken' ≡ taken
-  no_answer (Ok f) a o zero_ one four = absurd (only_refused f o zero_ one four)
-  no_answer (Err r) a o zero_ one four = a.no_answer
-
-  said_of : (r : Refusal) → Known (Err r) → Outcome (Err r) → (text : List ℕ) → ((status ≡ 5) ⊎ (status ≡ 6) → Told job left text)
+  said_of : (r : Refusal) → Answered serial job left left' ReadRose taken taken' WriteRose (Err r) → IsOutcome (Err r) old new Rose status rounds → (text : List ℕ) → ((status ≡ 5) ⊎ (status ≡ 6) → Told job left text)
       → said status (answer_to serial job text) ≡ refusal_text r
   said_of r a o text told =
       ap (λ n. said n (answer_to serial job text)) o.refused.0
@@ -155,8 +149,8 @@ module _ {serial : Command → Bool} {job : Option Command} {left left' : Option
       (λ b e. a.bad text b (told (inl (o.refused.0 ∙ ap status_of e ∙ bad_is b))) (ap (λ (x : Refusal). Err x) e))
       (λ u e. a.unfit text u (told (inr (o.refused.0 ∙ ap status_of e ∙ unfit_is u))) (ap (λ (x : Refusal). Err x) e))
 
-  pub said_whole : (answered : Result Finish Refusal) → Known answered → Outcome answered → (text : List ℕ) → ((status ≡ 5) ⊎ (status ≡ 6) → Told job left text)
-      → ¬ Rose → new ≡ after old (said status (answer_to serial job text))
+  pub said_whole : (answered : Result Finish Refusal) → Answered serial job left left' ReadRose taken taken' WriteRose answered → IsOutcome answered old new Rose status rounds → (text : List ℕ) → ((status ≡ 5) ⊎ (status ≡ 6) → Told job left text)
+      → (Rose → ⊥) → new ≡ after old (said status (answer_to serial job text))
   said_whole (Ok f) a o text told calm =
       elim (ends f o) [
         | inl w ↦ w.fact.2 ∙ (sym (after-nil old) ∙ ap (after old) (sym (said_none status (answer_to serial job text) w.fact.1)))
@@ -164,7 +158,7 @@ module _ {serial : Command → Bool} {job : Option Command} {left left' : Option
       ]
   said_whole (Err r) a o text told calm = o.refused.1 calm ∙ ap (after old) (sym (said_of r a o text told))
 
-  pub said_front : (answered : Result Finish Refusal) → Known answered → Outcome answered → (text : List ℕ) → ((status ≡ 5) ⊎ (status ≡ 6) → Told job left text)
+  pub said_front : (answered : Result Finish Refusal) → Answered serial job left left' ReadRose taken taken' WriteRose answered → IsOutcome answered old new Rose status rounds → (text : List ℕ) → ((status ≡ 5) ⊎ (status ≡ 6) → Told job left text)
       → IsFront new (after old (said status (answer_to serial job text)))
   said_front (Ok f) a o text told =
       elim (ends f o) [
@@ -174,24 +168,24 @@ module _ {serial : Command → Bool} {job : Option Command} {left left' : Option
       ]
   said_front (Err r) a o text told = subst (λ (all : List ℕ). IsFront new (after old all)) (sym (said_of r a o text told)) o.refused.2
 
-  pub silent : (answered : Result Finish Refusal) → Known answered → Outcome answered → (status ≡ 0) ⊎ (status ≡ 1) → new ≡ old
+  pub silent : (answered : Result Finish Refusal) → Answered serial job left left' ReadRose taken taken' WriteRose answered → IsOutcome answered old new Rose status rounds → (status ≡ 0) ⊎ (status ≡ 1) → new ≡ old
   silent (Ok f) a o low =
-      elim (ends f o) [ inl w ↦ w.fact.2 | inr u ↦ absurd (elim low [ inl zero_ ↦ omega (arith, u.fact.0, zero_) | inr one ↦ omega (arith, u.fact.0, one) ]) ]
-  silent (Err r) a o low = absurd (not_low r a o low)
+      elim (ends f o) [ inl w ↦ w.fact.2 | inr u ↦ absurd (elim low [ inl nought ↦ omega (arith, u.fact.0, nought) | inr one ↦ omega (arith, u.fact.0, one) ]) ]
+  silent (Err r) a o low = absurd (not_low r o low)
 
   -- the rounds of an answer, and none of a refusal
-  pub rounds_told : (answered : Result Finish Refusal) {P : List ClosedRound → Type 0} → Known answered → Outcome answered → IfOk answered (λ f. P f.rounds)
+  pub rounds_told : (P : List ClosedRound → Type 0) (answered : Result Finish Refusal) → Answered serial job left left' ReadRose taken taken' WriteRose answered → IsOutcome answered old new Rose status rounds → IfOk answered (λ f. P f.rounds)
       → (status ≡ 0) ⊎ (status ≡ 1) ⊎ (status ≡ 4) → P rounds
-  rounds_told (Ok f) {P = P} a o p ended = subst P (sym o.rounds) p
-  rounds_told (Err r) a o p ended =
-      absurd (elim ended [ inl zero_ ↦ not_low r a o (inl zero_) | inr more ↦ elim more [ inl one ↦ not_low r a o (inr one) | inr four ↦ not_four r a o four ] ])
+  rounds_told P (Ok f) a o p ended = subst P (sym o.told) p
+  rounds_told P (Err r) a o p ended =
+      absurd (elim ended [ inl nought ↦ not_low r o (inl nought) | inr more ↦ elim more [ inl one ↦ not_low r o (inr one) | inr four ↦ not_four r a.no_fault o four ] ])
 
-  pub no_rounds : (answered : Result Finish Refusal) → Known answered → Outcome answered → status ≢ 0 → status ≢ 1 → status ≢ 4 → rounds ≡ []
-  no_rounds (Ok f) a o zero_ one four = absurd (only_refused f o zero_ one four)
-  no_rounds (Err r) a o zero_ one four = o.no_rounds
+  pub no_rounds : (answered : Result Finish Refusal) → Answered serial job left left' ReadRose taken taken' WriteRose answered → IsOutcome answered old new Rose status rounds → status ≢ 0 → status ≢ 1 → status ≢ 4 → rounds ≡ []
+  no_rounds (Ok f) a o nought one four = absurd (only_refused f o nought one four)
+  no_rounds (Err r) a o nought one four = o.no_rounds
 
   -- what holds of every refusal but want of memory
-  pub refusal_only : (answered : Result Finish Refusal) {P : Type 0} → Known answered → Outcome answered → IfErr answered (λ r. r ≢ refusal.NoMemory → P)
+  pub refusal_only : (P : Type 0) (answered : Result Finish Refusal) → Answered serial job left left' ReadRose taken taken' WriteRose answered → IsOutcome answered old new Rose status rounds → IfErr answered (λ r. r ≢ refusal.NoMemory → P)
       → status ≢ 0 → status ≢ 1 → status ≢ 4 → status ≢ 7 → P
-  refusal_only (Ok f) a o p zero_ one four seven = absurd (only_refused f o zero_ one four)
-  refusal_only (Err r) a o p zero_ one four seven = p (λ memory. seven (o.refused.0 ∙ ap status_of memory ∙ memory_is))
+  refusal_only P (Ok f) a o p nought one four seven = absurd (only_refused f o nought one four)
+  refusal_only P (Err r) a o p nought one four seven = p (λ memory. seven (o.refused.0 ∙ ap status_of memory ∙ memory_is))

@@ -1,5 +1,5 @@
 -- What the two top calls stand on: what is known of an answer before it is told, and how it is told.
-use Rattle.std.specs.Prelude.{◌≡◌, ◌≢◌, ◌⊎◌, ◌≤◌, ¬, ℕ, Bool, true, false, List, [], Option, None, Some, Result, Ok, Err, drop, OnOk, OnErr, IfOk, IfErr}
+use Rattle.std.specs.Prelude.{◌≡◌, ◌≢◌, ◌⊎◌, ◌≤◌, ℕ, Bool, true, false, List, [], Option, None, Some, Result, Ok, Err, drop, OnOk, OnErr, IfOk, IfErr}
 use Rattle.std.specs.Result.{IsErrAnd}
 use Rattle.bale_types.specs.Stream.{after, IsFront}
 use Rattle.mtx_text.specs.declared.refusal.BadLine.{BadLine}
@@ -37,9 +37,9 @@ pub record Answered (serial : Command → Bool) (job : Option Command) (left lef
 
 -- How an answer is told, or why there is none: the status, the rounds, and what err took. `Rose` says that its faults rose.
 pub record IsOutcome (answered : Result Finish Refusal) (old new : Option (List ℕ)) (Rose : Type 0) (status : ℕ) (rounds : List ClosedRound) : Type 0 where
-  pub rounds : IfOk answered (λ f. rounds ≡ f.rounds)
+  pub told : IfOk answered (λ f. rounds ≡ f.rounds)
   pub no_rounds : OnErr answered (rounds ≡ [])
   pub written : IfOk answered (λ f. OnOk f.written ((status ≡ f.status) × (status ≤ 1) × (new ≡ old)))
-  pub unwritten : IfOk answered (λ f. OnErr f.written ((status ≡ 4) × (¬ Rose → new ≡ after old (refusal_text refusal.WriteFault)) × IsFront new (after old (refusal_text refusal.WriteFault))))
-  pub refused : IfErr answered (λ r. (status ≡ status_of r) × (¬ Rose → new ≡ after old (refusal_text r)) × IsFront new (after old (refusal_text r)))
+  pub unwritten : IfOk answered (λ f. OnErr f.written ((status ≡ 4) × ((Rose → ⊥) → new ≡ after old (refusal_text refusal.WriteFault)) × IsFront new (after old (refusal_text refusal.WriteFault))))
+  pub refused : IfErr answered (λ r. (status ≡ status_of r) × ((Rose → ⊥) → new ≡ after old (refusal_text r)) × IsFront new (after old (refusal_text r)))
   pub held : IsFront old new

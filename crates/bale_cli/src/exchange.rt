@@ -1,7 +1,6 @@
 //! The run of a command for a matrix: the programs, driven, and then the answer, written.
-ghost use Rattle.std.specs.Prelude.{◌≡◌, ◌≤◌, ◌<◌, ℕ, Bool, true, false, List, None, OnErr, IfOk, IfErr};
+ghost use Rattle.std.specs.Prelude.{◌≡◌, ◌≤◌, ◌<◌, ℕ, Bool, true, false, List, None, length, OnErr, IfOk, IfErr};
 ghost use Rattle.bale_types.specs.Stream.{HasCause, IsFront};
-ghost use Rattle.route_tensor.specs.Grid.{ranks};
 ghost use Rattle.round_program.specs.Canonical.{HaveEnded};
 ghost use Rattle.app_cases.specs.Any.{any_rules};
 ghost use Rattle.bale_words.specs.Ranges.{InRanges};
@@ -195,7 +194,7 @@ fn told<K: Sink>(
     requires runs { runs command.now ≡ true }
     requires ranges { InRanges command.now }
     requires fits { (serial : Bool) × (unfitness command.now.task m.now serial ≡ None) }
-    requires ended { HaveEnded any_rules (starts_of command.now.task (ranks command.now.grid) m.now) run.progs }
+    requires ended { (ranks : ℕ) × (1 ≤ ranks) × (ranks ≤ 64) × (0 < length (starts_of command.now.task ranks m.now)) × HaveEnded any_rules (starts_of command.now.task ranks m.now) run.progs }
     ensures status { IfOk result (λ f. f.status ≡ task_status command.now.task m.now) }
     ensures low { IfOk result (λ f. f.status ≤ 1) }
     ensures answer { IfOk result (λ f. HasWritten (IsAnswer command.now.task m.now) (shown command.now.travel.generated) (K.taken out.old) (K.taken out.new) f.written) }

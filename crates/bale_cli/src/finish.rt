@@ -1,6 +1,6 @@
 //! The end of a run: the programs after their last round, and then the answer, written.
 
-ghost use Rattle.std.specs.Prelude.{◌≡◌, ◌≤◌, ℕ, Bool, true, List, [], Option, None, map, OnOk, OnErr, IfOk};
+ghost use Rattle.std.specs.Prelude.{◌≡◌, ◌≤◌, ◌<◌, ℕ, Bool, true, List, [], Option, None, length, map, OnOk, OnErr, IfOk};
 ghost use Rattle.bale_types.specs.Stream.{after, HasCause, IsFront};
 ghost use Rattle.bale_types.specs.Out.{appended};
 ghost use Rattle.round_program.specs.Canonical.{HaveEnded};
@@ -50,7 +50,7 @@ pub(crate) fn finished<K: Sink>(
     requires ready { is_ready task.now ≡ true }
     requires ranges { TaskInRanges task.now }
     requires fits { (serial : Bool) × (unfitness task.now m.now serial ≡ None) }
-    requires ended { (ranks : ℕ) × (1 ≤ ranks) × (ranks ≤ 64) × HaveEnded any_rules (starts_of task.now ranks m.now) progs }
+    requires ended { (ranks : ℕ) × (1 ≤ ranks) × (ranks ≤ 64) × (0 < length (starts_of task.now ranks m.now)) × HaveEnded any_rules (starts_of task.now ranks m.now) progs }
     ensures status { IfOk result (λ e. e.status ≡ task_status task.now m.now) }
     ensures low { IfOk result (λ e. e.status ≤ 1) }
     ensures answer { IfOk result (λ e. HasWritten (IsAnswer task.now m.now) (shown generated) (K.taken out.old) (K.taken out.new) e.written) }
@@ -83,7 +83,7 @@ fn finished_as<A: Application, K: Sink>(
     out: &mut K,
 ) -> Result<Ending, NoMemory>
     requires serves { A.serves task.now m.now }
-    requires ended { (ranks : ℕ) × (1 ≤ ranks) × (ranks ≤ 64) × HaveEnded any_rules (map A.Prog.case_of (A.starts task.now ranks m.now)) progs }
+    requires ended { (ranks : ℕ) × (1 ≤ ranks) × (ranks ≤ 64) × (0 < length (map A.Prog.case_of (A.starts task.now ranks m.now))) × HaveEnded any_rules (map A.Prog.case_of (A.starts task.now ranks m.now)) progs }
     ensures status { IfOk result (λ e. e.status ≡ task_status task.now m.now) }
     ensures low { IfOk result (λ e. e.status ≤ 1) }
     ensures answer { IfOk result (λ e. HasWritten (IsAnswer task.now m.now) (shown generated) (K.taken out.old) (K.taken out.new) e.written) }

@@ -20,7 +20,7 @@ returns-in-Ok-clause-steps g c = λ text command m asked.
     (subst (λ (x : Command). TurnsOfTask x.task c.in-Ok.matrix x.grid c.args.steps.now c.ran_serially.new.steps) e.0 c.ran_serially.ensures.steps)
 
 pub returns-in-Ok-clause-no_turns : goal.returns-in-Ok-clause-no_turns
-returns-in-Ok-clause-no_turns g c = memory_only c.ran_serially.result c.ran_serially.ensures.memory
+returns-in-Ok-clause-no_turns g c = memory_only _ c.ran_serially.result c.ran_serially.ensures.memory
 
 pub returns-in-Err-clause-answered : goal.returns-in-Err-clause-answered
 returns-in-Err-clause-answered g c =

@@ -9,11 +9,11 @@ use Rattle.bale_cli.proofs.calls.run_serial.Goals.{After-outcome_of}
 use Rattle.bale_cli.proofs.calls.run_serial.Goals as goal
 
 -- how the answer is told
-told : (g : Over) (c : After-outcome_of g) → IsOutcome c.answer_serially.result (g.E.Sink.taken c.args.err.now) (g.E.Sink.taken c.outcome_of.new.err)
+told : (g : Over) (c : After-outcome_of g) → IsOutcome c.answer_serially-answered.result (g.E.Sink.taken c.args.err.now) (g.E.Sink.taken c.outcome_of.new.err)
     (Rose (g.E.Sink.faults c.args.err.now) (g.E.Sink.faults c.outcome_of.new.err)) c.outcome_of.result.status c.outcome_of.result.rounds
 told g c =
     record {
-      rounds = c.outcome_of.ensures.rounds;
+      told = c.outcome_of.ensures.rounds;
       no_rounds = c.outcome_of.ensures.no_rounds;
       written = c.outcome_of.ensures.written;
       unwritten = c.outcome_of.ensures.unwritten;
@@ -22,54 +22,54 @@ told g c =
     }
 
 pub returns-clause-usage : goal.returns-clause-usage
-returns-clause-usage g c = usage c.answer_serially.result c.answer_serially.ensures.answered (told g c)
+returns-clause-usage g c = usage c.answer_serially-answered.result c.answer_serially-answered.ensures.answered (told g c)
 
 pub returns-clause-no_command : goal.returns-clause-no_command
-returns-clause-no_command g c = no_command c.answer_serially.result c.answer_serially.ensures.answered (told g c)
+returns-clause-no_command g c = no_command c.answer_serially-answered.result c.answer_serially-answered.ensures.answered (told g c)
 
 pub returns-clause-status : goal.returns-clause-status
-returns-clause-status g c = same_status c.answer_serially.result c.answer_serially.ensures.answered (told g c)
+returns-clause-status g c = same_status c.answer_serially-answered.result c.answer_serially-answered.ensures.answered (told g c)
 
 pub returns-clause-read_fault : goal.returns-clause-read_fault
-returns-clause-read_fault g c = read_fault c.answer_serially.result c.answer_serially.ensures.answered (told g c)
+returns-clause-read_fault g c = read_fault c.answer_serially-answered.result c.answer_serially-answered.ensures.answered (told g c)
 
 pub returns-clause-write_fault : goal.returns-clause-write_fault
-returns-clause-write_fault g c = write_fault c.answer_serially.result c.answer_serially.ensures.answered (told g c)
+returns-clause-write_fault g c = write_fault c.answer_serially-answered.result c.answer_serially-answered.ensures.answered (told g c)
 
 pub returns-clause-read_whole : goal.returns-clause-read_whole
-returns-clause-read_whole g c = read_whole c.answer_serially.result c.answer_serially.ensures.answered (told g c)
+returns-clause-read_whole g c = read_whole c.answer_serially-answered.result c.answer_serially-answered.ensures.answered (told g c)
 
 pub returns-clause-answer : goal.returns-clause-answer
-returns-clause-answer g c = answer c.answer_serially.result c.answer_serially.ensures.answered (told g c)
+returns-clause-answer g c = answer c.answer_serially-answered.result c.answer_serially-answered.ensures.answered (told g c)
 
 pub returns-clause-front : goal.returns-clause-front
-returns-clause-front g c = front c.answer_serially.result c.answer_serially.ensures.answered (told g c)
+returns-clause-front g c = front c.answer_serially-answered.result c.answer_serially-answered.ensures.answered (told g c)
 
 pub returns-clause-no_answer : goal.returns-clause-no_answer
-returns-clause-no_answer g c = no_answer c.answer_serially.result c.answer_serially.ensures.answered (told g c)
+returns-clause-no_answer g c = no_answer c.answer_serially-answered.result c.answer_serially-answered.ensures.answered (told g c)
 
 pub returns-clause-said : goal.returns-clause-said
-returns-clause-said g c = said_whole c.answer_serially.result c.answer_serially.ensures.answered (told g c)
+returns-clause-said g c = said_whole c.answer_serially-answered.result c.answer_serially-answered.ensures.answered (told g c)
 
 pub returns-clause-said_front : goal.returns-clause-said_front
-returns-clause-said_front g c = said_front c.answer_serially.result c.answer_serially.ensures.answered (told g c)
+returns-clause-said_front g c = said_front c.answer_serially-answered.result c.answer_serially-answered.ensures.answered (told g c)
 
 pub returns-clause-silent : goal.returns-clause-silent
-returns-clause-silent g c = silent c.answer_serially.result c.answer_serially.ensures.answered (told g c)
+returns-clause-silent g c = silent c.answer_serially-answered.result c.answer_serially-answered.ensures.answered (told g c)
 
 pub returns-clause-no_rounds : goal.returns-clause-no_rounds
-returns-clause-no_rounds g c = no_rounds c.answer_serially.result c.answer_serially.ensures.answered (told g c)
+returns-clause-no_rounds g c = no_rounds c.answer_serially-answered.result c.answer_serially-answered.ensures.answered (told g c)
 
 pub returns-clause-unread : goal.returns-clause-unread
-returns-clause-unread g c = c.answer_serially.ensures.answered.unread
+returns-clause-unread g c = c.answer_serially-answered.ensures.answered.unread
 
 pub returns-clause-held : goal.returns-clause-held
-returns-clause-held g c = c.answer_serially.ensures.answered.held
+returns-clause-held g c = c.answer_serially-answered.ensures.answered.held
 
 pub returns-clause-rounds : goal.returns-clause-rounds
 returns-clause-rounds g c = λ text command m asked ended.
-    rounds_told c.answer_serially.result {P = λ (rs : List ClosedRound). TellsTask command.task m (made_for true command) command.travel.steady rs} c.answer_serially.ensures.answered (told g c)
-    (c.answer_serially.ensures.answered.rounds text command m asked) ended
+    rounds_told (λ (rs : List ClosedRound). TellsTask command.task m (made_for true command) command.travel.steady rs) c.answer_serially-answered.result c.answer_serially-answered.ensures.answered (told g c)
+    (c.answer_serially-answered.ensures.answered.rounds text command m asked) ended
 
 pub returns-clause-no_turns : goal.returns-clause-no_turns
-returns-clause-no_turns g c = refusal_only c.answer_serially.result c.answer_serially.ensures.answered (told g c) c.answer_serially.ensures.no_turns
+returns-clause-no_turns g c = refusal_only _ c.answer_serially-answered.result c.answer_serially-answered.ensures.answered (told g c) c.answer_serially-answered.ensures.no_turns

@@ -1,1 +1,3 @@
 pub mod AskSteps
+pub mod Targets
+pub mod TrafficRuns

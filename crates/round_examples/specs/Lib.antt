@@ -8,3 +8,6 @@ pub mod LookupLaws
 pub mod LookupView
 pub mod Lookups
 pub mod SmallTable
+pub mod Traffics
+pub mod TrafficView
+pub mod TrafficLaws

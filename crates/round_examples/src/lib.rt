@@ -4,9 +4,10 @@
 //! |---|---|
 //! | `Count` | one round; emissions read from the input; counts that rise modulo 2^64 commute |
 //! | `Ask` | two rounds; a list for each sender, so that absorbs of different senders commute; emissions built at `end_round` |
+//! | `Traffic` | as many rounds as it is told; emissions numbered as they are read; nothing but sums, so it measures what moves them |
 //! | `Lookup` | an asker: queries to other ranks, each with its reply |
 //!
-//! For each there is a state that contracts see and the program's rules (`specs/Counts`, `Asks`, `Lookups`), how the state is
+//! For each there is a state that contracts see and the program's rules (`specs/Counts`, `Asks`, `Traffics`, `Lookups`), how the state is
 //! read from the fields (`CountView` and so on), and the proof of the laws (`CountLaws` and so on).
 #![tactic(auto)]
 
@@ -15,7 +16,9 @@ mod count;
 mod lookup;
 #[cfg(test)]
 mod tests;
+mod traffic;
 
 pub use ask::Ask;
 pub use count::Count;
 pub use lookup::Lookup;
+pub use traffic::{CELLS, Traffic};

@@ -1,13 +1,15 @@
-//! The program `bale` without its streams: the words of the command line, the run that they ask for, and the top call.
+//! The program `bale` without its streams: the words of the command line, the run that they ask for, and the top calls.
 //!
 //! | Call | For |
 //! |---|---|
-//! | [`run_serial`] | from the words and the bytes that come in to the bytes that go out, all ranks on one thread |
+//! | [`run`] | from the words and the bytes that come in to the bytes that go out, each rank on a thread or all on one, as the words ask |
+//! | [`run_serial`] | the same, all ranks on this thread: it returns, and its turns are bounded |
 //! | [`report`] | to say on a sink why a run ended without an answer |
 //!
-//! Read `specs/Answer` first: the serial answer, about the words and the matrix alone. Then `specs/Jobs` (what runs), and
-//! `specs/Tasks` (what each application answers, and which programs' run the rounds tell), `specs/Fitness` (which
-//! matrices an application has an answer for).
+//! Read `specs/Answer` first: the serial answer, about the words and the matrix alone. Then `specs/Jobs` (what runs, and how it is
+//! driven), `specs/Tasks` (what each application answers, and which programs' run the rounds tell), `specs/Fitness` and
+//! `specs/Numberings` (which matrices an application has an answer for), `specs/Summary` (the line of `--gen`). The other files of
+//! `specs/` are the code's own words.
 #![tactic(auto)]
 
 mod application;

@@ -1,0 +1,4 @@
+mod OneHop
+mod Mapping
+mod Sweeps
+mod Moves

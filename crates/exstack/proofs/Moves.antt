@@ -1,0 +1,54 @@
+-- What a round does on each link, as a sweep over the links.
+use Rattle.std.proofs.Common.{◌≡◌, ◌≢◌, ℕ, ◌+◌, ◌*◌, ◌<◌, ◌≤◌, Bool, true, false, cond, List, [], ◌∷◌, ◌++◌, length, get_or, set, refl, sym, ap, subst, ◌∙◌, arith, inl, inr}
+use Rattle.std.proofs.lemmas.Bool.{cases_eq}
+use Rattle.std.proofs.lemmas.List.{length-append, append-nil}
+use Rattle.std.proofs.lemmas.Nat.{same_from_place}
+use Rattle.item_buffer.specs.Contents.{Shipped}
+use Rattle.list_laws.specs.Lists.{Begins}
+use Rattle.exstack.specs.Links.{Out, In, no_out, no_in, parcel_of, gone, came}
+use Rattle.exstack.specs.State.{number}
+use Rattle.exstack.specs.Steps.{Sight, latest, was_moved, WasPosted, WasCollected, InVain}
+use Rattle.exstack.proofs.Sweeps.{Sweep}
+
+-- the steps of a sweep over links out, and over links in
+abbrev pub Posted : Bool → ℕ → Out → Out → Sight → Sight → Type 0
+Posted last epoch o o' s s' = WasPosted last epoch o o' s.log s'.log
+
+abbrev pub Served : Out → Out → Sight → Sight → Type 0
+Served o o' s s' = o'.due ≡ true → InVain s.count s'.count s'.stuck
+
+abbrev pub Collected : Bool → In → In → Sight → Sight → Type 0
+Collected exchange i i' s s' = WasCollected exchange i i' s.log s'.log
+
+abbrev pub Asked : In → In → Sight → Sight → Type 0
+Asked i i' s s' = i'.due ≡ true → InVain s.count s'.count s'.stuck
+
+-- where nothing was done
+unmoved : (b : Bool) → was_moved b b ≡ false
+unmoved true = refl
+unmoved false = refl
+
+pub none_posted : (last : Bool) (epoch : ℕ) (o : Out) (s : Sight) → Posted last epoch o o s s
+none_posted last epoch o s =
+    let e : was_moved o.due o.due ≡ false = unmoved o.due in
+    record { link = sym (ap (λ b. cond b (gone last) o) e); sent = sym (ap (λ b. cond b (s.log ++ parcel_of last epoch o ∷ []) s.log) e) }
+
+pub none_collected : (exchange : Bool) (i : In) (s : Sight) → Collected exchange i i s s
+none_collected exchange i s =
+    let e : was_moved i.due i.due ≡ false = unmoved i.due in
+    record { link = sym (ap (λ b. cond b (came exchange (latest s.log)) i) e); got = sym (ap (λ b. cond b (s.log ++ latest s.log ∷ []) s.log) e) }
+
+-- different links
+pub out_apart : (n r i k : ℕ) → k ≢ i → number n r k ≢ number n r i
+out_apart n r i k ne e = ne (omega arith)
+
+pub in_apart : (n r i k : ℕ) → r < n → k ≢ i → number n k r ≢ number n i r
+in_apart n r i k w ne e = ne (same_from_place k r i r n w w e).0
+
+-- a log between two equal ones is the same
+pub begins_between : {T : Type 0} (a b c : List T) → Begins a b → Begins b c → c ≡ a → b ≡ a
+begins_between a b c p q e = nothing_more a p.rest (omega (arith, ap length p.is, ap length q.is, ap length e, length-append a p.rest, length-append b q.rest)) p.is
+  where
+    nothing_more : {T : Type 0} (a more : List T) {b : List T} → length more ≡ 0 → b ≡ a ++ more → b ≡ a
+    nothing_more a [] z is = is ∙ append-nil a
+    nothing_more a (x ∷ xs) z is = absurd (omega arith)

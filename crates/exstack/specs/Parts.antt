@@ -1,0 +1,62 @@
+-- A running rank's part of the exchange machine, by its exstack and its port's lists.
+use Rattle.std.specs.Prelude.{◌≡◌, ℕ, ◌-◌, ◌==◌, Bool, true, false, ◌&&◌, not, cond, if◌then◌else◌, List, [], ◌∷◌, ◌++◌, length, take}
+use Rattle.bale_types.specs.declared.item.Item.{Item}
+use Rattle.port_bank.specs.Logs.{Logs}
+use Rattle.port_bank.specs.Machine.{Part, Step, IsOwnStep, after, for_ranks}
+use Rattle.port_bank.specs.Machine.Step.{Done, Complete, Idle}
+use Rattle.exstack.specs.declared.stage.Stage.{Stage}
+use Rattle.exstack.specs.declared.stage.Stage.TheVariants.{Start, Proceeding, Filling, Exchanging, Full, AllDone}
+use Rattle.exstack.specs.State.{State, out_at, in_at, link_to, link_from}
+use Rattle.exstack.specs.Cycles.{entries_sent, entries_exchanged, items}
+use Rattle.exstack.specs.Agreement.{AgreesIn}
+
+-- What a rank pushed toward d in an epoch: what it sent there and, in its current epoch, what waits for d.
+-- With [x] sent and [y] waiting it is [x, y].
+abbrev pub pushed_to : State → Logs → ℕ → ℕ → List Item
+pushed_to st sent e d = items (entries_sent e (sent (link_to st d))) ++ cond (e == st.epoch) (items (out_at st d).waiting) []
+
+-- What it pulled of s: what came in exchange parcels, less what is unread.
+-- With [x, y] come and y unread it is [x].
+abbrev pub pulled_of : State → Logs → ℕ → ℕ → List Item
+pulled_of st got e s =
+    let all : List Item = items (entries_exchanged e (got (link_from st s))) in
+    take (length all - cond (e == st.epoch) (length (in_at st s).unread) 0) all
+
+abbrev pub is_all_done : Stage → Bool
+is_all_done Start = false
+is_all_done Proceeding = false
+is_all_done Filling = false
+is_all_done Exchanging = false
+is_all_done Full = false
+is_all_done AllDone = true
+
+-- The rank's part of the machine.
+abbrev pub part_of : State → Logs → Logs → Part
+part_of st sent got = record {
+  epoch = st.epoch;
+  done = st.done;
+  complete = is_all_done st.stage;
+  latest = st.popped;
+  pushed = for_ranks st.ranks (pushed_to st sent);
+  pulled = for_ranks st.ranks (pulled_of st got);
+}
+
+-- A call is a step of the rank's part of the exchange machine, over the lists of a port that the call doesn't see.
+abbrev pub IsStepOf : Step → State → State → Type 0
+IsStepOf step old new = (n : ℕ) (sent got : Logs) → AgreesIn n old sent got → IsOwnStep step (part_of old sent got) (part_of new sent got)
+
+-- A call keeps the agreement with a port that it doesn't see.
+abbrev pub KeepsAgreement : State → State → Type 0
+KeepsAgreement old new = (n : ℕ) (sent got : Logs) → AgreesIn n old sent got → AgreesIn n new sent got
+
+-- Several steps of a rank's own part, one after the other.
+abbrev pub AreOwnSteps : List Step → Part → Part → Type 0
+AreOwnSteps [] old new = new ≡ old
+AreOwnSteps (s ∷ ss) old new = IsOwnStep s old (after s old) × AreOwnSteps ss (after s old) new
+
+-- The steps that a proceed poll is: Done where it notes done for the first time in the epoch, and Complete where it
+-- answers AllDone; Idle where neither. The call that says that the rank is done may be the one that completes it.
+abbrev pub proceed_steps : Bool → Bool → Bool → List Step
+proceed_steps was now complete =
+    if (now && not was) then (if complete then Done ∷ Complete ∷ [] else Done ∷ [])
+    else (if complete then Complete ∷ [] else Idle ∷ [])

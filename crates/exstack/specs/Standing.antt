@@ -1,0 +1,62 @@
+-- What holds of an exstack at every moment.
+use Rattle.std.specs.Prelude.{◌≡◌, ℕ, ◌<◌, ◌≤◌, Bool, true, false, ◌||◌, List, [], length, Some, IsSome}
+use Rattle.bale_types.specs.declared.item.Entry.{Entry}
+use Rattle.list_laws.specs.Lists.{EachAt}
+use Rattle.exstack.specs.declared.stage.Stage.{Stage}
+use Rattle.exstack.specs.declared.stage.Stage.TheVariants.{Start, Proceeding, Filling, Exchanging, Full, AllDone}
+use Rattle.exstack.specs.Links.{Out, In}
+use Rattle.exstack.specs.State.{State, in_at, is_proceeding, is_exchanging, may_read}
+use Rattle.exstack.specs.Parts.{is_all_done}
+
+-- Whether entries may wait on a link out: while buffers are filled, and in the exchange until they are posted.
+abbrev pub may_wait : Stage → Bool → Bool
+may_wait Start due = false
+may_wait Proceeding due = false
+may_wait Filling due = true
+may_wait Exchanging due = due
+may_wait Full due = false
+may_wait AllDone due = false
+
+-- A link out holds at most its capacity. It is closed only where the rank is done, and where the rank is done it is
+-- closed unless its parcel is due; a closed one is empty, and nothing is due on it.
+pub record IsOut (cap : ℕ) (stage : Stage) (done : Bool) (o : Out) : Type 0 where
+  pub fits : length o.waiting ≤ cap
+  pub closed_empty : o.closed ≡ true → o.waiting ≡ []
+  pub closed_done : o.closed ≡ true → done ≡ true
+  pub done_closed : done ≡ true → o.due ≡ false → o.closed ≡ true
+  pub due_open : o.due ≡ true → o.closed ≡ false
+  pub due_round : o.due ≡ true → (is_proceeding stage || is_exchanging stage) ≡ true
+  pub sent_on : may_wait stage o.due ≡ false → o.waiting ≡ []
+
+-- A link in on which a parcel is due is empty and hasn't ended; outside of exchanges every link in is empty, and at
+-- AllDone each has ended.
+pub record IsIn (stage : Stage) (i : In) : Type 0 where
+  pub due_open : i.due ≡ true → i.ended ≡ false
+  pub due_empty : i.due ≡ true → i.unread ≡ []
+  pub due_round : i.due ≡ true → (is_proceeding stage || is_exchanging stage) ≡ true
+  pub read : may_read stage ≡ false → i.unread ≡ []
+  pub all_ended : is_all_done stage ≡ true → i.ended ≡ true
+
+-- The sender of the item that was popped last: that item can be put back.
+pub record CanUnpop (st : State) (a : ℕ) : Type 0 where
+  pub within : a < st.ranks
+  pub back : IsSome (in_at st a).back
+  pub reading : may_read st.stage ≡ true
+
+-- An exstack for parcels of capacity cap.
+pub record IsStack (cap : ℕ) (st : State) : Type 0 where
+  pub some : 0 < cap
+  pub small : cap ≤ 1024
+  pub rank : st.rank < st.ranks
+  pub few : st.ranks ≤ 64
+  pub all_outs : length st.outs ≡ st.ranks
+  pub all_ins : length st.ins ≡ st.ranks
+  pub each_out : EachAt (λ b o. IsOut cap st.stage st.done o) st.outs
+  pub each_in : EachAt (λ a i. IsIn st.stage i) st.ins
+  pub can_unpop : (a : ℕ) → st.popped ≡ Some a → CanUnpop st a
+
+-- What the code keeps besides: a sender below which no inbox has an unread item.
+pub record IsKept (cap : ℕ) (st : State) (from : ℕ) : Type 0 where
+  pub standing : IsStack cap st
+  pub from_high : from ≤ st.ranks
+  pub from_none : (a : ℕ) → a < from → (in_at st a).unread ≡ []

@@ -1,0 +1,172 @@
+-- One rank's exstack, as contracts see it, and what follows from it.
+use Rattle.std.specs.Prelude.{ℕ, ◌+◌, ◌-◌, ◌*◌, ◌==◌, Bool, true, false, not, cond, if◌then◌else◌, min, map, List, [], ◌∷◌, length, slice_get, slice_set, slice_index_or, Option, Some, None}
+use Rattle.std.specs.List.{list_all, sum_by, position}
+use Rattle.std.specs.Option.{option_map}
+use Rattle.bale_types.specs.declared.item.Item.{Item}
+use Rattle.bale_types.specs.declared.item.Entry.{Entry}
+use Rattle.exstack.specs.declared.stage.Stage.{Stage}
+use Rattle.exstack.specs.declared.stage.Stage.TheVariants.{Start, Proceeding, Filling, Exchanging, Full, AllDone}
+use Rattle.exstack.specs.declared.stage.Poll.{Poll}
+use Rattle.exstack.specs.declared.stage.Poll.TheVariants as poll
+use Rattle.exstack.specs.declared.stage.Proceed.{Proceed}
+use Rattle.exstack.specs.declared.stage.Proceed.TheVariants as proceed
+use Rattle.exstack.specs.Links.{Out, In, no_out, no_in, with_entry, with_first_read, with_back, plain, headroom_of, has_unread, begun_out, begun_in, reopened, resumed}
+
+-- An exstack: how many ranks there are, whose it is, its stage, whether the rank said that it is done in this epoch,
+-- the epoch, its links out and in by the rank at their other end, and the sender of the item that the latest call
+-- popped, where it popped one.
+pub record State : Type 0 where
+  pub ranks : ℕ
+  pub rank : ℕ
+  pub stage : Stage
+  pub done : Bool
+  pub epoch : ℕ
+  pub outs : List Out
+  pub ins : List In
+  pub popped : Option ℕ
+
+abbrev pub out_at : State → ℕ → Out
+out_at st b = slice_index_or st.outs b no_out
+
+abbrev pub in_at : State → ℕ → In
+in_at st a = slice_index_or st.ins a no_in
+
+-- The grid: one hop between all ranks.
+abbrev pub dims_of : State → List ℕ
+dims_of st = st.ranks ∷ []
+
+-- On one hop the link from rank a to rank b has the number a * P + b, for P ranks.
+-- Among 4 ranks the link from 1 to 2 has the number 6.
+abbrev pub number : ℕ → ℕ → ℕ → ℕ
+number ranks a b = a * ranks + b
+
+-- The numbers of the rank's link to b and of its link from a.
+abbrev pub link_to : State → ℕ → ℕ
+link_to st b = number st.ranks st.rank b
+
+abbrev pub link_from : State → ℕ → ℕ
+link_from st a = number st.ranks a st.rank
+
+-- How many entries may still be pushed toward that rank for which it is least.
+abbrev pub least_headroom : ℕ → List Out → ℕ
+least_headroom cap [] = cap
+least_headroom cap (o ∷ os) = min (headroom_of cap o) (least_headroom cap os)
+
+-- How many items are unread.
+abbrev pub unread_of : State → ℕ
+unread_of st = sum_by (λ i. length i.unread) st.ins
+
+-- The lowest sender of an unread item.
+abbrev pub lowest_unread : State → Option ℕ
+lowest_unread st = position has_unread st.ins
+
+-- What a push leaves.
+abbrev pub pushed_on : State → Item → ℕ → State
+pushed_on st item to = record st { outs = slice_set st.outs to (with_entry (out_at st to) (plain item)); popped = None }
+
+-- What a pop gives where the lowest sender of an unread item is this one, and what it leaves.
+abbrev pub pop_from : State → Option ℕ → Option (ℕ × Item)
+pop_from st None = None
+pop_from st (Some a) = option_map (λ e. (a, e.item)) (slice_get (in_at st a).unread 0)
+
+abbrev pub popped_from : State → Option ℕ → State
+popped_from st None = record st { popped = None }
+popped_from st (Some a) = record st { ins = slice_set st.ins a (with_first_read (in_at st a)); popped = Some a }
+
+-- What an unpop leaves.
+abbrev pub unpopped : State → Option ℕ → State
+unpopped st None = st
+unpopped st (Some a) = record st { ins = slice_set st.ins a (with_back (in_at st a).back (in_at st a)); popped = None }
+
+-- What a reset leaves.
+abbrev pub after_reset : State → State
+after_reset st = record st { stage = Start; done = false; epoch = st.epoch + 1; outs = map reopened st.outs; ins = map resumed st.ins; popped = None }
+
+-- Whether a stage lies within a proceed round, within an exchange round, or within either.
+abbrev pub is_proceeding : Stage → Bool
+is_proceeding Start = false
+is_proceeding Proceeding = true
+is_proceeding Filling = false
+is_proceeding Exchanging = false
+is_proceeding Full = false
+is_proceeding AllDone = false
+
+abbrev pub is_exchanging : Stage → Bool
+is_exchanging Start = false
+is_exchanging Proceeding = false
+is_exchanging Filling = false
+is_exchanging Exchanging = true
+is_exchanging Full = false
+is_exchanging AllDone = false
+
+-- Whether a proceed round may begin or go on: at the start of an epoch, after an exchange, and within the round.
+-- Whether an exchange round may: after a proceed round that goes on, and within the round.
+abbrev pub may_proceed : Stage → Bool
+may_proceed Start = true
+may_proceed Proceeding = true
+may_proceed Filling = false
+may_proceed Exchanging = false
+may_proceed Full = true
+may_proceed AllDone = false
+
+abbrev pub may_exchange : Stage → Bool
+may_exchange Start = false
+may_exchange Proceeding = false
+may_exchange Filling = true
+may_exchange Exchanging = true
+may_exchange Full = false
+may_exchange AllDone = false
+
+-- Whether items may be unread: from an exchange on, until the next proceed round.
+abbrev pub may_read : Stage → Bool
+may_read Start = false
+may_read Proceeding = false
+may_read Filling = false
+may_read Exchanging = true
+may_read Full = true
+may_read AllDone = false
+
+-- A proceed round, or an exchange round, has begun: where it hadn't, a parcel is due on each open link.
+abbrev pub in_proceed : Bool → State → State
+in_proceed done st = if is_proceeding st.stage then record st { popped = None }
+    else record st { stage = Proceeding; done = done; outs = map begun_out st.outs; ins = map begun_in st.ins; popped = None }
+
+abbrev pub in_exchange : State → State
+in_exchange st = if is_exchanging st.stage then record st { popped = None }
+    else record st { stage = Exchanging; outs = map begun_out st.outs; ins = map begun_in st.ins; popped = None }
+
+-- The link that a round still waits for: the lowest link out on which a parcel is due, or else the lowest such link in.
+abbrev pub missing_in : ℕ → ℕ → Option ℕ → Option ℕ
+missing_in ranks rank None = None
+missing_in ranks rank (Some a) = Some (number ranks a rank)
+
+abbrev pub missing_out : ℕ → ℕ → Option ℕ → List In → Option ℕ
+missing_out ranks rank None ins = missing_in ranks rank (position (λ i. i.due) ins)
+missing_out ranks rank (Some b) ins = Some (number ranks rank b)
+
+abbrev pub missing : State → Option ℕ
+missing st = missing_out st.ranks st.rank (position (λ o. o.due) st.outs) st.ins
+
+-- Whether every link in has ended.
+abbrev pub all_ended : State → Bool
+all_ended st = list_all (λ i. i.ended) st.ins
+
+-- The answer of a proceed poll, by the link that the round still waits for and whether every link in has ended; and
+-- the answer of an exchange poll.
+abbrev pub proceed_answer : Option ℕ → Bool → Proceed
+proceed_answer (Some link) ended = proceed.NotYet link
+proceed_answer None ended = if ended then proceed.AllDone else proceed.GoOn
+
+abbrev pub exchange_answer : Option ℕ → Poll
+exchange_answer (Some link) = poll.NotYet link
+exchange_answer None = poll.Ready
+
+-- The stage after an answer.
+abbrev pub stage_of_proceed : Proceed → Stage
+stage_of_proceed proceed.GoOn = Filling
+stage_of_proceed proceed.AllDone = AllDone
+stage_of_proceed (proceed.NotYet link) = Proceeding
+
+abbrev pub stage_of_exchange : Poll → Stage
+stage_of_exchange poll.Ready = Full
+stage_of_exchange (poll.NotYet link) = Exchanging

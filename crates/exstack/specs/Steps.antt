@@ -1,0 +1,40 @@
+-- What a round does on one link, seen through a port.
+use Rattle.std.specs.Prelude.{◌≡◌, ℕ, ◌-◌, Bool, true, false, not, ◌&&◌, cond, List, [], ◌∷◌, ◌++◌, length, slice_index_or}
+use Rattle.bale_types.specs.Stream.{Rose}
+use Rattle.item_buffer.specs.Contents.{Shipped}
+use Rattle.port_bank.specs.Logs.{Logs}
+use Rattle.exstack.specs.Links.{Out, In, parcel_of, gone, came}
+
+-- What a port shows of a link out: its log, how often the port looked for room, and whether it is crowded. Of a link
+-- in: its log, what was noted of it, and whether it is idle.
+pub record Sight : Type 0 where
+  pub log : List Shipped
+  pub count : ℕ
+  pub stuck : Bool
+
+abbrev pub sight : Logs → (ℕ → ℕ) → (ℕ → Bool) → ℕ → Sight
+sight logs counts stuck l = record { log = logs l; count = counts l; stuck = stuck l }
+
+-- A parcel was due, and isn't any more.
+abbrev pub was_moved : Bool → Bool → Bool
+was_moved old new = old && not new
+
+-- The latest parcel of a log.
+abbrev pub latest : List Shipped → Shipped
+latest log = slice_index_or log (length log - 1) (record { entries = []; last = false; epoch = 0 })
+
+-- A link out in a round: where its parcel was posted it stands at the end of the log, and nothing else changes.
+pub record WasPosted (last : Bool) (epoch : ℕ) (old new : Out) (log log' : List Shipped) : Type 0 where
+  pub link : new ≡ cond (was_moved old.due new.due) (gone last) old
+  pub sent : log' ≡ cond (was_moved old.due new.due) (log ++ parcel_of last epoch old ∷ []) log
+
+-- A link in in a round: where a parcel was collected it stands at the end of the log, and nothing else changes.
+pub record WasCollected (exchange : Bool) (old new : In) (log log' : List Shipped) : Type 0 where
+  pub link : new ≡ cond (was_moved old.due new.due) (came exchange (latest log')) old
+  pub got : log' ≡ cond (was_moved old.due new.due) (log ++ latest log' ∷ []) log
+
+-- A link whose parcel is still due was asked in vain: the port looked for room, or listened, in this call, and the link
+-- is crowded, or idle.
+pub record InVain (count count' : ℕ) (stuck : Bool) : Type 0 where
+  pub rose : Rose count count'
+  pub in_vain : stuck ≡ true

@@ -1,0 +1,170 @@
+//! One link into a rank: the parcel that came over it and is being read.
+ghost use Rattle.std.specs.Prelude.{◌≡◌, ◌≢◌, ℕ, ◌<◌, ◌≤◌, ◌==◌, true, [], length, slice_get, drop, Option, None, IsSome, IfOk};
+ghost use Rattle.list_laws.specs.Lists.{Begins};
+ghost use Rattle.route_tensor.specs.Link.{links};
+ghost use Rattle.route_tensor.specs.Ends.{sender_at, reader_at};
+ghost use Rattle.port_bank.specs.Logs.{lasts};
+ghost use Rattle.exstack.specs.Links.{no_in, with_first_read, with_back, read_on, begun_in, resumed, has_unread};
+ghost use Rattle.exstack.specs.Steps.{sight, WasCollected, InVain};
+
+use bale_types::{Entry, NoMemory};
+use item_buffer::Parcel;
+use port_bank::{Collected, Port};
+use std::alloc::Global;
+use std::marker::Model;
+
+/// A link in. Contracts see what is unread of the parcel that came last.
+#[derive(Drop)]
+pub struct InLink<const CAP: usize> {
+    parcel: Parcel<CAP>,
+    /// Whether the last parcel of this epoch was collected.
+    ended: bool,
+    /// Whether the parcel of this round is still to be collected; then the one at hand is empty.
+    due: bool,
+}
+
+impl<const CAP: usize> Model for InLink<CAP> {
+    ghost use Rattle.std.specs.Prelude.{◌≡◌, true};
+    ghost use Rattle.item_buffer.specs.Contents.{blank};
+    ghost use Rattle.exstack.specs.Links.{In};
+
+    ghost Value = { In };
+
+    ghost view = { λ i. record { unread = i.parcel.untaken; back = i.parcel.back; ended = i.ended; due = i.due } };
+
+    ghost invariant = { λ i. i.due ≡ true → i.parcel ≡ blank i.parcel.epoch };
+}
+
+impl<const CAP: usize> InLink<CAP> {
+    /// A link on which nothing came.
+    pub fn new(alloc: Global) -> Result<Self, NoMemory>
+        requires some { 0 < CAP }
+        requires small { CAP ≤ 1024 }
+        ensures { IfOk result (λ i. i ≡ no_in) }
+    {
+        Ok(InLink {
+            parcel: Parcel::new(alloc)?,
+            ended: false,
+            due: false,
+        })
+    }
+
+    /// Reads the first unread entry.
+    #[inline]
+    pub fn take(&mut self) -> Option<Entry>
+        ensures value { result ≡ slice_get self.old.unread 0 }
+        ensures taken { IsSome result → self.new ≡ with_first_read self.old }
+        ensures none { result ≡ None → self.new ≡ self.old }
+    {
+        self.parcel.take()
+    }
+
+    /// The unread entries, in order.
+    #[inline]
+    pub fn unread(&self) -> &[Entry]
+        ensures { result.now ≡ self.now.unread }
+    {
+        self.parcel.untaken()
+    }
+
+    /// How many entries are unread.
+    #[inline]
+    pub fn len(&self) -> u32
+        ensures value { result ≡ length self.now.unread }
+        ensures fits { length self.now.unread ≤ 1024 }
+    {
+        let _small = self.parcel.cap();
+        self.parcel.len()
+    }
+
+    /// Whether an entry is unread.
+    #[inline]
+    pub fn has_unread(&self) -> bool
+        ensures { result ≡ has_unread self.now }
+    {
+        self.parcel.len() != 0
+    }
+
+    /// Reads all unread entries.
+    #[inline]
+    pub fn read_all(&mut self)
+        ensures { self.new ≡ read_on (length self.old.unread) self.old }
+    {
+        let count = self.parcel.untaken().len();
+        self.parcel.skip(count);
+    }
+
+    /// Makes the entry that was read last unread again.
+    pub fn put_back(&mut self)
+        requires back { IsSome self.old.back }
+        ensures { self.new ≡ with_back self.old.back self.old }
+    {
+        self.parcel.untake();
+    }
+
+    /// Whether the last parcel of this epoch was collected.
+    #[inline]
+    pub fn has_ended(&self) -> bool
+        ensures { result ≡ self.now.ended }
+    {
+        self.ended
+    }
+
+    /// Whether the parcel of this round is still to be collected.
+    #[inline]
+    pub fn is_due(&self) -> bool
+        ensures { result ≡ self.now.due }
+    {
+        self.due
+    }
+
+    /// A round begins.
+    pub fn begin(&mut self)
+        ensures { self.new ≡ begun_in self.old }
+    {
+        self.parcel.clear();
+        self.due = !self.ended;
+    }
+
+    /// A new epoch begins.
+    pub fn resume(&mut self)
+        ensures { self.new ≡ resumed self.old }
+    {
+        self.ended = false;
+    }
+
+    /// Collects the parcel of this round where it is due. The entries of a proceed parcel are dropped: only a peer that
+    /// is no exstack sends any.
+    pub fn collect<P: Port<CAP>>(&mut self, port: &mut P, link: u32, epoch: u64, exchange: bool)
+        requires link { link < links (P.dims port.old) }
+        requires ends_here { reader_at (P.dims port.old) link ≡ P.rank port.old }
+        requires epoch { self.old.due ≡ true → lasts (P.got port.old link) ≡ epoch }
+        ensures moved { WasCollected exchange self.old self.new (P.got port.old link) (P.got port.new link) }
+        ensures in_vain { self.new.due ≡ true → InVain (P.noted port.old link) (P.noted port.new link) (P.idle port.new link) }
+        ensures elsewhere { (m : ℕ) → m ≢ link → sight (P.got port.new) (P.noted port.new) (P.idle port.new) m ≡ sight (P.got port.old) (P.noted port.old) (P.idle port.old) m }
+        ensures own { sender_at (P.dims port.old) link ≡ P.rank port.old → Begins (P.got port.old link) (P.sent port.old link) → Begins (P.got port.new link) (P.sent port.new link) }
+        ensures grows { (m : ℕ) → Begins (P.got port.old m) (P.got port.new m) }
+        ensures crowded { (m : ℕ) → P.got port.new m ≡ P.got port.old m → P.crowded port.new m ≡ P.crowded port.old m }
+        ensures sent { P.sent port.new ≡ P.sent port.old }
+        ensures looks_out { P.looks_out port.new ≡ P.looks_out port.old }
+        ensures rest { P.rest port.new ≡ P.rest port.old }
+        ensures same_rank { P.rank port.new ≡ P.rank port.old }
+        ensures same_dims { P.dims port.new ≡ P.dims port.old }
+        ensures same_slots { P.slots port.new ≡ P.slots port.old }
+    {
+        if !self.due {
+            return;
+        }
+        self.parcel.set_epoch(epoch);
+        match port.collect(link, &mut self.parcel) {
+            Collected::Got => {
+                self.ended = self.parcel.last();
+                self.due = false;
+                if !exchange {
+                    self.parcel.clear();
+                }
+            }
+            Collected::Nothing => {}
+        }
+    }
+}

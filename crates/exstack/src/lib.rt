@@ -1,0 +1,9 @@
+//! The exstack: one rank's side of a many-to-many exchange in collective rounds.
+#![tactic(auto)]
+
+mod in_link;
+mod out_link;
+mod rounds;
+mod stage;
+
+pub use stage::{Poll, Proceed, Stage};

@@ -1,0 +1,144 @@
+//! One link out of a rank: the parcel that is filled for it, and posted once a round.
+ghost use Rattle.std.specs.Prelude.{◌≡◌, ◌≢◌, ℕ, ◌-◌, ◌<◌, ◌≤◌, true, false, length, IfOk, IsOk};
+ghost use Rattle.list_laws.specs.Lists.{Begins};
+ghost use Rattle.route_tensor.specs.Grid.{IsGrid};
+ghost use Rattle.route_tensor.specs.Link.{links};
+ghost use Rattle.route_tensor.specs.Ends.{sender_at};
+ghost use Rattle.port_bank.specs.Logs.{lasts};
+ghost use Rattle.port_bank.specs.Relay.{RelayLaw};
+ghost use Rattle.exstack.specs.Links.{no_out, no_tag, with_entry, headroom_of, begun_out, reopened};
+ghost use Rattle.exstack.specs.Steps.{sight, WasPosted, InVain};
+
+use bale_types::{Entry, NoMemory};
+use item_buffer::Parcel;
+use port_bank::{Port, Posted};
+use std::alloc::Global;
+use std::marker::Model;
+
+/// A link out. Contracts see the entries that wait on it; none of them has a tag.
+#[derive(Drop)]
+pub struct OutLink<const CAP: usize> {
+    /// What is pushed next stands at its end. Its marks are set just before it is posted.
+    parcel: Parcel<CAP>,
+    /// Whether the last parcel of this epoch was posted.
+    closed: bool,
+    /// Whether the parcel of this round is still to be posted.
+    due: bool,
+}
+
+impl<const CAP: usize> Model for OutLink<CAP> {
+    ghost use Rattle.std.specs.Prelude.{◌≡◌};
+    ghost use Rattle.std.specs.List.{All};
+    ghost use Rattle.exstack.specs.Links.{Out, no_tag};
+
+    ghost Value = { Out };
+
+    ghost view = { λ o. record { waiting = o.parcel.untaken; closed = o.closed; due = o.due } };
+
+    ghost invariant = { λ o. (o.parcel.taken ≡ 0) × All (λ e. e.tag ≡ no_tag) o.parcel.untaken };
+}
+
+impl<const CAP: usize> OutLink<CAP> {
+    /// A link on which nothing waits.
+    pub fn new(alloc: Global) -> Result<Self, NoMemory>
+        requires some { 0 < CAP }
+        requires small { CAP ≤ 1024 }
+        ensures { IfOk result (λ o. o ≡ no_out) }
+    {
+        Ok(OutLink {
+            parcel: Parcel::new(alloc)?,
+            closed: false,
+            due: false,
+        })
+    }
+
+    /// Appends `entry` where there is room. Answers how many entries could be appended before it.
+    #[inline]
+    pub fn push(&mut self, entry: Entry) -> u64
+        requires { entry.tag ≡ no_tag }
+        ensures headroom { result ≡ headroom_of CAP self.old }
+        ensures pushed { 0 < result → self.new ≡ with_entry self.old entry }
+        ensures full { result ≡ 0 → self.new ≡ self.old }
+        ensures fits { length self.new.waiting ≤ CAP }
+    {
+        let room = self.parcel.cap() - self.parcel.len();
+        let _pushed = self.parcel.try_push(entry);
+        u64::from(room)
+    }
+
+    /// How many entries can be appended.
+    #[inline]
+    pub fn headroom(&self) -> u64
+        ensures { result ≡ headroom_of CAP self.now }
+    {
+        u64::from(self.parcel.cap() - self.parcel.len())
+    }
+
+    /// Whether the parcel of this round is still to be posted.
+    #[inline]
+    pub fn is_due(&self) -> bool
+        ensures { result ≡ self.now.due }
+    {
+        self.due
+    }
+
+    /// A round begins.
+    pub fn begin(&mut self)
+        ensures { self.new ≡ begun_out self.old }
+    {
+        self.due = !self.closed;
+    }
+
+    /// A new epoch begins.
+    pub fn reopen(&mut self)
+        ensures { self.new ≡ reopened self.old }
+    {
+        self.closed = false;
+    }
+
+    /// Posts the parcel of this round where it is due.
+    ///
+    /// # Errors
+    /// `NoMemory` changes nothing.
+    pub fn post<P: Port<CAP>>(
+        &mut self,
+        port: &mut P,
+        link: u32,
+        epoch: u64,
+        last: bool,
+    ) -> Result<(), NoMemory>
+        requires grid { IsGrid (P.dims port.old) }
+        requires one_hop { length (P.dims port.old) ≡ 1 }
+        requires link { link < links (P.dims port.old) }
+        requires starts_here { sender_at (P.dims port.old) link ≡ P.rank port.old }
+        requires epoch { self.old.due ≡ true → lasts (P.sent port.old link) ≡ epoch }
+        requires law { RelayLaw (P.dims port.old) (P.rank port.old) (P.sent port.old) (P.got port.old) }
+        ensures moved { WasPosted last epoch self.old self.new (P.sent port.old link) (P.sent port.new link) }
+        ensures in_vain { IsOk result → self.new.due ≡ true → InVain (P.looks_out port.old link) (P.looks_out port.new link) (P.crowded port.new link) }
+        ensures elsewhere { (m : ℕ) → m ≢ link → sight (P.sent port.new) (P.looks_out port.new) (P.crowded port.new) m ≡ sight (P.sent port.old) (P.looks_out port.old) (P.crowded port.old) m }
+        ensures law { RelayLaw (P.dims port.old) (P.rank port.old) (P.sent port.new) (P.got port.old) }
+        ensures grows { (m : ℕ) → Begins (P.sent port.old m) (P.sent port.new m) }
+        ensures memory { P.Memory.GROWS ≡ false → IsOk result }
+        ensures got { P.got port.new ≡ P.got port.old }
+        ensures noted { P.noted port.new ≡ P.noted port.old }
+        ensures rest { P.rest port.new ≡ P.rest port.old }
+        ensures same_rank { P.rank port.new ≡ P.rank port.old }
+        ensures same_dims { P.dims port.new ≡ P.dims port.old }
+        ensures same_slots { P.slots port.new ≡ P.slots port.old }
+    {
+        if !self.due {
+            return Ok(());
+        }
+        self.parcel.set_epoch(epoch);
+        self.parcel.set_last(last);
+        match port.post(link, &mut self.parcel) {
+            Ok(Posted::Sent) => {
+                self.closed = last;
+                self.due = false;
+                Ok(())
+            }
+            Ok(Posted::NoRoom) => Ok(()),
+            Err(fault) => Err(fault),
+        }
+    }
+}

@@ -1,0 +1,202 @@
+//! A round over all links of a rank: what begins it, what is posted and collected in it, and what it still waits for.
+ghost use Rattle.std.specs.Prelude.{◌≡◌, ◌≢◌, ℕ, ◌+◌, ◌*◌, ◌^◌, ◌<◌, ◌≤◌, true, false, map, replicate, length, slice_index_or, [], ◌∷◌, IfOk, IfSome, IsOk};
+ghost use Rattle.std.specs.List.{list_all, position};
+ghost use Rattle.list_laws.specs.Lists.{Begins};
+ghost use Rattle.route_tensor.specs.Grid.{IsGrid};
+ghost use Rattle.port_bank.specs.Logs.{lasts};
+ghost use Rattle.port_bank.specs.Relay.{RelayLaw};
+ghost use Rattle.exstack.specs.Links.{no_out, no_in, begun_out, begun_in, reopened, resumed};
+ghost use Rattle.exstack.specs.State.{number, missing_out};
+ghost use Rattle.exstack.specs.Steps.{sight, WasPosted, WasCollected, InVain};
+
+use crate::in_link::InLink;
+use crate::out_link::OutLink;
+use bale_types::NoMemory;
+use port_bank::Port;
+use std::alloc::Global;
+
+/// So many links out, on which nothing waits.
+pub fn links_out<const CAP: usize>(alloc: Global, count: u32) -> Result<Vec<OutLink<CAP>>, NoMemory>
+    requires some { 0 < CAP }
+    requires small { CAP ≤ 1024 }
+    ensures { IfOk result (λ links. links.items ≡ replicate count no_out) }
+{
+    let mut links = Vec::with_capacity(alloc, count as usize)?;
+    for i in 0..count {
+        let _made = i;
+        links.push(OutLink::new(alloc)?)?;
+    }
+    Ok(links)
+}
+
+/// So many links in, on which nothing came.
+pub fn links_in<const CAP: usize>(alloc: Global, count: u32) -> Result<Vec<InLink<CAP>>, NoMemory>
+    requires some { 0 < CAP }
+    requires small { CAP ≤ 1024 }
+    ensures { IfOk result (λ links. links.items ≡ replicate count no_in) }
+{
+    let mut links = Vec::with_capacity(alloc, count as usize)?;
+    for i in 0..count {
+        let _made = i;
+        links.push(InLink::new(alloc)?)?;
+    }
+    Ok(links)
+}
+
+/// A round begins on every link.
+pub fn begin_all<const CAP: usize>(outs: &mut Vec<OutLink<CAP>>, ins: &mut Vec<InLink<CAP>>)
+    ensures outs { outs.new.items ≡ map begun_out outs.old.items }
+    ensures ins { ins.new.items ≡ map begun_in ins.old.items }
+{
+    begin_outs(outs);
+    begin_ins(ins);
+}
+
+fn begin_outs<const CAP: usize>(links: &mut Vec<OutLink<CAP>>)
+    ensures { links.new.items ≡ map begun_out links.old.items }
+{
+    for i in 0..links.len() {
+        links[i].begin();
+    }
+}
+
+fn begin_ins<const CAP: usize>(links: &mut Vec<InLink<CAP>>)
+    ensures { links.new.items ≡ map begun_in links.old.items }
+{
+    for i in 0..links.len() {
+        links[i].begin();
+    }
+}
+
+/// A new epoch begins on every link out.
+pub fn reopen_all<const CAP: usize>(links: &mut Vec<OutLink<CAP>>)
+    ensures { links.new.items ≡ map reopened links.old.items }
+{
+    for i in 0..links.len() {
+        links[i].reopen();
+    }
+}
+
+/// A new epoch begins on every link in.
+pub fn resume_all<const CAP: usize>(links: &mut Vec<InLink<CAP>>)
+    ensures { links.new.items ≡ map resumed links.old.items }
+{
+    for i in 0..links.len() {
+        links[i].resume();
+    }
+}
+
+/// Posts once on each link out on which a parcel is due, in ascending order.
+///
+/// # Errors
+/// `NoMemory` comes only from the port's post. What was posted before it stands.
+pub fn post_all<const CAP: usize, P: Port<CAP>>(
+    outs: &mut Vec<OutLink<CAP>>,
+    port: &mut P,
+    rank: u32,
+    epoch: u64,
+    last: bool,
+) -> Result<(), NoMemory>
+    requires dims { P.dims port.old ≡ length outs.old.items ∷ [] }
+    requires rank { P.rank port.old ≡ rank }
+    requires within { rank < length outs.old.items }
+    requires few { length outs.old.items ≤ 64 }
+    requires epoch { (b : ℕ) → b < length outs.old.items → (slice_index_or outs.old.items b no_out).due ≡ true → lasts (P.sent port.old (number (length outs.old.items) rank b)) ≡ epoch }
+    requires law { RelayLaw (P.dims port.old) (P.rank port.old) (P.sent port.old) (P.got port.old) }
+    ensures count { length outs.new.items ≡ length outs.old.items }
+    ensures moved { (b : ℕ) → b < length outs.old.items → WasPosted last epoch (slice_index_or outs.old.items b no_out) (slice_index_or outs.new.items b no_out)
+        (P.sent port.old (number (length outs.old.items) rank b)) (P.sent port.new (number (length outs.old.items) rank b)) }
+    ensures in_vain { IsOk result → (b : ℕ) → b < length outs.old.items → (slice_index_or outs.new.items b no_out).due ≡ true
+        → InVain (P.looks_out port.old (number (length outs.old.items) rank b)) (P.looks_out port.new (number (length outs.old.items) rank b)) (P.crowded port.new (number (length outs.old.items) rank b)) }
+    ensures law { RelayLaw (P.dims port.old) (P.rank port.old) (P.sent port.new) (P.got port.old) }
+    ensures grows { (m : ℕ) → Begins (P.sent port.old m) (P.sent port.new m) }
+    ensures memory { P.Memory.GROWS ≡ false → IsOk result }
+    ensures got { P.got port.new ≡ P.got port.old }
+    ensures noted { P.noted port.new ≡ P.noted port.old }
+    ensures rest { P.rest port.new ≡ P.rest port.old }
+    ensures same_rank { P.rank port.new ≡ P.rank port.old }
+    ensures same_dims { P.dims port.new ≡ P.dims port.old }
+    ensures same_slots { P.slots port.new ≡ P.slots port.old }
+{
+    let first = rank * outs.len() as u32;
+    for b in 0..outs.len() {
+        outs[b].post(port, first + b as u32, epoch, last)?;
+    }
+    Ok(())
+}
+
+/// Collects once from each link in on which a parcel is due, in ascending order.
+pub fn collect_all<const CAP: usize, P: Port<CAP>>(
+    ins: &mut Vec<InLink<CAP>>,
+    port: &mut P,
+    rank: u32,
+    epoch: u64,
+    exchange: bool,
+)
+    requires dims { P.dims port.old ≡ length ins.old.items ∷ [] }
+    requires rank { P.rank port.old ≡ rank }
+    requires within { rank < length ins.old.items }
+    requires few { length ins.old.items ≤ 64 }
+    requires epoch { (a : ℕ) → a < length ins.old.items → (slice_index_or ins.old.items a no_in).due ≡ true → lasts (P.got port.old (number (length ins.old.items) a rank)) ≡ epoch }
+    ensures count { length ins.new.items ≡ length ins.old.items }
+    ensures moved { (a : ℕ) → a < length ins.old.items → WasCollected exchange (slice_index_or ins.old.items a no_in) (slice_index_or ins.new.items a no_in)
+        (P.got port.old (number (length ins.old.items) a rank)) (P.got port.new (number (length ins.old.items) a rank)) }
+    ensures in_vain { (a : ℕ) → a < length ins.old.items → (slice_index_or ins.new.items a no_in).due ≡ true
+        → InVain (P.noted port.old (number (length ins.old.items) a rank)) (P.noted port.new (number (length ins.old.items) a rank)) (P.idle port.new (number (length ins.old.items) a rank)) }
+    ensures own { Begins (P.got port.old (number (length ins.old.items) rank rank)) (P.sent port.old (number (length ins.old.items) rank rank))
+        → Begins (P.got port.new (number (length ins.old.items) rank rank)) (P.sent port.new (number (length ins.old.items) rank rank)) }
+    ensures grows { (m : ℕ) → Begins (P.got port.old m) (P.got port.new m) }
+    ensures crowded { (m : ℕ) → P.got port.new m ≡ P.got port.old m → P.crowded port.new m ≡ P.crowded port.old m }
+    ensures sent { P.sent port.new ≡ P.sent port.old }
+    ensures looks_out { P.looks_out port.new ≡ P.looks_out port.old }
+    ensures rest { P.rest port.new ≡ P.rest port.old }
+    ensures same_rank { P.rank port.new ≡ P.rank port.old }
+    ensures same_dims { P.dims port.new ≡ P.dims port.old }
+    ensures same_slots { P.slots port.new ≡ P.slots port.old }
+{
+    let ranks = ins.len() as u32;
+    for a in 0..ins.len() {
+        ins[a].collect(port, a as u32 * ranks + rank, epoch, exchange);
+    }
+}
+
+/// The link for which a round still waits: the lowest link out on which a parcel is due, or else the lowest such link
+/// in.
+pub fn missing<const CAP: usize>(outs: &[OutLink<CAP>], ins: &[InLink<CAP>], rank: u32) -> Option<u32>
+    requires within { rank < length outs.now }
+    requires count { length ins.now ≡ length outs.now }
+    requires few { length outs.now ≤ 64 }
+    ensures { result ≡ missing_out (length outs.now) rank (position (λ o. o.due) outs.now) ins.now }
+{
+    let ranks = outs.len() as u32;
+    match lowest_due_out(outs) {
+        Some(b) => Some(rank * ranks + b as u32),
+        None => match lowest_due_in(ins) {
+            Some(a) => Some(a as u32 * ranks + rank),
+            None => None,
+        },
+    }
+}
+
+fn lowest_due_out<const CAP: usize>(outs: &[OutLink<CAP>]) -> Option<usize>
+    ensures value { result ≡ position (λ o. o.due) outs.now }
+    ensures within { IfSome result (λ b. b < length outs.now) }
+{
+    outs.iter()
+        .position(|link| -> bool ensures { result ≡ link.now.due } { link.is_due() })
+}
+
+fn lowest_due_in<const CAP: usize>(ins: &[InLink<CAP>]) -> Option<usize>
+    ensures value { result ≡ position (λ i. i.due) ins.now }
+    ensures within { IfSome result (λ a. a < length ins.now) }
+{
+    ins.iter()
+        .position(|link| -> bool ensures { result ≡ link.now.due } { link.is_due() })
+}
+
+/// Whether every link in has ended.
+pub fn all_ended<const CAP: usize>(ins: &[InLink<CAP>]) -> bool
+    ensures { result ≡ list_all (λ i. i.ended) ins.now }
+{
+    ins.iter().all(|link| -> bool ensures { result ≡ link.now.ended } { link.has_ended() })
+}

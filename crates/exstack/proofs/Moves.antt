@@ -23,6 +23,10 @@ Collected exchange i i' s s' = WasCollected exchange i i' s.log s'.log
 abbrev pub Asked : In → In → Sight → Sight → Type 0
 Asked i i' s s' = i'.due ≡ true → InVain s.count s'.count s'.stuck
 
+-- the number of the link into r from a
+abbrev pub in_number : ℕ → ℕ → ℕ → ℕ
+in_number n r a = number n a r
+
 -- where nothing was done
 unmoved : (b : Bool) → was_moved b b ≡ false
 unmoved true = refl

@@ -43,3 +43,8 @@ sweep_each Step d link i xs ys before after none s k w = elim (cases_lt k i) [
       subst (λ z. Step (get_or xs k d) z (before (link k)) (after (link k))) (sym (s.rest k h))
       (subst (λ z. Step (get_or xs k d) (get_or xs k d) (before (link k)) z) (sym (s.shown k h w)) (none (get_or xs k d) (before (link k))))
 ]
+
+-- link i before its step
+pub sweep_here : {X Y : Type 0} (Step : X → X → Y → Y → Type 0) (d : X) (link : ℕ → ℕ) (i : ℕ) (xs ys : List X) (before mid : ℕ → Y) (x : X) → i < length xs
+    → Sweep Step d link i xs ys before mid → x ≡ get_or ys i x → x ≡ get_or xs i d
+sweep_here Step d link i xs ys before mid x w s here = here ∙ (get_or_default ys i x d (omega (arith, s.count)) ∙ s.rest i (omega arith))

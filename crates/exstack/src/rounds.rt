@@ -118,9 +118,9 @@ pub fn post_all<const CAP: usize, P: Port<CAP>>(
     ensures same_dims { P.dims port.new ≡ P.dims port.old }
     ensures same_slots { P.slots port.new ≡ P.slots port.old }
 {
-    let first = rank * outs.len() as u32;
+    let ranks = outs.len() as u32;
     for b in 0..outs.len() {
-        outs[b].post(port, first + b as u32, epoch, last)?;
+        outs[b].post(port, rank * ranks + b as u32, epoch, last)?;
     }
     Ok(())
 }

@@ -4,14 +4,14 @@ use Rattle.exstack.specs.Links.{no_in}
 use Rattle.exstack.specs.State.{number}
 use Rattle.exstack.specs.Steps.{sight}
 use Rattle.exstack.proofs.Sweeps.{Sweep}
-use Rattle.exstack.proofs.Moves.{Collected, Asked}
+use Rattle.exstack.proofs.Moves.{Collected, Asked, in_number}
 use Rattle.exstack.proofs.rounds.collect_all.Given as goal
 
 abbrev pub invariant-loop-a : goal.invariant-loop-a
 invariant-loop-a g l = record {
-  collected : Sweep (Collected l.exchange) no_in (λ k. number (length l.fn.ins.items) k l.rank) l.a l.fn.ins.items l.ins.items
+  collected : Sweep (Collected l.exchange) no_in (in_number (length l.fn.ins.items) l.rank) l.a l.fn.ins.items l.ins.items
       (sight (g.P.Port.got l.fn.port) (g.P.Port.noted l.fn.port) (g.P.Port.idle l.fn.port)) (sight (g.P.Port.got l.port) (g.P.Port.noted l.port) (g.P.Port.idle l.port));
-  asked : Sweep Asked no_in (λ k. number (length l.fn.ins.items) k l.rank) l.a l.fn.ins.items l.ins.items
+  asked : Sweep Asked no_in (in_number (length l.fn.ins.items) l.rank) l.a l.fn.ins.items l.ins.items
       (sight (g.P.Port.got l.fn.port) (g.P.Port.noted l.fn.port) (g.P.Port.idle l.fn.port)) (sight (g.P.Port.got l.port) (g.P.Port.noted l.port) (g.P.Port.idle l.port));
   own : Begins (g.P.Port.got l.fn.port (number (length l.fn.ins.items) l.rank l.rank)) (g.P.Port.sent l.fn.port (number (length l.fn.ins.items) l.rank l.rank))
       → Begins (g.P.Port.got l.port (number (length l.fn.ins.items) l.rank l.rank)) (g.P.Port.sent l.port (number (length l.fn.ins.items) l.rank l.rank));

@@ -1,19 +1,114 @@
-use Rattle.std.proofs.Common.{◌≡◌, ◌<◌, ℕ, length, rules, arith, ap, sym, subst, refl, ◌∙◌}
+use Rattle.std.proofs.Common.{◌≡◌, ◌≢◌, ◌<◌, ◌+◌, ◌*◌, ℕ, Bool, List, [], ◌∷◌, length, get_or, set, true, rules, arith, ap, sym, subst, refl, ◌∙◌}
+use Rattle.item_buffer.specs.Contents.{Shipped}
 use Rattle.list_laws.specs.Lists.{Begins}
+use Rattle.route_tensor.specs.Grid.{IsGrid}
+use Rattle.route_tensor.specs.Link.{links}
+use Rattle.route_tensor.specs.Ends.{sender_at}
+use Rattle.port_bank.specs.Logs.{lasts}
 use Rattle.port_bank.proofs.Fronts.{begins_refl, begins_trans}
-use Rattle.exstack.specs.Links.{no_out}
+use Rattle.port_bank.proofs.Kept.{law_same}
+use Rattle.exstack.specs.Links.{Out, no_out}
 use Rattle.exstack.specs.State.{number}
-use Rattle.exstack.specs.Steps.{sight}
+use Rattle.exstack.specs.Steps.{Sight, sight, WasPosted, InVain}
 use Rattle.exstack.proofs.OneHop.{grid_one, number_within, number_sender}
-use Rattle.exstack.proofs.Sweeps.{sweep_start, sweep_more, sweep_each}
+use Rattle.exstack.proofs.Sweeps.{Sweep, sweep_start, sweep_more, sweep_each, sweep_here}
 use Rattle.exstack.proofs.Moves.{Posted, Served, none_posted, out_apart}
 use Rattle.exstack.proofs.rounds.post_all.Goals as goal
 
 pub loop-b-init : goal.loop-b-init
-loop-b-init g c = ?
+loop-b-init g c = record {
+  posted = sweep_start _ _ _ _ _;
+  served = sweep_start _ _ _ _ _;
+  law = c.requires.law;
+  grows = λ m. begins_refl (g.P.Port.sent c.args.port.now m);
+  got = refl;
+  noted = refl;
+  rest = refl;
+  same_rank = refl;
+  same_dims = refl;
+  same_slots = refl;
+}
 
 pub post-requires : goal.post-requires
-post-requires g c = ?
+post-requires g c =
+    let k = c.loop-b.invariant in
+    let xs : List Out = c.args.outs.now.items in
+    let n : ℕ = length xs in
+    let r : ℕ = c.args.rank in
+    let b : ℕ = c.loop-b.b in
+    let len : c.len-ranks.result ≡ n = omega (arith, c.len-ranks.ensures, c.args.outs.now.ok) in
+    let within : b < n = omega (arith, c.loop-b-test.true, c.len-b-end.ensures, c.args.outs.now.ok) in
+    let some : 0 < n = omega arith in
+    let l : ℕ = r * c.len-ranks.result + b in
+    let here : number n r b ≡ l = ap (λ m. r * m + b) (sym len) in
+    let dims : g.P.Port.dims c.loop-b.port ≡ n ∷ [] = k.same_dims ∙ c.requires.dims in
+    let now : c.index_mut.result.now ≡ get_or xs b no_out = sweep_here _ _ _ _ _ _ _ _ _ within k.posted c.index_mut.ensures.value in
+    let log : g.P.Port.sent c.loop-b.port (number n r b) ≡ g.P.Port.sent c.args.port.now (number n r b) = ap (λ (s : Sight). s.log) (k.posted.shown b (omega arith) within) in
+    let due : c.index_mut.result.now.due ≡ true → lasts (g.P.Port.sent c.loop-b.port l) ≡ c.args.epoch = λ d.
+    ap (λ m. lasts (g.P.Port.sent c.loop-b.port m)) (sym here) ∙ (ap lasts log ∙ c.requires.epoch b within (ap (λ (o : Out). o.due) (sym now) ∙ d)) in
+    (search rules, (subst IsGrid (sym dims) (grid_one n some c.requires.few), (ap length dims,
+    (subst (λ ds. l < links ds) (sym dims) (subst (λ x. x < links (n ∷ [])) here (number_within n r b c.requires.within within c.requires.few)),
+    (ap (λ ds. sender_at ds l) dims ∙ (ap (sender_at (n ∷ [])) (sym here) ∙ (number_sender n r b c.requires.within within c.requires.few ∙ (sym c.requires.rank ∙ sym k.same_rank))),
+    (due, law_same _ _ _ _ _ _ _ _ k.same_dims k.same_rank refl k.got k.law))))))
 
 pub loop-b-preserved : goal.loop-b-preserved
-loop-b-preserved g c = ?
+loop-b-preserved g c =
+    let k = c.loop-b.invariant in
+    let e = c.post.ensures in
+    let xs : List Out = c.args.outs.now.items in
+    let n : ℕ = length xs in
+    let r : ℕ = c.args.rank in
+    let b : ℕ = c.loop-b.b in
+    let len : c.len-ranks.result ≡ n = omega (arith, c.len-ranks.ensures, c.args.outs.now.ok) in
+    let within : b < n = omega (arith, c.loop-b-test.true, c.len-b-end.ensures, c.args.outs.now.ok) in
+    let l : ℕ = r * c.len-ranks.result + b in
+    let here : number n r b ≡ l = ap (λ m. r * m + b) (sym len) in
+    let before : ℕ → Sight = sight (g.P.Port.sent c.args.port.now) (g.P.Port.looks_out c.args.port.now) (g.P.Port.crowded c.args.port.now) in
+    let mid : ℕ → Sight = sight (g.P.Port.sent c.loop-b.port) (g.P.Port.looks_out c.loop-b.port) (g.P.Port.crowded c.loop-b.port) in
+    let after : ℕ → Sight = sight (g.P.Port.sent c.post.new.port) (g.P.Port.looks_out c.post.new.port) (g.P.Port.crowded c.post.new.port) in
+    let x : Out = c.index_mut.result.now in
+    let y : Out = c.post.new.self in
+    let others : (m : ℕ) → m < n → m ≢ b → after (number n r m) ≡ mid (number n r m) = λ m w ne. e.elsewhere (number n r m) (λ q. out_apart n r b m ne (q ∙ sym here)) in
+    let moved : Posted c.args.last c.args.epoch x y (mid (number n r b)) (after (number n r b)) = subst (λ m. Posted c.args.last c.args.epoch x y (mid m) (after m)) (sym here) e.moved in
+    let vain : Served x y (mid (number n r b)) (after (number n r b)) = subst (λ m. Served x y (mid m) (after m)) (sym here) (e.in_vain (search rules)) in
+    record {
+      posted = sweep_more (Posted c.args.last c.args.epoch) no_out (number n r) b xs c.loop-b.outs.items before mid after x y within k.posted c.index_mut.ensures.value moved others;
+      served = sweep_more Served no_out (number n r) b xs c.loop-b.outs.items before mid after x y within k.served c.index_mut.ensures.value vain others;
+      law = law_same _ _ _ _ _ _ _ _ (sym k.same_dims) (sym k.same_rank) refl (sym k.got) e.law;
+      grows = λ m. begins_trans _ _ _ (k.grows m) (e.grows m);
+      got = e.got ∙ k.got;
+      noted = e.noted ∙ k.noted;
+      rest = e.rest ∙ k.rest;
+      same_rank = e.same_rank ∙ k.same_rank;
+      same_dims = e.same_dims ∙ k.same_dims;
+      same_slots = e.same_slots ∙ k.same_slots;
+    }
+
+pub returns-in_err-post-clause-moved : goal.returns-in_err-post-clause-moved
+returns-in_err-post-clause-moved g c =
+    let k = c.loop-b.invariant in
+    let e = c.post.ensures in
+    let xs : List Out = c.args.outs.now.items in
+    let n : ℕ = length xs in
+    let r : ℕ = c.args.rank in
+    let b : ℕ = c.loop-b.b in
+    let len : c.len-ranks.result ≡ n = omega (arith, c.len-ranks.ensures, c.args.outs.now.ok) in
+    let within : b < n = omega (arith, c.loop-b-test.true, c.len-b-end.ensures, c.args.outs.now.ok) in
+    let l : ℕ = r * c.len-ranks.result + b in
+    let here : number n r b ≡ l = ap (λ m. r * m + b) (sym len) in
+    let before : ℕ → Sight = sight (g.P.Port.sent c.args.port.now) (g.P.Port.looks_out c.args.port.now) (g.P.Port.crowded c.args.port.now) in
+    let mid : ℕ → Sight = sight (g.P.Port.sent c.loop-b.port) (g.P.Port.looks_out c.loop-b.port) (g.P.Port.crowded c.loop-b.port) in
+    let after : ℕ → Sight = sight (g.P.Port.sent c.post.new.port) (g.P.Port.looks_out c.post.new.port) (g.P.Port.crowded c.post.new.port) in
+    let x : Out = c.index_mut.result.now in
+    let y : Out = c.post.new.self in
+    let others : (m : ℕ) → m < n → m ≢ b → after (number n r m) ≡ mid (number n r m) = λ m w ne. e.elsewhere (number n r m) (λ q. out_apart n r b m ne (q ∙ sym here)) in
+    let moved : Posted c.args.last c.args.epoch x y (mid (number n r b)) (after (number n r b)) = subst (λ m. Posted c.args.last c.args.epoch x y (mid m) (after m)) (sym here) e.moved in
+    sweep_each (Posted c.args.last c.args.epoch) no_out (number n r) (b + 1) xs _ before after (none_posted c.args.last c.args.epoch)
+    (sweep_more (Posted c.args.last c.args.epoch) no_out (number n r) b xs c.loop-b.outs.items before mid after x y within k.posted c.index_mut.ensures.value moved others)
+
+pub returns-clause-moved : goal.returns-clause-moved
+returns-clause-moved g c = sweep_each (Posted c.args.last c.args.epoch) no_out _ _ _ _ _ _ (none_posted c.args.last c.args.epoch) c.loop-b.invariant.posted
+
+pub returns-clause-in_vain : goal.returns-clause-in_vain
+returns-clause-in_vain g c = λ ok b w.
+    c.loop-b.invariant.served.done b (omega (arith, w, c.loop-b-test.false, c.len-b-end.ensures, c.args.outs.now.ok)) w

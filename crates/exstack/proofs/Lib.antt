@@ -2,3 +2,5 @@ mod OneHop
 mod Mapping
 mod Sweeps
 mod Moves
+pub mod Places
+mod Rooms

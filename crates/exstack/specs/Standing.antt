@@ -18,7 +18,8 @@ may_wait Full due = false
 may_wait AllDone due = false
 
 -- A link out holds at most its capacity. It is closed only where the rank is done, and where the rank is done it is
--- closed unless its parcel is due; a closed one is empty, and nothing is due on it.
+-- closed unless its parcel is due; a closed one is empty, and nothing is due on it. Parcels are due within rounds alone, and
+-- exchange parcels from ranks alone that aren't done.
 pub record IsOut (cap : ℕ) (stage : Stage) (done : Bool) (o : Out) : Type 0 where
   pub fits : length o.waiting ≤ cap
   pub closed_empty : o.closed ≡ true → o.waiting ≡ []
@@ -26,6 +27,7 @@ pub record IsOut (cap : ℕ) (stage : Stage) (done : Bool) (o : Out) : Type 0 wh
   pub done_closed : done ≡ true → o.due ≡ false → o.closed ≡ true
   pub due_open : o.due ≡ true → o.closed ≡ false
   pub due_round : o.due ≡ true → (is_proceeding stage || is_exchanging stage) ≡ true
+  pub due_exchange : o.due ≡ true → is_exchanging stage ≡ true → done ≡ false
   pub sent_on : may_wait stage o.due ≡ false → o.waiting ≡ []
 
 -- A link in on which a parcel is due is empty and hasn't ended; outside of exchanges every link in is empty, and at

@@ -1,5 +1,5 @@
 -- One rank's exstack, as contracts see it, and what follows from it.
-use Rattle.std.specs.Prelude.{ℕ, ◌+◌, ◌-◌, ◌*◌, ◌==◌, Bool, true, false, not, cond, if◌then◌else◌, min, map, List, [], ◌∷◌, length, slice_get, slice_set, slice_index_or, Option, Some, None}
+use Rattle.std.specs.Prelude.{ℕ, ◌+◌, ◌-◌, ◌*◌, ◌==◌, Bool, true, false, not, cond, if◌then◌else◌, min, map, replicate, List, [], ◌∷◌, length, slice_get, slice_set, slice_index_or, Option, Some, None}
 use Rattle.std.specs.List.{list_all, sum_by, position}
 use Rattle.std.specs.Option.{option_map}
 use Rattle.bale_types.specs.declared.item.Item.{Item}
@@ -24,6 +24,10 @@ pub record State : Type 0 where
   pub outs : List Out
   pub ins : List In
   pub popped : Option ℕ
+
+-- A new exstack.
+abbrev pub new_stack : ℕ → ℕ → State
+new_stack ranks rank = record { ranks = ranks; rank = rank; stage = Start; done = false; epoch = 0; outs = replicate ranks no_out; ins = replicate ranks no_in; popped = None }
 
 abbrev pub out_at : State → ℕ → Out
 out_at st b = slice_index_or st.outs b no_out

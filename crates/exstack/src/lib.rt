@@ -1,9 +1,11 @@
 //! The exstack: one rank's side of a many-to-many exchange in collective rounds.
 #![tactic(auto)]
 
+mod exstack;
 mod in_link;
 mod out_link;
 mod rounds;
 mod stage;
 
+pub use exstack::Exstack;
 pub use stage::{Poll, Proceed, Stage};

@@ -1,12 +1,12 @@
 //! A round over all links of a rank: what begins it, what is posted and collected in it, and what it still waits for.
 ghost use Rattle.std.specs.Prelude.{◌≡◌, ◌≢◌, ℕ, ◌+◌, ◌*◌, ◌^◌, ◌<◌, ◌≤◌, true, false, map, replicate, length, slice_index_or, [], ◌∷◌, IfOk, IfSome, IsOk};
-ghost use Rattle.std.specs.List.{list_all, position};
+ghost use Rattle.std.specs.List.{list_all, position, sum_by};
 ghost use Rattle.list_laws.specs.Lists.{Begins};
 ghost use Rattle.route_tensor.specs.Grid.{IsGrid};
 ghost use Rattle.port_bank.specs.Logs.{lasts};
 ghost use Rattle.port_bank.specs.Relay.{RelayLaw};
-ghost use Rattle.exstack.specs.Links.{no_out, no_in, begun_out, begun_in, reopened, resumed};
-ghost use Rattle.exstack.specs.State.{number, missing_out};
+ghost use Rattle.exstack.specs.Links.{no_out, no_in, has_unread, begun_out, begun_in, reopened, resumed};
+ghost use Rattle.exstack.specs.State.{number, missing_out, least_headroom};
 ghost use Rattle.exstack.specs.Steps.{sight, WasPosted, WasCollected, InVain};
 
 use crate::in_link::InLink;
@@ -199,4 +199,57 @@ pub fn all_ended<const CAP: usize>(ins: &[InLink<CAP>]) -> bool
     ensures { result ≡ list_all (λ i. i.ended) ins.now }
 {
     ins.iter().all(|link| -> bool ensures { result ≡ link.now.ended } { link.has_ended() })
+}
+
+/// How many items are unread.
+pub fn unread_in<const CAP: usize>(ins: &[InLink<CAP>]) -> u64
+    requires few { length ins.now ≤ 64 }
+    ensures { result ≡ sum_by (λ i. length i.unread) ins.now }
+{
+    let mut total = 0;
+    for link in ins {
+        total += u64::from(link.len());
+    }
+    total
+}
+
+/// How many items may still be pushed toward that rank for which it is least.
+pub fn least_room<const CAP: usize>(outs: &[OutLink<CAP>]) -> u64
+    ensures { result ≡ least_headroom CAP outs.now }
+{
+    let mut least = CAP as u64;
+    for link in outs {
+        least = least.min(link.headroom());
+    }
+    least
+}
+
+/// The lowest link in that has an unread item, where none below `from` has one. Most often it is `from` itself, which is
+/// looked at before the search.
+#[inline]
+pub fn next_unread<const CAP: usize>(ins: &[InLink<CAP>], from: u32) -> Option<u32>
+    requires few { length ins.now ≤ 64 }
+    requires from { from ≤ length ins.now }
+    requires none { (a : ℕ) → a < from → has_unread (slice_index_or ins.now a no_in) ≡ false }
+    ensures { result ≡ position has_unread ins.now }
+{
+    if (from as usize) < ins.len() && ins[from as usize].has_unread() {
+        return Some(from);
+    }
+    search_unread(ins, from)
+}
+
+/// The same, by a search.
+fn search_unread<const CAP: usize>(ins: &[InLink<CAP>], from: u32) -> Option<u32>
+    requires few { length ins.now ≤ 64 }
+    requires from { from ≤ length ins.now }
+    requires none { (a : ℕ) → a < from → has_unread (slice_index_or ins.now a no_in) ≡ false }
+    ensures { result ≡ position has_unread ins.now }
+{
+    for at in from..ins.len() as u32 {
+        if ins[at as usize].has_unread() {
+            return Some(at);
+        }
+    }
+    None
 }

@@ -1,0 +1,205 @@
+//! The exstack of one rank: what a program pushes, polls and pops.
+ghost use Rattle.std.specs.Prelude.{◌≡◌, ℕ, ◌+◌, ◌^◌, ◌<◌, ◌≤◌, ◌&&◌, ◌||◌, not, true, false, List, [], length, is_some, slice_index_or, Some, None, IfOk, IfSome, IsOk, IsErr, Ok};
+ghost use Rattle.item_buffer.specs.Contents.{Shipped};
+ghost use Rattle.list_laws.specs.Lists.{Begins};
+ghost use Rattle.route_tensor.specs.Grid.{ranks};
+ghost use Rattle.port_bank.specs.Logs.{lasts};
+ghost use Rattle.port_bank.specs.Relay.{RelayLaw};
+ghost use Rattle.port_bank.specs.Machine.Step.{Push, Pull, Unpull, Reset, Idle};
+ghost use Rattle.exstack.specs.Links.{headroom_of};
+ghost use Rattle.exstack.specs.State.{new_stack, out_at, in_at, dims_of, link_to, link_from, number, least_headroom, unread_of, lowest_unread, pushed_on, pop_from, popped_from, unpopped, after_reset};
+ghost use Rattle.exstack.specs.State.{is_proceeding, is_exchanging, may_proceed, may_exchange, in_proceed, in_exchange, missing, all_ended, proceed_answer, exchange_answer, stage_of_proceed, stage_of_exchange};
+ghost use Rattle.exstack.specs.Steps.{WasPosted, WasCollected, InVain};
+ghost use Rattle.exstack.specs.Agreement.{AgreesIn, AgreesWith, cycle_after};
+ghost use Rattle.exstack.specs.Parts.{IsStepOf, KeepsAgreement};
+ghost use Rattle.exstack.specs.Standing.{IsStack};
+
+use crate::in_link::InLink;
+use crate::out_link::OutLink;
+use crate::rounds::{
+    all_ended, begin_all, collect_all, least_room, links_in, links_out, missing, next_unread,
+    post_all, reopen_all, resume_all, unread_in,
+};
+use crate::stage::{Poll, Proceed, Stage};
+use bale_types::{Entry, Item, NoMemory, Tag};
+use port_bank::Port;
+use route_tensor::Grid;
+use std::alloc::Global;
+use std::marker::Model;
+
+/// One rank's exstack, for parcels of `CAP` entries, on a grid of one hop.
+#[derive(Drop)]
+pub struct Exstack<const CAP: usize> {
+    ranks: u32,
+    rank: u32,
+    stage: Stage,
+    /// Whether the rank said in this epoch that it pushes nothing more.
+    done: bool,
+    epoch: u64,
+    /// By the rank to which they lead.
+    outs: Vec<OutLink<CAP>>,
+    /// By the rank from which they come.
+    ins: Vec<InLink<CAP>>,
+    /// A rank below which no link in has an unread item.
+    from: u32,
+    /// The sender of the item that the latest call popped, where it popped one.
+    popped: Option<u32>,
+}
+
+impl<const CAP: usize> Model for Exstack<CAP> {
+    ghost use Rattle.exstack.specs.State.{State};
+
+    ghost Value = { State };
+
+    ghost use Rattle.exstack.specs.Standing.{IsKept};
+
+    ghost view = { λ s. record {
+      ranks = s.ranks;
+      rank = s.rank;
+      stage = s.stage;
+      done = s.done;
+      epoch = s.epoch;
+      outs = s.outs.items;
+      ins = s.ins.items;
+      popped = s.popped;
+    } };
+
+    ghost invariant = { λ s. IsKept CAP (record {
+      ranks = s.ranks;
+      rank = s.rank;
+      stage = s.stage;
+      done = s.done;
+      epoch = s.epoch;
+      outs = s.outs.items;
+      ins = s.ins.items;
+      popped = s.popped;
+    }) s.from };
+}
+
+impl<const CAP: usize> Exstack<CAP> {
+    /// The exstack of `rank`, at the start of epoch 0, with nothing pushed and nothing come.
+    pub fn new(alloc: Global, grid: &Grid, rank: u32) -> Result<Self, NoMemory>
+        requires some { 0 < CAP }
+        requires small { CAP ≤ 1024 }
+        requires one_hop { length grid.now ≡ 1 }
+        requires rank { rank < ranks grid.now }
+        ensures made { IfOk result (λ s. s ≡ new_stack (ranks grid.now) rank) }
+        ensures grid { IfOk result (λ s. dims_of s ≡ grid.now) }
+        ensures agrees { IfOk result (λ s. AgreesIn 0 s (λ l. []) (λ l. [])) }
+    {
+        let ranks = grid.ranks();
+        Ok(Exstack {
+            ranks,
+            rank,
+            stage: Stage::Start,
+            done: false,
+            epoch: 0,
+            outs: links_out(alloc, ranks)?,
+            ins: links_in(alloc, ranks)?,
+            from: 0,
+            popped: None,
+        })
+    }
+
+    /// How far the rank is in its epoch.
+    #[inline]
+    pub fn stage(&self) -> Stage
+        ensures value { result ≡ self.now.stage }
+        ensures standing { IsStack CAP self.now }
+    {
+        self.stage
+    }
+
+    /// How many items came and are unread.
+    pub fn unread(&self) -> u64
+        ensures { result ≡ unread_of self.now }
+    {
+        unread_in(&self.ins)
+    }
+
+    /// How many items may be pushed toward `to` before its buffer is full.
+    #[inline]
+    pub fn headroom(&self, to: u32) -> u64
+        requires { to < self.now.ranks }
+        ensures { result ≡ headroom_of CAP (out_at self.now to) }
+    {
+        self.outs[to as usize].headroom()
+    }
+
+    /// The same for the rank for which it is least.
+    pub fn min_headroom(&self) -> u64
+        ensures { result ≡ least_headroom CAP self.now.outs }
+    {
+        least_room(&self.outs)
+    }
+
+    /// Puts `item` into the buffer toward `to`, where there is room. Answers the headroom that was there before: 0 is the
+    /// refusal.
+    #[inline]
+    pub fn push(&mut self, item: Item, to: u32) -> u64
+        requires filling { self.old.stage ≡ Stage.Filling }
+        requires not_done { self.old.done ≡ false }
+        requires to { to < self.old.ranks }
+        ensures headroom { result ≡ headroom_of CAP (out_at self.old to) }
+        ensures pushed { 0 < result → self.new ≡ pushed_on self.old item to }
+        ensures full { result ≡ 0 → self.new ≡ record self.old { popped = None } }
+    {
+        self.popped = None;
+        let entry = Entry {
+            tag: Tag {
+                d1: 0,
+                d2: 0,
+                d3: 0,
+            },
+            item,
+        };
+        self.outs[to as usize].push(entry)
+    }
+
+    /// The first unread item of the lowest sender that has one, with that sender.
+    #[inline]
+    pub fn pop(&mut self) -> Option<(u32, Item)>
+        ensures value { result ≡ pop_from self.old (lowest_unread self.old) }
+        ensures state { self.new ≡ popped_from self.old (lowest_unread self.old) }
+    {
+        self.popped = None;
+        let Some(from) = next_unread(&self.ins, self.from) else {
+            self.from = self.ranks;
+            return None;
+        };
+        let entry = self.ins[from as usize].take()?;
+        self.from = from;
+        self.popped = Some(from);
+        Some((from, entry.item))
+    }
+
+    /// Makes the item of the latest call unread again, if that was a pop that gave one.
+    pub fn unpop(&mut self) -> bool
+        ensures value { result ≡ is_some self.old.popped }
+        ensures state { self.new ≡ unpopped self.old self.old.popped }
+    {
+        match self.popped {
+            Some(from) => {
+                self.ins[from as usize].put_back();
+                self.from = self.from.min(from);
+                self.popped = None;
+                true
+            }
+            None => false,
+        }
+    }
+
+    /// Ends an epoch in which all are done, and begins the next one.
+    pub fn reset(&mut self)
+        requires all_done { self.old.stage ≡ Stage.AllDone }
+        requires epochs { self.old.epoch < 2 ^ 63 }
+        ensures state { self.new ≡ after_reset self.old }
+    {
+        self.popped = None;
+        reopen_all(&mut self.outs);
+        resume_all(&mut self.ins);
+        self.done = false;
+        self.stage = Stage::Start;
+        self.epoch += 1;
+    }
+}

@@ -4,3 +4,4 @@ mod Sweeps
 mod Moves
 pub mod Places
 mod Rooms
+mod Calls

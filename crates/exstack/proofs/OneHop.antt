@@ -24,6 +24,11 @@ pub ranks_one : (n : ℕ) → ranks (n ∷ []) ≡ n
 unfolding ranks
 ranks_one n = omega arith
 
+pub dims_one : (dims : List ℕ) → length dims ≡ 1 → ranks dims ∷ [] ≡ dims
+dims_one [] e = absurd (omega (arith, e))
+dims_one (n ∷ []) e = ap (λ m. m ∷ []) (ranks_one n)
+dims_one (n ∷ m ∷ ns) e = absurd (omega (arith, e))
+
 pub grid_one : (n : ℕ) → 0 < n → n ≤ 64 → IsGrid (n ∷ [])
 grid_one n some few = record {
   some = omega arith;

@@ -43,6 +43,7 @@ pub record IsIn (stage : Stage) (i : In) : Type 0 where
 pub record CanUnpop (st : State) (a : ℕ) : Type 0 where
   pub within : a < st.ranks
   pub back : IsSome (in_at st a).back
+  pub came : (in_at st a).due ≡ false
   pub reading : may_read st.stage ≡ true
 
 -- An exstack for parcels of capacity cap.

@@ -148,8 +148,8 @@ abbrev pub missing_out : ℕ → ℕ → Option ℕ → List In → Option ℕ
 missing_out ranks rank None ins = missing_in ranks rank (position (λ i. i.due) ins)
 missing_out ranks rank (Some b) ins = Some (number ranks rank b)
 
-abbrev pub missing : State → Option ℕ
-missing st = missing_out st.ranks st.rank (position (λ o. o.due) st.outs) st.ins
+abbrev pub missing_link : State → Option ℕ
+missing_link st = missing_out st.ranks st.rank (position (λ o. o.due) st.outs) st.ins
 
 -- Whether every link in has ended.
 abbrev pub all_ended : State → Bool

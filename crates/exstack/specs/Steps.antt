@@ -1,9 +1,11 @@
 -- What a round does on one link, seen through a port.
-use Rattle.std.specs.Prelude.{◌≡◌, ℕ, ◌-◌, Bool, true, false, not, ◌&&◌, cond, List, [], ◌∷◌, ◌++◌, length, slice_index_or}
+use Rattle.std.specs.Prelude.{◌≡◌, ℕ, ◌-◌, ◌<◌, Bool, true, false, not, ◌&&◌, cond, List, [], ◌∷◌, ◌++◌, length, slice_index_or}
 use Rattle.bale_types.specs.Stream.{Rose}
 use Rattle.item_buffer.specs.Contents.{Shipped}
 use Rattle.port_bank.specs.Logs.{Logs}
+use Rattle.list_laws.specs.Lists.{Begins}
 use Rattle.exstack.specs.Links.{Out, In, parcel_of, gone, came}
+use Rattle.exstack.specs.State.{State, out_at, in_at, link_to, link_from}
 
 -- What a port shows of a link out: its log, how often the port looked for room, and whether it is crowded. Of a link
 -- in: its log, what was noted of it, and whether it is idle.
@@ -38,3 +40,10 @@ pub record WasCollected (exchange : Bool) (old new : In) (log log' : List Shippe
 pub record InVain (count count' : ℕ) (stuck : Bool) : Type 0 where
   pub rose : Rose count count'
   pub in_vain : stuck ≡ true
+
+-- A round, or what a poll makes of it: on each link out at most one post, and on each link in at most one collect.
+pub record MadeRound (last exchange : Bool) (old new : State) (sent sent' got got' : Logs) : Type 0 where
+  pub posted : (b : ℕ) → b < old.ranks → WasPosted last old.epoch (out_at old b) (out_at new b) (sent (link_to old b)) (sent' (link_to old b))
+  pub collected : (a : ℕ) → a < old.ranks → WasCollected exchange (in_at old a) (in_at new a) (got (link_from old a)) (got' (link_from old a))
+  pub sent_grows : (l : ℕ) → Begins (sent l) (sent' l)
+  pub got_grows : (l : ℕ) → Begins (got l) (got' l)

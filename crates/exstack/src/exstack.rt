@@ -1,15 +1,12 @@
 //! The exstack of one rank: what a program pushes, polls and pops.
 ghost use Rattle.std.specs.Prelude.{◌≡◌, ℕ, ◌+◌, ◌^◌, ◌<◌, ◌≤◌, ◌&&◌, ◌||◌, not, true, false, List, [], length, is_some, slice_index_or, Some, None, IfOk, IfSome, IsOk, IsErr, Ok};
-ghost use Rattle.item_buffer.specs.Contents.{Shipped};
-ghost use Rattle.list_laws.specs.Lists.{Begins};
+ghost use Rattle.bale_types.specs.Stream.{Rose};
 ghost use Rattle.route_tensor.specs.Grid.{ranks};
-ghost use Rattle.port_bank.specs.Logs.{lasts};
-ghost use Rattle.port_bank.specs.Relay.{RelayLaw};
 ghost use Rattle.port_bank.specs.Machine.Step.{Push, Pull, Unpull, Reset, Idle};
 ghost use Rattle.exstack.specs.Links.{headroom_of};
 ghost use Rattle.exstack.specs.State.{new_stack, out_at, in_at, dims_of, link_to, link_from, number, least_headroom, unread_of, lowest_unread, pushed_on, pop_from, popped_from, unpopped, after_reset};
-ghost use Rattle.exstack.specs.State.{is_proceeding, is_exchanging, may_proceed, may_exchange, in_proceed, in_exchange, missing, all_ended, proceed_answer, exchange_answer, stage_of_proceed, stage_of_exchange};
-ghost use Rattle.exstack.specs.Steps.{WasPosted, WasCollected, InVain};
+ghost use Rattle.exstack.specs.State.{is_proceeding, is_exchanging, may_proceed, may_exchange, in_proceed, in_exchange, missing_link, all_ended, proceed_answer, exchange_answer, stage_of_proceed, stage_of_exchange};
+ghost use Rattle.exstack.specs.Steps.{MadeRound, InVain};
 ghost use Rattle.exstack.specs.Agreement.{AgreesIn, AgreesWith, cycle_after};
 ghost use Rattle.exstack.specs.Parts.{IsStepOf, KeepsAgreement};
 ghost use Rattle.exstack.specs.Standing.{IsStack};
@@ -189,6 +186,93 @@ impl<const CAP: usize> Exstack<CAP> {
         }
     }
 
+    /// Makes the posts that are missing in a proceed round, and then the missing collects. Where none is in progress one
+    /// begins; `done` says whether the rank pushes nothing more in this epoch.
+    ///
+    /// # Errors
+    /// `NoMemory` comes only from the port's post. What was posted before it stands, and the poll may be made again.
+    pub fn poll_proceed<P: Port<CAP>>(
+        &mut self,
+        port: &mut P,
+        done: bool,
+    ) -> Result<Proceed, NoMemory>
+        requires may { may_proceed self.old.stage ≡ true }
+        requires same_dims { P.dims port.old ≡ dims_of self.old }
+        requires same_rank { P.rank port.old ≡ self.old.rank }
+        requires agrees { AgreesWith self.old (P.sent port.old) (P.got port.old) }
+        requires read { unread_of self.old ≡ 0 }
+        requires done_stays { self.old.done ≡ true → done ≡ true }
+        requires same_done { self.old.stage ≡ Stage.Proceeding → done ≡ self.old.done }
+
+        // The exstack agrees with the port again.
+        ensures agrees { AgreesWith self.new (P.sent port.new) (P.got port.new) }
+        ensures cycle { (n : ℕ) → AgreesIn n self.old (P.sent port.old) (P.got port.old) → AgreesIn (cycle_after n self.old.stage) self.new (P.sent port.new) (P.got port.new) }
+        ensures same { self.new ≡ record self.old { stage = self.new.stage; done = done; outs = self.new.outs; ins = self.new.ins; popped = None } }
+        ensures same_dims { P.dims port.new ≡ P.dims port.old }
+        ensures same_rank { P.rank port.new ≡ P.rank port.old }
+        ensures same_slots { P.slots port.new ≡ P.slots port.old }
+        ensures rest { P.rest port.new ≡ P.rest port.old }
+
+        // Answers.
+        ensures answer { IfOk result (λ p. p ≡ proceed_answer (missing_link self.new) (all_ended self.new)) }
+        ensures stage { IfOk result (λ p. self.new.stage ≡ stage_of_proceed p) }
+        ensures no_memory { IsErr result → self.new.stage ≡ Stage.Proceeding }
+        ensures memory { P.Memory.GROWS ≡ false → IsOk result }
+
+        // What was posted and collected, and what was looked for in vain.
+        ensures round { MadeRound done false (in_proceed done self.old) self.new (P.sent port.old) (P.sent port.new) (P.got port.old) (P.got port.new) }
+        ensures looked { IsOk result → (b : ℕ) → b < self.old.ranks → (out_at self.new b).due ≡ true
+            → Rose (P.looks_out port.old (link_to self.old b)) (P.looks_out port.new (link_to self.old b)) }
+        ensures crowded { IsOk result → (b : ℕ) → b < self.old.ranks → (out_at self.new b).due ≡ true
+            → P.got port.new (link_to self.old b) ≡ P.got port.old (link_to self.old b) → P.crowded port.new (link_to self.old b) ≡ true }
+        ensures asked { IsOk result → (a : ℕ) → a < self.old.ranks → (in_at self.new a).due ≡ true
+            → InVain (P.noted port.old (link_from self.old a)) (P.noted port.new (link_from self.old a)) (P.idle port.new (link_from self.old a)) }
+    {
+        self.begin_proceed(done);
+        let missing = self.go_round(port, done, false)?;
+        Ok(self.settle_proceed(missing))
+    }
+
+    /// Makes the posts that are missing in an exchange round, and then the missing collects. Where none is in progress one
+    /// begins.
+    ///
+    /// # Errors
+    /// `NoMemory` comes only from the port's post. What was posted before it stands, and the poll may be made again.
+    pub fn poll_exchange<P: Port<CAP>>(&mut self, port: &mut P) -> Result<Poll, NoMemory>
+        requires may { may_exchange self.old.stage ≡ true }
+        requires same_dims { P.dims port.old ≡ dims_of self.old }
+        requires same_rank { P.rank port.old ≡ self.old.rank }
+        requires agrees { AgreesWith self.old (P.sent port.old) (P.got port.old) }
+
+        // The exstack agrees with the port again.
+        ensures agrees { AgreesWith self.new (P.sent port.new) (P.got port.new) }
+        ensures cycle { (n : ℕ) → AgreesIn n self.old (P.sent port.old) (P.got port.old) → AgreesIn n self.new (P.sent port.new) (P.got port.new) }
+        ensures same { self.new ≡ record self.old { stage = self.new.stage; outs = self.new.outs; ins = self.new.ins; popped = None } }
+        ensures same_dims { P.dims port.new ≡ P.dims port.old }
+        ensures same_rank { P.rank port.new ≡ P.rank port.old }
+        ensures same_slots { P.slots port.new ≡ P.slots port.old }
+        ensures rest { P.rest port.new ≡ P.rest port.old }
+
+        // Answers.
+        ensures answer { IfOk result (λ p. p ≡ exchange_answer (missing_link self.new)) }
+        ensures stage { IfOk result (λ p. self.new.stage ≡ stage_of_exchange p) }
+        ensures no_memory { IsErr result → self.new.stage ≡ Stage.Exchanging }
+        ensures memory { P.Memory.GROWS ≡ false → IsOk result }
+
+        // What was posted and collected, and what was looked for in vain.
+        ensures round { MadeRound false true (in_exchange self.old) self.new (P.sent port.old) (P.sent port.new) (P.got port.old) (P.got port.new) }
+        ensures looked { IsOk result → (b : ℕ) → b < self.old.ranks → (out_at self.new b).due ≡ true
+            → Rose (P.looks_out port.old (link_to self.old b)) (P.looks_out port.new (link_to self.old b)) }
+        ensures crowded { IsOk result → (b : ℕ) → b < self.old.ranks → (out_at self.new b).due ≡ true
+            → P.got port.new (link_to self.old b) ≡ P.got port.old (link_to self.old b) → P.crowded port.new (link_to self.old b) ≡ true }
+        ensures asked { IsOk result → (a : ℕ) → a < self.old.ranks → (in_at self.new a).due ≡ true
+            → InVain (P.noted port.old (link_from self.old a)) (P.noted port.new (link_from self.old a)) (P.idle port.new (link_from self.old a)) }
+    {
+        self.begin_exchange();
+        let missing = self.go_round(port, false, true)?;
+        Ok(self.settle_exchange(missing))
+    }
+
     /// Ends an epoch in which all are done, and begins the next one.
     pub fn reset(&mut self)
         requires all_done { self.old.stage ≡ Stage.AllDone }
@@ -201,5 +285,122 @@ impl<const CAP: usize> Exstack<CAP> {
         self.done = false;
         self.stage = Stage::Start;
         self.epoch += 1;
+    }
+
+    fn begin_proceed(&mut self, done: bool)
+        requires may { may_proceed self.old.stage ≡ true }
+        requires read { unread_of self.old ≡ 0 }
+        requires done_stays { self.old.done ≡ true → done ≡ true }
+        ensures { self.new ≡ in_proceed done self.old }
+    {
+        self.popped = None;
+        if is_proceeding(self.stage) {
+            return;
+        }
+        begin_all(&mut self.outs, &mut self.ins);
+        self.stage = Stage::Proceeding;
+        self.done = done;
+    }
+
+    fn begin_exchange(&mut self)
+        requires may { may_exchange self.old.stage ≡ true }
+        ensures { self.new ≡ in_exchange self.old }
+    {
+        self.popped = None;
+        if is_exchanging(self.stage) {
+            return;
+        }
+        begin_all(&mut self.outs, &mut self.ins);
+        self.stage = Stage::Exchanging;
+    }
+
+    /// Makes the posts that are missing in a round, and then the missing collects. Answers the link for which the round
+    /// still waits.
+    fn go_round<P: Port<CAP>>(
+        &mut self,
+        port: &mut P,
+        last: bool,
+        exchange: bool,
+    ) -> Result<Option<u32>, NoMemory>
+        requires in_round { (is_proceeding self.old.stage || is_exchanging self.old.stage) ≡ true }
+        requires exchange { exchange ≡ is_exchanging self.old.stage }
+        requires last { last ≡ (self.old.done && not exchange) }
+        requires forgotten { self.old.popped ≡ None }
+        requires dims { P.dims port.old ≡ dims_of self.old }
+        requires rank { P.rank port.old ≡ self.old.rank }
+        requires agrees { AgreesWith self.old (P.sent port.old) (P.got port.old) }
+        ensures same { self.new ≡ record self.old { outs = self.new.outs; ins = self.new.ins } }
+        ensures cycle { (n : ℕ) → AgreesIn n self.old (P.sent port.old) (P.got port.old) → AgreesIn n self.new (P.sent port.new) (P.got port.new) }
+        ensures round { MadeRound last exchange self.old self.new (P.sent port.old) (P.sent port.new) (P.got port.old) (P.got port.new) }
+        ensures missing { IfOk result (λ o. o ≡ missing_link self.new) }
+        ensures looked { IsOk result → (b : ℕ) → b < self.old.ranks → (out_at self.new b).due ≡ true
+            → Rose (P.looks_out port.old (link_to self.old b)) (P.looks_out port.new (link_to self.old b)) }
+        ensures crowded { IsOk result → (b : ℕ) → b < self.old.ranks → (out_at self.new b).due ≡ true
+            → P.got port.new (link_to self.old b) ≡ P.got port.old (link_to self.old b) → P.crowded port.new (link_to self.old b) ≡ true }
+        ensures asked { IsOk result → (a : ℕ) → a < self.old.ranks → (in_at self.new a).due ≡ true
+            → InVain (P.noted port.old (link_from self.old a)) (P.noted port.new (link_from self.old a)) (P.idle port.new (link_from self.old a)) }
+        ensures memory { P.Memory.GROWS ≡ false → IsOk result }
+        ensures same_dims { P.dims port.new ≡ P.dims port.old }
+        ensures same_rank { P.rank port.new ≡ P.rank port.old }
+        ensures same_slots { P.slots port.new ≡ P.slots port.old }
+        ensures rest { P.rest port.new ≡ P.rest port.old }
+    {
+        post_all(&mut self.outs, port, self.rank, self.epoch, last)?;
+        collect_all(&mut self.ins, port, self.rank, self.epoch, exchange);
+        self.from = 0;
+        Ok(missing(&self.outs, &self.ins, self.rank))
+    }
+
+    fn settle_proceed(&mut self, missing: Option<u32>) -> Proceed
+        requires proceeding { self.old.stage ≡ Stage.Proceeding }
+        requires forgotten { self.old.popped ≡ None }
+        requires is_missing { missing ≡ missing_link self.old }
+        ensures value { result ≡ proceed_answer missing (all_ended self.old) }
+        ensures state { self.new ≡ record self.old { stage = stage_of_proceed result } }
+    {
+        if let Some(link) = missing {
+            return Proceed::NotYet(link);
+        }
+        if all_ended(&self.ins) {
+            self.stage = Stage::AllDone;
+            Proceed::AllDone
+        } else {
+            self.stage = Stage::Filling;
+            Proceed::GoOn
+        }
+    }
+
+    fn settle_exchange(&mut self, missing: Option<u32>) -> Poll
+        requires exchanging { self.old.stage ≡ Stage.Exchanging }
+        requires forgotten { self.old.popped ≡ None }
+        requires is_missing { missing ≡ missing_link self.old }
+        ensures value { result ≡ exchange_answer missing }
+        ensures state { self.new ≡ record self.old { stage = stage_of_exchange result } }
+    {
+        if let Some(link) = missing {
+            return Poll::NotYet(link);
+        }
+        self.stage = Stage::Full;
+        Poll::Ready
+    }
+}
+
+/// Whether a proceed round is in progress.
+fn is_proceeding(stage: Stage) -> bool
+    ensures { result ≡ is_proceeding stage }
+{
+    match stage {
+        Stage::Proceeding => true,
+        Stage::Start | Stage::Filling | Stage::Exchanging | Stage::Full | Stage::AllDone => false,
+    }
+}
+
+/// Whether an exchange round is in progress.
+fn is_exchanging(stage: Stage) -> bool
+    ensures { result ≡ is_exchanging stage }
+{
+    match stage {
+        Stage::Exchanging => true,
+        Stage::Start | Stage::Proceeding | Stage::Filling | Stage::Full | Stage::AllDone => false,
     }
 }

@@ -5,3 +5,8 @@ mod Moves
 pub mod Places
 mod Rooms
 mod Calls
+mod OneLink
+mod Manners
+mod Making
+mod Beginning
+mod Settling

@@ -291,7 +291,8 @@ impl<const CAP: usize> Exstack<CAP> {
         requires may { may_proceed self.old.stage ≡ true }
         requires read { unread_of self.old ≡ 0 }
         requires done_stays { self.old.done ≡ true → done ≡ true }
-        ensures { self.new ≡ in_proceed done self.old }
+        ensures state { self.new ≡ in_proceed done self.old }
+        ensures standing { IsStack CAP self.old }
     {
         self.popped = None;
         if is_proceeding(self.stage) {
@@ -303,8 +304,9 @@ impl<const CAP: usize> Exstack<CAP> {
     }
 
     fn begin_exchange(&mut self)
-        requires may { may_exchange self.old.stage ≡ true }
-        ensures { self.new ≡ in_exchange self.old }
+        requires { may_exchange self.old.stage ≡ true }
+        ensures state { self.new ≡ in_exchange self.old }
+        ensures standing { IsStack CAP self.old }
     {
         self.popped = None;
         if is_exchanging(self.stage) {

@@ -1,0 +1,167 @@
+use Rattle.std.proofs.Common.{◌≡◌, ℕ, ◌<◌, Bool, List, length, get_or, refl, sym, ap, subst, ◌∙◌, arith, rules}
+use Rattle.list_laws.specs.Lists.{Begins}
+use Rattle.port_bank.specs.Logs.{Logs}
+use Rattle.port_bank.proofs.Kept.{law_same}
+use Rattle.exstack.specs.Links.{Out, In, no_out, no_in}
+use Rattle.exstack.specs.State.{State, dims_of, number, link_from}
+use Rattle.exstack.specs.Agreement.{AgreesIn}
+use Rattle.exstack.specs.Steps.{WasCollected, MadeRound, InVain}
+use Rattle.exstack.specs.Standing.{IsStack}
+use Rattle.exstack.proofs.Making.{after_round, PostsDone, CollectsDone, Before, before, none_done, round_done, stack_done, agrees_done}
+use Rattle.exstack.proofs.exstack.Exstack.go_round.Goals as goal
+
+pub invariant_of-self : goal.invariant_of-self
+invariant_of-self g c =
+    let st : State = record { ranks = c.self.inside.ranks; rank = c.self.inside.rank; stage = c.self.inside.stage; done = c.self.inside.done; epoch = c.self.inside.epoch;
+      outs = c.self.inside.outs.items; ins = c.self.inside.ins.items; popped = c.self.inside.popped } in
+    let now : State = c.args.self.now in
+    let view : st ≡ now = c.self.view_is in
+    let s : IsStack g.row.CAP st = c.self.invariant.standing in
+    let b : Before st c.args.last c.args.exchange = before st now c.args.last c.args.exchange view c.requires.in_round c.requires.exchange c.requires.last c.requires.forgotten in
+    let sent : Logs = g.P.Port.sent c.args.port.now in
+    let sent' : Logs = g.P.Port.sent c.post_all.new.port in
+    let got : Logs = g.P.Port.got c.args.port.now in
+    let e = c.post_all.ensures in
+    let p : PostsDone st c.post_all.new.outs.items c.args.last sent sent' got = record {
+      count = e.count;
+      moved = e.moved;
+      law = law_same _ _ _ _ _ _ _ _ (ap dims_of view ∙ sym c.requires.dims) (ap (λ (t : State). t.rank) view ∙ sym c.requires.rank) refl refl e.law;
+      grows = e.grows;
+    } in
+    let q : CollectsDone st st.ins c.args.exchange sent' got got = none_done st c.args.exchange sent' got in
+    record {
+      standing = stack_done g.row.CAP st c.post_all.new.outs.items st.ins c.args.last c.args.exchange sent sent' got got s b p q;
+      from_high = c.self.invariant.from_high;
+      from_none = c.self.invariant.from_none;
+    }
+
+pub returns-in_err-post_all-clause-cycle : goal.returns-in_err-post_all-clause-cycle
+returns-in_err-post_all-clause-cycle g c =
+    let st : State = record { ranks = c.self.inside.ranks; rank = c.self.inside.rank; stage = c.self.inside.stage; done = c.self.inside.done; epoch = c.self.inside.epoch;
+      outs = c.self.inside.outs.items; ins = c.self.inside.ins.items; popped = c.self.inside.popped } in
+    let now : State = c.args.self.now in
+    let view : st ≡ now = c.self.view_is in
+    let s : IsStack g.row.CAP st = c.self.invariant.standing in
+    let b : Before st c.args.last c.args.exchange = before st now c.args.last c.args.exchange view c.requires.in_round c.requires.exchange c.requires.last c.requires.forgotten in
+    let sent : Logs = g.P.Port.sent c.args.port.now in
+    let sent' : Logs = g.P.Port.sent c.post_all.new.port in
+    let got : Logs = g.P.Port.got c.args.port.now in
+    let e = c.post_all.ensures in
+    let p : PostsDone st c.post_all.new.outs.items c.args.last sent sent' got = record {
+      count = e.count;
+      moved = e.moved;
+      law = law_same _ _ _ _ _ _ _ _ (ap dims_of view ∙ sym c.requires.dims) (ap (λ (t : State). t.rank) view ∙ sym c.requires.rank) refl refl e.law;
+      grows = e.grows;
+    } in
+    let q : CollectsDone st st.ins c.args.exchange sent' got got = none_done st c.args.exchange sent' got in
+    λ n a. subst (λ (logs : Logs). AgreesIn n (after_round st c.post_all.new.outs.items st.ins) sent' logs) (sym e.got)
+    (agrees_done g.row.CAP st c.post_all.new.outs.items st.ins c.args.last c.args.exchange sent sent' got got s b p q n (subst (λ t. AgreesIn n t sent got) (sym view) a))
+
+pub invariant_of-self-2 : goal.invariant_of-self-2
+invariant_of-self-2 g c =
+    let st : State = record { ranks = c.self.inside.ranks; rank = c.self.inside.rank; stage = c.self.inside.stage; done = c.self.inside.done; epoch = c.self.inside.epoch;
+      outs = c.self.inside.outs.items; ins = c.self.inside.ins.items; popped = c.self.inside.popped } in
+    let now : State = c.args.self.now in
+    let view : st ≡ now = c.self.view_is in
+    let s : IsStack g.row.CAP st = c.self.invariant.standing in
+    let b : Before st c.args.last c.args.exchange = before st now c.args.last c.args.exchange view c.requires.in_round c.requires.exchange c.requires.last c.requires.forgotten in
+    let sent : Logs = g.P.Port.sent c.args.port.now in
+    let sent' : Logs = g.P.Port.sent c.post_all.new.port in
+    let got : Logs = g.P.Port.got c.args.port.now in
+    let e = c.post_all.ensures in
+    let p : PostsDone st c.post_all.new.outs.items c.args.last sent sent' got = record {
+      count = e.count;
+      moved = e.moved;
+      law = law_same _ _ _ _ _ _ _ _ (ap dims_of view ∙ sym c.requires.dims) (ap (λ (t : State). t.rank) view ∙ sym c.requires.rank) refl refl e.law;
+      grows = e.grows;
+    } in
+    let got' : Logs = g.P.Port.got c.collect_all.new.port in
+    let f = c.collect_all.ensures in
+    let q : CollectsDone st c.collect_all.new.ins.items c.args.exchange sent' got got' = record {
+      count = f.count;
+      moved = subst (λ (logs : Logs). (a : ℕ) → a < length st.ins → WasCollected c.args.exchange (get_or st.ins a no_in) (get_or c.collect_all.new.ins.items a no_in) (logs (number (length st.ins) a st.rank)) (got' (number (length st.ins) a st.rank))) e.got f.moved;
+      own = subst (λ (logs : Logs). Begins (logs (number (length st.ins) st.rank st.rank)) (sent' (number (length st.ins) st.rank st.rank)) → Begins (got' (number (length st.ins) st.rank st.rank)) (sent' (number (length st.ins) st.rank st.rank))) e.got
+          (subst (λ (logs : Logs). Begins (g.P.Port.got c.post_all.new.port (number (length st.ins) st.rank st.rank)) (sent' (number (length st.ins) st.rank st.rank)) → Begins (got' (number (length st.ins) st.rank st.rank)) (logs (number (length st.ins) st.rank st.rank))) f.sent f.own);
+      grows = subst (λ (logs : Logs). (m : ℕ) → Begins (logs m) (got' m)) e.got f.grows;
+    } in
+    record {
+      standing = stack_done g.row.CAP st c.post_all.new.outs.items c.collect_all.new.ins.items c.args.last c.args.exchange sent sent' got got' s b p q;
+      from_high = omega arith;
+      from_none = λ a w. absurd (omega arith);
+    }
+
+pub returns-clause-cycle : goal.returns-clause-cycle
+returns-clause-cycle g c =
+    let st : State = record { ranks = c.self.inside.ranks; rank = c.self.inside.rank; stage = c.self.inside.stage; done = c.self.inside.done; epoch = c.self.inside.epoch;
+      outs = c.self.inside.outs.items; ins = c.self.inside.ins.items; popped = c.self.inside.popped } in
+    let now : State = c.args.self.now in
+    let view : st ≡ now = c.self.view_is in
+    let s : IsStack g.row.CAP st = c.self.invariant.standing in
+    let b : Before st c.args.last c.args.exchange = before st now c.args.last c.args.exchange view c.requires.in_round c.requires.exchange c.requires.last c.requires.forgotten in
+    let sent : Logs = g.P.Port.sent c.args.port.now in
+    let sent' : Logs = g.P.Port.sent c.post_all.new.port in
+    let got : Logs = g.P.Port.got c.args.port.now in
+    let e = c.post_all.ensures in
+    let p : PostsDone st c.post_all.new.outs.items c.args.last sent sent' got = record {
+      count = e.count;
+      moved = e.moved;
+      law = law_same _ _ _ _ _ _ _ _ (ap dims_of view ∙ sym c.requires.dims) (ap (λ (t : State). t.rank) view ∙ sym c.requires.rank) refl refl e.law;
+      grows = e.grows;
+    } in
+    let got' : Logs = g.P.Port.got c.collect_all.new.port in
+    let f = c.collect_all.ensures in
+    let q : CollectsDone st c.collect_all.new.ins.items c.args.exchange sent' got got' = record {
+      count = f.count;
+      moved = subst (λ (logs : Logs). (a : ℕ) → a < length st.ins → WasCollected c.args.exchange (get_or st.ins a no_in) (get_or c.collect_all.new.ins.items a no_in) (logs (number (length st.ins) a st.rank)) (got' (number (length st.ins) a st.rank))) e.got f.moved;
+      own = subst (λ (logs : Logs). Begins (logs (number (length st.ins) st.rank st.rank)) (sent' (number (length st.ins) st.rank st.rank)) → Begins (got' (number (length st.ins) st.rank st.rank)) (sent' (number (length st.ins) st.rank st.rank))) e.got
+          (subst (λ (logs : Logs). Begins (g.P.Port.got c.post_all.new.port (number (length st.ins) st.rank st.rank)) (sent' (number (length st.ins) st.rank st.rank)) → Begins (got' (number (length st.ins) st.rank st.rank)) (logs (number (length st.ins) st.rank st.rank))) f.sent f.own);
+      grows = subst (λ (logs : Logs). (m : ℕ) → Begins (logs m) (got' m)) e.got f.grows;
+    } in
+    λ n a. subst (λ (logs : Logs). AgreesIn n (after_round st c.post_all.new.outs.items c.collect_all.new.ins.items) logs got') (sym f.sent)
+    (agrees_done g.row.CAP st c.post_all.new.outs.items c.collect_all.new.ins.items c.args.last c.args.exchange sent sent' got got' s b p q n (subst (λ t. AgreesIn n t sent got) (sym view) a))
+
+pub returns-clause-round : goal.returns-clause-round
+returns-clause-round g c =
+    let st : State = record { ranks = c.self.inside.ranks; rank = c.self.inside.rank; stage = c.self.inside.stage; done = c.self.inside.done; epoch = c.self.inside.epoch;
+      outs = c.self.inside.outs.items; ins = c.self.inside.ins.items; popped = c.self.inside.popped } in
+    let now : State = c.args.self.now in
+    let view : st ≡ now = c.self.view_is in
+    let s : IsStack g.row.CAP st = c.self.invariant.standing in
+    let b : Before st c.args.last c.args.exchange = before st now c.args.last c.args.exchange view c.requires.in_round c.requires.exchange c.requires.last c.requires.forgotten in
+    let sent : Logs = g.P.Port.sent c.args.port.now in
+    let sent' : Logs = g.P.Port.sent c.post_all.new.port in
+    let got : Logs = g.P.Port.got c.args.port.now in
+    let e = c.post_all.ensures in
+    let p : PostsDone st c.post_all.new.outs.items c.args.last sent sent' got = record {
+      count = e.count;
+      moved = e.moved;
+      law = law_same _ _ _ _ _ _ _ _ (ap dims_of view ∙ sym c.requires.dims) (ap (λ (t : State). t.rank) view ∙ sym c.requires.rank) refl refl e.law;
+      grows = e.grows;
+    } in
+    let got' : Logs = g.P.Port.got c.collect_all.new.port in
+    let f = c.collect_all.ensures in
+    let q : CollectsDone st c.collect_all.new.ins.items c.args.exchange sent' got got' = record {
+      count = f.count;
+      moved = subst (λ (logs : Logs). (a : ℕ) → a < length st.ins → WasCollected c.args.exchange (get_or st.ins a no_in) (get_or c.collect_all.new.ins.items a no_in) (logs (number (length st.ins) a st.rank)) (got' (number (length st.ins) a st.rank))) e.got f.moved;
+      own = subst (λ (logs : Logs). Begins (logs (number (length st.ins) st.rank st.rank)) (sent' (number (length st.ins) st.rank st.rank)) → Begins (got' (number (length st.ins) st.rank st.rank)) (sent' (number (length st.ins) st.rank st.rank))) e.got
+          (subst (λ (logs : Logs). Begins (g.P.Port.got c.post_all.new.port (number (length st.ins) st.rank st.rank)) (sent' (number (length st.ins) st.rank st.rank)) → Begins (got' (number (length st.ins) st.rank st.rank)) (logs (number (length st.ins) st.rank st.rank))) f.sent f.own);
+      grows = subst (λ (logs : Logs). (m : ℕ) → Begins (logs m) (got' m)) e.got f.grows;
+    } in
+    subst (λ (logs : Logs). MadeRound c.args.last c.args.exchange now (after_round st c.post_all.new.outs.items c.collect_all.new.ins.items) sent logs got got') (sym f.sent)
+    (subst (λ (t : State). MadeRound c.args.last c.args.exchange t (after_round st c.post_all.new.outs.items c.collect_all.new.ins.items) sent sent' got got') view
+    (round_done g.row.CAP st c.post_all.new.outs.items c.collect_all.new.ins.items c.args.last c.args.exchange sent sent' got got' s b p q))
+
+pub returns-clause-asked : goal.returns-clause-asked
+returns-clause-asked g c = λ ok a w due.
+    let st : State = record { ranks = c.self.inside.ranks; rank = c.self.inside.rank; stage = c.self.inside.stage; done = c.self.inside.done; epoch = c.self.inside.epoch;
+      outs = c.self.inside.outs.items; ins = c.self.inside.ins.items; popped = c.self.inside.popped } in
+    let now : State = c.args.self.now in
+    let view : st ≡ now = c.self.view_is in
+    let s : IsStack g.row.CAP st = c.self.invariant.standing in
+    let n : ℕ = length st.ins in
+    let u : a < n = omega (arith, w, s.all_ins, ap (λ (t : State). t.ranks) view) in
+    let number_is : number n a st.rank ≡ link_from now a = ap (λ m. number m a st.rank) s.all_ins ∙ ap (λ (t : State). link_from t a) view in
+    let noted' : ℕ → ℕ = g.P.Port.noted c.collect_all.new.port in
+    let idle' : ℕ → Bool = g.P.Port.idle c.collect_all.new.port in
+    subst (λ l. InVain (g.P.Port.noted c.args.port.now l) (noted' l) (idle' l)) number_is
+    (subst (λ (counts : ℕ → ℕ). InVain (counts (number n a st.rank)) (noted' (number n a st.rank)) (idle' (number n a st.rank))) c.post_all.ensures.noted (c.collect_all.ensures.in_vain a u due))

@@ -1,0 +1,94 @@
+use Rattle.std.proofs.Common.{◌≡◌, ℕ, ◌<◌, ◌||◌, ◌&&◌, not, Bool, true, false, [], ◌∷◌, Option, None, sym, ap, subst, ◌∙◌, rules}
+use Rattle.port_bank.specs.Logs.{Logs}
+use Rattle.exstack.specs.declared.stage.Stage.{Stage}
+use Rattle.exstack.specs.declared.stage.Stage.TheVariants.{Proceeding, Exchanging}
+use Rattle.exstack.specs.Steps.{InVain}
+use Rattle.exstack.specs.State.{State, in_at, number, link_from, is_proceeding, is_exchanging, in_proceed, in_exchange, stage_of_proceed, stage_of_exchange}
+use Rattle.exstack.specs.Agreement.{AgreesIn, AgreesWith, rounds_in, cycle_after}
+use Rattle.exstack.proofs.Manners.{and_true, and_false}
+use Rattle.exstack.proofs.Beginning.{Begun, proceed_begun, exchange_begun, proceed_agrees, exchange_agrees}
+use Rattle.exstack.proofs.Settling.{agrees_staged, proceed_rounds, exchange_rounds}
+use Rattle.exstack.proofs.exstack.Exstack.poll_exchange.Goals as goal
+
+pub go_round-requires : goal.go_round-requires
+go_round-requires g c =
+    let now : State = c.args.self.now in
+    let b : State = c.begin_exchange.new.self in
+    let sent : Logs = g.P.Port.sent c.args.port.now in
+    let got : Logs = g.P.Port.got c.args.port.now in
+    let is : b ≡ in_exchange now = c.begin_exchange.ensures.state in
+    let k : Begun b Exchanging now.done now = subst (λ (t : State). Begun t Exchanging now.done now) (sym is) (exchange_begun now) in
+    let agrees : (n : ℕ) → AgreesIn n now sent got → AgreesIn n b sent got = λ n a. subst (λ (t : State). AgreesIn n t sent got) (sym is) (exchange_agrees g.row.CAP n now sent got c.begin_exchange.ensures.standing c.requires.may a) in
+    (search rules, (ap (λ (s : Stage). is_proceeding s || is_exchanging s) k.stage_is, (sym (ap is_exchanging k.stage_is), (sym (and_false b.done), (k.forgotten,
+    (c.requires.same_dims ∙ ap (λ m. m ∷ []) (sym k.ranks), (c.requires.same_rank ∙ sym k.rank, record { cycle = c.requires.agrees.cycle; agrees = agrees c.requires.agrees.cycle c.requires.agrees.agrees })))))))
+
+pub returns-in_err-missing-clause-agrees : goal.returns-in_err-missing-clause-agrees
+returns-in_err-missing-clause-agrees g c =
+    let now : State = c.args.self.now in
+    let b : State = c.begin_exchange.new.self in
+    let sent : Logs = g.P.Port.sent c.args.port.now in
+    let got : Logs = g.P.Port.got c.args.port.now in
+    let is : b ≡ in_exchange now = c.begin_exchange.ensures.state in
+    let k : Begun b Exchanging now.done now = subst (λ (t : State). Begun t Exchanging now.done now) (sym is) (exchange_begun now) in
+    let agrees : (n : ℕ) → AgreesIn n now sent got → AgreesIn n b sent got = λ n a. subst (λ (t : State). AgreesIn n t sent got) (sym is) (exchange_agrees g.row.CAP n now sent got c.begin_exchange.ensures.standing c.requires.may a) in
+    record { cycle = c.requires.agrees.cycle; agrees = c.go_round.ensures.cycle c.requires.agrees.cycle (agrees c.requires.agrees.cycle c.requires.agrees.agrees) }
+
+pub returns-in_err-missing-clause-cycle : goal.returns-in_err-missing-clause-cycle
+returns-in_err-missing-clause-cycle g c =
+    let now : State = c.args.self.now in
+    let b : State = c.begin_exchange.new.self in
+    let sent : Logs = g.P.Port.sent c.args.port.now in
+    let got : Logs = g.P.Port.got c.args.port.now in
+    let is : b ≡ in_exchange now = c.begin_exchange.ensures.state in
+    let k : Begun b Exchanging now.done now = subst (λ (t : State). Begun t Exchanging now.done now) (sym is) (exchange_begun now) in
+    let agrees : (n : ℕ) → AgreesIn n now sent got → AgreesIn n b sent got = λ n a. subst (λ (t : State). AgreesIn n t sent got) (sym is) (exchange_agrees g.row.CAP n now sent got c.begin_exchange.ensures.standing c.requires.may a) in
+    λ n a. c.go_round.ensures.cycle n (agrees n a)
+
+pub returns-clause-agrees : goal.returns-clause-agrees
+returns-clause-agrees g c =
+    let now : State = c.args.self.now in
+    let b : State = c.begin_exchange.new.self in
+    let sent : Logs = g.P.Port.sent c.args.port.now in
+    let got : Logs = g.P.Port.got c.args.port.now in
+    let is : b ≡ in_exchange now = c.begin_exchange.ensures.state in
+    let k : Begun b Exchanging now.done now = subst (λ (t : State). Begun t Exchanging now.done now) (sym is) (exchange_begun now) in
+    let agrees : (n : ℕ) → AgreesIn n now sent got → AgreesIn n b sent got = λ n a. subst (λ (t : State). AgreesIn n t sent got) (sym is) (exchange_agrees g.row.CAP n now sent got c.begin_exchange.ensures.standing c.requires.may a) in
+    let h : State = c.go_round.new.self in
+    let r = c.settle_exchange.result in
+    let sent' : Logs = g.P.Port.sent c.go_round.new.port in
+    let got' : Logs = g.P.Port.got c.go_round.new.port in
+    let stage : h.stage ≡ Exchanging = ap (λ (t : State). t.stage) c.go_round.ensures.same ∙ k.stage_is in
+    let over : (n : ℕ) → AgreesIn n now sent got → AgreesIn n c.settle_exchange.new.self sent' got' = λ n a.
+    subst (λ (t : State). AgreesIn n t sent' got') (sym c.settle_exchange.ensures.state)
+    (agrees_staged n h (stage_of_exchange r) sent' got' (ap (rounds_in n) stage ∙ exchange_rounds n r) (c.go_round.ensures.cycle n (agrees n a))) in
+    record { cycle = c.requires.agrees.cycle; agrees = over c.requires.agrees.cycle c.requires.agrees.agrees }
+
+pub returns-clause-cycle : goal.returns-clause-cycle
+returns-clause-cycle g c =
+    let now : State = c.args.self.now in
+    let b : State = c.begin_exchange.new.self in
+    let sent : Logs = g.P.Port.sent c.args.port.now in
+    let got : Logs = g.P.Port.got c.args.port.now in
+    let is : b ≡ in_exchange now = c.begin_exchange.ensures.state in
+    let k : Begun b Exchanging now.done now = subst (λ (t : State). Begun t Exchanging now.done now) (sym is) (exchange_begun now) in
+    let agrees : (n : ℕ) → AgreesIn n now sent got → AgreesIn n b sent got = λ n a. subst (λ (t : State). AgreesIn n t sent got) (sym is) (exchange_agrees g.row.CAP n now sent got c.begin_exchange.ensures.standing c.requires.may a) in
+    let h : State = c.go_round.new.self in
+    let r = c.settle_exchange.result in
+    let sent' : Logs = g.P.Port.sent c.go_round.new.port in
+    let got' : Logs = g.P.Port.got c.go_round.new.port in
+    let stage : h.stage ≡ Exchanging = ap (λ (t : State). t.stage) c.go_round.ensures.same ∙ k.stage_is in
+    let over : (n : ℕ) → AgreesIn n now sent got → AgreesIn n c.settle_exchange.new.self sent' got' = λ n a.
+    subst (λ (t : State). AgreesIn n t sent' got') (sym c.settle_exchange.ensures.state)
+    (agrees_staged n h (stage_of_exchange r) sent' got' (ap (rounds_in n) stage ∙ exchange_rounds n r) (c.go_round.ensures.cycle n (agrees n a))) in
+    over
+
+pub returns-clause-asked : goal.returns-clause-asked
+returns-clause-asked g c = λ ok a w due.
+    let now : State = c.args.self.now in
+    let b : State = c.begin_exchange.new.self in
+    let is : b ≡ in_exchange now = c.begin_exchange.ensures.state in
+    let k : Begun b Exchanging now.done now = subst (λ (t : State). Begun t Exchanging now.done now) (sym is) (exchange_begun now) in
+    let same : link_from b a ≡ link_from now a = ap (λ n. number n a b.rank) k.ranks ∙ ap (λ r. number now.ranks a r) k.rank in
+    let still : (in_at c.go_round.new.self a).due ≡ true = ap (λ (t : State). (in_at t a).due) (sym c.settle_exchange.ensures.state) ∙ due in
+    subst (λ l. InVain (g.P.Port.noted c.args.port.now l) (g.P.Port.noted c.go_round.new.port l) (g.P.Port.idle c.go_round.new.port l)) same
+    (c.go_round.ensures.asked (search rules) a (subst (λ n. a < n) (sym k.ranks) w) still)

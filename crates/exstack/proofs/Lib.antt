@@ -10,3 +10,5 @@ mod Manners
 mod Making
 mod Beginning
 mod Settling
+mod Pieces
+mod Stepping

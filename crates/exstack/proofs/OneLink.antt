@@ -54,7 +54,7 @@ pub moved_due : (a b : Bool) → was_moved a b ≡ true → a ≡ true
 moved_due true b h = refl
 moved_due false b h = absurd (false≢true h)
 
-open_due : (e rounds : ℕ) (through due : Bool) (log : List Shipped) → through ≡ false → due ≡ true → LinkAgrees e rounds through due log → LinkAgrees e rounds false true log
+pub open_due : (e rounds : ℕ) (through due : Bool) (log : List Shipped) → through ≡ false → due ≡ true → LinkAgrees e rounds through due log → LinkAgrees e rounds false true log
 open_due e rounds through due log t d a = subst (λ x. LinkAgrees e rounds x true log) t (subst (λ x. LinkAgrees e rounds through x log) d a)
 
 -- a link out in a round

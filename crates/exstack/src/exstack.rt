@@ -140,6 +140,9 @@ impl<const CAP: usize> Exstack<CAP> {
         ensures headroom { result ≡ headroom_of CAP (out_at self.old to) }
         ensures pushed { 0 < result → self.new ≡ pushed_on self.old item to }
         ensures full { result ≡ 0 → self.new ≡ record self.old { popped = None } }
+        ensures kept { KeepsAgreement self.old self.new }
+        ensures step_pushed { 0 < result → IsStepOf (Push to item) self.old self.new }
+        ensures step_full { result ≡ 0 → IsStepOf Idle self.old self.new }
     {
         self.popped = None;
         let entry = Entry {

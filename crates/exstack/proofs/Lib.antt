@@ -12,3 +12,4 @@ mod Beginning
 mod Settling
 mod Pieces
 mod Stepping
+mod Popping

@@ -1,25 +1,25 @@
 -- Each call is a step of the rank's part of the exchange machine, and keeps the agreement.
-use Rattle.std.proofs.Common.{◌≡◌, ◌≢◌, ℕ, zero, suc, ◌+◌, ◌-◌, ◌*◌, ◌<◌, ◌≤◌, ◌==◌, ◌&&◌, not, Bool, true, false, cond, map, List, [], ◌∷◌, ◌++◌, length, take, drop, get_or, set, slice_get, Option, Some, None, IsSome, refl, sym, ap, subst, ◌∙◌, arith, inl, inr, eq-eqb, ne_eqb}
+use Rattle.std.proofs.Common.{◌≡◌, ◌≢◌, ℕ, zero, suc, ◌+◌, ◌-◌, ◌*◌, ◌<◌, ◌≤◌, ◌==◌, ◌&&◌, not, Bool, true, false, cond, map, List, [], ◌∷◌, ◌++◌, length, take, drop, get_or, set, slice_get, Option, Some, None, IsSome, is_some, refl, sym, ap, subst, ◌∙◌, arith, inl, inr, eq-eqb, ne_eqb}
 use Rattle.std.proofs.lemmas.Bool.{cases_eq, false≢true}
 use Rattle.std.proofs.lemmas.List.{append_assoc, append-nil, map-append, get_or-set_same, get_or-set_other, length-map}
 use Rattle.bale_types.specs.declared.item.Item.{Item}
 use Rattle.bale_types.specs.declared.item.Entry.{Entry}
 use Rattle.item_buffer.specs.Contents.{Shipped}
 use Rattle.port_bank.specs.Logs.{Logs}
-use Rattle.port_bank.specs.Machine.{Part, IsOwnStep, ItemLists, for_ranks, with_item}
+use Rattle.port_bank.specs.Machine.{Part, IsOwnStep, ItemLists, for_ranks, with_item, taken_back}
 use Rattle.port_bank.specs.Machine.Step.{Push, Pull, Unpull, Done, Complete, Reset, Idle}
 use Rattle.port_bank.proofs.Listing.{lists_same, lists_with, lists_without, same_part}
-use Rattle.exstack.specs.Links.{Out, In, no_out, no_in, plain, with_entry}
-use Rattle.exstack.specs.State.{State, out_at, in_at, link_to, link_from, pushed_on}
+use Rattle.exstack.specs.Links.{Out, In, no_out, no_in, plain, with_entry, with_first_read, with_back}
+use Rattle.exstack.specs.State.{State, out_at, in_at, link_to, link_from, pushed_on, popped_from, unpopped}
 use Rattle.exstack.specs.Steps.{MadeRound}
-use Rattle.exstack.specs.Cycles.{entries_sent, entries_exchanged, items}
+use Rattle.exstack.specs.Cycles.{entries_sent, entries_exchanged, exchange_parcel, entries_in, items}
 use Rattle.exstack.specs.Agreement.{LinkAgrees, AgreesIn, Ends, back_first, rounds_in}
 use Rattle.exstack.specs.Parts.{pushed_to, pulled_of, part_of, is_all_done}
 use Rattle.exstack.specs.Standing.{IsStack}
 use Rattle.exstack.proofs.Beginning.{forget, agrees_rest}
 use Rattle.exstack.proofs.Manners.{Kind}
 use Rattle.exstack.proofs.Making.{after_round}
-use Rattle.exstack.proofs.Pieces.{pushed_after, pulled_after, pulled_front, pulled_then}
+use Rattle.exstack.proofs.Pieces.{take_front, pulled_of_all, pushed_after, pulled_after, pulled_none, pulled_front, pulled_then}
 
 -- a push
 module _ (cap : ℕ) (st : State) (to : ℕ) (item : Item) (s : IsStack cap st) (below : to < st.ranks) where
@@ -76,3 +76,176 @@ module _ (cap : ℕ) (st : State) (to : ℕ) (item : Item) (s : IsStack cap st) 
 -- a call that does nothing
 pub idle_step : (st : State) (n : ℕ) (sent got : Logs) → IsOwnStep Idle (part_of st sent got) (part_of (record st { popped = None }) sent got)
 idle_step st n sent got = record { may = tt; is = refl }
+
+-- a pop that gives the first unread item of a
+first_entry : (es : List Entry) (x : Entry) → slice_get es 0 ≡ Some x → es ≡ x ∷ drop 1 es
+first_entry [] x h = let z : None ≡ Some x = h in cc
+first_entry (e ∷ es) x h = let z : Some e ≡ Some x = h in let v : e ≡ x = cc in ap (λ y. y ∷ es) v
+
+module _ (cap : ℕ) (st : State) (a : ℕ) (x : Entry) (s : IsStack cap st) (below : a < st.ranks) (first : slice_get (in_at st a).unread 0 ≡ Some x) where
+  read : List In
+  read = set st.ins a (with_first_read (in_at st a))
+
+  split : (in_at st a).unread ≡ x ∷ drop 1 (in_at st a).unread
+  split = first_entry (in_at st a).unread x first
+
+  in_here : get_or (set st.ins a (with_first_read (in_at st a))) a no_in ≡ with_first_read (in_at st a)
+  in_here = get_or-set_same st.ins a (with_first_read (in_at st a)) no_in (omega (arith, below, s.all_ins))
+
+  in_other : (b : ℕ) → b ≢ a → get_or (set st.ins a (with_first_read (in_at st a))) b no_in ≡ in_at st b
+  in_other b ne = get_or-set_other st.ins a b (with_first_read (in_at st a)) no_in ne
+
+  in_marks : {X : Type 0} (f : In → X) → (f (with_first_read (in_at st a)) ≡ f (in_at st a)) → (b : ℕ) → f (get_or (set st.ins a (with_first_read (in_at st a))) b no_in) ≡ f (in_at st b)
+  in_marks f same b = elim (cases_eq b a) [
+    | inl e ↦ ap (λ k. f (get_or (set st.ins a (with_first_read (in_at st a))) k no_in)) e ∙ (ap f in_here ∙ (same ∙ ap (λ k. f (in_at st k)) (sym e)))
+    | inr ne ↦ ap f (in_other b ne)
+  ]
+
+  back_now : back_first (Some a) a (get_or (set st.ins a (with_first_read (in_at st a))) a no_in) ≡ (in_at st a).unread
+  back_now =
+      ap (back_first (Some a) a) in_here
+      ∙ (ap (λ b. cond b (with_back (slice_get (in_at st a).unread 0) (with_first_read (in_at st a))).unread (drop 1 (in_at st a).unread)) (eq-eqb a a refl)
+      ∙ (ap (λ o. (with_back o (with_first_read (in_at st a))).unread) first ∙ sym split))
+
+  back_else : (b : ℕ) → b ≢ a → back_first (Some a) b (get_or (set st.ins a (with_first_read (in_at st a))) b no_in) ≡ (in_at st b).unread
+  back_else b ne =
+      ap (back_first (Some a) b) (in_other b ne) ∙ ap (λ t. cond t (with_back (in_at st b).back (in_at st b)).unread (in_at st b).unread) (ne_eqb a b (λ h. ne (sym h)))
+
+  back_is : (b : ℕ) → back_first (Some a) b (get_or (set st.ins a (with_first_read (in_at st a))) b no_in) ≡ (in_at st b).unread
+  back_is b = elim (cases_eq b a) [
+    | inl e ↦ ap (λ k. back_first (Some a) k (get_or (set st.ins a (with_first_read (in_at st a))) k no_in)) e ∙ (back_now ∙ ap (λ k. (in_at st k).unread) (sym e))
+    | inr ne ↦ back_else b ne
+  ]
+
+  pub pop_agrees : (n : ℕ) (sent got : Logs) → AgreesIn n st sent got → AgreesIn n (popped_from st (Some a)) sent got
+  pop_agrees n sent got g = record {
+    outs = g.outs;
+    ins = λ b w. subst (λ c. LinkAgrees st.epoch (rounds_in n st.stage) c (in_at (popped_from st (Some a)) b).due (got (link_from st b))) (sym (in_marks (λ (i : In). i.ended) refl b))
+        (subst (λ d. LinkAgrees st.epoch (rounds_in n st.stage) (in_at st b).ended d (got (link_from st b))) (sym (in_marks (λ (i : In). i.due) refl b)) (g.ins b w));
+    shapes = g.shapes; law = g.law;
+    came = λ b w. subst (Ends (entries_exchanged st.epoch (got (link_from st b)))) (sym (back_is b)) (forget st.popped b (in_at st b) (g.came b w));
+    in_cycle = λ b w. subst (Ends (entries_in (exchange_parcel st.epoch n (got (link_from st b))))) (sym (back_is b)) (forget st.popped b (in_at st b) (g.in_cycle b w));
+    own = g.own;
+  }
+
+  pub pop_step : (n : ℕ) (sent got : Logs) → AgreesIn n st sent got → IsOwnStep (Pull a x.item) (part_of st sent got) (part_of (popped_from st (Some a)) sent got)
+  pop_step n sent got g = record {
+    may = tt;
+    is = same_part st.epoch st.done (is_all_done st.stage) (Some a) _ _ _ _ refl
+        (lists_with st.ranks st.epoch a x.item (pulled_of st got) (pulled_of (popped_from st (Some a)) got) below grown (λ q w ne. stays st.epoch q ne) (λ d q w ne. then' d q ne));
+  } where
+    all : List Entry
+    all = entries_exchanged st.epoch (got (link_from st a))
+
+    ends : Ends all (in_at st a).unread
+    ends = forget st.popped a (in_at st a) (g.came a below)
+
+    rest : List Entry
+    rest = drop 1 (in_at st a).unread
+
+    whole : all ≡ (ends.front ++ x ∷ []) ++ rest
+    whole = ends.is ∙ (ap (λ es. ends.front ++ es) split ∙ sym (append_assoc ends.front (x ∷ []) rest))
+
+    before : pulled_of st got st.epoch a ≡ items ends.front
+    before = ap (λ es. pulled_of_all st.epoch st.epoch es (in_at st a).unread) ends.is ∙ pulled_front st.epoch ends.front (in_at st a).unread
+
+    grown : pulled_of (popped_from st (Some a)) got st.epoch a ≡ pulled_of st got st.epoch a ++ x.item ∷ []
+    grown =
+        ap (λ (i : In). pulled_of_all st.epoch st.epoch all i.unread) in_here
+        ∙ (ap (λ es. pulled_of_all st.epoch st.epoch es rest) whole
+        ∙ (pulled_front st.epoch (ends.front ++ x ∷ []) rest
+        ∙ (map-append (λ (y : Entry). y.item) ends.front (x ∷ []) ∙ ap (λ xs. xs ++ x.item ∷ []) (sym before))))
+
+    stays : (d q : ℕ) → q ≢ a → pulled_of (popped_from st (Some a)) got d q ≡ pulled_of st got d q
+    stays d q ne = ap (λ (i : In). pulled_of_all d st.epoch (entries_exchanged d (got (link_from st q))) i.unread) (in_other q ne)
+
+    then' : (d q : ℕ) → d ≢ st.epoch → pulled_of (popped_from st (Some a)) got d q ≡ pulled_of st got d q
+    then' d q ne = pulled_then d st.epoch (entries_exchanged d (got (link_from st q))) (in_at st q).unread (in_at (popped_from st (Some a)) q).unread ne
+
+-- an unpop that puts the entry x of a back
+module _ (cap : ℕ) (st : State) (a : ℕ) (x : Entry) (s : IsStack cap st) (popped : st.popped ≡ Some a) (below : a < st.ranks) (back : (in_at st a).back ≡ Some x) where
+  put : In
+  put = with_back (in_at st a).back (in_at st a)
+
+  put_is : with_back (in_at st a).back (in_at st a) ≡ record (in_at st a) { unread = x ∷ (in_at st a).unread; back = None }
+  put_is = ap (λ o. with_back o (in_at st a)) back
+
+  put_here : get_or (set st.ins a (with_back (in_at st a).back (in_at st a))) a no_in ≡ record (in_at st a) { unread = x ∷ (in_at st a).unread; back = None }
+  put_here = get_or-set_same st.ins a (with_back (in_at st a).back (in_at st a)) no_in (omega (arith, below, s.all_ins)) ∙ put_is
+
+  put_other : (b : ℕ) → b ≢ a → get_or (set st.ins a (with_back (in_at st a).back (in_at st a))) b no_in ≡ in_at st b
+  put_other b ne = get_or-set_other st.ins a b (with_back (in_at st a).back (in_at st a)) no_in ne
+
+  put_marks : {X : Type 0} (f : In → X) → (f (record (in_at st a) { unread = x ∷ (in_at st a).unread; back = None }) ≡ f (in_at st a)) → (b : ℕ)
+      → f (get_or (set st.ins a (with_back (in_at st a).back (in_at st a))) b no_in) ≡ f (in_at st b)
+  put_marks f same b = elim (cases_eq b a) [
+    | inl e ↦ ap (λ k. f (get_or (set st.ins a (with_back (in_at st a).back (in_at st a))) k no_in)) e ∙ (ap f put_here ∙ (same ∙ ap (λ k. f (in_at st k)) (sym e)))
+    | inr ne ↦ ap f (put_other b ne)
+  ]
+
+  -- what counted as to be put back is unread
+  first_here : back_first st.popped a (in_at st a) ≡ x ∷ (in_at st a).unread
+  first_here =
+      ap (λ p. back_first p a (in_at st a)) popped
+      ∙ (ap (λ t. cond t (with_back (in_at st a).back (in_at st a)).unread (in_at st a).unread) (eq-eqb a a refl) ∙ ap (λ (i : In). i.unread) put_is)
+
+  first_else : (b : ℕ) → b ≢ a → back_first st.popped b (in_at st b) ≡ (in_at st b).unread
+  first_else b ne =
+      ap (λ p. back_first p b (in_at st b)) popped ∙ ap (λ t. cond t (with_back (in_at st b).back (in_at st b)).unread (in_at st b).unread) (ne_eqb a b (λ h. ne (sym h)))
+
+  first_is : (b : ℕ) → back_first st.popped b (in_at st b) ≡ (get_or (set st.ins a (with_back (in_at st a).back (in_at st a))) b no_in).unread
+  first_is b = elim (cases_eq b a) [
+    | inl e ↦
+        ap (λ k. back_first st.popped k (in_at st k)) e
+        ∙ (first_here ∙ (ap (λ (i : In). i.unread) (sym put_here) ∙ ap (λ k. (get_or (set st.ins a (with_back (in_at st a).back (in_at st a))) k no_in).unread) (sym e)))
+    | inr ne ↦ first_else b ne ∙ ap (λ (i : In). i.unread) (sym (put_other b ne))
+  ]
+
+  pub unpop_agrees : (n : ℕ) (sent got : Logs) → AgreesIn n st sent got → AgreesIn n (unpopped st (Some a)) sent got
+  unpop_agrees n sent got g = record {
+    outs = g.outs;
+    ins = λ b w. subst (λ c. LinkAgrees st.epoch (rounds_in n st.stage) c (in_at (unpopped st (Some a)) b).due (got (link_from st b))) (sym (put_marks (λ (i : In). i.ended) refl b))
+        (subst (λ d. LinkAgrees st.epoch (rounds_in n st.stage) (in_at st b).ended d (got (link_from st b))) (sym (put_marks (λ (i : In). i.due) refl b)) (g.ins b w));
+    shapes = g.shapes; law = g.law;
+    came = λ b w. subst (Ends (entries_exchanged st.epoch (got (link_from st b)))) (first_is b) (g.came b w);
+    in_cycle = λ b w. subst (Ends (entries_in (exchange_parcel st.epoch n (got (link_from st b))))) (first_is b) (g.in_cycle b w);
+    own = g.own;
+  }
+
+  pub unpop_step : (n : ℕ) (sent got : Logs) → AgreesIn n st sent got → IsOwnStep Unpull (part_of st sent got) (part_of (unpopped st (Some a)) sent got)
+  unpop_step n sent got g = record {
+    may = ap is_some popped;
+    is = same_part st.epoch st.done (is_all_done st.stage) None _ _ _ _ refl
+        (lists_without st.ranks st.epoch a x.item (pulled_of st got) (pulled_of (unpopped st (Some a)) got) below shrunk cut (λ q w ne. stays st.epoch q ne) (λ d q w ne. then' d q ne)
+        ∙ ap (λ p. taken_back (for_ranks st.ranks (pulled_of st got)) st.epoch p) (sym popped));
+  } where
+    all : List Entry
+    all = entries_exchanged st.epoch (got (link_from st a))
+
+    ends : Ends all (x ∷ (in_at st a).unread)
+    ends = subst (Ends all) first_here (g.came a below)
+
+    whole : all ≡ (ends.front ++ x ∷ []) ++ (in_at st a).unread
+    whole = ends.is ∙ sym (append_assoc ends.front (x ∷ []) (in_at st a).unread)
+
+    before : pulled_of st got st.epoch a ≡ items ends.front ++ x.item ∷ []
+    before =
+        ap (λ es. pulled_of_all st.epoch st.epoch es (in_at st a).unread) whole
+        ∙ (pulled_front st.epoch (ends.front ++ x ∷ []) (in_at st a).unread ∙ map-append (λ (y : Entry). y.item) ends.front (x ∷ []))
+
+    now : pulled_of (unpopped st (Some a)) got st.epoch a ≡ items ends.front
+    now =
+        ap (λ (i : In). pulled_of_all st.epoch st.epoch all i.unread) put_here
+        ∙ (ap (λ es. pulled_of_all st.epoch st.epoch es (x ∷ (in_at st a).unread)) ends.is ∙ pulled_front st.epoch ends.front (x ∷ (in_at st a).unread))
+
+    shrunk : pulled_of (unpopped st (Some a)) got st.epoch a ++ x.item ∷ [] ≡ pulled_of st got st.epoch a
+    shrunk = ap (λ xs. xs ++ x.item ∷ []) now ∙ sym before
+
+    cut : take (length (pulled_of st got st.epoch a) - 1) (pulled_of st got st.epoch a) ≡ pulled_of (unpopped st (Some a)) got st.epoch a
+    cut = ap (λ xs. take (length xs - 1) xs) before ∙ (take_front (items ends.front) (x.item ∷ []) ∙ sym now)
+
+    stays : (d q : ℕ) → q ≢ a → pulled_of (unpopped st (Some a)) got d q ≡ pulled_of st got d q
+    stays d q ne = ap (λ (i : In). pulled_of_all d st.epoch (entries_exchanged d (got (link_from st q))) i.unread) (put_other q ne)
+
+    then' : (d q : ℕ) → d ≢ st.epoch → pulled_of (unpopped st (Some a)) got d q ≡ pulled_of st got d q
+    then' d q ne = pulled_then d st.epoch (entries_exchanged d (got (link_from st q))) (in_at st q).unread (in_at (unpopped st (Some a)) q).unread ne

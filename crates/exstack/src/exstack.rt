@@ -2,45 +2,28 @@
 ghost use Rattle.std.specs.Prelude.{◌≡◌, ℕ, ◌+◌, ◌^◌, ◌<◌, ◌≤◌, ◌&&◌, ◌||◌, not, true, false, List, [], length, is_some, slice_index_or, Some, None, IfOk, IfSome, IsOk, IsErr, Ok};
 ghost use Rattle.bale_types.specs.Stream.{Rose};
 ghost use Rattle.route_tensor.specs.Grid.{ranks};
+ghost use Rattle.port_bank.specs.Machine.{IsOwnStep};
 ghost use Rattle.port_bank.specs.Machine.Step.{Push, Pull, Unpull, Reset, Idle};
 ghost use Rattle.exstack.specs.Links.{headroom_of};
 ghost use Rattle.exstack.specs.State.{new_stack, out_at, in_at, dims_of, link_to, link_from, number, least_headroom, unread_of, lowest_unread, pushed_on, pop_from, popped_from, unpopped, after_reset};
 ghost use Rattle.exstack.specs.State.{is_proceeding, is_exchanging, may_proceed, may_exchange, in_proceed, in_exchange, missing_link, all_ended, proceed_answer, exchange_answer, stage_of_proceed, stage_of_exchange};
 ghost use Rattle.exstack.specs.Steps.{MadeRound, InVain};
 ghost use Rattle.exstack.specs.Agreement.{AgreesIn, AgreesWith, cycle_after};
-ghost use Rattle.exstack.specs.Parts.{IsStepOf, KeepsAgreement};
+ghost use Rattle.exstack.specs.Parts.{IsStepOf, KeepsAgreement, AreOwnSteps, proceed_steps, is_all_done, part_of};
 ghost use Rattle.exstack.specs.Standing.{IsStack};
 
-use crate::in_link::InLink;
-use crate::out_link::OutLink;
-use crate::rounds::{
-    all_ended, begin_all, collect_all, least_room, links_in, links_out, missing, next_unread,
-    post_all, reopen_all, resume_all, unread_in,
-};
+use crate::stack::Stack;
 use crate::stage::{Poll, Proceed, Stage};
-use bale_types::{Entry, Item, NoMemory, Tag};
+use bale_types::{Item, NoMemory};
 use port_bank::Port;
 use route_tensor::Grid;
 use std::alloc::Global;
 use std::marker::Model;
 
-/// One rank's exstack, for parcels of `CAP` entries, on a grid of one hop.
+/// One rank's exstack, for parcels of `CAP` entries, on a grid of one hop. Contracts see its state.
 #[derive(Drop)]
 pub struct Exstack<const CAP: usize> {
-    ranks: u32,
-    rank: u32,
-    stage: Stage,
-    /// Whether the rank said in this epoch that it pushes nothing more.
-    done: bool,
-    epoch: u64,
-    /// By the rank to which they lead.
-    outs: Vec<OutLink<CAP>>,
-    /// By the rank from which they come.
-    ins: Vec<InLink<CAP>>,
-    /// A rank below which no link in has an unread item.
-    from: u32,
-    /// The sender of the item that the latest call popped, where it popped one.
-    popped: Option<u32>,
+    stack: Stack<CAP>,
 }
 
 impl<const CAP: usize> Model for Exstack<CAP> {
@@ -48,29 +31,7 @@ impl<const CAP: usize> Model for Exstack<CAP> {
 
     ghost Value = { State };
 
-    ghost use Rattle.exstack.specs.Standing.{IsKept};
-
-    ghost view = { λ s. record {
-      ranks = s.ranks;
-      rank = s.rank;
-      stage = s.stage;
-      done = s.done;
-      epoch = s.epoch;
-      outs = s.outs.items;
-      ins = s.ins.items;
-      popped = s.popped;
-    } };
-
-    ghost invariant = { λ s. IsKept CAP (record {
-      ranks = s.ranks;
-      rank = s.rank;
-      stage = s.stage;
-      done = s.done;
-      epoch = s.epoch;
-      outs = s.outs.items;
-      ins = s.ins.items;
-      popped = s.popped;
-    }) s.from };
+    ghost view = { λ s. s.stack };
 }
 
 impl<const CAP: usize> Exstack<CAP> {
@@ -84,17 +45,8 @@ impl<const CAP: usize> Exstack<CAP> {
         ensures grid { IfOk result (λ s. dims_of s ≡ grid.now) }
         ensures agrees { IfOk result (λ s. AgreesIn 0 s (λ l. []) (λ l. [])) }
     {
-        let ranks = grid.ranks();
         Ok(Exstack {
-            ranks,
-            rank,
-            stage: Stage::Start,
-            done: false,
-            epoch: 0,
-            outs: links_out(alloc, ranks)?,
-            ins: links_in(alloc, ranks)?,
-            from: 0,
-            popped: None,
+            stack: Stack::new(alloc, grid, rank)?,
         })
     }
 
@@ -104,14 +56,15 @@ impl<const CAP: usize> Exstack<CAP> {
         ensures value { result ≡ self.now.stage }
         ensures standing { IsStack CAP self.now }
     {
-        self.stage
+        self.stack.known();
+        self.stack.stage()
     }
 
     /// How many items came and are unread.
     pub fn unread(&self) -> u64
         ensures { result ≡ unread_of self.now }
     {
-        unread_in(&self.ins)
+        self.stack.unread()
     }
 
     /// How many items may be pushed toward `to` before its buffer is full.
@@ -120,14 +73,14 @@ impl<const CAP: usize> Exstack<CAP> {
         requires { to < self.now.ranks }
         ensures { result ≡ headroom_of CAP (out_at self.now to) }
     {
-        self.outs[to as usize].headroom()
+        self.stack.headroom(to)
     }
 
     /// The same for the rank for which it is least.
     pub fn min_headroom(&self) -> u64
         ensures { result ≡ least_headroom CAP self.now.outs }
     {
-        least_room(&self.outs)
+        self.stack.min_headroom()
     }
 
     /// Puts `item` into the buffer toward `to`, where there is room. Answers the headroom that was there before: 0 is the
@@ -144,16 +97,8 @@ impl<const CAP: usize> Exstack<CAP> {
         ensures step_pushed { 0 < result → IsStepOf (Push to item) self.old self.new }
         ensures step_full { result ≡ 0 → IsStepOf Idle self.old self.new }
     {
-        self.popped = None;
-        let entry = Entry {
-            tag: Tag {
-                d1: 0,
-                d2: 0,
-                d3: 0,
-            },
-            item,
-        };
-        self.outs[to as usize].push(entry)
+        self.stack.known();
+        self.stack.push(item, to)
     }
 
     /// The first unread item of the lowest sender that has one, with that sender.
@@ -161,32 +106,38 @@ impl<const CAP: usize> Exstack<CAP> {
     pub fn pop(&mut self) -> Option<(u32, Item)>
         ensures value { result ≡ pop_from self.old (lowest_unread self.old) }
         ensures state { self.new ≡ popped_from self.old (lowest_unread self.old) }
+        ensures sender { IfSome result (λ p. p.0 < self.old.ranks) }
+        ensures none_unread { result ≡ None → unread_of self.old ≡ 0 }
+        ensures kept { KeepsAgreement self.old self.new }
+        ensures step_item { IfSome result (λ p. IsStepOf (Pull p.0 p.1) self.old self.new) }
+        ensures step_none { result ≡ None → IsStepOf Idle self.old self.new }
     {
-        self.popped = None;
-        let Some(from) = next_unread(&self.ins, self.from) else {
-            self.from = self.ranks;
-            return None;
-        };
-        let entry = self.ins[from as usize].take()?;
-        self.from = from;
-        self.popped = Some(from);
-        Some((from, entry.item))
+        self.stack.known();
+        self.stack.pop()
     }
 
     /// Makes the item of the latest call unread again, if that was a pop that gave one.
     pub fn unpop(&mut self) -> bool
         ensures value { result ≡ is_some self.old.popped }
         ensures state { self.new ≡ unpopped self.old self.old.popped }
+        ensures kept { KeepsAgreement self.old self.new }
+        ensures step_back { result ≡ true → IsStepOf Unpull self.old self.new }
+        ensures step_none { result ≡ false → IsStepOf Idle self.old self.new }
     {
-        match self.popped {
-            Some(from) => {
-                self.ins[from as usize].put_back();
-                self.from = self.from.min(from);
-                self.popped = None;
-                true
-            }
-            None => false,
-        }
+        self.stack.known();
+        self.stack.unpop()
+    }
+
+    /// Ends an epoch in which all are done, and begins the next one.
+    pub fn reset(&mut self)
+        requires all_done { self.old.stage ≡ Stage.AllDone }
+        requires epochs { self.old.epoch < 2 ^ 63 }
+        ensures state { self.new ≡ after_reset self.old }
+        ensures kept { (n : ℕ) (sent got : Logs) → AgreesIn n self.old sent got → AgreesIn 0 self.new sent got }
+        ensures step { IsStepOf Reset self.old self.new }
+    {
+        self.stack.known();
+        self.stack.reset();
     }
 
     /// Makes the posts that are missing in a proceed round, and then the missing collects. Where none is in progress one
@@ -222,6 +173,9 @@ impl<const CAP: usize> Exstack<CAP> {
         ensures no_memory { IsErr result → self.new.stage ≡ Stage.Proceeding }
         ensures memory { P.Memory.GROWS ≡ false → IsOk result }
 
+        // It is these steps of the rank's part of the exchange machine.
+        ensures steps { AreOwnSteps (proceed_steps self.old.done done (is_all_done self.new.stage)) (part_of self.old (P.sent port.old) (P.got port.old)) (part_of self.new (P.sent port.new) (P.got port.new)) }
+
         // What was posted and collected, and what was looked for in vain.
         ensures round { MadeRound done false (in_proceed done self.old) self.new (P.sent port.old) (P.sent port.new) (P.got port.old) (P.got port.new) }
         ensures looked { IsOk result → (b : ℕ) → b < self.old.ranks → (out_at self.new b).due ≡ true
@@ -231,9 +185,9 @@ impl<const CAP: usize> Exstack<CAP> {
         ensures asked { IsOk result → (a : ℕ) → a < self.old.ranks → (in_at self.new a).due ≡ true
             → InVain (P.noted port.old (link_from self.old a)) (P.noted port.new (link_from self.old a)) (P.idle port.new (link_from self.old a)) }
     {
-        self.begin_proceed(done);
-        let missing = self.go_round(port, done, false)?;
-        Ok(self.settle_proceed(missing))
+        self.stack.begin_proceed(done);
+        let missing = self.stack.go_round(port, done, false)?;
+        Ok(self.stack.settle_proceed(missing))
     }
 
     /// Makes the posts that are missing in an exchange round, and then the missing collects. Where none is in progress one
@@ -262,6 +216,9 @@ impl<const CAP: usize> Exstack<CAP> {
         ensures no_memory { IsErr result → self.new.stage ≡ Stage.Exchanging }
         ensures memory { P.Memory.GROWS ≡ false → IsOk result }
 
+        // It is a step of the rank's part of the exchange machine.
+        ensures step { IsOwnStep Idle (part_of self.old (P.sent port.old) (P.got port.old)) (part_of self.new (P.sent port.new) (P.got port.new)) }
+
         // What was posted and collected, and what was looked for in vain.
         ensures round { MadeRound false true (in_exchange self.old) self.new (P.sent port.old) (P.sent port.new) (P.got port.old) (P.got port.new) }
         ensures looked { IsOk result → (b : ℕ) → b < self.old.ranks → (out_at self.new b).due ≡ true
@@ -271,141 +228,8 @@ impl<const CAP: usize> Exstack<CAP> {
         ensures asked { IsOk result → (a : ℕ) → a < self.old.ranks → (in_at self.new a).due ≡ true
             → InVain (P.noted port.old (link_from self.old a)) (P.noted port.new (link_from self.old a)) (P.idle port.new (link_from self.old a)) }
     {
-        self.begin_exchange();
-        let missing = self.go_round(port, false, true)?;
-        Ok(self.settle_exchange(missing))
-    }
-
-    /// Ends an epoch in which all are done, and begins the next one.
-    pub fn reset(&mut self)
-        requires all_done { self.old.stage ≡ Stage.AllDone }
-        requires epochs { self.old.epoch < 2 ^ 63 }
-        ensures state { self.new ≡ after_reset self.old }
-    {
-        self.popped = None;
-        reopen_all(&mut self.outs);
-        resume_all(&mut self.ins);
-        self.done = false;
-        self.stage = Stage::Start;
-        self.epoch += 1;
-    }
-
-    fn begin_proceed(&mut self, done: bool)
-        requires may { may_proceed self.old.stage ≡ true }
-        requires read { unread_of self.old ≡ 0 }
-        requires done_stays { self.old.done ≡ true → done ≡ true }
-        ensures state { self.new ≡ in_proceed done self.old }
-        ensures standing { IsStack CAP self.old }
-    {
-        self.popped = None;
-        if is_proceeding(self.stage) {
-            return;
-        }
-        begin_all(&mut self.outs, &mut self.ins);
-        self.stage = Stage::Proceeding;
-        self.done = done;
-    }
-
-    fn begin_exchange(&mut self)
-        requires { may_exchange self.old.stage ≡ true }
-        ensures state { self.new ≡ in_exchange self.old }
-        ensures standing { IsStack CAP self.old }
-    {
-        self.popped = None;
-        if is_exchanging(self.stage) {
-            return;
-        }
-        begin_all(&mut self.outs, &mut self.ins);
-        self.stage = Stage::Exchanging;
-    }
-
-    /// Makes the posts that are missing in a round, and then the missing collects. Answers the link for which the round
-    /// still waits.
-    fn go_round<P: Port<CAP>>(
-        &mut self,
-        port: &mut P,
-        last: bool,
-        exchange: bool,
-    ) -> Result<Option<u32>, NoMemory>
-        requires in_round { (is_proceeding self.old.stage || is_exchanging self.old.stage) ≡ true }
-        requires exchange { exchange ≡ is_exchanging self.old.stage }
-        requires last { last ≡ (self.old.done && not exchange) }
-        requires forgotten { self.old.popped ≡ None }
-        requires dims { P.dims port.old ≡ dims_of self.old }
-        requires rank { P.rank port.old ≡ self.old.rank }
-        requires agrees { AgreesWith self.old (P.sent port.old) (P.got port.old) }
-        ensures same { self.new ≡ record self.old { outs = self.new.outs; ins = self.new.ins } }
-        ensures cycle { (n : ℕ) → AgreesIn n self.old (P.sent port.old) (P.got port.old) → AgreesIn n self.new (P.sent port.new) (P.got port.new) }
-        ensures round { MadeRound last exchange self.old self.new (P.sent port.old) (P.sent port.new) (P.got port.old) (P.got port.new) }
-        ensures missing { IfOk result (λ o. o ≡ missing_link self.new) }
-        ensures looked { IsOk result → (b : ℕ) → b < self.old.ranks → (out_at self.new b).due ≡ true
-            → Rose (P.looks_out port.old (link_to self.old b)) (P.looks_out port.new (link_to self.old b)) }
-        ensures crowded { IsOk result → (b : ℕ) → b < self.old.ranks → (out_at self.new b).due ≡ true
-            → P.got port.new (link_to self.old b) ≡ P.got port.old (link_to self.old b) → P.crowded port.new (link_to self.old b) ≡ true }
-        ensures asked { IsOk result → (a : ℕ) → a < self.old.ranks → (in_at self.new a).due ≡ true
-            → InVain (P.noted port.old (link_from self.old a)) (P.noted port.new (link_from self.old a)) (P.idle port.new (link_from self.old a)) }
-        ensures memory { P.Memory.GROWS ≡ false → IsOk result }
-        ensures same_dims { P.dims port.new ≡ P.dims port.old }
-        ensures same_rank { P.rank port.new ≡ P.rank port.old }
-        ensures same_slots { P.slots port.new ≡ P.slots port.old }
-        ensures rest { P.rest port.new ≡ P.rest port.old }
-    {
-        post_all(&mut self.outs, port, self.rank, self.epoch, last)?;
-        collect_all(&mut self.ins, port, self.rank, self.epoch, exchange);
-        self.from = 0;
-        Ok(missing(&self.outs, &self.ins, self.rank))
-    }
-
-    fn settle_proceed(&mut self, missing: Option<u32>) -> Proceed
-        requires proceeding { self.old.stage ≡ Stage.Proceeding }
-        requires forgotten { self.old.popped ≡ None }
-        requires is_missing { missing ≡ missing_link self.old }
-        ensures value { result ≡ proceed_answer missing (all_ended self.old) }
-        ensures state { self.new ≡ record self.old { stage = stage_of_proceed result } }
-    {
-        if let Some(link) = missing {
-            return Proceed::NotYet(link);
-        }
-        if all_ended(&self.ins) {
-            self.stage = Stage::AllDone;
-            Proceed::AllDone
-        } else {
-            self.stage = Stage::Filling;
-            Proceed::GoOn
-        }
-    }
-
-    fn settle_exchange(&mut self, missing: Option<u32>) -> Poll
-        requires exchanging { self.old.stage ≡ Stage.Exchanging }
-        requires forgotten { self.old.popped ≡ None }
-        requires is_missing { missing ≡ missing_link self.old }
-        ensures value { result ≡ exchange_answer missing }
-        ensures state { self.new ≡ record self.old { stage = stage_of_exchange result } }
-    {
-        if let Some(link) = missing {
-            return Poll::NotYet(link);
-        }
-        self.stage = Stage::Full;
-        Poll::Ready
-    }
-}
-
-/// Whether a proceed round is in progress.
-fn is_proceeding(stage: Stage) -> bool
-    ensures { result ≡ is_proceeding stage }
-{
-    match stage {
-        Stage::Proceeding => true,
-        Stage::Start | Stage::Filling | Stage::Exchanging | Stage::Full | Stage::AllDone => false,
-    }
-}
-
-/// Whether an exchange round is in progress.
-fn is_exchanging(stage: Stage) -> bool
-    ensures { result ≡ is_exchanging stage }
-{
-    match stage {
-        Stage::Exchanging => true,
-        Stage::Start | Stage::Proceeding | Stage::Filling | Stage::Full | Stage::AllDone => false,
+        self.stack.begin_exchange();
+        let missing = self.stack.go_round(port, false, true)?;
+        Ok(self.stack.settle_exchange(missing))
     }
 }

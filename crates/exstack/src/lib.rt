@@ -5,6 +5,7 @@ mod exstack;
 mod in_link;
 mod out_link;
 mod rounds;
+mod stack;
 mod stage;
 
 pub use exstack::Exstack;

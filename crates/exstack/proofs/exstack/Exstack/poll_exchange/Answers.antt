@@ -5,6 +5,7 @@ use Rattle.exstack.specs.declared.stage.Stage.TheVariants.{Proceeding, Exchangin
 use Rattle.exstack.specs.Steps.{InVain}
 use Rattle.exstack.specs.State.{State, in_at, number, link_from, is_proceeding, is_exchanging, in_proceed, in_exchange, stage_of_proceed, stage_of_exchange}
 use Rattle.exstack.specs.Agreement.{AgreesIn, AgreesWith, rounds_in, cycle_after}
+use Rattle.exstack.specs.Standing.{IsStack}
 use Rattle.exstack.proofs.Manners.{and_true, and_false}
 use Rattle.exstack.proofs.Beginning.{Begun, proceed_begun, exchange_begun, proceed_agrees, exchange_agrees}
 use Rattle.exstack.proofs.Settling.{agrees_staged, proceed_rounds, exchange_rounds}
@@ -16,9 +17,11 @@ go_round-requires g c =
     let b : State = c.begin_exchange.new.self in
     let sent : Logs = g.P.Port.sent c.args.port.now in
     let got : Logs = g.P.Port.got c.args.port.now in
-    let is : b ≡ in_exchange now = c.begin_exchange.ensures.state in
+    let view : c.self.inside.stack ≡ now = c.self.view_is in
+    let is : b ≡ in_exchange now = c.begin_exchange.ensures.state ∙ ap (in_exchange) view in
+    let s : IsStack g.row.CAP now = subst (IsStack g.row.CAP) view c.begin_exchange.ensures.standing in
     let k : Begun b Exchanging now.done now = subst (λ (t : State). Begun t Exchanging now.done now) (sym is) (exchange_begun now) in
-    let agrees : (n : ℕ) → AgreesIn n now sent got → AgreesIn n b sent got = λ n a. subst (λ (t : State). AgreesIn n t sent got) (sym is) (exchange_agrees g.row.CAP n now sent got c.begin_exchange.ensures.standing c.requires.may a) in
+    let agrees : (n : ℕ) → AgreesIn n now sent got → AgreesIn n b sent got = λ n a. subst (λ (t : State). AgreesIn n t sent got) (sym is) (exchange_agrees g.row.CAP n now sent got s c.requires.may a) in
     (search rules, (ap (λ (s : Stage). is_proceeding s || is_exchanging s) k.stage_is, (sym (ap is_exchanging k.stage_is), (sym (and_false b.done), (k.forgotten,
     (c.requires.same_dims ∙ ap (λ m. m ∷ []) (sym k.ranks), (c.requires.same_rank ∙ sym k.rank, record { cycle = c.requires.agrees.cycle; agrees = agrees c.requires.agrees.cycle c.requires.agrees.agrees })))))))
 
@@ -28,9 +31,11 @@ returns-in_err-missing-clause-agrees g c =
     let b : State = c.begin_exchange.new.self in
     let sent : Logs = g.P.Port.sent c.args.port.now in
     let got : Logs = g.P.Port.got c.args.port.now in
-    let is : b ≡ in_exchange now = c.begin_exchange.ensures.state in
+    let view : c.self.inside.stack ≡ now = c.self.view_is in
+    let is : b ≡ in_exchange now = c.begin_exchange.ensures.state ∙ ap (in_exchange) view in
+    let s : IsStack g.row.CAP now = subst (IsStack g.row.CAP) view c.begin_exchange.ensures.standing in
     let k : Begun b Exchanging now.done now = subst (λ (t : State). Begun t Exchanging now.done now) (sym is) (exchange_begun now) in
-    let agrees : (n : ℕ) → AgreesIn n now sent got → AgreesIn n b sent got = λ n a. subst (λ (t : State). AgreesIn n t sent got) (sym is) (exchange_agrees g.row.CAP n now sent got c.begin_exchange.ensures.standing c.requires.may a) in
+    let agrees : (n : ℕ) → AgreesIn n now sent got → AgreesIn n b sent got = λ n a. subst (λ (t : State). AgreesIn n t sent got) (sym is) (exchange_agrees g.row.CAP n now sent got s c.requires.may a) in
     record { cycle = c.requires.agrees.cycle; agrees = c.go_round.ensures.cycle c.requires.agrees.cycle (agrees c.requires.agrees.cycle c.requires.agrees.agrees) }
 
 pub returns-in_err-missing-clause-cycle : goal.returns-in_err-missing-clause-cycle
@@ -39,9 +44,11 @@ returns-in_err-missing-clause-cycle g c =
     let b : State = c.begin_exchange.new.self in
     let sent : Logs = g.P.Port.sent c.args.port.now in
     let got : Logs = g.P.Port.got c.args.port.now in
-    let is : b ≡ in_exchange now = c.begin_exchange.ensures.state in
+    let view : c.self.inside.stack ≡ now = c.self.view_is in
+    let is : b ≡ in_exchange now = c.begin_exchange.ensures.state ∙ ap (in_exchange) view in
+    let s : IsStack g.row.CAP now = subst (IsStack g.row.CAP) view c.begin_exchange.ensures.standing in
     let k : Begun b Exchanging now.done now = subst (λ (t : State). Begun t Exchanging now.done now) (sym is) (exchange_begun now) in
-    let agrees : (n : ℕ) → AgreesIn n now sent got → AgreesIn n b sent got = λ n a. subst (λ (t : State). AgreesIn n t sent got) (sym is) (exchange_agrees g.row.CAP n now sent got c.begin_exchange.ensures.standing c.requires.may a) in
+    let agrees : (n : ℕ) → AgreesIn n now sent got → AgreesIn n b sent got = λ n a. subst (λ (t : State). AgreesIn n t sent got) (sym is) (exchange_agrees g.row.CAP n now sent got s c.requires.may a) in
     λ n a. c.go_round.ensures.cycle n (agrees n a)
 
 pub returns-clause-agrees : goal.returns-clause-agrees
@@ -50,9 +57,11 @@ returns-clause-agrees g c =
     let b : State = c.begin_exchange.new.self in
     let sent : Logs = g.P.Port.sent c.args.port.now in
     let got : Logs = g.P.Port.got c.args.port.now in
-    let is : b ≡ in_exchange now = c.begin_exchange.ensures.state in
+    let view : c.self.inside.stack ≡ now = c.self.view_is in
+    let is : b ≡ in_exchange now = c.begin_exchange.ensures.state ∙ ap (in_exchange) view in
+    let s : IsStack g.row.CAP now = subst (IsStack g.row.CAP) view c.begin_exchange.ensures.standing in
     let k : Begun b Exchanging now.done now = subst (λ (t : State). Begun t Exchanging now.done now) (sym is) (exchange_begun now) in
-    let agrees : (n : ℕ) → AgreesIn n now sent got → AgreesIn n b sent got = λ n a. subst (λ (t : State). AgreesIn n t sent got) (sym is) (exchange_agrees g.row.CAP n now sent got c.begin_exchange.ensures.standing c.requires.may a) in
+    let agrees : (n : ℕ) → AgreesIn n now sent got → AgreesIn n b sent got = λ n a. subst (λ (t : State). AgreesIn n t sent got) (sym is) (exchange_agrees g.row.CAP n now sent got s c.requires.may a) in
     let h : State = c.go_round.new.self in
     let r = c.settle_exchange.result in
     let sent' : Logs = g.P.Port.sent c.go_round.new.port in
@@ -69,9 +78,11 @@ returns-clause-cycle g c =
     let b : State = c.begin_exchange.new.self in
     let sent : Logs = g.P.Port.sent c.args.port.now in
     let got : Logs = g.P.Port.got c.args.port.now in
-    let is : b ≡ in_exchange now = c.begin_exchange.ensures.state in
+    let view : c.self.inside.stack ≡ now = c.self.view_is in
+    let is : b ≡ in_exchange now = c.begin_exchange.ensures.state ∙ ap (in_exchange) view in
+    let s : IsStack g.row.CAP now = subst (IsStack g.row.CAP) view c.begin_exchange.ensures.standing in
     let k : Begun b Exchanging now.done now = subst (λ (t : State). Begun t Exchanging now.done now) (sym is) (exchange_begun now) in
-    let agrees : (n : ℕ) → AgreesIn n now sent got → AgreesIn n b sent got = λ n a. subst (λ (t : State). AgreesIn n t sent got) (sym is) (exchange_agrees g.row.CAP n now sent got c.begin_exchange.ensures.standing c.requires.may a) in
+    let agrees : (n : ℕ) → AgreesIn n now sent got → AgreesIn n b sent got = λ n a. subst (λ (t : State). AgreesIn n t sent got) (sym is) (exchange_agrees g.row.CAP n now sent got s c.requires.may a) in
     let h : State = c.go_round.new.self in
     let r = c.settle_exchange.result in
     let sent' : Logs = g.P.Port.sent c.go_round.new.port in
@@ -86,7 +97,9 @@ pub returns-clause-asked : goal.returns-clause-asked
 returns-clause-asked g c = λ ok a w due.
     let now : State = c.args.self.now in
     let b : State = c.begin_exchange.new.self in
-    let is : b ≡ in_exchange now = c.begin_exchange.ensures.state in
+    let view : c.self.inside.stack ≡ now = c.self.view_is in
+    let is : b ≡ in_exchange now = c.begin_exchange.ensures.state ∙ ap (in_exchange) view in
+    let s : IsStack g.row.CAP now = subst (IsStack g.row.CAP) view c.begin_exchange.ensures.standing in
     let k : Begun b Exchanging now.done now = subst (λ (t : State). Begun t Exchanging now.done now) (sym is) (exchange_begun now) in
     let same : link_from b a ≡ link_from now a = ap (λ n. number n a b.rank) k.ranks ∙ ap (λ r. number now.ranks a r) k.rank in
     let still : (in_at c.go_round.new.self a).due ≡ true = ap (λ (t : State). (in_at t a).due) (sym c.settle_exchange.ensures.state) ∙ due in

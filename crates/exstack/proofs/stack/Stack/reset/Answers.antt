@@ -3,7 +3,7 @@ use Rattle.exstack.specs.declared.stage.Stage.TheVariants.{AllDone}
 use Rattle.exstack.specs.State.{State, after_reset}
 use Rattle.exstack.specs.Standing.{IsKept}
 use Rattle.exstack.proofs.Calls.{reset_kept}
-use Rattle.exstack.proofs.exstack.Exstack.reset.Goals as goal
+use Rattle.exstack.proofs.stack.Stack.reset.Goals as goal
 
 pub invariant_of-self : goal.invariant_of-self
 invariant_of-self g c =

@@ -1,0 +1,16 @@
+use Rattle.std.proofs.Common.{◌≡◌, ◌<◌, Some, length, subst, sym, ap, arith, min, rules}
+use Rattle.exstack.specs.State.{State}
+use Rattle.exstack.specs.Standing.{IsKept}
+use Rattle.exstack.proofs.Calls.{unpop_within, unpop_back, unpop_kept}
+use Rattle.exstack.proofs.stack.Stack.unpop.Goals as goal
+
+pub index_mut-requires : goal.index_mut-requires
+index_mut-requires g c =
+    let popped : c.self.inside.popped ≡ Some c.in-Some.from = search rules in
+    let w : c.in-Some.from < length c.self.inside.ins.items = unpop_within g.row.CAP _ c.self.inside.from c.in-Some.from c.self.invariant popped in
+    omega (arith, w, c.self.inside.ins.ok)
+
+pub invariant_of-self : goal.invariant_of-self
+invariant_of-self g c =
+    let popped : c.self.inside.popped ≡ Some c.in-Some.from = search rules in
+    unpop_kept g.row.CAP _ c.self.inside.from c.in-Some.from c.self.invariant popped c.index_mut.result.now c.index_mut.ensures.value c.put_back.new.self c.put_back.ensures c.min-self-inside.result (search rules)

@@ -70,10 +70,10 @@ in_exchanges : (i : In) → IsIn Exchanging (begun_in i)
 in_exchanges i = record { due_open = λ h. not_false i.ended h; due_empty = λ h. refl; due_round = λ h. refl; read = λ h. absurd (false≢true (sym h)); all_ended = λ h. absurd (false≢true h) }
 
 -- the links of a state after its round began
-begun_outs : (outs : List Out) (b : ℕ) (d : Out) → b < length (map begun_out outs) → get_or (map begun_out outs) b d ≡ begun_out (get_or outs b no_out)
+pub begun_outs : (outs : List Out) (b : ℕ) (d : Out) → b < length (map begun_out outs) → get_or (map begun_out outs) b d ≡ begun_out (get_or outs b no_out)
 begun_outs outs b d w = get_or-map begun_out outs b no_out d (omega (arith, w, length-map outs begun_out))
 
-begun_ins : (ins : List In) (a : ℕ) (d : In) → a < length (map begun_in ins) → get_or (map begun_in ins) a d ≡ begun_in (get_or ins a no_in)
+pub begun_ins : (ins : List In) (a : ℕ) (d : In) → a < length (map begun_in ins) → get_or (map begun_in ins) a d ≡ begun_in (get_or ins a no_in)
 begun_ins ins a d w = get_or-map begun_in ins a no_in d (omega (arith, w, length-map ins begun_in))
 
 none_some : (a : ℕ) → None ≡ Some a → ⊥

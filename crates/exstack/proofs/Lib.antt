@@ -13,3 +13,5 @@ mod Settling
 mod Pieces
 mod Stepping
 mod Popping
+mod Resetting
+mod Polling

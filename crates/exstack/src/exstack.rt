@@ -2,6 +2,7 @@
 ghost use Rattle.std.specs.Prelude.{◌≡◌, ℕ, ◌+◌, ◌^◌, ◌<◌, ◌≤◌, ◌&&◌, ◌||◌, not, true, false, List, [], length, is_some, slice_index_or, Some, None, IfOk, IfSome, IsOk, IsErr, Ok};
 ghost use Rattle.bale_types.specs.Stream.{Rose};
 ghost use Rattle.route_tensor.specs.Grid.{ranks};
+ghost use Rattle.port_bank.specs.Logs.{Logs};
 ghost use Rattle.port_bank.specs.Machine.{IsOwnStep};
 ghost use Rattle.port_bank.specs.Machine.Step.{Push, Pull, Unpull, Reset, Idle};
 ghost use Rattle.exstack.specs.Links.{headroom_of};

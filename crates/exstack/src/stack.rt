@@ -249,6 +249,7 @@ impl<const CAP: usize> Stack<CAP> {
         requires dims { P.dims port.old ≡ dims_of self.old }
         requires rank { P.rank port.old ≡ self.old.rank }
         requires agrees { AgreesWith self.old (P.sent port.old) (P.got port.old) }
+        ensures standing { IsStack CAP self.old }
         ensures same { self.new ≡ record self.old { outs = self.new.outs; ins = self.new.ins } }
         ensures cycle { (n : ℕ) → AgreesIn n self.old (P.sent port.old) (P.got port.old) → AgreesIn n self.new (P.sent port.new) (P.got port.new) }
         ensures round { MadeRound last exchange self.old self.new (P.sent port.old) (P.sent port.new) (P.got port.old) (P.got port.new) }

@@ -6,7 +6,11 @@ use Rattle.exstack.specs.Steps.{InVain}
 use Rattle.exstack.specs.State.{State, in_at, number, link_from, is_proceeding, is_exchanging, in_proceed, in_exchange, stage_of_proceed, stage_of_exchange}
 use Rattle.exstack.specs.Agreement.{AgreesIn, AgreesWith, rounds_in, cycle_after}
 use Rattle.exstack.specs.Standing.{IsStack}
-use Rattle.exstack.proofs.Manners.{and_true, and_false}
+use Rattle.port_bank.specs.Machine.{IsOwnStep}
+use Rattle.port_bank.specs.Machine.Step.{Idle}
+use Rattle.exstack.specs.Parts.{part_of, is_all_done, AreOwnSteps, proceed_steps}
+use Rattle.exstack.proofs.Manners.{Kind, kind_of, and_true, and_false}
+use Rattle.exstack.proofs.Polling.{SameLists, Polled, proceed_lists, exchange_lists, made_lists, lists_after, idle_poll, proceed_poll, may_not_all, exchange_not_all, exchange_stays, exchange_epoch, proceed_epoch}
 use Rattle.exstack.proofs.Beginning.{Begun, proceed_begun, exchange_begun, proceed_agrees, exchange_agrees}
 use Rattle.exstack.proofs.Settling.{agrees_staged, proceed_rounds, exchange_rounds}
 use Rattle.exstack.proofs.exstack.Exstack.poll_exchange.Goals as goal
@@ -105,3 +109,72 @@ returns-clause-asked g c = λ ok a w due.
     let still : (in_at c.go_round.new.self a).due ≡ true = ap (λ (t : State). (in_at t a).due) (sym c.settle_exchange.ensures.state) ∙ due in
     subst (λ l. InVain (g.P.Port.noted c.args.port.now l) (g.P.Port.noted c.go_round.new.port l) (g.P.Port.idle c.go_round.new.port l)) same
     (c.go_round.ensures.asked (search rules) a (subst (λ n. a < n) (sym k.ranks) w) still)
+
+pub returns-in_err-missing-clause-step : goal.returns-in_err-missing-clause-step
+returns-in_err-missing-clause-step g c =
+    let now : State = c.args.self.now in
+    let view : c.self.inside.stack ≡ now = c.self.view_is in
+    let b : State = c.begin_exchange.new.self in
+    let h : State = c.go_round.new.self in
+    let sent : Logs = g.P.Port.sent c.args.port.now in
+    let got : Logs = g.P.Port.got c.args.port.now in
+    let sent' : Logs = g.P.Port.sent c.go_round.new.port in
+    let got' : Logs = g.P.Port.got c.go_round.new.port in
+    let is : b ≡ in_exchange now = c.begin_exchange.ensures.state ∙ ap (in_exchange) view in
+    let s : IsStack g.row.CAP now = subst (IsStack g.row.CAP) view c.begin_exchange.ensures.standing in
+    let k : Begun b Exchanging now.done now = subst (λ (t : State). Begun t Exchanging now.done now) (sym is) (exchange_begun now) in
+    let n : ℕ = c.requires.agrees.cycle in
+    let a : AgreesIn n now sent got = c.requires.agrees.agrees in
+    let m : ℕ = n in
+    let agrees : AgreesIn m b sent got = subst (λ (t : State). AgreesIn m t sent got) (sym is) (exchange_agrees g.row.CAP n now sent got s c.requires.may a) in
+    let first : SameLists now b sent sent got got = subst (λ (t : State). SameLists now t sent sent got got) (sym is) (exchange_lists g.row.CAP now sent got s c.requires.may) in
+    let kind : Kind b.stage b.done false true = kind_of b.stage b.done false true (ap (λ (t : Stage). is_proceeding t || is_exchanging t) k.stage_is) (sym (ap is_exchanging k.stage_is)) (sym (and_false b.done)) in
+    let second : SameLists b h sent sent' got got' = made_lists g.row.CAP m b h false true sent sent' got got' c.go_round.ensures.standing kind c.go_round.ensures.same c.go_round.ensures.round agrees in
+    let lists : SameLists now h sent sent' got got' = lists_after now b h sent sent' got got' k.ranks first second in
+    let epoch : b.epoch ≡ now.epoch = ap (λ (t : State). t.epoch) is ∙ exchange_epoch now in
+    let same = c.go_round.ensures.same in
+    let polled : Polled now h now.done = record {
+      ranks = ap (λ (t : State). t.ranks) same ∙ k.ranks;
+      epoch = ap (λ (t : State). t.epoch) same ∙ epoch;
+      done_is = ap (λ (t : State). t.done) same ∙ k.done_is;
+      forgotten = ap (λ (t : State). t.popped) same ∙ k.forgotten;
+    } in
+    let stage : h.stage ≡ Exchanging = ap (λ (t : State). t.stage) same ∙ k.stage_is in
+    idle_poll now h sent sent' got got' polled (ap is_all_done stage ∙ sym (exchange_not_all now.stage c.requires.may)) lists
+
+pub returns-clause-step : goal.returns-clause-step
+returns-clause-step g c =
+    let now : State = c.args.self.now in
+    let view : c.self.inside.stack ≡ now = c.self.view_is in
+    let b : State = c.begin_exchange.new.self in
+    let h : State = c.go_round.new.self in
+    let sent : Logs = g.P.Port.sent c.args.port.now in
+    let got : Logs = g.P.Port.got c.args.port.now in
+    let sent' : Logs = g.P.Port.sent c.go_round.new.port in
+    let got' : Logs = g.P.Port.got c.go_round.new.port in
+    let is : b ≡ in_exchange now = c.begin_exchange.ensures.state ∙ ap (in_exchange) view in
+    let s : IsStack g.row.CAP now = subst (IsStack g.row.CAP) view c.begin_exchange.ensures.standing in
+    let k : Begun b Exchanging now.done now = subst (λ (t : State). Begun t Exchanging now.done now) (sym is) (exchange_begun now) in
+    let n : ℕ = c.requires.agrees.cycle in
+    let a : AgreesIn n now sent got = c.requires.agrees.agrees in
+    let m : ℕ = n in
+    let agrees : AgreesIn m b sent got = subst (λ (t : State). AgreesIn m t sent got) (sym is) (exchange_agrees g.row.CAP n now sent got s c.requires.may a) in
+    let first : SameLists now b sent sent got got = subst (λ (t : State). SameLists now t sent sent got got) (sym is) (exchange_lists g.row.CAP now sent got s c.requires.may) in
+    let kind : Kind b.stage b.done false true = kind_of b.stage b.done false true (ap (λ (t : Stage). is_proceeding t || is_exchanging t) k.stage_is) (sym (ap is_exchanging k.stage_is)) (sym (and_false b.done)) in
+    let second : SameLists b h sent sent' got got' = made_lists g.row.CAP m b h false true sent sent' got got' c.go_round.ensures.standing kind c.go_round.ensures.same c.go_round.ensures.round agrees in
+    let lists : SameLists now h sent sent' got got' = lists_after now b h sent sent' got got' k.ranks first second in
+    let epoch : b.epoch ≡ now.epoch = ap (λ (t : State). t.epoch) is ∙ exchange_epoch now in
+    let same = c.go_round.ensures.same in
+    let polled : Polled now h now.done = record {
+      ranks = ap (λ (t : State). t.ranks) same ∙ k.ranks;
+      epoch = ap (λ (t : State). t.epoch) same ∙ epoch;
+      done_is = ap (λ (t : State). t.done) same ∙ k.done_is;
+      forgotten = ap (λ (t : State). t.popped) same ∙ k.forgotten;
+    } in
+    let r = c.settle_exchange.result in
+    let staged : State = record h { stage = stage_of_exchange r } in
+    let settled : c.settle_exchange.new.self ≡ staged = c.settle_exchange.ensures.state in
+    let over : SameLists now staged sent sent' got got' = record { pushed = lists.pushed; pulled = lists.pulled } in
+    let polled' : Polled now staged now.done = record { ranks = polled.ranks; epoch = polled.epoch; done_is = polled.done_is; forgotten = polled.forgotten } in
+    subst (λ (t : State). IsOwnStep Idle (part_of now sent got) (part_of t sent' got')) (sym settled)
+    (idle_poll now staged sent sent' got got' polled' (sym (exchange_stays r) ∙ sym (exchange_not_all now.stage c.requires.may)) over)

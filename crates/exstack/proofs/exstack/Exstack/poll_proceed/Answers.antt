@@ -6,7 +6,11 @@ use Rattle.exstack.specs.Steps.{InVain}
 use Rattle.exstack.specs.State.{State, number, link_from, is_proceeding, is_exchanging, in_proceed, in_exchange, stage_of_proceed, stage_of_exchange}
 use Rattle.exstack.specs.Agreement.{AgreesIn, AgreesWith, rounds_in, cycle_after}
 use Rattle.exstack.specs.Standing.{IsStack}
-use Rattle.exstack.proofs.Manners.{and_true, and_false}
+use Rattle.port_bank.specs.Machine.{IsOwnStep}
+use Rattle.port_bank.specs.Machine.Step.{Idle}
+use Rattle.exstack.specs.Parts.{part_of, is_all_done, AreOwnSteps, proceed_steps}
+use Rattle.exstack.proofs.Manners.{Kind, kind_of, and_true, and_false}
+use Rattle.exstack.proofs.Polling.{SameLists, Polled, proceed_lists, exchange_lists, made_lists, lists_after, idle_poll, proceed_poll, may_not_all, exchange_not_all, exchange_stays, exchange_epoch, proceed_epoch}
 use Rattle.exstack.proofs.Beginning.{Begun, proceed_begun, exchange_begun, proceed_agrees, exchange_agrees}
 use Rattle.exstack.proofs.Settling.{agrees_staged, proceed_rounds, exchange_rounds}
 use Rattle.exstack.proofs.exstack.Exstack.poll_proceed.Goals as goal
@@ -92,3 +96,72 @@ returns-clause-cycle g c =
     subst (λ (t : State). AgreesIn (cycle_after n now.stage) t sent' got') (sym c.settle_proceed.ensures.state)
     (agrees_staged (cycle_after n now.stage) h (stage_of_proceed r) sent' got' (ap (rounds_in (cycle_after n now.stage)) stage ∙ proceed_rounds (cycle_after n now.stage) r) (c.go_round.ensures.cycle (cycle_after n now.stage) (agrees n a))) in
     over
+
+pub returns-in_err-missing-clause-steps : goal.returns-in_err-missing-clause-steps
+returns-in_err-missing-clause-steps g c =
+    let now : State = c.args.self.now in
+    let view : c.self.inside.stack ≡ now = c.self.view_is in
+    let b : State = c.begin_proceed.new.self in
+    let h : State = c.go_round.new.self in
+    let sent : Logs = g.P.Port.sent c.args.port.now in
+    let got : Logs = g.P.Port.got c.args.port.now in
+    let sent' : Logs = g.P.Port.sent c.go_round.new.port in
+    let got' : Logs = g.P.Port.got c.go_round.new.port in
+    let is : b ≡ in_proceed c.args.done now = c.begin_proceed.ensures.state ∙ ap (in_proceed c.args.done) view in
+    let s : IsStack g.row.CAP now = subst (IsStack g.row.CAP) view c.begin_proceed.ensures.standing in
+    let k : Begun b Proceeding c.args.done now = subst (λ (t : State). Begun t Proceeding c.args.done now) (sym is) (proceed_begun c.args.done now c.requires.same_done) in
+    let n : ℕ = c.requires.agrees.cycle in
+    let a : AgreesIn n now sent got = c.requires.agrees.agrees in
+    let m : ℕ = cycle_after n now.stage in
+    let agrees : AgreesIn m b sent got = subst (λ (t : State). AgreesIn m t sent got) (sym is) (proceed_agrees g.row.CAP n now c.args.done sent got s c.requires.may a) in
+    let first : SameLists now b sent sent got got = subst (λ (t : State). SameLists now t sent sent got got) (sym is) (proceed_lists g.row.CAP now c.args.done sent got s c.requires.read) in
+    let kind : Kind b.stage b.done c.args.done false = kind_of b.stage b.done c.args.done false (ap (λ (t : Stage). is_proceeding t || is_exchanging t) k.stage_is) (sym (ap is_exchanging k.stage_is)) (sym (and_true b.done ∙ k.done_is)) in
+    let second : SameLists b h sent sent' got got' = made_lists g.row.CAP m b h c.args.done false sent sent' got got' c.go_round.ensures.standing kind c.go_round.ensures.same c.go_round.ensures.round agrees in
+    let lists : SameLists now h sent sent' got got' = lists_after now b h sent sent' got got' k.ranks first second in
+    let epoch : b.epoch ≡ now.epoch = ap (λ (t : State). t.epoch) is ∙ proceed_epoch c.args.done now in
+    let same = c.go_round.ensures.same in
+    let polled : Polled now h c.args.done = record {
+      ranks = ap (λ (t : State). t.ranks) same ∙ k.ranks;
+      epoch = ap (λ (t : State). t.epoch) same ∙ epoch;
+      done_is = ap (λ (t : State). t.done) same ∙ k.done_is;
+      forgotten = ap (λ (t : State). t.popped) same ∙ k.forgotten;
+    } in
+    let stage : h.stage ≡ Proceeding = ap (λ (t : State). t.stage) same ∙ k.stage_is in
+    proceed_poll now h c.args.done sent sent' got got' polled c.requires.done_stays (may_not_all now.stage c.requires.may) lists
+
+pub returns-clause-steps : goal.returns-clause-steps
+returns-clause-steps g c =
+    let now : State = c.args.self.now in
+    let view : c.self.inside.stack ≡ now = c.self.view_is in
+    let b : State = c.begin_proceed.new.self in
+    let h : State = c.go_round.new.self in
+    let sent : Logs = g.P.Port.sent c.args.port.now in
+    let got : Logs = g.P.Port.got c.args.port.now in
+    let sent' : Logs = g.P.Port.sent c.go_round.new.port in
+    let got' : Logs = g.P.Port.got c.go_round.new.port in
+    let is : b ≡ in_proceed c.args.done now = c.begin_proceed.ensures.state ∙ ap (in_proceed c.args.done) view in
+    let s : IsStack g.row.CAP now = subst (IsStack g.row.CAP) view c.begin_proceed.ensures.standing in
+    let k : Begun b Proceeding c.args.done now = subst (λ (t : State). Begun t Proceeding c.args.done now) (sym is) (proceed_begun c.args.done now c.requires.same_done) in
+    let n : ℕ = c.requires.agrees.cycle in
+    let a : AgreesIn n now sent got = c.requires.agrees.agrees in
+    let m : ℕ = cycle_after n now.stage in
+    let agrees : AgreesIn m b sent got = subst (λ (t : State). AgreesIn m t sent got) (sym is) (proceed_agrees g.row.CAP n now c.args.done sent got s c.requires.may a) in
+    let first : SameLists now b sent sent got got = subst (λ (t : State). SameLists now t sent sent got got) (sym is) (proceed_lists g.row.CAP now c.args.done sent got s c.requires.read) in
+    let kind : Kind b.stage b.done c.args.done false = kind_of b.stage b.done c.args.done false (ap (λ (t : Stage). is_proceeding t || is_exchanging t) k.stage_is) (sym (ap is_exchanging k.stage_is)) (sym (and_true b.done ∙ k.done_is)) in
+    let second : SameLists b h sent sent' got got' = made_lists g.row.CAP m b h c.args.done false sent sent' got got' c.go_round.ensures.standing kind c.go_round.ensures.same c.go_round.ensures.round agrees in
+    let lists : SameLists now h sent sent' got got' = lists_after now b h sent sent' got got' k.ranks first second in
+    let epoch : b.epoch ≡ now.epoch = ap (λ (t : State). t.epoch) is ∙ proceed_epoch c.args.done now in
+    let same = c.go_round.ensures.same in
+    let polled : Polled now h c.args.done = record {
+      ranks = ap (λ (t : State). t.ranks) same ∙ k.ranks;
+      epoch = ap (λ (t : State). t.epoch) same ∙ epoch;
+      done_is = ap (λ (t : State). t.done) same ∙ k.done_is;
+      forgotten = ap (λ (t : State). t.popped) same ∙ k.forgotten;
+    } in
+    let r = c.settle_proceed.result in
+    let staged : State = record h { stage = stage_of_proceed r } in
+    let settled : c.settle_proceed.new.self ≡ staged = c.settle_proceed.ensures.state in
+    let over : SameLists now staged sent sent' got got' = record { pushed = lists.pushed; pulled = lists.pulled } in
+    let polled' : Polled now staged c.args.done = record { ranks = polled.ranks; epoch = polled.epoch; done_is = polled.done_is; forgotten = polled.forgotten } in
+    subst (λ (t : State). AreOwnSteps (proceed_steps now.done c.args.done (is_all_done t.stage)) (part_of now sent got) (part_of t sent' got')) (sym settled)
+    (proceed_poll now staged c.args.done sent sent' got got' polled' c.requires.done_stays (may_not_all now.stage c.requires.may) over)

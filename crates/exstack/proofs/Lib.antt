@@ -15,3 +15,5 @@ mod Stepping
 mod Popping
 mod Resetting
 mod Polling
+mod BothEnds
+mod Exchange

@@ -5,3 +5,4 @@ pub mod Cycles
 pub mod Agreement
 pub mod Parts
 pub mod Standing
+pub mod Law

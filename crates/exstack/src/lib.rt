@@ -3,10 +3,12 @@
 
 mod exstack;
 mod in_link;
+mod law;
 mod out_link;
 mod rounds;
 mod stack;
 mod stage;
 
 pub use exstack::Exstack;
+pub use law::{closes_law, cycles_law, exchange_law};
 pub use stage::{Poll, Proceed, Stage};

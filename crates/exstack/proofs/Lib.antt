@@ -17,3 +17,4 @@ mod Resetting
 mod Polling
 mod BothEnds
 mod Exchange
+mod Together

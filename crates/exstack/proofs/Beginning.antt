@@ -84,7 +84,10 @@ module _ (cap : ℕ) (st : State) (from : ℕ) (stage : Stage) (done : Bool) (k 
   pub begun_kept : IsKept cap (record st { stage = stage; done = done; outs = map begun_out st.outs; ins = map begun_in st.ins; popped = None }) from
   begun_kept = record {
     standing = record {
-      some = k.standing.some; small = k.standing.small; rank = k.standing.rank; few = k.standing.few;
+      some = k.standing.some;
+      small = k.standing.small;
+      rank = k.standing.rank;
+      few = k.standing.few;
       all_outs = length-map st.outs begun_out ∙ k.standing.all_outs;
       all_ins = length-map st.ins begun_in ∙ k.standing.all_ins;
       each_out = λ b d w. subst (IsOut cap stage done) (sym (begun_outs st.outs b d w)) (each_out (get_or st.outs b no_out) (k.standing.each_out b no_out (omega (arith, w, length-map st.outs begun_out))));
@@ -145,7 +148,10 @@ forget (Some p) a i e = by_test (p == a) i.back e
 
 pub agrees_rest : (n : ℕ) (st : State) (sent got : Logs) → AgreesIn n st sent got → AgreesIn n (record st { popped = None }) sent got
 agrees_rest n st sent got a = record {
-  outs = a.outs; ins = a.ins; shapes = a.shapes; law = a.law;
+  outs = a.outs;
+  ins = a.ins;
+  shapes = a.shapes;
+  law = a.law;
   came = λ b w. forget st.popped b (in_at st b) (a.came b w);
   in_cycle = λ b w. forget st.popped b (in_at st b) (a.in_cycle b w);
   own = a.own;

@@ -78,7 +78,7 @@ begins_take : {T : Type 0} (n : ℕ) (xs : List T) → Begins (take n xs) xs
 begins_take n xs = record { rest = drop n xs; is = sym (take-append-drop n xs) }
 
 through_marks : (e epoch : ℕ) (closed : Bool) → e < lasts_in epoch closed → ((epoch ≡ e) × (closed ≡ true)) ⊎ (e < epoch)
-through_marks e epoch true h = elim (cases_lt e epoch) [ | inl less ↦ inr less | inr more ↦ inl (omega arith, refl) ]
+through_marks e epoch true h = elim (cases_lt e epoch) [ inl less ↦ inr less | inr more ↦ inl (omega arith, refl) ]
 through_marks e epoch false h = inr h
 
 -- the link from s to d, of exstacks that agree together

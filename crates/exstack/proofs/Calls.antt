@@ -36,7 +36,14 @@ first_some (e ∷ es) h = refl
 -- the right to unpop is forgotten
 pub stack_rest : (cap : ℕ) (st : State) → IsStack cap st → IsStack cap (record st { popped = None })
 stack_rest cap st s = record {
-  some = s.some; small = s.small; rank = s.rank; few = s.few; all_outs = s.all_outs; all_ins = s.all_ins; each_out = s.each_out; each_in = s.each_in;
+  some = s.some;
+  small = s.small;
+  rank = s.rank;
+  few = s.few;
+  all_outs = s.all_outs;
+  all_ins = s.all_ins;
+  each_out = s.each_out;
+  each_in = s.each_in;
   can_unpop = λ a e. absurd (none_some a e);
 } where
   none_some : (a : ℕ) → None ≡ Some a → ⊥
@@ -86,7 +93,11 @@ module _ (cap : ℕ) (st : State) (from a : ℕ) (x : In) (k : IsKept cap st fro
     pub pop_kept : IsKept cap (record st { ins = set st.ins a y; popped = Some a }) a
     pop_kept = record {
       standing = record {
-        some = k.standing.some; small = k.standing.small; rank = k.standing.rank; few = k.standing.few; all_outs = k.standing.all_outs;
+        some = k.standing.some;
+        small = k.standing.small;
+        rank = k.standing.rank;
+        few = k.standing.few;
+        all_outs = k.standing.all_outs;
         all_ins = length-set st.ins a y ∙ k.standing.all_ins;
         each_out = k.standing.each_out;
         each_in = each_set (λ j i. IsIn st.stage i) st.ins a y k.standing.each_in y_is;
@@ -131,7 +142,11 @@ module _ (cap : ℕ) (st : State) (from a : ℕ) (k : IsKept cap st from) (poppe
       pub unpop_kept : IsKept cap (record st { ins = set st.ins a y; popped = None }) low
       unpop_kept = record {
         standing = record {
-          some = k.standing.some; small = k.standing.small; rank = k.standing.rank; few = k.standing.few; all_outs = k.standing.all_outs;
+          some = k.standing.some;
+          small = k.standing.small;
+          rank = k.standing.rank;
+          few = k.standing.few;
+          all_outs = k.standing.all_outs;
           all_ins = length-set st.ins a y ∙ k.standing.all_ins;
           each_out = k.standing.each_out;
           each_in = each_set (λ j i. IsIn st.stage i) st.ins a y k.standing.each_in (record {
@@ -191,7 +206,10 @@ module _ (cap : ℕ) (st : State) (from : ℕ) (k : IsKept cap st from) (all : s
   pub reset_kept : IsKept cap (after_reset st) from
   reset_kept = record {
     standing = record {
-      some = k.standing.some; small = k.standing.small; rank = k.standing.rank; few = k.standing.few;
+      some = k.standing.some;
+      small = k.standing.small;
+      rank = k.standing.rank;
+      few = k.standing.few;
       all_outs = length-map st.outs reopened ∙ k.standing.all_outs;
       all_ins = length-map st.ins resumed ∙ k.standing.all_ins;
       each_out = λ b o w. let v : b < length st.outs = omega (arith, w, length-map st.outs reopened) in subst (IsOut cap Start false) (sym (get_or-map reopened st.outs b no_out o v)) (reopened_is (get_or st.outs b no_out) (k.standing.each_out b no_out v));

@@ -150,13 +150,14 @@ module _ (ranks cap slots r : ℕ) (old new : ℕ → State) (sent sent' got got
   last_one : (mid : ℕ → Part) (step : Step) → NamesRank ranks step → ((q : ℕ) → q < ranks → q ≢ r → later q ≡ mid q) → IsOwnStep step (mid r) (after step (mid r)) → later r ≡ after step (mid r)
       → IsStep ranks r step mid (changed mid r (after step (mid r))) × ((q : ℕ) → q < ranks → later q ≡ changed mid r (after step (mid r)) q)
   last_one mid step named others own is =
-      let k = made mid others step named (record { may = own.may; is = is }) in
-      (record {
-        allowed = k.allowed;
-        own = record { may = own.may; is = at_rank mid (after step (mid r)) };
-        others = λ q h ne. off_rank mid (after step (mid r)) q ne;
-      },
-      each_rank (λ q. later q ≡ changed mid r (after step (mid r)) q) (is ∙ sym (at_rank mid (after step (mid r)))) (λ q h ne. others q h ne ∙ sym (off_rank mid (after step (mid r)) q ne)))
+      let k = made mid others step named (record { may = own.may; is = is }) in (
+        record {
+          allowed = k.allowed;
+          own = record { may = own.may; is = at_rank mid (after step (mid r)) };
+          others = λ q h ne. off_rank mid (after step (mid r)) q ne;
+        },
+        each_rank (λ q. later q ≡ changed mid r (after step (mid r)) q) (is ∙ sym (at_rank mid (after step (mid r)))) (λ q h ne. others q h ne ∙ sym (off_rank mid (after step (mid r)) q ne)),
+      )
 
   noted : ℕ → Part
   noted = changed before r (after Done (before r))
@@ -167,9 +168,10 @@ module _ (ranks cap slots r : ℕ) (old new : ℕ → State) (sent sent' got got
   are_steps false true true own =
       let mid : ℕ → Part = changed before r (after Done (before r)) in
       let here : mid r ≡ after Done (before r) = at_rank before (after Done (before r)) in
-      let others : (q : ℕ) → q < ranks → q ≢ r → later q ≡ mid q = λ q h ne. other_parts q h ne ∙ sym (off_rank before (after Done (before r)) q ne) in
-      (record { allowed = tt; own = record { may = tt; is = here }; others = λ q h ne. off_rank before (after Done (before r)) q ne },
-      last_one mid Complete tt others (record { may = tt; is = refl }) (own.1.1 ∙ ap (after Complete) (sym here)))
+      let others : (q : ℕ) → q < ranks → q ≢ r → later q ≡ mid q = λ q h ne. other_parts q h ne ∙ sym (off_rank before (after Done (before r)) q ne) in (
+        record { allowed = tt; own = record { may = tt; is = here }; others = λ q h ne. off_rank before (after Done (before r)) q ne },
+        last_one mid Complete tt others (record { may = tt; is = refl }) (own.1.1 ∙ ap (after Complete) (sym here)),
+      )
   are_steps false true false own = last_one before Done tt other_parts (record { may = tt; is = refl }) own.1
   are_steps false false true own = last_one before Complete tt other_parts (record { may = tt; is = refl }) own.1
   are_steps false false false own = last_one before Idle tt other_parts (record { may = tt; is = refl }) own.1

@@ -85,7 +85,10 @@ module _ (cap : ℕ) (st : State) (outs : List Out) (ins : List In) (last exchan
 
     pub stack_made : IsStack cap (after_round st outs ins)
     stack_made = record {
-      some = s.some; small = s.small; rank = s.rank; few = s.few;
+      some = s.some;
+      small = s.small;
+      rank = s.rank;
+      few = s.few;
       all_outs = all_outs ∙ s.all_outs;
       all_ins = all_ins ∙ s.all_ins;
       each_out = each_out;

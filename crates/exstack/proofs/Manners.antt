@@ -36,18 +36,33 @@ marks_last : (done last exchange : Bool) → last ≡ (done && not exchange) →
 marks_last done last exchange l = (
   λ h. l ∙ (ap (λ b. done && not b) h ∙ and_false done),
   λ h. l ∙ (ap (λ b. done && not b) h ∙ and_true done),
-  λ h. and_done done (not exchange) (sym l ∙ h))
+  λ h. and_done done (not exchange) (sym l ∙ h),
+)
 
 pub kind_of : (stage : Stage) (done last exchange : Bool) → (is_proceeding stage || is_exchanging stage) ≡ true → exchange ≡ is_exchanging stage → last ≡ (done && not exchange) → Kind stage done last exchange
 kind_of Start done last exchange r x l = absurd (false≢true r)
 kind_of Proceeding done last exchange r x l = let m = marks_last done last exchange l in record {
-  odd = λ n h. absurd (false≢true (sym x ∙ h)); even = λ n h. refl; exchanging = λ h. absurd (false≢true (sym x ∙ h)); reading = λ h. x; none_wait = λ h due. refl;
-  not_last = m.0; not_all = refl; done_last = m.1; last_done = m.2;
+  odd = λ n h. absurd (false≢true (sym x ∙ h));
+  even = λ n h. refl;
+  exchanging = λ h. absurd (false≢true (sym x ∙ h));
+  reading = λ h. x;
+  none_wait = λ h due. refl;
+  not_last = m.0;
+  not_all = refl;
+  done_last = m.1;
+  last_done = m.2;
 }
 kind_of Filling done last exchange r x l = absurd (false≢true r)
 kind_of Exchanging done last exchange r x l = let m = marks_last done last exchange l in record {
-  odd = λ n h. refl; even = λ n h. absurd (false≢true (sym h ∙ x)); exchanging = λ h. refl; reading = λ h. absurd (false≢true (sym h)); none_wait = λ h due. absurd (false≢true (sym h ∙ x));
-  not_last = m.0; not_all = refl; done_last = m.1; last_done = m.2;
+  odd = λ n h. refl;
+  even = λ n h. absurd (false≢true (sym h ∙ x));
+  exchanging = λ h. refl;
+  reading = λ h. absurd (false≢true (sym h));
+  none_wait = λ h due. absurd (false≢true (sym h ∙ x));
+  not_last = m.0;
+  not_all = refl;
+  done_last = m.1;
+  last_done = m.2;
 }
 kind_of Full done last exchange r x l = absurd (false≢true r)
 kind_of AllDone done last exchange r x l = absurd (false≢true r)

@@ -92,9 +92,12 @@ pulled_then d e all unread unread' other = ap (λ k. take (length (items all) - 
 module _ (d e n rounds : ℕ) (exchange : Bool) (i i' : In) (log log' : List Shipped) (due_open : i.due ≡ true → i.ended ≡ false) (due_empty : i.due ≡ true → i.unread ≡ []) (a : LinkAgrees e rounds i.ended i.due log)
     (odd : exchange ≡ true → rounds ≡ 2 * n + 2) (even : exchange ≡ false → rounds ≡ 2 * n + 1) where
   came_pulls : (p : Shipped) (x : Bool) → exchange ≡ x → LinkAgrees e rounds false true log → i.unread ≡ [] → pulled_of_all d e (entries_exchanged d (log ++ p ∷ [])) (cond x p.entries []) ≡ pulled_of_all d e (entries_exchanged d log) i.unread
-  came_pulls p x is t empty = elim (cases_eq d e) [ | inl same ↦ at_now x is same | inr other ↦
-      pulled_then d e (entries_exchanged d (log ++ p ∷ [])) i.unread (cond x p.entries []) other
-      ∙ ap (λ es. pulled_of_all d e es i.unread) (exchanged_then d log p (λ h. other (h ∙ t.ended))) ]
+  came_pulls p x is t empty = elim (cases_eq d e) [
+    | inl same ↦ at_now x is same
+    | inr other ↦
+        pulled_then d e (entries_exchanged d (log ++ p ∷ [])) i.unread (cond x p.entries []) other
+        ∙ ap (λ es. pulled_of_all d e es i.unread) (exchanged_then d log p (λ h. other (h ∙ t.ended)))
+  ]
     where
       none : pulled_of_all d e (entries_exchanged d log) i.unread ≡ items (entries_exchanged d log)
       none = ap (pulled_of_all d e (entries_exchanged d log)) empty ∙ pulled_none d e (entries_exchanged d log)

@@ -76,8 +76,8 @@ module _ (cap n : ℕ) (st new : State) (last exchange : Bool) (sent sent' got g
     pulled = ap (λ (t : State). for_ranks st.ranks (pulled_of t got')) same
         ∙ lists_same st.ranks (pulled_of (record st { outs = new.outs; ins = new.ins }) got') (pulled_of st got)
         (λ d q w.
-            let was = s.each_in q no_in (omega (arith, w, s.all_ins)) in
-            pulled_after d st.epoch n (rounds_in n st.stage) exchange (in_at st q) (in_at new q) (got (link_from st q)) (got' (link_from st q)) was.due_open was.due_empty (a.ins q w) (k.odd n) (k.even n) (m.collected q w));
+        let was = s.each_in q no_in (omega (arith, w, s.all_ins)) in
+        pulled_after d st.epoch n (rounds_in n st.stage) exchange (in_at st q) (in_at new q) (got (link_from st q)) (got' (link_from st q)) was.due_open was.due_empty (a.ins q w) (k.odd n) (k.even n) (m.collected q w));
   }
 
 pub lists_after : (old mid new : State) (sent sent' got got' : Logs) → mid.ranks ≡ old.ranks → SameLists old mid sent sent got got → SameLists mid new sent sent' got got' → SameLists old new sent sent' got got'

@@ -30,8 +30,8 @@ pub record PopIs (st : State) (r : Option (ℕ × Item)) (new : State) : Type 0 
 empty_sum : (ins : List In) → ((a : ℕ) → a < length ins → has_unread (get_or ins a no_in) ≡ false) → sum_by (λ (i : In). length i.unread) ins ≡ 0
 empty_sum ins none =
     let small : All (λ (i : In). length i.unread ≤ 0) ins = λ k d w.
-        let e : (get_or ins k d).unread ≡ [] = none_unread (get_or ins k d) (subst (λ (i : In). has_unread i ≡ false) (get_or_default ins k no_in d w) (none k w)) in
-        omega (arith, ap length e) in
+    let e : (get_or ins k d).unread ≡ [] = none_unread (get_or ins k d) (subst (λ (i : In). has_unread i ≡ false) (get_or_default ins k no_in d w) (none k w)) in
+    omega (arith, ap length e) in
     omega (arith, sum_by-le (λ (i : In). length i.unread) 0 ins small)
 
 first_of : (es : List Entry) → (es ≡ [] → ⊥) → (x : Entry) × (slice_get es 0 ≡ Some x)

@@ -45,7 +45,11 @@ module _ (cap : ℕ) (st : State) (s : IsStack cap st) (none : missing_link st �
 module _ (cap : ℕ) (stage new : Stage) (done : Bool) where
   pub out_other : (o : Out) → o.due ≡ false → (may_be : (due : Bool) → due ≡ false → o.waiting ≡ []) → IsOut cap stage done o → IsOut cap new done o
   out_other o d empty s = record {
-    fits = s.fits; closed_empty = s.closed_empty; closed_done = s.closed_done; done_closed = s.done_closed; due_open = s.due_open;
+    fits = s.fits;
+    closed_empty = s.closed_empty;
+    closed_done = s.closed_done;
+    done_closed = s.done_closed;
+    due_open = s.due_open;
     due_round = λ h. absurd (not_both o.due h d);
     due_exchange = λ h. absurd (not_both o.due h d);
     sent_on = λ h. empty o.due d;
@@ -59,7 +63,12 @@ module _ (cap : ℕ) (st : State) (from : ℕ) (new : Stage) (k : IsKept cap st 
   pub settled : IsKept cap (record st { stage = new }) from
   settled = record {
     standing = record {
-      some = k.standing.some; small = k.standing.small; rank = k.standing.rank; few = k.standing.few; all_outs = k.standing.all_outs; all_ins = k.standing.all_ins;
+      some = k.standing.some;
+      small = k.standing.small;
+      rank = k.standing.rank;
+      few = k.standing.few;
+      all_outs = k.standing.all_outs;
+      all_ins = k.standing.all_ins;
       each_out = λ b d w. subst (IsOut cap new st.done) (get_or_default st.outs b no_out d w) (each_out b w);
       each_in = λ a d w. subst (IsIn new) (get_or_default st.ins a no_in d w) (each_in a w);
       can_unpop = λ a e. absurd (none_some a (sym forgotten ∙ e));
@@ -82,35 +91,39 @@ module _ (cap : ℕ) (st : State) (from : ℕ) (k : IsKept cap st from) (forgott
   filling_kept is = settled cap st from Filling k forgotten
       (λ b w. let d = out_settled cap st k.standing none b w in out_other cap Proceeding Filling st.done (out_at st b) d (λ due h. (was_out Proceeding is b w).sent_on refl) (was_out Proceeding is b w))
       (λ a w.
-          let i : In = in_at st a in
-          let d = in_settled cap st k.standing none a w in
-          let e = (was_in Proceeding is a w).read refl in
-          record { due_open = λ h. absurd (not_both i.due h d); due_empty = λ h. e; due_round = λ h. absurd (not_both i.due h d); read = λ h. e; all_ended = λ h. absurd (false≢true h) })
+      let i : In = in_at st a in
+      let d = in_settled cap st k.standing none a w in
+      let e = (was_in Proceeding is a w).read refl in
+      record { due_open = λ h. absurd (not_both i.due h d); due_empty = λ h. e; due_round = λ h. absurd (not_both i.due h d); read = λ h. e; all_ended = λ h. absurd (false≢true h) })
 
   pub all_done_kept : st.stage ≡ Proceeding → all_ended st ≡ true → IsKept cap (record st { stage = AllDone }) from
   all_done_kept is ended = settled cap st from AllDone k forgotten
       (λ b w. let d = out_settled cap st k.standing none b w in out_other cap Proceeding AllDone st.done (out_at st b) d (λ due h. (was_out Proceeding is b w).sent_on refl) (was_out Proceeding is b w))
       (λ a w.
-          let i : In = in_at st a in
-          let d = in_settled cap st k.standing none a w in
-          let e = (was_in Proceeding is a w).read refl in
-          in_other cap Proceeding AllDone st.done i d e (true_from_ne_false i.ended (λ h. not_both (all_ended st) ended (list_all_at (λ (x : In). x.ended) st.ins a no_in w h))))
+      let i : In = in_at st a in
+      let d = in_settled cap st k.standing none a w in
+      let e = (was_in Proceeding is a w).read refl in
+      in_other cap Proceeding AllDone st.done i d e (true_from_ne_false i.ended (λ h. not_both (all_ended st) ended (list_all_at (λ (x : In). x.ended) st.ins a no_in w h))))
 
   -- and after an exchange round
   pub full_kept : st.stage ≡ Exchanging → IsKept cap (record st { stage = Full }) from
   full_kept is = settled cap st from Full k forgotten
       (λ b w. let d = out_settled cap st k.standing none b w in out_other cap Exchanging Full st.done (out_at st b) d (λ due h. (was_out Exchanging is b w).sent_on d) (was_out Exchanging is b w))
       (λ a w.
-          let i : In = in_at st a in
-          let d = in_settled cap st k.standing none a w in
-          record { due_open = λ h. absurd (not_both i.due h d); due_empty = λ h. absurd (not_both i.due h d); due_round = λ h. absurd (not_both i.due h d); read = λ h. absurd (false≢true (sym h)); all_ended = λ h. absurd (false≢true h) })
+      let i : In = in_at st a in
+      let d = in_settled cap st k.standing none a w in
+      record { due_open = λ h. absurd (not_both i.due h d); due_empty = λ h. absurd (not_both i.due h d); due_round = λ h. absurd (not_both i.due h d); read = λ h. absurd (false≢true (sym h)); all_ended = λ h. absurd (false≢true h) })
 
 -- a stage in which as many rounds have begun
 pub agrees_staged : (n : ℕ) (st : State) (new : Stage) (sent got : Logs) → rounds_in n st.stage ≡ rounds_in n new → AgreesIn n st sent got → AgreesIn n (record st { stage = new }) sent got
 agrees_staged n st new sent got same a = record {
   outs = λ b w. subst (λ r. LinkAgrees st.epoch r (out_at st b).closed (out_at st b).due (sent (link_to st b))) same (a.outs b w);
   ins = λ b w. subst (λ r. LinkAgrees st.epoch r (in_at st b).ended (in_at st b).due (got (link_from st b))) same (a.ins b w);
-  shapes = a.shapes; law = a.law; came = a.came; in_cycle = a.in_cycle; own = a.own;
+  shapes = a.shapes;
+  law = a.law;
+  came = a.came;
+  in_cycle = a.in_cycle;
+  own = a.own;
 }
 
 pub proceed_rounds : (n : ℕ) (p : Proceed) → rounds_in n Proceeding ≡ rounds_in n (stage_of_proceed p)

@@ -42,7 +42,9 @@ module _ (cap : ℕ) (st : State) (to : ℕ) (item : Item) (s : IsStack cap st) 
   push_agrees n sent got a = record {
     outs = λ b w. subst (λ c. LinkAgrees st.epoch (rounds_in n st.stage) c (out_at (pushed_on st item to) b).due (sent (link_to st b))) (sym (marks (λ (o : Out). o.closed) refl b))
         (subst (λ d. LinkAgrees st.epoch (rounds_in n st.stage) (out_at st b).closed d (sent (link_to st b))) (sym (marks (λ (o : Out). o.due) refl b)) (a.outs b w));
-    ins = a.ins; shapes = a.shapes; law = a.law;
+    ins = a.ins;
+    shapes = a.shapes;
+    law = a.law;
     came = λ b w. forget st.popped b (in_at st b) (a.came b w);
     in_cycle = λ b w. forget st.popped b (in_at st b) (a.in_cycle b w);
     own = a.own;
@@ -122,7 +124,8 @@ module _ (cap : ℕ) (st : State) (a : ℕ) (x : Entry) (s : IsStack cap st) (be
     outs = g.outs;
     ins = λ b w. subst (λ c. LinkAgrees st.epoch (rounds_in n st.stage) c (in_at (popped_from st (Some a)) b).due (got (link_from st b))) (sym (in_marks (λ (i : In). i.ended) refl b))
         (subst (λ d. LinkAgrees st.epoch (rounds_in n st.stage) (in_at st b).ended d (got (link_from st b))) (sym (in_marks (λ (i : In). i.due) refl b)) (g.ins b w));
-    shapes = g.shapes; law = g.law;
+    shapes = g.shapes;
+    law = g.law;
     came = λ b w. subst (Ends (entries_exchanged st.epoch (got (link_from st b)))) (sym (back_is b)) (forget st.popped b (in_at st b) (g.came b w));
     in_cycle = λ b w. subst (Ends (entries_in (exchange_parcel st.epoch n (got (link_from st b))))) (sym (back_is b)) (forget st.popped b (in_at st b) (g.in_cycle b w));
     own = g.own;
@@ -206,7 +209,8 @@ module _ (cap : ℕ) (st : State) (a : ℕ) (x : Entry) (s : IsStack cap st) (po
     outs = g.outs;
     ins = λ b w. subst (λ c. LinkAgrees st.epoch (rounds_in n st.stage) c (in_at (unpopped st (Some a)) b).due (got (link_from st b))) (sym (put_marks (λ (i : In). i.ended) refl b))
         (subst (λ d. LinkAgrees st.epoch (rounds_in n st.stage) (in_at st b).ended d (got (link_from st b))) (sym (put_marks (λ (i : In). i.due) refl b)) (g.ins b w));
-    shapes = g.shapes; law = g.law;
+    shapes = g.shapes;
+    law = g.law;
     came = λ b w. subst (Ends (entries_exchanged st.epoch (got (link_from st b)))) (first_is b) (g.came b w);
     in_cycle = λ b w. subst (Ends (entries_in (exchange_parcel st.epoch n (got (link_from st b))))) (first_is b) (g.in_cycle b w);
     own = g.own;

@@ -162,7 +162,11 @@ pub fn collect_all<const CAP: usize, P: Port<CAP>>(
 
 /// The link for which a round still waits: the lowest link out on which a parcel is due, or else the lowest such link
 /// in.
-pub fn missing<const CAP: usize>(outs: &[OutLink<CAP>], ins: &[InLink<CAP>], rank: u32) -> Option<u32>
+pub fn missing<const CAP: usize>(
+    outs: &[OutLink<CAP>],
+    ins: &[InLink<CAP>],
+    rank: u32,
+) -> Option<u32>
     requires within { rank < length outs.now }
     requires count { length ins.now ≡ length outs.now }
     requires few { length outs.now ≤ 64 }
@@ -182,23 +186,33 @@ fn lowest_due_out<const CAP: usize>(outs: &[OutLink<CAP>]) -> Option<usize>
     ensures value { result ≡ position (λ o. o.due) outs.now }
     ensures within { IfSome result (λ b. b < length outs.now) }
 {
-    outs.iter()
-        .position(|link| -> bool ensures { result ≡ link.now.due } { link.is_due() })
+    outs.iter().position(
+        |link| -> bool
+            ensures { result ≡ link.now.due }
+        { link.is_due() },
+    )
 }
 
 fn lowest_due_in<const CAP: usize>(ins: &[InLink<CAP>]) -> Option<usize>
     ensures value { result ≡ position (λ i. i.due) ins.now }
     ensures within { IfSome result (λ a. a < length ins.now) }
 {
-    ins.iter()
-        .position(|link| -> bool ensures { result ≡ link.now.due } { link.is_due() })
+    ins.iter().position(
+        |link| -> bool
+            ensures { result ≡ link.now.due }
+        { link.is_due() },
+    )
 }
 
 /// Whether every link in has ended.
 pub fn all_ended<const CAP: usize>(ins: &[InLink<CAP>]) -> bool
     ensures { result ≡ list_all (λ i. i.ended) ins.now }
 {
-    ins.iter().all(|link| -> bool ensures { result ≡ link.now.ended } { link.has_ended() })
+    ins.iter().all(
+        |link| -> bool
+            ensures { result ≡ link.now.ended }
+        { link.has_ended() },
+    )
 }
 
 /// How many items are unread.

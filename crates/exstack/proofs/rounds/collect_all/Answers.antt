@@ -44,11 +44,16 @@ collect-requires g c =
     let now : c.index_mut.result.now ≡ get_or xs a no_in = sweep_here _ _ _ _ _ _ _ _ _ within k.collected c.index_mut.ensures.value in
     let log : g.P.Port.got c.loop-a.port (number n a r) ≡ g.P.Port.got c.args.port.now (number n a r) = ap (λ (s : Sight). s.log) (k.collected.shown a (omega arith) within) in
     let due : c.index_mut.result.now.due ≡ true → lasts (g.P.Port.got c.loop-a.port l) ≡ c.args.epoch = λ d.
-    ap (λ m. lasts (g.P.Port.got c.loop-a.port m)) (sym here) ∙ (ap lasts log ∙ c.requires.epoch a within (ap (λ (i : In). i.due) (sym now) ∙ d)) in
-    (search rules,
-    (subst (λ ds. l < links ds) (sym dims) (subst (λ x. x < links (n ∷ [])) here (number_within n a r within c.requires.within c.requires.few)),
-    (ap (λ ds. reader_at ds l) dims ∙ (ap (reader_at (n ∷ [])) (sym here) ∙ (number_reader n a r within c.requires.within c.requires.few ∙ (sym c.requires.rank ∙ sym k.same_rank))),
-    due)))
+    ap (λ m. lasts (g.P.Port.got c.loop-a.port m)) (sym here) ∙ (ap lasts log ∙ c.requires.epoch a within (ap (λ (i : In). i.due) (sym now) ∙ d)) in (
+      search rules,
+      (
+        subst (λ ds. l < links ds) (sym dims) (subst (λ x. x < links (n ∷ [])) here (number_within n a r within c.requires.within c.requires.few)),
+        (
+          ap (λ ds. reader_at ds l) dims ∙ (ap (reader_at (n ∷ [])) (sym here) ∙ (number_reader n a r within c.requires.within c.requires.few ∙ (sym c.requires.rank ∙ sym k.same_rank))),
+          due,
+        ),
+      ),
+    )
 
 pub loop-a-preserved : goal.loop-a-preserved
 loop-a-preserved g c =

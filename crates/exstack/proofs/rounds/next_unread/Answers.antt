@@ -9,5 +9,5 @@ returns-then-has_unread g c =
     let w : c.args.from < length c.args.ins.now = omega arith in
     let x : In = c.index-ins-from.result in
     let here : has_unread (get_or c.args.ins.now c.args.from no_in) ≡ true =
-        ap has_unread (get_or_default c.args.ins.now c.args.from no_in x w ∙ sym c.index-ins-from.is) ∙ (sym c.has_unread.ensures ∙ c.if-has_unread.true) in
+    ap has_unread (get_or_default c.args.ins.now c.args.from no_in x w ∙ sym c.index-ins-from.is) ∙ (sym c.has_unread.ensures ∙ c.if-has_unread.true) in
     place_is has_unread c.args.ins.now c.args.from no_in w c.requires.none here

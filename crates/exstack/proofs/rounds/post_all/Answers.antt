@@ -45,11 +45,22 @@ post-requires g c =
     let now : c.index_mut.result.now ≡ get_or xs b no_out = sweep_here _ _ _ _ _ _ _ _ _ within k.posted c.index_mut.ensures.value in
     let log : g.P.Port.sent c.loop-b.port (number n r b) ≡ g.P.Port.sent c.args.port.now (number n r b) = ap (λ (s : Sight). s.log) (k.posted.shown b (omega arith) within) in
     let due : c.index_mut.result.now.due ≡ true → lasts (g.P.Port.sent c.loop-b.port l) ≡ c.args.epoch = λ d.
-    ap (λ m. lasts (g.P.Port.sent c.loop-b.port m)) (sym here) ∙ (ap lasts log ∙ c.requires.epoch b within (ap (λ (o : Out). o.due) (sym now) ∙ d)) in
-    (search rules, (subst IsGrid (sym dims) (grid_one n some c.requires.few), (ap length dims,
-    (subst (λ ds. l < links ds) (sym dims) (subst (λ x. x < links (n ∷ [])) here (number_within n r b c.requires.within within c.requires.few)),
-    (ap (λ ds. sender_at ds l) dims ∙ (ap (sender_at (n ∷ [])) (sym here) ∙ (number_sender n r b c.requires.within within c.requires.few ∙ (sym c.requires.rank ∙ sym k.same_rank))),
-    (due, law_same _ _ _ _ _ _ _ _ k.same_dims k.same_rank refl k.got k.law))))))
+    ap (λ m. lasts (g.P.Port.sent c.loop-b.port m)) (sym here) ∙ (ap lasts log ∙ c.requires.epoch b within (ap (λ (o : Out). o.due) (sym now) ∙ d)) in (
+      search rules,
+      (
+        subst IsGrid (sym dims) (grid_one n some c.requires.few),
+        (
+          ap length dims,
+          (
+            subst (λ ds. l < links ds) (sym dims) (subst (λ x. x < links (n ∷ [])) here (number_within n r b c.requires.within within c.requires.few)),
+            (
+              ap (λ ds. sender_at ds l) dims ∙ (ap (sender_at (n ∷ [])) (sym here) ∙ (number_sender n r b c.requires.within within c.requires.few ∙ (sym c.requires.rank ∙ sym k.same_rank))),
+              (due, law_same _ _ _ _ _ _ _ _ k.same_dims k.same_rank refl k.got k.law),
+            ),
+          ),
+        ),
+      ),
+    )
 
 pub loop-b-preserved : goal.loop-b-preserved
 loop-b-preserved g c =

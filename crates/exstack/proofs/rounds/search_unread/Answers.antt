@@ -10,7 +10,7 @@ returns-then-has_unread g c =
     let w : c.loop-at.at < length c.args.ins.now = omega arith in
     let x : In = c.index-ins-at.result in
     let here : has_unread (get_or c.args.ins.now c.loop-at.at no_in) ≡ true =
-        ap has_unread (get_or_default c.args.ins.now c.loop-at.at no_in x w ∙ sym c.index-ins-at.is) ∙ (sym c.has_unread.ensures ∙ c.if-has_unread.true) in
+    ap has_unread (get_or_default c.args.ins.now c.loop-at.at no_in x w ∙ sym c.index-ins-at.is) ∙ (sym c.has_unread.ensures ∙ c.if-has_unread.true) in
     place_is has_unread c.args.ins.now c.loop-at.at no_in w c.loop-at.invariant here
 
 pub returns : goal.returns

@@ -25,9 +25,22 @@ go_round-requires g c =
     let is : b ≡ in_exchange now = c.begin_exchange.ensures.state ∙ ap (in_exchange) view in
     let s : IsStack g.row.CAP now = subst (IsStack g.row.CAP) view c.begin_exchange.ensures.standing in
     let k : Begun b Exchanging now.done now = subst (λ (t : State). Begun t Exchanging now.done now) (sym is) (exchange_begun now) in
-    let agrees : (n : ℕ) → AgreesIn n now sent got → AgreesIn n b sent got = λ n a. subst (λ (t : State). AgreesIn n t sent got) (sym is) (exchange_agrees g.row.CAP n now sent got s c.requires.may a) in
-    (search rules, (ap (λ (s : Stage). is_proceeding s || is_exchanging s) k.stage_is, (sym (ap is_exchanging k.stage_is), (sym (and_false b.done), (k.forgotten,
-    (c.requires.same_dims ∙ ap (λ m. m ∷ []) (sym k.ranks), (c.requires.same_rank ∙ sym k.rank, record { cycle = c.requires.agrees.cycle; agrees = agrees c.requires.agrees.cycle c.requires.agrees.agrees })))))))
+    let agrees : (n : ℕ) → AgreesIn n now sent got → AgreesIn n b sent got = λ n a. subst (λ (t : State). AgreesIn n t sent got) (sym is) (exchange_agrees g.row.CAP n now sent got s c.requires.may a) in (
+      search rules,
+      (
+        ap (λ (s : Stage). is_proceeding s || is_exchanging s) k.stage_is,
+        (
+          sym (ap is_exchanging k.stage_is),
+          (
+            sym (and_false b.done),
+            (
+              k.forgotten,
+              (c.requires.same_dims ∙ ap (λ m. m ∷ []) (sym k.ranks), (c.requires.same_rank ∙ sym k.rank, record { cycle = c.requires.agrees.cycle; agrees = agrees c.requires.agrees.cycle c.requires.agrees.agrees })),
+            ),
+          ),
+        ),
+      ),
+    )
 
 pub returns-in_err-missing-clause-agrees : goal.returns-in_err-missing-clause-agrees
 returns-in_err-missing-clause-agrees g c =

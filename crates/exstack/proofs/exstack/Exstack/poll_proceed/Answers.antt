@@ -25,9 +25,22 @@ go_round-requires g c =
     let is : b ≡ in_proceed c.args.done now = c.begin_proceed.ensures.state ∙ ap (in_proceed c.args.done) view in
     let s : IsStack g.row.CAP now = subst (IsStack g.row.CAP) view c.begin_proceed.ensures.standing in
     let k : Begun b Proceeding c.args.done now = subst (λ (t : State). Begun t Proceeding c.args.done now) (sym is) (proceed_begun c.args.done now c.requires.same_done) in
-    let agrees : (n : ℕ) → AgreesIn n now sent got → AgreesIn (cycle_after n now.stage) b sent got = λ n a. subst (λ (t : State). AgreesIn (cycle_after n now.stage) t sent got) (sym is) (proceed_agrees g.row.CAP n now c.args.done sent got s c.requires.may a) in
-    (search rules, (ap (λ (s : Stage). is_proceeding s || is_exchanging s) k.stage_is, (sym (ap is_exchanging k.stage_is), (sym (and_true b.done ∙ k.done_is), (k.forgotten,
-    (c.requires.same_dims ∙ ap (λ m. m ∷ []) (sym k.ranks), (c.requires.same_rank ∙ sym k.rank, record { cycle = (cycle_after c.requires.agrees.cycle now.stage); agrees = agrees c.requires.agrees.cycle c.requires.agrees.agrees })))))))
+    let agrees : (n : ℕ) → AgreesIn n now sent got → AgreesIn (cycle_after n now.stage) b sent got = λ n a. subst (λ (t : State). AgreesIn (cycle_after n now.stage) t sent got) (sym is) (proceed_agrees g.row.CAP n now c.args.done sent got s c.requires.may a) in (
+      search rules,
+      (
+        ap (λ (s : Stage). is_proceeding s || is_exchanging s) k.stage_is,
+        (
+          sym (ap is_exchanging k.stage_is),
+          (
+            sym (and_true b.done ∙ k.done_is),
+            (
+              k.forgotten,
+              (c.requires.same_dims ∙ ap (λ m. m ∷ []) (sym k.ranks), (c.requires.same_rank ∙ sym k.rank, record { cycle = (cycle_after c.requires.agrees.cycle now.stage); agrees = agrees c.requires.agrees.cycle c.requires.agrees.agrees })),
+            ),
+          ),
+        ),
+      ),
+    )
 
 pub returns-in_err-missing-clause-agrees : goal.returns-in_err-missing-clause-agrees
 returns-in_err-missing-clause-agrees g c =

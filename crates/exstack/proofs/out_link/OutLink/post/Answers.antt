@@ -10,9 +10,22 @@ use Rattle.exstack.proofs.out_link.OutLink.post.Goals as goal
 
 pub post-requires : goal.post-requires
 post-requires g c =
-    let same : c.set_last.new.self.untaken ≡ c.self.inside.parcel.untaken = ap (λ p. p.untaken) c.set_last.ensures ∙ ap (λ p. p.untaken) c.set_epoch.ensures in
-    (search rules, (search rules, (search rules, (search rules, (search rules,
-    plain_law _ _ _ _ _ (shipped c.set_last.new.self) c.requires.grid c.requires.one_hop c.requires.link (subst (All (λ (e : Entry). e.tag ≡ no_tag)) (sym same) c.self.invariant.1) c.requires.law)))))
+    let same : c.set_last.new.self.untaken ≡ c.self.inside.parcel.untaken = ap (λ p. p.untaken) c.set_last.ensures ∙ ap (λ p. p.untaken) c.set_epoch.ensures in (
+      search rules,
+      (
+        search rules,
+        (
+          search rules,
+          (
+            search rules,
+            (
+              search rules,
+              plain_law _ _ _ _ _ (shipped c.set_last.new.self) c.requires.grid c.requires.one_hop c.requires.link (subst (All (λ (e : Entry). e.tag ≡ no_tag)) (sym same) c.self.invariant.1) c.requires.law,
+            ),
+          ),
+        ),
+      ),
+    )
 
 pub returns-in-Ok-Sent-clause-law : goal.returns-in-Ok-Sent-clause-law
 returns-in-Ok-Sent-clause-law g c =

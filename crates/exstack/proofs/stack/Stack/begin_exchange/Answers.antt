@@ -8,8 +8,16 @@ use Rattle.exstack.proofs.stack.Stack.begin_exchange.Goals as goal
 
 pub invariant_of-self-2 : goal.invariant_of-self-2
 invariant_of-self-2 g c =
-    let st : State = record { ranks = c.self.inside.ranks; rank = c.self.inside.rank; stage = c.self.inside.stage; done = c.self.inside.done; epoch = c.self.inside.epoch;
-      outs = c.self.inside.outs.items; ins = c.self.inside.ins.items; popped = c.self.inside.popped } in
+    let st : State = record {
+      ranks = c.self.inside.ranks;
+      rank = c.self.inside.rank;
+      stage = c.self.inside.stage;
+      done = c.self.inside.done;
+      epoch = c.self.inside.epoch;
+      outs = c.self.inside.outs.items;
+      ins = c.self.inside.ins.items;
+      popped = c.self.inside.popped;
+    } in
     let now : State = c.args.self.now in
     let view : st ≡ now = c.self.view_is in
     let may : may_exchange st.stage ≡ true = ap (λ (t : State). may_exchange t.stage) view ∙ c.requires in

@@ -12,8 +12,16 @@ use Rattle.exstack.proofs.stack.Stack.go_round.Goals as goal
 
 pub invariant_of-self : goal.invariant_of-self
 invariant_of-self g c =
-    let st : State = record { ranks = c.self.inside.ranks; rank = c.self.inside.rank; stage = c.self.inside.stage; done = c.self.inside.done; epoch = c.self.inside.epoch;
-      outs = c.self.inside.outs.items; ins = c.self.inside.ins.items; popped = c.self.inside.popped } in
+    let st : State = record {
+      ranks = c.self.inside.ranks;
+      rank = c.self.inside.rank;
+      stage = c.self.inside.stage;
+      done = c.self.inside.done;
+      epoch = c.self.inside.epoch;
+      outs = c.self.inside.outs.items;
+      ins = c.self.inside.ins.items;
+      popped = c.self.inside.popped;
+    } in
     let now : State = c.args.self.now in
     let view : st ≡ now = c.self.view_is in
     let s : IsStack g.row.CAP st = c.self.invariant.standing in
@@ -37,8 +45,16 @@ invariant_of-self g c =
 
 pub returns-in_err-post_all-clause-cycle : goal.returns-in_err-post_all-clause-cycle
 returns-in_err-post_all-clause-cycle g c =
-    let st : State = record { ranks = c.self.inside.ranks; rank = c.self.inside.rank; stage = c.self.inside.stage; done = c.self.inside.done; epoch = c.self.inside.epoch;
-      outs = c.self.inside.outs.items; ins = c.self.inside.ins.items; popped = c.self.inside.popped } in
+    let st : State = record {
+      ranks = c.self.inside.ranks;
+      rank = c.self.inside.rank;
+      stage = c.self.inside.stage;
+      done = c.self.inside.done;
+      epoch = c.self.inside.epoch;
+      outs = c.self.inside.outs.items;
+      ins = c.self.inside.ins.items;
+      popped = c.self.inside.popped;
+    } in
     let now : State = c.args.self.now in
     let view : st ≡ now = c.self.view_is in
     let s : IsStack g.row.CAP st = c.self.invariant.standing in
@@ -59,8 +75,16 @@ returns-in_err-post_all-clause-cycle g c =
 
 pub invariant_of-self-2 : goal.invariant_of-self-2
 invariant_of-self-2 g c =
-    let st : State = record { ranks = c.self.inside.ranks; rank = c.self.inside.rank; stage = c.self.inside.stage; done = c.self.inside.done; epoch = c.self.inside.epoch;
-      outs = c.self.inside.outs.items; ins = c.self.inside.ins.items; popped = c.self.inside.popped } in
+    let st : State = record {
+      ranks = c.self.inside.ranks;
+      rank = c.self.inside.rank;
+      stage = c.self.inside.stage;
+      done = c.self.inside.done;
+      epoch = c.self.inside.epoch;
+      outs = c.self.inside.outs.items;
+      ins = c.self.inside.ins.items;
+      popped = c.self.inside.popped;
+    } in
     let now : State = c.args.self.now in
     let view : st ≡ now = c.self.view_is in
     let s : IsStack g.row.CAP st = c.self.invariant.standing in
@@ -92,8 +116,16 @@ invariant_of-self-2 g c =
 
 pub returns-clause-cycle : goal.returns-clause-cycle
 returns-clause-cycle g c =
-    let st : State = record { ranks = c.self.inside.ranks; rank = c.self.inside.rank; stage = c.self.inside.stage; done = c.self.inside.done; epoch = c.self.inside.epoch;
-      outs = c.self.inside.outs.items; ins = c.self.inside.ins.items; popped = c.self.inside.popped } in
+    let st : State = record {
+      ranks = c.self.inside.ranks;
+      rank = c.self.inside.rank;
+      stage = c.self.inside.stage;
+      done = c.self.inside.done;
+      epoch = c.self.inside.epoch;
+      outs = c.self.inside.outs.items;
+      ins = c.self.inside.ins.items;
+      popped = c.self.inside.popped;
+    } in
     let now : State = c.args.self.now in
     let view : st ≡ now = c.self.view_is in
     let s : IsStack g.row.CAP st = c.self.invariant.standing in
@@ -122,8 +154,16 @@ returns-clause-cycle g c =
 
 pub returns-clause-round : goal.returns-clause-round
 returns-clause-round g c =
-    let st : State = record { ranks = c.self.inside.ranks; rank = c.self.inside.rank; stage = c.self.inside.stage; done = c.self.inside.done; epoch = c.self.inside.epoch;
-      outs = c.self.inside.outs.items; ins = c.self.inside.ins.items; popped = c.self.inside.popped } in
+    let st : State = record {
+      ranks = c.self.inside.ranks;
+      rank = c.self.inside.rank;
+      stage = c.self.inside.stage;
+      done = c.self.inside.done;
+      epoch = c.self.inside.epoch;
+      outs = c.self.inside.outs.items;
+      ins = c.self.inside.ins.items;
+      popped = c.self.inside.popped;
+    } in
     let now : State = c.args.self.now in
     let view : st ≡ now = c.self.view_is in
     let s : IsStack g.row.CAP st = c.self.invariant.standing in
@@ -153,8 +193,16 @@ returns-clause-round g c =
 
 pub returns-clause-asked : goal.returns-clause-asked
 returns-clause-asked g c = λ ok a w due.
-    let st : State = record { ranks = c.self.inside.ranks; rank = c.self.inside.rank; stage = c.self.inside.stage; done = c.self.inside.done; epoch = c.self.inside.epoch;
-      outs = c.self.inside.outs.items; ins = c.self.inside.ins.items; popped = c.self.inside.popped } in
+    let st : State = record {
+      ranks = c.self.inside.ranks;
+      rank = c.self.inside.rank;
+      stage = c.self.inside.stage;
+      done = c.self.inside.done;
+      epoch = c.self.inside.epoch;
+      outs = c.self.inside.outs.items;
+      ins = c.self.inside.ins.items;
+      popped = c.self.inside.popped;
+    } in
     let now : State = c.args.self.now in
     let view : st ≡ now = c.self.view_is in
     let s : IsStack g.row.CAP st = c.self.invariant.standing in

@@ -6,8 +6,16 @@ use Rattle.exstack.proofs.stack.Stack.settle_exchange.Goals as goal
 
 pub invariant_of-self : goal.invariant_of-self
 invariant_of-self g c =
-    let st : State = record { ranks = c.self.inside.ranks; rank = c.self.inside.rank; stage = c.self.inside.stage; done = c.self.inside.done; epoch = c.self.inside.epoch;
-      outs = c.self.inside.outs.items; ins = c.self.inside.ins.items; popped = c.self.inside.popped } in
+    let st : State = record {
+      ranks = c.self.inside.ranks;
+      rank = c.self.inside.rank;
+      stage = c.self.inside.stage;
+      done = c.self.inside.done;
+      epoch = c.self.inside.epoch;
+      outs = c.self.inside.outs.items;
+      ins = c.self.inside.ins.items;
+      popped = c.self.inside.popped;
+    } in
     let now : State = c.args.self.now in
     let view : st ≡ now = c.self.view_is in
     let none : missing_link st ≡ None = ap missing_link view ∙ (sym c.requires.is_missing ∙ search rules) in

@@ -1,21 +1,18 @@
 -- What holds of an exstack as a round begins.
-use Rattle.std.proofs.Common.{◌≡◌, ℕ, zero, suc, ◌+◌, ◌*◌, ◌<◌, ◌≤◌, ◌==◌, ◌||◌, Bool, true, false, not, cond, map, List, [], ◌∷◌, length, get_or, Option, Some, None, refl, sym, ap, subst, ◌∙◌, arith, inl, inr}
-use Rattle.std.specs.List.{sum_by}
-use Rattle.std.proofs.lemmas.Bool.{false≢true, false_from_ne_true, cases_lt}
+use Rattle.std.proofs.Common.{◌≡◌, ℕ, ◌+◌, ◌*◌, ◌<◌, ◌==◌, ◌||◌, Bool, true, false, not, cond, map, List, [], length, get_or, Option, Some, None, refl, sym, ap, subst, ◌∙◌, arith}
+use Rattle.std.proofs.lemmas.Bool.{false≢true, false_from_ne_true}
 use Rattle.std.proofs.lemmas.List.{length-map, get_or-map}
-use Rattle.std.proofs.lemmas.List.Sums.{get_or-le-sum_by}
-use Rattle.list_laws.specs.Lists.{EachAt}
 use Rattle.bale_types.specs.declared.item.Entry.{Entry}
 use Rattle.item_buffer.specs.Contents.{Shipped}
 use Rattle.port_bank.specs.Logs.{Logs, segment}
 use Rattle.exstack.specs.declared.stage.Stage.{Stage}
 use Rattle.exstack.specs.declared.stage.Stage.TheVariants.{Start, Proceeding, Filling, Exchanging, Full, AllDone}
 use Rattle.exstack.specs.Links.{Out, In, no_out, no_in, with_back, begun_out, begun_in}
-use Rattle.exstack.specs.State.{State, out_at, in_at, link_to, link_from, unread_of, is_proceeding, is_exchanging, may_proceed, may_exchange, may_read, in_proceed, in_exchange}
+use Rattle.exstack.specs.State.{State, out_at, in_at, link_to, link_from, is_proceeding, is_exchanging, may_proceed, may_exchange, in_proceed, in_exchange}
 use Rattle.exstack.specs.Standing.{IsOut, IsIn, IsStack, IsKept, may_wait}
 use Rattle.exstack.specs.Cycles.{entries_exchanged, exchange_parcel, entries_in}
 use Rattle.exstack.specs.Agreement.{LinkAgrees, AgreesIn, rounds_in, cycle_after, Ends, back_first}
-use Rattle.exstack.proofs.Calls.{not_both, stack_rest}
+use Rattle.exstack.proofs.Calls.{not_both}
 use Rattle.exstack.proofs.OneLink.{ends_none, ends_less}
 
 not_true : (b : Bool) → not b ≡ false → b ≡ true

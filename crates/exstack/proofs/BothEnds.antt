@@ -1,10 +1,9 @@
 -- One link, seen from both of its ends.
-use Rattle.std.proofs.Common.{◌≡◌, ◌≢◌, ℕ, zero, suc, ◌+◌, ◌-◌, ◌*◌, ◌%◌, ◌<◌, ◌≤◌, ◌==◌, ◌⊎◌, Bool, true, false, cond, List, [], ◌∷◌, ◌++◌, length, take, drop, get_or, slice_get, Option, Some, inl, inr, refl, sym, ap, subst, ◌∙◌, arith, ne_eqb}
+use Rattle.std.proofs.Common.{◌≡◌, ℕ, suc, ◌+◌, ◌-◌, ◌*◌, ◌%◌, ◌<◌, ◌==◌, ◌⊎◌, Bool, true, false, cond, List, [], ◌∷◌, ◌++◌, length, take, drop, get_or, slice_get, Some, inl, inr, refl, sym, ap, subst, ◌∙◌, arith, ne_eqb}
 use Rattle.std.specs.List.{flat_map}
 use Rattle.std.proofs.lemmas.Bool.{cases_eq, cases_lt, false≢true}
 use Rattle.std.proofs.lemmas.List.{append-nil, take-append-drop, take_all, get_or_append_left}
 use Rattle.std.proofs.lemmas.Option.{slice_get_within}
-use Rattle.bale_types.specs.declared.item.Item.{Item}
 use Rattle.bale_types.specs.declared.item.Entry.{Entry}
 use Rattle.item_buffer.specs.Contents.{Shipped}
 use Rattle.list_laws.specs.Lists.{Begins}
@@ -17,12 +16,12 @@ use Rattle.port_bank.proofs.Segments.{lasts_begins, segment_begins, segment_same
 use Rattle.port_bank.proofs.Owners.{starting_own, ending_own}
 use Rattle.exstack.specs.declared.stage.Stage.{Stage}
 use Rattle.exstack.specs.declared.stage.Stage.TheVariants.{Start, Proceeding, Filling, Exchanging, Full, AllDone}
-use Rattle.exstack.specs.Links.{Out, In, no_out, no_in}
+use Rattle.exstack.specs.Links.{no_out, no_in}
 use Rattle.exstack.specs.State.{State, out_at, in_at, number, link_to, link_from, may_read}
 use Rattle.exstack.specs.Cycles.{proceed_parcel, exchange_parcel, odd_ones, entries_sent, entries_exchanged, items}
-use Rattle.exstack.specs.Agreement.{LinkAgrees, lasts_in, AgreesWith}
+use Rattle.exstack.specs.Agreement.{lasts_in}
 use Rattle.exstack.specs.Parts.{pushed_to, pulled_of, part_of, is_all_done}
-use Rattle.exstack.specs.Standing.{IsStack, IsOut, IsIn}
+use Rattle.exstack.specs.Standing.{IsOut, IsIn}
 use Rattle.exstack.specs.Law.{AgreeTogether}
 use Rattle.exstack.proofs.OneHop.{number_within, number_sender, number_reader}
 use Rattle.exstack.proofs.Pieces.{pulled_none}

@@ -1,5 +1,5 @@
 -- A round keeps what holds of an exstack, and the agreement.
-use Rattle.std.proofs.Common.{◌≡◌, ◌≢◌, ℕ, ◌+◌, ◌*◌, ◌%◌, ◌<◌, ◌≤◌, ◌==◌, ◌||◌, ◌&&◌, Bool, true, false, not, cond, List, [], ◌∷◌, ◌++◌, length, get_or, Option, Some, None, refl, sym, ap, subst, ◌∙◌, arith}
+use Rattle.std.proofs.Common.{◌≡◌, ℕ, ◌+◌, ◌*◌, ◌%◌, ◌<◌, ◌||◌, ◌&&◌, Bool, true, false, not, cond, List, [], ◌∷◌, ◌++◌, length, get_or, Some, None, refl, sym, ap, subst, ◌∙◌, arith}
 use Rattle.std.proofs.lemmas.Bool.{false≢true}
 use Rattle.std.proofs.lemmas.List.{get_or_default}
 use Rattle.list_laws.specs.Lists.{Begins, EachAt}
@@ -9,11 +9,11 @@ use Rattle.port_bank.specs.Shapes.{IsExstackShape}
 use Rattle.port_bank.specs.Relay.{RelayLaw}
 use Rattle.exstack.specs.declared.stage.Stage.{Stage}
 use Rattle.exstack.specs.Links.{Out, In, no_out, no_in, parcel_of, gone, came}
-use Rattle.exstack.specs.State.{State, out_at, in_at, dims_of, number, link_to, link_from, is_proceeding, is_exchanging, may_read}
+use Rattle.exstack.specs.State.{State, out_at, in_at, dims_of, number, link_to, link_from, is_proceeding, is_exchanging}
 use Rattle.exstack.specs.Steps.{was_moved, WasPosted, WasCollected, latest, MadeRound}
-use Rattle.exstack.specs.Standing.{IsOut, IsIn, IsStack, IsKept, may_wait}
+use Rattle.exstack.specs.Standing.{IsOut, IsIn, IsStack}
 use Rattle.exstack.specs.Cycles.{entries_exchanged, exchange_parcel, entries_in}
-use Rattle.exstack.specs.Agreement.{LinkAgrees, AgreesIn, rounds_in, Ends, back_first}
+use Rattle.exstack.specs.Agreement.{AgreesIn, rounds_in, Ends, back_first}
 use Rattle.exstack.proofs.Calls.{not_both}
 use Rattle.exstack.proofs.OneLink.{moved_due, out_agrees, in_agrees, shape_more, Reads, reads_after}
 use Rattle.port_bank.proofs.Fronts.{begins_refl, begins_trans}

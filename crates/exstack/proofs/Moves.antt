@@ -1,14 +1,11 @@
 -- What a round does on each link, as a sweep over the links.
-use Rattle.std.proofs.Common.{◌≡◌, ◌≢◌, ℕ, ◌+◌, ◌*◌, ◌<◌, ◌≤◌, Bool, true, false, cond, List, [], ◌∷◌, ◌++◌, length, get_or, set, refl, sym, ap, subst, ◌∙◌, arith, inl, inr}
-use Rattle.std.proofs.lemmas.Bool.{cases_eq}
+use Rattle.std.proofs.Common.{◌≡◌, ◌≢◌, ℕ, ◌<◌, Bool, true, false, cond, List, [], ◌∷◌, ◌++◌, length, refl, sym, ap, ◌∙◌, arith}
 use Rattle.std.proofs.lemmas.List.{length-append, append-nil}
 use Rattle.std.proofs.lemmas.Nat.{same_from_place}
-use Rattle.item_buffer.specs.Contents.{Shipped}
 use Rattle.list_laws.specs.Lists.{Begins}
-use Rattle.exstack.specs.Links.{Out, In, no_out, no_in, parcel_of, gone, came}
+use Rattle.exstack.specs.Links.{Out, In, parcel_of, gone, came}
 use Rattle.exstack.specs.State.{number}
 use Rattle.exstack.specs.Steps.{Sight, latest, was_moved, WasPosted, WasCollected, InVain}
-use Rattle.exstack.proofs.Sweeps.{Sweep}
 
 -- the steps of a sweep over links out, and over links in
 abbrev pub Posted : Bool → ℕ → Out → Out → Sight → Sight → Type 0

@@ -1,11 +1,10 @@
 -- On one hop: the numbers of links and their ends, and that the relay law asks for tags without digits alone.
-use Rattle.std.proofs.Common.{◌≡◌, ℕ, zero, suc, ◌+◌, ◌-◌, ◌*◌, ◌/◌, ◌%◌, ◌<◌, ◌≤◌, List, [], ◌∷◌, length, get_or, sum, refl, sym, ap, subst, ◌∙◌, arith}
+use Rattle.std.proofs.Common.{◌≡◌, ℕ, zero, suc, ◌-◌, ◌*◌, ◌/◌, ◌%◌, ◌<◌, ◌≤◌, List, [], ◌∷◌, length, refl, sym, ap, subst, ◌∙◌, arith}
 use Rattle.std.specs.List.{All}
 use Rattle.std.proofs.Math.Nat.{mod-eq_of_lt}
 use Rattle.std.proofs.lemmas.List.Elements.{All-cons, All-nil}
 use Rattle.bale_types.specs.declared.item.Entry.{Entry}
 use Rattle.item_buffer.specs.Contents.{Shipped}
-use Rattle.list_laws.specs.Lists.{Begins}
 use Rattle.route_tensor.specs.Grid.{ranks, coord, place, dim, IsGrid}
 use Rattle.route_tensor.specs.Link.{links, link}
 use Rattle.route_tensor.specs.Tag.{IsFair, digit}
@@ -14,7 +13,7 @@ use Rattle.route_tensor.proofs.Ends.{hop_at_has}
 use Rattle.port_bank.specs.Logs.{Logs, added}
 use Rattle.port_bank.specs.Flow.{hop_link}
 use Rattle.port_bank.specs.Relay.{RelayLaw, HasFairTags}
-use Rattle.port_bank.proofs.Routes.{hop-on_route, sender-on_route, reader-on_route, link-on_route}
+use Rattle.port_bank.proofs.Routes.{sender-on_route, reader-on_route, link-on_route}
 use Rattle.port_bank.proofs.Posts.{law_posted, may_post_first}
 use Rattle.exstack.specs.Links.{no_tag}
 use Rattle.exstack.specs.State.{number}

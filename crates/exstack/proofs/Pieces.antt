@@ -1,8 +1,8 @@
 -- What was pushed toward one rank, and pulled of one rank, as a call changes the link.
-use Rattle.std.proofs.Common.{◌≡◌, ◌≢◌, ℕ, zero, suc, ◌+◌, ◌-◌, ◌*◌, ◌<◌, ◌≤◌, ◌==◌, Bool, true, false, cond, List, [], ◌∷◌, ◌++◌, length, take, map, Option, Some, None, refl, sym, ap, subst, ◌∙◌, arith, inl, inr, eq-eqb, ne_eqb}
+use Rattle.std.proofs.Common.{◌≡◌, ◌≢◌, ℕ, ◌+◌, ◌-◌, ◌*◌, ◌==◌, Bool, true, false, cond, List, [], ◌∷◌, ◌++◌, length, take, refl, sym, ap, ◌∙◌, arith, inl, inr, eq-eqb, ne_eqb}
 use Rattle.std.specs.List.{flat_map}
 use Rattle.std.proofs.lemmas.Bool.{cases_eq}
-use Rattle.std.proofs.lemmas.List.{length-append, append_assoc, append-nil, map-append, take-append-le, take_all, length-map}
+use Rattle.std.proofs.lemmas.List.{length-append, append-nil, map-append, take-append-le, take_all, length-map}
 use Rattle.std.proofs.lemmas.List.Concat.{flat_map-append}
 use Rattle.bale_types.specs.declared.item.Item.{Item}
 use Rattle.bale_types.specs.declared.item.Entry.{Entry}
@@ -12,7 +12,7 @@ use Rattle.port_bank.proofs.Posts.{segment_now, segment_then}
 use Rattle.exstack.specs.Links.{Out, In, parcel_of, gone, came}
 use Rattle.exstack.specs.Steps.{was_moved, WasPosted, WasCollected, latest}
 use Rattle.exstack.specs.Cycles.{entries_sent, entries_exchanged, items}
-use Rattle.exstack.specs.Agreement.{LinkAgrees, Ends}
+use Rattle.exstack.specs.Agreement.{LinkAgrees}
 use Rattle.exstack.proofs.OneLink.{moved_due, open_due, exchanged_proceed, exchanged_more, exchanged_then}
 
 -- what stands before the end of a list

@@ -1,14 +1,12 @@
 -- A poll is steps of the exchange machine.
-use Rattle.std.proofs.Common.{◌≡◌, ◌≢◌, ℕ, ◌+◌, ◌-◌, ◌*◌, ◌<◌, ◌≤◌, ◌==◌, ◌&&◌, not, Bool, true, false, cond, map, List, [], ◌∷◌, ◌++◌, length, take, get_or, Option, Some, None, refl, sym, ap, subst, ◌∙◌, arith}
-use Rattle.std.specs.List.{sum_by}
+use Rattle.std.proofs.Common.{◌≡◌, ℕ, ◌-◌, ◌<◌, ◌≤◌, ◌==◌, Bool, true, false, cond, map, List, [], ◌∷◌, ◌++◌, length, take, None, refl, sym, ap, subst, ◌∙◌, arith}
 use Rattle.std.proofs.lemmas.Bool.{false≢true}
 use Rattle.std.proofs.lemmas.List.{length-map}
 use Rattle.std.proofs.lemmas.List.Sums.{get_or-le-sum_by}
-use Rattle.bale_types.specs.declared.item.Item.{Item}
 use Rattle.bale_types.specs.declared.item.Entry.{Entry}
 use Rattle.port_bank.specs.Logs.{Logs}
-use Rattle.port_bank.specs.Machine.{Part, Step, IsOwnStep, after, for_ranks}
-use Rattle.port_bank.specs.Machine.Step.{Done, Complete, Idle}
+use Rattle.port_bank.specs.Machine.{IsOwnStep, for_ranks}
+use Rattle.port_bank.specs.Machine.Step.{Idle}
 use Rattle.port_bank.proofs.Listing.{lists_same}
 use Rattle.exstack.specs.declared.stage.Stage.{Stage}
 use Rattle.exstack.specs.declared.stage.Stage.TheVariants.{Start, Proceeding, Filling, Exchanging, Full, AllDone}

@@ -1,6 +1,6 @@
 -- What a pop and an unpop are.
-use Rattle.std.proofs.Common.{◌≡◌, ◌≢◌, ℕ, ◌<◌, ◌≤◌, Bool, true, false, List, [], ◌∷◌, length, get_or, slice_get, Option, Some, None, IsSome, IfSome, is_some, refl, sym, ap, subst, ◌∙◌, arith}
-use Rattle.std.specs.List.{sum_by, position, All}
+use Rattle.std.proofs.Common.{◌≡◌, ℕ, ◌<◌, ◌≤◌, Bool, true, false, List, [], ◌∷◌, length, get_or, slice_get, Option, Some, None, IsSome, IfSome, is_some, refl, sym, ap, subst, arith}
+use Rattle.std.specs.List.{sum_by, All}
 use Rattle.std.specs.Option.{option_map}
 use Rattle.std.proofs.lemmas.Bool.{false≢true}
 use Rattle.std.proofs.lemmas.List.Sums.{sum_by-le}
@@ -9,7 +9,6 @@ use Rattle.std.proofs.lemmas.List.{get_or_default}
 use Rattle.bale_types.specs.declared.item.Item.{Item}
 use Rattle.bale_types.specs.declared.item.Entry.{Entry}
 use Rattle.port_bank.specs.Logs.{Logs}
-use Rattle.port_bank.specs.Machine.{IsOwnStep}
 use Rattle.port_bank.specs.Machine.Step.{Pull, Unpull, Idle}
 use Rattle.exstack.specs.Links.{In, no_in, has_unread}
 use Rattle.exstack.specs.State.{State, in_at, unread_of, lowest_unread, pop_from, popped_from, unpopped}

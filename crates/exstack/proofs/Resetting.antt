@@ -1,26 +1,22 @@
 -- A reset is a step of the exchange machine, and keeps the agreement.
-use Rattle.std.proofs.Common.{◌≡◌, ◌≢◌, ℕ, zero, suc, ◌+◌, ◌-◌, ◌<◌, ◌≤◌, ◌==◌, Bool, true, false, cond, map, List, [], ◌∷◌, ◌++◌, length, take, get_or, Option, Some, None, refl, sym, ap, subst, ◌∙◌, arith, inl, inr}
-use Rattle.std.proofs.lemmas.Bool.{cases_eq, false≢true, true_from_ne_false}
-use Rattle.std.proofs.lemmas.List.{append-nil, get_or-map}
+use Rattle.std.proofs.Common.{◌≡◌, ℕ, zero, suc, ◌+◌, ◌-◌, ◌<◌, ◌≤◌, ◌==◌, Bool, true, false, cond, List, [], ◌∷◌, ◌++◌, length, take, None, refl, sym, ap, subst, ◌∙◌, arith}
+use Rattle.std.proofs.lemmas.Bool.{false≢true, true_from_ne_false}
 use Rattle.std.proofs.Math.ListN.{get_or-map as map_read}
-use Rattle.bale_types.specs.declared.item.Item.{Item}
 use Rattle.bale_types.specs.declared.item.Entry.{Entry}
 use Rattle.item_buffer.specs.Contents.{Shipped}
-use Rattle.list_laws.specs.Lists.{Begins}
 use Rattle.port_bank.specs.Logs.{Logs, lasts, segment}
-use Rattle.port_bank.specs.Machine.{Part, IsOwnStep, for_ranks}
+use Rattle.port_bank.specs.Machine.{IsOwnStep}
 use Rattle.port_bank.specs.Machine.Step.{Reset}
 use Rattle.port_bank.proofs.Listing.{lists_same, same_part}
 use Rattle.port_bank.proofs.Segments.{lasts-append, lasts_first, lasts_begins}
 use Rattle.port_bank.proofs.Posts.{segment_then}
-use Rattle.exstack.specs.declared.stage.Stage.TheVariants.{Start, AllDone}
+use Rattle.exstack.specs.declared.stage.Stage.TheVariants.{AllDone}
 use Rattle.exstack.specs.Links.{Out, In, no_out, no_in, reopened, resumed}
 use Rattle.exstack.specs.State.{State, out_at, in_at, link_to, link_from, after_reset}
 use Rattle.exstack.specs.Cycles.{entries_sent, entries_exchanged, exchange_parcel, entries_in, items}
 use Rattle.exstack.specs.Agreement.{LinkAgrees, EndsLast, AgreesIn, Ends, rounds_in, lasts_in}
 use Rattle.exstack.specs.Parts.{pushed_to, pulled_of, part_of, is_all_done}
 use Rattle.exstack.specs.Standing.{IsStack, IsOut, IsIn}
-use Rattle.exstack.proofs.Calls.{not_both}
 use Rattle.exstack.proofs.OneLink.{ends_none}
 use Rattle.exstack.proofs.Pieces.{pulled_none}
 

@@ -1,5 +1,5 @@
 -- The least headroom is at most the capacity.
-use Rattle.std.proofs.Common.{◌≡◌, ◌≤◌, ℕ, min, List, [], ◌∷◌, arith}
+use Rattle.std.proofs.Common.{◌≤◌, ℕ, List, [], ◌∷◌, arith}
 use Rattle.exstack.specs.Links.{Out}
 use Rattle.exstack.specs.State.{least_headroom}
 

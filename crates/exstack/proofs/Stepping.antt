@@ -1,25 +1,21 @@
 -- Each call is a step of the rank's part of the exchange machine, and keeps the agreement.
-use Rattle.std.proofs.Common.{◌≡◌, ◌≢◌, ℕ, zero, suc, ◌+◌, ◌-◌, ◌*◌, ◌<◌, ◌≤◌, ◌==◌, ◌&&◌, not, Bool, true, false, cond, map, List, [], ◌∷◌, ◌++◌, length, take, drop, get_or, set, slice_get, Option, Some, None, IsSome, is_some, refl, sym, ap, subst, ◌∙◌, arith, inl, inr, eq-eqb, ne_eqb}
-use Rattle.std.proofs.lemmas.Bool.{cases_eq, false≢true}
-use Rattle.std.proofs.lemmas.List.{append_assoc, append-nil, map-append, get_or-set_same, get_or-set_other, length-map}
+use Rattle.std.proofs.Common.{◌≡◌, ◌≢◌, ℕ, ◌-◌, ◌<◌, ◌==◌, true, false, cond, List, [], ◌∷◌, ◌++◌, length, take, drop, get_or, set, slice_get, Some, None, is_some, refl, sym, ap, subst, ◌∙◌, arith, inl, inr, eq-eqb, ne_eqb}
+use Rattle.std.proofs.lemmas.Bool.{cases_eq}
+use Rattle.std.proofs.lemmas.List.{append_assoc, map-append, get_or-set_same, get_or-set_other}
 use Rattle.bale_types.specs.declared.item.Item.{Item}
 use Rattle.bale_types.specs.declared.item.Entry.{Entry}
-use Rattle.item_buffer.specs.Contents.{Shipped}
 use Rattle.port_bank.specs.Logs.{Logs}
-use Rattle.port_bank.specs.Machine.{Part, IsOwnStep, ItemLists, for_ranks, with_item, taken_back}
-use Rattle.port_bank.specs.Machine.Step.{Push, Pull, Unpull, Done, Complete, Reset, Idle}
-use Rattle.port_bank.proofs.Listing.{lists_same, lists_with, lists_without, same_part}
+use Rattle.port_bank.specs.Machine.{IsOwnStep, for_ranks, taken_back}
+use Rattle.port_bank.specs.Machine.Step.{Push, Pull, Unpull, Idle}
+use Rattle.port_bank.proofs.Listing.{lists_with, lists_without, same_part}
 use Rattle.exstack.specs.Links.{Out, In, no_out, no_in, plain, with_entry, with_first_read, with_back}
 use Rattle.exstack.specs.State.{State, out_at, in_at, link_to, link_from, pushed_on, popped_from, unpopped}
-use Rattle.exstack.specs.Steps.{MadeRound}
 use Rattle.exstack.specs.Cycles.{entries_sent, entries_exchanged, exchange_parcel, entries_in, items}
 use Rattle.exstack.specs.Agreement.{LinkAgrees, AgreesIn, Ends, back_first, rounds_in}
 use Rattle.exstack.specs.Parts.{pushed_to, pulled_of, part_of, is_all_done}
 use Rattle.exstack.specs.Standing.{IsStack}
-use Rattle.exstack.proofs.Beginning.{forget, agrees_rest}
-use Rattle.exstack.proofs.Manners.{Kind}
-use Rattle.exstack.proofs.Making.{after_round}
-use Rattle.exstack.proofs.Pieces.{take_front, pulled_of_all, pushed_after, pulled_after, pulled_none, pulled_front, pulled_then}
+use Rattle.exstack.proofs.Beginning.{forget}
+use Rattle.exstack.proofs.Pieces.{take_front, pulled_of_all, pulled_front, pulled_then}
 
 -- a push
 module _ (cap : ℕ) (st : State) (to : ℕ) (item : Item) (s : IsStack cap st) (below : to < st.ranks) where

@@ -1,5 +1,5 @@
 -- The exstacks of all ranks over one bank, for tests that make calls on them.
-use Rattle.std.proofs.Common.{◌≡◌, ◌≢◌, ℕ, ◌+◌, ◌<◌, ◌≤◌, List, [], ◌∷◌, ◌++◌, length, refl, sym, ap, subst, ◌∙◌, arith}
+use Rattle.std.proofs.Common.{◌≡◌, ◌≢◌, ℕ, ◌+◌, ◌<◌, List, [], ◌∷◌, ◌++◌, length, refl, sym, ap, subst, ◌∙◌}
 use Rattle.std.specs.Prelude.{slice_index_or, slice_set}
 use Rattle.std.proofs.lemmas.List.{length-append, get_or_default, get_or-set_same, get_or-set_other}
 use Rattle.route_tensor.specs.Grid.{ranks, IsGrid}
@@ -13,7 +13,7 @@ use Rattle.exstack.specs.State.{State, dims_of}
 use Rattle.exstack.specs.Agreement.{AgreesIn, AgreesWith}
 use Rattle.exstack.specs.Standing.{IsStack}
 use Rattle.exstack.specs.Law.{AgreeTogether, StaysTogether}
-use Rattle.exstack.proofs.OneHop.{dims_one, ranks_one}
+use Rattle.exstack.proofs.OneHop.{dims_one}
 
 pub one_more : {X : Type 0} (xs ys : List X) (x : X) (n : ℕ) → ys ≡ xs ++ x ∷ [] → length xs ≡ n → length ys ≡ n + 1
 one_more xs ys x n is all = ap length is ∙ (length-append xs (x ∷ []) ∙ ap (λ k. k + 1) all)

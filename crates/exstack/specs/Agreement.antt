@@ -8,7 +8,7 @@ use Rattle.port_bank.specs.Shapes.{IsExstackShape}
 use Rattle.port_bank.specs.Relay.{RelayLaw}
 use Rattle.exstack.specs.declared.stage.Stage.{Stage}
 use Rattle.exstack.specs.declared.stage.Stage.TheVariants.{Start, Proceeding, Filling, Exchanging, Full, AllDone}
-use Rattle.exstack.specs.Links.{Out, In, with_back}
+use Rattle.exstack.specs.Links.{In, with_back}
 use Rattle.exstack.specs.State.{State, out_at, in_at, dims_of, link_to, link_from}
 use Rattle.exstack.specs.Cycles.{exchange_parcel, entries_in, entries_exchanged}
 

@@ -1,9 +1,8 @@
 -- One rank's exstack, as contracts see it, and what follows from it.
-use Rattle.std.specs.Prelude.{ℕ, ◌+◌, ◌-◌, ◌*◌, ◌==◌, Bool, true, false, not, cond, if◌then◌else◌, min, map, replicate, List, [], ◌∷◌, length, slice_get, slice_set, slice_index_or, Option, Some, None}
+use Rattle.std.specs.Prelude.{ℕ, ◌+◌, ◌*◌, Bool, true, false, if◌then◌else◌, min, map, replicate, List, [], ◌∷◌, length, slice_get, slice_set, slice_index_or, Option, Some, None}
 use Rattle.std.specs.List.{list_all, sum_by, position}
 use Rattle.std.specs.Option.{option_map}
 use Rattle.bale_types.specs.declared.item.Item.{Item}
-use Rattle.bale_types.specs.declared.item.Entry.{Entry}
 use Rattle.exstack.specs.declared.stage.Stage.{Stage}
 use Rattle.exstack.specs.declared.stage.Stage.TheVariants.{Start, Proceeding, Filling, Exchanging, Full, AllDone}
 use Rattle.exstack.specs.declared.stage.Poll.{Poll}

@@ -1,6 +1,5 @@
-use Rattle.std.proofs.Common.{◌≡◌, ◌≢◌, ◌<◌, ◌+◌, ◌*◌, ℕ, Bool, List, [], ◌∷◌, length, get_or, set, true, rules, arith, ap, sym, subst, refl, ◌∙◌, inl, inr}
+use Rattle.std.proofs.Common.{◌≡◌, ◌≢◌, ◌<◌, ◌+◌, ◌*◌, ℕ, List, [], ◌∷◌, length, get_or, true, rules, arith, ap, sym, subst, refl, ◌∙◌, inl, inr}
 use Rattle.std.proofs.lemmas.Bool.{cases_eq}
-use Rattle.item_buffer.specs.Contents.{Shipped}
 use Rattle.list_laws.specs.Lists.{Begins}
 use Rattle.route_tensor.specs.Link.{links}
 use Rattle.route_tensor.specs.Ends.{sender_at, reader_at}
@@ -10,7 +9,7 @@ use Rattle.exstack.specs.Links.{In, no_in}
 use Rattle.exstack.specs.State.{number}
 use Rattle.exstack.specs.Steps.{Sight, sight}
 use Rattle.exstack.proofs.OneHop.{number_within, number_sender, number_reader}
-use Rattle.exstack.proofs.Sweeps.{Sweep, sweep_start, sweep_more, sweep_each, sweep_here}
+use Rattle.exstack.proofs.Sweeps.{sweep_start, sweep_more, sweep_each, sweep_here}
 use Rattle.exstack.proofs.Moves.{Collected, Asked, in_number, none_collected, in_apart, begins_between}
 use Rattle.exstack.proofs.rounds.collect_all.Goals as goal
 

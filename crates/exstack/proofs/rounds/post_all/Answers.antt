@@ -1,6 +1,4 @@
-use Rattle.std.proofs.Common.{◌≡◌, ◌≢◌, ◌<◌, ◌+◌, ◌*◌, ℕ, Bool, List, [], ◌∷◌, length, get_or, set, true, rules, arith, ap, sym, subst, refl, ◌∙◌}
-use Rattle.item_buffer.specs.Contents.{Shipped}
-use Rattle.list_laws.specs.Lists.{Begins}
+use Rattle.std.proofs.Common.{◌≡◌, ◌≢◌, ◌<◌, ◌+◌, ◌*◌, ℕ, List, [], ◌∷◌, length, get_or, true, rules, arith, ap, sym, subst, refl, ◌∙◌}
 use Rattle.route_tensor.specs.Grid.{IsGrid}
 use Rattle.route_tensor.specs.Link.{links}
 use Rattle.route_tensor.specs.Ends.{sender_at}
@@ -9,9 +7,9 @@ use Rattle.port_bank.proofs.Fronts.{begins_refl, begins_trans}
 use Rattle.port_bank.proofs.Kept.{law_same}
 use Rattle.exstack.specs.Links.{Out, no_out}
 use Rattle.exstack.specs.State.{number}
-use Rattle.exstack.specs.Steps.{Sight, sight, WasPosted, InVain}
+use Rattle.exstack.specs.Steps.{Sight, sight}
 use Rattle.exstack.proofs.OneHop.{grid_one, number_within, number_sender}
-use Rattle.exstack.proofs.Sweeps.{Sweep, sweep_start, sweep_more, sweep_each, sweep_here}
+use Rattle.exstack.proofs.Sweeps.{sweep_start, sweep_more, sweep_each, sweep_here}
 use Rattle.exstack.proofs.Moves.{Posted, Served, none_posted, out_apart}
 use Rattle.exstack.proofs.rounds.post_all.Goals as goal
 

@@ -1,4 +1,4 @@
-use Rattle.std.proofs.Common.{rules, arith, sym, ap, ◌∙◌, refl}
+use Rattle.std.proofs.Common.{rules, ◌∙◌, refl}
 use Rattle.exstack.proofs.sides.make_calls.Goals as goal
 
 pub loop-made-init : goal.loop-made-init

@@ -1,18 +1,18 @@
-use Rattle.std.proofs.Common.{◌≡◌, ℕ, ◌<◌, ◌||◌, ◌&&◌, not, Bool, true, false, [], ◌∷◌, Option, None, sym, ap, subst, ◌∙◌, rules}
+use Rattle.std.proofs.Common.{◌≡◌, ℕ, ◌<◌, ◌||◌, true, false, [], ◌∷◌, sym, ap, subst, ◌∙◌, rules}
 use Rattle.port_bank.specs.Logs.{Logs}
 use Rattle.exstack.specs.declared.stage.Stage.{Stage}
-use Rattle.exstack.specs.declared.stage.Stage.TheVariants.{Proceeding, Exchanging}
+use Rattle.exstack.specs.declared.stage.Stage.TheVariants.{Exchanging}
 use Rattle.exstack.specs.Steps.{InVain}
-use Rattle.exstack.specs.State.{State, in_at, number, link_from, is_proceeding, is_exchanging, in_proceed, in_exchange, stage_of_proceed, stage_of_exchange}
-use Rattle.exstack.specs.Agreement.{AgreesIn, AgreesWith, rounds_in, cycle_after}
+use Rattle.exstack.specs.State.{State, in_at, number, link_from, is_proceeding, is_exchanging, in_exchange, stage_of_exchange}
+use Rattle.exstack.specs.Agreement.{AgreesIn, rounds_in}
 use Rattle.exstack.specs.Standing.{IsStack}
 use Rattle.port_bank.specs.Machine.{IsOwnStep}
 use Rattle.port_bank.specs.Machine.Step.{Idle}
-use Rattle.exstack.specs.Parts.{part_of, is_all_done, AreOwnSteps, proceed_steps}
-use Rattle.exstack.proofs.Manners.{Kind, kind_of, and_true, and_false}
-use Rattle.exstack.proofs.Polling.{SameLists, Polled, proceed_lists, exchange_lists, made_lists, lists_after, idle_poll, proceed_poll, may_not_all, exchange_not_all, exchange_stays, exchange_epoch, proceed_epoch}
-use Rattle.exstack.proofs.Beginning.{Begun, proceed_begun, exchange_begun, proceed_agrees, exchange_agrees}
-use Rattle.exstack.proofs.Settling.{agrees_staged, proceed_rounds, exchange_rounds}
+use Rattle.exstack.specs.Parts.{part_of, is_all_done}
+use Rattle.exstack.proofs.Manners.{Kind, kind_of, and_false}
+use Rattle.exstack.proofs.Polling.{SameLists, Polled, exchange_lists, made_lists, lists_after, idle_poll, exchange_not_all, exchange_stays, exchange_epoch}
+use Rattle.exstack.proofs.Beginning.{Begun, exchange_begun, exchange_agrees}
+use Rattle.exstack.proofs.Settling.{agrees_staged, exchange_rounds}
 use Rattle.exstack.proofs.exstack.Exstack.poll_exchange.Goals as goal
 
 pub go_round-requires : goal.go_round-requires

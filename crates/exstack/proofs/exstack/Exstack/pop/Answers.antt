@@ -1,6 +1,5 @@
-use Rattle.std.proofs.Common.{◌≡◌, ◌<◌, ℕ, Option, Some, None, IfSome, sym, ap, subst, ◌∙◌, arith, inl, inr}
+use Rattle.std.proofs.Common.{◌≡◌, ap, subst, ◌∙◌}
 use Rattle.exstack.specs.State.{State, lowest_unread, pop_from, popped_from}
-use Rattle.exstack.specs.Agreement.{AgreesIn}
 use Rattle.exstack.specs.Standing.{IsStack}
 use Rattle.exstack.proofs.Popping.{pop_is, PopIs}
 use Rattle.exstack.proofs.exstack.Exstack.pop.Goals as goal

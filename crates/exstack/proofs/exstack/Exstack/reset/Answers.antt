@@ -1,4 +1,4 @@
-use Rattle.std.proofs.Common.{◌≡◌, ℕ, sym, ap, subst, ◌∙◌}
+use Rattle.std.proofs.Common.{◌≡◌, sym, ap, subst, ◌∙◌}
 use Rattle.port_bank.specs.Machine.{IsOwnStep}
 use Rattle.port_bank.specs.Machine.Step.{Reset}
 use Rattle.exstack.specs.State.{State, after_reset}

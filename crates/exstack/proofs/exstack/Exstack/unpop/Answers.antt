@@ -1,4 +1,4 @@
-use Rattle.std.proofs.Common.{◌≡◌, ℕ, Bool, is_some, sym, ap, subst, ◌∙◌}
+use Rattle.std.proofs.Common.{◌≡◌, is_some, ap, subst, ◌∙◌}
 use Rattle.exstack.specs.State.{State, unpopped}
 use Rattle.exstack.specs.Standing.{IsStack}
 use Rattle.exstack.proofs.Popping.{unpop_is, UnpopIs}

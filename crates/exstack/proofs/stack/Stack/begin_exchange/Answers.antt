@@ -1,4 +1,4 @@
-use Rattle.std.proofs.Common.{◌≡◌, ℕ, Bool, true, false, map, List, None, sym, ap, subst, ◌∙◌, rules}
+use Rattle.std.proofs.Common.{◌≡◌, true, false, map, List, None, sym, ap, subst, ◌∙◌, rules}
 use Rattle.exstack.specs.declared.stage.Stage.TheVariants.{Exchanging}
 use Rattle.exstack.specs.Links.{Out, In, begun_out, begun_in}
 use Rattle.exstack.specs.State.{State, is_exchanging, may_exchange}

@@ -1,8 +1,8 @@
-use Rattle.std.proofs.Common.{◌≡◌, ℕ, ◌<◌, Bool, List, length, get_or, refl, sym, ap, subst, ◌∙◌, arith, rules}
+use Rattle.std.proofs.Common.{◌≡◌, ℕ, ◌<◌, Bool, length, get_or, refl, sym, ap, subst, ◌∙◌, arith}
 use Rattle.list_laws.specs.Lists.{Begins}
 use Rattle.port_bank.specs.Logs.{Logs}
 use Rattle.port_bank.proofs.Kept.{law_same}
-use Rattle.exstack.specs.Links.{Out, In, no_out, no_in}
+use Rattle.exstack.specs.Links.{no_in}
 use Rattle.exstack.specs.State.{State, dims_of, number, link_from}
 use Rattle.exstack.specs.Agreement.{AgreesIn}
 use Rattle.exstack.specs.Steps.{WasCollected, MadeRound, InVain}

@@ -1,9 +1,6 @@
-use Rattle.std.proofs.Common.{◌≡◌, ℕ, Option, Some, None, List, length, get_or, set, slice_get, drop, refl, sym, ap, subst, ◌∙◌, rules}
+use Rattle.std.proofs.Common.{◌≡◌, Some, None, rules}
 use Rattle.std.specs.List.{position}
-use Rattle.bale_types.specs.declared.item.Entry.{Entry}
-use Rattle.exstack.specs.Links.{In, has_unread, with_first_read}
-use Rattle.exstack.specs.State.{State}
-use Rattle.exstack.specs.Standing.{IsKept}
+use Rattle.exstack.specs.Links.{has_unread, with_first_read}
 use Rattle.exstack.proofs.Calls.{none_kept, pop_kept, found_some, nothing_first}
 use Rattle.exstack.proofs.stack.Stack.pop.Goals as goal
 

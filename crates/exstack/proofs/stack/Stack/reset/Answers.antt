@@ -1,4 +1,4 @@
-use Rattle.std.proofs.Common.{◌≡◌, subst, sym, ap, ◌∙◌, rules}
+use Rattle.std.proofs.Common.{◌≡◌, subst, sym, ap, ◌∙◌}
 use Rattle.exstack.specs.declared.stage.Stage.TheVariants.{AllDone}
 use Rattle.exstack.specs.State.{State, after_reset}
 use Rattle.exstack.specs.Standing.{IsKept}

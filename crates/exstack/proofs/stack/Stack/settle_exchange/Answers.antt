@@ -1,7 +1,7 @@
-use Rattle.std.proofs.Common.{◌≡◌, ℕ, Bool, true, false, Option, None, sym, ap, subst, ◌∙◌, rules}
-use Rattle.exstack.specs.declared.stage.Stage.TheVariants.{Proceeding, Exchanging}
-use Rattle.exstack.specs.State.{State, missing_link, all_ended}
-use Rattle.exstack.proofs.Settling.{filling_kept, all_done_kept, full_kept}
+use Rattle.std.proofs.Common.{◌≡◌, None, sym, ap, ◌∙◌, rules}
+use Rattle.exstack.specs.declared.stage.Stage.TheVariants.{Exchanging}
+use Rattle.exstack.specs.State.{State, missing_link}
+use Rattle.exstack.proofs.Settling.{full_kept}
 use Rattle.exstack.proofs.stack.Stack.settle_exchange.Goals as goal
 
 pub invariant_of-self : goal.invariant_of-self

@@ -1,7 +1,5 @@
-use Rattle.std.proofs.Common.{◌≡◌, ◌<◌, Some, length, subst, sym, ap, arith, min, rules}
-use Rattle.exstack.specs.State.{State}
-use Rattle.exstack.specs.Standing.{IsKept}
-use Rattle.exstack.proofs.Calls.{unpop_within, unpop_back, unpop_kept}
+use Rattle.std.proofs.Common.{◌≡◌, ◌<◌, Some, length, arith, rules}
+use Rattle.exstack.proofs.Calls.{unpop_within, unpop_kept}
 use Rattle.exstack.proofs.stack.Stack.unpop.Goals as goal
 
 pub index_mut-requires : goal.index_mut-requires

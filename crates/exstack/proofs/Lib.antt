@@ -18,3 +18,4 @@ mod Polling
 mod BothEnds
 mod Exchange
 mod Together
+mod Batches

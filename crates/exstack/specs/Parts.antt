@@ -1,12 +1,12 @@
 -- A running rank's part of the exchange machine, by its exstack and its port's lists.
-use Rattle.std.specs.Prelude.{◌≡◌, ℕ, ◌-◌, ◌==◌, Bool, true, false, ◌&&◌, not, cond, if◌then◌else◌, List, [], ◌∷◌, ◌++◌, length, take}
+use Rattle.std.specs.Prelude.{◌≡◌, ℕ, ◌-◌, ◌==◌, Bool, true, false, ◌&&◌, not, cond, if◌then◌else◌, List, [], ◌∷◌, ◌++◌, length, take, Some}
 use Rattle.bale_types.specs.declared.item.Item.{Item}
 use Rattle.port_bank.specs.Logs.{Logs}
 use Rattle.port_bank.specs.Machine.{Part, Step, IsOwnStep, after, for_ranks}
-use Rattle.port_bank.specs.Machine.Step.{Done, Complete, Idle}
+use Rattle.port_bank.specs.Machine.Step.{Pull, Done, Complete, Idle}
 use Rattle.exstack.specs.declared.stage.Stage.{Stage}
 use Rattle.exstack.specs.declared.stage.Stage.TheVariants.{Start, Proceeding, Filling, Exchanging, Full, AllDone}
-use Rattle.exstack.specs.State.{State, out_at, in_at, link_to, link_from}
+use Rattle.exstack.specs.State.{State, out_at, in_at, link_to, link_from, lowest_unread, pop_from, popped_from}
 use Rattle.exstack.specs.Cycles.{entries_sent, entries_exchanged, items}
 use Rattle.exstack.specs.Agreement.{AgreesIn}
 
@@ -60,3 +60,10 @@ abbrev pub proceed_steps : Bool → Bool → Bool → List Step
 proceed_steps was now complete =
     if (now && not was) then (if complete then Done ∷ Complete ∷ [] else Done ∷ [])
     else (if complete then Complete ∷ [] else Idle ∷ [])
+
+-- The next pop gives this item of this sender: it is a step of the rank's part of the exchange machine, and keeps the
+-- agreement.
+pub record GivesNext (st : State) (from : ℕ) (item : Item) : Type 0 where
+  pub value : pop_from st (lowest_unread st) ≡ Some (from, item)
+  pub step : IsStepOf (Pull from item) st (popped_from st (lowest_unread st))
+  pub kept : KeepsAgreement st (popped_from st (lowest_unread st))

@@ -1,5 +1,5 @@
 -- One rank's exstack, as contracts see it, and what follows from it.
-use Rattle.std.specs.Prelude.{ℕ, ◌+◌, ◌*◌, Bool, true, false, if◌then◌else◌, min, map, replicate, List, [], ◌∷◌, length, slice_get, slice_set, slice_index_or, Option, Some, None}
+use Rattle.std.specs.Prelude.{ℕ, zero, suc, ◌+◌, ◌*◌, Bool, true, false, if◌then◌else◌, min, map, replicate, List, [], ◌∷◌, length, slice_get, slice_set, slice_index_or, Option, Some, None}
 use Rattle.std.specs.List.{list_all, sum_by, position}
 use Rattle.std.specs.Option.{option_map}
 use Rattle.bale_types.specs.declared.item.Item.{Item}
@@ -75,6 +75,12 @@ pop_from st (Some a) = option_map (λ e. (a, e.item)) (slice_get (in_at st a).un
 abbrev pub popped_from : State → Option ℕ → State
 popped_from st None = record st { popped = None }
 popped_from st (Some a) = record st { ins = slice_set st.ins a (with_first_read (in_at st a)); popped = Some a }
+
+-- What n pops leave, one after the other.
+-- Of the inboxes [], [x, y], [z] two leave [z], and three nothing.
+abbrev pub pops : ℕ → State → State
+pops zero st = st
+pops (suc n) st = popped_from (pops n st) (lowest_unread (pops n st))
 
 -- What an unpop leaves.
 abbrev pub unpopped : State → Option ℕ → State

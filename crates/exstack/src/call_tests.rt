@@ -63,3 +63,32 @@ fn exstack_calls(rt: HostRuntime) -> Result<(), Fail> {
     assert_eq!(rt; answered(rt.alloc(), &calls)?, calls.len());
     Ok(())
 }
+
+/// Items of two senders, popped by sender, with what is unread and how much room there is.
+#[test]
+fn pops_by_sender(rt: HostRuntime) -> Result<(), Fail> {
+    let calls = [
+        (0, Call::Proceed(false), Proceeded(Proceed::NotYet(2))),
+        (1, Call::Proceed(false), Proceeded(GoOn)),
+        (0, Call::Proceed(false), Proceeded(GoOn)),
+        (0, Push(X, 1), Pushed(2)),
+        (0, Call::Look(1), Answer::Seen(0, 1, 1)),
+        (1, Push(Y, 1), Pushed(2)),
+        (1, Push(Z, 1), Pushed(1)),
+        (1, Call::Look(0), Answer::Seen(0, 2, 0)),
+        (0, Exchange, Exchanged(Poll::NotYet(2))),
+        (1, Exchange, Exchanged(Ready)),
+        (1, Call::Look(1), Answer::Seen(3, 2, 2)),
+        (1, Call::PopAll, Answer::PoppedAll(0, 1)),
+        (1, Pop, Popped(Some((1, Y)))),
+        (1, Unpop, Unpopped(true)),
+        (1, Unpop, Unpopped(false)),
+        (1, Call::PopAll, Answer::PoppedAll(1, 2)),
+        (1, Unpop, Unpopped(true)),
+        (1, Pop, Popped(Some((1, Z)))),
+        (1, Call::PopAll, Popped(None)),
+        (0, Exchange, Exchanged(Ready)),
+    ];
+    assert_eq!(rt; answered(rt.alloc(), &calls)?, calls.len());
+    Ok(())
+}

@@ -1,21 +1,21 @@
 //! The exstack of one rank: what a program pushes, polls and pops.
-ghost use Rattle.std.specs.Prelude.{◌≡◌, ℕ, ◌+◌, ◌^◌, ◌<◌, ◌≤◌, ◌&&◌, ◌||◌, not, true, false, List, [], length, is_some, slice_index_or, Some, None, IfOk, IfSome, IsOk, IsErr, Ok};
+ghost use Rattle.std.specs.Prelude.{◌≡◌, ℕ, ◌+◌, ◌^◌, ◌<◌, ◌≤◌, ◌&&◌, ◌||◌, not, true, false, List, [], length, is_some, slice_get, slice_index_or, Some, None, IfOk, IfSome, IsOk, IsErr, Ok};
 ghost use Rattle.bale_types.specs.Stream.{Rose};
 ghost use Rattle.route_tensor.specs.Grid.{ranks};
 ghost use Rattle.port_bank.specs.Logs.{Logs};
 ghost use Rattle.port_bank.specs.Machine.{IsOwnStep};
 ghost use Rattle.port_bank.specs.Machine.Step.{Push, Pull, Unpull, Reset, Idle};
 ghost use Rattle.exstack.specs.Links.{headroom_of};
-ghost use Rattle.exstack.specs.State.{new_stack, out_at, in_at, dims_of, link_to, link_from, number, least_headroom, unread_of, lowest_unread, pushed_on, pop_from, popped_from, unpopped, after_reset};
+ghost use Rattle.exstack.specs.State.{new_stack, out_at, in_at, dims_of, link_to, link_from, number, least_headroom, unread_of, lowest_unread, pushed_on, pop_from, popped_from, pops, unpopped, after_reset};
 ghost use Rattle.exstack.specs.State.{is_proceeding, is_exchanging, may_proceed, may_exchange, in_proceed, in_exchange, missing_link, all_ended, proceed_answer, exchange_answer, stage_of_proceed, stage_of_exchange};
 ghost use Rattle.exstack.specs.Steps.{MadeRound, InVain};
 ghost use Rattle.exstack.specs.Agreement.{AgreesIn, AgreesWith, cycle_after};
-ghost use Rattle.exstack.specs.Parts.{IsStepOf, KeepsAgreement, AreOwnSteps, proceed_steps, is_all_done, part_of};
+ghost use Rattle.exstack.specs.Parts.{IsStepOf, KeepsAgreement, GivesNext, AreOwnSteps, proceed_steps, is_all_done, part_of};
 ghost use Rattle.exstack.specs.Standing.{IsStack};
 
 use crate::stack::Stack;
 use crate::stage::{Poll, Proceed, Stage};
-use bale_types::{Item, NoMemory};
+use bale_types::{Entry, Item, NoMemory};
 use port_bank::Port;
 use route_tensor::Grid;
 use std::alloc::Global;
@@ -115,6 +115,39 @@ impl<const CAP: usize> Exstack<CAP> {
     {
         self.stack.known();
         self.stack.pop()
+    }
+
+    /// The sender of the item that the next pop gives: the lowest that has an unread one.
+    #[inline]
+    pub fn next_sender(&mut self) -> Option<u32>
+        ensures value { result ≡ lowest_unread self.old }
+        ensures state { self.new ≡ record self.old { popped = None } }
+        ensures kept { KeepsAgreement self.old self.new }
+        ensures step { IsStepOf Idle self.old self.new }
+    {
+        self.stack.next_sender()
+    }
+
+    /// The unread entries of that sender, in order. As many pops give their items.
+    #[inline]
+    pub fn batch(&self, sender: u32) -> &[Entry]
+        requires lowest { lowest_unread self.now ≡ Some sender }
+        ensures value { result.now ≡ (in_at self.now sender).unread }
+        ensures gives { (i : ℕ) (e : Entry) → slice_get result.now i ≡ Some e → GivesNext (pops i self.now) sender e.item }
+    {
+        self.stack.known();
+        self.stack.batch(sender)
+    }
+
+    /// Pops all unread items of that sender.
+    pub fn pop_all(&mut self, sender: u32)
+        requires lowest { lowest_unread self.old ≡ Some sender }
+        ensures state { self.new ≡ pops (length (in_at self.old sender).unread) self.old }
+        ensures same { self.new ≡ record self.old { ins = self.new.ins; popped = self.new.popped } }
+        ensures kept { KeepsAgreement self.old self.new }
+    {
+        self.stack.known();
+        self.stack.pop_all(sender);
     }
 
     /// Makes the item of the latest call unread again, if that was a pop that gave one.

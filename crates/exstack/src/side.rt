@@ -18,7 +18,11 @@ pub(crate) enum Call {
     /// Poll an exchange round.
     Exchange,
     Pop,
+    /// Pop all items of one sender.
+    PopAll,
     Unpop,
+    /// Look at how many items are unread, at the headroom toward this rank, and at the least headroom.
+    Look(u32),
     Reset,
 }
 
@@ -31,7 +35,10 @@ pub(crate) enum Answer {
     Pushed(u64),
     Exchanged(Poll),
     Popped(Option<(u32, Item)>),
+    /// From which rank, and how many.
+    PoppedAll(u32, usize),
     Unpopped(bool),
+    Seen(u64, u64, u64),
     Reset,
 }
 
@@ -86,7 +93,9 @@ impl<const CAP: usize> Side<CAP> {
         let answer = match call {
             Call::Push(item, to) => self.push(item, to),
             Call::Pop => self.pop(),
+            Call::PopAll => self.pop_all(),
             Call::Unpop => self.unpop(),
+            Call::Look(to) => self.look(to),
             Call::Reset => self.reset(),
             Call::Proceed(_) | Call::Exchange => Answer::NotMade,
         };
@@ -164,6 +173,30 @@ impl<const CAP: usize> Side<CAP> {
         ensures kept { (sent got : Logs) → AgreesWith self.old.stack sent got → AgreesWith self.new.stack sent got }
     {
         Answer::Popped(self.stack.pop())
+    }
+
+    fn pop_all(&mut self) -> Answer
+        ensures same_ranks { self.new.stack.ranks ≡ self.old.stack.ranks }
+        ensures same_rank { self.new.stack.rank ≡ self.old.stack.rank }
+        ensures kept { (sent got : Logs) → AgreesWith self.old.stack sent got → AgreesWith self.new.stack sent got }
+    {
+        let Some(sender) = self.stack.next_sender() else {
+            return Answer::Popped(None);
+        };
+        let count = self.stack.batch(sender).len();
+        self.stack.pop_all(sender);
+        Answer::PoppedAll(sender, count)
+    }
+
+    fn look(&self, to: u32) -> Answer {
+        if to >= self.rank_count {
+            return Answer::NotMade;
+        }
+        Answer::Seen(
+            self.stack.unread(),
+            self.stack.headroom(to),
+            self.stack.min_headroom(),
+        )
     }
 
     fn unpop(&mut self) -> Answer

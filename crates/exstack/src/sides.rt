@@ -47,7 +47,7 @@ pub(crate) fn call<const CAP: usize>(
     match call {
         Call::Proceed(done) => proceed(sides, bank, rank, done),
         Call::Exchange => exchange(sides, bank, rank),
-        Call::Push(_, _) | Call::Pop | Call::Unpop | Call::Reset => local(sides, bank, rank, call),
+        _ => local(sides, bank, rank, call),
     }
 }
 

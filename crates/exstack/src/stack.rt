@@ -3,7 +3,7 @@ ghost use Rattle.std.specs.Prelude.{◌≡◌, ℕ, ◌+◌, ◌^◌, ◌<◌, �
 ghost use Rattle.bale_types.specs.Stream.{Rose};
 ghost use Rattle.route_tensor.specs.Grid.{ranks};
 ghost use Rattle.exstack.specs.Links.{headroom_of};
-ghost use Rattle.exstack.specs.State.{new_stack, out_at, in_at, dims_of, link_to, link_from, number, least_headroom, unread_of, lowest_unread, pushed_on, pop_from, popped_from, unpopped, after_reset};
+ghost use Rattle.exstack.specs.State.{new_stack, out_at, in_at, dims_of, link_to, link_from, number, least_headroom, unread_of, lowest_unread, pushed_on, pop_from, popped_from, pops, unpopped, after_reset};
 ghost use Rattle.exstack.specs.State.{is_proceeding, is_exchanging, may_proceed, may_exchange, in_proceed, in_exchange, missing_link, all_ended, proceed_answer, exchange_answer, stage_of_proceed, stage_of_exchange};
 ghost use Rattle.exstack.specs.Steps.{MadeRound, InVain};
 ghost use Rattle.exstack.specs.Agreement.{AgreesIn, AgreesWith};
@@ -173,6 +173,37 @@ impl<const CAP: usize> Stack<CAP> {
         self.from = from;
         self.popped = Some(from);
         Some((from, entry.item))
+    }
+
+    /// The sender of the item that the next pop gives.
+    #[inline]
+    pub fn next_sender(&mut self) -> Option<u32>
+        ensures value { result ≡ lowest_unread self.old }
+        ensures state { self.new ≡ record self.old { popped = None } }
+    {
+        self.popped = None;
+        let sender = next_unread(&self.ins, self.from)?;
+        self.from = sender;
+        Some(sender)
+    }
+
+    /// The unread entries of a sender, in order.
+    #[inline]
+    pub fn batch(&self, sender: u32) -> &[Entry]
+        requires { sender < self.now.ranks }
+        ensures { result.now ≡ (in_at self.now sender).unread }
+    {
+        self.ins[sender as usize].unread()
+    }
+
+    /// Pops all unread items of the sender of which the next pop takes.
+    pub fn pop_all(&mut self, sender: u32)
+        requires { lowest_unread self.old ≡ Some sender }
+        ensures { self.new ≡ pops (length (in_at self.old sender).unread) self.old }
+    {
+        self.ins[sender as usize].read_all();
+        self.from = sender;
+        self.popped = Some(sender);
     }
 
     /// Makes the item of the latest call unread again, if that was a pop that gave one.

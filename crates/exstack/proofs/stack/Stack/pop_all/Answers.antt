@@ -1,0 +1,58 @@
+use Rattle.std.proofs.Common.{◌≡◌, Some, length, ap, ◌∙◌, arith}
+use Rattle.std.proofs.lemmas.List.Quantifiers.{position-Some}
+use Rattle.exstack.specs.Links.{no_in, has_unread}
+use Rattle.exstack.specs.State.{State, in_at, lowest_unread, pops}
+use Rattle.exstack.proofs.Batches.{all_kept}
+use Rattle.exstack.proofs.stack.Stack.pop_all.Goals as goal
+
+pub index_mut-requires : goal.index_mut-requires
+index_mut-requires g c =
+    let st : State = record {
+      ranks = c.self.inside.ranks;
+      rank = c.self.inside.rank;
+      stage = c.self.inside.stage;
+      done = c.self.inside.done;
+      epoch = c.self.inside.epoch;
+      outs = c.self.inside.outs.items;
+      ins = c.self.inside.ins.items;
+      popped = c.self.inside.popped;
+    } in
+    let now : State = c.args.self.now in
+    let view : st ≡ now = c.self.view_is in
+    let found : lowest_unread st ≡ Some c.args.sender = ap lowest_unread view ∙ c.requires in
+    omega (arith, (position-Some has_unread st.ins c.args.sender no_in found).0, c.self.inside.ins.ok)
+
+pub invariant_of-self : goal.invariant_of-self
+invariant_of-self g c =
+    let st : State = record {
+      ranks = c.self.inside.ranks;
+      rank = c.self.inside.rank;
+      stage = c.self.inside.stage;
+      done = c.self.inside.done;
+      epoch = c.self.inside.epoch;
+      outs = c.self.inside.outs.items;
+      ins = c.self.inside.ins.items;
+      popped = c.self.inside.popped;
+    } in
+    let now : State = c.args.self.now in
+    let view : st ≡ now = c.self.view_is in
+    let found : lowest_unread st ≡ Some c.args.sender = ap lowest_unread view ∙ c.requires in
+    (all_kept g.row.CAP st c.self.inside.from c.args.sender c.index_mut.result.now c.read_all.new.self c.self.invariant found c.index_mut.ensures.value c.read_all.ensures).0
+
+pub returns : goal.returns
+returns g c =
+    let st : State = record {
+      ranks = c.self.inside.ranks;
+      rank = c.self.inside.rank;
+      stage = c.self.inside.stage;
+      done = c.self.inside.done;
+      epoch = c.self.inside.epoch;
+      outs = c.self.inside.outs.items;
+      ins = c.self.inside.ins.items;
+      popped = c.self.inside.popped;
+    } in
+    let now : State = c.args.self.now in
+    let view : st ≡ now = c.self.view_is in
+    let found : lowest_unread st ≡ Some c.args.sender = ap lowest_unread view ∙ c.requires in
+    (all_kept g.row.CAP st c.self.inside.from c.args.sender c.index_mut.result.now c.read_all.new.self c.self.invariant found c.index_mut.ensures.value c.read_all.ensures).1
+    ∙ ap (λ (t : State). pops (length (in_at t c.args.sender).unread) t) view

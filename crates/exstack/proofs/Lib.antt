@@ -1,14 +1,14 @@
-mod OneHop
+pub mod OneHop
 mod Mapping
 mod Sweeps
 mod Moves
 pub mod Places
 mod Rooms
-mod Calls
+pub mod Calls
 mod OneLink
 mod Manners
 mod Making
-mod Beginning
+pub mod Beginning
 mod Settling
 mod Pieces
 mod Stepping

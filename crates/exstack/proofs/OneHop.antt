@@ -52,7 +52,7 @@ coord_one : (n b : ℕ) → b < n → coord (n ∷ []) b 1 ≡ b
 unfolding coord
 coord_one n b q = mod-eq_of_lt q
 
-link_one : (n a b : ℕ) → b < n → link (n ∷ []) 1 a b ≡ number n a b
+pub link_one : (n a b : ℕ) → b < n → link (n ∷ []) 1 a b ≡ number n a b
 link_one n a b q = let c : coord (n ∷ []) b 1 ≡ b = coord_one n b q in let z : ranks (n ∷ []) * 0 ≡ 0 = omega arith in omega arith
 
 pub number_is : (n a b : ℕ) → a < n → b < n → hop_link (n ∷ []) a b 1 ≡ number n a b

@@ -16,7 +16,7 @@ abbrev pub no_logs : Logs
 no_logs = λ l. []
 
 -- a state whose links are all new
-pub record IsNew (st : State) : Type 0 where
+pub record Empty (st : State) : Type 0 where
   pub outs : (l : ℕ) → (out_of st l).parcel.untaken ≡ []
   pub ins : (l : ℕ) → (in_of st l).parcel.untaken ≡ []
   pub not_done : st.done ≡ false
@@ -25,22 +25,22 @@ either : {X : Type 0} (b : Bool) (x y : X) → x ≡ y → cond b x y ≡ y
 either true x y e = e
 either false x y e = refl
 
-none_pushed : (st : State) → IsNew st → (e d : ℕ) → pushed_to (buffers_of st) no_logs e d ≡ []
+none_pushed : (st : State) → Empty st → (e d : ℕ) → pushed_to (buffers_of st) no_logs e d ≡ []
 none_pushed st new e d =
     either (e == st.epoch) (items_among (belongs st.dims st.rank d 1) (out_of st (hop_link st.dims st.rank d 1)).parcel.untaken) []
     (ap (items_among (belongs st.dims st.rank d 1)) (new.outs (hop_link st.dims st.rank d 1)))
 
 -- nothing was pushed and nothing pulled
-pub new_part : (st : State) → IsNew st → (e d : ℕ) → ((part_of (buffers_of st) no_logs no_logs).pushed e d ≡ []) × ((part_of (buffers_of st) no_logs no_logs).pulled e d ≡ [])
+pub new_part : (st : State) → Empty st → (e d : ℕ) → ((part_of (buffers_of st) no_logs no_logs).pushed e d ≡ []) × ((part_of (buffers_of st) no_logs no_logs).pulled e d ≡ [])
 new_part st new e d =
     (either (nat_lt d (ranks st.dims)) (pushed_to (buffers_of st) no_logs e d) [] (none_pushed st new e d), either (nat_lt d (ranks st.dims)) (pulled_of (buffers_of st) no_logs e d) [] (take-nil _))
 
-same_or : {X : Type 0} (n i : ℕ) (x : X) → get_or (replicate n x) i x ≡ x
+pub same_or : {X : Type 0} (n i : ℕ) (x : X) → get_or (replicate n x) i x ≡ x
 same_or zero i x = refl
 same_or (suc n) zero x = refl
 same_or (suc n) (suc i) x = same_or n i x
 
-pub new_links : (n : ℕ) (st : State) → st.outs ≡ replicate n no_out → st.ins ≡ replicate n no_in → st.done ≡ false → IsNew st
+pub new_links : (n : ℕ) (st : State) → st.outs ≡ replicate n no_out → st.ins ≡ replicate n no_in → st.done ≡ false → Empty st
 new_links n st outs ins done =
     record {
       outs = λ l. ap (λ os. (get_or os (out_index st.dims l) no_out).parcel.untaken) outs ∙ ap (λ o. o.parcel.untaken) (same_or n (out_index st.dims l) no_out);

@@ -1,6 +1,7 @@
 -- A node that hasn't turned.
-use Rattle.std.proofs.Common.{◌≡◌, ◌≢◌, ℕ, false, List, [], replicate, None, refl, sym, ap, subst, ◌∙◌, arith}
+use Rattle.std.proofs.Common.{◌≡◌, ◌≢◌, ℕ, ◌==◌, nat_lt, Bool, true, false, cond, List, [], replicate, None, refl, sym, ap, subst, ◌∙◌, arith, get_or}
 use Rattle.std.proofs.lemmas.Bool.{false≢true}
+use Rattle.std.proofs.Math.Seq.{take-nil}
 use Rattle.route_tensor.specs.Grid.{ranks}
 use Rattle.port_bank.specs.Machine.{Part}
 use Rattle.port_bank.specs.Machine.Step.{Idle}
@@ -8,20 +9,30 @@ use Rattle.hop_core.specs.declared.phase.Phase.{Phase}
 use Rattle.hop_core.specs.declared.phase.Phase.TheVariants.{Dormant, Working}
 use Rattle.hop_core.specs.Link.{no_out, no_in}
 use Rattle.hop_core.specs.State.{State}
-use Rattle.convey.specs.Buffers.{buffers_of, in_of}
+use Rattle.convey.specs.Buffers.{buffers_of}
 use Rattle.convey.specs.Conveyors.{AgreesWith, KeepsAgreement, IsStepOf}
 use Rattle.convey.specs.Law.{IsSound}
-use Rattle.convey.specs.Parts.{part_of}
+use Rattle.exstack.specs.Links.{no_out as stack_out}
+use Rattle.exstack.specs.State.{State as Stack}
+use Rattle.exstack.specs.State.{dims_of as stack_dims}
+use Rattle.exstack.specs.State.{new_stack, out_at}
+use Rattle.exstack.specs.Cycles.{items}
+use Rattle.exstack.specs.Agreement.{AgreesIn}
+use Rattle.exstack.specs.Parts.{pushed_to}
+use Rattle.exstack.specs.Standing.{IsStack}
 use Rattle.round_program.specs.Rules.{Rules}
 use Rattle.round_program.specs.Epochs.{Own}
 use Rattle.round_program.specs.Orders.{fitting}
 use Rattle.round_program.proofs.Orders.{upto_ext, upto_none}
 use Rattle.round_program.proofs.Steps.{own_start}
 use Rattle.rank_node.specs.declared.sends.Sends.TheVariants.{Emissions}
+use Rattle.rank_node.specs.Movers.{MoverState, Manner, dims_of, rank_of, epoch_in, part_in, IsNew}
+use Rattle.rank_node.specs.Movers.MoverState.{Conveying, Stacking}
+use Rattle.rank_node.specs.Movers.Manner.{ByConveyor, ByExstack}
 use Rattle.rank_node.specs.Runs.{lists_of, HasTaken}
 use Rattle.rank_node.specs.Nodes.{IsNode}
-use Rattle.rank_node.proofs.Begun.{no_logs, IsNew, new_part, new_links}
-use Rattle.rank_node.proofs.Took.{taken_same}
+use Rattle.rank_node.proofs.Begun.{no_logs, Empty, new_part, new_links, same_or}
+use Rattle.rank_node.proofs.Onward.{paced_start}
 
 -- the first epoch, in which nothing was pushed or pulled
 pub fresh_taken : {S : Type 0} (R : Rules S) (p rank : ℕ) (prog : S) (part : Part) → part.epoch ≡ 0 → part.done ≡ false → ((e d : ℕ) → (part.pushed e d ≡ []) × (part.pulled e d ≡ []))
@@ -56,33 +67,63 @@ fresh_taken R p rank prog part first not_done none valid own all round =
 not_dormant : (p : Phase) → p ≡ Working → p ≢ Dormant
 not_dormant p w d = absurd (cc)
 
-pub fresh_node : {S : Type 0} (R : Rules S) (prog : S) (n : ℕ) (st st' : State) → st.outs ≡ replicate n no_out → st.ins ≡ replicate n no_in → st.done ≡ false → st.epoch ≡ 0
-    → AgreesWith st no_logs no_logs → st' ≡ record st { phase = Working; pulled = None } → KeepsAgreement st st' → IsStepOf Idle st st'
-    → R.valid prog → R.rank prog ≡ st.rank → R.ranks prog ≡ ranks st.dims → R.round prog ≡ 0 → IsSound (buffers_of st')
-    → IsNode R (λ m. prog) (record { run = record { prog = prog; round = 0; sends = Emissions; next = 0; sum = 0; spoiled = false }; conveyor = st' }) no_logs no_logs
-fresh_node R prog n st st' outs ins done first agrees new kept step valid rank all round sound =
-    let is : IsNew st = new_links n st outs ins done in
-    let dims : st'.dims ≡ st.dims = ap (λ (t : State). t.dims) new in
-    let own : st'.rank ≡ st.rank = ap (λ (t : State). t.rank) new in
+pub fresh_node : {S : Type 0} (R : Rules S) (prog : S) (dims : List ℕ) (rank : ℕ) (manner : Manner) (m : MoverState) → IsNew dims rank manner m
+    → R.valid prog → R.rank prog ≡ rank → R.ranks prog ≡ ranks dims → R.round prog ≡ 0
+    → IsNode R (λ k. prog) (record { run = record { prog = prog; round = 0; sends = Emissions; next = 0; sum = 0; spoiled = false }; mover = m }) no_logs no_logs
+fresh_node R prog dims rank manner m new valid own all round =
+    let t : HasTaken R (ranks (dims_of m)) (rank_of m) (λ k. prog) 0 Emissions 0 prog 0 false (part_in m no_logs no_logs) =
+    fresh_taken R (ranks (dims_of m)) (rank_of m) prog (part_in m no_logs no_logs) (part_epoch m ∙ new.first) new.not_done new.none valid (own ∙ sym new.same_rank) (all ∙ ap ranks (sym new.same_dims)) round in
+    record { moving = new.moving; paced = paced_start R (record { prog = prog; round = 0; sends = Emissions; next = 0; sum = 0; spoiled = false }) m new.starts; passed = t.passed; within = t.within } where
+      part_epoch : (m : MoverState) → (part_in m no_logs no_logs).epoch ≡ epoch_in m
+      part_epoch (Conveying c) = refl
+      part_epoch (Stacking cap x) = refl
+
+-- a conveyor that has begun its first epoch
+pub new_conveying : (dims : List ℕ) (n : ℕ) (steady : Bool) (st st' : State) → st.outs ≡ replicate n no_out → st.ins ≡ replicate n no_in → st.done ≡ false → st.epoch ≡ 0 → st.dims ≡ dims → st.steady ≡ steady
+    → AgreesWith st no_logs no_logs → st' ≡ record st { phase = Working; pulled = None } → KeepsAgreement st st' → IsStepOf Idle st st' → IsSound (buffers_of st')
+    → IsNew dims st.rank (ByConveyor steady) (Conveying st')
+new_conveying dims n steady st st' outs ins done first same_dims same_steady agrees new kept step sound =
+    let is : Empty st = new_links n st outs ins done in
+    let is' : Empty st' = new_links n st' (ap (λ (t : State). t.outs) new ∙ outs) (ap (λ (t : State). t.ins) new ∙ ins) (ap (λ (t : State). t.done) new ∙ done) in
     let phase : st'.phase ≡ Working = ap (λ (t : State). t.phase) new in
-    let t0 : HasTaken R (ranks st.dims) st.rank (λ m. prog) 0 Emissions 0 prog 0 false (part_of (buffers_of st) no_logs no_logs) =
-    fresh_taken R (ranks st.dims) st.rank prog (part_of (buffers_of st) no_logs no_logs) first done (new_part st is) valid rank all round in
-    let t1 : HasTaken R (ranks st.dims) st.rank (λ m. prog) 0 Emissions 0 prog 0 false (part_of (buffers_of st') no_logs no_logs) =
-    taken_same R (ranks st.dims) st.rank (λ m. prog) 0 Emissions 0 prog 0 false (part_of (buffers_of st) no_logs no_logs) (part_of (buffers_of st') no_logs no_logs) (step no_logs no_logs agrees).is t0 in
-    let t2 : HasTaken R (ranks st'.dims) st'.rank (λ m. prog) 0 Emissions 0 prog 0 false (part_of (buffers_of st') no_logs no_logs) =
-    subst (λ (d : List ℕ). HasTaken R (ranks d) st'.rank (λ m. prog) 0 Emissions 0 prog 0 false (part_of (buffers_of st') no_logs no_logs)) (sym dims)
-    (subst (λ r. HasTaken R (ranks st.dims) r (λ m. prog) 0 Emissions 0 prog 0 false (part_of (buffers_of st') no_logs no_logs)) (sym own) t1) in
     record {
+      same_dims = ap (λ (t : State). t.dims) new ∙ same_dims;
+      same_rank = ap (λ (t : State). t.rank) new;
+      same_manner = ap (λ (t : State). ByConveyor t.steady) new ∙ ap ByConveyor same_steady;
+      first = ap (λ (t : State). t.epoch) new ∙ first;
       moving = record {
         begun = λ e. not_dormant st'.phase phase e;
         working = λ d. phase;
         sound = sound;
         agrees = kept no_logs no_logs agrees;
-        read = λ l below to hop. ap (λ (t : State). (in_of t l).parcel.untaken) new ∙ is.ins l;
+        read = λ l below to hop. is'.ins l;
       };
-      passed = t2.passed;
-      within = t2.within;
+      starts = tt;
+      not_done = is'.not_done;
+      none = new_part st' is';
+      unread = is'.ins;
     }
 
-pub fresh_unread : (n : ℕ) (st st' : State) → st.outs ≡ replicate n no_out → st.ins ≡ replicate n no_in → st.done ≡ false → st' ≡ record st { phase = Working; pulled = None } → (l : ℕ) → (in_of st' l).parcel.untaken ≡ []
-fresh_unread n st st' outs ins done new l = ap (λ (t : State). (in_of t l).parcel.untaken) new ∙ (new_links n st outs ins done).ins l
+-- an exstack of which nothing was used
+pub new_stacking : (dims : List ℕ) (rank cap : ℕ) (x : Stack) → x ≡ new_stack (ranks dims) rank → stack_dims x ≡ dims → AgreesIn 0 x no_logs no_logs → IsStack cap x → IsNew dims rank ByExstack (Stacking cap x)
+new_stacking dims rank cap x made same agrees standing =
+    record {
+      same_dims = same;
+      same_rank = ap (λ (t : Stack). t.rank) made;
+      same_manner = refl;
+      first = ap (λ (t : Stack). t.epoch) made;
+      moving = record { stack = standing; agrees = record { cycle = 0; agrees = agrees } };
+      starts = ap (λ (t : Stack). t.stage) made;
+      not_done = ap (λ (t : Stack). t.done) made;
+      none = λ e d. (by (nat_lt d x.ranks) (pushed_none e d), by (nat_lt d x.ranks) (take-nil _));
+      unread = tt;
+    } where
+      by : {X : Type 0} {y : List X} (b : Bool) → y ≡ [] → cond b y [] ≡ []
+      by true e = e
+      by false e = refl
+
+      waiting : (d : ℕ) → (out_at x d).waiting ≡ []
+      waiting d = ap (λ os. (get_or os d stack_out).waiting) (ap (λ (t : Stack). t.outs) made) ∙ ap (λ o. o.waiting) (same_or (ranks dims) d stack_out)
+
+      pushed_none : (e d : ℕ) → pushed_to x no_logs e d ≡ []
+      pushed_none e d = by (e == x.epoch) (ap items (waiting d))

@@ -12,6 +12,8 @@ use Rattle.route_tensor.specs.Link.{links}
 use Rattle.route_tensor.specs.Ends.{hop_at, sender_at, reader_at}
 use Rattle.port_bank.specs.Logs.{Logs}
 use Rattle.port_bank.specs.Flow.{hop_link}
+use Rattle.port_bank.specs.Shapes.{IsConveyorShape}
+use Rattle.list_laws.specs.Lists.{Begins}
 use Rattle.hop_core.specs.declared.phase.Phase.{Phase}
 use Rattle.hop_core.specs.declared.phase.Phase.TheVariants.{Dormant, Working, Endgame, Cleanup, Complete}
 use Rattle.hop_core.specs.State.{State}
@@ -24,11 +26,16 @@ use Rattle.convey.specs.Progress.{progress_of}
 use Rattle.convey.specs.declared.progress.Progress.TheVariants as progress
 use Rattle.convey.proofs.OneRank.{FirstLink, first_link}
 use Rattle.round_program.specs.Rules.{Rules}
-use Rattle.rank_node.specs.Sending.{to_send}
+use Rattle.rank_node.specs.Sending.{to_send, is_voting}
 use Rattle.rank_node.specs.Pulls.{NoMore}
-use Rattle.rank_node.specs.Nodes.{NodeState, IsNode}
+use Rattle.rank_node.specs.Runs.{Running}
+use Rattle.rank_node.specs.Moves.{AfterMoves, OnConveyor}
+use Rattle.rank_node.specs.Movers.Manner.{ByConveyor}
+use Rattle.rank_node.specs.Movers.MoverState.{Conveying}
+use Rattle.rank_node.specs.Nodes.{IsNode}
 use Rattle.rank_node.specs.Stuck.{HasCrowded, IsStuck}
-use Rattle.rank_node.proofs.Moved.{AfterPush, AfterAdvance, AfterTakes}
+use Rattle.rank_node.proofs.Ballots.{same_sends}
+use Rattle.rank_node.proofs.Moved.{AfterPush, AfterAdvance, AfterTakes, moved}
 
 -- the phase of an advance that answers Complete
 pub complete_from : (p : Phase) → progress_of p ≡ progress.Complete → p ≡ Complete
@@ -55,17 +62,17 @@ pub record Advanced (c c' : State) (cap : ℕ) (sent sent' got got' : Logs) (is_
   pub stopped : (l : ℕ) (e : Entry) → l < links c.dims → reader_at c.dims l ≡ c.rank → hop_at c.dims l < length c.dims → slice_get (in_of c' l).parcel.untaken 0 ≡ Some e → NextIs c.dims c.rank l e.tag (λ m. sent' m ≡ sent m → is_crowded m ≡ true)
   pub completes : IsOver c' → c'.phase ≡ Complete
 
-module _ {S : Type 0} (R : Rules S) (h : ℕ → S) (n : NodeState S) (c1 c2 c3 : State) (next cap : ℕ) (done complete voting : Bool) (prog : S) (sum : ℕ) (spoiled : Bool) (sent got sent' got' : Logs) (is_crowded is_idle : ℕ → Bool)
-    (grid : IsGrid c3.dims) (own : c3.rank < ranks c3.dims) (push : AfterPush R n c1 next sent got)
-    (refused : (to : ℕ) (x : Item) → slice_get (to_send R n.run.prog n.run.sends) next ≡ Some (to, x) → standing_toward c1 to ≡ cap)
-    (receiver : (to : ℕ) (x : Item) → slice_get (to_send R n.run.prog n.run.sends) next ≡ Some (to, x) → to < ranks c1.dims)
-    (all : done ≡ (next == length (to_send R n.run.prog n.run.sends))) (adv : AfterAdvance c1 c2 done complete sent got sent' got') (advanced : Advanced c1 c2 cap sent sent' got got' is_crowded is_idle)
-    (takes : AfterTakes R voting c2 c3 n.run.prog prog n.run.sum sum n.run.spoiled spoiled sent' got') (fewer : NoMore c2 c3) (is : IsNode R h n sent got)
+module _ {S : Type 0} (R : Rules S) (h : ℕ → S) (run : Running S) (c0 c1 c2 c3 : State) (next cap : ℕ) (done complete voting : Bool) (prog : S) (sum : ℕ) (spoiled : Bool) (sent got sent' got' : Logs) (is_crowded is_idle : ℕ → Bool)
+    (grid : IsGrid c3.dims) (own : c3.rank < ranks c3.dims) (push : AfterPush R run c0 c1 next sent got)
+    (refused : (to : ℕ) (x : Item) → slice_get (to_send R run.prog run.sends) next ≡ Some (to, x) → standing_toward c1 to ≡ cap)
+    (receiver : (to : ℕ) (x : Item) → slice_get (to_send R run.prog run.sends) next ≡ Some (to, x) → to < ranks c1.dims)
+    (all : done ≡ (next == length (to_send R run.prog run.sends))) (adv : AfterAdvance c1 c2 done complete sent got sent' got') (advanced : Advanced c1 c2 cap sent sent' got got' is_crowded is_idle)
+    (takes : AfterTakes R voting c2 c3 run.prog prog run.sum sum run.spoiled spoiled sent' got') (fewer : NoMore c2 c3) (is : IsNode R h (record { run = run; mover = Conveying c0 }) sent got)
     (sent_same : (l : ℕ) → sent' l ≡ sent l) (got_same : (l : ℕ) → got' l ≡ got l) where
-  dims1 : c1.dims ≡ n.conveyor.dims
+  dims1 : c1.dims ≡ c0.dims
   dims1 = ap (λ (c : State). c.dims) push.same
 
-  rank1 : c1.rank ≡ n.conveyor.rank
+  rank1 : c1.rank ≡ c0.rank
   rank1 = ap (λ (c : State). c.rank) push.same
 
   dims31 : c3.dims ≡ c1.dims
@@ -74,13 +81,13 @@ module _ {S : Type 0} (R : Rules S) (h : ℕ → S) (n : NodeState S) (c1 c2 c3 
   rank31 : c3.rank ≡ c1.rank
   rank31 = ap (λ (c : State). c.rank) takes.same ∙ adv.rank
 
-  below1 : (l : ℕ) → l < links n.conveyor.dims → l < links c1.dims
+  below1 : (l : ℕ) → l < links c0.dims → l < links c1.dims
   below1 l b = subst (λ (d : List ℕ). l < links d) (sym dims1) b
 
-  sender1 : (l : ℕ) → sender_at n.conveyor.dims l ≡ n.conveyor.rank → sender_at c1.dims l ≡ c1.rank
+  sender1 : (l : ℕ) → sender_at c0.dims l ≡ c0.rank → sender_at c1.dims l ≡ c1.rank
   sender1 l e = subst (λ (d : List ℕ). sender_at d l ≡ c1.rank) (sym dims1) (e ∙ sym rank1)
 
-  reader1 : (l : ℕ) → reader_at n.conveyor.dims l ≡ n.conveyor.rank → reader_at c1.dims l ≡ c1.rank
+  reader1 : (l : ℕ) → reader_at c0.dims l ≡ c0.rank → reader_at c1.dims l ≡ c1.rank
   reader1 l e = subst (λ (d : List ℕ). reader_at d l ≡ c1.rank) (sym dims1) (e ∙ sym rank1)
 
   grid1 : IsGrid c1.dims
@@ -90,28 +97,28 @@ module _ {S : Type 0} (R : Rules S) (h : ℕ → S) (n : NodeState S) (c1 c2 c3 
   own1 = subst (λ (d : List ℕ). c1.rank < ranks d) dims31 (subst (λ r. r < ranks c3.dims) rank31 own)
 
   -- done, or refused toward a receiver whose first link is crowded
-  pushed_or : (b : Bool) → done ≡ b → (c2.done ≡ true) ⊎ HasCrowded n.conveyor.dims n.conveyor.rank is_crowded
+  pushed_or : (b : Bool) → done ≡ b → (c2.done ≡ true) ⊎ HasCrowded c0.dims c0.rank is_crowded
   pushed_or true e = inl (adv.done_is ∙ e)
   pushed_or false e =
-      let es = to_send R n.run.prog n.run.sends in
+      let es = to_send R run.prog run.sends in
       let left : next < length es = elim (cases_lt next (length es)) [ inl b ↦ b | inr p ↦ absurd (clash (eq-eqb next (length es) (omega (arith, p, push.low))) (sym all ∙ e)) ] in
       let x : (x : ℕ × Item) × (slice_get es next ≡ Some x) = find es next left in
       inr (toward x.0 x.1) where
         clash : {b : Bool} → b ≡ true → b ≡ false → ⊥
         clash t f = absurd (cc)
 
-        toward : (x : ℕ × Item) → slice_get (to_send R n.run.prog n.run.sends) next ≡ Some x → HasCrowded n.conveyor.dims n.conveyor.rank is_crowded
+        toward : (x : ℕ × Item) → slice_get (to_send R run.prog run.sends) next ≡ Some x → HasCrowded c0.dims c0.rank is_crowded
         toward (to, x) at =
             let first : FirstLink c1.dims c1.rank to = first_link c1.dims c1.rank to grid1 own1 (receiver to x at) in
             let l : ℕ = hop_link c1.dims c1.rank to 1 in
             record {
               link = l;
               below = subst (λ (d : List ℕ). l < links d) dims1 first.below;
-              sender = subst (λ (d : List ℕ). sender_at d l ≡ n.conveyor.rank) dims1 (first.sender ∙ rank1);
+              sender = subst (λ (d : List ℕ). sender_at d l ≡ c0.rank) dims1 (first.sender ∙ rank1);
               crowded = advanced.full l first.below first.sender (sent_same l) (refused to x at);
             }
 
-  pub stuck : IsStuck n.conveyor c3 sent got sent' got' is_crowded is_idle
+  pub stuck : IsStuck c0 c3 sent got sent' got' is_crowded is_idle
   stuck =
       record {
         before = c1;
@@ -134,8 +141,71 @@ module _ {S : Type 0} (R : Rules S) (h : ℕ → S) (n : NodeState S) (c1 c2 c3 
         idle = λ l b e w. advanced.idles l (below1 l b) (reader1 l e) w (got_same l) (sent_same l);
         stopped = λ l x b e o some.
             let next = advanced.stopped l x (below1 l b) (reader1 l e) (subst (λ (d : List ℕ). hop_at d l < length d) (sym dims1) o) some in
-            subst (λ (d : List ℕ). NextIs d n.conveyor.rank l x.tag (λ m. is_crowded m ≡ true)) dims1 (subst (λ r. NextIs c1.dims r l x.tag (λ m. is_crowded m ≡ true)) rank1
+            subst (λ (d : List ℕ). NextIs d c0.rank l x.tag (λ m. is_crowded m ≡ true)) dims1 (subst (λ r. NextIs c1.dims r l x.tag (λ m. is_crowded m ≡ true)) rank1
             (record { below = next.below; sender = next.sender; hop = next.hop; holds = next.holds (sent_same (next_link c1.dims c1.rank (hop_at c1.dims l) x.tag)) }));
         closing = λ l b e o a still. advanced.closing l (below1 l b) (sender1 l e) (λ q. o (subst (λ (d : List ℕ). hop_at d l ≡ 1) dims1 q)) a still;
         over = λ o. ap (λ (c : State). c.phase) takes.same ∙ advanced.completes o;
+      }
+
+-- what an advance says of the lists, whether it answered or found no memory
+pub record Grown (c c' : State) (cap : ℕ) (sent sent' got got' : Logs) : Type 0 where
+  pub steady : c'.steady ≡ c.steady
+  pub epoch : c'.epoch ≡ c.epoch
+  pub sent_grows : (l : ℕ) → Begins (sent l) (sent' l)
+  pub got_grows : (l : ℕ) → Begins (got l) (got' l)
+  pub one_sent : (l : ℕ) → l < links c.dims → sender_at c.dims l ≡ c.rank → length (sent' l) ≤ length (sent l) + 1
+  pub one_got : (l : ℕ) → l < links c.dims → reader_at c.dims l ≡ c.rank → length (got' l) ≤ length (got l) + 1
+  pub shape : (l : ℕ) → IsConveyorShape c.steady cap (sent l) → IsConveyorShape c.steady cap (sent' l)
+  pub lies : (l : ℕ) (more : List Shipped) → l < links c.dims → reader_at c.dims l ≡ c.rank → got' l ≡ got l ++ more → Ends ((in_of c l).parcel.untaken ++ flat_map (λ p. p.entries) more) (in_of c' l).parcel.untaken
+
+module _ {S : Type 0} (R : Rules S) (cap : ℕ) (run : Running S) (c0 c1 c2 c3 : State) (next : ℕ) (prog : S) (sum : ℕ) (spoiled done complete voting : Bool) (sent got sent' got' : Logs)
+    (push : AfterPush R run c0 c1 next sent got) (all : done ≡ (next == length (to_send R run.prog run.sends))) (adv : AfterAdvance c1 c2 done complete sent got sent' got') (grown : Grown c1 c2 cap sent sent' got got')
+    (is_v : is_voting run.sends ≡ voting) (takes : AfterTakes R voting c2 c3 run.prog prog run.sum sum run.spoiled spoiled sent' got') where
+  dims10 : c1.dims ≡ c0.dims
+  dims10 = ap (λ (c : State). c.dims) push.same
+
+  rank10 : c1.rank ≡ c0.rank
+  rank10 = ap (λ (c : State). c.rank) push.same
+
+  steady10 : c1.steady ≡ c0.steady
+  steady10 = ap (λ (c : State). c.steady) push.same
+
+  below10 : (l : ℕ) → l < links c0.dims → l < links c1.dims
+  below10 l b = subst (λ (d : List ℕ). l < links d) (sym dims10) b
+
+  sender10 : (l : ℕ) → sender_at c0.dims l ≡ c0.rank → sender_at c1.dims l ≡ c1.rank
+  sender10 l e = subst (λ (d : List ℕ). sender_at d l ≡ c1.rank) (sym dims10) (e ∙ sym rank10)
+
+  reader10 : (l : ℕ) → reader_at c0.dims l ≡ c0.rank → reader_at c1.dims l ≡ c1.rank
+  reader10 l e = subst (λ (d : List ℕ). reader_at d l ≡ c1.rank) (sym dims10) (e ∙ sym rank10)
+
+  pub advanced_moves : AfterMoves R cap (record { run = run; mover = Conveying c0 }) (record { run = record { prog = prog; round = run.round; sends = run.sends; next = next; sum = sum; spoiled = spoiled }; mover = Conveying c3 }) sent got sent' got'
+  advanced_moves =
+      record {
+        kept = λ h is. moved R h run c0 c1 c2 c3 next prog sum spoiled done complete voting sent got sent' got' push all adv is_v takes is;
+        dims = ap (λ (c : State). c.dims) takes.same ∙ (adv.dims ∙ dims10);
+        rank = ap (λ (c : State). c.rank) takes.same ∙ (adv.rank ∙ rank10);
+        manner = ap ByConveyor (ap (λ (c : State). c.steady) takes.same ∙ (grown.steady ∙ steady10));
+        epoch = ap (λ (c : State). c.epoch) takes.same ∙ (grown.epoch ∙ ap (λ (c : State). c.epoch) push.same);
+        round = refl;
+        sends = refl;
+        sent_grows = grown.sent_grows;
+        got_grows = grown.got_grows;
+        one_sent = λ l b e. grown.one_sent l (below10 l b) (sender10 l e);
+        one_got = λ l b e. grown.one_got l (below10 l b) (reader10 l e);
+        shape = λ l b e was. subst (λ s. IsConveyorShape s cap (sent' l)) steady10 (grown.shape l (subst (λ s. IsConveyorShape s cap (sent l)) (sym steady10) was));
+      }
+
+  pub advanced_leaves : (fewer : NoMore c2 c3) → R.emissions prog ≡ R.emissions run.prog
+      → ((to : ℕ) (x : Item) → slice_get (to_send R run.prog run.sends) next ≡ Some (to, x) → standing_toward c1 to ≡ cap)
+      → OnConveyor R cap run (record { prog = prog; round = run.round; sends = run.sends; next = next; sum = sum; spoiled = spoiled }) c0 c3 sent got got'
+  advanced_leaves fewer emissions refused =
+      record {
+        lies = λ l more b e g.
+            let ins : (in_of c1 l).parcel.untaken ≡ (in_of c0 l).parcel.untaken = ap (λ (c : State). (in_of c l).parcel.untaken) push.same in
+            let rest = grown.lies l more (below10 l b) (reader10 l e) g in
+            omega (arith, ap length ins, lies_less (in_of c1 l).parcel.untaken (flat_map (λ (p : Shipped). p.entries) more) (in_of c2 l).parcel.untaken (in_of c3 l).parcel.untaken rest (fewer l));
+        refused = λ h is to x left.
+            let same = same_sends R prog run.prog run.sends emissions in
+            record { at_push = c1; same = push.same; full = refused to x (subst (λ (es : List (ℕ × Item)). slice_get es next ≡ Some (to, x)) same left) };
       }

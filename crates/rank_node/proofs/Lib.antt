@@ -6,7 +6,12 @@ pub mod Took
 pub mod Offered
 pub mod Moved
 pub mod Halted
+pub mod Filled
+pub mod Popped
+pub mod Polled
+pub mod Between
+pub mod Stacked
+pub mod Onward
+pub mod Resumed
 pub mod Begun
 pub mod Fresh
-pub mod Between
-pub mod Onward

@@ -16,9 +16,11 @@ use Rattle.round_program.specs.Orders.{after_pulls}
 use Rattle.round_program.specs.Epochs.{heard, worked}
 use Rattle.rank_node.specs.declared.sends.Sends.{Sends}
 use Rattle.rank_node.specs.Sending.{to_send, is_voting, epoch_of, spoiled_vote}
-use Rattle.rank_node.specs.Runs.{lists_of, HasTaken}
+use Rattle.rank_node.specs.Runs.{Running, lists_of, HasTaken}
 use Rattle.rank_node.specs.Pulls.{PushedOn}
-use Rattle.rank_node.specs.Nodes.{NodeState, AllRead, IsNode}
+use Rattle.rank_node.specs.Movers.{AllRead}
+use Rattle.rank_node.specs.Movers.MoverState.{Conveying}
+use Rattle.rank_node.specs.Nodes.{IsNode}
 use Rattle.rank_node.proofs.Kept.{passed_same}
 use Rattle.rank_node.proofs.Took.{taken_same}
 
@@ -76,12 +78,12 @@ advanced_taken R p rank h round sends next prog sum spoiled part part' false fal
 advanced_taken R p rank h round sends next prog sum spoiled part part' false false false all step is = taken_same R p rank h round sends next prog sum spoiled part part' step.is is
 
 -- what pushing leaves of a node
-pub record AfterPush {S : Type 0} (R : Rules S) (n : NodeState S) (c : State) (next : ℕ) (sent got : Logs) : Type 0 where
-  pub same : c ≡ record n.conveyor { outs = c.outs; pulled = c.pulled }
+pub record AfterPush {S : Type 0} (R : Rules S) (run : Running S) (c0 c : State) (next : ℕ) (sent got : Logs) : Type 0 where
+  pub same : c ≡ record c0 { outs = c.outs; pulled = c.pulled }
   pub agrees : AgreesWith c sent got
-  pub on : PushedOn (to_send R n.run.prog n.run.sends) (ranks n.conveyor.dims) n.run.next next (part_of (buffers_of n.conveyor) sent got) (part_of (buffers_of c) sent got)
-  pub forward : n.run.next ≤ next
-  pub low : next ≤ length (to_send R n.run.prog n.run.sends)
+  pub on : PushedOn (to_send R run.prog run.sends) (ranks c0.dims) run.next next (part_of (buffers_of c0) sent got) (part_of (buffers_of c) sent got)
+  pub forward : run.next ≤ next
+  pub low : next ≤ length (to_send R run.prog run.sends)
 
 -- what the advance leaves
 pub record AfterAdvance (c c' : State) (done complete : Bool) (sent got sent' got' : Logs) : Type 0 where
@@ -103,32 +105,33 @@ pub record AfterTakes {S : Type 0} (R : Rules S) (voting : Bool) (c c' : State) 
       → HasTaken R (ranks c.dims) rank h round sends next prog sum spoiled (part_of (buffers_of c) sent got)
       → HasTaken R (ranks c.dims) rank h round sends next prog' sum' spoiled' (part_of (buffers_of c') sent got)
 
-pub moved : {S : Type 0} (R : Rules S) (h : ℕ → S) (n : NodeState S) (c1 c2 c3 : State) (next : ℕ) (prog : S) (sum : ℕ) (spoiled done complete voting : Bool) (sent got sent' got' : Logs)
-    → AfterPush R n c1 next sent got → done ≡ (next == length (to_send R n.run.prog n.run.sends)) → AfterAdvance c1 c2 done complete sent got sent' got' → is_voting n.run.sends ≡ voting
-    → AfterTakes R voting c2 c3 n.run.prog prog n.run.sum sum n.run.spoiled spoiled sent' got' → IsNode R h n sent got
-    → IsNode R h (record { run = record { prog = prog; round = n.run.round; sends = n.run.sends; next = next; sum = sum; spoiled = spoiled }; conveyor = c3 }) sent' got'
-moved R h n c1 c2 c3 next prog sum spoiled done complete voting sent got sent' got' push all adv is_v takes is =
-    let p0 = ranks n.conveyor.dims in
-    let r0 = n.conveyor.rank in
-    let dims1 : c1.dims ≡ n.conveyor.dims = ap (λ (c : State). c.dims) push.same in
-    let rank1 : c1.rank ≡ n.conveyor.rank = ap (λ (c : State). c.rank) push.same in
-    let dims2 : c2.dims ≡ n.conveyor.dims = adv.dims ∙ dims1 in
+pub moved : {S : Type 0} (R : Rules S) (h : ℕ → S) (run : Running S) (c0 c1 c2 c3 : State) (next : ℕ) (prog : S) (sum : ℕ) (spoiled done complete voting : Bool) (sent got sent' got' : Logs)
+    → AfterPush R run c0 c1 next sent got → done ≡ (next == length (to_send R run.prog run.sends)) → AfterAdvance c1 c2 done complete sent got sent' got' → is_voting run.sends ≡ voting
+    → AfterTakes R voting c2 c3 run.prog prog run.sum sum run.spoiled spoiled sent' got' → IsNode R h (record { run = run; mover = Conveying c0 }) sent got
+    → IsNode R h (record { run = record { prog = prog; round = run.round; sends = run.sends; next = next; sum = sum; spoiled = spoiled }; mover = Conveying c3 }) sent' got'
+moved R h run c0 c1 c2 c3 next prog sum spoiled done complete voting sent got sent' got' push all adv is_v takes is =
+    let p0 = ranks c0.dims in
+    let r0 = c0.rank in
+    let dims1 : c1.dims ≡ c0.dims = ap (λ (c : State). c.dims) push.same in
+    let rank1 : c1.rank ≡ c0.rank = ap (λ (c : State). c.rank) push.same in
+    let dims2 : c2.dims ≡ c0.dims = adv.dims ∙ dims1 in
     let dims3 : c3.dims ≡ c2.dims = ap (λ (c : State). c.dims) takes.same in
-    let rank3 : c3.rank ≡ n.conveyor.rank = ap (λ (c : State). c.rank) takes.same ∙ (adv.rank ∙ rank1) in
+    let rank3 : c3.rank ≡ c0.rank = ap (λ (c : State). c.rank) takes.same ∙ (adv.rank ∙ rank1) in
     let phase3 : c3.phase ≡ c2.phase = ap (λ (c : State). c.phase) takes.same in
     let done3 : c3.done ≡ done = ap (λ (c : State). c.done) takes.same ∙ adv.done_is in
-    let all_pushed : done ≡ true → next ≡ length (to_send R n.run.prog n.run.sends) = λ d. eqb-true next (length (to_send R n.run.prog n.run.sends)) (sym all ∙ d) in
-    let h0 : HasTaken R p0 r0 h n.run.round n.run.sends n.run.next n.run.prog n.run.sum n.run.spoiled (part_of (buffers_of n.conveyor) sent got) = record { passed = is.passed; within = is.within } in
-    let h1 : HasTaken R p0 r0 h n.run.round n.run.sends next n.run.prog n.run.sum n.run.spoiled (part_of (buffers_of c1) sent got) =
-    pushed_taken R p0 r0 h n.run.round n.run.sends n.run.next next n.run.prog n.run.sum n.run.spoiled (part_of (buffers_of n.conveyor) sent got) (part_of (buffers_of c1) sent got) push.on push.forward push.low h0 in
-    let h2 : HasTaken R p0 r0 h n.run.round n.run.sends next n.run.prog n.run.sum n.run.spoiled (part_of (buffers_of c2) sent' got') =
-    advanced_taken R p0 r0 h n.run.round n.run.sends next n.run.prog n.run.sum n.run.spoiled (part_of (buffers_of c1) sent got) (part_of (buffers_of c2) sent' got') c1.done done complete all_pushed adv.step h1 in
-    let h3 : HasTaken R (ranks c2.dims) r0 h n.run.round n.run.sends next prog sum spoiled (part_of (buffers_of c3) sent' got') =
-    takes.taken h r0 n.run.round next n.run.sends is_v adv.agrees (subst (λ (d : List ℕ). HasTaken R (ranks d) r0 h n.run.round n.run.sends next n.run.prog n.run.sum n.run.spoiled (part_of (buffers_of c2) sent' got')) (sym dims2) h2) in
-    let h4 : HasTaken R (ranks c3.dims) c3.rank h n.run.round n.run.sends next prog sum spoiled (part_of (buffers_of c3) sent' got') =
-    subst (λ r. HasTaken R (ranks c3.dims) r h n.run.round n.run.sends next prog sum spoiled (part_of (buffers_of c3) sent' got')) (sym rank3)
-    (subst (λ (d : List ℕ). HasTaken R (ranks d) r0 h n.run.round n.run.sends next prog sum spoiled (part_of (buffers_of c3) sent' got')) (sym dims3) h3) in
+    let all_pushed : done ≡ true → next ≡ length (to_send R run.prog run.sends) = λ d. eqb-true next (length (to_send R run.prog run.sends)) (sym all ∙ d) in
+    let h0 : HasTaken R p0 r0 h run.round run.sends run.next run.prog run.sum run.spoiled (part_of (buffers_of c0) sent got) = record { passed = is.passed; within = is.within } in
+    let h1 : HasTaken R p0 r0 h run.round run.sends next run.prog run.sum run.spoiled (part_of (buffers_of c1) sent got) =
+    pushed_taken R p0 r0 h run.round run.sends run.next next run.prog run.sum run.spoiled (part_of (buffers_of c0) sent got) (part_of (buffers_of c1) sent got) push.on push.forward push.low h0 in
+    let h2 : HasTaken R p0 r0 h run.round run.sends next run.prog run.sum run.spoiled (part_of (buffers_of c2) sent' got') =
+    advanced_taken R p0 r0 h run.round run.sends next run.prog run.sum run.spoiled (part_of (buffers_of c1) sent got) (part_of (buffers_of c2) sent' got') c1.done done complete all_pushed adv.step h1 in
+    let h3 : HasTaken R (ranks c2.dims) r0 h run.round run.sends next prog sum spoiled (part_of (buffers_of c3) sent' got') =
+    takes.taken h r0 run.round next run.sends is_v adv.agrees (subst (λ (d : List ℕ). HasTaken R (ranks d) r0 h run.round run.sends next run.prog run.sum run.spoiled (part_of (buffers_of c2) sent' got')) (sym dims2) h2) in
+    let h4 : HasTaken R (ranks c3.dims) c3.rank h run.round run.sends next prog sum spoiled (part_of (buffers_of c3) sent' got') =
+    subst (λ r. HasTaken R (ranks c3.dims) r h run.round run.sends next prog sum spoiled (part_of (buffers_of c3) sent' got')) (sym rank3)
+    (subst (λ (d : List ℕ). HasTaken R (ranks d) r0 h run.round run.sends next prog sum spoiled (part_of (buffers_of c3) sent' got')) (sym dims3) h3) in
     record {
+      paced = tt;
       moving = record {
         begun = λ e. adv.begun (sym phase3 ∙ e);
         working = λ d. phase3 ∙ adv.working (sym done3 ∙ d);
@@ -141,18 +144,18 @@ moved R h n c1 c2 c3 next prog sum spoiled done complete voting sent got sent' g
     }
 
 -- a rank that isn't done after its pushes is still working
-pub still_working : {S : Type 0} (R : Rules S) (h : ℕ → S) (n : NodeState S) (c : State) (next : ℕ) (sent got : Logs)
-    → AfterPush R n c next sent got → IsNode R h n sent got → (next == length (to_send R n.run.prog n.run.sends)) ≡ false → c.phase ≡ Working
-still_working R h n c next sent got push is left =
+pub still_working : {S : Type 0} (R : Rules S) (h : ℕ → S) (run : Running S) (c0 c : State) (next : ℕ) (sent got : Logs)
+    → AfterPush R run c0 c next sent got → IsNode R h (record { run = run; mover = Conveying c0 }) sent got → (next == length (to_send R run.prog run.sends)) ≡ false → c.phase ≡ Working
+still_working R h run c0 c next sent got push is left =
     ap (λ (t : State). t.phase) push.same ∙ is.moving.working
-    (elim (cases_Bool n.conveyor.done) [
-      | inl d ↦ absurd (true≢false (sym (eq-eqb next (length (to_send R n.run.prog n.run.sends)) (omega (arith, push.forward, push.low, is.within.all_pushed d))) ∙ left))
+    (elim (cases_Bool c0.done) [
+      | inl d ↦ absurd (true≢false (sym (eq-eqb next (length (to_send R run.prog run.sends)) (omega (arith, push.forward, push.low, is.within.all_pushed d))) ∙ left))
       | inr d ↦ d
     ])
 
 -- and one that is done has pushed all
-pub done_stays : {S : Type 0} (R : Rules S) (h : ℕ → S) (n : NodeState S) (c : State) (next : ℕ) (sent got : Logs)
-    → AfterPush R n c next sent got → IsNode R h n sent got → c.done ≡ true → (next == length (to_send R n.run.prog n.run.sends)) ≡ true
-done_stays R h n c next sent got push is d =
-    let was : n.conveyor.done ≡ true = sym (ap (λ (t : State). t.done) push.same) ∙ d in
-    eq-eqb next (length (to_send R n.run.prog n.run.sends)) (omega (arith, push.forward, push.low, is.within.all_pushed was))
+pub done_stays : {S : Type 0} (R : Rules S) (h : ℕ → S) (run : Running S) (c0 c : State) (next : ℕ) (sent got : Logs)
+    → AfterPush R run c0 c next sent got → IsNode R h (record { run = run; mover = Conveying c0 }) sent got → c.done ≡ true → (next == length (to_send R run.prog run.sends)) ≡ true
+done_stays R h run c0 c next sent got push is d =
+    let was : c0.done ≡ true = sym (ap (λ (t : State). t.done) push.same) ∙ d in
+    eq-eqb next (length (to_send R run.prog run.sends)) (omega (arith, push.forward, push.low, is.within.all_pushed was))

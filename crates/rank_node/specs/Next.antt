@@ -1,8 +1,8 @@
 -- What follows an epoch.
 use Rattle.std.specs.Prelude.{◌≡◌, ◌≢◌, ℕ, ◌==◌, ◌-◌, ◌^◌, cond, true, false}
 use Rattle.port_bank.specs.Logs.{Logs}
-use Rattle.hop_core.specs.declared.phase.Phase.TheVariants.{Complete}
 use Rattle.round_program.specs.Rules.{Rules}
+use Rattle.rank_node.specs.Movers.{has_completed}
 use Rattle.rank_node.specs.Sending.{is_voting}
 use Rattle.rank_node.specs.Nodes.{NodeState, IsNode}
 
@@ -15,8 +15,8 @@ extended h m s = λ k. cond (k == m) s (h k)
 -- worked: the state of the program before that.
 pub record HasStopped {S : Type 0} (R : Rules S) (h : ℕ → S) (n : NodeState S) (sent got : Logs) : Type 0 where
   pub worked : S
-  pub node : IsNode R h (record { run = record n.run { prog = worked }; conveyor = n.conveyor }) sent got
-  pub complete : n.conveyor.phase ≡ Complete
+  pub node : IsNode R h (record { run = record n.run { prog = worked }; mover = n.mover }) sent got
+  pub complete : has_completed n.mover ≡ true
   pub voting : is_voting n.run.sends ≡ true
   pub unspoiled : n.run.spoiled ≡ false
   pub clean : n.run.sum ≢ 2 ^ 64 - 1

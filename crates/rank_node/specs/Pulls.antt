@@ -1,12 +1,21 @@
 -- What small steps of a turn leave.
-use Rattle.std.specs.Prelude.{◌≡◌, ◌≢◌, ℕ, ◌+◌, ◌-◌, ◌^◌, ◌≤◌, length, min, Bool, true, false, cond, List}
+use Rattle.std.specs.Prelude.{◌≡◌, ◌≢◌, ℕ, ◌+◌, ◌-◌, ◌^◌, ◌≤◌, length, min, Bool, true, false, cond, List, slice_get, Some}
 use Rattle.bale_types.specs.declared.item.Item.{Item}
 use Rattle.port_bank.specs.Machine.{Part}
 use Rattle.convey.specs.Buffers.{in_of}
 use Rattle.hop_core.specs.State.{State}
 use Rattle.round_program.specs.Rules.{Rules}
 use Rattle.round_program.specs.Laws.{fits}
-use Rattle.rank_node.specs.Runs.{IsPushed}
+use Rattle.route_tensor.specs.Grid.{ranks}
+use Rattle.port_bank.specs.Logs.{Logs}
+use Rattle.exstack.specs.Links.{headroom_of}
+use Rattle.exstack.specs.State.{State as Stack}
+use Rattle.exstack.specs.State.{dims_of, out_at}
+use Rattle.exstack.specs.Agreement.{AgreesIn}
+use Rattle.exstack.specs.Parts as exstacks
+use Rattle.rank_node.specs.declared.sends.Sends.{Sends}
+use Rattle.rank_node.specs.Sending.{is_voting}
+use Rattle.rank_node.specs.Runs.{IsPushed, HasTaken}
 
 -- After pushes: more of the items are pushed, in the current epoch, and nothing else has changed.
 pub record PushedOn (items : List (ℕ × Item)) (p next next' : ℕ) (part part' : Part) : Type 0 where
@@ -33,3 +42,22 @@ SameEnds old new = (l : ℕ) → (in_of new l).ended ≡ (in_of old l).ended
 -- No inbox holds more than it did.
 abbrev pub NoMore : State → State → Type 0
 NoMore old new = (l : ℕ) → length (in_of new l).parcel.untaken ≤ length (in_of old l).parcel.untaken
+
+-- What pushes leave of an exstack: of the items from number `from` on those below `next` are pushed. Where one is left, the
+-- buffer toward its receiver is full.
+pub record Fills (cap : ℕ) (es : List (ℕ × Item)) (old x : Stack) (from next : ℕ) : Type 0 where
+  pub forward : from ≤ next
+  pub low : next ≤ length es
+  pub same : x ≡ record old { outs = x.outs; popped = x.popped }
+  pub kept : exstacks.KeepsAgreement old x
+  pub pushed : (n : ℕ) (sent got : Logs) → AgreesIn n old sent got → PushedOn es (ranks (dims_of old)) from next (exstacks.part_of old sent got) (exstacks.part_of x sent got)
+  pub refused : (to : ℕ) (y : Item) → slice_get es next ≡ Some (to, y) → headroom_of cap (out_at x to) ≡ 0
+
+-- What pops leave of an exstack, whose items are summed or absorbed.
+pub record Pops {S : Type 0} (R : Rules S) (voting : Bool) (old x : Stack) (prog prog' : S) (sum sum' : ℕ) (spoiled spoiled' : Bool) : Type 0 where
+  pub same : x ≡ record old { ins = x.ins; popped = x.popped }
+  pub emissions : R.emissions prog' ≡ R.emissions prog
+  pub kept : exstacks.KeepsAgreement old x
+  pub taken : (h : ℕ → S) (rank round next : ℕ) (sends : Sends) (n : ℕ) (sent got : Logs) → is_voting sends ≡ voting → AgreesIn n old sent got
+      → HasTaken R (ranks (dims_of old)) rank h round sends next prog sum spoiled (exstacks.part_of old sent got)
+      → HasTaken R (ranks (dims_of old)) rank h round sends next prog' sum' spoiled' (exstacks.part_of x sent got)

@@ -6,6 +6,7 @@ use Rattle.port_bank.specs.Machine.{Part}
 use Rattle.round_program.specs.Rules.{Rules}
 use Rattle.round_program.specs.Canonical.{items_of, emitted}
 use Rattle.round_program.specs.Epochs.{PairLists, heard, worked, Own}
+use Rattle.rank_node.specs.declared.run.Run.{Run}
 use Rattle.rank_node.specs.declared.sends.Sends.{Sends}
 use Rattle.rank_node.specs.declared.sends.Sends.TheVariants.{Emissions, Nothing, Votes}
 use Rattle.rank_node.specs.Sending.{to_send, is_voting, epoch_of, spoiled_vote}
@@ -28,6 +29,10 @@ pub record Running (S : Type 0) : Type 0 where
   pub next : ℕ
   pub sum : ℕ
   pub spoiled : Bool
+
+-- the same, as the code keeps it
+abbrev pub running : {S : Type 0} → Run S → Running S
+running r = record { prog = r.prog.value; round = r.round; sends = r.sends; next = r.next; sum = r.taken.sum; spoiled = r.taken.spoiled }
 
 -- The epochs that are over for a rank of p ranks; h m is the state of its program as round m began, or the state that it
 -- would have had with memory.

@@ -1,14 +1,7 @@
 //! What a node does between two epochs.
-ghost use Rattle.std.specs.Prelude.{◌≡◌, ◌≢◌, ℕ, ◌+◌, ◌<◌, ◌^◌, cond, true, false, map, None};
-ghost use Rattle.hop_core.specs.State.{reopened, resumed};
-ghost use Rattle.port_bank.specs.Machine.Step.{Reset};
-ghost use Rattle.convey.specs.Buffers.{buffers_of};
-ghost use Rattle.convey.specs.Law.{IsSound};
-ghost use Rattle.convey.specs.Conveyors.{KeepsAgreement, IsStepOf};
+ghost use Rattle.std.specs.Prelude.{◌≡◌, cond, true, false};
 ghost use Rattle.rank_node.specs.Sending.{spoiled_vote};
 
-use crate::sends::Sends;
-use convey::{Conveyor, Phase};
 use round_program::Program;
 
 /// What follows a round.
@@ -45,25 +38,4 @@ pub(crate) fn vote_of<Q: Program>(prog: &Box<Q>, spoiled: bool) -> u64
     ensures { result ≡ cond spoiled spoiled_vote (Q.rules.vote prog.now.value) }
 {
     if spoiled { u64::MAX } else { prog.vote() }
-}
-
-/// Goes from an epoch that is over to the next.
-pub(crate) fn begin_epoch<const CAP: usize, const HOPS: usize>(conveyor: &mut Conveyor<CAP, HOPS>)
-    requires complete { conveyor.old.phase ≡ Phase.Complete }
-    requires epochs { conveyor.old.epoch < 2 ^ 63 }
-    ensures state { conveyor.new ≡ record conveyor.old {
-      outs = map reopened conveyor.old.outs;
-      ins = map resumed conveyor.old.ins;
-      done = false;
-      phase = Phase.Working;
-      epoch = conveyor.old.epoch + 1;
-      pulled = None;
-    } }
-    ensures kept { KeepsAgreement conveyor.old conveyor.new }
-    ensures step { IsStepOf Reset conveyor.old conveyor.new }
-    ensures sound { IsSound (buffers_of conveyor.new) }
-{
-    conveyor.reset();
-    conveyor.begin();
-    let _sound = conveyor.phase();
 }

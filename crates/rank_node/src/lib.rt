@@ -1,7 +1,9 @@
-//! One rank of a run: a program that exchanges its items over a conveyor.
+//! One rank of a run: a program that exchanges its items over a conveyor or an exstack.
 //!
-//! A *node* is a program and its rank's conveyor. A *turn* pushes what the program emits until an open parcel is full, advances
-//! the conveyor once, and absorbs all that came. A turn never waits, so nodes may be turned in whatever order, over any port.
+//! A *node* is a program and its rank's *mover*, which is a conveyor or an exstack. A *turn* over a conveyor pushes what the
+//! program emits until an open parcel is full, advances once, and absorbs all that came. A turn over an exstack makes one poll:
+//! before a proceed poll it absorbs what came, before an exchange poll it pushes until a buffer is full. A turn never waits, so
+//! nodes may be turned in whatever order, over any port.
 //!
 //! Epoch 2n is the work of round n. Epoch 2n + 1 carries its votes: each rank sends its vote to all ranks, and the sum says whether
 //! a further round follows.
@@ -17,10 +19,14 @@
 //! state is the one that its pulls make of the start, in whatever order they came.
 #![tactic(auto)]
 
+mod conveying;
 mod ending;
+mod mover;
 mod node;
+mod run;
 mod sending;
 mod sends;
+mod stacking;
 mod steps;
 mod taking;
 mod turn;

@@ -1,29 +1,25 @@
 //! One rank of a run.
-ghost use Rattle.std.specs.Prelude.{◌≡◌, ◌≢◌, ◌⊎◌, ℕ, ◌+◌, ◌-◌, ◌^◌, ◌<◌, ◌≤◌, ◌++◌, List, [], length, slice_get, Some, IfOk, true, false, IsOk, IsErr, OnOk, Result, Ok, cond};
-ghost use Rattle.std.specs.List.{flat_map};
-ghost use Rattle.bale_types.specs.declared.item.Item.{Item};
-ghost use Rattle.item_buffer.specs.Contents.{Shipped};
+ghost use Rattle.std.specs.Prelude.{◌≡◌, ◌⊎◌, ℕ, ◌+◌, ◌-◌, ◌^◌, ◌<◌, ◌≤◌, List, [], length, IfOk, true, false, IsOk, IsErr, OnOk, Result, Ok};
 ghost use Rattle.route_tensor.specs.Grid.{ranks};
 ghost use Rattle.route_tensor.specs.Link.{links};
 ghost use Rattle.route_tensor.specs.Ends.{sender_at, reader_at};
 ghost use Rattle.port_bank.specs.Logs.{Logs};
-ghost use Rattle.port_bank.specs.Flow.{Begins};
-ghost use Rattle.port_bank.specs.Shapes.{IsConveyorShape};
-ghost use Rattle.convey.specs.Buffers.{in_of};
-ghost use Rattle.rank_node.specs.Sending.{to_send, is_voting};
+ghost use Rattle.list_laws.specs.Lists.{Begins};
+ghost use Rattle.rank_node.specs.Sending.{is_voting};
+ghost use Rattle.rank_node.specs.Movers.{IsShape, dims_of, rank_of, epoch_in, manner_in, manner_of, has_completed, NoneUnread, SameUnread};
+ghost use Rattle.rank_node.specs.Moves.{Leaves, Waits};
 ghost use Rattle.rank_node.specs.Nodes.{IsNode};
-ghost use Rattle.rank_node.specs.Stuck.{IsStuck, WasRefused};
 ghost use Rattle.rank_node.specs.Next.{extended, HasStopped};
 
-use crate::ending::{Follows, begin_epoch, end_prog, vote_of};
-use crate::sending::push_all;
-use crate::sends::{Sends, count_of, votes_now};
+use crate::ending::{Follows, end_prog, vote_of};
+use crate::mover::Mover;
+use crate::run::Run;
+use crate::sends::{Sends, votes_now};
 use crate::steps::Steps;
-use crate::taking::{Taken, take_all};
+use crate::taking::Taken;
 use crate::turn::Turn;
 use crate::via::Via;
 use bale_types::NoMemory;
-use convey::{Conveyor, Phase, Progress};
 use port_bank::Port;
 use round_program::Program;
 use route_tensor::Grid;
@@ -31,38 +27,31 @@ use std::alloc::Global;
 use std::marker::Model;
 use std::sync::ledger::Ledger;
 
-/// A program and its rank's conveyor, for parcels of `CAP` entries and routes of `HOPS` hops.
+/// A program and its rank's mover, for parcels of `CAP` entries and routes of `HOPS` hops.
 #[derive(Drop)]
 pub struct Node<Q, const CAP: usize, const HOPS: usize> {
-    prog: Box<Q>,
-    conveyor: Conveyor<CAP, HOPS>,
+    run: Run<Q>,
+    mover: Mover<CAP, HOPS>,
     /// The number of ranks.
     rank_count: u32,
-    /// The number of the round.
-    round: u64,
-    sends: Sends,
-    /// How many of the items to send are pushed.
-    next: u64,
-    taken: Taken,
 }
 
 impl<Q, const CAP: usize, const HOPS: usize> Model for Node<Q, CAP, HOPS> {
     ghost use Rattle.std.specs.Prelude.{◌≡◌};
     ghost use Rattle.route_tensor.specs.Grid.{ranks};
+    ghost use Rattle.rank_node.specs.Runs.{running};
+    ghost use Rattle.rank_node.specs.Movers.{seen, dims_of};
     ghost use Rattle.rank_node.specs.Nodes.{NodeState};
 
     ghost Value = { NodeState Q };
 
-    ghost view = { λ n. record {
-      run = record { prog = n.prog.value; round = n.round; sends = n.sends; next = n.next; sum = n.taken.sum; spoiled = n.taken.spoiled };
-      conveyor = n.conveyor;
-    } };
+    ghost view = { λ n. record { run = running n.run; mover = seen n.mover } };
 
-    ghost invariant = { λ n. n.rank_count ≡ ranks n.conveyor.dims };
+    ghost invariant = { λ n. n.rank_count ≡ ranks (dims_of (seen n.mover)) };
 }
 
 impl<Q: Program, const CAP: usize, const HOPS: usize> Node<Q, CAP, HOPS> {
-    /// A node that hasn't turned, for a program of a rank of the grid in its first round.
+    /// A node that hasn't turned, for a program of a rank of the grid in its first round. On exstacks `steady` changes nothing.
     pub fn new(
         alloc: Global,
         grid: &Grid,
@@ -73,30 +62,24 @@ impl<Q: Program, const CAP: usize, const HOPS: usize> Node<Q, CAP, HOPS> {
         requires some { 0 < CAP }
         requires small { CAP ≤ 1024 }
         requires hops { length grid.now ≡ HOPS }
+        requires one_hop { via ≡ Via.Exstack → length grid.now ≡ 1 }
         requires rank { Q.rules.rank prog < ranks grid.now }
         requires all_ranks { Q.rules.ranks prog ≡ ranks grid.now }
         requires first { Q.rules.round prog ≡ 0 }
         ensures node { IfOk result (λ n. IsNode Q.rules (λ m. prog) n (λ l. []) (λ l. [])) }
         ensures prog { IfOk result (λ n. n.run.prog ≡ prog) }
         ensures next { IfOk result (λ n. n.run.next ≡ 0) }
-        ensures dims { IfOk result (λ n. n.conveyor.dims ≡ grid.now) }
-        ensures rank { IfOk result (λ n. n.conveyor.rank ≡ Q.rules.rank prog) }
-        ensures steady { IfOk result (λ n. n.conveyor.steady ≡ steady) }
-        ensures epoch { IfOk result (λ n. n.conveyor.epoch ≡ 0) }
-        ensures unread { IfOk result (λ n. (l : ℕ) → (in_of n.conveyor l).parcel.untaken ≡ []) }
+        ensures dims { IfOk result (λ n. dims_of n.mover ≡ grid.now) }
+        ensures rank { IfOk result (λ n. rank_of n.mover ≡ Q.rules.rank prog) }
+        ensures manner { IfOk result (λ n. manner_in n.mover ≡ manner_of via steady) }
+        ensures epoch { IfOk result (λ n. epoch_in n.mover ≡ 0) }
+        ensures unread { IfOk result (λ n. NoneUnread n.mover) }
     {
         let rank = prog.rank();
-        let Via::Convey = via;
-        let mut conveyor = Conveyor::new(alloc, grid, rank, steady)?;
-        conveyor.begin();
-        // The contract of `phase` tells what holds of the conveyor.
-        let _sound = conveyor.phase();
+        let mover = Mover::new(alloc, grid, via, rank, steady)?;
         let rank_count = grid.ranks();
-        let prog = Box::new(alloc, prog)?;
-        Ok(Node {
-            prog,
-            conveyor,
-            rank_count,
+        let run = Run {
+            prog: Box::new(alloc, prog)?,
             round: 0,
             sends: Sends::Emissions,
             next: 0,
@@ -104,12 +87,21 @@ impl<Q: Program, const CAP: usize, const HOPS: usize> Node<Q, CAP, HOPS> {
                 sum: 0,
                 spoiled: false,
             },
+        };
+        Ok(Node {
+            run,
+            mover,
+            rank_count,
         })
     }
 
-    /// One turn, by which `steps` rises by one: pushes what is left to send, in order, until a push is refused or all is
-    /// pushed; advances once; and takes in what came, until nothing is left. In an epoch of work the node sends what its
-    /// program emits and absorbs what fits; in an epoch of votes it sends its vote to each rank and sums those that come.
+    /// One turn, by which `steps` rises by one.
+    ///
+    /// A turn over a conveyor pushes what is left to send, in order, until a push is refused or all is pushed; advances once;
+    /// and takes in what came, until nothing is left. A turn over an exstack makes one poll, which the stage at entry decides:
+    /// a proceed poll comes after all that came is taken in, and says that the rank is done where all is pushed; an exchange
+    /// poll that begins its round comes after the pushes. In an epoch of work the node sends what its program emits and absorbs
+    /// what fits; in an epoch of votes it sends its vote to each rank and sums those that come.
     ///
     /// # Errors
     /// `NoMemory` comes only from the port's post. An absorb that found none spoils the node, which goes on turning and
@@ -119,15 +111,15 @@ impl<Q: Program, const CAP: usize, const HOPS: usize> Node<Q, CAP, HOPS> {
         port: &mut P,
         steps: &mut Steps<L>,
     ) -> Result<Turn, NoMemory>
-        requires same_dims { P.dims port.old ≡ self.old.conveyor.dims }
-        requires same_rank { P.rank port.old ≡ self.old.conveyor.rank }
+        requires same_dims { P.dims port.old ≡ dims_of self.old.mover }
+        requires same_rank { P.rank port.old ≡ rank_of self.old.mover }
         requires node { (h : ℕ → Q) × IsNode Q.rules h self.old (P.sent port.old) (P.got port.old) }
         ensures kept { (h : ℕ → Q) → IsNode Q.rules h self.old (P.sent port.old) (P.got port.old) → IsNode Q.rules h self.new (P.sent port.new) (P.got port.new) }
         ensures steps { steps.new ≡ steps.old + 1 }
-        ensures self_dims { self.new.conveyor.dims ≡ self.old.conveyor.dims }
-        ensures self_rank { self.new.conveyor.rank ≡ self.old.conveyor.rank }
-        ensures steady { self.new.conveyor.steady ≡ self.old.conveyor.steady }
-        ensures epoch { self.new.conveyor.epoch ≡ self.old.conveyor.epoch }
+        ensures self_dims { dims_of self.new.mover ≡ dims_of self.old.mover }
+        ensures self_rank { rank_of self.new.mover ≡ rank_of self.old.mover }
+        ensures manner { manner_in self.new.mover ≡ manner_in self.old.mover }
+        ensures epoch { epoch_in self.new.mover ≡ epoch_in self.old.mover }
         ensures round { self.new.run.round ≡ self.old.run.round }
         ensures sends { self.new.run.sends ≡ self.old.run.sends }
         ensures same_dims { P.dims port.new ≡ P.dims port.old }
@@ -136,36 +128,26 @@ impl<Q: Program, const CAP: usize, const HOPS: usize> Node<Q, CAP, HOPS> {
         ensures rest { P.rest port.new ≡ P.rest port.old }
         ensures memory { P.Memory.GROWS ≡ false → IsOk result }
 
-        // It advances once: the lists only grow, each by one parcel at most, and of the conveyor's shape; and an inbox holds at
-        // most what it held and what came.
+        // It advances or polls once: the lists only grow, each by one parcel at most, and of the transport's shape.
         ensures sent_grows { (l : ℕ) → Begins (P.sent port.old l) (P.sent port.new l) }
         ensures got_grows { (l : ℕ) → Begins (P.got port.old l) (P.got port.new l) }
-        ensures one_sent { (l : ℕ) → l < links self.old.conveyor.dims → sender_at self.old.conveyor.dims l ≡ self.old.conveyor.rank → length (P.sent port.new l) ≤ length (P.sent port.old l) + 1 }
-        ensures one_got { (l : ℕ) → l < links self.old.conveyor.dims → reader_at self.old.conveyor.dims l ≡ self.old.conveyor.rank → length (P.got port.new l) ≤ length (P.got port.old l) + 1 }
-        ensures shape { (l : ℕ) → IsConveyorShape self.old.conveyor.steady CAP (P.sent port.old l) → IsConveyorShape self.old.conveyor.steady CAP (P.sent port.new l) }
-        ensures lies { (l : ℕ) (more : List Shipped) → l < links self.old.conveyor.dims → reader_at self.old.conveyor.dims l ≡ self.old.conveyor.rank → P.got port.new l ≡ P.got port.old l ++ more
-            → length (in_of self.new.conveyor l).parcel.untaken ≤ length (in_of self.old.conveyor l).parcel.untaken + length (flat_map (λ p. p.entries) more) }
+        ensures one_sent { (l : ℕ) → l < links (dims_of self.old.mover) → sender_at (dims_of self.old.mover) l ≡ rank_of self.old.mover → length (P.sent port.new l) ≤ length (P.sent port.old l) + 1 }
+        ensures one_got { (l : ℕ) → l < links (dims_of self.old.mover) → reader_at (dims_of self.old.mover) l ≡ rank_of self.old.mover → length (P.got port.new l) ≤ length (P.got port.old l) + 1 }
+        ensures shape { (l : ℕ) → l < links (dims_of self.old.mover) → sender_at (dims_of self.old.mover) l ≡ rank_of self.old.mover
+            → IsShape (manner_in self.old.mover) CAP (P.sent port.old l) → IsShape (manner_in self.old.mover) CAP (P.sent port.new l) }
 
-        // Ended exactly where the conveyor is complete. An item is left to push exactly where a push was refused.
-        ensures ended { result ≡ Ok Turn.Ended → self.new.conveyor.phase ≡ Phase.Complete }
-        ensures going { result ≡ Ok Turn.Going → self.new.conveyor.phase ≢ Phase.Complete }
-        ensures refused { (h : ℕ → Q) → IsNode Q.rules h self.old (P.sent port.old) (P.got port.old) → (to : ℕ) (x : Item)
-            → slice_get (to_send Q.rules self.new.run.prog self.new.run.sends) self.new.run.next ≡ Some (to, x) → WasRefused self.old.conveyor to CAP }
+        // Ended exactly where the rank has completed its epoch.
+        ensures ended { result ≡ Ok Turn.Ended → has_completed self.new.mover ≡ true }
+        ensures going { result ≡ Ok Turn.Going → has_completed self.new.mover ≡ false }
 
-        // Where no parcel was moved, something outside keeps the rank.
-        ensures stuck { OnOk result ((h : ℕ → Q) → IsNode Q.rules h self.old (P.sent port.old) (P.got port.old)
-            → ((l : ℕ) → P.sent port.new l ≡ P.sent port.old l) → ((l : ℕ) → P.got port.new l ≡ P.got port.old l)
-            → IsStuck self.old.conveyor self.new.conveyor (P.sent port.old) (P.got port.old) (P.sent port.new) (P.got port.new) (P.crowded port.new) (P.idle port.new)) }
+        // What it leaves in the inboxes, and unpushed; and what outside keeps a rank that moved no parcel, or that waits
+        // within a round.
+        ensures leaves { Leaves Q.rules CAP self.old.run self.new.run self.old.mover self.new.mover (P.sent port.old) (P.got port.old) (P.got port.new) }
+        ensures waits { OnOk result (Waits Q.rules self.old.run self.old.mover self.new.mover
+            (P.sent port.old) (P.got port.old) (P.sent port.new) (P.got port.new) (P.crowded port.new) (P.idle port.new)) }
     {
         steps.tick();
-        self.next = push_all(&self.prog, self.sends, &mut self.conveyor, self.next);
-        let done = self.next == count_of(&self.prog, self.sends);
-        let progress = self.conveyor.advance(port, done);
-        let voting = votes_now(self.sends);
-        self.taken = take_all(&mut self.prog, &mut self.conveyor, voting, self.taken);
-        // The contract of `phase` tells what holds of the conveyor.
-        let _sound = self.conveyor.phase();
-        Ok(turn_of(progress?))
+        self.mover.turn(&mut self.run, port)
     }
 
     /// Goes on to the next epoch, once one has ended: from a round's work to its votes, and from these to the next round's
@@ -177,14 +159,14 @@ impl<Q: Program, const CAP: usize, const HOPS: usize> Node<Q, CAP, HOPS> {
     /// `NoMemory` comes only where no epoch follows: where the sum of the votes is 2^64 - 1, as each rank then finds, or
     /// where the program found no memory to end its last round.
     pub fn next(&mut self) -> Result<bool, NoMemory>
-        requires over { self.old.conveyor.phase ≡ Phase.Complete }
-        requires epochs { self.old.conveyor.epoch < 2 ^ 63 }
+        requires over { has_completed self.old.mover ≡ true }
+        requires epochs { epoch_in self.old.mover < 2 ^ 63 }
         requires node { (h : ℕ → Q) × (sent : Logs) × (got : Logs) × IsNode Q.rules h self.old sent got }
-        ensures self_dims { self.new.conveyor.dims ≡ self.old.conveyor.dims }
-        ensures self_rank { self.new.conveyor.rank ≡ self.old.conveyor.rank }
-        ensures steady { self.new.conveyor.steady ≡ self.old.conveyor.steady }
-        ensures epoch { result ≡ Ok true → self.new.conveyor.epoch ≡ self.old.conveyor.epoch + 1 }
-        ensures unread { (l : ℕ) → (in_of self.new.conveyor l).parcel.untaken ≡ (in_of self.old.conveyor l).parcel.untaken }
+        ensures self_dims { dims_of self.new.mover ≡ dims_of self.old.mover }
+        ensures self_rank { rank_of self.new.mover ≡ rank_of self.old.mover }
+        ensures manner { manner_in self.new.mover ≡ manner_in self.old.mover }
+        ensures epoch { result ≡ Ok true → epoch_in self.new.mover ≡ epoch_in self.old.mover + 1 }
+        ensures unread { SameUnread self.old.mover self.new.mover }
 
         // After a round's work come its votes.
         ensures votes { is_voting self.old.run.sends ≡ false → (result ≡ Ok true) × ((h : ℕ → Q) (sent got : Logs) → IsNode Q.rules h self.old sent got → IsNode Q.rules h self.new sent got) }
@@ -192,7 +174,7 @@ impl<Q: Program, const CAP: usize, const HOPS: usize> Node<Q, CAP, HOPS> {
         // After the votes comes the next round, exactly where the program goes on; its state is the one with memory.
         ensures work { is_voting self.old.run.sends ≡ true → result ≡ Ok true → (h : ℕ → Q) (sent got : Logs) → IsNode Q.rules h self.old sent got
             → IsNode Q.rules (extended h (self.old.run.round + 1) (Q.rules.ended self.old.run.prog self.old.run.sum)) self.new sent got }
-        ensures stays { result ≡ Ok false → self.new.conveyor ≡ self.old.conveyor }
+        ensures stays { result ≡ Ok false → self.new.mover ≡ self.old.mover }
         ensures stopped { result ≡ Ok false → (h : ℕ → Q) (sent got : Logs) → IsNode Q.rules h self.old sent got → HasStopped Q.rules h self.new sent got }
 
         // No memory: never on the way to an epoch that follows, and always where the sum says that some rank had none.
@@ -200,32 +182,32 @@ impl<Q: Program, const CAP: usize, const HOPS: usize> Node<Q, CAP, HOPS> {
             ⊎ (Q.rules.goes_on (Q.rules.shape self.old.run.prog) (Q.rules.round self.old.run.prog) self.old.run.sum ≡ false)) }
         ensures saturated { is_voting self.old.run.sends ≡ true → self.old.run.sum ≡ 2 ^ 64 - 1 → IsErr result }
     {
-        if !votes_now(self.sends) {
-            let vote = vote_of(&self.prog, self.taken.spoiled);
-            begin_epoch(&mut self.conveyor);
-            self.sends = Sends::Votes(vote, self.rank_count);
-            self.next = 0;
-            self.taken.sum = 0;
+        if !votes_now(self.run.sends) {
+            let vote = vote_of(&self.run.prog, self.run.taken.spoiled);
+            self.mover.reset();
+            self.run.sends = Sends::Votes(vote, self.rank_count);
+            self.run.next = 0;
+            self.run.taken.sum = 0;
             return Ok(true);
         }
-        if self.taken.is_lost() {
+        if self.run.taken.is_lost() {
             return Err(NoMemory);
         }
-        match end_prog(&mut self.prog, self.taken.sum) {
+        match end_prog(&mut self.run.prog, self.run.taken.sum) {
             Follows::Round => {
-                begin_epoch(&mut self.conveyor);
-                self.round += 1;
-                self.sends = Sends::Emissions;
-                self.next = 0;
-                self.taken.sum = 0;
+                self.mover.reset();
+                self.run.round += 1;
+                self.run.sends = Sends::Emissions;
+                self.run.next = 0;
+                self.run.taken.sum = 0;
                 return Ok(true);
             }
             Follows::SpoiledRound => {
-                begin_epoch(&mut self.conveyor);
-                self.round += 1;
-                self.sends = Sends::Nothing;
-                self.next = 0;
-                self.taken = Taken {
+                self.mover.reset();
+                self.run.round += 1;
+                self.run.sends = Sends::Nothing;
+                self.run.next = 0;
+                self.run.taken = Taken {
                     sum: 0,
                     spoiled: true,
                 };
@@ -240,7 +222,7 @@ impl<Q: Program, const CAP: usize, const HOPS: usize> Node<Q, CAP, HOPS> {
     pub fn pushed(&self) -> u64
         ensures { result ≡ self.now.run.next }
     {
-        self.next
+        self.run.next
     }
 
     /// The program.
@@ -248,25 +230,17 @@ impl<Q: Program, const CAP: usize, const HOPS: usize> Node<Q, CAP, HOPS> {
         ensures { result ≡ self.run.prog }
     {
         let Node {
-            prog,
-            conveyor: _,
+            run,
+            mover: _,
             rank_count: _,
+        } = self;
+        let Run {
+            prog,
             round: _,
             sends: _,
             next: _,
             taken: _,
-        } = self;
+        } = run;
         Box::into_inner(prog)
-    }
-}
-
-/// What a turn tells, by how far its advance came.
-fn turn_of(progress: Progress) -> Turn
-    ensures ended { result ≡ Turn.Ended → progress ≡ Progress.Complete }
-    ensures going { result ≡ Turn.Going → progress ≢ Progress.Complete }
-{
-    match progress {
-        Progress::More | Progress::Near => Turn::Going,
-        Progress::Complete => Turn::Ended,
     }
 }

@@ -10,7 +10,7 @@ ghost use Rattle.convey.specs.Parts.{part_of};
 ghost use Rattle.rank_node.specs.Sending.{is_voting};
 ghost use Rattle.round_program.specs.Laws.{fits};
 ghost use Rattle.rank_node.specs.Runs.{HasTaken};
-ghost use Rattle.rank_node.specs.Nodes.{AllRead};
+ghost use Rattle.rank_node.specs.Movers.{AllRead};
 ghost use Rattle.rank_node.specs.Pulls.{SameEnds, NoMore, TakesOne};
 ghost use Rattle.rank_node.specs.declared.sends.Sends.{Sends};
 
@@ -92,7 +92,7 @@ fn take_batch<Q: Program, const CAP: usize, const HOPS: usize>(
 }
 
 /// Sums or absorbs one item.
-fn take_one<Q: Program>(
+pub(crate) fn take_one<Q: Program>(
     prog: &mut Box<Q>,
     voting: bool,
     from: u32,

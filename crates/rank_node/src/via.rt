@@ -5,4 +5,6 @@
 pub enum Via {
     /// By conveyors, over routes of as many hops as the grid has numbers.
     Convey,
+    /// By exstacks, in collective rounds over one hop.
+    Exstack,
 }

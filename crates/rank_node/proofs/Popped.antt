@@ -1,0 +1,136 @@
+-- Items are popped from an exstack, and summed or absorbed.
+use Rattle.std.proofs.Common.{◌≡◌, ℕ, zero, suc, ◌+◌, ◌<◌, ◌≤◌, Bool, true, false, List, [], ◌∷◌, length, slice_get, Option, Some, None, refl, sym, ap, subst, ◌∙◌, arith, get_or, set, sum_by, drop, add-one}
+use Rattle.std.proofs.lemmas.List.Sums.{sum_by-set, sum_by-cons}
+use Rattle.std.proofs.lemmas.List.Quantifiers.{position-Some}
+use Rattle.std.specs.List.{position}
+use Rattle.std.specs.Option.{option_map}
+use Rattle.bale_types.specs.declared.item.Entry.{Entry}
+use Rattle.bale_types.specs.declared.item.Item.{Item}
+use Rattle.route_tensor.specs.Grid.{ranks}
+use Rattle.port_bank.specs.Logs.{Logs}
+use Rattle.port_bank.specs.Machine.Step.{Pull, Idle}
+use Rattle.exstack.specs.Links.{In, no_in, has_unread, with_first_read}
+use Rattle.exstack.specs.State.{State, dims_of, in_at, unread_of, lowest_unread, pop_from, popped_from, pops}
+use Rattle.exstack.specs.Agreement.{AgreesIn}
+use Rattle.exstack.specs.Parts.{part_of, IsStepOf, KeepsAgreement, GivesNext}
+use Rattle.exstack.proofs.Calls.{none_unread, some_unread}
+use Rattle.exstack.proofs.Places.{none_passes}
+use Rattle.exstack.proofs.OneHop.{ranks_one}
+use Rattle.round_program.specs.Rules.{Rules}
+use Rattle.round_program.specs.Laws.{Laws}
+use Rattle.rank_node.specs.declared.sends.Sends.{Sends}
+use Rattle.rank_node.specs.Sending.{is_voting}
+use Rattle.rank_node.specs.Runs.{HasTaken}
+use Rattle.rank_node.specs.Pulls.{TakesOne, Pops}
+use Rattle.rank_node.proofs.Took.{take_on, taken_same}
+
+-- nothing is unread where no sender has anything
+none_of : (ins : List In) → ((k : ℕ) → k < length ins → (get_or ins k no_in).unread ≡ []) → sum_by (λ (i : In). length i.unread) ins ≡ 0
+none_of [] each = refl
+none_of (i ∷ is) each = sum_by-cons (λ (i : In). length i.unread) i is ∙ omega (arith, ap length (each 0 (omega arith)), none_of is (λ k low. each (suc k) (omega (arith, low))))
+
+pub all_read : (st : State) → lowest_unread st ≡ None → unread_of st ≡ 0
+all_read st none = none_of st.ins (λ k low. none_unread (get_or st.ins k no_in) (none_passes has_unread st.ins no_in none k low))
+
+-- a pop that gives an item leaves one fewer
+some_first : {X : Type 0} (xs : List Entry) (f : Entry → X) (p : X) → option_map f (slice_get xs 0) ≡ Some p → 0 < length xs
+some_first [] f p is = absurd (cc)
+some_first (x ∷ xs) f p is = omega arith
+
+drop_first : {X : Type 0} (xs : List X) → 0 < length xs → length (drop 1 xs) + 1 ≡ length xs
+drop_first [] h = absurd (omega (arith, h))
+drop_first (x ∷ xs) h = omega arith
+
+below : (ins : List In) (i : ℕ) → 0 < length (get_or ins i no_in).unread → i < length ins
+below [] i h = absurd (omega (arith, h))
+below (x ∷ xs) zero h = omega arith
+below (x ∷ xs) (suc i) h = omega (arith, below xs i h)
+
+fewer_from : (st : State) (o : Option ℕ) (p : ℕ × Item) → pop_from st o ≡ Some p → unread_of (popped_from st o) < unread_of st
+fewer_from st None p is = absurd (cc)
+fewer_from st (Some a) p is =
+    let xs = (in_at st a).unread in
+    let f : In → ℕ = λ x. length x.unread in
+    let y : In = with_first_read (in_at st a) in
+    let some : 0 < length xs = some_first xs (λ e. (a, e.item)) p is in
+    let e : sum_by f (set st.ins a y) + f (get_or st.ins a no_in) ≡ sum_by f st.ins + f y = sum_by-set f st.ins a y no_in (below st.ins a some) in
+    let less : length (drop 1 xs) + 1 ≡ length xs = drop_first xs some in
+    omega (arith, e, less)
+
+pub fewer_next : (st : State) (n from : ℕ) (x : Item) (most : ℕ) → n + unread_of (pops n st) ≤ most → GivesNext (pops n st) from x → n + 1 + unread_of (pops (n + 1) st) ≤ most
+fewer_next st n from x most is next =
+    let less : unread_of (pops (suc n) st) < unread_of (pops n st) = fewer_from (pops n st) (lowest_unread (pops n st)) (from, x) next.value in
+    subst (λ m. n + 1 + unread_of (pops m st) ≤ most) (sym (add-one n)) (omega (arith, less, is))
+
+-- a batch has something
+pub batch_some : (st : State) (a : ℕ) → lowest_unread st ≡ Some a → 0 < length (in_at st a).unread
+batch_some st a found = some (in_at st a).unread (some_unread (in_at st a) (position-Some has_unread st.ins a no_in found).1) where
+  some : {X : Type 0} (xs : List X) → (xs ≡ [] → ⊥) → 0 < length xs
+  some [] e = absurd (e refl)
+  some (x ∷ xs) e = omega arith
+
+-- what a pop leaves of the state
+popped_same : (st : State) (o : Option ℕ) → popped_from st o ≡ record st { ins = (popped_from st o).ins; popped = (popped_from st o).popped }
+popped_same st None = refl
+popped_same st (Some a) = refl
+
+pub pops_none : {S : Type 0} (R : Rules S) (voting : Bool) (x : State) (prog : S) (sum : ℕ) (spoiled : Bool) → Pops R voting x x prog prog sum sum spoiled spoiled
+pops_none R voting x prog sum spoiled = record { same = refl; emissions = refl; kept = λ n sent got a. a; taken = λ h rank round next sends n sent got v a t. t }
+
+-- one more pop
+pops_more : {S : Type 0} (R : Rules S) → Laws R → (voting : Bool) (old x : State) (prog mid prog' : S) (from : ℕ) (y : Item) (sum sum1 sum2 : ℕ) (spoiled now after : Bool) → Pops R voting old x prog mid sum sum1 spoiled now
+    → GivesNext x from y → from < x.ranks → TakesOne R voting mid prog' from y sum1 sum2 now after → Pops R voting old (popped_from x (lowest_unread x)) prog prog' sum sum2 spoiled after
+pops_more R laws voting old x prog mid prog' from y sum sum1 sum2 spoiled now after is next low takes =
+    let like = popped_same x (lowest_unread x) in
+    let same : x.ranks ≡ old.ranks = ap (λ (t : State). t.ranks) is.same in
+    record {
+      same = like ∙ ap (λ (t : State). record t { ins = (popped_from x (lowest_unread x)).ins; popped = (popped_from x (lowest_unread x)).popped }) is.same;
+      emissions = takes.emissions ∙ is.emissions;
+      kept = λ n sent got a. next.kept n sent got (is.kept n sent got a);
+      taken = λ h rank round after_next sends n sent got v a t.
+          take_on R laws (ranks (dims_of old)) rank h round sends after_next mid prog' from y sum1 sum2 now after voting (part_of x sent got) (part_of (popped_from x (lowest_unread x)) sent got)
+          (omega (arith, low, same, ranks_one old.ranks)) v takes (next.step n sent got (is.kept n sent got a)) (is.taken h rank round after_next sends n sent got v a t);
+    }
+
+-- a call that only forgets the right to put an item back
+pub pops_rest : {S : Type 0} (R : Rules S) (voting : Bool) (old x x' : State) (prog prog' : S) (sum sum' : ℕ) (spoiled spoiled' : Bool) → Pops R voting old x prog prog' sum sum' spoiled spoiled'
+    → x' ≡ record x { popped = None } → KeepsAgreement x x' → IsStepOf Idle x x' → Pops R voting old x' prog prog' sum sum' spoiled spoiled'
+pops_rest R voting old x x' prog prog' sum sum' spoiled spoiled' is new kept step =
+    record {
+      same = subst (λ (t : State). t ≡ record old { ins = t.ins; popped = t.popped }) (sym new) (ap (λ (t : State). record t { popped = None }) is.same);
+      emissions = is.emissions;
+      kept = λ n sent got a. kept n sent got (is.kept n sent got a);
+      taken = λ h rank round next sends n sent got v a t.
+          taken_same R (ranks (dims_of old)) rank h round sends next prog' sum' spoiled' (part_of x sent got) (part_of x' sent got)
+          (step n sent got (is.kept n sent got a)).is (is.taken h rank round next sends n sent got v a t);
+    }
+
+-- pops after pops
+pub pops_both : {S : Type 0} (R : Rules S) (voting : Bool) (old x x' : State) (prog mid prog' : S) (sum sum1 sum2 : ℕ) (spoiled now after : Bool) → Pops R voting old x prog mid sum sum1 spoiled now
+    → Pops R voting x x' mid prog' sum1 sum2 now after → Pops R voting old x' prog prog' sum sum2 spoiled after
+pops_both R voting old x x' prog mid prog' sum sum1 sum2 spoiled now after p q =
+    let dims : ranks (dims_of x) ≡ ranks (dims_of old) = ap (λ (t : State). ranks (dims_of t)) p.same in
+    record {
+      same = q.same ∙ ap (λ (t : State). record t { ins = x'.ins; popped = x'.popped }) p.same;
+      emissions = q.emissions ∙ p.emissions;
+      kept = λ n sent got a. q.kept n sent got (p.kept n sent got a);
+      taken = λ h rank round next sends n sent got v a t.
+          subst (λ k. HasTaken R k rank h round sends next prog' sum2 after (part_of x' sent got)) dims
+          (q.taken h rank round next sends n sent got v (p.kept n sent got a)
+          (subst (λ k. HasTaken R k rank h round sends next mid sum1 now (part_of x sent got)) (sym dims) (p.taken h rank round next sends n sent got v a t)));
+    }
+
+-- after so many pops of one batch as after n, and one more
+pub pops_next : {S : Type 0} (R : Rules S) → Laws R → (voting : Bool) (st : State) (n : ℕ) (prog mid prog' : S) (from : ℕ) (y : Item) (sum sum1 sum2 : ℕ) (spoiled now after : Bool)
+    → Pops R voting st (pops n st) prog mid sum sum1 spoiled now → GivesNext (pops n st) from y → from < st.ranks → TakesOne R voting mid prog' from y sum1 sum2 now after
+    → Pops R voting st (pops (n + 1) st) prog prog' sum sum2 spoiled after
+pops_next R laws voting st n prog mid prog' from y sum sum1 sum2 spoiled now after is next low takes =
+    let same : (pops n st).ranks ≡ st.ranks = ap (λ (t : State). t.ranks) is.same in
+    subst (λ m. Pops R voting st (pops m st) prog prog' sum sum2 spoiled after) (sym (add-one n))
+    (pops_more R laws voting st (pops n st) prog mid prog' from y sum sum1 sum2 spoiled now after is next (omega (arith, low, same)) takes)
+
+-- after all of one batch
+pub pops_at : {S : Type 0} (R : Rules S) (voting : Bool) (st new : State) (n m : ℕ) (prog prog' : S) (sum sum' : ℕ) (spoiled spoiled' : Bool) → n ≡ m → new ≡ pops m st
+    → Pops R voting st (pops n st) prog prog' sum sum' spoiled spoiled' → Pops R voting st new prog prog' sum sum' spoiled spoiled'
+pops_at R voting st new n m prog prog' sum sum' spoiled spoiled' count is pops' =
+    subst (λ t. Pops R voting st t prog prog' sum sum' spoiled spoiled') (sym (is ∙ ap (λ j. pops j st) (sym count))) pops'

@@ -1,0 +1,351 @@
+use Rattle.std.proofs.Common.{rules, ◌≡◌, ℕ, ◌<◌, ◌==◌, List, length, All, Some, slice_get, refl, sym, ap, subst, ◌∙◌}
+use Rattle.bale_types.specs.declared.item.Item.{Item}
+use Rattle.route_tensor.specs.Grid.{ranks}
+use Rattle.hop_core.specs.State.{State}
+use Rattle.convey.specs.Progress.{progress_of}
+use Rattle.convey.specs.Buffers.{is_complete}
+use Rattle.rank_node.specs.Sending.{to_send}
+use Rattle.rank_node.specs.Runs.{Running, running}
+use Rattle.rank_node.proofs.Ballots.{send_below}
+use Rattle.rank_node.proofs.Moved.{AfterPush, AfterAdvance, AfterTakes, still_working, done_stays}
+use Rattle.rank_node.proofs.Halted.{Advanced, Grown, complete_from, ok_once, stuck, advanced_moves, advanced_leaves}
+use Rattle.rank_node.proofs.conveying.turn_conveyor.Goals as goal
+
+pub push_all-run-requires : goal.push_all-run-requires
+push_all-run-requires g c =
+    let R = g.Q.Program.rules in
+    let run : Running g.row.Q.Denot = running c.args.run.now in
+    let h = c.requires.node.0 in
+    let i = c.requires.node.1 in
+    let below : All (λ (e : ℕ × Item). e.0 < ranks c.args.conveyor.now.dims) (to_send R run.prog run.sends) =
+    send_below R g.met.Q.Program.laws (ranks c.args.conveyor.now.dims) (h run.round) run.prog run.sends i.passed.valid i.passed.all_ranks i.within.emissions (λ v q s. (i.within.vote v q s).0) in
+    (search rules, (i.within.next_low, (below, (i.moving.working, i.within.all_pushed))))
+
+pub advance-progress-requires : goal.advance-progress-requires
+advance-progress-requires g c =
+    let R = g.Q.Program.rules in
+    let sent = g.P.Port.sent c.args.port.now in
+    let got = g.P.Port.got c.args.port.now in
+    let run : Running g.row.Q.Denot = running c.args.run.now in
+    let h = c.requires.node.0 in
+    let i = c.requires.node.1 in
+    let c0 = c.args.conveyor.now in
+    let c1 = c.push_all-run.new.conveyor in
+    let next = c.push_all-run.result in
+    let push : AfterPush R run c0 c1 next sent got = record {
+      same = c.push_all-run.ensures.same;
+      agrees = c.push_all-run.ensures.kept sent got i.moving.agrees;
+      on = c.push_all-run.ensures.pushed sent got i.moving.agrees;
+      forward = c.push_all-run.ensures.forward;
+      low = c.push_all-run.ensures.next;
+    } in (
+      search rules,
+      (
+        λ d. i.moving.begun (sym (ap (λ (t : State). t.phase) push.same) ∙ d),
+        (
+          c.requires.same_dims ∙ sym (ap (λ (t : State). t.dims) push.same),
+          (
+            c.requires.same_rank ∙ sym (ap (λ (t : State). t.rank) push.same),
+            (push.agrees, λ d. ap (λ m. next == m) c.count_of.ensures ∙ done_stays R h run c0 c1 next sent got push i d),
+          ),
+        ),
+      ),
+    )
+
+pub returns-in_err-progress-clause-moves : goal.returns-in_err-progress-clause-moves
+returns-in_err-progress-clause-moves g c =
+    let R = g.Q.Program.rules in
+    let sent = g.P.Port.sent c.args.port.now in
+    let got = g.P.Port.got c.args.port.now in
+    let sent' = g.P.Port.sent c.advance-progress.new.port in
+    let got' = g.P.Port.got c.advance-progress.new.port in
+    let run : Running g.row.Q.Denot = running c.args.run.now in
+    let h = c.requires.node.0 in
+    let i = c.requires.node.1 in
+    let c0 = c.args.conveyor.now in
+    let c1 = c.push_all-run.new.conveyor in
+    let next = c.push_all-run.result in
+    let push : AfterPush R run c0 c1 next sent got = record {
+      same = c.push_all-run.ensures.same;
+      agrees = c.push_all-run.ensures.kept sent got i.moving.agrees;
+      on = c.push_all-run.ensures.pushed sent got i.moving.agrees;
+      forward = c.push_all-run.ensures.forward;
+      low = c.push_all-run.ensures.next;
+    } in
+    let c2 = c.advance-progress.new.self in
+    let c3 = c.take_all-run.new.conveyor in
+    let prog' = c.take_all-run.new.prog.value in
+    let sum' = c.take_all-run.result.sum in
+    let spoiled' = c.take_all-run.result.spoiled in
+    let voting = c.votes_now-voting.result in
+    let done = next == c.count_of.result in
+    let all : done ≡ (next == length (to_send R run.prog run.sends)) = ap (λ m. next == m) c.count_of.ensures in
+    let adv : AfterAdvance c1 c2 done (is_complete c2.phase) sent got sent' got' = record {
+      agrees = c.advance-progress.ensures.agrees;
+      dims = c.advance-progress.ensures.self_dims;
+      rank = c.advance-progress.ensures.self_rank;
+      done_is = c.advance-progress.ensures.done;
+      begun = c.advance-progress.ensures.begun;
+      working = λ d. c.in_err-progress.ensures.no_memory refl ∙ still_working R h run c0 c1 next sent got push i (sym all ∙ d);
+      step = c.advance-progress.ensures.step;
+    } in
+    let grown : Grown c1 c2 g.row.CAP sent sent' got got' = record {
+      steady = c.advance-progress.ensures.steady;
+      epoch = c.advance-progress.ensures.epoch;
+      sent_grows = c.advance-progress.ensures.sent_grows;
+      got_grows = c.advance-progress.ensures.got_grows;
+      one_sent = c.advance-progress.ensures.one_sent;
+      one_got = c.advance-progress.ensures.one_got;
+      shape = c.advance-progress.ensures.shape;
+      lies = c.advance-progress.ensures.lies;
+    } in
+    let takes : AfterTakes R voting c2 c3 run.prog prog' run.sum sum' run.spoiled spoiled' sent' got' = record {
+      same = c.take_all-run.ensures.same;
+      kept = c.take_all-run.ensures.kept;
+      read = c.take_all-run.ensures.read;
+      sound = c.known.ensures.sound;
+      taken = λ h rank round next sends v a. c.take_all-run.ensures.taken h rank round next sends sent' got' v a;
+    } in
+    advanced_moves R g.row.CAP run c0 c1 c2 c3 next prog' sum' spoiled' done (is_complete c2.phase) voting sent got sent' got' push all adv grown (sym c.votes_now-voting.ensures) takes
+
+pub returns-in_err-progress-clause-leaves : goal.returns-in_err-progress-clause-leaves
+returns-in_err-progress-clause-leaves g c =
+    let R = g.Q.Program.rules in
+    let sent = g.P.Port.sent c.args.port.now in
+    let got = g.P.Port.got c.args.port.now in
+    let sent' = g.P.Port.sent c.advance-progress.new.port in
+    let got' = g.P.Port.got c.advance-progress.new.port in
+    let run : Running g.row.Q.Denot = running c.args.run.now in
+    let h = c.requires.node.0 in
+    let i = c.requires.node.1 in
+    let c0 = c.args.conveyor.now in
+    let c1 = c.push_all-run.new.conveyor in
+    let next = c.push_all-run.result in
+    let push : AfterPush R run c0 c1 next sent got = record {
+      same = c.push_all-run.ensures.same;
+      agrees = c.push_all-run.ensures.kept sent got i.moving.agrees;
+      on = c.push_all-run.ensures.pushed sent got i.moving.agrees;
+      forward = c.push_all-run.ensures.forward;
+      low = c.push_all-run.ensures.next;
+    } in
+    let c2 = c.advance-progress.new.self in
+    let c3 = c.take_all-run.new.conveyor in
+    let prog' = c.take_all-run.new.prog.value in
+    let sum' = c.take_all-run.result.sum in
+    let spoiled' = c.take_all-run.result.spoiled in
+    let voting = c.votes_now-voting.result in
+    let done = next == c.count_of.result in
+    let all : done ≡ (next == length (to_send R run.prog run.sends)) = ap (λ m. next == m) c.count_of.ensures in
+    let adv : AfterAdvance c1 c2 done (is_complete c2.phase) sent got sent' got' = record {
+      agrees = c.advance-progress.ensures.agrees;
+      dims = c.advance-progress.ensures.self_dims;
+      rank = c.advance-progress.ensures.self_rank;
+      done_is = c.advance-progress.ensures.done;
+      begun = c.advance-progress.ensures.begun;
+      working = λ d. c.in_err-progress.ensures.no_memory refl ∙ still_working R h run c0 c1 next sent got push i (sym all ∙ d);
+      step = c.advance-progress.ensures.step;
+    } in
+    let grown : Grown c1 c2 g.row.CAP sent sent' got got' = record {
+      steady = c.advance-progress.ensures.steady;
+      epoch = c.advance-progress.ensures.epoch;
+      sent_grows = c.advance-progress.ensures.sent_grows;
+      got_grows = c.advance-progress.ensures.got_grows;
+      one_sent = c.advance-progress.ensures.one_sent;
+      one_got = c.advance-progress.ensures.one_got;
+      shape = c.advance-progress.ensures.shape;
+      lies = c.advance-progress.ensures.lies;
+    } in
+    let takes : AfterTakes R voting c2 c3 run.prog prog' run.sum sum' run.spoiled spoiled' sent' got' = record {
+      same = c.take_all-run.ensures.same;
+      kept = c.take_all-run.ensures.kept;
+      read = c.take_all-run.ensures.read;
+      sound = c.known.ensures.sound;
+      taken = λ h rank round next sends v a. c.take_all-run.ensures.taken h rank round next sends sent' got' v a;
+    } in
+    advanced_leaves R g.row.CAP run c0 c1 c2 c3 next prog' sum' spoiled' done (is_complete c2.phase) voting sent got sent' got' push all adv grown (sym c.votes_now-voting.ensures) takes c.take_all-run.ensures.fewer c.take_all-run.ensures.emissions c.push_all-run.ensures.refused
+
+pub returns-clause-moves : goal.returns-clause-moves
+returns-clause-moves g c =
+    let R = g.Q.Program.rules in
+    let sent = g.P.Port.sent c.args.port.now in
+    let got = g.P.Port.got c.args.port.now in
+    let sent' = g.P.Port.sent c.advance-progress.new.port in
+    let got' = g.P.Port.got c.advance-progress.new.port in
+    let run : Running g.row.Q.Denot = running c.args.run.now in
+    let h = c.requires.node.0 in
+    let i = c.requires.node.1 in
+    let c0 = c.args.conveyor.now in
+    let c1 = c.push_all-run.new.conveyor in
+    let next = c.push_all-run.result in
+    let push : AfterPush R run c0 c1 next sent got = record {
+      same = c.push_all-run.ensures.same;
+      agrees = c.push_all-run.ensures.kept sent got i.moving.agrees;
+      on = c.push_all-run.ensures.pushed sent got i.moving.agrees;
+      forward = c.push_all-run.ensures.forward;
+      low = c.push_all-run.ensures.next;
+    } in
+    let c2 = c.advance-progress.new.self in
+    let c3 = c.take_all-run.new.conveyor in
+    let prog' = c.take_all-run.new.prog.value in
+    let sum' = c.take_all-run.result.sum in
+    let spoiled' = c.take_all-run.result.spoiled in
+    let voting = c.votes_now-voting.result in
+    let done = next == c.count_of.result in
+    let all : done ≡ (next == length (to_send R run.prog run.sends)) = ap (λ m. next == m) c.count_of.ensures in
+    let adv : AfterAdvance c1 c2 done (is_complete c2.phase) sent got sent' got' = record {
+      agrees = c.advance-progress.ensures.agrees;
+      dims = c.advance-progress.ensures.self_dims;
+      rank = c.advance-progress.ensures.self_rank;
+      done_is = c.advance-progress.ensures.done;
+      begun = c.advance-progress.ensures.begun;
+      working = c.in_ok-progress.ensures.working refl;
+      step = c.advance-progress.ensures.step;
+    } in
+    let grown : Grown c1 c2 g.row.CAP sent sent' got got' = record {
+      steady = c.advance-progress.ensures.steady;
+      epoch = c.advance-progress.ensures.epoch;
+      sent_grows = c.advance-progress.ensures.sent_grows;
+      got_grows = c.advance-progress.ensures.got_grows;
+      one_sent = c.advance-progress.ensures.one_sent;
+      one_got = c.advance-progress.ensures.one_got;
+      shape = c.advance-progress.ensures.shape;
+      lies = c.advance-progress.ensures.lies;
+    } in
+    let takes : AfterTakes R voting c2 c3 run.prog prog' run.sum sum' run.spoiled spoiled' sent' got' = record {
+      same = c.take_all-run.ensures.same;
+      kept = c.take_all-run.ensures.kept;
+      read = c.take_all-run.ensures.read;
+      sound = c.known.ensures.sound;
+      taken = λ h rank round next sends v a. c.take_all-run.ensures.taken h rank round next sends sent' got' v a;
+    } in
+    advanced_moves R g.row.CAP run c0 c1 c2 c3 next prog' sum' spoiled' done (is_complete c2.phase) voting sent got sent' got' push all adv grown (sym c.votes_now-voting.ensures) takes
+
+pub returns-clause-leaves : goal.returns-clause-leaves
+returns-clause-leaves g c =
+    let R = g.Q.Program.rules in
+    let sent = g.P.Port.sent c.args.port.now in
+    let got = g.P.Port.got c.args.port.now in
+    let sent' = g.P.Port.sent c.advance-progress.new.port in
+    let got' = g.P.Port.got c.advance-progress.new.port in
+    let run : Running g.row.Q.Denot = running c.args.run.now in
+    let h = c.requires.node.0 in
+    let i = c.requires.node.1 in
+    let c0 = c.args.conveyor.now in
+    let c1 = c.push_all-run.new.conveyor in
+    let next = c.push_all-run.result in
+    let push : AfterPush R run c0 c1 next sent got = record {
+      same = c.push_all-run.ensures.same;
+      agrees = c.push_all-run.ensures.kept sent got i.moving.agrees;
+      on = c.push_all-run.ensures.pushed sent got i.moving.agrees;
+      forward = c.push_all-run.ensures.forward;
+      low = c.push_all-run.ensures.next;
+    } in
+    let c2 = c.advance-progress.new.self in
+    let c3 = c.take_all-run.new.conveyor in
+    let prog' = c.take_all-run.new.prog.value in
+    let sum' = c.take_all-run.result.sum in
+    let spoiled' = c.take_all-run.result.spoiled in
+    let voting = c.votes_now-voting.result in
+    let done = next == c.count_of.result in
+    let all : done ≡ (next == length (to_send R run.prog run.sends)) = ap (λ m. next == m) c.count_of.ensures in
+    let adv : AfterAdvance c1 c2 done (is_complete c2.phase) sent got sent' got' = record {
+      agrees = c.advance-progress.ensures.agrees;
+      dims = c.advance-progress.ensures.self_dims;
+      rank = c.advance-progress.ensures.self_rank;
+      done_is = c.advance-progress.ensures.done;
+      begun = c.advance-progress.ensures.begun;
+      working = c.in_ok-progress.ensures.working refl;
+      step = c.advance-progress.ensures.step;
+    } in
+    let grown : Grown c1 c2 g.row.CAP sent sent' got got' = record {
+      steady = c.advance-progress.ensures.steady;
+      epoch = c.advance-progress.ensures.epoch;
+      sent_grows = c.advance-progress.ensures.sent_grows;
+      got_grows = c.advance-progress.ensures.got_grows;
+      one_sent = c.advance-progress.ensures.one_sent;
+      one_got = c.advance-progress.ensures.one_got;
+      shape = c.advance-progress.ensures.shape;
+      lies = c.advance-progress.ensures.lies;
+    } in
+    let takes : AfterTakes R voting c2 c3 run.prog prog' run.sum sum' run.spoiled spoiled' sent' got' = record {
+      same = c.take_all-run.ensures.same;
+      kept = c.take_all-run.ensures.kept;
+      read = c.take_all-run.ensures.read;
+      sound = c.known.ensures.sound;
+      taken = λ h rank round next sends v a. c.take_all-run.ensures.taken h rank round next sends sent' got' v a;
+    } in
+    advanced_leaves R g.row.CAP run c0 c1 c2 c3 next prog' sum' spoiled' done (is_complete c2.phase) voting sent got sent' got' push all adv grown (sym c.votes_now-voting.ensures) takes c.take_all-run.ensures.fewer c.take_all-run.ensures.emissions c.push_all-run.ensures.refused
+
+pub returns-clause-waits : goal.returns-clause-waits
+returns-clause-waits g c = λ h is sent_same got_same.
+    let R = g.Q.Program.rules in
+    let sent = g.P.Port.sent c.args.port.now in
+    let got = g.P.Port.got c.args.port.now in
+    let sent' = g.P.Port.sent c.advance-progress.new.port in
+    let got' = g.P.Port.got c.advance-progress.new.port in
+    let run : Running g.row.Q.Denot = running c.args.run.now in
+    let i = is in
+    let c0 = c.args.conveyor.now in
+    let c1 = c.push_all-run.new.conveyor in
+    let next = c.push_all-run.result in
+    let push : AfterPush R run c0 c1 next sent got = record {
+      same = c.push_all-run.ensures.same;
+      agrees = c.push_all-run.ensures.kept sent got i.moving.agrees;
+      on = c.push_all-run.ensures.pushed sent got i.moving.agrees;
+      forward = c.push_all-run.ensures.forward;
+      low = c.push_all-run.ensures.next;
+    } in
+    let c2 = c.advance-progress.new.self in
+    let c3 = c.take_all-run.new.conveyor in
+    let prog' = c.take_all-run.new.prog.value in
+    let sum' = c.take_all-run.result.sum in
+    let spoiled' = c.take_all-run.result.spoiled in
+    let voting = c.votes_now-voting.result in
+    let done = next == c.count_of.result in
+    let all : done ≡ (next == length (to_send R run.prog run.sends)) = ap (λ m. next == m) c.count_of.ensures in
+    let adv : AfterAdvance c1 c2 done (is_complete c2.phase) sent got sent' got' = record {
+      agrees = c.advance-progress.ensures.agrees;
+      dims = c.advance-progress.ensures.self_dims;
+      rank = c.advance-progress.ensures.self_rank;
+      done_is = c.advance-progress.ensures.done;
+      begun = c.advance-progress.ensures.begun;
+      working = c.in_ok-progress.ensures.working refl;
+      step = c.advance-progress.ensures.step;
+    } in
+    let grown : Grown c1 c2 g.row.CAP sent sent' got got' = record {
+      steady = c.advance-progress.ensures.steady;
+      epoch = c.advance-progress.ensures.epoch;
+      sent_grows = c.advance-progress.ensures.sent_grows;
+      got_grows = c.advance-progress.ensures.got_grows;
+      one_sent = c.advance-progress.ensures.one_sent;
+      one_got = c.advance-progress.ensures.one_got;
+      shape = c.advance-progress.ensures.shape;
+      lies = c.advance-progress.ensures.lies;
+    } in
+    let takes : AfterTakes R voting c2 c3 run.prog prog' run.sum sum' run.spoiled spoiled' sent' got' = record {
+      same = c.take_all-run.ensures.same;
+      kept = c.take_all-run.ensures.kept;
+      read = c.take_all-run.ensures.read;
+      sound = c.known.ensures.sound;
+      taken = λ h rank round next sends v a. c.take_all-run.ensures.taken h rank round next sends sent' got' v a;
+    } in
+    let advanced : Advanced c1 c2 g.row.CAP sent sent' got got' (g.P.Port.crowded c.advance-progress.new.port) (g.P.Port.idle c.advance-progress.new.port) = record {
+      epoch = c.advance-progress.ensures.epoch;
+      full = c.in_ok-progress.ensures.full refl;
+      idles = c.advance-progress.ensures.idle;
+      lies = c.advance-progress.ensures.lies;
+      closing = λ l b o hop a still. c.in_ok-progress.ensures.closing refl l b o (λ q. sym c.advance-progress.ensures.done ∙ hop q) a still;
+      stopped = c.in_ok-progress.ensures.stopped refl;
+      completes = λ over. complete_from c2.phase (sym c.in_ok-progress.ensures.answer ∙ ok_once (c.in_ok-progress.ensures.completes refl over));
+    } in
+    stuck R h run c0 c1 c2 c3 next g.row.CAP done (is_complete c2.phase) voting prog' sum' spoiled' sent got sent' got' (g.P.Port.crowded c.advance-progress.new.port) (g.P.Port.idle c.advance-progress.new.port)
+    c.known.ensures.grid c.known.ensures.rank push c.push_all-run.ensures.refused c.push_all-run.ensures.receiver all adv advanced takes c.take_all-run.ensures.fewer i sent_same got_same
+
+pub returns-clause-ended : goal.returns-clause-ended
+returns-clause-ended g c = λ e.
+    let p = c.turn_of.ensures.ended (ok_once e) in
+    ap (λ (t : State). t.phase) c.take_all-run.ensures.same ∙ complete_from c.advance-progress.new.self.phase (sym c.in_ok-progress.ensures.answer ∙ p)
+
+pub returns-clause-going : goal.returns-clause-going
+returns-clause-going g c = λ e p.
+    c.turn_of.ensures.going (ok_once e) (c.in_ok-progress.ensures.answer ∙ ap progress_of (sym (ap (λ (t : State). t.phase) c.take_all-run.ensures.same) ∙ p))

@@ -1,0 +1,31 @@
+use Rattle.std.proofs.Common.{rules, ◌≡◌, subst}
+use Rattle.rank_node.specs.Movers.{seen, dims_of, rank_of}
+use Rattle.rank_node.specs.Nodes.{IsNode}
+use Rattle.rank_node.specs.Runs.{running}
+use Rattle.rank_node.proofs.mover.Mover.turn.Goals as goal
+
+pub turn_conveyor-requires : goal.turn_conveyor-requires
+turn_conveyor-requires g c =
+    let R = g.Q.Program.rules in
+    let sent = g.P.Port.sent c.args.port.now in
+    let got = g.P.Port.got c.args.port.now in
+    let h = c.requires.node.0 in (
+      search rules,
+      (
+        subst (λ m. g.P.Port.dims c.args.port.now ≡ dims_of (seen m)) c.in-Convey.is c.requires.same_dims,
+        (subst (λ m. g.P.Port.rank c.args.port.now ≡ rank_of (seen m)) c.in-Convey.is c.requires.same_rank, (h, subst (λ m. IsNode R h (record { run = running c.args.run.now; mover = seen m }) sent got) c.in-Convey.is c.requires.node.1)),
+      ),
+    )
+
+pub turn_exstack-requires : goal.turn_exstack-requires
+turn_exstack-requires g c =
+    let R = g.Q.Program.rules in
+    let sent = g.P.Port.sent c.args.port.now in
+    let got = g.P.Port.got c.args.port.now in
+    let h = c.requires.node.0 in (
+      search rules,
+      (
+        subst (λ m. g.P.Port.dims c.args.port.now ≡ dims_of (seen m)) c.in-Exstack.is c.requires.same_dims,
+        (subst (λ m. g.P.Port.rank c.args.port.now ≡ rank_of (seen m)) c.in-Exstack.is c.requires.same_rank, (h, subst (λ m. IsNode R h (record { run = running c.args.run.now; mover = seen m }) sent got) c.in-Exstack.is c.requires.node.1)),
+      ),
+    )

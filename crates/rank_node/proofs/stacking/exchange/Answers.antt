@@ -1,0 +1,76 @@
+use Rattle.std.proofs.Common.{rules, ◌≡◌, ◌<◌, true, false, refl, sym, ap, subst, ◌∙◌, arith}
+use Rattle.exstack.specs.State.{State, in_exchange}
+use Rattle.exstack.specs.Standing.{IsStack}
+use Rattle.exstack.proofs.Beginning.{exchange_begun}
+use Rattle.rank_node.specs.Runs.{Running, running}
+use Rattle.rank_node.proofs.Polled.{Made, AfterExchange, after_poll, exchanged, exchanging_apart, ready_apart}
+use Rattle.rank_node.proofs.stacking.exchange.Goals as goal
+
+pub returns-in_err-_made-clause-moves : goal.returns-in_err-_made-clause-moves
+returns-in_err-_made-clause-moves g c =
+    let R = g.Q.Program.rules in
+    let sent = g.P.Port.sent c.args.port.now in
+    let got = g.P.Port.got c.args.port.now in
+    let sent' = g.P.Port.sent c.poll_exchange-polled.new.port in
+    let got' = g.P.Port.got c.poll_exchange-polled.new.port in
+    let run : Running g.row.Q.Denot = running c.args.run.now in
+    let x0 = c.args.exstack.now in
+    let x2 = c.poll_exchange-polled.new.self in
+    let e = c.poll_exchange-polled.ensures in
+    let p : AfterExchange g.row.CAP x0 x2 sent got sent' got' = record {
+      standing = c.stage-standing.ensures.standing;
+      agrees = e.agrees;
+      same_ranks = ap (λ (t : State). t.ranks) e.same;
+      same_rank = ap (λ (t : State). t.rank) e.same;
+      apart = exchanging_apart (c.in_err-_made.ensures.no_memory refl);
+      step = e.step;
+    } in
+    let s : IsStack g.row.CAP x0 = c.requires.node.1.moving.stack in
+    let begun = exchange_begun x0 in
+    let m : Made g.row.CAP x0 (in_exchange x0) x2 false true sent sent' got got' = record {
+      some = omega (arith, s.rank);
+      few = s.few;
+      mid_ranks = begun.ranks;
+      mid_rank = begun.rank;
+      same_ranks = ap (λ (t : State). t.ranks) e.same;
+      same_rank = ap (λ (t : State). t.rank) e.same;
+      same_epoch = ap (λ (t : State). t.epoch) e.same;
+      made = e.round;
+      agrees = e.agrees;
+    } in
+    after_poll g.row.CAP x0 (in_exchange x0) x2 false true sent sent' got got' m R run run refl refl (λ h is. exchanged R h run g.row.CAP x0 x2 sent got sent' got' p is)
+
+pub returns-clause-moves : goal.returns-clause-moves
+returns-clause-moves g c =
+    let R = g.Q.Program.rules in
+    let sent = g.P.Port.sent c.args.port.now in
+    let got = g.P.Port.got c.args.port.now in
+    let sent' = g.P.Port.sent c.poll_exchange-polled.new.port in
+    let got' = g.P.Port.got c.poll_exchange-polled.new.port in
+    let run : Running g.row.Q.Denot = running c.args.run.now in
+    let x0 = c.args.exstack.now in
+    let x2 = c.poll_exchange-polled.new.self in
+    let e = c.poll_exchange-polled.ensures in
+    let p : AfterExchange g.row.CAP x0 x2 sent got sent' got' = record {
+      standing = c.stage-standing.ensures.standing;
+      agrees = e.agrees;
+      same_ranks = ap (λ (t : State). t.ranks) e.same;
+      same_rank = ap (λ (t : State). t.rank) e.same;
+      apart = ready_apart _ (c.in_ok-_made.ensures.stage);
+      step = e.step;
+    } in
+    let s : IsStack g.row.CAP x0 = c.requires.node.1.moving.stack in
+    let begun = exchange_begun x0 in
+    let m : Made g.row.CAP x0 (in_exchange x0) x2 false true sent sent' got got' = record {
+      some = omega (arith, s.rank);
+      few = s.few;
+      mid_ranks = begun.ranks;
+      mid_rank = begun.rank;
+      same_ranks = ap (λ (t : State). t.ranks) e.same;
+      same_rank = ap (λ (t : State). t.rank) e.same;
+      same_epoch = ap (λ (t : State). t.epoch) e.same;
+      made = e.round;
+      agrees = e.agrees;
+    } in
+    after_poll g.row.CAP x0 (in_exchange x0) x2 false true sent sent' got got' m R run run refl refl (λ h is. exchanged R h run g.row.CAP x0 x2 sent got sent' got' p is)
+

@@ -1,0 +1,9 @@
+use Rattle.exstack.specs.State.{unread_of}
+use Rattle.rank_node.specs.Pulls.{Pops}
+use Rattle.rank_node.proofs.stacking.pop_all.Given as goal
+
+abbrev pub invariant-loop-sender : goal.invariant-loop-sender
+invariant-loop-sender g l = Pops g.Q.Program.rules l.voting l.fn.exstack l.exstack l.fn.prog.value l.prog.value l.fn.taken.sum l.taken.sum l.fn.taken.spoiled l.taken.spoiled
+
+abbrev pub decreases-loop-sender : goal.decreases-loop-sender
+decreases-loop-sender g l = unread_of l.exstack

@@ -1,0 +1,184 @@
+use Rattle.std.proofs.Common.{rules, ◌≡◌, ℕ, ◌<◌, ◌==◌, true, false, length, refl, sym, ap, subst, ◌∙◌, arith}
+use Rattle.bale_types.specs.declared.item.Item.{Item}
+use Rattle.exstack.specs.State.{State, dims_of, may_proceed, in_proceed}
+use Rattle.exstack.specs.Standing.{IsStack}
+use Rattle.exstack.proofs.Beginning.{proceed_begun}
+use Rattle.rank_node.specs.Sending.{to_send}
+use Rattle.rank_node.specs.Runs.{Running, running}
+use Rattle.rank_node.proofs.Polled.{Made, AfterProceed, after_poll, proceeded, same_done, done_keeps, waits_like}
+use Rattle.rank_node.proofs.stacking.proceed.Goals as goal
+
+pub poll_proceed-polled-requires : goal.poll_proceed-polled-requires
+poll_proceed-polled-requires g c =
+    let R = g.Q.Program.rules in
+    let sent = g.P.Port.sent c.args.port.now in
+    let got = g.P.Port.got c.args.port.now in
+    let run : Running g.row.Q.Denot = running c.args.run.now in
+    let x0 = c.args.exstack.now in
+    let x1 = c.pop_all-run.new.exstack in
+    let prog' = c.pop_all-run.new.prog.value in
+    let sum' = c.pop_all-run.result.sum in
+    let spoiled' = c.pop_all-run.result.spoiled in
+    let voting = c.votes_now-voting.result in
+    let done = run.next == c.count_of.result in
+    let pops = c.pop_all-run.ensures.pops in
+    let all : done ≡ (run.next == length (to_send R prog' run.sends)) = ap (λ m. run.next == m) c.count_of.ensures in
+    let i = c.requires.node.1 in
+    let a = i.moving.agrees in (
+      search rules,
+      (
+        ap (λ (t : State). may_proceed t.stage) pops.same ∙ c.requires.may,
+        (
+          c.requires.same_dims ∙ sym (ap (λ (t : State). dims_of t) pops.same),
+          (
+            c.requires.same_rank ∙ sym (ap (λ (t : State). t.rank) pops.same),
+            (
+              record { cycle = a.cycle; agrees = pops.kept a.cycle sent got a.agrees },
+              (
+                c.pop_all-run.ensures.read,
+                (
+                  λ d. done_keeps R (c.requires.node.0) run g.row.CAP x0 x1 prog' sum' spoiled' voting done sent got pops all i d,
+                  λ q. same_done R (c.requires.node.0) run g.row.CAP x0 x1 prog' sum' spoiled' voting done sent got pops all i q,
+                ),
+              ),
+            ),
+          ),
+        ),
+      ),
+    )
+
+pub returns-in_err-polled-clause-moves : goal.returns-in_err-polled-clause-moves
+returns-in_err-polled-clause-moves g c =
+    let R = g.Q.Program.rules in
+    let sent = g.P.Port.sent c.args.port.now in
+    let got = g.P.Port.got c.args.port.now in
+    let sent' = g.P.Port.sent c.poll_proceed-polled.new.port in
+    let got' = g.P.Port.got c.poll_proceed-polled.new.port in
+    let run : Running g.row.Q.Denot = running c.args.run.now in
+    let x0 = c.args.exstack.now in
+    let x1 = c.pop_all-run.new.exstack in
+    let x2 = c.poll_proceed-polled.new.self in
+    let prog' = c.pop_all-run.new.prog.value in
+    let sum' = c.pop_all-run.result.sum in
+    let spoiled' = c.pop_all-run.result.spoiled in
+    let voting = c.votes_now-voting.result in
+    let done = run.next == c.count_of.result in
+    let pops = c.pop_all-run.ensures.pops in
+    let e = c.poll_proceed-polled.ensures in
+    let all : done ≡ (run.next == length (to_send R prog' run.sends)) = ap (λ m. run.next == m) c.count_of.ensures in
+    let p : AfterProceed g.row.CAP x1 x2 done sent got sent' got' = record {
+      standing = c.stage-standing.ensures.standing;
+      agrees = e.agrees;
+      same_ranks = ap (λ (t : State). t.ranks) e.same;
+      same_rank = ap (λ (t : State). t.rank) e.same;
+      done_is = ap (λ (t : State). t.done) e.same;
+      steps = e.steps;
+    } in
+    let s : IsStack g.row.CAP x0 = c.requires.node.1.moving.stack in
+    let begun = proceed_begun done x1 (λ q. same_done R (c.requires.node.0) run g.row.CAP x0 x1 prog' sum' spoiled' voting done sent got pops all c.requires.node.1 q) in
+    let m : Made g.row.CAP x0 (in_proceed done x1) x2 done false sent sent' got got' = record {
+      some = omega (arith, s.rank);
+      few = s.few;
+      mid_ranks = begun.ranks ∙ ap (λ (t : State). t.ranks) pops.same;
+      mid_rank = begun.rank ∙ ap (λ (t : State). t.rank) pops.same;
+      same_ranks = ap (λ (t : State). t.ranks) e.same ∙ ap (λ (t : State). t.ranks) pops.same;
+      same_rank = ap (λ (t : State). t.rank) e.same ∙ ap (λ (t : State). t.rank) pops.same;
+      same_epoch = ap (λ (t : State). t.epoch) e.same ∙ ap (λ (t : State). t.epoch) pops.same;
+      made = e.round;
+      agrees = e.agrees;
+    } in
+    after_poll g.row.CAP x0 (in_proceed done x1) x2 done false sent sent' got got' m R run _ refl refl
+    (λ h is. proceeded R h run g.row.CAP x0 x1 x2 prog' sum' spoiled' voting done sent got sent' got' (sym c.votes_now-voting.ensures) pops all p is)
+
+pub returns-in-GoOn-clause-moves : goal.returns-in-GoOn-clause-moves
+returns-in-GoOn-clause-moves g c =
+    let R = g.Q.Program.rules in
+    let sent = g.P.Port.sent c.args.port.now in
+    let got = g.P.Port.got c.args.port.now in
+    let sent' = g.P.Port.sent c.poll_proceed-polled.new.port in
+    let got' = g.P.Port.got c.poll_proceed-polled.new.port in
+    let run : Running g.row.Q.Denot = running c.args.run.now in
+    let x0 = c.args.exstack.now in
+    let x1 = c.pop_all-run.new.exstack in
+    let x2 = c.poll_proceed-polled.new.self in
+    let prog' = c.pop_all-run.new.prog.value in
+    let sum' = c.pop_all-run.result.sum in
+    let spoiled' = c.pop_all-run.result.spoiled in
+    let voting = c.votes_now-voting.result in
+    let done = run.next == c.count_of.result in
+    let pops = c.pop_all-run.ensures.pops in
+    let e = c.poll_proceed-polled.ensures in
+    let all : done ≡ (run.next == length (to_send R prog' run.sends)) = ap (λ m. run.next == m) c.count_of.ensures in
+    let p : AfterProceed g.row.CAP x1 x2 done sent got sent' got' = record {
+      standing = c.stage-standing.ensures.standing;
+      agrees = e.agrees;
+      same_ranks = ap (λ (t : State). t.ranks) e.same;
+      same_rank = ap (λ (t : State). t.rank) e.same;
+      done_is = ap (λ (t : State). t.done) e.same;
+      steps = e.steps;
+    } in
+    let s : IsStack g.row.CAP x0 = c.requires.node.1.moving.stack in
+    let begun = proceed_begun done x1 (λ q. same_done R (c.requires.node.0) run g.row.CAP x0 x1 prog' sum' spoiled' voting done sent got pops all c.requires.node.1 q) in
+    let m : Made g.row.CAP x0 (in_proceed done x1) x2 done false sent sent' got got' = record {
+      some = omega (arith, s.rank);
+      few = s.few;
+      mid_ranks = begun.ranks ∙ ap (λ (t : State). t.ranks) pops.same;
+      mid_rank = begun.rank ∙ ap (λ (t : State). t.rank) pops.same;
+      same_ranks = ap (λ (t : State). t.ranks) e.same ∙ ap (λ (t : State). t.ranks) pops.same;
+      same_rank = ap (λ (t : State). t.rank) e.same ∙ ap (λ (t : State). t.rank) pops.same;
+      same_epoch = ap (λ (t : State). t.epoch) e.same ∙ ap (λ (t : State). t.epoch) pops.same;
+      made = e.round;
+      agrees = e.agrees;
+    } in
+    after_poll g.row.CAP x0 (in_proceed done x1) x2 done false sent sent' got got' m R run _ refl refl
+    (λ h is. proceeded R h run g.row.CAP x0 x1 x2 prog' sum' spoiled' voting done sent got sent' got' (sym c.votes_now-voting.ensures) pops all p is)
+
+pub returns-in-AllDone-clause-moves : goal.returns-in-AllDone-clause-moves
+returns-in-AllDone-clause-moves g c =
+    let R = g.Q.Program.rules in
+    let sent = g.P.Port.sent c.args.port.now in
+    let got = g.P.Port.got c.args.port.now in
+    let sent' = g.P.Port.sent c.poll_proceed-polled.new.port in
+    let got' = g.P.Port.got c.poll_proceed-polled.new.port in
+    let run : Running g.row.Q.Denot = running c.args.run.now in
+    let x0 = c.args.exstack.now in
+    let x1 = c.pop_all-run.new.exstack in
+    let x2 = c.poll_proceed-polled.new.self in
+    let prog' = c.pop_all-run.new.prog.value in
+    let sum' = c.pop_all-run.result.sum in
+    let spoiled' = c.pop_all-run.result.spoiled in
+    let voting = c.votes_now-voting.result in
+    let done = run.next == c.count_of.result in
+    let pops = c.pop_all-run.ensures.pops in
+    let e = c.poll_proceed-polled.ensures in
+    let all : done ≡ (run.next == length (to_send R prog' run.sends)) = ap (λ m. run.next == m) c.count_of.ensures in
+    let p : AfterProceed g.row.CAP x1 x2 done sent got sent' got' = record {
+      standing = c.stage-standing.ensures.standing;
+      agrees = e.agrees;
+      same_ranks = ap (λ (t : State). t.ranks) e.same;
+      same_rank = ap (λ (t : State). t.rank) e.same;
+      done_is = ap (λ (t : State). t.done) e.same;
+      steps = e.steps;
+    } in
+    let s : IsStack g.row.CAP x0 = c.requires.node.1.moving.stack in
+    let begun = proceed_begun done x1 (λ q. same_done R (c.requires.node.0) run g.row.CAP x0 x1 prog' sum' spoiled' voting done sent got pops all c.requires.node.1 q) in
+    let m : Made g.row.CAP x0 (in_proceed done x1) x2 done false sent sent' got got' = record {
+      some = omega (arith, s.rank);
+      few = s.few;
+      mid_ranks = begun.ranks ∙ ap (λ (t : State). t.ranks) pops.same;
+      mid_rank = begun.rank ∙ ap (λ (t : State). t.rank) pops.same;
+      same_ranks = ap (λ (t : State). t.ranks) e.same ∙ ap (λ (t : State). t.ranks) pops.same;
+      same_rank = ap (λ (t : State). t.rank) e.same ∙ ap (λ (t : State). t.rank) pops.same;
+      same_epoch = ap (λ (t : State). t.epoch) e.same ∙ ap (λ (t : State). t.epoch) pops.same;
+      made = e.round;
+      agrees = e.agrees;
+    } in
+    after_poll g.row.CAP x0 (in_proceed done x1) x2 done false sent sent' got got' m R run _ refl refl
+    (λ h is. proceeded R h run g.row.CAP x0 x1 x2 prog' sum' spoiled' voting done sent got sent' got' (sym c.votes_now-voting.ensures) pops all p is)
+
+pub returns-in-GoOn-clause-waits : goal.returns-in-GoOn-clause-waits
+returns-in-GoOn-clause-waits g c =
+    let pops = c.pop_all-run.ensures.pops in
+    waits_like c.args.exstack.now c.pop_all-run.new.exstack c.poll_proceed-polled.new.self (g.P.Port.got c.args.port.now) (g.P.Port.got c.poll_proceed-polled.new.port) (g.P.Port.crowded c.poll_proceed-polled.new.port) (g.P.Port.idle c.poll_proceed-polled.new.port)
+    (ap (λ (t : State). t.ranks) pops.same) (ap (λ (t : State). t.rank) pops.same)
+    (record { posts = c.in_ok-polled.ensures.crowded refl; collects = λ a low due. (c.in_ok-polled.ensures.asked refl a low due).in_vain })

@@ -1,0 +1,73 @@
+-- What a turn leaves of a node, whatever carries its items.
+use Rattle.std.specs.Prelude.{◌≡◌, ℕ, ◌+◌, ◌<◌, ◌≤◌, ⊤, Bool, true, List, ◌++◌, length, slice_get, Some}
+use Rattle.std.specs.List.{flat_map}
+use Rattle.bale_types.specs.declared.item.Item.{Item}
+use Rattle.item_buffer.specs.Contents.{Shipped}
+use Rattle.list_laws.specs.Lists.{Begins}
+use Rattle.route_tensor.specs.Link.{links}
+use Rattle.route_tensor.specs.Ends.{sender_at, reader_at}
+use Rattle.port_bank.specs.Logs.{Logs}
+use Rattle.hop_core.specs.State.{State}
+use Rattle.convey.specs.Buffers.{in_of}
+use Rattle.exstack.specs.State.{State as Stack}
+use Rattle.exstack.specs.State.{out_at, in_at, link_to, link_from}
+use Rattle.round_program.specs.Rules.{Rules}
+use Rattle.rank_node.specs.Sending.{to_send}
+use Rattle.rank_node.specs.Movers.{MoverState, IsShape, dims_of, rank_of, epoch_in, manner_in}
+use Rattle.rank_node.specs.Movers.MoverState.{Conveying, Stacking}
+use Rattle.rank_node.specs.Runs.{Running}
+use Rattle.rank_node.specs.Nodes.{NodeState, IsNode}
+use Rattle.rank_node.specs.Stuck.{IsStuck, WasRefused}
+
+-- kept: it is a node again.
+-- sent_grows .. one_got: the lists only grow, and each by one parcel at most.
+-- shape: what was posted is filled as this transport fills parcels.
+pub record AfterMoves {S : Type 0} (R : Rules S) (cap : ℕ) (n n' : NodeState S) (sent got sent' got' : Logs) : Type 0 where
+  pub kept : (h : ℕ → S) → IsNode R h n sent got → IsNode R h n' sent' got'
+  pub dims : dims_of n'.mover ≡ dims_of n.mover
+  pub rank : rank_of n'.mover ≡ rank_of n.mover
+  pub manner : manner_in n'.mover ≡ manner_in n.mover
+  pub epoch : epoch_in n'.mover ≡ epoch_in n.mover
+  pub round : n'.run.round ≡ n.run.round
+  pub sends : n'.run.sends ≡ n.run.sends
+  pub sent_grows : (l : ℕ) → Begins (sent l) (sent' l)
+  pub got_grows : (l : ℕ) → Begins (got l) (got' l)
+  pub one_sent : (l : ℕ) → l < links (dims_of n.mover) → sender_at (dims_of n.mover) l ≡ rank_of n.mover → length (sent' l) ≤ length (sent l) + 1
+  pub one_got : (l : ℕ) → l < links (dims_of n.mover) → reader_at (dims_of n.mover) l ≡ rank_of n.mover → length (got' l) ≤ length (got l) + 1
+  pub shape : (l : ℕ) → l < links (dims_of n.mover) → sender_at (dims_of n.mover) l ≡ rank_of n.mover → IsShape (manner_in n.mover) cap (sent l) → IsShape (manner_in n.mover) cap (sent' l)
+
+-- What a turn over a conveyor leaves besides.
+-- lies: an inbox holds at most what it held and what came.
+-- refused: an item is left to push exactly where a push was refused.
+pub record OnConveyor {S : Type 0} (R : Rules S) (cap : ℕ) (run run' : Running S) (c c' : State) (sent got got' : Logs) : Type 0 where
+  pub lies : (l : ℕ) (more : List Shipped) → l < links c.dims → reader_at c.dims l ≡ c.rank → got' l ≡ got l ++ more
+      → length (in_of c' l).parcel.untaken ≤ length (in_of c l).parcel.untaken + length (flat_map (λ p. p.entries) more)
+  pub refused : (h : ℕ → S) → IsNode R h (record { run = run; mover = Conveying c }) sent got → (to : ℕ) (x : Item)
+      → slice_get (to_send R run'.prog run'.sends) run'.next ≡ Some (to, x) → WasRefused c to cap
+
+-- And over an exstack: where a parcel of its round is still to be posted, the link is crowded, unless this turn collected a
+-- parcel from it; where one is still to be collected, the link is idle.
+pub record WaitsFor (x x' : Stack) (got got' : Logs) (is_crowded is_idle : ℕ → Bool) : Type 0 where
+  pub posts : (b : ℕ) → b < x.ranks → (out_at x' b).due ≡ true → got' (link_to x b) ≡ got (link_to x b) → is_crowded (link_to x b) ≡ true
+  pub collects : (a : ℕ) → a < x.ranks → (in_at x' a).due ≡ true → is_idle (link_from x a) ≡ true
+
+-- What pushes alone leave of an exstack's node.
+pub record AfterFill {S : Type 0} (R : Rules S) (cap : ℕ) (run run' : Running S) (x x' : Stack) : Type 0 where
+  pub kept : (h : ℕ → S) (sent got : Logs) → IsNode R h (record { run = run; mover = Stacking cap x }) sent got → IsNode R h (record { run = run'; mover = Stacking cap x' }) sent got
+  pub round : run'.round ≡ run.round
+  pub sends : run'.sends ≡ run.sends
+
+-- What a turn leaves of either.
+abbrev pub Leaves : {S : Type 0} → Rules S → ℕ → Running S → Running S → MoverState → MoverState → Logs → Logs → Logs → Type 0
+Leaves R cap run run' (Conveying c) (Conveying c') sent got got' = OnConveyor R cap run run' c c' sent got got'
+Leaves R cap run run' (Conveying c) (Stacking k x) sent got got' = ⊥
+Leaves R cap run run' (Stacking k x) (Conveying c) sent got got' = ⊥
+Leaves R cap run run' (Stacking k x) (Stacking k' x') sent got got' = ⊤
+
+-- What a turn leaves undone that wanted no memory, and why: over a conveyor, where it moved no parcel.
+abbrev pub Waits : {S : Type 0} → Rules S → Running S → MoverState → MoverState → Logs → Logs → Logs → Logs → (ℕ → Bool) → (ℕ → Bool) → Type 0
+Waits {S} R run (Conveying c) (Conveying c') sent got sent' got' is_crowded is_idle =
+    (h : ℕ → S) → IsNode R h (record { run = run; mover = Conveying c }) sent got → ((l : ℕ) → sent' l ≡ sent l) → ((l : ℕ) → got' l ≡ got l) → IsStuck c c' sent got sent' got' is_crowded is_idle
+Waits R run (Conveying c) (Stacking k x) sent got sent' got' is_crowded is_idle = ⊥
+Waits R run (Stacking k x) (Conveying c) sent got sent' got' is_crowded is_idle = ⊥
+Waits R run (Stacking k x) (Stacking k' x') sent got sent' got' is_crowded is_idle = WaitsFor x x' got got' is_crowded is_idle

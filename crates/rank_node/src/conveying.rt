@@ -1,0 +1,96 @@
+//! A rank whose items travel by a conveyor.
+ghost use Rattle.std.specs.Prelude.{◌≡◌, ◌≢◌, ℕ, ◌^◌, ◌<◌, ◌≤◌, false, length, IfOk, IsOk, OnOk, Ok};
+ghost use Rattle.route_tensor.specs.Grid.{ranks};
+ghost use Rattle.rank_node.specs.Movers.{IsNew, GoesOn};
+ghost use Rattle.rank_node.specs.Movers.Manner.{ByConveyor};
+ghost use Rattle.rank_node.specs.Movers.MoverState.{Conveying};
+ghost use Rattle.rank_node.specs.Runs.{running};
+ghost use Rattle.rank_node.specs.Nodes.{IsNode};
+ghost use Rattle.rank_node.specs.Moves.{AfterMoves, Leaves, Waits};
+
+use crate::run::Run;
+use crate::sending::push_all;
+use crate::sends::{count_of, votes_now};
+use crate::taking::take_all;
+use crate::turn::Turn;
+use bale_types::NoMemory;
+use convey::{Conveyor, Phase, Progress};
+use port_bank::Port;
+use round_program::Program;
+use route_tensor::Grid;
+use std::alloc::Global;
+
+/// One turn: pushes what is left to send, in order, until a push is refused or all is pushed; advances once; and takes in
+/// what came, until nothing is left.
+pub(crate) fn turn_conveyor<const CAP: usize, const HOPS: usize, Q: Program, P: Port<CAP>>(
+    run: &mut Run<Q>,
+    conveyor: &mut Conveyor<CAP, HOPS>,
+    port: &mut P,
+) -> Result<Turn, NoMemory>
+    requires same_dims { P.dims port.old ≡ conveyor.old.dims }
+    requires same_rank { P.rank port.old ≡ conveyor.old.rank }
+    requires node { (h : ℕ → Q) × IsNode Q.rules h (record { run = running run.old; mover = Conveying conveyor.old }) (P.sent port.old) (P.got port.old) }
+    ensures moves { AfterMoves Q.rules CAP (record { run = running run.old; mover = Conveying conveyor.old }) (record { run = running run.new; mover = Conveying conveyor.new })
+        (P.sent port.old) (P.got port.old) (P.sent port.new) (P.got port.new) }
+    ensures leaves { Leaves Q.rules CAP (running run.old) (running run.new) (Conveying conveyor.old) (Conveying conveyor.new) (P.sent port.old) (P.got port.old) (P.got port.new) }
+    ensures waits { OnOk result (Waits Q.rules (running run.old) (Conveying conveyor.old) (Conveying conveyor.new)
+        (P.sent port.old) (P.got port.old) (P.sent port.new) (P.got port.new) (P.crowded port.new) (P.idle port.new)) }
+    ensures same_dims { P.dims port.new ≡ P.dims port.old }
+    ensures same_rank { P.rank port.new ≡ P.rank port.old }
+    ensures same_slots { P.slots port.new ≡ P.slots port.old }
+    ensures rest { P.rest port.new ≡ P.rest port.old }
+    ensures memory { P.Memory.GROWS ≡ false → IsOk result }
+    ensures ended { result ≡ Ok Turn.Ended → conveyor.new.phase ≡ Phase.Complete }
+    ensures going { result ≡ Ok Turn.Going → conveyor.new.phase ≢ Phase.Complete }
+{
+    run.next = push_all(&run.prog, run.sends, conveyor, run.next);
+    let done = run.next == count_of(&run.prog, run.sends);
+    let progress = conveyor.advance(port, done);
+    let voting = votes_now(run.sends);
+    run.taken = take_all(&mut run.prog, conveyor, voting, run.taken);
+    conveyor.known();
+    Ok(turn_of(progress?))
+}
+
+/// What a turn tells, by how far its advance came.
+fn turn_of(progress: Progress) -> Turn
+    ensures ended { result ≡ Turn.Ended → progress ≡ Progress.Complete }
+    ensures going { result ≡ Turn.Going → progress ≢ Progress.Complete }
+{
+    match progress {
+        Progress::More | Progress::Near => Turn::Going,
+        Progress::Complete => Turn::Ended,
+    }
+}
+
+/// The conveyor of `rank`, which has begun its first epoch.
+pub(crate) fn new_conveyor<const CAP: usize, const HOPS: usize>(
+    alloc: Global,
+    grid: &Grid,
+    rank: u32,
+    steady: bool,
+) -> Result<Conveyor<CAP, HOPS>, NoMemory>
+    requires some { 0 < CAP }
+    requires small { CAP ≤ 1024 }
+    requires hops { length grid.now ≡ HOPS }
+    requires rank { rank < ranks grid.now }
+    ensures { IfOk result (λ c. IsNew grid.now rank (ByConveyor steady) (Conveying c)) }
+{
+    let mut conveyor = Conveyor::new(alloc, grid, rank, steady)?;
+    conveyor.begin();
+    conveyor.known();
+    Ok(conveyor)
+}
+
+/// Goes from an epoch that is over to the next.
+pub(crate) fn reset_conveyor<const CAP: usize, const HOPS: usize>(
+    conveyor: &mut Conveyor<CAP, HOPS>,
+)
+    requires complete { conveyor.old.phase ≡ Phase.Complete }
+    requires epochs { conveyor.old.epoch < 2 ^ 63 }
+    ensures { GoesOn (Conveying conveyor.old) (Conveying conveyor.new) }
+{
+    conveyor.reset();
+    conveyor.begin();
+    conveyor.known();
+}

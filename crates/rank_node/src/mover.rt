@@ -1,0 +1,90 @@
+//! What carries the items of a rank.
+ghost use Rattle.std.specs.Prelude.{◌≡◌, ℕ, ◌+◌, ◌^◌, ◌<◌, ◌≤◌, true, false, length, IfOk, IsOk, OnOk, Ok};
+ghost use Rattle.route_tensor.specs.Grid.{ranks};
+ghost use Rattle.rank_node.specs.Movers.{seen, dims_of, rank_of, epoch_in, manner_of, has_completed, IsNew, GoesOn};
+ghost use Rattle.rank_node.specs.Runs.{running};
+ghost use Rattle.rank_node.specs.Nodes.{IsNode};
+ghost use Rattle.rank_node.specs.Moves.{AfterMoves, Leaves, Waits};
+
+use crate::conveying::{new_conveyor, reset_conveyor, turn_conveyor};
+use crate::run::Run;
+use crate::stacking::{new_exstack, reset_exstack, turn_exstack};
+use crate::turn::Turn;
+use crate::via::Via;
+use bale_types::NoMemory;
+use convey::Conveyor;
+use exstack::Exstack;
+use port_bank::Port;
+use round_program::Program;
+use route_tensor::Grid;
+use std::alloc::Global;
+
+/// A rank's conveyor, or its exstack.
+#[derive(Drop)]
+pub enum Mover<const CAP: usize, const HOPS: usize> {
+    Convey(Conveyor<CAP, HOPS>),
+    Exstack(Exstack<CAP>),
+}
+
+impl<const CAP: usize, const HOPS: usize> Mover<CAP, HOPS> {
+    /// The mover of `rank`, which has begun its first epoch.
+    pub(crate) fn new(
+        alloc: Global,
+        grid: &Grid,
+        via: Via,
+        rank: u32,
+        steady: bool,
+    ) -> Result<Self, NoMemory>
+        requires some { 0 < CAP }
+        requires small { CAP ≤ 1024 }
+        requires hops { length grid.now ≡ HOPS }
+        requires one_hop { via ≡ Via.Exstack → length grid.now ≡ 1 }
+        requires rank { rank < ranks grid.now }
+        ensures { IfOk result (λ m. IsNew grid.now rank (manner_of via steady) (seen m)) }
+    {
+        match via {
+            Via::Convey => Ok(Mover::Convey(new_conveyor(alloc, grid, rank, steady)?)),
+            Via::Exstack => Ok(Mover::Exstack(new_exstack(alloc, grid, rank)?)),
+        }
+    }
+
+    /// One turn of a rank.
+    pub(crate) fn turn<Q: Program, P: Port<CAP>>(
+        &mut self,
+        run: &mut Run<Q>,
+        port: &mut P,
+    ) -> Result<Turn, NoMemory>
+        requires same_dims { P.dims port.old ≡ dims_of (seen self.old) }
+        requires same_rank { P.rank port.old ≡ rank_of (seen self.old) }
+        requires node { (h : ℕ → Q) × IsNode Q.rules h (record { run = running run.old; mover = seen self.old }) (P.sent port.old) (P.got port.old) }
+        ensures moves { AfterMoves Q.rules CAP (record { run = running run.old; mover = seen self.old }) (record { run = running run.new; mover = seen self.new })
+            (P.sent port.old) (P.got port.old) (P.sent port.new) (P.got port.new) }
+        ensures leaves { Leaves Q.rules CAP (running run.old) (running run.new) (seen self.old) (seen self.new) (P.sent port.old) (P.got port.old) (P.got port.new) }
+        ensures waits { OnOk result (Waits Q.rules (running run.old) (seen self.old) (seen self.new)
+            (P.sent port.old) (P.got port.old) (P.sent port.new) (P.got port.new) (P.crowded port.new) (P.idle port.new)) }
+        ensures same_dims { P.dims port.new ≡ P.dims port.old }
+        ensures same_rank { P.rank port.new ≡ P.rank port.old }
+        ensures same_slots { P.slots port.new ≡ P.slots port.old }
+        ensures rest { P.rest port.new ≡ P.rest port.old }
+        ensures memory { P.Memory.GROWS ≡ false → IsOk result }
+        ensures ended { result ≡ Ok Turn.Ended → has_completed (seen self.new) ≡ true }
+        ensures going { result ≡ Ok Turn.Going → has_completed (seen self.new) ≡ false }
+    {
+        match self {
+            Mover::Convey(conveyor) => turn_conveyor(run, conveyor, port),
+            Mover::Exstack(exstack) => turn_exstack(run, exstack, port),
+        }
+    }
+
+    /// Goes from an epoch that is over to the next.
+    pub(crate) fn reset(&mut self)
+        requires completed { has_completed (seen self.old) ≡ true }
+        requires epochs { epoch_in (seen self.old) < 2 ^ 63 }
+        ensures { GoesOn (seen self.old) (seen self.new) }
+    {
+        match self {
+            Mover::Convey(conveyor) => reset_conveyor(conveyor),
+            Mover::Exstack(exstack) => reset_exstack(exstack),
+        }
+    }
+}

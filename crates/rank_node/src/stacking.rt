@@ -1,0 +1,228 @@
+//! A rank whose items travel by an exstack.
+ghost use Rattle.std.specs.Prelude.{◌≡◌, ◌≢◌, ℕ, ◌^◌, ◌<◌, ◌≤◌, true, false, length, Some, IfOk, IsOk, OnOk, Ok};
+ghost use Rattle.std.specs.List.{All};
+ghost use Rattle.route_tensor.specs.Grid.{ranks};
+ghost use Rattle.exstack.specs.State.{dims_of, unread_of, lowest_unread, may_exchange, may_proceed};
+ghost use Rattle.rank_node.specs.Movers.{IsNew, GoesOn};
+ghost use Rattle.rank_node.specs.Movers.MoverState.{Stacking};
+ghost use Rattle.rank_node.specs.Movers.Manner.{ByExstack};
+ghost use Rattle.port_bank.specs.Logs.{Logs};
+ghost use Rattle.rank_node.specs.Pulls.{Pops, Fills};
+ghost use Rattle.rank_node.specs.Runs.{running};
+ghost use Rattle.rank_node.specs.Sending.{to_send};
+ghost use Rattle.rank_node.specs.Nodes.{IsNode};
+ghost use Rattle.rank_node.specs.Moves.{AfterMoves, AfterFill, Waits};
+
+use crate::run::Run;
+use crate::sends::{Sends, count_of, sent_at, votes_now};
+use crate::taking::{Taken, take_one};
+use crate::turn::Turn;
+use bale_types::NoMemory;
+use exstack::{Exstack, Proceed, Stage};
+use port_bank::Port;
+use round_program::Program;
+use route_tensor::Grid;
+use std::alloc::Global;
+
+/// One turn: one poll, which the stage at entry decides. A proceed poll comes after all that came is taken in, and says that
+/// the rank is done where all is pushed; an exchange poll that begins its round comes after pushes, in order, until one is
+/// refused or all is pushed.
+pub(crate) fn turn_exstack<const CAP: usize, Q: Program, P: Port<CAP>>(
+    run: &mut Run<Q>,
+    exstack: &mut Exstack<CAP>,
+    port: &mut P,
+) -> Result<Turn, NoMemory>
+    requires same_dims { P.dims port.old ≡ dims_of exstack.old }
+    requires same_rank { P.rank port.old ≡ exstack.old.rank }
+    requires node { (h : ℕ → Q) × IsNode Q.rules h (record { run = running run.old; mover = Stacking CAP exstack.old }) (P.sent port.old) (P.got port.old) }
+    ensures moves { AfterMoves Q.rules CAP (record { run = running run.old; mover = Stacking CAP exstack.old }) (record { run = running run.new; mover = Stacking CAP exstack.new })
+        (P.sent port.old) (P.got port.old) (P.sent port.new) (P.got port.new) }
+    ensures waits { OnOk result (Waits Q.rules (running run.old) (Stacking CAP exstack.old) (Stacking CAP exstack.new)
+        (P.sent port.old) (P.got port.old) (P.sent port.new) (P.got port.new) (P.crowded port.new) (P.idle port.new)) }
+    ensures same_dims { P.dims port.new ≡ P.dims port.old }
+    ensures same_rank { P.rank port.new ≡ P.rank port.old }
+    ensures same_slots { P.slots port.new ≡ P.slots port.old }
+    ensures rest { P.rest port.new ≡ P.rest port.old }
+    ensures memory { P.Memory.GROWS ≡ false → IsOk result }
+    ensures ended { result ≡ Ok Turn.Ended → exstack.new.stage ≡ Stage.AllDone }
+    ensures going { result ≡ Ok Turn.Going → exstack.new.stage ≢ Stage.AllDone }
+{
+    match exstack.stage() {
+        Stage::Start | Stage::Proceeding | Stage::Full => proceed(run, exstack, port),
+        Stage::Filling => {
+            fill(run, exstack);
+            exchange(run, exstack, port)
+        }
+        Stage::Exchanging => exchange(run, exstack, port),
+        Stage::AllDone => Ok(Turn::Ended),
+    }
+}
+
+/// Takes in what came, and makes what is missing of a proceed round.
+fn proceed<const CAP: usize, Q: Program, P: Port<CAP>>(
+    run: &mut Run<Q>,
+    exstack: &mut Exstack<CAP>,
+    port: &mut P,
+) -> Result<Turn, NoMemory>
+    requires may { may_proceed exstack.old.stage ≡ true }
+    requires same_dims { P.dims port.old ≡ dims_of exstack.old }
+    requires same_rank { P.rank port.old ≡ exstack.old.rank }
+    requires node { (h : ℕ → Q) × IsNode Q.rules h (record { run = running run.old; mover = Stacking CAP exstack.old }) (P.sent port.old) (P.got port.old) }
+    ensures moves { AfterMoves Q.rules CAP (record { run = running run.old; mover = Stacking CAP exstack.old }) (record { run = running run.new; mover = Stacking CAP exstack.new })
+        (P.sent port.old) (P.got port.old) (P.sent port.new) (P.got port.new) }
+    ensures waits { OnOk result (Waits Q.rules (running run.old) (Stacking CAP exstack.old) (Stacking CAP exstack.new)
+        (P.sent port.old) (P.got port.old) (P.sent port.new) (P.got port.new) (P.crowded port.new) (P.idle port.new)) }
+    ensures same_dims { P.dims port.new ≡ P.dims port.old }
+    ensures same_rank { P.rank port.new ≡ P.rank port.old }
+    ensures same_slots { P.slots port.new ≡ P.slots port.old }
+    ensures rest { P.rest port.new ≡ P.rest port.old }
+    ensures memory { P.Memory.GROWS ≡ false → IsOk result }
+    ensures ended { result ≡ Ok Turn.Ended → exstack.new.stage ≡ Stage.AllDone }
+    ensures going { result ≡ Ok Turn.Going → exstack.new.stage ≢ Stage.AllDone }
+{
+    let voting = votes_now(run.sends);
+    run.taken = pop_all(&mut run.prog, exstack, voting, run.taken);
+    let done = run.next == count_of(&run.prog, run.sends);
+    let polled = exstack.poll_proceed(port, done);
+    // The contract of `stage` tells what holds of the exstack.
+    let _standing = exstack.stage();
+    match polled? {
+        Proceed::GoOn | Proceed::NotYet(_) => Ok(Turn::Going),
+        Proceed::AllDone => Ok(Turn::Ended),
+    }
+}
+
+/// Makes what is missing of an exchange round.
+fn exchange<const CAP: usize, Q: Program, P: Port<CAP>>(
+    run: &mut Run<Q>,
+    exstack: &mut Exstack<CAP>,
+    port: &mut P,
+) -> Result<Turn, NoMemory>
+    requires may { may_exchange exstack.old.stage ≡ true }
+    requires same_dims { P.dims port.old ≡ dims_of exstack.old }
+    requires same_rank { P.rank port.old ≡ exstack.old.rank }
+    requires node { (h : ℕ → Q) × IsNode Q.rules h (record { run = running run.old; mover = Stacking CAP exstack.old }) (P.sent port.old) (P.got port.old) }
+    ensures moves { AfterMoves Q.rules CAP (record { run = running run.old; mover = Stacking CAP exstack.old }) (record { run = running run.new; mover = Stacking CAP exstack.new })
+        (P.sent port.old) (P.got port.old) (P.sent port.new) (P.got port.new) }
+    ensures waits { OnOk result (Waits Q.rules (running run.old) (Stacking CAP exstack.old) (Stacking CAP exstack.new)
+        (P.sent port.old) (P.got port.old) (P.sent port.new) (P.got port.new) (P.crowded port.new) (P.idle port.new)) }
+    ensures same_dims { P.dims port.new ≡ P.dims port.old }
+    ensures same_rank { P.rank port.new ≡ P.rank port.old }
+    ensures same_slots { P.slots port.new ≡ P.slots port.old }
+    ensures rest { P.rest port.new ≡ P.rest port.old }
+    ensures memory { P.Memory.GROWS ≡ false → IsOk result }
+    ensures going { IfOk result (λ t. t ≡ Turn.Going) }
+    ensures stage { exstack.new.stage ≢ Stage.AllDone }
+{
+    let polled = exstack.poll_exchange(port);
+    // The contract of `stage` tells what holds of the exstack.
+    let _standing = exstack.stage();
+    let _made = polled?;
+    Ok(Turn::Going)
+}
+
+/// Pushes what is left to send, in order, until a push is refused or all is pushed.
+fn fill<const CAP: usize, Q: Program>(run: &mut Run<Q>, exstack: &mut Exstack<CAP>)
+    requires filling { exstack.old.stage ≡ Stage.Filling }
+    requires node { (h : ℕ → Q) × (sent : Logs) × (got : Logs) × IsNode Q.rules h (record { run = running run.old; mover = Stacking CAP exstack.old }) sent got }
+    ensures filled { AfterFill Q.rules CAP (running run.old) (running run.new) exstack.old exstack.new }
+    ensures same { exstack.new ≡ record exstack.old { outs = exstack.new.outs; popped = exstack.new.popped } }
+{
+    run.next = push_on(&run.prog, run.sends, exstack, run.next);
+    // The contract of `stage` tells what holds of the exstack.
+    let _standing = exstack.stage();
+}
+
+/// Pushes the items to send from number `from` on, in order, until one is refused or all are pushed. Answers how many
+/// are pushed by then.
+fn push_on<const CAP: usize, Q: Program>(
+    prog: &Box<Q>,
+    sends: Sends,
+    exstack: &mut Exstack<CAP>,
+    from: u64,
+) -> u64
+    requires from { from ≤ length (to_send Q.rules prog.now.value sends) }
+    requires receivers { All (λ e. e.0 < ranks (dims_of exstack.old)) (to_send Q.rules prog.now.value sends) }
+    requires filling { exstack.old.stage ≡ Stage.Filling }
+    requires all_pushed { exstack.old.done ≡ true → from ≡ length (to_send Q.rules prog.now.value sends) }
+    ensures { Fills CAP (to_send Q.rules prog.now.value sends) exstack.old exstack.new from result }
+{
+    let count = count_of(prog, sends);
+    let mut next = from;
+    while next < count {
+        let (to, item) = sent_at(prog, sends, next);
+        if exstack.push(item, to) == 0 {
+            return next;
+        }
+        next += 1;
+    }
+    next
+}
+
+/// Pops until nothing is left, and sums or absorbs what came.
+fn pop_all<const CAP: usize, Q: Program>(
+    prog: &mut Box<Q>,
+    exstack: &mut Exstack<CAP>,
+    voting: bool,
+    taken: Taken,
+) -> Taken
+    ensures pops { Pops Q.rules voting exstack.old exstack.new prog.old.value prog.new.value taken.sum result.sum taken.spoiled result.spoiled }
+    ensures read { unread_of exstack.new ≡ 0 }
+{
+    let mut taken = taken;
+    while let Some(sender) = exstack.next_sender() {
+        taken = pop_batch(prog, exstack, sender, voting, taken);
+    }
+    taken
+}
+
+/// Sums or absorbs all unread items of the sender from which the next pop takes.
+fn pop_batch<const CAP: usize, Q: Program>(
+    prog: &mut Box<Q>,
+    exstack: &mut Exstack<CAP>,
+    sender: u32,
+    voting: bool,
+    taken: Taken,
+) -> Taken
+    requires lowest { lowest_unread exstack.old ≡ Some sender }
+    ensures pops { Pops Q.rules voting exstack.old exstack.new prog.old.value prog.new.value taken.sum result.sum taken.spoiled result.spoiled }
+    ensures less { unread_of exstack.new < unread_of exstack.old }
+{
+    // The contract of `stage` tells what holds of the exstack.
+    let _standing = exstack.stage();
+    let mut taken = taken;
+    for entry in exstack.batch(sender) {
+        taken = take_one(prog, voting, sender, entry.item, taken);
+    }
+    exstack.pop_all(sender);
+    taken
+}
+
+/// The exstack of `rank`, at the start of its first epoch.
+pub(crate) fn new_exstack<const CAP: usize>(
+    alloc: Global,
+    grid: &Grid,
+    rank: u32,
+) -> Result<Exstack<CAP>, NoMemory>
+    requires some { 0 < CAP }
+    requires small { CAP ≤ 1024 }
+    requires one_hop { length grid.now ≡ 1 }
+    requires rank { rank < ranks grid.now }
+    ensures { IfOk result (λ x. IsNew grid.now rank ByExstack (Stacking CAP x)) }
+{
+    let exstack = Exstack::new(alloc, grid, rank)?;
+    // The contract of `stage` tells what holds of the exstack.
+    let _standing = exstack.stage();
+    Ok(exstack)
+}
+
+/// Goes from an epoch that is over to the next.
+pub(crate) fn reset_exstack<const CAP: usize>(exstack: &mut Exstack<CAP>)
+    requires all_done { exstack.old.stage ≡ Stage.AllDone }
+    requires epochs { exstack.old.epoch < 2 ^ 63 }
+    ensures { GoesOn (Stacking CAP exstack.old) (Stacking CAP exstack.new) }
+{
+    exstack.reset();
+    // The contract of `stage` tells what holds of the exstack.
+    let _standing = exstack.stage();
+}

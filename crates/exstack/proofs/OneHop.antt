@@ -36,11 +36,11 @@ grid_one n some few = record {
   small = omega (arith, ranks_one n);
 }
 
-place_none : (n a b : ℕ) → place (n ∷ []) a b 0 ≡ a
+pub place_none : (n a b : ℕ) → place (n ∷ []) a b 0 ≡ a
 unfolding place
 place_none n a b = refl
 
-place_one : (n a b : ℕ) → a < n → b < n → place (n ∷ []) a b 1 ≡ b
+pub place_one : (n a b : ℕ) → a < n → b < n → place (n ∷ []) a b 1 ≡ b
 unfolding place
 place_one n a b p q =
     let c : b % n ≡ b = mod-eq_of_lt q in

@@ -7,17 +7,19 @@ use Rattle.list_laws.proofs.Lists.{find, within, get_once}
 use Rattle.route_tensor.specs.Grid.{ranks}
 use Rattle.port_bank.specs.Logs.{Logs}
 use Rattle.port_bank.specs.Plain.{Bank, IsBank, sent_of, got_of}
-use Rattle.convey.specs.Law.{ClosesLaw}
+use Rattle.rank_group.specs.Closes.{ClosesLaws}
 use Rattle.convey.specs.Rest.{RestLaw}
 use Rattle.round_program.specs.Rules.{Rules}
 use Rattle.round_program.specs.Laws.{Laws}
+use Rattle.rank_node.specs.Movers.{epoch_in}
+use Rattle.rank_node.specs.Movers.Manner.{ByConveyor}
 use Rattle.rank_group.specs.Told.{turns_within}
 use Rattle.rank_group.specs.Ranks.{RankState, IsOrder, progress}
 use Rattle.rank_group.proofs.Worlds.{still_within, over_at_last}
 use Rattle.rank_group.proofs.Moves.{moves_few}
 use Rattle.rank_group.proofs.Resting.{all_past}
 use Rattle.rank_group.proofs.Potential.{sweeps_within, turns_low, sweeps_more, least, least_low, least_high}
-use Rattle.rank_group.specs.Worlds.{World, moves, Rests, Plan, SweptTo}
+use Rattle.rank_group.specs.Worlds.{World, moves, RestsBy, Plan, SweptTo}
 use Rattle.rank_group.specs.Drives.{progs_of}
 
 -- a rank whose run isn't over
@@ -49,7 +51,7 @@ pub record Reached {S : Type 0} (R : Rules S) (dims : List ℕ) (cap slots : ℕ
   pub world : World R dims cap slots steady starts h rs sent got
   pub count : steps ≤ steps0 + ranks dims * (moves dims rs sent got + least rs)
 
-module _ {S : Type 0} (R : Rules S) (laws : Laws R) (law : ClosesLaw) (rest : RestLaw) (dims : List ℕ) (cap slots : ℕ) (steady : Bool) (starts : List S) (n : ℕ) (plan : Plan R dims slots starts n) where
+module _ {S : Type 0} (R : Rules S) (laws : Laws R) (law : ClosesLaws) (rest : RestLaw) (dims : List ℕ) (cap slots : ℕ) (steady : Bool) (starts : List S) (n : ℕ) (plan : Plan R dims slots starts n) where
   -- no more sweeps than a run has
   pub low : (h : ℕ → ℕ → S) (rs : List (RankState S)) (sent got : Logs) → World R dims cap slots steady starts h rs sent got → moves dims rs sent got + least rs ≤ sweeps_within R dims starts n
   low h rs sent got w =
@@ -63,12 +65,12 @@ module _ {S : Type 0} (R : Rules S) (laws : Laws R) (law : ClosesLaw) (rest : Re
             let at : slice_get rs 0 ≡ Some x = ap (λ ys. slice_get ys 0) e in
             elim (cases_Bool x.over) [
               | inl t ↦
-                  let p : progress x ≡ x.node.conveyor.epoch + 1 = ap (λ b. cond b (x.node.conveyor.epoch + 1) x.node.conveyor.epoch) t in
-                  let b = (over_at_last R laws law dims cap slots steady starts h rs sent got w.ranked plan.shape plan.most n plan.start plan.rounds 0 x at t).0 in
+                  let p : progress x ≡ epoch_in x.node.mover + 1 = ap (λ b. cond b (epoch_in x.node.mover + 1) (epoch_in x.node.mover)) t in
+                  let b = (over_at_last R laws law dims cap slots (ByConveyor steady) starts h rs sent got w.ranked plan.shape plan.most n plan.start plan.rounds 0 x at t).0 in
                   omega (arith, a, p, b)
               | inr f ↦
-                  let p : progress x ≡ x.node.conveyor.epoch = ap (λ b. cond b (x.node.conveyor.epoch + 1) x.node.conveyor.epoch) f in
-                  let b = still_within R laws law dims cap slots steady starts h rs sent got w.ranked plan.shape plan.most n plan.start plan.rounds 0 x at f in
+                  let p : progress x ≡ epoch_in x.node.mover = ap (λ b. cond b (epoch_in x.node.mover + 1) (epoch_in x.node.mover)) f in
+                  let b = still_within R laws law dims cap slots (ByConveyor steady) starts h rs sent got w.ranked plan.shape plan.most n plan.start plan.rounds 0 x at f in
                   omega (arith, a, p, b)
             ]
 
@@ -78,8 +80,8 @@ module _ {S : Type 0} (R : Rules S) (laws : Laws R) (law : ClosesLaw) (rest : Re
       let m = moves_few R laws law dims cap slots steady starts h rs sent got w plan.shape plan.most n plan.start plan.rounds in
       let a = least_low rs on.rank on.state on.at in
       let x = on.state in
-      let p : progress x ≡ x.node.conveyor.epoch = ap (λ b. cond b (x.node.conveyor.epoch + 1) x.node.conveyor.epoch) on.still in
-      let b = still_within R laws law dims cap slots steady starts h rs sent got w.ranked plan.shape plan.most n plan.start plan.rounds on.rank x on.at on.still in
+      let p : progress x ≡ epoch_in x.node.mover = ap (λ b. cond b (epoch_in x.node.mover + 1) (epoch_in x.node.mover)) on.still in
+      let b = still_within R laws law dims cap slots (ByConveyor steady) starts h rs sent got w.ranked plan.shape plan.most n plan.start plan.rounds on.rank x on.at on.still in
       omega (arith, m, a, p, b)
 
   -- so the turns are bounded
@@ -124,14 +126,14 @@ module _ {S : Type 0} (R : Rules S) (laws : Laws R) (law : ClosesLaw) (rest : Re
               let light : moves dims rs' sent' got' ≤ moves dims rs sent got = omega (arith, still) in
               let x = on.state in
               let a = least_low rs on.rank x on.at in
-              let p : progress x ≡ x.node.conveyor.epoch = ap (λ b. cond b (x.node.conveyor.epoch + 1) x.node.conveyor.epoch) on.still in
-              let b = still_within R laws law dims cap slots steady starts h rs sent got w.ranked plan.shape plan.most n plan.start plan.rounds on.rank x on.at on.still in
+              let p : progress x ≡ epoch_in x.node.mover = ap (λ b. cond b (epoch_in x.node.mover + 1) (epoch_in x.node.mover)) on.still in
+              let b = still_within R laws law dims cap slots (ByConveyor steady) starts h rs sent got w.ranked plan.shape plan.most n plan.start plan.rounds on.rank x on.at on.still in
               let past = all_past R laws law rest dims cap slots steady starts s.h rs' sent' got' s.world plan.shape plan.most n plan.start plan.rounds plan.some (least rs) (omega (arith, a, p, b)) kept (rested light) in
               let up = least_high rs' (least rs + 1) some past in
               let g = s.grown in
               omega (arith, up, g)
         ] where
-          rested : moves dims rs' sent' got' ≤ moves dims rs sent got → (r : ℕ) (x : RankState S) → slice_get rs' r ≡ Some x → x.over ≡ false → progress x ≡ least rs → Rests dims slots r x.node.conveyor sent' got'
+          rested : moves dims rs' sent' got' ≤ moves dims rs sent got → (r : ℕ) (x : RankState S) → slice_get rs' r ≡ Some x → x.over ≡ false → progress x ≡ least rs → RestsBy dims slots r x.node.mover sent' got'
           rested light r x at over here =
               let y = before r x at in
               let a = least_low rs r y.0 y.1 in
@@ -183,7 +185,7 @@ module _ {S : Type 0} (R : Rules S) (cap : ℕ) (rs0 : List (RankState S)) (b0 :
         subst (λ d. World R d cap b.slots steady starts s.h rs (sent_of b) (got_of b)) (sym v.same_dims) (subst (λ k. World R b0.dims cap k steady starts s.h rs (sent_of b) (got_of b)) (sym v.same_slots) s.world),
       )
 
-  module _ (laws : Laws R) (law : ClosesLaw) (rest : RestLaw) (order : List ℕ) (is : IsOrder (ranks b0.dims) order) (on : GoesOn rs) (rs' : List (RankState S)) (b' : Bank) (steps' : ℕ)
+  module _ (laws : Laws R) (law : ClosesLaws) (rest : RestLaw) (order : List ℕ) (is : IsOrder (ranks b0.dims) order) (on : GoesOn rs) (rs' : List (RankState S)) (b' : Bank) (steps' : ℕ)
       (lawful : IsBank cap b') (ed : b'.dims ≡ b.dims) (es : b'.slots ≡ b.slots) (turned : steps' ≤ steps + length order)
       (swept : (steady : Bool) (starts : List S) (n : ℕ) (h : ℕ → ℕ → S) → Plan R b.dims b.slots starts n → World R b.dims cap b.slots steady starts h rs (sent_of b) (got_of b)
       → SweptTo R b.dims cap b.slots steady starts order (length order) rs (sent_of b) (got_of b) rs' (sent_of b') (got_of b')) where

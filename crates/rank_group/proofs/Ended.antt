@@ -11,22 +11,24 @@ use Rattle.port_bank.specs.Logs.{Logs, starting_at, ending_at}
 use Rattle.port_bank.specs.Plain.{Bank, Channel, unused, IsBank, sent_of, got_of, empty_bank, closed}
 use Rattle.port_bank.specs.Port.{IsSlots}
 use Rattle.port_bank.specs.Round.{Round, IsRound, logs_of}
-use Rattle.port_bank.specs.Shapes.{IsConveyorShape}
 use Rattle.port_bank.proofs.Closing.{none_sent, none_got}
-use Rattle.convey.specs.Buffers.{in_of}
-use Rattle.convey.specs.Law.{ClosesLaw}
+use Rattle.rank_group.specs.Closes.{ClosesLaws}
 use Rattle.round_program.specs.Rules.{Rules}
 use Rattle.round_program.specs.Laws.{Laws}
 use Rattle.round_program.specs.Canonical.{HasRounds, InRound, EndsWithin, HaveEnded, states_at}
 use Rattle.round_program.proofs.Members.{in_round_at, rounds_once}
+use Rattle.rank_node.specs.Movers.{MoverState, Manner, IsShape, NoneUnread, lying}
+use Rattle.rank_node.specs.Movers.MoverState.{Conveying, Stacking}
+use Rattle.rank_node.specs.Movers.Manner.{ByConveyor}
 use Rattle.rank_node.specs.Nodes.{IsNode}
 use Rattle.rank_group.specs.Ranks.{RankState, AllRanks}
 use Rattle.rank_group.specs.Told.{TellsRun, turns_within}
 use Rattle.route_tensor.proofs.Coordinates.{ranks_some}
 use Rattle.rank_group.proofs.Orders.{lawful}
+use Rattle.rank_group.proofs.Movers.{shape_none}
 use Rattle.rank_group.proofs.Telling.{tells_run}
 use Rattle.rank_group.proofs.Worlds.{over_at_last}
-use Rattle.rank_group.specs.Worlds.{World, Plan, inbox, conveyor_in}
+use Rattle.rank_group.specs.Worlds.{World, Plan, inbox, mover_in}
 use Rattle.rank_group.specs.Drives.{progs_of, AreFresh}
 
 -- all ranks as a drive begins, over its bank
@@ -41,7 +43,7 @@ unfolding IsSlots
 slots_some zero is = absurd (true≢false (sym is))
 slots_some (suc n) is = omega arith
 
-pub begun : {S : Type 0} (R : Rules S) → Laws R → (cap : ℕ) (dims : List ℕ) (slots : ℕ) (steady : Bool) (starts : List S) (shape : List ℕ) (most n : ℕ) (rs : List (RankState S)) → AreFresh R dims steady starts rs → 0 < cap → IsBank cap (empty_bank dims slots)
+pub begun : {S : Type 0} (R : Rules S) → Laws R → (cap : ℕ) (dims : List ℕ) (slots : ℕ) (steady : Bool) (starts : List S) (shape : List ℕ) (most n : ℕ) (rs : List (RankState S)) → AreFresh R dims cap (ByConveyor steady) starts rs → 0 < cap → IsBank cap (empty_bank dims slots)
     → InRound R (ranks dims) 0 shape most starts → HasRounds R starts n → n ≤ most → Begun R cap steady starts n rs (empty_bank dims slots)
 begun {S} R laws cap dims slots steady starts shape most n rs fresh some is start rounds low =
     let b : Bank = empty_bank dims slots in
@@ -68,11 +70,12 @@ begun {S} R laws cap dims slots steady starts shape most n rs fresh some is star
               record {
                 same_dims = f.same_dims;
                 same_rank = f.same_rank;
-                same_steady = f.same_steady;
+                same_manner = f.same_manner;
+                same_cap = f.same_cap;
                 runs = λ on. subst (λ s. IsNode R (λ m. s) x.node (starting_at dims r (sent_of b)) (ending_at dims r (got_of b))) same
                     (subst (λ (a : Logs). IsNode R (λ m. x.node.run.prog) x.node a (ending_at dims r (got_of b))) (sym (no_sent r)) (subst (λ (a : Logs). IsNode R (λ m. x.node.run.prog) x.node (λ l. []) a) (sym (no_got r)) f.node));
                 stopped = λ over. absurd (true≢false (sym over ∙ f.on));
-                shape = λ l. subst (λ (a : Logs). IsConveyorShape steady cap (a l)) (sym (no_sent r)) (λ i d below. absurd (omega (arith, below)));
+                shape = λ l below own. subst (λ (a : Logs). IsShape (ByConveyor steady) cap (a l)) (sym (no_sent r)) (shape_none (ByConveyor steady) cap);
               };
           begins = λ r s at. get_or_from_slice_get starts r s first.0 at;
         };
@@ -84,12 +87,16 @@ begun {S} R laws cap dims slots steady starts shape most n rs fresh some is star
     } where
       unread : (l : ℕ) → inbox dims rs l ≡ 0
       unread l = by (slice_get rs (reader_at dims l)) refl where
-        by : (o : Option (RankState S)) → slice_get rs (reader_at dims l) ≡ o → length (in_of (conveyor_in (slice_get rs (reader_at dims l))) l).parcel.untaken ≡ 0
-        by None e = ap (λ o. length (in_of (conveyor_in o) l).parcel.untaken) e
-        by (Some x) e = ap (λ o. length (in_of (conveyor_in o) l).parcel.untaken) e ∙ ap length ((fresh.each (reader_at dims l) x e).unread l)
+        none : (m : MoverState) → NoneUnread m → lying m l ≡ 0
+        none (Conveying c) k = ap length (k l)
+        none (Stacking k x) t = refl
+
+        by : (o : Option (RankState S)) → slice_get rs (reader_at dims l) ≡ o → lying (mover_in (slice_get rs (reader_at dims l))) l ≡ 0
+        by None e = ap (λ o. lying (mover_in o) l) e
+        by (Some x) e = ap (λ o. lying (mover_in o) l) e ∙ none x.node.mover (fresh.each (reader_at dims l) x e).unread
 
 module _ {S : Type 0} (R : Rules S) (laws : Laws R) (cap : ℕ) (dims : List ℕ) (slots : ℕ) (steady : Bool) (starts : List S) (shape : List ℕ) (most : ℕ) (start : InRound R (ranks dims) 0 shape most starts) (ends : EndsWithin R starts most)
-    (rs : List (RankState S)) (fresh : AreFresh R dims steady starts rs) (some : 0 < cap) (b : Bank) (made : b ≡ empty_bank dims slots) (is : IsBank cap b) where
+    (rs : List (RankState S)) (fresh : AreFresh R dims cap (ByConveyor steady) starts rs) (some : 0 < cap) (b : Bank) (made : b ≡ empty_bank dims slots) (is : IsBank cap b) where
   begun_at : (n : ℕ) → HasRounds R starts n → Begun R cap steady starts n rs b
   begun_at n rounds =
       subst (Begun R cap steady starts n rs) (sym made)
@@ -121,9 +128,9 @@ logs_map f (c ∷ channels) e zero = refl
 logs_map f (c ∷ channels) e (suc l) = logs_map f channels e l
 
 -- the programs of ranks whose runs are over are those of the canonical run's end
-pub have_ended : {S : Type 0} (R : Rules S) → Laws R → ClosesLaw → (cap : ℕ) (dims : List ℕ) (slots : ℕ) (steady : Bool) (starts : List S) (h : ℕ → ℕ → S) (rs : List (RankState S)) (sent got : Logs) → AllRanks R dims cap slots steady starts h rs sent got
+pub have_ended : {S : Type 0} (R : Rules S) → Laws R → ClosesLaws → (cap : ℕ) (dims : List ℕ) (slots : ℕ) (manner : Manner) (starts : List S) (h : ℕ → ℕ → S) (rs : List (RankState S)) (sent got : Logs) → AllRanks R dims cap slots manner starts h rs sent got
     → ((r : ℕ) (x : RankState S) → slice_get rs r ≡ Some x → x.over ≡ true) → (shape : List ℕ) (most n : ℕ) → InRound R (ranks dims) 0 shape most starts → HasRounds R starts n → (ends : List S) → ends ≡ progs_of rs → HaveEnded R starts ends
-have_ended {S} R laws law cap dims slots steady starts h rs sent got w over shape most n start rounds ends is =
+have_ended {S} R laws law cap dims slots manner starts h rs sent got w over shape most n start rounds ends is =
     record {
       rounds = n;
       has_rounds = rounds;
@@ -131,17 +138,17 @@ have_ended {S} R laws law cap dims slots steady starts h rs sent got w over shap
           (length-map rs (λ (n : RankState S). n.node.run.prog) ∙ (w.all ∙ sym (in_round_at R laws (ranks dims) shape most starts n start).size))
           (λ r s at.
           let x = got_map (λ (n : RankState S). n.node.run.prog) rs r s at in
-          (over_at_last R laws law dims cap slots steady starts h rs sent got w shape most n start rounds r x.0 x.1 (over r x.0 x.1)).1 ∙ ap Some x.2);
+          (over_at_last R laws law dims cap slots manner starts h rs sent got w shape most n start rounds r x.0 x.1 (over r x.0 x.1)).1 ∙ ap Some x.2);
     }
 
-module _ {S : Type 0} (R : Rules S) (laws : Laws R) (law : ClosesLaw) (cap : ℕ) (dims : List ℕ) (slots : ℕ) (steady : Bool) (starts : List S) (h : ℕ → ℕ → S) (rs : List (RankState S)) (b : Bank)
-    (ed : b.dims ≡ dims) (es : b.slots ≡ slots) (w : AllRanks R dims cap slots steady starts h rs (sent_of b) (got_of b)) (over : (r : ℕ) (x : RankState S) → slice_get rs r ≡ Some x → x.over ≡ true)
+module _ {S : Type 0} (R : Rules S) (laws : Laws R) (law : ClosesLaws) (cap : ℕ) (dims : List ℕ) (slots : ℕ) (manner : Manner) (starts : List S) (h : ℕ → ℕ → S) (rs : List (RankState S)) (b : Bank)
+    (ed : b.dims ≡ dims) (es : b.slots ≡ slots) (w : AllRanks R dims cap slots manner starts h rs (sent_of b) (got_of b)) (over : (r : ℕ) (x : RankState S) → slice_get rs r ≡ Some x → x.over ≡ true)
     (shape : List ℕ) (most n : ℕ) (start : InRound R (ranks dims) 0 shape most starts) (rounds : HasRounds R starts n) where
   -- and the closed bank tells the run
-  pub told : (round : Round) → round ≡ closed cap b → IsRound round → TellsRun R starts n (record { dims = dims; cap = cap; slots = slots; by_slots = false }) steady round
+  pub told : (round : Round) → round ≡ closed cap b → IsRound round → TellsRun R starts n (record { dims = dims; cap = cap; slots = slots; by_slots = false }) manner round
   told round is in_order =
-      subst (λ c. TellsRun R starts n (record { dims = dims; cap = cap; slots = slots; by_slots = false }) steady c) (sym is)
-      (tells_run R laws law (closed cap b) cap slots steady starts h rs world (subst IsRound is in_order).in_order over shape most n (subst (λ ds. InRound R (ranks ds) 0 shape most starts) (sym ed) start) rounds
+      subst (λ c. TellsRun R starts n (record { dims = dims; cap = cap; slots = slots; by_slots = false }) manner c) (sym is)
+      (tells_run R laws law (closed cap b) cap slots manner starts h rs world (subst IsRound is in_order).in_order over shape most n (subst (λ ds. InRound R (ranks ds) 0 shape most starts) (sym ed) start) rounds
       (record { dims = dims; cap = cap; slots = slots; by_slots = false }) (ap (λ ds. record { dims = ds; cap = cap; slots = b.slots; by_slots = false }) ed ∙ ap (λ k. record { dims = dims; cap = cap; slots = k; by_slots = false }) es) refl) where
         sent : ◌≡◌ {A = Logs} (sent_of b) (logs_of (map (λ c. c.sent) b.channels))
         sent = λ i l. sym (logs_map (λ c. c.sent) b.channels refl l) i
@@ -149,6 +156,6 @@ module _ {S : Type 0} (R : Rules S) (laws : Laws R) (law : ClosesLaw) (cap : ℕ
         got : ◌≡◌ {A = Logs} (got_of b) (logs_of (map (λ c. c.got) b.channels))
         got = λ i l. sym (logs_map (λ c. c.got) b.channels refl l) i
 
-        world : AllRanks R b.dims cap slots steady starts h rs (logs_of (map (λ c. c.sent) b.channels)) (logs_of (map (λ c. c.got) b.channels))
-        world = subst (λ ds. AllRanks R ds cap slots steady starts h rs (logs_of (map (λ c. c.sent) b.channels)) (logs_of (map (λ c. c.got) b.channels))) (sym ed)
-            (subst (λ (f : Logs). AllRanks R dims cap slots steady starts h rs f (logs_of (map (λ c. c.got) b.channels))) sent (subst (λ (f : Logs). AllRanks R dims cap slots steady starts h rs (sent_of b) f) got w))
+        world : AllRanks R b.dims cap slots manner starts h rs (logs_of (map (λ c. c.sent) b.channels)) (logs_of (map (λ c. c.got) b.channels))
+        world = subst (λ ds. AllRanks R ds cap slots manner starts h rs (logs_of (map (λ c. c.sent) b.channels)) (logs_of (map (λ c. c.got) b.channels))) (sym ed)
+            (subst (λ (f : Logs). AllRanks R dims cap slots manner starts h rs f (logs_of (map (λ c. c.got) b.channels))) sent (subst (λ (f : Logs). AllRanks R dims cap slots manner starts h rs (sent_of b) f) got w))

@@ -5,6 +5,7 @@ pub mod Joining
 pub mod Places
 pub mod Threaded
 pub mod Ranked
+pub mod Movers
 pub mod Worlds
 pub mod Pushed
 pub mod Bounds

@@ -3,20 +3,20 @@ use Rattle.std.proofs.Common.{◌≡◌, ℕ, ◌+◌, Bool, false, List, [], �
 use Rattle.std.proofs.lemmas.Bool.{cases_lt}
 use Rattle.std.proofs.lemmas.List.{map-append, length-map, append-nil}
 use Rattle.list_laws.proofs.Lists.{within, get_once, get_last, get_before}
-use Rattle.convey.specs.Buffers.{in_of}
 use Rattle.round_program.specs.Rules.{Rules}
 use Rattle.round_program.specs.Canonical.{InRound}
+use Rattle.rank_node.specs.Movers.{Manner, dims_of, rank_of, epoch_in, manner_in, HasCap, NoneUnread}
 use Rattle.rank_node.specs.Nodes.{NodeState, IsNode}
 use Rattle.rank_group.specs.Ranks.{RankState}
 use Rattle.rank_group.specs.Drives.{progs_of, IsFresh, AreFresh}
 
 -- ranks for the programs so far
-pub record Making {S : Type 0} (R : Rules S) (dims : List ℕ) (steady : Bool) (starts rest : List S) (rs : List (RankState S)) : Type 0 where
+pub record Making {S : Type 0} (R : Rules S) (dims : List ℕ) (cap : ℕ) (manner : Manner) (starts rest : List S) (rs : List (RankState S)) : Type 0 where
   pub left : starts ≡ progs_of rs ++ rest
-  pub each : (r : ℕ) (n : RankState S) → slice_get rs r ≡ Some n → IsFresh R dims steady r n
+  pub each : (r : ℕ) (n : RankState S) → slice_get rs r ≡ Some n → IsFresh R dims cap manner r n
 
-pub making_none : {S : Type 0} (R : Rules S) (dims : List ℕ) (steady : Bool) (starts : List S) → Making R dims steady starts starts []
-making_none R dims steady starts = record { left = refl; each = λ r n at. absurd (omega (arith, within [] r n at)) }
+pub making_none : {S : Type 0} (R : Rules S) (dims : List ℕ) (cap : ℕ) (manner : Manner) (starts : List S) → Making R dims cap manner starts starts []
+making_none R dims cap manner starts = record { left = refl; each = λ r n at. absurd (omega (arith, within [] r n at)) }
 
 at_end : {X : Type 0} (xs ys : List X) (q : X) → slice_get (xs ++ q ∷ ys) (length xs) ≡ Some q
 at_end [] ys q = refl
@@ -34,7 +34,7 @@ none_of : {X : Type 0} (xs : List X) → slice_get xs 0 ≡ None → xs ≡ []
 none_of [] e = refl
 none_of (x ∷ xs) e = absurd (cc)
 
-module _ {S : Type 0} (R : Rules S) (dims : List ℕ) (steady : Bool) (starts rest : List S) (rs : List (RankState S)) (f : Making R dims steady starts rest rs) where
+module _ {S : Type 0} (R : Rules S) (dims : List ℕ) (cap : ℕ) (manner : Manner) (starts rest : List S) (rs : List (RankState S)) (f : Making R dims cap manner starts rest rs) where
   -- the next program is that of the next rank
   pub next_prog : (q : S) → slice_get rest 0 ≡ Some q → slice_get starts (length rs) ≡ Some q
   next_prog q at =
@@ -42,15 +42,16 @@ module _ {S : Type 0} (R : Rules S) (dims : List ℕ) (steady : Bool) (starts re
       ∙ (ap (slice_get (progs_of rs ++ q ∷ drop 1 rest)) (sym (length-map rs (λ (n : RankState S). n.node.run.prog))) ∙ at_end (progs_of rs) (drop 1 rest) q)
 
   pub making_more : (p : ℕ) (shape : List ℕ) (most : ℕ) (rest' : List S) (rs' : List (RankState S)) (q : S) (n : NodeState S) → InRound R p 0 shape most starts → slice_get rest 0 ≡ Some q → rest' ≡ drop 1 rest
-      → rs' ≡ rs ++ record { node = n; over = false } ∷ [] → IsNode R (λ m. q) n (λ l. []) (λ l. []) → n.run.prog ≡ q → n.conveyor.dims ≡ dims → n.conveyor.rank ≡ R.rank q → n.conveyor.steady ≡ steady → n.conveyor.epoch ≡ 0
-      → ((l : ℕ) → (in_of n.conveyor l).parcel.untaken ≡ []) → Making R dims steady starts rest' rs'
-  making_more p shape most rest' rs' q n all at gone more node np nd nr ns epoch unread =
+      → rs' ≡ rs ++ record { node = n; over = false } ∷ [] → IsNode R (λ m. q) n (λ l. []) (λ l. []) → n.run.prog ≡ q → dims_of n.mover ≡ dims → rank_of n.mover ≡ R.rank q → manner_in n.mover ≡ manner → HasCap cap n.mover → epoch_in n.mover ≡ 0
+      → NoneUnread n.mover → Making R dims cap manner starts rest' rs'
+  making_more p shape most rest' rs' q n all at gone more node np nd nr ns nc epoch unread =
       let x : RankState S = record { node = n; over = false } in
-      let made : IsFresh R dims steady (length rs) x = record {
+      let made : IsFresh R dims cap manner (length rs) x = record {
         on = refl;
         same_dims = nd;
         same_rank = nr ∙ (all.each (length rs) q (next_prog q at)).own_rank;
-        same_steady = ns;
+        same_manner = ns;
+        same_cap = nc;
         epoch = epoch;
         node = subst (λ (s : S). IsNode R (λ m. s) n (λ l. []) (λ l. [])) (sym np) node;
         unread = unread;
@@ -64,11 +65,11 @@ module _ {S : Type 0} (R : Rules S) (dims : List ℕ) (steady : Bool) (starts re
           | inr past ↦
               let same : r ≡ length rs = omega (arith, past, within rs' r m now, ap length more, size) in
               let is : x ≡ m = get_once (rs ++ x ∷ []) (length rs) x m (get_last rs x) (ap (λ ns. slice_get ns (length rs)) (sym more) ∙ subst (λ i. slice_get rs' i ≡ Some m) same now) in
-              subst (λ i. IsFresh R dims steady i m) (sym same) (subst (λ y. IsFresh R dims steady (length rs) y) is made)
+              subst (λ i. IsFresh R dims cap manner i m) (sym same) (subst (λ y. IsFresh R dims cap manner (length rs) y) is made)
         ];
       }
 
-  pub making_all : slice_get rest 0 ≡ None → AreFresh R dims steady starts rs
+  pub making_all : slice_get rest 0 ≡ None → AreFresh R dims cap manner starts rs
   making_all none = record { programs = sym (f.left ∙ (ap (λ ys. progs_of rs ++ ys) (none_of rest none) ∙ append-nil (progs_of rs))); each = f.each }
 
 -- the programs of the ranks so far

@@ -19,15 +19,16 @@ use Rattle.port_bank.specs.Shapes.{IsConveyorShape}
 use Rattle.port_bank.proofs.Fronts.{begins_shorter, begins_flat_map}
 use Rattle.port_bank.proofs.Pipeline.{Keeps}
 use Rattle.port_bank.proofs.Routes.{numbered}
-use Rattle.convey.specs.Agreement.{lasts_in}
-use Rattle.convey.specs.Buffers.{out_of}
-use Rattle.convey.specs.Law.{ClosesLaw}
+use Rattle.rank_group.specs.Closes.{ClosesLaws}
 use Rattle.convey.proofs.OneRank.{starting-own}
 use Rattle.round_program.specs.Rules.{Rules}
 use Rattle.round_program.specs.Laws.{Laws}
 use Rattle.round_program.specs.Canonical.{HasRounds, InRound}
+use Rattle.rank_node.specs.Movers.{epoch_in}
+use Rattle.rank_node.specs.Movers.Manner.{ByConveyor}
 use Rattle.rank_group.specs.Ranks.{RankState, HasRank}
-use Rattle.rank_group.proofs.Bounded.{all_flat}
+use Rattle.rank_group.proofs.Movers.{lasts_low}
+use Rattle.rank_group.proofs.Bounded.{all_flat, all_segment}
 use Rattle.rank_group.proofs.Bounds.{pushed_all, none_past}
 use Rattle.rank_group.proofs.Counted.{by_segments, pushed_in, all_links, log_short}
 use Rattle.rank_group.proofs.Pushed.{items_before}
@@ -38,26 +39,12 @@ total_times : (n k : ℕ) (f : ℕ → ℕ) → total n (λ e. k * f e) ≡ k * 
 total_times zero k f = omega arith
 total_times (suc n) k f = ap (λ t. t + k * f n) (total_times n k f) ∙ sym (mul-add k (total n f) (f n))
 
-all_segment : (P : Shipped → Type 0) (e : ℕ) (log : List Shipped) → All P log → All P (segment e log)
-all_segment P e [] a = subst (All P) (sym (none e)) a where
-  none : (e : ℕ) → segment e [] ≡ []
-  none zero = refl
-  none (suc e) = refl
-all_segment P zero (p ∷ ps) a = by p.last (all_segment P zero ps (all_tail P p ps a)) where
-  by : (b : Bool) → All P (segment zero ps) → All P (p ∷ cond b [] (segment zero ps))
-  by true rest = All-cons P p [] (all_head P p ps a) (All-nil P)
-  by false rest = All-cons P p (segment zero ps) (all_head P p ps a) rest
-all_segment P (suc e) (p ∷ ps) a = by p.last (all_segment P e ps (all_tail P p ps a)) (all_segment P (suc e) ps (all_tail P p ps a)) where
-  by : (b : Bool) → All P (segment e ps) → All P (segment (suc e) ps) → All P (cond b (segment e ps) (segment (suc e) ps))
-  by true x y = x
-  by false x y = y
-
-module _ {S : Type 0} (R : Rules S) (laws : Laws R) (law : ClosesLaw) (dims : List ℕ) (cap slots : ℕ) (steady : Bool) (starts : List S) (h : ℕ → ℕ → S) (rs : List (RankState S)) (sent got : Logs) (w : World R dims cap slots steady starts h rs sent got)
+module _ {S : Type 0} (R : Rules S) (laws : Laws R) (law : ClosesLaws) (dims : List ℕ) (cap slots : ℕ) (steady : Bool) (starts : List S) (h : ℕ → ℕ → S) (rs : List (RankState S)) (sent got : Logs) (w : World R dims cap slots steady starts h rs sent got)
     (shape : List ℕ) (most n : ℕ) (start : InRound R (ranks dims) 0 shape most starts) (rounds : HasRounds R starts n) where
-  epoch_low : (s : ℕ) (x : RankState S) → slice_get rs s ≡ Some x → x.node.conveyor.epoch < 2 * n
+  epoch_low : (s : ℕ) (x : RankState S) → slice_get rs s ≡ Some x → epoch_in x.node.mover < 2 * n
   epoch_low s x at = elim (cases_Bool x.over) [
-    | inl t ↦ let e = (over_at_last R laws law dims cap slots steady starts h rs sent got w.ranked shape most n start rounds s x at t).0 in omega (arith, e)
-    | inr f ↦ still_within R laws law dims cap slots steady starts h rs sent got w.ranked shape most n start rounds s x at f
+    | inl t ↦ let e = (over_at_last R laws law dims cap slots (ByConveyor steady) starts h rs sent got w.ranked shape most n start rounds s x at t).0 in omega (arith, e)
+    | inr f ↦ still_within R laws law dims cap slots (ByConveyor steady) starts h rs sent got w.ranked shape most n start rounds s x at f
   ]
 
   keeps : Keeps dims sent got
@@ -76,16 +63,12 @@ module _ {S : Type 0} (R : Rules S) (laws : Laws R) (law : ClosesLaw) (dims : Li
       let s : ℕ = sender_at dims l in
       let from : s < ranks dims = k.is_link.sender in
       let x : (x : RankState S) × (slice_get rs s ≡ Some x) = find rs s (omega (arith, from, w.ranked.all)) in
-      let has : HasRank R dims cap steady s (h s) x.0 sent got = w.ranked.each s x.0 x.1 in
-      let i : Core R dims s (h s) x.0 sent got = core R dims cap steady s (h s) x.0 sent got has in
-      let out = i.is.moving.agrees.outs l (subst (λ ds. l < links ds) (sym has.same_dims) below) (ap (λ ds. sender_at ds l) has.same_dims ∙ sym has.same_rank) in
+      let has : HasRank R dims cap (ByConveyor steady) s (h s) x.0 sent got = w.ranked.each s x.0 x.1 in
+      let i : Core R dims s (h s) x.0 sent got = core R dims cap (ByConveyor steady) s (h s) x.0 sent got has in
+      let few = lasts_low x.0.node.mover _ _ i.is.moving l (subst (λ ds. l < links ds) (sym has.same_dims) below) (ap (λ ds. sender_at ds l) has.same_dims ∙ sym has.same_rank) in
       let own : starting_at dims s sent l ≡ sent l = starting-own dims s sent l refl in
-      let few : lasts_in x.0.node.conveyor.epoch (out_of x.0.node.conveyor l).closed ≤ x.0.node.conveyor.epoch + 1 = one_more x.0.node.conveyor.epoch (out_of x.0.node.conveyor l).closed in
       let low = epoch_low s x.0 x.1 in
-      omega (arith, ap lasts own, out.lasts, few, low) where
-        one_more : (e : ℕ) (b : Bool) → lasts_in e b ≤ e + 1
-        one_more e true = omega arith
-        one_more e false = omega arith
+      omega (arith, ap lasts own, few, low)
 
   -- the entries that were sent
   sent_all : total (links dims) (λ l. length (entries_of (sent l))) ≤ length dims * items_before R (ranks dims) starts n
@@ -116,6 +99,6 @@ module _ {S : Type 0} (R : Rules S) (laws : Laws R) (law : ClosesLaw) (dims : Li
             let e = begins_shorter (entries_of (got l)) (entries_of (sent l)) (begins_flat_map (λ (p : Shipped). p.entries) (got l) (sent l) front) in
             let k = numbered dims l w.ranked.grid below in
             let x : (x : RankState S) × (slice_get rs (sender_at dims l) ≡ Some x) = find rs (sender_at dims l) (let from = k.is_link.sender in omega (arith, from, w.ranked.all)) in
-            let s = log_short steady cap (sent l) w.some (subst (IsConveyorShape steady cap) (starting-own dims (sender_at dims l) sent l refl) ((w.ranked.each (sender_at dims l) x.0 x.1).shape l)) in
+            let s = log_short steady cap (sent l) w.some (subst (IsConveyorShape steady cap) (starting-own dims (sender_at dims l) sent l refl) ((w.ranked.each (sender_at dims l) x.0 x.1).shape l below refl)) in
             let f = lasts_few l below in
             omega (arith, g, e, s, f)

@@ -4,6 +4,7 @@ use Rattle.std.proofs.lemmas.Bool.{true≢false}
 use Rattle.link_slots.specs.Seen.{Manning, named, posted_on, collected_from}
 use Rattle.link_slots.proofs.Ported.{one_bank}
 use Rattle.round_program.specs.Rules.{Rules}
+use Rattle.rank_node.specs.Movers.{Manner, epoch_in}
 use Rattle.rank_group.specs.Ranks.{RankState, IsRank}
 use Rattle.rank_group.specs.Seats.{SeatedState, bank_of, Ran, IsAtPort}
 
@@ -14,16 +15,16 @@ neither false b e = (refl, e)
 
 -- a rank that wasn't turned
 pub ran_none : {S : Type 0} (R : Rules S) (cap : ℕ) (x : SeatedState S) → Ran R cap x x
-ran_none R cap x = record { bank = refl; number = refl; kept = λ steady h is. (h, refl, is) }
+ran_none R cap x = record { bank = refl; number = refl; kept = λ manner h is. (h, refl, is) }
 
 pub ran_on : {S : Type 0} (R : Rules S) (cap : ℕ) (x y z : SeatedState S) → Ran R cap x y → Ran R cap y z → Ran R cap x z
 ran_on R cap x y z a b =
     record {
       bank = b.bank ∙ a.bank;
       number = b.number ∙ a.number;
-      kept = λ steady h is.
-          let m = a.kept steady h is in
-          let n = b.kept steady m.0 m.2 in
+      kept = λ manner h is.
+          let m = a.kept manner h is in
+          let n = b.kept manner m.0 m.2 in
           (n.0, n.1 ∙ m.1, n.2);
     }
 
@@ -32,26 +33,26 @@ module _ {S : Type 0} (R : Rules S) (cap : ℕ) (first x y : SeatedState S) (at 
   pub stays_at : IsAtPort R cap (record { first = first; now = y })
   stays_at =
       let w = at.way in
-      let m = ran.kept w.steady w.h w.way in
-      record { way = record { steady = w.steady; h = m.0; way = m.2 }; ran = ran_on R cap first x y at.ran ran }
+      let m = ran.kept w.manner w.h w.way in
+      record { way = record { manner = w.manner; h = m.0; way = m.2 }; ran = ran_on R cap first x y at.ran ran }
 
 module _ {S : Type 0} (R : Rules S) (cap : ℕ) (x : SeatedState S) (rank : RankState S) (seat : Manning) (same : bank_of (record x { seat = seat }) ≡ bank_of x) (er : seat.rank ≡ x.seat.rank) where
   -- by a turn
-  pub turned : x.lost ≡ false → x.rank.over ≡ false → (rank.over ≡ false → rank.node.conveyor.epoch ≤ x.rank.node.conveyor.epoch + 1)
-      → ((steady : Bool) (h : ℕ → S) → IsRank R x.seat.shape.dims cap steady x.seat.rank h x.rank (posted_on x.seat) (collected_from x.seat)
-      → (g : ℕ → S) × (g 0 ≡ h 0) × IsRank R x.seat.shape.dims cap steady x.seat.rank g rank (posted_on seat) (collected_from seat))
+  pub turned : x.lost ≡ false → x.rank.over ≡ false → (rank.over ≡ false → epoch_in rank.node.mover ≤ epoch_in x.rank.node.mover + 1)
+      → ((manner : Manner) (h : ℕ → S) → IsRank R x.seat.shape.dims cap manner x.seat.rank h x.rank (posted_on x.seat) (collected_from x.seat)
+      → (g : ℕ → S) × (g 0 ≡ h 0) × IsRank R x.seat.shape.dims cap manner x.seat.rank g rank (posted_on seat) (collected_from seat))
       → Ran R cap x (record { rank = rank; seat = seat; turns = x.turns + 1; lost = x.lost })
   turned kept going epoch more =
       record {
         bank = same;
         number = er;
-        kept = λ steady h is.
-            let m = more steady h (is.runs kept) in (
+        kept = λ manner h is.
+            let m = more manner h (is.runs kept) in (
               m.0,
               m.1,
               record {
-                runs = λ q. subst (λ (b : _). IsRank R b.shape.dims cap steady seat.rank m.0 rank (posted_on seat) (collected_from seat)) (sym same)
-                    (subst (λ r. IsRank R x.seat.shape.dims cap steady r m.0 rank (posted_on seat) (collected_from seat)) (sym er) m.2);
+                runs = λ q. subst (λ (b : _). IsRank R b.shape.dims cap manner seat.rank m.0 rank (posted_on seat) (collected_from seat)) (sym same)
+                    (subst (λ r. IsRank R x.seat.shape.dims cap manner r m.0 rank (posted_on seat) (collected_from seat)) (sym er) m.2);
                 few = λ q on. let a = epoch on in let b = is.few kept going in omega (arith, a, b);
               },
             );
@@ -59,7 +60,7 @@ module _ {S : Type 0} (R : Rules S) (cap : ℕ) (x : SeatedState S) (rank : Rank
 
   -- and where memory was wanting nothing more is asked
   pub gave_up : Ran R cap x (record { rank = rank; seat = seat; turns = x.turns + 1; lost = true })
-  gave_up = record { bank = same; number = er; kept = λ steady h is. (h, refl, record { runs = λ q. absurd (true≢false q); few = λ q. absurd (true≢false q) }) }
+  gave_up = record { bank = same; number = er; kept = λ manner h is. (h, refl, record { runs = λ q. absurd (true≢false q); few = λ q. absurd (true≢false q) }) }
 
 -- seats of one bank, by what no turn changes
 pub one_place : {S : Type 0} (x : SeatedState S) (seat : Manning) → named seat.id ≡ named x.seat.id → seat.shape.dims ≡ x.seat.shape.dims → seat.shape.slots ≡ x.seat.shape.slots → bank_of (record x { seat = seat }) ≡ bank_of x

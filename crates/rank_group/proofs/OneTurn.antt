@@ -1,11 +1,12 @@
 -- What a turn leaves of one rank, over its own logs, whatever port it was turned at.
-use Rattle.std.proofs.Common.{◌≡◌, ℕ, ◌+◌, Bool, true, false, not, List, refl, sym, ap, subst, ◌∙◌, arith}
+use Rattle.std.proofs.Common.{◌≡◌, ℕ, ◌+◌, ◌<◌, Bool, true, false, not, List, refl, sym, ap, subst, ◌∙◌, arith}
 use Rattle.std.proofs.lemmas.Bool.{true≢false}
 use Rattle.port_bank.specs.Logs.{Logs}
-use Rattle.port_bank.specs.Shapes.{IsConveyorShape}
-use Rattle.convey.specs.Buffers.{in_of}
+use Rattle.route_tensor.specs.Link.{links}
+use Rattle.route_tensor.specs.Ends.{sender_at}
 use Rattle.round_program.specs.Rules.{Rules}
 use Rattle.rank_node.specs.Sending.{is_voting}
+use Rattle.rank_node.specs.Movers.{Manner, IsShape, dims_of, rank_of, epoch_in, manner_in, HasCap, SameUnread}
 use Rattle.rank_node.specs.Nodes.{NodeState, IsNode}
 use Rattle.rank_node.specs.Next.{extended, HasStopped}
 use Rattle.rank_group.specs.Ranks.{RankState, IsRank}
@@ -13,59 +14,66 @@ use Rattle.rank_node.proofs.Between.{extended_before}
 
 -- what a turn tells of a node
 pub record OneTurn {S : Type 0} (R : Rules S) (cap : ℕ) (n n' : NodeState S) (sent got sent' got' : Logs) : Type 0 where
-  pub dims : n'.conveyor.dims ≡ n.conveyor.dims
-  pub rank : n'.conveyor.rank ≡ n.conveyor.rank
-  pub steady : n'.conveyor.steady ≡ n.conveyor.steady
-  pub shape : (l : ℕ) → IsConveyorShape n.conveyor.steady cap (sent l) → IsConveyorShape n.conveyor.steady cap (sent' l)
+  pub dims : dims_of n'.mover ≡ dims_of n.mover
+  pub rank : rank_of n'.mover ≡ rank_of n.mover
+  pub manner : manner_in n'.mover ≡ manner_in n.mover
+  pub cap_is : HasCap cap n'.mover
+  pub shape : (l : ℕ) → l < links (dims_of n.mover) → sender_at (dims_of n.mover) l ≡ rank_of n.mover → IsShape (manner_in n.mover) cap (sent l) → IsShape (manner_in n.mover) cap (sent' l)
   pub kept : (h : ℕ → S) → IsNode R h n sent got → IsNode R h n' sent' got'
 
 -- what `next` tells
-pub record NextTold {S : Type 0} (R : Rules S) (n n' : NodeState S) (more : Bool) : Type 0 where
-  pub self_dims : n'.conveyor.dims ≡ n.conveyor.dims
-  pub self_rank : n'.conveyor.rank ≡ n.conveyor.rank
-  pub steady : n'.conveyor.steady ≡ n.conveyor.steady
-  pub epoch : more ≡ true → n'.conveyor.epoch ≡ n.conveyor.epoch + 1
-  pub unread : (l : ℕ) → (in_of n'.conveyor l).parcel.untaken ≡ (in_of n.conveyor l).parcel.untaken
+pub record NextTold {S : Type 0} (R : Rules S) (cap : ℕ) (n n' : NodeState S) (more : Bool) : Type 0 where
+  pub self_dims : dims_of n'.mover ≡ dims_of n.mover
+  pub self_rank : rank_of n'.mover ≡ rank_of n.mover
+  pub manner : manner_in n'.mover ≡ manner_in n.mover
+  pub cap_is : HasCap cap n'.mover
+  pub epoch : more ≡ true → epoch_in n'.mover ≡ epoch_in n.mover + 1
+  pub unread : SameUnread n.mover n'.mover
   pub votes : is_voting n.run.sends ≡ false → (more ≡ true) × ((h : ℕ → S) (sent got : Logs) → IsNode R h n sent got → IsNode R h n' sent got)
   pub work : is_voting n.run.sends ≡ true → more ≡ true → (h : ℕ → S) (sent got : Logs) → IsNode R h n sent got → IsNode R (extended h (n.run.round + 1) (R.ended n.run.prog n.run.sum)) n' sent got
-  pub stays : more ≡ false → n'.conveyor ≡ n.conveyor
+  pub stays : more ≡ false → n'.mover ≡ n.mover
   pub stopped : more ≡ false → (h : ℕ → S) (sent got : Logs) → IsNode R h n sent got → HasStopped R h n' sent got
 
-module _ {S : Type 0} (R : Rules S) (dims : List ℕ) (cap r : ℕ) (steady : Bool) (h : ℕ → S) (n : RankState S) (n1 : NodeState S) (sent got sent' got' : Logs)
-    (is : IsRank R dims cap steady r h n sent got) (on : n.over ≡ false) (t : OneTurn R cap n.node n1 sent got sent' got') where
-  shaped : (l : ℕ) → IsConveyorShape steady cap (sent' l)
-  shaped l = subst (λ b. IsConveyorShape b cap (sent' l)) is.same_steady (t.shape l (subst (λ b. IsConveyorShape b cap (sent l)) (sym is.same_steady) (is.shape l)))
+module _ {S : Type 0} (R : Rules S) (dims : List ℕ) (cap r : ℕ) (manner : Manner) (h : ℕ → S) (n : RankState S) (n1 : NodeState S) (sent got sent' got' : Logs)
+    (is : IsRank R dims cap manner r h n sent got) (on : n.over ≡ false) (t : OneTurn R cap n.node n1 sent got sent' got') where
+  shaped : (l : ℕ) → l < links dims → sender_at dims l ≡ r → IsShape manner cap (sent' l)
+  shaped l below own =
+      let b : l < links (dims_of n.node.mover) = subst (λ (ds : List ℕ). l < links ds) (sym is.same_dims) below in
+      let o : sender_at (dims_of n.node.mover) l ≡ rank_of n.node.mover = ap (λ (ds : List ℕ). sender_at ds l) is.same_dims ∙ (own ∙ sym is.same_rank) in
+      subst (λ b. IsShape b cap (sent' l)) is.same_manner (t.shape l b o (subst (λ b. IsShape b cap (sent l)) (sym is.same_manner) (is.shape l below own)))
 
   -- a rank that stays in its epoch
-  pub stays_in : (over : Bool) → over ≡ false → IsRank R dims cap steady r h (record { node = n1; over = over }) sent' got'
+  pub stays_in : (over : Bool) → over ≡ false → IsRank R dims cap manner r h (record { node = n1; over = over }) sent' got'
   stays_in over still =
       record {
         same_dims = t.dims ∙ is.same_dims;
         same_rank = t.rank ∙ is.same_rank;
-        same_steady = t.steady ∙ is.same_steady;
+        same_manner = t.manner ∙ is.same_manner;
+        same_cap = t.cap_is;
         runs = λ e. t.kept h (is.runs on);
         stopped = λ e. absurd (true≢false (sym e ∙ still));
         shape = shaped;
       }
 
   -- and one that goes on, where an epoch follows
-  pub goes_on : (n2 : NodeState S) (more : Bool) → NextTold R n1 n2 more → (g : ℕ → S) × (g 0 ≡ h 0) × IsRank R dims cap steady r g (record { node = n2; over = not more }) sent' got'
+  pub goes_on : (n2 : NodeState S) (more : Bool) → NextTold R cap n1 n2 more → (g : ℕ → S) × (g 0 ≡ h 0) × IsRank R dims cap manner r g (record { node = n2; over = not more }) sent' got'
   goes_on n2 more x = by more refl (is_voting n1.run.sends) refl where
     node1 : IsNode R h n1 sent' got'
     node1 = t.kept h (is.runs on)
 
-    has : (g : ℕ → S) → (not more ≡ false → IsNode R g n2 sent' got') → (not more ≡ true → HasStopped R g n2 sent' got') → IsRank R dims cap steady r g (record { node = n2; over = not more }) sent' got'
+    has : (g : ℕ → S) → (not more ≡ false → IsNode R g n2 sent' got') → (not more ≡ true → HasStopped R g n2 sent' got') → IsRank R dims cap manner r g (record { node = n2; over = not more }) sent' got'
     has g runs stopped =
         record {
           same_dims = x.self_dims ∙ (t.dims ∙ is.same_dims);
           same_rank = x.self_rank ∙ (t.rank ∙ is.same_rank);
-          same_steady = x.steady ∙ (t.steady ∙ is.same_steady);
+          same_manner = x.manner ∙ (t.manner ∙ is.same_manner);
+          same_cap = x.cap_is;
           runs = runs;
           stopped = stopped;
           shape = shaped;
         }
 
-    by : (b : Bool) → more ≡ b → (v : Bool) → is_voting n1.run.sends ≡ v → (g : ℕ → S) × (g 0 ≡ h 0) × IsRank R dims cap steady r g (record { node = n2; over = not more }) sent' got'
+    by : (b : Bool) → more ≡ b → (v : Bool) → is_voting n1.run.sends ≡ v → (g : ℕ → S) × (g 0 ≡ h 0) × IsRank R dims cap manner r g (record { node = n2; over = not more }) sent' got'
     by true m false v = (h, refl, has h (λ e. (x.votes v).1 h _ _ node1) (λ e. absurd (true≢false (sym e ∙ ap not m))))
     by true m true v =
         let g : ℕ → S = extended h (n1.run.round + 1) (R.ended n1.run.prog n1.run.sum) in

@@ -9,7 +9,7 @@ use Rattle.port_bank.specs.Logs.{Logs}
 use Rattle.port_bank.specs.Plain.{Bank, IsBank, unused, channel_at, sent_of, got_of}
 use Rattle.round_program.specs.Rules.{Rules}
 use Rattle.rank_group.specs.Ranks.{RankState, AfterRank, progress}
-use Rattle.rank_group.specs.Worlds.{World, moves, Lawful, Rests, Plan, SweptTo}
+use Rattle.rank_group.specs.Worlds.{World, moves, Lawful, RestsBy, Plan, SweptTo}
 use Rattle.rank_group.proofs.Swept.{moves_on, world_on, rests_here, rests_on}
 
 pub lawful : (cap : ℕ) (b : Bank) (dims : List ℕ) (slots : ℕ) → IsBank cap b → b.dims ≡ dims → b.slots ≡ slots → Lawful dims cap slots (sent_of b) (got_of b)
@@ -63,12 +63,12 @@ swept_more {S} R dims cap slots steady starts order i r rs0 rs rs' sent0 got0 se
                 let e : n'.0 ≡ x = get_once rs' r n'.0 x n'.1 (subst (λ q. slice_get rs' q ≡ Some x) now b) in
                 let f = v.forward r x0 n.0 (subst (λ q. slice_get rs0 q ≡ Some x0) now a) n.1 in
                 let p : progress n'.0 ≡ progress n.0 = omega (arith, f, t.forward, same, ap (λ y. progress y) e) in
-                subst (λ q. Rests dims slots q x.node.conveyor sent' got') (sym now)
-                (subst (λ (y : RankState S). Rests dims slots r y.node.conveyor sent' got') e
+                subst (λ q. RestsBy dims slots q x.node.mover sent' got') (sym now)
+                (subst (λ (y : RankState S). RestsBy dims slots r y.node.mover sent' got') e
                 (rests_here R dims cap slots steady starts v.h r n.0 n'.0 rs rs' sent got sent' got' w n.1 n'.1 others size t law level (ap (λ (y : RankState S). y.over) e ∙ still) p))
             | inr apart ↦
                 let before : j < i = omega (arith, below, not_last j apart at) in
-                rests_on R dims cap slots steady starts v.h r n.0 n'.0 rs rs' sent got sent' got' w n.1 n'.1 others size t law level k x.node.conveyor
+                rests_on R dims cap slots steady starts v.h r n.0 n'.0 rs rs' sent got sent' got' w n.1 n'.1 others size t law level k x.node.mover
                 (v.rests level0 j k before at x0 x a (sym (others k apart) ∙ b) still same)
           ];
     } where

@@ -16,6 +16,8 @@ use Rattle.link_slots.specs.View.{no_logs}
 use Rattle.link_slots.proofs.Opening.{no_sent, no_got}
 use Rattle.round_program.specs.Rules.{Rules}
 use Rattle.rank_group.specs.Ranks.{RankState, IsRank}
+use Rattle.rank_node.specs.Movers.{Manner}
+use Rattle.rank_group.proofs.Movers.{shape_none}
 use Rattle.rank_group.specs.Drives.{IsFresh, AreFresh}
 use Rattle.rank_group.specs.Seats.{SeatedState, IsSeated}
 use Rattle.rank_group.proofs.Joining.{one_less, next_is}
@@ -27,7 +29,7 @@ pub record Seating {S : Type 0} (R : Rules S) (cap : ℕ) (b : Bank) (gather : G
   pub count : number ≡ length taken
   pub none : (r : ℕ) → length taken ≤ r → r < ranks b.shape.dims → get_or gather.given r true ≡ false
   pub ranks_are : map (λ x. x.rank) xs ≡ taken
-  pub each : (steady : Bool) (starts : List S) → AreFresh R b.shape.dims steady starts all → (r : ℕ) (x : SeatedState S) → slice_get xs r ≡ Some x → IsSeated R cap steady b r x
+  pub each : (manner : Manner) (starts : List S) → AreFresh R b.shape.dims cap manner starts all → (r : ℕ) (x : SeatedState S) → slice_get xs r ≡ Some x → IsSeated R cap manner b r x
 
 module _ {S : Type 0} (R : Rules S) (cap : ℕ) (b : Bank) (gather : Gathering) (number : ℕ) (all taken rest now : List (RankState S)) (xs : List (SeatedState S)) (s : Seating R cap b gather number all taken now xs) where
   -- one more gets its seat
@@ -45,26 +47,27 @@ module _ {S : Type 0} (R : Rules S) (cap : ℕ) (b : Bank) (gather : Gathering) 
     size : length xs ≡ length taken
     size = sym (length-map xs (λ (y : SeatedState S). y.rank)) ∙ ap length s.ranks_are
 
-    pub seated : (steady : Bool) (starts : List S) → AreFresh R b.shape.dims steady starts all → IsSeated R cap steady b (length taken) x
-    seated steady starts fresh =
-        let f : IsFresh R b.shape.dims steady (length taken) rank = fresh.each (length taken) rank (next_is taken rest all now rank s.left is) in
+    pub seated : (manner : Manner) (starts : List S) → AreFresh R b.shape.dims cap manner starts all → IsSeated R cap manner b (length taken) x
+    seated manner starts fresh =
+        let f : IsFresh R b.shape.dims cap manner (length taken) rank = fresh.each (length taken) rank (next_is taken rest all now rank s.left is) in
         let h : ℕ → S = λ m. rank.node.run.prog in
-        let own : IsRank R b.shape.dims cap steady (length taken) h rank (λ l. []) (λ l. []) = record {
+        let own : IsRank R b.shape.dims cap manner (length taken) h rank (λ l. []) (λ l. []) = record {
           same_dims = f.same_dims;
           same_rank = f.same_rank;
-          same_steady = f.same_steady;
+          same_manner = f.same_manner;
+          same_cap = f.same_cap;
           runs = λ on. f.node;
           stopped = λ over. absurd (cc);
-          shape = λ l i d below. absurd (omega (arith, below));
+          shape = λ l below own. shape_none manner cap;
         } in
         record {
           bank = ap (λ (m : Manning). record { id = m.id; shape = m.shape }) seat_is;
           number = ap (λ (m : Manning). m.rank) seat_is ∙ s.count;
           way = record {
-            runs = λ kept. subst (λ ds. IsRank R ds cap steady seat.rank h rank (posted_on seat) (collected_from seat)) (sym (ap (λ (m : Manning). m.shape.dims) seat_is))
-                (subst (λ k. IsRank R b.shape.dims cap steady k h rank (posted_on seat) (collected_from seat)) (sym (ap (λ (m : Manning). m.rank) seat_is ∙ s.count))
-                (subst (λ (a : Logs). IsRank R b.shape.dims cap steady (length taken) h rank a (collected_from seat)) (sym none_sent)
-                (subst (λ (a : Logs). IsRank R b.shape.dims cap steady (length taken) h rank (λ l. []) a) (sym none_got) own)));
+            runs = λ kept. subst (λ ds. IsRank R ds cap manner seat.rank h rank (posted_on seat) (collected_from seat)) (sym (ap (λ (m : Manning). m.shape.dims) seat_is))
+                (subst (λ k. IsRank R b.shape.dims cap manner k h rank (posted_on seat) (collected_from seat)) (sym (ap (λ (m : Manning). m.rank) seat_is ∙ s.count))
+                (subst (λ (a : Logs). IsRank R b.shape.dims cap manner (length taken) h rank a (collected_from seat)) (sym none_sent)
+                (subst (λ (a : Logs). IsRank R b.shape.dims cap manner (length taken) h rank (λ l. []) a) (sym none_got) own)));
             few = λ kept on. let e = f.epoch in omega (arith, e);
           };
         }
@@ -79,13 +82,13 @@ module _ {S : Type 0} (R : Rules S) (cap : ℕ) (b : Bank) (gather : Gathering) 
               let late : length taken + 1 ≤ r = omega (arith, past, length-append taken (rank ∷ [])) in
               ap (λ (g : Gathering). get_or g.given r true) gave ∙ (get_or-set_other gather.given number r true true (λ e. omega (arith, e, s.count, late)) ∙ s.none r (omega (arith, late)) low);
           ranks_are = ap (map (λ (y : SeatedState S). y.rank)) more ∙ (map-append (λ (y : SeatedState S). y.rank) xs (x ∷ []) ∙ ap (λ ys. ys ++ rank ∷ []) s.ranks_are);
-          each = λ steady starts fresh r y at. elim (cases_lt r (length xs)) [
-            | inl low ↦ s.each steady starts fresh r y (sym (get_before xs (x ∷ []) r low) ∙ (ap (λ zs. slice_get zs r) (sym more) ∙ at))
+          each = λ manner starts fresh r y at. elim (cases_lt r (length xs)) [
+            | inl low ↦ s.each manner starts fresh r y (sym (get_before xs (x ∷ []) r low) ∙ (ap (λ zs. slice_get zs r) (sym more) ∙ at))
             | inr past ↦
                 let here : slice_get (xs ++ x ∷ []) r ≡ Some y = ap (λ zs. slice_get zs r) (sym more) ∙ at in
                 let e : r ≡ length xs = omega (arith, past, within (xs ++ x ∷ []) r y here, length-append xs (x ∷ [])) in
                 let same : x ≡ y = get_once (xs ++ x ∷ []) (length xs) x y (get_last xs x) (subst (λ k. slice_get (xs ++ x ∷ []) k ≡ Some y) e here) in
-                subst (λ z. IsSeated R cap steady b r z) same (subst (λ k. IsSeated R cap steady b k x) (sym (e ∙ size)) (seated steady starts fresh))
+                subst (λ z. IsSeated R cap manner b r z) same (subst (λ k. IsSeated R cap manner b k x) (sym (e ∙ size)) (seated manner starts fresh))
           ];
         }
 

@@ -19,6 +19,9 @@ use Rattle.rank_node.specs.declared.sends.Sends.TheVariants.{Emissions, Nothing,
 use Rattle.rank_node.specs.Sending.{votes_to}
 use Rattle.rank_node.specs.Runs.{HasTaken}
 use Rattle.rank_node.proofs.Ballots.{votes_each}
+use Rattle.rank_node.specs.Movers.{MoverState, dims_of, rank_of, manner_in, part_in}
+use Rattle.rank_node.specs.Movers.MoverState.{Conveying, Stacking}
+use Rattle.rank_node.specs.Movers.Manner.{ByConveyor}
 use Rattle.rank_group.proofs.Counted.{flow_alike}
 
 -- of the first so many items no more go to a rank
@@ -70,9 +73,10 @@ votes_few R p rank h round sends next prog sum spoiled part is m d to =
           omega (arith, ap length a, taken_few d next (votes_to q v), ap length b)
 
 -- what is sent of a pair on hop 1 is at most what its sender pushed
-pub flow_pushed : (dims : List ℕ) (c : State) (sent got : Logs) (s d e : ℕ) → IsGrid dims → c.dims ≡ dims → c.rank ≡ s → s < ranks dims → d < ranks dims
-    → length (flow dims sent s d 1 e) ≤ length ((part_of (buffers_of c) (starting_at dims s sent) (ending_at dims s got)).pushed e d)
-flow_pushed dims c sent got s d e g ds rs from to =
+pub flow_pushed : (dims : List ℕ) (m : MoverState) (steady : Bool) (sent got : Logs) (s d e : ℕ) → IsGrid dims → manner_in m ≡ ByConveyor steady → dims_of m ≡ dims → rank_of m ≡ s → s < ranks dims → d < ranks dims
+    → length (flow dims sent s d 1 e) ≤ length ((part_in m (starting_at dims s sent) (ending_at dims s got)).pushed e d)
+flow_pushed dims (Stacking cap x) steady sent got s d e g k ds rs from to = absurd (cc)
+flow_pushed dims (Conveying c) steady sent got s d e g k ds rs from to =
     let b = buffers_of c in
     let own : starting_at dims s sent (hop_link dims s d 1) ≡ sent (hop_link dims s d 1) = starting-own dims s sent (hop_link dims s d 1) (first_link dims s d g from to).sender in
     let low : d < ranks c.dims = subst (λ ns. d < ranks ns) (sym ds) to in

@@ -5,21 +5,20 @@ use Rattle.std.proofs.lemmas.Bool.{cases_Bool, true≢false}
 use Rattle.std.proofs.lemmas.List.{append-nil}
 use Rattle.item_buffer.specs.Contents.{Shipped}
 use Rattle.route_tensor.specs.Link.{links}
-use Rattle.route_tensor.specs.Ends.{reader_at}
+use Rattle.route_tensor.specs.Ends.{sender_at, reader_at}
 use Rattle.port_bank.specs.Logs.{Logs, starting_at, ending_at}
 use Rattle.port_bank.specs.Flow.{Begins}
 use Rattle.port_bank.specs.Port.{Rest}
-use Rattle.port_bank.specs.Shapes.{IsConveyorShape}
 use Rattle.port_bank.specs.Plain.{Bank, sent_of, got_of, others_of, crowded_of, idle_of}
-use Rattle.hop_core.specs.declared.phase.Phase.TheVariants.{Complete}
-use Rattle.hop_core.specs.State.{State}
-use Rattle.convey.specs.Buffers.{in_of}
 use Rattle.round_program.specs.Rules.{Rules}
 use Rattle.rank_node.specs.declared.turn.Turn.{Turn}
 use Rattle.rank_node.specs.declared.turn.Turn.TheVariants.{Going, Ended}
+use Rattle.rank_node.specs.Movers.{MoverState, Manner, IsShape, dims_of, rank_of, epoch_in, manner_in, has_completed, HasCap, lying, SameUnread}
+use Rattle.rank_node.specs.Movers.MoverState.{Conveying, Stacking}
+use Rattle.rank_node.specs.Runs.{Running}
 use Rattle.rank_node.specs.Nodes.{NodeState, IsNode}
-use Rattle.rank_node.specs.Stuck.{IsStuck}
-use Rattle.rank_group.specs.Ranks.{RankState, HasRank, AfterTurn, AfterRank, progress}
+use Rattle.rank_node.specs.Moves.{Leaves, Waits}
+use Rattle.rank_group.specs.Ranks.{RankState, HasRank, AfterTurn, AfterRank, IsLeftBy, progress}
 use Rattle.rank_group.proofs.OneTurn.{OneTurn, NextTold, stays_in, goes_on}
 
 -- what a turn tells over the port of rank r of a bank, where the port after it is that of rank r' of another
@@ -27,23 +26,44 @@ pub record PortTurn {S : Type 0} (R : Rules S) (cap : ℕ) (turn : Turn) (n n' :
   pub dims : b'.dims ≡ b.dims
   pub slots : b'.slots ≡ b.slots
   pub rest : others_of r' b' ≡ others_of r b
-  pub node_dims : n'.conveyor.dims ≡ n.conveyor.dims
-  pub node_rank : n'.conveyor.rank ≡ n.conveyor.rank
-  pub node_steady : n'.conveyor.steady ≡ n.conveyor.steady
-  pub node_epoch : n'.conveyor.epoch ≡ n.conveyor.epoch
+  pub node_dims : dims_of n'.mover ≡ dims_of n.mover
+  pub node_rank : rank_of n'.mover ≡ rank_of n.mover
+  pub node_manner : manner_in n'.mover ≡ manner_in n.mover
+  pub node_cap : HasCap cap n'.mover
+  pub node_epoch : epoch_in n'.mover ≡ epoch_in n.mover
   pub sent_grows : (l : ℕ) → Begins (starting_at b.dims r (sent_of b) l) (starting_at b'.dims r' (sent_of b') l)
   pub got_grows : (l : ℕ) → Begins (ending_at b.dims r (got_of b) l) (ending_at b'.dims r' (got_of b') l)
-  pub shape : (l : ℕ) → IsConveyorShape n.conveyor.steady cap (starting_at b.dims r (sent_of b) l) → IsConveyorShape n.conveyor.steady cap (starting_at b'.dims r' (sent_of b') l)
-  pub lies : (l : ℕ) (more : List Shipped) → l < links n.conveyor.dims → reader_at n.conveyor.dims l ≡ n.conveyor.rank → ending_at b'.dims r' (got_of b') l ≡ ending_at b.dims r (got_of b) l ++ more
-      → length (in_of n'.conveyor l).parcel.untaken ≤ length (in_of n.conveyor l).parcel.untaken + length (flat_map (λ p. p.entries) more)
+  pub shape : (l : ℕ) → l < links (dims_of n.mover) → sender_at (dims_of n.mover) l ≡ rank_of n.mover → IsShape (manner_in n.mover) cap (starting_at b.dims r (sent_of b) l) → IsShape (manner_in n.mover) cap (starting_at b'.dims r' (sent_of b') l)
+  pub leaves : Leaves R cap n.run n'.run n.mover n'.mover (starting_at b.dims r (sent_of b)) (ending_at b.dims r (got_of b)) (ending_at b'.dims r' (got_of b'))
   pub kept : (h : ℕ → S) → IsNode R h n (starting_at b.dims r (sent_of b)) (ending_at b.dims r (got_of b)) → IsNode R h n' (starting_at b'.dims r' (sent_of b')) (ending_at b'.dims r' (got_of b'))
-  pub ended : turn ≡ Ended → n'.conveyor.phase ≡ Complete
-  pub going : turn ≡ Going → n'.conveyor.phase ≢ Complete
-  pub stuck : (h : ℕ → S) → IsNode R h n (starting_at b.dims r (sent_of b)) (ending_at b.dims r (got_of b))
-      → ((l : ℕ) → starting_at b'.dims r' (sent_of b') l ≡ starting_at b.dims r (sent_of b) l) → ((l : ℕ) → ending_at b'.dims r' (got_of b') l ≡ ending_at b.dims r (got_of b) l)
-      → IsStuck n.conveyor n'.conveyor (starting_at b.dims r (sent_of b)) (ending_at b.dims r (got_of b)) (starting_at b'.dims r' (sent_of b')) (ending_at b'.dims r' (got_of b')) (crowded_of r' b') (idle_of r' b')
+  pub ended : turn ≡ Ended → has_completed n'.mover ≡ true
+  pub going : turn ≡ Going → has_completed n'.mover ≡ false
+  pub waits : Waits R n.run n.mover n'.mover (starting_at b.dims r (sent_of b)) (ending_at b.dims r (got_of b)) (starting_at b'.dims r' (sent_of b')) (ending_at b'.dims r' (got_of b')) (crowded_of r' b') (idle_of r' b')
 
-pub after_turn : {S : Type 0} (R : Rules S) (cap r : ℕ) (turn : Turn) (n n' : NodeState S) (b b' : Bank) (q q' : ℕ) → q ≡ r → q' ≡ q → n.conveyor.dims ≡ b.dims → n.conveyor.rank ≡ r → PortTurn R cap turn n n' b q b' q'
+-- an inbox holds at most what it held and what came
+lies_by : {S : Type 0} (R : Rules S) (cap : ℕ) (run run' : Running S) (m m' : MoverState) (sent got got' : Logs) → Leaves R cap run run' m m' sent got got'
+    → (l : ℕ) (more : List Shipped) → l < links (dims_of m) → reader_at (dims_of m) l ≡ rank_of m → got' l ≡ got l ++ more → lying m' l ≤ lying m l + length (flat_map (λ p. p.entries) more)
+lies_by R cap run run' (Conveying c) (Conveying c') sent got got' x = x.lies
+lies_by R cap run run' (Conveying c) (Stacking k y) sent got got' x = absurd x
+lies_by R cap run run' (Stacking k y) (Conveying c) sent got got' x = absurd x
+lies_by R cap run run' (Stacking k y) (Stacking k' y') sent got got' x = λ l more below to is. omega arith
+
+-- a rank that a turn left in its epoch
+left_by : {S : Type 0} (R : Rules S) (h : ℕ → S) (run : Running S) (m m' : MoverState) (sent got sent' got' : Logs) (is_crowded is_idle : ℕ → Bool) → Waits R run m m' sent got sent' got' is_crowded is_idle
+    → IsNode R h (record { run = run; mover = m }) sent got → ((l : ℕ) → sent' l ≡ sent l) → ((l : ℕ) → got' l ≡ got l) → has_completed m' ≡ false → epoch_in m' ≡ epoch_in m → IsLeftBy m m' sent got sent' got' is_crowded is_idle
+left_by R h run (Conveying c) (Conveying c') sent got sent' got' is_crowded is_idle w is s g going stays = record { stuck = w h is s g; going = going; stays = stays }
+left_by R h run (Conveying c) (Stacking k y) sent got sent' got' is_crowded is_idle w is s g going stays = absurd w
+left_by R h run (Stacking k y) (Conveying c) sent got sent' got' is_crowded is_idle w is s g going stays = absurd w
+left_by R h run (Stacking k y) (Stacking k' y') sent got sent' got' is_crowded is_idle w is s g going stays = record { waits = w; going = going; stays = stays }
+
+-- the same entries lie in an inbox
+same_lying : (m m' : MoverState) (l : ℕ) → SameUnread m m' → lying m' l ≡ lying m l
+same_lying (Conveying c) (Conveying c') l same = ap length (same l)
+same_lying (Conveying c) (Stacking k y) l same = absurd same
+same_lying (Stacking k y) (Conveying c) l same = absurd same
+same_lying (Stacking k y) (Stacking k' y') l same = refl
+
+pub after_turn : {S : Type 0} (R : Rules S) (cap r : ℕ) (turn : Turn) (n n' : NodeState S) (b b' : Bank) (q q' : ℕ) → q ≡ r → q' ≡ q → dims_of n.mover ≡ b.dims → rank_of n.mover ≡ r → PortTurn R cap turn n n' b q b' q'
     → AfterTurn R b.dims cap b.slots r turn n n' (sent_of b) (got_of b) (sent_of b') (got_of b')
 after_turn R cap r turn n n' b b' q q' own same nd nr told =
     let b'' : Bank = record { dims = b.dims; slots = b.slots; channels = b'.channels } in
@@ -55,16 +75,17 @@ after_turn R cap r turn n n' b b' q q' own same nd nr told =
       got_elsewhere = ap (λ (x : Rest). x.got) t.rest;
       node_dims = t.node_dims;
       node_rank = t.node_rank;
-      node_steady = t.node_steady;
+      node_manner = t.node_manner;
+      node_cap = t.node_cap;
       node_epoch = t.node_epoch;
       sent_grows = t.sent_grows;
       got_grows = t.got_grows;
-      shape = t.shape;
-      lies = λ l more below to. t.lies l more (subst (λ (d : List ℕ). l < links d) (sym nd) below) (subst (λ (d : List ℕ). reader_at d l ≡ n.conveyor.rank) (sym nd) (to ∙ sym nr));
+      shape = λ l below own. t.shape l (subst (λ (d : List ℕ). l < links d) (sym nd) below) (subst (λ (d : List ℕ). sender_at d l ≡ rank_of n.mover) (sym nd) (own ∙ sym nr));
+      lies = λ l more below to. lies_by R cap n.run n'.run n.mover n'.mover _ _ _ t.leaves l more (subst (λ (d : List ℕ). l < links d) (sym nd) below) (subst (λ (d : List ℕ). reader_at d l ≡ rank_of n.mover) (sym nd) (to ∙ sym nr));
       kept = t.kept;
       ended = t.ended;
       going = t.going;
-      stuck = t.stuck;
+      waits = t.waits;
     }
 
 module _ {S : Type 0} (R : Rules S) (dims : List ℕ) (cap slots r : ℕ) where
@@ -78,13 +99,21 @@ module _ {S : Type 0} (R : Rules S) (dims : List ℕ) (cap slots r : ℕ) where
         got_grows = λ l. record { rest = []; is = sym (append-nil (ending_at dims r got l)) };
         lies = λ l more below to is. omega arith;
         forward = omega arith;
-        kept = λ steady h is. (h, refl, is);
-        left = λ steady h is still. absurd (true≢false (sym over ∙ still));
+        kept = λ manner h is. (h, refl, is);
+        left = λ manner h is still. absurd (true≢false (sym over ∙ still));
       }
 
   -- a turn is one over the rank's own logs
-  own_turn : (turn : Turn) (n n' : NodeState S) (sent got sent' got' : Logs) → AfterTurn R dims cap slots r turn n n' sent got sent' got' → OneTurn R cap n n' (starting_at dims r sent) (ending_at dims r got) (starting_at dims r sent') (ending_at dims r got')
-  own_turn turn n n' sent got sent' got' t = record { dims = t.node_dims; rank = t.node_rank; steady = t.node_steady; shape = t.shape; kept = t.kept }
+  own_turn : (turn : Turn) (n n' : NodeState S) (sent got sent' got' : Logs) → dims_of n.mover ≡ dims → rank_of n.mover ≡ r → AfterTurn R dims cap slots r turn n n' sent got sent' got' → OneTurn R cap n n' (starting_at dims r sent) (ending_at dims r got) (starting_at dims r sent') (ending_at dims r got')
+  own_turn turn n n' sent got sent' got' nd nr t =
+      record {
+        dims = t.node_dims;
+        rank = t.node_rank;
+        manner = t.node_manner;
+        cap_is = t.node_cap;
+        shape = λ l below own. t.shape l (subst (λ (d : List ℕ). l < links d) nd below) (subst (λ (d : List ℕ). sender_at d l ≡ r) nd (own ∙ nr));
+        kept = t.kept;
+      }
 
   pub rank_going : (n : RankState S) (n' : NodeState S) (over : Bool) (sent got sent' got' : Logs) → n.over ≡ false → over ≡ false → AfterTurn R dims cap slots r Going n.node n' sent got sent' got'
       → AfterRank R dims cap slots r n (record { node = n'; over = over }) sent got sent' got'
@@ -95,26 +124,26 @@ module _ {S : Type 0} (R : Rules S) (dims : List ℕ) (cap slots r : ℕ) where
         sent_grows = t.sent_grows;
         got_grows = t.got_grows;
         lies = t.lies;
-        forward = let a : progress n ≡ n.node.conveyor.epoch = ap (λ b. cond b (n.node.conveyor.epoch + 1) n.node.conveyor.epoch) on in
-            let b : cond over (n'.conveyor.epoch + 1) n'.conveyor.epoch ≡ n'.conveyor.epoch = ap (λ b. cond b (n'.conveyor.epoch + 1) n'.conveyor.epoch) still in
+        forward = let a : progress n ≡ epoch_in n.node.mover = ap (λ b. cond b (epoch_in n.node.mover + 1) (epoch_in n.node.mover)) on in
+            let b : cond over (epoch_in n'.mover + 1) (epoch_in n'.mover) ≡ epoch_in n'.mover = ap (λ b. cond b (epoch_in n'.mover + 1) (epoch_in n'.mover)) still in
             omega (arith, a, b, t.node_epoch);
-        kept = λ steady h is. (h, refl, stays_in R dims cap r steady h n n' _ _ _ _ is on (own_turn Going n.node n' sent got sent' got' t) over still);
-        left = λ steady h is e same s g. record { stuck = t.stuck h (is.runs on) s g; going = t.going refl; stays = t.node_epoch };
+        kept = λ manner h is. (h, refl, stays_in R dims cap r manner h n n' _ _ _ _ is on (own_turn Going n.node n' sent got sent' got' is.same_dims is.same_rank t) over still);
+        left = λ manner h is e same s g. left_by R h n.node.run n.node.mover n'.mover _ _ _ _ _ _ t.waits (is.runs on) s g (t.going refl) t.node_epoch;
       }
 
 module _ {S : Type 0} (R : Rules S) (dims : List ℕ) (cap slots r : ℕ) (n : RankState S) (n1 n2 : NodeState S) (more : Bool) (sent got sent' got' : Logs)
-    (on : n.over ≡ false) (t : AfterTurn R dims cap slots r Ended n.node n1 sent got sent' got') (x : NextTold R n1 n2 more) where
-  ended_epoch : cond (not more) (n2.conveyor.epoch + 1) n2.conveyor.epoch ≡ n.node.conveyor.epoch + 1
+    (on : n.over ≡ false) (t : AfterTurn R dims cap slots r Ended n.node n1 sent got sent' got') (x : NextTold R cap n1 n2 more) where
+  ended_epoch : cond (not more) (epoch_in n2.mover + 1) (epoch_in n2.mover) ≡ epoch_in n.node.mover + 1
   ended_epoch = elim (cases_Bool more) [
-    | inl yes' ↦ ap (λ b. cond (not b) (n2.conveyor.epoch + 1) n2.conveyor.epoch) yes' ∙ (x.epoch yes' ∙ ap (λ e. e + 1) t.node_epoch)
-    | inr no' ↦ ap (λ b. cond (not b) (n2.conveyor.epoch + 1) n2.conveyor.epoch) no' ∙ (ap (λ (c : State). c.epoch + 1) (x.stays no') ∙ ap (λ e. e + 1) t.node_epoch)
+    | inl yes' ↦ ap (λ b. cond (not b) (epoch_in n2.mover + 1) (epoch_in n2.mover)) yes' ∙ (x.epoch yes' ∙ ap (λ e. e + 1) t.node_epoch)
+    | inr no' ↦ ap (λ b. cond (not b) (epoch_in n2.mover + 1) (epoch_in n2.mover)) no' ∙ (ap (λ m. epoch_in m + 1) (x.stays no') ∙ ap (λ e. e + 1) t.node_epoch)
   ]
 
   abbrev n' : RankState S
   n' = record { node = n2; over = not more }
 
-  ended_kept : (steady : Bool) (h : ℕ → S) → HasRank R dims cap steady r h n sent got → (g : ℕ → S) × (g 0 ≡ h 0) × HasRank R dims cap steady r g n' sent' got'
-  ended_kept steady h is = goes_on R dims cap r steady h n n1 _ _ _ _ is on (own_turn R dims cap slots r Ended n.node n1 sent got sent' got' t) n2 more x
+  ended_kept : (manner : Manner) (h : ℕ → S) → HasRank R dims cap manner r h n sent got → (g : ℕ → S) × (g 0 ≡ h 0) × HasRank R dims cap manner r g n' sent' got'
+  ended_kept manner h is = goes_on R dims cap r manner h n n1 _ _ _ _ is on (own_turn R dims cap slots r Ended n.node n1 sent got sent' got' is.same_dims is.same_rank t) n2 more x
 
   pub rank_ended : AfterRank R dims cap slots r n (record { node = n2; over = not more }) sent got sent' got'
   rank_ended =
@@ -123,12 +152,12 @@ module _ {S : Type 0} (R : Rules S) (dims : List ℕ) (cap slots r : ℕ) (n : R
         got_elsewhere = t.got_elsewhere;
         sent_grows = t.sent_grows;
         got_grows = t.got_grows;
-        lies = λ l xs below to is. omega (arith, t.lies l xs below to is, ap length (x.unread l));
-        forward = let a : progress n ≡ n.node.conveyor.epoch = ap (λ b. cond b (n.node.conveyor.epoch + 1) n.node.conveyor.epoch) on in
+        lies = λ l xs below to is. omega (arith, t.lies l xs below to is, same_lying n1.mover n2.mover l x.unread);
+        forward = let a : progress n ≡ epoch_in n.node.mover = ap (λ b. cond b (epoch_in n.node.mover + 1) (epoch_in n.node.mover)) on in
             let b = ended_epoch in
             omega (arith, a, b);
         kept = ended_kept;
-        left = λ steady h is e same. absurd (let a : progress n ≡ n.node.conveyor.epoch = ap (λ b. cond b (n.node.conveyor.epoch + 1) n.node.conveyor.epoch) on in
+        left = λ manner h is e same. absurd (let a : progress n ≡ epoch_in n.node.mover = ap (λ b. cond b (epoch_in n.node.mover + 1) (epoch_in n.node.mover)) on in
             let b = ended_epoch in
             omega (arith, a, b, same));
       }

@@ -13,17 +13,19 @@ use Rattle.hop_core.specs.State.{State}
 use Rattle.convey.specs.Buffers.{in_of, is_complete}
 use Rattle.convey.specs.Conveyors.{AgreesWith}
 use Rattle.convey.specs.Due.{IsOver, NextIs, next_link}
-use Rattle.convey.specs.Law.{ClosesLaw}
+use Rattle.rank_group.specs.Closes.{ClosesLaws}
 use Rattle.convey.specs.Rest.{IsBusy, IsAtRest, IsRestingSweep, RestLaw}
 use Rattle.convey.proofs.OneRank.{starting-own, ending-own}
 use Rattle.round_program.specs.Rules.{Rules}
 use Rattle.round_program.specs.Laws.{Laws}
 use Rattle.round_program.specs.Canonical.{HasRounds, InRound}
-use Rattle.rank_node.specs.Nodes.{IsMoving}
+use Rattle.rank_node.specs.Movers.{MoverState, dims_of, rank_of, epoch_in, manner_in, has_completed, IsConveying, IsMoving}
+use Rattle.rank_node.specs.Movers.MoverState.{Conveying, Stacking}
+use Rattle.rank_node.specs.Movers.Manner.{ByConveyor}
 use Rattle.rank_group.specs.Ranks.{RankState, progress, crowded_in}
-use Rattle.rank_node.proofs.Onward.{done_of_complete}
+use Rattle.rank_node.proofs.Onward.{done_of_completed, complete_is}
 use Rattle.rank_group.proofs.Worlds.{Core, core, still_within, over_at_last}
-use Rattle.rank_group.specs.Worlds.{nowhere, World, Rests, Plan}
+use Rattle.rank_group.specs.Worlds.{nowhere, World, Rests, RestsBy, Plan}
 
 -- a crowded link has parcels on their way
 busy : (dims : List ℕ) (slots r : ℕ) (sent got : Logs) (l : ℕ) → 0 < slots → sender_at dims l ≡ r → crowded_in dims slots r sent got l ≡ true → IsBusy sent got l
@@ -67,7 +69,7 @@ at_rest dims slots r c' sent got some x =
     }
 
 -- so is one whose epoch is over
-pub complete_rests : (dims : List ℕ) (r : ℕ) (c : State) (sent got : Logs) → c.dims ≡ dims → c.rank ≡ r → c.phase ≡ Complete → IsMoving c (starting_at dims r sent) (ending_at dims r got) → IsAtRest dims r c c sent got
+pub complete_rests : (dims : List ℕ) (r : ℕ) (c : State) (sent got : Logs) → c.dims ≡ dims → c.rank ≡ r → c.phase ≡ Complete → IsConveying c (starting_at dims r sent) (ending_at dims r got) → IsAtRest dims r c c sent got
 complete_rests dims r c sent got d q over is =
     let full : is_complete c.phase ≡ true = ap is_complete over in
     let below : (l : ℕ) → l < links dims → l < links c.dims = λ l b. subst (λ ds. l < links ds) (sym d) b in
@@ -78,7 +80,7 @@ complete_rests dims r c sent got d q over is =
       same_rank = refl;
       same_epoch = refl;
       agrees = is.agrees;
-      pushed = inl (done_of_complete c _ _ is over);
+      pushed = inl (done_of_completed (Conveying c) _ _ is full);
       read = λ l b e o. is.sound.all_read full l (below l b) (reader l e);
       lies = λ l b e. record { front = []; is = refl };
       kept = λ l b e o. omega arith;
@@ -96,10 +98,23 @@ complete_rests dims r c sent got d q over is =
       no_first : (y : Entry) (xs : List Entry) → xs ≡ [] → slice_get xs 0 ≡ Some y → ⊥
       no_first y xs none first = let b = within xs 0 y first in omega (arith, b, ap length none)
 
-module _ {S : Type 0} (R : Rules S) (laws : Laws R) (law : ClosesLaw) (rest : RestLaw) (dims : List ℕ) (cap slots : ℕ) (steady : Bool) (starts : List S) (h : ℕ → ℕ → S) (rs : List (RankState S)) (sent got : Logs) (w : World R dims cap slots steady starts h rs sent got)
+-- a rank over a conveyor
+pub record ByItsConveyor (dims : List ℕ) (r : ℕ) (m : MoverState) (sent got : Logs) : Type 0 where
+  pub c : State
+  pub is : m ≡ Conveying c
+  pub same_dims : c.dims ≡ dims
+  pub same_rank : c.rank ≡ r
+  pub moving : IsConveying c (starting_at dims r sent) (ending_at dims r got)
+
+by_conveyor : (dims : List ℕ) (r : ℕ) (steady : Bool) (m : MoverState) (sent got : Logs) → manner_in m ≡ ByConveyor steady → dims_of m ≡ dims → rank_of m ≡ r → IsMoving m (starting_at dims r sent) (ending_at dims r got)
+    → ByItsConveyor dims r m sent got
+by_conveyor dims r steady (Conveying c) sent got k same_dims same_rank is = record { c = c; is = refl; same_dims = same_dims; same_rank = same_rank; moving = is }
+by_conveyor dims r steady (Stacking cap x) sent got k same_dims same_rank is = absurd (cc)
+
+module _ {S : Type 0} (R : Rules S) (laws : Laws R) (law : ClosesLaws) (rest : RestLaw) (dims : List ℕ) (cap slots : ℕ) (steady : Bool) (starts : List S) (h : ℕ → ℕ → S) (rs : List (RankState S)) (sent got : Logs) (w : World R dims cap slots steady starts h rs sent got)
     (shape : List ℕ) (most n : ℕ) (start : InRound R (ranks dims) 0 shape most starts) (rounds : HasRounds R starts n) (some : 0 < slots) (e : ℕ) (before : e < 2 * n)
     (least : (r : ℕ) (x : RankState S) → slice_get rs r ≡ Some x → e ≤ progress x)
-    (rested : (r : ℕ) (x : RankState S) → slice_get rs r ≡ Some x → x.over ≡ false → progress x ≡ e → Rests dims slots r x.node.conveyor sent got) where
+    (rested : (r : ℕ) (x : RankState S) → slice_get rs r ≡ Some x → x.over ≡ false → progress x ≡ e → RestsBy dims slots r x.node.mover sent got) where
   -- what is known of the conveyor of rank r, just before its latest advance and just after it
   record Two (r : ℕ) (old new : State) : Type 0 where
     same_dims : new.dims ≡ dims
@@ -117,29 +132,31 @@ module _ {S : Type 0} (R : Rules S) (laws : Laws R) (law : ClosesLaw) (rest : Re
     by : (x : RankState S) → slice_get rs r ≡ Some x → (b : Bool) → x.over ≡ b → (old : State) × (new : State) × Two r old new
     by x at true over =
         let has = w.ranked.each r x at in
-        let i : Core R dims r (h r) x sent got = core R dims cap steady r (h r) x sent got has in
-        let last = (over_at_last R laws law dims cap slots steady starts h rs sent got w.ranked shape most n start rounds r x at over).0 in
-        let c = x.node.conveyor in (
-          c,
-          c,
+        let i : Core R dims r (h r) x sent got = core R dims cap (ByConveyor steady) r (h r) x sent got has in
+        let v = by_conveyor dims r steady x.node.mover sent got has.same_manner has.same_dims has.same_rank i.is.moving in
+        let last = (over_at_last R laws law dims cap slots (ByConveyor steady) starts h rs sent got w.ranked shape most n start rounds r x at over).0 in
+        let full : v.c.phase ≡ Complete = complete_is v.c.phase (sym (ap has_completed v.is) ∙ (has.stopped over).complete) in (
+          v.c,
+          v.c,
           record {
-            same_dims = has.same_dims;
-            same_rank = has.same_rank;
-            agrees = i.is.moving.agrees;
-            late = omega (arith, last, before);
-            turn = λ _. complete_rests dims r c sent got has.same_dims has.same_rank (has.stopped over).complete i.is.moving;
+            same_dims = v.same_dims;
+            same_rank = v.same_rank;
+            agrees = v.moving.agrees;
+            late = omega (arith, last, before, ap epoch_in v.is);
+            turn = λ _. complete_rests dims r v.c sent got v.same_dims v.same_rank full v.moving;
             left = λ y from on. absurd (true≢false (sym over ∙ (ap (λ (z : RankState S). z.over) (get_once rs r x y at from) ∙ on)));
           },
         )
     by x at false on =
         let has = w.ranked.each r x at in
         let i = has.runs on in
-        let c = x.node.conveyor in
-        let p : progress x ≡ c.epoch = ap (λ b. cond b (c.epoch + 1) c.epoch) on in
+        let v = by_conveyor dims r steady x.node.mover sent got has.same_manner has.same_dims has.same_rank i.moving in
+        let c = v.c in
+        let p : progress x ≡ c.epoch = ap (λ b. cond b (epoch_in x.node.mover + 1) (epoch_in x.node.mover)) on ∙ ap epoch_in v.is in
         let low' = least r x at in
         elim (cases_eq (progress x) e) [
           | inl here ↦
-              let q : Rests dims slots r c sent got = rested r x at on here in
+              let q : Rests dims slots r c sent got = subst (λ m. RestsBy dims slots r m sent got) v.is (rested r x at on here) in
               let s = q.left.stuck in
               let at_e : s.after.epoch ≡ e = s.epoch_after ∙ (s.epoch_before ∙ (q.same_epoch ∙ (sym p ∙ here))) in (
                 s.before,
@@ -150,16 +167,16 @@ module _ {S : Type 0} (R : Rules S) (laws : Laws R) (law : ClosesLaw) (rest : Re
                   agrees = s.agrees_after;
                   late = omega (arith, at_e);
                   turn = λ _. at_rest dims slots r c sent got some q;
-                  left = λ y from o k. (at_e, λ over. q.left.going (s.over over));
+                  left = λ y from o k. (at_e, λ over. true≢false (sym (ap is_complete (s.over over)) ∙ q.left.going));
                 },
               )
           | inr apart ↦ (
             c,
             c,
             record {
-              same_dims = has.same_dims;
-              same_rank = has.same_rank;
-              agrees = i.moving.agrees;
+              same_dims = v.same_dims;
+              same_rank = v.same_rank;
+              agrees = v.moving.agrees;
               late = omega (arith, p, low');
               turn = λ same. absurd (apart (p ∙ same));
               left = λ y from o k. absurd (apart (ap (λ (z : RankState S). progress z) (get_once rs r x y at from) ∙ k));
@@ -197,8 +214,8 @@ module _ {S : Type 0} (R : Rules S) (laws : Laws R) (law : ClosesLaw) (rest : Re
       ] where
         by : (b : Bool) → x.over ≡ b → progress x ≡ e → e + 1 ≤ progress x
         by true over here =
-            let last = (over_at_last R laws law dims cap slots steady starts h rs sent got w.ranked shape most n start rounds r x at over).0 in
-            let p : progress x ≡ x.node.conveyor.epoch + 1 = ap (λ b. cond b (x.node.conveyor.epoch + 1) x.node.conveyor.epoch) over in
+            let last = (over_at_last R laws law dims cap slots (ByConveyor steady) starts h rs sent got w.ranked shape most n start rounds r x at over).0 in
+            let p : progress x ≡ epoch_in x.node.mover + 1 = ap (λ b. cond b (epoch_in x.node.mover + 1) (epoch_in x.node.mover)) over in
             omega (arith, last, p, before)
         by false on here =
             let low : r < ranks dims = omega (arith, within rs r x at, w.ranked.all) in
@@ -206,10 +223,10 @@ module _ {S : Type 0} (R : Rules S) (laws : Laws R) (law : ClosesLaw) (rest : Re
             absurd (t.1 (rest dims cap slots e (λ k. (all_two k).0) (λ k. (all_two k).1) sent got sweep r low t.0))
 
 -- the epochs of a run are few
-pub epoch_few : {S : Type 0} (R : Rules S) → Laws R → ClosesLaw → (dims : List ℕ) (cap slots : ℕ) (steady : Bool) (starts : List S) (h : ℕ → ℕ → S) (rs : List (RankState S)) (sent got : Logs) → World R dims cap slots steady starts h rs sent got
-    → (n : ℕ) → Plan R dims slots starts n → (r : ℕ) (x : RankState S) → slice_get rs r ≡ Some x → x.node.conveyor.epoch < 2 ^ 63
+pub epoch_few : {S : Type 0} (R : Rules S) → Laws R → ClosesLaws → (dims : List ℕ) (cap slots : ℕ) (steady : Bool) (starts : List S) (h : ℕ → ℕ → S) (rs : List (RankState S)) (sent got : Logs) → World R dims cap slots steady starts h rs sent got
+    → (n : ℕ) → Plan R dims slots starts n → (r : ℕ) (x : RankState S) → slice_get rs r ≡ Some x → epoch_in x.node.mover < 2 ^ 63
 epoch_few R laws law dims cap slots steady starts h rs sent got w n p r x at =
     elim (cases_Bool x.over) [
-      | inl t ↦ let e = (over_at_last R laws law dims cap slots steady starts h rs sent got w.ranked p.shape p.most n p.start p.rounds r x at t).0 in omega (arith, e, p.few)
-      | inr f ↦ let e = still_within R laws law dims cap slots steady starts h rs sent got w.ranked p.shape p.most n p.start p.rounds r x at f in omega (arith, e, p.few)
+      | inl t ↦ let e = (over_at_last R laws law dims cap slots (ByConveyor steady) starts h rs sent got w.ranked p.shape p.most n p.start p.rounds r x at t).0 in omega (arith, e, p.few)
+      | inr f ↦ let e = still_within R laws law dims cap slots (ByConveyor steady) starts h rs sent got w.ranked p.shape p.most n p.start p.rounds r x at f in omega (arith, e, p.few)
     ]

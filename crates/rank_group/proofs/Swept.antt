@@ -9,17 +9,17 @@ use Rattle.route_tensor.specs.Link.{links}
 use Rattle.route_tensor.specs.Ends.{sender_at, reader_at}
 use Rattle.port_bank.specs.Logs.{Logs, starting_at, ending_at}
 use Rattle.port_bank.specs.Flow.{Begins}
-use Rattle.port_bank.specs.Shapes.{IsConveyorShape}
 use Rattle.port_bank.proofs.Owners.{sent_elsewhere, got_elsewhere}
-use Rattle.hop_core.specs.State.{State}
-use Rattle.convey.specs.Buffers.{in_of}
 use Rattle.convey.proofs.OneRank.{ending-own}
 use Rattle.round_program.specs.Rules.{Rules}
+use Rattle.rank_node.specs.Movers.{MoverState, Manner, IsShape, dims_of, rank_of, manner_in, lying}
+use Rattle.rank_node.specs.Movers.MoverState.{Conveying, Stacking}
+use Rattle.rank_node.specs.Movers.Manner.{ByConveyor}
 use Rattle.rank_node.specs.Nodes.{IsNode}
 use Rattle.rank_node.specs.Next.{HasStopped}
-use Rattle.rank_group.specs.Ranks.{RankState, HasRank, AfterRank, IsLeft, progress, crowded_in, idle_in}
+use Rattle.rank_group.specs.Ranks.{RankState, HasRank, AfterRank, IsLeftBy, progress, crowded_in, idle_in}
 use Rattle.rank_group.proofs.Sweeps.{begins_length, begins_whole}
-use Rattle.rank_group.specs.Worlds.{entries_of, conveyor_in, inbox, World, move_of, moves, Lawful, Rests}
+use Rattle.rank_group.specs.Worlds.{entries_of, mover_in, inbox, World, move_of, moves, Lawful, RestsBy}
 
 -- where a rank's own logs grow and the others stay, all grow
 grown : (own : ℕ → Bool) (old new : Logs) → ((l : ℕ) → Begins (cond (own l) (old l) []) (cond (own l) (new l) [])) → ((l : ℕ) → cond (own l) [] (new l) ≡ cond (own l) [] (old l)) → (l : ℕ) → Begins (old l) (new l)
@@ -29,16 +29,17 @@ grown own old new grows same l = pick (own l) (grows l) (same l) where
   pick false g s = record { rest = []; is = s ∙ sym (append-nil (old l)) }
 
 -- a rank of which nothing changed
-other_rank : {S : Type 0} (R : Rules S) (dims : List ℕ) (cap : ℕ) (steady : Bool) (r : ℕ) (h : ℕ → S) (n : RankState S) (sent got sent' got' : Logs) → starting_at dims r sent' ≡ starting_at dims r sent → ending_at dims r got' ≡ ending_at dims r got
-    → HasRank R dims cap steady r h n sent got → HasRank R dims cap steady r h n sent' got'
-other_rank R dims cap steady r h n sent got sent' got' es eg is =
+other_rank : {S : Type 0} (R : Rules S) (dims : List ℕ) (cap : ℕ) (manner : Manner) (r : ℕ) (h : ℕ → S) (n : RankState S) (sent got sent' got' : Logs) → starting_at dims r sent' ≡ starting_at dims r sent → ending_at dims r got' ≡ ending_at dims r got
+    → HasRank R dims cap manner r h n sent got → HasRank R dims cap manner r h n sent' got'
+other_rank R dims cap manner r h n sent got sent' got' es eg is =
     record {
       same_dims = is.same_dims;
       same_rank = is.same_rank;
-      same_steady = is.same_steady;
+      same_manner = is.same_manner;
+      same_cap = is.same_cap;
       runs = λ o. subst (λ f. IsNode R h n.node f (ending_at dims r got')) (sym es) (subst (IsNode R h n.node (starting_at dims r sent)) (sym eg) (is.runs o));
       stopped = λ o. subst (λ f. HasStopped R h n.node f (ending_at dims r got')) (sym es) (subst (HasStopped R h n.node (starting_at dims r sent)) (sym eg) (is.stopped o));
-      shape = λ l. subst (λ (f : Logs). IsConveyorShape steady cap (f l)) (sym es) (is.shape l);
+      shape = λ l below own. subst (λ (f : Logs). IsShape manner cap (f l)) (sym es) (is.shape l below own);
     }
 
 module _ {S : Type 0} (R : Rules S) (dims : List ℕ) (cap slots : ℕ) (steady : Bool) (starts : List S) (h : ℕ → ℕ → S) (r : ℕ) (n n' : RankState S) (rs rs' : List (RankState S)) (sent got sent' got' : Logs)
@@ -60,13 +61,13 @@ module _ {S : Type 0} (R : Rules S) (dims : List ℕ) (cap slots : ℕ) (steady 
   inbox_step : (l : ℕ) → l < links dims → inbox dims rs' l + length (entries_of (got l)) ≤ inbox dims rs l + length (entries_of (got' l))
   inbox_step l below = elim (cases_eq (reader_at dims l) r) [
     | inl here ↦
-        let was : inbox dims rs l ≡ length (in_of n.node.conveyor l).parcel.untaken = ap (λ k. length (in_of (conveyor_in (slice_get rs k)) l).parcel.untaken) here ∙ ap (λ o. length (in_of (conveyor_in o) l).parcel.untaken) at in
-        let now : inbox dims rs' l ≡ length (in_of n'.node.conveyor l).parcel.untaken = ap (λ k. length (in_of (conveyor_in (slice_get rs' k)) l).parcel.untaken) here ∙ ap (λ o. length (in_of (conveyor_in o) l).parcel.untaken) at' in
+        let was : inbox dims rs l ≡ lying n.node.mover l = ap (λ k. lying (mover_in (slice_get rs k)) l) here ∙ ap (λ o. lying (mover_in o) l) at in
+        let now : inbox dims rs' l ≡ lying n'.node.mover l = ap (λ k. lying (mover_in (slice_get rs' k)) l) here ∙ ap (λ o. lying (mover_in o) l) at' in
         let own : ending_at dims r got' l ≡ ending_at dims r got l ++ (got_grows l).rest = ending-own dims r got' l here ∙ ((got_grows l).is ∙ ap (λ g. g ++ (got_grows l).rest) (sym (ending-own dims r got l here))) in
         let less = t.lies l (got_grows l).rest below here own in
         omega (arith, was, now, less, entries_more l)
     | inr apart ↦
-        let same : inbox dims rs' l ≡ inbox dims rs l = ap (λ o. length (in_of (conveyor_in o) l).parcel.untaken) (others (reader_at dims l) apart) in
+        let same : inbox dims rs' l ≡ inbox dims rs l = ap (λ o. lying (mover_in o) l) (others (reader_at dims l) apart) in
         omega (arith, same, entries_more l)
   ]
 
@@ -108,7 +109,7 @@ module _ {S : Type 0} (R : Rules S) (dims : List ℕ) (cap slots : ℕ) (steady 
   -- all ranks after the turn
   pub world_on : (g : ℕ → ℕ → S) × World R dims cap slots steady starts g rs' sent' got'
   world_on =
-      let kept = t.kept steady (h r) (w.ranked.each r n at) in
+      let kept = t.kept (ByConveyor steady) (h r) (w.ranked.each r n at) in
       let g : ℕ → ℕ → S = λ k. cond (k == r) kept.0 (h k) in (
         g,
         record {
@@ -119,11 +120,11 @@ module _ {S : Type 0} (R : Rules S) (dims : List ℕ) (cap slots : ℕ) (steady 
             each = λ k x now. elim (cases_eq k r) [
               | inl here ↦
                   let e : n' ≡ x = get_once rs' r n' x at' (subst (λ q. slice_get rs' q ≡ Some x) here now) in
-                  subst (λ f. HasRank R dims cap steady k f x sent' got') (sym (ap (λ b. cond b kept.0 (h k)) (eq-eqb k r here)))
-                  (subst (λ q. HasRank R dims cap steady q kept.0 x sent' got') (sym here) (subst (λ y. HasRank R dims cap steady r kept.0 y sent' got') e kept.2))
+                  subst (λ f. HasRank R dims cap (ByConveyor steady) k f x sent' got') (sym (ap (λ b. cond b kept.0 (h k)) (eq-eqb k r here)))
+                  (subst (λ q. HasRank R dims cap (ByConveyor steady) q kept.0 x sent' got') (sym here) (subst (λ y. HasRank R dims cap (ByConveyor steady) r kept.0 y sent' got') e kept.2))
               | inr apart ↦
-                  subst (λ f. HasRank R dims cap steady k f x sent' got') (sym (ap (λ b. cond b kept.0 (h k)) (ne_eqb k r apart)))
-                  (other_rank R dims cap steady k (h k) x sent got sent' got' (sent_elsewhere dims r k sent sent' apart t.sent_elsewhere) (got_elsewhere dims r k got got' apart t.got_elsewhere) (w.ranked.each k x (sym (others k apart) ∙ now)))
+                  subst (λ f. HasRank R dims cap (ByConveyor steady) k f x sent' got') (sym (ap (λ b. cond b kept.0 (h k)) (ne_eqb k r apart)))
+                  (other_rank R dims cap (ByConveyor steady) k (h k) x sent got sent' got' (sent_elsewhere dims r k sent sent' apart t.sent_elsewhere) (got_elsewhere dims r k got got' apart t.got_elsewhere) (w.ranked.each k x (sym (others k apart) ∙ now)))
             ];
             begins = λ k s from. elim (cases_eq k r) [
               | inl here ↦ ap (λ b. cond b kept.0 (h k) 0) (eq-eqb k r here) ∙ (kept.1 ∙ (ap (λ q. h q 0) (sym here) ∙ w.ranked.begins k s from))
@@ -138,25 +139,26 @@ module _ {S : Type 0} (R : Rules S) (dims : List ℕ) (cap slots : ℕ) (steady 
       )
 
   -- the rank that was turned, where it stayed in its epoch and nothing moved
-  pub rests_here : moves dims rs' sent' got' ≤ moves dims rs sent got → n'.over ≡ false → progress n' ≡ progress n → Rests dims slots r n'.node.conveyor sent' got'
+  rests_by : (m m' : MoverState) → dims_of m ≡ dims → rank_of m ≡ r → manner_in m ≡ ByConveyor steady → ((l : ℕ) → l < links dims → reader_at dims l ≡ r → lying m l ≤ lying m' l)
+      → IsLeftBy m m' (starting_at dims r sent') (ending_at dims r got') (starting_at dims r sent') (ending_at dims r got') (crowded_in dims slots r sent' got') (idle_in dims r sent' got') → RestsBy dims slots r m' sent' got'
+  rests_by (Conveying c) (Conveying c') same_dims same_rank e kept left = record { c = c; same_dims = same_dims; same_rank = same_rank; same_epoch = sym left.stays; kept = kept; left = left }
+  rests_by (Conveying c) (Stacking k x) same_dims same_rank e kept left = absurd left
+  rests_by (Stacking k x) m' same_dims same_rank e kept left = absurd (cc)
+
+  pub rests_here : moves dims rs' sent' got' ≤ moves dims rs sent got → n'.over ≡ false → progress n' ≡ progress n → RestsBy dims slots r n'.node.mover sent' got'
   rests_here light on same =
       let has = w.ranked.each r n at in
       let es = sent_same light in
       let eg = got_same light in
-      let left = t.left steady (h r) has on same (λ l. ap (λ (f : Logs). starting_at dims r f l) es) (λ l. ap (λ (f : Logs). ending_at dims r f l) eg) in
-      record {
-        c = n.node.conveyor;
-        same_dims = has.same_dims;
-        same_rank = has.same_rank;
-        same_epoch = sym left.stays;
-        kept = λ l below to.
-            let was : inbox dims rs l ≡ length (in_of n.node.conveyor l).parcel.untaken = ap (λ k. length (in_of (conveyor_in (slice_get rs k)) l).parcel.untaken) to ∙ ap (λ o. length (in_of (conveyor_in o) l).parcel.untaken) at in
-            let now : inbox dims rs' l ≡ length (in_of n'.node.conveyor l).parcel.untaken = ap (λ k. length (in_of (conveyor_in (slice_get rs' k)) l).parcel.untaken) to ∙ ap (λ o. length (in_of (conveyor_in o) l).parcel.untaken) at' in
-            omega (arith, was, now, inbox_same light l below);
-        left = subst (λ f. IsLeft n.node.conveyor n'.node.conveyor (starting_at dims r f) (ending_at dims r got') (starting_at dims r sent') (ending_at dims r got') (crowded_in dims slots r sent' got') (idle_in dims r sent' got')) (sym es)
-            (subst (λ f. IsLeft n.node.conveyor n'.node.conveyor (starting_at dims r sent) (ending_at dims r f) (starting_at dims r sent') (ending_at dims r got') (crowded_in dims slots r sent' got') (idle_in dims r sent' got')) (sym eg) left);
-      }
+      let left = t.left (ByConveyor steady) (h r) has on same (λ l. ap (λ (f : Logs). starting_at dims r f l) es) (λ l. ap (λ (f : Logs). ending_at dims r f l) eg) in
+      rests_by n.node.mover n'.node.mover has.same_dims has.same_rank has.same_manner
+      (λ l below to.
+      let was : inbox dims rs l ≡ lying n.node.mover l = ap (λ k. lying (mover_in (slice_get rs k)) l) to ∙ ap (λ o. lying (mover_in o) l) at in
+      let now : inbox dims rs' l ≡ lying n'.node.mover l = ap (λ k. lying (mover_in (slice_get rs' k)) l) to ∙ ap (λ o. lying (mover_in o) l) at' in
+      omega (arith, was, now, inbox_same light l below))
+      (subst (λ f. IsLeftBy n.node.mover n'.node.mover (starting_at dims r f) (ending_at dims r got') (starting_at dims r sent') (ending_at dims r got') (crowded_in dims slots r sent' got') (idle_in dims r sent' got')) (sym es)
+      (subst (λ f. IsLeftBy n.node.mover n'.node.mover (starting_at dims r sent) (ending_at dims r f) (starting_at dims r sent') (ending_at dims r got') (crowded_in dims slots r sent' got') (idle_in dims r sent' got')) (sym eg) left))
 
   -- the ranks that rested go on resting
-  pub rests_on : moves dims rs' sent' got' ≤ moves dims rs sent got → (k : ℕ) (c : State) → Rests dims slots k c sent got → Rests dims slots k c sent' got'
-  rests_on light k c rest = subst (λ f. Rests dims slots k c f got') (sym (sent_same light)) (subst (Rests dims slots k c sent) (sym (got_same light)) rest)
+  pub rests_on : moves dims rs' sent' got' ≤ moves dims rs sent got → (k : ℕ) (m : MoverState) → RestsBy dims slots k m sent got → RestsBy dims slots k m sent' got'
+  rests_on light k m rest = subst (λ f. RestsBy dims slots k m f got') (sym (sent_same light)) (subst (RestsBy dims slots k m sent) (sym (got_same light)) rest)

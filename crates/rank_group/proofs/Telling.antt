@@ -10,26 +10,24 @@ use Rattle.route_tensor.specs.Ends.{sender_at, reader_at}
 use Rattle.port_bank.specs.Logs.{Logs, lasts, segment, starting_at, ending_at}
 use Rattle.port_bank.specs.Flow.{Begins, hop_link, flow, belongs, items_of}
 use Rattle.port_bank.specs.Round.{Round, logs_of, pushed, pulled, CloseLaw}
-use Rattle.port_bank.specs.Shapes.{IsConveyorShape}
 use Rattle.port_bank.proofs.Routes.{numbered}
 use Rattle.port_bank.proofs.Posts.{segment_then}
 use Rattle.port_bank.proofs.Segments.{lasts-append, lasts_first}
-use Rattle.hop_core.specs.State.{State}
-use Rattle.convey.specs.Agreement.{EndsLast, lasts_in}
-use Rattle.convey.specs.Buffers.{buffers_of, is_complete, out_of, in_of}
-use Rattle.convey.specs.Law.{ClosesLaw}
-use Rattle.convey.specs.Parts.{part_of, pushed_to}
-use Rattle.convey.proofs.OneRank.{OneRank, one_rank_of, starting-own, ending-own, first_link, last_link}
+use Rattle.convey.specs.Agreement.{EndsLast}
+use Rattle.rank_group.specs.Closes.{ClosesLaws}
+use Rattle.convey.proofs.OneRank.{starting-own, first_link, last_link}
 use Rattle.round_program.specs.Rules.{Rules}
 use Rattle.round_program.specs.Laws.{Laws}
 use Rattle.round_program.specs.Canonical.{emitted_of, emitted_by, absorbed_round, states_at, HasRounds, InRound}
 use Rattle.round_program.specs.Epochs.{IsCanonical}
+use Rattle.rank_node.specs.Movers.{Manner, IsShape, epoch_in, part_in}
 use Rattle.rank_node.specs.Next.{HasStopped}
 use Rattle.rank_group.specs.Ranks.{RankState, HasRank, AllRanks}
 use Rattle.rank_node.specs.Runs.{lists_of}
 use Rattle.rank_group.specs.Told.{Made, TellsRun, vote_sent}
 use Rattle.rank_group.proofs.Worlds.{canonical, over_at_last}
-use Rattle.rank_group.specs.Worlds.{progress_in, history_in, conveyor_in, part_at}
+use Rattle.rank_group.specs.Worlds.{progress_in, history_in, mover_in, part_at}
+use Rattle.rank_group.proofs.Movers.{Completed, completed}
 
 -- whether the latest parcel of a log is marked last
 closes : List Shipped → Bool
@@ -83,8 +81,8 @@ none_after e log ends low =
     let n : lasts log ≡ lasts ends.front + 1 = omega (arith, ap lasts ends.is, lasts-append ends.front (ends.final ∷ []), lasts_first ends.final [] true ends.last) in
     ap (segment e) ends.is ∙ (segment_then e ends.front ends.final (λ same. omega (arith, same, n, low)) ∙ segment_past ends.front e (omega (arith, n, low)))
 
-module _ {S : Type 0} (R : Rules S) (laws : Laws R) (law : ClosesLaw) (round : Round) (cap slots : ℕ) (steady : Bool) (starts : List S) (h : ℕ → ℕ → S) (rs : List (RankState S))
-    (w : AllRanks R round.dims cap slots steady starts h rs (logs_of round.sent) (logs_of round.got)) (close : CloseLaw round) (over : (r : ℕ) (x : RankState S) → slice_get rs r ≡ Some x → x.over ≡ true)
+module _ {S : Type 0} (R : Rules S) (laws : Laws R) (law : ClosesLaws) (round : Round) (cap slots : ℕ) (manner : Manner) (starts : List S) (h : ℕ → ℕ → S) (rs : List (RankState S))
+    (w : AllRanks R round.dims cap slots manner starts h rs (logs_of round.sent) (logs_of round.got)) (close : CloseLaw round) (over : (r : ℕ) (x : RankState S) → slice_get rs r ≡ Some x → x.over ≡ true)
     (shape : List ℕ) (most n : ℕ) (start : InRound R (ranks round.dims) 0 shape most starts) (rounds : HasRounds R starts n) where
   abbrev dims : List ℕ
   dims = round.dims
@@ -99,48 +97,39 @@ module _ {S : Type 0} (R : Rules S) (laws : Laws R) (law : ClosesLaw) (round : R
   record Stopped (r : ℕ) : Type 0 where
     x : RankState S
     at : slice_get rs r ≡ Some x
-    has : HasRank R dims cap steady r (h r) x sent got
-    is : HasStopped R (h r) x.node (starting_at dims r sent) (ending_at dims r got)
-    last : x.node.conveyor.epoch + 1 ≡ 2 * n
-    full : is_complete x.node.conveyor.phase ≡ true
+    last : epoch_in x.node.mover + 1 ≡ 2 * n
+    whole : Completed dims r x.node.mover sent got
+    shaped : (l : ℕ) → l < links dims → sender_at dims l ≡ r → IsShape manner cap (starting_at dims r sent l)
 
   stopped : (r : ℕ) → r < ranks dims → Stopped r
   stopped r low =
       let x : (x : RankState S) × (slice_get rs r ≡ Some x) = find rs r (omega (arith, low, w.all)) in
       let o = over r x.0 x.1 in
-      let has = w.each r x.0 x.1 in
-      let is = has.stopped o in
+      let has : HasRank R dims cap manner r (h r) x.0 sent got = w.each r x.0 x.1 in
+      let is : HasStopped R (h r) x.0.node (starting_at dims r sent) (ending_at dims r got) = has.stopped o in
       record {
         x = x.0;
         at = x.1;
-        has = has;
-        is = is;
-        last = (over_at_last R laws law dims cap slots steady starts h rs sent got w shape most n start rounds r x.0 x.1 o).0;
-        full = ap is_complete is.complete;
+        last = (over_at_last R laws law dims cap slots manner starts h rs sent got w shape most n start rounds r x.0 x.1 o).0;
+        whole = completed dims r x.0.node.mover sent got w.grid low has.same_dims has.same_rank is.node.moving is.complete;
+        shaped = has.shape;
       }
 
   -- each link has ended all epochs, at its sender
   record Out (l : ℕ) : Type 0 where
     ended : lasts (sent l) ≡ 2 * n
     by_last : EndsLast (sent l)
-    shaped : IsConveyorShape steady cap (sent l)
+    shaped : IsShape manner cap (sent l)
 
   out : (l : ℕ) → l < links dims → Out l
   out l below =
       let s : ℕ = sender_at dims l in
       let k = numbered dims l w.grid below in
       let t = stopped s k.is_link.sender in
-      let c : State = t.x.node.conveyor in
-      let low : l < links c.dims = subst (λ ds. l < links ds) (sym t.has.same_dims) below in
-      let from : sender_at c.dims l ≡ c.rank = ap (λ ds. sender_at ds l) t.has.same_dims ∙ sym t.has.same_rank in
-      let o = t.is.node.moving.agrees.outs l low from in
-      let closed : (out_of c l).closed ≡ true = t.is.node.moving.sound.all_closed t.full l low from in
-      let own : starting_at dims s sent l ≡ sent l = starting-own dims s sent l refl in
-      let count : lasts_in c.epoch (out_of c l).closed ≡ c.epoch + 1 = ap (lasts_in c.epoch) closed in
       record {
-        ended = sym (ap lasts own) ∙ (o.lasts ∙ (count ∙ t.last));
-        by_last = subst EndsLast own (o.by_last closed);
-        shaped = subst (IsConveyorShape steady cap) own (t.has.shape l);
+        ended = t.whole.out_lasts l below refl ∙ t.last;
+        by_last = t.whole.out_by_last l below refl;
+        shaped = subst (IsShape manner cap) (starting-own dims s sent l refl) (t.shaped l below refl);
       }
 
   -- and at its reader
@@ -149,14 +138,7 @@ module _ {S : Type 0} (R : Rules S) (laws : Laws R) (law : ClosesLaw) (round : R
       let r : ℕ = reader_at dims l in
       let k = numbered dims l w.grid below in
       let t = stopped r k.is_link.reader in
-      let c : State = t.x.node.conveyor in
-      let low : l < links c.dims = subst (λ ds. l < links ds) (sym t.has.same_dims) below in
-      let to : reader_at c.dims l ≡ c.rank = ap (λ ds. reader_at ds l) t.has.same_dims ∙ sym t.has.same_rank in
-      let i = t.is.node.moving.agrees.ins l low to in
-      let ended : (in_of c l).ended ≡ true = t.is.node.moving.sound.all_ended t.full l low to in
-      let own : ending_at dims r got l ≡ got l = ending-own dims r got l refl in
-      let count : lasts_in c.epoch (in_of c l).ended ≡ c.epoch + 1 = ap (lasts_in c.epoch) ended in
-      sym (ap lasts own) ∙ (i.lasts ∙ (count ∙ t.last))
+      t.whole.in_lasts l below refl ∙ t.last
 
   collected : (l : ℕ) → l < links dims → got l ≡ sent l
   collected l below = let o = out l below in whole (got l) (sent l) (w.links_keep l below).begins (got_all l below ∙ sym o.ended) o.by_last
@@ -165,23 +147,15 @@ module _ {S : Type 0} (R : Rules S) (laws : Laws R) (law : ClosesLaw) (round : R
   pushed_part : (e s d : ℕ) → e < 2 * n → s < ranks dims → d < ranks dims → pushed round e s d ≡ (part_at dims rs sent got s).pushed e d
   pushed_part e s d low from to =
       let t = stopped s from in
-      let c : State = t.x.node.conveyor in
-      let one : OneRank dims s (buffers_of c) sent got = one_rank_of dims s (buffers_of c) sent got t.has.same_dims t.has.same_rank w.grid from t.is.node.moving.sound t.is.node.moving.agrees in
-      let link = first_link dims s d w.grid from to in
-      let o = out (hop_link dims s d 1) link.below in
-      let sends : pushed_to (buffers_of c) (starting_at dims s sent) e d ≡ flow dims sent s d 1 e = one.pushed_ended e d to (omega (arith, low, o.ended)) in
-      let to' : d < ranks c.dims = subst (λ ds. d < ranks ds) (sym t.has.same_dims) to in
-      let part : (part_of (buffers_of c) (starting_at dims s sent) (ending_at dims s got)).pushed e d ≡ pushed_to (buffers_of c) (starting_at dims s sent) e d =
-      ap (λ b. cond b (pushed_to (buffers_of c) (starting_at dims s sent) e d) []) (lt-ltb d (ranks c.dims) to') in
-      sym (ap (λ o. (part_of (buffers_of (conveyor_in o)) (starting_at dims s sent) (ending_at dims s got)).pushed e d) t.at ∙ (part ∙ sends))
+      sym (ap (λ o. (part_in (mover_in o) (starting_at dims s sent) (ending_at dims s got)).pushed e d) t.at ∙ t.whole.pushed e d to (omega (arith, low, t.last)))
 
   run : IsCanonical R (ranks dims) starts (λ r. progress_in (slice_get rs r)) (λ r. history_in (h r) (slice_get rs r)) (λ r. lists_of (part_at dims rs sent got r))
-  run = canonical R laws law dims cap slots steady starts h rs sent got w shape most start
+  run = canonical R laws law dims cap slots manner starts h rs sent got w shape most start
 
   all_rounds : (r : ℕ) → r < ranks dims → progress_in (slice_get rs r) ≡ 2 * n
   all_rounds r low =
       let t = stopped r low in
-      ap progress_in t.at ∙ (ap (λ b. cond b (t.x.node.conveyor.epoch + 1) t.x.node.conveyor.epoch) (over r t.x t.at) ∙ t.last)
+      ap progress_in t.at ∙ (ap (λ b. cond b (epoch_in t.x.node.mover + 1) (epoch_in t.x.node.mover)) (over r t.x t.at) ∙ t.last)
 
   work : (m s d : ℕ) → m < n → s < ranks dims → d < ranks dims → pushed round (2 * m) s d ≡ emitted_by R (states_at R starts m) d s
   work m s d low from to =
@@ -211,7 +185,7 @@ module _ {S : Type 0} (R : Rules S) (laws : Laws R) (law : ClosesLaw) (round : R
             ap (items_of (belongs dims s d (length dims))) got_none ∙ sym (ap (items_of (belongs dims s d 1)) sent_none)
       ]
 
-  pub tells_run : (made : Made) → record { dims = round.dims; cap = round.cap; slots = round.slots; by_slots = round.by_slots } ≡ made → round.cap ≡ cap → TellsRun R starts n made steady round
+  pub tells_run : (made : Made) → record { dims = round.dims; cap = round.cap; slots = round.slots; by_slots = round.by_slots } ≡ made → round.cap ≡ cap → TellsRun R starts n made manner round
   tells_run made is same =
       record {
         bank = is;
@@ -221,5 +195,5 @@ module _ {S : Type 0} (R : Rules S) (laws : Laws R) (law : ClosesLaw) (round : R
         work = work;
         votes = votes;
         all_came = all_came;
-        shape = λ l below. subst (λ k. IsConveyorShape steady k (sent l)) (sym same) (out l below).shaped;
+        shape = λ l below. subst (λ k. IsShape manner k (sent l)) (sym same) (out l below).shaped;
       }

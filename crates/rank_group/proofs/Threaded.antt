@@ -13,6 +13,7 @@ use Rattle.link_slots.specs.Gathering.{Gathering}
 use Rattle.link_slots.specs.Seen.{Bank, Manning, posted_on, collected_from}
 use Rattle.round_program.specs.Rules.{Rules}
 use Rattle.round_program.specs.Canonical.{InRound}
+use Rattle.rank_node.specs.Movers.{Manner}
 use Rattle.rank_group.specs.Ranks.{RankState, IsRank, HasRank, AllRanks}
 use Rattle.rank_group.specs.Drives.{progs_of, AreFresh}
 use Rattle.rank_group.specs.Seats.{SeatedState, bank_of, IsOnWay, Ran, AllRan, IsSeated, AreSeated}
@@ -29,11 +30,11 @@ first_true true b e n = refl
 first_true false b e n = absurd (true≢false (sym e ∙ n))
 
 -- ranks that haven't turned sit at their bank
-pub seats_at : {S : Type 0} (R : Rules S) (cap : ℕ) (steady : Bool) (b : Bank) (xs : List (SeatedState S)) → AreSeated R cap steady b xs → All (λ x. bank_of x ≡ b) xs
-seats_at {S} R cap steady b xs seated = all_from_gets (λ (x : SeatedState S). bank_of x ≡ b) xs (λ r x at. (seated r x at).bank)
+pub seats_at : {S : Type 0} (R : Rules S) (cap : ℕ) (manner : Manner) (b : Bank) (xs : List (SeatedState S)) → AreSeated R cap manner b xs → All (λ x. bank_of x ≡ b) xs
+seats_at {S} R cap manner b xs seated = all_from_gets (λ (x : SeatedState S). bank_of x ≡ b) xs (λ r x at. (seated r x at).bank)
 
-module _ {S : Type 0} (R : Rules S) (cap : ℕ) (b : Bank) (steady : Bool) (starts : List S) (shape : List ℕ) (most : ℕ) (start : InRound R (ranks b.shape.dims) 0 shape most starts)
-    (fs : List (RankState S)) (fresh : AreFresh R b.shape.dims steady starts fs) (xs ys : List (SeatedState S)) (firsts : map (λ x. x.rank) xs ≡ fs) (seated : AreSeated R cap steady b xs) (ran : AllRan R cap xs ys) where
+module _ {S : Type 0} (R : Rules S) (cap : ℕ) (b : Bank) (manner : Manner) (starts : List S) (shape : List ℕ) (most : ℕ) (start : InRound R (ranks b.shape.dims) 0 shape most starts)
+    (fs : List (RankState S)) (fresh : AreFresh R b.shape.dims cap manner starts fs) (xs ys : List (SeatedState S)) (firsts : map (λ x. x.rank) xs ≡ fs) (seated : AreSeated R cap manner b xs) (ran : AllRan R cap xs ys) where
   abbrev dims : List ℕ
   dims = b.shape.dims
 
@@ -46,16 +47,16 @@ module _ {S : Type 0} (R : Rules S) (cap : ℕ) (b : Bank) (steady : Bool) (star
     at : slice_get xs r ≡ Some x
     h : ℕ → S
     begins : h 0 ≡ x.rank.node.run.prog
-    way : IsOnWay R cap steady h y
+    way : IsOnWay R cap manner h y
     bank : bank_of y ≡ b
     number : y.seat.rank ≡ r
 
   came : (r : ℕ) (y : SeatedState S) → slice_get ys r ≡ Some y → Came r y
   came r y at =
       let x : (x : SeatedState S) × (slice_get xs r ≡ Some x) = find xs r (let a = ran.all in omega (arith, within ys r y at, a)) in
-      let s : IsSeated R cap steady b r x.0 = seated r x.0 x.1 in
+      let s : IsSeated R cap manner b r x.0 = seated r x.0 x.1 in
       let t : Ran R cap x.0 y = ran.each r x.0 y x.1 at in
-      let k = t.kept steady (λ m. x.0.rank.node.run.prog) s.way in
+      let k = t.kept manner (λ m. x.0.rank.node.run.prog) s.way in
       record { x = x.0; at = x.1; h = k.0; begins = k.1; way = k.2; bank = t.bank ∙ s.bank; number = t.number ∙ s.number }
 
   -- where each sat
@@ -99,20 +100,20 @@ module _ {S : Type 0} (R : Rules S) (cap : ℕ) (b : Bank) (steady : Bool) (star
       by None e = let y : (y : SeatedState S) × (slice_get ys r ≡ Some y) = find ys r (omega (arith, low, as_many)) in absurd (none_some (sym e ∙ y.1))
       by (Some y) e = f y e
 
-    has_rank : (r : ℕ) (y : SeatedState S) (e : slice_get ys r ≡ Some y) → HasRank R dims cap steady r (came r y e).h y.rank (logs_of round.sent) (logs_of round.got)
+    has_rank : (r : ℕ) (y : SeatedState S) (e : slice_get ys r ≡ Some y) → HasRank R dims cap manner r (came r y e).h y.rank (logs_of round.sent) (logs_of round.got)
     has_rank r y e =
         let c : Came r y = came r y e in
         let h : ℕ → S = c.h in
-        let w : IsRank R y.seat.shape.dims cap steady y.seat.rank h y.rank (posted_on y.seat) (collected_from y.seat) = c.way.runs (all_get (λ (z : SeatedState S). z.lost ≡ false) ys r y kept e) in
+        let w : IsRank R y.seat.shape.dims cap manner y.seat.rank h y.rank (posted_on y.seat) (collected_from y.seat) = c.way.runs (all_get (λ (z : SeatedState S). z.lost ≡ false) ys r y kept e) in
         let ed : y.seat.shape.dims ≡ dims = ap (λ (a : Bank). a.shape.dims) c.bank in
         let here : get_or g.lists y.seat.rank None ≡ Some y.seat.lists = subst (λ k. get_or g.lists k None ≡ Some y.seat.lists) (sym c.number) (each_get (λ k (z : SeatedState S). get_or g.lists k None ≡ Some z.seat.lists) ys r y there e) in
-        subst (λ k. HasRank R dims cap steady k h y.rank (logs_of round.sent) (logs_of round.got)) c.number
-        (subst (λ (a : Logs). IsRank R dims cap steady y.seat.rank h y.rank a (ending_at dims y.seat.rank (logs_of round.got))) (sym (sent y.seat here))
-        (subst (λ (a : Logs). IsRank R dims cap steady y.seat.rank h y.rank (posted_on y.seat) a) (sym (got y.seat here))
-        (subst (λ ds. IsRank R ds cap steady y.seat.rank h y.rank (posted_on y.seat) (collected_from y.seat)) ed w)))
+        subst (λ k. HasRank R dims cap manner k h y.rank (logs_of round.sent) (logs_of round.got)) c.number
+        (subst (λ (a : Logs). IsRank R dims cap manner y.seat.rank h y.rank a (ending_at dims y.seat.rank (logs_of round.got))) (sym (sent y.seat here))
+        (subst (λ (a : Logs). IsRank R dims cap manner y.seat.rank h y.rank (posted_on y.seat) a) (sym (got y.seat here))
+        (subst (λ ds. IsRank R ds cap manner y.seat.rank h y.rank (posted_on y.seat) (collected_from y.seat)) ed w)))
 
     -- they are the ranks of a run over the closed round's logs
-    pub all_ranked : AllRanks R dims cap b.shape.slots steady starts history rs (logs_of round.sent) (logs_of round.got)
+    pub all_ranked : AllRanks R dims cap b.shape.slots manner starts history rs (logs_of round.sent) (logs_of round.got)
     all_ranked =
         record {
           grid = in_order.grid;
@@ -120,10 +121,10 @@ module _ {S : Type 0} (R : Rules S) (cap : ℕ) (b : Bank) (steady : Bool) (star
           all = length-map ys (λ (y : SeatedState S). y.rank) ∙ as_many;
           each = λ r n at.
               let y = got_map (λ (z : SeatedState S). z.rank) ys r n at in
-              history_by r (λ h. HasRank R dims cap steady r h n (logs_of round.sent) (logs_of round.got)) (let a = as_many in omega (arith, within ys r y.0 y.1, a))
+              history_by r (λ h. HasRank R dims cap manner r h n (logs_of round.sent) (logs_of round.got)) (let a = as_many in omega (arith, within ys r y.0 y.1, a))
               (λ z e.
               let same : z ≡ y.0 = get_once ys r z y.0 e y.1 in
-              subst (λ m. HasRank R dims cap steady r (came r z e).h m (logs_of round.sent) (logs_of round.got)) (ap (λ (k : SeatedState S). k.rank) same ∙ y.2) (has_rank r z e));
+              subst (λ m. HasRank R dims cap manner r (came r z e).h m (logs_of round.sent) (logs_of round.got)) (ap (λ (k : SeatedState S). k.rank) same ∙ y.2) (has_rank r z e));
           begins = λ r s at.
               history_by r (λ h. h 0 ≡ s) (omega (arith, within starts r s at, start.size))
               (λ y e.

@@ -1,15 +1,24 @@
 -- The ranks of a drive are within the canonical run, at every moment.
-use Rattle.std.proofs.Common.{◌≡◌, ℕ, ◌+◌, ◌-◌, ◌*◌, ◌^◌, ◌<◌, ◌≤◌, Bool, true, false, cond, min, List, Option, Some, None, slice_get, refl, sym, ap, subst, ◌∙◌, arith, inl, inr}
+use Rattle.std.proofs.Common.{◌≡◌, ℕ, ◌+◌, ◌-◌, ◌*◌, ◌^◌, ◌<◌, ◌≤◌, Bool, true, false, cond, min, List, [], ◌∷◌, Option, Some, None, slice_get, refl, sym, ap, subst, ◌∙◌, arith, inl, inr}
 use Rattle.std.proofs.lemmas.Bool.{cases_Bool, cases_lt, both_ways, true≢false}
 use Rattle.list_laws.proofs.Lists.{find, within}
 use Rattle.route_tensor.specs.Grid.{ranks}
 use Rattle.port_bank.specs.Logs.{Logs, starting_at, ending_at}
+use Rattle.route_tensor.specs.Link.{links}
 use Rattle.port_bank.specs.Machine.{Part, completed_of, done_of, EpochsClose}
+use Rattle.port_bank.specs.Machine.{State as Ranks}
+use Rattle.list_laws.specs.Lists.{Begins}
+use Rattle.route_tensor.proofs.Coordinates.{ranks_some}
 use Rattle.hop_core.specs.State.{State}
-use Rattle.convey.specs.Buffers.{Buffers, buffers_of, is_complete}
-use Rattle.convey.specs.Agreement.{Agrees}
-use Rattle.convey.specs.Law.{IsSound, AgreeTogether, state_of, ClosesLaw}
-use Rattle.convey.specs.Parts.{part_of}
+use Rattle.convey.specs.Buffers.{buffers_of}
+use Rattle.convey.specs.Law as conveyors
+use Rattle.exstack.specs.State.{State as Stack}
+use Rattle.exstack.specs.State.{new_stack}
+use Rattle.exstack.specs.Agreement.{AgreesWith}
+use Rattle.exstack.specs.Law as exstacks
+use Rattle.exstack.specs.Parts as exstack_parts
+use Rattle.exstack.proofs.OneHop.{ranks_one}
+use Rattle.rank_group.specs.Closes.{ClosesLaws}
 use Rattle.round_program.specs.Rules.{Rules}
 use Rattle.round_program.specs.Laws.{Laws, SameRound}
 use Rattle.round_program.proofs.Orders.{pulls_same}
@@ -22,12 +31,16 @@ use Rattle.rank_node.specs.declared.sends.Sends.{Sends}
 use Rattle.rank_node.specs.declared.sends.Sends.TheVariants.{Emissions, Nothing, Votes}
 use Rattle.rank_node.specs.Sending.{is_voting, epoch_of}
 use Rattle.rank_node.specs.Runs.{lists_of, HasTaken}
+use Rattle.rank_node.specs.Movers.{MoverState, Manner, dims_of, rank_of, epoch_in, manner_in, part_in, has_completed, HasCap, IsConveying, IsStacking, IsMoving}
+use Rattle.rank_node.specs.Movers.MoverState.{Conveying, Stacking}
+use Rattle.rank_node.specs.Movers.Manner.{ByConveyor, ByExstack}
 use Rattle.rank_node.specs.Nodes.{IsNode}
 use Rattle.rank_node.specs.Next.{extended, HasStopped}
 use Rattle.rank_group.specs.Ranks.{RankState, HasRank, AllRanks, progress}
 use Rattle.rank_node.proofs.Between.{voted, own_ended, extended_before, extended_at}
-use Rattle.rank_node.proofs.Onward.{done_of_complete}
-use Rattle.rank_group.specs.Worlds.{conveyor_in, progress_in, history_in, part_at}
+use Rattle.rank_node.proofs.Onward.{done_of_completed, epoch_is}
+use Rattle.rank_group.proofs.Movers.{part_epoch, part_complete}
+use Rattle.rank_group.specs.Worlds.{nowhere, mover_in, progress_in, history_in, part_at}
 
 -- what a rank knows of itself, within an epoch
 pub own_now : {S : Type 0} (R : Rules S) → Laws R → (p rank : ℕ) (h : ℕ → S) (round : ℕ) (sends : Sends) (next : ℕ) (prog : S) (sum : ℕ) (spoiled : Bool) (part : Part)
@@ -54,74 +67,154 @@ own_now {S} R laws p rank h round sends next prog sum spoiled part is = by part.
 -- the node of a rank as it was before its run ended
 pub record Core {S : Type 0} (R : Rules S) (dims : List ℕ) (r : ℕ) (h : ℕ → S) (n : RankState S) (sent got : Logs) : Type 0 where
   pub prog : S
-  pub is : IsNode R h (record { run = record n.node.run { prog = prog }; conveyor = n.node.conveyor }) (starting_at dims r sent) (ending_at dims r got)
+  pub is : IsNode R h (record { run = record n.node.run { prog = prog }; mover = n.node.mover }) (starting_at dims r sent) (ending_at dims r got)
 
-pub core : {S : Type 0} (R : Rules S) (dims : List ℕ) (cap : ℕ) (steady : Bool) (r : ℕ) (h : ℕ → S) (n : RankState S) (sent got : Logs) → HasRank R dims cap steady r h n sent got → Core R dims r h n sent got
-core R dims cap steady r h n sent got is =
+pub core : {S : Type 0} (R : Rules S) (dims : List ℕ) (cap : ℕ) (manner : Manner) (r : ℕ) (h : ℕ → S) (n : RankState S) (sent got : Logs) → HasRank R dims cap manner r h n sent got → Core R dims r h n sent got
+core R dims cap manner r h n sent got is =
     elim (cases_Bool n.over) [
       | inl over ↦ let s = is.stopped over in record { prog = s.worked; is = s.node }
       | inr on ↦ record { prog = n.node.run.prog; is = is.runs on }
     ]
 
 -- what a rank knows of itself
-module _ {S : Type 0} (R : Rules S) (laws : Laws R) (dims : List ℕ) (cap : ℕ) (steady : Bool) (r : ℕ) (h : ℕ → S) (n : RankState S) (sent got : Logs) (is : HasRank R dims cap steady r h n sent got) where
+module _ {S : Type 0} (R : Rules S) (laws : Laws R) (dims : List ℕ) (cap : ℕ) (manner : Manner) (r : ℕ) (h : ℕ → S) (n : RankState S) (sent got : Logs) (is : HasRank R dims cap manner r h n sent got) where
+  abbrev m : MoverState
+  m = n.node.mover
+
   abbrev part : Part
-  part = part_of (buffers_of n.node.conveyor) (starting_at dims r sent) (ending_at dims r got)
+  part = part_in m (starting_at dims r sent) (ending_at dims r got)
+
+  epoch_here : part.epoch ≡ epoch_in m
+  epoch_here = part_epoch m (starting_at dims r sent) (ending_at dims r got)
 
   stopped : HasStopped R h n.node (starting_at dims r sent) (ending_at dims r got) → (s : Sends) → n.node.run.sends ≡ s → is_voting s ≡ true
-      → Own R (ranks dims) (n.node.conveyor.epoch + 1) (done_of part) (extended h (n.node.run.round + 1) n.node.run.prog) (lists_of part)
+      → Own R (ranks dims) (epoch_in m + 1) (done_of part) (extended h (n.node.run.round + 1) n.node.run.prog) (lists_of part)
   stopped t Emissions e v = absurd (true≢false (sym v))
   stopped t Nothing e v = absurd (true≢false (sym v))
   stopped t (Votes v q) e vote =
-      let done : n.node.conveyor.done ≡ true = done_of_complete n.node.conveyor _ _ t.node.moving t.complete in
-      let own : HasTaken R (ranks n.node.conveyor.dims) n.node.conveyor.rank h n.node.run.round n.node.run.sends n.node.run.next t.worked n.node.run.sum n.node.run.spoiled part = record { passed = t.node.passed; within = t.node.within } in
-      let own1 : HasTaken R (ranks n.node.conveyor.dims) n.node.conveyor.rank h n.node.run.round (Votes v q) n.node.run.next t.worked n.node.run.sum false part =
-      subst (λ b. HasTaken R (ranks n.node.conveyor.dims) n.node.conveyor.rank h n.node.run.round (Votes v q) n.node.run.next t.worked n.node.run.sum b part) t.unspoiled
-      (subst (λ x. HasTaken R (ranks n.node.conveyor.dims) n.node.conveyor.rank h n.node.run.round x n.node.run.next t.worked n.node.run.sum n.node.run.spoiled part) e own) in
-      let o = own_ended R laws (ranks n.node.conveyor.dims) n.node.conveyor.rank h n.node.run.round n.node.run.next t.worked n.node.run.sum part v q done t.clean own1 in
-      let here : n.node.conveyor.epoch ≡ 2 * n.node.run.round + 1 = own1.passed.epoch in
-      let two : 2 * n.node.run.round + 2 ≡ n.node.conveyor.epoch + 1 = omega (arith, here) in
-      let d : done_of part ≡ n.node.conveyor.epoch + 1 = ap (λ b. cond b (n.node.conveyor.epoch + 1) n.node.conveyor.epoch) done in
-      subst (λ k. Own R (ranks dims) (n.node.conveyor.epoch + 1) k (extended h (n.node.run.round + 1) n.node.run.prog) (lists_of part)) (sym d)
+      let done : part.done ≡ true = done_of_completed m _ _ t.node.moving t.complete in
+      let p : ℕ = ranks (dims_of m) in
+      let own : HasTaken R p (rank_of m) h n.node.run.round n.node.run.sends n.node.run.next t.worked n.node.run.sum n.node.run.spoiled part = record { passed = t.node.passed; within = t.node.within } in
+      let own1 : HasTaken R p (rank_of m) h n.node.run.round (Votes v q) n.node.run.next t.worked n.node.run.sum false part =
+      subst (λ b. HasTaken R p (rank_of m) h n.node.run.round (Votes v q) n.node.run.next t.worked n.node.run.sum b part) t.unspoiled
+      (subst (λ x. HasTaken R p (rank_of m) h n.node.run.round x n.node.run.next t.worked n.node.run.sum n.node.run.spoiled part) e own) in
+      let o = own_ended R laws p (rank_of m) h n.node.run.round n.node.run.next t.worked n.node.run.sum part v q done t.clean own1 in
+      let here : part.epoch ≡ 2 * n.node.run.round + 1 = own1.passed.epoch in
+      let two : 2 * n.node.run.round + 2 ≡ epoch_in m + 1 = omega (arith, here, epoch_here) in
+      let d : done_of part ≡ epoch_in m + 1 = ap (λ b. cond b (part.epoch + 1) part.epoch) done ∙ ap (λ e. e + 1) epoch_here in
+      subst (λ k. Own R (ranks dims) (epoch_in m + 1) k (extended h (n.node.run.round + 1) n.node.run.prog) (lists_of part)) (sym d)
       (subst (λ k. Own R (ranks dims) k k (extended h (n.node.run.round + 1) n.node.run.prog) (lists_of part)) two
       (subst (λ x. Own R (ranks dims) (2 * n.node.run.round + 2) (2 * n.node.run.round + 2) (extended h (n.node.run.round + 1) x) (lists_of part)) (sym t.ended)
       (subst (λ (ds : List ℕ). Own R (ranks ds) (2 * n.node.run.round + 2) (2 * n.node.run.round + 2) (extended h (n.node.run.round + 1) (R.ended t.worked n.node.run.sum)) (lists_of part)) is.same_dims o)))
 
   own_by : (b : Bool) → n.over ≡ b → Own R (ranks dims) (progress n) (done_of part) (history_in h (Some n)) (lists_of part)
   own_by true over =
-      subst (λ b. Own R (ranks dims) (cond b (n.node.conveyor.epoch + 1) n.node.conveyor.epoch) (done_of part) (cond b (extended h (n.node.run.round + 1) n.node.run.prog) h) (lists_of part)) (sym over)
+      subst (λ b. Own R (ranks dims) (cond b (epoch_in m + 1) (epoch_in m)) (done_of part) (cond b (extended h (n.node.run.round + 1) n.node.run.prog) h) (lists_of part)) (sym over)
       (stopped (is.stopped over) n.node.run.sends refl (is.stopped over).voting)
   own_by false on =
       let i = is.runs on in
-      subst (λ b. Own R (ranks dims) (cond b (n.node.conveyor.epoch + 1) n.node.conveyor.epoch) (done_of part) (cond b (extended h (n.node.run.round + 1) n.node.run.prog) h) (lists_of part)) (sym on)
-      (subst (λ (ds : List ℕ). Own R (ranks ds) n.node.conveyor.epoch (done_of part) h (lists_of part)) is.same_dims
-      (own_now R laws (ranks n.node.conveyor.dims) n.node.conveyor.rank h n.node.run.round n.node.run.sends n.node.run.next n.node.run.prog n.node.run.sum n.node.run.spoiled part (record { passed = i.passed; within = i.within })))
+      subst (λ b. Own R (ranks dims) (cond b (epoch_in m + 1) (epoch_in m)) (done_of part) (cond b (extended h (n.node.run.round + 1) n.node.run.prog) h) (lists_of part)) (sym on)
+      (subst (λ k. Own R (ranks dims) k (done_of part) h (lists_of part)) epoch_here
+      (subst (λ (ds : List ℕ). Own R (ranks ds) part.epoch (done_of part) h (lists_of part)) is.same_dims
+      (own_now R laws (ranks (dims_of m)) (rank_of m) h n.node.run.round n.node.run.sends n.node.run.next n.node.run.prog n.node.run.sum n.node.run.spoiled part (record { passed = i.passed; within = i.within }))))
 
-  pub own_in : Own R (ranks dims) (progress n) (done_of (part_of (buffers_of n.node.conveyor) (starting_at dims r sent) (ending_at dims r got))) (history_in h (Some n)) (lists_of (part_of (buffers_of n.node.conveyor) (starting_at dims r sent) (ending_at dims r got)))
+  pub own_in : Own R (ranks dims) (progress n) (done_of (part_in n.node.mover (starting_at dims r sent) (ending_at dims r got))) (history_in h (Some n)) (lists_of (part_in n.node.mover (starting_at dims r sent) (ending_at dims r got)))
   own_in = own_by n.over refl
 
-module _ {S : Type 0} (R : Rules S) (laws : Laws R) (law : ClosesLaw) (dims : List ℕ) (cap slots : ℕ) (steady : Bool) (starts : List S) (h : ℕ → ℕ → S) (rs : List (RankState S)) (sent got : Logs) (w : AllRanks R dims cap slots steady starts h rs sent got) where
-  abbrev buffers_at : ℕ → Buffers
-  buffers_at r = buffers_of (conveyor_in (slice_get rs r))
+-- epochs close together by what holds of the parts of so many ranks
+alike_close : (p : ℕ) (f g : Ranks) → ((r : ℕ) → r < p → f r ≡ g r) → EpochsClose p f → EpochsClose p g
+alike_close p f g same c =
+    record {
+      begins = λ r s e lr ls. subst (λ (x : Part). Begins (x.pulled e s) ((g s).pushed e r)) (same r lr) (subst (λ (y : Part). Begins ((f r).pulled e s) (y.pushed e r)) (same s ls) (c.begins r s e lr ls));
+      all_done = λ r s lr ls. subst (λ (x : Part). completed_of x ≤ done_of (g s)) (same r lr) (subst (λ (y : Part). completed_of (f r) ≤ done_of y) (same s ls) (c.all_done r s lr ls));
+      whole = λ r s e lr ls low. subst (λ (x : Part). x.pulled e s ≡ (g s).pushed e r) (same r lr) (subst (λ (y : Part). (f r).pulled e s ≡ y.pushed e r) (same s ls)
+          (c.whole r s e lr ls (subst (λ (x : Part). e < completed_of x) (sym (same r lr)) low)));
+    }
+
+-- the conveyor, or the exstack, of a rank that has one
+abbrev conveyor_of : MoverState → State
+conveyor_of (Conveying c) = c
+conveyor_of (Stacking cap x) = nowhere
+
+no_stack : Stack
+no_stack = new_stack 0 0
+
+abbrev stack_of : MoverState → Stack
+stack_of (Conveying c) = no_stack
+stack_of (Stacking cap x) = x
+
+is_conveying : (m : MoverState) (steady : Bool) → manner_in m ≡ ByConveyor steady → m ≡ Conveying (conveyor_of m)
+is_conveying (Conveying c) steady e = refl
+is_conveying (Stacking cap x) steady e = absurd (cc)
+
+is_stacking : (m : MoverState) (cap : ℕ) → manner_in m ≡ ByExstack → HasCap cap m → m ≡ Stacking cap (stack_of m)
+is_stacking (Conveying c) cap e k = absurd (cc)
+is_stacking (Stacking k x) cap e same = ap (λ j. Stacking j x) same
+
+module _ {S : Type 0} (R : Rules S) (laws : Laws R) (law : ClosesLaws) (dims : List ℕ) (cap slots : ℕ) (manner : Manner) (starts : List S) (h : ℕ → ℕ → S) (rs : List (RankState S)) (sent got : Logs) (w : AllRanks R dims cap slots manner starts h rs sent got) where
+  abbrev mover_at : ℕ → MoverState
+  mover_at r = mover_in (slice_get rs r)
 
   rank_at : (r : ℕ) → r < ranks dims → (n : RankState S) × (slice_get rs r ≡ Some n)
   rank_at r low = find rs r (omega (arith, low, w.all))
 
-  pub together : AgreeTogether dims cap slots buffers_at sent got
-  together =
-      record {
+  by : (r : ℕ) → r < ranks dims → (P : MoverState → Type 0) → ((n : RankState S) → HasRank R dims cap manner r (h r) n sent got → P n.node.mover) → P (mover_at r)
+  by r low P f = let n = rank_at r low in subst (λ o. P (mover_in o)) (sym n.1) (f n.0 (w.each r n.0 n.1))
+
+  agree_at : (r : ℕ) → r < ranks dims → IsMoving (mover_at r) (starting_at dims r sent) (ending_at dims r got)
+  agree_at r low = by r low (λ m. IsMoving m (starting_at dims r sent) (ending_at dims r got)) (λ n is. (core R dims cap manner r (h r) n sent got is).is.moving)
+
+  -- over conveyors
+  conveyor_closes : (steady : Bool) → manner ≡ ByConveyor steady → EpochsClose (ranks dims) (part_at dims rs sent got)
+  conveyor_closes steady e =
+      alike_close (ranks dims) (conveyors.state_of dims (λ r. buffers_of (conveyor_of (mover_at r))) sent got) (part_at dims rs sent got)
+      (λ r low. ap (λ m. part_in m (starting_at dims r sent) (ending_at dims r got)) (sym (is r low)))
+      (law.conveyors dims cap slots (λ r. buffers_of (conveyor_of (mover_at r))) sent got
+      (record {
         grid = w.grid;
         links_keep = w.links_keep;
-        same_dims = λ r low. by r low (λ c. c.dims ≡ dims) (λ n is. is.same_dims);
-        same_rank = λ r low. by r low (λ c. c.rank ≡ r) (λ n is. is.same_rank);
-        sound = λ r low. by r low (λ c. IsSound (buffers_of c)) (λ n is. (core R dims cap steady r (h r) n sent got is).is.moving.sound);
-        agree = λ r low. by r low (λ c. Agrees (buffers_of c) (starting_at dims r sent) (ending_at dims r got)) (λ n is. (core R dims cap steady r (h r) n sent got is).is.moving.agrees);
-      } where
-        by : (r : ℕ) → r < ranks dims → (P : State → Type 0) → ((n : RankState S) → HasRank R dims cap steady r (h r) n sent got → P n.node.conveyor) → P (conveyor_in (slice_get rs r))
-        by r low P f = let n = rank_at r low in subst (λ o. P (conveyor_in o)) (sym n.1) (f n.0 (w.each r n.0 n.1))
+        same_dims = λ r low. ap dims_of (sym (is r low)) ∙ by r low (λ m. dims_of m ≡ dims) (λ n k. k.same_dims);
+        same_rank = λ r low. ap rank_of (sym (is r low)) ∙ by r low (λ m. rank_of m ≡ r) (λ n k. k.same_rank);
+        sound = λ r low. (moving r low).sound;
+        agree = λ r low. (moving r low).agrees;
+      })) where
+        is : (r : ℕ) → r < ranks dims → mover_at r ≡ Conveying (conveyor_of (mover_at r))
+        is r low = is_conveying (mover_at r) steady (by r low (λ m. manner_in m ≡ manner) (λ n k. k.same_manner) ∙ e)
 
-  pub closes : EpochsClose (ranks dims) (state_of dims buffers_at sent got)
-  closes = law dims cap slots buffers_at sent got together
+        moving : (r : ℕ) → r < ranks dims → IsConveying (conveyor_of (mover_at r)) (starting_at dims r sent) (ending_at dims r got)
+        moving r low = subst (λ m. IsMoving m (starting_at dims r sent) (ending_at dims r got)) (is r low) (agree_at r low)
+
+  -- over exstacks
+  stack_closes : manner ≡ ByExstack → EpochsClose (ranks dims) (part_at dims rs sent got)
+  stack_closes e =
+      alike_close (ranks dims) (exstacks.state_of (ranks dims) (λ r. stack_of (mover_at r)) sent got) (part_at dims rs sent got)
+      (λ r low. ap (λ (ds : List ℕ). exstack_parts.part_of (stack_of (mover_at r)) (starting_at ds r sent) (ending_at ds r got)) one ∙ ap (λ m. part_in m (starting_at dims r sent) (ending_at dims r got)) (sym (is r low)))
+      (law.exstacks (ranks dims) cap slots (λ r. stack_of (mover_at r)) sent got
+      (record {
+        few = w.grid.small;
+        links_keep = λ l low. w.links_keep l (subst (λ (ds : List ℕ). l < links ds) one low);
+        same_ranks = λ r low. sym (ranks_one (stack_of (mover_at r)).ranks) ∙ ap ranks (ap dims_of (sym (is r low)) ∙ by r low (λ m. dims_of m ≡ dims) (λ n k. k.same_dims));
+        same_rank = λ r low. ap rank_of (sym (is r low)) ∙ by r low (λ m. rank_of m ≡ r) (λ n k. k.same_rank);
+        standing = λ r low. (moving r low).stack;
+        agree = λ r low. subst (λ (ds : List ℕ). AgreesWith (stack_of (mover_at r)) (starting_at ds r sent) (ending_at ds r got)) (sym one) (moving r low).agrees;
+      })) where
+        is : (r : ℕ) → r < ranks dims → mover_at r ≡ Stacking cap (stack_of (mover_at r))
+        is r low = is_stacking (mover_at r) cap (by r low (λ m. manner_in m ≡ manner) (λ n k. k.same_manner) ∙ e) (by r low (HasCap cap) (λ n k. k.same_cap))
+
+        moving : (r : ℕ) → r < ranks dims → IsStacking cap (stack_of (mover_at r)) (starting_at dims r sent) (ending_at dims r got)
+        moving r low = subst (λ m. IsMoving m (starting_at dims r sent) (ending_at dims r got)) (is r low) (agree_at r low)
+
+        one : ranks dims ∷ [] ≡ dims
+        one =
+            let low : 0 < ranks dims = ranks_some dims w.grid.positive in
+            let same : dims_of (Stacking cap (stack_of (mover_at 0))) ≡ dims = ap dims_of (sym (is 0 low)) ∙ by 0 low (λ m. dims_of m ≡ dims) (λ n k. k.same_dims) in
+            ap (λ (ds : List ℕ). ranks ds ∷ []) (sym same) ∙ (ap (λ n. n ∷ []) (ranks_one (stack_of (mover_at 0)).ranks) ∙ same)
+
+  pub closes : EpochsClose (ranks dims) (part_at dims rs sent got)
+  closes = pick manner refl where
+    pick : (k : Manner) → manner ≡ k → EpochsClose (ranks dims) (part_at dims rs sent got)
+    pick (ByConveyor steady) e = conveyor_closes steady e
+    pick ByExstack e = stack_closes e
 
   abbrev completed : ℕ → ℕ
   completed r = progress_in (slice_get rs r)
@@ -135,25 +228,31 @@ module _ {S : Type 0} (R : Rules S) (laws : Laws R) (law : ClosesLaw) (dims : Li
   own_at : (r : ℕ) → r < ranks dims → Own R (ranks dims) (completed r) (done_of (part_at dims rs sent got r)) (history r) (lists r)
   own_at r low =
       let n = rank_at r low in
-      subst (λ o. Own R (ranks dims) (progress_in o) (done_of (part_of (buffers_of (conveyor_in o)) (starting_at dims r sent) (ending_at dims r got))) (history_in (h r) o) (lists_of (part_of (buffers_of (conveyor_in o)) (starting_at dims r sent) (ending_at dims r got)))) (sym n.1)
-      (own_in R laws dims cap steady r (h r) n.0 sent got (w.each r n.0 n.1))
+      subst (λ o. Own R (ranks dims) (progress_in o) (done_of (part_in (mover_in o) (starting_at dims r sent) (ending_at dims r got))) (history_in (h r) o) (lists_of (part_in (mover_in o) (starting_at dims r sent) (ending_at dims r got)))) (sym n.1)
+      (own_in R laws dims cap manner r (h r) n.0 sent got (w.each r n.0 n.1))
 
   -- no more epochs are completed than the conveyors tell
   completed_low : (r : ℕ) → r < ranks dims → completed r ≤ completed_of (part_at dims rs sent got r)
   completed_low r low =
       let n = rank_at r low in
-      subst (λ o. progress_in o ≤ completed_of (part_of (buffers_of (conveyor_in o)) (starting_at dims r sent) (ending_at dims r got))) (sym n.1) (by n.0 (w.each r n.0 n.1) n.0.over refl) where
-        by : (n : RankState S) → HasRank R dims cap steady r (h r) n sent got → (b : Bool) → n.over ≡ b → progress n ≤ cond (is_complete n.node.conveyor.phase) (n.node.conveyor.epoch + 1) n.node.conveyor.epoch
+      subst (λ o. progress_in o ≤ completed_of (part_in (mover_in o) (starting_at dims r sent) (ending_at dims r got))) (sym n.1) (by n.0 (w.each r n.0 n.1) n.0.over refl) where
+        by : (n : RankState S) → HasRank R dims cap manner r (h r) n sent got → (b : Bool) → n.over ≡ b → progress n ≤ completed_of (part_in n.node.mover (starting_at dims r sent) (ending_at dims r got))
         by n is true over =
-            let c : is_complete n.node.conveyor.phase ≡ true = ap is_complete (is.stopped over).complete in
-            let a : progress n ≡ n.node.conveyor.epoch + 1 = ap (λ b. cond b (n.node.conveyor.epoch + 1) n.node.conveyor.epoch) over in
-            let b : cond (is_complete n.node.conveyor.phase) (n.node.conveyor.epoch + 1) n.node.conveyor.epoch ≡ n.node.conveyor.epoch + 1 = ap (λ b. cond b (n.node.conveyor.epoch + 1) n.node.conveyor.epoch) c in
-            omega (arith, a, b)
+            let m : MoverState = n.node.mover in
+            let part : Part = part_in m (starting_at dims r sent) (ending_at dims r got) in
+            let e : part.epoch ≡ epoch_in m = part_epoch m _ _ in
+            let c : part.complete ≡ true = part_complete m _ _ ∙ (is.stopped over).complete in
+            let a : progress n ≡ epoch_in m + 1 = ap (λ b. cond b (epoch_in m + 1) (epoch_in m)) over in
+            let b : completed_of part ≡ part.epoch + 1 = ap (λ b. cond b (part.epoch + 1) part.epoch) c in
+            omega (arith, a, b, e)
         by n is false on =
-            let a : progress n ≡ n.node.conveyor.epoch = ap (λ b. cond b (n.node.conveyor.epoch + 1) n.node.conveyor.epoch) on in
-            elim (cases_Bool (is_complete n.node.conveyor.phase)) [
-              | inl c ↦ let b : cond (is_complete n.node.conveyor.phase) (n.node.conveyor.epoch + 1) n.node.conveyor.epoch ≡ n.node.conveyor.epoch + 1 = ap (λ b. cond b (n.node.conveyor.epoch + 1) n.node.conveyor.epoch) c in omega (arith, a, b)
-              | inr c ↦ let b : cond (is_complete n.node.conveyor.phase) (n.node.conveyor.epoch + 1) n.node.conveyor.epoch ≡ n.node.conveyor.epoch = ap (λ b. cond b (n.node.conveyor.epoch + 1) n.node.conveyor.epoch) c in omega (arith, a, b)
+            let m : MoverState = n.node.mover in
+            let part : Part = part_in m (starting_at dims r sent) (ending_at dims r got) in
+            let e : part.epoch ≡ epoch_in m = part_epoch m _ _ in
+            let a : progress n ≡ epoch_in m = ap (λ b. cond b (epoch_in m + 1) (epoch_in m)) on in
+            elim (cases_Bool part.complete) [
+              | inl c ↦ let b : completed_of part ≡ part.epoch + 1 = ap (λ b. cond b (part.epoch + 1) part.epoch) c in omega (arith, a, b, e)
+              | inr c ↦ let b : completed_of part ≡ part.epoch = ap (λ b. cond b (part.epoch + 1) part.epoch) c in omega (arith, a, b, e)
             ]
 
   closed : Closes (ranks dims) completed (λ r. done_of (part_at dims rs sent got r)) lists
@@ -188,51 +287,51 @@ module _ {S : Type 0} (R : Rules S) (laws : Laws R) (law : ClosesLaw) (dims : Li
         (all.each r (history r m) (run.states r m low c)).same_shape ∙ sym (shape_is R (ranks dims) 0 shape most starts (omega (arith, low)) start)
 
     -- a rank whose run goes on hasn't completed the last round
-    pub still_within : (r : ℕ) (x : RankState S) → slice_get rs r ≡ Some x → x.over ≡ false → x.node.conveyor.epoch < 2 * n
+    pub still_within : (r : ℕ) (x : RankState S) → slice_get rs r ≡ Some x → x.over ≡ false → epoch_in x.node.mover < 2 * n
     still_within r x at on =
         let low : r < ranks dims = omega (arith, within rs r x at, w.all) in
-        let here : completed r ≡ x.node.conveyor.epoch = ap progress_in at ∙ ap (λ b. cond b (x.node.conveyor.epoch + 1) x.node.conveyor.epoch) on in
+        let here : completed r ≡ epoch_in x.node.mover = ap progress_in at ∙ ap (λ b. cond b (epoch_in x.node.mover + 1) (epoch_in x.node.mover)) on in
         let high : completed r ≤ 2 * n = run.bounded n r rounds low in
         let some : 0 < n = rounds.some in
-        elim (cases_lt x.node.conveyor.epoch (2 * n)) [
+        elim (cases_lt epoch_in x.node.mover (2 * n)) [
           | inl b ↦ b
           | inr past ↦
-              let e : x.node.conveyor.epoch ≡ 2 * n = omega (arith, past, here, high) in
+              let e : epoch_in x.node.mover ≡ 2 * n = omega (arith, past, here, high) in
               let i = (w.each r x at).runs on in
               let full : completed r ≡ 2 * n = here ∙ e in
-              let d : x.node.conveyor.dims ≡ dims = (w.each r x at).same_dims in
-              let last : n - 1 + 1 ≡ x.node.run.round = round_is (is_voting x.node.run.sends) x.node.run.round i.passed.epoch e some in
+              let d : dims_of x.node.mover ≡ dims = (w.each r x at).same_dims in
+              let last : n - 1 + 1 ≡ x.node.run.round = round_is (is_voting x.node.run.sends) x.node.run.round (epoch_is x.node.mover _ _ i) e some in
               let hist : history r (n - 1) ≡ h r (n - 1) = ap (λ o. history_in (h r) o (n - 1)) at ∙ ap (λ b. cond b (extended (h r) (x.node.run.round + 1) x.node.run.prog) (h r) (n - 1)) on in
-              let own : PairLists = lists_of (part_of (buffers_of x.node.conveyor) (starting_at dims r sent) (ending_at dims r got)) in
-              let same : lists r ≡ own = ap (λ o. lists_of (part_of (buffers_of (conveyor_in o)) (starting_at dims r sent) (ending_at dims r got))) at in
-              let goes : R.goes_on (R.shape (h r (n - 1))) (n - 1) (heard (ranks x.node.conveyor.dims) own (n - 1)) ≡ true = i.passed.goes (n - 1) last in
+              let own : PairLists = lists_of (part_in x.node.mover (starting_at dims r sent) (ending_at dims r got)) in
+              let same : lists r ≡ own = ap (λ o. lists_of (part_in (mover_in o) (starting_at dims r sent) (ending_at dims r got))) at in
+              let goes : R.goes_on (R.shape (h r (n - 1))) (n - 1) (heard (ranks (dims_of x.node.mover)) own (n - 1)) ≡ true = i.passed.goes (n - 1) last in
               let sums : heard (ranks dims) (lists r) (n - 1) ≡ votes_at R starts (n - 1) = run.sums r (n - 1) low (omega (arith, full, some)) in
-              let sums' : heard (ranks x.node.conveyor.dims) own (n - 1) ≡ votes_at R starts (n - 1) =
+              let sums' : heard (ranks (dims_of x.node.mover)) own (n - 1) ≡ votes_at R starts (n - 1) =
               ap (λ ds. heard (ranks ds) own (n - 1)) d ∙ (ap (λ l. heard (ranks dims) l (n - 1)) (sym same) ∙ sums) in
               let shapes : R.shape (h r (n - 1)) ≡ shape_of R starts = ap R.shape (sym hist) ∙ shape_at (n - 1) r low (omega (arith, full, some)) in
               absurd (both_ways (R.goes_on (shape_of R starts) (n - 1) (votes_at R starts (n - 1))) rounds.stops
-              (ap (λ k. R.goes_on (shape_of R starts) (n - 1) k) (sym sums') ∙ (ap (λ a. R.goes_on a (n - 1) (heard (ranks x.node.conveyor.dims) own (n - 1))) (sym shapes) ∙ goes)))
+              (ap (λ k. R.goes_on (shape_of R starts) (n - 1) k) (sym sums') ∙ (ap (λ a. R.goes_on a (n - 1) (heard (ranks (dims_of x.node.mover)) own (n - 1))) (sym shapes) ∙ goes)))
         ] where
           round_is : (v : Bool) (m : ℕ) {e : ℕ} → e ≡ epoch_of m v → e ≡ 2 * n → 0 < n → n - 1 + 1 ≡ m
           round_is true m is e some = absurd (omega (arith, is, e))
           round_is false m is e some = omega (arith, is, e, some)
 
     -- a rank whose run is over is in the last epoch, with the state in which the run ends
-    pub over_at_last : (r : ℕ) (x : RankState S) → slice_get rs r ≡ Some x → x.over ≡ true → (x.node.conveyor.epoch + 1 ≡ 2 * n) × (slice_get (states_at R starts n) r ≡ Some x.node.run.prog)
+    pub over_at_last : (r : ℕ) (x : RankState S) → slice_get rs r ≡ Some x → x.over ≡ true → (epoch_in x.node.mover + 1 ≡ 2 * n) × (slice_get (states_at R starts n) r ≡ Some x.node.run.prog)
     over_at_last r x at over =
         let low : r < ranks dims = omega (arith, within rs r x at, w.all) in
         let t = (w.each r x at).stopped over in
         let i = t.node in
-        let d : x.node.conveyor.dims ≡ dims = (w.each r x at).same_dims in
+        let d : dims_of x.node.mover ≡ dims = (w.each r x at).same_dims in
         let m : ℕ = x.node.run.round in
-        let e : x.node.conveyor.epoch ≡ 2 * m + 1 = i.passed.epoch ∙ ap (epoch_of m) t.voting in
-        let here : completed r ≡ x.node.conveyor.epoch + 1 = ap progress_in at ∙ ap (λ b. cond b (x.node.conveyor.epoch + 1) x.node.conveyor.epoch) over in
+        let e : epoch_in x.node.mover ≡ 2 * m + 1 = epoch_is x.node.mover _ _ i ∙ ap (epoch_of m) t.voting in
+        let here : completed r ≡ epoch_in x.node.mover + 1 = ap progress_in at ∙ ap (λ b. cond b (epoch_in x.node.mover + 1) (epoch_in x.node.mover)) over in
         let full : completed r ≡ 2 * m + 2 = omega (arith, here, e) in
-        let own : PairLists = lists_of (part_of (buffers_of x.node.conveyor) (starting_at dims r sent) (ending_at dims r got)) in
-        let same : lists r ≡ own = ap (λ o. lists_of (part_of (buffers_of (conveyor_in o)) (starting_at dims r sent) (ending_at dims r got))) at in
+        let own : PairLists = lists_of (part_in x.node.mover (starting_at dims r sent) (ending_at dims r got)) in
+        let same : lists r ≡ own = ap (λ o. lists_of (part_in (mover_in o) (starting_at dims r sent) (ending_at dims r got))) at in
         let hist : (k : ℕ) → history r k ≡ extended (h r) (m + 1) x.node.run.prog k = λ k. ap (λ o. history_in (h r) o k) at ∙ ap (λ b. cond b (extended (h r) (m + 1) x.node.run.prog) (h r) k) over in
-        let worked' : t.worked ≡ worked R (ranks x.node.conveyor.dims) (h r) own m = i.within.works t.unspoiled in
-        let alike : SameRound R (h r m) t.worked = subst (SameRound R (h r m)) (sym worked') (pulls_same R laws (h r m) (own.pulled (2 * m)) (ranks x.node.conveyor.dims) i.passed.valid) in
+        let worked' : t.worked ≡ worked R (ranks (dims_of x.node.mover)) (h r) own m = i.within.works t.unspoiled in
+        let alike : SameRound R (h r m) t.worked = subst (SameRound R (h r m)) (sym worked') (pulls_same R laws (h r m) (own.pulled (2 * m)) (ranks (dims_of x.node.mover)) i.passed.valid) in
         let at_m : history r m ≡ h r m = hist m ∙ extended_before (h r) (m + 1) x.node.run.prog m (λ q. omega (arith, q)) in
         let sums : x.node.run.sum ≡ heard (ranks dims) (lists r) m = i.within.hears t.voting ∙ (ap (λ ds. heard (ranks ds) own m) d ∙ ap (λ l. heard (ranks dims) l m) (sym same)) in
         let stops : R.goes_on (R.shape (history r m)) m (heard (ranks dims) (lists r) m) ≡ false =

@@ -1,7 +1,7 @@
 -- The ranks of a drive, as it begins and ends.
 use Rattle.std.specs.Prelude.{◌≡◌, ℕ, Bool, false, List, [], map, slice_get, Some}
-use Rattle.convey.specs.Buffers.{in_of}
 use Rattle.round_program.specs.Rules.{Rules}
+use Rattle.rank_node.specs.Movers.{Manner, dims_of, rank_of, epoch_in, manner_in, HasCap, NoneUnread}
 use Rattle.rank_node.specs.Nodes.{IsNode}
 use Rattle.rank_group.specs.Ranks.{RankState}
 
@@ -10,16 +10,17 @@ abbrev pub progs_of : {S : Type 0} → List (RankState S) → List S
 progs_of rs = map (λ n. n.node.run.prog) rs
 
 -- A rank that hasn't turned: on its port nothing was sent or got, and nothing is unread.
-pub record IsFresh {S : Type 0} (R : Rules S) (dims : List ℕ) (steady : Bool) (r : ℕ) (n : RankState S) : Type 0 where
+pub record IsFresh {S : Type 0} (R : Rules S) (dims : List ℕ) (cap : ℕ) (manner : Manner) (r : ℕ) (n : RankState S) : Type 0 where
   pub on : n.over ≡ false
-  pub same_dims : n.node.conveyor.dims ≡ dims
-  pub same_rank : n.node.conveyor.rank ≡ r
-  pub same_steady : n.node.conveyor.steady ≡ steady
-  pub epoch : n.node.conveyor.epoch ≡ 0
+  pub same_dims : dims_of n.node.mover ≡ dims
+  pub same_rank : rank_of n.node.mover ≡ r
+  pub same_manner : manner_in n.node.mover ≡ manner
+  pub same_cap : HasCap cap n.node.mover
+  pub epoch : epoch_in n.node.mover ≡ 0
   pub node : IsNode R (λ m. n.node.run.prog) n.node (λ l. []) (λ l. [])
-  pub unread : (l : ℕ) → (in_of n.node.conveyor l).parcel.untaken ≡ []
+  pub unread : NoneUnread n.node.mover
 
 -- Ranks that haven't turned, one for each program, in order.
-pub record AreFresh {S : Type 0} (R : Rules S) (dims : List ℕ) (steady : Bool) (progs : List S) (rs : List (RankState S)) : Type 0 where
+pub record AreFresh {S : Type 0} (R : Rules S) (dims : List ℕ) (cap : ℕ) (manner : Manner) (progs : List S) (rs : List (RankState S)) : Type 0 where
   pub programs : progs_of rs ≡ progs
-  pub each : (r : ℕ) (n : RankState S) → slice_get rs r ≡ Some n → IsFresh R dims steady r n
+  pub each : (r : ℕ) (n : RankState S) → slice_get rs r ≡ Some n → IsFresh R dims cap manner r n

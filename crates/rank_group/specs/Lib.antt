@@ -1,3 +1,4 @@
+pub mod Closes
 pub mod Ranks
 pub mod Seats
 pub mod Children

@@ -4,19 +4,22 @@ use Rattle.std.specs.List.{All, flat_map}
 use Rattle.item_buffer.specs.Contents.{Shipped}
 use Rattle.route_tensor.specs.Grid.{ranks, IsGrid}
 use Rattle.route_tensor.specs.Link.{links}
-use Rattle.route_tensor.specs.Ends.{reader_at}
+use Rattle.route_tensor.specs.Ends.{sender_at, reader_at}
 use Rattle.port_bank.specs.Logs.{Logs, starting_at, ending_at, starting_elsewhere, ending_elsewhere}
 use Rattle.port_bank.specs.Link.{LinkLaw}
 use Rattle.port_bank.specs.Flow.{Begins}
-use Rattle.port_bank.specs.Shapes.{IsConveyorShape}
-use Rattle.hop_core.specs.declared.phase.Phase.TheVariants.{Complete}
 use Rattle.hop_core.specs.State.{State}
-use Rattle.convey.specs.Buffers.{in_of}
+use Rattle.convey.specs.Buffers.{is_complete}
+use Rattle.exstack.specs.State.{State as Stack}
+use Rattle.exstack.specs.Parts.{is_all_done}
 use Rattle.round_program.specs.Rules.{Rules}
 use Rattle.rank_node.specs.declared.turn.Turn.{Turn}
 use Rattle.rank_node.specs.declared.turn.Turn.TheVariants.{Going, Ended}
+use Rattle.rank_node.specs.Movers.{MoverState, Manner, IsShape, dims_of, rank_of, epoch_in, manner_in, has_completed, HasCap, lying}
+use Rattle.rank_node.specs.Movers.MoverState.{Conveying, Stacking}
 use Rattle.rank_node.specs.Nodes.{NodeState, IsNode}
 use Rattle.rank_node.specs.Stuck.{IsStuck}
+use Rattle.rank_node.specs.Moves.{Waits, WaitsFor}
 use Rattle.rank_node.specs.Next.{HasStopped}
 
 -- A node, and whether its run is over.
@@ -31,30 +34,31 @@ pub record IsOrder (p : ℕ) (order : List ℕ) : Type 0 where
   pub each : (r : ℕ) → r < p → (i : ℕ) × (slice_get order i ≡ Some r)
 
 -- Rank r over its own logs, of what it sent and of what it got; h m is the state of its program as round m began.
-pub record IsRank {S : Type 0} (R : Rules S) (dims : List ℕ) (cap : ℕ) (steady : Bool) (r : ℕ) (h : ℕ → S) (n : RankState S) (sent got : Logs) : Type 0 where
-  pub same_dims : n.node.conveyor.dims ≡ dims
-  pub same_rank : n.node.conveyor.rank ≡ r
-  pub same_steady : n.node.conveyor.steady ≡ steady
+pub record IsRank {S : Type 0} (R : Rules S) (dims : List ℕ) (cap : ℕ) (manner : Manner) (r : ℕ) (h : ℕ → S) (n : RankState S) (sent got : Logs) : Type 0 where
+  pub same_dims : dims_of n.node.mover ≡ dims
+  pub same_rank : rank_of n.node.mover ≡ r
+  pub same_manner : manner_in n.node.mover ≡ manner
+  pub same_cap : HasCap cap n.node.mover
   pub runs : n.over ≡ false → IsNode R h n.node sent got
   pub stopped : n.over ≡ true → HasStopped R h n.node sent got
-  pub shape : (l : ℕ) → IsConveyorShape steady cap (sent l)
+  pub shape : (l : ℕ) → l < links dims → sender_at dims l ≡ r → IsShape manner cap (sent l)
 
 -- The same over the logs of all ranks.
-abbrev pub HasRank : {S : Type 0} → Rules S → List ℕ → ℕ → Bool → ℕ → (ℕ → S) → RankState S → Logs → Logs → Type 0
-HasRank R dims cap steady r h n sent got = IsRank R dims cap steady r h n (starting_at dims r sent) (ending_at dims r got)
+abbrev pub HasRank : {S : Type 0} → Rules S → List ℕ → ℕ → Manner → ℕ → (ℕ → S) → RankState S → Logs → Logs → Type 0
+HasRank R dims cap manner r h n sent got = IsRank R dims cap manner r h n (starting_at dims r sent) (ending_at dims r got)
 
 -- The ranks of a run over the logs of all links, whatever bank these are of; h r m is the state of rank r's program as round m began.
 -- links_keep: each link keeps its law. each: each rank keeps to its own logs. begins: the programs began in the states `starts`.
-pub record AllRanks {S : Type 0} (R : Rules S) (dims : List ℕ) (cap slots : ℕ) (steady : Bool) (starts : List S) (h : ℕ → ℕ → S) (rs : List (RankState S)) (sent got : Logs) : Type 0 where
+pub record AllRanks {S : Type 0} (R : Rules S) (dims : List ℕ) (cap slots : ℕ) (manner : Manner) (starts : List S) (h : ℕ → ℕ → S) (rs : List (RankState S)) (sent got : Logs) : Type 0 where
   pub grid : IsGrid dims
   pub links_keep : (l : ℕ) → l < links dims → LinkLaw cap slots (sent l) (got l)
   pub all : length rs ≡ ranks dims
-  pub each : (r : ℕ) (n : RankState S) → slice_get rs r ≡ Some n → HasRank R dims cap steady r (h r) n sent got
+  pub each : (r : ℕ) (n : RankState S) → slice_get rs r ≡ Some n → HasRank R dims cap manner r (h r) n sent got
   pub begins : (r : ℕ) (s : S) → slice_get starts r ≡ Some s → h r 0 ≡ s
 
 -- How many epochs a rank has completed.
 abbrev pub progress : {S : Type 0} → RankState S → ℕ
-progress n = cond n.over (n.node.conveyor.epoch + 1) n.node.conveyor.epoch
+progress n = cond n.over (epoch_in n.node.mover + 1) (epoch_in n.node.mover)
 
 -- Whether no slot is free on rank r's link l out, and whether nothing waits on its link l in, by the logs of all ranks.
 abbrev pub crowded_in : List ℕ → ℕ → ℕ → Logs → Logs → ℕ → Bool
@@ -67,27 +71,39 @@ idle_in dims r sent got l = length (ending_at dims r got l) == length (sent l)
 pub record AfterTurn {S : Type 0} (R : Rules S) (dims : List ℕ) (cap slots r : ℕ) (turn : Turn) (n n' : NodeState S) (sent got sent' got' : Logs) : Type 0 where
   pub sent_elsewhere : starting_elsewhere dims r sent' ≡ starting_elsewhere dims r sent
   pub got_elsewhere : ending_elsewhere dims r got' ≡ ending_elsewhere dims r got
-  pub node_dims : n'.conveyor.dims ≡ n.conveyor.dims
-  pub node_rank : n'.conveyor.rank ≡ n.conveyor.rank
-  pub node_steady : n'.conveyor.steady ≡ n.conveyor.steady
-  pub node_epoch : n'.conveyor.epoch ≡ n.conveyor.epoch
+  pub node_dims : dims_of n'.mover ≡ dims_of n.mover
+  pub node_rank : rank_of n'.mover ≡ rank_of n.mover
+  pub node_manner : manner_in n'.mover ≡ manner_in n.mover
+  pub node_cap : HasCap cap n'.mover
+  pub node_epoch : epoch_in n'.mover ≡ epoch_in n.mover
   pub sent_grows : (l : ℕ) → Begins (starting_at dims r sent l) (starting_at dims r sent' l)
   pub got_grows : (l : ℕ) → Begins (ending_at dims r got l) (ending_at dims r got' l)
-  pub shape : (l : ℕ) → IsConveyorShape n.conveyor.steady cap (starting_at dims r sent l) → IsConveyorShape n.conveyor.steady cap (starting_at dims r sent' l)
+  pub shape : (l : ℕ) → l < links dims → sender_at dims l ≡ r → IsShape (manner_in n.mover) cap (starting_at dims r sent l) → IsShape (manner_in n.mover) cap (starting_at dims r sent' l)
   pub lies : (l : ℕ) (more : List Shipped) → l < links dims → reader_at dims l ≡ r → ending_at dims r got' l ≡ ending_at dims r got l ++ more
-      → length (in_of n'.conveyor l).parcel.untaken ≤ length (in_of n.conveyor l).parcel.untaken + length (flat_map (λ p. p.entries) more)
+      → lying n'.mover l ≤ lying n.mover l + length (flat_map (λ p. p.entries) more)
   pub kept : (h : ℕ → S) → IsNode R h n (starting_at dims r sent) (ending_at dims r got) → IsNode R h n' (starting_at dims r sent') (ending_at dims r got')
-  pub ended : turn ≡ Ended → n'.conveyor.phase ≡ Complete
-  pub going : turn ≡ Going → n'.conveyor.phase ≢ Complete
-  pub stuck : (h : ℕ → S) → IsNode R h n (starting_at dims r sent) (ending_at dims r got)
-      → ((l : ℕ) → starting_at dims r sent' l ≡ starting_at dims r sent l) → ((l : ℕ) → ending_at dims r got' l ≡ ending_at dims r got l)
-      → IsStuck n.conveyor n'.conveyor (starting_at dims r sent) (ending_at dims r got) (starting_at dims r sent') (ending_at dims r got') (crowded_in dims slots r sent' got') (idle_in dims r sent' got')
+  pub ended : turn ≡ Ended → has_completed n'.mover ≡ true
+  pub going : turn ≡ Going → has_completed n'.mover ≡ false
+  pub waits : Waits R n.run n.mover n'.mover (starting_at dims r sent) (ending_at dims r got) (starting_at dims r sent') (ending_at dims r got') (crowded_in dims slots r sent' got') (idle_in dims r sent' got')
 
--- A rank that a turn left in its epoch, having moved no parcel: its epoch isn't over.
+-- A rank that a turn over a conveyor left in its epoch, having moved no parcel: its epoch isn't over.
 pub record IsLeft (c c' : State) (sent got sent' got' : Logs) (is_crowded is_idle : ℕ → Bool) : Type 0 where
   pub stuck : IsStuck c c' sent got sent' got' is_crowded is_idle
-  pub going : c'.phase ≢ Complete
+  pub going : is_complete c'.phase ≡ false
   pub stays : c'.epoch ≡ c.epoch
+
+-- And one over an exstack.
+pub record IsLeftWaiting (x x' : Stack) (got got' : Logs) (is_crowded is_idle : ℕ → Bool) : Type 0 where
+  pub waits : WaitsFor x x' got got' is_crowded is_idle
+  pub going : is_all_done x'.stage ≡ false
+  pub stays : x'.epoch ≡ x.epoch
+
+-- Either of them.
+abbrev pub IsLeftBy : MoverState → MoverState → Logs → Logs → Logs → Logs → (ℕ → Bool) → (ℕ → Bool) → Type 0
+IsLeftBy (Conveying c) (Conveying c') sent got sent' got' is_crowded is_idle = IsLeft c c' sent got sent' got' is_crowded is_idle
+IsLeftBy (Conveying c) (Stacking k x) sent got sent' got' is_crowded is_idle = ⊥
+IsLeftBy (Stacking k x) (Conveying c) sent got sent' got' is_crowded is_idle = ⊥
+IsLeftBy (Stacking k x) (Stacking k' x') sent got sent' got' is_crowded is_idle = IsLeftWaiting x x' got got' is_crowded is_idle
 
 -- What the turn of rank r leaves, with the step to its next epoch where one has ended.
 -- lies: an inbox holds at most what it held and what came.
@@ -98,9 +114,9 @@ pub record AfterRank {S : Type 0} (R : Rules S) (dims : List ℕ) (cap slots r :
   pub sent_grows : (l : ℕ) → Begins (starting_at dims r sent l) (starting_at dims r sent' l)
   pub got_grows : (l : ℕ) → Begins (ending_at dims r got l) (ending_at dims r got' l)
   pub lies : (l : ℕ) (more : List Shipped) → l < links dims → reader_at dims l ≡ r → ending_at dims r got' l ≡ ending_at dims r got l ++ more
-      → length (in_of n'.node.conveyor l).parcel.untaken ≤ length (in_of n.node.conveyor l).parcel.untaken + length (flat_map (λ p. p.entries) more)
+      → lying n'.node.mover l ≤ lying n.node.mover l + length (flat_map (λ p. p.entries) more)
   pub forward : progress n ≤ progress n'
-  pub kept : (steady : Bool) (h : ℕ → S) → HasRank R dims cap steady r h n sent got → (g : ℕ → S) × (g 0 ≡ h 0) × HasRank R dims cap steady r g n' sent' got'
-  pub left : (steady : Bool) (h : ℕ → S) → HasRank R dims cap steady r h n sent got → n'.over ≡ false → progress n' ≡ progress n
+  pub kept : (manner : Manner) (h : ℕ → S) → HasRank R dims cap manner r h n sent got → (g : ℕ → S) × (g 0 ≡ h 0) × HasRank R dims cap manner r g n' sent' got'
+  pub left : (manner : Manner) (h : ℕ → S) → HasRank R dims cap manner r h n sent got → n'.over ≡ false → progress n' ≡ progress n
       → ((l : ℕ) → starting_at dims r sent' l ≡ starting_at dims r sent l) → ((l : ℕ) → ending_at dims r got' l ≡ ending_at dims r got l)
-      → IsLeft n.node.conveyor n'.node.conveyor (starting_at dims r sent) (ending_at dims r got) (starting_at dims r sent') (ending_at dims r got') (crowded_in dims slots r sent' got') (idle_in dims r sent' got')
+      → IsLeftBy n.node.mover n'.node.mover (starting_at dims r sent) (ending_at dims r got) (starting_at dims r sent') (ending_at dims r got') (crowded_in dims slots r sent' got') (idle_in dims r sent' got')

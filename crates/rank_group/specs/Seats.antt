@@ -2,6 +2,7 @@
 use Rattle.std.specs.Prelude.{◌≡◌, ℕ, ◌≤◌, Bool, false, List, length, slice_get, Some}
 use Rattle.link_slots.specs.Seen.{Bank, Manning, posted_on, collected_from}
 use Rattle.round_program.specs.Rules.{Rules}
+use Rattle.rank_node.specs.Movers.{Manner, epoch_in}
 use Rattle.rank_group.specs.Ranks.{RankState, IsRank}
 
 -- A rank and its seat: how many turns it made, and whether memory was wanting at the end of its run.
@@ -17,21 +18,21 @@ bank_of x = record { id = x.seat.id; shape = x.seat.shape }
 
 -- By its seat's lists it is a rank of a run; h m is the state of its program as round m began. Nothing is said where memory was wanting.
 -- few: it is in no later epoch than it made turns.
-pub record IsOnWay {S : Type 0} (R : Rules S) (cap : ℕ) (steady : Bool) (h : ℕ → S) (x : SeatedState S) : Type 0 where
-  pub runs : x.lost ≡ false → IsRank R x.seat.shape.dims cap steady x.seat.rank h x.rank (posted_on x.seat) (collected_from x.seat)
-  pub few : x.lost ≡ false → x.rank.over ≡ false → x.rank.node.conveyor.epoch ≤ x.turns
+pub record IsOnWay {S : Type 0} (R : Rules S) (cap : ℕ) (manner : Manner) (h : ℕ → S) (x : SeatedState S) : Type 0 where
+  pub runs : x.lost ≡ false → IsRank R x.seat.shape.dims cap manner x.seat.rank h x.rank (posted_on x.seat) (collected_from x.seat)
+  pub few : x.lost ≡ false → x.rank.over ≡ false → epoch_in x.rank.node.mover ≤ x.turns
 
 -- The same, of some run.
 pub record HasWay {S : Type 0} (R : Rules S) (cap : ℕ) (x : SeatedState S) : Type 0 where
-  pub steady : Bool
+  pub manner : Manner
   pub h : ℕ → S
-  pub way : IsOnWay R cap steady h x
+  pub way : IsOnWay R cap manner h x
 
 -- Turns took a rank from x to y: it sits where it sat, and is still on the way of its run.
 pub record Ran {S : Type 0} (R : Rules S) (cap : ℕ) (x y : SeatedState S) : Type 0 where
   pub bank : bank_of y ≡ bank_of x
   pub number : y.seat.rank ≡ x.seat.rank
-  pub kept : (steady : Bool) (h : ℕ → S) → IsOnWay R cap steady h x → (g : ℕ → S) × (g 0 ≡ h 0) × IsOnWay R cap steady g y
+  pub kept : (manner : Manner) (h : ℕ → S) → IsOnWay R cap manner h x → (g : ℕ → S) × (g 0 ≡ h 0) × IsOnWay R cap manner g y
 
 -- The same of each of some ranks.
 pub record AllRan {S : Type 0} (R : Rules S) (cap : ℕ) (xs ys : List (SeatedState S)) : Type 0 where
@@ -48,11 +49,11 @@ pub record IsAtPort {S : Type 0} (R : Rules S) (cap : ℕ) (p : PortState S) : T
   pub ran : Ran R cap p.first p.now
 
 -- A rank that hasn't turned sits at the bank b with the number r.
-pub record IsSeated {S : Type 0} (R : Rules S) (cap : ℕ) (steady : Bool) (b : Bank) (r : ℕ) (x : SeatedState S) : Type 0 where
+pub record IsSeated {S : Type 0} (R : Rules S) (cap : ℕ) (manner : Manner) (b : Bank) (r : ℕ) (x : SeatedState S) : Type 0 where
   pub bank : bank_of x ≡ b
   pub number : x.seat.rank ≡ r
-  pub way : IsOnWay R cap steady (λ m. x.rank.node.run.prog) x
+  pub way : IsOnWay R cap manner (λ m. x.rank.node.run.prog) x
 
 -- Ranks that haven't turned sit at the bank b in order.
-abbrev pub AreSeated : {S : Type 0} → Rules S → ℕ → Bool → Bank → List (SeatedState S) → Type 0
-AreSeated {S} R cap steady b xs = (r : ℕ) (x : SeatedState S) → slice_get xs r ≡ Some x → IsSeated R cap steady b r x
+abbrev pub AreSeated : {S : Type 0} → Rules S → ℕ → Manner → Bank → List (SeatedState S) → Type 0
+AreSeated {S} R cap manner b xs = (r : ℕ) (x : SeatedState S) → slice_get xs r ≡ Some x → IsSeated R cap manner b r x

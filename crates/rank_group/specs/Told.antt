@@ -5,11 +5,11 @@ use Rattle.route_tensor.specs.Grid.{ranks}
 use Rattle.route_tensor.specs.Link.{links}
 use Rattle.port_bank.specs.Logs.{lasts}
 use Rattle.convey.specs.Agreement.{EndsLast}
-use Rattle.port_bank.specs.Shapes.{IsConveyorShape}
 use Rattle.port_bank.specs.Round.{Round, logs_of, pushed, pulled}
 use Rattle.round_program.specs.Rules.{Rules}
 use Rattle.round_program.specs.Canonical.{absorbed_round, states_at, items_at, emitted_by}
 use Rattle.round_program.specs.Epochs.{vote_item}
+use Rattle.rank_node.specs.Movers.{Manner, IsShape}
 
 -- With what a bank was made: the grid, the capacity of a parcel, the slots of a link, and whether it was a slot bank.
 pub record Made : Type 0 where
@@ -29,9 +29,9 @@ vote_sent R (Some s) = vote_item (R.vote s) ∷ []
 -- work: in epoch 2m each rank pushed toward each rank what it emits to it in round m of the canonical run.
 -- votes: in epoch 2m + 1 it pushed its one vote on round m.
 -- all_came: each rank pulled what was pushed toward it.
--- shape: each parcel is filled as conveyors fill it, steady or not.
+-- shape: each parcel is filled as the transport fills it, conveyors steady or not.
 -- With two ranks and six rounds there are 12 epochs; in each odd one each of the four pairs has one item.
-pub record TellsRun {S : Type 0} (R : Rules S) (starts : List S) (n : ℕ) (made : Made) (steady : Bool) (round : Round) : Type 0 where
+pub record TellsRun {S : Type 0} (R : Rules S) (starts : List S) (n : ℕ) (made : Made) (manner : Manner) (round : Round) : Type 0 where
   pub bank : record { dims = round.dims; cap = round.cap; slots = round.slots; by_slots = round.by_slots } ≡ made
   pub ended : (l : ℕ) → l < links round.dims → lasts (logs_of round.sent l) ≡ 2 * n
   pub by_last : (l : ℕ) → l < links round.dims → EndsLast (logs_of round.sent l)
@@ -39,7 +39,7 @@ pub record TellsRun {S : Type 0} (R : Rules S) (starts : List S) (n : ℕ) (made
   pub work : (m s d : ℕ) → m < n → s < ranks round.dims → d < ranks round.dims → pushed round (2 * m) s d ≡ emitted_by R (states_at R starts m) d s
   pub votes : (m s d : ℕ) → m < n → s < ranks round.dims → d < ranks round.dims → pushed round (2 * m + 1) s d ≡ vote_sent R (slice_get (absorbed_round R (states_at R starts m)) s)
   pub all_came : (e s d : ℕ) → s < ranks round.dims → d < ranks round.dims → pulled round e d s ≡ pushed round e s d
-  pub shape : (l : ℕ) → l < links round.dims → IsConveyorShape steady round.cap (logs_of round.sent l)
+  pub shape : (l : ℕ) → l < links round.dims → IsShape manner round.cap (logs_of round.sent l)
 
 -- How many turns an epoch takes at most in which so many items are sent: each turn but P of them moves something, and a
 -- parcel or an entry moves at most so often.

@@ -14,10 +14,12 @@ use Rattle.port_bank.specs.Relay.{RelayLaw}
 use Rattle.hop_core.specs.declared.phase.Phase.TheVariants.{Dormant}
 use Rattle.hop_core.specs.declared.lent.Lent.TheVariants as lent
 use Rattle.hop_core.specs.State.{State}
-use Rattle.convey.specs.Buffers.{buffers_of, in_of}
-use Rattle.convey.specs.Parts.{part_of}
+use Rattle.convey.specs.Buffers.{in_of}
 use Rattle.round_program.specs.Rules.{Rules}
 use Rattle.round_program.specs.Canonical.{HasRounds, InRound}
+use Rattle.rank_node.specs.Movers.{MoverState, part_in, lying}
+use Rattle.rank_node.specs.Movers.MoverState.{Conveying, Stacking}
+use Rattle.rank_node.specs.Movers.Manner.{ByConveyor}
 use Rattle.rank_node.specs.Next.{extended}
 use Rattle.rank_group.specs.Ranks.{RankState, AllRanks, IsLeft, progress, crowded_in, idle_in}
 
@@ -29,9 +31,9 @@ entries_of log = flat_map (λ p. p.entries) log
 abbrev pub nowhere : State
 nowhere = record { dims = []; rank = 0; cap = 0; steady = false; outs = []; ins = []; done = false; phase = Dormant; epoch = 0; lent = lent.Nothing; pulled = None }
 
-abbrev pub conveyor_in : {S : Type 0} → Option (RankState S) → State
-conveyor_in None = nowhere
-conveyor_in (Some n) = n.node.conveyor
+abbrev pub mover_in : {S : Type 0} → Option (RankState S) → MoverState
+mover_in None = Conveying nowhere
+mover_in (Some n) = n.node.mover
 
 abbrev pub progress_in : {S : Type 0} → Option (RankState S) → ℕ
 progress_in None = 0
@@ -43,15 +45,15 @@ history_in h None = h
 history_in h (Some n) = cond n.over (extended h (n.node.run.round + 1) n.node.run.prog) h
 
 abbrev pub part_at : {S : Type 0} → List ℕ → List (RankState S) → Logs → Logs → ℕ → Part
-part_at dims rs sent got r = part_of (buffers_of (conveyor_in (slice_get rs r))) (starting_at dims r sent) (ending_at dims r got)
+part_at dims rs sent got r = part_in (mover_in (slice_get rs r)) (starting_at dims r sent) (ending_at dims r got)
 
 -- how many entries lie in the inbox of a link
 abbrev pub inbox : {S : Type 0} → List ℕ → List (RankState S) → ℕ → ℕ
-inbox dims rs l = length (in_of (conveyor_in (slice_get rs (reader_at dims l))) l).parcel.untaken
+inbox dims rs l = lying (mover_in (slice_get rs (reader_at dims l))) l
 
 -- all ranks over one plain bank
 pub record World {S : Type 0} (R : Rules S) (dims : List ℕ) (cap slots : ℕ) (steady : Bool) (starts : List S) (h : ℕ → ℕ → S) (rs : List (RankState S)) (sent got : Logs) : Type 0 where
-  pub ranked : AllRanks R dims cap slots steady starts h rs sent got
+  pub ranked : AllRanks R dims cap slots (ByConveyor steady) starts h rs sent got
   pub none_past : (l : ℕ) → links dims ≤ l → (sent l ≡ []) × (got l ≡ [])
   pub relays : (r : ℕ) → r < ranks dims → RelayLaw dims r sent got
   pub some : 0 < cap
@@ -70,7 +72,7 @@ pub record Lawful (dims : List ℕ) (cap slots : ℕ) (sent got : Logs) : Type 0
   pub none_past : (l : ℕ) → links dims ≤ l → (sent l ≡ []) × (got l ≡ [])
   pub relays : (r : ℕ) → r < ranks dims → RelayLaw dims r sent got
 
--- a rank at rest, over lists that its turn didn't change
+-- a rank at rest over a conveyor, over lists that its turn didn't change
 pub record Rests (dims : List ℕ) (slots r : ℕ) (c' : State) (sent got : Logs) : Type 0 where
   pub c : State
   pub same_dims : c.dims ≡ dims
@@ -78,6 +80,11 @@ pub record Rests (dims : List ℕ) (slots r : ℕ) (c' : State) (sent got : Logs
   pub same_epoch : c.epoch ≡ c'.epoch
   pub kept : (l : ℕ) → l < links dims → reader_at dims l ≡ r → length (in_of c l).parcel.untaken ≤ length (in_of c' l).parcel.untaken
   pub left : IsLeft c c' (starting_at dims r sent) (ending_at dims r got) (starting_at dims r sent) (ending_at dims r got) (crowded_in dims slots r sent got) (idle_in dims r sent got)
+
+-- only ranks over conveyors do
+abbrev pub RestsBy : List ℕ → ℕ → ℕ → MoverState → Logs → Logs → Type 0
+RestsBy dims slots r (Conveying c') sent got = Rests dims slots r c' sent got
+RestsBy dims slots r (Stacking cap x) sent got = ⊥
 
 -- What a drive is given: programs that begin one run of n rounds, and links with some slots.
 pub record Plan {S : Type 0} (R : Rules S) (dims : List ℕ) (slots : ℕ) (starts : List S) (n : ℕ) : Type 0 where
@@ -97,4 +104,4 @@ pub record SweptTo {S : Type 0} (R : Rules S) (dims : List ℕ) (cap slots : ℕ
   pub grown : moves dims rs0 sent0 got0 ≤ moves dims rs sent got
   pub forward : (r : ℕ) (x0 x : RankState S) → slice_get rs0 r ≡ Some x0 → slice_get rs r ≡ Some x → progress x0 ≤ progress x
   pub rests : moves dims rs sent got ≤ moves dims rs0 sent0 got0 → (j r : ℕ) → j < i → slice_get order j ≡ Some r → (x0 x : RankState S) → slice_get rs0 r ≡ Some x0 → slice_get rs r ≡ Some x
-      → x.over ≡ false → progress x ≡ progress x0 → Rests dims slots r x.node.conveyor sent got
+      → x.over ≡ false → progress x ≡ progress x0 → RestsBy dims slots r x.node.mover sent got

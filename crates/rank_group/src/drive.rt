@@ -6,13 +6,14 @@ ghost use Rattle.round_program.specs.Canonical.{InRound, HasRounds, EndsWithin, 
 ghost use Rattle.rank_group.specs.declared.closed_round.ClosedRound.{ClosedRound};
 ghost use Rattle.rank_group.specs.Ranks.{IsOrder};
 ghost use Rattle.rank_group.specs.Rounds.{round_of};
+ghost use Rattle.rank_node.specs.Movers.{manner_of};
 ghost use Rattle.rank_group.specs.Told.{TellsRun, turns_within};
 
 use crate::closed_round::{ClosedRound, Rounds};
+use crate::closes::closes_laws;
 use crate::ranks::{ranks_of, take_progs};
 use crate::running::run_all;
 use bale_types::NoMemory;
-use convey::closes_law;
 use port_bank::PlainBank;
 use rank_node::{Steps, Via};
 use round_program::{Program, Progs};
@@ -46,6 +47,7 @@ pub fn drive_serial<const CAP: usize, const HOPS: usize, Q: Program, L: Ledger>(
     requires some { 0 < CAP }
     requires small { CAP ≤ 1024 }
     requires hops { length grid.now ≡ HOPS }
+    requires conveyors { via ≡ Via.Convey }
     requires slots { IsSlots slots }
     requires order { IsOrder (ranks grid.now) order.now }
     requires begins { (shape : List ℕ) × (most : ℕ) × InRound Q.rules (ranks grid.now) 0 shape most progs × EndsWithin Q.rules progs most }
@@ -55,12 +57,12 @@ pub fn drive_serial<const CAP: usize, const HOPS: usize, Q: Program, L: Ledger>(
 
     // One closed round tells what was exchanged.
     ensures rounds { IfOk result (λ f. (c : ClosedRound) × (f.rounds ≡ c ∷ []) × ((n : ℕ) → HasRounds Q.rules progs n
-        → TellsRun Q.rules progs n (record { dims = grid.now; cap = CAP; slots = slots; by_slots = false }) steady (round_of c))) }
+        → TellsRun Q.rules progs n (record { dims = grid.now; cap = CAP; slots = slots; by_slots = false }) (manner_of via steady) (round_of c))) }
 
     // The turns are bounded before the run, also where it ends in `NoMemory`.
     ensures steps { (n : ℕ) → HasRounds Q.rules progs n → steps.new ≤ steps.old + turns_within Q.rules grid.now progs n }
 {
-    closes_law();
+    closes_laws();
     let mut all = ranks_of::<CAP, HOPS, Q>(alloc, grid, via, steady, progs)?;
     let bank = PlainBank::<CAP>::new(alloc, grid, slots)?;
     let bank = run_all(bank, &mut all, order, steps)?;

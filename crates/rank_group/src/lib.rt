@@ -1,4 +1,4 @@
-//! The ranks of a run: programs that exchange their items over conveyors.
+//! The ranks of a run: programs that exchange their items over conveyors or exstacks.
 //!
 //! A rank is a node of rank_node and whether its run is over. Ranks may be turned in whatever order, since a turn never waits. A
 //! *sweep* turns each rank once, and `drive_serial` makes sweeps until no epoch follows for any rank.
@@ -17,6 +17,7 @@ mod alone;
 mod at_port;
 mod child;
 mod closed_round;
+mod closes;
 mod drive;
 mod gate;
 mod job;

@@ -2,6 +2,7 @@
 ghost use Rattle.std.specs.Prelude.{◌≡◌, ℕ, ◌<◌, ◌≤◌, List, length, IfOk};
 ghost use Rattle.route_tensor.specs.Grid.{ranks};
 ghost use Rattle.round_program.specs.Canonical.{InRound};
+ghost use Rattle.rank_node.specs.Movers.{manner_of};
 ghost use Rattle.rank_group.specs.Drives.{progs_of, AreFresh};
 
 use crate::sweeping::Rank;
@@ -22,8 +23,9 @@ pub(crate) fn ranks_of<const CAP: usize, const HOPS: usize, Q: Program>(
     requires some { 0 < CAP }
     requires small { CAP ≤ 1024 }
     requires hops { length grid.now ≡ HOPS }
+    requires one_hop { via ≡ Via.Exstack → length grid.now ≡ 1 }
     requires begins { (shape : List ℕ) × (most : ℕ) × InRound Q.rules (ranks grid.now) 0 shape most progs }
-    ensures fresh { IfOk result (λ all. AreFresh Q.rules grid.now steady progs all.items) }
+    ensures fresh { IfOk result (λ all. AreFresh Q.rules grid.now CAP (manner_of via steady) progs all.items) }
 {
     let mut progs = progs;
     let mut all = Vec::new(alloc);

@@ -8,9 +8,10 @@ ghost use Rattle.rank_group.specs.Worlds.{Plan, World};
 ghost use Rattle.rank_group.specs.Drives.{progs_of};
 ghost use Rattle.rank_group.specs.Ranks.{RankState, IsOrder};
 
+use crate::closes::closes_laws;
 use crate::sweeping::{Rank, sweep};
 use bale_types::NoMemory;
-use convey::{closes_law, rest_law};
+use convey::rest_law;
 use port_bank::PlainBank;
 use rank_node::Steps;
 use round_program::Program;
@@ -38,7 +39,7 @@ pub(crate) fn run_all<const CAP: usize, const HOPS: usize, Q: Program, L: Ledger
         → World Q.rules bank.entry.dims CAP bank.entry.slots steady starts h all.old.items (sent_of bank.entry) (got_of bank.entry)
         → steps.new ≤ steps.old + turns_within Q.rules bank.entry.dims starts n }
 {
-    closes_law();
+    closes_laws();
     rest_law();
     let mut bank = bank;
     loop {

@@ -3,6 +3,7 @@ ghost use Rattle.std.specs.Prelude.{◌≡◌, ℕ, ◌<◌, ◌^◌, Bool, fals
 ghost use Rattle.std.specs.List.{All};
 ghost use Rattle.list_laws.specs.Lists.{EachAt};
 ghost use Rattle.route_tensor.specs.Grid.{ranks};
+ghost use Rattle.rank_node.specs.Movers.{Manner};
 ghost use Rattle.rank_group.specs.Drives.{AreFresh};
 ghost use Rattle.rank_group.specs.Seats.{bank_of, AreSeated};
 
@@ -24,10 +25,10 @@ pub(crate) fn seat_all<const CAP: usize, const HOPS: usize, Q: Program>(
     requires none { gather.old.given ≡ replicate (ranks bank.now.shape.dims) false }
     requires size { length all.items ≡ ranks bank.now.shape.dims }
     requires few { ranks bank.now.shape.dims < 2 ^ 32 }
-    requires fresh { (steady : Bool) × (starts : List Q) × AreFresh Q.rules bank.now.shape.dims steady starts all.items }
+    requires fresh { (manner : Manner) × (starts : List Q) × AreFresh Q.rules bank.now.shape.dims CAP manner starts all.items }
     ensures bank { (gather.new.id ≡ bank.now.id) × (gather.new.shape ≡ bank.now.shape) }
     ensures ranks { IfOk result (λ xs. map (λ x. x.rank) xs.items ≡ all.items) }
-    ensures seated { (steady : Bool) (starts : List Q) → AreFresh Q.rules bank.now.shape.dims steady starts all.items → IfOk result (λ xs. AreSeated Q.rules CAP steady bank.now xs.items) }
+    ensures seated { (manner : Manner) (starts : List Q) → AreFresh Q.rules bank.now.shape.dims CAP manner starts all.items → IfOk result (λ xs. AreSeated Q.rules CAP manner bank.now xs.items) }
 {
     let mut seated = Vec::with_capacity(alloc, all.len())?;
     let mut number = 0;

@@ -6,7 +6,8 @@ ghost use Rattle.std.specs.Prelude.{◌≡◌, ◌≢◌, ℕ, ◌+◌, ◌*◌,
 ghost use Rattle.route_tensor.specs.Grid.{ranks};
 ghost use Rattle.port_bank.specs.Plain.{IsBank, sent_of, got_of};
 ghost use Rattle.port_bank.specs.Logs.{starting_at, ending_at};
-ghost use Rattle.convey.specs.Law.{ClosesLaw};
+ghost use Rattle.rank_group.specs.Closes.{ClosesLaws};
+ghost use Rattle.rank_node.specs.Movers.{dims_of, rank_of, epoch_in};
 ghost use Rattle.rank_node.specs.Nodes.{IsNode};
 ghost use Rattle.rank_group.specs.Worlds.{Plan, World, SweptTo};
 ghost use Rattle.rank_group.specs.Ranks.{RankState, HasRank, AfterTurn, AfterRank, IsOrder};
@@ -42,8 +43,8 @@ fn turn_rank<const CAP: usize, const HOPS: usize, Q: Program, L: Ledger>(
     steps: &mut Steps<L>,
 ) -> Result<PlainBank<CAP>, NoMemory>
     requires number { number < ranks bank.dims }
-    requires few { rank.old.node.conveyor.epoch < 2 ^ 63 }
-    requires rank { (steady : _) × (h : ℕ → Q) × HasRank Q.rules bank.dims CAP steady number h rank.old (sent_of bank) (got_of bank) }
+    requires few { epoch_in rank.old.node.mover < 2 ^ 63 }
+    requires rank { (manner : _) × (h : ℕ → Q) × HasRank Q.rules bank.dims CAP manner number h rank.old (sent_of bank) (got_of bank) }
     ensures lawful { IfOk result (λ b. IsBank CAP b) }
     ensures same_dims { IfOk result (λ b. b.dims ≡ bank.entry.dims) }
     ensures same_slots { IfOk result (λ b. b.slots ≡ bank.entry.slots) }
@@ -72,8 +73,8 @@ fn turn_node<const CAP: usize, const HOPS: usize, Q: Program, L: Ledger>(
     steps: &mut Steps<L>,
 ) -> Result<(PlainBank<CAP>, Turn), NoMemory>
     requires number { number < ranks bank.dims }
-    requires same_dims { node.old.conveyor.dims ≡ bank.dims }
-    requires same_rank { node.old.conveyor.rank ≡ number }
+    requires same_dims { dims_of node.old.mover ≡ bank.dims }
+    requires same_rank { rank_of node.old.mover ≡ number }
     requires node { (h : ℕ → Q) × IsNode Q.rules h node.old (starting_at bank.dims number (sent_of bank)) (ending_at bank.dims number (got_of bank)) }
     ensures lawful { IfOk result (λ b. IsBank CAP b.0) }
     ensures same_dims { IfOk result (λ b. b.0.dims ≡ bank.entry.dims) }
@@ -94,7 +95,7 @@ fn turn_one<const CAP: usize, const HOPS: usize, Q: Program, L: Ledger>(
     steps: &mut Steps<L>,
 ) -> Result<PlainBank<CAP>, NoMemory>
     requires number { number < ranks bank.dims }
-    requires law { ClosesLaw }
+    requires law { ClosesLaws }
     requires world { (steady : Bool) × (starts : List Q) × (n : ℕ) × (h : ℕ → ℕ → Q) × Plan Q.rules bank.dims bank.slots starts n × World Q.rules bank.dims CAP bank.slots steady starts h all.old.items (sent_of bank) (got_of bank) }
     ensures size { length all.new.items ≡ length all.old.items }
     ensures others { (k : ℕ) → k ≢ number → slice_get all.new.items k ≡ slice_get all.old.items k }
@@ -115,7 +116,7 @@ pub(crate) fn sweep<const CAP: usize, const HOPS: usize, Q: Program, L: Ledger>(
     order: &[u32],
     steps: &mut Steps<L>,
 ) -> Result<PlainBank<CAP>, NoMemory>
-    requires law { ClosesLaw }
+    requires law { ClosesLaws }
     requires order { IsOrder (ranks bank.dims) order.now }
     requires lawful { IsBank CAP bank }
     requires world { (steady : Bool) × (starts : List Q) × (n : ℕ) × (h : ℕ → ℕ → Q) × Plan Q.rules bank.dims bank.slots starts n × World Q.rules bank.dims CAP bank.slots steady starts h all.old.items (sent_of bank) (got_of bank) }

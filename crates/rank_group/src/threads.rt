@@ -5,16 +5,17 @@ ghost use Rattle.port_bank.specs.Port.{IsSlots};
 ghost use Rattle.round_program.specs.Canonical.{InRound, HasRounds, EndsWithin, HaveEnded};
 ghost use Rattle.rank_group.specs.declared.closed_round.ClosedRound.{ClosedRound};
 ghost use Rattle.rank_group.specs.Rounds.{round_of};
+ghost use Rattle.rank_node.specs.Movers.{manner_of};
 ghost use Rattle.rank_group.specs.Told.{TellsRun};
 
 use crate::closed_round::{ClosedRound, Rounds};
+use crate::closes::closes_laws;
 use crate::drive::Finished;
 use crate::gate::Gate;
 use crate::ranks::{ranks_of, take_progs};
 use crate::seating::{gather_all, seat_all};
 use crate::together::run_together;
 use bale_types::NoMemory;
-use convey::closes_law;
 use link_slots::SlotBank;
 use rank_node::Via;
 use round_program::{Program, Progs};
@@ -51,6 +52,7 @@ pub fn drive_threads<
     requires some { 0 < CAP }
     requires small { CAP ≤ 1024 }
     requires hops { length grid.now ≡ HOPS }
+    requires one_hop { via ≡ Via.Exstack → length grid.now ≡ 1 }
     requires slots { IsSlots slots }
     requires begins { (shape : List ℕ) × (most : ℕ) × InRound Q.rules (ranks grid.now) 0 shape most progs × EndsWithin Q.rules progs most }
 
@@ -59,7 +61,7 @@ pub fn drive_threads<
 
     // One closed round tells what was exchanged.
     ensures rounds { IfOk result (λ f. (c : ClosedRound) × (f.rounds ≡ c ∷ []) × ((n : ℕ) → HasRounds Q.rules progs n
-        → TellsRun Q.rules progs n (record { dims = grid.now; cap = CAP; slots = slots; by_slots = true }) steady (round_of c))) }
+        → TellsRun Q.rules progs n (record { dims = grid.now; cap = CAP; slots = slots; by_slots = true }) (manner_of via steady) (round_of c))) }
 {
     let threads = grid.ranks() as usize;
     drive_with::<CAP, HOPS, R, Q, G>(rt, alloc, grid, via, slots, steady, progs, gate, threads)
@@ -86,13 +88,14 @@ pub(crate) fn drive_with<
     requires some { 0 < CAP }
     requires small { CAP ≤ 1024 }
     requires hops { length grid.now ≡ HOPS }
+    requires one_hop { via ≡ Via.Exstack → length grid.now ≡ 1 }
     requires slots { IsSlots slots }
     requires begins { (shape : List ℕ) × (most : ℕ) × InRound Q.rules (ranks grid.now) 0 shape most progs × EndsWithin Q.rules progs most }
     ensures ended { IfOk result (λ f. HaveEnded Q.rules progs f.progs) }
     ensures rounds { IfOk result (λ f. (c : ClosedRound) × (f.rounds ≡ c ∷ []) × ((n : ℕ) → HasRounds Q.rules progs n
-        → TellsRun Q.rules progs n (record { dims = grid.now; cap = CAP; slots = slots; by_slots = true }) steady (round_of c))) }
+        → TellsRun Q.rules progs n (record { dims = grid.now; cap = CAP; slots = slots; by_slots = true }) (manner_of via steady) (round_of c))) }
 {
-    closes_law();
+    closes_laws();
     let _few = grid.ranks();
     let all = ranks_of::<CAP, HOPS, Q>(alloc, grid, via, steady, progs)?;
     let (bank, mut gather) = SlotBank::<CAP>::new(alloc, grid, slots)?;

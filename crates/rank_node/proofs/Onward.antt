@@ -11,11 +11,13 @@ use Rattle.hop_core.specs.State.{State}
 use Rattle.convey.specs.Buffers.{is_complete}
 use Rattle.round_program.specs.Rules.{Rules}
 use Rattle.round_program.specs.Laws.{Laws}
+use Rattle.rank_node.specs.declared.mover.Mover.{Mover}
+use Rattle.rank_node.specs.declared.mover.Mover.TheVariants as mover
 use Rattle.rank_node.specs.declared.sends.Sends.{Sends}
 use Rattle.rank_node.specs.declared.sends.Sends.TheVariants.{Emissions, Nothing, Votes}
 use Rattle.rank_node.specs.Sending.{is_voting, epoch_of, spoiled_vote}
 use Rattle.rank_node.specs.Runs.{Running, HasTaken}
-use Rattle.rank_node.specs.Movers.{MoverState, dims_of, rank_of, epoch_in, part_in, has_completed, IsConveying, IsMoving, IsStarting, GoesOn}
+use Rattle.rank_node.specs.Movers.{MoverState, seen, HasCap, dims_of, rank_of, epoch_in, part_in, has_completed, IsConveying, IsMoving, IsStarting, GoesOn}
 use Rattle.rank_node.specs.Movers.MoverState.{Conveying, Stacking}
 use Rattle.rank_node.specs.Nodes.{NodeState, IsPaced, IsNode}
 use Rattle.rank_node.specs.Next.{extended}
@@ -94,3 +96,8 @@ module _ {S : Type 0} (R : Rules S) (laws : Laws R) (h : ℕ → S) (n : NodeSta
         by Emissions v t = absurd (true≢false (sym v))
         by Nothing v t = absurd (true≢false (sym v))
         by (Votes v q) e t = to_work R laws (ranks (dims_of n.mover)) (rank_of n.mover) h n.run.round n.run.next n.run.prog prog' n.run.sum lost sends (part_in n.mover sent got) v q done clean few goes work ended some none t
+
+-- a mover has the capacity of its type
+pub seen_cap : {cap hops : ℕ} (m : Mover cap hops) → HasCap cap (seen m)
+seen_cap (mover.Convey c) = tt
+seen_cap (mover.Exstack x) = refl

@@ -69,6 +69,16 @@ abbrev pub has_completed : MoverState → Bool
 has_completed (Conveying c) = is_complete c.phase
 has_completed (Stacking cap x) = exstack_parts.is_all_done x.stage
 
+-- An exstack is one for parcels of so many entries.
+abbrev pub HasCap : ℕ → MoverState → Type 0
+HasCap cap (Conveying c) = ⊤
+HasCap cap (Stacking k x) = k ≡ cap
+
+-- How many entries lie in a conveyor's inbox of a link.
+abbrev pub lying : MoverState → ℕ → ℕ
+lying (Conveying c) l = length (in_of c l).parcel.untaken
+lying (Stacking cap x) l = 0
+
 -- The rank's part of the exchange machine, over a port with these lists.
 abbrev pub part_in : MoverState → Logs → Logs → Part
 part_in (Conveying c) sent got = conveyor_parts.part_of (buffers_of c) sent got

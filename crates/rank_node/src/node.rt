@@ -6,7 +6,7 @@ ghost use Rattle.route_tensor.specs.Ends.{sender_at, reader_at};
 ghost use Rattle.port_bank.specs.Logs.{Logs};
 ghost use Rattle.list_laws.specs.Lists.{Begins};
 ghost use Rattle.rank_node.specs.Sending.{is_voting};
-ghost use Rattle.rank_node.specs.Movers.{IsShape, dims_of, rank_of, epoch_in, manner_in, manner_of, has_completed, NoneUnread, SameUnread};
+ghost use Rattle.rank_node.specs.Movers.{IsShape, dims_of, rank_of, epoch_in, manner_in, manner_of, has_completed, HasCap, NoneUnread, SameUnread};
 ghost use Rattle.rank_node.specs.Moves.{Leaves, Waits};
 ghost use Rattle.rank_node.specs.Nodes.{IsNode};
 ghost use Rattle.rank_node.specs.Next.{extended, HasStopped};
@@ -72,6 +72,7 @@ impl<Q: Program, const CAP: usize, const HOPS: usize> Node<Q, CAP, HOPS> {
         ensures dims { IfOk result (λ n. dims_of n.mover ≡ grid.now) }
         ensures rank { IfOk result (λ n. rank_of n.mover ≡ Q.rules.rank prog) }
         ensures manner { IfOk result (λ n. manner_in n.mover ≡ manner_of via steady) }
+        ensures cap { IfOk result (λ n. HasCap CAP n.mover) }
         ensures epoch { IfOk result (λ n. epoch_in n.mover ≡ 0) }
         ensures unread { IfOk result (λ n. NoneUnread n.mover) }
     {
@@ -119,6 +120,7 @@ impl<Q: Program, const CAP: usize, const HOPS: usize> Node<Q, CAP, HOPS> {
         ensures self_dims { dims_of self.new.mover ≡ dims_of self.old.mover }
         ensures self_rank { rank_of self.new.mover ≡ rank_of self.old.mover }
         ensures manner { manner_in self.new.mover ≡ manner_in self.old.mover }
+        ensures cap { HasCap CAP self.new.mover }
         ensures epoch { epoch_in self.new.mover ≡ epoch_in self.old.mover }
         ensures round { self.new.run.round ≡ self.old.run.round }
         ensures sends { self.new.run.sends ≡ self.old.run.sends }
@@ -165,6 +167,7 @@ impl<Q: Program, const CAP: usize, const HOPS: usize> Node<Q, CAP, HOPS> {
         ensures self_dims { dims_of self.new.mover ≡ dims_of self.old.mover }
         ensures self_rank { rank_of self.new.mover ≡ rank_of self.old.mover }
         ensures manner { manner_in self.new.mover ≡ manner_in self.old.mover }
+        ensures cap { HasCap CAP self.new.mover }
         ensures epoch { result ≡ Ok true → epoch_in self.new.mover ≡ epoch_in self.old.mover + 1 }
         ensures unread { SameUnread self.old.mover self.new.mover }
 

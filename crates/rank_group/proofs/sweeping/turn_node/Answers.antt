@@ -1,6 +1,7 @@
 use Rattle.std.proofs.Common.{rules, ◌≡◌, Ok, ap, ◌∙◌, sym, subst}
 use Rattle.port_bank.specs.Plain.{Bank, sent_of, got_of}
 use Rattle.port_bank.specs.Logs.{starting_at, ending_at}
+use Rattle.rank_node.specs.Movers.{dims_of}
 use Rattle.rank_node.specs.Nodes.{IsNode}
 use Rattle.rank_group.specs.Ranks.{AfterTurn}
 use Rattle.rank_group.proofs.Ranked.{PortTurn, after_turn}
@@ -13,7 +14,7 @@ turn-requires g c =
     let er = c.port-port.ensures.rank in (
       search rules,
       (
-        subst (λ (b : Bank). b.dims ≡ c.args.node.now.conveyor.dims) (sym eb) (sym c.requires.same_dims),
+        subst (λ (b : Bank). b.dims ≡ dims_of c.args.node.now.mover) (sym eb) (sym c.requires.same_dims),
         (
           er ∙ sym c.requires.same_rank,
           (
@@ -38,16 +39,17 @@ returns-clause-turned g c =
       rest = c.turn.ensures.rest;
       node_dims = c.turn.ensures.self_dims;
       node_rank = c.turn.ensures.self_rank;
-      node_steady = c.turn.ensures.steady;
+      node_manner = c.turn.ensures.manner;
+      node_cap = c.turn.ensures.cap;
       node_epoch = c.turn.ensures.epoch;
       sent_grows = c.turn.ensures.sent_grows;
       got_grows = c.turn.ensures.got_grows;
       shape = c.turn.ensures.shape;
-      lies = c.turn.ensures.lies;
+      leaves = c.turn.ensures.leaves;
       kept = c.turn.ensures.kept;
       ended = λ e. c.in_ok-turn.ensures.ended (ap Ok e);
       going = λ e. c.in_ok-turn.ensures.going (ap Ok e);
-      stuck = c.in_ok-turn.ensures.stuck;
+      waits = c.in_ok-turn.ensures.waits;
     } in
     subst (λ (b : Bank). AfterTurn R c.args.bank.dims g.row.CAP c.args.bank.slots c.args.number c.in_ok-turn.turn n n' (sent_of c.args.bank) (got_of c.args.bank) (sent_of b) (got_of b)) (sym c.into_bank.ensures.bank)
     (after_turn R g.row.CAP c.args.number c.in_ok-turn.turn n n' c.args.bank b1 c.port-port.result.rank c.turn.new.port.rank c.port-port.ensures.rank c.turn.ensures.same_rank c.requires.same_dims c.requires.same_rank

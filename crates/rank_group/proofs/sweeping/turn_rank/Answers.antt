@@ -2,6 +2,7 @@ use Rattle.std.proofs.Common.{rules, ◌<◌, ◌^◌, not, ap, Ok, ◌∙◌, s
 use Rattle.port_bank.specs.Plain.{sent_of, got_of}
 use Rattle.port_bank.specs.Logs.{starting_at, ending_at}
 use Rattle.rank_node.specs.declared.turn.Turn.{Turn}
+use Rattle.rank_node.specs.Movers.{epoch_in}
 use Rattle.rank_group.specs.Ranks.{RankState, HasRank, AfterTurn, AfterRank}
 use Rattle.rank_group.proofs.OneTurn.{NextTold}
 use Rattle.rank_group.proofs.Ranked.{rank_over, rank_going, rank_ended}
@@ -15,21 +16,21 @@ returns-then-rank-clause-turned g c =
 pub turn_node-requires : goal.turn_node-requires
 turn_node-requires g c =
     let inside : RankState g.row.Q.Denot = record { node = c.rank.inside.node; over = c.rank.inside.over } in
-    let steady = c.requires.rank.0 in
+    let manner = c.requires.rank.0 in
     let h = c.requires.rank.1 in
-    let is : HasRank g.Q.Program.rules c.args.bank.dims g.row.CAP steady c.args.number h inside (sent_of c.args.bank) (got_of c.args.bank) =
-    subst (λ (m : RankState g.row.Q.Denot). HasRank g.Q.Program.rules c.args.bank.dims g.row.CAP steady c.args.number h m (sent_of c.args.bank) (got_of c.args.bank)) (sym c.rank.view_is) c.requires.rank.2 in
+    let is : HasRank g.Q.Program.rules c.args.bank.dims g.row.CAP manner c.args.number h inside (sent_of c.args.bank) (got_of c.args.bank) =
+    subst (λ (m : RankState g.row.Q.Denot). HasRank g.Q.Program.rules c.args.bank.dims g.row.CAP manner c.args.number h m (sent_of c.args.bank) (got_of c.args.bank)) (sym c.rank.view_is) c.requires.rank.2 in
     (search rules, (search rules, (c.requires.number, (is.same_dims, (is.same_rank, (h, is.runs c.if-rank.false))))))
 
 pub next-requires : goal.next-requires
 next-requires g c =
     let inside : RankState g.row.Q.Denot = record { node = c.rank.inside.node; over = c.rank.inside.over } in
-    let steady = c.requires.rank.0 in
+    let manner = c.requires.rank.0 in
     let h = c.requires.rank.1 in
-    let is : HasRank g.Q.Program.rules c.args.bank.dims g.row.CAP steady c.args.number h inside (sent_of c.args.bank) (got_of c.args.bank) =
-    subst (λ (m : RankState g.row.Q.Denot). HasRank g.Q.Program.rules c.args.bank.dims g.row.CAP steady c.args.number h m (sent_of c.args.bank) (got_of c.args.bank)) (sym c.rank.view_is) c.requires.rank.2 in
+    let is : HasRank g.Q.Program.rules c.args.bank.dims g.row.CAP manner c.args.number h inside (sent_of c.args.bank) (got_of c.args.bank) =
+    subst (λ (m : RankState g.row.Q.Denot). HasRank g.Q.Program.rules c.args.bank.dims g.row.CAP manner c.args.number h m (sent_of c.args.bank) (got_of c.args.bank)) (sym c.rank.view_is) c.requires.rank.2 in
     let t = c.in_ok-bank.ensures.turned in
-    let few = subst (λ (m : RankState g.row.Q.Denot). m.node.conveyor.epoch < 2 ^ 63) (sym c.rank.view_is) c.requires.few in
+    let few = subst (λ (m : RankState g.row.Q.Denot). epoch_in m.node.mover < 2 ^ 63) (sym c.rank.view_is) c.requires.few in
     (search rules, (t.ended c.in-Ended.is, (subst (λ e. e < 2 ^ 63) (sym t.node_epoch) few, (h, starting_at c.args.bank.dims c.args.number (sent_of c.in_ok-bank.bank), ending_at c.args.bank.dims c.args.number (got_of c.in_ok-bank.bank), t.kept h (is.runs c.if-rank.false)))))
 
 pub returns-in-Going-clause-turned : goal.returns-in-Going-clause-turned
@@ -46,10 +47,11 @@ returns-in_ok-rank-inside-in-Ended-clause-turned g c =
     let inside : RankState g.row.Q.Denot = record { node = c.rank.inside.node; over = c.rank.inside.over } in
     let more = c.in_ok-rank-inside-in-Ended.field-0 in
     let t = subst (λ (u : Turn). AfterTurn R c.args.bank.dims g.row.CAP c.args.bank.slots c.args.number u c.rank.inside.node c.turn_node.new.node (sent_of c.args.bank) (got_of c.args.bank) (sent_of c.in_ok-bank.bank) (got_of c.in_ok-bank.bank)) c.in-Ended.is c.in_ok-bank.ensures.turned in
-    let x : NextTold R c.turn_node.new.node c.next.new.self more = record {
+    let x : NextTold R g.row.CAP c.turn_node.new.node c.next.new.self more = record {
       self_dims = c.next.ensures.self_dims;
       self_rank = c.next.ensures.self_rank;
-      steady = c.next.ensures.steady;
+      manner = c.next.ensures.manner;
+      cap_is = c.next.ensures.cap;
       epoch = λ e. c.in_ok-rank-inside-in-Ended.ensures.epoch (ap Ok e);
       unread = c.next.ensures.unread;
       votes = λ v. (ok_once (c.in_ok-rank-inside-in-Ended.ensures.votes v).0, (c.in_ok-rank-inside-in-Ended.ensures.votes v).1);

@@ -6,6 +6,7 @@ use Rattle.link_slots.specs.Closed.{slot_round}
 use Rattle.link_slots.specs.Seen.{Manning, posted_on, collected_from}
 use Rattle.link_slots.specs.Shape.{Shape}
 use Rattle.round_program.specs.Canonical.{InRound}
+use Rattle.rank_node.specs.Movers.{manner_of}
 use Rattle.rank_group.specs.declared.closed_round.ClosedRound.TheVariants.{Slots}
 use Rattle.rank_group.specs.Drives.{progs_of, AreFresh}
 use Rattle.rank_group.specs.Told.{Made, TellsRun}
@@ -17,15 +18,15 @@ use Rattle.rank_group.proofs.threads.drive_with.Goals as goal
 pub run_together-requires-clause-bank : goal.run_together-requires-clause-bank
 run_together-requires-clause-bank g c κs within =
     let R = g.Q.Program.rules in
-    let fresh = subst (λ (h : Shape). AreFresh R h.dims c.args.steady c.args.progs c.in_ok-all.all.items) (sym c.in_ok-bank.ensures.bank) c.in_ok-all.ensures.fresh in
-    (search rules, (search rules, seats_at R g.row.CAP c.args.steady c.in_ok-bank.bank c.in_ok-seated.seated.items (c.in_ok-seated.ensures.seated c.args.steady c.args.progs fresh)))
+    let fresh = subst (λ (h : Shape). AreFresh R h.dims g.row.CAP (manner_of c.args.via c.args.steady) c.args.progs c.in_ok-all.all.items) (sym c.in_ok-bank.ensures.bank) c.in_ok-all.ensures.fresh in
+    (search rules, (search rules, seats_at R g.row.CAP (manner_of c.args.via c.args.steady) c.in_ok-bank.bank c.in_ok-seated.seated.items (c.in_ok-seated.ensures.seated (manner_of c.args.via c.args.steady) c.args.progs fresh)))
 
 pub gather_all-requires : goal.gather_all-requires
 gather_all-requires g c =
     let R = g.Q.Program.rules in
-    let fresh = subst (λ (h : Shape). AreFresh R h.dims c.args.steady c.args.progs c.in_ok-all.all.items) (sym c.in_ok-bank.ensures.bank) c.in_ok-all.ensures.fresh in
+    let fresh = subst (λ (h : Shape). AreFresh R h.dims g.row.CAP (manner_of c.args.via c.args.steady) c.args.progs c.in_ok-all.all.items) (sym c.in_ok-bank.ensures.bank) c.in_ok-all.ensures.fresh in
     let start = subst (λ (h : Shape). InRound R (ranks h.dims) 0 c.requires.begins.0 c.requires.begins.1 c.args.progs) (sym c.in_ok-bank.ensures.bank) c.requires.begins.2 in
-    let seated = c.in_ok-seated.ensures.seated c.args.steady c.args.progs fresh in (
+    let seated = c.in_ok-seated.ensures.seated (manner_of c.args.via c.args.steady) c.args.progs fresh in (
       search rules,
       (
         search rules,
@@ -36,8 +37,8 @@ gather_all-requires g c =
             (
               c.seat_all.ensures.bank,
               (
-                sat_at R g.row.CAP c.in_ok-bank.bank c.args.steady c.args.progs c.requires.begins.0 c.requires.begins.1 start c.in_ok-all.all.items fresh c.in_ok-seated.seated.items c.in_ok-ended.ended.items c.in_ok-seated.ensures.ranks seated c.in_ok-ended.ensures.ran,
-                numbered_at R g.row.CAP c.in_ok-bank.bank c.args.steady c.args.progs c.requires.begins.0 c.requires.begins.1 start c.in_ok-all.all.items fresh c.in_ok-seated.seated.items c.in_ok-ended.ended.items c.in_ok-seated.ensures.ranks seated c.in_ok-ended.ensures.ran,
+                sat_at R g.row.CAP c.in_ok-bank.bank (manner_of c.args.via c.args.steady) c.args.progs c.requires.begins.0 c.requires.begins.1 start c.in_ok-all.all.items fresh c.in_ok-seated.seated.items c.in_ok-ended.ended.items c.in_ok-seated.ensures.ranks seated c.in_ok-ended.ensures.ran,
+                numbered_at R g.row.CAP c.in_ok-bank.bank (manner_of c.args.via c.args.steady) c.args.progs c.requires.begins.0 c.requires.begins.1 start c.in_ok-all.all.items fresh c.in_ok-seated.seated.items c.in_ok-ended.ended.items c.in_ok-seated.ensures.ranks seated c.in_ok-ended.ensures.ran,
               ),
             ),
           ),
@@ -48,15 +49,15 @@ gather_all-requires g c =
 pub close-requires : goal.close-requires
 close-requires g c =
     let R = g.Q.Program.rules in
-    let fresh = subst (λ (h : Shape). AreFresh R h.dims c.args.steady c.args.progs c.in_ok-all.all.items) (sym c.in_ok-bank.ensures.bank) c.in_ok-all.ensures.fresh in
+    let fresh = subst (λ (h : Shape). AreFresh R h.dims g.row.CAP (manner_of c.args.via c.args.steady) c.args.progs c.in_ok-all.all.items) (sym c.in_ok-bank.ensures.bank) c.in_ok-all.ensures.fresh in
     let start = subst (λ (h : Shape). InRound R (ranks h.dims) 0 c.requires.begins.0 c.requires.begins.1 c.args.progs) (sym c.in_ok-bank.ensures.bank) c.requires.begins.2 in
-    let seated = c.in_ok-seated.ensures.seated c.args.steady c.args.progs fresh in (
+    let seated = c.in_ok-seated.ensures.seated (manner_of c.args.via c.args.steady) c.args.progs fresh in (
       search rules,
       (
         search rules,
         (
           c.gather_all.ensures.bank,
-          all_there R g.row.CAP c.in_ok-bank.bank c.args.steady c.args.progs c.requires.begins.0 c.requires.begins.1 start c.in_ok-all.all.items fresh c.in_ok-seated.seated.items c.in_ok-ended.ended.items c.in_ok-seated.ensures.ranks seated c.in_ok-ended.ensures.ran c.gather_all.new.gather c.in_ok-over.ensures.there,
+          all_there R g.row.CAP c.in_ok-bank.bank (manner_of c.args.via c.args.steady) c.args.progs c.requires.begins.0 c.requires.begins.1 start c.in_ok-all.all.items fresh c.in_ok-seated.seated.items c.in_ok-ended.ended.items c.in_ok-seated.ensures.ranks seated c.in_ok-ended.ensures.ran c.gather_all.new.gather c.in_ok-over.ensures.there,
         ),
       ),
     )
@@ -64,9 +65,9 @@ close-requires g c =
 pub returns-clause-ended : goal.returns-clause-ended
 returns-clause-ended g c =
     let R = g.Q.Program.rules in
-    let fresh = subst (λ (h : Shape). AreFresh R h.dims c.args.steady c.args.progs c.in_ok-all.all.items) (sym c.in_ok-bank.ensures.bank) c.in_ok-all.ensures.fresh in
+    let fresh = subst (λ (h : Shape). AreFresh R h.dims g.row.CAP (manner_of c.args.via c.args.steady) c.args.progs c.in_ok-all.all.items) (sym c.in_ok-bank.ensures.bank) c.in_ok-all.ensures.fresh in
     let start = subst (λ (h : Shape). InRound R (ranks h.dims) 0 c.requires.begins.0 c.requires.begins.1 c.args.progs) (sym c.in_ok-bank.ensures.bank) c.requires.begins.2 in
-    let seated = c.in_ok-seated.ensures.seated c.args.steady c.args.progs fresh in
+    let seated = c.in_ok-seated.ensures.seated (manner_of c.args.via c.args.steady) c.args.progs fresh in
     let b = c.in_ok-bank.bank in
     let lists = c.gather_all.new.gather.lists in
     let ys = c.in_ok-ended.ended.items in
@@ -74,18 +75,18 @@ returns-clause-ended g c =
     let order = subst IsRound c.close.ensures.round c.close.ensures.in_order in
     let sent = subst (λ (z : Round). (s : Manning) → slice_index_or lists s.rank None ≡ Some s.lists → starting_at b.shape.dims s.rank (logs_of z.sent) ≡ posted_on s) c.close.ensures.round c.close.ensures.sent in
     let got = subst (λ (z : Round). (s : Manning) → slice_index_or lists s.rank None ≡ Some s.lists → ending_at b.shape.dims s.rank (logs_of z.got) ≡ collected_from s) c.close.ensures.round c.close.ensures.got in
-    let h = history R g.row.CAP c.in_ok-bank.bank c.args.steady c.args.progs c.requires.begins.0 c.requires.begins.1 start c.in_ok-all.all.items fresh c.in_ok-seated.seated.items c.in_ok-ended.ended.items c.in_ok-seated.ensures.ranks seated c.in_ok-ended.ensures.ran c.in_ok-ended.ensures.over c.in_ok-over.ensures.none_lost c.gather_all.new.gather c.in_ok-over.ensures.there order sent got in
-    let w = all_ranked R g.row.CAP c.in_ok-bank.bank c.args.steady c.args.progs c.requires.begins.0 c.requires.begins.1 start c.in_ok-all.all.items fresh c.in_ok-seated.seated.items c.in_ok-ended.ended.items c.in_ok-seated.ensures.ranks seated c.in_ok-ended.ensures.ran c.in_ok-ended.ensures.over c.in_ok-over.ensures.none_lost c.gather_all.new.gather c.in_ok-over.ensures.there order sent got in
-    let over = all_over R g.row.CAP c.in_ok-bank.bank c.args.steady c.args.progs c.requires.begins.0 c.requires.begins.1 start c.in_ok-all.all.items fresh c.in_ok-seated.seated.items c.in_ok-ended.ended.items c.in_ok-seated.ensures.ranks seated c.in_ok-ended.ensures.ran c.in_ok-ended.ensures.over c.in_ok-over.ensures.none_lost c.gather_all.new.gather c.in_ok-over.ensures.there order sent got in
-    have_ended R (g.met.Q.Program g.world.𝓛 g.world.𝓜 g.world.𝓡 ((λ s x. x), (λ x. x), (λ x. x), λ x. x)).laws c.closes_law.ensures g.row.CAP b.shape.dims b.shape.slots c.args.steady c.args.progs h (map (λ y. y.rank) ys) (logs_of round.sent) (logs_of round.got) w over
+    let h = history R g.row.CAP c.in_ok-bank.bank (manner_of c.args.via c.args.steady) c.args.progs c.requires.begins.0 c.requires.begins.1 start c.in_ok-all.all.items fresh c.in_ok-seated.seated.items c.in_ok-ended.ended.items c.in_ok-seated.ensures.ranks seated c.in_ok-ended.ensures.ran c.in_ok-ended.ensures.over c.in_ok-over.ensures.none_lost c.gather_all.new.gather c.in_ok-over.ensures.there order sent got in
+    let w = all_ranked R g.row.CAP c.in_ok-bank.bank (manner_of c.args.via c.args.steady) c.args.progs c.requires.begins.0 c.requires.begins.1 start c.in_ok-all.all.items fresh c.in_ok-seated.seated.items c.in_ok-ended.ended.items c.in_ok-seated.ensures.ranks seated c.in_ok-ended.ensures.ran c.in_ok-ended.ensures.over c.in_ok-over.ensures.none_lost c.gather_all.new.gather c.in_ok-over.ensures.there order sent got in
+    let over = all_over R g.row.CAP c.in_ok-bank.bank (manner_of c.args.via c.args.steady) c.args.progs c.requires.begins.0 c.requires.begins.1 start c.in_ok-all.all.items fresh c.in_ok-seated.seated.items c.in_ok-ended.ended.items c.in_ok-seated.ensures.ranks seated c.in_ok-ended.ensures.ran c.in_ok-ended.ensures.over c.in_ok-over.ensures.none_lost c.gather_all.new.gather c.in_ok-over.ensures.there order sent got in
+    have_ended R (g.met.Q.Program g.world.𝓛 g.world.𝓜 g.world.𝓡 ((λ s x. x), (λ x. x), (λ x. x), λ x. x)).laws c.closes_laws.ensures g.row.CAP b.shape.dims b.shape.slots (manner_of c.args.via c.args.steady) c.args.progs h (map (λ y. y.rank) ys) (logs_of round.sent) (logs_of round.got) w over
     c.requires.begins.0 c.requires.begins.1 c.requires.begins.3.rounds start c.requires.begins.3.has_rounds c.in_ok-progs.progs (c.in_ok-progs.ensures.progs ∙ ap progs_of c.in_ok-over.ensures.ranks)
 
 pub returns-clause-rounds : goal.returns-clause-rounds
 returns-clause-rounds g c =
     let R = g.Q.Program.rules in
-    let fresh = subst (λ (h : Shape). AreFresh R h.dims c.args.steady c.args.progs c.in_ok-all.all.items) (sym c.in_ok-bank.ensures.bank) c.in_ok-all.ensures.fresh in
+    let fresh = subst (λ (h : Shape). AreFresh R h.dims g.row.CAP (manner_of c.args.via c.args.steady) c.args.progs c.in_ok-all.all.items) (sym c.in_ok-bank.ensures.bank) c.in_ok-all.ensures.fresh in
     let start = subst (λ (h : Shape). InRound R (ranks h.dims) 0 c.requires.begins.0 c.requires.begins.1 c.args.progs) (sym c.in_ok-bank.ensures.bank) c.requires.begins.2 in
-    let seated = c.in_ok-seated.ensures.seated c.args.steady c.args.progs fresh in
+    let seated = c.in_ok-seated.ensures.seated (manner_of c.args.via c.args.steady) c.args.progs fresh in
     let b = c.in_ok-bank.bank in
     let lists = c.gather_all.new.gather.lists in
     let ys = c.in_ok-ended.ended.items in
@@ -93,14 +94,14 @@ returns-clause-rounds g c =
     let order = subst IsRound c.close.ensures.round c.close.ensures.in_order in
     let sent = subst (λ (z : Round). (s : Manning) → slice_index_or lists s.rank None ≡ Some s.lists → starting_at b.shape.dims s.rank (logs_of z.sent) ≡ posted_on s) c.close.ensures.round c.close.ensures.sent in
     let got = subst (λ (z : Round). (s : Manning) → slice_index_or lists s.rank None ≡ Some s.lists → ending_at b.shape.dims s.rank (logs_of z.got) ≡ collected_from s) c.close.ensures.round c.close.ensures.got in
-    let h = history R g.row.CAP c.in_ok-bank.bank c.args.steady c.args.progs c.requires.begins.0 c.requires.begins.1 start c.in_ok-all.all.items fresh c.in_ok-seated.seated.items c.in_ok-ended.ended.items c.in_ok-seated.ensures.ranks seated c.in_ok-ended.ensures.ran c.in_ok-ended.ensures.over c.in_ok-over.ensures.none_lost c.gather_all.new.gather c.in_ok-over.ensures.there order sent got in
-    let w = all_ranked R g.row.CAP c.in_ok-bank.bank c.args.steady c.args.progs c.requires.begins.0 c.requires.begins.1 start c.in_ok-all.all.items fresh c.in_ok-seated.seated.items c.in_ok-ended.ended.items c.in_ok-seated.ensures.ranks seated c.in_ok-ended.ensures.ran c.in_ok-ended.ensures.over c.in_ok-over.ensures.none_lost c.gather_all.new.gather c.in_ok-over.ensures.there order sent got in
-    let over = all_over R g.row.CAP c.in_ok-bank.bank c.args.steady c.args.progs c.requires.begins.0 c.requires.begins.1 start c.in_ok-all.all.items fresh c.in_ok-seated.seated.items c.in_ok-ended.ended.items c.in_ok-seated.ensures.ranks seated c.in_ok-ended.ensures.ran c.in_ok-ended.ensures.over c.in_ok-over.ensures.none_lost c.gather_all.new.gather c.in_ok-over.ensures.there order sent got in
+    let h = history R g.row.CAP c.in_ok-bank.bank (manner_of c.args.via c.args.steady) c.args.progs c.requires.begins.0 c.requires.begins.1 start c.in_ok-all.all.items fresh c.in_ok-seated.seated.items c.in_ok-ended.ended.items c.in_ok-seated.ensures.ranks seated c.in_ok-ended.ensures.ran c.in_ok-ended.ensures.over c.in_ok-over.ensures.none_lost c.gather_all.new.gather c.in_ok-over.ensures.there order sent got in
+    let w = all_ranked R g.row.CAP c.in_ok-bank.bank (manner_of c.args.via c.args.steady) c.args.progs c.requires.begins.0 c.requires.begins.1 start c.in_ok-all.all.items fresh c.in_ok-seated.seated.items c.in_ok-ended.ended.items c.in_ok-seated.ensures.ranks seated c.in_ok-ended.ensures.ran c.in_ok-ended.ensures.over c.in_ok-over.ensures.none_lost c.gather_all.new.gather c.in_ok-over.ensures.there order sent got in
+    let over = all_over R g.row.CAP c.in_ok-bank.bank (manner_of c.args.via c.args.steady) c.args.progs c.requires.begins.0 c.requires.begins.1 start c.in_ok-all.all.items fresh c.in_ok-seated.seated.items c.in_ok-ended.ended.items c.in_ok-seated.ensures.ranks seated c.in_ok-ended.ensures.ran c.in_ok-ended.ensures.over c.in_ok-over.ensures.none_lost c.gather_all.new.gather c.in_ok-over.ensures.there order sent got in
     let made : Made = record { dims = c.args.grid.now; cap = g.row.CAP; slots = c.args.slots; by_slots = true } in
     let is = ap (λ (s : Shape). record { dims = s.dims; cap = g.row.CAP; slots = s.slots; by_slots = true }) c.in_ok-bank.ensures.bank in (
       Slots c.close.result,
       c.in_ok-add.ensures.added ∙ ap (λ xs. xs ++ Slots c.close.result ∷ []) c.new-rounds.ensures,
-      λ n rounds. subst (λ z. TellsRun R c.args.progs n made c.args.steady z) (sym c.close.ensures.round)
-          (tells_run R (g.met.Q.Program g.world.𝓛 g.world.𝓜 g.world.𝓡 ((λ s x. x), (λ x. x), (λ x. x), λ x. x)).laws c.closes_law.ensures round g.row.CAP b.shape.slots c.args.steady c.args.progs h (map (λ y. y.rank) ys) w order.in_order over
+      λ n rounds. subst (λ z. TellsRun R c.args.progs n made (manner_of c.args.via c.args.steady) z) (sym c.close.ensures.round)
+          (tells_run R (g.met.Q.Program g.world.𝓛 g.world.𝓜 g.world.𝓡 ((λ s x. x), (λ x. x), (λ x. x), λ x. x)).laws c.closes_laws.ensures round g.row.CAP b.shape.slots (manner_of c.args.via c.args.steady) c.args.progs h (map (λ y. y.rank) ys) w order.in_order over
           c.requires.begins.0 c.requires.begins.1 n start rounds made is refl),
     )

@@ -1,4 +1,5 @@
 use Rattle.std.proofs.Common.{rules, ◌<◌, ◌^◌, refl, ap, Ok, ◌∙◌, sym, subst}
+use Rattle.rank_node.specs.Movers.{epoch_in}
 use Rattle.rank_group.specs.Ranks.{RankState, IsRank}
 use Rattle.rank_group.proofs.OneTurn.{OneTurn, NextTold, stays_in, goes_on}
 use Rattle.rank_node.proofs.Halted.{ok_once}
@@ -21,7 +22,7 @@ next-requires g c =
     let inside : RankState g.row.Q.Denot = record { node = c.rank.inside.node; over = c.rank.inside.over } in
     let mine : IsRank g.Q.Program.rules (P.dims p) g.row.CAP c.requires.rank.0 (P.rank p) c.requires.rank.1 inside (P.sent p) (P.got p) =
     subst (λ (m : RankState g.row.Q.Denot). IsRank g.Q.Program.rules (P.dims p) g.row.CAP c.requires.rank.0 (P.rank p) c.requires.rank.1 m (P.sent p) (P.got p)) (sym c.rank.view_is) c.requires.rank.2 in
-    let few = subst (λ (m : RankState g.row.Q.Denot). m.node.conveyor.epoch < 2 ^ 63) (sym c.rank.view_is) c.requires.few in (
+    let few = subst (λ (m : RankState g.row.Q.Denot). epoch_in m.node.mover < 2 ^ 63) (sym c.rank.view_is) c.requires.few in (
       search rules,
       (
         c.in-Ok.ensures.ended (ap Ok c.in-Ended.is),
@@ -33,21 +34,21 @@ next-requires g c =
     )
 
 pub returns-in-Going-clause-kept : goal.returns-in-Going-clause-kept
-returns-in-Going-clause-kept g c = λ steady h is.
+returns-in-Going-clause-kept g c = λ manner h is.
     let P = g.P.Port in
     let p = c.args.port.now in
     let q = c.turn.new.port in
     let R = g.Q.Program.rules in
     let inside : RankState g.row.Q.Denot = record { node = c.rank.inside.node; over = c.rank.inside.over } in
     let on = ap (λ (m : RankState g.row.Q.Denot). m.over) c.rank.view_is ∙ c.requires.going in
-    let mine : IsRank R (P.dims p) g.row.CAP steady (P.rank p) h inside (P.sent p) (P.got p) =
-    subst (λ (m : RankState g.row.Q.Denot). IsRank R (P.dims p) g.row.CAP steady (P.rank p) h m (P.sent p) (P.got p)) (sym c.rank.view_is) is in
+    let mine : IsRank R (P.dims p) g.row.CAP manner (P.rank p) h inside (P.sent p) (P.got p) =
+    subst (λ (m : RankState g.row.Q.Denot). IsRank R (P.dims p) g.row.CAP manner (P.rank p) h m (P.sent p) (P.got p)) (sym c.rank.view_is) is in
     let t : OneTurn R g.row.CAP c.rank.inside.node c.turn.new.self (P.sent p) (P.got p) (P.sent q) (P.got q) =
-    record { dims = c.turn.ensures.self_dims; rank = c.turn.ensures.self_rank; steady = c.turn.ensures.steady; shape = c.turn.ensures.shape; kept = c.turn.ensures.kept } in
-    (h, refl, stays_in R (P.dims p) g.row.CAP (P.rank p) steady h inside c.turn.new.self (P.sent p) (P.got p) (P.sent q) (P.got q) mine on t c.rank.inside.over on)
+    record { dims = c.turn.ensures.self_dims; rank = c.turn.ensures.self_rank; manner = c.turn.ensures.manner; cap_is = c.turn.ensures.cap; shape = c.turn.ensures.shape; kept = c.turn.ensures.kept } in
+    (h, refl, stays_in R (P.dims p) g.row.CAP (P.rank p) manner h inside c.turn.new.self (P.sent p) (P.got p) (P.sent q) (P.got q) mine on t c.rank.inside.over on)
 
 pub returns-in_ok-rank-inside-in-Ended-clause-kept : goal.returns-in_ok-rank-inside-in-Ended-clause-kept
-returns-in_ok-rank-inside-in-Ended-clause-kept g c = λ steady h is.
+returns-in_ok-rank-inside-in-Ended-clause-kept g c = λ manner h is.
     let P = g.P.Port in
     let p = c.args.port.now in
     let q = c.turn.new.port in
@@ -55,14 +56,15 @@ returns-in_ok-rank-inside-in-Ended-clause-kept g c = λ steady h is.
     let more = c.in_ok-rank-inside-in-Ended.field-0 in
     let inside : RankState g.row.Q.Denot = record { node = c.rank.inside.node; over = c.rank.inside.over } in
     let on = ap (λ (m : RankState g.row.Q.Denot). m.over) c.rank.view_is ∙ c.requires.going in
-    let mine : IsRank R (P.dims p) g.row.CAP steady (P.rank p) h inside (P.sent p) (P.got p) =
-    subst (λ (m : RankState g.row.Q.Denot). IsRank R (P.dims p) g.row.CAP steady (P.rank p) h m (P.sent p) (P.got p)) (sym c.rank.view_is) is in
+    let mine : IsRank R (P.dims p) g.row.CAP manner (P.rank p) h inside (P.sent p) (P.got p) =
+    subst (λ (m : RankState g.row.Q.Denot). IsRank R (P.dims p) g.row.CAP manner (P.rank p) h m (P.sent p) (P.got p)) (sym c.rank.view_is) is in
     let t : OneTurn R g.row.CAP c.rank.inside.node c.turn.new.self (P.sent p) (P.got p) (P.sent q) (P.got q) =
-    record { dims = c.turn.ensures.self_dims; rank = c.turn.ensures.self_rank; steady = c.turn.ensures.steady; shape = c.turn.ensures.shape; kept = c.turn.ensures.kept } in
-    let x : NextTold R c.turn.new.self c.next.new.self more = record {
+    record { dims = c.turn.ensures.self_dims; rank = c.turn.ensures.self_rank; manner = c.turn.ensures.manner; cap_is = c.turn.ensures.cap; shape = c.turn.ensures.shape; kept = c.turn.ensures.kept } in
+    let x : NextTold R g.row.CAP c.turn.new.self c.next.new.self more = record {
       self_dims = c.next.ensures.self_dims;
       self_rank = c.next.ensures.self_rank;
-      steady = c.next.ensures.steady;
+      manner = c.next.ensures.manner;
+      cap_is = c.next.ensures.cap;
       epoch = λ e. c.in_ok-rank-inside-in-Ended.ensures.epoch (ap Ok e);
       unread = c.next.ensures.unread;
       votes = λ v. (ok_once (c.in_ok-rank-inside-in-Ended.ensures.votes v).0, (c.in_ok-rank-inside-in-Ended.ensures.votes v).1);
@@ -70,4 +72,4 @@ returns-in_ok-rank-inside-in-Ended-clause-kept g c = λ steady h is.
       stays = λ e. c.in_ok-rank-inside-in-Ended.ensures.stays (ap Ok e);
       stopped = λ e. c.in_ok-rank-inside-in-Ended.ensures.stopped (ap Ok e);
     } in
-    goes_on R (P.dims p) g.row.CAP (P.rank p) steady h inside c.turn.new.self (P.sent p) (P.got p) (P.sent q) (P.got q) mine on t c.next.new.self more x
+    goes_on R (P.dims p) g.row.CAP (P.rank p) manner h inside c.turn.new.self (P.sent p) (P.got p) (P.sent q) (P.got q) mine on t c.next.new.self more x

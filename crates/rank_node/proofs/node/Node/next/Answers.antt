@@ -1,11 +1,11 @@
 use Rattle.std.proofs.Common.{◌≡◌, ◌+◌, ◌^◌, ◌<◌, true, false, refl, sym, ap, subst, ◌∙◌}
 use Rattle.rank_node.specs.Sending.{is_voting}
-use Rattle.rank_node.specs.Movers.{seen, epoch_in, has_completed}
+use Rattle.rank_node.specs.Movers.{seen, epoch_in, has_completed, HasCap}
 use Rattle.rank_node.specs.Next.{extended}
 use Rattle.rank_node.specs.Runs.{running}
 use Rattle.rank_node.specs.Nodes.{NodeState, IsNode}
 use Rattle.rank_node.specs.declared.sends.Sends.TheVariants.{Emissions, Nothing}
-use Rattle.rank_node.proofs.Onward.{epoch_is, node_votes, node_work, not_lost, round_few}
+use Rattle.rank_node.proofs.Onward.{seen_cap, epoch_is, node_votes, node_work, not_lost, round_few}
 use Rattle.rank_node.proofs.node.Node.next.Goals as goal
 
 pub returns-then-not-votes_now-clause-votes : goal.returns-then-not-votes_now-clause-votes
@@ -48,3 +48,20 @@ returns-in-SpoiledRound-clause-work g c = λ votes e h sent got was.
     (node_work R g.met.Q.Program.laws h inside (seen c.reset-in-SpoiledRound.new.self) sent got c.reset-in-SpoiledRound.ensures over i c.end_prog.new.prog.value true Nothing
     fine.1 few (c.in-SpoiledRound.ensures.spoiled_round refl) v fine.0 refl (λ e. absurd (cc)) (λ s. absurd (cc)) (λ s. refl))
 
+pub returns-then-not-votes_now-clause-cap : goal.returns-then-not-votes_now-clause-cap
+returns-then-not-votes_now-clause-cap g c = seen_cap c.reset.new.self
+
+pub returns-in-Round-clause-cap : goal.returns-in-Round-clause-cap
+returns-in-Round-clause-cap g c = seen_cap c.reset-in-Round.new.self
+
+pub returns-in-SpoiledRound-clause-cap : goal.returns-in-SpoiledRound-clause-cap
+returns-in-SpoiledRound-clause-cap g c = seen_cap c.reset-in-SpoiledRound.new.self
+
+pub returns-in-Nothing-clause-cap : goal.returns-in-Nothing-clause-cap
+returns-in-Nothing-clause-cap g c = seen_cap c.self.inside.mover
+
+pub returns-in-SpoiledNothing-clause-cap : goal.returns-in-SpoiledNothing-clause-cap
+returns-in-SpoiledNothing-clause-cap g c = seen_cap c.self.inside.mover
+
+pub returns-then-is_lost-clause-cap : goal.returns-then-is_lost-clause-cap
+returns-then-is_lost-clause-cap g c = subst (λ (m : NodeState g.row.Q.Denot). HasCap g.row.CAP m.mover) c.self.view_is (seen_cap c.self.inside.mover)

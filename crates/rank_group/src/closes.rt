@@ -1,0 +1,10 @@
+//! What both transports tell of the epochs of all ranks.
+ghost use Rattle.rank_group.specs.Closes.{ClosesLaws};
+
+/// Does nothing, and tells the closes laws of conveyors and of exstacks.
+pub(crate) fn closes_laws()
+    ensures { ClosesLaws }
+{
+    convey::closes_law();
+    exstack::closes_law();
+}

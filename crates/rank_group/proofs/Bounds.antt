@@ -52,7 +52,7 @@ module _ {S : Type 0} (R : Rules S) (laws : Laws R) (law : ClosesLaws) (dims : L
       let here : part.epoch ≡ epoch_in x.0.node.mover = part_epoch x.0.node.mover _ _ in
       let few : (d : ℕ) → d < ranks dims → length (flow dims sent s d 1 (2 * m)) ≤ length (part.pushed (2 * m) d) =
       λ d to. flow_pushed dims x.0.node.mover steady sent got s d (2 * m) w.ranked.grid has.same_manner has.same_dims has.same_rank from to in
-      elim (cases_lt epoch_in x.0.node.mover (2 * m)) [
+      elim (cases_lt (epoch_in x.0.node.mover) (2 * m)) [
         | inl ahead ↦
             let none = total_zero (ranks dims) (λ d. length (flow dims sent s d 1 (2 * m))) (λ d to. let a = few d to in let b = (i.is.passed.ahead (2 * m) d (omega (arith, ahead, here))).0 in omega (arith, a, ap length b)) in
             omega (arith, none)

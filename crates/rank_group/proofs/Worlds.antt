@@ -293,7 +293,7 @@ module _ {S : Type 0} (R : Rules S) (laws : Laws R) (law : ClosesLaws) (dims : L
         let here : completed r ≡ epoch_in x.node.mover = ap progress_in at ∙ ap (λ b. cond b (epoch_in x.node.mover + 1) (epoch_in x.node.mover)) on in
         let high : completed r ≤ 2 * n = run.bounded n r rounds low in
         let some : 0 < n = rounds.some in
-        elim (cases_lt epoch_in x.node.mover (2 * n)) [
+        elim (cases_lt (epoch_in x.node.mover) (2 * n)) [
           | inl b ↦ b
           | inr past ↦
               let e : epoch_in x.node.mover ≡ 2 * n = omega (arith, past, here, high) in

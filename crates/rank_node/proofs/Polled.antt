@@ -57,11 +57,11 @@ one_hop n l some few below =
       sym k.number ∙ (ap (λ h. link (n ∷ []) h (sender_at (n ∷ []) l) (reader_at (n ∷ []) l)) hop ∙ link_one n (sender_at (n ∷ []) l) (reader_at (n ∷ []) l) to),
     )
 
-toward : (n r l : ℕ) → 0 < n → n ≤ 64 → l < links (n ∷ []) → sender_at (n ∷ []) l ≡ r → Toward n r l
+pub toward : (n r l : ℕ) → 0 < n → n ≤ 64 → l < links (n ∷ []) → sender_at (n ∷ []) l ≡ r → Toward n r l
 toward n r l some few below own =
     let k = one_hop n l some few below in record { other = reader_at (n ∷ []) l; low = k.1; out = k.2 ∙ ap (λ a. number n a (reader_at (n ∷ []) l)) own }
 
-from : (n r l : ℕ) → 0 < n → n ≤ 64 → l < links (n ∷ []) → reader_at (n ∷ []) l ≡ r → From n r l
+pub from : (n r l : ℕ) → 0 < n → n ≤ 64 → l < links (n ∷ []) → reader_at (n ∷ []) l ≡ r → From n r l
 from n r l some few below own =
     let k = one_hop n l some few below in record { other = sender_at (n ∷ []) l; low = k.0; in' = k.2 ∙ ap (λ b. number n (sender_at (n ∷ []) l) b) own }
 
@@ -316,3 +316,10 @@ waits_like x x1 x' got got' is_crowded is_idle same_ranks same_rank w =
           let e : link_from x a ≡ link_from x1 a = ap (λ n. number n a x.rank) (sym same_ranks) ∙ ap (λ r. number x1.ranks a r) (sym same_rank) in
           subst (λ l. is_idle l ≡ true) (sym e) (w.collects a (omega (arith, low, same_ranks)) due);
     }
+
+-- stages that aren't Filling
+pub not_filling : (s : Stage) → s ≡ Exchanging → s ≡ Filling → ⊥
+not_filling s a b = absurd (cc)
+
+pub all_done_apart : (s : Stage) → s ≡ AllDone → s ≡ Filling → ⊥
+all_done_apart s a b = absurd (cc)

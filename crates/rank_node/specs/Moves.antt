@@ -9,6 +9,8 @@ use Rattle.route_tensor.specs.Ends.{sender_at, reader_at}
 use Rattle.port_bank.specs.Logs.{Logs}
 use Rattle.hop_core.specs.State.{State}
 use Rattle.convey.specs.Buffers.{in_of}
+use Rattle.exstack.specs.declared.stage.Stage.TheVariants.{Filling}
+use Rattle.exstack.specs.Links.{headroom_of}
 use Rattle.exstack.specs.State.{State as Stack}
 use Rattle.exstack.specs.State.{out_at, in_at, link_to, link_from}
 use Rattle.round_program.specs.Rules.{Rules}
@@ -45,7 +47,19 @@ pub record OnConveyor {S : Type 0} (R : Rules S) (cap : ℕ) (run run' : Running
   pub refused : (h : ℕ → S) → IsNode R h (record { run = run; mover = Conveying c }) sent got → (to : ℕ) (x : Item)
       → slice_get (to_send R run'.prog run'.sends) run'.next ≡ Some (to, x) → WasRefused c to cap
 
--- And over an exstack: where a parcel of its round is still to be posted, the link is crowded, unless this turn collected a
+-- A push toward a rank was refused: after the turn's pushes the exstack's buffer toward it was full.
+pub record WasFull (x : Stack) (to cap : ℕ) : Type 0 where
+  pub at_push : Stack
+  pub same : at_push ≡ record x { outs = at_push.outs; popped = at_push.popped }
+  pub full : headroom_of cap (out_at at_push to) ≡ 0
+
+-- What a turn over an exstack leaves besides: while the buffers are filled an item is left to push exactly where a push was
+-- refused, and in other stages nothing is pushed.
+pub record OnExstack {S : Type 0} (R : Rules S) (cap : ℕ) (run run' : Running S) (x : Stack) : Type 0 where
+  pub refused : x.stage ≡ Filling → (to : ℕ) (y : Item) → slice_get (to_send R run'.prog run'.sends) run'.next ≡ Some (to, y) → WasFull x to cap
+  pub unpushed : (x.stage ≡ Filling → ⊥) → run'.next ≡ run.next
+
+-- Where a parcel of its round is still to be posted, the link is crowded, unless this turn collected a
 -- parcel from it; where one is still to be collected, the link is idle.
 pub record WaitsFor (x x' : Stack) (got got' : Logs) (is_crowded is_idle : ℕ → Bool) : Type 0 where
   pub posts : (b : ℕ) → b < x.ranks → (out_at x' b).due ≡ true → got' (link_to x b) ≡ got (link_to x b) → is_crowded (link_to x b) ≡ true
@@ -56,13 +70,14 @@ pub record AfterFill {S : Type 0} (R : Rules S) (cap : ℕ) (run run' : Running 
   pub kept : (h : ℕ → S) (sent got : Logs) → IsNode R h (record { run = run; mover = Stacking cap x }) sent got → IsNode R h (record { run = run'; mover = Stacking cap x' }) sent got
   pub round : run'.round ≡ run.round
   pub sends : run'.sends ≡ run.sends
+  pub refused : (to : ℕ) (y : Item) → slice_get (to_send R run'.prog run'.sends) run'.next ≡ Some (to, y) → WasFull x to cap
 
 -- What a turn leaves of either.
 abbrev pub Leaves : {S : Type 0} → Rules S → ℕ → Running S → Running S → MoverState → MoverState → Logs → Logs → Logs → Type 0
 Leaves R cap run run' (Conveying c) (Conveying c') sent got got' = OnConveyor R cap run run' c c' sent got got'
 Leaves R cap run run' (Conveying c) (Stacking k x) sent got got' = ⊥
 Leaves R cap run run' (Stacking k x) (Conveying c) sent got got' = ⊥
-Leaves R cap run run' (Stacking k x) (Stacking k' x') sent got got' = ⊤
+Leaves R cap run run' (Stacking k x) (Stacking k' x') sent got got' = OnExstack R cap run run' x
 
 -- What a turn leaves undone that wanted no memory, and why: over a conveyor, where it moved no parcel.
 abbrev pub Waits : {S : Type 0} → Rules S → Running S → MoverState → MoverState → Logs → Logs → Logs → Logs → (ℕ → Bool) → (ℕ → Bool) → Type 0

@@ -11,7 +11,7 @@ ghost use Rattle.rank_node.specs.Pulls.{Pops, Fills};
 ghost use Rattle.rank_node.specs.Runs.{running};
 ghost use Rattle.rank_node.specs.Sending.{to_send};
 ghost use Rattle.rank_node.specs.Nodes.{IsNode};
-ghost use Rattle.rank_node.specs.Moves.{AfterMoves, AfterFill, Waits};
+ghost use Rattle.rank_node.specs.Moves.{AfterMoves, AfterFill, Leaves, Waits};
 
 use crate::run::Run;
 use crate::sends::{Sends, count_of, sent_at, votes_now};
@@ -37,6 +37,7 @@ pub(crate) fn turn_exstack<const CAP: usize, Q: Program, P: Port<CAP>>(
     requires node { (h : ℕ → Q) × IsNode Q.rules h (record { run = running run.old; mover = Stacking CAP exstack.old }) (P.sent port.old) (P.got port.old) }
     ensures moves { AfterMoves Q.rules CAP (record { run = running run.old; mover = Stacking CAP exstack.old }) (record { run = running run.new; mover = Stacking CAP exstack.new })
         (P.sent port.old) (P.got port.old) (P.sent port.new) (P.got port.new) }
+    ensures leaves { Leaves Q.rules CAP (running run.old) (running run.new) (Stacking CAP exstack.old) (Stacking CAP exstack.new) (P.sent port.old) (P.got port.old) (P.got port.new) }
     ensures waits { OnOk result (Waits Q.rules (running run.old) (Stacking CAP exstack.old) (Stacking CAP exstack.new)
         (P.sent port.old) (P.got port.old) (P.sent port.new) (P.got port.new) (P.crowded port.new) (P.idle port.new)) }
     ensures same_dims { P.dims port.new ≡ P.dims port.old }
@@ -70,6 +71,9 @@ fn proceed<const CAP: usize, Q: Program, P: Port<CAP>>(
     requires node { (h : ℕ → Q) × IsNode Q.rules h (record { run = running run.old; mover = Stacking CAP exstack.old }) (P.sent port.old) (P.got port.old) }
     ensures moves { AfterMoves Q.rules CAP (record { run = running run.old; mover = Stacking CAP exstack.old }) (record { run = running run.new; mover = Stacking CAP exstack.new })
         (P.sent port.old) (P.got port.old) (P.sent port.new) (P.got port.new) }
+    ensures next { run.new.next ≡ run.old.next }
+    ensures emissions { Q.rules.emissions run.new.prog.value ≡ Q.rules.emissions run.old.prog.value }
+    ensures sends { run.new.sends ≡ run.old.sends }
     ensures waits { OnOk result (Waits Q.rules (running run.old) (Stacking CAP exstack.old) (Stacking CAP exstack.new)
         (P.sent port.old) (P.got port.old) (P.sent port.new) (P.got port.new) (P.crowded port.new) (P.idle port.new)) }
     ensures same_dims { P.dims port.new ≡ P.dims port.old }
@@ -104,6 +108,9 @@ fn exchange<const CAP: usize, Q: Program, P: Port<CAP>>(
     requires node { (h : ℕ → Q) × IsNode Q.rules h (record { run = running run.old; mover = Stacking CAP exstack.old }) (P.sent port.old) (P.got port.old) }
     ensures moves { AfterMoves Q.rules CAP (record { run = running run.old; mover = Stacking CAP exstack.old }) (record { run = running run.new; mover = Stacking CAP exstack.new })
         (P.sent port.old) (P.got port.old) (P.sent port.new) (P.got port.new) }
+    ensures next { run.new.next ≡ run.old.next }
+    ensures emissions { Q.rules.emissions run.new.prog.value ≡ Q.rules.emissions run.old.prog.value }
+    ensures sends { run.new.sends ≡ run.old.sends }
     ensures waits { OnOk result (Waits Q.rules (running run.old) (Stacking CAP exstack.old) (Stacking CAP exstack.new)
         (P.sent port.old) (P.got port.old) (P.sent port.new) (P.got port.new) (P.crowded port.new) (P.idle port.new)) }
     ensures same_dims { P.dims port.new ≡ P.dims port.old }

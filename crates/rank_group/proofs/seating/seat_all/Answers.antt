@@ -7,7 +7,7 @@ invariant_of-push g c =
     let R = g.Q.Program.rules in
     let x = seated R g.row.CAP c.args.bank.now c.loop-rank.gather c.loop-rank.number c.args.all.items c.loop-rank.yielded (into_iter_items c.next.new.self) (into_iter_items c.loop-rank.rank-iterator) c.loop-rank.seated.items c.loop-rank.invariant
     c.seat-seat.new.g c.in-Some.rank c.seat-seat.result c.in-Some.ensures.steps.0 _ c.seat-seat.ensures.gather _ _ c.seat-seat.ensures.seat c.requires.fresh.0 c.requires.fresh.1 c.requires.fresh.2 in
-    record { steady = c.requires.fresh.0; h = λ m. c.in-Some.rank.node.run.prog; way = x.way }
+    record { manner = c.requires.fresh.0; h = λ m. c.in-Some.rank.node.run.prog; way = x.way }
 
 pub loop-rank-preserved : goal.loop-rank-preserved
 loop-rank-preserved g c =

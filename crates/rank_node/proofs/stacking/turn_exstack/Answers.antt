@@ -1,8 +1,10 @@
-use Rattle.std.proofs.Common.{rules, ◌≡◌, true, refl, sym, ap, ◌∙◌}
+use Rattle.std.proofs.Common.{rules, ◌≡◌, true, slice_get, refl, sym, ap, ◌∙◌}
 use Rattle.exstack.specs.State.{State, dims_of, may_exchange}
 use Rattle.rank_node.specs.Runs.{Running, running}
 use Rattle.list_laws.proofs.Results.{on_ok_map}
-use Rattle.rank_node.proofs.Polled.{nothing_moved, fill_then, waits_like}
+use Rattle.rank_node.specs.Sending.{to_send}
+use Rattle.rank_node.proofs.Ballots.{same_sends}
+use Rattle.rank_node.proofs.Polled.{nothing_moved, fill_then, waits_like, not_filling, all_done_apart}
 use Rattle.rank_node.proofs.stacking.turn_exstack.Goals as goal
 
 pub exchange-requires : goal.exchange-requires
@@ -27,3 +29,27 @@ returns-in-Filling-clause-waits g c =
     on_ok_map c.exchange.result
     (waits_like c.args.exstack.now c.fill.new.exstack c.exchange.new.exstack (g.P.Port.got c.args.port.now) (g.P.Port.got c.exchange.new.port) (g.P.Port.crowded c.exchange.new.port) (g.P.Port.idle c.exchange.new.port)
     (ap (λ (t : State). t.ranks) c.fill.ensures.same) (ap (λ (t : State). t.rank) c.fill.ensures.same)) c.exchange.ensures.waits
+
+pub returns-in-Filling-clause-leaves : goal.returns-in-Filling-clause-leaves
+returns-in-Filling-clause-leaves g c =
+    let R = g.Q.Program.rules in
+    let items : to_send R c.exchange.new.run.prog.value c.exchange.new.run.sends ≡ to_send R c.fill.new.run.prog.value c.fill.new.run.sends =
+    ap (to_send R c.exchange.new.run.prog.value) c.exchange.ensures.sends ∙ same_sends R c.exchange.new.run.prog.value c.fill.new.run.prog.value c.fill.new.run.sends c.exchange.ensures.emissions in
+    record {
+      refused = λ s to y left. c.fill.ensures.filled.refused to y (sym (ap (λ es. slice_get es c.fill.new.run.next) items) ∙ (sym (ap (slice_get (to_send R c.exchange.new.run.prog.value c.exchange.new.run.sends)) c.exchange.ensures.next) ∙ left));
+      unpushed = λ apart. absurd (apart (sym c.stage.ensures.value ∙ c.in-Filling.is));
+    }
+
+pub returns-in-Exchanging-clause-leaves : goal.returns-in-Exchanging-clause-leaves
+returns-in-Exchanging-clause-leaves g c =
+    record {
+      refused = λ s to y left. absurd (not_filling c.args.exstack.now.stage (sym c.stage.ensures.value ∙ c.in-Exchanging.is) s);
+      unpushed = λ apart. c.exchange-in-Exchanging.ensures.next;
+    }
+
+pub returns-in-AllDone-clause-leaves : goal.returns-in-AllDone-clause-leaves
+returns-in-AllDone-clause-leaves g c =
+    record {
+      refused = λ s to y left. absurd (all_done_apart c.args.exstack.now.stage (sym c.stage.ensures.value ∙ c.in-AllDone.is) s);
+      unpushed = λ apart. refl;
+    }

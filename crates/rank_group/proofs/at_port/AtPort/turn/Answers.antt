@@ -11,7 +11,7 @@ turn_over-requires g c =
     let w = c.self.invariant.way in
     let few = w.way.few n.1 n.0 in
     let below = c.await_turn.ensures in
-    (search rules, (refl, (n.0, (omega (arith, few, below), (w.steady, w.h, w.way.runs n.1)))))
+    (search rules, (refl, (n.0, (omega (arith, few, below), (w.manner, w.h, w.way.runs n.1)))))
 
 pub invariant_of-self : goal.invariant_of-self
 invariant_of-self g c =

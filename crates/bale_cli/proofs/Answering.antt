@@ -14,6 +14,7 @@ use Rattle.bale_cli.specs.declared.refusal.Refusal.TheVariants as refusal
 use Rattle.bale_cli.specs.declared.unfit.Unfit.{Unfit}
 use Rattle.bale_cli.specs.Answer.{answer_to, matrix_asked, shown, reads, Asked, HasWritten, IsOfText, TellsText, Told, Wrote}
 use Rattle.bale_cli.specs.Fitness.{unfitness}
+use Rattle.bale_cli.specs.Jobs.{manner_for}
 use Rattle.bale_cli.specs.Outcomes.{Answered}
 use Rattle.bale_cli.specs.Tasks.{IsAnswer, task_status, made_for, TellsTask}
 use Rattle.bale_cli.proofs.Endings.{before_text, wrote_status}
@@ -107,7 +108,7 @@ module _ {serial : Command → Bool} {left left' : Option (List ℕ)} {ReadRose 
   pub matrix_refused : (c : Command) (r : Refusal) → (r ≡ refusal.ReadFault → ReadRose)
       → ((text : List ℕ) (b : BadLine) → Told (Some c) left text → r ≡ refusal.BadMatrix b → matrix_asked c.travel.generated text ≡ Err b)
       → ((text : List ℕ) (u : Unfit) → Told (Some c) left text → r ≡ refusal.Unfit u
-      → (m : Sparse) × (matrix_asked c.travel.generated text ≡ Ok m) × (unfitness c.task m (serial c) ≡ Some u))
+      → (m : Sparse) × (matrix_asked c.travel.generated text ≡ Ok m) × (unfitness c m (serial c) ≡ Some u))
       → (r ≢ refusal.WriteFault) × (r ≢ refusal.Usage) → (reads (Some c) ≡ false → left' ≡ left)
       → ((text : List ℕ) → left ≡ Some text → reads (Some c) ≡ true → IsOfText r → left' ≡ Some (drop 16777217 text)) → taken' ≡ taken
       → Answered serial (Some c) left left' ReadRose taken taken' WriteRose (Err r)
@@ -134,11 +135,11 @@ module _ {serial : Command → Bool} {left left' : Option (List ℕ)} {ReadRose 
 
   -- run, and the answer was written, or memory was wanting
   pub ran_answered : (answered : Result Finish Refusal) (c : Command) (m : Sparse)
-      → ((text : List ℕ) → Told (Some c) left text → matrix_asked c.travel.generated text ≡ Ok m) → unfitness c.task m (serial c) ≡ None
+      → ((text : List ℕ) → Told (Some c) left text → matrix_asked c.travel.generated text ≡ Ok m) → unfitness c m (serial c) ≡ None
       → (reads (Some c) ≡ false → left' ≡ left) → ((text : List ℕ) → left ≡ Some text → reads (Some c) ≡ true → left' ≡ Some (drop 16777217 text))
       → IfOk answered (λ f. f.status ≡ task_status c.task m) → IfOk answered (λ f. HasWritten (IsAnswer c.task m) (shown c.travel.generated) taken taken' f.written)
       → IfOk answered (λ f. OnErr f.written WriteRose) → IsFront taken taken' → OnErr answered (taken' ≡ taken) → IfErr answered (λ r. r ≡ refusal.NoMemory)
-      → IfOk answered (λ f. TellsTask c.task m (made_for (serial c) c) c.travel.steady f.rounds)
+      → IfOk answered (λ f. TellsTask c.task m (made_for (serial c) c) (manner_for c) f.rounds)
       → Answered serial (Some c) left left' ReadRose taken taken' WriteRose answered
   ran_answered (Ok f) c m matrix fits unread whole status wrote cause held same memory rounds =
       let written : (text : List ℕ) → Told (Some c) left text
@@ -161,8 +162,8 @@ module _ {serial : Command → Bool} {left left' : Option (List ℕ)} {ReadRose 
         no_answer = tt;
         rounds = λ text c' m' asked.
             let e = same_asked c m text c' m' matrix asked in
-            subst (λ (y : Sparse). TellsTask c'.task y (made_for (serial c') c') c'.travel.steady f.rounds) e.1
-            (subst (λ (x : Command). TellsTask x.task m (made_for (serial x) x) x.travel.steady f.rounds) e.0 rounds);
+            subst (λ (y : Sparse). TellsTask c'.task y (made_for (serial c') c') (manner_for c') f.rounds) e.1
+            (subst (λ (x : Command). TellsTask x.task m (made_for (serial x) x) (manner_for x) f.rounds) e.0 rounds);
       }
   ran_answered (Err r) c m matrix fits unread whole status wrote cause held same memory rounds =
       let kinds : (r ≡ refusal.Usage) ⊎ (r ≡ refusal.NoMemory) = inr memory in

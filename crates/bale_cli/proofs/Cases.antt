@@ -8,6 +8,7 @@ use Rattle.round_program.specs.Canonical.{HasRounds, HaveEnded}
 use Rattle.round_program.specs.Injections.{Injects}
 use Rattle.rank_group.specs.declared.closed_round.ClosedRound.{ClosedRound}
 use Rattle.rank_group.specs.Rounds.{round_of}
+use Rattle.rank_node.specs.Movers.{Manner}
 use Rattle.rank_group.specs.Told.{Made, TellsRun, turns_within}
 use Rattle.bale_words.specs.declared.command.Task.{Task}
 use Rattle.bale_words.specs.declared.command.Task.TheVariants as task
@@ -30,30 +31,30 @@ use Rattle.bale_cli.specs.Tasks.{Tells, TellsTask, WithinTurns, TurnsOfTask}
 
 -- What a drive tells of its programs.
 abbrev pub DriveTells : List AnyState → Made → Bool → List ClosedRound → Type 0
-DriveTells ps made steady rs = (c : ClosedRound) × (rs ≡ c ∷ []) × ((n : ℕ) → HasRounds any_rules ps n → TellsRun any_rules ps n made steady (round_of c))
+DriveTells ps made manner rs = (c : ClosedRound) × (rs ≡ c ∷ []) × ((n : ℕ) → HasRounds any_rules ps n → TellsRun any_rules ps n made manner (round_of c))
 
-tells : {S : Type 0} {R : Rules S} {i : S → AnyState} {w : List ℕ → List ℕ} → Injects R any_rules i w → (starts : List S) (ps ends : List AnyState) (made : Made) (steady : Bool)
-    (rs : List ClosedRound) → ps ≡ map i starts → 0 < length ps → HaveEnded any_rules ps ends → DriveTells ps made steady rs → Tells R starts made steady rs
-tells {i = i} case starts ps ends made steady rs put some h t =
+tells : {S : Type 0} {R : Rules S} {i : S → AnyState} {w : List ℕ → List ℕ} → Injects R any_rules i w → (starts : List S) (ps ends : List AnyState) (made : Made) (manner : Manner)
+    (rs : List ClosedRound) → ps ≡ map i starts → 0 < length ps → HaveEnded any_rules ps ends → DriveTells ps made manner rs → Tells R starts made manner rs
+tells {i = i} case starts ps ends made manner rs put some h t =
     let few : 0 < length starts = subst (λ n. 0 < n) (ap length put ∙ length-map starts i) some in
     let cs = are_cases case starts few ps put ends h in
     let e = ended case starts few ps put ends cs.0 h cs.1 in
-    let r = rounds case starts few ps put made steady rs t in
+    let r = rounds case starts few ps put made manner rs t in
     record { closed = r.0; only = r.1; count = e.rounds; has_rounds = e.has_rounds; tells = r.2 e.rounds e.has_rounds }
 
 -- the rounds of a task's run
-pub tells_task : (t : Task) (m : Sparse) (made : Made) (steady : Bool) (rs : List ClosedRound) (ps ends : List AnyState) → is_ready t ≡ true
-    → ps ≡ starts_of t (ranks made.dims) m → 0 < length ps → HaveEnded any_rules ps ends → DriveTells ps made steady rs → TellsTask t m made steady rs
-tells_task task.Histo m made steady rs ps ends ready put some h t = tells histo_is_case (histo_starts (ranks made.dims) m) ps ends made steady rs put some h t
-tells_task task.Ig m made steady rs ps ends ready put some h t = tells ig_is_case (ig_starts (ranks made.dims) m) ps ends made steady rs put some h t
-tells_task (task.Permute p) m made steady rs ps ends ready put some h t =
-    tells permute_is_case (permute_starts (ranks made.dims) m (perms_for p m).rows (perms_for p m).cols) ps ends made steady rs put some h t
-tells_task task.Transpose m made steady rs ps ends ready put some h t = tells transpose_is_case (transpose_starts (ranks made.dims) m) ps ends made steady rs put some h t
-tells_task task.Topo m made steady rs ps ends ready put some h t = tells topo_is_case (topo_starts (ranks made.dims) m) ps ends made steady rs put some h t
-tells_task (task.Sssp source None) m made steady rs ps ends ready put some h t = tells sssp_is_case (sssp_starts (ranks made.dims) m (source - 1)) ps ends made steady rs put some h t
-tells_task (task.Sssp source (Some delta)) m made steady rs ps ends ready put some h t =
-    tells delta_is_case (delta_starts (ranks made.dims) m (source - 1) delta) ps ends made steady rs put some h t
-tells_task task.Tally m made steady rs ps ends ready put some h t = absurd cc
+pub tells_task : (t : Task) (m : Sparse) (made : Made) (manner : Manner) (rs : List ClosedRound) (ps ends : List AnyState) → is_ready t ≡ true
+    → ps ≡ starts_of t (ranks made.dims) m → 0 < length ps → HaveEnded any_rules ps ends → DriveTells ps made manner rs → TellsTask t m made manner rs
+tells_task task.Histo m made manner rs ps ends ready put some h t = tells histo_is_case (histo_starts (ranks made.dims) m) ps ends made manner rs put some h t
+tells_task task.Ig m made manner rs ps ends ready put some h t = tells ig_is_case (ig_starts (ranks made.dims) m) ps ends made manner rs put some h t
+tells_task (task.Permute p) m made manner rs ps ends ready put some h t =
+    tells permute_is_case (permute_starts (ranks made.dims) m (perms_for p m).rows (perms_for p m).cols) ps ends made manner rs put some h t
+tells_task task.Transpose m made manner rs ps ends ready put some h t = tells transpose_is_case (transpose_starts (ranks made.dims) m) ps ends made manner rs put some h t
+tells_task task.Topo m made manner rs ps ends ready put some h t = tells topo_is_case (topo_starts (ranks made.dims) m) ps ends made manner rs put some h t
+tells_task (task.Sssp source None) m made manner rs ps ends ready put some h t = tells sssp_is_case (sssp_starts (ranks made.dims) m (source - 1)) ps ends made manner rs put some h t
+tells_task (task.Sssp source (Some delta)) m made manner rs ps ends ready put some h t =
+    tells delta_is_case (delta_starts (ranks made.dims) m (source - 1) delta) ps ends made manner rs put some h t
+tells_task task.Tally m made manner rs ps ends ready put some h t = absurd cc
 
 turns : {S : Type 0} {R : Rules S} {i : S → AnyState} {w : List ℕ → List ℕ} → Injects R any_rules i w → (starts : List S) (ps : List AnyState) (dims : List ℕ) (before after : ℕ)
     → ps ≡ map i starts → 0 < length ps → ((n : ℕ) → HasRounds any_rules ps n → after ≤ before + turns_within any_rules dims ps n) → WithinTurns R starts dims before after

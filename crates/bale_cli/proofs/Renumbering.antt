@@ -16,7 +16,7 @@ use Rattle.sparse_rows.proofs.Doubles.{times, one_if, all_once, none_twice as on
 use Rattle.bale_words.specs.declared.command.Permutations.{Permutations}
 use Rattle.bale_words.specs.declared.command.Permutations.TheVariants.{Lists, Seed}
 use Rattle.bale_words.specs.declared.command.Task.TheVariants as task
-use Rattle.bale_cli.specs.Fitness.{unfitness}
+use Rattle.bale_cli.specs.Fitness.{task_unfitness}
 use Rattle.bale_cli.specs.Numberings.{from_zero, has_each, new_numbers, none_twice, numbers_all}
 use Rattle.bale_cli.specs.Serving.{ServesPermute}
 
@@ -127,7 +127,7 @@ passes true x rest h = (refl, h)
 passes false x rest h = absurd (none-some x (sym h))
 
 -- the new numbers of a task that fits are permutations
-pub moves : (p : Permutations) (m : Sparse) (serial : Bool) → unfitness (task.Permute p) m serial ≡ None → ServesPermute (task.Permute p) m
+pub moves : (p : Permutations) (m : Sparse) (serial : Bool) → task_unfitness (task.Permute p) m serial ≡ None → ServesPermute (task.Permute p) m
 moves (Seed seed) m serial h = (drawn_permutes m.rows (begun seed), drawn_permutes m.cols (drawn m.rows (begun seed)).1)
 moves (Lists rows cols) m serial h =
     let a = passes (numbers_all m.rows rows) _ _ h in

@@ -1,13 +1,20 @@
 -- Whether a command can be answered for a matrix: tests in their order, of which the first that fails decides.
-use Rattle.std.specs.Prelude.{ℕ, ◌*◌, ◌==◌, ◌&&◌, ◌||◌, Bool, not, nat_lt, List, [], ◌∷◌, Option, None, Some, is_some, length, if◌then◌else◌}
+use Rattle.std.specs.Prelude.{ℕ, ◌*◌, ◌==◌, ◌&&◌, ◌||◌, Bool, true, false, not, nat_lt, List, [], ◌∷◌, Option, None, Some, is_some, length, if◌then◌else◌}
 use Rattle.mtx_text.specs.Sparse.{Sparse}
 use Rattle.least_walks.specs.Walks.{no_negative}
+use Rattle.bale_words.specs.declared.command.Command.{Command}
+use Rattle.bale_words.specs.declared.command.Transport.{Transport}
+use Rattle.bale_words.specs.declared.command.Transport.TheVariants.{Exstack}
 use Rattle.bale_words.specs.declared.command.Task.{Task}
 use Rattle.bale_words.specs.declared.command.Task.TheVariants as task
 use Rattle.bale_words.specs.declared.command.Permutations.TheVariants.{Lists}
 use Rattle.bale_cli.specs.Numberings.{numbers_all}
 use Rattle.bale_cli.specs.declared.unfit.Unfit.{Unfit}
 use Rattle.bale_cli.specs.declared.unfit.Unfit.TheVariants as unfit
+
+abbrev pub is_exstack : Transport → Bool
+is_exstack Exstack = true
+is_exstack _ = false
 
 -- A test: whether it fails, and what is then said.
 abbrev pub Test : Type 0
@@ -29,5 +36,9 @@ tests_of _ m serial = []
 
 -- Why an application can't be answered for a matrix, driven serially or by threads: the first of its tests that fails.
 -- sssp from 5 on a matrix of 4 rows and 4 columns: the source is out of range.
-abbrev pub unfitness : Task → Sparse → Bool → Option Unfit
-unfitness t m serial = first_failed (tests_of t m serial)
+abbrev pub task_unfitness : Task → Sparse → Bool → Option Unfit
+task_unfitness t m serial = first_failed (tests_of t m serial)
+
+-- Why a command can't be answered: exstacks go over one hop alone, and then the tests of its application.
+abbrev pub unfitness : Command → Sparse → Bool → Option Unfit
+unfitness c m serial = first_failed ((is_exstack c.travel.transport && not (length c.grid == 1), unfit.ExstackGrid) ∷ tests_of c.task m serial)

@@ -11,6 +11,7 @@ use Rattle.bale_cli.specs.declared.refusal.Refusal.{Refusal}
 use Rattle.bale_cli.specs.declared.refusal.Refusal.TheVariants as refusal
 use Rattle.bale_cli.specs.declared.unfit.Unfit.{Unfit}
 use Rattle.bale_cli.specs.Answer.{answer_to, refusal_text, status_of, reads, Asked, IsBad, IsOfText, IsUnfit, Told, Wrote}
+use Rattle.bale_cli.specs.Jobs.{manner_for}
 use Rattle.bale_cli.specs.Tasks.{made_for, TellsTask}
 
 -- An answer, or why there is none: what the words ask for (`job`), of what the source told before (`left`) and has left after (`left'`),
@@ -33,7 +34,7 @@ pub record Answered (serial : Command → Bool) (job : Option Command) (left lef
   pub read_bad : (text : List ℕ) → left ≡ Some text → reads job ≡ true → IfErr answered (λ r. IsOfText r → left' ≡ Some (drop 16777217 text))
   pub no_answer : OnErr answered (taken' ≡ taken)
   pub rounds : (text : List ℕ) (c : Command) (m : Sparse) → Asked serial left job text c m →
-      IfOk answered (λ f. TellsTask c.task m (made_for (serial c) c) c.travel.steady f.rounds)
+      IfOk answered (λ f. TellsTask c.task m (made_for (serial c) c) (manner_for c) f.rounds)
 
 -- How an answer is told, or why there is none: the status, the rounds, and what err took. `Rose` says that its faults rose.
 pub record IsOutcome (answered : Result Finish Refusal) (old new : Option (List ℕ)) (Rose : Type 0) (status : ℕ) (rounds : List ClosedRound) : Type 0 where

@@ -6,6 +6,7 @@ use Rattle.round_program.specs.Rules.{Rules}
 use Rattle.round_program.specs.Canonical.{HasRounds}
 use Rattle.rank_group.specs.declared.closed_round.ClosedRound.{ClosedRound}
 use Rattle.rank_group.specs.Rounds.{round_of}
+use Rattle.rank_node.specs.Movers.{Manner}
 use Rattle.rank_group.specs.Told.{Made, TellsRun, turns_within}
 use Rattle.bale_words.specs.declared.command.Command.{Command}
 use Rattle.bale_words.specs.declared.command.Task.{Task}
@@ -54,25 +55,25 @@ task_status task.Topo m = order_status (topo_order m.rows m.entries)
 task_status _ m = 0
 
 -- The rounds of a run are one closed round, which tells the canonical run of these programs.
-pub record Tells {S : Type 0} (R : Rules S) (starts : List S) (made : Made) (steady : Bool) (rounds : List ClosedRound) : Type 0 where
+pub record Tells {S : Type 0} (R : Rules S) (starts : List S) (made : Made) (manner : Manner) (rounds : List ClosedRound) : Type 0 where
   pub closed : ClosedRound
   pub only : rounds ≡ closed ∷ []
   pub count : ℕ
   pub has_rounds : HasRounds R starts count
-  pub tells : TellsRun R starts count made steady (round_of closed)
+  pub tells : TellsRun R starts count made manner (round_of closed)
 
 -- The rounds tell the canonical run of the application's programs for this matrix, over a bank that was made as said.
 -- For histo on 4 ranks: that of histo_rules, begun with histo_starts 4 m.
-abbrev pub TellsTask : Task → Sparse → Made → Bool → List ClosedRound → Type 0
-TellsTask task.Histo m made steady rounds = Tells histo_rules (histo_starts (ranks made.dims) m) made steady rounds
-TellsTask task.Ig m made steady rounds = Tells ig_rules (ig_starts (ranks made.dims) m) made steady rounds
-TellsTask (task.Permute p) m made steady rounds =
-    Tells permute_rules (permute_starts (ranks made.dims) m (perms_for p m).rows (perms_for p m).cols) made steady rounds
-TellsTask task.Transpose m made steady rounds = Tells transpose_rules (transpose_starts (ranks made.dims) m) made steady rounds
-TellsTask task.Topo m made steady rounds = Tells topo_rules (topo_starts (ranks made.dims) m) made steady rounds
-TellsTask (task.Sssp source (Some delta)) m made steady rounds = Tells delta_rules (delta_starts (ranks made.dims) m (source - 1) delta) made steady rounds
-TellsTask (task.Sssp source None) m made steady rounds = Tells sssp_rules (sssp_starts (ranks made.dims) m (source - 1)) made steady rounds
-TellsTask _ m made steady rounds = ⊥
+abbrev pub TellsTask : Task → Sparse → Made → Manner → List ClosedRound → Type 0
+TellsTask task.Histo m made manner rounds = Tells histo_rules (histo_starts (ranks made.dims) m) made manner rounds
+TellsTask task.Ig m made manner rounds = Tells ig_rules (ig_starts (ranks made.dims) m) made manner rounds
+TellsTask (task.Permute p) m made manner rounds =
+    Tells permute_rules (permute_starts (ranks made.dims) m (perms_for p m).rows (perms_for p m).cols) made manner rounds
+TellsTask task.Transpose m made manner rounds = Tells transpose_rules (transpose_starts (ranks made.dims) m) made manner rounds
+TellsTask task.Topo m made manner rounds = Tells topo_rules (topo_starts (ranks made.dims) m) made manner rounds
+TellsTask (task.Sssp source (Some delta)) m made manner rounds = Tells delta_rules (delta_starts (ranks made.dims) m (source - 1) delta) made manner rounds
+TellsTask (task.Sssp source None) m made manner rounds = Tells sssp_rules (sssp_starts (ranks made.dims) m (source - 1)) made manner rounds
+TellsTask _ m made manner rounds = ⊥
 
 -- From `before` turns to `after` there are no more than a run of these programs takes at most.
 abbrev pub WithinTurns : {S : Type 0} → Rules S → List S → List ℕ → ℕ → ℕ → Type 0

@@ -4,7 +4,7 @@ ghost use Rattle.bale_types.specs.Stream.{HasCause, IsFront};
 ghost use Rattle.round_program.specs.Canonical.{HaveEnded};
 ghost use Rattle.app_cases.specs.Any.{any_rules};
 ghost use Rattle.bale_words.specs.Ranges.{InRanges};
-ghost use Rattle.bale_cli.specs.Jobs.{as_asked, runs};
+ghost use Rattle.bale_cli.specs.Jobs.{as_asked, runs, via_of, manner_for};
 ghost use Rattle.bale_cli.specs.Answer.{HasWritten, shown};
 ghost use Rattle.bale_cli.specs.Fitness.{unfitness};
 ghost use Rattle.bale_cli.specs.Starts.{starts_of};
@@ -16,7 +16,7 @@ use crate::refusal::Refusal;
 use crate::start::started;
 use app_cases::AnyProgram;
 use bale_types::{Failed, Sink};
-use bale_words::{Command, Driving, Travel};
+use bale_words::{Command, Driving, Transport, Travel};
 use case_table::{case_serial, case_threads};
 use mtx_text::Matrix;
 use rank_group::{Finished, Gate, Rounds, Steps, Via};
@@ -42,9 +42,9 @@ pub(crate) fn ran_serially<K: Sink, L: Ledger>(
     out: &mut K,
     steps: &mut Steps<L>,
 ) -> Result<Finish, Refusal>
-    requires runs { runs command.now ≡ true }
+    requires runs { runs true command.now ≡ true }
     requires ranges { InRanges command.now }
-    requires fits { unfitness command.now.task m.now true ≡ None }
+    requires fits { unfitness command.now m.now true ≡ None }
     ensures status { IfOk result (λ f. f.status ≡ task_status command.now.task m.now) }
     ensures low { IfOk result (λ f. f.status ≤ 1) }
     ensures answer { IfOk result (λ f. HasWritten (IsAnswer command.now.task m.now) (shown command.now.travel.generated) (K.taken out.old) (K.taken out.new) f.written) }
@@ -52,7 +52,7 @@ pub(crate) fn ran_serially<K: Sink, L: Ledger>(
     ensures held { IsFront (K.taken out.old) (K.taken out.new) }
     ensures no_answer { OnErr result (K.taken out.new ≡ K.taken out.old) }
     ensures memory { IfErr result (λ r. r ≡ Refusal.NoMemory) }
-    ensures rounds { IfOk result (λ f. TellsTask command.now.task m.now (made_for true command.now) command.now.travel.steady f.rounds) }
+    ensures rounds { IfOk result (λ f. TellsTask command.now.task m.now (made_for true command.now) (manner_for command.now) f.rounds) }
     ensures steps { TurnsOfTask command.now.task m.now command.now.grid steps.old steps.new }
 {
     let grid = &command.grid;
@@ -87,9 +87,9 @@ fn ran_on_threads<R: Threads + Wait + Sync, K: Sink, G: Gate + Sync>(
     out: &mut K,
     gate: &G,
 ) -> Result<Finish, Refusal>
-    requires runs { runs command.now ≡ true }
+    requires runs { runs false command.now ≡ true }
     requires ranges { InRanges command.now }
-    requires fits { unfitness command.now.task m.now false ≡ None }
+    requires fits { unfitness command.now m.now false ≡ None }
     ensures status { IfOk result (λ f. f.status ≡ task_status command.now.task m.now) }
     ensures low { IfOk result (λ f. f.status ≤ 1) }
     ensures answer { IfOk result (λ f. HasWritten (IsAnswer command.now.task m.now) (shown command.now.travel.generated) (K.taken out.old) (K.taken out.new) f.written) }
@@ -97,13 +97,14 @@ fn ran_on_threads<R: Threads + Wait + Sync, K: Sink, G: Gate + Sync>(
     ensures held { IsFront (K.taken out.old) (K.taken out.new) }
     ensures no_answer { OnErr result (K.taken out.new ≡ K.taken out.old) }
     ensures memory { IfErr result (λ r. r ≡ Refusal.NoMemory) }
-    ensures rounds { IfOk result (λ f. TellsTask command.now.task m.now (made_for false command.now) command.now.travel.steady f.rounds) }
+    ensures rounds { IfOk result (λ f. TellsTask command.now.task m.now (made_for false command.now) (manner_for command.now) f.rounds) }
 {
     let grid = &command.grid;
     let Travel {
         buffer,
         slots,
         steady,
+        transport,
         ..
     } = command.travel;
     let progs = started(alloc, &command.task, m, grid.ranks())?;
@@ -112,7 +113,7 @@ fn ran_on_threads<R: Threads + Wait + Sync, K: Sink, G: Gate + Sync>(
         alloc,
         grid,
         buffer,
-        Via::Convey,
+        via_of(transport),
         slots,
         steady,
         progs,
@@ -130,9 +131,9 @@ pub(crate) fn ran<R: Threads + Wait + Sync, K: Sink, G: Gate + Sync>(
     out: &mut K,
     gate: &G,
 ) -> Result<Finish, Refusal>
-    requires runs { runs command.now ≡ true }
+    requires runs { runs (as_asked command.now) command.now ≡ true }
     requires ranges { InRanges command.now }
-    requires fits { unfitness command.now.task m.now (as_asked command.now) ≡ None }
+    requires fits { unfitness command.now m.now (as_asked command.now) ≡ None }
     ensures status { IfOk result (λ f. f.status ≡ task_status command.now.task m.now) }
     ensures low { IfOk result (λ f. f.status ≤ 1) }
     ensures answer { IfOk result (λ f. HasWritten (IsAnswer command.now.task m.now) (shown command.now.travel.generated) (K.taken out.old) (K.taken out.new) f.written) }
@@ -140,7 +141,7 @@ pub(crate) fn ran<R: Threads + Wait + Sync, K: Sink, G: Gate + Sync>(
     ensures held { IsFront (K.taken out.old) (K.taken out.new) }
     ensures no_answer { OnErr result (K.taken out.new ≡ K.taken out.old) }
     ensures memory { IfErr result (λ r. r ≡ Refusal.NoMemory) }
-    ensures rounds { IfOk result (λ f. TellsTask command.now.task m.now (made_for (as_asked command.now) command.now) command.now.travel.steady f.rounds) }
+    ensures rounds { IfOk result (λ f. TellsTask command.now.task m.now (made_for (as_asked command.now) command.now) (manner_for command.now) f.rounds) }
 {
     if drives_serially(command) {
         ran_uncounted::<Brand, K>(alloc, command, m, out, Blank::new(1))
@@ -156,6 +157,16 @@ pub(crate) fn drives_serially(command: &Command) -> bool
     matches!(command.travel.driving, Driving::Serial)
 }
 
+/// How items travel by a transport.
+fn via_of(transport: Transport) -> Via
+    ensures { result ≡ via_of transport }
+{
+    match transport {
+        Transport::Exstack => Via::Exstack,
+        Transport::Convey | Transport::Biconvey => Via::Convey,
+    }
+}
+
 /// A run on this thread whose turns nobody asks for.
 fn ran_uncounted<L: Ledger, K: Sink>(
     alloc: Global,
@@ -167,9 +178,9 @@ fn ran_uncounted<L: Ledger, K: Sink>(
     requires name { blank.name ≡ L.name }
     requires parts { blank.parts ≡ L.parts }
     requires some { 0 < L.parts }
-    requires runs { runs command.now ≡ true }
+    requires runs { runs true command.now ≡ true }
     requires ranges { InRanges command.now }
-    requires fits { unfitness command.now.task m.now true ≡ None }
+    requires fits { unfitness command.now m.now true ≡ None }
     ensures status { IfOk result (λ f. f.status ≡ task_status command.now.task m.now) }
     ensures low { IfOk result (λ f. f.status ≤ 1) }
     ensures answer { IfOk result (λ f. HasWritten (IsAnswer command.now.task m.now) (shown command.now.travel.generated) (K.taken out.old) (K.taken out.new) f.written) }
@@ -177,7 +188,7 @@ fn ran_uncounted<L: Ledger, K: Sink>(
     ensures held { IsFront (K.taken out.old) (K.taken out.new) }
     ensures no_answer { OnErr result (K.taken out.new ≡ K.taken out.old) }
     ensures memory { IfErr result (λ r. r ≡ Refusal.NoMemory) }
-    ensures rounds { IfOk result (λ f. TellsTask command.now.task m.now (made_for true command.now) command.now.travel.steady f.rounds) }
+    ensures rounds { IfOk result (λ f. TellsTask command.now.task m.now (made_for true command.now) (manner_for command.now) f.rounds) }
 {
     let mut steps = Steps::<L>::new(blank);
     ran_serially(alloc, command, m, out, &mut steps)
@@ -191,9 +202,9 @@ fn told<K: Sink>(
     run: Finished<AnyProgram>,
     out: &mut K,
 ) -> Result<Finish, Refusal>
-    requires runs { runs command.now ≡ true }
+    requires runs { (serial : Bool) × (runs serial command.now ≡ true) }
     requires ranges { InRanges command.now }
-    requires fits { (serial : Bool) × (unfitness command.now.task m.now serial ≡ None) }
+    requires fits { (serial : Bool) × (unfitness command.now m.now serial ≡ None) }
     requires ended { (ranks : ℕ) × (1 ≤ ranks) × (ranks ≤ 64) × (0 < length (starts_of command.now.task ranks m.now)) × HaveEnded any_rules (starts_of command.now.task ranks m.now) run.progs }
     ensures status { IfOk result (λ f. f.status ≡ task_status command.now.task m.now) }
     ensures low { IfOk result (λ f. f.status ≤ 1) }

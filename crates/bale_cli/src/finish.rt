@@ -8,7 +8,7 @@ ghost use Rattle.app_cases.specs.Any.{any_rules};
 ghost use Rattle.bale_words.specs.Ranges.{TaskInRanges};
 ghost use Rattle.bale_cli.specs.Jobs.{is_ready};
 ghost use Rattle.bale_cli.specs.Answer.{HasWritten, shown};
-ghost use Rattle.bale_cli.specs.Fitness.{unfitness};
+ghost use Rattle.bale_cli.specs.Fitness.{task_unfitness};
 ghost use Rattle.bale_cli.specs.Logs.{bytes_of};
 ghost use Rattle.bale_cli.specs.Starts.{starts_of};
 ghost use Rattle.bale_cli.specs.Summary.{summary_of};
@@ -49,7 +49,7 @@ pub(crate) fn finished<K: Sink>(
 ) -> Result<Ending, NoMemory>
     requires ready { is_ready task.now ≡ true }
     requires ranges { TaskInRanges task.now }
-    requires fits { (serial : Bool) × (unfitness task.now m.now serial ≡ None) }
+    requires fits { (serial : Bool) × (task_unfitness task.now m.now serial ≡ None) }
     requires ended { (ranks : ℕ) × (1 ≤ ranks) × (ranks ≤ 64) × (0 < length (starts_of task.now ranks m.now)) × HaveEnded any_rules (starts_of task.now ranks m.now) progs }
     ensures status { IfOk result (λ e. e.status ≡ task_status task.now m.now) }
     ensures low { IfOk result (λ e. e.status ≤ 1) }

@@ -139,6 +139,7 @@ fn text_of_unfit(unfit: Unfit) -> &'static [u8]
     ensures short { length result.now ≤ 64 }
 {
     match unfit {
+        Unfit::ExstackGrid => b"bale: unfit: exstack needs a grid of one number\n",
         Unfit::NotSquare => b"bale: unfit: matrix is not square\n",
         Unfit::NegativeWeight => b"bale: unfit: negative weight\n",
         Unfit::Source => b"bale: unfit: source out of range\n",

@@ -5,7 +5,7 @@ ghost use Rattle.round_program.specs.Canonical.{InRound, EndsWithin};
 ghost use Rattle.app_cases.specs.Any.{any_rules};
 ghost use Rattle.bale_words.specs.Ranges.{TaskInRanges};
 ghost use Rattle.bale_cli.specs.Jobs.{is_ready};
-ghost use Rattle.bale_cli.specs.Fitness.{unfitness};
+ghost use Rattle.bale_cli.specs.Fitness.{task_unfitness};
 ghost use Rattle.bale_cli.specs.Starts.{starts_of};
 
 use crate::application::Application;
@@ -32,7 +32,7 @@ pub(crate) fn started(
 ) -> Result<Progs<AnyProgram>, NoMemory>
     requires ready { is_ready task.now ≡ true }
     requires ranges { TaskInRanges task.now }
-    requires fits { (serial : Bool) × (unfitness task.now m.now serial ≡ None) }
+    requires fits { (serial : Bool) × (task_unfitness task.now m.now serial ≡ None) }
     requires some { 1 ≤ ranks }
     requires few { ranks ≤ 64 }
     ensures starts { IfOk result (λ ps. ps ≡ starts_of task.now ranks m.now) }

@@ -4,11 +4,11 @@ ghost use Rattle.std.specs.Prelude.{◌≡◌, ◌*◌, ◌≤◌, ◌+◌, ◌<
 ghost use Rattle.least_walks.specs.Walks.{no_negative};
 ghost use Rattle.bale_words.specs.declared.command.Task.TheVariants.{Permute, Sssp, Topo};
 ghost use Rattle.bale_words.specs.declared.command.Permutations.TheVariants.{Lists};
-ghost use Rattle.bale_cli.specs.Fitness.{unfitness};
+ghost use Rattle.bale_cli.specs.Fitness.{task_unfitness, unfitness};
 
 use crate::numberings::numbers_all;
 use bale_types::NoMemory;
-use bale_words::{Numbers, Permutations, Task};
+use bale_words::{Command, Numbers, Permutations, Task, Transport};
 use least_walks::no_negative;
 use mtx_text::Matrix;
 use std::alloc::Global;
@@ -16,6 +16,8 @@ use std::alloc::Global;
 /// Why a command can't be answered for a matrix.
 #[derive(Clone, Copy, PartialEq, Eq, Debug)]
 pub enum Unfit {
+    /// Exstacks go over one hop: the grid has more than one number.
+    ExstackGrid,
     /// The matrix has not as many columns as rows.
     NotSquare,
     /// An edge has a negative weight.
@@ -32,17 +34,35 @@ pub enum Unfit {
     DeltaRows,
 }
 
-/// The first test that fails, of those of the task, for this matrix, driven serially or by threads.
+/// The first test that fails, of those of the command, for this matrix, driven serially or by threads.
 ///
 /// # Errors
 /// `NoMemory` where the marks of a list's numbers found none.
 pub(crate) fn unfitness(
     alloc: Global,
+    command: &Command,
+    m: &Matrix,
+    serial: bool,
+) -> Result<Option<Unfit>, NoMemory>
+    ensures { IfOk result (λ u. u ≡ unfitness command.now m.now serial) }
+{
+    if command.travel.transport == Transport::Exstack && command.grid.hops() != 1 {
+        return Ok(Some(Unfit::ExstackGrid));
+    }
+    task_unfitness(alloc, &command.task, m, serial)
+}
+
+/// The first test that fails, of those of the task.
+///
+/// # Errors
+/// `NoMemory` where the marks of a list's numbers found none.
+fn task_unfitness(
+    alloc: Global,
     task: &Task,
     m: &Matrix,
     serial: bool,
 ) -> Result<Option<Unfit>, NoMemory>
-    ensures { IfOk result (λ u. u ≡ unfitness task.now m.now serial) }
+    ensures { IfOk result (λ u. u ≡ task_unfitness task.now m.now serial) }
 {
     match task {
         Task::Permute(Permutations::Lists(rows, cols)) => no_moves(alloc, m, rows, cols, serial),
@@ -60,7 +80,7 @@ fn no_moves(
     cols: &Option<Numbers>,
     serial: bool,
 ) -> Result<Option<Unfit>, NoMemory>
-    ensures { IfOk result (λ u. u ≡ unfitness (Permute (Lists rows.now cols.now)) m.now serial) }
+    ensures { IfOk result (λ u. u ≡ task_unfitness (Permute (Lists rows.now cols.now)) m.now serial) }
 {
     if !numbers_all(alloc, m.rows(), rows)? {
         return Ok(Some(Unfit::RowPermutation));
@@ -73,7 +93,7 @@ fn no_moves(
 
 /// Why least walks from a source can't be answered; the source is counted from 1.
 fn no_walks(m: &Matrix, source: u32, delta: Option<u64>, serial: bool) -> Option<Unfit>
-    ensures { result ≡ unfitness (Sssp source delta) m.now serial }
+    ensures { result ≡ task_unfitness (Sssp source delta) m.now serial }
 {
     let entries = m.entries();
     if m.cols() != m.rows() {
@@ -96,7 +116,7 @@ fn no_walks(m: &Matrix, source: u32, delta: Option<u64>, serial: bool) -> Option
 
 /// Why there can be no order of rows and columns.
 fn no_order(m: &Matrix, serial: bool) -> Option<Unfit>
-    ensures { result ≡ unfitness Topo m.now serial }
+    ensures { result ≡ task_unfitness Topo m.now serial }
 {
     if m.cols() != m.rows() {
         return Some(Unfit::NotSquare);

@@ -3,6 +3,7 @@ ghost use Rattle.std.specs.Prelude.{◌≡◌, ℕ, ◌+◌, ◌<◌, ◌≤◌,
 ghost use Rattle.route_tensor.specs.Grid.{ranks};
 ghost use Rattle.port_bank.specs.Port.{IsSlots};
 ghost use Rattle.round_program.specs.Canonical.{InRound, HasRounds, EndsWithin, HaveEnded};
+ghost use Rattle.rank_node.specs.Movers.{manner_of};
 ghost use Rattle.rank_group.specs.declared.closed_round.ClosedRound.{ClosedRound};
 ghost use Rattle.rank_group.specs.Ranks.{IsOrder};
 ghost use Rattle.rank_group.specs.Rounds.{round_of};
@@ -34,6 +35,7 @@ pub fn case_serial<Q: Program, L: Ledger>(
     steps: &mut Steps<L>,
 ) -> Result<Finished<Q>, NoMemory>
     requires capacity { IsCapacity cap }
+    requires conveyors { via ≡ Via.Convey }
     requires slots { IsSlots slots }
     requires order { IsOrder (ranks grid.now) order.now }
     requires begins { (shape : List ℕ) × (most : ℕ) × InRound Q.rules (ranks grid.now) 0 shape most progs × EndsWithin Q.rules progs most }
@@ -43,7 +45,7 @@ pub fn case_serial<Q: Program, L: Ledger>(
 
     // One closed round tells what was exchanged, over a bank of this capacity.
     ensures rounds { IfOk result (λ f. (c : ClosedRound) × (f.rounds ≡ c ∷ []) × ((n : ℕ) → HasRounds Q.rules progs n
-        → TellsRun Q.rules progs n (record { dims = grid.now; cap = cap; slots = slots; by_slots = false }) steady (round_of c))) }
+        → TellsRun Q.rules progs n (record { dims = grid.now; cap = cap; slots = slots; by_slots = false }) (manner_of via steady) (round_of c))) }
 
     // The turns are bounded before the run, also where it ends in `NoMemory`.
     ensures steps { (n : ℕ) → HasRounds Q.rules progs n → steps.new ≤ steps.old + turns_within Q.rules grid.now progs n }
@@ -69,12 +71,13 @@ fn on_one_hop<Q: Program, L: Ledger>(
 ) -> Result<Finished<Q>, NoMemory>
     requires hops { length grid.now ≡ 1 }
     requires capacity { IsCapacity cap }
+    requires conveyors { via ≡ Via.Convey }
     requires slots { IsSlots slots }
     requires order { IsOrder (ranks grid.now) order.now }
     requires begins { (shape : List ℕ) × (most : ℕ) × InRound Q.rules (ranks grid.now) 0 shape most progs × EndsWithin Q.rules progs most }
     ensures ended { IfOk result (λ f. HaveEnded Q.rules progs f.progs) }
     ensures rounds { IfOk result (λ f. (c : ClosedRound) × (f.rounds ≡ c ∷ []) × ((n : ℕ) → HasRounds Q.rules progs n
-        → TellsRun Q.rules progs n (record { dims = grid.now; cap = cap; slots = slots; by_slots = false }) steady (round_of c))) }
+        → TellsRun Q.rules progs n (record { dims = grid.now; cap = cap; slots = slots; by_slots = false }) (manner_of via steady) (round_of c))) }
     ensures steps { (n : ℕ) → HasRounds Q.rules progs n → steps.new ≤ steps.old + turns_within Q.rules grid.now progs n }
 {
     by_capacity!(
@@ -98,12 +101,13 @@ fn on_two_hops<Q: Program, L: Ledger>(
 ) -> Result<Finished<Q>, NoMemory>
     requires hops { length grid.now ≡ 2 }
     requires capacity { IsCapacity cap }
+    requires conveyors { via ≡ Via.Convey }
     requires slots { IsSlots slots }
     requires order { IsOrder (ranks grid.now) order.now }
     requires begins { (shape : List ℕ) × (most : ℕ) × InRound Q.rules (ranks grid.now) 0 shape most progs × EndsWithin Q.rules progs most }
     ensures ended { IfOk result (λ f. HaveEnded Q.rules progs f.progs) }
     ensures rounds { IfOk result (λ f. (c : ClosedRound) × (f.rounds ≡ c ∷ []) × ((n : ℕ) → HasRounds Q.rules progs n
-        → TellsRun Q.rules progs n (record { dims = grid.now; cap = cap; slots = slots; by_slots = false }) steady (round_of c))) }
+        → TellsRun Q.rules progs n (record { dims = grid.now; cap = cap; slots = slots; by_slots = false }) (manner_of via steady) (round_of c))) }
     ensures steps { (n : ℕ) → HasRounds Q.rules progs n → steps.new ≤ steps.old + turns_within Q.rules grid.now progs n }
 {
     by_capacity!(
@@ -127,12 +131,13 @@ fn on_three_hops<Q: Program, L: Ledger>(
 ) -> Result<Finished<Q>, NoMemory>
     requires hops { length grid.now ≡ 3 }
     requires capacity { IsCapacity cap }
+    requires conveyors { via ≡ Via.Convey }
     requires slots { IsSlots slots }
     requires order { IsOrder (ranks grid.now) order.now }
     requires begins { (shape : List ℕ) × (most : ℕ) × InRound Q.rules (ranks grid.now) 0 shape most progs × EndsWithin Q.rules progs most }
     ensures ended { IfOk result (λ f. HaveEnded Q.rules progs f.progs) }
     ensures rounds { IfOk result (λ f. (c : ClosedRound) × (f.rounds ≡ c ∷ []) × ((n : ℕ) → HasRounds Q.rules progs n
-        → TellsRun Q.rules progs n (record { dims = grid.now; cap = cap; slots = slots; by_slots = false }) steady (round_of c))) }
+        → TellsRun Q.rules progs n (record { dims = grid.now; cap = cap; slots = slots; by_slots = false }) (manner_of via steady) (round_of c))) }
     ensures steps { (n : ℕ) → HasRounds Q.rules progs n → steps.new ≤ steps.old + turns_within Q.rules grid.now progs n }
 {
     by_capacity!(

@@ -3,6 +3,7 @@ ghost use Rattle.std.specs.Prelude.{◌≡◌, ℕ, true, List, [], ◌∷◌, l
 ghost use Rattle.route_tensor.specs.Grid.{ranks};
 ghost use Rattle.port_bank.specs.Port.{IsSlots};
 ghost use Rattle.round_program.specs.Canonical.{InRound, HasRounds, EndsWithin, HaveEnded};
+ghost use Rattle.rank_node.specs.Movers.{manner_of};
 ghost use Rattle.rank_group.specs.declared.closed_round.ClosedRound.{ClosedRound};
 ghost use Rattle.rank_group.specs.Rounds.{round_of};
 ghost use Rattle.rank_group.specs.Told.{TellsRun};
@@ -34,6 +35,7 @@ pub fn case_threads<R: Threads + Wait + Sync, Q: Program + Send, G: Gate + Sync>
     gate: &G,
 ) -> Result<Finished<Q>, NoMemory>
     requires capacity { IsCapacity cap }
+    requires one_hop { via ≡ Via.Exstack → length grid.now ≡ 1 }
     requires slots { IsSlots slots }
     requires begins { (shape : List ℕ) × (most : ℕ) × InRound Q.rules (ranks grid.now) 0 shape most progs × EndsWithin Q.rules progs most }
 
@@ -42,7 +44,7 @@ pub fn case_threads<R: Threads + Wait + Sync, Q: Program + Send, G: Gate + Sync>
 
     // One closed round tells what was exchanged, over a bank of this capacity.
     ensures rounds { IfOk result (λ f. (c : ClosedRound) × (f.rounds ≡ c ∷ []) × ((n : ℕ) → HasRounds Q.rules progs n
-        → TellsRun Q.rules progs n (record { dims = grid.now; cap = cap; slots = slots; by_slots = true }) steady (round_of c))) }
+        → TellsRun Q.rules progs n (record { dims = grid.now; cap = cap; slots = slots; by_slots = true }) (manner_of via steady) (round_of c))) }
 {
     match grid.hops() {
         1 => threads_on_one_hop(rt, alloc, grid, cap, via, slots, steady, progs, gate),
@@ -65,11 +67,12 @@ fn threads_on_one_hop<R: Threads + Wait + Sync, Q: Program + Send, G: Gate + Syn
 ) -> Result<Finished<Q>, NoMemory>
     requires hops { length grid.now ≡ 1 }
     requires capacity { IsCapacity cap }
+    requires one_hop { via ≡ Via.Exstack → length grid.now ≡ 1 }
     requires slots { IsSlots slots }
     requires begins { (shape : List ℕ) × (most : ℕ) × InRound Q.rules (ranks grid.now) 0 shape most progs × EndsWithin Q.rules progs most }
     ensures ended { IfOk result (λ f. HaveEnded Q.rules progs f.progs) }
     ensures rounds { IfOk result (λ f. (c : ClosedRound) × (f.rounds ≡ c ∷ []) × ((n : ℕ) → HasRounds Q.rules progs n
-        → TellsRun Q.rules progs n (record { dims = grid.now; cap = cap; slots = slots; by_slots = true }) steady (round_of c))) }
+        → TellsRun Q.rules progs n (record { dims = grid.now; cap = cap; slots = slots; by_slots = true }) (manner_of via steady) (round_of c))) }
 {
     by_capacity!(
         cap,
@@ -92,11 +95,12 @@ fn threads_on_two_hops<R: Threads + Wait + Sync, Q: Program + Send, G: Gate + Sy
 ) -> Result<Finished<Q>, NoMemory>
     requires hops { length grid.now ≡ 2 }
     requires capacity { IsCapacity cap }
+    requires one_hop { via ≡ Via.Exstack → length grid.now ≡ 1 }
     requires slots { IsSlots slots }
     requires begins { (shape : List ℕ) × (most : ℕ) × InRound Q.rules (ranks grid.now) 0 shape most progs × EndsWithin Q.rules progs most }
     ensures ended { IfOk result (λ f. HaveEnded Q.rules progs f.progs) }
     ensures rounds { IfOk result (λ f. (c : ClosedRound) × (f.rounds ≡ c ∷ []) × ((n : ℕ) → HasRounds Q.rules progs n
-        → TellsRun Q.rules progs n (record { dims = grid.now; cap = cap; slots = slots; by_slots = true }) steady (round_of c))) }
+        → TellsRun Q.rules progs n (record { dims = grid.now; cap = cap; slots = slots; by_slots = true }) (manner_of via steady) (round_of c))) }
 {
     by_capacity!(
         cap,
@@ -119,11 +123,12 @@ fn threads_on_three_hops<R: Threads + Wait + Sync, Q: Program + Send, G: Gate + 
 ) -> Result<Finished<Q>, NoMemory>
     requires hops { length grid.now ≡ 3 }
     requires capacity { IsCapacity cap }
+    requires one_hop { via ≡ Via.Exstack → length grid.now ≡ 1 }
     requires slots { IsSlots slots }
     requires begins { (shape : List ℕ) × (most : ℕ) × InRound Q.rules (ranks grid.now) 0 shape most progs × EndsWithin Q.rules progs most }
     ensures ended { IfOk result (λ f. HaveEnded Q.rules progs f.progs) }
     ensures rounds { IfOk result (λ f. (c : ClosedRound) × (f.rounds ≡ c ∷ []) × ((n : ℕ) → HasRounds Q.rules progs n
-        → TellsRun Q.rules progs n (record { dims = grid.now; cap = cap; slots = slots; by_slots = true }) steady (round_of c))) }
+        → TellsRun Q.rules progs n (record { dims = grid.now; cap = cap; slots = slots; by_slots = true }) (manner_of via steady) (round_of c))) }
 {
     by_capacity!(
         cap,

@@ -4,6 +4,7 @@ use Rattle.route_tensor.specs.Grid.{ranks}
 use Rattle.round_program.specs.Canonical.{InRound, EndsWithin, HaveEnded}
 use Rattle.rank_group.specs.declared.closed_round.ClosedRound.{ClosedRound}
 use Rattle.app_cases.specs.Any.{AnyState, any_rules}
+use Rattle.bale_cli.specs.Jobs.{manner_for}
 use Rattle.bale_cli.specs.Starts.{starts_of}
 use Rattle.bale_cli.specs.Tasks.{made_for, TellsTask}
 use Rattle.bale_cli.proofs.Cases.{rounds_as, tells_task, turns_of_task}
@@ -53,20 +54,20 @@ told-requires-clause-ended g c =
 
 pub returns-clause-rounds : goal.returns-clause-rounds
 returns-clause-rounds g c =
-    rounds_as (λ (rs : List ClosedRound). TellsTask c.args.command.now.task c.args.m.now (made_for true c.args.command.now) c.args.command.now.travel.steady rs)
+    rounds_as (λ (rs : List ClosedRound). TellsTask c.args.command.now.task c.args.m.now (made_for true c.args.command.now) (manner_for c.args.command.now) rs)
     c.told.result c.told.ensures.rounds
-    (tells_task c.args.command.now.task c.args.m.now (made_for true c.args.command.now) c.args.command.now.travel.steady c.in_ok-run.run'.rounds c.in_ok-progs.progs c.in_ok-run.run'.progs
-    (ready c.args.command.now c.requires.runs) (are g (goal.at.returns-clause-rounds g c).In_ok-progs) (some g (goal.at.returns-clause-rounds g c).In_ok-progs) c.in_ok-run.ensures.ended
+    (tells_task c.args.command.now.task c.args.m.now (made_for true c.args.command.now) (manner_for c.args.command.now) c.in_ok-run.run'.rounds c.in_ok-progs.progs c.in_ok-run.run'.progs
+    (ready true c.args.command.now c.requires.runs) (are g (goal.at.returns-clause-rounds g c).In_ok-progs) (some g (goal.at.returns-clause-rounds g c).In_ok-progs) c.in_ok-run.ensures.ended
     c.in_ok-run.ensures.rounds)
 
 pub returns-in_err-run-clause-steps : goal.returns-in_err-run-clause-steps
 returns-in_err-run-clause-steps g c =
     turns_of_task c.args.command.now.task c.args.m.now c.args.command.now.grid c.args.steps.now c.case_serial.new.steps c.in_ok-progs.progs
-    (ready c.args.command.now c.requires.runs) (are g (goal.at.returns-in_err-run-clause-steps g c).In_ok-progs) (some g (goal.at.returns-in_err-run-clause-steps g c).In_ok-progs)
+    (ready true c.args.command.now c.requires.runs) (are g (goal.at.returns-in_err-run-clause-steps g c).In_ok-progs) (some g (goal.at.returns-in_err-run-clause-steps g c).In_ok-progs)
     c.case_serial.ensures.steps
 
 pub returns-clause-steps : goal.returns-clause-steps
 returns-clause-steps g c =
     turns_of_task c.args.command.now.task c.args.m.now c.args.command.now.grid c.args.steps.now c.case_serial.new.steps c.in_ok-progs.progs
-    (ready c.args.command.now c.requires.runs) (are g (goal.at.returns-clause-steps g c).In_ok-progs) (some g (goal.at.returns-clause-steps g c).In_ok-progs)
+    (ready true c.args.command.now c.requires.runs) (are g (goal.at.returns-clause-steps g c).In_ok-progs) (some g (goal.at.returns-clause-steps g c).In_ok-progs)
     c.case_serial.ensures.steps

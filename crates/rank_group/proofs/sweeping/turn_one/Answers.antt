@@ -2,6 +2,7 @@ use Rattle.std.proofs.Common.{rules, ◌≡◌, ◌<◌, length, slice_get, slic
 use Rattle.std.proofs.lemmas.Option.{slice_get_read}
 use Rattle.list_laws.proofs.Lists.{get_once, get_here, get_other}
 use Rattle.port_bank.specs.Plain.{sent_of, got_of}
+use Rattle.rank_node.specs.Movers.Manner.{ByConveyor}
 use Rattle.rank_group.specs.Ranks.{RankState, AfterRank}
 use Rattle.rank_group.proofs.Resting.{epoch_few}
 use Rattle.rank_group.proofs.sweeping.turn_one.Goals as goal
@@ -17,7 +18,7 @@ turn_rank-requires g c =
     let at : slice_get rs r ≡ Some n = slice_get_read rs (length rs) r n refl low c.index_mut.ensures.value in
     let has = w.ranked.each r n at in
     let few = epoch_few R g.met.Q.Program.laws c.requires.law c.args.bank.dims g.row.CAP c.args.bank.slots c.requires.world.0 c.requires.world.1 c.requires.world.3 rs (sent_of c.args.bank) (got_of c.args.bank) w c.requires.world.2 c.requires.world.4 r n at in
-    (search rules, (search rules, (c.requires.number, (few, (c.requires.world.0, c.requires.world.3 r, has)))))
+    (search rules, (search rules, (c.requires.number, (few, (ByConveyor c.requires.world.0, c.requires.world.3 r, has)))))
 
 pub returns-clause-others : goal.returns-clause-others
 returns-clause-others g c = λ k apart. get_other c.args.all.now.items c.args.number k c.turn_rank.new.rank apart

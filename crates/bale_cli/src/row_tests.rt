@@ -1,6 +1,8 @@
 //! Worked runs of each application, by both top calls.
 use crate::rig::{INTEGER, ONE, PATTERN, answer, answer_alone, answer_as_asked, run_alone, words};
 use bale_types::{MemSink, MemSource};
+use std::alloc::Global;
+use std::string::ToString;
 use std::test::Fail;
 
 #[test]
@@ -101,26 +103,57 @@ sssp --delta 0;;2 bale: usage/
 histo --delta 3;;2 bale: usage/
 histo --via biconvey;;2 bale: usage/
 tally;;2 bale: usage/
-ig --via exstack;;2 bale: usage/
 ";
+
+/// The words of a row, its text and its answer.
+fn parts_of(alloc: Global, row: &str) -> Result<Option<(String, String, String)>, Fail> {
+    let mut parts = row.split(';');
+    let (Some(words), Some(text), Some(want)) = (parts.next(), parts.next(), parts.next()) else {
+        return Ok(None);
+    };
+    let text = text.replace(alloc, "/", "\n")?;
+    let text = text.replace(alloc, "P", PATTERN)?;
+    let text = text.replace(alloc, "I", INTEGER)?;
+    let want = want.replace(alloc, "/", "\n")?;
+    let want = want.replace(alloc, "I", INTEGER)?;
+    Ok(Some((words.to_string(alloc)?, text, want)))
+}
 
 #[test]
 fn applications_and_their_answers(rt: HostRuntime) -> Result<(), Fail> {
     let alloc = rt.alloc();
     for row in ROWS.lines() {
-        let mut parts = row.split(';');
-        let (Some(words), Some(text), Some(want)) = (parts.next(), parts.next(), parts.next())
-        else {
-            continue;
-        };
-        let text = text.replace(alloc, "/", "\n")?;
-        let text = text.replace(alloc, "P", PATTERN)?;
-        let text = text.replace(alloc, "I", INTEGER)?;
-        let want = want.replace(alloc, "/", "\n")?;
-        let want = want.replace(alloc, "I", INTEGER)?;
-        let got = answer(&rt, alloc, words, text.as_bytes())?;
-        assert_eq!(rt; got.as_str(), want.as_str(), "{row}");
+        if let Some((words, text, want)) = parts_of(alloc, row)? {
+            let got = answer(&rt, alloc, words.as_str(), text.as_bytes())?;
+            assert_eq!(rt; got.as_str(), want.as_str(), "{row}");
+        }
     }
+    Ok(())
+}
+
+/// The same rows on exstacks, but for those whose grid has more numbers than one or whose words name the transport.
+#[test]
+fn exstacks_give_the_same_answers(rt: HostRuntime) -> Result<(), Fail> {
+    let alloc = rt.alloc();
+    for row in ROWS.lines() {
+        if let Some((words, text, want)) = parts_of(alloc, row)? {
+            if words.contains("x") || words.contains("--via") {
+                continue;
+            }
+            let words = format!(in alloc; "{words} --via exstack")?;
+            let got = answer_as_asked(&rt, alloc, words.as_str(), text.as_bytes())?;
+            assert_eq!(rt; got.as_str(), want.as_str(), "{words}");
+        }
+    }
+    assert_eq!(rt;
+        answer_as_asked(&rt, alloc, "ig --via exstack --grid 2x2", TWO)?.as_str(),
+        "6 bale: unfit: exstack needs a grid of one number\n"
+    );
+    assert_eq!(rt;
+        answer_as_asked(&rt, alloc, "ig --via exstack --drive serial", TWO)?.as_str(),
+        "2 bale: usage\n"
+    );
+    assert_eq!(rt; answer_alone(alloc, "ig --via exstack", TWO)?.as_str(), "2 bale: usage\n");
     Ok(())
 }
 
@@ -132,6 +165,7 @@ fn a_generated_order_is_the_same_everywhere(rt: HostRuntime) -> Result<(), Fail>
     for words in [
         "topo --gen 200,2000,7 --grid 4 --buffer 8",
         "topo --gen 200,2000,7 --grid 2x2 --buffer 8",
+        "topo --gen 200,2000,7 --grid 4 --buffer 8 --via exstack",
         "topo --gen 200,2000,7 --grid 1 --drive serial",
     ] {
         let got = answer_as_asked(&rt, alloc, words, b"")?;
@@ -149,7 +183,7 @@ fn a_generated_order_is_the_same_everywhere(rt: HostRuntime) -> Result<(), Fail>
 }
 
 /// A matrix of one row of `count` entries among 16,384.
-fn one_row(alloc: std::alloc::Global, count: u32) -> Result<String, Fail> {
+fn one_row(alloc: Global, count: u32) -> Result<String, Fail> {
     let mut text = format!(in alloc; "{PATTERN}16384 16384 {count}\n")?;
     for j in 1..=count {
         let line = format!(in alloc; "1 {j}\n")?;

@@ -44,7 +44,12 @@ fn unseen(alloc: Global, count: usize) -> Result<Vec<AtomicBool>, NoMemory> {
 fn refused_absorbs(rt: HostRuntime) -> Result<(), Fail> {
     let all: &[u32] = &[0, 1, 2, 3];
     let lists = [all; 4];
-    for threads in [0, 2, 4] {
+    for (threads, via) in [
+        (0, Via::Convey),
+        (2, Via::Exstack),
+        (4, Via::Convey),
+        (4, Via::Exstack),
+    ] {
         let watch = Watch::new();
         let gate = Seen {
             firsts: unseen(rt.alloc(), 4)?,
@@ -59,6 +64,7 @@ fn refused_absorbs(rt: HostRuntime) -> Result<(), Fail> {
             Deed::Refuses,
             &gate,
             threads,
+            via,
         );
         assert!(rt; told.is_err());
         for turns in [&gate.firsts, &gate.seconds] {

@@ -1,6 +1,6 @@
 //! Ranks on threads turn side by side, and absorb during the exchange.
 use crate::watched::{Deed, Watch, drive_on};
-use crate::{Gate, OpenGate};
+use crate::{Gate, OpenGate, Via};
 use std::sync::atomic::Ordering;
 use std::test::Fail;
 
@@ -27,7 +27,7 @@ fn absorbs_while_ranks_turn(rt: HostRuntime) -> Result<(), Fail> {
     let watch = Watch::new();
     let lists: [&[u32]; 2] = [&[1, 1], &[]];
     let gate = Holds(&watch);
-    let told = drive_on(&rt, rt.alloc(), 2, &lists, &watch, Deed::Absorbs, &gate, 2)?;
+    let told = drive_on(&rt, rt.alloc(), 2, &lists, &watch, Deed::Absorbs, &gate, 2, Via::Convey)?;
     let Some((counts, epochs)) = told else {
         return Err(Fail::new("no grid"));
     };
@@ -50,6 +50,7 @@ fn two_ranks_look_for_each_other(rt: HostRuntime) -> Result<(), Fail> {
         Deed::Looks,
         &OpenGate,
         2,
+        Via::Convey,
     )?;
     let Some((counts, epochs)) = told else {
         return Err(Fail::new("no grid"));

@@ -1,5 +1,5 @@
-//! Runs on threads in a row, and ranks that have no thread.
-use crate::OpenGate;
+//! Runs on threads in a row, by both transports, and ranks that have no thread.
+use crate::{OpenGate, Via};
 use crate::watched::{Deed, Watch, drive_on, run_watched};
 use bale_types::NoMemory;
 use route_tensor::Grid;
@@ -17,8 +17,8 @@ fn rounds_of_two_runs<R: Threads + Wait + Sync>(
         return Ok((0, None));
     };
     let watch = Watch::new();
-    let one = run_watched(rt, alloc, &grid, &[], &watch, Deed::Counts, &OpenGate, 2)?;
-    let two = run_watched(rt, alloc, &grid, &[], &watch, Deed::Counts, &OpenGate, 2)?;
+    let one = run_watched(rt, alloc, &grid, &[], &watch, Deed::Counts, &OpenGate, 2, Via::Convey)?;
+    let two = run_watched(rt, alloc, &grid, &[], &watch, Deed::Counts, &OpenGate, 2, Via::Exstack)?;
     let mut rounds = one.rounds;
     rounds.append(two.rounds)?;
     Ok((rounds.len(), rounds.get(1).map(|round| round.ranks())))
@@ -35,7 +35,14 @@ fn rounds_in_a_row(rt: HostRuntime) -> Result<(), Fail> {
 fn the_caller_drives_what_has_no_thread(rt: HostRuntime) -> Result<(), Fail> {
     let all: &[u32] = &[0, 1, 2, 3, 3];
     let lists = [all; 4];
-    for threads in [0, 1, 3, 4] {
+    for (threads, via) in [
+        (0, Via::Convey),
+        (1, Via::Exstack),
+        (3, Via::Convey),
+        (3, Via::Exstack),
+        (4, Via::Convey),
+        (4, Via::Exstack),
+    ] {
         let watch = Watch::new();
         let told = drive_on(
             &rt,
@@ -46,6 +53,7 @@ fn the_caller_drives_what_has_no_thread(rt: HostRuntime) -> Result<(), Fail> {
             Deed::Counts,
             &OpenGate,
             threads,
+            via,
         )?;
         let Some((counts, epochs)) = told else {
             return Err(Fail::new("no grid"));

@@ -220,6 +220,7 @@ pub(crate) fn run_watched<'a, R: Threads + Wait + Sync, G: Gate + Sync>(
     deed: Deed,
     gate: &G,
     threads: usize,
+    via: Via,
 ) -> Result<Finished<Watched<'a>>, NoMemory>
     requires hops { length grid.now ≡ 1 }
 {
@@ -229,7 +230,7 @@ pub(crate) fn run_watched<'a, R: Threads + Wait + Sync, G: Gate + Sync>(
         rt,
         alloc,
         grid,
-        Via::Convey,
+        via,
         2,
         false,
         progs,
@@ -248,10 +249,11 @@ fn drive_watched<R: Threads + Wait + Sync, G: Gate + Sync>(
     deed: Deed,
     gate: &G,
     threads: usize,
+    via: Via,
 ) -> Result<(Vec<u64>, u64), NoMemory>
     requires hops { length grid.now ≡ 1 }
 {
-    let finished = run_watched(rt, alloc, grid, lists, watch, deed, gate, threads)?;
+    let finished = run_watched(rt, alloc, grid, lists, watch, deed, gate, threads, via)?;
     let Finished { progs, rounds } = finished;
     let mut all = vec![in alloc; 0u64; grid.ranks() as usize]?;
     for r in 0..progs.len() {
@@ -285,10 +287,11 @@ pub(crate) fn drive_on<R: Threads + Wait + Sync, G: Gate + Sync>(
     deed: Deed,
     gate: &G,
     threads: usize,
+    via: Via,
 ) -> Result<Option<(Vec<u64>, u64)>, NoMemory> {
     let Ok(grid) = Grid::new(&[ranks]) else {
         return Ok(None);
     };
-    let told = drive_watched(rt, alloc, &grid, lists, watch, deed, gate, threads)?;
+    let told = drive_watched(rt, alloc, &grid, lists, watch, deed, gate, threads, via)?;
     Ok(Some(told))
 }

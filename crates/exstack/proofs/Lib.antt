@@ -19,3 +19,4 @@ mod BothEnds
 mod Exchange
 mod Together
 mod Batches
+mod Lockstep

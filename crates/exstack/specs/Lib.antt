@@ -6,3 +6,4 @@ pub mod Agreement
 pub mod Parts
 pub mod Standing
 pub mod Law
+pub mod Lockstep

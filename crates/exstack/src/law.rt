@@ -1,5 +1,6 @@
 //! The laws that tie the exstacks of all ranks together.
 ghost use Rattle.exstack.specs.Law.{StaysTogether, ExchangeLaw, ProceedLaw, ClosesLaw, CyclesLaw};
+ghost use Rattle.exstack.specs.Lockstep.{RoomLaw, ArrivalLaw};
 
 /// Where the exstacks of all ranks agree with the ports of one bank, every call on any of them, in any order, is a step
 /// of the exchange machine, and a proceed poll one or two, after which they agree again.
@@ -18,4 +19,11 @@ pub fn closes_law()
 /// The n-th exchange on one side meets the n-th on the other, although no rank waits.
 pub fn cycles_law()
     ensures { CyclesLaw }
+{}
+
+/// Ranks that have finished as many rounds never keep each other: what a rank has to post finds room, even with one slot, and
+/// once all have posted, what it has to collect is there.
+pub fn lockstep_law()
+    ensures room { RoomLaw }
+    ensures arrival { ArrivalLaw }
 {}

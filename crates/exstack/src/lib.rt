@@ -33,7 +33,7 @@ mod stack;
 mod stage;
 
 pub use exstack::Exstack;
-pub use law::{closes_law, cycles_law, exchange_law};
+pub use law::{closes_law, cycles_law, exchange_law, lockstep_law};
 pub use stage::{Poll, Proceed, Stage};
 
 #[cfg(test)]

@@ -30,7 +30,7 @@ use Rattle.bale_cli.specs.Starts.{starts_of}
 use Rattle.bale_cli.specs.Tasks.{Tells, TellsTask, WithinTurns, TurnsOfTask}
 
 -- What a drive tells of its programs.
-abbrev pub DriveTells : List AnyState → Made → Bool → List ClosedRound → Type 0
+abbrev pub DriveTells : List AnyState → Made → Manner → List ClosedRound → Type 0
 DriveTells ps made manner rs = (c : ClosedRound) × (rs ≡ c ∷ []) × ((n : ℕ) → HasRounds any_rules ps n → TellsRun any_rules ps n made manner (round_of c))
 
 tells : {S : Type 0} {R : Rules S} {i : S → AnyState} {w : List ℕ → List ℕ} → Injects R any_rules i w → (starts : List S) (ps ends : List AnyState) (made : Made) (manner : Manner)

@@ -19,11 +19,7 @@ use std::alloc::Global;
 
 /// The command that the words give. Words that ask for what the program can't run yet are refused as no command; with
 /// `forced` it is driven on one thread whatever the words say.
-pub(crate) fn read_job(
-    alloc: Global,
-    words: &[String],
-    forced: bool,
-) -> Result<Command, Refusal>
+pub(crate) fn read_job(alloc: Global, words: &[String], forced: bool) -> Result<Command, Refusal>
     ensures job { IfOk result (λ c. job_of (drives forced) (map string_bytes words.now) ≡ Some c) }
     ensures runs { IfOk result (λ c. runs (drives forced c) c ≡ true) }
     ensures ranges { IfOk result (λ c. InRanges c) }

@@ -34,6 +34,8 @@ pub use unfit::Unfit;
 #[cfg(test)]
 mod fault_tests;
 #[cfg(test)]
+mod gate_tests;
+#[cfg(test)]
 mod rig;
 #[cfg(test)]
 mod row_tests;

@@ -153,7 +153,10 @@ fn exstacks_give_the_same_answers(rt: HostRuntime) -> Result<(), Fail> {
         answer_as_asked(&rt, alloc, "ig --via exstack --drive serial", TWO)?.as_str(),
         "2 bale: usage\n"
     );
-    assert_eq!(rt; answer_alone(alloc, "ig --via exstack", TWO)?.as_str(), "2 bale: usage\n");
+    assert_eq!(rt;
+        answer_alone(alloc, "ig --via exstack", TWO)?.as_str(),
+        "2 bale: usage\n"
+    );
     Ok(())
 }
 

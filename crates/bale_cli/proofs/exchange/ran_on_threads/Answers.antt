@@ -7,7 +7,8 @@ use Rattle.app_cases.specs.Any.{AnyState, any_rules}
 use Rattle.bale_cli.specs.Jobs.{manner_for}
 use Rattle.bale_cli.specs.Starts.{starts_of}
 use Rattle.bale_cli.specs.Tasks.{made_for, TellsTask}
-use Rattle.bale_cli.proofs.Cases.{rounds_as, tells_task}
+use Rattle.rank_node.specs.Movers.{manner_of}
+use Rattle.bale_cli.proofs.Cases.{DriveTells, rounds_as, tells_task}
 use Rattle.bale_cli.proofs.Exchanges.{is_capacity, is_slots, ready}
 use Rattle.bale_cli.proofs.exchange.ran_on_threads.Given.{Over}
 use Rattle.bale_cli.proofs.exchange.ran_on_threads.Goals.{In_ok-progs}
@@ -58,4 +59,4 @@ returns-clause-rounds g c =
     c.told.result c.told.ensures.rounds
     (tells_task c.args.command.now.task c.args.m.now (made_for false c.args.command.now) (manner_for c.args.command.now) c.in_ok-run.run'.rounds c.in_ok-progs.progs c.in_ok-run.run'.progs
     (ready false c.args.command.now c.requires.runs) (are g (goal.at.returns-clause-rounds g c).In_ok-progs) (some g (goal.at.returns-clause-rounds g c).In_ok-progs) c.in_ok-run.ensures.ended
-    c.in_ok-run.ensures.rounds)
+    (subst (λ v. DriveTells c.in_ok-progs.progs (made_for false c.args.command.now) (manner_of v c.args.command.now.travel.steady) c.in_ok-run.run'.rounds) c.via_of.ensures c.in_ok-run.ensures.rounds))

@@ -7,8 +7,9 @@ use Rattle.app_cases.specs.Any.{AnyState, any_rules}
 use Rattle.bale_cli.specs.Jobs.{manner_for}
 use Rattle.bale_cli.specs.Starts.{starts_of}
 use Rattle.bale_cli.specs.Tasks.{made_for, TellsTask}
-use Rattle.bale_cli.proofs.Cases.{rounds_as, tells_task, turns_of_task}
-use Rattle.bale_cli.proofs.Exchanges.{is_capacity, is_slots, ready}
+use Rattle.rank_node.specs.Movers.{manner_of}
+use Rattle.bale_cli.proofs.Cases.{DriveTells, rounds_as, tells_task, turns_of_task}
+use Rattle.bale_cli.proofs.Exchanges.{is_capacity, is_slots, ready, serial_via}
 use Rattle.bale_cli.proofs.exchange.ran_serially.Given.{Over}
 use Rattle.bale_cli.proofs.exchange.ran_serially.Goals.{In_ok-progs}
 use Rattle.bale_cli.proofs.exchange.ran_serially.Goals as goal
@@ -58,7 +59,7 @@ returns-clause-rounds g c =
     c.told.result c.told.ensures.rounds
     (tells_task c.args.command.now.task c.args.m.now (made_for true c.args.command.now) (manner_for c.args.command.now) c.in_ok-run.run'.rounds c.in_ok-progs.progs c.in_ok-run.run'.progs
     (ready true c.args.command.now c.requires.runs) (are g (goal.at.returns-clause-rounds g c).In_ok-progs) (some g (goal.at.returns-clause-rounds g c).In_ok-progs) c.in_ok-run.ensures.ended
-    c.in_ok-run.ensures.rounds)
+    (subst (λ v. DriveTells c.in_ok-progs.progs (made_for true c.args.command.now) (manner_of v c.args.command.now.travel.steady) c.in_ok-run.run'.rounds) (sym (serial_via c.args.command.now c.requires.runs)) c.in_ok-run.ensures.rounds))
 
 pub returns-in_err-run-clause-steps : goal.returns-in_err-run-clause-steps
 returns-in_err-run-clause-steps g c =

@@ -1,0 +1,11 @@
+use Rattle.std.proofs.Common.{[], sym, ap, subst, ◌∙◌}
+use Rattle.list_laws.proofs.Results.{if_ok_is, if_ok_from}
+use Rattle.elastic.specs.Mails.{mailing}
+use Rattle.app_tally.specs.Tallies.{tally_rules, IsTallying}
+use Rattle.app_tally.proofs.TallyRounds.{begins_valid}
+use Rattle.app_tally.proofs.run.part_of.Goals as goal
+
+pub new-requires : goal.new-requires
+new-requires c =
+    subst (λ own. IsTallying (record { rank = c.args.rank; ranks = c.args.ranks; round = 0; own = own; came = [] })) (sym c.in_ok-own.ensures)
+    (begins_valid c.args.ranks c.args.rank c.args.lines.now c.requires.rank c.len-kept.ensures.lines.letters)

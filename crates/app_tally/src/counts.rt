@@ -65,8 +65,18 @@ impl Counts {
     }
 }
 
+/// The tally of lines: they are sorted, and then equal ones stand side by side.
+pub(crate) fn tally_all(alloc: Global, lines: Vec<&[u8]>) -> Result<Counts, NoMemory>
+    requires { All IsLetter (map (λ l. l.now) lines.items) }
+    ensures { IfOk result (λ c. c ≡ tally_of (map (λ l. l.now) lines.entry.items)) }
+{
+    let mut sorted = lines;
+    sorted.sort_unstable();
+    count_sorted(alloc, sorted.as_slice())
+}
+
 /// The tally of lines that are in order.
-pub(crate) fn count_sorted(alloc: Global, sorted: &[&[u8]]) -> Result<Counts, NoMemory>
+fn count_sorted(alloc: Global, sorted: &[&[u8]]) -> Result<Counts, NoMemory>
     requires order { IsSortedBy (λ l m. is_lt (by_bytes l m)) (map (λ l. l.now) sorted.now) }
     requires letters { All IsLetter (map (λ l. l.now) sorted.now) }
     ensures { IfOk result (λ c. c ≡ tally_of (map (λ l. l.now) sorted.now)) }

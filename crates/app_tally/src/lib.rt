@@ -18,6 +18,8 @@ mod read;
 mod run;
 mod strings;
 mod tally;
+#[cfg(test)]
+mod tests;
 mod write;
 
 pub use counts::Counts;

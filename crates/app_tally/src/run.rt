@@ -2,17 +2,15 @@
 
 ghost use Rattle.std.specs.Prelude.{◌≡◌, ◌<◌, ◌≤◌, ◌+◌, ◌-◌, ◌/◌, ◌^◌, ◌++◌, ℕ, List, [], IfOk, OnOk, map, length};
 ghost use Rattle.std.specs.List.{All};
-ghost use Rattle.std.specs.List.Sorted.{IsSortedBy, IsPermutation};
-ghost use Rattle.std.specs.Ordering.{is_lt};
 ghost use Rattle.round_program.specs.Canonical.{InRound, EndsWithin};
 ghost use Rattle.elastic.specs.Spelling.{IsLetter};
 ghost use Rattle.elastic.specs.Mails.{mailing, mail_rules};
-ghost use Rattle.app_tally.specs.Counts.{by_bytes, times, tally_of, IsTally};
+ghost use Rattle.app_tally.specs.Counts.{times, tally_of, IsTally};
 ghost use Rattle.app_tally.specs.Lines.{IsLines};
 ghost use Rattle.app_tally.specs.Tallies.{tally_rules};
 ghost use Rattle.app_tally.specs.TallyRuns.{own_lines, tally_begins, tally_starts, TallyEnded};
 
-use crate::counts::{Counts, count_sorted};
+use crate::counts::{Counts, tally_all};
 use crate::lines::Lines;
 use crate::strings::Strings;
 use crate::tally::Tally;
@@ -89,9 +87,8 @@ pub fn tally_end(alloc: Global, p: &Progs<Mailer<Tally>>) -> Result<Counts, NoMe
     ensures counts { (lines : List (List ℕ)) → TallyEnded lines p.now → IfOk result (λ c. c ≡ tally_of lines) }
     ensures each { (lines : List (List ℕ)) → TallyEnded lines p.now → IfOk result (λ c. IsTally lines c) }
 {
-    let mut all = all_came(alloc, p)?;
-    all.sort_unstable();
-    count_sorted(alloc, all.as_slice())
+    let all = all_came(alloc, p)?;
+    tally_all(alloc, all)
 }
 
 /// The lines that came to all ranks.
@@ -111,7 +108,7 @@ fn all_came(alloc: Global, p: &Progs<Mailer<Tally>>) -> Result<Vec<&[u8]>, NoMem
 }
 
 /// Appends the lines that came to one rank.
-fn gather<'a>(all: &mut Vec<&'a [u8]>, came: &'a Strings) -> Result<(), NoMemory>
+pub(crate) fn gather<'a>(all: &mut Vec<&'a [u8]>, came: &'a Strings) -> Result<(), NoMemory>
     ensures gathered { OnOk result (map (λ l. l.now) all.new.items ≡ map (λ l. l.now) all.old.items ++ came.now) }
     ensures letters { All IsLetter came.now }
 {

@@ -1,18 +1,16 @@
 -- Counting lines that are in order, one after the other.
-use Rattle.std.proofs.Common.{ℕ, zero, suc, ◌+◌, ◌-◌, ◌^◌, ◌<◌, ◌≤◌, ◌≡◌, ◌≢◌, Bool, true, false, cond, List, [], ◌∷◌, ◌++◌, None, Some, map, length, get_or, set, take, slice_get, All, arith, inl, inr, refl, sym, ap, ◌∙◌, subst}
-use Rattle.std.proofs.Common.{Less, Equal, Greater, is_gt, is_lt}
+use Rattle.std.proofs.Common.{ℕ, zero, suc, ◌+◌, ◌-◌, ◌^◌, ◌<◌, ◌≤◌, ◌≡◌, ◌≢◌, false, List, [], ◌∷◌, ◌++◌, Some, map, length, get_or, set, take, slice_get, All, arith, inl, inr, refl, sym, ap, ◌∙◌, subst}
+use Rattle.std.proofs.Common.{Less, Greater, is_gt, is_lt}
 use Rattle.std.specs.List.Sorted.{IsSortedBy}
-use Rattle.std.specs.Cmp.{IsTotalOrder}
-use Rattle.std.specs.Ordering.{ordering_reverse}
-use Rattle.std.proofs.lemmas.List.{length-set, length_push, length-map, length-take, take_more, get_or-take}
-use Rattle.std.proofs.lemmas.List.Elements.{All-nil, All-cons, All-push, All-map}
+use Rattle.std.proofs.lemmas.List.{length-set, length_push, take_more}
+use Rattle.std.proofs.lemmas.List.Elements.{All-nil, All-cons}
 use Rattle.std.proofs.lemmas.List.Sorted.{ranks_by, sorted_far}
 use Rattle.std.proofs.lemmas.Option.{get_or_from_slice_get, same_Some}
-use Rattle.list_laws.proofs.Lists.{find, within, get_map, get_once, all_get, all_head, all_tail}
+use Rattle.list_laws.proofs.Lists.{find, within, get_map, all_get, all_head, all_tail}
 use Rattle.app_tally.specs.Counts.{by_bytes, Entry, counted, tally_of, Before, Rises}
 use Rattle.app_tally.specs.CountOrder.{order, one_line, itself, turned, which, no_tie, at_less, at_equal, at_greater}
 use Rattle.app_tally.specs.CountView.{entries_of, IsCounts}
-use Rattle.app_tally.proofs.Tallied.{rises_counted, rises_tally, tally_push}
+use Rattle.app_tally.proofs.Tallied.{rises_counted, tally_push}
 
 -- ---- Entries by their parts
 

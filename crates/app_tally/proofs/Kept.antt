@@ -1,6 +1,6 @@
 -- Strings kept one behind the other stay as they are when bytes come behind them.
-use Rattle.std.proofs.Common.{ℕ, ◌+◌, ◌-◌, ◌<◌, ◌≤◌, ◌≡◌, List, [], ◌∷◌, ◌++◌, map, length, get_or, take, drop, All, arith, refl, sym, ap, ◌∙◌, subst}
-use Rattle.std.proofs.lemmas.List.{append-nil, drop-append-le, take-append-le, drop_at, take_all, length-drop, length-append, map-append}
+use Rattle.std.proofs.Common.{ℕ, ◌+◌, ◌-◌, ◌≤◌, ◌≡◌, List, [], ◌∷◌, ◌++◌, length, get_or, take, drop, All, arith, refl, sym, ap, ◌∙◌, subst}
+use Rattle.std.proofs.lemmas.List.{drop-append-le, take-append-le, drop_at, take_all, length-drop, length-append, map-append}
 use Rattle.std.proofs.lemmas.List.Elements.{All-push, All-weaker}
 use Rattle.sparse_rows.proofs.EveryEntry.{same_map}
 use Rattle.elastic.specs.Spelling.{IsLetter}

@@ -1,5 +1,5 @@
 -- Tallies: what entries say of lines, and that the numbers of times tell the tally.
-use Rattle.std.proofs.Common.{ℕ, zero, suc, ◌+◌, ◌-◌, ◌<◌, ◌≤◌, ◌≡◌, ◌⊎◌, Bool, true, false, cond, List, [], ◌∷◌, ◌++◌, length, get_or, fold, sum_by, count_by, All, arith, inl, inr, refl, sym, ap, ◌∙◌, subst, lit<}
+use Rattle.std.proofs.Common.{ℕ, suc, ◌+◌, ◌<◌, ◌≡◌, Bool, true, false, cond, List, [], ◌∷◌, ◌++◌, fold, All, arith, inl, inr, refl, sym, ap, ◌∙◌, subst, lit<}
 use Rattle.std.proofs.Common.{Ordering, Less, Equal, Greater, is_eq}
 use Rattle.std.specs.List.{Contains}
 use Rattle.std.proofs.lemmas.List.Elements.{All-nil, All-cons, All-weaker}

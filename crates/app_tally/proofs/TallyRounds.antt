@@ -1,18 +1,18 @@
 -- What the ranks of tally have after their round: together each line, as often as it was read.
-use Rattle.std.proofs.Common.{ℕ, zero, suc, ◌+◌, ◌-◌, ◌*◌, ◌/◌, ◌%◌, ◌^◌, ◌<◌, ◌≤◌, ◌≡◌, ◌==◌, min, Bool, true, false, cond, List, [], ◌∷◌, ◌++◌, None, Some, map, length, get_or, take, slice_get, filter, fold, count_by, sum_by, All, arith, inl, inr, refl, sym, ap, ◌∙◌, subst, lit<}
+use Rattle.std.proofs.Common.{ℕ, zero, suc, ◌+◌, ◌-◌, ◌*◌, ◌/◌, ◌%◌, ◌<◌, ◌≡◌, ◌==◌, Bool, true, false, cond, List, [], ◌∷◌, ◌++◌, None, Some, map, length, get_or, take, slice_get, filter, fold, count_by, All, arith, inl, inr, refl, sym, ap, ◌∙◌, subst, lit<}
 use Rattle.std.proofs.Common.{is_eq, is_lt}
 use Rattle.std.specs.List.{range_with_len, enumerate_from, sum}
 use Rattle.std.specs.List.Sorted.{IsPermutation, IsSortedBy}
 use Rattle.std.proofs.Math.Nat.{mod-lt}
-use Rattle.std.proofs.lemmas.Bool.{both_ways, cases_lt}
-use Rattle.std.proofs.lemmas.List.{length-map, take_more, map-append, append_assoc}
-use Rattle.std.proofs.lemmas.List.Elements.{All-nil, All-map, All-filter}
+use Rattle.std.proofs.lemmas.Bool.{cases_lt}
+use Rattle.std.proofs.lemmas.List.{length-map, take_more, append_assoc}
+use Rattle.std.proofs.lemmas.List.Elements.{All-map, All-filter}
 use Rattle.std.proofs.lemmas.List.FromFn.{length-map-range_with_len}
-use Rattle.std.proofs.lemmas.List.Sorted.{IsPermutation-map, sum_by-IsPermutation, length_permutation, All-permutation}
+use Rattle.std.proofs.lemmas.List.Sorted.{IsPermutation-map, sum_by-IsPermutation, All-permutation}
 use Rattle.std.proofs.lemmas.List.Sums.{sum_by-cons}
 use Rattle.std.proofs.lemmas.Option.{get_or_from_slice_get}
 use Rattle.list_laws.specs.Sums.{total}
-use Rattle.list_laws.proofs.Lists.{find, within, get_map, got_map, get_once}
+use Rattle.list_laws.proofs.Lists.{find, within, get_map, get_once}
 use Rattle.list_laws.proofs.Sums.{total_same, total_swap}
 use Rattle.round_program.specs.Canonical.{InRound, EndsWithin, HaveEnded}
 use Rattle.sparse_rows.specs.Deals.{dealt}
@@ -20,7 +20,6 @@ use Rattle.sparse_rows.proofs.Deals.{dealt_count}
 use Rattle.sparse_rows.proofs.Starts.{made_at, made_from, all_numbered}
 use Rattle.sparse_rows.proofs.Turns.{turn_read, turn_count}
 use Rattle.elastic.specs.Spelling.{IsLetter}
-use Rattle.elastic.specs.LetterRules.{LetterRules}
 use Rattle.elastic.specs.LetterRuns.{letters_to_of, letters_by, absorb_letters, letters_upto, letters_absorbed, letter_votes, letter_states, HasLetterRounds, LetterMember, InLetterRound}
 use Rattle.elastic.specs.Mails.{MailState, mailing, mail_rules}
 use Rattle.elastic.specs.Theorem.{SameLetterRuns}
@@ -29,7 +28,7 @@ use Rattle.app_tally.specs.Counts.{by_bytes, counted, times, tally_of, Rises}
 use Rattle.app_tally.specs.Tallies.{TallyState, tally_rules, IsTallying, counter_of}
 use Rattle.app_tally.specs.TallyLaws.{tally_laws}
 use Rattle.app_tally.specs.TallyRuns.{own_lines, tally_begins, tally_starts, TallyEnded}
-use Rattle.app_tally.proofs.Tallied.{found, found_on, rises_on, found_tally, rises_tally, same_tally, times_cons}
+use Rattle.app_tally.proofs.Tallied.{found, found_on, rises_on, found_tally, times_cons}
 
 -- ---- Letters by their parts
 

@@ -1,5 +1,5 @@
 -- The entries of a written tally, one after the other.
-use Rattle.std.proofs.Common.{ℕ, ◌+◌, ◌<◌, ◌≡◌, List, [], ◌∷◌, ◌++◌, Option, Some, Result, Ok, Err, OnErr, map, get_or, take, length, slice_get, refl, sym, ap, ◌∙◌, subst}
+use Rattle.std.proofs.Common.{ℕ, ◌+◌, ◌<◌, ◌≡◌, List, [], Option, Some, Result, Ok, Err, OnErr, map, get_or, take, length, slice_get, sym, ap, ◌∙◌, subst}
 use Rattle.std.specs.List.{flat_map}
 use Rattle.std.proofs.lemmas.Option.{get_or_from_slice_get}
 use Rattle.bale_types.specs.Stream.{after, IsFront}

@@ -1,5 +1,5 @@
 -- The laws of tally.
-use Rattle.std.proofs.Common.{ℕ, ◌<◌, ◌≡◌, List, [], map, get_or, All, arith, refl, ap, lit<}
+use Rattle.std.proofs.Common.{ℕ, ◌<◌, List, map, get_or, All, arith, refl, ap, lit<}
 use Rattle.std.proofs.Math.Nat.{mod-lt}
 use Rattle.std.proofs.lemmas.List.Elements.{All-nil, All-map}
 use Rattle.std.specs.List.{sum}

@@ -1,13 +1,12 @@
 -- Reading letters item by item, as a mailer does, is cutting the whole list.
-use Rattle.std.proofs.Common.{ℕ, zero, suc, ◌+◌, ◌-◌, ◌<◌, ◌≤◌, ◌≡◌, ◌==◌, Bool, true, false, cond, eqb, nat_lt, List, [], ◌∷◌, ◌++◌, length, take, drop, All, arith, refl, sym, ap, ◌∙◌, subst, inl, inr}
+use Rattle.std.proofs.Common.{ℕ, zero, suc, ◌+◌, ◌-◌, ◌<◌, ◌≤◌, ◌≡◌, Bool, true, false, cond, nat_lt, List, [], ◌∷◌, ◌++◌, length, take, drop, All, arith, refl, sym, ap, ◌∙◌, inl, inr}
 use Rattle.std.specs.List.{flat_map}
-use Rattle.std.proofs.lemmas.Bool.{cases_lt, cases_eq, eq-eqb, ne_eqb}
+use Rattle.std.proofs.lemmas.Bool.{cases_lt, eq-eqb, ne_eqb}
 use Rattle.std.proofs.lemmas.Bool.Decides.{nat_tests}
-use Rattle.std.proofs.lemmas.List.{append-nil, append_assoc, length-drop, length-append, take_at, drop_at}
+use Rattle.std.proofs.lemmas.List.{append_assoc, length-drop, length-append, take_at, drop_at}
 use Rattle.bale_types.specs.declared.Item.{Item}
-use Rattle.list_laws.specs.Lists.{Begins}
 use Rattle.list_laws.proofs.Lists.{all_head, all_tail}
-use Rattle.elastic.specs.Spelling.{IsLetter, further, first_item, next_item, next_items, spelling, length_in, letter_from, letters_within, letters_of}
+use Rattle.elastic.specs.Spelling.{IsLetter, further, first_item, next_items, spelling, length_in, letter_from, letters_within, letters_of}
 use Rattle.elastic.specs.Mails.{is_whole, letter_of}
 use Rattle.elastic.specs.Theorem.{SpellingsAreRead, FrontsAreRead}
 use Rattle.elastic.proofs.Pads.{letter_back}

@@ -1,13 +1,11 @@
 -- Bytes that were put into words come out again.
-use Rattle.std.proofs.Common.{ℕ, zero, suc, ◌+◌, ◌-◌, ◌*◌, ◌/◌, ◌%◌, ◌^◌, ◌<◌, ◌≤◌, ◌≡◌, List, [], ◌∷◌, ◌++◌, length, get_or, take, drop, All, arith, refl, sym, ap, ◌∙◌, subst}
-use Rattle.std.specs.Int.{w64, to_le_bytes, from_le_bytes}
+use Rattle.std.proofs.Common.{ℕ, zero, suc, ◌+◌, ◌*◌, ◌%◌, ◌<◌, ◌≤◌, ◌≡◌, List, [], ◌∷◌, ◌++◌, length, take, drop, All, arith, refl, sym, ap, ◌∙◌}
+use Rattle.std.specs.Int.{w64, to_le_bytes}
 use Rattle.std.specs.List.{flat_map}
 use Rattle.std.proofs.lemmas.List.{drop-drop}
 use Rattle.std.proofs.lemmas.List.Elements.{All-drop}
 use Rattle.std.proofs.lemmas.Nat.{le_bytes_8}
-use Rattle.bale_types.specs.declared.Item.{Item}
-use Rattle.list_laws.proofs.Lists.{all_tail}
-use Rattle.elastic.specs.Spelling.{IsLetter, pad, word_of, further, first_item, next_item, next_items, length_in, bytes_in, letter_from}
+use Rattle.elastic.specs.Spelling.{IsLetter, pad, word_of, further, first_item, next_item, next_items, bytes_in, letter_from}
 use Rattle.elastic.specs.MailLaws.{pad_len, padded_byte}
 
 abbrev no_bytes : List ℕ

@@ -1,27 +1,26 @@
 -- Mailers compute what their letter programs do.
-use Rattle.std.proofs.Common.{ℕ, zero, suc, ◌+◌, ◌-◌, ◌^◌, ◌<◌, ◌≤◌, ◌≡◌, ◌≢◌, ◌==◌, min, Bool, true, false, cond, List, [], ◌∷◌, ◌++◌, Option, None, Some, map, length, get_or, set, replicate, slice_get, sum_by, filter, fold, All, arith, refl, sym, ap, ◌∙◌, subst, inl, inr}
+use Rattle.std.proofs.Common.{ℕ, zero, suc, ◌+◌, ◌-◌, ◌^◌, ◌<◌, ◌≤◌, ◌≡◌, ◌==◌, min, Bool, true, false, cond, List, [], ◌∷◌, ◌++◌, Option, None, Some, map, length, get_or, set, replicate, slice_get, sum_by, filter, All, arith, refl, sym, ap, ◌∙◌, subst, inl, inr}
 use Rattle.std.specs.List.{flat_map}
 use Rattle.std.specs.Option.{option_map}
 use Rattle.std.proofs.lemmas.Bool.{cases_lt, cases_eq, eq-eqb, ne_eqb}
-use Rattle.std.proofs.lemmas.List.{length-map, length-set, length-replicate, get_or-set_same, get_or-set_other, get_or-replicate, set-get_or, set-set, append_assoc}
+use Rattle.std.proofs.lemmas.List.{length-map, length-set, length-replicate, get_or-set_same, get_or-set_other, set-get_or, set-set}
 use Rattle.std.proofs.lemmas.List.Elements.{All-nil, All-cons}
 use Rattle.std.proofs.lemmas.List.Sums.{sum_by-cons}
 use Rattle.std.proofs.lemmas.Option.{slice_get-map, slice_get_past}
 use Rattle.bale_types.specs.declared.Item.{Item}
 use Rattle.list_laws.proofs.Lists.{all_head, all_tail, all_from_gets, all_get, got_map, get_map, find}
-use Rattle.round_program.specs.Laws.{Laws, Fits}
-use Rattle.round_program.specs.Canonical.{items_of, emitted_of, emitted_by, absorb_all, absorb_upto, absorbed_round, vote_sum, round_of, states_at, votes_at, shape_of, HasRounds, InRound, Member, HaveEnded}
-use Rattle.round_program.specs.Orders.{absorb_each}
+use Rattle.round_program.specs.Laws.{Fits}
+use Rattle.round_program.specs.Canonical.{items_of, emitted_of, emitted_by, absorb_all, absorb_upto, absorbed_round, vote_sum, round_of, states_at, votes_at, shape_of, HasRounds, InRound, Member}
 use Rattle.round_program.proofs.Items.{items_push}
 use Rattle.round_program.proofs.Members.{in_round_at}
 use Rattle.round_program.proofs.Orders.{every_order}
 use Rattle.elastic.specs.Spelling.{IsLetter, spelling, letters_of}
 use Rattle.elastic.specs.LetterRules.{LetterRules}
 use Rattle.elastic.specs.LetterLaws.{LetterLaws}
-use Rattle.elastic.specs.LetterRuns.{letters_to, letters_to_of, letters_by, absorb_letters, letters_upto, letters_absorbed, letter_votes, letter_round, letter_states, letter_votes_at, letter_shape, HasLetterRounds, LetterMember, InLetterRound}
-use Rattle.elastic.specs.Mails.{MailState, IsMail, mailing, mail_rules, spelled, is_whole, letter_of, begun_with, item_absorbed}
+use Rattle.elastic.specs.LetterRuns.{letters_to_of, letters_by, absorb_letters, letters_upto, letters_absorbed, letter_votes, letter_round, letter_states, letter_votes_at, letter_shape, HasLetterRounds, LetterMember, InLetterRound}
+use Rattle.elastic.specs.Mails.{MailState, mailing, mail_rules, spelled, is_whole, letter_of, begun_with, item_absorbed}
 use Rattle.elastic.specs.MailLaws.{mail_laws, mailing_valid, sender_low}
-use Rattle.elastic.specs.Theorem.{EachLetterOnce, SameLetterRuns, MailersRunLetters}
+use Rattle.elastic.specs.Theorem.{EachLetterOnce, MailersRunLetters}
 use Rattle.elastic.proofs.Letters.{read_on, left_over, read_all, spellings_are_read}
 
 -- ---- A sender's items

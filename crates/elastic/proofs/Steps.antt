@@ -1,8 +1,8 @@
 -- What the steps of the code leave.
-use Rattle.std.proofs.Common.{ℕ, zero, suc, ◌+◌, ◌-◌, ◌/◌, ◌%◌, ◌^◌, ◌<◌, ◌≤◌, ◌≡◌, cond, List, [], ◌∷◌, ◌++◌, Some, Result, Ok, Err, OnOk, OnErr, map, length, get_or, set, take, drop, replicate, slice_get, All, arith, refl, sym, ap, ◌∙◌, subst}
+use Rattle.std.proofs.Common.{ℕ, suc, ◌+◌, ◌-◌, ◌/◌, ◌^◌, ◌<◌, ◌≡◌, cond, List, [], ◌∷◌, ◌++◌, Some, Result, Ok, Err, OnOk, OnErr, map, length, get_or, set, take, drop, replicate, slice_get, All, arith, refl, sym, ap, ◌∙◌, subst}
 use Rattle.std.specs.Int.{w64, to_le_bytes}
 use Rattle.std.specs.List.{flat_map}
-use Rattle.std.proofs.lemmas.List.{append-nil, append_assoc, drop_more, set_at, length-replicate, length-drop, replicate-append-replicate, map-append, take_more, map-set}
+use Rattle.std.proofs.lemmas.List.{append-nil, append_assoc, drop_more, set_at, length-replicate, length-drop, replicate-append-replicate, take_more}
 use Rattle.std.proofs.lemmas.Option.{get_or_from_slice_get}
 use Rattle.bale_types.specs.declared.Item.{Item}
 use Rattle.round_program.specs.Laws.{IsItem}
@@ -10,7 +10,7 @@ use Rattle.list_laws.proofs.Lists.{find, get_map, get_once, map_set}
 use Rattle.elastic.specs.Spelling.{IsLetter, next_item, next_items, spelling, length_in, bytes_in, letter_from}
 use Rattle.elastic.specs.LetterRules.{LetterRules}
 use Rattle.elastic.specs.LetterLaws.{LetterLaws, SameLetters, NextLetters, StillSends}
-use Rattle.elastic.specs.Mails.{MailState, IsMail, spelled, is_whole, begun_with, begun_after}
+use Rattle.elastic.specs.Mails.{MailState, IsMail, spelled, is_whole, begun_after}
 use Rattle.elastic.specs.MailLaws.{spelled_sent, mail_kept}
 
 -- ---- Reading

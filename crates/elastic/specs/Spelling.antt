@@ -56,7 +56,7 @@ bytes_in x = to_le_bytes w64 x.a ++ (to_le_bytes w64 x.b ++ to_le_bytes w64 x.c)
 abbrev pub letter_from : Item → List Item → List ℕ
 letter_from x xs = take (length_in x) (to_le_bytes w64 x.b ++ (to_le_bytes w64 x.c ++ flat_map bytes_in xs))
 
--- The letters of the first letters' items of a list, at most so many letters.
+-- The first letters of a list of items, at most so many: each takes as many items as its length tells.
 abbrev pub letters_within : ℕ → List Item → List (List ℕ)
 letters_within zero items = []
 letters_within (suc n) [] = []

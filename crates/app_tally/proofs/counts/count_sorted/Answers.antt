@@ -1,4 +1,4 @@
-use Rattle.std.proofs.Common.{◌≡◌, ◌+◌, ◌<◌, ◌^◌, [], Bool, false, Some, All, List, ℕ, length, map, rules, get_or, slice_get, sym, subst}
+use Rattle.std.proofs.Common.{◌≡◌, ◌+◌, ◌<◌, ◌^◌, [], false, All, length, map, rules, get_or, sym, subst}
 use Rattle.std.proofs.Common.{is_gt}
 use Rattle.std.proofs.lemmas.List.{length-map}
 use Rattle.list_laws.proofs.Lists.{all_get}

@@ -1,4 +1,4 @@
-use Rattle.std.proofs.Common.{ℕ, ◌≡◌, List, All, map, is_lt, sym, ap, subst, ◌∙◌}
+use Rattle.std.proofs.Common.{◌≡◌, All, map, is_lt, sym, ap, subst, ◌∙◌}
 use Rattle.std.specs.List.Sorted.{IsSortedBy}
 use Rattle.list_laws.proofs.Results.{if_ok_is, if_ok_from}
 use Rattle.elastic.specs.Spelling.{IsLetter}

@@ -1,4 +1,4 @@
-use Rattle.std.proofs.Common.{◌≡◌, ◌+◌, ◌<◌, length, drop, rules, refl, subst, arith}
+use Rattle.std.proofs.Common.{drop, rules, refl, subst}
 use Rattle.app_tally.proofs.Walked.{CutsAt, walk_long, walk_more}
 use Rattle.app_tally.proofs.lines.cut_lines.Goals as goal
 

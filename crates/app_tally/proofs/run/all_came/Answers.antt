@@ -1,9 +1,8 @@
-use Rattle.std.proofs.Common.{ℕ, ◌≡◌, ◌<◌, ◌+◌, List, All, length, map, rules, refl, sym, ap, subst, ◌∙◌, arith}
+use Rattle.std.proofs.Common.{◌≡◌, All, length, rules, refl, sym, ap, subst, ◌∙◌, arith}
 use Rattle.std.specs.Option.{option_copied}
 use Rattle.std.proofs.lemmas.List.Elements.{All-append}
 use Rattle.list_laws.specs.Sums.{total}
 use Rattle.elastic.specs.Spelling.{IsLetter}
-use Rattle.app_tally.specs.Counts.{times}
 use Rattle.app_tally.proofs.Tallied.{found}
 use Rattle.app_tally.proofs.TallyRounds.{comes, rank_has, programs_len, all_come, gathered_more}
 use Rattle.app_tally.proofs.run.all_came.Goals as goal

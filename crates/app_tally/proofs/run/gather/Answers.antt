@@ -1,4 +1,4 @@
-use Rattle.std.proofs.Common.{◌<◌, [], ◌∷◌, length, map, subst, ap, ◌∙◌}
+use Rattle.std.proofs.Common.{◌<◌, [], ◌∷◌, map, subst, ap, ◌∙◌}
 use Rattle.std.proofs.lemmas.List.{map-append}
 use Rattle.app_tally.proofs.TallyRounds.{gather_more}
 use Rattle.app_tally.proofs.run.gather.Goals as goal

@@ -1,7 +1,5 @@
-use Rattle.std.proofs.Common.{[], sym, ap, subst, ◌∙◌}
-use Rattle.list_laws.proofs.Results.{if_ok_is, if_ok_from}
-use Rattle.elastic.specs.Mails.{mailing}
-use Rattle.app_tally.specs.Tallies.{tally_rules, IsTallying}
+use Rattle.std.proofs.Common.{[], sym, subst}
+use Rattle.app_tally.specs.Tallies.{IsTallying}
 use Rattle.app_tally.proofs.TallyRounds.{begins_valid}
 use Rattle.app_tally.proofs.run.part_of.Goals as goal
 

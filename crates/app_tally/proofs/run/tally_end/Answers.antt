@@ -1,4 +1,4 @@
-use Rattle.std.proofs.Common.{ℕ, ◌≡◌, List, map, sym, subst, ◌∙◌}
+use Rattle.std.proofs.Common.{◌≡◌, map, sym, subst, ◌∙◌}
 use Rattle.list_laws.proofs.Results.{if_ok_is, if_ok_from}
 use Rattle.app_tally.specs.Counts.{tally_of, IsTally}
 use Rattle.app_tally.proofs.Tallied.{same_tally, tally_is}

@@ -1,4 +1,4 @@
-use Rattle.std.proofs.Common.{ℕ, ◌<◌, length, map, sym, subst, rules}
+use Rattle.std.proofs.Common.{◌<◌, length, map, sym, subst, rules}
 use Rattle.std.proofs.lemmas.List.{length-map}
 use Rattle.elastic.proofs.Steps.{cleared_more}
 use Rattle.elastic.proofs.reading.forget_all.Goals as goal

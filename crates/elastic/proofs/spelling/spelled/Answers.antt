@@ -1,4 +1,4 @@
-use Rattle.std.proofs.Common.{◌<◌, length, subst, arith}
+use Rattle.std.proofs.Common.{◌<◌, subst}
 use Rattle.elastic.proofs.Steps.{spelled_more}
 use Rattle.elastic.proofs.spelling.spelled.Goals as goal
 

@@ -1,4 +1,4 @@
-use Rattle.std.proofs.Common.{◌≡◌, ◌<◌, Some, slice_get, length, map, sym, ap, subst, ◌∙◌}
+use Rattle.std.proofs.Common.{◌<◌, slice_get, length, map, sym, ap, subst, ◌∙◌}
 use Rattle.app_tally.proofs.Counted.{entries_count, line_of}
 use Rattle.app_tally.proofs.counts.Counts.line.Goals as goal
 

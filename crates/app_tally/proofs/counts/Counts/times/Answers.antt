@@ -1,4 +1,4 @@
-use Rattle.std.proofs.Common.{◌≡◌, ◌<◌, Some, slice_get, length, map, rules, refl, sym, ap, subst, ◌∙◌}
+use Rattle.std.proofs.Common.{◌<◌, slice_get, length, map, rules, refl, sym, ap, subst, ◌∙◌}
 use Rattle.std.proofs.lemmas.Option.{slice_get_read}
 use Rattle.app_tally.proofs.Counted.{entries_count, times_of}
 use Rattle.app_tally.proofs.counts.Counts.times.Goals as goal

@@ -1,4 +1,4 @@
-use Rattle.std.proofs.Common.{ℕ, List, slice_get, map, sym, ap, ◌∙◌}
+use Rattle.std.proofs.Common.{slice_get, map, sym, ap, ◌∙◌}
 use Rattle.app_tally.specs.Tallies.{tally_rules}
 use Rattle.app_tally.proofs.TallyRounds.{letters_back}
 use Rattle.app_tally.proofs.tally.TallyLetterProgram.letter.Goals as goal

@@ -1,4 +1,4 @@
-use Rattle.std.proofs.Common.{ℕ, List, Some, slice_get, map, sym, ap, ◌∙◌}
+use Rattle.std.proofs.Common.{Some, slice_get, map, sym, ap, ◌∙◌}
 use Rattle.list_laws.proofs.Lists.{get_map}
 use Rattle.app_tally.specs.Tallies.{tally_rules, counter_of}
 use Rattle.app_tally.proofs.TallyRounds.{counters_back}

@@ -1,4 +1,4 @@
-use Rattle.std.proofs.Common.{length, map, sym, subst, ◌∙◌}
+use Rattle.std.proofs.Common.{map, sym, subst, ◌∙◌}
 use Rattle.std.proofs.lemmas.List.{length-map}
 use Rattle.round_program.specs.Laws.{Fits}
 use Rattle.elastic.specs.Spelling.{IsLetter}

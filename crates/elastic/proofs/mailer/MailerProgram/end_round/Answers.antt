@@ -1,4 +1,4 @@
-use Rattle.std.proofs.Common.{length, map, sym}
+use Rattle.std.proofs.Common.{length, sym}
 use Rattle.std.proofs.lemmas.List.{length-map}
 use Rattle.elastic.specs.MailView.{mail_state}
 use Rattle.elastic.proofs.Steps.{ended_valid}

@@ -78,6 +78,11 @@ fn round<Q: Program>(alloc: Global, mut progs: Progs<Q>) -> Result<(Progs<Q>, bo
     Ok((later, goes_on))
 }
 
+/// A program that a thread of its own may run.
+fn may_cross<Q: Program + Send>(q: &Q) -> u32 {
+    q.rank()
+}
+
 /// The tally of what came to all ranks.
 fn tally_by_hand(alloc: Global, p: &Progs<Mailer<Tally>>) -> Result<Counts, NoMemory> {
     let mut all = Vec::new(alloc);
@@ -151,7 +156,10 @@ fn fragments_of_a_line(rt: HostRuntime) -> Result<(), Fail> {
         Ok(lines) => {
             let progs = tally_start(alloc, &lines, 2)?;
             let all = match progs.get(0) {
-                Some(q) => sent(alloc, q)?,
+                Some(q) => {
+                    assert!(rt; may_cross(q) == 0);
+                    sent(alloc, q)?
+                }
                 None => Vec::new(alloc),
             };
             let first = Item {

@@ -1,6 +1,6 @@
 //! A program that carries the letters of a letter program.
 
-ghost use Rattle.std.specs.Prelude.{◌≡◌, ◌<◌, ◌∷◌, [], OnOk, OnErr, IfOk, map, length, replicate};
+ghost use Rattle.std.specs.Prelude.{◌≡◌, ◌<◌, ◌^◌, ◌∷◌, [], OnOk, OnErr, IfOk, map, length, replicate};
 ghost use Rattle.elastic.specs.Spelling.{IsLetter};
 ghost use Rattle.elastic.specs.LetterLaws.{StillSends};
 ghost use Rattle.elastic.specs.Mails.{mailing};
@@ -87,7 +87,11 @@ impl<Q: LetterProgram> Program for Mailer<Q> {
         self.inner.round()
     }
 
-    fn count(&self) -> u64 {
+    /// The number of fragments of all letters of this round; they are fewer than 2^63.
+    fn count(&self) -> u64
+        ensures value { result ≡ length self.now.outgoing }
+        ensures few { result < 2 ^ 63 }
+    {
         self.outgoing.len() as u64
     }
 

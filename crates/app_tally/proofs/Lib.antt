@@ -1,0 +1,6 @@
+pub mod Counted
+pub mod Kept
+pub mod Tallied
+pub mod TallyRounds
+pub mod Walked
+pub mod Written

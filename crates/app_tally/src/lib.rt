@@ -1,0 +1,31 @@
+//! tally: reads lines and counts equal ones, over letters of any ranks.
+//!
+//! | Call | For | Answer |
+//! |---|---|---|
+//! | [`read_lines`] | the lines of a source's text | a list of lines, or why it isn't read |
+//! | [`tally_start`] | the programs of tally on so many ranks | in round 0 of a run of one round |
+//! | [`tally_end`] | the programs, once they ended | each distinct line with how many times it was read |
+//! | [`tally_write`] | the answer's text | a line for each distinct line, in the order of bytes |
+//!
+//! The lines are dealt out in turn, and each goes as one letter to the rank that is the sum of its bytes modulo the number of
+//! ranks. A rank appends what comes; all is sorted and counted once, at the end. What the answer is, is said of the lines
+//! alone (`specs/Counts`): no rank, no round and no item occurs there.
+#![tactic(auto)]
+
+mod counts;
+mod lines;
+mod read;
+mod run;
+mod strings;
+mod tally;
+#[cfg(test)]
+mod tests;
+mod write;
+
+pub use counts::Counts;
+pub use lines::{Lines, LinesFault};
+pub use read::read_lines;
+pub use run::{tally_end, tally_start};
+pub use strings::Strings;
+pub use tally::Tally;
+pub use write::tally_write;

@@ -1,0 +1,119 @@
+//! tally's start, and its answer.
+
+ghost use Rattle.std.specs.Prelude.{◌≡◌, ◌<◌, ◌≤◌, ◌+◌, ◌-◌, ◌/◌, ◌^◌, ◌++◌, ℕ, List, [], IfOk, OnOk, map, length};
+ghost use Rattle.std.specs.List.{All};
+ghost use Rattle.round_program.specs.Canonical.{InRound, EndsWithin};
+ghost use Rattle.elastic.specs.Spelling.{IsLetter};
+ghost use Rattle.elastic.specs.Mails.{mailing, mail_rules};
+ghost use Rattle.app_tally.specs.Counts.{times, tally_of, IsTally};
+ghost use Rattle.app_tally.specs.Lines.{IsLines};
+ghost use Rattle.app_tally.specs.Tallies.{tally_rules};
+ghost use Rattle.app_tally.specs.TallyRuns.{own_lines, tally_begins, tally_starts, TallyEnded};
+
+use crate::counts::{Counts, tally_all};
+use crate::lines::Lines;
+use crate::strings::Strings;
+use crate::tally::Tally;
+use bale_types::NoMemory;
+use elastic::Mailer;
+use round_program::Progs;
+use std::alloc::Global;
+
+/// The programs of tally on `ranks` ranks, from 1 to 64, in round 0 of a run of one round.
+///
+/// # Errors
+///
+/// `NoMemory` where there was none for the programs.
+pub fn tally_start(
+    alloc: Global,
+    lines: &Lines,
+    ranks: u32,
+) -> Result<Progs<Mailer<Tally>>, NoMemory>
+    requires some { 1 ≤ ranks }
+    requires few { ranks ≤ 64 }
+    ensures starts { IfOk result (λ ps. ps ≡ tally_starts ranks lines.now) }
+    ensures begins { IfOk result (λ ps. InRound (mail_rules tally_rules) ranks 0 [] 1 ps) }
+    ensures ends { IfOk result (λ ps. EndsWithin (mail_rules tally_rules) ps 1) }
+{
+    let _kept = lines.len();
+    let mut progs = Progs::new(alloc);
+    for rank in 0..ranks {
+        progs.add(part_of(alloc, lines, ranks, rank)?)?;
+    }
+    Ok(progs)
+}
+
+/// One rank's program.
+fn part_of(alloc: Global, lines: &Lines, ranks: u32, rank: u32) -> Result<Mailer<Tally>, NoMemory>
+    requires rank { rank < ranks }
+    requires few { ranks ≤ 64 }
+    ensures { IfOk result (λ m. m ≡ mailing tally_rules (tally_begins ranks lines.now rank)) }
+{
+    let _kept = lines.len();
+    let own = own_of(alloc, lines, ranks, rank)?;
+    Mailer::new(alloc, Tally::new(alloc, rank, ranks, own))
+}
+
+/// The lines of a rank.
+fn own_of(alloc: Global, lines: &Lines, ranks: u32, rank: u32) -> Result<Strings, NoMemory>
+    requires rank { rank < ranks }
+    requires few { ranks ≤ 64 }
+    ensures { IfOk result (λ s. s ≡ own_lines ranks rank lines.now) }
+{
+    let (step, first) = (ranks as usize, rank as usize);
+    let mut own = Strings::new(alloc);
+    for k in 0..how_many(lines.len(), step, first) {
+        own.push(lines.at(k * step + first))?;
+    }
+    Ok(own)
+}
+
+/// How many of `len` lines a rank has.
+fn how_many(len: usize, step: usize, first: usize) -> usize
+    requires own { first < step }
+    requires small { len + step < 2 ^ 64 }
+    ensures { result ≡ (len + (step - 1 - first)) / step }
+{
+    (len + (step - 1 - first)) / step
+}
+
+/// Each distinct line with how many times it was read. The programs are those of `tally_start` after their run.
+///
+/// # Errors
+///
+/// `NoMemory` where there was none for the answer.
+pub fn tally_end(alloc: Global, p: &Progs<Mailer<Tally>>) -> Result<Counts, NoMemory>
+    requires ended { (lines : List (List ℕ)) × TallyEnded lines p.now }
+    ensures counts { (lines : List (List ℕ)) → TallyEnded lines p.now → IfOk result (λ c. c ≡ tally_of lines) }
+    ensures each { (lines : List (List ℕ)) → TallyEnded lines p.now → IfOk result (λ c. IsTally lines c) }
+{
+    let all = all_came(alloc, p)?;
+    tally_all(alloc, all)
+}
+
+/// The lines that came to all ranks.
+fn all_came(alloc: Global, p: &Progs<Mailer<Tally>>) -> Result<Vec<&[u8]>, NoMemory>
+    requires ended { (lines : List (List ℕ)) × TallyEnded lines p.now }
+    ensures times { (lines : List (List ℕ)) → TallyEnded lines p.now → IfOk result (λ all. (q : List ℕ) → times q (map (λ l. l.now) all.items) ≡ times q lines) }
+    ensures letters { IfOk result (λ all. All IsLetter (map (λ l. l.now) all.items)) }
+{
+    let mut all = Vec::new(alloc);
+    for rank in 0..p.len() {
+        let Some(program) = p.get(rank) else {
+            unreachable!()
+        };
+        gather(&mut all, program.inner().came())?;
+    }
+    Ok(all)
+}
+
+/// Appends the lines that came to one rank.
+pub(crate) fn gather<'a>(all: &mut Vec<&'a [u8]>, came: &'a Strings) -> Result<(), NoMemory>
+    ensures gathered { OnOk result (map (λ l. l.now) all.new.items ≡ map (λ l. l.now) all.old.items ++ came.now) }
+    ensures letters { All IsLetter came.now }
+{
+    for i in 0..came.len() {
+        all.push(came.at(i))?;
+    }
+    Ok(())
+}

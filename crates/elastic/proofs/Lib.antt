@@ -1,0 +1,4 @@
+pub mod Letters
+pub mod Pads
+pub mod Runs
+pub mod Steps

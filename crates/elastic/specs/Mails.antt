@@ -1,0 +1,79 @@
+-- A mailer: a program that carries the letters of a letter program as items.
+use Rattle.std.specs.Prelude.{ℕ, ◌==◌, ◌<◌, ◌≡◌, ◌&&◌, nat_lt, cond, Bool, false, List, [], ◌∷◌, ◌++◌, length, map, replicate, slice_set, slice_index_or}
+use Rattle.std.specs.List.{All, flat_map}
+use Rattle.bale_types.specs.declared.Item.{Item}
+use Rattle.round_program.specs.Rules.{Rules}
+use Rattle.round_program.specs.Laws.{IsItem, is_item}
+use Rattle.elastic.specs.LetterRules.{LetterRules}
+use Rattle.elastic.specs.Spelling.{spelling, further, length_in, letter_from}
+
+-- One rank's mailer over a letter program whose state is S.
+pub record MailState (S : Type 0) : Type 0 where
+  -- the letter program
+  pub inner : S
+  -- what is sent in this round
+  pub outgoing : List (ℕ × Item)
+  -- the items of the letter that each sender has begun
+  pub begun : List (List Item)
+
+-- The spellings of letters, each item with the rank that its letter goes to.
+abbrev pub spelled : List (ℕ × List ℕ) → List (ℕ × Item)
+spelled letters = flat_map (λ e. map (λ x. (e.0, x)) (spelling e.1)) letters
+
+-- The mailer of a letter program as a round begins: all its letters are to be sent, and no sender has begun one.
+abbrev pub mailing : {S : Type 0} → LetterRules S → S → MailState S
+mailing R s = record { inner = s; outgoing = spelled (R.letters s); begun = replicate (R.ranks s) [] }
+
+-- Whether items are a whole letter, where they are no more than one.
+abbrev pub is_whole : List Item → Bool
+is_whole [] = false
+is_whole (x ∷ xs) = length xs == further (length_in x)
+
+-- The letter of items that are one letter.
+abbrev pub letter_of : List Item → List ℕ
+letter_of [] = []
+letter_of (x ∷ xs) = letter_from x xs
+
+-- What a sender has begun, with one more item.
+abbrev pub begun_with : List (List Item) → ℕ → Item → List Item
+begun_with begun from x = slice_index_or begun from [] ++ x ∷ []
+
+-- What all senders have begun after one more item: a letter that is whole isn't begun any more.
+abbrev pub begun_after : List (List Item) → ℕ → Item → List (List Item)
+begun_after begun from x = slice_set begun from (cond (is_whole (begun_with begun from x)) [] (begun_with begun from x))
+
+-- One more item was absorbed. Where it makes a letter whole, the letter program absorbs the letter.
+abbrev pub item_absorbed : {S : Type 0} → LetterRules S → MailState S → ℕ → Item → MailState S
+item_absorbed R s from x =
+    record s {
+      inner = cond (is_whole (begun_with s.begun from x)) (R.absorbed s.inner from (letter_of (begun_with s.begun from x))) s.inner;
+      begun = begun_after s.begun from x;
+    }
+
+-- Any item may be sent, from a rank to a rank.
+abbrev pub may_carry : ℕ → ℕ → ℕ → Item → Bool
+may_carry ranks to from x = nat_lt to ranks && nat_lt from ranks && is_item x
+
+-- The letter program is in order, what is sent are items to ranks, and each rank is a sender.
+pub record IsMail {S : Type 0} (R : LetterRules S) (s : MailState S) : Type 0 where
+  pub inner : R.valid s.inner
+  pub own : R.rank s.inner < R.ranks s.inner
+  pub sent : All (λ e. (e.0 < R.ranks s.inner) × IsItem e.1) s.outgoing
+  pub senders : length s.begun ≡ R.ranks s.inner
+
+abbrev pub mail_rules : {S : Type 0} → LetterRules S → Rules (MailState S)
+mail_rules R =
+    record {
+      valid = IsMail R;
+      rank = λ s. R.rank s.inner;
+      ranks = λ s. R.ranks s.inner;
+      round = λ s. R.round s.inner;
+      shape = λ s. R.shape s.inner;
+      most = λ s. R.most s.inner;
+      emissions = λ s. s.outgoing;
+      may_be_sent = λ shape ranks round to from x. may_carry ranks to from x;
+      absorbed = item_absorbed R;
+      vote = λ s. R.vote s.inner;
+      goes_on = R.goes_on;
+      ended = λ s votes. mailing R (R.ended s.inner votes);
+    }

@@ -1,0 +1,163 @@
+//! A program that carries the letters of a letter program.
+
+ghost use Rattle.std.specs.Prelude.{◌≡◌, ◌<◌, ◌^◌, ◌∷◌, [], OnOk, OnErr, IfOk, map, length, replicate};
+ghost use Rattle.elastic.specs.Spelling.{IsLetter};
+ghost use Rattle.elastic.specs.LetterLaws.{StillSends};
+ghost use Rattle.elastic.specs.Mails.{mailing};
+
+use crate::letter_program::LetterProgram;
+use crate::reading::{forget_all, take_from};
+use crate::spelling::spelled;
+use bale_types::{Item, NoMemory};
+use round_program::Program;
+use std::alloc::Global;
+use std::marker::Model;
+
+/// One rank's mailer over a letter program.
+#[derive(Drop)]
+pub struct Mailer<Q: LetterProgram> {
+    alloc: Global,
+    /// the letter program
+    inner: Q,
+    /// what is sent in this round, made once as it begins
+    outgoing: Vec<(u32, Item)>,
+    /// the items of the letter that each sender has begun
+    begun: Vec<Vec<Item>>,
+    /// room for the letter that is handed over; what it holds between calls means nothing
+    letter: Vec<u8>,
+}
+
+impl<Q: LetterProgram> Model for Mailer<Q> {
+    ghost use Rattle.elastic.specs.Mails.{MailState, IsMail};
+    ghost use Rattle.elastic.specs.MailView.{mail_state};
+
+    ghost Value = { MailState Q };
+
+    ghost view = { mail_state };
+
+    ghost invariant = { λ m. IsMail Q.rules (mail_state m) };
+}
+
+impl<Q: LetterProgram> Mailer<Q> {
+    /// A mailer over a letter program, in the round in which that is.
+    ///
+    /// # Errors
+    ///
+    /// `NoMemory` where there was none for what is sent.
+    pub fn new(alloc: Global, q: Q) -> Result<Mailer<Q>, NoMemory>
+        ensures { IfOk result (λ m. m ≡ mailing Q.rules q) }
+    {
+        let _valid = q.rank();
+        let outgoing = spelled(alloc, &q)?;
+        let begun = none_begun(alloc, q.ranks())?;
+        Ok(Mailer {
+            alloc,
+            inner: q,
+            outgoing,
+            begun,
+            letter: Vec::new(alloc),
+        })
+    }
+
+    /// The letter program.
+    pub fn inner(&self) -> &Q
+        ensures { result.now ≡ self.now.inner }
+    {
+        &self.inner
+    }
+}
+
+impl<Q: LetterProgram> Program for Mailer<Q> {
+    ghost use Rattle.elastic.specs.Mails.{mail_rules};
+    ghost use Rattle.elastic.specs.MailLaws.{mail_laws};
+
+    ghost rules = { mail_rules Q.rules };
+
+    ghost laws = { mail_laws Q.rules Q.laws };
+
+    fn rank(&self) -> u32 {
+        self.inner.rank()
+    }
+
+    fn ranks(&self) -> u32 {
+        self.inner.ranks()
+    }
+
+    fn round(&self) -> u64 {
+        self.inner.round()
+    }
+
+    /// The number of fragments of all letters of this round; they are fewer than 2^63.
+    fn count(&self) -> u64
+        ensures value { result ≡ length self.now.outgoing }
+        ensures few { result < 2 ^ 63 }
+    {
+        self.outgoing.len() as u64
+    }
+
+    fn emission(&self, i: u64) -> (u32, Item) {
+        self.outgoing[i as usize]
+    }
+
+    fn fits(&self, from: u32, item: Item) -> bool {
+        from < self.inner.ranks()
+    }
+
+    fn absorb(&mut self, from: u32, item: Item) -> Result<(), NoMemory> {
+        if take_from(&mut self.begun, &mut self.letter, from as usize, item)? {
+            return hand_over(&mut self.inner, from, &self.letter);
+        }
+        Ok(())
+    }
+
+    fn vote(&self) -> u64 {
+        self.inner.vote()
+    }
+
+    fn goes_on(&self, votes: u64) -> bool {
+        self.inner.goes_on(votes)
+    }
+
+    fn end_round(&mut self, votes: u64) -> Result<bool, NoMemory> {
+        let more = end(&mut self.inner, votes)?;
+        self.outgoing = spelled(self.alloc, &self.inner)?;
+        forget_all(&mut self.begun);
+        Ok(more)
+    }
+}
+
+/// Has a letter program absorb a letter.
+fn hand_over<Q: LetterProgram>(inner: &mut Q, from: u32, letter: &[u8]) -> Result<(), NoMemory>
+    requires rank { from < Q.rules.ranks inner.old }
+    requires letter { IsLetter letter.now }
+    ensures absorbed { OnOk result (inner.new ≡ Q.rules.absorbed inner.old from letter.now) }
+    ensures refused { OnErr result (StillSends Q.rules inner.old inner.new) }
+    ensures valid { Q.rules.valid inner.new }
+{
+    let absorbed = inner.absorb_letter(from, letter);
+    let _valid = inner.rank();
+    absorbed
+}
+
+/// Has a letter program end its round.
+fn end<Q: LetterProgram>(inner: &mut Q, votes: u64) -> Result<bool, NoMemory>
+    ensures ended { OnOk result (inner.new ≡ Q.rules.ended inner.old votes) }
+    ensures answer { IfOk result (λ more. more ≡ Q.rules.goes_on (Q.rules.shape inner.old) (Q.rules.round inner.old) votes) }
+    ensures refused { OnErr result (StillSends Q.rules inner.old inner.new) }
+    ensures valid { Q.rules.valid inner.new }
+{
+    let ended = inner.end_round(votes);
+    let _valid = inner.rank();
+    ended
+}
+
+/// An empty list for each sender.
+fn none_begun(alloc: Global, ranks: u32) -> Result<Vec<Vec<Item>>, NoMemory>
+    ensures { IfOk result (λ v. map (λ l. l.items) v.items ≡ replicate ranks []) }
+{
+    let mut begun = Vec::new(alloc);
+    for _sender in 0..ranks {
+        begun.push(Vec::new(alloc))?;
+    }
+    Ok(begun)
+}

@@ -1,0 +1,118 @@
+//! Letters from the items that came.
+
+ghost use Rattle.std.specs.Prelude.{◌≡◌, ◌<◌, ◌++◌, ◌∷◌, [], true, IfOk, OnOk, cond, length, map, replicate, slice_set};
+ghost use Rattle.std.specs.List.{flat_map};
+ghost use Rattle.elastic.specs.Spelling.{further, bytes_in, letter_from};
+ghost use Rattle.elastic.specs.Mails.{is_whole, letter_of, begun_with, begun_after};
+
+use bale_types::{Item, NoMemory};
+
+/// Whether items, no more than one letter's, are a whole letter.
+fn is_whole(items: &[Item]) -> bool
+    ensures { result ≡ is_whole items.now }
+{
+    match items {
+        [] => false,
+        [first, rest @ ..] => rest.len() as u64 == further(first.a % 65_536),
+    }
+}
+
+/// How many items follow the first one of a letter of so many bytes.
+fn further(len: u64) -> u64
+    requires { len < 65_536 }
+    ensures { result ≡ further len }
+{
+    (len.saturating_sub(16) + 23) / 24
+}
+
+/// Takes an item in from the rank `from`, by what all senders have begun, and answers whether its letter is whole now; then
+/// `letter` is that letter. After `NoMemory` it may hold anything.
+pub(crate) fn take_from(
+    begun: &mut Vec<Vec<Item>>,
+    letter: &mut Vec<u8>,
+    from: usize,
+    item: Item,
+) -> Result<bool, NoMemory>
+    requires { from < length begun.old.items }
+    ensures whole { IfOk result (λ whole. whole ≡ is_whole (begun_with (map (λ l. l.items) begun.old.items) from item)) }
+    ensures begun { OnOk result (map (λ l. l.items) begun.new.items ≡ begun_after (map (λ l. l.items) begun.old.items) from item) }
+    ensures letter { IfOk result (λ whole. whole ≡ true → letter.new.items ≡ letter_of (begun_with (map (λ l. l.items) begun.old.items) from item)) }
+    ensures senders { length begun.new.items ≡ length begun.old.items }
+{
+    take_in(&mut begun[from], letter, item)
+}
+
+/// The same for what one sender has begun.
+fn take_in(begun: &mut Vec<Item>, letter: &mut Vec<u8>, item: Item) -> Result<bool, NoMemory>
+    ensures whole { IfOk result (λ whole. whole ≡ is_whole (begun.old.items ++ item ∷ [])) }
+    ensures begun { OnOk result (begun.new.items ≡ cond (is_whole (begun.old.items ++ item ∷ [])) [] (begun.old.items ++ item ∷ [])) }
+    ensures letter { IfOk result (λ whole. whole ≡ true → letter.new.items ≡ letter_of (begun.old.items ++ item ∷ [])) }
+{
+    begun.push(item)?;
+    if !is_whole(begun) {
+        return Ok(false);
+    }
+    read_letter(letter, begun)?;
+    begun.clear();
+    Ok(true)
+}
+
+/// Forgets what all senders have begun.
+pub(crate) fn forget_all(begun: &mut Vec<Vec<Item>>)
+    ensures { map (λ l. l.items) begun.new.items ≡ replicate (length begun.old.items) [] }
+{
+    for sender in 0..begun.len() {
+        forget(begun, sender);
+    }
+}
+
+/// Forgets what a sender has begun.
+fn forget(begun: &mut Vec<Vec<Item>>, from: usize)
+    requires { from < length begun.old.items }
+    ensures { map (λ l. l.items) begun.new.items ≡ slice_set (map (λ l. l.items) begun.old.items) from [] }
+{
+    begun[from].clear();
+}
+
+/// Puts the letter that items are in the place of what `letter` held. After `NoMemory` it may hold anything.
+fn read_letter(letter: &mut Vec<u8>, items: &[Item]) -> Result<(), NoMemory>
+    ensures { OnOk result (letter.new.items ≡ letter_of items.now) }
+{
+    letter.clear();
+    match items {
+        [] => Ok(()),
+        [first, rest @ ..] => append_letter(letter, *first, rest),
+    }
+}
+
+/// Appends the letter that an item begins and further items go on with, where nothing stands before it.
+fn append_letter(letter: &mut Vec<u8>, first: Item, rest: &[Item]) -> Result<(), NoMemory>
+    requires { letter.old.items ≡ [] }
+    ensures { OnOk result (letter.new.items ≡ letter_from first rest.now) }
+{
+    letter.extend_from_slice(&first.b.to_le_bytes())?;
+    letter.extend_from_slice(&first.c.to_le_bytes())?;
+    append_bytes(letter, rest)?;
+    letter.truncate((first.a % 65_536) as usize);
+    Ok(())
+}
+
+/// Appends the bytes of items that follow a first one.
+fn append_bytes(letter: &mut Vec<u8>, items: &[Item]) -> Result<(), NoMemory>
+    ensures { OnOk result (letter.new.items ≡ letter.old.items ++ flat_map bytes_in items.now) }
+{
+    for item in items {
+        append_item(letter, *item)?;
+    }
+    Ok(())
+}
+
+/// Appends the bytes of one of them.
+fn append_item(letter: &mut Vec<u8>, item: Item) -> Result<(), NoMemory>
+    ensures { OnOk result (letter.new.items ≡ letter.old.items ++ bytes_in item) }
+{
+    letter.extend_from_slice(&item.a.to_le_bytes())?;
+    letter.extend_from_slice(&item.b.to_le_bytes())?;
+    letter.extend_from_slice(&item.c.to_le_bytes())?;
+    Ok(())
+}

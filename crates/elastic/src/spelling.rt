@@ -1,0 +1,89 @@
+//! Letters as items.
+
+ghost use Rattle.std.specs.Prelude.{◌≡◌, ◌<◌, ◌++◌, OnOk, IfOk, length, map, drop};
+ghost use Rattle.elastic.specs.Spelling.{IsLetter, word_of, first_item, next_item, spelling};
+ghost use Rattle.elastic.specs.Mails.{spelled};
+
+use crate::letter_program::LetterProgram;
+use bale_types::{Item, NoMemory};
+use std::alloc::Global;
+
+/// Bytes of a letter in its first item.
+const FIRST: usize = 16;
+
+/// Bytes of a letter in each further item.
+const NEXT: usize = 24;
+
+/// What a letter program sends in its round, as items.
+pub(crate) fn spelled<Q: LetterProgram>(alloc: Global, q: &Q) -> Result<Vec<(u32, Item)>, NoMemory>
+    ensures { IfOk result (λ v. v.items ≡ spelled (Q.rules.letters q.now)) }
+{
+    let count = q.count();
+    let mut outgoing = Vec::with_capacity(alloc, count as usize)?;
+    for i in 0..count {
+        spell(&mut outgoing, q.to(i), q.letter(i))?;
+    }
+    Ok(outgoing)
+}
+
+/// Appends the spelling of a letter.
+pub(crate) fn spell(outgoing: &mut Vec<(u32, Item)>, to: u32, letter: &[u8]) -> Result<(), NoMemory>
+    ensures { OnOk result (outgoing.new.items ≡ outgoing.old.items ++ map (λ x. (to, x)) (spelling letter.now)) }
+{
+    outgoing.push((to, first_item(letter)))?;
+    let mut rest = behind(letter, FIRST);
+    while !rest.is_empty() {
+        outgoing.push((to, next_item(rest)))?;
+        rest = behind(rest, NEXT);
+    }
+    Ok(())
+}
+
+/// The item that begins a letter: its length and its first bytes.
+fn first_item(letter: &[u8]) -> Item
+    ensures { result ≡ first_item letter.now }
+{
+    Item {
+        a: letter.len() as u64,
+        b: word_of(letter),
+        c: word_of(behind(letter, 8)),
+    }
+}
+
+/// An item of the next bytes of a letter.
+fn next_item(bytes: &[u8]) -> Item
+    ensures { result ≡ next_item bytes.now }
+{
+    Item {
+        a: word_of(bytes),
+        b: word_of(behind(bytes, 8)),
+        c: word_of(behind(bytes, 16)),
+    }
+}
+
+/// What stands behind the first `len` bytes, and nothing where there are no more.
+fn behind(bytes: &[u8], len: usize) -> &[u8]
+    ensures { result.now ≡ drop len bytes.now }
+{
+    &bytes[len.min(bytes.len())..]
+}
+
+/// The first eight bytes as a word, from the lowest bits up; 0 where there is no byte.
+fn word_of(bytes: &[u8]) -> u64
+    ensures { result ≡ word_of bytes.now }
+{
+    match bytes.first_chunk::<8>() {
+        Some(word) => u64::from_le_bytes(*word),
+        None => short_word(bytes),
+    }
+}
+
+/// The same of fewer than eight bytes.
+fn short_word(bytes: &[u8]) -> u64
+    requires { length bytes.now < 8 }
+    ensures { result ≡ word_of bytes.now }
+{
+    let mut word = [0u8; 8];
+    word[..bytes.len()].copy_from_slice(bytes);
+    u64::from_le_bytes(word)
+}

@@ -1,0 +1,29 @@
+//! Queries and replies at once: each rank asks others, answers what it is asked, and hears the replies, with both ways
+//! underway at the same time.
+//!
+//! A rank has two conveyors over two banks, one for queries and one for replies. A reply carries no number of its query.
+//! Both ways keep the order of each pair of ranks, so the replies of a rank come in the order of the queries to it, and the
+//! next one is that to the first query to this rank that has none.
+//!
+//! | Call | What it does |
+//! |---|---|
+//! | `BiNode::new` | a rank that hasn't turned |
+//! | `BiNode::turn` | one turn, which never waits: asks, advances, answers, advances, hears; `Ended` exactly where both ways are complete |
+//! | `replies_law` | the replies theorem, over any two lawful banks |
+//!
+//! `specs/Replies` says what a rank hears, with no word on how it travels; `specs/Banks` states the replies theorem.
+#![tactic(auto)]
+
+
+
+
+
+mod law;
+mod line;
+mod lines;
+
+
+
+
+pub use law::replies_law;
+

@@ -18,6 +18,9 @@
 
 
 
+mod answering;
+mod asking;
+mod hearing;
 mod law;
 mod line;
 mod lines;

@@ -73,8 +73,14 @@ on_unread T s p a a' r left =
 -- on the conveyors
 pub answers_none : {S : Type 0} (T : Talk S) (s : S) (q r : State) → Answers T s q q r r
 answers_none T s q r =
-    record { same = refl; same_replies = refl; fewer = λ l. omega arith; kept = λ sent got a. a; kept_replies = λ sent got a. a;
-      on = λ asking asked replying replied a b. on_none T s (ranks q.dims) (part_of (buffers_of q) asking asked) (part_of (buffers_of r) replying replied) }
+    record {
+      same = refl;
+      same_replies = refl;
+      fewer = λ l. omega arith;
+      kept = λ sent got a. a;
+      kept_replies = λ sent got a. a;
+      on = λ asking asked replying replied a b. on_none T s (ranks q.dims) (part_of (buffers_of q) asking asked) (part_of (buffers_of r) replying replied);
+    }
 
 pub answers_both : {S : Type 0} (T : Talk S) (s : S) (q q1 q2 r r1 r2 : State) → Answers T s q q1 r r1 → Answers T s q1 q2 r1 r2 → Answers T s q q2 r r2
 answers_both T s q q1 q2 r r1 r2 f g =

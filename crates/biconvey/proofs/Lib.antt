@@ -5,3 +5,8 @@ pub mod Pulling
 pub mod Offering
 pub mod Answered
 pub mod Heard
+pub mod Turned
+pub mod Fresh
+pub mod Stopped
+pub mod Taken
+pub mod Closing

@@ -40,6 +40,11 @@ asked_below T laws s v =
     let low = (all_get (λ q. (q.0 < T.ranks s) × (q.1 < 2 ^ 64)) (T.queries s) i q.0 (laws.asks s v) q.1).0 in
     subst (λ (x : ℕ × Item). x.0 < T.ranks s) q.2 low)
 
+pub queries_below : {S : Type 0} (T : Talk S) → TalkLaws T → (s : S) (p : ℕ) → T.valid s → T.ranks s ≡ p → All (λ (q : ℕ × ℕ). q.0 < p) (T.queries s)
+queries_below T laws s p v all =
+    subst (λ n. All (λ (q : ℕ × ℕ). q.0 < n) (T.queries s)) all
+    (all_from_gets (λ (q : ℕ × ℕ). q.0 < T.ranks s) (T.queries s) (λ i q at. (all_get (λ q. (q.0 < T.ranks s) × (q.1 < 2 ^ 64)) (T.queries s) i q (laws.asks s v) at).0))
+
 -- what a Push leaves
 pub push_on : (es : List (ℕ × Item)) (p next to : ℕ) (x : Item) (part part' : Part) → slice_get es next ≡ Some (to, x) → IsOwnStep (Push to x) part part' → PushedOn es p next (next + 1) part part'
 push_on es p next to x part part' is step =

@@ -1,5 +1,5 @@
 -- A rank that asks and answers, between two turns.
-use Rattle.std.specs.Prelude.{◌≡◌, ◌≢◌, ℕ, ◌<◌, ◌≤◌, true, false, List, [], length}
+use Rattle.std.specs.Prelude.{Bool, ◌≡◌, ◌≢◌, ℕ, ◌<◌, ◌≤◌, true, false, List, [], length}
 use Rattle.route_tensor.specs.Grid.{ranks}
 use Rattle.route_tensor.specs.Link.{links}
 use Rattle.route_tensor.specs.Ends.{hop_at, reader_at}
@@ -24,6 +24,13 @@ pub record BiState (S : Type 0) : Type 0 where
   pub queries : State
   pub replies : State
 
+-- The lists of two banks: of queries what was sent and got, and of replies.
+pub record Sides : Type 0 where
+  pub asking : Logs
+  pub asked : Logs
+  pub replying : Logs
+  pub replied : Logs
+
 -- Everything that came for the rank was pulled.
 abbrev pub AllRead : State → Type 0
 AllRead c = (l : ℕ) → l < links c.dims → reader_at c.dims l ≡ c.rank → hop_at c.dims l ≡ length c.dims → (in_of c l).parcel.untaken ≡ []
@@ -35,6 +42,17 @@ pub record IsRunning (c : State) (sent got : Logs) : Type 0 where
   pub working : c.done ≡ false → c.phase ≡ Working
   pub sound : IsSound (buffers_of c)
   pub agrees : AgreesWith c sent got
+
+-- A conveyor that has begun its first epoch: nothing was pushed or pulled.
+pub record IsFirst (dims : List ℕ) (rank : ℕ) (steady : Bool) (c : State) : Type 0 where
+  pub same_dims : c.dims ≡ dims
+  pub same_rank : c.rank ≡ rank
+  pub same_steady : c.steady ≡ steady
+  pub not_done : c.done ≡ false
+  pub runs : IsRunning c (λ l. []) (λ l. [])
+  pub unread : (l : ℕ) → (in_of c l).parcel.untaken ≡ []
+  pub none_pushed : (e d : ℕ) → (part_of (buffers_of c) (λ l. []) (λ l. [])).pushed e d ≡ []
+  pub none_pulled : (e d : ℕ) → (part_of (buffers_of c) (λ l. []) (λ l. [])).pulled e d ≡ []
 
 -- A BiNode between two turns, of a rank that began in the state `start`, over a port of queries (what it sent is asking, what it
 -- got is asked) and one of replies (replying, replied).

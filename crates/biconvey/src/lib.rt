@@ -10,23 +10,19 @@
 //! | `BiNode::new` | a rank that hasn't turned |
 //! | `BiNode::turn` | one turn, which never waits: asks, advances, answers, advances, hears; `Ended` exactly where both ways are complete |
 //! | `replies_law` | the replies theorem, over any two lawful banks |
+//! | `askers_law` | what all ranks have heard, at every moment and at the end |
 //!
 //! `specs/Replies` says what a rank hears, with no word on how it travels; `specs/Banks` states the replies theorem.
 #![tactic(auto)]
 
-
-
-
-
 mod answering;
 mod asking;
+mod bi_node;
 mod hearing;
 mod law;
 mod line;
 mod lines;
 
-
-
-
-pub use law::replies_law;
-
+pub use bi_node::BiNode;
+pub use law::{askers_law, replies_law};
+pub use rank_node::{Steps, Turn};

@@ -10,3 +10,6 @@ pub mod Fresh
 pub mod Stopped
 pub mod Taken
 pub mod Closing
+pub mod Moving
+pub mod Halting
+pub mod Ending

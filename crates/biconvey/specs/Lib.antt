@@ -5,3 +5,5 @@ pub mod Taking
 pub mod States
 pub mod Still
 pub mod Ranks
+pub mod Ways
+pub mod Worlds

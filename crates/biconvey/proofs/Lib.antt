@@ -13,3 +13,7 @@ pub mod Closing
 pub mod Moving
 pub mod Halting
 pub mod Ending
+pub mod Counting
+pub mod Ranked
+pub mod Swept
+pub mod Driven

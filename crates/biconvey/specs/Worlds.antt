@@ -1,16 +1,13 @@
 -- All ranks over two plain banks, and what a sweep over them leaves.
-use Rattle.std.specs.Prelude.{◌≡◌, ℕ, ◌+◌, ◌*◌, ◌<◌, ◌≤◌, ◌==◌, Bool, true, List, length, map, Some, slice_get}
-use Rattle.std.specs.List.{All, sum_by}
+use Rattle.std.specs.Prelude.{◌≡◌, ℕ, ◌+◌, ◌*◌, ◌<◌, ◌≤◌, ◌==◌, ◌&&◌, Bool, List, length, map, Some, slice_get}
+use Rattle.std.specs.List.{sum_by}
 use Rattle.route_tensor.specs.Grid.{ranks}
 use Rattle.route_tensor.specs.Link.{links}
 use Rattle.route_tensor.specs.Ends.{reader_at}
 use Rattle.port_bank.specs.Logs.{Logs, starting_at, ending_at}
 use Rattle.port_bank.specs.Plain.{Bank, IsBank, sent_of, got_of}
-use Rattle.hop_core.specs.declared.phase.Phase.TheVariants.{Complete}
 use Rattle.hop_core.specs.State.{State}
-use Rattle.convey.specs.Buffers.{in_of}
-use Rattle.rank_node.specs.declared.turn.Turn.{Turn}
-use Rattle.rank_node.specs.declared.turn.Turn.TheVariants.{Ended}
+use Rattle.convey.specs.Buffers.{in_of, is_complete}
 use Rattle.round_program.specs.Talks.{Talk}
 use Rattle.biconvey.specs.States.{BiState, Sides, AllRead}
 use Rattle.biconvey.specs.Still.{Known, IsStuck}
@@ -30,12 +27,6 @@ pub record AreBanks (cap : ℕ) (dims : List ℕ) (slots : ℕ) (q r : Bank) : T
   pub queries_slots : q.slots ≡ slots
   pub replies_slots : r.slots ≡ slots
 
--- The orders in which a sweep may turn p ranks: each of them once.
-pub record IsOrder (p : ℕ) (order : List ℕ) : Type 0 where
-  pub size : length order ≡ p
-  pub below : All (λ r. r < p) order
-  pub each : (r : ℕ) → r < p → (i : ℕ) × (slice_get order i ≡ Some r)
-
 -- What the ports of rank r know of its links: whether no slot is free on a link out, and whether nothing waits on a link in.
 abbrev pub crowded_in : List ℕ → ℕ → ℕ → Logs → Logs → ℕ → Bool
 crowded_in dims slots r sent got l = length (starting_at dims r sent l) == length (got l) + slots
@@ -51,17 +42,15 @@ known_at dims slots r s = record {
   replies_idle = idle_in dims r s.replying s.replied;
 }
 
--- Both ways of a rank are complete.
-pub record IsComplete {S : Type 0} (n : BiState S) : Type 0 where
-  pub queries : n.queries.phase ≡ Complete
-  pub replies : n.replies.phase ≡ Complete
+-- Whether both ways of a rank are complete.
+abbrev pub is_over : {S : Type 0} → BiState S → Bool
+is_over n = is_complete n.queries.phase && is_complete n.replies.phase
 
 -- What the turn of rank r leaves.
-pub record AfterRank {S : Type 0} (T : Talk S) (dims : List ℕ) (cap slots r : ℕ) (turn : Turn) (n n' : BiState S) (s s' : Sides) : Type 0 where
+pub record AfterRank {S : Type 0} (T : Talk S) (dims : List ℕ) (cap slots r : ℕ) (n n' : BiState S) (s s' : Sides) : Type 0 where
   pub queries : AfterTurn dims cap r n.queries n'.queries s.asking s.asked s'.asking s'.asked
   pub replies : AfterTurn dims cap r n.replies n'.replies s.replying s.replied s'.replying s'.replied
   pub kept : (start : S) → HasRank T dims r start n s → HasRank T dims r start n' s'
-  pub ended : turn ≡ Ended → IsComplete n'
   pub stuck : (start : S) → HasRank T dims r start n s → s' ≡ s → IsStuck n n' (sides_at dims r s) (sides_at dims r s') (known_at dims slots r s')
 
 -- A rank at rest: its turn moved no parcel, and no entry out of an inbox.
@@ -87,16 +76,14 @@ all_moves dims ns s = moves dims (map (λ n. n.queries) ns) s.asking s.asked + m
 
 -- What the turns of the first i ranks of an order leave of all ranks.
 -- rests: where nothing moved, each rank that was turned is at rest.
--- over: where each turn answered that both ways are complete, they are.
-pub record SweptTo {S : Type 0} (T : Talk S) (dims : List ℕ) (cap slots : ℕ) (steady : Bool) (starts : ℕ → S) (order : List ℕ) (i : ℕ) (ns0 : List (BiState S)) (s0 : Sides) (ns : List (BiState S)) (s : Sides) (over : Bool) : Type 0 where
+pub record SweptTo {S : Type 0} (T : Talk S) (dims : List ℕ) (cap slots : ℕ) (steady : Bool) (starts : ℕ → S) (order : List ℕ) (i : ℕ) (ns0 : List (BiState S)) (s0 : Sides) (ns : List (BiState S)) (s : Sides) : Type 0 where
   pub world : World T dims cap slots steady starts ns s
   pub grown : all_moves dims ns0 s0 ≤ all_moves dims ns s
   pub rests : all_moves dims ns s ≤ all_moves dims ns0 s0 → (j r : ℕ) → j < i → slice_get order j ≡ Some r → (n : BiState S) → slice_get ns r ≡ Some n → Rests T dims slots r n s
-  pub ended : over ≡ true → (j r : ℕ) → j < i → slice_get order j ≡ Some r → (n : BiState S) → slice_get ns r ≡ Some n → IsComplete n
 
 -- How many queries the ranks have.
-abbrev pub queries_of : {S : Type 0} → Talk S → List S → ℕ
-queries_of T ss = sum_by (λ s. length (T.queries s)) ss
+abbrev pub queries_in : {S : Type 0} → Talk S → List (BiState S) → ℕ
+queries_in T ns = sum_by (λ n. length (T.queries n.asker)) ns
 
 -- How many turns an exchange of so many queries takes at most: each sweep but the last moves something on one of the ways, and
 -- a parcel or an entry moves at most so often.

@@ -1,13 +1,13 @@
 //! A rank that asks, answers and hears.
 
-ghost use Rattle.std.specs.Prelude.{◌≡◌, ◌≢◌, ◌⊎◌, ℕ, ◌+◌, ◌<◌, ◌≤◌, ◌++◌, false, List, [], length, slice_get, Some, IfOk, OnOk, IsOk, Ok};
+ghost use Rattle.std.specs.Prelude.{◌≡◌, ◌≢◌, ◌⊎◌, ℕ, ◌+◌, ◌<◌, ◌≤◌, ◌++◌, ◌&&◌, false, List, [], length, slice_get, Some, IfOk, OnOk, IsOk, Ok};
 ghost use Rattle.std.specs.List.{flat_map};
 ghost use Rattle.bale_types.specs.declared.item.Item.{Item};
 ghost use Rattle.item_buffer.specs.Contents.{Shipped};
 ghost use Rattle.route_tensor.specs.Grid.{ranks};
 ghost use Rattle.route_tensor.specs.Link.{links};
 ghost use Rattle.route_tensor.specs.Ends.{reader_at};
-ghost use Rattle.convey.specs.Buffers.{in_of};
+ghost use Rattle.convey.specs.Buffers.{in_of, is_complete};
 ghost use Rattle.list_laws.specs.Lists.{Begins};
 ghost use Rattle.port_bank.specs.Shapes.{IsConveyorShape};
 ghost use Rattle.biconvey.specs.Replies.{asks_of};
@@ -153,6 +153,13 @@ impl<A: Asker, const CAP: usize, const HOPS: usize> BiNode<A, CAP, HOPS> {
         // The contract of `phase` tells what holds of the conveyor.
         let _sound = self.replies.phase();
         turn_of(asked, replied)
+    }
+
+    /// Whether both ways are complete.
+    pub fn is_over(&self) -> bool
+        ensures { result ≡ (is_complete self.now.queries.phase && is_complete self.now.replies.phase) }
+    {
+        is_over(self.queries.phase()) && is_over(self.replies.phase())
     }
 
     /// The asker, with what it has heard.

@@ -22,6 +22,8 @@ mod hearing;
 mod law;
 mod line;
 mod lines;
+mod running;
+mod sweeping;
 
 pub use bi_node::BiNode;
 pub use law::{askers_law, replies_law};

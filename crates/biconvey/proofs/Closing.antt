@@ -91,7 +91,7 @@ module _ {S : Type 0} (T : Talk S) (laws : TalkLaws T) (law : ClosesLaw) (dims :
     completed : (e : ℕ) (p : Phase) → p ≡ Complete → e < cond (is_complete p) (e + 1) e
     completed e p is = subst (λ b. e < cond b (e + 1) e) (sym (ap is_complete is)) (omega arith)
 
-    ask_over : (r : ℕ) → r < ranks dims → 0 < completed_of (ask r)
+    pub ask_over : (r : ℕ) → r < ranks dims → 0 < completed_of (ask r)
     ask_over r b = subst (λ e. e < completed_of (ask r)) (w.each r b).node.asks.first (completed (ns r).queries.epoch (ns r).queries.phase (over.queries r b))
 
     reply_over : (r : ℕ) → r < ranks dims → 0 < completed_of (reply r)

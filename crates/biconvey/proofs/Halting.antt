@@ -43,7 +43,7 @@ none_after [] rest front final e last none = absurd (omega (arith, ap lasts e, l
 none_after (g ∷ gs) rest [] final e last none = omega (arith, ap length e, length-append gs rest)
 none_after (g ∷ gs) rest (f ∷ fs) final e last none = none_after gs rest fs final (ap tail_of e) last none
 
-all_got : (got sent : List Shipped) → Begins got sent → EndsLast sent → lasts got ≡ lasts sent → length got ≡ length sent
+pub all_got : (got sent : List Shipped) → Begins got sent → EndsLast sent → lasts got ≡ lasts sent → length got ≡ length sent
 all_got got sent b t e =
     let none : lasts b.rest ≡ 0 = omega (arith, ap lasts b.is, lasts-append got b.rest) in
     let few = none_after got b.rest t.front t.final (sym b.is ∙ t.is) t.last none in

@@ -17,3 +17,6 @@ pub mod Counting
 pub mod Ranked
 pub mod Swept
 pub mod Driven
+pub mod Making
+pub mod Telling
+pub mod Ended

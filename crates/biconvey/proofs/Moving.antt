@@ -23,7 +23,7 @@ none_left (x ∷ xs) e = absurd (omega (arith, e))
 pub begins_length : {X : Type 0} (xs ys : List X) → Begins xs ys → length xs ≤ length ys
 begins_length xs ys b = omega (arith, ap length b.is, length-append xs b.rest)
 
-begins_whole : {X : Type 0} (xs ys : List X) → Begins xs ys → length ys ≤ length xs → ys ≡ xs
+pub begins_whole : {X : Type 0} (xs ys : List X) → Begins xs ys → length ys ≤ length xs → ys ≡ xs
 begins_whole xs ys b less = b.is ∙ (ap (λ zs. xs ++ zs) (none_left b.rest (omega (arith, ap length b.is, length-append xs b.rest, less))) ∙ append-nil xs)
 
 -- where a rank's own logs grow and the others stay, all grow

@@ -7,3 +7,4 @@ pub mod Still
 pub mod Ranks
 pub mod Ways
 pub mod Worlds
+pub mod Drives

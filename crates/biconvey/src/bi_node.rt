@@ -61,6 +61,7 @@ impl<A: Asker, const CAP: usize, const HOPS: usize> BiNode<A, CAP, HOPS> {
         ensures asker { IfOk result (λ n. n.asker ≡ asker) }
         ensures dims { IfOk result (λ n. n.queries.dims ≡ grid.now) }
         ensures rank { IfOk result (λ n. n.queries.rank ≡ A.talk.rank asker) }
+        ensures unread { IfOk result (λ n. (l : ℕ) → ((in_of n.queries l).parcel.untaken ≡ []) × ((in_of n.replies l).parcel.untaken ≡ [])) }
         ensures steady { IfOk result (λ n. (n.queries.steady ≡ steady) × (n.replies.steady ≡ steady)) }
     {
         let rank = asker.rank();

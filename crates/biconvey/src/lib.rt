@@ -18,13 +18,16 @@
 mod answering;
 mod asking;
 mod bi_node;
+mod drive;
 mod hearing;
 mod law;
 mod line;
 mod lines;
+mod nodes;
 mod running;
 mod sweeping;
 
 pub use bi_node::BiNode;
+pub use drive::drive_both;
 pub use law::{askers_law, replies_law};
 pub use rank_node::{Steps, Turn};

@@ -24,3 +24,6 @@ returns-clause-node g c =
     subst (λ s. IsBiNode T c.args.asker (record { asker = s; next = 0; lines = lines; queries = c.in_ok-queries.queries; replies = c.in_ok-replies.replies }) (λ l. []) (λ l. []) (λ l. []) (λ l. [])) (sym c.in_ok-asker.ensures.ok)
     (fresh_node T c.args.asker c.args.grid.now c.rank-rank.result c.args.steady lines c.in_ok-queries.queries c.in_ok-replies.replies c.rank-rank.ensures.valid (sym c.rank-rank.ensures.value) c.requires.all_ranks has
     c.in_ok-queries.ensures c.in_ok-replies.ensures)
+
+pub returns-clause-unread : goal.returns-clause-unread
+returns-clause-unread g c = λ l. (c.in_ok-queries.ensures.unread l, c.in_ok-replies.ensures.unread l)

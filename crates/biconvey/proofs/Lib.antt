@@ -20,3 +20,4 @@ pub mod Driven
 pub mod Making
 pub mod Telling
 pub mod Ended
+pub mod Last

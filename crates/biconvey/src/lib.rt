@@ -9,6 +9,8 @@
 //! |---|---|
 //! | `BiNode::new` | a rank that hasn't turned |
 //! | `BiNode::turn` | one turn, which never waits: asks, advances, answers, advances, hears; `Ended` exactly where both ways are complete |
+//! | `bi_serial` | drives all ranks on one thread, until each query has its one reply |
+//! | `drive_both` | the same, for a capacity and a number of hops that are known when the program is compiled |
 //! | `replies_law` | the replies theorem, over any two lawful banks |
 //! | `askers_law` | what all ranks have heard, at every moment and at the end |
 //!
@@ -18,6 +20,7 @@
 mod answering;
 mod asking;
 mod bi_node;
+mod capacities;
 mod drive;
 mod hearing;
 mod law;
@@ -25,9 +28,11 @@ mod line;
 mod lines;
 mod nodes;
 mod running;
+mod serial;
 mod sweeping;
 
 pub use bi_node::BiNode;
 pub use drive::drive_both;
 pub use law::{askers_law, replies_law};
 pub use rank_node::{Steps, Turn};
+pub use serial::bi_serial;

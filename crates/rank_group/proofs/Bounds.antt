@@ -26,7 +26,7 @@ use Rattle.rank_group.proofs.Movers.{part_epoch}
 use Rattle.rank_node.proofs.Emitted.{receivers_below}
 use Rattle.rank_node.proofs.Between.{extended_before}
 use Rattle.rank_group.proofs.Counted.{pushed_in}
-use Rattle.rank_group.proofs.Pushed.{work_few, votes_few, flow_pushed, items_before, count_in}
+use Rattle.rank_group.proofs.Pushed.{work_few, votes_few, mover_pushed, items_before, count_in}
 use Rattle.rank_group.proofs.Worlds.{Core, core, canonical, still_within, over_at_last}
 use Rattle.rank_group.specs.Worlds.{progress_in, history_in, World}
 
@@ -51,7 +51,7 @@ module _ {S : Type 0} (R : Rules S) (laws : Laws R) (law : ClosesLaws) (dims : L
       let part : Part = part_in x.0.node.mover (starting_at dims s sent) (ending_at dims s got) in
       let here : part.epoch ≡ epoch_in x.0.node.mover = part_epoch x.0.node.mover _ _ in
       let few : (d : ℕ) → d < ranks dims → length (flow dims sent s d 1 (2 * m)) ≤ length (part.pushed (2 * m) d) =
-      λ d to. flow_pushed dims x.0.node.mover steady sent got s d (2 * m) w.ranked.grid has.same_manner has.same_dims has.same_rank from to in
+      λ d to. mover_pushed dims x.0.node.mover steady sent got s d (2 * m) w.ranked.grid has.same_manner has.same_dims has.same_rank from to in
       elim (cases_lt (epoch_in x.0.node.mover) (2 * m)) [
         | inl ahead ↦
             let none = total_zero (ranks dims) (λ d. length (flow dims sent s d 1 (2 * m))) (λ d to. let a = few d to in let b = (i.is.passed.ahead (2 * m) d (omega (arith, ahead, here))).0 in omega (arith, a, ap length b)) in
@@ -96,7 +96,7 @@ module _ {S : Type 0} (R : Rules S) (laws : Laws R) (law : ClosesLaws) (dims : L
       let i : Core R dims s (h s) x.0 sent got = core R dims cap (ByConveyor steady) s (h s) x.0 sent got has in
       let part : Part = part_in x.0.node.mover (starting_at dims s sent) (ending_at dims s got) in
       let b = total_bound (ranks dims) 1 (λ d. length (flow dims sent s d 1 (2 * m + 1)))
-      (λ d to. let a = flow_pushed dims x.0.node.mover steady sent got s d (2 * m + 1) w.ranked.grid has.same_manner has.same_dims has.same_rank from to in
+      (λ d to. let a = mover_pushed dims x.0.node.mover steady sent got s d (2 * m + 1) w.ranked.grid has.same_manner has.same_dims has.same_rank from to in
       let v = votes_few R (ranks (dims_of x.0.node.mover)) (rank_of x.0.node.mover) (h s) x.0.node.run.round x.0.node.run.sends x.0.node.run.next i.prog x.0.node.run.sum x.0.node.run.spoiled part (record { passed = i.is.passed; within = i.is.within }) m d (subst (λ ds. d < ranks ds) (sym has.same_dims) to) in
       omega (arith, a, v)) in
       omega (arith, b)
@@ -125,7 +125,7 @@ module _ {S : Type 0} (R : Rules S) (laws : Laws R) (law : ClosesLaws) (dims : L
       let x : (x : RankState S) × (slice_get rs s ≡ Some x) = find rs s (omega (arith, from, w.ranked.all)) in
       let has : HasRank R dims cap (ByConveyor steady) s (h s) x.0 sent got = w.ranked.each s x.0 x.1 in
       let i : Core R dims s (h s) x.0 sent got = core R dims cap (ByConveyor steady) s (h s) x.0 sent got has in
-      let a = flow_pushed dims x.0.node.mover steady sent got s d (2 * n) w.ranked.grid has.same_manner has.same_dims has.same_rank from to in
+      let a = mover_pushed dims x.0.node.mover steady sent got s d (2 * n) w.ranked.grid has.same_manner has.same_dims has.same_rank from to in
       let e = (i.is.passed.ahead (2 * n) d (let a = epoch_low s x.0 x.1 in let b = part_epoch x.0.node.mover (starting_at dims s sent) (ending_at dims s got) in omega (arith, a, b))).0 in
       omega (arith, a, ap length e))) where
         epoch_low : (s : ℕ) (x : RankState S) → slice_get rs s ≡ Some x → epoch_in x.node.mover < 2 * n

@@ -73,10 +73,9 @@ votes_few R p rank h round sends next prog sum spoiled part is m d to =
           omega (arith, ap length a, taken_few d next (votes_to q v), ap length b)
 
 -- what is sent of a pair on hop 1 is at most what its sender pushed
-pub flow_pushed : (dims : List ℕ) (m : MoverState) (steady : Bool) (sent got : Logs) (s d e : ℕ) → IsGrid dims → manner_in m ≡ ByConveyor steady → dims_of m ≡ dims → rank_of m ≡ s → s < ranks dims → d < ranks dims
-    → length (flow dims sent s d 1 e) ≤ length ((part_in m (starting_at dims s sent) (ending_at dims s got)).pushed e d)
-flow_pushed dims (Stacking cap x) steady sent got s d e g k ds rs from to = absurd (cc)
-flow_pushed dims (Conveying c) steady sent got s d e g k ds rs from to =
+pub flow_pushed : (dims : List ℕ) (c : State) (sent got : Logs) (s d e : ℕ) → IsGrid dims → c.dims ≡ dims → c.rank ≡ s → s < ranks dims → d < ranks dims
+    → length (flow dims sent s d 1 e) ≤ length ((part_of (buffers_of c) (starting_at dims s sent) (ending_at dims s got)).pushed e d)
+flow_pushed dims c sent got s d e g ds rs from to =
     let b = buffers_of c in
     let own : starting_at dims s sent (hop_link dims s d 1) ≡ sent (hop_link dims s d 1) = starting-own dims s sent (hop_link dims s d 1) (first_link dims s d g from to).sender in
     let low : d < ranks c.dims = subst (λ ns. d < ranks ns) (sym ds) to in
@@ -88,6 +87,12 @@ flow_pushed dims (Conveying c) steady sent got s d e g k ds rs from to =
     omega (arith, ap length is, ap length same, long) where
       more : {X : Type 0} (xs ys : List X) → length xs ≤ length (xs ++ ys)
       more xs ys = omega (arith, length-append xs ys)
+
+-- the same of a mover
+pub mover_pushed : (dims : List ℕ) (m : MoverState) (steady : Bool) (sent got : Logs) (s d e : ℕ) → IsGrid dims → manner_in m ≡ ByConveyor steady → dims_of m ≡ dims → rank_of m ≡ s → s < ranks dims → d < ranks dims
+    → length (flow dims sent s d 1 e) ≤ length ((part_in m (starting_at dims s sent) (ending_at dims s got)).pushed e d)
+mover_pushed dims (Stacking cap x) steady sent got s d e g k ds rs from to = absurd (cc)
+mover_pushed dims (Conveying c) steady sent got s d e g k ds rs from to = flow_pushed dims c sent got s d e g ds rs from to
 
 -- how many items the rounds before number n send, with their votes
 abbrev pub items_before : {S : Type 0} → Rules S → ℕ → List S → ℕ → ℕ

@@ -1,0 +1,72 @@
+-- The ranks of an exchange are made, and taken apart.
+use Rattle.std.proofs.Common.{◌≡◌, ℕ, ◌+◌, Bool, List, [], ◌∷◌, ◌++◌, length, length-append, drop, slice_get, Some, None, refl, sym, ap, subst, ◌∙◌, arith, inl, inr}
+use Rattle.std.proofs.lemmas.Bool.{cases_lt}
+use Rattle.std.proofs.lemmas.List.{map-append, length-map, append-nil}
+use Rattle.list_laws.proofs.Lists.{within, get_once, get_last, get_before}
+use Rattle.convey.specs.Buffers.{in_of}
+use Rattle.round_program.specs.Talks.{Talk}
+use Rattle.biconvey.specs.States.{BiState, IsBiNode}
+use Rattle.biconvey.specs.Drives.{AreAskers, IsFresh, AreFresh, askers_of}
+
+-- ranks for the askers so far
+pub record Making {S : Type 0} (T : Talk S) (dims : List ℕ) (steady : Bool) (starts rest : List S) (ns : List (BiState S)) : Type 0 where
+  pub left : starts ≡ askers_of ns ++ rest
+  pub each : (r : ℕ) (n : BiState S) → slice_get ns r ≡ Some n → IsFresh T dims steady r n
+
+at_end : {X : Type 0} (xs ys : List X) (q : X) → slice_get (xs ++ q ∷ ys) (length xs) ≡ Some q
+at_end [] ys q = refl
+at_end (x ∷ xs) ys q = at_end xs ys q
+
+shift : {X : Type 0} (xs ys : List X) (q : X) → (xs ++ q ∷ []) ++ ys ≡ xs ++ q ∷ ys
+shift [] ys q = refl
+shift (x ∷ xs) ys q = ap (λ zs. x ∷ zs) (shift xs ys q)
+
+first_of : {X : Type 0} (xs : List X) (q : X) → slice_get xs 0 ≡ Some q → xs ≡ q ∷ drop 1 xs
+first_of [] q at = absurd (omega (arith, within [] 0 q at))
+first_of (x ∷ xs) q at = ap (λ y. y ∷ xs) (get_once (x ∷ xs) 0 x q refl at)
+
+none_of : {X : Type 0} (xs : List X) → slice_get xs 0 ≡ None → xs ≡ []
+none_of [] e = refl
+none_of (x ∷ xs) e = absurd (cc)
+
+module _ {S : Type 0} (T : Talk S) (dims : List ℕ) (steady : Bool) (starts rest : List S) (ns : List (BiState S)) (f : Making T dims steady starts rest ns) where
+  -- the next asker is that of the next rank
+  pub next_asker : (q : S) → slice_get rest 0 ≡ Some q → slice_get starts (length ns) ≡ Some q
+  next_asker q at =
+      ap (λ xs. slice_get xs (length ns)) (f.left ∙ ap (λ ys. askers_of ns ++ ys) (first_of rest q at))
+      ∙ (ap (slice_get (askers_of ns ++ q ∷ drop 1 rest)) (sym (length-map ns (λ (n : BiState S). n.asker))) ∙ at_end (askers_of ns) (drop 1 rest) q)
+
+  pub making_more : (p : ℕ) (rest' : List S) (ns' : List (BiState S)) (q : S) (n : BiState S) → AreAskers T p starts → slice_get rest 0 ≡ Some q → rest' ≡ drop 1 rest → ns' ≡ ns ++ n ∷ []
+      → IsBiNode T q n (λ l. []) (λ l. []) (λ l. []) (λ l. []) → n.asker ≡ q → n.queries.dims ≡ dims → n.queries.rank ≡ T.rank q → (n.queries.steady ≡ steady) × (n.replies.steady ≡ steady)
+      → ((l : ℕ) → ((in_of n.queries l).parcel.untaken ≡ []) × ((in_of n.replies l).parcel.untaken ≡ [])) → Making T dims steady starts rest' ns'
+  making_more p rest' ns' q n all at gone more node np nd nr steadies unread =
+      let made : IsFresh T dims steady (length ns) n = record {
+        same_dims = nd;
+        same_rank = nr ∙ (all.each (length ns) q (next_asker q at)).0;
+        same_steady = steadies;
+        node = subst (λ (s : S). IsBiNode T s n (λ l. []) (λ l. []) (λ l. []) (λ l. [])) (sym np) node;
+        unread = unread;
+      } in
+      let size : length (ns ++ n ∷ []) ≡ length ns + 1 = length-append ns (n ∷ []) in
+      record {
+        left = f.left ∙ (ap (λ ys. askers_of ns ++ ys) (first_of rest q at) ∙ (sym (shift (askers_of ns) (drop 1 rest) q)
+            ∙ (ap (λ s. (askers_of ns ++ s ∷ []) ++ drop 1 rest) (sym np) ∙ (ap (λ ps. ps ++ drop 1 rest) (sym (map-append (λ (m : BiState S). m.asker) ns (n ∷ []))) ∙ (ap (λ ys. askers_of ys ++ drop 1 rest) (sym more) ∙ ap (λ ys. askers_of ns' ++ ys) (sym gone))))));
+        each = λ r m now. elim (cases_lt r (length ns)) [
+          | inl below ↦ f.each r m (sym (get_before ns (n ∷ []) r below) ∙ (ap (λ xs. slice_get xs r) (sym more) ∙ now))
+          | inr past ↦
+              let same : r ≡ length ns = omega (arith, past, within ns' r m now, ap length more, size) in
+              let is : n ≡ m = get_once (ns ++ n ∷ []) (length ns) n m (get_last ns n) (ap (λ xs. slice_get xs (length ns)) (sym more) ∙ subst (λ i. slice_get ns' i ≡ Some m) same now) in
+              subst (λ i. IsFresh T dims steady i m) (sym same) (subst (λ y. IsFresh T dims steady (length ns) y) is made)
+        ];
+      }
+
+  pub making_all : slice_get rest 0 ≡ None → AreFresh T dims steady starts ns
+  making_all none = record { same = sym (f.left ∙ (ap (λ ys. askers_of ns ++ ys) (none_of rest none) ∙ append-nil (askers_of ns))); each = f.each }
+
+pub making_none : {S : Type 0} (T : Talk S) (dims : List ℕ) (steady : Bool) (starts : List S) → Making T dims steady starts starts []
+making_none T dims steady starts = record { left = refl; each = λ r n at. absurd (omega (arith, within [] r n at)) }
+
+-- the askers of the ranks so far
+pub taken_more : {S : Type 0} (askers askers' : List S) (ns : List (BiState S)) (n : BiState S) (q : S) → askers ≡ askers_of ns → askers' ≡ askers ++ q ∷ [] → q ≡ n.asker → askers' ≡ askers_of (ns ++ n ∷ [])
+taken_more askers askers' ns n q is more same =
+    more ∙ (ap (λ x. askers ++ x ∷ []) same ∙ (ap (λ ps. ps ++ n.asker ∷ []) is ∙ sym (map-append (λ m. m.asker) ns (n ∷ []))))

@@ -1,0 +1,76 @@
+-- What pulls leave of a conveyor.
+use Rattle.std.proofs.Common.{◌≡◌, ◌≢◌, ℕ, zero, suc, ◌+◌, ◌<◌, ◌≤◌, List, [], ◌∷◌, length, slice_get, Option, Some, None, refl, sym, ap, subst, ◌∙◌, arith, get_or, set, sum_by, drop, add-one}
+use Rattle.std.proofs.lemmas.List.Sums.{sum_by-set}
+use Rattle.std.specs.Option.{option_map}
+use Rattle.bale_types.specs.declared.item.Entry.{Entry}
+use Rattle.bale_types.specs.declared.item.Item.{Item}
+use Rattle.route_tensor.specs.Neighbour.{neighbour, in_index}
+use Rattle.route_tensor.specs.Tag.{sender_of}
+use Rattle.hop_core.specs.declared.phase.Phase.TheVariants.{Dormant}
+use Rattle.hop_core.specs.Link.{In, no_in, with_first_taken}
+use Rattle.hop_core.specs.Relay.{waiting}
+use Rattle.hop_core.specs.State.{State, in_at, lowest_unread, pull_from, pulled_from, pulls}
+use Rattle.convey.specs.Conveyors.{GivesNext}
+use Rattle.biconvey.specs.Taking.{NoMore}
+
+pub pulled_same : (st : State) (o : Option ℕ) → pulled_from st o ≡ record st { ins = (pulled_from st o).ins; pulled = (pulled_from st o).pulled }
+pulled_same st None = refl
+pulled_same st (Some i) = refl
+
+-- a pull leaves no inbox with more
+fewer_set : (ins : List In) (i j : ℕ) (y : In) → length y.parcel.untaken ≤ length (get_or ins i no_in).parcel.untaken → length (get_or (set ins i y) j no_in).parcel.untaken ≤ length (get_or ins j no_in).parcel.untaken
+fewer_set [] i j y less = omega arith
+fewer_set (x ∷ xs) zero zero y less = less
+fewer_set (x ∷ xs) zero (suc j) y less = omega arith
+fewer_set (x ∷ xs) (suc i) zero y less = omega arith
+fewer_set (x ∷ xs) (suc i) (suc j) y less = fewer_set xs i j y less
+
+drop_less : {X : Type 0} (xs : List X) → length (drop 1 xs) ≤ length xs
+drop_less [] = omega arith
+drop_less (x ∷ xs) = omega arith
+
+pub fewer_pulled : (st : State) (o : Option ℕ) → NoMore st (pulled_from st o)
+fewer_pulled st None l = omega arith
+fewer_pulled st (Some i) l = fewer_set st.ins i (in_index st.dims l) (record (in_at st i) { parcel = with_first_taken (in_at st i).parcel }) (drop_less (in_at st i).parcel.untaken)
+
+-- one that gives an item leaves one fewer
+some_first : {X : Type 0} (xs : List Entry) (f : Entry → X) (p : X) → option_map f (slice_get xs 0) ≡ Some p → 0 < length xs
+some_first [] f p is = absurd (cc)
+some_first (x ∷ xs) f p is = omega arith
+
+drop_first : {X : Type 0} (xs : List X) → 0 < length xs → length (drop 1 xs) + 1 ≡ length xs
+drop_first [] h = absurd (omega (arith, h))
+drop_first (x ∷ xs) h = omega arith
+
+below : (ins : List In) (i : ℕ) → 0 < length (get_or ins i no_in).parcel.untaken → i < length ins
+below [] i h = absurd (omega (arith, h))
+below (x ∷ xs) zero h = omega arith
+below (x ∷ xs) (suc i) h = omega (arith, below xs i h)
+
+fewer_from : (st : State) (o : Option ℕ) (p : ℕ × Item) → pull_from st o ≡ Some p → waiting (pulled_from st o).ins < waiting st.ins
+fewer_from st None p is = absurd (cc)
+fewer_from st (Some i) p is =
+    let xs = (in_at st i).parcel.untaken in
+    let f : In → ℕ = λ x. length x.parcel.untaken in
+    let y : In = record (in_at st i) { parcel = with_first_taken (in_at st i).parcel } in
+    let some : 0 < length xs = some_first xs (λ e. (sender_of st.dims e.tag (length st.dims) (neighbour st.dims st.rank i), e.item)) p is in
+    let e : sum_by f (set st.ins i y) + f (get_or st.ins i no_in) ≡ sum_by f st.ins + f y = sum_by-set f st.ins i y no_in (below st.ins i some) in
+    let less : length (drop 1 xs) + 1 ≡ length xs = drop_first xs some in
+    omega (arith, e, less)
+
+pub fewer_next : (st : State) (n from : ℕ) (x : Item) (most : ℕ) → n + waiting (pulls n st).ins ≤ most → GivesNext (pulls n st) from x → n + 1 + waiting (pulls (n + 1) st).ins ≤ most
+fewer_next st n from x most is next =
+    let less : waiting (pulls (suc n) st).ins < waiting (pulls n st).ins = fewer_from (pulls n st) (lowest_unread (pulls n st)) (from, x) next.value in
+    subst (λ m. n + 1 + waiting (pulls m st).ins ≤ most) (sym (add-one n)) (omega (arith, less, is))
+
+-- so many pulls, one by one
+pub record PullsSome (n : ℕ) (st c : State) : Type 0 where
+  pub is : c ≡ pulls n st
+  pub begun : c.phase ≢ Dormant
+
+pub pull_next : (n : ℕ) (st c c' : State) → PullsSome n st c → c' ≡ pulled_from c (lowest_unread c) → PullsSome (n + 1) st c'
+pull_next n st c c' p is =
+    record {
+      is = is ∙ (ap (λ (t : State). pulled_from t (lowest_unread t)) p.is ∙ ap (λ m. pulls m st) (sym (add-one n)));
+      begun = λ e. p.begun (sym (ap (λ (t : State). t.phase) (is ∙ pulled_same c (lowest_unread c))) ∙ e);
+    }

@@ -1,0 +1,74 @@
+-- An exchange of queries and replies by all ranks, as it begins and ends.
+use Rattle.std.specs.Prelude.{◌≡◌, ℕ, ◌<◌, Bool, List, [], ◌∷◌, length, map, Option, Some, None, slice_get, slice_index_or}
+use Rattle.bale_types.specs.declared.item.Item.{Item}
+use Rattle.route_tensor.specs.Grid.{ranks}
+use Rattle.route_tensor.specs.Link.{links}
+use Rattle.port_bank.specs.Logs.{lasts}
+use Rattle.port_bank.specs.Round.{Round, logs_of, pushed, pulled}
+use Rattle.port_bank.specs.Shapes.{IsConveyorShape}
+use Rattle.convey.specs.Agreement.{EndsLast}
+use Rattle.convey.specs.Buffers.{in_of}
+use Rattle.rank_group.specs.Told.{Made}
+use Rattle.round_program.specs.Talks.{Talk}
+use Rattle.biconvey.specs.Replies.{queries_to, answers, answered}
+use Rattle.biconvey.specs.States.{BiState, IsBiNode}
+
+-- Askers for the ranks 0, 1, .., p - 1, in this order.
+pub record AreAskers {S : Type 0} (T : Talk S) (p : ℕ) (askers : List S) : Type 0 where
+  pub size : length askers ≡ p
+  pub each : (r : ℕ) (s : S) → slice_get askers r ≡ Some s → (T.rank s ≡ r) × (T.ranks s ≡ p)
+
+-- The askers after each has heard, for each of its queries in order, the answer of the rank asked.
+pub record HaveHeard {S : Type 0} (T : Talk S) (askers ends : List S) : Type 0 where
+  pub size : length ends ≡ length askers
+  pub each : (r : ℕ) (s : S) → slice_get askers r ≡ Some s → slice_get ends r ≡ Some (answered T (λ d. slice_index_or askers d s) r)
+
+-- The queries of the pair (s,d), and the replies of (d,s), of some askers; none where there is no such rank.
+abbrev pub queries_of : {S : Type 0} → Talk S → Option S → ℕ → List Item
+queries_of T None d = []
+queries_of T (Some s) d = queries_to T s d
+
+abbrev pub answers_of : {S : Type 0} → Talk S → Option S → ℕ → List Item → List Item
+answers_of T None from queries = []
+answers_of T (Some s) from queries = answers T s from queries
+
+abbrev pub queries_by : {S : Type 0} → Talk S → List S → ℕ → ℕ → List Item
+queries_by T askers s d = queries_of T (slice_get askers s) d
+
+abbrev pub replies_by : {S : Type 0} → Talk S → List S → ℕ → ℕ → List Item
+replies_by T askers d s = answers_of T (slice_get askers d) s (queries_by T askers s d)
+
+-- A closed round tells one way of an exchange, in which each rank s had some items for each rank d.
+-- bank: it was made as asked.
+-- ended, by_last: each link ended one epoch, and nothing came after it. collected: all parcels were.
+-- pushed: each rank pushed toward each what it had for it. all_came: each pulled what was pushed toward it.
+-- shape: each parcel is filled as conveyors fill it, steady or not.
+pub record TellsWay (made : Made) (steady : Bool) (items : ℕ → ℕ → List Item) (round : Round) : Type 0 where
+  pub bank : record { dims = round.dims; cap = round.cap; slots = round.slots; by_slots = round.by_slots } ≡ made
+  pub ended : (l : ℕ) → l < links round.dims → lasts (logs_of round.sent l) ≡ 1
+  pub by_last : (l : ℕ) → l < links round.dims → EndsLast (logs_of round.sent l)
+  pub collected : (l : ℕ) → l < links round.dims → logs_of round.got l ≡ logs_of round.sent l
+  pub pushed_all : (s d : ℕ) → s < ranks round.dims → d < ranks round.dims → pushed round 0 s d ≡ items s d
+  pub all_came : (e s d : ℕ) → s < ranks round.dims → d < ranks round.dims → pulled round e d s ≡ pushed round e s d
+  pub shape : (l : ℕ) → l < links round.dims → IsConveyorShape steady round.cap (logs_of round.sent l)
+
+-- Two closed rounds tell both ways.
+pub record TellsExchange {S : Type 0} (T : Talk S) (askers : List S) (made : Made) (steady : Bool) (queries replies : Round) : Type 0 where
+  pub asking : TellsWay made steady (queries_by T askers) queries
+  pub replying : TellsWay made steady (replies_by T askers) replies
+
+-- A rank that hasn't turned: on its ports nothing was sent or got, and nothing is unread.
+pub record IsFresh {S : Type 0} (T : Talk S) (dims : List ℕ) (steady : Bool) (r : ℕ) (n : BiState S) : Type 0 where
+  pub same_dims : n.queries.dims ≡ dims
+  pub same_rank : n.queries.rank ≡ r
+  pub same_steady : (n.queries.steady ≡ steady) × (n.replies.steady ≡ steady)
+  pub node : IsBiNode T n.asker n (λ l. []) (λ l. []) (λ l. []) (λ l. [])
+  pub unread : (l : ℕ) → ((in_of n.queries l).parcel.untaken ≡ []) × ((in_of n.replies l).parcel.untaken ≡ [])
+
+-- Ranks that haven't turned, one for each asker, in order.
+abbrev pub askers_of : {S : Type 0} → List (BiState S) → List S
+askers_of ns = map (λ n. n.asker) ns
+
+pub record AreFresh {S : Type 0} (T : Talk S) (dims : List ℕ) (steady : Bool) (askers : List S) (ns : List (BiState S)) : Type 0 where
+  pub same : askers_of ns ≡ askers
+  pub each : (r : ℕ) (n : BiState S) → slice_get ns r ≡ Some n → IsFresh T dims steady r n

@@ -1,0 +1,47 @@
+//! The ranks of an exchange, as it begins and ends.
+
+ghost use Rattle.std.specs.Prelude.{◌≡◌, ℕ, ◌<◌, ◌≤◌, length, IfOk};
+ghost use Rattle.route_tensor.specs.Grid.{ranks};
+ghost use Rattle.biconvey.specs.Drives.{AreAskers, AreFresh, askers_of};
+
+use crate::bi_node::BiNode;
+use bale_types::NoMemory;
+use round_program::{Asker, Progs};
+use route_tensor::Grid;
+use std::alloc::Global;
+
+/// A rank for each asker, that hasn't turned.
+pub(crate) fn nodes_of<const CAP: usize, const HOPS: usize, A: Asker>(
+    alloc: Global,
+    grid: &Grid,
+    steady: bool,
+    askers: Progs<A>,
+) -> Result<Vec<BiNode<A, CAP, HOPS>>, NoMemory>
+    requires some { 0 < CAP }
+    requires small { CAP ≤ 1024 }
+    requires hops { length grid.now ≡ HOPS }
+    requires askers { AreAskers A.talk (ranks grid.now) askers }
+    ensures { IfOk result (λ all. AreFresh A.talk grid.now steady askers all.items) }
+{
+    let mut askers = askers;
+    let mut all = Vec::new(alloc);
+    while let Some(asker) = askers.take_first() {
+        let node = BiNode::new(alloc, grid, asker, steady)?;
+        all.push(node)?;
+    }
+    Ok(all)
+}
+
+/// The askers of the ranks, in order.
+pub(crate) fn take_askers<const CAP: usize, const HOPS: usize, A: Asker>(
+    alloc: Global,
+    all: Vec<BiNode<A, CAP, HOPS>>,
+) -> Result<Progs<A>, NoMemory>
+    ensures { IfOk result (λ askers. askers ≡ askers_of all.items) }
+{
+    let mut askers = Progs::new(alloc);
+    for node in all {
+        askers.add(node.into_asker())?;
+    }
+    Ok(askers)
+}

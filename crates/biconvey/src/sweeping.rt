@@ -1,0 +1,91 @@
+//! Turns the ranks over two plain banks.
+//!
+//! In a sweep some parcel is posted or collected on one of the ways, or some entry is taken from an inbox; or else both ways are
+//! complete for every rank. Each of these happens only so often, which bounds the number of sweeps.
+
+ghost use Rattle.std.specs.Prelude.{◌≡◌, ◌≢◌, ℕ, ◌+◌, ◌<◌, ◌≤◌, Bool, List, length, slice_get, Some, IfOk};
+ghost use Rattle.route_tensor.specs.Grid.{ranks};
+ghost use Rattle.rank_group.specs.Ranks.{IsOrder};
+ghost use Rattle.biconvey.specs.States.{BiState};
+ghost use Rattle.biconvey.specs.Ranks.{HasRank};
+ghost use Rattle.biconvey.specs.Worlds.{AreBanks, AfterRank, World, SweptTo, sides_of};
+
+use crate::bi_node::BiNode;
+use bale_types::NoMemory;
+use port_bank::PlainBank;
+use rank_node::Steps;
+use round_program::Asker;
+use std::sync::ledger::Ledger;
+
+/// The banks of both ways.
+#[derive(Drop)]
+pub(crate) struct Banks<const CAP: usize> {
+    pub(crate) queries: PlainBank<CAP>,
+    pub(crate) replies: PlainBank<CAP>,
+}
+
+/// Turns a rank over its ports.
+fn turn_node<const CAP: usize, const HOPS: usize, A: Asker, L: Ledger>(
+    banks: Banks<CAP>,
+    node: &mut BiNode<A, CAP, HOPS>,
+    number: u32,
+    steps: &mut Steps<L>,
+) -> Result<Banks<CAP>, NoMemory>
+    requires number { number < ranks banks.queries.dims }
+    requires banks { AreBanks CAP banks.queries.dims banks.queries.slots banks.queries banks.replies }
+    requires rank { (start : A) × HasRank A.talk banks.queries.dims number start node.old (sides_of banks.queries banks.replies) }
+    ensures banks { IfOk result (λ b. AreBanks CAP banks.entry.queries.dims banks.entry.queries.slots b.queries b.replies) }
+    ensures steps { steps.new ≡ steps.old + 1 }
+    ensures turned { IfOk result (λ b. AfterRank A.talk banks.entry.queries.dims CAP banks.entry.queries.slots number node.old node.new (sides_of banks.entry.queries banks.entry.replies) (sides_of b.queries b.replies)) }
+{
+    let Banks { queries, replies } = banks;
+    let mut asking = queries.port(number);
+    let mut replying = replies.port(number);
+    let _turn = node.turn(&mut asking, &mut replying, steps)?;
+    Ok(Banks {
+        queries: asking.into_bank(),
+        replies: replying.into_bank(),
+    })
+}
+
+/// Turns the rank with a number.
+fn turn_one<const CAP: usize, const HOPS: usize, A: Asker, L: Ledger>(
+    banks: Banks<CAP>,
+    all: &mut Vec<BiNode<A, CAP, HOPS>>,
+    number: u32,
+    steps: &mut Steps<L>,
+) -> Result<Banks<CAP>, NoMemory>
+    requires number { number < ranks banks.queries.dims }
+    requires banks { AreBanks CAP banks.queries.dims banks.queries.slots banks.queries banks.replies }
+    requires world { (steady : Bool) × (starts : ℕ → A) × World A.talk banks.queries.dims CAP banks.queries.slots steady starts all.old.items (sides_of banks.queries banks.replies) }
+    ensures size { length all.new.items ≡ length all.old.items }
+    ensures others { (k : ℕ) → k ≢ number → slice_get all.new.items k ≡ slice_get all.old.items k }
+    ensures banks { IfOk result (λ b. AreBanks CAP banks.entry.queries.dims banks.entry.queries.slots b.queries b.replies) }
+    ensures steps { steps.new ≡ steps.old + 1 }
+    ensures turned { (n n' : BiState A) → slice_get all.old.items number ≡ Some n → slice_get all.new.items number ≡ Some n'
+        → IfOk result (λ b. AfterRank A.talk banks.entry.queries.dims CAP banks.entry.queries.slots number n n' (sides_of banks.entry.queries banks.entry.replies) (sides_of b.queries b.replies)) }
+{
+    turn_node(banks, &mut all[number as usize], number, steps)
+}
+
+/// Turns each rank once, in the order given.
+pub(crate) fn sweep<const CAP: usize, const HOPS: usize, A: Asker, L: Ledger>(
+    banks: Banks<CAP>,
+    all: &mut Vec<BiNode<A, CAP, HOPS>>,
+    order: &[u32],
+    steps: &mut Steps<L>,
+) -> Result<Banks<CAP>, NoMemory>
+    requires order { IsOrder (ranks banks.queries.dims) order.now }
+    requires banks { AreBanks CAP banks.queries.dims banks.queries.slots banks.queries banks.replies }
+    requires world { (steady : Bool) × (starts : ℕ → A) × World A.talk banks.queries.dims CAP banks.queries.slots steady starts all.old.items (sides_of banks.queries banks.replies) }
+    ensures banks { IfOk result (λ b. AreBanks CAP banks.entry.queries.dims banks.entry.queries.slots b.queries b.replies) }
+    ensures most_steps { steps.new ≤ steps.old + length order.now }
+    ensures swept { (steady : Bool) (starts : ℕ → A) → World A.talk banks.entry.queries.dims CAP banks.entry.queries.slots steady starts all.old.items (sides_of banks.entry.queries banks.entry.replies)
+        → IfOk result (λ b. SweptTo A.talk banks.entry.queries.dims CAP banks.entry.queries.slots steady starts order.now (length order.now) all.old.items (sides_of banks.entry.queries banks.entry.replies) all.new.items (sides_of b.queries b.replies)) }
+{
+    let mut banks = banks;
+    for i in 0..order.len() {
+        banks = turn_one(banks, all, order[i], steps)?;
+    }
+    Ok(banks)
+}

@@ -9,6 +9,10 @@ use std::marker::Model;
 /// How many bytes a line may have: enough for three numbers of 64 bits, each with a short word.
 pub const LINE_ROOM: usize = 80;
 
+/// The two digits of each number below 100: a look costs less than two divisions.
+static PAIRS: [u8; 200] =
+    *b"00010203040506070809101112131415161718192021222324252627282930313233343536373839404142434445464748495051525354555657585960616263646566676869707172737475767778798081828384858687888990919293949596979899";
+
 /// A line of up to `LINE_ROOM` bytes.
 #[derive(Drop)]
 pub struct Line {
@@ -197,8 +201,10 @@ fn pair(room: &mut [u8; LINE_ROOM], at: usize, n: u32)
     requires few { n < 100 }
     ensures bytes { take (at + 2) room.new ≡ take at room.old ++ (48 + n / 10) ∷ (48 + n % 10) ∷ [] }
 {
-    digit(room, at, n / 10);
-    digit(room, at + 1, n % 10);
+    let from = n as usize * 2;
+    let (tens, ones) = (PAIRS[from], PAIRS[from + 1]);
+    put(room, at, tens);
+    put(room, at + 1, ones);
 }
 
 /// Writes a digit behind the first `at` bytes.
@@ -208,5 +214,14 @@ fn digit(room: &mut [u8; LINE_ROOM], at: usize, n: u32)
     requires few { n < 10 }
     ensures bytes { take (at + 1) room.new ≡ take at room.old ++ (48 + n) ∷ [] }
 {
-    room[at] = b'0' + n as u8;
+    put(room, at, b'0' + n as u8);
+}
+
+/// Writes a byte behind the first `at` bytes.
+#[inline(always)]
+fn put(room: &mut [u8; LINE_ROOM], at: usize, b: u8)
+    requires { at + 1 ≤ LINE_ROOM }
+    ensures { take (at + 1) room.new ≡ take at room.old ++ b ∷ [] }
+{
+    room[at] = b;
 }

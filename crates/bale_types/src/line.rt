@@ -51,8 +51,9 @@ impl Line {
         ensures bytes { self.new ≡ self.old ++ b ∷ [] }
         ensures len { length self.new ≡ length self.old + 1 }
     {
-        self.room[self.len] = b;
-        self.len += 1;
+        let at = self.len;
+        self.room[at] = b;
+        self.len = at + 1;
     }
 
     /// Appends bytes, for which there must be room.
@@ -154,10 +155,10 @@ fn five_digits(room: &mut [u8; LINE_ROOM], at: usize, n: u32) -> usize
     if n < 10_000 {
         return four_digits(room, at, n);
     }
-    let hundreds = n / 100;
-    digit(room, at, hundreds / 100);
-    pair(room, at + 1, hundreds % 100);
-    pair(room, at + 3, n % 100);
+    let rest = n % 10_000;
+    digit(room, at, n / 10_000);
+    pair(room, at + 1, rest / 100);
+    pair(room, at + 3, rest % 100);
     at + 5
 }
 

@@ -1,4 +1,4 @@
-use Rattle.std.proofs.Common.{◌≡◌, ◌+◌, ◌*◌, ◌/◌, ◌%◌, ◌++◌, ◌∷◌, [], take, get_or, arith, ap, append_assoc, ◌∙◌}
+use Rattle.std.proofs.Common.{◌+◌, ◌*◌, ◌/◌, ◌++◌, ◌∷◌, [], take, get_or, arith, ap, append_assoc, ◌∙◌}
 use Rattle.bale_types.specs.declared.line.TheConstants.{PAIRS}
 use Rattle.bale_types.proofs.Pairs.{pairs_at}
 use Rattle.bale_types.proofs.line.pair.Goals as goal

@@ -9,6 +9,9 @@ use std::marker::Model;
 /// How many bytes a line may have: enough for three numbers of 64 bits, each with a short word.
 pub const LINE_ROOM: usize = 80;
 
+/// How many bytes most lines have at most.
+const SHORT: usize = 32;
+
 /// The two digits of each number below 100: a look costs less than two divisions.
 static PAIRS: [u8; 200] =
     *b"00010203040506070809101112131415161718192021222324252627282930313233343536373839404142434445464748495051525354555657585960616263646566676869707172737475767778798081828384858687888990919293949596979899";
@@ -133,13 +136,18 @@ impl Line {
         self.len
     }
 
-    /// Copies the whole room to an index of a buffer, whatever the line's length, so that the copy has a fixed size.
+    /// Copies the room, or the front of it where the line is short, to an index of a buffer, so that the copy has one of two
+    /// fixed sizes.
     #[inline(always)]
     pub(crate) fn lay(&self, buffer: &mut [u8], at: usize)
         requires { at + LINE_ROOM ≤ length buffer.old }
         ensures bytes { take (at + length self.now) buffer.new ≡ take at buffer.old ++ self.now }
         ensures len { length buffer.new ≡ length buffer.old }
     {
+        if self.len <= SHORT {
+            buffer[at..at + SHORT].copy_from_slice(&self.room[..SHORT]);
+            return;
+        }
         buffer[at..at + LINE_ROOM].copy_from_slice(&self.room);
     }
 }

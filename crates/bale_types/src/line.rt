@@ -9,6 +9,13 @@ use std::marker::Model;
 /// How many bytes a line may have: enough for three numbers of 64 bits, each with a short word.
 pub const LINE_ROOM: usize = 80;
 
+/// How many bytes most lines have at most.
+const SHORT: usize = 32;
+
+/// The two digits of each number below 100: a look costs less than two divisions.
+static PAIRS: [u8; 200] =
+    *b"00010203040506070809101112131415161718192021222324252627282930313233343536373839404142434445464748495051525354555657585960616263646566676869707172737475767778798081828384858687888990919293949596979899";
+
 /// A line of up to `LINE_ROOM` bytes.
 #[derive(Drop)]
 pub struct Line {
@@ -47,8 +54,9 @@ impl Line {
         ensures bytes { self.new ≡ self.old ++ b ∷ [] }
         ensures len { length self.new ≡ length self.old + 1 }
     {
-        self.room[self.len] = b;
-        self.len += 1;
+        let at = self.len;
+        self.room[at] = b;
+        self.len = at + 1;
     }
 
     /// Appends bytes, for which there must be room.
@@ -128,13 +136,18 @@ impl Line {
         self.len
     }
 
-    /// Copies the whole room to an index of a buffer, whatever the line's length, so that the copy has a fixed size.
+    /// Copies the room, or the front of it where the line is short, to an index of a buffer, so that the copy has one of two
+    /// fixed sizes.
     #[inline(always)]
     pub(crate) fn lay(&self, buffer: &mut [u8], at: usize)
         requires { at + LINE_ROOM ≤ length buffer.old }
         ensures bytes { take (at + length self.now) buffer.new ≡ take at buffer.old ++ self.now }
         ensures len { length buffer.new ≡ length buffer.old }
     {
+        if self.len <= SHORT {
+            buffer[at..at + SHORT].copy_from_slice(&self.room[..SHORT]);
+            return;
+        }
         buffer[at..at + LINE_ROOM].copy_from_slice(&self.room);
     }
 }
@@ -150,10 +163,10 @@ fn five_digits(room: &mut [u8; LINE_ROOM], at: usize, n: u32) -> usize
     if n < 10_000 {
         return four_digits(room, at, n);
     }
-    let hundreds = n / 100;
-    digit(room, at, hundreds / 100);
-    pair(room, at + 1, hundreds % 100);
-    pair(room, at + 3, n % 100);
+    let rest = n % 10_000;
+    digit(room, at, n / 10_000);
+    pair(room, at + 1, rest / 100);
+    pair(room, at + 3, rest % 100);
     at + 5
 }
 
@@ -197,8 +210,10 @@ fn pair(room: &mut [u8; LINE_ROOM], at: usize, n: u32)
     requires few { n < 100 }
     ensures bytes { take (at + 2) room.new ≡ take at room.old ++ (48 + n / 10) ∷ (48 + n % 10) ∷ [] }
 {
-    digit(room, at, n / 10);
-    digit(room, at + 1, n % 10);
+    let from = n as usize * 2;
+    let (tens, ones) = (PAIRS[from], PAIRS[from + 1]);
+    put(room, at, tens);
+    put(room, at + 1, ones);
 }
 
 /// Writes a digit behind the first `at` bytes.
@@ -208,5 +223,14 @@ fn digit(room: &mut [u8; LINE_ROOM], at: usize, n: u32)
     requires few { n < 10 }
     ensures bytes { take (at + 1) room.new ≡ take at room.old ++ (48 + n) ∷ [] }
 {
-    room[at] = b'0' + n as u8;
+    put(room, at, b'0' + n as u8);
+}
+
+/// Writes a byte behind the first `at` bytes.
+#[inline(always)]
+fn put(room: &mut [u8; LINE_ROOM], at: usize, b: u8)
+    requires { at + 1 ≤ LINE_ROOM }
+    ensures { take (at + 1) room.new ≡ take at room.old ++ b ∷ [] }
+{
+    room[at] = b;
 }

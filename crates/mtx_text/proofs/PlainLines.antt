@@ -1,5 +1,5 @@
 -- A plain line, word by word: digits and a space in front of a line's rest, and a last word with LF behind it.
-use Rattle.std.proofs.Common.{◌≡◌, ◌≢◌, ℕ, zero, suc, ◌+◌, ◌-◌, ◌*◌, ◌%◌, ◌^◌, ◌<◌, ◌≤◌, nat_lt, true, false, List, [], ◌∷◌, length, get_or, take, drop, min, map, refl, sym, ◌∙◌, ap, subst, add-one, ne_eqb, length-take-le, arith}
+use Rattle.std.proofs.Common.{◌≡◌, ◌≢◌, ℕ, zero, suc, ◌+◌, ◌-◌, ◌*◌, ◌%◌, ◌^◌, ◌<◌, ◌≤◌, nat_lt, true, false, List, [], ◌∷◌, length, get_or, take, drop, map, refl, sym, ◌∙◌, ap, subst, add-one, ne_eqb, length-take-le, arith}
 use native.Mathlib.Numerals.{unary_clauses}
 use Rattle.std.proofs.Math.Nat.{pow-le-pow_right}
 use Rattle.std.proofs.lemmas.Bool.{and_parts, leb-true, le-leb, lt-ltb}
@@ -14,79 +14,93 @@ use Rattle.mtx_text.specs.Lines.{pieces, without_cr, lines_of, lines_from, words
 use Rattle.mtx_text.specs.Integers.{integer_of}
 use Rattle.mtx_text.specs.Grammar.{fields_of}
 use Rattle.mtx_text.specs.Capped.{capped, read_three}
-use Rattle.mtx_text.specs.PlainLines.{LineAt, DigitsTo, LastAt, NumberTo}
+use Rattle.mtx_text.specs.PlainLines.{LineAt, DigitsTo, DigitsEnd, LastAt, NumberTo}
 use Rattle.mtx_text.proofs.Digits.{digits_step, all_step}
 use Rattle.mtx_text.proofs.Numbered.{digit_low, digit_plain, number_is}
 
 -- ---- lines
 
-abbrev first_len : List (List ℕ) → ℕ
-first_len [] = 0
-first_len (p ∷ ps) = length p
+cr_onto : (b : ℕ) (piece : List ℕ) → b ≢ 13 → without_cr (b ∷ piece) ≡ b ∷ without_cr piece
+cr_onto b [] own = rw (ne_eqb b 13 own) refl
+cr_onto b (c ∷ cs) own = refl
 
-onto : (b : ℕ) (ps : List (List ℕ)) (l : List ℕ) (ls : List (List ℕ)) → 0 < length l → map without_cr ps ≡ l ∷ ls
+onto : (b : ℕ) (ps : List (List ℕ)) (l : List ℕ) (ls : List (List ℕ)) → b ≢ 13 → map without_cr ps ≡ l ∷ ls
     → map without_cr (onto_first b ps) ≡ (b ∷ l) ∷ ls
-onto b [] l ls full e =
-    let none : 0 ≡ length l = ap first_len e in
-    absurd (omega (arith, none, full))
-onto b ([] ∷ ps) l ls full e =
-    let none : 0 ≡ length l = ap first_len e in
-    absurd (omega (arith, none, full))
-onto b ((c ∷ cs) ∷ ps) l ls full e = ap (onto_first b) e
+onto b [] l ls own e =
+    let none : 0 ≡ suc (length ls) = ap length e in
+    absurd (omega (arith, none))
+onto b (p ∷ ps) l ls own e = ap (λ x. x ∷ map without_cr ps) (cr_onto b p own) ∙ ap (onto_first b) e
 
 -- one more byte in front of a line
-line_onto : (b : ℕ) (bs : List ℕ) (len : ℕ) → b ≢ 10 → LineAt bs len → LineAt (b ∷ bs) (suc len)
-line_onto b bs len other at =
-    let long : 0 < length (take len bs) = omega (arith, at.full, length-take-le len bs (omega (arith, at.within))) in
+line_onto : (b : ℕ) (bs : List ℕ) (len next : ℕ) → b ≢ 10 → b ≢ 13 → LineAt bs len next → LineAt (b ∷ bs) (suc len) (suc next)
+line_onto b bs len next other own at =
     record {
-      full = omega arith;
       within = omega (arith, at.within);
-      lines = rw (ne_eqb b 10 other) (onto b (pieces bs) (take len bs) (lines_of (drop 1 (drop len bs))) long at.lines);
+      room = omega (arith, at.room);
+      lines = rw (ne_eqb b 10 other) (onto b (pieces bs) (take len bs) (lines_of (drop next bs)) own at.lines);
     }
 
-line_of_one : (b : ℕ) (bs : List ℕ) → b ≢ 10 → b ≢ 13 → LineAt (b ∷ 10 ∷ bs) 1
-line_of_one b bs other own =
-    record {
-      full = omega arith;
-      within = omega arith;
-      lines = rw (ne_eqb b 10 other, ne_eqb b 13 own) refl;
-    }
+-- behind its bytes a line ends with LF, or with CR and LF
+pub ends_in_lf : (text : List ℕ) (len : ℕ) → len < length text → get_or text len 0 ≡ 10 → LineAt (drop len text) 0 1
+ends_in_lf [] len within lf = absurd (omega arith)
+ends_in_lf (b ∷ bs) zero within lf =
+    subst (λ (x : ℕ). LineAt (x ∷ bs) 0 1) (sym lf) (record { within = omega arith; room = omega arith; lines = refl })
+ends_in_lf (b ∷ bs) (suc len) within lf = ends_in_lf bs len (omega arith) lf
 
-digits_line : (text : List ℕ) (len : ℕ) → 0 < len → len < length text → list_all is_ascii_digit (take len text) ≡ true
-    → get_or text len 0 ≡ 10 → LineAt text len
-digits_line [] len full within all ends = absurd (omega arith)
-digits_line (b ∷ bs) zero full within all ends = absurd (omega arith)
-digits_line (b ∷ []) (suc len) full within all ends = absurd (omega arith)
-digits_line (b ∷ c ∷ bs) (suc zero) full within all ends =
-    let parts = and_parts (is_ascii_digit b) (list_all is_ascii_digit []) all in
+cr_lf : (text : List ℕ) (len : ℕ) → suc len < length text → get_or text len 0 ≡ 13 → get_or text (suc len) 0 ≡ 10 → LineAt (drop len text) 0 2
+cr_lf [] len within cr lf = absurd (omega arith)
+cr_lf (b ∷ []) len within cr lf = absurd (omega arith)
+cr_lf (b ∷ c ∷ bs) zero within cr lf =
+    subst (λ (x : ℕ). LineAt (x ∷ c ∷ bs) 0 2) (sym cr)
+    (subst (λ (x : ℕ). LineAt (13 ∷ x ∷ bs) 0 2) (sym lf) (record { within = omega arith; room = omega arith; lines = refl }))
+cr_lf (b ∷ c ∷ bs) (suc len) within cr lf = cr_lf (c ∷ bs) len (omega arith) cr lf
+
+pub ends_in_cr_lf : (text : List ℕ) (len : ℕ) → len + 1 < length text → get_or text len 0 ≡ 13 → get_or text (len + 1) 0 ≡ 10 → LineAt (drop len text) 0 2
+ends_in_cr_lf text len within cr lf = cr_lf text len (omega arith) cr (ap (λ (k : ℕ). get_or text k 0) (sym (add-one len)) ∙ lf)
+
+-- digits in front of a line's end
+digits_onto : (text : List ℕ) (len end next : ℕ) → next ≡ len + end → len ≤ length text → list_all is_ascii_digit (take len text) ≡ true
+    → LineAt (drop len text) 0 end → LineAt text len next
+digits_onto [] zero end next sum within all at = subst (LineAt [] 0) (omega arith) at
+digits_onto [] (suc len) end next sum within all at = absurd (omega arith)
+digits_onto (b ∷ bs) zero end next sum within all at = subst (LineAt (b ∷ bs) 0) (omega arith) at
+digits_onto (b ∷ bs) (suc len) end zero sum within all at = absurd (omega arith)
+digits_onto (b ∷ bs) (suc len) end (suc next) sum within all at =
+    let parts = and_parts (is_ascii_digit b) (list_all is_ascii_digit (take len bs)) all in
     let low = digit_low b parts.0 in
-    subst (λ (x : ℕ). LineAt (b ∷ x ∷ bs) 1) (sym ends) (line_of_one b bs (λ e. absurd (omega (arith, low, e))) (λ e. absurd (omega (arith, low, e))))
-digits_line (b ∷ c ∷ bs) (suc (suc len)) full within all ends =
-    let parts = and_parts (is_ascii_digit b) (list_all is_ascii_digit (take (suc len) (c ∷ bs))) all in
-    let low = digit_low b parts.0 in
-    line_onto b (c ∷ bs) (suc len) (λ e. absurd (omega (arith, low, e))) (digits_line (c ∷ bs) (suc len) (omega arith) (omega arith) parts.1 ends)
+    line_onto b bs len next (λ e. absurd (omega (arith, low, e))) (λ e. absurd (omega (arith, low, e)))
+    (digits_onto bs len end next (omega arith) (omega arith) parts.1 at)
 
-minus_line : (text : List ℕ) (len : ℕ) → 0 < length text → get_or text 0 0 ≡ 45 → LineAt (drop 1 text) len → LineAt text (suc len)
-minus_line [] len full sign at = absurd (omega arith)
-minus_line (b ∷ bs) len full sign at = line_onto b bs len (λ e. absurd (omega (arith, sign, e))) at
+pub digits_line : (text : List ℕ) (len end : ℕ) → len ≤ length text → list_all is_ascii_digit (take len text) ≡ true
+    → LineAt (drop len text) 0 end → LineAt text len (len + end)
+digits_line text len end within all at = digits_onto text len end (len + end) refl within all at
 
-onward : (text : List ℕ) (a n m : ℕ) → m ≡ a + 1 + n → a < length text → list_all is_ascii_digit (take a text) ≡ true
-    → get_or text a 0 ≡ 32 → LineAt (drop (suc a) text) n → LineAt text m
-onward [] a n m sum within all ends at = absurd (omega arith)
-onward (b ∷ bs) a n zero sum within all ends at = absurd (omega arith)
-onward (b ∷ bs) zero n (suc m) sum within all ends at =
+minus_line : (text : List ℕ) (len next : ℕ) → 0 < length text → get_or text 0 0 ≡ 45 → LineAt (drop 1 text) len next → LineAt text (suc len) (suc next)
+minus_line [] len next full sign at = absurd (omega arith)
+minus_line (b ∷ bs) len next full sign at = line_onto b bs len next (λ e. absurd (omega (arith, sign, e))) (λ e. absurd (omega (arith, sign, e))) at
+
+onward : (text : List ℕ) (a n next m to : ℕ) → m ≡ a + 1 + n → to ≡ a + 1 + next → a < length text → list_all is_ascii_digit (take a text) ≡ true
+    → get_or text a 0 ≡ 32 → LineAt (drop (suc a) text) n next → LineAt text m to
+onward [] a n next m to sum sums within all ends at = absurd (omega arith)
+onward (b ∷ bs) a n next zero to sum sums within all ends at = absurd (omega arith)
+onward (b ∷ bs) a n next (suc m) zero sum sums within all ends at = absurd (omega arith)
+onward (b ∷ bs) zero n next (suc m) (suc to) sum sums within all ends at =
     let same : m ≡ n = omega arith in
-    line_onto b bs m (λ e. absurd (omega (arith, ends, e))) (subst (LineAt bs) (sym same) at)
-onward (b ∷ bs) (suc a) n (suc m) sum within all ends at =
+    let same_next : to ≡ next = omega arith in
+    line_onto b bs m to (λ e. absurd (omega (arith, ends, e))) (λ e. absurd (omega (arith, ends, e)))
+    (subst (LineAt bs m) (sym same_next) (subst (λ (k : ℕ). LineAt bs k next) (sym same) at))
+onward (b ∷ bs) (suc a) n next (suc m) (suc to) sum sums within all ends at =
     let parts = and_parts (is_ascii_digit b) (list_all is_ascii_digit (take a bs)) all in
     let low = digit_low b parts.0 in
-    line_onto b bs m (λ e. absurd (omega (arith, low, e))) (onward bs a n m (omega arith) (omega arith) parts.1 ends at)
+    line_onto b bs m to (λ e. absurd (omega (arith, low, e))) (λ e. absurd (omega (arith, low, e)))
+    (onward bs a n next m to (omega arith) (omega arith) (omega arith) parts.1 ends at)
 
 -- a line that digits and a space are put in front of
-pub line_on : (text rest : List ℕ) (a n size : ℕ) → LineAt rest n → rest ≡ drop (a + 1) text → DigitsTo 32 text a size → LineAt text (a + 1 + n)
-line_on text rest a n size at is d =
+pub line_on : (text rest : List ℕ) (a n next size : ℕ) → LineAt rest n next → rest ≡ drop (a + 1) text → DigitsTo 32 text a size
+    → LineAt text (a + 1 + n) (a + 1 + next)
+line_on text rest a n next size at is d =
     let here : rest ≡ drop (suc a) text = is ∙ ap (λ (k : ℕ). drop k text) (add-one a) in
-    onward text a n (a + 1 + n) refl d.within d.digits d.ends (subst (λ (l : List ℕ). LineAt l n) here at)
+    onward text a n next (a + 1 + n) (a + 1 + next) refl refl d.within d.digits d.ends (subst (λ (l : List ℕ). LineAt l n next) here at)
 
 -- ---- words
 
@@ -139,23 +153,13 @@ row_counts text rest a n size is d =
 
 -- ---- a line that counts, at the front of a text
 
-drop_once : (xs : List ℕ) (n : ℕ) → drop 1 (drop n xs) ≡ drop (suc n) xs
-drop_once [] zero = refl
-drop_once [] (suc n) = refl
-drop_once (x ∷ xs) zero = refl
-drop_once (x ∷ xs) (suc n) = drop_once xs n
-
-behind_at : (text rest : List ℕ) (len : ℕ) → rest ≡ drop (len + 1) text → rest ≡ drop 1 (drop len text)
-behind_at text rest len is = is ∙ ap (λ (k : ℕ). drop k text) (add-one len) ∙ sym (drop_once text len)
-
-pub kept_at : (text rest line : List ℕ) (number len : ℕ) → LineAt text len → is_skipped (words_of (take len text)) ≡ false
-    → line ≡ take len text → rest ≡ drop (len + 1) text
+pub kept_at : (text rest line : List ℕ) (number len next : ℕ) → LineAt text len next → is_skipped (words_of (take len text)) ≡ false
+    → line ≡ take len text → rest ≡ drop next text
     → lines_from number (lines_of text) ≡ record { number = number; words = words_of line } ∷ lines_from (number + 1) (lines_of rest)
-kept_at text rest line number len at counts own is =
-    rw (at.lines, counts, own, behind_at text rest len is) refl
+kept_at text rest line number len next at counts own is = rw (at.lines, counts, own, is) refl
 
-pub left_at : (text rest : List ℕ) (len : ℕ) → LineAt text len → rest ≡ drop (len + 1) text → length (lines_of text) ≡ length (lines_of rest) + 1
-left_at text rest len at is = rw (at.lines, behind_at text rest len is, add-one) refl
+pub left_at : (text rest : List ℕ) (len next : ℕ) → LineAt text len next → rest ≡ drop next text → length (lines_of text) ≡ length (lines_of rest) + 1
+left_at text rest len next at is = rw (at.lines, is, add-one) refl
 
 -- ---- numbers
 
@@ -172,32 +176,32 @@ minus_digits (b ∷ bs) full all = rw all refl
 
 -- ---- the last word
 
-pub digits_last : (text : List ℕ) (len size : ℕ) → DigitsTo 10 text len size → LastAt text len (record { minus = false; size = size })
-digits_last text len size d =
+pub digits_last : (text : List ℕ) (len next size : ℕ) → DigitsEnd text len next size → LastAt text len next (record { minus = false; size = size })
+digits_last text len next size d =
     let within : len ≤ length text = omega (arith, d.within) in
     let full : 0 < length (take len text) = omega (arith, d.full, length-take-le len text within) in
     record {
-      line = digits_line text len d.full d.within d.digits d.ends;
+      line = d.line;
       word = one_word (take len text) full d.digits;
       value = number_is text len size d.full within d.digits d.value;
     }
 
-minus_at : (text : List ℕ) (len size : ℕ) → get_or text 0 0 ≡ 45 → DigitsTo 10 (drop 1 text) len size
-    → LastAt text (suc len) (record { minus = true; size = size })
-minus_at [] len size sign d = absurd (omega (arith, d.within))
-minus_at (b ∷ bs) len size sign d =
+minus_at : (text : List ℕ) (len next size : ℕ) → get_or text 0 0 ≡ 45 → DigitsEnd (drop 1 text) len next size
+    → LastAt text (suc len) (suc next) (record { minus = true; size = size })
+minus_at [] len next size sign d = absurd (omega (arith, d.within))
+minus_at (b ∷ bs) len next size sign d =
     let within : len ≤ length bs = omega (arith, d.within) in
     let full : 0 < length (take len bs) = omega (arith, d.full, length-take-le len bs within) in
     record {
-      line = minus_line (b ∷ bs) len (omega arith) sign (digits_line bs len d.full d.within d.digits d.ends);
+      line = minus_line (b ∷ bs) len next (omega arith) sign d.line;
       word = subst (λ (x : ℕ). words_of (x ∷ take len bs) ≡ (x ∷ take len bs) ∷ []) (sym sign) (minus_word (take len bs) d.digits);
       value = rw (sign, minus_digits (take len bs) full d.digits, d.value) refl;
     }
 
-pub minus_last : (text rest : List ℕ) (len size : ℕ) → DigitsTo 10 rest len size → rest ≡ drop (0 + 1) text → get_or text 0 0 ≡ 45
-    → LastAt text (len + 1) (record { minus = true; size = size })
-minus_last text rest len size d is sign =
-    rw (add-one len) (minus_at text len size sign (subst (λ (l : List ℕ). DigitsTo 10 l len size) is d))
+pub minus_last : (text rest : List ℕ) (len next size : ℕ) → DigitsEnd rest len next size → rest ≡ drop (0 + 1) text → get_or text 0 0 ≡ 45
+    → LastAt text (len + 1) (next + 1) (record { minus = true; size = size })
+minus_last text rest len next size d is sign =
+    rw (add-one len, add-one next) (minus_at text len next size sign (subst (λ (l : List ℕ). DigitsEnd l len next size) is d))
 
 -- ---- the fields
 
@@ -205,18 +209,18 @@ number_of : (end : ℕ) (text : List ℕ) (len size : ℕ) → DigitsTo end text
     → Some (record { minus = false; size = size }) ≡ option_map capped (integer_of (take len text))
 number_of end text len size d = number_is text len size d.full (omega (arith, d.within)) d.digits d.value
 
-pub two_fields : (text rest : List ℕ) (a n size : ℕ) (v : Integer) → rest ≡ drop (a + 1) text → DigitsTo 32 text a size → LastAt rest n v
+pub two_fields : (text rest : List ℕ) (a n next size : ℕ) (v : Integer) → rest ≡ drop (a + 1) text → DigitsTo 32 text a size → LastAt rest n next v
     → Some (Some (record { minus = false; size = size }), Some v, Some (record { minus = false; size = 1 }))
     ≡ option_map read_three (fields_of kind.Pattern (words_of (take (a + 1 + n) text)))
-two_fields text rest a n size v is d last =
+two_fields text rest a n next size v is d last =
     rw (words_on text rest a n size is d, last.word, sym (number_of 32 text a size d), sym last.value) refl
 
-pub three_fields : (text rest end : List ℕ) (a b n row column : ℕ) (v : Integer) → rest ≡ drop (a + 1) text → end ≡ drop (b + 1) rest
-    → DigitsTo 32 text a row → DigitsTo 32 rest b column → LastAt end n v
+pub three_fields : (text rest end : List ℕ) (a b n next row column : ℕ) (v : Integer) → rest ≡ drop (a + 1) text → end ≡ drop (b + 1) rest
+    → DigitsTo 32 text a row → DigitsTo 32 rest b column → LastAt end n next v
     → Some (Some (record { minus = false; size = row }), Some (record { minus = false; size = column }), Some v)
     ≡ option_map read_three (fields_of kind.Integer (words_of (take (a + 1 + (b + 1 + n)) text)))
-three_fields text rest end a b n row column v is next d e last =
-    rw (words_on text rest a (b + 1 + n) row is d, words_on rest end b n column next e, last.word, sym (number_of 32 text a row d), sym (number_of 32 rest b column e), sym last.value) refl
+three_fields text rest end a b n next row column v is on d e last =
+    rw (words_on text rest a (b + 1 + n) row is d, words_on rest end b n column on e, last.word, sym (number_of 32 text a row d), sym (number_of 32 rest b column e), sym last.value) refl
 
 -- ---- the digits of a number
 

@@ -10,12 +10,12 @@ use Rattle.mtx_text.specs.Lines.{lines_of, words_of}
 use Rattle.mtx_text.specs.Integers.{integer_of}
 use Rattle.mtx_text.specs.Capped.{capped}
 
--- The text's first line is its first `len` bytes, one or more, and behind one more byte, LF, stand the others.
---   of "1 2/3/" with 3: the line "1 2", and behind it the lines of "3/"
-pub record LineAt (text : List ℕ) (len : ℕ) : Type 0 where
-  pub full : 0 < len
-  pub within : len < length text
-  pub lines : lines_of text ≡ take len text ∷ lines_of (drop 1 (drop len text))
+-- The text's first line is its first `len` bytes, and the others are those of what stands behind its first `next` bytes.
+--   of "1 2/3/" with 3 and 4, or with CR before its first LF with 3 and 5: the line "1 2", and then the lines of "3/"
+pub record LineAt (text : List ℕ) (len next : ℕ) : Type 0 where
+  pub within : len < next
+  pub room : next ≤ length text
+  pub lines : lines_of text ≡ take len text ∷ lines_of (drop next text)
 
 -- The text begins with `len` digits, one or more, whose number is `size`, and the byte `end` follows.
 --   "12 3" with 2 digits, the number 12 and a space as the end
@@ -26,10 +26,19 @@ pub record DigitsTo (end : ℕ) (text : List ℕ) (len size : ℕ) : Type 0 wher
   pub value : size ≡ min (digits_value 10 (take len text)) 1_000_000_000_000_000_000
   pub ends : get_or text len 0 ≡ end
 
--- The text's first line is one word of `len` bytes, and that is the integer `z`.
---   "-7/1 2/" with 2 bytes and the integer -7
-pub record LastAt (text : List ℕ) (len : ℕ) (z : Integer) : Type 0 where
-  pub line : LineAt text len
+-- The text's first line is `len` digits, one or more, whose number is `size`, and the next begins at the byte `next`.
+--   of "12/3/" with 2, 3 and 12
+pub record DigitsEnd (text : List ℕ) (len next size : ℕ) : Type 0 where
+  pub full : 0 < len
+  pub within : len < length text
+  pub digits : list_all is_ascii_digit (take len text) ≡ true
+  pub value : size ≡ min (digits_value 10 (take len text)) 1_000_000_000_000_000_000
+  pub line : LineAt text len next
+
+-- The text's first line is one word of `len` bytes, the integer `z`, and the next begins at the byte `next`.
+--   "-7/1 2/" with 2, 3 and the integer -7
+pub record LastAt (text : List ℕ) (len next : ℕ) (z : Integer) : Type 0 where
+  pub line : LineAt text len next
   pub word : words_of (take len text) ≡ take len text ∷ []
   pub value : Some z ≡ option_map capped (integer_of (take len text))
 

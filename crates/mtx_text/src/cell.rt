@@ -18,11 +18,12 @@ use bale_types::Triple;
 /// Absolute values at most.
 const MOST_VALUE: u64 = 1_000_000_000_000;
 
-/// What the plain line that a text begins with names, and how many bytes stand before its LF.
+/// What the plain line that a text begins with names, how many bytes it has, and where the next line begins.
 #[derive(Clone, Copy)]
 pub(crate) struct PlainCell {
     pub(crate) cell: Result<Triple, Reason>,
     pub(crate) len: usize,
+    pub(crate) next: usize,
 }
 
 /// The entry that a line names, counted from 0.
@@ -44,7 +45,7 @@ pub(crate) fn read_cell(form: Form, sizes: Sizes, line: &[u8]) -> Result<Triple,
 pub(crate) fn plain_cell(form: Form, sizes: Sizes, text: &[u8]) -> Option<PlainCell>
     requires tall { sizes.rows ≤ 16_384 }
     requires wide { sizes.cols ≤ 16_384 }
-    ensures line { IfSome result (λ p. LineAt text.now p.len) }
+    ensures line { IfSome result (λ p. LineAt text.now p.len p.next) }
     ensures counts { IfSome result (λ p. is_skipped (words_of (take p.len text.now)) ≡ false) }
     ensures value { IfSome result (λ p. p.cell ≡ cell_by integer_of form sizes (words_of (take p.len text.now))) }
     ensures row { IfSome result (λ p. IfOk p.cell (λ t. t.i < sizes.rows)) }
@@ -55,6 +56,7 @@ pub(crate) fn plain_cell(form: Form, sizes: Sizes, text: &[u8]) -> Option<PlainC
     Some(PlainCell {
         cell: cell_of(form, sizes, Some(plain.fields)),
         len: plain.len,
+        next: plain.next,
     })
 }
 

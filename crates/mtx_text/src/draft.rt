@@ -142,7 +142,7 @@ fn read_plain<'a>(
         let Ok(t) = plain.cell else {
             break;
         };
-        let kept = first_kept(rest, number, plain.len);
+        let kept = first_kept(rest, number, plain.len, plain.next);
         push(entries, sizes, form.symmetry, t)?;
         rest = kept.rest;
         number = kept.number + 1;

@@ -45,11 +45,11 @@ pub(crate) fn next_kept(text: &[u8], number: u64) -> Result<Kept<'_>, u64>
     Err(number)
 }
 
-/// The line of `len` bytes that a text begins with, where it counts.
+/// The line of `len` bytes that a text begins with, where it counts; the next line begins at the byte `next`.
 #[inline(always)]
 #[tactic(auto, using(crate::proofs::PlainLines::kept_at, crate::proofs::PlainLines::left_at))]
-pub(crate) fn first_kept(text: &[u8], number: u64, len: usize) -> Kept<'_>
-    requires line { LineAt text.now len }
+pub(crate) fn first_kept(text: &[u8], number: u64, len: usize, next: usize) -> Kept<'_>
+    requires line { LineAt text.now len next }
     requires counts { is_skipped (words_of (take len text.now)) ≡ false }
     ensures line { result.line.now ≡ take len text.now }
     ensures kept { lines_from number (lines_of text.now)
@@ -61,7 +61,7 @@ pub(crate) fn first_kept(text: &[u8], number: u64, len: usize) -> Kept<'_>
     Kept {
         number,
         line: &text[..len],
-        rest: behind(len, text),
+        rest: &text[next..],
     }
 }
 

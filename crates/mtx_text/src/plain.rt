@@ -1,5 +1,5 @@
-//! Plain entry lines, read in one pass: numbers of few digits, one space between two of them, and LF at once
-//! behind the last. Most texts have no other lines; whatever isn't of this form is read the general way.
+//! Plain entry lines, read in one pass: numbers of few digits, one space between two of them, and LF, or CR and LF,
+//! at once behind the last. Most texts have no other lines; whatever isn't of this form is read the general way.
 ghost use Rattle.std.specs.Prelude.{◌≡◌, ◌<◌, ◌≤◌, true, false, Some, ◌+◌, length, take, drop, min, IfSome, IfOk, IfErr};
 ghost use Rattle.std.specs.List.{list_all};
 ghost use Rattle.std.specs.Option.{option_map};
@@ -8,7 +8,7 @@ ghost use Rattle.std.specs.Str.Parse.{digits_value};
 ghost use Rattle.mtx_text.specs.Lines.{words_of, is_skipped};
 ghost use Rattle.mtx_text.specs.Grammar.{fields_of};
 ghost use Rattle.mtx_text.specs.Capped.{read_three};
-ghost use Rattle.mtx_text.specs.PlainLines.{LineAt, DigitsTo, LastAt, IsRead};
+ghost use Rattle.mtx_text.specs.PlainLines.{LineAt, DigitsTo, DigitsEnd, LastAt, IsRead};
 
 use crate::integer::Integer;
 use crate::kind::Kind;
@@ -25,24 +25,34 @@ struct Digits {
     len: usize,
 }
 
-/// The last word of a line: its integer, and how many bytes stand before the LF.
+/// The digits that a line ends with: their number, how many they are, and where the next line begins.
+#[derive(Clone, Copy)]
+struct Ending {
+    size: u64,
+    len: usize,
+    next: usize,
+}
+
+/// The last word of a line: its integer, how many bytes it has, and where the next line begins.
 #[derive(Clone, Copy)]
 struct Last {
     value: Integer,
     len: usize,
+    next: usize,
 }
 
-/// The fields of a plain line, and how many bytes stand before its LF.
+/// The fields of a plain line, how many bytes it has, and where the next line begins.
 #[derive(Clone, Copy)]
 pub(crate) struct Plain {
     pub(crate) fields: Fields,
     pub(crate) len: usize,
+    pub(crate) next: usize,
 }
 
 /// The fields of the line that a text begins with, where it is plain.
 #[inline(always)]
 pub(crate) fn plain_line(kind: Kind, text: &[u8]) -> Option<Plain>
-    ensures line { IfSome result (λ p. LineAt text.now p.len) }
+    ensures line { IfSome result (λ p. LineAt text.now p.len p.next) }
     ensures counts { IfSome result (λ p. is_skipped (words_of (take p.len text.now)) ≡ false) }
     ensures fields { IfSome result (λ p. Some (p.fields.row, p.fields.column, p.fields.value)
         ≡ option_map read_three (fields_of kind (words_of (take p.len text.now)))) }
@@ -56,7 +66,7 @@ pub(crate) fn plain_line(kind: Kind, text: &[u8]) -> Option<Plain>
 /// A plain line of row, column and value.
 #[inline(always)]
 fn plain_three(text: &[u8]) -> Option<Plain>
-    ensures line { IfSome result (λ p. LineAt text.now p.len) }
+    ensures line { IfSome result (λ p. LineAt text.now p.len p.next) }
     ensures counts { IfSome result (λ p. is_skipped (words_of (take p.len text.now)) ≡ false) }
     ensures fields { IfSome result (λ p. Some (p.fields.row, p.fields.column, p.fields.value)
         ≡ option_map read_three (fields_of Kind.Integer (words_of (take p.len text.now)))) }
@@ -72,13 +82,14 @@ fn plain_three(text: &[u8]) -> Option<Plain>
             value: Some(last.value),
         },
         len: row.len + 1 + (column.len + 1 + last.len),
+        next: row.len + 1 + (column.len + 1 + last.next),
     })
 }
 
 /// A plain line of row and column, whose value is 1.
 #[inline(always)]
 fn plain_two(text: &[u8]) -> Option<Plain>
-    ensures line { IfSome result (λ p. LineAt text.now p.len) }
+    ensures line { IfSome result (λ p. LineAt text.now p.len p.next) }
     ensures counts { IfSome result (λ p. is_skipped (words_of (take p.len text.now)) ≡ false) }
     ensures fields { IfSome result (λ p. Some (p.fields.row, p.fields.column, p.fields.value)
         ≡ option_map read_three (fields_of Kind.Pattern (words_of (take p.len text.now)))) }
@@ -92,6 +103,7 @@ fn plain_two(text: &[u8]) -> Option<Plain>
             value: Some(natural(1)),
         },
         len: row.len + 1 + last.len,
+        next: row.len + 1 + last.next,
     })
 }
 
@@ -102,27 +114,62 @@ fn natural(size: u64) -> Integer
     Integer { minus: false, size }
 }
 
-/// The word that a text begins with, where it is few digits behind a minus or no sign, and LF follows.
+/// The word that a text begins with, where it is few digits behind a minus or no sign, and the line ends with it.
 #[inline(always)]
 #[tactic(auto, using(crate::proofs::PlainLines::digits_last))]
 fn last_word(text: &[u8]) -> Option<Last>
-    ensures { IfSome result (λ last. LastAt text.now last.len last.value) }
+    ensures { IfSome result (λ last. LastAt text.now last.len last.next last.value) }
 {
     if text.is_empty() || text[0] != b'-' {
-        let digits = digits_to(b'\n', text)?;
+        let digits = last_digits(text)?;
         return Some(Last {
             value: natural(digits.size),
             len: digits.len,
+            next: digits.next,
         });
     }
-    let digits = digits_to(b'\n', behind(0, text))?;
+    let digits = last_digits(behind(0, text))?;
     Some(Last {
         value: Integer {
             minus: true,
             size: digits.size,
         },
         len: digits.len + 1,
+        next: digits.next + 1,
     })
+}
+
+/// The digits that a text begins with, where they are at most `MOST_DIGITS` and the line ends with them.
+#[inline(always)]
+fn last_digits(text: &[u8]) -> Option<Ending>
+    ensures { IfSome result (λ e. DigitsEnd text.now e.len e.next e.size) }
+{
+    let digits = leading(text)?;
+    if digits.len == 0 || digits.len > MOST_DIGITS {
+        return None;
+    }
+    let end = line_end(text, digits.len)?;
+    Some(Ending {
+        size: digits.size,
+        len: digits.len,
+        next: digits.len + end,
+    })
+}
+
+/// How many bytes end the line behind its first `len` bytes: one LF, or CR and LF.
+#[inline(always)]
+#[tactic(auto, using(crate::proofs::PlainLines::ends_in_lf, crate::proofs::PlainLines::ends_in_cr_lf))]
+fn line_end(text: &[u8], len: usize) -> Option<usize>
+    requires { len < length text.now }
+    ensures { IfSome result (λ end. LineAt (drop len text.now) 0 end) }
+{
+    if text[len] == b'\n' {
+        return Some(1);
+    }
+    if text[len] == b'\r' && len + 1 < text.len() && text[len + 1] == b'\n' {
+        return Some(2);
+    }
+    None
 }
 
 /// The digits that a text begins with, where they are as few as an index has and the byte `end` follows.
@@ -136,19 +183,6 @@ fn few_to(end: u8, text: &[u8]) -> Option<Digits>
     match few_digits(text) {
         Err(digits) if digits.len > 0 && text[digits.len] == end => Some(digits),
         _ => None,
-    }
-}
-
-/// The digits that a text begins with, where they are at most `MOST_DIGITS` and the byte `end` follows.
-#[inline(always)]
-fn digits_to(end: u8, text: &[u8]) -> Option<Digits>
-    ensures { IfSome result (λ d. DigitsTo end text.now d.len d.size) }
-{
-    let digits = leading(text)?;
-    if digits.len > 0 && digits.len <= MOST_DIGITS && text[digits.len] == end {
-        Some(digits)
-    } else {
-        None
     }
 }
 

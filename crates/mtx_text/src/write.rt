@@ -78,6 +78,22 @@ fn write_entries<K: Sink>(
     ensures grows { IsFront (K.taken out.old.sink.now) (K.taken out.new.sink.now) }
     ensures same_sink { out.new.sink.ghost_name ≡ out.old.sink.ghost_name }
 {
+    match kind {
+        Kind::Integer => write_lines(out, Kind::Integer, entries),
+        Kind::Pattern => write_lines(out, Kind::Pattern, entries),
+    }
+}
+
+/// The lines of entries, compiled for each kind by itself.
+#[inline(always)]
+fn write_lines<K: Sink>(out: &mut Out<'_, K>, kind: Kind, entries: &[Triple]) -> Result<(), Failed>
+    ensures ok { OnOk result (appended K.taken out.new ≡ after (appended K.taken out.old) (flat_map (entry_text kind) entries.now)) }
+    ensures err { OnErr result (IsFront (K.taken out.new.sink.now) (after (appended K.taken out.old) (flat_map (entry_text kind) entries.now))) }
+    ensures cause { HasCause (K.faults out.old.sink.now) (K.faults out.new.sink.now) result }
+    ensures never_falls { K.faults out.old.sink.now ≤ K.faults out.new.sink.now }
+    ensures grows { IsFront (K.taken out.old.sink.now) (K.taken out.new.sink.now) }
+    ensures same_sink { out.new.sink.ghost_name ≡ out.old.sink.ghost_name }
+{
     let mut line = Line::new();
     let mut front = Front { row: 0, len: 0 };
     for t in entries {

@@ -1,4 +1,4 @@
-use Rattle.std.proofs.Common.{◌≡◌, ◌/◌, ◌%◌, ◌++◌, take, arith, ap, sym, append_assoc, ◌∙◌}
+use Rattle.std.proofs.Common.{◌/◌, ◌%◌, ◌++◌, take, arith, ap, sym, append_assoc, ◌∙◌}
 use Rattle.std.specs.Fmt.{decimal}
 use Rattle.itoa.proofs.Decimal.{decimal_pair, pair}
 use Rattle.bale_types.proofs.line.four_digits.Goals as goal

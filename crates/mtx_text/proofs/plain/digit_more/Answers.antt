@@ -1,4 +1,4 @@
-use Rattle.std.proofs.Common.{◌≡◌, ◌+◌, ◌*◌, ◌%◌, ◌<◌, ◌≤◌, get_or, rules, arith, refl, ap}
+use Rattle.std.proofs.Common.{◌+◌, ◌*◌, ◌%◌, ◌<◌, get_or, rules, refl, ap}
 use Rattle.mtx_text.proofs.PlainLines.{digit_more, digit_from}
 use Rattle.mtx_text.proofs.plain.digit_more.Goals as goal
 

@@ -4,7 +4,7 @@ use Rattle.bale_types.specs.Stream.{after, IsFront}
 use Rattle.bale_types.specs.Out.{appended}
 use Rattle.mtx_text.specs.Written.{entry_text}
 use Rattle.mtx_text.specs.Fronts.{Names}
-use Rattle.mtx_text.proofs.write.write_entries.Given as goal
+use Rattle.mtx_text.proofs.write.write_lines.Given as goal
 
 abbrev pub invariant-loop-t : goal.invariant-loop-t
 invariant-loop-t g l = record {

@@ -2,7 +2,7 @@ use Rattle.std.proofs.Common.{rules}
 use Rattle.bale_types.proofs.Moves.{front_of_front, on_err_any, front_in_loop}
 use Rattle.mtx_text.specs.Written.{entry_text}
 use Rattle.mtx_text.proofs.WrittenPieces.{pieces_more}
-use Rattle.mtx_text.proofs.write.write_entries.Goals as goal
+use Rattle.mtx_text.proofs.write.write_lines.Goals as goal
 
 pub loop-t-preserved : goal.loop-t-preserved
 loop-t-preserved g c = record {

@@ -131,6 +131,26 @@ fn applications_and_their_answers(rt: HostRuntime) -> Result<(), Fail> {
     Ok(())
 }
 
+/// The rows whose words name no grid and whose status is not a refusal, on grids of one, two and three numbers.
+#[test]
+fn grids_give_the_same_answers(rt: HostRuntime) -> Result<(), Fail> {
+    let alloc = rt.alloc();
+    for row in ROWS.lines() {
+        if let Some((words, text, want)) = parts_of(alloc, row)? {
+            let answered = want.starts_with("0 ") || want.starts_with("1 ");
+            if words.contains("--grid") || !answered {
+                continue;
+            }
+            for grid in ["1", "2x2", "2x2x2", "64"] {
+                let words = format!(in alloc; "{words} --grid {grid}")?;
+                let got = answer(&rt, alloc, words.as_str(), text.as_bytes())?;
+                assert_eq!(rt; got.as_str(), want.as_str(), "{words}");
+            }
+        }
+    }
+    Ok(())
+}
+
 /// The same rows on exstacks, but for those whose grid has more numbers than one or whose words name the transport.
 #[test]
 fn exstacks_give_the_same_answers(rt: HostRuntime) -> Result<(), Fail> {
@@ -161,7 +181,7 @@ fn exstacks_give_the_same_answers(rt: HostRuntime) -> Result<(), Fail> {
 }
 
 #[test]
-fn a_generated_order_is_the_same_everywhere(rt: HostRuntime) -> Result<(), Fail> {
+fn generated_matrices_have_one_answer_everywhere(rt: HostRuntime) -> Result<(), Fail> {
     let alloc = rt.alloc();
     let one = answer_alone(alloc, "topo --gen 200,2000,7 --grid 4x4x4 --buffer 8", b"")?;
     assert!(rt; one.starts_with("0 lines 200 bytes "), "{one}");
@@ -178,6 +198,10 @@ fn a_generated_order_is_the_same_everywhere(rt: HostRuntime) -> Result<(), Fail>
     for words in [
         "sssp --gen 300,3000,5 --delta 1",
         "sssp --gen 300,3000,5 --delta 500",
+        "sssp --gen 300,3000,5 --grid 1",
+        "sssp --gen 300,3000,5 --grid 64 --delta 500",
+        "sssp --gen 300,3000,5 --grid 2x2x2 --buffer 8",
+        "sssp --gen 300,3000,5 --grid 2x2x2 --buffer 8 --delta 500",
     ] {
         let got = answer_alone(alloc, words, b"")?;
         assert_eq!(rt; got.as_str(), walks.as_str(), "{words}");

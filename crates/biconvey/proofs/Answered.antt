@@ -1,10 +1,9 @@
 -- One more query is pulled, and its answer pushed.
-use Rattle.std.proofs.Common.{◌≡◌, ◌≢◌, ℕ, suc, ◌+◌, ◌<◌, ◌≤◌, List, [], ◌∷◌, ◌++◌, length, map, Option, Some, None, refl, sym, ap, subst, ◌∙◌, inl, inr, arith, add-one}
+use Rattle.std.proofs.Common.{◌≡◌, ℕ, suc, ◌+◌, ◌<◌, ◌≤◌, [], ◌∷◌, ◌++◌, length, Some, None, refl, sym, ap, subst, ◌∙◌, inl, inr, arith, add-one}
 use Rattle.std.proofs.lemmas.Bool.{cases_eq}
 use Rattle.std.proofs.lemmas.List.{map-append}
 use Rattle.bale_types.specs.declared.item.Item.{Item}
 use Rattle.route_tensor.specs.Grid.{ranks}
-use Rattle.port_bank.specs.Logs.{Logs}
 use Rattle.port_bank.specs.Machine.{Part, IsOwnStep, with_item}
 use Rattle.port_bank.specs.Machine.Step.{Push, Pull, Idle}
 use Rattle.hop_core.specs.Relay.{waiting}
@@ -12,7 +11,7 @@ use Rattle.hop_core.specs.State.{State, lowest_unread, pulls}
 use Rattle.hop_core.specs.declared.phase.Pushed.{Pushed}
 use Rattle.hop_core.specs.declared.phase.Pushed.TheVariants.{Accepted, Full}
 use Rattle.convey.specs.Buffers.{buffers_of, in_of}
-use Rattle.convey.specs.Conveyors.{AgreesWith, KeepsAgreement, IsStepOf, GivesNext}
+use Rattle.convey.specs.Conveyors.{KeepsAgreement, IsStepOf, GivesNext}
 use Rattle.convey.specs.Parts.{part_of}
 use Rattle.round_program.specs.Talks.{Talk}
 use Rattle.biconvey.specs.Replies.{carrying, answers}

@@ -1,22 +1,20 @@
 -- All ranks of an exchange: what each has heard, at every moment and at the end.
-use Rattle.std.proofs.Common.{◌≡◌, ℕ, ◌+◌, ◌<◌, ◌≤◌, Bool, true, false, cond, List, length, take, All, refl, sym, ap, subst, ◌∙◌, arith}
-use Rattle.bale_types.specs.declared.item.Item.{Item}
+use Rattle.std.proofs.Common.{◌≡◌, ℕ, ◌+◌, ◌<◌, true, cond, List, take, sym, ap, subst, ◌∙◌, arith}
 use Rattle.route_tensor.specs.Grid.{ranks}
 use Rattle.list_laws.specs.Lists.{Begins}
-use Rattle.port_bank.specs.Logs.{Logs, starting_at, ending_at}
-use Rattle.port_bank.specs.Machine.{Part, ItemLists, EpochsClose, completed_of}
-use Rattle.port_bank.proofs.Fronts.{begins_trans, begins_map}
+use Rattle.port_bank.specs.Logs.{starting_at, ending_at}
+use Rattle.port_bank.specs.Machine.{Part, EpochsClose, completed_of}
+use Rattle.port_bank.proofs.Fronts.{begins_trans}
 use Rattle.hop_core.specs.declared.phase.Phase.{Phase}
-use Rattle.hop_core.specs.declared.phase.Phase.TheVariants.{Working, Complete}
-use Rattle.hop_core.specs.State.{State}
-use Rattle.convey.specs.Buffers.{Buffers, buffers_of, is_complete}
-use Rattle.convey.specs.Law.{AgreeTogether, ClosesLaw, state_of}
+use Rattle.hop_core.specs.declared.phase.Phase.TheVariants.{Complete}
+use Rattle.convey.specs.Buffers.{buffers_of, is_complete}
+use Rattle.convey.specs.Law.{AgreeTogether, ClosesLaw}
 use Rattle.convey.specs.Parts.{part_of}
 use Rattle.round_program.specs.Canonical.{items_of}
 use Rattle.round_program.specs.Talks.{Talk, TalkLaws}
-use Rattle.biconvey.specs.Replies.{asks_of, queries_to, answers, replies_of, heard_by, answered}
-use Rattle.biconvey.specs.States.{BiState, Sides, IsBiNode}
-use Rattle.biconvey.specs.Ranks.{HasRank, AllRanks, heard_of, HearsInOrder, OrderLaw, AllComplete, EndLaw}
+use Rattle.biconvey.specs.Replies.{asks_of, queries_to, answers, replies_of, answered}
+use Rattle.biconvey.specs.States.{BiState, Sides}
+use Rattle.biconvey.specs.Ranks.{AllRanks, HearsInOrder, OrderLaw, AllComplete, EndLaw}
 use Rattle.biconvey.proofs.Theorem.{answers_begin}
 use Rattle.biconvey.proofs.Orders.{all_heard}
 use Rattle.biconvey.proofs.Offering.{queries_below}

@@ -1,8 +1,6 @@
 -- What an exchange moves at most.
-use Rattle.std.proofs.Common.{◌≡◌, ◌⊎◌, ℕ, zero, suc, ◌+◌, ◌*◌, ◌<◌, ◌≤◌, Bool, true, false, cond, List, [], ◌∷◌, ◌++◌, length, length-append, map, take, Some, slice_get, get_or, All, refl, sym, ap, subst, ◌∙◌, arith, inl, inr}
-use Rattle.std.proofs.lemmas.Bool.{cases_Bool}
+use Rattle.std.proofs.Common.{◌≡◌, ℕ, zero, suc, ◌+◌, ◌*◌, ◌<◌, ◌≤◌, Bool, true, false, cond, List, [], ◌∷◌, ◌++◌, length, map, take, Some, slice_get, get_or, All, refl, sym, ap, subst, ◌∙◌, arith}
 use Rattle.std.proofs.lemmas.List.{length-map}
-use Rattle.std.proofs.lemmas.List.Elements.{All-nil, All-cons}
 use Rattle.std.proofs.lemmas.Option.{slice_get-get_or}
 use Rattle.std.proofs.Math.Nat.{mul-add, mul-le-mul_left}
 use Rattle.bale_types.specs.declared.item.Entry.{Entry}
@@ -12,14 +10,13 @@ use Rattle.list_laws.specs.Lists.{Begins}
 use Rattle.list_laws.specs.Sums.{total}
 use Rattle.list_laws.proofs.Sums.{total_le, total_same, total_add, total_const, total_swap, total_list}
 use Rattle.list_laws.proofs.Lists.{find, within, get_once, get_map}
-use Rattle.route_tensor.specs.Grid.{ranks, IsGrid}
+use Rattle.route_tensor.specs.Grid.{ranks}
 use Rattle.route_tensor.specs.Link.{links}
 use Rattle.route_tensor.specs.Tag.{IsFair}
 use Rattle.route_tensor.specs.Ends.{hop_at, sender_at}
 use Rattle.route_tensor.proofs.Coordinates.{ranks_some}
 use Rattle.port_bank.specs.Logs.{Logs, lasts, segment, starting_at, ending_at}
 use Rattle.port_bank.specs.Flow.{flow}
-use Rattle.port_bank.specs.Machine.{Part}
 use Rattle.port_bank.specs.Relay.{HasFairTags}
 use Rattle.port_bank.proofs.Fronts.{begins_shorter, begins_flat_map}
 use Rattle.port_bank.proofs.Pipeline.{Keeps}
@@ -38,10 +35,10 @@ use Rattle.round_program.proofs.Items.{items_total}
 use Rattle.rank_group.proofs.Bounded.{all_flat}
 use Rattle.rank_group.proofs.Counted.{pushed_in, all_links, log_short}
 use Rattle.rank_group.proofs.Pushed.{flow_pushed}
-use Rattle.biconvey.specs.Replies.{carrying, asks_of, answers}
+use Rattle.biconvey.specs.Replies.{carrying, asks_of}
 use Rattle.biconvey.specs.States.{BiState, Sides}
-use Rattle.biconvey.specs.Ranks.{HasRank, AllRanks}
-use Rattle.biconvey.specs.Ways.{entries_of, inbox, move_of, moves, Lawful, IsWay}
+use Rattle.biconvey.specs.Ranks.{AllRanks}
+use Rattle.biconvey.specs.Ways.{entries_of, move_of, moves, IsWay}
 use Rattle.biconvey.specs.Worlds.{World, all_moves, queries_in}
 use Rattle.biconvey.proofs.Halting.{at_most}
 use Rattle.biconvey.proofs.Taken.{items_begin}

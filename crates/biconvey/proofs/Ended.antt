@@ -1,5 +1,5 @@
 -- The beginning of an exchange and its end.
-use Rattle.std.proofs.Common.{◌≡◌, ℕ, zero, suc, ◌+◌, ◌<◌, ◌≤◌, ◌&&◌, Bool, true, false, List, [], ◌∷◌, length, map, get_or, slice_get, slice_index_or, Option, Some, None, All, refl, sym, ap, subst, ◌∙◌, arith}
+use Rattle.std.proofs.Common.{◌≡◌, ℕ, zero, suc, ◌+◌, ◌<◌, ◌≤◌, Bool, true, false, List, [], ◌∷◌, length, map, get_or, slice_get, slice_index_or, Option, Some, None, All, refl, sym, ap, subst, ◌∙◌, arith}
 use Rattle.std.specs.List.{sum_by}
 use Rattle.std.proofs.lemmas.Bool.{true≢false}
 use Rattle.std.proofs.lemmas.List.{length-map}
@@ -24,14 +24,13 @@ use Rattle.convey.specs.Buffers.{buffers_of, in_of, is_complete}
 use Rattle.convey.specs.Law.{ClosesLaw}
 use Rattle.convey.specs.Parts.{part_of}
 use Rattle.round_program.specs.Talks.{Talk, TalkLaws}
-use Rattle.rank_group.specs.Told.{Made}
-use Rattle.biconvey.specs.Replies.{queries_to, answers, replies_of, answered, answered_from}
-use Rattle.biconvey.specs.States.{BiState, Sides, IsBiNode}
-use Rattle.biconvey.specs.Ranks.{HasRank, AllRanks, AllComplete}
+use Rattle.biconvey.specs.Replies.{answers, answered_from}
+use Rattle.biconvey.specs.States.{BiState, IsBiNode}
+use Rattle.biconvey.specs.Ranks.{AllRanks, AllComplete}
 use Rattle.biconvey.specs.Ways.{conveyor_in, inbox, Lawful, IsWay}
 use Rattle.biconvey.specs.Worlds.{AreBanks, World, is_over, queries_in, sides_of, turns_of}
-use Rattle.biconvey.specs.Drives.{AreAskers, HaveHeard, queries_of, answers_of, queries_by, replies_by, TellsWay, TellsExchange, IsFresh, AreFresh, askers_of}
-use Rattle.biconvey.proofs.Swept.{queries_lawful, replies_lawful}
+use Rattle.biconvey.specs.Drives.{AreAskers, HaveHeard, queries_of, answers_of, queries_by, replies_by, TellsWay, TellsExchange, AreFresh, askers_of}
+use Rattle.biconvey.proofs.Swept.{queries_lawful}
 use Rattle.biconvey.proofs.Counting.{size, nth, at, all_ranks}
 use Rattle.biconvey.proofs.Closing.{all_asked, replied_of, queries_close, all_answered, ask_over}
 use Rattle.biconvey.proofs.Driven.{over_phases}

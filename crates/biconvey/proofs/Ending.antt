@@ -1,11 +1,10 @@
 -- A sweep in which nothing moved on either way ends both.
 use Rattle.bale_types.specs.declared.item.Entry.{Entry}
-use Rattle.std.proofs.Common.{◌≡◌, ◌⊎◌, ℕ, ◌+◌, ◌<◌, ◌≤◌, ◌==◌, Bool, true, List, [], ◌∷◌, ◌++◌, length, length-append, None, Some, slice_get, refl, sym, ap, subst, ◌∙◌, arith, inl, inr, eqb-true}
-use Rattle.std.proofs.lemmas.Bool.{cases_eq, cases_lt}
+use Rattle.std.proofs.Common.{◌≡◌, ◌⊎◌, ℕ, ◌+◌, ◌<◌, ◌≤◌, true, List, [], ◌∷◌, ◌++◌, length, length-append, None, Some, slice_get, refl, sym, ap, subst, ◌∙◌, arith, inl, inr, eqb-true}
+use Rattle.std.proofs.lemmas.Bool.{cases_lt}
 use Rattle.route_tensor.specs.Grid.{ranks, IsGrid}
 use Rattle.route_tensor.specs.Link.{links}
 use Rattle.route_tensor.specs.Ends.{hop_at, sender_at, reader_at}
-use Rattle.route_tensor.proofs.Ends.{number_ends}
 use Rattle.port_bank.specs.Logs.{Logs, starting_at, ending_at}
 use Rattle.port_bank.specs.Link.{LinkLaw}
 use Rattle.hop_core.specs.declared.phase.Phase.TheVariants.{Complete}
@@ -184,32 +183,38 @@ module _ {S : Type 0} (T : Talk S) (law : RestLaw) (dims : List ℕ) (cap slots 
   queries_over : (r : ℕ) → r < ranks dims → (ns r).queries.phase ≡ Complete
   queries_over = all_over law dims cap slots s.asking s.asked grid queries_keep (λ r. (ns r).queries.phase ≡ Complete) (λ r b.
       let e = each r b in
-      let t = e.stuck.queries in
-      (t.before, t.after, record {
-        same_dims = t.dims_after ∙ (t.dims_before ∙ e.has.same_dims);
-        same_rank = t.rank_after ∙ (t.rank_before ∙ e.has.same_rank);
-        first = t.epoch_after ∙ (t.epoch_before ∙ e.has.node.asks.first);
-        agrees = t.agrees_after;
-        rest = at_rest dims slots r e.before.queries (ns r).queries s.asking s.asked some e.has.same_dims e.has.same_rank e.has.node.asks.first t e.kept_queries (read_q r b)
-            (elim e.stuck.asked [
-              | inl done ↦ inl (t.done_after ∙ done)
-              | inr x ↦ inr (busy_of dims slots r e.before.queries (ns r).queries s.asking s.asked some e.has.same_dims e.has.same_rank e.has.node.asks.first t e.kept_queries x)
-            ]);
-        over = t.over;
-      }))
+      let t = e.stuck.queries in (
+        t.before,
+        t.after,
+        record {
+          same_dims = t.dims_after ∙ (t.dims_before ∙ e.has.same_dims);
+          same_rank = t.rank_after ∙ (t.rank_before ∙ e.has.same_rank);
+          first = t.epoch_after ∙ (t.epoch_before ∙ e.has.node.asks.first);
+          agrees = t.agrees_after;
+          rest = at_rest dims slots r e.before.queries (ns r).queries s.asking s.asked some e.has.same_dims e.has.same_rank e.has.node.asks.first t e.kept_queries (read_q r b)
+              (elim e.stuck.asked [
+                | inl done ↦ inl (t.done_after ∙ done)
+                | inr x ↦ inr (busy_of dims slots r e.before.queries (ns r).queries s.asking s.asked some e.has.same_dims e.has.same_rank e.has.node.asks.first t e.kept_queries x)
+              ]);
+          over = t.over;
+        },
+      ))
 
   replies_over : (r : ℕ) → r < ranks dims → (ns r).replies.phase ≡ Complete
   replies_over = all_over law dims cap slots s.replying s.replied grid replies_keep (λ r. (ns r).replies.phase ≡ Complete) (λ r b.
       let e = each r b in
-      let t = e.stuck.replies in
-      (t.before, t.after, record {
-        same_dims = t.dims_after ∙ (t.dims_before ∙ dims_r r b);
-        same_rank = t.rank_after ∙ (t.rank_before ∙ rank_r r b);
-        first = t.epoch_after ∙ (t.epoch_before ∙ e.has.node.replies.first);
-        agrees = t.agrees_after;
-        rest = at_rest dims slots r e.before.replies (ns r).replies s.replying s.replied some (dims_r r b) (rank_r r b) e.has.node.replies.first t e.kept_replies (read_r r b) (inl (t.done_after ∙ e.stuck.done (queries_over r b)));
-        over = t.over;
-      }))
+      let t = e.stuck.replies in (
+        t.before,
+        t.after,
+        record {
+          same_dims = t.dims_after ∙ (t.dims_before ∙ dims_r r b);
+          same_rank = t.rank_after ∙ (t.rank_before ∙ rank_r r b);
+          first = t.epoch_after ∙ (t.epoch_before ∙ e.has.node.replies.first);
+          agrees = t.agrees_after;
+          rest = at_rest dims slots r e.before.replies (ns r).replies s.replying s.replied some (dims_r r b) (rank_r r b) e.has.node.replies.first t e.kept_replies (read_r r b) (inl (t.done_after ∙ e.stuck.done (queries_over r b)));
+          over = t.over;
+        },
+      ))
 
   pub all_complete : AllComplete dims ns
   all_complete = record { queries = queries_over; replies = replies_over }

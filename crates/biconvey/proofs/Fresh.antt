@@ -1,5 +1,5 @@
 -- A rank that hasn't turned.
-use Rattle.std.proofs.Common.{◌≡◌, ◌≢◌, ℕ, zero, suc, ◌<◌, ◌^◌, ◌==◌, Bool, true, false, cond, List, [], ◌∷◌, length, replicate, drop, nat_lt, None, Some, slice_get, All, refl, sym, ap, subst, ◌∙◌, arith, get_or}
+use Rattle.std.proofs.Common.{◌≡◌, ◌≢◌, ℕ, zero, suc, ◌<◌, ◌^◌, ◌==◌, Bool, true, false, cond, List, [], ◌∷◌, length, replicate, drop, nat_lt, None, Some, All, refl, sym, ap, subst, ◌∙◌, arith, get_or}
 use Rattle.std.proofs.lemmas.Bool.{false≢true}
 use Rattle.std.proofs.lemmas.List.Elements.{All-nil}
 use Rattle.std.proofs.Math.Seq.{take-nil}
@@ -8,22 +8,21 @@ use Rattle.route_tensor.specs.Grid.{ranks}
 use Rattle.route_tensor.specs.Neighbour.{in_index, out_index}
 use Rattle.port_bank.specs.Logs.{Logs}
 use Rattle.port_bank.specs.Flow.{belongs, hop_link}
-use Rattle.port_bank.specs.Machine.{Part, ItemLists}
-use Rattle.port_bank.specs.Machine.Step.{Idle}
+use Rattle.port_bank.specs.Machine.{ItemLists}
 use Rattle.hop_core.specs.declared.phase.Phase.{Phase}
 use Rattle.hop_core.specs.declared.phase.Phase.TheVariants.{Dormant, Working}
 use Rattle.hop_core.specs.Link.{no_out, no_in}
 use Rattle.hop_core.specs.State.{State}
 use Rattle.convey.specs.Agreement.{items_among}
 use Rattle.convey.specs.Buffers.{buffers_of, in_of, out_of}
-use Rattle.convey.specs.Conveyors.{AgreesWith, KeepsAgreement, IsStepOf}
+use Rattle.convey.specs.Conveyors.{AgreesWith, KeepsAgreement}
 use Rattle.convey.specs.Law.{IsSound}
 use Rattle.convey.specs.Parts.{part_of, pushed_to, pulled_of}
 use Rattle.round_program.specs.Talks.{Talk}
-use Rattle.biconvey.specs.Replies.{hearing, heard_by, places_to, answers}
+use Rattle.biconvey.specs.Replies.{hearing, places_to, answers}
 use Rattle.biconvey.specs.Lines.{HasLines}
 use Rattle.biconvey.specs.Taking.{HasHeard}
-use Rattle.biconvey.specs.States.{BiState, IsRunning, IsFirst, IsBiNode}
+use Rattle.biconvey.specs.States.{IsFirst, IsBiNode}
 use Rattle.biconvey.proofs.Orders.{talk_same}
 
 -- empty logs

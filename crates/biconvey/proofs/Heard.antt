@@ -1,17 +1,16 @@
 -- One more reply is pulled and heard.
-use Rattle.std.proofs.Common.{◌≡◌, ◌≢◌, ℕ, zero, suc, ◌+◌, ◌^◌, ◌<◌, ◌≤◌, List, [], ◌∷◌, ◌++◌, length, drop, slice_get, Option, Some, None, All, refl, sym, ap, subst, ◌∙◌, inl, inr, arith, add-one}
+use Rattle.std.proofs.Common.{◌≡◌, ◌≢◌, ℕ, zero, suc, ◌+◌, ◌^◌, ◌<◌, ◌≤◌, List, [], ◌∷◌, ◌++◌, length, drop, slice_get, Option, Some, None, refl, sym, ap, subst, ◌∙◌, inl, inr, arith, add-one}
 use Rattle.std.proofs.lemmas.Bool.{cases_eq}
 use Rattle.std.proofs.lemmas.List.{drop-drop, length-append}
 use Rattle.std.proofs.lemmas.List.Elements.{All-nil, All-cons, All-append}
 use Rattle.bale_types.specs.declared.item.Item.{Item}
 use Rattle.route_tensor.specs.Grid.{ranks}
-use Rattle.port_bank.specs.Logs.{Logs}
-use Rattle.port_bank.specs.Machine.{Part, IsOwnStep, ItemLists, with_item}
-use Rattle.port_bank.specs.Machine.Step.{Pull, Idle}
+use Rattle.port_bank.specs.Machine.{Part, ItemLists, with_item}
+use Rattle.port_bank.specs.Machine.Step.{Idle}
 use Rattle.hop_core.specs.Relay.{waiting}
 use Rattle.hop_core.specs.State.{State, lowest_unread, pulls}
 use Rattle.convey.specs.Buffers.{buffers_of, in_of}
-use Rattle.convey.specs.Conveyors.{AgreesWith, KeepsAgreement, IsStepOf, GivesNext}
+use Rattle.convey.specs.Conveyors.{KeepsAgreement, IsStepOf, GivesNext}
 use Rattle.convey.specs.Parts.{part_of}
 use Rattle.round_program.specs.Talks.{Talk, TalkLaws, SameTalk}
 use Rattle.biconvey.specs.Replies.{heard_by, places_to}

@@ -21,3 +21,5 @@ pub mod Making
 pub mod Telling
 pub mod Ended
 pub mod Last
+pub mod AdderTests
+mod ByHand

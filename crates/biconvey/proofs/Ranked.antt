@@ -1,11 +1,11 @@
 -- What the turn of a rank leaves over two plain banks.
-use Rattle.std.proofs.Common.{◌≡◌, ℕ, ◌+◌, ◌<◌, ◌≤◌, Bool, List, ◌++◌, length, refl, sym, ap, subst, ◌∙◌}
+use Rattle.std.proofs.Common.{◌≡◌, ℕ, ◌+◌, ◌<◌, ◌≤◌, List, ◌++◌, length, sym, ap, subst, ◌∙◌}
 use Rattle.std.specs.List.{flat_map}
 use Rattle.item_buffer.specs.Contents.{Shipped}
 use Rattle.list_laws.specs.Lists.{Begins}
 use Rattle.route_tensor.specs.Link.{links}
 use Rattle.route_tensor.specs.Ends.{reader_at}
-use Rattle.port_bank.specs.Logs.{Logs, starting_at, ending_at}
+use Rattle.port_bank.specs.Logs.{starting_at, ending_at}
 use Rattle.port_bank.specs.Port.{Rest}
 use Rattle.port_bank.specs.Shapes.{IsConveyorShape}
 use Rattle.port_bank.specs.Plain.{Bank, sent_of, got_of, others_of, crowded_of, idle_of}
@@ -40,9 +40,9 @@ pub record PortTurns {S : Type 0} (T : Talk S) (cap : ℕ) (n n' : BiState S) (q
       → ((l : ℕ) → starting_at q'.dims a' (sent_of q') l ≡ starting_at q.dims a (sent_of q) l) → ((l : ℕ) → ending_at q'.dims a' (got_of q') l ≡ ending_at q.dims a (got_of q) l)
       → ((l : ℕ) → starting_at r'.dims b' (sent_of r') l ≡ starting_at r.dims b (sent_of r) l) → ((l : ℕ) → ending_at r'.dims b' (got_of r') l ≡ ending_at r.dims b (got_of r) l)
       → IsStuck n n'
-        (record { asking = starting_at q.dims a (sent_of q); asked = ending_at q.dims a (got_of q); replying = starting_at r.dims b (sent_of r); replied = ending_at r.dims b (got_of r) })
-        (record { asking = starting_at q'.dims a' (sent_of q'); asked = ending_at q'.dims a' (got_of q'); replying = starting_at r'.dims b' (sent_of r'); replied = ending_at r'.dims b' (got_of r') })
-        (record { crowded = crowded_of a' q'; idle = idle_of a' q'; replies_crowded = crowded_of b' r'; replies_idle = idle_of b' r' })
+      (record { asking = starting_at q.dims a (sent_of q); asked = ending_at q.dims a (got_of q); replying = starting_at r.dims b (sent_of r); replied = ending_at r.dims b (got_of r) })
+      (record { asking = starting_at q'.dims a' (sent_of q'); asked = ending_at q'.dims a' (got_of q'); replying = starting_at r'.dims b' (sent_of r'); replied = ending_at r'.dims b' (got_of r') })
+      (record { crowded = crowded_of a' q'; idle = idle_of a' q'; replies_crowded = crowded_of b' r'; replies_idle = idle_of b' r' })
 
 abbrev at : List ℕ → ℕ → Bank → Bank
 at dims slots b = record { dims = dims; slots = slots; channels = b.channels }

@@ -1,13 +1,12 @@
 -- One more rank is turned in a sweep.
-use Rattle.std.proofs.Common.{◌≡◌, ◌≢◌, ℕ, ◌+◌, ◌<◌, ◌≤◌, Bool, List, length, map, Some, slice_get, get_or, refl, sym, ap, subst, ◌∙◌, arith, inl, inr}
+use Rattle.std.proofs.Common.{◌≡◌, ◌≢◌, ℕ, ◌+◌, ◌<◌, ◌≤◌, Bool, List, length, map, Some, slice_get, get_or, sym, ap, subst, ◌∙◌, arith, inl, inr}
 use Rattle.std.specs.Option.{option_map}
 use Rattle.std.proofs.lemmas.Bool.{cases_eq}
 use Rattle.std.proofs.lemmas.List.{length-map, get_or_past}
 use Rattle.std.proofs.lemmas.Option.{slice_get-map, get_or_from_slice_get}
 use Rattle.list_laws.proofs.Lists.{find, get_once, get_map}
 use Rattle.route_tensor.specs.Grid.{ranks}
-use Rattle.route_tensor.specs.Link.{links}
-use Rattle.port_bank.specs.Logs.{Logs, starting_at, ending_at}
+use Rattle.port_bank.specs.Logs.{starting_at, ending_at}
 use Rattle.port_bank.specs.Plain.{Bank, IsBank, unused, channel_at, sent_of, got_of}
 use Rattle.port_bank.proofs.Owners.{sent_elsewhere, got_elsewhere}
 use Rattle.hop_core.specs.State.{State}
@@ -15,10 +14,9 @@ use Rattle.round_program.specs.Talks.{Talk}
 use Rattle.biconvey.specs.States.{BiState, Sides, IsBiNode}
 use Rattle.biconvey.specs.Still.{IsStuck}
 use Rattle.biconvey.specs.Ranks.{HasRank, sides_at}
-use Rattle.biconvey.specs.Ways.{moves, Lawful, IsWay, AfterTurn}
+use Rattle.biconvey.specs.Ways.{moves, Lawful}
 use Rattle.biconvey.specs.Worlds.{AreBanks, AfterRank, Rests, World, all_moves, SweptTo, sides_of, known_at}
 use Rattle.biconvey.proofs.Moving.{moves_on, sent_same, got_same, inbox_kept, way_on}
-use Rattle.biconvey.proofs.Counting.{size}
 
 lawful : (cap : ℕ) (b : Bank) (dims : List ℕ) (slots : ℕ) → IsBank cap b → b.dims ≡ dims → b.slots ≡ slots → Lawful dims cap slots (sent_of b) (got_of b)
 lawful cap b dims slots is ed es =

@@ -1,15 +1,13 @@
 -- The replies theorem.
-use Rattle.std.proofs.Common.{◌≡◌, ℕ, ◌<◌, List, length, map, refl, sym, ap, subst, ◌∙◌}
+use Rattle.std.proofs.Common.{◌≡◌, ℕ, List, ap, ◌∙◌}
 use Rattle.bale_types.specs.declared.item.Item.{Item}
-use Rattle.route_tensor.specs.Grid.{ranks}
-use Rattle.port_bank.specs.Logs.{Logs, lasts}
-use Rattle.port_bank.specs.Flow.{hop_link}
+use Rattle.port_bank.specs.Logs.{Logs}
 use Rattle.list_laws.specs.Lists.{Begins}
 use Rattle.port_bank.proofs.Fronts.{begins_trans, begins_map}
 use Rattle.port_bank.proofs.Pipeline.{Keeps, arrives_in_order, arrives_whole}
 use Rattle.round_program.specs.Talks.{Talk}
 use Rattle.biconvey.specs.Replies.{carrying, queries_to, answers, replies_of}
-use Rattle.biconvey.specs.Banks.{IsLawful, IsOwn, IsAll, sent_to, got_from, RepliesBegin, RepliesEnd}
+use Rattle.biconvey.specs.Banks.{IsLawful, sent_to, got_from, RepliesBegin, RepliesEnd}
 
 keeps : (dims : List ℕ) (sent got : Logs) → IsLawful dims sent got → Keeps dims sent got
 keeps dims sent got b = record { grid = b.grid; fronts = b.fronts; relays = b.relays }

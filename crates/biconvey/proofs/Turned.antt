@@ -1,5 +1,5 @@
 -- What a turn leaves.
-use Rattle.std.proofs.Common.{◌≡◌, ◌≢◌, ◌⊎◌, ℕ, ◌+◌, ◌<◌, ◌≤◌, ◌==◌, Bool, true, false, List, length, Some, None, slice_get, All, refl, sym, ap, subst, ◌∙◌, arith, eqb-true, inl, inr}
+use Rattle.std.proofs.Common.{◌≡◌, ◌≢◌, ℕ, ◌<◌, ◌≤◌, ◌==◌, Bool, true, false, List, length, All, refl, sym, ap, subst, ◌∙◌, arith, eqb-true, inl, inr}
 use Rattle.std.specs.Prelude.{Result, Ok, Err, IsOk, IsErr, take, map}
 use Rattle.round_program.specs.Canonical.{items_of}
 use Rattle.std.proofs.lemmas.Bool.{cases_Bool, true≢false, eq-eqb}
@@ -12,8 +12,8 @@ use Rattle.port_bank.specs.Machine.{Part, ItemLists, IsOwnStep}
 use Rattle.hop_core.specs.declared.phase.Phase.{Phase}
 use Rattle.hop_core.specs.declared.phase.Phase.TheVariants.{Dormant, Working, Endgame, Cleanup, Complete}
 use Rattle.hop_core.specs.State.{State}
-use Rattle.convey.specs.Buffers.{buffers_of, in_of, is_complete}
-use Rattle.convey.specs.Conveyors.{AgreesWith, standing_toward}
+use Rattle.convey.specs.Buffers.{buffers_of, is_complete}
+use Rattle.convey.specs.Conveyors.{AgreesWith}
 use Rattle.convey.specs.Law.{IsSound}
 use Rattle.convey.specs.Parts.{part_of}
 use Rattle.convey.specs.Progress.{advance_step}
@@ -21,7 +21,7 @@ use Rattle.convey.specs.declared.progress.Progress.{Progress}
 use Rattle.round_program.specs.Talks.{Talk, TalkLaws, SameTalk}
 use Rattle.biconvey.specs.Replies.{carrying, as_items, asks_of, answers}
 use Rattle.biconvey.specs.Taking.{IsPushed, IsAnswered, Pushes, Answers, HasHeard, Hears}
-use Rattle.biconvey.specs.States.{BiState, AllRead, IsRunning, IsBiNode, WasRefused}
+use Rattle.biconvey.specs.States.{BiState, AllRead, IsBiNode}
 use Rattle.biconvey.proofs.Offering.{asked_below}
 
 -- what an advance leaves of a rank's lists

@@ -8,3 +8,5 @@ pub mod Ranks
 pub mod Ways
 pub mod Worlds
 pub mod Drives
+pub mod Adders
+pub mod AdderLaws

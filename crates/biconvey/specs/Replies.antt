@@ -1,5 +1,5 @@
 -- Queries and replies between ranks, with no word on how they travel.
-use Rattle.std.specs.Prelude.{ℕ, zero, suc, ◌==◌, cond, List, [], ◌∷◌, map, drop}
+use Rattle.std.specs.Prelude.{ℕ, suc, ◌==◌, cond, List, [], ◌∷◌, map, drop}
 use Rattle.bale_types.specs.declared.item.Item.{Item}
 use Rattle.round_program.specs.Talks.{Talk}
 use Rattle.round_program.specs.Canonical.{items_of}

@@ -4,14 +4,13 @@ use Rattle.route_tensor.specs.Grid.{ranks}
 use Rattle.route_tensor.specs.Link.{links}
 use Rattle.route_tensor.specs.Ends.{hop_at, reader_at}
 use Rattle.port_bank.specs.Logs.{Logs}
-use Rattle.port_bank.specs.Machine.{Part}
 use Rattle.hop_core.specs.declared.phase.Phase.TheVariants.{Dormant, Working, Complete}
 use Rattle.hop_core.specs.State.{State}
 use Rattle.convey.specs.Buffers.{buffers_of, in_of}
 use Rattle.convey.specs.Conveyors.{AgreesWith, standing_toward}
 use Rattle.convey.specs.Law.{IsSound}
 use Rattle.convey.specs.Parts.{part_of}
-use Rattle.round_program.specs.Talks.{Talk, SameTalk}
+use Rattle.round_program.specs.Talks.{Talk}
 use Rattle.biconvey.specs.Replies.{asks_of}
 use Rattle.biconvey.specs.Taking.{IsPushed, IsAnswered, HasHeard}
 

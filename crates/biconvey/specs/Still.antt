@@ -1,5 +1,5 @@
 -- What a turn leaves that moved no parcel, and why.
-use Rattle.std.specs.Prelude.{◌≡◌, ◌⊎◌, ℕ, ◌<◌, ◌≤◌, Bool, true, false, List, [], length, slice_get, Some}
+use Rattle.std.specs.Prelude.{◌≡◌, ◌⊎◌, ℕ, ◌<◌, ◌≤◌, Bool, true, false, List, length, slice_get, Some}
 use Rattle.bale_types.specs.declared.item.Entry.{Entry}
 use Rattle.route_tensor.specs.Link.{links}
 use Rattle.route_tensor.specs.Ends.{hop_at, sender_at, reader_at}

@@ -6,10 +6,9 @@ use Rattle.route_tensor.specs.Link.{links}
 use Rattle.route_tensor.specs.Ends.{reader_at}
 use Rattle.port_bank.specs.Logs.{Logs, starting_at, ending_at}
 use Rattle.port_bank.specs.Plain.{Bank, IsBank, sent_of, got_of}
-use Rattle.hop_core.specs.State.{State}
 use Rattle.convey.specs.Buffers.{in_of, is_complete}
 use Rattle.round_program.specs.Talks.{Talk}
-use Rattle.biconvey.specs.States.{BiState, Sides, AllRead}
+use Rattle.biconvey.specs.States.{BiState, Sides}
 use Rattle.biconvey.specs.Still.{Known, IsStuck}
 use Rattle.biconvey.specs.Ranks.{sides_at, HasRank}
 use Rattle.biconvey.specs.Ways.{moves, IsWay, AfterTurn}

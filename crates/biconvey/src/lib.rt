@@ -36,3 +36,8 @@ pub use drive::drive_both;
 pub use law::{askers_law, replies_law};
 pub use rank_node::{Steps, Turn};
 pub use serial::bi_serial;
+
+#[cfg(test)]
+mod adder;
+#[cfg(test)]
+mod tests;

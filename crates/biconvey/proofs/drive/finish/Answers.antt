@@ -1,4 +1,4 @@
-use Rattle.std.proofs.Common.{[], ◌∷◌, ◌++◌, refl, sym, ap, ◌∙◌}
+use Rattle.std.proofs.Common.{[], ◌∷◌, ◌++◌, ap, ◌∙◌}
 use Rattle.rank_group.specs.declared.closed_round.ClosedRound.TheVariants.{Plain}
 use Rattle.biconvey.proofs.drive.finish.Goals as goal
 

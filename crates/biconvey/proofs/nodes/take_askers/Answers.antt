@@ -1,4 +1,3 @@
-use Rattle.std.proofs.Common.{ap, ◌∙◌}
 use Rattle.biconvey.proofs.Making.{taken_more}
 use Rattle.biconvey.proofs.nodes.take_askers.Goals as goal
 

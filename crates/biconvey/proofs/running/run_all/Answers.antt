@@ -1,8 +1,8 @@
-use Rattle.std.proofs.Common.{rules, ◌≡◌, ℕ, ◌<◌, List, Bool, length, arith, sym, ap, subst, ◌∙◌}
+use Rattle.std.proofs.Common.{rules, ℕ, List, Bool, length, sym, ap, subst, ◌∙◌}
 use Rattle.std.specs.List.{list_all}
 use Rattle.route_tensor.specs.Grid.{ranks}
 use Rattle.rank_group.specs.Ranks.{IsOrder}
-use Rattle.biconvey.specs.Worlds.{is_over, AreBanks, World, SweptTo, sides_of}
+use Rattle.biconvey.specs.Worlds.{is_over, World, SweptTo, sides_of}
 use Rattle.biconvey.proofs.Driven.{each_over, driving_none, steps_low, steps_lower, driving_more, fewer_left}
 use Rattle.biconvey.proofs.Swept.{same_banks, same_world}
 use Rattle.biconvey.proofs.running.run_all.Goals as goal

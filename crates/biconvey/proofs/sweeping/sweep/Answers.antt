@@ -1,4 +1,4 @@
-use Rattle.std.proofs.Common.{rules, ◌≡◌, ◌<◌, length, get_or, arith, subst, sym, refl}
+use Rattle.std.proofs.Common.{rules, ◌≡◌, ◌<◌, length, get_or, arith, subst, sym}
 use Rattle.list_laws.proofs.Lists.{all_get}
 use Rattle.route_tensor.specs.Grid.{ranks}
 use Rattle.biconvey.specs.Worlds.{SweptTo, sides_of}

@@ -1,8 +1,6 @@
-use Rattle.std.proofs.Common.{rules, ◌≡◌, ◌<◌, refl, ap, ◌∙◌, sym, subst}
-use Rattle.route_tensor.specs.Grid.{ranks}
+use Rattle.std.proofs.Common.{rules, ◌≡◌, refl, ap, ◌∙◌, sym, subst}
 use Rattle.port_bank.specs.Plain.{Bank}
-use Rattle.biconvey.specs.States.{BiState}
-use Rattle.biconvey.specs.Worlds.{AreBanks, AfterRank, sides_of}
+use Rattle.biconvey.specs.Worlds.{AfterRank, sides_of}
 use Rattle.biconvey.proofs.Ranked.{PortTurns, after_turn, port_needs}
 use Rattle.biconvey.proofs.sweeping.turn_node.Goals as goal
 

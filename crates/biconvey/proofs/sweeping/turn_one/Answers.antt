@@ -1,4 +1,4 @@
-use Rattle.std.proofs.Common.{rules, ◌≡◌, ◌<◌, length, map, slice_get, slice_set, Some, refl, sym, subst, arith, IfOk, ◌∙◌}
+use Rattle.std.proofs.Common.{rules, ◌≡◌, ◌<◌, length, slice_get, slice_set, Some, refl, sym, subst, arith, IfOk, ◌∙◌}
 use Rattle.std.proofs.lemmas.Option.{slice_get_read}
 use Rattle.std.proofs.lemmas.List.{length-map}
 use Rattle.list_laws.proofs.Lists.{get_once, get_here, get_other}

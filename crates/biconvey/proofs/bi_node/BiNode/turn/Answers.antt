@@ -1,11 +1,10 @@
-use Rattle.std.proofs.Common.{rules, ◌≡◌, ℕ, ◌==◌, ◌<◌, List, length, slice_get, Some, refl, sym, ap, subst, ◌∙◌}
+use Rattle.std.proofs.Common.{rules, ◌≡◌, ◌==◌, ◌<◌, length, slice_get, Some, sym, ap, subst, ◌∙◌}
 use Rattle.std.specs.Prelude.{is_ok, IfSome}
-use Rattle.bale_types.specs.declared.item.Item.{Item}
 use Rattle.route_tensor.specs.Grid.{ranks}
 use Rattle.port_bank.specs.Shapes.{IsConveyorShape}
 use Rattle.list_laws.proofs.Results.{on_ok_from, if_ok_is}
 use Rattle.hop_core.specs.State.{State}
-use Rattle.convey.specs.Buffers.{is_complete, in_of}
+use Rattle.convey.specs.Buffers.{is_complete}
 use Rattle.convey.specs.Conveyors.{standing_toward}
 use Rattle.convey.specs.Progress.{progress_of}
 use Rattle.convey.specs.declared.progress.Progress.TheVariants as progress

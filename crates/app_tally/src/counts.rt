@@ -6,7 +6,7 @@ ghost use Rattle.std.specs.List.Sorted.{IsSortedBy};
 ghost use Rattle.std.specs.Ordering.{is_gt, is_lt};
 ghost use Rattle.elastic.specs.Spelling.{IsLetter};
 ghost use Rattle.app_tally.specs.CountView.{entries_of, IsCounts};
-ghost use Rattle.app_tally.specs.Counts.{by_bytes, counted, tally_of, Rises};
+ghost use Rattle.app_tally.specs.Counts.{by_bytes, counted, tally_of};
 
 use crate::strings::Strings;
 use bale_types::NoMemory;

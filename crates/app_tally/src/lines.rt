@@ -11,7 +11,7 @@ ghost use Rattle.app_tally.specs.Lines.{IsLines};
 
 use crate::strings::{Span, Strings};
 use bale_types::NoMemory;
-use std::alloc::{AllocError, AllocFailed, Global};
+use std::alloc::Global;
 use std::marker::Model;
 
 /// Bytes of a text at most.

@@ -1,12 +1,11 @@
 //! tally's start, and its answer.
 
-ghost use Rattle.std.specs.Prelude.{◌≡◌, ◌<◌, ◌≤◌, ◌+◌, ◌-◌, ◌/◌, ◌^◌, ◌++◌, ℕ, List, [], IfOk, OnOk, map, length};
+ghost use Rattle.std.specs.Prelude.{◌≡◌, ◌<◌, ◌≤◌, ◌+◌, ◌-◌, ◌/◌, ◌^◌, ◌++◌, ℕ, List, [], IfOk, OnOk, map};
 ghost use Rattle.std.specs.List.{All};
 ghost use Rattle.round_program.specs.Canonical.{InRound, EndsWithin};
 ghost use Rattle.elastic.specs.Spelling.{IsLetter};
 ghost use Rattle.elastic.specs.Mails.{mailing, mail_rules};
 ghost use Rattle.app_tally.specs.Counts.{times, tally_of, IsTally};
-ghost use Rattle.app_tally.specs.Lines.{IsLines};
 ghost use Rattle.app_tally.specs.Tallies.{tally_rules};
 ghost use Rattle.app_tally.specs.TallyRuns.{own_lines, tally_begins, tally_starts, TallyEnded};
 

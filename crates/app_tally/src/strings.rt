@@ -114,7 +114,7 @@ fn append(bytes: &mut Vec<u8>, spans: &mut Vec<Span>, string: &[u8]) -> Result<(
 }
 
 /// A short string is a letter: its bytes are below 256, as their type says.
-pub(crate) fn is_letter(string: &[u8])
+fn is_letter(string: &[u8])
     requires { length string.now ≤ 65_535 }
     ensures { IsLetter string.now }
 {}

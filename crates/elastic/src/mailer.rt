@@ -1,6 +1,6 @@
 //! A program that carries the letters of a letter program.
 
-ghost use Rattle.std.specs.Prelude.{◌≡◌, ◌<◌, ◌^◌, ◌∷◌, [], OnOk, OnErr, IfOk, map, length, replicate};
+ghost use Rattle.std.specs.Prelude.{◌≡◌, ◌<◌, ◌^◌, [], OnOk, OnErr, IfOk, map, length, replicate};
 ghost use Rattle.elastic.specs.Spelling.{IsLetter};
 ghost use Rattle.elastic.specs.LetterLaws.{StillSends};
 ghost use Rattle.elastic.specs.Mails.{mailing};

@@ -1,7 +1,7 @@
 //! Letters as items.
 
 ghost use Rattle.std.specs.Prelude.{◌≡◌, ◌<◌, ◌++◌, OnOk, IfOk, length, map, drop};
-ghost use Rattle.elastic.specs.Spelling.{IsLetter, word_of, first_item, next_item, spelling};
+ghost use Rattle.elastic.specs.Spelling.{word_of, first_item, next_item, spelling};
 ghost use Rattle.elastic.specs.Mails.{spelled};
 
 use crate::letter_program::LetterProgram;

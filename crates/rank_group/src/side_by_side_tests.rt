@@ -27,7 +27,17 @@ fn absorbs_while_ranks_turn(rt: HostRuntime) -> Result<(), Fail> {
     let watch = Watch::new();
     let lists: [&[u32]; 2] = [&[1, 1], &[]];
     let gate = Holds(&watch);
-    let told = drive_on(&rt, rt.alloc(), 2, &lists, &watch, Deed::Absorbs, &gate, 2, Via::Convey)?;
+    let told = drive_on(
+        &rt,
+        rt.alloc(),
+        2,
+        &lists,
+        &watch,
+        Deed::Absorbs,
+        &gate,
+        2,
+        Via::Convey,
+    )?;
     let Some((counts, epochs)) = told else {
         return Err(Fail::new("no grid"));
     };

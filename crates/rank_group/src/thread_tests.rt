@@ -1,6 +1,6 @@
 //! Runs on threads in a row, by both transports, and ranks that have no thread.
-use crate::{OpenGate, Via};
 use crate::watched::{Deed, Watch, drive_on, run_watched};
+use crate::{OpenGate, Via};
 use bale_types::NoMemory;
 use route_tensor::Grid;
 use std::alloc::Global;
@@ -17,8 +17,28 @@ fn rounds_of_two_runs<R: Threads + Wait + Sync>(
         return Ok((0, None));
     };
     let watch = Watch::new();
-    let one = run_watched(rt, alloc, &grid, &[], &watch, Deed::Counts, &OpenGate, 2, Via::Convey)?;
-    let two = run_watched(rt, alloc, &grid, &[], &watch, Deed::Counts, &OpenGate, 2, Via::Exstack)?;
+    let one = run_watched(
+        rt,
+        alloc,
+        &grid,
+        &[],
+        &watch,
+        Deed::Counts,
+        &OpenGate,
+        2,
+        Via::Convey,
+    )?;
+    let two = run_watched(
+        rt,
+        alloc,
+        &grid,
+        &[],
+        &watch,
+        Deed::Counts,
+        &OpenGate,
+        2,
+        Via::Exstack,
+    )?;
     let mut rounds = one.rounds;
     rounds.append(two.rounds)?;
     Ok((rounds.len(), rounds.get(1).map(|round| round.ranks())))

@@ -226,17 +226,7 @@ pub(crate) fn run_watched<'a, R: Threads + Wait + Sync, G: Gate + Sync>(
 {
     let ranks = grid.ranks();
     let progs = progs_of(alloc, ranks, lists, watch, deed)?;
-    drive_with::<1, 1, R, Watched<'a>, G>(
-        rt,
-        alloc,
-        grid,
-        via,
-        2,
-        false,
-        progs,
-        gate,
-        threads,
-    )
+    drive_with::<1, 1, R, Watched<'a>, G>(rt, alloc, grid, via, 2, false, progs, gate, threads)
 }
 
 /// The same, and how often each column was named, and the epochs.

@@ -73,4 +73,3 @@ returns-clause-moves g c =
       agrees = e.agrees;
     } in
     after_poll g.row.CAP x0 (in_exchange x0) x2 false true sent sent' got got' m R run run refl refl (λ h is. exchanged R h run g.row.CAP x0 x2 sent got sent' got' p is)
-

@@ -4,7 +4,6 @@ use Rattle.rank_node.specs.Pulls.{Pops}
 use Rattle.rank_node.proofs.Popped.{pops_none, pops_rest, pops_both, all_read}
 use Rattle.rank_node.proofs.stacking.pop_all.Goals as goal
 
-
 pub loop-sender-preserved : goal.loop-sender-preserved
 loop-sender-preserved g c =
     pops_both g.Q.Program.rules c.args.voting c.args.exstack.now c.next_sender.new.self c.pop_batch-taken.new.exstack c.args.prog.now.value c.loop-sender.prog.value c.pop_batch-taken.new.prog.value

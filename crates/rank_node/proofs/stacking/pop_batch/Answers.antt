@@ -7,7 +7,6 @@ use Rattle.exstack.specs.State.{State, in_at, pops, unread_of}
 use Rattle.rank_node.proofs.Popped.{pops_none, pops_next, pops_at, fewer_next, batch_some}
 use Rattle.rank_node.proofs.stacking.pop_batch.Goals as goal
 
-
 pub loop-entry-preserved : goal.loop-entry-preserved
 loop-entry-preserved g c =
     let e : Entry = get_or c.batch-entry-items.result.now c.loop-entry.entry-index (plain _) in

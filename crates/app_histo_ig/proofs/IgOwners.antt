@@ -59,7 +59,7 @@ second_round ranks m some is =
     ap (λ s. ig_rules.ended s votes) same)
 
 -- the sum that a column's owner has
-owner_sum : (ranks : ℕ) (m : Sparse) (j : ℕ) → 0 < ranks → j < m.cols → get_or (sums_of ranks m (j % ranks)) (j / ranks) 0 ≡ column_bits m.entries j
+pub owner_sum : (ranks : ℕ) (m : Sparse) (j : ℕ) → 0 < ranks → j < m.cols → get_or (sums_of ranks m (j % ranks)) (j / ranks) 0 ≡ column_bits m.entries j
 owner_sum ranks m j some low =
     let zeros : List ℕ = replicate (places_for ranks m.cols) 0 in
     let place : j / ranks < places_for ranks m.cols = place_below ranks m.cols j some low in

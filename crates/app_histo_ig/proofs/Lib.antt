@@ -8,3 +8,5 @@ pub mod IgQueries
 pub mod IgRounds
 pub mod IgSteps
 pub mod IgText
+pub mod SumsAsked
+pub mod SumsStarts

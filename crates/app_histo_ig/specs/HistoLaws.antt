@@ -8,7 +8,7 @@ use Rattle.round_program.specs.Laws.{Laws, Fits, SameRound, IsItem}
 use Rattle.app_histo_ig.specs.Histos.{HistoState, IsHisto, histo_rules, may_count, to_column, counted_item}
 use Rattle.app_histo_ig.specs.OwnerLaws.{risen_comm, risen_len}
 
-count_within : (shape : List ℕ) (ranks round to from : ℕ) (x : Item) → may_count shape ranks round to from x ≡ true → (to < ranks) × (from < ranks) × IsItem x
+pub count_within : (shape : List ℕ) (ranks round to from : ℕ) (x : Item) → may_count shape ranks round to from x ≡ true → (to < ranks) × (from < ranks) × IsItem x
 count_within [] ranks round to from x h = absurd (cc)
 count_within (cols ∷ []) ranks round to from x h = (grind (arith, nat_tests), grind (arith, nat_tests), grind (arith, nat_tests))
 count_within (cols ∷ (c ∷ cs)) ranks round to from x h = absurd (cc)

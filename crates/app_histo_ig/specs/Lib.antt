@@ -1,3 +1,7 @@
+pub mod Asking
+pub mod AskingLaws
+pub mod AskingRuns
+pub mod AskingView
 pub mod HistoLaws
 pub mod HistoLines
 pub mod HistoRuns
@@ -10,3 +14,7 @@ pub mod IgView
 pub mod Igs
 pub mod OwnerLaws
 pub mod Owners
+pub mod Sums
+pub mod SumsLaws
+pub mod SumsRuns
+pub mod SumsView

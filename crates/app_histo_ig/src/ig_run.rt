@@ -74,7 +74,7 @@ fn own_of(alloc: Global, parts: &Parts, rank: u32) -> Result<Vec<(u32, u32)>, No
 }
 
 /// The values of a rank's entries, for the owners of their columns.
-fn values_of(
+pub(crate) fn values_of(
     alloc: Global,
     parts: &Parts,
     ranks: u32,
@@ -106,7 +106,7 @@ fn value_sent(entry: Triple) -> Item
 }
 
 /// So many numbers 0.
-fn zeros(alloc: Global, n: usize) -> Result<Vec<u64>, NoMemory>
+pub(crate) fn zeros(alloc: Global, n: usize) -> Result<Vec<u64>, NoMemory>
     ensures { IfOk result (λ v. v.items ≡ replicate n 0) }
 {
     Ok(vec![in alloc; 0u64; n]?)

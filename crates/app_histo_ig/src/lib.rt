@@ -7,6 +7,8 @@
 //! | [`histo_write`] | the programs, once they ended | a line for each column: column, count |
 //! | [`ig_start`] | the programs of ig on so many ranks | in round 0 of a run of three rounds |
 //! | [`ig_write`] | the programs, once they ended | a line for each entry: row, column, sum of the column |
+//! | [`ig_sums_start`] | the programs of ig's first round alone | in round 0 of a run of one round |
+//! | [`ig_askers`] | these programs, once they ended | ranks that ask one another for the sums of their entries' columns |
 //!
 //! The entries are dealt out in turn, and column `j` belongs to rank `j mod P`. What the lines are is said of the matrix
 //! alone (`specs/HistoLines` and `specs/IgLines`): no rank, no round and no order of items occurs there.
@@ -17,12 +19,18 @@
 mod histo;
 mod histo_run;
 mod ig;
+mod ig_asker;
+mod ig_by_askers;
 mod ig_lists;
 mod ig_run;
+mod ig_sums;
 #[cfg(test)]
 mod tests;
 
 pub use histo::Histo;
 pub use histo_run::{histo_start, histo_write};
 pub use ig::Ig;
+pub use ig_asker::IgAsker;
+pub use ig_by_askers::{ig_askers, ig_sums_start};
 pub use ig_run::{ig_start, ig_write};
+pub use ig_sums::IgSums;

@@ -2,10 +2,10 @@
 //! compared where a drive proves that its programs ended.
 
 use super::*;
-use crate::{histo_run, ig_run};
+use crate::{histo_run, ig_by_askers, ig_run};
 use bale_types::{Item, MemSink, NoMemory, Out, value_of};
 use mtx_text::parse_matrix;
-use round_program::{Program, Progs};
+use round_program::{Asker, Program, Progs};
 use std::alloc::Global;
 use std::test::Fail;
 
@@ -155,6 +155,30 @@ fn sums_of_columns(rt: HostRuntime) -> Result<(), Fail> {
                     sum_at(&ended, e) == Some(*sum),
                     "entry {e} on {ranks} ranks"
                 );
+            }
+        }
+    }
+    Ok(())
+}
+
+#[test]
+fn askers_of_sums(rt: HostRuntime) -> Result<(), Fail> {
+    let alloc = rt.alloc();
+    let text = b"%%MatrixMarket matrix coordinate integer general\n2 3 3\n1 3 -7\n2 1 4\n2 3 9\n";
+    let m = parse_matrix(alloc, text)?;
+    let rows: [(u32, u64, (u32, u64)); 3] = [(1, 3, (0, 2)), (2, 2, (0, 2)), (64, 1, (2, 2))];
+    for (ranks, count, query) in rows {
+        let (ended, rounds) = run(alloc, ig_sums_start(alloc, &m, ranks)?)?;
+        assert!(rt; rounds == 1);
+        let mut askers = ig_by_askers::all_askers(alloc, ended)?;
+        assert!(rt; askers.len() == ranks as usize);
+        if let Some(mut first) = askers.take_first() {
+            assert!(rt; first.rank() == 0 && first.ranks() == ranks && first.count() == count);
+            assert!(rt; value_of(first.answer(0, 0)) == 4);
+            if first.count() > 0 {
+                assert!(rt; first.query(0) == query);
+                first.hear(0, 5);
+                assert!(rt; first.answers().get(0).copied() == Some(5));
             }
         }
     }

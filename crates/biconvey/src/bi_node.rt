@@ -104,7 +104,7 @@ impl<A: Asker, const CAP: usize, const HOPS: usize> BiNode<A, CAP, HOPS> {
         ensures ended { result ≡ Ok Turn.Ended → (self.new.queries.phase ≡ Phase.Complete) × (self.new.replies.phase ≡ Phase.Complete) }
         ensures going { result ≡ Ok Turn.Going → self.new.queries.phase ≡ Phase.Complete → self.new.replies.phase ≢ Phase.Complete }
 
-        // A query is left to push exactly where a push was refused, and one that came is unread exactly where its answer was refused.
+        // A query is left to push only where a push was refused, and one that came is unread only where an answer was refused.
         ensures unasked { (to : ℕ) (x : Item) → slice_get (asks_of A.talk self.new.asker) self.new.next ≡ Some (to, x) → WasRefused self.old.queries CAP }
         ensures unanswered { AllRead self.new.queries ⊎ WasRefused self.old.replies CAP }
 

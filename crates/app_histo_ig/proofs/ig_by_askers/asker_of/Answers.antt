@@ -1,0 +1,38 @@
+use Rattle.std.proofs.Common.{◌≡◌, ℕ, ◌<◌, ◌^◌, All, map, length, replicate, arith, sym, ap, ◌∙◌, subst}
+use Rattle.std.specs.Prelude.{vec_len}
+use Rattle.std.proofs.lemmas.List.{length-map, length-replicate}
+use Rattle.bale_types.specs.declared.Item.{Item}
+use Rattle.app_histo_ig.proofs.SumsAsked.{asks_ranks, asker_is}
+use Rattle.app_histo_ig.proofs.ig_by_askers.asker_of.Goals as goal
+
+pub new-requires-clause-some : goal.new-requires-clause-some
+new-requires-clause-some c =
+    let own : c.args.q.rank < c.args.q.ranks = c.rank-rank.ensures.valid.own in
+    let all : c.ranks-ranks.result ≡ c.args.q.ranks = c.ranks-ranks.ensures in
+    omega arith
+
+pub new-requires-clause-asks : goal.new-requires-clause-asks
+new-requires-clause-asks c =
+    let is : c.in_ok-queries.queries.items ≡ map (λ (e : ℕ × Item). (e.0, e.1.a)) c.args.q.values =
+    c.in_ok-queries.ensures ∙ ap (map {B = ℕ × ℕ} (λ (e : ℕ × Item). (e.0, e.1.a))) (c.deref.ensures.value ∙ c.into_added-added.ensures.values) in
+    subst (All (λ q. (q.0 < c.ranks-ranks.result) × (q.1 < 2 ^ 64))) (sym is)
+    (subst (λ n. All (λ q. (q.0 < n) × (q.1 < 2 ^ 64)) (map (λ (e : ℕ × Item). (e.0, e.1.a)) c.args.q.values)) (sym c.ranks-ranks.ensures) (asks_ranks c.args.q c.rank-rank.ensures.valid))
+
+pub new-requires-clause-words : goal.new-requires-clause-words
+new-requires-clause-words c = subst (All (λ v. v < 2 ^ 64)) (sym c.into_added-added.ensures.sums) c.rank-rank.ensures.valid.words
+
+pub new-requires-clause-places : goal.new-requires-clause-places
+new-requires-clause-places c =
+    let size : vec_len c.in_ok-queries.queries ≡ length c.in_ok-queries.queries.items = omega (arith, c.in_ok-queries.queries.ok.0) in
+    ap length c.in_ok-answers.ensures ∙ length-replicate c.len.result 0 ∙ c.len.ensures ∙ size
+
+pub returns : goal.returns
+returns c =
+    let f : ℕ × Item → ℕ × ℕ = λ e. (e.0, e.1.a) in
+    let is : c.in_ok-queries.queries.items ≡ map (λ (e : ℕ × Item). (e.0, e.1.a)) c.args.q.values =
+    c.in_ok-queries.ensures ∙ ap (map {B = ℕ × ℕ} (λ (e : ℕ × Item). (e.0, e.1.a))) (c.deref.ensures.value ∙ c.into_added-added.ensures.values) in
+    let size : vec_len c.in_ok-queries.queries ≡ length c.in_ok-queries.queries.items = omega (arith, c.in_ok-queries.queries.ok.0) in
+    c.new.ensures
+    ∙ asker_is c.args.q c.rank-rank.result c.ranks-ranks.result c.in_ok-queries.queries.items c.into_added-added.result.sums.items c.in_ok-answers.answers.items
+    c.rank-rank.ensures.value c.ranks-ranks.ensures is c.into_added-added.ensures.sums
+    (c.in_ok-answers.ensures ∙ ap (λ n. replicate n 0) (c.len.ensures ∙ size ∙ ap length is ∙ length-map c.args.q.values f))

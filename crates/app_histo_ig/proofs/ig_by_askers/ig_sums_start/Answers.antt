@@ -1,0 +1,21 @@
+use Rattle.std.proofs.Common.{◌≡◌, [], ◌∷◌, arith, map, sym, ap, ◌∙◌, subst}
+use Rattle.std.specs.List.{range_with_len}
+use Rattle.round_program.specs.Canonical.{InRound}
+use Rattle.app_histo_ig.specs.Sums.{sums_rules}
+use Rattle.app_histo_ig.specs.SumsRuns.{sums_begins, sums_starts}
+use Rattle.sparse_rows.proofs.Starts.{made_more}
+use Rattle.app_histo_ig.proofs.SumsStarts.{starts_in_round, within_one}
+use Rattle.app_histo_ig.proofs.ig_by_askers.ig_sums_start.Goals as goal
+
+pub loop-rank-preserved : goal.loop-rank-preserved
+loop-rank-preserved c =
+    made_more (sums_begins c.args.ranks c.args.m.now) c.loop-rank.rank c.loop-rank.progs c.add.new.self c.in_ok-summing.field-0 c.loop-rank.invariant c.in_ok-summing.ensures c.in_ok-add.ensures.added
+
+pub returns-clause-begins : goal.returns-clause-begins
+returns-clause-begins c =
+    let all : c.loop-rank.rank ≡ c.args.ranks = omega arith in
+    let is : c.loop-rank.progs ≡ sums_starts c.args.ranks c.args.m.now = c.loop-rank.invariant ∙ ap (λ n. map (sums_begins c.args.ranks c.args.m.now) (range_with_len 0 n)) all in
+    subst (InRound sums_rules c.args.ranks 0 (c.args.m.now.cols ∷ []) 1) (sym is) (starts_in_round c.args.ranks c.args.m.now c.entries-kept.ensures.kept)
+
+pub returns-clause-ends : goal.returns-clause-ends
+returns-clause-ends c = within_one c.loop-rank.progs

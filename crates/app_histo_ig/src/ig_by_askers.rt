@@ -1,0 +1,105 @@
+//! ig by queries and replies at once: the programs that add up columns, and the askers that they leave.
+
+ghost use Rattle.std.specs.Prelude.{◌≡◌, ◌<◌, ◌≤◌, [], ◌∷◌, length, map, IfOk};
+ghost use Rattle.sparse_rows.specs.Parts.{parts_of};
+ghost use Rattle.round_program.specs.Canonical.{InRound, EndsWithin};
+ghost use Rattle.app_histo_ig.specs.Sums.{sums_rules};
+ghost use Rattle.app_histo_ig.specs.SumsRuns.{sums_begins, sums_starts, SumsEnded};
+ghost use Rattle.app_histo_ig.specs.AskingRuns.{asker_from, AreAskersOf};
+
+use crate::ig_asker::IgAsker;
+use crate::ig_run::{values_of, zeros};
+use crate::ig_sums::IgSums;
+use bale_types::{Item, NoMemory};
+use mtx_text::Matrix;
+use round_program::{Program, Progs};
+use sparse_rows::{Parts, split};
+use std::alloc::Global;
+
+/// The programs of ig's first round alone on `ranks` ranks, from 1 to 64, in round 0 of a run of one round.
+///
+/// # Errors
+///
+/// `NoMemory` where there was none for the programs.
+pub fn ig_sums_start(alloc: Global, m: &Matrix, ranks: u32) -> Result<Progs<IgSums>, NoMemory>
+    requires some { 1 ≤ ranks }
+    requires few { ranks ≤ 64 }
+    ensures starts { IfOk result (λ ps. ps ≡ sums_starts ranks m.now) }
+    ensures begins { IfOk result (λ ps. InRound sums_rules ranks 0 (m.now.cols ∷ []) 1 ps) }
+    ensures ends { IfOk result (λ ps. EndsWithin sums_rules ps 1) }
+{
+    let parts = split(alloc, m, ranks)?;
+    let _kept = m.entries();
+    let mut progs = Progs::new(alloc);
+    for rank in 0..ranks {
+        progs.add(summing(alloc, m, &parts, ranks, rank)?)?;
+    }
+    Ok(progs)
+}
+
+/// One rank's program.
+fn summing(
+    alloc: Global,
+    m: &Matrix,
+    parts: &Parts,
+    ranks: u32,
+    rank: u32,
+) -> Result<IgSums, NoMemory>
+    requires rank { rank < ranks }
+    requires parts { parts.now ≡ parts_of ranks m.now.entries }
+    ensures { IfOk result (λ s. s ≡ sums_begins ranks m.now rank) }
+{
+    let _kept = m.entries();
+    let values = values_of(alloc, parts, ranks, rank)?;
+    let sums = zeros(alloc, (m.cols() / ranks + 1) as usize)?;
+    Ok(IgSums::new(rank, ranks, m.cols(), values, sums))
+}
+
+/// The askers of the same ranks, once the programs of `ig_sums_start` on this matrix have ended.
+///
+/// # Errors
+///
+/// `NoMemory` where there was none for the askers.
+pub fn ig_askers(alloc: Global, m: &Matrix, p: Progs<IgSums>) -> Result<Progs<IgAsker>, NoMemory>
+    requires ended { SumsEnded m.now p }
+    ensures { IfOk result (λ qs. AreAskersOf m.now (length p) qs) }
+{
+    let askers = all_askers(alloc, p)?;
+    Ok(askers)
+}
+
+/// The asker of each rank.
+pub(crate) fn all_askers(alloc: Global, p: Progs<IgSums>) -> Result<Progs<IgAsker>, NoMemory>
+    ensures { IfOk result (λ qs. qs ≡ map asker_from p) }
+{
+    let mut p = p;
+    let mut askers = Progs::new(alloc);
+    while let Some(q) = p.take_first() {
+        askers.add(asker_of(alloc, q)?)?;
+    }
+    Ok(askers)
+}
+
+/// The asker of one rank.
+fn asker_of(alloc: Global, q: IgSums) -> Result<IgAsker, NoMemory>
+    ensures { IfOk result (λ a. a ≡ asker_from q) }
+{
+    let rank = q.rank();
+    let ranks = q.ranks();
+    let added = q.into_added();
+    let queries = queries_of(alloc, &added.values)?;
+    let answers = zeros(alloc, queries.len())?;
+    Ok(IgAsker::new(rank, ranks, queries, added.sums, answers))
+}
+
+/// For each value its column's owner and its column.
+fn queries_of(alloc: Global, values: &[(u32, Item)]) -> Result<Vec<(u32, u64)>, NoMemory>
+    ensures { IfOk result (λ v. v.items ≡ map (λ e. (e.0, e.1.a)) values.now) }
+{
+    let mut queries = Vec::with_capacity(alloc, values.len())?;
+    for value in values {
+        let (to, item) = *value;
+        queries.push((to, item.a))?;
+    }
+    Ok(queries)
+}

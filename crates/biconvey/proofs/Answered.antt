@@ -14,7 +14,7 @@ use Rattle.convey.specs.Buffers.{buffers_of, in_of}
 use Rattle.convey.specs.Conveyors.{KeepsAgreement, IsStepOf, GivesNext}
 use Rattle.convey.specs.Parts.{part_of}
 use Rattle.round_program.specs.Talks.{Talk}
-use Rattle.biconvey.specs.Replies.{carrying, answers}
+use Rattle.round_program.specs.Replies.{carrying, answers}
 use Rattle.convey.specs.Conveyors.{standing_toward}
 use Rattle.biconvey.specs.Taking.{AnswersOn, Answers, PushesAnswer}
 use Rattle.biconvey.proofs.Offering.{item_here, item_other}

@@ -1,7 +1,7 @@
 -- The definitions on one exchange: rank 0 of two asks rank 1 the questions 5, 6 and 7, and each is answered with the next number.
 use Rattle.std.proofs.Common.{◌≡◌, ℕ, zero, suc, [], ◌∷◌, refl}
 use Rattle.biconvey.specs.Adders.{AdderState, adder_talk}
-use Rattle.biconvey.specs.Replies.{carrying, queries_to, replies_of, heard_by, answered}
+use Rattle.round_program.specs.Replies.{carrying, queries_to, replies_of, heard_by, answered}
 
 abbrev asker : AdderState
 asker = record { rank = 0; ranks = 2; queries = (1, 5) ∷ (1, 6) ∷ (1, 7) ∷ []; heard = 0 ∷ 0 ∷ 0 ∷ [] }

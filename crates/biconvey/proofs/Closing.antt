@@ -12,7 +12,7 @@ use Rattle.convey.specs.Law.{AgreeTogether, ClosesLaw}
 use Rattle.convey.specs.Parts.{part_of}
 use Rattle.round_program.specs.Canonical.{items_of}
 use Rattle.round_program.specs.Talks.{Talk, TalkLaws}
-use Rattle.biconvey.specs.Replies.{asks_of, queries_to, answers, replies_of, answered}
+use Rattle.round_program.specs.Replies.{asks_of, queries_to, answers, replies_of, answered}
 use Rattle.biconvey.specs.States.{BiState, Sides}
 use Rattle.biconvey.specs.Ranks.{AllRanks, HearsInOrder, OrderLaw, AllComplete, EndLaw}
 use Rattle.biconvey.proofs.Theorem.{answers_begin}

@@ -35,7 +35,7 @@ use Rattle.round_program.proofs.Items.{items_total}
 use Rattle.rank_group.proofs.Bounded.{all_flat}
 use Rattle.rank_group.proofs.Counted.{pushed_in, all_links, log_short}
 use Rattle.rank_group.proofs.Pushed.{flow_pushed}
-use Rattle.biconvey.specs.Replies.{carrying, asks_of}
+use Rattle.round_program.specs.Replies.{carrying, asks_of}
 use Rattle.biconvey.specs.States.{BiState, Sides}
 use Rattle.biconvey.specs.Ranks.{AllRanks}
 use Rattle.biconvey.specs.Ways.{entries_of, move_of, moves, IsWay}

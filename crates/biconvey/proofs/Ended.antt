@@ -24,12 +24,12 @@ use Rattle.convey.specs.Buffers.{buffers_of, in_of, is_complete}
 use Rattle.convey.specs.Law.{ClosesLaw}
 use Rattle.convey.specs.Parts.{part_of}
 use Rattle.round_program.specs.Talks.{Talk, TalkLaws}
-use Rattle.biconvey.specs.Replies.{answers, answered_from}
+use Rattle.round_program.specs.Replies.{answers, answered_from, HaveHeard}
 use Rattle.biconvey.specs.States.{BiState, IsBiNode}
 use Rattle.biconvey.specs.Ranks.{AllRanks, AllComplete}
 use Rattle.biconvey.specs.Ways.{conveyor_in, inbox, Lawful, IsWay}
 use Rattle.biconvey.specs.Worlds.{AreBanks, World, is_over, queries_in, sides_of, turns_of}
-use Rattle.biconvey.specs.Drives.{AreAskers, HaveHeard, queries_of, answers_of, queries_by, replies_by, TellsWay, TellsExchange, AreFresh, askers_of}
+use Rattle.biconvey.specs.Drives.{AreAskers, queries_of, answers_of, queries_by, replies_by, TellsWay, TellsExchange, AreFresh, askers_of}
 use Rattle.biconvey.proofs.Swept.{queries_lawful}
 use Rattle.biconvey.proofs.Counting.{size, nth, at, all_ranks}
 use Rattle.biconvey.proofs.Closing.{all_asked, replied_of, queries_close, all_answered, ask_over}

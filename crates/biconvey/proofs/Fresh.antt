@@ -19,7 +19,7 @@ use Rattle.convey.specs.Conveyors.{AgreesWith, KeepsAgreement}
 use Rattle.convey.specs.Law.{IsSound}
 use Rattle.convey.specs.Parts.{part_of, pushed_to, pulled_of}
 use Rattle.round_program.specs.Talks.{Talk}
-use Rattle.biconvey.specs.Replies.{hearing, places_to, answers}
+use Rattle.round_program.specs.Replies.{hearing, places_to, answers}
 use Rattle.biconvey.specs.Lines.{HasLines}
 use Rattle.biconvey.specs.Taking.{HasHeard}
 use Rattle.biconvey.specs.States.{IsFirst, IsBiNode}

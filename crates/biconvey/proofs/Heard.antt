@@ -13,7 +13,7 @@ use Rattle.convey.specs.Buffers.{buffers_of, in_of}
 use Rattle.convey.specs.Conveyors.{KeepsAgreement, IsStepOf, GivesNext}
 use Rattle.convey.specs.Parts.{part_of}
 use Rattle.round_program.specs.Talks.{Talk, TalkLaws, SameTalk}
-use Rattle.biconvey.specs.Replies.{heard_by, places_to}
+use Rattle.round_program.specs.Replies.{heard_by, places_to}
 use Rattle.biconvey.specs.Taking.{HasHeard, Hears, HearsOne}
 use Rattle.biconvey.proofs.Offering.{item_here, item_other}
 use Rattle.biconvey.proofs.Orders.{Small, with_reply, hear_at, heard_more, hearing_keeps, place_low}

@@ -15,7 +15,7 @@ use Rattle.list_laws.proofs.Lists.{within, get_map, all_get, all_from_gets, got_
 use Rattle.round_program.specs.Canonical.{items_of}
 use Rattle.round_program.specs.Talks.{Talk, TalkLaws}
 use Rattle.round_program.proofs.Items.{items_more, items_more_other}
-use Rattle.biconvey.specs.Replies.{carrying, asks_of}
+use Rattle.round_program.specs.Replies.{carrying, asks_of}
 use Rattle.biconvey.specs.Taking.{PushedOn, Pushes}
 
 -- where a list got one more item

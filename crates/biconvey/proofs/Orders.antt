@@ -7,7 +7,7 @@ use Rattle.list_laws.proofs.Lists.{all_head, all_tail}
 use Rattle.round_program.specs.Talks.{Talk, TalkLaws, SameTalk}
 use Rattle.round_program.specs.Canonical.{items_of}
 use Rattle.round_program.proofs.Items.{items_here, items_other}
-use Rattle.biconvey.specs.Replies.{carrying, as_items, answers, heard_first, less_first, hearing, places_to, answered_from}
+use Rattle.round_program.specs.Replies.{carrying, as_items, answers, heard_first, less_first, hearing, places_to, answered_from}
 
 abbrev pub Small : List Item → Type 0
 Small xs = All (λ x. x.a < 2 ^ 64) xs

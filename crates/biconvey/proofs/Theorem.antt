@@ -6,7 +6,7 @@ use Rattle.list_laws.specs.Lists.{Begins}
 use Rattle.port_bank.proofs.Fronts.{begins_trans, begins_map}
 use Rattle.port_bank.proofs.Pipeline.{Keeps, arrives_in_order, arrives_whole}
 use Rattle.round_program.specs.Talks.{Talk}
-use Rattle.biconvey.specs.Replies.{carrying, queries_to, answers, replies_of}
+use Rattle.round_program.specs.Replies.{carrying, queries_to, answers, replies_of}
 use Rattle.biconvey.specs.Banks.{IsLawful, sent_to, got_from, RepliesBegin, RepliesEnd}
 
 keeps : (dims : List ℕ) (sent got : Logs) → IsLawful dims sent got → Keeps dims sent got

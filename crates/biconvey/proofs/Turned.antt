@@ -19,7 +19,7 @@ use Rattle.convey.specs.Parts.{part_of}
 use Rattle.convey.specs.Progress.{advance_step}
 use Rattle.convey.specs.declared.progress.Progress.{Progress}
 use Rattle.round_program.specs.Talks.{Talk, TalkLaws, SameTalk}
-use Rattle.biconvey.specs.Replies.{carrying, as_items, asks_of, answers}
+use Rattle.round_program.specs.Replies.{carrying, as_items, asks_of, answers}
 use Rattle.biconvey.specs.Taking.{IsPushed, IsAnswered, Pushes, Answers, HasHeard, Hears}
 use Rattle.biconvey.specs.States.{BiState, AllRead, IsBiNode}
 use Rattle.biconvey.proofs.Offering.{asked_below}

@@ -8,7 +8,7 @@ use Rattle.port_bank.specs.Logs.{Logs, lasts}
 use Rattle.port_bank.specs.Flow.{hop_link, flow}
 use Rattle.port_bank.specs.Relay.{RelayLaw}
 use Rattle.round_program.specs.Talks.{Talk}
-use Rattle.biconvey.specs.Replies.{queries_to, answers, replies_of}
+use Rattle.round_program.specs.Replies.{queries_to, answers, replies_of}
 
 -- A lawful bank, be it plain or of slots: what was got on a link is the front of what was sent, and each rank keeps the
 -- relay law.

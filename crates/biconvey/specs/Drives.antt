@@ -1,5 +1,5 @@
 -- An exchange of queries and replies by all ranks, as it begins and ends.
-use Rattle.std.specs.Prelude.{◌≡◌, ℕ, ◌<◌, Bool, List, [], length, map, Option, Some, None, slice_get, slice_index_or}
+use Rattle.std.specs.Prelude.{◌≡◌, ℕ, ◌<◌, Bool, List, [], length, map, Option, Some, None, slice_get}
 use Rattle.bale_types.specs.declared.item.Item.{Item}
 use Rattle.route_tensor.specs.Grid.{ranks}
 use Rattle.route_tensor.specs.Link.{links}
@@ -10,18 +10,13 @@ use Rattle.convey.specs.Agreement.{EndsLast}
 use Rattle.convey.specs.Buffers.{in_of}
 use Rattle.rank_group.specs.Told.{Made}
 use Rattle.round_program.specs.Talks.{Talk}
-use Rattle.biconvey.specs.Replies.{queries_to, answers, answered}
+use Rattle.round_program.specs.Replies.{queries_to, answers}
 use Rattle.biconvey.specs.States.{BiState, IsBiNode}
 
 -- Askers for the ranks 0, 1, .., p - 1, in this order.
 pub record AreAskers {S : Type 0} (T : Talk S) (p : ℕ) (askers : List S) : Type 0 where
   pub size : length askers ≡ p
   pub each : (r : ℕ) (s : S) → slice_get askers r ≡ Some s → (T.rank s ≡ r) × (T.ranks s ≡ p)
-
--- The askers after each has heard, for each of its queries in order, the answer of the rank asked.
-pub record HaveHeard {S : Type 0} (T : Talk S) (askers ends : List S) : Type 0 where
-  pub size : length ends ≡ length askers
-  pub each : (r : ℕ) (s : S) → slice_get askers r ≡ Some s → slice_get ends r ≡ Some (answered T (λ d. slice_index_or askers d s) r)
 
 -- The queries of the pair (s,d), and the replies of (d,s), of some askers; none where there is no such rank.
 abbrev pub queries_of : {S : Type 0} → Talk S → Option S → ℕ → List Item

@@ -1,4 +1,3 @@
-pub mod Replies
 pub mod Banks
 pub mod Lines
 pub mod Taking

@@ -1,6 +1,6 @@
 -- For each rank, the queries to it that wait for a reply.
 use Rattle.std.specs.Prelude.{◌≡◌, ℕ, ◌<◌, List, length, slice_get, Some}
-use Rattle.biconvey.specs.Replies.{places_to}
+use Rattle.round_program.specs.Replies.{places_to}
 
 -- A line for each of p ranks, with the numbers of all queries to it.
 pub record HasLines (p : ℕ) (queries : List (ℕ × ℕ)) (lines : List (List ℕ)) : Type 0 where

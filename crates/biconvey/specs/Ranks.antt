@@ -10,7 +10,7 @@ use Rattle.hop_core.specs.declared.phase.Phase.TheVariants.{Complete}
 use Rattle.convey.specs.Buffers.{buffers_of}
 use Rattle.convey.specs.Parts.{part_of}
 use Rattle.round_program.specs.Talks.{Talk}
-use Rattle.biconvey.specs.Replies.{replies_of, heard_by, answered}
+use Rattle.round_program.specs.Replies.{replies_of, heard_by, answered}
 use Rattle.biconvey.specs.States.{BiState, Sides, IsBiNode}
 
 -- Of these, those of the links that start at rank r, or end there.

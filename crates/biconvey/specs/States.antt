@@ -11,7 +11,7 @@ use Rattle.convey.specs.Conveyors.{AgreesWith, standing_toward}
 use Rattle.convey.specs.Law.{IsSound}
 use Rattle.convey.specs.Parts.{part_of}
 use Rattle.round_program.specs.Talks.{Talk}
-use Rattle.biconvey.specs.Replies.{asks_of}
+use Rattle.round_program.specs.Replies.{asks_of}
 use Rattle.biconvey.specs.Taking.{IsPushed, IsAnswered, HasHeard}
 
 -- What contracts see of a BiNode: its asker, how many queries are pushed, for each rank the numbers of the queries to it that

@@ -14,7 +14,7 @@ use Rattle.convey.specs.Conveyors.{AgreesWith, KeepsAgreement, IsStepOf, standin
 use Rattle.convey.specs.Parts.{part_of}
 use Rattle.round_program.specs.Canonical.{items_of}
 use Rattle.round_program.specs.Talks.{Talk, SameTalk}
-use Rattle.biconvey.specs.Replies.{carrying, answers, heard_by, places_to}
+use Rattle.round_program.specs.Replies.{carrying, answers, heard_by, places_to}
 
 -- The first so many of some items to send were pushed: toward each of p ranks, those that go to it.
 abbrev pub IsPushed : List (ℕ × Item) → ℕ → ℕ → Part → Type 0

@@ -8,7 +8,7 @@ ghost use Rattle.port_bank.specs.Logs.{Logs};
 ghost use Rattle.convey.specs.Buffers.{buffers_of};
 ghost use Rattle.convey.specs.Conveyors.{AgreesWith, KeepsAgreement, standing_toward};
 ghost use Rattle.convey.specs.Parts.{part_of};
-ghost use Rattle.biconvey.specs.Replies.{asks_of};
+ghost use Rattle.round_program.specs.Replies.{asks_of};
 ghost use Rattle.biconvey.specs.Taking.{PushedOn, Pushes};
 
 use bale_types::Item;

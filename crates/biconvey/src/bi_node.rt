@@ -10,7 +10,7 @@ ghost use Rattle.route_tensor.specs.Ends.{reader_at};
 ghost use Rattle.convey.specs.Buffers.{in_of, is_complete};
 ghost use Rattle.list_laws.specs.Lists.{Begins};
 ghost use Rattle.port_bank.specs.Shapes.{IsConveyorShape};
-ghost use Rattle.biconvey.specs.Replies.{asks_of};
+ghost use Rattle.round_program.specs.Replies.{asks_of};
 ghost use Rattle.biconvey.specs.States.{IsBiNode, IsFirst, AllRead, WasRefused};
 ghost use Rattle.biconvey.specs.Still.{IsStuck};
 

@@ -10,7 +10,8 @@ ghost use Rattle.rank_group.specs.declared.closed_round.ClosedRound.{ClosedRound
 ghost use Rattle.rank_group.specs.Ranks.{IsOrder};
 ghost use Rattle.rank_group.specs.Rounds.{round_of};
 ghost use Rattle.biconvey.specs.Worlds.{turns_of};
-ghost use Rattle.biconvey.specs.Drives.{AreAskers, HaveHeard, TellsExchange, askers_of};
+ghost use Rattle.round_program.specs.Replies.{HaveHeard};
+ghost use Rattle.biconvey.specs.Drives.{AreAskers, TellsExchange, askers_of};
 
 use crate::bi_node::BiNode;
 use crate::nodes::{nodes_of, take_askers};

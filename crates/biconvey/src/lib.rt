@@ -14,7 +14,7 @@
 //! | `replies_law` | the replies theorem, over any two lawful banks |
 //! | `askers_law` | what all ranks have heard, at every moment and at the end |
 //!
-//! `specs/Replies` says what a rank hears, with no word on how it travels; `specs/Banks` states the replies theorem.
+//! round_program's `specs/Replies` says what a rank hears, with no word on how it travels; `specs/Banks` states the replies theorem.
 #![tactic(auto)]
 
 mod answering;

@@ -9,7 +9,8 @@ ghost use Rattle.rank_group.specs.Ranks.{IsOrder};
 ghost use Rattle.rank_group.specs.Rounds.{round_of};
 ghost use Rattle.case_table.specs.Capacities.{IsCapacity};
 ghost use Rattle.biconvey.specs.Worlds.{turns_of};
-ghost use Rattle.biconvey.specs.Drives.{AreAskers, HaveHeard, TellsExchange};
+ghost use Rattle.round_program.specs.Replies.{HaveHeard};
+ghost use Rattle.biconvey.specs.Drives.{AreAskers, TellsExchange};
 
 use crate::capacities::by_capacity;
 use crate::drive::drive_both;

@@ -5,5 +5,6 @@ pub mod Epochs
 pub mod Injections
 pub mod Laws
 pub mod Orders
+pub mod Replies
 pub mod Rules
 pub mod Talks

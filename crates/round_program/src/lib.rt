@@ -20,7 +20,7 @@
 //!
 //! The definitions, in the order in which to read them: `Rules` (a program's meanings), `Laws`, `Canonical` (the canonical
 //! run), `Orders` (the interleaving theorem), `Epochs` (the theorem over all rounds), `Injections` (one program as a case of
-//! another), `Eithers` (either of two programs), `Talks` (askers).
+//! another), `Eithers` (either of two programs), `Talks` (askers), `Replies` (what askers hear).
 #![tactic(auto)]
 
 mod asker;

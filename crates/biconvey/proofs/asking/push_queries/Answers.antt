@@ -1,5 +1,5 @@
 use Rattle.std.proofs.Common.{arith}
-use Rattle.biconvey.specs.Replies.{asks_of}
+use Rattle.round_program.specs.Replies.{asks_of}
 use Rattle.biconvey.proofs.Offering.{push_more, offers_end, none_left}
 use Rattle.biconvey.proofs.asking.push_queries.Goals as goal
 

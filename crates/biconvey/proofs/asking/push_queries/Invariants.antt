@@ -1,5 +1,5 @@
 use Rattle.std.proofs.Common.{◌-◌}
-use Rattle.biconvey.specs.Replies.{asks_of}
+use Rattle.round_program.specs.Replies.{asks_of}
 use Rattle.biconvey.proofs.Offering.{Offers}
 use Rattle.biconvey.proofs.asking.push_queries.Given as goal
 

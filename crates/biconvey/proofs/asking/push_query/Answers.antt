@@ -5,7 +5,7 @@ use Rattle.convey.specs.Buffers.{buffers_of}
 use Rattle.convey.specs.Conveyors.{standing_toward}
 use Rattle.convey.specs.Parts.{part_of}
 use Rattle.list_laws.proofs.Lists.{all_get, get_once}
-use Rattle.biconvey.specs.Replies.{carrying, asks_of}
+use Rattle.round_program.specs.Replies.{carrying, asks_of}
 use Rattle.biconvey.proofs.Offering.{asked_at, push_on, full_at}
 use Rattle.biconvey.proofs.asking.push_query.Goals as goal
 

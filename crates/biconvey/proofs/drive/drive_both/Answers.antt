@@ -6,7 +6,8 @@ use Rattle.port_bank.specs.Round.{IsRound}
 use Rattle.rank_group.specs.Ranks.{IsOrder}
 use Rattle.rank_group.specs.declared.closed_round.ClosedRound.{ClosedRound}
 use Rattle.rank_group.specs.Rounds.{round_of}
-use Rattle.biconvey.specs.Drives.{HaveHeard, TellsExchange, askers_of}
+use Rattle.round_program.specs.Replies.{HaveHeard}
+use Rattle.biconvey.specs.Drives.{TellsExchange, askers_of}
 use Rattle.biconvey.proofs.Ended.{first, banks_first, world_first, begins, steps_at, world_last, banks_last, have_heard, told}
 use Rattle.biconvey.proofs.drive.drive_both.Goals as goal
 

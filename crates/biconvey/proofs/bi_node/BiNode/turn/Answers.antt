@@ -8,7 +8,7 @@ use Rattle.convey.specs.Buffers.{is_complete}
 use Rattle.convey.specs.Conveyors.{standing_toward}
 use Rattle.convey.specs.Progress.{progress_of}
 use Rattle.convey.specs.declared.progress.Progress.TheVariants as progress
-use Rattle.biconvey.specs.Replies.{as_items, asks_of}
+use Rattle.round_program.specs.Replies.{as_items, asks_of}
 use Rattle.biconvey.specs.Taking.{Pushes, Answers}
 use Rattle.biconvey.specs.States.{BiState, Sides, AllRead, IsBiNode, WasRefused}
 use Rattle.biconvey.specs.Still.{IsStuck, Known}

@@ -1,5 +1,5 @@
 -- Queries and replies between ranks, with no word on how they travel.
-use Rattle.std.specs.Prelude.{ℕ, suc, ◌==◌, cond, List, [], ◌∷◌, map, drop}
+use Rattle.std.specs.Prelude.{◌≡◌, ℕ, suc, ◌==◌, cond, List, [], ◌∷◌, length, map, drop, Some, slice_get, slice_index_or}
 use Rattle.bale_types.specs.declared.item.Item.{Item}
 use Rattle.round_program.specs.Talks.{Talk}
 use Rattle.round_program.specs.Canonical.{items_of}
@@ -62,3 +62,8 @@ answered_from T all r s i (q ∷ qs) = answered_from T all r (T.heard s i (T.ans
 
 abbrev pub answered : {S : Type 0} → Talk S → (ℕ → S) → ℕ → S
 answered T all r = answered_from T all r (all r) 0 (T.queries (all r))
+
+-- The askers of all ranks after each has heard, for each of its queries in order, the answer of the rank asked.
+pub record HaveHeard {S : Type 0} (T : Talk S) (askers ends : List S) : Type 0 where
+  pub size : length ends ≡ length askers
+  pub each : (r : ℕ) (s : S) → slice_get askers r ≡ Some s → slice_get ends r ≡ Some (answered T (λ d. slice_index_or askers d s) r)

@@ -3,7 +3,8 @@
 ghost use Rattle.std.specs.Prelude.{◌≡◌, ◌++◌, ℕ, List, [], ◌∷◌, Some, length, min};
 ghost use Rattle.std.specs.List.{sum_by};
 ghost use Rattle.bale_cli.specs.Logs.{bytes_of};
-ghost use Rattle.bale_cli.specs.Summary.{counted, ends_line};
+ghost use Rattle.list_laws.specs.Counts.{counted};
+ghost use Rattle.bale_cli.specs.Summary.{ends_line};
 
 use bale_types::{Failed, Sink};
 use std::marker::Model;

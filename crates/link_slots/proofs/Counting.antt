@@ -3,7 +3,8 @@ use Rattle.std.proofs.Common.{◌≡◌, ℕ, suc, ◌+◌, ◌-◌, ◌^◌, �
 use Rattle.std.proofs.Math.Nat.{suc-mod}
 use Rattle.link_slots.specs.Logs.{OutLog, InLog}
 use Rattle.link_slots.specs.Plays.{beyond}
-use Rattle.link_slots.specs.Counts.{IsOutEnd, IsInEnd, counted}
+use Rattle.list_laws.specs.Counts.{counted}
+use Rattle.link_slots.specs.Counts.{IsOutEnd, IsInEnd}
 
 module _ {T : Type 0} (slots : ℕ) where
   -- after a look for room

@@ -10,7 +10,7 @@ use Rattle.link_slots.specs.Seen.{Manning, collected_from, known, noted_at}
 use Rattle.link_slots.proofs.Moves.{in_here, in_there}
 use Rattle.link_slots.specs.Link.{one_where}
 use Rattle.link_slots.specs.Plays.{heard_by, marked_by}
-use Rattle.link_slots.specs.Counts.{counted}
+use Rattle.list_laws.specs.Counts.{counted}
 use Rattle.link_slots.specs.Doorbell.{is_due, HeardWhere, looked_where_marked, LookedFor, IsEven}
 
 leb-above : (a b : ℕ) → b < a → leb a b ≡ false

@@ -25,7 +25,8 @@ use Rattle.link_slots.specs.Hands.{Holds}
 use Rattle.link_slots.specs.Shape.{Shape, IsShape, wiring, IsBlank}
 use Rattle.link_slots.specs.Told.{Knowing}
 use Rattle.link_slots.specs.Own.{IsOwn}
-use Rattle.link_slots.specs.Counts.{IsOutEnd, IsInEnd, IsHeard, counted}
+use Rattle.list_laws.specs.Counts.{counted}
+use Rattle.link_slots.specs.Counts.{IsOutEnd, IsInEnd, IsHeard}
 use Rattle.link_slots.specs.Seat.{IsSeat}
 use Rattle.link_slots.specs.Gathering.{IsGathering, AreNew}
 use Rattle.link_slots.proofs.Opening.{all_one}

@@ -14,7 +14,8 @@ use Rattle.link_slots.specs.Logs.{InLog, Logs, in_of, with_in}
 use Rattle.link_slots.specs.Plays.{after_hear, heard_by, marked_by}
 use lib.ListN.{get_elem?}
 use Rattle.link_slots.specs.Shape.{Shape, IsShape, wiring, MayFollow}
-use Rattle.link_slots.specs.Counts.{counted, IsHeard, ElseKept, AreGood}
+use Rattle.list_laws.specs.Counts.{counted}
+use Rattle.link_slots.specs.Counts.{IsHeard, ElseKept, AreGood}
 use Rattle.link_slots.proofs.Listening.{heard_kept, heard_risen, heard_here, heard_else, length-map_from}
 use Rattle.link_slots.proofs.Wires.{wired, same_bell}
 use Rattle.link_slots.proofs.Moves.{in_here, in_there}

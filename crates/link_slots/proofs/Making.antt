@@ -19,7 +19,7 @@ use Rattle.item_buffer.specs.Contents.{shipped}
 use Rattle.port_bank.specs.Logs.{lasts}
 use Rattle.link_slots.specs.Logs.{got_of}
 use Rattle.link_slots.specs.Own.{IsOwn}
-use Rattle.link_slots.specs.Counts.{counted}
+use Rattle.list_laws.specs.Counts.{counted}
 use Rattle.link_slots.specs.View.{first_view, no_logs, logs_or}
 use Rattle.link_slots.specs.Closed.{logs_at, ended_of}
 use Rattle.link_slots.specs.Shape.{Shape, IsShape, wiring, IsBlank, MayFollow, KeepsLaw}

@@ -30,7 +30,8 @@ use Rattle.link_slots.specs.Logs.{OutLog, InLog, Logs, out_of, in_of, with_out, 
 use Rattle.link_slots.specs.View.{own_logs, with_logs}
 use Rattle.link_slots.specs.Shape.{Shape, MayFollow, KeepsLaw, shipped_all}
 use Rattle.link_slots.specs.Told.{Knowing, IsManned}
-use Rattle.link_slots.specs.Counts.{IsOutEnd, IsInEnd, IsHeard, AreGood, ElseKept, counted, ended_after}
+use Rattle.list_laws.specs.Counts.{counted}
+use Rattle.link_slots.specs.Counts.{IsOutEnd, IsInEnd, IsHeard, AreGood, ElseKept, ended_after}
 use Rattle.link_slots.specs.Seat.{IsSeat}
 use Rattle.link_slots.proofs.Moves.{own_with, out_here, out_there}
 use Rattle.link_slots.proofs.Hearing.{good_same, heard_same}

@@ -19,7 +19,7 @@ use Rattle.port_bank.specs.Round.{Round, logs_of, IsRound, ended_by_all}
 use Rattle.port_bank.proofs.Fronts.{begins_map}
 use Rattle.port_bank.proofs.Kept.{law_own}
 use Rattle.port_bank.proofs.Closing.{close_law, ended_more}
-use Rattle.link_slots.specs.Counts.{counted}
+use Rattle.list_laws.specs.Counts.{counted}
 use Rattle.link_slots.specs.Logs.{OutLog, InLog, Logs, no_out, no_in, out_of, in_of, sent_of, got_of, got}
 use Rattle.link_slots.specs.Link.{LinkOk}
 use Rattle.link_slots.specs.Shape.{Shape, IsShape, wiring, IsBlank, MayFollow, shipped_all}

@@ -10,7 +10,7 @@ use Rattle.link_slots.specs.Logs.{Logs, sent_of, got_of}
 use Rattle.link_slots.specs.View.{logs_or}
 use Rattle.link_slots.specs.declared.rank_ends.EndedCounts.{EndedCounts}
 use Rattle.port_bank.specs.Logs.{lasts}
-use Rattle.link_slots.specs.Counts.{counted}
+use Rattle.list_laws.specs.Counts.{counted}
 use Rattle.link_slots.specs.Shape.{Shape, IsShape}
 use Rattle.link_slots.specs.Told.{Knowing, IsLawful}
 

@@ -1,6 +1,7 @@
 -- What a rank's seat counts beside the table, and the lists that the counts stand for.
 use Rattle.std.specs.Prelude.{◌≡◌, ◌≢◌, ◌⊎◌, ℕ, ◌+◌, ◌-◌, ◌*◌, ◌^◌, ◌%◌, ◌<◌, ◌≤◌, ◌==◌, min, Bool, true, false, List, take, length}
 use Rattle.std.specs.Int.{bit_at}
+use Rattle.list_laws.specs.Counts.{counted}
 use mathlib.Core.Option.{some}
 use lib.ListN.{get_elem?}
 use Rattle.item_buffer.specs.Contents.{Contents}
@@ -11,10 +12,6 @@ use Rattle.port_bank.specs.declared.port.Collected.{Collected}
 use Rattle.port_bank.specs.declared.port.Collected.TheVariants.{Got, Nothing}
 use Rattle.link_slots.specs.Logs.{OutLog, InLog, Logs, in_of, listens}
 use Rattle.link_slots.specs.Shape.{Shape, wiring, MayFollow}
-
--- A count that stands still at the last number of 64 bits.
-abbrev pub counted : ℕ → ℕ
-counted n = min n (2 ^ 64 - 1)
 
 -- The sender counts what it posted, modulo 2^64 and modulo the number of slots, and its empty slots at hand. Once it has looked for room,
 -- its room is at least all slots.

@@ -3,7 +3,7 @@ use Rattle.std.specs.Prelude.{◌≡◌, ℕ, suc, ◌+◌, ◌-◌, ◌≤◌, 
 use Rattle.link_slots.specs.Logs.{InLog, listens}
 use Rattle.link_slots.specs.Link.{one_where}
 use Rattle.link_slots.specs.Plays.{heard_by}
-use Rattle.link_slots.specs.Counts.{counted}
+use Rattle.list_laws.specs.Counts.{counted}
 
 module _ {T : Type 0} where
   -- A hear is due where the link isn't marked, and wasn't listened for since the end of its latest collect, when `noted` was taken down.

@@ -14,7 +14,7 @@ use Rattle.link_slots.specs.View.{no_logs}
 use Rattle.link_slots.specs.Shape.{Shape, IsShape}
 use Rattle.link_slots.specs.Told.{Knowing}
 use Rattle.link_slots.specs.Own.{IsOwn}
-use Rattle.link_slots.specs.Counts.{counted}
+use Rattle.list_laws.specs.Counts.{counted}
 use Rattle.link_slots.specs.Closed.{logs_at, ended_of}
 
 -- What contracts see of it: its bank, the lists of each rank that has no seat, and which ranks' seats were given out.

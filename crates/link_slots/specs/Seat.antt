@@ -16,7 +16,8 @@ use Rattle.link_slots.specs.View.{own_logs, IsAlone}
 use Rattle.link_slots.specs.Shape.{Shape, IsShape, IsBoard}
 use Rattle.link_slots.specs.Told.{Knowing, IsManned}
 use Rattle.link_slots.specs.Own.{IsOwn}
-use Rattle.link_slots.specs.Counts.{IsOutEnd, IsInEnd, IsHeard, AreGood, IsWire, counted}
+use Rattle.list_laws.specs.Counts.{counted}
+use Rattle.link_slots.specs.Counts.{IsOutEnd, IsInEnd, IsHeard, AreGood, IsWire}
 
 -- The seat speaks for its rank, and its counts are those of the rank's links.
 pub record IsSeat (cap : ℕ) (shape : Shape) (m : Me Contents Knowing) (rank : ℕ) (outs : List OutEnd) (ins : List InEnd) (ears : List Ear) (ended : List ℕ) : Type 0 where

@@ -5,7 +5,7 @@ use Rattle.atomic_table.specs.Seated.{TableId}
 use Rattle.port_bank.specs.Logs.{Logs}
 use Rattle.link_slots.specs.Logs.{Logs as Lists, out_of, in_of, sent_of, got_of, listens}
 use Rattle.link_slots.specs.Shape.{Shape, shipped_all}
-use Rattle.link_slots.specs.Counts.{counted}
+use Rattle.list_laws.specs.Counts.{counted}
 
 -- A bank: which one it is, its grid and its number of slots per link.
 pub record Bank : Type 0 where

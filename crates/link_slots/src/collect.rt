@@ -11,7 +11,8 @@ ghost use Rattle.link_slots.specs.Logs.{InLog, out_of, in_of, with_in, taken_mor
 ghost use Rattle.link_slots.specs.View.{own_logs, with_logs};
 ghost use Rattle.link_slots.specs.Shape.{IsBoard, wiring, IsBlank, MayFollow};
 ghost use Rattle.link_slots.specs.Told.{IsManned};
-ghost use Rattle.link_slots.specs.Counts.{IsInEnd, IsHeard, IsWire, ElseKept, AreGood, counted};
+ghost use Rattle.list_laws.specs.Counts.{counted};
+ghost use Rattle.link_slots.specs.Counts.{IsInEnd, IsHeard, IsWire, ElseKept, AreGood};
 ghost use Rattle.link_slots.specs.Doorbell.{is_due, HeardWhere, looked_where_marked, LookedFor};
 
 use crate::bank::{Place, Top};

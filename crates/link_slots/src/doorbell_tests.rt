@@ -7,7 +7,7 @@ ghost use Rattle.route_tensor.specs.Ends.{hop_at, sender_at, reader_at};
 ghost use Rattle.port_bank.specs.Logs.{lasts};
 ghost use Rattle.port_bank.specs.Relay.{RelayLaw};
 ghost use Rattle.link_slots.specs.Logs.{in_of};
-ghost use Rattle.link_slots.specs.Counts.{counted};
+ghost use Rattle.list_laws.specs.Counts.{counted};
 ghost use Rattle.link_slots.specs.Doorbell.{IsEven};
 ghost use Rattle.link_slots.specs.Seen.{posted_on, collected_from};
 

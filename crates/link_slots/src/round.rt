@@ -4,7 +4,7 @@ ghost use Rattle.std.specs.Mem.Slots.{slots_len, slots_filled, IsFull};
 ghost use Rattle.route_tensor.specs.Grid.{ranks};
 ghost use Rattle.link_slots.specs.Shape.{IsBoard};
 ghost use Rattle.port_bank.specs.Round.{IsRound, epochs_of};
-ghost use Rattle.link_slots.specs.Counts.{counted};
+ghost use Rattle.list_laws.specs.Counts.{counted};
 ghost use Rattle.link_slots.specs.Closed.{IsSettled, ended_of};
 
 use crate::bank::{Board, Place};

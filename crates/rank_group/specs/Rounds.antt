@@ -1,7 +1,7 @@
 -- What contracts see of a closed round.
 use Rattle.std.specs.Prelude.{ℕ}
 use Rattle.port_bank.specs.Round.{Round, epochs_of}
-use Rattle.link_slots.specs.Counts.{counted}
+use Rattle.list_laws.specs.Counts.{counted}
 use Rattle.rank_group.specs.declared.closed_round.ClosedRound.{ClosedRound}
 use Rattle.rank_group.specs.declared.closed_round.ClosedRound.TheVariants.{Plain, Slots}
 

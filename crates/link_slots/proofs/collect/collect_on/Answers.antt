@@ -6,7 +6,8 @@ use Rattle.link_slots.specs.Logs.{InLog, Logs, out_of, in_of, with_in, taken_mor
 use Rattle.link_slots.specs.View.{own_logs, with_logs, Speaks}
 use Rattle.link_slots.specs.Shape.{Shape}
 use Rattle.link_slots.specs.Told.{Knowing}
-use Rattle.link_slots.specs.Counts.{IsInEnd, IsHeard, ElseKept, counted}
+use Rattle.list_laws.specs.Counts.{counted}
+use Rattle.link_slots.specs.Counts.{IsInEnd, IsHeard, ElseKept}
 use Rattle.link_slots.specs.Doorbell.{is_due, HeardWhere}
 use Rattle.link_slots.proofs.Moves.{own_with, in_here, in_there, in_same}
 use Rattle.link_slots.proofs.Manning.{with_twice}

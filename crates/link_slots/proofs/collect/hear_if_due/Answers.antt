@@ -10,7 +10,8 @@ use Rattle.link_slots.specs.View.{own_logs, with_logs, Speaks}
 use Rattle.link_slots.specs.Plays.{after_hear, heard_by}
 use Rattle.link_slots.specs.Shape.{Shape, IsShape, wiring}
 use Rattle.link_slots.specs.Told.{Knowing}
-use Rattle.link_slots.specs.Counts.{IsHeard, ElseKept, counted}
+use Rattle.list_laws.specs.Counts.{counted}
+use Rattle.link_slots.specs.Counts.{IsHeard, ElseKept}
 use Rattle.link_slots.specs.Doorbell.{is_due}
 use Rattle.link_slots.proofs.Moves.{own_with}
 use Rattle.link_slots.proofs.Counting.{end_kept}

@@ -6,7 +6,8 @@ use Rattle.link_slots.specs.Logs.{InLog, Logs, in_of, with_in}
 use Rattle.link_slots.specs.View.{own_logs}
 use Rattle.link_slots.specs.Shape.{Shape, wiring}
 use Rattle.link_slots.specs.Told.{Knowing}
-use Rattle.link_slots.specs.Counts.{IsInEnd, IsHeard, ElseKept, counted}
+use Rattle.list_laws.specs.Counts.{counted}
+use Rattle.link_slots.specs.Counts.{IsInEnd, IsHeard, ElseKept}
 use Rattle.link_slots.proofs.Moves.{own_with}
 use Rattle.link_slots.proofs.Manning.{in_after, same_in}
 use Rattle.link_slots.proofs.Due.{unmarked_same, marked_once}

@@ -7,7 +7,7 @@ use Rattle.port_bank.specs.Round.{ended_by_all, epochs_of}
 use Rattle.port_bank.proofs.Closing.{some_links}
 use Rattle.link_slots.specs.declared.rank_ends.EndedCounts.{EndedCounts}
 use Rattle.link_slots.specs.Logs.{got_of}
-use Rattle.link_slots.specs.Counts.{counted}
+use Rattle.list_laws.specs.Counts.{counted}
 use Rattle.link_slots.specs.Closed.{each_below, logs_at, lists_of, ended_of}
 use Rattle.link_slots.proofs.Giving.{any_default}
 use Rattle.link_slots.proofs.Settling.{least_next}

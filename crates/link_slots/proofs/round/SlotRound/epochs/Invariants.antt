@@ -3,7 +3,7 @@ use Rattle.item_buffer.specs.Contents.{shipped}
 use Rattle.route_tensor.specs.Ends.{reader_at}
 use Rattle.port_bank.specs.Round.{ended_by_all}
 use Rattle.link_slots.specs.Logs.{got_of}
-use Rattle.link_slots.specs.Counts.{counted}
+use Rattle.list_laws.specs.Counts.{counted}
 use Rattle.link_slots.specs.Closed.{each_below, logs_at, lists_of}
 use Rattle.link_slots.proofs.round.SlotRound.epochs.Given as goal
 

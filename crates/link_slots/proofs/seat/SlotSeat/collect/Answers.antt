@@ -12,7 +12,8 @@ use Rattle.link_slots.specs.Logs.{InLog, Logs, in_of, got_of}
 use Rattle.link_slots.specs.View.{own_logs}
 use Rattle.link_slots.specs.Shape.{Shape, MayFollow}
 use Rattle.link_slots.specs.Told.{IsManned}
-use Rattle.link_slots.specs.Counts.{IsWire, IsInEnd, IsHeard, AreGood, ElseKept, counted}
+use Rattle.list_laws.specs.Counts.{counted}
+use Rattle.link_slots.specs.Counts.{IsWire, IsInEnd, IsHeard, AreGood, ElseKept}
 use Rattle.link_slots.specs.Seen.{Bank, Manning, collected_from, known, noted_at}
 use Rattle.port_bank.specs.Port.{changed}
 use Rattle.link_slots.proofs.Wires.{hop_small}

@@ -1,0 +1,8 @@
+-- Counters of 64 bits.
+use Rattle.std.specs.Prelude.{ℕ, ◌-◌, ◌^◌, min}
+
+-- A count as a counter shows it that stands still at its last number.
+-- counted n = min n (2^64 - 1)
+-- Of 3 it is 3.
+abbrev pub counted : ℕ → ℕ
+counted n = min n (2 ^ 64 - 1)

@@ -1,3 +1,4 @@
+-- The phase by what was found, and what a reset leaves.
 use Rattle.std.proofs.Common.{ℕ, zero, suc, ◌≡◌, ◌+◌, ◌-◌, ◌<◌, ◌≤◌, Bool, true, false, ◌&&◌, List, length, get_or, map, replicate, sum, min, Option, Some, None, arith, refl, sym, ap, subst, ◌∙◌, inl}
 use Rattle.std.specs.List.{All, list_all}
 use Rattle.std.specs.Option.{IsSome}

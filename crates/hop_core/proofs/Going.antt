@@ -1,3 +1,4 @@
+-- What a relay adds to links out and takes from inboxes, step after step.
 use Rattle.std.proofs.Common.{ℕ, zero, suc, Bool, cond, ◌==◌, ◌-◌, ne_eqb, ◌≡◌, ◌+◌, ◌<◌, ◌≤◌, false, List, [], ◌∷◌, ◌++◌, length, take, drop, get_or, set, sum, slice_get, None, Option, Some, arith, refl, sym, ap, subst, ◌∙◌, inl, inr}
 use Rattle.std.specs.List.{All}
 use Rattle.std.proofs.lemmas.Bool.{cases_eq, cond-false, false≢true}

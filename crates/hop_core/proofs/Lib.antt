@@ -8,7 +8,6 @@ pub mod Lends
 pub mod Steps
 pub mod Exchanging
 pub mod Relayed
-pub mod Filling
 pub mod Unread
 pub mod Batches
 pub mod Straight

@@ -1,3 +1,4 @@
+-- Entries that a relay passes on keep the order of their pair.
 use Rattle.std.proofs.Common.{ℕ, ◌≡◌, ◌≢◌, ◌+◌, ◌-◌, ◌<◌, Bool, false, ◌&&◌, List, [], ◌∷◌, ◌++◌, length, map, get_or, set, sum, arith, refl, sym, ap, subst, ◌∙◌, inl, inr, cond, eqb, append_assoc}
 use Rattle.std.specs.List.{filter}
 use Rattle.std.proofs.lemmas.Bool.{cases_eq, cases_Bool, and_parts, eqb-true, false_from_ne_true, cond-true, cond-false}

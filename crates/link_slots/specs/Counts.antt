@@ -1,5 +1,5 @@
 -- What a rank's seat counts beside the table, and the lists that the counts stand for.
-use Rattle.std.specs.Prelude.{◌≡◌, ◌≢◌, ◌⊎◌, ℕ, ◌+◌, ◌-◌, ◌*◌, ◌^◌, ◌%◌, ◌<◌, ◌≤◌, ◌==◌, min, Bool, true, false, List, take, length}
+use Rattle.std.specs.Prelude.{◌≡◌, ◌≢◌, ◌⊎◌, ℕ, ◌+◌, ◌-◌, ◌*◌, ◌^◌, ◌%◌, ◌<◌, ◌≤◌, ◌==◌, Bool, true, false, List, take, length}
 use Rattle.std.specs.Int.{bit_at}
 use Rattle.list_laws.specs.Counts.{counted}
 use mathlib.Core.Option.{some}

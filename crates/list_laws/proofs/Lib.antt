@@ -1,3 +1,4 @@
 pub mod Lists
+pub mod Mapping
 pub mod Results
 pub mod Sums

@@ -1,3 +1,4 @@
+-- What three numbers tell that stand for a grid's dimensions.
 use Rattle.std.proofs.Common.{ℕ, zero, suc, ◌≡◌, ◌+◌, ◌*◌, ◌<◌, ◌≤◌, List, [], ◌∷◌, length, take, get_or, sum, arith, refl, sym, ap, ◌∙◌, subst, ◌≢◌, ◌⊎◌, Some, None, inl, inr, Bool, true, false, eqb, ltb, ◌||◌}
 use Rattle.std.specs.List.{All, list_any}
 use Rattle.std.proofs.lemmas.Bool.{cond-true, cond-false, or_from, ne_eqb, or_left, or_right, eq-eqb, le-ltb, lt-ltb}

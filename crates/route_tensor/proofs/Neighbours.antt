@@ -1,3 +1,4 @@
+-- A neighbour's number and its hop, read from each other.
 use Rattle.std.proofs.Common.{ℕ, zero, suc, ◌≡◌, ◌≢◌, ◌+◌, ◌-◌, ◌*◌, ◌<◌, ◌≤◌, List, [], ◌∷◌, length, take, get_or, sum, arith, refl, sym, ap, subst, ◌∙◌, mul-add}
 use Rattle.std.proofs.Math.Nat.{one-mul}
 use Rattle.route_tensor.specs.Grid.{ranks, dim, coord, place, IsGrid}

@@ -1,3 +1,4 @@
+-- A rank's tables of first steps and neighbours, as contracts see them.
 use Rattle.std.proofs.Common.{ℕ, ◌≡◌, ◌+◌, ◌-◌, ◌*◌, ◌<◌, ◌≤◌, List, length, get_or, sum, arith, refl, sym, ap, subst, ◌∙◌}
 use Rattle.bale_types.specs.declared.item.Tag.{Tag}
 use Rattle.route_tensor.specs.declared.routes.Onward.{Onward}

@@ -1,3 +1,4 @@
+-- Grids, ranks and coordinates.
 use Rattle.std.specs.Prelude.{ℕ, zero, suc, ◌+◌, ◌-◌, ◌*◌, ◌/◌, ◌%◌, ◌<◌, ◌≤◌, List, [], ◌∷◌, length, slice_index, All}
 
 -- The number of ranks of a grid: the product of its dimensions.

@@ -1,3 +1,4 @@
+-- A grid as the code keeps it.
 pub mod Laws
 use Rattle.std.specs.Prelude.{◌≡◌, ℕ, ◌<◌, ◌≤◌, List, [], ◌∷◌, take}
 use Rattle.route_tensor.specs.Grid.{IsGrid}

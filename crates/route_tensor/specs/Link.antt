@@ -1,3 +1,4 @@
+-- Links and their numbers.
 use Rattle.std.specs.Prelude.{◌≡◌, ◌≢◌, ℕ, ◌+◌, ◌-◌, ◌*◌, ◌<◌, ◌≤◌, List, length, take, sum}
 use Rattle.route_tensor.specs.Grid.{ranks, dim, coord, place}
 

@@ -1,3 +1,4 @@
+-- A rank's neighbours by number.
 use Rattle.std.specs.Prelude.{ℕ, ◌+◌, ◌-◌, List}
 use Rattle.route_tensor.specs.Grid.{coord}
 use Rattle.route_tensor.specs.Link.{links_before, link}

@@ -1,3 +1,4 @@
+-- Pairs of ranks, and the ranks and entries on their routes.
 use Rattle.std.specs.Prelude.{◌≡◌, ℕ, ◌-◌, ◌<◌, ◌≤◌, ◌==◌, ◌&&◌, Bool, List, length, map}
 use Rattle.std.specs.List.{filter}
 use Rattle.bale_types.specs.declared.item.Entry.{Entry}

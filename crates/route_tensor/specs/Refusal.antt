@@ -1,3 +1,4 @@
+-- Which numbers are no grid, and why.
 use Rattle.std.specs.Prelude.{ℕ, ◌==◌, nat_lt, ◌||◌, if◌then◌else◌, List, length, Option, Some, None}
 use Rattle.std.specs.List.{list_any}
 use Rattle.route_tensor.specs.declared.grid.GridError.{GridError}

@@ -1,3 +1,4 @@
+-- Where a rank sends entries, and whom it has links with.
 use Rattle.std.specs.Prelude.{◌≡◌, ℕ, ◌+◌, ◌-◌, ◌<◌, List, length, sum, slice_index_or}
 use Rattle.bale_types.specs.declared.item.Entry.{Entry}
 use Rattle.bale_types.specs.declared.item.Tag.{Tag}

@@ -1,3 +1,4 @@
+-- Tags, and which are fair on a hop.
 use Rattle.std.specs.Prelude.{◌≡◌, ℕ, zero, suc, ◌+◌, ◌-◌, ◌*◌, ◌<◌, ◌≤◌, nat_lt, cond, List, [], ◌∷◌, length}
 use Rattle.bale_types.specs.declared.item.Tag.{Tag}
 use Rattle.route_tensor.specs.Grid.{dim, coord, place}

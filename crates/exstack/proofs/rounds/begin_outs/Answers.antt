@@ -1,6 +1,6 @@
 use Rattle.std.proofs.Common.{◌<◌, ◌≤◌, length, arith}
 use Rattle.exstack.specs.Links.{begun_out}
-use Rattle.exstack.proofs.Mapping.{mapped_step, mapped_end}
+use Rattle.list_laws.proofs.Mapping.{mapped_step, mapped_end}
 use Rattle.exstack.proofs.rounds.begin_outs.Goals as goal
 
 pub loop-i-preserved : goal.loop-i-preserved

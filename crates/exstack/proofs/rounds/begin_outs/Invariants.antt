@@ -1,5 +1,5 @@
 use Rattle.exstack.specs.Links.{begun_out}
-use Rattle.exstack.proofs.Mapping.{Mapped}
+use Rattle.list_laws.proofs.Mapping.{Mapped}
 use Rattle.exstack.proofs.rounds.begin_outs.Given as goal
 
 abbrev pub invariant-loop-i : goal.invariant-loop-i

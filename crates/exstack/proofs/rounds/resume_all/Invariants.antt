@@ -1,5 +1,5 @@
 use Rattle.exstack.specs.Links.{resumed}
-use Rattle.exstack.proofs.Mapping.{Mapped}
+use Rattle.list_laws.proofs.Mapping.{Mapped}
 use Rattle.exstack.proofs.rounds.resume_all.Given as goal
 
 abbrev pub invariant-loop-i : goal.invariant-loop-i

@@ -1,6 +1,6 @@
 use Rattle.std.proofs.Common.{◌<◌, ◌≤◌, length, arith}
 use Rattle.hop_core.specs.State.{resumed}
-use Rattle.hop_core.proofs.Filling.{mapped_step, mapped_end}
+use Rattle.list_laws.proofs.Mapping.{mapped_step, mapped_end}
 use Rattle.hop_core.proofs.inboxes.resume_all.Goals as goal
 
 pub loop-i-preserved : goal.loop-i-preserved

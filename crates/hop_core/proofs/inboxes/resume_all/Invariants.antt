@@ -1,5 +1,5 @@
 use Rattle.hop_core.specs.State.{resumed}
-use Rattle.hop_core.proofs.Filling.{Mapped}
+use Rattle.list_laws.proofs.Mapping.{Mapped}
 use Rattle.hop_core.proofs.inboxes.resume_all.Given as goal
 
 abbrev pub invariant-loop-i : goal.invariant-loop-i

@@ -1,3 +1,4 @@
+-- A list that is written place by place becomes the map of what it was.
 use Rattle.std.proofs.Common.{ℕ, ◌≡◌, ◌+◌, ◌<◌, ◌≤◌, List, [], ◌∷◌, ◌++◌, length, take, drop, get_or, set, map, arith, refl, sym, ap, subst, ◌∙◌}
 use Rattle.std.proofs.lemmas.List.{length-set, drop_more, take_all, drop_all, append_assoc, append-nil, map_more, set_at, get_or_at, length-map, length-take-le}
 

@@ -21,3 +21,6 @@ pub mod DriveTests
 pub mod Orders
 pub mod Sweeps
 pub mod Bounded
+pub mod Halves
+pub mod Cycled
+pub mod Stacks

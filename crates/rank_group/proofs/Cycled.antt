@@ -41,7 +41,7 @@ anew k k' cap x x' sent got s a a' same_ranks same_rank next =
     let same = ap (λ l. lasts (got l)) at in
     not_over cap k' x' sent got s a' (omega (arith, e, few, same, next))
 
-first : List ℕ → ℕ
+abbrev first : List ℕ → ℕ
 first [] = 0
 first (d ∷ ds) = d
 
@@ -49,7 +49,6 @@ begun_anew : {S : Type 0} (R : Rules S) (quota : ℕ → ℕ) (k k' : ℕ) (run 
     → IsMoving m' sent got → IsInCycle R quota k run m sent got → IsInCycle R quota k' run' m' sent got → IsBetween m'
 begun_anew R quota k k' run run' m (Conveying c') sent got same_manner same_dims same_rank next moves i i' = tt
 begun_anew R quota k k' run run' (Conveying c) (Stacking cap' x') sent got same_manner same_dims same_rank next moves i i' = absurd (cc)
-unfolding first
 begun_anew R quota k k' run run' (Stacking cap x) (Stacking cap' x') sent got same_manner same_dims same_rank next moves i i' =
     anew k k' cap' x x' sent got moves.stack i.agrees i'.agrees (sym (ap first same_dims)) (sym same_rank) next
 

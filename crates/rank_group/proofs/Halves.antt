@@ -166,7 +166,7 @@ module _ (room : RoomLaw) (arrival : ArrivalLaw) (p cap slots : ℕ) (most : ℕ
     (w : AllStacks p cap slots most epochs over n all sent got) (r : ℕ) (low : r < p) (on : over r ≡ false) (going : is_all_done (all r).stage ≡ false)
     (x : State) (k : ℕ) (before : Logs) (same_ranks : x.ranks ≡ p) (same_rank : x.rank ≡ r) (same_epoch : (all r).epoch ≡ x.epoch) (cycle : n r ≡ cycle_after k x.stage) (onward : IsOnward x.stage (all r).stage)
     (awaits : Awaits (all r)) (waits : WaitsFor x (all r) before (ending_at (p ∷ []) r got) (crowded_in (p ∷ []) slots r sent got) (idle_in (p ∷ []) r sent got))
-    (still : (b : ℕ) → b < p → (out_at (all r) b).due ≡ true → ending_at (p ∷ []) r got (link_to x b) ≡ before (link_to x b))
+    (still : finished_in (n r) (all r).stage ≡ finished_in k x.stage → (b : ℕ) → b < p → (out_at (all r) b).due ≡ true → ending_at (p ∷ []) r got (link_to x b) ≡ before (link_to x b))
     (j : ℕ) (others : (b : ℕ) → b < p → b ≢ r → HasMade most j (over b) (n b) (all b)) (mine : HasMade most j false k x) where
   abbrev e : ℕ
   e = (all r).epoch
@@ -247,7 +247,7 @@ module _ (room : RoomLaw) (arrival : ArrivalLaw) (p cap slots : ℕ) (most : ℕ
       | inl due ↦
           let lp : b < p = omega (arith, lb, t.same_ranks r low) in
           let at : link_to x b ≡ number p r b = ap (λ i. number i x.rank b) same_ranks ∙ ap (λ q. number p q b) same_rank in
-          let full : crowded_in (p ∷ []) slots r sent got (number p r b) ≡ true = ap (crowded_in (p ∷ []) slots r sent got) (sym at) ∙ waits.posts b (omega (arith, lp, same_ranks)) due (still b lp due) in
+          let full : crowded_in (p ∷ []) slots r sent got (number p r b) ≡ true = ap (crowded_in (p ∷ []) slots r sent got) (sym at) ∙ waits.posts b (omega (arith, lp, same_ranks)) due (still same b lp due) in
           let c : length (starting_at (p ∷ []) r sent (number p r b)) ≡ length (got (number p r b)) + slots = eqb-true (length (starting_at (p ∷ []) r sent (number p r b))) (length (got (number p r b)) + slots) full in
           let own = ap length (sent_own p cap slots n all sent got t r b low lp) in
           let q = level b lp due in

@@ -24,3 +24,6 @@ pub mod Bounded
 pub mod Halves
 pub mod Cycled
 pub mod Stacks
+pub mod Quotas
+pub mod OwnLink
+pub mod Made

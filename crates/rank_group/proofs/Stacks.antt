@@ -95,7 +95,7 @@ module _ {S : Type 0} (R : Rules S) (laws : Laws R) (law : ClosesLaws) (dims : L
   pick : (r : ℕ) → r < p → (P : Bool → State → Type 0) → ((x : RankState S) → slice_get rs r ≡ Some x → P x.over (stack_of x.node.mover)) → P (over_at r) (stack_at r)
   pick r low P f = let x = rank_at r low in subst (λ o. P (over_in o) (stack_in o)) (sym x.1) (f x.0 x.1)
 
-  one : p ∷ [] ≡ dims
+  pub one : p ∷ [] ≡ dims
   one =
       let low : 0 < p = ranks_some dims w.ranked.grid.positive in
       let x = rank_at 0 low in

@@ -53,7 +53,7 @@ module _ {S : Type 0} (R : Rules S) (dims : List ℕ) (cap slots : ℕ) (manner 
   sent_grows : (l : ℕ) → Begins (sent l) (sent' l)
   sent_grows = grown (λ l. sender_at dims l == r) sent sent' t.sent_grows (λ l. ap (λ (f : Logs). f l) t.sent_elsewhere)
 
-  got_grows : (l : ℕ) → Begins (got l) (got' l)
+  pub got_grows : (l : ℕ) → Begins (got l) (got' l)
   got_grows = grown (λ l. reader_at dims l == r) got got' t.got_grows (λ l. ap (λ (f : Logs). f l) t.got_elsewhere)
 
   entries_more : (l : ℕ) → length (entries_of (got' l)) ≡ length (entries_of (got l)) + length (entries_of (got_grows l).rest)

@@ -31,11 +31,11 @@ use Rattle.rank_group.proofs.Stacks.{over_in, stack_in, rank_at, stack_is, one, 
 use Rattle.rank_group.proofs.OwnLink.{own_still}
 
 -- of a mover that is an exstack
-to_stack : (most : ℕ → ℕ) (j : ℕ) (o : Bool) (c : ℕ) (m : MoverState) (cap : ℕ) → m ≡ Stacking cap (stack_of m) → MoverMade most j o c m → HasMade most j o c (stack_of m)
+pub to_stack : (most : ℕ → ℕ) (j : ℕ) (o : Bool) (c : ℕ) (m : MoverState) (cap : ℕ) → m ≡ Stacking cap (stack_of m) → MoverMade most j o c m → HasMade most j o c (stack_of m)
 to_stack most j o c (Conveying y) cap e is = absurd (cc)
 to_stack most j o c (Stacking k x) cap e is = is
 
-of_stack : (most : ℕ → ℕ) (j : ℕ) (o : Bool) (c : ℕ) (m : MoverState) (cap : ℕ) → m ≡ Stacking cap (stack_of m) → HasMade most j o c (stack_of m) → MoverMade most j o c m
+pub of_stack : (most : ℕ → ℕ) (j : ℕ) (o : Bool) (c : ℕ) (m : MoverState) (cap : ℕ) → m ≡ Stacking cap (stack_of m) → HasMade most j o c (stack_of m) → MoverMade most j o c m
 of_stack most j o c (Conveying y) cap e is = absurd (cc)
 of_stack most j o c (Stacking k x) cap e is = is
 

@@ -57,10 +57,10 @@ vote_items : {S : Type 0} (R : Rules S) (p : ℕ) (starts : List S) (m : ℕ) �
 vote_items R p starts m = total_same p (λ r. quota_of R p starts r (2 * m + 1)) (λ r. p) (λ r low. quota_votes R p starts r m) ∙ total_const p p
 
 -- two turns of every rank for each round
-pub turns_low : {S : Type 0} (R : Rules S) → Laws R → (dims : List ℕ) (shape : List ℕ) (most : ℕ) (starts : List S) → InRound R (ranks dims) 0 shape most starts → (n : ℕ)
+pub round_turns : {S : Type 0} (R : Rules S) → Laws R → (dims : List ℕ) (shape : List ℕ) (most : ℕ) (starts : List S) → InRound R (ranks dims) 0 shape most starts → (n : ℕ)
     → ranks dims * (2 * total (2 * n) (most_rounds R (ranks dims) starts)) ≤ turns_within R ByExstack dims starts n
-turns_low R laws dims shape most starts start zero = omega arith
-turns_low R laws dims shape most starts start (suc n) =
+round_turns R laws dims shape most starts start zero = omega arith
+round_turns R laws dims shape most starts start (suc n) =
     let p : ℕ = ranks dims in
     let e : 2 * suc n ≡ suc (suc (2 * n)) = omega arith in
     let o : suc (2 * n) ≡ 2 * n + 1 = omega arith in
@@ -70,7 +70,7 @@ turns_low R laws dims shape most starts start (suc n) =
     let v = vote_items R p starts n in
     let sum : total (2 * suc n) (most_rounds R p starts) ≡ total (2 * n) (most_rounds R p starts) + (2 * items_at R starts n + 1) + (2 * (p * p) + 1) = omega (arith, a, b, i, v) in
     subst (λ t. p * (2 * t) ≤ turns_within R ByExstack dims starts (suc n)) (sym sum)
-    (by p (total (2 * n) (most_rounds R p starts)) (items_at R starts n) (turns_within R ByExstack dims starts n) (turns_low R laws dims shape most starts start n)) where
+    (by p (total (2 * n) (most_rounds R p starts)) (items_at R starts n) (turns_within R ByExstack dims starts n) (round_turns R laws dims shape most starts start n)) where
       by : (p b i t : ℕ) → p * (2 * b) ≤ t → p * (2 * (b + (2 * i + 1) + (2 * (p * p) + 1))) ≤ t + (4 * p * (i + 2) + 4 * p * (p * p + 2))
       by p b i t rest = omega (arith, rest)
 

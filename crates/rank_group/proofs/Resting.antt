@@ -225,7 +225,7 @@ module _ {S : Type 0} (R : Rules S) (laws : Laws R) (law : ClosesLaws) (rest : R
 -- the epochs of a run are few
 pub epoch_few : {S : Type 0} (R : Rules S) → Laws R → ClosesLaws → (dims : List ℕ) (cap slots : ℕ) (manner : Manner) (starts : List S) (h : ℕ → ℕ → S) (rs : List (RankState S)) (sent got : Logs) → World R dims cap slots manner starts h rs sent got
     → (n : ℕ) → Plan R dims slots starts n → (r : ℕ) (x : RankState S) → slice_get rs r ≡ Some x → epoch_in x.node.mover < 2 ^ 63
-epoch_few R laws law dims cap slots steady starts h rs sent got w n p r x at =
+epoch_few R laws law dims cap slots manner starts h rs sent got w n p r x at =
     elim (cases_Bool x.over) [
       | inl t ↦ let e = (over_at_last R laws law dims cap slots manner starts h rs sent got w.ranked p.shape p.most n p.start p.rounds r x at t).0 in omega (arith, e, p.few)
       | inr f ↦ let e = still_within R laws law dims cap slots manner starts h rs sent got w.ranked p.shape p.most n p.start p.rounds r x at f in omega (arith, e, p.few)

@@ -17,9 +17,12 @@ use Rattle.round_program.specs.Rules.{Rules}
 use Rattle.round_program.specs.Laws.{Laws}
 use Rattle.round_program.specs.Canonical.{HasRounds, InRound, EndsWithin, HaveEnded, states_at}
 use Rattle.round_program.proofs.Members.{in_round_at, rounds_once}
-use Rattle.rank_node.specs.Movers.{MoverState, Manner, IsShape, NoneUnread, lying}
+use Rattle.rank_node.specs.Movers.{MoverState, Manner, IsShape, IsMoving, NoneUnread, lying}
 use Rattle.rank_node.specs.Movers.MoverState.{Conveying, Stacking}
-use Rattle.rank_node.specs.Movers.Manner.{ByConveyor}
+use Rattle.rank_node.specs.Runs.{Running}
+use Rattle.rank_node.specs.Cycles.{IsInCycle}
+use Rattle.rank_group.specs.Halves.{emission_count, quota_of, IsBetween}
+use Rattle.rank_group.proofs.Cycled.{not_over}
 use Rattle.rank_node.specs.Nodes.{IsNode}
 use Rattle.rank_group.specs.Ranks.{RankState, AllRanks}
 use Rattle.rank_group.specs.Told.{TellsRun, turns_within}
@@ -32,20 +35,25 @@ use Rattle.rank_group.specs.Worlds.{World, Plan, inbox, mover_in}
 use Rattle.rank_group.specs.Drives.{progs_of, AreFresh}
 
 -- all ranks as a drive begins, over its bank
-pub record Begun {S : Type 0} (R : Rules S) (cap : ℕ) (steady : Bool) (starts : List S) (n : ℕ) (rs : List (RankState S)) (b : Bank) : Type 0 where
+pub record Begun {S : Type 0} (R : Rules S) (cap : ℕ) (manner : Manner) (starts : List S) (n : ℕ) (rs : List (RankState S)) (b : Bank) : Type 0 where
   pub h : ℕ → ℕ → S
   pub plan : Plan R b.dims b.slots starts n
   pub few : n ≤ plan.most
-  pub world : World R b.dims cap b.slots steady starts h rs (sent_of b) (got_of b)
+  pub world : World R b.dims cap b.slots manner starts h rs (sent_of b) (got_of b)
 
 slots_some : (slots : ℕ) → IsSlots slots → 0 < slots
 unfolding IsSlots
 slots_some zero is = absurd (true≢false (sym is))
 slots_some (suc n) is = omega arith
 
-pub begun : {S : Type 0} (R : Rules S) → Laws R → (cap : ℕ) (dims : List ℕ) (slots : ℕ) (steady : Bool) (starts : List S) (shape : List ℕ) (most n : ℕ) (rs : List (RankState S)) → AreFresh R dims cap (ByConveyor steady) starts rs → 0 < cap → IsBank cap (empty_bank dims slots)
-    → InRound R (ranks dims) 0 shape most starts → HasRounds R starts n → n ≤ most → Begun R cap steady starts n rs (empty_bank dims slots)
-begun {S} R laws cap dims slots steady starts shape most n rs fresh some is start rounds low =
+-- an exstack that has begun its first epoch hasn't ended it
+between_first : {S : Type 0} (R : Rules S) (quota : ℕ → ℕ) (run : Running S) (m : MoverState) → IsMoving m (λ l. []) (λ l. []) → IsInCycle R quota 0 run m (λ l. []) (λ l. []) → IsBetween m
+between_first R quota run (Conveying c) moving i = tt
+between_first R quota run (Stacking cap x) moving i = not_over cap 0 x (λ l. []) (λ l. []) moving.stack i.agrees (omega arith)
+
+pub begun : {S : Type 0} (R : Rules S) → Laws R → (cap : ℕ) (dims : List ℕ) (slots : ℕ) (manner : Manner) (starts : List S) (shape : List ℕ) (most n : ℕ) (rs : List (RankState S)) → AreFresh R dims cap manner starts rs → 0 < cap → IsBank cap (empty_bank dims slots)
+    → InRound R (ranks dims) 0 shape most starts → HasRounds R starts n → n ≤ most → Begun R cap manner starts n rs (empty_bank dims slots)
+begun {S} R laws cap dims slots manner starts shape most n rs fresh some is start rounds low =
     let b : Bank = empty_bank dims slots in
     let law = lawful cap b dims slots is refl refl in
     let first : (s : S) × (slice_get starts 0 ≡ Some s) = find starts 0 (let positive = ranks_some dims is.grid.positive in omega (arith, start.size, positive)) in
@@ -75,7 +83,7 @@ begun {S} R laws cap dims slots steady starts shape most n rs fresh some is star
                 runs = λ on. subst (λ s. IsNode R (λ m. s) x.node (starting_at dims r (sent_of b)) (ending_at dims r (got_of b))) same
                     (subst (λ (a : Logs). IsNode R (λ m. x.node.run.prog) x.node a (ending_at dims r (got_of b))) (sym (no_sent r)) (subst (λ (a : Logs). IsNode R (λ m. x.node.run.prog) x.node (λ l. []) a) (sym (no_got r)) f.node));
                 stopped = λ over. absurd (true≢false (sym over ∙ f.on));
-                shape = λ l below own. subst (λ (a : Logs). IsShape (ByConveyor steady) cap (a l)) (sym (no_sent r)) (shape_none (ByConveyor steady) cap);
+                shape = λ l below own. subst (λ (a : Logs). IsShape manner cap (a l)) (sym (no_sent r)) (shape_none manner cap);
               };
           begins = λ r s at. get_or_from_slice_get starts r s first.0 at;
         };
@@ -83,6 +91,20 @@ begun {S} R laws cap dims slots steady starts shape most n rs fresh some is star
         relays = law.relays;
         some = some;
         inboxes = λ l below. omega (arith, unread l);
+        cycle = λ r. 0;
+        keeps = λ r x at.
+            let f = fresh.each r x at in
+            let prog : slice_get starts r ≡ Some x.node.run.prog = ap (λ ps. slice_get ps r) (sym fresh.programs) ∙ get_map (λ (n : RankState S). n.node.run.prog) rs r x at in
+            let few : length (R.emissions x.node.run.prog) ≤ quota_of R (ranks dims) starts r 0 = let e = ap (emission_count R) prog in omega (arith, e) in
+            let first : IsInCycle R (quota_of R (ranks dims) starts r) 0 x.node.run x.node.mover (λ l. []) (λ l. []) = f.cycle (quota_of R (ranks dims) starts r) few in
+            record {
+              running = λ on. (
+                subst (λ (a : Logs). IsInCycle R (quota_of R (ranks dims) starts r) 0 x.node.run x.node.mover a (ending_at dims r (got_of b))) (sym (no_sent r))
+                    (subst (λ (a : Logs). IsInCycle R (quota_of R (ranks dims) starts r) 0 x.node.run x.node.mover (λ l. []) a) (sym (no_got r)) first),
+                between_first R (quota_of R (ranks dims) starts r) x.node.run x.node.mover f.node.moving first,
+              );
+              over = λ over. absurd (true≢false (sym over ∙ f.on));
+            };
       };
     } where
       unread : (l : ℕ) → inbox dims rs l ≡ 0
@@ -95,32 +117,32 @@ begun {S} R laws cap dims slots steady starts shape most n rs fresh some is star
         by None e = ap (λ o. lying (mover_in o) l) e
         by (Some x) e = ap (λ o. lying (mover_in o) l) e ∙ none x.node.mover (fresh.each (reader_at dims l) x e).unread
 
-module _ {S : Type 0} (R : Rules S) (laws : Laws R) (cap : ℕ) (dims : List ℕ) (slots : ℕ) (steady : Bool) (starts : List S) (shape : List ℕ) (most : ℕ) (start : InRound R (ranks dims) 0 shape most starts) (ends : EndsWithin R starts most)
-    (rs : List (RankState S)) (fresh : AreFresh R dims cap (ByConveyor steady) starts rs) (some : 0 < cap) (b : Bank) (made : b ≡ empty_bank dims slots) (is : IsBank cap b) where
-  begun_at : (n : ℕ) → HasRounds R starts n → Begun R cap steady starts n rs b
+module _ {S : Type 0} (R : Rules S) (laws : Laws R) (cap : ℕ) (dims : List ℕ) (slots : ℕ) (manner : Manner) (starts : List S) (shape : List ℕ) (most : ℕ) (start : InRound R (ranks dims) 0 shape most starts) (ends : EndsWithin R starts most)
+    (rs : List (RankState S)) (fresh : AreFresh R dims cap manner starts rs) (some : 0 < cap) (b : Bank) (made : b ≡ empty_bank dims slots) (is : IsBank cap b) where
+  begun_at : (n : ℕ) → HasRounds R starts n → Begun R cap manner starts n rs b
   begun_at n rounds =
-      subst (Begun R cap steady starts n rs) (sym made)
-      (begun R laws cap dims slots steady starts shape most n rs fresh some (subst (IsBank cap) made is) start rounds (let e = rounds_once R starts n ends.rounds rounds ends.has_rounds in let l = ends.at_most in omega (arith, e, l)))
+      subst (Begun R cap manner starts n rs) (sym made)
+      (begun R laws cap dims slots manner starts shape most n rs fresh some (subst (IsBank cap) made is) start rounds (let e = rounds_once R starts n ends.rounds rounds ends.has_rounds in let l = ends.at_most in omega (arith, e, l)))
 
   -- what the sweeps need
-  pub run_needs : (steady : Bool) × (n : ℕ) × (h : ℕ → ℕ → S) × (plan : Plan R b.dims b.slots (progs_of rs) n) × (n ≤ plan.most) × World R b.dims cap b.slots steady (progs_of rs) h rs (sent_of b) (got_of b)
+  pub run_needs : (manner : Manner) × (n : ℕ) × (h : ℕ → ℕ → S) × (plan : Plan R b.dims b.slots (progs_of rs) n) × (n ≤ plan.most) × World R b.dims cap b.slots manner (progs_of rs) h rs (sent_of b) (got_of b)
   run_needs =
-      let x : Begun R cap steady (progs_of rs) ends.rounds rs b = subst (λ ps. Begun R cap steady ps ends.rounds rs b) (sym fresh.programs) (begun_at ends.rounds ends.has_rounds) in
-      (steady, ends.rounds, x.h, x.plan, x.few, x.world)
+      let x : Begun R cap manner (progs_of rs) ends.rounds rs b = subst (λ ps. Begun R cap manner ps ends.rounds rs b) (sym fresh.programs) (begun_at ends.rounds ends.has_rounds) in
+      (manner, ends.rounds, x.h, x.plan, x.few, x.world)
 
   -- and what they leave
-  pub steps_at : (steps steps' : ℕ) → ((steady : Bool) (starts : List S) (n : ℕ) (h : ℕ → ℕ → S) → Plan R b.dims b.slots starts n → World R b.dims cap b.slots steady starts h rs (sent_of b) (got_of b) → steps' ≤ steps + turns_within R b.dims starts n)
-      → (n : ℕ) → HasRounds R starts n → steps' ≤ steps + turns_within R dims starts n
+  pub steps_at : (steps steps' : ℕ) → ((manner : Manner) (starts : List S) (n : ℕ) (h : ℕ → ℕ → S) → Plan R b.dims b.slots starts n → World R b.dims cap b.slots manner starts h rs (sent_of b) (got_of b) → steps' ≤ steps + turns_within R manner b.dims starts n)
+      → (n : ℕ) → HasRounds R starts n → steps' ≤ steps + turns_within R manner dims starts n
   steps_at steps steps' told n rounds =
       let x = begun_at n rounds in
-      subst (λ ds. steps' ≤ steps + turns_within R ds starts n) (ap (λ (y : Bank). y.dims) made) (told steady starts n x.h x.plan x.world)
+      subst (λ ds. steps' ≤ steps + turns_within R manner ds starts n) (ap (λ (y : Bank). y.dims) made) (told manner starts n x.h x.plan x.world)
 
-  pub world_after : (rs' : List (RankState S)) (b' : Bank) → ((steady : Bool) (starts : List S) (n : ℕ) (h : ℕ → ℕ → S) → Plan R b.dims b.slots starts n → World R b.dims cap b.slots steady starts h rs (sent_of b) (got_of b)
-      → (g : ℕ → ℕ → S) × World R b.dims cap b.slots steady starts g rs' (sent_of b') (got_of b')) → (g : ℕ → ℕ → S) × World R dims cap slots steady starts g rs' (sent_of b') (got_of b')
+  pub world_after : (rs' : List (RankState S)) (b' : Bank) → ((manner : Manner) (starts : List S) (n : ℕ) (h : ℕ → ℕ → S) → Plan R b.dims b.slots starts n → World R b.dims cap b.slots manner starts h rs (sent_of b) (got_of b)
+      → (g : ℕ → ℕ → S) × World R b.dims cap b.slots manner starts g rs' (sent_of b') (got_of b')) → (g : ℕ → ℕ → S) × World R dims cap slots manner starts g rs' (sent_of b') (got_of b')
   world_after rs' b' told =
       let x = begun_at ends.rounds ends.has_rounds in
-      let w = told steady starts ends.rounds x.h x.plan x.world in
-      (w.0, subst (λ (y : Bank). World R y.dims cap y.slots steady starts w.0 rs' (sent_of b') (got_of b')) made w.1)
+      let w = told manner starts ends.rounds x.h x.plan x.world in
+      (w.0, subst (λ (y : Bank). World R y.dims cap y.slots manner starts w.0 rs' (sent_of b') (got_of b')) made w.1)
 
 logs_map : (f : Channel → List Shipped) (channels : List Channel) → f unused ≡ [] → (l : ℕ) → logs_of (map f channels) l ≡ f (get_or channels l unused)
 logs_map f [] e l = sym e

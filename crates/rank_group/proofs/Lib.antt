@@ -21,3 +21,9 @@ pub mod DriveTests
 pub mod Orders
 pub mod Sweeps
 pub mod Bounded
+pub mod Halves
+pub mod Cycled
+pub mod Stacks
+pub mod Quotas
+pub mod OwnLink
+pub mod Made

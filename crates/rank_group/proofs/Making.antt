@@ -1,5 +1,5 @@
 -- The ranks of a drive are made, and taken apart.
-use Rattle.std.proofs.Common.{◌≡◌, ℕ, ◌+◌, Bool, false, List, [], ◌∷◌, ◌++◌, length, length-append, drop, slice_get, Some, None, refl, sym, ap, subst, ◌∙◌, arith, inl, inr}
+use Rattle.std.proofs.Common.{◌≡◌, ℕ, ◌+◌, ◌≤◌, Bool, false, List, [], ◌∷◌, ◌++◌, length, length-append, drop, slice_get, Some, None, refl, sym, ap, subst, ◌∙◌, arith, inl, inr}
 use Rattle.std.proofs.lemmas.Bool.{cases_lt}
 use Rattle.std.proofs.lemmas.List.{map-append, length-map, append-nil}
 use Rattle.list_laws.proofs.Lists.{within, get_once, get_last, get_before}
@@ -7,6 +7,7 @@ use Rattle.round_program.specs.Rules.{Rules}
 use Rattle.round_program.specs.Canonical.{InRound}
 use Rattle.rank_node.specs.Movers.{Manner, dims_of, rank_of, epoch_in, manner_in, HasCap, NoneUnread}
 use Rattle.rank_node.specs.Nodes.{NodeState, IsNode}
+use Rattle.rank_node.specs.Cycles.{IsInCycle}
 use Rattle.rank_group.specs.Ranks.{RankState}
 use Rattle.rank_group.specs.Drives.{progs_of, IsFresh, AreFresh}
 
@@ -43,8 +44,8 @@ module _ {S : Type 0} (R : Rules S) (dims : List ℕ) (cap : ℕ) (manner : Mann
 
   pub making_more : (p : ℕ) (shape : List ℕ) (most : ℕ) (rest' : List S) (rs' : List (RankState S)) (q : S) (n : NodeState S) → InRound R p 0 shape most starts → slice_get rest 0 ≡ Some q → rest' ≡ drop 1 rest
       → rs' ≡ rs ++ record { node = n; over = false } ∷ [] → IsNode R (λ m. q) n (λ l. []) (λ l. []) → n.run.prog ≡ q → dims_of n.mover ≡ dims → rank_of n.mover ≡ R.rank q → manner_in n.mover ≡ manner → HasCap cap n.mover → epoch_in n.mover ≡ 0
-      → NoneUnread n.mover → Making R dims cap manner starts rest' rs'
-  making_more p shape most rest' rs' q n all at gone more node np nd nr ns nc epoch unread =
+      → NoneUnread n.mover → ((quota : ℕ → ℕ) → length (R.emissions q) ≤ quota 0 → IsInCycle R quota 0 n.run n.mover (λ l. []) (λ l. [])) → Making R dims cap manner starts rest' rs'
+  making_more p shape most rest' rs' q n all at gone more node np nd nr ns nc epoch unread cycle =
       let x : RankState S = record { node = n; over = false } in
       let made : IsFresh R dims cap manner (length rs) x = record {
         on = refl;
@@ -55,6 +56,7 @@ module _ {S : Type 0} (R : Rules S) (dims : List ℕ) (cap : ℕ) (manner : Mann
         epoch = epoch;
         node = subst (λ (s : S). IsNode R (λ m. s) n (λ l. []) (λ l. [])) (sym np) node;
         unread = unread;
+        cycle = λ quota few. cycle quota (omega (arith, few, ap (λ s. length (R.emissions s)) np));
       } in
       let size : length (rs ++ x ∷ []) ≡ length rs + 1 = length-append rs (x ∷ []) in
       record {

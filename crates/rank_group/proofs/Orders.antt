@@ -1,16 +1,24 @@
 -- A sweep over all ranks.
-use Rattle.std.proofs.Common.{◌≡◌, ◌≢◌, ℕ, ◌+◌, ◌<◌, ◌≤◌, Bool, List, length, Some, slice_get, get_or, sym, ap, subst, ◌∙◌, arith, inl, inr}
-use Rattle.std.proofs.lemmas.Bool.{cases_eq}
+use Rattle.std.proofs.Common.{◌≡◌, ◌≢◌, ◌⊎◌, true, false, ℕ, ◌+◌, ◌<◌, ◌≤◌, Bool, List, length, Some, slice_get, get_or, sym, ap, subst, ◌∙◌, arith, inl, inr}
+use Rattle.std.proofs.lemmas.Bool.{cases_Bool, cases_eq, true≢false}
 use Rattle.std.proofs.lemmas.List.{get_or_past}
 use Rattle.std.proofs.lemmas.Option.{get_or_from_slice_get}
-use Rattle.list_laws.proofs.Lists.{find, get_once}
+use Rattle.list_laws.proofs.Lists.{find, within, get_once}
 use Rattle.route_tensor.specs.Grid.{ranks}
 use Rattle.port_bank.specs.Logs.{Logs}
 use Rattle.port_bank.specs.Plain.{Bank, IsBank, unused, channel_at, sent_of, got_of}
 use Rattle.round_program.specs.Rules.{Rules}
-use Rattle.rank_group.specs.Ranks.{RankState, AfterRank, progress}
-use Rattle.rank_group.specs.Worlds.{World, moves, Lawful, RestsBy, Plan, SweptTo}
-use Rattle.rank_group.proofs.Swept.{moves_on, world_on, rests_here, rests_on}
+use Rattle.round_program.specs.Laws.{Laws}
+use Rattle.rank_node.specs.Movers.{MoverState, Manner, manner_in}
+use Rattle.rank_node.specs.Movers.MoverState.{Conveying, Stacking}
+use Rattle.rank_node.specs.Movers.Manner.{ByConveyor, ByExstack}
+use Rattle.port_bank.specs.Flow.{Begins}
+use Rattle.rank_group.specs.Closes.{ClosesLaws}
+use Rattle.rank_group.specs.Halves.{most_rounds, MoverMade, next_cycle}
+use Rattle.rank_group.specs.Ranks.{RankState, AfterRank, IsOrder, progress}
+use Rattle.rank_group.specs.Worlds.{World, moves, Lawful, RestsBy, Plan, SweptTo, AllMade}
+use Rattle.rank_group.proofs.Swept.{got_grows, moves_on, world_on, cycle_here, cycle_other, rests_here, rests_on}
+use Rattle.rank_group.proofs.Made.{all_made, made_here}
 
 pub lawful : (cap : ℕ) (b : Bank) (dims : List ℕ) (slots : ℕ) → IsBank cap b → b.dims ≡ dims → b.slots ≡ slots → Lawful dims cap slots (sent_of b) (got_of b)
 lawful cap b dims slots is ed es =
@@ -22,28 +30,46 @@ lawful cap b dims slots is ed es =
       relays = is.each_rank;
     }))
 
-pub swept_none : {S : Type 0} (R : Rules S) (dims : List ℕ) (cap slots : ℕ) (steady : Bool) (starts : List S) (order : List ℕ) (h : ℕ → ℕ → S) (rs : List (RankState S)) (sent got : Logs) → World R dims cap slots steady starts h rs sent got
-    → SweptTo R dims cap slots steady starts order 0 rs sent got rs sent got
-swept_none R dims cap slots steady starts order h rs sent got w =
+pub swept_none : {S : Type 0} (R : Rules S) (dims : List ℕ) (cap slots : ℕ) (manner : Manner) (starts : List S) (order : List ℕ) (h : ℕ → ℕ → S) (rs : List (RankState S)) (sent got : Logs) → (w : World R dims cap slots manner starts h rs sent got)
+    → SweptTo R dims cap slots manner starts order 0 w.cycle rs sent got rs sent got
+swept_none R dims cap slots manner starts order h rs sent got w =
     record {
       h = h;
       world = w;
       grown = omega arith;
       forward = λ r x0 x a b. omega (arith, ap (λ y. progress y) (get_once rs r x0 x a b));
       rests = λ light j r low at. absurd (omega (arith, low));
+      made = λ j all. (all, λ q r low. absurd (omega (arith, low)));
     }
 
-pub swept_more : {S : Type 0} (R : Rules S) (dims : List ℕ) (cap slots : ℕ) (steady : Bool) (starts : List S) (order : List ℕ) (i r : ℕ) (rs0 rs rs' : List (RankState S)) (sent0 got0 sent got sent' got' : Logs)
-    → slice_get order i ≡ Some r → r < ranks dims → length rs' ≡ length rs → ((k : ℕ) → k ≢ r → slice_get rs' k ≡ slice_get rs k) → Lawful dims cap slots sent' got'
+-- what a turn makes of a round, whatever carries the items
+made_more : {S : Type 0} (R : Rules S) → Laws R → ClosesLaws → (rounds : ℕ) (dims : List ℕ) (cap slots : ℕ) (manner : Manner) (starts : List S) (h g : ℕ → ℕ → S) (r : ℕ) (n n' : RankState S) (rs rs' : List (RankState S)) (sent got sent' got' : Logs)
+    → (w : World R dims cap slots manner starts h rs sent got) (v : World R dims cap slots manner starts g rs' sent' got') → Plan R dims slots starts rounds
+    → slice_get rs r ≡ Some n → slice_get rs' r ≡ Some n' → ((k : ℕ) → k ≢ r → slice_get rs' k ≡ slice_get rs k) → AfterRank R dims cap slots r n n' sent got sent' got'
+    → ((l : ℕ) → Begins (got l) (got' l)) → v.cycle r ≡ next_cycle (w.cycle r) n n' → ((k : ℕ) → k ≢ r → v.cycle k ≡ w.cycle k)
+    → (j : ℕ) → AllMade (most_rounds R (ranks dims) starts) j w.cycle rs
+    → AllMade (most_rounds R (ranks dims) starts) j v.cycle rs' × ((n'.over ≡ true) ⊎ MoverMade (most_rounds R (ranks dims) starts) (j + 1) n'.over (v.cycle r) n'.node.mover)
+made_more R laws closes rounds dims cap slots ByExstack starts h g r n n' rs rs' sent got sent' got' w v plan at at' others t grows here elsewhere j all = (
+  all_made R laws closes dims cap slots starts h g r n n' rs rs' sent got sent' got' w v rounds plan at at' others t grows here elsewhere j all,
+  made_here R laws closes dims cap slots starts h g r n n' rs rs' sent got sent' got' w v rounds plan at at' others t grows here elsewhere j all,
+)
+made_more {S} R laws closes rounds dims cap slots (ByConveyor steady) starts h g r n n' rs rs' sent got sent' got' w v plan at at' others t grows here elsewhere j all =
+    (λ k y now. none j y.over (v.cycle k) y.node.mover ((v.ranked.each k y now).same_manner), inr (none (j + 1) n'.over (v.cycle r) n'.node.mover ((v.ranked.each r n' at').same_manner))) where
+      none : (j : ℕ) (o : Bool) (c : ℕ) (m : MoverState) → manner_in m ≡ ByConveyor steady → MoverMade (most_rounds R (ranks dims) starts) j o c m
+      none j o c (Conveying y) e = tt
+      none j o c (Stacking k y) e = absurd (cc)
+
+pub swept_more : {S : Type 0} (R : Rules S) → Laws R → ClosesLaws → (rounds : ℕ) (dims : List ℕ) (cap slots : ℕ) (manner : Manner) (starts : List S) (order : List ℕ) (i r : ℕ) (cycle0 : ℕ → ℕ) (rs0 rs rs' : List (RankState S)) (sent0 got0 sent got sent' got' : Logs)
+    → Plan R dims slots starts rounds → slice_get order i ≡ Some r → r < ranks dims → length rs' ≡ length rs → ((k : ℕ) → k ≢ r → slice_get rs' k ≡ slice_get rs k) → Lawful dims cap slots sent' got'
     → ((n n' : RankState S) → slice_get rs r ≡ Some n → slice_get rs' r ≡ Some n' → AfterRank R dims cap slots r n n' sent got sent' got')
-    → SweptTo R dims cap slots steady starts order i rs0 sent0 got0 rs sent got → SweptTo R dims cap slots steady starts order (i + 1) rs0 sent0 got0 rs' sent' got'
-swept_more {S} R dims cap slots steady starts order i r rs0 rs rs' sent0 got0 sent got sent' got' here low size others law turned v =
+    → SweptTo R dims cap slots manner starts order i cycle0 rs0 sent0 got0 rs sent got → SweptTo R dims cap slots manner starts order (i + 1) cycle0 rs0 sent0 got0 rs' sent' got'
+swept_more {S} R laws closes rounds dims cap slots manner starts order i r cycle0 rs0 rs rs' sent0 got0 sent got sent' got' plan here low size others law turned v =
     let w = v.world in
     let n : (n : RankState S) × (slice_get rs r ≡ Some n) = find rs r (omega (arith, low, w.ranked.all)) in
     let n' : (n' : RankState S) × (slice_get rs' r ≡ Some n') = find rs' r (omega (arith, low, w.ranked.all, size)) in
     let t : AfterRank R dims cap slots r n.0 n'.0 sent got sent' got' = turned n.0 n'.0 n.1 n'.1 in
-    let on = world_on R dims cap slots steady starts v.h r n.0 n'.0 rs rs' sent got sent' got' w n.1 n'.1 others size t law in
-    let more = moves_on R dims cap slots steady starts v.h r n.0 n'.0 rs rs' sent got sent' got' w n.1 n'.1 others size t law in
+    let on = world_on R dims cap slots manner starts v.h r n.0 n'.0 rs rs' sent got sent' got' w n.1 n'.1 others size t law laws closes rounds plan in
+    let more = moves_on R dims cap slots manner starts v.h r n.0 n'.0 rs rs' sent got sent' got' w n.1 n'.1 others size t law in
     record {
       h = on.0;
       world = on.1;
@@ -65,15 +91,37 @@ swept_more {S} R dims cap slots steady starts order i r rs0 rs rs' sent0 got0 se
                 let p : progress n'.0 ≡ progress n.0 = omega (arith, f, t.forward, same, ap (λ y. progress y) e) in
                 subst (λ q. RestsBy dims slots q x.node.mover sent' got') (sym now)
                 (subst (λ (y : RankState S). RestsBy dims slots r y.node.mover sent' got') e
-                (rests_here R dims cap slots steady starts v.h r n.0 n'.0 rs rs' sent got sent' got' w n.1 n'.1 others size t law level (ap (λ (y : RankState S). y.over) e ∙ still) p))
+                (rests_here R dims cap slots manner starts v.h r n.0 n'.0 rs rs' sent got sent' got' w n.1 n'.1 others size t law level (ap (λ (y : RankState S). y.over) e ∙ still) p))
             | inr apart ↦
                 let before : j < i = omega (arith, below, not_last j apart at) in
-                rests_on R dims cap slots steady starts v.h r n.0 n'.0 rs rs' sent got sent' got' w n.1 n'.1 others size t law level k x.node.mover
+                rests_on R dims cap slots manner starts v.h r n.0 n'.0 rs rs' sent got sent' got' w n.1 n'.1 others size t law level k x.node.mover
                 (v.rests level0 j k before at x0 x a (sym (others k apart) ∙ b) still same)
           ];
+      made = λ j all.
+          let m = made_more R laws closes rounds dims cap slots manner starts v.h on.0 r n.0 n'.0 rs rs' sent got sent' got' w on.1 plan n.1 n'.1 others t
+              (got_grows R dims cap slots manner starts v.h r n.0 n'.0 rs rs' sent got sent' got' w n.1 n'.1 others size t law)
+              (ap (λ (c : ℕ → ℕ). c r) on.2 ∙ cycle_here R dims cap slots manner starts v.h r n.0 n'.0 rs rs' sent got sent' got' w n.1 n'.1 others size t law)
+              (λ k apart. ap (λ (c : ℕ → ℕ). c k) on.2 ∙ cycle_other R dims cap slots manner starts v.h r n.0 n'.0 rs rs' sent got sent' got' w n.1 n'.1 others size t law k apart) j (v.made j all).0 in (
+            m.0,
+            λ q k below at x b. elim (cases_eq k r) [
+              | inl now ↦
+                  let e : n'.0 ≡ x = get_once rs' r n'.0 x n'.1 (subst (λ q. slice_get rs' q ≡ Some x) now b) in
+                  subst (λ q. (x.over ≡ true) ⊎ MoverMade (most_rounds R (ranks dims) starts) (j + 1) x.over (on.1.cycle q) x.node.mover) (sym now)
+                  (subst (λ (y : RankState S). (y.over ≡ true) ⊎ MoverMade (most_rounds R (ranks dims) starts) (j + 1) y.over (on.1.cycle r) y.node.mover) e m.1)
+              | inr apart ↦
+                  let before : q < i = omega (arith, below, not_last q apart at) in
+                  let c : on.1.cycle k ≡ w.cycle k = ap (λ (c : ℕ → ℕ). c k) on.2 ∙ cycle_other R dims cap slots manner starts v.h r n.0 n'.0 rs rs' sent got sent' got' w n.1 n'.1 others size t law k apart in
+                  subst (λ c. (x.over ≡ true) ⊎ MoverMade (most_rounds R (ranks dims) starts) (j + 1) x.over c x.node.mover) (sym c) ((v.made j all).1 q k before at x (sym (others k apart) ∙ b))
+            ],
+          );
     } where
       not_last : (j : ℕ) {k : ℕ} → k ≢ r → slice_get order j ≡ Some k → j ≢ i
       not_last j {k} apart at e = apart (get_once order i k r (subst (λ q. slice_get order q ≡ Some k) e at) here)
+
+-- only ranks whose runs were over stood among the first i of an order
+pub record NoneTurned {S : Type 0} (order : List ℕ) (i : ℕ) (rs0 rs : List (RankState S)) : Type 0 where
+  pub same : (r : ℕ) (x0 x : RankState S) → slice_get rs0 r ≡ Some x0 → slice_get rs r ≡ Some x → x.over ≡ x0.over
+  pub over : (q r : ℕ) (x : RankState S) → q < i → slice_get order q ≡ Some r → slice_get rs r ≡ Some x → x.over ≡ true
 
 -- a sweep's loop
 pub record Sweeping {S : Type 0} (R : Rules S) (cap : ℕ) (order : List ℕ) (rs0 : List (RankState S)) (b0 : Bank) (steps0 i : ℕ) (rs : List (RankState S)) (b : Bank) (steps : ℕ) : Type 0 where
@@ -82,39 +130,79 @@ pub record Sweeping {S : Type 0} (R : Rules S) (cap : ℕ) (order : List ℕ) (r
   pub same_slots : b.slots ≡ b0.slots
   pub most_steps : steps ≤ steps0 + i
   pub size : length rs ≡ length rs0
-  pub swept : (steady : Bool) (starts : List S) (n : ℕ) (h : ℕ → ℕ → S) → Plan R b0.dims b0.slots starts n → World R b0.dims cap b0.slots steady starts h rs0 (sent_of b0) (got_of b0)
-      → SweptTo R b0.dims cap b0.slots steady starts order i rs0 (sent_of b0) (got_of b0) rs (sent_of b) (got_of b)
+  pub turns : (steps0 < steps) ⊎ NoneTurned order i rs0 rs
+  pub fewest : steps0 ≤ steps
+  pub swept : (manner : Manner) (starts : List S) (n : ℕ) (h : ℕ → ℕ → S) → Plan R b0.dims b0.slots starts n → (w : World R b0.dims cap b0.slots manner starts h rs0 (sent_of b0) (got_of b0))
+      → SweptTo R b0.dims cap b0.slots manner starts order i w.cycle rs0 (sent_of b0) (got_of b0) rs (sent_of b) (got_of b)
 
-pub sweeping_more : {S : Type 0} (R : Rules S) (cap : ℕ) (order : List ℕ) (rs0 : List (RankState S)) (b0 : Bank) (steps0 i r : ℕ) (rs rs' : List (RankState S)) (b b' : Bank) (steps steps' : ℕ) → Sweeping R cap order rs0 b0 steps0 i rs b steps
-    → slice_get order i ≡ Some r → r < ranks b.dims → IsBank cap b' → b'.dims ≡ b.dims → b'.slots ≡ b.slots → steps' ≤ steps + 1 → length rs' ≡ length rs → ((k : ℕ) → k ≢ r → slice_get rs' k ≡ slice_get rs k)
+turns_more : {S : Type 0} (order : List ℕ) (rs0 rs rs' : List (RankState S)) (i r steps0 steps steps' : ℕ) (n n' : RankState S) → slice_get order i ≡ Some r → slice_get rs r ≡ Some n → slice_get rs' r ≡ Some n' → ((k : ℕ) → k ≢ r → slice_get rs' k ≡ slice_get rs k)
+    → (n.over ≡ true → n' ≡ n) → (n.over ≡ false → steps' ≡ steps + 1) → steps ≤ steps' → steps0 ≤ steps → (steps0 < steps) ⊎ NoneTurned order i rs0 rs → (steps0 < steps') ⊎ NoneTurned order (i + 1) rs0 rs'
+turns_more order rs0 rs rs' i r steps0 steps steps' n n' here at at' others rested turned fewest low (inl more) = inl (omega (arith, more, fewest))
+turns_more {S} order rs0 rs rs' i r steps0 steps steps' n n' here at at' others rested turned fewest low (inr none) = elim (cases_Bool n.over) [
+  | inr on ↦ let e = turned on in inl (omega (arith, e, low))
+  | inl over ↦
+      inr (record {
+        same = λ k x0 x a b. elim (cases_eq k r) [
+          | inl now ↦
+              let e : n' ≡ x = get_once rs' r n' x at' (subst (λ q. slice_get rs' q ≡ Some x) now b) in
+              ap (λ (y : RankState S). y.over) (sym e) ∙ (ap (λ (y : RankState S). y.over) (rested over) ∙ none.same r x0 n (subst (λ q. slice_get rs0 q ≡ Some x0) now a) at)
+          | inr apart ↦ none.same k x0 x a (sym (others k apart) ∙ b)
+        ];
+        over = λ q k x below placed b. elim (cases_eq k r) [
+          | inl now ↦
+              let e : n' ≡ x = get_once rs' r n' x at' (subst (λ q. slice_get rs' q ≡ Some x) now b) in
+              ap (λ (y : RankState S). y.over) (sym e) ∙ (ap (λ (y : RankState S). y.over) (rested over) ∙ over)
+          | inr apart ↦ elim (cases_eq q i) [
+            | inl last ↦ absurd (apart (get_once order i k r (subst (λ p. slice_get order p ≡ Some k) last placed) here))
+            | inr before ↦ none.over q k x (omega (arith, below, before)) placed (sym (others k apart) ∙ b)
+          ]
+        ];
+      })
+]
+
+-- where some rank goes on a whole sweep makes a turn
+pub some_turn : {S : Type 0} (p : ℕ) (order : List ℕ) (rs0 rs : List (RankState S)) (steps0 steps : ℕ) → IsOrder p order → length rs0 ≡ p → length rs ≡ length rs0 → (steps0 < steps) ⊎ NoneTurned order (length order) rs0 rs
+    → (r : ℕ) (x : RankState S) → slice_get rs0 r ≡ Some x → x.over ≡ false → steps0 < steps
+some_turn p order rs0 rs steps0 steps is all size (inl more) r x at on = more
+some_turn p order rs0 rs steps0 steps is all size (inr none) r x at on =
+    let place = is.each r (omega (arith, within rs0 r x at, all)) in
+    let y = find rs r (omega (arith, within rs0 r x at, size)) in
+    absurd (true≢false (sym (none.over place.0 r y.0 (within order place.0 r place.1) place.1 y.1) ∙ (none.same r x y.0 at y.1 ∙ on)))
+
+pub sweeping_more : {S : Type 0} (R : Rules S) → Laws R → ClosesLaws → (cap : ℕ) (order : List ℕ) (rs0 : List (RankState S)) (b0 : Bank) (steps0 i r : ℕ) (rs rs' : List (RankState S)) (b b' : Bank) (steps steps' : ℕ) → Sweeping R cap order rs0 b0 steps0 i rs b steps
+    → slice_get order i ≡ Some r → r < ranks b.dims → IsBank cap b' → b'.dims ≡ b.dims → b'.slots ≡ b.slots → steps' ≤ steps + 1 → steps ≤ steps' → ((n : RankState S) → slice_get rs r ≡ Some n → n.over ≡ false → steps' ≡ steps + 1) → length rs ≡ ranks b.dims → length rs' ≡ length rs → ((k : ℕ) → k ≢ r → slice_get rs' k ≡ slice_get rs k)
     → ((n n' : RankState S) → slice_get rs r ≡ Some n → slice_get rs' r ≡ Some n' → AfterRank R b.dims cap b.slots r n n' (sent_of b) (got_of b) (sent_of b') (got_of b'))
     → Sweeping R cap order rs0 b0 steps0 (i + 1) rs' b' steps'
-sweeping_more R cap order rs0 b0 steps0 i r rs rs' b b' steps steps' v here low law ed es count size others turned =
+sweeping_more R laws closes cap order rs0 b0 steps0 i r rs rs' b b' steps steps' v here low law ed es count fewest turn all size others turned =
     record {
       is_bank = law;
       same_dims = ed ∙ v.same_dims;
       same_slots = es ∙ v.same_slots;
       most_steps = omega (arith, count, v.most_steps);
       size = size ∙ v.size;
-      swept = λ steady starts n h p w.
-          swept_more R b0.dims cap b0.slots steady starts order i r rs0 rs rs' (sent_of b0) (got_of b0) (sent_of b) (got_of b) (sent_of b') (got_of b') here (subst (λ d. r < ranks d) v.same_dims low) size others
+      fewest = omega (arith, fewest, v.fewest);
+      turns = (let n = find rs r (omega (arith, low, all)) in
+          let n' = find rs' r (omega (arith, low, all, size)) in
+          turns_more order rs0 rs rs' i r steps0 steps steps' n.0 n'.0 here n.1 n'.1 others (λ over. ((turned n.0 n'.0 n.1 n'.1).unturned over).same) (turn n.0 n.1) fewest v.fewest v.turns);
+      swept = λ manner starts n h p w.
+          swept_more R laws closes n b0.dims cap b0.slots manner starts order i r w.cycle rs0 rs rs' (sent_of b0) (got_of b0) (sent_of b) (got_of b) (sent_of b') (got_of b') p here (subst (λ d. r < ranks d) v.same_dims low) size others
           (lawful cap b' b0.dims b0.slots law (ed ∙ v.same_dims) (es ∙ v.same_slots))
           (λ x x' was now. subst (λ d. AfterRank R d cap b0.slots r x x' (sent_of b) (got_of b) (sent_of b') (got_of b')) v.same_dims (subst (λ k. AfterRank R b.dims cap k r x x' (sent_of b) (got_of b) (sent_of b') (got_of b')) v.same_slots (turned x x' was now)))
-          (v.swept steady starts n h p w);
+          (v.swept manner starts n h p w);
     }
 
 -- all ranks in the midst of a sweep
 pub world_at : {S : Type 0} (R : Rules S) (cap : ℕ) (order : List ℕ) (rs0 : List (RankState S)) (b0 : Bank) (steps0 i : ℕ) (rs : List (RankState S)) (b : Bank) (steps : ℕ) → Sweeping R cap order rs0 b0 steps0 i rs b steps
-    → (steady : Bool) (starts : List S) (n : ℕ) (h : ℕ → ℕ → S) → Plan R b0.dims b0.slots starts n → World R b0.dims cap b0.slots steady starts h rs0 (sent_of b0) (got_of b0)
-    → (steady : Bool) × (starts : List S) × (n : ℕ) × (h : ℕ → ℕ → S) × Plan R b.dims b.slots starts n × World R b.dims cap b.slots steady starts h rs (sent_of b) (got_of b)
-world_at R cap order rs0 b0 steps0 i rs b steps v steady starts n h p w =
-    let s = v.swept steady starts n h p w in (
-      steady,
+    → (manner : Manner) (starts : List S) (n : ℕ) (h : ℕ → ℕ → S) → Plan R b0.dims b0.slots starts n → World R b0.dims cap b0.slots manner starts h rs0 (sent_of b0) (got_of b0)
+    → (manner : Manner) × (starts : List S) × (n : ℕ) × (h : ℕ → ℕ → S) × Plan R b.dims b.slots starts n × World R b.dims cap b.slots manner starts h rs (sent_of b) (got_of b)
+world_at R cap order rs0 b0 steps0 i rs b steps v manner starts n h p w =
+    let s = v.swept manner starts n h p w in (
+      manner,
       starts,
       n,
       s.h,
       subst (λ d. Plan R d b.slots starts n) (sym v.same_dims) (subst (λ k. Plan R b0.dims k starts n) (sym v.same_slots) p),
-      subst (λ d. World R d cap b.slots steady starts s.h rs (sent_of b) (got_of b)) (sym v.same_dims) (subst (λ k. World R b0.dims cap k steady starts s.h rs (sent_of b) (got_of b)) (sym v.same_slots) s.world),
+      subst (λ d. World R d cap b.slots manner starts s.h rs (sent_of b) (got_of b)) (sym v.same_dims) (subst (λ k. World R b0.dims cap k manner starts s.h rs (sent_of b) (got_of b)) (sym v.same_slots) s.world),
     )
 
 -- the rank at a place of an order

@@ -1,12 +1,13 @@
 -- How many sweeps a run takes.
-use Rattle.std.proofs.Common.{◌≡◌, ℕ, zero, suc, ◌+◌, ◌*◌, ◌<◌, ◌≤◌, min, List, [], ◌∷◌, length, Some, slice_get, refl, ap, arith, inl, inr}
+use Rattle.std.proofs.Common.{◌≡◌, ℕ, zero, suc, ◌+◌, ◌*◌, ◌<◌, ◌≤◌, Bool, min, List, [], ◌∷◌, length, Some, slice_get, refl, ap, arith, inl, inr}
 use Rattle.std.proofs.lemmas.Bool.{cases_lt}
-use Rattle.std.proofs.Math.Nat.{mul-le-mul_left}
 use Rattle.list_laws.proofs.Lists.{within, get_once}
 use Rattle.route_tensor.specs.Grid.{ranks}
 use Rattle.route_tensor.specs.Link.{links}
 use Rattle.round_program.specs.Rules.{Rules}
 use Rattle.round_program.specs.Canonical.{items_at}
+use Rattle.rank_node.specs.Movers.{Manner}
+use Rattle.rank_node.specs.Movers.Manner.{ByConveyor}
 use Rattle.rank_group.specs.Told.{turns_within}
 use Rattle.rank_group.specs.Ranks.{RankState, progress}
 use Rattle.rank_group.proofs.Pushed.{items_before}
@@ -16,30 +17,23 @@ abbrev pub sweeps_within : {S : Type 0} → Rules S → List ℕ → List S → 
 sweeps_within R dims starts n = 3 * (length dims * items_before R (ranks dims) starts n) + links dims * (4 * n) + 2 * n
 
 -- each of them turns no rank twice
-pub turns_low : {S : Type 0} (R : Rules S) (dims : List ℕ) (starts : List S) (n : ℕ) → ranks dims * sweeps_within R dims starts n ≤ turns_within R dims starts n
-turns_low R dims starts zero = omega arith
-turns_low R dims starts (suc n) = by (ranks dims) (length dims) (links dims) (items_at R starts n) (items_before R (ranks dims) starts n) (turns_within R dims starts n) (turns_low R dims starts n) where
+pub turns_low : {S : Type 0} (R : Rules S) (steady : Bool) (dims : List ℕ) (starts : List S) (n : ℕ) → ranks dims * sweeps_within R dims starts n ≤ turns_within R (ByConveyor steady) dims starts n
+turns_low R steady dims starts zero = omega arith
+turns_low R steady dims starts (suc n) = by (ranks dims) (length dims) (links dims) (items_at R starts n) (items_before R (ranks dims) starts n) (turns_within R (ByConveyor steady) dims starts n) (turns_low R steady dims starts n) where
   by : (p k l i b t : ℕ) → p * (3 * (k * b) + l * (4 * n) + 2 * n) ≤ t
       → p * (3 * (k * (b + (i + p * p))) + l * (4 * suc n) + 2 * suc n) ≤ t + (p * (i * (3 * k + 1) + 2 * l + 1) + p * (p * p * (3 * k + 1) + 2 * l + 1))
   by p k l i b t rest = omega (arith, rest)
 
--- more rounds send no fewer items
-pub items_more : {S : Type 0} (R : Rules S) (p : ℕ) (starts : List S) (n m : ℕ) → n ≤ m → items_before R p starts n ≤ items_before R p starts m
-items_more R p starts n zero low = by n low where
-  by : (n : ℕ) → n ≤ 0 → items_before R p starts n ≤ 0
+-- more rounds take no fewer turns
+pub turns_more : {S : Type 0} (R : Rules S) (manner : Manner) (dims : List ℕ) (starts : List S) (n m : ℕ) → n ≤ m → turns_within R manner dims starts n ≤ turns_within R manner dims starts m
+turns_more R manner dims starts n zero low = by n low where
+  by : (n : ℕ) → n ≤ 0 → turns_within R manner dims starts n ≤ 0
   by zero low = omega arith
   by (suc n) low = absurd (omega (arith, low))
-items_more R p starts n (suc m) low = elim (cases_lt m n) [
-  | inl here ↦ let e : n ≡ suc m = omega (arith, low, here) in omega (arith, ap (items_before R p starts) e)
-  | inr before ↦ let rest = items_more R p starts n m (omega (arith, before)) in omega (arith, rest)
+turns_more R manner dims starts n (suc m) low = elim (cases_lt m n) [
+  | inl here ↦ let e : n ≡ suc m = omega (arith, low, here) in omega (arith, ap (turns_within R manner dims starts) e)
+  | inr before ↦ let rest = turns_more R manner dims starts n m (omega (arith, before)) in omega (arith, rest)
 ]
-
-pub sweeps_more : {S : Type 0} (R : Rules S) (dims : List ℕ) (starts : List S) (n m : ℕ) → n ≤ m → sweeps_within R dims starts n ≤ sweeps_within R dims starts m
-sweeps_more R dims starts n m low =
-    let a = mul-le-mul_left (length dims) (items_more R (ranks dims) starts n m low) in
-    let four : 4 * n ≤ 4 * m = omega (arith, low) in
-    let b = mul-le-mul_left (links dims) four in
-    omega (arith, a, b, low)
 
 -- the least number of epochs that a rank has completed
 abbrev pub least : {S : Type 0} → List (RankState S) → ℕ

@@ -18,6 +18,8 @@ use Rattle.rank_node.specs.Movers.MoverState.{Conveying, Stacking}
 use Rattle.rank_node.specs.Runs.{Running}
 use Rattle.rank_node.specs.Nodes.{NodeState, IsNode}
 use Rattle.rank_node.specs.Moves.{Leaves, Waits}
+use Rattle.rank_node.specs.Sending.{to_send}
+use Rattle.rank_node.specs.Cycles.{IsInCycle, cycle_of_turn, TurnsOnward, AwaitsSome}
 use Rattle.rank_group.specs.Ranks.{RankState, HasRank, AfterTurn, AfterRank, IsLeftBy, progress}
 use Rattle.rank_group.proofs.OneTurn.{OneTurn, NextTold, stays_in, goes_on}
 
@@ -39,6 +41,10 @@ pub record PortTurn {S : Type 0} (R : Rules S) (cap : ℕ) (turn : Turn) (n n' :
   pub ended : turn ≡ Ended → has_completed n'.mover ≡ true
   pub going : turn ≡ Going → has_completed n'.mover ≡ false
   pub waits : Waits R n.run n.mover n'.mover (starting_at b.dims r (sent_of b)) (ending_at b.dims r (got_of b)) (starting_at b'.dims r' (sent_of b')) (ending_at b'.dims r' (got_of b')) (crowded_of r' b') (idle_of r' b')
+  pub cycle : (quota : ℕ → ℕ) (k : ℕ) → IsInCycle R quota k n.run n.mover (starting_at b.dims r (sent_of b)) (ending_at b.dims r (got_of b))
+      → IsInCycle R quota (cycle_of_turn k n.mover) n'.run n'.mover (starting_at b'.dims r' (sent_of b')) (ending_at b'.dims r' (got_of b'))
+  pub onward : TurnsOnward n.mover n'.mover
+  pub awaits : AwaitsSome n'.mover
 
 -- an inbox holds at most what it held and what came
 lies_by : {S : Type 0} (R : Rules S) (cap : ℕ) (run run' : Running S) (m m' : MoverState) (sent got got' : Logs) → Leaves R cap run run' m m' sent got got'
@@ -86,6 +92,9 @@ after_turn R cap r turn n n' b b' q q' own same nd nr told =
       ended = t.ended;
       going = t.going;
       waits = t.waits;
+      cycle = t.cycle;
+      onward = t.onward;
+      awaits = t.awaits;
     }
 
 module _ {S : Type 0} (R : Rules S) (dims : List ℕ) (cap slots r : ℕ) where
@@ -101,6 +110,8 @@ module _ {S : Type 0} (R : Rules S) (dims : List ℕ) (cap slots r : ℕ) where
         forward = omega arith;
         kept = λ manner h is. (h, refl, is);
         left = λ manner h is still. absurd (true≢false (sym over ∙ still));
+        unturned = λ _. record { same = refl; same_sent = refl; same_got = refl };
+        turned = λ on. absurd (true≢false (sym over ∙ on));
       }
 
   -- a turn is one over the rank's own logs
@@ -129,10 +140,13 @@ module _ {S : Type 0} (R : Rules S) (dims : List ℕ) (cap slots r : ℕ) where
             omega (arith, a, b, t.node_epoch);
         kept = λ manner h is. (h, refl, stays_in R dims cap r manner h n n' _ _ _ _ is on (own_turn Going n.node n' sent got sent' got' is.same_dims is.same_rank t) over still);
         left = λ manner h is e same s g. left_by R h n.node.run n.node.mover n'.mover _ _ _ _ _ _ t.waits (is.runs on) s g (t.going refl) t.node_epoch;
+        unturned = λ over'. absurd (true≢false (sym over' ∙ on));
+        turned = λ _. inl (record { still = still; epoch = t.node_epoch; going = t.going refl; cycle = t.cycle; onward = t.onward; awaits = t.awaits; waits = t.waits });
       }
 
 module _ {S : Type 0} (R : Rules S) (dims : List ℕ) (cap slots r : ℕ) (n : RankState S) (n1 n2 : NodeState S) (more : Bool) (sent got sent' got' : Logs)
-    (on : n.over ≡ false) (t : AfterTurn R dims cap slots r Ended n.node n1 sent got sent' got') (x : NextTold R cap n1 n2 more) where
+    (on : n.over ≡ false) (t : AfterTurn R dims cap slots r Ended n.node n1 sent got sent' got') (x : NextTold R cap n1 n2 more)
+    (anew : more ≡ true → (quota : ℕ → ℕ) (k : ℕ) (sent got : Logs) → IsInCycle R quota k n1.run n1.mover sent got → length (to_send R n2.run.prog n2.run.sends) ≤ quota (epoch_in n2.mover) → IsInCycle R quota 0 n2.run n2.mover sent got) where
   ended_epoch : cond (not more) (epoch_in n2.mover + 1) (epoch_in n2.mover) ≡ epoch_in n.node.mover + 1
   ended_epoch = elim (cases_Bool more) [
     | inl yes' ↦ ap (λ b. cond (not b) (epoch_in n2.mover + 1) (epoch_in n2.mover)) yes' ∙ (x.epoch yes' ∙ ap (λ e. e + 1) t.node_epoch)
@@ -160,4 +174,23 @@ module _ {S : Type 0} (R : Rules S) (dims : List ℕ) (cap slots r : ℕ) (n : R
         left = λ manner h is e same. absurd (let a : progress n ≡ epoch_in n.node.mover = ap (λ b. cond b (epoch_in n.node.mover + 1) (epoch_in n.node.mover)) on in
             let b = ended_epoch in
             omega (arith, a, b, same));
-      }
+        unturned = λ over. absurd (true≢false (sym over ∙ on));
+        turned = λ _. inr (record {
+            at_end = n1;
+            same_dims = t.node_dims;
+            same_rank = t.node_rank;
+            same_manner = t.node_manner;
+            epoch = t.node_epoch;
+            cycle = t.cycle;
+            over = λ over. x.stays (negated more over);
+            next = λ on'. x.epoch (affirmed more on') ∙ ap (λ e. e + 1) t.node_epoch;
+            anew = λ on' quota k is few. anew (affirmed more on') quota k _ _ is few;
+          });
+      } where
+        negated : (b : Bool) → not b ≡ true → b ≡ false
+        negated true e = absurd (true≢false (sym e))
+        negated false e = refl
+
+        affirmed : (b : Bool) → not b ≡ false → b ≡ true
+        affirmed true e = refl
+        affirmed false e = absurd (true≢false e)

@@ -19,7 +19,7 @@ use Rattle.convey.proofs.OneRank.{starting-own, ending-own}
 use Rattle.round_program.specs.Rules.{Rules}
 use Rattle.round_program.specs.Laws.{Laws}
 use Rattle.round_program.specs.Canonical.{HasRounds, InRound}
-use Rattle.rank_node.specs.Movers.{MoverState, dims_of, rank_of, epoch_in, manner_in, has_completed, IsConveying, IsMoving}
+use Rattle.rank_node.specs.Movers.{MoverState, Manner, dims_of, rank_of, epoch_in, manner_in, has_completed, IsConveying, IsMoving}
 use Rattle.rank_node.specs.Movers.MoverState.{Conveying, Stacking}
 use Rattle.rank_node.specs.Movers.Manner.{ByConveyor}
 use Rattle.rank_group.specs.Ranks.{RankState, progress, crowded_in}
@@ -111,7 +111,7 @@ by_conveyor : (dims : List ℕ) (r : ℕ) (steady : Bool) (m : MoverState) (sent
 by_conveyor dims r steady (Conveying c) sent got k same_dims same_rank is = record { c = c; is = refl; same_dims = same_dims; same_rank = same_rank; moving = is }
 by_conveyor dims r steady (Stacking cap x) sent got k same_dims same_rank is = absurd (cc)
 
-module _ {S : Type 0} (R : Rules S) (laws : Laws R) (law : ClosesLaws) (rest : RestLaw) (dims : List ℕ) (cap slots : ℕ) (steady : Bool) (starts : List S) (h : ℕ → ℕ → S) (rs : List (RankState S)) (sent got : Logs) (w : World R dims cap slots steady starts h rs sent got)
+module _ {S : Type 0} (R : Rules S) (laws : Laws R) (law : ClosesLaws) (rest : RestLaw) (dims : List ℕ) (cap slots : ℕ) (steady : Bool) (starts : List S) (h : ℕ → ℕ → S) (rs : List (RankState S)) (sent got : Logs) (w : World R dims cap slots (ByConveyor steady) starts h rs sent got)
     (shape : List ℕ) (most n : ℕ) (start : InRound R (ranks dims) 0 shape most starts) (rounds : HasRounds R starts n) (some : 0 < slots) (e : ℕ) (before : e < 2 * n)
     (least : (r : ℕ) (x : RankState S) → slice_get rs r ≡ Some x → e ≤ progress x)
     (rested : (r : ℕ) (x : RankState S) → slice_get rs r ≡ Some x → x.over ≡ false → progress x ≡ e → RestsBy dims slots r x.node.mover sent got) where
@@ -223,10 +223,10 @@ module _ {S : Type 0} (R : Rules S) (laws : Laws R) (law : ClosesLaws) (rest : R
             absurd (t.1 (rest dims cap slots e (λ k. (all_two k).0) (λ k. (all_two k).1) sent got sweep r low t.0))
 
 -- the epochs of a run are few
-pub epoch_few : {S : Type 0} (R : Rules S) → Laws R → ClosesLaws → (dims : List ℕ) (cap slots : ℕ) (steady : Bool) (starts : List S) (h : ℕ → ℕ → S) (rs : List (RankState S)) (sent got : Logs) → World R dims cap slots steady starts h rs sent got
+pub epoch_few : {S : Type 0} (R : Rules S) → Laws R → ClosesLaws → (dims : List ℕ) (cap slots : ℕ) (manner : Manner) (starts : List S) (h : ℕ → ℕ → S) (rs : List (RankState S)) (sent got : Logs) → World R dims cap slots manner starts h rs sent got
     → (n : ℕ) → Plan R dims slots starts n → (r : ℕ) (x : RankState S) → slice_get rs r ≡ Some x → epoch_in x.node.mover < 2 ^ 63
-epoch_few R laws law dims cap slots steady starts h rs sent got w n p r x at =
+epoch_few R laws law dims cap slots manner starts h rs sent got w n p r x at =
     elim (cases_Bool x.over) [
-      | inl t ↦ let e = (over_at_last R laws law dims cap slots (ByConveyor steady) starts h rs sent got w.ranked p.shape p.most n p.start p.rounds r x at t).0 in omega (arith, e, p.few)
-      | inr f ↦ let e = still_within R laws law dims cap slots (ByConveyor steady) starts h rs sent got w.ranked p.shape p.most n p.start p.rounds r x at f in omega (arith, e, p.few)
+      | inl t ↦ let e = (over_at_last R laws law dims cap slots manner starts h rs sent got w.ranked p.shape p.most n p.start p.rounds r x at t).0 in omega (arith, e, p.few)
+      | inr f ↦ let e = still_within R laws law dims cap slots manner starts h rs sent got w.ranked p.shape p.most n p.start p.rounds r x at f in omega (arith, e, p.few)
     ]

@@ -1,10 +1,11 @@
 -- One more rank is turned in a sweep.
-use Rattle.std.proofs.Common.{◌≡◌, ◌≢◌, ℕ, ◌+◌, ◌<◌, ◌≤◌, ◌==◌, Bool, true, false, cond, List, [], ◌∷◌, ◌++◌, length, length-append, Some, slice_get, sym, ap, subst, ◌∙◌, arith, inl, inr}
+use Rattle.std.proofs.Common.{◌≡◌, ◌≢◌, ℕ, ◌+◌, ◌<◌, ◌≤◌, ◌==◌, Bool, true, false, cond, List, [], ◌∷◌, ◌++◌, length, length-append, Some, slice_get, refl, sym, ap, subst, ◌∙◌, arith, inl, inr}
 use Rattle.std.proofs.lemmas.Bool.{cases_eq, cases_lt, eq-eqb, ne_eqb}
 use Rattle.std.proofs.lemmas.List.{append-nil}
 use Rattle.item_buffer.specs.Contents.{Shipped}
 use Rattle.list_laws.proofs.Sums.{total_le, total_lt}
 use Rattle.list_laws.proofs.Lists.{get_once}
+use Rattle.route_tensor.specs.Grid.{ranks}
 use Rattle.route_tensor.specs.Link.{links}
 use Rattle.route_tensor.specs.Ends.{sender_at, reader_at}
 use Rattle.port_bank.specs.Logs.{Logs, starting_at, ending_at}
@@ -12,14 +13,18 @@ use Rattle.port_bank.specs.Flow.{Begins}
 use Rattle.port_bank.proofs.Owners.{sent_elsewhere, got_elsewhere}
 use Rattle.convey.proofs.OneRank.{ending-own}
 use Rattle.round_program.specs.Rules.{Rules}
-use Rattle.rank_node.specs.Movers.{MoverState, Manner, IsShape, dims_of, rank_of, manner_in, lying}
+use Rattle.round_program.specs.Laws.{Laws}
+use Rattle.rank_node.specs.Movers.{MoverState, Manner, IsShape, dims_of, rank_of, lying}
 use Rattle.rank_node.specs.Movers.MoverState.{Conveying, Stacking}
-use Rattle.rank_node.specs.Movers.Manner.{ByConveyor}
 use Rattle.rank_node.specs.Nodes.{IsNode}
 use Rattle.rank_node.specs.Next.{HasStopped}
-use Rattle.rank_group.specs.Ranks.{RankState, HasRank, AfterRank, IsLeftBy, progress, crowded_in, idle_in}
+use Rattle.rank_group.specs.Closes.{ClosesLaws}
+use Rattle.rank_group.specs.Ranks.{RankState, HasRank, AllRanks, AfterRank, IsLeftBy, progress, crowded_in, idle_in}
 use Rattle.rank_group.proofs.Sweeps.{begins_length, begins_whole}
-use Rattle.rank_group.specs.Worlds.{entries_of, mover_in, inbox, World, move_of, moves, Lawful, RestsBy}
+use Rattle.rank_group.specs.Halves.{quota_of, KeepsCycle, next_cycle}
+use Rattle.rank_group.specs.Worlds.{entries_of, mover_in, inbox, World, move_of, moves, Lawful, RestsBy, Plan}
+use Rattle.rank_group.proofs.Cycled.{keeps_on}
+use Rattle.rank_group.proofs.Quotas.{sends_few}
 
 -- where a rank's own logs grow and the others stay, all grow
 grown : (own : ℕ → Bool) (old new : Logs) → ((l : ℕ) → Begins (cond (own l) (old l) []) (cond (own l) (new l) [])) → ((l : ℕ) → cond (own l) [] (new l) ≡ cond (own l) [] (old l)) → (l : ℕ) → Begins (old l) (new l)
@@ -42,13 +47,13 @@ other_rank R dims cap manner r h n sent got sent' got' es eg is =
       shape = λ l below own. subst (λ (f : Logs). IsShape manner cap (f l)) (sym es) (is.shape l below own);
     }
 
-module _ {S : Type 0} (R : Rules S) (dims : List ℕ) (cap slots : ℕ) (steady : Bool) (starts : List S) (h : ℕ → ℕ → S) (r : ℕ) (n n' : RankState S) (rs rs' : List (RankState S)) (sent got sent' got' : Logs)
-    (w : World R dims cap slots steady starts h rs sent got) (at : slice_get rs r ≡ Some n) (at' : slice_get rs' r ≡ Some n') (others : (k : ℕ) → k ≢ r → slice_get rs' k ≡ slice_get rs k) (size : length rs' ≡ length rs)
+module _ {S : Type 0} (R : Rules S) (dims : List ℕ) (cap slots : ℕ) (manner : Manner) (starts : List S) (h : ℕ → ℕ → S) (r : ℕ) (n n' : RankState S) (rs rs' : List (RankState S)) (sent got sent' got' : Logs)
+    (w : World R dims cap slots manner starts h rs sent got) (at : slice_get rs r ≡ Some n) (at' : slice_get rs' r ≡ Some n') (others : (k : ℕ) → k ≢ r → slice_get rs' k ≡ slice_get rs k) (size : length rs' ≡ length rs)
     (t : AfterRank R dims cap slots r n n' sent got sent' got') (law : Lawful dims cap slots sent' got') where
   sent_grows : (l : ℕ) → Begins (sent l) (sent' l)
   sent_grows = grown (λ l. sender_at dims l == r) sent sent' t.sent_grows (λ l. ap (λ (f : Logs). f l) t.sent_elsewhere)
 
-  got_grows : (l : ℕ) → Begins (got l) (got' l)
+  pub got_grows : (l : ℕ) → Begins (got l) (got' l)
   got_grows = grown (λ l. reader_at dims l == r) got got' t.got_grows (λ l. ap (λ (f : Logs). f l) t.got_elsewhere)
 
   entries_more : (l : ℕ) → length (entries_of (got' l)) ≡ length (entries_of (got l)) + length (entries_of (got_grows l).rest)
@@ -106,52 +111,91 @@ module _ {S : Type 0} (R : Rules S) (dims : List ℕ) (cap slots : ℕ) (steady 
       let e = ap (λ (g : Logs). length (entries_of (g l))) (got_same light) in
       omega (arith, level light l below, w.inboxes l below, e, inbox_step l below, begins_length (sent l) (sent' l) (sent_grows l), begins_length (got l) (got' l) (got_grows l))
 
+  abbrev kept_on : (g : ℕ → S) × (g 0 ≡ h r 0) × HasRank R dims cap manner r g n' sent' got'
+  kept_on = t.kept manner (h r) (w.ranked.each r n at)
+
+  abbrev history : ℕ → ℕ → S
+  history k = cond (k == r) kept_on.0 (h k)
+
   -- all ranks after the turn
-  pub world_on : (g : ℕ → ℕ → S) × World R dims cap slots steady starts g rs' sent' got'
-  world_on =
-      let kept = t.kept (ByConveyor steady) (h r) (w.ranked.each r n at) in
-      let g : ℕ → ℕ → S = λ k. cond (k == r) kept.0 (h k) in (
-        g,
+  ranked_on : AllRanks R dims cap slots manner starts history rs' sent' got'
+  ranked_on =
+      record {
+        grid = w.ranked.grid;
+        links_keep = law.links_keep;
+        all = size ∙ w.ranked.all;
+        each = λ k x now. elim (cases_eq k r) [
+          | inl here ↦
+              let e : n' ≡ x = get_once rs' r n' x at' (subst (λ q. slice_get rs' q ≡ Some x) here now) in
+              subst (λ f. HasRank R dims cap manner k f x sent' got') (sym (ap (λ b. cond b kept_on.0 (h k)) (eq-eqb k r here)))
+              (subst (λ q. HasRank R dims cap manner q kept_on.0 x sent' got') (sym here) (subst (λ y. HasRank R dims cap manner r kept_on.0 y sent' got') e kept_on.2))
+          | inr apart ↦
+              subst (λ f. HasRank R dims cap manner k f x sent' got') (sym (ap (λ b. cond b kept_on.0 (h k)) (ne_eqb k r apart)))
+              (other_rank R dims cap manner k (h k) x sent got sent' got' (sent_elsewhere dims r k sent sent' apart t.sent_elsewhere) (got_elsewhere dims r k got got' apart t.got_elsewhere) (w.ranked.each k x (sym (others k apart) ∙ now)))
+        ];
+        begins = λ k s from. elim (cases_eq k r) [
+          | inl here ↦ ap (λ b. cond b kept_on.0 (h k) 0) (eq-eqb k r here) ∙ (kept_on.1 ∙ (ap (λ q. h q 0) (sym here) ∙ w.ranked.begins k s from))
+          | inr apart ↦ ap (λ b. cond b kept_on.0 (h k) 0) (ne_eqb k r apart) ∙ w.ranked.begins k s from
+        ];
+      }
+
+  abbrev cycle_on : ℕ → ℕ
+  cycle_on k = cond (k == r) (next_cycle (w.cycle r) n n') (w.cycle k)
+
+  pub cycle_here : cycle_on r ≡ next_cycle (w.cycle r) n n'
+  cycle_here = ap (λ b. cond b (next_cycle (w.cycle r) n n') (w.cycle r)) (eq-eqb r r refl)
+
+  pub cycle_other : (k : ℕ) → k ≢ r → cycle_on k ≡ w.cycle k
+  cycle_other k apart = ap (λ b. cond b (next_cycle (w.cycle r) n n') (w.cycle k)) (ne_eqb k r apart)
+
+  keeps_cycle : Laws R → ClosesLaws → (rounds : ℕ) → Plan R dims slots starts rounds → (k : ℕ) (x : RankState S) → slice_get rs' k ≡ Some x
+      → KeepsCycle R (quota_of R (ranks dims) starts k) (cycle_on k) x (starting_at dims k sent') (ending_at dims k got')
+  keeps_cycle laws closes rounds plan k x now = elim (cases_eq k r) [
+    | inl here ↦
+        let e : n' ≡ x = get_once rs' r n' x at' (subst (λ q. slice_get rs' q ≡ Some x) here now) in
+        let is : KeepsCycle R (quota_of R (ranks dims) starts r) (next_cycle (w.cycle r) n n') n' (starting_at dims r sent') (ending_at dims r got') =
+        keeps_on R dims cap slots r manner (h r) kept_on.0 n n' sent got sent' got' t (w.ranked.each r n at) kept_on.2 (quota_of R (ranks dims) starts r) (w.cycle r) (w.keeps r n at)
+        (sends_few R laws closes dims cap slots manner starts history rs' sent' got' ranked_on plan.shape plan.most plan.start r n' at') in
+        subst (λ q. KeepsCycle R (quota_of R (ranks dims) starts q) (cycle_on q) x (starting_at dims q sent') (ending_at dims q got')) (sym here)
+        (subst (λ y. KeepsCycle R (quota_of R (ranks dims) starts r) (cycle_on r) y (starting_at dims r sent') (ending_at dims r got')) e
+        (subst (λ c. KeepsCycle R (quota_of R (ranks dims) starts r) c n' (starting_at dims r sent') (ending_at dims r got')) (sym cycle_here) is))
+    | inr apart ↦
+        subst (λ c. KeepsCycle R (quota_of R (ranks dims) starts k) c x (starting_at dims k sent') (ending_at dims k got')) (sym (cycle_other k apart))
+        (subst (λ f. KeepsCycle R (quota_of R (ranks dims) starts k) (w.cycle k) x f (ending_at dims k got')) (sym (sent_elsewhere dims r k sent sent' apart t.sent_elsewhere))
+        (subst (λ f. KeepsCycle R (quota_of R (ranks dims) starts k) (w.cycle k) x (starting_at dims k sent) f) (sym (got_elsewhere dims r k got got' apart t.got_elsewhere)) (w.keeps k x (sym (others k apart) ∙ now))))
+  ]
+
+  pub world_on : Laws R → ClosesLaws → (rounds : ℕ) → Plan R dims slots starts rounds → (g : ℕ → ℕ → S) × (v : World R dims cap slots manner starts g rs' sent' got') × (v.cycle ≡ cycle_on)
+  world_on laws closes rounds plan =
+      (
+        history,
         record {
-          ranked = record {
-            grid = w.ranked.grid;
-            links_keep = law.links_keep;
-            all = size ∙ w.ranked.all;
-            each = λ k x now. elim (cases_eq k r) [
-              | inl here ↦
-                  let e : n' ≡ x = get_once rs' r n' x at' (subst (λ q. slice_get rs' q ≡ Some x) here now) in
-                  subst (λ f. HasRank R dims cap (ByConveyor steady) k f x sent' got') (sym (ap (λ b. cond b kept.0 (h k)) (eq-eqb k r here)))
-                  (subst (λ q. HasRank R dims cap (ByConveyor steady) q kept.0 x sent' got') (sym here) (subst (λ y. HasRank R dims cap (ByConveyor steady) r kept.0 y sent' got') e kept.2))
-              | inr apart ↦
-                  subst (λ f. HasRank R dims cap (ByConveyor steady) k f x sent' got') (sym (ap (λ b. cond b kept.0 (h k)) (ne_eqb k r apart)))
-                  (other_rank R dims cap (ByConveyor steady) k (h k) x sent got sent' got' (sent_elsewhere dims r k sent sent' apart t.sent_elsewhere) (got_elsewhere dims r k got got' apart t.got_elsewhere) (w.ranked.each k x (sym (others k apart) ∙ now)))
-            ];
-            begins = λ k s from. elim (cases_eq k r) [
-              | inl here ↦ ap (λ b. cond b kept.0 (h k) 0) (eq-eqb k r here) ∙ (kept.1 ∙ (ap (λ q. h q 0) (sym here) ∙ w.ranked.begins k s from))
-              | inr apart ↦ ap (λ b. cond b kept.0 (h k) 0) (ne_eqb k r apart) ∙ w.ranked.begins k s from
-            ];
-          };
+          ranked = ranked_on;
           none_past = law.none_past;
           relays = law.relays;
           some = w.some;
           inboxes = λ l below. omega (arith, inbox_step l below, w.inboxes l below);
+          cycle = cycle_on;
+          keeps = keeps_cycle laws closes rounds plan;
         },
+        refl,
       )
 
   -- the rank that was turned, where it stayed in its epoch and nothing moved
-  rests_by : (m m' : MoverState) → dims_of m ≡ dims → rank_of m ≡ r → manner_in m ≡ ByConveyor steady → ((l : ℕ) → l < links dims → reader_at dims l ≡ r → lying m l ≤ lying m' l)
+  rests_by : (m m' : MoverState) → dims_of m ≡ dims → rank_of m ≡ r → ((l : ℕ) → l < links dims → reader_at dims l ≡ r → lying m l ≤ lying m' l)
       → IsLeftBy m m' (starting_at dims r sent') (ending_at dims r got') (starting_at dims r sent') (ending_at dims r got') (crowded_in dims slots r sent' got') (idle_in dims r sent' got') → RestsBy dims slots r m' sent' got'
-  rests_by (Conveying c) (Conveying c') same_dims same_rank e kept left = record { c = c; same_dims = same_dims; same_rank = same_rank; same_epoch = sym left.stays; kept = kept; left = left }
-  rests_by (Conveying c) (Stacking k x) same_dims same_rank e kept left = absurd left
-  rests_by (Stacking k x) m' same_dims same_rank e kept left = absurd (cc)
+  rests_by (Conveying c) (Conveying c') same_dims same_rank kept left = record { c = c; same_dims = same_dims; same_rank = same_rank; same_epoch = sym left.stays; kept = kept; left = left }
+  rests_by (Conveying c) (Stacking k x) same_dims same_rank kept left = absurd left
+  rests_by (Stacking k x) (Conveying c) same_dims same_rank kept left = absurd left
+  rests_by (Stacking k x) (Stacking k' x') same_dims same_rank kept left = tt
 
   pub rests_here : moves dims rs' sent' got' ≤ moves dims rs sent got → n'.over ≡ false → progress n' ≡ progress n → RestsBy dims slots r n'.node.mover sent' got'
   rests_here light on same =
       let has = w.ranked.each r n at in
       let es = sent_same light in
       let eg = got_same light in
-      let left = t.left (ByConveyor steady) (h r) has on same (λ l. ap (λ (f : Logs). starting_at dims r f l) es) (λ l. ap (λ (f : Logs). ending_at dims r f l) eg) in
-      rests_by n.node.mover n'.node.mover has.same_dims has.same_rank has.same_manner
+      let left = t.left manner (h r) has on same (λ l. ap (λ (f : Logs). starting_at dims r f l) es) (λ l. ap (λ (f : Logs). ending_at dims r f l) eg) in
+      rests_by n.node.mover n'.node.mover has.same_dims has.same_rank
       (λ l below to.
       let was : inbox dims rs l ≡ lying n.node.mover l = ap (λ k. lying (mover_in (slice_get rs k)) l) to ∙ ap (λ o. lying (mover_in o) l) at in
       let now : inbox dims rs' l ≡ lying n'.node.mover l = ap (λ k. lying (mover_in (slice_get rs' k)) l) to ∙ ap (λ o. lying (mover_in o) l) at' in

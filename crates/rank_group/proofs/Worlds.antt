@@ -136,10 +136,10 @@ abbrev conveyor_of : MoverState → State
 conveyor_of (Conveying c) = c
 conveyor_of (Stacking cap x) = nowhere
 
-no_stack : Stack
+pub no_stack : Stack
 no_stack = new_stack 0 0
 
-abbrev stack_of : MoverState → Stack
+abbrev pub stack_of : MoverState → Stack
 stack_of (Conveying c) = no_stack
 stack_of (Stacking cap x) = x
 
@@ -147,7 +147,7 @@ is_conveying : (m : MoverState) (steady : Bool) → manner_in m ≡ ByConveyor s
 is_conveying (Conveying c) steady e = refl
 is_conveying (Stacking cap x) steady e = absurd (cc)
 
-is_stacking : (m : MoverState) (cap : ℕ) → manner_in m ≡ ByExstack → HasCap cap m → m ≡ Stacking cap (stack_of m)
+pub is_stacking : (m : MoverState) (cap : ℕ) → manner_in m ≡ ByExstack → HasCap cap m → m ≡ Stacking cap (stack_of m)
 is_stacking (Conveying c) cap e k = absurd (cc)
 is_stacking (Stacking k x) cap e same = ap (λ j. Stacking j x) same
 

@@ -1,9 +1,16 @@
 -- What both transports tell of the epochs of all ranks.
 use Rattle.convey.specs.Law as conveyors
 use Rattle.exstack.specs.Law as exstacks
+use Rattle.exstack.specs.Law.{CyclesLaw}
+use Rattle.exstack.specs.Lockstep.{RoomLaw, ArrivalLaw}
 
 -- Where all ranks agree with one bank, in each epoch that some rank has completed every rank was done, and what was pulled is
 -- what was pushed: by conveyors, and by exstacks.
+-- room, arrival, cycles: over exstacks, ranks that have finished as many rounds don't keep each other, and what a reader got in a
+-- cycle its sender sent in the same.
 pub record ClosesLaws : Type 0 where
   pub conveyors : conveyors.ClosesLaw
   pub exstacks : exstacks.ClosesLaw
+  pub room : RoomLaw
+  pub arrival : ArrivalLaw
+  pub cycles : CyclesLaw

@@ -6,3 +6,4 @@ pub mod Worlds
 pub mod Drives
 pub mod Rounds
 pub mod Told
+pub mod Halves

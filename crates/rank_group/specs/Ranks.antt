@@ -1,5 +1,5 @@
 -- The ranks of a run, each a node, and what a turn leaves of one.
-use Rattle.std.specs.Prelude.{◌≡◌, ◌≢◌, ℕ, ◌+◌, ◌<◌, ◌≤◌, ◌==◌, Bool, true, false, cond, List, ◌++◌, length, slice_get, Some}
+use Rattle.std.specs.Prelude.{◌≡◌, ◌≢◌, ◌⊎◌, ℕ, ◌+◌, ◌<◌, ◌≤◌, ◌==◌, Bool, true, false, cond, List, ◌++◌, length, slice_get, Some}
 use Rattle.std.specs.List.{All, flat_map}
 use Rattle.item_buffer.specs.Contents.{Shipped}
 use Rattle.route_tensor.specs.Grid.{ranks, IsGrid}
@@ -20,6 +20,8 @@ use Rattle.rank_node.specs.Movers.MoverState.{Conveying, Stacking}
 use Rattle.rank_node.specs.Nodes.{NodeState, IsNode}
 use Rattle.rank_node.specs.Stuck.{IsStuck}
 use Rattle.rank_node.specs.Moves.{Waits, WaitsFor}
+use Rattle.rank_node.specs.Sending.{to_send}
+use Rattle.rank_node.specs.Cycles.{IsInCycle, cycle_of_turn, TurnsOnward, AwaitsSome}
 use Rattle.rank_node.specs.Next.{HasStopped}
 
 -- A node, and whether its run is over.
@@ -85,6 +87,10 @@ pub record AfterTurn {S : Type 0} (R : Rules S) (dims : List ℕ) (cap slots r :
   pub ended : turn ≡ Ended → has_completed n'.mover ≡ true
   pub going : turn ≡ Going → has_completed n'.mover ≡ false
   pub waits : Waits R n.run n.mover n'.mover (starting_at dims r sent) (ending_at dims r got) (starting_at dims r sent') (ending_at dims r got') (crowded_in dims slots r sent' got') (idle_in dims r sent' got')
+  pub cycle : (quota : ℕ → ℕ) (k : ℕ) → IsInCycle R quota k n.run n.mover (starting_at dims r sent) (ending_at dims r got)
+      → IsInCycle R quota (cycle_of_turn k n.mover) n'.run n'.mover (starting_at dims r sent') (ending_at dims r got')
+  pub onward : TurnsOnward n.mover n'.mover
+  pub awaits : AwaitsSome n'.mover
 
 -- A rank that a turn over a conveyor left in its epoch, having moved no parcel: its epoch isn't over.
 pub record IsLeft (c c' : State) (sent got sent' got' : Logs) (is_crowded is_idle : ℕ → Bool) : Type 0 where
@@ -105,9 +111,43 @@ IsLeftBy (Conveying c) (Stacking k x) sent got sent' got' is_crowded is_idle = �
 IsLeftBy (Stacking k x) (Conveying c) sent got sent' got' is_crowded is_idle = ⊥
 IsLeftBy (Stacking k x) (Stacking k' x') sent got sent' got' is_crowded is_idle = IsLeftWaiting x x' got got' is_crowded is_idle
 
+-- Rank r wasn't turned: nothing of it changed.
+pub record IsUnturned {S : Type 0} (dims : List ℕ) (r : ℕ) (n n' : RankState S) (sent got sent' got' : Logs) : Type 0 where
+  pub same : n' ≡ n
+  pub same_sent : starting_at dims r sent' ≡ starting_at dims r sent
+  pub same_got : ending_at dims r got' ≡ ending_at dims r got
+
+-- A turn left rank r in its epoch, which isn't over.
+-- cycle, onward, awaits, waits: over an exstack it went on in its cycles, and what keeps it where it is within a round.
+pub record StaysIn {S : Type 0} (R : Rules S) (dims : List ℕ) (slots r : ℕ) (n n' : RankState S) (sent got sent' got' : Logs) : Type 0 where
+  pub still : n'.over ≡ false
+  pub epoch : epoch_in n'.node.mover ≡ epoch_in n.node.mover
+  pub going : has_completed n'.node.mover ≡ false
+  pub cycle : (quota : ℕ → ℕ) (k : ℕ) → IsInCycle R quota k n.node.run n.node.mover (starting_at dims r sent) (ending_at dims r got)
+      → IsInCycle R quota (cycle_of_turn k n.node.mover) n'.node.run n'.node.mover (starting_at dims r sent') (ending_at dims r got')
+  pub onward : TurnsOnward n.node.mover n'.node.mover
+  pub awaits : AwaitsSome n'.node.mover
+  pub waits : Waits R n.node.run n.node.mover n'.node.mover (starting_at dims r sent) (ending_at dims r got) (starting_at dims r sent') (ending_at dims r got') (crowded_in dims slots r sent' got') (idle_in dims r sent' got')
+
+-- A turn ended the epoch of rank r: its next one began, or its run is over.
+-- at_end: the node between the two.
+pub record EndsEpoch {S : Type 0} (R : Rules S) (dims : List ℕ) (r : ℕ) (n n' : RankState S) (sent got sent' got' : Logs) : Type 0 where
+  pub at_end : NodeState S
+  pub same_dims : dims_of at_end.mover ≡ dims_of n.node.mover
+  pub same_rank : rank_of at_end.mover ≡ rank_of n.node.mover
+  pub same_manner : manner_in at_end.mover ≡ manner_in n.node.mover
+  pub epoch : epoch_in at_end.mover ≡ epoch_in n.node.mover
+  pub cycle : (quota : ℕ → ℕ) (k : ℕ) → IsInCycle R quota k n.node.run n.node.mover (starting_at dims r sent) (ending_at dims r got)
+      → IsInCycle R quota (cycle_of_turn k n.node.mover) at_end.run at_end.mover (starting_at dims r sent') (ending_at dims r got')
+  pub over : n'.over ≡ true → n'.node.mover ≡ at_end.mover
+  pub next : n'.over ≡ false → epoch_in n'.node.mover ≡ epoch_in n.node.mover + 1
+  pub anew : n'.over ≡ false → (quota : ℕ → ℕ) (k : ℕ) → IsInCycle R quota k at_end.run at_end.mover (starting_at dims r sent') (ending_at dims r got')
+      → length (to_send R n'.node.run.prog n'.node.run.sends) ≤ quota (epoch_in n'.node.mover) → IsInCycle R quota 0 n'.node.run n'.node.mover (starting_at dims r sent') (ending_at dims r got')
+
 -- What the turn of rank r leaves, with the step to its next epoch where one has ended.
 -- lies: an inbox holds at most what it held and what came.
 -- forward: its epochs only go on. left: where it is in the same epoch and no parcel was moved, it was left there.
+-- unturned, turned: a rank whose run is over isn't turned, and one that goes on stays in its epoch or ends it.
 pub record AfterRank {S : Type 0} (R : Rules S) (dims : List ℕ) (cap slots r : ℕ) (n n' : RankState S) (sent got sent' got' : Logs) : Type 0 where
   pub sent_elsewhere : starting_elsewhere dims r sent' ≡ starting_elsewhere dims r sent
   pub got_elsewhere : ending_elsewhere dims r got' ≡ ending_elsewhere dims r got
@@ -120,3 +160,5 @@ pub record AfterRank {S : Type 0} (R : Rules S) (dims : List ℕ) (cap slots r :
   pub left : (manner : Manner) (h : ℕ → S) → HasRank R dims cap manner r h n sent got → n'.over ≡ false → progress n' ≡ progress n
       → ((l : ℕ) → starting_at dims r sent' l ≡ starting_at dims r sent l) → ((l : ℕ) → ending_at dims r got' l ≡ ending_at dims r got l)
       → IsLeftBy n.node.mover n'.node.mover (starting_at dims r sent) (ending_at dims r got) (starting_at dims r sent') (ending_at dims r got') (crowded_in dims slots r sent' got') (idle_in dims r sent' got')
+  pub unturned : n.over ≡ true → IsUnturned dims r n n' sent got sent' got'
+  pub turned : n.over ≡ false → StaysIn R dims slots r n n' sent got sent' got' ⊎ EndsEpoch R dims r n n' sent got sent' got'

@@ -10,6 +10,7 @@ use Rattle.round_program.specs.Rules.{Rules}
 use Rattle.round_program.specs.Canonical.{absorbed_round, states_at, items_at, emitted_by}
 use Rattle.round_program.specs.Epochs.{vote_item}
 use Rattle.rank_node.specs.Movers.{Manner, IsShape}
+use Rattle.rank_node.specs.Movers.Manner.{ByConveyor, ByExstack}
 
 -- With what a bank was made: the grid, the capacity of a parcel, the slots of a link, and whether it was a slot bank.
 pub record Made : Type 0 where
@@ -41,15 +42,17 @@ pub record TellsRun {S : Type 0} (R : Rules S) (starts : List S) (n : ℕ) (made
   pub all_came : (e s d : ℕ) → s < ranks round.dims → d < ranks round.dims → pulled round e d s ≡ pushed round e s d
   pub shape : (l : ℕ) → l < links round.dims → IsShape manner round.cap (logs_of round.sent l)
 
--- How many turns an epoch takes at most in which so many items are sent: each turn but P of them moves something, and a
--- parcel or an entry moves at most so often.
--- one_rank: turns_of (1) 4 is 1 * (4 * 4 + 2 * 1 + 1) = 19.
-abbrev pub turns_of : List ℕ → ℕ → ℕ
-turns_of dims items = ranks dims * (items * (3 * length dims + 1) + 2 * links dims + 1)
+-- How many turns an epoch takes at most in which so many items are sent.
+-- Over conveyors each turn but P of them moves something, and a parcel or an entry moves at most so often. Over exstacks two
+-- turns of every rank finish a round, and an epoch has at most 2 * items + 1 of them.
+-- one_rank: over conveyors turns_of (1) 4 is 1 * (4 * 4 + 2 * 1 + 1) = 19, and over exstacks 4 * 1 * (4 + 2) = 24.
+abbrev pub turns_of : Manner → List ℕ → ℕ → ℕ
+turns_of (ByConveyor steady) dims items = ranks dims * (items * (3 * length dims + 1) + 2 * links dims + 1)
+turns_of ByExstack dims items = 4 * ranks dims * (items + 2)
 
 -- How many turns the first n rounds of a run take at most: those of each round's work, and those of its votes, one from
 -- each rank to each.
--- For one rank, four entries and one round it is 19 + 7 = 26.
-abbrev pub turns_within : {S : Type 0} → Rules S → List ℕ → List S → ℕ → ℕ
-turns_within R dims starts zero = 0
-turns_within R dims starts (suc n) = turns_within R dims starts n + (turns_of dims (items_at R starts n) + turns_of dims (ranks dims * ranks dims))
+-- For one rank, four entries and one round it is 19 + 7 = 26 over conveyors, and 24 + 12 = 36 over exstacks.
+abbrev pub turns_within : {S : Type 0} → Rules S → Manner → List ℕ → List S → ℕ → ℕ
+turns_within R manner dims starts zero = 0
+turns_within R manner dims starts (suc n) = turns_within R manner dims starts n + (turns_of manner dims (items_at R starts n) + turns_of manner dims (ranks dims * ranks dims))

@@ -1,5 +1,5 @@
 -- All ranks of a drive over one plain bank, and what a sweep over them leaves.
-use Rattle.std.specs.Prelude.{◌≡◌, ℕ, ◌+◌, ◌-◌, ◌^◌, ◌<◌, ◌≤◌, Bool, false, cond, List, [], length, Option, Some, None, slice_get}
+use Rattle.std.specs.Prelude.{◌≡◌, ◌⊎◌, ⊤, true, ℕ, ◌+◌, ◌-◌, ◌^◌, ◌<◌, ◌≤◌, false, cond, List, [], length, Option, Some, None, slice_get}
 use Rattle.std.specs.List.{flat_map}
 use Rattle.bale_types.specs.declared.item.Entry.{Entry}
 use Rattle.item_buffer.specs.Contents.{Shipped}
@@ -17,11 +17,11 @@ use Rattle.hop_core.specs.State.{State}
 use Rattle.convey.specs.Buffers.{in_of}
 use Rattle.round_program.specs.Rules.{Rules}
 use Rattle.round_program.specs.Canonical.{HasRounds, InRound}
-use Rattle.rank_node.specs.Movers.{MoverState, part_in, lying}
+use Rattle.rank_node.specs.Movers.{MoverState, Manner, part_in, lying}
 use Rattle.rank_node.specs.Movers.MoverState.{Conveying, Stacking}
-use Rattle.rank_node.specs.Movers.Manner.{ByConveyor}
 use Rattle.rank_node.specs.Next.{extended}
 use Rattle.rank_group.specs.Ranks.{RankState, AllRanks, IsLeft, progress, crowded_in, idle_in}
+use Rattle.rank_group.specs.Halves.{quota_of, most_rounds, MoverMade, KeepsCycle}
 
 -- the entries of some parcels
 abbrev pub entries_of : List Shipped → List Entry
@@ -52,12 +52,15 @@ abbrev pub inbox : {S : Type 0} → List ℕ → List (RankState S) → ℕ → 
 inbox dims rs l = lying (mover_in (slice_get rs (reader_at dims l))) l
 
 -- all ranks over one plain bank
-pub record World {S : Type 0} (R : Rules S) (dims : List ℕ) (cap slots : ℕ) (steady : Bool) (starts : List S) (h : ℕ → ℕ → S) (rs : List (RankState S)) (sent got : Logs) : Type 0 where
-  pub ranked : AllRanks R dims cap slots (ByConveyor steady) starts h rs sent got
+-- keeps: over exstacks each rank is in some cycle of its epoch
+pub record World {S : Type 0} (R : Rules S) (dims : List ℕ) (cap slots : ℕ) (manner : Manner) (starts : List S) (h : ℕ → ℕ → S) (rs : List (RankState S)) (sent got : Logs) : Type 0 where
+  pub ranked : AllRanks R dims cap slots manner starts h rs sent got
   pub none_past : (l : ℕ) → links dims ≤ l → (sent l ≡ []) × (got l ≡ [])
   pub relays : (r : ℕ) → r < ranks dims → RelayLaw dims r sent got
   pub some : 0 < cap
   pub inboxes : (l : ℕ) → l < links dims → inbox dims rs l ≤ length (entries_of (got l))
+  pub cycle : ℕ → ℕ
+  pub keeps : (r : ℕ) (x : RankState S) → slice_get rs r ≡ Some x → KeepsCycle R (quota_of R (ranks dims) starts r) (cycle r) x (starting_at dims r sent) (ending_at dims r got)
 
 -- what moved so far
 abbrev pub move_of : {S : Type 0} → List ℕ → List (RankState S) → Logs → Logs → ℕ → ℕ
@@ -81,10 +84,14 @@ pub record Rests (dims : List ℕ) (slots r : ℕ) (c' : State) (sent got : Logs
   pub kept : (l : ℕ) → l < links dims → reader_at dims l ≡ r → length (in_of c l).parcel.untaken ≤ length (in_of c' l).parcel.untaken
   pub left : IsLeft c c' (starting_at dims r sent) (ending_at dims r got) (starting_at dims r sent) (ending_at dims r got) (crowded_in dims slots r sent got) (idle_in dims r sent got)
 
--- only ranks over conveyors do
+-- of ranks over exstacks nothing is said
 abbrev pub RestsBy : List ℕ → ℕ → ℕ → MoverState → Logs → Logs → Type 0
 RestsBy dims slots r (Conveying c') sent got = Rests dims slots r c' sent got
-RestsBy dims slots r (Stacking cap x) sent got = ⊥
+RestsBy dims slots r (Stacking cap x) sent got = ⊤
+
+-- Every rank, in its cycle, has made j halves of rounds.
+abbrev pub AllMade : {S : Type 0} → (ℕ → ℕ) → ℕ → (ℕ → ℕ) → List (RankState S) → Type 0
+AllMade {S} most j cycle rs = (r : ℕ) (x : RankState S) → slice_get rs r ≡ Some x → MoverMade most j x.over (cycle r) x.node.mover
 
 -- What a drive is given: programs that begin one run of n rounds, and links with some slots.
 pub record Plan {S : Type 0} (R : Rules S) (dims : List ℕ) (slots : ℕ) (starts : List S) (n : ℕ) : Type 0 where
@@ -95,13 +102,17 @@ pub record Plan {S : Type 0} (R : Rules S) (dims : List ℕ) (slots : ℕ) (star
   pub few : n < 2 ^ 62
   pub some : 0 < slots
 
--- What the turns of the first i ranks of an order leave of all ranks.
+-- What the turns of the first i ranks of an order leave of all ranks, which were in some cycles.
 -- forward: no rank goes back. grown: what moved stays moved.
 -- rests: where nothing moved, each rank that was turned and is in its epoch still is at rest.
-pub record SweptTo {S : Type 0} (R : Rules S) (dims : List ℕ) (cap slots : ℕ) (steady : Bool) (starts : List S) (order : List ℕ) (i : ℕ) (rs0 : List (RankState S)) (sent0 got0 : Logs) (rs : List (RankState S)) (sent got : Logs) : Type 0 where
+-- made: over exstacks, where every rank had made j halves of rounds, each still has, and one that was turned has made one more.
+pub record SweptTo {S : Type 0} (R : Rules S) (dims : List ℕ) (cap slots : ℕ) (manner : Manner) (starts : List S) (order : List ℕ) (i : ℕ) (cycle0 : ℕ → ℕ) (rs0 : List (RankState S)) (sent0 got0 : Logs) (rs : List (RankState S)) (sent got : Logs) : Type 0 where
   pub h : ℕ → ℕ → S
-  pub world : World R dims cap slots steady starts h rs sent got
+  pub world : World R dims cap slots manner starts h rs sent got
   pub grown : moves dims rs0 sent0 got0 ≤ moves dims rs sent got
   pub forward : (r : ℕ) (x0 x : RankState S) → slice_get rs0 r ≡ Some x0 → slice_get rs r ≡ Some x → progress x0 ≤ progress x
   pub rests : moves dims rs sent got ≤ moves dims rs0 sent0 got0 → (j r : ℕ) → j < i → slice_get order j ≡ Some r → (x0 x : RankState S) → slice_get rs0 r ≡ Some x0 → slice_get rs r ≡ Some x
       → x.over ≡ false → progress x ≡ progress x0 → RestsBy dims slots r x.node.mover sent got
+  pub made : (j : ℕ) → AllMade (most_rounds R (ranks dims) starts) j cycle0 rs0
+      → AllMade (most_rounds R (ranks dims) starts) j world.cycle rs
+      × ((p r : ℕ) → p < i → slice_get order p ≡ Some r → (x : RankState S) → slice_get rs r ≡ Some x → (x.over ≡ true) ⊎ MoverMade (most_rounds R (ranks dims) starts) (j + 1) x.over (world.cycle r) x.node.mover)

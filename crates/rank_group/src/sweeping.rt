@@ -1,13 +1,17 @@
 //! Turns the nodes of all ranks over one plain bank, sweep after sweep.
 //!
-//! In a sweep some parcel is posted or collected, or some entry is taken from an inbox; or else the least epoch is over for
-//! every rank that is in it. Each of these happens only so often, which bounds the number of sweeps.
-ghost use Rattle.std.specs.Prelude.{◌≡◌, ◌≢◌, ℕ, ◌+◌, ◌*◌, ◌^◌, ◌<◌, ◌≤◌, Bool, List, length, slice_get, Some, IfOk, OnOk, true, false};
+//! Over conveyors, in a sweep some parcel is posted or collected, or some entry is taken from an inbox; or else the least epoch
+//! is over for every rank that is in it. Each of these happens only so often, which bounds the number of sweeps.
+//!
+//! Over exstacks a rank finishes rounds, whose posts are their first halves and whose collects are their second. In a sweep each
+//! rank gets half a round further than the last of them was, since ranks that have finished as many rounds don't keep each other;
+//! and an epoch has only so many rounds.
+ghost use Rattle.std.specs.Prelude.{◌≡◌, ◌≢◌, ℕ, ◌+◌, ◌*◌, ◌^◌, ◌<◌, ◌≤◌, List, length, slice_get, Some, IfOk, OnOk, true, false};
 ghost use Rattle.route_tensor.specs.Grid.{ranks};
 ghost use Rattle.port_bank.specs.Plain.{IsBank, sent_of, got_of};
 ghost use Rattle.port_bank.specs.Logs.{starting_at, ending_at};
 ghost use Rattle.rank_group.specs.Closes.{ClosesLaws};
-ghost use Rattle.rank_node.specs.Movers.{dims_of, rank_of, epoch_in};
+ghost use Rattle.rank_node.specs.Movers.{Manner, dims_of, rank_of, epoch_in};
 ghost use Rattle.rank_node.specs.Nodes.{IsNode};
 ghost use Rattle.rank_group.specs.Worlds.{Plan, World, SweptTo};
 ghost use Rattle.rank_group.specs.Ranks.{RankState, HasRank, AfterTurn, AfterRank, IsOrder};
@@ -49,6 +53,7 @@ fn turn_rank<const CAP: usize, const HOPS: usize, Q: Program, L: Ledger>(
     ensures same_dims { IfOk result (λ b. b.dims ≡ bank.entry.dims) }
     ensures same_slots { IfOk result (λ b. b.slots ≡ bank.entry.slots) }
     ensures most_steps { steps.new ≤ steps.old + 1 }
+    ensures fewest_steps { steps.old ≤ steps.new }
     ensures steps { IfOk result (λ b. rank.old.over ≡ false → steps.new ≡ steps.old + 1) }
     ensures turned { IfOk result (λ b. AfterRank Q.rules bank.entry.dims CAP bank.entry.slots number rank.old rank.new (sent_of bank.entry) (got_of bank.entry) (sent_of b) (got_of b)) }
 {
@@ -96,13 +101,15 @@ fn turn_one<const CAP: usize, const HOPS: usize, Q: Program, L: Ledger>(
 ) -> Result<PlainBank<CAP>, NoMemory>
     requires number { number < ranks bank.dims }
     requires law { ClosesLaws }
-    requires world { (steady : Bool) × (starts : List Q) × (n : ℕ) × (h : ℕ → ℕ → Q) × Plan Q.rules bank.dims bank.slots starts n × World Q.rules bank.dims CAP bank.slots steady starts h all.old.items (sent_of bank) (got_of bank) }
+    requires world { (manner : Manner) × (starts : List Q) × (n : ℕ) × (h : ℕ → ℕ → Q) × Plan Q.rules bank.dims bank.slots starts n × World Q.rules bank.dims CAP bank.slots manner starts h all.old.items (sent_of bank) (got_of bank) }
     ensures size { length all.new.items ≡ length all.old.items }
     ensures others { (k : ℕ) → k ≢ number → slice_get all.new.items k ≡ slice_get all.old.items k }
     ensures lawful { IfOk result (λ b. IsBank CAP b) }
     ensures same_dims { IfOk result (λ b. b.dims ≡ bank.entry.dims) }
     ensures same_slots { IfOk result (λ b. b.slots ≡ bank.entry.slots) }
     ensures most_steps { steps.new ≤ steps.old + 1 }
+    ensures fewest_steps { steps.old ≤ steps.new }
+    ensures steps { (n : RankState Q) → slice_get all.old.items number ≡ Some n → n.over ≡ false → IfOk result (λ b. steps.new ≡ steps.old + 1) }
     ensures turned { (n n' : RankState Q) → slice_get all.old.items number ≡ Some n → slice_get all.new.items number ≡ Some n'
         → IfOk result (λ b. AfterRank Q.rules bank.entry.dims CAP bank.entry.slots number n n' (sent_of bank.entry) (got_of bank.entry) (sent_of b) (got_of b)) }
 {
@@ -119,14 +126,15 @@ pub(crate) fn sweep<const CAP: usize, const HOPS: usize, Q: Program, L: Ledger>(
     requires law { ClosesLaws }
     requires order { IsOrder (ranks bank.dims) order.now }
     requires lawful { IsBank CAP bank }
-    requires world { (steady : Bool) × (starts : List Q) × (n : ℕ) × (h : ℕ → ℕ → Q) × Plan Q.rules bank.dims bank.slots starts n × World Q.rules bank.dims CAP bank.slots steady starts h all.old.items (sent_of bank) (got_of bank) }
+    requires world { (manner : Manner) × (starts : List Q) × (n : ℕ) × (h : ℕ → ℕ → Q) × Plan Q.rules bank.dims bank.slots starts n × World Q.rules bank.dims CAP bank.slots manner starts h all.old.items (sent_of bank) (got_of bank) }
     ensures lawful { IfOk result (λ b. IsBank CAP b) }
     ensures same_dims { IfOk result (λ b. b.dims ≡ bank.entry.dims) }
     ensures same_slots { IfOk result (λ b. b.slots ≡ bank.entry.slots) }
     ensures most_steps { steps.new ≤ steps.old + length order.now }
-    ensures swept { (steady : Bool) (starts : List Q) (n : ℕ) (h : ℕ → ℕ → Q) → Plan Q.rules bank.entry.dims bank.entry.slots starts n
-        → World Q.rules bank.entry.dims CAP bank.entry.slots steady starts h all.old.items (sent_of bank.entry) (got_of bank.entry)
-        → IfOk result (λ b. SweptTo Q.rules bank.entry.dims CAP bank.entry.slots steady starts order.now (length order.now) all.old.items (sent_of bank.entry) (got_of bank.entry) all.new.items (sent_of b) (got_of b)) }
+    ensures some_step { (r : ℕ) (x : RankState Q) → slice_get all.old.items r ≡ Some x → x.over ≡ false → IfOk result (λ b. steps.old < steps.new) }
+    ensures swept { (manner : Manner) (starts : List Q) (n : ℕ) (h : ℕ → ℕ → Q) → Plan Q.rules bank.entry.dims bank.entry.slots starts n
+        → (w : World Q.rules bank.entry.dims CAP bank.entry.slots manner starts h all.old.items (sent_of bank.entry) (got_of bank.entry))
+        → IfOk result (λ b. SweptTo Q.rules bank.entry.dims CAP bank.entry.slots manner starts order.now (length order.now) w.cycle all.old.items (sent_of bank.entry) (got_of bank.entry) all.new.items (sent_of b) (got_of b)) }
 {
     let mut bank = bank;
     for i in 0..order.len() {

@@ -1,15 +1,17 @@
 -- Items are pushed into an exstack.
-use Rattle.std.proofs.Common.{◌≡◌, ℕ, ◌+◌, ◌<◌, ◌≤◌, true, false, List, [], ◌∷◌, length, slice_get, Option, Some, None, All, refl, sym, ap, subst, ◌∙◌, inl, inr, arith}
-use Rattle.std.proofs.lemmas.Bool.{cases_Bool, true≢false}
+use Rattle.std.proofs.Common.{◌≡◌, ℕ, ◌+◌, ◌<◌, ◌≤◌, true, false, List, [], ◌∷◌, length, slice_get, Option, Some, None, All, refl, sym, ap, subst, ◌∙◌, inl, inr, arith, get_or}
+use Rattle.std.proofs.lemmas.Bool.{cases_Bool, cases_lt, true≢false}
 use Rattle.bale_types.specs.declared.item.Item.{Item}
+use Rattle.list_laws.proofs.Lists.{find, all_get}
 use Rattle.route_tensor.specs.Grid.{ranks}
 use Rattle.port_bank.specs.Logs.{Logs}
 use Rattle.port_bank.specs.Machine.Step.{Push, Idle}
 use Rattle.exstack.specs.declared.stage.Stage.TheVariants.{Filling}
-use Rattle.exstack.specs.Links.{headroom_of}
+use Rattle.exstack.specs.Links.{headroom_of, no_out}
 use Rattle.exstack.specs.State.{State, dims_of, out_at, pushed_on}
 use Rattle.exstack.specs.Agreement.{AgreesIn}
 use Rattle.exstack.specs.Parts.{part_of, IsStepOf, KeepsAgreement}
+use Rattle.exstack.proofs.OneHop.{ranks_one}
 use Rattle.rank_node.specs.Pulls.{PushedOn, Fills}
 use Rattle.rank_node.proofs.Offered.{push_on, idle_on, pushed_none, pushed_twice, none_left}
 
@@ -23,6 +25,7 @@ pub record Offers (es : List (ℕ × Item)) (old x : State) (from next count : �
   pub all_pushed : x.done ≡ true → next ≡ length es
   pub same : x ≡ record old { outs = x.outs; popped = x.popped }
   pub kept : KeepsAgreement old x
+  pub none : next ≡ from → x.outs ≡ old.outs
   pub pushed : (n : ℕ) (sent got : Logs) → AgreesIn n old sent got → PushedOn es (ranks (dims_of old)) from next (part_of old sent got) (part_of x sent got)
 
 pub offers_start : (es : List (ℕ × Item)) (x : State) (from count : ℕ) → count ≡ length es → from ≤ length es → All (λ (e : ℕ × Item). e.0 < ranks (dims_of x)) es → x.stage ≡ Filling → (x.done ≡ true → from ≡ length es) → Offers es x x from from count
@@ -36,6 +39,7 @@ offers_start es x from count all low receivers filling all_pushed =
       all_pushed = all_pushed;
       same = refl;
       kept = λ n sent got a. a;
+      none = λ e. refl;
       pushed = λ n sent got a. pushed_none es (ranks (dims_of x)) from (part_of x sent got);
     }
 
@@ -63,6 +67,7 @@ offers_more es old x x' from next count to y is left at new kept step =
       all_pushed = λ d. absurd (true≢false (sym d ∙ (ap (λ (t : State). t.done) new ∙ waits)));
       same = subst (λ (t : State). t ≡ record old { outs = t.outs; popped = t.popped }) (sym new) (ap (λ (t : State). pushed_like t x y to) is.same);
       kept = λ n sent got a. kept n sent got (is.kept n sent got a);
+      none = λ e. absurd (omega (arith, e, is.forward));
       pushed = λ n sent got a. pushed_twice es (ranks (dims_of old)) from next (next + 1) (part_of old sent got) (part_of x sent got) (part_of x' sent got)
           (is.pushed n sent got a)
           (push_on es (ranks (dims_of old)) next to y (part_of x sent got) (part_of x' sent got) at (step n sent got (is.kept n sent got a)));
@@ -84,6 +89,7 @@ fills_refused cap es old x x' from next count to y is at new kept step full =
       refused = λ k z found.
           let same : k ≡ to = ap (λ (o : Option (ℕ × Item)). receiver o) (sym found ∙ at) in
           subst (λ q. headroom_of cap (out_at x' q) ≡ 0) (sym same) (ap (λ (t : State). headroom_of cap (out_at t to)) new ∙ full);
+      none = λ e. ap (λ (t : State). t.outs) new ∙ is.none e;
     } where
       receiver : Option (ℕ × Item) → ℕ
       receiver None = 0
@@ -99,4 +105,20 @@ fills_all cap es old x from next count is end =
       kept = is.kept;
       pushed = is.pushed;
       refused = λ k z found. none_left es next (k, z) (omega (arith, end, is.all)) found;
+      none = is.none;
     }
+
+-- where nothing waits and something is left, at least one item is pushed
+pub pushes_one : (cap : ℕ) (es : List (ℕ × Item)) (old x : State) (from next : ℕ) → 0 < cap → Fills cap es old x from next → All (λ (e : ℕ × Item). e.0 < ranks (dims_of old)) es
+    → ((b : ℕ) → b < old.ranks → (out_at old b).waiting ≡ []) → from < length es → from < next
+pushes_one cap es old x from next some is below empty left =
+    elim (cases_lt from next) [
+      | inl less ↦ less
+      | inr more ↦
+          let stays : next ≡ from = omega (arith, more, is.forward) in
+          let f = find es from left in
+          let low : f.0.0 < old.ranks = omega (arith, all_get (λ (e : ℕ × Item). e.0 < ranks (dims_of old)) es from f.0 below f.1, ranks_one old.ranks) in
+          let full : headroom_of cap (out_at x f.0.0) ≡ 0 = is.refused f.0.0 f.0.1 (ap (slice_get es) stays ∙ f.1) in
+          let none : (out_at x f.0.0).waiting ≡ [] = ap (λ os. (get_or os f.0.0 no_out).waiting) (is.none stays) ∙ empty f.0.0 low in
+          absurd (omega (arith, some, full, ap length none))
+    ]

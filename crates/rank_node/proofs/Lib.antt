@@ -15,3 +15,7 @@ pub mod Onward
 pub mod Resumed
 pub mod Begun
 pub mod Fresh
+mod Marks
+mod Paced
+mod Awaited
+mod Next

@@ -176,7 +176,7 @@ pub record AfterProceed (cap : ℕ) (x x' : State) (done : Bool) (sent got sent'
   pub steps : AreOwnSteps (proceed_steps x.done done (is_all_done x'.stage)) (part_of x sent got) (part_of x' sent' got')
 
 -- where not all is pushed something is left
-left_over : (next count : ℕ) (done : Bool) → done ≡ (next == count) → next ≤ count → done ≡ false → next < count
+pub left_over : (next count : ℕ) (done : Bool) → done ≡ (next == count) → next ≤ count → done ≡ false → next < count
 left_over next count done is low d =
     elim (cases_lt next count) [
       | inl less ↦ less

@@ -6,3 +6,4 @@ pub mod Stuck
 pub mod Next
 pub mod Pulls
 pub mod Moves
+pub mod Cycles

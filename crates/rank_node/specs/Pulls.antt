@@ -52,6 +52,7 @@ pub record Fills (cap : ℕ) (es : List (ℕ × Item)) (old x : Stack) (from nex
   pub kept : exstacks.KeepsAgreement old x
   pub pushed : (n : ℕ) (sent got : Logs) → AgreesIn n old sent got → PushedOn es (ranks (dims_of old)) from next (exstacks.part_of old sent got) (exstacks.part_of x sent got)
   pub refused : (to : ℕ) (y : Item) → slice_get es next ≡ Some (to, y) → headroom_of cap (out_at x to) ≡ 0
+  pub none : next ≡ from → x.outs ≡ old.outs
 
 -- What pops leave of an exstack, whose items are summed or absorbed.
 pub record Pops {S : Type 0} (R : Rules S) (voting : Bool) (old x : Stack) (prog prog' : S) (sum sum' : ℕ) (spoiled spoiled' : Bool) : Type 0 where

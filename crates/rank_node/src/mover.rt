@@ -5,6 +5,7 @@ ghost use Rattle.rank_node.specs.Movers.{seen, dims_of, rank_of, epoch_in, manne
 ghost use Rattle.rank_node.specs.Runs.{running};
 ghost use Rattle.rank_node.specs.Nodes.{IsNode};
 ghost use Rattle.rank_node.specs.Moves.{AfterMoves, Leaves, Waits};
+ghost use Rattle.rank_node.specs.Cycles.{IsInCycle, cycle_of_turn, TurnsOnward, AwaitsSome};
 
 use crate::conveying::{new_conveyor, reset_conveyor, turn_conveyor};
 use crate::run::Run;
@@ -59,6 +60,10 @@ impl<const CAP: usize, const HOPS: usize> Mover<CAP, HOPS> {
         requires node { (h : ℕ → Q) × IsNode Q.rules h (record { run = running run.old; mover = seen self.old }) (P.sent port.old) (P.got port.old) }
         ensures moves { AfterMoves Q.rules CAP (record { run = running run.old; mover = seen self.old }) (record { run = running run.new; mover = seen self.new })
             (P.sent port.old) (P.got port.old) (P.sent port.new) (P.got port.new) }
+        ensures cycle { (quota : ℕ → ℕ) (n : ℕ) → IsInCycle Q.rules quota n (running run.old) (seen self.old) (P.sent port.old) (P.got port.old)
+            → IsInCycle Q.rules quota (cycle_of_turn n (seen self.old)) (running run.new) (seen self.new) (P.sent port.new) (P.got port.new) }
+        ensures onward { TurnsOnward (seen self.old) (seen self.new) }
+        ensures awaits { IsOk result → AwaitsSome (seen self.new) }
         ensures leaves { Leaves Q.rules CAP (running run.old) (running run.new) (seen self.old) (seen self.new) (P.sent port.old) (P.got port.old) (P.got port.new) }
         ensures waits { OnOk result (Waits Q.rules (running run.old) (seen self.old) (seen self.new)
             (P.sent port.old) (P.got port.old) (P.sent port.new) (P.got port.new) (P.crowded port.new) (P.idle port.new)) }

@@ -5,11 +5,12 @@ ghost use Rattle.route_tensor.specs.Link.{links};
 ghost use Rattle.route_tensor.specs.Ends.{sender_at, reader_at};
 ghost use Rattle.port_bank.specs.Logs.{Logs};
 ghost use Rattle.list_laws.specs.Lists.{Begins};
-ghost use Rattle.rank_node.specs.Sending.{is_voting};
+ghost use Rattle.rank_node.specs.Sending.{is_voting, to_send};
 ghost use Rattle.rank_node.specs.Movers.{IsShape, dims_of, rank_of, epoch_in, manner_in, manner_of, has_completed, HasCap, NoneUnread, SameUnread};
 ghost use Rattle.rank_node.specs.Moves.{Leaves, Waits};
 ghost use Rattle.rank_node.specs.Nodes.{IsNode};
 ghost use Rattle.rank_node.specs.Next.{extended, HasStopped};
+ghost use Rattle.rank_node.specs.Cycles.{IsInCycle, cycle_of_turn, TurnsOnward, AwaitsSome};
 
 use crate::ending::{Follows, end_prog, vote_of};
 use crate::mover::Mover;
@@ -75,6 +76,7 @@ impl<Q: Program, const CAP: usize, const HOPS: usize> Node<Q, CAP, HOPS> {
         ensures cap { IfOk result (λ n. HasCap CAP n.mover) }
         ensures epoch { IfOk result (λ n. epoch_in n.mover ≡ 0) }
         ensures unread { IfOk result (λ n. NoneUnread n.mover) }
+        ensures cycle { IfOk result (λ n. (quota : ℕ → ℕ) → length (Q.rules.emissions prog) ≤ quota 0 → IsInCycle Q.rules quota 0 n.run n.mover (λ l. []) (λ l. [])) }
     {
         let rank = prog.rank();
         let mover = Mover::new(alloc, grid, via, rank, steady)?;
@@ -142,6 +144,12 @@ impl<Q: Program, const CAP: usize, const HOPS: usize> Node<Q, CAP, HOPS> {
         ensures ended { result ≡ Ok Turn.Ended → has_completed self.new.mover ≡ true }
         ensures going { result ≡ Ok Turn.Going → has_completed self.new.mover ≡ false }
 
+        // An exstack's cycles keep pace with what its rank has to send; its stages go on; and within a round it waits for a parcel.
+        ensures cycle { (quota : ℕ → ℕ) (n : ℕ) → IsInCycle Q.rules quota n self.old.run self.old.mover (P.sent port.old) (P.got port.old)
+            → IsInCycle Q.rules quota (cycle_of_turn n self.old.mover) self.new.run self.new.mover (P.sent port.new) (P.got port.new) }
+        ensures onward { TurnsOnward self.old.mover self.new.mover }
+        ensures awaits { IsOk result → AwaitsSome self.new.mover }
+
         // What it leaves in the inboxes, and unpushed; and what outside keeps a rank that moved no parcel, or that waits
         // within a round.
         ensures leaves { Leaves Q.rules CAP self.old.run self.new.run self.old.mover self.new.mover (P.sent port.old) (P.got port.old) (P.got port.new) }
@@ -179,6 +187,10 @@ impl<Q: Program, const CAP: usize, const HOPS: usize> Node<Q, CAP, HOPS> {
             → IsNode Q.rules (extended h (self.old.run.round + 1) (Q.rules.ended self.old.run.prog self.old.run.sum)) self.new sent got }
         ensures stays { result ≡ Ok false → self.new.mover ≡ self.old.mover }
         ensures stopped { result ≡ Ok false → (h : ℕ → Q) (sent got : Logs) → IsNode Q.rules h self.old sent got → HasStopped Q.rules h self.new sent got }
+
+        // An exstack begins the next epoch in cycle 0, and keeps pace with what its rank has to send in it.
+        ensures cycle { result ≡ Ok true → (quota : ℕ → ℕ) (n : ℕ) (sent got : Logs) → IsInCycle Q.rules quota n self.old.run self.old.mover sent got
+            → length (to_send Q.rules self.new.run.prog self.new.run.sends) ≤ quota (epoch_in self.new.mover) → IsInCycle Q.rules quota 0 self.new.run self.new.mover sent got }
 
         // No memory: never on the way to an epoch that follows, and always where the sum says that some rank had none.
         ensures no_memory { IsErr result → (is_voting self.old.run.sends ≡ true) × ((self.old.run.spoiled ≡ true) ⊎ (self.old.run.sum ≡ 2 ^ 64 - 1)

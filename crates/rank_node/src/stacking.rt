@@ -3,6 +3,7 @@ ghost use Rattle.std.specs.Prelude.{◌≡◌, ◌≢◌, ℕ, ◌^◌, ◌<◌,
 ghost use Rattle.std.specs.List.{All};
 ghost use Rattle.route_tensor.specs.Grid.{ranks};
 ghost use Rattle.exstack.specs.State.{dims_of, unread_of, lowest_unread, may_exchange, may_proceed};
+ghost use Rattle.exstack.specs.Agreement.{cycle_after};
 ghost use Rattle.rank_node.specs.Movers.{IsNew, GoesOn};
 ghost use Rattle.rank_node.specs.Movers.MoverState.{Stacking};
 ghost use Rattle.rank_node.specs.Movers.Manner.{ByExstack};
@@ -12,6 +13,7 @@ ghost use Rattle.rank_node.specs.Runs.{running};
 ghost use Rattle.rank_node.specs.Sending.{to_send};
 ghost use Rattle.rank_node.specs.Nodes.{IsNode};
 ghost use Rattle.rank_node.specs.Moves.{AfterMoves, AfterFill, Leaves, Waits};
+ghost use Rattle.rank_node.specs.Cycles.{InCycle, InExchange, IsOnward, Awaits};
 
 use crate::run::Run;
 use crate::sends::{Sends, count_of, sent_at, votes_now};
@@ -38,6 +40,10 @@ pub(crate) fn turn_exstack<const CAP: usize, Q: Program, P: Port<CAP>>(
     ensures moves { AfterMoves Q.rules CAP (record { run = running run.old; mover = Stacking CAP exstack.old }) (record { run = running run.new; mover = Stacking CAP exstack.new })
         (P.sent port.old) (P.got port.old) (P.sent port.new) (P.got port.new) }
     ensures leaves { Leaves Q.rules CAP (running run.old) (running run.new) (Stacking CAP exstack.old) (Stacking CAP exstack.new) (P.sent port.old) (P.got port.old) (P.got port.new) }
+    ensures cycle { (quota : ℕ → ℕ) (n : ℕ) → InCycle Q.rules quota n (running run.old) exstack.old (P.sent port.old) (P.got port.old)
+        → InCycle Q.rules quota (cycle_after n exstack.old.stage) (running run.new) exstack.new (P.sent port.new) (P.got port.new) }
+    ensures onward { IsOnward exstack.old.stage exstack.new.stage }
+    ensures awaits { IsOk result → Awaits exstack.new }
     ensures waits { OnOk result (Waits Q.rules (running run.old) (Stacking CAP exstack.old) (Stacking CAP exstack.new)
         (P.sent port.old) (P.got port.old) (P.sent port.new) (P.got port.new) (P.crowded port.new) (P.idle port.new)) }
     ensures same_dims { P.dims port.new ≡ P.dims port.old }
@@ -71,6 +77,10 @@ fn proceed<const CAP: usize, Q: Program, P: Port<CAP>>(
     requires node { (h : ℕ → Q) × IsNode Q.rules h (record { run = running run.old; mover = Stacking CAP exstack.old }) (P.sent port.old) (P.got port.old) }
     ensures moves { AfterMoves Q.rules CAP (record { run = running run.old; mover = Stacking CAP exstack.old }) (record { run = running run.new; mover = Stacking CAP exstack.new })
         (P.sent port.old) (P.got port.old) (P.sent port.new) (P.got port.new) }
+    ensures cycle { (quota : ℕ → ℕ) (n : ℕ) → InCycle Q.rules quota n (running run.old) exstack.old (P.sent port.old) (P.got port.old)
+        → InCycle Q.rules quota (cycle_after n exstack.old.stage) (running run.new) exstack.new (P.sent port.new) (P.got port.new) }
+    ensures onward { IsOnward exstack.old.stage exstack.new.stage }
+    ensures awaits { IsOk result → Awaits exstack.new }
     ensures next { run.new.next ≡ run.old.next }
     ensures emissions { Q.rules.emissions run.new.prog.value ≡ Q.rules.emissions run.old.prog.value }
     ensures sends { run.new.sends ≡ run.old.sends }
@@ -108,6 +118,10 @@ fn exchange<const CAP: usize, Q: Program, P: Port<CAP>>(
     requires node { (h : ℕ → Q) × IsNode Q.rules h (record { run = running run.old; mover = Stacking CAP exstack.old }) (P.sent port.old) (P.got port.old) }
     ensures moves { AfterMoves Q.rules CAP (record { run = running run.old; mover = Stacking CAP exstack.old }) (record { run = running run.new; mover = Stacking CAP exstack.new })
         (P.sent port.old) (P.got port.old) (P.sent port.new) (P.got port.new) }
+    ensures cycle { (quota : ℕ → ℕ) (n : ℕ) → InExchange Q.rules quota n (running run.old) exstack.old (P.sent port.old) (P.got port.old)
+        → InCycle Q.rules quota n (running run.new) exstack.new (P.sent port.new) (P.got port.new) }
+    ensures onward { IsOnward exstack.old.stage exstack.new.stage }
+    ensures awaits { IsOk result → Awaits exstack.new }
     ensures next { run.new.next ≡ run.old.next }
     ensures emissions { Q.rules.emissions run.new.prog.value ≡ Q.rules.emissions run.old.prog.value }
     ensures sends { run.new.sends ≡ run.old.sends }
@@ -132,6 +146,7 @@ fn exchange<const CAP: usize, Q: Program, P: Port<CAP>>(
 fn fill<const CAP: usize, Q: Program>(run: &mut Run<Q>, exstack: &mut Exstack<CAP>)
     requires filling { exstack.old.stage ≡ Stage.Filling }
     requires node { (h : ℕ → Q) × (sent : Logs) × (got : Logs) × IsNode Q.rules h (record { run = running run.old; mover = Stacking CAP exstack.old }) sent got }
+    ensures cycle { (quota : ℕ → ℕ) (n : ℕ) (sent got : Logs) → InCycle Q.rules quota n (running run.old) exstack.old sent got → InExchange Q.rules quota n (running run.new) exstack.new sent got }
     ensures filled { AfterFill Q.rules CAP (running run.old) (running run.new) exstack.old exstack.new }
     ensures same { exstack.new ≡ record exstack.old { outs = exstack.new.outs; popped = exstack.new.popped } }
 {

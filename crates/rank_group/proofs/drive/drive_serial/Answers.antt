@@ -1,11 +1,8 @@
-use Rattle.std.proofs.Common.{rules, false, [], ◌∷◌, ◌++◌, sym, ap, subst, ◌∙◌}
+use Rattle.std.proofs.Common.{rules, [], ◌∷◌, ◌++◌, sym, ap, subst, ◌∙◌}
 use Rattle.port_bank.specs.Plain.{Bank, sent_of, got_of}
 use Rattle.route_tensor.specs.Grid.{ranks}
 use Rattle.rank_node.specs.Movers.{manner_of}
-use Rattle.rank_node.specs.Movers.Manner.{ByConveyor}
 use Rattle.rank_group.specs.Ranks.{IsOrder}
-use Rattle.rank_group.specs.Told.{TellsRun}
-use Rattle.rank_group.specs.Drives.{AreFresh}
 use Rattle.rank_group.specs.declared.closed_round.ClosedRound.TheVariants.{Plain}
 use Rattle.rank_group.proofs.Ended.{run_needs, steps_at, world_after, have_ended, told}
 use Rattle.rank_group.proofs.drive.drive_serial.Goals as goal
@@ -19,7 +16,7 @@ run_all-requires g c = (
       subst (λ (b : Bank). IsOrder (ranks b.dims) c.args.order.now) (sym c.in_ok-bank.ensures.made) c.requires.order,
       (
         c.in_ok-bank.ensures.lawful,
-        run_needs g.Q.Program.rules g.met.Q.Program.laws g.row.CAP c.args.grid.now c.args.slots c.args.steady c.args.progs c.requires.begins.0 c.requires.begins.1 c.requires.begins.2 c.requires.begins.3 c.in_ok-all.all.items (subst (λ v. AreFresh g.Q.Program.rules c.args.grid.now g.row.CAP (manner_of v c.args.steady) c.args.progs c.in_ok-all.all.items) c.requires.conveyors c.in_ok-all.ensures.fresh) c.requires.some
+        run_needs g.Q.Program.rules g.met.Q.Program.laws g.row.CAP c.args.grid.now c.args.slots (manner_of c.args.via c.args.steady) c.args.progs c.requires.begins.0 c.requires.begins.1 c.requires.begins.2 c.requires.begins.3 c.in_ok-all.all.items c.in_ok-all.ensures.fresh c.requires.some
             c.in_ok-bank.bank c.in_ok-bank.ensures.made c.in_ok-bank.ensures.lawful,
       ),
     ),
@@ -28,38 +25,38 @@ run_all-requires g c = (
 
 pub returns-in_err-bank-2-clause-steps : goal.returns-in_err-bank-2-clause-steps
 returns-in_err-bank-2-clause-steps g c =
-    steps_at g.Q.Program.rules g.met.Q.Program.laws g.row.CAP c.args.grid.now c.args.slots c.args.steady c.args.progs c.requires.begins.0 c.requires.begins.1 c.requires.begins.2 c.requires.begins.3 c.in_ok-all.all.items (subst (λ v. AreFresh g.Q.Program.rules c.args.grid.now g.row.CAP (manner_of v c.args.steady) c.args.progs c.in_ok-all.all.items) c.requires.conveyors c.in_ok-all.ensures.fresh) c.requires.some
+    steps_at g.Q.Program.rules g.met.Q.Program.laws g.row.CAP c.args.grid.now c.args.slots (manner_of c.args.via c.args.steady) c.args.progs c.requires.begins.0 c.requires.begins.1 c.requires.begins.2 c.requires.begins.3 c.in_ok-all.all.items c.in_ok-all.ensures.fresh c.requires.some
     c.in_ok-bank.bank c.in_ok-bank.ensures.made c.in_ok-bank.ensures.lawful c.args.steps.now c.run_all.new.steps c.run_all.ensures.steps
 
 pub returns-in_err-add-clause-steps : goal.returns-in_err-add-clause-steps
 returns-in_err-add-clause-steps g c =
-    steps_at g.Q.Program.rules g.met.Q.Program.laws g.row.CAP c.args.grid.now c.args.slots c.args.steady c.args.progs c.requires.begins.0 c.requires.begins.1 c.requires.begins.2 c.requires.begins.3 c.in_ok-all.all.items (subst (λ v. AreFresh g.Q.Program.rules c.args.grid.now g.row.CAP (manner_of v c.args.steady) c.args.progs c.in_ok-all.all.items) c.requires.conveyors c.in_ok-all.ensures.fresh) c.requires.some
+    steps_at g.Q.Program.rules g.met.Q.Program.laws g.row.CAP c.args.grid.now c.args.slots (manner_of c.args.via c.args.steady) c.args.progs c.requires.begins.0 c.requires.begins.1 c.requires.begins.2 c.requires.begins.3 c.in_ok-all.all.items c.in_ok-all.ensures.fresh c.requires.some
     c.in_ok-bank.bank c.in_ok-bank.ensures.made c.in_ok-bank.ensures.lawful c.args.steps.now c.run_all.new.steps c.run_all.ensures.steps
 
 pub returns-in_err-progs-clause-steps : goal.returns-in_err-progs-clause-steps
 returns-in_err-progs-clause-steps g c =
-    steps_at g.Q.Program.rules g.met.Q.Program.laws g.row.CAP c.args.grid.now c.args.slots c.args.steady c.args.progs c.requires.begins.0 c.requires.begins.1 c.requires.begins.2 c.requires.begins.3 c.in_ok-all.all.items (subst (λ v. AreFresh g.Q.Program.rules c.args.grid.now g.row.CAP (manner_of v c.args.steady) c.args.progs c.in_ok-all.all.items) c.requires.conveyors c.in_ok-all.ensures.fresh) c.requires.some
+    steps_at g.Q.Program.rules g.met.Q.Program.laws g.row.CAP c.args.grid.now c.args.slots (manner_of c.args.via c.args.steady) c.args.progs c.requires.begins.0 c.requires.begins.1 c.requires.begins.2 c.requires.begins.3 c.in_ok-all.all.items c.in_ok-all.ensures.fresh c.requires.some
     c.in_ok-bank.bank c.in_ok-bank.ensures.made c.in_ok-bank.ensures.lawful c.args.steps.now c.run_all.new.steps c.run_all.ensures.steps
 
 pub returns-clause-steps : goal.returns-clause-steps
 returns-clause-steps g c =
-    steps_at g.Q.Program.rules g.met.Q.Program.laws g.row.CAP c.args.grid.now c.args.slots c.args.steady c.args.progs c.requires.begins.0 c.requires.begins.1 c.requires.begins.2 c.requires.begins.3 c.in_ok-all.all.items (subst (λ v. AreFresh g.Q.Program.rules c.args.grid.now g.row.CAP (manner_of v c.args.steady) c.args.progs c.in_ok-all.all.items) c.requires.conveyors c.in_ok-all.ensures.fresh) c.requires.some
+    steps_at g.Q.Program.rules g.met.Q.Program.laws g.row.CAP c.args.grid.now c.args.slots (manner_of c.args.via c.args.steady) c.args.progs c.requires.begins.0 c.requires.begins.1 c.requires.begins.2 c.requires.begins.3 c.in_ok-all.all.items c.in_ok-all.ensures.fresh c.requires.some
     c.in_ok-bank.bank c.in_ok-bank.ensures.made c.in_ok-bank.ensures.lawful c.args.steps.now c.run_all.new.steps c.run_all.ensures.steps
 
 pub returns-clause-ended : goal.returns-clause-ended
 returns-clause-ended g c =
-    let w = world_after g.Q.Program.rules g.met.Q.Program.laws g.row.CAP c.args.grid.now c.args.slots c.args.steady c.args.progs c.requires.begins.0 c.requires.begins.1 c.requires.begins.2 c.requires.begins.3 c.in_ok-all.all.items (subst (λ v. AreFresh g.Q.Program.rules c.args.grid.now g.row.CAP (manner_of v c.args.steady) c.args.progs c.in_ok-all.all.items) c.requires.conveyors c.in_ok-all.ensures.fresh) c.requires.some
+    let w = world_after g.Q.Program.rules g.met.Q.Program.laws g.row.CAP c.args.grid.now c.args.slots (manner_of c.args.via c.args.steady) c.args.progs c.requires.begins.0 c.requires.begins.1 c.requires.begins.2 c.requires.begins.3 c.in_ok-all.all.items c.in_ok-all.ensures.fresh c.requires.some
     c.in_ok-bank.bank c.in_ok-bank.ensures.made c.in_ok-bank.ensures.lawful c.run_all.new.all.items c.in_ok-bank-2.bank c.in_ok-bank-2.ensures.world in
-    have_ended g.Q.Program.rules g.met.Q.Program.laws c.closes_laws.ensures g.row.CAP c.args.grid.now c.args.slots (ByConveyor c.args.steady) c.args.progs w.0 c.run_all.new.all.items (sent_of c.in_ok-bank-2.bank) (got_of c.in_ok-bank-2.bank) w.1.ranked (c.in_ok-bank-2.ensures.over) c.requires.begins.0 c.requires.begins.1 c.requires.begins.3.rounds c.requires.begins.2 c.requires.begins.3.has_rounds c.in_ok-progs.progs c.in_ok-progs.ensures.progs
+    have_ended g.Q.Program.rules g.met.Q.Program.laws c.closes_laws.ensures g.row.CAP c.args.grid.now c.args.slots (manner_of c.args.via c.args.steady) c.args.progs w.0 c.run_all.new.all.items (sent_of c.in_ok-bank-2.bank) (got_of c.in_ok-bank-2.bank) w.1.ranked (c.in_ok-bank-2.ensures.over) c.requires.begins.0 c.requires.begins.1 c.requires.begins.3.rounds c.requires.begins.2 c.requires.begins.3.has_rounds c.in_ok-progs.progs c.in_ok-progs.ensures.progs
 
 pub returns-clause-rounds : goal.returns-clause-rounds
 returns-clause-rounds g c =
-    let w = world_after g.Q.Program.rules g.met.Q.Program.laws g.row.CAP c.args.grid.now c.args.slots c.args.steady c.args.progs c.requires.begins.0 c.requires.begins.1 c.requires.begins.2 c.requires.begins.3 c.in_ok-all.all.items (subst (λ v. AreFresh g.Q.Program.rules c.args.grid.now g.row.CAP (manner_of v c.args.steady) c.args.progs c.in_ok-all.all.items) c.requires.conveyors c.in_ok-all.ensures.fresh) c.requires.some
+    let w = world_after g.Q.Program.rules g.met.Q.Program.laws g.row.CAP c.args.grid.now c.args.slots (manner_of c.args.via c.args.steady) c.args.progs c.requires.begins.0 c.requires.begins.1 c.requires.begins.2 c.requires.begins.3 c.in_ok-all.all.items c.in_ok-all.ensures.fresh c.requires.some
     c.in_ok-bank.bank c.in_ok-bank.ensures.made c.in_ok-bank.ensures.lawful c.run_all.new.all.items c.in_ok-bank-2.bank c.in_ok-bank-2.ensures.world in
     let ed = c.in_ok-bank-2.ensures.same_dims ∙ ap (λ (b : Bank). b.dims) c.in_ok-bank.ensures.made in
     let es = c.in_ok-bank-2.ensures.same_slots ∙ ap (λ (b : Bank). b.slots) c.in_ok-bank.ensures.made in (
       Plain c.close.result,
       c.in_ok-add.ensures.added ∙ ap (λ xs. xs ++ Plain c.close.result ∷ []) c.new-rounds.ensures,
-      λ n rounds. subst (λ v. TellsRun g.Q.Program.rules c.args.progs n (record { dims = c.args.grid.now; cap = g.row.CAP; slots = c.args.slots; by_slots = false }) (manner_of v c.args.steady) c.close.result) (sym c.requires.conveyors)
-          (told g.Q.Program.rules g.met.Q.Program.laws c.closes_laws.ensures g.row.CAP c.args.grid.now c.args.slots (ByConveyor c.args.steady) c.args.progs w.0 c.run_all.new.all.items c.in_ok-bank-2.bank ed es w.1.ranked (c.in_ok-bank-2.ensures.over) c.requires.begins.0 c.requires.begins.1 n c.requires.begins.2 rounds c.close.result c.close.ensures.round c.close.ensures.in_order),
+      λ n rounds.
+          told g.Q.Program.rules g.met.Q.Program.laws c.closes_laws.ensures g.row.CAP c.args.grid.now c.args.slots (manner_of c.args.via c.args.steady) c.args.progs w.0 c.run_all.new.all.items c.in_ok-bank-2.bank ed es w.1.ranked (c.in_ok-bank-2.ensures.over) c.requires.begins.0 c.requires.begins.1 n c.requires.begins.2 rounds c.close.result c.close.ensures.round c.close.ensures.in_order,
     )

@@ -14,12 +14,12 @@ pub returns-then-all_over-clause-over : goal.returns-then-all_over-clause-over
 returns-then-all_over-clause-over g c = each_over c.loop-bank.all.items (ap (list_all (λ (n : RankState g.row.Q.Denot). n.over)) (sym c.deref.ensures.value) ∙ (sym c.all_over.ensures ∙ c.if-all_over.true))
 
 pub returns-then-all_over-clause-world : goal.returns-then-all_over-clause-world
-returns-then-all_over-clause-world g c = λ steady starts n h p w. let r = c.loop-bank.invariant.reached steady starts n h p w in (r.h, r.world)
+returns-then-all_over-clause-world g c = λ manner starts n h p w. let r = c.loop-bank.invariant.reached manner starts n h p w in (r.h, r.world)
 
 pub returns-then-all_over-clause-steps : goal.returns-then-all_over-clause-steps
-returns-then-all_over-clause-steps g c = λ steady starts n h p w.
-    let r = c.loop-bank.invariant.reached steady starts n h p w in
-    steps_low g.Q.Program.rules g.met.Q.Program.laws c.closes_laws.ensures c.rest_law.ensures c.args.bank.dims g.row.CAP c.args.bank.slots steady starts n p c.args.steps.now c.loop-bank.steps r.h c.loop-bank.all.items (sent_of c.loop-bank.bank) (got_of c.loop-bank.bank) r.world r.count
+returns-then-all_over-clause-steps g c = λ manner starts n h p w.
+    let r = c.loop-bank.invariant.reached manner starts n h p w in
+    steps_low g.Q.Program.rules g.met.Q.Program.laws c.closes_laws.ensures c.rest_law.ensures c.args.bank.dims g.row.CAP c.args.bank.slots starts n p manner c.args.steps.now c.loop-bank.steps c.loop-bank.all.items (sent_of c.loop-bank.bank) (got_of c.loop-bank.bank) r
 
 pub sweep-requires : goal.sweep-requires
 sweep-requires g c =
@@ -42,18 +42,18 @@ sweep-requires g c =
     )
 
 pub returns-in_err-bank-clause-steps : goal.returns-in_err-bank-clause-steps
-returns-in_err-bank-clause-steps g c = λ steady starts n h p w.
-    let r = c.loop-bank.invariant.reached steady starts n h p w in
+returns-in_err-bank-clause-steps g c = λ manner starts n h p w.
+    let r = c.loop-bank.invariant.reached manner starts n h p w in
     let on = some_goes c.loop-bank.all.items (ap (list_all (λ (n : RankState g.row.Q.Denot). n.over)) (sym c.deref.ensures.value) ∙ (sym c.all_over.ensures ∙ c.if-all_over.false)) in
-    steps_lower g.Q.Program.rules g.met.Q.Program.laws c.closes_laws.ensures c.rest_law.ensures c.args.bank.dims g.row.CAP c.args.bank.slots steady starts n p c.args.steps.now c.loop-bank.steps c.sweep.new.steps r.h c.loop-bank.all.items (sent_of c.loop-bank.bank) (got_of c.loop-bank.bank)
-    r.world on r.count (omega (arith, c.sweep.ensures.most_steps, c.requires.order.size))
+    steps_lower g.Q.Program.rules g.met.Q.Program.laws c.closes_laws.ensures c.rest_law.ensures c.args.bank.dims g.row.CAP c.args.bank.slots starts n p manner c.args.steps.now c.loop-bank.steps c.sweep.new.steps c.loop-bank.all.items (sent_of c.loop-bank.bank) (got_of c.loop-bank.bank)
+    on r (omega (arith, c.sweep.ensures.most_steps, c.requires.order.size))
 
 pub loop-bank-smaller : goal.loop-bank-smaller
 loop-bank-smaller g c =
     let on = some_goes c.loop-bank.all.items (ap (list_all (λ (n : RankState g.row.Q.Denot). n.over)) (sym c.deref.ensures.value) ∙ (sym c.all_over.ensures ∙ c.if-all_over.false)) in
     let q = c.requires.world in
     fewer_left g.Q.Program.rules g.row.CAP c.args.all.now.items c.args.bank c.args.steps.now c.loop-bank.all.items c.loop-bank.bank c.loop-bank.steps c.loop-bank.invariant g.met.Q.Program.laws c.closes_laws.ensures c.rest_law.ensures c.args.order.now c.requires.order on
-    c.sweep.new.all.items c.in_ok-bank.bank c.sweep.new.steps c.in_ok-bank.ensures.lawful c.in_ok-bank.ensures.same_dims c.in_ok-bank.ensures.same_slots c.sweep.ensures.most_steps c.in_ok-bank.ensures.swept q.0 q.1 q.2 q.3 q.4 q.5
+    c.sweep.new.all.items c.in_ok-bank.bank c.sweep.new.steps c.in_ok-bank.ensures.lawful c.in_ok-bank.ensures.same_dims c.in_ok-bank.ensures.same_slots c.sweep.ensures.most_steps c.in_ok-bank.ensures.swept (c.in_ok-bank.ensures.some_step on.rank on.state on.at on.still) q.0 q.1 q.2 q.3 q.4 q.5
 
 pub loop-bank-preserved : goal.loop-bank-preserved
 loop-bank-preserved g c =

@@ -1,9 +1,10 @@
-use Rattle.std.proofs.Common.{rules, ◌≡◌, ◌<◌, length, get_or, arith, subst, sym, refl}
-use Rattle.list_laws.proofs.Lists.{all_get}
+use Rattle.std.proofs.Common.{rules, ◌≡◌, ◌⊎◌, ◌<◌, length, get_or, arith, ap, subst, sym, refl, inr}
+use Rattle.list_laws.proofs.Lists.{all_get, get_once}
 use Rattle.route_tensor.specs.Grid.{ranks}
 use Rattle.port_bank.specs.Plain.{sent_of, got_of}
+use Rattle.rank_group.specs.Ranks.{RankState}
 use Rattle.rank_group.specs.Worlds.{SweptTo}
-use Rattle.rank_group.proofs.Orders.{sweeping_more, swept_none, world_at, order_at}
+use Rattle.rank_group.proofs.Orders.{NoneTurned, sweeping_more, some_turn, swept_none, world_at, order_at}
 use Rattle.rank_group.proofs.sweeping.sweep.Goals as goal
 
 pub loop-i-init : goal.loop-i-init
@@ -14,7 +15,12 @@ loop-i-init g c =
       same_slots = refl;
       most_steps = omega arith;
       size = refl;
-      swept = λ steady starts n h p w. swept_none g.Q.Program.rules c.args.bank.dims g.row.CAP c.args.bank.slots steady starts c.args.order.now h c.args.all.now.items (sent_of c.args.bank) (got_of c.args.bank) w;
+      turns = inr (record {
+            same = λ r x0 x a b. ap (λ (y : RankState g.row.Q.Denot). y.over) (get_once c.args.all.now.items r x x0 b a);
+            over = λ q r x low. absurd (omega (arith, low));
+          });
+      fewest = omega arith;
+      swept = λ manner starts n h p w. swept_none g.Q.Program.rules c.args.bank.dims g.row.CAP c.args.bank.slots manner starts c.args.order.now h c.args.all.now.items (sent_of c.args.bank) (got_of c.args.bank) w;
     }
 
 pub turn_one-requires : goal.turn_one-requires
@@ -42,12 +48,20 @@ loop-i-preserved g c =
     let low : c.loop-i.i < length c.args.order.now = c.loop-i-test.true in
     let at = order_at c.args.order.now c.loop-i.i low in
     let number = all_get (λ r. r < ranks c.args.bank.dims) c.args.order.now c.loop-i.i (get_or c.args.order.now c.loop-i.i 0) c.requires.order.below at in
-    sweeping_more g.Q.Program.rules g.row.CAP c.args.order.now c.args.all.now.items c.args.bank c.args.steps.now c.loop-i.i (get_or c.args.order.now c.loop-i.i 0) c.loop-i.all.items c.turn_one.new.all.items c.loop-i.bank c.in_ok-bank.bank c.loop-i.steps c.turn_one.new.steps
+    let w = (world_at g.Q.Program.rules g.row.CAP c.args.order.now c.args.all.now.items c.args.bank c.args.steps.now c.loop-i.i c.loop-i.all.items c.loop-i.bank c.loop-i.steps v c.requires.world.0 c.requires.world.1 c.requires.world.2 c.requires.world.3 c.requires.world.4 c.requires.world.5).5 in
+    sweeping_more g.Q.Program.rules g.met.Q.Program.laws c.requires.law g.row.CAP c.args.order.now c.args.all.now.items c.args.bank c.args.steps.now c.loop-i.i (get_or c.args.order.now c.loop-i.i 0) c.loop-i.all.items c.turn_one.new.all.items c.loop-i.bank c.in_ok-bank.bank c.loop-i.steps c.turn_one.new.steps
     v at (subst (λ d. get_or c.args.order.now c.loop-i.i 0 < ranks d) (sym v.same_dims) number) c.in_ok-bank.ensures.lawful c.in_ok-bank.ensures.same_dims c.in_ok-bank.ensures.same_slots c.turn_one.ensures.most_steps
-    c.turn_one.ensures.size c.turn_one.ensures.others c.in_ok-bank.ensures.turned
+    c.turn_one.ensures.fewest_steps c.in_ok-bank.ensures.steps w.ranked.all c.turn_one.ensures.size c.turn_one.ensures.others c.in_ok-bank.ensures.turned
 
 pub returns-clause-swept : goal.returns-clause-swept
-returns-clause-swept g c = λ steady starts n h p w.
+returns-clause-swept g c = λ manner starts n h p w.
     let end : c.loop-i.i ≡ length c.args.order.now = omega (arith, c.loop-i-test.false, c.loop-i.auto.i-end) in
-    subst (λ i. SweptTo g.Q.Program.rules c.args.bank.dims g.row.CAP c.args.bank.slots steady starts c.args.order.now i c.args.all.now.items (sent_of c.args.bank) (got_of c.args.bank) c.loop-i.all.items (sent_of c.loop-i.bank) (got_of c.loop-i.bank)) end
-    (c.loop-i.invariant.swept steady starts n h p w)
+    subst (λ i. SweptTo g.Q.Program.rules c.args.bank.dims g.row.CAP c.args.bank.slots manner starts c.args.order.now i w.cycle c.args.all.now.items (sent_of c.args.bank) (got_of c.args.bank) c.loop-i.all.items (sent_of c.loop-i.bank) (got_of c.loop-i.bank)) end
+    (c.loop-i.invariant.swept manner starts n h p w)
+
+pub returns-clause-some_step : goal.returns-clause-some_step
+returns-clause-some_step g c = λ r x at on.
+    let v = c.loop-i.invariant in
+    let end : c.loop-i.i ≡ length c.args.order.now = omega (arith, c.loop-i-test.false, c.loop-i.auto.i-end) in
+    some_turn (ranks c.args.bank.dims) c.args.order.now c.args.all.now.items c.loop-i.all.items c.args.steps.now c.loop-i.steps c.requires.order c.requires.world.5.ranked.all v.size
+    (subst (λ i. (c.args.steps.now < c.loop-i.steps) ⊎ NoneTurned c.args.order.now i c.args.all.now.items c.loop-i.all.items) end v.turns) r x at on

@@ -1,4 +1,4 @@
-use Rattle.std.proofs.Common.{rules, ◌≡◌, Ok, ap, ◌∙◌, sym, subst}
+use Rattle.std.proofs.Common.{rules, ◌≡◌, Ok, refl, ap, ◌∙◌, sym, subst}
 use Rattle.port_bank.specs.Plain.{Bank, sent_of, got_of}
 use Rattle.port_bank.specs.Logs.{starting_at, ending_at}
 use Rattle.rank_node.specs.Movers.{dims_of}
@@ -50,6 +50,9 @@ returns-clause-turned g c =
       ended = λ e. c.in_ok-turn.ensures.ended (ap Ok e);
       going = λ e. c.in_ok-turn.ensures.going (ap Ok e);
       waits = c.in_ok-turn.ensures.waits;
+      cycle = c.turn.ensures.cycle;
+      onward = c.turn.ensures.onward;
+      awaits = c.in_ok-turn.ensures.awaits refl;
     } in
     subst (λ (b : Bank). AfterTurn R c.args.bank.dims g.row.CAP c.args.bank.slots c.args.number c.in_ok-turn.turn n n' (sent_of c.args.bank) (got_of c.args.bank) (sent_of b) (got_of b)) (sym c.into_bank.ensures.bank)
     (after_turn R g.row.CAP c.args.number c.in_ok-turn.turn n n' c.args.bank b1 c.port-port.result.rank c.turn.new.port.rank c.port-port.ensures.rank c.turn.ensures.same_rank c.requires.same_dims c.requires.same_rank

@@ -60,4 +60,5 @@ returns-in_ok-rank-inside-in-Ended-clause-turned g c =
       stopped = λ e. c.in_ok-rank-inside-in-Ended.ensures.stopped (ap Ok e);
     } in
     subst (λ (m : RankState g.row.Q.Denot). AfterRank R c.args.bank.dims g.row.CAP c.args.bank.slots c.args.number m (record { node = c.next.new.self; over = not more }) (sent_of c.args.bank) (got_of c.args.bank) (sent_of c.in_ok-bank.bank) (got_of c.in_ok-bank.bank)) c.rank.view_is
-    (rank_ended R c.args.bank.dims g.row.CAP c.args.bank.slots c.args.number inside c.turn_node.new.node c.next.new.self more (sent_of c.args.bank) (got_of c.args.bank) (sent_of c.in_ok-bank.bank) (got_of c.in_ok-bank.bank) c.if-rank.false t x)
+    (rank_ended R c.args.bank.dims g.row.CAP c.args.bank.slots c.args.number inside c.turn_node.new.node c.next.new.self more (sent_of c.args.bank) (got_of c.args.bank) (sent_of c.in_ok-bank.bank) (got_of c.in_ok-bank.bank) c.if-rank.false t x
+    (λ e. c.in_ok-rank-inside-in-Ended.ensures.cycle (ap Ok e)))

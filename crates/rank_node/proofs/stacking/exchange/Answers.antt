@@ -4,6 +4,9 @@ use Rattle.exstack.specs.Standing.{IsStack}
 use Rattle.exstack.proofs.Beginning.{exchange_begun}
 use Rattle.rank_node.specs.Runs.{Running, running}
 use Rattle.rank_node.proofs.Polled.{Made, AfterExchange, after_poll, exchanged, exchanging_apart, ready_apart}
+use Rattle.rank_node.specs.Cycles.{has_exchanged}
+use Rattle.rank_node.proofs.Paced.{Exchanges, exchanges_keep}
+use Rattle.rank_node.proofs.Awaited.{exchange_awaits, exchanged_stage}
 use Rattle.rank_node.proofs.stacking.exchange.Goals as goal
 
 pub returns-in_err-_made-clause-moves : goal.returns-in_err-_made-clause-moves
@@ -73,3 +76,26 @@ returns-clause-moves g c =
       agrees = e.agrees;
     } in
     after_poll g.row.CAP x0 (in_exchange x0) x2 false true sent sent' got got' m R run run refl refl (λ h is. exchanged R h run g.row.CAP x0 x2 sent got sent' got' p is)
+
+pub returns-in_err-_made-clause-cycle : goal.returns-in_err-_made-clause-cycle
+returns-in_err-_made-clause-cycle g c = λ quota n i.
+    let sent = g.P.Port.sent c.args.port.now in
+    let got = g.P.Port.got c.args.port.now in
+    let sent' = g.P.Port.sent c.poll_exchange-polled.new.port in
+    let got' = g.P.Port.got c.poll_exchange-polled.new.port in
+    let e = c.poll_exchange-polled.ensures in
+    let p : Exchanges c.args.exstack.now c.poll_exchange-polled.new.self sent got sent' got' = record { same = e.same; made = e.round; agrees = e.cycle; exchanged = ap has_exchanged (c.in_err-_made.ensures.no_memory refl) } in
+    exchanges_keep g.Q.Program.rules (running c.args.run.now) c.args.exstack.now c.poll_exchange-polled.new.self sent got sent' got' p quota n i
+
+pub returns-clause-cycle : goal.returns-clause-cycle
+returns-clause-cycle g c = λ quota n i.
+    let sent = g.P.Port.sent c.args.port.now in
+    let got = g.P.Port.got c.args.port.now in
+    let sent' = g.P.Port.sent c.poll_exchange-polled.new.port in
+    let got' = g.P.Port.got c.poll_exchange-polled.new.port in
+    let e = c.poll_exchange-polled.ensures in
+    let p : Exchanges c.args.exstack.now c.poll_exchange-polled.new.self sent got sent' got' = record { same = e.same; made = e.round; agrees = e.cycle; exchanged = ap has_exchanged (c.in_ok-_made.ensures.stage) ∙ exchanged_stage _ } in
+    exchanges_keep g.Q.Program.rules (running c.args.run.now) c.args.exstack.now c.poll_exchange-polled.new.self sent got sent' got' p quota n i
+
+pub returns-clause-awaits : goal.returns-clause-awaits
+returns-clause-awaits g c = λ ok. exchange_awaits g.row.CAP c.poll_exchange-polled.new.self c.stage-standing.ensures.standing _ c.in_ok-_made.ensures.answer c.in_ok-_made.ensures.stage

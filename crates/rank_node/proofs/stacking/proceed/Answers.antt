@@ -6,6 +6,9 @@ use Rattle.exstack.proofs.Beginning.{proceed_begun}
 use Rattle.rank_node.specs.Sending.{to_send}
 use Rattle.rank_node.specs.Runs.{Running, running}
 use Rattle.rank_node.proofs.Polled.{Made, AfterProceed, after_poll, proceeded, same_done, done_keeps, waits_like}
+use Rattle.rank_node.specs.Cycles.{has_proceeded}
+use Rattle.rank_node.proofs.Paced.{proceeds_of, proceeds_keep}
+use Rattle.rank_node.proofs.Awaited.{proceed_awaits, proceeded_stage, filling_open, proceeding_apart}
 use Rattle.rank_node.proofs.stacking.proceed.Goals as goal
 
 pub poll_proceed-polled-requires : goal.poll_proceed-polled-requires
@@ -182,3 +185,63 @@ returns-in-GoOn-clause-waits g c =
     waits_like c.args.exstack.now c.pop_all-run.new.exstack c.poll_proceed-polled.new.self (g.P.Port.got c.args.port.now) (g.P.Port.got c.poll_proceed-polled.new.port) (g.P.Port.crowded c.poll_proceed-polled.new.port) (g.P.Port.idle c.poll_proceed-polled.new.port)
     (ap (λ (t : State). t.ranks) pops.same) (ap (λ (t : State). t.rank) pops.same)
     (record { posts = c.in_ok-polled.ensures.crowded refl; collects = λ a low due. (c.in_ok-polled.ensures.asked refl a low due).in_vain })
+
+pub returns-in_err-polled-clause-cycle : goal.returns-in_err-polled-clause-cycle
+returns-in_err-polled-clause-cycle g c = λ quota n i.
+    let R = g.Q.Program.rules in
+    let sent = g.P.Port.sent c.args.port.now in
+    let got = g.P.Port.got c.args.port.now in
+    let sent' = g.P.Port.sent c.poll_proceed-polled.new.port in
+    let got' = g.P.Port.got c.poll_proceed-polled.new.port in
+    let run : Running g.row.Q.Denot = running c.args.run.now in
+    let x0 = c.args.exstack.now in
+    let x1 = c.pop_all-run.new.exstack in
+    let x2 = c.poll_proceed-polled.new.self in
+    let taken = c.pop_all-run.result in
+    let done = run.next == c.count_of.result in
+    let e = c.poll_proceed-polled.ensures in
+    let all : done ≡ (run.next == length (to_send R c.pop_all-run.new.prog.value run.sends)) = ap (λ m. run.next == m) c.count_of.ensures in
+    let p = proceeds_of R (c.requires.node.0) run g.row.CAP x0 x1 x2 c.pop_all-run.new.prog.value taken.sum taken.spoiled c.votes_now-voting.result done sent got sent' got'
+    c.pop_all-run.ensures.pops all c.requires.node.1 c.stage-standing.ensures.standing c.requires.may e.same e.round e.cycle (ap has_proceeded (c.in_err-polled.ensures.no_memory refl)) (λ f. absurd (proceeding_apart x2.stage (c.in_err-polled.ensures.no_memory refl) f)) in
+    proceeds_keep R g.row.CAP run _ x0 x1 x2 done sent got sent' got' p quota n i
+
+pub returns-in-GoOn-clause-cycle : goal.returns-in-GoOn-clause-cycle
+returns-in-GoOn-clause-cycle g c = λ quota n i.
+    let R = g.Q.Program.rules in
+    let sent = g.P.Port.sent c.args.port.now in
+    let got = g.P.Port.got c.args.port.now in
+    let sent' = g.P.Port.sent c.poll_proceed-polled.new.port in
+    let got' = g.P.Port.got c.poll_proceed-polled.new.port in
+    let run : Running g.row.Q.Denot = running c.args.run.now in
+    let x0 = c.args.exstack.now in
+    let x1 = c.pop_all-run.new.exstack in
+    let x2 = c.poll_proceed-polled.new.self in
+    let taken = c.pop_all-run.result in
+    let done = run.next == c.count_of.result in
+    let e = c.poll_proceed-polled.ensures in
+    let all : done ≡ (run.next == length (to_send R c.pop_all-run.new.prog.value run.sends)) = ap (λ m. run.next == m) c.count_of.ensures in
+    let p = proceeds_of R (c.requires.node.0) run g.row.CAP x0 x1 x2 c.pop_all-run.new.prog.value taken.sum taken.spoiled c.votes_now-voting.result done sent got sent' got'
+    c.pop_all-run.ensures.pops all c.requires.node.1 c.stage-standing.ensures.standing c.requires.may e.same e.round e.cycle (ap has_proceeded (c.in_ok-polled.ensures.stage) ∙ proceeded_stage _) (λ f. filling_open _ _ _ c.in_ok-polled.ensures.answer (sym (c.in_ok-polled.ensures.stage) ∙ f)) in
+    proceeds_keep R g.row.CAP run _ x0 x1 x2 done sent got sent' got' p quota n i
+
+pub returns-in-AllDone-clause-cycle : goal.returns-in-AllDone-clause-cycle
+returns-in-AllDone-clause-cycle g c = λ quota n i.
+    let R = g.Q.Program.rules in
+    let sent = g.P.Port.sent c.args.port.now in
+    let got = g.P.Port.got c.args.port.now in
+    let sent' = g.P.Port.sent c.poll_proceed-polled.new.port in
+    let got' = g.P.Port.got c.poll_proceed-polled.new.port in
+    let run : Running g.row.Q.Denot = running c.args.run.now in
+    let x0 = c.args.exstack.now in
+    let x1 = c.pop_all-run.new.exstack in
+    let x2 = c.poll_proceed-polled.new.self in
+    let taken = c.pop_all-run.result in
+    let done = run.next == c.count_of.result in
+    let e = c.poll_proceed-polled.ensures in
+    let all : done ≡ (run.next == length (to_send R c.pop_all-run.new.prog.value run.sends)) = ap (λ m. run.next == m) c.count_of.ensures in
+    let p = proceeds_of R (c.requires.node.0) run g.row.CAP x0 x1 x2 c.pop_all-run.new.prog.value taken.sum taken.spoiled c.votes_now-voting.result done sent got sent' got'
+    c.pop_all-run.ensures.pops all c.requires.node.1 c.stage-standing.ensures.standing c.requires.may e.same e.round e.cycle (ap has_proceeded (c.in_ok-polled.ensures.stage) ∙ proceeded_stage _) (λ f. filling_open _ _ _ c.in_ok-polled.ensures.answer (sym (c.in_ok-polled.ensures.stage) ∙ f)) in
+    proceeds_keep R g.row.CAP run _ x0 x1 x2 done sent got sent' got' p quota n i
+
+pub returns-in-GoOn-clause-awaits : goal.returns-in-GoOn-clause-awaits
+returns-in-GoOn-clause-awaits g c = λ ok. proceed_awaits g.row.CAP c.poll_proceed-polled.new.self c.stage-standing.ensures.standing _ c.in_ok-polled.ensures.answer c.in_ok-polled.ensures.stage

@@ -1,10 +1,13 @@
-use Rattle.std.proofs.Common.{rules, ◌≡◌, true, slice_get, refl, sym, ap, ◌∙◌}
+use Rattle.std.proofs.Common.{rules, ◌≡◌, true, slice_get, refl, sym, ap, subst, ◌∙◌}
 use Rattle.exstack.specs.State.{State, dims_of, may_exchange}
 use Rattle.rank_node.specs.Runs.{Running, running}
 use Rattle.list_laws.proofs.Results.{on_ok_map}
 use Rattle.rank_node.specs.Sending.{to_send}
 use Rattle.rank_node.proofs.Ballots.{same_sends}
 use Rattle.rank_node.proofs.Polled.{nothing_moved, fill_then, waits_like, not_filling, all_done_apart}
+use Rattle.exstack.specs.Agreement.{cycle_after}
+use Rattle.rank_node.specs.Cycles.{InCycle}
+use Rattle.rank_node.proofs.Paced.{still_exchanging}
 use Rattle.rank_node.proofs.stacking.turn_exstack.Goals as goal
 
 pub exchange-requires : goal.exchange-requires
@@ -53,3 +56,19 @@ returns-in-AllDone-clause-leaves g c =
       refused = λ s to y left. absurd (all_done_apart c.args.exstack.now.stage (sym c.stage.ensures.value ∙ c.in-AllDone.is) s);
       unpushed = λ apart. refl;
     }
+
+pub returns-in-Filling-clause-cycle : goal.returns-in-Filling-clause-cycle
+returns-in-Filling-clause-cycle g c = λ quota n i.
+    let sent = g.P.Port.sent c.args.port.now in
+    let got = g.P.Port.got c.args.port.now in
+    let now = sym c.stage.ensures.value ∙ c.in-Filling.is in
+    subst (λ k. InCycle g.Q.Program.rules quota k (running c.exchange.new.run) c.exchange.new.exstack (g.P.Port.sent c.exchange.new.port) (g.P.Port.got c.exchange.new.port)) (sym (ap (cycle_after n) now))
+    (c.exchange.ensures.cycle quota n (c.fill.ensures.cycle quota n sent got i))
+
+pub returns-in-Exchanging-clause-cycle : goal.returns-in-Exchanging-clause-cycle
+returns-in-Exchanging-clause-cycle g c = λ quota n i.
+    let R = g.Q.Program.rules in
+    let now = sym c.stage.ensures.value ∙ c.in-Exchanging.is in
+    subst (λ k. InCycle R quota k (running c.exchange-in-Exchanging.new.run) c.exchange-in-Exchanging.new.exstack (g.P.Port.sent c.exchange-in-Exchanging.new.port) (g.P.Port.got c.exchange-in-Exchanging.new.port)) (sym (ap (cycle_after n) now))
+    (c.exchange-in-Exchanging.ensures.cycle quota n
+    (still_exchanging R (running c.args.run.now) c.args.exstack.now (g.P.Port.sent c.args.port.now) (g.P.Port.got c.args.port.now) quota n now i))

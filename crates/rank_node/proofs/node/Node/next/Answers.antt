@@ -6,6 +6,8 @@ use Rattle.rank_node.specs.Runs.{running}
 use Rattle.rank_node.specs.Nodes.{NodeState, IsNode}
 use Rattle.rank_node.specs.declared.sends.Sends.TheVariants.{Emissions, Nothing}
 use Rattle.rank_node.proofs.Onward.{seen_cap, epoch_is, node_votes, node_work, not_lost, round_few}
+use Rattle.rank_node.specs.Cycles.{IsInCycle}
+use Rattle.rank_node.proofs.Next.{next_cycle}
 use Rattle.rank_node.proofs.node.Node.next.Goals as goal
 
 pub returns-then-not-votes_now-clause-votes : goal.returns-then-not-votes_now-clause-votes
@@ -65,3 +67,27 @@ returns-in-SpoiledNothing-clause-cap g c = seen_cap c.self.inside.mover
 
 pub returns-then-is_lost-clause-cap : goal.returns-then-is_lost-clause-cap
 returns-then-is_lost-clause-cap g c = subst (λ (m : NodeState g.row.Q.Denot). HasCap g.row.CAP m.mover) c.self.view_is (seen_cap c.self.inside.mover)
+
+pub returns-then-not-votes_now-clause-cycle : goal.returns-then-not-votes_now-clause-cycle
+returns-then-not-votes_now-clause-cycle g c = λ ok quota n sent got i few.
+    let R = g.Q.Program.rules in
+    let inside : NodeState g.row.Q.Denot = record { run = running c.self.inside.run; mover = seen c.self.inside.mover } in
+    let was = subst (λ (m : NodeState g.row.Q.Denot). IsNode R (c.requires.node.0) m (c.requires.node.1) (c.requires.node.2)) (sym c.self.view_is) c.requires.node.3 in
+    let i0 = subst (λ (m : NodeState g.row.Q.Denot). IsInCycle R quota n m.run m.mover sent got) (sym c.self.view_is) i in
+    next_cycle R quota n inside.run _ inside.mover (seen c.reset.new.self) (c.requires.node.1) (c.requires.node.2) sent got was.moving c.reset.ensures i0 few
+
+pub returns-in-Round-clause-cycle : goal.returns-in-Round-clause-cycle
+returns-in-Round-clause-cycle g c = λ ok quota n sent got i few.
+    let R = g.Q.Program.rules in
+    let inside : NodeState g.row.Q.Denot = record { run = running c.self.inside.run; mover = seen c.self.inside.mover } in
+    let was = subst (λ (m : NodeState g.row.Q.Denot). IsNode R (c.requires.node.0) m (c.requires.node.1) (c.requires.node.2)) (sym c.self.view_is) c.requires.node.3 in
+    let i0 = subst (λ (m : NodeState g.row.Q.Denot). IsInCycle R quota n m.run m.mover sent got) (sym c.self.view_is) i in
+    next_cycle R quota n inside.run _ inside.mover (seen c.reset-in-Round.new.self) (c.requires.node.1) (c.requires.node.2) sent got was.moving c.reset-in-Round.ensures i0 few
+
+pub returns-in-SpoiledRound-clause-cycle : goal.returns-in-SpoiledRound-clause-cycle
+returns-in-SpoiledRound-clause-cycle g c = λ ok quota n sent got i few.
+    let R = g.Q.Program.rules in
+    let inside : NodeState g.row.Q.Denot = record { run = running c.self.inside.run; mover = seen c.self.inside.mover } in
+    let was = subst (λ (m : NodeState g.row.Q.Denot). IsNode R (c.requires.node.0) m (c.requires.node.1) (c.requires.node.2)) (sym c.self.view_is) c.requires.node.3 in
+    let i0 = subst (λ (m : NodeState g.row.Q.Denot). IsInCycle R quota n m.run m.mover sent got) (sym c.self.view_is) i in
+    next_cycle R quota n inside.run _ inside.mover (seen c.reset-in-SpoiledRound.new.self) (c.requires.node.1) (c.requires.node.2) sent got was.moving c.reset-in-SpoiledRound.ensures i0 few

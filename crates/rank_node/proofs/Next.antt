@@ -1,0 +1,87 @@
+-- The first cycle of an exstack's epoch.
+use Rattle.std.proofs.Common.{◌≡◌, ℕ, zero, suc, ◌+◌, ◌*◌, ◌<◌, ◌≤◌, Bool, true, false, List, [], ◌∷◌, length, slice_get, Option, Some, None, refl, sym, ap, subst, ◌∙◌, arith}
+use Rattle.std.proofs.lemmas.Bool.{false≢true}
+use Rattle.std.proofs.lemmas.List.{append-nil}
+use Rattle.bale_types.specs.declared.item.Entry.{Entry}
+use Rattle.list_laws.proofs.Lists.{within}
+use Rattle.port_bank.specs.Logs.{Logs, segment}
+use Rattle.exstack.specs.declared.stage.Stage.{Stage}
+use Rattle.exstack.specs.declared.stage.Stage.TheVariants.{Start, Filling}
+use Rattle.exstack.specs.Links.{no_in}
+use Rattle.exstack.specs.State.{State, out_at, in_at, link_to, link_from, may_read}
+use Rattle.exstack.specs.Cycles.{exchange_parcel, entries_in}
+use Rattle.exstack.specs.Agreement.{LinkAgrees, AgreesIn, Ends, back_first, rounds_in}
+use Rattle.exstack.specs.Standing.{IsStack}
+use Rattle.round_program.specs.Rules.{Rules}
+use Rattle.rank_node.specs.Sending.{to_send}
+use Rattle.rank_node.specs.Runs.{Running}
+use Rattle.rank_node.specs.Movers.{MoverState, Manner, IsStacking, IsMoving, IsNew, GoesOn, epoch_in}
+use Rattle.rank_node.specs.Movers.MoverState.{Conveying, Stacking}
+use Rattle.rank_node.specs.Cycles.{exchanges_in, cycles_gone_on, MarksLast, InCycle, IsInCycle}
+use Rattle.rank_node.proofs.Paced.{marks_like}
+
+-- at the start of an epoch every cycle's number fits
+module _ (cap : ℕ) (x : State) (s : IsStack cap x) (start : x.stage ≡ Start) where
+  none_popped : (o : Option ℕ) → x.popped ≡ o → o ≡ None
+  none_popped None e = refl
+  none_popped (Some a) e = absurd (false≢true (sym (ap may_read start) ∙ (s.can_unpop a e).reading))
+
+  unread_none : (a : ℕ) → a < x.ranks → back_first x.popped a (in_at x a) ≡ []
+  unread_none a low = ap (λ o. back_first o a (in_at x a)) (none_popped x.popped refl) ∙ (s.each_in a no_in (omega (arith, low, s.all_ins))).read (ap may_read start)
+
+  agrees_at_start : (n : ℕ) (sent got : Logs) → AgreesIn n x sent got → AgreesIn 0 x sent got
+  agrees_at_start n sent got a =
+      let rounds : rounds_in n x.stage ≡ rounds_in 0 x.stage = ap (rounds_in n) start ∙ sym (ap (rounds_in 0) start) in
+      record {
+        outs = λ b low. subst (λ r. LinkAgrees x.epoch r (out_at x b).closed (out_at x b).due (sent (link_to x b))) rounds (a.outs b low);
+        ins = λ b low. subst (λ r. LinkAgrees x.epoch r (in_at x b).ended (in_at x b).due (got (link_from x b))) rounds (a.ins b low);
+        shapes = a.shapes;
+        law = a.law;
+        came = a.came;
+        in_cycle = λ b low.
+            let whole : List Entry = entries_in (exchange_parcel x.epoch 0 (got (link_from x b))) in
+            subst (Ends whole) (sym (unread_none b low)) (record { front = whole; is = sym (append-nil whole) });
+        own = a.own;
+      }
+
+filling_later : (s : Stage) → s ≡ Start → s ≡ Filling → ⊥
+filling_later s a b = absurd (cc)
+
+-- so it is in cycle 0
+cycle_at_start : {S : Type 0} (R : Rules S) (quota : ℕ → ℕ) (run : Running S) (cap : ℕ) (x : State) (sent got : Logs) → IsStacking cap x sent got → x.stage ≡ Start
+    → length (to_send R run.prog run.sends) ≤ quota x.epoch → MarksLast quota x sent → InCycle R quota 0 run x sent got
+cycle_at_start R quota run cap x sent got is start few marks =
+    let e : exchanges_in 0 x.stage ≡ 0 = ap (exchanges_in 0) start in
+    let g : cycles_gone_on 0 x.stage ≡ 0 = ap (cycles_gone_on 0) start in
+    record {
+      agrees = agrees_at_start cap x is.stack start is.agrees.cycle sent got is.agrees.agrees;
+      few = few;
+      paced = λ f. omega (arith, e);
+      left = λ s f. absurd (filling_later x.stage start s);
+      emptied = λ s b low. absurd (filling_later x.stage start s);
+      went_on = λ m low. absurd (omega (arith, low, g));
+      marks = marks;
+    }
+
+-- of a mover that wasn't used
+pub new_cycle : {S : Type 0} (R : Rules S) (quota : ℕ → ℕ) (run : Running S) (dims : List ℕ) (rank : ℕ) (manner : Manner) (m : MoverState) → IsNew dims rank manner m
+    → length (to_send R run.prog run.sends) ≤ quota 0 → IsInCycle R quota 0 run m (λ l. []) (λ l. [])
+new_cycle R quota run dims rank manner (Conveying c) new few = tt
+new_cycle R quota run dims rank manner (Stacking cap x) new few =
+    cycle_at_start R quota run cap x (λ l. []) (λ l. []) new.moving new.starts (omega (arith, few, ap quota new.first)) (λ e b m p low at going. absurd (omega (arith, within (segment e []) (2 * m) p at, ap length (none e)))) where
+      none : (e : ℕ) → segment e [] ≡ []
+      none zero = refl
+      none (suc e) = refl
+
+-- and of one that goes on to the next epoch
+pub next_cycle : {S : Type 0} (R : Rules S) (quota : ℕ → ℕ) (n : ℕ) (run run' : Running S) (m m' : MoverState) (sent0 got0 sent got : Logs) → IsMoving m sent0 got0 → GoesOn m m'
+    → IsInCycle R quota n run m sent got → length (to_send R run'.prog run'.sends) ≤ quota (epoch_in m') → IsInCycle R quota 0 run' m' sent got
+next_cycle R quota n run run' (Conveying c) (Conveying c') sent0 got0 sent got is b i few = tt
+next_cycle R quota n run run' (Conveying c) (Stacking cap x) sent0 got0 sent got is b i few = absurd (b.unread)
+next_cycle R quota n run run' (Stacking cap x) (Conveying c) sent0 got0 sent got is b i few = tt
+next_cycle R quota n run run' (Stacking cap x) (Stacking cap' x') sent0 got0 sent got is b i few =
+    let ranks : x'.ranks ≡ x.ranks = ap first b.same_dims in
+    cycle_at_start R quota run' cap' x' sent got (b.moving sent got (record { stack = is.stack; agrees = record { cycle = n; agrees = i.agrees } })) b.starts few (marks_like quota x x' sent ranks b.same_rank i.marks) where
+      first : List ℕ → ℕ
+      first [] = 0
+      first (d ∷ ds) = d

@@ -1,0 +1,130 @@
+-- How the cycles of an exstack keep pace with what its rank has to send.
+use Rattle.std.specs.Prelude.{◌≡◌, ◌⊎◌, ℕ, ◌+◌, ◌<◌, ◌≤◌, ⊤, Bool, true, false, ◌||◌, [], length, Some}
+use Rattle.item_buffer.specs.Contents.{Shipped}
+use Rattle.port_bank.specs.Logs.{Logs}
+use Rattle.exstack.specs.declared.stage.Stage.{Stage}
+use Rattle.exstack.specs.declared.stage.Stage.TheVariants.{Start, Proceeding, Filling, Exchanging, Full, AllDone}
+use Rattle.exstack.specs.State.{State, out_at, in_at, link_to, link_from, is_proceeding, is_exchanging}
+use Rattle.exstack.specs.Cycles.{proceed_parcel}
+use Rattle.exstack.specs.Agreement.{AgreesIn, cycle_after}
+use Rattle.round_program.specs.Rules.{Rules}
+use Rattle.rank_node.specs.Movers.{MoverState}
+use Rattle.rank_node.specs.Movers.MoverState.{Conveying, Stacking}
+use Rattle.rank_node.specs.Runs.{Running}
+use Rattle.rank_node.specs.Sending.{to_send}
+
+-- How many exchange rounds of its epoch an exstack has begun, in cycle n.
+-- While it fills its buffers in cycle 1 it has begun one.
+abbrev pub exchanges_in : ℕ → Stage → ℕ
+exchanges_in n Start = 0
+exchanges_in n Proceeding = n
+exchanges_in n Filling = n
+exchanges_in n Exchanging = n + 1
+exchanges_in n Full = n + 1
+exchanges_in n AllDone = n
+
+-- In how many cycles of its epoch the proceed round was over and the exchange went on.
+-- While it fills its buffers in cycle 1 these are two, the cycles 0 and 1.
+abbrev pub cycles_gone_on : ℕ → Stage → ℕ
+cycles_gone_on n Start = 0
+cycles_gone_on n Proceeding = n
+cycles_gone_on n Filling = n + 1
+cycles_gone_on n Exchanging = n + 1
+cycles_gone_on n Full = n + 1
+cycles_gone_on n AllDone = n
+
+-- In cycle m of epoch e the exchange went on, since the proceed parcel of some rank wasn't marked last.
+pub record WentOn (e m : ℕ) (x : State) (got : Logs) : Type 0 where
+  pub sender : ℕ
+  pub low : sender < x.ranks
+  pub parcel : Shipped
+  pub came : proceed_parcel e m (got (link_from x sender)) ≡ Some parcel
+  pub going : parcel.last ≡ false
+
+-- Proceed parcel m of an epoch is marked last unless more than m items are sent in that epoch.
+-- With two items to send in epoch 0 proceed parcel 2 is marked last, if it isn't an earlier one.
+abbrev pub MarksLast : (ℕ → ℕ) → State → Logs → Type 0
+MarksLast quota x sent = (e b m : ℕ) (p : Shipped) → b < x.ranks → proceed_parcel e m (sent (link_to x b)) ≡ Some p → p.last ≡ false → m < quota e
+
+-- A rank that has at most `quota e` items to send in epoch e is in cycle n of its exstack.
+-- few: so many it has in this epoch.
+-- paced: until it is done it pushes at least one item in each cycle.
+-- left, emptied: so, as it begins to fill its buffers, an item is left to push and no entry waits.
+-- went_on: each cycle in which the exchange went on did so for some rank's proceed parcel.
+-- marks: its own proceed parcels are marked last in time.
+pub record InCycle {S : Type 0} (R : Rules S) (quota : ℕ → ℕ) (n : ℕ) (run : Running S) (x : State) (sent got : Logs) : Type 0 where
+  pub agrees : AgreesIn n x sent got
+  pub few : length (to_send R run.prog run.sends) ≤ quota x.epoch
+  pub paced : x.done ≡ false → exchanges_in n x.stage ≤ run.next
+  pub left : x.stage ≡ Filling → x.done ≡ false → run.next < length (to_send R run.prog run.sends)
+  pub emptied : x.stage ≡ Filling → (b : ℕ) → b < x.ranks → (out_at x b).waiting ≡ []
+  pub went_on : (m : ℕ) → m < cycles_gone_on n x.stage → WentOn x.epoch m x got
+  pub marks : MarksLast quota x sent
+
+-- As its exchange round begins or goes on: its buffers are filled.
+pub record InExchange {S : Type 0} (R : Rules S) (quota : ℕ → ℕ) (n : ℕ) (run : Running S) (x : State) (sent got : Logs) : Type 0 where
+  pub agrees : AgreesIn n x sent got
+  pub few : length (to_send R run.prog run.sends) ≤ quota x.epoch
+  pub paced : x.done ≡ false → n < run.next
+  pub went_on : (m : ℕ) → m < n + 1 → WentOn x.epoch m x got
+  pub marks : MarksLast quota x sent
+
+-- The stages in which a turn may leave an exstack, by the stage at entry.
+abbrev pub has_proceeded : Stage → Bool
+has_proceeded Start = false
+has_proceeded Proceeding = true
+has_proceeded Filling = true
+has_proceeded Exchanging = false
+has_proceeded Full = false
+has_proceeded AllDone = true
+
+abbrev pub has_exchanged : Stage → Bool
+has_exchanged Start = false
+has_exchanged Proceeding = false
+has_exchanged Filling = false
+has_exchanged Exchanging = true
+has_exchanged Full = true
+has_exchanged AllDone = false
+
+abbrev pub IsOnward : Stage → Stage → Type 0
+IsOnward Start s = has_proceeded s ≡ true
+IsOnward Proceeding s = has_proceeded s ≡ true
+IsOnward Filling s = has_exchanged s ≡ true
+IsOnward Exchanging s = has_exchanged s ≡ true
+IsOnward Full s = has_proceeded s ≡ true
+IsOnward AllDone s = s ≡ AllDone
+
+-- A parcel of the round is still to be posted on the link to some rank, or to be collected from the link of some rank.
+pub record DueOut (x : State) : Type 0 where
+  pub other : ℕ
+  pub low : other < x.ranks
+  pub due : (out_at x other).due ≡ true
+
+pub record DueIn (x : State) : Type 0 where
+  pub other : ℕ
+  pub low : other < x.ranks
+  pub due : (in_at x other).due ≡ true
+
+-- An exstack within a round waits for a parcel.
+abbrev pub Awaits : State → Type 0
+Awaits x = (is_proceeding x.stage || is_exchanging x.stage) ≡ true → DueOut x ⊎ DueIn x
+
+-- The same of whatever carries a rank's items; of conveyors nothing is said.
+abbrev pub IsInCycle : {S : Type 0} → Rules S → (ℕ → ℕ) → ℕ → Running S → MoverState → Logs → Logs → Type 0
+IsInCycle R quota n run (Conveying c) sent got = ⊤
+IsInCycle R quota n run (Stacking cap x) sent got = InCycle R quota n run x sent got
+
+-- the cycle that a turn leaves it in
+abbrev pub cycle_of_turn : ℕ → MoverState → ℕ
+cycle_of_turn n (Conveying c) = n
+cycle_of_turn n (Stacking cap x) = cycle_after n x.stage
+
+abbrev pub TurnsOnward : MoverState → MoverState → Type 0
+TurnsOnward (Conveying c) (Conveying c') = ⊤
+TurnsOnward (Conveying c) (Stacking k x) = ⊥
+TurnsOnward (Stacking k x) (Conveying c) = ⊥
+TurnsOnward (Stacking k x) (Stacking k' x') = IsOnward x.stage x'.stage
+
+abbrev pub AwaitsSome : MoverState → Type 0
+AwaitsSome (Conveying c) = ⊤
+AwaitsSome (Stacking cap x) = Awaits x

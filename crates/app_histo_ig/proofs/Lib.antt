@@ -1,5 +1,6 @@
 pub mod ColumnSums
 pub mod ColumnWords
+pub mod HeardSums
 pub mod HistoOwners
 pub mod HistoText
 pub mod IgAnswers

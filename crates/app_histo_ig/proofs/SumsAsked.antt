@@ -1,7 +1,7 @@
 -- What the ranks ask once they have added up their columns, and what they know.
 use Rattle.std.proofs.Common.{◌≡◌, ℕ, ◌/◌, ◌<◌, ◌^◌, true, List, [], ◌∷◌, ◌++◌, All, map, length, drop, get_or, slice_get, Some, None, arith, refl, sym, ap, ◌∙◌, subst}
 use Rattle.std.proofs.lemmas.Bool.Decides.{nat_tests}
-use Rattle.std.proofs.lemmas.List.{length-map, append-nil}
+use Rattle.std.proofs.lemmas.List.{length-map, length-replicate, append-nil}
 use Rattle.std.proofs.lemmas.List.Elements.{All-map}
 use Rattle.std.proofs.lemmas.List.FromFn.{length-map-range_with_len}
 use Rattle.std.proofs.lemmas.Simd.{map-map}
@@ -43,12 +43,19 @@ asker_is s rank ranks queries sums answers a b c d e =
     ∙ ap (λ w. record t { sums = w; answers = answers }) d
     ∙ ap (λ w. record t { answers = w }) e
 
+-- there is a place for each reply
+asked_places : (s : SumsState) → length (asker_from s).answers ≡ length (asker_from s).queries
+asked_places s =
+    let f : ℕ × Item → ℕ × ℕ = λ e. (e.0, e.1.a) in
+    length-replicate (length s.values) 0 ∙ sym (length-map s.values f)
+
 -- what a rank asks and knows
 known : (m : Sparse) (ps : List SumsState) (h : SumsEnded m ps) (r : ℕ) → IsAskerOf m h.ranks r (asker_from (added h.ranks m r))
 known m ps h r =
     record {
       own_rank = refl;
       all_ranks = refl;
+      places = asked_places (added h.ranks m r);
       asks = map-map (λ (e : ℕ × Item). (e.0, e.1.a)) (λ (e : Numbered). (column_owner h.ranks e, value_item e)) (own_entries h.ranks r m.entries);
       knows = λ j low own.
           ap from_twos_complement (ap (λ n. get_or (sums_of h.ranks m n) (j / h.ranks) 0) (sym own) ∙ owner_sum h.ranks m j h.some low) ∙ (column_word m j h.matrix).number;

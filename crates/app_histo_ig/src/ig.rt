@@ -5,6 +5,7 @@ ghost use Rattle.std.specs.List.{All};
 ghost use Rattle.sparse_rows.specs.Owners.{places_for};
 ghost use Rattle.app_histo_ig.specs.Igs.{IsIg};
 
+use crate::answered::Answered;
 use crate::ig_lists::{after_round, note, raise, rise};
 use bale_types::{Item, NoMemory};
 use round_program::Program;
@@ -95,11 +96,12 @@ impl Ig {
             answers: begins.answers,
         }
     }
+}
 
-    /// The sum of each own entry's column, as a word.
-    pub(crate) fn answers(&self) -> &[u64]
-        ensures { result.now ≡ self.now.answers }
-    {
+impl Answered for Ig {
+    ghost words = { λ s. s.answers };
+
+    fn answers(&self) -> &[u64] {
         &self.answers
     }
 }

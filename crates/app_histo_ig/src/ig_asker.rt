@@ -3,6 +3,7 @@
 ghost use Rattle.std.specs.Prelude.{◌≡◌, ◌<◌, ◌^◌, length, slice_index_or};
 ghost use Rattle.std.specs.List.{All};
 
+use crate::answered::Answered;
 use round_program::Asker;
 use std::marker::Model;
 
@@ -55,11 +56,12 @@ impl IgAsker {
             answers,
         }
     }
+}
 
-    /// What was heard for each own entry, as a word.
-    pub(crate) fn answers(&self) -> &[u64]
-        ensures { result.now ≡ self.now.answers }
-    {
+impl Answered for IgAsker {
+    ghost words = { λ s. s.answers };
+
+    fn answers(&self) -> &[u64] {
         &self.answers
     }
 }

@@ -1,16 +1,21 @@
 //! ig by queries and replies at once: the programs that add up columns, and the askers that they leave.
 
-ghost use Rattle.std.specs.Prelude.{◌≡◌, ◌<◌, ◌≤◌, [], ◌∷◌, length, map, IfOk};
+ghost use Rattle.std.specs.Prelude.{◌≡◌, ◌<◌, ◌≤◌, [], ◌∷◌, length, map, IfOk, OnOk, OnErr};
+ghost use Rattle.bale_types.specs.Stream.{after, HasCause, IsFront};
+ghost use Rattle.bale_types.specs.Out.{appended};
 ghost use Rattle.sparse_rows.specs.Parts.{parts_of};
 ghost use Rattle.round_program.specs.Canonical.{InRound, EndsWithin};
 ghost use Rattle.app_histo_ig.specs.Sums.{sums_rules};
 ghost use Rattle.app_histo_ig.specs.SumsRuns.{sums_begins, sums_starts, SumsEnded};
 ghost use Rattle.app_histo_ig.specs.AskingRuns.{asker_from, AreAskersOf};
+ghost use Rattle.app_histo_ig.specs.ColumnAnswers.{IgHeard};
+ghost use Rattle.app_histo_ig.specs.IgLines.{ig_lines};
 
+use crate::answered::write_sums;
 use crate::ig_asker::IgAsker;
 use crate::ig_run::{values_of, zeros};
 use crate::ig_sums::IgSums;
-use bale_types::{Item, NoMemory};
+use bale_types::{Failed, Item, NoMemory, Out, Sink};
 use mtx_text::Matrix;
 use round_program::{Program, Progs};
 use sparse_rows::{Parts, split};
@@ -66,6 +71,28 @@ pub fn ig_askers(alloc: Global, m: &Matrix, p: Progs<IgSums>) -> Result<Progs<Ig
 {
     let askers = all_askers(alloc, p)?;
     Ok(askers)
+}
+
+/// Writes the lines of ig: for each entry of the matrix, in order, its row and column from 1, and the sum of its column. The
+/// askers are those of `ig_askers` on this matrix, after each has heard the replies to its queries. No memory is taken.
+///
+/// # Errors
+///
+/// `Failed` where the sink's faults rose in this call.
+pub fn ig_heard_write<K: Sink>(
+    p: &Progs<IgAsker>,
+    m: &Matrix,
+    out: &mut Out<'_, K>,
+) -> Result<(), Failed>
+    requires heard { IgHeard m.now p.now }
+    ensures ok { OnOk result (appended K.taken out.new ≡ after (appended K.taken out.old) (ig_lines m.now.entries)) }
+    ensures err { OnErr result (IsFront (K.taken out.new.sink.now) (after (appended K.taken out.old) (ig_lines m.now.entries))) }
+    ensures cause { HasCause (K.faults out.old.sink.now) (K.faults out.new.sink.now) result }
+    ensures never_falls { K.faults out.old.sink.now ≤ K.faults out.new.sink.now }
+    ensures grows { IsFront (K.taken out.old.sink.now) (K.taken out.new.sink.now) }
+    ensures same_sink { out.new.sink.ghost_name ≡ out.old.sink.ghost_name }
+{
+    write_sums(p, m, out)
 }
 
 /// The asker of each rank.

@@ -13,8 +13,9 @@ ghost use Rattle.app_histo_ig.specs.Igs.{ig_rules, value_item};
 ghost use Rattle.app_histo_ig.specs.IgLines.{column_sum, ig_line, ig_lines};
 ghost use Rattle.app_histo_ig.specs.IgRuns.{ig_begins, ig_starts, IgEnded};
 
+use crate::answered::write_sums;
 use crate::ig::{Begins, Ig};
-use bale_types::{Failed, Item, Line, NoMemory, Out, Sink, Triple, bits_of, value_of};
+use bale_types::{Failed, Item, NoMemory, Out, Sink, Triple, bits_of};
 use mtx_text::Matrix;
 use round_program::Progs;
 use sparse_rows::{Parts, split};
@@ -138,49 +139,5 @@ pub fn ig_write<K: Sink>(p: &Progs<Ig>, m: &Matrix, out: &mut Out<'_, K>) -> Res
     ensures grows { IsFront (K.taken out.old.sink.now) (K.taken out.new.sink.now) }
     ensures same_sink { out.new.sink.ghost_name ≡ out.old.sink.ghost_name }
 {
-    let entries = m.entries();
-    for e in 0..entries.len() {
-        let (i, j) = (entries[e].i, entries[e].j);
-        write_line(out, i, j, sum_at(p, m, e))?;
-    }
-    Ok(())
-}
-
-/// The sum of the column of entry number `e`, as the entry's rank has it.
-fn sum_at(p: &Progs<Ig>, m: &Matrix, e: usize) -> i64
-    requires ended { IgEnded m.now p.now }
-    requires entry { e < length m.now.entries }
-    ensures { (t : Triple) → slice_get m.now.entries e ≡ Some t → result ≡ column_sum t.j m.now.entries }
-{
-    let ranks = p.len();
-    let Some(own) = p.get(e % ranks) else {
-        unreachable!()
-    };
-    value_of(own.answers()[e / ranks])
-}
-
-/// Writes one line.
-pub(crate) fn write_line<K: Sink>(
-    out: &mut Out<'_, K>,
-    i: u32,
-    j: u32,
-    sum: i64,
-) -> Result<(), Failed>
-    requires row { i + 1 < 2 ^ 32 }
-    requires column { j + 1 < 2 ^ 32 }
-    ensures ok { OnOk result (appended K.taken out.new ≡ after (appended K.taken out.old) (ig_line i j sum)) }
-    ensures err { OnErr result (IsFront (K.taken out.new.sink.now) (after (appended K.taken out.old) (ig_line i j sum))) }
-    ensures cause { HasCause (K.faults out.old.sink.now) (K.faults out.new.sink.now) result }
-    ensures never_falls { K.faults out.old.sink.now ≤ K.faults out.new.sink.now }
-    ensures grows { IsFront (K.taken out.old.sink.now) (K.taken out.new.sink.now) }
-    ensures same_sink { out.new.sink.ghost_name ≡ out.old.sink.ghost_name }
-{
-    let mut line = Line::new();
-    line.natural((i + 1) as u64);
-    line.byte(b' ');
-    line.natural((j + 1) as u64);
-    line.byte(b' ');
-    line.integer(sum);
-    line.byte(b'\n');
-    out.line(&line)
+    write_sums(p, m, out)
 }

@@ -9,6 +9,7 @@
 //! | [`ig_write`] | the programs, once they ended | a line for each entry: row, column, sum of the column |
 //! | [`ig_sums_start`] | the programs of ig's first round alone | in round 0 of a run of one round |
 //! | [`ig_askers`] | these programs, once they ended | ranks that ask one another for the sums of their entries' columns |
+//! | [`ig_heard_write`] | these ranks, once each has heard its replies | the lines of `ig_write` |
 //!
 //! The entries are dealt out in turn, and column `j` belongs to rank `j mod P`. What the lines are is said of the matrix
 //! alone (`specs/HistoLines` and `specs/IgLines`): no rank, no round and no order of items occurs there.
@@ -16,6 +17,7 @@
 //! theirs of a list, each rank is as if it alone had gone through the list and absorbed what is sent to it.
 #![tactic(auto)]
 
+mod answered;
 mod histo;
 mod histo_run;
 mod ig;
@@ -31,6 +33,6 @@ pub use histo::Histo;
 pub use histo_run::{histo_start, histo_write};
 pub use ig::Ig;
 pub use ig_asker::IgAsker;
-pub use ig_by_askers::{ig_askers, ig_sums_start};
+pub use ig_by_askers::{ig_askers, ig_heard_write, ig_sums_start};
 pub use ig_run::{ig_start, ig_write};
 pub use ig_sums::IgSums;

@@ -2,7 +2,8 @@
 //! compared where a drive proves that its programs ended.
 
 use super::*;
-use crate::{histo_run, ig_by_askers, ig_run};
+use crate::answered::Answered;
+use crate::{answered, histo_run, ig_by_askers};
 use bale_types::{Item, MemSink, NoMemory, Out, value_of};
 use mtx_text::parse_matrix;
 use round_program::{Asker, Program, Progs};
@@ -190,7 +191,7 @@ fn lines_of_both(rt: HostRuntime) -> Result<(), Fail> {
     let mut sink = MemSink::new(rt.alloc(), 64, 64, &[])?;
     let mut out = Out::new(&mut sink);
     histo_run::write_line(&mut out, 2, 3)?;
-    ig_run::write_line(&mut out, 0, 2, -7)?;
+    answered::write_line(&mut out, 0, 2, -7)?;
     out.flush()?;
     assert!(rt; sink.taken() == b"3 3\n1 3 -7\n".as_slice());
     Ok(())

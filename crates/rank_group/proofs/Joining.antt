@@ -1,9 +1,9 @@
 -- Ranks come back, one after the other.
-use Rattle.std.proofs.Common.{◌≡◌, ℕ, List, [], ◌∷◌, ◌++◌, length, length-append, map, slice_get, Some, All, refl, sym, ap, subst, ◌∙◌, arith, inl, inr}
+use Rattle.std.proofs.Common.{◌≡◌, ℕ, ◌<◌, ◌≤◌, List, [], ◌∷◌, ◌++◌, length, length-append, map, slice_get, Some, refl, sym, ap, subst, ◌∙◌, arith, inl, inr}
 use Rattle.std.proofs.lemmas.Bool.{cases_lt}
-use Rattle.list_laws.proofs.Lists.{within, get_once, get_last, get_before, get_map, all_get}
-use Rattle.round_program.specs.Rules.{Rules}
-use Rattle.rank_group.specs.Seats.{SeatedState, Ran, AllRan}
+use Rattle.std.proofs.lemmas.List.{length-map}
+use Rattle.list_laws.proofs.Lists.{within, get_once, get_last, get_before}
+use Rattle.rank_group.specs.Runs.{AllRan}
 
 -- the element at hand stands behind those before it
 at_hand : {X : Type 0} (xs rest : List X) (x : X) → slice_get (xs ++ x ∷ rest) (length xs) ≡ Some x
@@ -13,19 +13,15 @@ at_hand (y ∷ xs) rest x = at_hand xs rest x
 pub next_is : {X : Type 0} (xs rest all now : List X) (x : X) → xs ++ now ≡ all → now ≡ x ∷ rest → slice_get all (length xs) ≡ Some x
 next_is xs rest all now x left is = ap (λ ys. slice_get ys (length xs)) (sym left ∙ ap (λ ys. xs ++ ys) is) ∙ at_hand xs rest x
 
-pub holds_at_hand : {X Y : Type 0} (f : X → Y) (P : Y → Type 0) (xs rest all now : List X) (x : X) → xs ++ now ≡ all → now ≡ x ∷ rest → All P (map f all) → P (f x)
-holds_at_hand f P xs rest all now x left is each =
-    all_get P (map f all) (length xs) (f x) each (get_map f all (length xs) x (next_is xs rest all now x left is))
-
 pub one_less : {X : Type 0} (xs rest all now : List X) (x : X) → xs ++ now ≡ all → now ≡ x ∷ rest → (xs ++ x ∷ []) ++ rest ≡ all
 one_less {X} xs rest all now x left is = by xs ∙ (ap (λ ys. xs ++ ys) (sym is) ∙ left) where
   by : (ys : List X) → (ys ++ x ∷ []) ++ rest ≡ ys ++ x ∷ rest
   by [] = refl
   by (y ∷ ys) = ap (λ zs. y ∷ zs) (by ys)
 
-pub ran_more : {S : Type 0} (R : Rules S) (cap : ℕ) (xs ys : List (SeatedState S)) (x y : SeatedState S) → AllRan R cap xs ys → Ran R cap x y → AllRan R cap (xs ++ x ∷ []) (ys ++ y ∷ [])
-ran_more {S} R cap xs ys x y all ran = record { all = omega (arith, length-append xs (x ∷ []), length-append ys (y ∷ []), all.all); each = at } where
-  at : (r : ℕ) (a b : SeatedState S) → slice_get (xs ++ x ∷ []) r ≡ Some a → slice_get (ys ++ y ∷ []) r ≡ Some b → Ran R cap a b
+pub ran_more : {S : Type 0} (ran : S → S → Type 0) (xs ys : List S) (x y : S) → AllRan ran xs ys → ran x y → AllRan ran (xs ++ x ∷ []) (ys ++ y ∷ [])
+ran_more {S} ran xs ys x y all one = record { all = omega (arith, length-append xs (x ∷ []), length-append ys (y ∷ []), all.all); each = at } where
+  at : (r : ℕ) (a b : S) → slice_get (xs ++ x ∷ []) r ≡ Some a → slice_get (ys ++ y ∷ []) r ≡ Some b → ran a b
   at r a b ha hb = elim (cases_lt r (length xs)) [
     | inl low ↦ all.each r a b (sym (get_before xs (x ∷ []) r low) ∙ ha) (sym (get_before ys (y ∷ []) r (omega (arith, low, all.all))) ∙ hb)
     | inr past ↦
@@ -33,5 +29,10 @@ ran_more {S} R cap xs ys x y all ran = record { all = omega (arith, length-appen
         let f : r ≡ length ys = omega (arith, e, all.all) in
         let ea : x ≡ a = get_once (xs ++ x ∷ []) (length xs) x a (get_last xs x) (subst (λ k. slice_get (xs ++ x ∷ []) k ≡ Some a) e ha) in
         let eb : y ≡ b = get_once (ys ++ y ∷ []) (length ys) y b (get_last ys y) (subst (λ k. slice_get (ys ++ y ∷ []) k ≡ Some b) f hb) in
-        subst (λ z. Ran R cap z b) ea (subst (λ z. Ran R cap x z) eb ran)
+        subst (λ z. ran z b) ea (subst (λ z. ran x z) eb one)
   ]
+
+-- there is room for one more
+pub room_for_one : {S C : Type 0} (ran : S → S → Type 0) (f : C → S) (xs rest all now : List C) (x : C) (ys : List S) (room : ℕ) → xs ++ now ≡ all → now ≡ x ∷ rest → AllRan ran (map f xs) ys → length all ≤ room → length ys < room
+room_for_one ran f xs rest all now x ys room left is ran_so below =
+    omega (arith, below, ap length left, ap length is, length-append xs now, ran_so.all, length-map xs f)

@@ -1,40 +1,21 @@
 -- A rank on its way stays on it by a turn.
-use Rattle.std.proofs.Common.{◌≡◌, ℕ, ◌+◌, ◌≤◌, ◌||◌, Bool, true, false, refl, sym, subst, ◌∙◌, arith}
+use Rattle.std.proofs.Common.{◌≡◌, ℕ, ◌+◌, ◌≤◌, ◌||◌, Bool, true, false, refl, sym, subst, arith}
 use Rattle.std.proofs.lemmas.Bool.{true≢false}
 use Rattle.link_slots.specs.Seen.{Manning, named, posted_on, collected_from}
 use Rattle.link_slots.proofs.Ported.{one_bank}
 use Rattle.round_program.specs.Rules.{Rules}
 use Rattle.rank_node.specs.Movers.{Manner, epoch_in}
 use Rattle.rank_group.specs.Ranks.{RankState, IsRank}
-use Rattle.rank_group.specs.Seats.{SeatedState, bank_of, Ran, IsAtPort}
+use Rattle.rank_group.specs.Seats.{SeatedState, bank_of, HasWay, Ran}
 
 -- neither of two, where their or is false
 pub neither : (a b : Bool) → (a || b) ≡ false → (a ≡ false) × (b ≡ false)
 neither true b e = absurd (true≢false e)
 neither false b e = (refl, e)
 
--- a rank that wasn't turned
-pub ran_none : {S : Type 0} (R : Rules S) (cap : ℕ) (x : SeatedState S) → Ran R cap x x
-ran_none R cap x = record { bank = refl; number = refl; kept = λ manner h is. (h, refl, is) }
-
-pub ran_on : {S : Type 0} (R : Rules S) (cap : ℕ) (x y z : SeatedState S) → Ran R cap x y → Ran R cap y z → Ran R cap x z
-ran_on R cap x y z a b =
-    record {
-      bank = b.bank ∙ a.bank;
-      number = b.number ∙ a.number;
-      kept = λ manner h is.
-          let m = a.kept manner h is in
-          let n = b.kept manner m.0 m.2 in
-          (n.0, n.1 ∙ m.1, n.2);
-    }
-
-module _ {S : Type 0} (R : Rules S) (cap : ℕ) (first x y : SeatedState S) (at : IsAtPort R cap (record { first = first; now = x })) (ran : Ran R cap x y) where
-  -- a rank stays at its port
-  pub stays_at : IsAtPort R cap (record { first = first; now = y })
-  stays_at =
-      let w = at.way in
-      let m = ran.kept w.manner w.h w.way in
-      record { way = record { manner = w.manner; h = m.0; way = m.2 }; ran = ran_on R cap first x y at.ran ran }
+-- a rank that was turned is still on some way
+pub has_way : {S : Type 0} (R : Rules S) (cap : ℕ) (x y : SeatedState S) → HasWay R cap x → Ran R cap x y → HasWay R cap y
+has_way R cap x y w ran = let m = ran.kept w.manner w.h w.way in record { manner = w.manner; h = m.0; way = m.2 }
 
 module _ {S : Type 0} (R : Rules S) (cap : ℕ) (x : SeatedState S) (rank : RankState S) (seat : Manning) (same : bank_of (record x { seat = seat }) ≡ bank_of x) (er : seat.rank ≡ x.seat.rank) where
   -- by a turn

@@ -16,7 +16,8 @@ use Rattle.round_program.specs.Canonical.{InRound}
 use Rattle.rank_node.specs.Movers.{Manner}
 use Rattle.rank_group.specs.Ranks.{RankState, IsRank, HasRank, AllRanks}
 use Rattle.rank_group.specs.Drives.{progs_of, AreFresh}
-use Rattle.rank_group.specs.Seats.{SeatedState, bank_of, IsOnWay, Ran, AllRan, IsSeated, AreSeated}
+use Rattle.rank_group.specs.Runs.{AllRan}
+use Rattle.rank_group.specs.Seats.{SeatedState, bank_of, IsOnWay, Ran, IsSeated, AreSeated}
 
 some_is : {X : Type 0} {o : Option X} {x : X} → o ≡ Some x → IsSome o
 some_is e = subst IsSome (sym e) refl
@@ -29,12 +30,8 @@ first_true : (a b : Bool) → (a || b) ≡ true → b ≡ false → a ≡ true
 first_true true b e n = refl
 first_true false b e n = absurd (true≢false (sym e ∙ n))
 
--- ranks that haven't turned sit at their bank
-pub seats_at : {S : Type 0} (R : Rules S) (cap : ℕ) (manner : Manner) (b : Bank) (xs : List (SeatedState S)) → AreSeated R cap manner b xs → All (λ x. bank_of x ≡ b) xs
-seats_at {S} R cap manner b xs seated = all_from_gets (λ (x : SeatedState S). bank_of x ≡ b) xs (λ r x at. (seated r x at).bank)
-
 module _ {S : Type 0} (R : Rules S) (cap : ℕ) (b : Bank) (manner : Manner) (starts : List S) (shape : List ℕ) (most : ℕ) (start : InRound R (ranks b.shape.dims) 0 shape most starts)
-    (fs : List (RankState S)) (fresh : AreFresh R b.shape.dims cap manner starts fs) (xs ys : List (SeatedState S)) (firsts : map (λ x. x.rank) xs ≡ fs) (seated : AreSeated R cap manner b xs) (ran : AllRan R cap xs ys) where
+    (fs : List (RankState S)) (fresh : AreFresh R b.shape.dims cap manner starts fs) (xs ys : List (SeatedState S)) (firsts : map (λ x. x.rank) xs ≡ fs) (seated : AreSeated R cap manner b xs) (ran : AllRan (λ x y. Ran R cap x y) xs ys) where
   abbrev dims : List ℕ
   dims = b.shape.dims
 

@@ -1,10 +1,8 @@
 -- The ranks of a drive on threads, as it runs.
-use Rattle.std.specs.Prelude.{ℕ}
 use Rattle.rank_group.specs.declared.child.Child.{Child}
 use Rattle.rank_group.specs.declared.child.Child.TheVariants.{There, Here}
-use Rattle.rank_group.specs.Seats.{SeatedState}
 
 -- what a rank was before its first turn, whose thread runs or that the caller keeps
-abbrev pub first_of : {Q : Type 0} {cap hops : ℕ} → Child Q cap hops → SeatedState Q
+abbrev pub first_of : {A : Type 0} → Child A → A
 first_of (There handle) = handle.promise.was.value
-first_of (Here at) = at.first
+first_of (Here kept) = kept.first

@@ -1,6 +1,8 @@
 pub mod Closes
 pub mod Ranks
+pub mod Runs
 pub mod Seats
+pub mod SeatLaws
 pub mod Children
 pub mod Worlds
 pub mod Drives

@@ -1,5 +1,5 @@
 -- Ranks that sit at a slot bank.
-use Rattle.std.specs.Prelude.{◌≡◌, ℕ, ◌≤◌, Bool, false, List, length, slice_get, Some}
+use Rattle.std.specs.Prelude.{◌≡◌, ℕ, ◌≤◌, Bool, false, List, slice_get, Some}
 use Rattle.link_slots.specs.Seen.{Bank, Manning, posted_on, collected_from}
 use Rattle.round_program.specs.Rules.{Rules}
 use Rattle.rank_node.specs.Movers.{Manner, epoch_in}
@@ -33,20 +33,6 @@ pub record Ran {S : Type 0} (R : Rules S) (cap : ℕ) (x y : SeatedState S) : Ty
   pub bank : bank_of y ≡ bank_of x
   pub number : y.seat.rank ≡ x.seat.rank
   pub kept : (manner : Manner) (h : ℕ → S) → IsOnWay R cap manner h x → (g : ℕ → S) × (g 0 ≡ h 0) × IsOnWay R cap manner g y
-
--- The same of each of some ranks.
-pub record AllRan {S : Type 0} (R : Rules S) (cap : ℕ) (xs ys : List (SeatedState S)) : Type 0 where
-  pub all : length ys ≡ length xs
-  pub each : (r : ℕ) (x y : SeatedState S) → slice_get xs r ≡ Some x → slice_get ys r ≡ Some y → Ran R cap x y
-
--- A rank that is turned, and what it was when it came to its port.
-pub record PortState (S : Type 0) : Type 0 where
-  pub first : SeatedState S
-  pub now : SeatedState S
-
-pub record IsAtPort {S : Type 0} (R : Rules S) (cap : ℕ) (p : PortState S) : Type 0 where
-  pub way : HasWay R cap p.now
-  pub ran : Ran R cap p.first p.now
 
 -- A rank that hasn't turned sits at the bank b with the number r.
 pub record IsSeated {S : Type 0} (R : Rules S) (cap : ℕ) (manner : Manner) (b : Bank) (r : ℕ) (x : SeatedState S) : Type 0 where

@@ -1,30 +1,25 @@
 //! One rank that a thread of its own turns.
-ghost use Rattle.std.specs.Prelude.{◌≡◌, ◌||◌, true};
-ghost use Rattle.rank_group.specs.Seats.{bank_of, Ran};
+ghost use Rattle.std.specs.Prelude.{◌≡◌, true};
 
-use crate::at_port::AtPort;
 use crate::gate::Gate;
 use crate::job::{Job, do_job};
 use crate::seated::Seated;
 use crate::shared::Shared;
 use rank_node::Steps;
-use round_program::Program;
-use std::snapshot::Snapshot;
 use std::sync::Wait;
 use std::sync::ledger::Ledger;
 use std::thread;
 
-/// A rank at its port, and what it shares with the others.
-pub struct Alone<'a, R: Wait, Q: Program, G: Gate, const CAP: usize, const HOPS: usize> {
-    shared: &'a Shared<'a, R, G, CAP, HOPS>,
-    at: AtPort<'a, Q, CAP, HOPS>,
+/// A rank at its ports, and what it shares with the others.
+pub struct Alone<'a, R: Wait, A: Seated, G: Gate> {
+    shared: &'a Shared<'a, R, G>,
+    at: A,
 }
 
-impl<'a, R: Wait, Q: Program, G: Gate, const CAP: usize, const HOPS: usize> Job
-    for Alone<'a, R, Q, G, CAP, HOPS> {
-    ghost use Rattle.std.specs.Prelude.{◌≡◌, ◌||◌, true};
+impl<'a, R: Wait, A: Seated, G: Gate> Job for Alone<'a, R, A, G> {
+    ghost use Rattle.std.specs.Prelude.{◌≡◌, true};
 
-    ghost ran = { λ a b. (b.at.first ≡ a.at.first) × ((b.at.now.rank.over || b.at.now.lost) ≡ true) };
+    ghost ran = { λ a b. A.ran a.at b.at × (A.over b.at ≡ true) };
 
     fn work<L: Ledger>(self, steps: &mut Steps<L>) -> Self {
         let Alone { shared, mut at } = self;
@@ -41,16 +36,10 @@ impl<'a, R: Wait, Q: Program, G: Gate, const CAP: usize, const HOPS: usize> Job
 }
 
 /// Turns a rank until its run is over.
-pub(crate) fn run_alone<'a, R: Wait, Q: Program, G: Gate, const CAP: usize, const HOPS: usize>(
-    shared: &'a Shared<'a, R, G, CAP, HOPS>,
-    seated: Seated<Q, CAP, HOPS>,
-) -> Seated<Q, CAP, HOPS>
-    requires bank { bank_of seated ≡ shared.now.bank.now }
-    ensures ran { Ran Q.rules CAP seated result }
-    ensures over { (result.rank.over || result.lost) ≡ true }
+pub(crate) fn run_alone<'a, R: Wait, A: Seated, G: Gate>(shared: &'a Shared<'a, R, G>, at: A) -> A
+    ensures ran { A.ran at result }
+    ensures over { A.over result ≡ true }
 {
-    let first = Snapshot::of(&seated);
-    let at = AtPort::new(shared.bank, seated, first);
     let Alone { shared: _, at } = do_job(Alone { shared, at });
-    at.into_seated()
+    at
 }

@@ -1,18 +1,16 @@
-//! A rank at its port, which can be turned.
-ghost use Rattle.std.specs.Prelude.{◌≡◌, ◌<◌, ◌^◌, ◌||◌, false};
-ghost use Rattle.rank_group.specs.Seats.{bank_of, Ran};
+//! A rank of a run of programs at its port of a slot bank.
+ghost use Rattle.std.specs.Prelude.{◌≡◌, ◌<◌, ◌^◌};
 
 use crate::gate::Gate;
 use crate::seated::Seated;
 use crate::sweeping::Rank;
 use crate::turning::turn_over;
 use bale_types::NoMemory;
-use link_slots::{SlotBank, SlotPort};
+use link_slots::SlotPort;
 use port_bank::Port;
 use rank_node::Steps;
 use round_program::Program;
 use std::marker::Model;
-use std::snapshot::Snapshot;
 use std::sync::Wait;
 use std::sync::ledger::Ledger;
 use std::thread;
@@ -23,91 +21,45 @@ const TURNS: u64 = 1 << 63;
 /// A rank and its port.
 #[derive(Drop)]
 pub struct AtPort<'a, Q: Program, const CAP: usize, const HOPS: usize> {
-    rank: Rank<Q, CAP, HOPS>,
-    port: SlotPort<'a, CAP>,
+    pub(crate) rank: Rank<Q, CAP, HOPS>,
+    pub(crate) port: SlotPort<'a, CAP>,
     /// How many turns it has made.
-    turns: u64,
+    pub(crate) turns: u64,
     /// Its run is over, and memory was wanting.
-    lost: bool,
-    /// What it was when it came, for contracts alone.
-    first: Snapshot<Seated<Q, CAP, HOPS>>,
+    pub(crate) lost: bool,
 }
 
 impl<'a, Q: Program, const CAP: usize, const HOPS: usize> Model for AtPort<'a, Q, CAP, HOPS> {
-    ghost use Rattle.rank_group.specs.Seats.{PortState, IsAtPort};
+    ghost use Rattle.rank_group.specs.Seats.{SeatedState, HasWay};
 
-    ghost Value = { PortState Q };
+    ghost Value = { SeatedState Q };
 
-    ghost view = { λ s. record { first = s.first.value; now = record { rank = s.rank; seat = s.port.seat; turns = s.turns; lost = s.lost } } };
+    ghost view = { λ s. record { rank = s.rank; seat = s.port.seat; turns = s.turns; lost = s.lost } };
 
-    ghost invariant = { λ s. IsAtPort Q.rules CAP (record { first = s.first.value; now = record { rank = s.rank; seat = s.port.seat; turns = s.turns; lost = s.lost } }) };
+    ghost invariant = { λ s. HasWay Q.rules CAP (record { rank = s.rank; seat = s.port.seat; turns = s.turns; lost = s.lost }) };
 }
 
-impl<'a, Q: Program, const CAP: usize, const HOPS: usize> AtPort<'a, Q, CAP, HOPS> {
-    /// A rank goes to its port; `first` is what it was before.
-    pub(crate) fn new(
-        bank: &'a SlotBank<CAP>,
-        seated: Seated<Q, CAP, HOPS>,
-        first: Snapshot<Seated<Q, CAP, HOPS>>,
-    ) -> Self
-        requires bank { bank_of seated ≡ bank.now }
-        requires ran { Ran Q.rules CAP first.value seated }
-        ensures first { result.first ≡ first.value }
-        ensures now { result.now ≡ seated }
-    {
-        let Seated {
-            rank,
-            seat,
-            turns,
-            lost,
-        } = seated;
-        AtPort {
-            rank,
-            port: bank.port(seat),
-            turns,
-            lost,
-            first,
-        }
-    }
+impl<'a, Q: Program, const CAP: usize, const HOPS: usize> Seated for AtPort<'a, Q, CAP, HOPS> {
+    ghost use Rattle.std.specs.Prelude.{◌||◌};
+    ghost use Rattle.rank_group.specs.Seats.{Ran};
+    ghost use Rattle.rank_group.specs.SeatLaws.{ran_laws};
 
-    /// The rank takes its seat along.
-    pub(crate) fn into_seated(self) -> Seated<Q, CAP, HOPS>
-        ensures now { result ≡ self.entry.now }
-        ensures ran { Ran Q.rules CAP self.entry.first result }
-    {
-        let AtPort {
-            rank,
-            port,
-            turns,
-            lost,
-            first: _,
-        } = self;
-        Seated {
-            rank,
-            seat: port.into_seat(),
-            turns,
-            lost,
-        }
-    }
+    ghost ran = { λ x y. Ran Q.rules CAP x y };
 
-    /// Whether no epoch follows: the rank isn't turned again.
-    pub(crate) fn is_over(&self) -> bool
-        ensures { result ≡ (self.now.now.rank.over || self.now.now.lost) }
-    {
+    ghost over = { λ x. x.rank.over || x.lost };
+
+    ghost laws = { ran_laws Q.rules CAP };
+
+    fn is_over(&self) -> bool {
         self.rank.over || self.lost
     }
 
-    /// Makes one turn, once the gate was told of it. Answers whether it pushed something or
-    /// an epoch ended.
-    pub(crate) fn turn<R: Wait, G: Gate, L: Ledger>(
+    fn turn<R: Wait, G: Gate, L: Ledger>(
         &mut self,
         rt: &R,
         gate: &G,
         steps: &mut Steps<L>,
-    ) -> bool
-        requires going { (self.old.now.rank.over || self.old.now.lost) ≡ false }
-        ensures first { self.new.first ≡ self.old.first }
-    {
+    ) -> bool {
         await_turn(rt, self.turns);
         gate.turn(self.port.rank(), self.turns);
         self.turns += 1;
@@ -122,7 +74,7 @@ impl<'a, Q: Program, const CAP: usize, const HOPS: usize> AtPort<'a, Q, CAP, HOP
 }
 
 /// Returns where a rank may make its next turn. One that made 2^63 turns waits for ever.
-fn await_turn<R: Wait>(rt: &R, turns: u64)
+pub fn await_turn<R: Wait>(rt: &R, turns: u64)
     ensures { turns < 2 ^ 63 }
 {
     if turns >= TURNS {

@@ -5,9 +5,9 @@ ghost use Rattle.rank_group.specs.Children.{first_of};
 use crate::child::Child;
 use crate::gate::Gate;
 use crate::job::{Job, do_job};
+use crate::seated::Seated;
 use crate::shared::Shared;
 use rank_node::Steps;
-use round_program::Program;
 use std::sync::Wait;
 use std::sync::ledger::Ledger;
 use std::thread;
@@ -15,22 +15,21 @@ use std::thread;
 /// How far the ranks are that the caller keeps, after a turn of each.
 #[derive(Clone, Copy, PartialEq, Eq, Debug)]
 pub(crate) enum Kept {
-    /// No epoch follows for any of them.
+    /// The run of each is over.
     Over,
-    /// No turn pushed anything or ended an epoch.
+    /// No turn moved anything.
     Still,
     /// Some turn did.
     Moved,
 }
 
 /// All ranks of a drive, of which the caller turns those that it keeps.
-pub struct Keeper<'a, R: Wait, Q: Program, G: Gate, const CAP: usize, const HOPS: usize> {
-    shared: &'a Shared<'a, R, G, CAP, HOPS>,
-    children: Vec<Child<'a, Q, CAP, HOPS>>,
+pub struct Keeper<'a, R: Wait, A: Seated, G: Gate> {
+    shared: &'a Shared<'a, R, G>,
+    children: Vec<Child<A>>,
 }
 
-impl<'a, R: Wait, Q: Program, G: Gate, const CAP: usize, const HOPS: usize> Job
-    for Keeper<'a, R, Q, G, CAP, HOPS> {
+impl<'a, R: Wait, A: Seated, G: Gate> Job for Keeper<'a, R, A, G> {
     ghost use Rattle.std.specs.Prelude.{◌≡◌, map};
     ghost use Rattle.rank_group.specs.Children.{first_of};
 
@@ -53,11 +52,11 @@ impl<'a, R: Wait, Q: Program, G: Gate, const CAP: usize, const HOPS: usize> Job
 }
 
 /// Turns the ranks that the caller keeps, in turns, until the run of each is over.
-pub(crate) fn run_kept<'a, R: Wait, Q: Program, G: Gate, const CAP: usize, const HOPS: usize>(
-    shared: &'a Shared<'a, R, G, CAP, HOPS>,
-    children: Vec<Child<'a, Q, CAP, HOPS>>,
-) -> Vec<Child<'a, Q, CAP, HOPS>>
-    ensures { map first_of result.items ≡ map first_of children.entry.items }
+pub(crate) fn run_kept<'a, R: Wait, A: Seated, G: Gate>(
+    shared: &'a Shared<'a, R, G>,
+    children: Vec<Child<A>>,
+) -> Vec<Child<A>>
+    ensures { map first_of result.items ≡ map first_of children.items }
 {
     let Keeper {
         shared: _,
@@ -67,9 +66,9 @@ pub(crate) fn run_kept<'a, R: Wait, Q: Program, G: Gate, const CAP: usize, const
 }
 
 /// Turns each rank once that the caller keeps, where its run isn't over.
-fn sweep_kept<'a, R: Wait, Q: Program, G: Gate, L: Ledger, const CAP: usize, const HOPS: usize>(
-    shared: &Shared<'a, R, G, CAP, HOPS>,
-    children: &mut Vec<Child<'a, Q, CAP, HOPS>>,
+fn sweep_kept<'a, R: Wait, A: Seated, G: Gate, L: Ledger>(
+    shared: &Shared<'a, R, G>,
+    children: &mut Vec<Child<A>>,
     steps: &mut Steps<L>,
 ) -> Kept
     ensures { map first_of children.new.items ≡ map first_of children.old.items }
@@ -82,9 +81,9 @@ fn sweep_kept<'a, R: Wait, Q: Program, G: Gate, L: Ledger, const CAP: usize, con
 }
 
 /// Turns a rank once, where the caller keeps it and its run isn't over.
-fn turn_kept<'a, R: Wait, Q: Program, G: Gate, L: Ledger, const CAP: usize, const HOPS: usize>(
-    shared: &Shared<'a, R, G, CAP, HOPS>,
-    child: &mut Child<'a, Q, CAP, HOPS>,
+fn turn_kept<'a, R: Wait, A: Seated, G: Gate, L: Ledger>(
+    shared: &Shared<'a, R, G>,
+    child: &mut Child<A>,
     steps: &mut Steps<L>,
 ) -> Kept
     ensures { first_of child.new ≡ first_of child.old }

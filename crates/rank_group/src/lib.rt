@@ -9,6 +9,7 @@
 //! | `drive_threads` | the same, with each rank on a thread of its own |
 //! | `Gate::turn` | is called before each turn of a rank on a thread; an `OpenGate` holds nobody |
 //! | `Rounds::get`, `ClosedRound::epochs` | what a run leaves of its bank |
+//! | `Seated`, `run_together` | a rank at its ports, whatever it is, and the threads that turn all ranks: what `drive_threads` stands on, and further drives |
 //!
 //! `specs/Told` says what the closed round of a run tells, and how many turns a run takes at most.
 #![tactic(auto)]
@@ -30,13 +31,17 @@ mod shared;
 mod sweeping;
 mod threads;
 mod together;
+mod turned;
 mod turning;
 
+pub use at_port::await_turn;
 pub use closed_round::{ClosedRound, Rounds};
 pub use drive::{Finished, drive_serial};
 pub use gate::{Gate, OpenGate};
 pub use rank_node::{Node, Steps, Turn, Via};
+pub use seated::Seated;
 pub use threads::drive_threads;
+pub use together::run_together;
 
 #[cfg(test)]
 mod drive_tests;

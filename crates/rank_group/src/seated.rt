@@ -1,27 +1,32 @@
-//! A rank with its seat at a slot bank: what goes to a rank's thread, and comes back.
+//! A rank at its ports: what goes to a rank's thread, and comes back.
+ghost use Rattle.std.specs.Prelude.{◌≡◌, Bool, false};
+ghost use Rattle.rank_group.specs.Runs.{RanLaws};
 
-use crate::sweeping::Rank;
-use link_slots::SlotSeat;
-use round_program::Program;
-use std::marker::Model;
+use crate::gate::Gate;
+use rank_node::Steps;
+use std::sync::Wait;
+use std::sync::ledger::Ledger;
 
-/// A rank and its seat.
-#[derive(Drop)]
-pub struct Seated<Q: Program, const CAP: usize, const HOPS: usize> {
-    pub(crate) rank: Rank<Q, CAP, HOPS>,
-    pub(crate) seat: SlotSeat<CAP>,
-    /// How many turns it has made.
-    pub(crate) turns: u64,
-    /// Its run is over, and memory was wanting.
-    pub(crate) lost: bool,
-}
+/// A rank that sits at its ports and is turned until its run is over. Whoever turns it knows nothing of the other ranks.
+///
+/// | Call | Needs | Answer |
+/// |---|---|---|
+/// | `is_over` | | whether its run is over |
+/// | `turn` | its run isn't over | one turn, of which the gate is told before; whether the rank moved something |
+pub trait Seated: Drop {
+    ghost ran: { Self → Self → Type 0 };
 
-impl<Q: Program, const CAP: usize, const HOPS: usize> Model for Seated<Q, CAP, HOPS> {
-    ghost use Rattle.rank_group.specs.Seats.{SeatedState, HasWay};
+    ghost over: { Self → Bool };
 
-    ghost Value = { SeatedState Q };
+    /// Whether its run is over: it isn't turned again.
+    fn is_over(&self) -> bool
+        ensures { result ≡ over self.now };
 
-    ghost view = { λ s. record { rank = s.rank; seat = s.seat; turns = s.turns; lost = s.lost } };
+    /// Makes one turn, once the gate was told of it. Answers whether it moved something; where it didn't, others may have
+    /// to be turned first.
+    fn turn<R: Wait, G: Gate, L: Ledger>(&mut self, rt: &R, gate: &G, steps: &mut Steps<L>) -> bool
+        requires going { over self.old ≡ false }
+        ensures ran { ran self.old self.new };
 
-    ghost invariant = { λ s. HasWay Q.rules CAP (record { rank = s.rank; seat = s.seat; turns = s.turns; lost = s.lost }) };
+    ghost laws: { RanLaws ran };
 }

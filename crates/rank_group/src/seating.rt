@@ -1,4 +1,4 @@
-//! The ranks of a drive get their seats at a slot bank, and leave them.
+//! The ranks of a drive get their seats at a slot bank and go to their ports, and leave them.
 ghost use Rattle.std.specs.Prelude.{◌≡◌, ℕ, ◌<◌, ◌^◌, Bool, false, List, map, length, replicate, slice_get, slice_index_or, Some, None, IfOk, OnOk};
 ghost use Rattle.std.specs.List.{All};
 ghost use Rattle.list_laws.specs.Lists.{EachAt};
@@ -7,20 +7,20 @@ ghost use Rattle.rank_node.specs.Movers.{Manner};
 ghost use Rattle.rank_group.specs.Drives.{AreFresh};
 ghost use Rattle.rank_group.specs.Seats.{bank_of, AreSeated};
 
-use crate::seated::Seated;
+use crate::at_port::AtPort;
 use crate::sweeping::Rank;
 use bale_types::NoMemory;
 use link_slots::{GatherSeat, SlotBank};
 use round_program::Program;
 use std::alloc::Global;
 
-/// Gives each rank its seat.
-pub(crate) fn seat_all<const CAP: usize, const HOPS: usize, Q: Program>(
+/// Gives each rank its seat, with which it goes to its port.
+pub(crate) fn seat_all<'a, const CAP: usize, const HOPS: usize, Q: Program>(
     alloc: Global,
-    bank: &SlotBank<CAP>,
+    bank: &'a SlotBank<CAP>,
     gather: &mut GatherSeat<CAP>,
     all: Vec<Rank<Q, CAP, HOPS>>,
-) -> Result<Vec<Seated<Q, CAP, HOPS>>, NoMemory>
+) -> Result<Vec<AtPort<'a, Q, CAP, HOPS>>, NoMemory>
     requires bank { (gather.old.id ≡ bank.now.id) × (gather.old.shape ≡ bank.now.shape) }
     requires none { gather.old.given ≡ replicate (ranks bank.now.shape.dims) false }
     requires size { length all.items ≡ ranks bank.now.shape.dims }
@@ -34,9 +34,10 @@ pub(crate) fn seat_all<const CAP: usize, const HOPS: usize, Q: Program>(
     let mut number = 0;
     for rank in all {
         let seat = bank.seat(gather, number);
-        seated.push(Seated {
+        let port = bank.port(seat);
+        seated.push(AtPort {
             rank,
-            seat,
+            port,
             turns: 0,
             lost: false,
         })?;
@@ -49,32 +50,32 @@ pub(crate) fn seat_all<const CAP: usize, const HOPS: usize, Q: Program>(
 ///
 /// # Errors
 /// `NoMemory` where memory was wanting at the end of a rank's run, or for the list.
-pub(crate) fn gather_all<const CAP: usize, const HOPS: usize, Q: Program>(
+pub(crate) fn gather_all<'a, const CAP: usize, const HOPS: usize, Q: Program>(
     alloc: Global,
     bank: &SlotBank<CAP>,
     gather: &mut GatherSeat<CAP>,
-    ended: Vec<Seated<Q, CAP, HOPS>>,
+    ended: Vec<AtPort<'a, Q, CAP, HOPS>>,
 ) -> Result<Vec<Rank<Q, CAP, HOPS>>, NoMemory>
     requires bank { (gather.old.id ≡ bank.now.id) × (gather.old.shape ≡ bank.now.shape) }
     requires same { All (λ y. bank_of y ≡ bank.now) ended.items }
     requires number { EachAt (λ r y. y.seat.rank ≡ r) ended.items }
     ensures bank { (gather.new.id ≡ bank.now.id) × (gather.new.shape ≡ bank.now.shape) }
-    ensures ranks { IfOk result (λ rs. rs.items ≡ map (λ y. y.rank) ended.items) }
-    ensures none_lost { OnOk result (All (λ y. y.lost ≡ false) ended.items) }
-    ensures there { OnOk result (EachAt (λ r y. slice_index_or gather.new.lists r None ≡ Some y.seat.lists) ended.items) }
+    ensures ranks { IfOk result (λ rs. rs.items ≡ map (λ y. y.rank) ended.entry.items) }
+    ensures none_lost { OnOk result (All (λ y. y.lost ≡ false) ended.entry.items) }
+    ensures there { OnOk result (EachAt (λ r y. slice_index_or gather.new.lists r None ≡ Some y.seat.lists) ended.entry.items) }
 {
     let mut ranks = Vec::new(alloc);
     for seated in ended {
-        let Seated {
+        let AtPort {
             rank,
-            seat,
+            port,
             turns: _,
             lost,
         } = seated;
         if lost {
             return Err(NoMemory);
         }
-        bank.gather(gather, seat);
+        bank.gather(gather, port.into_seat());
         ranks.push(rank)?;
     }
     Ok(ranks)

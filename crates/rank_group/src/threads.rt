@@ -100,7 +100,7 @@ pub(crate) fn drive_with<
     let all = ranks_of::<CAP, HOPS, Q>(alloc, grid, via, steady, progs)?;
     let (bank, mut gather) = SlotBank::<CAP>::new(alloc, grid, slots)?;
     let seated = seat_all(alloc, &bank, &mut gather, all)?;
-    let ended = run_together(rt, alloc, &bank, gate, threads, seated)?;
+    let ended = run_together(rt, alloc, gate, threads, seated)?;
     let over = gather_all(alloc, &bank, &mut gather, ended)?;
     let mut rounds = Rounds::new(alloc);
     rounds.add(ClosedRound::Slots(bank.close(gather)))?;

@@ -1,19 +1,17 @@
 //! All ranks of a drive on threads, side by side.
-ghost use Rattle.std.specs.Prelude.{◌≡◌, ◌≤◌, ◌||◌, true, [], map, length, vec_capacity, IfOk};
+ghost use Rattle.std.specs.Prelude.{◌≡◌, ◌<◌, ◌≤◌, true, List, [], ◌∷◌, ◌++◌, map, length, vec_capacity, IfOk};
 ghost use Rattle.std.specs.List.{All};
-ghost use Rattle.rank_group.specs.Seats.{bank_of, Ran, AllRan};
+ghost use Rattle.rank_group.specs.Runs.{AllRan};
 ghost use Rattle.rank_group.specs.Children.{first_of};
 
 use crate::alone::run_alone;
-use crate::at_port::AtPort;
 use crate::child::{Child, start};
 use crate::gate::Gate;
 use crate::keeper::run_kept;
 use crate::seated::Seated;
 use crate::shared::Shared;
+use crate::turned::Turned;
 use bale_types::NoMemory;
-use link_slots::SlotBank;
-use round_program::Program;
 use std::alloc::Global;
 use std::snapshot::Snapshot;
 use std::sync::Wait;
@@ -22,65 +20,49 @@ use std::thread;
 use std::thread::{Scope, Threads};
 
 /// Turns all ranks until the run of each is over: the first `threads` of them on a thread each, and those here that have none.
+/// It waits for its threads.
 ///
 /// # Errors
 /// `NoMemory` comes before the first turn.
-pub(crate) fn run_together<
-    R: Threads + Wait + Sync,
-    Q: Program + Send,
-    G: Gate + Sync,
-    const CAP: usize,
-    const HOPS: usize,
->(
+pub fn run_together<R: Threads + Wait + Sync, A: Seated + Send, G: Gate + Sync>(
     rt: &R,
     alloc: Global,
-    bank: &SlotBank<CAP>,
     gate: &G,
     threads: usize,
-    all: Vec<Seated<Q, CAP, HOPS>>,
-) -> Result<Vec<Seated<Q, CAP, HOPS>>, NoMemory>
-    requires bank { All (λ x. bank_of x ≡ bank.now) all.items }
-    ensures ran { IfOk result (λ ended. AllRan Q.rules CAP all.items ended.items) }
-    ensures over { IfOk result (λ ended. All (λ y. (y.rank.over || y.lost) ≡ true) ended.items) }
+    all: Vec<A>,
+) -> Result<Vec<A>, NoMemory>
+    ensures ran { IfOk result (λ ended. AllRan A.ran all.items ended.items) }
+    ensures over { IfOk result (λ ended. All (λ y. A.over y ≡ true) ended.items) }
 {
     let kept = flags(alloc, all.len())?;
     let ended = Vec::with_capacity(alloc, all.len())?;
-    let shared = Shared { rt, bank, gate };
+    let shared = Shared { rt, gate };
     let (shared, kept) = (&shared, kept.as_slice());
     thread::scope(
         thread::scope_env(),
         rt,
-        move |scope| -> Result<Vec<Seated<Q, CAP, HOPS>>, NoMemory>
-            requires { All (λ x. bank_of x ≡ shared.now.bank.now) all.items × (length kept.now ≡ length all.items) × (ended.items ≡ []) × (length all.items ≤ vec_capacity ended) }
-            ensures { IfOk result (λ ys. AllRan Q.rules CAP all.items ys.items × All (λ y. (y.rank.over || y.lost) ≡ true) ys.items) }
+        move |scope| -> Result<Vec<A>, NoMemory>
+            requires { (length kept.now ≡ length all.items) × (ended.items ≡ []) × (length all.items ≤ vec_capacity ended) }
+            ensures { IfOk result (λ ys. AllRan A.ran all.items ys.items × All (λ y. A.over y ≡ true) ys.items) }
         { run_in(scope, shared, alloc, kept, threads, all, ended) },
     )
 }
 
 /// The same in a scope, with room for what comes back.
-fn run_in<
-    's,
-    E,
-    R: Threads + Wait + Sync + 's,
-    Q: Program + Send + 's,
-    G: Gate + Sync + 's,
-    const CAP: usize,
-    const HOPS: usize,
->(
+fn run_in<'s, E, R: Threads + Wait + Sync + 's, A: Seated + Send + 's, G: Gate + Sync + 's>(
     scope: &Scope<'s, E>,
-    shared: &'s Shared<'s, R, G, CAP, HOPS>,
+    shared: &'s Shared<'s, R, G>,
     alloc: Global,
     kept: &'s [AtomicBool],
     threads: usize,
-    all: Vec<Seated<Q, CAP, HOPS>>,
-    ended: Vec<Seated<Q, CAP, HOPS>>,
-) -> Result<Vec<Seated<Q, CAP, HOPS>>, NoMemory>
-    requires bank { All (λ x. bank_of x ≡ shared.now.bank.now) all.items }
+    all: Vec<A>,
+    ended: Vec<A>,
+) -> Result<Vec<A>, NoMemory>
     requires kept { length kept.now ≡ length all.items }
     requires none { ended.items ≡ [] }
     requires room { length all.items ≤ vec_capacity ended }
-    ensures ran { IfOk result (λ ys. AllRan Q.rules CAP all.items ys.items) }
-    ensures over { IfOk result (λ ys. All (λ y. (y.rank.over || y.lost) ≡ true) ys.items) }
+    ensures ran { IfOk result (λ ys. AllRan A.ran all.items ys.items) }
+    ensures over { IfOk result (λ ys. All (λ y. A.over y ≡ true) ys.items) }
 {
     let children = Vec::with_capacity(alloc, all.len())?;
     let children = start_all(scope, shared, kept, threads, all, children);
@@ -100,23 +82,14 @@ fn flags(alloc: Global, count: usize) -> Result<Vec<AtomicBool>, NoMemory>
 }
 
 /// Starts a thread for each of the first ranks.
-fn start_all<
-    's,
-    E,
-    R: Wait + Sync + 's,
-    Q: Program + Send + 's,
-    G: Gate + Sync + 's,
-    const CAP: usize,
-    const HOPS: usize,
->(
+fn start_all<'s, E, R: Wait + Sync + 's, A: Seated + Send + 's, G: Gate + Sync + 's>(
     scope: &Scope<'s, E>,
-    shared: &'s Shared<'s, R, G, CAP, HOPS>,
+    shared: &'s Shared<'s, R, G>,
     kept: &'s [AtomicBool],
     threads: usize,
-    all: Vec<Seated<Q, CAP, HOPS>>,
-    children: Vec<Child<'s, Q, CAP, HOPS>>,
-) -> Vec<Child<'s, Q, CAP, HOPS>>
-    requires bank { All (λ x. bank_of x ≡ shared.now.bank.now) all.items }
+    all: Vec<A>,
+    children: Vec<Child<A>>,
+) -> Vec<Child<A>>
     requires kept { length kept.now ≡ length all.items }
     requires none { children.items ≡ [] }
     requires room { length all.items ≤ vec_capacity children }
@@ -124,11 +97,11 @@ fn start_all<
 {
     let mut children = children;
     let mut number = 0;
-    for seated in all {
+    for at in all {
         let child = if number < threads {
-            start(scope, shared, &kept[number], seated)
+            start(scope, shared, &kept[number], at)
         } else {
-            keep(shared, seated)
+            keep(at)
         };
         let Ok(()) = children.push(child) else {
             unreachable!()
@@ -139,48 +112,47 @@ fn start_all<
 }
 
 /// Keeps a rank here.
-fn keep<'s, R, Q: Program, G, const CAP: usize, const HOPS: usize>(
-    shared: &'s Shared<'s, R, G, CAP, HOPS>,
-    seated: Seated<Q, CAP, HOPS>,
-) -> Child<'s, Q, CAP, HOPS>
-    requires bank { bank_of seated ≡ shared.now.bank.now }
-    ensures { first_of result ≡ seated }
+fn keep<A: Seated>(at: A) -> Child<A>
+    ensures { first_of result ≡ at }
 {
-    let first = Snapshot::of(&seated);
-    Child::Here(AtPort::new(shared.bank, seated, first))
+    let first = Snapshot::of(&at);
+    Child::Here(Turned::new(at, first))
 }
 
 /// Waits for all threads, and takes the ranks back.
-fn join_all<'s, R: Threads + Wait, Q: Program, G: Gate, const CAP: usize, const HOPS: usize>(
-    shared: &'s Shared<'s, R, G, CAP, HOPS>,
-    children: Vec<Child<'s, Q, CAP, HOPS>>,
-    ended: Vec<Seated<Q, CAP, HOPS>>,
-) -> Vec<Seated<Q, CAP, HOPS>>
-    requires bank { All (λ x. bank_of x ≡ shared.now.bank.now) (map first_of children.items) }
+fn join_all<'s, R: Threads + Wait, A: Seated, G: Gate>(
+    shared: &'s Shared<'s, R, G>,
+    children: Vec<Child<A>>,
+    ended: Vec<A>,
+) -> Vec<A>
     requires none { ended.items ≡ [] }
     requires room { length children.items ≤ vec_capacity ended }
-    ensures ran { AllRan Q.rules CAP (map first_of children.entry.items) result.items }
-    ensures over { All (λ y. (y.rank.over || y.lost) ≡ true) result.items }
+    ensures ran { AllRan A.ran (map first_of children.items) result.items }
+    ensures over { All (λ y. A.over y ≡ true) result.items }
 {
     let mut ended = ended;
     for child in children {
-        let seated = run_alone(shared, join(shared.rt, child));
-        let Ok(()) = ended.push(seated) else {
-            unreachable!()
-        };
+        match child {
+            Child::There(handle) => come_back(shared, &mut ended, handle.join(shared.rt)),
+            Child::Here(kept) => come_back(shared, &mut ended, kept.into_rank()),
+        }
     }
     ended
 }
 
-/// Takes a rank back, from its thread once that has ended.
-fn join<'s, R: Threads, Q: Program, const CAP: usize, const HOPS: usize>(
-    rt: &R,
-    child: Child<'s, Q, CAP, HOPS>,
-) -> Seated<Q, CAP, HOPS>
-    ensures { Ran Q.rules CAP (first_of child.entry) result }
+/// A rank comes back. Its run goes to its end, which it has mostly reached.
+fn come_back<'s, R: Wait, A: Seated, G: Gate>(
+    shared: &'s Shared<'s, R, G>,
+    ended: &mut Vec<A>,
+    at: A,
+)
+    requires room { length ended.old.items < vec_capacity ended.old }
+    ensures ran { (xs : List A) (x : A) → AllRan A.ran xs ended.old.items → A.ran x at → AllRan A.ran (xs ++ x ∷ []) ended.new.items }
+    ensures over { All (λ y. A.over y ≡ true) ended.old.items → All (λ y. A.over y ≡ true) ended.new.items }
+    ensures capacity { vec_capacity ended.old ≤ vec_capacity ended.new }
 {
-    match child {
-        Child::There(handle) => handle.join(rt),
-        Child::Here(at) => at.into_seated(),
-    }
+    let over = run_alone(shared, at);
+    let Ok(()) = ended.push(over) else {
+        unreachable!()
+    };
 }

@@ -9,12 +9,13 @@ pub loop-seated-preserved : goal.loop-seated-preserved
 loop-seated-preserved g c =
     let b = c.args.bank.now in
     let i = c.seated.inside in
-    let y : SeatedState g.row.Q.Denot = record { rank = i.rank; seat = i.seat; turns = i.turns; lost = i.lost } in
+    let y : SeatedState g.row.Q.Denot = record { rank = i.rank; seat = c.into_seat.result; turns = i.turns; lost = i.lost } in
+    let here = ap (λ s. record { rank = i.rank; seat = s; turns = i.turns; lost = i.lost }) c.into_seat.ensures.seat ∙ c.seated.view_is in
     let rest = into_iter_items c.next.new.self in
     let v = c.loop-seated.invariant in
     let t = c.gather.ensures in
-    let is = c.in-Some.ensures.steps.0 ∙ ap (λ z. z ∷ rest) (sym c.seated.view_is) in
+    let is = c.in-Some.ensures.steps.0 ∙ ap (λ z. z ∷ rest) (sym here) in
     let number = next_number b c.loop-seated.gather c.args.ended.items c.loop-seated.yielded rest (into_iter_items c.loop-seated.seated-iterator) c.loop-seated.ranks.items v y is c.requires.number in
-    subst (λ (z : SeatedState g.row.Q.Denot). Leaving b c.gather.new.g c.args.ended.items (c.loop-seated.yielded ++ z ∷ []) rest c.push.new.self.items) c.seated.view_is
+    subst (λ (z : SeatedState g.row.Q.Denot). Leaving b c.gather.new.g c.args.ended.items (c.loop-seated.yielded ++ z ∷ []) rest c.push.new.self.items) here
     (leaving_more b c.loop-seated.gather c.args.ended.items c.loop-seated.yielded rest (into_iter_items c.loop-seated.seated-iterator) c.loop-seated.ranks.items v y is
     c.gather.new.g c.push.new.self.items number c.if-lost.false (ap (λ (z : Gathering). z.id) t.gather, ap (λ (z : Gathering). z.shape) t.gather) t.there t.others c.in_ok-push.ensures.items)

@@ -12,14 +12,8 @@ use Rattle.rank_group.specs.Drives.{progs_of, AreFresh}
 use Rattle.rank_group.specs.Told.{Made, TellsRun}
 use Rattle.rank_group.proofs.Ended.{have_ended}
 use Rattle.rank_group.proofs.Telling.{tells_run}
-use Rattle.rank_group.proofs.Threaded.{sat_at, numbered_at, seats_at, all_there, history, all_ranked, all_over}
+use Rattle.rank_group.proofs.Threaded.{sat_at, numbered_at, all_there, history, all_ranked, all_over}
 use Rattle.rank_group.proofs.threads.drive_with.Goals as goal
-
-pub run_together-requires-clause-bank : goal.run_together-requires-clause-bank
-run_together-requires-clause-bank g c κs within =
-    let R = g.Q.Program.rules in
-    let fresh = subst (λ (h : Shape). AreFresh R h.dims g.row.CAP (manner_of c.args.via c.args.steady) c.args.progs c.in_ok-all.all.items) (sym c.in_ok-bank.ensures.bank) c.in_ok-all.ensures.fresh in
-    (search rules, (search rules, seats_at R g.row.CAP (manner_of c.args.via c.args.steady) c.in_ok-bank.bank c.in_ok-seated.seated.items (c.in_ok-seated.ensures.seated (manner_of c.args.via c.args.steady) c.args.progs fresh)))
 
 pub gather_all-requires : goal.gather_all-requires
 gather_all-requires g c =

@@ -3,9 +3,9 @@ use Rattle.std.specs.Vec.Iter.{into_iter_items}
 use Rattle.rank_group.specs.Children.{first_of}
 use Rattle.rank_group.proofs.together.start_all.Given as goal
 
-abbrev pub invariant-loop-seated : goal.invariant-loop-seated
-invariant-loop-seated g l = record {
-  left : l.yielded ++ into_iter_items l.seated-iterator ≡ l.fn.all.items;
+abbrev pub invariant-loop-at : goal.invariant-loop-at
+invariant-loop-at g l = record {
+  left : l.yielded ++ into_iter_items l.at-iterator ≡ l.fn.all.items;
   count : l.number ≡ length l.yielded;
   same : map first_of l.children.items ≡ l.yielded;
   room : length l.fn.all.items ≤ vec_capacity l.children;

@@ -1,5 +1,4 @@
-use Rattle.std.proofs.Common.{◌≡◌}
 use Rattle.rank_group.proofs.alone.AloneJob.work.Given as goal
 
 abbrev pub invariant-loop : goal.invariant-loop
-invariant-loop g l = l.at.first ≡ l.fn.self.at.first
+invariant-loop g l = g.A.Seated.ran l.fn.self.at l.at

@@ -3,7 +3,7 @@ use Rattle.std.specs.List.{flat_map}
 use Rattle.bale_types.specs.Stream.{after, IsFront}
 use Rattle.bale_types.specs.Out.{appended}
 use Rattle.app_histo_ig.specs.IgLines.{column_sum, ig_line}
-use Rattle.app_histo_ig.proofs.ig_run.ig_write.Given as goal
+use Rattle.app_histo_ig.proofs.answered.write_sums.Given as goal
 
 abbrev pub invariant-loop-e : goal.invariant-loop-e
 invariant-loop-e g l = record {

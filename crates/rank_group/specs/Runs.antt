@@ -1,0 +1,18 @@
+-- What turns leave of ranks, whatever a rank is.
+use Rattle.std.specs.Prelude.{◌≡◌, ℕ, List, length, slice_get, Some}
+
+-- The laws of a relation `ran` between a rank before some turns and after them.
+-- none: it holds where no turn was made. on: and from some turns to further ones.
+pub record RanLaws {S : Type 0} (ran : S → S → Type 0) : Type 0 where
+  pub none : (x : S) → ran x x
+  pub on : (x y z : S) → ran x y → ran y z → ran x z
+
+-- It holds of each of some ranks, xs before turns and ys after them.
+pub record AllRan {S : Type 0} (ran : S → S → Type 0) (xs ys : List S) : Type 0 where
+  pub all : length ys ≡ length xs
+  pub each : (r : ℕ) (x y : S) → slice_get xs r ≡ Some x → slice_get ys r ≡ Some y → ran x y
+
+-- A rank that is turned, and what it was before.
+pub record TurnedState (S : Type 0) : Type 0 where
+  pub first : S
+  pub now : S

@@ -1,9 +1,11 @@
 -- What the tests of the drive begin with.
-use Rattle.std.proofs.Common.{◌≡◌, ℕ, ◌+◌, ◌-◌, ◌^◌, ◌<◌, Bool, true, false, cond, List, [], ◌∷◌, ◌++◌, length, length-append, slice_get, Some, All, refl, sym, ap, subst, ◌∙◌, arith, inl, inr}
+use Rattle.std.proofs.Common.{◌≡◌, ℕ, ◌+◌, ◌*◌, ◌-◌, ◌^◌, ◌<◌, ◌==◌, Bool, true, false, cond, List, [], ◌∷◌, ◌++◌, length, length-append, map, slice_get, Some, All, refl, sym, ap, subst, ◌∙◌, arith, inl, inr}
 use Rattle.std.proofs.lemmas.Bool.{cases_lt}
 use Rattle.list_laws.proofs.Lists.{within, get_once, get_last, get_before, all_from_gets}
-use Rattle.round_program.specs.Canonical.{Member, InRound, EndsWithin}
-use Rattle.round_examples.specs.Counts.{CountState, count_rules}
+use Rattle.std.proofs.lemmas.List.{length-map}
+use Rattle.std.proofs.lemmas.List.Sums.{sum_by_push}
+use Rattle.round_program.specs.Canonical.{Member, InRound, EndsWithin, items_at}
+use Rattle.round_examples.specs.Counts.{CountState, count_rules, to_owner}
 use Rattle.rank_group.specs.Ranks.{IsOrder}
 
 abbrev pub turned_at : Bool → ℕ → ℕ → ℕ
@@ -86,3 +88,9 @@ counted_all p k i progs v end = record { size = v.size ∙ end; each = v.each }
 -- they count in one round
 pub one_round : (progs : List CountState) → EndsWithin count_rules progs 1
 one_round progs = record { rounds = 1; has_rounds = record { some = omega arith; goes = λ m low. absurd (omega (arith, low)); stops = refl }; at_most = omega arith }
+
+-- one more program of four items
+pub items_more : (i : ℕ) (progs progs' : List CountState) (s : CountState) → progs' ≡ progs ++ s ∷ [] → s.round ≡ 0 → length s.names ≡ 4 → items_at count_rules progs 0 ≡ 4 * i → items_at count_rules progs' 0 ≡ 4 * (i + 1)
+items_more i progs progs' s more first four before =
+    let sent : length (count_rules.emissions s) ≡ 4 = ap (λ (b : Bool). length (cond b (map (to_owner s.ranks) s.names) [])) (ap (λ k. k == 0) first) ∙ (length-map s.names (to_owner s.ranks) ∙ four) in
+    ap (λ p. items_at count_rules p 0) more ∙ (sum_by_push (λ t. length (count_rules.emissions t)) progs s ∙ omega (arith, before, sent))

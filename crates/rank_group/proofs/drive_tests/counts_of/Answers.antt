@@ -1,4 +1,4 @@
-use Rattle.std.proofs.Common.{ap, ◌∙◌, sym, arith}
+use Rattle.std.proofs.Common.{ap, length, ◌∙◌, arith}
 use Rattle.rank_group.proofs.DriveTests.{counted_more, items_more}
 use Rattle.rank_group.proofs.drive_tests.counts_of.Goals as goal
 

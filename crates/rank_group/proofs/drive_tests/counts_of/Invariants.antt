@@ -1,4 +1,4 @@
-use Rattle.std.proofs.Common.{◌≡◌, ◌*◌, ◌×◌}
+use Rattle.std.proofs.Common.{◌≡◌, ◌*◌}
 use Rattle.round_program.specs.Canonical.{items_at}
 use Rattle.round_examples.specs.Counts.{count_rules}
 use Rattle.rank_group.proofs.DriveTests.{Counted}

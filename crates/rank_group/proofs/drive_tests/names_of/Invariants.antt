@@ -1,4 +1,4 @@
-use Rattle.std.proofs.Common.{◌≡◌, ◌<◌, ◌×◌, All, length}
+use Rattle.std.proofs.Common.{◌≡◌, ◌<◌, All, length}
 use Rattle.rank_group.proofs.drive_tests.names_of.Given as goal
 
 abbrev pub invariant-loop-i : goal.invariant-loop-i

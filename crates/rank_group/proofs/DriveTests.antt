@@ -1,10 +1,14 @@
 -- What the tests of the drive begin with.
-use Rattle.std.proofs.Common.{◌≡◌, ℕ, ◌+◌, ◌-◌, ◌^◌, ◌<◌, Bool, true, false, cond, List, [], ◌∷◌, ◌++◌, length, length-append, slice_get, Some, All, refl, sym, ap, subst, ◌∙◌, arith, inl, inr}
+use Rattle.std.proofs.Common.{◌≡◌, ℕ, ◌+◌, ◌*◌, ◌-◌, ◌^◌, ◌<◌, ◌==◌, Bool, true, false, cond, List, [], ◌∷◌, ◌++◌, length, length-append, map, slice_get, Some, All, refl, sym, ap, subst, ◌∙◌, arith, inl, inr}
 use Rattle.std.proofs.lemmas.Bool.{cases_lt}
 use Rattle.list_laws.proofs.Lists.{within, get_once, get_last, get_before, all_from_gets}
-use Rattle.round_program.specs.Canonical.{Member, InRound, EndsWithin}
-use Rattle.round_examples.specs.Counts.{CountState, count_rules}
+use Rattle.std.proofs.lemmas.List.{length-map}
+use Rattle.std.proofs.lemmas.List.Sums.{sum_by_push}
+use Rattle.route_tensor.specs.Grid.{ranks}
+use Rattle.round_program.specs.Canonical.{Member, InRound, HasRounds, EndsWithin, items_at}
+use Rattle.round_examples.specs.Counts.{CountState, count_rules, to_owner}
 use Rattle.rank_group.specs.Ranks.{IsOrder}
+use Rattle.rank_group.specs.Told.{turns_of, turns_within}
 
 abbrev pub turned_at : Bool → ℕ → ℕ → ℕ
 turned_at reversed n k = cond reversed (n - 1 - k) k
@@ -84,5 +88,26 @@ pub counted_all : (p k i : ℕ) (progs : List CountState) → Counted p k i prog
 counted_all p k i progs v end = record { size = v.size ∙ end; each = v.each }
 
 -- they count in one round
+pub has_one_round : (progs : List CountState) → HasRounds count_rules progs 1
+has_one_round progs = record { some = omega arith; goes = λ m low. absurd (omega (arith, low)); stops = refl }
+
 pub one_round : (progs : List CountState) → EndsWithin count_rules progs 1
-one_round progs = record { rounds = 1; has_rounds = record { some = omega arith; goes = λ m low. absurd (omega (arith, low)); stops = refl }; at_most = omega arith }
+one_round progs = record { rounds = 1; has_rounds = has_one_round progs; at_most = omega arith }
+
+-- one more program of four items
+pub items_more : (i : ℕ) (progs progs' : List CountState) (s : CountState) → progs' ≡ progs ++ s ∷ [] → s.round ≡ 0 → length s.names ≡ 4 → items_at count_rules progs 0 ≡ 4 * i → items_at count_rules progs' 0 ≡ 4 * (i + 1)
+items_more i progs progs' s more first four before =
+    let sent : length (count_rules.emissions s) ≡ 4 = ap (λ (b : Bool). length (cond b (map (to_owner s.ranks) s.names) [])) (ap (λ k. k == 0) first) ∙ (length-map s.names (to_owner s.ranks) ∙ four) in
+    ap (λ p. items_at count_rules p 0) more ∙ (sum_by_push (λ t. length (count_rules.emissions t)) progs s ∙ omega (arith, before, sent))
+
+-- one rank with four items takes 26 turns at most
+pub few_turns : (dims : List ℕ) (progs : List CountState) → dims ≡ 1 ∷ [] → items_at count_rules progs 0 ≡ 4 → turns_within count_rules dims progs 1 ≡ 26
+unfolding ranks
+few_turns dims progs one four =
+    let work : turns_of (1 ∷ []) (items_at count_rules progs 0) ≡ 19 = ap (turns_of (1 ∷ [])) four in
+    let votes : turns_of (1 ∷ []) (ranks (1 ∷ []) * ranks (1 ∷ [])) ≡ 7 = refl in
+    ap (λ d. turns_within count_rules d progs 1) one ∙ omega (arith, work, votes)
+
+pub one_rank : (dims : List ℕ) → dims ≡ 1 ∷ [] → ranks dims ≡ 1
+unfolding ranks
+one_rank dims one = ap ranks one

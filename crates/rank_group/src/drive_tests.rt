@@ -1,8 +1,8 @@
 //! Counts by `drive_serial`: one to three hops, with the ranks of a sweep in both orders.
-ghost use Rattle.std.specs.Prelude.{◌≡◌, ◌<◌, ◌≤◌, ◌-◌, ◌∷◌, [], cond, length, IfOk};
+ghost use Rattle.std.specs.Prelude.{◌≡◌, ◌+◌, ◌<◌, ◌≤◌, ◌-◌, ◌∷◌, [], cond, length, IfOk};
 ghost use Rattle.std.specs.List.{All};
 ghost use Rattle.route_tensor.specs.Grid.{ranks};
-ghost use Rattle.round_program.specs.Canonical.{InRound};
+ghost use Rattle.round_program.specs.Canonical.{InRound, items_at};
 ghost use Rattle.round_examples.specs.Counts.{count_rules};
 ghost use Rattle.rank_group.specs.Ranks.{IsOrder};
 
@@ -48,7 +48,8 @@ fn column_of(i: u32) -> u32
 /// The columns of a rank's entries.
 fn names_of(alloc: Global, ranks: u32, rank: u32) -> Result<Vec<u32>, NoMemory>
     requires { rank < ranks }
-    ensures { IfOk result (λ names. All (λ j. j < 3) names.items) }
+    ensures columns { IfOk result (λ names. All (λ j. j < 3) names.items) }
+    ensures all { ranks ≡ 1 → IfOk result (λ names. length names.items ≡ 4) }
 {
     let mut names = Vec::new(alloc);
     for i in 0..4 {
@@ -61,7 +62,8 @@ fn names_of(alloc: Global, ranks: u32, rank: u32) -> Result<Vec<u32>, NoMemory>
 
 /// A counting program for each rank.
 fn counts_of(alloc: Global, ranks: u32) -> Result<Progs<Count>, NoMemory>
-    ensures { IfOk result (λ progs. InRound count_rules ranks 0 (3 ∷ []) 1 progs) }
+    ensures round { IfOk result (λ progs. InRound count_rules ranks 0 (3 ∷ []) 1 progs) }
+    ensures items { ranks ≡ 1 → IfOk result (λ progs. items_at count_rules progs 0 ≡ 4) }
 {
     let mut progs = Progs::new(alloc);
     for rank in 0..ranks {
@@ -98,6 +100,7 @@ fn count<const CAP: usize, const HOPS: usize, L: Ledger>(
     requires some { 0 < CAP }
     requires small { CAP ≤ 1024 }
     requires hops { length grid.now ≡ HOPS }
+    ensures few_steps { grid.now ≡ 1 ∷ [] → steps.new ≤ steps.old + 26 }
 {
     let ranks = grid.ranks();
     let progs = counts_of(alloc, ranks)?;
@@ -120,12 +123,14 @@ fn count<const CAP: usize, const HOPS: usize, L: Ledger>(
     Ok((totals(&progs), rounds.len(), epochs))
 }
 
-/// One rank.
+/// One rank: its two epochs take 26 turns at most.
 fn one_rank<L: Ledger>(
     alloc: Global,
     reversed: bool,
     steps: &mut Steps<L>,
-) -> Result<Option<Told>, NoMemory> {
+) -> Result<Option<Told>, NoMemory>
+    ensures few_steps { steps.new ≤ steps.old + 26 }
+{
     let Ok(grid) = Grid::new(&[1]) else {
         return Ok(None);
     };

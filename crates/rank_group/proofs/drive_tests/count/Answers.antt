@@ -1,8 +1,8 @@
-use Rattle.std.proofs.Common.{[], ◌∷◌, refl, subst}
+use Rattle.std.proofs.Common.{[], ◌∷◌, refl, subst, ◌∙◌, arith}
 use Rattle.port_bank.specs.Port.{IsSlots}
 use Rattle.round_program.specs.Canonical.{InRound}
 use Rattle.round_examples.specs.Counts.{count_rules}
-use Rattle.rank_group.proofs.DriveTests.{one_round}
+use Rattle.rank_group.proofs.DriveTests.{has_one_round, one_round, few_turns, one_rank}
 use Rattle.rank_group.proofs.drive_tests.count.Goals as goal
 
 pub drive_serial-requires-clause-slots : goal.drive_serial-requires-clause-slots
@@ -11,4 +11,10 @@ drive_serial-requires-clause-slots g c = refl
 
 pub drive_serial-requires-clause-begins : goal.drive_serial-requires-clause-begins
 drive_serial-requires-clause-begins g c =
-    (3 ∷ [], 1, subst (λ p. InRound count_rules p 0 (3 ∷ []) 1 c.in_ok-progs.progs) c.ranks-ranks.ensures.value c.in_ok-progs.ensures, one_round c.in_ok-progs.progs)
+    (3 ∷ [], 1, subst (λ p. InRound count_rules p 0 (3 ∷ []) 1 c.in_ok-progs.progs) c.ranks-ranks.ensures.value c.in_ok-progs.ensures.round, one_round c.in_ok-progs.progs)
+
+pub returns : goal.returns
+returns g c = record { few_steps = λ one. omega (arith, c.drive_serial.ensures.steps 1 (has_one_round c.in_ok-progs.progs), few_turns c.args.grid.now c.in_ok-progs.progs one (c.in_ok-progs.ensures.items (c.ranks-ranks.ensures.value ∙ one_rank c.args.grid.now one))) }
+
+pub returns-in_err-finished : goal.returns-in_err-finished
+returns-in_err-finished g c = record { few_steps = λ one. omega (arith, c.drive_serial.ensures.steps 1 (has_one_round c.in_ok-progs.progs), few_turns c.args.grid.now c.in_ok-progs.progs one (c.in_ok-progs.ensures.items (c.ranks-ranks.ensures.value ∙ one_rank c.args.grid.now one))) }

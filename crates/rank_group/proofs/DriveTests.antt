@@ -7,6 +7,7 @@ use Rattle.std.proofs.lemmas.List.Sums.{sum_by_push}
 use Rattle.route_tensor.specs.Grid.{ranks}
 use Rattle.round_program.specs.Canonical.{Member, InRound, HasRounds, EndsWithin, items_at}
 use Rattle.round_examples.specs.Counts.{CountState, count_rules, to_owner}
+use Rattle.rank_node.specs.Movers.Manner.{ByConveyor}
 use Rattle.rank_group.specs.Ranks.{IsOrder}
 use Rattle.rank_group.specs.Told.{turns_of, turns_within}
 
@@ -101,12 +102,12 @@ items_more i progs progs' s more first four before =
     ap (λ p. items_at count_rules p 0) more ∙ (sum_by_push (λ t. length (count_rules.emissions t)) progs s ∙ omega (arith, before, sent))
 
 -- one rank with four items takes 26 turns at most
-pub few_turns : (dims : List ℕ) (progs : List CountState) → dims ≡ 1 ∷ [] → items_at count_rules progs 0 ≡ 4 → turns_within count_rules dims progs 1 ≡ 26
+pub few_turns : (steady : Bool) (dims : List ℕ) (progs : List CountState) → dims ≡ 1 ∷ [] → items_at count_rules progs 0 ≡ 4 → turns_within count_rules (ByConveyor steady) dims progs 1 ≡ 26
 unfolding ranks
-few_turns dims progs one four =
-    let work : turns_of (1 ∷ []) (items_at count_rules progs 0) ≡ 19 = ap (turns_of (1 ∷ [])) four in
-    let votes : turns_of (1 ∷ []) (ranks (1 ∷ []) * ranks (1 ∷ [])) ≡ 7 = refl in
-    ap (λ d. turns_within count_rules d progs 1) one ∙ omega (arith, work, votes)
+few_turns steady dims progs one four =
+    let work : turns_of (ByConveyor steady) (1 ∷ []) (items_at count_rules progs 0) ≡ 19 = ap (turns_of (ByConveyor steady) (1 ∷ [])) four in
+    let votes : turns_of (ByConveyor steady) (1 ∷ []) (ranks (1 ∷ []) * ranks (1 ∷ [])) ≡ 7 = refl in
+    ap (λ d. turns_within count_rules (ByConveyor steady) d progs 1) one ∙ omega (arith, work, votes)
 
 pub one_rank : (dims : List ℕ) → dims ≡ 1 ∷ [] → ranks dims ≡ 1
 unfolding ranks

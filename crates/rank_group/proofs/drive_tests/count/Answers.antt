@@ -14,7 +14,7 @@ drive_serial-requires-clause-begins g c =
     (3 ∷ [], 1, subst (λ p. InRound count_rules p 0 (3 ∷ []) 1 c.in_ok-progs.progs) c.ranks-ranks.ensures.value c.in_ok-progs.ensures.round, one_round c.in_ok-progs.progs)
 
 pub returns : goal.returns
-returns g c = record { few_steps = λ one. omega (arith, c.drive_serial.ensures.steps 1 (has_one_round c.in_ok-progs.progs), few_turns c.args.grid.now c.in_ok-progs.progs one (c.in_ok-progs.ensures.items (c.ranks-ranks.ensures.value ∙ one_rank c.args.grid.now one))) }
+returns g c = record { few_steps = λ one. omega (arith, c.drive_serial.ensures.steps 1 (has_one_round c.in_ok-progs.progs), few_turns c.args.steady c.args.grid.now c.in_ok-progs.progs one (c.in_ok-progs.ensures.items (c.ranks-ranks.ensures.value ∙ one_rank c.args.grid.now one))) }
 
 pub returns-in_err-finished : goal.returns-in_err-finished
-returns-in_err-finished g c = record { few_steps = λ one. omega (arith, c.drive_serial.ensures.steps 1 (has_one_round c.in_ok-progs.progs), few_turns c.args.grid.now c.in_ok-progs.progs one (c.in_ok-progs.ensures.items (c.ranks-ranks.ensures.value ∙ one_rank c.args.grid.now one))) }
+returns-in_err-finished g c = record { few_steps = λ one. omega (arith, c.drive_serial.ensures.steps 1 (has_one_round c.in_ok-progs.progs), few_turns c.args.steady c.args.grid.now c.in_ok-progs.progs one (c.in_ok-progs.ensures.items (c.ranks-ranks.ensures.value ∙ one_rank c.args.grid.now one))) }

@@ -1,13 +1,12 @@
 -- What moves in a run: parcels are posted and collected, and entries taken from inboxes.
-use Rattle.std.proofs.Common.{◌≡◌, ℕ, zero, suc, ◌+◌, ◌*◌, ◌<◌, ◌≤◌, Bool, true, false, cond, List, [], ◌∷◌, length, Some, slice_get, All, refl, sym, ap, subst, ◌∙◌, arith, inl, inr}
+use Rattle.std.proofs.Common.{◌≡◌, ℕ, zero, suc, ◌+◌, ◌*◌, ◌<◌, ◌≤◌, Bool, List, length, Some, slice_get, All, refl, sym, ap, subst, ◌∙◌, arith, inl, inr}
 use Rattle.std.proofs.lemmas.Bool.{cases_Bool}
-use Rattle.std.proofs.lemmas.List.Elements.{All-nil, All-cons}
 use Rattle.std.proofs.Math.Nat.{mul-add, mul-le-mul_left}
 use Rattle.bale_types.specs.declared.item.Entry.{Entry}
 use Rattle.item_buffer.specs.Contents.{Shipped}
 use Rattle.list_laws.specs.Sums.{total}
 use Rattle.list_laws.proofs.Sums.{total_le, total_same, total_add, total_const, total_swap}
-use Rattle.list_laws.proofs.Lists.{find, all_head, all_tail}
+use Rattle.list_laws.proofs.Lists.{find}
 use Rattle.route_tensor.specs.Grid.{ranks}
 use Rattle.route_tensor.specs.Link.{links}
 use Rattle.route_tensor.specs.Tag.{IsFair}

@@ -31,7 +31,7 @@ use Rattle.rank_node.specs.declared.sends.Sends.{Sends}
 use Rattle.rank_node.specs.declared.sends.Sends.TheVariants.{Emissions, Nothing, Votes}
 use Rattle.rank_node.specs.Sending.{is_voting, epoch_of}
 use Rattle.rank_node.specs.Runs.{lists_of, HasTaken}
-use Rattle.rank_node.specs.Movers.{MoverState, Manner, dims_of, rank_of, epoch_in, manner_in, part_in, has_completed, HasCap, IsConveying, IsStacking, IsMoving}
+use Rattle.rank_node.specs.Movers.{MoverState, Manner, dims_of, rank_of, epoch_in, manner_in, part_in, HasCap, IsConveying, IsStacking, IsMoving}
 use Rattle.rank_node.specs.Movers.MoverState.{Conveying, Stacking}
 use Rattle.rank_node.specs.Movers.Manner.{ByConveyor, ByExstack}
 use Rattle.rank_node.specs.Nodes.{IsNode}

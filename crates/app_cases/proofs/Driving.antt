@@ -20,10 +20,10 @@ module _ {S T : Type 0} {R : Rules S} {Q : Rules T} {i : S → T} {w : List ℕ 
       subst (λ a. (shape : List ℕ) × (most : ℕ) × InRound Q p 0 shape most a × EndsWithin Q a most) (sym put)
       (w b.0, b.1, same.in_round p 0 b.0 b.1 starts b.2, same.ends_within starts b.1 some b.3)
 
-  pub steps : (dims : List ℕ) (before after : ℕ) → ((n : ℕ) → HasRounds Q any n → after ≤ before + turns_within Q dims any n)
-      → (n : ℕ) → HasRounds R starts n → after ≤ before + turns_within R dims starts n
-  steps dims before after f n h =
-      let e : turns_within Q dims any n ≡ turns_within R dims starts n = ap (λ a. turns_within Q dims a n) put ∙ turns_case same dims starts n in
+  pub steps : (manner : Manner) (dims : List ℕ) (before after : ℕ) → ((n : ℕ) → HasRounds Q any n → after ≤ before + turns_within Q manner dims any n)
+      → (n : ℕ) → HasRounds R starts n → after ≤ before + turns_within R manner dims starts n
+  steps manner dims before after f n h =
+      let e : turns_within Q manner dims any n ≡ turns_within R manner dims starts n = ap (λ a. turns_within Q manner dims a n) put ∙ turns_case same manner dims starts n in
       subst (λ t. after ≤ before + t) e (f n (subst (λ a. HasRounds Q a n) (sym put) (same.has_rounds starts n some h)))
 
   pub are_cases : (ends : List T) → HaveEnded Q any ends → (xs : List S) × (ends ≡ map i xs)

@@ -35,8 +35,8 @@ tells_case {R = R} {Q = Q} {i = i} j same starts n made manner round t =
     }
 
 pub turns_case : {S T : Type 0} {R : Rules S} {Q : Rules T} {i : S → T} {w : List ℕ → List ℕ} → SameRuns R Q i w
-    → (dims : List ℕ) (starts : List S) (n : ℕ) → turns_within Q dims (map i starts) n ≡ turns_within R dims starts n
-turns_case same dims starts zero = refl
-turns_case {R = R} {Q = Q} {i = i} same dims starts (suc n) =
-    ap (λ a. a + (turns_of dims (items_at Q (map i starts) n) + turns_of dims (ranks dims * ranks dims))) (turns_case same dims starts n)
-    ∙ ap (λ a. turns_within R dims starts n + (turns_of dims a + turns_of dims (ranks dims * ranks dims))) (same.items starts n)
+    → (manner : Manner) (dims : List ℕ) (starts : List S) (n : ℕ) → turns_within Q manner dims (map i starts) n ≡ turns_within R manner dims starts n
+turns_case same manner dims starts zero = refl
+turns_case {R = R} {Q = Q} {i = i} same manner dims starts (suc n) =
+    ap (λ a. a + (turns_of manner dims (items_at Q (map i starts) n) + turns_of manner dims (ranks dims * ranks dims))) (turns_case same manner dims starts n)
+    ∙ ap (λ a. turns_within R manner dims starts n + (turns_of manner dims a + turns_of manner dims (ranks dims * ranks dims))) (same.items starts n)

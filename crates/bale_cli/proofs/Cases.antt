@@ -56,24 +56,24 @@ tells_task (task.Sssp source (Some delta)) m made manner rs ps ends ready put so
     tells delta_is_case (delta_starts (ranks made.dims) m (source - 1) delta) ps ends made manner rs put some h t
 tells_task task.Tally m made manner rs ps ends ready put some h t = absurd cc
 
-turns : {S : Type 0} {R : Rules S} {i : S → AnyState} {w : List ℕ → List ℕ} → Injects R any_rules i w → (starts : List S) (ps : List AnyState) (dims : List ℕ) (before after : ℕ)
-    → ps ≡ map i starts → 0 < length ps → ((n : ℕ) → HasRounds any_rules ps n → after ≤ before + turns_within any_rules dims ps n) → WithinTurns R starts dims before after
-turns {i = i} case starts ps dims before after put some f =
-    steps case starts (subst (λ n. 0 < n) (ap length put ∙ length-map starts i) some) ps put dims before after f
+turns : {S : Type 0} {R : Rules S} {i : S → AnyState} {w : List ℕ → List ℕ} → Injects R any_rules i w → (starts : List S) (ps : List AnyState) (manner : Manner) (dims : List ℕ) (before after : ℕ)
+    → ps ≡ map i starts → 0 < length ps → ((n : ℕ) → HasRounds any_rules ps n → after ≤ before + turns_within any_rules manner dims ps n) → WithinTurns R starts manner dims before after
+turns {i = i} case starts ps manner dims before after put some f =
+    steps case starts (subst (λ n. 0 < n) (ap length put ∙ length-map starts i) some) ps put manner dims before after f
 
 -- the turns of a task's run
-pub turns_of_task : (t : Task) (m : Sparse) (dims : List ℕ) (before after : ℕ) (ps : List AnyState) → is_ready t ≡ true
-    → ps ≡ starts_of t (ranks dims) m → 0 < length ps → ((n : ℕ) → HasRounds any_rules ps n → after ≤ before + turns_within any_rules dims ps n) → TurnsOfTask t m dims before after
-turns_of_task task.Histo m dims before after ps ready put some f = turns histo_is_case (histo_starts (ranks dims) m) ps dims before after put some f
-turns_of_task task.Ig m dims before after ps ready put some f = turns ig_is_case (ig_starts (ranks dims) m) ps dims before after put some f
-turns_of_task (task.Permute p) m dims before after ps ready put some f =
-    turns permute_is_case (permute_starts (ranks dims) m (perms_for p m).rows (perms_for p m).cols) ps dims before after put some f
-turns_of_task task.Transpose m dims before after ps ready put some f = turns transpose_is_case (transpose_starts (ranks dims) m) ps dims before after put some f
-turns_of_task task.Topo m dims before after ps ready put some f = turns topo_is_case (topo_starts (ranks dims) m) ps dims before after put some f
-turns_of_task (task.Sssp source None) m dims before after ps ready put some f = turns sssp_is_case (sssp_starts (ranks dims) m (source - 1)) ps dims before after put some f
-turns_of_task (task.Sssp source (Some delta)) m dims before after ps ready put some f =
-    turns delta_is_case (delta_starts (ranks dims) m (source - 1) delta) ps dims before after put some f
-turns_of_task task.Tally m dims before after ps ready put some f = absurd cc
+pub turns_of_task : (t : Task) (m : Sparse) (manner : Manner) (dims : List ℕ) (before after : ℕ) (ps : List AnyState) → is_ready t ≡ true
+    → ps ≡ starts_of t (ranks dims) m → 0 < length ps → ((n : ℕ) → HasRounds any_rules ps n → after ≤ before + turns_within any_rules manner dims ps n) → TurnsOfTask t m manner dims before after
+turns_of_task task.Histo m manner dims before after ps ready put some f = turns histo_is_case (histo_starts (ranks dims) m) ps manner dims before after put some f
+turns_of_task task.Ig m manner dims before after ps ready put some f = turns ig_is_case (ig_starts (ranks dims) m) ps manner dims before after put some f
+turns_of_task (task.Permute p) m manner dims before after ps ready put some f =
+    turns permute_is_case (permute_starts (ranks dims) m (perms_for p m).rows (perms_for p m).cols) ps manner dims before after put some f
+turns_of_task task.Transpose m manner dims before after ps ready put some f = turns transpose_is_case (transpose_starts (ranks dims) m) ps manner dims before after put some f
+turns_of_task task.Topo m manner dims before after ps ready put some f = turns topo_is_case (topo_starts (ranks dims) m) ps manner dims before after put some f
+turns_of_task (task.Sssp source None) m manner dims before after ps ready put some f = turns sssp_is_case (sssp_starts (ranks dims) m (source - 1)) ps manner dims before after put some f
+turns_of_task (task.Sssp source (Some delta)) m manner dims before after ps ready put some f =
+    turns delta_is_case (delta_starts (ranks dims) m (source - 1) delta) ps manner dims before after put some f
+turns_of_task task.Tally m manner dims before after ps ready put some f = absurd cc
 
 few : {before after : ℕ} (more : ℕ) → after ≡ before → after ≤ before + more
 few more e = omega (arith, e)

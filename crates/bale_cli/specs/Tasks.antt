@@ -76,17 +76,17 @@ TellsTask (task.Sssp source None) m made manner rounds = Tells sssp_rules (sssp_
 TellsTask _ m made manner rounds = ⊥
 
 -- From `before` turns to `after` there are no more than a run of these programs takes at most.
-abbrev pub WithinTurns : {S : Type 0} → Rules S → List S → List ℕ → ℕ → ℕ → Type 0
-WithinTurns R starts dims before after = (n : ℕ) → HasRounds R starts n → after ≤ before + turns_within R dims starts n
+abbrev pub WithinTurns : {S : Type 0} → Rules S → List S → Manner → List ℕ → ℕ → ℕ → Type 0
+WithinTurns R starts manner dims before after = (n : ℕ) → HasRounds R starts n → after ≤ before + turns_within R manner dims starts n
 
 -- The turns of the application's run for this matrix are bounded before it. What doesn't run makes none.
-abbrev pub TurnsOfTask : Task → Sparse → List ℕ → ℕ → ℕ → Type 0
-TurnsOfTask task.Histo m dims before after = WithinTurns histo_rules (histo_starts (ranks dims) m) dims before after
-TurnsOfTask task.Ig m dims before after = WithinTurns ig_rules (ig_starts (ranks dims) m) dims before after
-TurnsOfTask (task.Permute p) m dims before after =
-    WithinTurns permute_rules (permute_starts (ranks dims) m (perms_for p m).rows (perms_for p m).cols) dims before after
-TurnsOfTask task.Transpose m dims before after = WithinTurns transpose_rules (transpose_starts (ranks dims) m) dims before after
-TurnsOfTask task.Topo m dims before after = WithinTurns topo_rules (topo_starts (ranks dims) m) dims before after
-TurnsOfTask (task.Sssp source (Some delta)) m dims before after = WithinTurns delta_rules (delta_starts (ranks dims) m (source - 1) delta) dims before after
-TurnsOfTask (task.Sssp source None) m dims before after = WithinTurns sssp_rules (sssp_starts (ranks dims) m (source - 1)) dims before after
-TurnsOfTask _ m dims before after = after ≡ before
+abbrev pub TurnsOfTask : Task → Sparse → Manner → List ℕ → ℕ → ℕ → Type 0
+TurnsOfTask task.Histo m manner dims before after = WithinTurns histo_rules (histo_starts (ranks dims) m) manner dims before after
+TurnsOfTask task.Ig m manner dims before after = WithinTurns ig_rules (ig_starts (ranks dims) m) manner dims before after
+TurnsOfTask (task.Permute p) m manner dims before after =
+    WithinTurns permute_rules (permute_starts (ranks dims) m (perms_for p m).rows (perms_for p m).cols) manner dims before after
+TurnsOfTask task.Transpose m manner dims before after = WithinTurns transpose_rules (transpose_starts (ranks dims) m) manner dims before after
+TurnsOfTask task.Topo m manner dims before after = WithinTurns topo_rules (topo_starts (ranks dims) m) manner dims before after
+TurnsOfTask (task.Sssp source (Some delta)) m manner dims before after = WithinTurns delta_rules (delta_starts (ranks dims) m (source - 1) delta) manner dims before after
+TurnsOfTask (task.Sssp source None) m manner dims before after = WithinTurns sssp_rules (sssp_starts (ranks dims) m (source - 1)) manner dims before after
+TurnsOfTask _ m manner dims before after = after ≡ before

@@ -136,7 +136,7 @@ pub fn run_serial<S: Source, K: Sink, E: Sink, L: Ledger>(
 
     // The turns are bounded by the words and the matrix, at 7 too; a refusal makes none.
     ensures steps { (text : List ℕ) (c : Command) (m : Sparse) → Asked on_one_thread (S.left source.old) (job_of on_one_thread (map string_bytes words.now)) text c m →
-        TurnsOfTask c.task m c.grid steps.old steps.new }
+        TurnsOfTask c.task m (manner_for c) c.grid steps.old steps.new }
     ensures no_turns { result.status ≢ 0 → result.status ≢ 1 → result.status ≢ 4 → result.status ≢ 7 → steps.new ≡ steps.old }
 {
     let answered = answer_serially(alloc, words, source, out, steps);
@@ -230,7 +230,7 @@ fn answer_serially<S: Source, K: Sink, L: Ledger>(
     ensures answered { Answered on_one_thread (job_of on_one_thread (map string_bytes words.now)) (S.left source.old) (S.left source.new) (Rose (S.faults source.old) (S.faults source.new))
         (K.taken out.old) (K.taken out.new) (Rose (K.faults out.old) (K.faults out.new)) result }
     ensures steps { (text : List ℕ) (c : Command) (m : Sparse) → Asked on_one_thread (S.left source.old) (job_of on_one_thread (map string_bytes words.now)) text c m →
-        TurnsOfTask c.task m c.grid steps.old steps.new }
+        TurnsOfTask c.task m (manner_for c) c.grid steps.old steps.new }
     ensures no_turns { IfErr result (λ r. r ≢ Refusal.NoMemory → steps.new ≡ steps.old) }
 {
     match read_job(alloc, words, true) {
@@ -252,7 +252,7 @@ fn answer_of_serially<S: Source, K: Sink, L: Ledger>(
     ensures answered { Answered on_one_thread (Some command.now) (S.left source.old) (S.left source.new) (Rose (S.faults source.old) (S.faults source.new))
         (K.taken out.old) (K.taken out.new) (Rose (K.faults out.old) (K.faults out.new)) result }
     ensures steps { (text : List ℕ) (c : Command) (m : Sparse) → Asked on_one_thread (S.left source.old) (Some command.now) text c m →
-        TurnsOfTask c.task m c.grid steps.old steps.new }
+        TurnsOfTask c.task m (manner_for c) c.grid steps.old steps.new }
     ensures no_turns { IfErr result (λ r. r ≢ Refusal.NoMemory → steps.new ≡ steps.old) }
 {
     match matrix_for(alloc, command, source, true) {

@@ -53,7 +53,7 @@ pub(crate) fn ran_serially<K: Sink, L: Ledger>(
     ensures no_answer { OnErr result (K.taken out.new ≡ K.taken out.old) }
     ensures memory { IfErr result (λ r. r ≡ Refusal.NoMemory) }
     ensures rounds { IfOk result (λ f. TellsTask command.now.task m.now (made_for true command.now) (manner_for command.now) f.rounds) }
-    ensures steps { TurnsOfTask command.now.task m.now command.now.grid steps.old steps.new }
+    ensures steps { TurnsOfTask command.now.task m.now (manner_for command.now) command.now.grid steps.old steps.new }
 {
     let grid = &command.grid;
     let Travel {

@@ -35,7 +35,7 @@ pub fn case_serial<Q: Program, L: Ledger>(
     steps: &mut Steps<L>,
 ) -> Result<Finished<Q>, NoMemory>
     requires capacity { IsCapacity cap }
-    requires conveyors { via ≡ Via.Convey }
+    requires one_hop { via ≡ Via.Exstack → length grid.now ≡ 1 }
     requires slots { IsSlots slots }
     requires order { IsOrder (ranks grid.now) order.now }
     requires begins { (shape : List ℕ) × (most : ℕ) × InRound Q.rules (ranks grid.now) 0 shape most progs × EndsWithin Q.rules progs most }
@@ -48,7 +48,7 @@ pub fn case_serial<Q: Program, L: Ledger>(
         → TellsRun Q.rules progs n (record { dims = grid.now; cap = cap; slots = slots; by_slots = false }) (manner_of via steady) (round_of c))) }
 
     // The turns are bounded before the run, also where it ends in `NoMemory`.
-    ensures steps { (n : ℕ) → HasRounds Q.rules progs n → steps.new ≤ steps.old + turns_within Q.rules grid.now progs n }
+    ensures steps { (n : ℕ) → HasRounds Q.rules progs n → steps.new ≤ steps.old + turns_within Q.rules (manner_of via steady) grid.now progs n }
 {
     match grid.hops() {
         1 => on_one_hop(alloc, grid, cap, via, slots, steady, order, progs, steps),
@@ -71,14 +71,14 @@ fn on_one_hop<Q: Program, L: Ledger>(
 ) -> Result<Finished<Q>, NoMemory>
     requires hops { length grid.now ≡ 1 }
     requires capacity { IsCapacity cap }
-    requires conveyors { via ≡ Via.Convey }
+    requires one_hop { via ≡ Via.Exstack → length grid.now ≡ 1 }
     requires slots { IsSlots slots }
     requires order { IsOrder (ranks grid.now) order.now }
     requires begins { (shape : List ℕ) × (most : ℕ) × InRound Q.rules (ranks grid.now) 0 shape most progs × EndsWithin Q.rules progs most }
     ensures ended { IfOk result (λ f. HaveEnded Q.rules progs f.progs) }
     ensures rounds { IfOk result (λ f. (c : ClosedRound) × (f.rounds ≡ c ∷ []) × ((n : ℕ) → HasRounds Q.rules progs n
         → TellsRun Q.rules progs n (record { dims = grid.now; cap = cap; slots = slots; by_slots = false }) (manner_of via steady) (round_of c))) }
-    ensures steps { (n : ℕ) → HasRounds Q.rules progs n → steps.new ≤ steps.old + turns_within Q.rules grid.now progs n }
+    ensures steps { (n : ℕ) → HasRounds Q.rules progs n → steps.new ≤ steps.old + turns_within Q.rules (manner_of via steady) grid.now progs n }
 {
     by_capacity!(
         cap,
@@ -101,14 +101,14 @@ fn on_two_hops<Q: Program, L: Ledger>(
 ) -> Result<Finished<Q>, NoMemory>
     requires hops { length grid.now ≡ 2 }
     requires capacity { IsCapacity cap }
-    requires conveyors { via ≡ Via.Convey }
+    requires one_hop { via ≡ Via.Exstack → length grid.now ≡ 1 }
     requires slots { IsSlots slots }
     requires order { IsOrder (ranks grid.now) order.now }
     requires begins { (shape : List ℕ) × (most : ℕ) × InRound Q.rules (ranks grid.now) 0 shape most progs × EndsWithin Q.rules progs most }
     ensures ended { IfOk result (λ f. HaveEnded Q.rules progs f.progs) }
     ensures rounds { IfOk result (λ f. (c : ClosedRound) × (f.rounds ≡ c ∷ []) × ((n : ℕ) → HasRounds Q.rules progs n
         → TellsRun Q.rules progs n (record { dims = grid.now; cap = cap; slots = slots; by_slots = false }) (manner_of via steady) (round_of c))) }
-    ensures steps { (n : ℕ) → HasRounds Q.rules progs n → steps.new ≤ steps.old + turns_within Q.rules grid.now progs n }
+    ensures steps { (n : ℕ) → HasRounds Q.rules progs n → steps.new ≤ steps.old + turns_within Q.rules (manner_of via steady) grid.now progs n }
 {
     by_capacity!(
         cap,
@@ -131,14 +131,14 @@ fn on_three_hops<Q: Program, L: Ledger>(
 ) -> Result<Finished<Q>, NoMemory>
     requires hops { length grid.now ≡ 3 }
     requires capacity { IsCapacity cap }
-    requires conveyors { via ≡ Via.Convey }
+    requires one_hop { via ≡ Via.Exstack → length grid.now ≡ 1 }
     requires slots { IsSlots slots }
     requires order { IsOrder (ranks grid.now) order.now }
     requires begins { (shape : List ℕ) × (most : ℕ) × InRound Q.rules (ranks grid.now) 0 shape most progs × EndsWithin Q.rules progs most }
     ensures ended { IfOk result (λ f. HaveEnded Q.rules progs f.progs) }
     ensures rounds { IfOk result (λ f. (c : ClosedRound) × (f.rounds ≡ c ∷ []) × ((n : ℕ) → HasRounds Q.rules progs n
         → TellsRun Q.rules progs n (record { dims = grid.now; cap = cap; slots = slots; by_slots = false }) (manner_of via steady) (round_of c))) }
-    ensures steps { (n : ℕ) → HasRounds Q.rules progs n → steps.new ≤ steps.old + turns_within Q.rules grid.now progs n }
+    ensures steps { (n : ℕ) → HasRounds Q.rules progs n → steps.new ≤ steps.old + turns_within Q.rules (manner_of via steady) grid.now progs n }
 {
     by_capacity!(
         cap,

@@ -1,9 +1,9 @@
 -- A rank over an exstack goes on in its cycles by a turn.
-use Rattle.std.proofs.Common.{◌≡◌, ℕ, ◌+◌, ◌<◌, ◌≤◌, ◌==◌, Bool, true, false, cond, List, [], ◌∷◌, length, refl, sym, ap, subst, ◌∙◌, arith, inl, inr}
+use Rattle.std.proofs.Common.{◌≡◌, ℕ, ◌+◌, ◌<◌, ◌≤◌, ◌==◌, Bool, true, false, cond, List, [], ◌∷◌, length, sym, ap, subst, ◌∙◌, arith, inl, inr}
 use Rattle.std.proofs.lemmas.Bool.{cases_Bool, true≢false, eq-eqb, ne_eqb}
 use Rattle.port_bank.specs.Logs.{Logs, lasts, starting_at, ending_at}
 use Rattle.exstack.specs.Links.{no_in}
-use Rattle.exstack.specs.State.{State, number, in_at, link_from}
+use Rattle.exstack.specs.State.{State, number, in_at}
 use Rattle.exstack.specs.Parts.{is_all_done}
 use Rattle.exstack.specs.Agreement.{AgreesIn, lasts_in}
 use Rattle.exstack.specs.Standing.{IsStack}

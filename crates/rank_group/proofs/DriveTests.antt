@@ -7,7 +7,10 @@ use Rattle.std.proofs.lemmas.List.Sums.{sum_by_push}
 use Rattle.route_tensor.specs.Grid.{ranks}
 use Rattle.round_program.specs.Canonical.{Member, InRound, HasRounds, EndsWithin, items_at}
 use Rattle.round_examples.specs.Counts.{CountState, count_rules, to_owner}
-use Rattle.rank_node.specs.Movers.Manner.{ByConveyor}
+use Rattle.rank_node.specs.declared.via.Via.{Via}
+use Rattle.rank_node.specs.declared.via.Via.TheVariants.{Convey, Exstack}
+use Rattle.rank_node.specs.Movers.{manner_of}
+use Rattle.rank_node.specs.Movers.Manner.{ByConveyor, ByExstack}
 use Rattle.rank_group.specs.Ranks.{IsOrder}
 use Rattle.rank_group.specs.Told.{turns_of, turns_within}
 
@@ -101,13 +104,20 @@ items_more i progs progs' s more first four before =
     let sent : length (count_rules.emissions s) ≡ 4 = ap (λ (b : Bool). length (cond b (map (to_owner s.ranks) s.names) [])) (ap (λ k. k == 0) first) ∙ (length-map s.names (to_owner s.ranks) ∙ four) in
     ap (λ p. items_at count_rules p 0) more ∙ (sum_by_push (λ t. length (count_rules.emissions t)) progs s ∙ omega (arith, before, sent))
 
--- one rank with four items takes 26 turns at most
-pub few_turns : (steady : Bool) (dims : List ℕ) (progs : List CountState) → dims ≡ 1 ∷ [] → items_at count_rules progs 0 ≡ 4 → turns_within count_rules (ByConveyor steady) dims progs 1 ≡ 26
+-- one rank with four items takes 26 turns at most over conveyors, and 36 over exstacks
+pub few_by_conveyor : (via : Via) (steady : Bool) (dims : List ℕ) (progs : List CountState) → via ≡ Convey → dims ≡ 1 ∷ [] → items_at count_rules progs 0 ≡ 4 → turns_within count_rules (manner_of via steady) dims progs 1 ≡ 26
 unfolding ranks
-few_turns steady dims progs one four =
+few_by_conveyor via steady dims progs by one four =
     let work : turns_of (ByConveyor steady) (1 ∷ []) (items_at count_rules progs 0) ≡ 19 = ap (turns_of (ByConveyor steady) (1 ∷ [])) four in
     let votes : turns_of (ByConveyor steady) (1 ∷ []) (ranks (1 ∷ []) * ranks (1 ∷ [])) ≡ 7 = refl in
-    ap (λ d. turns_within count_rules (ByConveyor steady) d progs 1) one ∙ omega (arith, work, votes)
+    ap (λ v. turns_within count_rules (manner_of v steady) dims progs 1) by ∙ (ap (λ d. turns_within count_rules (ByConveyor steady) d progs 1) one ∙ omega (arith, work, votes))
+
+pub few_by_exstack : (via : Via) (steady : Bool) (dims : List ℕ) (progs : List CountState) → via ≡ Exstack → dims ≡ 1 ∷ [] → items_at count_rules progs 0 ≡ 4 → turns_within count_rules (manner_of via steady) dims progs 1 ≡ 36
+unfolding ranks
+few_by_exstack via steady dims progs by one four =
+    let work : turns_of ByExstack (1 ∷ []) (items_at count_rules progs 0) ≡ 24 = ap (turns_of ByExstack (1 ∷ [])) four in
+    let votes : turns_of ByExstack (1 ∷ []) (ranks (1 ∷ []) * ranks (1 ∷ [])) ≡ 12 = refl in
+    ap (λ v. turns_within count_rules (manner_of v steady) dims progs 1) by ∙ (ap (λ d. turns_within count_rules ByExstack d progs 1) one ∙ omega (arith, work, votes))
 
 pub one_rank : (dims : List ℕ) → dims ≡ 1 ∷ [] → ranks dims ≡ 1
 unfolding ranks

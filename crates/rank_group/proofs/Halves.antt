@@ -1,8 +1,8 @@
 -- A turn of a rank over an exstack makes half a round more than every rank had made.
-use Rattle.std.proofs.Common.{◌≡◌, ◌≢◌, ◌⊎◌, ℕ, zero, suc, ◌+◌, ◌*◌, ◌<◌, ◌≤◌, ◌||◌, Bool, true, false, cond, List, [], ◌∷◌, length, refl, sym, ap, subst, ◌∙◌, arith, inl, inr, eqb-true}
+use Rattle.std.proofs.Common.{◌≡◌, ◌≢◌, ℕ, zero, suc, ◌+◌, ◌*◌, ◌<◌, ◌≤◌, ◌||◌, Bool, true, false, List, [], ◌∷◌, length, refl, sym, ap, subst, ◌∙◌, arith, inl, inr, eqb-true}
 use Rattle.std.proofs.lemmas.Bool.{cases_Bool, cases_eq, cases_lt, cases_order, true≢false, false≢true}
 use Rattle.list_laws.specs.Sums.{total}
-use Rattle.port_bank.specs.Logs.{Logs, lasts, segment, starting_at, ending_at}
+use Rattle.port_bank.specs.Logs.{Logs, lasts, starting_at, ending_at}
 use Rattle.port_bank.specs.Flow.{Begins}
 use Rattle.port_bank.proofs.Segments.{lasts_begins}
 use Rattle.convey.proofs.OneRank.{starting-own, ending-own}
@@ -11,11 +11,11 @@ use Rattle.exstack.specs.declared.stage.Stage.TheVariants.{Start, Proceeding, Fi
 use Rattle.exstack.specs.Links.{no_out, no_in}
 use Rattle.exstack.specs.State.{State, out_at, in_at, number, link_to, link_from, is_proceeding, is_exchanging}
 use Rattle.exstack.specs.Parts.{is_all_done}
-use Rattle.exstack.specs.Agreement.{LinkAgrees, AgreesIn, rounds_in, lasts_in, cycle_after}
-use Rattle.exstack.specs.Standing.{IsStack, IsOut, IsIn}
-use Rattle.exstack.specs.Lockstep.{finished_in, HasFinished, IsPosted, HasPosted, InStep, RoomLaw, ArrivalLaw}
+use Rattle.exstack.specs.Agreement.{LinkAgrees, rounds_in, lasts_in, cycle_after}
+use Rattle.exstack.specs.Standing.{IsOut, IsIn}
+use Rattle.exstack.specs.Lockstep.{finished_in, HasFinished, HasPosted, InStep, RoomLaw, ArrivalLaw}
 use Rattle.exstack.proofs.OneHop.{number_within, number_sender, number_reader}
-use Rattle.rank_node.specs.Cycles.{IsOnward, Awaits, DueOut, DueIn, has_proceeded, has_exchanged}
+use Rattle.rank_node.specs.Cycles.{IsOnward, Awaits}
 use Rattle.rank_node.specs.Moves.{WaitsFor}
 use Rattle.rank_group.specs.Ranks.{crowded_in, idle_in}
 use Rattle.rank_group.specs.Halves.{rounds_made, IsHalfway, HasMade}
@@ -269,10 +269,13 @@ module _ (room : RoomLaw) (arrival : ArrivalLaw) (p cap slots : ℕ) (most : ℕ
             | inr (inl less) ↦ let q = earlier a la off less in absurd (omega (arith, u, c, q, least))
             | inl here ↦
                 let q = ap (λ i. total i most) here in
-                inr (here, elim h [
-                  | inl low' ↦ inl (omega (arith, low', c, q, odd))
-                  | inr now ↦ inr (record { round = omega (arith, now.0, c, q, odd); begun = now.2.begun; none_due = now.2.none_due })
-                ])
+                inr (
+                  here,
+                  elim h [
+                    | inl low' ↦ inl (omega (arith, low', c, q, odd))
+                    | inr now ↦ inr (record { round = omega (arith, now.0, c, q, odd); begun = now.2.begun; none_due = now.2.none_due })
+                  ],
+                )
           ]
 
       waiting : (a : ℕ) → a < p → (in_at (all r) a).due ≡ true → length (got (number p a r)) < length (sent (number p a r))

@@ -1,11 +1,11 @@
 -- What a turn of a rank over an exstack makes of a round.
-use Rattle.std.proofs.Common.{◌≡◌, ◌≢◌, ◌⊎◌, ℕ, suc, ◌+◌, ◌*◌, ◌<◌, ◌≤◌, ◌==◌, Bool, true, false, cond, List, [], ◌∷◌, length, Some, slice_get, refl, sym, ap, subst, ◌∙◌, arith, inl, inr}
+use Rattle.std.proofs.Common.{◌≡◌, ◌≢◌, ◌⊎◌, ℕ, suc, ◌+◌, ◌*◌, ◌<◌, ◌==◌, Bool, true, false, cond, List, [], ◌∷◌, Some, slice_get, sym, ap, subst, ◌∙◌, arith, inl, inr}
 use Rattle.std.proofs.lemmas.Bool.{cases_Bool, cases_eq, ne_eqb}
 use Rattle.list_laws.specs.Sums.{total}
-use Rattle.list_laws.proofs.Lists.{find, within, get_once}
+use Rattle.list_laws.proofs.Lists.{within, get_once}
 use Rattle.route_tensor.specs.Grid.{ranks}
 use Rattle.route_tensor.specs.Ends.{reader_at}
-use Rattle.port_bank.specs.Logs.{Logs, starting_at, ending_at}
+use Rattle.port_bank.specs.Logs.{Logs, ending_at}
 use Rattle.port_bank.specs.Flow.{Begins}
 use Rattle.exstack.specs.State.{State, out_at, number, link_to}
 use Rattle.exstack.specs.Agreement.{cycle_after}
@@ -26,7 +26,7 @@ use Rattle.rank_group.specs.Halves.{most_rounds, rounds_made, HasMade, MoverMade
 use Rattle.rank_group.specs.Worlds.{World, Plan, AllMade}
 use Rattle.rank_group.proofs.Worlds.{stack_of}
 use Rattle.rank_group.proofs.Halves.{halves_low, halves_less, half_more, got_own}
-use Rattle.rank_group.proofs.Cycled.{cycle_over, cycle_stays, cycle_anew}
+use Rattle.rank_group.proofs.Cycled.{cycle_over, cycle_stays}
 use Rattle.rank_group.proofs.Stacks.{over_in, stack_in, rank_at, stack_is, one, step, short, all_stacks}
 use Rattle.rank_group.proofs.OwnLink.{own_still}
 

@@ -99,9 +99,9 @@ swept_more {S} R laws closes rounds dims cap slots manner starts order i r cycle
           ];
       made = λ j all.
           let m = made_more R laws closes rounds dims cap slots manner starts v.h on.0 r n.0 n'.0 rs rs' sent got sent' got' w on.1 plan n.1 n'.1 others t
-              (got_grows R dims cap slots manner starts v.h r n.0 n'.0 rs rs' sent got sent' got' w n.1 n'.1 others size t law)
-              (ap (λ (c : ℕ → ℕ). c r) on.2 ∙ cycle_here R dims cap slots manner starts v.h r n.0 n'.0 rs rs' sent got sent' got' w n.1 n'.1 others size t law)
-              (λ k apart. ap (λ (c : ℕ → ℕ). c k) on.2 ∙ cycle_other R dims cap slots manner starts v.h r n.0 n'.0 rs rs' sent got sent' got' w n.1 n'.1 others size t law k apart) j (v.made j all).0 in (
+          (got_grows R dims cap slots manner starts v.h r n.0 n'.0 rs rs' sent got sent' got' w n.1 n'.1 others size t law)
+          (ap (λ (c : ℕ → ℕ). c r) on.2 ∙ cycle_here R dims cap slots manner starts v.h r n.0 n'.0 rs rs' sent got sent' got' w n.1 n'.1 others size t law)
+          (λ k apart. ap (λ (c : ℕ → ℕ). c k) on.2 ∙ cycle_other R dims cap slots manner starts v.h r n.0 n'.0 rs rs' sent got sent' got' w n.1 n'.1 others size t law k apart) j (v.made j all).0 in (
             m.0,
             λ q k below at x b. elim (cases_eq k r) [
               | inl now ↦

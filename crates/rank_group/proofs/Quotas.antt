@@ -1,6 +1,5 @@
 -- How many items a rank sends in each epoch of a run, and how many turns the rounds of all epochs take.
-use Rattle.std.proofs.Common.{◌≡◌, ℕ, zero, suc, ◌+◌, ◌*◌, ◌<◌, ◌≤◌, Bool, true, false, cond, List, [], ◌∷◌, length, length-append, Some, slice_get, refl, sym, ap, subst, ◌∙◌, arith}
-use Rattle.bale_types.specs.declared.item.Item.{Item}
+use Rattle.std.proofs.Common.{◌≡◌, ℕ, zero, suc, ◌+◌, ◌*◌, ◌<◌, ◌≤◌, false, cond, List, [], ◌∷◌, length, length-append, Some, slice_get, refl, sym, ap, subst, ◌∙◌, arith}
 use Rattle.list_laws.specs.Sums.{total}
 use Rattle.list_laws.proofs.Sums.{total_same, total_const, total_list}
 use Rattle.list_laws.proofs.Lists.{within}
@@ -14,7 +13,7 @@ use Rattle.round_program.proofs.Members.{in_round_at}
 use Rattle.rank_node.specs.declared.sends.Sends.{Sends}
 use Rattle.rank_node.specs.declared.sends.Sends.TheVariants.{Emissions, Nothing, Votes}
 use Rattle.rank_node.specs.Sending.{to_send, is_voting, epoch_of, votes_to}
-use Rattle.rank_node.specs.Movers.{Manner, dims_of, epoch_in}
+use Rattle.rank_node.specs.Movers.{Manner, epoch_in}
 use Rattle.rank_node.specs.Movers.Manner.{ByExstack}
 use Rattle.rank_node.specs.Nodes.{IsNode}
 use Rattle.rank_node.specs.Next.{extended}

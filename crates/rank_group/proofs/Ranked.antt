@@ -176,16 +176,16 @@ module _ {S : Type 0} (R : Rules S) (dims : List ℕ) (cap slots r : ℕ) (n : R
             omega (arith, a, b, same));
         unturned = λ over. absurd (true≢false (sym over ∙ on));
         turned = λ _. inr (record {
-            at_end = n1;
-            same_dims = t.node_dims;
-            same_rank = t.node_rank;
-            same_manner = t.node_manner;
-            epoch = t.node_epoch;
-            cycle = t.cycle;
-            over = λ over. x.stays (negated more over);
-            next = λ on'. x.epoch (affirmed more on') ∙ ap (λ e. e + 1) t.node_epoch;
-            anew = λ on' quota k is few. anew (affirmed more on') quota k _ _ is few;
-          });
+          at_end = n1;
+          same_dims = t.node_dims;
+          same_rank = t.node_rank;
+          same_manner = t.node_manner;
+          epoch = t.node_epoch;
+          cycle = t.cycle;
+          over = λ over. x.stays (negated more over);
+          next = λ on'. x.epoch (affirmed more on') ∙ ap (λ e. e + 1) t.node_epoch;
+          anew = λ on' quota k is few. anew (affirmed more on') quota k _ _ is few;
+        });
       } where
         negated : (b : Bool) → not b ≡ true → b ≡ false
         negated true e = absurd (true≢false (sym e))

@@ -1,16 +1,16 @@
 -- The exstacks of all ranks between two turns.
-use Rattle.std.proofs.Common.{◌≡◌, ℕ, zero, suc, ◌+◌, ◌*◌, ◌<◌, ◌≤◌, Bool, true, false, cond, List, [], ◌∷◌, length, Option, Some, None, slice_get, refl, sym, ap, subst, ◌∙◌, arith, inl, inr}
+use Rattle.std.proofs.Common.{◌≡◌, ℕ, zero, suc, ◌*◌, ◌<◌, ◌≤◌, Bool, true, false, List, [], ◌∷◌, Option, Some, None, slice_get, sym, ap, subst, ◌∙◌, arith, inl, inr}
 use Rattle.std.proofs.lemmas.Bool.{cases_Bool, false≢true}
 use Rattle.list_laws.specs.Sums.{total}
 use Rattle.list_laws.proofs.Sums.{total_part}
-use Rattle.list_laws.proofs.Lists.{find, within}
+use Rattle.list_laws.proofs.Lists.{find}
 use Rattle.route_tensor.specs.Grid.{ranks}
 use Rattle.route_tensor.specs.Link.{links}
 use Rattle.route_tensor.proofs.Coordinates.{ranks_some}
 use Rattle.port_bank.specs.Logs.{Logs, starting_at, ending_at}
 use Rattle.exstack.specs.declared.stage.Stage.{Stage}
 use Rattle.exstack.specs.declared.stage.Stage.TheVariants.{Start, Proceeding, Filling, Exchanging, Full, AllDone}
-use Rattle.exstack.specs.State.{State, number, link_to, link_from}
+use Rattle.exstack.specs.State.{State, number, link_to}
 use Rattle.exstack.specs.Parts.{is_all_done}
 use Rattle.exstack.specs.Cycles.{proceed_parcel}
 use Rattle.exstack.specs.Agreement.{AgreesIn}
@@ -27,9 +27,9 @@ use Rattle.rank_node.specs.Cycles.{InCycle, MarksLast, IsInCycle, WentOn, cycles
 use Rattle.rank_node.proofs.Onward.{done_of_completed}
 use Rattle.rank_group.specs.Closes.{ClosesLaws}
 use Rattle.rank_group.specs.Ranks.{RankState}
-use Rattle.rank_group.specs.Halves.{quota_of, most_rounds, HasCycled, IsBetween, KeepsCycle}
+use Rattle.rank_group.specs.Halves.{quota_of, most_rounds, HasCycled, IsBetween}
 use Rattle.rank_group.specs.Worlds.{World, Plan, mover_in}
-use Rattle.rank_group.proofs.Worlds.{Core, core, stack_of, is_stacking, still_within, over_at_last}
+use Rattle.rank_group.proofs.Worlds.{core, stack_of, is_stacking, still_within, over_at_last}
 use Rattle.rank_group.proofs.Halves.{AllStacks, begins, to_is, from_is, sent_own, got_own}
 
 -- an exstack whose epoch isn't over has finished two rounds at most for each cycle that went on

@@ -166,20 +166,19 @@ module _ {S : Type 0} (R : Rules S) (dims : List ℕ) (cap slots : ℕ) (manner 
   ]
 
   pub world_on : Laws R → ClosesLaws → (rounds : ℕ) → Plan R dims slots starts rounds → (g : ℕ → ℕ → S) × (v : World R dims cap slots manner starts g rs' sent' got') × (v.cycle ≡ cycle_on)
-  world_on laws closes rounds plan =
-      (
-        history,
-        record {
-          ranked = ranked_on;
-          none_past = law.none_past;
-          relays = law.relays;
-          some = w.some;
-          inboxes = λ l below. omega (arith, inbox_step l below, w.inboxes l below);
-          cycle = cycle_on;
-          keeps = keeps_cycle laws closes rounds plan;
-        },
-        refl,
-      )
+  world_on laws closes rounds plan = (
+    history,
+    record {
+      ranked = ranked_on;
+      none_past = law.none_past;
+      relays = law.relays;
+      some = w.some;
+      inboxes = λ l below. omega (arith, inbox_step l below, w.inboxes l below);
+      cycle = cycle_on;
+      keeps = keeps_cycle laws closes rounds plan;
+    },
+    refl,
+  )
 
   -- the rank that was turned, where it stayed in its epoch and nothing moved
   rests_by : (m m' : MoverState) → dims_of m ≡ dims → rank_of m ≡ r → ((l : ℕ) → l < links dims → reader_at dims l ≡ r → lying m l ≤ lying m' l)

@@ -1,7 +1,7 @@
 -- How far ranks over exstacks are, in rounds over all epochs and in halves of rounds.
 use Rattle.std.specs.Prelude.{◌≡◌, ◌⊎◌, ℕ, zero, suc, ◌+◌, ◌*◌, ◌<◌, ◌≤◌, ⊤, Bool, true, false, ◌||◌, ◌==◌, cond, List, length, Option, None, Some, slice_get}
 use Rattle.list_laws.specs.Sums.{total}
-use Rattle.port_bank.specs.Logs.{Logs, starting_at, ending_at}
+use Rattle.port_bank.specs.Logs.{Logs}
 use Rattle.exstack.specs.State.{State, out_at, is_proceeding, is_exchanging}
 use Rattle.exstack.specs.Parts.{is_all_done}
 use Rattle.exstack.specs.Lockstep.{finished_in}

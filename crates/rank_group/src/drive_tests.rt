@@ -1,4 +1,4 @@
-//! Counts by `drive_serial`: one to three hops, with the ranks of a sweep in both orders.
+//! Counts by `drive_serial`: conveyors over one to three hops and exstacks, with the ranks of a sweep in both orders.
 ghost use Rattle.std.specs.Prelude.{◌≡◌, ◌+◌, ◌<◌, ◌≤◌, ◌-◌, ◌∷◌, [], cond, length, IfOk};
 ghost use Rattle.std.specs.List.{All};
 ghost use Rattle.route_tensor.specs.Grid.{ranks};
@@ -93,6 +93,7 @@ fn totals(progs: &Progs<Count>) -> [u64; 3] {
 fn count<const CAP: usize, const HOPS: usize, L: Ledger>(
     alloc: Global,
     grid: &Grid,
+    via: Via,
     steady: bool,
     reversed: bool,
     steps: &mut Steps<L>,
@@ -100,7 +101,9 @@ fn count<const CAP: usize, const HOPS: usize, L: Ledger>(
     requires some { 0 < CAP }
     requires small { CAP ≤ 1024 }
     requires hops { length grid.now ≡ HOPS }
-    ensures few_steps { grid.now ≡ 1 ∷ [] → steps.new ≤ steps.old + 26 }
+    requires one_hop { via ≡ Via.Exstack → length grid.now ≡ 1 }
+    ensures few_by_conveyor { via ≡ Via.Convey → grid.now ≡ 1 ∷ [] → steps.new ≤ steps.old + 26 }
+    ensures few_by_exstack { via ≡ Via.Exstack → grid.now ≡ 1 ∷ [] → steps.new ≤ steps.old + 36 }
 {
     let ranks = grid.ranks();
     let progs = counts_of(alloc, ranks)?;
@@ -108,7 +111,7 @@ fn count<const CAP: usize, const HOPS: usize, L: Ledger>(
     let finished = drive_serial::<CAP, HOPS, Count, L>(
         alloc,
         grid,
-        Via::Convey,
+        via,
         2,
         steady,
         &order,
@@ -123,31 +126,36 @@ fn count<const CAP: usize, const HOPS: usize, L: Ledger>(
     Ok((totals(&progs), rounds.len(), epochs))
 }
 
-/// One rank: its two epochs take 26 turns at most.
-fn one_rank<L: Ledger>(
+/// One rank: its two epochs take 26 turns at most over conveyors, and 36 over exstacks.
+fn one_rank<const CAP: usize, L: Ledger>(
     alloc: Global,
+    via: Via,
     reversed: bool,
     steps: &mut Steps<L>,
 ) -> Result<Option<Told>, NoMemory>
-    ensures few_steps { steps.new ≤ steps.old + 26 }
+    requires some { 0 < CAP }
+    requires small { CAP ≤ 1024 }
+    ensures few_by_conveyor { via ≡ Via.Convey → steps.new ≤ steps.old + 26 }
+    ensures few_by_exstack { via ≡ Via.Exstack → steps.new ≤ steps.old + 36 }
 {
     let Ok(grid) = Grid::new(&[1]) else {
         return Ok(None);
     };
-    let told = count::<64, 1, L>(alloc, &grid, false, reversed, steps)?;
+    let told = count::<CAP, 1, L>(alloc, &grid, via, false, reversed, steps)?;
     Ok(Some(told))
 }
 
 /// Ranks of which most have no entry.
 fn many_idle_ranks<L: Ledger>(
     alloc: Global,
+    via: Via,
     reversed: bool,
     steps: &mut Steps<L>,
 ) -> Result<Option<Told>, NoMemory> {
     let Ok(grid) = Grid::new(&[64]) else {
         return Ok(None);
     };
-    let told = count::<1, 1, L>(alloc, &grid, true, reversed, steps)?;
+    let told = count::<1, 1, L>(alloc, &grid, via, true, reversed, steps)?;
     Ok(Some(told))
 }
 
@@ -160,11 +168,11 @@ fn three_hops<L: Ledger>(
     let Ok(grid) = Grid::new(&[2, 2, 2]) else {
         return Ok(None);
     };
-    let told = count::<1, 3, L>(alloc, &grid, false, reversed, steps)?;
+    let told = count::<1, 3, L>(alloc, &grid, Via::Convey, false, reversed, steps)?;
     Ok(Some(told))
 }
 
-/// All of these, their turns counted together.
+/// All of these over conveyors, their turns counted together.
 fn count_all<L: Ledger>(
     alloc: Global,
     reversed: bool,
@@ -175,14 +183,35 @@ fn count_all<L: Ledger>(
     requires some { 0 < L.parts }
 {
     let mut steps = Steps::<L>::new(blank);
-    let one = one_rank(alloc, reversed, &mut steps)?;
-    let many = many_idle_ranks(alloc, reversed, &mut steps)?;
+    let one = one_rank::<64, L>(alloc, Via::Convey, reversed, &mut steps)?;
+    let many = many_idle_ranks(alloc, Via::Convey, reversed, &mut steps)?;
     let hops = three_hops(alloc, reversed, &mut steps)?;
     Ok([one, many, hops])
 }
 
 fn counts(alloc: Global, reversed: bool) -> Result<[Option<Told>; 3], NoMemory> {
     count_all::<Brand>(alloc, reversed, Blank::new(1))
+}
+
+/// The grids of one number over exstacks: one rank, with parcels of one entry and of 64, and many.
+fn count_stacks<L: Ledger>(
+    alloc: Global,
+    reversed: bool,
+    blank: Blank,
+) -> Result<[Option<Told>; 3], NoMemory>
+    requires name { blank.name ≡ L.name }
+    requires parts { blank.parts ≡ L.parts }
+    requires some { 0 < L.parts }
+{
+    let mut steps = Steps::<L>::new(blank);
+    let small = one_rank::<1, L>(alloc, Via::Exstack, reversed, &mut steps)?;
+    let large = one_rank::<64, L>(alloc, Via::Exstack, reversed, &mut steps)?;
+    let many = many_idle_ranks(alloc, Via::Exstack, reversed, &mut steps)?;
+    Ok([small, large, many])
+}
+
+fn stacks(alloc: Global, reversed: bool) -> Result<[Option<Told>; 3], NoMemory> {
+    count_stacks::<Brand>(alloc, reversed, Blank::new(1))
 }
 
 #[test]
@@ -193,6 +222,18 @@ fn counts_on_every_grid(rt: HostRuntime) -> Result<(), Fail> {
         assert_eq!(rt; one_rank, told);
         assert_eq!(rt; many_idle_ranks, told);
         assert_eq!(rt; three_hops, told);
+    }
+    Ok(())
+}
+
+#[test]
+fn counts_on_exstacks(rt: HostRuntime) -> Result<(), Fail> {
+    let told = Some(([1, 0, 3], 1, 2));
+    for reversed in [false, true] {
+        let [one_rank_on_exstack, in_one_exchange, many_idle_ranks] = stacks(rt.alloc(), reversed)?;
+        assert_eq!(rt; one_rank_on_exstack, told);
+        assert_eq!(rt; in_one_exchange, told);
+        assert_eq!(rt; many_idle_ranks, told);
     }
     Ok(())
 }

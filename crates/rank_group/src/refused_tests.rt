@@ -75,7 +75,11 @@ fn refused_absorbs(rt: HostRuntime) -> Result<(), Fail> {
 }
 
 /// Whether `drive_serial` answers that memory was wanting, where rank 2 of four refuses each absorb.
-fn is_refused_serially<L: Ledger>(alloc: Global, blank: Blank) -> Result<bool, NoMemory>
+fn is_refused_serially<L: Ledger>(
+    alloc: Global,
+    via: Via,
+    blank: Blank,
+) -> Result<bool, NoMemory>
     requires name { blank.name ≡ L.name }
     requires parts { blank.parts ≡ L.parts }
     requires some { 0 < L.parts }
@@ -92,7 +96,7 @@ fn is_refused_serially<L: Ledger>(alloc: Global, blank: Blank) -> Result<bool, N
     let told = drive_serial::<1, 1, Watched<'_>, L>(
         alloc,
         &grid,
-        Via::Convey,
+        via,
         2,
         false,
         &order,
@@ -102,12 +106,13 @@ fn is_refused_serially<L: Ledger>(alloc: Global, blank: Blank) -> Result<bool, N
     Ok(told.is_err())
 }
 
-fn refused_serially(alloc: Global) -> Result<bool, NoMemory> {
-    is_refused_serially::<Brand>(alloc, Blank::new(1))
+fn refused_serially(alloc: Global, via: Via) -> Result<bool, NoMemory> {
+    is_refused_serially::<Brand>(alloc, via, Blank::new(1))
 }
 
 #[test]
 fn refused_absorbs_serially(rt: HostRuntime) -> Result<(), Fail> {
-    assert!(rt; refused_serially(rt.alloc())?);
+    assert!(rt; refused_serially(rt.alloc(), Via::Convey)?);
+    assert!(rt; refused_serially(rt.alloc(), Via::Exstack)?);
     Ok(())
 }

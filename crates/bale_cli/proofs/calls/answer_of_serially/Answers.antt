@@ -16,8 +16,8 @@ returns-in-Ok-clause-answered g c =
 pub returns-in-Ok-clause-steps : goal.returns-in-Ok-clause-steps
 returns-in-Ok-clause-steps g c = λ text command m asked.
     let e = same_asked c.args.command.now c.in-Ok.matrix text command m c.in-Ok.ensures.matrix asked in
-    subst (λ (y : Sparse). TurnsOfTask command.task y command.grid c.args.steps.now c.ran_serially.new.steps) e.1
-    (subst (λ (x : Command). TurnsOfTask x.task c.in-Ok.matrix x.grid c.args.steps.now c.ran_serially.new.steps) e.0 c.ran_serially.ensures.steps)
+    subst (λ (y : Sparse). TurnsOfTask command.task y (manner_for command) command.grid c.args.steps.now c.ran_serially.new.steps) e.1
+    (subst (λ (x : Command). TurnsOfTask x.task c.in-Ok.matrix (manner_for x) x.grid c.args.steps.now c.ran_serially.new.steps) e.0 c.ran_serially.ensures.steps)
 
 pub returns-in-Ok-clause-no_turns : goal.returns-in-Ok-clause-no_turns
 returns-in-Ok-clause-no_turns g c = memory_only _ c.ran_serially.result c.ran_serially.ensures.memory

@@ -1,7 +1,8 @@
-use Rattle.std.proofs.Common.{◌<◌, ◌≤◌, ◌≡◌, ◌∙◌, ℕ, List, true, length, ap, subst, sym, arith}
+use Rattle.std.proofs.Common.{◌+◌, ◌<◌, ◌≤◌, ◌≡◌, ◌∙◌, ℕ, List, true, length, ap, subst, sym, arith}
 use Rattle.route_tensor.proofs.Coordinates.{ranks_some}
 use Rattle.route_tensor.specs.Grid.{ranks}
-use Rattle.round_program.specs.Canonical.{InRound, EndsWithin, HaveEnded}
+use Rattle.round_program.specs.Canonical.{HasRounds, InRound, EndsWithin, HaveEnded}
+use Rattle.rank_group.specs.Told.{turns_within}
 use Rattle.rank_group.specs.declared.closed_round.ClosedRound.{ClosedRound}
 use Rattle.app_cases.specs.Any.{AnyState, any_rules}
 use Rattle.bale_cli.specs.Jobs.{manner_for}
@@ -35,6 +36,9 @@ are g c = c.in_ok-progs.ensures.starts ∙ ap (λ n. starts_of c.args.command.no
 pub case_serial-requires-clause-capacity : goal.case_serial-requires-clause-capacity
 case_serial-requires-clause-capacity g c = is_capacity c.args.command.now.travel.buffer c.requires.ranges.travel.buffer
 
+pub case_serial-requires-clause-one_hop : goal.case_serial-requires-clause-one_hop
+case_serial-requires-clause-one_hop g c = λ e. absurd cc
+
 pub case_serial-requires-clause-slots : goal.case_serial-requires-clause-slots
 case_serial-requires-clause-slots g c = is_slots c.args.command.now.travel.slots c.requires.ranges.travel.slots
 
@@ -63,12 +67,14 @@ returns-clause-rounds g c =
 
 pub returns-in_err-run-clause-steps : goal.returns-in_err-run-clause-steps
 returns-in_err-run-clause-steps g c =
-    turns_of_task c.args.command.now.task c.args.m.now c.args.command.now.grid c.args.steps.now c.case_serial.new.steps c.in_ok-progs.progs
+    turns_of_task c.args.command.now.task c.args.m.now (manner_for c.args.command.now) c.args.command.now.grid c.args.steps.now c.case_serial.new.steps c.in_ok-progs.progs
     (ready true c.args.command.now c.requires.runs) (are g (goal.at.returns-in_err-run-clause-steps g c).In_ok-progs) (some g (goal.at.returns-in_err-run-clause-steps g c).In_ok-progs)
-    c.case_serial.ensures.steps
+    (subst (λ v. (n : ℕ) → HasRounds any_rules c.in_ok-progs.progs n → c.case_serial.new.steps ≤ c.args.steps.now + turns_within any_rules (manner_of v c.args.command.now.travel.steady) c.args.command.now.grid c.in_ok-progs.progs n)
+    (sym (serial_via c.args.command.now c.requires.runs)) c.case_serial.ensures.steps)
 
 pub returns-clause-steps : goal.returns-clause-steps
 returns-clause-steps g c =
-    turns_of_task c.args.command.now.task c.args.m.now c.args.command.now.grid c.args.steps.now c.case_serial.new.steps c.in_ok-progs.progs
+    turns_of_task c.args.command.now.task c.args.m.now (manner_for c.args.command.now) c.args.command.now.grid c.args.steps.now c.case_serial.new.steps c.in_ok-progs.progs
     (ready true c.args.command.now c.requires.runs) (are g (goal.at.returns-clause-steps g c).In_ok-progs) (some g (goal.at.returns-clause-steps g c).In_ok-progs)
-    c.case_serial.ensures.steps
+    (subst (λ v. (n : ℕ) → HasRounds any_rules c.in_ok-progs.progs n → c.case_serial.new.steps ≤ c.args.steps.now + turns_within any_rules (manner_of v c.args.command.now.travel.steady) c.args.command.now.grid c.in_ok-progs.progs n)
+    (sym (serial_via c.args.command.now c.requires.runs)) c.case_serial.ensures.steps)

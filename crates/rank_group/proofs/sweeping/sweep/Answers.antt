@@ -16,9 +16,9 @@ loop-i-init g c =
       most_steps = omega arith;
       size = refl;
       turns = inr (record {
-            same = λ r x0 x a b. ap (λ (y : RankState g.row.Q.Denot). y.over) (get_once c.args.all.now.items r x x0 b a);
-            over = λ q r x low. absurd (omega (arith, low));
-          });
+        same = λ r x0 x a b. ap (λ (y : RankState g.row.Q.Denot). y.over) (get_once c.args.all.now.items r x x0 b a);
+        over = λ q r x low. absurd (omega (arith, low));
+      });
       fewest = omega arith;
       swept = λ manner starts n h p w. swept_none g.Q.Program.rules c.args.bank.dims g.row.CAP c.args.bank.slots manner starts c.args.order.now h c.args.all.now.items (sent_of c.args.bank) (got_of c.args.bank) w;
     }

@@ -9,8 +9,10 @@ use Rattle.app_permute.specs.Transposes.{TransposeState, transpose_rules}
 use Rattle.app_topo.specs.Topos.{TopoState, topo_rules}
 use Rattle.app_sssp.specs.Sssps.{SsspState, sssp_rules}
 use Rattle.delta_step.specs.Deltas.{DeltaState, delta_rules}
+use Rattle.elastic.specs.Mails.{MailState, mail_rules}
+use Rattle.app_tally.specs.Tallies.{TallyState, tally_rules}
 
--- A rank of one of the applications.
+-- A rank of one of the applications; topo and tally, in its mailer, are those that put things in order.
 abbrev pub ColumnState : Type 0
 ColumnState = Either HistoState IgState
 
@@ -20,11 +22,14 @@ MoveState = Either PermuteState TransposeState
 abbrev pub WalkState : Type 0
 WalkState = Either SsspState DeltaState
 
-abbrev pub GraphState : Type 0
-GraphState = Either TopoState WalkState
+abbrev pub OrderState : Type 0
+OrderState = Either TopoState (MailState TallyState)
+
+abbrev pub LastState : Type 0
+LastState = Either OrderState WalkState
 
 abbrev pub OtherState : Type 0
-OtherState = Either MoveState GraphState
+OtherState = Either MoveState LastState
 
 abbrev pub AnyState : Type 0
 AnyState = Either ColumnState OtherState
@@ -39,11 +44,14 @@ move_rules = either_rules permute_rules transpose_rules
 abbrev pub walk_rules : Rules WalkState
 walk_rules = either_rules sssp_rules delta_rules
 
-abbrev pub graph_rules : Rules GraphState
-graph_rules = either_rules topo_rules walk_rules
+abbrev pub order_rules : Rules OrderState
+order_rules = either_rules topo_rules (mail_rules tally_rules)
+
+abbrev pub last_rules : Rules LastState
+last_rules = either_rules order_rules walk_rules
 
 abbrev pub other_rules : Rules OtherState
-other_rules = either_rules move_rules graph_rules
+other_rules = either_rules move_rules last_rules
 
 abbrev pub any_rules : Rules AnyState
 any_rules = either_rules column_rules other_rules

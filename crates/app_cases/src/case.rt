@@ -7,15 +7,16 @@ ghost use Rattle.app_cases.specs.Any.{AnyState, any_rules};
 use app_histo_ig::{Histo, Ig};
 use app_permute::{Permute, Transpose};
 use app_sssp::Sssp;
+use app_tally::TallyMailer;
 use app_topo::Topo;
 use delta_step::Delta;
 use either::{Either, Left, Right};
 use round_program::Program;
 
-/// Any of the applications.
+/// Any of the applications, and tally in its mailer.
 pub type AnyProgram = Either<
     Either<Histo, Ig>,
-    Either<Either<Permute, Transpose>, Either<Topo, Either<Sssp, Delta>>>,
+    Either<Either<Permute, Transpose>, Either<Either<Topo, TallyMailer>, Either<Sssp, Delta>>>,
 >;
 
 /// A program that is one of the applications.
@@ -132,12 +133,33 @@ impl Case for Topo {
     ghost is_case = { topo_is_case };
 
     fn put(self) -> AnyProgram {
-        Right(Right(Left(self)))
+        Right(Right(Left(Left(self))))
     }
 
     fn taken(any: AnyProgram) -> Topo {
         match any {
-            Right(Right(Left(topo))) => topo,
+            Right(Right(Left(Left(topo)))) => topo,
+            _ => unreachable!(),
+        }
+    }
+}
+
+impl Case for TallyMailer {
+    ghost use Rattle.app_cases.specs.Cases.{tally_case, tally_shape, tally_is_case};
+
+    ghost case_of = { tally_case };
+
+    ghost wrap = { tally_shape };
+
+    ghost is_case = { tally_is_case };
+
+    fn put(self) -> AnyProgram {
+        Right(Right(Left(Right(self))))
+    }
+
+    fn taken(any: AnyProgram) -> TallyMailer {
+        match any {
+            Right(Right(Left(Right(tally)))) => tally,
             _ => unreachable!(),
         }
     }

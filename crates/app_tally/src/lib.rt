@@ -14,6 +14,7 @@
 
 mod counts;
 mod lines;
+mod mailer;
 mod read;
 mod run;
 mod strings;
@@ -24,6 +25,7 @@ mod write;
 
 pub use counts::Counts;
 pub use lines::{Lines, LinesFault};
+pub use mailer::TallyMailer;
 pub use read::read_lines;
 pub use run::{tally_end, tally_start};
 pub use strings::Strings;

@@ -11,6 +11,7 @@ ghost use Rattle.app_tally.specs.TallyRuns.{own_lines, tally_begins, tally_start
 
 use crate::counts::{Counts, tally_all};
 use crate::lines::Lines;
+use crate::mailer::TallyMailer;
 use crate::strings::Strings;
 use crate::tally::Tally;
 use bale_types::NoMemory;
@@ -23,11 +24,7 @@ use std::alloc::Global;
 /// # Errors
 ///
 /// `NoMemory` where there was none for the programs.
-pub fn tally_start(
-    alloc: Global,
-    lines: &Lines,
-    ranks: u32,
-) -> Result<Progs<Mailer<Tally>>, NoMemory>
+pub fn tally_start(alloc: Global, lines: &Lines, ranks: u32) -> Result<Progs<TallyMailer>, NoMemory>
     requires some { 1 ≤ ranks }
     requires few { ranks ≤ 64 }
     ensures starts { IfOk result (λ ps. ps ≡ tally_starts ranks lines.now) }
@@ -43,14 +40,15 @@ pub fn tally_start(
 }
 
 /// One rank's program.
-fn part_of(alloc: Global, lines: &Lines, ranks: u32, rank: u32) -> Result<Mailer<Tally>, NoMemory>
+fn part_of(alloc: Global, lines: &Lines, ranks: u32, rank: u32) -> Result<TallyMailer, NoMemory>
     requires rank { rank < ranks }
     requires few { ranks ≤ 64 }
     ensures { IfOk result (λ m. m ≡ mailing tally_rules (tally_begins ranks lines.now rank)) }
 {
     let _kept = lines.len();
     let own = own_of(alloc, lines, ranks, rank)?;
-    Mailer::new(alloc, Tally::new(alloc, rank, ranks, own))
+    let mailer = Mailer::new(alloc, Tally::new(alloc, rank, ranks, own))?;
+    Ok(TallyMailer::new(mailer))
 }
 
 /// The lines of a rank.
@@ -81,7 +79,7 @@ fn how_many(len: usize, step: usize, first: usize) -> usize
 /// # Errors
 ///
 /// `NoMemory` where there was none for the answer.
-pub fn tally_end(alloc: Global, p: &Progs<Mailer<Tally>>) -> Result<Counts, NoMemory>
+pub fn tally_end(alloc: Global, p: &Progs<TallyMailer>) -> Result<Counts, NoMemory>
     requires ended { (lines : List (List ℕ)) × TallyEnded lines p.now }
     ensures counts { (lines : List (List ℕ)) → TallyEnded lines p.now → IfOk result (λ c. c ≡ tally_of lines) }
     ensures each { (lines : List (List ℕ)) → TallyEnded lines p.now → IfOk result (λ c. IsTally lines c) }
@@ -91,7 +89,7 @@ pub fn tally_end(alloc: Global, p: &Progs<Mailer<Tally>>) -> Result<Counts, NoMe
 }
 
 /// The lines that came to all ranks.
-fn all_came(alloc: Global, p: &Progs<Mailer<Tally>>) -> Result<Vec<&[u8]>, NoMemory>
+fn all_came(alloc: Global, p: &Progs<TallyMailer>) -> Result<Vec<&[u8]>, NoMemory>
     requires ended { (lines : List (List ℕ)) × TallyEnded lines p.now }
     ensures times { (lines : List (List ℕ)) → TallyEnded lines p.now → IfOk result (λ all. (q : List ℕ) → times q (map (λ l. l.now) all.items) ≡ times q lines) }
     ensures letters { IfOk result (λ all. All IsLetter (map (λ l. l.now) all.items)) }

@@ -3,7 +3,6 @@ use super::*;
 use crate::counts::tally_all;
 use crate::run::gather;
 use bale_types::{Item, MemSink, MemSource, NoMemory, Out};
-use elastic::Mailer;
 use round_program::{Program, Progs};
 use std::alloc::Global;
 use std::test::Fail;
@@ -84,7 +83,7 @@ fn may_cross<Q: Program + Send>(q: &Q) -> u32 {
 }
 
 /// The tally of what came to all ranks.
-fn tally_by_hand(alloc: Global, p: &Progs<Mailer<Tally>>) -> Result<Counts, NoMemory> {
+fn tally_by_hand(alloc: Global, p: &Progs<TallyMailer>) -> Result<Counts, NoMemory> {
     let mut all = Vec::new(alloc);
     for rank in 0..p.len() {
         if let Some(program) = p.get(rank) {

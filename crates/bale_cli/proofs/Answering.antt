@@ -1,42 +1,43 @@
--- What is known of an answer, by the way that it took: refused by the words, by the matrix, or run.
-use Rattle.std.proofs.Common.{ℕ, ◌≡◌, ◌≢◌, ◌⊎◌, Bool, true, false, not, is_some, List, [], Option, None, Some, Result, Ok, Err, OnOk, OnErr, IfOk, IfErr, drop, refl, sym, ap, subst, ◌∙◌, inl, inr}
+-- What is known of an answer, by the way that it took: refused by the words, by the subject, or run.
+use Rattle.std.proofs.Common.{ℕ, ◌≡◌, ◌≢◌, ◌⊎◌, Bool, true, false, not, is_some, List, Option, None, Some, Result, Ok, Err, OnOk, OnErr, IfOk, IfErr, drop, refl, sym, ap, subst, ◌∙◌, inl, inr}
 use Rattle.std.proofs.lemmas.Bool.{false≢true}
 use Rattle.std.proofs.lemmas.Option.{none-some, same_Some}
 use Rattle.bale_types.specs.Stream.{after, IsFront}
 use Rattle.bale_types.proofs.Moves.{front_same}
-use Rattle.mtx_text.specs.declared.refusal.BadLine.{BadLine}
-use Rattle.mtx_text.specs.Sparse.{Sparse}
 use Rattle.bale_words.specs.declared.command.Command.{Command}
 use Rattle.bale_words.specs.declared.command.Generated.{Generated}
 use Rattle.bale_cli.specs.declared.exchange.Finish.{Finish}
+use Rattle.bale_cli.specs.declared.refusal.BadText.{BadText}
 use Rattle.bale_cli.specs.declared.refusal.Refusal.{Refusal}
 use Rattle.bale_cli.specs.declared.refusal.Refusal.TheVariants as refusal
+use Rattle.bale_cli.specs.declared.subject.Subject.{Subject}
 use Rattle.bale_cli.specs.declared.unfit.Unfit.{Unfit}
-use Rattle.bale_cli.specs.Answer.{answer_to, matrix_asked, shown, reads, Asked, HasWritten, IsOfText, TellsText, Told, Wrote}
+use Rattle.bale_cli.specs.Answer.{shown, reads, Asked, HasWritten, IsOfText, TellsText, Told, Wrote}
 use Rattle.bale_cli.specs.Fitness.{unfitness}
 use Rattle.bale_cli.specs.Jobs.{manner_for}
 use Rattle.bale_cli.specs.Outcomes.{Answered}
+use Rattle.bale_cli.specs.Subjects.{subject_asked}
 use Rattle.bale_cli.specs.Tasks.{IsAnswer, task_status, made_for, TellsTask}
 use Rattle.bale_cli.proofs.Endings.{before_text, wrote_status}
 
 abbrev pub err : Refusal → Result Finish Refusal
 err r = Err r
 
-abbrev pub ok : Sparse → Result Sparse BadLine
-ok m = Ok m
+abbrev pub ok : Subject → Result Subject Refusal
+ok s = Ok s
 
 abbrev err_or : Refusal → Result Finish Refusal → Refusal
 err_or d (Ok f) = d
 err_or d (Err r) = r
 
-abbrev ok_or : Sparse → Result Sparse BadLine → Sparse
-ok_or d (Ok m) = m
-ok_or d (Err b) = d
+abbrev ok_or : Subject → Result Subject Refusal → Subject
+ok_or d (Ok s) = s
+ok_or d (Err r) = d
 
 same_Err : (r s : Refusal) → err r ≡ err s → r ≡ s
 same_Err r s e = ap (err_or r) e
 
-same_Ok : (a b : Sparse) → ok a ≡ ok b → a ≡ b
+same_Ok : (a b : Subject) → ok a ≡ ok b → a ≡ b
 same_Ok a b e = ap (ok_or a) e
 
 front_kept : {taken taken' : Option (List ℕ)} → taken' ≡ taken → IsFront taken taken'
@@ -47,7 +48,7 @@ of_words : (r s : Refusal) → (r ≡ refusal.Usage) ⊎ (r ≡ refusal.NoMemory
 of_words r s (inl u) e = inl (sym e ∙ u)
 of_words r s (inr n) e = inr (sym e ∙ n)
 
-no_bad : (b : BadLine) → (refusal.BadMatrix b ≡ refusal.Usage) ⊎ (refusal.BadMatrix b ≡ refusal.NoMemory) → ⊥
+no_bad : (b : BadText) → (refusal.BadText b ≡ refusal.Usage) ⊎ (refusal.BadText b ≡ refusal.NoMemory) → ⊥
 no_bad b (inl e) = cc
 no_bad b (inr e) = cc
 
@@ -63,18 +64,18 @@ no_write : (refusal.WriteFault ≡ refusal.Usage) ⊎ (refusal.WriteFault ≡ re
 no_write (inl e) = cc
 no_write (inr e) = cc
 
--- what was asked is this command, of this matrix
-pub same_asked : {serial : Command → Bool} {left : Option (List ℕ)} (c : Command) (m : Sparse) (text : List ℕ) (c' : Command) (m' : Sparse)
-    → ((text : List ℕ) → Told (Some c) left text → matrix_asked c.travel.generated text ≡ Ok m) → Asked serial left (Some c) text c' m' → (c ≡ c') × (m ≡ m')
-same_asked {left = left} c m text c' m' matrix a =
+-- what was asked is this command, of this subject
+pub same_asked : {serial : Command → Bool} {left : Option (List ℕ)} (c : Command) (s : Subject) (text : List ℕ) (c' : Command) (s' : Subject)
+    → ((text : List ℕ) → Told (Some c) left text → subject_asked c text ≡ Ok s) → Asked serial left (Some c) text c' s' → (c ≡ c') × (s ≡ s')
+same_asked {left = left} c s text c' s' subject a =
     let e : c ≡ c' = same_Some c c' a.asked in
     let told : TellsText c.travel.generated left text = subst (λ (x : Command). TellsText x.travel.generated left text) (sym e) a.told in
-    let read : matrix_asked c'.travel.generated text ≡ Ok m = subst (λ (x : Command). matrix_asked x.travel.generated text ≡ Ok m) e (matrix text told) in
-    (e, same_Ok m m' (sym read ∙ a.matrix))
+    let read : subject_asked c' text ≡ Ok s = subst (λ (x : Command). subject_asked x text ≡ Ok s) e (subject text told) in
+    (e, same_Ok s s' (sym read ∙ a.subject))
 
 -- what was asked, of another spelling of the job
-pub asked_at : {serial : Command → Bool} {left : Option (List ℕ)} {job job' : Option Command} {text : List ℕ} {c : Command} {m : Sparse} → job ≡ job' → Asked serial left job text c m → Asked serial left job' text c m
-asked_at {serial = serial} {left = left} {text = text} {c = c} {m = m} e a = subst (λ (j : Option Command). Asked serial left j text c m) e a
+pub asked_at : {serial : Command → Bool} {left : Option (List ℕ)} {job job' : Option Command} {text : List ℕ} {c : Command} {s : Subject} → job ≡ job' → Asked serial left job text c s → Asked serial left job' text c s
+asked_at {serial = serial} {left = left} {text = text} {c = c} {s = s} e a = subst (λ (j : Option Command). Asked serial left j text c s) e a
 
 module _ {serial : Command → Bool} {left left' : Option (List ℕ)} {ReadRose WriteRose : Type 0} {taken taken' : Option (List ℕ)} where
   -- refused by the words, before anything was read
@@ -85,7 +86,7 @@ module _ {serial : Command → Bool} {left left' : Option (List ℕ)} {ReadRose 
         usage = λ e. u (same_Err r refusal.Usage e);
         no_command = λ none. kinds;
         read_fault = λ e. absurd (no_read (of_words r refusal.ReadFault kinds (same_Err r refusal.ReadFault e)));
-        bad = λ text b told e. absurd (no_bad b (of_words r (refusal.BadMatrix b) kinds (same_Err r (refusal.BadMatrix b) e)));
+        bad = λ text b told e. absurd (no_bad b (of_words r (refusal.BadText b) kinds (same_Err r (refusal.BadText b) e)));
         unfit = λ text x told e. absurd (no_unfit x (of_words r (refusal.Unfit x) kinds (same_Err r (refusal.Unfit x) e)));
         no_fault = λ e. no_write (of_words r refusal.WriteFault kinds e);
         wrote = λ text told. tt;
@@ -104,23 +105,23 @@ module _ {serial : Command → Bool} {left left' : Option (List ℕ)} {ReadRose 
       → Answered serial job left left' ReadRose taken taken' WriteRose answered
   at_job {answered = answered} job job' e a = subst (λ (j : Option Command). Answered serial j left left' ReadRose taken taken' WriteRose answered) (sym e) a
 
-  -- refused by the matrix, or by the reading of it
-  pub matrix_refused : (c : Command) (r : Refusal) → (r ≡ refusal.ReadFault → ReadRose)
-      → ((text : List ℕ) (b : BadLine) → Told (Some c) left text → r ≡ refusal.BadMatrix b → matrix_asked c.travel.generated text ≡ Err b)
+  -- refused by the subject, or by the reading of it
+  pub subject_refused : (c : Command) (r : Refusal) → (r ≡ refusal.ReadFault → ReadRose)
+      → ((text : List ℕ) (b : BadText) → Told (Some c) left text → r ≡ refusal.BadText b → subject_asked c text ≡ Err (refusal.BadText b))
       → ((text : List ℕ) (u : Unfit) → Told (Some c) left text → r ≡ refusal.Unfit u
-      → (m : Sparse) × (matrix_asked c.travel.generated text ≡ Ok m) × (unfitness c m (serial c) ≡ Some u))
+      → (s : Subject) × (subject_asked c text ≡ Ok s) × (unfitness c s (serial c) ≡ Some u))
       → (r ≢ refusal.WriteFault) × (r ≢ refusal.Usage) → (reads (Some c) ≡ false → left' ≡ left)
       → ((text : List ℕ) → left ≡ Some text → reads (Some c) ≡ true → IsOfText r → left' ≡ Some (drop 16777217 text)) → taken' ≡ taken
       → Answered serial (Some c) left left' ReadRose taken taken' WriteRose (Err r)
-  matrix_refused c r fault bad unfit kinds unread read_bad same_taken =
+  subject_refused c r fault bad unfit kinds unread read_bad same_taken =
       record {
         usage = λ e. absurd (kinds.1 (same_Err r refusal.Usage e));
         no_command = λ none. absurd (none-some c (sym none));
         read_fault = λ e. fault (same_Err r refusal.ReadFault e);
-        bad = λ text b told e. record { command = c; asked = refl; why = bad text b told (same_Err r (refusal.BadMatrix b) e) };
+        bad = λ text b told e. record { command = c; asked = refl; why = bad text b told (same_Err r (refusal.BadText b) e) };
         unfit = λ text u told e.
             let w = unfit text u told (same_Err r (refusal.Unfit u) e) in
-            record { command = c; asked = refl; matrix = w.0; read = w.1; why = w.2 };
+            record { command = c; asked = refl; subject = w.0; read = w.1; why = w.2 };
         no_fault = kinds.0;
         wrote = λ text told. tt;
         status = λ text told. tt;
@@ -134,17 +135,17 @@ module _ {serial : Command → Bool} {left left' : Option (List ℕ)} {ReadRose 
       }
 
   -- run, and the answer was written, or memory was wanting
-  pub ran_answered : (answered : Result Finish Refusal) (c : Command) (m : Sparse)
-      → ((text : List ℕ) → Told (Some c) left text → matrix_asked c.travel.generated text ≡ Ok m) → unfitness c m (serial c) ≡ None
+  pub ran_answered : (answered : Result Finish Refusal) (c : Command) (s : Subject)
+      → ((text : List ℕ) → Told (Some c) left text → subject_asked c text ≡ Ok s) → unfitness c s (serial c) ≡ None
       → (reads (Some c) ≡ false → left' ≡ left) → ((text : List ℕ) → left ≡ Some text → reads (Some c) ≡ true → left' ≡ Some (drop 16777217 text))
-      → IfOk answered (λ f. f.status ≡ task_status c.task m) → IfOk answered (λ f. HasWritten (IsAnswer c.task m) (shown c.travel.generated) taken taken' f.written)
+      → IfOk answered (λ f. f.status ≡ task_status c.task s) → IfOk answered (λ f. HasWritten (IsAnswer c.task s) (shown c.travel.generated) taken taken' f.written)
       → IfOk answered (λ f. OnErr f.written WriteRose) → IsFront taken taken' → OnErr answered (taken' ≡ taken) → IfErr answered (λ r. r ≡ refusal.NoMemory)
-      → IfOk answered (λ f. TellsTask c.task m (made_for (serial c) c) (manner_for c) f.rounds)
+      → IfOk answered (λ f. TellsTask c.task s (made_for (serial c) c) (manner_for c) f.rounds)
       → Answered serial (Some c) left left' ReadRose taken taken' WriteRose answered
-  ran_answered (Ok f) c m matrix fits unread whole status wrote cause held same memory rounds =
+  ran_answered (Ok f) c s subject fits unread whole status wrote cause held same memory rounds =
       let written : (text : List ℕ) → Told (Some c) left text
       → Wrote serial (Some c) text (λ bytes. OnOk f.written (taken' ≡ after taken bytes) × OnErr f.written (IsFront taken' (after taken bytes))) = λ text told.
-      record { command = c; asked = refl; matrix = m; read = matrix text told; fits = fits; bytes = wrote.bytes; answers = wrote.answers; wrote = (wrote.whole, wrote.front) } in
+      record { command = c; asked = refl; subject = s; read = subject text told; fits = fits; bytes = wrote.bytes; answers = wrote.answers; wrote = (wrote.whole, wrote.front) } in
       record {
         usage = λ e. absurd cc;
         no_command = λ none. absurd (none-some c (sym none));
@@ -160,18 +161,18 @@ module _ {serial : Command → Bool} {left left' : Option (List ℕ)} {ReadRose 
         read_whole = λ text told r. whole text told r;
         read_bad = λ text told r. tt;
         no_answer = tt;
-        rounds = λ text c' m' asked.
-            let e = same_asked c m text c' m' matrix asked in
-            subst (λ (y : Sparse). TellsTask c'.task y (made_for (serial c') c') (manner_for c') f.rounds) e.1
-            (subst (λ (x : Command). TellsTask x.task m (made_for (serial x) x) (manner_for x) f.rounds) e.0 rounds);
+        rounds = λ text c' s' asked.
+            let e = same_asked c s text c' s' subject asked in
+            subst (λ (y : Subject). TellsTask c'.task y (made_for (serial c') c') (manner_for c') f.rounds) e.1
+            (subst (λ (x : Command). TellsTask x.task s (made_for (serial x) x) (manner_for x) f.rounds) e.0 rounds);
       }
-  ran_answered (Err r) c m matrix fits unread whole status wrote cause held same memory rounds =
+  ran_answered (Err r) c s subject fits unread whole status wrote cause held same memory rounds =
       let kinds : (r ≡ refusal.Usage) ⊎ (r ≡ refusal.NoMemory) = inr memory in
       record {
         usage = λ e. absurd (no_usage (sym memory ∙ same_Err r refusal.Usage e));
         no_command = λ none. absurd (none-some c (sym none));
         read_fault = λ e. absurd (no_read (of_words r refusal.ReadFault kinds (same_Err r refusal.ReadFault e)));
-        bad = λ text b told e. absurd (no_bad b (of_words r (refusal.BadMatrix b) kinds (same_Err r (refusal.BadMatrix b) e)));
+        bad = λ text b told e. absurd (no_bad b (of_words r (refusal.BadText b) kinds (same_Err r (refusal.BadText b) e)));
         unfit = λ text x told e. absurd (no_unfit x (of_words r (refusal.Unfit x) kinds (same_Err r (refusal.Unfit x) e)));
         no_fault = λ e. no_write (of_words r refusal.WriteFault kinds e);
         wrote = λ text told. tt;
@@ -182,7 +183,7 @@ module _ {serial : Command → Bool} {left left' : Option (List ℕ)} {ReadRose 
         read_whole = λ text told r. tt;
         read_bad = λ text told rd of_text. absurd (before_text r kinds of_text);
         no_answer = same;
-        rounds = λ text c' m' asked. tt;
+        rounds = λ text c' s' asked. tt;
       }
     where
       no_usage : refusal.NoMemory ≡ refusal.Usage → ⊥

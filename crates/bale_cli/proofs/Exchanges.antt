@@ -1,20 +1,20 @@
 -- The words' numbers are a drive's.
 use Rattle.std.proofs.Common.{ℕ, ◌≡◌, ◌==◌, ◌&&◌, not, Bool, true, false, cond, length, Option, Some, None, refl, sym, arith, eqb-true}
 use Rattle.std.specs.List.{list_any}
-use Rattle.std.proofs.lemmas.Bool.{and_parts, false≢true}
+use Rattle.std.proofs.lemmas.Bool.{false≢true}
 use Rattle.std.proofs.lemmas.Bool.Decides.{nat_tests}
 use Rattle.port_bank.specs.Port.{IsSlots}
 use Rattle.case_table.specs.Capacities.{IsCapacity}
 use Rattle.bale_words.specs.declared.command.Command.{Command}
 use Rattle.bale_words.specs.Values.{slot_counts, buffer_sizes}
-use Rattle.mtx_text.specs.Sparse.{Sparse}
 use Rattle.rank_node.specs.declared.via.Via.TheVariants as via
 use Rattle.bale_words.specs.declared.command.Transport.{Transport}
 use Rattle.bale_words.specs.declared.command.Transport.TheVariants.{Convey, Exstack, Biconvey}
+use Rattle.bale_cli.specs.declared.subject.Subject.{Subject}
 use Rattle.bale_cli.specs.declared.unfit.Unfit.{Unfit}
 use Rattle.bale_cli.specs.declared.unfit.Unfit.TheVariants as unfit
-use Rattle.bale_cli.specs.Fitness.{is_exstack, task_unfitness, unfitness}
-use Rattle.bale_cli.specs.Jobs.{carries, is_ready, runs, via_of}
+use Rattle.bale_cli.specs.Fitness.{is_exstack, first_failed, subject_tests, unfitness}
+use Rattle.bale_cli.specs.Jobs.{via_of}
 
 pub is_capacity : (cap : ℕ) → list_any (λ size. size == cap) buffer_sizes ≡ true → IsCapacity cap
 unfolding IsCapacity
@@ -24,29 +24,16 @@ pub is_slots : (n : ℕ) → list_any (λ count. count == n) slot_counts ≡ tru
 unfolding IsSlots
 is_slots n h = grind (arith, nat_tests)
 
--- what runs is ready
-pub ready : (serial : Bool) (c : Command) → runs serial c ≡ true → is_ready c.task ≡ true
-ready serial c h = (and_parts (is_ready c.task) (carries serial c.travel.transport) h).0
-
--- on one thread by conveyors
-pub by_conveyors : (t : Transport) → carries true t ≡ true → via_of t ≡ via.Convey
-by_conveyors Convey h = refl
-by_conveyors Exstack h = absurd (false≢true h)
-by_conveyors Biconvey h = absurd (false≢true h)
-
-pub serial_via : (c : Command) → runs true c ≡ true → via_of c.travel.transport ≡ via.Convey
-serial_via c h = by_conveyors c.travel.transport (and_parts (is_ready c.task) (carries true c.travel.transport) h).1
-
 -- what is fit fits its application's tests, and an exstack's grid has one number
 fit_parts : (b : Bool) (u : Unfit) (rest : Option Unfit) → cond b (Some u) rest ≡ None → (b ≡ false) × (rest ≡ None)
 fit_parts true u rest e = absurd (cc)
 fit_parts false u rest e = (refl, e)
 
-pub task_fit : (c : Command) (m : Sparse) (serial : Bool) → unfitness c m serial ≡ None → task_unfitness c.task m serial ≡ None
-task_fit c m serial e = (fit_parts (is_exstack c.travel.transport && not (length c.grid == 1)) unfit.ExstackGrid (task_unfitness c.task m serial) e).1
+pub task_fit : (c : Command) (s : Subject) (serial : Bool) → unfitness c s serial ≡ None → first_failed (subject_tests c.task s serial) ≡ None
+task_fit c s serial e = (fit_parts (is_exstack c.travel.transport && not (length c.grid == 1)) unfit.ExstackGrid (first_failed (subject_tests c.task s serial)) e).1
 
-pub fit_grid : (c : Command) (m : Sparse) (serial : Bool) → unfitness c m serial ≡ None → via_of c.travel.transport ≡ via.Exstack → length c.grid ≡ 1
-fit_grid c m serial e = by c.travel.transport (length c.grid == 1) refl (fit_parts (is_exstack c.travel.transport && not (length c.grid == 1)) unfit.ExstackGrid (task_unfitness c.task m serial) e).0 where
+pub fit_grid : (c : Command) (s : Subject) (serial : Bool) → unfitness c s serial ≡ None → via_of c.travel.transport ≡ via.Exstack → length c.grid ≡ 1
+fit_grid c s serial e = by c.travel.transport (length c.grid == 1) refl (fit_parts (is_exstack c.travel.transport && not (length c.grid == 1)) unfit.ExstackGrid (first_failed (subject_tests c.task s serial)) e).0 where
   by : (t : Transport) (b : Bool) → (length c.grid == 1) ≡ b → (is_exstack t && not b) ≡ false → via_of t ≡ via.Exstack → length c.grid ≡ 1
   by Exstack true k h v = eqb-true (length c.grid) 1 k
   by Exstack false k h v = absurd (false≢true (sym h))

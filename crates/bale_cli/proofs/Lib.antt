@@ -4,6 +4,7 @@ pub mod Endings
 pub mod Exchanges
 pub mod Orders
 pub mod Outcomes
+pub mod Read
 pub mod Reasons
 pub mod Renumbering
 pub mod Served

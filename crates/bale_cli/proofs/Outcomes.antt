@@ -121,7 +121,7 @@ module _ {serial : Command → Bool} {job : Option Command} {left left' : Option
       elim (ends f o) [
         | inl w ↦
             let d = a.wrote text told in
-            record { command = d.command; asked = d.asked; matrix = d.matrix; read = d.read; fits = d.fits; bytes = d.bytes; answers = d.answers; wrote = did w d.wrote.0 }
+            record { command = d.command; asked = d.asked; subject = d.subject; read = d.read; fits = d.fits; bytes = d.bytes; answers = d.answers; wrote = did w d.wrote.0 }
         | inr u ↦ absurd (elim low [ inl nought ↦ omega (arith, u.fact.0, nought) | inr one ↦ omega (arith, u.fact.0, one) ])
       ]
   answer (Err r) a o text told low = absurd (not_low r o low)
@@ -133,7 +133,7 @@ module _ {serial : Command → Bool} {job : Option Command} {left left' : Option
         | inl w ↦ absurd (low_not status 4 (omega arith) w.fact.1 four)
         | inr u ↦
             let d = a.wrote text told in
-            record { command = d.command; asked = d.asked; matrix = d.matrix; read = d.read; fits = d.fits; bytes = d.bytes; answers = d.answers; wrote = failed u d.wrote.1 }
+            record { command = d.command; asked = d.asked; subject = d.subject; read = d.read; fits = d.fits; bytes = d.bytes; answers = d.answers; wrote = failed u d.wrote.1 }
       ]
   front (Err r) a o text told four = absurd (not_four r a.no_fault o four)
 

@@ -1,5 +1,5 @@
 -- A task that an application serves is one of its own.
-use Rattle.std.proofs.Common.{◌≡◌, ℕ, Option, None, Some, refl}
+use Rattle.std.proofs.Common.{◌≡◌, ℕ, None, Some, refl}
 use Rattle.mtx_text.specs.Sparse.{Sparse}
 use Rattle.bale_words.specs.declared.command.Task.{Task}
 use Rattle.bale_words.specs.declared.command.Task.TheVariants as task

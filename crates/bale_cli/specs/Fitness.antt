@@ -1,5 +1,5 @@
--- Whether a command can be answered for a matrix: tests in their order, of which the first that fails decides.
-use Rattle.std.specs.Prelude.{ℕ, ◌*◌, ◌==◌, ◌&&◌, ◌||◌, Bool, true, false, not, nat_lt, List, [], ◌∷◌, Option, None, Some, is_some, length, if◌then◌else◌}
+-- Whether a command can be answered for a matrix or for lines: tests in their order, of which the first that fails decides.
+use Rattle.std.specs.Prelude.{◌*◌, ◌==◌, ◌&&◌, ◌||◌, Bool, true, false, not, nat_lt, List, [], ◌∷◌, Option, None, Some, is_some, length, if◌then◌else◌}
 use Rattle.mtx_text.specs.Sparse.{Sparse}
 use Rattle.least_walks.specs.Walks.{no_negative}
 use Rattle.bale_words.specs.declared.command.Command.{Command}
@@ -9,6 +9,8 @@ use Rattle.bale_words.specs.declared.command.Task.{Task}
 use Rattle.bale_words.specs.declared.command.Task.TheVariants as task
 use Rattle.bale_words.specs.declared.command.Permutations.TheVariants.{Lists}
 use Rattle.bale_cli.specs.Numberings.{numbers_all}
+use Rattle.bale_cli.specs.declared.subject.Subject.{Subject}
+use Rattle.bale_cli.specs.declared.subject.Subject.TheVariants as subject
 use Rattle.bale_cli.specs.declared.unfit.Unfit.{Unfit}
 use Rattle.bale_cli.specs.declared.unfit.Unfit.TheVariants as unfit
 
@@ -25,7 +27,7 @@ abbrev pub first_failed : List Test → Option Unfit
 first_failed [] = None
 first_failed (t ∷ ts) = if t.0 then Some t.1 else first_failed ts
 
--- The tests of an application. The last two bound what a serial drive stores.
+-- The tests of an application on a matrix. The last two bound what a serial drive stores.
 abbrev pub tests_of : Task → Sparse → Bool → List Test
 tests_of (task.Sssp source delta) m serial =
     (not (m.cols == m.rows), unfit.NotSquare) ∷ (not (no_negative m.entries), unfit.NegativeWeight) ∷ ((source == 0) || nat_lt m.rows source, unfit.Source)
@@ -39,6 +41,12 @@ tests_of _ m serial = []
 abbrev pub task_unfitness : Task → Sparse → Bool → Option Unfit
 task_unfitness t m serial = first_failed (tests_of t m serial)
 
--- Why a command can't be answered: exstacks go over one hop alone, and then the tests of its application.
-abbrev pub unfitness : Command → Sparse → Bool → Option Unfit
-unfitness c m serial = first_failed ((is_exstack c.travel.transport && not (length c.grid == 1), unfit.ExstackGrid) ∷ tests_of c.task m serial)
+-- The tests of a task on what it is asked of. All lines fit tally.
+abbrev pub subject_tests : Task → Subject → Bool → List Test
+subject_tests t (subject.Matrix m) serial = tests_of t m serial
+subject_tests t (subject.Lines lines) serial = []
+
+-- Why a command can't be answered: exstacks go over one hop alone, and then the tests of its task.
+-- tally over exstacks on the grid 2x2: exstack needs a grid of one number.
+abbrev pub unfitness : Command → Subject → Bool → Option Unfit
+unfitness c s serial = first_failed ((is_exstack c.travel.transport && not (length c.grid == 1), unfit.ExstackGrid) ∷ subject_tests c.task s serial)

@@ -1,9 +1,7 @@
 -- What the program can run, of what words can ask for.
-use Rattle.std.specs.Prelude.{Bool, true, false, not, ◌&&◌, ℕ, List, Option, Some, None, if◌then◌else◌}
+use Rattle.std.specs.Prelude.{Bool, true, false, not, ℕ, List, Option, Some, None, if◌then◌else◌}
 use Rattle.std.specs.Option.{option_and_then}
 use Rattle.bale_words.specs.declared.command.Command.{Command}
-use Rattle.bale_words.specs.declared.command.Task.{Task}
-use Rattle.bale_words.specs.declared.command.Task.TheVariants as task
 use Rattle.bale_words.specs.declared.command.Transport.{Transport}
 use Rattle.bale_words.specs.declared.command.Transport.TheVariants.{Convey, Exstack, Biconvey}
 use Rattle.bale_words.specs.declared.command.Driving.{Driving}
@@ -13,20 +11,10 @@ use Rattle.rank_node.specs.declared.via.Via.{Via}
 use Rattle.rank_node.specs.declared.via.Via.TheVariants as via
 use Rattle.rank_node.specs.Movers.{Manner, manner_of}
 
--- The applications that run.
-abbrev pub is_ready : Task → Bool
-is_ready task.Histo = true
-is_ready task.Ig = true
-is_ready (task.Permute p) = true
-is_ready task.Transpose = true
-is_ready task.Topo = true
-is_ready (task.Sssp source delta) = true
-is_ready _ = false
-
 -- The transports by which a run goes, on one thread or by threads.
 abbrev pub carries : Bool → Transport → Bool
 carries serial Convey = true
-carries serial Exstack = not serial
+carries serial Exstack = true
 carries serial Biconvey = false
 
 abbrev pub is_serial : Driving → Bool
@@ -45,9 +33,9 @@ abbrev pub drives : Bool → Command → Bool
 drives true = on_one_thread
 drives false = as_asked
 
--- The table of what runs: these applications, over these transports.
+-- What runs: each application, over these transports.
 abbrev pub runs : Bool → Command → Bool
-runs serial c = is_ready c.task && carries serial c.travel.transport
+runs serial c = carries serial c.travel.transport
 
 abbrev pub if_it_runs : (Command → Bool) → Command → Option Command
 if_it_runs serial c = if runs (serial c) c then Some c else None

@@ -5,7 +5,9 @@ pub mod Logs
 pub mod Numberings
 pub mod Orders
 pub mod Outcomes
+pub mod Reading
 pub mod Serving
 pub mod Starts
+pub mod Subjects
 pub mod Summary
 pub mod Tasks

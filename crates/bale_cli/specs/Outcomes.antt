@@ -1,14 +1,14 @@
 -- What the two top calls stand on: what is known of an answer before it is told, and how it is told.
-use Rattle.std.specs.Prelude.{◌≡◌, ◌≢◌, ◌⊎◌, ◌≤◌, ℕ, Bool, true, false, List, [], Option, None, Some, Result, Ok, Err, drop, OnOk, OnErr, IfOk, IfErr}
+use Rattle.std.specs.Prelude.{◌≡◌, ◌≢◌, ◌⊎◌, ◌≤◌, ℕ, Bool, true, false, List, [], Option, None, Some, Result, Err, drop, OnOk, OnErr, IfOk, IfErr}
 use Rattle.std.specs.Result.{IsErrAnd}
 use Rattle.bale_types.specs.Stream.{after, IsFront}
-use Rattle.mtx_text.specs.declared.refusal.BadLine.{BadLine}
-use Rattle.mtx_text.specs.Sparse.{Sparse}
 use Rattle.rank_group.specs.declared.closed_round.ClosedRound.{ClosedRound}
 use Rattle.bale_words.specs.declared.command.Command.{Command}
 use Rattle.bale_cli.specs.declared.exchange.Finish.{Finish}
+use Rattle.bale_cli.specs.declared.refusal.BadText.{BadText}
 use Rattle.bale_cli.specs.declared.refusal.Refusal.{Refusal}
 use Rattle.bale_cli.specs.declared.refusal.Refusal.TheVariants as refusal
+use Rattle.bale_cli.specs.declared.subject.Subject.{Subject}
 use Rattle.bale_cli.specs.declared.unfit.Unfit.{Unfit}
 use Rattle.bale_cli.specs.Answer.{answer_to, refusal_text, status_of, reads, Asked, IsBad, IsOfText, IsUnfit, Told, Wrote}
 use Rattle.bale_cli.specs.Jobs.{manner_for}
@@ -21,7 +21,7 @@ pub record Answered (serial : Command → Bool) (job : Option Command) (left lef
   pub usage : answered ≡ Err refusal.Usage → job ≡ None
   pub no_command : job ≡ None → IsErrAnd answered (λ r. (r ≡ refusal.Usage) ⊎ (r ≡ refusal.NoMemory))
   pub read_fault : answered ≡ Err refusal.ReadFault → ReadRose
-  pub bad : (text : List ℕ) (b : BadLine) → Told job left text → answered ≡ Err (refusal.BadMatrix b) → IsBad job text b
+  pub bad : (text : List ℕ) (b : BadText) → Told job left text → answered ≡ Err (refusal.BadText b) → IsBad job text b
   pub unfit : (text : List ℕ) (u : Unfit) → Told job left text → answered ≡ Err (refusal.Unfit u) → IsUnfit serial job text u
   pub no_fault : IfErr answered (λ r. r ≢ refusal.WriteFault)
   pub wrote : (text : List ℕ) → Told job left text → IfOk answered (λ f. Wrote serial job text
@@ -33,8 +33,8 @@ pub record Answered (serial : Command → Bool) (job : Option Command) (left lef
   pub read_whole : (text : List ℕ) → left ≡ Some text → reads job ≡ true → OnOk answered (left' ≡ Some (drop 16777217 text))
   pub read_bad : (text : List ℕ) → left ≡ Some text → reads job ≡ true → IfErr answered (λ r. IsOfText r → left' ≡ Some (drop 16777217 text))
   pub no_answer : OnErr answered (taken' ≡ taken)
-  pub rounds : (text : List ℕ) (c : Command) (m : Sparse) → Asked serial left job text c m →
-      IfOk answered (λ f. TellsTask c.task m (made_for (serial c) c) (manner_for c) f.rounds)
+  pub rounds : (text : List ℕ) (c : Command) (s : Subject) → Asked serial left job text c s →
+      IfOk answered (λ f. TellsTask c.task s (made_for (serial c) c) (manner_for c) f.rounds)
 
 -- How an answer is told, or why there is none: the status, the rounds, and what err took. `Rose` says that its faults rose.
 pub record IsOutcome (answered : Result Finish Refusal) (old new : Option (List ℕ)) (Rose : Type 0) (status : ℕ) (rounds : List ClosedRound) : Type 0 where

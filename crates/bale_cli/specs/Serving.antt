@@ -1,5 +1,5 @@
 -- Which tasks an application does, for which matrices; what its own programs are given.
-use Rattle.std.specs.Prelude.{◌≡◌, ◌≤◌, ◌-◌, ℕ, true, List, [], Option, None, Some}
+use Rattle.std.specs.Prelude.{◌≡◌, ◌≤◌, ◌-◌, ℕ, true, [], None, Some}
 use Rattle.mtx_text.specs.Sparse.{Sparse}
 use Rattle.mtx_text.specs.Permutations.{Permutes}
 use Rattle.least_walks.specs.Walks.{no_negative}

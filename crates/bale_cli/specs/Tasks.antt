@@ -1,5 +1,5 @@
--- What each application answers for a matrix, and which programs it runs for that.
-use Rattle.std.specs.Prelude.{◌≡◌, ◌≤◌, ◌+◌, ◌-◌, ℕ, Bool, not, List, [], ◌∷◌, Option, None, Some}
+-- What each application answers for a matrix, and tally for lines, and which programs it runs for that.
+use Rattle.std.specs.Prelude.{◌≡◌, ◌≤◌, ◌+◌, ◌-◌, ℕ, Bool, not, List, [], ◌∷◌, None, Some}
 use Rattle.route_tensor.specs.Grid.{ranks}
 use Rattle.mtx_text.specs.Sparse.{Sparse}
 use Rattle.round_program.specs.Rules.{Rules}
@@ -25,12 +25,18 @@ use Rattle.app_permute.specs.Transposes.{transpose_rules}
 use Rattle.app_permute.specs.TransposeRuns.{transpose_starts}
 use Rattle.app_sssp.specs.Sssps.{sssp_rules}
 use Rattle.app_sssp.specs.SsspRuns.{sssp_starts}
+use Rattle.app_tally.specs.Counts.{tally_of, tally_text}
+use Rattle.app_tally.specs.Tallies.{tally_rules}
+use Rattle.app_tally.specs.TallyRuns.{tally_starts}
 use Rattle.app_topo.specs.Levels.{topo_order}
 use Rattle.app_topo.specs.Topos.{topo_rules}
 use Rattle.app_topo.specs.TopoRuns.{topo_starts}
 use Rattle.delta_step.specs.Deltas.{delta_rules}
 use Rattle.delta_step.specs.DeltaRuns.{delta_starts}
+use Rattle.elastic.specs.Mails.{mail_rules}
 use Rattle.least_walks.specs.Lines.{IsSsspAnswer}
+use Rattle.bale_cli.specs.declared.subject.Subject.{Subject}
+use Rattle.bale_cli.specs.declared.subject.Subject.TheVariants as subject
 use Rattle.bale_cli.specs.Numberings.{perms_for}
 use Rattle.bale_cli.specs.Orders.{order_status, order_text}
 
@@ -40,19 +46,29 @@ abbrev pub made_for : Bool → Command → Made
 made_for serial c = record { dims = c.grid; cap = c.travel.buffer; slots = c.travel.slots; by_slots = not serial }
 
 -- These bytes are an application's answer for a matrix. What doesn't run has none.
-abbrev pub IsAnswer : Task → Sparse → List ℕ → Type 0
-IsAnswer task.Histo m bytes = bytes ≡ histo_lines m.entries m.cols
-IsAnswer task.Ig m bytes = bytes ≡ ig_lines m.entries
-IsAnswer (task.Permute p) m bytes = bytes ≡ text_of (permuted (perms_for p m).rows (perms_for p m).cols m)
-IsAnswer task.Transpose m bytes = bytes ≡ text_of (transposed m)
-IsAnswer task.Topo m bytes = bytes ≡ order_text (topo_order m.rows m.entries)
-IsAnswer (task.Sssp source delta) m bytes = IsSsspAnswer m (source - 1) bytes
-IsAnswer _ m bytes = ⊥
+abbrev pub IsMatrixAnswer : Task → Sparse → List ℕ → Type 0
+IsMatrixAnswer task.Histo m bytes = bytes ≡ histo_lines m.entries m.cols
+IsMatrixAnswer task.Ig m bytes = bytes ≡ ig_lines m.entries
+IsMatrixAnswer (task.Permute p) m bytes = bytes ≡ text_of (permuted (perms_for p m).rows (perms_for p m).cols m)
+IsMatrixAnswer task.Transpose m bytes = bytes ≡ text_of (transposed m)
+IsMatrixAnswer task.Topo m bytes = bytes ≡ order_text (topo_order m.rows m.entries)
+IsMatrixAnswer (task.Sssp source delta) m bytes = IsSsspAnswer m (source - 1) bytes
+IsMatrixAnswer _ m bytes = ⊥
 
 -- The exit status of an answer: 1 where topo finds no order, else 0.
-abbrev pub task_status : Task → Sparse → ℕ
-task_status task.Topo m = order_status (topo_order m.rows m.entries)
-task_status _ m = 0
+abbrev pub matrix_status : Task → Sparse → ℕ
+matrix_status task.Topo m = order_status (topo_order m.rows m.entries)
+matrix_status _ m = 0
+
+-- These bytes are a task's answer for a matrix or for lines. For tally and the lines "b", "a", "b" they are "1 a/2 b/", with / for LF.
+abbrev pub IsAnswer : Task → Subject → List ℕ → Type 0
+IsAnswer t (subject.Matrix m) bytes = IsMatrixAnswer t m bytes
+IsAnswer t (subject.Lines lines) bytes = bytes ≡ tally_text (tally_of lines)
+
+-- Its exit status.
+abbrev pub task_status : Task → Subject → ℕ
+task_status t (subject.Matrix m) = matrix_status t m
+task_status t (subject.Lines lines) = 0
 
 -- The rounds of a run are one closed round, which tells the canonical run of these programs.
 pub record Tells {S : Type 0} (R : Rules S) (starts : List S) (made : Made) (manner : Manner) (rounds : List ClosedRound) : Type 0 where
@@ -64,29 +80,39 @@ pub record Tells {S : Type 0} (R : Rules S) (starts : List S) (made : Made) (man
 
 -- The rounds tell the canonical run of the application's programs for this matrix, over a bank that was made as said.
 -- For histo on 4 ranks: that of histo_rules, begun with histo_starts 4 m.
-abbrev pub TellsTask : Task → Sparse → Made → Manner → List ClosedRound → Type 0
-TellsTask task.Histo m made manner rounds = Tells histo_rules (histo_starts (ranks made.dims) m) made manner rounds
-TellsTask task.Ig m made manner rounds = Tells ig_rules (ig_starts (ranks made.dims) m) made manner rounds
-TellsTask (task.Permute p) m made manner rounds =
+abbrev pub TellsMatrix : Task → Sparse → Made → Manner → List ClosedRound → Type 0
+TellsMatrix task.Histo m made manner rounds = Tells histo_rules (histo_starts (ranks made.dims) m) made manner rounds
+TellsMatrix task.Ig m made manner rounds = Tells ig_rules (ig_starts (ranks made.dims) m) made manner rounds
+TellsMatrix (task.Permute p) m made manner rounds =
     Tells permute_rules (permute_starts (ranks made.dims) m (perms_for p m).rows (perms_for p m).cols) made manner rounds
-TellsTask task.Transpose m made manner rounds = Tells transpose_rules (transpose_starts (ranks made.dims) m) made manner rounds
-TellsTask task.Topo m made manner rounds = Tells topo_rules (topo_starts (ranks made.dims) m) made manner rounds
-TellsTask (task.Sssp source (Some delta)) m made manner rounds = Tells delta_rules (delta_starts (ranks made.dims) m (source - 1) delta) made manner rounds
-TellsTask (task.Sssp source None) m made manner rounds = Tells sssp_rules (sssp_starts (ranks made.dims) m (source - 1)) made manner rounds
-TellsTask _ m made manner rounds = ⊥
+TellsMatrix task.Transpose m made manner rounds = Tells transpose_rules (transpose_starts (ranks made.dims) m) made manner rounds
+TellsMatrix task.Topo m made manner rounds = Tells topo_rules (topo_starts (ranks made.dims) m) made manner rounds
+TellsMatrix (task.Sssp source (Some delta)) m made manner rounds = Tells delta_rules (delta_starts (ranks made.dims) m (source - 1) delta) made manner rounds
+TellsMatrix (task.Sssp source None) m made manner rounds = Tells sssp_rules (sssp_starts (ranks made.dims) m (source - 1)) made manner rounds
+TellsMatrix _ m made manner rounds = ⊥
+
+-- The same of a matrix or of lines: for tally it is the run of the mailers, whose items spell the lines.
+abbrev pub TellsTask : Task → Subject → Made → Manner → List ClosedRound → Type 0
+TellsTask t (subject.Matrix m) made manner rounds = TellsMatrix t m made manner rounds
+TellsTask t (subject.Lines lines) made manner rounds = Tells (mail_rules tally_rules) (tally_starts (ranks made.dims) lines) made manner rounds
 
 -- From `before` turns to `after` there are no more than a run of these programs takes at most.
 abbrev pub WithinTurns : {S : Type 0} → Rules S → List S → Manner → List ℕ → ℕ → ℕ → Type 0
 WithinTurns R starts manner dims before after = (n : ℕ) → HasRounds R starts n → after ≤ before + turns_within R manner dims starts n
 
 -- The turns of the application's run for this matrix are bounded before it. What doesn't run makes none.
-abbrev pub TurnsOfTask : Task → Sparse → Manner → List ℕ → ℕ → ℕ → Type 0
-TurnsOfTask task.Histo m manner dims before after = WithinTurns histo_rules (histo_starts (ranks dims) m) manner dims before after
-TurnsOfTask task.Ig m manner dims before after = WithinTurns ig_rules (ig_starts (ranks dims) m) manner dims before after
-TurnsOfTask (task.Permute p) m manner dims before after =
+abbrev pub TurnsOfMatrix : Task → Sparse → Manner → List ℕ → ℕ → ℕ → Type 0
+TurnsOfMatrix task.Histo m manner dims before after = WithinTurns histo_rules (histo_starts (ranks dims) m) manner dims before after
+TurnsOfMatrix task.Ig m manner dims before after = WithinTurns ig_rules (ig_starts (ranks dims) m) manner dims before after
+TurnsOfMatrix (task.Permute p) m manner dims before after =
     WithinTurns permute_rules (permute_starts (ranks dims) m (perms_for p m).rows (perms_for p m).cols) manner dims before after
-TurnsOfTask task.Transpose m manner dims before after = WithinTurns transpose_rules (transpose_starts (ranks dims) m) manner dims before after
-TurnsOfTask task.Topo m manner dims before after = WithinTurns topo_rules (topo_starts (ranks dims) m) manner dims before after
-TurnsOfTask (task.Sssp source (Some delta)) m manner dims before after = WithinTurns delta_rules (delta_starts (ranks dims) m (source - 1) delta) manner dims before after
-TurnsOfTask (task.Sssp source None) m manner dims before after = WithinTurns sssp_rules (sssp_starts (ranks dims) m (source - 1)) manner dims before after
-TurnsOfTask _ m manner dims before after = after ≡ before
+TurnsOfMatrix task.Transpose m manner dims before after = WithinTurns transpose_rules (transpose_starts (ranks dims) m) manner dims before after
+TurnsOfMatrix task.Topo m manner dims before after = WithinTurns topo_rules (topo_starts (ranks dims) m) manner dims before after
+TurnsOfMatrix (task.Sssp source (Some delta)) m manner dims before after = WithinTurns delta_rules (delta_starts (ranks dims) m (source - 1) delta) manner dims before after
+TurnsOfMatrix (task.Sssp source None) m manner dims before after = WithinTurns sssp_rules (sssp_starts (ranks dims) m (source - 1)) manner dims before after
+TurnsOfMatrix _ m manner dims before after = after ≡ before
+
+-- The same of a matrix or of lines.
+abbrev pub TurnsOfTask : Task → Subject → Manner → List ℕ → ℕ → ℕ → Type 0
+TurnsOfTask t (subject.Matrix m) manner dims before after = TurnsOfMatrix t m manner dims before after
+TurnsOfTask t (subject.Lines lines) manner dims before after = WithinTurns (mail_rules tally_rules) (tally_starts (ranks dims) lines) manner dims before after

@@ -1,77 +1,80 @@
-//! An application, from a matrix to the bytes of its answer.
+//! An application, from what it is asked of to the bytes of its answer.
 
 ghost use Rattle.std.specs.Prelude.{◌≡◌, ◌≤◌, ℕ, List, IfOk, OnOk, OnErr};
 ghost use Rattle.bale_types.specs.Stream.{after, HasCause, IsFront};
 ghost use Rattle.bale_types.specs.Out.{appended};
-ghost use Rattle.mtx_text.specs.Sparse.{Sparse};
 ghost use Rattle.round_program.specs.Canonical.{InRound, EndsWithin, HaveEnded};
 ghost use Rattle.bale_words.specs.declared.command.Task.{Task};
+ghost use Rattle.bale_cli.specs.declared.subject.Subject.{Subject};
 ghost use Rattle.bale_cli.specs.Tasks.{IsAnswer, task_status};
 
 use app_cases::Case;
 use bale_types::{Failed, NoMemory, Out, Sink};
 use bale_words::Task;
-use mtx_text::Matrix;
 use round_program::Progs;
 use std::alloc::Global;
 
-/// An application: its programs for a task and a matrix, and what is written once they ended.
+/// An application: its programs for a task and a matrix or lines, and what is written once they ended.
 pub(crate) trait Application {
+    /// what it is asked of: a matrix, or lines
+    type Of;
     /// one rank's part
     type Prog: Case;
     /// what is written
     type Answer: Drop;
 
-    /// the tasks that it does, for the matrices that fit them
-    ghost serves: { Task → Sparse → Type 0 };
+    /// a matrix or lines, as either of them
+    ghost as_subject: { Self.Of → Subject };
+    /// the tasks that it does, for the subjects that fit them
+    ghost serves: { Task → Self.Of → Type 0 };
     /// the programs of so many ranks as they begin
-    ghost starts: { Task → ℕ → Sparse → List Self.Prog };
+    ghost starts: { Task → ℕ → Self.Of → List Self.Prog };
     /// from this the answer is written
-    ghost answers: { Task → Sparse → Self.Answer → Type 0 };
+    ghost answers: { Task → Self.Of → Self.Answer → Type 0 };
 
     /// The programs of so many ranks, from 1 to 64, in round 0.
     fn start(
         alloc: Global,
         task: &Task,
-        m: &Matrix,
+        of: &Self::Of,
         ranks: u32,
     ) -> Result<Progs<Self::Prog>, NoMemory>
-        requires serves { serves task.now m.now }
+        requires serves { serves task.now of.now }
         requires some { 1 ≤ ranks }
         requires few { ranks ≤ 64 }
-        ensures starts { IfOk result (λ ps. ps ≡ starts task.now ranks m.now) }
+        ensures starts { IfOk result (λ ps. ps ≡ starts task.now ranks of.now) }
         ensures begins { IfOk result (λ ps. (shape : List ℕ) × (most : ℕ) × InRound Self.Prog.rules ranks 0 shape most ps × EndsWithin Self.Prog.rules ps most) };
 
     /// The answer, once the programs ended.
     fn end(
         alloc: Global,
         task: &Task,
-        m: &Matrix,
+        of: &Self::Of,
         progs: Progs<Self::Prog>,
     ) -> Result<Self::Answer, NoMemory>
-        requires serves { serves task.now m.now }
-        requires ended { (ranks : ℕ) × (1 ≤ ranks) × (ranks ≤ 64) × HaveEnded Self.Prog.rules (starts task.now ranks m.now) progs }
-        ensures { IfOk result (λ a. answers task.now m.now a) };
+        requires serves { serves task.now of.now }
+        requires ended { (ranks : ℕ) × (1 ≤ ranks) × (ranks ≤ 64) × HaveEnded Self.Prog.rules (starts task.now ranks of.now) progs }
+        ensures { IfOk result (λ a. answers task.now of.now a) };
 
     /// The exit status.
-    fn status(task: &Task, answer: &Self::Answer, m: &Matrix) -> u8
-        requires serves { serves task.now m.now }
-        requires answers { answers task.now m.now answer.now }
-        ensures value { result ≡ task_status task.now m.now }
+    fn status(task: &Task, answer: &Self::Answer, of: &Self::Of) -> u8
+        requires serves { serves task.now of.now }
+        requires answers { answers task.now of.now answer.now }
+        ensures value { result ≡ task_status task.now (as_subject of.now) }
         ensures low { result ≤ 1 };
 
     /// Writes the answer. No memory is taken.
     fn write<K: Sink>(
         task: &Task,
         answer: &Self::Answer,
-        m: &Matrix,
+        of: &Self::Of,
         out: &mut Out<'_, K>,
     ) -> Result<(), Failed>
-        requires serves { serves task.now m.now }
-        requires answers { answers task.now m.now answer.now }
-        ensures there_is { (bytes : List ℕ) × IsAnswer task.now m.now bytes }
-        ensures ok { (bytes : List ℕ) → IsAnswer task.now m.now bytes → OnOk result (appended K.taken out.new ≡ after (appended K.taken out.old) bytes) }
-        ensures err { (bytes : List ℕ) → IsAnswer task.now m.now bytes → OnErr result (IsFront (K.taken out.new.sink.now) (after (appended K.taken out.old) bytes)) }
+        requires serves { serves task.now of.now }
+        requires answers { answers task.now of.now answer.now }
+        ensures there_is { (bytes : List ℕ) × IsAnswer task.now (as_subject of.now) bytes }
+        ensures ok { (bytes : List ℕ) → IsAnswer task.now (as_subject of.now) bytes → OnOk result (appended K.taken out.new ≡ after (appended K.taken out.old) bytes) }
+        ensures err { (bytes : List ℕ) → IsAnswer task.now (as_subject of.now) bytes → OnErr result (IsFront (K.taken out.new.sink.now) (after (appended K.taken out.old) bytes)) }
         ensures cause { HasCause (K.faults out.old.sink.now) (K.faults out.new.sink.now) result }
         ensures never_falls { K.faults out.old.sink.now ≤ K.faults out.new.sink.now }
         ensures grows { IsFront (K.taken out.old.sink.now) (K.taken out.new.sink.now) }

@@ -1,7 +1,6 @@
 //! The top calls: from the words and the bytes that come in to the bytes that go out.
 ghost use Rattle.std.specs.Prelude.{◌≡◌, ◌≢◌, ◌⊎◌, ◌≤◌, ◌<◌, ℕ, true, false, [], List, Option, Some, None, Ok, Err, map, drop, string_bytes, OnOk, OnErr, IfOk, IfErr};
 ghost use Rattle.bale_types.specs.Stream.{after, HasCause, IsFront, Rose};
-ghost use Rattle.mtx_text.specs.Sparse.{Sparse};
 ghost use Rattle.bale_words.specs.declared.command.Command.{Command};
 ghost use Rattle.bale_words.specs.Ranges.{InRanges};
 ghost use Rattle.bale_cli.specs.Answer.{serial_answer, said, refusal_text, status_of, reads, Asked, Told, Wrote};
@@ -10,8 +9,9 @@ ghost use Rattle.bale_cli.specs.Outcomes.{Answered};
 ghost use Rattle.bale_cli.specs.Tasks.{made_for, TellsTask, TurnsOfTask};
 
 use crate::exchange::{Finish, drives_serially, ran, ran_serially};
-use crate::job::{matrix_for, read_job};
+use crate::job::{read_job, subject_for};
 use crate::refusal::{Refusal, report};
+use crate::subject::Subject;
 use bale_types::{Sink, Source};
 use bale_words::Command;
 use rank_group::{Gate, Rounds, Steps};
@@ -23,7 +23,7 @@ use std::thread::Threads;
 /// How a run ended.
 #[derive(Drop)]
 pub struct Outcome {
-    /// 0, or 1 where topo finds no order, or the status of the refusal: 2 usage, 3 read fault, 4 write fault, 5 no matrix, 6 unfit, 7 no memory
+    /// 0, or 1 where topo finds no order, or the status of the refusal: 2 usage, 3 read fault, 4 write fault, 5 a text that isn't what was asked of, 6 unfit, 7 no memory
     pub status: u8,
     /// What was exchanged: one closed round where an answer was written or its writing failed, else none.
     pub rounds: Rounds,
@@ -74,10 +74,10 @@ pub fn run<R: Threads + Wait + Sync, S: Source, K: Sink, E: Sink, G: Gate + Sync
     ensures said_held { IsFront (E.taken err.old) (E.taken err.new) }
     ensures silent { (result.status ≡ 0) ⊎ (result.status ≡ 1) → E.taken err.new ≡ E.taken err.old }
 
-    // At 0, 1 and 4 the rounds tell the canonical run of the application's programs for its matrix, over a bank of
+    // At 0, 1 and 4 the rounds tell the canonical run of the application's programs for its matrix or lines, over a bank of
     // the grid, the capacity and the slots that the words name: a plain one for one thread, else one of slots; else there are none.
-    ensures rounds { (text : List ℕ) (c : Command) (m : Sparse) → Asked as_asked (S.left source.old) (job_of as_asked (map string_bytes words.now)) text c m → (result.status ≡ 0) ⊎ (result.status ≡ 1) ⊎ (result.status ≡ 4) →
-        TellsTask c.task m (made_for (as_asked c) c) (manner_for c) result.rounds }
+    ensures rounds { (text : List ℕ) (c : Command) (s : Subject) → Asked as_asked (S.left source.old) (job_of as_asked (map string_bytes words.now)) text c s → (result.status ≡ 0) ⊎ (result.status ≡ 1) ⊎ (result.status ≡ 4) →
+        TellsTask c.task s (made_for (as_asked c) c) (manner_for c) result.rounds }
     ensures no_rounds { result.status ≢ 0 → result.status ≢ 1 → result.status ≢ 4 → result.rounds ≡ [] }
 {
     let answered = answer(rt, alloc, words, source, out, gate);
@@ -128,15 +128,15 @@ pub fn run_serial<S: Source, K: Sink, E: Sink, L: Ledger>(
     ensures said_held { IsFront (E.taken err.old) (E.taken err.new) }
     ensures silent { (result.status ≡ 0) ⊎ (result.status ≡ 1) → E.taken err.new ≡ E.taken err.old }
 
-    // At 0, 1 and 4 the rounds tell the canonical run of the application's programs for its matrix, over a bank of
+    // At 0, 1 and 4 the rounds tell the canonical run of the application's programs for its matrix or lines, over a bank of
     // the grid, the capacity and the slots that the words name: a plain one; else there are none.
-    ensures rounds { (text : List ℕ) (c : Command) (m : Sparse) → Asked on_one_thread (S.left source.old) (job_of on_one_thread (map string_bytes words.now)) text c m → (result.status ≡ 0) ⊎ (result.status ≡ 1) ⊎ (result.status ≡ 4) →
-        TellsTask c.task m (made_for true c) (manner_for c) result.rounds }
+    ensures rounds { (text : List ℕ) (c : Command) (s : Subject) → Asked on_one_thread (S.left source.old) (job_of on_one_thread (map string_bytes words.now)) text c s → (result.status ≡ 0) ⊎ (result.status ≡ 1) ⊎ (result.status ≡ 4) →
+        TellsTask c.task s (made_for true c) (manner_for c) result.rounds }
     ensures no_rounds { result.status ≢ 0 → result.status ≢ 1 → result.status ≢ 4 → result.rounds ≡ [] }
 
-    // The turns are bounded by the words and the matrix, at 7 too; a refusal makes none.
-    ensures steps { (text : List ℕ) (c : Command) (m : Sparse) → Asked on_one_thread (S.left source.old) (job_of on_one_thread (map string_bytes words.now)) text c m →
-        TurnsOfTask c.task m (manner_for c) c.grid steps.old steps.new }
+    // The turns are bounded by the words and the matrix or lines, at 7 too; a refusal makes none.
+    ensures steps { (text : List ℕ) (c : Command) (s : Subject) → Asked on_one_thread (S.left source.old) (job_of on_one_thread (map string_bytes words.now)) text c s →
+        TurnsOfTask c.task s (manner_for c) c.grid steps.old steps.new }
     ensures no_turns { result.status ≢ 0 → result.status ≢ 1 → result.status ≢ 4 → result.status ≢ 7 → steps.new ≡ steps.old }
 {
     let answered = answer_serially(alloc, words, source, out, steps);
@@ -212,8 +212,8 @@ fn answer_of<R: Threads + Wait + Sync, S: Source, K: Sink, G: Gate + Sync>(
         (K.taken out.old) (K.taken out.new) (Rose (K.faults out.old) (K.faults out.new)) result }
 {
     let serial = drives_serially(command);
-    match matrix_for(alloc, command, source, serial) {
-        Ok(matrix) => ran(rt, alloc, command, &matrix, out, gate),
+    match subject_for(alloc, command, source, serial) {
+        Ok(subject) => ran(rt, alloc, command, &subject, out, gate),
         Err(refusal) => Err(refusal),
     }
 }
@@ -229,8 +229,8 @@ fn answer_serially<S: Source, K: Sink, L: Ledger>(
     ensures low { IfOk result (λ f. f.status ≤ 1) }
     ensures answered { Answered on_one_thread (job_of on_one_thread (map string_bytes words.now)) (S.left source.old) (S.left source.new) (Rose (S.faults source.old) (S.faults source.new))
         (K.taken out.old) (K.taken out.new) (Rose (K.faults out.old) (K.faults out.new)) result }
-    ensures steps { (text : List ℕ) (c : Command) (m : Sparse) → Asked on_one_thread (S.left source.old) (job_of on_one_thread (map string_bytes words.now)) text c m →
-        TurnsOfTask c.task m (manner_for c) c.grid steps.old steps.new }
+    ensures steps { (text : List ℕ) (c : Command) (s : Subject) → Asked on_one_thread (S.left source.old) (job_of on_one_thread (map string_bytes words.now)) text c s →
+        TurnsOfTask c.task s (manner_for c) c.grid steps.old steps.new }
     ensures no_turns { IfErr result (λ r. r ≢ Refusal.NoMemory → steps.new ≡ steps.old) }
 {
     match read_job(alloc, words, true) {
@@ -251,12 +251,12 @@ fn answer_of_serially<S: Source, K: Sink, L: Ledger>(
     ensures low { IfOk result (λ f. f.status ≤ 1) }
     ensures answered { Answered on_one_thread (Some command.now) (S.left source.old) (S.left source.new) (Rose (S.faults source.old) (S.faults source.new))
         (K.taken out.old) (K.taken out.new) (Rose (K.faults out.old) (K.faults out.new)) result }
-    ensures steps { (text : List ℕ) (c : Command) (m : Sparse) → Asked on_one_thread (S.left source.old) (Some command.now) text c m →
-        TurnsOfTask c.task m (manner_for c) c.grid steps.old steps.new }
+    ensures steps { (text : List ℕ) (c : Command) (s : Subject) → Asked on_one_thread (S.left source.old) (Some command.now) text c s →
+        TurnsOfTask c.task s (manner_for c) c.grid steps.old steps.new }
     ensures no_turns { IfErr result (λ r. r ≢ Refusal.NoMemory → steps.new ≡ steps.old) }
 {
-    match matrix_for(alloc, command, source, true) {
-        Ok(matrix) => ran_serially(alloc, command, &matrix, out, steps),
+    match subject_for(alloc, command, source, true) {
+        Ok(subject) => ran_serially(alloc, command, &subject, out, steps),
         Err(refusal) => Err(refusal),
     }
 }

@@ -20,11 +20,16 @@ use std::alloc::Global;
 pub(crate) struct HistoAnswer;
 
 impl Application for HistoAnswer {
+    ghost use Rattle.bale_cli.specs.declared.subject.Subject.TheVariants as subject;
     ghost use Rattle.bale_cli.specs.Serving.{ServesHisto};
+
+    type Of = Matrix;
 
     type Prog = Histo;
 
     type Answer = Progs<Histo>;
+
+    ghost as_subject = { λ m. subject.Matrix m };
 
     ghost serves = { ServesHisto };
 
@@ -68,11 +73,16 @@ impl Application for HistoAnswer {
 pub(crate) struct IgAnswer;
 
 impl Application for IgAnswer {
+    ghost use Rattle.bale_cli.specs.declared.subject.Subject.TheVariants as subject;
     ghost use Rattle.bale_cli.specs.Serving.{ServesIg};
+
+    type Of = Matrix;
 
     type Prog = Ig;
 
     type Answer = Progs<Ig>;
+
+    ghost as_subject = { λ m. subject.Matrix m };
 
     ghost serves = { ServesIg };
 

@@ -1,4 +1,4 @@
-//! The run of a command for a matrix: the programs, driven, and then the answer, written.
+//! The run of a command for its subject: the programs, driven, and then the answer, written.
 ghost use Rattle.std.specs.Prelude.{◌≡◌, ◌≤◌, ◌<◌, ℕ, Bool, true, false, List, None, length, OnErr, IfOk, IfErr};
 ghost use Rattle.bale_types.specs.Stream.{HasCause, IsFront};
 ghost use Rattle.round_program.specs.Canonical.{HaveEnded};
@@ -8,17 +8,18 @@ ghost use Rattle.bale_cli.specs.Jobs.{as_asked, runs, via_of, manner_for};
 ghost use Rattle.bale_cli.specs.Answer.{HasWritten, shown};
 ghost use Rattle.bale_cli.specs.Fitness.{unfitness};
 ghost use Rattle.bale_cli.specs.Starts.{starts_of};
+ghost use Rattle.bale_cli.specs.Subjects.{suits};
 ghost use Rattle.bale_cli.specs.Tasks.{IsAnswer, task_status, made_for, TellsTask, TurnsOfTask};
 
 use crate::finish::{Ending, finished};
 use crate::numberings::in_order;
 use crate::refusal::Refusal;
 use crate::start::started;
+use crate::subject::Subject;
 use app_cases::AnyProgram;
 use bale_types::{Failed, Sink};
 use bale_words::{Command, Driving, Transport, Travel};
 use case_table::{case_serial, case_threads};
-use mtx_text::Matrix;
 use rank_group::{Finished, Gate, Rounds, Steps, Via};
 use std::alloc::Global;
 use std::marker::Brand;
@@ -34,70 +35,27 @@ pub(crate) struct Finish {
     pub(crate) rounds: Rounds,
 }
 
-/// Runs the command for a matrix, all ranks on this thread, and writes its answer.
+/// Runs the command for its subject, all ranks on this thread, and writes its answer.
 pub(crate) fn ran_serially<K: Sink, L: Ledger>(
     alloc: Global,
     command: &Command,
-    m: &Matrix,
+    subject: &Subject,
     out: &mut K,
     steps: &mut Steps<L>,
 ) -> Result<Finish, Refusal>
     requires runs { runs true command.now ≡ true }
+    requires suits { suits command.now.task subject.now ≡ true }
     requires ranges { InRanges command.now }
-    requires fits { unfitness command.now m.now true ≡ None }
-    ensures status { IfOk result (λ f. f.status ≡ task_status command.now.task m.now) }
+    requires fits { unfitness command.now subject.now true ≡ None }
+    ensures status { IfOk result (λ f. f.status ≡ task_status command.now.task subject.now) }
     ensures low { IfOk result (λ f. f.status ≤ 1) }
-    ensures answer { IfOk result (λ f. HasWritten (IsAnswer command.now.task m.now) (shown command.now.travel.generated) (K.taken out.old) (K.taken out.new) f.written) }
+    ensures answer { IfOk result (λ f. HasWritten (IsAnswer command.now.task subject.now) (shown command.now.travel.generated) (K.taken out.old) (K.taken out.new) f.written) }
     ensures cause { IfOk result (λ f. HasCause (K.faults out.old) (K.faults out.new) f.written) }
     ensures held { IsFront (K.taken out.old) (K.taken out.new) }
     ensures no_answer { OnErr result (K.taken out.new ≡ K.taken out.old) }
     ensures memory { IfErr result (λ r. r ≡ Refusal.NoMemory) }
-    ensures rounds { IfOk result (λ f. TellsTask command.now.task m.now (made_for true command.now) (manner_for command.now) f.rounds) }
-    ensures steps { TurnsOfTask command.now.task m.now (manner_for command.now) command.now.grid steps.old steps.new }
-{
-    let grid = &command.grid;
-    let Travel {
-        buffer,
-        slots,
-        steady,
-        ..
-    } = command.travel;
-    let progs = started(alloc, &command.task, m, grid.ranks())?;
-    let order = in_order(alloc, grid.ranks())?;
-    let run = case_serial(
-        alloc,
-        grid,
-        buffer,
-        Via::Convey,
-        slots,
-        steady,
-        &order,
-        progs,
-        steps,
-    )?;
-    told(alloc, command, m, run, out)
-}
-
-/// Runs the command for a matrix, each rank on a thread of its own, and writes its answer.
-fn ran_on_threads<R: Threads + Wait + Sync, K: Sink, G: Gate + Sync>(
-    rt: &R,
-    alloc: Global,
-    command: &Command,
-    m: &Matrix,
-    out: &mut K,
-    gate: &G,
-) -> Result<Finish, Refusal>
-    requires runs { runs false command.now ≡ true }
-    requires ranges { InRanges command.now }
-    requires fits { unfitness command.now m.now false ≡ None }
-    ensures status { IfOk result (λ f. f.status ≡ task_status command.now.task m.now) }
-    ensures low { IfOk result (λ f. f.status ≤ 1) }
-    ensures answer { IfOk result (λ f. HasWritten (IsAnswer command.now.task m.now) (shown command.now.travel.generated) (K.taken out.old) (K.taken out.new) f.written) }
-    ensures cause { IfOk result (λ f. HasCause (K.faults out.old) (K.faults out.new) f.written) }
-    ensures held { IsFront (K.taken out.old) (K.taken out.new) }
-    ensures no_answer { OnErr result (K.taken out.new ≡ K.taken out.old) }
-    ensures memory { IfErr result (λ r. r ≡ Refusal.NoMemory) }
-    ensures rounds { IfOk result (λ f. TellsTask command.now.task m.now (made_for false command.now) (manner_for command.now) f.rounds) }
+    ensures rounds { IfOk result (λ f. TellsTask command.now.task subject.now (made_for true command.now) (manner_for command.now) f.rounds) }
+    ensures steps { TurnsOfTask command.now.task subject.now (manner_for command.now) command.now.grid steps.old steps.new }
 {
     let grid = &command.grid;
     let Travel {
@@ -107,7 +65,53 @@ fn ran_on_threads<R: Threads + Wait + Sync, K: Sink, G: Gate + Sync>(
         transport,
         ..
     } = command.travel;
-    let progs = started(alloc, &command.task, m, grid.ranks())?;
+    let progs = started(alloc, &command.task, subject, grid.ranks())?;
+    let order = in_order(alloc, grid.ranks())?;
+    let run = case_serial(
+        alloc,
+        grid,
+        buffer,
+        via_of(transport),
+        slots,
+        steady,
+        &order,
+        progs,
+        steps,
+    )?;
+    told(alloc, command, subject, run, out)
+}
+
+/// Runs the command for its subject, each rank on a thread of its own, and writes its answer.
+fn ran_on_threads<R: Threads + Wait + Sync, K: Sink, G: Gate + Sync>(
+    rt: &R,
+    alloc: Global,
+    command: &Command,
+    subject: &Subject,
+    out: &mut K,
+    gate: &G,
+) -> Result<Finish, Refusal>
+    requires runs { runs false command.now ≡ true }
+    requires suits { suits command.now.task subject.now ≡ true }
+    requires ranges { InRanges command.now }
+    requires fits { unfitness command.now subject.now false ≡ None }
+    ensures status { IfOk result (λ f. f.status ≡ task_status command.now.task subject.now) }
+    ensures low { IfOk result (λ f. f.status ≤ 1) }
+    ensures answer { IfOk result (λ f. HasWritten (IsAnswer command.now.task subject.now) (shown command.now.travel.generated) (K.taken out.old) (K.taken out.new) f.written) }
+    ensures cause { IfOk result (λ f. HasCause (K.faults out.old) (K.faults out.new) f.written) }
+    ensures held { IsFront (K.taken out.old) (K.taken out.new) }
+    ensures no_answer { OnErr result (K.taken out.new ≡ K.taken out.old) }
+    ensures memory { IfErr result (λ r. r ≡ Refusal.NoMemory) }
+    ensures rounds { IfOk result (λ f. TellsTask command.now.task subject.now (made_for false command.now) (manner_for command.now) f.rounds) }
+{
+    let grid = &command.grid;
+    let Travel {
+        buffer,
+        slots,
+        steady,
+        transport,
+        ..
+    } = command.travel;
+    let progs = started(alloc, &command.task, subject, grid.ranks())?;
     let run = case_threads(
         rt,
         alloc,
@@ -119,34 +123,35 @@ fn ran_on_threads<R: Threads + Wait + Sync, K: Sink, G: Gate + Sync>(
         progs,
         gate,
     )?;
-    told(alloc, command, m, run, out)
+    told(alloc, command, subject, run, out)
 }
 
-/// Runs the command for a matrix as its words ask, and writes its answer.
+/// Runs the command for its subject as its words ask, and writes its answer.
 pub(crate) fn ran<R: Threads + Wait + Sync, K: Sink, G: Gate + Sync>(
     rt: &R,
     alloc: Global,
     command: &Command,
-    m: &Matrix,
+    subject: &Subject,
     out: &mut K,
     gate: &G,
 ) -> Result<Finish, Refusal>
     requires runs { runs (as_asked command.now) command.now ≡ true }
+    requires suits { suits command.now.task subject.now ≡ true }
     requires ranges { InRanges command.now }
-    requires fits { unfitness command.now m.now (as_asked command.now) ≡ None }
-    ensures status { IfOk result (λ f. f.status ≡ task_status command.now.task m.now) }
+    requires fits { unfitness command.now subject.now (as_asked command.now) ≡ None }
+    ensures status { IfOk result (λ f. f.status ≡ task_status command.now.task subject.now) }
     ensures low { IfOk result (λ f. f.status ≤ 1) }
-    ensures answer { IfOk result (λ f. HasWritten (IsAnswer command.now.task m.now) (shown command.now.travel.generated) (K.taken out.old) (K.taken out.new) f.written) }
+    ensures answer { IfOk result (λ f. HasWritten (IsAnswer command.now.task subject.now) (shown command.now.travel.generated) (K.taken out.old) (K.taken out.new) f.written) }
     ensures cause { IfOk result (λ f. HasCause (K.faults out.old) (K.faults out.new) f.written) }
     ensures held { IsFront (K.taken out.old) (K.taken out.new) }
     ensures no_answer { OnErr result (K.taken out.new ≡ K.taken out.old) }
     ensures memory { IfErr result (λ r. r ≡ Refusal.NoMemory) }
-    ensures rounds { IfOk result (λ f. TellsTask command.now.task m.now (made_for (as_asked command.now) command.now) (manner_for command.now) f.rounds) }
+    ensures rounds { IfOk result (λ f. TellsTask command.now.task subject.now (made_for (as_asked command.now) command.now) (manner_for command.now) f.rounds) }
 {
     if drives_serially(command) {
-        ran_uncounted::<Brand, K>(alloc, command, m, out, Blank::new(1))
+        ran_uncounted::<Brand, K>(alloc, command, subject, out, Blank::new(1))
     } else {
-        ran_on_threads(rt, alloc, command, m, out, gate)
+        ran_on_threads(rt, alloc, command, subject, out, gate)
     }
 }
 
@@ -171,7 +176,7 @@ fn via_of(transport: Transport) -> Via
 fn ran_uncounted<L: Ledger, K: Sink>(
     alloc: Global,
     command: &Command,
-    m: &Matrix,
+    subject: &Subject,
     out: &mut K,
     blank: Blank,
 ) -> Result<Finish, Refusal>
@@ -179,36 +184,38 @@ fn ran_uncounted<L: Ledger, K: Sink>(
     requires parts { blank.parts ≡ L.parts }
     requires some { 0 < L.parts }
     requires runs { runs true command.now ≡ true }
+    requires suits { suits command.now.task subject.now ≡ true }
     requires ranges { InRanges command.now }
-    requires fits { unfitness command.now m.now true ≡ None }
-    ensures status { IfOk result (λ f. f.status ≡ task_status command.now.task m.now) }
+    requires fits { unfitness command.now subject.now true ≡ None }
+    ensures status { IfOk result (λ f. f.status ≡ task_status command.now.task subject.now) }
     ensures low { IfOk result (λ f. f.status ≤ 1) }
-    ensures answer { IfOk result (λ f. HasWritten (IsAnswer command.now.task m.now) (shown command.now.travel.generated) (K.taken out.old) (K.taken out.new) f.written) }
+    ensures answer { IfOk result (λ f. HasWritten (IsAnswer command.now.task subject.now) (shown command.now.travel.generated) (K.taken out.old) (K.taken out.new) f.written) }
     ensures cause { IfOk result (λ f. HasCause (K.faults out.old) (K.faults out.new) f.written) }
     ensures held { IsFront (K.taken out.old) (K.taken out.new) }
     ensures no_answer { OnErr result (K.taken out.new ≡ K.taken out.old) }
     ensures memory { IfErr result (λ r. r ≡ Refusal.NoMemory) }
-    ensures rounds { IfOk result (λ f. TellsTask command.now.task m.now (made_for true command.now) (manner_for command.now) f.rounds) }
+    ensures rounds { IfOk result (λ f. TellsTask command.now.task subject.now (made_for true command.now) (manner_for command.now) f.rounds) }
 {
     let mut steps = Steps::<L>::new(blank);
-    ran_serially(alloc, command, m, out, &mut steps)
+    ran_serially(alloc, command, subject, out, &mut steps)
 }
 
 /// The end of a run that was driven: its answer is written, and what was exchanged is told.
 fn told<K: Sink>(
     alloc: Global,
     command: &Command,
-    m: &Matrix,
+    subject: &Subject,
     run: Finished<AnyProgram>,
     out: &mut K,
 ) -> Result<Finish, Refusal>
     requires runs { (serial : Bool) × (runs serial command.now ≡ true) }
+    requires suits { suits command.now.task subject.now ≡ true }
     requires ranges { InRanges command.now }
-    requires fits { (serial : Bool) × (unfitness command.now m.now serial ≡ None) }
-    requires ended { (ranks : ℕ) × (1 ≤ ranks) × (ranks ≤ 64) × (0 < length (starts_of command.now.task ranks m.now)) × HaveEnded any_rules (starts_of command.now.task ranks m.now) run.progs }
-    ensures status { IfOk result (λ f. f.status ≡ task_status command.now.task m.now) }
+    requires fits { (serial : Bool) × (unfitness command.now subject.now serial ≡ None) }
+    requires ended { (ranks : ℕ) × (1 ≤ ranks) × (ranks ≤ 64) × (0 < length (starts_of command.now.task ranks subject.now)) × HaveEnded any_rules (starts_of command.now.task ranks subject.now) run.progs }
+    ensures status { IfOk result (λ f. f.status ≡ task_status command.now.task subject.now) }
     ensures low { IfOk result (λ f. f.status ≤ 1) }
-    ensures answer { IfOk result (λ f. HasWritten (IsAnswer command.now.task m.now) (shown command.now.travel.generated) (K.taken out.old) (K.taken out.new) f.written) }
+    ensures answer { IfOk result (λ f. HasWritten (IsAnswer command.now.task subject.now) (shown command.now.travel.generated) (K.taken out.old) (K.taken out.new) f.written) }
     ensures cause { IfOk result (λ f. HasCause (K.faults out.old) (K.faults out.new) f.written) }
     ensures held { IsFront (K.taken out.old) (K.taken out.new) }
     ensures no_answer { OnErr result (K.taken out.new ≡ K.taken out.old) }
@@ -217,7 +224,14 @@ fn told<K: Sink>(
 {
     let Finished { progs, rounds } = run;
     let generated = command.travel.generated;
-    let Ending { status, written } = finished(alloc, &command.task, m, generated, progs, out)?;
+    let Ending { status, written } = finished(
+        alloc,
+        &command.task,
+        subject,
+        generated,
+        progs,
+        out,
+    )?;
     Ok(Finish {
         status,
         written,

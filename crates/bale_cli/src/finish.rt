@@ -1,24 +1,26 @@
 //! The end of a run: the programs after their last round, and then the answer, written.
 
-ghost use Rattle.std.specs.Prelude.{◌≡◌, ◌≤◌, ◌<◌, ℕ, Bool, true, List, [], Option, None, length, map, OnOk, OnErr, IfOk};
+ghost use Rattle.std.specs.Prelude.{◌≡◌, ◌≤◌, ◌<◌, ℕ, Bool, true, false, List, [], Option, None, length, map, OnOk, OnErr, IfOk};
 ghost use Rattle.bale_types.specs.Stream.{after, HasCause, IsFront};
 ghost use Rattle.bale_types.specs.Out.{appended};
 ghost use Rattle.round_program.specs.Canonical.{HaveEnded};
 ghost use Rattle.app_cases.specs.Any.{any_rules};
 ghost use Rattle.bale_words.specs.Ranges.{TaskInRanges};
-ghost use Rattle.bale_cli.specs.Jobs.{is_ready};
 ghost use Rattle.bale_cli.specs.Answer.{HasWritten, shown};
-ghost use Rattle.bale_cli.specs.Fitness.{task_unfitness};
+ghost use Rattle.bale_cli.specs.Fitness.{first_failed, subject_tests, task_unfitness};
 ghost use Rattle.bale_cli.specs.Logs.{bytes_of};
-ghost use Rattle.bale_cli.specs.Starts.{starts_of};
+ghost use Rattle.bale_cli.specs.Starts.{matrix_starts, starts_of};
+ghost use Rattle.bale_cli.specs.Subjects.{is_tally, suits};
 ghost use Rattle.bale_cli.specs.Summary.{summary_of};
-ghost use Rattle.bale_cli.specs.Tasks.{IsAnswer, task_status};
+ghost use Rattle.bale_cli.specs.Tasks.{IsAnswer, IsMatrixAnswer, matrix_status, task_status};
 
 use crate::application::Application;
 use crate::column_answers::{HistoAnswer, IgAnswer};
 use crate::counter::Counter;
+use crate::line_answer::TallyAnswer;
 use crate::matrix_answers::{PermuteAnswer, TransposeAnswer};
 use crate::order_answer::OrderAnswer;
+use crate::subject::Subject;
 use crate::walk_answers::{DeltaAnswer, SsspAnswer};
 use app_cases::{AnyProgram, take_all};
 use bale_types::{Failed, Line, NoMemory, Out, Sink};
@@ -34,7 +36,7 @@ pub(crate) struct Ending {
     pub(crate) written: Result<(), Failed>,
 }
 
-/// Writes the answer of a task for a matrix, by the programs after their last round: its bytes, or their summary where
+/// Writes the answer of a task for its subject, by the programs after their last round: its bytes, or their summary where
 /// the matrix was generated.
 ///
 /// # Errors
@@ -42,18 +44,46 @@ pub(crate) struct Ending {
 pub(crate) fn finished<K: Sink>(
     alloc: Global,
     task: &Task,
+    subject: &Subject,
+    generated: Option<Generated>,
+    progs: Progs<AnyProgram>,
+    out: &mut K,
+) -> Result<Ending, NoMemory>
+    requires suits { suits task.now subject.now ≡ true }
+    requires ranges { TaskInRanges task.now }
+    requires fits { (serial : Bool) × (first_failed (subject_tests task.now subject.now serial) ≡ None) }
+    requires ended { (ranks : ℕ) × (1 ≤ ranks) × (ranks ≤ 64) × (0 < length (starts_of task.now ranks subject.now)) × HaveEnded any_rules (starts_of task.now ranks subject.now) progs }
+    ensures status { IfOk result (λ e. e.status ≡ task_status task.now subject.now) }
+    ensures low { IfOk result (λ e. e.status ≤ 1) }
+    ensures answer { IfOk result (λ e. HasWritten (IsAnswer task.now subject.now) (shown generated) (K.taken out.old) (K.taken out.new) e.written) }
+    ensures cause { IfOk result (λ e. HasCause (K.faults out.old) (K.faults out.new) e.written) }
+    ensures held { IsFront (K.taken out.old) (K.taken out.new) }
+    ensures no_answer { OnErr result (K.taken out.new ≡ K.taken out.old) }
+{
+    match subject {
+        Subject::Matrix(m) => finished_on(alloc, task, m, generated, progs, out),
+        Subject::Lines(lines) => {
+            finished_as::<TallyAnswer, K>(alloc, task, lines, generated, progs, out)
+        }
+    }
+}
+
+/// Writes the answer of a task for a matrix.
+fn finished_on<K: Sink>(
+    alloc: Global,
+    task: &Task,
     m: &Matrix,
     generated: Option<Generated>,
     progs: Progs<AnyProgram>,
     out: &mut K,
 ) -> Result<Ending, NoMemory>
-    requires ready { is_ready task.now ≡ true }
+    requires other { is_tally task.now ≡ false }
     requires ranges { TaskInRanges task.now }
     requires fits { (serial : Bool) × (task_unfitness task.now m.now serial ≡ None) }
-    requires ended { (ranks : ℕ) × (1 ≤ ranks) × (ranks ≤ 64) × (0 < length (starts_of task.now ranks m.now)) × HaveEnded any_rules (starts_of task.now ranks m.now) progs }
-    ensures status { IfOk result (λ e. e.status ≡ task_status task.now m.now) }
+    requires ended { (ranks : ℕ) × (1 ≤ ranks) × (ranks ≤ 64) × (0 < length (matrix_starts task.now ranks m.now)) × HaveEnded any_rules (matrix_starts task.now ranks m.now) progs }
+    ensures status { IfOk result (λ e. e.status ≡ matrix_status task.now m.now) }
     ensures low { IfOk result (λ e. e.status ≤ 1) }
-    ensures answer { IfOk result (λ e. HasWritten (IsAnswer task.now m.now) (shown generated) (K.taken out.old) (K.taken out.new) e.written) }
+    ensures answer { IfOk result (λ e. HasWritten (IsMatrixAnswer task.now m.now) (shown generated) (K.taken out.old) (K.taken out.new) e.written) }
     ensures cause { IfOk result (λ e. HasCause (K.faults out.old) (K.faults out.new) e.written) }
     ensures held { IsFront (K.taken out.old) (K.taken out.new) }
     ensures no_answer { OnErr result (K.taken out.new ≡ K.taken out.old) }
@@ -77,26 +107,26 @@ pub(crate) fn finished<K: Sink>(
 fn finished_as<A: Application, K: Sink>(
     alloc: Global,
     task: &Task,
-    m: &Matrix,
+    of: &A::Of,
     generated: Option<Generated>,
     progs: Progs<AnyProgram>,
     out: &mut K,
 ) -> Result<Ending, NoMemory>
-    requires serves { A.serves task.now m.now }
-    requires ended { (ranks : ℕ) × (1 ≤ ranks) × (ranks ≤ 64) × (0 < length (map A.Prog.case_of (A.starts task.now ranks m.now))) × HaveEnded any_rules (map A.Prog.case_of (A.starts task.now ranks m.now)) progs }
-    ensures status { IfOk result (λ e. e.status ≡ task_status task.now m.now) }
+    requires serves { A.serves task.now of.now }
+    requires ended { (ranks : ℕ) × (1 ≤ ranks) × (ranks ≤ 64) × (0 < length (map A.Prog.case_of (A.starts task.now ranks of.now))) × HaveEnded any_rules (map A.Prog.case_of (A.starts task.now ranks of.now)) progs }
+    ensures status { IfOk result (λ e. e.status ≡ task_status task.now (A.as_subject of.now)) }
     ensures low { IfOk result (λ e. e.status ≤ 1) }
-    ensures answer { IfOk result (λ e. HasWritten (IsAnswer task.now m.now) (shown generated) (K.taken out.old) (K.taken out.new) e.written) }
+    ensures answer { IfOk result (λ e. HasWritten (IsAnswer task.now (A.as_subject of.now)) (shown generated) (K.taken out.old) (K.taken out.new) e.written) }
     ensures cause { IfOk result (λ e. HasCause (K.faults out.old) (K.faults out.new) e.written) }
     ensures held { IsFront (K.taken out.old) (K.taken out.new) }
     ensures no_answer { OnErr result (K.taken out.new ≡ K.taken out.old) }
 {
     let progs = take_all(alloc, progs)?;
-    let answer = A::end(alloc, task, m, progs)?;
-    let status = A::status(task, &answer, m);
+    let answer = A::end(alloc, task, of, progs)?;
+    let status = A::status(task, &answer, of);
     let written = match generated {
-        None => write_answer::<A, K>(task, &answer, m, out),
-        Some(_) => write_summary::<A, K>(task, &answer, m, out),
+        None => write_answer::<A, K>(task, &answer, of, out),
+        Some(_) => write_summary::<A, K>(task, &answer, of, out),
     };
     Ok(Ending { status, written })
 }
@@ -105,33 +135,33 @@ fn finished_as<A: Application, K: Sink>(
 fn write_answer<A: Application, K: Sink>(
     task: &Task,
     answer: &A::Answer,
-    m: &Matrix,
+    of: &A::Of,
     sink: &mut K,
 ) -> Result<(), Failed>
-    requires serves { A.serves task.now m.now }
-    requires answers { A.answers task.now m.now answer.now }
-    ensures answer { HasWritten (IsAnswer task.now m.now) (λ bytes. bytes) (K.taken sink.old) (K.taken sink.new) result }
+    requires serves { A.serves task.now of.now }
+    requires answers { A.answers task.now of.now answer.now }
+    ensures answer { HasWritten (IsAnswer task.now (A.as_subject of.now)) (λ bytes. bytes) (K.taken sink.old) (K.taken sink.new) result }
     ensures held { IsFront (K.taken sink.old) (K.taken sink.new) }
     ensures cause { HasCause (K.faults sink.old) (K.faults sink.new) result }
 {
     let mut out = Out::new(sink);
-    write_all::<A, K>(task, answer, m, &mut out)
+    write_all::<A, K>(task, answer, of, &mut out)
 }
 
 fn write_all<A: Application, K: Sink>(
     task: &Task,
     answer: &A::Answer,
-    m: &Matrix,
+    of: &A::Of,
     out: &mut Out<'_, K>,
 ) -> Result<(), Failed>
-    requires serves { A.serves task.now m.now }
-    requires answers { A.answers task.now m.now answer.now }
-    ensures answer { HasWritten (IsAnswer task.now m.now) (λ bytes. bytes) (appended K.taken out.old) (K.taken out.new.sink.now) result }
+    requires serves { A.serves task.now of.now }
+    requires answers { A.answers task.now of.now answer.now }
+    ensures answer { HasWritten (IsAnswer task.now (A.as_subject of.now)) (λ bytes. bytes) (appended K.taken out.old) (K.taken out.new.sink.now) result }
     ensures cause { HasCause (K.faults out.old.sink.now) (K.faults out.new.sink.now) result }
     ensures held { IsFront (K.taken out.old.sink.now) (K.taken out.new.sink.now) }
     ensures same_sink { out.new.sink.ghost_name ≡ out.old.sink.ghost_name }
 {
-    A::write(task, answer, m, out)?;
+    A::write(task, answer, of, out)?;
     out.flush()
 }
 
@@ -139,17 +169,17 @@ fn write_all<A: Application, K: Sink>(
 fn write_summary<A: Application, K: Sink>(
     task: &Task,
     answer: &A::Answer,
-    m: &Matrix,
+    of: &A::Of,
     sink: &mut K,
 ) -> Result<(), Failed>
-    requires serves { A.serves task.now m.now }
-    requires answers { A.answers task.now m.now answer.now }
-    ensures answer { HasWritten (IsAnswer task.now m.now) summary_of (K.taken sink.old) (K.taken sink.new) result }
+    requires serves { A.serves task.now of.now }
+    requires answers { A.answers task.now of.now answer.now }
+    ensures answer { HasWritten (IsAnswer task.now (A.as_subject of.now)) summary_of (K.taken sink.old) (K.taken sink.new) result }
     ensures held { IsFront (K.taken sink.old) (K.taken sink.new) }
     ensures cause { HasCause (K.faults sink.old) (K.faults sink.new) result }
 {
     let mut counter = Counter::new();
-    let counted = write_answer::<A, Counter>(task, answer, m, &mut counter);
+    let counted = write_answer::<A, Counter>(task, answer, of, &mut counter);
     match counted {
         Ok(()) => write_line(&counter, sink),
         Err(_) => unreachable!(),

@@ -6,10 +6,10 @@
 //! | [`run_serial`] | the same, all ranks on this thread: it returns, and its turns are bounded |
 //! | [`report`] | to say on a sink why a run ended without an answer |
 //!
-//! Read `specs/Answer` first: the serial answer, about the words and the matrix alone. Then `specs/Jobs` (what runs, and how it is
-//! driven), `specs/Tasks` (what each application answers, and which programs' run the rounds tell), `specs/Fitness` and
-//! `specs/Numberings` (which matrices an application has an answer for), `specs/Summary` (the line of `--gen`). The other files of
-//! `specs/` are the code's own words.
+//! Read `specs/Answer` first: the serial answer, about the words and the text alone. Then `specs/Subjects` (what a command is asked
+//! of: a matrix, or the lines of the text for tally), `specs/Jobs` (what runs, and how it is driven), `specs/Tasks` (what each
+//! application answers, and which programs' run the rounds tell), `specs/Fitness` and `specs/Numberings` (which matrices an
+//! application has an answer for), `specs/Summary` (the line of `--gen`). The other files of `specs/` are the code's own words.
 #![tactic(auto)]
 
 mod application;
@@ -19,22 +19,27 @@ mod counter;
 mod exchange;
 mod finish;
 mod job;
+mod line_answer;
 mod matrix_answers;
 mod numberings;
 mod order_answer;
 mod refusal;
 mod start;
+mod subject;
 mod unfit;
 mod walk_answers;
 
 pub use calls::{Outcome, run, run_serial};
-pub use refusal::{Refusal, report};
+pub use refusal::{BadText, Refusal, report};
+pub use subject::Subject;
 pub use unfit::Unfit;
 
 #[cfg(test)]
 mod fault_tests;
 #[cfg(test)]
 mod gate_tests;
+#[cfg(test)]
+mod line_tests;
 #[cfg(test)]
 mod rig;
 #[cfg(test)]

@@ -27,11 +27,16 @@ impl Application for PermuteAnswer {
     ghost use Rattle.std.specs.Prelude.{◌≡◌};
     ghost use Rattle.app_permute.specs.Moved.{permuted};
     ghost use Rattle.app_permute.specs.PermuteRuns.{permute_starts};
+    ghost use Rattle.bale_cli.specs.declared.subject.Subject.TheVariants as subject;
     ghost use Rattle.bale_cli.specs.Serving.{ServesPermute, moves_of};
+
+    type Of = Matrix;
 
     type Prog = Permute;
 
     type Answer = Matrix;
+
+    ghost as_subject = { λ m. subject.Matrix m };
 
     ghost serves = { ServesPermute };
 
@@ -95,11 +100,16 @@ impl Application for TransposeAnswer {
     ghost use Rattle.std.specs.Prelude.{◌≡◌};
     ghost use Rattle.app_permute.specs.Moved.{transposed};
     ghost use Rattle.app_permute.specs.TransposeRuns.{transpose_starts};
+    ghost use Rattle.bale_cli.specs.declared.subject.Subject.TheVariants as subject;
     ghost use Rattle.bale_cli.specs.Serving.{ServesTranspose};
+
+    type Of = Matrix;
 
     type Prog = Transpose;
 
     type Answer = Matrix;
+
+    ghost as_subject = { λ m. subject.Matrix m };
 
     ghost serves = { ServesTranspose };
 

@@ -25,11 +25,16 @@ impl Application for OrderAnswer {
     ghost use Rattle.std.specs.Prelude.{◌≡◌};
     ghost use Rattle.app_topo.specs.Levels.{topo_order};
     ghost use Rattle.app_topo.specs.TopoRuns.{topo_starts};
+    ghost use Rattle.bale_cli.specs.declared.subject.Subject.TheVariants as subject;
     ghost use Rattle.bale_cli.specs.Serving.{ServesTopo};
+
+    type Of = Matrix;
 
     type Prog = Topo;
 
     type Answer = Option<TopoOrder>;
+
+    ghost as_subject = { λ m. subject.Matrix m };
 
     ghost serves = { ServesTopo };
 

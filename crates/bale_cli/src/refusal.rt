@@ -1,12 +1,24 @@
 //! Why a run ended without an answer.
-ghost use Rattle.std.specs.Prelude.{◌≡◌, ◌≤◌, [], length};
+ghost use Rattle.std.specs.Prelude.{◌≡◌, ◌≤◌, ◌++◌, [], length, codes, decimal};
 ghost use Rattle.bale_types.specs.Stream.{after, IsFront, Rose};
 ghost use Rattle.bale_types.specs.Out.{appended};
-ghost use Rattle.bale_cli.specs.Answer.{bad_line_text, refusal_text, status_of, unfit_text};
+ghost use Rattle.bale_cli.specs.Answer.{bad_line_text, bad_text, refusal_text, status_of, unfit_text};
 
 use crate::unfit::Unfit;
+use app_tally::LinesFault;
 use bale_types::{Failed, Line, Out, Sink};
 use mtx_text::BadLine;
+
+/// Why a text isn't what a command is asked of. Lines count from 1.
+#[derive(Clone, Copy, PartialEq, Eq, Debug)]
+pub enum BadText {
+    /// It has no matrix.
+    NoMatrix(BadLine),
+    /// It is too long to be read as lines; the line of the first byte too many.
+    TooLong { line: u64 },
+    /// This line of it is too long, and none before.
+    LineTooLong { line: u64 },
+}
 
 /// Why a run ended without an answer; each has a status of its own.
 #[derive(Clone, Copy, PartialEq, Eq, Debug)]
@@ -15,8 +27,8 @@ pub enum Refusal {
     Usage,
     /// The source failed.
     ReadFault,
-    /// The text has no matrix.
-    BadMatrix(BadLine),
+    /// The text isn't what the command is asked of.
+    BadText(BadText),
     /// The command doesn't fit the matrix.
     Unfit(Unfit),
     /// The sink for the answer failed.
@@ -27,15 +39,31 @@ pub enum Refusal {
 
 impl From<mtx_text::ReadFault> for Refusal {
     ghost use Rattle.std.specs.Prelude.{◌≡◌};
-    ghost use Rattle.bale_cli.specs.Answer.{refusal_of};
+    ghost use Rattle.bale_cli.specs.Subjects.{refusal_of};
 
     ghost from_gives = { λ fault refusal. refusal ≡ refusal_of fault };
 
     fn from(fault: mtx_text::ReadFault) -> Refusal {
         match fault {
             mtx_text::ReadFault::Source => Refusal::ReadFault,
-            mtx_text::ReadFault::Bad(line) => Refusal::BadMatrix(line),
+            mtx_text::ReadFault::Bad(line) => Refusal::BadText(BadText::NoMatrix(line)),
             mtx_text::ReadFault::NoMemory => Refusal::NoMemory,
+        }
+    }
+}
+
+impl From<LinesFault> for Refusal {
+    ghost use Rattle.std.specs.Prelude.{◌≡◌};
+    ghost use Rattle.bale_cli.specs.Subjects.{lines_refusal};
+
+    ghost from_gives = { λ fault refusal. refusal ≡ lines_refusal fault };
+
+    fn from(fault: LinesFault) -> Refusal {
+        match fault {
+            LinesFault::Source => Refusal::ReadFault,
+            LinesFault::TooLong { line } => Refusal::BadText(BadText::TooLong { line }),
+            LinesFault::LineTooLong { line } => Refusal::BadText(BadText::LineTooLong { line }),
+            LinesFault::NoMemory => Refusal::NoMemory,
         }
     }
 }
@@ -72,7 +100,7 @@ impl Refusal {
             Refusal::Usage => 2,
             Refusal::ReadFault => 3,
             Refusal::WriteFault => 4,
-            Refusal::BadMatrix(_) => 5,
+            Refusal::BadText(_) => 5,
             Refusal::Unfit(_) => 6,
             Refusal::NoMemory => 7,
         }
@@ -113,12 +141,35 @@ fn line_of(refusal: Refusal) -> Line
     match refusal {
         Refusal::Usage => line.text(b"bale: usage\n"),
         Refusal::ReadFault => line.text(b"bale: read fault\n"),
-        Refusal::BadMatrix(bad) => bad_line(&mut line, bad),
+        Refusal::BadText(bad) => bad_text(&mut line, bad),
         Refusal::Unfit(unfit) => line.text(text_of_unfit(unfit)),
         Refusal::WriteFault => line.text(b"bale: write fault\n"),
         Refusal::NoMemory => line.text(b"bale: no memory\n"),
     }
     line
+}
+
+#[tactic(auto, unfolding(crate::specs::Answer::bad_text))]
+fn bad_text(line: &mut Line, bad: BadText)
+    requires { line.old ≡ [] }
+    ensures { line.new ≡ bad_text bad }
+{
+    match bad {
+        BadText::NoMatrix(bad) => bad_line(line, bad),
+        BadText::TooLong { line: n } => numbered(line, n, b": too long\n"),
+        BadText::LineTooLong { line: n } => numbered(line, n, b": line too long\n"),
+    }
+}
+
+/// A line's number, and what is said of it.
+fn numbered(line: &mut Line, n: u64, why: &[u8])
+    requires empty { line.old ≡ [] }
+    requires short { length why.now ≤ 16 }
+    ensures { line.new ≡ codes "bale: line " ++ decimal n ++ why.now }
+{
+    line.text(b"bale: line ");
+    line.number(n);
+    line.text(why);
 }
 
 #[tactic(auto, using(crate::proofs::Reasons::reason_short), unfolding(crate::specs::Answer::bad_line_text))]

@@ -102,7 +102,15 @@ histo --drive serial more;;2 bale: usage/
 sssp --delta 0;;2 bale: usage/
 histo --delta 3;;2 bale: usage/
 histo --via biconvey;;2 bale: usage/
-tally;;2 bale: usage/
+tally --grid 2 --buffer 1;b/a/b//a b/;0 1 /1 a/1 a b/2 b/
+tally --grid=2x2x2 --slots 1 --steady yes;b/a/b//a b/;0 1 /1 a/1 a b/2 b/
+tally;b/a/b//a b/;0 1 /1 a/1 a b/2 b/
+tally;abcdefghijklmnopqrstuvwxyz/abcdefghijklmnopq/abcdefghijklmnopqrstuvwxyz;0 1 abcdefghijklmnopq/2 abcdefghijklmnopqrstuvwxyz/
+tally;a\r/a/b\r;0 1 a/1 a\r/1 b\r/
+tally;;0 
+tally;/;0 1 /
+tally --gen 2,3,42;;2 bale: usage/
+tally --via biconvey;;2 bale: usage/
 ";
 
 /// The words of a row, its text and its answer.
@@ -267,6 +275,7 @@ fn rounds_are_told(rt: HostRuntime) -> Result<(), Fail> {
         ("sssp", WALKS, 0, 1, 10),
         ("sssp --delta 3", WALKS, 0, 1, 24),
         ("sssp --delta 3 --source 4", WALKS, 0, 1, 10),
+        ("tally --grid 2", b"b\na\nb\n\na b\n".as_slice(), 0, 1, 2),
         ("ig", b"".as_slice(), 5, 0, 0),
         ("ig 4", TWO, 2, 0, 0),
     ];

@@ -1,4 +1,4 @@
-//! Whether a command can be answered for a matrix.
+//! Whether a command can be answered for a matrix or for lines.
 
 ghost use Rattle.std.specs.Prelude.{◌≡◌, ◌*◌, ◌≤◌, ◌+◌, ◌<◌, ◌==◌, ◌||◌, ◌&&◌, nat_lt, is_some, true, length, IfOk};
 ghost use Rattle.least_walks.specs.Walks.{no_negative};
@@ -7,13 +7,14 @@ ghost use Rattle.bale_words.specs.declared.command.Permutations.TheVariants.{Lis
 ghost use Rattle.bale_cli.specs.Fitness.{task_unfitness, unfitness};
 
 use crate::numberings::numbers_all;
+use crate::subject::Subject;
 use bale_types::NoMemory;
 use bale_words::{Command, Numbers, Permutations, Task, Transport};
 use least_walks::no_negative;
 use mtx_text::Matrix;
 use std::alloc::Global;
 
-/// Why a command can't be answered for a matrix.
+/// Why a command can't be answered for its subject.
 #[derive(Clone, Copy, PartialEq, Eq, Debug)]
 pub enum Unfit {
     /// Exstacks go over one hop: the grid has more than one number.
@@ -34,22 +35,25 @@ pub enum Unfit {
     DeltaRows,
 }
 
-/// The first test that fails, of those of the command, for this matrix, driven serially or by threads.
+/// The first test that fails, of those of the command, for this subject, driven serially or by threads.
 ///
 /// # Errors
 /// `NoMemory` where the marks of a list's numbers found none.
 pub(crate) fn unfitness(
     alloc: Global,
     command: &Command,
-    m: &Matrix,
+    subject: &Subject,
     serial: bool,
 ) -> Result<Option<Unfit>, NoMemory>
-    ensures { IfOk result (λ u. u ≡ unfitness command.now m.now serial) }
+    ensures { IfOk result (λ u. u ≡ unfitness command.now subject.now serial) }
 {
     if command.travel.transport == Transport::Exstack && command.grid.hops() != 1 {
         return Ok(Some(Unfit::ExstackGrid));
     }
-    task_unfitness(alloc, &command.task, m, serial)
+    match subject {
+        Subject::Matrix(m) => task_unfitness(alloc, &command.task, m, serial),
+        Subject::Lines(_) => Ok(None),
+    }
 }
 
 /// The first test that fails, of those of the task.

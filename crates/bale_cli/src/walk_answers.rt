@@ -22,11 +22,16 @@ pub(crate) struct SsspAnswer;
 
 impl Application for SsspAnswer {
     ghost use Rattle.app_sssp.specs.SsspRuns.{sssp_starts, SsspEnded};
+    ghost use Rattle.bale_cli.specs.declared.subject.Subject.TheVariants as subject;
     ghost use Rattle.bale_cli.specs.Serving.{ServesSssp, source_of};
+
+    type Of = Matrix;
 
     type Prog = Sssp;
 
     type Answer = Progs<Sssp>;
+
+    ghost as_subject = { λ m. subject.Matrix m };
 
     ghost serves = { ServesSssp };
 
@@ -74,11 +79,16 @@ pub(crate) struct DeltaAnswer;
 
 impl Application for DeltaAnswer {
     ghost use Rattle.delta_step.specs.DeltaRuns.{delta_starts, DeltaEnded};
+    ghost use Rattle.bale_cli.specs.declared.subject.Subject.TheVariants as subject;
     ghost use Rattle.bale_cli.specs.Serving.{ServesDelta, source_of, width_of};
+
+    type Of = Matrix;
 
     type Prog = Delta;
 
     type Answer = Progs<Delta>;
+
+    ghost as_subject = { λ m. subject.Matrix m };
 
     ghost serves = { ServesDelta };
 

@@ -44,7 +44,7 @@ built_is names = ap (λ rs. with_rules rs) (filled_rules 1 names)
     with_rules rs = record { top = record (built_shape names) { rules = rs }; subs = [] }
 
 -- texts that are one
-same_text : (a b : List ℕ) → bytes_eq a b ≡ true → a ≡ b
+pub same_text : (a b : List ℕ) → bytes_eq a b ≡ true → a ≡ b
 same_text a b e = (bytes_eq-Decides a b).0 e
 
 text_is : (a : List ℕ) → bytes_eq a a ≡ true
@@ -176,12 +176,12 @@ still_new g rows (h ∷ hs) apart new =
     ]
 
 -- what `accepted` says of the first option
-record IsFirst (names : List (List ℕ)) (g : Given) (gs : List Given) : Type 0 where
-  known : is_among g.name names ≡ true
-  apart : was_given g.name gs ≡ false
-  rest : accepted names gs ≡ true
+pub record IsFirst (names : List (List ℕ)) (g : Given) (gs : List Given) : Type 0 where
+  pub known : is_among g.name names ≡ true
+  pub apart : was_given g.name gs ≡ false
+  pub rest : accepted names gs ≡ true
 
-first_of_accepted : (names : List (List ℕ)) (g : Given) (gs : List Given) → accepted names (g ∷ gs) ≡ true → IsFirst names g gs
+pub first_of_accepted : (names : List (List ℕ)) (g : Given) (gs : List Given) → accepted names (g ∷ gs) ≡ true → IsFirst names g gs
 first_of_accepted names g gs h =
     let outer : ((is_among g.name names && not (was_given g.name gs)) ≡ true) × (accepted names gs ≡ true) = and_parts (is_among g.name names && not (was_given g.name gs)) (accepted names gs) h in
     let inner : (is_among g.name names ≡ true) × (not (was_given g.name gs) ≡ true) = and_parts (is_among g.name names) (not (was_given g.name gs)) outer.0 in

@@ -1,9 +1,11 @@
 -- The numbers of a command are within the ranges of their options.
-use Rattle.std.proofs.Common.{ℕ, ◌≡◌, ◌≤◌, ◌==◌, ◌&&◌, ◌^◌, ◌-◌, Bool, true, false, List, [], ◌∷◌, Option, Some, None, Result, Ok, Err, IfOk, nat_le, codes, arith, refl, subst, if◌then◌else◌}
+use Rattle.std.proofs.Common.{ℕ, ◌≡◌, ◌≤◌, ◌==◌, ◌&&◌, ◌^◌, ◌-◌, Bool, true, false, List, [], ◌∷◌, Option, Some, None, Result, Ok, Err, IfOk, nat_le, codes, arith, refl, sym, ap, subst, ◌∙◌, inl, inr, if◌then◌else◌}
 use Rattle.std.specs.List.{list_any, slice_split}
 use Rattle.std.specs.Option.{option_map, option_and_then}
 use Rattle.std.proofs.lemmas.Option.{option_and_then_some, none-some, same_Some}
+use Rattle.std.proofs.lemmas.Bool.{cases_Bool, false≢true}
 use Rattle.std.proofs.lemmas.Bool.Decides.{nat_tests}
+use Rattle.std.specs.Str.{bytes_eq}
 use Rattle.bale_words.specs.declared.command.Application.{Application}
 use Rattle.bale_words.specs.declared.command.Application.TheVariants as application
 use Rattle.bale_words.specs.declared.command.Command.{Command}
@@ -14,12 +16,13 @@ use Rattle.bale_words.specs.declared.command.Transport.TheVariants.{Convey}
 use Rattle.bale_words.specs.declared.command.Driving.TheVariants.{Threads}
 use Rattle.bale_words.specs.declared.travel.Travel.{Travel}
 use Rattle.bale_words.specs.Numbers.{number_in, number_of, within}
-use Rattle.bale_words.specs.Options.{Given, given_of, accepted, value_in}
+use Rattle.bale_words.specs.Options.{Given, given_of, is_among, accepted, value_in}
 use Rattle.bale_words.specs.Values.{slot_counts, buffer_sizes, most_entries, one_of, or_default, if_given, grid_of, slots_of, buffer_of, steady_of, driving_of, transport_of, generated_of, generated_by}
 use Rattle.bale_words.specs.Words.{application_of, names_of, task_in, travel_in, travel_of, search_of, permutations_of, command_in, command_by, command_with, command_of}
 use Rattle.bale_words.specs.declared.fault.WordsFault.{WordsFault}
 use Rattle.bale_words.specs.Reading.{Reads}
 use Rattle.bale_words.specs.Ranges.{CanGenerate, MayGenerate, TravelInRanges, TaskInRanges, InRanges}
+use Rattle.bale_words.proofs.Walks.{IsFirst, first_of_accepted, same_text}
 
 -- what a map gave came from something
 map_some : {A B P : Type 0} (f : A → B) (o : Option A) (y : B) → option_map f o ≡ Some y → ((x : A) → o ≡ Some x → f x ≡ y → P) → P
@@ -89,6 +92,18 @@ travel_is a via slots steady buffer drive gen t e =
     map_some (λ g. record { transport = v; slots = s; steady = st; buffer = b; driving = d; generated = g }) (if_given generated_of gen) t e5 (λ g f6 e6.
     subst TravelInRanges e6 (record { buffer = buffer_is buffer b f4; slots = slots_are slots s f2; generated = generated_is gen g f6 })))))))
 
+-- where none is given, no matrix is generated
+none_of : (a : Application) (via slots steady buffer drive gen : Option (List ℕ)) (t : Travel) → gen ≡ None → travel_of a via slots steady buffer drive gen ≡ Some t → t.generated ≡ None
+unfolding travel_of
+none_of a via slots steady buffer drive gen t none e =
+    option_and_then_some _ (or_default Convey (transport_of a) via) t e (λ v f1 e1.
+    option_and_then_some _ (or_default 2 slots_of slots) t e1 (λ s f2 e2.
+    option_and_then_some _ (or_default false steady_of steady) t e2 (λ st f3 e3.
+    option_and_then_some _ (or_default 64 buffer_of buffer) t e3 (λ b f4 e4.
+    option_and_then_some _ (or_default Threads driving_of drive) t e4 (λ d f5 e5.
+    map_some (λ g. record { transport = v; slots = s; steady = st; buffer = b; driving = d; generated = g }) (if_given generated_of gen) t e5 (λ g f6 e6.
+    sym (ap (λ (x : Travel). x.generated) e6) ∙ same_Some g None (sym f6 ∙ ap (if_given generated_of) none)))))))
+
 delta_is : (s : ℕ) (o : Option (List ℕ)) (d : Option ℕ) → if_given (number_in 1 1000000000000) o ≡ Some d → TaskInRanges (task.Sssp s d)
 delta_is s None d e = subst (λ x. TaskInRanges (task.Sssp s x)) (same_Some None d e) tt
 delta_is s (Some text) d e =
@@ -109,23 +124,52 @@ task_is application.Topo gs t e = subst TaskInRanges (same_Some task.Topo t e) t
 task_is application.Sssp gs t e = search_is (value_in (codes "source") gs) (value_in (codes "delta") gs) t e
 task_is application.Tally gs t e = subst TaskInRanges (same_Some task.Tally t e) tt
 
-in_is : (a : Application) (gs : List Given) (c : Command) → command_in a gs ≡ Some c → InRanges c
-in_is a gs c e =
+-- an option that is none of the names wasn't given
+not_given : (names : List (List ℕ)) (name : List ℕ) (gs : List Given) → is_among name names ≡ false → accepted names gs ≡ true → value_in name gs ≡ None
+not_given names name [] out h = refl
+not_given names name (g ∷ gs) out h =
+    let first : IsFirst names g gs = first_of_accepted names g gs h in
+    elim (cases_Bool (bytes_eq g.name name)) [
+      | inl same ↦ absurd (false≢true (sym out ∙ subst (λ n. is_among n names ≡ true) (same_text g.name name same) first.known))
+      | inr other ↦ ap (λ b. if b then Some g.value else value_in name gs) other ∙ not_given names name gs out first.rest
+    ]
+
+-- a matrix isn't generated for tally
+no_band : (a : Application) (gs : List Given) (t : Task) (travel : Travel) → accepted (names_of a) gs ≡ true → task_in a gs ≡ Some t → travel_in a gs ≡ Some travel
+    → t ≡ task.Tally → travel.generated ≡ None
+no_band application.Histo gs t travel h e f is = absurd (let same : task.Histo ≡ task.Tally = same_Some task.Histo t e ∙ is in cc)
+no_band application.Ig gs t travel h e f is = absurd (let same : task.Ig ≡ task.Tally = same_Some task.Ig t e ∙ is in cc)
+no_band application.Permute gs t travel h e f is =
+    map_some (λ p. task.Permute p) (permutations_of (value_in (codes "seed") gs) (value_in (codes "rperm") gs) (value_in (codes "cperm") gs)) t e
+    (λ p g k. absurd (let same : task.Permute p ≡ task.Tally = k ∙ is in cc))
+no_band application.Transpose gs t travel h e f is = absurd (let same : task.Transpose ≡ task.Tally = same_Some task.Transpose t e ∙ is in cc)
+no_band application.Topo gs t travel h e f is = absurd (let same : task.Topo ≡ task.Tally = same_Some task.Topo t e ∙ is in cc)
+no_band application.Sssp gs t travel h e f is =
+    option_and_then_some _ (or_default 1 (number_in 0 (2 ^ 32 - 1)) (value_in (codes "source") gs)) t e (λ s g k.
+    map_some (λ d. task.Sssp s d) (if_given (number_in 1 1000000000000) (value_in (codes "delta") gs)) t k
+    (λ d i j. absurd (let same : task.Sssp s d ≡ task.Tally = j ∙ is in cc)))
+no_band application.Tally gs t travel h e f is =
+    none_of application.Tally (value_in (codes "via") gs) (value_in (codes "slots") gs) (value_in (codes "steady") gs) (value_in (codes "buffer") gs) (value_in (codes "drive") gs) (value_in (codes "gen") gs)
+    travel (not_given (names_of application.Tally) (codes "gen") gs refl h) f
+
+in_is : (a : Application) (gs : List Given) (c : Command) → accepted (names_of a) gs ≡ true → command_in a gs ≡ Some c → InRanges c
+in_is a gs c h e =
     option_and_then_some _ (or_default (4 ∷ []) grid_of (value_in (codes "grid") gs)) c e (λ grid f1 e1.
     option_and_then_some _ (travel_in a gs) c e1 (λ travel f2 e2.
     map_some (λ t. record { task = t; grid = grid; travel = travel }) (task_in a gs) c e2 (λ t f3 e3.
     subst InRanges e3 (record {
       travel = travel_is a (value_in (codes "via") gs) (value_in (codes "slots") gs) (value_in (codes "steady") gs) (value_in (codes "buffer") gs) (value_in (codes "drive") gs) (value_in (codes "gen") gs) travel f2;
       task = task_is a gs t f3;
+      lines = no_band a gs t travel h f3 f2;
     }))))
 
 by_is : (a : Application) (o : Option (List Given)) (c : Command) → command_by a o ≡ Some c → InRanges c
 by_is a None c e = absurd (none-some c e)
-by_is a (Some gs) c e = accepted_is (accepted (names_of a) gs) a gs c e
+by_is a (Some gs) c e = accepted_is (accepted (names_of a) gs) a gs c refl e
   where
-    accepted_is : (b : Bool) (a : Application) (gs : List Given) (c : Command) → (if b then command_in a gs else None) ≡ Some c → InRanges c
-    accepted_is true a gs c e = in_is a gs c e
-    accepted_is false a gs c e = absurd (none-some c e)
+    accepted_is : (b : Bool) (a : Application) (gs : List Given) (c : Command) → accepted (names_of a) gs ≡ b → (if b then command_in a gs else None) ≡ Some c → InRanges c
+    accepted_is true a gs c h e = in_is a gs c h e
+    accepted_is false a gs c h e = absurd (none-some c e)
 
 with_is : (o : Option Application) (words : List (List ℕ)) (c : Command) → command_with o words ≡ Some c → InRanges c
 with_is None words c e = absurd (none-some c e)

@@ -112,7 +112,8 @@ permute --rperm 2,3,1 --cperm 3,1,2 => permute 2;3;1; 3;1;2; 1/4 Convey 2 false 
 permute --cperm=0 => permute same 0; 1/4 Convey 2 false 64 Threads
 permute --rperm 4294967295,007 => permute 4294967295;7; same 1/4 Convey 2 false 64 Threads
 histo --drive serial --buffer 2 --grid 4 => histo 1/4 Convey 2 false 2 Serial
-histo --grid 4 --buffer=2 --steady yes --slots=1 --via exstack --drive serial --gen 1,1,1 => histo 1/4 Exstack 1 true 2 Serial 1,1,1";
+histo --grid 4 --buffer=2 --steady yes --slots=1 --via exstack --drive serial --gen 1,1,1 => histo 1/4 Exstack 1 true 2 Serial 1,1,1
+tally --grid 2x2 --buffer=2 --steady yes --slots=1 --via exstack --drive serial => tally 2/4 Exstack 1 true 2 Serial";
 
 /// Lines that are no commands.
 const REFUSED: &str = "_
@@ -226,6 +227,12 @@ topo --source 1
 sssp --seed 1
 permute --source 1
 tally --source 1
+tally --seed 1
+tally --delta 3
+tally --cperm 1
+tally file
+tally --buffer 2 --buffer 2
+Tally
 transpose --rperm 1
 sssp --source 4294967296
 sssp --source -1

@@ -1,27 +1,28 @@
 use Rattle.std.proofs.Common.{◌≡◌, Bool, List, ℕ, Some, None, Ok, Err, refl, ap, subst}
-use Rattle.mtx_text.specs.Sparse.{Sparse}
+use Rattle.bale_cli.specs.declared.subject.Subject.{Subject}
 use Rattle.bale_cli.specs.declared.refusal.Refusal.{Refusal}
 use Rattle.bale_cli.specs.declared.refusal.Refusal.TheVariants as refusal
 use Rattle.bale_cli.specs.declared.unfit.Unfit.{Unfit}
-use Rattle.bale_cli.specs.Answer.{Told, matrix_asked}
+use Rattle.bale_cli.specs.Answer.{Told}
+use Rattle.bale_cli.specs.Subjects.{subject_asked}
 use Rattle.bale_cli.specs.Fitness.{unfitness}
-use Rattle.bale_cli.proofs.Answering.{matrix_refused, ran_answered}
+use Rattle.bale_cli.proofs.Answering.{subject_refused, ran_answered}
 use Rattle.bale_cli.proofs.calls.answer_of.Goals as goal
 
 pub ran-requires-clause-fits : goal.ran-requires-clause-fits
-ran-requires-clause-fits g c κs within = subst (λ (b : Bool). unfitness c.args.command.now c.in-Ok.matrix b ≡ None) c.drives_serially-serial.ensures c.in-Ok.ensures.fits
+ran-requires-clause-fits g c κs within = subst (λ (b : Bool). unfitness c.args.command.now c.in-Ok.subject b ≡ None) c.drives_serially-serial.ensures c.in-Ok.ensures.fits
 
 pub returns-in-Ok-clause-answered : goal.returns-in-Ok-clause-answered
 returns-in-Ok-clause-answered g c =
-    ran_answered c.ran.result c.args.command.now c.in-Ok.matrix c.in-Ok.ensures.matrix
-    (subst (λ (b : Bool). unfitness c.args.command.now c.in-Ok.matrix b ≡ None) c.drives_serially-serial.ensures c.in-Ok.ensures.fits) c.matrix_for.ensures.unread
+    ran_answered c.ran.result c.args.command.now c.in-Ok.subject c.in-Ok.ensures.subject
+    (subst (λ (b : Bool). unfitness c.args.command.now c.in-Ok.subject b ≡ None) c.drives_serially-serial.ensures c.in-Ok.ensures.fits) c.subject_for.ensures.unread
     c.in-Ok.ensures.read_whole c.ran.ensures.status c.ran.ensures.answer c.ran.ensures.cause c.ran.ensures.held c.ran.ensures.no_answer c.ran.ensures.memory c.ran.ensures.rounds
 
 pub returns-in-Err-clause-answered : goal.returns-in-Err-clause-answered
 returns-in-Err-clause-answered g c =
-    matrix_refused c.args.command.now c.in-Err.refusal (λ e. c.in-Err.ensures.read_fault (ap (λ (r : Refusal). Err r) e))
+    subject_refused c.args.command.now c.in-Err.refusal (λ e. c.in-Err.ensures.read_fault (ap (λ (r : Refusal). Err r) e))
     (λ text b told e. c.in-Err.ensures.bad text b told (ap (λ (r : Refusal). Err r) e))
     (subst (λ (s : Bool). (text : List ℕ) (u : Unfit) → Told (Some c.args.command.now) (g.S.Source.left c.args.source.now) text → c.in-Err.refusal ≡ refusal.Unfit u
-    → (m : Sparse) × (matrix_asked c.args.command.now.travel.generated text ≡ Ok m) × (unfitness c.args.command.now m s ≡ Some u)) c.drives_serially-serial.ensures
+    → (x : Subject) × (subject_asked c.args.command.now text ≡ Ok x) × (unfitness c.args.command.now x s ≡ Some u)) c.drives_serially-serial.ensures
     (λ text u told e. c.in-Err.ensures.unfit text u told (ap (λ (r : Refusal). Err r) e)))
-    c.in-Err.ensures.kinds c.matrix_for.ensures.unread c.in-Err.ensures.read_bad refl
+    c.in-Err.ensures.kinds c.subject_for.ensures.unread c.in-Err.ensures.read_bad refl

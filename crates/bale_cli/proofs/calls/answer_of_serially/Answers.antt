@@ -1,32 +1,33 @@
 use Rattle.std.proofs.Common.{Err, refl, ap, subst}
-use Rattle.mtx_text.specs.Sparse.{Sparse}
+use Rattle.bale_cli.specs.declared.subject.Subject.{Subject}
 use Rattle.bale_words.specs.declared.command.Command.{Command}
 use Rattle.bale_cli.specs.declared.refusal.Refusal.{Refusal}
+use Rattle.bale_cli.specs.Jobs.{manner_for}
 use Rattle.bale_cli.specs.Tasks.{TurnsOfTask}
-use Rattle.bale_cli.proofs.Answering.{matrix_refused, memory_only, ran_answered, same_asked}
+use Rattle.bale_cli.proofs.Answering.{subject_refused, memory_only, ran_answered, same_asked}
 use Rattle.bale_cli.proofs.Cases.{none_made}
 use Rattle.bale_cli.proofs.calls.answer_of_serially.Goals as goal
 
 pub returns-in-Ok-clause-answered : goal.returns-in-Ok-clause-answered
 returns-in-Ok-clause-answered g c =
-    ran_answered c.ran_serially.result c.args.command.now c.in-Ok.matrix c.in-Ok.ensures.matrix c.in-Ok.ensures.fits c.matrix_for.ensures.unread c.in-Ok.ensures.read_whole
+    ran_answered c.ran_serially.result c.args.command.now c.in-Ok.subject c.in-Ok.ensures.subject c.in-Ok.ensures.fits c.subject_for.ensures.unread c.in-Ok.ensures.read_whole
     c.ran_serially.ensures.status c.ran_serially.ensures.answer c.ran_serially.ensures.cause c.ran_serially.ensures.held c.ran_serially.ensures.no_answer
     c.ran_serially.ensures.memory c.ran_serially.ensures.rounds
 
 pub returns-in-Ok-clause-steps : goal.returns-in-Ok-clause-steps
 returns-in-Ok-clause-steps g c = λ text command m asked.
-    let e = same_asked c.args.command.now c.in-Ok.matrix text command m c.in-Ok.ensures.matrix asked in
-    subst (λ (y : Sparse). TurnsOfTask command.task y (manner_for command) command.grid c.args.steps.now c.ran_serially.new.steps) e.1
-    (subst (λ (x : Command). TurnsOfTask x.task c.in-Ok.matrix (manner_for x) x.grid c.args.steps.now c.ran_serially.new.steps) e.0 c.ran_serially.ensures.steps)
+    let e = same_asked c.args.command.now c.in-Ok.subject text command m c.in-Ok.ensures.subject asked in
+    subst (λ (y : Subject). TurnsOfTask command.task y (manner_for command) command.grid c.args.steps.now c.ran_serially.new.steps) e.1
+    (subst (λ (x : Command). TurnsOfTask x.task c.in-Ok.subject (manner_for x) x.grid c.args.steps.now c.ran_serially.new.steps) e.0 c.ran_serially.ensures.steps)
 
 pub returns-in-Ok-clause-no_turns : goal.returns-in-Ok-clause-no_turns
 returns-in-Ok-clause-no_turns g c = memory_only _ c.ran_serially.result c.ran_serially.ensures.memory
 
 pub returns-in-Err-clause-answered : goal.returns-in-Err-clause-answered
 returns-in-Err-clause-answered g c =
-    matrix_refused c.args.command.now c.in-Err.refusal (λ e. c.in-Err.ensures.read_fault (ap (λ (r : Refusal). Err r) e))
+    subject_refused c.args.command.now c.in-Err.refusal (λ e. c.in-Err.ensures.read_fault (ap (λ (r : Refusal). Err r) e))
     (λ text b told e. c.in-Err.ensures.bad text b told (ap (λ (r : Refusal). Err r) e)) (λ text u told e. c.in-Err.ensures.unfit text u told (ap (λ (r : Refusal). Err r) e))
-    c.in-Err.ensures.kinds c.matrix_for.ensures.unread c.in-Err.ensures.read_bad refl
+    c.in-Err.ensures.kinds c.subject_for.ensures.unread c.in-Err.ensures.read_bad refl
 
 pub returns-in-Err-clause-steps : goal.returns-in-Err-clause-steps
 returns-in-Err-clause-steps g c = λ text command m asked. none_made command.task m command.grid _ _ refl

@@ -9,7 +9,7 @@ use Rattle.bale_cli.specs.Starts.{starts_of}
 use Rattle.bale_cli.specs.Tasks.{made_for, TellsTask}
 use Rattle.rank_node.specs.Movers.{manner_of}
 use Rattle.bale_cli.proofs.Cases.{DriveTells, rounds_as, tells_task}
-use Rattle.bale_cli.proofs.Exchanges.{is_capacity, is_slots, ready}
+use Rattle.bale_cli.proofs.Exchanges.{is_capacity, is_slots}
 use Rattle.bale_cli.proofs.exchange.ran_on_threads.Given.{Over}
 use Rattle.bale_cli.proofs.exchange.ran_on_threads.Goals.{In_ok-progs}
 use Rattle.bale_cli.proofs.exchange.ran_on_threads.Goals as goal
@@ -29,8 +29,8 @@ some g c =
     subst (λ n. 0 < n) (sym c.in_ok-progs.ensures.begins.2.size) ranks
 
 -- they are those of the task
-are : (g : Over) (c : In_ok-progs g) → c.in_ok-progs.progs ≡ starts_of c.args.command.now.task (ranks c.args.command.now.grid) c.args.m.now
-are g c = c.in_ok-progs.ensures.starts ∙ ap (λ n. starts_of c.args.command.now.task n c.args.m.now) c.ranks.ensures.value
+are : (g : Over) (c : In_ok-progs g) → c.in_ok-progs.progs ≡ starts_of c.args.command.now.task (ranks c.args.command.now.grid) c.args.subject.now
+are g c = c.in_ok-progs.ensures.starts ∙ ap (λ n. starts_of c.args.command.now.task n c.args.subject.now) c.ranks.ensures.value
 
 pub case_threads-requires-clause-capacity : goal.case_threads-requires-clause-capacity
 case_threads-requires-clause-capacity g c κs within = is_capacity c.args.command.now.travel.buffer c.requires.ranges.travel.buffer
@@ -55,8 +55,8 @@ told-requires-clause-ended g c =
 
 pub returns-clause-rounds : goal.returns-clause-rounds
 returns-clause-rounds g c =
-    rounds_as (λ (rs : List ClosedRound). TellsTask c.args.command.now.task c.args.m.now (made_for false c.args.command.now) (manner_for c.args.command.now) rs)
+    rounds_as (λ (rs : List ClosedRound). TellsTask c.args.command.now.task c.args.subject.now (made_for false c.args.command.now) (manner_for c.args.command.now) rs)
     c.told.result c.told.ensures.rounds
-    (tells_task c.args.command.now.task c.args.m.now (made_for false c.args.command.now) (manner_for c.args.command.now) c.in_ok-run.run'.rounds c.in_ok-progs.progs c.in_ok-run.run'.progs
-    (ready false c.args.command.now c.requires.runs) (are g (goal.at.returns-clause-rounds g c).In_ok-progs) (some g (goal.at.returns-clause-rounds g c).In_ok-progs) c.in_ok-run.ensures.ended
+    (tells_task c.args.command.now.task c.args.subject.now (made_for false c.args.command.now) (manner_for c.args.command.now) c.in_ok-run.run'.rounds c.in_ok-progs.progs c.in_ok-run.run'.progs
+    c.requires.suits (are g (goal.at.returns-clause-rounds g c).In_ok-progs) (some g (goal.at.returns-clause-rounds g c).In_ok-progs) c.in_ok-run.ensures.ended
     (subst (λ v. DriveTells c.in_ok-progs.progs (made_for false c.args.command.now) (manner_of v c.args.command.now.travel.steady) c.in_ok-run.run'.rounds) c.via_of.ensures c.in_ok-run.ensures.rounds))

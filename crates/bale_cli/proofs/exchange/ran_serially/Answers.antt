@@ -1,16 +1,14 @@
-use Rattle.std.proofs.Common.{◌+◌, ◌<◌, ◌≤◌, ◌≡◌, ◌∙◌, ℕ, List, true, length, ap, subst, sym, arith}
+use Rattle.std.proofs.Common.{◌<◌, ◌≤◌, ◌≡◌, ◌∙◌, ℕ, List, true, length, ap, subst, sym, arith}
 use Rattle.route_tensor.proofs.Coordinates.{ranks_some}
 use Rattle.route_tensor.specs.Grid.{ranks}
-use Rattle.round_program.specs.Canonical.{HasRounds, InRound, EndsWithin, HaveEnded}
-use Rattle.rank_group.specs.Told.{turns_within}
+use Rattle.round_program.specs.Canonical.{InRound, EndsWithin, HaveEnded}
 use Rattle.rank_group.specs.declared.closed_round.ClosedRound.{ClosedRound}
 use Rattle.app_cases.specs.Any.{AnyState, any_rules}
 use Rattle.bale_cli.specs.Jobs.{manner_for}
 use Rattle.bale_cli.specs.Starts.{starts_of}
 use Rattle.bale_cli.specs.Tasks.{made_for, TellsTask}
-use Rattle.rank_node.specs.Movers.{manner_of}
-use Rattle.bale_cli.proofs.Cases.{DriveTells, rounds_as, tells_task, turns_of_task}
-use Rattle.bale_cli.proofs.Exchanges.{is_capacity, is_slots, ready, serial_via}
+use Rattle.bale_cli.proofs.Cases.{rounds_as, tells_task, turns_of_task}
+use Rattle.bale_cli.proofs.Exchanges.{is_capacity, is_slots}
 use Rattle.bale_cli.proofs.exchange.ran_serially.Given.{Over}
 use Rattle.bale_cli.proofs.exchange.ran_serially.Goals.{In_ok-progs}
 use Rattle.bale_cli.proofs.exchange.ran_serially.Goals as goal
@@ -30,14 +28,11 @@ some g c =
     subst (λ n. 0 < n) (sym c.in_ok-progs.ensures.begins.2.size) ranks
 
 -- they are those of the task
-are : (g : Over) (c : In_ok-progs g) → c.in_ok-progs.progs ≡ starts_of c.args.command.now.task (ranks c.args.command.now.grid) c.args.m.now
-are g c = c.in_ok-progs.ensures.starts ∙ ap (λ n. starts_of c.args.command.now.task n c.args.m.now) c.ranks.ensures.value
+are : (g : Over) (c : In_ok-progs g) → c.in_ok-progs.progs ≡ starts_of c.args.command.now.task (ranks c.args.command.now.grid) c.args.subject.now
+are g c = c.in_ok-progs.ensures.starts ∙ ap (λ n. starts_of c.args.command.now.task n c.args.subject.now) c.ranks.ensures.value
 
 pub case_serial-requires-clause-capacity : goal.case_serial-requires-clause-capacity
 case_serial-requires-clause-capacity g c = is_capacity c.args.command.now.travel.buffer c.requires.ranges.travel.buffer
-
-pub case_serial-requires-clause-one_hop : goal.case_serial-requires-clause-one_hop
-case_serial-requires-clause-one_hop g c = λ e. absurd cc
 
 pub case_serial-requires-clause-slots : goal.case_serial-requires-clause-slots
 case_serial-requires-clause-slots g c = is_slots c.args.command.now.travel.slots c.requires.ranges.travel.slots
@@ -59,22 +54,20 @@ told-requires-clause-ended g c =
 
 pub returns-clause-rounds : goal.returns-clause-rounds
 returns-clause-rounds g c =
-    rounds_as (λ (rs : List ClosedRound). TellsTask c.args.command.now.task c.args.m.now (made_for true c.args.command.now) (manner_for c.args.command.now) rs)
+    rounds_as (λ (rs : List ClosedRound). TellsTask c.args.command.now.task c.args.subject.now (made_for true c.args.command.now) (manner_for c.args.command.now) rs)
     c.told.result c.told.ensures.rounds
-    (tells_task c.args.command.now.task c.args.m.now (made_for true c.args.command.now) (manner_for c.args.command.now) c.in_ok-run.run'.rounds c.in_ok-progs.progs c.in_ok-run.run'.progs
-    (ready true c.args.command.now c.requires.runs) (are g (goal.at.returns-clause-rounds g c).In_ok-progs) (some g (goal.at.returns-clause-rounds g c).In_ok-progs) c.in_ok-run.ensures.ended
-    (subst (λ v. DriveTells c.in_ok-progs.progs (made_for true c.args.command.now) (manner_of v c.args.command.now.travel.steady) c.in_ok-run.run'.rounds) (sym (serial_via c.args.command.now c.requires.runs)) c.in_ok-run.ensures.rounds))
+    (tells_task c.args.command.now.task c.args.subject.now (made_for true c.args.command.now) (manner_for c.args.command.now) c.in_ok-run.run'.rounds c.in_ok-progs.progs c.in_ok-run.run'.progs
+    c.requires.suits (are g (goal.at.returns-clause-rounds g c).In_ok-progs) (some g (goal.at.returns-clause-rounds g c).In_ok-progs) c.in_ok-run.ensures.ended
+    c.in_ok-run.ensures.rounds)
 
 pub returns-in_err-run-clause-steps : goal.returns-in_err-run-clause-steps
 returns-in_err-run-clause-steps g c =
-    turns_of_task c.args.command.now.task c.args.m.now (manner_for c.args.command.now) c.args.command.now.grid c.args.steps.now c.case_serial.new.steps c.in_ok-progs.progs
-    (ready true c.args.command.now c.requires.runs) (are g (goal.at.returns-in_err-run-clause-steps g c).In_ok-progs) (some g (goal.at.returns-in_err-run-clause-steps g c).In_ok-progs)
-    (subst (λ v. (n : ℕ) → HasRounds any_rules c.in_ok-progs.progs n → c.case_serial.new.steps ≤ c.args.steps.now + turns_within any_rules (manner_of v c.args.command.now.travel.steady) c.args.command.now.grid c.in_ok-progs.progs n)
-    (sym (serial_via c.args.command.now c.requires.runs)) c.case_serial.ensures.steps)
+    turns_of_task c.args.command.now.task c.args.subject.now (manner_for c.args.command.now) c.args.command.now.grid c.args.steps.now c.case_serial.new.steps c.in_ok-progs.progs
+    c.requires.suits (are g (goal.at.returns-in_err-run-clause-steps g c).In_ok-progs) (some g (goal.at.returns-in_err-run-clause-steps g c).In_ok-progs)
+    c.case_serial.ensures.steps
 
 pub returns-clause-steps : goal.returns-clause-steps
 returns-clause-steps g c =
-    turns_of_task c.args.command.now.task c.args.m.now (manner_for c.args.command.now) c.args.command.now.grid c.args.steps.now c.case_serial.new.steps c.in_ok-progs.progs
-    (ready true c.args.command.now c.requires.runs) (are g (goal.at.returns-clause-steps g c).In_ok-progs) (some g (goal.at.returns-clause-steps g c).In_ok-progs)
-    (subst (λ v. (n : ℕ) → HasRounds any_rules c.in_ok-progs.progs n → c.case_serial.new.steps ≤ c.args.steps.now + turns_within any_rules (manner_of v c.args.command.now.travel.steady) c.args.command.now.grid c.in_ok-progs.progs n)
-    (sym (serial_via c.args.command.now c.requires.runs)) c.case_serial.ensures.steps)
+    turns_of_task c.args.command.now.task c.args.subject.now (manner_for c.args.command.now) c.args.command.now.grid c.args.steps.now c.case_serial.new.steps c.in_ok-progs.progs
+    c.requires.suits (are g (goal.at.returns-clause-steps g c).In_ok-progs) (some g (goal.at.returns-clause-steps g c).In_ok-progs)
+    c.case_serial.ensures.steps

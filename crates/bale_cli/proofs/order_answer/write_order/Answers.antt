@@ -1,4 +1,4 @@
-use Rattle.std.proofs.Common.{List, ℕ, Option, OnErr, ap, subst, sym}
+use Rattle.std.proofs.Common.{List, Option, OnErr, subst, sym}
 use Rattle.bale_types.specs.Stream.{after, IsFront}
 use Rattle.bale_types.specs.Out.{appended}
 use Rattle.app_topo.specs.Levels.{Claim}

@@ -3,7 +3,7 @@ use Rattle.bale_words.specs.declared.command.Task.{Task}
 use Rattle.bale_cli.specs.Fitness.{task_unfitness}
 use Rattle.bale_cli.specs.Serving.{ServesPermute}
 use Rattle.bale_cli.proofs.Renumbering.{moves}
-use Rattle.bale_cli.proofs.start.started.Goals as goal
+use Rattle.bale_cli.proofs.start.started_on.Goals as goal
 
 pub started_as-requires-in-Permute-clause-serves : goal.started_as-requires-in-Permute-clause-serves
 started_as-requires-in-Permute-clause-serves c =

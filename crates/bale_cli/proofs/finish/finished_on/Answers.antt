@@ -3,7 +3,7 @@ use Rattle.bale_words.specs.declared.command.Task.{Task}
 use Rattle.bale_cli.specs.Fitness.{task_unfitness}
 use Rattle.bale_cli.specs.Serving.{ServesPermute}
 use Rattle.bale_cli.proofs.Renumbering.{moves}
-use Rattle.bale_cli.proofs.finish.finished.Goals as goal
+use Rattle.bale_cli.proofs.finish.finished_on.Goals as goal
 
 pub finished_as-requires-in-Permute-clause-serves : goal.finished_as-requires-in-Permute-clause-serves
 finished_as-requires-in-Permute-clause-serves g c =

@@ -1,18 +1,18 @@
 -- Within a round an exstack waits for a parcel.
-use Rattle.std.proofs.Common.{◌≡◌, ◌⊎◌, ℕ, ◌+◌, ◌<◌, ◌||◌, Bool, true, false, length, Option, Some, None, refl, sym, ap, ◌∙◌, arith, inl, inr}
+use Rattle.std.proofs.Common.{◌≡◌, ℕ, ◌||◌, Bool, true, false, Option, Some, None, refl, sym, ap, ◌∙◌, arith, inl, inr}
 use Rattle.std.specs.List.{position}
 use Rattle.std.proofs.lemmas.Bool.{false≢true}
 use Rattle.std.proofs.lemmas.List.Quantifiers.{position-Some}
 use Rattle.exstack.specs.declared.stage.Stage.{Stage}
-use Rattle.exstack.specs.declared.stage.Stage.TheVariants.{Start, Proceeding, Filling, Exchanging, Full, AllDone}
+use Rattle.exstack.specs.declared.stage.Stage.TheVariants.{Proceeding, Filling, AllDone}
 use Rattle.exstack.specs.declared.stage.Poll.{Poll}
 use Rattle.exstack.specs.declared.stage.Poll.TheVariants as poll
 use Rattle.exstack.specs.declared.stage.Proceed.{Proceed}
 use Rattle.exstack.specs.declared.stage.Proceed.TheVariants as proceed
 use Rattle.exstack.specs.Links.{Out, In, no_out, no_in}
-use Rattle.exstack.specs.State.{State, missing_link, missing_out, missing_in, all_ended, proceed_answer, exchange_answer, stage_of_proceed, stage_of_exchange, is_proceeding, is_exchanging, may_proceed, may_exchange}
+use Rattle.exstack.specs.State.{State, missing_link, missing_out, missing_in, all_ended, proceed_answer, exchange_answer, stage_of_proceed, stage_of_exchange, is_proceeding, is_exchanging}
 use Rattle.exstack.specs.Standing.{IsStack}
-use Rattle.rank_node.specs.Cycles.{DueOut, DueIn, Awaits, IsOnward, has_proceeded, has_exchanged}
+use Rattle.rank_node.specs.Cycles.{Awaits, has_proceeded, has_exchanged}
 
 -- a parcel is due where the round waits for a link
 module _ (cap : ℕ) (x : State) (s : IsStack cap x) where

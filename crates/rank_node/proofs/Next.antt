@@ -1,10 +1,9 @@
 -- The first cycle of an exstack's epoch.
-use Rattle.std.proofs.Common.{◌≡◌, ℕ, zero, suc, ◌+◌, ◌*◌, ◌<◌, ◌≤◌, Bool, true, false, List, [], ◌∷◌, length, slice_get, Option, Some, None, refl, sym, ap, subst, ◌∙◌, arith}
+use Rattle.std.proofs.Common.{◌≡◌, ℕ, ◌<◌, ◌≤◌, List, [], ◌∷◌, length, Option, Some, None, refl, sym, ap, subst, ◌∙◌, arith}
 use Rattle.std.proofs.lemmas.Bool.{false≢true}
 use Rattle.std.proofs.lemmas.List.{append-nil}
 use Rattle.bale_types.specs.declared.item.Entry.{Entry}
-use Rattle.list_laws.proofs.Lists.{within}
-use Rattle.port_bank.specs.Logs.{Logs, segment}
+use Rattle.port_bank.specs.Logs.{Logs}
 use Rattle.exstack.specs.declared.stage.Stage.{Stage}
 use Rattle.exstack.specs.declared.stage.Stage.TheVariants.{Start, Filling}
 use Rattle.exstack.specs.Links.{no_in}
@@ -15,7 +14,7 @@ use Rattle.exstack.specs.Standing.{IsStack}
 use Rattle.round_program.specs.Rules.{Rules}
 use Rattle.rank_node.specs.Sending.{to_send}
 use Rattle.rank_node.specs.Runs.{Running}
-use Rattle.rank_node.specs.Movers.{MoverState, Manner, IsStacking, IsMoving, IsNew, GoesOn, epoch_in}
+use Rattle.rank_node.specs.Movers.{MoverState, IsStacking, IsMoving, GoesOn, epoch_in}
 use Rattle.rank_node.specs.Movers.MoverState.{Conveying, Stacking}
 use Rattle.rank_node.specs.Cycles.{exchanges_in, cycles_gone_on, MarksLast, InCycle, IsInCycle}
 use Rattle.rank_node.proofs.Paced.{marks_like}
@@ -62,16 +61,6 @@ cycle_at_start R quota run cap x sent got is start few marks =
       went_on = λ m low. absurd (omega (arith, low, g));
       marks = marks;
     }
-
--- of a mover that wasn't used
-pub new_cycle : {S : Type 0} (R : Rules S) (quota : ℕ → ℕ) (run : Running S) (dims : List ℕ) (rank : ℕ) (manner : Manner) (m : MoverState) → IsNew dims rank manner m
-    → length (to_send R run.prog run.sends) ≤ quota 0 → IsInCycle R quota 0 run m (λ l. []) (λ l. [])
-new_cycle R quota run dims rank manner (Conveying c) new few = tt
-new_cycle R quota run dims rank manner (Stacking cap x) new few =
-    cycle_at_start R quota run cap x (λ l. []) (λ l. []) new.moving new.starts (omega (arith, few, ap quota new.first)) (λ e b m p low at going. absurd (omega (arith, within (segment e []) (2 * m) p at, ap length (none e)))) where
-      none : (e : ℕ) → segment e [] ≡ []
-      none zero = refl
-      none (suc e) = refl
 
 -- and of one that goes on to the next epoch
 pub next_cycle : {S : Type 0} (R : Rules S) (quota : ℕ → ℕ) (n : ℕ) (run run' : Running S) (m m' : MoverState) (sent0 got0 sent got : Logs) → IsMoving m sent0 got0 → GoesOn m m'

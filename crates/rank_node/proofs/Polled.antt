@@ -1,25 +1,23 @@
 -- What a poll leaves of a node over an exstack.
-use Rattle.std.proofs.Common.{◌≡◌, ◌≢◌, ℕ, ◌+◌, ◌<◌, ◌≤◌, ◌==◌, ◌||◌, Bool, true, false, cond, List, [], ◌∷◌, ◌++◌, length, None, refl, sym, ap, subst, ◌∙◌, arith, inl, inr, eqb-true}
+use Rattle.std.proofs.Common.{◌≡◌, ℕ, ◌+◌, ◌<◌, ◌≤◌, ◌==◌, ◌||◌, Bool, true, false, cond, List, [], ◌∷◌, ◌++◌, length, refl, sym, ap, subst, ◌∙◌, arith, inl, inr, eqb-true}
 use Rattle.std.proofs.lemmas.Bool.{cases_Bool, cases_lt, true≢false, eq-eqb, ne_eqb}
 use Rattle.std.proofs.lemmas.List.{length-append, append-nil}
-use Rattle.item_buffer.specs.Contents.{Shipped}
-use Rattle.list_laws.specs.Lists.{Begins}
-use Rattle.route_tensor.specs.Grid.{ranks, IsGrid}
+use Rattle.route_tensor.specs.Grid.{ranks}
 use Rattle.route_tensor.specs.Link.{links, link}
 use Rattle.route_tensor.specs.Ends.{hop_at, sender_at, reader_at}
 use Rattle.port_bank.specs.Logs.{Logs}
 use Rattle.port_bank.specs.Shapes.{IsExstackShape}
 use Rattle.port_bank.specs.Machine.{Part, IsOwnStep, after}
 use Rattle.port_bank.specs.Machine.Step.{Done, Idle}
-use Rattle.port_bank.proofs.Routes.{IsNumber, numbered}
+use Rattle.port_bank.proofs.Routes.{numbered}
 use Rattle.exstack.specs.declared.stage.Stage.{Stage}
-use Rattle.exstack.specs.declared.stage.Stage.TheVariants.{Start, Proceeding, Filling, Exchanging, Full, AllDone}
+use Rattle.exstack.specs.declared.stage.Stage.TheVariants.{Proceeding, Filling, Exchanging, AllDone}
 use Rattle.exstack.specs.declared.stage.Poll.{Poll}
 use Rattle.exstack.specs.declared.stage.Poll.TheVariants.{Ready, NotYet}
 use Rattle.exstack.specs.Links.{no_out, no_in}
 use Rattle.exstack.specs.State.{State, dims_of, out_at, in_at, number, link_to, link_from, is_proceeding, is_exchanging, stage_of_exchange}
 use Rattle.exstack.specs.Steps.{MadeRound, was_moved}
-use Rattle.exstack.specs.Agreement.{AgreesIn, AgreesWith}
+use Rattle.exstack.specs.Agreement.{AgreesWith}
 use Rattle.exstack.specs.Parts.{part_of, AreOwnSteps, proceed_steps, is_all_done}
 use Rattle.exstack.specs.Standing.{IsStack}
 use Rattle.exstack.proofs.OneHop.{ranks_one, grid_one, link_one}

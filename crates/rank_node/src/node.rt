@@ -6,7 +6,7 @@ ghost use Rattle.route_tensor.specs.Ends.{sender_at, reader_at};
 ghost use Rattle.port_bank.specs.Logs.{Logs};
 ghost use Rattle.list_laws.specs.Lists.{Begins};
 ghost use Rattle.rank_node.specs.Sending.{is_voting, to_send};
-ghost use Rattle.rank_node.specs.Movers.{IsShape, dims_of, rank_of, epoch_in, manner_in, manner_of, has_completed, HasCap, NoneUnread, SameUnread};
+ghost use Rattle.rank_node.specs.Movers.{IsShape, dims_of, rank_of, epoch_in, manner_in, manner_of, has_completed, HasCap, IsStarting, NoneUnread, SameUnread};
 ghost use Rattle.rank_node.specs.Moves.{Leaves, Waits};
 ghost use Rattle.rank_node.specs.Nodes.{IsNode};
 ghost use Rattle.rank_node.specs.Next.{extended, HasStopped};
@@ -76,6 +76,7 @@ impl<Q: Program, const CAP: usize, const HOPS: usize> Node<Q, CAP, HOPS> {
         ensures cap { IfOk result (λ n. HasCap CAP n.mover) }
         ensures epoch { IfOk result (λ n. epoch_in n.mover ≡ 0) }
         ensures unread { IfOk result (λ n. NoneUnread n.mover) }
+        ensures starts { IfOk result (λ n. IsStarting n.mover) }
         ensures cycle { IfOk result (λ n. (quota : ℕ → ℕ) → length (Q.rules.emissions prog) ≤ quota 0 → IsInCycle Q.rules quota 0 n.run n.mover (λ l. []) (λ l. [])) }
     {
         let rank = prog.rank();
@@ -189,6 +190,7 @@ impl<Q: Program, const CAP: usize, const HOPS: usize> Node<Q, CAP, HOPS> {
         ensures stopped { result ≡ Ok false → (h : ℕ → Q) (sent got : Logs) → IsNode Q.rules h self.old sent got → HasStopped Q.rules h self.new sent got }
 
         // An exstack begins the next epoch in cycle 0, and keeps pace with what its rank has to send in it.
+        ensures starts { result ≡ Ok true → IsStarting self.new.mover }
         ensures cycle { result ≡ Ok true → (quota : ℕ → ℕ) (n : ℕ) (sent got : Logs) → IsInCycle Q.rules quota n self.old.run self.old.mover sent got
             → length (to_send Q.rules self.new.run.prog self.new.run.sends) ≤ quota (epoch_in self.new.mover) → IsInCycle Q.rules quota 0 self.new.run self.new.mover sent got }
 

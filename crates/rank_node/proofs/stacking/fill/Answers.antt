@@ -1,4 +1,4 @@
-use Rattle.std.proofs.Common.{rules, ◌≡◌, ℕ, ◌<◌, All, length, refl}
+use Rattle.std.proofs.Common.{rules, ℕ, ◌<◌, All, refl}
 use Rattle.bale_types.specs.declared.item.Item.{Item}
 use Rattle.route_tensor.specs.Grid.{ranks}
 use Rattle.exstack.specs.State.{dims_of}

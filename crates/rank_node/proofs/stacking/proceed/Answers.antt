@@ -1,5 +1,4 @@
-use Rattle.std.proofs.Common.{rules, ◌≡◌, ℕ, ◌<◌, ◌==◌, true, false, length, refl, sym, ap, subst, ◌∙◌, arith}
-use Rattle.bale_types.specs.declared.item.Item.{Item}
+use Rattle.std.proofs.Common.{rules, ◌≡◌, ◌==◌, false, length, refl, sym, ap, ◌∙◌, arith}
 use Rattle.exstack.specs.State.{State, dims_of, may_proceed, in_proceed}
 use Rattle.exstack.specs.Standing.{IsStack}
 use Rattle.exstack.proofs.Beginning.{proceed_begun}

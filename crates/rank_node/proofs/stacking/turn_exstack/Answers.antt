@@ -1,6 +1,6 @@
-use Rattle.std.proofs.Common.{rules, ◌≡◌, true, slice_get, refl, sym, ap, subst, ◌∙◌}
+use Rattle.std.proofs.Common.{rules, ◌≡◌, slice_get, refl, sym, ap, subst, ◌∙◌}
 use Rattle.exstack.specs.State.{State, dims_of, may_exchange}
-use Rattle.rank_node.specs.Runs.{Running, running}
+use Rattle.rank_node.specs.Runs.{running}
 use Rattle.list_laws.proofs.Results.{on_ok_map}
 use Rattle.rank_node.specs.Sending.{to_send}
 use Rattle.rank_node.proofs.Ballots.{same_sends}

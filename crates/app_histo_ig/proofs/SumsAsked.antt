@@ -61,9 +61,13 @@ known m ps h r =
           ap from_twos_complement (ap (λ n. get_or (sums_of h.ranks m n) (j / h.ranks) 0) (sym own) ∙ owner_sum h.ranks m j h.some low) ∙ (column_word m j h.matrix).number;
     }
 
+-- there are as many as at the beginning
+pub as_many : (m : Sparse) (ps : List SumsState) (h : SumsEnded m ps) → length ps ≡ h.ranks
+as_many m ps h = ap length (ended_are m ps h) ∙ length-map-range_with_len (added h.ranks m) 0 h.ranks
+
 pub are_askers : (m : Sparse) (ps : List SumsState) (qs : List AskingState) → SumsEnded m ps → qs ≡ map asker_from ps → AreAskersOf m (length ps) qs
 are_askers m ps qs h is =
-    let size : length ps ≡ h.ranks = ap length (ended_are m ps h) ∙ length-map-range_with_len (added h.ranks m) 0 h.ranks in
+    let size : length ps ≡ h.ranks = as_many m ps h in
     record {
       size = ap length is ∙ length-map ps asker_from;
       each = λ r s at.

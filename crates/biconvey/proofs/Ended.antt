@@ -1,15 +1,12 @@
 -- The beginning of an exchange and its end.
-use Rattle.std.proofs.Common.{◌≡◌, ℕ, zero, suc, ◌+◌, ◌<◌, ◌≤◌, Bool, true, false, List, [], ◌∷◌, length, map, get_or, slice_get, slice_index_or, Option, Some, None, All, refl, sym, ap, subst, ◌∙◌, arith}
+use Rattle.std.proofs.Common.{◌≡◌, ℕ, zero, suc, ◌+◌, ◌<◌, ◌≤◌, Bool, true, false, List, [], ◌∷◌, length, map, get_or, slice_get, Option, Some, None, refl, sym, ap, subst, ◌∙◌, arith}
 use Rattle.std.specs.List.{sum_by}
 use Rattle.std.proofs.lemmas.Bool.{true≢false}
 use Rattle.std.proofs.lemmas.List.{length-map}
-use Rattle.std.proofs.lemmas.Option.{get_or_from_slice_get, slice_get-get_or}
-use Rattle.bale_types.specs.declared.item.Item.{Item}
+use Rattle.std.proofs.lemmas.Option.{get_or_from_slice_get}
 use Rattle.item_buffer.specs.Contents.{Shipped}
-use Rattle.list_laws.proofs.Lists.{find, within, get_once, get_map, all_head, all_tail}
-use Rattle.route_tensor.specs.Grid.{ranks, IsGrid}
-use Rattle.route_tensor.specs.Link.{links}
-use Rattle.port_bank.specs.Link.{LinkLaw}
+use Rattle.list_laws.proofs.Lists.{find, within, get_once, get_map}
+use Rattle.route_tensor.specs.Grid.{ranks}
 use Rattle.port_bank.specs.Shapes.{IsConveyorShape}
 use Rattle.std.proofs.lemmas.List.Sums.{sum_by-cons}
 use Rattle.route_tensor.specs.Ends.{reader_at}
@@ -20,31 +17,24 @@ use Rattle.port_bank.specs.Port.{IsSlots}
 use Rattle.port_bank.specs.Round.{Round, IsRound, logs_of}
 use Rattle.port_bank.proofs.Closing.{none_sent, none_got, channel-empty}
 use Rattle.hop_core.specs.State.{State}
-use Rattle.convey.specs.Buffers.{buffers_of, in_of, is_complete}
+use Rattle.convey.specs.Buffers.{in_of}
 use Rattle.convey.specs.Law.{ClosesLaw}
-use Rattle.convey.specs.Parts.{part_of}
+use Rattle.rank_group.specs.Told.{Made}
 use Rattle.round_program.specs.Talks.{Talk, TalkLaws}
-use Rattle.round_program.specs.Replies.{answers, answered_from, HaveHeard}
+use Rattle.round_program.specs.Replies.{HaveHeard}
 use Rattle.biconvey.specs.States.{BiState, IsBiNode}
-use Rattle.biconvey.specs.Ranks.{AllRanks, AllComplete}
-use Rattle.biconvey.specs.Ways.{conveyor_in, inbox, Lawful, IsWay}
+use Rattle.biconvey.specs.Ranks.{AllRanks}
+use Rattle.biconvey.specs.Ways.{conveyor_in, inbox, IsWay}
 use Rattle.biconvey.specs.Worlds.{AreBanks, World, is_over, queries_in, sides_of, turns_of}
-use Rattle.biconvey.specs.Drives.{AreAskers, queries_of, answers_of, queries_by, replies_by, TellsWay, TellsExchange, AreFresh, askers_of}
+use Rattle.biconvey.specs.Drives.{AreAskers, TellsExchange, AreFresh, askers_of}
 use Rattle.biconvey.proofs.Swept.{queries_lawful}
 use Rattle.biconvey.proofs.Counting.{size, nth, at, all_ranks}
-use Rattle.biconvey.proofs.Closing.{all_asked, replied_of, queries_close, all_answered, ask_over}
-use Rattle.biconvey.proofs.Driven.{over_phases}
-use Rattle.biconvey.proofs.Offering.{queries_below}
-use Rattle.biconvey.proofs.Telling.{IsDone, tells_way}
+use Rattle.biconvey.proofs.Finished.{starts_of, IsClosed, heard_all, told_both}
 
 slots_some : (slots : ℕ) → IsSlots slots → 0 < slots
 unfolding IsSlots
 slots_some zero is = absurd (true≢false (sym is))
 slots_some (suc n) is = omega arith
-
--- the asker of each rank; of no rank some other
-abbrev pub starts_of : {S : Type 0} → List S → S → ℕ → S
-starts_of askers s r = get_or askers r s
 
 no_unread : (dims : List ℕ) (cs : List State) → ((r : ℕ) (c : State) → slice_get cs r ≡ Some c → (l : ℕ) → (in_of c l).parcel.untaken ≡ []) → (l : ℕ) → inbox dims cs l ≡ 0
 no_unread dims cs each l = by (slice_get cs (reader_at dims l)) refl where
@@ -108,21 +98,6 @@ logs_map f [] e l = sym e
 logs_map f (c ∷ channels) e zero = refl
 logs_map f (c ∷ channels) e (suc l) = logs_map f channels e l
 
--- the answers of ranks that there are don't depend on others
-answered_alike : {S : Type 0} (T : Talk S) (a b : ℕ → S) (p r : ℕ) (s : S) (i : ℕ) (qs : List (ℕ × ℕ)) → All (λ (q : ℕ × ℕ). q.0 < p) qs → ((d : ℕ) → d < p → a d ≡ b d) → answered_from T a r s i qs ≡ answered_from T b r s i qs
-answered_alike T a b p r s i [] low same = refl
-answered_alike T a b p r s i (q ∷ qs) low same =
-    ap (λ t. answered_from T a r (T.heard s i (T.answer t r q.1)) (suc i) qs) (same q.0 (all_head (λ (q : ℕ × ℕ). q.0 < p) q qs low))
-    ∙ answered_alike T a b p r (T.heard s i (T.answer (b q.0) r q.1)) (suc i) qs (all_tail (λ (q : ℕ × ℕ). q.0 < p) q qs low) same
-
--- what is known of one way over its bank
-record Facts (cap slots : ℕ) (steady : Bool) (cs : ℕ → State) (items : ℕ → ℕ → List Item) (ds : List ℕ) (a g : Logs) : Type 0 where
-  grid : IsGrid ds
-  links_keep : (l : ℕ) → l < links ds → LinkLaw cap slots (a l) (g l)
-  shape : (l : ℕ) → IsConveyorShape steady cap (a l)
-  each : (k : ℕ) → k < ranks ds → IsDone ds k (cs k) a g
-  pushes : (k d : ℕ) → k < ranks ds → d < ranks ds → (part_of (buffers_of (cs k)) (starting_at ds k a) (ending_at ds k g)).pushed 0 d ≡ items k d
-
 module _ {S : Type 0} (T : Talk S) (laws : TalkLaws T) (law : ClosesLaw) (cap : ℕ) (dims : List ℕ) (slots : ℕ) (steady : Bool) (askers : List S) (s : S) (ns : List (BiState S)) (q r : Bank)
     (all : AreAskers T (ranks dims) askers) (banks : AreBanks cap dims slots q r) (w : World T dims cap slots steady (starts_of askers s) ns (sides_of q r)) (over : (k : ℕ) (n : BiState S) → slice_get ns k ≡ Some n → is_over n ≡ true) where
   abbrev starts : ℕ → S
@@ -137,70 +112,30 @@ module _ {S : Type 0} (T : Talk S) (laws : TalkLaws T) (law : ClosesLaw) (cap : 
   every : AllRanks T dims cap slots starts node (sides_of q r)
   every = all_ranks T laws law dims cap slots steady (starts_of askers s) ns (sides_of q r) w
 
-  complete : AllComplete dims node
-  complete = record {
-    queries = λ k low. (over_phases (node k) (over k (node k) (node_at k low))).0;
-    replies = λ k low. (over_phases (node k) (over k (node k) (node_at k low))).1;
-  }
-
-  start_at : (k : ℕ) → k < ranks dims → slice_get askers k ≡ Some (starts k)
-  start_at k low = slice_get-get_or askers k s (omega (arith, low, all.size))
+  all_of : length ns ≡ ranks dims
+  all_of = size T laws law dims cap slots steady (starts_of askers s) ns (sides_of q r) w
 
   -- each has heard what it asked
   pub have_heard : (ends : List S) → ends ≡ askers_of ns → HaveHeard T askers ends
-  have_heard ends is = record {
-    size = ap length is ∙ (length-map ns (λ (n : BiState S). n.asker) ∙ (size T laws law dims cap slots steady (starts_of askers s) ns (sides_of q r) w ∙ sym all.size));
-    each = λ k t from.
-        let low : k < ranks dims = omega (arith, within askers k t from, all.size) in
-        let mine : starts k ≡ t = get_or_from_slice_get askers k t s from in
-        let alike : (d : ℕ) → d < ranks dims → starts d ≡ slice_index_or askers d t = λ d b. get_or_from_slice_get askers d (slice_index_or askers d t) s (slice_get-get_or askers d t (omega (arith, b, all.size))) in
-        let n = every.each k low in
-        let heard = all_answered T laws law dims cap slots starts node (sides_of q r) every complete k low in
-        let below = queries_below T laws (starts k) (ranks dims) n.node.heard.valid (n.node.all_ranks ∙ ap ranks n.same_dims) in
-        ap (λ xs. slice_get xs k) is ∙ (get_map (λ (m : BiState S). m.asker) ns k (node k) (node_at k low)
-        ∙ ap Some (heard ∙ (answered_alike T starts (λ d. slice_index_or askers d t) (ranks dims) k (starts k) 0 (T.queries (starts k)) below alike
-        ∙ ap (λ u. answered_from T (λ d. slice_index_or askers d t) k u 0 (T.queries u)) (alike k low))));
-  }
+  have_heard ends is = heard_all T laws law cap dims slots steady askers s ns node (sides_of q r) all all_of node_at every over ends is
 
-  done_queries : (k : ℕ) → k < ranks dims → IsDone dims k (node k).queries (sent_of q) (got_of q)
-  done_queries k low = let n = every.each k low in record { same_dims = n.same_dims; same_rank = n.same_rank; first = n.node.asks.first; full = ap is_complete (complete.queries k low); sound = n.node.asks.sound; agrees = n.node.asks.agrees }
+  made_of : (b : Bank) → b.dims ≡ dims → b.slots ≡ slots → ◌≡◌ {A = Made} (record { dims = b.dims; cap = cap; slots = b.slots; by_slots = false }) (record { dims = dims; cap = cap; slots = slots; by_slots = false })
+  made_of b ed es = ap (λ ds. record { dims = ds; cap = cap; slots = b.slots; by_slots = false }) ed ∙ ap (λ k. record { dims = dims; cap = cap; slots = k; by_slots = false }) es
 
-  done_replies : (k : ℕ) → k < ranks dims → IsDone dims k (node k).replies (sent_of r) (got_of r)
-  done_replies k low = let n = every.each k low in record { same_dims = n.node.same_dims ∙ n.same_dims; same_rank = n.node.same_rank ∙ n.same_rank; first = n.node.replies.first; full = ap is_complete (complete.replies k low); sound = n.node.replies.sound; agrees = n.node.replies.agrees }
-
-  asked_all : (k d : ℕ) → k < ranks dims → d < ranks dims → (part_of (buffers_of (node k).queries) (starting_at dims k (sent_of q)) (ending_at dims k (got_of q))).pushed 0 d ≡ queries_by T askers k d
-  asked_all k d low to = all_asked T laws law dims cap slots starts node (sides_of q r) every complete k d low to ∙ ap (λ o. queries_of T o d) (sym (start_at k low))
-
-  replied_all : (d k : ℕ) → d < ranks dims → k < ranks dims → (part_of (buffers_of (node d).replies) (starting_at dims d (sent_of r)) (ending_at dims d (got_of r))).pushed 0 k ≡ replies_by T askers d k
-  replied_all d k to low =
-      replied_of T laws law dims cap slots starts node (sides_of q r) every d k to low
-      ∙ (ap (answers T (starts d) k) ((queries_close T laws law dims cap slots starts node (sides_of q r) every).whole d k 0 to low (ask_over T laws law dims cap slots starts node (sides_of q r) every complete d to) ∙ asked_all k d low to)
-      ∙ ap (λ o. answers_of T o k (queries_by T askers k d)) (sym (start_at d to)))
-
-  -- one closed bank tells its way
-  way_told : (b : Bank) (cs : ℕ → State) (items : ℕ → ℕ → List Item) (c : Round) → b.dims ≡ dims → b.slots ≡ slots → Lawful dims cap slots (sent_of b) (got_of b) → ((l : ℕ) → IsConveyorShape steady cap (sent_of b l))
-      → ((k : ℕ) → k < ranks dims → IsDone dims k (cs k) (sent_of b) (got_of b)) → ((k d : ℕ) → k < ranks dims → d < ranks dims → (part_of (buffers_of (cs k)) (starting_at dims k (sent_of b)) (ending_at dims k (got_of b))).pushed 0 d ≡ items k d)
-      → c ≡ closed cap b → IsRound c → TellsWay (record { dims = dims; cap = cap; slots = slots; by_slots = false }) steady items c
-  way_told b cs items c ed es lawful shape each pushes is in_order =
-      subst (λ (x : Round). TellsWay (record { dims = dims; cap = cap; slots = slots; by_slots = false }) steady items x) (sym is)
-      (tells_way (closed cap b) cap slots steady cs facts.grid facts.links_keep (subst IsRound is in_order).in_order facts.shape facts.each
-      (record { dims = dims; cap = cap; slots = slots; by_slots = false }) items (ap (λ ds. record { dims = ds; cap = cap; slots = b.slots; by_slots = false }) ed ∙ ap (λ k. record { dims = dims; cap = cap; slots = k; by_slots = false }) es) refl facts.pushes) where
-        sent : ◌≡◌ {A = Logs} (sent_of b) (logs_of (map (λ c. c.sent) b.channels))
-        sent = λ i l. sym (logs_map (λ c. c.sent) b.channels refl l) i
-
-        got : ◌≡◌ {A = Logs} (got_of b) (logs_of (map (λ c. c.got) b.channels))
-        got = λ i l. sym (logs_map (λ c. c.got) b.channels refl l) i
-
-        facts : Facts cap slots steady cs items b.dims (logs_of (map (λ c. c.sent) b.channels)) (logs_of (map (λ c. c.got) b.channels))
-        facts = subst (λ ds. Facts cap slots steady cs items ds (logs_of (map (λ c. c.sent) b.channels)) (logs_of (map (λ c. c.got) b.channels))) (sym ed)
-            (subst (λ (a : Logs). Facts cap slots steady cs items dims a (logs_of (map (λ c. c.got) b.channels))) sent (subst (λ (g : Logs). Facts cap slots steady cs items dims (sent_of b) g) got (record { grid = lawful.grid; links_keep = lawful.links_keep; shape = shape; each = each; pushes = pushes })))
+  plain_closed : (b : Bank) (c : Round) → b.dims ≡ dims → b.slots ≡ slots → c ≡ closed cap b → IsRound c → IsClosed (record { dims = dims; cap = cap; slots = slots; by_slots = false }) (sent_of b) (got_of b) c
+  plain_closed b c ed es is in_order = subst (IsClosed (record { dims = dims; cap = cap; slots = slots; by_slots = false }) (sent_of b) (got_of b)) (sym is) (record {
+    bank = made_of b ed es;
+    sent = λ i l. sym (logs_map (λ c. c.sent) b.channels refl l) i;
+    got = λ i l. sym (logs_map (λ c. c.got) b.channels refl l) i;
+    in_order = subst IsRound is in_order;
+  })
 
   -- both closed banks tell the exchange
   pub told : (cq cr : Round) → cq ≡ closed cap q → IsRound cq → cr ≡ closed cap r → IsRound cr → TellsExchange T askers (record { dims = dims; cap = cap; slots = slots; by_slots = false }) steady cq cr
-  told cq cr is_q order_q is_r order_r = record {
-    asking = way_told q (λ k. (node k).queries) (queries_by T askers) cq banks.queries_dims banks.queries_slots w.queries.lawful w.queries.shape done_queries asked_all is_q order_q;
-    replying = way_told r (λ k. (node k).replies) (replies_by T askers) cr banks.replies_dims banks.replies_slots w.replies.lawful w.replies.shape done_replies replied_all is_r order_r;
-  }
+  told cq cr is_q order_q is_r order_r =
+      told_both T laws law cap dims slots steady askers s ns node (sides_of q r) all all_of node_at every over false cq cr
+      (plain_closed q cq banks.queries_dims banks.queries_slots is_q order_q) (plain_closed r cr banks.replies_dims banks.replies_slots is_r order_r)
+      (λ l below. w.queries.shape l) (λ l below. w.replies.shape l)
 
 -- what a drive needs, and what it leaves
 module _ {S : Type 0} (T : Talk S) (cap : ℕ) (dims : List ℕ) (slots : ℕ) (steady : Bool) (askers : List S) (ns : List (BiState S)) (q r : Bank) (fresh : AreFresh T dims steady askers ns) (all : AreAskers T (ranks dims) askers) (some : 0 < cap)

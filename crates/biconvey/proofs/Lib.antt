@@ -19,7 +19,12 @@ pub mod Swept
 pub mod Driven
 pub mod Making
 pub mod Telling
+pub mod Finished
 pub mod Ended
+pub mod OnPorts
+pub mod Placing
+pub mod Threaded
 pub mod Last
 pub mod AdderTests
+pub mod Asked
 mod ByHand

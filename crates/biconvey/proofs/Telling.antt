@@ -52,7 +52,7 @@ pub record IsDone (dims : List ℕ) (r : ℕ) (c : State) (sent got : Logs) : Ty
   pub agrees : AgreesWith c (starting_at dims r sent) (ending_at dims r got)
 
 module _ (round : Round) (cap slots : ℕ) (steady : Bool) (cs : ℕ → State) (grid : IsGrid round.dims) (keep : (l : ℕ) → l < links round.dims → LinkLaw cap slots (logs_of round.sent l) (logs_of round.got l)) (close : CloseLaw round)
-    (shape : (l : ℕ) → IsConveyorShape steady cap (logs_of round.sent l)) (each : (r : ℕ) → r < ranks round.dims → IsDone round.dims r (cs r) (logs_of round.sent) (logs_of round.got)) where
+    (shape : (l : ℕ) → l < links round.dims → IsConveyorShape steady cap (logs_of round.sent l)) (each : (r : ℕ) → r < ranks round.dims → IsDone round.dims r (cs r) (logs_of round.sent) (logs_of round.got)) where
   abbrev dims : List ℕ
   dims = round.dims
 
@@ -141,5 +141,5 @@ module _ (round : Round) (cap slots : ℕ) (steady : Bool) (cs : ℕ → State) 
         collected = collected;
         pushed_all = λ s d from to. pushed_part s d from to ∙ pushes s d from to;
         all_came = all_came;
-        shape = λ l below. subst (λ k. IsConveyorShape steady k (sent l)) (sym same) (shape l);
+        shape = λ l below. subst (λ k. IsConveyorShape steady k (sent l)) (sym same) (shape l below);
       }

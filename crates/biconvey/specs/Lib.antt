@@ -7,5 +7,7 @@ pub mod Ranks
 pub mod Ways
 pub mod Worlds
 pub mod Drives
+pub mod Seats
+pub mod SeatLaws
 pub mod Adders
 pub mod AdderLaws

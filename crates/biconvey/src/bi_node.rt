@@ -156,6 +156,13 @@ impl<A: Asker, const CAP: usize, const HOPS: usize> BiNode<A, CAP, HOPS> {
         turn_of(asked, replied)
     }
 
+    /// How many of its queries are pushed.
+    pub(crate) fn asked(&self) -> u64
+        ensures { result ≡ self.now.next }
+    {
+        self.next
+    }
+
     /// Whether both ways are complete.
     pub fn is_over(&self) -> bool
         ensures { result ≡ (is_complete self.now.queries.phase && is_complete self.now.replies.phase) }

@@ -10,7 +10,8 @@
 //! | `BiNode::new` | a rank that hasn't turned |
 //! | `BiNode::turn` | one turn, which never waits: asks, advances, answers, advances, hears; `Ended` exactly where both ways are complete |
 //! | `bi_serial` | drives all ranks on one thread, until each query has its one reply |
-//! | `drive_both` | the same, for a capacity and a number of hops that are known when the program is compiled |
+//! | `bi_threads` | the same, with each rank on a thread of its own |
+//! | `drive_both`, `thread_both` | these two, for a capacity and a number of hops that are known when the program is compiled |
 //! | `replies_law` | the replies theorem, over any two lawful banks |
 //! | `askers_law` | what all ranks have heard, at every moment and at the end |
 //!
@@ -19,6 +20,7 @@
 
 mod answering;
 mod asking;
+mod at_ports;
 mod bi_node;
 mod capacities;
 mod drive;
@@ -27,17 +29,26 @@ mod law;
 mod line;
 mod lines;
 mod nodes;
+mod on_threads;
 mod running;
+mod seating;
 mod serial;
 mod sweeping;
+mod threads;
 
 pub use bi_node::BiNode;
 pub use drive::drive_both;
 pub use law::{askers_law, replies_law};
+pub use on_threads::thread_both;
 pub use rank_node::{Steps, Turn};
 pub use serial::bi_serial;
+pub use threads::bi_threads;
 
 #[cfg(test)]
 mod adder;
 #[cfg(test)]
+mod ig_tests;
+#[cfg(test)]
 mod tests;
+#[cfg(test)]
+mod thread_tests;

@@ -57,7 +57,7 @@ fn queries_of(
 }
 
 /// An asker for each rank.
-fn adders_of(alloc: Global, ranks: u32, asking: u32) -> Result<Progs<Adder>, NoMemory>
+pub(crate) fn adders_of(alloc: Global, ranks: u32, asking: u32) -> Result<Progs<Adder>, NoMemory>
     ensures { IfOk result (λ askers. AreAskers adder_talk ranks askers) }
 {
     let mut askers = Progs::new(alloc);
@@ -70,7 +70,7 @@ fn adders_of(alloc: Global, ranks: u32, asking: u32) -> Result<Progs<Adder>, NoM
 }
 
 /// How many ranks have heard 6, 7 and 8 as the replies number 0, 1 and 2.
-fn have_heard(askers: &Progs<Adder>) -> usize {
+pub(crate) fn have_heard(askers: &Progs<Adder>) -> usize {
     let mut count = 0usize;
     for r in 0..askers.len() {
         if let Some(asker) = askers.get(r) {
@@ -83,7 +83,7 @@ fn have_heard(askers: &Progs<Adder>) -> usize {
 }
 
 /// What an exchange tells: how many ranks have heard, and the number of closed rounds.
-type Told = (usize, usize);
+pub(crate) type Told = (usize, usize);
 
 /// All ranks ask, by a drive of one capacity.
 fn ask<const CAP: usize, const HOPS: usize, L: Ledger>(

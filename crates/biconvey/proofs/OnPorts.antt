@@ -1,0 +1,41 @@
+-- A rank at its two ports stays on its way by a turn.
+use Rattle.std.proofs.Common.{◌≡◌, ℕ, sym, ap, subst, ◌∙◌}
+use Rattle.port_bank.specs.Shapes.{IsConveyorShape}
+use Rattle.link_slots.specs.Seen.{Bank, Manning, named, posted_on, collected_from}
+use Rattle.link_slots.proofs.Ported.{one_bank}
+use Rattle.round_program.specs.Talks.{Talk}
+use Rattle.biconvey.specs.States.{BiState, IsBiNode}
+use Rattle.biconvey.specs.Seats.{SeatedState, HasWay, SameSeat, Ran}
+
+-- a seat by what no turn changes
+pub one_seat : (old new : Manning) → named new.id ≡ named old.id → new.shape.dims ≡ old.shape.dims → new.shape.slots ≡ old.shape.slots → new.rank ≡ old.rank → SameSeat old new
+one_seat old new e ed es er = let i = one_bank new.id old.id e in record { bank = λ k. record { id = i k; shape = record { dims = ed k; slots = es k } }; number = er }
+
+-- a rank that was turned is still on some way
+pub has_way : {S : Type 0} (T : Talk S) (cap : ℕ) (x y : SeatedState S) → HasWay T cap x → Ran T cap x y → HasWay T cap y
+has_way T cap x y w ran = record { steady = w.steady; start = w.start; way = ran.kept w.steady w.start w.way }
+
+pub turned : {S : Type 0} (T : Talk S) (cap : ℕ) (n n' : BiState S) (q q' p p' : Manning) → SameSeat q q' → SameSeat p p' → n'.queries.dims ≡ n.queries.dims → n'.queries.rank ≡ n.queries.rank
+    → n'.queries.steady ≡ n.queries.steady → n'.replies.steady ≡ n.replies.steady
+    → ((start : S) → IsBiNode T start n (posted_on q) (collected_from q) (posted_on p) (collected_from p) → IsBiNode T start n' (posted_on q') (collected_from q') (posted_on p') (collected_from p'))
+    → ((l : ℕ) → IsConveyorShape n.queries.steady cap (posted_on q l) → IsConveyorShape n.queries.steady cap (posted_on q' l))
+    → ((l : ℕ) → IsConveyorShape n.replies.steady cap (posted_on p l) → IsConveyorShape n.replies.steady cap (posted_on p' l))
+    → Ran T cap (record { node = n; queries = q; replies = p }) (record { node = n'; queries = q'; replies = p' })
+turned {S} T cap n n' q q' p p' same_q same_p dims rank steady_q steady_p kept shape_q shape_p =
+    record {
+      queries = same_q;
+      replies = same_p;
+      kept = λ steady start w.
+          let node = kept start w.node in
+          record {
+            queries = record { same_dims = dims ∙ (w.queries.same_dims ∙ sym (ap (λ (a : Bank). a.shape.dims) same_q.bank)); same_rank = rank ∙ (w.queries.same_rank ∙ sym same_q.number) };
+            replies = record {
+              same_dims = node.same_dims ∙ (dims ∙ (sym w.node.same_dims ∙ (w.replies.same_dims ∙ sym (ap (λ (a : Bank). a.shape.dims) same_p.bank))));
+              same_rank = node.same_rank ∙ (rank ∙ (sym w.node.same_rank ∙ (w.replies.same_rank ∙ sym same_p.number)));
+            };
+            same_steady = (steady_q ∙ w.same_steady.0, steady_p ∙ w.same_steady.1);
+            node = node;
+            queries_shape = λ l. subst (λ s. IsConveyorShape s cap (posted_on q' l)) w.same_steady.0 (shape_q l (subst (λ s. IsConveyorShape s cap (posted_on q l)) (sym w.same_steady.0) (w.queries_shape l)));
+            replies_shape = λ l. subst (λ s. IsConveyorShape s cap (posted_on p' l)) w.same_steady.1 (shape_p l (subst (λ s. IsConveyorShape s cap (posted_on p l)) (sym w.same_steady.1) (w.replies_shape l)));
+          };
+    }

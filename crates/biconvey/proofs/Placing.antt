@@ -1,0 +1,164 @@
+-- The ranks of an exchange get their seats at two slot banks, and leave them.
+use Rattle.std.proofs.Common.{◌≡◌, ◌≢◌, ℕ, ◌+◌, ◌<◌, ◌≤◌, Bool, true, false, List, [], ◌∷◌, ◌++◌, length, length-append, map, get_or, slice_get, slice_set, Some, None, sym, ap, subst, ◌∙◌, arith, inl, inr}
+use Rattle.std.proofs.lemmas.Bool.{cases_lt}
+use Rattle.std.proofs.lemmas.List.{length-map, map-append, get_or-set_other}
+use Rattle.item_buffer.specs.Contents.{Contents}
+use Rattle.list_laws.specs.Lists.{EachAt}
+use Rattle.list_laws.proofs.Lists.{within, get_once, get_last, get_before, each_get, each_push}
+use Rattle.route_tensor.specs.Grid.{ranks}
+use Rattle.route_tensor.specs.Link.{links}
+use Rattle.port_bank.specs.Logs.{Logs}
+use Rattle.port_bank.specs.Shapes.{IsConveyorShape}
+use Rattle.link_slots.specs.Gathering.{Gathering}
+use Rattle.link_slots.specs.Seen.{Bank, Manning, posted_on, collected_from}
+use Rattle.link_slots.specs.Shape.{shipped_all}
+use Rattle.link_slots.specs.View.{no_logs}
+use Rattle.link_slots.proofs.Opening.{no_sent, no_got}
+use Rattle.rank_group.proofs.Joining.{one_less, next_is}
+use Rattle.round_program.specs.Talks.{Talk}
+use Rattle.biconvey.specs.States.{BiState, IsBiNode}
+use Rattle.biconvey.specs.Drives.{IsFresh, AreFresh}
+use Rattle.biconvey.specs.Seats.{SeatedState, bank_at, IsSeated, AreSeated}
+
+-- the first so many seats of a bank are given out
+pub record IsGiven (b : Bank) (gather : Gathering) (n : ℕ) : Type 0 where
+  pub bank : (gather.id ≡ b.id) × (gather.shape ≡ b.shape)
+  pub none : (r : ℕ) → n ≤ r → r < ranks b.shape.dims → get_or gather.given r true ≡ false
+
+one_given : (b : Bank) (gather gather' : Gathering) (n m : ℕ) (lists : _) → IsGiven b gather n → n ≡ m → gather' ≡ record gather { lists = lists; given = slice_set gather.given m true } → IsGiven b gather' (n + 1)
+one_given b gather gather' n m lists is same gave =
+    record {
+      bank = (ap (λ (g : Gathering). g.id) gave ∙ is.bank.0, ap (λ (g : Gathering). g.shape) gave ∙ is.bank.1);
+      none = λ r past low. ap (λ (g : Gathering). get_or g.given r true) gave ∙ (get_or-set_other gather.given m r true true (λ e. omega (arith, e, same, past)) ∙ is.none r (omega (arith, past)) low);
+    }
+
+-- a seat as it is given out
+record IsNewSeat (b : Bank) (n : ℕ) (seat : Manning) : Type 0 where
+  bank : bank_at seat ≡ b
+  number : seat.rank ≡ n
+  sent : ◌≡◌ {A = Logs} (posted_on seat) (λ l. [])
+  got : ◌≡◌ {A = Logs} (collected_from seat) (λ l. [])
+
+new_seat : (b : Bank) (n : ℕ) (seat : Manning) (noted ended : List ℕ) → seat ≡ record { id = b.id; shape = b.shape; rank = n; lists = no_logs (links b.shape.dims); noted = noted; ended = ended } → IsNewSeat b n seat
+new_seat b n seat noted ended is =
+    record {
+      bank = ap bank_at is;
+      number = ap (λ (m : Manning). m.rank) is;
+      sent = ap posted_on is ∙ ap shipped_all (no_sent Contents (links b.shape.dims));
+      got = ap collected_from is ∙ ap shipped_all (no_got Contents (links b.shape.dims));
+    }
+
+no_parcels : (steady : Bool) (cap : ℕ) (a : Logs) → ◌≡◌ {A = Logs} a (λ l. []) → (l : ℕ) → IsConveyorShape steady cap (a l)
+no_parcels steady cap a none l = subst (IsConveyorShape steady cap) (sym (ap (λ (b : Logs). b l) none)) (λ i d below. absurd (omega (arith, below)))
+
+-- some ranks have their seats
+pub record Seating {S : Type 0} (T : Talk S) (cap : ℕ) (b p : Bank) (gq gp : Gathering) (number : ℕ) (all taken rest : List (BiState S)) (xs : List (SeatedState S)) : Type 0 where
+  pub left : taken ++ rest ≡ all
+  pub queries : IsGiven b gq (length taken)
+  pub replies : IsGiven p gp (length taken)
+  pub count : number ≡ length taken
+  pub nodes_are : map (λ x. x.node) xs ≡ taken
+  pub each : (steady : Bool) (askers : List S) → AreFresh T b.shape.dims steady askers all → AreSeated T cap steady b p xs
+
+module _ {S : Type 0} (T : Talk S) (cap : ℕ) (b p : Bank) (same : p.shape ≡ b.shape) (gq gp : Gathering) (number : ℕ) (all taken rest now : List (BiState S)) (xs : List (SeatedState S)) (s : Seating T cap b p gq gp number all taken now xs) where
+  -- one more gets its seats
+  module _ (gq' gp' : Gathering) (node : BiState S) (sq sp : Manning) (is : now ≡ node ∷ rest)
+      (lists_q lists_p : _) (gave_q : gq' ≡ record gq { lists = lists_q; given = slice_set gq.given number true }) (gave_p : gp' ≡ record gp { lists = lists_p; given = slice_set gp.given number true })
+      (noted_q ended_q noted_p ended_p : List ℕ)
+      (is_q : sq ≡ record { id = b.id; shape = b.shape; rank = number; lists = no_logs (links b.shape.dims); noted = noted_q; ended = ended_q })
+      (is_p : sp ≡ record { id = p.id; shape = p.shape; rank = number; lists = no_logs (links p.shape.dims); noted = noted_p; ended = ended_p }) where
+    abbrev x : SeatedState S
+    x = record { node = node; queries = sq; replies = sp }
+
+    new_q : IsNewSeat b number sq
+    new_q = new_seat b number sq noted_q ended_q is_q
+
+    new_p : IsNewSeat p number sp
+    new_p = new_seat p number sp noted_p ended_p is_p
+
+    size : length xs ≡ length taken
+    size = sym (length-map xs (λ (y : SeatedState S). y.node)) ∙ ap length s.nodes_are
+
+    pub seated : (steady : Bool) (askers : List S) → AreFresh T b.shape.dims steady askers all → IsSeated T cap steady b p (length taken) x
+    seated steady askers fresh =
+        let f : IsFresh T b.shape.dims steady (length taken) node = fresh.each (length taken) node (next_is taken rest all now node s.left is) in
+        let dims_q : sq.shape.dims ≡ b.shape.dims = ap (λ (a : Bank). a.shape.dims) new_q.bank in
+        let dims_p : sp.shape.dims ≡ b.shape.dims = ap (λ (a : Bank). a.shape.dims) new_p.bank ∙ ap (λ h. h.dims) same in
+        let rank_q : sq.rank ≡ length taken = new_q.number ∙ s.count in
+        let rank_p : sp.rank ≡ length taken = new_p.number ∙ s.count in
+        record {
+          queries_bank = new_q.bank;
+          replies_bank = new_p.bank;
+          numbers = (rank_q, rank_p);
+          way = record {
+            queries = record { same_dims = f.same_dims ∙ sym dims_q; same_rank = f.same_rank ∙ sym rank_q };
+            replies = record { same_dims = f.node.same_dims ∙ (f.same_dims ∙ sym dims_p); same_rank = f.node.same_rank ∙ (f.same_rank ∙ sym rank_p) };
+            same_steady = f.same_steady;
+            node =
+                subst (λ (a : Logs). IsBiNode T node.asker node a (collected_from sq) (posted_on sp) (collected_from sp)) (sym new_q.sent)
+                (subst (λ (a : Logs). IsBiNode T node.asker node (λ l. []) a (posted_on sp) (collected_from sp)) (sym new_q.got)
+                (subst (λ (a : Logs). IsBiNode T node.asker node (λ l. []) (λ l. []) a (collected_from sp)) (sym new_p.sent)
+                (subst (λ (a : Logs). IsBiNode T node.asker node (λ l. []) (λ l. []) (λ l. []) a) (sym new_p.got) f.node)));
+            queries_shape = no_parcels steady cap (posted_on sq) new_q.sent;
+            replies_shape = no_parcels steady cap (posted_on sp) new_p.sent;
+          };
+        }
+
+    pub seating_more : (xs' : List (SeatedState S)) → xs' ≡ xs ++ record { node = node; queries = sq; replies = sp } ∷ [] → Seating T cap b p gq' gp' (number + 1) all (taken ++ node ∷ []) rest xs'
+    seating_more xs' more =
+        let longer : length (taken ++ node ∷ []) ≡ length taken + 1 = length-append taken (node ∷ []) in
+        record {
+          left = one_less taken rest all now node s.left is;
+          queries = subst (IsGiven b gq') (sym longer) (one_given b gq gq' (length taken) number lists_q s.queries (sym s.count) gave_q);
+          replies = subst (IsGiven p gp') (sym longer) (one_given p gp gp' (length taken) number lists_p s.replies (sym s.count) gave_p);
+          count = omega (arith, s.count, longer);
+          nodes_are = ap (map (λ (y : SeatedState S). y.node)) more ∙ (map-append (λ (y : SeatedState S). y.node) xs (x ∷ []) ∙ ap (λ ys. ys ++ node ∷ []) s.nodes_are);
+          each = λ steady askers fresh r y at. elim (cases_lt r (length xs)) [
+            | inl low ↦ s.each steady askers fresh r y (sym (get_before xs (x ∷ []) r low) ∙ (ap (λ zs. slice_get zs r) (sym more) ∙ at))
+            | inr past ↦
+                let here : slice_get (xs ++ x ∷ []) r ≡ Some y = ap (λ zs. slice_get zs r) (sym more) ∙ at in
+                let e : r ≡ length xs = omega (arith, past, within (xs ++ x ∷ []) r y here, length-append xs (x ∷ [])) in
+                let same_x : x ≡ y = get_once (xs ++ x ∷ []) (length xs) x y (get_last xs x) (subst (λ k. slice_get (xs ++ x ∷ []) k ≡ Some y) e here) in
+                subst (λ z. IsSeated T cap steady b p r z) same_x (subst (λ k. IsSeated T cap steady b p k x) (sym (e ∙ size)) (seated steady askers fresh))
+          ];
+        }
+
+-- of some ranks a bank has the lists
+pub record AreThere {S : Type 0} (b : Bank) (gather : Gathering) (seat : SeatedState S → Manning) (taken : List (SeatedState S)) : Type 0 where
+  pub bank : (gather.id ≡ b.id) × (gather.shape ≡ b.shape)
+  pub there : EachAt (λ r y. get_or gather.lists r None ≡ Some (seat y).lists) taken
+
+one_there : {S : Type 0} (b : Bank) (gather gather' : Gathering) (seat : SeatedState S → Manning) (taken : List (SeatedState S)) (y : SeatedState S) → AreThere b gather seat taken → (seat y).rank ≡ length taken
+    → (gather'.id ≡ gather.id) × (gather'.shape ≡ gather.shape) → get_or gather'.lists (seat y).rank None ≡ Some (seat y).lists → ((r : ℕ) → r ≢ (seat y).rank → get_or gather'.lists r None ≡ get_or gather.lists r None)
+    → AreThere b gather' seat (taken ++ y ∷ [])
+one_there {S} b gather gather' seat taken y is number same there others =
+    record {
+      bank = (same.0 ∙ is.bank.0, same.1 ∙ is.bank.1);
+      there = each_push (λ r (x : SeatedState S). get_or gather'.lists r None ≡ Some (seat x).lists) taken y
+          (λ r d low. others r (λ e. omega (arith, e, number, low)) ∙ is.there r d low)
+          (subst (λ k. get_or gather'.lists k None ≡ Some (seat y).lists) number there);
+    }
+
+-- some ranks have left their seats
+pub record Leaving {S : Type 0} (b p : Bank) (gq gp : Gathering) (all taken rest : List (SeatedState S)) (ns : List (BiState S)) : Type 0 where
+  pub left : taken ++ rest ≡ all
+  pub queries : AreThere b gq (λ y. y.queries) taken
+  pub replies : AreThere p gp (λ y. y.replies) taken
+  pub nodes_are : ns ≡ map (λ y. y.node) taken
+
+module _ {S : Type 0} (b p : Bank) (gq gp : Gathering) (all taken rest now : List (SeatedState S)) (ns : List (BiState S)) (s : Leaving b p gq gp all taken now ns) (y : SeatedState S) (is : now ≡ y ∷ rest) where
+  -- the next sits at its place
+  pub next_numbers : EachAt (λ r (x : SeatedState S). (x.queries.rank ≡ r) × (x.replies.rank ≡ r)) all → (y.queries.rank ≡ length taken) × (y.replies.rank ≡ length taken)
+  next_numbers numbers = each_get (λ r (x : SeatedState S). (x.queries.rank ≡ r) × (x.replies.rank ≡ r)) all (length taken) y numbers (next_is taken rest all now y s.left is)
+
+  pub leaving_more : (gq' gp' : Gathering) (ns' : List (BiState S)) → (y.queries.rank ≡ length taken) × (y.replies.rank ≡ length taken)
+      → (gq'.id ≡ gq.id) × (gq'.shape ≡ gq.shape) → get_or gq'.lists y.queries.rank None ≡ Some y.queries.lists → ((r : ℕ) → r ≢ y.queries.rank → get_or gq'.lists r None ≡ get_or gq.lists r None)
+      → (gp'.id ≡ gp.id) × (gp'.shape ≡ gp.shape) → get_or gp'.lists y.replies.rank None ≡ Some y.replies.lists → ((r : ℕ) → r ≢ y.replies.rank → get_or gp'.lists r None ≡ get_or gp.lists r None)
+      → ns' ≡ ns ++ y.node ∷ [] → Leaving b p gq' gp' all (taken ++ y ∷ []) rest ns'
+  leaving_more gq' gp' ns' number same_q there_q others_q same_p there_p others_p more =
+      record {
+        left = one_less taken rest all now y s.left is;
+        queries = one_there b gq gq' (λ z. z.queries) taken y s.queries number.0 same_q there_q others_q;
+        replies = one_there p gp gp' (λ z. z.replies) taken y s.replies number.1 same_p there_p others_p;
+        nodes_are = more ∙ (ap (λ xs. xs ++ y.node ∷ []) s.nodes_are ∙ sym (map-append (λ (x : SeatedState S). x.node) taken (y ∷ [])));
+      }

@@ -1,0 +1,63 @@
+//! A rank of an exchange at its two ports, of two slot banks.
+
+use crate::bi_node::BiNode;
+use link_slots::SlotPort;
+use port_bank::Port;
+use rank_group::{Gate, Seated, await_turn};
+use rank_node::Steps;
+use round_program::Asker;
+use std::marker::Model;
+use std::sync::Wait;
+use std::sync::ledger::Ledger;
+
+/// A rank, its port of queries and its port of replies.
+#[derive(Drop)]
+pub struct AtPorts<'a, A: Asker, const CAP: usize, const HOPS: usize> {
+    pub(crate) node: BiNode<A, CAP, HOPS>,
+    pub(crate) queries: SlotPort<'a, CAP>,
+    pub(crate) replies: SlotPort<'a, CAP>,
+    /// How many turns it has made.
+    pub(crate) turns: u64,
+}
+
+impl<'a, A: Asker, const CAP: usize, const HOPS: usize> Model for AtPorts<'a, A, CAP, HOPS> {
+    ghost use Rattle.biconvey.specs.Seats.{SeatedState, HasWay};
+
+    ghost Value = { SeatedState A };
+
+    ghost view = { λ s. record { node = s.node; queries = s.queries.seat; replies = s.replies.seat } };
+
+    ghost invariant = { λ s. HasWay A.talk CAP (record { node = s.node; queries = s.queries.seat; replies = s.replies.seat }) };
+}
+
+impl<'a, A: Asker, const CAP: usize, const HOPS: usize> Seated for AtPorts<'a, A, CAP, HOPS> {
+    ghost use Rattle.biconvey.specs.Seats.{Ran};
+    ghost use Rattle.biconvey.specs.SeatLaws.{ran_laws};
+    ghost use Rattle.biconvey.specs.Worlds.{is_over};
+
+    ghost ran = { λ x y. Ran A.talk CAP x y };
+
+    ghost over = { λ x. is_over x.node };
+
+    ghost laws = { ran_laws A.talk CAP };
+
+    fn is_over(&self) -> bool {
+        self.node.is_over()
+    }
+
+    fn turn<R: Wait, G: Gate, L: Ledger>(
+        &mut self,
+        rt: &R,
+        gate: &G,
+        steps: &mut Steps<L>,
+    ) -> bool {
+        await_turn(rt, self.turns);
+        gate.turn(self.queries.rank(), self.turns);
+        self.turns += 1;
+        let asked = self.node.asked();
+        let Ok(_turn) = self.node.turn(&mut self.queries, &mut self.replies, steps) else {
+            unreachable!()
+        };
+        self.node.asked() != asked
+    }
+}

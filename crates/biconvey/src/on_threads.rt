@@ -1,0 +1,116 @@
+//! One call that drives an exchange of queries and replies with each rank on a thread of its own.
+
+ghost use Rattle.std.specs.Prelude.{◌≡◌, ◌<◌, ◌≤◌, true, [], ◌∷◌, length, IfOk};
+ghost use Rattle.route_tensor.specs.Grid.{ranks};
+ghost use Rattle.port_bank.specs.Port.{IsSlots};
+ghost use Rattle.rank_group.specs.declared.closed_round.ClosedRound.{ClosedRound};
+ghost use Rattle.rank_group.specs.Rounds.{round_of};
+ghost use Rattle.round_program.specs.Replies.{HaveHeard};
+ghost use Rattle.biconvey.specs.Drives.{AreAskers, TellsExchange};
+
+use crate::nodes::{nodes_of, take_askers};
+use crate::seating::{gather_all, seat_all};
+use bale_types::NoMemory;
+use convey::closes_law;
+use link_slots::SlotBank;
+use rank_group::{ClosedRound, Finished, Gate, Rounds, run_together};
+use round_program::{Asker, Progs};
+use route_tensor::Grid;
+use std::alloc::Global;
+use std::sync::Wait;
+use std::thread::Threads;
+
+/// Drives the askers of all ranks, each on a thread of its own, over two slot banks, of queries and of replies, with parcels of
+/// `CAP` entries and `slots` (1, 2, 4 or 8) parcels on a link at a time. Before each turn of a rank the gate is told of it. A rank
+/// whose thread can't be started is driven by the caller, in turns with the others of its kind.
+///
+/// It waits for its threads, and returns where they do.
+///
+/// # Errors
+/// `NoMemory` where a rank, a bank or the result found none. The askers are dropped.
+pub fn thread_both<
+    const CAP: usize,
+    const HOPS: usize,
+    R: Threads + Wait + Sync,
+    A: Asker + Send,
+    G: Gate + Sync,
+>(
+    rt: &R,
+    alloc: Global,
+    grid: &Grid,
+    slots: u32,
+    steady: bool,
+    askers: Progs<A>,
+    gate: &G,
+) -> Result<Finished<A>, NoMemory>
+    requires some { 0 < CAP }
+    requires small { CAP ≤ 1024 }
+    requires hops { length grid.now ≡ HOPS }
+    requires slots { IsSlots slots }
+    requires askers { AreAskers A.talk (ranks grid.now) askers }
+
+    // Each query has its one reply.
+    ensures heard { IfOk result (λ f. HaveHeard A.talk askers f.progs) }
+
+    // Two closed rounds tell what was exchanged.
+    ensures rounds { IfOk result (λ f. (q : ClosedRound) × (r : ClosedRound) × (f.rounds ≡ q ∷ r ∷ [])
+        × TellsExchange A.talk askers (record { dims = grid.now; cap = CAP; slots = slots; by_slots = true }) steady (round_of q) (round_of r)) }
+{
+    let threads = grid.ranks() as usize;
+    thread_with::<CAP, HOPS, R, A, G>(rt, alloc, grid, slots, steady, askers, gate, threads)
+}
+
+/// The same with so many threads at most: the caller drives the ranks from the number `threads` on.
+pub(crate) fn thread_with<
+    const CAP: usize,
+    const HOPS: usize,
+    R: Threads + Wait + Sync,
+    A: Asker + Send,
+    G: Gate + Sync,
+>(
+    rt: &R,
+    alloc: Global,
+    grid: &Grid,
+    slots: u32,
+    steady: bool,
+    askers: Progs<A>,
+    gate: &G,
+    threads: usize,
+) -> Result<Finished<A>, NoMemory>
+    requires some { 0 < CAP }
+    requires small { CAP ≤ 1024 }
+    requires hops { length grid.now ≡ HOPS }
+    requires slots { IsSlots slots }
+    requires askers { AreAskers A.talk (ranks grid.now) askers }
+    ensures heard { IfOk result (λ f. HaveHeard A.talk askers f.progs) }
+    ensures rounds { IfOk result (λ f. (q : ClosedRound) × (r : ClosedRound) × (f.rounds ≡ q ∷ r ∷ [])
+        × TellsExchange A.talk askers (record { dims = grid.now; cap = CAP; slots = slots; by_slots = true }) steady (round_of q) (round_of r)) }
+{
+    closes_law();
+    let _few = grid.ranks();
+    let all = nodes_of::<CAP, HOPS, A>(alloc, grid, steady, askers)?;
+    let (queries, mut of_queries) = SlotBank::<CAP>::new(alloc, grid, slots)?;
+    let (replies, mut of_replies) = SlotBank::<CAP>::new(alloc, grid, slots)?;
+    let seated = seat_all(
+        alloc,
+        &queries,
+        &mut of_queries,
+        &replies,
+        &mut of_replies,
+        all,
+    )?;
+    let ended = run_together(rt, alloc, gate, threads, seated)?;
+    let over = gather_all(
+        alloc,
+        &queries,
+        &mut of_queries,
+        &replies,
+        &mut of_replies,
+        ended,
+    )?;
+    let mut rounds = Rounds::new(alloc);
+    rounds.add(ClosedRound::Slots(queries.close(of_queries)))?;
+    rounds.add(ClosedRound::Slots(replies.close(of_replies)))?;
+    let progs = take_askers::<CAP, HOPS, A>(alloc, over)?;
+    Ok(Finished { progs, rounds })
+}

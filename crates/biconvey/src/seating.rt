@@ -1,0 +1,89 @@
+//! The ranks of an exchange get their seats at two slot banks and go to their ports, and leave them.
+
+ghost use Rattle.std.specs.Prelude.{◌≡◌, ℕ, ◌<◌, ◌^◌, Bool, false, List, map, length, replicate, slice_index_or, Some, None, IfOk, OnOk};
+ghost use Rattle.std.specs.List.{All};
+ghost use Rattle.list_laws.specs.Lists.{EachAt};
+ghost use Rattle.route_tensor.specs.Grid.{ranks};
+ghost use Rattle.biconvey.specs.Drives.{AreFresh};
+ghost use Rattle.biconvey.specs.Seats.{bank_at, AreSeated};
+
+use crate::at_ports::AtPorts;
+use crate::bi_node::BiNode;
+use bale_types::NoMemory;
+use link_slots::{GatherSeat, SlotBank};
+use round_program::Asker;
+use std::alloc::Global;
+
+/// Gives each rank its two seats, with which it goes to its ports.
+pub(crate) fn seat_all<'a, const CAP: usize, const HOPS: usize, A: Asker>(
+    alloc: Global,
+    queries: &'a SlotBank<CAP>,
+    of_queries: &mut GatherSeat<CAP>,
+    replies: &'a SlotBank<CAP>,
+    of_replies: &mut GatherSeat<CAP>,
+    all: Vec<BiNode<A, CAP, HOPS>>,
+) -> Result<Vec<AtPorts<'a, A, CAP, HOPS>>, NoMemory>
+    requires queries { (of_queries.old.id ≡ queries.now.id) × (of_queries.old.shape ≡ queries.now.shape) }
+    requires replies { (of_replies.old.id ≡ replies.now.id) × (of_replies.old.shape ≡ replies.now.shape) }
+    requires shape { replies.now.shape ≡ queries.now.shape }
+    requires none { (of_queries.old.given ≡ replicate (ranks queries.now.shape.dims) false) × (of_replies.old.given ≡ replicate (ranks queries.now.shape.dims) false) }
+    requires size { length all.items ≡ ranks queries.now.shape.dims }
+    requires few { ranks queries.now.shape.dims < 2 ^ 32 }
+    requires fresh { (steady : Bool) × (askers : List A) × AreFresh A.talk queries.now.shape.dims steady askers all.items }
+    ensures queries { (of_queries.new.id ≡ queries.now.id) × (of_queries.new.shape ≡ queries.now.shape) }
+    ensures replies { (of_replies.new.id ≡ replies.now.id) × (of_replies.new.shape ≡ replies.now.shape) }
+    ensures nodes { IfOk result (λ xs. map (λ x. x.node) xs.items ≡ all.items) }
+    ensures seated { (steady : Bool) (askers : List A) → AreFresh A.talk queries.now.shape.dims steady askers all.items → IfOk result (λ xs. AreSeated A.talk CAP steady queries.now replies.now xs.items) }
+{
+    let mut seated = Vec::with_capacity(alloc, all.len())?;
+    let mut number = 0;
+    for node in all {
+        let asking = queries.seat(of_queries, number);
+        let replying = replies.seat(of_replies, number);
+        seated.push(AtPorts {
+            node,
+            queries: queries.port(asking),
+            replies: replies.port(replying),
+            turns: 0,
+        })?;
+        number += 1;
+    }
+    Ok(seated)
+}
+
+/// Gathers the seats of ranks whose ways are complete.
+///
+/// # Errors
+/// `NoMemory` where there was none for the list.
+pub(crate) fn gather_all<'a, const CAP: usize, const HOPS: usize, A: Asker>(
+    alloc: Global,
+    queries: &SlotBank<CAP>,
+    of_queries: &mut GatherSeat<CAP>,
+    replies: &SlotBank<CAP>,
+    of_replies: &mut GatherSeat<CAP>,
+    ended: Vec<AtPorts<'a, A, CAP, HOPS>>,
+) -> Result<Vec<BiNode<A, CAP, HOPS>>, NoMemory>
+    requires queries { (of_queries.old.id ≡ queries.now.id) × (of_queries.old.shape ≡ queries.now.shape) }
+    requires replies { (of_replies.old.id ≡ replies.now.id) × (of_replies.old.shape ≡ replies.now.shape) }
+    requires same { All (λ y. (bank_at y.queries ≡ queries.now) × (bank_at y.replies ≡ replies.now)) ended.items }
+    requires numbers { EachAt (λ r y. (y.queries.rank ≡ r) × (y.replies.rank ≡ r)) ended.items }
+    ensures queries { (of_queries.new.id ≡ queries.now.id) × (of_queries.new.shape ≡ queries.now.shape) }
+    ensures replies { (of_replies.new.id ≡ replies.now.id) × (of_replies.new.shape ≡ replies.now.shape) }
+    ensures nodes { IfOk result (λ ns. ns.items ≡ map (λ y. y.node) ended.entry.items) }
+    ensures queries_there { OnOk result (EachAt (λ r y. slice_index_or of_queries.new.lists r None ≡ Some y.queries.lists) ended.entry.items) }
+    ensures replies_there { OnOk result (EachAt (λ r y. slice_index_or of_replies.new.lists r None ≡ Some y.replies.lists) ended.entry.items) }
+{
+    let mut nodes = Vec::new(alloc);
+    for seated in ended {
+        let AtPorts {
+            node,
+            queries: asking,
+            replies: replying,
+            turns: _,
+        } = seated;
+        queries.gather(of_queries, asking.into_seat());
+        replies.gather(of_replies, replying.into_seat());
+        nodes.push(node)?;
+    }
+    Ok(nodes)
+}

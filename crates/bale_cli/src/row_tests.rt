@@ -105,10 +105,10 @@ histo --via biconvey;;2 bale: usage/
 tally --grid 2 --buffer 1;b/a/b//a b/;0 1 /1 a/1 a b/2 b/
 tally --grid=2x2x2 --slots 1 --steady yes;b/a/b//a b/;0 1 /1 a/1 a b/2 b/
 tally;b/a/b//a b/;0 1 /1 a/1 a b/2 b/
-tally;abcdefghijklmnopqrstuvwxyz/abcdefghijklmnopq/abcdefghijklmnopqrstuvwxyz;0 1 abcdefghijklmnopq/2 abcdefghijklmnopqrstuvwxyz/
-tally;a\r/a/b\r;0 1 a/1 a\r/1 b\r/
-tally;;0 
-tally;/;0 1 /
+tally --grid 3;abcdefghijklmnopqrstuvwxyz/abcdefghijklmnopq/abcdefghijklmnopqrstuvwxyz;0 1 abcdefghijklmnopq/2 abcdefghijklmnopqrstuvwxyz/
+tally --grid 4;a\r/a/b\r;0 1 a/1 a\r/1 b\r/
+tally --grid 4;;0 
+tally --grid 4;/;0 1 /
 tally --gen 2,3,42;;2 bale: usage/
 tally --via biconvey;;2 bale: usage/
 ";

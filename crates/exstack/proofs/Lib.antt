@@ -1,5 +1,4 @@
 pub mod OneHop
-mod Mapping
 mod Sweeps
 mod Moves
 pub mod Places

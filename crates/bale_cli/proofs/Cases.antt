@@ -79,15 +79,15 @@ few : {before after : ℕ} (more : ℕ) → after ≡ before → after ≤ befor
 few more e = omega (arith, e)
 
 -- where no turn was made, there are few
-pub none_made : (t : Task) (m : Sparse) (dims : List ℕ) (before after : ℕ) → after ≡ before → TurnsOfTask t m dims before after
-none_made task.Histo m dims before after e = λ n h. few _ e
-none_made task.Ig m dims before after e = λ n h. few _ e
-none_made (task.Permute p) m dims before after e = λ n h. few _ e
-none_made task.Transpose m dims before after e = λ n h. few _ e
-none_made task.Topo m dims before after e = λ n h. few _ e
-none_made (task.Sssp source None) m dims before after e = λ n h. few _ e
-none_made (task.Sssp source (Some delta)) m dims before after e = λ n h. few _ e
-none_made task.Tally m dims before after e = e
+pub none_made : (t : Task) (m : Sparse) (manner : Manner) (dims : List ℕ) (before after : ℕ) → after ≡ before → TurnsOfTask t m manner dims before after
+none_made task.Histo m manner dims before after e = λ n h. few _ e
+none_made task.Ig m manner dims before after e = λ n h. few _ e
+none_made (task.Permute p) m manner dims before after e = λ n h. few _ e
+none_made task.Transpose m manner dims before after e = λ n h. few _ e
+none_made task.Topo m manner dims before after e = λ n h. few _ e
+none_made (task.Sssp source None) m manner dims before after e = λ n h. few _ e
+none_made (task.Sssp source (Some delta)) m manner dims before after e = λ n h. few _ e
+none_made task.Tally m manner dims before after e = e
 
 -- where the rounds of a run are those that were told
 pub rounds_as : (P : List ClosedRound → Type 0) {rs : List ClosedRound} (r : Result Finish Refusal) → IfOk r (λ f. f.rounds ≡ rs) → P rs → IfOk r (λ f. P f.rounds)

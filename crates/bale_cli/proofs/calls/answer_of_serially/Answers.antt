@@ -2,6 +2,7 @@ use Rattle.std.proofs.Common.{Err, refl, ap, subst}
 use Rattle.mtx_text.specs.Sparse.{Sparse}
 use Rattle.bale_words.specs.declared.command.Command.{Command}
 use Rattle.bale_cli.specs.declared.refusal.Refusal.{Refusal}
+use Rattle.bale_cli.specs.Jobs.{manner_for}
 use Rattle.bale_cli.specs.Tasks.{TurnsOfTask}
 use Rattle.bale_cli.proofs.Answering.{matrix_refused, memory_only, ran_answered, same_asked}
 use Rattle.bale_cli.proofs.Cases.{none_made}
@@ -29,4 +30,4 @@ returns-in-Err-clause-answered g c =
     c.in-Err.ensures.kinds c.matrix_for.ensures.unread c.in-Err.ensures.read_bad refl
 
 pub returns-in-Err-clause-steps : goal.returns-in-Err-clause-steps
-returns-in-Err-clause-steps g c = λ text command m asked. none_made command.task m command.grid _ _ refl
+returns-in-Err-clause-steps g c = λ text command m asked. none_made command.task m (manner_for command) command.grid _ _ refl

@@ -105,14 +105,7 @@ fn count<const CAP: usize, const HOPS: usize, L: Ledger>(
     let progs = counts_of(alloc, ranks)?;
     let order = order_of(alloc, ranks, reversed)?;
     let finished = drive_serial::<CAP, HOPS, Count, L>(
-        alloc,
-        grid,
-        via,
-        2,
-        steady,
-        &order,
-        progs,
-        steps,
+        alloc, grid, via, 2, steady, &order, progs, steps,
     )?;
     let Finished { progs, rounds } = finished;
     let epochs = match rounds.get(0) {

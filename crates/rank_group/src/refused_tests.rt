@@ -75,11 +75,7 @@ fn refused_absorbs(rt: HostRuntime) -> Result<(), Fail> {
 }
 
 /// Whether `drive_serial` answers that memory was wanting, where rank 2 of four refuses each absorb.
-fn is_refused_serially<L: Ledger>(
-    alloc: Global,
-    via: Via,
-    blank: Blank,
-) -> Result<bool, NoMemory>
+fn is_refused_serially<L: Ledger>(alloc: Global, via: Via, blank: Blank) -> Result<bool, NoMemory>
     requires name { blank.name ≡ L.name }
     requires parts { blank.parts ≡ L.parts }
     requires some { 0 < L.parts }
@@ -94,14 +90,7 @@ fn is_refused_serially<L: Ledger>(
     let order = order_of(alloc, ranks, false)?;
     let mut steps = Steps::<L>::new(blank);
     let told = drive_serial::<1, 1, Watched<'_>, L>(
-        alloc,
-        &grid,
-        via,
-        2,
-        false,
-        &order,
-        progs,
-        &mut steps,
+        alloc, &grid, via, 2, false, &order, progs, &mut steps,
     );
     Ok(told.is_err())
 }

@@ -30,4 +30,4 @@ returns-in-Err-clause-answered g c =
     c.in-Err.ensures.kinds c.subject_for.ensures.unread c.in-Err.ensures.read_bad refl
 
 pub returns-in-Err-clause-steps : goal.returns-in-Err-clause-steps
-returns-in-Err-clause-steps g c = λ text command m asked. none_made command.task m command.grid _ _ refl
+returns-in-Err-clause-steps g c = λ text command m asked. none_made command.task m (manner_for command) command.grid _ _ refl

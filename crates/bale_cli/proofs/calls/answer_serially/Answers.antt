@@ -1,6 +1,6 @@
 use Rattle.std.proofs.Common.{Err, Some, map, string_bytes, refl, ap}
 use Rattle.bale_cli.specs.declared.refusal.Refusal.{Refusal}
-use Rattle.bale_cli.specs.Jobs.{on_one_thread, job_of}
+use Rattle.bale_cli.specs.Jobs.{manner_for, on_one_thread, job_of}
 use Rattle.bale_cli.proofs.Answering.{asked_at, at_job, early}
 use Rattle.bale_cli.proofs.Cases.{none_made}
 use Rattle.bale_cli.proofs.calls.answer_serially.Goals as goal
@@ -17,4 +17,4 @@ returns-in-Err-clause-answered g c =
     early (job_of on_one_thread (map string_bytes c.args.words.now)) c.in-Err.refusal (λ e. c.in-Err.ensures.usage (ap (λ (r : Refusal). Err r) e)) c.in-Err.ensures.kinds refl refl
 
 pub returns-in-Err-clause-steps : goal.returns-in-Err-clause-steps
-returns-in-Err-clause-steps g c = λ text command m asked. none_made command.task m command.grid _ _ refl
+returns-in-Err-clause-steps g c = λ text command m asked. none_made command.task m (manner_for command) command.grid _ _ refl

@@ -58,14 +58,25 @@ fn are_written<R: Threads + Wait + Sync>(
     Ok(sink.taken() == b"1 3 2\n2 1 4\n2 3 2\n".as_slice())
 }
 
+/// The same with buffers of 1, 2 and 64.
+fn on_buffers<R: Threads + Wait + Sync>(
+    rt: &R,
+    alloc: Global,
+    dims: &[u32],
+) -> Result<[bool; 3], Fail> {
+    Ok([
+        are_written(rt, alloc, dims, 1)?,
+        are_written(rt, alloc, dims, 2)?,
+        are_written(rt, alloc, dims, 64)?,
+    ])
+}
+
 #[test]
 fn ig_by_asking_on_every_grid(rt: HostRuntime) -> Result<(), Fail> {
     let alloc = rt.alloc();
-    let grids: [&[u32]; 4] = [&[1], &[2], &[2, 2], &[2, 2, 2]];
-    for dims in grids {
-        assert!(rt; are_written(&rt, alloc, dims, 1)?);
-        assert!(rt; are_written(&rt, alloc, dims, 2)?);
-        assert!(rt; are_written(&rt, alloc, dims, 64)?);
-    }
+    assert_eq!(rt; on_buffers(&rt, alloc, &[1])?, [true; 3]);
+    assert_eq!(rt; on_buffers(&rt, alloc, &[2])?, [true; 3]);
+    assert_eq!(rt; on_buffers(&rt, alloc, &[2, 2])?, [true; 3]);
+    assert_eq!(rt; on_buffers(&rt, alloc, &[2, 2, 2])?, [true; 3]);
     Ok(())
 }

@@ -34,6 +34,24 @@ fn ask_side_by_side<R: Threads + Wait + Sync>(
     Ok(Some((have_heard(&progs), rounds.len())))
 }
 
+/// Rank 0 asks rank 1.
+fn by_hand<R: Threads + Wait + Sync>(rt: &R, alloc: Global) -> Result<Option<Told>, NoMemory> {
+    ask_side_by_side(rt, alloc, &[2], 1, 1)
+}
+
+/// All ranks ask, with buffers of 1, 2 and 64.
+fn on_buffers<R: Threads + Wait + Sync>(
+    rt: &R,
+    alloc: Global,
+    dims: &[u32],
+) -> Result<[Option<Told>; 3], NoMemory> {
+    Ok([
+        ask_side_by_side(rt, alloc, dims, 1, 64)?,
+        ask_side_by_side(rt, alloc, dims, 2, 64)?,
+        ask_side_by_side(rt, alloc, dims, 64, 64)?,
+    ])
+}
+
 /// All ranks ask, and the caller turns those from the number `threads` on.
 fn ask_here<const CAP: usize, const HOPS: usize, R: Threads + Wait + Sync>(
     rt: &R,
@@ -54,7 +72,7 @@ fn ask_here<const CAP: usize, const HOPS: usize, R: Threads + Wait + Sync>(
 
 #[test]
 fn askers_by_hand_on_threads(rt: HostRuntime) -> Result<(), Fail> {
-    let told = ask_side_by_side(&rt, rt.alloc(), &[2], 1, 1)?;
+    let told = by_hand(&rt, rt.alloc())?;
     assert_eq!(rt; told, Some((1, 2)));
     Ok(())
 }
@@ -62,18 +80,10 @@ fn askers_by_hand_on_threads(rt: HostRuntime) -> Result<(), Fail> {
 #[test]
 fn askers_on_threads_on_every_grid(rt: HostRuntime) -> Result<(), Fail> {
     let alloc = rt.alloc();
-    let grids: [(&[u32], usize); 4] = [(&[1], 1), (&[2], 2), (&[2, 2], 4), (&[2, 2, 2], 8)];
-    for (dims, ranks) in grids {
-        let told = [
-            ask_side_by_side(&rt, alloc, dims, 1, 64)?,
-            ask_side_by_side(&rt, alloc, dims, 2, 64)?,
-            ask_side_by_side(&rt, alloc, dims, 64, 64)?,
-        ];
-        assert_eq!(rt;
-            told,
-            [Some((ranks, 2)), Some((ranks, 2)), Some((ranks, 2))]
-        );
-    }
+    assert_eq!(rt; on_buffers(&rt, alloc, &[1])?, [Some((1, 2)); 3]);
+    assert_eq!(rt; on_buffers(&rt, alloc, &[2])?, [Some((2, 2)); 3]);
+    assert_eq!(rt; on_buffers(&rt, alloc, &[2, 2])?, [Some((4, 2)); 3]);
+    assert_eq!(rt; on_buffers(&rt, alloc, &[2, 2, 2])?, [Some((8, 2)); 3]);
     Ok(())
 }
 

@@ -173,8 +173,15 @@ fn exstacks_give_the_same_answers(rt: HostRuntime) -> Result<(), Fail> {
             assert_eq!(rt; got.as_str(), want.as_str(), "{words}");
         }
     }
-    for words in ["ig --via exstack --buffer 1", "ig --via exstack --drive serial"] {
-        assert_eq!(rt; answer(&rt, alloc, words, TWO)?.as_str(), "0 1 3 -7\n2 1 4\n", "{words}");
+    for words in [
+        "ig --via exstack --buffer 1",
+        "ig --via exstack --drive serial",
+    ] {
+        assert_eq!(rt;
+            answer(&rt, alloc, words, TWO)?.as_str(),
+            "0 1 3 -7\n2 1 4\n",
+            "{words}"
+        );
     }
     assert_eq!(rt;
         answer(&rt, alloc, "ig --via exstack --grid 2x2", TWO)?.as_str(),

@@ -41,6 +41,8 @@ pub use threads::drive_threads;
 #[cfg(test)]
 mod drive_tests;
 #[cfg(test)]
+mod exstack_slot_tests;
+#[cfg(test)]
 mod refused_tests;
 #[cfg(test)]
 mod side_by_side_tests;

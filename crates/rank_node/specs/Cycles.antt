@@ -34,6 +34,7 @@ cycles_gone_on n Full = n + 1
 cycles_gone_on n AllDone = n
 
 -- In cycle m of epoch e the exchange went on, since the proceed parcel of some rank wasn't marked last.
+-- In cycle 0, where rank 1 had something to push, sender 1 with its first parcel of the epoch.
 pub record WentOn (e m : ℕ) (x : State) (got : Logs) : Type 0 where
   pub sender : ℕ
   pub low : sender < x.ranks
@@ -41,15 +42,16 @@ pub record WentOn (e m : ℕ) (x : State) (got : Logs) : Type 0 where
   pub came : proceed_parcel e m (got (link_from x sender)) ≡ Some parcel
   pub going : parcel.last ≡ false
 
--- Proceed parcel m of an epoch is marked last unless more than m items are sent in that epoch.
--- With two items to send in epoch 0 proceed parcel 2 is marked last, if it isn't an earlier one.
+-- A rank's proceed parcel of cycle m isn't marked last only where the rank has more than m items to send in that epoch.
+-- With two items to send in epoch 0 those of the cycles 0 and 1 may go on, and that of cycle 2 is marked last at the latest.
 abbrev pub MarksLast : (ℕ → ℕ) → State → Logs → Type 0
 MarksLast quota x sent = (e b m : ℕ) (p : Shipped) → b < x.ranks → proceed_parcel e m (sent (link_to x b)) ≡ Some p → p.last ≡ false → m < quota e
 
--- A rank that has at most `quota e` items to send in epoch e is in cycle n of its exstack.
+-- A rank that has at most `quota e` items to send in epoch e is in cycle n of its exstack. So an epoch has at most one cycle more
+-- than its rank with the most items has items: three, with two items at rank 0 and none elsewhere.
 -- few: so many it has in this epoch.
 -- paced: until it is done it pushes at least one item in each cycle.
--- left, emptied: so, as it begins to fill its buffers, an item is left to push and no entry waits.
+-- left, emptied: since, as it begins to fill its buffers, an item is left to push and no entry waits.
 -- went_on: each cycle in which the exchange went on did so for some rank's proceed parcel.
 -- marks: its own proceed parcels are marked last in time.
 pub record InCycle {S : Type 0} (R : Rules S) (quota : ℕ → ℕ) (n : ℕ) (run : Running S) (x : State) (sent got : Logs) : Type 0 where
@@ -61,7 +63,8 @@ pub record InCycle {S : Type 0} (R : Rules S) (quota : ℕ → ℕ) (n : ℕ) (r
   pub went_on : (m : ℕ) → m < cycles_gone_on n x.stage → WentOn x.epoch m x got
   pub marks : MarksLast quota x sent
 
--- As its exchange round begins or goes on: its buffers are filled.
+-- The same rank as its exchange round begins or goes on: its buffers are filled, and until it is done one item more than there
+-- were cycles before is pushed.
 pub record InExchange {S : Type 0} (R : Rules S) (quota : ℕ → ℕ) (n : ℕ) (run : Running S) (x : State) (sent got : Logs) : Type 0 where
   pub agrees : AgreesIn n x sent got
   pub few : length (to_send R run.prog run.sends) ≤ quota x.epoch
@@ -69,7 +72,7 @@ pub record InExchange {S : Type 0} (R : Rules S) (quota : ℕ → ℕ) (n : ℕ)
   pub went_on : (m : ℕ) → m < n + 1 → WentOn x.epoch m x got
   pub marks : MarksLast quota x sent
 
--- The stages in which a turn may leave an exstack, by the stage at entry.
+-- The stages in which a proceed poll leaves an exstack, and those in which an exchange poll does.
 abbrev pub has_proceeded : Stage → Bool
 has_proceeded Start = false
 has_proceeded Proceeding = true
@@ -86,6 +89,8 @@ has_exchanged Exchanging = true
 has_exchanged Full = true
 has_exchanged AllDone = false
 
+-- A turn at the first stage may leave the second: it makes the poll that is next, and rests nowhere but at the end of the epoch.
+-- From Full it is Proceeding, Filling or AllDone, and never Full.
 abbrev pub IsOnward : Stage → Stage → Type 0
 IsOnward Start s = has_proceeded s ≡ true
 IsOnward Proceeding s = has_proceeded s ≡ true
@@ -114,17 +119,19 @@ abbrev pub IsInCycle : {S : Type 0} → Rules S → (ℕ → ℕ) → ℕ → Ru
 IsInCycle R quota n run (Conveying c) sent got = ⊤
 IsInCycle R quota n run (Stacking cap x) sent got = InCycle R quota n run x sent got
 
--- the cycle that a turn leaves it in
+-- The cycle in which a turn leaves it: one later where an exchange round was over at entry.
 abbrev pub cycle_of_turn : ℕ → MoverState → ℕ
 cycle_of_turn n (Conveying c) = n
 cycle_of_turn n (Stacking cap x) = cycle_after n x.stage
 
+-- A turn leaves its stage onward.
 abbrev pub TurnsOnward : MoverState → MoverState → Type 0
 TurnsOnward (Conveying c) (Conveying c') = ⊤
 TurnsOnward (Conveying c) (Stacking k x) = ⊥
 TurnsOnward (Stacking k x) (Conveying c) = ⊥
 TurnsOnward (Stacking k x) (Stacking k' x') = IsOnward x.stage x'.stage
 
+-- Within a round it waits for a parcel.
 abbrev pub AwaitsSome : MoverState → Type 0
 AwaitsSome (Conveying c) = ⊤
 AwaitsSome (Stacking cap x) = Awaits x

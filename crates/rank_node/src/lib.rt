@@ -16,7 +16,8 @@
 //! | `Node::into_prog` | the program |
 //!
 //! `specs/Runs` says what a rank has done, against its part of the exchange machine: which of its emissions are pushed, and that its
-//! state is the one that its pulls make of the start, in whatever order they came.
+//! state is the one that its pulls make of the start, in whatever order they came. `specs/Cycles` says how the cycles of an exstack
+//! keep pace with what its rank has to send: a rank that isn't done pushes at least one item in each.
 #![tactic(auto)]
 
 mod conveying;

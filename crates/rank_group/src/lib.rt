@@ -46,6 +46,8 @@ pub use together::run_together;
 #[cfg(test)]
 mod drive_tests;
 #[cfg(test)]
+mod exstack_slot_tests;
+#[cfg(test)]
 mod refused_tests;
 #[cfg(test)]
 mod side_by_side_tests;

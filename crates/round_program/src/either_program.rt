@@ -1,5 +1,6 @@
 //! Either of two programs as one program. So one type stands for several applications, and a drive is compiled once for
-//! them all: the drives of a tree of `Either`s run whichever program is there.
+//! them all: the drives of a tree of `Either`s run whichever program is there. What is asked for each item is inlined, so that a
+//! tree costs one choice and not a call for each of its levels.
 
 use crate::program::Program;
 use bale_types::{Item, NoMemory};
@@ -41,6 +42,7 @@ impl<A: Program, B: Program> Program for Either<A, B> {
         }
     }
 
+    #[inline(always)]
     fn emission(&self, i: u64) -> (u32, Item) {
         match self {
             Left(a) => a.emission(i),
@@ -48,6 +50,7 @@ impl<A: Program, B: Program> Program for Either<A, B> {
         }
     }
 
+    #[inline(always)]
     fn fits(&self, from: u32, item: Item) -> bool {
         match self {
             Left(a) => a.fits(from, item),
@@ -55,6 +58,7 @@ impl<A: Program, B: Program> Program for Either<A, B> {
         }
     }
 
+    #[inline(always)]
     fn absorb(&mut self, from: u32, item: Item) -> Result<(), NoMemory> {
         match self {
             Left(a) => a.absorb(from, item),

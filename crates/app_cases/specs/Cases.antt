@@ -5,6 +5,7 @@ use Rattle.round_program.specs.Injections.{Injects}
 use Rattle.round_program.specs.EitherLaws.{left_is_case, right_is_case, case_of_case}
 use Rattle.app_histo_ig.specs.Histos.{HistoState, histo_rules}
 use Rattle.app_histo_ig.specs.Igs.{IgState, ig_rules}
+use Rattle.app_histo_ig.specs.Sums.{SumsState, sums_rules}
 use Rattle.app_permute.specs.Permutes.{PermuteState, permute_rules}
 use Rattle.app_permute.specs.Transposes.{TransposeState, transpose_rules}
 use Rattle.app_topo.specs.Topos.{TopoState, topo_rules}
@@ -12,7 +13,7 @@ use Rattle.app_sssp.specs.Sssps.{SsspState, sssp_rules}
 use Rattle.delta_step.specs.Deltas.{DeltaState, delta_rules}
 use Rattle.elastic.specs.Mails.{MailState, mail_rules}
 use Rattle.app_tally.specs.Tallies.{TallyState, tally_rules}
-use Rattle.app_cases.specs.Any.{AnyState, column_rules, move_rules, order_rules, walk_rules, last_rules, other_rules, any_rules}
+use Rattle.app_cases.specs.Any.{AnyState, gather_rules, column_rules, move_rules, order_rules, walk_rules, last_rules, other_rules, any_rules}
 
 abbrev pub histo_case : HistoState → AnyState
 histo_case s = Left (Left s)
@@ -21,16 +22,25 @@ abbrev pub histo_shape : List ℕ → List ℕ
 histo_shape shape = 0 ∷ 0 ∷ shape
 
 pub histo_is_case : Injects histo_rules any_rules histo_case histo_shape
-histo_is_case = case_of_case (left_is_case histo_rules ig_rules) (left_is_case column_rules other_rules)
+histo_is_case = case_of_case (left_is_case histo_rules gather_rules) (left_is_case column_rules other_rules)
 
 abbrev pub ig_case : IgState → AnyState
-ig_case s = Left (Right s)
+ig_case s = Left (Right (Left s))
 
 abbrev pub ig_shape : List ℕ → List ℕ
-ig_shape shape = 0 ∷ 1 ∷ shape
+ig_shape shape = 0 ∷ 1 ∷ 0 ∷ shape
 
 pub ig_is_case : Injects ig_rules any_rules ig_case ig_shape
-ig_is_case = case_of_case (right_is_case histo_rules ig_rules) (left_is_case column_rules other_rules)
+ig_is_case = case_of_case (case_of_case (left_is_case ig_rules sums_rules) (right_is_case histo_rules gather_rules)) (left_is_case column_rules other_rules)
+
+abbrev pub sums_case : SumsState → AnyState
+sums_case s = Left (Right (Right s))
+
+abbrev pub sums_shape : List ℕ → List ℕ
+sums_shape shape = 0 ∷ 1 ∷ 1 ∷ shape
+
+pub sums_is_case : Injects sums_rules any_rules sums_case sums_shape
+sums_is_case = case_of_case (case_of_case (right_is_case ig_rules sums_rules) (right_is_case histo_rules gather_rules)) (left_is_case column_rules other_rules)
 
 abbrev pub permute_case : PermuteState → AnyState
 permute_case s = Right (Left (Left s))

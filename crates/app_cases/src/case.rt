@@ -4,7 +4,7 @@ ghost use Rattle.std.specs.Prelude.{◌≡◌, ℕ, List};
 ghost use Rattle.round_program.specs.Injections.{Injects};
 ghost use Rattle.app_cases.specs.Any.{AnyState, any_rules};
 
-use app_histo_ig::{Histo, Ig};
+use app_histo_ig::{Histo, Ig, IgSums};
 use app_permute::{Permute, Transpose};
 use app_sssp::Sssp;
 use app_tally::TallyMailer;
@@ -13,9 +13,9 @@ use delta_step::Delta;
 use either::{Either, Left, Right};
 use round_program::Program;
 
-/// Any of the applications, and tally in its mailer.
+/// Any of the applications: ig whole or its sums alone, and tally in its mailer.
 pub type AnyProgram = Either<
-    Either<Histo, Ig>,
+    Either<Histo, Either<Ig, IgSums>>,
     Either<Either<Permute, Transpose>, Either<Either<Topo, TallyMailer>, Either<Sssp, Delta>>>,
 >;
 
@@ -70,12 +70,33 @@ impl Case for Ig {
     ghost is_case = { ig_is_case };
 
     fn put(self) -> AnyProgram {
-        Left(Right(self))
+        Left(Right(Left(self)))
     }
 
     fn taken(any: AnyProgram) -> Ig {
         match any {
-            Left(Right(ig)) => ig,
+            Left(Right(Left(ig))) => ig,
+            _ => unreachable!(),
+        }
+    }
+}
+
+impl Case for IgSums {
+    ghost use Rattle.app_cases.specs.Cases.{sums_case, sums_shape, sums_is_case};
+
+    ghost case_of = { sums_case };
+
+    ghost wrap = { sums_shape };
+
+    ghost is_case = { sums_is_case };
+
+    fn put(self) -> AnyProgram {
+        Left(Right(Right(self)))
+    }
+
+    fn taken(any: AnyProgram) -> IgSums {
+        match any {
+            Left(Right(Right(sums))) => sums,
             _ => unreachable!(),
         }
     }

@@ -1,4 +1,5 @@
 pub mod Answering
+pub mod Asking
 pub mod Cases
 pub mod Endings
 pub mod Exchanges

@@ -1,8 +1,8 @@
 pub mod Answering
-pub mod Asking
 pub mod Cases
 pub mod Endings
 pub mod Exchanges
+pub mod Heard
 pub mod Orders
 pub mod Outcomes
 pub mod Read

@@ -7,7 +7,7 @@ use Rattle.app_cases.specs.Cases.{sums_case}
 use Rattle.app_histo_ig.specs.SumsRuns.{sums_starts}
 use Rattle.app_histo_ig.specs.AskingRuns.{AreAskersOf}
 use Rattle.biconvey.proofs.Asked.{they_ask}
-use Rattle.bale_cli.proofs.Asking.{all_heard, sums_at, tells_asking}
+use Rattle.bale_cli.proofs.Heard.{all_heard, sums_at, tells_asking}
 use Rattle.bale_cli.proofs.asking.heard_on_threads.Given.{Over}
 use Rattle.bale_cli.proofs.asking.heard_on_threads.Goals.{In_ok-progs}
 use Rattle.bale_cli.proofs.asking.heard_on_threads.Goals as goal

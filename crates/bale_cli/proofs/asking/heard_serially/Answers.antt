@@ -7,7 +7,7 @@ use Rattle.app_cases.specs.Cases.{sums_case}
 use Rattle.app_histo_ig.specs.SumsRuns.{sums_starts}
 use Rattle.app_histo_ig.specs.AskingRuns.{AreAskersOf}
 use Rattle.biconvey.proofs.Asked.{they_ask}
-use Rattle.bale_cli.proofs.Asking.{all_heard, sums_at, tells_asking, sums_turns, turns_of_both, turns_of_sums}
+use Rattle.bale_cli.proofs.Heard.{all_heard, sums_at, tells_asking, sums_turns, turns_of_both, turns_of_sums}
 use Rattle.bale_cli.proofs.asking.heard_serially.Given.{Over}
 use Rattle.bale_cli.proofs.asking.heard_serially.Goals.{In_ok-progs}
 use Rattle.bale_cli.proofs.asking.heard_serially.Goals as goal
@@ -63,42 +63,42 @@ returns-clause-rounds g c =
 
 pub returns-in_err-summed-clause-steps : goal.returns-in_err-summed-clause-steps
 returns-in_err-summed-clause-steps g c =
-    turns_of_sums c.args.m.now c.args.steady c.args.grid.now c.args.steps.now c.case_serial-summed.new.steps
-    (sums_turns c.args.m.now c.args.steady c.args.grid.now c.args.steps.now c.case_serial-summed.new.steps c.in_ok-progs.progs (are g (goal.at.returns-in_err-summed-clause-steps g c).In_ok-progs)
-    (some g (goal.at.returns-in_err-summed-clause-steps g c).In_ok-progs) c.case_serial-summed.ensures.steps)
+    turns_of_sums c.args.m.now c.args.steady c.args.grid.now c.args.steps.now c.case_serial.new.steps
+    (sums_turns c.args.m.now c.args.steady c.args.grid.now c.args.steps.now c.case_serial.new.steps c.in_ok-progs.progs (are g (goal.at.returns-in_err-summed-clause-steps g c).In_ok-progs)
+    (some g (goal.at.returns-in_err-summed-clause-steps g c).In_ok-progs) c.case_serial.ensures.steps)
 
 pub returns-in_err-askers-clause-steps : goal.returns-in_err-askers-clause-steps
 returns-in_err-askers-clause-steps g c =
-    turns_of_sums c.args.m.now c.args.steady c.args.grid.now c.args.steps.now c.case_serial-summed.new.steps
-    (sums_turns c.args.m.now c.args.steady c.args.grid.now c.args.steps.now c.case_serial-summed.new.steps c.in_ok-progs.progs (are g (goal.at.returns-in_err-askers-clause-steps g c).In_ok-progs)
-    (some g (goal.at.returns-in_err-askers-clause-steps g c).In_ok-progs) c.case_serial-summed.ensures.steps)
+    turns_of_sums c.args.m.now c.args.steady c.args.grid.now c.args.steps.now c.case_serial.new.steps
+    (sums_turns c.args.m.now c.args.steady c.args.grid.now c.args.steps.now c.case_serial.new.steps c.in_ok-progs.progs (are g (goal.at.returns-in_err-askers-clause-steps g c).In_ok-progs)
+    (some g (goal.at.returns-in_err-askers-clause-steps g c).In_ok-progs) c.case_serial.ensures.steps)
 
 pub returns-in_err-asked-clause-steps : goal.returns-in_err-asked-clause-steps
 returns-in_err-asked-clause-steps g c =
-    turns_of_both c.args.m.now c.args.steady c.args.grid.now c.args.steps.now c.case_serial-summed.new.steps c.bi_serial-asked.new.steps c.in_ok-askers.askers
+    turns_of_both c.args.m.now c.args.steady c.args.grid.now c.args.steps.now c.case_serial.new.steps c.bi_serial.new.steps c.in_ok-askers.askers
     (some_ranks g (goal.at.returns-in_err-asked-clause-steps g c).In_ok-progs)
     (c.in_ok-askers.ensures.askers (ranks c.args.grid.now) (some_ranks g (goal.at.returns-in_err-asked-clause-steps g c).In_ok-progs)
     (sums_at c.args.m.now (ranks c.args.grid.now) c.in_ok-progs.progs c.in_ok-summed.summed.progs (are g (goal.at.returns-in_err-asked-clause-steps g c).In_ok-progs) c.in_ok-summed.ensures.ended))
-    (sums_turns c.args.m.now c.args.steady c.args.grid.now c.args.steps.now c.case_serial-summed.new.steps c.in_ok-progs.progs (are g (goal.at.returns-in_err-asked-clause-steps g c).In_ok-progs)
-    (some g (goal.at.returns-in_err-asked-clause-steps g c).In_ok-progs) c.case_serial-summed.ensures.steps)
-    c.bi_serial-asked.ensures.steps
+    (sums_turns c.args.m.now c.args.steady c.args.grid.now c.args.steps.now c.case_serial.new.steps c.in_ok-progs.progs (are g (goal.at.returns-in_err-asked-clause-steps g c).In_ok-progs)
+    (some g (goal.at.returns-in_err-asked-clause-steps g c).In_ok-progs) c.case_serial.ensures.steps)
+    c.bi_serial.ensures.steps
 
 pub returns-in_err-append-clause-steps : goal.returns-in_err-append-clause-steps
 returns-in_err-append-clause-steps g c =
-    turns_of_both c.args.m.now c.args.steady c.args.grid.now c.args.steps.now c.case_serial-summed.new.steps c.bi_serial-asked.new.steps c.in_ok-askers.askers
+    turns_of_both c.args.m.now c.args.steady c.args.grid.now c.args.steps.now c.case_serial.new.steps c.bi_serial.new.steps c.in_ok-askers.askers
     (some_ranks g (goal.at.returns-in_err-append-clause-steps g c).In_ok-progs)
     (c.in_ok-askers.ensures.askers (ranks c.args.grid.now) (some_ranks g (goal.at.returns-in_err-append-clause-steps g c).In_ok-progs)
     (sums_at c.args.m.now (ranks c.args.grid.now) c.in_ok-progs.progs c.in_ok-summed.summed.progs (are g (goal.at.returns-in_err-append-clause-steps g c).In_ok-progs) c.in_ok-summed.ensures.ended))
-    (sums_turns c.args.m.now c.args.steady c.args.grid.now c.args.steps.now c.case_serial-summed.new.steps c.in_ok-progs.progs (are g (goal.at.returns-in_err-append-clause-steps g c).In_ok-progs)
-    (some g (goal.at.returns-in_err-append-clause-steps g c).In_ok-progs) c.case_serial-summed.ensures.steps)
-    c.bi_serial-asked.ensures.steps
+    (sums_turns c.args.m.now c.args.steady c.args.grid.now c.args.steps.now c.case_serial.new.steps c.in_ok-progs.progs (are g (goal.at.returns-in_err-append-clause-steps g c).In_ok-progs)
+    (some g (goal.at.returns-in_err-append-clause-steps g c).In_ok-progs) c.case_serial.ensures.steps)
+    c.bi_serial.ensures.steps
 
 pub returns-clause-steps : goal.returns-clause-steps
 returns-clause-steps g c =
-    turns_of_both c.args.m.now c.args.steady c.args.grid.now c.args.steps.now c.case_serial-summed.new.steps c.bi_serial-asked.new.steps c.in_ok-askers.askers
+    turns_of_both c.args.m.now c.args.steady c.args.grid.now c.args.steps.now c.case_serial.new.steps c.bi_serial.new.steps c.in_ok-askers.askers
     (some_ranks g (goal.at.returns-clause-steps g c).In_ok-progs)
     (c.in_ok-askers.ensures.askers (ranks c.args.grid.now) (some_ranks g (goal.at.returns-clause-steps g c).In_ok-progs)
     (sums_at c.args.m.now (ranks c.args.grid.now) c.in_ok-progs.progs c.in_ok-summed.summed.progs (are g (goal.at.returns-clause-steps g c).In_ok-progs) c.in_ok-summed.ensures.ended))
-    (sums_turns c.args.m.now c.args.steady c.args.grid.now c.args.steps.now c.case_serial-summed.new.steps c.in_ok-progs.progs (are g (goal.at.returns-clause-steps g c).In_ok-progs)
-    (some g (goal.at.returns-clause-steps g c).In_ok-progs) c.case_serial-summed.ensures.steps)
-    c.bi_serial-asked.ensures.steps
+    (sums_turns c.args.m.now c.args.steady c.args.grid.now c.args.steps.now c.case_serial.new.steps c.in_ok-progs.progs (are g (goal.at.returns-clause-steps g c).In_ok-progs)
+    (some g (goal.at.returns-clause-steps g c).In_ok-progs) c.case_serial.ensures.steps)
+    c.bi_serial.ensures.steps

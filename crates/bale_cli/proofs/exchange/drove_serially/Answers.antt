@@ -1,13 +1,15 @@
-use Rattle.std.proofs.Common.{◌<◌, ◌≤◌, ◌≡◌, ◌∙◌, ℕ, List, true, length, ap, subst, sym, arith}
+use Rattle.std.proofs.Common.{◌+◌, ◌<◌, ◌≤◌, ◌≡◌, ◌∙◌, ℕ, List, true, length, ap, subst, sym, arith}
 use Rattle.route_tensor.proofs.Coordinates.{ranks_some}
 use Rattle.route_tensor.specs.Grid.{ranks}
-use Rattle.round_program.specs.Canonical.{InRound, EndsWithin, HaveEnded}
+use Rattle.round_program.specs.Canonical.{InRound, EndsWithin, HasRounds, HaveEnded}
 use Rattle.rank_group.specs.declared.closed_round.ClosedRound.{ClosedRound}
 use Rattle.app_cases.specs.Any.{AnyState, any_rules}
 use Rattle.bale_cli.specs.Jobs.{manner_for}
 use Rattle.bale_cli.specs.Starts.{starts_of}
 use Rattle.bale_cli.specs.Tasks.{made_for, TellsTask}
-use Rattle.bale_cli.proofs.Cases.{rounds_as, tells_task, turns_of_task}
+use Rattle.rank_node.specs.Movers.{manner_of}
+use Rattle.rank_group.specs.Told.{turns_within}
+use Rattle.bale_cli.proofs.Cases.{DriveTells, rounds_as, tells_task, turns_of_task}
 use Rattle.bale_cli.proofs.Exchanges.{is_capacity, is_slots}
 use Rattle.bale_cli.proofs.exchange.drove_serially.Given.{Over}
 use Rattle.bale_cli.proofs.exchange.drove_serially.Goals.{In_ok-progs}
@@ -58,16 +60,18 @@ returns-clause-rounds g c =
     c.told.result c.told.ensures.rounds
     (tells_task c.args.command.now.task c.args.subject.now (made_for true c.args.command.now) (manner_for c.args.command.now) c.in_ok-run.run'.rounds c.in_ok-progs.progs c.in_ok-run.run'.progs
     c.requires.suits (are g (goal.at.returns-clause-rounds g c).In_ok-progs) (some g (goal.at.returns-clause-rounds g c).In_ok-progs) c.in_ok-run.ensures.ended
-    c.in_ok-run.ensures.rounds)
+    (subst (λ v. DriveTells c.in_ok-progs.progs (made_for true c.args.command.now) (manner_of v c.args.command.now.travel.steady) c.in_ok-run.run'.rounds) c.via_of.ensures c.in_ok-run.ensures.rounds))
 
 pub returns-in_err-run-clause-steps : goal.returns-in_err-run-clause-steps
 returns-in_err-run-clause-steps g c =
     turns_of_task c.args.command.now.task c.args.subject.now (manner_for c.args.command.now) c.args.command.now.grid c.args.steps.now c.case_serial.new.steps c.in_ok-progs.progs
     c.requires.suits (are g (goal.at.returns-in_err-run-clause-steps g c).In_ok-progs) (some g (goal.at.returns-in_err-run-clause-steps g c).In_ok-progs)
-    c.case_serial.ensures.steps
+    (subst (λ v. (n : ℕ) → HasRounds any_rules c.in_ok-progs.progs n → c.case_serial.new.steps ≤ c.args.steps.now + turns_within any_rules (manner_of v c.args.command.now.travel.steady) c.args.command.now.grid c.in_ok-progs.progs n)
+    c.via_of.ensures c.case_serial.ensures.steps)
 
 pub returns-clause-steps : goal.returns-clause-steps
 returns-clause-steps g c =
     turns_of_task c.args.command.now.task c.args.subject.now (manner_for c.args.command.now) c.args.command.now.grid c.args.steps.now c.case_serial.new.steps c.in_ok-progs.progs
     c.requires.suits (are g (goal.at.returns-clause-steps g c).In_ok-progs) (some g (goal.at.returns-clause-steps g c).In_ok-progs)
-    c.case_serial.ensures.steps
+    (subst (λ v. (n : ℕ) → HasRounds any_rules c.in_ok-progs.progs n → c.case_serial.new.steps ≤ c.args.steps.now + turns_within any_rules (manner_of v c.args.command.now.travel.steady) c.args.command.now.grid c.in_ok-progs.progs n)
+    c.via_of.ensures c.case_serial.ensures.steps)

@@ -60,7 +60,7 @@ is_asked c e = asks_ig c.travel.transport c.task e
 pub some_starts : (m : Sparse) (p : ℕ) → 1 ≤ p → 0 < length (sums_starts p m)
 some_starts m p some = subst (λ n. 1 ≤ n) (sym (length-map-range_with_len (sums_begins p m) 0 p)) some
 
-pub sums_ended : (m : Sparse) (p : ℕ) (ends : List SumsState) → 1 ≤ p → IsSparse m → HaveEnded sums_rules (sums_starts p m) ends → SumsEnded m ends
+abbrev pub sums_ended : (m : Sparse) (p : ℕ) (ends : List SumsState) → 1 ≤ p → IsSparse m → HaveEnded sums_rules (sums_starts p m) ends → SumsEnded m ends
 sums_ended m p ends some sparse h = record { ranks = p; some = some; matrix = sparse; ended = h }
 
 -- ---- What is told

@@ -211,11 +211,7 @@ fn summing(alloc: Global, m: &Matrix, ranks: u32) -> Result<Progs<AnyProgram>, N
 }
 
 /// The askers that these programs leave.
-fn asking(
-    alloc: Global,
-    m: &Matrix,
-    progs: Progs<AnyProgram>,
-) -> Result<Progs<IgAsker>, NoMemory>
+fn asking(alloc: Global, m: &Matrix, progs: Progs<AnyProgram>) -> Result<Progs<IgAsker>, NoMemory>
     requires ended { (ranks : ℕ) × (1 ≤ ranks) × HaveEnded any_rules (map sums_case (sums_starts ranks m.now)) progs }
     ensures askers { (ranks : ℕ) → 1 ≤ ranks → HaveEnded any_rules (map sums_case (sums_starts ranks m.now)) progs → IfOk result (λ qs. AreAskersOf m.now ranks qs) }
 {
@@ -237,8 +233,13 @@ fn told<K: Sink>(command: &Command, m: &Matrix, run: Finished<IgAsker>, out: &mu
 {
     let Finished { progs, rounds } = run;
     let generated = command.travel.generated;
-    let Ending { status, written } =
-        written_as::<IgHeardAnswer, K>(&command.task, m, &progs, generated, out);
+    let Ending { status, written } = written_as::<IgHeardAnswer, K>(
+        &command.task,
+        m,
+        &progs,
+        generated,
+        out,
+    );
     Finish {
         status,
         written,

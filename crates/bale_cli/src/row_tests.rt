@@ -177,8 +177,15 @@ fn exstacks_give_the_same_answers(rt: HostRuntime) -> Result<(), Fail> {
             assert_eq!(rt; got.as_str(), want.as_str(), "{words}");
         }
     }
-    for words in ["ig --via exstack --buffer 1", "ig --via exstack --drive serial"] {
-        assert_eq!(rt; answer(&rt, alloc, words, TWO)?.as_str(), "0 1 3 -7\n2 1 4\n", "{words}");
+    for words in [
+        "ig --via exstack --buffer 1",
+        "ig --via exstack --drive serial",
+    ] {
+        assert_eq!(rt;
+            answer(&rt, alloc, words, TWO)?.as_str(),
+            "0 1 3 -7\n2 1 4\n",
+            "{words}"
+        );
     }
     assert_eq!(rt;
         answer(&rt, alloc, "ig --via exstack --grid 2x2", TWO)?.as_str(),
@@ -198,7 +205,10 @@ fn ig_over_biconvey(rt: HostRuntime) -> Result<(), Fail> {
         }
     }
     let one = answer_alone(alloc, "ig --gen 200,2000,7", b"")?;
-    for words in ["ig --gen 200,2000,7 --via biconvey", "ig --gen 200,2000,7 --via biconvey --grid 2x2 --buffer 8"] {
+    for words in [
+        "ig --gen 200,2000,7 --via biconvey",
+        "ig --gen 200,2000,7 --via biconvey --grid 2x2 --buffer 8",
+    ] {
         let got = answer(&rt, alloc, words, b"")?;
         assert_eq!(rt; got.as_str(), one.as_str(), "{words}");
     }

@@ -15,7 +15,7 @@ ig_askers-requires c =
     let p = c.requires.ended.0 in
     record {
       ended = sums_ended c.args.m.now p c.in_ok-sums.sums c.requires.ended.1 c.entries-kept.ensures.kept
-      (c.in_ok-sums.ensures.ended (sums_starts p c.args.m.now) (some_starts c.args.m.now p c.requires.ended.1) c.requires.ended.2);
+          (c.in_ok-sums.ensures.ended (sums_starts p c.args.m.now) (some_starts c.args.m.now p c.requires.ended.1) c.requires.ended.2);
     }
 
 pub returns : goal.returns

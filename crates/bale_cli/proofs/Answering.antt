@@ -13,11 +13,11 @@ use Rattle.bale_cli.specs.declared.refusal.Refusal.TheVariants as refusal
 use Rattle.bale_cli.specs.declared.subject.Subject.{Subject}
 use Rattle.bale_cli.specs.declared.unfit.Unfit.{Unfit}
 use Rattle.bale_cli.specs.Answer.{shown, reads, Asked, HasWritten, IsOfText, TellsText, Told, Wrote}
+use Rattle.bale_cli.specs.Asking.{TellsCommand}
 use Rattle.bale_cli.specs.Fitness.{unfitness}
-use Rattle.bale_cli.specs.Jobs.{manner_for}
 use Rattle.bale_cli.specs.Outcomes.{Answered}
 use Rattle.bale_cli.specs.Subjects.{subject_asked}
-use Rattle.bale_cli.specs.Tasks.{IsAnswer, task_status, made_for, TellsTask}
+use Rattle.bale_cli.specs.Tasks.{IsAnswer, task_status}
 use Rattle.bale_cli.proofs.Endings.{before_text, wrote_status}
 
 abbrev pub err : Refusal → Result Finish Refusal
@@ -140,7 +140,7 @@ module _ {serial : Command → Bool} {left left' : Option (List ℕ)} {ReadRose 
       → (reads (Some c) ≡ false → left' ≡ left) → ((text : List ℕ) → left ≡ Some text → reads (Some c) ≡ true → left' ≡ Some (drop 16777217 text))
       → IfOk answered (λ f. f.status ≡ task_status c.task s) → IfOk answered (λ f. HasWritten (IsAnswer c.task s) (shown c.travel.generated) taken taken' f.written)
       → IfOk answered (λ f. OnErr f.written WriteRose) → IsFront taken taken' → OnErr answered (taken' ≡ taken) → IfErr answered (λ r. r ≡ refusal.NoMemory)
-      → IfOk answered (λ f. TellsTask c.task s (made_for (serial c) c) (manner_for c) f.rounds)
+      → IfOk answered (λ f. TellsCommand (serial c) c s f.rounds)
       → Answered serial (Some c) left left' ReadRose taken taken' WriteRose answered
   ran_answered (Ok f) c s subject fits unread whole status wrote cause held same memory rounds =
       let written : (text : List ℕ) → Told (Some c) left text
@@ -163,8 +163,8 @@ module _ {serial : Command → Bool} {left left' : Option (List ℕ)} {ReadRose 
         no_answer = tt;
         rounds = λ text c' s' asked.
             let e = same_asked c s text c' s' subject asked in
-            subst (λ (y : Subject). TellsTask c'.task y (made_for (serial c') c') (manner_for c') f.rounds) e.1
-            (subst (λ (x : Command). TellsTask x.task s (made_for (serial x) x) (manner_for x) f.rounds) e.0 rounds);
+            subst (λ (y : Subject). TellsCommand (serial c') c' y f.rounds) e.1
+            (subst (λ (x : Command). TellsCommand (serial x) x s f.rounds) e.0 rounds);
       }
   ran_answered (Err r) c s subject fits unread whole status wrote cause held same memory rounds =
       let kinds : (r ≡ refusal.Usage) ⊎ (r ≡ refusal.NoMemory) = inr memory in

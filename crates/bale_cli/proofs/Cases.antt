@@ -36,7 +36,7 @@ use Rattle.bale_cli.specs.Tasks.{Tells, TellsMatrix, TellsTask, WithinTurns, Tur
 abbrev pub DriveTells : List AnyState → Made → Manner → List ClosedRound → Type 0
 DriveTells ps made manner rs = (c : ClosedRound) × (rs ≡ c ∷ []) × ((n : ℕ) → HasRounds any_rules ps n → TellsRun any_rules ps n made manner (round_of c))
 
-tells : {S : Type 0} {R : Rules S} {i : S → AnyState} {w : List ℕ → List ℕ} → Injects R any_rules i w → (starts : List S) (ps ends : List AnyState) (made : Made) (manner : Manner)
+pub tells : {S : Type 0} {R : Rules S} {i : S → AnyState} {w : List ℕ → List ℕ} → Injects R any_rules i w → (starts : List S) (ps ends : List AnyState) (made : Made) (manner : Manner)
     (rs : List ClosedRound) → ps ≡ map i starts → 0 < length ps → HaveEnded any_rules ps ends → DriveTells ps made manner rs → Tells R starts made manner rs
 tells {i = i} case starts ps ends made manner rs put some h t =
     let few : 0 < length starts = subst (λ n. 0 < n) (ap length put ∙ length-map starts i) some in
@@ -65,7 +65,7 @@ pub tells_task : (t : Task) (s : Subject) (made : Made) (manner : Manner) (rs : 
 tells_task t (subject.Matrix m) made manner rs ps ends suited put some h t' = tells_matrix t m made manner rs ps ends suited put some h t'
 tells_task t (subject.Lines lines) made manner rs ps ends suited put some h t' = tells tally_is_case (tally_starts (ranks made.dims) lines) ps ends made manner rs put some h t'
 
-turns : {S : Type 0} {R : Rules S} {i : S → AnyState} {w : List ℕ → List ℕ} → Injects R any_rules i w → (starts : List S) (ps : List AnyState) (manner : Manner) (dims : List ℕ) (before after : ℕ)
+pub turns : {S : Type 0} {R : Rules S} {i : S → AnyState} {w : List ℕ → List ℕ} → Injects R any_rules i w → (starts : List S) (ps : List AnyState) (manner : Manner) (dims : List ℕ) (before after : ℕ)
     → ps ≡ map i starts → 0 < length ps → ((n : ℕ) → HasRounds any_rules ps n → after ≤ before + turns_within any_rules manner dims ps n) → WithinTurns R starts manner dims before after
 turns {i = i} case starts ps manner dims before after put some f =
     steps case starts (subst (λ n. 0 < n) (ap length put ∙ length-map starts i) some) ps put manner dims before after f

@@ -5,12 +5,12 @@ use Rattle.mtx_text.specs.declared.refusal.BadLine.{BadLine}
 use Rattle.mtx_text.specs.Reasons.{reason_text}
 use Rattle.bale_words.specs.declared.command.Command.{Command}
 use Rattle.bale_words.specs.declared.command.Generated.{Generated}
+use Rattle.bale_words.specs.Words.{command_of}
 use Rattle.bale_cli.specs.declared.refusal.BadText.{BadText}
 use Rattle.bale_cli.specs.declared.refusal.BadText.TheVariants as bad
 use Rattle.bale_cli.specs.declared.refusal.Refusal.{Refusal}
 use Rattle.bale_cli.specs.declared.refusal.Refusal.TheVariants as refusal
 use Rattle.bale_cli.specs.declared.subject.Subject.{Subject}
-use Rattle.bale_cli.specs.Jobs.{job_of}
 use Rattle.bale_cli.specs.Subjects.{subject_asked}
 use Rattle.bale_cli.specs.Tasks.{IsAnswer, task_status}
 use Rattle.bale_cli.specs.Fitness.{unfitness}
@@ -88,7 +88,7 @@ abbrev pub answer_for : Bool → Command → Result Subject Refusal → Answer
 answer_for serial c (Err r) = refused r
 answer_for serial c (Ok s) = answer_by (task_status c.task s) (unfitness c s serial)
 
--- The answer to what can be run, and to words that ask for nothing of the kind.
+-- The answer to a command, and to words that give none.
 abbrev pub answer_to : (Command → Bool) → Option Command → List ℕ → Answer
 answer_to serial None text = refused refusal.Usage
 answer_to serial (Some c) text = answer_for (serial c) c (subject_asked c text)
@@ -101,7 +101,7 @@ answer_to serial (Some c) text = answer_for (serial c) c (subject_asked c text)
 -- For "sssp --source 3" and "%%MatrixMarket matrix coordinate pattern general/2 2 0/" it is 6 with
 -- "bale: unfit: source out of range/" on err, with / for LF.
 abbrev pub serial_answer : (Command → Bool) → List (List ℕ) → List ℕ → Answer
-serial_answer serial words text = answer_to serial (job_of serial words) text
+serial_answer serial words text = answer_to serial (command_of words) text
 
 -- What the source told, where the command reads it: one whose matrix is generated doesn't.
 abbrev pub TellsText : Option Generated → Option (List ℕ) → List ℕ → Type 0

@@ -1,21 +1,15 @@
--- What the program can run, of what words can ask for.
-use Rattle.std.specs.Prelude.{Bool, true, false, not, ℕ, List, Option, Some, None, if◌then◌else◌}
-use Rattle.std.specs.Option.{option_and_then}
+-- How the commands of words are driven and carried.
+use Rattle.std.specs.Prelude.{Bool, true, false, ◌&&◌}
 use Rattle.bale_words.specs.declared.command.Command.{Command}
+use Rattle.bale_words.specs.declared.command.Task.{Task}
+use Rattle.bale_words.specs.declared.command.Task.TheVariants as task
 use Rattle.bale_words.specs.declared.command.Transport.{Transport}
-use Rattle.bale_words.specs.declared.command.Transport.TheVariants.{Convey, Exstack, Biconvey}
+use Rattle.bale_words.specs.declared.command.Transport.TheVariants.{Exstack, Biconvey}
 use Rattle.bale_words.specs.declared.command.Driving.{Driving}
 use Rattle.bale_words.specs.declared.command.Driving.TheVariants.{Serial}
-use Rattle.bale_words.specs.Words.{command_of}
 use Rattle.rank_node.specs.declared.via.Via.{Via}
 use Rattle.rank_node.specs.declared.via.Via.TheVariants as via
 use Rattle.rank_node.specs.Movers.{Manner, manner_of}
-
--- The transports by which a run goes, on one thread or by threads.
-abbrev pub carries : Bool → Transport → Bool
-carries serial Convey = true
-carries serial Exstack = true
-carries serial Biconvey = false
 
 abbrev pub is_serial : Driving → Bool
 is_serial Serial = true
@@ -28,24 +22,20 @@ on_one_thread c = true
 abbrev pub as_asked : Command → Bool
 as_asked c = is_serial c.travel.driving
 
--- All commands are driven on one thread, or those whose words say so.
-abbrev pub drives : Bool → Command → Bool
-drives true = on_one_thread
-drives false = as_asked
+abbrev pub is_ig : Task → Bool
+is_ig task.Ig = true
+is_ig _ = false
 
--- What runs: each application, over these transports.
-abbrev pub runs : Bool → Command → Bool
-runs serial c = carries serial c.travel.transport
+abbrev pub is_biconvey : Transport → Bool
+is_biconvey Biconvey = true
+is_biconvey _ = false
 
-abbrev pub if_it_runs : (Command → Bool) → Command → Option Command
-if_it_runs serial c = if runs (serial c) c then Some c else None
+-- Which commands go by queries and replies: ig over biconvey. No words give another task this transport.
+-- The words ig, --via, biconvey do, and the word ig alone doesn't.
+abbrev pub by_asking : Command → Bool
+by_asking c = is_biconvey c.travel.transport && is_ig c.task
 
--- The command that words give, if the program can run it.
--- The word ig alone asks for ig on 4 ranks with buffers of 64, each rank on a thread of its own.
-abbrev pub job_of : (Command → Bool) → List (List ℕ) → Option Command
-job_of serial words = option_and_then (if_it_runs serial) (command_of words)
-
--- How the ranks of a command are carried.
+-- How the rounds of a command are carried: over exstacks where its words say so, else over conveyors.
 abbrev pub via_of : Transport → Via
 via_of Exstack = via.Exstack
 via_of _ = via.Convey

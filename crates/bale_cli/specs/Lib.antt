@@ -1,4 +1,5 @@
 pub mod Answer
+pub mod Asking
 pub mod Fitness
 pub mod Jobs
 pub mod Logs

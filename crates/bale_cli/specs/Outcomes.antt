@@ -11,8 +11,7 @@ use Rattle.bale_cli.specs.declared.refusal.Refusal.TheVariants as refusal
 use Rattle.bale_cli.specs.declared.subject.Subject.{Subject}
 use Rattle.bale_cli.specs.declared.unfit.Unfit.{Unfit}
 use Rattle.bale_cli.specs.Answer.{answer_to, refusal_text, status_of, reads, Asked, IsBad, IsOfText, IsUnfit, Told, Wrote}
-use Rattle.bale_cli.specs.Jobs.{manner_for}
-use Rattle.bale_cli.specs.Tasks.{made_for, TellsTask}
+use Rattle.bale_cli.specs.Asking.{TellsCommand}
 
 -- An answer, or why there is none: what the words ask for (`job`), of what the source told before (`left`) and has left after (`left'`),
 -- on a sink that had taken `taken` before and has taken `taken'` after. `ReadRose` and `WriteRose` say that faults rose.
@@ -34,7 +33,7 @@ pub record Answered (serial : Command → Bool) (job : Option Command) (left lef
   pub read_bad : (text : List ℕ) → left ≡ Some text → reads job ≡ true → IfErr answered (λ r. IsOfText r → left' ≡ Some (drop 16777217 text))
   pub no_answer : OnErr answered (taken' ≡ taken)
   pub rounds : (text : List ℕ) (c : Command) (s : Subject) → Asked serial left job text c s →
-      IfOk answered (λ f. TellsTask c.task s (made_for (serial c) c) (manner_for c) f.rounds)
+      IfOk answered (λ f. TellsCommand (serial c) c s f.rounds)
 
 -- How an answer is told, or why there is none: the status, the rounds, and what err took. `Rose` says that its faults rose.
 pub record IsOutcome (answered : Result Finish Refusal) (old new : Option (List ℕ)) (Rose : Type 0) (status : ℕ) (rounds : List ClosedRound) : Type 0 where

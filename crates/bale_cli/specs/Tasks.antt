@@ -45,7 +45,7 @@ use Rattle.bale_cli.specs.Orders.{order_status, order_text}
 abbrev pub made_for : Bool → Command → Made
 made_for serial c = record { dims = c.grid; cap = c.travel.buffer; slots = c.travel.slots; by_slots = not serial }
 
--- These bytes are an application's answer for a matrix. What doesn't run has none.
+-- These bytes are an application's answer for a matrix. tally, which is asked of lines, has none.
 abbrev pub IsMatrixAnswer : Task → Sparse → List ℕ → Type 0
 IsMatrixAnswer task.Histo m bytes = bytes ≡ histo_lines m.entries m.cols
 IsMatrixAnswer task.Ig m bytes = bytes ≡ ig_lines m.entries
@@ -100,7 +100,7 @@ TellsTask t (subject.Lines lines) made manner rounds = Tells (mail_rules tally_r
 abbrev pub WithinTurns : {S : Type 0} → Rules S → List S → Manner → List ℕ → ℕ → ℕ → Type 0
 WithinTurns R starts manner dims before after = (n : ℕ) → HasRounds R starts n → after ≤ before + turns_within R manner dims starts n
 
--- The turns of the application's run for this matrix are bounded before it. What doesn't run makes none.
+-- The turns of the application's run for this matrix are bounded before it. tally makes none.
 abbrev pub TurnsOfMatrix : Task → Sparse → Manner → List ℕ → ℕ → ℕ → Type 0
 TurnsOfMatrix task.Histo m manner dims before after = WithinTurns histo_rules (histo_starts (ranks dims) m) manner dims before after
 TurnsOfMatrix task.Ig m manner dims before after = WithinTurns ig_rules (ig_starts (ranks dims) m) manner dims before after

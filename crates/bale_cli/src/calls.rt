@@ -3,13 +3,14 @@ ghost use Rattle.std.specs.Prelude.{◌≡◌, ◌≢◌, ◌⊎◌, ◌≤◌, 
 ghost use Rattle.bale_types.specs.Stream.{after, HasCause, IsFront, Rose};
 ghost use Rattle.bale_words.specs.declared.command.Command.{Command};
 ghost use Rattle.bale_words.specs.Ranges.{InRanges};
+ghost use Rattle.bale_words.specs.Words.{command_of};
 ghost use Rattle.bale_cli.specs.Answer.{serial_answer, said, refusal_text, status_of, reads, Asked, Told, Wrote};
-ghost use Rattle.bale_cli.specs.Jobs.{as_asked, job_of, manner_for, on_one_thread, runs};
+ghost use Rattle.bale_cli.specs.Asking.{TellsCommand, TurnsOfCommand};
+ghost use Rattle.bale_cli.specs.Jobs.{as_asked, on_one_thread};
 ghost use Rattle.bale_cli.specs.Outcomes.{Answered};
-ghost use Rattle.bale_cli.specs.Tasks.{made_for, TellsTask, TurnsOfTask};
 
 use crate::exchange::{Finish, drives_serially, ran, ran_serially};
-use crate::job::{read_job, subject_for};
+use crate::job::{read_words, subject_for};
 use crate::refusal::{Refusal, report};
 use crate::subject::Subject;
 use bale_types::{Sink, Source};
@@ -25,7 +26,7 @@ use std::thread::Threads;
 pub struct Outcome {
     /// 0, or 1 where topo finds no order, or the status of the refusal: 2 usage, 3 read fault, 4 write fault, 5 a text that isn't what was asked of, 6 unfit, 7 no memory
     pub status: u8,
-    /// What was exchanged: one closed round where an answer was written or its writing failed, else none.
+    /// What was exchanged, where an answer was written or its writing failed: one closed round, or three for ig over biconvey; else none.
     pub rounds: Rounds,
 }
 
@@ -45,39 +46,40 @@ pub fn run<R: Threads + Wait + Sync, S: Source, K: Sink, E: Sink, G: Gate + Sync
     gate: &G,
 ) -> Outcome
     // The status is the serial answer's; a fault has its cause outside, and want of memory is free.
-    ensures usage { result.status ≡ 2 → job_of as_asked (map string_bytes words.now) ≡ None }
-    ensures no_command { job_of as_asked (map string_bytes words.now) ≡ None → result.status ≢ 7 → result.status ≡ 2 }
-    ensures status { (text : List ℕ) → Told (job_of as_asked (map string_bytes words.now)) (S.left source.old) text → result.status ≢ 3 → result.status ≢ 4 → result.status ≢ 7 →
+    ensures usage { result.status ≡ 2 → command_of (map string_bytes words.now) ≡ None }
+    ensures no_command { command_of (map string_bytes words.now) ≡ None → result.status ≢ 7 → result.status ≡ 2 }
+    ensures status { (text : List ℕ) → Told (command_of (map string_bytes words.now)) (S.left source.old) text → result.status ≢ 3 → result.status ≢ 4 → result.status ≢ 7 →
         result.status ≡ (serial_answer as_asked (map string_bytes words.now) text).status }
     ensures read_fault { result.status ≡ 3 → Rose (S.faults source.old) (S.faults source.new) }
     ensures write_fault { result.status ≡ 4 → Rose (K.faults out.old) (K.faults out.new) }
 
     // No byte is read where the matrix is generated, nor at 2; at 0, 1, 4, 5 and 6 the text was read whole, or to one byte past its limit.
-    ensures unread { reads (job_of as_asked (map string_bytes words.now)) ≡ false → S.left source.new ≡ S.left source.old }
-    ensures read_whole { (text : List ℕ) → S.left source.old ≡ Some text → reads (job_of as_asked (map string_bytes words.now)) ≡ true →
+    ensures unread { reads (command_of (map string_bytes words.now)) ≡ false → S.left source.new ≡ S.left source.old }
+    ensures read_whole { (text : List ℕ) → S.left source.old ≡ Some text → reads (command_of (map string_bytes words.now)) ≡ true →
         result.status ≢ 3 → result.status ≢ 7 → S.left source.new ≡ Some (drop 16_777_217 text) }
 
     // At 0 and 1 out has taken the answer, at 4 a front of it, and else nothing; what it held stays, so at 4 it has what it held and then a front
     // of the answer.
-    ensures answer { (text : List ℕ) → Told (job_of as_asked (map string_bytes words.now)) (S.left source.old) text → (result.status ≡ 0) ⊎ (result.status ≡ 1) →
-        Wrote as_asked (job_of as_asked (map string_bytes words.now)) text (λ bytes. K.taken out.new ≡ after (K.taken out.old) bytes) }
-    ensures front { (text : List ℕ) → Told (job_of as_asked (map string_bytes words.now)) (S.left source.old) text → result.status ≡ 4 →
-        Wrote as_asked (job_of as_asked (map string_bytes words.now)) text (λ bytes. IsFront (K.taken out.new) (after (K.taken out.old) bytes)) }
+    ensures answer { (text : List ℕ) → Told (command_of (map string_bytes words.now)) (S.left source.old) text → (result.status ≡ 0) ⊎ (result.status ≡ 1) →
+        Wrote as_asked (command_of (map string_bytes words.now)) text (λ bytes. K.taken out.new ≡ after (K.taken out.old) bytes) }
+    ensures front { (text : List ℕ) → Told (command_of (map string_bytes words.now)) (S.left source.old) text → result.status ≡ 4 →
+        Wrote as_asked (command_of (map string_bytes words.now)) text (λ bytes. IsFront (K.taken out.new) (after (K.taken out.old) bytes)) }
     ensures held { IsFront (K.taken out.old) (K.taken out.new) }
     ensures no_answer { result.status ≢ 0 → result.status ≢ 1 → result.status ≢ 4 → K.taken out.new ≡ K.taken out.old }
 
     // What is said on err is whole unless its own faults rose; the text matters at 5 and 6 alone.
-    ensures said { (text : List ℕ) → ((result.status ≡ 5) ⊎ (result.status ≡ 6) → Told (job_of as_asked (map string_bytes words.now)) (S.left source.old) text) → ¬ Rose (E.faults err.old) (E.faults err.new) →
+    ensures said { (text : List ℕ) → ((result.status ≡ 5) ⊎ (result.status ≡ 6) → Told (command_of (map string_bytes words.now)) (S.left source.old) text) → ¬ Rose (E.faults err.old) (E.faults err.new) →
         E.taken err.new ≡ after (E.taken err.old) (said result.status (serial_answer as_asked (map string_bytes words.now) text)) }
-    ensures said_front { (text : List ℕ) → ((result.status ≡ 5) ⊎ (result.status ≡ 6) → Told (job_of as_asked (map string_bytes words.now)) (S.left source.old) text) →
+    ensures said_front { (text : List ℕ) → ((result.status ≡ 5) ⊎ (result.status ≡ 6) → Told (command_of (map string_bytes words.now)) (S.left source.old) text) →
         IsFront (E.taken err.new) (after (E.taken err.old) (said result.status (serial_answer as_asked (map string_bytes words.now) text))) }
     ensures said_held { IsFront (E.taken err.old) (E.taken err.new) }
     ensures silent { (result.status ≡ 0) ⊎ (result.status ≡ 1) → E.taken err.new ≡ E.taken err.old }
 
-    // At 0, 1 and 4 the rounds tell the canonical run of the application's programs for its matrix or lines, over a bank of
-    // the grid, the capacity and the slots that the words name: a plain one for one thread, else one of slots; else there are none.
-    ensures rounds { (text : List ℕ) (c : Command) (s : Subject) → Asked as_asked (S.left source.old) (job_of as_asked (map string_bytes words.now)) text c s → (result.status ≡ 0) ⊎ (result.status ≡ 1) ⊎ (result.status ≡ 4) →
-        TellsTask c.task s (made_for (as_asked c) c) (manner_for c) result.rounds }
+    // At 0, 1 and 4 the rounds tell the canonical run of the application's programs for its matrix or lines, and for ig over biconvey that
+    // of the sums and then the queries and the replies, over banks of the grid, the capacity and the slots that the words name: plain
+    // ones for one thread, else ones of slots; else there are none.
+    ensures rounds { (text : List ℕ) (c : Command) (s : Subject) → Asked as_asked (S.left source.old) (command_of (map string_bytes words.now)) text c s → (result.status ≡ 0) ⊎ (result.status ≡ 1) ⊎ (result.status ≡ 4) →
+        TellsCommand (as_asked c) c s result.rounds }
     ensures no_rounds { result.status ≢ 0 → result.status ≢ 1 → result.status ≢ 4 → result.rounds ≡ [] }
 {
     let answered = answer(rt, alloc, words, source, out, gate);
@@ -99,44 +101,45 @@ pub fn run_serial<S: Source, K: Sink, E: Sink, L: Ledger>(
     steps: &mut Steps<L>,
 ) -> Outcome
     // The status is the serial answer's; a fault has its cause outside, and want of memory is free.
-    ensures usage { result.status ≡ 2 → job_of on_one_thread (map string_bytes words.now) ≡ None }
-    ensures no_command { job_of on_one_thread (map string_bytes words.now) ≡ None → result.status ≢ 7 → result.status ≡ 2 }
-    ensures status { (text : List ℕ) → Told (job_of on_one_thread (map string_bytes words.now)) (S.left source.old) text → result.status ≢ 3 → result.status ≢ 4 → result.status ≢ 7 →
+    ensures usage { result.status ≡ 2 → command_of (map string_bytes words.now) ≡ None }
+    ensures no_command { command_of (map string_bytes words.now) ≡ None → result.status ≢ 7 → result.status ≡ 2 }
+    ensures status { (text : List ℕ) → Told (command_of (map string_bytes words.now)) (S.left source.old) text → result.status ≢ 3 → result.status ≢ 4 → result.status ≢ 7 →
         result.status ≡ (serial_answer on_one_thread (map string_bytes words.now) text).status }
     ensures read_fault { result.status ≡ 3 → Rose (S.faults source.old) (S.faults source.new) }
     ensures write_fault { result.status ≡ 4 → Rose (K.faults out.old) (K.faults out.new) }
 
     // No byte is read where the matrix is generated, nor at 2; at 0, 1, 4, 5 and 6 the text was read whole, or to one byte past its limit.
-    ensures unread { reads (job_of on_one_thread (map string_bytes words.now)) ≡ false → S.left source.new ≡ S.left source.old }
-    ensures read_whole { (text : List ℕ) → S.left source.old ≡ Some text → reads (job_of on_one_thread (map string_bytes words.now)) ≡ true →
+    ensures unread { reads (command_of (map string_bytes words.now)) ≡ false → S.left source.new ≡ S.left source.old }
+    ensures read_whole { (text : List ℕ) → S.left source.old ≡ Some text → reads (command_of (map string_bytes words.now)) ≡ true →
         result.status ≢ 3 → result.status ≢ 7 → S.left source.new ≡ Some (drop 16_777_217 text) }
 
     // At 0 and 1 out has taken the answer, at 4 a front of it, and else nothing; what it held stays, so at 4 it has what it held and then a front
     // of the answer.
-    ensures answer { (text : List ℕ) → Told (job_of on_one_thread (map string_bytes words.now)) (S.left source.old) text → (result.status ≡ 0) ⊎ (result.status ≡ 1) →
-        Wrote on_one_thread (job_of on_one_thread (map string_bytes words.now)) text (λ bytes. K.taken out.new ≡ after (K.taken out.old) bytes) }
-    ensures front { (text : List ℕ) → Told (job_of on_one_thread (map string_bytes words.now)) (S.left source.old) text → result.status ≡ 4 →
-        Wrote on_one_thread (job_of on_one_thread (map string_bytes words.now)) text (λ bytes. IsFront (K.taken out.new) (after (K.taken out.old) bytes)) }
+    ensures answer { (text : List ℕ) → Told (command_of (map string_bytes words.now)) (S.left source.old) text → (result.status ≡ 0) ⊎ (result.status ≡ 1) →
+        Wrote on_one_thread (command_of (map string_bytes words.now)) text (λ bytes. K.taken out.new ≡ after (K.taken out.old) bytes) }
+    ensures front { (text : List ℕ) → Told (command_of (map string_bytes words.now)) (S.left source.old) text → result.status ≡ 4 →
+        Wrote on_one_thread (command_of (map string_bytes words.now)) text (λ bytes. IsFront (K.taken out.new) (after (K.taken out.old) bytes)) }
     ensures held { IsFront (K.taken out.old) (K.taken out.new) }
     ensures no_answer { result.status ≢ 0 → result.status ≢ 1 → result.status ≢ 4 → K.taken out.new ≡ K.taken out.old }
 
     // What is said on err is whole unless its own faults rose; the text matters at 5 and 6 alone.
-    ensures said { (text : List ℕ) → ((result.status ≡ 5) ⊎ (result.status ≡ 6) → Told (job_of on_one_thread (map string_bytes words.now)) (S.left source.old) text) → ¬ Rose (E.faults err.old) (E.faults err.new) →
+    ensures said { (text : List ℕ) → ((result.status ≡ 5) ⊎ (result.status ≡ 6) → Told (command_of (map string_bytes words.now)) (S.left source.old) text) → ¬ Rose (E.faults err.old) (E.faults err.new) →
         E.taken err.new ≡ after (E.taken err.old) (said result.status (serial_answer on_one_thread (map string_bytes words.now) text)) }
-    ensures said_front { (text : List ℕ) → ((result.status ≡ 5) ⊎ (result.status ≡ 6) → Told (job_of on_one_thread (map string_bytes words.now)) (S.left source.old) text) →
+    ensures said_front { (text : List ℕ) → ((result.status ≡ 5) ⊎ (result.status ≡ 6) → Told (command_of (map string_bytes words.now)) (S.left source.old) text) →
         IsFront (E.taken err.new) (after (E.taken err.old) (said result.status (serial_answer on_one_thread (map string_bytes words.now) text))) }
     ensures said_held { IsFront (E.taken err.old) (E.taken err.new) }
     ensures silent { (result.status ≡ 0) ⊎ (result.status ≡ 1) → E.taken err.new ≡ E.taken err.old }
 
-    // At 0, 1 and 4 the rounds tell the canonical run of the application's programs for its matrix or lines, over a bank of
-    // the grid, the capacity and the slots that the words name: a plain one; else there are none.
-    ensures rounds { (text : List ℕ) (c : Command) (s : Subject) → Asked on_one_thread (S.left source.old) (job_of on_one_thread (map string_bytes words.now)) text c s → (result.status ≡ 0) ⊎ (result.status ≡ 1) ⊎ (result.status ≡ 4) →
-        TellsTask c.task s (made_for true c) (manner_for c) result.rounds }
+    // At 0, 1 and 4 the rounds tell the canonical run of the application's programs for its matrix or lines, and for ig over biconvey that
+    // of the sums and then the queries and the replies, over plain banks of the grid, the capacity and the slots that the words name; else
+    // there are none.
+    ensures rounds { (text : List ℕ) (c : Command) (s : Subject) → Asked on_one_thread (S.left source.old) (command_of (map string_bytes words.now)) text c s → (result.status ≡ 0) ⊎ (result.status ≡ 1) ⊎ (result.status ≡ 4) →
+        TellsCommand true c s result.rounds }
     ensures no_rounds { result.status ≢ 0 → result.status ≢ 1 → result.status ≢ 4 → result.rounds ≡ [] }
 
     // The turns are bounded by the words and the matrix or lines, at 7 too; a refusal makes none.
-    ensures steps { (text : List ℕ) (c : Command) (s : Subject) → Asked on_one_thread (S.left source.old) (job_of on_one_thread (map string_bytes words.now)) text c s →
-        TurnsOfTask c.task s (manner_for c) c.grid steps.old steps.new }
+    ensures steps { (text : List ℕ) (c : Command) (s : Subject) → Asked on_one_thread (S.left source.old) (command_of (map string_bytes words.now)) text c s →
+        TurnsOfCommand c s steps.old steps.new }
     ensures no_turns { result.status ≢ 0 → result.status ≢ 1 → result.status ≢ 4 → result.status ≢ 7 → steps.new ≡ steps.old }
 {
     let answered = answer_serially(alloc, words, source, out, steps);
@@ -187,10 +190,10 @@ fn answer<R: Threads + Wait + Sync, S: Source, K: Sink, G: Gate + Sync>(
     gate: &G,
 ) -> Result<Finish, Refusal>
     ensures low { IfOk result (λ f. f.status ≤ 1) }
-    ensures answered { Answered as_asked (job_of as_asked (map string_bytes words.now)) (S.left source.old) (S.left source.new) (Rose (S.faults source.old) (S.faults source.new))
+    ensures answered { Answered as_asked (command_of (map string_bytes words.now)) (S.left source.old) (S.left source.new) (Rose (S.faults source.old) (S.faults source.new))
         (K.taken out.old) (K.taken out.new) (Rose (K.faults out.old) (K.faults out.new)) result }
 {
-    match read_job(alloc, words, false) {
+    match read_words(alloc, words) {
         Ok(command) => answer_of(rt, alloc, &command, source, out, gate),
         Err(refusal) => Err(refusal),
     }
@@ -205,7 +208,6 @@ fn answer_of<R: Threads + Wait + Sync, S: Source, K: Sink, G: Gate + Sync>(
     out: &mut K,
     gate: &G,
 ) -> Result<Finish, Refusal>
-    requires runs { runs (as_asked command.now) command.now ≡ true }
     requires ranges { InRanges command.now }
     ensures low { IfOk result (λ f. f.status ≤ 1) }
     ensures answered { Answered as_asked (Some command.now) (S.left source.old) (S.left source.new) (Rose (S.faults source.old) (S.faults source.new))
@@ -227,13 +229,13 @@ fn answer_serially<S: Source, K: Sink, L: Ledger>(
     steps: &mut Steps<L>,
 ) -> Result<Finish, Refusal>
     ensures low { IfOk result (λ f. f.status ≤ 1) }
-    ensures answered { Answered on_one_thread (job_of on_one_thread (map string_bytes words.now)) (S.left source.old) (S.left source.new) (Rose (S.faults source.old) (S.faults source.new))
+    ensures answered { Answered on_one_thread (command_of (map string_bytes words.now)) (S.left source.old) (S.left source.new) (Rose (S.faults source.old) (S.faults source.new))
         (K.taken out.old) (K.taken out.new) (Rose (K.faults out.old) (K.faults out.new)) result }
-    ensures steps { (text : List ℕ) (c : Command) (s : Subject) → Asked on_one_thread (S.left source.old) (job_of on_one_thread (map string_bytes words.now)) text c s →
-        TurnsOfTask c.task s (manner_for c) c.grid steps.old steps.new }
+    ensures steps { (text : List ℕ) (c : Command) (s : Subject) → Asked on_one_thread (S.left source.old) (command_of (map string_bytes words.now)) text c s →
+        TurnsOfCommand c s steps.old steps.new }
     ensures no_turns { IfErr result (λ r. r ≢ Refusal.NoMemory → steps.new ≡ steps.old) }
 {
-    match read_job(alloc, words, true) {
+    match read_words(alloc, words) {
         Ok(command) => answer_of_serially(alloc, &command, source, out, steps),
         Err(refusal) => Err(refusal),
     }
@@ -246,13 +248,12 @@ fn answer_of_serially<S: Source, K: Sink, L: Ledger>(
     out: &mut K,
     steps: &mut Steps<L>,
 ) -> Result<Finish, Refusal>
-    requires runs { runs true command.now ≡ true }
     requires ranges { InRanges command.now }
     ensures low { IfOk result (λ f. f.status ≤ 1) }
     ensures answered { Answered on_one_thread (Some command.now) (S.left source.old) (S.left source.new) (Rose (S.faults source.old) (S.faults source.new))
         (K.taken out.old) (K.taken out.new) (Rose (K.faults out.old) (K.faults out.new)) result }
     ensures steps { (text : List ℕ) (c : Command) (s : Subject) → Asked on_one_thread (S.left source.old) (Some command.now) text c s →
-        TurnsOfTask c.task s (manner_for c) c.grid steps.old steps.new }
+        TurnsOfCommand c s steps.old steps.new }
     ensures no_turns { IfErr result (λ r. r ≢ Refusal.NoMemory → steps.new ≡ steps.old) }
 {
     match subject_for(alloc, command, source, true) {

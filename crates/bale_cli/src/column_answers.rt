@@ -8,8 +8,10 @@ ghost use Rattle.app_histo_ig.specs.Igs.{ig_rules};
 ghost use Rattle.app_histo_ig.specs.IgRuns.{ig_starts, IgEnded};
 ghost use Rattle.bale_cli.specs.Serving.{ServesHisto, ServesIg};
 
-use crate::application::Application;
-use app_histo_ig::{Histo, Ig, histo_start, histo_write, ig_start, ig_write};
+use crate::application::{Application, Written};
+use app_histo_ig::{
+    Histo, Ig, IgAsker, histo_start, histo_write, ig_heard_write, ig_start, ig_write,
+};
 use bale_types::{Failed, NoMemory, Out, Sink};
 use bale_words::Task;
 use mtx_text::Matrix;
@@ -19,13 +21,11 @@ use std::alloc::Global;
 /// How many entries each column has.
 pub(crate) struct HistoAnswer;
 
-impl Application for HistoAnswer {
+impl Written for HistoAnswer {
     ghost use Rattle.bale_cli.specs.declared.subject.Subject.TheVariants as subject;
     ghost use Rattle.bale_cli.specs.Serving.{ServesHisto};
 
     type Of = Matrix;
-
-    type Prog = Histo;
 
     type Answer = Progs<Histo>;
 
@@ -33,9 +33,26 @@ impl Application for HistoAnswer {
 
     ghost serves = { ServesHisto };
 
-    ghost starts = { λ _. histo_starts };
-
     ghost answers = { λ _ m ps. HistoEnded m ps };
+
+    fn status(task: &Task, answer: &Progs<Histo>, m: &Matrix) -> u8 {
+        0
+    }
+
+    fn write<K: Sink>(
+        task: &Task,
+        answer: &Progs<Histo>,
+        m: &Matrix,
+        out: &mut Out<'_, K>,
+    ) -> Result<(), Failed> {
+        histo_write(answer, out)
+    }
+}
+
+impl Application for HistoAnswer {
+    type Prog = Histo;
+
+    ghost starts = { λ _. histo_starts };
 
     fn start(alloc: Global, task: &Task, m: &Matrix, ranks: u32) -> Result<Progs<Histo>, NoMemory> {
         histo_start(alloc, m, ranks)
@@ -54,31 +71,16 @@ impl Application for HistoAnswer {
         let _sparse = m.entries();
         Ok(progs)
     }
-
-    fn status(task: &Task, answer: &Progs<Histo>, m: &Matrix) -> u8 {
-        0
-    }
-
-    fn write<K: Sink>(
-        task: &Task,
-        answer: &Progs<Histo>,
-        m: &Matrix,
-        out: &mut Out<'_, K>,
-    ) -> Result<(), Failed> {
-        histo_write(answer, out)
-    }
 }
 
 /// For each entry the sum of its column.
 pub(crate) struct IgAnswer;
 
-impl Application for IgAnswer {
+impl Written for IgAnswer {
     ghost use Rattle.bale_cli.specs.declared.subject.Subject.TheVariants as subject;
     ghost use Rattle.bale_cli.specs.Serving.{ServesIg};
 
     type Of = Matrix;
-
-    type Prog = Ig;
 
     type Answer = Progs<Ig>;
 
@@ -86,9 +88,26 @@ impl Application for IgAnswer {
 
     ghost serves = { ServesIg };
 
-    ghost starts = { λ _. ig_starts };
-
     ghost answers = { λ _ m ps. IgEnded m ps };
+
+    fn status(task: &Task, answer: &Progs<Ig>, m: &Matrix) -> u8 {
+        0
+    }
+
+    fn write<K: Sink>(
+        task: &Task,
+        answer: &Progs<Ig>,
+        m: &Matrix,
+        out: &mut Out<'_, K>,
+    ) -> Result<(), Failed> {
+        ig_write(answer, m, out)
+    }
+}
+
+impl Application for IgAnswer {
+    type Prog = Ig;
+
+    ghost starts = { λ _. ig_starts };
 
     fn start(alloc: Global, task: &Task, m: &Matrix, ranks: u32) -> Result<Progs<Ig>, NoMemory> {
         ig_start(alloc, m, ranks)
@@ -102,17 +121,36 @@ impl Application for IgAnswer {
         let _sparse = m.entries();
         Ok(progs)
     }
+}
 
-    fn status(task: &Task, answer: &Progs<Ig>, m: &Matrix) -> u8 {
+/// The same, by ranks that asked one another.
+pub(crate) struct IgHeardAnswer;
+
+impl Written for IgHeardAnswer {
+    ghost use Rattle.app_histo_ig.specs.ColumnAnswers.{IgHeard};
+    ghost use Rattle.bale_cli.specs.declared.subject.Subject.TheVariants as subject;
+    ghost use Rattle.bale_cli.specs.Serving.{ServesIg};
+
+    type Of = Matrix;
+
+    type Answer = Progs<IgAsker>;
+
+    ghost as_subject = { λ m. subject.Matrix m };
+
+    ghost serves = { ServesIg };
+
+    ghost answers = { λ _ m askers. IgHeard m askers };
+
+    fn status(task: &Task, answer: &Progs<IgAsker>, m: &Matrix) -> u8 {
         0
     }
 
     fn write<K: Sink>(
         task: &Task,
-        answer: &Progs<Ig>,
+        answer: &Progs<IgAsker>,
         m: &Matrix,
         out: &mut Out<'_, K>,
     ) -> Result<(), Failed> {
-        ig_write(answer, m, out)
+        ig_heard_write(answer, m, out)
     }
 }

@@ -4,13 +4,15 @@ ghost use Rattle.bale_types.specs.Stream.{HasCause, IsFront};
 ghost use Rattle.round_program.specs.Canonical.{HaveEnded};
 ghost use Rattle.app_cases.specs.Any.{any_rules};
 ghost use Rattle.bale_words.specs.Ranges.{InRanges};
-ghost use Rattle.bale_cli.specs.Jobs.{as_asked, runs, via_of, manner_for};
+ghost use Rattle.bale_cli.specs.Asking.{TellsCommand, TurnsOfCommand};
+ghost use Rattle.bale_cli.specs.Jobs.{as_asked, by_asking, via_of, manner_for};
 ghost use Rattle.bale_cli.specs.Answer.{HasWritten, shown};
 ghost use Rattle.bale_cli.specs.Fitness.{unfitness};
 ghost use Rattle.bale_cli.specs.Starts.{starts_of};
 ghost use Rattle.bale_cli.specs.Subjects.{suits};
 ghost use Rattle.bale_cli.specs.Tasks.{IsAnswer, task_status, made_for, TellsTask, TurnsOfTask};
 
+use crate::asking::{asked_on_threads, asked_serially};
 use crate::finish::{Ending, finished};
 use crate::numberings::in_order;
 use crate::refusal::Refusal;
@@ -18,7 +20,7 @@ use crate::start::started;
 use crate::subject::Subject;
 use app_cases::AnyProgram;
 use bale_types::{Failed, Sink};
-use bale_words::{Command, Driving, Transport, Travel};
+use bale_words::{Command, Driving, Task, Transport, Travel};
 use case_table::{case_serial, case_threads};
 use rank_group::{Finished, Gate, Rounds, Steps, Via};
 use std::alloc::Global;
@@ -43,7 +45,34 @@ pub(crate) fn ran_serially<K: Sink, L: Ledger>(
     out: &mut K,
     steps: &mut Steps<L>,
 ) -> Result<Finish, Refusal>
-    requires runs { runs true command.now ≡ true }
+    requires suits { suits command.now.task subject.now ≡ true }
+    requires ranges { InRanges command.now }
+    requires fits { unfitness command.now subject.now true ≡ None }
+    ensures status { IfOk result (λ f. f.status ≡ task_status command.now.task subject.now) }
+    ensures low { IfOk result (λ f. f.status ≤ 1) }
+    ensures answer { IfOk result (λ f. HasWritten (IsAnswer command.now.task subject.now) (shown command.now.travel.generated) (K.taken out.old) (K.taken out.new) f.written) }
+    ensures cause { IfOk result (λ f. HasCause (K.faults out.old) (K.faults out.new) f.written) }
+    ensures held { IsFront (K.taken out.old) (K.taken out.new) }
+    ensures no_answer { OnErr result (K.taken out.new ≡ K.taken out.old) }
+    ensures memory { IfErr result (λ r. r ≡ Refusal.NoMemory) }
+    ensures rounds { IfOk result (λ f. TellsCommand true command.now subject.now f.rounds) }
+    ensures steps { TurnsOfCommand command.now subject.now steps.old steps.new }
+{
+    if by_asking(command) {
+        asked_serially(alloc, command, subject, out, steps)
+    } else {
+        drove_serially(alloc, command, subject, out, steps)
+    }
+}
+
+/// The same of the rounds of the application's programs.
+fn drove_serially<K: Sink, L: Ledger>(
+    alloc: Global,
+    command: &Command,
+    subject: &Subject,
+    out: &mut K,
+    steps: &mut Steps<L>,
+) -> Result<Finish, Refusal>
     requires suits { suits command.now.task subject.now ≡ true }
     requires ranges { InRanges command.now }
     requires fits { unfitness command.now subject.now true ≡ None }
@@ -90,7 +119,34 @@ fn ran_on_threads<R: Threads + Wait + Sync, K: Sink, G: Gate + Sync>(
     out: &mut K,
     gate: &G,
 ) -> Result<Finish, Refusal>
-    requires runs { runs false command.now ≡ true }
+    requires suits { suits command.now.task subject.now ≡ true }
+    requires ranges { InRanges command.now }
+    requires fits { unfitness command.now subject.now false ≡ None }
+    ensures status { IfOk result (λ f. f.status ≡ task_status command.now.task subject.now) }
+    ensures low { IfOk result (λ f. f.status ≤ 1) }
+    ensures answer { IfOk result (λ f. HasWritten (IsAnswer command.now.task subject.now) (shown command.now.travel.generated) (K.taken out.old) (K.taken out.new) f.written) }
+    ensures cause { IfOk result (λ f. HasCause (K.faults out.old) (K.faults out.new) f.written) }
+    ensures held { IsFront (K.taken out.old) (K.taken out.new) }
+    ensures no_answer { OnErr result (K.taken out.new ≡ K.taken out.old) }
+    ensures memory { IfErr result (λ r. r ≡ Refusal.NoMemory) }
+    ensures rounds { IfOk result (λ f. TellsCommand false command.now subject.now f.rounds) }
+{
+    if by_asking(command) {
+        asked_on_threads(rt, alloc, command, subject, out, gate)
+    } else {
+        drove_on_threads(rt, alloc, command, subject, out, gate)
+    }
+}
+
+/// The same of the rounds of the application's programs.
+fn drove_on_threads<R: Threads + Wait + Sync, K: Sink, G: Gate + Sync>(
+    rt: &R,
+    alloc: Global,
+    command: &Command,
+    subject: &Subject,
+    out: &mut K,
+    gate: &G,
+) -> Result<Finish, Refusal>
     requires suits { suits command.now.task subject.now ≡ true }
     requires ranges { InRanges command.now }
     requires fits { unfitness command.now subject.now false ≡ None }
@@ -135,7 +191,6 @@ pub(crate) fn ran<R: Threads + Wait + Sync, K: Sink, G: Gate + Sync>(
     out: &mut K,
     gate: &G,
 ) -> Result<Finish, Refusal>
-    requires runs { runs (as_asked command.now) command.now ≡ true }
     requires suits { suits command.now.task subject.now ≡ true }
     requires ranges { InRanges command.now }
     requires fits { unfitness command.now subject.now (as_asked command.now) ≡ None }
@@ -146,13 +201,20 @@ pub(crate) fn ran<R: Threads + Wait + Sync, K: Sink, G: Gate + Sync>(
     ensures held { IsFront (K.taken out.old) (K.taken out.new) }
     ensures no_answer { OnErr result (K.taken out.new ≡ K.taken out.old) }
     ensures memory { IfErr result (λ r. r ≡ Refusal.NoMemory) }
-    ensures rounds { IfOk result (λ f. TellsTask command.now.task subject.now (made_for (as_asked command.now) command.now) (manner_for command.now) f.rounds) }
+    ensures rounds { IfOk result (λ f. TellsCommand (as_asked command.now) command.now subject.now f.rounds) }
 {
     if drives_serially(command) {
         ran_uncounted::<Brand, K>(alloc, command, subject, out, Blank::new(1))
     } else {
         ran_on_threads(rt, alloc, command, subject, out, gate)
     }
+}
+
+/// Whether the command goes by queries and replies.
+fn by_asking(command: &Command) -> bool
+    ensures { result ≡ by_asking command.now }
+{
+    matches!(command.travel.transport, Transport::Biconvey) && matches!(command.task, Task::Ig)
 }
 
 /// Whether the words ask for one thread.
@@ -183,7 +245,6 @@ fn ran_uncounted<L: Ledger, K: Sink>(
     requires name { blank.name ≡ L.name }
     requires parts { blank.parts ≡ L.parts }
     requires some { 0 < L.parts }
-    requires runs { runs true command.now ≡ true }
     requires suits { suits command.now.task subject.now ≡ true }
     requires ranges { InRanges command.now }
     requires fits { unfitness command.now subject.now true ≡ None }
@@ -194,7 +255,7 @@ fn ran_uncounted<L: Ledger, K: Sink>(
     ensures held { IsFront (K.taken out.old) (K.taken out.new) }
     ensures no_answer { OnErr result (K.taken out.new ≡ K.taken out.old) }
     ensures memory { IfErr result (λ r. r ≡ Refusal.NoMemory) }
-    ensures rounds { IfOk result (λ f. TellsTask command.now.task subject.now (made_for true command.now) (manner_for command.now) f.rounds) }
+    ensures rounds { IfOk result (λ f. TellsCommand true command.now subject.now f.rounds) }
 {
     let mut steps = Steps::<L>::new(blank);
     ran_serially(alloc, command, subject, out, &mut steps)
@@ -208,7 +269,6 @@ fn told<K: Sink>(
     run: Finished<AnyProgram>,
     out: &mut K,
 ) -> Result<Finish, Refusal>
-    requires runs { (serial : Bool) × (runs serial command.now ≡ true) }
     requires suits { suits command.now.task subject.now ≡ true }
     requires ranges { InRanges command.now }
     requires fits { (serial : Bool) × (unfitness command.now subject.now serial ≡ None) }

@@ -87,3 +87,27 @@ fn faults_of_a_run_on_threads(rt: HostRuntime) -> Result<(), Fail> {
     );
     Ok(())
 }
+
+#[test]
+fn faults_of_ig_over_biconvey(rt: HostRuntime) -> Result<(), Fail> {
+    let words = "ig --via biconvey --grid 2x2 --buffer 1";
+    let mut source = MemSource::new(rt.alloc(), ONE, 10, &[9])?;
+    let mut out = MemSink::new(rt.alloc(), 100, 100, &[])?;
+    assert_eq!(rt;
+        told_alone(rt.alloc(), words, &mut source, &mut out)?.as_str(),
+        "3 bale: read fault\n"
+    );
+    let mut source = MemSource::new(rt.alloc(), ONE, 65_536, &[])?;
+    let mut out = MemSink::new(rt.alloc(), 100, 7, &[2])?;
+    assert_eq!(rt;
+        told_alone(rt.alloc(), words, &mut source, &mut out)?.as_str(),
+        "4 1 1 1\n1bale: write fault\n"
+    );
+    let mut source = MemSource::new(rt.alloc(), ONE, 65_536, &[])?;
+    let mut out = MemSink::new(rt.alloc(), 100, 7, &[2])?;
+    assert_eq!(rt;
+        told_as_asked(&rt, rt.alloc(), words, &mut source, &mut out)?.as_str(),
+        "4 1 1 1\n1bale: write fault\n"
+    );
+    Ok(())
+}

@@ -14,7 +14,7 @@ ghost use Rattle.bale_cli.specs.Subjects.{is_tally, suits};
 ghost use Rattle.bale_cli.specs.Summary.{summary_of};
 ghost use Rattle.bale_cli.specs.Tasks.{IsAnswer, IsMatrixAnswer, matrix_status, task_status};
 
-use crate::application::Application;
+use crate::application::{Application, Written};
 use crate::column_answers::{HistoAnswer, IgAnswer};
 use crate::counter::Counter;
 use crate::line_answer::TallyAnswer;
@@ -123,16 +123,35 @@ fn finished_as<A: Application, K: Sink>(
 {
     let progs = take_all(alloc, progs)?;
     let answer = A::end(alloc, task, of, progs)?;
-    let status = A::status(task, &answer, of);
+    Ok(written_as::<A, K>(task, of, &answer, generated, out))
+}
+
+/// Writes an answer: its bytes, or their summary where the matrix was generated. No memory is taken.
+pub(crate) fn written_as<A: Written, K: Sink>(
+    task: &Task,
+    of: &A::Of,
+    answer: &A::Answer,
+    generated: Option<Generated>,
+    out: &mut K,
+) -> Ending
+    requires serves { A.serves task.now of.now }
+    requires answers { A.answers task.now of.now answer.now }
+    ensures status { result.status ≡ task_status task.now (A.as_subject of.now) }
+    ensures low { result.status ≤ 1 }
+    ensures answer { HasWritten (IsAnswer task.now (A.as_subject of.now)) (shown generated) (K.taken out.old) (K.taken out.new) result.written }
+    ensures cause { HasCause (K.faults out.old) (K.faults out.new) result.written }
+    ensures held { IsFront (K.taken out.old) (K.taken out.new) }
+{
+    let status = A::status(task, answer, of);
     let written = match generated {
-        None => write_answer::<A, K>(task, &answer, of, out),
-        Some(_) => write_summary::<A, K>(task, &answer, of, out),
+        None => write_answer::<A, K>(task, answer, of, out),
+        Some(_) => write_summary::<A, K>(task, answer, of, out),
     };
-    Ok(Ending { status, written })
+    Ending { status, written }
 }
 
 /// Writes the answer through a buffer.
-fn write_answer<A: Application, K: Sink>(
+fn write_answer<A: Written, K: Sink>(
     task: &Task,
     answer: &A::Answer,
     of: &A::Of,
@@ -148,7 +167,7 @@ fn write_answer<A: Application, K: Sink>(
     write_all::<A, K>(task, answer, of, &mut out)
 }
 
-fn write_all<A: Application, K: Sink>(
+fn write_all<A: Written, K: Sink>(
     task: &Task,
     answer: &A::Answer,
     of: &A::Of,
@@ -166,7 +185,7 @@ fn write_all<A: Application, K: Sink>(
 }
 
 /// Counts the bytes of the answer, and writes the line of their summary.
-fn write_summary<A: Application, K: Sink>(
+fn write_summary<A: Written, K: Sink>(
     task: &Task,
     answer: &A::Answer,
     of: &A::Of,

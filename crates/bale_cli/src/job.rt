@@ -1,72 +1,36 @@
-//! What the program can run, of what words can ask for, and what it is asked of.
+//! The command of words, and what it is asked of.
 
 ghost use Rattle.std.specs.Prelude.{◌≡◌, ◌≢◌, ◌⊎◌, ℕ, true, false, is_some, List, map, drop, string_bytes, Some, None, OnOk, IfOk, IfErr, Ok, Err};
 ghost use Rattle.bale_types.specs.Stream.{Rose};
 ghost use Rattle.mtx_text.specs.Generated.{generated};
 ghost use Rattle.app_tally.specs.Texts.{lines_of_text};
 ghost use Rattle.bale_words.specs.Ranges.{InRanges, MayGenerate};
+ghost use Rattle.bale_words.specs.Words.{command_of};
 ghost use Rattle.bale_cli.specs.Answer.{IsOfText, TellsText, Told, reads};
 ghost use Rattle.bale_cli.specs.Fitness.{unfitness};
-ghost use Rattle.bale_cli.specs.Jobs.{drives, job_of, runs, carries};
 ghost use Rattle.bale_cli.specs.Reading.{IsOfReading, IsRead, OnText};
 ghost use Rattle.bale_cli.specs.Subjects.{is_tally, matrix_asked, of_lines, of_matrix, subject_asked, suits};
 
-use crate::exchange::drives_serially;
 use crate::refusal::Refusal;
 use crate::subject::Subject;
 use crate::unfit::{Unfit, unfitness};
 use app_tally::read_lines;
 use bale_types::{NoMemory, Source};
-use bale_words::{Command, Generated, Task, Transport, WordsFault, read_command};
+use bale_words::{Command, Generated, Task, WordsFault, read_command};
 use mtx_text::{Matrix, gen_matrix, read_matrix};
 use std::alloc::Global;
 
-/// The command that the words give. Words that ask for what the program can't run yet are refused as no command; with
-/// `forced` it is driven on one thread whatever the words say.
-pub(crate) fn read_job(alloc: Global, words: &[String], forced: bool) -> Result<Command, Refusal>
-    ensures job { IfOk result (λ c. job_of (drives forced) (map string_bytes words.now) ≡ Some c) }
-    ensures runs { IfOk result (λ c. runs (drives forced c) c ≡ true) }
+/// The command that the words give.
+pub(crate) fn read_words(alloc: Global, words: &[String]) -> Result<Command, Refusal>
+    ensures command { IfOk result (λ c. command_of (map string_bytes words.now) ≡ Some c) }
     ensures ranges { IfOk result (λ c. InRanges c) }
-    ensures usage { result ≡ Err Refusal.Usage → job_of (drives forced) (map string_bytes words.now) ≡ None }
+    ensures usage { result ≡ Err Refusal.Usage → command_of (map string_bytes words.now) ≡ None }
     ensures kinds { IfErr result (λ r. (r ≡ Refusal.Usage) ⊎ (r ≡ Refusal.NoMemory)) }
 {
     match read_command(alloc, words) {
-        Ok(command) => {
-            if runs(&command, is_serial(&command, forced)) {
-                Ok(command)
-            } else {
-                Err(Refusal::Usage)
-            }
-        }
+        Ok(command) => Ok(command),
         Err(WordsFault::Usage) => Err(Refusal::Usage),
         Err(WordsFault::NoMemory) => Err(Refusal::NoMemory),
-    }
-}
-
-/// Whether a command is driven on one thread.
-fn is_serial(command: &Command, forced: bool) -> bool
-    ensures { result ≡ drives forced command.now }
-{
-    if forced {
-        return true;
-    }
-    drives_serially(command)
-}
-
-/// What runs: each application, over transports that carry them.
-fn runs(command: &Command, serial: bool) -> bool
-    ensures { result ≡ runs serial command.now }
-{
-    carries(command.travel.transport, serial)
-}
-
-fn carries(transport: Transport, serial: bool) -> bool
-    ensures { result ≡ carries serial transport }
-{
-    match transport {
-        Transport::Convey => true,
-        Transport::Exstack => true,
-        Transport::Biconvey => false,
     }
 }
 

@@ -7,12 +7,13 @@
 //! | [`report`] | to say on a sink why a run ended without an answer |
 //!
 //! Read `specs/Answer` first: the serial answer, about the words and the text alone. Then `specs/Subjects` (what a command is asked
-//! of: a matrix, or the lines of the text for tally), `specs/Jobs` (what runs, and how it is driven), `specs/Tasks` (what each
-//! application answers, and which programs' run the rounds tell), `specs/Fitness` and `specs/Numberings` (which matrices an
+//! of: a matrix, or the lines of the text for tally), `specs/Jobs` (how it is driven and carried), `specs/Tasks` (what each
+//! application answers, and which programs' run the rounds tell), `specs/Asking` (the same by queries and replies), `specs/Fitness` and `specs/Numberings` (which matrices an
 //! application has an answer for), `specs/Summary` (the line of `--gen`). The other files of `specs/` are the code's own words.
 #![tactic(auto)]
 
 mod application;
+mod asking;
 mod calls;
 mod column_answers;
 mod counter;

@@ -7,7 +7,7 @@ ghost use Rattle.app_tally.specs.Counts.{tally_of};
 ghost use Rattle.app_tally.specs.Tallies.{tally_rules};
 ghost use Rattle.app_tally.specs.TallyRuns.{tally_starts};
 
-use crate::application::Application;
+use crate::application::{Application, Written};
 use app_tally::{Counts, Lines, TallyMailer, tally_end, tally_start, tally_write};
 use bale_types::{Failed, NoMemory, Out, Sink};
 use bale_words::Task;
@@ -17,15 +17,12 @@ use std::alloc::Global;
 /// How often each distinct line comes.
 pub(crate) struct TallyAnswer;
 
-impl Application for TallyAnswer {
+impl Written for TallyAnswer {
     ghost use Rattle.std.specs.Prelude.{◌≡◌};
     ghost use Rattle.app_tally.specs.Counts.{tally_of};
-    ghost use Rattle.app_tally.specs.TallyRuns.{tally_starts};
     ghost use Rattle.bale_cli.specs.declared.subject.Subject.TheVariants as subject;
 
     type Of = Lines;
-
-    type Prog = TallyMailer;
 
     type Answer = Counts;
 
@@ -33,9 +30,28 @@ impl Application for TallyAnswer {
 
     ghost serves = { λ _ _. Unit {0} };
 
-    ghost starts = { λ _. tally_starts };
-
     ghost answers = { λ _ lines counts. counts ≡ tally_of lines };
+
+    fn status(task: &Task, answer: &Counts, lines: &Lines) -> u8 {
+        0
+    }
+
+    fn write<K: Sink>(
+        task: &Task,
+        answer: &Counts,
+        lines: &Lines,
+        out: &mut Out<'_, K>,
+    ) -> Result<(), Failed> {
+        tally_write(answer, out)
+    }
+}
+
+impl Application for TallyAnswer {
+    ghost use Rattle.app_tally.specs.TallyRuns.{tally_starts};
+
+    type Prog = TallyMailer;
+
+    ghost starts = { λ _. tally_starts };
 
     fn start(
         alloc: Global,
@@ -57,18 +73,5 @@ impl Application for TallyAnswer {
     {
         let _letters = lines.len();
         tally_end(alloc, &progs)
-    }
-
-    fn status(task: &Task, answer: &Counts, lines: &Lines) -> u8 {
-        0
-    }
-
-    fn write<K: Sink>(
-        task: &Task,
-        answer: &Counts,
-        lines: &Lines,
-        out: &mut Out<'_, K>,
-    ) -> Result<(), Failed> {
-        tally_write(answer, out)
     }
 }

@@ -9,7 +9,7 @@ ghost use Rattle.app_permute.specs.Transposes.{transpose_rules};
 ghost use Rattle.app_permute.specs.TransposeRuns.{transpose_starts};
 ghost use Rattle.bale_cli.specs.Serving.{ServesPermute, ServesTranspose, moves_of};
 
-use crate::application::Application;
+use crate::application::{Application, Written};
 use crate::numberings::new_numbers;
 use app_permute::{
     Permute, Transpose, permute_end, permute_start, seed_perms, transpose_end, transpose_start,
@@ -23,16 +23,13 @@ use std::alloc::Global;
 /// The matrix with new numbers for its rows and columns.
 pub(crate) struct PermuteAnswer;
 
-impl Application for PermuteAnswer {
+impl Written for PermuteAnswer {
     ghost use Rattle.std.specs.Prelude.{◌≡◌};
     ghost use Rattle.app_permute.specs.Moved.{permuted};
-    ghost use Rattle.app_permute.specs.PermuteRuns.{permute_starts};
     ghost use Rattle.bale_cli.specs.declared.subject.Subject.TheVariants as subject;
     ghost use Rattle.bale_cli.specs.Serving.{ServesPermute, moves_of};
 
     type Of = Matrix;
-
-    type Prog = Permute;
 
     type Answer = Matrix;
 
@@ -40,9 +37,29 @@ impl Application for PermuteAnswer {
 
     ghost serves = { ServesPermute };
 
-    ghost starts = { λ t ranks m. permute_starts ranks m (moves_of t m).rows (moves_of t m).cols };
-
     ghost answers = { λ t m b. b ≡ permuted (moves_of t m).rows (moves_of t m).cols m };
+
+    fn status(task: &Task, answer: &Matrix, m: &Matrix) -> u8 {
+        0
+    }
+
+    fn write<K: Sink>(
+        task: &Task,
+        answer: &Matrix,
+        m: &Matrix,
+        out: &mut Out<'_, K>,
+    ) -> Result<(), Failed> {
+        write_matrix(answer, out)
+    }
+}
+
+impl Application for PermuteAnswer {
+    ghost use Rattle.app_permute.specs.PermuteRuns.{permute_starts};
+    ghost use Rattle.bale_cli.specs.Serving.{moves_of};
+
+    type Prog = Permute;
+
+    ghost starts = { λ t ranks m. permute_starts ranks m (moves_of t m).rows (moves_of t m).cols };
 
     fn start(
         alloc: Global,
@@ -78,6 +95,26 @@ impl Application for PermuteAnswer {
         let _sparse = m.entries();
         permute_end(alloc, m, &progs)
     }
+}
+
+/// The matrix with rows and columns exchanged.
+pub(crate) struct TransposeAnswer;
+
+impl Written for TransposeAnswer {
+    ghost use Rattle.std.specs.Prelude.{◌≡◌};
+    ghost use Rattle.app_permute.specs.Moved.{transposed};
+    ghost use Rattle.bale_cli.specs.declared.subject.Subject.TheVariants as subject;
+    ghost use Rattle.bale_cli.specs.Serving.{ServesTranspose};
+
+    type Of = Matrix;
+
+    type Answer = Matrix;
+
+    ghost as_subject = { λ m. subject.Matrix m };
+
+    ghost serves = { ServesTranspose };
+
+    ghost answers = { λ _ m b. b ≡ transposed m };
 
     fn status(task: &Task, answer: &Matrix, m: &Matrix) -> u8 {
         0
@@ -93,29 +130,12 @@ impl Application for PermuteAnswer {
     }
 }
 
-/// The matrix with rows and columns exchanged.
-pub(crate) struct TransposeAnswer;
-
 impl Application for TransposeAnswer {
-    ghost use Rattle.std.specs.Prelude.{◌≡◌};
-    ghost use Rattle.app_permute.specs.Moved.{transposed};
     ghost use Rattle.app_permute.specs.TransposeRuns.{transpose_starts};
-    ghost use Rattle.bale_cli.specs.declared.subject.Subject.TheVariants as subject;
-    ghost use Rattle.bale_cli.specs.Serving.{ServesTranspose};
-
-    type Of = Matrix;
 
     type Prog = Transpose;
 
-    type Answer = Matrix;
-
-    ghost as_subject = { λ m. subject.Matrix m };
-
-    ghost serves = { ServesTranspose };
-
     ghost starts = { λ _. transpose_starts };
-
-    ghost answers = { λ _ m b. b ≡ transposed m };
 
     fn start(
         alloc: Global,
@@ -138,18 +158,5 @@ impl Application for TransposeAnswer {
     {
         let _sparse = m.entries();
         transpose_end(alloc, m, &progs)
-    }
-
-    fn status(task: &Task, answer: &Matrix, m: &Matrix) -> u8 {
-        0
-    }
-
-    fn write<K: Sink>(
-        task: &Task,
-        answer: &Matrix,
-        m: &Matrix,
-        out: &mut Out<'_, K>,
-    ) -> Result<(), Failed> {
-        write_matrix(answer, out)
     }
 }

@@ -10,7 +10,7 @@ ghost use Rattle.app_topo.specs.TopoRuns.{topo_starts};
 ghost use Rattle.bale_cli.specs.Orders.{order_text};
 ghost use Rattle.bale_cli.specs.Serving.{ServesTopo};
 
-use crate::application::Application;
+use crate::application::{Application, Written};
 use app_topo::{Topo, TopoOrder, topo_end, topo_start, topo_write};
 use bale_types::{Failed, NoMemory, Out, Sink};
 use bale_words::Task;
@@ -21,16 +21,13 @@ use std::alloc::Global;
 /// An order of rows and columns that makes the matrix upper triangular.
 pub(crate) struct OrderAnswer;
 
-impl Application for OrderAnswer {
+impl Written for OrderAnswer {
     ghost use Rattle.std.specs.Prelude.{◌≡◌};
     ghost use Rattle.app_topo.specs.Levels.{topo_order};
-    ghost use Rattle.app_topo.specs.TopoRuns.{topo_starts};
     ghost use Rattle.bale_cli.specs.declared.subject.Subject.TheVariants as subject;
     ghost use Rattle.bale_cli.specs.Serving.{ServesTopo};
 
     type Of = Matrix;
-
-    type Prog = Topo;
 
     type Answer = Option<TopoOrder>;
 
@@ -38,9 +35,31 @@ impl Application for OrderAnswer {
 
     ghost serves = { ServesTopo };
 
-    ghost starts = { λ _. topo_starts };
-
     ghost answers = { λ _ m o. o ≡ topo_order m.rows m.entries };
+
+    fn status(task: &Task, answer: &Option<TopoOrder>, m: &Matrix) -> u8 {
+        match answer {
+            Some(_) => 0,
+            None => 1,
+        }
+    }
+
+    fn write<K: Sink>(
+        task: &Task,
+        answer: &Option<TopoOrder>,
+        m: &Matrix,
+        out: &mut Out<'_, K>,
+    ) -> Result<(), Failed> {
+        write_order(answer, out)
+    }
+}
+
+impl Application for OrderAnswer {
+    ghost use Rattle.app_topo.specs.TopoRuns.{topo_starts};
+
+    type Prog = Topo;
+
+    ghost starts = { λ _. topo_starts };
 
     fn start(alloc: Global, task: &Task, m: &Matrix, ranks: u32) -> Result<Progs<Topo>, NoMemory> {
         topo_start(alloc, m, ranks)
@@ -58,22 +77,6 @@ impl Application for OrderAnswer {
     {
         let _sparse = m.entries();
         topo_end(alloc, m, &progs)
-    }
-
-    fn status(task: &Task, answer: &Option<TopoOrder>, m: &Matrix) -> u8 {
-        match answer {
-            Some(_) => 0,
-            None => 1,
-        }
-    }
-
-    fn write<K: Sink>(
-        task: &Task,
-        answer: &Option<TopoOrder>,
-        m: &Matrix,
-        out: &mut Out<'_, K>,
-    ) -> Result<(), Failed> {
-        write_order(answer, out)
     }
 }
 

@@ -57,6 +57,10 @@ histo;P0 0 0/;0
 ig --buffer 1;I2 3 2/1 3 -7/2 1 4/;0 1 3 -7/2 1 4/
 ig --grid 2x2;I2 3 2/1 3 -7/2 1 4/;0 1 3 -7/2 1 4/
 ig --grid 4x4;I2 3 2/1 3 -7/2 1 4/;0 1 3 -7/2 1 4/
+ig --via biconvey --buffer 1;I2 3 2/1 3 -7/2 1 4/;0 1 3 -7/2 1 4/
+ig --via biconvey --slots 1 --steady yes;I2 3 3/1 3 -7/2 1 4/2 3 9/;0 1 3 2/2 1 4/2 3 2/
+ig --via biconvey;P0 0 0/;0 
+ig --via biconvey;I2 3 1/1 3/;5 bale: line 3: bad entry line/
 transpose;I2 3 2/1 3 -7/2 1 4/;0 I3 2 2/1 2 4/3 1 -7/
 transpose --grid 2x2x2 --buffer 1;I2 3 2/1 3 -7/2 1 4/;0 I3 2 2/1 2 4/3 1 -7/
 transpose;I1 1 1/1 1 1000000000000/;0 I1 1 1/1 1 1000000000000/
@@ -191,6 +195,27 @@ fn exstacks_give_the_same_answers(rt: HostRuntime) -> Result<(), Fail> {
 }
 
 #[test]
+fn ig_over_biconvey(rt: HostRuntime) -> Result<(), Fail> {
+    let alloc = rt.alloc();
+    for grid in ["4", "2x2", "2x2x2"] {
+        for buffer in [1, 2, 64] {
+            let words = format!(in alloc; "ig --via biconvey --grid {grid} --buffer {buffer}")?;
+            let got = answer(&rt, alloc, words.as_str(), TWO)?;
+            assert_eq!(rt; got.as_str(), "0 1 3 -7\n2 1 4\n", "{words}");
+        }
+    }
+    let one = answer_alone(alloc, "ig --gen 200,2000,7", b"")?;
+    for words in [
+        "ig --gen 200,2000,7 --via biconvey",
+        "ig --gen 200,2000,7 --via biconvey --grid 2x2 --buffer 8",
+    ] {
+        let got = answer(&rt, alloc, words, b"")?;
+        assert_eq!(rt; got.as_str(), one.as_str(), "{words}");
+    }
+    Ok(())
+}
+
+#[test]
 fn generated_matrices_have_one_answer_everywhere(rt: HostRuntime) -> Result<(), Fail> {
     let alloc = rt.alloc();
     let one = answer_alone(alloc, "topo --gen 200,2000,7 --grid 4x4x4 --buffer 8", b"")?;
@@ -268,10 +293,12 @@ const WALKS: &[u8] =
 
 #[test]
 fn rounds_are_told(rt: HostRuntime) -> Result<(), Fail> {
-    // The words, the text, and then the status, the closed rounds and their epochs: two a round.
+    // The words, the text, and then the status, the closed rounds and the epochs of the first: two a round.
     let cases = [
         ("histo", ONE, 0, 1, 2),
         ("ig --grid 2", TWO, 0, 1, 6),
+        ("ig --via biconvey --buffer 1", TWO, 0, 3, 2),
+        ("ig --via biconvey --grid 2x2", TWO, 0, 3, 2),
         // votes_in_epochs, sssp, delta
         ("topo --grid 2", TIES, 0, 1, 12),
         ("sssp", WALKS, 0, 1, 10),
@@ -279,6 +306,7 @@ fn rounds_are_told(rt: HostRuntime) -> Result<(), Fail> {
         ("sssp --delta 3 --source 4", WALKS, 0, 1, 10),
         ("tally --grid 2", b"b\na\nb\n\na b\n".as_slice(), 0, 1, 2),
         ("ig", b"".as_slice(), 5, 0, 0),
+        ("ig --via biconvey", b"".as_slice(), 5, 0, 0),
         ("ig 4", TWO, 2, 0, 0),
     ];
     for (text, input, status, rounds, epochs) in cases {

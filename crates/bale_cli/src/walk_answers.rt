@@ -8,7 +8,7 @@ ghost use Rattle.delta_step.specs.Deltas.{delta_rules};
 ghost use Rattle.delta_step.specs.DeltaRuns.{delta_starts, DeltaEnded};
 ghost use Rattle.bale_cli.specs.Serving.{ServesDelta, ServesSssp, source_of, width_of};
 
-use crate::application::Application;
+use crate::application::{Application, Written};
 use app_sssp::{Sssp, sssp_start, sssp_write};
 use bale_types::{Failed, NoMemory, Out, Sink};
 use bale_words::Task;
@@ -20,14 +20,12 @@ use std::alloc::Global;
 /// The least weight of a walk from a source to each vertex.
 pub(crate) struct SsspAnswer;
 
-impl Application for SsspAnswer {
-    ghost use Rattle.app_sssp.specs.SsspRuns.{sssp_starts, SsspEnded};
+impl Written for SsspAnswer {
+    ghost use Rattle.app_sssp.specs.SsspRuns.{SsspEnded};
     ghost use Rattle.bale_cli.specs.declared.subject.Subject.TheVariants as subject;
     ghost use Rattle.bale_cli.specs.Serving.{ServesSssp, source_of};
 
     type Of = Matrix;
-
-    type Prog = Sssp;
 
     type Answer = Progs<Sssp>;
 
@@ -35,9 +33,29 @@ impl Application for SsspAnswer {
 
     ghost serves = { ServesSssp };
 
-    ghost starts = { λ t ranks m. sssp_starts ranks m (source_of t) };
-
     ghost answers = { λ t m ps. SsspEnded m (source_of t) ps };
+
+    fn status(task: &Task, answer: &Progs<Sssp>, m: &Matrix) -> u8 {
+        0
+    }
+
+    fn write<K: Sink>(
+        task: &Task,
+        answer: &Progs<Sssp>,
+        m: &Matrix,
+        out: &mut Out<'_, K>,
+    ) -> Result<(), Failed> {
+        sssp_write(answer, out)
+    }
+}
+
+impl Application for SsspAnswer {
+    ghost use Rattle.app_sssp.specs.SsspRuns.{sssp_starts};
+    ghost use Rattle.bale_cli.specs.Serving.{source_of};
+
+    type Prog = Sssp;
+
+    ghost starts = { λ t ranks m. sssp_starts ranks m (source_of t) };
 
     fn start(alloc: Global, task: &Task, m: &Matrix, ranks: u32) -> Result<Progs<Sssp>, NoMemory> {
         match task {
@@ -59,32 +77,17 @@ impl Application for SsspAnswer {
         let _sparse = m.entries();
         Ok(progs)
     }
-
-    fn status(task: &Task, answer: &Progs<Sssp>, m: &Matrix) -> u8 {
-        0
-    }
-
-    fn write<K: Sink>(
-        task: &Task,
-        answer: &Progs<Sssp>,
-        m: &Matrix,
-        out: &mut Out<'_, K>,
-    ) -> Result<(), Failed> {
-        sssp_write(answer, out)
-    }
 }
 
 /// The same, by delta-stepping.
 pub(crate) struct DeltaAnswer;
 
-impl Application for DeltaAnswer {
-    ghost use Rattle.delta_step.specs.DeltaRuns.{delta_starts, DeltaEnded};
+impl Written for DeltaAnswer {
+    ghost use Rattle.delta_step.specs.DeltaRuns.{DeltaEnded};
     ghost use Rattle.bale_cli.specs.declared.subject.Subject.TheVariants as subject;
-    ghost use Rattle.bale_cli.specs.Serving.{ServesDelta, source_of, width_of};
+    ghost use Rattle.bale_cli.specs.Serving.{ServesDelta, source_of};
 
     type Of = Matrix;
-
-    type Prog = Delta;
 
     type Answer = Progs<Delta>;
 
@@ -92,9 +95,29 @@ impl Application for DeltaAnswer {
 
     ghost serves = { ServesDelta };
 
-    ghost starts = { λ t ranks m. delta_starts ranks m (source_of t) (width_of t) };
-
     ghost answers = { λ t m ps. DeltaEnded m (source_of t) ps };
+
+    fn status(task: &Task, answer: &Progs<Delta>, m: &Matrix) -> u8 {
+        0
+    }
+
+    fn write<K: Sink>(
+        task: &Task,
+        answer: &Progs<Delta>,
+        m: &Matrix,
+        out: &mut Out<'_, K>,
+    ) -> Result<(), Failed> {
+        delta_write(answer, out)
+    }
+}
+
+impl Application for DeltaAnswer {
+    ghost use Rattle.delta_step.specs.DeltaRuns.{delta_starts};
+    ghost use Rattle.bale_cli.specs.Serving.{source_of, width_of};
+
+    type Prog = Delta;
+
+    ghost starts = { λ t ranks m. delta_starts ranks m (source_of t) (width_of t) };
 
     fn start(alloc: Global, task: &Task, m: &Matrix, ranks: u32) -> Result<Progs<Delta>, NoMemory> {
         match task {
@@ -115,18 +138,5 @@ impl Application for DeltaAnswer {
     {
         let _sparse = m.entries();
         Ok(progs)
-    }
-
-    fn status(task: &Task, answer: &Progs<Delta>, m: &Matrix) -> u8 {
-        0
-    }
-
-    fn write<K: Sink>(
-        task: &Task,
-        answer: &Progs<Delta>,
-        m: &Matrix,
-        out: &mut Out<'_, K>,
-    ) -> Result<(), Failed> {
-        delta_write(answer, out)
     }
 }

@@ -1,12 +1,12 @@
 use Rattle.std.proofs.Common.{Err, Some, map, string_bytes, refl, ap}
 use Rattle.bale_cli.specs.declared.refusal.Refusal.{Refusal}
-use Rattle.bale_cli.specs.Jobs.{as_asked, job_of}
+use Rattle.bale_words.specs.Words.{command_of}
 use Rattle.bale_cli.proofs.Answering.{at_job, early}
 use Rattle.bale_cli.proofs.calls.answer.Goals as goal
 
 pub returns-in-Ok-clause-answered : goal.returns-in-Ok-clause-answered
-returns-in-Ok-clause-answered g c = at_job (job_of as_asked (map string_bytes c.args.words.now)) (Some c.in-Ok.command) c.in-Ok.ensures.job c.answer_of.ensures.answered
+returns-in-Ok-clause-answered g c = at_job (command_of (map string_bytes c.args.words.now)) (Some c.in-Ok.command) c.in-Ok.ensures.command c.answer_of.ensures.answered
 
 pub returns-in-Err-clause-answered : goal.returns-in-Err-clause-answered
 returns-in-Err-clause-answered g c =
-    early (job_of as_asked (map string_bytes c.args.words.now)) c.in-Err.refusal (λ e. c.in-Err.ensures.usage (ap (λ (r : Refusal). Err r) e)) c.in-Err.ensures.kinds refl refl
+    early (command_of (map string_bytes c.args.words.now)) c.in-Err.refusal (λ e. c.in-Err.ensures.usage (ap (λ (r : Refusal). Err r) e)) c.in-Err.ensures.kinds refl refl

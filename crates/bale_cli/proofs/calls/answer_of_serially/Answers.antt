@@ -2,10 +2,9 @@ use Rattle.std.proofs.Common.{Err, refl, ap, subst}
 use Rattle.bale_cli.specs.declared.subject.Subject.{Subject}
 use Rattle.bale_words.specs.declared.command.Command.{Command}
 use Rattle.bale_cli.specs.declared.refusal.Refusal.{Refusal}
-use Rattle.bale_cli.specs.Jobs.{manner_for}
-use Rattle.bale_cli.specs.Tasks.{TurnsOfTask}
+use Rattle.bale_cli.specs.Asking.{TurnsOfCommand}
 use Rattle.bale_cli.proofs.Answering.{subject_refused, memory_only, ran_answered, same_asked}
-use Rattle.bale_cli.proofs.Cases.{none_made}
+use Rattle.bale_cli.proofs.Heard.{no_turns}
 use Rattle.bale_cli.proofs.calls.answer_of_serially.Goals as goal
 
 pub returns-in-Ok-clause-answered : goal.returns-in-Ok-clause-answered
@@ -17,8 +16,8 @@ returns-in-Ok-clause-answered g c =
 pub returns-in-Ok-clause-steps : goal.returns-in-Ok-clause-steps
 returns-in-Ok-clause-steps g c = λ text command m asked.
     let e = same_asked c.args.command.now c.in-Ok.subject text command m c.in-Ok.ensures.subject asked in
-    subst (λ (y : Subject). TurnsOfTask command.task y (manner_for command) command.grid c.args.steps.now c.ran_serially.new.steps) e.1
-    (subst (λ (x : Command). TurnsOfTask x.task c.in-Ok.subject (manner_for x) x.grid c.args.steps.now c.ran_serially.new.steps) e.0 c.ran_serially.ensures.steps)
+    subst (λ (y : Subject). TurnsOfCommand command y c.args.steps.now c.ran_serially.new.steps) e.1
+    (subst (λ (x : Command). TurnsOfCommand x c.in-Ok.subject c.args.steps.now c.ran_serially.new.steps) e.0 c.ran_serially.ensures.steps)
 
 pub returns-in-Ok-clause-no_turns : goal.returns-in-Ok-clause-no_turns
 returns-in-Ok-clause-no_turns g c = memory_only _ c.ran_serially.result c.ran_serially.ensures.memory
@@ -30,4 +29,4 @@ returns-in-Err-clause-answered g c =
     c.in-Err.ensures.kinds c.subject_for.ensures.unread c.in-Err.ensures.read_bad refl
 
 pub returns-in-Err-clause-steps : goal.returns-in-Err-clause-steps
-returns-in-Err-clause-steps g c = λ text command m asked. none_made command.task m (manner_for command) command.grid _ _ refl
+returns-in-Err-clause-steps g c = λ text command m asked. no_turns command m _ _ refl

@@ -1,9 +1,9 @@
 use Rattle.bale_types.specs.Stream.{Rose}
 use Rattle.rank_group.specs.declared.closed_round.ClosedRound.{ClosedRound}
 use Rattle.bale_cli.specs.Outcomes.{IsOutcome}
-use Rattle.bale_cli.specs.Tasks.{made_for, TellsTask}
+use Rattle.bale_cli.specs.Asking.{TellsCommand}
 use Rattle.std.proofs.Common.{List}
-use Rattle.bale_cli.specs.Jobs.{as_asked, manner_for}
+use Rattle.bale_cli.specs.Jobs.{as_asked}
 use Rattle.bale_cli.proofs.Outcomes.{usage, no_command, same_status, read_fault, write_fault, read_whole, answer, front, no_answer, said_whole, said_front, silent, rounds_told, no_rounds}
 use Rattle.bale_cli.proofs.calls.run.Given.{Over}
 use Rattle.bale_cli.proofs.calls.run.Goals.{After-outcome_of}
@@ -69,5 +69,5 @@ returns-clause-held g c = c.answer-answered.ensures.answered.held
 
 pub returns-clause-rounds : goal.returns-clause-rounds
 returns-clause-rounds g c = λ text command m asked ended.
-    rounds_told (λ (rs : List ClosedRound). TellsTask command.task m (made_for (as_asked command) command) (manner_for command) rs) c.answer-answered.result c.answer-answered.ensures.answered (told g c)
+    rounds_told (λ (rs : List ClosedRound). TellsCommand (as_asked command) command m rs) c.answer-answered.result c.answer-answered.ensures.answered (told g c)
     (c.answer-answered.ensures.answered.rounds text command m asked) ended

@@ -1,8 +1,7 @@
 use Rattle.bale_types.specs.Stream.{Rose}
 use Rattle.rank_group.specs.declared.closed_round.ClosedRound.{ClosedRound}
 use Rattle.bale_cli.specs.Outcomes.{IsOutcome}
-use Rattle.bale_cli.specs.Jobs.{manner_for}
-use Rattle.bale_cli.specs.Tasks.{made_for, TellsTask}
+use Rattle.bale_cli.specs.Asking.{TellsCommand}
 use Rattle.std.proofs.Common.{List, true}
 use Rattle.bale_cli.proofs.Outcomes.{usage, no_command, same_status, read_fault, write_fault, read_whole, answer, front, no_answer, said_whole, said_front, silent, rounds_told, no_rounds, refusal_only}
 use Rattle.bale_cli.proofs.calls.run_serial.Given.{Over}
@@ -69,7 +68,7 @@ returns-clause-held g c = c.answer_serially-answered.ensures.answered.held
 
 pub returns-clause-rounds : goal.returns-clause-rounds
 returns-clause-rounds g c = λ text command m asked ended.
-    rounds_told (λ (rs : List ClosedRound). TellsTask command.task m (made_for true command) (manner_for command) rs) c.answer_serially-answered.result c.answer_serially-answered.ensures.answered (told g c)
+    rounds_told (λ (rs : List ClosedRound). TellsCommand true command m rs) c.answer_serially-answered.result c.answer_serially-answered.ensures.answered (told g c)
     (c.answer_serially-answered.ensures.answered.rounds text command m asked) ended
 
 pub returns-clause-no_turns : goal.returns-clause-no_turns

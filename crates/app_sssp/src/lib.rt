@@ -12,6 +12,9 @@
 //!
 //! What the lines are is said by walks over the matrix (`least_walks`). `proofs/Rounds` carries that to the rounds: each
 //! weight is that of a walk, and where no vertex was improved no edge improves a weight.
+//!
+//! The definitions, in the order in which to read them: `Sssps` (the program's rules) and `SsspRuns` (how a run begins and ends); `SsspView`
+//! is the state read from the fields.
 #![tactic(auto)]
 
 mod sssp;

@@ -17,6 +17,8 @@
 //! `Out` hands its buffer to the sink each time that it is full, and at `Out::flush`. After a failure
 //! a sink holds a front of what was appended, the rest still waits in the `Out`, and the sink's count of
 //! faults rose.
+//!
+//! The definitions, in the order in which to read them: `Stream` (sources and sinks), `Out`, `Memory`, `Bits`.
 #![tactic(auto)]
 
 mod bits;

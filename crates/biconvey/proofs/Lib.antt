@@ -26,5 +26,4 @@ pub mod Placing
 pub mod Threaded
 pub mod Last
 pub mod AdderTests
-pub mod Asked
 mod ByHand

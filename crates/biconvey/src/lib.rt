@@ -47,8 +47,6 @@ pub use threads::bi_threads;
 #[cfg(test)]
 mod adder;
 #[cfg(test)]
-mod ig_tests;
-#[cfg(test)]
 mod tests;
 #[cfg(test)]
 mod thread_tests;

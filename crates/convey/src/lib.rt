@@ -19,6 +19,10 @@
 //! machine it is (`port_bank`'s `specs/Machine.antt`), a machine of two lists for each epoch and ordered pair of ranks, which knows no
 //! parcels, hops or tags. `exchange_law` says that the steps of all ranks over one bank fit together, `closes_law` that
 //! the ranks end each epoch together, and `rest_law` that a sweep in which nothing moves ends an epoch.
+//!
+//! The definitions, in the order in which to read them: `Buffers`, `Conveyors` and `Agreement` (what contracts see, and when it agrees with
+//! a port), `Parts` and `Progress` (which steps of the machine a call makes), `Arrived` and `Due` (which links an advance serves), then
+//! `Law` and `Rest`. `Way` is the code's own.
 #![tactic(auto)]
 
 mod collecting;

@@ -8,6 +8,9 @@
 //! A vertex with least weight x stands in bucket x div delta, and an edge is light where its weight is at most delta.
 //! A bucket is found, its vertices offer along light edges until none of the bucket is pending, and then all of them offer
 //! along heavy edges. Rounds are of four kinds ([`Phase`]), and all ranks know from the votes which comes next.
+//!
+//! The definitions, in the order in which to read them: `Deltas` (the program's rules) and `DeltaRuns` (how a run begins and ends); `DeltaView`
+//! is the state read from the fields.
 #![tactic(auto)]
 
 mod delta;

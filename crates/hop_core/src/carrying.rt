@@ -9,7 +9,7 @@ ghost use Rattle.route_tensor.specs.Tag.{IsFair};
 ghost use Rattle.hop_core.specs.Link.{is_due, is_wanted};
 ghost use Rattle.hop_core.specs.State.{out_at, in_at, at_end};
 
-use crate::inboxes::hop_finished;
+use crate::in_links::hop_finished;
 use crate::lent::Lent;
 use crate::state::RankState;
 use item_buffer::Parcel;

@@ -14,7 +14,7 @@ ghost use Rattle.hop_core.specs.State.{out_at, in_at, with_out, with_in, at_end,
 ghost use Rattle.hop_core.specs.Relay.{held, AddsToHop, TakesFromHop, IsStopped, waiting};
 ghost use Rattle.route_tensor.specs.Pair.{PassesThrough};
 
-use crate::inboxes::hop_finished;
+use crate::in_links::hop_finished;
 use crate::lent::Lent;
 use crate::state::RankState;
 use item_buffer::Parcel;

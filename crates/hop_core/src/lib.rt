@@ -32,13 +32,16 @@
 //! | `begin`, `set_done`, `settle`, `reset` | the epoch's course |
 //!
 //! No call after `RankState::new` takes memory.
+//!
+//! The definitions, in the order in which to read them: `Link` and `State` (what contracts see of a rank), `Relay` (what it passes on).
+//! `Standing` is what the code keeps up.
 #![tactic(auto)]
 
 mod carrying;
-mod inboxes;
+mod in_links;
 mod lending;
 mod lent;
-mod open_parcels;
+mod out_links;
 mod phase;
 mod phases;
 mod pulling;

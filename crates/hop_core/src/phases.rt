@@ -14,9 +14,9 @@ ghost use Rattle.hop_core.specs.State.{out_at, in_at, with_out, with_in, at_end,
 ghost use Rattle.hop_core.specs.Relay.{held, AddsToHop, TakesFromHop, IsStopped, waiting};
 ghost use Rattle.route_tensor.specs.Pair.{PassesThrough};
 
-use crate::inboxes::{hop_finished, resume_all};
+use crate::in_links::{hop_finished, resume_all};
 use crate::lent::Lent;
-use crate::open_parcels::{all_closed, reopen_all};
+use crate::out_links::{all_closed, reopen_all};
 use crate::phase::Phase;
 use crate::state::RankState;
 

@@ -15,7 +15,7 @@ ghost use Rattle.hop_core.specs.Relay.{held, AddsToHop, TakesFromHop, IsStopped,
 ghost use Rattle.route_tensor.specs.Pair.{PassesThrough};
 ghost use Rattle.hop_core.specs.declared.phase.Phase.{Phase};
 
-use crate::inboxes::{first_unread, hop_finished};
+use crate::in_links::{first_unread, hop_finished};
 use crate::lent::Lent;
 use crate::relay::relay_hop;
 use crate::state::RankState;

@@ -11,8 +11,8 @@ ghost use Rattle.route_tensor.specs.Pair.{PassesThrough};
 ghost use Rattle.hop_core.specs.State.{ins_of_hop};
 ghost use Rattle.std.specs.List.{list_all};
 
-use crate::inboxes::InLink;
-use crate::open_parcels::OutLink;
+use crate::in_links::InLink;
+use crate::out_links::OutLink;
 use bale_types::{Entry, Item};
 use route_tensor::Routes;
 

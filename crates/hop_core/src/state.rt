@@ -14,9 +14,9 @@ ghost use Rattle.hop_core.specs.State.{out_at, in_at, with_out, with_in, at_end,
 ghost use Rattle.hop_core.specs.Relay.{held, AddsToHop, TakesFromHop, IsStopped, waiting};
 ghost use Rattle.route_tensor.specs.Pair.{PassesThrough};
 
-use crate::inboxes::{InLink, links_in};
+use crate::in_links::{InLink, links_in};
 use crate::lent::Lent;
-use crate::open_parcels::{OutLink, links_out};
+use crate::out_links::{OutLink, links_out};
 use crate::phase::{Phase, Pushed};
 use bale_types::{Entry, Item, NoMemory, Tag};
 use item_buffer::Parcel;

@@ -17,6 +17,8 @@
 //! | `clear()` | | empty, nothing taken, not last, the same epoch |
 //! | `len()`, `is_full()`, `cap()` | | of the untaken entries, and `CAP` |
 //! | `last()`, `set_last(on)`, `epoch()`, `set_epoch(e)` | | the marks |
+//!
+//! `specs/Contents` says what contracts see of a parcel.
 #![tactic(auto)]
 
 mod parcel;

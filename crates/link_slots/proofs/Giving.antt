@@ -14,11 +14,11 @@ use Rattle.port_bank.specs.Logs.{lasts}
 use mathlib.Core.Logic.{dite}
 use native.Mathlib.Decide.{ℕ_discrete}
 use Rattle.link_slots.specs.Closed.{ended_of}
-use Rattle.link_slots.specs.declared.ends.OutEnd.{OutEnd}
-use Rattle.link_slots.specs.declared.ends.InEnd.{InEnd}
-use Rattle.link_slots.specs.declared.ear.Ear.{Ear}
-use Rattle.link_slots.specs.declared.rank_ends.RankEnds.{RankEnds}
-use Rattle.link_slots.specs.declared.rank_ends.EndedCounts.{EndedCounts}
+use Rattle.link_slots.specs.declared.seat.ends.OutEnd.{OutEnd}
+use Rattle.link_slots.specs.declared.seat.ends.InEnd.{InEnd}
+use Rattle.link_slots.specs.declared.seat.ear.Ear.{Ear}
+use Rattle.link_slots.specs.declared.seat.rank_ends.RankEnds.{RankEnds}
+use Rattle.link_slots.specs.declared.seat.rank_ends.EndedCounts.{EndedCounts}
 use Rattle.link_slots.specs.Logs.{OutLog, InLog, Logs, no_out, no_in, out_of, in_of, got_of}
 use Rattle.link_slots.specs.View.{no_logs, own_logs, logs_or, Speaks, IsAlone, without_pick, pick_alone, speaking_for, gathered}
 use Rattle.link_slots.specs.Hands.{Holds}

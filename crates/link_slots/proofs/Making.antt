@@ -13,8 +13,8 @@ use Rattle.route_tensor.specs.Link.{links}
 use Rattle.list_laws.proofs.Lists.{all_head, all_tail}
 use Rattle.port_bank.specs.Port.{IsSlots}
 use Rattle.port_bank.proofs.Closing.{law_nothing}
-use Rattle.link_slots.specs.declared.rank_ends.RankEnds.{RankEnds}
-use Rattle.link_slots.specs.declared.rank_ends.EndedCounts.{EndedCounts}
+use Rattle.link_slots.specs.declared.seat.rank_ends.RankEnds.{RankEnds}
+use Rattle.link_slots.specs.declared.seat.rank_ends.EndedCounts.{EndedCounts}
 use Rattle.item_buffer.specs.Contents.{shipped}
 use Rattle.port_bank.specs.Logs.{lasts}
 use Rattle.link_slots.specs.Logs.{got_of}

@@ -23,9 +23,9 @@ use Rattle.route_tensor.specs.Link.{links}
 use Rattle.route_tensor.specs.Ends.{hop_at, sender_at, reader_at}
 use Rattle.port_bank.specs.Logs.{Logs as Posts, lasts, added}
 use Rattle.port_bank.specs.Relay.{RelayLaw, HasFairTags}
-use Rattle.link_slots.specs.declared.ends.OutEnd.{OutEnd}
-use Rattle.link_slots.specs.declared.ends.InEnd.{InEnd}
-use Rattle.link_slots.specs.declared.ear.Ear.{Ear}
+use Rattle.link_slots.specs.declared.seat.ends.OutEnd.{OutEnd}
+use Rattle.link_slots.specs.declared.seat.ends.InEnd.{InEnd}
+use Rattle.link_slots.specs.declared.seat.ear.Ear.{Ear}
 use Rattle.link_slots.specs.Logs.{OutLog, InLog, Logs, out_of, in_of, with_out, sent_of, got_of, got, sent_more, no_out}
 use Rattle.link_slots.specs.View.{own_logs, with_logs}
 use Rattle.link_slots.specs.Shape.{Shape, MayFollow, KeepsLaw, shipped_all}

@@ -8,7 +8,7 @@ use Rattle.atomic_table.specs.Table.{State}
 use Rattle.port_bank.specs.Round.{Round, IsRound}
 use Rattle.link_slots.specs.Logs.{Logs, sent_of, got_of}
 use Rattle.link_slots.specs.View.{logs_or}
-use Rattle.link_slots.specs.declared.rank_ends.EndedCounts.{EndedCounts}
+use Rattle.link_slots.specs.declared.seat.rank_ends.EndedCounts.{EndedCounts}
 use Rattle.port_bank.specs.Logs.{lasts}
 use Rattle.list_laws.specs.Counts.{counted}
 use Rattle.link_slots.specs.Shape.{Shape, IsShape}

@@ -7,8 +7,8 @@ use Rattle.route_tensor.specs.Ends.{reader_at}
 use Rattle.atomic_table.specs.Table.{Me}
 use Rattle.atomic_table.specs.Seated.{TableId}
 use Rattle.port_bank.specs.Logs.{lasts}
-use Rattle.link_slots.specs.declared.rank_ends.RankEnds.{RankEnds}
-use Rattle.link_slots.specs.declared.rank_ends.EndedCounts.{EndedCounts}
+use Rattle.link_slots.specs.declared.seat.rank_ends.RankEnds.{RankEnds}
+use Rattle.link_slots.specs.declared.seat.rank_ends.EndedCounts.{EndedCounts}
 use Rattle.link_slots.specs.Logs.{Logs, got_of}
 use Rattle.link_slots.specs.View.{no_logs}
 use Rattle.link_slots.specs.Shape.{Shape, IsShape}

@@ -6,10 +6,10 @@ use Rattle.route_tensor.specs.Link.{links}
 use Rattle.route_tensor.specs.Ends.{sender_at, reader_at}
 use Rattle.atomic_table.specs.Table.{Me}
 use Rattle.port_bank.specs.Logs.{lasts}
-use Rattle.link_slots.specs.declared.ends.OutEnd.{OutEnd}
-use Rattle.link_slots.specs.declared.ends.InEnd.{InEnd}
-use Rattle.link_slots.specs.declared.ear.Ear.{Ear}
-use Rattle.link_slots.specs.declared.wire.Wire.{Wire}
+use Rattle.link_slots.specs.declared.seat.ends.OutEnd.{OutEnd}
+use Rattle.link_slots.specs.declared.seat.ends.InEnd.{InEnd}
+use Rattle.link_slots.specs.declared.seat.ear.Ear.{Ear}
+use Rattle.link_slots.specs.declared.table.wire.Wire.{Wire}
 use Rattle.atomic_table.specs.Seated.{TableId}
 use Rattle.link_slots.specs.Logs.{out_of, in_of, got_of}
 use Rattle.link_slots.specs.View.{own_logs, IsAlone}

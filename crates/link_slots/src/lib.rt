@@ -15,38 +15,23 @@
 //! | `SlotBank::close` | a closed round, on which what each rank pulled is what the others pushed |
 //! | `live_law` | the laws of a closed round hold of a bank's lists at every moment |
 //! | `SlotRound::ranks`, `SlotRound::epochs` | the number of ranks; how many epochs every link has ended |
+//!
+//! The definitions, in the order in which to read them: `Logs` (what a rank knows of its links), `Shape` (grid and slots), `Seen` (a bank and
+//! a seat, as contracts see them), `Doorbell` (when a collect hears and looks), `Does` (a call on a port) and `Closed` (a closed round).
+//! `Wiring`, `View`, `Link`, `Bank`, `Told` and `Plays` are the rule of the table and its steps; the others are the code's own.
 #![tactic(auto)]
 
-mod bank;
-mod collect;
-mod ear;
-mod ends;
-mod gather;
-mod live;
-mod plan;
-mod plays;
 mod port;
-mod post;
-mod rank_ends;
-mod round;
 mod seat;
 mod slot_bank;
-mod steps;
-mod view;
-mod wire;
+mod table;
 
-pub use gather::GatherSeat;
-pub use live::live_law;
 pub use port::SlotPort;
-pub use round::SlotRound;
 pub use seat::SlotSeat;
 pub use slot_bank::SlotBank;
+pub use slot_bank::gather::GatherSeat;
+pub use slot_bank::live::live_law;
+pub use slot_bank::round::SlotRound;
 
 #[cfg(test)]
-mod doorbell_tests;
-#[cfg(test)]
-mod drive_tests;
-#[cfg(test)]
 mod tests;
-#[cfg(test)]
-mod thread_tests;

@@ -14,12 +14,18 @@ ghost use Rattle.link_slots.specs.Counts.{ended_after};
 ghost use Rattle.link_slots.specs.Doorbell.{is_due, HeardWhere, LookedFor};
 ghost use Rattle.link_slots.specs.Seen.{Manning, posted_on, collected_from, freed, known, listened, noted_at};
 
-use crate::bank::Place;
-use crate::collect::collect_on;
-use crate::ear::Ear;
-use crate::ends::{InEnd, OutEnd};
-use crate::post::post_on;
+pub(crate) mod collect;
+pub(crate) mod ear;
+pub(crate) mod ends;
+pub(crate) mod post;
+pub(crate) mod rank_ends;
+
+use crate::seat::collect::collect_on;
+use crate::seat::ear::Ear;
+use crate::seat::ends::{InEnd, OutEnd};
+use crate::seat::post::post_on;
 use crate::slot_bank::SlotBank;
+use crate::table::rule::Place;
 use item_buffer::Parcel;
 use port_bank::{Collected, Posted};
 use std::marker::Model;

@@ -13,12 +13,16 @@ ghost use Rattle.link_slots.specs.View.{no_logs, first_view};
 ghost use Rattle.link_slots.specs.Told.{IsLawful};
 ghost use Rattle.link_slots.specs.Seen.{Manning, posted_on, collected_from};
 
-use crate::bank::{Board, Place};
-use crate::gather::GatherSeat;
-use crate::plan::Plan;
-use crate::rank_ends::{all_ends, none_ended};
-use crate::round::{SlotRound, close_table};
-use crate::wire::{Wire, wires_of};
+pub(crate) mod gather;
+pub(crate) mod live;
+pub(crate) mod round;
+
+use crate::seat::rank_ends::{all_ends, none_ended};
+use crate::slot_bank::gather::GatherSeat;
+use crate::slot_bank::round::{SlotRound, close_table};
+use crate::table::plan::Plan;
+use crate::table::rule::{Board, Place};
+use crate::table::wire::{Wire, wires_of};
 use bale_types::NoMemory;
 use item_buffer::Parcel;
 use route_tensor::Grid;

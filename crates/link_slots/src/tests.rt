@@ -8,6 +8,10 @@ ghost use Rattle.port_bank.specs.Logs.{lasts};
 ghost use Rattle.port_bank.specs.Port.{IsSlots};
 ghost use Rattle.port_bank.specs.Relay.{RelayLaw};
 
+mod doorbells;
+mod drives;
+mod threads;
+
 use crate::SlotBank;
 use bale_types::{Entry, Item, NoMemory, Tag};
 use item_buffer::Parcel;

@@ -17,6 +17,9 @@
 //! | [`Words`] | the words of a seed, and permutations drawn from them | |
 //! | [`gen_matrix`] | a matrix generated from a seed | |
 //! | [`Reason::text`] | what to print of a bad line | |
+//!
+//! The definitions, in the order in which to read them: `Lines`, `Integers`, `Sparse`, `Reasons`, `Grammar` and `Answers` for reading, `Written`
+//! for writing, `Cells` and `Maps` for cells, `Seeds`, `Permutations` and `Generated` for generated matrices. The others are the code's own.
 #![tactic(auto)]
 
 mod apart;

@@ -11,7 +11,8 @@
 //! | `Rounds::get`, `ClosedRound::epochs` | what a run leaves of its bank |
 //! | `Seated`, `run_together` | a rank at its ports, whatever it is, and the threads that turn all ranks: what `drive_threads` stands on, and further drives |
 //!
-//! `specs/Told` says what the closed round of a run tells, and how many turns a run takes at most.
+//! `specs/Told` says what the closed round of a run tells, and how many turns a run takes at most. `specs/Rounds` says what
+//! contracts see of a closed round, and `specs/Ranks` begins with what an order of the ranks is. The others are the code's own.
 #![tactic(auto)]
 
 mod alone;

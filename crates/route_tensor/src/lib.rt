@@ -13,6 +13,9 @@
 //! | `tag_first`, `tag_next` | the tag of an entry on its first and on its next link |
 //! | `pair_of` | the sender and the destination of an entry, by its tag and link |
 //! | `Routes` | what one rank looks up for each entry: its neighbours, first steps, next steps, senders |
+//!
+//! The definitions, in the order in which to read them: `Grid` (ranks and coordinates), `Link` and `Ends` (links and their numbers),
+//! `Neighbour`, `Pair` (the way from one rank to another), `Tag`, `Routes`, `Refusal`. `Kept` is a grid as the code keeps it.
 #![tactic(auto)]
 
 mod grid;

@@ -3,9 +3,9 @@ use Rattle.item_buffer.specs.Contents.{Contents, shipped, blank}
 use Rattle.route_tensor.specs.Link.{links}
 use Rattle.route_tensor.specs.Ends.{hop_at, sender_at, reader_at}
 use Rattle.port_bank.specs.Logs.{lasts, added}
-use Rattle.link_slots.specs.declared.ends.InEnd.{InEnd}
-use Rattle.link_slots.specs.declared.ear.Ear.{Ear}
-use Rattle.link_slots.specs.declared.wire.Wire.{Wire}
+use Rattle.link_slots.specs.declared.seat.ends.InEnd.{InEnd}
+use Rattle.link_slots.specs.declared.seat.ear.Ear.{Ear}
+use Rattle.link_slots.specs.declared.table.wire.Wire.{Wire}
 use Rattle.std.proofs.lemmas.List.{get_or-map}
 use Rattle.link_slots.specs.Doorbell.{LookedFor}
 use Rattle.link_slots.specs.Logs.{InLog, Logs, in_of, got_of}

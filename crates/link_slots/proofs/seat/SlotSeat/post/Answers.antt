@@ -4,8 +4,8 @@ use Rattle.route_tensor.specs.Link.{links}
 use Rattle.route_tensor.specs.Ends.{sender_at}
 use Rattle.port_bank.specs.Logs.{lasts, added}
 use Rattle.port_bank.specs.Relay.{RelayLaw}
-use Rattle.link_slots.specs.declared.ends.OutEnd.{OutEnd}
-use Rattle.link_slots.specs.declared.wire.Wire.{Wire}
+use Rattle.link_slots.specs.declared.seat.ends.OutEnd.{OutEnd}
+use Rattle.link_slots.specs.declared.table.wire.Wire.{Wire}
 use Rattle.link_slots.specs.Logs.{out_of, with_out, sent_of, got_of, sent_more}
 use Rattle.link_slots.specs.View.{own_logs}
 use Rattle.link_slots.specs.Shape.{Shape, MayFollow, KeepsLaw, shipped_all}

@@ -1,0 +1,206 @@
+//! A collect: a hear where it is due, a look into the marked link, and the exchange.
+ghost use Rattle.std.specs.Prelude.{◌≡◌, ◌≢◌, ◌⊎◌, ℕ, suc, ◌+◌, ◌*◌, ◌^◌, ◌<◌, ◌≤◌, true, false, List, [], ◌∷◌, ◌++◌, take, length};
+ghost use mathlib.Core.Option.{some};
+ghost use lib.ListN.{get_elem?};
+ghost use Rattle.item_buffer.specs.Contents.{Contents};
+ghost use Rattle.bale_types.specs.Stream.{Rose};
+ghost use Rattle.port_bank.specs.Flow.{Begins};
+ghost use Rattle.route_tensor.specs.Link.{links};
+ghost use Rattle.route_tensor.specs.Ends.{hop_at, sender_at, reader_at};
+ghost use Rattle.link_slots.specs.Logs.{InLog, out_of, in_of, with_in, taken_more, listens};
+ghost use Rattle.link_slots.specs.View.{own_logs, with_logs};
+ghost use Rattle.link_slots.specs.Shape.{IsBoard, wiring, IsBlank, MayFollow};
+ghost use Rattle.link_slots.specs.Told.{IsManned};
+ghost use Rattle.list_laws.specs.Counts.{counted};
+ghost use Rattle.link_slots.specs.Counts.{IsInEnd, IsHeard, IsWire, ElseKept, AreGood};
+ghost use Rattle.link_slots.specs.Doorbell.{is_due, HeardWhere, looked_where_marked, LookedFor};
+
+use crate::seat::ear::Ear;
+use crate::seat::ends::{InEnd, next_place};
+use crate::table::rule::{Place, Top};
+use crate::table::steps::{hear, look_in, receive};
+use crate::table::wire::Wire;
+use item_buffer::Parcel;
+use port_bank::Collected;
+
+/// Hears the doorbell of the link's hop, unless the link is marked, or was listened for since its latest collect.
+fn hear_if_due<const CAP: usize>(
+    top: &Top<CAP>,
+    place: &mut Place<CAP>,
+    end: &InEnd,
+    ear: &mut Ear,
+    wire: &Wire,
+    link: u32,
+)
+    requires table { (place.old.table_id ≡ top.now.table_id) × IsBoard top.now.key top.now.table_id }
+    requires seat { IsManned top.now.key place.old.me }
+    requires link { (link < links top.now.key.dims) × (reader_at top.now.key.dims link ≡ place.old.me.0.pick) }
+    requires long { length (own_logs place.old.me.0).ins ≡ links top.now.key.dims }
+    requires end { IsInEnd top.now.key.slots (in_of (own_logs place.old.me.0) link) end.now.taken end.now.place end.now.waiting end.now.look_ins end.now.noted }
+    requires wire { IsWire top.now.key.dims link wire.now.bell wire.now.mask wire.now.hop }
+    requires ear { IsHeard top.now.key place.old.me.0.pick (hop_at top.now.key.dims link) (own_logs place.old.me.0) ear.old.marks ear.old.hears }
+    ensures table { place.new.table_id ≡ place.old.table_id }
+    ensures seat { IsManned top.now.key place.new.me }
+    ensures end { IsInEnd top.now.key.slots (in_of (own_logs place.new.me.0) link) end.now.taken end.now.place end.now.waiting end.now.look_ins end.now.noted }
+    ensures ear { IsHeard top.now.key place.old.me.0.pick (hop_at top.now.key.dims link) (own_logs place.new.me.0) ear.new.marks ear.new.hears }
+    ensures here { place.new.me.0 ≡ with_logs place.old.me.0 (own_logs place.new.me.0) }
+    ensures others { ElseKept top.now.key place.old.me.0.pick link (own_logs place.old.me.0) (own_logs place.new.me.0) }
+    ensures seen { (in_of (own_logs place.new.me.0) link).seen ≡ (in_of (own_logs place.old.me.0) link).seen }
+    ensures taken { (in_of (own_logs place.new.me.0) link).taken ≡ (in_of (own_logs place.old.me.0) link).taken }
+    ensures look_ins { (in_of (own_logs place.new.me.0) link).look_ins ≡ (in_of (own_logs place.old.me.0) link).look_ins }
+    ensures more { (in_of (own_logs place.old.me.0) link).hears ≤ (in_of (own_logs place.new.me.0) link).hears }
+    ensures due { (in_of (own_logs place.new.me.0) link).marked ≡ false → Rose end.now.noted (counted (listens (in_of (own_logs place.new.me.0) link))) }
+    ensures heard { (m : ℕ) → m < links top.now.key.dims → reader_at top.now.key.dims m ≡ place.old.me.0.pick → hop_at top.now.key.dims m ≡ hop_at top.now.key.dims link
+        → HeardWhere (is_due end.now.noted (in_of (own_logs place.old.me.0) link)) (in_of (own_logs place.old.me.0) m) (in_of (own_logs place.new.me.0) m) }
+{
+    if ear.marks & wire.mask == 0 && ear.hears.saturating_add(end.look_ins) <= end.noted {
+        ear.marks |= hear(top, place, link, wire.bell);
+        ear.hears = ear.hears.saturating_add(1);
+    }
+}
+
+/// Looks into the link where it is marked, and takes its mark away.
+fn look_if_marked<const CAP: usize>(
+    top: &Top<CAP>,
+    place: &mut Place<CAP>,
+    end: &mut InEnd,
+    ear: &mut Ear,
+    wire: &Wire,
+    link: u32,
+)
+    requires table { (place.old.table_id ≡ top.now.table_id) × IsBoard top.now.key top.now.table_id }
+    requires seat { IsManned top.now.key place.old.me }
+    requires link { (link < links top.now.key.dims) × (reader_at top.now.key.dims link ≡ place.old.me.0.pick) }
+    requires long { length (own_logs place.old.me.0).ins ≡ links top.now.key.dims }
+    requires end { IsInEnd top.now.key.slots (in_of (own_logs place.old.me.0) link) end.old.taken end.old.place end.old.waiting end.old.look_ins end.old.noted }
+    requires none { end.old.waiting ≡ 0 }
+    requires wire { IsWire top.now.key.dims link wire.now.bell wire.now.mask wire.now.hop }
+    requires ear { IsHeard top.now.key place.old.me.0.pick (hop_at top.now.key.dims link) (own_logs place.old.me.0) ear.old.marks ear.old.hears }
+    requires good { AreGood CAP top.now.key link (in_of (own_logs place.old.me.0) link) }
+    ensures table { place.new.table_id ≡ place.old.table_id }
+    ensures seat { IsManned top.now.key place.new.me }
+    ensures end { IsInEnd top.now.key.slots (in_of (own_logs place.new.me.0) link) end.new.taken end.new.place end.new.waiting end.new.look_ins end.new.noted }
+    ensures ear { IsHeard top.now.key place.old.me.0.pick (hop_at top.now.key.dims link) (own_logs place.new.me.0) ear.new.marks ear.new.hears }
+    ensures good { AreGood CAP top.now.key link (in_of (own_logs place.new.me.0) link) }
+    ensures here { place.new.me.0 ≡ with_logs place.old.me.0 (own_logs place.new.me.0) }
+    ensures others { ElseKept top.now.key place.old.me.0.pick link (own_logs place.old.me.0) (own_logs place.new.me.0) }
+    ensures seen { take (length (in_of (own_logs place.old.me.0) link).seen) (in_of (own_logs place.new.me.0) link).seen ≡ (in_of (own_logs place.old.me.0) link).seen }
+    ensures taken { (in_of (own_logs place.new.me.0) link).taken ≡ (in_of (own_logs place.old.me.0) link).taken }
+    ensures noted { end.new.noted ≡ end.old.noted }
+    ensures unmarked { (in_of (own_logs place.new.me.0) link).marked ≡ false }
+    ensures more { listens (in_of (own_logs place.old.me.0) link) ≤ listens (in_of (own_logs place.new.me.0) link) }
+    ensures looked { own_logs place.new.me.0 ≡ with_in (own_logs place.old.me.0) link (looked_where_marked (in_of (own_logs place.new.me.0) link).seen (in_of (own_logs place.old.me.0) link)) }
+{
+    if ear.marks & wire.mask != 0 {
+        let found = look_in(top, place, link);
+        end.waiting = found.wrapping_sub(end.taken) as u32;
+        end.look_ins = end.look_ins.saturating_add(1);
+        ear.marks ^= wire.mask;
+    }
+}
+
+/// Finds whether a parcel of the link is at hand: where none is, it hears the doorbell if that is due, and looks into the link if it is
+/// marked. It makes no other step.
+fn find_parcel<const CAP: usize>(
+    top: &Top<CAP>,
+    place: &mut Place<CAP>,
+    end: &mut InEnd,
+    ear: &mut Ear,
+    wire: &Wire,
+    link: u32,
+)
+    requires table { (place.old.table_id ≡ top.now.table_id) × IsBoard top.now.key top.now.table_id }
+    requires seat { IsManned top.now.key place.old.me }
+    requires link { (link < links top.now.key.dims) × (reader_at top.now.key.dims link ≡ place.old.me.0.pick) }
+    requires long { length (own_logs place.old.me.0).ins ≡ links top.now.key.dims }
+    requires end { IsInEnd top.now.key.slots (in_of (own_logs place.old.me.0) link) end.old.taken end.old.place end.old.waiting end.old.look_ins end.old.noted }
+    requires wire { IsWire top.now.key.dims link wire.now.bell wire.now.mask wire.now.hop }
+    requires ear { IsHeard top.now.key place.old.me.0.pick (hop_at top.now.key.dims link) (own_logs place.old.me.0) ear.old.marks ear.old.hears }
+    requires good { AreGood CAP top.now.key link (in_of (own_logs place.old.me.0) link) }
+    ensures table { place.new.table_id ≡ place.old.table_id }
+    ensures seat { IsManned top.now.key place.new.me }
+    ensures end { IsInEnd top.now.key.slots (in_of (own_logs place.new.me.0) link) end.new.taken end.new.place end.new.waiting end.new.look_ins end.new.noted }
+    ensures ear { IsHeard top.now.key place.old.me.0.pick (hop_at top.now.key.dims link) (own_logs place.new.me.0) ear.new.marks ear.new.hears }
+    ensures good { AreGood CAP top.now.key link (in_of (own_logs place.new.me.0) link) }
+    ensures here { place.new.me.0 ≡ with_logs place.old.me.0 (own_logs place.new.me.0) }
+    ensures others { ElseKept top.now.key place.old.me.0.pick link (own_logs place.old.me.0) (own_logs place.new.me.0) }
+    ensures seen { take (length (in_of (own_logs place.old.me.0) link).seen) (in_of (own_logs place.new.me.0) link).seen ≡ (in_of (own_logs place.old.me.0) link).seen }
+    ensures taken { (in_of (own_logs place.new.me.0) link).taken ≡ (in_of (own_logs place.old.me.0) link).taken }
+    ensures noted { end.new.noted ≡ end.old.noted }
+    ensures more { listens (in_of (own_logs place.old.me.0) link) ≤ listens (in_of (own_logs place.new.me.0) link) }
+    ensures unmarked { end.new.waiting ≡ 0 → (in_of (own_logs place.new.me.0) link).marked ≡ false }
+    ensures listened { end.new.waiting ≡ 0 → Rose end.old.noted (counted (listens (in_of (own_logs place.new.me.0) link))) }
+    // A parcel that is at hand costs no step.
+    ensures at_hand { end.old.waiting ≢ 0 → place.new.me.0 ≡ place.old.me.0 }
+    // Else the doorbell is heard where a hear is due, and the link is looked in where it is then marked.
+    ensures heard { end.old.waiting ≡ 0 → (m : ℕ) → m < links top.now.key.dims → reader_at top.now.key.dims m ≡ place.old.me.0.pick → hop_at top.now.key.dims m ≡ hop_at top.now.key.dims link → m ≢ link
+        → HeardWhere (is_due end.old.noted (in_of (own_logs place.old.me.0) link)) (in_of (own_logs place.old.me.0) m) (in_of (own_logs place.new.me.0) m) }
+    ensures looked { end.old.waiting ≡ 0 → LookedFor end.old.noted (in_of (own_logs place.old.me.0) link) (in_of (own_logs place.new.me.0) link) }
+{
+    if end.waiting == 0 {
+        hear_if_due(top, place, end, ear, wire, link);
+        look_if_marked(top, place, end, ear, wire, link);
+    }
+}
+
+/// Collects the link's next parcel for the empty one at hand, if one is found.
+pub(crate) fn collect_on<const CAP: usize>(
+    top: &Top<CAP>,
+    place: &mut Place<CAP>,
+    end: &mut InEnd,
+    ear: &mut Ear,
+    wire: &Wire,
+    slots: u32,
+    link: u32,
+    parcel: &mut Parcel<CAP>,
+) -> Collected
+    requires table { (place.old.table_id ≡ top.now.table_id) × IsBoard top.now.key top.now.table_id }
+    requires seat { IsManned top.now.key place.old.me }
+    requires link { (link < links top.now.key.dims) × (reader_at top.now.key.dims link ≡ place.old.me.0.pick) }
+    requires slots { slots ≡ top.now.key.slots }
+    requires long { length (own_logs place.old.me.0).ins ≡ links top.now.key.dims }
+    requires end { IsInEnd top.now.key.slots (in_of (own_logs place.old.me.0) link) end.old.taken end.old.place end.old.waiting end.old.look_ins end.old.noted }
+    requires wire { IsWire top.now.key.dims link wire.now.bell wire.now.mask wire.now.hop }
+    requires ear { IsHeard top.now.key place.old.me.0.pick (hop_at top.now.key.dims link) (own_logs place.old.me.0) ear.old.marks ear.old.hears }
+    requires good { AreGood CAP top.now.key link (in_of (own_logs place.old.me.0) link) }
+    requires empty { IsBlank parcel.old }
+    ensures table { place.new.table_id ≡ place.old.table_id }
+    ensures seat { IsManned top.now.key place.new.me }
+    ensures end { IsInEnd top.now.key.slots (in_of (own_logs place.new.me.0) link) end.new.taken end.new.place end.new.waiting end.new.look_ins end.new.noted }
+    ensures ear { IsHeard top.now.key place.old.me.0.pick (hop_at top.now.key.dims link) (own_logs place.new.me.0) ear.new.marks ear.new.hears }
+    ensures good { AreGood CAP top.now.key link (in_of (own_logs place.new.me.0) link) }
+    ensures here { place.new.me.0 ≡ with_logs place.old.me.0 (own_logs place.new.me.0) }
+    ensures others { ElseKept top.now.key place.old.me.0.pick link (own_logs place.old.me.0) (own_logs place.new.me.0) }
+    ensures seen { take (length (in_of (own_logs place.old.me.0) link).seen) (in_of (own_logs place.new.me.0) link).seen ≡ (in_of (own_logs place.old.me.0) link).seen }
+    ensures noted { end.new.noted ≡ counted (listens (in_of (own_logs place.new.me.0) link)) }
+    ensures more { listens (in_of (own_logs place.old.me.0) link) ≤ listens (in_of (own_logs place.new.me.0) link) }
+    ensures taken { result ≡ Collected.Got → (in_of (own_logs place.new.me.0) link).taken ≡ suc (in_of (own_logs place.old.me.0) link).taken }
+    ensures parcel { result ≡ Collected.Got → get_elem? (in_of (own_logs place.new.me.0) link).seen (in_of (own_logs place.old.me.0) link).taken ≡ some parcel.new }
+    ensures not_taken { result ≡ Collected.Nothing → (in_of (own_logs place.new.me.0) link).taken ≡ (in_of (own_logs place.old.me.0) link).taken }
+    ensures none_known { result ≡ Collected.Nothing → length (in_of (own_logs place.new.me.0) link).seen ≡ (in_of (own_logs place.old.me.0) link).taken }
+    ensures unmarked { result ≡ Collected.Nothing → (in_of (own_logs place.new.me.0) link).marked ≡ false }
+    ensures listened { result ≡ Collected.Nothing → Rose end.old.noted (counted (listens (in_of (own_logs place.new.me.0) link))) }
+    ensures kept { result ≡ Collected.Nothing → parcel.new ≡ parcel.old }
+    // A parcel that is at hand is taken without a step of looking.
+    ensures at_hand { end.old.waiting ≢ 0 → result ≡ Collected.Got }
+    ensures no_looking { end.old.waiting ≢ 0 → own_logs place.new.me.0 ≡ with_in (own_logs place.old.me.0) link (taken_more (in_of (own_logs place.old.me.0) link)) }
+    // Else the doorbell is heard where a hear is due, and the link is looked in where it is then marked.
+    ensures heard { end.old.waiting ≡ 0 → (m : ℕ) → m < links top.now.key.dims → reader_at top.now.key.dims m ≡ place.old.me.0.pick → hop_at top.now.key.dims m ≡ hop_at top.now.key.dims link → m ≢ link
+        → HeardWhere (is_due end.old.noted (in_of (own_logs place.old.me.0) link)) (in_of (own_logs place.old.me.0) m) (in_of (own_logs place.new.me.0) m) }
+    ensures looked { end.old.waiting ≡ 0 → LookedFor end.old.noted (in_of (own_logs place.old.me.0) link) (in_of (own_logs place.new.me.0) link) }
+    // On a link from the rank to itself, what it saw is the front of what it posted.
+    ensures own { result ≡ Collected.Got → sender_at top.now.key.dims link ≡ place.old.me.0.pick → Begins (in_of (own_logs place.new.me.0) link).seen (out_of (own_logs place.new.me.0) link).sent }
+{
+    find_parcel(top, place, end, ear, wire, link);
+    if end.waiting == 0 {
+        end.noted = ear.hears.saturating_add(end.look_ins);
+        return Collected::Nothing;
+    }
+    let slot = slots as usize * link as usize + end.place as usize;
+    receive(top, place, link, slot, parcel);
+    end.taken = end.taken.wrapping_add(1);
+    end.place = next_place(end.place, slots);
+    end.waiting -= 1;
+    end.noted = ear.hears.saturating_add(end.look_ins);
+    Collected::Got
+}

@@ -1,0 +1,97 @@
+//! A post: a look for room where no empty slot is at hand, the exchange, and the ring.
+ghost use Rattle.std.specs.Prelude.{◌≡◌, ◌≢◌, ℕ, suc, ◌+◌, ◌*◌, ◌^◌, ◌<◌, ◌≤◌, List, [], ◌∷◌, ◌++◌, length};
+ghost use Rattle.item_buffer.specs.Contents.{Contents};
+ghost use Rattle.route_tensor.specs.Link.{links};
+ghost use Rattle.route_tensor.specs.Ends.{sender_at, reader_at};
+ghost use Rattle.link_slots.specs.Logs.{OutLog, out_of, in_of, with_out, sent_of, got_of, sent_more, found_full};
+ghost use Rattle.link_slots.specs.View.{own_logs, with_logs};
+ghost use Rattle.link_slots.specs.Shape.{IsBoard, wiring, IsBlank, MayFollow, KeepsLaw};
+ghost use Rattle.link_slots.specs.Told.{IsManned};
+ghost use Rattle.link_slots.specs.Counts.{IsOutEnd, IsWire};
+
+use crate::seat::ends::{OutEnd, next_place};
+use crate::table::rule::{Place, Top};
+use crate::table::steps::{look_for_room, ring, send};
+use crate::table::wire::Wire;
+use item_buffer::Parcel;
+use port_bank::Posted;
+
+/// Looks for room where no empty slot of the link is at hand.
+fn make_room<const CAP: usize>(
+    top: &Top<CAP>,
+    place: &mut Place<CAP>,
+    end: &mut OutEnd,
+    slots: u32,
+    link: u32,
+)
+    requires table { (place.old.table_id ≡ top.now.table_id) × IsBoard top.now.key top.now.table_id }
+    requires seat { IsManned top.now.key place.old.me }
+    requires link { (link < links top.now.key.dims) × (sender_at top.now.key.dims link ≡ place.old.me.0.pick) }
+    requires slots { slots ≡ top.now.key.slots }
+    requires long { link < length (own_logs place.old.me.0).outs }
+    requires end { IsOutEnd top.now.key.slots (out_of (own_logs place.old.me.0) link) end.old.sent end.old.place end.old.spare }
+    ensures table { place.new.table_id ≡ place.old.table_id }
+    ensures seat { IsManned top.now.key place.new.me }
+    ensures end { IsOutEnd top.now.key.slots (out_of (own_logs place.new.me.0) link) end.new.sent end.new.place end.new.spare }
+    ensures here { place.new.me.0 ≡ with_logs place.old.me.0 (with_out (own_logs place.old.me.0) link (out_of (own_logs place.new.me.0) link)) }
+    ensures sent { (out_of (own_logs place.new.me.0) link).sent ≡ (out_of (own_logs place.old.me.0) link).sent }
+    ensures looks { (out_of (own_logs place.old.me.0) link).looks ≤ (out_of (own_logs place.new.me.0) link).looks }
+    ensures ready { end.old.spare ≢ 0 → place.new ≡ place.old }
+    ensures found { end.new.spare ≡ 0 → out_of (own_logs place.new.me.0) link ≡ found_full (out_of (own_logs place.old.me.0) link) }
+    ensures looked { end.new.spare ≡ 0 → (out_of (own_logs place.new.me.0) link).looks ≡ suc (out_of (own_logs place.old.me.0) link).looks }
+    ensures all_room { end.new.spare ≡ 0 → top.now.key.slots ≤ (out_of (own_logs place.new.me.0) link).room }
+{
+    if end.spare == 0 {
+        let found = look_for_room(top, place, link);
+        end.spare = slots - end.sent.wrapping_sub(found) as u32;
+    }
+}
+
+/// Posts the parcel on the link and rings for it, or finds in a look that every slot is taken.
+pub(crate) fn post_on<const CAP: usize>(
+    top: &Top<CAP>,
+    place: &mut Place<CAP>,
+    end: &mut OutEnd,
+    wire: &Wire,
+    slots: u32,
+    link: u32,
+    parcel: &mut Parcel<CAP>,
+) -> Posted
+    requires table { (place.old.table_id ≡ top.now.table_id) × IsBoard top.now.key top.now.table_id }
+    requires seat { IsManned top.now.key place.old.me }
+    requires link { (link < links top.now.key.dims) × (sender_at top.now.key.dims link ≡ place.old.me.0.pick) }
+    requires slots { slots ≡ top.now.key.slots }
+    requires long { link < length (own_logs place.old.me.0).outs }
+    requires end { IsOutEnd top.now.key.slots (out_of (own_logs place.old.me.0) link) end.old.sent end.old.place end.old.spare }
+    requires wire { IsWire top.now.key.dims link wire.now.bell wire.now.mask wire.now.hop }
+    requires parcel { MayFollow top.now.key.dims CAP link (out_of (own_logs place.old.me.0) link).sent parcel.old }
+    requires law { KeepsLaw top.now.key.dims place.old.me.0.pick (sent_of (with_out (own_logs place.old.me.0) link (sent_more (out_of (own_logs place.old.me.0) link) parcel.old))) (got_of (own_logs place.old.me.0)) }
+    ensures table { place.new.table_id ≡ place.old.table_id }
+    ensures seat { IsManned top.now.key place.new.me }
+    ensures end { IsOutEnd top.now.key.slots (out_of (own_logs place.new.me.0) link) end.new.sent end.new.place end.new.spare }
+    ensures here { place.new.me.0 ≡ with_logs place.old.me.0 (with_out (own_logs place.old.me.0) link (out_of (own_logs place.new.me.0) link)) }
+    ensures sent { result ≡ Posted.Sent → (out_of (own_logs place.new.me.0) link).sent ≡ (out_of (own_logs place.old.me.0) link).sent ++ parcel.old ∷ [] }
+    ensures offered { result ≡ Posted.Sent → (out_of (own_logs place.new.me.0) link).offered ≡ length (out_of (own_logs place.new.me.0) link).sent }
+    ensures emptied { result ≡ Posted.Sent → IsBlank parcel.new }
+    ensures room { result ≡ Posted.Sent → length (out_of (own_logs place.old.me.0) link).sent < (out_of (own_logs place.new.me.0) link).room }
+    ensures looks { (out_of (own_logs place.old.me.0) link).looks ≤ (out_of (own_logs place.new.me.0) link).looks }
+    ensures at_hand { length (out_of (own_logs place.old.me.0) link).sent < (out_of (own_logs place.old.me.0) link).room → (result ≡ Posted.Sent) × ((out_of (own_logs place.new.me.0) link).looks ≡ (out_of (own_logs place.old.me.0) link).looks) }
+    ensures found { result ≡ Posted.NoRoom → out_of (own_logs place.new.me.0) link ≡ found_full (out_of (own_logs place.old.me.0) link) }
+    ensures looked { result ≡ Posted.NoRoom → (out_of (own_logs place.new.me.0) link).looks ≡ suc (out_of (own_logs place.old.me.0) link).looks }
+    ensures full { result ≡ Posted.NoRoom → (out_of (own_logs place.new.me.0) link).room ≡ length (out_of (own_logs place.old.me.0) link).sent }
+    ensures all_room { result ≡ Posted.NoRoom → top.now.key.slots ≤ (out_of (own_logs place.new.me.0) link).room }
+    ensures not_sent { result ≡ Posted.NoRoom → (out_of (own_logs place.new.me.0) link).sent ≡ (out_of (own_logs place.old.me.0) link).sent }
+    ensures kept { result ≡ Posted.NoRoom → parcel.new ≡ parcel.old }
+{
+    make_room(top, place, end, slots, link);
+    if end.spare == 0 {
+        return Posted::NoRoom;
+    }
+    let slot = slots as usize * link as usize + end.place as usize;
+    send(top, place, link, slot, parcel);
+    ring(top, place, link, wire.bell, wire.mask);
+    end.sent = end.sent.wrapping_add(1);
+    end.place = next_place(end.place, slots);
+    end.spare -= 1;
+    Posted::Sent
+}

@@ -1,0 +1,8 @@
+//! The table that the threads share: its rule, what is told once of it, what a seat at it knows, and each step that a seat makes.
+
+pub(crate) mod plan;
+pub(crate) mod plays;
+pub(crate) mod rule;
+pub(crate) mod steps;
+pub(crate) mod view;
+pub(crate) mod wire;

@@ -1,4 +1,4 @@
--- Ranks that have finished as many rounds don't keep each other.
+-- Links at their two ends, and why ranks that have finished as many rounds don't keep each other.
 use Rattle.std.proofs.Common.{◌≡◌, ◌⊎◌, ℕ, zero, suc, ◌+◌, ◌*◌, ◌<◌, ◌≤◌, ◌||◌, Bool, true, false, cond, List, [], ◌∷◌, ◌++◌, length, refl, sym, ap, subst, ◌∙◌, arith, inl, inr}
 use Rattle.std.proofs.lemmas.Bool.{cases_Bool, false≢true, eq-eqb}
 use Rattle.std.proofs.lemmas.List.{length-append}
@@ -12,7 +12,7 @@ use Rattle.exstack.specs.declared.stage.Stage.TheVariants.{Start, Proceeding, Fi
 use Rattle.exstack.specs.Links.{no_out, no_in}
 use Rattle.exstack.specs.State.{State, out_at, in_at, number, link_to, link_from, is_proceeding, is_exchanging}
 use Rattle.exstack.specs.Agreement.{LinkAgrees, AgreesIn, rounds_in, lasts_in}
-use Rattle.exstack.specs.Standing.{IsStack}
+use Rattle.exstack.specs.Standing.{IsOut, IsIn}
 use Rattle.exstack.specs.Lockstep.{finished_in, HasFinished, IsPosted, HasPosted, InStep}
 use Rattle.exstack.proofs.OneHop.{number_within, number_sender, number_reader}
 
@@ -24,7 +24,7 @@ open_rest (p ∷ ps) none = elim (cases_Bool p.last) [
   | inr f ↦ ap (λ b. length (p ∷ cond b [] (segment 0 ps))) f ∙ ap suc (open_rest ps (omega (arith, none, lasts_first p ps false f)))
 ]
 
-more_open : (log rest : List Shipped) (e : ℕ) → lasts log ≡ e → lasts rest ≡ 0 → length (segment e (log ++ rest)) ≡ length (segment e log) + length rest
+pub more_open : (log rest : List Shipped) (e : ℕ) → lasts log ≡ e → lasts rest ≡ 0 → length (segment e (log ++ rest)) ≡ length (segment e log) + length rest
 more_open [] rest zero is none = omega (arith, open_rest rest none)
 more_open [] rest (suc e) is none = absurd (omega (arith, is))
 more_open (p ∷ ps) rest zero is none = elim (cases_Bool p.last) [
@@ -57,7 +57,7 @@ apart_by got sent e b lg ls =
     omega (arith, seg, all)
 
 -- how many rounds are begun, by those that are finished
-begun_more : (n : ℕ) (s : Stage) → (is_proceeding s || is_exchanging s) ≡ true → rounds_in n s ≡ finished_in n s + 1
+pub begun_more : (n : ℕ) (s : Stage) → (is_proceeding s || is_exchanging s) ≡ true → rounds_in n s ≡ finished_in n s + 1
 begun_more n Start h = absurd (false≢true h)
 begun_more n Proceeding h = omega arith
 begun_more n Filling h = absurd (false≢true h)
@@ -65,7 +65,7 @@ begun_more n Exchanging h = omega arith
 begun_more n Full h = absurd (false≢true h)
 begun_more n AllDone h = absurd (false≢true h)
 
-finished_low : (n : ℕ) (s : Stage) → finished_in n s ≤ rounds_in n s
+pub finished_low : (n : ℕ) (s : Stage) → finished_in n s ≤ rounds_in n s
 finished_low n Start = omega arith
 finished_low n Proceeding = omega arith
 finished_low n Filling = omega arith
@@ -94,37 +94,49 @@ module _ (ranks cap slots : ℕ) (n : ℕ → ℕ) (all : ℕ → State) (sent g
   abbrev l : ℕ
   l = number ranks a b
 
-  begins : Begins (got l) (sent l)
+  pub begins : Begins (got l) (sent l)
   begins = (t.links_keep l (number_within ranks a b la lb t.few)).begins
 
+  pub to_is : link_to (all a) b ≡ l
+  to_is = ap (λ p. number p (all a).rank b) (t.same_ranks a la) ∙ ap (λ r. number ranks r b) (t.same_rank a la)
+
+  pub from_is : link_from (all b) a ≡ l
+  from_is = ap (λ p. number p a (all b).rank) (t.same_ranks b lb) ∙ ap (λ r. number ranks a r) (t.same_rank b lb)
+
+  pub sent_own : starting_at (ranks ∷ []) a sent l ≡ sent l
+  sent_own = starting-own (ranks ∷ []) a sent l (number_sender ranks a b la lb t.few)
+
+  pub got_own : ending_at (ranks ∷ []) b got l ≡ got l
+  got_own = ending-own (ranks ∷ []) b got l (number_reader ranks a b la lb t.few)
+
   -- at the sender
-  out_end : LinkAgrees (all a).epoch (rounds_in (n a) (all a).stage) (out_at (all a) b).closed (out_at (all a) b).due (sent l)
+  pub out_end : LinkAgrees (all a).epoch (rounds_in (n a) (all a).stage) (out_at (all a) b).closed (out_at (all a) b).due (sent l)
   out_end =
-      let is : link_to (all a) b ≡ l = ap (λ p. number p (all a).rank b) (t.same_ranks a la) ∙ ap (λ r. number ranks r b) (t.same_rank a la) in
-      let own : starting_at (ranks ∷ []) a sent (link_to (all a) b) ≡ sent l = ap (starting_at (ranks ∷ []) a sent) is ∙ starting-own (ranks ∷ []) a sent l (number_sender ranks a b la lb t.few) in
-      subst (LinkAgrees (all a).epoch (rounds_in (n a) (all a).stage) (out_at (all a) b).closed (out_at (all a) b).due) own ((t.agree a la).outs b (omega (arith, lb, t.same_ranks a la)))
+      subst (LinkAgrees (all a).epoch (rounds_in (n a) (all a).stage) (out_at (all a) b).closed (out_at (all a) b).due) (ap (starting_at (ranks ∷ []) a sent) to_is ∙ sent_own)
+      ((t.agree a la).outs b (omega (arith, lb, t.same_ranks a la)))
+
+  pub out_is : IsOut cap (all a).stage (all a).done (out_at (all a) b)
+  out_is = let s = t.standing a la in s.each_out b no_out (omega (arith, lb, s.all_outs, t.same_ranks a la))
 
   -- at the reader
-  in_end : LinkAgrees (all b).epoch (rounds_in (n b) (all b).stage) (in_at (all b) a).ended (in_at (all b) a).due (got l)
+  pub in_end : LinkAgrees (all b).epoch (rounds_in (n b) (all b).stage) (in_at (all b) a).ended (in_at (all b) a).due (got l)
   in_end =
-      let is : link_from (all b) a ≡ l = ap (λ p. number p a (all b).rank) (t.same_ranks b lb) ∙ ap (λ r. number ranks a r) (t.same_rank b lb) in
-      let own : ending_at (ranks ∷ []) b got (link_from (all b) a) ≡ got l = ap (ending_at (ranks ∷ []) b got) is ∙ ending-own (ranks ∷ []) b got l (number_reader ranks a b la lb t.few) in
-      subst (LinkAgrees (all b).epoch (rounds_in (n b) (all b).stage) (in_at (all b) a).ended (in_at (all b) a).due) own ((t.agree b lb).ins a (omega (arith, la, t.same_ranks b lb)))
+      subst (LinkAgrees (all b).epoch (rounds_in (n b) (all b).stage) (in_at (all b) a).ended (in_at (all b) a).due) (ap (ending_at (ranks ∷ []) b got) from_is ∙ got_own)
+      ((t.agree b lb).ins a (omega (arith, la, t.same_ranks b lb)))
 
-  out_keeps : IsStack cap (all a) → (out_at (all a) b).due ≡ true → ((out_at (all a) b).closed ≡ false) × ((is_proceeding (all a).stage || is_exchanging (all a).stage) ≡ true)
-  out_keeps s due =
-      let o = s.each_out b no_out (omega (arith, lb, s.all_outs, t.same_ranks a la)) in
-      (o.due_open due, o.due_round due)
+  pub in_is : IsIn (all b).stage (in_at (all b) a)
+  in_is = let s = t.standing b lb in s.each_in a no_in (omega (arith, la, s.all_ins, t.same_ranks b lb))
 
-  in_keeps : IsStack cap (all b) → (in_at (all b) a).due ≡ true → ((in_at (all b) a).ended ≡ false) × ((is_proceeding (all b).stage || is_exchanging (all b).stage) ≡ true)
-  in_keeps s due =
-      let i = s.each_in a no_in (omega (arith, la, s.all_ins, t.same_ranks b lb)) in
-      (i.due_open due, i.due_round due)
+  out_keeps : (out_at (all a) b).due ≡ true → ((out_at (all a) b).closed ≡ false) × ((is_proceeding (all a).stage || is_exchanging (all a).stage) ≡ true)
+  out_keeps due = (out_is.due_open due, out_is.due_round due)
+
+  in_keeps : (in_at (all b) a).due ≡ true → ((in_at (all b) a).ended ≡ false) × ((is_proceeding (all b).stage || is_exchanging (all b).stage) ≡ true)
+  in_keeps due = (in_is.due_open due, in_is.due_round due)
 
   -- there is room where the reader has finished as much
   pub room : HasFinished (all a).epoch (finished_in (n a) (all a).stage) (n b) (all b) → (out_at (all a) b).due ≡ true → length (got l) ≡ length (sent l)
   room past due =
-      let k = out_keeps (t.standing a la) due in
+      let k = out_keeps due in
       let out = open_count _ _ _ _ (sent l) out_end k.0 in
       let m : rounds_in (n a) (all a).stage ≡ finished_in (n a) (all a).stage + 1 = begun_more (n a) (all a).stage k.1 in
       let seg : length (segment (all a).epoch (sent l)) ≡ finished_in (n a) (all a).stage = omega (arith, out.1, m, ap {B = ℕ} (λ d. cond d 1 0) due) in
@@ -147,14 +159,14 @@ module _ (ranks cap slots : ℕ) (n : ℕ → ℕ) (all : ℕ → State) (sent g
         far : (d : Bool) → (in_at (all b) a).due ≡ d → length (segment (all a).epoch (got l)) + cond d 1 0 ≡ rounds_in (n b) (all b).stage → finished_in (n a) (all a).stage ≤ finished_in (n b) (all b).stage
             → finished_in (n a) (all a).stage ≤ length (segment (all a).epoch (got l))
         far true is count low =
-            let k = in_keeps (t.standing b lb) is in
+            let k = in_keeps is in
             omega (arith, count, low, begun_more (n b) (all b).stage k.1)
         far false is count low = omega (arith, count, low, finished_low (n b) (all b).stage)
 
   -- and something to collect where the sender has posted
   pub arrival : HasPosted (all b).epoch (finished_in (n b) (all b).stage) (n a) (all a) → (in_at (all b) a).due ≡ true → length (got l) < length (sent l)
   arrival posted due =
-      let k = in_keeps (t.standing b lb) due in
+      let k = in_keeps due in
       let in' = open_count _ _ _ _ (got l) in_end k.0 in
       let m : rounds_in (n b) (all b).stage ≡ finished_in (n b) (all b).stage + 1 = begun_more (n b) (all b).stage k.1 in
       let seg : length (segment (all b).epoch (got l)) ≡ finished_in (n b) (all b).stage = omega (arith, in'.1, m, ap {B = ℕ} (λ d. cond d 1 0) due) in
@@ -185,7 +197,7 @@ module _ (ranks cap slots : ℕ) (n : ℕ → ℕ) (all : ℕ → State) (sent g
             → finished_in (n b) (all b).stage < length (segment (all b).epoch (sent l))
         ahead count (inl far) = by (out_at (all a) b).due refl count where
           by : (d : Bool) → (out_at (all a) b).due ≡ d → length (segment (all b).epoch (sent l)) + cond d 1 0 ≡ rounds_in (n a) (all a).stage → finished_in (n b) (all b).stage < length (segment (all b).epoch (sent l))
-          by true is c = let k = out_keeps (t.standing a la) is in omega (arith, c, far, begun_more (n a) (all a).stage k.1)
+          by true is c = let k = out_keeps is in omega (arith, c, far, begun_more (n a) (all a).stage k.1)
           by false is c = omega (arith, c, far, finished_low (n a) (all a).stage)
         ahead count (inr p) =
             let none = p.none_due b (omega (arith, lb, t.same_ranks a la)) in

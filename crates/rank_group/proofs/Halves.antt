@@ -14,7 +14,7 @@ use Rattle.exstack.specs.Parts.{is_all_done}
 use Rattle.exstack.specs.Agreement.{LinkAgrees, rounds_in, lasts_in, cycle_after}
 use Rattle.exstack.specs.Standing.{IsOut, IsIn}
 use Rattle.exstack.specs.Lockstep.{finished_in, HasFinished, HasPosted, InStep, RoomLaw, ArrivalLaw}
-use Rattle.exstack.proofs.OneHop.{number_within, number_sender, number_reader}
+use Rattle.exstack.proofs.Lockstep.{begins, sent_own, got_own, out_end, out_is, in_end, in_is}
 use Rattle.rank_node.specs.Cycles.{IsOnward, Awaits}
 use Rattle.rank_node.specs.Moves.{WaitsFor}
 use Rattle.rank_group.specs.Ranks.{crowded_in, idle_in}
@@ -105,50 +105,19 @@ module _ (p cap slots : ℕ) (n : ℕ → ℕ) (all : ℕ → State) (sent got :
   abbrev l : ℕ
   l = number p a b
 
-  pub begins : Begins (got l) (sent l)
-  begins = (t.links_keep l (number_within p a b la lb t.few)).begins
-
-  pub to_is : link_to (all a) b ≡ l
-  to_is = ap (λ k. number k (all a).rank b) (t.same_ranks a la) ∙ ap (λ r. number p r b) (t.same_rank a la)
-
-  pub from_is : link_from (all b) a ≡ l
-  from_is = ap (λ k. number k a (all b).rank) (t.same_ranks b lb) ∙ ap (λ r. number p a r) (t.same_rank b lb)
-
-  pub sent_own : starting_at (p ∷ []) a sent l ≡ sent l
-  sent_own = starting-own (p ∷ []) a sent l (number_sender p a b la lb t.few)
-
-  pub got_own : ending_at (p ∷ []) b got l ≡ got l
-  got_own = ending-own (p ∷ []) b got l (number_reader p a b la lb t.few)
-
-  pub out_end : LinkAgrees (all a).epoch (rounds_in (n a) (all a).stage) (out_at (all a) b).closed (out_at (all a) b).due (sent l)
-  out_end =
-      subst (LinkAgrees (all a).epoch (rounds_in (n a) (all a).stage) (out_at (all a) b).closed (out_at (all a) b).due) (ap (starting_at (p ∷ []) a sent) to_is ∙ sent_own)
-      ((t.agree a la).outs b (omega (arith, lb, t.same_ranks a la)))
-
-  pub in_end : LinkAgrees (all b).epoch (rounds_in (n b) (all b).stage) (in_at (all b) a).ended (in_at (all b) a).due (got l)
-  in_end =
-      subst (LinkAgrees (all b).epoch (rounds_in (n b) (all b).stage) (in_at (all b) a).ended (in_at (all b) a).due) (ap (ending_at (p ∷ []) b got) from_is ∙ got_own)
-      ((t.agree b lb).ins a (omega (arith, la, t.same_ranks b lb)))
-
-  pub out_is : IsOut cap (all a).stage (all a).done (out_at (all a) b)
-  out_is = let s = t.standing a la in s.each_out b no_out (omega (arith, lb, s.all_outs, t.same_ranks a la))
-
-  pub in_is : IsIn (all b).stage (in_at (all b) a)
-  in_is = let s = t.standing b lb in s.each_in a no_in (omega (arith, la, s.all_ins, t.same_ranks b lb))
-
   -- a link whose parcel is due isn't through
   pub out_going : (out_at (all a) b).due ≡ true → lasts (sent l) ≡ (all a).epoch
-  out_going due = out_end.ended ∙ ap (lasts_in (all a).epoch) (out_is.due_open due)
+  out_going due = (out_end p cap slots n all sent got t a b la lb).ended ∙ ap (lasts_in (all a).epoch) ((out_is p cap slots n all sent got t a b la lb).due_open due)
 
   pub in_going : (in_at (all b) a).due ≡ true → lasts (got l) ≡ (all b).epoch
-  in_going due = in_end.ended ∙ ap (lasts_in (all b).epoch) (in_is.due_open due)
+  in_going due = (in_end p cap slots n all sent got t a b la lb).ended ∙ ap (lasts_in (all b).epoch) ((in_is p cap slots n all sent got t a b la lb).due_open due)
 
   -- and where its reader, or its sender, is done with the epoch it is
   pub in_through : is_all_done (all b).stage ≡ true → lasts (got l) ≡ (all b).epoch + 1
-  in_through over = in_end.ended ∙ ap (lasts_in (all b).epoch) (in_is.all_ended over)
+  in_through over = (in_end p cap slots n all sent got t a b la lb).ended ∙ ap (lasts_in (all b).epoch) ((in_is p cap slots n all sent got t a b la lb).all_ended over)
 
   pub out_through : is_all_done (all a).stage ≡ true → (all a).done ≡ true → lasts (sent l) ≡ (all a).epoch + 1
-  out_through over done = out_end.ended ∙ ap (lasts_in (all a).epoch) (out_is.done_closed done (none (out_at (all a) b).due refl)) where
+  out_through over done = (out_end p cap slots n all sent got t a b la lb).ended ∙ ap (lasts_in (all a).epoch) ((out_is p cap slots n all sent got t a b la lb).done_closed done (none (out_at (all a) b).due refl)) where
     no_round : (s : Stage) → is_all_done s ≡ true → (is_proceeding s || is_exchanging s) ≡ true → ⊥
     no_round Start e k = false≢true e
     no_round Proceeding e k = false≢true e
@@ -158,7 +127,7 @@ module _ (p cap slots : ℕ) (n : ℕ → ℕ) (all : ℕ → State) (sent got :
     no_round AllDone e k = false≢true k
 
     none : (d : Bool) → (out_at (all a) b).due ≡ d → (out_at (all a) b).due ≡ false
-    none true e = absurd (no_round (all a).stage over (out_is.due_round e))
+    none true e = absurd (no_round (all a).stage over ((out_is p cap slots n all sent got t a b la lb).due_round e))
     none false e = e
 
 -- a rank that its turn left in its epoch

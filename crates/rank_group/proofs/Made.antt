@@ -25,7 +25,8 @@ use Rattle.rank_group.specs.Ranks.{RankState, AfterRank, StaysIn, EndsEpoch, cro
 use Rattle.rank_group.specs.Halves.{most_rounds, rounds_made, HasMade, MoverMade, next_cycle}
 use Rattle.rank_group.specs.Worlds.{World, Plan, AllMade}
 use Rattle.rank_group.proofs.Worlds.{stack_of}
-use Rattle.rank_group.proofs.Halves.{halves_low, halves_less, half_more, got_own}
+use Rattle.exstack.proofs.Lockstep.{got_own}
+use Rattle.rank_group.proofs.Halves.{halves_low, halves_less, half_more}
 use Rattle.rank_group.proofs.Cycled.{cycle_over, cycle_stays}
 use Rattle.rank_group.proofs.Stacks.{over_in, stack_in, rank_at, stack_is, one, step, short, all_stacks}
 use Rattle.rank_group.proofs.OwnLink.{own_still}

@@ -30,7 +30,8 @@ use Rattle.rank_group.specs.Ranks.{RankState}
 use Rattle.rank_group.specs.Halves.{quota_of, most_rounds, HasCycled, IsBetween}
 use Rattle.rank_group.specs.Worlds.{World, Plan, mover_in}
 use Rattle.rank_group.proofs.Worlds.{core, stack_of, is_stacking, still_within, over_at_last}
-use Rattle.rank_group.proofs.Halves.{AllStacks, begins, to_is, from_is, sent_own, got_own}
+use Rattle.exstack.proofs.Lockstep.{begins, to_is, from_is, sent_own, got_own}
+use Rattle.rank_group.proofs.Halves.{AllStacks}
 
 -- an exstack whose epoch isn't over has finished two rounds at most for each cycle that went on
 finished_low : (n : ℕ) (s : Stage) → is_all_done s ≡ false → finished_in n s ≤ 2 * cycles_gone_on n s

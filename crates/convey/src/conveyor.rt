@@ -335,8 +335,9 @@ fn settle<const CAP: usize, const HOPS: usize>(state: &mut RankState<CAP, HOPS>)
     ensures standing { IsState state.new }
     ensures cap { state.new.cap ≡ CAP }
 {
-    let _settled = state.settle();
-    progress(state.phase())
+    let phase = state.settle();
+    state.known();
+    progress(phase)
 }
 
 /// The answer in a phase.

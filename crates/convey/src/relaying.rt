@@ -27,7 +27,7 @@ pub(crate) fn relay_all<const CAP: usize, const HOPS: usize>(state: &mut RankSta
     }
 }
 
-/// PassesThrough from the links in of one hop.
+/// Passes on from the links in of one hop.
 pub(crate) fn relay_one<const CAP: usize, const HOPS: usize>(
     state: &mut RankState<CAP, HOPS>,
     h: u32,
@@ -46,6 +46,6 @@ pub(crate) fn relay_one<const CAP: usize, const HOPS: usize>(
     ensures cap { state.new.cap ≡ state.old.cap }
 {
     state.known();
-    let _count = state.relay(h);
+    state.relay(h);
     state.known();
 }

@@ -123,8 +123,7 @@ impl<const CAP: usize, const HOPS: usize> Station<CAP, HOPS> {
         if self.state.phase() == Phase::Dormant || self.state.epoch() >= 1000 {
             return false;
         }
-        let _settled = self.state.settle();
-        if self.state.phase() != Phase::Complete {
+        if self.state.settle() != Phase::Complete {
             return false;
         }
         self.state.reset();

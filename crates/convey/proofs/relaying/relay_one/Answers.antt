@@ -15,8 +15,8 @@ use Rattle.convey.proofs.relaying.relay_one.Goals as goal
 pub returns-clause-passed : goal.returns-clause-passed
 returns-clause-passed g c =
     let st : State = c.args.state.now in
-    let e = c.relay-count.ensures in
-    let new : State = c.relay-count.new.self in
+    let e = c.relay.ensures in
+    let new : State = c.relay.new.self in
     let t = subst IsState e.rest c.known-2.ensures.standing in
     let keeps = subst (λ (n : State). (x y : ℕ) → PassesThrough st.dims st.rank x y c.args.h → held n x y c.args.h ≡ held st x y c.args.h) e.rest e.held in
     λ dims rank sent got r. subst (λ n. PassedOn dims rank st n sent got) (sym e.rest)
@@ -25,8 +25,8 @@ returns-clause-passed g c =
 pub returns-clause-stopped : goal.returns-clause-stopped
 returns-clause-stopped g c =
     let st : State = c.args.state.now in
-    let e = c.relay-count.ensures in
-    let new : State = c.relay-count.new.self in
+    let e = c.relay.ensures in
+    let new : State = c.relay.new.self in
     let t = subst IsState e.rest c.known-2.ensures.standing in
     subst (λ (n : State). (l : ℕ) → l < links n.dims → hop_at n.dims l ≡ c.args.h → IsBlocked n l) (sym e.rest)
     (blocked_here st new.outs new.ins c.args.h c.requires.first c.requires.last t e.stopped)
@@ -34,15 +34,15 @@ returns-clause-stopped g c =
 pub returns-clause-ins : goal.returns-clause-ins
 returns-clause-ins g c =
     let st : State = c.args.state.now in
-    let e = c.relay-count.ensures in
-    let new : State = c.relay-count.new.self in
+    let e = c.relay.ensures in
+    let new : State = c.relay.new.self in
     subst (λ (n : State). (l : ℕ) → l < links n.dims → hop_at n.dims l ≢ c.args.h → in_of n l ≡ in_of st l) (sym e.rest)
     (same_ins st new.ins c.args.h c.known.ensures.standing e.takes)
 
 pub returns-clause-outs : goal.returns-clause-outs
 returns-clause-outs g c =
     let st : State = c.args.state.now in
-    let e = c.relay-count.ensures in
-    let new : State = c.relay-count.new.self in
+    let e = c.relay.ensures in
+    let new : State = c.relay.new.self in
     subst (λ (n : State). (l : ℕ) → l < links n.dims → hop_at n.dims l ≢ c.args.h + 1 → out_of n l ≡ out_of st l) (sym e.rest)
     (same_outs st new.outs (c.args.h + 1) c.known.ensures.standing e.adds)

@@ -18,4 +18,4 @@ mod BothEnds
 mod Exchange
 mod Together
 mod Batches
-mod Lockstep
+pub mod Lockstep

@@ -1,5 +1,5 @@
 -- Items that came together are taken in one after the other.
-use Rattle.std.proofs.Common.{◌≡◌, ℕ, zero, suc, ◌+◌, ◌-◌, ◌^◌, ◌<◌, ◌≤◌, min, Bool, true, false, cond, List, [], ◌∷◌, length, map, slice_get, Option, Some, None, refl, sym, ap, subst, ◌∙◌, arith}
+use Rattle.std.proofs.Common.{◌≡◌, ℕ, suc, ◌+◌, ◌-◌, ◌^◌, ◌<◌, min, Bool, true, false, cond, List, [], ◌∷◌, length, map, slice_get, Option, Some, None, refl, sym, subst, ◌∙◌, arith}
 use Rattle.std.proofs.lemmas.Bool.{true≢false}
 use Rattle.std.proofs.lemmas.Option.{slice_get-map, same_Some}
 use Rattle.std.specs.Option.{option_map}
@@ -25,10 +25,13 @@ Chain {S} R voting prog prog' (e ∷ es) sum sum' spoiled spoiled' =
 
 votes_chain : {S : Type 0} (R : Rules S) (prog : S) (es : List (ℕ × Item)) (sum : ℕ) (spoiled : Bool) → Chain R true prog prog es sum (summed sum es) spoiled spoiled
 votes_chain R prog [] sum spoiled = (refl, refl, refl)
-votes_chain R prog (e ∷ es) sum spoiled =
-    (prog, min (sum + e.1.a) (2 ^ 64 - 1), spoiled,
-    record { emissions = refl; summed = refl; unspoiled = λ q. q; votes = λ q. (refl, refl); absorbed = λ q. absurd (true≢false q) },
-    votes_chain R prog es (min (sum + e.1.a) (2 ^ 64 - 1)) spoiled)
+votes_chain R prog (e ∷ es) sum spoiled = (
+  prog,
+  min (sum + e.1.a) (2 ^ 64 - 1),
+  spoiled,
+  record { emissions = refl; summed = refl; unspoiled = λ q. q; votes = λ q. (refl, refl); absorbed = λ q. absurd (true≢false q) },
+  votes_chain R prog es (min (sum + e.1.a) (2 ^ 64 - 1)) spoiled,
+)
 
 -- once memory was wanting nothing changes
 spoiled_chain : {S : Type 0} (R : Rules S) (prog : S) (es : List (ℕ × Item)) (sum : ℕ) → Chain R false prog prog es sum sum true true
@@ -45,9 +48,13 @@ one_lawful R laws prog from x false valid is = (valid, refl)
 work_chain : {S : Type 0} (R : Rules S) → Laws R → (prog : S) (es : List (ℕ × Item)) (sum : ℕ) → R.valid prog → Chain R false prog (all_taken_in R prog es) es sum sum false false
 work_chain R laws prog [] sum valid = (refl, refl, refl)
 work_chain R laws prog (e ∷ es) sum valid =
-    let one = one_lawful R laws prog e.0 e.1 (fits R prog e.0 e.1) valid refl in
-    (taken_in R prog e.0 e.1, sum, false, record { emissions = one.1; summed = refl; unspoiled = λ q. q; votes = λ q. (refl, absurd (true≢false (sym q))); absorbed = λ q r. refl },
-    work_chain R laws (taken_in R prog e.0 e.1) es sum one.0)
+    let one = one_lawful R laws prog e.0 e.1 (fits R prog e.0 e.1) valid refl in (
+      taken_in R prog e.0 e.1,
+      sum,
+      false,
+      record { emissions = one.1; summed = refl; unspoiled = λ q. q; votes = λ q. (refl, absurd (true≢false (sym q))); absorbed = λ q r. refl },
+      work_chain R laws (taken_in R prog e.0 e.1) es sum one.0,
+    )
 
 -- a batch that isn't empty is a chain
 pub each_chain : {S : Type 0} (R : Rules S) → Laws R → (voting : Bool) (prog prog' : S) (es : List (ℕ × Item)) (sum sum' : ℕ) (spoiled spoiled' : Bool) → 0 < length es
@@ -58,9 +65,13 @@ each_chain R laws true prog prog' es sum sum' spoiled spoiled' some t =
     (subst (λ n. Chain R true prog prog es sum n spoiled spoiled') (sym t.summed_up)
     (subst (λ b. Chain R true prog prog es sum (summed sum es) spoiled b) (sym same.0) (votes_chain R prog es sum spoiled)))
 each_chain R laws false prog prog' [] sum sum' spoiled spoiled' some t = absurd (omega (arith, some))
-each_chain R laws false prog prog' (e ∷ es) sum sum' spoiled true some t =
-    (prog', sum, true, record { emissions = t.emissions; summed = refl; unspoiled = λ q. absurd (true≢false q); votes = λ q. absurd (true≢false (sym q)); absorbed = λ q r. absurd (true≢false r) },
-    subst (λ n. Chain R false prog' prog' es sum n true true) (sym t.summed_up) (spoiled_chain R prog' es sum))
+each_chain R laws false prog prog' (e ∷ es) sum sum' spoiled true some t = (
+  prog',
+  sum,
+  true,
+  record { emissions = t.emissions; summed = refl; unspoiled = λ q. absurd (true≢false q); votes = λ q. absurd (true≢false (sym q)); absorbed = λ q r. absurd (true≢false r) },
+  subst (λ n. Chain R false prog' prog' es sum n true true) (sym t.summed_up) (spoiled_chain R prog' es sum),
+)
 each_chain R laws false prog prog' (e ∷ es) sum sum' spoiled false some t =
     subst (λ b. Chain R false prog prog' (e ∷ es) sum sum' b false) (sym (t.unspoiled refl))
     (subst (λ s. Chain R false prog s (e ∷ es) sum sum' false false) (sym (t.absorbed refl refl))

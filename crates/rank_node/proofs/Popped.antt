@@ -1,25 +1,20 @@
 -- Items are popped from an exstack, and summed or absorbed.
-use Rattle.std.proofs.Common.{◌≡◌, ℕ, zero, suc, ◌+◌, ◌<◌, ◌≤◌, Bool, true, false, List, [], ◌∷◌, length, slice_get, Option, Some, None, refl, sym, ap, subst, ◌∙◌, arith, get_or, set, sum_by, drop, add-one}
+use Rattle.std.proofs.Common.{◌≡◌, ℕ, zero, suc, ◌+◌, ◌<◌, ◌≤◌, Bool, List, [], ◌∷◌, length, slice_get, Option, Some, None, refl, sym, ap, subst, ◌∙◌, arith, get_or, set, sum_by, drop, add-one}
 use Rattle.std.proofs.lemmas.List.Sums.{sum_by-set, sum_by-cons}
 use Rattle.std.proofs.lemmas.List.Quantifiers.{position-Some}
-use Rattle.std.specs.List.{position}
 use Rattle.std.specs.Option.{option_map}
 use Rattle.bale_types.specs.declared.item.Entry.{Entry}
 use Rattle.bale_types.specs.declared.item.Item.{Item}
 use Rattle.route_tensor.specs.Grid.{ranks}
-use Rattle.port_bank.specs.Logs.{Logs}
-use Rattle.port_bank.specs.Machine.Step.{Pull, Idle}
+use Rattle.port_bank.specs.Machine.Step.{Idle}
 use Rattle.exstack.specs.Links.{In, no_in, has_unread, with_first_read}
 use Rattle.exstack.specs.State.{State, dims_of, in_at, unread_of, lowest_unread, pop_from, popped_from, pops}
-use Rattle.exstack.specs.Agreement.{AgreesIn}
 use Rattle.exstack.specs.Parts.{part_of, IsStepOf, KeepsAgreement, GivesNext}
 use Rattle.exstack.proofs.Calls.{none_unread, some_unread}
 use Rattle.exstack.proofs.Places.{none_passes}
 use Rattle.exstack.proofs.OneHop.{ranks_one}
 use Rattle.round_program.specs.Rules.{Rules}
 use Rattle.round_program.specs.Laws.{Laws}
-use Rattle.rank_node.specs.declared.sends.Sends.{Sends}
-use Rattle.rank_node.specs.Sending.{is_voting}
 use Rattle.rank_node.specs.Runs.{HasTaken}
 use Rattle.rank_node.specs.Pulls.{Pops}
 use Rattle.rank_node.specs.Batches.{TakesEach}
@@ -165,7 +160,8 @@ pops_batch R laws voting st new m prog prog' es sum sum' spoiled spoiled' count 
     let each : (i : ℕ) (e : ℕ × Item) → slice_get es i ≡ Some e → (e.0 < st.ranks) × GivesNext (pops (0 + i) st) e.0 e.1 =
     λ i e at. subst (λ k. (e.0 < st.ranks) × GivesNext (pops k st) e.0 e.1) (from_none i) (gives i e at) in
     let fewer : 0 + length es + unread_of (pops (0 + length es) st) ≤ unread_of st = fewer_all st 0 es (omega arith) each in
-    let left : unread_of new ≡ unread_of (pops (0 + length es) st) = ap unread_of at_end in
-    (subst (λ x. Pops R voting st x prog prog' sum sum' spoiled spoiled') (sym at_end)
-    (pops_chain R laws voting st 0 prog prog prog' es sum sum sum' spoiled spoiled spoiled' (pops_none R voting st prog sum spoiled) each (each_chain R laws voting prog prog' es sum sum' spoiled spoiled' some t)),
-    omega (arith, some, fewer, left))
+    let left : unread_of new ≡ unread_of (pops (0 + length es) st) = ap unread_of at_end in (
+      subst (λ x. Pops R voting st x prog prog' sum sum' spoiled spoiled') (sym at_end)
+          (pops_chain R laws voting st 0 prog prog prog' es sum sum sum' spoiled spoiled spoiled' (pops_none R voting st prog sum spoiled) each (each_chain R laws voting prog prog' es sum sum' spoiled spoiled' some t)),
+      omega (arith, some, fewer, left),
+    )

@@ -7,13 +7,12 @@ use Rattle.bale_types.specs.declared.item.Item.{Item}
 use Rattle.route_tensor.specs.Grid.{ranks}
 use Rattle.list_laws.specs.Sums.{total}
 use Rattle.list_laws.proofs.Sums.{total_one}
-use Rattle.port_bank.specs.Logs.{Logs}
 use Rattle.hop_core.specs.declared.phase.Phase.TheVariants.{Dormant}
 use Rattle.route_tensor.specs.Neighbour.{in_index}
 use Rattle.hop_core.specs.Link.{In, no_in, with_first_taken}
 use Rattle.hop_core.specs.State.{State, in_at, lowest_unread, pulled_from, pulls}
 use Rattle.convey.specs.Buffers.{buffers_of, in_of}
-use Rattle.convey.specs.Conveyors.{AgreesWith, KeepsAgreement, IsStepOf, GivesNext}
+use Rattle.convey.specs.Conveyors.{KeepsAgreement, IsStepOf, GivesNext}
 use Rattle.convey.specs.Parts.{part_of}
 use Rattle.port_bank.specs.Machine.{Part, IsOwnStep, ItemLists, with_item, after}
 use Rattle.port_bank.specs.Machine.Step.{Pull, Idle}
@@ -27,7 +26,7 @@ use Rattle.rank_node.specs.declared.sends.Sends.{Sends}
 use Rattle.rank_node.specs.declared.sends.Sends.TheVariants.{Emissions, Nothing, Votes}
 use Rattle.rank_node.specs.Sending.{to_send, is_voting, spoiled_vote}
 use Rattle.rank_node.specs.Runs.{lists_of, IsPushed, HasPassed, IsWithin, HasTaken}
-use Rattle.rank_node.specs.Pulls.{SameEnds, NoMore, Takes}
+use Rattle.rank_node.specs.Pulls.{NoMore, Takes}
 use Rattle.rank_node.specs.Batches.{TakesEach}
 use Rattle.rank_node.proofs.Chains.{TakesOne, Chain, each_chain, none_more, one_more, all_more, from_none}
 use Rattle.hop_core.specs.Relay.{waiting}
@@ -282,7 +281,8 @@ takes_batch R laws voting st new m prog prog' es sum sum' spoiled spoiled' begun
     let at_end : new ≡ pulls (0 + length es) st = is ∙ ap (λ k. pulls k st) (count ∙ from_none (length es)) in
     let each : (i : ℕ) (e : ℕ × Item) → slice_get es i ≡ Some e → GivesNext (pulls (0 + i) st) e.0 e.1 = λ i e at. subst (λ k. GivesNext (pulls k st) e.0 e.1) (from_none i) (gives i e at) in
     let fewer : 0 + length es + waiting (pulls (0 + length es) st).ins ≤ waiting st.ins = fewer_all st 0 es (omega arith) each in
-    let left : waiting new.ins ≡ waiting (pulls (0 + length es) st).ins = ap (λ (x : State). waiting x.ins) at_end in
-    (subst (λ x. Takes R voting st x prog prog' sum sum' spoiled spoiled') (sym at_end)
-    (takes_chain R laws voting st 0 prog prog prog' es sum sum sum' spoiled spoiled spoiled' (takes_start R voting st prog sum spoiled begun) each (each_chain R laws voting prog prog' es sum sum' spoiled spoiled' some t)),
-    omega (arith, some, fewer, left))
+    let left : waiting new.ins ≡ waiting (pulls (0 + length es) st).ins = ap (λ (x : State). waiting x.ins) at_end in (
+      subst (λ x. Takes R voting st x prog prog' sum sum' spoiled spoiled') (sym at_end)
+          (takes_chain R laws voting st 0 prog prog prog' es sum sum sum' spoiled spoiled spoiled' (takes_start R voting st prog sum spoiled begun) each (each_chain R laws voting prog prog' es sum sum' spoiled spoiled' some t)),
+      omega (arith, some, fewer, left),
+    )

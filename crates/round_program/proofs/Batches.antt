@@ -1,6 +1,5 @@
 -- What a batch of items makes of a state.
-use Rattle.std.proofs.Common.{◌≡◌, ◌<◌, ℕ, Bool, true, false, cond, List, [], ◌∷◌, length, slice_get, drop, Option, Some, None, refl, sym, ap, ◌∙◌, arith, Result, Ok, Err, OnOk}
-use Rattle.either.specs.declared.Either.{Either}
+use Rattle.std.proofs.Common.{◌≡◌, ◌<◌, ℕ, Bool, true, false, cond, List, [], ◌∷◌, length, slice_get, drop, Some, None, refl, ap, ◌∙◌, arith, Result, Ok, Err, OnOk}
 use Rattle.either.specs.declared.Either.TheVariants.{Left, Right}
 use Rattle.bale_types.specs.declared.item.Item.{Item}
 use Rattle.round_program.specs.Rules.{Rules}

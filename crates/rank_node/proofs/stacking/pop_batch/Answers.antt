@@ -1,4 +1,4 @@
-use Rattle.std.proofs.Common.{◌≡◌, ◌<◌, ◌∙◌, ℕ, List, length, slice_get, Some, sym, ap, subst, arith}
+use Rattle.std.proofs.Common.{◌≡◌, ◌<◌, ◌∙◌, ℕ, List, length, sym, ap, arith}
 use Rattle.std.proofs.lemmas.List.{length-map}
 use Rattle.std.proofs.lemmas.List.Quantifiers.{position-Some}
 use Rattle.bale_types.specs.declared.item.Entry.{Entry}
@@ -6,7 +6,7 @@ use Rattle.bale_types.specs.declared.item.Item.{Item}
 use Rattle.exstack.specs.Links.{no_in, has_unread}
 use Rattle.exstack.specs.State.{State, in_at, pops}
 use Rattle.exstack.specs.Parts.{GivesNext}
-use Rattle.rank_node.specs.Batches.{from_sender, TakesEach}
+use Rattle.rank_node.specs.Batches.{from_sender}
 use Rattle.rank_node.proofs.Chains.{mapped_at}
 use Rattle.rank_node.proofs.Popped.{pops_batch, batch_some}
 use Rattle.rank_node.proofs.stacking.pop_batch.Goals as goal

@@ -1,9 +1,7 @@
-use Rattle.std.proofs.Common.{◌≡◌, ◌<◌, length, sym, subst}
+use Rattle.std.proofs.Common.{length, sym, subst}
 use Rattle.std.proofs.lemmas.List.{length-map}
 use Rattle.hop_core.specs.State.{State, in_at}
-use Rattle.hop_core.specs.Relay.{waiting}
 use Rattle.rank_node.specs.Batches.{came_on, TakesEach}
-use Rattle.rank_node.specs.Pulls.{Takes}
 use Rattle.rank_node.proofs.Took.{takes_batch}
 use Rattle.rank_node.proofs.taking.take_batch.Goals as goal
 

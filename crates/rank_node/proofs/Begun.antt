@@ -1,5 +1,5 @@
 -- A node that hasn't turned.
-use Rattle.std.proofs.Common.{◌≡◌, ℕ, ◌==◌, Bool, true, false, cond, [], replicate, nat_lt, refl, ap, ◌∙◌, arith, get_or, zero, suc}
+use Rattle.std.proofs.Common.{◌≡◌, ℕ, ◌==◌, Bool, true, false, cond, [], replicate, nat_lt, refl, ap, ◌∙◌, get_or, zero, suc}
 use Rattle.std.proofs.Math.Seq.{take-nil}
 use Rattle.route_tensor.specs.Grid.{ranks}
 use Rattle.route_tensor.specs.Neighbour.{in_index, out_index}

@@ -2,6 +2,7 @@ pub mod Emitted
 pub mod Ballots
 pub mod Kept
 pub mod Absorbed
+pub mod Chains
 pub mod Took
 pub mod Offered
 pub mod Moved

@@ -1,27 +1,24 @@
 -- Items are popped from an exstack, and summed or absorbed.
-use Rattle.std.proofs.Common.{◌≡◌, ℕ, zero, suc, ◌+◌, ◌<◌, ◌≤◌, Bool, true, false, List, [], ◌∷◌, length, slice_get, Option, Some, None, refl, sym, ap, subst, ◌∙◌, arith, get_or, set, sum_by, drop, add-one}
+use Rattle.std.proofs.Common.{◌≡◌, ℕ, zero, suc, ◌+◌, ◌<◌, ◌≤◌, Bool, List, [], ◌∷◌, length, slice_get, Option, Some, None, refl, sym, ap, subst, ◌∙◌, arith, get_or, set, sum_by, drop, add-one}
 use Rattle.std.proofs.lemmas.List.Sums.{sum_by-set, sum_by-cons}
 use Rattle.std.proofs.lemmas.List.Quantifiers.{position-Some}
-use Rattle.std.specs.List.{position}
 use Rattle.std.specs.Option.{option_map}
 use Rattle.bale_types.specs.declared.item.Entry.{Entry}
 use Rattle.bale_types.specs.declared.item.Item.{Item}
 use Rattle.route_tensor.specs.Grid.{ranks}
-use Rattle.port_bank.specs.Logs.{Logs}
-use Rattle.port_bank.specs.Machine.Step.{Pull, Idle}
+use Rattle.port_bank.specs.Machine.Step.{Idle}
 use Rattle.exstack.specs.Links.{In, no_in, has_unread, with_first_read}
 use Rattle.exstack.specs.State.{State, dims_of, in_at, unread_of, lowest_unread, pop_from, popped_from, pops}
-use Rattle.exstack.specs.Agreement.{AgreesIn}
 use Rattle.exstack.specs.Parts.{part_of, IsStepOf, KeepsAgreement, GivesNext}
 use Rattle.exstack.proofs.Calls.{none_unread, some_unread}
 use Rattle.exstack.proofs.Places.{none_passes}
 use Rattle.exstack.proofs.OneHop.{ranks_one}
 use Rattle.round_program.specs.Rules.{Rules}
 use Rattle.round_program.specs.Laws.{Laws}
-use Rattle.rank_node.specs.declared.sends.Sends.{Sends}
-use Rattle.rank_node.specs.Sending.{is_voting}
 use Rattle.rank_node.specs.Runs.{HasTaken}
-use Rattle.rank_node.specs.Pulls.{TakesOne, Pops}
+use Rattle.rank_node.specs.Pulls.{Pops}
+use Rattle.rank_node.specs.Batches.{TakesEach}
+use Rattle.rank_node.proofs.Chains.{TakesOne, Chain, each_chain, none_more, one_more, all_more, from_none}
 use Rattle.rank_node.proofs.Took.{take_on, taken_same}
 
 -- nothing is unread where no sender has anything
@@ -129,8 +126,42 @@ pops_next R laws voting st n prog mid prog' from y sum sum1 sum2 spoiled now aft
     subst (λ m. Pops R voting st (pops m st) prog prog' sum sum2 spoiled after) (sym (add-one n))
     (pops_more R laws voting st (pops n st) prog mid prog' from y sum sum1 sum2 spoiled now after is next (omega (arith, low, same)) takes)
 
--- after all of one batch
-pub pops_at : {S : Type 0} (R : Rules S) (voting : Bool) (st new : State) (n m : ℕ) (prog prog' : S) (sum sum' : ℕ) (spoiled spoiled' : Bool) → n ≡ m → new ≡ pops m st
-    → Pops R voting st (pops n st) prog prog' sum sum' spoiled spoiled' → Pops R voting st new prog prog' sum sum' spoiled spoiled'
-pops_at R voting st new n m prog prog' sum sum' spoiled spoiled' count is pops' =
-    subst (λ t. Pops R voting st t prog prog' sum sum' spoiled spoiled') (sym (is ∙ ap (λ j. pops j st) (sym count))) pops'
+-- and all that is left of it
+pub pops_chain : {S : Type 0} (R : Rules S) → Laws R → (voting : Bool) (st : State) (n : ℕ) (prog mid prog' : S) (es : List (ℕ × Item)) (sum sum1 sum2 : ℕ) (spoiled now after : Bool)
+    → Pops R voting st (pops n st) prog mid sum sum1 spoiled now → ((i : ℕ) (e : ℕ × Item) → slice_get es i ≡ Some e → (e.0 < st.ranks) × GivesNext (pops (n + i) st) e.0 e.1)
+    → Chain R voting mid prog' es sum1 sum2 now after → Pops R voting st (pops (n + length es) st) prog prog' sum sum2 spoiled after
+pops_chain R laws voting st n prog mid prog' [] sum sum1 sum2 spoiled now later is gives c =
+    subst (λ m. Pops R voting st (pops m st) prog prog' sum sum2 spoiled later) (sym (none_more n))
+    (subst (λ b. Pops R voting st (pops n st) prog prog' sum sum2 spoiled b) (sym c.2)
+    (subst (λ k. Pops R voting st (pops n st) prog prog' sum k spoiled now) (sym c.1)
+    (subst (λ s. Pops R voting st (pops n st) prog s sum sum1 spoiled now) (sym c.0) is)))
+pops_chain R laws voting st n prog mid prog' (e ∷ es) sum sum1 sum2 spoiled now later is gives c =
+    let first = subst (λ m. (e.0 < st.ranks) × GivesNext (pops m st) e.0 e.1) (none_more n) (gives 0 e refl) in
+    let one = pops_next R laws voting st n prog mid c.0 e.0 e.1 sum sum1 c.1 spoiled now c.2 is first.1 first.0 c.3 in
+    subst (λ m. Pops R voting st (pops m st) prog prog' sum sum2 spoiled later) (all_more n e es)
+    (pops_chain R laws voting st (n + 1) prog c.0 prog' es sum c.1 sum2 spoiled c.2 later one
+    (λ i y at. subst (λ m. (y.0 < st.ranks) × GivesNext (pops m st) y.0 y.1) (one_more n i) (gives (suc i) y at)) c.4)
+
+-- what is popped isn't unread
+pub fewer_all : (st : State) (n : ℕ) (es : List (ℕ × Item)) → n + unread_of (pops n st) ≤ unread_of st → ((i : ℕ) (e : ℕ × Item) → slice_get es i ≡ Some e → (e.0 < st.ranks) × GivesNext (pops (n + i) st) e.0 e.1)
+    → n + length es + unread_of (pops (n + length es) st) ≤ unread_of st
+fewer_all st n [] is gives = subst (λ m. m + unread_of (pops m st) ≤ unread_of st) (sym (none_more n)) is
+fewer_all st n (e ∷ es) is gives =
+    let first = subst (λ m. (e.0 < st.ranks) × GivesNext (pops m st) e.0 e.1) (none_more n) (gives 0 e refl) in
+    subst (λ m. m + unread_of (pops m st) ≤ unread_of st) (all_more n e es)
+    (fewer_all st (n + 1) es (fewer_next st n e.0 e.1 (unread_of st) is first.1) (λ i y at. subst (λ m. (y.0 < st.ranks) × GivesNext (pops m st) y.0 y.1) (one_more n i) (gives (suc i) y at)))
+
+-- all of one sender, where something is unread of it
+pub pops_batch : {S : Type 0} (R : Rules S) → Laws R → (voting : Bool) (st new : State) (m : ℕ) (prog prog' : S) (es : List (ℕ × Item)) (sum sum' : ℕ) (spoiled spoiled' : Bool)
+    → m ≡ length es → new ≡ pops m st → 0 < length es → ((i : ℕ) (e : ℕ × Item) → slice_get es i ≡ Some e → (e.0 < st.ranks) × GivesNext (pops i st) e.0 e.1)
+    → TakesEach R voting prog prog' es sum sum' spoiled spoiled' → Pops R voting st new prog prog' sum sum' spoiled spoiled' × (unread_of new < unread_of st)
+pops_batch R laws voting st new m prog prog' es sum sum' spoiled spoiled' count is some gives t =
+    let at_end : new ≡ pops (0 + length es) st = is ∙ ap (λ k. pops k st) (count ∙ from_none (length es)) in
+    let each : (i : ℕ) (e : ℕ × Item) → slice_get es i ≡ Some e → (e.0 < st.ranks) × GivesNext (pops (0 + i) st) e.0 e.1 =
+    λ i e at. subst (λ k. (e.0 < st.ranks) × GivesNext (pops k st) e.0 e.1) (from_none i) (gives i e at) in
+    let fewer : 0 + length es + unread_of (pops (0 + length es) st) ≤ unread_of st = fewer_all st 0 es (omega arith) each in
+    let left : unread_of new ≡ unread_of (pops (0 + length es) st) = ap unread_of at_end in (
+      subst (λ x. Pops R voting st x prog prog' sum sum' spoiled spoiled') (sym at_end)
+          (pops_chain R laws voting st 0 prog prog prog' es sum sum sum' spoiled spoiled spoiled' (pops_none R voting st prog sum spoiled) each (each_chain R laws voting prog prog' es sum sum' spoiled spoiled' some t)),
+      omega (arith, some, fewer, left),
+    )

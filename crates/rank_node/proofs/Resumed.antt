@@ -1,5 +1,5 @@
 -- A rank's mover goes on to the next epoch.
-use Rattle.std.proofs.Common.{◌≡◌, ◌≢◌, ℕ, ◌+◌, ◌<◌, false, List, [], ◌∷◌, length, None, map, refl, sym, ap, subst, ◌∙◌}
+use Rattle.std.proofs.Common.{◌≡◌, ◌≢◌, ℕ, ◌+◌, ◌<◌, false, List, [], ◌∷◌, length, None, map, refl, ap, subst, ◌∙◌}
 use Rattle.std.proofs.Math.ListN.{get_or-map}
 use Rattle.route_tensor.specs.Link.{links}
 use Rattle.route_tensor.specs.Ends.{hop_at, reader_at}
@@ -21,7 +21,7 @@ use Rattle.exstack.specs.Parts as exstacks
 use Rattle.exstack.specs.Standing.{IsStack}
 use Rattle.rank_node.specs.Movers.{GoesOn}
 use Rattle.rank_node.specs.Movers.MoverState.{Conveying, Stacking}
-use Rattle.rank_node.specs.Movers.Manner.{ByConveyor, ByExstack}
+use Rattle.rank_node.specs.Movers.Manner.{ByConveyor}
 
 not_dormant : (p : Phase) → p ≡ Working → p ≢ Dormant
 not_dormant p w d = absurd (cc)

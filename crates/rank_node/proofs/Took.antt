@@ -1,5 +1,5 @@
 -- One more item is pulled, and summed or absorbed.
-use Rattle.std.proofs.Common.{◌≡◌, ◌≢◌, ℕ, suc, ◌+◌, ◌-◌, ◌*◌, ◌^◌, ◌<◌, ◌≤◌, ◌==◌, ◌&&◌, min, Bool, true, false, cond, List, [], ◌∷◌, ◌++◌, length, Option, Some, None, refl, sym, ap, subst, ◌∙◌, arith, get_or, set, zero, drop, add-one}
+use Rattle.std.proofs.Common.{◌≡◌, ◌≢◌, ℕ, suc, ◌+◌, ◌-◌, ◌*◌, ◌^◌, ◌<◌, ◌≤◌, ◌==◌, ◌&&◌, min, Bool, true, false, cond, List, [], ◌∷◌, ◌++◌, length, Option, Some, None, refl, sym, ap, subst, ◌∙◌, arith, get_or, set, zero, drop, add-one, slice_get}
 use Rattle.std.specs.List.{sum_by}
 use Rattle.std.proofs.lemmas.Bool.{eq-eqb, ne_eqb, true≢false}
 use Rattle.std.proofs.lemmas.List.Sums.{sum_by-append}
@@ -7,13 +7,12 @@ use Rattle.bale_types.specs.declared.item.Item.{Item}
 use Rattle.route_tensor.specs.Grid.{ranks}
 use Rattle.list_laws.specs.Sums.{total}
 use Rattle.list_laws.proofs.Sums.{total_one}
-use Rattle.port_bank.specs.Logs.{Logs}
 use Rattle.hop_core.specs.declared.phase.Phase.TheVariants.{Dormant}
 use Rattle.route_tensor.specs.Neighbour.{in_index}
 use Rattle.hop_core.specs.Link.{In, no_in, with_first_taken}
 use Rattle.hop_core.specs.State.{State, in_at, lowest_unread, pulled_from, pulls}
 use Rattle.convey.specs.Buffers.{buffers_of, in_of}
-use Rattle.convey.specs.Conveyors.{AgreesWith, KeepsAgreement, IsStepOf, GivesNext}
+use Rattle.convey.specs.Conveyors.{KeepsAgreement, IsStepOf, GivesNext}
 use Rattle.convey.specs.Parts.{part_of}
 use Rattle.port_bank.specs.Machine.{Part, IsOwnStep, ItemLists, with_item, after}
 use Rattle.port_bank.specs.Machine.Step.{Pull, Idle}
@@ -27,8 +26,11 @@ use Rattle.rank_node.specs.declared.sends.Sends.{Sends}
 use Rattle.rank_node.specs.declared.sends.Sends.TheVariants.{Emissions, Nothing, Votes}
 use Rattle.rank_node.specs.Sending.{to_send, is_voting, spoiled_vote}
 use Rattle.rank_node.specs.Runs.{lists_of, IsPushed, HasPassed, IsWithin, HasTaken}
-use Rattle.rank_node.specs.Pulls.{SameEnds, NoMore, TakesOne}
-use Rattle.rank_node.proofs.Absorbed.{ends_pulled, pulled_same}
+use Rattle.rank_node.specs.Pulls.{NoMore, Takes}
+use Rattle.rank_node.specs.Batches.{TakesEach}
+use Rattle.rank_node.proofs.Chains.{TakesOne, Chain, each_chain, none_more, one_more, all_more, from_none}
+use Rattle.hop_core.specs.Relay.{waiting}
+use Rattle.rank_node.proofs.Absorbed.{ends_pulled, pulled_same, fewer_next}
 use Rattle.rank_node.proofs.Ballots.{same_sends}
 use Rattle.rank_node.proofs.Kept.{SameElsewhere, passed_same, before_same}
 
@@ -181,18 +183,7 @@ fewer_pulled : (st : State) (o : Option ℕ) → NoMore st (pulled_from st o)
 fewer_pulled st None l = omega arith
 fewer_pulled st (Some i) l = fewer_set st.ins i (in_index st.dims l) (record (in_at st i) { parcel = with_first_taken (in_at st i).parcel }) (drop_less (in_at st i).parcel.untaken)
 
--- a conveyor in the midst of pulls
-pub record Takes {S : Type 0} (R : Rules S) (voting : Bool) (old c : State) (prog prog' : S) (sum sum' : ℕ) (spoiled spoiled' : Bool) : Type 0 where
-  pub begun : c.phase ≢ Dormant
-  pub same : c ≡ record old { ins = c.ins; pulled = c.pulled }
-  pub ends : SameEnds old c
-  pub fewer : NoMore old c
-  pub emissions : R.emissions prog' ≡ R.emissions prog
-  pub kept : KeepsAgreement old c
-  pub taken : (h : ℕ → S) (rank round next : ℕ) (sends : Sends) (sent got : Logs) → is_voting sends ≡ voting → AgreesWith old sent got
-      → HasTaken R (ranks old.dims) rank h round sends next prog sum spoiled (part_of (buffers_of old) sent got)
-      → HasTaken R (ranks old.dims) rank h round sends next prog' sum' spoiled' (part_of (buffers_of c) sent got)
-
+-- no pull so far
 pub takes_start : {S : Type 0} (R : Rules S) (voting : Bool) (old : State) (prog : S) (sum : ℕ) (spoiled : Bool) → old.phase ≢ Dormant → Takes R voting old old prog prog sum sum spoiled spoiled
 takes_start R voting old prog sum spoiled begun =
     record { begun = begun; same = refl; ends = λ l. refl; fewer = λ l. omega arith; emissions = refl; kept = λ sent got a. a; taken = λ h rank round next sends sent got v a is. is }
@@ -259,8 +250,39 @@ takes_next R laws voting st n prog mid prog' from from' x sum sum1 sum2 spoiled 
     (takes_more R laws voting st (pulls n st) (pulls (suc n) st) prog mid prog' from x sum sum1 sum2 spoiled now after is refl next.kept next.sender next.step
     (subst (λ f. TakesOne R voting mid prog' f x sum1 sum2 now after) same takes))
 
--- after all of one inbox
-pub takes_at : {S : Type 0} (R : Rules S) (voting : Bool) (st new : State) (n m : ℕ) (prog prog' : S) (sum sum' : ℕ) (spoiled spoiled' : Bool) → n ≡ m → new ≡ pulls m st
-    → Takes R voting st (pulls n st) prog prog' sum sum' spoiled spoiled' → Takes R voting st new prog prog' sum sum' spoiled spoiled'
-takes_at R voting st new n m prog prog' sum sum' spoiled spoiled' count is takes =
-    subst (λ t. Takes R voting st t prog prog' sum sum' spoiled spoiled') (sym (is ∙ ap (λ j. pulls j st) (sym count))) takes
+-- and all that is left of it
+pub takes_chain : {S : Type 0} (R : Rules S) → Laws R → (voting : Bool) (st : State) (n : ℕ) (prog mid prog' : S) (es : List (ℕ × Item)) (sum sum1 sum2 : ℕ) (spoiled now after : Bool)
+    → Takes R voting st (pulls n st) prog mid sum sum1 spoiled now → ((i : ℕ) (e : ℕ × Item) → slice_get es i ≡ Some e → GivesNext (pulls (n + i) st) e.0 e.1)
+    → Chain R voting mid prog' es sum1 sum2 now after → Takes R voting st (pulls (n + length es) st) prog prog' sum sum2 spoiled after
+takes_chain R laws voting st n prog mid prog' [] sum sum1 sum2 spoiled now later is gives c =
+    subst (λ m. Takes R voting st (pulls m st) prog prog' sum sum2 spoiled later) (sym (none_more n))
+    (subst (λ b. Takes R voting st (pulls n st) prog prog' sum sum2 spoiled b) (sym c.2)
+    (subst (λ k. Takes R voting st (pulls n st) prog prog' sum k spoiled now) (sym c.1)
+    (subst (λ s. Takes R voting st (pulls n st) prog s sum sum1 spoiled now) (sym c.0) is)))
+takes_chain R laws voting st n prog mid prog' (e ∷ es) sum sum1 sum2 spoiled now later is gives c =
+    let one = takes_next R laws voting st n prog mid c.0 e.0 e.0 e.1 sum sum1 c.1 spoiled now c.2 is (subst (λ m. GivesNext (pulls m st) e.0 e.1) (none_more n) (gives 0 e refl)) refl c.3 in
+    subst (λ m. Takes R voting st (pulls m st) prog prog' sum sum2 spoiled later) (all_more n e es)
+    (takes_chain R laws voting st (n + 1) prog c.0 prog' es sum c.1 sum2 spoiled c.2 later one
+    (λ i y at. subst (λ m. GivesNext (pulls m st) y.0 y.1) (one_more n i) (gives (suc i) y at)) c.4)
+
+-- entries that are taken are waited for no more
+pub fewer_all : (st : State) (n : ℕ) (es : List (ℕ × Item)) → n + waiting (pulls n st).ins ≤ waiting st.ins → ((i : ℕ) (e : ℕ × Item) → slice_get es i ≡ Some e → GivesNext (pulls (n + i) st) e.0 e.1)
+    → n + length es + waiting (pulls (n + length es) st).ins ≤ waiting st.ins
+fewer_all st n [] is gives = subst (λ m. m + waiting (pulls m st).ins ≤ waiting st.ins) (sym (none_more n)) is
+fewer_all st n (e ∷ es) is gives =
+    subst (λ m. m + waiting (pulls m st).ins ≤ waiting st.ins) (all_more n e es)
+    (fewer_all st (n + 1) es (fewer_next st n e.0 e.1 (waiting st.ins) is (subst (λ m. GivesNext (pulls m st) e.0 e.1) (none_more n) (gives 0 e refl))) (λ i y at. subst (λ m. GivesNext (pulls m st) y.0 y.1) (one_more n i) (gives (suc i) y at)))
+
+-- all of one inbox, where something lies in it
+pub takes_batch : {S : Type 0} (R : Rules S) → Laws R → (voting : Bool) (st new : State) (m : ℕ) (prog prog' : S) (es : List (ℕ × Item)) (sum sum' : ℕ) (spoiled spoiled' : Bool) → st.phase ≢ Dormant
+    → m ≡ length es → new ≡ pulls m st → 0 < length es → ((i : ℕ) (e : ℕ × Item) → slice_get es i ≡ Some e → GivesNext (pulls i st) e.0 e.1)
+    → TakesEach R voting prog prog' es sum sum' spoiled spoiled' → Takes R voting st new prog prog' sum sum' spoiled spoiled' × (waiting new.ins < waiting st.ins)
+takes_batch R laws voting st new m prog prog' es sum sum' spoiled spoiled' begun count is some gives t =
+    let at_end : new ≡ pulls (0 + length es) st = is ∙ ap (λ k. pulls k st) (count ∙ from_none (length es)) in
+    let each : (i : ℕ) (e : ℕ × Item) → slice_get es i ≡ Some e → GivesNext (pulls (0 + i) st) e.0 e.1 = λ i e at. subst (λ k. GivesNext (pulls k st) e.0 e.1) (from_none i) (gives i e at) in
+    let fewer : 0 + length es + waiting (pulls (0 + length es) st).ins ≤ waiting st.ins = fewer_all st 0 es (omega arith) each in
+    let left : waiting new.ins ≡ waiting (pulls (0 + length es) st).ins = ap (λ (x : State). waiting x.ins) at_end in (
+      subst (λ x. Takes R voting st x prog prog' sum sum' spoiled spoiled') (sym at_end)
+          (takes_chain R laws voting st 0 prog prog prog' es sum sum sum' spoiled spoiled spoiled' (takes_start R voting st prog sum spoiled begun) each (each_chain R laws voting prog prog' es sum sum' spoiled spoiled' some t)),
+      omega (arith, some, fewer, left),
+    )

@@ -7,3 +7,4 @@ pub mod Next
 pub mod Pulls
 pub mod Moves
 pub mod Cycles
+pub mod Batches

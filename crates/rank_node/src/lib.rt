@@ -20,6 +20,7 @@
 //! keep pace with what its rank has to send: a rank that isn't done pushes at least one item in each.
 #![tactic(auto)]
 
+mod arrivals;
 mod conveying;
 mod ending;
 mod mover;

@@ -15,9 +15,10 @@ ghost use Rattle.rank_node.specs.Nodes.{IsNode};
 ghost use Rattle.rank_node.specs.Moves.{AfterMoves, AfterFill, Leaves, Waits};
 ghost use Rattle.rank_node.specs.Cycles.{InCycle, InExchange, IsOnward, Awaits};
 
+use crate::arrivals::FromSender;
 use crate::run::Run;
 use crate::sends::{Sends, count_of, sent_at, votes_now};
-use crate::taking::{Taken, take_one};
+use crate::taking::{Taken, take_each};
 use crate::turn::Turn;
 use bale_types::NoMemory;
 use exstack::{Exstack, Proceed, Stage};
@@ -212,10 +213,11 @@ fn pop_batch<const CAP: usize, Q: Program>(
 {
     // The contract of `stage` tells what holds of the exstack.
     let _standing = exstack.stage();
-    let mut taken = taken;
-    for entry in exstack.batch(sender) {
-        taken = take_one(prog, voting, sender, entry.item, taken);
-    }
+    let came = FromSender {
+        sender,
+        entries: exstack.batch(sender),
+    };
+    let taken = take_each(prog, voting, came, taken);
     exstack.pop_all(sender);
     taken
 }

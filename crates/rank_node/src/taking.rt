@@ -8,15 +8,15 @@ ghost use Rattle.convey.specs.Buffers.{buffers_of};
 ghost use Rattle.convey.specs.Conveyors.{AgreesWith, KeepsAgreement};
 ghost use Rattle.convey.specs.Parts.{part_of};
 ghost use Rattle.rank_node.specs.Sending.{is_voting};
-ghost use Rattle.round_program.specs.Laws.{fits};
 ghost use Rattle.rank_node.specs.Runs.{HasTaken};
 ghost use Rattle.rank_node.specs.Movers.{AllRead};
-ghost use Rattle.rank_node.specs.Pulls.{SameEnds, NoMore, TakesOne};
+ghost use Rattle.rank_node.specs.Pulls.{SameEnds, NoMore, Takes};
+ghost use Rattle.rank_node.specs.Batches.{summed, TakesEach};
 ghost use Rattle.rank_node.specs.declared.sends.Sends.{Sends};
 
-use bale_types::Item;
+use crate::arrivals::FromLink;
 use convey::{Conveyor, Phase};
-use round_program::Program;
+use round_program::{Arrivals, Program};
 
 /// What a node has made of the items that came, beside the state of its program.
 #[derive(Clone, Copy, PartialEq, Eq, Debug)]
@@ -71,60 +71,45 @@ fn take_batch<Q: Program, const CAP: usize, const HOPS: usize>(
 ) -> Taken
     requires begun { conveyor.old.phase ≢ Phase.Dormant }
     requires lowest { lowest_unread conveyor.old ≡ Some number }
-    ensures begun { conveyor.new.phase ≢ Phase.Dormant }
-    ensures same { conveyor.new ≡ record conveyor.old { ins = conveyor.new.ins; pulled = conveyor.new.pulled } }
-    ensures ends { SameEnds conveyor.old conveyor.new }
-    ensures fewer { NoMore conveyor.old conveyor.new }
+    ensures takes { Takes Q.rules voting conveyor.old conveyor.new prog.old.value prog.new.value taken.sum result.sum taken.spoiled result.spoiled }
     ensures less { waiting conveyor.new.ins < waiting conveyor.old.ins }
-    ensures kept { KeepsAgreement conveyor.old conveyor.new }
-    ensures emissions { Q.rules.emissions prog.new.value ≡ Q.rules.emissions prog.old.value }
-    ensures taken { (h : ℕ → Q) (rank round next : ℕ) (sends : Sends) (sent got : Logs) → is_voting sends ≡ voting → AgreesWith conveyor.old sent got
-        → HasTaken Q.rules (ranks conveyor.old.dims) rank h round sends next prog.old.value taken.sum taken.spoiled (part_of (buffers_of conveyor.old) sent got)
-        → HasTaken Q.rules (ranks conveyor.old.dims) rank h round sends next prog.new.value result.sum result.spoiled (part_of (buffers_of conveyor.new) sent got) }
 {
-    let mut taken = taken;
-    for entry in conveyor.batch(number) {
-        let from = conveyor.sender_of(number, entry.tag);
-        taken = take_one(prog, voting, from, entry.item, taken);
-    }
+    let taken = take_each(prog, voting, FromLink::new(conveyor, number), taken);
     conveyor.pull_all(number);
     taken
 }
 
-/// Sums or absorbs one item. It is inlined into the loops over items, where it costs 36 instructions less than a call.
-#[inline(always)]
-pub(crate) fn take_one<Q: Program>(
+/// Sums or absorbs items that came.
+pub(crate) fn take_each<Q: Program, I: Arrivals>(
     prog: &mut Box<Q>,
     voting: bool,
-    from: u32,
-    item: Item,
+    came: I,
     taken: Taken,
 ) -> Taken
-    ensures { TakesOne Q.rules voting prog.old.value prog.new.value from item taken.sum result.sum taken.spoiled result.spoiled }
+    ensures { TakesEach Q.rules voting prog.old.value prog.new.value (I.items came) taken.sum result.sum taken.spoiled result.spoiled }
 {
+    // The contract of `rank` tells that the program's laws hold of it.
+    let _lawful = prog.rank();
     if voting {
         return Taken {
-            sum: taken.sum.saturating_add(item.a),
+            sum: sum_votes(came, taken.sum),
             spoiled: taken.spoiled,
         };
     }
     Taken {
         sum: taken.sum,
-        spoiled: absorb_one(prog, from, item, taken.spoiled),
+        spoiled: taken.spoiled || prog.absorb_each(came).is_err(),
     }
 }
 
-/// Absorbs one item, where the program may be sent it. Answers whether memory was wanting by then.
-#[inline(always)]
-fn absorb_one<Q: Program>(prog: &mut Box<Q>, from: u32, item: Item, spoiled: bool) -> bool
-    ensures emissions { Q.rules.emissions prog.new.value ≡ Q.rules.emissions prog.old.value }
-    ensures unspoiled { result ≡ false → spoiled ≡ false }
-    ensures absorbed { result ≡ false → prog.new.value ≡ cond (fits Q.rules prog.old.value from item) (Q.rules.absorbed prog.old.value from item) prog.old.value }
+/// The sum after the votes that came.
+fn sum_votes<I: Arrivals>(came: I, sum: u64) -> u64
+    ensures { result ≡ summed sum (I.items came) }
 {
-    if spoiled || !prog.fits(from, item) {
-        return spoiled;
+    let mut came = came;
+    let mut sum = sum;
+    while let Some((_, item)) = came.next() {
+        sum = sum.saturating_add(item.a);
     }
-    // The contract of `rank` tells that the program's laws hold of it.
-    let _lawful = prog.rank();
-    prog.absorb(from, item).is_err()
+    sum
 }

@@ -1,3 +1,4 @@
+pub mod Batches
 pub mod Epochs
 pub mod Injections
 pub mod Items

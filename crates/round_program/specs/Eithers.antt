@@ -1,8 +1,7 @@
 -- Either of two programs as one program.
-use Rattle.std.specs.Prelude.{ℕ, ◌==◌, Bool, false, List, [], ◌∷◌, if◌then◌else◌}
+use Rattle.std.specs.Prelude.{ℕ, ◌==◌, false, List, [], ◌∷◌, if◌then◌else◌}
 use Rattle.either.specs.declared.Either.{Either}
 use Rattle.either.specs.Either.{either, map_either, MatchEither}
-use Rattle.bale_types.specs.declared.Item.{Item}
 use Rattle.round_program.specs.Rules.{Rules}
 
 -- What the case says that a shape names: 0 before the shape stands for the left program, any other number for the right one.

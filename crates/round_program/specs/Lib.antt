@@ -1,3 +1,4 @@
+pub mod Batches
 pub mod Canonical
 pub mod EitherLaws
 pub mod Eithers

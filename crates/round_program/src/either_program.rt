@@ -2,6 +2,7 @@
 //! them all: the drives of a tree of `Either`s run whichever program is there. What is asked for each item is inlined, so that a
 //! tree costs one choice and not a call for each of its levels.
 
+use crate::arrivals::Arrivals;
 use crate::program::Program;
 use bale_types::{Item, NoMemory};
 use either::{Either, Left, Right};
@@ -63,6 +64,13 @@ impl<A: Program, B: Program> Program for Either<A, B> {
         match self {
             Left(a) => a.absorb(from, item),
             Right(b) => b.absorb(from, item),
+        }
+    }
+
+    fn absorb_each<I: Arrivals>(&mut self, came: I) -> Result<(), NoMemory> {
+        match self {
+            Left(a) => a.absorb_each(came),
+            Right(b) => b.absorb_each(came),
         }
     }
 

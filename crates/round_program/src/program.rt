@@ -3,7 +3,9 @@
 ghost use Rattle.std.specs.Prelude.{◌≡◌, ◌<◌, OnOk, OnErr, IfOk, length, slice_get, Some};
 ghost use Rattle.round_program.specs.Laws.{Laws, fits, Fits};
 ghost use Rattle.round_program.specs.Rules.{Rules};
+ghost use Rattle.round_program.specs.Batches.{all_taken_in};
 
+use crate::arrivals::Arrivals;
 use bale_types::{Item, NoMemory};
 
 /// A program, as one rank runs it. Rounds count from 0.
@@ -14,6 +16,7 @@ use bale_types::{Item, NoMemory};
 /// | `count`, `emission(i)` | `i` below `count` | how many items the rank sends in this round; the receiver and the item |
 /// | `fits(from, item)` | | whether this rank may be sent the item by the rank `from` |
 /// | `absorb(from, item)` | the item fits | takes the item in |
+/// | `absorb_each(came)` | | takes in, of a batch, what fits: the same as `fits` and `absorb` for each item, and so written once for all programs |
 /// | `vote` | | this rank's vote, once everything is absorbed |
 /// | `goes_on(votes)` | | whether another round follows this one, if the votes have that sum |
 /// | `end_round(votes)` | | begins the next round, and answers what `goes_on` does |
@@ -68,6 +71,23 @@ pub trait Program: Drop {
         requires { Fits rules self.old from item }
         ensures absorbed { OnOk result (self.new ≡ rules.absorbed self.old from item) }
         ensures refused { OnErr result (rules.emissions self.new ≡ rules.emissions self.old) };
+
+    /// Takes in what fits of what came, in order. After `NoMemory` the emissions are as before, and what was left is dropped.
+    /// A program that stands for one of several chooses here once for all of them.
+    fn absorb_each<I: Arrivals>(&mut self, came: I) -> Result<(), NoMemory>
+        ensures absorbed { OnOk result (self.new ≡ all_taken_in rules self.old (I.items came)) }
+        ensures emissions { rules.emissions self.new ≡ rules.emissions self.old }
+    {
+        let mut came = came;
+        while let Some((from, item)) = came.next() {
+            // The contract of `rank` tells that the laws hold of the state.
+            let _lawful = self.rank();
+            if self.fits(from, item) {
+                self.absorb(from, item)?;
+            }
+        }
+        Ok(())
+    }
 
     /// This rank's vote.
     fn vote(&self) -> u64

@@ -1,4 +1,4 @@
-use Rattle.std.proofs.Common.{◌≡◌, List, sym, ap, subst}
+use Rattle.std.proofs.Common.{ap, subst}
 use Rattle.std.specs.Prelude.{sum}
 use Rattle.hop_core.specs.State.{State}
 use Rattle.rank_node.specs.Movers.{IsNew}

@@ -1,4 +1,3 @@
-use Rattle.std.proofs.Common.{refl}
 use Rattle.rank_node.proofs.Resumed.{goes_on_conveying}
 use Rattle.rank_node.proofs.conveying.reset_conveyor.Goals as goal
 

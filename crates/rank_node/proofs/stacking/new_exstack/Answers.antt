@@ -1,4 +1,3 @@
-use Rattle.std.proofs.Common.{sym, ◌∙◌}
 use Rattle.rank_node.proofs.Fresh.{new_stacking}
 use Rattle.rank_node.proofs.stacking.new_exstack.Goals as goal
 

@@ -1,7 +1,6 @@
 use Rattle.std.proofs.Common.{◌≡◌, None, sym, ap, ◌∙◌}
 use Rattle.exstack.specs.State.{State, unread_of, lowest_unread}
-use Rattle.rank_node.specs.Pulls.{Pops}
-use Rattle.rank_node.proofs.Popped.{pops_none, pops_rest, pops_both, all_read}
+use Rattle.rank_node.proofs.Popped.{pops_rest, pops_both, all_read}
 use Rattle.rank_node.proofs.stacking.pop_all.Goals as goal
 
 pub loop-sender-preserved : goal.loop-sender-preserved

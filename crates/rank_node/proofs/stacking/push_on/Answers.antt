@@ -1,11 +1,11 @@
-use Rattle.std.proofs.Common.{rules, ◌≡◌, ℕ, ◌+◌, ◌<◌, sym, ap, subst, ◌∙◌, arith}
+use Rattle.std.proofs.Common.{rules, ℕ, ◌<◌, sym, ◌∙◌, arith}
 use Rattle.bale_types.specs.declared.item.Item.{Item}
 use Rattle.route_tensor.specs.Grid.{ranks}
 use Rattle.exstack.specs.State.{dims_of}
 use Rattle.list_laws.proofs.Lists.{all_get}
 use Rattle.exstack.proofs.OneHop.{ranks_one}
 use Rattle.rank_node.specs.Sending.{to_send}
-use Rattle.rank_node.proofs.Filled.{Offers, offers_start, offers_more, fills_refused, fills_all, not_done}
+use Rattle.rank_node.proofs.Filled.{offers_more, fills_refused, fills_all, not_done}
 use Rattle.rank_node.proofs.stacking.push_on.Goals as goal
 
 pub push-requires : goal.push-requires

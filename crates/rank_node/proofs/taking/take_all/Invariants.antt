@@ -1,5 +1,5 @@
 use Rattle.hop_core.specs.Relay.{waiting}
-use Rattle.rank_node.proofs.Took.{Takes}
+use Rattle.rank_node.specs.Pulls.{Takes}
 use Rattle.rank_node.proofs.taking.take_all.Given as goal
 
 abbrev pub invariant-loop-number : goal.invariant-loop-number

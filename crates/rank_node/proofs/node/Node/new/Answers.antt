@@ -1,4 +1,4 @@
-use Rattle.std.proofs.Common.{sym, ap, subst, ◌∙◌, [], false}
+use Rattle.std.proofs.Common.{sym, subst, [], false}
 use Rattle.rank_node.specs.declared.sends.Sends.TheVariants.{Emissions}
 use Rattle.rank_node.specs.Movers.{manner_of, seen}
 use Rattle.rank_node.specs.Nodes.{IsNode}

@@ -1,0 +1,37 @@
+-- What a node makes of a batch of items that came.
+use Rattle.std.specs.Prelude.{◌≡◌, ℕ, ◌+◌, ◌-◌, ◌^◌, length, min, Bool, true, false, cond, List, map}
+use Rattle.std.specs.List.{fold}
+use Rattle.bale_types.specs.declared.item.Item.{Item}
+use Rattle.bale_types.specs.declared.item.Entry.{Entry}
+use Rattle.route_tensor.specs.Neighbour.{neighbour}
+use Rattle.route_tensor.specs.Tag.{sender_of}
+use Rattle.hop_core.specs.State.{State, in_at}
+use Rattle.round_program.specs.Rules.{Rules}
+use Rattle.round_program.specs.Batches.{all_taken_in}
+
+-- Entries of a conveyor's link in, by its number, as items each with its sender, which the tag tells.
+abbrev pub from_link : State → ℕ → List Entry → List (ℕ × Item)
+from_link st number entries = map (λ e. (sender_of st.dims e.tag (length st.dims) (neighbour st.dims st.rank number), e.item)) entries
+
+-- All that is unread on that link.
+abbrev pub came_on : State → ℕ → List (ℕ × Item)
+came_on st number = from_link st number (in_at st number).parcel.untaken
+
+-- Entries that came from one sender.
+abbrev pub from_sender : ℕ → List Entry → List (ℕ × Item)
+from_sender sender entries = map (λ e. (sender, e.item)) entries
+
+-- A sum of votes after further votes came. It stands at 2^64 - 1 once it would pass it.
+-- After votes of 2 and 1 the sum 4 is 7.
+abbrev pub summed : ℕ → List (ℕ × Item) → ℕ
+summed sum came = fold (λ n e. min (n + e.1.a) (2 ^ 64 - 1)) sum came
+
+-- What a node makes of items that it pulled. In an epoch of votes it adds their first fields to its sum. In an epoch of work the
+-- program absorbs those that it may be sent, unless memory was wanting by then.
+pub record TakesEach {S : Type 0} (R : Rules S) (voting : Bool) (prog prog' : S) (came : List (ℕ × Item)) (sum sum' : ℕ) (spoiled spoiled' : Bool) : Type 0 where
+  pub valid : R.valid prog
+  pub emissions : R.emissions prog' ≡ R.emissions prog
+  pub summed_up : sum' ≡ cond voting (summed sum came) sum
+  pub unspoiled : spoiled' ≡ false → spoiled ≡ false
+  pub votes : voting ≡ true → (spoiled' ≡ spoiled) × (prog' ≡ prog)
+  pub absorbed : voting ≡ false → spoiled' ≡ false → prog' ≡ all_taken_in R prog came

@@ -9,6 +9,7 @@ pub mod Chains
 pub mod Cuts
 pub mod Decides
 pub mod Digits
+pub mod Distributed
 pub mod Keys
 pub mod Lawful
 pub mod Merged

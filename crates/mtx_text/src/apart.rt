@@ -1,12 +1,13 @@
 //! Whether no place comes twice among entries, in time that grows with their number.
 //!
-//! The entries of each row are chained, from the last to the first. A walk along a row's chain marks each
-//! column that it meets with the row's own stamp: a column that bears the stamp already came twice.
-ghost use Rattle.std.specs.Prelude.{◌≡◌, ℕ, ◌+◌, ◌<◌, ◌≤◌, ◌^◌, true, length, get_or, vec_len, Ok, IfOk};
+//! The entries of each row are chained. A walk along a row's chain marks each column that it meets with the row's
+//! own stamp: a column that bears the stamp already came twice.
+ghost use Rattle.std.specs.Prelude.{◌≡◌, ℕ, ◌<◌, ◌^◌, true, length, vec_len, Ok};
 ghost use Rattle.std.specs.List.{All, AllPairs};
 ghost use Rattle.mtx_text.specs.Sparse.{SamePlace};
-ghost use Rattle.mtx_text.specs.Chains.{IsWithin, LeadsTo, HeadsLead, NextsLead, IsRowApart};
+ghost use Rattle.mtx_text.specs.Chains.{IsWithin, LeadsTo, NextsLead, IsRowApart, row_of};
 
+use crate::links::{Axis, link};
 use bale_types::Triple;
 use std::alloc::{AllocError, Global};
 
@@ -17,10 +18,11 @@ pub(crate) fn are_apart(alloc: Global, side: u32, entries: &[Triple]) -> Result<
     requires few { length entries.now < 2 ^ 31 }
     ensures { result ≡ Ok true → AllPairs (λ s t. ¬ SamePlace s t) entries.now }
 {
-    let mut heads = zeros(alloc, side as usize)?;
-    let mut nexts = zeros(alloc, entries.len())?;
-    link(side, entries, &mut heads, &mut nexts);
-    let mut stamps = zeros(alloc, side as usize)?;
+    let none = entries.len() as u32;
+    let mut heads = vec![in alloc; none; side as usize]?;
+    let mut nexts = vec![in alloc; none; entries.len()]?;
+    link(Axis::Row, side, entries, &mut heads, &mut nexts);
+    let mut stamps = vec![in alloc; 0u32; side as usize]?;
     for row in 0..side {
         let head = heads[row as usize];
         if !is_row_apart(side, entries, &nexts, row, head, &mut stamps) {
@@ -28,33 +30,6 @@ pub(crate) fn are_apart(alloc: Global, side: u32, entries: &[Triple]) -> Result<
         }
     }
     Ok(true)
-}
-
-/// A list of zeros.
-fn zeros(alloc: Global, len: usize) -> Result<Vec<u32>, AllocError>
-    ensures len { IfOk result (λ v. vec_len v ≡ len) }
-    ensures zero { IfOk result (λ v. (k : ℕ) → get_or v.items k 0 ≡ 0) }
-{
-    vec![in alloc; 0u32; len]
-}
-
-/// Chains the entries of each row. Links are one more than an entry's index, and 0 at a chain's end.
-fn link(side: u32, entries: &[Triple], heads: &mut Vec<u32>, nexts: &mut Vec<u32>)
-    requires within { All (λ t. IsWithin side t) entries.now }
-    requires few { length entries.now < 2 ^ 31 }
-    requires heads { vec_len heads.old ≡ side }
-    requires nexts { vec_len nexts.old ≡ length entries.now }
-    requires zero { (k : ℕ) → get_or heads.old.items k 0 ≡ 0 }
-    ensures heads_lead { HeadsLead entries.now heads.new.items (length entries.now) }
-    ensures nexts_lead { NextsLead entries.now nexts.new.items (length entries.now) }
-    ensures heads { vec_len heads.new ≡ side }
-    ensures nexts { vec_len nexts.new ≡ length entries.now }
-{
-    for (k, t) in entries.iter().enumerate() {
-        let row = t.i as usize;
-        nexts[k] = heads[row];
-        heads[row] = k as u32 + 1;
-    }
 }
 
 /// Whether no column comes twice along a row's chain.
@@ -71,21 +46,20 @@ fn is_row_apart(
     requires nexts { vec_len nexts.now ≡ length entries.now }
     requires stamps { vec_len stamps.old ≡ side }
     requires row { row < side }
-    requires head { LeadsTo entries.now row head (length entries.now) }
-    requires nexts_lead { NextsLead entries.now nexts.now.items (length entries.now) }
+    requires head { LeadsTo (row_of) entries.now row 0 head }
+    requires nexts_lead { NextsLead (row_of) entries.now nexts.now.items 0 }
     ensures apart { result ≡ true → IsRowApart entries.now row }
     ensures stamps { vec_len stamps.new ≡ side }
 {
     let stamp = row + 1;
-    let mut at = head;
-    while at != 0 {
-        let k = at as usize - 1;
-        let column = entries[k].j as usize;
+    let mut at = head as usize;
+    while at < entries.len() {
+        let column = entries[at].j as usize;
         if stamps[column] == stamp {
             return false;
         }
         stamps[column] = stamp;
-        at = nexts[k];
+        at = nexts[at] as usize;
     }
     true
 }

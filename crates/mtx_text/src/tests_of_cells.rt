@@ -136,6 +136,41 @@ fn many_cells(rt: HostRuntime) -> Result<(), Fail> {
 }
 
 #[test]
+fn cells_in_any_order(rt: HostRuntime) -> Result<(), Fail> {
+    // columns, how far rows are apart, how places come (k times that, modulo 3,000), and how often each
+    let rows = [
+        (50, 1, 2_999, 1), // from the last to the first
+        (50, 1, 1, 1), // in order already
+        (50, 1, 1_237, 3), // each place three times
+        (50, 8, 1_237, 1), // rows without cells between them
+        (3_000, 1, 2_999, 1), // one row
+        (1, 1, 1_237, 1), // one column
+        (1, 1_000_000, 1_237, 2), // more rows than cells
+    ];
+    for (cols, apart, factor, times) in rows {
+        let mut cells = Cells::new(rt.alloc());
+        for k in 0..3_000 * times {
+            let place = k * factor % 3_000;
+            cells.raise(place / cols * apart, place % cols, k as i64)?;
+        }
+        cells.settle();
+        let list = cells.into_entries();
+        assert!(rt; list.len() == 3_000, "{cols} {apart} {factor} {times}");
+        for (place, t) in list.iter().enumerate() {
+            let k = u32::try_from(t.v).unwrap_or(0);
+            assert!(rt;
+                t.i as usize == place / cols as usize * apart as usize
+                    && t.j as usize == place % cols as usize
+                    && k % 3_000 * factor % 3_000 == place as u32
+                    && k / 3_000 + 1 == times,
+                "{cols} {apart} {factor} {times}: {place}"
+            );
+        }
+    }
+    Ok(())
+}
+
+#[test]
 fn words_of_seed_42(rt: HostRuntime) -> Result<(), Fail> {
     let mut words = Words::of_seed(42);
     for wanted in [0xa15c02b7, 0x7b47f409, 0xba1d3330, 0x83d2f293, 0xbfa4784b] {

@@ -1,40 +1,36 @@
-use Rattle.std.proofs.Common.{◌≡◌, ◌≢◌, ◌<◌, ◌+◌, ◌-◌, ℕ, length, get_or, sym, ◌∙◌, rules, arith, subst, pos}
+use Rattle.std.proofs.Common.{◌≡◌, ◌≢◌, ◌<◌, ◌+◌, ℕ, length, get_or, sym, ◌∙◌, rules, arith, subst, pos}
 use Rattle.std.proofs.lemmas.List.{get_or_read_under}
 use Rattle.bale_types.specs.declared.triple.Triple.{Triple}
-use Rattle.mtx_text.specs.Chains.{LeadsTo}
-use Rattle.mtx_text.proofs.Chains.{Walked, step}
+use Rattle.mtx_text.specs.Chains.{LeadsTo, row_of}
+use Rattle.mtx_text.proofs.Chains.{step}
 use Rattle.mtx_text.proofs.apart.is_row_apart.Goals as goal
 
 pub loop-at-smaller : goal.loop-at-smaller
 loop-at-smaller c =
     let entries = c.args.entries.now in
-    let k = c.loop-at.at - 1 in
+    let k = c.loop-at.at in
     let e : Triple = record { i = 0; j = 0; v = pos 0 } in
-    let low = c.loop-at.invariant.0.low in
-    let here : k < length entries = omega (arith, low, c.loop-at-test.true) in
+    let here : k < length entries = c.loop-at-test.true in
     let room : k < length c.args.nexts.now.items = omega (arith, here, c.requires.nexts, c.args.nexts.now.ok) in
-    let next : c.index-at.result.now ≡ get_or c.args.nexts.now.items k 0 =
-    get_or_read_under c.args.nexts.now.items k (length c.args.nexts.now.items) c.index-at.result.now 0 c.index-at.ensures room (search rules) in
-    let leads = c.requires.nexts_lead k e here in
-    omega (arith, leads.low, next, c.loop-at-test.true)
+    let next : c.index-in-loop-at.result.now ≡ get_or c.args.nexts.now.items k 0 =
+    get_or_read_under c.args.nexts.now.items k (length c.args.nexts.now.items) c.index-in-loop-at.result.now 0 c.index-in-loop-at.ensures room (search rules) in
+    let leads = c.requires.nexts_lead k e (omega arith) here in
+    omega (arith, leads.low, next, here)
 
 pub loop-at-preserved : goal.loop-at-preserved
 loop-at-preserved c =
     let entries = c.args.entries.now in
     let stamps = c.loop-at.stamps.items in
-    let k = c.loop-at.at - 1 in
+    let k = c.loop-at.at in
     let e : Triple = record { i = 0; j = 0; v = pos 0 } in
-    let low = c.loop-at.invariant.0.low in
-    let one : c.loop-at.at ≡ k + 1 = omega (arith, c.loop-at-test.true) in
-    let here : k < length entries = omega (arith, low, c.loop-at-test.true) in
+    let here : k < length entries = c.loop-at-test.true in
     let within = c.requires.within k e here in
     let column : (get_or entries k e).j < length stamps = omega (arith, within.col, c.loop-at.invariant.1, c.loop-at.stamps.ok) in
     let read : c.index.result.now ≡ get_or stamps (get_or entries k e).j 0 =
     get_or_read_under stamps (get_or entries k e).j (length stamps) c.index.result.now 0 c.index.ensures column (search rules) in
     let fresh : get_or stamps (get_or entries k e).j 0 ≢ c.args.row + 1 = λ h. c.if-index-stamp.false (read ∙ h) in
     let room : k < length c.args.nexts.now.items = omega (arith, here, c.requires.nexts, c.args.nexts.now.ok) in
-    let next : c.index-at.result.now ≡ get_or c.args.nexts.now.items k 0 =
-    get_or_read_under c.args.nexts.now.items k (length c.args.nexts.now.items) c.index-at.result.now 0 c.index-at.ensures room (search rules) in
-    let leads = subst (λ (w : ℕ). LeadsTo entries (get_or entries k e).i w k) (sym next) (c.requires.nexts_lead k e here) in
-    let walked = subst (λ (w : ℕ). Walked entries stamps c.args.row (c.args.row + 1) w) one c.loop-at.invariant.0 in
-    (step entries stamps c.args.row (c.args.row + 1) k c.index-at.result.now e here column fresh leads walked, c.loop-at.invariant.1)
+    let next : c.index-in-loop-at.result.now ≡ get_or c.args.nexts.now.items k 0 =
+    get_or_read_under c.args.nexts.now.items k (length c.args.nexts.now.items) c.index-in-loop-at.result.now 0 c.index-in-loop-at.ensures room (search rules) in
+    let leads = subst (λ (w : ℕ). LeadsTo row_of entries (get_or entries k e).i (k + 1) w) (sym next) (c.requires.nexts_lead k e (omega arith) here) in
+    (step entries stamps c.args.row (c.args.row + 1) k c.index-in-loop-at.result.now e here column fresh leads c.loop-at.invariant.0, c.loop-at.invariant.1)

@@ -1,4 +1,4 @@
-use Rattle.std.proofs.Common.{◌≡◌, vec_len}
+use Rattle.std.proofs.Common.{◌≡◌, ◌-◌, length, vec_len}
 use Rattle.mtx_text.proofs.Chains.{Walked}
 use Rattle.mtx_text.proofs.apart.is_row_apart.Given as goal
 
@@ -6,4 +6,4 @@ abbrev pub invariant-loop-at : goal.invariant-loop-at
 invariant-loop-at l = Walked l.entries l.stamps.items l.row l.stamp l.at × (vec_len l.stamps ≡ l.side)
 
 abbrev pub decreases-loop-at : goal.decreases-loop-at
-decreases-loop-at l = l.at
+decreases-loop-at l = length l.entries - l.at

@@ -8,11 +8,13 @@ pub mod Caps
 pub mod Chains
 pub mod Cuts
 pub mod Decides
+pub mod DigitLanes
 pub mod Digits
 pub mod Keys
 pub mod Lawful
 pub mod Merged
 pub mod Nearest
+pub mod NoDigits
 pub mod Numbered
 pub mod OfCells
 pub mod PlaceOrder

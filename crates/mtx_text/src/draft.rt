@@ -101,7 +101,7 @@ struct Run<'a> {
 }
 
 /// How many plain lines pay for the look at one that isn't.
-const PAUSE: u64 = 16;
+const PAUSE: u32 = 16;
 
 /// Reads on as long as lines are plain and their entries in range. Where lines that aren't plain come often, most of them are not
 /// even looked at.
@@ -133,7 +133,6 @@ fn read_plain<'a>(
         });
     }
     let mut rest = run.rest;
-    let mut number = run.number;
     let mut left = run.left;
     while left > 0 {
         let Some(plain) = plain_cell(form, sizes, rest) else {
@@ -142,18 +141,18 @@ fn read_plain<'a>(
         let Ok(t) = plain.cell else {
             break;
         };
+        let number = run.number + (run.left - left) as u64;
         let kept = first_kept(rest, number, plain.len, plain.next);
         push(entries, sizes, form.symmetry, t)?;
         rest = kept.rest;
-        number = kept.number + 1;
         left -= 1;
     }
-    let careful = if number - run.number < PAUSE { 15 } else { 0 };
+    let lines = run.left - left;
     Ok(Run {
         rest,
-        number,
+        number: run.number + lines as u64,
         left,
-        careful,
+        careful: if lines < PAUSE { 15 } else { 0 },
     })
 }
 

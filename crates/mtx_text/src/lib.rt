@@ -24,6 +24,7 @@ mod banner;
 mod careful;
 mod cell;
 mod cells;
+mod digit_lanes;
 mod draft;
 mod entries;
 mod finite_map;

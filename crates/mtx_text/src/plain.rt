@@ -4,25 +4,41 @@ ghost use Rattle.std.specs.Prelude.{◌≡◌, ◌<◌, ◌≤◌, true, false, 
 ghost use Rattle.std.specs.List.{list_all};
 ghost use Rattle.std.specs.Option.{option_map};
 ghost use Rattle.std.specs.Char.{is_ascii_digit};
+ghost use Rattle.std.specs.Int.Count.{count_trailing_zeros};
 ghost use Rattle.std.specs.Str.Parse.{digits_value};
+ghost use Rattle.mtx_text.specs.declared.kind.Kind.TheVariants as Kind;
 ghost use Rattle.mtx_text.specs.Lines.{words_of, is_skipped};
 ghost use Rattle.mtx_text.specs.Grammar.{fields_of};
 ghost use Rattle.mtx_text.specs.Capped.{read_three};
 ghost use Rattle.mtx_text.specs.PlainLines.{LineAt, DigitsTo, DigitsEnd, LastAt, IsRead};
 
+use crate::digit_lanes::{no_digits, number_of};
 use crate::integer::Integer;
-use crate::kind::Kind;
 use crate::lines::behind;
 use crate::numbers::Fields;
 
 /// Digits of a plain number at most, so that none wraps.
 const MOST_DIGITS: usize = 18;
 
+/// Digits of an index at most.
+const INDEX_DIGITS: usize = 5;
+
+/// Bytes that a plain line has with what stands behind it, at least: so many that no look at one of its first two numbers asks
+/// whether it is still within the text.
+const WINDOW: usize = 24;
+
 /// The digits that a text begins with: their number, and how many they are.
 #[derive(Clone, Copy)]
 struct Digits {
     size: u64,
     len: usize,
+}
+
+/// Two runs of digits, with a space between them.
+#[derive(Clone, Copy)]
+struct Two {
+    row: Digits,
+    column: Digits,
 }
 
 /// The digits that a line ends with: their number, how many they are, and where the next line begins.
@@ -49,31 +65,19 @@ pub(crate) struct Plain {
     pub(crate) next: usize,
 }
 
-/// The fields of the line that a text begins with, where it is plain.
+/// The plain line of row, column and value that a text begins with.
 #[inline(always)]
-pub(crate) fn plain_line(kind: Kind, text: &[u8]) -> Option<Plain>
-    ensures line { IfSome result (λ p. LineAt text.now p.len p.next) }
-    ensures counts { IfSome result (λ p. is_skipped (words_of (take p.len text.now)) ≡ false) }
-    ensures fields { IfSome result (λ p. Some (p.fields.row, p.fields.column, p.fields.value)
-        ≡ option_map read_three (fields_of kind (words_of (take p.len text.now)))) }
-{
-    match kind {
-        Kind::Integer => plain_three(text),
-        Kind::Pattern => plain_two(text),
-    }
-}
-
-/// A plain line of row, column and value.
-#[inline(always)]
-fn plain_three(text: &[u8]) -> Option<Plain>
+pub(crate) fn plain_three(text: &[u8]) -> Option<Plain>
     ensures line { IfSome result (λ p. LineAt text.now p.len p.next) }
     ensures counts { IfSome result (λ p. is_skipped (words_of (take p.len text.now)) ≡ false) }
     ensures fields { IfSome result (λ p. Some (p.fields.row, p.fields.column, p.fields.value)
         ≡ option_map read_three (fields_of Kind.Integer (words_of (take p.len text.now)))) }
 {
-    let row = few_to(b' ', text)?;
+    let Two { row, column } = two_numbers(text)?;
     let after_row = behind(row.len, text);
-    let column = few_to(b' ', after_row)?;
+    if after_row[column.len] != b' ' {
+        return None;
+    }
     let last = last_word(behind(column.len, after_row))?;
     Some(Plain {
         fields: Fields {
@@ -86,25 +90,76 @@ fn plain_three(text: &[u8]) -> Option<Plain>
     })
 }
 
-/// A plain line of row and column, whose value is 1.
+/// The plain line of row and column, whose value is 1, that a text begins with.
 #[inline(always)]
-fn plain_two(text: &[u8]) -> Option<Plain>
+pub(crate) fn plain_two(text: &[u8]) -> Option<Plain>
     ensures line { IfSome result (λ p. LineAt text.now p.len p.next) }
     ensures counts { IfSome result (λ p. is_skipped (words_of (take p.len text.now)) ≡ false) }
     ensures fields { IfSome result (λ p. Some (p.fields.row, p.fields.column, p.fields.value)
         ≡ option_map read_three (fields_of Kind.Pattern (words_of (take p.len text.now)))) }
 {
-    let row = few_to(b' ', text)?;
-    let last = last_word(behind(row.len, text))?;
+    let Two { row, column } = two_numbers(text)?;
+    let end = line_end(behind(row.len, text), column.len)?;
     Some(Plain {
         fields: Fields {
             row: Some(natural(row.size)),
-            column: Some(last.value),
+            column: Some(natural(column.size)),
             value: Some(natural(1)),
         },
-        len: row.len + 1 + last.len,
-        next: row.len + 1 + last.next,
+        len: row.len + 1 + column.len,
+        next: row.len + 1 + (column.len + end),
     })
+}
+
+/// The numbers of the two runs of digits that a text begins with, each of as few digits as an index has, with one space between
+/// them and another byte behind.
+#[inline(always)]
+fn two_numbers(text: &[u8]) -> Option<Two>
+    ensures within { IfSome result (λ two. 24 ≤ length text.now) }
+    ensures few { IfSome result (λ two. (two.row.len ≤ 5) × (two.column.len ≤ 5)) }
+    ensures row { IfSome result (λ two. DigitsTo 32 text.now two.row.len two.row.size) }
+    ensures some { IfSome result (λ two. 0 < two.column.len) }
+    ensures column { IfSome result (λ two. IsRead (drop (two.row.len + 1) text.now) two.column) }
+{
+    if text.len() < WINDOW {
+        return None;
+    }
+    let others = no_digits(text);
+    let len = run_len(others)?;
+    if text[len] != b' ' {
+        return None;
+    }
+    let after = behind(len, text);
+    let width = run_len(others >> (len + 1))?;
+    Some(Two {
+        row: Digits {
+            size: number_of(text, len),
+            len,
+        },
+        column: Digits {
+            size: number_of(after, width),
+            len: width,
+        },
+    })
+}
+
+/// How many digits stand before the first byte that is none, where they are as few as an index has; `others` are the bits of
+/// such bytes.
+#[inline(always)]
+fn run_len(others: u64) -> Option<usize>
+    ensures some { IfSome result (λ len. 0 < others) }
+    ensures len { IfSome result (λ len. len ≡ count_trailing_zeros 64 others) }
+    ensures full { IfSome result (λ len. 0 < len) }
+    ensures few { IfSome result (λ len. len ≤ 5) }
+{
+    if others == 0 {
+        return None;
+    }
+    let len = others.trailing_zeros() as usize;
+    if len == 0 || len > INDEX_DIGITS {
+        return None;
+    }
+    Some(len)
 }
 
 #[inline(always)]
@@ -170,20 +225,6 @@ fn line_end(text: &[u8], len: usize) -> Option<usize>
         return Some(2);
     }
     None
-}
-
-/// The digits that a text begins with, where they are as few as an index has and the byte `end` follows.
-#[inline(always)]
-fn few_to(end: u8, text: &[u8]) -> Option<Digits>
-    ensures { IfSome result (λ d. DigitsTo end text.now d.len d.size) }
-{
-    if text.len() <= UNROLLED {
-        return None;
-    }
-    match few_digits(text) {
-        Err(digits) if digits.len > 0 && text[digits.len] == end => Some(digits),
-        _ => None,
-    }
 }
 
 /// The digits that a text begins with, where another byte follows. The number of too many digits wraps: it

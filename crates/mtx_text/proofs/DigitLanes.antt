@@ -37,22 +37,19 @@ pairs_are p q r s x y z pairs P Q R S X Y Z e =
     ∙ and_block 32 ((0 * 256 + s) * 65536 + (z * 256 + r)) 0x00ff_00ff ((y * 256 + q) * 65536 + (x * 256 + p)) 0x00ff_00ff low (omega arith)
     ∙ rw (half r s z 0 R S Z, half p q x y P Q X) (omega arith)
 
+-- the first four digits are lowest, and the last four highest
 fours_are : (f g m fours : ℕ) → f < 10000 → g < 10000 → m < 65536 → fours ≡ f + 2 ^ 16 * m + 2 ^ 32 * g
-    → bit_and fours 0x0000_ffff_0000_ffff ≡ f + 2 ^ 32 * g
+    → bit_and fours 65535 * 10000 + fours / 2 ^ 32 ≡ 10000 * f + g
 fours_are f g m fours F G M e =
-    let parts : fours ≡ g * 2 ^ 32 + (m * 65536 + f) = omega arith in
-    let low : m * 65536 + f < 2 ^ 32 = omega arith in
-    let a : g % 65536 ≡ g = omega arith in
-    let b : (m * 65536 + f) % 65536 ≡ f = omega arith in
-    ap (λ w. bit_and w 0x0000_ffff_0000_ffff) parts
-    ∙ and_block 32 g 0xffff (m * 65536 + f) 0xffff low (omega arith)
-    ∙ rw (and_mask g 16, and_mask (m * 65536 + f) 16, a, b) (omega arith)
+    let low : fours % 65536 ≡ f = omega (arith, e) in
+    let high : fours / 2 ^ 32 ≡ g = omega (arith, e) in
+    rw (and_mask fours 16, low, high) (omega arith)
 
 abbrev worth : ℕ → ℕ
 worth word =
     let pairs = bit_and (word * 2561 % 2 ^ 64 / 256) 0x00ff_00ff_00ff_00ff in
-    let fours = bit_and (pairs * 6553601 % 2 ^ 64 / 65536) 0x0000_ffff_0000_ffff in
-    fours * 42949672960001 % 2 ^ 64 / 2 ^ 32
+    let fours = pairs * 6553601 % 2 ^ 64 / 65536 in
+    bit_and fours 65535 * 10000 + fours / 2 ^ 32
 
 first : (a b c d e f g h : ℕ) → a ≤ 9 → b ≤ 9 → c ≤ 9 → d ≤ 9 → e ≤ 9 → f ≤ 9 → g ≤ 9 → h ≤ 9
     → (a + 256 * (b + 256 * (c + 256 * (d + 256 * (e + 256 * (f + 256 * (g + 256 * h))))))) * 2561 % 2 ^ 64 / 256
@@ -63,9 +60,6 @@ second : (p q r s : ℕ) → p < 100 → q < 100 → r < 100 → s < 100
     → (p + 2 ^ 16 * q + 2 ^ 32 * r + 2 ^ 48 * s) * 6553601 % 2 ^ 64 / 65536
     ≡ 100 * p + q + 2 ^ 16 * (100 * q + r) + 2 ^ 32 * (100 * r + s)
 second p q r s P Q R S = omega arith
-
-third : (f g : ℕ) → f < 10000 → g < 10000 → (f + 2 ^ 32 * g) * 42949672960001 % 2 ^ 64 / 2 ^ 32 ≡ 10000 * f + g
-third f g F G = omega arith
 
 pub eight_are : (word : ℕ) (digit : ℕ → ℕ) → ((k : ℕ) → k < 8 → digit k ≤ 9) → word ≡ word_from digit → worth word ≡ number_from digit
 eight_are word digit d is =
@@ -95,8 +89,7 @@ eight_are word digit d is =
     let S : s < 100 = omega (arith, H, I) in
     let pairs = pairs_are p q r s (10 * b + c) (10 * e + f) (10 * g + h) _ P Q R S (omega (arith, B, C)) (omega (arith, E, F)) (omega (arith, G, H)) refl in
     let fours = fours_are (100 * p + q) (100 * r + s) (100 * q + r) _ (omega (arith, P, Q)) (omega (arith, R, S)) (omega (arith, Q, R)) refl in
-    let last = third (100 * p + q) (100 * r + s) (omega (arith, P, Q)) (omega (arith, R, S)) in
-    rw (is, first a b c e f g h i A B C E F G H I, pairs, second p q r s P Q R S, fours, last) (omega arith)
+    rw (is, first a b c e f g h i A B C E F G H I, pairs, second p q r s P Q R S, fours) (omega arith)
 
 -- ---- the digits at a text's front, shifted to the end of a word of eight
 

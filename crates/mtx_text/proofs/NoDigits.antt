@@ -2,7 +2,7 @@
 use Rattle.std.proofs.Common.{◌≡◌, ℕ, zero, suc, ◌+◌, ◌-◌, ◌*◌, ◌/◌, ◌%◌, ◌^◌, ◌<◌, ◌≤◌, Bool, true, false, not, ◌&&◌, cond, leb, T, List, [], ◌∷◌, map, length, get_or, take, drop, replicate, refl, sym, ap, ap₂, ◌∙◌, subst, ◌⊎◌, inl, inr, arith, w8, Fits, not-suc-le-zero, one-add}
 use Rattle.std.proofs.Math.Nat.{div-div-eq-div-mul, pow-succ', zero-div}
 use Rattle.std.proofs.lemmas.Bool.{cases_order}
-use Rattle.std.proofs.lemmas.List.{length-map, length-take-le, drop-take, take-take, drop-map}
+use Rattle.std.proofs.lemmas.List.{length-drop, length-map, length-take-le, drop-take, take-take, drop-map}
 use Rattle.std.proofs.lemmas.List.Sums.{prefix_len-le-length}
 use Rattle.std.proofs.lemmas.Simd.{zip2_splat, map-map, mask_l-mod, trailing_mask_l}
 use Rattle.std.specs.List.{list_all, prefix_len}
@@ -106,3 +106,29 @@ pub mask_behind : (text : List ℕ) (a k mask : ℕ) → mask ≡ mask_l (map is
 mask_behind text a k mask is =
     ap (λ x. x / 2 ^ a) is ∙ mask_drop (map is_no_digit (take (a + k) text)) a ∙ ap mask_l (drop-map is_no_digit a (take (a + k) text))
     ∙ ap (λ l. mask_l (map is_no_digit l)) (drop-take a k text)
+
+-- how many digits the bits say, where they say some
+pub first_run : (text : List ℕ) (mask : ℕ) → 16 ≤ length text → mask ≡ mask_l (map is_no_digit (take 16 text)) → 0 < mask
+    → list_all is_ascii_digit (take (count_trailing_zeros 64 mask) text) ≡ true
+first_run text mask within is some = digits_before text 16 (count_trailing_zeros 64 mask) mask (omega arith) within is some refl
+
+-- the same of a second run, behind the first and one byte more
+pub second_bits : (text : List ℕ) (mask a : ℕ) → a ≤ 5 → mask ≡ mask_l (map is_no_digit (take 16 text))
+    → mask / 2 ^ (a + 1) ≡ mask_l (map is_no_digit (take (15 - a) (drop (a + 1) text)))
+second_bits text mask a few is =
+    let whole : 16 ≡ a + 1 + (15 - a) = omega (arith, few) in
+    mask_behind text (a + 1) (15 - a) mask (is ∙ ap (λ k. mask_l (map is_no_digit (take k text))) whole)
+
+pub second_run : (text : List ℕ) (mask a : ℕ) → 16 ≤ length text → a ≤ 5 → mask ≡ mask_l (map is_no_digit (take 16 text)) → 0 < mask / 2 ^ (a + 1)
+    → list_all is_ascii_digit (take (count_trailing_zeros 64 (mask / 2 ^ (a + 1))) (drop (a + 1) text)) ≡ true
+second_run text mask a within few is some =
+    digits_before (drop (a + 1) text) (15 - a) (count_trailing_zeros 64 (mask / 2 ^ (a + 1))) (mask / 2 ^ (a + 1)) (omega arith)
+    (omega (arith, within, few, length-drop (a + 1) text)) (second_bits text mask a few is) some refl
+
+-- and the bits behind both
+pub third_bits : (text : List ℕ) (mask a b : ℕ) → a ≤ 5 → b ≤ 5 → mask ≡ mask_l (map is_no_digit (take 16 text))
+    → mask / 2 ^ (a + 1) / 2 ^ (b + 1) ≡ mask_l (map is_no_digit (take (14 - (a + b)) (drop (b + 1) (drop (a + 1) text))))
+third_bits text mask a b few short is =
+    let whole : 15 - a ≡ b + 1 + (14 - (a + b)) = omega (arith, few, short) in
+    mask_behind (drop (a + 1) text) (b + 1) (14 - (a + b)) (mask / 2 ^ (a + 1))
+    (second_bits text mask a few is ∙ ap (λ k. mask_l (map is_no_digit (take k (drop (a + 1) text)))) whole)

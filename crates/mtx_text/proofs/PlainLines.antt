@@ -187,7 +187,7 @@ digits_last text len next size d =
       value = number_is text len size d.full within d.digits d.value;
     }
 
--- a second run of few digits, with a space or the line's end behind it
+-- a second run of few digits, with a space behind it
 pub column_to : (text rest : List ℕ) (a len size : ℕ) → 24 ≤ length text → a ≤ 5 → rest ≡ drop (a + 1) text → 0 < len → len ≤ 5
     → NumberTo (drop (a + 1) text) len size → get_or rest len 0 ≡ 32 → DigitsTo 32 rest len size
 column_to text rest a len size long near is full few n ends =
@@ -200,18 +200,23 @@ column_to text rest a len size long near is full few n ends =
       ends = ends;
     }
 
+-- few digits, with the line's end behind them
+pub read_last : (text : List ℕ) (len end size : ℕ) → 0 < len → len ≤ 5 → len < length text → NumberTo text len size → LineAt (drop len text) 0 end
+    → LastAt text len (len + end) (record { minus = false; size = size })
+read_last text len end size full few within n at =
+    digits_last text len (len + end) size (record {
+      full = full;
+      within = within;
+      digits = n.digits;
+      value = n.value (omega (arith, few));
+      line = digits_line text len end (omega (arith, within)) n.digits at;
+    })
+
 pub column_last : (text rest : List ℕ) (a len end size : ℕ) → 24 ≤ length text → a ≤ 5 → rest ≡ drop (a + 1) text → 0 < len → len ≤ 5
     → NumberTo (drop (a + 1) text) len size → LineAt (drop len rest) 0 end → LastAt rest len (len + end) (record { minus = false; size = size })
 column_last text rest a len end size long near is full few n at =
-    let own : NumberTo rest len size = subst (λ (l : List ℕ). NumberTo l len size) (sym is) n in
     let within : len < length rest = omega (arith, long, near, few, ap (λ (l : List ℕ). length l) is, length-drop (a + 1) text) in
-    digits_last rest len (len + end) size (record {
-      full = full;
-      within = within;
-      digits = own.digits;
-      value = own.value (omega (arith, few));
-      line = digits_line rest len end (omega (arith, within)) own.digits at;
-    })
+    read_last rest len end size full few within (subst (λ (l : List ℕ). NumberTo l len size) (sym is) n) at
 
 minus_at : (text : List ℕ) (len next size : ℕ) → get_or text 0 0 ≡ 45 → DigitsEnd (drop 1 text) len next size
     → LastAt text (suc len) (suc next) (record { minus = true; size = size })

@@ -11,7 +11,7 @@ use crate::banner::{Form, Symmetry};
 use crate::integer::Integer;
 use crate::kind::Kind;
 use crate::numbers::{Fields, read_fields};
-use crate::plain::{Plain, plain_three, plain_two};
+use crate::plain::{Plain, front_of_three, long_value, plain_three, plain_two, short_value};
 use crate::refusal::Reason;
 use crate::sizes::Sizes;
 use bale_types::Triple;
@@ -54,7 +54,16 @@ pub(crate) fn plain_cell(form: Form, sizes: Sizes, text: &[u8]) -> Option<PlainC
     ensures limit { IfSome result (λ p. IfOk p.cell (λ t. nat_abs t.v ≤ 1_000_000_000_000)) }
 {
     match form.kind {
-        Kind::Integer => Some(cell_on(form, sizes, plain_three(text)?)),
+        Kind::Integer => {
+            let front = front_of_three(text)?;
+            match short_value(front) {
+                Some(last) => Some(cell_on(form, sizes, plain_three(text, front, last))),
+                None => {
+                    let last = long_value(front)?;
+                    Some(cell_on(form, sizes, plain_three(text, front, last)))
+                }
+            }
+        }
         Kind::Pattern => Some(cell_on(form, sizes, plain_two(text)?)),
     }
 }

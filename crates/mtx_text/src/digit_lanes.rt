@@ -53,13 +53,13 @@ fn front_word(text: &[u8]) -> u64
     ])
 }
 
-/// The number that the eight bytes of a word are, each of them a digit's value, the lowest byte the first digit: pairs of
-/// digits, then fours, then all eight, each by one multiplication.
+/// The number that the eight bytes of a word are, each of them a digit's value, the lowest byte the first digit: two digits and
+/// then four are put together by a multiplication each.
 #[inline(always)]
 fn value_of(word: u64) -> u64
     ensures { (digit : ℕ → ℕ) → ((k : ℕ) → k < 8 → digit k ≤ 9) → word ≡ word_from digit → result ≡ number_from digit }
 {
     let pairs = (word.wrapping_mul(1 + (10 << 8)) >> 8) & 0x00ff_00ff_00ff_00ff;
-    let fours = (pairs.wrapping_mul(1 + (100 << 16)) >> 16) & 0x0000_ffff_0000_ffff;
-    fours.wrapping_mul(1 + (10_000 << 32)) >> 32
+    let fours = pairs.wrapping_mul(1 + (100 << 16)) >> 16;
+    (fours & 0xffff) * 10_000 + (fours >> 32)
 }

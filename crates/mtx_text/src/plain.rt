@@ -1,16 +1,17 @@
 //! Plain entry lines, read in one pass: numbers of few digits, one space between two of them, and LF, or CR and LF,
 //! at once behind the last. Most texts have no other lines; whatever isn't of this form is read the general way.
-ghost use Rattle.std.specs.Prelude.{◌≡◌, ◌<◌, ◌≤◌, true, false, Some, ◌+◌, length, take, drop, min, IfSome, IfOk, IfErr};
+ghost use Rattle.std.specs.Prelude.{◌≡◌, ◌<◌, ◌≤◌, true, false, Some, ◌+◌, ◌-◌, length, map, take, drop, min, IfSome, IfOk, IfErr};
 ghost use Rattle.std.specs.List.{list_all};
 ghost use Rattle.std.specs.Option.{option_map};
 ghost use Rattle.std.specs.Char.{is_ascii_digit};
-ghost use Rattle.std.specs.Int.Count.{count_trailing_zeros};
+ghost use Rattle.std.specs.Simd.Lanes.{mask_l};
 ghost use Rattle.std.specs.Str.Parse.{digits_value};
 ghost use Rattle.mtx_text.specs.declared.kind.Kind.TheVariants as Kind;
 ghost use Rattle.mtx_text.specs.Lines.{words_of, is_skipped};
 ghost use Rattle.mtx_text.specs.Grammar.{fields_of};
 ghost use Rattle.mtx_text.specs.Capped.{read_three};
-ghost use Rattle.mtx_text.specs.PlainLines.{LineAt, DigitsTo, DigitsEnd, LastAt, IsRead};
+ghost use Rattle.mtx_text.specs.DigitLanes.{is_no_digit};
+ghost use Rattle.mtx_text.specs.PlainLines.{LineAt, DigitsTo, DigitsEnd, LastAt, IsRead, FrontAt};
 
 use crate::digit_lanes::{no_digits, number_of};
 use crate::integer::Integer;
@@ -20,8 +21,8 @@ use crate::numbers::Fields;
 /// Digits of a plain number at most, so that none wraps.
 const MOST_DIGITS: usize = 18;
 
-/// Digits of an index at most.
-const INDEX_DIGITS: usize = 5;
+/// Digits of a number at most that is read at once: as many as an index has.
+const FEW_DIGITS: usize = 5;
 
 /// Bytes that a plain line has with what stands behind it, at least: so many that no look at one of its first two numbers asks
 /// whether it is still within the text.
@@ -34,11 +35,19 @@ struct Digits {
     len: usize,
 }
 
-/// Two runs of digits, with a space between them.
+/// Two runs of digits, with a space between them, and the bits of the bytes that are no digits, from one byte behind the second run on.
 #[derive(Clone, Copy)]
 struct Two {
     row: Digits,
     column: Digits,
+    others: u64,
+}
+
+/// The first two words of a line, and what stands behind them and their spaces.
+#[derive(Clone, Copy)]
+pub(crate) struct Front<'a> {
+    two: Two,
+    rest: &'a [u8],
 }
 
 /// The digits that a line ends with: their number, how many they are, and where the next line begins.
@@ -51,7 +60,7 @@ struct Ending {
 
 /// The last word of a line: its integer, how many bytes it has, and where the next line begins.
 #[derive(Clone, Copy)]
-struct Last {
+pub(crate) struct Last {
     value: Integer,
     len: usize,
     next: usize,
@@ -65,21 +74,58 @@ pub(crate) struct Plain {
     pub(crate) next: usize,
 }
 
-/// The plain line of row, column and value that a text begins with.
+/// The row and the column of a line of three words that a text begins with.
 #[inline(always)]
-pub(crate) fn plain_three(text: &[u8]) -> Option<Plain>
-    ensures line { IfSome result (λ p. LineAt text.now p.len p.next) }
-    ensures counts { IfSome result (λ p. is_skipped (words_of (take p.len text.now)) ≡ false) }
-    ensures fields { IfSome result (λ p. Some (p.fields.row, p.fields.column, p.fields.value)
-        ≡ option_map read_three (fields_of Kind.Integer (words_of (take p.len text.now)))) }
+pub(crate) fn front_of_three(text: &[u8]) -> Option<Front<'_>>
+    ensures { IfSome result (λ front. FrontAt text.now front.two front.rest.now) }
 {
-    let Two { row, column } = two_numbers(text)?;
-    let after_row = behind(row.len, text);
-    if after_row[column.len] != b' ' {
+    let two = two_numbers(text)?;
+    let after_row = behind(two.row.len, text);
+    if after_row[two.column.len] != b' ' {
         return None;
     }
-    let last = last_word(behind(column.len, after_row))?;
-    Some(Plain {
+    Some(Front {
+        two,
+        rest: behind(two.column.len, after_row),
+    })
+}
+
+/// The value at the end of such a line, where it is one of few digits.
+#[inline(always)]
+pub(crate) fn short_value(front: Front<'_>) -> Option<Last>
+    requires few { front.two.row.len + front.two.column.len ≤ 10 }
+    requires room { 22 ≤ length front.rest.now + (front.two.row.len + front.two.column.len) }
+    requires others { front.two.others ≡ mask_l (map is_no_digit (take (14 - (front.two.row.len + front.two.column.len)) front.rest.now)) }
+    ensures { IfSome result (λ last. LastAt front.entry.rest.now last.len last.next last.value) }
+{
+    let others = front.two.others;
+    if others == 0 {
+        return None;
+    }
+    let len = others.trailing_zeros() as usize;
+    if len == 0 || len > FEW_DIGITS {
+        return None;
+    }
+    let end = line_end(front.rest, len)?;
+    Some(Last {
+        value: natural(number_of(front.rest, len)),
+        len,
+        next: len + end,
+    })
+}
+
+/// The plain line of these three words.
+#[inline(always)]
+pub(crate) fn plain_three(text: &[u8], front: Front<'_>, last: Last) -> Plain
+    requires front { FrontAt text.now front.two front.rest.now }
+    requires last { LastAt front.rest.now last.len last.next last.value }
+    ensures line { LineAt text.now result.len result.next }
+    ensures counts { is_skipped (words_of (take result.len text.now)) ≡ false }
+    ensures fields { Some (result.fields.row, result.fields.column, result.fields.value)
+        ≡ option_map read_three (fields_of Kind.Integer (words_of (take result.len text.now))) }
+{
+    let Two { row, column, .. } = front.two;
+    Plain {
         fields: Fields {
             row: Some(natural(row.size)),
             column: Some(natural(column.size)),
@@ -87,7 +133,7 @@ pub(crate) fn plain_three(text: &[u8]) -> Option<Plain>
         },
         len: row.len + 1 + (column.len + 1 + last.len),
         next: row.len + 1 + (column.len + 1 + last.next),
-    })
+    }
 }
 
 /// The plain line of row and column, whose value is 1, that a text begins with.
@@ -98,7 +144,7 @@ pub(crate) fn plain_two(text: &[u8]) -> Option<Plain>
     ensures fields { IfSome result (λ p. Some (p.fields.row, p.fields.column, p.fields.value)
         ≡ option_map read_three (fields_of Kind.Pattern (words_of (take p.len text.now)))) }
 {
-    let Two { row, column } = two_numbers(text)?;
+    let Two { row, column, .. } = two_numbers(text)?;
     let end = line_end(behind(row.len, text), column.len)?;
     Some(Plain {
         fields: Fields {
@@ -111,8 +157,7 @@ pub(crate) fn plain_two(text: &[u8]) -> Option<Plain>
     })
 }
 
-/// The numbers of the two runs of digits that a text begins with, each of as few digits as an index has, with one space between
-/// them and another byte behind.
+/// The numbers of the two runs of few digits that a text begins with, with one space between them and another byte behind.
 #[inline(always)]
 fn two_numbers(text: &[u8]) -> Option<Two>
     ensures within { IfSome result (λ two. 24 ≤ length text.now) }
@@ -120,46 +165,41 @@ fn two_numbers(text: &[u8]) -> Option<Two>
     ensures row { IfSome result (λ two. DigitsTo 32 text.now two.row.len two.row.size) }
     ensures some { IfSome result (λ two. 0 < two.column.len) }
     ensures column { IfSome result (λ two. IsRead (drop (two.row.len + 1) text.now) two.column) }
+    ensures others { IfSome result (λ two. two.others
+        ≡ mask_l (map is_no_digit (take (14 - (two.row.len + two.column.len)) (drop (two.column.len + 1) (drop (two.row.len + 1) text.now))))) }
 {
     if text.len() < WINDOW {
         return None;
     }
     let others = no_digits(text);
-    let len = run_len(others)?;
-    if text[len] != b' ' {
-        return None;
-    }
-    let after = behind(len, text);
-    let width = run_len(others >> (len + 1))?;
-    Some(Two {
-        row: Digits {
-            size: number_of(text, len),
-            len,
-        },
-        column: Digits {
-            size: number_of(after, width),
-            len: width,
-        },
-    })
-}
-
-/// How many digits stand before the first byte that is none, where they are as few as an index has; `others` are the bits of
-/// such bytes.
-#[inline(always)]
-fn run_len(others: u64) -> Option<usize>
-    ensures some { IfSome result (λ len. 0 < others) }
-    ensures len { IfSome result (λ len. len ≡ count_trailing_zeros 64 others) }
-    ensures full { IfSome result (λ len. 0 < len) }
-    ensures few { IfSome result (λ len. len ≤ 5) }
-{
     if others == 0 {
         return None;
     }
     let len = others.trailing_zeros() as usize;
-    if len == 0 || len > INDEX_DIGITS {
+    if len == 0 || len > FEW_DIGITS || text[len] != b' ' {
         return None;
     }
-    Some(len)
+    let beyond = others >> (len + 1);
+    if beyond == 0 {
+        return None;
+    }
+    let width = beyond.trailing_zeros() as usize;
+    if width == 0 || width > FEW_DIGITS {
+        return None;
+    }
+    let row = Digits {
+        size: number_of(text, len),
+        len,
+    };
+    let column = Digits {
+        size: number_of(behind(len, text), width),
+        len: width,
+    };
+    Some(Two {
+        row,
+        column,
+        others: beyond >> (width + 1),
+    })
 }
 
 #[inline(always)]
@@ -169,8 +209,16 @@ fn natural(size: u64) -> Integer
     Integer { minus: false, size }
 }
 
-/// The word that a text begins with, where it is few digits behind a minus or no sign, and the line ends with it.
+/// The value at the end of such a line, where it is digits behind a minus or no sign.
 #[inline(always)]
+pub(crate) fn long_value(front: Front<'_>) -> Option<Last>
+    ensures { IfSome result (λ last. LastAt front.entry.rest.now last.len last.next last.value) }
+{
+    last_word(front.rest)
+}
+
+/// The word that a text begins with, where it is digits behind a minus or no sign, and the line ends with it.
+#[inline(never)]
 #[tactic(auto, using(crate::proofs::PlainLines::digits_last))]
 fn last_word(text: &[u8]) -> Option<Last>
     ensures { IfSome result (λ last. LastAt text.now last.len last.next last.value) }

@@ -3,7 +3,7 @@ use Rattle.std.specs.List.{All}
 use Rattle.mtx_text.specs.Lines.{lines_of, lines_from}
 use Rattle.mtx_text.specs.Drafts.{draft_of}
 use Rattle.mtx_text.specs.Chains.{IsWithin}
-use Rattle.mtx_text.proofs.draft.read_plain.Given as goal
+use Rattle.mtx_text.proofs.draft.plain_lines.Given as goal
 
 abbrev pub invariant-loop-left : goal.invariant-loop-left
 invariant-loop-left l = record {

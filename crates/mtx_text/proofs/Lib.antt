@@ -20,6 +20,7 @@ pub mod OfCells
 pub mod PlaceOrder
 pub mod PlainLines
 pub mod Raised
+pub mod RowByRow
 pub mod Shuffles
 pub mod Steps
 pub mod Walk

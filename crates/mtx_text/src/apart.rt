@@ -1,7 +1,8 @@
 //! Whether no place comes twice among entries, in time that grows with their number.
 //!
-//! The entries of each row are chained, from the last to the first. A walk along a row's chain marks each
-//! column that it meets with the row's own stamp: a column that bears the stamp already came twice.
+//! A walk over the entries of a row marks each column that it meets with the row's own stamp: a column that bears the stamp already
+//! came twice. Where the entries stand row by row, one walk goes over them all as they stand; else the entries of each row
+//! are chained first, from the last to the first.
 ghost use Rattle.std.specs.Prelude.{◌≡◌, ℕ, ◌+◌, ◌<◌, ◌≤◌, ◌^◌, true, length, get_or, vec_len, Ok, IfOk};
 ghost use Rattle.std.specs.List.{All, AllPairs};
 ghost use Rattle.mtx_text.specs.Sparse.{SamePlace};
@@ -17,6 +18,9 @@ pub(crate) fn are_apart(alloc: Global, side: u32, entries: &[Triple]) -> Result<
     requires few { length entries.now < 2 ^ 31 }
     ensures { result ≡ Ok true → AllPairs (λ s t. ¬ SamePlace s t) entries.now }
 {
+    if row_by_row(side, entries, zeros(alloc, side as usize)?) {
+        return Ok(true);
+    }
     let mut heads = zeros(alloc, side as usize)?;
     let mut nexts = zeros(alloc, entries.len())?;
     link(side, entries, &mut heads, &mut nexts);
@@ -28,6 +32,27 @@ pub(crate) fn are_apart(alloc: Global, side: u32, entries: &[Triple]) -> Result<
         }
     }
     Ok(true)
+}
+
+/// Whether the rows of entries never fall, and no place comes twice.
+fn row_by_row(side: u32, entries: &[Triple], marks: Vec<u32>) -> bool
+    requires within { All (λ t. IsWithin side t) entries.now }
+    requires marks { vec_len marks ≡ side }
+    requires zero { (k : ℕ) → get_or marks.items k 0 ≡ 0 }
+    ensures { result ≡ true → AllPairs (λ s t. ¬ SamePlace s t) entries.now }
+{
+    let mut marks = marks;
+    let mut row = 0;
+    for t in entries {
+        let mark = t.i + 1;
+        let column = t.j as usize;
+        if t.i < row || marks[column] == mark {
+            return false;
+        }
+        marks[column] = mark;
+        row = t.i;
+    }
+    true
 }
 
 /// A list of zeros.

@@ -1,15 +1,17 @@
 -- Reading integers up to 10^18 only changes no answer: every limit of the grammar lies below.
-use Rattle.std.proofs.Common.{◌≡◌, ℕ, ◌≤◌, ◌<◌, ◌==◌, ◌&&◌, ◌||◌, not, List, refl, sym, ◌∙◌, inl, inr, min, nat_lt, nat_le, arith}
+use Rattle.std.proofs.Common.{◌≡◌, ℕ, ◌≤◌, ◌<◌, ◌==◌, ◌&&◌, ◌||◌, not, List, take, refl, sym, ap, ◌∙◌, inl, inr, min, nat_lt, nat_le, arith}
 use Rattle.std.proofs.lemmas.Bool.{cases_Bool, and_parts, or_parts, leb-true, ltb-false, cases_lt, lt-ltb, le-ltb, lt-leb, le-leb, eq-eqb, ne_eqb, cases_eq}
 use Rattle.std.specs.Option.{option_map}
 use Rattle.std.specs.Prelude.{Option, Some, None, Result, Ok, ok_or}
 use Rattle.bale_types.specs.declared.triple.Triple.{Triple}
 use Rattle.mtx_text.specs.declared.banner.Form.{Form}
 use Rattle.mtx_text.specs.declared.integer.Integer.{Integer}
+use Rattle.mtx_text.specs.declared.kind.Kind.{Kind}
 use Rattle.mtx_text.specs.declared.refusal.Reason.{Reason}
 use Rattle.mtx_text.specs.declared.refusal.Reason.TheVariants as reason
 use Rattle.mtx_text.specs.declared.sizes.Sizes.{Sizes}
 use Rattle.mtx_text.specs.Integers.{integer_of, is_natural}
+use Rattle.mtx_text.specs.Lines.{words_of}
 use Rattle.mtx_text.specs.Capped.{capped, read_three, cell_from}
 use Rattle.mtx_text.specs.Grammar.{◌>>=◌, three_of, fields_of, natural_of, within_limits, sizes_by, is_index, place_of, value_within, cell_by}
 
@@ -144,3 +146,12 @@ pub cell_capped : (form : Form) (sizes : Sizes) (words : List (List ℕ)) → si
     → cell_from form sizes (option_map read_three (fields_of form.kind words)) ≡ cell_by integer_of form sizes words
 unfolding cell_by
 cell_capped form sizes words tall wide = from_cell form sizes (fields_of form.kind words) tall wide
+
+-- the same of a text's first bytes, read as a line of its kind
+pub cell_read : (form : Form) (sizes : Sizes) (kind : Kind) (text : List ℕ) (len n : ℕ) (cell : Result Triple Reason) (read : Option (Option Integer × Option Integer × Option Integer))
+    → cell ≡ cell_from form sizes read → read ≡ option_map read_three (fields_of kind (words_of (take n text))) → len ≡ n → form.kind ≡ kind
+    → sizes.rows ≤ 16_384 → sizes.cols ≤ 16_384 → cell ≡ cell_by integer_of form sizes (words_of (take len text))
+cell_read form sizes kind text len n cell read is three same own tall wide =
+    is ∙ ap (cell_from form sizes) (three ∙ ap (λ i. option_map read_three (fields_of kind (words_of (take i text)))) (sym same))
+    ∙ ap (λ k. cell_from form sizes (option_map read_three (fields_of k (words_of (take len text))))) (sym own)
+    ∙ cell_capped form sizes (words_of (take len text)) tall wide

@@ -9,7 +9,7 @@ use Rattle.std.specs.Int.{IsInRange}
 use Rattle.std.specs.Char.{is_ascii_digit, digit_value}
 use Rattle.std.specs.Str.Parse.{digits_value}
 
-digit_is : (b : ℕ) → is_ascii_digit b ≡ true → digit_value b + 48 ≡ b
+pub digit_is : (b : ℕ) → is_ascii_digit b ≡ true → digit_value b + 48 ≡ b
 digit_is b h =
     let parts = and_parts (Rattle.std.specs.Prelude.nat_le 48 b) (Rattle.std.specs.Prelude.nat_le b 57) h in
     digit_value_digit b (leb-true 48 b parts.0, leb-true b 57 parts.1)

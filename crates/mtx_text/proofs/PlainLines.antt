@@ -2,6 +2,7 @@
 use Rattle.std.proofs.Common.{◌≡◌, ◌≢◌, ℕ, zero, suc, ◌+◌, ◌-◌, ◌*◌, ◌%◌, ◌^◌, ◌<◌, ◌≤◌, nat_lt, true, false, List, [], ◌∷◌, length, get_or, take, drop, map, refl, sym, ◌∙◌, ap, subst, add-one, ne_eqb, length-take-le, arith}
 use native.Mathlib.Numerals.{unary_clauses}
 use Rattle.std.proofs.Math.Nat.{pow-le-pow_right}
+use Rattle.std.proofs.lemmas.List.{length-drop}
 use Rattle.std.proofs.lemmas.Bool.{and_parts, leb-true, le-leb, lt-ltb}
 use Rattle.std.specs.List.{list_all, slice_split, onto_first}
 use Rattle.std.specs.Option.{option_map}
@@ -185,6 +186,37 @@ digits_last text len next size d =
       word = one_word (take len text) full d.digits;
       value = number_is text len size d.full within d.digits d.value;
     }
+
+-- a second run of few digits, with a space behind it
+pub column_to : (text rest : List ℕ) (a len size : ℕ) → 24 ≤ length text → a ≤ 5 → rest ≡ drop (a + 1) text → 0 < len → len ≤ 5
+    → NumberTo (drop (a + 1) text) len size → get_or rest len 0 ≡ 32 → DigitsTo 32 rest len size
+column_to text rest a len size long near is full few n ends =
+    let own : NumberTo rest len size = subst (λ (l : List ℕ). NumberTo l len size) (sym is) n in
+    record {
+      full = full;
+      within = omega (arith, long, near, few, ap (λ (l : List ℕ). length l) is, length-drop (a + 1) text);
+      digits = own.digits;
+      value = own.value (omega (arith, few));
+      ends = ends;
+    }
+
+-- few digits, with the line's end behind them
+pub read_last : (text : List ℕ) (len end size : ℕ) → 0 < len → len ≤ 5 → len < length text → NumberTo text len size → LineAt (drop len text) 0 end
+    → LastAt text len (len + end) (record { minus = false; size = size })
+read_last text len end size full few within n at =
+    digits_last text len (len + end) size (record {
+      full = full;
+      within = within;
+      digits = n.digits;
+      value = n.value (omega (arith, few));
+      line = digits_line text len end (omega (arith, within)) n.digits at;
+    })
+
+pub column_last : (text rest : List ℕ) (a len end size : ℕ) → 24 ≤ length text → a ≤ 5 → rest ≡ drop (a + 1) text → 0 < len → len ≤ 5
+    → NumberTo (drop (a + 1) text) len size → LineAt (drop len rest) 0 end → LastAt rest len (len + end) (record { minus = false; size = size })
+column_last text rest a len end size long near is full few n at =
+    let within : len < length rest = omega (arith, long, near, few, ap (λ (l : List ℕ). length l) is, length-drop (a + 1) text) in
+    read_last rest len end size full few within (subst (λ (l : List ℕ). NumberTo l len size) (sym is) n) at
 
 minus_at : (text : List ℕ) (len next size : ℕ) → get_or text 0 0 ≡ 45 → DigitsEnd (drop 1 text) len next size
     → LastAt text (suc len) (suc next) (record { minus = true; size = size })

@@ -7,6 +7,7 @@ pub mod Answers
 pub mod Capped
 pub mod Cells
 pub mod Chains
+pub mod DigitLanes
 pub mod Distributed
 pub mod Drafts
 pub mod Maps

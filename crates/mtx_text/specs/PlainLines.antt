@@ -1,11 +1,14 @@
 -- The line that a text begins with, and its words, by how many bytes they have.
-use Rattle.std.specs.Prelude.{ℕ, ◌≡◌, ◌^◌, ◌≤◌, ◌<◌, true, List, [], ◌∷◌, length, take, drop, get_or, min, Some}
+use Rattle.std.specs.Prelude.{ℕ, ◌≡◌, ◌+◌, ◌-◌, ◌^◌, ◌≤◌, ◌<◌, true, List, [], ◌∷◌, length, map, take, drop, get_or, min, Some}
 use Rattle.std.specs.List.{list_all}
 use Rattle.std.specs.Option.{option_map}
 use Rattle.std.specs.Char.{is_ascii_digit}
 use Rattle.std.specs.Str.Parse.{digits_value}
 use Rattle.mtx_text.specs.declared.integer.Integer.{Integer}
+use Rattle.std.specs.Simd.Lanes.{mask_l}
 use Rattle.mtx_text.specs.declared.plain.Digits.{Digits}
+use Rattle.mtx_text.specs.declared.plain.Two.{Two}
+use Rattle.mtx_text.specs.DigitLanes.{is_no_digit}
 use Rattle.mtx_text.specs.Lines.{lines_of, words_of}
 use Rattle.mtx_text.specs.Integers.{integer_of}
 use Rattle.mtx_text.specs.Capped.{capped}
@@ -52,3 +55,14 @@ pub record NumberTo (text : List ℕ) (len size : ℕ) : Type 0 where
 -- The same of digits that were read, with more bytes behind them.
 abbrev pub IsRead : List ℕ → Digits → Type 0
 IsRead text d = NumberTo text d.len d.size
+
+-- A text begins with two runs of few digits, each with a space behind it, and `rest` is what follows; `others` are the bits of its
+-- first bytes that are no digits, as far as sixteen bytes of the text go.
+--   of "1 22 7/" the rest is "7/", whose second byte is no digit
+pub record FrontAt (text : List ℕ) (two : Two) (rest : List ℕ) : Type 0 where
+  pub few : two.row.len + two.column.len ≤ 10
+  pub row : DigitsTo 32 text two.row.len two.row.size
+  pub column : DigitsTo 32 (drop (two.row.len + 1) text) two.column.len two.column.size
+  pub behind : rest ≡ drop (two.column.len + 1) (drop (two.row.len + 1) text)
+  pub room : 22 ≤ length rest + (two.row.len + two.column.len)
+  pub others : two.others ≡ mask_l (map is_no_digit (take (14 - (two.row.len + two.column.len)) rest))

@@ -1,8 +1,9 @@
 //! Whether no place comes twice among entries, in time that grows with their number.
 //!
-//! The entries of each row are chained. A walk along a row's chain marks each column that it meets with the row's
-//! own stamp: a column that bears the stamp already came twice.
-ghost use Rattle.std.specs.Prelude.{◌≡◌, ℕ, ◌<◌, ◌^◌, true, length, vec_len, Ok};
+//! A walk over the entries of a row marks each column that it meets with the row's own stamp: a column that bears the stamp already
+//! came twice. Where the entries stand row by row, one walk goes over them all as they stand; else the entries of each row
+//! are chained first.
+ghost use Rattle.std.specs.Prelude.{◌≡◌, ℕ, ◌+◌, ◌<◌, ◌≤◌, ◌^◌, true, length, get_or, vec_len, Ok, IfOk};
 ghost use Rattle.std.specs.List.{All, AllPairs};
 ghost use Rattle.mtx_text.specs.Sparse.{SamePlace};
 ghost use Rattle.mtx_text.specs.Chains.{IsWithin, LeadsTo, NextsLead, IsRowApart, row_of};
@@ -18,11 +19,14 @@ pub(crate) fn are_apart(alloc: Global, side: u32, entries: &[Triple]) -> Result<
     requires few { length entries.now < 2 ^ 31 }
     ensures { result ≡ Ok true → AllPairs (λ s t. ¬ SamePlace s t) entries.now }
 {
+    if row_by_row(side, entries, zeros(alloc, side as usize)?) {
+        return Ok(true);
+    }
     let none = entries.len() as u32;
     let mut heads = vec![in alloc; none; side as usize]?;
     let mut nexts = vec![in alloc; none; entries.len()]?;
     link(Axis::Row, side, entries, &mut heads, &mut nexts);
-    let mut stamps = vec![in alloc; 0u32; side as usize]?;
+    let mut stamps = zeros(alloc, side as usize)?;
     for row in 0..side {
         let head = heads[row as usize];
         if !is_row_apart(side, entries, &nexts, row, head, &mut stamps) {
@@ -30,6 +34,35 @@ pub(crate) fn are_apart(alloc: Global, side: u32, entries: &[Triple]) -> Result<
         }
     }
     Ok(true)
+}
+
+/// Whether the rows of entries never fall, and no place comes twice.
+fn row_by_row(side: u32, entries: &[Triple], marks: Vec<u32>) -> bool
+    requires within { All (λ t. IsWithin side t) entries.now }
+    requires marks { vec_len marks ≡ side }
+    requires zero { (k : ℕ) → get_or marks.items k 0 ≡ 0 }
+    ensures { result ≡ true → AllPairs (λ s t. ¬ SamePlace s t) entries.now }
+{
+    let mut marks = marks;
+    let mut row = 0;
+    for t in entries {
+        let mark = t.i + 1;
+        let column = t.j as usize;
+        if t.i < row || marks[column] == mark {
+            return false;
+        }
+        marks[column] = mark;
+        row = t.i;
+    }
+    true
+}
+
+/// A list of zeros.
+fn zeros(alloc: Global, len: usize) -> Result<Vec<u32>, AllocError>
+    ensures len { IfOk result (λ v. vec_len v ≡ len) }
+    ensures zero { IfOk result (λ v. (k : ℕ) → get_or v.items k 0 ≡ 0) }
+{
+    vec![in alloc; 0u32; len]
 }
 
 /// Whether no column comes twice along a row's chain.

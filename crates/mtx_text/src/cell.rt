@@ -1,5 +1,5 @@
 //! An entry line by itself.
-ghost use Rattle.std.specs.Prelude.{◌≡◌, ◌<◌, ◌≤◌, ◌∷◌, ◌-◌, nat_abs, take, false, IfOk, IfSome};
+ghost use Rattle.std.specs.Prelude.{◌≡◌, ◌<◌, ◌≤◌, ◌∷◌, ◌-◌, nat_abs, take, false, Some, IfOk, IfSome};
 ghost use Rattle.std.specs.Option.{option_map, option_to_list};
 ghost use Rattle.mtx_text.specs.Lines.{words_of, is_skipped};
 ghost use Rattle.mtx_text.specs.Integers.{integer_of, value_of};
@@ -9,8 +9,9 @@ ghost use Rattle.mtx_text.specs.Grammar.{cell_by, place_of, value_within, is_ind
 
 use crate::banner::{Form, Symmetry};
 use crate::integer::Integer;
+use crate::kind::Kind;
 use crate::numbers::{Fields, read_fields};
-use crate::plain::plain_line;
+use crate::plain::{Plain, front_of_three, long_value, plain_three, plain_two, short_value};
 use crate::refusal::Reason;
 use crate::sizes::Sizes;
 use bale_types::Triple;
@@ -52,12 +53,35 @@ pub(crate) fn plain_cell(form: Form, sizes: Sizes, text: &[u8]) -> Option<PlainC
     ensures col { IfSome result (λ p. IfOk p.cell (λ t. t.j < sizes.cols)) }
     ensures limit { IfSome result (λ p. IfOk p.cell (λ t. nat_abs t.v ≤ 1_000_000_000_000)) }
 {
-    let plain = plain_line(form.kind, text)?;
-    Some(PlainCell {
+    match form.kind {
+        Kind::Integer => {
+            let front = front_of_three(text)?;
+            match short_value(front) {
+                Some(last) => Some(cell_on(form, sizes, plain_three(text, front, last))),
+                None => {
+                    let last = long_value(front)?;
+                    Some(cell_on(form, sizes, plain_three(text, front, last)))
+                }
+            }
+        }
+        Kind::Pattern => Some(cell_on(form, sizes, plain_two(text)?)),
+    }
+}
+
+/// What a plain line names.
+#[inline(always)]
+fn cell_on(form: Form, sizes: Sizes, plain: Plain) -> PlainCell
+    ensures value { result.cell ≡ cell_from form sizes (Some (plain.fields.row, plain.fields.column, plain.fields.value)) }
+    ensures row { IfOk result.cell (λ t. t.i < sizes.rows) }
+    ensures col { IfOk result.cell (λ t. t.j < sizes.cols) }
+    ensures limit { IfOk result.cell (λ t. nat_abs t.v ≤ 1_000_000_000_000) }
+    ensures line { (result.len ≡ plain.len) × (result.next ≡ plain.next) }
+{
+    PlainCell {
         cell: cell_of(form, sizes, Some(plain.fields)),
         len: plain.len,
         next: plain.next,
-    })
+    }
 }
 
 /// The entry that the fields of a line stand for.
@@ -93,7 +117,7 @@ fn place(form: Form, sizes: Sizes, i: Integer, j: Integer) -> Result<(u32, u32),
     if !is_index(sizes.cols, j) {
         return Err(Reason::OutOfRange);
     }
-    if is_skew(form.symmetry) && i.size == j.size {
+    if i.size == j.size && is_skew(form.symmetry) {
         return Err(Reason::Diagonal);
     }
     Ok(((i.size - 1) as u32, (j.size - 1) as u32))

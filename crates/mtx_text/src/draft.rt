@@ -101,12 +101,11 @@ struct Run<'a> {
 }
 
 /// How many plain lines pay for the look at one that isn't.
-const PAUSE: u64 = 16;
+const PAUSE: u32 = 16;
 
 /// Reads on as long as lines are plain and their entries in range. Where lines that aren't plain come often, most of them are not
 /// even looked at.
 #[inline(never)]
-#[tactic(auto, using(crate::proofs::Steps::draft_ok))]
 fn read_plain<'a>(
     form: Form,
     sizes: Sizes,
@@ -132,8 +131,37 @@ fn read_plain<'a>(
             careful: run.careful - 1,
         });
     }
+    match form.symmetry {
+        Symmetry::General => {
+            let kind = form.kind;
+            let symmetry = Symmetry::General;
+            plain_lines(Form { kind, symmetry }, sizes, entries, run)
+        }
+        _ => plain_lines(form, sizes, entries, run),
+    }
+}
+
+/// The same where a look is due. A matrix with no mirrors has a copy of this loop that asks for none.
+#[inline(always)]
+#[tactic(auto, using(crate::proofs::Steps::draft_ok))]
+fn plain_lines<'a>(
+    form: Form,
+    sizes: Sizes,
+    entries: &mut Vec<Triple>,
+    run: Run<'a>,
+) -> Result<Run<'a>, AllocError>
+    requires tall { sizes.rows ≤ 16_384 }
+    requires wide { sizes.cols ≤ 16_384 }
+    requires room { run.number + length run.rest.now < 2 ^ 63 }
+    ensures draft { (end : ℕ) → IfOk result (λ r. draft_of form sizes end r.left entries.new.items (lines_from r.number (lines_of r.rest.now))
+        ≡ draft_of form sizes end run.entry.left entries.old.items (lines_from run.entry.number (lines_of run.entry.rest.now))) }
+    ensures lines { IfOk result (λ r. r.number + length (lines_of r.rest.now) ≡ run.entry.number + length (lines_of run.entry.rest.now)) }
+    ensures room { IfOk result (λ r. r.number + length r.rest.now ≤ run.entry.number + length run.entry.rest.now) }
+    ensures on { IfOk result (λ r. length r.rest.now ≤ length run.entry.rest.now) }
+    ensures within { OnOk result (All (λ t. IsWithin (max sizes.rows sizes.cols) t) entries.old.items → All (λ t. IsWithin (max sizes.rows sizes.cols) t) entries.new.items) }
+    ensures few { IfOk result (λ r. length entries.new.items + 2 * r.left ≤ length entries.old.items + 2 * run.entry.left) }
+{
     let mut rest = run.rest;
-    let mut number = run.number;
     let mut left = run.left;
     while left > 0 {
         let Some(plain) = plain_cell(form, sizes, rest) else {
@@ -142,18 +170,18 @@ fn read_plain<'a>(
         let Ok(t) = plain.cell else {
             break;
         };
+        let number = run.number + (run.left - left) as u64;
         let kept = first_kept(rest, number, plain.len, plain.next);
         push(entries, sizes, form.symmetry, t)?;
         rest = kept.rest;
-        number = kept.number + 1;
         left -= 1;
     }
-    let careful = if number - run.number < PAUSE { 15 } else { 0 };
+    let lines = run.left - left;
     Ok(Run {
         rest,
-        number,
+        number: run.number + lines as u64,
         left,
-        careful,
+        careful: if lines < PAUSE { 15 } else { 0 },
     })
 }
 

@@ -27,6 +27,7 @@ mod banner;
 mod careful;
 mod cell;
 mod cells;
+mod digit_lanes;
 mod distribution;
 mod draft;
 mod entries;

@@ -1,28 +1,53 @@
 //! Plain entry lines, read in one pass: numbers of few digits, one space between two of them, and LF, or CR and LF,
 //! at once behind the last. Most texts have no other lines; whatever isn't of this form is read the general way.
-ghost use Rattle.std.specs.Prelude.{◌≡◌, ◌<◌, ◌≤◌, true, false, Some, ◌+◌, length, take, drop, min, IfSome, IfOk, IfErr};
+ghost use Rattle.std.specs.Prelude.{◌≡◌, ◌<◌, ◌≤◌, true, false, Some, ◌+◌, ◌-◌, length, map, take, drop, min, IfSome, IfOk, IfErr};
 ghost use Rattle.std.specs.List.{list_all};
 ghost use Rattle.std.specs.Option.{option_map};
 ghost use Rattle.std.specs.Char.{is_ascii_digit};
+ghost use Rattle.std.specs.Simd.Lanes.{mask_l};
 ghost use Rattle.std.specs.Str.Parse.{digits_value};
+ghost use Rattle.mtx_text.specs.declared.kind.Kind.TheVariants as Kind;
 ghost use Rattle.mtx_text.specs.Lines.{words_of, is_skipped};
 ghost use Rattle.mtx_text.specs.Grammar.{fields_of};
 ghost use Rattle.mtx_text.specs.Capped.{read_three};
-ghost use Rattle.mtx_text.specs.PlainLines.{LineAt, DigitsTo, DigitsEnd, LastAt, IsRead};
+ghost use Rattle.mtx_text.specs.DigitLanes.{is_no_digit};
+ghost use Rattle.mtx_text.specs.PlainLines.{LineAt, DigitsTo, DigitsEnd, LastAt, IsRead, FrontAt};
 
+use crate::digit_lanes::{no_digits, number_of};
 use crate::integer::Integer;
-use crate::kind::Kind;
 use crate::lines::behind;
 use crate::numbers::Fields;
 
 /// Digits of a plain number at most, so that none wraps.
 const MOST_DIGITS: usize = 18;
 
+/// Digits of a number at most that is read at once: as many as an index has.
+const FEW_DIGITS: usize = 5;
+
+/// Bytes that a plain line has with what stands behind it, at least: so many that no look at one of its first two numbers asks
+/// whether it is still within the text.
+const WINDOW: usize = 24;
+
 /// The digits that a text begins with: their number, and how many they are.
 #[derive(Clone, Copy)]
 struct Digits {
     size: u64,
     len: usize,
+}
+
+/// Two runs of digits, with a space between them, and the bits of the bytes that are no digits, from one byte behind the second run on.
+#[derive(Clone, Copy)]
+struct Two {
+    row: Digits,
+    column: Digits,
+    others: u64,
+}
+
+/// The first two words of a line, and what stands behind them and their spaces.
+#[derive(Clone, Copy)]
+pub(crate) struct Front<'a> {
+    two: Two,
+    rest: &'a [u8],
 }
 
 /// The digits that a line ends with: their number, how many they are, and where the next line begins.
@@ -35,7 +60,7 @@ struct Ending {
 
 /// The last word of a line: its integer, how many bytes it has, and where the next line begins.
 #[derive(Clone, Copy)]
-struct Last {
+pub(crate) struct Last {
     value: Integer,
     len: usize,
     next: usize,
@@ -49,33 +74,58 @@ pub(crate) struct Plain {
     pub(crate) next: usize,
 }
 
-/// The fields of the line that a text begins with, where it is plain.
+/// The row and the column of a line of three words that a text begins with.
 #[inline(always)]
-pub(crate) fn plain_line(kind: Kind, text: &[u8]) -> Option<Plain>
-    ensures line { IfSome result (λ p. LineAt text.now p.len p.next) }
-    ensures counts { IfSome result (λ p. is_skipped (words_of (take p.len text.now)) ≡ false) }
-    ensures fields { IfSome result (λ p. Some (p.fields.row, p.fields.column, p.fields.value)
-        ≡ option_map read_three (fields_of kind (words_of (take p.len text.now)))) }
+pub(crate) fn front_of_three(text: &[u8]) -> Option<Front<'_>>
+    ensures { IfSome result (λ front. FrontAt text.now front.two front.rest.now) }
 {
-    match kind {
-        Kind::Integer => plain_three(text),
-        Kind::Pattern => plain_two(text),
+    let two = two_numbers(text)?;
+    let after_row = behind(two.row.len, text);
+    if after_row[two.column.len] != b' ' {
+        return None;
     }
+    Some(Front {
+        two,
+        rest: behind(two.column.len, after_row),
+    })
 }
 
-/// A plain line of row, column and value.
+/// The value at the end of such a line, where it is one of few digits.
 #[inline(always)]
-fn plain_three(text: &[u8]) -> Option<Plain>
-    ensures line { IfSome result (λ p. LineAt text.now p.len p.next) }
-    ensures counts { IfSome result (λ p. is_skipped (words_of (take p.len text.now)) ≡ false) }
-    ensures fields { IfSome result (λ p. Some (p.fields.row, p.fields.column, p.fields.value)
-        ≡ option_map read_three (fields_of Kind.Integer (words_of (take p.len text.now)))) }
+pub(crate) fn short_value(front: Front<'_>) -> Option<Last>
+    requires few { front.two.row.len + front.two.column.len ≤ 10 }
+    requires room { 22 ≤ length front.rest.now + (front.two.row.len + front.two.column.len) }
+    requires others { front.two.others ≡ mask_l (map is_no_digit (take (14 - (front.two.row.len + front.two.column.len)) front.rest.now)) }
+    ensures { IfSome result (λ last. LastAt front.entry.rest.now last.len last.next last.value) }
 {
-    let row = few_to(b' ', text)?;
-    let after_row = behind(row.len, text);
-    let column = few_to(b' ', after_row)?;
-    let last = last_word(behind(column.len, after_row))?;
-    Some(Plain {
+    let others = front.two.others;
+    if others == 0 {
+        return None;
+    }
+    let len = others.trailing_zeros() as usize;
+    if len == 0 || len > FEW_DIGITS {
+        return None;
+    }
+    let end = line_end(front.rest, len)?;
+    Some(Last {
+        value: natural(number_of(front.rest, len)),
+        len,
+        next: len + end,
+    })
+}
+
+/// The plain line of these three words.
+#[inline(always)]
+pub(crate) fn plain_three(text: &[u8], front: Front<'_>, last: Last) -> Plain
+    requires front { FrontAt text.now front.two front.rest.now }
+    requires last { LastAt front.rest.now last.len last.next last.value }
+    ensures line { LineAt text.now result.len result.next }
+    ensures counts { is_skipped (words_of (take result.len text.now)) ≡ false }
+    ensures fields { Some (result.fields.row, result.fields.column, result.fields.value)
+        ≡ option_map read_three (fields_of Kind.Integer (words_of (take result.len text.now))) }
+{
+    let Two { row, column, .. } = front.two;
+    Plain {
         fields: Fields {
             row: Some(natural(row.size)),
             column: Some(natural(column.size)),
@@ -83,27 +133,72 @@ fn plain_three(text: &[u8]) -> Option<Plain>
         },
         len: row.len + 1 + (column.len + 1 + last.len),
         next: row.len + 1 + (column.len + 1 + last.next),
-    })
+    }
 }
 
-/// A plain line of row and column, whose value is 1.
+/// The plain line of row and column, whose value is 1, that a text begins with.
 #[inline(always)]
-fn plain_two(text: &[u8]) -> Option<Plain>
+pub(crate) fn plain_two(text: &[u8]) -> Option<Plain>
     ensures line { IfSome result (λ p. LineAt text.now p.len p.next) }
     ensures counts { IfSome result (λ p. is_skipped (words_of (take p.len text.now)) ≡ false) }
     ensures fields { IfSome result (λ p. Some (p.fields.row, p.fields.column, p.fields.value)
         ≡ option_map read_three (fields_of Kind.Pattern (words_of (take p.len text.now)))) }
 {
-    let row = few_to(b' ', text)?;
-    let last = last_word(behind(row.len, text))?;
+    let Two { row, column, .. } = two_numbers(text)?;
+    let end = line_end(behind(row.len, text), column.len)?;
     Some(Plain {
         fields: Fields {
             row: Some(natural(row.size)),
-            column: Some(last.value),
+            column: Some(natural(column.size)),
             value: Some(natural(1)),
         },
-        len: row.len + 1 + last.len,
-        next: row.len + 1 + last.next,
+        len: row.len + 1 + column.len,
+        next: row.len + 1 + (column.len + end),
+    })
+}
+
+/// The numbers of the two runs of few digits that a text begins with, with one space between them and another byte behind.
+#[inline(always)]
+fn two_numbers(text: &[u8]) -> Option<Two>
+    ensures within { IfSome result (λ two. 24 ≤ length text.now) }
+    ensures few { IfSome result (λ two. (two.row.len ≤ 5) × (two.column.len ≤ 5)) }
+    ensures row { IfSome result (λ two. DigitsTo 32 text.now two.row.len two.row.size) }
+    ensures some { IfSome result (λ two. 0 < two.column.len) }
+    ensures column { IfSome result (λ two. IsRead (drop (two.row.len + 1) text.now) two.column) }
+    ensures others { IfSome result (λ two. two.others
+        ≡ mask_l (map is_no_digit (take (14 - (two.row.len + two.column.len)) (drop (two.column.len + 1) (drop (two.row.len + 1) text.now))))) }
+{
+    if text.len() < WINDOW {
+        return None;
+    }
+    let others = no_digits(text);
+    if others == 0 {
+        return None;
+    }
+    let len = others.trailing_zeros() as usize;
+    if len == 0 || len > FEW_DIGITS || text[len] != b' ' {
+        return None;
+    }
+    let beyond = others >> (len + 1);
+    if beyond == 0 {
+        return None;
+    }
+    let width = beyond.trailing_zeros() as usize;
+    if width == 0 || width > FEW_DIGITS {
+        return None;
+    }
+    let row = Digits {
+        size: number_of(text, len),
+        len,
+    };
+    let column = Digits {
+        size: number_of(behind(len, text), width),
+        len: width,
+    };
+    Some(Two {
+        row,
+        column,
+        others: beyond >> (width + 1),
     })
 }
 
@@ -114,8 +209,16 @@ fn natural(size: u64) -> Integer
     Integer { minus: false, size }
 }
 
-/// The word that a text begins with, where it is few digits behind a minus or no sign, and the line ends with it.
+/// The value at the end of such a line, where it is digits behind a minus or no sign.
 #[inline(always)]
+pub(crate) fn long_value(front: Front<'_>) -> Option<Last>
+    ensures { IfSome result (λ last. LastAt front.entry.rest.now last.len last.next last.value) }
+{
+    last_word(front.rest)
+}
+
+/// The word that a text begins with, where it is digits behind a minus or no sign, and the line ends with it.
+#[inline(never)]
 #[tactic(auto, using(crate::proofs::PlainLines::digits_last))]
 fn last_word(text: &[u8]) -> Option<Last>
     ensures { IfSome result (λ last. LastAt text.now last.len last.next last.value) }
@@ -170,20 +273,6 @@ fn line_end(text: &[u8], len: usize) -> Option<usize>
         return Some(2);
     }
     None
-}
-
-/// The digits that a text begins with, where they are as few as an index has and the byte `end` follows.
-#[inline(always)]
-fn few_to(end: u8, text: &[u8]) -> Option<Digits>
-    ensures { IfSome result (λ d. DigitsTo end text.now d.len d.size) }
-{
-    if text.len() <= UNROLLED {
-        return None;
-    }
-    match few_digits(text) {
-        Err(digits) if digits.len > 0 && text[digits.len] == end => Some(digits),
-        _ => None,
-    }
 }
 
 /// The digits that a text begins with, where another byte follows. The number of too many digits wraps: it

@@ -1,19 +1,28 @@
-use Rattle.std.proofs.Common.{◌+◌}
+use Rattle.std.proofs.Common.{◌+◌, drop, refl}
 use Rattle.mtx_text.proofs.PlainLines.{line_on, row_counts, three_fields}
 use Rattle.mtx_text.proofs.plain.plain_three.Goals as goal
 
 pub returns-clause-line : goal.returns-clause-line
 returns-clause-line c =
-    let column = c.in_ok-column.column in
-    let last = c.in_ok-last.last in
-    let from_column = line_on c.behind-after_row.result.now c.behind.result.now column.len last.len last.next column.size c.in_ok-last.ensures.line c.behind.ensures c.in_ok-column.ensures in
-    line_on c.args.text.now c.behind-after_row.result.now c.in_ok-row.row.len (column.len + 1 + last.len) (column.len + 1 + last.next) c.in_ok-row.row.size from_column c.behind-after_row.ensures c.in_ok-row.ensures
+    let text = c.args.text.now in
+    let front = c.requires.front in
+    let two = c.args.front.two in
+    let last = c.args.last in
+    let column = line_on (drop (two.row.len + 1) text) c.args.front.rest.now two.column.len last.len last.next two.column.size c.requires.last.line front.behind front.column in
+    line_on text (drop (two.row.len + 1) text) two.row.len (two.column.len + 1 + last.len) (two.column.len + 1 + last.next) two.row.size column refl front.row
 
 pub returns-clause-counts : goal.returns-clause-counts
-returns-clause-counts c = row_counts c.args.text.now c.behind-after_row.result.now c.in_ok-row.row.len (c.in_ok-column.column.len + 1 + c.in_ok-last.last.len) c.in_ok-row.row.size c.behind-after_row.ensures c.in_ok-row.ensures
+returns-clause-counts c =
+    let text = c.args.text.now in
+    let two = c.args.front.two in
+    row_counts text (drop (two.row.len + 1) text) two.row.len (two.column.len + 1 + c.args.last.len) two.row.size refl c.requires.front.row
 
 pub returns-clause-fields : goal.returns-clause-fields
 returns-clause-fields c =
+    let text = c.args.text.now in
+    let front = c.requires.front in
+    let two = c.args.front.two in
+    let last = c.args.last in
     rw (c.natural.ensures, c.natural-2.ensures)
-    (three_fields c.args.text.now c.behind-after_row.result.now c.behind.result.now c.in_ok-row.row.len c.in_ok-column.column.len c.in_ok-last.last.len c.in_ok-last.last.next c.in_ok-row.row.size c.in_ok-column.column.size c.in_ok-last.last.value
-    c.behind-after_row.ensures c.behind.ensures c.in_ok-row.ensures c.in_ok-column.ensures c.in_ok-last.ensures)
+    (three_fields text (drop (two.row.len + 1) text) c.args.front.rest.now two.row.len two.column.len last.len last.next two.row.size two.column.size last.value
+    refl front.behind front.row front.column c.requires.last)

@@ -1,18 +1,18 @@
-use Rattle.std.proofs.Common.{◌≡◌, ◌+◌, ◌*◌, ◌≤◌, ℕ, max, length}
+use Rattle.std.proofs.Common.{◌≡◌, ◌+◌, ◌-◌, ◌*◌, ◌≤◌, ℕ, max, length}
 use Rattle.std.specs.List.{All}
 use Rattle.mtx_text.specs.Lines.{lines_of, lines_from}
 use Rattle.mtx_text.specs.Drafts.{draft_of}
 use Rattle.mtx_text.specs.Chains.{IsWithin}
-use Rattle.mtx_text.proofs.draft.read_plain.Given as goal
+use Rattle.mtx_text.proofs.draft.plain_lines.Given as goal
 
 abbrev pub invariant-loop-left : goal.invariant-loop-left
 invariant-loop-left l = record {
-  draft : (end : ℕ) → draft_of l.form l.sizes end l.left l.entries.items (lines_from l.number (lines_of l.rest))
+  draft : (end : ℕ) → draft_of l.form l.sizes end l.left l.entries.items (lines_from (l.run.number + (l.run.left - l.left)) (lines_of l.rest))
       ≡ draft_of l.form l.sizes end l.run.left l.fn.entries.items (lines_from l.run.number (lines_of l.run.rest.now));
-  lines : l.number + length (lines_of l.rest) ≡ l.run.number + length (lines_of l.run.rest.now);
-  room : l.number + length l.rest ≤ l.run.number + length l.run.rest.now;
+  lines : l.run.number + (l.run.left - l.left) + length (lines_of l.rest) ≡ l.run.number + length (lines_of l.run.rest.now);
+  room : l.run.number + (l.run.left - l.left) + length l.rest ≤ l.run.number + length l.run.rest.now;
   on : length l.rest ≤ length l.run.rest.now;
-  since : l.run.number ≤ l.number;
+  less : l.left ≤ l.run.left;
   within : All (λ t. IsWithin (max l.sizes.rows l.sizes.cols) t) l.fn.entries.items → All (λ t. IsWithin (max l.sizes.rows l.sizes.cols) t) l.entries.items;
   few : length l.entries.items + 2 * l.left ≤ length l.fn.entries.items + 2 * l.run.left;
 }

@@ -1,0 +1,134 @@
+-- The bytes that are no digits, as a vector's comparison finds them, and the digits in front of the first of them.
+use Rattle.std.proofs.Common.{◌≡◌, ℕ, zero, suc, ◌+◌, ◌-◌, ◌*◌, ◌/◌, ◌%◌, ◌^◌, ◌<◌, ◌≤◌, Bool, true, false, not, ◌&&◌, cond, leb, T, List, [], ◌∷◌, map, length, get_or, take, drop, replicate, refl, sym, ap, ap₂, ◌∙◌, subst, ◌⊎◌, inl, inr, arith, w8, Fits, not-suc-le-zero, one-add}
+use Rattle.std.proofs.Math.Nat.{div-div-eq-div-mul, pow-succ', zero-div}
+use Rattle.std.proofs.lemmas.Bool.{cases_order}
+use Rattle.std.proofs.lemmas.List.{length-drop, length-map, length-take-le, drop-take, take-take, drop-map}
+use Rattle.std.proofs.lemmas.List.Sums.{prefix_len-le-length}
+use Rattle.std.proofs.lemmas.Simd.{zip2_splat, map-map, mask_l-mod, trailing_mask_l}
+use Rattle.std.specs.List.{list_all, prefix_len}
+use Rattle.std.specs.Char.{is_ascii_digit}
+use lib.Count.{count_trailing_zeros}
+use lib.Lanes.{zip2, mask_l, top, Each1}
+use Rattle.mtx_text.specs.DigitLanes.{is_no_digit}
+
+-- ---- the comparison of sixteen lanes
+
+-- a test that computes to true at each number below n holds at any of them
+abbrev below_all : (ℕ → Bool) → ℕ → Bool
+below_all p zero = true
+below_all p (suc n) = p n && below_all p n
+
+both : (a b : Bool) → T (a && b) → T a × T b
+both true b h = (tt, h)
+both false b h = absurd h
+
+each_below : (p : ℕ → Bool) (n : ℕ) → T (below_all p n) → (i : ℕ) → i < n → T (p i)
+each_below p zero h i lt = absurd (not-suc-le-zero lt)
+each_below p (suc n) h i lt = go (each_below p n (both (p n) (below_all p n) h).1 i) (cases_order i n)
+  where
+    go : (i < n → T (p i)) → (i ≡ n) ⊎ ((i < n) ⊎ (n < i)) → T (p i)
+    go below (inl e) = subst (λ x. T (p x)) (sym e) (both (p n) (below_all p n) h).0
+    go below (inr (inl l)) = below l
+    go below (inr (inr g)) = absurd (omega (arith, lt, g))
+
+abbrev same : Bool → Bool → Bool
+same true b = b
+same false b = not b
+
+same_is : (a b : Bool) → T (same a b) → a ≡ b
+same_is true true h = refl
+same_is false false h = refl
+same_is true false h = absurd h
+same_is false true h = absurd h
+
+abbrev at_most : ℕ → ℕ → ℕ
+at_most a b = cond (leb a b) 255 0
+
+abbrev lane : ℕ → ℕ
+lane x = at_most 10 ((x + 208) % 256)
+
+splat_left : (h : ℕ → ℕ → ℕ) (y : ℕ) (xs : List ℕ) → zip2 h (replicate (length xs) y) xs ≡ map (h y) xs
+splat_left h y [] = refl
+splat_left h y (x ∷ xs) = ap (λ r. h y x ∷ r) (splat_left h y xs)
+
+lanes_are : (v : List ℕ) → Each1 (Fits w8) v → map (top 7) (map lane v) ≡ map is_no_digit v
+lanes_are [] fits = refl
+lanes_are (x ∷ xs) fits =
+    ap₂ (λ a b. a ∷ b) (same_is _ _ (each_below (λ y. same (top 7 (lane y)) (is_no_digit y)) 256 tt x fits.0.fits)) (lanes_are xs fits.1)
+
+compared : (v less : List ℕ) → length v ≡ 16 → less ≡ map (λ x. (x + 208) % 256) v → zip2 at_most (replicate 16 10) less ≡ map lane v
+compared v less long is =
+    ap (zip2 at_most (replicate 16 10)) is
+    ∙ ap (λ k. zip2 at_most (replicate k 10) (map (λ x. (x + 208) % 256) v)) (sym (length-map v (λ x. (x + 208) % 256) ∙ long))
+    ∙ splat_left at_most 10 (map (λ x. (x + 208) % 256) v) ∙ map-map (at_most 10) (λ x. (x + 208) % 256) v
+
+pub mask_is : (v : List ℕ) → length v ≡ 16 → Each1 (Fits w8) v
+    → mask_l (map (top 7) (zip2 at_most (replicate 16 10) (zip2 (λ a b. (a + (256 - b)) % 256) v (replicate 16 48)))) % 2 ^ 64 ≡ mask_l (map is_no_digit v)
+mask_is v long fits =
+    let less = zip2_splat (λ a b. (a + (256 - b)) % 256) v 16 48 long in
+    ap (λ l. mask_l (map (top 7) l) % 2 ^ 64) (compared v _ long less) ∙ ap (λ l. mask_l l % 2 ^ 64) (lanes_are v fits)
+    ∙ mask_l-mod (map is_no_digit v) 64 (omega (arith, length-map v is_no_digit, long))
+
+-- ---- the digits in front of the first byte that is none
+
+all_before : (xs : List ℕ) → list_all is_ascii_digit (take (prefix_len (λ x. not (is_no_digit x)) xs) xs) ≡ true
+all_before [] = refl
+all_before (x ∷ xs) = go (is_ascii_digit x) refl (all_before xs)
+  where
+    go : (b : Bool) → is_ascii_digit x ≡ b → list_all is_ascii_digit (take (prefix_len (λ y. not (is_no_digit y)) xs) xs) ≡ true
+        → list_all is_ascii_digit (take (cond (not (not (is_ascii_digit x))) (1 + prefix_len (λ y. not (is_no_digit y)) xs) 0) (x ∷ xs)) ≡ true
+    go true e rest = rw (e, one-add, e) rest
+    go false e rest = rw e refl
+
+pub digits_before : (text : List ℕ) (k n mask : ℕ) → k ≤ 64 → k ≤ length text → mask ≡ mask_l (map is_no_digit (take k text)) → 0 < mask
+    → n ≡ count_trailing_zeros 64 mask → list_all is_ascii_digit (take n text) ≡ true
+digits_before text k n mask short within is some first =
+    let front = take k text in
+    let long : length front ≡ k = length-take-le k text within in
+    let run = trailing_mask_l is_no_digit 64 front (omega (arith, long)) (subst (λ x. 0 < x) is some) in
+    let len : n ≡ prefix_len (λ x. not (is_no_digit x)) front = first ∙ ap (count_trailing_zeros 64) is ∙ run in
+    let most = prefix_len-le-length (λ x. not (is_no_digit x)) front in
+    rw (← take-take n k text (omega (arith, len, most, long))) (ap (λ i. list_all is_ascii_digit (take i front)) len ∙ all_before front)
+
+without_first : (b : Bool) (n : ℕ) → (cond b 1 0 + 2 * n) / 2 ≡ n
+without_first true n = omega arith
+without_first false n = omega arith
+
+mask_drop : (bits : List Bool) (k : ℕ) → mask_l bits / 2 ^ k ≡ mask_l (drop k bits)
+mask_drop bits zero = omega arith
+mask_drop [] (suc k) = zero-div (2 ^ suc k)
+mask_drop (b ∷ bits) (suc k) =
+    ap (λ p. (cond b 1 0 + 2 * mask_l bits) / p) (pow-succ' 2 k) ∙ sym (div-div-eq-div-mul (cond b 1 0 + 2 * mask_l bits) 2 (2 ^ k))
+    ∙ ap (λ x. x / 2 ^ k) (without_first b (mask_l bits)) ∙ mask_drop bits k
+
+-- the bits above those of the first `a` bytes are the bits of what stands behind these
+pub mask_behind : (text : List ℕ) (a k mask : ℕ) → mask ≡ mask_l (map is_no_digit (take (a + k) text)) → mask / 2 ^ a ≡ mask_l (map is_no_digit (take k (drop a text)))
+mask_behind text a k mask is =
+    ap (λ x. x / 2 ^ a) is ∙ mask_drop (map is_no_digit (take (a + k) text)) a ∙ ap mask_l (drop-map is_no_digit a (take (a + k) text))
+    ∙ ap (λ l. mask_l (map is_no_digit l)) (drop-take a k text)
+
+-- how many digits the bits say, where they say some
+pub first_run : (text : List ℕ) (mask : ℕ) → 16 ≤ length text → mask ≡ mask_l (map is_no_digit (take 16 text)) → 0 < mask
+    → list_all is_ascii_digit (take (count_trailing_zeros 64 mask) text) ≡ true
+first_run text mask within is some = digits_before text 16 (count_trailing_zeros 64 mask) mask (omega arith) within is some refl
+
+-- the same of a second run, behind the first and one byte more
+pub second_bits : (text : List ℕ) (mask a : ℕ) → a ≤ 5 → mask ≡ mask_l (map is_no_digit (take 16 text))
+    → mask / 2 ^ (a + 1) ≡ mask_l (map is_no_digit (take (15 - a) (drop (a + 1) text)))
+second_bits text mask a few is =
+    let whole : 16 ≡ a + 1 + (15 - a) = omega (arith, few) in
+    mask_behind text (a + 1) (15 - a) mask (is ∙ ap (λ k. mask_l (map is_no_digit (take k text))) whole)
+
+pub second_run : (text : List ℕ) (mask a : ℕ) → 16 ≤ length text → a ≤ 5 → mask ≡ mask_l (map is_no_digit (take 16 text)) → 0 < mask / 2 ^ (a + 1)
+    → list_all is_ascii_digit (take (count_trailing_zeros 64 (mask / 2 ^ (a + 1))) (drop (a + 1) text)) ≡ true
+second_run text mask a within few is some =
+    digits_before (drop (a + 1) text) (15 - a) (count_trailing_zeros 64 (mask / 2 ^ (a + 1))) (mask / 2 ^ (a + 1)) (omega arith)
+    (omega (arith, within, few, length-drop (a + 1) text)) (second_bits text mask a few is) some refl
+
+-- and the bits behind both
+pub third_bits : (text : List ℕ) (mask a b : ℕ) → a ≤ 5 → b ≤ 5 → mask ≡ mask_l (map is_no_digit (take 16 text))
+    → mask / 2 ^ (a + 1) / 2 ^ (b + 1) ≡ mask_l (map is_no_digit (take (14 - (a + b)) (drop (b + 1) (drop (a + 1) text))))
+third_bits text mask a b few short is =
+    let whole : 15 - a ≡ b + 1 + (14 - (a + b)) = omega (arith, few, short) in
+    mask_behind (drop (a + 1) text) (b + 1) (14 - (a + b)) (mask / 2 ^ (a + 1))
+    (second_bits text mask a few is ∙ ap (λ k. mask_l (map is_no_digit (take k (drop (a + 1) text)))) whole)

@@ -1,0 +1,65 @@
+//! Digits many at a time: where runs of them end among sixteen bytes, and the number that up to five of them are.
+ghost use Rattle.std.specs.Prelude.{◌≡◌, ℕ, ◌<◌, ◌≤◌, true, length, take, map};
+ghost use Rattle.std.specs.List.{list_all};
+ghost use Rattle.std.specs.Char.{is_ascii_digit};
+ghost use Rattle.std.specs.Simd.Lanes.{mask_l};
+ghost use Rattle.mtx_text.specs.PlainLines.{NumberTo};
+ghost use Rattle.mtx_text.specs.DigitLanes.{is_no_digit, word_of, word_from, number_from};
+
+use std::simd::prelude::*;
+
+/// Eight digits 0.
+const ZEROS: u64 = 0x3030_3030_3030_3030;
+
+/// Which of the first sixteen bytes are no digits: the bit of the first byte is the lowest.
+#[inline(always)]
+pub(crate) fn no_digits(text: &[u8]) -> u64
+    requires { 16 ≤ length text.now }
+    ensures { result ≡ mask_l (map is_no_digit (take 16 text.now)) }
+{
+    no_digits_in(u8x16::from_slice(text))
+}
+
+/// The same of sixteen bytes in a vector.
+#[inline(always)]
+fn no_digits_in(lanes: u8x16) -> u64
+    ensures { result ≡ mask_l (map is_no_digit lanes) }
+{
+    (lanes - u8x16::splat(b'0'))
+        .simd_ge(u8x16::splat(10))
+        .to_bitmask()
+}
+
+/// The number that the first `len` bytes are, all of them digits.
+#[inline(always)]
+pub(crate) fn number_of(text: &[u8], len: usize) -> u64
+    requires room { 8 ≤ length text.now }
+    requires full { 0 < len }
+    requires few { len ≤ 5 }
+    requires digits { list_all is_ascii_digit (take len text.now) ≡ true }
+    ensures { NumberTo text.now len result }
+{
+    value_of(front_word(text).wrapping_sub(ZEROS) << (64 - 8 * len))
+}
+
+/// The first eight bytes as a word, the first of them lowest.
+#[inline(always)]
+fn front_word(text: &[u8]) -> u64
+    requires { 8 ≤ length text.now }
+    ensures { result ≡ word_of text.now }
+{
+    u64::from_le_bytes([
+        text[0], text[1], text[2], text[3], text[4], text[5], text[6], text[7],
+    ])
+}
+
+/// The number that the eight bytes of a word are, each of them a digit's value, the lowest byte the first digit: two digits and
+/// then four are put together by a multiplication each.
+#[inline(always)]
+fn value_of(word: u64) -> u64
+    ensures { (digit : ℕ → ℕ) → ((k : ℕ) → k < 8 → digit k ≤ 9) → word ≡ word_from digit → result ≡ number_from digit }
+{
+    let pairs = (word.wrapping_mul(1 + (10 << 8)) >> 8) & 0x00ff_00ff_00ff_00ff;
+    let fours = pairs.wrapping_mul(1 + (100 << 16)) >> 16;
+    (fours & 0xffff) * 10_000 + (fours >> 32)
+}

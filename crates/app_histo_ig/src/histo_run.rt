@@ -30,7 +30,7 @@ pub fn histo_start(alloc: Global, m: &Matrix, ranks: u32) -> Result<Progs<Histo>
     ensures ends { IfOk result (λ ps. EndsWithin histo_rules ps 1) }
 {
     let parts = split(alloc, m, ranks)?;
-    let _kept = m.entries();
+    m.known();
     let mut progs = Progs::new(alloc);
     for rank in 0..ranks {
         progs.add(part_of(alloc, m, &parts, ranks, rank)?)?;
@@ -50,7 +50,7 @@ fn part_of(
     requires parts { parts.now ≡ parts_of ranks m.now.entries }
     ensures { IfOk result (λ s. s ≡ histo_begins ranks m.now rank) }
 {
-    let _kept = m.entries();
+    m.known();
     let columns = columns_of(alloc, parts, rank)?;
     let places = (m.cols() / ranks + 1) as usize;
     let counts = zeros(alloc, places)?;

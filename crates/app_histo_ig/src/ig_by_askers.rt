@@ -34,7 +34,7 @@ pub fn ig_sums_start(alloc: Global, m: &Matrix, ranks: u32) -> Result<Progs<IgSu
     ensures ends { IfOk result (λ ps. EndsWithin sums_rules ps 1) }
 {
     let parts = split(alloc, m, ranks)?;
-    let _kept = m.entries();
+    m.known();
     let mut progs = Progs::new(alloc);
     for rank in 0..ranks {
         progs.add(summing(alloc, m, &parts, ranks, rank)?)?;
@@ -54,7 +54,7 @@ fn summing(
     requires parts { parts.now ≡ parts_of ranks m.now.entries }
     ensures { IfOk result (λ s. s ≡ sums_begins ranks m.now rank) }
 {
-    let _kept = m.entries();
+    m.known();
     let values = values_of(alloc, parts, ranks, rank)?;
     let sums = zeros(alloc, (m.cols() / ranks + 1) as usize)?;
     Ok(IgSums::new(rank, ranks, m.cols(), values, sums))

@@ -34,7 +34,7 @@ pub fn ig_start(alloc: Global, m: &Matrix, ranks: u32) -> Result<Progs<Ig>, NoMe
     ensures ends { IfOk result (λ ps. EndsWithin ig_rules ps 3) }
 {
     let parts = split(alloc, m, ranks)?;
-    let _kept = m.entries();
+    m.known();
     let mut progs = Progs::new(alloc);
     for rank in 0..ranks {
         progs.add(part_of(alloc, m, &parts, ranks, rank)?)?;
@@ -48,7 +48,7 @@ fn part_of(alloc: Global, m: &Matrix, parts: &Parts, ranks: u32, rank: u32) -> R
     requires parts { parts.now ≡ parts_of ranks m.now.entries }
     ensures { IfOk result (λ s. s ≡ ig_begins ranks m.now rank) }
 {
-    let _kept = m.entries();
+    m.known();
     let begins = Begins {
         own: own_of(alloc, parts, rank)?,
         sums: zeros(alloc, (m.cols() / ranks + 1) as usize)?,

@@ -41,7 +41,7 @@ pub fn permute_start(
     ensures ends { IfOk result (λ ps. EndsWithin permute_rules ps 3) }
 {
     let parts = split(alloc, m, ranks)?;
-    let _kept = m.entries();
+    m.known();
     let mut progs = Progs::new(alloc);
     for rank in 0..ranks {
         progs.add(part_of(alloc, m, &parts, rp, cp, ranks, rank)?)?;
@@ -65,7 +65,7 @@ fn part_of(
     requires cols { Permutes m.now.cols cp.now }
     ensures { IfOk result (λ s. s ≡ permute_begins ranks m.now rp.now cp.now rank) }
 {
-    let _kept = m.entries();
+    m.known();
     let begins = Begins {
         new_rows: own_numbers(alloc, ranks, rank, rp)?,
         new_cols: own_numbers(alloc, ranks, rank, cp)?,

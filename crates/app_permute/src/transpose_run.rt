@@ -31,7 +31,7 @@ pub fn transpose_start(alloc: Global, m: &Matrix, ranks: u32) -> Result<Progs<Tr
     ensures ends { IfOk result (λ ps. EndsWithin transpose_rules ps 1) }
 {
     let parts = split(alloc, m, ranks)?;
-    let _kept = m.entries();
+    m.known();
     let mut progs = Progs::new(alloc);
     for rank in 0..ranks {
         progs.add(part_of(alloc, m, &parts, ranks, rank)?)?;
@@ -51,7 +51,7 @@ fn part_of(
     requires parts { parts.now ≡ parts_of ranks m.now.entries }
     ensures { IfOk result (λ s. s ≡ transpose_begins ranks m.now rank) }
 {
-    let _kept = m.entries();
+    m.known();
     let outgoing = turned_of(alloc, parts, ranks, rank)?;
     Ok(Transpose::new(alloc, rank, ranks, m.cols(), m.rows(), outgoing))
 }

@@ -45,7 +45,7 @@ pub fn sssp_start(
     ensures ends { IfOk result (λ ps. EndsWithin sssp_rules ps (m.now.rows + 1)) }
 {
     let parts = split(alloc, m, ranks)?;
-    let _kept = m.entries();
+    m.known();
     let mut progs = Progs::new(alloc);
     for rank in 0..ranks {
         progs.add(part_of(alloc, m, &parts, source, ranks, rank)?)?;
@@ -68,7 +68,7 @@ fn part_of(
     requires source { source < m.now.rows }
     ensures { IfOk result (λ s. s ≡ sssp_begins ranks m.now source rank) }
 {
-    let _kept = m.entries();
+    m.known();
     let places = (m.rows() / ranks + 1) as usize;
     let vertices = vertices_of(alloc, ranks, places, source, rank)?;
     let outgoing = edges_of(alloc, parts, ranks, rank)?;

@@ -31,7 +31,7 @@ pub fn tally_start(alloc: Global, lines: &Lines, ranks: u32) -> Result<Progs<Tal
     ensures begins { IfOk result (λ ps. InRound (mail_rules tally_rules) ranks 0 [] 1 ps) }
     ensures ends { IfOk result (λ ps. EndsWithin (mail_rules tally_rules) ps 1) }
 {
-    let _kept = lines.len();
+    lines.known();
     let mut progs = Progs::new(alloc);
     for rank in 0..ranks {
         progs.add(part_of(alloc, lines, ranks, rank)?)?;
@@ -45,7 +45,7 @@ fn part_of(alloc: Global, lines: &Lines, ranks: u32, rank: u32) -> Result<TallyM
     requires few { ranks ≤ 64 }
     ensures { IfOk result (λ m. m ≡ mailing tally_rules (tally_begins ranks lines.now rank)) }
 {
-    let _kept = lines.len();
+    lines.known();
     let own = own_of(alloc, lines, ranks, rank)?;
     let mailer = Mailer::new(alloc, Tally::new(alloc, rank, ranks, own))?;
     Ok(TallyMailer::new(mailer))

@@ -29,7 +29,7 @@ pub fn topo_start(alloc: Global, m: &Matrix, ranks: u32) -> Result<Progs<Topo>, 
     ensures ends { IfOk result (λ ps. EndsWithin topo_rules ps (2 * m.now.rows + 2)) }
 {
     let parts = split(alloc, m, ranks)?;
-    let _kept = m.entries();
+    m.known();
     let mut progs = Progs::new(alloc);
     for rank in 0..ranks {
         progs.add(part_of(alloc, m, &parts, ranks, rank)?)?;
@@ -50,7 +50,7 @@ fn part_of(
     requires parts { parts.now ≡ parts_of ranks m.now.entries }
     ensures { IfOk result (λ s. s ≡ topo_begins ranks m.now rank) }
 {
-    let _kept = m.entries();
+    m.known();
     let places = (m.rows() / ranks + 1) as usize;
     let begins = Begins {
         numbers: zeros(alloc, places)?,

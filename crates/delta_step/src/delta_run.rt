@@ -46,7 +46,7 @@ pub fn delta_start(
     ensures ends { IfOk result (λ ps. EndsWithin delta_rules ps (m.now.rows * (m.now.rows + 2) + 2)) }
 {
     let parts = split(alloc, m, ranks)?;
-    let _kept = m.entries();
+    m.known();
     let mut progs = Progs::new(alloc);
     for rank in 0..ranks {
         progs.add(part_of(alloc, m, &parts, source, delta, ranks, rank)?)?;
@@ -72,7 +72,7 @@ fn part_of(
     requires narrow { delta ≤ 1_000_000_000_000 }
     ensures { IfOk result (λ s. s ≡ delta_begins ranks m.now source delta rank) }
 {
-    let _kept = m.entries();
+    m.known();
     let places = (m.rows() / ranks + 1) as usize;
     let vertices = vertices_of(alloc, ranks, places, source, rank)?;
     let outgoing = edges_of(alloc, parts, ranks, rank)?;

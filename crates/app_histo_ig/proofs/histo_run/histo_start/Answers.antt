@@ -15,4 +15,4 @@ pub returns-clause-begins : goal.returns-clause-begins
 returns-clause-begins c =
     let all : c.loop-rank.rank ≡ c.args.ranks = omega arith in
     let is : c.loop-rank.progs ≡ histo_starts c.args.ranks c.args.m.now = c.loop-rank.invariant ∙ ap (λ n. map (histo_begins c.args.ranks c.args.m.now) (range_with_len 0 n)) all in
-    subst (InRound histo_rules c.args.ranks 0 (c.args.m.now.cols ∷ []) 1) (sym is) (starts_in_round c.args.ranks c.args.m.now c.entries-kept.ensures.kept)
+    subst (InRound histo_rules c.args.ranks 0 (c.args.m.now.cols ∷ []) 1) (sym is) (starts_in_round c.args.ranks c.args.m.now c.known.ensures)

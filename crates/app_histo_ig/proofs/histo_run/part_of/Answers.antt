@@ -12,7 +12,7 @@ new-requires-clause-named c =
     let is : c.in_ok-columns.columns.items ≡ map (λ (e : Numbered). e.1.j) (own_entries c.args.ranks c.args.rank c.args.m.now.entries) =
     c.in_ok-columns.ensures ∙ ap (map (λ (e : Numbered). e.1.j)) (own_part c.args.ranks c.args.rank c.args.m.now.entries c.args.parts.now c.requires.rank c.requires.parts) in
     subst (λ n. All (λ j. j < n) c.in_ok-columns.columns.items) (sym c.cols-2.ensures)
-    (subst (All (λ j. j < c.args.m.now.cols)) (sym is) (begins_named c.args.ranks c.args.m.now c.args.rank c.entries-kept.ensures.kept))
+    (subst (All (λ j. j < c.args.m.now.cols)) (sym is) (begins_named c.args.ranks c.args.m.now c.args.rank c.known.ensures))
 
 pub returns : goal.returns
 returns c =

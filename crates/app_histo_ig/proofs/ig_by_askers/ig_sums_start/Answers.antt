@@ -15,7 +15,7 @@ pub returns-clause-begins : goal.returns-clause-begins
 returns-clause-begins c =
     let all : c.loop-rank.rank ≡ c.args.ranks = omega arith in
     let is : c.loop-rank.progs ≡ sums_starts c.args.ranks c.args.m.now = c.loop-rank.invariant ∙ ap (λ n. map (sums_begins c.args.ranks c.args.m.now) (range_with_len 0 n)) all in
-    subst (InRound sums_rules c.args.ranks 0 (c.args.m.now.cols ∷ []) 1) (sym is) (starts_in_round c.args.ranks c.args.m.now c.entries-kept.ensures.kept)
+    subst (InRound sums_rules c.args.ranks 0 (c.args.m.now.cols ∷ []) 1) (sym is) (starts_in_round c.args.ranks c.args.m.now c.known.ensures)
 
 pub returns-clause-ends : goal.returns-clause-ends
 returns-clause-ends c = within_one c.loop-rank.progs

@@ -16,7 +16,7 @@ new-requires c =
     subst IsSums (sym (begins_is c.args.ranks c.args.m.now c.args.rank c.cols-2.result c.in_ok-values.values.items c.in_ok-sums.sums.items c.cols-2.ensures
     (c.in_ok-values.ensures ∙ ap (map {B = ℕ × Item} (λ (e : Numbered). (column_owner c.args.ranks e, value_item e))) own)
     (c.in_ok-sums.ensures ∙ ap (λ n. replicate (n / c.args.ranks + 1) 0) c.cols.ensures)))
-    (begins_valid c.args.ranks c.args.m.now c.args.rank c.requires.rank c.entries-kept.ensures.kept)
+    (begins_valid c.args.ranks c.args.m.now c.args.rank c.requires.rank c.known.ensures)
 
 pub returns : goal.returns
 returns c =

@@ -24,7 +24,7 @@ new-requires c =
     c.in_ok-no_queries.ensures
     (c.in_ok-values_of.ensures ∙ ap (map {B = ℕ × Item} (λ (e : Numbered). (column_owner c.args.ranks e, value_item e))) own)
     (c.in_ok-zeros-2.ensures ∙ ap (λ n. replicate n 0) (c.len.ensures ∙ ap length own))))
-    (begins_valid c.args.ranks c.args.m.now c.args.rank c.requires.rank c.entries-kept.ensures.kept)
+    (begins_valid c.args.ranks c.args.m.now c.args.rank c.requires.rank c.known.ensures)
 
 pub returns : goal.returns
 returns c =

@@ -16,7 +16,7 @@ new-requires c =
     subst IsPermuting (sym (begins_is c.args.ranks c.args.m.now c.args.rp.now c.args.cp.now c.args.rank _ _ _ _ _ c.rows.ensures c.cols.ensures
     c.in_ok-own_numbers.ensures c.in_ok-own_numbers-2.ensures
     (c.in_ok-cells_of.ensures ∙ ap (map {B = ℕ × Item} (λ (e : Numbered). (row_owner c.args.ranks e, cell_item e.1))) own)))
-    (begins_valid c.args.ranks c.args.m.now c.args.rp.now c.args.cp.now c.args.rank c.requires.rank c.entries-kept.ensures.kept c.requires.rows c.requires.cols)
+    (begins_valid c.args.ranks c.args.m.now c.args.rp.now c.args.cp.now c.args.rank c.requires.rank c.known.ensures c.requires.rows c.requires.cols)
 
 pub returns : goal.returns
 returns c =

@@ -16,7 +16,7 @@ returns-clause-begins c =
     let m = c.args.m.now in
     let all : c.loop-rank.rank ≡ c.args.ranks = omega arith in
     let is : c.loop-rank.progs ≡ permute_starts c.args.ranks m c.args.rp.now c.args.cp.now = c.loop-rank.invariant ∙ ap (λ n. map (permute_begins c.args.ranks m c.args.rp.now c.args.cp.now) (range_with_len 0 n)) all in
-    subst (InRound permute_rules c.args.ranks 0 (m.rows ∷ m.cols ∷ []) 3) (sym is) (starts_in_round c.args.ranks m c.args.rp.now c.args.cp.now c.entries-kept.ensures.kept c.requires.rows c.requires.cols)
+    subst (InRound permute_rules c.args.ranks 0 (m.rows ∷ m.cols ∷ []) 3) (sym is) (starts_in_round c.args.ranks m c.args.rp.now c.args.cp.now c.known.ensures c.requires.rows c.requires.cols)
 
 pub returns-clause-ends : goal.returns-clause-ends
 returns-clause-ends c = within_three c.loop-rank.progs

@@ -16,7 +16,7 @@ new-requires c =
     let own = own_part c.args.ranks c.args.rank c.args.m.now.entries c.args.parts.now c.requires.rank c.requires.parts in
     subst IsTransposing (sym (begins_is c.args.ranks c.args.m.now c.args.rank _ _ _ c.cols.ensures c.rows.ensures
     (c.in_ok-outgoing.ensures ∙ ap (map {B = ℕ × Item} (λ (e : Numbered). (column_owner c.args.ranks e, cell_item (turned e.1)))) own)))
-    (begins_valid c.args.ranks c.args.m.now c.args.rank c.requires.rank c.entries-kept.ensures.kept)
+    (begins_valid c.args.ranks c.args.m.now c.args.rank c.requires.rank c.known.ensures)
 
 pub returns : goal.returns
 returns c =

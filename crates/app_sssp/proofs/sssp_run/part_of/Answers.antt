@@ -25,7 +25,7 @@ new-requires c =
     (sym (begins_is c.args.ranks c.args.m.now c.args.source c.args.rank c.rows-2.result c.in_ok-vertices.vertices c.in_ok-outgoing.outgoing.items c.rows-2.ensures
     (c.in_ok-vertices.ensures ∙ ap (λ n. cond (c.args.source % c.args.ranks == c.args.rank) (improved_at (c.args.source / c.args.ranks) 0 (replicate (n / c.args.ranks + 1) unreached)) (replicate (n / c.args.ranks + 1) unreached)) c.rows.ensures)
     (c.in_ok-outgoing.ensures ∙ ap (map {B = ℕ × Item} (λ (e : Numbered). (row_owner c.args.ranks e, edge_item e))) own)))
-    (begins_valid c.args.ranks c.args.m.now c.args.source c.args.rank c.requires.rank c.entries-kept.ensures.kept c.requires.square)
+    (begins_valid c.args.ranks c.args.m.now c.args.source c.args.rank c.requires.rank c.known.ensures c.requires.square)
 
 pub returns : goal.returns
 returns c =

@@ -16,10 +16,10 @@ pub returns-clause-begins : goal.returns-clause-begins
 returns-clause-begins c =
     let all : c.loop-rank.rank ≡ c.args.ranks = omega arith in
     let is : c.loop-rank.progs ≡ tally_starts c.args.ranks c.args.lines.now = c.loop-rank.invariant ∙ ap (λ n. map (λ r. mailing tally_rules (tally_begins c.args.ranks c.args.lines.now r)) (range_with_len 0 n)) all in
-    subst (InRound (mail_rules tally_rules) c.args.ranks 0 [] 1) (sym is) (starts_in_round c.args.ranks c.args.lines.now c.len-kept.ensures.lines.letters)
+    subst (InRound (mail_rules tally_rules) c.args.ranks 0 [] 1) (sym is) (starts_in_round c.args.ranks c.args.lines.now c.known.ensures.letters)
 
 pub returns-clause-ends : goal.returns-clause-ends
 returns-clause-ends c =
     let all : c.loop-rank.rank ≡ c.args.ranks = omega arith in
     let is : c.loop-rank.progs ≡ tally_starts c.args.ranks c.args.lines.now = c.loop-rank.invariant ∙ ap (λ n. map (λ r. mailing tally_rules (tally_begins c.args.ranks c.args.lines.now r)) (range_with_len 0 n)) all in
-    subst (λ ps. EndsWithin (mail_rules tally_rules) ps 1) (sym is) (within_one c.args.ranks c.args.lines.now c.len-kept.ensures.lines.letters)
+    subst (λ ps. EndsWithin (mail_rules tally_rules) ps 1) (sym is) (within_one c.args.ranks c.args.lines.now c.known.ensures.letters)

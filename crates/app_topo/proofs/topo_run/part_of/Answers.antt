@@ -15,7 +15,7 @@ new-requires c =
     subst IsTopo (sym (begins_is c.args.ranks c.args.m.now c.args.rank _ _ _ _ _ c.rows-2.ensures
     (c.in_ok-zeros.ensures ∙ ap (λ n. replicate (n / c.args.ranks + 1) 0) c.rows.ensures) (c.in_ok-zeros-2.ensures ∙ ap (λ n. replicate (n / c.args.ranks + 1) 0) c.rows.ensures) (c.in_ok-zeros-3.ensures ∙ ap (λ n. replicate (n / c.args.ranks + 1) 0) c.rows.ensures)
     (c.in_ok-entries_of.ensures ∙ ap (flat_map (first_sent c.args.ranks)) own)))
-    (begins_valid c.args.ranks c.args.m.now c.args.rank c.requires.rank c.requires.square c.entries-kept.ensures.kept)
+    (begins_valid c.args.ranks c.args.m.now c.args.rank c.requires.rank c.requires.square c.known.ensures)
 
 pub returns : goal.returns
 returns c =

@@ -17,11 +17,11 @@ returns-clause-begins c =
     let m = c.args.m.now in
     let all : c.loop-rank.rank ≡ c.args.ranks = omega arith in
     let is : c.loop-rank.progs ≡ topo_starts c.args.ranks m = c.loop-rank.invariant ∙ ap (λ n. map (topo_begins c.args.ranks m) (range_with_len 0 n)) all in
-    subst (InRound topo_rules c.args.ranks 0 (m.rows ∷ []) (2 * m.rows + 2)) (sym is) (starts_in_round c.args.ranks m c.requires.square c.entries-kept.ensures.kept)
+    subst (InRound topo_rules c.args.ranks 0 (m.rows ∷ []) (2 * m.rows + 2)) (sym is) (starts_in_round c.args.ranks m c.requires.square c.known.ensures)
 
 pub returns-clause-ends : goal.returns-clause-ends
 returns-clause-ends c =
     let m = c.args.m.now in
     let all : c.loop-rank.rank ≡ c.args.ranks = omega arith in
     let is : c.loop-rank.progs ≡ topo_starts c.args.ranks m = c.loop-rank.invariant ∙ ap (λ n. map (topo_begins c.args.ranks m) (range_with_len 0 n)) all in
-    subst (λ ps. EndsWithin topo_rules ps (2 * m.rows + 2)) (sym is) (within c.args.ranks m c.requires.some c.requires.square c.entries-kept.ensures.kept)
+    subst (λ ps. EndsWithin topo_rules ps (2 * m.rows + 2)) (sym is) (within c.args.ranks m c.requires.some c.requires.square c.known.ensures)

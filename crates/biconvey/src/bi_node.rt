@@ -151,8 +151,7 @@ impl<A: Asker, const CAP: usize, const HOPS: usize> BiNode<A, CAP, HOPS> {
         let over = is_over(self.queries.phase());
         let replied = self.replies.advance(replies, over);
         hear_all(&mut self.asker, &mut self.lines, &mut self.replies);
-        // The contract of `phase` tells what holds of the conveyor.
-        let _sound = self.replies.phase();
+        self.replies.known();
         turn_of(asked, replied)
     }
 
@@ -200,8 +199,7 @@ fn begun<const CAP: usize, const HOPS: usize>(
 {
     let mut conveyor = Conveyor::new(alloc, grid, rank, steady)?;
     conveyor.begin();
-    // The contract of `phase` tells what holds of the conveyor.
-    let _sound = conveyor.phase();
+    conveyor.known();
     Ok(conveyor)
 }
 

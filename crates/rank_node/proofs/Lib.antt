@@ -5,9 +5,11 @@ pub mod Absorbed
 pub mod Chains
 pub mod Took
 pub mod Offered
+pub mod Handed
 pub mod Moved
 pub mod Halted
 pub mod Filled
+pub mod FilledOn
 pub mod Popped
 pub mod Polled
 pub mod Between

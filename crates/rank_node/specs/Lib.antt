@@ -8,3 +8,5 @@ pub mod Pulls
 pub mod Moves
 pub mod Cycles
 pub mod Batches
+pub mod Pushes
+pub mod PushLaws

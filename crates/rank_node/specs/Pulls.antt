@@ -1,9 +1,9 @@
 -- What small steps of a turn leave.
-use Rattle.std.specs.Prelude.{◌≡◌, ◌≢◌, ℕ, ◌≤◌, length, Bool, List, slice_get, Some}
+use Rattle.std.specs.Prelude.{◌≡◌, ◌≢◌, ℕ, ◌<◌, ◌≤◌, length, Bool, List, slice_get, Some}
 use Rattle.bale_types.specs.declared.item.Item.{Item}
 use Rattle.port_bank.specs.Machine.{Part}
 use Rattle.convey.specs.Buffers.{buffers_of, in_of}
-use Rattle.convey.specs.Conveyors.{AgreesWith, KeepsAgreement}
+use Rattle.convey.specs.Conveyors.{AgreesWith, KeepsAgreement, standing_toward}
 use Rattle.convey.specs.Parts.{part_of}
 use Rattle.hop_core.specs.declared.phase.Phase.TheVariants.{Dormant}
 use Rattle.hop_core.specs.State.{State}
@@ -46,6 +46,15 @@ pub record Takes {S : Type 0} (R : Rules S) (voting : Bool) (old c : State) (pro
   pub taken : (h : ℕ → S) (rank round next : ℕ) (sends : Sends) (sent got : Logs) → is_voting sends ≡ voting → AgreesWith old sent got
       → HasTaken R (ranks old.dims) rank h round sends next prog sum spoiled (part_of (buffers_of old) sent got)
       → HasTaken R (ranks old.dims) rank h round sends next prog' sum' spoiled' (part_of (buffers_of c) sent got)
+
+-- What pushes leave of a conveyor: of the items from number `from` on those below `next` are pushed. Where one is left, the open
+-- parcel toward its receiver is as full as it can be.
+pub record Handed (cap : ℕ) (es : List (ℕ × Item)) (old c : State) (from next : ℕ) : Type 0 where
+  pub same : c ≡ record old { outs = c.outs; pulled = c.pulled }
+  pub kept : KeepsAgreement old c
+  pub pushed : (sent got : Logs) → AgreesWith old sent got → PushedOn es (ranks old.dims) from next (part_of (buffers_of old) sent got) (part_of (buffers_of c) sent got)
+  pub refused : (to : ℕ) (x : Item) → slice_get es next ≡ Some (to, x) → standing_toward c to ≡ cap
+  pub receiver : (to : ℕ) (x : Item) → slice_get es next ≡ Some (to, x) → to < ranks c.dims
 
 -- What pushes leave of an exstack: of the items from number `from` on those below `next` are pushed. Where one is left, the
 -- buffer toward its receiver is full.

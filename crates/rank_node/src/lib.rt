@@ -22,6 +22,7 @@
 
 mod arrivals;
 mod conveying;
+mod departures;
 mod ending;
 mod mover;
 mod node;

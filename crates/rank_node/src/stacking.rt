@@ -16,8 +16,9 @@ ghost use Rattle.rank_node.specs.Moves.{AfterMoves, AfterFill, Leaves, Waits};
 ghost use Rattle.rank_node.specs.Cycles.{InCycle, InExchange, IsOnward, Awaits};
 
 use crate::arrivals::FromSender;
+use crate::departures::OnExstack;
 use crate::run::Run;
-use crate::sends::{Sends, count_of, sent_at, votes_now};
+use crate::sends::{Sends, count_of, send_each, votes_now};
 use crate::taking::{Taken, take_each};
 use crate::turn::Turn;
 use bale_types::NoMemory;
@@ -170,16 +171,25 @@ fn push_on<const CAP: usize, Q: Program>(
     requires all_pushed { exstack.old.done ≡ true → from ≡ length (to_send Q.rules prog.now.value sends) }
     ensures { Fills CAP (to_send Q.rules prog.now.value sends) exstack.old exstack.new from result }
 {
-    let count = count_of(prog, sends);
-    let mut next = from;
-    while next < count {
-        let (to, item) = sent_at(prog, sends, next);
-        if exstack.push(item, to) == 0 {
-            return next;
-        }
-        next += 1;
-    }
-    next
+    let mut out = OnExstack { exstack };
+    push_each(prog, sends, &mut out, from)
+}
+
+/// The same, where the exstack is what takes the items: it is the same one after it.
+fn push_each<const CAP: usize, Q: Program>(
+    prog: &Box<Q>,
+    sends: Sends,
+    out: &mut OnExstack<'_, CAP>,
+    from: u64,
+) -> u64
+    requires from { from ≤ length (to_send Q.rules prog.now.value sends) }
+    requires receivers { All (λ e. e.0 < ranks (dims_of out.old.exstack.now)) (to_send Q.rules prog.now.value sends) }
+    requires filling { out.old.exstack.now.stage ≡ Stage.Filling }
+    requires all_pushed { out.old.exstack.now.done ≡ true → from ≡ length (to_send Q.rules prog.now.value sends) }
+    ensures fills { Fills CAP (to_send Q.rules prog.now.value sends) out.old.exstack.now out.new.exstack.now from result }
+    ensures same_exstack { out.new.exstack.ghost_name ≡ out.old.exstack.ghost_name }
+{
+    send_each(prog, sends, from, out)
 }
 
 /// Pops until nothing is left, and sums or absorbs what came.

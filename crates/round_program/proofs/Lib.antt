@@ -1,4 +1,5 @@
 pub mod Batches
+pub mod Emissions
 pub mod Epochs
 pub mod Injections
 pub mod Items

@@ -2,6 +2,7 @@ pub mod Batches
 pub mod Canonical
 pub mod EitherLaws
 pub mod Eithers
+pub mod Emissions
 pub mod Epochs
 pub mod Injections
 pub mod Laws

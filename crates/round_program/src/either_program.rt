@@ -1,8 +1,9 @@
 //! Either of two programs as one program. So one type stands for several applications, and a drive is compiled once for
-//! them all: the drives of a tree of `Either`s run whichever program is there. What is asked for each item is inlined, so that a
-//! tree costs one choice and not a call for each of its levels.
+//! them all: the drives of a tree of `Either`s run whichever program is there. A drive emits and absorbs by the batch, so that a
+//! tree costs one choice for each batch and none for an item.
 
 use crate::arrivals::Arrivals;
+use crate::departures::Departures;
 use crate::program::Program;
 use bale_types::{Item, NoMemory};
 use either::{Either, Left, Right};
@@ -43,7 +44,6 @@ impl<A: Program, B: Program> Program for Either<A, B> {
         }
     }
 
-    #[inline(always)]
     fn emission(&self, i: u64) -> (u32, Item) {
         match self {
             Left(a) => a.emission(i),
@@ -51,7 +51,13 @@ impl<A: Program, B: Program> Program for Either<A, B> {
         }
     }
 
-    #[inline(always)]
+    fn emit_each<D: Departures>(&self, from: u64, out: &mut D) -> u64 {
+        match self {
+            Left(a) => a.emit_each(from, out),
+            Right(b) => b.emit_each(from, out),
+        }
+    }
+
     fn fits(&self, from: u32, item: Item) -> bool {
         match self {
             Left(a) => a.fits(from, item),
@@ -59,7 +65,6 @@ impl<A: Program, B: Program> Program for Either<A, B> {
         }
     }
 
-    #[inline(always)]
     fn absorb(&mut self, from: u32, item: Item) -> Result<(), NoMemory> {
         match self {
             Left(a) => a.absorb(from, item),

@@ -12,6 +12,7 @@
 //! |---|---|
 //! | `Program` | one rank's part of a computation in rounds, its meanings and its laws |
 //! | `Arrivals` | a batch of items that came, each with its sender |
+//! | `Departures` | what takes the items that a rank sends, as long as it has room |
 //! | `Progs` | the programs of all ranks, one per rank: `new`, `add`, `len`, `get`, `take_first` |
 //! | `Asker` | one rank's part of an exchange of queries and replies |
 //! | `every_order` | the interleaving theorem: every order of absorbs gives the canonical state |
@@ -19,13 +20,15 @@
 //! | `same_runs` | one program as a case of another: a run of the cases is the run of the program |
 //! | `Either` (of the crate either) | either of two programs is a program, and runs whichever is there: see `either_runs` |
 //!
-//! The definitions, in the order in which to read them: `Rules` (a program's meanings), `Laws`, `Batches` (items that come), `Canonical` (the canonical
-//! run), `Orders` (the interleaving theorem), `Epochs` (the theorem over all rounds), `Injections` (one program as a case of
-//! another), `Eithers` (either of two programs), `Talks` (askers), `Replies` (what askers hear).
+//! The definitions, in the order in which to read them: `Rules` (a program's meanings), `Laws`, `Emissions` and `Batches` (items
+//! that are handed over, and that come, one after the other), `Canonical` (the canonical run), `Orders` (the interleaving theorem),
+//! `Epochs` (the theorem over all rounds), `Injections` (one program as a case of another), `Eithers` (either of two programs),
+//! `Talks` (askers), `Replies` (what askers hear).
 #![tactic(auto)]
 
 mod arrivals;
 mod asker;
+mod departures;
 mod either_program;
 mod program;
 mod progs;
@@ -35,6 +38,7 @@ mod theorems;
 
 pub use arrivals::Arrivals;
 pub use asker::Asker;
+pub use departures::Departures;
 pub use program::Program;
 pub use progs::Progs;
 pub use theorems::{case_of_case, either_runs, every_order, every_run, same_runs};

@@ -1,11 +1,14 @@
 //! One rank's part of a computation in rounds.
 
-ghost use Rattle.std.specs.Prelude.{◌≡◌, ◌<◌, OnOk, OnErr, IfOk, length, slice_get, Some};
+ghost use Rattle.std.specs.Prelude.{◌≡◌, ◌-◌, ◌<◌, ◌≤◌, OnOk, OnErr, IfOk, length, drop, slice_get, Some};
+ghost use Rattle.std.specs.List.{All};
 ghost use Rattle.round_program.specs.Laws.{Laws, fits, Fits};
 ghost use Rattle.round_program.specs.Rules.{Rules};
 ghost use Rattle.round_program.specs.Batches.{all_taken_in};
+ghost use Rattle.round_program.specs.Emissions.{HandsOver};
 
 use crate::arrivals::Arrivals;
+use crate::departures::Departures;
 use bale_types::{Item, NoMemory};
 
 /// A program, as one rank runs it. Rounds count from 0.
@@ -14,6 +17,7 @@ use bale_types::{Item, NoMemory};
 /// |---|---|---|
 /// | `rank`, `ranks`, `round` | | this rank, the number of ranks, the round's number |
 /// | `count`, `emission(i)` | `i` below `count` | how many items the rank sends in this round; the receiver and the item |
+/// | `emit_each(from, out)` | `from` at most `count` | hands over a batch: the same as `emission` for each item, and so written once for all programs |
 /// | `fits(from, item)` | | whether this rank may be sent the item by the rank `from` |
 /// | `absorb(from, item)` | the item fits | takes the item in |
 /// | `absorb_each(came)` | | takes in, of a batch, what fits: the same as `fits` and `absorb` for each item, and so written once for all programs |
@@ -61,6 +65,27 @@ pub trait Program: Drop {
     fn emission(&self, i: u64) -> (u32, Item)
         requires { i < length (rules.emissions self.now) }
         ensures { slice_get (rules.emissions self.now) i ≡ Some result };
+
+    /// Hands the emissions from number `from` on to `out`, in order, until one is refused or all are handed over. Answers how many
+    /// are by then.
+    fn emit_each<D: Departures>(&self, from: u64, out: &mut D) -> u64
+        requires from { from ≤ length (rules.emissions self.now) }
+        requires may { All (λ e. D.may out.old e.0) (drop from (rules.emissions self.now)) }
+        ensures forward { from ≤ result }
+        ensures low { result ≤ length (rules.emissions self.now) }
+        ensures hands { HandsOver D.hands (drop from (rules.emissions self.now)) (result - from) out.old out.new }
+    {
+        let count = self.count();
+        let mut next = from;
+        while next < count {
+            let (to, item) = self.emission(next);
+            if !out.push(to, item) {
+                return next;
+            }
+            next += 1;
+        }
+        next
+    }
 
     /// Whether this rank may be sent `item` by the rank `from`: a rank that gets an item can't know what its sender emits.
     fn fits(&self, from: u32, item: Item) -> bool

@@ -1,0 +1,43 @@
+-- One push toward a rank, into a conveyor or into an exstack.
+use Rattle.std.specs.Prelude.{◌≡◌, ℕ, ◌<◌, Bool, true, false, None}
+use Rattle.bale_types.specs.declared.item.Item.{Item}
+use Rattle.route_tensor.specs.Grid.{ranks}
+use Rattle.port_bank.specs.Machine.Step.{Push, Idle}
+use Rattle.hop_core.specs.declared.phase.Phase.TheVariants.{Working}
+use Rattle.hop_core.specs.State.{State}
+use Rattle.convey.specs.Conveyors as conveyors
+use Rattle.convey.specs.Conveyors.{standing_toward}
+use Rattle.exstack.specs.declared.stage.Stage.TheVariants.{Filling}
+use Rattle.exstack.specs.Links.{headroom_of}
+use Rattle.exstack.specs.State.{State as Stack}
+use Rattle.exstack.specs.State.{out_at, pushed_on}
+use Rattle.exstack.specs.Parts as exstacks
+
+-- An item for a rank may be pushed into a conveyor.
+pub record MayPush (c : State) (to : ℕ) : Type 0 where
+  pub low : to < ranks c.dims
+  pub working : c.phase ≡ Working
+  pub not_done : c.done ≡ false
+
+-- What a push into a conveyor leaves. One that was refused left the open parcel toward the rank as full as it can be.
+pub record Pushes (cap : ℕ) (old : State) (to : ℕ) (x : Item) (accepted : Bool) (c : State) : Type 0 where
+  pub same : c ≡ record old { outs = c.outs; pulled = c.pulled }
+  pub kept : conveyors.KeepsAgreement old c
+  pub step : accepted ≡ true → conveyors.IsStepOf (Push to x) old c
+  pub idle : accepted ≡ false → conveyors.IsStepOf Idle old c
+  pub full : accepted ≡ false → standing_toward c to ≡ cap
+
+-- An item for a rank may be pushed into an exstack.
+pub record MayFill (x : Stack) (to : ℕ) : Type 0 where
+  pub low : to < x.ranks
+  pub filling : x.stage ≡ Filling
+  pub not_done : x.done ≡ false
+
+-- What a push into an exstack leaves. One that was refused found the buffer toward the rank full.
+pub record FillsOne (cap : ℕ) (old : Stack) (to : ℕ) (y : Item) (accepted : Bool) (x : Stack) : Type 0 where
+  pub kept : exstacks.KeepsAgreement old x
+  pub pushed : accepted ≡ true → x ≡ pushed_on old y to
+  pub step : accepted ≡ true → exstacks.IsStepOf (Push to y) old x
+  pub unpushed : accepted ≡ false → x ≡ record old { popped = None }
+  pub idle : accepted ≡ false → exstacks.IsStepOf Idle old x
+  pub full : accepted ≡ false → headroom_of cap (out_at old to) ≡ 0

@@ -102,7 +102,7 @@ fn push_later_claims(
 }
 
 /// The place of the first entry of column `c` or a later one, by halving.
-fn first_of(columns: &[Triple], c: u64) -> usize
+fn first_of(columns: &[Triple], c: u32) -> usize
     requires { InOrder columns.now }
     ensures within { result ≤ length columns.now }
     ensures before { (k : ℕ) (d : Triple) → k < result → (slice_index_or columns.now k d).i < c }
@@ -112,7 +112,7 @@ fn first_of(columns: &[Triple], c: u64) -> usize
     let mut high = columns.len();
     while low < high {
         let middle = low + (high - low) / 2;
-        if (columns[middle].i as u64) < c {
+        if columns[middle].i < c {
             low = middle + 1;
         } else {
             high = middle;
@@ -132,10 +132,11 @@ fn push_falls(
     requires ordered { InOrder columns.now }
     ensures { OnOk result (outgoing.new.items ≡ outgoing.old.items ++ map (to_fall ranks) (filter (λ u. u.i == c) columns.now)) }
 {
-    let first = first_of(columns, c as u64);
-    let end = first_of(columns, c as u64 + 1);
-    for at in first..end {
+    for at in first_of(columns, c)..columns.len() {
         let entry = columns[at];
+        if entry.i != c {
+            return Ok(());
+        }
         let fall = Item {
             a: entry.j as u64,
             b: entry.i as u64,

@@ -230,6 +230,13 @@ impl Program for Topo {
 
     fn end_round(&mut self, votes: u64) -> Result<bool, NoMemory> {
         let goes_on = self.round % 2 == 0 || votes != 0;
+        if self.round != 0 && self.came.is_empty() {
+            keep_claims(&mut self.claimed, self.round, &self.outgoing)?;
+            self.outgoing.clear();
+            self.fresh = 0;
+            self.round = self.round.saturating_add(1);
+            return Ok(goes_on);
+        }
         self.came.take_entries(&mut self.spots);
         self.next.clear();
         put_next(

@@ -141,8 +141,9 @@ impl Topo {
         ensures err { OnErr result (self.new ≡ self.old) }
     {
         if item.c == 0 {
-            add(&mut self.numbers, self.ranks, item.a, 1);
-            add(&mut self.sums, self.ranks, item.a, item.b);
+            let ranks = self.ranks;
+            add(&mut self.numbers, ranks, item.a, 1);
+            add(&mut self.sums, ranks, item.a, item.b);
             return Ok(());
         }
         mark(&mut self.came, item.a, item.b)
@@ -166,10 +167,11 @@ impl Topo {
         ensures ok { OnOk result (self.new ≡ fallen self.old item) }
         ensures err { OnErr result (self.new ≡ self.old) }
     {
-        let left = number_at(&self.numbers, self.ranks, item.a).wrapping_sub(1);
+        let ranks = self.ranks;
+        let left = number_at(&self.numbers, ranks, item.a).wrapping_sub(1);
         mark_if(&mut self.came, left == 1, item.a)?;
-        lessen(&mut self.numbers, self.ranks, item.a, 1);
-        lessen(&mut self.sums, self.ranks, item.a, item.b);
+        lessen(&mut self.numbers, ranks, item.a, 1);
+        lessen(&mut self.sums, ranks, item.a, item.b);
         Ok(())
     }
 }

@@ -1,5 +1,5 @@
 -- The lists that a rank of topo sends, one row or column further.
-use Rattle.std.proofs.Common.{ℕ, zero, suc, ◌+◌, ◌*◌, ◌/◌, ◌<◌, ◌≤◌, ◌≡◌, ◌==◌, cond, eqb, List, [], ◌∷◌, ◌++◌, map, length, get_or, take, arith, inl, inr, refl, sym, ap, ◌∙◌, subst, pos, append_assoc}
+use Rattle.std.proofs.Common.{ℕ, zero, suc, ◌+◌, ◌*◌, ◌/◌, ◌<◌, ◌≤◌, ◌≡◌, ◌==◌, cond, eqb, List, [], ◌∷◌, ◌++◌, map, length, get_or, take, arith, inl, inr, refl, sym, ap, ◌∙◌, subst, append_assoc}
 use Rattle.std.specs.List.{filter, range_with_len}
 use Rattle.std.proofs.lemmas.Bool.{cases_lt, eq-eqb, ne_eqb}
 use Rattle.std.proofs.lemmas.Nat.{div-mul-add}
@@ -71,18 +71,19 @@ none_behind (u ∷ us) c zero size h =
 none_behind (u ∷ us) c (suc n) size h =
     ap (λ ys. cond (eqb u.i c) (u ∷ ys) ys) (none_behind us c n (omega arith) (λ k d m l. h (suc k) d (omega arith) (omega arith)))
 
--- the columns from a first one to an end
-pub starts_early : (columns : List Triple) (c first end : ℕ) → first ≤ length columns → ((k : ℕ) (d : Triple) → k < first → (get_or columns k d).i < c)
-    → ((k : ℕ) (d : Triple) → end ≤ k → k < length columns → c + 1 ≤ (get_or columns k d).i) → first ≤ end
-starts_early columns c first end size before from =
-    elim (cases_lt end first) [
-      | inl wrong ↦
-          let z : Triple = record { i = 0; j = 0; v = pos 0 } in
-          let low : (get_or columns end z).i < c = before end z wrong in
-          let high : c + 1 ≤ (get_or columns end z).i = from end z (omega arith) (omega arith) in
-          absurd (omega arith)
-      | inr right ↦ right
-    ]
+-- a read inside a list has no use for what stands for its end
+pub row_same : (columns : List Triple) (k : ℕ) (d e : Triple) → k < length columns → (get_or columns k d).i ≡ (get_or columns k e).i
+row_same [] k d e l = absurd (omega arith)
+row_same (u ∷ us) zero d e l = refl
+row_same (u ∷ us) (suc k) d e l = row_same us k d e (omega arith)
+
+-- from the first entry of a later column on
+pub none_later : (columns : List Triple) (c n : ℕ) (d : Triple) → InOrder columns → n < length columns → c ≤ (get_or columns n d).i → ((get_or columns n d).i ≡ c → ⊥)
+    → in_column c (take n columns) ≡ in_column c columns
+none_later columns c n d ordered low from other = none_behind columns c n (omega arith) (λ k e up here.
+    let rise : (get_or columns n e).i ≤ (get_or columns k e).i = rows_rise columns n k e ordered up here in
+    let same : (get_or columns n d).i ≡ (get_or columns n e).i = row_same columns n d e low in
+    omega (arith, other))
 
 -- one entry more
 pub falls_more : (ranks c at : ℕ) (columns : List Triple) (u : Triple) (old mid new : List (ℕ × Item)) → at < length columns → u ≡ get_or columns at u → u.i ≡ c
@@ -95,9 +96,3 @@ falls_more ranks c at columns u old mid new low is own so_far one =
     ∙ append_assoc old (map (to_fall ranks) (in_column c (take at columns))) (to_fall ranks u ∷ [])
     ∙ ap (λ w. old ++ w) (sym (map-append (to_fall ranks) (in_column c (take at columns)) (u ∷ [])))
     ∙ ap (λ w. old ++ map (to_fall ranks) w) (sym grown)
-
--- a read inside a list has no use for what stands for its end
-pub row_same : (columns : List Triple) (k : ℕ) (d e : Triple) → k < length columns → (get_or columns k d).i ≡ (get_or columns k e).i
-row_same [] k d e l = absurd (omega arith)
-row_same (u ∷ us) zero d e l = refl
-row_same (u ∷ us) (suc k) d e l = row_same us k d e (omega arith)

@@ -1,6 +1,6 @@
 //! What a rank of topo sends after a round: claims of rows, or falls of rows.
 
-ghost use Rattle.std.specs.Prelude.{◌≡◌, ◌<◌, ◌≤◌, ◌+◌, ◌-◌, ◌/◌, ◌%◌, ◌^◌, ◌==◌, ◌++◌, ◌∷◌, ℕ, [], nat_lt, IfOk, OnOk, if◌then◌else◌, length, map, slice_index_or};
+ghost use Rattle.std.specs.Prelude.{◌≡◌, ◌<◌, ◌≤◌, ◌+◌, ◌-◌, ◌/◌, ◌%◌, ◌^◌, ◌==◌, ◌++◌, ◌∷◌, ℕ, [], nat_lt, OnOk, if◌then◌else◌, length, map, slice_index_or};
 ghost use Rattle.std.specs.List.{All, filter, flat_map};
 ghost use Rattle.bale_types.specs.declared.triple.Triple.{Triple};
 ghost use Rattle.mtx_text.specs.Cells.{InOrder};
@@ -10,18 +10,7 @@ ghost use Rattle.app_topo.specs.Topos.{claims_of, falls_of, sent_after, own_rows
 use crate::marks::number_at;
 use crate::placed::Placed;
 use bale_types::{Item, NoMemory, Triple};
-use mtx_text::Cells;
-use std::alloc::Global;
 use std::mem;
-
-/// Takes what came out, in order.
-pub(crate) fn take_all(alloc: Global, came: &mut Cells) -> Vec<Triple>
-    ensures came { result.items ≡ came.old }
-    ensures ordered { InOrder result.items }
-    ensures none { came.new ≡ [] }
-{
-    mem::replace(came, Cells::new(alloc)).into_entries()
-}
 
 /// Appends row `i`'s claim, where its number is 1 and its sum is a column.
 fn push_claim(
@@ -70,50 +59,50 @@ fn push_row(
     Ok(())
 }
 
-/// The claims of a rank's own rows.
-fn first_claims(
-    alloc: Global,
+/// Appends the claims of a rank's own rows.
+fn push_first_claims(
+    outgoing: &mut Vec<(u32, Item)>,
     rank: u32,
     ranks: u32,
     size: u32,
     numbers: &[u64],
     sums: &[u64],
-) -> Result<Vec<(u32, Item)>, NoMemory>
+) -> Result<(), NoMemory>
+    requires none { outgoing.old.items ≡ [] }
     requires rank { rank < ranks }
     requires numbers { length numbers.now ≡ places_for ranks size }
     requires sums { length sums.now ≡ places_for ranks size }
-    ensures { IfOk result (λ v. v.items ≡ claims_of ranks size numbers.now sums.now (own_rows ranks rank size)) }
+    ensures { OnOk result (outgoing.new.items ≡ claims_of ranks size numbers.now sums.now (own_rows ranks rank size)) }
 {
-    let mut outgoing = Vec::new(alloc);
     for place in 0..numbers.len() {
         let row = place as u64 * ranks as u64 + rank as u64;
-        push_row(&mut outgoing, ranks, size, numbers, sums, row)?;
+        push_row(outgoing, ranks, size, numbers, sums, row)?;
     }
-    Ok(outgoing)
+    Ok(())
 }
 
-/// The claims of the rows whose number fell to 1.
-fn later_claims(
-    alloc: Global,
+/// Appends the claims of the rows whose number fell to 1.
+fn push_later_claims(
+    outgoing: &mut Vec<(u32, Item)>,
     ranks: u32,
     size: u32,
     numbers: &[u64],
     sums: &[u64],
     came: &[Triple],
-) -> Result<Vec<(u32, Item)>, NoMemory>
+) -> Result<(), NoMemory>
+    requires none { outgoing.old.items ≡ [] }
     requires some { 0 < ranks }
     requires placed { All (λ u. (u.i / ranks < length numbers.now) × (u.i / ranks < length sums.now)) came.now }
-    ensures { IfOk result (λ v. v.items ≡ claims_of ranks size numbers.now sums.now (map (λ u. u.i) came.now)) }
+    ensures { OnOk result (outgoing.new.items ≡ claims_of ranks size numbers.now sums.now (map (λ u. u.i) came.now)) }
 {
-    let mut outgoing = Vec::new(alloc);
     for row in came {
-        push_claim(&mut outgoing, ranks, size, numbers, sums, row.i)?;
+        push_claim(outgoing, ranks, size, numbers, sums, row.i)?;
     }
-    Ok(outgoing)
+    Ok(())
 }
 
 /// The place of the first entry of column `c` or a later one, by halving.
-fn first_of(columns: &[Triple], c: u64) -> usize
+fn first_of(columns: &[Triple], c: u32) -> usize
     requires { InOrder columns.now }
     ensures within { result ≤ length columns.now }
     ensures before { (k : ℕ) (d : Triple) → k < result → (slice_index_or columns.now k d).i < c }
@@ -123,7 +112,7 @@ fn first_of(columns: &[Triple], c: u64) -> usize
     let mut high = columns.len();
     while low < high {
         let middle = low + (high - low) / 2;
-        if (columns[middle].i as u64) < c {
+        if columns[middle].i < c {
             low = middle + 1;
         } else {
             high = middle;
@@ -143,10 +132,11 @@ fn push_falls(
     requires ordered { InOrder columns.now }
     ensures { OnOk result (outgoing.new.items ≡ outgoing.old.items ++ map (to_fall ranks) (filter (λ u. u.i == c) columns.now)) }
 {
-    let first = first_of(columns, c as u64);
-    let end = first_of(columns, c as u64 + 1);
-    for at in first..end {
+    for at in first_of(columns, c)..columns.len() {
         let entry = columns[at];
+        if entry.i != c {
+            return Ok(());
+        }
         let fall = Item {
             a: entry.j as u64,
             b: entry.i as u64,
@@ -157,27 +147,27 @@ fn push_falls(
     Ok(())
 }
 
-/// The falls of the rows of the columns that were claimed.
-fn falls(
-    alloc: Global,
+/// Appends the falls of the rows of the columns that were claimed.
+fn push_all_falls(
+    outgoing: &mut Vec<(u32, Item)>,
     ranks: u32,
     columns: &[Triple],
     came: &[Triple],
-) -> Result<Vec<(u32, Item)>, NoMemory>
+) -> Result<(), NoMemory>
+    requires none { outgoing.old.items ≡ [] }
     requires some { 0 < ranks }
     requires ordered { InOrder columns.now }
-    ensures { IfOk result (λ v. v.items ≡ falls_of ranks columns.now came.now) }
+    ensures { OnOk result (outgoing.new.items ≡ falls_of ranks columns.now came.now) }
 {
-    let mut outgoing = Vec::new(alloc);
     for claimed in came {
-        push_falls(&mut outgoing, ranks, columns, claimed.i)?;
+        push_falls(outgoing, ranks, columns, claimed.i)?;
     }
-    Ok(outgoing)
+    Ok(())
 }
 
-/// What is sent after a round: the first claims, falls, or later claims.
-pub(crate) fn after_round(
-    alloc: Global,
+/// Puts what is sent after a round into an empty list: the first claims, falls, or later claims.
+pub(crate) fn put_next(
+    outgoing: &mut Vec<(u32, Item)>,
     round: u64,
     rank: u32,
     ranks: u32,
@@ -186,24 +176,25 @@ pub(crate) fn after_round(
     sums: &[u64],
     columns: &[Triple],
     came: &[Triple],
-) -> Result<Vec<(u32, Item)>, NoMemory>
+) -> Result<(), NoMemory>
+    requires none { outgoing.old.items ≡ [] }
     requires rank { rank < ranks }
     requires numbers { length numbers.now ≡ places_for ranks size }
     requires sums { length sums.now ≡ places_for ranks size }
     requires placed { All (λ u. (u.i / ranks < length numbers.now) × (u.i / ranks < length sums.now)) came.now }
     requires ordered { InOrder columns.now }
-    ensures { IfOk result (λ v. v.items ≡ sent_after round rank ranks size numbers.now sums.now columns.now came.now) }
+    ensures { OnOk result (outgoing.new.items ≡ sent_after round rank ranks size numbers.now sums.now columns.now came.now) }
 {
     if round == 0 {
-        return first_claims(alloc, rank, ranks, size, numbers, sums);
+        return push_first_claims(outgoing, rank, ranks, size, numbers, sums);
     }
     if round % 2 == 1 {
         if round < u64::MAX {
-            return falls(alloc, ranks, columns, came);
+            return push_all_falls(outgoing, ranks, columns, came);
         }
-        return Ok(Vec::new(alloc));
+        return Ok(());
     }
-    later_claims(alloc, ranks, size, numbers, sums, came)
+    push_later_claims(outgoing, ranks, size, numbers, sums, came)
 }
 
 /// Notes the rows whose claims were sent in an odd round: they have its level.
@@ -242,10 +233,10 @@ fn place_all(
 }
 
 /// Keeps what came in round 0 as the entries of own columns.
-pub(crate) fn put_columns(columns: &mut Vec<Triple>, round: u64, came: Vec<Triple>)
-    ensures { columns.new.items ≡ (if round == 0 then came.items else columns.old.items) }
+pub(crate) fn put_columns(columns: &mut Vec<Triple>, round: u64, came: &mut Vec<Triple>)
+    ensures { columns.new.items ≡ (if round == 0 then came.old.items else columns.old.items) }
 {
     if round == 0 {
-        *columns = came;
+        mem::swap(columns, came);
     }
 }

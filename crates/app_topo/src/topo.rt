@@ -4,7 +4,7 @@ ghost use Rattle.std.specs.Prelude.{◌≡◌, ◌<◌, ◌-◌, ◌%◌, ◌==�
 ghost use Rattle.app_topo.specs.Topos.{IsTopo, entered, claimed_by, fallen};
 ghost use Rattle.app_topo.specs.TopoLaws.{IsOwn};
 
-use crate::lists::{after_round, keep_claims, put_columns, take_all};
+use crate::lists::{keep_claims, put_columns, put_next};
 use crate::marks::{add, fresh_after, lessen, mark, mark_if, number_at};
 use crate::placed::Placed;
 use bale_types::{Item, NoMemory, Triple};
@@ -12,6 +12,7 @@ use mtx_text::Cells;
 use round_program::Program;
 use std::alloc::Global;
 use std::marker::Model;
+use std::mem;
 
 /// One rank's part of topo. Row `i` belongs to rank `i mod ranks` and column `j` to rank `j mod ranks`; what a rank keeps of
 /// its row or column number `x` stands at place `x div ranks`.
@@ -21,7 +22,6 @@ use std::marker::Model;
 /// column that was claimed tells its rows that they have an entry less (even rounds).
 #[derive(Drop)]
 pub struct Topo {
-    alloc: Global,
     rank: u32,
     ranks: u32,
     round: u64,
@@ -43,6 +43,10 @@ pub struct Topo {
     came: Cells,
     /// what is sent in this round
     outgoing: Vec<(u32, Item)>,
+    /// memory for what is sent in the next round
+    next: Vec<(u32, Item)>,
+    /// memory for what came, in order
+    spots: Vec<Triple>,
 }
 
 impl Model for Topo {
@@ -99,7 +103,6 @@ impl Topo {
         } }
     {
         Topo {
-            alloc,
             rank,
             ranks,
             round: 0,
@@ -112,6 +115,8 @@ impl Topo {
             fresh: 0,
             came: Cells::new(alloc),
             outgoing: begins.outgoing,
+            next: Vec::new(alloc),
+            spots: Vec::new(alloc),
         }
     }
 
@@ -136,8 +141,9 @@ impl Topo {
         ensures err { OnErr result (self.new ≡ self.old) }
     {
         if item.c == 0 {
-            add(&mut self.numbers, self.ranks, item.a, 1);
-            add(&mut self.sums, self.ranks, item.a, item.b);
+            let ranks = self.ranks;
+            add(&mut self.numbers, ranks, item.a, 1);
+            add(&mut self.sums, ranks, item.a, item.b);
             return Ok(());
         }
         mark(&mut self.came, item.a, item.b)
@@ -161,10 +167,11 @@ impl Topo {
         ensures ok { OnOk result (self.new ≡ fallen self.old item) }
         ensures err { OnErr result (self.new ≡ self.old) }
     {
-        let left = number_at(&self.numbers, self.ranks, item.a).wrapping_sub(1);
+        let ranks = self.ranks;
+        let left = number_at(&self.numbers, ranks, item.a).wrapping_sub(1);
         mark_if(&mut self.came, left == 1, item.a)?;
-        lessen(&mut self.numbers, self.ranks, item.a, 1);
-        lessen(&mut self.sums, self.ranks, item.a, item.b);
+        lessen(&mut self.numbers, ranks, item.a, 1);
+        lessen(&mut self.sums, ranks, item.a, item.b);
         Ok(())
     }
 }
@@ -225,9 +232,17 @@ impl Program for Topo {
 
     fn end_round(&mut self, votes: u64) -> Result<bool, NoMemory> {
         let goes_on = self.round % 2 == 0 || votes != 0;
-        let came = take_all(self.alloc, &mut self.came);
-        let next = after_round(
-            self.alloc,
+        if self.round != 0 && self.came.is_empty() {
+            keep_claims(&mut self.claimed, self.round, &self.outgoing)?;
+            self.outgoing.clear();
+            self.fresh = 0;
+            self.round = self.round.saturating_add(1);
+            return Ok(goes_on);
+        }
+        self.came.take_entries(&mut self.spots);
+        self.next.clear();
+        put_next(
+            &mut self.next,
             self.round,
             self.rank,
             self.ranks,
@@ -235,11 +250,11 @@ impl Program for Topo {
             &self.numbers,
             &self.sums,
             &self.columns,
-            &came,
+            &self.spots,
         )?;
         keep_claims(&mut self.claimed, self.round, &self.outgoing)?;
-        put_columns(&mut self.columns, self.round, came);
-        self.outgoing = next;
+        put_columns(&mut self.columns, self.round, &mut self.spots);
+        mem::swap(&mut self.outgoing, &mut self.next);
         self.fresh = 0;
         self.round = self.round.saturating_add(1);
         Ok(goes_on)
@@ -250,9 +265,8 @@ impl Program for Topo {
 fn kind_fits(round: u64, kind: u64) -> bool
     ensures { result ≡ (if round == 0 then nat_lt kind 2 else kind == 3 - round % 2) }
 {
-    if round == 0 {
-        kind < 2
-    } else {
-        kind == 3 - round % 2
+    if kind < 2 {
+        return round == 0;
     }
+    round != 0 && kind == 3 - round % 2
 }

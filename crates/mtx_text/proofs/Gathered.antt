@@ -1,7 +1,7 @@
 -- Ordered maps of triples in any order.
-use Rattle.std.proofs.Common.{ℕ, ◌+◌, ◌-◌, ◌<◌, ◌≤◌, ◌≡◌, ℤ, Bool, true, false, cond, List, [], ◌∷◌, ◌++◌, Option, Some, None, length, get_or, take, drop, IsPermutation, arith, rules, inl, inr, refl, sym, ap, ◌∙◌, subst}
+use Rattle.std.proofs.Common.{ℕ, ◌+◌, ◌-◌, ◌<◌, ◌≤◌, ◌≡◌, ℤ, Bool, true, false, cond, eqb, List, [], ◌∷◌, ◌++◌, Option, Some, None, length, get_or, take, drop, IsPermutation, arith, rules, inl, inr, refl, sym, ap, ◌∙◌, subst}
 use Rattle.std.specs.List.{All, fold, flat_map}
-use Rattle.std.proofs.lemmas.Bool.{cases_Bool, cases_lt}
+use Rattle.std.proofs.lemmas.Bool.{cases_Bool, cases_lt, ne_eqb}
 use Rattle.std.proofs.lemmas.List.{append-nil, length_push, get_or_push, get_or_default, take-append-le, take_all, take_more, take-append-drop}
 use Rattle.std.proofs.lemmas.List.Concat.{flat_map-append}
 use Rattle.std.proofs.lemmas.List.Quantifiers.{all_pairs_push}
@@ -223,3 +223,26 @@ together_more maps k cells l e =
     ap together (take_more maps k cells l)
     ∙ ap gathered (flat_map-append (λ cells. cells) (take k maps) (get_or maps k cells ∷ []))
     ∙ ap (λ ts. gathered (flat_map (λ cells. cells) (take k maps) ++ ts)) (append-nil (get_or maps k cells) ∙ sym e)
+
+-- ---- None at all
+
+raised_some : (t : Triple) (cells : List Triple) → 0 < length (raised t cells)
+raised_some t [] = omega arith
+raised_some t (c ∷ cells) =
+    elim (place_cases c t) [
+      | inl x ↦ omega (arith, ap length (raised_later t c cells x))
+      | inr o ↦ elim o [
+        | inl x ↦ omega (arith, ap length (raised_here t c cells x.0 x.1))
+        | inr x ↦ omega (arith, ap length (raised_first t c cells x))
+      ]
+    ]
+
+raised_all_some : (cells ts : List Triple) → 0 < length cells → 0 < length (raised_all cells ts)
+raised_all_some cells [] h = h
+raised_all_some cells (t ∷ ts) h = raised_all_some (raised t cells) ts (raised_some t cells)
+
+pub gathered_none : (ts : List Triple) → eqb (length ts) 0 ≡ eqb (length (gathered ts)) 0
+gathered_none [] = refl
+gathered_none (t ∷ ts) =
+    let some : 0 < length (gathered (t ∷ ts)) = raised_all_some (t ∷ []) ts (omega arith) in
+    ne_eqb (length (t ∷ ts)) 0 (λ e. absurd (omega arith)) ∙ sym (ne_eqb (length (gathered (t ∷ ts))) 0 (λ e. absurd (omega arith)))

@@ -1,5 +1,5 @@
 //! Ordered maps from places to values, in which raises come in any order at the cost of a push each.
-ghost use Rattle.std.specs.Prelude.{◌≡◌, ◌≢◌, ℕ, ◌+◌, ◌≤◌, ◌++◌, ◌∷◌, true, not, [], List, length, slice_get, take, Ok, IfOk, OnOk, OnErr, is_ok, if◌then◌else◌};
+ghost use Rattle.std.specs.Prelude.{◌≡◌, ◌≢◌, ℕ, ◌+◌, ◌≤◌, ◌++◌, ◌∷◌, ◌==◌, true, not, [], List, length, slice_get, take, Ok, IfOk, OnOk, OnErr, is_ok, if◌then◌else◌};
 ghost use Rattle.std.specs.Int.{int_max};
 ghost use Rattle.std.specs.List.{All};
 ghost use Rattle.bale_types.specs.declared.triple.Triple.{Triple};
@@ -11,6 +11,7 @@ use crate::place_order::{comes_before, gather, greater, is_before};
 use bale_types::{NoMemory, Triple};
 use std::alloc::{AllocError, Global};
 use std::marker::Model;
+use std::mem;
 
 /// How many triples may wait behind those in order before `put` puts all in order.
 const MOST_WAITING: usize = 1_024;
@@ -138,6 +139,25 @@ impl Cells {
         let mut triples = self.triples;
         gather(&mut triples);
         triples
+    }
+
+    /// Moves the cells into `list`, by row and then column. The list's memory is kept for cells to come.
+    pub fn take_entries(&mut self, list: &mut Vec<Triple>)
+        ensures entries { list.new.items ≡ self.old }
+        ensures ordered { InOrder list.new.items }
+        ensures none { self.new ≡ [] }
+    {
+        gather(&mut self.triples);
+        mem::swap(&mut self.triples, list);
+        self.triples.clear();
+        self.settled = 0;
+    }
+
+    /// Whether there are none.
+    pub fn is_empty(&self) -> bool
+        ensures { result ≡ (length self.now == 0) }
+    {
+        self.triples.is_empty()
     }
 
     /// Appends triples that have these cells and no other.

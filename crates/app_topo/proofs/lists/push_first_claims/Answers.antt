@@ -1,5 +1,5 @@
 use Rattle.app_topo.proofs.TopoLists.{rows_more}
-use Rattle.app_topo.proofs.lists.first_claims.Goals as goal
+use Rattle.app_topo.proofs.lists.push_first_claims.Goals as goal
 
 pub loop-place-preserved : goal.loop-place-preserved
 loop-place-preserved c =

@@ -1,6 +1,6 @@
 use Rattle.std.proofs.Common.{◌≡◌, map, take}
 use Rattle.app_topo.specs.Topos.{claims_of}
-use Rattle.app_topo.proofs.lists.later_claims.Given as goal
+use Rattle.app_topo.proofs.lists.push_later_claims.Given as goal
 
 abbrev pub invariant-loop-row : goal.invariant-loop-row
 invariant-loop-row l = l.outgoing.items ≡ claims_of l.ranks l.size l.numbers l.sums (map (λ u. u.i) (take l.row-index l.came))

@@ -65,6 +65,7 @@ fn zeros(alloc: Global, len: usize) -> Result<Vec<u32>, AllocError>
 }
 
 /// Chains the entries of each row. Links are one more than an entry's index, and 0 at a chain's end.
+#[inline(never)]
 fn link(side: u32, entries: &[Triple], heads: &mut Vec<u32>, nexts: &mut Vec<u32>)
     requires within { All (λ t. IsWithin side t) entries.now }
     requires few { length entries.now < 2 ^ 31 }
@@ -84,6 +85,7 @@ fn link(side: u32, entries: &[Triple], heads: &mut Vec<u32>, nexts: &mut Vec<u32
 }
 
 /// Whether no column comes twice along a row's chain.
+#[inline(never)]
 fn is_row_apart(
     side: u32,
     entries: &[Triple],

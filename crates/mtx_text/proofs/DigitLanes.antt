@@ -1,18 +1,13 @@
 -- The bytes that are no digits, found by one comparison of a vector, and the number of a word's digits, by three multiplications.
-use Rattle.std.proofs.Common.{◌≡◌, ℕ, zero, suc, ◌+◌, ◌-◌, ◌*◌, ◌/◌, ◌%◌, ◌^◌, ◌<◌, ◌≤◌, Bool, true, false, not, cond, leb, List, [], ◌∷◌, map, length, get_or, take, drop, replicate, bit_and, refl, sym, ap, ◌∙◌, arith}
+use Rattle.std.proofs.Common.{◌≡◌, ℕ, zero, suc, ◌+◌, ◌-◌, ◌*◌, ◌/◌, ◌%◌, ◌^◌, ◌<◌, ◌≤◌, Bool, true, false, cond, leb, List, [], ◌∷◌, length, get_or, take, bit_and, refl, ap, ◌∙◌, arith}
 use Rattle.std.proofs.lemmas.Bool.{and_parts, leb-true}
 use Rattle.std.proofs.lemmas.Int.Digits.{digits_value_more}
-use Rattle.std.proofs.lemmas.List.{length-map, drop-take, take-take}
-use Rattle.std.proofs.lemmas.List.Sums.{prefix_len-le-length}
-use Rattle.std.proofs.lemmas.Simd.{trailing_mask_l, map-map}
-use Rattle.std.specs.List.{list_all, prefix_len}
+use Rattle.std.specs.List.{list_all}
 use Rattle.std.specs.Prelude.{nat_le}
 use Rattle.std.specs.Char.{is_ascii_digit, digit_value}
 use Rattle.std.specs.Str.Parse.{digits_value}
 use lib.Bits.{and_block, and_mask}
-use lib.Count.{count_trailing_zeros}
-use lib.Lanes.{zip2, mask_l}
-use Rattle.mtx_text.specs.DigitLanes.{is_no_digit, word_of, word_from, number_from}
+use Rattle.mtx_text.specs.DigitLanes.{word_of, word_from, number_from}
 use Rattle.mtx_text.specs.PlainLines.{NumberTo}
 use Rattle.mtx_text.proofs.Digits.{digit_is}
 

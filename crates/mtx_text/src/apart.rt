@@ -19,7 +19,8 @@ pub(crate) fn are_apart(alloc: Global, side: u32, entries: &[Triple]) -> Result<
     requires few { length entries.now < 2 ^ 31 }
     ensures { result ≡ Ok true → AllPairs (λ s t. ¬ SamePlace s t) entries.now }
 {
-    if row_by_row(side, entries, zeros(alloc, side as usize)?) {
+    let mut marks = zeros(alloc, side as usize)?;
+    if row_by_row(side, entries, marks.as_mut_slice()) {
         return Ok(true);
     }
     let none = entries.len() as u32;
@@ -37,22 +38,22 @@ pub(crate) fn are_apart(alloc: Global, side: u32, entries: &[Triple]) -> Result<
 }
 
 /// Whether the rows of entries never fall, and no place comes twice.
-fn row_by_row(side: u32, entries: &[Triple], marks: Vec<u32>) -> bool
+#[inline(never)]
+fn row_by_row(side: u32, entries: &[Triple], marks: &mut [u32]) -> bool
     requires within { All (λ t. IsWithin side t) entries.now }
-    requires marks { vec_len marks ≡ side }
-    requires zero { (k : ℕ) → get_or marks.items k 0 ≡ 0 }
+    requires marks { length marks.old ≡ side }
+    requires zero { (k : ℕ) → get_or marks.old k 0 ≡ 0 }
     ensures { result ≡ true → AllPairs (λ s t. ¬ SamePlace s t) entries.now }
 {
-    let mut marks = marks;
     let mut row = 0;
     for t in entries {
-        let mark = t.i + 1;
-        let column = t.j as usize;
-        if t.i < row || marks[column] == mark {
+        let Triple { i, j, .. } = *t;
+        let mark = i + 1;
+        if i < row || marks[j as usize] == mark {
             return false;
         }
-        marks[column] = mark;
-        row = t.i;
+        marks[j as usize] = mark;
+        row = i;
     }
     true
 }
@@ -66,6 +67,7 @@ fn zeros(alloc: Global, len: usize) -> Result<Vec<u32>, AllocError>
 }
 
 /// Whether no column comes twice along a row's chain.
+#[inline(never)]
 fn is_row_apart(
     side: u32,
     entries: &[Triple],

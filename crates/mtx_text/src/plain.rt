@@ -80,13 +80,13 @@ pub(crate) fn front_of_three(text: &[u8]) -> Option<Front<'_>>
     ensures { IfSome result (λ front. FrontAt text.now front.two front.rest.now) }
 {
     let two = two_numbers(text)?;
-    let after_row = behind(two.row.len, text);
-    if after_row[two.column.len] != b' ' {
+    let end = two.row.len + 1 + two.column.len;
+    if text[end] != b' ' {
         return None;
     }
     Some(Front {
         two,
-        rest: behind(two.column.len, after_row),
+        rest: behind(end, text),
     })
 }
 
@@ -131,8 +131,8 @@ pub(crate) fn plain_three(text: &[u8], front: Front<'_>, last: Last) -> Plain
             column: Some(natural(column.size)),
             value: Some(last.value),
         },
-        len: row.len + 1 + (column.len + 1 + last.len),
-        next: row.len + 1 + (column.len + 1 + last.next),
+        len: row.len + 1 + column.len + 1 + last.len,
+        next: row.len + 1 + column.len + 1 + last.next,
     }
 }
 

@@ -1,4 +1,4 @@
-use Rattle.std.proofs.Common.{◌≡◌, ◌+◌, ◌-◌, refl, subst, sym, arith}
+use Rattle.std.proofs.Common.{◌+◌, ◌-◌, refl, subst, sym, arith}
 use Rattle.mtx_text.specs.PlainLines.{LastAt}
 use lib.Count.{count_trailing_zeros}
 use Rattle.mtx_text.proofs.NoDigits.{digits_before}

@@ -6,8 +6,10 @@ use Rattle.app_topo.proofs.lists.push_falls.Goals as goal
 
 pub loop-at-init : goal.loop-at-init
 loop-at-init c =
+    let first = c.first_of-at.ensures in
     sym (append-nil c.args.outgoing.now.items)
-    ∙ ap (λ w. c.args.outgoing.now.items ++ map (to_fall c.args.ranks) w) (sym (none_in_front c.args.columns.now c.args.c c.first_of-at.result c.first_of-at.ensures.within c.first_of-at.ensures.before))
+    ∙ ap (λ w. c.args.outgoing.now.items ++ map (to_fall c.args.ranks) w)
+    (sym (none_in_front c.args.columns.now c.args.c c.first_of-at.result first.within first.before))
 
 pub returns-then-entry-c : goal.returns-then-entry-c
 returns-then-entry-c c =

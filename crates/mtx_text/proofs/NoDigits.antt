@@ -1,15 +1,14 @@
 -- The bytes that are no digits, as a vector's comparison finds them, and the digits in front of the first of them.
-use Rattle.std.proofs.Common.{◌≡◌, ℕ, zero, suc, ◌+◌, ◌-◌, ◌*◌, ◌/◌, ◌%◌, ◌^◌, ◌<◌, ◌≤◌, Bool, true, false, not, ◌&&◌, cond, leb, T, List, [], ◌∷◌, map, length, take, drop, replicate, refl, sym, ap, ap₂, ◌∙◌, subst, ◌⊎◌, inl, inr, arith, w8, Fits, not-suc-le-zero, one-add}
-use Rattle.std.proofs.Math.Nat.{div-div-eq-div-mul, pow-succ', zero-div}
+use Rattle.std.proofs.Common.{◌≡◌, ℕ, zero, suc, ◌+◌, ◌-◌, ◌*◌, ◌/◌, ◌%◌, ◌^◌, ◌<◌, ◌≤◌, Bool, true, false, not, ◌&&◌, cond, leb, T, List, [], ◌∷◌, ◌++◌, map, length, take, drop, replicate, refl, sym, ap, ap₂, ◌∙◌, subst, ◌⊎◌, inl, inr, arith, w8, Fits, not-suc-le-zero, one-add}
+use Rattle.std.proofs.Math.Nat.{div-div-eq-div-mul, pow-succ', zero-div, eq-zero-or-pos}
 use Rattle.std.proofs.lemmas.Bool.{cases_order}
-use Rattle.std.proofs.lemmas.List.{length-drop, length-map, length-take-le, drop-take, take-take, drop-map}
-use Rattle.std.proofs.lemmas.List.Sums.{prefix_len-le-length}
-use Rattle.std.proofs.lemmas.Simd.{zip2_splat, map-map, mask_l-mod, trailing_mask_l}
+use Rattle.std.proofs.lemmas.List.{length-append, length-drop, length-map, length-take, length-take-le, drop-append-le, drop-drop, drop-map, drop-take, map-id, take-take}
+use Rattle.std.proofs.lemmas.Simd.{zip2_splat, map-map, mask_l-lt, mask_l-mod, trailing_mask_l}
 use Rattle.std.specs.List.{list_all, prefix_len}
 use Rattle.std.specs.Char.{is_ascii_digit}
-use lib.Count.{count_trailing_zeros}
+use lib.Count.{count_trailing_zeros, trailing_of_zero}
 use lib.Lanes.{zip2, mask_l, top, Each1}
-use Rattle.mtx_text.specs.DigitLanes.{is_no_digit}
+use Rattle.mtx_text.specs.DigitLanes.{is_no_digit, above, bits_of}
 
 -- ---- the comparison of sixteen lanes
 
@@ -71,24 +70,60 @@ mask_is v long fits =
 
 -- ---- the digits in front of the first byte that is none
 
-all_before : (xs : List ℕ) → list_all is_ascii_digit (take (prefix_len (λ x. not (is_no_digit x)) xs) xs) ≡ true
-all_before [] = refl
-all_before (x ∷ xs) = go (is_ascii_digit x) refl (all_before xs)
-  where
-    go : (b : Bool) → is_ascii_digit x ≡ b → list_all is_ascii_digit (take (prefix_len (λ y. not (is_no_digit y)) xs) xs) ≡ true
-        → list_all is_ascii_digit (take (cond (not (not (is_ascii_digit x))) (1 + prefix_len (λ y. not (is_no_digit y)) xs) 0) (x ∷ xs)) ≡ true
-    go true e rest = rw (e, one-add, e) rest
-    go false e rest = rw e refl
+abbrev run : List ℕ → ℕ
+run xs = prefix_len not (map is_no_digit xs ++ above)
 
-pub digits_before : (text : List ℕ) (k n mask : ℕ) → k ≤ 64 → k ≤ length text → mask ≡ mask_l (map is_no_digit (take k text)) → 0 < mask
-    → n ≡ count_trailing_zeros 64 mask → list_all is_ascii_digit (take n text) ≡ true
-digits_before text k n mask short within is some first =
-    let front = take k text in
-    let long : length front ≡ k = length-take-le k text within in
-    let run = trailing_mask_l is_no_digit 64 front (omega (arith, long)) (subst (λ x. 0 < x) is some) in
-    let len : n ≡ prefix_len (λ x. not (is_no_digit x)) front = first ∙ ap (count_trailing_zeros 64) is ∙ run in
-    let most = prefix_len-le-length (λ x. not (is_no_digit x)) front in
-    rw (← take-take n k text (omega (arith, len, most, long))) (ap (λ i. list_all is_ascii_digit (take i front)) len ∙ all_before front)
+before_first : (xs : List ℕ) → run xs < 47 → (run xs ≤ length xs) × (list_all is_ascii_digit (take (run xs) xs) ≡ true)
+before_first [] few =
+    let all : run [] ≡ 47 = refl in
+    absurd (omega (arith, few, all))
+before_first (x ∷ xs) few = go (is_ascii_digit x) refl few (before_first xs)
+  where
+    go : (b : Bool) → is_ascii_digit x ≡ b → cond (not (not b)) (1 + run xs) 0 < 47
+        → (run xs < 47 → (run xs ≤ length xs) × (list_all is_ascii_digit (take (run xs) xs) ≡ true))
+        → (cond (not (not (is_ascii_digit x))) (1 + run xs) 0 ≤ suc (length xs))
+        × (list_all is_ascii_digit (take (cond (not (not (is_ascii_digit x))) (1 + run xs) 0) (x ∷ xs)) ≡ true)
+    go true e less rest =
+        let r = rest (omega (arith, less)) in
+        (rw e (omega (arith, r.0)), rw (e, one-add, e) r.1)
+    go false e less rest = (rw e (omega arith), rw e refl)
+
+-- where a word's lowest set bit has only few bits below it, they stand for digits
+pub digits_before : (text : List ℕ) (k n mask : ℕ) → k ≤ 16 → k ≤ length text → mask ≡ mask_l (bits_of k text) → n ≡ count_trailing_zeros 64 mask → n ≤ 5
+    → list_all is_ascii_digit (take n text) ≡ true
+digits_before text k n mask short within is first few =
+    elim (eq-zero-or-pos mask) [
+      | inl none ↦ absurd (omega (arith, few, first, ap (count_trailing_zeros 64) none, trailing_of_zero 64))
+      | inr some ↦
+          let front = take k text in
+          let bits = bits_of k text in
+          let long : length front ≡ k = length-take-le k text within in
+          let size : length bits ≡ length front + 48 = length-append (map is_no_digit front) above ∙ ap (λ i. i + 48) (length-map front is_no_digit) in
+          let own : mask_l (map (λ b. b) bits) ≡ mask = ap mask_l (map-id bits) ∙ sym is in
+          let found = trailing_mask_l (λ b. b) 64 bits (omega (arith, size, long, short)) (subst (λ x. 0 < x) (sym own) some) in
+          let len : n ≡ run front = first ∙ ap (count_trailing_zeros 64) (sym own) ∙ found in
+          let all = before_first front (omega (arith, len, few)) in
+          rw (← take-take n k text (omega (arith, len, all.0, long))) (ap (λ i. list_all is_ascii_digit (take i front)) len ∙ all.1)
+    ]
+
+mask_join : (xs ys : List Bool) → mask_l (xs ++ ys) ≡ mask_l xs + 2 ^ length xs * mask_l ys
+mask_join [] ys = omega arith
+mask_join (b ∷ bits) ys =
+    let rest = mask_join bits ys in
+    rw (pow-succ' 2 (length bits), rest) (joined (cond b 1 0) (mask_l bits) (2 ^ length bits) (mask_l ys))
+  where
+    joined : (c m p y : ℕ) → c + 2 * (m + p * y) ≡ c + 2 * m + 2 * p * y
+    joined c m p y = grind arith
+
+-- the sixteen bytes' bits and the topmost one
+pub with_top : (text : List ℕ) → 16 ≤ length text → mask_l (map is_no_digit (take 16 text)) + 9_223_372_036_854_775_808 ≡ mask_l (bits_of 16 text)
+with_top text within =
+    let long : length (map is_no_digit (take 16 text)) ≡ 16 = length-map (take 16 text) is_no_digit ∙ length-take-le 16 text within in
+    sym (mask_join (map is_no_digit (take 16 text)) above ∙ ap (λ n. mask_l (map is_no_digit (take 16 text)) + 2 ^ n * mask_l above) long)
+
+pub below_top : (text : List ℕ) → 16 ≤ length text → mask_l (map is_no_digit (take 16 text)) < 65_536
+below_top text within =
+    subst (λ n. mask_l (map is_no_digit (take 16 text)) < 2 ^ n) (length-map (take 16 text) is_no_digit ∙ length-take-le 16 text within) (mask_l-lt (map is_no_digit (take 16 text)))
 
 without_first : (b : Bool) (n : ℕ) → (cond b 1 0 + 2 * n) / 2 ≡ n
 without_first true n = omega arith
@@ -102,33 +137,30 @@ mask_drop (b ∷ bits) (suc k) =
     ∙ ap (λ x. x / 2 ^ k) (without_first b (mask_l bits)) ∙ mask_drop bits k
 
 -- the bits above those of the first `a` bytes are the bits of what stands behind these
-pub mask_behind : (text : List ℕ) (a k mask : ℕ) → mask ≡ mask_l (map is_no_digit (take (a + k) text)) → mask / 2 ^ a ≡ mask_l (map is_no_digit (take k (drop a text)))
-mask_behind text a k mask is =
-    ap (λ x. x / 2 ^ a) is ∙ mask_drop (map is_no_digit (take (a + k) text)) a ∙ ap mask_l (drop-map is_no_digit a (take (a + k) text))
-    ∙ ap (λ l. mask_l (map is_no_digit l)) (drop-take a k text)
+pub mask_behind : (text : List ℕ) (a k mask : ℕ) → a ≤ length text → mask ≡ mask_l (bits_of (a + k) text) → mask / 2 ^ a ≡ mask_l (bits_of k (drop a text))
+mask_behind text a k mask within is =
+    let bits = map is_no_digit (take (a + k) text) in
+    let room : a ≤ length bits = omega (arith, within, length-map (take (a + k) text) is_no_digit, length-take (a + k) text) in
+    ap (λ x. x / 2 ^ a) is ∙ mask_drop (bits ++ above) a ∙ ap mask_l (drop-append-le a bits above room)
+    ∙ ap (λ l. mask_l (l ++ above)) (drop-map is_no_digit a (take (a + k) text) ∙ ap (map is_no_digit) (drop-take a k text))
 
--- how many digits the bits say, where they say some
-pub first_run : (text : List ℕ) (mask : ℕ) → 16 ≤ length text → mask ≡ mask_l (map is_no_digit (take 16 text)) → 0 < mask
+-- the first run of digits, and a second behind one byte more
+pub first_run : (text : List ℕ) (mask : ℕ) → 16 ≤ length text → mask ≡ mask_l (bits_of 16 text) → count_trailing_zeros 64 mask ≤ 5
     → list_all is_ascii_digit (take (count_trailing_zeros 64 mask) text) ≡ true
-first_run text mask within is some = digits_before text 16 (count_trailing_zeros 64 mask) mask (omega arith) within is some refl
+first_run text mask within is few = digits_before text 16 (count_trailing_zeros 64 mask) mask (omega arith) within is refl few
 
--- the same of a second run, behind the first and one byte more
-pub second_bits : (text : List ℕ) (mask a : ℕ) → a ≤ 5 → mask ≡ mask_l (map is_no_digit (take 16 text))
-    → mask / 2 ^ (a + 1) ≡ mask_l (map is_no_digit (take (15 - a) (drop (a + 1) text)))
-second_bits text mask a few is =
-    let whole : 16 ≡ a + 1 + (15 - a) = omega (arith, few) in
-    mask_behind text (a + 1) (15 - a) mask (is ∙ ap (λ k. mask_l (map is_no_digit (take k text))) whole)
-
-pub second_run : (text : List ℕ) (mask a : ℕ) → 16 ≤ length text → a ≤ 5 → mask ≡ mask_l (map is_no_digit (take 16 text)) → 0 < mask / 2 ^ (a + 1)
+pub second_run : (text : List ℕ) (mask a : ℕ) → 16 ≤ length text → a ≤ 5 → mask ≡ mask_l (bits_of 16 text) → count_trailing_zeros 64 (mask / 2 ^ (a + 1)) ≤ 5
     → list_all is_ascii_digit (take (count_trailing_zeros 64 (mask / 2 ^ (a + 1))) (drop (a + 1) text)) ≡ true
-second_run text mask a within few is some =
+second_run text mask a within near is few =
+    let whole : 16 ≡ a + 1 + (15 - a) = omega (arith, near) in
+    let bits = mask_behind text (a + 1) (15 - a) mask (omega (arith, within, near)) (is ∙ ap (λ k. mask_l (bits_of k text)) whole) in
     digits_before (drop (a + 1) text) (15 - a) (count_trailing_zeros 64 (mask / 2 ^ (a + 1))) (mask / 2 ^ (a + 1)) (omega arith)
-    (omega (arith, within, few, length-drop (a + 1) text)) (second_bits text mask a few is) some refl
+    (omega (arith, within, near, length-drop (a + 1) text)) bits refl few
 
 -- and the bits behind both
-pub third_bits : (text : List ℕ) (mask a b : ℕ) → a ≤ 5 → b ≤ 5 → mask ≡ mask_l (map is_no_digit (take 16 text))
-    → mask / 2 ^ (a + 1) / 2 ^ (b + 1) ≡ mask_l (map is_no_digit (take (14 - (a + b)) (drop (b + 1) (drop (a + 1) text))))
-third_bits text mask a b few short is =
-    let whole : 15 - a ≡ b + 1 + (14 - (a + b)) = omega (arith, few, short) in
-    mask_behind (drop (a + 1) text) (b + 1) (14 - (a + b)) (mask / 2 ^ (a + 1))
-    (second_bits text mask a few is ∙ ap (λ k. mask_l (map is_no_digit (take k (drop (a + 1) text)))) whole)
+pub third_bits : (text : List ℕ) (mask a b : ℕ) → 16 ≤ length text → a ≤ 5 → b ≤ 5 → mask ≡ mask_l (bits_of 16 text)
+    → mask / 2 ^ (a + 1 + (b + 1)) ≡ mask_l (bits_of (14 - (a + b)) (drop (b + 1) (drop (a + 1) text)))
+third_bits text mask a b within near short is =
+    let whole : 16 ≡ a + 1 + (b + 1) + (14 - (a + b)) = omega (arith, near, short) in
+    mask_behind text (a + 1 + (b + 1)) (14 - (a + b)) mask (omega (arith, within, near, short)) (is ∙ ap (λ k. mask_l (bits_of k text)) whole)
+    ∙ ap (λ l. mask_l (bits_of (14 - (a + b)) l)) (sym (drop-drop (b + 1) (a + 1) text))

@@ -1,11 +1,20 @@
 -- Bytes that are no digits, and eight bytes or digits as one number.
-use Rattle.std.specs.Prelude.{ℕ, ◌+◌, ◌*◌, Bool, not, List, get_or}
+use Rattle.std.specs.Prelude.{ℕ, ◌+◌, ◌*◌, Bool, true, false, not, List, [], ◌∷◌, ◌++◌, map, take, get_or, replicate}
 use Rattle.std.specs.Char.{is_ascii_digit}
 
 -- A byte that is no digit.
 --   of "7 ": no for "7", and yes for the space
 abbrev pub is_no_digit : ℕ → Bool
 is_no_digit b = not (is_ascii_digit b)
+
+-- What stands in a word above the bits of sixteen bytes: the topmost bit is set, so that no word is 0.
+abbrev pub above : List Bool
+above = replicate 47 false ++ true ∷ []
+
+-- Which of a text's first k bytes are no digits, and the bits above.
+--   of "7 2/", 4 bytes: no, yes, no, yes, and then those above
+abbrev pub bits_of : ℕ → List ℕ → List Bool
+bits_of k text = map is_no_digit (take k text) ++ above
 
 -- Eight bytes as a word, byte 0 the lowest.
 --   a word of bytes 1, 0, 0, .. is 1, and one of bytes 0, 1, 0, .. is 256

@@ -1,5 +1,5 @@
 -- The line that a text begins with, and its words, by how many bytes they have.
-use Rattle.std.specs.Prelude.{ℕ, ◌≡◌, ◌+◌, ◌-◌, ◌^◌, ◌≤◌, ◌<◌, true, List, [], ◌∷◌, length, map, take, drop, get_or, min, Some}
+use Rattle.std.specs.Prelude.{ℕ, ◌≡◌, ◌+◌, ◌-◌, ◌^◌, ◌≤◌, ◌<◌, true, List, [], ◌∷◌, length, take, drop, get_or, min, Some}
 use Rattle.std.specs.List.{list_all}
 use Rattle.std.specs.Option.{option_map}
 use Rattle.std.specs.Char.{is_ascii_digit}
@@ -8,7 +8,7 @@ use Rattle.mtx_text.specs.declared.integer.Integer.{Integer}
 use Rattle.std.specs.Simd.Lanes.{mask_l}
 use Rattle.mtx_text.specs.declared.plain.Digits.{Digits}
 use Rattle.mtx_text.specs.declared.plain.Two.{Two}
-use Rattle.mtx_text.specs.DigitLanes.{is_no_digit}
+use Rattle.mtx_text.specs.DigitLanes.{bits_of}
 use Rattle.mtx_text.specs.Lines.{lines_of, words_of}
 use Rattle.mtx_text.specs.Integers.{integer_of}
 use Rattle.mtx_text.specs.Capped.{capped}
@@ -65,4 +65,4 @@ pub record FrontAt (text : List ℕ) (two : Two) (rest : List ℕ) : Type 0 wher
   pub column : DigitsTo 32 (drop (two.row.len + 1) text) two.column.len two.column.size
   pub behind : rest ≡ drop (two.column.len + 1) (drop (two.row.len + 1) text)
   pub room : 22 ≤ length rest + (two.row.len + two.column.len)
-  pub others : two.others ≡ mask_l (map is_no_digit (take (14 - (two.row.len + two.column.len)) rest))
+  pub others : two.others ≡ mask_l (bits_of (14 - (two.row.len + two.column.len)) rest)

@@ -4,23 +4,24 @@ ghost use Rattle.std.specs.List.{list_all};
 ghost use Rattle.std.specs.Char.{is_ascii_digit};
 ghost use Rattle.std.specs.Simd.Lanes.{mask_l};
 ghost use Rattle.mtx_text.specs.PlainLines.{NumberTo};
-ghost use Rattle.mtx_text.specs.DigitLanes.{is_no_digit, word_of, word_from, number_from};
+ghost use Rattle.mtx_text.specs.DigitLanes.{is_no_digit, bits_of, word_of, word_from, number_from};
 
 use std::simd::prelude::*;
 
 /// Eight digits 0.
 const ZEROS: u64 = 0x3030_3030_3030_3030;
 
-/// Which of the first sixteen bytes are no digits: the bit of the first byte is the lowest.
+/// Which of the first sixteen bytes are no digits: the bit of the first byte is the lowest. The topmost bit is set, too, so that
+/// no search for the lowest one asks whether there is any.
 #[inline(always)]
 pub(crate) fn no_digits(text: &[u8]) -> u64
     requires { 16 ≤ length text.now }
-    ensures { result ≡ mask_l (map is_no_digit (take 16 text.now)) }
+    ensures { result ≡ mask_l (bits_of 16 text.now) }
 {
-    no_digits_in(u8x16::from_slice(text))
+    no_digits_in(u8x16::from_slice(text)) + (1 << 63)
 }
 
-/// The same of sixteen bytes in a vector.
+/// Which of the bytes in a vector are no digits.
 #[inline(always)]
 fn no_digits_in(lanes: u8x16) -> u64
     ensures { result ≡ mask_l (map is_no_digit lanes) }

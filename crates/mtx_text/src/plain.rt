@@ -1,6 +1,6 @@
 //! Plain entry lines, read in one pass: numbers of few digits, one space between two of them, and LF, or CR and LF,
 //! at once behind the last. Most texts have no other lines; whatever isn't of this form is read the general way.
-ghost use Rattle.std.specs.Prelude.{◌≡◌, ◌<◌, ◌≤◌, true, false, Some, ◌+◌, ◌-◌, length, map, take, drop, min, IfSome, IfOk, IfErr};
+ghost use Rattle.std.specs.Prelude.{◌≡◌, ◌<◌, ◌≤◌, true, false, Some, ◌+◌, ◌-◌, length, take, drop, min, IfSome, IfOk, IfErr};
 ghost use Rattle.std.specs.List.{list_all};
 ghost use Rattle.std.specs.Option.{option_map};
 ghost use Rattle.std.specs.Char.{is_ascii_digit};
@@ -10,7 +10,7 @@ ghost use Rattle.mtx_text.specs.declared.kind.Kind.TheVariants as Kind;
 ghost use Rattle.mtx_text.specs.Lines.{words_of, is_skipped};
 ghost use Rattle.mtx_text.specs.Grammar.{fields_of};
 ghost use Rattle.mtx_text.specs.Capped.{read_three};
-ghost use Rattle.mtx_text.specs.DigitLanes.{is_no_digit};
+ghost use Rattle.mtx_text.specs.DigitLanes.{bits_of};
 ghost use Rattle.mtx_text.specs.PlainLines.{LineAt, DigitsTo, DigitsEnd, LastAt, IsRead, FrontAt};
 
 use crate::digit_lanes::{no_digits, number_of};
@@ -95,14 +95,10 @@ pub(crate) fn front_of_three(text: &[u8]) -> Option<Front<'_>>
 pub(crate) fn short_value(front: Front<'_>) -> Option<Last>
     requires few { front.two.row.len + front.two.column.len ≤ 10 }
     requires room { 22 ≤ length front.rest.now + (front.two.row.len + front.two.column.len) }
-    requires others { front.two.others ≡ mask_l (map is_no_digit (take (14 - (front.two.row.len + front.two.column.len)) front.rest.now)) }
+    requires others { front.two.others ≡ mask_l (bits_of (14 - (front.two.row.len + front.two.column.len)) front.rest.now) }
     ensures { IfSome result (λ last. LastAt front.entry.rest.now last.len last.next last.value) }
 {
-    let others = front.two.others;
-    if others == 0 {
-        return None;
-    }
-    let len = others.trailing_zeros() as usize;
+    let len = front.two.others.trailing_zeros() as usize;
     if len == 0 || len > FEW_DIGITS {
         return None;
     }
@@ -166,24 +162,17 @@ fn two_numbers(text: &[u8]) -> Option<Two>
     ensures some { IfSome result (λ two. 0 < two.column.len) }
     ensures column { IfSome result (λ two. IsRead (drop (two.row.len + 1) text.now) two.column) }
     ensures others { IfSome result (λ two. two.others
-        ≡ mask_l (map is_no_digit (take (14 - (two.row.len + two.column.len)) (drop (two.column.len + 1) (drop (two.row.len + 1) text.now))))) }
+        ≡ mask_l (bits_of (14 - (two.row.len + two.column.len)) (drop (two.column.len + 1) (drop (two.row.len + 1) text.now)))) }
 {
     if text.len() < WINDOW {
         return None;
     }
     let others = no_digits(text);
-    if others == 0 {
-        return None;
-    }
     let len = others.trailing_zeros() as usize;
     if len == 0 || len > FEW_DIGITS || text[len] != b' ' {
         return None;
     }
-    let beyond = others >> (len + 1);
-    if beyond == 0 {
-        return None;
-    }
-    let width = beyond.trailing_zeros() as usize;
+    let width = (others >> (len + 1)).trailing_zeros() as usize;
     if width == 0 || width > FEW_DIGITS {
         return None;
     }
@@ -198,7 +187,7 @@ fn two_numbers(text: &[u8]) -> Option<Two>
     Some(Two {
         row,
         column,
-        others: beyond >> (width + 1),
+        others: others >> (len + 1 + (width + 1)),
     })
 }
 

@@ -8,7 +8,8 @@ use Rattle.mtx_text.proofs.plain.short_value.Goals as goal
 pub number_of-requires-clause-digits : goal.number_of-requires-clause-digits
 number_of-requires-clause-digits c =
     let two = c.args.front.two in
-    digits_before c.args.front.rest.now (14 - (two.row.len + two.column.len)) (count_trailing_zeros 64 two.others) two.others (omega arith) (omega (arith, c.requires.room)) c.requires.others (omega (arith, c.if-others-eq0.false)) refl
+    digits_before c.args.front.rest.now (14 - (two.row.len + two.column.len)) (count_trailing_zeros 64 two.others) two.others (omega arith) (omega (arith, c.requires.room)) c.requires.others refl
+    (omega (arith, c.if-len-gt-FEW_DIGITS.false))
 
 pub returns : goal.returns
 returns c =

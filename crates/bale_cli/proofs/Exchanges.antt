@@ -10,10 +10,10 @@ use Rattle.bale_words.specs.Values.{slot_counts, buffer_sizes}
 use Rattle.rank_node.specs.declared.via.Via.TheVariants as via
 use Rattle.bale_words.specs.declared.command.Transport.{Transport}
 use Rattle.bale_words.specs.declared.command.Transport.TheVariants.{Convey, Exstack, Biconvey}
-use Rattle.bale_cli.specs.declared.subject.Subject.{Subject}
-use Rattle.bale_cli.specs.declared.unfit.Unfit.{Unfit}
-use Rattle.bale_cli.specs.declared.unfit.Unfit.TheVariants as unfit
-use Rattle.bale_cli.specs.Fitness.{is_exstack, first_failed, subject_tests, unfitness}
+use Rattle.bale_subjects.specs.declared.subject.Subject.{Subject}
+use Rattle.bale_subjects.specs.declared.unfit.Unfit.{Unfit}
+use Rattle.bale_subjects.specs.declared.unfit.Unfit.TheVariants as unfit
+use Rattle.bale_subjects.specs.Fitness.{is_exstack, first_failed, subject_tests, unfitness}
 use Rattle.bale_cli.specs.Jobs.{via_of}
 
 pub is_capacity : (cap : ℕ) → list_any (λ size. size == cap) buffer_sizes ≡ true → IsCapacity cap

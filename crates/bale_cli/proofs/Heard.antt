@@ -32,11 +32,11 @@ use Rattle.bale_words.specs.declared.command.Task.{Task}
 use Rattle.bale_words.specs.declared.command.Task.TheVariants as task
 use Rattle.bale_words.specs.declared.command.Transport.{Transport}
 use Rattle.bale_words.specs.declared.command.Transport.TheVariants.{Convey, Exstack, Biconvey}
-use Rattle.bale_cli.specs.declared.subject.Subject.{Subject}
-use Rattle.bale_cli.specs.declared.subject.Subject.TheVariants as subject
+use Rattle.bale_subjects.specs.declared.subject.Subject.{Subject}
+use Rattle.bale_subjects.specs.declared.subject.Subject.TheVariants as subject
 use Rattle.bale_cli.specs.Asking.{TellsAsking, TurnsBy, TurnsOfAsking, TurnsOfCommand}
 use Rattle.bale_cli.specs.Jobs.{by_asking, is_biconvey, is_ig}
-use Rattle.bale_cli.specs.Tasks.{Tells, WithinTurns}
+use Rattle.bale_cli.specs.Runs.{Tells, WithinTurns}
 use Rattle.bale_cli.proofs.Cases.{DriveTells, tells, turns, none_made}
 
 -- ---- Which commands

@@ -5,7 +5,3 @@ pub mod Exchanges
 pub mod Heard
 pub mod Orders
 pub mod Outcomes
-pub mod Read
-pub mod Reasons
-pub mod Renumbering
-pub mod Served

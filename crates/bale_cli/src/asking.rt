@@ -11,20 +11,18 @@ ghost use Rattle.app_histo_ig.specs.SumsRuns.{sums_starts};
 ghost use Rattle.app_histo_ig.specs.AskingRuns.{AreAskersOf};
 ghost use Rattle.app_histo_ig.specs.ColumnAnswers.{IgHeard};
 ghost use Rattle.bale_words.specs.Ranges.{InRanges};
-ghost use Rattle.bale_cli.specs.Answer.{HasWritten, shown};
+ghost use Rattle.bale_answers.specs.Answer.{HasWritten, shown};
 ghost use Rattle.bale_cli.specs.Asking.{TellsAsking, TellsBy, TurnsBy, TurnsOfAsking};
 ghost use Rattle.bale_cli.specs.Jobs.{by_asking};
-ghost use Rattle.bale_cli.specs.Subjects.{suits};
-ghost use Rattle.bale_cli.specs.Tasks.{IsAnswer, IsMatrixAnswer, made_for, matrix_status, task_status};
+ghost use Rattle.bale_subjects.specs.Subjects.{suits};
+ghost use Rattle.bale_answers.specs.Tasks.{IsAnswer, IsMatrixAnswer, matrix_status, task_status};
+ghost use Rattle.bale_cli.specs.Runs.{made_for};
 
-use crate::column_answers::IgHeardAnswer;
 use crate::exchange::Finish;
-use crate::finish::{Ending, written_as};
-use crate::numberings::in_order;
-use crate::refusal::Refusal;
-use crate::subject::Subject;
 use app_cases::{AnyProgram, put_all, take_all};
 use app_histo_ig::{IgAsker, IgSums, ig_askers, ig_sums_start};
+use bale_answers::{Ending, finished_by_asking};
+use bale_subjects::{Refusal, Subject, in_order};
 use bale_types::{NoMemory, Sink};
 use bale_words::{Command, Task, Travel};
 use biconvey::{bi_serial, bi_threads};
@@ -233,13 +231,7 @@ fn told<K: Sink>(command: &Command, m: &Matrix, run: Finished<IgAsker>, out: &mu
 {
     let Finished { progs, rounds } = run;
     let generated = command.travel.generated;
-    let Ending { status, written } = written_as::<IgHeardAnswer, K>(
-        &command.task,
-        m,
-        &progs,
-        generated,
-        out,
-    );
+    let Ending { status, written } = finished_by_asking(m, &progs, generated, out);
     Finish {
         status,
         written,

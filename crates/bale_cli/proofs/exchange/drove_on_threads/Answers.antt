@@ -5,8 +5,8 @@ use Rattle.round_program.specs.Canonical.{InRound, EndsWithin, HaveEnded}
 use Rattle.rank_group.specs.declared.closed_round.ClosedRound.{ClosedRound}
 use Rattle.app_cases.specs.Any.{AnyState, any_rules}
 use Rattle.bale_cli.specs.Jobs.{manner_for}
-use Rattle.bale_cli.specs.Starts.{starts_of}
-use Rattle.bale_cli.specs.Tasks.{made_for, TellsTask}
+use Rattle.bale_answers.specs.Starts.{starts_of}
+use Rattle.bale_cli.specs.Runs.{made_for, TellsTask}
 use Rattle.rank_node.specs.Movers.{manner_of}
 use Rattle.bale_cli.proofs.Cases.{DriveTells, rounds_as, tells_task}
 use Rattle.bale_cli.proofs.Exchanges.{is_capacity, is_slots}

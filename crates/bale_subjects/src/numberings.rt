@@ -46,11 +46,7 @@ fn are_from_1(numbers: &[u32]) -> bool
 ///
 /// # Errors
 /// `NoMemory` where the list found none.
-pub fn new_numbers(
-    alloc: Global,
-    n: u32,
-    numbers: &Option<Numbers>,
-) -> Result<Vec<u32>, NoMemory>
+pub fn new_numbers(alloc: Global, n: u32, numbers: &Option<Numbers>) -> Result<Vec<u32>, NoMemory>
     ensures { IfOk result (λ p. p.items ≡ new_numbers n numbers.now) }
 {
     match numbers {

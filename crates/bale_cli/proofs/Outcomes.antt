@@ -4,7 +4,7 @@ use Rattle.bale_types.specs.Stream.{after, IsFront}
 use Rattle.bale_types.proofs.Moves.{after-nil, front_same}
 use Rattle.rank_group.specs.declared.closed_round.ClosedRound.{ClosedRound}
 use Rattle.bale_words.specs.declared.command.Command.{Command}
-use Rattle.bale_cli.specs.declared.exchange.Finish.{Finish}
+use Rattle.bale_runs.specs.declared.exchange.Finish.{Finish}
 use Rattle.bale_subjects.specs.declared.refusal.Refusal.{Refusal}
 use Rattle.bale_subjects.specs.declared.refusal.Refusal.TheVariants as refusal
 use Rattle.bale_answers.specs.Answer.{Answer, Wrote, answer_to, said}

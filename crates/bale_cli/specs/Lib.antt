@@ -1,4 +1,1 @@
-pub mod Asking
-pub mod Jobs
 pub mod Outcomes
-pub mod Runs

@@ -7,11 +7,11 @@ ghost use Rattle.bale_words.specs.Words.{command_of};
 ghost use Rattle.bale_answers.specs.Answer.{serial_answer, said, Asked, Wrote};
 ghost use Rattle.bale_subjects.specs.Refusals.{refusal_text, status_of};
 ghost use Rattle.bale_subjects.specs.Reading.{reads, Told};
-ghost use Rattle.bale_cli.specs.Asking.{TellsCommand, TurnsOfCommand};
-ghost use Rattle.bale_cli.specs.Jobs.{as_asked, on_one_thread};
+ghost use Rattle.bale_runs.specs.Asking.{TellsCommand, TurnsOfCommand};
+ghost use Rattle.bale_runs.specs.Jobs.{as_asked, on_one_thread};
 ghost use Rattle.bale_cli.specs.Outcomes.{Answered};
 
-use crate::exchange::{Finish, drives_serially, ran, ran_serially};
+use bale_runs::{Finish, drives_serially, ran, ran_serially};
 use bale_subjects::{Refusal, Subject, read_words, report, subject_for};
 use bale_types::{Sink, Source};
 use bale_words::Command;

@@ -34,10 +34,10 @@ use Rattle.bale_words.specs.declared.command.Transport.{Transport}
 use Rattle.bale_words.specs.declared.command.Transport.TheVariants.{Convey, Exstack, Biconvey}
 use Rattle.bale_subjects.specs.declared.subject.Subject.{Subject}
 use Rattle.bale_subjects.specs.declared.subject.Subject.TheVariants as subject
-use Rattle.bale_cli.specs.Asking.{TellsAsking, TurnsBy, TurnsOfAsking, TurnsOfCommand}
-use Rattle.bale_cli.specs.Jobs.{by_asking, is_biconvey, is_ig}
-use Rattle.bale_cli.specs.Runs.{Tells, WithinTurns}
-use Rattle.bale_cli.proofs.Cases.{DriveTells, tells, turns, none_made}
+use Rattle.bale_runs.specs.Asking.{TellsAsking, TurnsBy, TurnsOfAsking, TurnsOfCommand}
+use Rattle.bale_runs.specs.Jobs.{by_asking, is_biconvey, is_ig}
+use Rattle.bale_runs.specs.Runs.{Tells, WithinTurns}
+use Rattle.bale_runs.proofs.Cases.{DriveTells, tells, turns, none_made}
 
 -- ---- Which commands
 

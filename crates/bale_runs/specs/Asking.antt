@@ -17,8 +17,8 @@ use Rattle.biconvey.specs.Worlds.{turns_of}
 use Rattle.bale_words.specs.declared.command.Command.{Command}
 use Rattle.bale_subjects.specs.declared.subject.Subject.{Subject}
 use Rattle.bale_subjects.specs.declared.subject.Subject.TheVariants as subject
-use Rattle.bale_cli.specs.Jobs.{by_asking, manner_for}
-use Rattle.bale_cli.specs.Runs.{made_for, Tells, TellsTask, TurnsOfTask}
+use Rattle.bale_runs.specs.Jobs.{by_asking, manner_for}
+use Rattle.bale_runs.specs.Runs.{made_for, Tells, TellsTask, TurnsOfTask}
 
 -- The rounds of ig by queries and replies are three closed rounds. The first tells the one round on conveyors in which the columns
 -- are summed. The others tell the queries, of each entry's rank for its column, and the replies, over two more banks of the same make.

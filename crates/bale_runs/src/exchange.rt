@@ -4,14 +4,14 @@ ghost use Rattle.bale_types.specs.Stream.{HasCause, IsFront};
 ghost use Rattle.round_program.specs.Canonical.{HaveEnded};
 ghost use Rattle.app_cases.specs.Any.{any_rules};
 ghost use Rattle.bale_words.specs.Ranges.{InRanges};
-ghost use Rattle.bale_cli.specs.Asking.{TellsCommand, TurnsOfCommand};
-ghost use Rattle.bale_cli.specs.Jobs.{as_asked, by_asking, via_of, manner_for};
+ghost use Rattle.bale_runs.specs.Asking.{TellsCommand, TurnsOfCommand};
+ghost use Rattle.bale_runs.specs.Jobs.{as_asked, by_asking, via_of, manner_for};
 ghost use Rattle.bale_answers.specs.Answer.{HasWritten, shown};
 ghost use Rattle.bale_subjects.specs.Fitness.{unfitness};
 ghost use Rattle.bale_answers.specs.Starts.{starts_of};
 ghost use Rattle.bale_subjects.specs.Subjects.{suits};
 ghost use Rattle.bale_answers.specs.Tasks.{IsAnswer, task_status};
-ghost use Rattle.bale_cli.specs.Runs.{made_for, TellsTask, TurnsOfTask};
+ghost use Rattle.bale_runs.specs.Runs.{made_for, TellsTask, TurnsOfTask};
 
 use crate::asking::{asked_on_threads, asked_serially};
 use app_cases::AnyProgram;
@@ -29,14 +29,21 @@ use std::thread::Threads;
 
 /// A run that came to its end: the answer's status, whether it was written, and what was exchanged.
 #[derive(Drop)]
-pub(crate) struct Finish {
-    pub(crate) status: u8,
-    pub(crate) written: Result<(), Failed>,
-    pub(crate) rounds: Rounds,
+pub struct Finish {
+    /// 0, or 1 where topo finds no order
+    pub status: u8,
+    /// An error where a write failed
+    pub written: Result<(), Failed>,
+    /// One closed round, or three for ig over biconvey
+    pub rounds: Rounds,
 }
 
-/// Runs the command for its subject, all ranks on this thread, and writes its answer.
-pub(crate) fn ran_serially<K: Sink, L: Ledger>(
+/// Runs the command for its subject, all ranks on this thread, and writes its answer. Each turn of a rank raises `steps` by one.
+/// It always returns.
+///
+/// # Errors
+/// `NoMemory` where the programs, the drive or the answer found none: then nothing is written.
+pub fn ran_serially<K: Sink, L: Ledger>(
     alloc: Global,
     command: &Command,
     subject: &Subject,
@@ -180,8 +187,12 @@ fn drove_on_threads<R: Threads + Wait + Sync, K: Sink, G: Gate + Sync>(
     told(alloc, command, subject, run, out)
 }
 
-/// Runs the command for its subject as its words ask, and writes its answer.
-pub(crate) fn ran<R: Threads + Wait + Sync, K: Sink, G: Gate + Sync>(
+/// Runs the command for its subject as its words ask, each rank on a thread of its own or all on this one, and writes its answer.
+/// Before each turn of a rank's thread the gate is told of it. It waits for its threads, and returns where they do.
+///
+/// # Errors
+/// `NoMemory` where the programs, the drive or the answer found none: then nothing is written.
+pub fn ran<R: Threads + Wait + Sync, K: Sink, G: Gate + Sync>(
     rt: &R,
     alloc: Global,
     command: &Command,
@@ -216,7 +227,7 @@ fn by_asking(command: &Command) -> bool
 }
 
 /// Whether the words ask for one thread.
-pub(crate) fn drives_serially(command: &Command) -> bool
+pub fn drives_serially(command: &Command) -> bool
     ensures { result ≡ as_asked command.now }
 {
     matches!(command.travel.driving, Driving::Serial)

@@ -1,5 +1,5 @@
-use Rattle.bale_cli.proofs.Exchanges.{is_capacity, is_slots}
-use Rattle.bale_cli.proofs.asking.asked_serially.Goals as goal
+use Rattle.bale_runs.proofs.Exchanges.{is_capacity, is_slots}
+use Rattle.bale_runs.proofs.asking.asked_serially.Goals as goal
 
 pub heard_serially-requires-clause-capacity : goal.heard_serially-requires-clause-capacity
 heard_serially-requires-clause-capacity g c = is_capacity c.args.command.now.travel.buffer c.requires.ranges.travel.buffer

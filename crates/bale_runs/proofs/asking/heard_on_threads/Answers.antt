@@ -7,10 +7,10 @@ use Rattle.app_cases.specs.Cases.{sums_case}
 use Rattle.app_histo_ig.specs.SumsRuns.{sums_starts}
 use Rattle.app_histo_ig.specs.AskingRuns.{AreAskersOf}
 use Rattle.biconvey.proofs.Asked.{they_ask}
-use Rattle.bale_cli.proofs.Heard.{all_heard, sums_at, tells_asking}
-use Rattle.bale_cli.proofs.asking.heard_on_threads.Given.{Over}
-use Rattle.bale_cli.proofs.asking.heard_on_threads.Goals.{In_ok-progs}
-use Rattle.bale_cli.proofs.asking.heard_on_threads.Goals as goal
+use Rattle.bale_runs.proofs.Heard.{all_heard, sums_at, tells_asking}
+use Rattle.bale_runs.proofs.asking.heard_on_threads.Given.{Over}
+use Rattle.bale_runs.proofs.asking.heard_on_threads.Goals.{In_ok-progs}
+use Rattle.bale_runs.proofs.asking.heard_on_threads.Goals as goal
 
 pub summing-requires-clause-some : goal.summing-requires-clause-some
 summing-requires-clause-some g c = subst (λ n. 1 ≤ n) (sym c.ranks.ensures.value) (ranks_some c.args.grid.now c.ranks.ensures.grid.positive)

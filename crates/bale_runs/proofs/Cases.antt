@@ -23,14 +23,14 @@ use Rattle.delta_step.specs.DeltaRuns.{delta_starts}
 use Rattle.app_cases.specs.Any.{AnyState, any_rules}
 use Rattle.app_cases.specs.Cases.{histo_is_case, ig_is_case, permute_is_case, transpose_is_case, topo_is_case, tally_is_case, sssp_is_case, delta_is_case}
 use Rattle.app_cases.proofs.Driving.{steps, are_cases, ended, rounds}
-use Rattle.bale_cli.specs.declared.exchange.Finish.{Finish}
+use Rattle.bale_runs.specs.declared.exchange.Finish.{Finish}
 use Rattle.bale_subjects.specs.declared.refusal.Refusal.{Refusal}
 use Rattle.bale_subjects.specs.Numberings.{perms_for}
 use Rattle.bale_subjects.specs.declared.subject.Subject.{Subject}
 use Rattle.bale_subjects.specs.declared.subject.Subject.TheVariants as subject
 use Rattle.bale_answers.specs.Starts.{matrix_starts, starts_of}
 use Rattle.bale_subjects.specs.Subjects.{is_tally, suits}
-use Rattle.bale_cli.specs.Runs.{Tells, TellsMatrix, TellsTask, WithinTurns, TurnsOfMatrix, TurnsOfTask}
+use Rattle.bale_runs.specs.Runs.{Tells, TellsMatrix, TellsTask, WithinTurns, TurnsOfMatrix, TurnsOfTask}
 
 -- What a drive tells of its programs.
 abbrev pub DriveTells : List AnyState → Made → Manner → List ClosedRound → Type 0

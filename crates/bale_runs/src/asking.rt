@@ -12,11 +12,11 @@ ghost use Rattle.app_histo_ig.specs.AskingRuns.{AreAskersOf};
 ghost use Rattle.app_histo_ig.specs.ColumnAnswers.{IgHeard};
 ghost use Rattle.bale_words.specs.Ranges.{InRanges};
 ghost use Rattle.bale_answers.specs.Answer.{HasWritten, shown};
-ghost use Rattle.bale_cli.specs.Asking.{TellsAsking, TellsBy, TurnsBy, TurnsOfAsking};
-ghost use Rattle.bale_cli.specs.Jobs.{by_asking};
+ghost use Rattle.bale_runs.specs.Asking.{TellsAsking, TellsBy, TurnsBy, TurnsOfAsking};
+ghost use Rattle.bale_runs.specs.Jobs.{by_asking};
 ghost use Rattle.bale_subjects.specs.Subjects.{suits};
 ghost use Rattle.bale_answers.specs.Tasks.{IsAnswer, IsMatrixAnswer, matrix_status, task_status};
-ghost use Rattle.bale_cli.specs.Runs.{made_for};
+ghost use Rattle.bale_runs.specs.Runs.{made_for};
 
 use crate::exchange::Finish;
 use app_cases::{AnyProgram, put_all, take_all};

@@ -2,8 +2,8 @@ use Rattle.std.proofs.Common.{IfOk, subst}
 use Rattle.app_histo_ig.specs.SumsRuns.{sums_starts}
 use Rattle.app_histo_ig.specs.AskingRuns.{AreAskersOf}
 use Rattle.app_histo_ig.proofs.SumsAsked.{as_many}
-use Rattle.bale_cli.proofs.Heard.{some_starts, sums_ended}
-use Rattle.bale_cli.proofs.asking.asking.Goals as goal
+use Rattle.bale_runs.proofs.Heard.{some_starts, sums_ended}
+use Rattle.bale_runs.proofs.asking.asking.Goals as goal
 
 pub take_all-requires : goal.take_all-requires
 take_all-requires c =

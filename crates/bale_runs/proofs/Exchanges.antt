@@ -14,7 +14,7 @@ use Rattle.bale_subjects.specs.declared.subject.Subject.{Subject}
 use Rattle.bale_subjects.specs.declared.unfit.Unfit.{Unfit}
 use Rattle.bale_subjects.specs.declared.unfit.Unfit.TheVariants as unfit
 use Rattle.bale_subjects.specs.Fitness.{is_exstack, first_failed, subject_tests, unfitness}
-use Rattle.bale_cli.specs.Jobs.{via_of}
+use Rattle.bale_runs.specs.Jobs.{via_of}
 
 pub is_capacity : (cap : ℕ) → list_any (λ size. size == cap) buffer_sizes ≡ true → IsCapacity cap
 unfolding IsCapacity

@@ -4,16 +4,16 @@ use Rattle.route_tensor.specs.Grid.{ranks}
 use Rattle.round_program.specs.Canonical.{InRound, EndsWithin, HasRounds, HaveEnded}
 use Rattle.rank_group.specs.declared.closed_round.ClosedRound.{ClosedRound}
 use Rattle.app_cases.specs.Any.{AnyState, any_rules}
-use Rattle.bale_cli.specs.Jobs.{manner_for}
+use Rattle.bale_runs.specs.Jobs.{manner_for}
 use Rattle.bale_answers.specs.Starts.{starts_of}
-use Rattle.bale_cli.specs.Runs.{made_for, TellsTask}
+use Rattle.bale_runs.specs.Runs.{made_for, TellsTask}
 use Rattle.rank_node.specs.Movers.{manner_of}
 use Rattle.rank_group.specs.Told.{turns_within}
-use Rattle.bale_cli.proofs.Cases.{DriveTells, rounds_as, tells_task, turns_of_task}
-use Rattle.bale_cli.proofs.Exchanges.{is_capacity, is_slots}
-use Rattle.bale_cli.proofs.exchange.drove_serially.Given.{Over}
-use Rattle.bale_cli.proofs.exchange.drove_serially.Goals.{In_ok-progs}
-use Rattle.bale_cli.proofs.exchange.drove_serially.Goals as goal
+use Rattle.bale_runs.proofs.Cases.{DriveTells, rounds_as, tells_task, turns_of_task}
+use Rattle.bale_runs.proofs.Exchanges.{is_capacity, is_slots}
+use Rattle.bale_runs.proofs.exchange.drove_serially.Given.{Over}
+use Rattle.bale_runs.proofs.exchange.drove_serially.Goals.{In_ok-progs}
+use Rattle.bale_runs.proofs.exchange.drove_serially.Goals as goal
 
 pub started-requires-clause-some : goal.started-requires-clause-some
 started-requires-clause-some g c =

@@ -28,7 +28,9 @@ below_more i order order' v more =
 
 below_range : (n : ℕ) → Below n (range_with_len 0 n)
 below_range zero = below_none
-below_range (suc n) = below_more n (range_with_len 0 n) (range_with_len 0 (suc n)) (below_range n) (range_more n)
+below_range (suc n) =
+    let more : n + 1 ≡ suc n = omega arith in
+    subst (λ k. Below k (range_with_len 0 k)) more (below_more n (range_with_len 0 n) (range_with_len 0 (n + 1)) (below_range n) (range_more n))
 
 below_all : (n : ℕ) (order : List ℕ) → Below n order → IsOrder n order
 below_all n order v =

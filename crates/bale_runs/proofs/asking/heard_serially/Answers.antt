@@ -8,6 +8,7 @@ use Rattle.app_histo_ig.specs.SumsRuns.{sums_starts}
 use Rattle.app_histo_ig.specs.AskingRuns.{AreAskersOf}
 use Rattle.biconvey.proofs.Asked.{they_ask}
 use Rattle.bale_runs.proofs.Heard.{all_heard, sums_at, tells_asking, sums_turns, turns_of_both, turns_of_sums}
+use Rattle.bale_runs.proofs.Orders.{ordered}
 use Rattle.bale_runs.proofs.asking.heard_serially.Given.{Over}
 use Rattle.bale_runs.proofs.asking.heard_serially.Goals.{In_ok-progs}
 use Rattle.bale_runs.proofs.asking.heard_serially.Goals as goal
@@ -34,6 +35,10 @@ case_serial-requires-clause-begins g c =
     subst (λ n. (shape : List ℕ) × (most : ℕ) × InRound any_rules n 0 shape most c.in_ok-progs.progs × EndsWithin any_rules c.in_ok-progs.progs most) c.ranks.ensures.value
     c.in_ok-progs.ensures.begins
 
+pub case_serial-requires-clause-order : goal.case_serial-requires-clause-order
+case_serial-requires-clause-order g c =
+    ordered c.ranks-2.result (ranks c.args.grid.now) c.deref.result.now (c.deref.ensures.value ∙ c.in_ok-order.ensures) c.ranks-2.ensures.value
+
 pub asking-requires : goal.asking-requires
 asking-requires g c =
     let x = (goal.at.asking-requires g c).In_ok-progs in
@@ -44,6 +49,10 @@ bi_serial-requires-clause-askers g c =
     they_ask c.args.m.now (ranks c.args.grid.now) c.in_ok-askers.askers
     (c.in_ok-askers.ensures.askers (ranks c.args.grid.now) (some_ranks g (goal.at.bi_serial-requires-clause-askers g c).In_ok-progs)
     (sums_at c.args.m.now (ranks c.args.grid.now) c.in_ok-progs.progs c.in_ok-summed.summed.progs (are g (goal.at.bi_serial-requires-clause-askers g c).In_ok-progs) c.in_ok-summed.ensures.ended))
+
+pub bi_serial-requires-clause-order : goal.bi_serial-requires-clause-order
+bi_serial-requires-clause-order g c =
+    ordered c.ranks-2.result (ranks c.args.grid.now) c.deref-2.result.now (c.deref-2.ensures.value ∙ c.in_ok-order.ensures) c.ranks-2.ensures.value
 
 pub returns-clause-heard : goal.returns-clause-heard
 returns-clause-heard g c =

@@ -11,6 +11,7 @@ use Rattle.rank_node.specs.Movers.{manner_of}
 use Rattle.rank_group.specs.Told.{turns_within}
 use Rattle.bale_runs.proofs.Cases.{DriveTells, rounds_as, tells_task, turns_of_task}
 use Rattle.bale_runs.proofs.Exchanges.{is_capacity, is_slots}
+use Rattle.bale_runs.proofs.Orders.{ordered}
 use Rattle.bale_runs.proofs.exchange.drove_serially.Given.{Over}
 use Rattle.bale_runs.proofs.exchange.drove_serially.Goals.{In_ok-progs}
 use Rattle.bale_runs.proofs.exchange.drove_serially.Goals as goal
@@ -43,6 +44,10 @@ pub case_serial-requires-clause-begins : goal.case_serial-requires-clause-begins
 case_serial-requires-clause-begins g c =
     subst (λ n. (shape : List ℕ) × (most : ℕ) × InRound any_rules n 0 shape most c.in_ok-progs.progs × EndsWithin any_rules c.in_ok-progs.progs most) c.ranks.ensures.value
     c.in_ok-progs.ensures.begins
+
+pub case_serial-requires-clause-order : goal.case_serial-requires-clause-order
+case_serial-requires-clause-order g c =
+    ordered c.ranks-2.result (ranks c.args.command.now.grid) c.deref.result.now (c.deref.ensures.value ∙ c.in_ok-order.ensures) c.ranks-2.ensures.value
 
 pub told-requires-clause-ended : goal.told-requires-clause-ended
 told-requires-clause-ended g c =

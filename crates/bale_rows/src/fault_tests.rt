@@ -1,35 +1,30 @@
 //! Sources and sinks that fail.
-use crate::rig::{ONE, run_alone, told_alone, told_as_asked, words};
+use crate::rig::{
+    ONE, is_wanted, read_alone, read_as_asked, run_alone, words, written_alone, written_as_asked,
+};
 use bale_types::{MemSink, MemSource};
 use std::test::Fail;
 
+const READ_FAULT: &str = "3 bale: read fault\n";
+
+const ANSWER: &str = "0 1 1\n2 0\n3 3\n";
+
 #[test]
 fn a_source_that_fails_at_each_call(rt: HostRuntime) -> Result<(), Fail> {
+    let alloc = rt.alloc();
     for call in 1..=10 {
-        let mut source = MemSource::new(rt.alloc(), ONE, 10, &[call])?;
-        let mut out = MemSink::new(rt.alloc(), 100, 100, &[])?;
-        let want = if call < 10 {
-            "3 bale: read fault\n"
-        } else {
-            "0 1 1\n2 0\n3 3\n"
-        };
-        assert_eq!(rt;
-            told_alone(rt.alloc(), "histo", &mut source, &mut out)?.as_str(),
-            want,
-            "{call}"
+        let got = read_alone(alloc, "histo", ONE, 10, &[call])?;
+        is_wanted(
+            &rt,
+            "histo",
+            got,
+            if call < 10 { READ_FAULT } else { ANSWER },
         );
     }
-    let mut source = MemSource::new(rt.alloc(), ONE, 65_536, &[2])?;
-    let mut out = MemSink::new(rt.alloc(), 100, 100, &[])?;
-    assert_eq!(rt;
-        told_alone(rt.alloc(), "histo", &mut source, &mut out)?.as_str(),
-        "3 bale: read fault\n"
-    );
-    let mut source = MemSource::new(rt.alloc(), ONE, 1, &[])?;
-    assert_eq!(rt;
-        told_alone(rt.alloc(), "histo", &mut source, &mut out)?.as_str(),
-        "0 1 1\n2 0\n3 3\n"
-    );
+    let got = read_alone(alloc, "histo", ONE, 65_536, &[2])?;
+    is_wanted(&rt, "histo", got, READ_FAULT);
+    let got = read_alone(alloc, "histo", ONE, 1, &[])?;
+    is_wanted(&rt, "histo", got, ANSWER);
     Ok(())
 }
 
@@ -42,12 +37,8 @@ fn a_sink_that_fails_at_each_call(rt: HostRuntime) -> Result<(), Fail> {
         (4, "0 1 1\n2 0\n3 3\n"),
     ];
     for (call, want) in calls {
-        let mut source = MemSource::new(rt.alloc(), ONE, 65_536, &[])?;
-        let mut out = MemSink::new(rt.alloc(), 100, 5, &[call])?;
-        assert_eq!(rt;
-            told_alone(rt.alloc(), "histo", &mut source, &mut out)?.as_str(),
-            want
-        );
+        let got = written_alone(rt.alloc(), "histo", ONE, 5, &[call])?;
+        is_wanted(&rt, "histo", got, want);
     }
     Ok(())
 }
@@ -73,41 +64,24 @@ fn a_failing_err_changes_no_status(rt: HostRuntime) -> Result<(), Fail> {
 
 #[test]
 fn faults_of_a_run_on_threads(rt: HostRuntime) -> Result<(), Fail> {
-    let mut source = MemSource::new(rt.alloc(), ONE, 10, &[9])?;
-    let mut out = MemSink::new(rt.alloc(), 100, 100, &[])?;
-    assert_eq!(rt;
-        told_as_asked(&rt, rt.alloc(), "histo", &mut source, &mut out)?.as_str(),
-        "3 bale: read fault\n"
-    );
-    let mut source = MemSource::new(rt.alloc(), ONE, 65_536, &[])?;
-    let mut out = MemSink::new(rt.alloc(), 100, 5, &[2])?;
-    assert_eq!(rt;
-        told_as_asked(&rt, rt.alloc(), "histo", &mut source, &mut out)?.as_str(),
-        "4 1 1\n2bale: write fault\n"
-    );
+    let alloc = rt.alloc();
+    let got = read_as_asked(&rt, alloc, "histo", ONE, 10, &[9])?;
+    is_wanted(&rt, "histo", got, READ_FAULT);
+    let got = written_as_asked(&rt, alloc, "histo", ONE, 5, &[2])?;
+    is_wanted(&rt, "histo", got, "4 1 1\n2bale: write fault\n");
     Ok(())
 }
 
 #[test]
 fn faults_of_ig_over_biconvey(rt: HostRuntime) -> Result<(), Fail> {
+    let alloc = rt.alloc();
     let words = "ig --via biconvey --grid 2x2 --buffer 1";
-    let mut source = MemSource::new(rt.alloc(), ONE, 10, &[9])?;
-    let mut out = MemSink::new(rt.alloc(), 100, 100, &[])?;
-    assert_eq!(rt;
-        told_alone(rt.alloc(), words, &mut source, &mut out)?.as_str(),
-        "3 bale: read fault\n"
-    );
-    let mut source = MemSource::new(rt.alloc(), ONE, 65_536, &[])?;
-    let mut out = MemSink::new(rt.alloc(), 100, 7, &[2])?;
-    assert_eq!(rt;
-        told_alone(rt.alloc(), words, &mut source, &mut out)?.as_str(),
-        "4 1 1 1\n1bale: write fault\n"
-    );
-    let mut source = MemSource::new(rt.alloc(), ONE, 65_536, &[])?;
-    let mut out = MemSink::new(rt.alloc(), 100, 7, &[2])?;
-    assert_eq!(rt;
-        told_as_asked(&rt, rt.alloc(), words, &mut source, &mut out)?.as_str(),
-        "4 1 1 1\n1bale: write fault\n"
-    );
+    let written = "4 1 1 1\n1bale: write fault\n";
+    let got = read_alone(alloc, words, ONE, 10, &[9])?;
+    is_wanted(&rt, words, got, READ_FAULT);
+    let got = written_alone(alloc, words, ONE, 7, &[2])?;
+    is_wanted(&rt, words, got, written);
+    let got = written_as_asked(&rt, alloc, words, ONE, 7, &[2])?;
+    is_wanted(&rt, words, got, written);
     Ok(())
 }

@@ -6,6 +6,7 @@ use bale_types::{MemSink, MemSource};
 use rank_group::{OpenGate, Steps};
 use std::alloc::Global;
 use std::marker::Brand;
+use std::process::Abort;
 use std::string::ToString;
 use std::sync::Wait;
 use std::sync::ledger::{Blank, Ledger};
@@ -96,37 +97,122 @@ pub(crate) fn told_as_asked<R: Threads + Wait + Sync>(
     Ok(format!(in alloc; "{status} {written}{said}")?)
 }
 
-/// The answer of a serial run.
-pub(crate) fn answer_alone(alloc: Global, words: &str, text: &[u8]) -> Result<String, Fail> {
-    let mut source = MemSource::new(alloc, text, 65_536, &[])?;
+/// The answer of a serial run, of a source that gives `most` bytes at a call and fails at these calls.
+pub(crate) fn read_alone(
+    alloc: Global,
+    words: &str,
+    text: &[u8],
+    most: usize,
+    fails: &[u64],
+) -> Result<String, Fail>
+    requires { 0 < most }
+{
+    let mut source = MemSource::new(alloc, text, most, fails)?;
     let mut out = MemSink::new(alloc, 1 << 20, 1 << 20, &[])?;
     told_alone(alloc, words, &mut source, &mut out)
 }
 
-/// The answer of a run as the words ask for it: on threads, where they don't say else.
+/// The same of a run as the words ask for it: on threads, where they don't say else.
+pub(crate) fn read_as_asked<R: Threads + Wait + Sync>(
+    rt: &R,
+    alloc: Global,
+    words: &str,
+    text: &[u8],
+    most: usize,
+    fails: &[u64],
+) -> Result<String, Fail>
+    requires { 0 < most }
+{
+    let mut source = MemSource::new(alloc, text, most, fails)?;
+    let mut out = MemSink::new(alloc, 1 << 20, 1 << 20, &[])?;
+    told_as_asked(rt, alloc, words, &mut source, &mut out)
+}
+
+/// The answer of a serial run, to a sink that takes `most` bytes at a call and fails at these calls.
+pub(crate) fn written_alone(
+    alloc: Global,
+    words: &str,
+    text: &[u8],
+    most: usize,
+    fails: &[u64],
+) -> Result<String, Fail>
+    requires { 0 < most }
+{
+    let mut source = MemSource::new(alloc, text, 65_536, &[])?;
+    let mut out = MemSink::new(alloc, 100, most, fails)?;
+    told_alone(alloc, words, &mut source, &mut out)
+}
+
+/// The same of a run as the words ask for it.
+pub(crate) fn written_as_asked<R: Threads + Wait + Sync>(
+    rt: &R,
+    alloc: Global,
+    words: &str,
+    text: &[u8],
+    most: usize,
+    fails: &[u64],
+) -> Result<String, Fail>
+    requires { 0 < most }
+{
+    let mut source = MemSource::new(alloc, text, 65_536, &[])?;
+    let mut out = MemSink::new(alloc, 100, most, fails)?;
+    told_as_asked(rt, alloc, words, &mut source, &mut out)
+}
+
+/// The answer of a serial run.
+pub(crate) fn answer_alone(alloc: Global, words: &str, text: &[u8]) -> Result<String, Fail> {
+    read_alone(alloc, words, text, 65_536, &[])
+}
+
+/// The answer of a run as the words ask for it.
 pub(crate) fn answer_as_asked<R: Threads + Wait + Sync>(
     rt: &R,
     alloc: Global,
     words: &str,
     text: &[u8],
 ) -> Result<String, Fail> {
-    let mut source = MemSource::new(alloc, text, 65_536, &[])?;
-    let mut out = MemSink::new(alloc, 1 << 20, 1 << 20, &[])?;
-    told_as_asked(rt, alloc, words, &mut source, &mut out)
+    read_as_asked(rt, alloc, words, text, 65_536, &[])
 }
 
-/// The answer of a serial run, where a run on threads has the same.
-pub(crate) fn answer<R: Threads + Wait + Sync>(
+/// An answer is the one that is wanted of these words.
+pub(crate) fn is_wanted<R: Abort>(rt: &R, words: &str, got: String, want: &str) {
+    assert_eq!(rt; got.as_str(), want, "{words}");
+}
+
+/// A serial run has this answer.
+pub(crate) fn wants_alone<R: Abort>(
     rt: &R,
     alloc: Global,
     words: &str,
     text: &[u8],
-) -> Result<String, Fail> {
-    let alone = answer_alone(alloc, words, text)?;
-    let asked = answer_as_asked(rt, alloc, words, text)?;
-    if alone.as_str() == asked.as_str() {
-        Ok(alone)
-    } else {
-        Ok(format!(in alloc; "by one thread {alone} and by threads {asked}")?)
-    }
+    want: &str,
+) -> Result<(), Fail> {
+    let got = answer_alone(alloc, words, text)?;
+    is_wanted(rt, words, got, want);
+    Ok(())
+}
+
+/// A run as the words ask for it has this answer.
+pub(crate) fn wants_as_asked<R: Threads + Wait + Sync + Abort>(
+    rt: &R,
+    alloc: Global,
+    words: &str,
+    text: &[u8],
+    want: &str,
+) -> Result<(), Fail> {
+    let got = answer_as_asked(rt, alloc, words, text)?;
+    is_wanted(rt, words, got, want);
+    Ok(())
+}
+
+/// Both have it.
+pub(crate) fn wants<R: Threads + Wait + Sync + Abort>(
+    rt: &R,
+    alloc: Global,
+    words: &str,
+    text: &[u8],
+    want: &str,
+) -> Result<(), Fail> {
+    wants_alone(rt, alloc, words, text, want)?;
+    wants_as_asked(rt, alloc, words, text, want)
 }

@@ -1,9 +1,15 @@
 //! Worked runs of each application, by both top calls.
-use crate::rig::{INTEGER, ONE, PATTERN, answer, answer_alone, answer_as_asked, run_alone, words};
+use crate::rig::{
+    INTEGER, ONE, PATTERN, answer_alone, answer_as_asked, run_alone, wants, wants_alone,
+    wants_as_asked, words,
+};
 use bale_types::{MemSink, MemSource};
 use std::alloc::Global;
+use std::process::Abort;
 use std::string::ToString;
+use std::sync::Wait;
 use std::test::Fail;
+use std::thread::Threads;
 
 #[test]
 fn every_case_gives_one_answer(rt: HostRuntime) -> Result<(), Fail> {
@@ -11,11 +17,7 @@ fn every_case_gives_one_answer(rt: HostRuntime) -> Result<(), Fail> {
     for grid in ["4", "2x2", "2x2x2"] {
         for buffer in buffers {
             let words = format!(in rt.alloc(); "histo --grid {grid} --buffer {buffer}")?;
-            assert_eq!(rt;
-                answer(&rt, rt.alloc(), words.as_str(), ONE)?.as_str(),
-                "0 1 1\n2 0\n3 3\n",
-                "{words}"
-            );
+            wants(&rt, rt.alloc(), words.as_str(), ONE, "0 1 1\n2 0\n3 3\n")?;
         }
     }
     Ok(())
@@ -23,23 +25,29 @@ fn every_case_gives_one_answer(rt: HostRuntime) -> Result<(), Fail> {
 
 #[test]
 fn every_setting(rt: HostRuntime) -> Result<(), Fail> {
-    let ties = b"%%MatrixMarket matrix coordinate pattern general\n3 3 4\n1 1\n1 2\n2 2\n3 3\n";
     for slots in [1, 2, 4, 8] {
         for steady in ["no", "yes"] {
             let words = format!(in rt.alloc();
                 "histo --grid 2x2x2 --buffer 1 --slots {slots} --steady {steady}"
             )?;
-            assert_eq!(rt;
-                answer(&rt, rt.alloc(), words.as_str(), ONE)?.as_str(),
-                "0 1 1\n2 0\n3 3\n",
-                "{words}"
-            );
+            wants(&rt, rt.alloc(), words.as_str(), ONE, "0 1 1\n2 0\n3 3\n")?;
+        }
+    }
+    Ok(())
+}
+
+#[test]
+fn every_setting_of_votes(rt: HostRuntime) -> Result<(), Fail> {
+    for slots in [1, 2, 4, 8] {
+        for steady in ["no", "yes"] {
             let words = format!(in rt.alloc(); "topo --slots={slots} --steady={steady}")?;
-            assert_eq!(rt;
-                answer(&rt, rt.alloc(), words.as_str(), ties.as_slice())?.as_str(),
+            wants(
+                &rt,
+                rt.alloc(),
+                words.as_str(),
+                TIES,
                 "0 1 1 1\n2 3 3\n3 2 2\n",
-                "{words}"
-            );
+            )?;
         }
     }
     Ok(())
@@ -136,31 +144,52 @@ fn applications_and_their_answers(rt: HostRuntime) -> Result<(), Fail> {
     let alloc = rt.alloc();
     for row in ROWS.lines() {
         if let Some((words, text, want)) = parts_of(alloc, row)? {
-            let got = answer(&rt, alloc, words.as_str(), text.as_bytes())?;
-            assert_eq!(rt; got.as_str(), want.as_str(), "{row}");
+            wants(&rt, alloc, words.as_str(), text.as_bytes(), want.as_str())?;
         }
     }
     Ok(())
 }
 
-/// The rows whose words name no grid and whose status is not a refusal, on grids of one, two and three numbers.
+/// A row on grids of one, two and three numbers.
+fn wants_on_grids<R: Threads + Wait + Sync + Abort>(
+    rt: &R,
+    alloc: Global,
+    words: &str,
+    text: &[u8],
+    want: &str,
+) -> Result<(), Fail> {
+    for grid in ["1", "2x2", "2x2x2", "64"] {
+        let words = format!(in alloc; "{words} --grid {grid}")?;
+        wants(rt, alloc, words.as_str(), text, want)?;
+    }
+    Ok(())
+}
+
+/// The rows whose words name no grid and whose status is not a refusal.
 #[test]
 fn grids_give_the_same_answers(rt: HostRuntime) -> Result<(), Fail> {
     let alloc = rt.alloc();
     for row in ROWS.lines() {
         if let Some((words, text, want)) = parts_of(alloc, row)? {
             let answered = want.starts_with("0 ") || want.starts_with("1 ");
-            if words.contains("--grid") || !answered {
-                continue;
-            }
-            for grid in ["1", "2x2", "2x2x2", "64"] {
-                let words = format!(in alloc; "{words} --grid {grid}")?;
-                let got = answer(&rt, alloc, words.as_str(), text.as_bytes())?;
-                assert_eq!(rt; got.as_str(), want.as_str(), "{words}");
+            if !words.contains("--grid") && answered {
+                wants_on_grids(&rt, alloc, words.as_str(), text.as_bytes(), want.as_str())?;
             }
         }
     }
     Ok(())
+}
+
+/// A row on exstacks.
+fn wants_on_exstacks<R: Threads + Wait + Sync + Abort>(
+    rt: &R,
+    alloc: Global,
+    words: &str,
+    text: &[u8],
+    want: &str,
+) -> Result<(), Fail> {
+    let words = format!(in alloc; "{words} --via exstack")?;
+    wants(rt, alloc, words.as_str(), text, want)
 }
 
 /// The same rows on exstacks, but for those whose grid has more numbers than one or whose words name the transport.
@@ -169,29 +198,25 @@ fn exstacks_give_the_same_answers(rt: HostRuntime) -> Result<(), Fail> {
     let alloc = rt.alloc();
     for row in ROWS.lines() {
         if let Some((words, text, want)) = parts_of(alloc, row)? {
-            if words.contains("x") || words.contains("--via") {
-                continue;
+            if !words.contains("x") && !words.contains("--via") {
+                wants_on_exstacks(&rt, alloc, words.as_str(), text.as_bytes(), want.as_str())?;
             }
-            let words = format!(in alloc; "{words} --via exstack")?;
-            let got = answer(&rt, alloc, words.as_str(), text.as_bytes())?;
-            assert_eq!(rt; got.as_str(), want.as_str(), "{words}");
         }
     }
+    Ok(())
+}
+
+#[test]
+fn ig_over_exstacks(rt: HostRuntime) -> Result<(), Fail> {
+    let alloc = rt.alloc();
     for words in [
         "ig --via exstack --buffer 1",
         "ig --via exstack --drive serial",
     ] {
-        assert_eq!(rt;
-            answer(&rt, alloc, words, TWO)?.as_str(),
-            "0 1 3 -7\n2 1 4\n",
-            "{words}"
-        );
+        wants(&rt, alloc, words, TWO, "0 1 3 -7\n2 1 4\n")?;
     }
-    assert_eq!(rt;
-        answer(&rt, alloc, "ig --via exstack --grid 2x2", TWO)?.as_str(),
-        "6 bale: unfit: exstack needs a grid of one number\n"
-    );
-    Ok(())
+    let want = "6 bale: unfit: exstack needs a grid of one number\n";
+    wants(&rt, alloc, "ig --via exstack --grid 2x2", TWO, want)
 }
 
 #[test]
@@ -200,17 +225,21 @@ fn ig_over_biconvey(rt: HostRuntime) -> Result<(), Fail> {
     for grid in ["4", "2x2", "2x2x2"] {
         for buffer in [1, 2, 64] {
             let words = format!(in alloc; "ig --via biconvey --grid {grid} --buffer {buffer}")?;
-            let got = answer(&rt, alloc, words.as_str(), TWO)?;
-            assert_eq!(rt; got.as_str(), "0 1 3 -7\n2 1 4\n", "{words}");
+            wants(&rt, alloc, words.as_str(), TWO, "0 1 3 -7\n2 1 4\n")?;
         }
     }
+    Ok(())
+}
+
+#[test]
+fn generated_ig_over_biconvey(rt: HostRuntime) -> Result<(), Fail> {
+    let alloc = rt.alloc();
     let one = answer_alone(alloc, "ig --gen 200,2000,7", b"")?;
     for words in [
         "ig --gen 200,2000,7 --via biconvey",
         "ig --gen 200,2000,7 --via biconvey --grid 2x2 --buffer 8",
     ] {
-        let got = answer(&rt, alloc, words, b"")?;
-        assert_eq!(rt; got.as_str(), one.as_str(), "{words}");
+        wants(&rt, alloc, words, b"", one.as_str())?;
     }
     Ok(())
 }
@@ -226,9 +255,14 @@ fn generated_matrices_have_one_answer_everywhere(rt: HostRuntime) -> Result<(), 
         "topo --gen 200,2000,7 --grid 4 --buffer 8 --via exstack",
         "topo --gen 200,2000,7 --grid 1 --drive serial",
     ] {
-        let got = answer_as_asked(&rt, alloc, words, b"")?;
-        assert_eq!(rt; got.as_str(), one.as_str(), "{words}");
+        wants_as_asked(&rt, alloc, words, b"", one.as_str())?;
     }
+    Ok(())
+}
+
+#[test]
+fn generated_walks_have_one_answer_everywhere(rt: HostRuntime) -> Result<(), Fail> {
+    let alloc = rt.alloc();
     let walks = answer_alone(alloc, "sssp --gen 300,3000,5", b"")?;
     for words in [
         "sssp --gen 300,3000,5 --delta 1",
@@ -238,8 +272,7 @@ fn generated_matrices_have_one_answer_everywhere(rt: HostRuntime) -> Result<(), 
         "sssp --gen 300,3000,5 --grid 2x2x2 --buffer 8",
         "sssp --gen 300,3000,5 --grid 2x2x2 --buffer 8 --delta 500",
     ] {
-        let got = answer_alone(alloc, words, b"")?;
-        assert_eq!(rt; got.as_str(), walks.as_str(), "{words}");
+        wants_alone(&rt, alloc, words, b"", walks.as_str())?;
     }
     Ok(())
 }
@@ -254,28 +287,57 @@ fn one_row(alloc: Global, count: u32) -> Result<String, Fail> {
     Ok(text)
 }
 
+/// Whether the answer of a serial run begins so.
+fn begins_alone(alloc: Global, words: &str, text: &[u8], front: &str) -> Result<bool, Fail> {
+    let got = answer_alone(alloc, words, text)?;
+    Ok(got.starts_with(front))
+}
+
+/// Whether the answer of a run as the words ask for it begins so.
+fn begins_as_asked<R: Threads + Wait + Sync>(
+    rt: &R,
+    alloc: Global,
+    words: &str,
+    text: &[u8],
+    front: &str,
+) -> Result<bool, Fail> {
+    let got = answer_as_asked(rt, alloc, words, text)?;
+    Ok(got.starts_with(front))
+}
+
 #[test]
-fn what_is_unfit_for_one_thread_alone(rt: HostRuntime) -> Result<(), Fail> {
+fn what_is_too_large_for_one_thread(rt: HostRuntime) -> Result<(), Fail> {
     let alloc = rt.alloc();
     let long = one_row(alloc, 1025)?;
+    let want = "6 bale: unfit: too large for the serial drive\n";
+    wants_alone(&rt, alloc, "sssp", long.as_bytes(), want)?;
+    wants_as_asked(&rt, alloc, "sssp --drive serial", long.as_bytes(), want)?;
+    assert!(rt; begins_as_asked(&rt, alloc, "sssp", long.as_bytes(), "0 1 0\n2 1\n")?);
+    Ok(())
+}
+
+#[test]
+fn what_one_thread_does(rt: HostRuntime) -> Result<(), Fail> {
+    let alloc = rt.alloc();
     let short = one_row(alloc, 1024)?;
-    assert_eq!(rt;
-        answer_alone(alloc, "sssp", long.as_bytes())?.as_str(),
-        "6 bale: unfit: too large for the serial drive\n"
-    );
-    assert_eq!(rt;
-        answer_as_asked(&rt, alloc, "sssp --drive serial", long.as_bytes())?.as_str(),
-        "6 bale: unfit: too large for the serial drive\n"
-    );
-    assert!(rt; answer_as_asked(&rt, alloc, "sssp", long.as_bytes())?.starts_with("0 1 0\n2 1\n"));
-    assert!(rt; answer_alone(alloc, "sssp", short.as_bytes())?.starts_with("0 1 0\n2 1\n"));
+    assert!(rt; begins_alone(alloc, "sssp", short.as_bytes(), "0 1 0\n2 1\n")?);
+    Ok(())
+}
+
+#[test]
+fn too_many_rows_for_delta_on_one_thread(rt: HostRuntime) -> Result<(), Fail> {
+    let alloc = rt.alloc();
     let tall = format!(in alloc; "{PATTERN}1025 1025 0\n")?;
-    assert_eq!(rt;
-        answer_alone(alloc, "sssp --delta 5", tall.as_bytes())?.as_str(),
-        "6 bale: unfit: too many rows for delta on the serial drive\n"
-    );
+    let want = "6 bale: unfit: too many rows for delta on the serial drive\n";
+    wants_alone(&rt, alloc, "sssp --delta 5", tall.as_bytes(), want)?;
     assert!(rt;
-        answer_as_asked(&rt, alloc, "sssp --delta 5", tall.as_bytes())?.starts_with("0 1 0\n2 -\n")
+        begins_as_asked(
+            &rt,
+            alloc,
+            "sssp --delta 5",
+            tall.as_bytes(),
+            "0 1 0\n2 -\n"
+        )?
     );
     Ok(())
 }
@@ -290,6 +352,20 @@ const TIES: &[u8] =
 /// Four vertices, of which three are reached from the first.
 const WALKS: &[u8] =
     b"%%MatrixMarket matrix coordinate integer general\n4 4 4\n1 2 5\n1 3 2\n3 2 1\n2 4 7\n";
+
+/// The status of a serial run, how many closed rounds it tells, and the epochs of the first.
+fn told_of(alloc: Global, text: &str, input: &[u8]) -> Result<(u8, usize, u64), Fail> {
+    let words = words(alloc, text)?;
+    let mut source = MemSource::new(alloc, input, 65_536, &[])?;
+    let mut out = MemSink::new(alloc, 4096, 4096, &[])?;
+    let mut err = MemSink::new(alloc, 4096, 4096, &[])?;
+    let outcome = run_alone(alloc, words.as_slice(), &mut source, &mut out, &mut err);
+    let epochs = match outcome.rounds.get(0) {
+        Some(round) => round.epochs(),
+        None => 0,
+    };
+    Ok((outcome.status, outcome.rounds.len(), epochs))
+}
 
 #[test]
 fn rounds_are_told(rt: HostRuntime) -> Result<(), Fail> {
@@ -310,24 +386,8 @@ fn rounds_are_told(rt: HostRuntime) -> Result<(), Fail> {
         ("ig 4", TWO, 2, 0, 0),
     ];
     for (text, input, status, rounds, epochs) in cases {
-        let words = words(rt.alloc(), text)?;
-        let mut source = MemSource::new(rt.alloc(), input, 65_536, &[])?;
-        let mut out = MemSink::new(rt.alloc(), 4096, 4096, &[])?;
-        let mut err = MemSink::new(rt.alloc(), 4096, 4096, &[])?;
-        let outcome = run_alone(
-            rt.alloc(),
-            words.as_slice(),
-            &mut source,
-            &mut out,
-            &mut err,
-        );
-        let told = match outcome.rounds.get(0) {
-            Some(round) => round.epochs(),
-            None => 0,
-        };
-        assert_eq!(rt; outcome.status, status, "{text}");
-        assert_eq!(rt; outcome.rounds.len(), rounds, "{text}");
-        assert_eq!(rt; told, epochs, "{text}");
+        let got = told_of(rt.alloc(), text, input)?;
+        assert_eq!(rt; got, (status, rounds, epochs), "{text}");
     }
     Ok(())
 }

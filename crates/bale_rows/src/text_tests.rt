@@ -1,5 +1,5 @@
 //! Texts that are matrices, and texts that are none.
-use crate::rig::{INTEGER, ONE, PATTERN, answer, answer_alone};
+use crate::rig::{INTEGER, ONE, PATTERN, wants, wants_alone};
 use std::test::Fail;
 
 #[test]
@@ -28,17 +28,13 @@ fn texts_and_their_answers(rt: HostRuntime) -> Result<(), Fail> {
     ];
     for (rest, want) in cases {
         let text = format!(in rt.alloc(); "{banner}{rest}")?;
-        assert_eq!(rt;
-            answer(
-                &rt,
-                rt.alloc(),
-                "histo --grid 4 --buffer 2",
-                text.as_bytes()
-            )?
-            .as_str(),
+        wants(
+            &rt,
+            rt.alloc(),
+            "histo --grid 4 --buffer 2",
+            text.as_bytes(),
             want,
-            "{rest}"
-        );
+        )?;
     }
     Ok(())
 }
@@ -81,17 +77,13 @@ fn banners_and_their_answers(rt: HostRuntime) -> Result<(), Fail> {
         ),
     ];
     for (text, want) in cases {
-        assert_eq!(rt;
-            answer(
-                &rt,
-                rt.alloc(),
-                "histo --grid 4 --buffer 2",
-                text.as_bytes()
-            )?
-            .as_str(),
+        wants(
+            &rt,
+            rt.alloc(),
+            "histo --grid 4 --buffer 2",
+            text.as_bytes(),
             want,
-            "{text}"
-        );
+        )?;
     }
     Ok(())
 }
@@ -115,34 +107,43 @@ fn truncated_texts(rt: HostRuntime) -> Result<(), Fail> {
     for (from, end, want) in ends {
         for n in from..end {
             let front = ONE.get(..n).unwrap_or(b"");
-            assert_eq!(rt;
-                answer_alone(rt.alloc(), "histo", front)?.as_str(),
-                want,
-                "{n}"
-            );
+            wants_alone(&rt, rt.alloc(), "histo", front, want)?;
         }
     }
     Ok(())
 }
 
 #[test]
-fn texts_at_the_limits(rt: HostRuntime) -> Result<(), Fail> {
+fn a_text_at_the_limit(rt: HostRuntime) -> Result<(), Fail> {
     let alloc = rt.alloc();
     let long = "\n".repeat(alloc, 16_777_217)?;
-    assert_eq!(rt;
-        answer_alone(alloc, "histo", long.as_bytes())?.as_str(),
-        "5 bale: line 16777217: too long\n"
-    );
+    let want = "5 bale: line 16777217: too long\n";
+    wants_alone(&rt, alloc, "histo", long.as_bytes(), want)
+}
+
+#[test]
+fn a_number_of_many_digits(rt: HostRuntime) -> Result<(), Fail> {
+    let alloc = rt.alloc();
     let nines = "9".repeat(alloc, 1_000_000)?;
     let text = format!(in alloc; "{INTEGER}1 1 1\n1 1 {nines}\n")?;
-    assert_eq!(rt;
-        answer_alone(alloc, "histo", text.as_bytes())?.as_str(),
-        "5 bale: line 3: bad value\n"
-    );
+    wants_alone(
+        &rt,
+        alloc,
+        "histo",
+        text.as_bytes(),
+        "5 bale: line 3: bad value\n",
+    )
+}
+
+#[test]
+fn a_byte_order_mark(rt: HostRuntime) -> Result<(), Fail> {
+    let alloc = rt.alloc();
     let marked = format!(in alloc; "\u{FEFF}{PATTERN}3 3 4\n1 1\n1 3\n2 3\n3 3\n")?;
-    assert_eq!(rt;
-        answer_alone(alloc, "histo", marked.as_bytes())?.as_str(),
-        "5 bale: line 1: bad banner\n"
-    );
-    Ok(())
+    wants_alone(
+        &rt,
+        alloc,
+        "histo",
+        marked.as_bytes(),
+        "5 bale: line 1: bad banner\n",
+    )
 }

@@ -34,10 +34,20 @@ use Rattle.bale_words.specs.declared.command.Transport.{Transport}
 use Rattle.bale_words.specs.declared.command.Transport.TheVariants.{Convey, Exstack, Biconvey}
 use Rattle.bale_subjects.specs.declared.subject.Subject.{Subject}
 use Rattle.bale_subjects.specs.declared.subject.Subject.TheVariants as subject
-use Rattle.bale_runs.specs.Asking.{TellsAsking, TurnsBy, TurnsOfAsking, TurnsOfCommand}
+use Rattle.bale_runs.specs.Asking.{TellsAsking, TellsReplies, TurnsBy, TurnsOfAsking, TurnsOfCommand}
 use Rattle.bale_runs.specs.Jobs.{by_asking, is_biconvey, is_ig}
 use Rattle.bale_runs.specs.Runs.{Tells, WithinTurns}
-use Rattle.bale_runs.proofs.Cases.{DriveTells, tells, turns, none_made}
+use Rattle.bale_runs.proofs.Cases.{turns, none_made}
+
+-- ---- Facts of a result
+
+pub if_ok : {T E : Type 0} (r : Result T E) (P Q : T → Type 0) → ((x : T) → P x → Q x) → IfOk r P → IfOk r Q
+if_ok (Ok x) P Q f p = f x p
+if_ok (Err e) P Q f p = tt
+
+pub if_ok_both : {T E : Type 0} (r : Result T E) (P Q R : T → Type 0) → ((x : T) → P x → Q x → R x) → IfOk r P → IfOk r Q → IfOk r R
+if_ok_both (Ok x) P Q R f p q = f x p q
+if_ok_both (Err e) P Q R f p q = tt
 
 -- ---- Which commands
 
@@ -65,23 +75,24 @@ sums_ended m p ends some sparse h = record { ranks = p; some = some; matrix = sp
 
 -- ---- What is told
 
-pub tells_asking : (m : Sparse) (made : Made) (steady : Bool) (rounds first others : List ClosedRound) (ps ends : List AnyState) (askers : List AskingState)
-    → ps ≡ map sums_case (sums_starts (ranks made.dims) m) → 0 < length ps → HaveEnded any_rules ps ends → DriveTells ps made (manner_of via.Convey steady) first
-    → AreAskersOf m (ranks made.dims) askers
-    → ((q : ClosedRound) × (r : ClosedRound) × (others ≡ q ∷ r ∷ []) × TellsExchange ig_talk askers made steady (round_of q) (round_of r))
+pub told_replies : (m : Sparse) (made : Made) (steady : Bool) (rounds : List ClosedRound) (askers : List AskingState) → AreAskersOf m (ranks made.dims) askers
+    → ((q : ClosedRound) × (r : ClosedRound) × (rounds ≡ q ∷ r ∷ []) × TellsExchange ig_talk askers made steady (round_of q) (round_of r))
+    → TellsReplies m made steady rounds
+told_replies m made steady rounds askers are x = record { queries = x.0; replies = x.1; two = x.2; askers = askers; are = are; exchanged = x.3 }
+
+pub tells_asking : (m : Sparse) (made : Made) (steady : Bool) (rounds first others : List ClosedRound)
+    → Tells sums_rules (sums_starts (ranks made.dims) m) made (manner_of via.Convey steady) first → TellsReplies m made steady others
     → rounds ≡ first ++ others → TellsAsking m made steady rounds
-tells_asking m made steady rounds first others ps ends askers put some h driven are x e =
-    let t : Tells sums_rules (sums_starts (ranks made.dims) m) made (manner_of via.Convey steady) first =
-    tells sums_is_case (sums_starts (ranks made.dims) m) ps ends made (manner_of via.Convey steady) first put some h driven in
+tells_asking m made steady rounds first others t x e =
     record {
       sums = t.closed;
-      queries = x.0;
-      replies = x.1;
-      three = e ∙ (ap (λ (rs : List ClosedRound). rs ++ others) t.only ∙ ap (λ (rs : List ClosedRound). t.closed ∷ rs) x.2);
+      queries = x.queries;
+      replies = x.replies;
+      three = e ∙ (ap (λ (rs : List ClosedRound). rs ++ others) t.only ∙ ap (λ (rs : List ClosedRound). t.closed ∷ rs) x.two);
       summed = subst (λ (rs : List ClosedRound). Tells sums_rules (sums_starts (ranks made.dims) m) made (manner_of via.Convey steady) rs) t.only t;
-      askers = askers;
-      are = are;
-      exchanged = x.3;
+      askers = x.askers;
+      are = x.are;
+      exchanged = x.exchanged;
     }
 
 -- ---- The turns
@@ -120,12 +131,11 @@ turns_of_sums m steady dims before after h =
 both_turns : (before between after sums queries : ℕ) → between ≤ before + sums → after ≤ between + queries → after ≤ before + (sums + queries)
 both_turns before between after sums queries h k = omega (arith, h, k)
 
-pub turns_of_both : (m : Sparse) (steady : Bool) (dims : List ℕ) (before between after : ℕ) (askers : List AskingState) → 0 < ranks dims → AreAskersOf m (ranks dims) askers
+pub turns_of_both : (m : Sparse) (steady : Bool) (dims : List ℕ) (before between after : ℕ)
     → between ≤ before + turns_within sums_rules (manner_of via.Convey steady) dims (sums_starts (ranks dims) m) 1
-    → after ≤ between + turns_of dims (sum_by (λ (s : AskingState). length s.queries) askers) → TurnsOfAsking m steady dims before after
-turns_of_both m steady dims before between after askers some are h k =
-    both_turns before between after (turns_within sums_rules (manner_of via.Convey steady) dims (sums_starts (ranks dims) m) 1) (turns_of dims (length m.entries)) h
-    (subst (λ n. after ≤ between + turns_of dims n) (one_each m (ranks dims) askers some are) k)
+    → after ≤ between + turns_of dims (length m.entries) → TurnsOfAsking m steady dims before after
+turns_of_both m steady dims before between after h k =
+    both_turns before between after (turns_within sums_rules (manner_of via.Convey steady) dims (sums_starts (ranks dims) m) 1) (turns_of dims (length m.entries)) h k
 
 -- where no turn was made, there are few
 pub no_turns_by : (b : Bool) (c : Command) (s : Subject) (before after : ℕ) → after ≡ before → TurnsBy b c s before after

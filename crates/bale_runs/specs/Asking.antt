@@ -32,6 +32,15 @@ pub record TellsAsking (m : Sparse) (made : Made) (steady : Bool) (rounds : List
   pub are : AreAskersOf m (ranks made.dims) askers
   pub exchanged : TellsExchange ig_talk askers made steady (round_of queries) (round_of replies)
 
+-- The second and third of them alone: the queries and the replies.
+pub record TellsReplies (m : Sparse) (made : Made) (steady : Bool) (rounds : List ClosedRound) : Type 0 where
+  pub queries : ClosedRound
+  pub replies : ClosedRound
+  pub two : rounds ≡ queries ∷ replies ∷ []
+  pub askers : List AskingState
+  pub are : AreAskersOf m (ranks made.dims) askers
+  pub exchanged : TellsExchange ig_talk askers made steady (round_of queries) (round_of replies)
+
 -- From `before` turns to `after` there are no more than the round of sums takes at most, and an exchange of one query an entry.
 abbrev pub TurnsOfAsking : Sparse → Bool → List ℕ → ℕ → ℕ → Type 0
 TurnsOfAsking m steady dims before after =

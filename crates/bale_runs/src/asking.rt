@@ -1,22 +1,27 @@
 //! ig by queries and replies: the columns are summed in one round, then each rank asks for the sums of its entries' columns, and
 //! then the answer is written.
-ghost use Rattle.std.specs.Prelude.{◌≡◌, ◌≤◌, ◌<◌, ℕ, true, false, List, map, IfErr, IfOk, OnErr};
+ghost use Rattle.std.specs.Prelude.{◌≡◌, ◌≤◌, ◌<◌, ◌+◌, ℕ, true, false, List, map, length, IfErr, IfOk, OnErr};
 ghost use Rattle.bale_types.specs.Stream.{HasCause, IsFront};
+ghost use Rattle.route_tensor.specs.Grid.{ranks};
 ghost use Rattle.port_bank.specs.Port.{IsSlots};
+ghost use Rattle.rank_node.specs.Movers.{manner_of};
+ghost use Rattle.rank_group.specs.Told.{turns_within};
+ghost use Rattle.biconvey.specs.Worlds.{turns_of};
 ghost use Rattle.case_table.specs.Capacities.{IsCapacity};
 ghost use Rattle.round_program.specs.Canonical.{InRound, EndsWithin, HaveEnded};
 ghost use Rattle.app_cases.specs.Any.{any_rules};
 ghost use Rattle.app_cases.specs.Cases.{sums_case};
+ghost use Rattle.app_histo_ig.specs.Sums.{sums_rules};
 ghost use Rattle.app_histo_ig.specs.SumsRuns.{sums_starts};
 ghost use Rattle.app_histo_ig.specs.AskingRuns.{AreAskersOf};
 ghost use Rattle.app_histo_ig.specs.ColumnAnswers.{IgHeard};
 ghost use Rattle.bale_words.specs.Ranges.{InRanges};
 ghost use Rattle.bale_answers.specs.Answer.{HasWritten, shown};
-ghost use Rattle.bale_runs.specs.Asking.{TellsAsking, TellsBy, TurnsBy, TurnsOfAsking};
+ghost use Rattle.bale_runs.specs.Asking.{TellsAsking, TellsReplies, TellsBy, TurnsBy, TurnsOfAsking};
 ghost use Rattle.bale_runs.specs.Jobs.{by_asking};
 ghost use Rattle.bale_subjects.specs.Subjects.{suits};
 ghost use Rattle.bale_answers.specs.Tasks.{IsAnswer, IsMatrixAnswer, matrix_status, task_status};
-ghost use Rattle.bale_runs.specs.Runs.{made_for};
+ghost use Rattle.bale_runs.specs.Runs.{made_for, Tells};
 
 use crate::exchange::Finish;
 use app_cases::{AnyProgram, put_all, take_all};
@@ -126,30 +131,16 @@ fn heard_serially<L: Ledger>(
     ensures rounds { IfOk result (λ f. TellsAsking m.now (record { dims = grid.now; cap = cap; slots = slots; by_slots = false }) steady f.rounds) }
     ensures steps { TurnsOfAsking m.now steady grid.now steps.old steps.new }
 {
-    let _kept = m.entries();
-    let progs = summing(alloc, m, grid.ranks())?;
-    let order = in_order(alloc, grid.ranks())?;
-    let summed = case_serial(
-        alloc,
-        grid,
-        cap,
-        Via::Convey,
-        slots,
-        steady,
-        &order,
-        progs,
-        steps,
-    )?;
+    let summed = summed_serially(alloc, grid, cap, slots, steady, m, steps)?;
     let Finished {
         progs: added,
         mut rounds,
     } = summed;
-    let askers = asking(alloc, m, added)?;
-    let asked = bi_serial(alloc, grid, cap, slots, steady, &order, askers, steps)?;
+    let replied = replied_serially(alloc, grid, cap, slots, steady, m, added, steps)?;
     let Finished {
         progs,
         rounds: exchanged,
-    } = asked;
+    } = replied;
     rounds.append(exchanged)?;
     Ok(Finished { progs, rounds })
 }
@@ -170,9 +161,71 @@ fn heard_on_threads<R: Threads + Wait + Sync, G: Gate + Sync>(
     ensures heard { IfOk result (λ f. IgHeard m.now f.progs) }
     ensures rounds { IfOk result (λ f. TellsAsking m.now (record { dims = grid.now; cap = cap; slots = slots; by_slots = true }) steady f.rounds) }
 {
-    let _kept = m.entries();
+    let summed = summed_on_threads(rt, alloc, grid, cap, slots, steady, m, gate)?;
+    let Finished {
+        progs: added,
+        mut rounds,
+    } = summed;
+    let replied = replied_on_threads(rt, alloc, grid, cap, slots, steady, m, added, gate)?;
+    let Finished {
+        progs,
+        rounds: exchanged,
+    } = replied;
+    rounds.append(exchanged)?;
+    Ok(Finished { progs, rounds })
+}
+
+/// The programs that have summed the columns in their one round on this thread, and that round.
+fn summed_serially<L: Ledger>(
+    alloc: Global,
+    grid: &Grid,
+    cap: u32,
+    slots: u32,
+    steady: bool,
+    m: &Matrix,
+    steps: &mut Steps<L>,
+) -> Result<Finished<AnyProgram>, NoMemory>
+    requires capacity { IsCapacity cap }
+    requires slots { IsSlots slots }
+    ensures ended { IfOk result (λ f. HaveEnded any_rules (map sums_case (sums_starts (ranks grid.now) m.now)) f.progs) }
+    ensures rounds { IfOk result (λ f. Tells sums_rules (sums_starts (ranks grid.now) m.now) (record { dims = grid.now; cap = cap; slots = slots; by_slots = false })
+        (manner_of Via.Convey steady) f.rounds) }
+    ensures steps { steps.new ≤ steps.old + turns_within sums_rules (manner_of Via.Convey steady) grid.now (sums_starts (ranks grid.now) m.now) 1 }
+{
     let progs = summing(alloc, m, grid.ranks())?;
-    let summed = case_threads(
+    let order = in_order(alloc, grid.ranks())?;
+    case_serial(
+        alloc,
+        grid,
+        cap,
+        Via::Convey,
+        slots,
+        steady,
+        &order,
+        progs,
+        steps,
+    )
+}
+
+/// The same on threads.
+fn summed_on_threads<R: Threads + Wait + Sync, G: Gate + Sync>(
+    rt: &R,
+    alloc: Global,
+    grid: &Grid,
+    cap: u32,
+    slots: u32,
+    steady: bool,
+    m: &Matrix,
+    gate: &G,
+) -> Result<Finished<AnyProgram>, NoMemory>
+    requires capacity { IsCapacity cap }
+    requires slots { IsSlots slots }
+    ensures ended { IfOk result (λ f. HaveEnded any_rules (map sums_case (sums_starts (ranks grid.now) m.now)) f.progs) }
+    ensures rounds { IfOk result (λ f. Tells sums_rules (sums_starts (ranks grid.now) m.now) (record { dims = grid.now; cap = cap; slots = slots; by_slots = true })
+        (manner_of Via.Convey steady) f.rounds) }
+{
+    let progs = summing(alloc, m, grid.ranks())?;
+    case_threads(
         rt,
         alloc,
         grid,
@@ -182,19 +235,56 @@ fn heard_on_threads<R: Threads + Wait + Sync, G: Gate + Sync>(
         steady,
         progs,
         gate,
-    )?;
-    let Finished {
-        progs: added,
-        mut rounds,
-    } = summed;
+    )
+}
+
+/// The askers that these programs leave, after each has heard its replies on this thread, and the rounds of the queries and the
+/// replies.
+fn replied_serially<L: Ledger>(
+    alloc: Global,
+    grid: &Grid,
+    cap: u32,
+    slots: u32,
+    steady: bool,
+    m: &Matrix,
+    added: Progs<AnyProgram>,
+    steps: &mut Steps<L>,
+) -> Result<Finished<IgAsker>, NoMemory>
+    requires capacity { IsCapacity cap }
+    requires slots { IsSlots slots }
+    requires ended { HaveEnded any_rules (map sums_case (sums_starts (ranks grid.now) m.now)) added }
+    ensures heard { IfOk result (λ f. IgHeard m.now f.progs) }
+    ensures rounds { IfOk result (λ f. TellsReplies m.now (record { dims = grid.now; cap = cap; slots = slots; by_slots = false }) steady f.rounds) }
+    ensures steps { steps.new ≤ steps.old + turns_of grid.now (length m.now.entries) }
+{
+    let _kept = m.entries();
+    let order = in_order(alloc, grid.ranks())?;
     let askers = asking(alloc, m, added)?;
-    let asked = bi_threads(rt, alloc, grid, cap, slots, steady, askers, gate)?;
-    let Finished {
-        progs,
-        rounds: exchanged,
-    } = asked;
-    rounds.append(exchanged)?;
-    Ok(Finished { progs, rounds })
+    bi_serial(alloc, grid, cap, slots, steady, &order, askers, steps)
+}
+
+/// The same on threads.
+fn replied_on_threads<R: Threads + Wait + Sync, G: Gate + Sync>(
+    rt: &R,
+    alloc: Global,
+    grid: &Grid,
+    cap: u32,
+    slots: u32,
+    steady: bool,
+    m: &Matrix,
+    added: Progs<AnyProgram>,
+    gate: &G,
+) -> Result<Finished<IgAsker>, NoMemory>
+    requires capacity { IsCapacity cap }
+    requires slots { IsSlots slots }
+    requires ended { HaveEnded any_rules (map sums_case (sums_starts (ranks grid.now) m.now)) added }
+    ensures heard { IfOk result (λ f. IgHeard m.now f.progs) }
+    ensures rounds { IfOk result (λ f. TellsReplies m.now (record { dims = grid.now; cap = cap; slots = slots; by_slots = true }) steady f.rounds) }
+{
+    let _kept = m.entries();
+    let _many = grid.ranks();
+    let askers = asking(alloc, m, added)?;
+    bi_threads(rt, alloc, grid, cap, slots, steady, askers, gate)
 }
 
 /// The programs that sum the columns of a matrix, on so many ranks, from 1 to 64.

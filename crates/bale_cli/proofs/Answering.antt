@@ -6,18 +6,20 @@ use Rattle.bale_types.specs.Stream.{after, IsFront}
 use Rattle.bale_types.proofs.Moves.{front_same}
 use Rattle.bale_words.specs.declared.command.Command.{Command}
 use Rattle.bale_words.specs.declared.command.Generated.{Generated}
-use Rattle.bale_cli.specs.declared.exchange.Finish.{Finish}
-use Rattle.bale_cli.specs.declared.refusal.BadText.{BadText}
-use Rattle.bale_cli.specs.declared.refusal.Refusal.{Refusal}
-use Rattle.bale_cli.specs.declared.refusal.Refusal.TheVariants as refusal
-use Rattle.bale_cli.specs.declared.subject.Subject.{Subject}
-use Rattle.bale_cli.specs.declared.unfit.Unfit.{Unfit}
-use Rattle.bale_cli.specs.Answer.{shown, reads, Asked, HasWritten, IsOfText, TellsText, Told, Wrote}
-use Rattle.bale_cli.specs.Asking.{TellsCommand}
-use Rattle.bale_cli.specs.Fitness.{unfitness}
+use Rattle.bale_runs.specs.declared.exchange.Finish.{Finish}
+use Rattle.bale_subjects.specs.declared.refusal.BadText.{BadText}
+use Rattle.bale_subjects.specs.declared.refusal.Refusal.{Refusal}
+use Rattle.bale_subjects.specs.declared.refusal.Refusal.TheVariants as refusal
+use Rattle.bale_subjects.specs.declared.subject.Subject.{Subject}
+use Rattle.bale_subjects.specs.declared.unfit.Unfit.{Unfit}
+use Rattle.bale_answers.specs.Answer.{shown, Asked, HasWritten, Wrote}
+use Rattle.bale_subjects.specs.Reading.{reads, TellsText, Told}
+use Rattle.bale_subjects.specs.Refusals.{IsOfText}
+use Rattle.bale_runs.specs.Asking.{TellsCommand}
+use Rattle.bale_subjects.specs.Fitness.{unfitness}
 use Rattle.bale_cli.specs.Outcomes.{Answered}
-use Rattle.bale_cli.specs.Subjects.{subject_asked}
-use Rattle.bale_cli.specs.Tasks.{IsAnswer, task_status}
+use Rattle.bale_subjects.specs.Subjects.{subject_asked}
+use Rattle.bale_answers.specs.Tasks.{IsAnswer, task_status}
 use Rattle.bale_cli.proofs.Endings.{before_text, wrote_status}
 
 abbrev pub err : Refusal → Result Finish Refusal

@@ -1,12 +1,13 @@
 -- A refusal is known by its status, and what is said of it is what the serial answer says.
 use Rattle.std.proofs.Common.{◌≡◌, ℕ, Bool, List, Option, None, ◌⊎◌, inl, inr, refl, sym, ap, ◌∙◌, subst, arith}
 use Rattle.bale_words.specs.declared.command.Command.{Command}
-use Rattle.bale_cli.specs.Tasks.{task_status}
-use Rattle.bale_cli.specs.declared.unfit.Unfit.{Unfit as Unfitness}
-use Rattle.bale_cli.specs.declared.refusal.BadText.{BadText as Bad}
-use Rattle.bale_cli.specs.declared.refusal.Refusal.{Refusal}
-use Rattle.bale_cli.specs.declared.refusal.Refusal.TheVariants.{Usage, ReadFault, BadText, Unfit, WriteFault, NoMemory}
-use Rattle.bale_cli.specs.Answer.{Answer, Wrote, IsBad, IsUnfit, IsOfText, refused, answer_by, answer_for, answer_to, said, status_of, refusal_text}
+use Rattle.bale_answers.specs.Tasks.{task_status}
+use Rattle.bale_subjects.specs.declared.unfit.Unfit.{Unfit as Unfitness}
+use Rattle.bale_subjects.specs.declared.refusal.BadText.{BadText as Bad}
+use Rattle.bale_subjects.specs.declared.refusal.Refusal.{Refusal}
+use Rattle.bale_subjects.specs.declared.refusal.Refusal.TheVariants.{Usage, ReadFault, BadText, Unfit, WriteFault, NoMemory}
+use Rattle.bale_answers.specs.Answer.{Answer, Wrote, IsBad, IsUnfit, refused, answer_by, answer_for, answer_to, said}
+use Rattle.bale_subjects.specs.Refusals.{IsOfText, status_of, refusal_text}
 
 pub not_zero : (r : Refusal) → status_of r ≡ 0 → ⊥
 unfolding status_of

@@ -1,11 +1,3 @@
 pub mod Answering
-pub mod Cases
 pub mod Endings
-pub mod Exchanges
-pub mod Heard
-pub mod Orders
 pub mod Outcomes
-pub mod Read
-pub mod Reasons
-pub mod Renumbering
-pub mod Served

@@ -4,10 +4,12 @@ use Rattle.bale_types.specs.Stream.{after, IsFront}
 use Rattle.bale_types.proofs.Moves.{after-nil, front_same}
 use Rattle.rank_group.specs.declared.closed_round.ClosedRound.{ClosedRound}
 use Rattle.bale_words.specs.declared.command.Command.{Command}
-use Rattle.bale_cli.specs.declared.exchange.Finish.{Finish}
-use Rattle.bale_cli.specs.declared.refusal.Refusal.{Refusal}
-use Rattle.bale_cli.specs.declared.refusal.Refusal.TheVariants as refusal
-use Rattle.bale_cli.specs.Answer.{Answer, Told, Wrote, answer_to, said, reads, refusal_text, status_of}
+use Rattle.bale_runs.specs.declared.exchange.Finish.{Finish}
+use Rattle.bale_subjects.specs.declared.refusal.Refusal.{Refusal}
+use Rattle.bale_subjects.specs.declared.refusal.Refusal.TheVariants as refusal
+use Rattle.bale_answers.specs.Answer.{Answer, Wrote, answer_to, said}
+use Rattle.bale_subjects.specs.Reading.{Told, reads}
+use Rattle.bale_subjects.specs.Refusals.{refusal_text, status_of}
 use Rattle.bale_cli.specs.Outcomes.{Answered, IsOutcome}
 use Rattle.bale_cli.proofs.Endings.{not_zero, not_one, is_usage, usage_is, is_read_fault, is_write_fault, bad_is, unfit_is, status_same, said_is, of_text, memory_is}
 

@@ -1,14 +1,1 @@
-pub mod Answer
-pub mod Asking
-pub mod Fitness
-pub mod Jobs
-pub mod Logs
-pub mod Numberings
-pub mod Orders
 pub mod Outcomes
-pub mod Reading
-pub mod Serving
-pub mod Starts
-pub mod Subjects
-pub mod Summary
-pub mod Tasks

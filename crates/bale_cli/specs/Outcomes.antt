@@ -4,14 +4,16 @@ use Rattle.std.specs.Result.{IsErrAnd}
 use Rattle.bale_types.specs.Stream.{after, IsFront}
 use Rattle.rank_group.specs.declared.closed_round.ClosedRound.{ClosedRound}
 use Rattle.bale_words.specs.declared.command.Command.{Command}
-use Rattle.bale_cli.specs.declared.exchange.Finish.{Finish}
-use Rattle.bale_cli.specs.declared.refusal.BadText.{BadText}
-use Rattle.bale_cli.specs.declared.refusal.Refusal.{Refusal}
-use Rattle.bale_cli.specs.declared.refusal.Refusal.TheVariants as refusal
-use Rattle.bale_cli.specs.declared.subject.Subject.{Subject}
-use Rattle.bale_cli.specs.declared.unfit.Unfit.{Unfit}
-use Rattle.bale_cli.specs.Answer.{answer_to, refusal_text, status_of, reads, Asked, IsBad, IsOfText, IsUnfit, Told, Wrote}
-use Rattle.bale_cli.specs.Asking.{TellsCommand}
+use Rattle.bale_runs.specs.declared.exchange.Finish.{Finish}
+use Rattle.bale_subjects.specs.declared.refusal.BadText.{BadText}
+use Rattle.bale_subjects.specs.declared.refusal.Refusal.{Refusal}
+use Rattle.bale_subjects.specs.declared.refusal.Refusal.TheVariants as refusal
+use Rattle.bale_subjects.specs.declared.subject.Subject.{Subject}
+use Rattle.bale_subjects.specs.declared.unfit.Unfit.{Unfit}
+use Rattle.bale_answers.specs.Answer.{answer_to, Asked, IsBad, IsUnfit, Wrote}
+use Rattle.bale_subjects.specs.Refusals.{refusal_text, status_of, IsOfText}
+use Rattle.bale_subjects.specs.Reading.{reads, Told}
+use Rattle.bale_runs.specs.Asking.{TellsCommand}
 
 -- An answer, or why there is none: what the words ask for (`job`), of what the source told before (`left`) and has left after (`left'`),
 -- on a sink that had taken `taken` before and has taken `taken'` after. `ReadRose` and `WriteRose` say that faults rose.

@@ -1,5 +1,5 @@
 use Rattle.std.proofs.Common.{Err, Some, map, string_bytes, refl, ap}
-use Rattle.bale_cli.specs.declared.refusal.Refusal.{Refusal}
+use Rattle.bale_subjects.specs.declared.refusal.Refusal.{Refusal}
 use Rattle.bale_words.specs.Words.{command_of}
 use Rattle.bale_cli.proofs.Answering.{at_job, early}
 use Rattle.bale_cli.proofs.calls.answer.Goals as goal

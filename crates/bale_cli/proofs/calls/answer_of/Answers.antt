@@ -1,11 +1,11 @@
 use Rattle.std.proofs.Common.{◌≡◌, Bool, List, ℕ, Some, None, Ok, Err, refl, ap, subst}
-use Rattle.bale_cli.specs.declared.subject.Subject.{Subject}
-use Rattle.bale_cli.specs.declared.refusal.Refusal.{Refusal}
-use Rattle.bale_cli.specs.declared.refusal.Refusal.TheVariants as refusal
-use Rattle.bale_cli.specs.declared.unfit.Unfit.{Unfit}
-use Rattle.bale_cli.specs.Answer.{Told}
-use Rattle.bale_cli.specs.Subjects.{subject_asked}
-use Rattle.bale_cli.specs.Fitness.{unfitness}
+use Rattle.bale_subjects.specs.declared.subject.Subject.{Subject}
+use Rattle.bale_subjects.specs.declared.refusal.Refusal.{Refusal}
+use Rattle.bale_subjects.specs.declared.refusal.Refusal.TheVariants as refusal
+use Rattle.bale_subjects.specs.declared.unfit.Unfit.{Unfit}
+use Rattle.bale_subjects.specs.Reading.{Told}
+use Rattle.bale_subjects.specs.Subjects.{subject_asked}
+use Rattle.bale_subjects.specs.Fitness.{unfitness}
 use Rattle.bale_cli.proofs.Answering.{subject_refused, ran_answered}
 use Rattle.bale_cli.proofs.calls.answer_of.Goals as goal
 

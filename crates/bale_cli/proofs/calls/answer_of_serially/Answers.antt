@@ -1,10 +1,10 @@
 use Rattle.std.proofs.Common.{Err, refl, ap, subst}
-use Rattle.bale_cli.specs.declared.subject.Subject.{Subject}
+use Rattle.bale_subjects.specs.declared.subject.Subject.{Subject}
 use Rattle.bale_words.specs.declared.command.Command.{Command}
-use Rattle.bale_cli.specs.declared.refusal.Refusal.{Refusal}
-use Rattle.bale_cli.specs.Asking.{TurnsOfCommand}
+use Rattle.bale_subjects.specs.declared.refusal.Refusal.{Refusal}
+use Rattle.bale_runs.specs.Asking.{TurnsOfCommand}
 use Rattle.bale_cli.proofs.Answering.{subject_refused, memory_only, ran_answered, same_asked}
-use Rattle.bale_cli.proofs.Heard.{no_turns}
+use Rattle.bale_runs.proofs.Heard.{no_turns}
 use Rattle.bale_cli.proofs.calls.answer_of_serially.Goals as goal
 
 pub returns-in-Ok-clause-answered : goal.returns-in-Ok-clause-answered

@@ -1,8 +1,8 @@
 use Rattle.std.proofs.Common.{Err, Some, map, string_bytes, refl, ap}
-use Rattle.bale_cli.specs.declared.refusal.Refusal.{Refusal}
+use Rattle.bale_subjects.specs.declared.refusal.Refusal.{Refusal}
 use Rattle.bale_words.specs.Words.{command_of}
 use Rattle.bale_cli.proofs.Answering.{asked_at, at_job, early}
-use Rattle.bale_cli.proofs.Heard.{no_turns}
+use Rattle.bale_runs.proofs.Heard.{no_turns}
 use Rattle.bale_cli.proofs.calls.answer_serially.Goals as goal
 
 pub returns-in-Ok-clause-answered : goal.returns-in-Ok-clause-answered

@@ -1,9 +1,9 @@
 use Rattle.bale_types.specs.Stream.{Rose}
 use Rattle.rank_group.specs.declared.closed_round.ClosedRound.{ClosedRound}
 use Rattle.bale_cli.specs.Outcomes.{IsOutcome}
-use Rattle.bale_cli.specs.Asking.{TellsCommand}
+use Rattle.bale_runs.specs.Asking.{TellsCommand}
 use Rattle.std.proofs.Common.{List}
-use Rattle.bale_cli.specs.Jobs.{as_asked}
+use Rattle.bale_runs.specs.Jobs.{as_asked}
 use Rattle.bale_cli.proofs.Outcomes.{usage, no_command, same_status, read_fault, write_fault, read_whole, answer, front, no_answer, said_whole, said_front, silent, rounds_told, no_rounds}
 use Rattle.bale_cli.proofs.calls.run.Given.{Over}
 use Rattle.bale_cli.proofs.calls.run.Goals.{After-outcome_of}

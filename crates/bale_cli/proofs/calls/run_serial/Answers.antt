@@ -1,7 +1,7 @@
 use Rattle.bale_types.specs.Stream.{Rose}
 use Rattle.rank_group.specs.declared.closed_round.ClosedRound.{ClosedRound}
 use Rattle.bale_cli.specs.Outcomes.{IsOutcome}
-use Rattle.bale_cli.specs.Asking.{TellsCommand}
+use Rattle.bale_runs.specs.Asking.{TellsCommand}
 use Rattle.std.proofs.Common.{List, true}
 use Rattle.bale_cli.proofs.Outcomes.{usage, no_command, same_status, read_fault, write_fault, read_whole, answer, front, no_answer, said_whole, said_front, silent, rounds_told, no_rounds, refusal_only}
 use Rattle.bale_cli.proofs.calls.run_serial.Given.{Over}

@@ -1,0 +1,7 @@
+pub mod Answer
+pub mod Logs
+pub mod Orders
+pub mod Serving
+pub mod Starts
+pub mod Summary
+pub mod Tasks

@@ -1,0 +1,156 @@
+//! histo and ig, from a matrix to their lines.
+
+ghost use Rattle.std.specs.Prelude.{ℕ, ◌≤◌, IfOk};
+ghost use Rattle.round_program.specs.Canonical.{HaveEnded};
+ghost use Rattle.app_histo_ig.specs.Histos.{histo_rules};
+ghost use Rattle.app_histo_ig.specs.HistoRuns.{histo_starts, HistoEnded};
+ghost use Rattle.app_histo_ig.specs.Igs.{ig_rules};
+ghost use Rattle.app_histo_ig.specs.IgRuns.{ig_starts, IgEnded};
+ghost use Rattle.bale_answers.specs.Serving.{ServesHisto, ServesIg};
+
+use crate::application::{Application, Written};
+use app_histo_ig::{
+    Histo, Ig, IgAsker, histo_start, histo_write, ig_heard_write, ig_start, ig_write,
+};
+use bale_types::{Failed, NoMemory, Out, Sink};
+use bale_words::Task;
+use mtx_text::Matrix;
+use round_program::Progs;
+use std::alloc::Global;
+
+/// How many entries each column has.
+pub(crate) struct HistoAnswer;
+
+impl Written for HistoAnswer {
+    ghost use Rattle.bale_subjects.specs.declared.subject.Subject.TheVariants as subject;
+    ghost use Rattle.bale_answers.specs.Serving.{ServesHisto};
+
+    type Of = Matrix;
+
+    type Answer = Progs<Histo>;
+
+    ghost as_subject = { λ m. subject.Matrix m };
+
+    ghost serves = { ServesHisto };
+
+    ghost answers = { λ _ m ps. HistoEnded m ps };
+
+    fn status(task: &Task, answer: &Progs<Histo>, m: &Matrix) -> u8 {
+        0
+    }
+
+    fn write<K: Sink>(
+        task: &Task,
+        answer: &Progs<Histo>,
+        m: &Matrix,
+        out: &mut Out<'_, K>,
+    ) -> Result<(), Failed> {
+        histo_write(answer, out)
+    }
+}
+
+impl Application for HistoAnswer {
+    type Prog = Histo;
+
+    ghost starts = { λ _. histo_starts };
+
+    fn start(alloc: Global, task: &Task, m: &Matrix, ranks: u32) -> Result<Progs<Histo>, NoMemory> {
+        histo_start(alloc, m, ranks)
+    }
+
+    fn end(
+        alloc: Global,
+        task: &Task,
+        m: &Matrix,
+        progs: Progs<Histo>,
+    ) -> Result<Progs<Histo>, NoMemory>
+        requires serves { ServesHisto task.now m.now }
+        requires ended { (ranks : ℕ) × (1 ≤ ranks) × (ranks ≤ 64) × HaveEnded histo_rules (histo_starts ranks m.now) progs }
+        ensures { IfOk result (λ a. HistoEnded m.now a) }
+    {
+        let _sparse = m.entries();
+        Ok(progs)
+    }
+}
+
+/// For each entry the sum of its column.
+pub(crate) struct IgAnswer;
+
+impl Written for IgAnswer {
+    ghost use Rattle.bale_subjects.specs.declared.subject.Subject.TheVariants as subject;
+    ghost use Rattle.bale_answers.specs.Serving.{ServesIg};
+
+    type Of = Matrix;
+
+    type Answer = Progs<Ig>;
+
+    ghost as_subject = { λ m. subject.Matrix m };
+
+    ghost serves = { ServesIg };
+
+    ghost answers = { λ _ m ps. IgEnded m ps };
+
+    fn status(task: &Task, answer: &Progs<Ig>, m: &Matrix) -> u8 {
+        0
+    }
+
+    fn write<K: Sink>(
+        task: &Task,
+        answer: &Progs<Ig>,
+        m: &Matrix,
+        out: &mut Out<'_, K>,
+    ) -> Result<(), Failed> {
+        ig_write(answer, m, out)
+    }
+}
+
+impl Application for IgAnswer {
+    type Prog = Ig;
+
+    ghost starts = { λ _. ig_starts };
+
+    fn start(alloc: Global, task: &Task, m: &Matrix, ranks: u32) -> Result<Progs<Ig>, NoMemory> {
+        ig_start(alloc, m, ranks)
+    }
+
+    fn end(alloc: Global, task: &Task, m: &Matrix, progs: Progs<Ig>) -> Result<Progs<Ig>, NoMemory>
+        requires serves { ServesIg task.now m.now }
+        requires ended { (ranks : ℕ) × (1 ≤ ranks) × (ranks ≤ 64) × HaveEnded ig_rules (ig_starts ranks m.now) progs }
+        ensures { IfOk result (λ a. IgEnded m.now a) }
+    {
+        let _sparse = m.entries();
+        Ok(progs)
+    }
+}
+
+/// The same, by ranks that asked one another.
+pub(crate) struct IgHeardAnswer;
+
+impl Written for IgHeardAnswer {
+    ghost use Rattle.app_histo_ig.specs.ColumnAnswers.{IgHeard};
+    ghost use Rattle.bale_subjects.specs.declared.subject.Subject.TheVariants as subject;
+    ghost use Rattle.bale_answers.specs.Serving.{ServesIg};
+
+    type Of = Matrix;
+
+    type Answer = Progs<IgAsker>;
+
+    ghost as_subject = { λ m. subject.Matrix m };
+
+    ghost serves = { ServesIg };
+
+    ghost answers = { λ _ m askers. IgHeard m askers };
+
+    fn status(task: &Task, answer: &Progs<IgAsker>, m: &Matrix) -> u8 {
+        0
+    }
+
+    fn write<K: Sink>(
+        task: &Task,
+        answer: &Progs<IgAsker>,
+        m: &Matrix,
+        out: &mut Out<'_, K>,
+    ) -> Result<(), Failed> {
+        ig_heard_write(answer, m, out)
+    }
+}

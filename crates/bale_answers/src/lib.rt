@@ -1,0 +1,26 @@
+//! What a command answers, below the drives that run it: the serial answer, and each application from its subject to the bytes of its
+//! answer.
+//!
+//! | Call | For |
+//! |---|---|
+//! | [`started`] | the programs of a task on its subject, in round 0 |
+//! | [`finished`] | the same programs after their last round, to the bytes of the answer or their summary |
+//! | [`finished_by_asking`] | the same of ig, by the ranks that asked one another |
+//!
+//! Read `specs/Answer` first: the serial answer, about the words and the text alone. Then `specs/Tasks` (what each application answers),
+//! `specs/Orders` (what topo answers) and `specs/Summary` (the line of `--gen`). `specs/Starts` has the programs of a task; the other
+//! files of `specs/` are the code's own words.
+#![tactic(auto)]
+
+mod application;
+mod column_answers;
+mod counter;
+mod finish;
+mod line_answer;
+mod matrix_answers;
+mod order_answer;
+mod start;
+mod walk_answers;
+
+pub use finish::{Ending, finished, finished_by_asking};
+pub use start::started;

@@ -1,0 +1,77 @@
+//! tally, from lines to how often each of them was read.
+
+ghost use Rattle.std.specs.Prelude.{ℕ, ◌≡◌, ◌≤◌, IfOk};
+ghost use Rattle.round_program.specs.Canonical.{HaveEnded};
+ghost use Rattle.elastic.specs.Mails.{mail_rules};
+ghost use Rattle.app_tally.specs.Counts.{tally_of};
+ghost use Rattle.app_tally.specs.Tallies.{tally_rules};
+ghost use Rattle.app_tally.specs.TallyRuns.{tally_starts};
+
+use crate::application::{Application, Written};
+use app_tally::{Counts, Lines, TallyMailer, tally_end, tally_start, tally_write};
+use bale_types::{Failed, NoMemory, Out, Sink};
+use bale_words::Task;
+use round_program::Progs;
+use std::alloc::Global;
+
+/// How often each distinct line comes.
+pub(crate) struct TallyAnswer;
+
+impl Written for TallyAnswer {
+    ghost use Rattle.std.specs.Prelude.{◌≡◌};
+    ghost use Rattle.app_tally.specs.Counts.{tally_of};
+    ghost use Rattle.bale_subjects.specs.declared.subject.Subject.TheVariants as subject;
+
+    type Of = Lines;
+
+    type Answer = Counts;
+
+    ghost as_subject = { λ lines. subject.Lines lines };
+
+    ghost serves = { λ _ _. Unit {0} };
+
+    ghost answers = { λ _ lines counts. counts ≡ tally_of lines };
+
+    fn status(task: &Task, answer: &Counts, lines: &Lines) -> u8 {
+        0
+    }
+
+    fn write<K: Sink>(
+        task: &Task,
+        answer: &Counts,
+        lines: &Lines,
+        out: &mut Out<'_, K>,
+    ) -> Result<(), Failed> {
+        tally_write(answer, out)
+    }
+}
+
+impl Application for TallyAnswer {
+    ghost use Rattle.app_tally.specs.TallyRuns.{tally_starts};
+
+    type Prog = TallyMailer;
+
+    ghost starts = { λ _. tally_starts };
+
+    fn start(
+        alloc: Global,
+        task: &Task,
+        lines: &Lines,
+        ranks: u32,
+    ) -> Result<Progs<TallyMailer>, NoMemory> {
+        tally_start(alloc, lines, ranks)
+    }
+
+    fn end(
+        alloc: Global,
+        task: &Task,
+        lines: &Lines,
+        progs: Progs<TallyMailer>,
+    ) -> Result<Counts, NoMemory>
+        requires ended { (ranks : ℕ) × (1 ≤ ranks) × (ranks ≤ 64) × HaveEnded (mail_rules tally_rules) (tally_starts ranks lines.now) progs }
+        ensures { IfOk result (λ counts. counts ≡ tally_of lines.now) }
+    {
+        let _letters = lines.len();
+        tally_end(alloc, &progs)
+    }
+}

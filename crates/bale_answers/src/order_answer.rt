@@ -1,0 +1,96 @@
+//! topo, from a matrix to its lines, or to `not triangular`.
+
+ghost use Rattle.std.specs.Prelude.{ℕ, ◌≡◌, ◌≤◌, IfOk, OnOk, OnErr};
+ghost use Rattle.bale_types.specs.Stream.{after, HasCause, IsFront};
+ghost use Rattle.bale_types.specs.Out.{appended};
+ghost use Rattle.round_program.specs.Canonical.{HaveEnded};
+ghost use Rattle.app_topo.specs.Levels.{topo_order};
+ghost use Rattle.app_topo.specs.Topos.{topo_rules};
+ghost use Rattle.app_topo.specs.TopoRuns.{topo_starts};
+ghost use Rattle.bale_answers.specs.Orders.{order_text};
+ghost use Rattle.bale_answers.specs.Serving.{ServesTopo};
+
+use crate::application::{Application, Written};
+use app_topo::{Topo, TopoOrder, topo_end, topo_start, topo_write};
+use bale_types::{Failed, NoMemory, Out, Sink};
+use bale_words::Task;
+use mtx_text::Matrix;
+use round_program::Progs;
+use std::alloc::Global;
+
+/// An order of rows and columns that makes the matrix upper triangular.
+pub(crate) struct OrderAnswer;
+
+impl Written for OrderAnswer {
+    ghost use Rattle.std.specs.Prelude.{◌≡◌};
+    ghost use Rattle.app_topo.specs.Levels.{topo_order};
+    ghost use Rattle.bale_subjects.specs.declared.subject.Subject.TheVariants as subject;
+    ghost use Rattle.bale_answers.specs.Serving.{ServesTopo};
+
+    type Of = Matrix;
+
+    type Answer = Option<TopoOrder>;
+
+    ghost as_subject = { λ m. subject.Matrix m };
+
+    ghost serves = { ServesTopo };
+
+    ghost answers = { λ _ m o. o ≡ topo_order m.rows m.entries };
+
+    fn status(task: &Task, answer: &Option<TopoOrder>, m: &Matrix) -> u8 {
+        match answer {
+            Some(_) => 0,
+            None => 1,
+        }
+    }
+
+    fn write<K: Sink>(
+        task: &Task,
+        answer: &Option<TopoOrder>,
+        m: &Matrix,
+        out: &mut Out<'_, K>,
+    ) -> Result<(), Failed> {
+        write_order(answer, out)
+    }
+}
+
+impl Application for OrderAnswer {
+    ghost use Rattle.app_topo.specs.TopoRuns.{topo_starts};
+
+    type Prog = Topo;
+
+    ghost starts = { λ _. topo_starts };
+
+    fn start(alloc: Global, task: &Task, m: &Matrix, ranks: u32) -> Result<Progs<Topo>, NoMemory> {
+        topo_start(alloc, m, ranks)
+    }
+
+    fn end(
+        alloc: Global,
+        task: &Task,
+        m: &Matrix,
+        progs: Progs<Topo>,
+    ) -> Result<Option<TopoOrder>, NoMemory>
+        requires serves { ServesTopo task.now m.now }
+        requires ended { (ranks : ℕ) × (1 ≤ ranks) × (ranks ≤ 64) × HaveEnded topo_rules (topo_starts ranks m.now) progs }
+        ensures { IfOk result (λ o. o ≡ topo_order m.now.rows m.now.entries) }
+    {
+        let _sparse = m.entries();
+        topo_end(alloc, m, &progs)
+    }
+}
+
+/// The lines of an order, or that there is none.
+fn write_order<K: Sink>(order: &Option<TopoOrder>, out: &mut Out<'_, K>) -> Result<(), Failed>
+    ensures ok { OnOk result (appended K.taken out.new ≡ after (appended K.taken out.old) (order_text order.now)) }
+    ensures err { OnErr result (IsFront (K.taken out.new.sink.now) (after (appended K.taken out.old) (order_text order.now))) }
+    ensures cause { HasCause (K.faults out.old.sink.now) (K.faults out.new.sink.now) result }
+    ensures never_falls { K.faults out.old.sink.now ≤ K.faults out.new.sink.now }
+    ensures grows { IsFront (K.taken out.old.sink.now) (K.taken out.new.sink.now) }
+    ensures same_sink { out.new.sink.ghost_name ≡ out.old.sink.ghost_name }
+{
+    match order {
+        Some(order) => topo_write(order, out),
+        None => out.text(b"not triangular\n"),
+    }
+}

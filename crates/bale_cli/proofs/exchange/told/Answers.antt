@@ -1,4 +1,0 @@
-use Rattle.bale_cli.proofs.exchange.told.Goals as goal
-
-pub finished-requires-clause-ended : goal.finished-requires-clause-ended
-finished-requires-clause-ended g c = c.requires.ended

@@ -1,7 +1,0 @@
-use Rattle.std.proofs.Common.{◌≡◌}
-use Rattle.std.specs.List.{range_with_len}
-use Rattle.bale_cli.proofs.Orders.{Below}
-use Rattle.bale_cli.proofs.numberings.in_order.Given as goal
-
-abbrev pub invariant-loop-x : goal.invariant-loop-x
-invariant-loop-x l = record { below : Below l.x l.numbers.items; items : l.numbers.items ≡ range_with_len 0 l.x }

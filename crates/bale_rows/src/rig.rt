@@ -1,0 +1,218 @@
+//! What the tests of the top calls share: runs of both, and their answers as texts.
+ghost use Rattle.std.specs.Prelude.{◌≡◌, ◌<◌};
+
+use bale_cli::{Outcome, run, run_serial};
+use bale_types::{MemSink, MemSource};
+use rank_group::{OpenGate, Steps};
+use std::alloc::Global;
+use std::marker::Brand;
+use std::process::Abort;
+use std::string::ToString;
+use std::sync::Wait;
+use std::sync::ledger::{Blank, Ledger};
+use std::test::Fail;
+use std::thread::Threads;
+
+/// The text of most runs: one rank's worth of everything.
+pub(crate) const ONE: &[u8] =
+    b"%%MatrixMarket matrix coordinate pattern general\n3 3 4\n1 1\n1 3\n2 3\n3 3\n";
+
+pub(crate) const PATTERN: &str = "%%MatrixMarket matrix coordinate pattern general\n";
+
+pub(crate) const INTEGER: &str = "%%MatrixMarket matrix coordinate integer general\n";
+
+pub(crate) fn words(alloc: Global, text: &str) -> Result<Vec<String>, Fail> {
+    let mut words = Vec::new(alloc);
+    for word in text.split_whitespace() {
+        words.push(word.to_string(alloc)?)?;
+    }
+    Ok(words)
+}
+
+/// A serial run whose turns nobody asks for.
+fn run_counted<L: Ledger>(
+    alloc: Global,
+    words: &[String],
+    source: &mut MemSource,
+    out: &mut MemSink,
+    err: &mut MemSink,
+    blank: Blank,
+) -> Outcome
+    requires name { blank.name ≡ L.name }
+    requires parts { blank.parts ≡ L.parts }
+    requires some { 0 < L.parts }
+{
+    let mut steps = Steps::<L>::new(blank);
+    run_serial(alloc, words, source, out, err, &mut steps)
+}
+
+pub(crate) fn run_alone(
+    alloc: Global,
+    words: &[String],
+    source: &mut MemSource,
+    out: &mut MemSink,
+    err: &mut MemSink,
+) -> Outcome {
+    run_counted::<Brand>(alloc, words, source, out, err, Blank::new(1))
+}
+
+/// Status, out and err of a serial run, as one text.
+pub(crate) fn told_alone(
+    alloc: Global,
+    text: &str,
+    source: &mut MemSource,
+    out: &mut MemSink,
+) -> Result<String, Fail> {
+    let words = words(alloc, text)?;
+    let mut err = MemSink::new(alloc, 4096, 4096, &[])?;
+    let outcome = run_alone(alloc, words.as_slice(), source, out, &mut err);
+    let status = outcome.status;
+    let said = str::from_utf8(err.taken())?;
+    let written = str::from_utf8(out.taken())?;
+    Ok(format!(in alloc; "{status} {written}{said}")?)
+}
+
+/// The same of a run as the words ask for it.
+pub(crate) fn told_as_asked<R: Threads + Wait + Sync>(
+    rt: &R,
+    alloc: Global,
+    text: &str,
+    source: &mut MemSource,
+    out: &mut MemSink,
+) -> Result<String, Fail> {
+    let words = words(alloc, text)?;
+    let mut err = MemSink::new(alloc, 4096, 4096, &[])?;
+    let outcome = run(
+        rt,
+        alloc,
+        words.as_slice(),
+        source,
+        out,
+        &mut err,
+        &OpenGate,
+    );
+    let status = outcome.status;
+    let said = str::from_utf8(err.taken())?;
+    let written = str::from_utf8(out.taken())?;
+    Ok(format!(in alloc; "{status} {written}{said}")?)
+}
+
+/// The answer of a serial run, of a source that gives `most` bytes at a call and fails at these calls.
+pub(crate) fn read_alone(
+    alloc: Global,
+    words: &str,
+    text: &[u8],
+    most: usize,
+    fails: &[u64],
+) -> Result<String, Fail>
+    requires { 0 < most }
+{
+    let mut source = MemSource::new(alloc, text, most, fails)?;
+    let mut out = MemSink::new(alloc, 1 << 20, 1 << 20, &[])?;
+    told_alone(alloc, words, &mut source, &mut out)
+}
+
+/// The same of a run as the words ask for it: on threads, where they don't say else.
+pub(crate) fn read_as_asked<R: Threads + Wait + Sync>(
+    rt: &R,
+    alloc: Global,
+    words: &str,
+    text: &[u8],
+    most: usize,
+    fails: &[u64],
+) -> Result<String, Fail>
+    requires { 0 < most }
+{
+    let mut source = MemSource::new(alloc, text, most, fails)?;
+    let mut out = MemSink::new(alloc, 1 << 20, 1 << 20, &[])?;
+    told_as_asked(rt, alloc, words, &mut source, &mut out)
+}
+
+/// The answer of a serial run, to a sink that takes `most` bytes at a call and fails at these calls.
+pub(crate) fn written_alone(
+    alloc: Global,
+    words: &str,
+    text: &[u8],
+    most: usize,
+    fails: &[u64],
+) -> Result<String, Fail>
+    requires { 0 < most }
+{
+    let mut source = MemSource::new(alloc, text, 65_536, &[])?;
+    let mut out = MemSink::new(alloc, 100, most, fails)?;
+    told_alone(alloc, words, &mut source, &mut out)
+}
+
+/// The same of a run as the words ask for it.
+pub(crate) fn written_as_asked<R: Threads + Wait + Sync>(
+    rt: &R,
+    alloc: Global,
+    words: &str,
+    text: &[u8],
+    most: usize,
+    fails: &[u64],
+) -> Result<String, Fail>
+    requires { 0 < most }
+{
+    let mut source = MemSource::new(alloc, text, 65_536, &[])?;
+    let mut out = MemSink::new(alloc, 100, most, fails)?;
+    told_as_asked(rt, alloc, words, &mut source, &mut out)
+}
+
+/// The answer of a serial run.
+pub(crate) fn answer_alone(alloc: Global, words: &str, text: &[u8]) -> Result<String, Fail> {
+    read_alone(alloc, words, text, 65_536, &[])
+}
+
+/// The answer of a run as the words ask for it.
+pub(crate) fn answer_as_asked<R: Threads + Wait + Sync>(
+    rt: &R,
+    alloc: Global,
+    words: &str,
+    text: &[u8],
+) -> Result<String, Fail> {
+    read_as_asked(rt, alloc, words, text, 65_536, &[])
+}
+
+/// An answer is the one that is wanted of these words.
+pub(crate) fn is_wanted<R: Abort>(rt: &R, words: &str, got: String, want: &str) {
+    assert_eq!(rt; got.as_str(), want, "{words}");
+}
+
+/// A serial run has this answer.
+pub(crate) fn wants_alone<R: Abort>(
+    rt: &R,
+    alloc: Global,
+    words: &str,
+    text: &[u8],
+    want: &str,
+) -> Result<(), Fail> {
+    let got = answer_alone(alloc, words, text)?;
+    is_wanted(rt, words, got, want);
+    Ok(())
+}
+
+/// A run as the words ask for it has this answer.
+pub(crate) fn wants_as_asked<R: Threads + Wait + Sync + Abort>(
+    rt: &R,
+    alloc: Global,
+    words: &str,
+    text: &[u8],
+    want: &str,
+) -> Result<(), Fail> {
+    let got = answer_as_asked(rt, alloc, words, text)?;
+    is_wanted(rt, words, got, want);
+    Ok(())
+}
+
+/// Both have it.
+pub(crate) fn wants<R: Threads + Wait + Sync + Abort>(
+    rt: &R,
+    alloc: Global,
+    words: &str,
+    text: &[u8],
+    want: &str,
+) -> Result<(), Fail> {
+    wants_alone(rt, alloc, words, text, want)?;
+    wants_as_asked(rt, alloc, words, text, want)
+}

@@ -1,0 +1,4 @@
+pub mod Cases
+pub mod Exchanges
+pub mod Heard
+pub mod Orders

@@ -1,0 +1,4 @@
+use Rattle.bale_runs.proofs.exchange.told.Goals as goal
+
+pub finished-requires-clause-ended : goal.finished-requires-clause-ended
+finished-requires-clause-ended g c = c.requires.ended

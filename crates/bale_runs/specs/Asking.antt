@@ -1,0 +1,66 @@
+-- What a command exchanges, and how many turns that takes on one thread: by queries and replies for ig over biconvey, else in the
+-- rounds of its programs.
+use Rattle.std.specs.Prelude.{◌≡◌, ◌≤◌, ◌+◌, ℕ, Bool, true, false, List, [], ◌∷◌, length}
+use Rattle.route_tensor.specs.Grid.{ranks}
+use Rattle.mtx_text.specs.Sparse.{Sparse}
+use Rattle.rank_node.specs.Movers.{manner_of}
+use Rattle.rank_node.specs.declared.via.Via.TheVariants as via
+use Rattle.rank_group.specs.declared.closed_round.ClosedRound.{ClosedRound}
+use Rattle.rank_group.specs.Rounds.{round_of}
+use Rattle.rank_group.specs.Told.{Made, turns_within}
+use Rattle.app_histo_ig.specs.Sums.{sums_rules}
+use Rattle.app_histo_ig.specs.SumsRuns.{sums_starts}
+use Rattle.app_histo_ig.specs.Asking.{AskingState, ig_talk}
+use Rattle.app_histo_ig.specs.AskingRuns.{AreAskersOf}
+use Rattle.biconvey.specs.Drives.{TellsExchange}
+use Rattle.biconvey.specs.Worlds.{turns_of}
+use Rattle.bale_words.specs.declared.command.Command.{Command}
+use Rattle.bale_subjects.specs.declared.subject.Subject.{Subject}
+use Rattle.bale_subjects.specs.declared.subject.Subject.TheVariants as subject
+use Rattle.bale_runs.specs.Jobs.{by_asking, manner_for}
+use Rattle.bale_runs.specs.Runs.{made_for, Tells, TellsTask, TurnsOfTask}
+
+-- The rounds of ig by queries and replies are three closed rounds. The first tells the one round on conveyors in which the columns
+-- are summed. The others tell the queries, of each entry's rank for its column, and the replies, over two more banks of the same make.
+pub record TellsAsking (m : Sparse) (made : Made) (steady : Bool) (rounds : List ClosedRound) : Type 0 where
+  pub sums : ClosedRound
+  pub queries : ClosedRound
+  pub replies : ClosedRound
+  pub three : rounds ≡ sums ∷ queries ∷ replies ∷ []
+  pub summed : Tells sums_rules (sums_starts (ranks made.dims) m) made (manner_of via.Convey steady) (sums ∷ [])
+  pub askers : List AskingState
+  pub are : AreAskersOf m (ranks made.dims) askers
+  pub exchanged : TellsExchange ig_talk askers made steady (round_of queries) (round_of replies)
+
+-- The second and third of them alone: the queries and the replies.
+pub record TellsReplies (m : Sparse) (made : Made) (steady : Bool) (rounds : List ClosedRound) : Type 0 where
+  pub queries : ClosedRound
+  pub replies : ClosedRound
+  pub two : rounds ≡ queries ∷ replies ∷ []
+  pub askers : List AskingState
+  pub are : AreAskersOf m (ranks made.dims) askers
+  pub exchanged : TellsExchange ig_talk askers made steady (round_of queries) (round_of replies)
+
+-- From `before` turns to `after` there are no more than the round of sums takes at most, and an exchange of one query an entry.
+abbrev pub TurnsOfAsking : Sparse → Bool → List ℕ → ℕ → ℕ → Type 0
+TurnsOfAsking m steady dims before after =
+    after ≤ before + (turns_within sums_rules (manner_of via.Convey steady) dims (sums_starts (ranks dims) m) 1 + turns_of dims (length m.entries))
+
+-- What the rounds of a command tell, by queries and replies or not. Lines have no columns to ask for.
+abbrev pub TellsBy : Bool → Command → Subject → Made → List ClosedRound → Type 0
+TellsBy true c (subject.Matrix m) made rounds = TellsAsking m made c.travel.steady rounds
+TellsBy true c (subject.Lines lines) made rounds = ⊥
+TellsBy false c s made rounds = TellsTask c.task s made (manner_for c) rounds
+
+-- The rounds tell the run of a command on its subject, on one thread or by threads.
+abbrev pub TellsCommand : Bool → Command → Subject → List ClosedRound → Type 0
+TellsCommand serial c s rounds = TellsBy (by_asking c) c s (made_for serial c) rounds
+
+abbrev pub TurnsBy : Bool → Command → Subject → ℕ → ℕ → Type 0
+TurnsBy true c (subject.Matrix m) before after = TurnsOfAsking m c.travel.steady c.grid before after
+TurnsBy true c (subject.Lines lines) before after = after ≡ before
+TurnsBy false c s before after = TurnsOfTask c.task s (manner_for c) c.grid before after
+
+-- The turns of a command on its subject, all ranks on one thread, are bounded before it.
+abbrev pub TurnsOfCommand : Command → Subject → ℕ → ℕ → Type 0
+TurnsOfCommand c s before after = TurnsBy (by_asking c) c s before after

@@ -1,0 +1,17 @@
+//! The run of a command for its subject: its programs, driven by one of the drives, and then the answer, written.
+//!
+//! | Call | For |
+//! |---|---|
+//! | [`ran`] | the run that the words ask for, each rank on a thread or all on one |
+//! | [`ran_serially`] | the run on this thread, whatever the words say: its turns are bounded |
+//! | [`drives_serially`] | whether the words ask for one thread |
+//! | [`Finish`] | how a run ended: the status, whether the answer was written, and what was exchanged |
+//!
+//! Read `specs/Jobs` first (how a command is driven and carried), then `specs/Runs` (which programs' run the rounds tell, and the bound
+//! on turns) and `specs/Asking` (the same by queries and replies).
+#![tactic(auto)]
+
+mod asking;
+mod exchange;
+
+pub use exchange::{Finish, drives_serially, ran, ran_serially};

@@ -68,7 +68,7 @@ impl Application for HistoAnswer {
         requires ended { (ranks : ℕ) × (1 ≤ ranks) × (ranks ≤ 64) × HaveEnded histo_rules (histo_starts ranks m.now) progs }
         ensures { IfOk result (λ a. HistoEnded m.now a) }
     {
-        let _sparse = m.entries();
+        m.known();
         Ok(progs)
     }
 }
@@ -118,7 +118,7 @@ impl Application for IgAnswer {
         requires ended { (ranks : ℕ) × (1 ≤ ranks) × (ranks ≤ 64) × HaveEnded ig_rules (ig_starts ranks m.now) progs }
         ensures { IfOk result (λ a. IgEnded m.now a) }
     {
-        let _sparse = m.entries();
+        m.known();
         Ok(progs)
     }
 }

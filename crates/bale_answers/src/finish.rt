@@ -87,7 +87,7 @@ pub fn finished_by_asking<K: Sink>(
     ensures cause { HasCause (K.faults out.old) (K.faults out.new) result.written }
     ensures held { IsFront (K.taken out.old) (K.taken out.new) }
 {
-    let _sparse = m.entries();
+    m.known();
     written_as::<IgHeardAnswer, K>(&Task::Ig, m, askers, generated, out)
 }
 
@@ -111,7 +111,7 @@ fn finished_on<K: Sink>(
     ensures held { IsFront (K.taken out.old) (K.taken out.new) }
     ensures no_answer { OnErr result (K.taken out.new ≡ K.taken out.old) }
 {
-    let _sparse = m.entries();
+    m.known();
     match task {
         Task::Histo => finished_as::<HistoAnswer, K>(alloc, task, m, generated, progs, out),
         Task::Ig => finished_as::<IgAnswer, K>(alloc, task, m, generated, progs, out),

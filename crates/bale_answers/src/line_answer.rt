@@ -71,7 +71,7 @@ impl Application for TallyAnswer {
         requires ended { (ranks : ℕ) × (1 ≤ ranks) × (ranks ≤ 64) × HaveEnded (mail_rules tally_rules) (tally_starts ranks lines.now) progs }
         ensures { IfOk result (λ counts. counts ≡ tally_of lines.now) }
     {
-        let _letters = lines.len();
+        lines.known();
         tally_end(alloc, &progs)
     }
 }

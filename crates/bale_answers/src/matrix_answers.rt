@@ -67,7 +67,7 @@ impl Application for PermuteAnswer {
         m: &Matrix,
         ranks: u32,
     ) -> Result<Progs<Permute>, NoMemory> {
-        let _sparse = m.entries();
+        m.known();
         match task {
             Task::Permute(Permutations::Seed(seed)) => {
                 let perms = seed_perms(alloc, m.rows(), m.cols(), *seed)?;
@@ -92,7 +92,7 @@ impl Application for PermuteAnswer {
         requires ended { (ranks : ℕ) × (1 ≤ ranks) × (ranks ≤ 64) × HaveEnded permute_rules (permute_starts ranks m.now (moves_of task.now m.now).rows (moves_of task.now m.now).cols) progs }
         ensures { IfOk result (λ b. b ≡ permuted (moves_of task.now m.now).rows (moves_of task.now m.now).cols m.now) }
     {
-        let _sparse = m.entries();
+        m.known();
         permute_end(alloc, m, &progs)
     }
 }
@@ -156,7 +156,7 @@ impl Application for TransposeAnswer {
         requires ended { (ranks : ℕ) × (1 ≤ ranks) × (ranks ≤ 64) × HaveEnded transpose_rules (transpose_starts ranks m.now) progs }
         ensures { IfOk result (λ b. b ≡ transposed m.now) }
     {
-        let _sparse = m.entries();
+        m.known();
         transpose_end(alloc, m, &progs)
     }
 }

@@ -75,7 +75,7 @@ impl Application for OrderAnswer {
         requires ended { (ranks : ℕ) × (1 ≤ ranks) × (ranks ≤ 64) × HaveEnded topo_rules (topo_starts ranks m.now) progs }
         ensures { IfOk result (λ o. o ≡ topo_order m.now.rows m.now.entries) }
     {
-        let _sparse = m.entries();
+        m.known();
         topo_end(alloc, m, &progs)
     }
 }

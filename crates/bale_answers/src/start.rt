@@ -61,7 +61,7 @@ fn started_on(
     ensures starts { IfOk result (λ ps. ps ≡ matrix_starts task.now ranks m.now) }
     ensures begins { IfOk result (λ ps. (shape : List ℕ) × (most : ℕ) × InRound any_rules ranks 0 shape most ps × EndsWithin any_rules ps most) }
 {
-    let _sparse = m.entries();
+    m.known();
     match task {
         Task::Histo => started_as::<HistoAnswer>(alloc, task, m, ranks),
         Task::Ig => started_as::<IgAnswer>(alloc, task, m, ranks),

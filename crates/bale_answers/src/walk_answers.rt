@@ -74,7 +74,7 @@ impl Application for SsspAnswer {
         requires ended { (ranks : ℕ) × (1 ≤ ranks) × (ranks ≤ 64) × HaveEnded sssp_rules (sssp_starts ranks m.now (source_of task.now)) progs }
         ensures { IfOk result (λ a. SsspEnded m.now (source_of task.now) a) }
     {
-        let _sparse = m.entries();
+        m.known();
         Ok(progs)
     }
 }
@@ -136,7 +136,7 @@ impl Application for DeltaAnswer {
         requires ended { (ranks : ℕ) × (1 ≤ ranks) × (ranks ≤ 64) × HaveEnded delta_rules (delta_starts ranks m.now (source_of task.now) (width_of task.now)) progs }
         ensures { IfOk result (λ a. DeltaEnded m.now (source_of task.now) a) }
     {
-        let _sparse = m.entries();
+        m.known();
         Ok(progs)
     }
 }

@@ -257,7 +257,7 @@ fn replied_serially<L: Ledger>(
     ensures rounds { IfOk result (λ f. TellsReplies m.now (record { dims = grid.now; cap = cap; slots = slots; by_slots = false }) steady f.rounds) }
     ensures steps { steps.new ≤ steps.old + turns_of grid.now (length m.now.entries) }
 {
-    let _kept = m.entries();
+    m.known();
     let order = in_order(alloc, grid.ranks())?;
     let askers = asking(alloc, m, added)?;
     bi_serial(alloc, grid, cap, slots, steady, &order, askers, steps)
@@ -281,7 +281,7 @@ fn replied_on_threads<R: Threads + Wait + Sync, G: Gate + Sync>(
     ensures heard { IfOk result (λ f. IgHeard m.now f.progs) }
     ensures rounds { IfOk result (λ f. TellsReplies m.now (record { dims = grid.now; cap = cap; slots = slots; by_slots = true }) steady f.rounds) }
 {
-    let _kept = m.entries();
+    m.known();
     let _many = grid.ranks();
     let askers = asking(alloc, m, added)?;
     bi_threads(rt, alloc, grid, cap, slots, steady, askers, gate)
@@ -303,7 +303,7 @@ fn asking(alloc: Global, m: &Matrix, progs: Progs<AnyProgram>) -> Result<Progs<I
     requires ended { (ranks : ℕ) × (1 ≤ ranks) × HaveEnded any_rules (map sums_case (sums_starts ranks m.now)) progs }
     ensures askers { (ranks : ℕ) → 1 ≤ ranks → HaveEnded any_rules (map sums_case (sums_starts ranks m.now)) progs → IfOk result (λ qs. AreAskersOf m.now ranks qs) }
 {
-    let _kept = m.entries();
+    m.known();
     let sums = take_all::<IgSums>(alloc, progs)?;
     ig_askers(alloc, m, sums)
 }

@@ -32,7 +32,7 @@ pub returns-clause-heard : goal.returns-clause-heard
 returns-clause-heard g c =
     let x = (goal.at.returns-clause-heard g c).In_ok-askers in
     if_ok c.bi_threads.result (λ f. HaveHeard ig_talk c.in_ok-askers.askers f.progs) (λ f. IgHeard c.args.m.now f.progs)
-    (λ f h. all_heard c.args.m.now (ranks c.args.grid.now) c.in_ok-askers.askers f.progs (some g x) c.entries-kept.ensures.kept (are g x) h) c.bi_threads.ensures.heard
+    (λ f h. all_heard c.args.m.now (ranks c.args.grid.now) c.in_ok-askers.askers f.progs (some g x) c.known.ensures (are g x) h) c.bi_threads.ensures.heard
 
 pub returns-clause-rounds : goal.returns-clause-rounds
 returns-clause-rounds g c =

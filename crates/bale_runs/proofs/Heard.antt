@@ -1,5 +1,5 @@
 -- What a run by queries and replies tells, and how many turns it takes.
-use Rattle.std.proofs.Common.{ℕ, zero, suc, ◌≡◌, ◌≤◌, ◌<◌, ◌+◌, ◌%◌, ◌&&◌, Bool, true, false, List, [], ◌∷◌, ◌++◌, All, map, length, get_or, sum_by, Some, slice_get, Result, Ok, Err, IfOk, refl, sym, ap, ◌∙◌, subst, arith}
+use Rattle.std.proofs.Common.{ℕ, ◌≡◌, ◌≤◌, ◌<◌, ◌+◌, ◌&&◌, Bool, true, false, List, [], ◌∷◌, ◌++◌, All, map, length, get_or, sum_by, Result, Ok, Err, IfOk, refl, sym, ap, ◌∙◌, subst, arith}
 use Rattle.std.proofs.Math.Nat.{mod-lt}
 use Rattle.std.proofs.lemmas.List.{length-map}
 use Rattle.std.proofs.lemmas.List.FromFn.{length-enumerate_from, length-map-range_with_len}
@@ -12,7 +12,7 @@ use Rattle.sparse_rows.specs.Owners.{Numbered, numbered, entry_owner, column_own
 use Rattle.sparse_rows.proofs.Deals.{dealt_sum}
 use Rattle.round_program.specs.Canonical.{HasRounds, HaveEnded}
 use Rattle.round_program.specs.Replies.{HaveHeard}
-use Rattle.rank_node.specs.Movers.{Manner, manner_of}
+use Rattle.rank_node.specs.Movers.{manner_of}
 use Rattle.rank_node.specs.declared.via.Via.TheVariants as via
 use Rattle.rank_group.specs.declared.closed_round.ClosedRound.{ClosedRound}
 use Rattle.rank_group.specs.Rounds.{round_of}
@@ -36,7 +36,7 @@ use Rattle.bale_subjects.specs.declared.subject.Subject.{Subject}
 use Rattle.bale_subjects.specs.declared.subject.Subject.TheVariants as subject
 use Rattle.bale_runs.specs.Asking.{TellsAsking, TellsReplies, TurnsBy, TurnsOfAsking, TurnsOfCommand}
 use Rattle.bale_runs.specs.Jobs.{by_asking, is_biconvey, is_ig}
-use Rattle.bale_runs.specs.Runs.{Tells, WithinTurns}
+use Rattle.bale_runs.specs.Runs.{Tells}
 use Rattle.bale_runs.proofs.Cases.{turns, none_made}
 
 -- ---- Facts of a result

@@ -6,7 +6,6 @@ use Rattle.std.proofs.lemmas.List.Elements.{All-head, All-tail, All-cons, All-ni
 use Rattle.std.proofs.lemmas.List.Sorted.{IsPermutation-refl}
 use Rattle.std.proofs.lemmas.List.Sums.{sum_by-cons}
 use Rattle.std.proofs.lemmas.Nat.{mod_below}
-use Rattle.std.proofs.lemmas.Option.{none-some}
 use Rattle.mtx_text.specs.Permutations.{Permutes}
 use Rattle.mtx_text.specs.Seeds.{drawn, shuffled, step, word}
 use Rattle.mtx_text.proofs.Bands.{as_many, all_below}

@@ -21,7 +21,10 @@ use bale_words::{Command, Generated, Task, WordsFault, read_command};
 use mtx_text::{Matrix, gen_matrix, read_matrix};
 use std::alloc::Global;
 
-/// The command that the words give.
+/// The command that the words give, with its numbers in their ranges.
+///
+/// # Errors
+/// `Usage` where the words give none, and `NoMemory`.
 pub fn read_words(alloc: Global, words: &[String]) -> Result<Command, Refusal>
     ensures command { IfOk result (λ c. command_of (map string_bytes words.now) ≡ Some c) }
     ensures ranges { IfOk result (λ c. InRanges c) }
@@ -36,7 +39,11 @@ pub fn read_words(alloc: Global, words: &[String]) -> Result<Command, Refusal>
 }
 
 /// The subject of a command that it fits, driven serially or by threads: for tally the lines of the text, else its matrix or the
-/// generated one.
+/// generated one, for which nothing is read.
+///
+/// # Errors
+/// `ReadFault` where the source failed, `BadText` where its text isn't what the command is asked of, `Unfit` with the first test of
+/// fitness that fails, and `NoMemory`.
 pub fn subject_for<S: Source>(
     alloc: Global,
     command: &Command,

@@ -123,7 +123,9 @@ impl<const CAP: usize, const HOPS: usize> Station<CAP, HOPS> {
         if self.state.phase() == Phase::Dormant || self.state.epoch() >= 1000 {
             return false;
         }
-        if self.state.settle() != Phase::Complete {
+        let phase = self.state.settle();
+        self.state.known();
+        if phase != Phase::Complete {
             return false;
         }
         self.state.reset();

@@ -7,7 +7,7 @@ use Rattle.rank_group.specs.Rounds.{round_of}
 use Rattle.app_histo_ig.specs.Asking.{ig_talk}
 use Rattle.app_histo_ig.specs.AskingRuns.{AreAskersOf}
 use Rattle.app_histo_ig.specs.ColumnAnswers.{IgHeard}
-use Rattle.biconvey.proofs.Asked.{they_ask}
+use Rattle.bale_runs.proofs.Asked.{they_ask}
 use Rattle.biconvey.specs.Drives.{TellsExchange}
 use Rattle.biconvey.specs.Worlds.{turns_of}
 use Rattle.bale_runs.specs.Asking.{TellsReplies}

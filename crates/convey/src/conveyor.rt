@@ -35,7 +35,7 @@ use crate::spare::Spare;
 use bale_types::{Entry, Item, NoMemory, Tag};
 use hop_core::{Phase, Pushed, RankState};
 use port_bank::Port;
-use route_tensor::Grid;
+use route_tensor::{Grid, Routes};
 use std::alloc::Global;
 use std::marker::Model;
 
@@ -109,6 +109,15 @@ impl<const CAP: usize, const HOPS: usize> Conveyor<CAP, HOPS> {
         ensures cap { self.now.cap ≡ CAP }
     {
         self.state.known();
+    }
+
+    /// The tables of the rank's links, which tell of whom what came is.
+    #[inline]
+    pub fn routes(&self) -> &Routes
+        ensures value { result.now ≡ record { dims = self.now.dims; rank = self.now.rank } }
+        ensures hops { length self.now.dims ≡ HOPS }
+    {
+        self.state.routes()
     }
 
     /// Begins an epoch.

@@ -22,3 +22,4 @@ mod Marks
 mod Paced
 mod Awaited
 mod Next
+mod OneHop

@@ -5,17 +5,18 @@ use Rattle.bale_types.specs.declared.item.Item.{Item}
 use Rattle.bale_types.specs.declared.item.Entry.{Entry}
 use Rattle.route_tensor.specs.Neighbour.{neighbour}
 use Rattle.route_tensor.specs.Tag.{sender_of}
+use Rattle.route_tensor.specs.Routes.{Site}
 use Rattle.hop_core.specs.State.{State, in_at}
 use Rattle.round_program.specs.Rules.{Rules}
 use Rattle.round_program.specs.Batches.{all_taken_in}
 
--- Entries of a conveyor's link in, by its number, as items each with its sender, which the tag tells.
-abbrev pub from_link : State → ℕ → List Entry → List (ℕ × Item)
-from_link st number entries = map (λ e. (sender_of st.dims e.tag (length st.dims) (neighbour st.dims st.rank number), e.item)) entries
+-- Entries of a link into a rank, by its number, as items each with its sender, which the tag tells.
+abbrev pub from_link : Site → ℕ → List Entry → List (ℕ × Item)
+from_link site number entries = map (λ e. (sender_of site.dims e.tag (length site.dims) (neighbour site.dims site.rank number), e.item)) entries
 
--- All that is unread on that link.
+-- All that is unread on a conveyor's link in.
 abbrev pub came_on : State → ℕ → List (ℕ × Item)
-came_on st number = from_link st number (in_at st number).parcel.untaken
+came_on st number = from_link (record { dims = st.dims; rank = st.rank }) number (in_at st number).parcel.untaken
 
 -- Entries that came from one sender.
 abbrev pub from_sender : ℕ → List Entry → List (ℕ × Item)

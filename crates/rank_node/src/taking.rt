@@ -1,20 +1,21 @@
 //! Takes in what a conveyor gives.
-ghost use Rattle.std.specs.Prelude.{◌≡◌, ◌≢◌, ℕ, ◌+◌, ◌-◌, ◌^◌, ◌<◌, ◌≤◌, ◌==◌, ◌||◌, cond, Bool, false, List, length, Some};
+ghost use Rattle.std.specs.Prelude.{◌≡◌, ◌≢◌, ℕ, ◌+◌, ◌-◌, ◌^◌, ◌<◌, ◌≤◌, ◌==◌, ◌||◌, cond, Bool, false, List, length, slice_get, Some};
 ghost use Rattle.hop_core.specs.Relay.{waiting};
-ghost use Rattle.hop_core.specs.State.{lowest_unread};
+ghost use Rattle.hop_core.specs.State.{lowest_unread, pulls};
 ghost use Rattle.route_tensor.specs.Grid.{ranks};
 ghost use Rattle.port_bank.specs.Logs.{Logs};
 ghost use Rattle.convey.specs.Buffers.{buffers_of};
-ghost use Rattle.convey.specs.Conveyors.{AgreesWith, KeepsAgreement};
+ghost use Rattle.convey.specs.Conveyors.{AgreesWith, KeepsAgreement, GivesNext};
 ghost use Rattle.convey.specs.Parts.{part_of};
 ghost use Rattle.rank_node.specs.Sending.{is_voting};
 ghost use Rattle.rank_node.specs.Runs.{HasTaken};
 ghost use Rattle.rank_node.specs.Movers.{AllRead};
 ghost use Rattle.rank_node.specs.Pulls.{SameEnds, NoMore, Takes};
-ghost use Rattle.rank_node.specs.Batches.{summed, TakesEach};
+ghost use Rattle.rank_node.specs.Batches.{summed, came_on, TakesEach};
+ghost use Rattle.bale_types.specs.declared.item.Item.{Item};
 ghost use Rattle.rank_node.specs.declared.sends.Sends.{Sends};
 
-use crate::arrivals::FromLink;
+use crate::arrivals::{FromLink, FromSender};
 use convey::{Conveyor, Phase};
 use round_program::{Arrivals, Program};
 
@@ -74,12 +75,41 @@ fn take_batch<Q: Program, const CAP: usize, const HOPS: usize>(
     ensures takes { Takes Q.rules voting conveyor.old conveyor.new prog.old.value prog.new.value taken.sum result.sum taken.spoiled result.spoiled }
     ensures less { waiting conveyor.new.ins < waiting conveyor.old.ins }
 {
-    let taken = take_each(prog, voting, FromLink::new(conveyor, number), taken);
+    let taken = take_unread(prog, conveyor, number, voting, taken);
     conveyor.pull_all(number);
     taken
 }
 
-/// Sums or absorbs items that came.
+/// The same while the items stay where they are: on one hop all of them are of the neighbour.
+fn take_unread<Q: Program, const CAP: usize, const HOPS: usize>(
+    prog: &mut Box<Q>,
+    conveyor: &Conveyor<CAP, HOPS>,
+    number: u32,
+    voting: bool,
+    taken: Taken,
+) -> Taken
+    requires lowest { lowest_unread conveyor.now ≡ Some number }
+    ensures takes { TakesEach Q.rules voting prog.old.value prog.new.value (came_on conveyor.now number) taken.sum result.sum taken.spoiled result.spoiled }
+    ensures some { 0 < length (came_on conveyor.now number) }
+    ensures gives { (i : ℕ) (e : ℕ × Item) → slice_get (came_on conveyor.now number) i ≡ Some e → GivesNext (pulls i conveyor.now) e.0 e.1 }
+{
+    let routes = conveyor.routes();
+    let entries = conveyor.batch(number);
+    if HOPS == 1 {
+        let sender = routes.neighbour(number).rank;
+        take_each(prog, voting, FromSender { sender, entries }, taken)
+    } else {
+        let came = FromLink {
+            routes,
+            number,
+            entries,
+        };
+        take_each(prog, voting, came, taken)
+    }
+}
+
+/// Sums or absorbs items that came. It is not inlined: what programs make of a batch would stand in each drive.
+#[inline(never)]
 pub(crate) fn take_each<Q: Program, I: Arrivals>(
     prog: &mut Box<Q>,
     voting: bool,

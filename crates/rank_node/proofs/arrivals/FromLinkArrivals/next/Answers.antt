@@ -10,6 +10,6 @@ invariant_of-self g c = record {
   within = c.args.self.now.within;
   last = c.args.self.now.last;
   fair =
-      all_tail (λ (e : Entry). IsFair c.args.self.now.conveyor.now.dims (length c.args.self.now.conveyor.now.dims) e.tag) c.in_ok-entry.entry.now c.in_ok-entry.rest.now
-      (subst (All (λ (e : Entry). IsFair c.args.self.now.conveyor.now.dims (length c.args.self.now.conveyor.now.dims) e.tag)) c.in_ok-entry.ensures.cases.0 c.args.self.now.fair);
+      all_tail (λ (e : Entry). IsFair c.args.self.now.routes.now.dims (length c.args.self.now.routes.now.dims) e.tag) c.in_ok-entry.entry.now c.in_ok-entry.rest.now
+      (subst (All (λ (e : Entry). IsFair c.args.self.now.routes.now.dims (length c.args.self.now.routes.now.dims) e.tag)) c.in_ok-entry.ensures.cases.0 c.args.self.now.fair);
 }

@@ -6,7 +6,7 @@ use Rattle.list_laws.proofs.Lists.{all_tail}
 use Rattle.rank_node.proofs.arrivals.FromLinkArrivals.next.Goals as goal
 
 pub invariant_of-self : goal.invariant_of-self
-invariant_of-self g c = record {
+invariant_of-self c = record {
   within = c.args.self.now.within;
   last = c.args.self.now.last;
   fair =

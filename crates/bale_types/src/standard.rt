@@ -95,8 +95,8 @@ impl<R: Print> Sink for StdoutSink<'_, R> {
     }
 }
 
-/// Standard error. It takes text alone, since the runtime prints text there: bytes that are no UTF-8
-/// count as a failure.
+/// Standard error. It takes text alone, since the runtime prints text there, and each piece whole: bytes
+/// that are no UTF-8 count as a failure.
 #[derive(Drop)]
 pub struct StderrSink<'a, R> {
     rt: &'a R,
@@ -122,6 +122,7 @@ impl<R: Eprint> Sink for StderrSink<'_, R> {
         requires { 0 < length piece.now }
         ensures some { IfOk result (λ count. 0 < count) }
         ensures bound { IfOk result (λ count. count ≤ length piece.now) }
+        ensures whole { IfOk result (λ count. count ≡ length piece.now) }
         ensures cause { HasCause self.old.faults self.new.faults result }
         ensures no_fault { OnOk result (self.new.faults ≡ self.old.faults) }
         ensures never_falls { self.old.faults ≤ self.new.faults }

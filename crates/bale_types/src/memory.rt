@@ -1,6 +1,6 @@
 //! A source and a sink in memory, which fail at the calls that their maker names: for tests, and for
 //! whoever has the bytes at hand.
-ghost use Rattle.std.specs.Prelude.{◌≡◌, ◌<◌, ◌≤◌, ◌-◌, ◌↔◌, ◌⊎◌, if◌then◌else◌, ℕ, List, Some, [], length, min, is_err, IfOk, IsErr, Contains};
+ghost use Rattle.std.specs.Prelude.{◌≡◌, ◌<◌, ◌≤◌, ◌-◌, ◌↔◌, ◌⊎◌, if◌then◌else◌, ℕ, List, Some, [], length, min, is_err, IfOk, IsErr, OnOk, Contains};
 ghost use Rattle.bale_types.specs.Stream.{after, before, moved, next_count, HasCause};
 
 use super::fault::{Failed, NoMemory};
@@ -89,6 +89,7 @@ impl Source for MemSource {
         ensures only_at_end { (text : List ℕ) → result ≡ Ok 0 → Some self.old.left ≡ Some text → text ≡ [] }
         ensures at_end { Some self.old.left ≡ Some [] → IfOk result (λ count. count ≡ 0) }
         ensures cause { HasCause self.old.faults self.new.faults result }
+        ensures no_fault { OnOk result (self.new.faults ≡ self.old.faults) }
         ensures never_falls { self.old.faults ≤ self.new.faults }
         ensures calls { self.new.calls ≡ next_count self.old.calls }
         ensures fails { IsErr result ↔ Contains self.old.fails self.new.calls }
@@ -197,6 +198,7 @@ impl Sink for MemSink {
         ensures bound { IfOk result (λ count. count ≤ length piece.now) }
         ensures bytes { Some self.new.taken ≡ after (Some self.old.taken) (moved result piece.now) }
         ensures cause { HasCause self.old.faults self.new.faults result }
+        ensures no_fault { OnOk result (self.new.faults ≡ self.old.faults) }
         ensures never_falls { self.old.faults ≤ self.new.faults }
         ensures calls { self.new.calls ≡ next_count self.old.calls }
         ensures fails { IsErr result ↔

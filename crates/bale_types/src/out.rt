@@ -61,8 +61,10 @@ impl<'a, K: Sink> Out<'a, K> {
         ensures kept { OnErr result (IsFront (appended K.taken self.old) (appended K.taken self.new)) }
         ensures part { OnErr result (IsFront (appended K.taken self.new) (after (appended K.taken self.old) (b ∷ []))) }
         ensures cause { HasCause (K.faults self.old.sink.now) (K.faults self.new.sink.now) result }
+        ensures no_fault { OnOk result (K.faults self.new.sink.now ≡ K.faults self.old.sink.now) }
         ensures never_falls { K.faults self.old.sink.now ≤ K.faults self.new.sink.now }
         ensures gathers { self.old.len + 1 < 4096 → self.new.sink.now ≡ self.old.sink.now }
+        ensures no_failure { self.old.len + 1 < 4096 → IsOk result }
         ensures handed { self.old.len < 4096 → OnOk result (self.new.len < 4096) }
         ensures grows { IsFront (K.taken self.old.sink.now) (K.taken self.new.sink.now) }
         ensures same_sink { self.new.sink.ghost_name ≡ self.old.sink.ghost_name }
@@ -82,8 +84,10 @@ impl<'a, K: Sink> Out<'a, K> {
         ensures kept { OnErr result (IsFront (appended K.taken self.old) (appended K.taken self.new)) }
         ensures part { OnErr result (IsFront (appended K.taken self.new) (after (appended K.taken self.old) t.now)) }
         ensures cause { HasCause (K.faults self.old.sink.now) (K.faults self.new.sink.now) result }
+        ensures no_fault { OnOk result (K.faults self.new.sink.now ≡ K.faults self.old.sink.now) }
         ensures never_falls { K.faults self.old.sink.now ≤ K.faults self.new.sink.now }
         ensures gathers { self.old.len + length t.now < 4096 → self.new.sink.now ≡ self.old.sink.now }
+        ensures no_failure { self.old.len + length t.now < 4096 → IsOk result }
         ensures handed { self.old.len < 4096 → OnOk result (self.new.len < 4096) }
         ensures grows { IsFront (K.taken self.old.sink.now) (K.taken self.new.sink.now) }
         ensures same_sink { self.new.sink.ghost_name ≡ self.old.sink.ghost_name }
@@ -108,8 +112,10 @@ impl<'a, K: Sink> Out<'a, K> {
         ensures kept { OnErr result (IsFront (appended K.taken self.old) (appended K.taken self.new)) }
         ensures part { OnErr result (IsFront (appended K.taken self.new) (after (appended K.taken self.old) line.now)) }
         ensures cause { HasCause (K.faults self.old.sink.now) (K.faults self.new.sink.now) result }
+        ensures no_fault { OnOk result (K.faults self.new.sink.now ≡ K.faults self.old.sink.now) }
         ensures never_falls { K.faults self.old.sink.now ≤ K.faults self.new.sink.now }
         ensures gathers { self.old.len + length line.now < 4096 → self.new.sink.now ≡ self.old.sink.now }
+        ensures no_failure { self.old.len + length line.now < 4096 → IsOk result }
         ensures handed { self.old.len < 4096 → OnOk result (self.new.len < 4096) }
         ensures grows { IsFront (K.taken self.old.sink.now) (K.taken self.new.sink.now) }
         ensures same_sink { self.new.sink.ghost_name ≡ self.old.sink.ghost_name }
@@ -134,9 +140,11 @@ impl<'a, K: Sink> Out<'a, K> {
         ensures kept { OnErr result (IsFront (appended K.taken self.old) (appended K.taken self.new)) }
         ensures part { OnErr result (IsFront (appended K.taken self.new) (after (appended K.taken self.old) (signed_decimal n))) }
         ensures cause { HasCause (K.faults self.old.sink.now) (K.faults self.new.sink.now) result }
+        ensures no_fault { OnOk result (K.faults self.new.sink.now ≡ K.faults self.old.sink.now) }
         ensures never_falls { K.faults self.old.sink.now ≤ K.faults self.new.sink.now }
         ensures gathers { self.old.len + length (signed_decimal n) < 4096 →
             self.new.sink.now ≡ self.old.sink.now }
+        ensures no_failure { self.old.len + length (signed_decimal n) < 4096 → IsOk result }
         ensures handed { self.old.len < 4096 → OnOk result (self.new.len < 4096) }
         ensures grows { IsFront (K.taken self.old.sink.now) (K.taken self.new.sink.now) }
         ensures same_sink { self.new.sink.ghost_name ≡ self.old.sink.ghost_name }
@@ -157,8 +165,9 @@ impl<'a, K: Sink> Out<'a, K> {
         ensures err { OnErr result (IsFront (K.taken self.new.sink.now) (appended K.taken self.old)) }
         ensures kept { appended K.taken self.new ≡ appended K.taken self.old }
         ensures no_write { self.old.len ≡ 0 → self.new.sink.now ≡ self.old.sink.now }
-        ensures no_fault { self.old.len ≡ 0 → IsOk result }
+        ensures no_failure { self.old.len ≡ 0 → IsOk result }
         ensures cause { HasCause (K.faults self.old.sink.now) (K.faults self.new.sink.now) result }
+        ensures no_fault { OnOk result (K.faults self.new.sink.now ≡ K.faults self.old.sink.now) }
         ensures never_falls { K.faults self.old.sink.now ≤ K.faults self.new.sink.now }
         ensures grows { IsFront (K.taken self.old.sink.now) (K.taken self.new.sink.now) }
         ensures same_sink { self.new.sink.ghost_name ≡ self.old.sink.ghost_name }
@@ -181,6 +190,7 @@ impl<'a, K: Sink> Out<'a, K> {
         ensures part { OnErr result
             (IsFront (appended K.taken self.new) (after (appended K.taken self.old) t.now)) }
         ensures cause { HasCause (K.faults self.old.sink.now) (K.faults self.new.sink.now) result }
+        ensures no_fault { OnOk result (K.faults self.new.sink.now ≡ K.faults self.old.sink.now) }
         ensures never_falls { K.faults self.old.sink.now ≤ K.faults self.new.sink.now }
         ensures gathers { IfOk result (λ count.
             self.old.len + count < BUFFER → self.new.sink.now ≡ self.old.sink.now) }
@@ -205,6 +215,7 @@ impl<'a, K: Sink> Out<'a, K> {
         ensures gathers { self.old.len < BUFFER → self.new ≡ self.old }
         ensures full { OnErr result (self.old.len ≡ BUFFER) }
         ensures cause { HasCause (K.faults self.old.sink.now) (K.faults self.new.sink.now) result }
+        ensures no_fault { OnOk result (K.faults self.new.sink.now ≡ K.faults self.old.sink.now) }
         ensures never_falls { K.faults self.old.sink.now ≤ K.faults self.new.sink.now }
         ensures grows { IsFront (K.taken self.old.sink.now) (K.taken self.new.sink.now) }
         ensures same_sink { self.new.sink.ghost_name ≡ self.old.sink.ghost_name }
@@ -259,6 +270,7 @@ fn hand_some<K: Sink>(sink: &mut K, buffer: &mut [u8; BUFFER], len: usize) -> Re
     ensures grows { IsFront (K.taken sink.old) (K.taken sink.new) }
     ensures same { OnErr result (buffer.new ≡ buffer.old) }
     ensures cause { HasCause (K.faults sink.old) (K.faults sink.new) result }
+    ensures no_fault { OnOk result (K.faults sink.new ≡ K.faults sink.old) }
     ensures never_falls { K.faults sink.old ≤ K.faults sink.new }
 {
     let count = sink.write(&buffer[..len])?;

@@ -4,7 +4,7 @@
 //! They count their failures: exactly the calls that answer `Failed`. What std answered goes whole to
 //! one helper, whose contract keeps it; what no contract sees, the repository's checks try on real
 //! files, pipes and devices.
-ghost use Rattle.std.specs.Prelude.{◌≡◌, ◌<◌, ◌≤◌, ℕ, List, Option, None, Some, Ok, [], length, is_err, IfOk, if◌then◌else◌};
+ghost use Rattle.std.specs.Prelude.{◌≡◌, ◌<◌, ◌≤◌, ℕ, List, Option, None, Some, Ok, [], length, is_err, IfOk, OnOk, if◌then◌else◌};
 ghost use Rattle.std.specs.Result.{result_ok};
 ghost use Rattle.bale_types.specs.Stream.{after, before, moved, next_count, HasCause, some_moved};
 
@@ -47,6 +47,7 @@ impl<R: Input> Source for StdinSource<'_, R> {
         ensures only_at_end { (text : List ℕ) → result ≡ Ok 0 → None ≡ Some text → text ≡ [] }
         ensures at_end { (let left : Option (List ℕ) = None in left ≡ Some []) → IfOk result (λ count. count ≡ 0) }
         ensures cause { HasCause self.old.faults self.new.faults result }
+        ensures no_fault { OnOk result (self.new.faults ≡ self.old.faults) }
         ensures never_falls { self.old.faults ≤ self.new.faults }
         ensures faults { self.new.faults ≡
             (if is_err result then next_count self.old.faults else self.old.faults) }
@@ -82,6 +83,7 @@ impl<R: Print> Sink for StdoutSink<'_, R> {
         ensures some { IfOk result (λ count. 0 < count) }
         ensures bound { IfOk result (λ count. count ≤ length piece.now) }
         ensures cause { HasCause self.old.faults self.new.faults result }
+        ensures no_fault { OnOk result (self.new.faults ≡ self.old.faults) }
         ensures never_falls { self.old.faults ≤ self.new.faults }
         ensures faults { self.new.faults ≡
             (if is_err result then next_count self.old.faults else self.old.faults) }
@@ -93,8 +95,8 @@ impl<R: Print> Sink for StdoutSink<'_, R> {
     }
 }
 
-/// Standard error. It takes text alone, since the runtime prints text there: bytes that are no UTF-8
-/// count as a failure.
+/// Standard error. It takes text alone, since the runtime prints text there, and each piece whole: bytes
+/// that are no UTF-8 count as a failure.
 #[derive(Drop)]
 pub struct StderrSink<'a, R> {
     rt: &'a R,
@@ -120,7 +122,9 @@ impl<R: Eprint> Sink for StderrSink<'_, R> {
         requires { 0 < length piece.now }
         ensures some { IfOk result (λ count. 0 < count) }
         ensures bound { IfOk result (λ count. count ≤ length piece.now) }
+        ensures whole { IfOk result (λ count. count ≡ length piece.now) }
         ensures cause { HasCause self.old.faults self.new.faults result }
+        ensures no_fault { OnOk result (self.new.faults ≡ self.old.faults) }
         ensures never_falls { self.old.faults ≤ self.new.faults }
         ensures faults { self.new.faults ≡
             (if is_err result then next_count self.old.faults else self.old.faults) }

@@ -3,8 +3,8 @@
 //! A source has two meanings: `left`, the bytes still to come, which an implementation may leave
 //! untold, and `faults`, a count that never falls. A sink has `taken`, the bytes accepted so far,
 //! and `faults`. A caller that reads or writes through these traits knows that a call which failed
-//! moved nothing, and that the object counted its failure.
-ghost use Rattle.std.specs.Prelude.{◌≡◌, ◌<◌, ◌≤◌, ℕ, List, Option, Some, [], length, IfOk};
+//! moved nothing, and that the object counted its failure, and none at a call that didn't fail.
+ghost use Rattle.std.specs.Prelude.{◌≡◌, ◌<◌, ◌≤◌, ℕ, List, Option, Some, [], length, IfOk, OnOk};
 ghost use Rattle.bale_types.specs.Stream.{after, before, moved, HasCause};
 
 use super::fault::Failed;
@@ -30,6 +30,7 @@ pub trait Source {
         ensures only_at_end { (text : List ℕ) → result ≡ Ok 0 → left self.old ≡ Some text → text ≡ [] }
         ensures at_end { left self.old ≡ Some [] → IfOk result (λ count. count ≡ 0) }
         ensures cause { HasCause (faults self.old) (faults self.new) result }
+        ensures no_fault { OnOk result (faults self.new ≡ faults self.old) }
         ensures never_falls { faults self.old ≤ faults self.new };
 }
 
@@ -52,5 +53,6 @@ pub trait Sink {
         ensures bound { IfOk result (λ count. count ≤ length piece.now) }
         ensures bytes { taken self.new ≡ after (taken self.old) (moved result piece.now) }
         ensures cause { HasCause (faults self.old) (faults self.new) result }
+        ensures no_fault { OnOk result (faults self.new ≡ faults self.old) }
         ensures never_falls { faults self.old ≤ faults self.new };
 }

@@ -1,6 +1,7 @@
 -- What a port's calls change, over the seats before and after.
-use Rattle.std.proofs.Common.{◌≡◌, ◌≢◌, ℕ, ◌+◌, ◌-◌, ◌<◌, eqb, Bool, List, [], ◌∷◌, ◌++◌, map, length, get_or, drop, sym, refl, ap, ◌∙◌, subst}
-use Rattle.std.proofs.lemmas.List.{map-append, take-append-drop}
+use Rattle.std.proofs.Common.{◌≡◌, ◌≢◌, ℕ, ◌+◌, ◌-◌, ◌<◌, ◌≤◌, eqb, eq-eqb, Bool, true, false, arith, List, [], ◌∷◌, ◌++◌, map, length, get_or, drop, sym, refl, ap, ◌∙◌, subst, inl, inr, length-append}
+use Rattle.std.proofs.lemmas.List.{length-map, map-append, take-append-drop}
+use Rattle.std.proofs.lemmas.Bool.{cases_lt, cases_eq}
 use mathlib.Core.Logic.{dite}
 use native.Mathlib.Decide.{ℕ_discrete}
 use Rattle.item_buffer.specs.Contents.{Contents, shipped, Shipped}
@@ -57,3 +58,25 @@ got_begins s l own =
     let i : InLog Contents = in_of s.lists l in
     let o : OutLog Contents = out_of s.lists l in
     begins_map shipped (got i) o.sent (begins_trans (got i) i.seen o.sent (record { rest = drop i.taken i.seen; is = sym (take-append-drop i.taken i.seen) }) own)
+
+-- a link whose parcels posted are all that its room allows has no slot free
+pub none_free : (s : Manning) (l : ℕ) → length (out_of s.lists l).sent ≤ (out_of s.lists l).room → (length (out_of s.lists l).sent < (out_of s.lists l).room → ⊥) → s.shape.slots ≤ length (out_of s.lists l).sent
+    → eqb (length (posted_on s l)) (freed s l + s.shape.slots) ≡ true
+none_free s l within held many =
+    let o : OutLog Contents = out_of s.lists l in
+    let size = length-map o.sent shipped in
+    elim (cases_lt (length o.sent) o.room) [
+      | inl less ↦ absurd (held less)
+      | inr not ↦ eq-eqb (length (posted_on s l)) (freed s l + s.shape.slots) (omega (arith, size, within, many, not))
+    ]
+
+-- a reader that has not collected all that it knows of has collected fewer
+pub more_known : (s : Manning) (l : ℕ) → eqb (length (collected_from s l)) (known s l) ≡ false → length (collected_from s l) < known s l
+more_known s l some =
+    let i : InLog Contents = in_of s.lists l in
+    let size : length (collected_from s l) ≡ length (got i) = length-map (got i) shipped in
+    let parts : length (got i) + length (drop i.taken i.seen) ≡ length i.seen = sym (length-append (got i) (drop i.taken i.seen)) ∙ ap length (take-append-drop i.taken i.seen) in
+    elim (cases_eq (length (collected_from s l)) (known s l)) [
+      | inl all ↦ (let is = eq-eqb (length (collected_from s l)) (known s l) all in absurd cc)
+      | inr not ↦ omega (arith, size, parts, not)
+    ]

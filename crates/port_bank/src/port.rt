@@ -112,6 +112,9 @@ pub trait Port<const CAP: usize>: Drop {
         ensures no_room { result ≡ Ok Posted.NoRoom → length (sent self.old link) ≡ freed self.new link + slots self.old }
         ensures crowded { result ≡ Ok Posted.NoRoom → crowded self.new link ≡ true }
 
+        // Where the port knew of a free slot, it is used.
+        ensures at_hand { crowded self.old link ≡ false → result ≢ Ok Posted.NoRoom }
+
         // Not sent: nothing else changed; without memory, nothing at all.
         ensures not_sent { result ≢ Ok Posted.Sent → sent self.new ≡ sent self.old }
         ensures still_idle { result ≢ Ok Posted.Sent → idle self.new ≡ idle self.old }
@@ -159,6 +162,9 @@ pub trait Port<const CAP: usize>: Drop {
         ensures not_got { result ≡ Collected.Nothing → got self.new ≡ got self.old }
         ensures still_crowded { result ≡ Collected.Nothing → crowded self.new ≡ crowded self.old }
         ensures kept { result ≡ Collected.Nothing → p.new ≡ p.old }
+
+        // Where the port knew of a parcel, it is collected.
+        ensures at_hand { idle self.old link ≡ false → result ≡ Collected.Got }
 
         // In each case: what the port knows changes at this link alone, and of its links out nothing does.
         ensures does { collect_does self.old link p.new result self.new }

@@ -5,7 +5,7 @@ use Rattle.bale_types.proofs.out.Out.flush.Goals as goal
 pub loop-self-preserved : goal.loop-self-preserved
 loop-self-preserved g c = record {
   kept = search rules;
-  never_falls = omega arith;
+  no_fault = search rules;
   no_write = λ none. absurd (let z = c.loop-self.invariant.no_bytes none in omega arith);
   no_bytes = λ none. absurd (let z = c.loop-self.invariant.no_bytes none in omega arith);
   grows = front_of_front (g.K.Sink.taken c.args.self.now.sink.now) (g.K.Sink.taken c.loop-self.self.sink.now) (g.K.Sink.taken c.hand_some.new.sink) c.loop-self.invariant.grows c.hand_some.ensures.grows;

@@ -1,4 +1,4 @@
-use Rattle.std.proofs.Common.{◌≡◌, ◌≤◌}
+use Rattle.std.proofs.Common.{◌≡◌}
 use Rattle.bale_types.specs.Stream.{IsFront}
 use Rattle.bale_types.specs.Out.{appended}
 use Rattle.bale_types.proofs.out.Out.flush.Given as goal
@@ -7,7 +7,7 @@ use Rattle.bale_types.proofs.out.Out.flush.Given as goal
 abbrev pub invariant-loop-self : goal.invariant-loop-self
 invariant-loop-self g l = record {
   kept : appended g.K.Sink.taken l.self ≡ appended g.K.Sink.taken l.fn.self;
-  never_falls : g.K.Sink.faults l.fn.self.sink.now ≤ g.K.Sink.faults l.self.sink.now;
+  no_fault : g.K.Sink.faults l.self.sink.now ≡ g.K.Sink.faults l.fn.self.sink.now;
   no_write : l.fn.self.len ≡ 0 → l.self.sink.now ≡ l.fn.self.sink.now;
   no_bytes : l.fn.self.len ≡ 0 → l.self.len ≡ 0;
   grows : IsFront (g.K.Sink.taken l.fn.self.sink.now) (g.K.Sink.taken l.self.sink.now);

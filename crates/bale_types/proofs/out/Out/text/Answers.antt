@@ -15,7 +15,7 @@ loop-at-preserved g c =
       within = omega arith;
       bytes = moved_on (all c.fill.new.self) (all c.loop-at.self) (all c.args.self.now) c.args.t.now c.loop-at.at (length c.args.t.now) c.in_ok-at.field-0
           c.in_ok-at.ensures.ok c.loop-at.invariant.bytes bound;
-      never_falls = omega arith;
+      no_fault = search rules;
       gathers = λ (short : c.args.self.now.len + length c.args.t.now < 4096).
           let here = c.loop-at.invariant.len short in
           let below : c.loop-at.self.len + c.in_ok-at.field-0 < 4096 = omega arith in
@@ -58,3 +58,10 @@ pub returns-in_err-at-clause-grows : goal.returns-in_err-at-clause-grows
 returns-in_err-at-clause-grows g c =
     let taken = g.K.Sink.taken in
     front_of_front (taken c.args.self.now.sink.now) (taken c.loop-at.self.sink.now) (taken c.fill.new.self.sink.now) c.loop-at.invariant.grows c.fill.ensures.grows
+
+-- where the buffer has room for the whole text, no write is made that could fail
+pub returns-in_err-at-clause-no_failure : goal.returns-in_err-at-clause-no_failure
+returns-in_err-at-clause-no_failure g c = λ (short : c.args.self.now.len + length c.args.t.now < 4096).
+    let here = c.loop-at.invariant.len short in
+    let full = c.in_err-at.ensures.full in
+    absurd (grind (arith, common_steps, here, full))

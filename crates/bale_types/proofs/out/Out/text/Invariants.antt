@@ -8,7 +8,7 @@ abbrev pub invariant-loop-at : goal.invariant-loop-at
 invariant-loop-at g l = record {
   within : l.at ≤ length l.t;
   bytes : appended g.K.Sink.taken l.self ≡ after (appended g.K.Sink.taken l.fn.self) (take l.at l.t);
-  never_falls : g.K.Sink.faults l.fn.self.sink.now ≤ g.K.Sink.faults l.self.sink.now;
+  no_fault : g.K.Sink.faults l.self.sink.now ≡ g.K.Sink.faults l.fn.self.sink.now;
   gathers : l.fn.self.len + length l.t < 4096 → l.self.sink.now ≡ l.fn.self.sink.now;
   len : l.fn.self.len + length l.t < 4096 → l.self.len ≡ l.fn.self.len + l.at;
   handed : l.fn.self.len < 4096 → l.self.len < 4096;

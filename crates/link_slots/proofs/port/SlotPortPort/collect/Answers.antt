@@ -2,7 +2,7 @@ use Rattle.std.proofs.Common.{ap, ◌∙◌, length, eq-eqb}
 use Rattle.item_buffer.specs.Contents.{shipped}
 use Rattle.port_bank.specs.Logs.{Logs}
 use Rattle.link_slots.specs.Seen.{collected_from, known}
-use Rattle.link_slots.proofs.Ported.{got_else, idle_changed, got_begins}
+use Rattle.link_slots.proofs.Ported.{got_else, idle_changed, got_begins, more_known}
 use Rattle.link_slots.proofs.port.SlotPortPort.collect.Goals as goal
 
 pub returns-clause-idle : goal.returns-clause-idle
@@ -14,3 +14,6 @@ returns-clause-idle_here g c = idle_changed c.args.self.now.seat c.collect.new.s
 
 pub returns-clause-own : goal.returns-clause-own
 returns-clause-own g c got from = got_begins c.collect.new.self c.args.link (c.collect.ensures.own got from)
+
+pub returns-clause-at_hand : goal.returns-clause-at_hand
+returns-clause-at_hand g c some = c.collect.ensures.at_hand (more_known c.args.self.now.seat c.args.link some)

@@ -1,6 +1,7 @@
-use Rattle.std.proofs.Common.{◌≡◌}
-use Rattle.port_bank.specs.declared.port.Posted.TheVariants.{Sent}
-use Rattle.link_slots.proofs.Ported.{crowded_changed, sent_here}
+use Rattle.std.proofs.Common.{◌≡◌, ◌<◌, length, arith}
+use Rattle.port_bank.specs.declared.port.Posted.TheVariants.{Sent, NoRoom}
+use Rattle.link_slots.specs.Logs.{out_of}
+use Rattle.link_slots.proofs.Ported.{crowded_changed, sent_here, none_free}
 use Rattle.link_slots.proofs.port.SlotPortPort.post.Goals as goal
 
 pub returns-clause-sent : goal.returns-clause-sent
@@ -10,3 +11,10 @@ returns-clause-sent g c ok =
 
 pub returns-clause-crowded_here : goal.returns-clause-crowded_here
 returns-clause-crowded_here g c = crowded_changed c.args.self.now.seat c.post.new.self c.args.link c.post.ensures.here
+
+pub returns-clause-at_hand : goal.returns-clause-at_hand
+returns-clause-at_hand g c free none =
+    let is : c.post.result ≡ NoRoom = cc in
+    let held : (length (out_of c.args.self.now.seat.lists c.args.link).sent < (out_of c.args.self.now.seat.lists c.args.link).room → ⊥) = λ h. let sent = (c.post.ensures.at_hand h).0 in cc in
+    let full = none_free c.args.self.now.seat c.args.link c.post.ensures.within held (let more = c.post.ensures.full is in let all = c.post.ensures.all_room is in omega (arith, more, all)) in
+    cc

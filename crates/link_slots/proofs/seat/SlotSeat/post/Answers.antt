@@ -1,4 +1,4 @@
-use Rattle.std.proofs.Common.{arith, ◌≡◌, ◌<◌, ℕ, sym, ap, subst, ◌∙◌, length, map}
+use Rattle.std.proofs.Common.{arith, ◌≡◌, ◌<◌, ◌≤◌, ℕ, sym, ap, subst, ◌∙◌, length, map}
 use Rattle.item_buffer.specs.Contents.{shipped}
 use Rattle.route_tensor.specs.Link.{links}
 use Rattle.route_tensor.specs.Ends.{sender_at}
@@ -71,3 +71,13 @@ invariant_of-self g c =
     seat_posted g.row.CAP v.shape c.self.inside.place.me c.post_on-answer.new.place.me c.self.inside.rank l c.self.inside.outs.items c.self.inside.ins.items c.self.inside.ears.items c.self.inside.ended.items s
     (subst (λ (z : Shape). IsManned z c.post_on-answer.new.place.me) (sym e) c.post_on-answer.ensures.seat) inside c.post_on-answer.new.end c.post_on-answer.ensures.here mine
     (subst (λ (z : Shape). IsOutEnd z.slots (out_of (own_logs c.post_on-answer.new.place.me.0) l) c.post_on-answer.new.end.sent c.post_on-answer.new.end.place c.post_on-answer.new.end.spare) (sym e) c.post_on-answer.ensures.end)
+
+-- what the seat counts beside its view: the parcels posted and the spare slots are the room
+pub returns-clause-within : goal.returns-clause-within
+returns-clause-within g c =
+    let s = c.self.invariant in let v = c.self.inside.place.me.0 in let l : ℕ = c.args.link in
+    let inside : l < links v.shape.dims = subst (λ (z : Manning). l < links z.shape.dims) (sym c.self.view_is) c.requires.link in
+    let mine : sender_at v.shape.dims l ≡ c.self.inside.rank = subst (λ (z : Manning). sender_at z.shape.dims l ≡ z.rank) (sym c.self.view_is) c.requires.starts_here in
+    let counts = s.each_out l c.index_mut-end.result.now inside mine in
+    let spare = counts.spare_is in
+    subst (λ (z : Manning). length (out_of z.lists l).sent ≤ (out_of z.lists l).room) c.self.view_is (omega (arith, spare))

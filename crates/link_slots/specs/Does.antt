@@ -1,5 +1,5 @@
 -- What a call on a slot port does, beyond what holds of all ports.
-use Rattle.std.specs.Prelude.{◌≡◌, ◌≢◌, ℕ, ◌<◌, [], ◌∷◌, ◌++◌, length, Result, Ok}
+use Rattle.std.specs.Prelude.{◌≡◌, ◌≢◌, ℕ, suc, ◌<◌, ◌≤◌, [], ◌∷◌, ◌++◌, length, Result, Ok}
 use Rattle.bale_types.specs.declared.fault.NoMemory.{NoMemory}
 use Rattle.item_buffer.specs.Contents.{Contents}
 use Rattle.route_tensor.specs.Link.{links}
@@ -13,7 +13,7 @@ use Rattle.link_slots.specs.Doorbell.{is_due, HeardWhere, LookedFor}
 use Rattle.link_slots.specs.Seen.{Manning, collected_from, known, noted_at}
 
 -- A post of p on link l, from the seat s to s': it changes that link's lists alone. Where an empty slot is at hand the parcel is sent
--- without a look for room. At Sent every parcel of the link is offered; at NoRoom
+-- without a look for room, and no post looks more than once. At Sent every parcel of the link is offered; at NoRoom
 -- the port looked once and nobody was rung for.
 pub record DidPost (s s' : Manning) (l : ℕ) (p : Contents) (r : Result Posted NoMemory) : Type 0 where
   pub here : s' ≡ record s { lists = with_out s.lists l (out_of s'.lists l) }
@@ -21,6 +21,7 @@ pub record DidPost (s s' : Manning) (l : ℕ) (p : Contents) (r : Result Posted 
   pub offered : r ≡ Ok Sent → (out_of s'.lists l).offered ≡ length (out_of s'.lists l).sent
   pub at_hand : length (out_of s.lists l).sent < (out_of s.lists l).room → (r ≡ Ok Sent) × ((out_of s'.lists l).looks ≡ (out_of s.lists l).looks)
   pub looked : r ≡ Ok NoRoom → out_of s'.lists l ≡ found_full (out_of s.lists l)
+  pub once : (out_of s'.lists l).looks ≤ suc (out_of s.lists l).looks
 
 -- A collect on link l, from the seat s to s'. Where a parcel was at hand it is taken, with no step of looking. Else the doorbell of the
 -- link's hop is heard where a hear is due and not else, and the link is looked in where it is then marked and not else.

@@ -90,6 +90,7 @@ impl<const CAP: usize> SlotSeat<CAP> {
         ensures room_is { ((out_of self.new.lists link).room ≡ 0) ⊎ (self.old.shape.slots ≤ (out_of self.new.lists link).room) }
         ensures within { length (out_of self.old.lists link).sent ≤ (out_of self.old.lists link).room }
         ensures looks { (out_of self.old.lists link).looks ≤ (out_of self.new.lists link).looks }
+        ensures once { (out_of self.new.lists link).looks ≤ suc (out_of self.old.lists link).looks }
         ensures at_hand { length (out_of self.old.lists link).sent < (out_of self.old.lists link).room → (result ≡ Posted.Sent) × ((out_of self.new.lists link).looks ≡ (out_of self.old.lists link).looks) }
         ensures found { result ≡ Posted.NoRoom → out_of self.new.lists link ≡ found_full (out_of self.old.lists link) }
         ensures looked { result ≡ Posted.NoRoom → (out_of self.new.lists link).looks ≡ suc (out_of self.old.lists link).looks }

@@ -1,5 +1,5 @@
 //! The words of a seed, and permutations drawn from them.
-ghost use Rattle.std.specs.Prelude.{◌≡◌, IfOk, OnOk, ◌≤◌};
+ghost use Rattle.std.specs.Prelude.{◌≡◌, IfOk, OnOk, OnErr, ◌≤◌};
 ghost use Rattle.std.specs.List.{range_with_len};
 ghost use Rattle.mtx_text.specs.Permutations.{Permutes};
 ghost use Rattle.mtx_text.specs.Seeds.{step, word, begun, drawn};
@@ -51,11 +51,12 @@ impl Words {
     ///
     /// # Errors
     ///
-    /// `NoMemory` where there was none.
+    /// `NoMemory` where there was none; no word was drawn.
     pub fn permutation(&mut self, alloc: Global, n: u32) -> Result<Vec<u32>, NoMemory>
         ensures list { IfOk result (λ p. p.items ≡ (drawn n self.old).0) }
         ensures state { OnOk result (self.new ≡ (drawn n self.old).1) }
         ensures permutes { IfOk result (λ p. Permutes n p.items) }
+        ensures kept { OnErr result (self.new ≡ self.old) }
     {
         let mut list = numbers_below(alloc, n)?;
         let mut i = n;

@@ -36,6 +36,7 @@ fn make_room<const CAP: usize>(
     ensures here { place.new.me.0 ≡ with_logs place.old.me.0 (with_out (own_logs place.old.me.0) link (out_of (own_logs place.new.me.0) link)) }
     ensures sent { (out_of (own_logs place.new.me.0) link).sent ≡ (out_of (own_logs place.old.me.0) link).sent }
     ensures looks { (out_of (own_logs place.old.me.0) link).looks ≤ (out_of (own_logs place.new.me.0) link).looks }
+    ensures once { (out_of (own_logs place.new.me.0) link).looks ≤ suc (out_of (own_logs place.old.me.0) link).looks }
     ensures ready { end.old.spare ≢ 0 → place.new ≡ place.old }
     ensures found { end.new.spare ≡ 0 → out_of (own_logs place.new.me.0) link ≡ found_full (out_of (own_logs place.old.me.0) link) }
     ensures looked { end.new.spare ≡ 0 → (out_of (own_logs place.new.me.0) link).looks ≡ suc (out_of (own_logs place.old.me.0) link).looks }
@@ -75,6 +76,7 @@ pub(crate) fn post_on<const CAP: usize>(
     ensures emptied { result ≡ Posted.Sent → IsBlank parcel.new }
     ensures room { result ≡ Posted.Sent → length (out_of (own_logs place.old.me.0) link).sent < (out_of (own_logs place.new.me.0) link).room }
     ensures looks { (out_of (own_logs place.old.me.0) link).looks ≤ (out_of (own_logs place.new.me.0) link).looks }
+    ensures once { (out_of (own_logs place.new.me.0) link).looks ≤ suc (out_of (own_logs place.old.me.0) link).looks }
     ensures at_hand { length (out_of (own_logs place.old.me.0) link).sent < (out_of (own_logs place.old.me.0) link).room → (result ≡ Posted.Sent) × ((out_of (own_logs place.new.me.0) link).looks ≡ (out_of (own_logs place.old.me.0) link).looks) }
     ensures found { result ≡ Posted.NoRoom → out_of (own_logs place.new.me.0) link ≡ found_full (out_of (own_logs place.old.me.0) link) }
     ensures looked { result ≡ Posted.NoRoom → (out_of (own_logs place.new.me.0) link).looks ≡ suc (out_of (own_logs place.old.me.0) link).looks }

@@ -20,3 +20,9 @@ returns-then-end-eq0-clause-all_room g c none =
 
 pub returns-else-end-eq0-clause-here : goal.returns-else-end-eq0-clause-here
 returns-else-end-eq0-clause-here g c = sym (ap (with_logs c.args.place.now.me.0) (same_out (own_logs c.args.place.now.me.0) c.args.link) ∙ same_logs c.args.place.now.me.0 c.requires.seat.speaks)
+
+pub returns-then-end-eq0-clause-once : goal.returns-then-end-eq0-clause-once
+returns-then-end-eq0-clause-once g c =
+    let f = c.look_for_room-found.ensures.found in
+    let e = out_after c.args.place.now.me.0 c.look_for_room-found.new.place.me.0 c.requires.seat.speaks c.args.link _ _ f.2 c.requires.long in
+    let k = ap (λ (z : OutLog Contents). z.looks) e in omega arith

@@ -74,3 +74,14 @@ returns-clause-at_hand g c = λ room.
     let spare = c.requires.end.spare_is in
     let same = c.make_room.ensures.ready (λ none. absurd (omega arith)) in
     (refl, ap (λ (z : OutLog Contents). z.looks) (at3 ∙ ap all_offered at2) ∙ ap (λ z. (out_of (own_logs z.me.0) l).looks) same)
+
+-- what was looked for, was looked for before the parcel was sent
+pub returns-clause-once : goal.returns-clause-once
+returns-clause-once g c =
+    let v : Knowing = c.args.place.now.me.0 in let v1 : Knowing = c.make_room.new.place.me.0 in let v2 : Knowing = c.send.new.place.me.0 in let v3 : Knowing = c.ring.new.place.me.0 in let l : ℕ = c.args.link in
+    let speaks = c.requires.seat.speaks in let long = c.requires.long in
+    let e1 = c.make_room.ensures.here in
+    let e2 = then_out v speaks l long v1 v2 _ _ e1 c.send.ensures.posted in
+    let at2 : out_of (own_logs v2) l ≡ sent_more (out_of (own_logs v1) l) c.args.parcel.now = out_after v1 v2 (speaks_after v speaks l long v1 _ e1) l (own_logs v1) _ c.send.ensures.posted (long_after v speaks l long v1 _ e1) in
+    let at3 : out_of (own_logs v3) l ≡ all_offered (out_of (own_logs v2) l) = out_after v2 v3 (speaks_after v speaks l long v2 _ e2) l (own_logs v2) _ c.ring.ensures.rung (long_after v speaks l long v2 _ e2) in
+    let same = ap (λ (z : OutLog Contents). z.looks) (at3 ∙ ap all_offered at2) in let once = c.make_room.ensures.once in omega arith

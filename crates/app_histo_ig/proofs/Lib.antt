@@ -1,5 +1,6 @@
 pub mod ColumnSums
 pub mod ColumnWords
+pub mod Dealt
 pub mod HeardSums
 pub mod HistoOwners
 pub mod HistoText

@@ -1,14 +1,14 @@
 //! ig's answer as text, from ranks that each know the sums of their entries' columns.
 
-ghost use Rattle.std.specs.Prelude.{◌≡◌, ℕ, ◌<◌, ◌≤◌, ◌+◌, ◌^◌, List, map, length, slice_get, Some, OnOk, OnErr};
+ghost use Rattle.std.specs.Prelude.{◌≡◌, ℕ, ◌<◌, ◌≤◌, ◌+◌, ◌*◌, ◌^◌, List, map, length, slice_get, Some, OnOk, OnErr};
 ghost use Rattle.bale_types.specs.Stream.{after, HasCause, IsFront};
 ghost use Rattle.bale_types.specs.Out.{appended};
 ghost use Rattle.bale_types.specs.declared.triple.Triple.{Triple};
 ghost use Rattle.app_histo_ig.specs.ColumnAnswers.{HaveSums};
 ghost use Rattle.app_histo_ig.specs.IgLines.{column_sum, ig_line, ig_lines};
 
-use bale_types::{Failed, Line, Out, Sink, value_of};
-use mtx_text::Matrix;
+use bale_types::{Failed, Out, Sink, Triple, value_of};
+use mtx_text::{EntryLine, Kind, Matrix};
 use round_program::Progs;
 
 /// A rank that keeps a word for each of its entries: that of entry number `e` stands at `e div ranks`.
@@ -35,48 +35,64 @@ pub(crate) fn write_sums<Q: Answered, K: Sink>(
     ensures same_sink { out.new.sink.ghost_name ≡ out.old.sink.ghost_name }
 {
     let entries = m.entries();
+    let ranks = p.len();
+    let mut line = EntryLine::new();
+    let mut at = Dealt { rank: 0, turn: 0 };
     for e in 0..entries.len() {
-        let (i, j) = (entries[e].i, entries[e].j);
-        write_line(out, i, j, sum_at(p, m, e))?;
+        line.set(Kind::Integer, summed(entries[e], sum_at(p, m, at)));
+        out.line(line.as_line())?;
+        at = next(at, ranks);
     }
     Ok(())
 }
 
-/// The sum of the column of entry number `e`, as the entry's rank has it.
-fn sum_at<Q: Answered>(p: &Progs<Q>, m: &Matrix, e: usize) -> i64
-    requires sums { HaveSums m.now.entries (map Q.words p.now) }
-    requires entry { e < length m.now.entries }
-    ensures { (t : Triple) → slice_get m.now.entries e ≡ Some t → result ≡ column_sum t.j m.now.entries }
-{
-    let ranks = p.len();
-    let Some(own) = p.get(e % ranks) else {
-        unreachable!()
-    };
-    value_of(own.answers()[e / ranks])
+/// Where the word of an entry stands, the entries being dealt out in turn.
+#[derive(Clone, Copy)]
+struct Dealt {
+    rank: usize,
+    turn: usize,
 }
 
-/// Writes one line.
-pub(crate) fn write_line<K: Sink>(
-    out: &mut Out<'_, K>,
-    i: u32,
-    j: u32,
-    sum: i64,
-) -> Result<(), Failed>
-    requires row { i + 1 < 2 ^ 32 }
-    requires column { j + 1 < 2 ^ 32 }
-    ensures ok { OnOk result (appended K.taken out.new ≡ after (appended K.taken out.old) (ig_line i j sum)) }
-    ensures err { OnErr result (IsFront (K.taken out.new.sink.now) (after (appended K.taken out.old) (ig_line i j sum))) }
-    ensures cause { HasCause (K.faults out.old.sink.now) (K.faults out.new.sink.now) result }
-    ensures never_falls { K.faults out.old.sink.now ≤ K.faults out.new.sink.now }
-    ensures grows { IsFront (K.taken out.old.sink.now) (K.taken out.new.sink.now) }
-    ensures same_sink { out.new.sink.ghost_name ≡ out.old.sink.ghost_name }
+/// Where that of the next entry stands.
+fn next(at: Dealt, ranks: usize) -> Dealt
+    requires rank { at.rank < ranks }
+    requires turn { at.turn + 1 < 2 ^ 64 }
+    ensures next { result.turn * ranks + result.rank ≡ at.turn * ranks + at.rank + 1 }
+    ensures rank { result.rank < ranks }
 {
-    let mut line = Line::new();
-    line.natural((i + 1) as u64);
-    line.byte(b' ');
-    line.natural((j + 1) as u64);
-    line.byte(b' ');
-    line.integer(sum);
-    line.byte(b'\n');
-    out.line(&line)
+    if at.rank + 1 < ranks {
+        Dealt {
+            rank: at.rank + 1,
+            turn: at.turn,
+        }
+    } else {
+        Dealt {
+            rank: 0,
+            turn: at.turn + 1,
+        }
+    }
+}
+
+/// The sum of the column of an entry, as the entry's rank has it.
+fn sum_at<Q: Answered>(p: &Progs<Q>, m: &Matrix, at: Dealt) -> i64
+    requires sums { HaveSums m.now.entries (map Q.words p.now) }
+    requires rank { at.rank < length p.now }
+    requires entry { at.turn * length p.now + at.rank < length m.now.entries }
+    ensures { (t : Triple) → slice_get m.now.entries (at.turn * length p.now + at.rank) ≡ Some t → result ≡ column_sum t.j m.now.entries }
+{
+    let Some(own) = p.get(at.rank) else {
+        unreachable!()
+    };
+    value_of(own.answers()[at.turn])
+}
+
+/// The place of an entry with a sum in place of its value.
+fn summed(t: Triple, sum: i64) -> Triple
+    ensures { result ≡ record { i = t.i; j = t.j; v = sum } }
+{
+    Triple {
+        i: t.i,
+        j: t.j,
+        v: sum,
+    }
 }

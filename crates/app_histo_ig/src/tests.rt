@@ -3,7 +3,7 @@
 
 use super::*;
 use crate::answered::Answered;
-use crate::{answered, histo_run, ig_by_askers};
+use crate::{histo_run, ig_by_askers};
 use bale_types::{Item, MemSink, NoMemory, Out, value_of};
 use mtx_text::parse_matrix;
 use round_program::{Asker, Program, Progs};
@@ -187,12 +187,11 @@ fn askers_of_sums(rt: HostRuntime) -> Result<(), Fail> {
 }
 
 #[test]
-fn lines_of_both(rt: HostRuntime) -> Result<(), Fail> {
+fn line_of_histo(rt: HostRuntime) -> Result<(), Fail> {
     let mut sink = MemSink::new(rt.alloc(), 64, 64, &[])?;
     let mut out = Out::new(&mut sink);
     histo_run::write_line(&mut out, 2, 3)?;
-    answered::write_line(&mut out, 0, 2, -7)?;
     out.flush()?;
-    assert!(rt; sink.taken() == b"3 3\n1 3 -7\n".as_slice());
+    assert!(rt; sink.taken() == b"3 3\n".as_slice());
     Ok(())
 }

@@ -8,6 +8,7 @@
 //! | [`parse_matrix`] | a text in memory | its matrix, or its first bad line |
 //! | [`read_matrix`] | the text of a source | the same, or that a read failed |
 //! | [`write_matrix`] | a matrix as text | that text is read as the same matrix |
+//! | [`EntryLine`] | the line of one entry after another, as `write_matrix` writes them | |
 //! | [`Matrix::rows`], [`Matrix::cols`], [`Matrix::kind`] | the parts | |
 //! | [`Matrix::entries`] | loops over all entries | a slice of triples, in the order of the lines |
 //! | [`Matrix::len`], [`Matrix::get`] | one entry | `None` exactly past the end |
@@ -31,6 +32,7 @@ mod digit_lanes;
 mod distribution;
 mod draft;
 mod entries;
+mod entry_line;
 mod finite_map;
 mod generate;
 mod integer;
@@ -56,6 +58,7 @@ mod words;
 mod write;
 
 pub use cells::Cells;
+pub use entry_line::EntryLine;
 pub use finite_map::entries_are_a_map;
 pub use generate::gen_matrix;
 pub use kind::Kind;

@@ -343,3 +343,19 @@ fn hostile_lengths(rt: HostRuntime) -> Result<(), Fail> {
     );
     Ok(())
 }
+
+#[test]
+fn lines_of_entries(rt: HostRuntime) {
+    let mut line = EntryLine::new();
+    let rows: [(u32, u32, i64, Kind, &[u8]); 5] = [
+        (0, 2, -7, Kind::Integer, b"1 3 -7\n"),
+        (0, 99_999, 12, Kind::Integer, b"1 100000 12\n"),
+        (0, 4, 1, Kind::Pattern, b"1 5\n"),
+        (122, 0, 0, Kind::Integer, b"123 1 0\n"),
+        (0, 0, i64::MIN, Kind::Integer, b"1 1 -9223372036854775808\n"),
+    ];
+    for (i, j, v, kind, wanted) in rows {
+        line.set(kind, Triple { i, j, v });
+        assert!(rt; line.as_line().bytes() == wanted);
+    }
+}

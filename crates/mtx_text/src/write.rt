@@ -6,8 +6,8 @@ ghost use Rattle.bale_types.specs.Out.{appended};
 ghost use Rattle.bale_types.specs.declared.triple.Triple.{Triple};
 ghost use Rattle.mtx_text.specs.Grammar.{matrix_of};
 ghost use Rattle.mtx_text.specs.Written.{banner_text, size_text, entry_text, text_of};
-ghost use Rattle.mtx_text.specs.Fronts.{row_text, rest_text, Names};
 
+use crate::entry_line::EntryLine;
 use crate::kind::Kind;
 use crate::matrix::Matrix;
 use bale_types::{Failed, Line, Out, Sink, Triple};
@@ -94,78 +94,10 @@ fn write_lines<K: Sink>(out: &mut Out<'_, K>, kind: Kind, entries: &[Triple]) ->
     ensures grows { IsFront (K.taken out.old.sink.now) (K.taken out.new.sink.now) }
     ensures same_sink { out.new.sink.ghost_name ≡ out.old.sink.ghost_name }
 {
-    let mut line = Line::new();
-    let mut front = Front { row: 0, len: 0 };
+    let mut line = EntryLine::new();
     for t in entries {
-        front = on_row(&mut line, front, t.i as u64 + 1);
-        write_entry(out, &mut line, kind, *t)?;
+        line.set(kind, *t);
+        out.line(line.as_line())?;
     }
     Ok(())
-}
-
-/// What a line's front names: entries of one row share it.
-#[derive(Clone, Copy)]
-struct Front {
-    /// The row, from 1; 0 where the line has no front yet.
-    row: u64,
-    /// How many bytes the front has.
-    len: usize,
-}
-
-/// Leaves a line's front alone, where it is that of a row, and else writes that row's.
-#[inline(always)]
-fn on_row(line: &mut Line, front: Front, row: u64) -> Front
-    requires some { 0 < row }
-    requires front { Names front line.old }
-    ensures line { line.new ≡ row_text row }
-    ensures front { result ≡ record { row = row; len = length line.new } }
-    ensures short { length line.new ≤ 21 }
-{
-    if front.row == row {
-        line.cut(front.len);
-        return front;
-    }
-    line.cut(0);
-    line.natural(row);
-    line.byte(b' ');
-    Front {
-        row,
-        len: line.len(),
-    }
-}
-
-#[inline(always)]
-fn write_entry<K: Sink>(
-    out: &mut Out<'_, K>,
-    line: &mut Line,
-    kind: Kind,
-    t: Triple,
-) -> Result<(), Failed>
-    requires row { line.old ≡ row_text (t.i + 1) }
-    requires short { length line.old ≤ 21 }
-    ensures front { take (length line.old) line.new ≡ line.old }
-    ensures longer { length line.old ≤ length line.new }
-    ensures ok { OnOk result (appended K.taken out.new ≡ after (appended K.taken out.old) (entry_text kind t)) }
-    ensures err { OnErr result (IsFront (K.taken out.new.sink.now) (after (appended K.taken out.old) (entry_text kind t))) }
-    ensures cause { HasCause (K.faults out.old.sink.now) (K.faults out.new.sink.now) result }
-    ensures never_falls { K.faults out.old.sink.now ≤ K.faults out.new.sink.now }
-    ensures grows { IsFront (K.taken out.old.sink.now) (K.taken out.new.sink.now) }
-    ensures same_sink { out.new.sink.ghost_name ≡ out.old.sink.ghost_name }
-{
-    finish(line, kind, t);
-    out.line(line)
-}
-
-/// Appends what follows the row in an entry's line.
-#[inline(always)]
-fn finish(line: &mut Line, kind: Kind, t: Triple)
-    requires short { length line.old ≤ 21 }
-    ensures bytes { line.new ≡ line.old ++ rest_text kind t }
-{
-    line.natural(t.j as u64 + 1);
-    if let Kind::Integer = kind {
-        line.byte(b' ');
-        line.integer(t.v);
-    }
-    line.byte(b'\n');
 }

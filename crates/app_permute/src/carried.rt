@@ -1,10 +1,10 @@
 //! Cells on their way from rank to rank, as items.
 
-ghost use Rattle.std.specs.Prelude.{◌≡◌, ◌<◌, ◌^◌, [], ◌∷◌, is_ok, if◌then◌else◌};
+ghost use Rattle.std.specs.Prelude.{◌≡◌, ◌<◌, ◌^◌, is_ok, if◌then◌else◌};
 ghost use Rattle.bale_types.specs.Bits.{twos_complement};
 ghost use Rattle.mtx_text.specs.Cells.{raised};
 ghost use Rattle.app_permute.specs.Carried.{cell_item, cell_of, may_cell};
-ghost use Rattle.app_permute.specs.Permutes.{kept_as, may_permute};
+ghost use Rattle.app_permute.specs.Permutes.{kept_as};
 
 use bale_types::{Item, NoMemory, Triple, bits_of, value_of};
 use mtx_text::Cells;
@@ -37,23 +37,6 @@ pub(crate) fn raise_cell(cells: &mut Cells, item: Item) -> Result<(), NoMemory>
     ensures { cells.new ≡ (if is_ok result then raised (cell_of item) cells.old else cells.old) }
 {
     cells.raise(item.a as u32, item.b as u32, value_of(item.c))
-}
-
-/// Whether the rank `to` of permute may be sent a cell: it owns the cell's column in round 1, and else its row.
-#[inline(always)]
-pub(crate) fn permute_fits(
-    round: u64,
-    rows: u32,
-    cols: u32,
-    ranks: u32,
-    to: u32,
-    from: u32,
-    item: Item,
-) -> bool
-    ensures { result ≡ may_permute (rows ∷ cols ∷ []) ranks round to from item }
-{
-    let owned = if round == 1 { item.b } else { item.a };
-    from < ranks && item.a < rows as u64 && item.b < cols as u64 && owned as u32 % ranks == to
 }
 
 /// Takes in the cell that an item of permute stands for: by its column first in round 1.

@@ -19,6 +19,7 @@ mod perms;
 mod permute;
 mod permute_lists;
 mod permute_run;
+mod seat;
 #[cfg(test)]
 mod tests;
 mod transpose;

@@ -1,13 +1,17 @@
 //! permute: cells travel by their rows, by their columns, and by their new rows, and each owner gives a new number.
 
-ghost use Rattle.std.specs.Prelude.{◌≡◌, ◌<◌, []};
-ghost use Rattle.app_permute.specs.Permutes.{IsPermuting};
+ghost use Rattle.std.specs.Prelude.{◌≡◌, ◌<◌, [], OnOk, OnErr};
+ghost use Rattle.round_program.specs.Laws.{Fits};
+ghost use Rattle.round_program.specs.Batches.{taken_in};
+ghost use Rattle.app_permute.specs.Permutes.{IsPermuting, permute_rules};
+ghost use Rattle.app_permute.specs.PermuteSeats.{IsSeat};
 
-use crate::carried::{permute_fits, raise_kept};
+use crate::carried::raise_kept;
 use crate::permute_lists::{after_round, take_cells};
+use crate::seat::Seat;
 use bale_types::{Item, NoMemory};
 use mtx_text::Cells;
-use round_program::Program;
+use round_program::{Arrivals, Program};
 use std::alloc::Global;
 use std::marker::Model;
 
@@ -101,6 +105,44 @@ impl Permute {
         }
     }
 
+    /// Which items this rank may be sent in its round.
+    fn seat(&self) -> Seat
+        ensures { IsSeat result self.now }
+    {
+        Seat {
+            rank: self.rank,
+            ranks: self.ranks,
+            rows: self.rows,
+            cols: self.cols,
+            round: self.round,
+        }
+    }
+
+    /// Takes in an item of a rank, where it fits.
+    #[inline(always)]
+    fn take_in(&mut self, seat: Seat, from: u32, item: Item) -> Result<(), NoMemory>
+        requires { IsSeat seat self.old }
+        ensures ok { OnOk result (self.new ≡ taken_in permute_rules self.old from item) }
+        ensures sent { self.new.outgoing ≡ self.old.outgoing }
+        ensures seat { IsSeat seat self.new }
+    {
+        if seat.fits(from, item) {
+            return self.absorb_in(seat.round, from, item);
+        }
+        Ok(())
+    }
+
+    /// Takes in an item that fits.
+    #[inline(always)]
+    fn absorb_in(&mut self, round: u64, from: u32, item: Item) -> Result<(), NoMemory>
+        requires round { round ≡ self.old.round }
+        requires fits { Fits permute_rules self.old from item }
+        ensures ok { OnOk result (self.new ≡ permute_rules.absorbed self.old from item) }
+        ensures err { OnErr result (self.new ≡ self.old) }
+    {
+        raise_kept(&mut self.cells, round, item)
+    }
+
     /// The cells that came: after the run those of own rows of the permuted matrix.
     pub(crate) fn cells(&self) -> &Cells
         ensures { result.now ≡ self.now.cells }
@@ -138,13 +180,21 @@ impl Program for Permute {
     }
 
     fn fits(&self, from: u32, item: Item) -> bool {
-        permute_fits(
-            self.round, self.rows, self.cols, self.ranks, self.rank, from, item,
-        )
+        self.seat().fits(from, item)
     }
 
     fn absorb(&mut self, from: u32, item: Item) -> Result<(), NoMemory> {
-        raise_kept(&mut self.cells, self.round, item)
+        self.absorb_in(self.round, from, item)
+    }
+
+    fn absorb_each<I: Arrivals>(&mut self, came: I) -> Result<(), NoMemory> {
+        // What the rank is sent in its round is read once for all items.
+        let seat = self.seat();
+        let mut came = came;
+        while let Some((from, item)) = came.next() {
+            self.take_in(seat, from, item)?;
+        }
+        Ok(())
     }
 
     fn vote(&self) -> u64 {

@@ -1,4 +1,5 @@
 pub mod SsspLaws
 pub mod SsspRuns
+pub mod SsspSeats
 pub mod SsspView
 pub mod Sssps

@@ -17,6 +17,7 @@
 //! is the state read from the fields.
 #![tactic(auto)]
 
+mod seat;
 mod sssp;
 mod sssp_run;
 #[cfg(test)]

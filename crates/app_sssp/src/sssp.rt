@@ -4,12 +4,16 @@
 ghost use Rattle.std.specs.Prelude.{◌≡◌, ◌<◌, ◌/◌, ◌-◌, ◌^◌, ◌==◌, [], if◌then◌else◌, OnOk, OnErr, length};
 ghost use Rattle.std.specs.List.{All};
 ghost use Rattle.least_walks.specs.Tables.{table_of};
-ghost use Rattle.app_sssp.specs.Sssps.{IsSssp};
+ghost use Rattle.round_program.specs.Laws.{Fits};
+ghost use Rattle.round_program.specs.Batches.{taken_in};
+ghost use Rattle.app_sssp.specs.Sssps.{IsSssp, sssp_rules};
+ghost use Rattle.app_sssp.specs.SsspSeats.{IsSeat};
 
+use crate::seat::Seat;
 use bale_types::{Item, NoMemory, Triple, value_of};
 use least_walks::{Table, Vertices, offers};
 use mtx_text::Cells;
-use round_program::Program;
+use round_program::{Arrivals, Program};
 use std::alloc::Global;
 use std::marker::Model;
 use std::mem;
@@ -89,6 +93,48 @@ impl Sssp {
         }
     }
 
+    /// Which items this rank may be sent in its round.
+    fn seat(&self) -> Seat
+        ensures { IsSeat result self.now }
+    {
+        Seat {
+            rank: self.rank,
+            ranks: self.ranks,
+            rows: self.rows,
+            round: self.round,
+        }
+    }
+
+    /// Takes in an item of a rank, where it fits.
+    #[inline(always)]
+    fn take_in(&mut self, seat: Seat, from: u32, item: Item) -> Result<(), NoMemory>
+        requires { IsSeat seat self.old }
+        ensures ok { OnOk result (self.new ≡ taken_in sssp_rules self.old from item) }
+        ensures sent { self.new.outgoing ≡ self.old.outgoing }
+        ensures seat { IsSeat seat self.new }
+    {
+        if seat.fits(from, item) {
+            return self.absorb_on(seat, from, item);
+        }
+        Ok(())
+    }
+
+    /// Takes in an item that fits.
+    #[inline(always)]
+    fn absorb_on(&mut self, seat: Seat, from: u32, item: Item) -> Result<(), NoMemory>
+        requires seat { IsSeat seat self.old }
+        requires fits { Fits sssp_rules self.old from item }
+        ensures ok { OnOk result (self.new ≡ sssp_rules.absorbed self.old from item) }
+        ensures err { OnErr result (self.new ≡ self.old) }
+    {
+        if seat.round == 0 {
+            self.arriving
+                .raise(item.a as u32, item.b as u32, value_of(item.c))?;
+            return Ok(());
+        }
+        self.vertices.improve(item.a as u32 / seat.ranks, item.b)
+    }
+
     /// The number of vertices of all ranks.
     pub(crate) fn rows(&self) -> u32
         ensures { result ≡ self.now.rows }
@@ -133,19 +179,22 @@ impl Program for Sssp {
     }
 
     fn fits(&self, from: u32, item: Item) -> bool {
-        from < self.ranks
-            && item.a < self.rows as u64
-            && item.a as u32 % self.ranks == self.rank
-            && (self.round > 0 || item.b < self.rows as u64)
+        self.seat().fits(from, item)
     }
 
     fn absorb(&mut self, from: u32, item: Item) -> Result<(), NoMemory> {
-        if self.round == 0 {
-            self.arriving
-                .raise(item.a as u32, item.b as u32, value_of(item.c))?;
-            return Ok(());
+        let seat = self.seat();
+        self.absorb_on(seat, from, item)
+    }
+
+    fn absorb_each<I: Arrivals>(&mut self, came: I) -> Result<(), NoMemory> {
+        // What the rank is sent in its round is read once for all items.
+        let seat = self.seat();
+        let mut came = came;
+        while let Some((from, item)) = came.next() {
+            self.take_in(seat, from, item)?;
         }
-        self.vertices.improve(item.a as u32 / self.ranks, item.b)
+        Ok(())
     }
 
     fn vote(&self) -> u64 {

@@ -3,6 +3,7 @@ pub mod TopoEnds
 pub mod TopoLaws
 pub mod TopoLines
 pub mod TopoRuns
+pub mod TopoSeats
 pub mod TopoView
 pub mod Topos
 pub mod Triangular

@@ -19,6 +19,7 @@ mod lists;
 mod marks;
 mod order;
 mod placed;
+mod seat;
 #[cfg(test)]
 mod tests;
 mod topo;

@@ -198,6 +198,7 @@ pub(crate) fn put_next(
 }
 
 /// Notes the rows whose claims were sent in an odd round: they have its level.
+#[inline(always)]
 pub(crate) fn keep_claims(
     claimed: &mut Vec<Placed>,
     round: u64,

@@ -1,15 +1,18 @@
 //! topo: rows claim columns, level by level.
 
-ghost use Rattle.std.specs.Prelude.{◌≡◌, ◌<◌, ◌-◌, ◌%◌, ◌==◌, [], nat_lt, OnOk, OnErr, if◌then◌else◌};
-ghost use Rattle.app_topo.specs.Topos.{IsTopo, entered, claimed_by, fallen};
+ghost use Rattle.std.specs.Prelude.{◌≡◌, ◌<◌, [], OnOk, OnErr};
+ghost use Rattle.round_program.specs.Batches.{taken_in};
+ghost use Rattle.app_topo.specs.Topos.{IsTopo, topo_rules, entered, claimed_by, fallen};
+ghost use Rattle.app_topo.specs.TopoSeats.{IsSeat};
 ghost use Rattle.app_topo.specs.TopoLaws.{IsOwn};
 
 use crate::lists::{keep_claims, put_columns, put_next};
 use crate::marks::{add, fresh_after, lessen, mark, mark_if, number_at};
 use crate::placed::Placed;
+use crate::seat::Seat;
 use bale_types::{Item, NoMemory, Triple};
 use mtx_text::Cells;
-use round_program::Program;
+use round_program::{Arrivals, Program};
 use std::alloc::Global;
 use std::marker::Model;
 use std::mem;
@@ -134,14 +137,58 @@ impl Topo {
         &self.counts
     }
 
+    /// Which items this rank may be sent in its round.
+    fn seat(&self) -> Seat
+        ensures { IsSeat result self.now }
+    {
+        Seat {
+            rank: self.rank,
+            ranks: self.ranks,
+            size: self.size,
+            round: self.round,
+        }
+    }
+
+    /// Takes in an item of a rank, where it fits.
+    #[inline(always)]
+    fn take_in(&mut self, seat: Seat, from: u32, item: Item) -> Result<(), NoMemory>
+        requires { IsSeat seat self.old }
+        ensures ok { OnOk result (self.new ≡ taken_in topo_rules self.old from item) }
+        ensures sent { self.new.outgoing ≡ self.old.outgoing }
+        ensures seat { IsSeat seat self.new }
+    {
+        if seat.fits(from, item) {
+            return self.absorb_on(seat, from, item);
+        }
+        Ok(())
+    }
+
+    /// Takes in an item that fits.
+    #[inline(always)]
+    fn absorb_on(&mut self, seat: Seat, from: u32, item: Item) -> Result<(), NoMemory>
+        requires seat { IsSeat seat self.old }
+        requires own { IsOwn self.old.size self.old.ranks self.old.rank item }
+        ensures ok { OnOk result (self.new ≡ topo_rules.absorbed self.old from item) }
+        ensures err { OnErr result (self.new ≡ self.old) }
+    {
+        if seat.round == 0 {
+            return self.enter(seat.ranks, item);
+        }
+        if seat.round % 2 == 1 {
+            return self.claim(seat.ranks, item);
+        }
+        self.fall(seat.ranks, item)
+    }
+
     /// Round 0: an entry of an own row, or of an own column.
-    fn enter(&mut self, item: Item) -> Result<(), NoMemory>
-        requires { IsOwn self.old.size self.old.ranks self.old.rank item }
+    #[inline(always)]
+    fn enter(&mut self, ranks: u32, item: Item) -> Result<(), NoMemory>
+        requires ranks { ranks ≡ self.old.ranks }
+        requires own { IsOwn self.old.size self.old.ranks self.old.rank item }
         ensures ok { OnOk result (self.new ≡ entered self.old item) }
         ensures err { OnErr result (self.new ≡ self.old) }
     {
         if item.c == 0 {
-            let ranks = self.ranks;
             add(&mut self.numbers, ranks, item.a, 1);
             add(&mut self.sums, ranks, item.a, item.b);
             return Ok(());
@@ -150,24 +197,27 @@ impl Topo {
     }
 
     /// Odd rounds: a row claims an own column.
-    fn claim(&mut self, item: Item) -> Result<(), NoMemory>
-        requires { IsOwn self.old.size self.old.ranks self.old.rank item }
+    #[inline(always)]
+    fn claim(&mut self, ranks: u32, item: Item) -> Result<(), NoMemory>
+        requires ranks { ranks ≡ self.old.ranks }
+        requires own { IsOwn self.old.size self.old.ranks self.old.rank item }
         ensures ok { OnOk result (self.new ≡ claimed_by self.old item) }
         ensures err { OnErr result (self.new ≡ self.old) }
     {
         mark(&mut self.came, item.a, 0)?;
-        self.fresh = fresh_after(self.fresh, number_at(&self.counts, self.ranks, item.a));
-        add(&mut self.counts, self.ranks, item.a, 1);
+        self.fresh = fresh_after(self.fresh, number_at(&self.counts, ranks, item.a));
+        add(&mut self.counts, ranks, item.a, 1);
         Ok(())
     }
 
     /// Later even rounds: an own row has an entry less.
-    fn fall(&mut self, item: Item) -> Result<(), NoMemory>
-        requires { IsOwn self.old.size self.old.ranks self.old.rank item }
+    #[inline(always)]
+    fn fall(&mut self, ranks: u32, item: Item) -> Result<(), NoMemory>
+        requires ranks { ranks ≡ self.old.ranks }
+        requires own { IsOwn self.old.size self.old.ranks self.old.rank item }
         ensures ok { OnOk result (self.new ≡ fallen self.old item) }
         ensures err { OnErr result (self.new ≡ self.old) }
     {
-        let ranks = self.ranks;
         let left = number_at(&self.numbers, ranks, item.a).wrapping_sub(1);
         mark_if(&mut self.came, left == 1, item.a)?;
         lessen(&mut self.numbers, ranks, item.a, 1);
@@ -205,21 +255,22 @@ impl Program for Topo {
     }
 
     fn fits(&self, from: u32, item: Item) -> bool {
-        from < self.ranks
-            && item.a < self.size as u64
-            && item.b < self.size as u64
-            && item.a as u32 % self.ranks == self.rank
-            && kind_fits(self.round, item.c)
+        self.seat().fits(from, item)
     }
 
     fn absorb(&mut self, from: u32, item: Item) -> Result<(), NoMemory> {
-        if self.round == 0 {
-            return self.enter(item);
+        let seat = self.seat();
+        self.absorb_on(seat, from, item)
+    }
+
+    fn absorb_each<I: Arrivals>(&mut self, came: I) -> Result<(), NoMemory> {
+        // What the rank is sent in its round is read once for all items.
+        let seat = self.seat();
+        let mut came = came;
+        while let Some((from, item)) = came.next() {
+            self.take_in(seat, from, item)?;
         }
-        if self.round % 2 == 1 {
-            return self.claim(item);
-        }
-        self.fall(item)
+        Ok(())
     }
 
     fn vote(&self) -> u64 {
@@ -259,14 +310,4 @@ impl Program for Topo {
         self.round = self.round.saturating_add(1);
         Ok(goes_on)
     }
-}
-
-/// Whether an item of this kind comes in the round.
-fn kind_fits(round: u64, kind: u64) -> bool
-    ensures { result ≡ (if round == 0 then nat_lt kind 2 else kind == 3 - round % 2) }
-{
-    if kind < 2 {
-        return round == 0;
-    }
-    round != 0 && kind == 3 - round % 2
 }

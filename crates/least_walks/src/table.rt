@@ -64,7 +64,9 @@ impl Table {
         requires inside { All (λ t. t.i / ranks < places) entries.now }
         ensures { IfOk result (λ t. t ≡ table_of ranks places low high entries.now) }
     {
-        let mut rows = empty_rows(alloc, places)?;
+        // Each list gets its memory at once, and not by growing.
+        let lengths = lengths_of(alloc, ranks, places, low, high, entries)?;
+        let mut rows = empty_rows(alloc, &lengths)?;
         for t in entries {
             keep(&mut rows, ranks, low, high, *t)?;
         }
@@ -79,13 +81,37 @@ impl Table {
     }
 }
 
-/// A place for each vertex, without edges.
-fn empty_rows(alloc: Global, places: u32) -> Result<Vec<Vec<Edge>>, NoMemory>
-    ensures { IfOk result (λ v. map (λ l. l.items) v.items ≡ replicate places []) }
+/// How many edges with weights from `low` to `high` there are at each place.
+fn lengths_of(
+    alloc: Global,
+    ranks: u32,
+    places: u32,
+    low: u64,
+    high: u64,
+    entries: &[Triple],
+) -> Result<Vec<u32>, NoMemory>
+    requires some { 0 < ranks }
+    requires inside { All (λ t. t.i / ranks < places) entries.now }
+    ensures { IfOk result (λ v. length v.items ≡ places) }
 {
-    let mut rows = Vec::with_capacity(alloc, places as usize)?;
-    for _place in 0..places {
-        rows.push(Vec::new(alloc))?;
+    let mut lengths = vec![in alloc; 0u32; places as usize]?;
+    for t in entries {
+        let weight = bits_of(t.v);
+        if low <= weight && weight <= high {
+            let place = (t.i / ranks) as usize;
+            lengths[place] = lengths[place].saturating_add(1);
+        }
+    }
+    Ok(lengths)
+}
+
+/// A place for each vertex, without edges but with memory for so many.
+fn empty_rows(alloc: Global, lengths: &[u32]) -> Result<Vec<Vec<Edge>>, NoMemory>
+    ensures { IfOk result (λ v. map (λ l. l.items) v.items ≡ replicate (length lengths.now) []) }
+{
+    let mut rows = Vec::with_capacity(alloc, lengths.len())?;
+    for place in 0..lengths.len() {
+        rows.push(Vec::with_capacity(alloc, lengths[place] as usize)?)?;
     }
     Ok(rows)
 }
@@ -143,13 +169,24 @@ pub fn offers(
     requires weights { All (λ p. p < length vertices.now) places.now }
     ensures { IfOk result (λ v. v.items ≡ offers table.now vertices.now places.now) }
 {
-    let mut outgoing = Vec::new(alloc);
+    let mut outgoing = Vec::with_capacity(alloc, edges_at(table, places))?;
     for place in places {
         if let Some(weight) = vertices.weight(*place) {
             offer_all(&mut outgoing, weight, &table.rows[*place as usize])?;
         }
     }
     Ok(outgoing)
+}
+
+/// How many edges there are at some places.
+fn edges_at(table: &Table, places: &[u32]) -> usize
+    requires { All (λ p. p < length table.now) places.now }
+{
+    let mut count = 0usize;
+    for place in places {
+        count = count.saturating_add(table.rows[*place as usize].len());
+    }
+    count
 }
 
 /// Appends what a vertex with a weight offers along its edges.

@@ -58,6 +58,7 @@ impl Cells {
     /// # Errors
     ///
     /// `NoMemory` where there was none; the cells are as before.
+    #[inline(always)]
     pub fn raise(&mut self, i: u32, j: u32, v: i64) -> Result<(), NoMemory>
         ensures ok { OnOk result (self.new ≡ raised (record { i = i; j = j; v = v }) self.old) }
         ensures err { OnErr result (self.new ≡ self.old) }

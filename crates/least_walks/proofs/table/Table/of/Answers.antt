@@ -1,10 +1,10 @@
-use Rattle.std.proofs.Common.{◌<◌, ◌/◌, pos, length, sym, ap, ◌∙◌, subst, get_or, take}
+use Rattle.std.proofs.Common.{◌<◌, ◌/◌, [], pos, length, sym, ap, ◌∙◌, subst, get_or, take, replicate}
 use Rattle.std.proofs.lemmas.List.{length-map}
 use Rattle.least_walks.proofs.Rows.{table_none, table_more, table_len}
 use Rattle.least_walks.proofs.table.Table.of.Goals as goal
 
 pub loop-t-init : goal.loop-t-init
-loop-t-init c = c.in_ok-rows.ensures ∙ sym (table_none c.args.ranks c.args.places c.args.low c.args.high)
+loop-t-init c = c.in_ok-rows.ensures ∙ ap (λ n. replicate n []) (ap length c.deref.ensures.value ∙ c.in_ok-lengths.ensures) ∙ sym (table_none c.args.ranks c.args.places c.args.low c.args.high)
 
 pub keep-requires-clause-inside : goal.keep-requires-clause-inside
 keep-requires-clause-inside c =

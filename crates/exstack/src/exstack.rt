@@ -61,6 +61,14 @@ impl<const CAP: usize> Exstack<CAP> {
         self.stack.stage()
     }
 
+    /// Does nothing, and tells what holds of an exstack at every moment.
+    #[inline]
+    pub fn known(&self)
+        ensures standing { IsStack CAP self.now }
+    {
+        self.stack.known();
+    }
+
     /// How many items came and are unread.
     pub fn unread(&self) -> u64
         ensures { result ≡ unread_of self.now }

@@ -7,5 +7,5 @@ use crate::matrix::Matrix;
 pub fn entries_are_a_map(m: &Matrix)
     ensures { Agree m.now }
 {
-    let _entries = m.entries();
+    m.known();
 }

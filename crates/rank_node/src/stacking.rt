@@ -100,8 +100,7 @@ fn proceed<const CAP: usize, Q: Program, P: Port<CAP>>(
     run.taken = pop_all(&mut run.prog, exstack, voting, run.taken);
     let done = run.next == count_of(&run.prog, run.sends);
     let polled = exstack.poll_proceed(port, done);
-    // The contract of `stage` tells what holds of the exstack.
-    let _standing = exstack.stage();
+    exstack.known();
     match polled? {
         Proceed::GoOn | Proceed::NotYet(_) => Ok(Turn::Going),
         Proceed::AllDone => Ok(Turn::Ended),
@@ -138,8 +137,7 @@ fn exchange<const CAP: usize, Q: Program, P: Port<CAP>>(
     ensures stage { exstack.new.stage ≢ Stage.AllDone }
 {
     let polled = exstack.poll_exchange(port);
-    // The contract of `stage` tells what holds of the exstack.
-    let _standing = exstack.stage();
+    exstack.known();
     let _made = polled?;
     Ok(Turn::Going)
 }
@@ -153,8 +151,7 @@ fn fill<const CAP: usize, Q: Program>(run: &mut Run<Q>, exstack: &mut Exstack<CA
     ensures same { exstack.new ≡ record exstack.old { outs = exstack.new.outs; popped = exstack.new.popped } }
 {
     run.next = push_on(&run.prog, run.sends, exstack, run.next);
-    // The contract of `stage` tells what holds of the exstack.
-    let _standing = exstack.stage();
+    exstack.known();
 }
 
 /// Pushes the items to send from number `from` on, in order, until one is refused or all are pushed. Answers how many
@@ -221,8 +218,7 @@ fn pop_batch<const CAP: usize, Q: Program>(
     ensures pops { Pops Q.rules voting exstack.old exstack.new prog.old.value prog.new.value taken.sum result.sum taken.spoiled result.spoiled }
     ensures less { unread_of exstack.new < unread_of exstack.old }
 {
-    // The contract of `stage` tells what holds of the exstack.
-    let _standing = exstack.stage();
+    exstack.known();
     let came = FromSender {
         sender,
         entries: exstack.batch(sender),
@@ -245,8 +241,7 @@ pub(crate) fn new_exstack<const CAP: usize>(
     ensures { IfOk result (λ x. IsNew grid.now rank ByExstack (Stacking CAP x)) }
 {
     let exstack = Exstack::new(alloc, grid, rank)?;
-    // The contract of `stage` tells what holds of the exstack.
-    let _standing = exstack.stage();
+    exstack.known();
     Ok(exstack)
 }
 
@@ -257,6 +252,5 @@ pub(crate) fn reset_exstack<const CAP: usize>(exstack: &mut Exstack<CAP>)
     ensures { GoesOn (Stacking CAP exstack.old) (Stacking CAP exstack.new) }
 {
     exstack.reset();
-    // The contract of `stage` tells what holds of the exstack.
-    let _standing = exstack.stage();
+    exstack.known();
 }

@@ -21,7 +21,7 @@ returns-in_err-_made-clause-moves g c =
     let x2 = c.poll_exchange-polled.new.self in
     let e = c.poll_exchange-polled.ensures in
     let p : AfterExchange g.row.CAP x0 x2 sent got sent' got' = record {
-      standing = c.stage-standing.ensures.standing;
+      standing = c.known.ensures.standing;
       agrees = e.agrees;
       same_ranks = ap (λ (t : State). t.ranks) e.same;
       same_rank = ap (λ (t : State). t.rank) e.same;
@@ -55,7 +55,7 @@ returns-clause-moves g c =
     let x2 = c.poll_exchange-polled.new.self in
     let e = c.poll_exchange-polled.ensures in
     let p : AfterExchange g.row.CAP x0 x2 sent got sent' got' = record {
-      standing = c.stage-standing.ensures.standing;
+      standing = c.known.ensures.standing;
       agrees = e.agrees;
       same_ranks = ap (λ (t : State). t.ranks) e.same;
       same_rank = ap (λ (t : State). t.rank) e.same;
@@ -98,4 +98,4 @@ returns-clause-cycle g c = λ quota n i.
     exchanges_keep g.Q.Program.rules (running c.args.run.now) c.args.exstack.now c.poll_exchange-polled.new.self sent got sent' got' p quota n i
 
 pub returns-clause-awaits : goal.returns-clause-awaits
-returns-clause-awaits g c = λ ok. exchange_awaits g.row.CAP c.poll_exchange-polled.new.self c.stage-standing.ensures.standing _ c.in_ok-_made.ensures.answer c.in_ok-_made.ensures.stage
+returns-clause-awaits g c = λ ok. exchange_awaits g.row.CAP c.poll_exchange-polled.new.self c.known.ensures.standing _ c.in_ok-_made.ensures.answer c.in_ok-_made.ensures.stage

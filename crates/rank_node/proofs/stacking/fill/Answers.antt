@@ -24,7 +24,7 @@ pub returns-clause-filled : goal.returns-clause-filled
 returns-clause-filled g c =
     let run : Running g.row.Q.Denot = running c.args.run.now in
     record {
-      kept = λ h sent got is. filled g.Q.Program.rules h run g.row.CAP c.args.exstack.now c.push_on-run.new.exstack c.push_on-run.result sent got c.stage-standing.ensures.standing c.requires.filling c.push_on-run.ensures is;
+      kept = λ h sent got is. filled g.Q.Program.rules h run g.row.CAP c.args.exstack.now c.push_on-run.new.exstack c.push_on-run.result sent got c.known.ensures.standing c.requires.filling c.push_on-run.ensures is;
       round = refl;
       sends = refl;
       refused = λ to y left. record { at_push = c.push_on-run.new.exstack; same = c.push_on-run.ensures.same; full = c.push_on-run.ensures.refused to y left };

@@ -69,7 +69,7 @@ returns-in_err-polled-clause-moves g c =
     let e = c.poll_proceed-polled.ensures in
     let all : done ≡ (run.next == length (to_send R prog' run.sends)) = ap (λ m. run.next == m) c.count_of.ensures in
     let p : AfterProceed g.row.CAP x1 x2 done sent got sent' got' = record {
-      standing = c.stage-standing.ensures.standing;
+      standing = c.known.ensures.standing;
       agrees = e.agrees;
       same_ranks = ap (λ (t : State). t.ranks) e.same;
       same_rank = ap (λ (t : State). t.rank) e.same;
@@ -112,7 +112,7 @@ returns-in-GoOn-clause-moves g c =
     let e = c.poll_proceed-polled.ensures in
     let all : done ≡ (run.next == length (to_send R prog' run.sends)) = ap (λ m. run.next == m) c.count_of.ensures in
     let p : AfterProceed g.row.CAP x1 x2 done sent got sent' got' = record {
-      standing = c.stage-standing.ensures.standing;
+      standing = c.known.ensures.standing;
       agrees = e.agrees;
       same_ranks = ap (λ (t : State). t.ranks) e.same;
       same_rank = ap (λ (t : State). t.rank) e.same;
@@ -155,7 +155,7 @@ returns-in-AllDone-clause-moves g c =
     let e = c.poll_proceed-polled.ensures in
     let all : done ≡ (run.next == length (to_send R prog' run.sends)) = ap (λ m. run.next == m) c.count_of.ensures in
     let p : AfterProceed g.row.CAP x1 x2 done sent got sent' got' = record {
-      standing = c.stage-standing.ensures.standing;
+      standing = c.known.ensures.standing;
       agrees = e.agrees;
       same_ranks = ap (λ (t : State). t.ranks) e.same;
       same_rank = ap (λ (t : State). t.rank) e.same;
@@ -201,7 +201,7 @@ returns-in_err-polled-clause-cycle g c = λ quota n i.
     let e = c.poll_proceed-polled.ensures in
     let all : done ≡ (run.next == length (to_send R c.pop_all-run.new.prog.value run.sends)) = ap (λ m. run.next == m) c.count_of.ensures in
     let p = proceeds_of R (c.requires.node.0) run g.row.CAP x0 x1 x2 c.pop_all-run.new.prog.value taken.sum taken.spoiled c.votes_now-voting.result done sent got sent' got'
-    c.pop_all-run.ensures.pops all c.requires.node.1 c.stage-standing.ensures.standing c.requires.may e.same e.round e.cycle (ap has_proceeded (c.in_err-polled.ensures.no_memory refl)) (λ f. absurd (proceeding_apart x2.stage (c.in_err-polled.ensures.no_memory refl) f)) in
+    c.pop_all-run.ensures.pops all c.requires.node.1 c.known.ensures.standing c.requires.may e.same e.round e.cycle (ap has_proceeded (c.in_err-polled.ensures.no_memory refl)) (λ f. absurd (proceeding_apart x2.stage (c.in_err-polled.ensures.no_memory refl) f)) in
     proceeds_keep R g.row.CAP run _ x0 x1 x2 done sent got sent' got' p quota n i
 
 pub returns-in-GoOn-clause-cycle : goal.returns-in-GoOn-clause-cycle
@@ -220,7 +220,7 @@ returns-in-GoOn-clause-cycle g c = λ quota n i.
     let e = c.poll_proceed-polled.ensures in
     let all : done ≡ (run.next == length (to_send R c.pop_all-run.new.prog.value run.sends)) = ap (λ m. run.next == m) c.count_of.ensures in
     let p = proceeds_of R (c.requires.node.0) run g.row.CAP x0 x1 x2 c.pop_all-run.new.prog.value taken.sum taken.spoiled c.votes_now-voting.result done sent got sent' got'
-    c.pop_all-run.ensures.pops all c.requires.node.1 c.stage-standing.ensures.standing c.requires.may e.same e.round e.cycle (ap has_proceeded (c.in_ok-polled.ensures.stage) ∙ proceeded_stage _) (λ f. filling_open _ _ _ c.in_ok-polled.ensures.answer (sym (c.in_ok-polled.ensures.stage) ∙ f)) in
+    c.pop_all-run.ensures.pops all c.requires.node.1 c.known.ensures.standing c.requires.may e.same e.round e.cycle (ap has_proceeded (c.in_ok-polled.ensures.stage) ∙ proceeded_stage _) (λ f. filling_open _ _ _ c.in_ok-polled.ensures.answer (sym (c.in_ok-polled.ensures.stage) ∙ f)) in
     proceeds_keep R g.row.CAP run _ x0 x1 x2 done sent got sent' got' p quota n i
 
 pub returns-in-AllDone-clause-cycle : goal.returns-in-AllDone-clause-cycle
@@ -239,8 +239,8 @@ returns-in-AllDone-clause-cycle g c = λ quota n i.
     let e = c.poll_proceed-polled.ensures in
     let all : done ≡ (run.next == length (to_send R c.pop_all-run.new.prog.value run.sends)) = ap (λ m. run.next == m) c.count_of.ensures in
     let p = proceeds_of R (c.requires.node.0) run g.row.CAP x0 x1 x2 c.pop_all-run.new.prog.value taken.sum taken.spoiled c.votes_now-voting.result done sent got sent' got'
-    c.pop_all-run.ensures.pops all c.requires.node.1 c.stage-standing.ensures.standing c.requires.may e.same e.round e.cycle (ap has_proceeded (c.in_ok-polled.ensures.stage) ∙ proceeded_stage _) (λ f. filling_open _ _ _ c.in_ok-polled.ensures.answer (sym (c.in_ok-polled.ensures.stage) ∙ f)) in
+    c.pop_all-run.ensures.pops all c.requires.node.1 c.known.ensures.standing c.requires.may e.same e.round e.cycle (ap has_proceeded (c.in_ok-polled.ensures.stage) ∙ proceeded_stage _) (λ f. filling_open _ _ _ c.in_ok-polled.ensures.answer (sym (c.in_ok-polled.ensures.stage) ∙ f)) in
     proceeds_keep R g.row.CAP run _ x0 x1 x2 done sent got sent' got' p quota n i
 
 pub returns-in-GoOn-clause-awaits : goal.returns-in-GoOn-clause-awaits
-returns-in-GoOn-clause-awaits g c = λ ok. proceed_awaits g.row.CAP c.poll_proceed-polled.new.self c.stage-standing.ensures.standing _ c.in_ok-polled.ensures.answer c.in_ok-polled.ensures.stage
+returns-in-GoOn-clause-awaits g c = λ ok. proceed_awaits g.row.CAP c.poll_proceed-polled.new.self c.known.ensures.standing _ c.in_ok-polled.ensures.answer c.in_ok-polled.ensures.stage

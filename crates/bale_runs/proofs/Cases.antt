@@ -30,7 +30,7 @@ use Rattle.bale_subjects.specs.declared.subject.Subject.{Subject}
 use Rattle.bale_subjects.specs.declared.subject.Subject.TheVariants as subject
 use Rattle.bale_answers.specs.Starts.{matrix_starts, starts_of}
 use Rattle.bale_subjects.specs.Subjects.{is_tally, suits}
-use Rattle.bale_runs.specs.Runs.{Tells, TellsMatrix, TellsTask, WithinTurns, TurnsOfMatrix, TurnsOfTask}
+use Rattle.bale_runs.specs.Runs.{HaveRun, Tells, TellsMatrix, TellsTask, WithinTurns, TurnsOfMatrix, TurnsOfTask}
 
 -- What a drive tells of its programs.
 abbrev pub DriveTells : List AnyState → Made → Manner → List ClosedRound → Type 0
@@ -58,6 +58,17 @@ tells_matrix (task.Sssp source None) m made manner rs ps ends ready put some h t
 tells_matrix (task.Sssp source (Some delta)) m made manner rs ps ends ready put some h t =
     tells delta_is_case (delta_starts (ranks made.dims) m (source - 1) delta) ps ends made manner rs put some h t
 tells_matrix task.Tally m made manner rs ps ends ready put some h t = absurd cc
+
+-- the programs of a task's run
+pub have_run : (t : Task) (s : Subject) (n : ℕ) (ps ends : List AnyState) → 1 ≤ n → n ≤ 64 → ps ≡ starts_of t n s → 0 < length ps → HaveEnded any_rules ps ends → HaveRun t s ends
+have_run t s n ps ends low high are some h =
+    record {
+      ranks = n;
+      some = low;
+      few = high;
+      begun = subst (λ (qs : List AnyState). 0 < length qs) are some;
+      ended = subst (λ (qs : List AnyState). HaveEnded any_rules qs ends) are h;
+    }
 
 -- the rounds of a task's run
 pub tells_task : (t : Task) (s : Subject) (made : Made) (manner : Manner) (rs : List ClosedRound) (ps ends : List AnyState) → suits t s ≡ true

@@ -1,9 +1,9 @@
 -- Which programs a command runs for its answer, what the rounds tell of them, and how many turns they take.
-use Rattle.std.specs.Prelude.{◌≡◌, ◌≤◌, ◌+◌, ◌-◌, ℕ, Bool, not, List, [], ◌∷◌, None, Some}
+use Rattle.std.specs.Prelude.{◌≡◌, ◌<◌, ◌≤◌, ◌+◌, ◌-◌, ℕ, Bool, not, List, [], ◌∷◌, None, Some, length}
 use Rattle.route_tensor.specs.Grid.{ranks}
 use Rattle.mtx_text.specs.Sparse.{Sparse}
 use Rattle.round_program.specs.Rules.{Rules}
-use Rattle.round_program.specs.Canonical.{HasRounds}
+use Rattle.round_program.specs.Canonical.{HasRounds, HaveEnded}
 use Rattle.rank_group.specs.declared.closed_round.ClosedRound.{ClosedRound}
 use Rattle.rank_group.specs.Rounds.{round_of}
 use Rattle.rank_node.specs.Movers.{Manner}
@@ -28,14 +28,24 @@ use Rattle.app_topo.specs.TopoRuns.{topo_starts}
 use Rattle.delta_step.specs.Deltas.{delta_rules}
 use Rattle.delta_step.specs.DeltaRuns.{delta_starts}
 use Rattle.elastic.specs.Mails.{mail_rules}
+use Rattle.app_cases.specs.Any.{AnyState, any_rules}
 use Rattle.bale_subjects.specs.declared.subject.Subject.{Subject}
 use Rattle.bale_subjects.specs.declared.subject.Subject.TheVariants as subject
 use Rattle.bale_subjects.specs.Numberings.{perms_for}
+use Rattle.bale_answers.specs.Starts.{starts_of}
 
 -- The bank of a command's run: its grid, the entries of a parcel, the slots of a link; a plain one where it is driven on one
 -- thread, and one of slots where each rank has a thread.
 abbrev pub made_for : Bool → Command → Made
 made_for serial c = record { dims = c.grid; cap = c.travel.buffer; slots = c.travel.slots; by_slots = not serial }
+
+-- The programs after the canonical run of those that the task begins with, on some number of ranks from 1 to 64.
+pub record HaveRun (t : Task) (s : Subject) (progs : List AnyState) : Type 0 where
+  pub ranks : ℕ
+  pub some : 1 ≤ ranks
+  pub few : ranks ≤ 64
+  pub begun : 0 < length (starts_of t ranks s)
+  pub ended : HaveEnded any_rules (starts_of t ranks s) progs
 
 -- The rounds of a run are one closed round, which tells the canonical run of these programs.
 pub record Tells {S : Type 0} (R : Rules S) (starts : List S) (made : Made) (manner : Manner) (rounds : List ClosedRound) : Type 0 where

@@ -1,23 +1,20 @@
 //! The run of a command for its subject: the programs, driven, and then the answer, written.
-ghost use Rattle.std.specs.Prelude.{◌≡◌, ◌≤◌, ◌<◌, ℕ, Bool, true, false, List, None, length, OnErr, IfOk, IfErr};
+ghost use Rattle.std.specs.Prelude.{◌≡◌, ◌≤◌, ◌<◌, Bool, true, false, None, OnErr, IfOk, IfErr};
 ghost use Rattle.bale_types.specs.Stream.{HasCause, IsFront};
-ghost use Rattle.round_program.specs.Canonical.{HaveEnded};
-ghost use Rattle.app_cases.specs.Any.{any_rules};
 ghost use Rattle.bale_words.specs.Ranges.{InRanges};
 ghost use Rattle.bale_runs.specs.Asking.{TellsCommand, TurnsOfCommand};
 ghost use Rattle.bale_runs.specs.Jobs.{as_asked, by_asking, via_of, manner_for};
 ghost use Rattle.bale_answers.specs.Answer.{HasWritten, shown};
 ghost use Rattle.bale_subjects.specs.Fitness.{unfitness};
-ghost use Rattle.bale_answers.specs.Starts.{starts_of};
 ghost use Rattle.bale_subjects.specs.Subjects.{suits};
 ghost use Rattle.bale_answers.specs.Tasks.{IsAnswer, task_status};
-ghost use Rattle.bale_runs.specs.Runs.{made_for, TellsTask, TurnsOfTask};
+ghost use Rattle.bale_runs.specs.Runs.{made_for, HaveRun, TellsTask, TurnsOfTask};
 
 use crate::asking::{asked_on_threads, asked_serially};
 use app_cases::AnyProgram;
 use bale_answers::{Ending, finished, started};
 use bale_subjects::{Refusal, Subject, in_order};
-use bale_types::{Failed, Sink};
+use bale_types::{Failed, NoMemory, Sink};
 use bale_words::{Command, Driving, Task, Transport, Travel};
 use case_table::{case_serial, case_threads};
 use rank_group::{Finished, Gate, Rounds, Steps, Via};
@@ -91,6 +88,24 @@ fn drove_serially<K: Sink, L: Ledger>(
     ensures rounds { IfOk result (λ f. TellsTask command.now.task subject.now (made_for true command.now) (manner_for command.now) f.rounds) }
     ensures steps { TurnsOfTask command.now.task subject.now (manner_for command.now) command.now.grid steps.old steps.new }
 {
+    let run = driven_serially(alloc, command, subject, steps)?;
+    told(alloc, command, subject, run, out)
+}
+
+/// The application's programs after their last round on this thread, and that run's closed round.
+fn driven_serially<L: Ledger>(
+    alloc: Global,
+    command: &Command,
+    subject: &Subject,
+    steps: &mut Steps<L>,
+) -> Result<Finished<AnyProgram>, NoMemory>
+    requires suits { suits command.now.task subject.now ≡ true }
+    requires ranges { InRanges command.now }
+    requires fits { unfitness command.now subject.now true ≡ None }
+    ensures ended { IfOk result (λ f. HaveRun command.now.task subject.now f.progs) }
+    ensures rounds { IfOk result (λ f. TellsTask command.now.task subject.now (made_for true command.now) (manner_for command.now) f.rounds) }
+    ensures steps { TurnsOfTask command.now.task subject.now (manner_for command.now) command.now.grid steps.old steps.new }
+{
     let grid = &command.grid;
     let Travel {
         buffer,
@@ -101,7 +116,7 @@ fn drove_serially<K: Sink, L: Ledger>(
     } = command.travel;
     let progs = started(alloc, &command.task, subject, grid.ranks())?;
     let order = in_order(alloc, grid.ranks())?;
-    let run = case_serial(
+    case_serial(
         alloc,
         grid,
         buffer,
@@ -111,8 +126,7 @@ fn drove_serially<K: Sink, L: Ledger>(
         &order,
         progs,
         steps,
-    )?;
-    told(alloc, command, subject, run, out)
+    )
 }
 
 /// Runs the command for its subject, each rank on a thread of its own, and writes its answer.
@@ -164,6 +178,24 @@ fn drove_on_threads<R: Threads + Wait + Sync, K: Sink, G: Gate + Sync>(
     ensures memory { IfErr result (λ r. r ≡ Refusal.NoMemory) }
     ensures rounds { IfOk result (λ f. TellsTask command.now.task subject.now (made_for false command.now) (manner_for command.now) f.rounds) }
 {
+    let run = driven_on_threads(rt, alloc, command, subject, gate)?;
+    told(alloc, command, subject, run, out)
+}
+
+/// The application's programs after their last round, each rank on a thread of its own, and that run's closed round.
+fn driven_on_threads<R: Threads + Wait + Sync, G: Gate + Sync>(
+    rt: &R,
+    alloc: Global,
+    command: &Command,
+    subject: &Subject,
+    gate: &G,
+) -> Result<Finished<AnyProgram>, NoMemory>
+    requires suits { suits command.now.task subject.now ≡ true }
+    requires ranges { InRanges command.now }
+    requires fits { unfitness command.now subject.now false ≡ None }
+    ensures ended { IfOk result (λ f. HaveRun command.now.task subject.now f.progs) }
+    ensures rounds { IfOk result (λ f. TellsTask command.now.task subject.now (made_for false command.now) (manner_for command.now) f.rounds) }
+{
     let grid = &command.grid;
     let Travel {
         buffer,
@@ -173,7 +205,7 @@ fn drove_on_threads<R: Threads + Wait + Sync, K: Sink, G: Gate + Sync>(
         ..
     } = command.travel;
     let progs = started(alloc, &command.task, subject, grid.ranks())?;
-    let run = case_threads(
+    case_threads(
         rt,
         alloc,
         grid,
@@ -183,8 +215,7 @@ fn drove_on_threads<R: Threads + Wait + Sync, K: Sink, G: Gate + Sync>(
         steady,
         progs,
         gate,
-    )?;
-    told(alloc, command, subject, run, out)
+    )
 }
 
 /// Runs the command for its subject as its words ask, each rank on a thread of its own or all on this one, and writes its answer.
@@ -281,7 +312,7 @@ fn told<K: Sink>(
     requires suits { suits command.now.task subject.now ≡ true }
     requires ranges { InRanges command.now }
     requires fits { (serial : Bool) × (unfitness command.now subject.now serial ≡ None) }
-    requires ended { (ranks : ℕ) × (1 ≤ ranks) × (ranks ≤ 64) × (0 < length (starts_of command.now.task ranks subject.now)) × HaveEnded any_rules (starts_of command.now.task ranks subject.now) run.progs }
+    requires ended { HaveRun command.now.task subject.now run.progs }
     ensures status { IfOk result (λ f. f.status ≡ task_status command.now.task subject.now) }
     ensures low { IfOk result (λ f. f.status ≤ 1) }
     ensures answer { IfOk result (λ f. HasWritten (IsAnswer command.now.task subject.now) (shown command.now.travel.generated) (K.taken out.old) (K.taken out.new) f.written) }

@@ -1,62 +1,11 @@
-use Rattle.std.proofs.Common.{◌<◌, ◌≤◌, ◌≡◌, ◌∙◌, ℕ, List, false, length, ap, subst, sym, arith}
-use Rattle.route_tensor.proofs.Coordinates.{ranks_some}
-use Rattle.route_tensor.specs.Grid.{ranks}
-use Rattle.round_program.specs.Canonical.{InRound, EndsWithin, HaveEnded}
+use Rattle.std.proofs.Common.{List, false}
 use Rattle.rank_group.specs.declared.closed_round.ClosedRound.{ClosedRound}
-use Rattle.app_cases.specs.Any.{AnyState, any_rules}
 use Rattle.bale_runs.specs.Jobs.{manner_for}
-use Rattle.bale_answers.specs.Starts.{starts_of}
 use Rattle.bale_runs.specs.Runs.{made_for, TellsTask}
-use Rattle.rank_node.specs.Movers.{manner_of}
-use Rattle.bale_runs.proofs.Cases.{DriveTells, rounds_as, tells_task}
-use Rattle.bale_runs.proofs.Exchanges.{is_capacity, is_slots}
-use Rattle.bale_runs.proofs.exchange.drove_on_threads.Given.{Over}
-use Rattle.bale_runs.proofs.exchange.drove_on_threads.Goals.{In_ok-progs}
+use Rattle.bale_runs.proofs.Cases.{rounds_as}
 use Rattle.bale_runs.proofs.exchange.drove_on_threads.Goals as goal
-
-pub started-requires-clause-some : goal.started-requires-clause-some
-started-requires-clause-some g c =
-    let some : 0 < c.ranks.result = subst (λ n. 0 < n) (sym c.ranks.ensures.value) (ranks_some _ c.ranks.ensures.grid.positive) in
-    omega (arith, some)
-
-pub started-requires-clause-few : goal.started-requires-clause-few
-started-requires-clause-few g c = subst (λ n. n ≤ 64) (sym c.ranks.ensures.value) c.ranks.ensures.grid.small
-
--- there are programs
-some : (g : Over) (c : In_ok-progs g) → 0 < length c.in_ok-progs.progs
-some g c =
-    let ranks : 0 < c.ranks.result = subst (λ n. 0 < n) (sym c.ranks.ensures.value) (ranks_some _ c.ranks.ensures.grid.positive) in
-    subst (λ n. 0 < n) (sym c.in_ok-progs.ensures.begins.2.size) ranks
-
--- they are those of the task
-are : (g : Over) (c : In_ok-progs g) → c.in_ok-progs.progs ≡ starts_of c.args.command.now.task (ranks c.args.command.now.grid) c.args.subject.now
-are g c = c.in_ok-progs.ensures.starts ∙ ap (λ n. starts_of c.args.command.now.task n c.args.subject.now) c.ranks.ensures.value
-
-pub case_threads-requires-clause-capacity : goal.case_threads-requires-clause-capacity
-case_threads-requires-clause-capacity g c κs within = is_capacity c.args.command.now.travel.buffer c.requires.ranges.travel.buffer
-
-pub case_threads-requires-clause-slots : goal.case_threads-requires-clause-slots
-case_threads-requires-clause-slots g c κs within = is_slots c.args.command.now.travel.slots c.requires.ranges.travel.slots
-
-pub case_threads-requires-clause-begins : goal.case_threads-requires-clause-begins
-case_threads-requires-clause-begins g c κs within =
-    subst (λ n. (shape : List ℕ) × (most : ℕ) × InRound any_rules n 0 shape most c.in_ok-progs.progs × EndsWithin any_rules c.in_ok-progs.progs most) c.ranks.ensures.value
-    c.in_ok-progs.ensures.begins
-
-pub told-requires-clause-ended : goal.told-requires-clause-ended
-told-requires-clause-ended g c =
-    let low : 0 < c.ranks.result = subst (λ n. 0 < n) (sym c.ranks.ensures.value) (ranks_some _ c.ranks.ensures.grid.positive) in (
-      c.ranks.result,
-      omega (arith, low),
-      subst (λ n. n ≤ 64) (sym c.ranks.ensures.value) c.ranks.ensures.grid.small,
-      subst (λ (ps : List AnyState). 0 < length ps) c.in_ok-progs.ensures.starts (some g (goal.at.told-requires-clause-ended g c).In_ok-progs),
-      subst (λ (ps : List AnyState). HaveEnded any_rules ps c.in_ok-run.run'.progs) c.in_ok-progs.ensures.starts c.in_ok-run.ensures.ended,
-    )
 
 pub returns-clause-rounds : goal.returns-clause-rounds
 returns-clause-rounds g c =
     rounds_as (λ (rs : List ClosedRound). TellsTask c.args.command.now.task c.args.subject.now (made_for false c.args.command.now) (manner_for c.args.command.now) rs)
-    c.told.result c.told.ensures.rounds
-    (tells_task c.args.command.now.task c.args.subject.now (made_for false c.args.command.now) (manner_for c.args.command.now) c.in_ok-run.run'.rounds c.in_ok-progs.progs c.in_ok-run.run'.progs
-    c.requires.suits (are g (goal.at.returns-clause-rounds g c).In_ok-progs) (some g (goal.at.returns-clause-rounds g c).In_ok-progs) c.in_ok-run.ensures.ended
-    (subst (λ v. DriveTells c.in_ok-progs.progs (made_for false c.args.command.now) (manner_of v c.args.command.now.travel.steady) c.in_ok-run.run'.rounds) c.via_of.ensures c.in_ok-run.ensures.rounds))
+    c.told.result c.told.ensures.rounds c.in_ok-run.ensures.rounds

@@ -1,8 +1,8 @@
-use Rattle.std.proofs.Common.{◌<◌, ◌≤◌, ◌≡◌, ◌∙◌, ℕ, List, true, length, ap, subst, sym, arith, ◌+◌}
+use Rattle.std.proofs.Common.{◌<◌, ◌≤◌, ◌≡◌, ◌∙◌, ℕ, List, true, length, ap, subst, sym, ◌+◌}
 use Rattle.route_tensor.proofs.Coordinates.{ranks_some}
 use Rattle.route_tensor.specs.Grid.{ranks}
 use Rattle.round_program.specs.Canonical.{InRound, EndsWithin, HasRounds, HaveEnded}
-use Rattle.app_cases.specs.Any.{AnyState, any_rules}
+use Rattle.app_cases.specs.Any.{any_rules}
 use Rattle.bale_runs.specs.Jobs.{manner_for}
 use Rattle.bale_answers.specs.Starts.{starts_of}
 use Rattle.bale_runs.specs.Runs.{made_for, HaveRun, TellsTask}

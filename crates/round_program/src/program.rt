@@ -20,7 +20,7 @@ use bale_types::{Item, NoMemory};
 /// | `emit_each(from, out)` | `from` at most `count` | hands over a batch: the same as `emission` for each item, and so written once for all programs |
 /// | `fits(from, item)` | | whether this rank may be sent the item by the rank `from` |
 /// | `absorb(from, item)` | the item fits | takes the item in |
-/// | `absorb_each(came)` | | takes in, of a batch, what fits: the same as `fits` and `absorb` for each item, and so written once for all programs |
+/// | `absorb_each(came)` | | takes in, of a batch, what fits: the same as `fits` and `absorb` for each item. The body here serves every program; one that reads its state once for a batch has its own |
 /// | `vote` | | this rank's vote, once everything is absorbed |
 /// | `goes_on(votes)` | | whether another round follows this one, if the votes have that sum |
 /// | `end_round(votes)` | | begins the next round, and answers what `goes_on` does |

@@ -50,10 +50,6 @@ mod read;
 mod refusal;
 mod seeds;
 mod sizes;
-#[cfg(test)]
-mod tests;
-#[cfg(test)]
-mod tests_of_cells;
 mod words;
 mod write;
 

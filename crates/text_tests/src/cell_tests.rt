@@ -5,8 +5,8 @@ ghost use Rattle.mtx_text.specs.declared.kind.Kind.TheVariants.{Integer};
 ghost use Rattle.mtx_text.specs.Sparse.{IsEntry};
 ghost use Rattle.mtx_text.specs.Cells.{sparse};
 
-use super::*;
 use bale_types::{MemSink, NoMemory, Out, Triple};
+use mtx_text::{Cells, Kind, Matrix, Words, gen_matrix, parse_matrix, write_matrix};
 use std::alloc::Global;
 use std::test::Fail;
 

@@ -1,8 +1,10 @@
 //! Worked texts with their matrices or bad lines, and that calls succeed with ample memory.
 ghost use Rattle.std.specs.Prelude.{None};
 
-use super::*;
 use bale_types::{Failed, MemSource, Source, Triple};
+use mtx_text::{
+    BadLine, EntryLine, Kind, Matrix, ParseFault, ReadFault, Reason, parse_matrix, read_matrix,
+};
 use std::alloc::{AllocError, Global};
 use std::test::Fail;
 

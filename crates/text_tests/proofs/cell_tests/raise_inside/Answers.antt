@@ -1,6 +1,6 @@
 use Rattle.std.proofs.Common.{rules}
 use Rattle.mtx_text.proofs.OfCells.{integer_inside}
-use Rattle.mtx_text.proofs.tests_of_cells.raise_inside.Goals as goal
+use Rattle.text_tests.proofs.cell_tests.raise_inside.Goals as goal
 
 pub returns : goal.returns
 returns c =

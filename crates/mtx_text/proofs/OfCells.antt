@@ -9,8 +9,7 @@ use Rattle.mtx_text.proofs.PlaceOrder.{not_same}
 use Rattle.mtx_text.proofs.Raised.{greater}
 use Rattle.mtx_text.proofs.Gathered.{raised_keeps}
 use Rattle.std.proofs.lemmas.Bool.{cases_Bool, cond-true, cond-false}
-use Rattle.std.specs.Prelude.{ℤ, pos, nat_abs, int_lt}
-use Rattle.mtx_text.specs.declared.kind.Kind.TheVariants.{Integer, Pattern}
+use Rattle.std.specs.Prelude.{int_lt}
 
 pub lawful_apart : (rows cols : ℕ) (kind : Kind) (cells : List Triple) → rows ≤ 16_384 → cols ≤ 16_384 → length cells ≤ 524_288
     → All (λ t. IsEntry (sparse rows cols kind []) t) cells → AllPairs (λ s t. ¬ SamePlace s t) cells → IsSparse (sparse rows cols kind cells)
@@ -49,13 +48,3 @@ pub raised_inside : (rows cols : ℕ) (kind : Kind) (t : Triple) (cells : List T
     → All (λ u. IsEntry (sparse rows cols kind []) u) cells → All (λ u. IsEntry (sparse rows cols kind []) u) (raised t cells)
 raised_inside rows cols kind t cells e all =
     raised_keeps (λ u. IsEntry (sparse rows cols kind []) u) (greater_entry (sparse rows cols kind [])) t cells e all
-
--- the same of an integer
-pub integer_inside : (rows cols i j : ℕ) (v : ℤ) (cells new : List Triple) → i < rows → j < cols → nat_abs v ≤ 1_000_000_000_000
-    → new ≡ raised (record { i = i; j = j; v = v }) cells → All (λ u. IsEntry (sparse rows cols Integer []) u) cells → All (λ u. IsEntry (sparse rows cols Integer []) u) new
-integer_inside rows cols i j v cells new row col limit e all =
-    subst (All (λ u. IsEntry (sparse rows cols Integer []) u)) (sym e)
-    (raised_inside rows cols Integer (record { i = i; j = j; v = v }) cells (record { row = row; col = col; limit = limit; one = not_pattern v }) all)
-  where
-    not_pattern : (v : ℤ) → Integer ≡ Pattern → v ≡ pos 1
-    not_pattern v e = search

@@ -1,5 +1,5 @@
 use Rattle.std.proofs.Common.{rules}
-use Rattle.mtx_text.proofs.OfCells.{integer_inside}
+use Rattle.text_tests.proofs.Inside.{integer_inside}
 use Rattle.text_tests.proofs.cell_tests.raise_inside.Goals as goal
 
 pub returns : goal.returns

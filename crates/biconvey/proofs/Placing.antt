@@ -62,6 +62,10 @@ pub record Seating {S : Type 0} (T : Talk S) (cap : ℕ) (b p : Bank) (gq gp : G
 
 module _ {S : Type 0} (T : Talk S) (cap : ℕ) (b p : Bank) (same : p.shape ≡ b.shape) (gq gp : Gathering) (number : ℕ) (all taken rest now : List (BiState S)) (xs : List (SeatedState S)) (s : Seating T cap b p gq gp number all taken now xs) where
   -- one more gets its seats
+  -- there is room for one more
+  pub seat_left : (node : BiState S) → now ≡ node ∷ rest → (room : ℕ) → length all ≤ room → length xs < room
+  seat_left node is room below = omega (arith, below, ap length s.left, ap length is, length-append taken now, length-map xs (λ (y : SeatedState S). y.node), ap length s.nodes_are)
+
   module _ (gq' gp' : Gathering) (node : BiState S) (sq sp : Manning) (is : now ≡ node ∷ rest)
       (lists_q lists_p : _) (gave_q : gq' ≡ record gq { lists = lists_q; given = slice_set gq.given number true }) (gave_p : gp' ≡ record gp { lists = lists_p; given = slice_set gp.given number true })
       (noted_q ended_q noted_p ended_p : List ℕ)

@@ -6,6 +6,7 @@ ghost use Rattle.biconvey.specs.Drives.{AreAskers, AreFresh, askers_of};
 
 use crate::bi_node::BiNode;
 use bale_types::NoMemory;
+use rank_group::one_by_one;
 use round_program::{Asker, Progs};
 use route_tensor::Grid;
 use std::alloc::Global;
@@ -40,7 +41,7 @@ pub(crate) fn take_askers<const CAP: usize, const HOPS: usize, A: Asker>(
     ensures { IfOk result (λ askers. askers ≡ askers_of all.items) }
 {
     let mut askers = Progs::new(alloc);
-    for node in all {
+    for node in one_by_one(all) {
         askers.add(node.into_asker())?;
     }
     Ok(askers)

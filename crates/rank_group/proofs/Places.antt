@@ -32,6 +32,10 @@ pub record Seating {S : Type 0} (R : Rules S) (cap : ℕ) (b : Bank) (gather : G
   pub each : (manner : Manner) (starts : List S) → AreFresh R b.shape.dims cap manner starts all → (r : ℕ) (x : SeatedState S) → slice_get xs r ≡ Some x → IsSeated R cap manner b r x
 
 module _ {S : Type 0} (R : Rules S) (cap : ℕ) (b : Bank) (gather : Gathering) (number : ℕ) (all taken rest now : List (RankState S)) (xs : List (SeatedState S)) (s : Seating R cap b gather number all taken now xs) where
+  -- there is room for one more
+  pub seat_left : (rank : RankState S) → now ≡ rank ∷ rest → (room : ℕ) → length all ≤ room → length xs < room
+  seat_left rank is room below = omega (arith, below, ap length s.left, ap length is, length-append taken now, length-map xs (λ (y : SeatedState S). y.rank), ap length s.ranks_are)
+
   -- one more gets its seat
   module _ (gather' : Gathering) (rank : RankState S) (seat : Manning) (is : now ≡ rank ∷ rest) (lists : _) (gave : gather' ≡ record gather { lists = lists; given = slice_set gather.given number true })
       (noted ended : List ℕ) (seat_is : seat ≡ record { id = b.id; shape = b.shape; rank = number; lists = no_logs (links b.shape.dims); noted = noted; ended = ended }) where

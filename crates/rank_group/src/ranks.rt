@@ -5,6 +5,7 @@ ghost use Rattle.round_program.specs.Canonical.{InRound};
 ghost use Rattle.rank_node.specs.Movers.{manner_of};
 ghost use Rattle.rank_group.specs.Drives.{progs_of, AreFresh};
 
+use crate::one_by_one::one_by_one;
 use crate::sweeping::Rank;
 use bale_types::NoMemory;
 use rank_node::{Node, Via};
@@ -44,7 +45,7 @@ pub(crate) fn take_progs<const CAP: usize, const HOPS: usize, Q: Program>(
     ensures progs { IfOk result (λ ps. ps ≡ progs_of all.items) }
 {
     let mut progs = Progs::new(alloc);
-    for rank in all {
+    for rank in one_by_one(all) {
         let Rank { node, over: _ } = rank;
         progs.add(node.into_prog())?;
     }

@@ -1,5 +1,4 @@
 use Rattle.std.proofs.Common.{◌++◌, ◌∷◌, [], ap, ◌∙◌, sym, subst}
-use Rattle.std.specs.Vec.Iter.{into_iter_items}
 use Rattle.link_slots.specs.Gathering.{Gathering}
 use Rattle.biconvey.specs.Seats.{SeatedState}
 use Rattle.biconvey.proofs.Placing.{Leaving, next_numbers, leaving_more}
@@ -14,14 +13,14 @@ loop-seated-preserved g c =
     let sp = c.into_seat-in-loop-seated.result in
     let y : SeatedState g.row.A.Denot = record { node = i.node; queries = sq; replies = sp } in
     let here = ap (λ s. record { node = i.node; queries = s; replies = sp }) c.into_seat.ensures.seat ∙ (ap (λ s. record { node = i.node; queries = i.queries.seat; replies = s }) c.into_seat-in-loop-seated.ensures.seat ∙ c.seated.view_is) in
-    let rest = into_iter_items c.next.new.self in
+    let rest = c.next.new.self in
     let v = c.loop-seated.invariant in
     let t = c.gather.ensures in
     let u = c.gather-in-loop-seated.ensures in
-    let is = c.in-Some.ensures.steps.0 ∙ ap (λ z. z ∷ rest) (sym here) in
-    let numbers = next_numbers b p c.loop-seated.of_queries c.loop-seated.of_replies c.args.ended.items c.loop-seated.yielded rest (into_iter_items c.loop-seated.seated-iterator) c.loop-seated.nodes.items v y is c.requires.numbers in
+    let is = c.in-Some.ensures.steps ∙ ap (λ z. z ∷ rest) (sym here) in
+    let numbers = next_numbers b p c.loop-seated.of_queries c.loop-seated.of_replies c.args.ended.items c.loop-seated.yielded rest c.loop-seated.seated-iterator c.loop-seated.nodes.items v y is c.requires.numbers in
     subst (λ (z : SeatedState g.row.A.Denot). Leaving b p c.gather.new.g c.gather-in-loop-seated.new.g c.args.ended.items (c.loop-seated.yielded ++ z ∷ []) rest c.push.new.self.items) here
-    (leaving_more b p c.loop-seated.of_queries c.loop-seated.of_replies c.args.ended.items c.loop-seated.yielded rest (into_iter_items c.loop-seated.seated-iterator) c.loop-seated.nodes.items v y is
+    (leaving_more b p c.loop-seated.of_queries c.loop-seated.of_replies c.args.ended.items c.loop-seated.yielded rest c.loop-seated.seated-iterator c.loop-seated.nodes.items v y is
     c.gather.new.g c.gather-in-loop-seated.new.g c.push.new.self.items numbers
     (ap (λ (z : Gathering). z.id) t.gather, ap (λ (z : Gathering). z.shape) t.gather) t.there t.others
     (ap (λ (z : Gathering). z.id) u.gather, ap (λ (z : Gathering). z.shape) u.gather) u.there u.others c.in_ok-push.ensures.items)

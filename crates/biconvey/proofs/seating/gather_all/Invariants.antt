@@ -1,6 +1,5 @@
-use Rattle.std.specs.Vec.Iter.{into_iter_items}
 use Rattle.biconvey.proofs.Placing.{Leaving}
 use Rattle.biconvey.proofs.seating.gather_all.Given as goal
 
 abbrev pub invariant-loop-seated : goal.invariant-loop-seated
-invariant-loop-seated g l = Leaving l.queries l.replies l.of_queries l.of_replies l.fn.ended.items l.yielded (into_iter_items l.seated-iterator) l.nodes.items
+invariant-loop-seated g l = Leaving l.queries l.replies l.of_queries l.of_replies l.fn.ended.items l.yielded l.seated-iterator l.nodes.items

@@ -1,5 +1,4 @@
 use Rattle.std.proofs.Common.{◌++◌, ◌∷◌, [], ap, ◌∙◌, sym, subst}
-use Rattle.std.specs.Vec.Iter.{into_iter_items}
 use Rattle.link_slots.specs.Gathering.{Gathering}
 use Rattle.rank_group.specs.Seats.{SeatedState}
 use Rattle.rank_group.proofs.Places.{Leaving, next_number, leaving_more}
@@ -11,11 +10,11 @@ loop-seated-preserved g c =
     let i = c.seated.inside in
     let y : SeatedState g.row.Q.Denot = record { rank = i.rank; seat = c.into_seat.result; turns = i.turns; lost = i.lost } in
     let here = ap (λ s. record { rank = i.rank; seat = s; turns = i.turns; lost = i.lost }) c.into_seat.ensures.seat ∙ c.seated.view_is in
-    let rest = into_iter_items c.next.new.self in
+    let rest = c.next.new.self in
     let v = c.loop-seated.invariant in
     let t = c.gather.ensures in
-    let is = c.in-Some.ensures.steps.0 ∙ ap (λ z. z ∷ rest) (sym here) in
-    let number = next_number b c.loop-seated.gather c.args.ended.items c.loop-seated.yielded rest (into_iter_items c.loop-seated.seated-iterator) c.loop-seated.ranks.items v y is c.requires.number in
+    let is = c.in-Some.ensures.steps ∙ ap (λ z. z ∷ rest) (sym here) in
+    let number = next_number b c.loop-seated.gather c.args.ended.items c.loop-seated.yielded rest c.loop-seated.seated-iterator c.loop-seated.ranks.items v y is c.requires.number in
     subst (λ (z : SeatedState g.row.Q.Denot). Leaving b c.gather.new.g c.args.ended.items (c.loop-seated.yielded ++ z ∷ []) rest c.push.new.self.items) here
-    (leaving_more b c.loop-seated.gather c.args.ended.items c.loop-seated.yielded rest (into_iter_items c.loop-seated.seated-iterator) c.loop-seated.ranks.items v y is
+    (leaving_more b c.loop-seated.gather c.args.ended.items c.loop-seated.yielded rest c.loop-seated.seated-iterator c.loop-seated.ranks.items v y is
     c.gather.new.g c.push.new.self.items number c.if-lost.false (ap (λ (z : Gathering). z.id) t.gather, ap (λ (z : Gathering). z.shape) t.gather) t.there t.others c.in_ok-push.ensures.items)

@@ -151,6 +151,10 @@ pub record Leaving {S : Type 0} (b p : Bank) (gq gp : Gathering) (all taken rest
   pub nodes_are : ns ≡ map (λ y. y.node) taken
 
 module _ {S : Type 0} (b p : Bank) (gq gp : Gathering) (all taken rest now : List (SeatedState S)) (ns : List (BiState S)) (s : Leaving b p gq gp all taken now ns) (y : SeatedState S) (is : now ≡ y ∷ rest) where
+  -- there is room for one more
+  pub leave_left : (room : ℕ) → length all ≤ room → length ns < room
+  leave_left room below = omega (arith, below, ap length s.left, ap length is, length-append taken now, length-map taken (λ (x : SeatedState S). x.node), ap length s.nodes_are)
+
   -- the next sits at its place
   pub next_numbers : EachAt (λ r (x : SeatedState S). (x.queries.rank ≡ r) × (x.replies.rank ≡ r)) all → (y.queries.rank ≡ length taken) × (y.replies.rank ≡ length taken)
   next_numbers numbers = each_get (λ r (x : SeatedState S). (x.queries.rank ≡ r) × (x.replies.rank ≡ r)) all (length taken) y numbers (next_is taken rest all now y s.left is)

@@ -25,10 +25,10 @@ pub(crate) fn nodes_of<const CAP: usize, const HOPS: usize, A: Asker>(
     ensures { IfOk result (λ all. AreFresh A.talk grid.now steady askers all.items) }
 {
     let mut askers = askers;
-    let mut all = Vec::new(alloc);
+    let mut all = Vec::with_capacity(alloc, askers.len())?;
     while let Some(asker) = askers.take_first() {
         let node = BiNode::new(alloc, grid, asker, steady)?;
-        all.push(node)?;
+        all.push_reserved(node);
     }
     Ok(all)
 }

@@ -74,7 +74,7 @@ pub(crate) fn gather_all<'a, const CAP: usize, const HOPS: usize, A: Asker>(
     ensures queries_there { OnOk result (EachAt (λ r y. slice_index_or of_queries.new.lists r None ≡ Some y.queries.lists) ended.entry.items) }
     ensures replies_there { OnOk result (EachAt (λ r y. slice_index_or of_replies.new.lists r None ≡ Some y.replies.lists) ended.entry.items) }
 {
-    let mut nodes = Vec::new(alloc);
+    let mut nodes = Vec::with_capacity(alloc, ended.len())?;
     for seated in one_by_one(ended) {
         let AtPorts {
             node,
@@ -84,7 +84,7 @@ pub(crate) fn gather_all<'a, const CAP: usize, const HOPS: usize, A: Asker>(
         } = seated;
         queries.gather(of_queries, asking.into_seat());
         replies.gather(of_replies, replying.into_seat());
-        nodes.push(node)?;
+        nodes.push_reserved(node);
     }
     Ok(nodes)
 }

@@ -105,6 +105,10 @@ pub record Leaving {S : Type 0} (b : Bank) (gather : Gathering) (all taken rest 
   pub there : EachAt (λ r y. get_or gather.lists r None ≡ Some y.seat.lists) taken
 
 module _ {S : Type 0} (b : Bank) (gather : Gathering) (all taken rest now : List (SeatedState S)) (rs : List (RankState S)) (s : Leaving b gather all taken now rs) (y : SeatedState S) (is : now ≡ y ∷ rest) where
+  -- there is room for one more
+  pub leave_left : (room : ℕ) → length all ≤ room → length rs < room
+  leave_left room below = omega (arith, below, ap length s.left, ap length is, length-append taken now, length-map taken (λ (x : SeatedState S). x.rank), ap length s.ranks_are)
+
   -- the next sits at its place
   pub next_number : EachAt (λ r (x : SeatedState S). x.seat.rank ≡ r) all → y.seat.rank ≡ length taken
   next_number number = each_get (λ r (x : SeatedState S). x.seat.rank ≡ r) all (length taken) y number (next_is taken rest all now y s.left is)

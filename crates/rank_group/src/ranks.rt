@@ -29,10 +29,10 @@ pub(crate) fn ranks_of<const CAP: usize, const HOPS: usize, Q: Program>(
     ensures fresh { IfOk result (λ all. AreFresh Q.rules grid.now CAP (manner_of via steady) progs all.items) }
 {
     let mut progs = progs;
-    let mut all = Vec::new(alloc);
+    let mut all = Vec::with_capacity(alloc, progs.len())?;
     while let Some(prog) = progs.take_first() {
         let node = Node::new(alloc, grid, via, prog, steady)?;
-        all.push(Rank { node, over: false })?;
+        all.push_reserved(Rank { node, over: false });
     }
     Ok(all)
 }

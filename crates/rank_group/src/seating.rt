@@ -65,7 +65,7 @@ pub(crate) fn gather_all<'a, const CAP: usize, const HOPS: usize, Q: Program>(
     ensures none_lost { OnOk result (All (λ y. y.lost ≡ false) ended.entry.items) }
     ensures there { OnOk result (EachAt (λ r y. slice_index_or gather.new.lists r None ≡ Some y.seat.lists) ended.entry.items) }
 {
-    let mut ranks = Vec::new(alloc);
+    let mut ranks = Vec::with_capacity(alloc, ended.len())?;
     for seated in one_by_one(ended) {
         let AtPort {
             rank,
@@ -77,7 +77,7 @@ pub(crate) fn gather_all<'a, const CAP: usize, const HOPS: usize, Q: Program>(
             return Err(NoMemory);
         }
         bank.gather(gather, port.into_seat());
-        ranks.push(rank)?;
+        ranks.push_reserved(rank);
     }
     Ok(ranks)
 }

@@ -1,8 +1,13 @@
-use Rattle.std.proofs.Common.{◌++◌, ◌∷◌, [], ap, ◌∙◌, sym, subst}
+use Rattle.std.proofs.Common.{◌++◌, ◌∷◌, [], ◌≤◌, length, vec_capacity, ap, ◌∙◌, sym, subst}
 use Rattle.link_slots.specs.Gathering.{Gathering}
 use Rattle.biconvey.specs.Seats.{SeatedState}
-use Rattle.biconvey.proofs.Placing.{Leaving, next_numbers, leaving_more}
+use Rattle.biconvey.proofs.Placing.{Leaving, next_numbers, leave_left, leaving_more}
 use Rattle.biconvey.proofs.seating.gather_all.Goals as goal
+
+pub push_reserved-requires : goal.push_reserved-requires
+push_reserved-requires g c =
+    leave_left c.args.queries.now c.args.replies.now c.loop-seated.of_queries c.loop-seated.of_replies c.args.ended.items c.loop-seated.yielded c.next.new.self c.loop-seated.seated-iterator c.loop-seated.nodes.items c.loop-seated.invariant.leaving
+    c.in-Some.seated c.in-Some.ensures.steps (vec_capacity c.loop-seated.nodes) c.loop-seated.invariant.room
 
 pub loop-seated-preserved : goal.loop-seated-preserved
 loop-seated-preserved g c =
@@ -14,13 +19,16 @@ loop-seated-preserved g c =
     let y : SeatedState g.row.A.Denot = record { node = i.node; queries = sq; replies = sp } in
     let here = ap (λ s. record { node = i.node; queries = s; replies = sp }) c.into_seat.ensures.seat ∙ (ap (λ s. record { node = i.node; queries = i.queries.seat; replies = s }) c.into_seat-in-loop-seated.ensures.seat ∙ c.seated.view_is) in
     let rest = c.next.new.self in
-    let v = c.loop-seated.invariant in
+    let v = c.loop-seated.invariant.leaving in
     let t = c.gather.ensures in
     let u = c.gather-in-loop-seated.ensures in
     let is = c.in-Some.ensures.steps ∙ ap (λ z. z ∷ rest) (sym here) in
     let numbers = next_numbers b p c.loop-seated.of_queries c.loop-seated.of_replies c.args.ended.items c.loop-seated.yielded rest c.loop-seated.seated-iterator c.loop-seated.nodes.items v y is c.requires.numbers in
-    subst (λ (z : SeatedState g.row.A.Denot). Leaving b p c.gather.new.g c.gather-in-loop-seated.new.g c.args.ended.items (c.loop-seated.yielded ++ z ∷ []) rest c.push.new.self.items) here
-    (leaving_more b p c.loop-seated.of_queries c.loop-seated.of_replies c.args.ended.items c.loop-seated.yielded rest c.loop-seated.seated-iterator c.loop-seated.nodes.items v y is
-    c.gather.new.g c.gather-in-loop-seated.new.g c.push.new.self.items numbers
-    (ap (λ (z : Gathering). z.id) t.gather, ap (λ (z : Gathering). z.shape) t.gather) t.there t.others
-    (ap (λ (z : Gathering). z.id) u.gather, ap (λ (z : Gathering). z.shape) u.gather) u.there u.others c.in_ok-push.ensures.items)
+    record {
+      leaving = subst (λ (z : SeatedState g.row.A.Denot). Leaving b p c.gather.new.g c.gather-in-loop-seated.new.g c.args.ended.items (c.loop-seated.yielded ++ z ∷ []) rest c.push_reserved.new.self.items) here
+          (leaving_more b p c.loop-seated.of_queries c.loop-seated.of_replies c.args.ended.items c.loop-seated.yielded rest c.loop-seated.seated-iterator c.loop-seated.nodes.items v y is
+          c.gather.new.g c.gather-in-loop-seated.new.g c.push_reserved.new.self.items numbers
+          (ap (λ (z : Gathering). z.id) t.gather, ap (λ (z : Gathering). z.shape) t.gather) t.there t.others
+          (ap (λ (z : Gathering). z.id) u.gather, ap (λ (z : Gathering). z.shape) u.gather) u.there u.others c.push_reserved.ensures.items);
+      room = subst (λ n. length c.args.ended.items ≤ n) (sym c.push_reserved.ensures.capacity) c.loop-seated.invariant.room;
+    }

@@ -17,6 +17,7 @@
 #![tactic(auto)]
 
 mod alone;
+mod apart;
 mod at_port;
 mod child;
 mod closed_round;
@@ -25,7 +26,6 @@ mod drive;
 mod gate;
 mod job;
 mod keeper;
-mod one_by_one;
 mod ranks;
 mod running;
 mod seated;
@@ -37,11 +37,11 @@ mod together;
 mod turned;
 mod turning;
 
+pub use apart::{OneByOne, one_by_one};
 pub use at_port::await_turn;
 pub use closed_round::{ClosedRound, Rounds};
 pub use drive::{Finished, drive_serial};
 pub use gate::{Gate, OpenGate};
-pub use one_by_one::{OneByOne, one_by_one};
 pub use rank_node::{Node, Steps, Turn, Via};
 pub use seated::Seated;
 pub use threads::drive_threads;

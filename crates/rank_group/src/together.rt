@@ -5,10 +5,10 @@ ghost use Rattle.rank_group.specs.Runs.{AllRan};
 ghost use Rattle.rank_group.specs.Children.{first_of};
 
 use crate::alone::run_alone;
+use crate::apart::one_by_one;
 use crate::child::{Child, start};
 use crate::gate::Gate;
 use crate::keeper::run_kept;
-use crate::one_by_one::one_by_one;
 use crate::seated::Seated;
 use crate::shared::Shared;
 use crate::turned::Turned;

@@ -1,10 +1,10 @@
 -- The ranks of an exchange get their seats at two slot banks, and leave them.
-use Rattle.std.proofs.Common.{◌≡◌, ◌≢◌, ℕ, ◌+◌, ◌<◌, ◌≤◌, Bool, true, false, List, [], ◌∷◌, ◌++◌, length, length-append, map, get_or, slice_get, slice_set, Some, None, sym, ap, subst, ◌∙◌, arith, inl, inr}
+use Rattle.std.proofs.Common.{◌≡◌, ◌≢◌, ℕ, ◌+◌, ◌<◌, ◌≤◌, Bool, true, false, List, [], ◌∷◌, ◌++◌, length, length-append, map, get_or, slice_get, slice_set, Some, None, All, sym, ap, subst, ◌∙◌, arith, inl, inr}
 use Rattle.std.proofs.lemmas.Bool.{cases_lt}
 use Rattle.std.proofs.lemmas.List.{length-map, map-append, get_or-set_other}
 use Rattle.item_buffer.specs.Contents.{Contents}
 use Rattle.list_laws.specs.Lists.{EachAt}
-use Rattle.list_laws.proofs.Lists.{within, get_once, get_last, get_before, each_get, each_push}
+use Rattle.list_laws.proofs.Lists.{within, get_once, get_last, get_before, all_get, each_get, each_push}
 use Rattle.route_tensor.specs.Grid.{ranks}
 use Rattle.route_tensor.specs.Link.{links}
 use Rattle.port_bank.specs.Logs.{Logs}
@@ -158,6 +158,10 @@ module _ {S : Type 0} (b p : Bank) (gq gp : Gathering) (all taken rest now : Lis
   -- the next sits at its place
   pub next_numbers : EachAt (λ r (x : SeatedState S). (x.queries.rank ≡ r) × (x.replies.rank ≡ r)) all → (y.queries.rank ≡ length taken) × (y.replies.rank ≡ length taken)
   next_numbers numbers = each_get (λ r (x : SeatedState S). (x.queries.rank ≡ r) × (x.replies.rank ≡ r)) all (length taken) y numbers (next_is taken rest all now y s.left is)
+
+  -- and it is of these banks
+  pub next_banks : All (λ (x : SeatedState S). (bank_at x.queries ≡ b) × (bank_at x.replies ≡ p)) all → (bank_at y.queries ≡ b) × (bank_at y.replies ≡ p)
+  next_banks same = all_get (λ (x : SeatedState S). (bank_at x.queries ≡ b) × (bank_at x.replies ≡ p)) all (length taken) y same (next_is taken rest all now y s.left is)
 
   pub leaving_more : (gq' gp' : Gathering) (ns' : List (BiState S)) → (y.queries.rank ≡ length taken) × (y.replies.rank ≡ length taken)
       → (gq'.id ≡ gq.id) × (gq'.shape ≡ gq.shape) → get_or gq'.lists y.queries.rank None ≡ Some y.queries.lists → ((r : ℕ) → r ≢ y.queries.rank → get_or gq'.lists r None ≡ get_or gq.lists r None)

@@ -14,7 +14,7 @@ new-requires g c =
 pub loop-asker-init : goal.loop-asker-init
 loop-asker-init g c = record {
   making = subst (Making g.A.Asker.talk c.args.grid.now c.args.steady c.args.askers c.args.askers) (sym c.in_ok-all.ensures.items) (making_none g.A.Asker.talk c.args.grid.now c.args.steady c.args.askers);
-  room = c.in_ok-all.ensures.capacity;
+  room = subst (λ n. n ≤ vec_capacity c.in_ok-all.all) c.len.ensures c.in_ok-all.ensures.capacity;
 }
 
 pub push_reserved-requires : goal.push_reserved-requires

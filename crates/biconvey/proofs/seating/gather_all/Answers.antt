@@ -17,8 +17,8 @@ gather-requires g c =
     let same = next_banks c.args.queries.now c.args.replies.now c.loop-seated.of_queries c.loop-seated.of_replies c.args.ended.items c.loop-seated.invariant.taken rest c.loop-seated.seated-iterator c.loop-seated.nodes.items v y is c.requires.same in
     (lit< tt, (lit< tt, (lit< tt, (v.queries.bank, (ap (λ (b : Bank). b.id) same.0, ap (λ (b : Bank). b.shape) same.0)))))
 
-pub gather-in-loop-seated-requires : goal.gather-in-loop-seated-requires
-gather-in-loop-seated-requires g c =
+pub gather-requires-in-loop-seated : goal.gather-requires-in-loop-seated
+gather-requires-in-loop-seated g c =
     let i = c.seated.inside in
     let sp = c.into_seat-in-loop-seated.result in
     let y : SeatedState g.row.A.Denot = record { node = i.node; queries = i.queries.seat; replies = sp } in

@@ -1,4 +1,4 @@
-use Rattle.std.proofs.Common.{rules, length, vec_capacity, ◌≤◌, arith, ◌∙◌, sym, subst}
+use Rattle.std.proofs.Common.{rules, length, ◌≤◌, arith, ◌∙◌, sym, subst}
 use Rattle.route_tensor.specs.Grid.{ranks}
 use Rattle.list_laws.proofs.Lists.{within}
 use Rattle.rank_node.specs.Movers.{manner_of}

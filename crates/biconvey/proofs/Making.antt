@@ -66,7 +66,11 @@ module _ {S : Type 0} (T : Talk S) (dims : List ℕ) (steady : Bool) (starts res
 pub making_none : {S : Type 0} (T : Talk S) (dims : List ℕ) (steady : Bool) (starts : List S) → Making T dims steady starts starts []
 making_none T dims steady starts = record { left = refl; each = λ r n at. absurd (omega (arith, within [] r n at)) }
 
--- the askers of the ranks so far
-pub taken_more : {S : Type 0} (askers askers' : List S) (ns : List (BiState S)) (n : BiState S) (q : S) → askers ≡ askers_of ns → askers' ≡ askers ++ q ∷ [] → q ≡ n.asker → askers' ≡ askers_of (ns ++ n ∷ [])
-taken_more askers askers' ns n q is more same =
-    more ∙ (ap (λ x. askers ++ x ∷ []) same ∙ (ap (λ ps. ps ++ n.asker ∷ []) is ∙ sym (map-append (λ m. m.asker) ns (n ∷ []))))
+-- the askers so far, and those of the ranks that are left
+pub taken_more : {S : Type 0} (all now rest : List (BiState S)) (askers askers' : List S) (n : BiState S) (q : S) → askers ++ askers_of now ≡ askers_of all → now ≡ n ∷ rest → askers' ≡ askers ++ q ∷ [] → q ≡ n.asker
+    → askers' ++ askers_of rest ≡ askers_of all
+taken_more all now rest askers askers' n q left is more same =
+    ap (λ ps. ps ++ askers_of rest) more ∙ (shift askers (askers_of rest) q ∙ (ap (λ s. askers ++ s ∷ askers_of rest) same ∙ (ap (λ ns. askers ++ askers_of ns) (sym is) ∙ left)))
+
+pub taken_all : {S : Type 0} (all now : List (BiState S)) (askers : List S) → askers ++ askers_of now ≡ askers_of all → now ≡ [] → askers ≡ askers_of all
+taken_all all now askers left none = sym (append-nil askers) ∙ (ap (λ ns. askers ++ askers_of ns) (sym none) ∙ left)

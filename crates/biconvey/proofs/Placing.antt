@@ -1,10 +1,10 @@
 -- The ranks of an exchange get their seats at two slot banks, and leave them.
-use Rattle.std.proofs.Common.{◌≡◌, ◌≢◌, ℕ, ◌+◌, ◌<◌, ◌≤◌, Bool, true, false, List, [], ◌∷◌, ◌++◌, length, length-append, map, get_or, slice_get, slice_set, Some, None, sym, ap, subst, ◌∙◌, arith, inl, inr}
+use Rattle.std.proofs.Common.{◌≡◌, ◌≢◌, ℕ, ◌+◌, ◌<◌, ◌≤◌, Bool, true, false, List, [], ◌∷◌, ◌++◌, length, length-append, map, get_or, slice_get, slice_set, Some, None, All, sym, ap, subst, ◌∙◌, arith, inl, inr}
 use Rattle.std.proofs.lemmas.Bool.{cases_lt}
 use Rattle.std.proofs.lemmas.List.{length-map, map-append, get_or-set_other}
 use Rattle.item_buffer.specs.Contents.{Contents}
 use Rattle.list_laws.specs.Lists.{EachAt}
-use Rattle.list_laws.proofs.Lists.{within, get_once, get_last, get_before, each_get, each_push}
+use Rattle.list_laws.proofs.Lists.{within, get_once, get_last, get_before, all_get, each_get, each_push}
 use Rattle.route_tensor.specs.Grid.{ranks}
 use Rattle.route_tensor.specs.Link.{links}
 use Rattle.port_bank.specs.Logs.{Logs}
@@ -62,6 +62,10 @@ pub record Seating {S : Type 0} (T : Talk S) (cap : ℕ) (b p : Bank) (gq gp : G
 
 module _ {S : Type 0} (T : Talk S) (cap : ℕ) (b p : Bank) (same : p.shape ≡ b.shape) (gq gp : Gathering) (number : ℕ) (all taken rest now : List (BiState S)) (xs : List (SeatedState S)) (s : Seating T cap b p gq gp number all taken now xs) where
   -- one more gets its seats
+  -- there is room for one more
+  pub seat_left : (node : BiState S) → now ≡ node ∷ rest → (room : ℕ) → length all ≤ room → length xs < room
+  seat_left node is room below = omega (arith, below, ap length s.left, ap length is, length-append taken now, length-map xs (λ (y : SeatedState S). y.node), ap length s.nodes_are)
+
   module _ (gq' gp' : Gathering) (node : BiState S) (sq sp : Manning) (is : now ≡ node ∷ rest)
       (lists_q lists_p : _) (gave_q : gq' ≡ record gq { lists = lists_q; given = slice_set gq.given number true }) (gave_p : gp' ≡ record gp { lists = lists_p; given = slice_set gp.given number true })
       (noted_q ended_q noted_p ended_p : List ℕ)
@@ -147,9 +151,17 @@ pub record Leaving {S : Type 0} (b p : Bank) (gq gp : Gathering) (all taken rest
   pub nodes_are : ns ≡ map (λ y. y.node) taken
 
 module _ {S : Type 0} (b p : Bank) (gq gp : Gathering) (all taken rest now : List (SeatedState S)) (ns : List (BiState S)) (s : Leaving b p gq gp all taken now ns) (y : SeatedState S) (is : now ≡ y ∷ rest) where
+  -- there is room for one more
+  pub leave_left : (room : ℕ) → length all ≤ room → length ns < room
+  leave_left room below = omega (arith, below, ap length s.left, ap length is, length-append taken now, length-map taken (λ (x : SeatedState S). x.node), ap length s.nodes_are)
+
   -- the next sits at its place
   pub next_numbers : EachAt (λ r (x : SeatedState S). (x.queries.rank ≡ r) × (x.replies.rank ≡ r)) all → (y.queries.rank ≡ length taken) × (y.replies.rank ≡ length taken)
   next_numbers numbers = each_get (λ r (x : SeatedState S). (x.queries.rank ≡ r) × (x.replies.rank ≡ r)) all (length taken) y numbers (next_is taken rest all now y s.left is)
+
+  -- and it is of these banks
+  pub next_banks : All (λ (x : SeatedState S). (bank_at x.queries ≡ b) × (bank_at x.replies ≡ p)) all → (bank_at y.queries ≡ b) × (bank_at y.replies ≡ p)
+  next_banks same = all_get (λ (x : SeatedState S). (bank_at x.queries ≡ b) × (bank_at x.replies ≡ p)) all (length taken) y same (next_is taken rest all now y s.left is)
 
   pub leaving_more : (gq' gp' : Gathering) (ns' : List (BiState S)) → (y.queries.rank ≡ length taken) × (y.replies.rank ≡ length taken)
       → (gq'.id ≡ gq.id) × (gq'.shape ≡ gq.shape) → get_or gq'.lists y.queries.rank None ≡ Some y.queries.lists → ((r : ℕ) → r ≢ y.queries.rank → get_or gq'.lists r None ≡ get_or gq.lists r None)

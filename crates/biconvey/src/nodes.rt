@@ -6,6 +6,7 @@ ghost use Rattle.biconvey.specs.Drives.{AreAskers, AreFresh, askers_of};
 
 use crate::bi_node::BiNode;
 use bale_types::NoMemory;
+use rank_group::one_by_one;
 use round_program::{Asker, Progs};
 use route_tensor::Grid;
 use std::alloc::Global;
@@ -24,10 +25,10 @@ pub(crate) fn nodes_of<const CAP: usize, const HOPS: usize, A: Asker>(
     ensures { IfOk result (λ all. AreFresh A.talk grid.now steady askers all.items) }
 {
     let mut askers = askers;
-    let mut all = Vec::new(alloc);
+    let mut all = Vec::with_capacity(alloc, askers.len())?;
     while let Some(asker) = askers.take_first() {
         let node = BiNode::new(alloc, grid, asker, steady)?;
-        all.push(node)?;
+        all.push_reserved(node);
     }
     Ok(all)
 }
@@ -40,7 +41,7 @@ pub(crate) fn take_askers<const CAP: usize, const HOPS: usize, A: Asker>(
     ensures { IfOk result (λ askers. askers ≡ askers_of all.items) }
 {
     let mut askers = Progs::new(alloc);
-    for node in all {
+    for node in one_by_one(all) {
         askers.add(node.into_asker())?;
     }
     Ok(askers)

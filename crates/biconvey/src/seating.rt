@@ -11,6 +11,7 @@ use crate::at_ports::AtPorts;
 use crate::bi_node::BiNode;
 use bale_types::NoMemory;
 use link_slots::{GatherSeat, SlotBank};
+use rank_group::one_by_one;
 use round_program::Asker;
 use std::alloc::Global;
 
@@ -37,15 +38,15 @@ pub(crate) fn seat_all<'a, const CAP: usize, const HOPS: usize, A: Asker>(
 {
     let mut seated = Vec::with_capacity(alloc, all.len())?;
     let mut number = 0;
-    for node in all {
+    for node in one_by_one(all) {
         let asking = queries.seat(of_queries, number);
         let replying = replies.seat(of_replies, number);
-        seated.push(AtPorts {
+        seated.push_reserved(AtPorts {
             node,
             queries: queries.port(asking),
             replies: replies.port(replying),
             turns: 0,
-        })?;
+        });
         number += 1;
     }
     Ok(seated)
@@ -73,8 +74,8 @@ pub(crate) fn gather_all<'a, const CAP: usize, const HOPS: usize, A: Asker>(
     ensures queries_there { OnOk result (EachAt (λ r y. slice_index_or of_queries.new.lists r None ≡ Some y.queries.lists) ended.entry.items) }
     ensures replies_there { OnOk result (EachAt (λ r y. slice_index_or of_replies.new.lists r None ≡ Some y.replies.lists) ended.entry.items) }
 {
-    let mut nodes = Vec::new(alloc);
-    for seated in ended {
+    let mut nodes = Vec::with_capacity(alloc, ended.len())?;
+    for seated in one_by_one(ended) {
         let AtPorts {
             node,
             queries: asking,
@@ -83,7 +84,7 @@ pub(crate) fn gather_all<'a, const CAP: usize, const HOPS: usize, A: Asker>(
         } = seated;
         queries.gather(of_queries, asking.into_seat());
         replies.gather(of_replies, replying.into_seat());
-        nodes.push(node)?;
+        nodes.push_reserved(node);
     }
     Ok(nodes)
 }

@@ -5,14 +5,11 @@ use Rattle.list_laws.specs.Sums.{total}
 use Rattle.port_bank.specs.Logs.{Logs, lasts, starting_at, ending_at}
 use Rattle.port_bank.specs.Flow.{Begins}
 use Rattle.port_bank.proofs.Segments.{lasts_begins}
-use Rattle.convey.proofs.OneRank.{starting-own, ending-own}
 use Rattle.exstack.specs.declared.stage.Stage.{Stage}
 use Rattle.exstack.specs.declared.stage.Stage.TheVariants.{Start, Proceeding, Filling, Exchanging, Full, AllDone}
-use Rattle.exstack.specs.Links.{no_out, no_in}
 use Rattle.exstack.specs.State.{State, out_at, in_at, number, link_to, link_from, is_proceeding, is_exchanging}
 use Rattle.exstack.specs.Parts.{is_all_done}
-use Rattle.exstack.specs.Agreement.{LinkAgrees, rounds_in, lasts_in, cycle_after}
-use Rattle.exstack.specs.Standing.{IsOut, IsIn}
+use Rattle.exstack.specs.Agreement.{lasts_in, cycle_after}
 use Rattle.exstack.specs.Lockstep.{finished_in, HasFinished, HasPosted, InStep, RoomLaw, ArrivalLaw}
 use Rattle.exstack.proofs.Lockstep.{begins, sent_own, got_own, out_end, out_is, in_end, in_is}
 use Rattle.rank_node.specs.Cycles.{IsOnward, Awaits}

@@ -74,7 +74,11 @@ module _ {S : Type 0} (R : Rules S) (dims : List ℕ) (cap : ℕ) (manner : Mann
   pub making_all : slice_get rest 0 ≡ None → AreFresh R dims cap manner starts rs
   making_all none = record { programs = sym (f.left ∙ (ap (λ ys. progs_of rs ++ ys) (none_of rest none) ∙ append-nil (progs_of rs))); each = f.each }
 
--- the programs of the ranks so far
-pub taken_more : {S : Type 0} (progs progs' : List S) (rs : List (RankState S)) (n : RankState S) (q : S) → progs ≡ progs_of rs → progs' ≡ progs ++ q ∷ [] → q ≡ n.node.run.prog → progs' ≡ progs_of (rs ++ n ∷ [])
-taken_more progs progs' rs n q is more same =
-    more ∙ (ap (λ x. progs ++ x ∷ []) same ∙ (ap (λ ps. ps ++ n.node.run.prog ∷ []) is ∙ sym (map-append (λ m. m.node.run.prog) rs (n ∷ []))))
+-- the programs so far, and those of the ranks that are left
+pub taken_more : {S : Type 0} (all now rest : List (RankState S)) (progs progs' : List S) (n : RankState S) (q : S) → progs ++ progs_of now ≡ progs_of all → now ≡ n ∷ rest → progs' ≡ progs ++ q ∷ [] → q ≡ n.node.run.prog
+    → progs' ++ progs_of rest ≡ progs_of all
+taken_more all now rest progs progs' n q left is more same =
+    ap (λ ps. ps ++ progs_of rest) more ∙ (shift progs (progs_of rest) q ∙ (ap (λ s. progs ++ s ∷ progs_of rest) same ∙ (ap (λ ns. progs ++ progs_of ns) (sym is) ∙ left)))
+
+pub taken_all : {S : Type 0} (all now : List (RankState S)) (progs : List S) → progs ++ progs_of now ≡ progs_of all → now ≡ [] → progs ≡ progs_of all
+taken_all all now progs left none = sym (append-nil progs) ∙ (ap (λ ns. progs ++ progs_of ns) (sym none) ∙ left)

@@ -1,13 +1,10 @@
 -- A rank that has a parcel to post to itself has collected nothing from itself by its turn, unless it finished a round.
-use Rattle.std.proofs.Common.{◌≡◌, ℕ, zero, suc, ◌+◌, ◌<◌, ◌≤◌, ◌||◌, Bool, true, false, cond, List, [], ◌∷◌, ◌++◌, length, length-append, refl, sym, ap, subst, ◌∙◌, arith, inl, inr}
-use Rattle.std.proofs.lemmas.Bool.{cases_Bool, false≢true}
+use Rattle.std.proofs.Common.{◌≡◌, ℕ, ◌+◌, ◌<◌, ◌≤◌, Bool, true, false, cond, List, length, length-append, refl, sym, ap, subst, ◌∙◌, arith}
 use Rattle.item_buffer.specs.Contents.{Shipped}
 use Rattle.port_bank.specs.Logs.{Logs, lasts, segment}
 use Rattle.port_bank.specs.Flow.{Begins}
-use Rattle.port_bank.proofs.Segments.{lasts-append, lasts_first, lasts_begins, segment_begins}
-use Rattle.exstack.specs.declared.stage.Stage.{Stage}
-use Rattle.exstack.specs.declared.stage.Stage.TheVariants.{Start, Proceeding, Filling, Exchanging, Full, AllDone}
-use Rattle.exstack.specs.State.{State, out_at, in_at, number, is_proceeding, is_exchanging}
+use Rattle.port_bank.proofs.Segments.{lasts-append, lasts_begins, segment_begins}
+use Rattle.exstack.specs.State.{State, out_at, in_at, number}
 use Rattle.exstack.specs.Agreement.{rounds_in, lasts_in}
 use Rattle.exstack.specs.Lockstep.{finished_in, InStep}
 use Rattle.exstack.proofs.Lockstep.{more_open, begun_more, finished_low, begins, out_end, out_is, in_end, in_is}

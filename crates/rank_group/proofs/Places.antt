@@ -5,7 +5,7 @@ use Rattle.std.proofs.lemmas.List.{length-map, map-append, get_or-set_other}
 use Rattle.std.proofs.lemmas.List.Elements.{All-push}
 use Rattle.item_buffer.specs.Contents.{Contents}
 use Rattle.list_laws.specs.Lists.{EachAt}
-use Rattle.list_laws.proofs.Lists.{within, get_once, get_last, get_before, each_get, each_push}
+use Rattle.list_laws.proofs.Lists.{within, get_once, get_last, get_before, all_get, each_get, each_push}
 use Rattle.route_tensor.specs.Grid.{ranks}
 use Rattle.route_tensor.specs.Link.{links}
 use Rattle.port_bank.specs.Logs.{Logs}
@@ -19,7 +19,7 @@ use Rattle.rank_group.specs.Ranks.{RankState, IsRank}
 use Rattle.rank_node.specs.Movers.{Manner}
 use Rattle.rank_group.proofs.Movers.{shape_none}
 use Rattle.rank_group.specs.Drives.{IsFresh, AreFresh}
-use Rattle.rank_group.specs.Seats.{SeatedState, IsSeated}
+use Rattle.rank_group.specs.Seats.{SeatedState, IsSeated, bank_of}
 use Rattle.rank_group.proofs.Joining.{one_less, next_is}
 
 -- some ranks have their seats
@@ -32,6 +32,10 @@ pub record Seating {S : Type 0} (R : Rules S) (cap : ℕ) (b : Bank) (gather : G
   pub each : (manner : Manner) (starts : List S) → AreFresh R b.shape.dims cap manner starts all → (r : ℕ) (x : SeatedState S) → slice_get xs r ≡ Some x → IsSeated R cap manner b r x
 
 module _ {S : Type 0} (R : Rules S) (cap : ℕ) (b : Bank) (gather : Gathering) (number : ℕ) (all taken rest now : List (RankState S)) (xs : List (SeatedState S)) (s : Seating R cap b gather number all taken now xs) where
+  -- there is room for one more
+  pub seat_left : (rank : RankState S) → now ≡ rank ∷ rest → (room : ℕ) → length all ≤ room → length xs < room
+  seat_left rank is room below = omega (arith, below, ap length s.left, ap length is, length-append taken now, length-map xs (λ (y : SeatedState S). y.rank), ap length s.ranks_are)
+
   -- one more gets its seat
   module _ (gather' : Gathering) (rank : RankState S) (seat : Manning) (is : now ≡ rank ∷ rest) (lists : _) (gave : gather' ≡ record gather { lists = lists; given = slice_set gather.given number true })
       (noted ended : List ℕ) (seat_is : seat ≡ record { id = b.id; shape = b.shape; rank = number; lists = no_logs (links b.shape.dims); noted = noted; ended = ended }) where
@@ -101,9 +105,17 @@ pub record Leaving {S : Type 0} (b : Bank) (gather : Gathering) (all taken rest 
   pub there : EachAt (λ r y. get_or gather.lists r None ≡ Some y.seat.lists) taken
 
 module _ {S : Type 0} (b : Bank) (gather : Gathering) (all taken rest now : List (SeatedState S)) (rs : List (RankState S)) (s : Leaving b gather all taken now rs) (y : SeatedState S) (is : now ≡ y ∷ rest) where
+  -- there is room for one more
+  pub leave_left : (room : ℕ) → length all ≤ room → length rs < room
+  leave_left room below = omega (arith, below, ap length s.left, ap length is, length-append taken now, length-map taken (λ (x : SeatedState S). x.rank), ap length s.ranks_are)
+
   -- the next sits at its place
   pub next_number : EachAt (λ r (x : SeatedState S). x.seat.rank ≡ r) all → y.seat.rank ≡ length taken
   next_number number = each_get (λ r (x : SeatedState S). x.seat.rank ≡ r) all (length taken) y number (next_is taken rest all now y s.left is)
+
+  -- and it is of this bank
+  pub next_bank : All (λ (x : SeatedState S). bank_of x ≡ b) all → bank_of y ≡ b
+  next_bank same = all_get (λ (x : SeatedState S). bank_of x ≡ b) all (length taken) y same (next_is taken rest all now y s.left is)
 
   pub leaving_more : (gather' : Gathering) (rs' : List (RankState S)) → y.seat.rank ≡ length taken → y.lost ≡ false → (gather'.id ≡ gather.id) × (gather'.shape ≡ gather.shape)
       → get_or gather'.lists y.seat.rank None ≡ Some y.seat.lists → ((r : ℕ) → r ≢ y.seat.rank → get_or gather'.lists r None ≡ get_or gather.lists r None) → rs' ≡ rs ++ y.rank ∷ []

@@ -10,12 +10,14 @@
 //! | `Gate::turn` | is called before each turn of a rank on a thread; an `OpenGate` holds nobody |
 //! | `Rounds::get`, `ClosedRound::epochs` | what a run leaves of its bank |
 //! | `Seated`, `run_together` | a rank at its ports, whatever it is, and the threads that turn all ranks: what `drive_threads` stands on, and further drives |
+//! | `one_by_one` | takes a list of ranks apart |
 //!
 //! `specs/Told` says what the closed round of a run tells, and how many turns a run takes at most. `specs/Rounds` says what
 //! contracts see of a closed round, and `specs/Ranks` begins with what an order of the ranks is. The others are the code's own.
 #![tactic(auto)]
 
 mod alone;
+mod apart;
 mod at_port;
 mod child;
 mod closed_round;
@@ -35,6 +37,7 @@ mod together;
 mod turned;
 mod turning;
 
+pub use apart::{OneByOne, one_by_one};
 pub use at_port::await_turn;
 pub use closed_round::{ClosedRound, Rounds};
 pub use drive::{Finished, drive_serial};

@@ -5,6 +5,7 @@ ghost use Rattle.round_program.specs.Canonical.{InRound};
 ghost use Rattle.rank_node.specs.Movers.{manner_of};
 ghost use Rattle.rank_group.specs.Drives.{progs_of, AreFresh};
 
+use crate::apart::one_by_one;
 use crate::sweeping::Rank;
 use bale_types::NoMemory;
 use rank_node::{Node, Via};
@@ -28,10 +29,10 @@ pub(crate) fn ranks_of<const CAP: usize, const HOPS: usize, Q: Program>(
     ensures fresh { IfOk result (λ all. AreFresh Q.rules grid.now CAP (manner_of via steady) progs all.items) }
 {
     let mut progs = progs;
-    let mut all = Vec::new(alloc);
+    let mut all = Vec::with_capacity(alloc, progs.len())?;
     while let Some(prog) = progs.take_first() {
         let node = Node::new(alloc, grid, via, prog, steady)?;
-        all.push(Rank { node, over: false })?;
+        all.push_reserved(Rank { node, over: false });
     }
     Ok(all)
 }
@@ -44,7 +45,7 @@ pub(crate) fn take_progs<const CAP: usize, const HOPS: usize, Q: Program>(
     ensures progs { IfOk result (λ ps. ps ≡ progs_of all.items) }
 {
     let mut progs = Progs::new(alloc);
-    for rank in all {
+    for rank in one_by_one(all) {
         let Rank { node, over: _ } = rank;
         progs.add(node.into_prog())?;
     }

@@ -7,6 +7,7 @@ ghost use Rattle.rank_node.specs.Movers.{Manner};
 ghost use Rattle.rank_group.specs.Drives.{AreFresh};
 ghost use Rattle.rank_group.specs.Seats.{bank_of, AreSeated};
 
+use crate::apart::one_by_one;
 use crate::at_port::AtPort;
 use crate::sweeping::Rank;
 use bale_types::NoMemory;
@@ -32,15 +33,15 @@ pub(crate) fn seat_all<'a, const CAP: usize, const HOPS: usize, Q: Program>(
 {
     let mut seated = Vec::with_capacity(alloc, all.len())?;
     let mut number = 0;
-    for rank in all {
+    for rank in one_by_one(all) {
         let seat = bank.seat(gather, number);
         let port = bank.port(seat);
-        seated.push(AtPort {
+        seated.push_reserved(AtPort {
             rank,
             port,
             turns: 0,
             lost: false,
-        })?;
+        });
         number += 1;
     }
     Ok(seated)
@@ -64,8 +65,8 @@ pub(crate) fn gather_all<'a, const CAP: usize, const HOPS: usize, Q: Program>(
     ensures none_lost { OnOk result (All (λ y. y.lost ≡ false) ended.entry.items) }
     ensures there { OnOk result (EachAt (λ r y. slice_index_or gather.new.lists r None ≡ Some y.seat.lists) ended.entry.items) }
 {
-    let mut ranks = Vec::new(alloc);
-    for seated in ended {
+    let mut ranks = Vec::with_capacity(alloc, ended.len())?;
+    for seated in one_by_one(ended) {
         let AtPort {
             rank,
             port,
@@ -76,7 +77,7 @@ pub(crate) fn gather_all<'a, const CAP: usize, const HOPS: usize, Q: Program>(
             return Err(NoMemory);
         }
         bank.gather(gather, port.into_seat());
-        ranks.push(rank)?;
+        ranks.push_reserved(rank);
     }
     Ok(ranks)
 }

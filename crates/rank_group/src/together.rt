@@ -5,6 +5,7 @@ ghost use Rattle.rank_group.specs.Runs.{AllRan};
 ghost use Rattle.rank_group.specs.Children.{first_of};
 
 use crate::alone::run_alone;
+use crate::apart::one_by_one;
 use crate::child::{Child, start};
 use crate::gate::Gate;
 use crate::keeper::run_kept;
@@ -97,15 +98,13 @@ fn start_all<'s, E, R: Wait + Sync + 's, A: Seated + Send + 's, G: Gate + Sync +
 {
     let mut children = children;
     let mut number = 0;
-    for at in all {
+    for at in one_by_one(all) {
         let child = if number < threads {
             start(scope, shared, &kept[number], at)
         } else {
             keep(at)
         };
-        let Ok(()) = children.push(child) else {
-            unreachable!()
-        };
+        children.push_reserved(child);
         number += 1;
     }
     children
@@ -131,7 +130,7 @@ fn join_all<'s, R: Threads + Wait, A: Seated, G: Gate>(
     ensures over { All (λ y. A.over y ≡ true) result.items }
 {
     let mut ended = ended;
-    for child in children {
+    for child in one_by_one(children) {
         match child {
             Child::There(handle) => come_back(shared, &mut ended, handle.join(shared.rt)),
             Child::Here(kept) => come_back(shared, &mut ended, kept.into_rank()),
@@ -151,8 +150,5 @@ fn come_back<'s, R: Wait, A: Seated, G: Gate>(
     ensures over { All (λ y. A.over y ≡ true) ended.old.items → All (λ y. A.over y ≡ true) ended.new.items }
     ensures capacity { vec_capacity ended.old ≤ vec_capacity ended.new }
 {
-    let over = run_alone(shared, at);
-    let Ok(()) = ended.push(over) else {
-        unreachable!()
-    };
+    ended.push_reserved(run_alone(shared, at));
 }

@@ -7,10 +7,10 @@ use Rattle.rank_group.proofs.together.come_back.Goals as goal
 
 pub returns-clause-ran : goal.returns-clause-ran
 returns-clause-ran g c = λ xs x all one.
-    subst (λ ys. AllRan g.A.Seated.ran (xs ++ x ∷ []) ys) (sym c.in-Ok.ensures.items)
-    (ran_more g.A.Seated.ran xs c.args.ended.now.items x c.run_alone-over.result all (g.met.A.Seated.laws.on x c.args.at c.run_alone-over.result one c.run_alone-over.ensures.ran))
+    subst (λ ys. AllRan g.A.Seated.ran (xs ++ x ∷ []) ys) (sym c.push_reserved.ensures.items)
+    (ran_more g.A.Seated.ran xs c.args.ended.now.items x c.run_alone.result all (g.met.A.Seated.laws.on x c.args.at c.run_alone.result one c.run_alone.ensures.ran))
 
 pub returns-clause-over : goal.returns-clause-over
 returns-clause-over g c = λ over.
-    subst (λ ys. All (λ y. g.A.Seated.over y ≡ true) ys) (sym c.in-Ok.ensures.items)
-    (All-push (λ y. g.A.Seated.over y ≡ true) c.args.ended.now.items c.run_alone-over.result over c.run_alone-over.ensures.over)
+    subst (λ ys. All (λ y. g.A.Seated.over y ≡ true) ys) (sym c.push_reserved.ensures.items)
+    (All-push (λ y. g.A.Seated.over y ≡ true) c.args.ended.now.items c.run_alone.result over c.run_alone.ensures.over)

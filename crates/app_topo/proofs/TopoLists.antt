@@ -10,7 +10,7 @@ use Rattle.bale_types.specs.declared.Item.{Item}
 use Rattle.bale_types.specs.declared.triple.Triple.{Triple}
 use Rattle.mtx_text.specs.Cells.{InOrder}
 use Rattle.mtx_text.proofs.PlaceOrder.{before_parts}
-use Rattle.app_topo.specs.Topos.{claims_of, claims_now, to_claim, to_fall, number_at}
+use Rattle.app_topo.specs.Topos.{claims_of, claims_now, to_claim, number_at}
 
 pub claims_more : (ranks size : ℕ) (numbers sums rows : List ℕ) (i : ℕ) → claims_of ranks size numbers sums (rows ++ i ∷ []) ≡ claims_of ranks size numbers sums rows ++ claims_of ranks size numbers sums (i ∷ [])
 claims_more ranks size numbers sums rows i =
@@ -86,13 +86,12 @@ none_later columns c n d ordered low from other = none_behind columns c n (omega
     omega (arith, other))
 
 -- one entry more
-pub falls_more : (ranks c at : ℕ) (columns : List Triple) (u : Triple) (old mid new : List (ℕ × Item)) → at < length columns → u ≡ get_or columns at u → u.i ≡ c
-    → mid ≡ old ++ map (to_fall ranks) (in_column c (take at columns)) → new ≡ mid ++ to_fall ranks u ∷ [] → new ≡ old ++ map (to_fall ranks) (in_column c (take (at + 1) columns))
-falls_more ranks c at columns u old mid new low is own so_far one =
+pub falls_more : (c at : ℕ) (columns : List Triple) (u : Triple) (old mid new : List Triple) → at < length columns → u ≡ get_or columns at u → u.i ≡ c
+    → mid ≡ old ++ in_column c (take at columns) → new ≡ mid ++ u ∷ [] → new ≡ old ++ in_column c (take (at + 1) columns)
+falls_more c at columns u old mid new low is own so_far one =
     let last : take (at + 1) columns ≡ take at columns ++ u ∷ [] = take_more columns at u low ∙ ap (λ w. take at columns ++ w ∷ []) (sym is) in
     let kept : in_column c (u ∷ []) ≡ u ∷ [] = ap (λ b. cond b (u ∷ []) []) (eq-eqb u.i c own) in
     let grown : in_column c (take (at + 1) columns) ≡ in_column c (take at columns) ++ u ∷ [] = ap (in_column c) last ∙ filter-append (λ u. eqb u.i c) (take at columns) (u ∷ []) ∙ ap (λ w. in_column c (take at columns) ++ w) kept in
-    one ∙ ap (λ w. w ++ to_fall ranks u ∷ []) so_far
-    ∙ append_assoc old (map (to_fall ranks) (in_column c (take at columns))) (to_fall ranks u ∷ [])
-    ∙ ap (λ w. old ++ w) (sym (map-append (to_fall ranks) (in_column c (take at columns)) (u ∷ [])))
-    ∙ ap (λ w. old ++ map (to_fall ranks) w) (sym grown)
+    one ∙ ap (λ w. w ++ u ∷ []) so_far
+    ∙ append_assoc old (in_column c (take at columns)) (u ∷ [])
+    ∙ ap (λ w. old ++ w) (sym grown)

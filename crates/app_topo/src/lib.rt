@@ -20,6 +20,7 @@ mod marks;
 mod order;
 mod placed;
 mod seat;
+mod sent;
 #[cfg(test)]
 mod tests;
 mod topo;

@@ -4,12 +4,14 @@ ghost use Rattle.std.specs.Prelude.{◌≡◌, ◌<◌, [], OnOk, OnErr};
 ghost use Rattle.round_program.specs.Batches.{taken_in};
 ghost use Rattle.app_topo.specs.Topos.{IsTopo, topo_rules, entered, claimed_by, fallen};
 ghost use Rattle.app_topo.specs.TopoSeats.{IsSeat};
+ghost use Rattle.app_topo.specs.TopoSent.{sent_of};
 ghost use Rattle.app_topo.specs.TopoLaws.{IsOwn};
 
 use crate::lists::{keep_claims, put_columns, put_next};
 use crate::marks::{add, fresh_after, lessen, mark, mark_if, number_at};
 use crate::placed::Placed;
 use crate::seat::Seat;
+use crate::sent::{count_of, emission_of};
 use bale_types::{Item, NoMemory, Triple};
 use mtx_text::Cells;
 use round_program::{Arrivals, Program};
@@ -44,10 +46,11 @@ pub struct Topo {
     fresh: u32,
     /// what came in this round: entries of own columns, own columns claimed, or own rows whose number fell to 1
     came: Cells,
-    /// what is sent in this round
-    outgoing: Vec<(u32, Item)>,
-    /// memory for what is sent in the next round
-    next: Vec<(u32, Item)>,
+    /// of what is sent in this round: in round 0 the rank's entries, then rows and the columns that they claim, or columns and
+    /// the rows that have an entry less
+    outgoing: Vec<Triple>,
+    /// memory for the same of the next round
+    next: Vec<Triple>,
     /// memory for what came, in order
     spots: Vec<Triple>,
 }
@@ -70,7 +73,7 @@ pub(crate) struct Begins {
     pub(crate) numbers: Vec<u64>,
     pub(crate) sums: Vec<u64>,
     pub(crate) counts: Vec<u64>,
-    pub(crate) outgoing: Vec<(u32, Item)>,
+    pub(crate) outgoing: Vec<Triple>,
 }
 
 impl Topo {
@@ -88,7 +91,7 @@ impl Topo {
           claimed = [];
           fresh = 0;
           came = [];
-          outgoing = begins.outgoing.items;
+          outgoing = sent_of 0 ranks begins.outgoing.items;
         }) }
         ensures { result ≡ record {
           rank = rank;
@@ -102,7 +105,7 @@ impl Topo {
           claimed = [];
           fresh = 0;
           came = [];
-          outgoing = begins.outgoing.items;
+          outgoing = sent_of 0 ranks begins.outgoing.items;
         } }
     {
         Topo {
@@ -247,11 +250,11 @@ impl Program for Topo {
     }
 
     fn count(&self) -> u64 {
-        self.outgoing.len() as u64
+        count_of(&self.outgoing, self.round)
     }
 
     fn emission(&self, i: u64) -> (u32, Item) {
-        self.outgoing[i as usize]
+        emission_of(&self.outgoing, self.round, self.ranks, i)
     }
 
     fn fits(&self, from: u32, item: Item) -> bool {

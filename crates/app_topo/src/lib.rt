@@ -21,6 +21,7 @@ mod order;
 mod placed;
 mod seat;
 mod sent;
+mod spans;
 #[cfg(test)]
 mod tests;
 mod topo;

@@ -10,6 +10,7 @@ ghost use Rattle.app_topo.specs.TopoSent.{sent_of, to_other};
 
 use crate::marks::number_at;
 use crate::placed::Placed;
+use crate::spans::{Span, entries_of_column, note_spans};
 use bale_types::{NoMemory, Triple};
 use std::mem;
 
@@ -105,53 +106,21 @@ fn push_later_claims(
     Ok(())
 }
 
-/// The place of the first entry of column `c` or a later one, by halving.
-fn first_of(columns: &[Triple], c: u32) -> usize
-    requires { InOrder columns.now }
-    ensures within { result ≤ length columns.now }
-    ensures before { (k : ℕ) (d : Triple) → k < result → (slice_index_or columns.now k d).i < c }
-    ensures from { (k : ℕ) (d : Triple) → result ≤ k → k < length columns.now → c ≤ (slice_index_or columns.now k d).i }
-{
-    let mut low = 0;
-    let mut high = columns.len();
-    while low < high {
-        let middle = low + (high - low) / 2;
-        if columns[middle].i < c {
-            low = middle + 1;
-        } else {
-            high = middle;
-        }
-    }
-    low
-}
-
-/// Appends the falls of the rows of column `c`.
-fn push_falls(outgoing: &mut Vec<Triple>, columns: &[Triple], c: u32) -> Result<(), NoMemory>
-    requires { InOrder columns.now }
-    ensures { OnOk result (outgoing.new.items ≡ outgoing.old.items ++ filter (λ u. u.i == c) columns.now) }
-{
-    for at in first_of(columns, c)..columns.len() {
-        let entry = columns[at];
-        if entry.i != c {
-            return Ok(());
-        }
-        outgoing.push(entry)?;
-    }
-    Ok(())
-}
-
 /// Appends the falls of the rows of the columns that were claimed.
 fn push_all_falls(
     outgoing: &mut Vec<Triple>,
+    ranks: u32,
     columns: &[Triple],
+    spans: &[Span],
     came: &[Triple],
 ) -> Result<(), NoMemory>
     requires none { outgoing.old.items ≡ [] }
+    requires some { 0 < ranks }
     requires ordered { InOrder columns.now }
     ensures { OnOk result (outgoing.new.items ≡ flat_map (λ c. filter (λ u. u.i == c.i) columns.now) came.now) }
 {
     for claimed in came {
-        push_falls(outgoing, columns, claimed.i)?;
+        outgoing.extend_from_slice(entries_of_column(columns, spans, ranks, claimed.i))?;
     }
     Ok(())
 }
@@ -166,6 +135,7 @@ pub(crate) fn put_next(
     numbers: &[u64],
     sums: &[u64],
     columns: &[Triple],
+    spans: &[Span],
     came: &[Triple],
 ) -> Result<(), NoMemory>
     requires none { outgoing.old.items ≡ [] }
@@ -183,7 +153,7 @@ pub(crate) fn put_next(
     }
     if round % 2 == 1 {
         if round < u64::MAX {
-            push_all_falls(outgoing, columns, came)?;
+            push_all_falls(outgoing, ranks, columns, spans, came)?;
         }
         return Ok(());
     }
@@ -224,10 +194,18 @@ fn place_all(claimed: &mut Vec<Placed>, level: u64, outgoing: &[Triple]) -> Resu
 }
 
 /// Keeps what came in round 0 as the entries of own columns.
-pub(crate) fn put_columns(columns: &mut Vec<Triple>, round: u64, came: &mut Vec<Triple>)
+pub(crate) fn put_columns(
+    columns: &mut Vec<Triple>,
+    spans: &mut Vec<Span>,
+    ranks: u32,
+    round: u64,
+    came: &mut Vec<Triple>,
+)
+    requires { 0 < ranks }
     ensures { columns.new.items ≡ (if round == 0 then came.old.items else columns.old.items) }
 {
     if round == 0 {
         mem::swap(columns, came);
+        note_spans(spans, ranks, columns);
     }
 }

@@ -1,10 +1,12 @@
 //! What a rank of topo sends, put together from the pairs of numbers that it keeps: so a list of items isn't made.
 
-ghost use Rattle.std.specs.Prelude.{◌≡◌, ◌<◌, ◌%◌, ℕ, Some, length, map, slice_get, slice_index_or};
-ghost use Rattle.std.specs.List.{flat_map};
+ghost use Rattle.std.specs.Prelude.{◌≡◌, ◌<◌, ◌≤◌, ◌-◌, ◌%◌, ℕ, drop, Some, length, map, slice_get, slice_index_or};
+ghost use Rattle.std.specs.List.{All, flat_map};
+ghost use Rattle.round_program.specs.Emissions.{HandsOver};
 ghost use Rattle.app_topo.specs.TopoSent.{for_both, sent_of, to_other};
 
 use bale_types::{Item, Triple};
+use round_program::Departures;
 
 /// How many items are sent in a round.
 #[inline(always)]
@@ -15,6 +17,35 @@ pub(crate) fn count_of(kept: &Vec<Triple>, round: u64) -> u64
         return 2 * kept.len() as u64;
     }
     kept.len() as u64
+}
+
+/// Hands on what is sent, from number `from` on, until one is refused or all are handed over, and says how many are by then. What a
+/// rank keeps is looked up once for them all.
+#[inline(always)]
+pub(crate) fn emit_kept<D: Departures>(
+    kept: &Vec<Triple>,
+    round: u64,
+    ranks: u32,
+    from: u64,
+    out: &mut D,
+) -> u64
+    requires some { 0 < ranks }
+    requires from { from ≤ length (sent_of round ranks kept.now.items) }
+    requires may { All (λ e. D.may out.old e.0) (drop from (sent_of round ranks kept.now.items)) }
+    ensures forward { from ≤ result }
+    ensures low { result ≤ length (sent_of round ranks kept.now.items) }
+    ensures hands { HandsOver D.hands (drop from (sent_of round ranks kept.now.items)) (result - from) out.old out.new }
+{
+    let count = count_of(kept, round);
+    let mut next = from;
+    while next < count {
+        let (to, item) = emission_of(kept, round, ranks, next);
+        if !out.push(to, item) {
+            return next;
+        }
+        next += 1;
+    }
+    next
 }
 
 /// Number `i` of them, with the rank that it goes to.

@@ -11,10 +11,11 @@ use crate::lists::{keep_claims, put_columns, put_next};
 use crate::marks::{add, fresh_after, lessen, mark, mark_if, number_at};
 use crate::placed::Placed;
 use crate::seat::Seat;
-use crate::sent::{count_of, emission_of};
+use crate::sent::{count_of, emission_of, emit_kept};
+use crate::spans::Span;
 use bale_types::{Item, NoMemory, Triple};
 use mtx_text::Cells;
-use round_program::{Arrivals, Program};
+use round_program::{Arrivals, Departures, Program};
 use std::alloc::Global;
 use std::marker::Model;
 use std::mem;
@@ -38,6 +39,8 @@ pub struct Topo {
     sums: Vec<u64>,
     /// the entries of own columns as column and row, in order
     columns: Vec<Triple>,
+    /// where the entries of each own column stand there
+    spans: Vec<Span>,
     /// how many rows claimed each own column
     counts: Vec<u64>,
     /// the own rows that have claimed
@@ -73,6 +76,7 @@ pub(crate) struct Begins {
     pub(crate) numbers: Vec<u64>,
     pub(crate) sums: Vec<u64>,
     pub(crate) counts: Vec<u64>,
+    pub(crate) spans: Vec<Span>,
     pub(crate) outgoing: Vec<Triple>,
 }
 
@@ -116,6 +120,7 @@ impl Topo {
             numbers: begins.numbers,
             sums: begins.sums,
             columns: Vec::new(alloc),
+            spans: begins.spans,
             counts: begins.counts,
             claimed: Vec::new(alloc),
             fresh: 0,
@@ -257,6 +262,10 @@ impl Program for Topo {
         emission_of(&self.outgoing, self.round, self.ranks, i)
     }
 
+    fn emit_each<D: Departures>(&self, from: u64, out: &mut D) -> u64 {
+        emit_kept(&self.outgoing, self.round, self.ranks, from, out)
+    }
+
     fn fits(&self, from: u32, item: Item) -> bool {
         self.seat().fits(from, item)
     }
@@ -304,10 +313,17 @@ impl Program for Topo {
             &self.numbers,
             &self.sums,
             &self.columns,
+            &self.spans,
             &self.spots,
         )?;
         keep_claims(&mut self.claimed, self.round, &self.outgoing)?;
-        put_columns(&mut self.columns, self.round, &mut self.spots);
+        put_columns(
+            &mut self.columns,
+            &mut self.spans,
+            self.ranks,
+            self.round,
+            &mut self.spots,
+        );
         mem::swap(&mut self.outgoing, &mut self.next);
         self.fresh = 0;
         self.round = self.round.saturating_add(1);

@@ -6,6 +6,7 @@ ghost use Rattle.round_program.specs.Canonical.{InRound, EndsWithin};
 ghost use Rattle.app_topo.specs.Topos.{topo_rules};
 ghost use Rattle.app_topo.specs.TopoRuns.{topo_begins, topo_starts};
 
+use crate::spans::Span;
 use crate::topo::{Begins, Topo};
 use bale_types::{NoMemory, Triple};
 use mtx_text::Matrix;
@@ -55,6 +56,7 @@ fn part_of(
         numbers: zeros(alloc, places)?,
         sums: zeros(alloc, places)?,
         counts: zeros(alloc, places)?,
+        spans: vec![in alloc; Span { from: 0, to: 0 }; places]?,
         outgoing: entries_of(alloc, parts, rank)?,
     };
     Ok(Topo::new(alloc, rank, ranks, m.rows(), begins))

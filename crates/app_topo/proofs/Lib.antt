@@ -8,6 +8,7 @@ pub mod TopoEnding
 pub mod TopoFallRound
 pub mod TopoFalls
 pub mod TopoFirstRound
+pub mod TopoKept
 pub mod TopoLists
 pub mod TopoReady
 pub mod TopoRun

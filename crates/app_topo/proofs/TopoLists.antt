@@ -1,16 +1,17 @@
 -- The lists that a rank of topo sends, one row or column further.
-use Rattle.std.proofs.Common.{ℕ, zero, suc, ◌+◌, ◌*◌, ◌/◌, ◌<◌, ◌≤◌, ◌≡◌, ◌==◌, cond, eqb, List, [], ◌∷◌, ◌++◌, map, length, get_or, take, arith, inl, inr, refl, sym, ap, ◌∙◌, subst, append_assoc}
-use Rattle.std.specs.List.{filter, range_with_len}
+use Rattle.std.proofs.Common.{ℕ, zero, suc, ◌+◌, ◌-◌, ◌*◌, drop, pos, ◌/◌, ◌<◌, ◌≤◌, ◌≡◌, ◌==◌, cond, eqb, List, [], ◌∷◌, ◌++◌, map, length, get_or, take, arith, inl, inr, refl, sym, ap, ◌∙◌, subst}
+use Rattle.std.specs.List.{filter, range_with_len, slice_range}
 use Rattle.std.proofs.lemmas.Bool.{cases_lt, eq-eqb, ne_eqb}
 use Rattle.std.proofs.lemmas.Nat.{div-mul-add}
-use Rattle.std.proofs.lemmas.List.{map-append, take_more}
+use Rattle.std.proofs.Math.Seq.{take-add}
+use Rattle.std.proofs.lemmas.List.{map-append, get_or-take, get_or-drop, length-take}
 use Rattle.std.proofs.lemmas.List.Elements.{filter-append}
 use Rattle.std.proofs.lemmas.List.FromFn.{map-range_with_len_more}
 use Rattle.bale_types.specs.declared.Item.{Item}
 use Rattle.bale_types.specs.declared.triple.Triple.{Triple}
 use Rattle.mtx_text.specs.Cells.{InOrder}
 use Rattle.mtx_text.proofs.PlaceOrder.{before_parts}
-use Rattle.app_topo.specs.Topos.{claims_of, claims_now, to_claim, to_fall, number_at}
+use Rattle.app_topo.specs.Topos.{claims_of, claims_now, to_claim, number_at}
 
 pub claims_more : (ranks size : ℕ) (numbers sums rows : List ℕ) (i : ℕ) → claims_of ranks size numbers sums (rows ++ i ∷ []) ≡ claims_of ranks size numbers sums rows ++ claims_of ranks size numbers sums (i ∷ [])
 claims_more ranks size numbers sums rows i =
@@ -77,22 +78,53 @@ row_same [] k d e l = absurd (omega arith)
 row_same (u ∷ us) zero d e l = refl
 row_same (u ∷ us) (suc k) d e l = row_same us k d e (omega arith)
 
--- from the first entry of a later column on
-pub none_later : (columns : List Triple) (c n : ℕ) (d : Triple) → InOrder columns → n < length columns → c ≤ (get_or columns n d).i → ((get_or columns n d).i ≡ c → ⊥)
-    → in_column c (take n columns) ≡ in_column c columns
-none_later columns c n d ordered low from other = none_behind columns c n (omega arith) (λ k e up here.
-    let rise : (get_or columns n e).i ≤ (get_or columns k e).i = rows_rise columns n k e ordered up here in
-    let same : (get_or columns n d).i ≡ (get_or columns n e).i = row_same columns n d e low in
-    omega (arith, other))
+-- what stands before a place, and what stands from it on
+pub below_last : (columns : List Triple) (k at : ℕ) (d e : Triple) → InOrder columns → k < at → at ≤ length columns → (get_or columns k d).i < (get_or columns (at - 1) e).i + 1
+below_last columns k at d e ordered before within =
+    let inside : at - 1 < length columns = omega (arith, before, within) in
+    let rise : (get_or columns k d).i ≤ (get_or columns (at - 1) d).i = rows_rise columns k (at - 1) d ordered (omega (arith, before)) inside in
+    let same : (get_or columns (at - 1) d).i ≡ (get_or columns (at - 1) e).i = row_same columns (at - 1) d e inside in
+    omega arith
 
--- one entry more
-pub falls_more : (ranks c at : ℕ) (columns : List Triple) (u : Triple) (old mid new : List (ℕ × Item)) → at < length columns → u ≡ get_or columns at u → u.i ≡ c
-    → mid ≡ old ++ map (to_fall ranks) (in_column c (take at columns)) → new ≡ mid ++ to_fall ranks u ∷ [] → new ≡ old ++ map (to_fall ranks) (in_column c (take (at + 1) columns))
-falls_more ranks c at columns u old mid new low is own so_far one =
-    let last : take (at + 1) columns ≡ take at columns ++ u ∷ [] = take_more columns at u low ∙ ap (λ w. take at columns ++ w ∷ []) (sym is) in
-    let kept : in_column c (u ∷ []) ≡ u ∷ [] = ap (λ b. cond b (u ∷ []) []) (eq-eqb u.i c own) in
-    let grown : in_column c (take (at + 1) columns) ≡ in_column c (take at columns) ++ u ∷ [] = ap (in_column c) last ∙ filter-append (λ u. eqb u.i c) (take at columns) (u ∷ []) ∙ ap (λ w. in_column c (take at columns) ++ w) kept in
-    one ∙ ap (λ w. w ++ to_fall ranks u ∷ []) so_far
-    ∙ append_assoc old (map (to_fall ranks) (in_column c (take at columns))) (to_fall ranks u ∷ [])
-    ∙ ap (λ w. old ++ w) (sym (map-append (to_fall ranks) (in_column c (take at columns)) (u ∷ [])))
-    ∙ ap (λ w. old ++ map (to_fall ranks) w) (sym grown)
+pub above_first : (columns : List Triple) (at k : ℕ) (d e : Triple) → InOrder columns → at ≤ k → k < length columns → (get_or columns at e).i ≤ (get_or columns k d).i
+above_first columns at k d e ordered up low =
+    let rise : (get_or columns at d).i ≤ (get_or columns k d).i = rows_rise columns at k d ordered up low in
+    let same : (get_or columns at d).i ≡ (get_or columns at e).i = row_same columns at d e (omega (arith, up, low)) in
+    omega arith
+
+-- entries of one column alone
+all_own : (c : ℕ) (us : List Triple) → ((k : ℕ) (d : Triple) → k < length us → (get_or us k d).i ≡ c) → in_column c us ≡ us
+all_own c [] h = refl
+all_own c (u ∷ us) h =
+    ap (λ b. cond b (u ∷ in_column c us) (in_column c us)) (eq-eqb u.i c (h 0 u (omega arith)))
+    ∙ ap (λ w. u ∷ w) (all_own c us (λ k d l. h (suc k) d (omega arith)))
+
+-- the first entry of a column stands no later than the first one of later columns
+pub in_turn : (columns : List Triple) (c from to : ℕ) → from ≤ length columns → ((k : ℕ) (d : Triple) → k < from → (get_or columns k d).i < c)
+    → ((k : ℕ) (d : Triple) → to ≤ k → k < length columns → c + 1 ≤ (get_or columns k d).i) → from ≤ to
+in_turn columns c from to size before behind =
+    elim (cases_lt to from) [
+      | inl less ↦ (let d : Triple = record { i = 0; j = 0; v = pos 0 } in
+          let low : (get_or columns to d).i < c = before to d less in
+          let high : c + 1 ≤ (get_or columns to d).i = behind to d (omega arith) (omega (arith, size)) in absurd (omega arith))
+      | inr up ↦ omega arith
+    ]
+
+-- the entries of a column stand from its first one to the first one of later columns
+pub column_is : (columns : List Triple) (c from to : ℕ) → from ≤ length columns → to ≤ length columns
+    → ((k : ℕ) (d : Triple) → k < from → (get_or columns k d).i < c) → ((k : ℕ) (d : Triple) → from ≤ k → k < length columns → c ≤ (get_or columns k d).i)
+    → ((k : ℕ) (d : Triple) → k < to → (get_or columns k d).i < c + 1) → ((k : ℕ) (d : Triple) → to ≤ k → k < length columns → c + 1 ≤ (get_or columns k d).i)
+    → slice_range columns from to ≡ in_column c columns
+column_is columns c from to size end before since until behind =
+    let up : from ≤ to = in_turn columns c from to size before behind in
+    let mid : List Triple = take (to - from) (drop from columns) in
+    let all : from + (to - from) ≡ to = omega (arith, up) in
+    let parts : take to columns ≡ take from columns ++ mid = sym (ap (λ n. take n columns) all) ∙ take-add from (to - from) columns in
+    let own : in_column c mid ≡ mid = all_own c mid (λ k d l.
+    let short : k < to - from = omega (arith, l, length-take (to - from) (drop from columns)) in
+    let same : (get_or mid k d).i ≡ (get_or columns (from + k) d).i = ap (λ (u : Triple). u.i) (get_or-take (to - from) (drop from columns) k d short ∙ get_or-drop from columns k d) in
+    let low : c ≤ (get_or columns (from + k) d).i = since (from + k) d (omega arith) (omega (arith, end)) in
+    let high : (get_or columns (from + k) d).i < c + 1 = until (from + k) d (omega arith) in
+    omega arith) in
+    sym own ∙ ap (λ w. w ++ in_column c mid) (sym (none_in_front columns c from size before))
+    ∙ sym (filter-append (λ u. eqb u.i c) (take from columns) mid) ∙ ap (in_column c) (sym parts) ∙ none_behind columns c to end behind

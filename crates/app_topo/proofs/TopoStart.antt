@@ -1,14 +1,12 @@
 -- topo's programs begin as those of one run.
-use Rattle.std.proofs.Common.{◌≡◌, ℕ, ◌+◌, ◌*◌, ◌%◌, ◌<◌, ◌≤◌, ◌==◌, true, List, [], ◌∷◌, ◌++◌, Some, All, take, get_or, slice_get, arith, refl, sym, ap, ◌∙◌, subst, lit<, append_assoc}
+use Rattle.std.proofs.Common.{◌≡◌, ℕ, ◌+◌, ◌*◌, ◌%◌, ◌<◌, ◌≤◌, ◌==◌, true, List, [], ◌∷◌, All, get_or, arith, refl, sym, ap, ◌∙◌, subst, lit<}
 use Rattle.std.specs.List.{flat_map}
 use Rattle.std.proofs.lemmas.Bool.Decides.{nat_tests}
-use Rattle.std.proofs.lemmas.List.{length-replicate, take_more}
-use Rattle.std.proofs.lemmas.List.Concat.{flat_map-append}
+use Rattle.std.proofs.lemmas.List.{length-replicate}
 use Rattle.std.proofs.lemmas.List.Elements.{All-nil, All-cons, All-append, All-filter}
-use Rattle.std.proofs.lemmas.Option.{get_or_from_slice_get}
 use Rattle.bale_types.specs.declared.Item.{Item}
 use Rattle.bale_types.specs.declared.triple.Triple.{Triple}
-use Rattle.list_laws.proofs.Lists.{within, all_head, all_tail}
+use Rattle.list_laws.proofs.Lists.{all_head, all_tail}
 use Rattle.mtx_text.specs.Sparse.{Sparse, IsSparse}
 use Rattle.mtx_text.specs.Cells.{is_before}
 use Rattle.mtx_text.proofs.PlaceOrder.{pairs_none}
@@ -17,14 +15,6 @@ use Rattle.sparse_rows.specs.Owners.{Numbered, numbered, own_entries, row_owner,
 use Rattle.sparse_rows.proofs.Starts.{made_in_round, all_numbered}
 use Rattle.app_topo.specs.Topos.{TopoState, IsTopo, IsInside, topo_rules, may_topo}
 use Rattle.app_topo.specs.TopoRuns.{first_sent, for_row, for_column, topo_begins, topo_starts}
-
--- the two items of one entry more
-pub sent_more : (ranks x : ℕ) (part : List Numbered) (e : Numbered) (old mid new : List (ℕ × Item)) → old ≡ flat_map (first_sent ranks) (take x part) → slice_get part x ≡ Some e
-    → mid ≡ old ++ (row_owner ranks e, for_row e) ∷ [] → new ≡ mid ++ (column_owner ranks e, for_column e) ∷ [] → new ≡ flat_map (first_sent ranks) (take (x + 1) part)
-sent_more ranks x part e old mid new so_far here first second =
-    let longer : take (x + 1) part ≡ take x part ++ e ∷ [] = take_more part x e (within part x e here) ∙ ap (λ u. take x part ++ u ∷ []) (get_or_from_slice_get part x e e here) in
-    second ∙ ap (λ w. w ++ (column_owner ranks e, for_column e) ∷ []) first ∙ append_assoc old ((row_owner ranks e, for_row e) ∷ []) ((column_owner ranks e, for_column e) ∷ [])
-    ∙ ap (λ w. w ++ first_sent ranks e) so_far ∙ sym (flat_map-append (first_sent ranks) (take x part) (e ∷ [])) ∙ ap (flat_map (first_sent ranks)) (sym longer)
 
 -- what an entry sends fits
 abbrev FitsFirst : ℕ → ℕ → ℕ → ℕ × Item → Type 0

@@ -8,7 +8,7 @@ use Rattle.sparse_rows.specs.Owners.{places_for}
 use Rattle.sparse_rows.proofs.Places.{place_below}
 use Rattle.app_topo.specs.declared.placed.Placed.{Placed}
 use Rattle.app_topo.specs.Topos.{TopoState, IsTopo, IsInside, topo_rules, spot, sent_after, next_outgoing}
-use Rattle.app_topo.specs.TopoLaws.{IsOwn, topo_laws, own_item, raised_in}
+use Rattle.app_topo.specs.TopoLaws.{IsOwn, topo_laws, raised_in}
 
 -- a number has a place
 pub own_place : (s : TopoState) (x : Item) → IsTopo s → IsOwn s.size s.ranks s.rank x → x.a / s.ranks < places_for s.ranks s.size
@@ -56,16 +56,6 @@ came_placed s came numbers sums v c n m =
     subst (All (λ u. (u.i / s.ranks < length numbers) × (u.i / s.ranks < length sums))) (sym c) (λ k d l.
     let low : (get_or s.came k d).i / s.ranks < places_for s.ranks s.size = place_below s.ranks s.size (get_or s.came k d).i (omega arith) (v.came_inside k d l).0 in
     (subst (λ q. (get_or s.came k d).i / s.ranks < q) (sym (ap length n ∙ v.number_places)) low, subst (λ q. (get_or s.came k d).i / s.ranks < q) (sym (ap length m ∙ v.sum_places)) low))
-
--- what is sent has small numbers
-pub sent_small : (s : TopoState) (outgoing : List (ℕ × Item)) → IsTopo s → outgoing ≡ s.outgoing → All (λ e. (e.1.a < 2 ^ 32) × (e.1.b < 2 ^ 32)) outgoing
-sent_small s outgoing v is =
-    let wide : s.size < 2 ^ 32 = v.wide in
-    subst (All (λ e. (e.1.a < 2 ^ 32) × (e.1.b < 2 ^ 32))) (sym is) (λ k d l.
-    let o : IsOwn s.size s.ranks (get_or s.outgoing k d).0 (get_or s.outgoing k d).1 = own_item s.size s.ranks s.round (get_or s.outgoing k d).0 s.rank (get_or s.outgoing k d).1 (v.fit k d l) in
-    let a : (get_or s.outgoing k d).1.a < s.size = o.a_low in
-    let b : (get_or s.outgoing k d).1.b < s.size = o.b_low in
-    (omega arith, omega arith))
 
 -- the state after a round, from the fields that change
 pub ended_valid : (s : TopoState) (round : ℕ) (columns came : List Triple) (claimed : List Placed) (outgoing : List (ℕ × Item)) (numbers sums : List ℕ) (old_columns old_came : List Triple) → IsTopo s

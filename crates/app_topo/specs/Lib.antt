@@ -4,6 +4,7 @@ pub mod TopoLaws
 pub mod TopoLines
 pub mod TopoRuns
 pub mod TopoSeats
+pub mod TopoSent
 pub mod TopoView
 pub mod Topos
 pub mod Triangular

@@ -20,6 +20,8 @@ mod marks;
 mod order;
 mod placed;
 mod seat;
+mod sent;
+mod spans;
 #[cfg(test)]
 mod tests;
 mod topo;

@@ -1,20 +1,22 @@
 //! What a rank of topo sends after a round: claims of rows, or falls of rows.
 
-ghost use Rattle.std.specs.Prelude.{◌≡◌, ◌<◌, ◌≤◌, ◌+◌, ◌-◌, ◌/◌, ◌%◌, ◌^◌, ◌==◌, ◌++◌, ◌∷◌, ℕ, [], nat_lt, OnOk, if◌then◌else◌, length, map, slice_index_or};
+ghost use Rattle.std.specs.Prelude.{◌≡◌, ◌<◌, ◌≤◌, ◌+◌, ◌-◌, ◌/◌, ◌%◌, ◌^◌, ◌==◌, ◌++◌, ◌∷◌, ℕ, [], nat_lt, OnOk, if◌then◌else◌, length, map, min, slice_index_or};
 ghost use Rattle.std.specs.List.{All, filter, flat_map};
 ghost use Rattle.bale_types.specs.declared.triple.Triple.{Triple};
 ghost use Rattle.mtx_text.specs.Cells.{InOrder};
 ghost use Rattle.sparse_rows.specs.Owners.{places_for};
-ghost use Rattle.app_topo.specs.Topos.{claims_of, falls_of, sent_after, own_rows, to_fall, placed_in};
+ghost use Rattle.app_topo.specs.Topos.{claims_of, sent_after, own_rows, placed_in};
+ghost use Rattle.app_topo.specs.TopoSent.{sent_of, to_other};
 
 use crate::marks::number_at;
 use crate::placed::Placed;
-use bale_types::{Item, NoMemory, Triple};
+use crate::spans::{Span, entries_of_column, note_spans};
+use bale_types::{NoMemory, Triple};
 use std::mem;
 
 /// Appends row `i`'s claim, where its number is 1 and its sum is a column.
 fn push_claim(
-    outgoing: &mut Vec<(u32, Item)>,
+    outgoing: &mut Vec<Triple>,
     ranks: u32,
     size: u32,
     numbers: &[u64],
@@ -24,24 +26,24 @@ fn push_claim(
     requires some { 0 < ranks }
     requires number { i / ranks < length numbers.now }
     requires sum { i / ranks < length sums.now }
-    ensures { OnOk result (outgoing.new.items ≡ outgoing.old.items ++ claims_of ranks size numbers.now sums.now (i ∷ [])) }
+    ensures { OnOk result (map (to_other ranks 2) outgoing.new.items
+        ≡ map (to_other ranks 2) outgoing.old.items ++ claims_of ranks size numbers.now sums.now (i ∷ [])) }
 {
     let number = number_at(numbers, ranks, i as u64);
     let sum = number_at(sums, ranks, i as u64);
     if number == 1 && sum < size as u64 && i < size {
-        let claim = Item {
-            a: sum,
-            b: i as u64,
-            c: 2,
-        };
-        outgoing.push((sum as u32 % ranks, claim))?;
+        outgoing.push(Triple {
+            i,
+            j: sum as u32,
+            v: 0,
+        })?;
     }
     Ok(())
 }
 
 /// The same for a number that may be no row.
 fn push_row(
-    outgoing: &mut Vec<(u32, Item)>,
+    outgoing: &mut Vec<Triple>,
     ranks: u32,
     size: u32,
     numbers: &[u64],
@@ -51,7 +53,8 @@ fn push_row(
     requires some { 0 < ranks }
     requires number { row / ranks < length numbers.now }
     requires sum { row / ranks < length sums.now }
-    ensures { OnOk result (outgoing.new.items ≡ outgoing.old.items ++ claims_of ranks size numbers.now sums.now (row ∷ [])) }
+    ensures { OnOk result (map (to_other ranks 2) outgoing.new.items
+        ≡ map (to_other ranks 2) outgoing.old.items ++ claims_of ranks size numbers.now sums.now (row ∷ [])) }
 {
     if row < size as u64 {
         return push_claim(outgoing, ranks, size, numbers, sums, row as u32);
@@ -61,7 +64,7 @@ fn push_row(
 
 /// Appends the claims of a rank's own rows.
 fn push_first_claims(
-    outgoing: &mut Vec<(u32, Item)>,
+    outgoing: &mut Vec<Triple>,
     rank: u32,
     ranks: u32,
     size: u32,
@@ -72,7 +75,8 @@ fn push_first_claims(
     requires rank { rank < ranks }
     requires numbers { length numbers.now ≡ places_for ranks size }
     requires sums { length sums.now ≡ places_for ranks size }
-    ensures { OnOk result (outgoing.new.items ≡ claims_of ranks size numbers.now sums.now (own_rows ranks rank size)) }
+    ensures { OnOk result (map (to_other ranks 2) outgoing.new.items
+        ≡ claims_of ranks size numbers.now sums.now (own_rows ranks rank size)) }
 {
     for place in 0..numbers.len() {
         let row = place as u64 * ranks as u64 + rank as u64;
@@ -83,7 +87,7 @@ fn push_first_claims(
 
 /// Appends the claims of the rows whose number fell to 1.
 fn push_later_claims(
-    outgoing: &mut Vec<(u32, Item)>,
+    outgoing: &mut Vec<Triple>,
     ranks: u32,
     size: u32,
     numbers: &[u64],
@@ -93,7 +97,8 @@ fn push_later_claims(
     requires none { outgoing.old.items ≡ [] }
     requires some { 0 < ranks }
     requires placed { All (λ u. (u.i / ranks < length numbers.now) × (u.i / ranks < length sums.now)) came.now }
-    ensures { OnOk result (outgoing.new.items ≡ claims_of ranks size numbers.now sums.now (map (λ u. u.i) came.now)) }
+    ensures { OnOk result (map (to_other ranks 2) outgoing.new.items
+        ≡ claims_of ranks size numbers.now sums.now (map (λ u. u.i) came.now)) }
 {
     for row in came {
         push_claim(outgoing, ranks, size, numbers, sums, row.i)?;
@@ -101,73 +106,28 @@ fn push_later_claims(
     Ok(())
 }
 
-/// The place of the first entry of column `c` or a later one, by halving.
-fn first_of(columns: &[Triple], c: u32) -> usize
-    requires { InOrder columns.now }
-    ensures within { result ≤ length columns.now }
-    ensures before { (k : ℕ) (d : Triple) → k < result → (slice_index_or columns.now k d).i < c }
-    ensures from { (k : ℕ) (d : Triple) → result ≤ k → k < length columns.now → c ≤ (slice_index_or columns.now k d).i }
-{
-    let mut low = 0;
-    let mut high = columns.len();
-    while low < high {
-        let middle = low + (high - low) / 2;
-        if columns[middle].i < c {
-            low = middle + 1;
-        } else {
-            high = middle;
-        }
-    }
-    low
-}
-
-/// Appends the falls of the rows of column `c`.
-fn push_falls(
-    outgoing: &mut Vec<(u32, Item)>,
-    ranks: u32,
-    columns: &[Triple],
-    c: u32,
-) -> Result<(), NoMemory>
-    requires some { 0 < ranks }
-    requires ordered { InOrder columns.now }
-    ensures { OnOk result (outgoing.new.items ≡ outgoing.old.items ++ map (to_fall ranks) (filter (λ u. u.i == c) columns.now)) }
-{
-    for at in first_of(columns, c)..columns.len() {
-        let entry = columns[at];
-        if entry.i != c {
-            return Ok(());
-        }
-        let fall = Item {
-            a: entry.j as u64,
-            b: entry.i as u64,
-            c: 3,
-        };
-        outgoing.push((entry.j % ranks, fall))?;
-    }
-    Ok(())
-}
-
 /// Appends the falls of the rows of the columns that were claimed.
 fn push_all_falls(
-    outgoing: &mut Vec<(u32, Item)>,
+    outgoing: &mut Vec<Triple>,
     ranks: u32,
     columns: &[Triple],
+    spans: &[Span],
     came: &[Triple],
 ) -> Result<(), NoMemory>
     requires none { outgoing.old.items ≡ [] }
     requires some { 0 < ranks }
     requires ordered { InOrder columns.now }
-    ensures { OnOk result (outgoing.new.items ≡ falls_of ranks columns.now came.now) }
+    ensures { OnOk result (outgoing.new.items ≡ flat_map (λ c. filter (λ u. u.i == c.i) columns.now) came.now) }
 {
     for claimed in came {
-        push_falls(outgoing, ranks, columns, claimed.i)?;
+        outgoing.extend_from_slice(entries_of_column(columns, spans, ranks, claimed.i))?;
     }
     Ok(())
 }
 
 /// Puts what is sent after a round into an empty list: the first claims, falls, or later claims.
 pub(crate) fn put_next(
-    outgoing: &mut Vec<(u32, Item)>,
+    outgoing: &mut Vec<Triple>,
     round: u64,
     rank: u32,
     ranks: u32,
@@ -175,6 +135,7 @@ pub(crate) fn put_next(
     numbers: &[u64],
     sums: &[u64],
     columns: &[Triple],
+    spans: &[Span],
     came: &[Triple],
 ) -> Result<(), NoMemory>
     requires none { outgoing.old.items ≡ [] }
@@ -183,18 +144,21 @@ pub(crate) fn put_next(
     requires sums { length sums.now ≡ places_for ranks size }
     requires placed { All (λ u. (u.i / ranks < length numbers.now) × (u.i / ranks < length sums.now)) came.now }
     requires ordered { InOrder columns.now }
-    ensures { OnOk result (outgoing.new.items ≡ sent_after round rank ranks size numbers.now sums.now columns.now came.now) }
+    ensures { OnOk result (sent_of (min (round + 1) (2 ^ 64 - 1)) ranks outgoing.new.items
+        ≡ sent_after round rank ranks size numbers.now sums.now columns.now came.now) }
 {
     if round == 0 {
-        return push_first_claims(outgoing, rank, ranks, size, numbers, sums);
+        push_first_claims(outgoing, rank, ranks, size, numbers, sums)?;
+        return Ok(());
     }
     if round % 2 == 1 {
         if round < u64::MAX {
-            return push_all_falls(outgoing, ranks, columns, came);
+            push_all_falls(outgoing, ranks, columns, spans, came)?;
         }
         return Ok(());
     }
-    push_later_claims(outgoing, ranks, size, numbers, sums, came)
+    push_later_claims(outgoing, ranks, size, numbers, sums, came)?;
+    Ok(())
 }
 
 /// Notes the rows whose claims were sent in an odd round: they have its level.
@@ -202,42 +166,46 @@ pub(crate) fn put_next(
 pub(crate) fn keep_claims(
     claimed: &mut Vec<Placed>,
     round: u64,
-    outgoing: &[(u32, Item)],
+    outgoing: &[Triple],
 ) -> Result<(), NoMemory>
-    requires { All (λ e. (e.1.a < 2 ^ 32) × (e.1.b < 2 ^ 32)) outgoing.now }
-    ensures { OnOk result (claimed.new.items ≡ (if round % 2 == 1 then claimed.old.items ++ map (placed_in round) outgoing.now else claimed.old.items)) }
+    ensures { (ranks : ℕ) → OnOk result (claimed.new.items ≡ (if round % 2 == 1
+        then claimed.old.items ++ map (placed_in round) (sent_of round ranks outgoing.now) else claimed.old.items)) }
 {
     if round % 2 == 1 {
-        return place_all(claimed, (round - 1) / 2, outgoing);
+        place_all(claimed, (round - 1) / 2, outgoing)?;
+        return Ok(());
     }
     Ok(())
 }
 
 /// Notes rows of a level.
-fn place_all(
-    claimed: &mut Vec<Placed>,
-    level: u64,
-    outgoing: &[(u32, Item)],
-) -> Result<(), NoMemory>
-    requires { All (λ e. (e.1.a < 2 ^ 32) × (e.1.b < 2 ^ 32)) outgoing.now }
-    ensures { OnOk result (claimed.new.items ≡ claimed.old.items ++ map (λ e. record { level = level; row = e.1.b; column = e.1.a }) outgoing.now) }
+fn place_all(claimed: &mut Vec<Placed>, level: u64, outgoing: &[Triple]) -> Result<(), NoMemory>
+    ensures { OnOk result (claimed.new.items
+        ≡ claimed.old.items ++ map (λ u. record { level = level; row = u.i; column = u.j }) outgoing.now) }
 {
     for claim in outgoing {
-        let (_to, item) = *claim;
         claimed.push(Placed {
             level,
-            row: item.b as u32,
-            column: item.a as u32,
+            row: claim.i,
+            column: claim.j,
         })?;
     }
     Ok(())
 }
 
 /// Keeps what came in round 0 as the entries of own columns.
-pub(crate) fn put_columns(columns: &mut Vec<Triple>, round: u64, came: &mut Vec<Triple>)
+pub(crate) fn put_columns(
+    columns: &mut Vec<Triple>,
+    spans: &mut Vec<Span>,
+    ranks: u32,
+    round: u64,
+    came: &mut Vec<Triple>,
+)
+    requires { 0 < ranks }
     ensures { columns.new.items ≡ (if round == 0 then came.old.items else columns.old.items) }
 {
     if round == 0 {
         mem::swap(columns, came);
+        note_spans(spans, ranks, columns);
     }
 }

@@ -21,9 +21,9 @@ impl Seat {
     pub(crate) fn fits(self, from: u32, item: Item) -> bool
         ensures { result ≡ may_topo (self.size ∷ []) self.ranks self.round self.rank from item }
     {
+        // one test for both numbers
         from < self.ranks
-            && item.a < self.size as u64
-            && item.b < self.size as u64
+            && item.a.max(item.b) < self.size as u64
             && item.a as u32 % self.ranks == self.rank
             && kind_fits(self.round, item.c)
     }

@@ -4,15 +4,18 @@ ghost use Rattle.std.specs.Prelude.{◌≡◌, ◌<◌, [], OnOk, OnErr};
 ghost use Rattle.round_program.specs.Batches.{taken_in};
 ghost use Rattle.app_topo.specs.Topos.{IsTopo, topo_rules, entered, claimed_by, fallen};
 ghost use Rattle.app_topo.specs.TopoSeats.{IsSeat};
+ghost use Rattle.app_topo.specs.TopoSent.{sent_of};
 ghost use Rattle.app_topo.specs.TopoLaws.{IsOwn};
 
 use crate::lists::{keep_claims, put_columns, put_next};
 use crate::marks::{add, fresh_after, lessen, mark, mark_if, number_at};
 use crate::placed::Placed;
 use crate::seat::Seat;
+use crate::sent::{count_of, emission_of, emit_kept};
+use crate::spans::Span;
 use bale_types::{Item, NoMemory, Triple};
 use mtx_text::Cells;
-use round_program::{Arrivals, Program};
+use round_program::{Arrivals, Departures, Program};
 use std::alloc::Global;
 use std::marker::Model;
 use std::mem;
@@ -36,6 +39,8 @@ pub struct Topo {
     sums: Vec<u64>,
     /// the entries of own columns as column and row, in order
     columns: Vec<Triple>,
+    /// where the entries of each own column stand there
+    spans: Vec<Span>,
     /// how many rows claimed each own column
     counts: Vec<u64>,
     /// the own rows that have claimed
@@ -44,10 +49,11 @@ pub struct Topo {
     fresh: u32,
     /// what came in this round: entries of own columns, own columns claimed, or own rows whose number fell to 1
     came: Cells,
-    /// what is sent in this round
-    outgoing: Vec<(u32, Item)>,
-    /// memory for what is sent in the next round
-    next: Vec<(u32, Item)>,
+    /// of what is sent in this round: in round 0 the rank's entries, then rows and the columns that they claim, or columns and
+    /// the rows that have an entry less
+    outgoing: Vec<Triple>,
+    /// memory for the same of the next round
+    next: Vec<Triple>,
     /// memory for what came, in order
     spots: Vec<Triple>,
 }
@@ -70,7 +76,8 @@ pub(crate) struct Begins {
     pub(crate) numbers: Vec<u64>,
     pub(crate) sums: Vec<u64>,
     pub(crate) counts: Vec<u64>,
-    pub(crate) outgoing: Vec<(u32, Item)>,
+    pub(crate) spans: Vec<Span>,
+    pub(crate) outgoing: Vec<Triple>,
 }
 
 impl Topo {
@@ -88,7 +95,7 @@ impl Topo {
           claimed = [];
           fresh = 0;
           came = [];
-          outgoing = begins.outgoing.items;
+          outgoing = sent_of 0 ranks begins.outgoing.items;
         }) }
         ensures { result ≡ record {
           rank = rank;
@@ -102,7 +109,7 @@ impl Topo {
           claimed = [];
           fresh = 0;
           came = [];
-          outgoing = begins.outgoing.items;
+          outgoing = sent_of 0 ranks begins.outgoing.items;
         } }
     {
         Topo {
@@ -113,6 +120,7 @@ impl Topo {
             numbers: begins.numbers,
             sums: begins.sums,
             columns: Vec::new(alloc),
+            spans: begins.spans,
             counts: begins.counts,
             claimed: Vec::new(alloc),
             fresh: 0,
@@ -247,11 +255,15 @@ impl Program for Topo {
     }
 
     fn count(&self) -> u64 {
-        self.outgoing.len() as u64
+        count_of(&self.outgoing, self.round)
     }
 
     fn emission(&self, i: u64) -> (u32, Item) {
-        self.outgoing[i as usize]
+        emission_of(&self.outgoing, self.round, self.ranks, i)
+    }
+
+    fn emit_each<D: Departures>(&self, from: u64, out: &mut D) -> u64 {
+        emit_kept(&self.outgoing, self.round, self.ranks, from, out)
     }
 
     fn fits(&self, from: u32, item: Item) -> bool {
@@ -301,10 +313,17 @@ impl Program for Topo {
             &self.numbers,
             &self.sums,
             &self.columns,
+            &self.spans,
             &self.spots,
         )?;
         keep_claims(&mut self.claimed, self.round, &self.outgoing)?;
-        put_columns(&mut self.columns, self.round, &mut self.spots);
+        put_columns(
+            &mut self.columns,
+            &mut self.spans,
+            self.ranks,
+            self.round,
+            &mut self.spots,
+        );
         mem::swap(&mut self.outgoing, &mut self.next);
         self.fresh = 0;
         self.round = self.round.saturating_add(1);

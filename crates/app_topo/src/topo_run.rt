@@ -1,14 +1,14 @@
 //! topo's start.
 
-ghost use Rattle.std.specs.Prelude.{◌≡◌, ◌<◌, ◌≤◌, ◌*◌, ◌+◌, [], ◌∷◌, length, replicate, slice_index_or, IfOk};
-ghost use Rattle.std.specs.List.{flat_map};
+ghost use Rattle.std.specs.Prelude.{◌≡◌, ◌<◌, ◌≤◌, ◌*◌, ◌+◌, [], ◌∷◌, length, map, replicate, slice_index_or, IfOk};
 ghost use Rattle.sparse_rows.specs.Parts.{parts_of};
 ghost use Rattle.round_program.specs.Canonical.{InRound, EndsWithin};
 ghost use Rattle.app_topo.specs.Topos.{topo_rules};
-ghost use Rattle.app_topo.specs.TopoRuns.{first_sent, topo_begins, topo_starts};
+ghost use Rattle.app_topo.specs.TopoRuns.{topo_begins, topo_starts};
 
+use crate::spans::Span;
 use crate::topo::{Begins, Topo};
-use bale_types::{Item, NoMemory};
+use bale_types::{NoMemory, Triple};
 use mtx_text::Matrix;
 use round_program::Progs;
 use sparse_rows::{Parts, split};
@@ -56,7 +56,8 @@ fn part_of(
         numbers: zeros(alloc, places)?,
         sums: zeros(alloc, places)?,
         counts: zeros(alloc, places)?,
-        outgoing: entries_of(alloc, parts, ranks, rank)?,
+        spans: vec![in alloc; Span { from: 0, to: 0 }; places]?,
+        outgoing: entries_of(alloc, parts, rank)?,
     };
     Ok(Topo::new(alloc, rank, ranks, m.rows(), begins))
 }
@@ -68,35 +69,17 @@ fn zeros(alloc: Global, n: usize) -> Result<Vec<u64>, NoMemory>
     Ok(vec![in alloc; 0u64; n]?)
 }
 
-/// The entries of a rank, each for the owners of its row and of its column.
-fn entries_of(
-    alloc: Global,
-    parts: &Parts,
-    ranks: u32,
-    rank: u32,
-) -> Result<Vec<(u32, Item)>, NoMemory>
-    requires some { 0 < ranks }
-    requires rank { rank < length parts.now }
-    ensures { IfOk result (λ v. v.items ≡ flat_map (first_sent ranks) (slice_index_or parts.now rank [])) }
+/// The entries of a rank.
+fn entries_of(alloc: Global, parts: &Parts, rank: u32) -> Result<Vec<Triple>, NoMemory>
+    requires { rank < length parts.now }
+    ensures { IfOk result (λ v. v.items ≡ map (λ e. e.1) (slice_index_or parts.now rank [])) }
 {
-    let mut outgoing = Vec::with_capacity(alloc, parts.len(rank).saturating_mul(2))?;
+    let mut entries = Vec::with_capacity(alloc, parts.len(rank))?;
     for x in 0..parts.len(rank) {
         let Some((_number, entry)) = parts.get(rank, x) else {
             unreachable!()
         };
-        let (row, column) = (entry.i as u64, entry.j as u64);
-        let for_row = Item {
-            a: row,
-            b: column,
-            c: 0,
-        };
-        let for_column = Item {
-            a: column,
-            b: row,
-            c: 1,
-        };
-        outgoing.push((entry.i % ranks, for_row))?;
-        outgoing.push((entry.j % ranks, for_column))?;
+        entries.push(entry)?;
     }
-    Ok(outgoing)
+    Ok(entries)
 }

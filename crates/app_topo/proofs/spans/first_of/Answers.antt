@@ -1,6 +1,6 @@
 use Rattle.std.proofs.Common.{ℕ, ◌+◌, ◌-◌, ◌/◌, ◌<◌, ◌≤◌, length, get_or, arith, subst}
 use Rattle.app_topo.proofs.TopoLists.{rows_rise, row_same}
-use Rattle.app_topo.proofs.lists.first_of.Goals as goal
+use Rattle.app_topo.proofs.spans.first_of.Goals as goal
 
 pub loop-low-preserved-then-columns-middle : goal.loop-low-preserved-then-columns-middle
 loop-low-preserved-then-columns-middle c =

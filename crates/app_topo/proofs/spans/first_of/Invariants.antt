@@ -1,6 +1,6 @@
 use Rattle.std.proofs.Common.{ℕ, ◌-◌, ◌<◌, ◌≤◌, length, get_or}
 use Rattle.bale_types.specs.declared.triple.Triple.{Triple}
-use Rattle.app_topo.proofs.lists.first_of.Given as goal
+use Rattle.app_topo.proofs.spans.first_of.Given as goal
 
 abbrev pub invariant-loop-low : goal.invariant-loop-low
 invariant-loop-low l = record {

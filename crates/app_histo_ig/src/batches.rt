@@ -44,7 +44,8 @@ pub(crate) fn note_each<I: Arrivals>(
 ) -> Result<(), NoMemory>
     requires senders { length queries.old.items ≡ seat.ranks }
     requires asked { All (All (IsQuery seat.cols)) (map (λ l. l.items) queries.old.items) }
-    ensures ok { OnOk result (map (λ l. l.items) queries.new.items ≡ all_noted seat (map (λ l. l.items) queries.old.items) (I.items came)) }
+    ensures ok { OnOk result
+        (map (λ l. l.items) queries.new.items ≡ all_noted seat (map (λ l. l.items) queries.old.items) (I.items came)) }
     ensures senders { length queries.new.items ≡ seat.ranks }
     ensures asked { All (All (IsQuery seat.cols)) (map (λ l. l.items) queries.new.items) }
 {
@@ -60,7 +61,8 @@ pub(crate) fn note_each<I: Arrivals>(
 fn note_own(queries: &mut Vec<Vec<Item>>, seat: Seat, from: u32, item: Item) -> Result<(), NoMemory>
     requires senders { length queries.old.items ≡ seat.ranks }
     requires asked { All (All (IsQuery seat.cols)) (map (λ l. l.items) queries.old.items) }
-    ensures ok { OnOk result (map (λ l. l.items) queries.new.items ≡ own_noted seat (map (λ l. l.items) queries.old.items) from item) }
+    ensures ok { OnOk result
+        (map (λ l. l.items) queries.new.items ≡ own_noted seat (map (λ l. l.items) queries.old.items) from item) }
     ensures senders { length queries.new.items ≡ seat.ranks }
     ensures asked { All (All (IsQuery seat.cols)) (map (λ l. l.items) queries.new.items) }
 {

@@ -12,3 +12,4 @@ pub mod IgSteps
 pub mod IgText
 pub mod SumsAsked
 pub mod SumsStarts
+pub mod Taken

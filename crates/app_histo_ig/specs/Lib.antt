@@ -2,6 +2,7 @@ pub mod Asking
 pub mod AskingLaws
 pub mod AskingRuns
 pub mod AskingView
+pub mod Batches
 pub mod ColumnAnswers
 pub mod HistoLaws
 pub mod HistoLines

@@ -4,8 +4,10 @@ ghost use Rattle.std.specs.Prelude.{◌≡◌, ◌<◌, ◌^◌, length};
 ghost use Rattle.std.specs.List.{All};
 ghost use Rattle.sparse_rows.specs.Owners.{places_for};
 
+use crate::batches::rise_each;
+use crate::seat::Seat;
 use bale_types::{Item, NoMemory};
-use round_program::Program;
+use round_program::{Arrivals, Program};
 use std::marker::Model;
 
 /// One rank's part of histo. Column `j` belongs to rank `j mod ranks`, which keeps its count at place `j div ranks`.
@@ -122,6 +124,18 @@ impl Program for Histo {
         let ranks = self.ranks;
         let place = (item.a as u32 / ranks) as usize;
         self.counts[place] = self.counts[place].wrapping_add(item.b);
+        Ok(())
+    }
+
+    fn absorb_each<I: Arrivals>(&mut self, came: I) -> Result<(), NoMemory> {
+        if self.round == 0 {
+            let seat = Seat {
+                rank: self.rank,
+                ranks: self.ranks,
+                cols: self.cols,
+            };
+            rise_each(&mut self.counts, seat, came);
+        }
         Ok(())
     }
 

@@ -6,9 +6,11 @@ ghost use Rattle.sparse_rows.specs.Owners.{places_for};
 ghost use Rattle.app_histo_ig.specs.Igs.{IsIg};
 
 use crate::answered::Answered;
+use crate::batches::{note_each, raise_each, rise_each};
 use crate::ig_lists::{after_round, note, raise, rise};
+use crate::seat::Seat;
 use bale_types::{Item, NoMemory};
-use round_program::Program;
+use round_program::{Arrivals, Program};
 use std::alloc::Global;
 use std::marker::Model;
 
@@ -149,6 +151,24 @@ impl Program for Ig {
             return note(&mut self.queries, from as usize, item);
         }
         raise(&mut self.answers, self.ranks, item);
+        Ok(())
+    }
+
+    fn absorb_each<I: Arrivals>(&mut self, came: I) -> Result<(), NoMemory> {
+        // The round, and what the rank is sent in it, are read once for all items.
+        let seat = Seat {
+            rank: self.rank,
+            ranks: self.ranks,
+            cols: self.cols,
+        };
+        if self.round == 0 {
+            rise_each(&mut self.sums, seat, came);
+            return Ok(());
+        }
+        if self.round == 1 {
+            return note_each(&mut self.queries, seat, came);
+        }
+        raise_each(&mut self.answers, seat.ranks, came);
         Ok(())
     }
 

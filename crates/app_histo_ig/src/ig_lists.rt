@@ -10,17 +10,19 @@ use bale_types::{Item, NoMemory};
 use std::alloc::Global;
 
 /// Adds the value `b` to the sum of column `a`, modulo 2^64.
-pub(crate) fn rise(sums: &mut Vec<u64>, ranks: u32, item: Item)
+#[inline(always)]
+pub(crate) fn rise(sums: &mut [u64], ranks: u32, item: Item)
     requires some { 0 < ranks }
     requires column { item.a < 2 ^ 32 }
-    requires place { item.a / ranks < length sums.old.items }
-    ensures { sums.new.items ≡ risen ranks sums.old.items item }
+    requires place { item.a / ranks < length sums.old }
+    ensures { sums.new ≡ risen ranks sums.old item }
 {
     let place = (item.a as u32 / ranks) as usize;
     sums[place] = sums[place].wrapping_add(item.b);
 }
 
 /// Appends a query to its sender's list.
+#[inline(always)]
 pub(crate) fn note(queries: &mut Vec<Vec<Item>>, from: usize, item: Item) -> Result<(), NoMemory>
     requires { from < length queries.old.items }
     ensures { map (λ l. l.items) queries.new.items ≡ (if is_ok result then noted (map (λ l. l.items) queries.old.items) from item else map (λ l. l.items) queries.old.items) }
@@ -29,14 +31,28 @@ pub(crate) fn note(queries: &mut Vec<Vec<Item>>, from: usize, item: Item) -> Res
 }
 
 /// Takes the answer `b` of entry number `a` in, where there is a place for it and no greater one stands there.
-pub(crate) fn raise(answers: &mut Vec<u64>, ranks: u32, item: Item)
+#[inline(always)]
+pub(crate) fn raise(answers: &mut [u64], ranks: u32, item: Item)
     requires { 0 < ranks }
-    ensures { answers.new.items ≡ answered ranks answers.old.items item }
+    ensures { answers.new ≡ answered ranks answers.old item }
 {
-    let at = item.a / ranks as u64;
+    let at = place_of(item.a, ranks);
     if at < answers.len() as u64 {
         let i = at as usize;
         answers[i] = answers[i].max(item.b);
+    }
+}
+
+/// Where the answer of an entry stands. The short division is the cheaper one.
+#[inline(always)]
+fn place_of(number: u64, ranks: u32) -> u64
+    requires { 0 < ranks }
+    ensures { result ≡ number / ranks }
+{
+    if number <= u32::MAX as u64 {
+        (number as u32 / ranks) as u64
+    } else {
+        number / ranks as u64
     }
 }
 

@@ -4,9 +4,11 @@ ghost use Rattle.std.specs.Prelude.{◌≡◌, ◌<◌, ◌^◌, [], ◌∷◌, 
 ghost use Rattle.std.specs.List.{All};
 ghost use Rattle.app_histo_ig.specs.Sums.{IsSums};
 
+use crate::batches::rise_each;
 use crate::ig_lists::rise;
+use crate::seat::Seat;
 use bale_types::{Item, NoMemory};
-use round_program::Program;
+use round_program::{Arrivals, Program};
 use std::marker::Model;
 
 /// One rank's part of ig's first round: the owner of each column adds up its values. Column `j` belongs to rank
@@ -118,6 +120,18 @@ impl Program for IgSums {
 
     fn absorb(&mut self, from: u32, item: Item) -> Result<(), NoMemory> {
         rise(&mut self.sums, self.ranks, item);
+        Ok(())
+    }
+
+    fn absorb_each<I: Arrivals>(&mut self, came: I) -> Result<(), NoMemory> {
+        if self.round == 0 {
+            let seat = Seat {
+                rank: self.rank,
+                ranks: self.ranks,
+                cols: self.cols,
+            };
+            rise_each(&mut self.sums, seat, came);
+        }
         Ok(())
     }
 

@@ -18,6 +18,7 @@
 #![tactic(auto)]
 
 mod answered;
+mod batches;
 mod histo;
 mod histo_run;
 mod ig;
@@ -26,6 +27,7 @@ mod ig_by_askers;
 mod ig_lists;
 mod ig_run;
 mod ig_sums;
+mod seat;
 #[cfg(test)]
 mod tests;
 

@@ -4,4 +4,5 @@ pub mod PermuteCells
 pub mod PermuteNumbers
 pub mod PermuteOwners
 pub mod PermuteSteps
+pub mod TransposeBatches
 pub mod TransposeOwners

@@ -1,3 +1,4 @@
+pub mod Batches
 pub mod Carried
 pub mod Moved
 pub mod Perms

@@ -1,13 +1,26 @@
 //! Cells on their way from rank to rank, as items.
 
-ghost use Rattle.std.specs.Prelude.{◌≡◌, ◌<◌, ◌^◌, is_ok, if◌then◌else◌};
+ghost use Rattle.std.specs.Prelude.{◌≡◌, ◌<◌, ◌^◌, OnOk, is_ok, if◌then◌else◌};
 ghost use Rattle.bale_types.specs.Bits.{twos_complement};
-ghost use Rattle.mtx_text.specs.Cells.{raised};
+ghost use Rattle.mtx_text.specs.Cells.{InOrder, raised};
 ghost use Rattle.app_permute.specs.Carried.{cell_item, cell_of, may_cell};
 ghost use Rattle.app_permute.specs.Permutes.{kept_as};
+ghost use Rattle.app_permute.specs.Batches.{own_raised, all_raised};
 
 use bale_types::{Item, NoMemory, Triple, bits_of, value_of};
 use mtx_text::Cells;
+use round_program::Arrivals;
+
+/// A rank, as far as it says which cells it may be sent as the owner of their rows.
+#[derive(Clone, Copy)]
+pub(crate) struct RowOwner {
+    pub(crate) rank: u32,
+    pub(crate) ranks: u32,
+    /// the matrix's rows
+    pub(crate) rows: u32,
+    /// the matrix's columns
+    pub(crate) cols: u32,
+}
 
 /// A cell as an item.
 #[inline(always)]
@@ -50,4 +63,35 @@ pub(crate) fn raise_kept(cells: &mut Cells, round: u64, item: Item) -> Result<()
         return cells.raise(item.b as u32, item.a as u32, value_of(item.c));
     }
     raise_cell(cells, item)
+}
+
+/// Takes in the cells of own rows among items that came.
+#[inline(always)]
+pub(crate) fn raise_each<I: Arrivals>(
+    cells: &mut Cells,
+    owner: RowOwner,
+    came: I,
+) -> Result<(), NoMemory>
+    requires ordered { InOrder cells.old }
+    ensures ok { OnOk result (cells.new ≡ all_raised owner cells.old (I.items came)) }
+    ensures ordered { InOrder cells.new }
+{
+    let mut came = came;
+    while let Some((from, item)) = came.next() {
+        raise_own(cells, owner, from, item)?;
+    }
+    Ok(())
+}
+
+/// The same with one item.
+#[inline(always)]
+fn raise_own(cells: &mut Cells, owner: RowOwner, from: u32, item: Item) -> Result<(), NoMemory>
+    requires ordered { InOrder cells.old }
+    ensures ok { OnOk result (cells.new ≡ own_raised owner cells.old from item) }
+    ensures ordered { InOrder cells.new }
+{
+    if cell_fits(owner.rows, owner.cols, owner.ranks, owner.rank, from, item) {
+        return raise_cell(cells, item);
+    }
+    Ok(())
 }

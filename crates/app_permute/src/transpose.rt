@@ -3,10 +3,10 @@
 ghost use Rattle.std.specs.Prelude.{◌≡◌, ◌<◌, []};
 ghost use Rattle.app_permute.specs.Transposes.{IsTransposing};
 
-use crate::carried::{cell_fits, raise_cell};
+use crate::carried::{RowOwner, cell_fits, raise_cell, raise_each};
 use bale_types::{Item, NoMemory};
 use mtx_text::Cells;
-use round_program::Program;
+use round_program::{Arrivals, Program};
 use std::alloc::Global;
 use std::marker::Model;
 
@@ -106,6 +106,20 @@ impl Program for Transpose {
 
     fn absorb(&mut self, from: u32, item: Item) -> Result<(), NoMemory> {
         raise_cell(&mut self.cells, item)
+    }
+
+    fn absorb_each<I: Arrivals>(&mut self, came: I) -> Result<(), NoMemory> {
+        if self.round == 0 {
+            // Which cells are for this rank is read once for all.
+            let owner = RowOwner {
+                rank: self.rank,
+                ranks: self.ranks,
+                rows: self.rows,
+                cols: self.cols,
+            };
+            return raise_each(&mut self.cells, owner, came);
+        }
+        Ok(())
     }
 
     fn vote(&self) -> u64 {

@@ -1,4 +1,5 @@
 pub mod DeltaLaws
 pub mod DeltaRuns
+pub mod DeltaSeats
 pub mod DeltaView
 pub mod Deltas

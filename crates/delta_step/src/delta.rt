@@ -2,16 +2,20 @@
 
 ghost use Rattle.std.specs.Prelude.{◌≡◌, ◌≢◌, ◌<◌, ◌≤◌, ◌/◌, ◌+◌, ◌-◌, ◌^◌, ◌++◌, ◌&&◌, ◌==◌, nat_lt, [], if◌then◌else◌, OnOk, OnErr, IfOk, length, map, min};
 ghost use Rattle.std.specs.List.{All};
+ghost use Rattle.round_program.specs.Laws.{Fits};
+ghost use Rattle.round_program.specs.Batches.{taken_in};
 ghost use Rattle.least_walks.specs.Tables.{table_of, offers};
 ghost use Rattle.least_walks.specs.Vertices.{improved_at, in_bucket, picked, calm_if, least_marked};
 ghost use Rattle.delta_step.specs.declared.phase.Phase.TheVariants.{First, Find, Light, Heavy};
-ghost use Rattle.delta_step.specs.Deltas.{IsDelta, DeltaState, bucket_of, announced, no_bucket, ascending, offered, absorbed_in, finding, sorted_out, activated, finished};
+ghost use Rattle.delta_step.specs.Deltas.{IsDelta, DeltaState, delta_rules, bucket_of, announced, no_bucket, ascending, offered, absorbed_in, finding, sorted_out, activated, finished};
+ghost use Rattle.delta_step.specs.DeltaSeats.{IsSeat};
 
 use crate::phase::Phase;
+use crate::seat::Seat;
 use bale_types::{Item, NoMemory, value_of};
 use least_walks::{Table, Vertices, offers};
 use mtx_text::Cells;
-use round_program::Program;
+use round_program::{Arrivals, Program};
 use std::alloc::Global;
 use std::marker::Model;
 use std::mem;
@@ -163,23 +167,22 @@ impl Program for Delta {
     }
 
     fn fits(&self, from: u32, item: Item) -> bool {
-        from < self.ranks
-            && (self.round > 0
-                || (item.a < self.rows as u64
-                    && item.a as u32 % self.ranks == self.rank
-                    && item.b < self.rows as u64))
+        self.seat().fits(from, item)
     }
 
     fn absorb(&mut self, from: u32, item: Item) -> Result<(), NoMemory> {
-        match self.phase {
-            Phase::First => self.take_edge(item),
-            Phase::Find => {
-                self.hear(item.a);
-                Ok(())
-            }
-            Phase::Light => self.take_offer(item),
-            Phase::Heavy => self.take_offer(item),
+        let seat = self.seat();
+        self.absorb_on(seat, from, item)
+    }
+
+    fn absorb_each<I: Arrivals>(&mut self, came: I) -> Result<(), NoMemory> {
+        // What the rank is sent in its round, and what for, is read once for all items.
+        let seat = self.seat();
+        let mut came = came;
+        while let Some((from, item)) = came.next() {
+            self.take_in(seat, from, item)?;
         }
+        Ok(())
     }
 
     fn vote(&self) -> u64 {
@@ -213,13 +216,62 @@ impl Program for Delta {
 }
 
 impl Delta {
+    /// Which items this rank may be sent, and what its round is for.
+    #[inline(always)]
+    fn seat(&self) -> Seat
+        ensures { IsSeat result self.now }
+    {
+        Seat {
+            rank: self.rank,
+            ranks: self.ranks,
+            rows: self.rows,
+            round: self.round,
+            phase: self.phase,
+        }
+    }
+
+    /// Takes in an item of a rank, where it fits.
+    #[inline(always)]
+    fn take_in(&mut self, seat: Seat, from: u32, item: Item) -> Result<(), NoMemory>
+        requires { IsSeat seat self.old }
+        ensures ok { OnOk result (self.new ≡ taken_in delta_rules self.old from item) }
+        ensures sent { self.new.outgoing ≡ self.old.outgoing }
+        ensures seat { IsSeat seat self.new }
+    {
+        if seat.fits(from, item) {
+            return self.absorb_on(seat, from, item);
+        }
+        Ok(())
+    }
+
+    /// Takes in an item that fits.
+    #[inline(always)]
+    fn absorb_on(&mut self, seat: Seat, from: u32, item: Item) -> Result<(), NoMemory>
+        requires seat { IsSeat seat self.old }
+        requires fits { Fits delta_rules self.old from item }
+        ensures ok { OnOk result (self.new ≡ delta_rules.absorbed self.old from item) }
+        ensures sent { self.new.outgoing ≡ self.old.outgoing }
+        ensures seat { IsSeat seat self.new }
+    {
+        match seat.phase {
+            Phase::First => self.take_edge(item),
+            Phase::Find => {
+                self.hear(item.a);
+                Ok(())
+            }
+            Phase::Light => self.take_offer(seat, item),
+            Phase::Heavy => self.take_offer(seat, item),
+        }
+    }
+
     /// Takes an edge in.
+    #[inline(always)]
     fn take_edge(&mut self, item: Item) -> Result<(), NoMemory>
         requires first { self.old.phase ≡ First }
         requires row { item.a < self.old.rows }
         requires col { item.b < self.old.rows }
         ensures ok { OnOk result (self.new ≡ absorbed_in First self.old item) }
-        ensures err { OnErr result (self.new.outgoing ≡ self.old.outgoing) }
+        ensures err { OnErr result (self.new ≡ self.old) }
     {
         self.arriving
             .raise(item.a as u32, item.b as u32, value_of(item.c))?;
@@ -227,6 +279,7 @@ impl Delta {
     }
 
     /// Hears of a bucket.
+    #[inline(always)]
     fn hear(&mut self, bucket: u64)
         ensures { self.new ≡ record self.old { bucket = min self.old.bucket bucket } }
     {
@@ -234,12 +287,14 @@ impl Delta {
     }
 
     /// Takes the offer of a weight in, where its vertex is an own one.
-    fn take_offer(&mut self, item: Item) -> Result<(), NoMemory>
+    #[inline(always)]
+    fn take_offer(&mut self, seat: Seat, item: Item) -> Result<(), NoMemory>
+        requires seat { IsSeat seat self.old }
         ensures ok { OnOk result (self.new ≡ record self.old { vertices = offered self.old item }) }
-        ensures err { OnErr result (self.new.outgoing ≡ self.old.outgoing) }
+        ensures err { OnErr result (self.new ≡ self.old) }
     {
-        if item.a < self.rows as u64 && item.a as u32 % self.ranks == self.rank {
-            self.vertices.improve(item.a as u32 / self.ranks, item.b)?;
+        if item.a < seat.rows as u64 && item.a as u32 % seat.ranks == seat.rank {
+            self.vertices.improve(item.a as u32 / seat.ranks, item.b)?;
         }
         Ok(())
     }

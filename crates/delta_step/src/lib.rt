@@ -16,6 +16,7 @@
 mod delta;
 mod delta_run;
 mod phase;
+mod seat;
 #[cfg(test)]
 mod tests;
 

@@ -1,0 +1,17 @@
+-- What a batch of cells, each with its sender, makes of the cells of a rank.
+use Rattle.std.specs.Prelude.{ℕ, cond, List}
+use Rattle.std.specs.List.{fold}
+use Rattle.bale_types.specs.declared.Item.{Item}
+use Rattle.bale_types.specs.declared.triple.Triple.{Triple}
+use Rattle.mtx_text.specs.Cells.{raised}
+use Rattle.app_permute.specs.declared.carried.RowOwner.{RowOwner}
+use Rattle.app_permute.specs.Carried.{cell_of, may_cell}
+
+-- One cell is taken in where the rank owns its row, and else dropped.
+abbrev pub own_raised : RowOwner → List Triple → ℕ → Item → List Triple
+own_raised owner cells from x = cond (may_cell owner.rows owner.cols owner.ranks owner.rank from x) (raised (cell_of x) cells) cells
+
+-- All of them, in order.
+-- all_raised of rank 1 of 2: of (0,(3,0,7)), (0,(2,0,9)) the first alone
+abbrev pub all_raised : RowOwner → List Triple → List (ℕ × Item) → List Triple
+all_raised owner cells came = fold (λ l e. own_raised owner l e.0 e.1) cells came

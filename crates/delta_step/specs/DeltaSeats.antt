@@ -1,0 +1,15 @@
+-- What a rank of delta-stepping is sent, and makes of it, depends on.
+use Rattle.std.specs.Prelude.{◌≡◌, ◌<◌}
+use Rattle.delta_step.specs.declared.seat.Seat.{Seat}
+use Rattle.delta_step.specs.declared.phase.Phase.TheVariants.{First}
+use Rattle.delta_step.specs.Deltas.{DeltaState}
+
+-- the seat is that of a state
+pub record IsSeat (seat : Seat) (s : DeltaState) : Type 0 where
+  pub own : seat.rank < seat.ranks
+  pub rank : seat.rank ≡ s.rank
+  pub ranks : seat.ranks ≡ s.ranks
+  pub rows : seat.rows ≡ s.rows
+  pub round : seat.round ≡ s.round
+  pub phase : seat.phase ≡ s.phase
+  pub early : seat.phase ≡ First → seat.round ≡ 0

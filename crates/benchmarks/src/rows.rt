@@ -10,7 +10,7 @@ use std::alloc::Global;
 /// A measurement.
 #[derive(Clone, Copy)]
 pub(crate) struct Job {
-    /// 0 for the plain bank, else slot links.
+    /// 0 for the plain bank with one rank, 1 for slot links, 2 for the plain bank with all ranks.
     pub(crate) bank: u64,
     /// The number of hops, or the number of ranks in a row.
     pub(crate) hops: u64,
@@ -31,7 +31,7 @@ pub(crate) fn measure(alloc: Global, job: Job) -> Result<u64, NoMemory> {
     }
 }
 
-/// The same on a grid; on the plain bank on one of one rank.
+/// The same on a grid, or on one of one rank.
 fn on_grid<const HOPS: usize>(
     alloc: Global,
     job: Job,
@@ -61,9 +61,9 @@ fn over<const CAP: usize, const HOPS: usize>(
     requires small { CAP ≤ 1024 }
     requires hops { length grid.now ≡ HOPS }
 {
-    if job.bank == 0 {
-        over_plain::<CAP, HOPS>(alloc, job, grid)
-    } else {
+    if job.bank == 1 {
         over_slots::<CAP, HOPS>(alloc, job, grid)
+    } else {
+        over_plain::<CAP, HOPS>(alloc, job, grid)
     }
 }

@@ -1,7 +1,9 @@
-//! One rank of a benchmark: its conveyor and its port, which agree.
+//! One rank of a benchmark: its conveyor, which turns at the port that it is lent.
 ghost use Rattle.std.specs.Prelude.{◌≡◌, ◌≢◌, ◌<◌, ◌≤◌, [], false, length, IfOk};
 ghost use Rattle.route_tensor.specs.Grid.{ranks};
-ghost use Rattle.convey.specs.Conveyors.{AgreesWith};
+ghost use Rattle.convey.specs.Buffers.{buffers_of};
+ghost use Rattle.convey.specs.Conveyors.{AgreesWith, KeepsAgreement};
+ghost use Rattle.convey.specs.Law.{IsSound};
 
 use crate::sending::push_some;
 use crate::taking::sum_all;
@@ -13,9 +15,8 @@ use std::alloc::Global;
 
 /// A rank that sends items to ranks of its choice and sums those that come.
 #[derive(Drop)]
-pub(crate) struct Side<P: Port<CAP>, const CAP: usize, const HOPS: usize> {
-    conveyor: Conveyor<CAP, HOPS>,
-    port: P,
+pub(crate) struct Side<const CAP: usize, const HOPS: usize> {
+    pub(crate) conveyor: Conveyor<CAP, HOPS>,
     rank_count: u32,
     /// Chooses the receivers.
     seed: u64,
@@ -28,29 +29,26 @@ pub(crate) struct Side<P: Port<CAP>, const CAP: usize, const HOPS: usize> {
     ghost same_count: { ranks conveyor.dims ≡ rank_count },
     ghost same_done: { conveyor.done ≡ done },
     ghost same_epoch: { conveyor.epoch ≡ epoch },
-    ghost same_dims: { P.dims port ≡ conveyor.dims },
-    ghost same_rank: { P.rank port ≡ conveyor.rank },
 }
 
-impl<P: Port<CAP>, const CAP: usize, const HOPS: usize> Side<P, CAP, HOPS> {
+impl<const CAP: usize, const HOPS: usize> Side<CAP, HOPS> {
     ghost use Rattle.std.specs.Prelude.{[]};
 
-    /// The conveyor of a rank over a port on which nothing was sent.
-    pub(crate) fn new(alloc: Global, grid: &Grid, rank: u32, port: P) -> Result<Self, NoMemory>
+    /// The conveyor of a rank.
+    pub(crate) fn new(alloc: Global, grid: &Grid, rank: u32) -> Result<Self, NoMemory>
         requires some { 0 < CAP }
         requires small { CAP ≤ 1024 }
         requires hops { length grid.now ≡ HOPS }
         requires rank { rank < ranks grid.now }
-        requires same_dims { P.dims port ≡ grid.now }
-        requires same_rank { P.rank port ≡ rank }
-        requires none_sent { P.sent port ≡ (λ l. []) }
-        requires none_got { P.got port ≡ (λ l. []) }
-        ensures agrees { IfOk result (λ s. AgreesWith s.conveyor (P.sent s.port) (P.got s.port)) }
+        ensures same_dims { IfOk result (λ s. s.conveyor.dims ≡ grid.now) }
+        ensures same_rank { IfOk result (λ s. s.conveyor.rank ≡ rank) }
+        ensures agrees { IfOk result (λ s. AgreesWith s.conveyor (λ l. []) (λ l. [])) }
+        ensures sound { IfOk result (λ s. IsSound (buffers_of s.conveyor)) }
     {
         let conveyor = Conveyor::new(alloc, grid, rank, false)?;
+        conveyor.known();
         Ok(Side {
             conveyor,
-            port,
             rank_count: grid.ranks(),
             seed: rank as u64 + 1,
             pushed: 0,
@@ -65,18 +63,51 @@ impl<P: Port<CAP>, const CAP: usize, const HOPS: usize> Side<P, CAP, HOPS> {
         self.sum
     }
 
-    /// Ends the epoch that is complete, if one is, and begins the next.
-    pub(crate) fn begin(&mut self)
-        requires agrees { AgreesWith self.old.conveyor (P.sent self.old.port) (P.got self.old.port) }
-        ensures agrees { AgreesWith self.new.conveyor (P.sent self.new.port) (P.got self.new.port) }
+    /// Begins an epoch if told so, pushes until a push is refused or `items` are pushed, advances once, and sums what came. Answers
+    /// whether the epoch is over.
+    pub(crate) fn turn<P: Port<CAP>>(
+        &mut self,
+        port: &mut P,
+        begins: bool,
+        items: u64,
+    ) -> Result<bool, NoMemory>
+        requires same_dims { P.dims port.old ≡ self.old.conveyor.dims }
+        requires same_rank { P.rank port.old ≡ self.old.conveyor.rank }
+        requires agrees { AgreesWith self.old.conveyor (P.sent port.old) (P.got port.old) }
+        ensures agrees { AgreesWith self.new.conveyor (P.sent port.new) (P.got port.new) }
+        ensures sound { IsSound (buffers_of self.new.conveyor) }
+        ensures self_dims { self.new.conveyor.dims ≡ self.old.conveyor.dims }
+        ensures self_rank { self.new.conveyor.rank ≡ self.old.conveyor.rank }
+        ensures port_dims { P.dims port.new ≡ P.dims port.old }
+        ensures port_rank { P.rank port.new ≡ P.rank port.old }
+        ensures port_slots { P.slots port.new ≡ P.slots port.old }
+        ensures rest { P.rest port.new ≡ P.rest port.old }
     {
+        self.begin(begins);
+        self.push(items);
+        let over = self.advance(port, items);
+        self.take();
+        self.conveyor.known();
+        over
+    }
+
+    /// Where told so, ends the epoch that is complete, if one is, and begins the next.
+    fn begin(&mut self, begins: bool)
+        ensures kept { KeepsAgreement self.old.conveyor self.new.conveyor }
+        ensures same_dims { self.new.conveyor.dims ≡ self.old.conveyor.dims }
+        ensures same_rank { self.new.conveyor.rank ≡ self.old.conveyor.rank }
+    {
+        if !begins {
+            return;
+        }
         self.end();
         self.start();
     }
 
     fn end(&mut self)
-        requires agrees { AgreesWith self.old.conveyor (P.sent self.old.port) (P.got self.old.port) }
-        ensures agrees { AgreesWith self.new.conveyor (P.sent self.new.port) (P.got self.new.port) }
+        ensures kept { KeepsAgreement self.old.conveyor self.new.conveyor }
+        ensures same_dims { self.new.conveyor.dims ≡ self.old.conveyor.dims }
+        ensures same_rank { self.new.conveyor.rank ≡ self.old.conveyor.rank }
     {
         if self.conveyor.phase() != Phase::Complete || self.epoch >= 1_000_000 {
             return;
@@ -87,8 +118,9 @@ impl<P: Port<CAP>, const CAP: usize, const HOPS: usize> Side<P, CAP, HOPS> {
     }
 
     fn start(&mut self)
-        requires agrees { AgreesWith self.old.conveyor (P.sent self.old.port) (P.got self.old.port) }
-        ensures agrees { AgreesWith self.new.conveyor (P.sent self.new.port) (P.got self.new.port) }
+        ensures kept { KeepsAgreement self.old.conveyor self.new.conveyor }
+        ensures same_dims { self.new.conveyor.dims ≡ self.old.conveyor.dims }
+        ensures same_rank { self.new.conveyor.rank ≡ self.old.conveyor.rank }
     {
         if self.conveyor.phase() != Phase::Dormant {
             return;
@@ -97,34 +129,31 @@ impl<P: Port<CAP>, const CAP: usize, const HOPS: usize> Side<P, CAP, HOPS> {
         self.pushed = 0;
     }
 
-    /// Pushes until a push is refused or `items` are pushed, advances once, and sums what came. Answers whether the
-    /// epoch is over.
-    pub(crate) fn turn(&mut self, items: u64) -> Result<bool, NoMemory>
-        requires agrees { AgreesWith self.old.conveyor (P.sent self.old.port) (P.got self.old.port) }
-        ensures agrees { AgreesWith self.new.conveyor (P.sent self.new.port) (P.got self.new.port) }
-    {
-        self.push(items);
-        let over = self.advance(items)?;
-        self.take();
-        Ok(over)
-    }
-
-    fn advance(&mut self, items: u64) -> Result<bool, NoMemory>
-        requires agrees { AgreesWith self.old.conveyor (P.sent self.old.port) (P.got self.old.port) }
-        ensures agrees { AgreesWith self.new.conveyor (P.sent self.new.port) (P.got self.new.port) }
+    fn advance<P: Port<CAP>>(&mut self, port: &mut P, items: u64) -> Result<bool, NoMemory>
+        requires same_dims { P.dims port.old ≡ self.old.conveyor.dims }
+        requires same_rank { P.rank port.old ≡ self.old.conveyor.rank }
+        requires agrees { AgreesWith self.old.conveyor (P.sent port.old) (P.got port.old) }
+        ensures agrees { AgreesWith self.new.conveyor (P.sent port.new) (P.got port.new) }
+        ensures self_dims { self.new.conveyor.dims ≡ self.old.conveyor.dims }
+        ensures self_rank { self.new.conveyor.rank ≡ self.old.conveyor.rank }
+        ensures port_dims { P.dims port.new ≡ P.dims port.old }
+        ensures port_rank { P.rank port.new ≡ P.rank port.old }
+        ensures port_slots { P.slots port.new ≡ P.slots port.old }
+        ensures rest { P.rest port.new ≡ P.rest port.old }
     {
         if self.conveyor.phase() == Phase::Dormant {
             return Ok(true);
         }
         let done = self.done || self.pushed >= items;
-        let progress = self.conveyor.advance(&mut self.port, done);
+        let progress = self.conveyor.advance(port, done);
         self.done = done;
         Ok(progress? == Progress::Complete)
     }
 
     fn take(&mut self)
-        requires agrees { AgreesWith self.old.conveyor (P.sent self.old.port) (P.got self.old.port) }
-        ensures agrees { AgreesWith self.new.conveyor (P.sent self.new.port) (P.got self.new.port) }
+        ensures kept { KeepsAgreement self.old.conveyor self.new.conveyor }
+        ensures same_dims { self.new.conveyor.dims ≡ self.old.conveyor.dims }
+        ensures same_rank { self.new.conveyor.rank ≡ self.old.conveyor.rank }
     {
         if self.conveyor.phase() == Phase::Dormant {
             return;
@@ -134,8 +163,9 @@ impl<P: Port<CAP>, const CAP: usize, const HOPS: usize> Side<P, CAP, HOPS> {
 
     /// Pushes items, where the epoch still takes them.
     fn push(&mut self, items: u64)
-        requires agrees { AgreesWith self.old.conveyor (P.sent self.old.port) (P.got self.old.port) }
-        ensures agrees { AgreesWith self.new.conveyor (P.sent self.new.port) (P.got self.new.port) }
+        ensures kept { KeepsAgreement self.old.conveyor self.new.conveyor }
+        ensures same_dims { self.new.conveyor.dims ≡ self.old.conveyor.dims }
+        ensures same_rank { self.new.conveyor.rank ≡ self.old.conveyor.rank }
     {
         if self.conveyor.phase() != Phase::Working || self.done {
             return;

@@ -21,5 +21,5 @@ mod Quiet
 mod Pushes
 mod Pulls
 pub mod Batched
-mod Together
+pub mod Together
 mod Stations

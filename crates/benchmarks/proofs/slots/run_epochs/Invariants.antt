@@ -4,4 +4,4 @@ use Rattle.convey.specs.Conveyors.{AgreesWith}
 use Rattle.benchmarks.proofs.slots.run_epochs.Given as goal
 
 abbrev pub invariant-loop : goal.invariant-loop
-invariant-loop g l = EachAt (λ k s. AgreesWith s.conveyor (posted_on s.port.seat) (collected_from s.port.seat)) l.sides.items
+invariant-loop g l = EachAt (λ k s. AgreesWith s.side.conveyor (posted_on s.port.seat) (collected_from s.port.seat)) l.sides.items

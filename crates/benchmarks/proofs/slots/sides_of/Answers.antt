@@ -1,4 +1,4 @@
-use Rattle.std.proofs.Common.{◌≡◌, ◌∙◌, true, sym, ap, subst, arith}
+use Rattle.std.proofs.Common.{◌∙◌, true, sym, ap, subst, arith}
 use Rattle.std.proofs.lemmas.List.{get_or-set_other}
 use Rattle.std.specs.Prelude.{slice_index_or}
 use Rattle.list_laws.specs.Lists.{EachAt}
@@ -12,8 +12,8 @@ loop-rank-preserved g c =
     let before = c.loop-rank.sides.items in
     let k = c.loop-rank.invariant in
     record {
-      agree = subst (EachAt (λ j s. AgreesWith s.conveyor (posted_on s.port.seat) (collected_from s.port.seat))) (sym c.in_ok-push.ensures.items)
-          (each_push (λ j s. AgreesWith s.conveyor (posted_on s.port.seat) (collected_from s.port.seat)) before c.in_ok-side.side k.agree c.in_ok-side.ensures.agrees);
+      agree = subst (EachAt (λ j s. AgreesWith s.side.conveyor (posted_on s.port.seat) (collected_from s.port.seat))) (sym c.in_ok-push.ensures.items)
+          (each_push (λ j s. AgreesWith s.side.conveyor (posted_on s.port.seat) (collected_from s.port.seat)) before c.in_ok-side.side k.agree c.in_ok-side.ensures.agrees);
       same_id = c.in_ok-side.ensures.same_bank.0 ∙ k.same_id;
       same_shape = c.in_ok-side.ensures.same_bank.1 ∙ k.same_shape;
       left = λ j low high.

@@ -6,6 +6,6 @@ use Rattle.benchmarks.proofs.slots.sweep.Given as goal
 
 abbrev pub invariant-loop-i : goal.invariant-loop-i
 invariant-loop-i g l = record {
-  agree : EachAt (λ k s. AgreesWith s.conveyor (posted_on s.port.seat) (collected_from s.port.seat)) l.sides.items;
+  agree : EachAt (λ k s. AgreesWith s.side.conveyor (posted_on s.port.seat) (collected_from s.port.seat)) l.sides.items;
   all : length l.sides.items ≡ length l.initial.sides.items;
 }

@@ -31,8 +31,11 @@ gather-requires-in-loop-seated g c =
 
 pub push_reserved-requires : goal.push_reserved-requires
 push_reserved-requires g c =
-    omega (arith, leave_left c.args.queries.now c.args.replies.now c.loop-seated.of_queries c.loop-seated.of_replies c.args.ended.items c.loop-seated.invariant.taken c.next.new.self c.loop-seated.seated-iterator c.loop-seated.nodes.items c.loop-seated.invariant.leaving
-    c.in-Some.seated c.in-Some.ensures.steps (vec_capacity c.loop-seated.nodes) c.loop-seated.invariant.room)
+    omega (
+      arith,
+      leave_left c.args.queries.now c.args.replies.now c.loop-seated.of_queries c.loop-seated.of_replies c.args.ended.items c.loop-seated.invariant.taken c.next.new.self c.loop-seated.seated-iterator c.loop-seated.nodes.items c.loop-seated.invariant.leaving
+          c.in-Some.seated c.in-Some.ensures.steps (vec_capacity c.loop-seated.nodes) c.loop-seated.invariant.room,
+    )
 
 pub loop-seated-preserved : goal.loop-seated-preserved
 loop-seated-preserved g c =

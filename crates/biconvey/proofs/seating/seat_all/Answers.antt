@@ -11,8 +11,11 @@ invariant_of-push_reserved g c =
 
 pub push_reserved-requires : goal.push_reserved-requires
 push_reserved-requires g c =
-    omega (arith, seat_left g.A.Asker.talk g.row.CAP c.args.queries.now c.args.replies.now c.requires.shape c.loop-node.of_queries c.loop-node.of_replies c.loop-node.number c.args.all.items c.loop-node.yielded c.next.new.self c.loop-node.node-iterator c.loop-node.seated.items c.loop-node.invariant.seating
-    c.in-Some.node c.in-Some.ensures.steps (vec_capacity c.loop-node.seated) c.loop-node.invariant.room)
+    omega (
+      arith,
+      seat_left g.A.Asker.talk g.row.CAP c.args.queries.now c.args.replies.now c.requires.shape c.loop-node.of_queries c.loop-node.of_replies c.loop-node.number c.args.all.items c.loop-node.yielded c.next.new.self c.loop-node.node-iterator c.loop-node.seated.items c.loop-node.invariant.seating
+          c.in-Some.node c.in-Some.ensures.steps (vec_capacity c.loop-node.seated) c.loop-node.invariant.room,
+    )
 
 pub loop-node-preserved : goal.loop-node-preserved
 loop-node-preserved g c = record {

@@ -9,4 +9,4 @@ loop-rank-preserved g c =
     (c.into_prog.ensures ∙ ap (λ (n : RankState g.row.Q.Denot). n.node.run.prog) c.rank.view_is)
 
 pub returns : goal.returns
-returns g c = record { progs = taken_all c.args.all.items c.loop-rank.rank-iterator c.loop-rank.progs c.loop-rank.invariant c.in-None.ensures.steps.0; }
+returns g c = record { progs = taken_all c.args.all.items c.loop-rank.rank-iterator c.loop-rank.progs c.loop-rank.invariant c.in-None.ensures.steps.0 }

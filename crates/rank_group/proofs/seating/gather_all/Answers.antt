@@ -18,8 +18,11 @@ gather-requires g c =
 
 pub push_reserved-requires : goal.push_reserved-requires
 push_reserved-requires g c =
-    omega (arith, leave_left c.args.bank.now c.loop-seated.gather c.args.ended.items c.loop-seated.invariant.taken c.next.new.self c.loop-seated.seated-iterator c.loop-seated.ranks.items c.loop-seated.invariant.leaving
-    c.in-Some.seated c.in-Some.ensures.steps (vec_capacity c.loop-seated.ranks) c.loop-seated.invariant.room)
+    omega (
+      arith,
+      leave_left c.args.bank.now c.loop-seated.gather c.args.ended.items c.loop-seated.invariant.taken c.next.new.self c.loop-seated.seated-iterator c.loop-seated.ranks.items c.loop-seated.invariant.leaving
+          c.in-Some.seated c.in-Some.ensures.steps (vec_capacity c.loop-seated.ranks) c.loop-seated.invariant.room,
+    )
 
 pub loop-seated-preserved : goal.loop-seated-preserved
 loop-seated-preserved g c =

@@ -12,8 +12,11 @@ invariant_of-push_reserved g c =
 pub push_reserved-requires : goal.push_reserved-requires
 push_reserved-requires g c =
     let R = g.Q.Program.rules in
-    omega (arith, seat_left R g.row.CAP c.args.bank.now c.loop-rank.gather c.loop-rank.number c.args.all.items c.loop-rank.yielded c.next.new.self c.loop-rank.rank-iterator c.loop-rank.seated.items c.loop-rank.invariant.seating
-    c.in-Some.rank c.in-Some.ensures.steps (vec_capacity c.loop-rank.seated) c.loop-rank.invariant.room)
+    omega (
+      arith,
+      seat_left R g.row.CAP c.args.bank.now c.loop-rank.gather c.loop-rank.number c.args.all.items c.loop-rank.yielded c.next.new.self c.loop-rank.rank-iterator c.loop-rank.seated.items c.loop-rank.invariant.seating
+          c.in-Some.rank c.in-Some.ensures.steps (vec_capacity c.loop-rank.seated) c.loop-rank.invariant.room,
+    )
 
 pub loop-rank-preserved : goal.loop-rank-preserved
 loop-rank-preserved g c =

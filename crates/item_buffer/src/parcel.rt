@@ -49,7 +49,7 @@ impl<const CAP: usize> Parcel<CAP> {
         requires small { CAP ≤ 1024 }
         ensures { IfOk result (λ p. p ≡ blank 0) }
     {
-        let mut places = Vec::with_capacity(alloc, CAP)?;
+        let mut places = Vec::with_capacity(alloc, CAP + 2)?;
         places.resize(CAP, Entry::default())?;
         Ok(Parcel {
             places,

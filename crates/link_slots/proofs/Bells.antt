@@ -1,8 +1,8 @@
 -- A link's part of a doorbell under each step.
-use Rattle.std.proofs.Common.{◌≡◌, ℕ, zero, suc, ◌+◌, ◌^◌, ◌<◌, ◌≤◌, Bool, true, false, List, length, get_or, refl, sym, ap, ◌∙◌, inl, inr, ⊎_elim, arith}
-use Rattle.std.proofs.lemmas.Nat.Bits.{bit_at_or, bit_at-pow_same, bit_at-lt}
+use Rattle.std.proofs.Common.{◌≡◌, ℕ, zero, suc, ◌+◌, ◌*◌, ◌^◌, ◌<◌, ◌≤◌, Bool, true, false, List, length, get_or, refl, sym, ap, ◌∙◌, inl, inr, ⊎_elim, arith}
+use Rattle.std.proofs.lemmas.Nat.Bits.{and_pow, bit_at_or, bit_at-pow_same, bit_at-lt}
 use Rattle.std.specs.Int.{bit_at}
-use Rattle.std.specs.Int.Bits.{bit_or}
+use Rattle.std.specs.Int.Bits.{bit_or, bit_and, or_add_and}
 use Rattle.link_slots.specs.Logs.{OutLog, InLog}
 use Rattle.link_slots.specs.Wiring.{Wiring, bell_word}
 use Rattle.link_slots.specs.Link.{BellOk, one_where}
@@ -14,6 +14,10 @@ bit_stays n v c e = let p = bit_at_or n v c in let q = bit_at-lt v c in omega ar
 
 pub bit_comes : (n c : ℕ) → bit_at (bit_or n (2 ^ c)) c ≡ 1
 bit_comes n c = let p = bit_at_or n (2 ^ c) c in let q = bit_at-pow_same c in let r = bit_at-lt n c in omega arith
+
+-- to set a bit that is set changes nothing
+pub bit_again : (n c : ℕ) → bit_at n c ≡ 1 → bit_or n (2 ^ c) ≡ n
+bit_again n c e = let p = or_add_and n (2 ^ c) in let q : bit_and n (2 ^ c) ≡ 1 * 2 ^ c = and_pow n c ∙ ap (λ (z : ℕ). z * 2 ^ c) e in omega arith
 
 marked_case : (b : ℕ) (m : Bool) → b ≡ 1 → marked_by b m ≡ true
 marked_case zero m e = absurd (omega arith)

@@ -140,3 +140,8 @@ wired s is =
           let senders : sender_at dims l ≡ sender_at dims m = same_rank dims (sender_at dims l) (sender_at dims m) g.positive j.sender i.sender alike in
           sym (ends_number dims g l a) ∙ ap (λ (z : ℕ × ℕ × ℕ). link dims z.0 z.1 z.2) (λ q. (t.1 q, senders q, t.0 q)) ∙ ends_number dims g m b;
     }
+
+-- a rank sends on at most one link of a doorbell
+pub one_sender : (s : Shape) → IsShape s → (l m : ℕ) → l < links s.dims → m < links s.dims → (wiring s).bell l ≡ (wiring s).bell m → sender_at s.dims l ≡ sender_at s.dims m → l ≡ m
+one_sender s is l m a b bell from =
+    (wired s is).one_bit l m a b bell (ap (λ (z : ℕ × ℕ). coord s.dims z.0 z.1) (λ k. (from k, (same_bell s is l m a b bell).1 k)))

@@ -41,6 +41,12 @@ module _ {T : Type 0} where
   abbrev pub after_hear : Wiring → ℕ → ℕ → Logs T → Logs T
   after_hear w b n x = record { outs = x.outs; ins = heard_ins w b n x.ins }
 
+-- What a look before a step tells: where the step would leave the word as it is, the look is that step; else nothing is changed by it.
+-- Example: a look before a ring, where the link's bit is set already, is the ring.
+abbrev pub LookedFirst : {M : Type 0} → Bool → (M → Type 0) → M → M → Type 0
+LookedFirst true Done m m' = Done m'
+LookedFirst false Done m m' = m' ≡ m
+
 module _ {D T : Type 0} (Blank : T → Type 0) (Good : ℕ → List T → T → Type 0) (w : Wiring) where
   -- Look for room: the sender may post K more than were released, and takes the slots that came free.
   abbrev pub found_room : ℕ → Me T (View D T) → ℕ → Me T (View D T) → Type 0

@@ -1,5 +1,6 @@
 -- The plays of the slot bank's steps: the link, or the doorbell, is read off the word that the step is made on.
-use Rattle.std.specs.Prelude.{◌≡◌, ℕ, ◌+◌, ◌*◌, ◌^◌, ◌<◌}
+use Rattle.std.specs.Prelude.{◌≡◌, ℕ, ◌+◌, ◌*◌, ◌^◌, ◌<◌, eqb}
+use Rattle.std.specs.Int.{bit_at}
 use Rattle.item_buffer.specs.Contents.{Contents}
 use Rattle.atomic_table.specs.Table.{Me, State, Step}
 use Rattle.link_slots.specs.View.{View, own_logs, Speaks, speaking_for}
@@ -7,6 +8,7 @@ use Rattle.link_slots.specs.Wiring.{posted_word, released_word, bell_word}
 use Rattle.link_slots.specs.Hands.{Holds}
 use Rattle.link_slots.specs.Bank.{Lawful}
 use Rattle.link_slots.specs.Shape.{Shape, wiring, IsBlank, MayFollow, KeepsLaw}
+use Rattle.link_slots.specs.Plays.{LookedFirst}
 use Rattle.link_slots.specs.Plays as plays
 
 abbrev pub Knowing : Type 0
@@ -69,8 +71,16 @@ module _ (cap : ℕ) (st : Step Contents) (m : Me Contents Knowing) where
   abbrev pub parcel_told : ℕ → Me Contents Knowing → Type 0
   parcel_told n m' = (l : ℕ) → st.word ≡ released_word l → parcel_brought cap m.0.shape l m m'
 
+  -- A rank rings a doorbell for one link at most.
+  abbrev pub ring_look_told : ℕ → Me Contents Knowing → Type 0
+  ring_look_told n m' = (l : ℕ) → l < (wiring m.0.shape).links → (wiring m.0.shape).from l ≡ m.0.pick → st.word ≡ bell_word (wiring m.0.shape) l
+      → LookedFirst (eqb (bit_at n ((wiring m.0.shape).bit l)) 1) (rung cap m.0.shape l m) m m'
+
   abbrev pub ring_told : ℕ → Me Contents Knowing → Type 0
   ring_told n m' = (l : ℕ) → l < (wiring m.0.shape).links → st.word ≡ bell_word (wiring m.0.shape) l → st.first ≡ 2 ^ (wiring m.0.shape).bit l → rung cap m.0.shape l m m'
+
+  abbrev pub hear_look_told : ℕ → Me Contents Knowing → Type 0
+  hear_look_told n m' = (b : ℕ) → st.word ≡ 16 * (2 * (wiring m.0.shape).links + b) → LookedFirst (eqb n 0) (heard cap m.0.shape b m n) m m'
 
   abbrev pub hear_told : ℕ → Me Contents Knowing → Type 0
   hear_told n m' = (b : ℕ) → st.word ≡ 16 * (2 * (wiring m.0.shape).links + b) → heard cap m.0.shape b m n m'

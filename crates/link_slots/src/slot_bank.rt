@@ -22,9 +22,9 @@ use crate::slot_bank::gather::GatherSeat;
 use crate::slot_bank::round::{SlotRound, close_table};
 use crate::table::plan::Plan;
 use crate::table::rule::{Board, Place};
+use crate::table::slot::Slot;
 use crate::table::wire::{Wire, wires_of};
 use bale_types::NoMemory;
-use item_buffer::Parcel;
 use route_tensor::Grid;
 use std::alloc::Global;
 use std::marker::Model;
@@ -74,12 +74,12 @@ impl<const CAP: usize> SlotBank<CAP> {
         let links = grid.links() as usize;
         let ranks = grid.ranks() as usize;
         let words = vec![in alloc; 0; 16 * (2 * links + ranks * grid.hops() as usize)]?;
-        let parcels = empty_parcels(alloc, slots as usize * links)?;
+        let places = empty_slots(alloc, slots as usize * links)?;
         let wires = wires_of(alloc, grid)?;
         let ends = all_ends(alloc, ranks, links)?;
         let ended = none_ended(alloc, ranks)?;
         let plan = Plan { grid: *grid, slots };
-        let (board, place) = table_of(alloc, words.as_slice(), parcels, &plan)?;
+        let (board, place) = table_of(alloc, words.as_slice(), places, &plan)?;
         let bank = SlotBank {
             board,
             wires,
@@ -114,7 +114,7 @@ impl<const CAP: usize> SlotBank<CAP> {
         } = g;
         let badge = place.into_badge();
         let last = Snapshot::of(&badge);
-        close_table(board, badge.into_seat::<Parcel<CAP>>());
+        close_table(board, badge.into_seat::<Slot<CAP>>());
         SlotRound {
             grid,
             cap: CAP as u32,
@@ -125,40 +125,37 @@ impl<const CAP: usize> SlotBank<CAP> {
     }
 }
 
-/// So many empty parcels.
-fn empty_parcels<const CAP: usize>(
-    alloc: Global,
-    count: usize,
-) -> Result<Vec<Parcel<CAP>>, NoMemory>
+/// So many slots, each with an empty parcel.
+fn empty_slots<const CAP: usize>(alloc: Global, count: usize) -> Result<Vec<Slot<CAP>>, NoMemory>
     requires some { 0 < CAP }
     requires small { CAP ≤ 1024 }
     ensures { IfOk result (λ v. v.items ≡ replicate count (blank 0)) }
 {
-    let mut parcels = Vec::with_capacity(alloc, count)?;
+    let mut slots = Vec::with_capacity(alloc, count)?;
     for _ in 0..count {
-        let parcel = Parcel::new(alloc)?;
-        if parcels.push(parcel).is_err() {
+        let slot = Slot::new(alloc)?;
+        if slots.push(slot).is_err() {
             return Err(NoMemory);
         }
     }
-    Ok(parcels)
+    Ok(slots)
 }
 
 /// The table of a bank, and its first seat.
 fn table_of<const CAP: usize>(
     alloc: Global,
     words: &[u64],
-    parcels: Vec<Parcel<CAP>>,
+    slots: Vec<Slot<CAP>>,
     plan: &Plan,
 ) -> Result<(Board<CAP>, Place<CAP>), NoMemory>
-    requires { IsLawful CAP plan.now (opening words.now parcels.items (first_view plan.now (ranks plan.now.dims) (links plan.now.dims))) }
+    requires { IsLawful CAP plan.now (opening words.now slots.items (first_view plan.now (ranks plan.now.dims) (links plan.now.dims))) }
     ensures words { IfOk result (λ t. t.0.shared.table_id.words ≡ length words.now) }
-    ensures slots { IfOk result (λ t. t.0.shared.table_id.slots ≡ length parcels.entry.items) }
+    ensures slots { IfOk result (λ t. t.0.shared.table_id.slots ≡ length slots.entry.items) }
     ensures key { IfOk result (λ t. t.0.shared.key ≡ plan.now) }
     ensures table { IfOk result (λ t. t.1.table_id ≡ t.0.shared.table_id) }
     ensures seat { IfOk result (λ t. t.1.me ≡ (first_view plan.now (ranks plan.now.dims) (links plan.now.dims), [])) }
 {
-    match Board::new(alloc, words, parcels, plan) {
+    match Board::new(alloc, words, slots, plan) {
         Ok(made) => Ok(made),
         Err(_refused) => Err(NoMemory),
     }

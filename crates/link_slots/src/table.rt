@@ -3,6 +3,7 @@
 pub(crate) mod plan;
 pub(crate) mod plays;
 pub(crate) mod rule;
+pub(crate) mod slot;
 pub(crate) mod steps;
 pub(crate) mod view;
 pub(crate) mod wire;

@@ -9,9 +9,9 @@ ghost use Rattle.link_slots.specs.Closed.{IsSettled, ended_of};
 
 use crate::seat::rank_ends::EndedCounts;
 use crate::table::rule::{Board, Place};
+use crate::table::slot::Slot;
 use crate::table::view::Knows;
 use atomic_table::{Badge, Closed};
-use item_buffer::Parcel;
 use route_tensor::Grid;
 use std::alloc::Global;
 use std::marker::Model;
@@ -83,7 +83,7 @@ pub(crate) fn close_table<const CAP: usize>(board: Board<CAP>, place: Place<CAP>
 }
 
 /// Drops all parcels of a table that no seat shares any more.
-fn empty_out<const CAP: usize>(mut closed: Closed<Parcel<CAP>, Global>)
+fn empty_out<const CAP: usize>(mut closed: Closed<Slot<CAP>, Global>)
     requires { IsFull closed.slots }
 {
     let mut i = 0;

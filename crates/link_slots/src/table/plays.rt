@@ -1,66 +1,80 @@
 //! What each kind of step tells the seat that makes it.
-ghost use Rattle.link_slots.specs.Told.{room_told, post_told, look_told, release_told, spare_told, parcel_told, ring_told, hear_told, pick_told};
+ghost use Rattle.link_slots.specs.Told.{room_told, post_told, look_told, release_told, spare_told, parcel_told, ring_look_told, ring_told, hear_look_told, hear_told, pick_told};
 ghost use Rattle.link_slots.specs.View.{without_pick, pick_alone, emptied, gathered, spent};
 ghost use Rattle.link_slots.specs.Shape.{nowhere};
 
+use crate::table::slot::Slot;
 use crate::table::view::Knows;
 use atomic_table::{Join, Play, Split};
-use item_buffer::Parcel;
 
 pub(crate) struct LookForRoom;
 
-impl<const CAP: usize> Play<Parcel<CAP>, Knows> for LookForRoom {
+impl<const CAP: usize> Play<Slot<CAP>, Knows> for LookForRoom {
     ghost then = { room_told CAP };
 }
 
 pub(crate) struct Post;
 
-impl<const CAP: usize> Play<Parcel<CAP>, Knows> for Post {
+impl<const CAP: usize> Play<Slot<CAP>, Knows> for Post {
     ghost then = { post_told CAP };
 }
 
 pub(crate) struct LookIn;
 
-impl<const CAP: usize> Play<Parcel<CAP>, Knows> for LookIn {
+impl<const CAP: usize> Play<Slot<CAP>, Knows> for LookIn {
     ghost then = { look_told CAP };
 }
 
 pub(crate) struct Release;
 
-impl<const CAP: usize> Play<Parcel<CAP>, Knows> for Release {
+impl<const CAP: usize> Play<Slot<CAP>, Knows> for Release {
     ghost then = { release_told CAP };
 }
 
 /// The seat lays down what it holds, and takes it up with the slot of the link's next post last.
 pub(crate) struct BringSpare;
 
-impl<const CAP: usize> Play<Parcel<CAP>, Knows> for BringSpare {
+impl<const CAP: usize> Play<Slot<CAP>, Knows> for BringSpare {
     ghost then = { spare_told CAP };
 }
 
 /// The same, with the slot of the link's next parcel last.
 pub(crate) struct BringParcel;
 
-impl<const CAP: usize> Play<Parcel<CAP>, Knows> for BringParcel {
+impl<const CAP: usize> Play<Slot<CAP>, Knows> for BringParcel {
     ghost then = { parcel_told CAP };
+}
+
+/// A look at the doorbell, which is the ring where the link's bit is set already.
+pub(crate) struct LookBeforeRing;
+
+impl<const CAP: usize> Play<Slot<CAP>, Knows> for LookBeforeRing {
+    ghost then = { ring_look_told CAP };
 }
 
 pub(crate) struct Ring;
 
-impl<const CAP: usize> Play<Parcel<CAP>, Knows> for Ring {
+impl<const CAP: usize> Play<Slot<CAP>, Knows> for Ring {
     ghost then = { ring_told CAP };
+}
+
+/// A look at the doorbell, which is the hear where no bit is set.
+pub(crate) struct LookBeforeHear;
+
+impl<const CAP: usize> Play<Slot<CAP>, Knows> for LookBeforeHear {
+    ghost then = { hear_look_told CAP };
 }
 
 pub(crate) struct Hear;
 
-impl<const CAP: usize> Play<Parcel<CAP>, Knows> for Hear {
+impl<const CAP: usize> Play<Slot<CAP>, Knows> for Hear {
     ghost then = { hear_told CAP };
 }
 
 /// The rank whose lists go next is the number of the word.
 pub(crate) struct PickRank;
 
-impl<const CAP: usize> Play<Parcel<CAP>, Knows> for PickRank {
+impl<const CAP: usize> Play<Slot<CAP>, Knows> for PickRank {
     ghost then = { pick_told CAP };
 }
 

@@ -1,14 +1,14 @@
 //! The table of a bank, and its rule.
 use crate::table::plan::Plan;
+use crate::table::slot::Slot;
 use crate::table::view::Knows;
 use atomic_table::{Seat, Shared, Table, TableRule};
-use item_buffer::Parcel;
 use std::alloc::Global;
 
 /// The rule of the table: between any two steps the bank is lawful.
 pub struct Links<const CAP: usize>;
 
-impl<const CAP: usize> TableRule<Parcel<CAP>, Knows, Plan> for Links<CAP> {
+impl<const CAP: usize> TableRule<Slot<CAP>, Knows, Plan> for Links<CAP> {
     ghost use Rattle.route_tensor.specs.Grid.{ranks};
     ghost use Rattle.route_tensor.specs.Link.{links};
     ghost use Rattle.link_slots.specs.View.{first_view};
@@ -21,8 +21,8 @@ impl<const CAP: usize> TableRule<Parcel<CAP>, Knows, Plan> for Links<CAP> {
 
 /// Word `2 * link` counts the parcels posted on a link, word `2 * link + 1` those released by its reader, and behind
 /// these words stand the doorbells. Word number `n` stands at word `16 * n` of the table, on cache lines of its own. Slot `slots * link + n % slots` is the way of parcel number n.
-pub(crate) type Board<const CAP: usize> = Table<Parcel<CAP>, Knows, Plan, Links<CAP>, Global>;
+pub(crate) type Board<const CAP: usize> = Table<Slot<CAP>, Knows, Plan, Links<CAP>, Global>;
 
-pub(crate) type Top<const CAP: usize> = Shared<Parcel<CAP>, Knows, Plan, Links<CAP>>;
+pub(crate) type Top<const CAP: usize> = Shared<Slot<CAP>, Knows, Plan, Links<CAP>>;
 
-pub(crate) type Place<const CAP: usize> = Seat<Parcel<CAP>, Knows>;
+pub(crate) type Place<const CAP: usize> = Seat<Slot<CAP>, Knows>;

@@ -15,7 +15,8 @@ ghost use Rattle.link_slots.specs.Shape.{IsBoard, wiring, IsBlank, MayFollow, Ke
 ghost use Rattle.link_slots.specs.Told.{IsManned, room_found, posted, looked_in, released, spare_brought, parcel_brought, rung, heard};
 
 use crate::table::plays::{
-    BringParcel, BringSpare, Hear, LookForRoom, LookIn, Post, Release, Ring,
+    BringParcel, BringSpare, Hear, LookBeforeHear, LookBeforeRing, LookForRoom, LookIn, Post,
+    Release, Ring,
 };
 use crate::table::rule::{Place, Top};
 use item_buffer::Parcel;
@@ -62,7 +63,7 @@ pub(crate) fn swap<const CAP: usize>(
     ensures swapped { (place.new.me ≡ (place.old.me.0, (slot, parcel.old) ∷ rest place.old.me.1)) × (place.old.me.1 ≡ (slot, parcel.new) ∷ rest place.old.me.1) }
 {
     let held = place.slot_mut(top, slot);
-    mem::swap(held, parcel);
+    mem::swap(&mut held.parcel, parcel);
 }
 
 /// Posts the parcel at hand through the link's next slot, and leaves the empty one that was there.
@@ -90,7 +91,8 @@ pub(crate) fn send<const CAP: usize>(
     top.fetch_add::<Post>(place, 16 * (2 * link as usize), 1);
 }
 
-/// Sets the link's bit of its reader's doorbell, for all parcels posted so far.
+/// Sets the link's bit of its reader's doorbell, for all parcels posted so far. It looks first, for all senders of the reader
+/// share the doorbell's cache line: where the bit is set already, nothing is written.
 pub(crate) fn ring<const CAP: usize>(
     top: &Top<CAP>,
     place: &mut Place<CAP>,
@@ -106,10 +108,13 @@ pub(crate) fn ring<const CAP: usize>(
     ensures seat { IsManned top.now.key place.new.me }
     ensures rung { place.new.me.0 ≡ with_logs place.old.me.0 (with_out (own_logs place.old.me.0) link (all_offered (out_of (own_logs place.old.me.0) link))) }
 {
-    top.fetch_or::<Ring>(place, word, mask);
+    if top.load::<LookBeforeRing>(place, word) & mask == 0 {
+        top.fetch_or::<Ring>(place, word, mask);
+    }
 }
 
-/// Empties the doorbell of the link's hop, and answers the bits that were set. It marks their links.
+/// Empties the doorbell of the link's hop, and answers the bits that were set. It marks their links. It looks first: where no bit
+/// is set, nothing is written.
 pub(crate) fn hear<const CAP: usize>(
     top: &Top<CAP>,
     place: &mut Place<CAP>,
@@ -124,6 +129,9 @@ pub(crate) fn hear<const CAP: usize>(
     ensures seat { IsManned top.now.key place.new.me }
     ensures heard { place.new.me.0 ≡ with_logs place.old.me.0 (after_hear (wiring top.now.key) ((wiring top.now.key).bell link) result (own_logs place.old.me.0)) }
 {
+    if top.load::<LookBeforeHear>(place, word) == 0 {
+        return 0;
+    }
     top.swap::<Hear>(place, word, 0)
 }
 

@@ -299,7 +299,41 @@ fn doorbells_by_hand(rt: HostRuntime) -> Result<(), Fail> {
             heard: 1,
             look_ins: [1, 0],
         },
+        Row {
+            call: Call::Post(8),
+            hears: 3,
+            heard: 1,
+            look_ins: [1, 0],
+        },
+        // Its ring finds the bit set.
+        Row {
+            call: Call::Post(9),
+            hears: 3,
+            heard: 1,
+            look_ins: [1, 0],
+        },
+        // Got, by one hear and one look in for both parcels.
+        Row {
+            call: Call::CollectOne(Some(8)),
+            hears: 4,
+            heard: 2,
+            look_ins: [2, 0],
+        },
+        // Got, without a step of looking.
+        Row {
+            call: Call::CollectOne(Some(9)),
+            hears: 4,
+            heard: 2,
+            look_ins: [2, 0],
+        },
+        // Nothing, by a hear.
+        Row {
+            call: Call::CollectOne(None),
+            hears: 5,
+            heard: 2,
+            look_ins: [2, 0],
+        },
     ];
-    assert_eq!(rt; rows_kept(rt.alloc(), &rows)?, 6);
+    assert_eq!(rt; rows_kept(rt.alloc(), &rows)?, 11);
     Ok(())
 }

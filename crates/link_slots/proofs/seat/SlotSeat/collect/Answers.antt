@@ -42,24 +42,27 @@ collect_on-answer-requires g c =
       (
         omega arith,
         (
-          (ap (λ (z : Manning). z.id) c.self.view_is ∙ (c.requires.bank.0 ∙ sym (ap (λ (z : Bank). z.id) c.bank.view_is)), c.bank.invariant.board),
+          omega arith,
           (
-            subst (λ (z : Shape). IsManned z c.self.inside.place.me) e s.manned,
+            (ap (λ (z : Manning). z.id) c.self.view_is ∙ (c.requires.bank.0 ∙ sym (ap (λ (z : Bank). z.id) c.bank.view_is)), c.bank.invariant.board),
             (
-              subst (λ (z : Shape). (l < links z.dims) × (reader_at z.dims l ≡ v.pick)) e (inside, mine ∙ sym s.rank_is),
+              subst (λ (z : Shape). IsManned z c.self.inside.place.me) e s.manned,
               (
-                c.bank.invariant.slots_is,
+                subst (λ (z : Shape). (l < links z.dims) × (reader_at z.dims l ≡ v.pick)) e (inside, mine ∙ sym s.rank_is),
                 (
-                  subst (λ (z : Shape). length (own_logs v).ins ≡ links z.dims) e s.lists_in,
+                  c.bank.invariant.slots_is,
                   (
-                    subst (λ (z : Shape). IsInEnd z.slots (in_of (own_logs v) l) end.taken end.place end.waiting end.look_ins end.noted) e counts,
+                    subst (λ (z : Shape). length (own_logs v).ins ≡ links z.dims) e s.lists_in,
                     (
-                      way,
+                      subst (λ (z : Shape). IsInEnd z.slots (in_of (own_logs v) l) end.taken end.place end.waiting end.look_ins end.noted) e counts,
                       (
-                        subst (λ (z : Shape × ℕ × ℕ). IsHeard z.0 z.1 z.2 (own_logs v) ear.marks ear.hears) (λ k. (e k, sym s.rank_is k, sym hop k)) heard,
+                        way,
                         (
-                          subst (λ (z : Shape). AreGood g.row.CAP z l (in_of (own_logs v) l)) e (s.each_good l inside mine),
-                          c.requires.empty ∙ ap blank (sym (ap (λ (z : Contents). z.epoch) c.requires.empty)),
+                          subst (λ (z : Shape × ℕ × ℕ). IsHeard z.0 z.1 z.2 (own_logs v) ear.marks ear.hears) (λ k. (e k, sym s.rank_is k, sym hop k)) heard,
+                          (
+                            subst (λ (z : Shape). AreGood g.row.CAP z l (in_of (own_logs v) l)) e (s.each_good l inside mine),
+                            c.requires.empty ∙ ap blank (sym (ap (λ (z : Contents). z.epoch) c.requires.empty)),
+                          ),
                         ),
                       ),
                     ),

@@ -33,24 +33,27 @@ post_on-answer-requires g c =
       (
         omega arith,
         (
-          (ap (λ (z : Manning). z.id) c.self.view_is ∙ (c.requires.bank.0 ∙ sym (ap (λ (z : Bank). z.id) c.bank.view_is)), c.bank.invariant.board),
+          omega arith,
           (
-            subst (λ (z : Shape). IsManned z c.self.inside.place.me) e s.manned,
+            (ap (λ (z : Manning). z.id) c.self.view_is ∙ (c.requires.bank.0 ∙ sym (ap (λ (z : Bank). z.id) c.bank.view_is)), c.bank.invariant.board),
             (
-              subst (λ (z : Shape). (l < links z.dims) × (sender_at z.dims l ≡ v.pick)) e (inside, mine ∙ sym s.rank_is),
+              subst (λ (z : Shape). IsManned z c.self.inside.place.me) e s.manned,
               (
-                c.bank.invariant.slots_is,
+                subst (λ (z : Shape). (l < links z.dims) × (sender_at z.dims l ≡ v.pick)) e (inside, mine ∙ sym s.rank_is),
                 (
-                  long,
+                  c.bank.invariant.slots_is,
                   (
-                    subst (λ (z : Shape). IsOutEnd z.slots (out_of (own_logs v) l) end.sent end.place end.spare) e counts,
+                    long,
                     (
-                      way,
+                      subst (λ (z : Shape). IsOutEnd z.slots (out_of (own_logs v) l) end.sent end.place end.spare) e counts,
                       (
-                        subst (λ (z : Shape). MayFollow z.dims g.row.CAP l (out_of (own_logs v) l).sent c.args.parcel.now) e
-                            (may_follow v.shape.dims g.row.CAP c.self.inside.rank l (own_logs v) c.args.parcel.now inside mine c.requires.fresh c.len-fresh.ensures.fresh c.len-fresh.ensures.within epoch law),
-                        subst (λ (z : Shape × ℕ). KeepsLaw z.0.dims z.1 (sent_of (with_out (own_logs v) l (sent_more (out_of (own_logs v) l) c.args.parcel.now))) (got_of (own_logs v))) (λ k. (e k, sym s.rank_is k))
-                            (law_for v.shape.dims c.self.inside.rank l (own_logs v) c.args.parcel.now long law),
+                        way,
+                        (
+                          subst (λ (z : Shape). MayFollow z.dims g.row.CAP l (out_of (own_logs v) l).sent c.args.parcel.now) e
+                              (may_follow v.shape.dims g.row.CAP c.self.inside.rank l (own_logs v) c.args.parcel.now inside mine c.requires.fresh c.len-fresh.ensures.fresh c.len-fresh.ensures.within epoch law),
+                          subst (λ (z : Shape × ℕ). KeepsLaw z.0.dims z.1 (sent_of (with_out (own_logs v) l (sent_more (out_of (own_logs v) l) c.args.parcel.now))) (got_of (own_logs v))) (λ k. (e k, sym s.rank_is k))
+                              (law_for v.shape.dims c.self.inside.rank l (own_logs v) c.args.parcel.now long law),
+                        ),
                       ),
                     ),
                   ),

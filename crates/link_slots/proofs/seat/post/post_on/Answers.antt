@@ -17,18 +17,21 @@ send-requires g c =
       (
         omega arith,
         (
-          (c.make_room.ensures.table ∙ c.requires.table.0, c.requires.table.1),
+          omega arith,
           (
-            c.make_room.ensures.seat,
+            (c.make_room.ensures.table ∙ c.requires.table.0, c.requires.table.1),
             (
-              (c.requires.link.0, c.requires.link.1 ∙ sym (ap (λ (z : Knowing). z.pick) e)),
+              c.make_room.ensures.seat,
               (
-                (let s = c.make_room.ensures.end.spare_is in let n = c.if-end-eq0.false in omega arith),
+                (c.requires.link.0, c.requires.link.1 ∙ sym (ap (λ (z : Knowing). z.pick) e)),
                 (
-                  (let s = c.requires.slots in let p = c.make_room.ensures.end.place_is in ap (λ (z : ℕ). z * l + c.make_room.new.end.place) s ∙ ap (λ (z : ℕ). key.slots * l + z) p),
+                  (let s = c.make_room.ensures.end.spare_is in let n = c.if-end-eq0.false in omega arith),
                   (
-                    subst (λ (z : List Contents). MayFollow key.dims g.row.CAP l z c.args.parcel.now) (sym c.make_room.ensures.sent) c.requires.parcel,
-                    law_after v c.requires.seat.speaks l c.requires.long key.dims v1 c.args.parcel.now e c.make_room.ensures.sent c.requires.law,
+                    (let s = c.requires.slots in let p = c.make_room.ensures.end.place_is in ap (λ (z : ℕ). z * l + c.make_room.new.end.place) s ∙ ap (λ (z : ℕ). key.slots * l + z) p),
+                    (
+                      subst (λ (z : List Contents). MayFollow key.dims g.row.CAP l z c.args.parcel.now) (sym c.make_room.ensures.sent) c.requires.parcel,
+                      law_after v c.requires.seat.speaks l c.requires.long key.dims v1 c.args.parcel.now e c.make_room.ensures.sent c.requires.law,
+                    ),
                   ),
                 ),
               ),

@@ -20,8 +20,8 @@ table_of-requires g c =
     let items : c.in_ok-words.words.items ≡ replicate (16 * (2 * c.links-links.result + c.ranks-ranks.result * c.hops.result)) 0 = first_of (search rules, grind (arith, common_steps)) in
     let zeros : c.as_slice.result.now ≡ replicate (16 * (2 * links dims + ranks dims * length dims)) 0 =
     c.as_slice.ensures.value ∙ items ∙ (λ k. replicate (16 * (2 * l k + r k * h k)) 0) in
-    let blanks : c.in_ok-parcels.parcels.items ≡ replicate (c.args.slots * links dims) (blank 0) = c.in_ok-parcels.ensures ∙ (λ k. replicate (c.args.slots * l k) (blank 0)) in
-    (omega arith, (omega arith, opens_lawful g.row.CAP shape c.as_slice.result.now c.in_ok-parcels.parcels.items is zeros blanks))
+    let blanks : c.in_ok-places.places.items ≡ replicate (c.args.slots * links dims) (blank 0) = c.in_ok-places.ensures ∙ (λ k. replicate (c.args.slots * l k) (blank 0)) in
+    (omega arith, (omega arith, opens_lawful g.row.CAP shape c.as_slice.result.now c.in_ok-places.places.items is zeros blanks))
 
 pub invariant_of-bank : goal.invariant_of-bank
 invariant_of-bank g c =
@@ -31,7 +31,7 @@ invariant_of-bank g c =
     let items : c.in_ok-words.words.items ≡ replicate (16 * (2 * c.links-links.result + c.ranks-ranks.result * c.hops.result)) 0 = first_of (search rules, grind (arith, common_steps)) in
     let words : length c.as_slice.result.now ≡ 16 * (2 * links dims + ranks dims * length dims) =
     ap length c.as_slice.ensures.value ∙ ap length items ∙ length-replicate (16 * (2 * c.links-links.result + c.ranks-ranks.result * c.hops.result)) 0 ∙ (λ k. 16 * (2 * l k + r k * h k)) in
-    let slots : length c.in_ok-parcels.parcels.items ≡ c.args.slots * links dims = ap length c.in_ok-parcels.ensures ∙ length-replicate (c.args.slots * c.links-links.result) (blank 0) ∙ ap (λ n. c.args.slots * n) l in
+    let slots : length c.in_ok-places.places.items ≡ c.args.slots * links dims = ap length c.in_ok-places.ensures ∙ length-replicate (c.args.slots * c.links-links.result) (blank 0) ∙ ap (λ n. c.args.slots * n) l in
     subst (λ (s : Shape). IsWiredUp g.row.CAP s c.in_ok-board.board.shared.table_id c.args.slots dims c.in_ok-wires.wires.items) (sym c.in_ok-board.ensures.key) (record {
       small = c.requires.small;
       board = record { shape = is_shape dims c.args.slots c.links-links.ensures.grid c.requires.slots; words = c.in_ok-board.ensures.words ∙ words; slots = c.in_ok-board.ensures.slots ∙ slots };

@@ -11,6 +11,7 @@ pub mod Decides
 pub mod DigitLanes
 pub mod Digits
 pub mod Distributed
+pub mod IndexChains
 pub mod Keys
 pub mod Lawful
 pub mod Merged

@@ -8,7 +8,7 @@ ghost use Rattle.std.specs.List.{All, AllPairs};
 ghost use Rattle.mtx_text.specs.Sparse.{SamePlace};
 ghost use Rattle.mtx_text.specs.Chains.{IsWithin, LeadsTo, NextsLead, IsRowApart, row_of};
 
-use crate::links::{Axis, link};
+use crate::links::link;
 use bale_types::Triple;
 use std::alloc::{AllocError, Global};
 
@@ -26,7 +26,7 @@ pub(crate) fn are_apart(alloc: Global, side: u32, entries: &[Triple]) -> Result<
     let none = entries.len() as u32;
     let mut heads = vec![in alloc; none; side as usize]?;
     let mut nexts = vec![in alloc; none; entries.len()]?;
-    link(Axis::Row, side, entries, &mut heads, &mut nexts);
+    link(side, entries, &mut heads, &mut nexts);
     let mut stamps = zeros(alloc, side as usize)?;
     for row in 0..side {
         let head = heads[row as usize];

@@ -63,10 +63,7 @@ impl Cells {
         ensures ok { OnOk result (self.new ≡ raised (record { i = i; j = j; v = v }) self.old) }
         ensures err { OnErr result (self.new ≡ self.old) }
     {
-        let t = Triple { i, j, v };
-        let settled = settled_with(&self.triples, self.settled, t);
-        self.triples.push(t)?;
-        self.settled = settled;
+        self.triples.push(Triple { i, j, v })?;
         Ok(())
     }
 
@@ -100,8 +97,19 @@ impl Cells {
         if self.has(i, j) {
             return Ok(false);
         }
-        self.raise(i, j, v)?;
+        self.raise_in_order(Triple { i, j, v })?;
         Ok(true)
+    }
+
+    /// The same as `raise`. Where the cells are in order and `t` comes behind them all, they stay known to be.
+    fn raise_in_order(&mut self, t: Triple) -> Result<(), NoMemory>
+        ensures ok { OnOk result (self.new ≡ raised t self.old) }
+        ensures err { OnErr result (self.new ≡ self.old) }
+    {
+        let settled = settled_with(&self.triples, self.settled, t);
+        self.triples.push(t)?;
+        self.settled = settled;
+        Ok(())
     }
 
     /// Whether there is a value at row `i` and column `j`.

@@ -71,9 +71,7 @@ fn columns_of(alloc: Global, parts: &Parts, rank: u32) -> Result<Vec<u32>, NoMem
 {
     let mut columns = Vec::with_capacity(alloc, parts.len(rank))?;
     for x in 0..parts.len(rank) {
-        let Some((_number, entry)) = parts.get(rank, x) else {
-            unreachable!()
-        };
+        let (_number, entry) = parts.entry(rank, x);
         columns.push(entry.j)?;
     }
     Ok(columns)

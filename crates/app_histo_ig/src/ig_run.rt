@@ -66,9 +66,7 @@ fn own_of(alloc: Global, parts: &Parts, rank: u32) -> Result<Vec<(u32, u32)>, No
 {
     let mut own = Vec::with_capacity(alloc, parts.len(rank))?;
     for x in 0..parts.len(rank) {
-        let Some((number, entry)) = parts.get(rank, x) else {
-            unreachable!()
-        };
+        let (number, entry) = parts.entry(rank, x);
         own.push((number, entry.j))?;
     }
     Ok(own)
@@ -87,9 +85,7 @@ pub(crate) fn values_of(
 {
     let mut values = Vec::with_capacity(alloc, parts.len(rank))?;
     for x in 0..parts.len(rank) {
-        let Some((_number, entry)) = parts.get(rank, x) else {
-            unreachable!()
-        };
+        let (_number, entry) = parts.entry(rank, x);
         values.push((entry.j % ranks, value_sent(entry)))?;
     }
     Ok(values)

@@ -87,9 +87,7 @@ fn cells_of(
 {
     let mut outgoing = Vec::with_capacity(alloc, parts.len(rank))?;
     for x in 0..parts.len(rank) {
-        let Some((_number, entry)) = parts.get(rank, x) else {
-            unreachable!()
-        };
+        let (_number, entry) = parts.entry(rank, x);
         outgoing.push((entry.i % ranks, cell_sent(entry)))?;
     }
     Ok(outgoing)

@@ -69,9 +69,7 @@ fn turned_of(
 {
     let mut outgoing = Vec::with_capacity(alloc, parts.len(rank))?;
     for x in 0..parts.len(rank) {
-        let Some((_number, entry)) = parts.get(rank, x) else {
-            unreachable!()
-        };
+        let (_number, entry) = parts.entry(rank, x);
         outgoing.push((entry.j % ranks, cell_sent(turned(entry))))?;
     }
     Ok(outgoing)

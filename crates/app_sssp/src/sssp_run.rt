@@ -115,9 +115,7 @@ pub fn edges_of(
 {
     let mut edges = Vec::with_capacity(alloc, parts.len(rank))?;
     for x in 0..parts.len(rank) {
-        let Some((_number, entry)) = parts.get(rank, x) else {
-            unreachable!()
-        };
+        let (_number, entry) = parts.entry(rank, x);
         edges.push((entry.i % ranks, edge_sent(entry)))?;
     }
     Ok(edges)

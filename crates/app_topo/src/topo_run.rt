@@ -76,9 +76,7 @@ fn entries_of(alloc: Global, parts: &Parts, rank: u32) -> Result<Vec<Triple>, No
 {
     let mut entries = Vec::with_capacity(alloc, parts.len(rank))?;
     for x in 0..parts.len(rank) {
-        let Some((_number, entry)) = parts.get(rank, x) else {
-            unreachable!()
-        };
+        let (_number, entry) = parts.entry(rank, x);
         entries.push(entry)?;
     }
     Ok(entries)

@@ -5,7 +5,7 @@ use Rattle.std.specs.Option.{option_map}
 use Rattle.std.proofs.lemmas.Bool.{cases_lt, eq-eqb, ne_eqb}
 use Rattle.std.proofs.lemmas.Nat.{mod-mul-add, div-mul-add, div-add-mod', mul-le, le-div}
 use Rattle.std.proofs.Math.Nat.{add-div_right, mod-lt}
-use Rattle.std.proofs.lemmas.Option.{slice_get_past}
+use Rattle.std.proofs.lemmas.Option.{slice_get_past, slice_get_read}
 use Rattle.std.proofs.lemmas.List.FromFn.{get_or-map-range_with_len, length-map-range_with_len}
 use Rattle.list_laws.proofs.Lists.{find}
 use Rattle.sparse_rows.specs.Deals.{dealt}
@@ -149,12 +149,12 @@ pub part_some : (n : ℕ) (ts : List Triple) (r x : ℕ) (t : Triple) → r < n 
     → Some (x * n + r, t) ≡ slice_get (get_or (parts_of n ts) r []) x
 part_some n ts r x t l e = sym (part_get n ts r x l ∙ ap (option_map {U = ℕ × Triple} (λ t. (x * n + r, t))) e)
 
-pub part_none : (n : ℕ) (ts : List Triple) (r x : ℕ) → r < n → slice_get ts (x * n + r) ≡ None
-    → None ≡ slice_get (get_or (parts_of n ts) r []) x
-part_none n ts r x l e = sym (part_get n ts r x l ∙ ap (option_map {U = ℕ × Triple} (λ t. (x * n + r, t))) e)
-
-pub part_past : (n : ℕ) (ts : List Triple) (r x : ℕ) → r < n → length ts ≤ x → None ≡ slice_get (get_or (parts_of n ts) r []) x
-part_past n ts r x l far =
-    let some : 1 ≤ n = omega arith in
-    let up : x * 1 ≤ x * n = mul-le x 1 x n (omega arith) some in
-    part_none n ts r x l (slice_get_past ts (x * n + r) (omega arith))
+-- an entry of a part stands in the matrix, at its number
+pub part_entry : (n : ℕ) (ts : List Triple) (r x : ℕ) → r < n → x < length (get_or (parts_of n ts) r [])
+    → (x * n + r < length ts) × ((t : Triple) → t ≡ get_or ts (x * n + r) t → slice_get (get_or (parts_of n ts) r []) x ≡ Some (x * n + r, t))
+part_entry n ts r x l within =
+    let there = find (get_or (parts_of n ts) r []) x within in
+    elim (cases_lt (x * n + r) (length ts)) [
+      | inl inside ↦ (inside, λ t e. sym (part_some n ts r x t l (slice_get_read ts (length ts) (x * n + r) t refl inside e)))
+      | inr past ↦ (let none : slice_get (get_or (parts_of n ts) r []) x ≡ None = part_get n ts r x l ∙ ap (option_map {U = ℕ × Triple} (λ t. (x * n + r, t))) (slice_get_past ts (x * n + r) past) in absurd (cc))
+    ]

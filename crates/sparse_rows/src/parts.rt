@@ -1,5 +1,5 @@
 //! A matrix's entries dealt out to ranks, in turn.
-ghost use Rattle.std.specs.Prelude.{◌≡◌, ℕ, ◌<◌, ◌≤◌, [], length, slice_get, slice_index_or, IfOk};
+ghost use Rattle.std.specs.Prelude.{◌≡◌, ℕ, ◌<◌, ◌≤◌, [], Some, length, slice_get, slice_index_or, IfOk};
 ghost use Rattle.sparse_rows.specs.Parts.{parts_of};
 
 use bale_types::{NoMemory, Triple};
@@ -56,28 +56,14 @@ impl Parts {
         (self.entries.len() + (ranks - 1 - rank as usize)) / ranks
     }
 
-    /// Entry number `x`, from 0, of the part of a rank, with its number in the matrix; `None` exactly past the
-    /// part's end. The rank is below the number of parts.
-    #[tactic(auto, using(crate::proofs::Turns::parts_count, crate::proofs::Turns::part_past))]
-    pub fn get(&self, rank: u32, x: usize) -> Option<(u32, Triple)>
-        requires { rank < length self.now }
-        ensures { result ≡ slice_get (slice_index_or self.now rank []) x }
+    /// Entry number `x`, from 0, of the part of a rank, with its number in the matrix. The rank is below the number of
+    /// parts, and `x` below the part's length.
+    pub fn entry(&self, rank: u32, x: usize) -> (u32, Triple)
+        requires rank { rank < length self.now }
+        requires within { x < length (slice_index_or self.now rank []) }
+        ensures { slice_get (slice_index_or self.now rank []) x ≡ Some result }
     {
-        if x >= self.entries.len() {
-            return None;
-        }
         let e = x * self.ranks as usize + rank as usize;
-        match entry_at(&self.entries, e) {
-            Some(t) => Some((e as u32, t)),
-            None => None,
-        }
+        (e as u32, self.entries[e])
     }
-}
-
-/// Entry number `e`, where there is one.
-#[inline(always)]
-fn entry_at(entries: &Vec<Triple>, e: usize) -> Option<Triple>
-    ensures { result ≡ slice_get entries.now.items e }
-{
-    entries.as_slice().get(e).copied()
 }

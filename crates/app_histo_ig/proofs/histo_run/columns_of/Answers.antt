@@ -5,4 +5,4 @@ use Rattle.app_histo_ig.proofs.histo_run.columns_of.Goals as goal
 
 pub loop-x-preserved : goal.loop-x-preserved
 loop-x-preserved c =
-    fields_more (λ (e : Numbered). e.1.j) (get_or c.args.parts.now c.args.rank []) c.loop-x.x (c.in-Some._number, c.in-Some.entry) c.loop-x.columns.items _ c.loop-x.invariant (sym c.in-Some.ensures) c.in_ok-push.ensures.items
+    fields_more (λ (e : Numbered). e.1.j) (get_or c.args.parts.now c.args.rank []) c.loop-x.x c.entry-number.result c.loop-x.columns.items _ c.loop-x.invariant c.entry-number.ensures c.in_ok-push.ensures.items

@@ -7,5 +7,5 @@ use Rattle.app_histo_ig.proofs.ig_run.values_of.Goals as goal
 
 pub loop-x-preserved : goal.loop-x-preserved
 loop-x-preserved c =
-    fields_more {Y = ℕ × Item} (λ (e : Numbered). (column_owner c.args.ranks e, value_item e)) (get_or c.args.parts.now c.args.rank []) c.loop-x.x (c.in-Some._number, c.in-Some.entry) c.loop-x.values.items _ c.loop-x.invariant (sym c.in-Some.ensures)
-    (c.in_ok-push.ensures.items ∙ ap (λ x. c.loop-x.values.items ++ (c.in-Some.entry.j % c.args.ranks, x) ∷ []) c.value_sent.ensures)
+    fields_more {Y = ℕ × Item} (λ (e : Numbered). (column_owner c.args.ranks e, value_item e)) (get_or c.args.parts.now c.args.rank []) c.loop-x.x c.entry-number.result c.loop-x.values.items _ c.loop-x.invariant c.entry-number.ensures
+    (c.in_ok-push.ensures.items ∙ ap (λ x. c.loop-x.values.items ++ (c.entry-number.result.1.j % c.args.ranks, x) ∷ []) c.value_sent.ensures)

@@ -7,5 +7,5 @@ use Rattle.app_permute.proofs.permute_run.cells_of.Goals as goal
 
 pub loop-x-preserved : goal.loop-x-preserved
 loop-x-preserved c =
-    fields_more {Y = ℕ × Item} (λ (e : Numbered). (row_owner c.args.ranks e, cell_item e.1)) (get_or c.args.parts.now c.args.rank []) c.loop-x.x (c.in-Some._number, c.in-Some.entry) c.loop-x.outgoing.items _ c.loop-x.invariant (sym c.in-Some.ensures)
-    (c.in_ok-push.ensures.items ∙ ap (λ x. c.loop-x.outgoing.items ++ (c.in-Some.entry.i % c.args.ranks, x) ∷ []) c.cell_sent.ensures)
+    fields_more {Y = ℕ × Item} (λ (e : Numbered). (row_owner c.args.ranks e, cell_item e.1)) (get_or c.args.parts.now c.args.rank []) c.loop-x.x c.entry-number.result c.loop-x.outgoing.items _ c.loop-x.invariant c.entry-number.ensures
+    (c.in_ok-push.ensures.items ∙ ap (λ x. c.loop-x.outgoing.items ++ (c.entry-number.result.1.i % c.args.ranks, x) ∷ []) c.cell_sent.ensures)

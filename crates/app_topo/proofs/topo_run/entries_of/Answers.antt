@@ -4,5 +4,5 @@ use Rattle.app_topo.proofs.topo_run.entries_of.Goals as goal
 
 pub loop-x-preserved : goal.loop-x-preserved
 loop-x-preserved c =
-    entry_more c.loop-x.x (get_or c.args.parts.now c.args.rank []) (c.in-Some._number, c.in-Some.entry) c.loop-x.entries.items _ c.loop-x.invariant (sym c.in-Some.ensures)
+    entry_more c.loop-x.x (get_or c.args.parts.now c.args.rank []) c.entry-number.result c.loop-x.entries.items _ c.loop-x.invariant c.entry-number.ensures
     c.in_ok-push.ensures.items

@@ -1,6 +1,6 @@
 //! Which items a rank of topo may be sent in its round.
 
-ghost use Rattle.std.specs.Prelude.{◌≡◌, ◌<◌, ◌-◌, ◌%◌, ◌==◌, [], ◌∷◌, nat_lt, if◌then◌else◌};
+ghost use Rattle.std.specs.Prelude.{◌≡◌, ◌<◌, ◌-◌, ◌%◌, ◌==◌, ◌&&◌, [], ◌∷◌, nat_lt, if◌then◌else◌};
 ghost use Rattle.app_topo.specs.Topos.{may_topo};
 
 use bale_types::Item;
@@ -21,11 +21,17 @@ impl Seat {
     pub(crate) fn fits(self, from: u32, item: Item) -> bool
         ensures { result ≡ may_topo (self.size ∷ []) self.ranks self.round self.rank from item }
     {
-        // one test for both numbers
+        kind_fits(self.round, item.c) && self.owns(from, item)
+    }
+
+    /// Whether another rank may send it such numbers, of which the first is of a row or column of its own.
+    #[inline(always)]
+    pub(crate) fn owns(self, from: u32, item: Item) -> bool
+        ensures { result ≡ (nat_lt from self.ranks && nat_lt item.a self.size && nat_lt item.b self.size && item.a % self.ranks == self.rank) }
+    {
         from < self.ranks
             && item.a.max(item.b) < self.size as u64
             && item.a as u32 % self.ranks == self.rank
-            && kind_fits(self.round, item.c)
     }
 }
 

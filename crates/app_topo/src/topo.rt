@@ -1,6 +1,6 @@
 //! topo: rows claim columns, level by level.
 
-ghost use Rattle.std.specs.Prelude.{◌≡◌, ◌<◌, [], OnOk, OnErr};
+ghost use Rattle.std.specs.Prelude.{◌≡◌, ◌≢◌, ◌<◌, ℕ, [], OnOk, OnErr};
 ghost use Rattle.round_program.specs.Batches.{taken_in};
 ghost use Rattle.app_topo.specs.Topos.{IsTopo, topo_rules, entered, claimed_by, fallen};
 ghost use Rattle.app_topo.specs.TopoSeats.{IsSeat};
@@ -165,8 +165,32 @@ impl Topo {
         ensures sent { self.new.outgoing ≡ self.old.outgoing }
         ensures seat { IsSeat seat self.new }
     {
+        if seat.round == 0 {
+            return self.take_in_entry(seat, from, item);
+        }
         if seat.fits(from, item) {
             return self.absorb_on(seat, from, item);
+        }
+        Ok(())
+    }
+
+    /// The same in round 0. Each kind has its tests, which then are branches.
+    #[inline(always)]
+    fn take_in_entry(&mut self, seat: Seat, from: u32, item: Item) -> Result<(), NoMemory>
+        requires seat { IsSeat seat self.old }
+        requires first { seat.round ≡ 0 }
+        ensures ok { OnOk result (self.new ≡ taken_in topo_rules self.old from item) }
+        ensures sent { self.new.outgoing ≡ self.old.outgoing }
+        ensures seat { IsSeat seat self.new }
+    {
+        if item.c == 0 {
+            if seat.owns(from, item) {
+                return self.enter(seat.ranks, item);
+            }
+            return Ok(());
+        }
+        if item.c == 1 && seat.owns(from, item) {
+            return self.enter(seat.ranks, item);
         }
         Ok(())
     }
@@ -215,6 +239,59 @@ impl Topo {
         mark(&mut self.came, item.a, 0)?;
         self.fresh = fresh_after(self.fresh, number_at(&self.counts, ranks, item.a));
         add(&mut self.counts, ranks, item.a, 1);
+        Ok(())
+    }
+
+    /// Ends a later round in which the rank sent nothing and nothing came: where an order has many levels, most ends are these.
+    #[inline(always)]
+    fn end_idle_round(&mut self)
+        requires later { self.old.round ≢ 0 }
+        requires sent { self.old.outgoing ≡ [] }
+        requires came { self.old.came ≡ [] }
+        ensures { (votes : ℕ) → self.new ≡ topo_rules.ended self.old votes }
+    {
+        self.fresh = 0;
+        self.round = self.round.saturating_add(1);
+    }
+
+    /// Ends a round in which the rank sent something, or something came.
+    #[inline(never)]
+    fn end_busy_round(&mut self) -> Result<(), NoMemory>
+        ensures ended { (votes : ℕ) → OnOk result (self.new ≡ topo_rules.ended self.old votes) }
+        ensures refused { OnErr result (self.new.outgoing ≡ self.old.outgoing) }
+    {
+        if self.round != 0 && self.came.is_empty() {
+            keep_claims(&mut self.claimed, self.round, &self.outgoing)?;
+            self.outgoing.clear();
+            self.fresh = 0;
+            self.round = self.round.saturating_add(1);
+            return Ok(());
+        }
+        self.came.take_entries(&mut self.spots);
+        self.next.clear();
+        put_next(
+            &mut self.next,
+            self.round,
+            self.rank,
+            self.ranks,
+            self.size,
+            &self.numbers,
+            &self.sums,
+            &self.columns,
+            &self.spans,
+            &self.spots,
+        )?;
+        keep_claims(&mut self.claimed, self.round, &self.outgoing)?;
+        put_columns(
+            &mut self.columns,
+            &mut self.spans,
+            self.ranks,
+            self.round,
+            &mut self.spots,
+        );
+        mem::swap(&mut self.outgoing, &mut self.next);
+        self.fresh = 0;
+        self.round = self.round.saturating_add(1);
         Ok(())
     }
 
@@ -295,38 +372,11 @@ impl Program for Topo {
 
     fn end_round(&mut self, votes: u64) -> Result<bool, NoMemory> {
         let goes_on = self.round % 2 == 0 || votes != 0;
-        if self.round != 0 && self.came.is_empty() {
-            keep_claims(&mut self.claimed, self.round, &self.outgoing)?;
-            self.outgoing.clear();
-            self.fresh = 0;
-            self.round = self.round.saturating_add(1);
+        if self.round != 0 && self.outgoing.is_empty() && self.came.is_empty() {
+            self.end_idle_round();
             return Ok(goes_on);
         }
-        self.came.take_entries(&mut self.spots);
-        self.next.clear();
-        put_next(
-            &mut self.next,
-            self.round,
-            self.rank,
-            self.ranks,
-            self.size,
-            &self.numbers,
-            &self.sums,
-            &self.columns,
-            &self.spans,
-            &self.spots,
-        )?;
-        keep_claims(&mut self.claimed, self.round, &self.outgoing)?;
-        put_columns(
-            &mut self.columns,
-            &mut self.spans,
-            self.ranks,
-            self.round,
-            &mut self.spots,
-        );
-        mem::swap(&mut self.outgoing, &mut self.next);
-        self.fresh = 0;
-        self.round = self.round.saturating_add(1);
+        self.end_busy_round()?;
         Ok(goes_on)
     }
 }

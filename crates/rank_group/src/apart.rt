@@ -9,22 +9,25 @@ use std::marker::Model;
 /// It is `Vec::into_iter` without the queue behind that, which would be compiled anew for the ranks of each drive.
 #[derive(Drop)]
 pub struct OneByOne<T> {
+    /// The last one stands first.
     left: Vec<T>,
 }
 
 impl<T> Model for OneByOne<T> {
-    ghost use Rattle.std.specs.Prelude.{List};
+    ghost use Rattle.std.specs.Prelude.{List, reverse};
 
     ghost Value = { List T };
 
-    ghost view = { λ o. o.left.items };
+    ghost view = { λ o. reverse o.left.items };
 }
 
 /// Takes a list apart.
 pub fn one_by_one<T: Drop>(list: Vec<T>) -> OneByOne<T>
     ensures { result ≡ list.items }
 {
-    OneByOne { left: list }
+    let mut left = list;
+    left.reverse();
+    OneByOne { left }
 }
 
 impl<T: Drop> Iterator for OneByOne<T> {
@@ -35,9 +38,6 @@ impl<T: Drop> Iterator for OneByOne<T> {
     ghost remaining = { item_count (λ s. s) };
 
     fn next(&mut self) -> Option<T> {
-        if self.left.is_empty() {
-            return None;
-        }
-        Some(self.left.remove(0))
+        self.left.pop()
     }
 }

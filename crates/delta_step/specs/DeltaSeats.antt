@@ -1,4 +1,4 @@
--- What a rank of delta-stepping is sent, and makes of it, depends on.
+-- A rank of delta-stepping, as far as it says what the rank may be sent and makes of it.
 use Rattle.std.specs.Prelude.{◌≡◌, ◌<◌}
 use Rattle.delta_step.specs.declared.seat.Seat.{Seat}
 use Rattle.delta_step.specs.declared.phase.Phase.TheVariants.{First}

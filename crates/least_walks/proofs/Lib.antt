@@ -4,4 +4,5 @@ pub mod Offered
 pub mod Rows
 pub mod Settled
 pub mod Simple
+pub mod Spans
 pub mod Texts

@@ -98,11 +98,5 @@ pub table_none : (ranks places low high : ℕ) → table_of ranks places low hig
 table_none ranks places low high =
     sym (fill_by_all (λ p. edges_at ranks low high [] p) (replicate places []) places [] (length-replicate places []) (λ k l. get_or-replicate places k [] [] l))
 
--- one list of many grew by an edge, or none did
-pub pushed_is : {X : Type 0} (f : X → List Edge) (xs : List X) (i : ℕ) (x y : X) (e : Edge) (b : Bool) → slice_get xs i ≡ Some x → f y ≡ cond b (f x ++ e ∷ []) (f x)
-    → map f (slice_set xs i y) ≡ cond b (changed_at (map f xs) i [] (λ es. es ++ e ∷ [])) (map f xs)
-pushed_is f xs i x y e true at h = map_changed f xs i x y [] (λ es. es ++ e ∷ []) at h
-pushed_is f xs i x y e false at h = map_unchanged f xs i x y at h
-
 pub table_len : (ranks places low high : ℕ) (ts : List Triple) → length (table_of ranks places low high ts) ≡ places
 table_len ranks places low high ts = length-map-range_with_len (edges_at ranks low high ts) 0 places

@@ -4,8 +4,9 @@ ghost use Rattle.std.specs.Prelude.{◌≡◌, ◌<◌, ◌≤◌, ◌/◌, ◌+
 ghost use Rattle.std.specs.List.{All, flat_map};
 ghost use Rattle.bale_types.specs.declared.triple.Triple.{Triple};
 ghost use Rattle.bale_types.specs.Bits.{twos_complement};
-ghost use Rattle.list_laws.specs.Lists.{changed_at};
+ghost use Rattle.list_laws.specs.Lists.{changed_at, Begins};
 ghost use Rattle.least_walks.specs.Tables.{edge_of, is_kept, kept, table_of, offer, offers_from, offers_at, offers};
+ghost use Rattle.least_walks.specs.Spans.{in_span, lists_of, IsWithin};
 
 use crate::vertices::Vertices;
 use bale_types::{Item, NoMemory, Triple, bits_of};
@@ -25,16 +26,30 @@ pub struct Edge {
 /// The edges of a rank's vertices, by the vertex's place, seen as a list of lists.
 #[derive(Drop)]
 pub struct Table {
-    rows: Vec<Vec<Edge>>,
+    /// those of all vertices, each vertex's together
+    edges: Vec<Edge>,
+    /// where those of each vertex stand
+    spans: Vec<Span>,
+}
+
+/// Places of edges, from the first one to behind the last one.
+#[derive(Clone, Copy)]
+struct Span {
+    from: usize,
+    to: usize,
 }
 
 impl Model for Table {
-    ghost use Rattle.std.specs.Prelude.{List, map};
+    ghost use Rattle.std.specs.Prelude.{List};
+    ghost use Rattle.std.specs.List.{All};
     ghost use Rattle.least_walks.specs.declared.table.Edge.{Edge};
+    ghost use Rattle.least_walks.specs.Spans.{lists_of, IsWithin};
 
     ghost Value = { List (List Edge) };
 
-    ghost view = { λ t. map (λ l. l.items) t.rows.items };
+    ghost view = { λ t. lists_of t.edges.items t.spans.items };
+
+    ghost invariant = { λ t. All (IsWithin t.edges.items) t.spans.items };
 }
 
 impl Table {
@@ -43,11 +58,13 @@ impl Table {
         ensures { result ≡ [] }
     {
         Table {
-            rows: Vec::new(alloc),
+            edges: Vec::new(alloc),
+            spans: Vec::new(alloc),
         }
     }
 
-    /// The edges of so many places with weights from `low` to `high`, in the order of the entries.
+    /// The edges of so many places with weights from `low` to `high`, in the order of the entries. It is fast where the entries
+    /// of each vertex stand together.
     ///
     /// # Errors
     ///
@@ -64,75 +81,116 @@ impl Table {
         requires inside { All (λ t. t.i / ranks < places) entries.now }
         ensures { IfOk result (λ t. t ≡ table_of ranks places low high entries.now) }
     {
-        // Each list gets its memory at once, and not by growing.
-        let lengths = lengths_of(alloc, ranks, places, low, high, entries)?;
-        let mut rows = empty_rows(alloc, &lengths)?;
+        let mut edges = Vec::with_capacity(alloc, count_of(low, high, entries))?;
+        let mut spans = empty_spans(alloc, places as usize)?;
         for t in entries {
-            keep(&mut rows, ranks, low, high, *t)?;
+            keep(&mut edges, &mut spans, ranks, low, high, *t)?;
         }
-        Ok(Table { rows })
+        Ok(Table { edges, spans })
     }
 
     /// How many places there are.
     pub fn len(&self) -> usize
         ensures { result ≡ length self.now }
     {
-        self.rows.len()
+        self.spans.len()
+    }
+
+    /// The edges at a place.
+    #[inline(always)]
+    fn at(&self, place: u32) -> &[Edge]
+        requires { place < length self.now }
+        ensures { result.now ≡ slice_index_or self.now place [] }
+    {
+        let span = self.spans[place as usize];
+        &self.edges[span.from..span.to]
     }
 }
 
-/// How many edges with weights from `low` to `high` there are at each place.
-fn lengths_of(
-    alloc: Global,
-    ranks: u32,
-    places: u32,
-    low: u64,
-    high: u64,
-    entries: &[Triple],
-) -> Result<Vec<u32>, NoMemory>
-    requires some { 0 < ranks }
-    requires inside { All (λ t. t.i / ranks < places) entries.now }
-    ensures { IfOk result (λ v. length v.items ≡ places) }
+/// So many spans without edges.
+fn empty_spans(alloc: Global, places: usize) -> Result<Vec<Span>, NoMemory>
+    ensures { IfOk result (λ v. v.items ≡ replicate places (record { from = 0; to = 0 })) }
 {
-    let mut lengths = vec![in alloc; 0u32; places as usize]?;
+    let nothing = Span { from: 0, to: 0 };
+    Ok(vec![in alloc; nothing; places]?)
+}
+
+/// How many edges with weights from `low` to `high` there are.
+fn count_of(low: u64, high: u64, entries: &[Triple]) -> usize {
+    let mut count = 0usize;
     for t in entries {
         let weight = bits_of(t.v);
         if low <= weight && weight <= high {
-            let place = (t.i / ranks) as usize;
-            lengths[place] = lengths[place].saturating_add(1);
+            count = count.saturating_add(1);
         }
     }
-    Ok(lengths)
-}
-
-/// A place for each vertex, without edges but with memory for so many.
-fn empty_rows(alloc: Global, lengths: &[u32]) -> Result<Vec<Vec<Edge>>, NoMemory>
-    ensures { IfOk result (λ v. map (λ l. l.items) v.items ≡ replicate (length lengths.now) []) }
-{
-    let mut rows = Vec::with_capacity(alloc, lengths.len())?;
-    for place in 0..lengths.len() {
-        rows.push(Vec::with_capacity(alloc, lengths[place] as usize)?)?;
-    }
-    Ok(rows)
+    count
 }
 
 /// Puts the edge of an entry to its vertex, where its weight is from `low` to `high`.
+#[inline(always)]
 fn keep(
-    rows: &mut Vec<Vec<Edge>>,
+    edges: &mut Vec<Edge>,
+    spans: &mut Vec<Span>,
     ranks: u32,
     low: u64,
     high: u64,
     t: Triple,
 ) -> Result<(), NoMemory>
     requires some { 0 < ranks }
-    requires inside { t.i / ranks < length rows.old.items }
-    ensures { OnOk result (map (λ l. l.items) rows.new.items ≡ kept ranks low high t (map (λ l. l.items) rows.old.items)) }
+    requires inside { t.i / ranks < length spans.old.items }
+    requires within { All (IsWithin edges.old.items) spans.old.items }
+    ensures kept { OnOk result (lists_of edges.new.items spans.new.items ≡ kept ranks low high t (lists_of edges.old.items spans.old.items)) }
+    ensures within { OnOk result (All (IsWithin edges.new.items) spans.new.items) }
 {
     let weight = bits_of(t.v);
     if low <= weight && weight <= high {
-        push_edge(rows, (t.i / ranks) as usize, edge_of(ranks, t))?;
+        push_edge(edges, spans, (t.i / ranks) as usize, edge_of(ranks, t))?;
     }
     Ok(())
+}
+
+/// Appends an edge to those at a place.
+#[inline(always)]
+fn push_edge(
+    edges: &mut Vec<Edge>,
+    spans: &mut Vec<Span>,
+    place: usize,
+    edge: Edge,
+) -> Result<(), NoMemory>
+    requires inside { place < length spans.old.items }
+    requires within { All (IsWithin edges.old.items) spans.old.items }
+    ensures pushed { OnOk result (lists_of edges.new.items spans.new.items ≡ changed_at (lists_of edges.old.items spans.old.items) place [] (λ es. es ++ edge ∷ [])) }
+    ensures within { OnOk result (All (IsWithin edges.new.items) spans.new.items) }
+{
+    let span = last_span(edges, spans[place])?;
+    edges.push(edge)?;
+    spans[place] = Span {
+        from: span.from,
+        to: span.to + 1,
+    };
+    Ok(())
+}
+
+/// Where edges stand once they are the last ones: they are moved behind the others if they aren't.
+#[inline(always)]
+fn last_span(edges: &mut Vec<Edge>, span: Span) -> Result<Span, NoMemory>
+    requires within { IsWithin edges.old.items span }
+    ensures added { OnOk result (Begins edges.old.items edges.new.items) }
+    ensures same { IfOk result (λ s. in_span edges.new.items s ≡ in_span edges.old.items span) }
+    ensures last { IfOk result (λ s. (s.from ≤ s.to) × (s.to ≡ length edges.new.items)) }
+{
+    if span.to == edges.len() {
+        return Ok(span);
+    }
+    let from = edges.len();
+    for k in span.from..span.to {
+        edges.push(edges[k])?;
+    }
+    Ok(Span {
+        from,
+        to: edges.len(),
+    })
 }
 
 /// The edge of an entry.
@@ -145,13 +203,6 @@ fn edge_of(ranks: u32, t: Triple) -> Edge
         to: t.j,
         weight: bits_of(t.v),
     }
-}
-
-fn push_edge(rows: &mut Vec<Vec<Edge>>, place: usize, edge: Edge) -> Result<(), NoMemory>
-    requires { place < length rows.old.items }
-    ensures { map (λ l. l.items) rows.new.items ≡ (if is_ok result then changed_at (map (λ l. l.items) rows.old.items) place [] (λ es. es ++ edge ∷ []) else map (λ l. l.items) rows.old.items) }
-{
-    rows[place].push(edge).map_err(|_| NoMemory)
 }
 
 /// What the vertices at some places offer along their edges, place by place.
@@ -172,7 +223,7 @@ pub fn offers(
     let mut outgoing = Vec::with_capacity(alloc, edges_at(table, places))?;
     for place in places {
         if let Some(weight) = vertices.weight(*place) {
-            offer_all(&mut outgoing, weight, &table.rows[*place as usize])?;
+            offer_all(&mut outgoing, weight, table.at(*place))?;
         }
     }
     Ok(outgoing)
@@ -184,7 +235,7 @@ fn edges_at(table: &Table, places: &[u32]) -> usize
 {
     let mut count = 0usize;
     for place in places {
-        count = count.saturating_add(table.rows[*place as usize].len());
+        count = count.saturating_add(table.at(*place).len());
     }
     count
 }

@@ -35,6 +35,20 @@ fn offers_of_places(rt: HostRuntime) -> Result<(), Fail> {
     assert!(rt; table.len() == 2 && vertices.len() == 2 && sent.len() == 1);
     assert!(rt; sent[0].0 == 0 && sent[0].1.a == 0 && sent[0].1.b == 15);
     assert!(rt; Table::new(alloc).len() == 0);
+
+    // The edges of vertex 0 come before and after another's.
+    let entries = [
+        Triple { i: 0, j: 3, v: 4 },
+        Triple { i: 2, j: 0, v: 5 },
+        Triple { i: 0, j: 1, v: 9 },
+    ];
+    let table = Table::of(alloc, 2, 2, 0, 9, entries.as_slice())?;
+    vertices.improve(0, 1)?;
+    vertices.improve(1, 9)?;
+    let places = vertices.take_improved();
+    let sent = offers(alloc, &table, &vertices, &places)?;
+    assert!(rt; sent.len() == 3 && sent[0].1.a == 3 && sent[1].1.a == 1 && sent[2].1.a == 0);
+    assert!(rt; sent[0].1.b == 5 && sent[1].1.b == 10 && sent[2].1.b == 14);
     Ok(())
 }
 

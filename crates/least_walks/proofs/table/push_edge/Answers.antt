@@ -1,14 +1,12 @@
-use Rattle.std.proofs.Common.{◌≡◌, ◌++◌, [], ◌∷◌, length, refl, subst, sym, cond, map, slice_set}
+use Rattle.std.proofs.Common.{length, refl}
 use Rattle.std.proofs.lemmas.Option.{slice_get_read}
-use Rattle.list_laws.specs.Lists.{changed_at}
-use Rattle.least_walks.proofs.Rows.{pushed_is}
+use Rattle.least_walks.proofs.Spans.{pushed_edge}
 use Rattle.least_walks.proofs.table.push_edge.Goals as goal
 
-pub returns : goal.returns
-returns c =
-    let items = c.args.rows.now.items in
-    subst (λ b. map (λ l. l.items) (slice_set items c.args.place c.push.new.self) ≡ cond b (changed_at (map (λ l. l.items) items) c.args.place [] (λ es. es ++ c.args.edge ∷ [])) (map (λ l. l.items) items))
-    (sym c.map_err.ensures.variant)
-    (pushed_is (λ l. l.items) items c.args.place c.index_mut.result.now c.push.new.self c.args.edge _
-    (slice_get_read items (length items) c.args.place c.index_mut.result.now refl c.requires c.index_mut.ensures.value)
-    c.push.ensures.items)
+pub returns-clause-pushed : goal.returns-clause-pushed
+returns-clause-pushed c =
+    let old = c.args.edges.now.items in
+    let spans = c.args.spans.now.items in
+    let last = c.in_ok-span.ensures in
+    pushed_edge old c.last_span.new.edges.items c.push.new.self.items spans c.args.place c.index.result.now c.in_ok-span.span c.args.edge last.added c.requires.within
+    (slice_get_read spans (length spans) c.args.place c.index.result.now refl c.requires.inside c.index.ensures) last.same last.last.0 last.last.1 c.in_ok-push.ensures.items

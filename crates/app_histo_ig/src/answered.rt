@@ -12,7 +12,7 @@ use mtx_text::{EntryLine, Kind, Matrix};
 use round_program::Progs;
 
 /// A rank that keeps a word for each of its entries: that of entry number `e` stands at `e div ranks`.
-pub(crate) trait Answered: Drop {
+pub trait Answered: Drop {
     ghost words: { Self → List ℕ };
 
     /// These words.

@@ -68,7 +68,7 @@ impl Histo {
     }
 
     /// The counts of own columns; that of column `j` stands at `j div ranks`.
-    pub(crate) fn counts(&self) -> &[u64]
+    pub fn counts(&self) -> &[u64]
         ensures { result.now ≡ self.now.counts }
     {
         &self.counts

@@ -96,7 +96,7 @@ pub fn histo_write<K: Sink>(p: &Progs<Histo>, out: &mut Out<'_, K>) -> Result<()
 {
     let cols = columns_counted(p);
     for j in 0..cols {
-        write_line(out, j, count_of(p, j))?;
+        write_count(out, j, count_of(p, j))?;
     }
     Ok(())
 }
@@ -125,8 +125,12 @@ fn count_of(p: &Progs<Histo>, j: u32) -> u64
     owner.counts()[j as usize / ranks]
 }
 
-/// Writes one line.
-pub(crate) fn write_line<K: Sink>(out: &mut Out<'_, K>, j: u32, count: u64) -> Result<(), Failed>
+/// Writes the line of one column: its number from 1 and how many entries it has. No memory is taken.
+///
+/// # Errors
+///
+/// `Failed` where the sink's faults rose in this call.
+pub fn write_count<K: Sink>(out: &mut Out<'_, K>, j: u32, count: u64) -> Result<(), Failed>
     requires { j + 1 < 2 ^ 32 }
     ensures ok { OnOk result (appended K.taken out.new ≡ after (appended K.taken out.old) (histo_line j count)) }
     ensures err { OnErr result (IsFront (K.taken out.new.sink.now) (after (appended K.taken out.old) (histo_line j count))) }

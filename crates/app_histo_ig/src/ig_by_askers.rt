@@ -95,8 +95,12 @@ pub fn ig_heard_write<K: Sink>(
     write_sums(p, m, out)
 }
 
-/// The asker of each rank.
-pub(crate) fn all_askers(alloc: Global, p: Progs<IgSums>) -> Result<Progs<IgAsker>, NoMemory>
+/// The asker of each rank, whatever the programs have absorbed. `ig_askers` says what it has where they ended.
+///
+/// # Errors
+///
+/// `NoMemory` where there was none for the askers.
+pub fn all_askers(alloc: Global, p: Progs<IgSums>) -> Result<Progs<IgAsker>, NoMemory>
     ensures { IfOk result (λ qs. qs ≡ map asker_from p) }
 {
     let mut p = p;

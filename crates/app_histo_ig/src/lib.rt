@@ -10,6 +10,9 @@
 //! | [`ig_sums_start`] | the programs of ig's first round alone | in round 0 of a run of one round |
 //! | [`ig_askers`] | these programs, once they ended | ranks that ask one another for the sums of their entries' columns |
 //! | [`ig_heard_write`] | these ranks, once each has heard its replies | the lines of `ig_write` |
+//! | [`Histo::counts`], [`Answered::answers`] | one rank, at any moment | the counts of its columns, the sums for its entries |
+//! | [`write_count`] | a column and its count | its line of `histo_write` |
+//! | [`all_askers`] | programs of `ig_sums_start`, at any moment | their askers, by what each has added up |
 //!
 //! The entries are dealt out in turn, and column `j` belongs to rank `j mod P`. What the lines are is said of the matrix
 //! alone (`specs/HistoLines` and `specs/IgLines`): no rank, no round and no order of items occurs there.
@@ -28,13 +31,12 @@ mod ig_lists;
 mod ig_run;
 mod ig_sums;
 mod seat;
-#[cfg(test)]
-mod tests;
 
+pub use answered::Answered;
 pub use histo::Histo;
-pub use histo_run::{histo_start, histo_write};
+pub use histo_run::{histo_start, histo_write, write_count};
 pub use ig::Ig;
 pub use ig_asker::IgAsker;
-pub use ig_by_askers::{ig_askers, ig_heard_write, ig_sums_start};
+pub use ig_by_askers::{all_askers, ig_askers, ig_heard_write, ig_sums_start};
 pub use ig_run::{ig_start, ig_write};
 pub use ig_sums::IgSums;

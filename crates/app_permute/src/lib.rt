@@ -7,6 +7,7 @@
 //! | [`transpose_end`] | the programs, once they ended | the transposed matrix |
 //! | [`permute_start`] | the programs of permute on so many ranks, with new numbers for rows and columns | in round 0 of a run of three rounds |
 //! | [`permute_end`] | the programs, once they ended | the permuted matrix |
+//! | [`Transpose::cells`], [`Permute::cells`] | one rank, at any moment | the cells that it has; after the run those of its rows |
 //! | [`seed_perms`] | permutations of rows and columns from a seed | drawn from one generator, the rows' first |
 //! | [`Perms::rows`], [`Perms::cols`] | the new numbers | the element at `x` is the new number of `x` |
 //!
@@ -20,8 +21,6 @@ mod permute;
 mod permute_lists;
 mod permute_run;
 mod seat;
-#[cfg(test)]
-mod tests;
 mod transpose;
 mod transpose_run;
 

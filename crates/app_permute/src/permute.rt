@@ -144,7 +144,7 @@ impl Permute {
     }
 
     /// The cells that came: after the run those of own rows of the permuted matrix.
-    pub(crate) fn cells(&self) -> &Cells
+    pub fn cells(&self) -> &Cells
         ensures { result.now ≡ self.now.cells }
     {
         &self.cells

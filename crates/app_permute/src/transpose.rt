@@ -65,7 +65,7 @@ impl Transpose {
     }
 
     /// The cells of own rows.
-    pub(crate) fn cells(&self) -> &Cells
+    pub fn cells(&self) -> &Cells
         ensures { result.now ≡ self.now.cells }
     {
         &self.cells

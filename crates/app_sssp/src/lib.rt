@@ -4,6 +4,7 @@
 //! |---|---|---|
 //! | [`sssp_start`] | the programs of sssp on so many ranks | in round 0 of a run of at most n + 1 rounds |
 //! | [`sssp_write`] | the programs, once they ended | a line for each vertex: vertex, least weight or `-` |
+//! | [`Sssp::vertices`] | one rank, at any moment | its vertices with the weights found so far |
 //! | [`vertices_of`], [`edges_of`] | what a rank begins with, also of another program for least walks | |
 //!
 //! The entries of a square matrix are edges, and no value is negative. In round 0 each edge goes to the owner of its
@@ -20,8 +21,6 @@
 mod seat;
 mod sssp;
 mod sssp_run;
-#[cfg(test)]
-mod tests;
 
 pub use sssp::Sssp;
 pub use sssp_run::{edges_of, sssp_start, sssp_write, vertices_of};

@@ -19,8 +19,6 @@ mod read;
 mod run;
 mod strings;
 mod tally;
-#[cfg(test)]
-mod tests;
 mod write;
 
 pub use counts::Counts;

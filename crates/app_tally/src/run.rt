@@ -74,13 +74,13 @@ fn how_many(len: usize, step: usize, first: usize) -> usize
     (len + (step - 1 - first)) / step
 }
 
-/// Each distinct line with how many times it was read. The programs are those of `tally_start` after their run.
+/// Each distinct line that came to the ranks, with how many times it came. After the run of the programs of `tally_start` these are
+/// the lines that were read.
 ///
 /// # Errors
 ///
 /// `NoMemory` where there was none for the answer.
 pub fn tally_end(alloc: Global, p: &Progs<TallyMailer>) -> Result<Counts, NoMemory>
-    requires ended { (lines : List (List ℕ)) × TallyEnded lines p.now }
     ensures counts { (lines : List (List ℕ)) → TallyEnded lines p.now → IfOk result (λ c. c ≡ tally_of lines) }
     ensures each { (lines : List (List ℕ)) → TallyEnded lines p.now → IfOk result (λ c. IsTally lines c) }
 {
@@ -90,7 +90,6 @@ pub fn tally_end(alloc: Global, p: &Progs<TallyMailer>) -> Result<Counts, NoMemo
 
 /// The lines that came to all ranks.
 fn all_came(alloc: Global, p: &Progs<TallyMailer>) -> Result<Vec<&[u8]>, NoMemory>
-    requires ended { (lines : List (List ℕ)) × TallyEnded lines p.now }
     ensures times { (lines : List (List ℕ)) → TallyEnded lines p.now → IfOk result (λ all. (q : List ℕ) → times q (map (λ l. l.now) all.items) ≡ times q lines) }
     ensures letters { IfOk result (λ all. All IsLetter (map (λ l. l.now) all.items)) }
 {
@@ -105,7 +104,7 @@ fn all_came(alloc: Global, p: &Progs<TallyMailer>) -> Result<Vec<&[u8]>, NoMemor
 }
 
 /// Appends the lines that came to one rank.
-pub(crate) fn gather<'a>(all: &mut Vec<&'a [u8]>, came: &'a Strings) -> Result<(), NoMemory>
+fn gather<'a>(all: &mut Vec<&'a [u8]>, came: &'a Strings) -> Result<(), NoMemory>
     ensures gathered { OnOk result (map (λ l. l.now) all.new.items ≡ map (λ l. l.now) all.old.items ++ came.now) }
     ensures letters { All IsLetter came.now }
 {

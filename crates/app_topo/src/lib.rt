@@ -7,6 +7,8 @@
 //! | [`topo_end`] | the programs, once they ended | the order, or `None` exactly where there is none |
 //! | [`topo_write`] | an order | a line for each position: position, row, column |
 //! | [`TopoOrder::len`], [`TopoOrder::get`] | the positions | `None` exactly past the end |
+//! | [`TopoOrder::of_places`] | rows and columns in an order found elsewhere | that order |
+//! | [`Topo::claimed`] | one rank, at any moment | its rows that have claimed, each with its level and column |
 //!
 //! Level by level, each row that has one entry left outside the taken columns claims that column, and a column that was claimed
 //! tells its rows that they have an entry less. `specs/Triangular` says what a valid order is and `specs/Levels` what the
@@ -22,8 +24,6 @@ mod placed;
 mod seat;
 mod sent;
 mod spans;
-#[cfg(test)]
-mod tests;
 mod topo;
 mod topo_answer;
 mod topo_lines;

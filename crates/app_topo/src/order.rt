@@ -21,7 +21,7 @@ impl Model for TopoOrder {
 
 impl TopoOrder {
     /// The order of these rows and columns.
-    pub(crate) fn of_places(places: Vec<(u32, u32)>) -> TopoOrder
+    pub fn of_places(places: Vec<(u32, u32)>) -> TopoOrder
         ensures { result ≡ places.items }
     {
         TopoOrder { places }

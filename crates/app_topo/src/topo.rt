@@ -132,7 +132,7 @@ impl Topo {
     }
 
     /// The own rows that have claimed, by level and then row.
-    pub(crate) fn claimed(&self) -> &[Placed]
+    pub fn claimed(&self) -> &[Placed]
         ensures { result.now ≡ self.now.claimed }
     {
         &self.claimed

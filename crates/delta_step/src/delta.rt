@@ -131,7 +131,7 @@ impl Delta {
     }
 
     /// The own vertices; vertex `i` stands at `i div ranks`.
-    pub(crate) fn vertices(&self) -> &Vertices
+    pub fn vertices(&self) -> &Vertices
         ensures { result.now ≡ self.now.vertices }
     {
         &self.vertices

@@ -4,6 +4,7 @@
 //! |---|---|---|
 //! | [`delta_start`] | the programs on so many ranks | in round 0 of a run of at most n (n + 2) + 2 rounds |
 //! | [`delta_write`] | the programs, once they ended | a line for each vertex: vertex, least weight or `-` |
+//! | [`Delta::vertices`] | one rank, at any moment | its vertices with the weights found so far |
 //!
 //! A vertex with least weight x stands in bucket x div delta, and an edge is light where its weight is at most delta.
 //! A bucket is found, its vertices offer along light edges until none of the bucket is pending, and then all of them offer
@@ -17,8 +18,6 @@ mod delta;
 mod delta_run;
 mod phase;
 mod seat;
-#[cfg(test)]
-mod tests;
 
 pub use delta::Delta;
 pub use delta_run::{delta_start, delta_write};

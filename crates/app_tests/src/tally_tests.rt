@@ -1,9 +1,9 @@
 //! Texts cut into lines, the fragments of lines, and whole answers on worked examples. The ranks are driven by hand.
-use super::*;
-use crate::counts::tally_all;
-use crate::run::gather;
+
+use crate::rig::{run, sent};
+use app_tally::{Lines, LinesFault, read_lines, tally_end, tally_start, tally_write};
 use bale_types::{Item, MemSink, MemSource, NoMemory, Out};
-use round_program::{Program, Progs};
+use round_program::Program;
 use std::alloc::Global;
 use std::test::Fail;
 
@@ -27,70 +27,9 @@ fn are(lines: &Lines, wanted: &[&[u8]]) -> bool {
     same
 }
 
-/// What a program emits in its round.
-fn sent<Q: Program>(alloc: Global, q: &Q) -> Result<Vec<(u32, Item)>, NoMemory> {
-    let mut all = Vec::new(alloc);
-    for i in 0..q.count() {
-        all.push(q.emission(i))?;
-    }
-    Ok(all)
-}
-
-/// Absorbs what of one sender's emissions is for this rank.
-fn absorb_from<Q: Program>(q: &mut Q, from: u32, sent: &[(u32, Item)]) -> Result<(), NoMemory> {
-    for (to, item) in sent {
-        if *to == q.rank() && q.fits(from, *item) {
-            q.absorb(from, *item)?;
-        }
-    }
-    Ok(())
-}
-
-/// A program after one round, in which all ranks sent these items.
-fn after_round<Q: Program>(mut q: Q, sent: &[Vec<(u32, Item)>]) -> Result<(Q, bool), NoMemory> {
-    let mut from = 0u32;
-    for items in sent {
-        absorb_from(&mut q, from, items)?;
-        from = from.saturating_add(1);
-    }
-    let more = q.end_round(0)?;
-    Ok((q, more))
-}
-
-/// All ranks after one round, and whether another follows.
-fn round<Q: Program>(alloc: Global, mut progs: Progs<Q>) -> Result<(Progs<Q>, bool), NoMemory> {
-    let mut all = Vec::new(alloc);
-    for r in 0..progs.len() {
-        if let Some(q) = progs.get(r) {
-            all.push(sent(alloc, q)?)?;
-        }
-    }
-    let mut later = Progs::new(alloc);
-    let mut goes_on = false;
-    for _rank in 0..progs.len() {
-        if let Some(q) = progs.take_first() {
-            let (next, more) = after_round(q, &all)?;
-            later.add(next)?;
-            goes_on = more;
-        }
-    }
-    Ok((later, goes_on))
-}
-
 /// A program that a thread of its own may run.
 fn may_cross<Q: Program + Send>(q: &Q) -> u32 {
     q.rank()
-}
-
-/// The tally of what came to all ranks.
-fn tally_by_hand(alloc: Global, p: &Progs<TallyMailer>) -> Result<Counts, NoMemory> {
-    let mut all = Vec::new(alloc);
-    for rank in 0..p.len() {
-        if let Some(program) = p.get(rank) {
-            gather(&mut all, program.inner().came())?;
-        }
-    }
-    tally_all(alloc, all)
 }
 
 #[test]
@@ -132,9 +71,9 @@ fn answers_by_hand(rt: HostRuntime) -> Result<(), Fail> {
         for ranks in [1, 2, 7, 64] {
             match lines_in(alloc, text, 65_536) {
                 Ok(lines) => {
-                    let (ended, more) = round(alloc, tally_start(alloc, &lines, ranks)?)?;
-                    assert!(rt; !more && ended.len() == ranks as usize);
-                    let counts = tally_by_hand(alloc, &ended)?;
+                    let (ended, votes) = run(alloc, tally_start(alloc, &lines, ranks)?, 1)?;
+                    assert!(rt; votes.len() == 1 && ended.len() == ranks as usize);
+                    let counts = tally_end(alloc, &ended)?;
                     let mut sink = MemSink::new(alloc, 128, 128, &[])?;
                     let mut out = Out::new(&mut sink);
                     tally_write(&counts, &mut out)?;
@@ -188,8 +127,8 @@ fn long_lines(rt: HostRuntime) -> Result<(), Fail> {
         Ok(lines) => {
             let progs = tally_start(alloc, &lines, 4)?;
             assert!(rt; matches!(progs.get(0), Some(q) if q.count() == 2_731));
-            let (ended, _more) = round(alloc, progs)?;
-            let counts = tally_by_hand(alloc, &ended)?;
+            let (ended, _votes) = run(alloc, progs, 1)?;
+            let counts = tally_end(alloc, &ended)?;
             assert!(rt; counts.len() == 1);
             if counts.len() == 1 {
                 assert!(rt; counts.times(0) == 1 && counts.line(0) == text.as_slice());

@@ -1,101 +1,30 @@
-//! The canonical run on worked examples: what the ranks have after it, and the text of a line. Whole answers are
+//! histo and ig on worked examples: what the ranks have after the canonical run, and the text of a line. Whole answers are
 //! compared where a drive proves that its programs ended.
 
-use super::*;
-use crate::answered::Answered;
-use crate::{histo_run, ig_by_askers};
-use bale_types::{Item, MemSink, NoMemory, Out, value_of};
+use crate::rig::{owner_of, run};
+use app_histo_ig::{
+    Answered, Histo, Ig, all_askers, histo_start, ig_start, ig_sums_start, write_count,
+};
+use bale_types::{MemSink, Out, value_of};
 use mtx_text::parse_matrix;
-use round_program::{Asker, Program, Progs};
-use std::alloc::Global;
+use round_program::{Asker, Progs};
 use std::test::Fail;
-
-/// What a program emits in its round.
-fn sent<Q: Program>(alloc: Global, q: &Q) -> Result<Vec<(u32, Item)>, NoMemory> {
-    let mut all = Vec::new(alloc);
-    for i in 0..q.count() {
-        all.push(q.emission(i))?;
-    }
-    Ok(all)
-}
-
-/// Absorbs what of one sender's emissions is for this rank.
-fn absorb_from<Q: Program>(q: &mut Q, from: u32, sent: &[(u32, Item)]) -> Result<(), NoMemory> {
-    for (to, item) in sent {
-        if *to == q.rank() && q.fits(from, *item) {
-            q.absorb(from, *item)?;
-        }
-    }
-    Ok(())
-}
-
-/// A program after one round, in which all ranks sent these items. No vote is cast.
-fn after_round<Q: Program>(mut q: Q, sent: &[Vec<(u32, Item)>]) -> Result<(Q, bool), NoMemory> {
-    let mut from = 0u32;
-    for items in sent {
-        absorb_from(&mut q, from, items)?;
-        from = from.saturating_add(1);
-    }
-    let more = q.end_round(0)?;
-    Ok((q, more))
-}
-
-/// All ranks after one round, and whether another follows.
-fn round<Q: Program>(alloc: Global, mut progs: Progs<Q>) -> Result<(Progs<Q>, bool), NoMemory> {
-    let mut all = Vec::new(alloc);
-    for r in 0..progs.len() {
-        if let Some(q) = progs.get(r) {
-            all.push(sent(alloc, q)?)?;
-        }
-    }
-    let mut later = Progs::new(alloc);
-    let mut goes_on = false;
-    for _rank in 0..progs.len() {
-        if let Some(q) = progs.take_first() {
-            let (next, more) = after_round(q, &all)?;
-            later.add(next)?;
-            goes_on = more;
-        }
-    }
-    Ok((later, goes_on))
-}
-
-/// All ranks after the canonical run, of four rounds at most, and how many rounds it had.
-fn run<Q: Program>(alloc: Global, progs: Progs<Q>) -> Result<(Progs<Q>, u32), NoMemory> {
-    let mut now = progs;
-    for n in 0..4u32 {
-        let (later, more) = round(alloc, now)?;
-        now = later;
-        if !more {
-            return Ok((now, n + 1));
-        }
-    }
-    Ok((now, 0))
-}
 
 /// The count of a column, as its owner has it.
 fn count_at(p: &Progs<Histo>, j: usize) -> Option<u64> {
-    let ranks = p.len();
-    if ranks == 0 {
-        return None;
-    }
-    match p.get(j % ranks) {
-        Some(owner) => owner.counts().get(j / ranks).copied(),
+    match owner_of(p, j) {
+        Some((owner, place)) => owner.counts().get(place).copied(),
         None => None,
     }
 }
 
 /// The sum of an entry's column, as the entry's rank has it.
 fn sum_at(p: &Progs<Ig>, e: usize) -> Option<i64> {
-    let ranks = p.len();
-    if ranks == 0 {
+    let Some((own, place)) = owner_of(p, e) else {
         return None;
-    }
-    match p.get(e % ranks) {
-        Some(own) => match own.answers().get(e / ranks) {
-            Some(word) => Some(value_of(*word)),
-            None => None,
-        },
+    };
+    match own.answers().get(place) {
+        Some(word) => Some(value_of(*word)),
         None => None,
     }
 }
@@ -120,8 +49,8 @@ fn counts_of_columns(rt: HostRuntime) -> Result<(), Fail> {
     for (text, wanted) in rows {
         let m = parse_matrix(alloc, text)?;
         for ranks in [1, 4, 8, 64] {
-            let (ended, rounds) = run(alloc, histo_start(alloc, &m, ranks)?)?;
-            assert!(rt; rounds == 1);
+            let (ended, votes) = run(alloc, histo_start(alloc, &m, ranks)?, 4)?;
+            assert!(rt; votes.len() == 1);
             for (j, count) in wanted.iter().enumerate() {
                 assert!(rt;
                     count_at(&ended, j) == Some(*count),
@@ -149,8 +78,8 @@ fn sums_of_columns(rt: HostRuntime) -> Result<(), Fail> {
     for (text, wanted) in rows {
         let m = parse_matrix(alloc, text)?;
         for ranks in [1, 4, 8, 64] {
-            let (ended, rounds) = run(alloc, ig_start(alloc, &m, ranks)?)?;
-            assert!(rt; rounds == 3);
+            let (ended, votes) = run(alloc, ig_start(alloc, &m, ranks)?, 4)?;
+            assert!(rt; votes.len() == 3);
             for (e, sum) in wanted.iter().enumerate() {
                 assert!(rt;
                     sum_at(&ended, e) == Some(*sum),
@@ -169,9 +98,9 @@ fn askers_of_sums(rt: HostRuntime) -> Result<(), Fail> {
     let m = parse_matrix(alloc, text)?;
     let rows: [(u32, u64, (u32, u64)); 3] = [(1, 3, (0, 2)), (2, 2, (0, 2)), (64, 1, (2, 2))];
     for (ranks, count, query) in rows {
-        let (ended, rounds) = run(alloc, ig_sums_start(alloc, &m, ranks)?)?;
-        assert!(rt; rounds == 1);
-        let mut askers = ig_by_askers::all_askers(alloc, ended)?;
+        let (ended, votes) = run(alloc, ig_sums_start(alloc, &m, ranks)?, 4)?;
+        assert!(rt; votes.len() == 1);
+        let mut askers = all_askers(alloc, ended)?;
         assert!(rt; askers.len() == ranks as usize);
         if let Some(mut first) = askers.take_first() {
             assert!(rt; first.rank() == 0 && first.ranks() == ranks && first.count() == count);
@@ -190,7 +119,7 @@ fn askers_of_sums(rt: HostRuntime) -> Result<(), Fail> {
 fn line_of_histo(rt: HostRuntime) -> Result<(), Fail> {
     let mut sink = MemSink::new(rt.alloc(), 64, 64, &[])?;
     let mut out = Out::new(&mut sink);
-    histo_run::write_line(&mut out, 2, 3)?;
+    write_count(&mut out, 2, 3)?;
     out.flush()?;
     assert!(rt; sink.taken() == b"3 3\n".as_slice());
     Ok(())

@@ -1,75 +1,14 @@
-//! Permutations of seeds, worked by hand, and the canonical run on worked examples: what the ranks have after it. Whole
-//! answers are compared where a drive proves that its programs ended.
-use super::*;
-use bale_types::{Item, NoMemory, Triple};
+//! Permutations of seeds, worked by hand, and permute and transpose on worked examples: what the ranks have after the canonical
+//! run. Whole answers are compared where a drive proves that its programs ended.
+
+use crate::rig::run;
+use app_permute::{Permute, Transpose, permute_start, seed_perms, transpose_start};
+use bale_types::{NoMemory, Triple};
 use mtx_text::{Cells, Matrix, parse_matrix};
-use round_program::{Program, Progs};
+use round_program::Progs;
 use sparse_rows::is_permutation;
 use std::alloc::Global;
 use std::test::Fail;
-
-/// What a program emits in its round.
-fn sent<Q: Program>(alloc: Global, q: &Q) -> Result<Vec<(u32, Item)>, NoMemory> {
-    let mut all = Vec::new(alloc);
-    for i in 0..q.count() {
-        all.push(q.emission(i))?;
-    }
-    Ok(all)
-}
-
-/// Absorbs what of one sender's emissions is for this rank.
-fn absorb_from<Q: Program>(q: &mut Q, from: u32, sent: &[(u32, Item)]) -> Result<(), NoMemory> {
-    for (to, item) in sent {
-        if *to == q.rank() && q.fits(from, *item) {
-            q.absorb(from, *item)?;
-        }
-    }
-    Ok(())
-}
-
-/// A program after one round, in which all ranks sent these items. No vote is cast.
-fn after_round<Q: Program>(mut q: Q, sent: &[Vec<(u32, Item)>]) -> Result<(Q, bool), NoMemory> {
-    let mut from = 0u32;
-    for items in sent {
-        absorb_from(&mut q, from, items)?;
-        from = from.saturating_add(1);
-    }
-    let more = q.end_round(0)?;
-    Ok((q, more))
-}
-
-/// All ranks after one round, and whether another follows.
-fn round<Q: Program>(alloc: Global, mut progs: Progs<Q>) -> Result<(Progs<Q>, bool), NoMemory> {
-    let mut all = Vec::new(alloc);
-    for r in 0..progs.len() {
-        if let Some(q) = progs.get(r) {
-            all.push(sent(alloc, q)?)?;
-        }
-    }
-    let mut later = Progs::new(alloc);
-    let mut goes_on = false;
-    for _rank in 0..progs.len() {
-        if let Some(q) = progs.take_first() {
-            let (next, more) = after_round(q, &all)?;
-            later.add(next)?;
-            goes_on = more;
-        }
-    }
-    Ok((later, goes_on))
-}
-
-/// All ranks after the canonical run, of four rounds at most, and how many rounds it had.
-fn run<Q: Program>(alloc: Global, progs: Progs<Q>) -> Result<(Progs<Q>, u32), NoMemory> {
-    let mut now = progs;
-    for n in 0..4u32 {
-        let (later, more) = round(alloc, now)?;
-        now = later;
-        if !more {
-            return Ok((now, n + 1));
-        }
-    }
-    Ok((now, 0))
-}
 
 /// The cells of all ranks of transpose.
 fn all_turned(alloc: Global, p: &Progs<Transpose>) -> Result<Vec<Triple>, NoMemory> {
@@ -100,11 +39,11 @@ fn moved(
     rp: &[u32],
     cp: &[u32],
     ranks: u32,
-) -> Result<Option<(Vec<Triple>, u32)>, NoMemory> {
+) -> Result<Option<(Vec<Triple>, usize)>, NoMemory> {
     let fit = is_permutation(alloc, rp, m.rows())? && is_permutation(alloc, cp, m.cols())?;
     if fit && 1 <= ranks && ranks <= 64 {
-        let (ended, rounds) = run(alloc, permute_start(alloc, m, rp, cp, ranks)?)?;
-        return Ok(Some((all_moved(alloc, &ended)?, rounds)));
+        let (ended, votes) = run(alloc, permute_start(alloc, m, rp, cp, ranks)?, 4)?;
+        return Ok(Some((all_moved(alloc, &ended)?, votes.len())));
     }
     Ok(None)
 }
@@ -142,8 +81,8 @@ fn turned_over_the_diagonal(rt: HostRuntime) -> Result<(), Fail> {
     for (text, wanted) in rows {
         let m = parse_matrix(alloc, text)?;
         for ranks in [1, 4, 8, 64] {
-            let (ended, rounds) = run(alloc, transpose_start(alloc, &m, ranks)?)?;
-            assert!(rt; rounds == 1);
+            let (ended, votes) = run(alloc, transpose_start(alloc, &m, ranks)?, 4)?;
+            assert!(rt; votes.len() == 1);
             assert!(rt;
                 are(&all_turned(alloc, &ended)?, wanted),
                 "on {ranks} ranks"

@@ -41,7 +41,7 @@ pub(crate) fn take_askers<const CAP: usize, const HOPS: usize, A: Asker>(
     ensures { IfOk result (λ askers. askers ≡ askers_of all.items) }
 {
     let mut askers = Progs::new(alloc);
-    for node in one_by_one(all) {
+    for node in one_by_one(alloc, all)? {
         askers.add(node.into_asker())?;
     }
     Ok(askers)

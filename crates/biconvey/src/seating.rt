@@ -38,7 +38,7 @@ pub(crate) fn seat_all<'a, const CAP: usize, const HOPS: usize, A: Asker>(
 {
     let mut seated = Vec::with_capacity(alloc, all.len())?;
     let mut number = 0;
-    for node in one_by_one(all) {
+    for node in one_by_one(alloc, all)? {
         let asking = queries.seat(of_queries, number);
         let replying = replies.seat(of_replies, number);
         seated.push_reserved(AtPorts {
@@ -55,7 +55,7 @@ pub(crate) fn seat_all<'a, const CAP: usize, const HOPS: usize, A: Asker>(
 /// Gathers the seats of ranks whose ways are complete.
 ///
 /// # Errors
-/// `NoMemory` where there was none for the list.
+/// `NoMemory` where there was none for a list.
 pub(crate) fn gather_all<'a, const CAP: usize, const HOPS: usize, A: Asker>(
     alloc: Global,
     queries: &SlotBank<CAP>,
@@ -75,7 +75,7 @@ pub(crate) fn gather_all<'a, const CAP: usize, const HOPS: usize, A: Asker>(
     ensures replies_there { OnOk result (EachAt (λ r y. slice_index_or of_replies.new.lists r None ≡ Some y.replies.lists) ended.entry.items) }
 {
     let mut nodes = Vec::with_capacity(alloc, ended.len())?;
-    for seated in one_by_one(ended) {
+    for seated in one_by_one(alloc, ended)? {
         let AtPorts {
             node,
             queries: asking,

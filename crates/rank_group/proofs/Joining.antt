@@ -1,7 +1,7 @@
 -- Ranks come back, one after the other.
-use Rattle.std.proofs.Common.{◌≡◌, ℕ, ◌<◌, ◌≤◌, List, [], ◌∷◌, ◌++◌, length, length-append, map, slice_get, Some, refl, sym, ap, subst, ◌∙◌, arith, inl, inr}
+use Rattle.std.proofs.Common.{◌≡◌, ℕ, ◌<◌, ◌≤◌, List, [], ◌∷◌, ◌++◌, length, length-append, map, reverse, slice_get, Some, refl, sym, ap, subst, ◌∙◌, arith, inl, inr}
 use Rattle.std.proofs.lemmas.Bool.{cases_lt}
-use Rattle.std.proofs.lemmas.List.{length-map}
+use Rattle.std.proofs.lemmas.List.{length-map, length-reverse, map-append, reverse-append}
 use Rattle.list_laws.proofs.Lists.{within, get_once, get_last, get_before}
 use Rattle.rank_group.specs.Runs.{AllRan}
 
@@ -32,7 +32,24 @@ ran_more {S} ran xs ys x y all one = record { all = omega (arith, length-append 
         subst (λ z. ran z b) ea (subst (λ z. ran x z) eb one)
   ]
 
--- there is room for one more
-pub room_for_one : {S C : Type 0} (ran : S → S → Type 0) (f : C → S) (xs rest all now : List C) (x : C) (ys : List S) (room : ℕ) → xs ++ now ≡ all → now ≡ x ∷ rest → AllRan ran (map f xs) ys → length all ≤ room → length ys < room
-room_for_one ran f xs rest all now x ys room left is ran_so below =
-    omega (arith, below, ap length left, ap length is, length-append xs now, ran_so.all, length-map xs f)
+-- The ranks of some children have come back from the end on, and one child more is taken.
+module _ {S C : Type 0} (ran : S → S → Type 0) (f : C → S) (back ys : List S) (all now rest : List C) (x : C) (left : back ++ reverse (map f now) ≡ reverse (map f all)) (is : now ≡ rest ++ x ∷ [])
+    (so_far : AllRan ran back ys) where
+  next : reverse (map f now) ≡ f x ∷ reverse (map f rest)
+  next = ap (λ cs. reverse (map f cs)) is ∙ (ap reverse (map-append f rest (x ∷ [])) ∙ reverse-append (map f rest) (f x ∷ []))
+
+  pub one_more : (back ++ f x ∷ []) ++ reverse (map f rest) ≡ reverse (map f all)
+  one_more = one_less back (reverse (map f rest)) (reverse (map f all)) (reverse (map f now)) (f x) left next
+
+  -- there is room for one more
+  pub room_for_one : (room : ℕ) → length all ≤ room → length ys < room
+  room_for_one room below = omega (
+    arith,
+    below,
+    ap length left,
+    ap length next,
+    length-append back (reverse (map f now)),
+    so_far.all,
+    length-reverse (map f all),
+    length-map all f,
+  )

@@ -1,7 +1,9 @@
 //! A list taken apart.
-ghost use Rattle.std.specs.Prelude.{◌≡◌};
+ghost use Rattle.std.specs.Prelude.{◌≡◌, IfOk};
 ghost use Rattle.std.specs.Iterator.{YieldsFirst, item_count};
 
+use bale_types::NoMemory;
+use std::alloc::Global;
 use std::marker::Model;
 
 /// The elements of a short list, each moved out in its turn, from the first to the last.
@@ -21,13 +23,20 @@ impl<T> Model for OneByOne<T> {
     ghost view = { λ o. reverse o.left.items };
 }
 
-/// Takes a list apart.
-pub fn one_by_one<T: Drop>(list: Vec<T>) -> OneByOne<T>
-    ensures { result ≡ list.items }
+/// Takes a list apart: the elements move from its end to a second list, from whose end they are handed out in order. Only `pop` and
+/// `push_reserved` do it, which lists of ranks need anyhow; `reverse` would be compiled anew for the ranks of each drive.
+///
+/// # Errors
+/// `NoMemory` where there was none.
+pub fn one_by_one<T: Drop>(alloc: Global, list: Vec<T>) -> Result<OneByOne<T>, NoMemory>
+    ensures { IfOk result (λ o. o ≡ list.items) }
 {
-    let mut left = list;
-    left.reverse();
-    OneByOne { left }
+    let mut list = list;
+    let mut left = Vec::with_capacity(alloc, list.len())?;
+    while let Some(x) = list.pop() {
+        left.push_reserved(x);
+    }
+    Ok(OneByOne { left })
 }
 
 impl<T: Drop> Iterator for OneByOne<T> {

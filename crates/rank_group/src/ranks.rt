@@ -45,7 +45,7 @@ pub(crate) fn take_progs<const CAP: usize, const HOPS: usize, Q: Program>(
     ensures progs { IfOk result (λ ps. ps ≡ progs_of all.items) }
 {
     let mut progs = Progs::new(alloc);
-    for rank in one_by_one(all) {
+    for rank in one_by_one(alloc, all)? {
         let Rank { node, over: _ } = rank;
         progs.add(node.into_prog())?;
     }

@@ -33,7 +33,7 @@ pub(crate) fn seat_all<'a, const CAP: usize, const HOPS: usize, Q: Program>(
 {
     let mut seated = Vec::with_capacity(alloc, all.len())?;
     let mut number = 0;
-    for rank in one_by_one(all) {
+    for rank in one_by_one(alloc, all)? {
         let seat = bank.seat(gather, number);
         let port = bank.port(seat);
         seated.push_reserved(AtPort {
@@ -50,7 +50,7 @@ pub(crate) fn seat_all<'a, const CAP: usize, const HOPS: usize, Q: Program>(
 /// Gathers the seats of ranks whose runs are over.
 ///
 /// # Errors
-/// `NoMemory` where memory was wanting at the end of a rank's run, or for the list.
+/// `NoMemory` where memory was wanting at the end of a rank's run, or for a list.
 pub(crate) fn gather_all<'a, const CAP: usize, const HOPS: usize, Q: Program>(
     alloc: Global,
     bank: &SlotBank<CAP>,
@@ -66,7 +66,7 @@ pub(crate) fn gather_all<'a, const CAP: usize, const HOPS: usize, Q: Program>(
     ensures there { OnOk result (EachAt (λ r y. slice_index_or gather.new.lists r None ≡ Some y.seat.lists) ended.entry.items) }
 {
     let mut ranks = Vec::with_capacity(alloc, ended.len())?;
-    for seated in one_by_one(ended) {
+    for seated in one_by_one(alloc, ended)? {
         let AtPort {
             rank,
             port,

@@ -1,11 +1,10 @@
 //! All ranks of a drive on threads, side by side.
-ghost use Rattle.std.specs.Prelude.{◌≡◌, ◌<◌, ◌≤◌, true, List, [], ◌∷◌, ◌++◌, map, length, vec_capacity, IfOk};
+ghost use Rattle.std.specs.Prelude.{◌≡◌, ◌<◌, ◌≤◌, true, List, [], ◌∷◌, ◌++◌, map, length, reverse, vec_capacity, IfOk};
 ghost use Rattle.std.specs.List.{All};
 ghost use Rattle.rank_group.specs.Runs.{AllRan};
 ghost use Rattle.rank_group.specs.Children.{first_of};
 
 use crate::alone::run_alone;
-use crate::apart::one_by_one;
 use crate::child::{Child, start};
 use crate::gate::Gate;
 use crate::keeper::run_kept;
@@ -82,7 +81,7 @@ fn flags(alloc: Global, count: usize) -> Result<Vec<AtomicBool>, NoMemory>
     Ok(flags)
 }
 
-/// Starts a thread for each of the first ranks.
+/// Starts a thread for each of the first ranks. It takes the ranks from the end, so the children stand in reverse order.
 fn start_all<'s, E, R: Wait + Sync + 's, A: Seated + Send + 's, G: Gate + Sync + 's>(
     scope: &Scope<'s, E>,
     shared: &'s Shared<'s, R, G>,
@@ -94,18 +93,18 @@ fn start_all<'s, E, R: Wait + Sync + 's, A: Seated + Send + 's, G: Gate + Sync +
     requires kept { length kept.now ≡ length all.items }
     requires none { children.items ≡ [] }
     requires room { length all.items ≤ vec_capacity children }
-    ensures { map first_of result.items ≡ all.items }
+    ensures { map first_of result.items ≡ reverse all.items }
 {
+    let mut all = all;
     let mut children = children;
-    let mut number = 0;
-    for at in one_by_one(all) {
+    while let Some(at) = all.pop() {
+        let number = all.len();
         let child = if number < threads {
             start(scope, shared, &kept[number], at)
         } else {
             keep(at)
         };
         children.push_reserved(child);
-        number += 1;
     }
     children
 }
@@ -118,7 +117,7 @@ fn keep<A: Seated>(at: A) -> Child<A>
     Child::Here(Turned::new(at, first))
 }
 
-/// Waits for all threads, and takes the ranks back.
+/// Waits for all threads, and takes the ranks back. It takes the children from the end, so what stood in reverse order is in order.
 fn join_all<'s, R: Threads + Wait, A: Seated, G: Gate>(
     shared: &'s Shared<'s, R, G>,
     children: Vec<Child<A>>,
@@ -126,11 +125,12 @@ fn join_all<'s, R: Threads + Wait, A: Seated, G: Gate>(
 ) -> Vec<A>
     requires none { ended.items ≡ [] }
     requires room { length children.items ≤ vec_capacity ended }
-    ensures ran { AllRan A.ran (map first_of children.items) result.items }
+    ensures ran { AllRan A.ran (reverse (map first_of children.items)) result.items }
     ensures over { All (λ y. A.over y ≡ true) result.items }
 {
+    let mut children = children;
     let mut ended = ended;
-    for child in one_by_one(children) {
+    while let Some(child) = children.pop() {
         match child {
             Child::There(handle) => come_back(shared, &mut ended, handle.join(shared.rt)),
             Child::Here(kept) => come_back(shared, &mut ended, kept.into_rank()),

@@ -1,13 +1,18 @@
-use Rattle.std.proofs.Common.{◌≡◌, ◌≤◌, ◌++◌, true, length, map, vec_capacity}
+use Rattle.std.proofs.Common.{◌≡◌, ◌≤◌, ◌++◌, true, List, length, map, reverse, vec_capacity}
 use Rattle.std.specs.List.{All}
 use Rattle.rank_group.specs.Runs.{AllRan}
 use Rattle.rank_group.specs.Children.{first_of}
 use Rattle.rank_group.proofs.together.join_all.Given as goal
 
+-- the ranks of the children from the end on have come back
 abbrev pub invariant-loop-child : goal.invariant-loop-child
 invariant-loop-child g l = record {
-  left : l.yielded ++ l.child-iterator ≡ l.fn.children.items;
-  ran : AllRan g.A.Seated.ran (map first_of l.yielded) l.ended.items;
+  back : List g.row.A.Denot;
+  left : back ++ reverse (map first_of l.children.items) ≡ reverse (map first_of l.fn.children.items);
+  ran : AllRan g.A.Seated.ran back l.ended.items;
   over : All (λ y. g.A.Seated.over y ≡ true) l.ended.items;
   room : length l.fn.children.items ≤ vec_capacity l.ended;
 }
+
+abbrev pub decreases-loop-child : goal.decreases-loop-child
+decreases-loop-child g l = length l.children.items

@@ -15,8 +15,10 @@ use std::alloc::Global;
 /// `NoMemory` where the list found none. The programs are dropped.
 pub fn put_all<A: Case>(alloc: Global, mut progs: Progs<A>) -> Result<Progs<AnyProgram>, NoMemory>
     ensures any { IfOk result (λ any. any ≡ map A.case_of progs) }
-    ensures begins { (ranks : ℕ) → 0 < length progs → ((shape : List ℕ) × (most : ℕ) × InRound A.rules ranks 0 shape most progs × EndsWithin A.rules progs most) →
-        IfOk result (λ any. (shape : List ℕ) × (most : ℕ) × InRound any_rules ranks 0 shape most any × EndsWithin any_rules any most) }
+    ensures begins { (ranks : ℕ) → 0 < length progs
+        → ((shape : List ℕ) × (most : ℕ) × InRound A.rules ranks 0 shape most progs × EndsWithin A.rules progs most)
+        → IfOk result (λ any. (shape : List ℕ) × (most : ℕ) × InRound any_rules ranks 0 shape most any
+        × EndsWithin any_rules any most) }
 {
     let mut all = Progs::new(alloc);
     while let Some(prog) = progs.take_first() {
@@ -31,7 +33,8 @@ pub fn put_all<A: Case>(alloc: Global, mut progs: Progs<A>) -> Result<Progs<AnyP
 /// `NoMemory` where the list found none. The programs are dropped.
 pub fn take_all<A: Case>(alloc: Global, mut any: Progs<AnyProgram>) -> Result<Progs<A>, NoMemory>
     requires ended { (starts : List A) × (0 < length starts) × HaveEnded any_rules (map A.case_of starts) any }
-    ensures ended { (starts : List A) → 0 < length starts → HaveEnded any_rules (map A.case_of starts) any → IfOk result (λ progs. HaveEnded A.rules starts progs) }
+    ensures ended { (starts : List A) → 0 < length starts → HaveEnded any_rules (map A.case_of starts) any
+        → IfOk result (λ progs. HaveEnded A.rules starts progs) }
 {
     let mut all = Progs::new(alloc);
     while let Some(prog) = any.take_first() {

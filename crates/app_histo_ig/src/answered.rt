@@ -28,7 +28,8 @@ pub(crate) fn write_sums<Q: Answered, K: Sink>(
 ) -> Result<(), Failed>
     requires sums { HaveSums m.now.entries (map Q.words p.now) }
     ensures ok { OnOk result (appended K.taken out.new ≡ after (appended K.taken out.old) (ig_lines m.now.entries)) }
-    ensures err { OnErr result (IsFront (K.taken out.new.sink.now) (after (appended K.taken out.old) (ig_lines m.now.entries))) }
+    ensures err { OnErr result (IsFront (K.taken out.new.sink.now)
+        (after (appended K.taken out.old) (ig_lines m.now.entries))) }
     ensures cause { HasCause (K.faults out.old.sink.now) (K.faults out.new.sink.now) result }
     ensures never_falls { K.faults out.old.sink.now ≤ K.faults out.new.sink.now }
     ensures grows { IsFront (K.taken out.old.sink.now) (K.taken out.new.sink.now) }
@@ -78,7 +79,8 @@ fn sum_at<Q: Answered>(p: &Progs<Q>, m: &Matrix, at: Dealt) -> i64
     requires sums { HaveSums m.now.entries (map Q.words p.now) }
     requires rank { at.rank < length p.now }
     requires entry { at.turn * length p.now + at.rank < length m.now.entries }
-    ensures { (t : Triple) → slice_get m.now.entries (at.turn * length p.now + at.rank) ≡ Some t → result ≡ column_sum t.j m.now.entries }
+    ensures { (t : Triple) → slice_get m.now.entries (at.turn * length p.now + at.rank) ≡ Some t
+        → result ≡ column_sum t.j m.now.entries }
 {
     let Some(own) = p.get(at.rank) else {
         unreachable!()

@@ -48,7 +48,14 @@ impl Histo {
         requires rank { rank < ranks }
         requires named { All (λ j. j < cols) columns.items }
         requires places { length counts.items ≡ places_for ranks cols }
-        ensures { result ≡ record { rank = rank; ranks = ranks; round = 0; cols = cols; columns = columns.items; counts = counts.items } }
+        ensures { result ≡ record {
+          rank = rank;
+          ranks = ranks;
+          round = 0;
+          cols = cols;
+          columns = columns.items;
+          counts = counts.items;
+        } }
     {
         Histo {
             rank,

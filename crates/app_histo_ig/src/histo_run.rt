@@ -85,10 +85,11 @@ fn columns_of(alloc: Global, parts: &Parts, rank: u32) -> Result<Vec<u32>, NoMem
 /// `Failed` where the sink's faults rose in this call.
 pub fn histo_write<K: Sink>(p: &Progs<Histo>, out: &mut Out<'_, K>) -> Result<(), Failed>
     requires ended { (m : Sparse) × HistoEnded m p.now }
-    ensures ok { (m : Sparse) → HistoEnded m p.now →
-        OnOk result (appended K.taken out.new ≡ after (appended K.taken out.old) (histo_lines m.entries m.cols)) }
-    ensures err { (m : Sparse) → HistoEnded m p.now →
-        OnErr result (IsFront (K.taken out.new.sink.now) (after (appended K.taken out.old) (histo_lines m.entries m.cols))) }
+    ensures ok { (m : Sparse) → HistoEnded m p.now
+        → OnOk result (appended K.taken out.new ≡ after (appended K.taken out.old) (histo_lines m.entries m.cols)) }
+    ensures err { (m : Sparse) → HistoEnded m p.now
+        → OnErr result (IsFront (K.taken out.new.sink.now)
+        (after (appended K.taken out.old) (histo_lines m.entries m.cols))) }
     ensures cause { HasCause (K.faults out.old.sink.now) (K.faults out.new.sink.now) result }
     ensures never_falls { K.faults out.old.sink.now ≤ K.faults out.new.sink.now }
     ensures grows { IsFront (K.taken out.old.sink.now) (K.taken out.new.sink.now) }
@@ -133,7 +134,8 @@ fn count_of(p: &Progs<Histo>, j: u32) -> u64
 pub fn write_count<K: Sink>(out: &mut Out<'_, K>, j: u32, count: u64) -> Result<(), Failed>
     requires { j + 1 < 2 ^ 32 }
     ensures ok { OnOk result (appended K.taken out.new ≡ after (appended K.taken out.old) (histo_line j count)) }
-    ensures err { OnErr result (IsFront (K.taken out.new.sink.now) (after (appended K.taken out.old) (histo_line j count))) }
+    ensures err { OnErr result (IsFront (K.taken out.new.sink.now)
+        (after (appended K.taken out.old) (histo_line j count))) }
     ensures cause { HasCause (K.faults out.old.sink.now) (K.faults out.new.sink.now) result }
     ensures never_falls { K.faults out.old.sink.now ≤ K.faults out.new.sink.now }
     ensures grows { IsFront (K.taken out.old.sink.now) (K.taken out.new.sink.now) }

@@ -46,7 +46,13 @@ impl IgAsker {
         requires asks { All (λ q. (q.0 < ranks) × (q.1 < 2 ^ 64)) queries.items }
         requires words { All (λ v. v < 2 ^ 64) sums.items }
         requires places { length answers.items ≡ length queries.items }
-        ensures { result ≡ record { rank = rank; ranks = ranks; queries = queries.items; sums = sums.items; answers = answers.items } }
+        ensures { result ≡ record {
+          rank = rank;
+          ranks = ranks;
+          queries = queries.items;
+          sums = sums.items;
+          answers = answers.items;
+        } }
     {
         IgAsker {
             rank,

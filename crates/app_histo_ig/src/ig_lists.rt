@@ -25,7 +25,9 @@ pub(crate) fn rise(sums: &mut [u64], ranks: u32, item: Item)
 #[inline(always)]
 pub(crate) fn note(queries: &mut Vec<Vec<Item>>, from: usize, item: Item) -> Result<(), NoMemory>
     requires { from < length queries.old.items }
-    ensures { map (λ l. l.items) queries.new.items ≡ (if is_ok result then noted (map (λ l. l.items) queries.old.items) from item else map (λ l. l.items) queries.old.items) }
+    ensures { map (λ l. l.items) queries.new.items
+        ≡ (if is_ok result then noted (map (λ l. l.items) queries.old.items) from item else map
+        (λ l. l.items) queries.old.items) }
 {
     queries[from].push(item).map_err(|_| NoMemory)
 }
@@ -67,7 +69,8 @@ pub(crate) fn after_round(
 ) -> Result<Vec<(u32, Item)>, NoMemory>
     requires some { 0 < ranks }
     requires senders { length queries.now < 2 ^ 32 }
-    requires asked { All (All (λ x. (x.a < 2 ^ 32) × (x.a / ranks < length sums.now))) (map (λ l. l.items) queries.now) }
+    requires asked { All (All (λ x. (x.a < 2 ^ 32) × (x.a / ranks < length sums.now)))
+        (map (λ l. l.items) queries.now) }
     ensures { IfOk result (λ v. v.items ≡ (if round == 0 then map (to_ask ranks) own.now
         else if round == 1 then replies_from ranks sums.now 0 (map (λ l. l.items) queries.now) else [])) }
 {
@@ -107,7 +110,8 @@ fn replies(
 ) -> Result<Vec<(u32, Item)>, NoMemory>
     requires some { 0 < ranks }
     requires senders { length queries.now < 2 ^ 32 }
-    requires asked { All (All (λ x. (x.a < 2 ^ 32) × (x.a / ranks < length sums.now))) (map (λ l. l.items) queries.now) }
+    requires asked { All (All (λ x. (x.a < 2 ^ 32) × (x.a / ranks < length sums.now)))
+        (map (λ l. l.items) queries.now) }
     ensures { IfOk result (λ v. v.items ≡ replies_from ranks sums.now 0 (map (λ l. l.items) queries.now)) }
 {
     let mut outgoing = Vec::with_capacity(alloc, how_many(queries))?;

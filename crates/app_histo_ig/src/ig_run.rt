@@ -81,7 +81,8 @@ pub(crate) fn values_of(
 ) -> Result<Vec<(u32, Item)>, NoMemory>
     requires some { 0 < ranks }
     requires rank { rank < length parts.now }
-    ensures { IfOk result (λ v. v.items ≡ map (λ e. (column_owner ranks e, value_item e)) (slice_index_or parts.now rank [])) }
+    ensures { IfOk result (λ v. v.items ≡ map (λ e. (column_owner ranks e, value_item e))
+        (slice_index_or parts.now rank [])) }
 {
     let mut values = Vec::with_capacity(alloc, parts.len(rank))?;
     for x in 0..parts.len(rank) {
@@ -129,7 +130,8 @@ fn no_queries(alloc: Global, ranks: u32) -> Result<Vec<Vec<Item>>, NoMemory>
 pub fn ig_write<K: Sink>(p: &Progs<Ig>, m: &Matrix, out: &mut Out<'_, K>) -> Result<(), Failed>
     requires ended { IgEnded m.now p.now }
     ensures ok { OnOk result (appended K.taken out.new ≡ after (appended K.taken out.old) (ig_lines m.now.entries)) }
-    ensures err { OnErr result (IsFront (K.taken out.new.sink.now) (after (appended K.taken out.old) (ig_lines m.now.entries))) }
+    ensures err { OnErr result (IsFront (K.taken out.new.sink.now)
+        (after (appended K.taken out.old) (ig_lines m.now.entries))) }
     ensures cause { HasCause (K.faults out.old.sink.now) (K.faults out.new.sink.now) result }
     ensures never_falls { K.faults out.old.sink.now ≤ K.faults out.new.sink.now }
     ensures grows { IsFront (K.taken out.old.sink.now) (K.taken out.new.sink.now) }

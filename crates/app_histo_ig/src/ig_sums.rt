@@ -54,8 +54,22 @@ impl IgSums {
         values: Vec<(u32, Item)>,
         sums: Vec<u64>,
     ) -> IgSums
-        requires { IsSums (record { rank = rank; ranks = ranks; round = 0; cols = cols; values = values.items; sums = sums.items }) }
-        ensures { result ≡ record { rank = rank; ranks = ranks; round = 0; cols = cols; values = values.items; sums = sums.items } }
+        requires { IsSums (record {
+          rank = rank;
+          ranks = ranks;
+          round = 0;
+          cols = cols;
+          values = values.items;
+          sums = sums.items;
+        }) }
+        ensures { result ≡ record {
+          rank = rank;
+          ranks = ranks;
+          round = 0;
+          cols = cols;
+          values = values.items;
+          sums = sums.items;
+        } }
     {
         IgSums {
             rank,

@@ -83,7 +83,8 @@ fn cells_of(
 ) -> Result<Vec<(u32, Item)>, NoMemory>
     requires some { 0 < ranks }
     requires rank { rank < length parts.now }
-    ensures { IfOk result (λ v. v.items ≡ map (λ e. (row_owner ranks e, cell_item e.1)) (slice_index_or parts.now rank [])) }
+    ensures { IfOk result (λ v. v.items ≡ map (λ e. (row_owner ranks e, cell_item e.1))
+        (slice_index_or parts.now rank [])) }
 {
     let mut outgoing = Vec::with_capacity(alloc, parts.len(rank))?;
     for x in 0..parts.len(rank) {

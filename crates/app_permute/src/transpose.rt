@@ -49,8 +49,24 @@ impl Transpose {
         cols: u32,
         outgoing: Vec<(u32, Item)>,
     ) -> Transpose
-        requires { IsTransposing (record { rank = rank; ranks = ranks; round = 0; rows = rows; cols = cols; outgoing = outgoing.items; cells = [] }) }
-        ensures { result ≡ record { rank = rank; ranks = ranks; round = 0; rows = rows; cols = cols; outgoing = outgoing.items; cells = [] } }
+        requires { IsTransposing (record {
+          rank = rank;
+          ranks = ranks;
+          round = 0;
+          rows = rows;
+          cols = cols;
+          outgoing = outgoing.items;
+          cells = [];
+        }) }
+        ensures { result ≡ record {
+          rank = rank;
+          ranks = ranks;
+          round = 0;
+          rows = rows;
+          cols = cols;
+          outgoing = outgoing.items;
+          cells = [];
+        } }
     {
         Transpose {
             alloc,

@@ -65,7 +65,8 @@ fn turned_of(
 ) -> Result<Vec<(u32, Item)>, NoMemory>
     requires some { 0 < ranks }
     requires rank { rank < length parts.now }
-    ensures { IfOk result (λ v. v.items ≡ map (λ e. (column_owner ranks e, cell_item (turned e.1))) (slice_index_or parts.now rank [])) }
+    ensures { IfOk result (λ v. v.items ≡ map (λ e. (column_owner ranks e, cell_item (turned e.1)))
+        (slice_index_or parts.now rank [])) }
 {
     let mut outgoing = Vec::with_capacity(alloc, parts.len(rank))?;
     for x in 0..parts.len(rank) {

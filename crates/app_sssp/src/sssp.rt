@@ -238,7 +238,8 @@ fn settle_edges(
     requires some { 0 < ranks }
     requires inside { All (λ t. t.i / ranks < length vertices.now) arriving.old }
     requires few { length vertices.now < 2 ^ 32 }
-    ensures table { OnOk result (table.new ≡ (if round == 0 then table_of ranks (length vertices.now) 0 (2 ^ 64 - 1) arriving.old else table.old)) }
+    ensures table { OnOk result (table.new
+        ≡ (if round == 0 then table_of ranks (length vertices.now) 0 (2 ^ 64 - 1) arriving.old else table.old)) }
     ensures settled { OnOk result (arriving.new ≡ (if round == 0 then [] else arriving.old)) }
     ensures table_kept { OnErr result (table.new ≡ table.old) }
     ensures lost { OnErr result (arriving.new ≡ []) }

@@ -89,7 +89,8 @@ pub fn vertices_of(
 ) -> Result<Vertices, NoMemory>
     requires some { 0 < ranks }
     requires place { source / ranks < places }
-    ensures { IfOk result (λ s. s ≡ (if source % ranks == rank then improved_at (source / ranks) 0 (replicate places unreached) else replicate places unreached)) }
+    ensures { IfOk result (λ s. s ≡ (if source % ranks == rank then improved_at (source / ranks) 0
+        (replicate places unreached) else replicate places unreached)) }
 {
     let mut vertices = Vertices::new(alloc, places)?;
     if source % ranks == rank {
@@ -111,7 +112,8 @@ pub fn edges_of(
 ) -> Result<Vec<(u32, Item)>, NoMemory>
     requires some { 0 < ranks }
     requires rank { rank < length parts.now }
-    ensures { IfOk result (λ v. v.items ≡ map (λ e. (row_owner ranks e, edge_item e)) (slice_index_or parts.now rank [])) }
+    ensures { IfOk result (λ v. v.items ≡ map (λ e. (row_owner ranks e, edge_item e))
+        (slice_index_or parts.now rank [])) }
 {
     let mut edges = Vec::with_capacity(alloc, parts.len(rank))?;
     for x in 0..parts.len(rank) {
@@ -140,11 +142,15 @@ fn edge_sent(entry: Triple) -> Item
 /// `Failed` where the sink's faults rose in this call.
 pub fn sssp_write<K: Sink>(p: &Progs<Sssp>, out: &mut Out<'_, K>) -> Result<(), Failed>
     requires ended { (m : Sparse) × (source : ℕ) × SsspEnded m source p.now }
-    ensures least { (m : Sparse) (source : ℕ) → SsspEnded m source p.now → (weights : ℕ → Option ℕ) × AreLeast m source weights }
-    ensures ok { (m : Sparse) (source : ℕ) → SsspEnded m source p.now → (weights : ℕ → Option ℕ) → AreLeast m source weights →
-        OnOk result (appended K.taken out.new ≡ after (appended K.taken out.old) (sssp_lines weights m.rows)) }
-    ensures err { (m : Sparse) (source : ℕ) → SsspEnded m source p.now → (weights : ℕ → Option ℕ) → AreLeast m source weights →
-        OnErr result (IsFront (K.taken out.new.sink.now) (after (appended K.taken out.old) (sssp_lines weights m.rows))) }
+    ensures least { (m : Sparse) (source : ℕ) → SsspEnded m source p.now → (weights : ℕ → Option ℕ)
+        × AreLeast m source weights }
+    ensures ok { (m : Sparse) (source : ℕ) → SsspEnded m source p.now → (weights : ℕ → Option ℕ)
+        → AreLeast m source weights
+        → OnOk result (appended K.taken out.new ≡ after (appended K.taken out.old) (sssp_lines weights m.rows)) }
+    ensures err { (m : Sparse) (source : ℕ) → SsspEnded m source p.now → (weights : ℕ → Option ℕ)
+        → AreLeast m source weights
+        → OnErr result (IsFront (K.taken out.new.sink.now)
+        (after (appended K.taken out.old) (sssp_lines weights m.rows))) }
     ensures cause { HasCause (K.faults out.old.sink.now) (K.faults out.new.sink.now) result }
     ensures never_falls { K.faults out.old.sink.now ≤ K.faults out.new.sink.now }
     ensures grows { IsFront (K.taken out.old.sink.now) (K.taken out.new.sink.now) }

@@ -96,7 +96,8 @@ fn count(lines: &mut Strings, times: &mut Vec<u64>, line: &[u8]) -> Result<(), N
     requires room { All (λ e. e.1 + 1 < 2 ^ 64) (entries_of lines.old times.old.items) }
     requires short { length line.now ≤ 65_535 }
     ensures counts { OnOk result (IsCounts lines.new times.new.items) }
-    ensures counted { OnOk result (entries_of lines.new times.new.items ≡ counted line.now (entries_of lines.old times.old.items)) }
+    ensures counted { OnOk result (entries_of lines.new times.new.items
+        ≡ counted line.now (entries_of lines.old times.old.items)) }
 {
     if ends_with(lines, line) {
         one_more(times);
@@ -120,7 +121,8 @@ fn ends_with(lines: &Strings, line: &[u8]) -> bool
 fn one_more(times: &mut Vec<u64>)
     requires some { 0 < length times.old.items }
     requires room { slice_index times.old.items (length times.old.items - 1) + 1 < 2 ^ 64 }
-    ensures { times.new.items ≡ slice_set times.old.items (length times.old.items - 1) (slice_index times.old.items (length times.old.items - 1) + 1) }
+    ensures { times.new.items ≡ slice_set times.old.items (length times.old.items - 1)
+        (slice_index times.old.items (length times.old.items - 1) + 1) }
 {
     let last = times.len() - 1;
     times[last] += 1;

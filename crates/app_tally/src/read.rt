@@ -50,8 +50,10 @@ impl From<AllocError> for Unread {
 /// and else `LineTooLong` exactly where a line has more than 65,535; want of memory may come at any time.
 pub fn read_lines<S: Source>(alloc: Global, source: &mut S) -> Result<Lines, LinesFault>
     ensures gives { (text : List ℕ) → S.left source.old ≡ Some text → LinesGive result (lines_of_text text) }
-    ensures left { (text : List ℕ) → S.left source.old ≡ Some text → OnRead result (S.left source.new ≡ Some (drop 16_777_217 text)) }
-    ensures behind { (text rest : List ℕ) → S.left source.old ≡ Some text → S.left source.new ≡ Some rest → IsBehind 16_777_217 text rest }
+    ensures left { (text : List ℕ) → S.left source.old ≡ Some text
+        → OnRead result (S.left source.new ≡ Some (drop 16_777_217 text)) }
+    ensures behind { (text rest : List ℕ) → S.left source.old ≡ Some text → S.left source.new ≡ Some rest
+        → IsBehind 16_777_217 text rest }
     ensures told { (text : List ℕ) → S.left source.old ≡ Some text → IsSome (S.left source.new) }
     ensures cause { result ≡ Err LinesFault.Source → Rose (S.faults source.old) (S.faults source.new) }
     ensures never_falls { S.faults source.old ≤ S.faults source.new }
@@ -65,9 +67,12 @@ pub fn read_lines<S: Source>(alloc: Global, source: &mut S) -> Result<Lines, Lin
 
 /// The text of a source, up to `limit` bytes.
 fn read_text<S: Source>(alloc: Global, source: &mut S, limit: usize) -> Result<Vec<u8>, Unread>
-    ensures text { (text : List ℕ) → S.left source.old ≡ Some text → IfOk result (λ read. read.items ≡ take limit text) }
-    ensures left { (text : List ℕ) → S.left source.old ≡ Some text → IfOk result (λ read. S.left source.new ≡ Some (drop limit text)) }
-    ensures behind { (text rest : List ℕ) → S.left source.old ≡ Some text → S.left source.new ≡ Some rest → IsBehind limit text rest }
+    ensures text { (text : List ℕ) → S.left source.old ≡ Some text
+        → IfOk result (λ read. read.items ≡ take limit text) }
+    ensures left { (text : List ℕ) → S.left source.old ≡ Some text
+        → IfOk result (λ read. S.left source.new ≡ Some (drop limit text)) }
+    ensures behind { (text rest : List ℕ) → S.left source.old ≡ Some text → S.left source.new ≡ Some rest
+        → IsBehind limit text rest }
     ensures told { (text : List ℕ) → S.left source.old ≡ Some text → IsSome (S.left source.new) }
     ensures cause { result ≡ Err Unread.Source → Rose (S.faults source.old) (S.faults source.new) }
     ensures never_falls { S.faults source.old ≤ S.faults source.new }

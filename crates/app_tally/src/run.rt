@@ -90,7 +90,8 @@ pub fn tally_end(alloc: Global, p: &Progs<TallyMailer>) -> Result<Counts, NoMemo
 
 /// The lines that came to all ranks.
 fn all_came(alloc: Global, p: &Progs<TallyMailer>) -> Result<Vec<&[u8]>, NoMemory>
-    ensures times { (lines : List (List ℕ)) → TallyEnded lines p.now → IfOk result (λ all. (q : List ℕ) → times q (map (λ l. l.now) all.items) ≡ times q lines) }
+    ensures times { (lines : List (List ℕ)) → TallyEnded lines p.now
+        → IfOk result (λ all. (q : List ℕ) → times q (map (λ l. l.now) all.items) ≡ times q lines) }
     ensures letters { IfOk result (λ all. All IsLetter (map (λ l. l.now) all.items)) }
 {
     let mut all = Vec::new(alloc);

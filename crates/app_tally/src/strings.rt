@@ -96,8 +96,10 @@ fn append(bytes: &mut Vec<u8>, spans: &mut Vec<Span>, string: &[u8]) -> Result<(
     requires short { length string.now ≤ 65_535 }
     requires store { IsStore bytes.old.items spans.old.items }
     ensures store { IsStore bytes.new.items spans.new.items }
-    ensures pushed { OnOk result (strings_at bytes.new.items spans.new.items ≡ strings_at bytes.old.items spans.old.items ++ string.now ∷ []) }
-    ensures refused { OnErr result (strings_at bytes.new.items spans.new.items ≡ strings_at bytes.old.items spans.old.items) }
+    ensures pushed { OnOk result (strings_at bytes.new.items spans.new.items
+        ≡ strings_at bytes.old.items spans.old.items ++ string.now ∷ []) }
+    ensures refused { OnErr result (strings_at bytes.new.items spans.new.items
+        ≡ strings_at bytes.old.items spans.old.items) }
 {
     let start = bytes.len();
     if start > u32::MAX as usize {

@@ -16,7 +16,8 @@ use bale_types::{Failed, Line, Out, Sink};
 /// `Failed` where the sink's faults rose in this call.
 pub fn tally_write<K: Sink>(c: &Counts, out: &mut Out<'_, K>) -> Result<(), Failed>
     ensures ok { OnOk result (appended K.taken out.new ≡ after (appended K.taken out.old) (tally_text c.now)) }
-    ensures err { OnErr result (IsFront (K.taken out.new.sink.now) (after (appended K.taken out.old) (tally_text c.now))) }
+    ensures err { OnErr result (IsFront (K.taken out.new.sink.now)
+        (after (appended K.taken out.old) (tally_text c.now))) }
     ensures cause { HasCause (K.faults out.old.sink.now) (K.faults out.new.sink.now) result }
     ensures never_falls { K.faults out.old.sink.now ≤ K.faults out.new.sink.now }
     ensures grows { IsFront (K.taken out.old.sink.now) (K.taken out.new.sink.now) }
@@ -30,8 +31,10 @@ pub fn tally_write<K: Sink>(c: &Counts, out: &mut Out<'_, K>) -> Result<(), Fail
 
 /// Writes one entry.
 fn write_entry<K: Sink>(out: &mut Out<'_, K>, line: &[u8], times: u64) -> Result<(), Failed>
-    ensures ok { OnOk result (appended K.taken out.new ≡ after (appended K.taken out.old) (entry_text (line.now, times))) }
-    ensures err { OnErr result (IsFront (K.taken out.new.sink.now) (after (appended K.taken out.old) (entry_text (line.now, times)))) }
+    ensures ok { OnOk result (appended K.taken out.new ≡ after (appended K.taken out.old)
+        (entry_text (line.now, times))) }
+    ensures err { OnErr result (IsFront (K.taken out.new.sink.now)
+        (after (appended K.taken out.old) (entry_text (line.now, times)))) }
     ensures cause { HasCause (K.faults out.old.sink.now) (K.faults out.new.sink.now) result }
     ensures never_falls { K.faults out.old.sink.now ≤ K.faults out.new.sink.now }
     ensures grows { IsFront (K.taken out.old.sink.now) (K.taken out.new.sink.now) }

@@ -27,7 +27,8 @@ impl Seat {
     /// Whether another rank may send it such numbers, of which the first is of a row or column of its own.
     #[inline(always)]
     pub(crate) fn owns(self, from: u32, item: Item) -> bool
-        ensures { result ≡ (nat_lt from self.ranks && nat_lt item.a self.size && nat_lt item.b self.size && item.a % self.ranks == self.rank) }
+        ensures { result ≡ (nat_lt from self.ranks && nat_lt item.a self.size && nat_lt item.b
+            self.size && item.a % self.ranks == self.rank) }
     {
         from < self.ranks
             && item.a.max(item.b) < self.size as u64

@@ -27,7 +27,8 @@ use std::alloc::Global;
 pub fn topo_end(alloc: Global, m: &Matrix, p: &Progs<Topo>) -> Result<Option<TopoOrder>, NoMemory>
     requires ended { TopoEnded m.now p.now }
     ensures order { IfOk result (λ o. o ≡ topo_order m.now.rows m.now.entries) }
-    ensures valid { IfOk result (λ o. IfSome o (λ t. IsValid m.now.rows m.now.entries (row_position t) (col_position t))) }
+    ensures valid { IfOk result (λ o. IfSome o (λ t. IsValid m.now.rows m.now.entries (row_position t)
+        (col_position t))) }
     ensures none { IfOk result (λ o. o ≡ None → (p q : ℕ → ℕ) → ¬ IsValid m.now.rows m.now.entries p q) }
 {
     let placed = all_placed(alloc, m, p)?;
@@ -74,7 +75,8 @@ fn raise_placed(all: &mut Cells, claimed: &[Placed]) -> Result<(), NoMemory>
 /// Whether each column was claimed exactly once.
 fn columns_once(m: &Matrix, p: &Progs<Topo>) -> bool
     requires ended { TopoEnded m.now p.now }
-    ensures { result ≡ list_all (λ j. col_claims j (claims_after m.now.rows m.now.entries m.now.rows) == 1) (range_with_len 0 m.now.rows) }
+    ensures { result ≡ list_all (λ j. col_claims j (claims_after m.now.rows m.now.entries m.now.rows) == 1)
+        (range_with_len 0 m.now.rows) }
 {
     for j in 0..m.rows() {
         if claims_at(m, p, j) != 1 {

@@ -15,7 +15,8 @@ use bale_types::{Failed, Line, Out, Sink};
 /// `Failed` where the sink's faults rose in this call.
 pub fn topo_write<K: Sink>(t: &TopoOrder, out: &mut Out<'_, K>) -> Result<(), Failed>
     ensures ok { OnOk result (appended K.taken out.new ≡ after (appended K.taken out.old) (topo_lines t.now)) }
-    ensures err { OnErr result (IsFront (K.taken out.new.sink.now) (after (appended K.taken out.old) (topo_lines t.now))) }
+    ensures err { OnErr result (IsFront (K.taken out.new.sink.now)
+        (after (appended K.taken out.old) (topo_lines t.now))) }
     ensures cause { HasCause (K.faults out.old.sink.now) (K.faults out.new.sink.now) result }
     ensures never_falls { K.faults out.old.sink.now ≤ K.faults out.new.sink.now }
     ensures grows { IsFront (K.taken out.old.sink.now) (K.taken out.new.sink.now) }
@@ -34,7 +35,8 @@ pub fn topo_write<K: Sink>(t: &TopoOrder, out: &mut Out<'_, K>) -> Result<(), Fa
 fn write_line<K: Sink>(out: &mut Out<'_, K>, x: u64, row: u32, column: u32) -> Result<(), Failed>
     requires { x + 1 < 2 ^ 64 }
     ensures ok { OnOk result (appended K.taken out.new ≡ after (appended K.taken out.old) (topo_line x (row, column))) }
-    ensures err { OnErr result (IsFront (K.taken out.new.sink.now) (after (appended K.taken out.old) (topo_line x (row, column)))) }
+    ensures err { OnErr result (IsFront (K.taken out.new.sink.now)
+        (after (appended K.taken out.old) (topo_line x (row, column)))) }
     ensures cause { HasCause (K.faults out.old.sink.now) (K.faults out.new.sink.now) result }
     ensures never_falls { K.faults out.old.sink.now ≤ K.faults out.new.sink.now }
     ensures grows { IsFront (K.taken out.old.sink.now) (K.taken out.new.sink.now) }

@@ -45,8 +45,10 @@ pub(crate) trait Written {
         requires serves { serves task.now of.now }
         requires answers { answers task.now of.now answer.now }
         ensures there_is { (bytes : List ℕ) × IsAnswer task.now (as_subject of.now) bytes }
-        ensures ok { (bytes : List ℕ) → IsAnswer task.now (as_subject of.now) bytes → OnOk result (appended K.taken out.new ≡ after (appended K.taken out.old) bytes) }
-        ensures err { (bytes : List ℕ) → IsAnswer task.now (as_subject of.now) bytes → OnErr result (IsFront (K.taken out.new.sink.now) (after (appended K.taken out.old) bytes)) }
+        ensures ok { (bytes : List ℕ) → IsAnswer task.now (as_subject of.now) bytes
+            → OnOk result (appended K.taken out.new ≡ after (appended K.taken out.old) bytes) }
+        ensures err { (bytes : List ℕ) → IsAnswer task.now (as_subject of.now) bytes
+            → OnErr result (IsFront (K.taken out.new.sink.now) (after (appended K.taken out.old) bytes)) }
         ensures cause { HasCause (K.faults out.old.sink.now) (K.faults out.new.sink.now) result }
         ensures never_falls { K.faults out.old.sink.now ≤ K.faults out.new.sink.now }
         ensures grows { IsFront (K.taken out.old.sink.now) (K.taken out.new.sink.now) }
@@ -72,7 +74,8 @@ pub(crate) trait Application: Written {
         requires some { 1 ≤ ranks }
         requires few { ranks ≤ 64 }
         ensures starts { IfOk result (λ ps. ps ≡ starts task.now ranks of.now) }
-        ensures begins { IfOk result (λ ps. (shape : List ℕ) × (most : ℕ) × InRound Self.Prog.rules ranks 0 shape most ps × EndsWithin Self.Prog.rules ps most) };
+        ensures begins { IfOk result (λ ps. (shape : List ℕ) × (most : ℕ)
+            × InRound Self.Prog.rules ranks 0 shape most ps × EndsWithin Self.Prog.rules ps most) };
 
     /// The answer, once the programs ended.
     fn end(
@@ -82,6 +85,7 @@ pub(crate) trait Application: Written {
         progs: Progs<Self::Prog>,
     ) -> Result<Self::Answer, NoMemory>
         requires serves { Self.serves task.now of.now }
-        requires ended { (ranks : ℕ) × (1 ≤ ranks) × (ranks ≤ 64) × HaveEnded Self.Prog.rules (starts task.now ranks of.now) progs }
+        requires ended { (ranks : ℕ) × (1 ≤ ranks) × (ranks ≤ 64)
+            × HaveEnded Self.Prog.rules (starts task.now ranks of.now) progs }
         ensures { IfOk result (λ a. Self.answers task.now of.now a) };
 }

@@ -65,7 +65,8 @@ impl Application for HistoAnswer {
         progs: Progs<Histo>,
     ) -> Result<Progs<Histo>, NoMemory>
         requires serves { ServesHisto task.now m.now }
-        requires ended { (ranks : ℕ) × (1 ≤ ranks) × (ranks ≤ 64) × HaveEnded histo_rules (histo_starts ranks m.now) progs }
+        requires ended { (ranks : ℕ) × (1 ≤ ranks) × (ranks ≤ 64)
+            × HaveEnded histo_rules (histo_starts ranks m.now) progs }
         ensures { IfOk result (λ a. HistoEnded m.now a) }
     {
         m.known();

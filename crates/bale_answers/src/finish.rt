@@ -56,10 +56,12 @@ pub fn finished<K: Sink>(
     requires suits { suits task.now subject.now ≡ true }
     requires ranges { TaskInRanges task.now }
     requires fits { (serial : Bool) × (first_failed (subject_tests task.now subject.now serial) ≡ None) }
-    requires ended { (ranks : ℕ) × (1 ≤ ranks) × (ranks ≤ 64) × (0 < length (starts_of task.now ranks subject.now)) × HaveEnded any_rules (starts_of task.now ranks subject.now) progs }
+    requires ended { (ranks : ℕ) × (1 ≤ ranks) × (ranks ≤ 64) × (0 < length (starts_of task.now ranks subject.now))
+        × HaveEnded any_rules (starts_of task.now ranks subject.now) progs }
     ensures status { IfOk result (λ e. e.status ≡ task_status task.now subject.now) }
     ensures low { IfOk result (λ e. e.status ≤ 1) }
-    ensures answer { IfOk result (λ e. HasWritten (IsAnswer task.now subject.now) (shown generated) (K.taken out.old) (K.taken out.new) e.written) }
+    ensures answer { IfOk result (λ e. HasWritten (IsAnswer task.now subject.now) (shown generated) (K.taken out.old)
+        (K.taken out.new) e.written) }
     ensures cause { IfOk result (λ e. HasCause (K.faults out.old) (K.faults out.new) e.written) }
     ensures held { IsFront (K.taken out.old) (K.taken out.new) }
     ensures no_answer { OnErr result (K.taken out.new ≡ K.taken out.old) }
@@ -83,7 +85,8 @@ pub fn finished_by_asking<K: Sink>(
     requires heard { IgHeard m.now askers.now }
     ensures status { result.status ≡ matrix_status Task.Ig m.now }
     ensures low { result.status ≤ 1 }
-    ensures answer { HasWritten (IsMatrixAnswer Task.Ig m.now) (shown generated) (K.taken out.old) (K.taken out.new) result.written }
+    ensures answer { HasWritten (IsMatrixAnswer Task.Ig m.now) (shown generated) (K.taken out.old)
+        (K.taken out.new) result.written }
     ensures cause { HasCause (K.faults out.old) (K.faults out.new) result.written }
     ensures held { IsFront (K.taken out.old) (K.taken out.new) }
 {
@@ -103,10 +106,12 @@ fn finished_on<K: Sink>(
     requires other { is_tally task.now ≡ false }
     requires ranges { TaskInRanges task.now }
     requires fits { (serial : Bool) × (task_unfitness task.now m.now serial ≡ None) }
-    requires ended { (ranks : ℕ) × (1 ≤ ranks) × (ranks ≤ 64) × (0 < length (matrix_starts task.now ranks m.now)) × HaveEnded any_rules (matrix_starts task.now ranks m.now) progs }
+    requires ended { (ranks : ℕ) × (1 ≤ ranks) × (ranks ≤ 64) × (0 < length (matrix_starts task.now ranks m.now))
+        × HaveEnded any_rules (matrix_starts task.now ranks m.now) progs }
     ensures status { IfOk result (λ e. e.status ≡ matrix_status task.now m.now) }
     ensures low { IfOk result (λ e. e.status ≤ 1) }
-    ensures answer { IfOk result (λ e. HasWritten (IsMatrixAnswer task.now m.now) (shown generated) (K.taken out.old) (K.taken out.new) e.written) }
+    ensures answer { IfOk result (λ e. HasWritten (IsMatrixAnswer task.now m.now) (shown generated) (K.taken out.old)
+        (K.taken out.new) e.written) }
     ensures cause { IfOk result (λ e. HasCause (K.faults out.old) (K.faults out.new) e.written) }
     ensures held { IsFront (K.taken out.old) (K.taken out.new) }
     ensures no_answer { OnErr result (K.taken out.new ≡ K.taken out.old) }
@@ -136,10 +141,13 @@ fn finished_as<A: Application, K: Sink>(
     out: &mut K,
 ) -> Result<Ending, NoMemory>
     requires serves { A.serves task.now of.now }
-    requires ended { (ranks : ℕ) × (1 ≤ ranks) × (ranks ≤ 64) × (0 < length (map A.Prog.case_of (A.starts task.now ranks of.now))) × HaveEnded any_rules (map A.Prog.case_of (A.starts task.now ranks of.now)) progs }
+    requires ended { (ranks : ℕ) × (1 ≤ ranks) × (ranks ≤ 64)
+        × (0 < length (map A.Prog.case_of (A.starts task.now ranks of.now)))
+        × HaveEnded any_rules (map A.Prog.case_of (A.starts task.now ranks of.now)) progs }
     ensures status { IfOk result (λ e. e.status ≡ task_status task.now (A.as_subject of.now)) }
     ensures low { IfOk result (λ e. e.status ≤ 1) }
-    ensures answer { IfOk result (λ e. HasWritten (IsAnswer task.now (A.as_subject of.now)) (shown generated) (K.taken out.old) (K.taken out.new) e.written) }
+    ensures answer { IfOk result (λ e. HasWritten (IsAnswer task.now (A.as_subject of.now)) (shown generated)
+        (K.taken out.old) (K.taken out.new) e.written) }
     ensures cause { IfOk result (λ e. HasCause (K.faults out.old) (K.faults out.new) e.written) }
     ensures held { IsFront (K.taken out.old) (K.taken out.new) }
     ensures no_answer { OnErr result (K.taken out.new ≡ K.taken out.old) }
@@ -161,7 +169,8 @@ fn written_as<A: Written, K: Sink>(
     requires answers { A.answers task.now of.now answer.now }
     ensures status { result.status ≡ task_status task.now (A.as_subject of.now) }
     ensures low { result.status ≤ 1 }
-    ensures answer { HasWritten (IsAnswer task.now (A.as_subject of.now)) (shown generated) (K.taken out.old) (K.taken out.new) result.written }
+    ensures answer { HasWritten (IsAnswer task.now (A.as_subject of.now)) (shown generated) (K.taken out.old)
+        (K.taken out.new) result.written }
     ensures cause { HasCause (K.faults out.old) (K.faults out.new) result.written }
     ensures held { IsFront (K.taken out.old) (K.taken out.new) }
 {
@@ -182,7 +191,8 @@ fn write_answer<A: Written, K: Sink>(
 ) -> Result<(), Failed>
     requires serves { A.serves task.now of.now }
     requires answers { A.answers task.now of.now answer.now }
-    ensures answer { HasWritten (IsAnswer task.now (A.as_subject of.now)) (λ bytes. bytes) (K.taken sink.old) (K.taken sink.new) result }
+    ensures answer { HasWritten (IsAnswer task.now (A.as_subject of.now)) (λ bytes. bytes) (K.taken sink.old)
+        (K.taken sink.new) result }
     ensures held { IsFront (K.taken sink.old) (K.taken sink.new) }
     ensures cause { HasCause (K.faults sink.old) (K.faults sink.new) result }
 {
@@ -198,7 +208,8 @@ fn write_all<A: Written, K: Sink>(
 ) -> Result<(), Failed>
     requires serves { A.serves task.now of.now }
     requires answers { A.answers task.now of.now answer.now }
-    ensures answer { HasWritten (IsAnswer task.now (A.as_subject of.now)) (λ bytes. bytes) (appended K.taken out.old) (K.taken out.new.sink.now) result }
+    ensures answer { HasWritten (IsAnswer task.now (A.as_subject of.now)) (λ bytes. bytes) (appended K.taken out.old)
+        (K.taken out.new.sink.now) result }
     ensures cause { HasCause (K.faults out.old.sink.now) (K.faults out.new.sink.now) result }
     ensures held { IsFront (K.taken out.old.sink.now) (K.taken out.new.sink.now) }
     ensures same_sink { out.new.sink.ghost_name ≡ out.old.sink.ghost_name }
@@ -216,7 +227,8 @@ fn write_summary<A: Written, K: Sink>(
 ) -> Result<(), Failed>
     requires serves { A.serves task.now of.now }
     requires answers { A.answers task.now of.now answer.now }
-    ensures answer { HasWritten (IsAnswer task.now (A.as_subject of.now)) summary_of (K.taken sink.old) (K.taken sink.new) result }
+    ensures answer { HasWritten (IsAnswer task.now (A.as_subject of.now)) summary_of (K.taken sink.old)
+        (K.taken sink.new) result }
     ensures held { IsFront (K.taken sink.old) (K.taken sink.new) }
     ensures cause { HasCause (K.faults sink.old) (K.faults sink.new) result }
 {
@@ -231,7 +243,8 @@ fn write_summary<A: Written, K: Sink>(
 /// Writes the line of a count through a buffer.
 fn write_line<K: Sink>(counter: &Counter, sink: &mut K) -> Result<(), Failed>
     ensures ok { OnOk result (K.taken sink.new ≡ after (K.taken sink.old) (summary_of (bytes_of counter.now.log))) }
-    ensures err { OnErr result (IsFront (K.taken sink.new) (after (K.taken sink.old) (summary_of (bytes_of counter.now.log)))) }
+    ensures err { OnErr result (IsFront (K.taken sink.new)
+        (after (K.taken sink.old) (summary_of (bytes_of counter.now.log)))) }
     ensures held { IsFront (K.taken sink.old) (K.taken sink.new) }
     ensures cause { HasCause (K.faults sink.old) (K.faults sink.new) result }
 {

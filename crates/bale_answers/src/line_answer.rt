@@ -68,7 +68,8 @@ impl Application for TallyAnswer {
         lines: &Lines,
         progs: Progs<TallyMailer>,
     ) -> Result<Counts, NoMemory>
-        requires ended { (ranks : ℕ) × (1 ≤ ranks) × (ranks ≤ 64) × HaveEnded (mail_rules tally_rules) (tally_starts ranks lines.now) progs }
+        requires ended { (ranks : ℕ) × (1 ≤ ranks) × (ranks ≤ 64)
+            × HaveEnded (mail_rules tally_rules) (tally_starts ranks lines.now) progs }
         ensures { IfOk result (λ counts. counts ≡ tally_of lines.now) }
     {
         lines.known();

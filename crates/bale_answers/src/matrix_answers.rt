@@ -89,7 +89,9 @@ impl Application for PermuteAnswer {
         progs: Progs<Permute>,
     ) -> Result<Matrix, NoMemory>
         requires serves { ServesPermute task.now m.now }
-        requires ended { (ranks : ℕ) × (1 ≤ ranks) × (ranks ≤ 64) × HaveEnded permute_rules (permute_starts ranks m.now (moves_of task.now m.now).rows (moves_of task.now m.now).cols) progs }
+        requires ended { (ranks : ℕ) × (1 ≤ ranks) × (ranks ≤ 64)
+            × HaveEnded permute_rules (permute_starts ranks m.now (moves_of task.now m.now).rows
+            (moves_of task.now m.now).cols) progs }
         ensures { IfOk result (λ b. b ≡ permuted (moves_of task.now m.now).rows (moves_of task.now m.now).cols m.now) }
     {
         m.known();
@@ -153,7 +155,8 @@ impl Application for TransposeAnswer {
         progs: Progs<Transpose>,
     ) -> Result<Matrix, NoMemory>
         requires serves { ServesTranspose task.now m.now }
-        requires ended { (ranks : ℕ) × (1 ≤ ranks) × (ranks ≤ 64) × HaveEnded transpose_rules (transpose_starts ranks m.now) progs }
+        requires ended { (ranks : ℕ) × (1 ≤ ranks) × (ranks ≤ 64)
+            × HaveEnded transpose_rules (transpose_starts ranks m.now) progs }
         ensures { IfOk result (λ b. b ≡ transposed m.now) }
     {
         m.known();

@@ -72,7 +72,8 @@ impl Application for OrderAnswer {
         progs: Progs<Topo>,
     ) -> Result<Option<TopoOrder>, NoMemory>
         requires serves { ServesTopo task.now m.now }
-        requires ended { (ranks : ℕ) × (1 ≤ ranks) × (ranks ≤ 64) × HaveEnded topo_rules (topo_starts ranks m.now) progs }
+        requires ended { (ranks : ℕ) × (1 ≤ ranks) × (ranks ≤ 64)
+            × HaveEnded topo_rules (topo_starts ranks m.now) progs }
         ensures { IfOk result (λ o. o ≡ topo_order m.now.rows m.now.entries) }
     {
         m.known();
@@ -83,7 +84,8 @@ impl Application for OrderAnswer {
 /// The lines of an order, or that there is none.
 fn write_order<K: Sink>(order: &Option<TopoOrder>, out: &mut Out<'_, K>) -> Result<(), Failed>
     ensures ok { OnOk result (appended K.taken out.new ≡ after (appended K.taken out.old) (order_text order.now)) }
-    ensures err { OnErr result (IsFront (K.taken out.new.sink.now) (after (appended K.taken out.old) (order_text order.now))) }
+    ensures err { OnErr result (IsFront (K.taken out.new.sink.now)
+        (after (appended K.taken out.old) (order_text order.now))) }
     ensures cause { HasCause (K.faults out.old.sink.now) (K.faults out.new.sink.now) result }
     ensures never_falls { K.faults out.old.sink.now ≤ K.faults out.new.sink.now }
     ensures grows { IsFront (K.taken out.old.sink.now) (K.taken out.new.sink.now) }

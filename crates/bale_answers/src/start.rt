@@ -38,7 +38,8 @@ pub fn started(
     requires some { 1 ≤ ranks }
     requires few { ranks ≤ 64 }
     ensures starts { IfOk result (λ ps. ps ≡ starts_of task.now ranks subject.now) }
-    ensures begins { IfOk result (λ ps. (shape : List ℕ) × (most : ℕ) × InRound any_rules ranks 0 shape most ps × EndsWithin any_rules ps most) }
+    ensures begins { IfOk result (λ ps. (shape : List ℕ) × (most : ℕ) × InRound any_rules ranks 0 shape most ps
+        × EndsWithin any_rules ps most) }
 {
     match subject {
         Subject::Matrix(m) => started_on(alloc, task, m, ranks),
@@ -59,7 +60,8 @@ fn started_on(
     requires some { 1 ≤ ranks }
     requires few { ranks ≤ 64 }
     ensures starts { IfOk result (λ ps. ps ≡ matrix_starts task.now ranks m.now) }
-    ensures begins { IfOk result (λ ps. (shape : List ℕ) × (most : ℕ) × InRound any_rules ranks 0 shape most ps × EndsWithin any_rules ps most) }
+    ensures begins { IfOk result (λ ps. (shape : List ℕ) × (most : ℕ) × InRound any_rules ranks 0 shape most ps
+        × EndsWithin any_rules ps most) }
 {
     m.known();
     match task {
@@ -85,7 +87,8 @@ fn started_as<A: Application>(
     requires some { 1 ≤ ranks }
     requires few { ranks ≤ 64 }
     ensures starts { IfOk result (λ ps. ps ≡ map A.Prog.case_of (A.starts task.now ranks of.now)) }
-    ensures begins { IfOk result (λ ps. (shape : List ℕ) × (most : ℕ) × InRound any_rules ranks 0 shape most ps × EndsWithin any_rules ps most) }
+    ensures begins { IfOk result (λ ps. (shape : List ℕ) × (most : ℕ) × InRound any_rules ranks 0 shape most ps
+        × EndsWithin any_rules ps most) }
 {
     let progs = A::start(alloc, task, of, ranks)?;
     put_all(alloc, progs)

@@ -71,7 +71,8 @@ impl Application for SsspAnswer {
         progs: Progs<Sssp>,
     ) -> Result<Progs<Sssp>, NoMemory>
         requires serves { ServesSssp task.now m.now }
-        requires ended { (ranks : ℕ) × (1 ≤ ranks) × (ranks ≤ 64) × HaveEnded sssp_rules (sssp_starts ranks m.now (source_of task.now)) progs }
+        requires ended { (ranks : ℕ) × (1 ≤ ranks) × (ranks ≤ 64)
+            × HaveEnded sssp_rules (sssp_starts ranks m.now (source_of task.now)) progs }
         ensures { IfOk result (λ a. SsspEnded m.now (source_of task.now) a) }
     {
         m.known();
@@ -133,7 +134,8 @@ impl Application for DeltaAnswer {
         progs: Progs<Delta>,
     ) -> Result<Progs<Delta>, NoMemory>
         requires serves { ServesDelta task.now m.now }
-        requires ended { (ranks : ℕ) × (1 ≤ ranks) × (ranks ≤ 64) × HaveEnded delta_rules (delta_starts ranks m.now (source_of task.now) (width_of task.now)) progs }
+        requires ended { (ranks : ℕ) × (1 ≤ ranks) × (ranks ≤ 64)
+            × HaveEnded delta_rules (delta_starts ranks m.now (source_of task.now) (width_of task.now)) progs }
         ensures { IfOk result (λ a. DeltaEnded m.now (source_of task.now) a) }
     {
         m.known();

@@ -48,38 +48,51 @@ pub fn run<R: Threads + Wait + Sync, S: Source, K: Sink, E: Sink, G: Gate + Sync
     // The status is the serial answer's; a fault has its cause outside, and want of memory is free.
     ensures usage { result.status ≡ 2 → command_of (map string_bytes words.now) ≡ None }
     ensures no_command { command_of (map string_bytes words.now) ≡ None → result.status ≢ 7 → result.status ≡ 2 }
-    ensures status { (text : List ℕ) → Told (command_of (map string_bytes words.now)) (S.left source.old) text → result.status ≢ 3 → result.status ≢ 4 → result.status ≢ 7 →
-        result.status ≡ (serial_answer as_asked (map string_bytes words.now) text).status }
+    ensures status { (text : List ℕ) → Told (command_of (map string_bytes words.now)) (S.left source.old) text
+        → result.status ≢ 3 → result.status ≢ 4 → result.status ≢ 7
+        → result.status ≡ (serial_answer as_asked (map string_bytes words.now) text).status }
     ensures read_fault { result.status ≡ 3 → Rose (S.faults source.old) (S.faults source.new) }
     ensures write_fault { result.status ≡ 4 → Rose (K.faults out.old) (K.faults out.new) }
 
     // No byte is read where the matrix is generated, nor at 2; at 0, 1, 4, 5 and 6 the text was read whole, or to one byte past its limit.
     ensures unread { reads (command_of (map string_bytes words.now)) ≡ false → S.left source.new ≡ S.left source.old }
-    ensures read_whole { (text : List ℕ) → S.left source.old ≡ Some text → reads (command_of (map string_bytes words.now)) ≡ true →
-        result.status ≢ 3 → result.status ≢ 7 → S.left source.new ≡ Some (drop 16_777_217 text) }
+    ensures read_whole { (text : List ℕ) → S.left source.old ≡ Some text
+        → reads (command_of (map string_bytes words.now)) ≡ true
+        → result.status ≢ 3 → result.status ≢ 7 → S.left source.new ≡ Some (drop 16_777_217 text) }
 
     // At 0 and 1 out has taken the answer, at 4 a front of it, and else nothing; what it held stays, so at 4 it has what it held and then a front
     // of the answer.
-    ensures answer { (text : List ℕ) → Told (command_of (map string_bytes words.now)) (S.left source.old) text → (result.status ≡ 0) ⊎ (result.status ≡ 1) →
-        Wrote as_asked (command_of (map string_bytes words.now)) text (λ bytes. K.taken out.new ≡ after (K.taken out.old) bytes) }
-    ensures front { (text : List ℕ) → Told (command_of (map string_bytes words.now)) (S.left source.old) text → result.status ≡ 4 →
-        Wrote as_asked (command_of (map string_bytes words.now)) text (λ bytes. IsFront (K.taken out.new) (after (K.taken out.old) bytes)) }
+    ensures answer { (text : List ℕ) → Told (command_of (map string_bytes words.now)) (S.left source.old) text
+        → (result.status ≡ 0) ⊎ (result.status ≡ 1)
+        → Wrote as_asked (command_of (map string_bytes words.now)) text
+        (λ bytes. K.taken out.new ≡ after (K.taken out.old) bytes) }
+    ensures front { (text : List ℕ) → Told (command_of (map string_bytes words.now)) (S.left source.old) text
+        → result.status ≡ 4
+        → Wrote as_asked (command_of (map string_bytes words.now)) text
+        (λ bytes. IsFront (K.taken out.new) (after (K.taken out.old) bytes)) }
     ensures held { IsFront (K.taken out.old) (K.taken out.new) }
     ensures no_answer { result.status ≢ 0 → result.status ≢ 1 → result.status ≢ 4 → K.taken out.new ≡ K.taken out.old }
 
     // What is said on err is whole unless its own faults rose; the text matters at 5 and 6 alone.
-    ensures said { (text : List ℕ) → ((result.status ≡ 5) ⊎ (result.status ≡ 6) → Told (command_of (map string_bytes words.now)) (S.left source.old) text) → ¬ Rose (E.faults err.old) (E.faults err.new) →
-        E.taken err.new ≡ after (E.taken err.old) (said result.status (serial_answer as_asked (map string_bytes words.now) text)) }
-    ensures said_front { (text : List ℕ) → ((result.status ≡ 5) ⊎ (result.status ≡ 6) → Told (command_of (map string_bytes words.now)) (S.left source.old) text) →
-        IsFront (E.taken err.new) (after (E.taken err.old) (said result.status (serial_answer as_asked (map string_bytes words.now) text))) }
+    ensures said { (text : List ℕ) → ((result.status ≡ 5) ⊎ (result.status ≡ 6)
+        → Told (command_of (map string_bytes words.now)) (S.left source.old) text)
+        → ¬ Rose (E.faults err.old) (E.faults err.new)
+        → E.taken err.new ≡ after (E.taken err.old)
+        (said result.status (serial_answer as_asked (map string_bytes words.now) text)) }
+    ensures said_front { (text : List ℕ) → ((result.status ≡ 5) ⊎ (result.status ≡ 6)
+        → Told (command_of (map string_bytes words.now)) (S.left source.old) text)
+        → IsFront (E.taken err.new) (after (E.taken err.old)
+        (said result.status (serial_answer as_asked (map string_bytes words.now) text))) }
     ensures said_held { IsFront (E.taken err.old) (E.taken err.new) }
     ensures silent { (result.status ≡ 0) ⊎ (result.status ≡ 1) → E.taken err.new ≡ E.taken err.old }
 
     // At 0, 1 and 4 the rounds tell the canonical run of the application's programs for its matrix or lines, and for ig over biconvey that
     // of the sums and then the queries and the replies, over banks of the grid, the capacity and the slots that the words name: plain
     // ones for one thread, else ones of slots; else there are none.
-    ensures rounds { (text : List ℕ) (c : Command) (s : Subject) → Asked as_asked (S.left source.old) (command_of (map string_bytes words.now)) text c s → (result.status ≡ 0) ⊎ (result.status ≡ 1) ⊎ (result.status ≡ 4) →
-        TellsCommand (as_asked c) c s result.rounds }
+    ensures rounds { (text : List ℕ) (c : Command) (s : Subject)
+        → Asked as_asked (S.left source.old) (command_of (map string_bytes words.now)) text c s
+        → (result.status ≡ 0) ⊎ (result.status ≡ 1) ⊎ (result.status ≡ 4)
+        → TellsCommand (as_asked c) c s result.rounds }
     ensures no_rounds { result.status ≢ 0 → result.status ≢ 1 → result.status ≢ 4 → result.rounds ≡ [] }
 {
     let answered = answer(rt, alloc, words, source, out, gate);
@@ -103,44 +116,59 @@ pub fn run_serial<S: Source, K: Sink, E: Sink, L: Ledger>(
     // The status is the serial answer's; a fault has its cause outside, and want of memory is free.
     ensures usage { result.status ≡ 2 → command_of (map string_bytes words.now) ≡ None }
     ensures no_command { command_of (map string_bytes words.now) ≡ None → result.status ≢ 7 → result.status ≡ 2 }
-    ensures status { (text : List ℕ) → Told (command_of (map string_bytes words.now)) (S.left source.old) text → result.status ≢ 3 → result.status ≢ 4 → result.status ≢ 7 →
-        result.status ≡ (serial_answer on_one_thread (map string_bytes words.now) text).status }
+    ensures status { (text : List ℕ) → Told (command_of (map string_bytes words.now)) (S.left source.old) text
+        → result.status ≢ 3 → result.status ≢ 4 → result.status ≢ 7
+        → result.status ≡ (serial_answer on_one_thread (map string_bytes words.now) text).status }
     ensures read_fault { result.status ≡ 3 → Rose (S.faults source.old) (S.faults source.new) }
     ensures write_fault { result.status ≡ 4 → Rose (K.faults out.old) (K.faults out.new) }
 
     // No byte is read where the matrix is generated, nor at 2; at 0, 1, 4, 5 and 6 the text was read whole, or to one byte past its limit.
     ensures unread { reads (command_of (map string_bytes words.now)) ≡ false → S.left source.new ≡ S.left source.old }
-    ensures read_whole { (text : List ℕ) → S.left source.old ≡ Some text → reads (command_of (map string_bytes words.now)) ≡ true →
-        result.status ≢ 3 → result.status ≢ 7 → S.left source.new ≡ Some (drop 16_777_217 text) }
+    ensures read_whole { (text : List ℕ) → S.left source.old ≡ Some text
+        → reads (command_of (map string_bytes words.now)) ≡ true
+        → result.status ≢ 3 → result.status ≢ 7 → S.left source.new ≡ Some (drop 16_777_217 text) }
 
     // At 0 and 1 out has taken the answer, at 4 a front of it, and else nothing; what it held stays, so at 4 it has what it held and then a front
     // of the answer.
-    ensures answer { (text : List ℕ) → Told (command_of (map string_bytes words.now)) (S.left source.old) text → (result.status ≡ 0) ⊎ (result.status ≡ 1) →
-        Wrote on_one_thread (command_of (map string_bytes words.now)) text (λ bytes. K.taken out.new ≡ after (K.taken out.old) bytes) }
-    ensures front { (text : List ℕ) → Told (command_of (map string_bytes words.now)) (S.left source.old) text → result.status ≡ 4 →
-        Wrote on_one_thread (command_of (map string_bytes words.now)) text (λ bytes. IsFront (K.taken out.new) (after (K.taken out.old) bytes)) }
+    ensures answer { (text : List ℕ) → Told (command_of (map string_bytes words.now)) (S.left source.old) text
+        → (result.status ≡ 0) ⊎ (result.status ≡ 1)
+        → Wrote on_one_thread (command_of (map string_bytes words.now)) text
+        (λ bytes. K.taken out.new ≡ after (K.taken out.old) bytes) }
+    ensures front { (text : List ℕ) → Told (command_of (map string_bytes words.now)) (S.left source.old) text
+        → result.status ≡ 4
+        → Wrote on_one_thread (command_of (map string_bytes words.now)) text
+        (λ bytes. IsFront (K.taken out.new) (after (K.taken out.old) bytes)) }
     ensures held { IsFront (K.taken out.old) (K.taken out.new) }
     ensures no_answer { result.status ≢ 0 → result.status ≢ 1 → result.status ≢ 4 → K.taken out.new ≡ K.taken out.old }
 
     // What is said on err is whole unless its own faults rose; the text matters at 5 and 6 alone.
-    ensures said { (text : List ℕ) → ((result.status ≡ 5) ⊎ (result.status ≡ 6) → Told (command_of (map string_bytes words.now)) (S.left source.old) text) → ¬ Rose (E.faults err.old) (E.faults err.new) →
-        E.taken err.new ≡ after (E.taken err.old) (said result.status (serial_answer on_one_thread (map string_bytes words.now) text)) }
-    ensures said_front { (text : List ℕ) → ((result.status ≡ 5) ⊎ (result.status ≡ 6) → Told (command_of (map string_bytes words.now)) (S.left source.old) text) →
-        IsFront (E.taken err.new) (after (E.taken err.old) (said result.status (serial_answer on_one_thread (map string_bytes words.now) text))) }
+    ensures said { (text : List ℕ) → ((result.status ≡ 5) ⊎ (result.status ≡ 6)
+        → Told (command_of (map string_bytes words.now)) (S.left source.old) text)
+        → ¬ Rose (E.faults err.old) (E.faults err.new)
+        → E.taken err.new ≡ after (E.taken err.old)
+        (said result.status (serial_answer on_one_thread (map string_bytes words.now) text)) }
+    ensures said_front { (text : List ℕ) → ((result.status ≡ 5) ⊎ (result.status ≡ 6)
+        → Told (command_of (map string_bytes words.now)) (S.left source.old) text)
+        → IsFront (E.taken err.new) (after (E.taken err.old)
+        (said result.status (serial_answer on_one_thread (map string_bytes words.now) text))) }
     ensures said_held { IsFront (E.taken err.old) (E.taken err.new) }
     ensures silent { (result.status ≡ 0) ⊎ (result.status ≡ 1) → E.taken err.new ≡ E.taken err.old }
 
     // At 0, 1 and 4 the rounds tell the canonical run of the application's programs for its matrix or lines, and for ig over biconvey that
     // of the sums and then the queries and the replies, over plain banks of the grid, the capacity and the slots that the words name; else
     // there are none.
-    ensures rounds { (text : List ℕ) (c : Command) (s : Subject) → Asked on_one_thread (S.left source.old) (command_of (map string_bytes words.now)) text c s → (result.status ≡ 0) ⊎ (result.status ≡ 1) ⊎ (result.status ≡ 4) →
-        TellsCommand true c s result.rounds }
+    ensures rounds { (text : List ℕ) (c : Command) (s : Subject)
+        → Asked on_one_thread (S.left source.old) (command_of (map string_bytes words.now)) text c s
+        → (result.status ≡ 0) ⊎ (result.status ≡ 1) ⊎ (result.status ≡ 4)
+        → TellsCommand true c s result.rounds }
     ensures no_rounds { result.status ≢ 0 → result.status ≢ 1 → result.status ≢ 4 → result.rounds ≡ [] }
 
     // The turns are bounded by the words and the matrix or lines, at 7 too; a refusal makes none.
-    ensures steps { (text : List ℕ) (c : Command) (s : Subject) → Asked on_one_thread (S.left source.old) (command_of (map string_bytes words.now)) text c s →
-        TurnsOfCommand c s steps.old steps.new }
-    ensures no_turns { result.status ≢ 0 → result.status ≢ 1 → result.status ≢ 4 → result.status ≢ 7 → steps.new ≡ steps.old }
+    ensures steps { (text : List ℕ) (c : Command) (s : Subject)
+        → Asked on_one_thread (S.left source.old) (command_of (map string_bytes words.now)) text c s
+        → TurnsOfCommand c s steps.old steps.new }
+    ensures no_turns { result.status ≢ 0 → result.status ≢ 1 → result.status ≢ 4 → result.status ≢ 7
+        → steps.new ≡ steps.old }
 {
     let answered = answer_serially(alloc, words, source, out, steps);
     outcome_of(alloc, answered, err)
@@ -151,10 +179,14 @@ fn outcome_of<E: Sink>(alloc: Global, answered: Result<Finish, Refusal>, err: &m
     requires low { IfOk answered (λ f. f.status ≤ 1) }
     ensures rounds { IfOk answered (λ f. result.rounds ≡ f.rounds) }
     ensures no_rounds { OnErr answered (result.rounds ≡ []) }
-    ensures written { IfOk answered (λ f. OnOk f.written ((result.status ≡ f.status) × (result.status ≤ 1) × (E.taken err.new ≡ E.taken err.old))) }
-    ensures unwritten { IfOk answered (λ f. OnErr f.written ((result.status ≡ 4) × (¬ Rose (E.faults err.old) (E.faults err.new) → E.taken err.new ≡ after (E.taken err.old) (refusal_text Refusal.WriteFault))
+    ensures written { IfOk answered (λ f. OnOk f.written ((result.status ≡ f.status) × (result.status ≤ 1)
+        × (E.taken err.new ≡ E.taken err.old))) }
+    ensures unwritten { IfOk answered (λ f. OnErr f.written ((result.status ≡ 4)
+        × (¬ Rose (E.faults err.old) (E.faults err.new) → E.taken err.new
+        ≡ after (E.taken err.old) (refusal_text Refusal.WriteFault))
         × IsFront (E.taken err.new) (after (E.taken err.old) (refusal_text Refusal.WriteFault)))) }
-    ensures refused { IfErr answered (λ r. (result.status ≡ status_of r) × (¬ Rose (E.faults err.old) (E.faults err.new) → E.taken err.new ≡ after (E.taken err.old) (refusal_text r))
+    ensures refused { IfErr answered (λ r. (result.status ≡ status_of r)
+        × (¬ Rose (E.faults err.old) (E.faults err.new) → E.taken err.new ≡ after (E.taken err.old) (refusal_text r))
         × IsFront (E.taken err.new) (after (E.taken err.old) (refusal_text r))) }
     ensures held { IsFront (E.taken err.old) (E.taken err.new) }
 {
@@ -190,7 +222,8 @@ fn answer<R: Threads + Wait + Sync, S: Source, K: Sink, G: Gate + Sync>(
     gate: &G,
 ) -> Result<Finish, Refusal>
     ensures low { IfOk result (λ f. f.status ≤ 1) }
-    ensures answered { Answered as_asked (command_of (map string_bytes words.now)) (S.left source.old) (S.left source.new) (Rose (S.faults source.old) (S.faults source.new))
+    ensures answered { Answered as_asked (command_of (map string_bytes words.now)) (S.left source.old)
+        (S.left source.new) (Rose (S.faults source.old) (S.faults source.new))
         (K.taken out.old) (K.taken out.new) (Rose (K.faults out.old) (K.faults out.new)) result }
 {
     match read_words(alloc, words) {
@@ -210,7 +243,8 @@ fn answer_of<R: Threads + Wait + Sync, S: Source, K: Sink, G: Gate + Sync>(
 ) -> Result<Finish, Refusal>
     requires ranges { InRanges command.now }
     ensures low { IfOk result (λ f. f.status ≤ 1) }
-    ensures answered { Answered as_asked (Some command.now) (S.left source.old) (S.left source.new) (Rose (S.faults source.old) (S.faults source.new))
+    ensures answered { Answered as_asked (Some command.now) (S.left source.old) (S.left source.new)
+        (Rose (S.faults source.old) (S.faults source.new))
         (K.taken out.old) (K.taken out.new) (Rose (K.faults out.old) (K.faults out.new)) result }
 {
     let serial = drives_serially(command);
@@ -229,10 +263,12 @@ fn answer_serially<S: Source, K: Sink, L: Ledger>(
     steps: &mut Steps<L>,
 ) -> Result<Finish, Refusal>
     ensures low { IfOk result (λ f. f.status ≤ 1) }
-    ensures answered { Answered on_one_thread (command_of (map string_bytes words.now)) (S.left source.old) (S.left source.new) (Rose (S.faults source.old) (S.faults source.new))
+    ensures answered { Answered on_one_thread (command_of (map string_bytes words.now)) (S.left source.old)
+        (S.left source.new) (Rose (S.faults source.old) (S.faults source.new))
         (K.taken out.old) (K.taken out.new) (Rose (K.faults out.old) (K.faults out.new)) result }
-    ensures steps { (text : List ℕ) (c : Command) (s : Subject) → Asked on_one_thread (S.left source.old) (command_of (map string_bytes words.now)) text c s →
-        TurnsOfCommand c s steps.old steps.new }
+    ensures steps { (text : List ℕ) (c : Command) (s : Subject)
+        → Asked on_one_thread (S.left source.old) (command_of (map string_bytes words.now)) text c s
+        → TurnsOfCommand c s steps.old steps.new }
     ensures no_turns { IfErr result (λ r. r ≢ Refusal.NoMemory → steps.new ≡ steps.old) }
 {
     match read_words(alloc, words) {
@@ -250,10 +286,12 @@ fn answer_of_serially<S: Source, K: Sink, L: Ledger>(
 ) -> Result<Finish, Refusal>
     requires ranges { InRanges command.now }
     ensures low { IfOk result (λ f. f.status ≤ 1) }
-    ensures answered { Answered on_one_thread (Some command.now) (S.left source.old) (S.left source.new) (Rose (S.faults source.old) (S.faults source.new))
+    ensures answered { Answered on_one_thread (Some command.now) (S.left source.old) (S.left source.new)
+        (Rose (S.faults source.old) (S.faults source.new))
         (K.taken out.old) (K.taken out.new) (Rose (K.faults out.old) (K.faults out.new)) result }
-    ensures steps { (text : List ℕ) (c : Command) (s : Subject) → Asked on_one_thread (S.left source.old) (Some command.now) text c s →
-        TurnsOfCommand c s steps.old steps.new }
+    ensures steps { (text : List ℕ) (c : Command) (s : Subject)
+        → Asked on_one_thread (S.left source.old) (Some command.now) text c s
+        → TurnsOfCommand c s steps.old steps.new }
     ensures no_turns { IfErr result (λ r. r ≢ Refusal.NoMemory → steps.new ≡ steps.old) }
 {
     match subject_for(alloc, command, source, true) {

@@ -54,7 +54,8 @@ pub(crate) fn asked_serially<K: Sink, L: Ledger>(
     requires ranges { InRanges command.now }
     ensures status { IfOk result (λ f. f.status ≡ task_status command.now.task subject.now) }
     ensures low { IfOk result (λ f. f.status ≤ 1) }
-    ensures answer { IfOk result (λ f. HasWritten (IsAnswer command.now.task subject.now) (shown command.now.travel.generated) (K.taken out.old) (K.taken out.new) f.written) }
+    ensures answer { IfOk result (λ f. HasWritten (IsAnswer command.now.task subject.now)
+        (shown command.now.travel.generated) (K.taken out.old) (K.taken out.new) f.written) }
     ensures cause { IfOk result (λ f. HasCause (K.faults out.old) (K.faults out.new) f.written) }
     ensures held { IsFront (K.taken out.old) (K.taken out.new) }
     ensures no_answer { OnErr result (K.taken out.new ≡ K.taken out.old) }
@@ -92,7 +93,8 @@ pub(crate) fn asked_on_threads<R: Threads + Wait + Sync, K: Sink, G: Gate + Sync
     requires ranges { InRanges command.now }
     ensures status { IfOk result (λ f. f.status ≡ task_status command.now.task subject.now) }
     ensures low { IfOk result (λ f. f.status ≤ 1) }
-    ensures answer { IfOk result (λ f. HasWritten (IsAnswer command.now.task subject.now) (shown command.now.travel.generated) (K.taken out.old) (K.taken out.new) f.written) }
+    ensures answer { IfOk result (λ f. HasWritten (IsAnswer command.now.task subject.now)
+        (shown command.now.travel.generated) (K.taken out.old) (K.taken out.new) f.written) }
     ensures cause { IfOk result (λ f. HasCause (K.faults out.old) (K.faults out.new) f.written) }
     ensures held { IsFront (K.taken out.old) (K.taken out.new) }
     ensures no_answer { OnErr result (K.taken out.new ≡ K.taken out.old) }
@@ -128,7 +130,8 @@ fn heard_serially<L: Ledger>(
     requires capacity { IsCapacity cap }
     requires slots { IsSlots slots }
     ensures heard { IfOk result (λ f. IgHeard m.now f.progs) }
-    ensures rounds { IfOk result (λ f. TellsAsking m.now (record { dims = grid.now; cap = cap; slots = slots; by_slots = false }) steady f.rounds) }
+    ensures rounds { IfOk result (λ f. TellsAsking m.now
+        (record { dims = grid.now; cap = cap; slots = slots; by_slots = false }) steady f.rounds) }
     ensures steps { TurnsOfAsking m.now steady grid.now steps.old steps.new }
 {
     let summed = summed_serially(alloc, grid, cap, slots, steady, m, steps)?;
@@ -159,7 +162,8 @@ fn heard_on_threads<R: Threads + Wait + Sync, G: Gate + Sync>(
     requires capacity { IsCapacity cap }
     requires slots { IsSlots slots }
     ensures heard { IfOk result (λ f. IgHeard m.now f.progs) }
-    ensures rounds { IfOk result (λ f. TellsAsking m.now (record { dims = grid.now; cap = cap; slots = slots; by_slots = true }) steady f.rounds) }
+    ensures rounds { IfOk result (λ f. TellsAsking m.now
+        (record { dims = grid.now; cap = cap; slots = slots; by_slots = true }) steady f.rounds) }
 {
     let summed = summed_on_threads(rt, alloc, grid, cap, slots, steady, m, gate)?;
     let Finished {
@@ -187,10 +191,13 @@ fn summed_serially<L: Ledger>(
 ) -> Result<Finished<AnyProgram>, NoMemory>
     requires capacity { IsCapacity cap }
     requires slots { IsSlots slots }
-    ensures ended { IfOk result (λ f. HaveEnded any_rules (map sums_case (sums_starts (ranks grid.now) m.now)) f.progs) }
-    ensures rounds { IfOk result (λ f. Tells sums_rules (sums_starts (ranks grid.now) m.now) (record { dims = grid.now; cap = cap; slots = slots; by_slots = false })
+    ensures ended { IfOk result (λ f. HaveEnded any_rules
+        (map sums_case (sums_starts (ranks grid.now) m.now)) f.progs) }
+    ensures rounds { IfOk result (λ f. Tells sums_rules (sums_starts (ranks grid.now) m.now)
+        (record { dims = grid.now; cap = cap; slots = slots; by_slots = false })
         (manner_of Via.Convey steady) f.rounds) }
-    ensures steps { steps.new ≤ steps.old + turns_within sums_rules (manner_of Via.Convey steady) grid.now (sums_starts (ranks grid.now) m.now) 1 }
+    ensures steps { steps.new ≤ steps.old + turns_within sums_rules (manner_of Via.Convey steady) grid.now
+        (sums_starts (ranks grid.now) m.now) 1 }
 {
     let progs = summing(alloc, m, grid.ranks())?;
     let order = in_order(alloc, grid.ranks())?;
@@ -220,8 +227,10 @@ fn summed_on_threads<R: Threads + Wait + Sync, G: Gate + Sync>(
 ) -> Result<Finished<AnyProgram>, NoMemory>
     requires capacity { IsCapacity cap }
     requires slots { IsSlots slots }
-    ensures ended { IfOk result (λ f. HaveEnded any_rules (map sums_case (sums_starts (ranks grid.now) m.now)) f.progs) }
-    ensures rounds { IfOk result (λ f. Tells sums_rules (sums_starts (ranks grid.now) m.now) (record { dims = grid.now; cap = cap; slots = slots; by_slots = true })
+    ensures ended { IfOk result (λ f. HaveEnded any_rules
+        (map sums_case (sums_starts (ranks grid.now) m.now)) f.progs) }
+    ensures rounds { IfOk result (λ f. Tells sums_rules (sums_starts (ranks grid.now) m.now)
+        (record { dims = grid.now; cap = cap; slots = slots; by_slots = true })
         (manner_of Via.Convey steady) f.rounds) }
 {
     let progs = summing(alloc, m, grid.ranks())?;
@@ -254,7 +263,8 @@ fn replied_serially<L: Ledger>(
     requires slots { IsSlots slots }
     requires ended { HaveEnded any_rules (map sums_case (sums_starts (ranks grid.now) m.now)) added }
     ensures heard { IfOk result (λ f. IgHeard m.now f.progs) }
-    ensures rounds { IfOk result (λ f. TellsReplies m.now (record { dims = grid.now; cap = cap; slots = slots; by_slots = false }) steady f.rounds) }
+    ensures rounds { IfOk result (λ f. TellsReplies m.now
+        (record { dims = grid.now; cap = cap; slots = slots; by_slots = false }) steady f.rounds) }
     ensures steps { steps.new ≤ steps.old + turns_of grid.now (length m.now.entries) }
 {
     m.known();
@@ -279,7 +289,8 @@ fn replied_on_threads<R: Threads + Wait + Sync, G: Gate + Sync>(
     requires slots { IsSlots slots }
     requires ended { HaveEnded any_rules (map sums_case (sums_starts (ranks grid.now) m.now)) added }
     ensures heard { IfOk result (λ f. IgHeard m.now f.progs) }
-    ensures rounds { IfOk result (λ f. TellsReplies m.now (record { dims = grid.now; cap = cap; slots = slots; by_slots = true }) steady f.rounds) }
+    ensures rounds { IfOk result (λ f. TellsReplies m.now
+        (record { dims = grid.now; cap = cap; slots = slots; by_slots = true }) steady f.rounds) }
 {
     m.known();
     let _many = grid.ranks();
@@ -292,7 +303,8 @@ fn summing(alloc: Global, m: &Matrix, ranks: u32) -> Result<Progs<AnyProgram>, N
     requires some { 1 ≤ ranks }
     requires few { ranks ≤ 64 }
     ensures starts { IfOk result (λ ps. ps ≡ map sums_case (sums_starts ranks m.now)) }
-    ensures begins { IfOk result (λ ps. (shape : List ℕ) × (most : ℕ) × InRound any_rules ranks 0 shape most ps × EndsWithin any_rules ps most) }
+    ensures begins { IfOk result (λ ps. (shape : List ℕ) × (most : ℕ) × InRound any_rules ranks 0 shape most ps
+        × EndsWithin any_rules ps most) }
 {
     let progs = ig_sums_start(alloc, m, ranks)?;
     put_all(alloc, progs)
@@ -301,7 +313,8 @@ fn summing(alloc: Global, m: &Matrix, ranks: u32) -> Result<Progs<AnyProgram>, N
 /// The askers that these programs leave.
 fn asking(alloc: Global, m: &Matrix, progs: Progs<AnyProgram>) -> Result<Progs<IgAsker>, NoMemory>
     requires ended { (ranks : ℕ) × (1 ≤ ranks) × HaveEnded any_rules (map sums_case (sums_starts ranks m.now)) progs }
-    ensures askers { (ranks : ℕ) → 1 ≤ ranks → HaveEnded any_rules (map sums_case (sums_starts ranks m.now)) progs → IfOk result (λ qs. AreAskersOf m.now ranks qs) }
+    ensures askers { (ranks : ℕ) → 1 ≤ ranks → HaveEnded any_rules (map sums_case (sums_starts ranks m.now)) progs
+        → IfOk result (λ qs. AreAskersOf m.now ranks qs) }
 {
     m.known();
     let sums = take_all::<IgSums>(alloc, progs)?;
@@ -314,7 +327,8 @@ fn told<K: Sink>(command: &Command, m: &Matrix, run: Finished<IgAsker>, out: &mu
     requires heard { IgHeard m.now run.progs }
     ensures status { result.status ≡ matrix_status command.now.task m.now }
     ensures low { result.status ≤ 1 }
-    ensures answer { HasWritten (IsMatrixAnswer command.now.task m.now) (shown command.now.travel.generated) (K.taken out.old) (K.taken out.new) result.written }
+    ensures answer { HasWritten (IsMatrixAnswer command.now.task m.now) (shown command.now.travel.generated)
+        (K.taken out.old) (K.taken out.new) result.written }
     ensures cause { HasCause (K.faults out.old) (K.faults out.new) result.written }
     ensures held { IsFront (K.taken out.old) (K.taken out.new) }
     ensures rounds { result.rounds ≡ run.rounds }

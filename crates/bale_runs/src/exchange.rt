@@ -52,7 +52,8 @@ pub fn ran_serially<K: Sink, L: Ledger>(
     requires fits { unfitness command.now subject.now true ≡ None }
     ensures status { IfOk result (λ f. f.status ≡ task_status command.now.task subject.now) }
     ensures low { IfOk result (λ f. f.status ≤ 1) }
-    ensures answer { IfOk result (λ f. HasWritten (IsAnswer command.now.task subject.now) (shown command.now.travel.generated) (K.taken out.old) (K.taken out.new) f.written) }
+    ensures answer { IfOk result (λ f. HasWritten (IsAnswer command.now.task subject.now)
+        (shown command.now.travel.generated) (K.taken out.old) (K.taken out.new) f.written) }
     ensures cause { IfOk result (λ f. HasCause (K.faults out.old) (K.faults out.new) f.written) }
     ensures held { IsFront (K.taken out.old) (K.taken out.new) }
     ensures no_answer { OnErr result (K.taken out.new ≡ K.taken out.old) }
@@ -80,13 +81,16 @@ fn drove_serially<K: Sink, L: Ledger>(
     requires fits { unfitness command.now subject.now true ≡ None }
     ensures status { IfOk result (λ f. f.status ≡ task_status command.now.task subject.now) }
     ensures low { IfOk result (λ f. f.status ≤ 1) }
-    ensures answer { IfOk result (λ f. HasWritten (IsAnswer command.now.task subject.now) (shown command.now.travel.generated) (K.taken out.old) (K.taken out.new) f.written) }
+    ensures answer { IfOk result (λ f. HasWritten (IsAnswer command.now.task subject.now)
+        (shown command.now.travel.generated) (K.taken out.old) (K.taken out.new) f.written) }
     ensures cause { IfOk result (λ f. HasCause (K.faults out.old) (K.faults out.new) f.written) }
     ensures held { IsFront (K.taken out.old) (K.taken out.new) }
     ensures no_answer { OnErr result (K.taken out.new ≡ K.taken out.old) }
     ensures memory { IfErr result (λ r. r ≡ Refusal.NoMemory) }
-    ensures rounds { IfOk result (λ f. TellsTask command.now.task subject.now (made_for true command.now) (manner_for command.now) f.rounds) }
-    ensures steps { TurnsOfTask command.now.task subject.now (manner_for command.now) command.now.grid steps.old steps.new }
+    ensures rounds { IfOk result (λ f. TellsTask command.now.task subject.now (made_for true command.now)
+        (manner_for command.now) f.rounds) }
+    ensures steps { TurnsOfTask command.now.task subject.now
+        (manner_for command.now) command.now.grid steps.old steps.new }
 {
     let run = driven_serially(alloc, command, subject, steps)?;
     told(alloc, command, subject, run, out)
@@ -103,8 +107,10 @@ fn driven_serially<L: Ledger>(
     requires ranges { InRanges command.now }
     requires fits { unfitness command.now subject.now true ≡ None }
     ensures ended { IfOk result (λ f. HaveRun command.now.task subject.now f.progs) }
-    ensures rounds { IfOk result (λ f. TellsTask command.now.task subject.now (made_for true command.now) (manner_for command.now) f.rounds) }
-    ensures steps { TurnsOfTask command.now.task subject.now (manner_for command.now) command.now.grid steps.old steps.new }
+    ensures rounds { IfOk result (λ f. TellsTask command.now.task subject.now (made_for true command.now)
+        (manner_for command.now) f.rounds) }
+    ensures steps { TurnsOfTask command.now.task subject.now
+        (manner_for command.now) command.now.grid steps.old steps.new }
 {
     let grid = &command.grid;
     let Travel {
@@ -143,7 +149,8 @@ fn ran_on_threads<R: Threads + Wait + Sync, K: Sink, G: Gate + Sync>(
     requires fits { unfitness command.now subject.now false ≡ None }
     ensures status { IfOk result (λ f. f.status ≡ task_status command.now.task subject.now) }
     ensures low { IfOk result (λ f. f.status ≤ 1) }
-    ensures answer { IfOk result (λ f. HasWritten (IsAnswer command.now.task subject.now) (shown command.now.travel.generated) (K.taken out.old) (K.taken out.new) f.written) }
+    ensures answer { IfOk result (λ f. HasWritten (IsAnswer command.now.task subject.now)
+        (shown command.now.travel.generated) (K.taken out.old) (K.taken out.new) f.written) }
     ensures cause { IfOk result (λ f. HasCause (K.faults out.old) (K.faults out.new) f.written) }
     ensures held { IsFront (K.taken out.old) (K.taken out.new) }
     ensures no_answer { OnErr result (K.taken out.new ≡ K.taken out.old) }
@@ -171,12 +178,14 @@ fn drove_on_threads<R: Threads + Wait + Sync, K: Sink, G: Gate + Sync>(
     requires fits { unfitness command.now subject.now false ≡ None }
     ensures status { IfOk result (λ f. f.status ≡ task_status command.now.task subject.now) }
     ensures low { IfOk result (λ f. f.status ≤ 1) }
-    ensures answer { IfOk result (λ f. HasWritten (IsAnswer command.now.task subject.now) (shown command.now.travel.generated) (K.taken out.old) (K.taken out.new) f.written) }
+    ensures answer { IfOk result (λ f. HasWritten (IsAnswer command.now.task subject.now)
+        (shown command.now.travel.generated) (K.taken out.old) (K.taken out.new) f.written) }
     ensures cause { IfOk result (λ f. HasCause (K.faults out.old) (K.faults out.new) f.written) }
     ensures held { IsFront (K.taken out.old) (K.taken out.new) }
     ensures no_answer { OnErr result (K.taken out.new ≡ K.taken out.old) }
     ensures memory { IfErr result (λ r. r ≡ Refusal.NoMemory) }
-    ensures rounds { IfOk result (λ f. TellsTask command.now.task subject.now (made_for false command.now) (manner_for command.now) f.rounds) }
+    ensures rounds { IfOk result (λ f. TellsTask command.now.task subject.now (made_for false command.now)
+        (manner_for command.now) f.rounds) }
 {
     let run = driven_on_threads(rt, alloc, command, subject, gate)?;
     told(alloc, command, subject, run, out)
@@ -194,7 +203,8 @@ fn driven_on_threads<R: Threads + Wait + Sync, G: Gate + Sync>(
     requires ranges { InRanges command.now }
     requires fits { unfitness command.now subject.now false ≡ None }
     ensures ended { IfOk result (λ f. HaveRun command.now.task subject.now f.progs) }
-    ensures rounds { IfOk result (λ f. TellsTask command.now.task subject.now (made_for false command.now) (manner_for command.now) f.rounds) }
+    ensures rounds { IfOk result (λ f. TellsTask command.now.task subject.now (made_for false command.now)
+        (manner_for command.now) f.rounds) }
 {
     let grid = &command.grid;
     let Travel {
@@ -236,7 +246,8 @@ pub fn ran<R: Threads + Wait + Sync, K: Sink, G: Gate + Sync>(
     requires fits { unfitness command.now subject.now (as_asked command.now) ≡ None }
     ensures status { IfOk result (λ f. f.status ≡ task_status command.now.task subject.now) }
     ensures low { IfOk result (λ f. f.status ≤ 1) }
-    ensures answer { IfOk result (λ f. HasWritten (IsAnswer command.now.task subject.now) (shown command.now.travel.generated) (K.taken out.old) (K.taken out.new) f.written) }
+    ensures answer { IfOk result (λ f. HasWritten (IsAnswer command.now.task subject.now)
+        (shown command.now.travel.generated) (K.taken out.old) (K.taken out.new) f.written) }
     ensures cause { IfOk result (λ f. HasCause (K.faults out.old) (K.faults out.new) f.written) }
     ensures held { IsFront (K.taken out.old) (K.taken out.new) }
     ensures no_answer { OnErr result (K.taken out.new ≡ K.taken out.old) }
@@ -290,7 +301,8 @@ fn ran_uncounted<L: Ledger, K: Sink>(
     requires fits { unfitness command.now subject.now true ≡ None }
     ensures status { IfOk result (λ f. f.status ≡ task_status command.now.task subject.now) }
     ensures low { IfOk result (λ f. f.status ≤ 1) }
-    ensures answer { IfOk result (λ f. HasWritten (IsAnswer command.now.task subject.now) (shown command.now.travel.generated) (K.taken out.old) (K.taken out.new) f.written) }
+    ensures answer { IfOk result (λ f. HasWritten (IsAnswer command.now.task subject.now)
+        (shown command.now.travel.generated) (K.taken out.old) (K.taken out.new) f.written) }
     ensures cause { IfOk result (λ f. HasCause (K.faults out.old) (K.faults out.new) f.written) }
     ensures held { IsFront (K.taken out.old) (K.taken out.new) }
     ensures no_answer { OnErr result (K.taken out.new ≡ K.taken out.old) }
@@ -315,7 +327,8 @@ fn told<K: Sink>(
     requires ended { HaveRun command.now.task subject.now run.progs }
     ensures status { IfOk result (λ f. f.status ≡ task_status command.now.task subject.now) }
     ensures low { IfOk result (λ f. f.status ≤ 1) }
-    ensures answer { IfOk result (λ f. HasWritten (IsAnswer command.now.task subject.now) (shown command.now.travel.generated) (K.taken out.old) (K.taken out.new) f.written) }
+    ensures answer { IfOk result (λ f. HasWritten (IsAnswer command.now.task subject.now)
+        (shown command.now.travel.generated) (K.taken out.old) (K.taken out.new) f.written) }
     ensures cause { IfOk result (λ f. HasCause (K.faults out.old) (K.faults out.new) f.written) }
     ensures held { IsFront (K.taken out.old) (K.taken out.new) }
     ensures no_answer { OnErr result (K.taken out.new ≡ K.taken out.old) }

@@ -51,17 +51,22 @@ pub fn subject_for<S: Source>(
     serial: bool,
 ) -> Result<Subject, Refusal>
     requires ranges { InRanges command.now }
-    ensures subject { (text : List ℕ) → Told (Some command.now) (S.left source.old) text → IfOk result (λ s. subject_asked command.now text ≡ Ok s) }
+    ensures subject { (text : List ℕ) → Told (Some command.now) (S.left source.old) text
+        → IfOk result (λ s. subject_asked command.now text ≡ Ok s) }
     ensures suits { IfOk result (λ s. suits command.now.task s ≡ true) }
     ensures fits { IfOk result (λ s. unfitness command.now s serial ≡ None) }
     ensures read_fault { result ≡ Err Refusal.ReadFault → Rose (S.faults source.old) (S.faults source.new) }
-    ensures bad { (text : List ℕ) (b : _) → Told (Some command.now) (S.left source.old) text → result ≡ Err (Refusal.BadText b) → subject_asked command.now text ≡ Err (Refusal.BadText b) }
-    ensures unfit { (text : List ℕ) (u : Unfit) → Told (Some command.now) (S.left source.old) text → result ≡ Err (Refusal.Unfit u) →
-        (s : Subject) × (subject_asked command.now text ≡ Ok s) × (unfitness command.now s serial ≡ Some u) }
+    ensures bad { (text : List ℕ) (b : _) → Told (Some command.now) (S.left source.old) text
+        → result ≡ Err (Refusal.BadText b) → subject_asked command.now text ≡ Err (Refusal.BadText b) }
+    ensures unfit { (text : List ℕ) (u : Unfit) → Told (Some command.now) (S.left source.old) text
+        → result ≡ Err (Refusal.Unfit u)
+        → (s : Subject) × (subject_asked command.now text ≡ Ok s) × (unfitness command.now s serial ≡ Some u) }
     ensures kinds { IfErr result (λ r. (r ≢ Refusal.WriteFault) × (r ≢ Refusal.Usage)) }
     ensures unread { reads (Some command.now) ≡ false → S.left source.new ≡ S.left source.old }
-    ensures read_whole { (text : List ℕ) → S.left source.old ≡ Some text → reads (Some command.now) ≡ true → OnOk result (S.left source.new ≡ Some (drop 16_777_217 text)) }
-    ensures read_bad { (text : List ℕ) → S.left source.old ≡ Some text → reads (Some command.now) ≡ true → IfErr result (λ r. IsOfText r → S.left source.new ≡ Some (drop 16_777_217 text)) }
+    ensures read_whole { (text : List ℕ) → S.left source.old ≡ Some text → reads (Some command.now) ≡ true
+        → OnOk result (S.left source.new ≡ Some (drop 16_777_217 text)) }
+    ensures read_bad { (text : List ℕ) → S.left source.old ≡ Some text → reads (Some command.now) ≡ true
+        → IfErr result (λ r. IsOfText r → S.left source.new ≡ Some (drop 16_777_217 text)) }
 {
     let subject = read_subject(alloc, command, source)?;
     match unfitness(alloc, command, &subject, serial)? {
@@ -77,12 +82,14 @@ fn read_subject<S: Source>(
     source: &mut S,
 ) -> Result<Subject, Refusal>
     requires ranges { InRanges command.now }
-    ensures asked { (text : List ℕ) → Told (Some command.now) (S.left source.old) text → IsRead (subject_asked command.now text) result }
+    ensures asked { (text : List ℕ) → Told (Some command.now) (S.left source.old) text
+        → IsRead (subject_asked command.now text) result }
     ensures suits { IfOk result (λ s. suits command.now.task s ≡ true) }
     ensures read_fault { result ≡ Err Refusal.ReadFault → Rose (S.faults source.old) (S.faults source.new) }
     ensures kinds { IfErr result IsOfReading }
     ensures unread { reads (Some command.now) ≡ false → S.left source.new ≡ S.left source.old }
-    ensures read_whole { (text : List ℕ) → S.left source.old ≡ Some text → reads (Some command.now) ≡ true → OnText result (S.left source.new ≡ Some (drop 16_777_217 text)) }
+    ensures read_whole { (text : List ℕ) → S.left source.old ≡ Some text → reads (Some command.now) ≡ true
+        → OnText result (S.left source.new ≡ Some (drop 16_777_217 text)) }
 {
     if is_tally(&command.task) {
         read_lines_of(alloc, source)
@@ -103,7 +110,8 @@ fn read_lines_of<S: Source>(alloc: Global, source: &mut S) -> Result<Subject, Re
     ensures lines { (t : _) → is_tally t ≡ true → IfOk result (λ s. suits t s ≡ true) }
     ensures read_fault { result ≡ Err Refusal.ReadFault → Rose (S.faults source.old) (S.faults source.new) }
     ensures kinds { IfErr result IsOfReading }
-    ensures read_whole { (text : List ℕ) → S.left source.old ≡ Some text → OnText result (S.left source.new ≡ Some (drop 16_777_217 text)) }
+    ensures read_whole { (text : List ℕ) → S.left source.old ≡ Some text
+        → OnText result (S.left source.new ≡ Some (drop 16_777_217 text)) }
 {
     let lines = read_lines(alloc, source)?;
     Ok(Subject::Lines(lines))
@@ -116,12 +124,14 @@ fn read_matrix_of<S: Source>(
     source: &mut S,
 ) -> Result<Subject, Refusal>
     requires { MayGenerate band }
-    ensures asked { (text : List ℕ) → TellsText band (S.left source.old) text → IsRead (of_matrix (matrix_asked band text)) result }
+    ensures asked { (text : List ℕ) → TellsText band (S.left source.old) text
+        → IsRead (of_matrix (matrix_asked band text)) result }
     ensures matrix { (t : _) → is_tally t ≡ false → IfOk result (λ s. suits t s ≡ true) }
     ensures read_fault { result ≡ Err Refusal.ReadFault → Rose (S.faults source.old) (S.faults source.new) }
     ensures kinds { IfErr result IsOfReading }
     ensures unread { is_some band ≡ true → S.left source.new ≡ S.left source.old }
-    ensures read_whole { (text : List ℕ) → S.left source.old ≡ Some text → is_some band ≡ false → OnText result (S.left source.new ≡ Some (drop 16_777_217 text)) }
+    ensures read_whole { (text : List ℕ) → S.left source.old ≡ Some text → is_some band ≡ false
+        → OnText result (S.left source.new ≡ Some (drop 16_777_217 text)) }
 {
     let matrix = match band {
         None => read_matrix(alloc, source)?,

@@ -109,7 +109,8 @@ impl Refusal {
 
 /// Says on `err` why there is no answer. A failing write changes nothing but what was said.
 pub fn report<E: Sink>(err: &mut E, refusal: Refusal)
-    ensures said { ¬ Rose (E.faults err.old) (E.faults err.new) → E.taken err.new ≡ after (E.taken err.old) (refusal_text refusal) }
+    ensures said { ¬ Rose (E.faults err.old) (E.faults err.new) → E.taken err.new
+        ≡ after (E.taken err.old) (refusal_text refusal) }
     ensures front { IsFront (E.taken err.new) (after (E.taken err.old) (refusal_text refusal)) }
     ensures held { IsFront (E.taken err.old) (E.taken err.new) }
     ensures never_falls { E.faults err.old ≤ E.faults err.new }
@@ -121,8 +122,8 @@ pub fn report<E: Sink>(err: &mut E, refusal: Refusal)
 
 /// Hands the bytes through to the sink.
 fn say<E: Sink>(out: &mut Out<'_, E>, bytes: &[u8])
-    ensures said { ¬ Rose (E.faults out.old.sink.now) (E.faults out.new.sink.now) →
-        E.taken out.new.sink.now ≡ after (appended E.taken out.old) bytes.now }
+    ensures said { ¬ Rose (E.faults out.old.sink.now) (E.faults out.new.sink.now)
+        → E.taken out.new.sink.now ≡ after (appended E.taken out.old) bytes.now }
     ensures front { IsFront (E.taken out.new.sink.now) (after (appended E.taken out.old) bytes.now) }
     ensures never_falls { E.faults out.old.sink.now ≤ E.faults out.new.sink.now }
     ensures held { IsFront (E.taken out.old.sink.now) (E.taken out.new.sink.now) }

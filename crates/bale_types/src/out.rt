@@ -138,12 +138,13 @@ impl<'a, K: Sink> Out<'a, K> {
         ensures err { OnErr result
             (IsFront (K.taken self.new.sink.now) (after (appended K.taken self.old) (signed_decimal n))) }
         ensures kept { OnErr result (IsFront (appended K.taken self.old) (appended K.taken self.new)) }
-        ensures part { OnErr result (IsFront (appended K.taken self.new) (after (appended K.taken self.old) (signed_decimal n))) }
+        ensures part { OnErr result (IsFront (appended K.taken self.new)
+            (after (appended K.taken self.old) (signed_decimal n))) }
         ensures cause { HasCause (K.faults self.old.sink.now) (K.faults self.new.sink.now) result }
         ensures no_fault { OnOk result (K.faults self.new.sink.now ≡ K.faults self.old.sink.now) }
         ensures never_falls { K.faults self.old.sink.now ≤ K.faults self.new.sink.now }
-        ensures gathers { self.old.len + length (signed_decimal n) < 4096 →
-            self.new.sink.now ≡ self.old.sink.now }
+        ensures gathers { self.old.len + length (signed_decimal n) < 4096
+            → self.new.sink.now ≡ self.old.sink.now }
         ensures no_failure { self.old.len + length (signed_decimal n) < 4096 → IsOk result }
         ensures handed { self.old.len < 4096 → OnOk result (self.new.len < 4096) }
         ensures grows { IsFront (K.taken self.old.sink.now) (K.taken self.new.sink.now) }

@@ -102,7 +102,8 @@ pub(crate) fn numbers_between(
 /// What stands before the first separator, and what stands behind it if there is one.
 #[tactic(auto, using(crate::proofs::Parts::none_more))]
 pub(crate) fn first_part(separator: u8, text: &[u8]) -> (&[u8], Option<&[u8]>)
-    ensures parts { slice_split (λ b. b == separator) text.now ≡ result.0.now ∷ parts_of separator (option_map (λ s. s.now) result.1) }
+    ensures parts { slice_split (λ b. b == separator) text.now ≡ result.0.now ∷ parts_of separator
+        (option_map (λ s. s.now) result.1) }
     ensures shorter { IfSome result.1 (λ rest. length rest.now < length text.now) }
 {
     for i in 0..text.len() {

@@ -43,7 +43,8 @@ fn read_word<'a>(
     ensures ok { IfOk result (λ next. (ws : List (List ℕ)) (done : List Given) → given_pairs pairs.old.items ≡ done
         → option_map (λ gs. done ++ gs) (given_from (option_map (λ s. s.now) waiting.entry) (word.now ∷ ws))
         ≡ option_map (λ gs. given_pairs pairs.new.items ++ gs) (given_from (option_map (λ s. s.now) next) ws)) }
-    ensures usage { result ≡ Err WordsFault.Usage → (ws : List (List ℕ)) → given_from (option_map (λ s. s.now) waiting.entry) (word.now ∷ ws) ≡ None }
+    ensures usage { result ≡ Err WordsFault.Usage → (ws : List (List ℕ))
+        → given_from (option_map (λ s. s.now) waiting.entry) (word.now ∷ ws) ≡ None }
 {
     match waiting {
         Some(name) => {
@@ -67,7 +68,8 @@ fn read_word<'a>(
 #[tactic(auto, using(crate::proofs::Given::more_given))]
 fn add<'a>(pairs: &mut Vec<Pair<'a>>, name: &'a str, value: &'a str) -> Result<(), WordsFault>
     ensures added { OnOk result ((done : List Given) (more : Option (List Given)) → given_pairs pairs.old.items ≡ done
-        → option_map (λ gs. done ++ gs) (with_first name.now value.now more) ≡ option_map (λ gs. given_pairs pairs.new.items ++ gs) more) }
+        → option_map (λ gs. done ++ gs) (with_first name.now value.now more)
+        ≡ option_map (λ gs. given_pairs pairs.new.items ++ gs) more) }
     ensures memory { OnErr result (result ≡ Err WordsFault.NoMemory) }
 {
     pairs.push(Pair { name, value })?;

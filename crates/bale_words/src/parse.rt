@@ -46,9 +46,11 @@ pub(crate) fn parse<'a>(
     words: &'a [String],
 ) -> Result<ArgMatches<'a>, Error>
     requires { list_all is_name (map (λ s. s.now) names.now) ≡ true }
-    ensures ok { (gs : List Given) → map string_bytes words.entry.now ≡ command_words gs → accepted (map (λ s. s.now) names.entry.now) gs ≡ true
+    ensures ok { (gs : List Given) → map string_bytes words.entry.now ≡ command_words gs
+        → accepted (map (λ s. s.now) names.entry.now) gs ≡ true
         → IfOk result (λ m. (n : List ℕ) → first_value (found_of m) n ≡ value_in n gs) }
-    ensures err { (gs : List Given) → map string_bytes words.entry.now ≡ command_words gs → accepted (map (λ s. s.now) names.entry.now) gs ≡ true
+    ensures err { (gs : List Given) → map string_bytes words.entry.now ≡ command_words gs
+        → accepted (map (λ s. s.now) names.entry.now) gs ≡ true
         → IfErr result (λ e. kind_of e ≡ ErrorKind.OutOfMemory) }
 {
     let command = command_of(alloc, names)?;
@@ -73,7 +75,8 @@ fn with_option<'a>(
     command: Command<'a>,
     name: &'a str,
 ) -> Result<Command<'a>, AllocError>
-    ensures { (names : List (List ℕ)) → app_of command.entry ≡ app_named names → IfOk result (λ c. app_of c ≡ app_named (names ++ (name.entry.now ∷ []))) }
+    ensures { (names : List (List ℕ)) → app_of command.entry ≡ app_named names
+        → IfOk result (λ c. app_of c ≡ app_named (names ++ (name.entry.now ∷ []))) }
 {
     command.arg(Arg::new(alloc, name).long(name))
 }

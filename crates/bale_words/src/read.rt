@@ -69,7 +69,8 @@ fn read_values(
     words: &[String],
 ) -> Result<Command, WordsFault>
     requires { list_all is_name (map (λ s. s.now) names.now) ≡ true }
-    ensures { (gs : List Given) → map string_bytes words.now ≡ command_words gs → accepted (map (λ s. s.now) names.now) gs ≡ true → Reads (command_in application gs) result }
+    ensures { (gs : List Given) → map string_bytes words.now ≡ command_words gs
+        → accepted (map (λ s. s.now) names.now) gs ≡ true → Reads (command_in application gs) result }
 {
     match parse(alloc, names, words) {
         Ok(matches) => read_matches(alloc, application, &matches),
@@ -82,7 +83,8 @@ fn read_matches(
     application: Application,
     matches: &ArgMatches<'_>,
 ) -> Result<Command, WordsFault>
-    ensures { (gs : List Given) → ((n : List ℕ) → first_value (found_of matches.now) n ≡ value_in n gs) → Reads (command_in application gs) result }
+    ensures { (gs : List Given) → ((n : List ℕ) → first_value (found_of matches.now) n ≡ value_in n gs)
+        → Reads (command_in application gs) result }
 {
     let grid = read_grid(alloc, matches.get_str("grid"))?;
     let travel = match travel_by(application, matches) {
@@ -96,7 +98,8 @@ fn read_matches(
 }
 
 fn travel_by(application: Application, matches: &ArgMatches<'_>) -> Option<Travel>
-    ensures { (gs : List Given) → ((n : List ℕ) → first_value (found_of matches.now) n ≡ value_in n gs) → result ≡ travel_in application gs }
+    ensures { (gs : List Given) → ((n : List ℕ) → first_value (found_of matches.now) n ≡ value_in n gs)
+        → result ≡ travel_in application gs }
 {
     let via = matches.get_str("via");
     let slots = matches.get_str("slots");
@@ -169,8 +172,10 @@ fn read_travel(
     drive: Option<&str>,
     gen_text: Option<&str>,
 ) -> Option<Travel>
-    ensures { result ≡ travel_of application (option_map (λ s. s.now) via.entry) (option_map (λ s. s.now) slots.entry) (option_map (λ s. s.now) steady.entry)
-        (option_map (λ s. s.now) buffer.entry) (option_map (λ s. s.now) drive.entry) (option_map (λ s. s.now) gen_text.entry) }
+    ensures { result ≡ travel_of application (option_map (λ s. s.now) via.entry) (option_map (λ s. s.now) slots.entry)
+        (option_map (λ s. s.now) steady.entry)
+        (option_map (λ s. s.now) buffer.entry) (option_map (λ s. s.now) drive.entry)
+        (option_map (λ s. s.now) gen_text.entry) }
 {
     let transport = read_transport(application, via)?;
     let slots = read_slots(slots)?;
@@ -194,7 +199,8 @@ fn read_task(
     application: Application,
     matches: &ArgMatches<'_>,
 ) -> Result<Task, WordsFault>
-    ensures { (gs : List Given) → ((n : List ℕ) → first_value (found_of matches.now) n ≡ value_in n gs) → Reads (task_in application gs) result }
+    ensures { (gs : List Given) → ((n : List ℕ) → first_value (found_of matches.now) n ≡ value_in n gs)
+        → Reads (task_in application gs) result }
 {
     match application {
         Application::Histo => Ok(Task::Histo),
@@ -208,7 +214,8 @@ fn read_task(
 }
 
 fn read_permute(alloc: Global, matches: &ArgMatches<'_>) -> Result<Task, WordsFault>
-    ensures { (gs : List Given) → ((n : List ℕ) → first_value (found_of matches.now) n ≡ value_in n gs) → Reads (task_in Application.Permute gs) result }
+    ensures { (gs : List Given) → ((n : List ℕ) → first_value (found_of matches.now) n ≡ value_in n gs)
+        → Reads (task_in Application.Permute gs) result }
 {
     let seed = matches.get_str("seed");
     let rows = matches.get_str("rperm");
@@ -224,7 +231,8 @@ fn read_permutations(
     rows: Option<&str>,
     cols: Option<&str>,
 ) -> Result<Permutations, WordsFault>
-    ensures { Reads (permutations_of (option_map (λ s. s.now) seed.entry) (option_map (λ s. s.now) rows.entry) (option_map (λ s. s.now) cols.entry)) result }
+    ensures { Reads (permutations_of (option_map (λ s. s.now) seed.entry) (option_map (λ s. s.now) rows.entry)
+        (option_map (λ s. s.now) cols.entry)) result }
 {
     match (seed, rows, cols) {
         (Some(seed), None, None) => match number_between(0, u64::MAX, seed.as_bytes()) {
@@ -241,7 +249,8 @@ fn read_lists(
     rows: Option<&str>,
     cols: Option<&str>,
 ) -> Result<Permutations, WordsFault>
-    ensures { Reads (permutations_of None (option_map (λ s. s.now) rows.entry) (option_map (λ s. s.now) cols.entry)) result }
+    ensures { Reads (permutations_of None (option_map (λ s. s.now) rows.entry) (option_map (λ s. s.now) cols.entry))
+        result }
 {
     let rows = read_list(alloc, rows)?;
     let cols = read_list(alloc, cols)?;
@@ -259,7 +268,8 @@ fn read_list(alloc: Global, text: Option<&str>) -> Result<Option<Numbers>, Words
 }
 
 fn read_sssp(matches: &ArgMatches<'_>) -> Result<Task, WordsFault>
-    ensures { (gs : List Given) → ((n : List ℕ) → first_value (found_of matches.now) n ≡ value_in n gs) → Reads (task_in Application.Sssp gs) result }
+    ensures { (gs : List Given) → ((n : List ℕ) → first_value (found_of matches.now) n ≡ value_in n gs)
+        → Reads (task_in Application.Sssp gs) result }
 {
     match read_search(matches.get_str("source"), matches.get_str("delta")) {
         Some(task) => Ok(task),

@@ -41,7 +41,8 @@ fn sides_of<const CAP: usize, const HOPS: usize>(
     requires small { CAP ≤ 1024 }
     requires hops { length grid.now ≡ HOPS }
     ensures all { IfOk result (λ v. length v.items ≡ ranks grid.now) }
-    ensures together { (d : _) (slots : _) → IfOk result (λ v. AgreeTogether grid.now CAP slots (λ r. buffers_of (slice_index_or v.items r d).conveyor)
+    ensures together { (d : _) (slots : _)
+        → IfOk result (λ v. AgreeTogether grid.now CAP slots (λ r. buffers_of (slice_index_or v.items r d).conveyor)
         (sent_of (empty_bank grid.now slots)) (got_of (empty_bank grid.now slots))) }
 {
     let mut sides = Vec::with_capacity(alloc, grid.ranks() as usize)?;
@@ -58,10 +59,12 @@ fn run_epoch<const CAP: usize, const HOPS: usize>(
     items: u64,
 ) -> Result<PlainBank<CAP>, NoMemory>
     requires all { length sides.old.items ≡ ranks bank.dims }
-    requires together { (d : _) → AgreeTogether bank.dims CAP bank.slots (λ r. buffers_of (slice_index_or sides.old.items r d).conveyor) (sent_of bank) (got_of bank) }
+    requires together { (d : _) → AgreeTogether bank.dims CAP bank.slots
+        (λ r. buffers_of (slice_index_or sides.old.items r d).conveyor) (sent_of bank) (got_of bank) }
     ensures all { length sides.new.items ≡ length sides.old.items }
     ensures same_dims { IfOk result (λ b. b.dims ≡ bank.entry.dims) }
-    ensures together { (d : _) → IfOk result (λ b. AgreeTogether b.dims CAP b.slots (λ r. buffers_of (slice_index_or sides.new.items r d).conveyor) (sent_of b) (got_of b)) }
+    ensures together { (d : _) → IfOk result (λ b. AgreeTogether b.dims CAP b.slots
+        (λ r. buffers_of (slice_index_or sides.new.items r d).conveyor) (sent_of b) (got_of b)) }
 {
     let mut bank = bank;
     let mut begins = true;
@@ -84,10 +87,12 @@ fn sweep<const CAP: usize, const HOPS: usize>(
     items: u64,
 ) -> Result<(PlainBank<CAP>, bool), NoMemory>
     requires all { length sides.old.items ≡ ranks bank.dims }
-    requires together { (d : _) → AgreeTogether bank.dims CAP bank.slots (λ r. buffers_of (slice_index_or sides.old.items r d).conveyor) (sent_of bank) (got_of bank) }
+    requires together { (d : _) → AgreeTogether bank.dims CAP bank.slots
+        (λ r. buffers_of (slice_index_or sides.old.items r d).conveyor) (sent_of bank) (got_of bank) }
     ensures all { length sides.new.items ≡ length sides.old.items }
     ensures same_dims { IfOk result (λ p. p.0.dims ≡ bank.entry.dims) }
-    ensures together { (d : _) → IfOk result (λ p. AgreeTogether p.0.dims CAP p.0.slots (λ r. buffers_of (slice_index_or sides.new.items r d).conveyor) (sent_of p.0) (got_of p.0)) }
+    ensures together { (d : _) → IfOk result (λ p. AgreeTogether p.0.dims CAP p.0.slots
+        (λ r. buffers_of (slice_index_or sides.new.items r d).conveyor) (sent_of p.0) (got_of p.0)) }
 {
     let mut bank = bank;
     let mut over = true;
@@ -109,10 +114,12 @@ fn turn_one<const CAP: usize, const HOPS: usize>(
 ) -> Result<(PlainBank<CAP>, bool), NoMemory>
     requires rank { rank < ranks bank.dims }
     requires all { length sides.old.items ≡ ranks bank.dims }
-    requires together { (d : _) → AgreeTogether bank.dims CAP bank.slots (λ r. buffers_of (slice_index_or sides.old.items r d).conveyor) (sent_of bank) (got_of bank) }
+    requires together { (d : _) → AgreeTogether bank.dims CAP bank.slots
+        (λ r. buffers_of (slice_index_or sides.old.items r d).conveyor) (sent_of bank) (got_of bank) }
     ensures all { length sides.new.items ≡ length sides.old.items }
     ensures same_dims { IfOk result (λ p. p.0.dims ≡ bank.entry.dims) }
-    ensures together { (d : _) → IfOk result (λ p. AgreeTogether p.0.dims CAP p.0.slots (λ r. buffers_of (slice_index_or sides.new.items r d).conveyor) (sent_of p.0) (got_of p.0)) }
+    ensures together { (d : _) → IfOk result (λ p. AgreeTogether p.0.dims CAP p.0.slots
+        (λ r. buffers_of (slice_index_or sides.new.items r d).conveyor) (sent_of p.0) (got_of p.0)) }
 {
     exchange_law();
     let mut port = bank.port(rank);

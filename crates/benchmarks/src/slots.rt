@@ -24,8 +24,10 @@ struct AtSeat<'a, const CAP: usize, const HOPS: usize> {
 impl<'a, const CAP: usize, const HOPS: usize> AtSeat<'a, CAP, HOPS> {
     /// One turn at the port.
     fn turn(&mut self, begins: bool, items: u64) -> Result<bool, NoMemory>
-        requires agrees { AgreesWith self.old.side.conveyor (posted_on self.old.port.seat) (collected_from self.old.port.seat) }
-        ensures agrees { AgreesWith self.new.side.conveyor (posted_on self.new.port.seat) (collected_from self.new.port.seat) }
+        requires agrees { AgreesWith self.old.side.conveyor (posted_on self.old.port.seat)
+            (collected_from self.old.port.seat) }
+        ensures agrees { AgreesWith self.new.side.conveyor (posted_on self.new.port.seat)
+            (collected_from self.new.port.seat) }
     {
         self.side.turn(&mut self.port, begins, items)
     }
@@ -61,7 +63,8 @@ fn sides_of<'a, const CAP: usize, const HOPS: usize>(
     requires grid { bank.now.shape.dims ≡ grid.now }
     requires bank { (gather.old.id ≡ bank.now.id) × (gather.old.shape ≡ bank.now.shape) }
     requires here { (k : ℕ) → k < ranks grid.now → slice_index_or gather.old.given k true ≡ false }
-    ensures agree { IfOk result (λ v. EachAt (λ k s. AgreesWith s.side.conveyor (posted_on s.port.seat) (collected_from s.port.seat)) v.items) }
+    ensures agree { IfOk result (λ v. EachAt (λ k s. AgreesWith s.side.conveyor (posted_on s.port.seat)
+        (collected_from s.port.seat)) v.items) }
 {
     let mut sides = Vec::new(alloc);
     for rank in 0..grid.ranks() {
@@ -86,7 +89,8 @@ fn side_of<'a, const CAP: usize, const HOPS: usize>(
     requires bank { (gather.old.id ≡ bank.now.id) × (gather.old.shape ≡ bank.now.shape) }
     requires rank { rank < ranks grid.now }
     requires here { slice_index_or gather.old.given rank true ≡ false }
-    ensures agrees { IfOk result (λ s. AgreesWith s.side.conveyor (posted_on s.port.seat) (collected_from s.port.seat)) }
+    ensures agrees { IfOk result (λ s. AgreesWith s.side.conveyor (posted_on s.port.seat)
+        (collected_from s.port.seat)) }
     ensures same_bank { (gather.new.id ≡ gather.old.id) × (gather.new.shape ≡ gather.old.shape) }
     ensures given { gather.new.given ≡ slice_set gather.old.given rank true }
 {
@@ -100,8 +104,10 @@ fn run_epochs<const CAP: usize, const HOPS: usize>(
     sides: &mut Vec<AtSeat<'_, CAP, HOPS>>,
     job: Job,
 ) -> Result<(), NoMemory>
-    requires agree { EachAt (λ k s. AgreesWith s.side.conveyor (posted_on s.port.seat) (collected_from s.port.seat)) sides.old.items }
-    ensures agree { EachAt (λ k s. AgreesWith s.side.conveyor (posted_on s.port.seat) (collected_from s.port.seat)) sides.new.items }
+    requires agree { EachAt (λ k s. AgreesWith s.side.conveyor (posted_on s.port.seat) (collected_from s.port.seat))
+        sides.old.items }
+    ensures agree { EachAt (λ k s. AgreesWith s.side.conveyor (posted_on s.port.seat) (collected_from s.port.seat))
+        sides.new.items }
 {
     for _ in 0..job.epochs {
         run_epoch(sides, job.items)?;
@@ -114,8 +120,10 @@ fn run_epoch<const CAP: usize, const HOPS: usize>(
     sides: &mut Vec<AtSeat<'_, CAP, HOPS>>,
     items: u64,
 ) -> Result<(), NoMemory>
-    requires agree { EachAt (λ k s. AgreesWith s.side.conveyor (posted_on s.port.seat) (collected_from s.port.seat)) sides.old.items }
-    ensures agree { EachAt (λ k s. AgreesWith s.side.conveyor (posted_on s.port.seat) (collected_from s.port.seat)) sides.new.items }
+    requires agree { EachAt (λ k s. AgreesWith s.side.conveyor (posted_on s.port.seat) (collected_from s.port.seat))
+        sides.old.items }
+    ensures agree { EachAt (λ k s. AgreesWith s.side.conveyor (posted_on s.port.seat) (collected_from s.port.seat))
+        sides.new.items }
 {
     let mut begins = true;
     for _ in 0..u64::MAX {
@@ -133,8 +141,10 @@ fn sweep<const CAP: usize, const HOPS: usize>(
     begins: bool,
     items: u64,
 ) -> Result<bool, NoMemory>
-    requires agree { EachAt (λ k s. AgreesWith s.side.conveyor (posted_on s.port.seat) (collected_from s.port.seat)) sides.old.items }
-    ensures agree { EachAt (λ k s. AgreesWith s.side.conveyor (posted_on s.port.seat) (collected_from s.port.seat)) sides.new.items }
+    requires agree { EachAt (λ k s. AgreesWith s.side.conveyor (posted_on s.port.seat) (collected_from s.port.seat))
+        sides.old.items }
+    ensures agree { EachAt (λ k s. AgreesWith s.side.conveyor (posted_on s.port.seat) (collected_from s.port.seat))
+        sides.new.items }
 {
     let mut over = true;
     for i in 0..sides.len() {
@@ -152,8 +162,10 @@ fn turn_one<const CAP: usize, const HOPS: usize>(
     items: u64,
 ) -> Result<bool, NoMemory>
     requires within { i < length sides.old.items }
-    requires agree { EachAt (λ k s. AgreesWith s.side.conveyor (posted_on s.port.seat) (collected_from s.port.seat)) sides.old.items }
-    ensures agree { EachAt (λ k s. AgreesWith s.side.conveyor (posted_on s.port.seat) (collected_from s.port.seat)) sides.new.items }
+    requires agree { EachAt (λ k s. AgreesWith s.side.conveyor (posted_on s.port.seat) (collected_from s.port.seat))
+        sides.old.items }
+    ensures agree { EachAt (λ k s. AgreesWith s.side.conveyor (posted_on s.port.seat) (collected_from s.port.seat))
+        sides.new.items }
     ensures all { length sides.new.items ≡ length sides.old.items }
 {
     sides[i].turn(begins, items)

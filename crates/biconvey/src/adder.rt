@@ -22,7 +22,8 @@ impl Model for Adder {
 
     ghost view = { λ s. record { rank = s.rank; ranks = s.ranks; queries = s.queries.items; heard = s.heard.items } };
 
-    ghost invariant = { λ s. IsAdder (record { rank = s.rank; ranks = s.ranks; queries = s.queries.items; heard = s.heard.items }) };
+    ghost invariant = { λ s. IsAdder
+        (record { rank = s.rank; ranks = s.ranks; queries = s.queries.items; heard = s.heard.items }) };
 }
 
 impl Adder {

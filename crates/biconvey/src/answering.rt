@@ -105,11 +105,13 @@ fn push_answers<A: Asker, const CAP: usize, const HOPS: usize>(
     requires same_dims { replies.old.dims ≡ queries.now.dims }
     requires working { replies.old.phase ≡ Phase.Working }
     requires not_done { replies.old.done ≡ false }
-    ensures answers { Answers A.talk asker.now.value queries.now (pulls result.count queries.now) replies.old replies.new }
+    ensures answers { Answers A.talk asker.now.value queries.now
+        (pulls result.count queries.now) replies.old replies.new }
     ensures count { result.count + waiting (pulls result.count queries.now).ins ≤ waiting queries.now.ins }
     ensures all { result.refused ≡ None → result.count ≡ length (in_at queries.now number).parcel.untaken }
     ensures some { 0 < length (in_at queries.now number).parcel.untaken }
-    ensures refused { IfSome result.refused (λ to. (to < ranks replies.new.dims) × (standing_toward replies.new to ≡ CAP)) }
+    ensures refused { IfSome result.refused (λ to. (to < ranks replies.new.dims)
+        × (standing_toward replies.new to ≡ CAP)) }
 {
     let mut count = 0;
     for entry in queries.batch(number) {

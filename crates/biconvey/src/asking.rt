@@ -52,10 +52,13 @@ fn push_query<A: Asker, const CAP: usize, const HOPS: usize>(
     ensures same { conveyor.new ≡ record conveyor.old { outs = conveyor.new.outs; pulled = conveyor.new.pulled } }
     ensures kept { KeepsAgreement conveyor.old conveyor.new }
     ensures accepted { result ≡ Pushed.Accepted → (sent got : Logs) → AgreesWith conveyor.old sent got
-        → PushedOn (asks_of A.talk asker.now.value) (ranks conveyor.old.dims) next (next + 1) (part_of (buffers_of conveyor.old) sent got) (part_of (buffers_of conveyor.new) sent got) }
+        → PushedOn (asks_of A.talk asker.now.value) (ranks conveyor.old.dims) next (next + 1)
+        (part_of (buffers_of conveyor.old) sent got) (part_of (buffers_of conveyor.new) sent got) }
     ensures refused { result ≡ Pushed.Full → (sent got : Logs) → AgreesWith conveyor.old sent got
-        → PushedOn (asks_of A.talk asker.now.value) (ranks conveyor.old.dims) next next (part_of (buffers_of conveyor.old) sent got) (part_of (buffers_of conveyor.new) sent got) }
-    ensures full { result ≡ Pushed.Full → (to : ℕ) (x : Item) → slice_get (asks_of A.talk asker.now.value) next ≡ Some (to, x)
+        → PushedOn (asks_of A.talk asker.now.value) (ranks conveyor.old.dims) next next
+        (part_of (buffers_of conveyor.old) sent got) (part_of (buffers_of conveyor.new) sent got) }
+    ensures full { result ≡ Pushed.Full → (to : ℕ) (x : Item) → slice_get (asks_of A.talk asker.now.value) next
+        ≡ Some (to, x)
         → (to < ranks conveyor.new.dims) × (standing_toward conveyor.new to ≡ CAP) }
 {
     let (to, question) = asker.query(next);

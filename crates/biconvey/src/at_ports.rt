@@ -27,7 +27,8 @@ impl<'a, A: Asker, const CAP: usize, const HOPS: usize> Model for AtPorts<'a, A,
 
     ghost view = { λ s. record { node = s.node; queries = s.queries.seat; replies = s.replies.seat } };
 
-    ghost invariant = { λ s. HasWay A.talk CAP (record { node = s.node; queries = s.queries.seat; replies = s.replies.seat }) };
+    ghost invariant = { λ s. HasWay A.talk CAP
+        (record { node = s.node; queries = s.queries.seat; replies = s.replies.seat }) };
 }
 
 impl<'a, A: Asker, const CAP: usize, const HOPS: usize> Seated for AtPorts<'a, A, CAP, HOPS> {

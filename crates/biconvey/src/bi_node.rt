@@ -46,7 +46,13 @@ impl<A, const CAP: usize, const HOPS: usize> Model for BiNode<A, CAP, HOPS> {
 
     ghost Value = { BiState A };
 
-    ghost view = { λ n. record { asker = n.asker.value; next = n.next; lines = n.lines.items; queries = n.queries; replies = n.replies } };
+    ghost view = { λ n. record {
+      asker = n.asker.value;
+      next = n.next;
+      lines = n.lines.items;
+      queries = n.queries;
+      replies = n.replies;
+    } };
 }
 
 impl<A: Asker, const CAP: usize, const HOPS: usize> BiNode<A, CAP, HOPS> {
@@ -61,7 +67,8 @@ impl<A: Asker, const CAP: usize, const HOPS: usize> BiNode<A, CAP, HOPS> {
         ensures asker { IfOk result (λ n. n.asker ≡ asker) }
         ensures dims { IfOk result (λ n. n.queries.dims ≡ grid.now) }
         ensures rank { IfOk result (λ n. n.queries.rank ≡ A.talk.rank asker) }
-        ensures unread { IfOk result (λ n. (l : ℕ) → ((in_of n.queries l).parcel.untaken ≡ []) × ((in_of n.replies l).parcel.untaken ≡ [])) }
+        ensures unread { IfOk result (λ n. (l : ℕ) → ((in_of n.queries l).parcel.untaken ≡ [])
+            × ((in_of n.replies l).parcel.untaken ≡ [])) }
         ensures steady { IfOk result (λ n. (n.queries.steady ≡ steady) × (n.replies.steady ≡ steady)) }
     {
         let rank = asker.rank();
@@ -94,18 +101,24 @@ impl<A: Asker, const CAP: usize, const HOPS: usize> BiNode<A, CAP, HOPS> {
         requires queries_rank { P.rank queries.old ≡ self.old.queries.rank }
         requires replies_dims { R.dims replies.old ≡ self.old.replies.dims }
         requires replies_rank { R.rank replies.old ≡ self.old.replies.rank }
-        requires node { (start : A) × IsBiNode A.talk start self.old (P.sent queries.old) (P.got queries.old) (R.sent replies.old) (R.got replies.old) }
-        ensures kept { (start : A) → IsBiNode A.talk start self.old (P.sent queries.old) (P.got queries.old) (R.sent replies.old) (R.got replies.old)
-            → IsBiNode A.talk start self.new (P.sent queries.new) (P.got queries.new) (R.sent replies.new) (R.got replies.new) }
+        requires node { (start : A) × IsBiNode A.talk start self.old (P.sent queries.old) (P.got queries.old)
+            (R.sent replies.old) (R.got replies.old) }
+        ensures kept { (start : A) → IsBiNode A.talk start self.old (P.sent queries.old) (P.got queries.old)
+            (R.sent replies.old) (R.got replies.old)
+            → IsBiNode A.talk start self.new (P.sent queries.new) (P.got queries.new) (R.sent replies.new)
+            (R.got replies.new) }
         ensures steps { steps.new ≡ steps.old + 1 }
         ensures memory { P.Memory.GROWS ≡ false → R.Memory.GROWS ≡ false → IsOk result }
 
         // Ended exactly where both ways are complete.
-        ensures ended { result ≡ Ok Turn.Ended → (self.new.queries.phase ≡ Phase.Complete) × (self.new.replies.phase ≡ Phase.Complete) }
-        ensures going { result ≡ Ok Turn.Going → self.new.queries.phase ≡ Phase.Complete → self.new.replies.phase ≢ Phase.Complete }
+        ensures ended { result ≡ Ok Turn.Ended → (self.new.queries.phase ≡ Phase.Complete)
+            × (self.new.replies.phase ≡ Phase.Complete) }
+        ensures going { result ≡ Ok Turn.Going → self.new.queries.phase ≡ Phase.Complete
+            → self.new.replies.phase ≢ Phase.Complete }
 
         // A query is left to push only where a push was refused, and one that came is unread only where an answer was refused.
-        ensures unasked { (to : ℕ) (x : Item) → slice_get (asks_of A.talk self.new.asker) self.new.next ≡ Some (to, x) → WasRefused self.old.queries CAP }
+        ensures unasked { (to : ℕ) (x : Item) → slice_get (asks_of A.talk self.new.asker) self.new.next ≡ Some (to, x)
+            → WasRefused self.old.queries CAP }
         ensures unanswered { AllRead self.new.queries ⊎ WasRefused self.old.replies CAP }
 
         // What stays.
@@ -127,21 +140,47 @@ impl<A: Asker, const CAP: usize, const HOPS: usize> BiNode<A, CAP, HOPS> {
         ensures queries_got { (l : ℕ) → Begins (P.got queries.old l) (P.got queries.new l) }
         ensures replies_sent { (l : ℕ) → Begins (R.sent replies.old l) (R.sent replies.new l) }
         ensures replies_got { (l : ℕ) → Begins (R.got replies.old l) (R.got replies.new l) }
-        ensures queries_shape { (l : ℕ) → IsConveyorShape self.old.queries.steady CAP (P.sent queries.old l) → IsConveyorShape self.old.queries.steady CAP (P.sent queries.new l) }
-        ensures replies_shape { (l : ℕ) → IsConveyorShape self.old.replies.steady CAP (R.sent replies.old l) → IsConveyorShape self.old.replies.steady CAP (R.sent replies.new l) }
-        ensures queries_lie { (l : ℕ) (more : List Shipped) → l < links self.old.queries.dims → reader_at self.old.queries.dims l ≡ self.old.queries.rank → P.got queries.new l ≡ P.got queries.old l ++ more
-            → length (in_of self.new.queries l).parcel.untaken ≤ length (in_of self.old.queries l).parcel.untaken + length (flat_map (λ p. p.entries) more) }
-        ensures replies_lie { (l : ℕ) (more : List Shipped) → l < links self.old.replies.dims → reader_at self.old.replies.dims l ≡ self.old.replies.rank → R.got replies.new l ≡ R.got replies.old l ++ more
-            → length (in_of self.new.replies l).parcel.untaken ≤ length (in_of self.old.replies l).parcel.untaken + length (flat_map (λ p. p.entries) more) }
+        ensures queries_shape { (l : ℕ) → IsConveyorShape self.old.queries.steady CAP (P.sent queries.old l)
+            → IsConveyorShape self.old.queries.steady CAP (P.sent queries.new l) }
+        ensures replies_shape { (l : ℕ) → IsConveyorShape self.old.replies.steady CAP (R.sent replies.old l)
+            → IsConveyorShape self.old.replies.steady CAP (R.sent replies.new l) }
+        ensures queries_lie { (l : ℕ) (more : List Shipped) → l < links self.old.queries.dims
+            → reader_at self.old.queries.dims l ≡ self.old.queries.rank
+            → P.got queries.new l ≡ P.got queries.old l ++ more
+            → length (in_of self.new.queries l).parcel.untaken ≤ length (in_of self.old.queries l).parcel.untaken
+            + length (flat_map (λ p. p.entries) more) }
+        ensures replies_lie { (l : ℕ) (more : List Shipped) → l < links self.old.replies.dims
+            → reader_at self.old.replies.dims l ≡ self.old.replies.rank
+            → R.got replies.new l ≡ R.got replies.old l ++ more
+            → length (in_of self.new.replies l).parcel.untaken ≤ length (in_of self.old.replies l).parcel.untaken
+            + length (flat_map (λ p. p.entries) more) }
 
         // Where no parcel was moved on either way, something outside keeps the rank.
-        ensures stuck { OnOk result ((start : A) → IsBiNode A.talk start self.old (P.sent queries.old) (P.got queries.old) (R.sent replies.old) (R.got replies.old)
-            → ((l : ℕ) → P.sent queries.new l ≡ P.sent queries.old l) → ((l : ℕ) → P.got queries.new l ≡ P.got queries.old l)
-            → ((l : ℕ) → R.sent replies.new l ≡ R.sent replies.old l) → ((l : ℕ) → R.got replies.new l ≡ R.got replies.old l)
+        ensures stuck { OnOk result ((start : A) → IsBiNode A.talk start self.old (P.sent queries.old)
+            (P.got queries.old) (R.sent replies.old) (R.got replies.old)
+            → ((l : ℕ) → P.sent queries.new l ≡ P.sent queries.old l)
+            → ((l : ℕ) → P.got queries.new l ≡ P.got queries.old l)
+            → ((l : ℕ) → R.sent replies.new l ≡ R.sent replies.old l)
+            → ((l : ℕ) → R.got replies.new l ≡ R.got replies.old l)
             → IsStuck self.old self.new
-            (record { asking = P.sent queries.old; asked = P.got queries.old; replying = R.sent replies.old; replied = R.got replies.old })
-            (record { asking = P.sent queries.new; asked = P.got queries.new; replying = R.sent replies.new; replied = R.got replies.new })
-            (record { crowded = P.crowded queries.new; idle = P.idle queries.new; replies_crowded = R.crowded replies.new; replies_idle = R.idle replies.new })) }
+            (record {
+              asking = P.sent queries.old;
+              asked = P.got queries.old;
+              replying = R.sent replies.old;
+              replied = R.got replies.old;
+            })
+            (record {
+              asking = P.sent queries.new;
+              asked = P.got queries.new;
+              replying = R.sent replies.new;
+              replied = R.got replies.new;
+            })
+            (record {
+              crowded = P.crowded queries.new;
+              idle = P.idle queries.new;
+              replies_crowded = R.crowded replies.new;
+              replies_idle = R.idle replies.new;
+            })) }
     {
         steps.tick();
         self.next = push_queries(&self.asker, &mut self.queries, self.next);

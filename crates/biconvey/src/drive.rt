@@ -54,7 +54,8 @@ pub fn drive_both<const CAP: usize, const HOPS: usize, A: Asker, L: Ledger>(
 
     // Two closed rounds tell what was exchanged.
     ensures rounds { IfOk result (λ f. (q : ClosedRound) × (r : ClosedRound) × (f.rounds ≡ q ∷ r ∷ [])
-        × TellsExchange A.talk askers (record { dims = grid.now; cap = CAP; slots = slots; by_slots = false }) steady (round_of q) (round_of r)) }
+        × TellsExchange A.talk askers (record { dims = grid.now; cap = CAP; slots = slots; by_slots = false }) steady
+        (round_of q) (round_of r)) }
 
     // The turns are bounded before the exchange, also where it ends in `NoMemory`.
     ensures steps { steps.new ≤ steps.old + turns_of grid.now (sum_by (λ s. length (A.talk.queries s)) askers) }
@@ -92,7 +93,8 @@ fn finish<const CAP: usize, const HOPS: usize, A: Asker>(
 ) -> Result<Finished<A>, NoMemory>
     ensures progs { IfOk result (λ f. f.progs ≡ askers_of all.items) }
     ensures rounds { IfOk result (λ f. (q : ClosedRound) × (r : ClosedRound) × (f.rounds ≡ q ∷ r ∷ [])
-        × (round_of q ≡ closed CAP banks.entry.queries) × IsRound (round_of q) × (round_of r ≡ closed CAP banks.entry.replies) × IsRound (round_of r)) }
+        × (round_of q ≡ closed CAP banks.entry.queries) × IsRound (round_of q)
+        × (round_of r ≡ closed CAP banks.entry.replies) × IsRound (round_of r)) }
 {
     let Banks { queries, replies } = banks;
     let mut rounds = Rounds::new(alloc);

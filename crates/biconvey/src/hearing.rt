@@ -26,8 +26,10 @@ pub(crate) fn hear_all<A: Asker, const CAP: usize, const HOPS: usize>(
     requires begun { replies.old.phase ≢ Phase.Dormant }
     requires first { replies.old.epoch ≡ 0 }
     requires heard { (start : A) × (sent : Logs) × (got : Logs) × AgreesWith replies.old sent got
-        × HasHeard A.talk start (ranks replies.old.dims) asker.old.value lines.old.items (part_of (buffers_of replies.old) sent got).pulled }
-    ensures hears { Hears A.talk asker.old.value asker.new.value lines.old.items lines.new.items replies.old replies.new }
+        × HasHeard A.talk start (ranks replies.old.dims) asker.old.value lines.old.items
+        (part_of (buffers_of replies.old) sent got).pulled }
+    ensures hears { Hears A.talk asker.old.value asker.new.value lines.old.items lines.new.items replies.old
+        replies.new }
     ensures read { AllRead replies.new }
 {
     while let Some(number) = replies.unread() {
@@ -46,8 +48,10 @@ fn hear_batch<A: Asker, const CAP: usize, const HOPS: usize>(
     requires lowest { lowest_unread replies.old ≡ Some number }
     requires first { replies.old.epoch ≡ 0 }
     requires heard { (start : A) × (sent : Logs) × (got : Logs) × AgreesWith replies.old sent got
-        × HasHeard A.talk start (ranks replies.old.dims) asker.old.value lines.old.items (part_of (buffers_of replies.old) sent got).pulled }
-    ensures hears { Hears A.talk asker.old.value asker.new.value lines.old.items lines.new.items replies.old replies.new }
+        × HasHeard A.talk start (ranks replies.old.dims) asker.old.value lines.old.items
+        (part_of (buffers_of replies.old) sent got).pulled }
+    ensures hears { Hears A.talk asker.old.value asker.new.value lines.old.items lines.new.items replies.old
+        replies.new }
     ensures less { waiting replies.new.ins < waiting replies.old.ins }
 {
     for entry in replies.batch(number) {
@@ -60,7 +64,8 @@ fn hear_batch<A: Asker, const CAP: usize, const HOPS: usize>(
 /// Hears one reply, as that to the first query to the rank `from` that has none; drops it where there is none.
 fn hear_one<A: Asker>(asker: &mut Box<A>, lines: &mut Vec<Line>, from: u32, reply: u64)
     requires from { from < length lines.old.items }
-    requires heard { (start : A) × (came : ItemLists) × HasHeard A.talk start (length lines.old.items) asker.old.value lines.old.items came }
+    requires heard { (start : A) × (came : ItemLists)
+        × HasHeard A.talk start (length lines.old.items) asker.old.value lines.old.items came }
     ensures { HearsOne A.talk from reply asker.old.value asker.new.value lines.old.items lines.new.items }
 {
     if let Some(i) = next_of(lines, from) {

@@ -41,7 +41,8 @@ fn no_lines(alloc: Global, ranks: u32) -> Result<Vec<Line>, NoMemory>
 fn add_to(lines: &mut Vec<Line>, to: u32, place: u64) -> Result<(), NoMemory>
     requires { to < length lines.old.items }
     ensures all { length lines.new.items ≡ length lines.old.items }
-    ensures here { OnOk result ((xs : List ℕ) → slice_get lines.old.items to ≡ Some xs → slice_get lines.new.items to ≡ Some (xs ++ place ∷ [])) }
+    ensures here { OnOk result ((xs : List ℕ) → slice_get lines.old.items to ≡ Some xs
+        → slice_get lines.new.items to ≡ Some (xs ++ place ∷ [])) }
     ensures others { (d : ℕ) → d ≢ to → slice_get lines.new.items d ≡ slice_get lines.old.items d }
 {
     lines[to as usize].add(place)
@@ -53,7 +54,8 @@ pub(crate) fn next_of(lines: &mut Vec<Line>, from: u32) -> Option<u64>
     requires { from < length lines.old.items }
     ensures all { length lines.new.items ≡ length lines.old.items }
     ensures first { (xs : List ℕ) → slice_get lines.old.items from ≡ Some xs → result ≡ slice_get xs 0 }
-    ensures here { (xs : List ℕ) → slice_get lines.old.items from ≡ Some xs → slice_get lines.new.items from ≡ Some (drop 1 xs) }
+    ensures here { (xs : List ℕ) → slice_get lines.old.items from ≡ Some xs
+        → slice_get lines.new.items from ≡ Some (drop 1 xs) }
     ensures others { (d : ℕ) → d ≢ from → slice_get lines.new.items d ≡ slice_get lines.old.items d }
 {
     lines[from as usize].next()

@@ -54,7 +54,8 @@ pub fn thread_both<
 
     // Two closed rounds tell what was exchanged.
     ensures rounds { IfOk result (λ f. (q : ClosedRound) × (r : ClosedRound) × (f.rounds ≡ q ∷ r ∷ [])
-        × TellsExchange A.talk askers (record { dims = grid.now; cap = CAP; slots = slots; by_slots = true }) steady (round_of q) (round_of r)) }
+        × TellsExchange A.talk askers (record { dims = grid.now; cap = CAP; slots = slots; by_slots = true }) steady
+        (round_of q) (round_of r)) }
 {
     let threads = grid.ranks() as usize;
     thread_with::<CAP, HOPS, R, A, G>(rt, alloc, grid, slots, steady, askers, gate, threads)
@@ -84,7 +85,8 @@ pub(crate) fn thread_with<
     requires askers { AreAskers A.talk (ranks grid.now) askers }
     ensures heard { IfOk result (λ f. HaveHeard A.talk askers f.progs) }
     ensures rounds { IfOk result (λ f. (q : ClosedRound) × (r : ClosedRound) × (f.rounds ≡ q ∷ r ∷ [])
-        × TellsExchange A.talk askers (record { dims = grid.now; cap = CAP; slots = slots; by_slots = true }) steady (round_of q) (round_of r)) }
+        × TellsExchange A.talk askers (record { dims = grid.now; cap = CAP; slots = slots; by_slots = true }) steady
+        (round_of q) (round_of r)) }
 {
     closes_law();
     let _few = grid.ranks();

@@ -24,12 +24,20 @@ pub(crate) fn run_all<const CAP: usize, const HOPS: usize, A: Asker, L: Ledger>(
 ) -> Result<Banks<CAP>, NoMemory>
     requires order { IsOrder (ranks banks.queries.dims) order.now }
     requires banks { AreBanks CAP banks.queries.dims banks.queries.slots banks.queries banks.replies }
-    requires world { (steady : Bool) × (starts : ℕ → A) × World A.talk banks.queries.dims CAP banks.queries.slots steady starts all.old.items (sides_of banks.queries banks.replies) }
-    ensures banks { IfOk result (λ b. AreBanks CAP banks.entry.queries.dims banks.entry.queries.slots b.queries b.replies) }
+    requires world { (steady : Bool) × (starts : ℕ → A)
+        × World A.talk banks.queries.dims CAP banks.queries.slots steady starts all.old.items
+        (sides_of banks.queries banks.replies) }
+    ensures banks { IfOk result (λ b. AreBanks CAP banks.entry.queries.dims banks.entry.queries.slots b.queries
+        b.replies) }
     ensures over { OnOk result ((r : ℕ) (n : BiState A) → slice_get all.new.items r ≡ Some n → is_over n ≡ true) }
-    ensures world { (steady : Bool) (starts : ℕ → A) → World A.talk banks.entry.queries.dims CAP banks.entry.queries.slots steady starts all.old.items (sides_of banks.entry.queries banks.entry.replies)
-        → IfOk result (λ b. World A.talk banks.entry.queries.dims CAP banks.entry.queries.slots steady starts all.new.items (sides_of b.queries b.replies)) }
-    ensures steps { (steady : Bool) (starts : ℕ → A) → World A.talk banks.entry.queries.dims CAP banks.entry.queries.slots steady starts all.old.items (sides_of banks.entry.queries banks.entry.replies)
+    ensures world { (steady : Bool) (starts : ℕ → A)
+        → World A.talk banks.entry.queries.dims CAP banks.entry.queries.slots steady starts all.old.items
+        (sides_of banks.entry.queries banks.entry.replies)
+        → IfOk result (λ b. World A.talk banks.entry.queries.dims CAP banks.entry.queries.slots steady starts
+        all.new.items (sides_of b.queries b.replies)) }
+    ensures steps { (steady : Bool) (starts : ℕ → A)
+        → World A.talk banks.entry.queries.dims CAP banks.entry.queries.slots steady starts all.old.items
+        (sides_of banks.entry.queries banks.entry.replies)
         → steps.new ≤ steps.old + turns_of banks.entry.queries.dims (queries_in A.talk all.old.items) }
 {
     closes_law();

@@ -27,14 +27,17 @@ pub(crate) fn seat_all<'a, const CAP: usize, const HOPS: usize, A: Asker>(
     requires queries { (of_queries.old.id ≡ queries.now.id) × (of_queries.old.shape ≡ queries.now.shape) }
     requires replies { (of_replies.old.id ≡ replies.now.id) × (of_replies.old.shape ≡ replies.now.shape) }
     requires shape { replies.now.shape ≡ queries.now.shape }
-    requires none { (of_queries.old.given ≡ replicate (ranks queries.now.shape.dims) false) × (of_replies.old.given ≡ replicate (ranks queries.now.shape.dims) false) }
+    requires none { (of_queries.old.given ≡ replicate (ranks queries.now.shape.dims) false)
+        × (of_replies.old.given ≡ replicate (ranks queries.now.shape.dims) false) }
     requires size { length all.items ≡ ranks queries.now.shape.dims }
     requires few { ranks queries.now.shape.dims < 2 ^ 32 }
-    requires fresh { (steady : Bool) × (askers : List A) × AreFresh A.talk queries.now.shape.dims steady askers all.items }
+    requires fresh { (steady : Bool) × (askers : List A)
+        × AreFresh A.talk queries.now.shape.dims steady askers all.items }
     ensures queries { (of_queries.new.id ≡ queries.now.id) × (of_queries.new.shape ≡ queries.now.shape) }
     ensures replies { (of_replies.new.id ≡ replies.now.id) × (of_replies.new.shape ≡ replies.now.shape) }
     ensures nodes { IfOk result (λ xs. map (λ x. x.node) xs.items ≡ all.items) }
-    ensures seated { (steady : Bool) (askers : List A) → AreFresh A.talk queries.now.shape.dims steady askers all.items → IfOk result (λ xs. AreSeated A.talk CAP steady queries.now replies.now xs.items) }
+    ensures seated { (steady : Bool) (askers : List A) → AreFresh A.talk queries.now.shape.dims steady askers all.items
+        → IfOk result (λ xs. AreSeated A.talk CAP steady queries.now replies.now xs.items) }
 {
     let mut seated = Vec::with_capacity(alloc, all.len())?;
     let mut number = 0;
@@ -71,8 +74,10 @@ pub(crate) fn gather_all<'a, const CAP: usize, const HOPS: usize, A: Asker>(
     ensures queries { (of_queries.new.id ≡ queries.now.id) × (of_queries.new.shape ≡ queries.now.shape) }
     ensures replies { (of_replies.new.id ≡ replies.now.id) × (of_replies.new.shape ≡ replies.now.shape) }
     ensures nodes { IfOk result (λ ns. ns.items ≡ map (λ y. y.node) ended.entry.items) }
-    ensures queries_there { OnOk result (EachAt (λ r y. slice_index_or of_queries.new.lists r None ≡ Some y.queries.lists) ended.entry.items) }
-    ensures replies_there { OnOk result (EachAt (λ r y. slice_index_or of_replies.new.lists r None ≡ Some y.replies.lists) ended.entry.items) }
+    ensures queries_there { OnOk result
+        (EachAt (λ r y. slice_index_or of_queries.new.lists r None ≡ Some y.queries.lists) ended.entry.items) }
+    ensures replies_there { OnOk result
+        (EachAt (λ r y. slice_index_or of_replies.new.lists r None ≡ Some y.replies.lists) ended.entry.items) }
 {
     let mut nodes = Vec::with_capacity(alloc, ended.len())?;
     for seated in one_by_one(alloc, ended)? {

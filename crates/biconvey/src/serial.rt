@@ -47,7 +47,8 @@ pub fn bi_serial<A: Asker, L: Ledger>(
 
     // Two closed rounds tell what was exchanged, over banks of this capacity.
     ensures rounds { IfOk result (λ f. (q : ClosedRound) × (r : ClosedRound) × (f.rounds ≡ q ∷ r ∷ [])
-        × TellsExchange A.talk askers (record { dims = grid.now; cap = cap; slots = slots; by_slots = false }) steady (round_of q) (round_of r)) }
+        × TellsExchange A.talk askers (record { dims = grid.now; cap = cap; slots = slots; by_slots = false }) steady
+        (round_of q) (round_of r)) }
 
     // The turns are bounded before the exchange, also where it ends in `NoMemory`.
     ensures steps { steps.new ≤ steps.old + turns_of grid.now (sum_by (λ s. length (A.talk.queries s)) askers) }
@@ -77,7 +78,8 @@ fn on_one_hop<A: Asker, L: Ledger>(
     requires askers { AreAskers A.talk (ranks grid.now) askers }
     ensures heard { IfOk result (λ f. HaveHeard A.talk askers f.progs) }
     ensures rounds { IfOk result (λ f. (q : ClosedRound) × (r : ClosedRound) × (f.rounds ≡ q ∷ r ∷ [])
-        × TellsExchange A.talk askers (record { dims = grid.now; cap = cap; slots = slots; by_slots = false }) steady (round_of q) (round_of r)) }
+        × TellsExchange A.talk askers (record { dims = grid.now; cap = cap; slots = slots; by_slots = false }) steady
+        (round_of q) (round_of r)) }
     ensures steps { steps.new ≤ steps.old + turns_of grid.now (sum_by (λ s. length (A.talk.queries s)) askers) }
 {
     by_capacity!(
@@ -105,7 +107,8 @@ fn on_two_hops<A: Asker, L: Ledger>(
     requires askers { AreAskers A.talk (ranks grid.now) askers }
     ensures heard { IfOk result (λ f. HaveHeard A.talk askers f.progs) }
     ensures rounds { IfOk result (λ f. (q : ClosedRound) × (r : ClosedRound) × (f.rounds ≡ q ∷ r ∷ [])
-        × TellsExchange A.talk askers (record { dims = grid.now; cap = cap; slots = slots; by_slots = false }) steady (round_of q) (round_of r)) }
+        × TellsExchange A.talk askers (record { dims = grid.now; cap = cap; slots = slots; by_slots = false }) steady
+        (round_of q) (round_of r)) }
     ensures steps { steps.new ≤ steps.old + turns_of grid.now (sum_by (λ s. length (A.talk.queries s)) askers) }
 {
     by_capacity!(
@@ -133,7 +136,8 @@ fn on_three_hops<A: Asker, L: Ledger>(
     requires askers { AreAskers A.talk (ranks grid.now) askers }
     ensures heard { IfOk result (λ f. HaveHeard A.talk askers f.progs) }
     ensures rounds { IfOk result (λ f. (q : ClosedRound) × (r : ClosedRound) × (f.rounds ≡ q ∷ r ∷ [])
-        × TellsExchange A.talk askers (record { dims = grid.now; cap = cap; slots = slots; by_slots = false }) steady (round_of q) (round_of r)) }
+        × TellsExchange A.talk askers (record { dims = grid.now; cap = cap; slots = slots; by_slots = false }) steady
+        (round_of q) (round_of r)) }
     ensures steps { steps.new ≤ steps.old + turns_of grid.now (sum_by (λ s. length (A.talk.queries s)) askers) }
 {
     by_capacity!(

@@ -33,10 +33,13 @@ fn turn_node<const CAP: usize, const HOPS: usize, A: Asker, L: Ledger>(
 ) -> Result<Banks<CAP>, NoMemory>
     requires number { number < ranks banks.queries.dims }
     requires banks { AreBanks CAP banks.queries.dims banks.queries.slots banks.queries banks.replies }
-    requires rank { (start : A) × HasRank A.talk banks.queries.dims number start node.old (sides_of banks.queries banks.replies) }
-    ensures banks { IfOk result (λ b. AreBanks CAP banks.entry.queries.dims banks.entry.queries.slots b.queries b.replies) }
+    requires rank { (start : A) × HasRank A.talk banks.queries.dims number start node.old
+        (sides_of banks.queries banks.replies) }
+    ensures banks { IfOk result (λ b. AreBanks CAP banks.entry.queries.dims banks.entry.queries.slots b.queries
+        b.replies) }
     ensures steps { steps.new ≡ steps.old + 1 }
-    ensures turned { IfOk result (λ b. AfterRank A.talk banks.entry.queries.dims CAP banks.entry.queries.slots number node.old node.new (sides_of banks.entry.queries banks.entry.replies) (sides_of b.queries b.replies)) }
+    ensures turned { IfOk result (λ b. AfterRank A.talk banks.entry.queries.dims CAP banks.entry.queries.slots number
+        node.old node.new (sides_of banks.entry.queries banks.entry.replies) (sides_of b.queries b.replies)) }
 {
     let Banks { queries, replies } = banks;
     let mut asking = queries.port(number);
@@ -57,13 +60,18 @@ fn turn_one<const CAP: usize, const HOPS: usize, A: Asker, L: Ledger>(
 ) -> Result<Banks<CAP>, NoMemory>
     requires number { number < ranks banks.queries.dims }
     requires banks { AreBanks CAP banks.queries.dims banks.queries.slots banks.queries banks.replies }
-    requires world { (steady : Bool) × (starts : ℕ → A) × World A.talk banks.queries.dims CAP banks.queries.slots steady starts all.old.items (sides_of banks.queries banks.replies) }
+    requires world { (steady : Bool) × (starts : ℕ → A)
+        × World A.talk banks.queries.dims CAP banks.queries.slots steady starts all.old.items
+        (sides_of banks.queries banks.replies) }
     ensures size { length all.new.items ≡ length all.old.items }
     ensures others { (k : ℕ) → k ≢ number → slice_get all.new.items k ≡ slice_get all.old.items k }
-    ensures banks { IfOk result (λ b. AreBanks CAP banks.entry.queries.dims banks.entry.queries.slots b.queries b.replies) }
+    ensures banks { IfOk result (λ b. AreBanks CAP banks.entry.queries.dims banks.entry.queries.slots b.queries
+        b.replies) }
     ensures steps { steps.new ≡ steps.old + 1 }
-    ensures turned { (n n' : BiState A) → slice_get all.old.items number ≡ Some n → slice_get all.new.items number ≡ Some n'
-        → IfOk result (λ b. AfterRank A.talk banks.entry.queries.dims CAP banks.entry.queries.slots number n n' (sides_of banks.entry.queries banks.entry.replies) (sides_of b.queries b.replies)) }
+    ensures turned { (n n' : BiState A) → slice_get all.old.items number ≡ Some n
+        → slice_get all.new.items number ≡ Some n'
+        → IfOk result (λ b. AfterRank A.talk banks.entry.queries.dims CAP banks.entry.queries.slots number n n'
+        (sides_of banks.entry.queries banks.entry.replies) (sides_of b.queries b.replies)) }
 {
     turn_node(banks, &mut all[number as usize], number, steps)
 }
@@ -77,11 +85,18 @@ pub(crate) fn sweep<const CAP: usize, const HOPS: usize, A: Asker, L: Ledger>(
 ) -> Result<Banks<CAP>, NoMemory>
     requires order { IsOrder (ranks banks.queries.dims) order.now }
     requires banks { AreBanks CAP banks.queries.dims banks.queries.slots banks.queries banks.replies }
-    requires world { (steady : Bool) × (starts : ℕ → A) × World A.talk banks.queries.dims CAP banks.queries.slots steady starts all.old.items (sides_of banks.queries banks.replies) }
-    ensures banks { IfOk result (λ b. AreBanks CAP banks.entry.queries.dims banks.entry.queries.slots b.queries b.replies) }
+    requires world { (steady : Bool) × (starts : ℕ → A)
+        × World A.talk banks.queries.dims CAP banks.queries.slots steady starts all.old.items
+        (sides_of banks.queries banks.replies) }
+    ensures banks { IfOk result (λ b. AreBanks CAP banks.entry.queries.dims banks.entry.queries.slots b.queries
+        b.replies) }
     ensures most_steps { steps.new ≤ steps.old + length order.now }
-    ensures swept { (steady : Bool) (starts : ℕ → A) → World A.talk banks.entry.queries.dims CAP banks.entry.queries.slots steady starts all.old.items (sides_of banks.entry.queries banks.entry.replies)
-        → IfOk result (λ b. SweptTo A.talk banks.entry.queries.dims CAP banks.entry.queries.slots steady starts order.now (length order.now) all.old.items (sides_of banks.entry.queries banks.entry.replies) all.new.items (sides_of b.queries b.replies)) }
+    ensures swept { (steady : Bool) (starts : ℕ → A)
+        → World A.talk banks.entry.queries.dims CAP banks.entry.queries.slots steady starts all.old.items
+        (sides_of banks.entry.queries banks.entry.replies)
+        → IfOk result (λ b. SweptTo A.talk banks.entry.queries.dims CAP banks.entry.queries.slots steady starts
+        order.now (length order.now) all.old.items (sides_of banks.entry.queries banks.entry.replies) all.new.items
+        (sides_of b.queries b.replies)) }
 {
     let mut banks = banks;
     for i in 0..order.len() {

@@ -43,7 +43,8 @@ pub fn bi_threads<R: Threads + Wait + Sync, A: Asker + Send, G: Gate + Sync>(
 
     // Two closed rounds tell what was exchanged, over banks of this capacity.
     ensures rounds { IfOk result (λ f. (q : ClosedRound) × (r : ClosedRound) × (f.rounds ≡ q ∷ r ∷ [])
-        × TellsExchange A.talk askers (record { dims = grid.now; cap = cap; slots = slots; by_slots = true }) steady (round_of q) (round_of r)) }
+        × TellsExchange A.talk askers (record { dims = grid.now; cap = cap; slots = slots; by_slots = true }) steady
+        (round_of q) (round_of r)) }
 {
     match grid.hops() {
         1 => on_one_hop(rt, alloc, grid, cap, slots, steady, askers, gate),
@@ -69,7 +70,8 @@ fn on_one_hop<R: Threads + Wait + Sync, A: Asker + Send, G: Gate + Sync>(
     requires askers { AreAskers A.talk (ranks grid.now) askers }
     ensures heard { IfOk result (λ f. HaveHeard A.talk askers f.progs) }
     ensures rounds { IfOk result (λ f. (q : ClosedRound) × (r : ClosedRound) × (f.rounds ≡ q ∷ r ∷ [])
-        × TellsExchange A.talk askers (record { dims = grid.now; cap = cap; slots = slots; by_slots = true }) steady (round_of q) (round_of r)) }
+        × TellsExchange A.talk askers (record { dims = grid.now; cap = cap; slots = slots; by_slots = true }) steady
+        (round_of q) (round_of r)) }
 {
     by_capacity!(
         cap,
@@ -95,7 +97,8 @@ fn on_two_hops<R: Threads + Wait + Sync, A: Asker + Send, G: Gate + Sync>(
     requires askers { AreAskers A.talk (ranks grid.now) askers }
     ensures heard { IfOk result (λ f. HaveHeard A.talk askers f.progs) }
     ensures rounds { IfOk result (λ f. (q : ClosedRound) × (r : ClosedRound) × (f.rounds ≡ q ∷ r ∷ [])
-        × TellsExchange A.talk askers (record { dims = grid.now; cap = cap; slots = slots; by_slots = true }) steady (round_of q) (round_of r)) }
+        × TellsExchange A.talk askers (record { dims = grid.now; cap = cap; slots = slots; by_slots = true }) steady
+        (round_of q) (round_of r)) }
 {
     by_capacity!(
         cap,
@@ -121,7 +124,8 @@ fn on_three_hops<R: Threads + Wait + Sync, A: Asker + Send, G: Gate + Sync>(
     requires askers { AreAskers A.talk (ranks grid.now) askers }
     ensures heard { IfOk result (λ f. HaveHeard A.talk askers f.progs) }
     ensures rounds { IfOk result (λ f. (q : ClosedRound) × (r : ClosedRound) × (f.rounds ≡ q ∷ r ∷ [])
-        × TellsExchange A.talk askers (record { dims = grid.now; cap = cap; slots = slots; by_slots = true }) steady (round_of q) (round_of r)) }
+        × TellsExchange A.talk askers (record { dims = grid.now; cap = cap; slots = slots; by_slots = true }) steady
+        (round_of q) (round_of r)) }
 {
     by_capacity!(
         cap,

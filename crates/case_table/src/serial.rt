@@ -38,17 +38,20 @@ pub fn case_serial<Q: Program, L: Ledger>(
     requires one_hop { via ≡ Via.Exstack → length grid.now ≡ 1 }
     requires slots { IsSlots slots }
     requires order { IsOrder (ranks grid.now) order.now }
-    requires begins { (shape : List ℕ) × (most : ℕ) × InRound Q.rules (ranks grid.now) 0 shape most progs × EndsWithin Q.rules progs most }
+    requires begins { (shape : List ℕ) × (most : ℕ) × InRound Q.rules (ranks grid.now) 0 shape most progs
+        × EndsWithin Q.rules progs most }
 
     // The programs are as the canonical run leaves them.
     ensures ended { IfOk result (λ f. HaveEnded Q.rules progs f.progs) }
 
     // One closed round tells what was exchanged, over a bank of this capacity.
     ensures rounds { IfOk result (λ f. (c : ClosedRound) × (f.rounds ≡ c ∷ []) × ((n : ℕ) → HasRounds Q.rules progs n
-        → TellsRun Q.rules progs n (record { dims = grid.now; cap = cap; slots = slots; by_slots = false }) (manner_of via steady) (round_of c))) }
+        → TellsRun Q.rules progs n (record { dims = grid.now; cap = cap; slots = slots; by_slots = false })
+        (manner_of via steady) (round_of c))) }
 
     // The turns are bounded before the run, also where it ends in `NoMemory`.
-    ensures steps { (n : ℕ) → HasRounds Q.rules progs n → steps.new ≤ steps.old + turns_within Q.rules (manner_of via steady) grid.now progs n }
+    ensures steps { (n : ℕ) → HasRounds Q.rules progs n
+        → steps.new ≤ steps.old + turns_within Q.rules (manner_of via steady) grid.now progs n }
 {
     match grid.hops() {
         1 => on_one_hop(alloc, grid, cap, via, slots, steady, order, progs, steps),
@@ -74,11 +77,14 @@ fn on_one_hop<Q: Program, L: Ledger>(
     requires one_hop { via ≡ Via.Exstack → length grid.now ≡ 1 }
     requires slots { IsSlots slots }
     requires order { IsOrder (ranks grid.now) order.now }
-    requires begins { (shape : List ℕ) × (most : ℕ) × InRound Q.rules (ranks grid.now) 0 shape most progs × EndsWithin Q.rules progs most }
+    requires begins { (shape : List ℕ) × (most : ℕ) × InRound Q.rules (ranks grid.now) 0 shape most progs
+        × EndsWithin Q.rules progs most }
     ensures ended { IfOk result (λ f. HaveEnded Q.rules progs f.progs) }
     ensures rounds { IfOk result (λ f. (c : ClosedRound) × (f.rounds ≡ c ∷ []) × ((n : ℕ) → HasRounds Q.rules progs n
-        → TellsRun Q.rules progs n (record { dims = grid.now; cap = cap; slots = slots; by_slots = false }) (manner_of via steady) (round_of c))) }
-    ensures steps { (n : ℕ) → HasRounds Q.rules progs n → steps.new ≤ steps.old + turns_within Q.rules (manner_of via steady) grid.now progs n }
+        → TellsRun Q.rules progs n (record { dims = grid.now; cap = cap; slots = slots; by_slots = false })
+        (manner_of via steady) (round_of c))) }
+    ensures steps { (n : ℕ) → HasRounds Q.rules progs n
+        → steps.new ≤ steps.old + turns_within Q.rules (manner_of via steady) grid.now progs n }
 {
     by_capacity!(
         cap,
@@ -104,11 +110,14 @@ fn on_two_hops<Q: Program, L: Ledger>(
     requires one_hop { via ≡ Via.Exstack → length grid.now ≡ 1 }
     requires slots { IsSlots slots }
     requires order { IsOrder (ranks grid.now) order.now }
-    requires begins { (shape : List ℕ) × (most : ℕ) × InRound Q.rules (ranks grid.now) 0 shape most progs × EndsWithin Q.rules progs most }
+    requires begins { (shape : List ℕ) × (most : ℕ) × InRound Q.rules (ranks grid.now) 0 shape most progs
+        × EndsWithin Q.rules progs most }
     ensures ended { IfOk result (λ f. HaveEnded Q.rules progs f.progs) }
     ensures rounds { IfOk result (λ f. (c : ClosedRound) × (f.rounds ≡ c ∷ []) × ((n : ℕ) → HasRounds Q.rules progs n
-        → TellsRun Q.rules progs n (record { dims = grid.now; cap = cap; slots = slots; by_slots = false }) (manner_of via steady) (round_of c))) }
-    ensures steps { (n : ℕ) → HasRounds Q.rules progs n → steps.new ≤ steps.old + turns_within Q.rules (manner_of via steady) grid.now progs n }
+        → TellsRun Q.rules progs n (record { dims = grid.now; cap = cap; slots = slots; by_slots = false })
+        (manner_of via steady) (round_of c))) }
+    ensures steps { (n : ℕ) → HasRounds Q.rules progs n
+        → steps.new ≤ steps.old + turns_within Q.rules (manner_of via steady) grid.now progs n }
 {
     by_capacity!(
         cap,
@@ -134,11 +143,14 @@ fn on_three_hops<Q: Program, L: Ledger>(
     requires one_hop { via ≡ Via.Exstack → length grid.now ≡ 1 }
     requires slots { IsSlots slots }
     requires order { IsOrder (ranks grid.now) order.now }
-    requires begins { (shape : List ℕ) × (most : ℕ) × InRound Q.rules (ranks grid.now) 0 shape most progs × EndsWithin Q.rules progs most }
+    requires begins { (shape : List ℕ) × (most : ℕ) × InRound Q.rules (ranks grid.now) 0 shape most progs
+        × EndsWithin Q.rules progs most }
     ensures ended { IfOk result (λ f. HaveEnded Q.rules progs f.progs) }
     ensures rounds { IfOk result (λ f. (c : ClosedRound) × (f.rounds ≡ c ∷ []) × ((n : ℕ) → HasRounds Q.rules progs n
-        → TellsRun Q.rules progs n (record { dims = grid.now; cap = cap; slots = slots; by_slots = false }) (manner_of via steady) (round_of c))) }
-    ensures steps { (n : ℕ) → HasRounds Q.rules progs n → steps.new ≤ steps.old + turns_within Q.rules (manner_of via steady) grid.now progs n }
+        → TellsRun Q.rules progs n (record { dims = grid.now; cap = cap; slots = slots; by_slots = false })
+        (manner_of via steady) (round_of c))) }
+    ensures steps { (n : ℕ) → HasRounds Q.rules progs n
+        → steps.new ≤ steps.old + turns_within Q.rules (manner_of via steady) grid.now progs n }
 {
     by_capacity!(
         cap,

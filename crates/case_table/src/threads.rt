@@ -37,14 +37,16 @@ pub fn case_threads<R: Threads + Wait + Sync, Q: Program + Send, G: Gate + Sync>
     requires capacity { IsCapacity cap }
     requires one_hop { via ≡ Via.Exstack → length grid.now ≡ 1 }
     requires slots { IsSlots slots }
-    requires begins { (shape : List ℕ) × (most : ℕ) × InRound Q.rules (ranks grid.now) 0 shape most progs × EndsWithin Q.rules progs most }
+    requires begins { (shape : List ℕ) × (most : ℕ) × InRound Q.rules (ranks grid.now) 0 shape most progs
+        × EndsWithin Q.rules progs most }
 
     // The programs are as the canonical run leaves them.
     ensures ended { IfOk result (λ f. HaveEnded Q.rules progs f.progs) }
 
     // One closed round tells what was exchanged, over a bank of this capacity.
     ensures rounds { IfOk result (λ f. (c : ClosedRound) × (f.rounds ≡ c ∷ []) × ((n : ℕ) → HasRounds Q.rules progs n
-        → TellsRun Q.rules progs n (record { dims = grid.now; cap = cap; slots = slots; by_slots = true }) (manner_of via steady) (round_of c))) }
+        → TellsRun Q.rules progs n (record { dims = grid.now; cap = cap; slots = slots; by_slots = true })
+        (manner_of via steady) (round_of c))) }
 {
     match grid.hops() {
         1 => threads_on_one_hop(rt, alloc, grid, cap, via, slots, steady, progs, gate),
@@ -69,10 +71,12 @@ fn threads_on_one_hop<R: Threads + Wait + Sync, Q: Program + Send, G: Gate + Syn
     requires capacity { IsCapacity cap }
     requires one_hop { via ≡ Via.Exstack → length grid.now ≡ 1 }
     requires slots { IsSlots slots }
-    requires begins { (shape : List ℕ) × (most : ℕ) × InRound Q.rules (ranks grid.now) 0 shape most progs × EndsWithin Q.rules progs most }
+    requires begins { (shape : List ℕ) × (most : ℕ) × InRound Q.rules (ranks grid.now) 0 shape most progs
+        × EndsWithin Q.rules progs most }
     ensures ended { IfOk result (λ f. HaveEnded Q.rules progs f.progs) }
     ensures rounds { IfOk result (λ f. (c : ClosedRound) × (f.rounds ≡ c ∷ []) × ((n : ℕ) → HasRounds Q.rules progs n
-        → TellsRun Q.rules progs n (record { dims = grid.now; cap = cap; slots = slots; by_slots = true }) (manner_of via steady) (round_of c))) }
+        → TellsRun Q.rules progs n (record { dims = grid.now; cap = cap; slots = slots; by_slots = true })
+        (manner_of via steady) (round_of c))) }
 {
     by_capacity!(
         cap,
@@ -97,10 +101,12 @@ fn threads_on_two_hops<R: Threads + Wait + Sync, Q: Program + Send, G: Gate + Sy
     requires capacity { IsCapacity cap }
     requires one_hop { via ≡ Via.Exstack → length grid.now ≡ 1 }
     requires slots { IsSlots slots }
-    requires begins { (shape : List ℕ) × (most : ℕ) × InRound Q.rules (ranks grid.now) 0 shape most progs × EndsWithin Q.rules progs most }
+    requires begins { (shape : List ℕ) × (most : ℕ) × InRound Q.rules (ranks grid.now) 0 shape most progs
+        × EndsWithin Q.rules progs most }
     ensures ended { IfOk result (λ f. HaveEnded Q.rules progs f.progs) }
     ensures rounds { IfOk result (λ f. (c : ClosedRound) × (f.rounds ≡ c ∷ []) × ((n : ℕ) → HasRounds Q.rules progs n
-        → TellsRun Q.rules progs n (record { dims = grid.now; cap = cap; slots = slots; by_slots = true }) (manner_of via steady) (round_of c))) }
+        → TellsRun Q.rules progs n (record { dims = grid.now; cap = cap; slots = slots; by_slots = true })
+        (manner_of via steady) (round_of c))) }
 {
     by_capacity!(
         cap,
@@ -125,10 +131,12 @@ fn threads_on_three_hops<R: Threads + Wait + Sync, Q: Program + Send, G: Gate + 
     requires capacity { IsCapacity cap }
     requires one_hop { via ≡ Via.Exstack → length grid.now ≡ 1 }
     requires slots { IsSlots slots }
-    requires begins { (shape : List ℕ) × (most : ℕ) × InRound Q.rules (ranks grid.now) 0 shape most progs × EndsWithin Q.rules progs most }
+    requires begins { (shape : List ℕ) × (most : ℕ) × InRound Q.rules (ranks grid.now) 0 shape most progs
+        × EndsWithin Q.rules progs most }
     ensures ended { IfOk result (λ f. HaveEnded Q.rules progs f.progs) }
     ensures rounds { IfOk result (λ f. (c : ClosedRound) × (f.rounds ≡ c ∷ []) × ((n : ℕ) → HasRounds Q.rules progs n
-        → TellsRun Q.rules progs n (record { dims = grid.now; cap = cap; slots = slots; by_slots = true }) (manner_of via steady) (round_of c))) }
+        → TellsRun Q.rules progs n (record { dims = grid.now; cap = cap; slots = slots; by_slots = true })
+        (manner_of via steady) (round_of c))) }
 {
     by_capacity!(
         cap,

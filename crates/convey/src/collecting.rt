@@ -25,8 +25,10 @@ pub(crate) fn collect_all<const CAP: usize, const HOPS: usize, P: Port<CAP>>(
     ensures goes_on { GoesOn state.old state.new (P.sent port.old) (P.sent port.new) (P.got port.old) (P.got port.new) }
     ensures outs { state.new.outs ≡ state.old.outs }
     ensures asked { (l : ℕ) → l < links (P.dims port.old) → reader_at (P.dims port.old) l ≡ P.rank port.old
-        → WasAsked state.old l (P.got port.old l) (P.got port.new l) (P.noted port.old l) (P.noted port.new l) (P.idle port.new l) }
-    ensures lies { (l : ℕ) (more : List Shipped) → l < links (P.dims port.old) → reader_at (P.dims port.old) l ≡ P.rank port.old → P.got port.new l ≡ P.got port.old l ++ more
+        → WasAsked state.old l (P.got port.old l) (P.got port.new l) (P.noted port.old l) (P.noted port.new l)
+        (P.idle port.new l) }
+    ensures lies { (l : ℕ) (more : List Shipped) → l < links (P.dims port.old)
+        → reader_at (P.dims port.old) l ≡ P.rank port.old → P.got port.new l ≡ P.got port.old l ++ more
         → (in_of state.new l).parcel.untaken ≡ (in_of state.old l).parcel.untaken ++ flat_map (λ p. p.entries) more }
     ensures sent { P.sent port.new ≡ P.sent port.old }
     ensures looks_out { P.looks_out port.new ≡ P.looks_out port.old }
@@ -58,9 +60,13 @@ pub(crate) fn collect_one<const CAP: usize, const HOPS: usize, P: Port<CAP>>(
     ensures ready { IsReady (P.dims port.old) (P.rank port.old) state.new (P.sent port.new) (P.got port.new) }
     ensures goes_on { GoesOn state.old state.new (P.sent port.old) (P.sent port.new) (P.got port.old) (P.got port.new) }
     ensures outs { state.new.outs ≡ state.old.outs }
-    ensures asked { WasAsked state.old link (P.got port.old link) (P.got port.new link) (P.noted port.old link) (P.noted port.new link) (P.idle port.new link) }
-    ensures lies { (more : List Shipped) → P.got port.new link ≡ P.got port.old link ++ more → (in_of state.new link).parcel.untaken ≡ (in_of state.old link).parcel.untaken ++ flat_map (λ p. p.entries) more }
-    ensures inbox { (m : ℕ) → m < links (P.dims port.old) → reader_at (P.dims port.old) m ≡ P.rank port.old → m ≢ link → in_of state.new m ≡ in_of state.old m }
+    ensures asked { WasAsked state.old link (P.got port.old link) (P.got port.new link) (P.noted port.old link)
+        (P.noted port.new link) (P.idle port.new link) }
+    ensures lies { (more : List Shipped) → P.got port.new link ≡ P.got port.old link ++ more
+        → (in_of state.new link).parcel.untaken ≡ (in_of state.old link).parcel.untaken ++ flat_map
+        (λ p. p.entries) more }
+    ensures inbox { (m : ℕ) → m < links (P.dims port.old) → reader_at (P.dims port.old) m ≡ P.rank port.old → m ≢ link
+        → in_of state.new m ≡ in_of state.old m }
     ensures got { (m : ℕ) → m ≢ link → P.got port.new m ≡ P.got port.old m }
     ensures noted { (m : ℕ) → m ≢ link → P.noted port.new m ≡ P.noted port.old m }
     ensures idle { (m : ℕ) → m ≢ link → P.idle port.new m ≡ P.idle port.old m }

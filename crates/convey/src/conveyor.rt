@@ -156,7 +156,8 @@ impl<const CAP: usize, const HOPS: usize> Conveyor<CAP, HOPS> {
         ensures state { self.new ≡ pulled_from self.old (lowest_unread self.old) }
         ensures sender { IfSome result (λ p. p.0 < ranks self.old.dims) }
         ensures unchanged { result ≡ None → self.new ≡ record self.old { pulled = None } }
-        ensures none_unread { result ≡ None → (l : ℕ) → l < links self.old.dims → hop_at self.old.dims l ≡ length self.old.dims → (in_of self.old l).parcel.untaken ≡ [] }
+        ensures none_unread { result ≡ None → (l : ℕ) → l < links self.old.dims
+            → hop_at self.old.dims l ≡ length self.old.dims → (in_of self.old l).parcel.untaken ≡ [] }
         ensures kept { KeepsAgreement self.old self.new }
         ensures step_item { IfSome result (λ p. IsStepOf (Pull p.0 p.1) self.old self.new) }
         ensures step_none { result ≡ None → IsStepOf Idle self.old self.new }
@@ -173,7 +174,8 @@ impl<const CAP: usize, const HOPS: usize> Conveyor<CAP, HOPS> {
         ensures value { result ≡ lowest_unread self.old }
         ensures state { self.new ≡ record self.old { pulled = None } }
         ensures still { result ≡ lowest_unread self.new }
-        ensures none_unread { result ≡ None → (l : ℕ) → l < links self.old.dims → hop_at self.old.dims l ≡ length self.old.dims → (in_of self.old l).parcel.untaken ≡ [] }
+        ensures none_unread { result ≡ None → (l : ℕ) → l < links self.old.dims
+            → hop_at self.old.dims l ≡ length self.old.dims → (in_of self.old l).parcel.untaken ≡ [] }
         ensures kept { KeepsAgreement self.old self.new }
         ensures step { IsStepOf Idle self.old self.new }
     {
@@ -190,7 +192,9 @@ impl<const CAP: usize, const HOPS: usize> Conveyor<CAP, HOPS> {
         ensures within { number < sum self.now.dims }
         ensures last { hop_to self.now.dims number ≡ length self.now.dims }
         ensures fair { All (λ e. IsFair self.now.dims (length self.now.dims) e.tag) result.now }
-        ensures gives { (i : ℕ) (e : Entry) → slice_get result.now i ≡ Some e → GivesNext (pulls i self.now) (sender_of self.now.dims e.tag (length self.now.dims) (neighbour self.now.dims self.now.rank number)) e.item }
+        ensures gives { (i : ℕ) (e : Entry) → slice_get result.now i ≡ Some e
+            → GivesNext (pulls i self.now) (sender_of self.now.dims e.tag (length self.now.dims)
+            (neighbour self.now.dims self.now.rank number)) e.item }
     {
         self.state.known();
         self.state.batch(number)
@@ -202,7 +206,8 @@ impl<const CAP: usize, const HOPS: usize> Conveyor<CAP, HOPS> {
         requires number { number < sum self.now.dims }
         requires last { hop_to self.now.dims number ≡ length self.now.dims }
         requires fair { IsFair self.now.dims (length self.now.dims) tag }
-        ensures { result ≡ sender_of self.now.dims tag (length self.now.dims) (neighbour self.now.dims self.now.rank number) }
+        ensures { result ≡ sender_of self.now.dims tag (length self.now.dims)
+            (neighbour self.now.dims self.now.rank number) }
     {
         self.state.sender_of(number, tag)
     }
@@ -273,19 +278,26 @@ impl<const CAP: usize, const HOPS: usize> Conveyor<CAP, HOPS> {
         // The lists only grow, each by one parcel at most, and those posted are of the conveyor's shape.
         ensures sent_grows { (l : ℕ) → Begins (P.sent port.old l) (P.sent port.new l) }
         ensures got_grows { (l : ℕ) → Begins (P.got port.old l) (P.got port.new l) }
-        ensures one_sent { (l : ℕ) → l < links self.old.dims → sender_at self.old.dims l ≡ self.old.rank → length (P.sent port.new l) ≤ length (P.sent port.old l) + 1 }
-        ensures one_got { (l : ℕ) → l < links self.old.dims → reader_at self.old.dims l ≡ self.old.rank → length (P.got port.new l) ≤ length (P.got port.old l) + 1 }
-        ensures fills { (l : ℕ) (more : List Shipped) → P.sent port.new l ≡ P.sent port.old l ++ more → IsConveyorShape self.old.steady CAP more }
-        ensures shape { (l : ℕ) → IsConveyorShape self.old.steady CAP (P.sent port.old l) → IsConveyorShape self.old.steady CAP (P.sent port.new l) }
+        ensures one_sent { (l : ℕ) → l < links self.old.dims → sender_at self.old.dims l ≡ self.old.rank
+            → length (P.sent port.new l) ≤ length (P.sent port.old l) + 1 }
+        ensures one_got { (l : ℕ) → l < links self.old.dims → reader_at self.old.dims l ≡ self.old.rank
+            → length (P.got port.new l) ≤ length (P.got port.old l) + 1 }
+        ensures fills { (l : ℕ) (more : List Shipped) → P.sent port.new l ≡ P.sent port.old l ++ more
+            → IsConveyorShape self.old.steady CAP more }
+        ensures shape { (l : ℕ) → IsConveyorShape self.old.steady CAP (P.sent port.old l)
+            → IsConveyorShape self.old.steady CAP (P.sent port.new l) }
 
         // Each link out that is left due was served in vain; each link in that wanted a parcel was asked.
         ensures served { OnOk result ((l : ℕ) → l < links self.old.dims → sender_at self.old.dims l ≡ self.old.rank
             → WasServed self.new l (P.looks_out port.old l) (P.looks_out port.new l) (P.crowded port.new l)) }
-        ensures left { (l : ℕ) → l < links self.old.dims → reader_at self.old.dims l ≡ self.old.rank → (Wants self.old l → ⊥)
+        ensures left { (l : ℕ) → l < links self.old.dims → reader_at self.old.dims l ≡ self.old.rank
+            → (Wants self.old l → ⊥)
             → P.got port.new l ≡ P.got port.old l }
-        ensures unasked { (l : ℕ) → l < links self.old.dims → reader_at self.old.dims l ≡ self.old.rank → (Wants self.old l → ⊥)
+        ensures unasked { (l : ℕ) → l < links self.old.dims → reader_at self.old.dims l ≡ self.old.rank
+            → (Wants self.old l → ⊥)
             → P.noted port.new l ≡ P.noted port.old l }
-        ensures waits { (l : ℕ) → l < links self.old.dims → sender_at self.old.dims l ≡ self.old.rank → P.sent port.new l ≡ P.sent port.old l
+        ensures waits { (l : ℕ) → l < links self.old.dims → sender_at self.old.dims l ≡ self.old.rank
+            → P.sent port.new l ≡ P.sent port.old l
             → Begins (out_of self.old l).parcel.untaken (out_of self.new l).parcel.untaken }
         ensures asked { (l : ℕ) → l < links self.old.dims → reader_at self.old.dims l ≡ self.old.rank → Wants self.old l
             → P.got port.new l ≡ P.got port.old l → Rose (P.noted port.old l) (P.noted port.new l) }
@@ -293,23 +305,32 @@ impl<const CAP: usize, const HOPS: usize> Conveyor<CAP, HOPS> {
             → P.got port.new l ≡ P.got port.old l → P.sent port.new l ≡ P.sent port.old l → P.idle port.new l ≡ true }
 
         // An inbox holds the end of what it held and of what came.
-        ensures lies { (l : ℕ) (more : List Shipped) → l < links self.old.dims → reader_at self.old.dims l ≡ self.old.rank → P.got port.new l ≡ P.got port.old l ++ more
-            → Ends ((in_of self.old l).parcel.untaken ++ flat_map (λ p. p.entries) more) (in_of self.new l).parcel.untaken }
+        ensures lies { (l : ℕ) (more : List Shipped) → l < links self.old.dims
+            → reader_at self.old.dims l ≡ self.old.rank → P.got port.new l ≡ P.got port.old l ++ more
+            → Ends ((in_of self.old l).parcel.untaken ++ flat_map (λ p. p.entries) more)
+            (in_of self.new l).parcel.untaken }
 
         // Where nothing was sent on a link out, it is crowded if its parcel was full, or if its hop has reached its end
         // and it isn't closed, or if it is the next link of the first entry that is left in an inbox of the hop before.
-        ensures full { IsOk result → (l : ℕ) → l < links self.old.dims → sender_at self.old.dims l ≡ self.old.rank → P.sent port.new l ≡ P.sent port.old l
+        ensures full { IsOk result → (l : ℕ) → l < links self.old.dims → sender_at self.old.dims l ≡ self.old.rank
+            → P.sent port.new l ≡ P.sent port.old l
             → length (out_of self.old l).parcel.untaken ≡ CAP → P.crowded port.new l ≡ true }
         ensures ending { IsOk result → (l : ℕ) → l < links self.old.dims → sender_at self.old.dims l ≡ self.old.rank
-            → at_end self.new.dims self.new.ins self.new.done (hop_at self.new.dims l) ≡ true → (out_of self.new l).closed ≡ false → P.crowded port.new l ≡ true }
+            → at_end self.new.dims self.new.ins self.new.done (hop_at self.new.dims l) ≡ true
+            → (out_of self.new l).closed ≡ false → P.crowded port.new l ≡ true }
         ensures closing { IsOk result → (l : ℕ) → l < links self.old.dims → sender_at self.old.dims l ≡ self.old.rank
-            → (hop_at self.old.dims l ≡ 1 → done ≡ true) → HasArrived (buffers_of self.new) l → (out_of self.new l).closed ≡ false → P.crowded port.new l ≡ true }
-        ensures stopped { IsOk result → (l : ℕ) (e : Entry) → l < links self.old.dims → reader_at self.old.dims l ≡ self.old.rank
+            → (hop_at self.old.dims l ≡ 1 → done ≡ true) → HasArrived (buffers_of self.new) l
+            → (out_of self.new l).closed ≡ false → P.crowded port.new l ≡ true }
+        ensures stopped { IsOk result → (l : ℕ) (e : Entry) → l < links self.old.dims
+            → reader_at self.old.dims l ≡ self.old.rank
             → hop_at self.old.dims l < length self.old.dims → slice_get (in_of self.new l).parcel.untaken 0 ≡ Some e
-            → NextIs self.old.dims self.old.rank l e.tag (λ m. P.sent port.new m ≡ P.sent port.old m → P.crowded port.new m ≡ true) }
+            → NextIs self.old.dims self.old.rank l e.tag (λ m. P.sent port.new m ≡ P.sent port.old m
+            → P.crowded port.new m ≡ true) }
 
         // It is a step of the rank's part of the exchange machine.
-        ensures step { IsOwnStep (advance_step self.old.done done (is_complete self.new.phase)) (part_of (buffers_of self.old) (P.sent port.old) (P.got port.old)) (part_of (buffers_of self.new) (P.sent port.new) (P.got port.new)) }
+        ensures step { IsOwnStep (advance_step self.old.done done (is_complete self.new.phase))
+            (part_of (buffers_of self.old) (P.sent port.old) (P.got port.old))
+            (part_of (buffers_of self.new) (P.sent port.new) (P.got port.new)) }
     {
         move_on(&mut self.state, &mut self.spare, port, done)?;
         Ok(settle(&mut self.state))

@@ -59,10 +59,12 @@ fn pull_all(
 ) -> Result<PlainBank<1>, NoMemory>
     requires rank { rank < ranks bank.dims }
     requires all { length sides.old.items ≡ ranks bank.dims }
-    requires together { (d : _) → AgreeTogether bank.dims 1 bank.slots (λ r. buffers_of (slice_index_or sides.old.items r d).conveyor) (sent_of bank) (got_of bank) }
+    requires together { (d : _) → AgreeTogether bank.dims 1 bank.slots
+        (λ r. buffers_of (slice_index_or sides.old.items r d).conveyor) (sent_of bank) (got_of bank) }
     ensures all { length sides.new.items ≡ length sides.old.items }
     ensures same_dims { IfOk result (λ b. b.dims ≡ bank.dims) }
-    ensures together { (d : _) → IfOk result (λ b. AgreeTogether b.dims 1 b.slots (λ r. buffers_of (slice_index_or sides.new.items r d).conveyor) (sent_of b) (got_of b)) }
+    ensures together { (d : _) → IfOk result (λ b. AgreeTogether b.dims 1 b.slots
+        (λ r. buffers_of (slice_index_or sides.new.items r d).conveyor) (sent_of b) (got_of b)) }
 {
     let mut bank = bank;
     for _ in 0..SENT.len() {
@@ -83,10 +85,12 @@ fn sweep(
     pulled: &mut Vec<Got>,
 ) -> Result<PlainBank<1>, NoMemory>
     requires all { length sides.old.items ≡ ranks bank.dims }
-    requires together { (d : _) → AgreeTogether bank.dims 1 bank.slots (λ r. buffers_of (slice_index_or sides.old.items r d).conveyor) (sent_of bank) (got_of bank) }
+    requires together { (d : _) → AgreeTogether bank.dims 1 bank.slots
+        (λ r. buffers_of (slice_index_or sides.old.items r d).conveyor) (sent_of bank) (got_of bank) }
     ensures all { length sides.new.items ≡ length sides.old.items }
     ensures same_dims { IfOk result (λ b. b.dims ≡ bank.dims) }
-    ensures together { (d : _) → IfOk result (λ b. AgreeTogether b.dims 1 b.slots (λ r. buffers_of (slice_index_or sides.new.items r d).conveyor) (sent_of b) (got_of b)) }
+    ensures together { (d : _) → IfOk result (λ b. AgreeTogether b.dims 1 b.slots
+        (λ r. buffers_of (slice_index_or sides.new.items r d).conveyor) (sent_of b) (got_of b)) }
 {
     let mut bank = bank;
     for rank in 0..sides.len() as u32 {
@@ -104,10 +108,12 @@ fn sweeps(
     pulled: &mut Vec<Got>,
 ) -> Result<PlainBank<1>, NoMemory>
     requires all { length sides.old.items ≡ ranks bank.dims }
-    requires together { (d : _) → AgreeTogether bank.dims 1 bank.slots (λ r. buffers_of (slice_index_or sides.old.items r d).conveyor) (sent_of bank) (got_of bank) }
+    requires together { (d : _) → AgreeTogether bank.dims 1 bank.slots
+        (λ r. buffers_of (slice_index_or sides.old.items r d).conveyor) (sent_of bank) (got_of bank) }
     ensures all { length sides.new.items ≡ length sides.old.items }
     ensures same_dims { IfOk result (λ b. b.dims ≡ bank.dims) }
-    ensures together { (d : _) → IfOk result (λ b. AgreeTogether b.dims 1 b.slots (λ r. buffers_of (slice_index_or sides.new.items r d).conveyor) (sent_of b) (got_of b)) }
+    ensures together { (d : _) → IfOk result (λ b. AgreeTogether b.dims 1 b.slots
+        (λ r. buffers_of (slice_index_or sides.new.items r d).conveyor) (sent_of b) (got_of b)) }
 {
     let mut bank = bank;
     for _ in 0..SWEEPS {
@@ -126,10 +132,13 @@ fn epoch(
 ) -> Result<Option<PlainBank<1>>, NoMemory>
     requires grid { bank.dims ≡ grid.now }
     requires all { length sides.old.items ≡ ranks bank.dims }
-    requires together { (d : _) → AgreeTogether bank.dims 1 bank.slots (λ r. buffers_of (slice_index_or sides.old.items r d).conveyor) (sent_of bank) (got_of bank) }
+    requires together { (d : _) → AgreeTogether bank.dims 1 bank.slots
+        (λ r. buffers_of (slice_index_or sides.old.items r d).conveyor) (sent_of bank) (got_of bank) }
     ensures all { length sides.new.items ≡ length sides.old.items }
     ensures same_dims { IfOk result (λ o. IfSome o (λ b. b.dims ≡ grid.now)) }
-    ensures together { (d : _) → IfOk result (λ o. IfSome o (λ b. AgreeTogether b.dims 1 b.slots (λ r. buffers_of (slice_index_or sides.new.items r d).conveyor) (sent_of b) (got_of b))) }
+    ensures together { (d : _) → IfOk result
+        (λ o. IfSome o (λ b. AgreeTogether b.dims 1 b.slots
+        (λ r. buffers_of (slice_index_or sides.new.items r d).conveyor) (sent_of b) (got_of b))) }
 {
     let (bank, begun) = make_calls(sides, bank, grid, &of_each(Begin, Begun))?;
     let (bank, pushed) = make_calls(sides, bank, grid, &pushes())?;

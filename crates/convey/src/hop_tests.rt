@@ -42,7 +42,8 @@ fn new_stations<const CAP: usize, const HOPS: usize>(
     requires small { CAP ≤ 1024 }
     requires hops { length grid.now ≡ HOPS }
     ensures all { IfOk result (λ v. length v.items ≡ ranks grid.now) }
-    ensures ready { (slots : ℕ) → IfOk result (λ v. EachAt (λ r s. IsReady grid.now r s.state (starting_at grid.now r (sent_of (empty_bank grid.now slots)))
+    ensures ready { (slots : ℕ) → IfOk result
+        (λ v. EachAt (λ r s. IsReady grid.now r s.state (starting_at grid.now r (sent_of (empty_bank grid.now slots)))
         (ending_at grid.now r (got_of (empty_bank grid.now slots)))) v.items) }
 {
     let mut stations = Vec::with_capacity(alloc, grid.ranks() as usize)?;
@@ -63,10 +64,12 @@ fn post<const CAP: usize, const HOPS: usize>(
     requires from { sender_at bank.dims link ≡ from }
     requires rank { from < ranks bank.dims }
     requires all { length stations.old.items ≡ ranks bank.dims }
-    requires ready { EachAt (λ r s. IsReady bank.dims r s.state (starting_at bank.dims r (sent_of bank)) (ending_at bank.dims r (got_of bank))) stations.old.items }
+    requires ready { EachAt (λ r s. IsReady bank.dims r s.state (starting_at bank.dims r (sent_of bank))
+        (ending_at bank.dims r (got_of bank))) stations.old.items }
     ensures all { length stations.new.items ≡ length stations.old.items }
     ensures same_dims { IfOk result (λ b. b.dims ≡ bank.entry.dims) }
-    ensures ready { IfOk result (λ b. EachAt (λ r s. IsReady b.dims r s.state (starting_at b.dims r (sent_of b)) (ending_at b.dims r (got_of b))) stations.new.items) }
+    ensures ready { IfOk result (λ b. EachAt (λ r s. IsReady b.dims r s.state (starting_at b.dims r (sent_of b))
+        (ending_at b.dims r (got_of b))) stations.new.items) }
 {
     let mut port = bank.port(from);
     stations[from as usize].post(&mut port, link)?;
@@ -84,10 +87,12 @@ fn collect<const CAP: usize, const HOPS: usize>(
     requires to { reader_at bank.dims link ≡ to }
     requires rank { to < ranks bank.dims }
     requires all { length stations.old.items ≡ ranks bank.dims }
-    requires ready { EachAt (λ r s. IsReady bank.dims r s.state (starting_at bank.dims r (sent_of bank)) (ending_at bank.dims r (got_of bank))) stations.old.items }
+    requires ready { EachAt (λ r s. IsReady bank.dims r s.state (starting_at bank.dims r (sent_of bank))
+        (ending_at bank.dims r (got_of bank))) stations.old.items }
     ensures all { length stations.new.items ≡ length stations.old.items }
     ensures same_dims { result.dims ≡ bank.entry.dims }
-    ensures ready { EachAt (λ r s. IsReady result.dims r s.state (starting_at result.dims r (sent_of result)) (ending_at result.dims r (got_of result))) stations.new.items }
+    ensures ready { EachAt (λ r s. IsReady result.dims r s.state (starting_at result.dims r (sent_of result))
+        (ending_at result.dims r (got_of result))) stations.new.items }
 {
     let mut port = bank.port(to);
     stations[to as usize].collect(&mut port, link);
@@ -103,10 +108,12 @@ fn move_hop<const CAP: usize, const HOPS: usize>(
 ) -> Result<PlainBank<CAP>, NoMemory>
     requires grid { bank.dims ≡ grid.now }
     requires all { length stations.old.items ≡ ranks bank.dims }
-    requires ready { EachAt (λ r s. IsReady bank.dims r s.state (starting_at bank.dims r (sent_of bank)) (ending_at bank.dims r (got_of bank))) stations.old.items }
+    requires ready { EachAt (λ r s. IsReady bank.dims r s.state (starting_at bank.dims r (sent_of bank))
+        (ending_at bank.dims r (got_of bank))) stations.old.items }
     ensures all { length stations.new.items ≡ length stations.old.items }
     ensures same_dims { IfOk result (λ b. b.dims ≡ grid.now) }
-    ensures ready { IfOk result (λ b. EachAt (λ r s. IsReady b.dims r s.state (starting_at b.dims r (sent_of b)) (ending_at b.dims r (got_of b))) stations.new.items) }
+    ensures ready { IfOk result (λ b. EachAt (λ r s. IsReady b.dims r s.state (starting_at b.dims r (sent_of b))
+        (ending_at b.dims r (got_of b))) stations.new.items) }
 {
     let mut bank = bank;
     for link in 0..grid.links() {
@@ -128,7 +135,8 @@ fn act<const CAP: usize, const HOPS: usize>(
 ) -> bool
     requires { rank < length stations.old.items }
     ensures all { length stations.new.items ≡ length stations.old.items }
-    ensures ready { (dims : List ℕ) (sent got : Logs) → EachAt (λ r s. IsReady dims r s.state (starting_at dims r sent) (ending_at dims r got)) stations.old.items
+    ensures ready { (dims : List ℕ) (sent got : Logs)
+        → EachAt (λ r s. IsReady dims r s.state (starting_at dims r sent) (ending_at dims r got)) stations.old.items
         → EachAt (λ r s. IsReady dims r s.state (starting_at dims r sent) (ending_at dims r got)) stations.new.items }
 {
     stations[rank as usize].act(act)
@@ -142,7 +150,8 @@ fn each<const CAP: usize, const HOPS: usize>(
 ) -> bool
     requires { length stations.old.items ≡ ranks grid.now }
     ensures all { length stations.new.items ≡ length stations.old.items }
-    ensures ready { (dims : List ℕ) (sent got : Logs) → EachAt (λ r s. IsReady dims r s.state (starting_at dims r sent) (ending_at dims r got)) stations.old.items
+    ensures ready { (dims : List ℕ) (sent got : Logs)
+        → EachAt (λ r s. IsReady dims r s.state (starting_at dims r sent) (ending_at dims r got)) stations.old.items
         → EachAt (λ r s. IsReady dims r s.state (starting_at dims r sent) (ending_at dims r got)) stations.new.items }
 {
     let mut did = true;
@@ -159,7 +168,8 @@ fn push_all<const CAP: usize, const HOPS: usize>(
 ) -> bool
     requires { length stations.old.items ≡ ranks grid.now }
     ensures all { length stations.new.items ≡ length stations.old.items }
-    ensures ready { (dims : List ℕ) (sent got : Logs) → EachAt (λ r s. IsReady dims r s.state (starting_at dims r sent) (ending_at dims r got)) stations.old.items
+    ensures ready { (dims : List ℕ) (sent got : Logs)
+        → EachAt (λ r s. IsReady dims r s.state (starting_at dims r sent) (ending_at dims r got)) stations.old.items
         → EachAt (λ r s. IsReady dims r s.state (starting_at dims r sent) (ending_at dims r got)) stations.new.items }
 {
     let mut did = true;
@@ -179,7 +189,8 @@ fn pull<const CAP: usize, const HOPS: usize>(
 ) -> Option<(u32, Item)>
     requires { rank < length stations.old.items }
     ensures all { length stations.new.items ≡ length stations.old.items }
-    ensures ready { (dims : List ℕ) (sent got : Logs) → EachAt (λ r s. IsReady dims r s.state (starting_at dims r sent) (ending_at dims r got)) stations.old.items
+    ensures ready { (dims : List ℕ) (sent got : Logs)
+        → EachAt (λ r s. IsReady dims r s.state (starting_at dims r sent) (ending_at dims r got)) stations.old.items
         → EachAt (λ r s. IsReady dims r s.state (starting_at dims r sent) (ending_at dims r got)) stations.new.items }
 {
     stations[rank as usize].pull()
@@ -194,7 +205,8 @@ fn pull_all<const CAP: usize, const HOPS: usize>(
 ) -> Result<(), NoMemory>
     requires { rank < length stations.old.items }
     ensures all { length stations.new.items ≡ length stations.old.items }
-    ensures ready { (dims : List ℕ) (sent got : Logs) → EachAt (λ r s. IsReady dims r s.state (starting_at dims r sent) (ending_at dims r got)) stations.old.items
+    ensures ready { (dims : List ℕ) (sent got : Logs)
+        → EachAt (λ r s. IsReady dims r s.state (starting_at dims r sent) (ending_at dims r got)) stations.old.items
         → EachAt (λ r s. IsReady dims r s.state (starting_at dims r sent) (ending_at dims r got)) stations.new.items }
 {
     for _ in 0..SENT.len() {
@@ -215,7 +227,8 @@ fn pull_each<const CAP: usize, const HOPS: usize>(
 ) -> Result<(), NoMemory>
     requires { length stations.old.items ≡ ranks grid.now }
     ensures all { length stations.new.items ≡ length stations.old.items }
-    ensures ready { (dims : List ℕ) (sent got : Logs) → EachAt (λ r s. IsReady dims r s.state (starting_at dims r sent) (ending_at dims r got)) stations.old.items
+    ensures ready { (dims : List ℕ) (sent got : Logs)
+        → EachAt (λ r s. IsReady dims r s.state (starting_at dims r sent) (ending_at dims r got)) stations.old.items
         → EachAt (λ r s. IsReady dims r s.state (starting_at dims r sent) (ending_at dims r got)) stations.new.items }
 {
     for rank in 0..grid.ranks() {
@@ -234,10 +247,12 @@ fn serve<const CAP: usize>(
 ) -> Result<PlainBank<CAP>, NoMemory>
     requires grid { bank.dims ≡ grid.now }
     requires all { length stations.old.items ≡ ranks bank.dims }
-    requires ready { EachAt (λ r s. IsReady bank.dims r s.state (starting_at bank.dims r (sent_of bank)) (ending_at bank.dims r (got_of bank))) stations.old.items }
+    requires ready { EachAt (λ r s. IsReady bank.dims r s.state (starting_at bank.dims r (sent_of bank))
+        (ending_at bank.dims r (got_of bank))) stations.old.items }
     ensures all { length stations.new.items ≡ length stations.old.items }
     ensures same_dims { IfOk result (λ b. b.dims ≡ grid.now) }
-    ensures ready { IfOk result (λ b. EachAt (λ r s. IsReady b.dims r s.state (starting_at b.dims r (sent_of b)) (ending_at b.dims r (got_of b))) stations.new.items) }
+    ensures ready { IfOk result (λ b. EachAt (λ r s. IsReady b.dims r s.state (starting_at b.dims r (sent_of b))
+        (ending_at b.dims r (got_of b))) stations.new.items) }
 {
     let first = move_hop(stations, bank, grid, 1)?;
     let _relayed_first = each(stations, grid, Act::Relay(1));
@@ -258,10 +273,12 @@ fn serve_all<const CAP: usize>(
 ) -> Result<PlainBank<CAP>, NoMemory>
     requires grid { bank.dims ≡ grid.now }
     requires all { length stations.old.items ≡ ranks bank.dims }
-    requires ready { EachAt (λ r s. IsReady bank.dims r s.state (starting_at bank.dims r (sent_of bank)) (ending_at bank.dims r (got_of bank))) stations.old.items }
+    requires ready { EachAt (λ r s. IsReady bank.dims r s.state (starting_at bank.dims r (sent_of bank))
+        (ending_at bank.dims r (got_of bank))) stations.old.items }
     ensures all { length stations.new.items ≡ length stations.old.items }
     ensures same_dims { IfOk result (λ b. b.dims ≡ grid.now) }
-    ensures ready { IfOk result (λ b. EachAt (λ r s. IsReady b.dims r s.state (starting_at b.dims r (sent_of b)) (ending_at b.dims r (got_of b))) stations.new.items) }
+    ensures ready { IfOk result (λ b. EachAt (λ r s. IsReady b.dims r s.state (starting_at b.dims r (sent_of b))
+        (ending_at b.dims r (got_of b))) stations.new.items) }
 {
     let mut bank = bank;
     for _ in 0..ROUNDS {
@@ -280,10 +297,13 @@ fn walk<const CAP: usize>(
 ) -> Result<Option<PlainBank<CAP>>, NoMemory>
     requires grid { bank.dims ≡ grid.now }
     requires all { length stations.old.items ≡ ranks bank.dims }
-    requires ready { EachAt (λ r s. IsReady bank.dims r s.state (starting_at bank.dims r (sent_of bank)) (ending_at bank.dims r (got_of bank))) stations.old.items }
+    requires ready { EachAt (λ r s. IsReady bank.dims r s.state (starting_at bank.dims r (sent_of bank))
+        (ending_at bank.dims r (got_of bank))) stations.old.items }
     ensures all { length stations.new.items ≡ length stations.old.items }
     ensures same_dims { IfOk result (λ o. IfSome o (λ b. b.dims ≡ grid.now)) }
-    ensures ready { IfOk result (λ o. IfSome o (λ b. EachAt (λ r s. IsReady b.dims r s.state (starting_at b.dims r (sent_of b)) (ending_at b.dims r (got_of b))) stations.new.items)) }
+    ensures ready { IfOk result (λ o. IfSome o
+        (λ b. EachAt (λ r s. IsReady b.dims r s.state (starting_at b.dims r (sent_of b))
+        (ending_at b.dims r (got_of b))) stations.new.items)) }
 {
     let begun = each(stations, grid, Act::Begin);
     let pushed = push_all(stations, grid);

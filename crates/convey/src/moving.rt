@@ -30,8 +30,10 @@ pub(crate) fn move_on<const CAP: usize, const HOPS: usize, P: Port<CAP>>(
     requires ready { IsReady (P.dims port.old) (P.rank port.old) state.old (P.sent port.old) (P.got port.old) }
     ensures conveyor { IsConveyor HOPS state.new }
     ensures ready { IsReady (P.dims port.old) (P.rank port.old) state.new (P.sent port.new) (P.got port.new) }
-    ensures moves_on { MovesOn state.old state.new done (P.sent port.old) (P.sent port.new) (P.got port.old) (P.got port.new) (P.noted port.old) (P.noted port.new) (P.idle port.new) }
-    ensures served { OnOk result (HasServed state.old state.new (P.sent port.old) (P.sent port.new) (P.looks_out port.old) (P.looks_out port.new) (P.crowded port.new)) }
+    ensures moves_on { MovesOn state.old state.new done (P.sent port.old) (P.sent port.new) (P.got port.old)
+        (P.got port.new) (P.noted port.old) (P.noted port.new) (P.idle port.new) }
+    ensures served { OnOk result (HasServed state.old state.new (P.sent port.old) (P.sent port.new)
+        (P.looks_out port.old) (P.looks_out port.new) (P.crowded port.new)) }
     ensures complete { state.old.phase ≡ Phase.Complete → state.new ≡ state.old }
     ensures complete_port { state.old.phase ≡ Phase.Complete → port.new ≡ port.old }
     ensures incomplete { IsErr result → is_complete state.old.phase ≡ false }

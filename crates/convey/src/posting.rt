@@ -27,13 +27,16 @@ pub(crate) fn post_all<const CAP: usize, const HOPS: usize, P: Port<CAP>>(
     ensures ready { IsReady (P.dims port.old) (P.rank port.old) state.new (P.sent port.new) (P.got port.new) }
     ensures goes_on { GoesOn state.old state.new (P.sent port.old) (P.sent port.new) (P.got port.old) (P.got port.new) }
     ensures ins { state.new.ins ≡ state.old.ins }
-    ensures served { OnOk result ((l : ℕ) → l < links (P.dims port.old) → sender_at (P.dims port.old) l ≡ P.rank port.old
+    ensures served { OnOk result ((l : ℕ) → l < links (P.dims port.old)
+        → sender_at (P.dims port.old) l ≡ P.rank port.old
         → WasServed state.new l (P.looks_out port.old l) (P.looks_out port.new l) (P.crowded port.new l)) }
     ensures memory { P.Memory.GROWS ≡ false → IsOk result }
     ensures forgotten { IsErr result → state.new.pulled ≡ None }
-    ensures waits { (l : ℕ) → l < links (P.dims port.old) → sender_at (P.dims port.old) l ≡ P.rank port.old → P.sent port.new l ≡ P.sent port.old l
+    ensures waits { (l : ℕ) → l < links (P.dims port.old) → sender_at (P.dims port.old) l ≡ P.rank port.old
+        → P.sent port.new l ≡ P.sent port.old l
         → (out_of state.new l).parcel.untaken ≡ (out_of state.old l).parcel.untaken }
-    ensures once { (l : ℕ) → l < links (P.dims port.old) → sender_at (P.dims port.old) l ≡ P.rank port.old → length (P.sent port.new l) ≤ length (P.sent port.old l) + 1 }
+    ensures once { (l : ℕ) → l < links (P.dims port.old) → sender_at (P.dims port.old) l ≡ P.rank port.old
+        → length (P.sent port.new l) ≤ length (P.sent port.old l) + 1 }
     ensures idle { (l : ℕ) → P.sent port.new l ≡ P.sent port.old l → P.idle port.new l ≡ P.idle port.old l }
     ensures got { P.got port.new ≡ P.got port.old }
     ensures noted { P.noted port.new ≡ P.noted port.old }
@@ -67,12 +70,15 @@ pub(crate) fn post_one<const CAP: usize, const HOPS: usize, P: Port<CAP>>(
     ensures ready { IsReady (P.dims port.old) (P.rank port.old) state.new (P.sent port.new) (P.got port.new) }
     ensures goes_on { GoesOn state.old state.new (P.sent port.old) (P.sent port.new) (P.got port.old) (P.got port.new) }
     ensures ins { state.new.ins ≡ state.old.ins }
-    ensures served { OnOk result (WasServed state.new link (P.looks_out port.old link) (P.looks_out port.new link) (P.crowded port.new link)) }
+    ensures served { OnOk result (WasServed state.new link (P.looks_out port.old link) (P.looks_out port.new link)
+        (P.crowded port.new link)) }
     ensures memory { P.Memory.GROWS ≡ false → IsOk result }
     ensures forgotten { IsErr result → state.new.pulled ≡ None }
-    ensures out { (m : ℕ) → m < links (P.dims port.old) → sender_at (P.dims port.old) m ≡ P.rank port.old → m ≢ link → out_of state.new m ≡ out_of state.old m }
+    ensures out { (m : ℕ) → m < links (P.dims port.old) → sender_at (P.dims port.old) m ≡ P.rank port.old → m ≢ link
+        → out_of state.new m ≡ out_of state.old m }
     ensures once { length (P.sent port.new link) ≤ length (P.sent port.old link) + 1 }
-    ensures waits { P.sent port.new link ≡ P.sent port.old link → (out_of state.new link).parcel.untaken ≡ (out_of state.old link).parcel.untaken }
+    ensures waits { P.sent port.new link ≡ P.sent port.old link → (out_of state.new link).parcel.untaken
+        ≡ (out_of state.old link).parcel.untaken }
     ensures sent { (m : ℕ) → m ≢ link → P.sent port.new m ≡ P.sent port.old m }
     ensures looks_out { (m : ℕ) → m ≢ link → P.looks_out port.new m ≡ P.looks_out port.old m }
     ensures crowded { (m : ℕ) → m ≢ link → P.crowded port.new m ≡ P.crowded port.old m }

@@ -15,8 +15,10 @@ use hop_core::RankState;
 pub(crate) fn relay_all<const CAP: usize, const HOPS: usize>(state: &mut RankState<CAP, HOPS>)
     requires home { state.old.lent ≡ Lent.Nothing }
     requires hops { length state.old.dims ≡ HOPS }
-    ensures passed { (dims : List ℕ) (rank : ℕ) (sent got : Logs) → IsReady dims rank state.old sent got → PassedOn dims rank state.old state.new sent got }
-    ensures stopped { (l : ℕ) → l < links state.new.dims → hop_at state.new.dims l < length state.new.dims → IsBlocked state.new l }
+    ensures passed { (dims : List ℕ) (rank : ℕ) (sent got : Logs) → IsReady dims rank state.old sent got
+        → PassedOn dims rank state.old state.new sent got }
+    ensures stopped { (l : ℕ) → l < links state.new.dims → hop_at state.new.dims l < length state.new.dims
+        → IsBlocked state.new l }
     ensures standing { IsState state.new }
     ensures home { state.new.lent ≡ Lent.Nothing }
     ensures same_dims { state.new.dims ≡ state.old.dims }
@@ -35,10 +37,13 @@ pub(crate) fn relay_one<const CAP: usize, const HOPS: usize>(
     requires home { state.old.lent ≡ Lent.Nothing }
     requires first { 1 ≤ h }
     requires last { h < length state.old.dims }
-    ensures passed { (dims : List ℕ) (rank : ℕ) (sent got : Logs) → IsReady dims rank state.old sent got → PassedOn dims rank state.old state.new sent got }
+    ensures passed { (dims : List ℕ) (rank : ℕ) (sent got : Logs) → IsReady dims rank state.old sent got
+        → PassedOn dims rank state.old state.new sent got }
     ensures stopped { (l : ℕ) → l < links state.new.dims → hop_at state.new.dims l ≡ h → IsBlocked state.new l }
-    ensures ins { (l : ℕ) → l < links state.new.dims → hop_at state.new.dims l ≢ h → in_of state.new l ≡ in_of state.old l }
-    ensures outs { (l : ℕ) → l < links state.new.dims → hop_at state.new.dims l ≢ h + 1 → out_of state.new l ≡ out_of state.old l }
+    ensures ins { (l : ℕ) → l < links state.new.dims → hop_at state.new.dims l ≢ h
+        → in_of state.new l ≡ in_of state.old l }
+    ensures outs { (l : ℕ) → l < links state.new.dims → hop_at state.new.dims l ≢ h + 1
+        → out_of state.new l ≡ out_of state.old l }
     ensures standing { IsState state.new }
     ensures home { state.new.lent ≡ Lent.Nothing }
     ensures same_dims { state.new.dims ≡ state.old.dims }

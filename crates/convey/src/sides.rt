@@ -22,7 +22,8 @@ pub(crate) fn new_sides<const CAP: usize, const HOPS: usize>(
     requires small { CAP ≤ 1024 }
     requires hops { length grid.now ≡ HOPS }
     ensures all { IfOk result (λ v. length v.items ≡ ranks grid.now) }
-    ensures together { (d : _) (slots : _) → IfOk result (λ v. AgreeTogether grid.now CAP slots (λ r. buffers_of (slice_index_or v.items r d).conveyor)
+    ensures together { (d : _) (slots : _)
+        → IfOk result (λ v. AgreeTogether grid.now CAP slots (λ r. buffers_of (slice_index_or v.items r d).conveyor)
         (sent_of (empty_bank grid.now slots)) (got_of (empty_bank grid.now slots))) }
 {
     let mut sides = Vec::with_capacity(alloc, grid.ranks() as usize)?;
@@ -41,10 +42,12 @@ pub(crate) fn call<const CAP: usize, const HOPS: usize>(
 ) -> Result<(PlainBank<CAP>, Answer), NoMemory>
     requires rank { rank < ranks bank.dims }
     requires all { length sides.old.items ≡ ranks bank.dims }
-    requires together { (d : _) → AgreeTogether bank.dims CAP bank.slots (λ r. buffers_of (slice_index_or sides.old.items r d).conveyor) (sent_of bank) (got_of bank) }
+    requires together { (d : _) → AgreeTogether bank.dims CAP bank.slots
+        (λ r. buffers_of (slice_index_or sides.old.items r d).conveyor) (sent_of bank) (got_of bank) }
     ensures all { length sides.new.items ≡ length sides.old.items }
     ensures same_dims { IfOk result (λ p. p.0.dims ≡ bank.entry.dims) }
-    ensures together { (d : _) → IfOk result (λ p. AgreeTogether p.0.dims CAP p.0.slots (λ r. buffers_of (slice_index_or sides.new.items r d).conveyor) (sent_of p.0) (got_of p.0)) }
+    ensures together { (d : _) → IfOk result (λ p. AgreeTogether p.0.dims CAP p.0.slots
+        (λ r. buffers_of (slice_index_or sides.new.items r d).conveyor) (sent_of p.0) (got_of p.0)) }
 {
     exchange_law();
     let Call::Advance(done) = call else {
@@ -65,10 +68,12 @@ pub(crate) fn make_calls<const CAP: usize, const HOPS: usize>(
 ) -> Result<(PlainBank<CAP>, usize), NoMemory>
     requires grid { bank.dims ≡ grid.now }
     requires all { length sides.old.items ≡ ranks bank.dims }
-    requires together { (d : _) → AgreeTogether bank.dims CAP bank.slots (λ r. buffers_of (slice_index_or sides.old.items r d).conveyor) (sent_of bank) (got_of bank) }
+    requires together { (d : _) → AgreeTogether bank.dims CAP bank.slots
+        (λ r. buffers_of (slice_index_or sides.old.items r d).conveyor) (sent_of bank) (got_of bank) }
     ensures all { length sides.new.items ≡ length sides.old.items }
     ensures same_dims { IfOk result (λ p. p.0.dims ≡ grid.now) }
-    ensures together { (d : _) → IfOk result (λ p. AgreeTogether p.0.dims CAP p.0.slots (λ r. buffers_of (slice_index_or sides.new.items r d).conveyor) (sent_of p.0) (got_of p.0)) }
+    ensures together { (d : _) → IfOk result (λ p. AgreeTogether p.0.dims CAP p.0.slots
+        (λ r. buffers_of (slice_index_or sides.new.items r d).conveyor) (sent_of p.0) (got_of p.0)) }
 {
     let mut bank = bank;
     for (made, (rank, next, wanted)) in calls.iter().enumerate() {

@@ -66,7 +66,8 @@ impl<const CAP: usize, const HOPS: usize> Station<CAP, HOPS> {
 
     /// Does it, and tells whether that was allowed and came out as it should.
     pub(crate) fn act(&mut self, act: Act) -> bool
-        ensures ready { (dims : List ℕ) (rank : ℕ) (sent got : Logs) → IsReady dims rank self.old.state sent got → IsReady dims rank self.new.state sent got }
+        ensures ready { (dims : List ℕ) (rank : ℕ) (sent got : Logs) → IsReady dims rank self.old.state sent got
+            → IsReady dims rank self.new.state sent got }
     {
         match act {
             Act::Begin => self.begin(),
@@ -78,7 +79,8 @@ impl<const CAP: usize, const HOPS: usize> Station<CAP, HOPS> {
     }
 
     fn begin(&mut self) -> bool
-        ensures ready { (dims : List ℕ) (rank : ℕ) (sent got : Logs) → IsReady dims rank self.old.state sent got → IsReady dims rank self.new.state sent got }
+        ensures ready { (dims : List ℕ) (rank : ℕ) (sent got : Logs) → IsReady dims rank self.old.state sent got
+            → IsReady dims rank self.new.state sent got }
     {
         if self.state.phase() != Phase::Dormant {
             return false;
@@ -88,7 +90,8 @@ impl<const CAP: usize, const HOPS: usize> Station<CAP, HOPS> {
     }
 
     fn push(&mut self, item: Item, to: u32) -> bool
-        ensures ready { (dims : List ℕ) (rank : ℕ) (sent got : Logs) → IsReady dims rank self.old.state sent got → IsReady dims rank self.new.state sent got }
+        ensures ready { (dims : List ℕ) (rank : ℕ) (sent got : Logs) → IsReady dims rank self.old.state sent got
+            → IsReady dims rank self.new.state sent got }
     {
         if self.state.phase() != Phase::Working || self.done || to >= self.rank_count {
             return false;
@@ -97,7 +100,8 @@ impl<const CAP: usize, const HOPS: usize> Station<CAP, HOPS> {
     }
 
     fn set_done(&mut self) -> bool
-        ensures ready { (dims : List ℕ) (rank : ℕ) (sent got : Logs) → IsReady dims rank self.old.state sent got → IsReady dims rank self.new.state sent got }
+        ensures ready { (dims : List ℕ) (rank : ℕ) (sent got : Logs) → IsReady dims rank self.old.state sent got
+            → IsReady dims rank self.new.state sent got }
     {
         if self.state.phase() == Phase::Dormant {
             return false;
@@ -108,7 +112,8 @@ impl<const CAP: usize, const HOPS: usize> Station<CAP, HOPS> {
     }
 
     fn relay(&mut self, h: u32) -> bool
-        ensures ready { (dims : List ℕ) (rank : ℕ) (sent got : Logs) → IsReady dims rank self.old.state sent got → IsReady dims rank self.new.state sent got }
+        ensures ready { (dims : List ℕ) (rank : ℕ) (sent got : Logs) → IsReady dims rank self.old.state sent got
+            → IsReady dims rank self.new.state sent got }
     {
         if !self.done || h == 0 || h as usize >= HOPS {
             return false;
@@ -118,7 +123,8 @@ impl<const CAP: usize, const HOPS: usize> Station<CAP, HOPS> {
     }
 
     fn finish(&mut self) -> bool
-        ensures ready { (dims : List ℕ) (rank : ℕ) (sent got : Logs) → IsReady dims rank self.old.state sent got → IsReady dims rank self.new.state sent got }
+        ensures ready { (dims : List ℕ) (rank : ℕ) (sent got : Logs) → IsReady dims rank self.old.state sent got
+            → IsReady dims rank self.new.state sent got }
     {
         if self.state.phase() == Phase::Dormant || self.state.epoch() >= 1000 {
             return false;
@@ -135,7 +141,8 @@ impl<const CAP: usize, const HOPS: usize> Station<CAP, HOPS> {
 
     /// The first item that came and was not pulled, and its sender.
     pub(crate) fn pull(&mut self) -> Option<(u32, Item)>
-        ensures ready { (dims : List ℕ) (rank : ℕ) (sent got : Logs) → IsReady dims rank self.old.state sent got → IsReady dims rank self.new.state sent got }
+        ensures ready { (dims : List ℕ) (rank : ℕ) (sent got : Logs) → IsReady dims rank self.old.state sent got
+            → IsReady dims rank self.new.state sent got }
     {
         if self.state.phase() == Phase::Dormant {
             return None;

@@ -42,7 +42,8 @@ pub fn delta_start(
     requires positive { 1 ≤ delta }
     requires narrow { delta ≤ 1_000_000_000_000 }
     ensures starts { IfOk result (λ ps. ps ≡ delta_starts ranks m.now source delta) }
-    ensures begins { IfOk result (λ ps. InRound delta_rules ranks 0 (m.now.rows ∷ []) (m.now.rows * (m.now.rows + 2) + 2) ps) }
+    ensures begins { IfOk result (λ ps. InRound delta_rules ranks 0 (m.now.rows ∷ [])
+        (m.now.rows * (m.now.rows + 2) + 2) ps) }
     ensures ends { IfOk result (λ ps. EndsWithin delta_rules ps (m.now.rows * (m.now.rows + 2) + 2)) }
 {
     let parts = split(alloc, m, ranks)?;
@@ -88,11 +89,15 @@ fn part_of(
 /// `Failed` where the sink's faults rose in this call.
 pub fn delta_write<K: Sink>(p: &Progs<Delta>, out: &mut Out<'_, K>) -> Result<(), Failed>
     requires ended { (m : Sparse) × (source : ℕ) × DeltaEnded m source p.now }
-    ensures least { (m : Sparse) (source : ℕ) → DeltaEnded m source p.now → (weights : ℕ → Option ℕ) × AreLeast m source weights }
-    ensures ok { (m : Sparse) (source : ℕ) → DeltaEnded m source p.now → (weights : ℕ → Option ℕ) → AreLeast m source weights →
-        OnOk result (appended K.taken out.new ≡ after (appended K.taken out.old) (sssp_lines weights m.rows)) }
-    ensures err { (m : Sparse) (source : ℕ) → DeltaEnded m source p.now → (weights : ℕ → Option ℕ) → AreLeast m source weights →
-        OnErr result (IsFront (K.taken out.new.sink.now) (after (appended K.taken out.old) (sssp_lines weights m.rows))) }
+    ensures least { (m : Sparse) (source : ℕ) → DeltaEnded m source p.now → (weights : ℕ → Option ℕ)
+        × AreLeast m source weights }
+    ensures ok { (m : Sparse) (source : ℕ) → DeltaEnded m source p.now → (weights : ℕ → Option ℕ)
+        → AreLeast m source weights
+        → OnOk result (appended K.taken out.new ≡ after (appended K.taken out.old) (sssp_lines weights m.rows)) }
+    ensures err { (m : Sparse) (source : ℕ) → DeltaEnded m source p.now → (weights : ℕ → Option ℕ)
+        → AreLeast m source weights
+        → OnErr result (IsFront (K.taken out.new.sink.now)
+        (after (appended K.taken out.old) (sssp_lines weights m.rows))) }
     ensures cause { HasCause (K.faults out.old.sink.now) (K.faults out.new.sink.now) result }
     ensures never_falls { K.faults out.old.sink.now ≤ K.faults out.new.sink.now }
     ensures grows { IsFront (K.taken out.old.sink.now) (K.taken out.new.sink.now) }

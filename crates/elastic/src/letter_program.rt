@@ -68,7 +68,8 @@ pub trait LetterProgram: Drop {
     /// the letters are as before.
     fn end_round(&mut self, votes: u64) -> Result<bool, NoMemory>
         ensures ended { OnOk result (self.new ≡ rules.ended self.old votes) }
-        ensures answer { IfOk result (λ more. more ≡ rules.goes_on (rules.shape self.old) (rules.round self.old) votes) }
+        ensures answer { IfOk result (λ more. more ≡ rules.goes_on (rules.shape self.old)
+            (rules.round self.old) votes) }
         ensures refused { OnErr result (StillSends rules self.old self.new) };
 
     ghost laws: { LetterLaws rules };

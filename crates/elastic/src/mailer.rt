@@ -142,7 +142,8 @@ fn hand_over<Q: LetterProgram>(inner: &mut Q, from: u32, letter: &[u8]) -> Resul
 /// Has a letter program end its round.
 fn end<Q: LetterProgram>(inner: &mut Q, votes: u64) -> Result<bool, NoMemory>
     ensures ended { OnOk result (inner.new ≡ Q.rules.ended inner.old votes) }
-    ensures answer { IfOk result (λ more. more ≡ Q.rules.goes_on (Q.rules.shape inner.old) (Q.rules.round inner.old) votes) }
+    ensures answer { IfOk result (λ more. more ≡ Q.rules.goes_on (Q.rules.shape inner.old)
+        (Q.rules.round inner.old) votes) }
     ensures refused { OnErr result (StillSends Q.rules inner.old inner.new) }
     ensures valid { Q.rules.valid inner.new }
 {

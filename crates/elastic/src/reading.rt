@@ -34,9 +34,12 @@ pub(crate) fn take_from(
     item: Item,
 ) -> Result<bool, NoMemory>
     requires { from < length begun.old.items }
-    ensures whole { IfOk result (λ whole. whole ≡ is_whole (begun_with (map (λ l. l.items) begun.old.items) from item)) }
-    ensures begun { OnOk result (map (λ l. l.items) begun.new.items ≡ begun_after (map (λ l. l.items) begun.old.items) from item) }
-    ensures letter { IfOk result (λ whole. whole ≡ true → letter.new.items ≡ letter_of (begun_with (map (λ l. l.items) begun.old.items) from item)) }
+    ensures whole { IfOk result (λ whole. whole
+        ≡ is_whole (begun_with (map (λ l. l.items) begun.old.items) from item)) }
+    ensures begun { OnOk result (map (λ l. l.items) begun.new.items
+        ≡ begun_after (map (λ l. l.items) begun.old.items) from item) }
+    ensures letter { IfOk result (λ whole. whole ≡ true → letter.new.items
+        ≡ letter_of (begun_with (map (λ l. l.items) begun.old.items) from item)) }
     ensures senders { length begun.new.items ≡ length begun.old.items }
 {
     take_in(&mut begun[from], letter, item)
@@ -45,7 +48,8 @@ pub(crate) fn take_from(
 /// The same for what one sender has begun.
 fn take_in(begun: &mut Vec<Item>, letter: &mut Vec<u8>, item: Item) -> Result<bool, NoMemory>
     ensures whole { IfOk result (λ whole. whole ≡ is_whole (begun.old.items ++ item ∷ [])) }
-    ensures begun { OnOk result (begun.new.items ≡ cond (is_whole (begun.old.items ++ item ∷ [])) [] (begun.old.items ++ item ∷ [])) }
+    ensures begun { OnOk result (begun.new.items ≡ cond (is_whole (begun.old.items ++ item ∷ [])) []
+        (begun.old.items ++ item ∷ [])) }
     ensures letter { IfOk result (λ whole. whole ≡ true → letter.new.items ≡ letter_of (begun.old.items ++ item ∷ [])) }
 {
     begun.push(item)?;

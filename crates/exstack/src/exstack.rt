@@ -141,7 +141,8 @@ impl<const CAP: usize> Exstack<CAP> {
     pub fn batch(&self, sender: u32) -> &[Entry]
         requires lowest { lowest_unread self.now ≡ Some sender }
         ensures value { result.now ≡ (in_at self.now sender).unread }
-        ensures gives { (i : ℕ) (e : Entry) → slice_get result.now i ≡ Some e → GivesNext (pops i self.now) sender e.item }
+        ensures gives { (i : ℕ) (e : Entry) → slice_get result.now i ≡ Some e
+            → GivesNext (pops i self.now) sender e.item }
     {
         self.stack.known();
         self.stack.batch(sender)
@@ -202,8 +203,15 @@ impl<const CAP: usize> Exstack<CAP> {
 
         // The exstack agrees with the port again.
         ensures agrees { AgreesWith self.new (P.sent port.new) (P.got port.new) }
-        ensures cycle { (n : ℕ) → AgreesIn n self.old (P.sent port.old) (P.got port.old) → AgreesIn (cycle_after n self.old.stage) self.new (P.sent port.new) (P.got port.new) }
-        ensures same { self.new ≡ record self.old { stage = self.new.stage; done = done; outs = self.new.outs; ins = self.new.ins; popped = None } }
+        ensures cycle { (n : ℕ) → AgreesIn n self.old (P.sent port.old) (P.got port.old)
+            → AgreesIn (cycle_after n self.old.stage) self.new (P.sent port.new) (P.got port.new) }
+        ensures same { self.new ≡ record self.old {
+          stage = self.new.stage;
+          done = done;
+          outs = self.new.outs;
+          ins = self.new.ins;
+          popped = None;
+        } }
         ensures same_dims { P.dims port.new ≡ P.dims port.old }
         ensures same_rank { P.rank port.new ≡ P.rank port.old }
         ensures same_slots { P.slots port.new ≡ P.slots port.old }
@@ -216,16 +224,21 @@ impl<const CAP: usize> Exstack<CAP> {
         ensures memory { P.Memory.GROWS ≡ false → IsOk result }
 
         // It is these steps of the rank's part of the exchange machine.
-        ensures steps { AreOwnSteps (proceed_steps self.old.done done (is_all_done self.new.stage)) (part_of self.old (P.sent port.old) (P.got port.old)) (part_of self.new (P.sent port.new) (P.got port.new)) }
+        ensures steps { AreOwnSteps (proceed_steps self.old.done done (is_all_done self.new.stage))
+            (part_of self.old (P.sent port.old) (P.got port.old))
+            (part_of self.new (P.sent port.new) (P.got port.new)) }
 
         // What was posted and collected, and what was looked for in vain.
-        ensures round { MadeRound done false (in_proceed done self.old) self.new (P.sent port.old) (P.sent port.new) (P.got port.old) (P.got port.new) }
+        ensures round { MadeRound done false (in_proceed done self.old) self.new (P.sent port.old) (P.sent port.new)
+            (P.got port.old) (P.got port.new) }
         ensures looked { IsOk result → (b : ℕ) → b < self.old.ranks → (out_at self.new b).due ≡ true
             → Rose (P.looks_out port.old (link_to self.old b)) (P.looks_out port.new (link_to self.old b)) }
         ensures crowded { IsOk result → (b : ℕ) → b < self.old.ranks → (out_at self.new b).due ≡ true
-            → P.got port.new (link_to self.old b) ≡ P.got port.old (link_to self.old b) → P.crowded port.new (link_to self.old b) ≡ true }
+            → P.got port.new (link_to self.old b) ≡ P.got port.old (link_to self.old b)
+            → P.crowded port.new (link_to self.old b) ≡ true }
         ensures asked { IsOk result → (a : ℕ) → a < self.old.ranks → (in_at self.new a).due ≡ true
-            → InVain (P.noted port.old (link_from self.old a)) (P.noted port.new (link_from self.old a)) (P.idle port.new (link_from self.old a)) }
+            → InVain (P.noted port.old (link_from self.old a)) (P.noted port.new (link_from self.old a))
+            (P.idle port.new (link_from self.old a)) }
     {
         self.stack.begin_proceed(done);
         let missing = self.stack.go_round(port, done, false)?;
@@ -245,8 +258,14 @@ impl<const CAP: usize> Exstack<CAP> {
 
         // The exstack agrees with the port again.
         ensures agrees { AgreesWith self.new (P.sent port.new) (P.got port.new) }
-        ensures cycle { (n : ℕ) → AgreesIn n self.old (P.sent port.old) (P.got port.old) → AgreesIn n self.new (P.sent port.new) (P.got port.new) }
-        ensures same { self.new ≡ record self.old { stage = self.new.stage; outs = self.new.outs; ins = self.new.ins; popped = None } }
+        ensures cycle { (n : ℕ) → AgreesIn n self.old (P.sent port.old) (P.got port.old)
+            → AgreesIn n self.new (P.sent port.new) (P.got port.new) }
+        ensures same { self.new ≡ record self.old {
+          stage = self.new.stage;
+          outs = self.new.outs;
+          ins = self.new.ins;
+          popped = None;
+        } }
         ensures same_dims { P.dims port.new ≡ P.dims port.old }
         ensures same_rank { P.rank port.new ≡ P.rank port.old }
         ensures same_slots { P.slots port.new ≡ P.slots port.old }
@@ -259,16 +278,20 @@ impl<const CAP: usize> Exstack<CAP> {
         ensures memory { P.Memory.GROWS ≡ false → IsOk result }
 
         // It is a step of the rank's part of the exchange machine.
-        ensures step { IsOwnStep Idle (part_of self.old (P.sent port.old) (P.got port.old)) (part_of self.new (P.sent port.new) (P.got port.new)) }
+        ensures step { IsOwnStep Idle (part_of self.old (P.sent port.old) (P.got port.old))
+            (part_of self.new (P.sent port.new) (P.got port.new)) }
 
         // What was posted and collected, and what was looked for in vain.
-        ensures round { MadeRound false true (in_exchange self.old) self.new (P.sent port.old) (P.sent port.new) (P.got port.old) (P.got port.new) }
+        ensures round { MadeRound false true (in_exchange self.old) self.new (P.sent port.old) (P.sent port.new)
+            (P.got port.old) (P.got port.new) }
         ensures looked { IsOk result → (b : ℕ) → b < self.old.ranks → (out_at self.new b).due ≡ true
             → Rose (P.looks_out port.old (link_to self.old b)) (P.looks_out port.new (link_to self.old b)) }
         ensures crowded { IsOk result → (b : ℕ) → b < self.old.ranks → (out_at self.new b).due ≡ true
-            → P.got port.new (link_to self.old b) ≡ P.got port.old (link_to self.old b) → P.crowded port.new (link_to self.old b) ≡ true }
+            → P.got port.new (link_to self.old b) ≡ P.got port.old (link_to self.old b)
+            → P.crowded port.new (link_to self.old b) ≡ true }
         ensures asked { IsOk result → (a : ℕ) → a < self.old.ranks → (in_at self.new a).due ≡ true
-            → InVain (P.noted port.old (link_from self.old a)) (P.noted port.new (link_from self.old a)) (P.idle port.new (link_from self.old a)) }
+            → InVain (P.noted port.old (link_from self.old a)) (P.noted port.new (link_from self.old a))
+            (P.idle port.new (link_from self.old a)) }
     {
         self.stack.begin_exchange();
         let missing = self.stack.go_round(port, false, true)?;

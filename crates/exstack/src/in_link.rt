@@ -140,9 +140,13 @@ impl<const CAP: usize> InLink<CAP> {
         requires ends_here { reader_at (P.dims port.old) link ≡ P.rank port.old }
         requires epoch { self.old.due ≡ true → lasts (P.got port.old link) ≡ epoch }
         ensures moved { WasCollected exchange self.old self.new (P.got port.old link) (P.got port.new link) }
-        ensures in_vain { self.new.due ≡ true → InVain (P.noted port.old link) (P.noted port.new link) (P.idle port.new link) }
-        ensures elsewhere { (m : ℕ) → m ≢ link → sight (P.got port.new) (P.noted port.new) (P.idle port.new) m ≡ sight (P.got port.old) (P.noted port.old) (P.idle port.old) m }
-        ensures own { sender_at (P.dims port.old) link ≡ P.rank port.old → Begins (P.got port.old link) (P.sent port.old link) → Begins (P.got port.new link) (P.sent port.new link) }
+        ensures in_vain { self.new.due ≡ true → InVain (P.noted port.old link) (P.noted port.new link)
+            (P.idle port.new link) }
+        ensures elsewhere { (m : ℕ) → m ≢ link → sight (P.got port.new) (P.noted port.new) (P.idle port.new) m
+            ≡ sight (P.got port.old) (P.noted port.old) (P.idle port.old) m }
+        ensures own { sender_at (P.dims port.old) link ≡ P.rank port.old
+            → Begins (P.got port.old link) (P.sent port.old link)
+            → Begins (P.got port.new link) (P.sent port.new link) }
         ensures grows { (m : ℕ) → Begins (P.got port.old m) (P.got port.new m) }
         ensures crowded { (m : ℕ) → P.got port.new m ≡ P.got port.old m → P.crowded port.new m ≡ P.crowded port.old m }
         ensures sent { P.sent port.new ≡ P.sent port.old }

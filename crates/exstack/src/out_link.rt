@@ -114,8 +114,10 @@ impl<const CAP: usize> OutLink<CAP> {
         requires epoch { self.old.due ≡ true → lasts (P.sent port.old link) ≡ epoch }
         requires law { RelayLaw (P.dims port.old) (P.rank port.old) (P.sent port.old) (P.got port.old) }
         ensures moved { WasPosted last epoch self.old self.new (P.sent port.old link) (P.sent port.new link) }
-        ensures in_vain { IsOk result → self.new.due ≡ true → InVain (P.looks_out port.old link) (P.looks_out port.new link) (P.crowded port.new link) }
-        ensures elsewhere { (m : ℕ) → m ≢ link → sight (P.sent port.new) (P.looks_out port.new) (P.crowded port.new) m ≡ sight (P.sent port.old) (P.looks_out port.old) (P.crowded port.old) m }
+        ensures in_vain { IsOk result → self.new.due ≡ true
+            → InVain (P.looks_out port.old link) (P.looks_out port.new link) (P.crowded port.new link) }
+        ensures elsewhere { (m : ℕ) → m ≢ link → sight (P.sent port.new) (P.looks_out port.new) (P.crowded port.new) m
+            ≡ sight (P.sent port.old) (P.looks_out port.old) (P.crowded port.old) m }
         ensures law { RelayLaw (P.dims port.old) (P.rank port.old) (P.sent port.new) (P.got port.old) }
         ensures grows { (m : ℕ) → Begins (P.sent port.old m) (P.sent port.new m) }
         ensures memory { P.Memory.GROWS ≡ false → IsOk result }

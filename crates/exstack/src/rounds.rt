@@ -99,13 +99,19 @@ pub fn post_all<const CAP: usize, P: Port<CAP>>(
     requires rank { P.rank port.old ≡ rank }
     requires within { rank < length outs.old.items }
     requires few { length outs.old.items ≤ 64 }
-    requires epoch { (b : ℕ) → b < length outs.old.items → (slice_index_or outs.old.items b no_out).due ≡ true → lasts (P.sent port.old (number (length outs.old.items) rank b)) ≡ epoch }
+    requires epoch { (b : ℕ) → b < length outs.old.items → (slice_index_or outs.old.items b no_out).due ≡ true
+        → lasts (P.sent port.old (number (length outs.old.items) rank b)) ≡ epoch }
     requires law { RelayLaw (P.dims port.old) (P.rank port.old) (P.sent port.old) (P.got port.old) }
     ensures count { length outs.new.items ≡ length outs.old.items }
-    ensures moved { (b : ℕ) → b < length outs.old.items → WasPosted last epoch (slice_index_or outs.old.items b no_out) (slice_index_or outs.new.items b no_out)
-        (P.sent port.old (number (length outs.old.items) rank b)) (P.sent port.new (number (length outs.old.items) rank b)) }
-    ensures in_vain { IsOk result → (b : ℕ) → b < length outs.old.items → (slice_index_or outs.new.items b no_out).due ≡ true
-        → InVain (P.looks_out port.old (number (length outs.old.items) rank b)) (P.looks_out port.new (number (length outs.old.items) rank b)) (P.crowded port.new (number (length outs.old.items) rank b)) }
+    ensures moved { (b : ℕ) → b < length outs.old.items
+        → WasPosted last epoch (slice_index_or outs.old.items b no_out) (slice_index_or outs.new.items b no_out)
+        (P.sent port.old (number (length outs.old.items) rank b))
+        (P.sent port.new (number (length outs.old.items) rank b)) }
+    ensures in_vain { IsOk result → (b : ℕ) → b < length outs.old.items
+        → (slice_index_or outs.new.items b no_out).due ≡ true
+        → InVain (P.looks_out port.old (number (length outs.old.items) rank b))
+        (P.looks_out port.new (number (length outs.old.items) rank b))
+        (P.crowded port.new (number (length outs.old.items) rank b)) }
     ensures law { RelayLaw (P.dims port.old) (P.rank port.old) (P.sent port.new) (P.got port.old) }
     ensures grows { (m : ℕ) → Begins (P.sent port.old m) (P.sent port.new m) }
     ensures memory { P.Memory.GROWS ≡ false → IsOk result }
@@ -135,14 +141,21 @@ pub fn collect_all<const CAP: usize, P: Port<CAP>>(
     requires rank { P.rank port.old ≡ rank }
     requires within { rank < length ins.old.items }
     requires few { length ins.old.items ≤ 64 }
-    requires epoch { (a : ℕ) → a < length ins.old.items → (slice_index_or ins.old.items a no_in).due ≡ true → lasts (P.got port.old (number (length ins.old.items) a rank)) ≡ epoch }
+    requires epoch { (a : ℕ) → a < length ins.old.items → (slice_index_or ins.old.items a no_in).due ≡ true
+        → lasts (P.got port.old (number (length ins.old.items) a rank)) ≡ epoch }
     ensures count { length ins.new.items ≡ length ins.old.items }
-    ensures moved { (a : ℕ) → a < length ins.old.items → WasCollected exchange (slice_index_or ins.old.items a no_in) (slice_index_or ins.new.items a no_in)
-        (P.got port.old (number (length ins.old.items) a rank)) (P.got port.new (number (length ins.old.items) a rank)) }
+    ensures moved { (a : ℕ) → a < length ins.old.items
+        → WasCollected exchange (slice_index_or ins.old.items a no_in) (slice_index_or ins.new.items a no_in)
+        (P.got port.old (number (length ins.old.items) a rank))
+        (P.got port.new (number (length ins.old.items) a rank)) }
     ensures in_vain { (a : ℕ) → a < length ins.old.items → (slice_index_or ins.new.items a no_in).due ≡ true
-        → InVain (P.noted port.old (number (length ins.old.items) a rank)) (P.noted port.new (number (length ins.old.items) a rank)) (P.idle port.new (number (length ins.old.items) a rank)) }
-    ensures own { Begins (P.got port.old (number (length ins.old.items) rank rank)) (P.sent port.old (number (length ins.old.items) rank rank))
-        → Begins (P.got port.new (number (length ins.old.items) rank rank)) (P.sent port.new (number (length ins.old.items) rank rank)) }
+        → InVain (P.noted port.old (number (length ins.old.items) a rank))
+        (P.noted port.new (number (length ins.old.items) a rank))
+        (P.idle port.new (number (length ins.old.items) a rank)) }
+    ensures own { Begins (P.got port.old (number (length ins.old.items) rank rank))
+        (P.sent port.old (number (length ins.old.items) rank rank))
+        → Begins (P.got port.new (number (length ins.old.items) rank rank))
+        (P.sent port.new (number (length ins.old.items) rank rank)) }
     ensures grows { (m : ℕ) → Begins (P.got port.old m) (P.got port.new m) }
     ensures crowded { (m : ℕ) → P.got port.new m ≡ P.got port.old m → P.crowded port.new m ≡ P.crowded port.old m }
     ensures sent { P.sent port.new ≡ P.sent port.old }

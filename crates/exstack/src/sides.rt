@@ -20,7 +20,8 @@ pub(crate) fn new_sides<const CAP: usize>(
     requires small { CAP ≤ 1024 }
     requires one_hop { length grid.now ≡ 1 }
     ensures all { IfOk result (λ v. length v.items ≡ ranks grid.now) }
-    ensures together { (d : _) (slots : _) → IfOk result (λ v. AgreeTogether (ranks grid.now) CAP slots (λ r. (slice_index_or v.items r d).stack)
+    ensures together { (d : _) (slots : _)
+        → IfOk result (λ v. AgreeTogether (ranks grid.now) CAP slots (λ r. (slice_index_or v.items r d).stack)
         (sent_of (empty_bank grid.now slots)) (got_of (empty_bank grid.now slots))) }
 {
     let mut sides = Vec::with_capacity(alloc, grid.ranks() as usize)?;
@@ -39,10 +40,12 @@ pub(crate) fn call<const CAP: usize>(
 ) -> Result<(PlainBank<CAP>, Answer), NoMemory>
     requires one_hop { bank.dims ≡ length sides.old.items ∷ [] }
     requires rank { rank < length sides.old.items }
-    requires together { (d : _) → AgreeTogether (length sides.old.items) CAP bank.slots (λ r. (slice_index_or sides.old.items r d).stack) (sent_of bank) (got_of bank) }
+    requires together { (d : _) → AgreeTogether (length sides.old.items) CAP bank.slots
+        (λ r. (slice_index_or sides.old.items r d).stack) (sent_of bank) (got_of bank) }
     ensures all { length sides.new.items ≡ length sides.old.items }
     ensures one_hop { IfOk result (λ p. p.0.dims ≡ length sides.new.items ∷ []) }
-    ensures together { (d : _) → IfOk result (λ p. AgreeTogether (length sides.new.items) CAP p.0.slots (λ r. (slice_index_or sides.new.items r d).stack) (sent_of p.0) (got_of p.0)) }
+    ensures together { (d : _) → IfOk result (λ p. AgreeTogether (length sides.new.items) CAP p.0.slots
+        (λ r. (slice_index_or sides.new.items r d).stack) (sent_of p.0) (got_of p.0)) }
 {
     match call {
         Call::Proceed(done) => proceed(sides, bank, rank, done),
@@ -59,10 +62,12 @@ fn proceed<const CAP: usize>(
 ) -> Result<(PlainBank<CAP>, Answer), NoMemory>
     requires one_hop { bank.dims ≡ length sides.old.items ∷ [] }
     requires rank { rank < length sides.old.items }
-    requires together { (d : _) → AgreeTogether (length sides.old.items) CAP bank.slots (λ r. (slice_index_or sides.old.items r d).stack) (sent_of bank) (got_of bank) }
+    requires together { (d : _) → AgreeTogether (length sides.old.items) CAP bank.slots
+        (λ r. (slice_index_or sides.old.items r d).stack) (sent_of bank) (got_of bank) }
     ensures all { length sides.new.items ≡ length sides.old.items }
     ensures one_hop { IfOk result (λ p. p.0.dims ≡ length sides.new.items ∷ []) }
-    ensures together { (d : _) → IfOk result (λ p. AgreeTogether (length sides.new.items) CAP p.0.slots (λ r. (slice_index_or sides.new.items r d).stack) (sent_of p.0) (got_of p.0)) }
+    ensures together { (d : _) → IfOk result (λ p. AgreeTogether (length sides.new.items) CAP p.0.slots
+        (λ r. (slice_index_or sides.new.items r d).stack) (sent_of p.0) (got_of p.0)) }
 {
     exchange_law();
     let mut port = bank.port(rank);
@@ -77,10 +82,12 @@ fn exchange<const CAP: usize>(
 ) -> Result<(PlainBank<CAP>, Answer), NoMemory>
     requires one_hop { bank.dims ≡ length sides.old.items ∷ [] }
     requires rank { rank < length sides.old.items }
-    requires together { (d : _) → AgreeTogether (length sides.old.items) CAP bank.slots (λ r. (slice_index_or sides.old.items r d).stack) (sent_of bank) (got_of bank) }
+    requires together { (d : _) → AgreeTogether (length sides.old.items) CAP bank.slots
+        (λ r. (slice_index_or sides.old.items r d).stack) (sent_of bank) (got_of bank) }
     ensures all { length sides.new.items ≡ length sides.old.items }
     ensures one_hop { IfOk result (λ p. p.0.dims ≡ length sides.new.items ∷ []) }
-    ensures together { (d : _) → IfOk result (λ p. AgreeTogether (length sides.new.items) CAP p.0.slots (λ r. (slice_index_or sides.new.items r d).stack) (sent_of p.0) (got_of p.0)) }
+    ensures together { (d : _) → IfOk result (λ p. AgreeTogether (length sides.new.items) CAP p.0.slots
+        (λ r. (slice_index_or sides.new.items r d).stack) (sent_of p.0) (got_of p.0)) }
 {
     exchange_law();
     let mut port = bank.port(rank);
@@ -96,10 +103,12 @@ fn local<const CAP: usize>(
 ) -> Result<(PlainBank<CAP>, Answer), NoMemory>
     requires one_hop { bank.dims ≡ length sides.old.items ∷ [] }
     requires rank { rank < length sides.old.items }
-    requires together { (d : _) → AgreeTogether (length sides.old.items) CAP bank.slots (λ r. (slice_index_or sides.old.items r d).stack) (sent_of bank) (got_of bank) }
+    requires together { (d : _) → AgreeTogether (length sides.old.items) CAP bank.slots
+        (λ r. (slice_index_or sides.old.items r d).stack) (sent_of bank) (got_of bank) }
     ensures all { length sides.new.items ≡ length sides.old.items }
     ensures one_hop { IfOk result (λ p. p.0.dims ≡ length sides.new.items ∷ []) }
-    ensures together { (d : _) → IfOk result (λ p. AgreeTogether (length sides.new.items) CAP p.0.slots (λ r. (slice_index_or sides.new.items r d).stack) (sent_of p.0) (got_of p.0)) }
+    ensures together { (d : _) → IfOk result (λ p. AgreeTogether (length sides.new.items) CAP p.0.slots
+        (λ r. (slice_index_or sides.new.items r d).stack) (sent_of p.0) (got_of p.0)) }
 {
     exchange_law();
     let answer = sides[rank as usize].call(call);
@@ -113,10 +122,12 @@ pub(crate) fn make_calls<const CAP: usize>(
     calls: &[(u32, Call, Answer)],
 ) -> Result<(PlainBank<CAP>, usize), NoMemory>
     requires one_hop { bank.dims ≡ length sides.old.items ∷ [] }
-    requires together { (d : _) → AgreeTogether (length sides.old.items) CAP bank.slots (λ r. (slice_index_or sides.old.items r d).stack) (sent_of bank) (got_of bank) }
+    requires together { (d : _) → AgreeTogether (length sides.old.items) CAP bank.slots
+        (λ r. (slice_index_or sides.old.items r d).stack) (sent_of bank) (got_of bank) }
     ensures all { length sides.new.items ≡ length sides.old.items }
     ensures one_hop { IfOk result (λ p. p.0.dims ≡ length sides.new.items ∷ []) }
-    ensures together { (d : _) → IfOk result (λ p. AgreeTogether (length sides.new.items) CAP p.0.slots (λ r. (slice_index_or sides.new.items r d).stack) (sent_of p.0) (got_of p.0)) }
+    ensures together { (d : _) → IfOk result (λ p. AgreeTogether (length sides.new.items) CAP p.0.slots
+        (λ r. (slice_index_or sides.new.items r d).stack) (sent_of p.0) (got_of p.0)) }
 {
     let mut bank = bank;
     for (made, (rank, next, wanted)) in calls.iter().enumerate() {

@@ -282,15 +282,19 @@ impl<const CAP: usize> Stack<CAP> {
         requires agrees { AgreesWith self.old (P.sent port.old) (P.got port.old) }
         ensures standing { IsStack CAP self.old }
         ensures same { self.new ≡ record self.old { outs = self.new.outs; ins = self.new.ins } }
-        ensures cycle { (n : ℕ) → AgreesIn n self.old (P.sent port.old) (P.got port.old) → AgreesIn n self.new (P.sent port.new) (P.got port.new) }
-        ensures round { MadeRound last exchange self.old self.new (P.sent port.old) (P.sent port.new) (P.got port.old) (P.got port.new) }
+        ensures cycle { (n : ℕ) → AgreesIn n self.old (P.sent port.old) (P.got port.old)
+            → AgreesIn n self.new (P.sent port.new) (P.got port.new) }
+        ensures round { MadeRound last exchange self.old self.new (P.sent port.old) (P.sent port.new) (P.got port.old)
+            (P.got port.new) }
         ensures missing { IfOk result (λ o. o ≡ missing_link self.new) }
         ensures looked { IsOk result → (b : ℕ) → b < self.old.ranks → (out_at self.new b).due ≡ true
             → Rose (P.looks_out port.old (link_to self.old b)) (P.looks_out port.new (link_to self.old b)) }
         ensures crowded { IsOk result → (b : ℕ) → b < self.old.ranks → (out_at self.new b).due ≡ true
-            → P.got port.new (link_to self.old b) ≡ P.got port.old (link_to self.old b) → P.crowded port.new (link_to self.old b) ≡ true }
+            → P.got port.new (link_to self.old b) ≡ P.got port.old (link_to self.old b)
+            → P.crowded port.new (link_to self.old b) ≡ true }
         ensures asked { IsOk result → (a : ℕ) → a < self.old.ranks → (in_at self.new a).due ≡ true
-            → InVain (P.noted port.old (link_from self.old a)) (P.noted port.new (link_from self.old a)) (P.idle port.new (link_from self.old a)) }
+            → InVain (P.noted port.old (link_from self.old a)) (P.noted port.new (link_from self.old a))
+            (P.idle port.new (link_from self.old a)) }
         ensures memory { P.Memory.GROWS ≡ false → IsOk result }
         ensures same_dims { P.dims port.new ≡ P.dims port.old }
         ensures same_rank { P.rank port.new ≡ P.rank port.old }

@@ -19,7 +19,8 @@ impl<const CAP: usize, const HOPS: usize> RankState<CAP, HOPS> {
     #[inline]
     pub fn due_to(&self, number: u32) -> bool
         requires { number < sum self.now.dims }
-        ensures { result ≡ is_due self.now.cap self.now.steady (at_end self.now.dims self.now.ins self.now.done (hop_to self.now.dims number)) (out_at self.now number) }
+        ensures { result ≡ is_due self.now.cap self.now.steady
+            (at_end self.now.dims self.now.ins self.now.done (hop_to self.now.dims number)) (out_at self.now number) }
     {
         self.outs[number as usize].is_due(self.steady, self.at_end(number))
     }
@@ -39,9 +40,16 @@ impl<const CAP: usize, const HOPS: usize> RankState<CAP, HOPS> {
     pub fn take_out(&mut self, number: u32, parcel: &mut Parcel<CAP>)
         requires home { self.old.lent ≡ Lent.Nothing }
         requires number { number < sum self.old.dims }
-        requires due { is_due self.old.cap self.old.steady (at_end self.old.dims self.old.ins self.old.done (hop_to self.old.dims number)) (out_at self.old number) ≡ true }
+        requires due { is_due self.old.cap self.old.steady
+            (at_end self.old.dims self.old.ins self.old.done (hop_to self.old.dims number)) (out_at self.old number)
+            ≡ true }
         requires empty { parcel.old ≡ blank self.old.epoch }
-        ensures parcel { parcel.new ≡ record (out_at self.old number).parcel { last = at_end self.old.dims self.old.ins self.old.done (hop_to self.old.dims number); epoch = self.old.epoch } }
+        ensures parcel { parcel.new ≡ record
+            (out_at self.old number).parcel {
+              last = at_end self.old.dims self.old.ins self.old.done
+                  (hop_to self.old.dims number);
+              epoch = self.old.epoch;
+            } }
         ensures fresh { IsFresh parcel.new }
         ensures fair { All (λ e. IsFair self.old.dims (hop_to self.old.dims number) e.tag) parcel.new.untaken }
         ensures state { self.new ≡ record self.old {

@@ -126,7 +126,10 @@ impl<const CAP: usize> InLink<CAP> {
     /// marked last.
     pub fn take_back(&mut self, parcel: Parcel<CAP>, got: bool) -> Parcel<CAP>
         ensures value { result ≡ self.old.parcel }
-        ensures state { self.new ≡ record { parcel = parcel.entry; ended = self.old.ended || (got && parcel.entry.last) } }
+        ensures state { self.new ≡ record {
+          parcel = parcel.entry;
+          ended = self.old.ended || (got && parcel.entry.last);
+        } }
     {
         self.ended = self.ended || (got && parcel.last());
         mem::replace(&mut self.parcel, parcel)
@@ -187,8 +190,10 @@ pub fn first_unread<const CAP: usize>(links: &[InLink<CAP>], from: u32) -> Optio
     ensures from { (r : ℕ) → result ≡ Some r → from ≤ r }
     ensures within { (r : ℕ) → result ≡ Some r → r < length links.now }
     ensures some { (r : ℕ) → result ≡ Some r → is_empty (slice_index_or links.now r no_in).parcel ≡ false }
-    ensures below { (r : ℕ) → result ≡ Some r → (i : ℕ) → from ≤ i → i < r → is_empty (slice_index_or links.now i no_in).parcel ≡ true }
-    ensures none { result ≡ None → (i : ℕ) → from ≤ i → i < length links.now → is_empty (slice_index_or links.now i no_in).parcel ≡ true }
+    ensures below { (r : ℕ) → result ≡ Some r → (i : ℕ) → from ≤ i → i < r
+        → is_empty (slice_index_or links.now i no_in).parcel ≡ true }
+    ensures none { result ≡ None → (i : ℕ) → from ≤ i → i < length links.now
+        → is_empty (slice_index_or links.now i no_in).parcel ≡ true }
 {
     if (from as usize) < links.len() && !links[from as usize].is_empty() {
         return Some(from);
@@ -203,8 +208,10 @@ fn search_unread<const CAP: usize>(links: &[InLink<CAP>], from: u32) -> Option<u
     ensures from { (r : ℕ) → result ≡ Some r → from ≤ r }
     ensures within { (r : ℕ) → result ≡ Some r → r < length links.now }
     ensures some { (r : ℕ) → result ≡ Some r → is_empty (slice_index_or links.now r no_in).parcel ≡ false }
-    ensures below { (r : ℕ) → result ≡ Some r → (i : ℕ) → from ≤ i → i < r → is_empty (slice_index_or links.now i no_in).parcel ≡ true }
-    ensures none { result ≡ None → (i : ℕ) → from ≤ i → i < length links.now → is_empty (slice_index_or links.now i no_in).parcel ≡ true }
+    ensures below { (r : ℕ) → result ≡ Some r → (i : ℕ) → from ≤ i → i < r
+        → is_empty (slice_index_or links.now i no_in).parcel ≡ true }
+    ensures none { result ≡ None → (i : ℕ) → from ≤ i → i < length links.now
+        → is_empty (slice_index_or links.now i no_in).parcel ≡ true }
 {
     for at in from..links.len() as u32 {
         if !links[at as usize].is_empty() {

@@ -26,7 +26,9 @@ impl<const CAP: usize, const HOPS: usize> RankState<CAP, HOPS> {
         requires home { self.now.lent ≡ Lent.Nothing }
         requires link { link < links self.now.dims }
         requires starts_here { sender_at self.now.dims link ≡ self.now.rank }
-        ensures { result ≡ is_due self.now.cap self.now.steady (at_end self.now.dims self.now.ins self.now.done (hop_at self.now.dims link)) (out_at self.now (out_index self.now.dims link)) }
+        ensures { result ≡ is_due self.now.cap self.now.steady
+            (at_end self.now.dims self.now.ins self.now.done (hop_at self.now.dims link))
+            (out_at self.now (out_index self.now.dims link)) }
     {
         let number = self.routes.number_to(link);
         self.outs[number as usize].is_due(self.steady, self.at_end(number))
@@ -49,12 +51,20 @@ impl<const CAP: usize, const HOPS: usize> RankState<CAP, HOPS> {
         requires home { self.old.lent ≡ Lent.Nothing }
         requires link { link < links self.old.dims }
         requires starts_here { sender_at self.old.dims link ≡ self.old.rank }
-        requires due { is_due self.old.cap self.old.steady (at_end self.old.dims self.old.ins self.old.done (hop_at self.old.dims link)) (out_at self.old (out_index self.old.dims link)) ≡ true }
-        ensures parcel { result ≡ record (out_at self.old (out_index self.old.dims link)).parcel { last = at_end self.old.dims self.old.ins self.old.done (hop_at self.old.dims link); epoch = self.old.epoch } }
+        requires due { is_due self.old.cap self.old.steady
+            (at_end self.old.dims self.old.ins self.old.done (hop_at self.old.dims link))
+            (out_at self.old (out_index self.old.dims link)) ≡ true }
+        ensures parcel { result ≡ record
+            (out_at self.old (out_index self.old.dims link)).parcel {
+              last = at_end self.old.dims self.old.ins
+                  self.old.done (hop_at self.old.dims link);
+              epoch = self.old.epoch;
+            } }
         ensures fresh { IsFresh result }
         ensures fair { All (λ e. IsFair self.old.dims (hop_at self.old.dims link) e.tag) result.untaken }
         ensures state { self.new ≡ record self.old {
-          outs = slice_set self.old.outs (out_index self.old.dims link) (record (out_at self.old (out_index self.old.dims link)) { parcel = blank 0 });
+          outs = slice_set self.old.outs (out_index self.old.dims link)
+              (record (out_at self.old (out_index self.old.dims link)) { parcel = blank 0 });
           lent = Lent.Out (out_index self.old.dims link);
           pulled = None;
         } }
@@ -106,7 +116,8 @@ impl<const CAP: usize, const HOPS: usize> RankState<CAP, HOPS> {
         requires wanted { is_wanted (in_at self.old (in_index self.old.dims link)) ≡ true }
         ensures parcel { result ≡ blank self.old.epoch }
         ensures state { self.new ≡ record self.old {
-          ins = slice_set self.old.ins (in_index self.old.dims link) (record (in_at self.old (in_index self.old.dims link)) { parcel = blank 0 });
+          ins = slice_set self.old.ins (in_index self.old.dims link)
+              (record (in_at self.old (in_index self.old.dims link)) { parcel = blank 0 });
           lent = Lent.In (in_index self.old.dims link);
           pulled = None;
         } }
@@ -129,7 +140,8 @@ impl<const CAP: usize, const HOPS: usize> RankState<CAP, HOPS> {
         requires fresh { IsFresh parcel }
         requires fair { All (λ e. IsFair self.old.dims (hop_at self.old.dims link) e.tag) parcel.untaken }
         ensures { self.new ≡ record self.old {
-          ins = slice_set self.old.ins (in_index self.old.dims link) (record { parcel = parcel.entry; ended = got && parcel.entry.last });
+          ins = slice_set self.old.ins (in_index self.old.dims link)
+              (record { parcel = parcel.entry; ended = got && parcel.entry.last });
           lent = Lent.Nothing;
           pulled = None;
         } }

@@ -31,10 +31,12 @@ impl<const CAP: usize, const HOPS: usize> RankState<CAP, HOPS> {
         requires last { h < length self.old.dims }
 
         // Of each pair of ranks that passes through, the rank holds the same items in the same order.
-        ensures held { (s d : ℕ) → PassesThrough self.old.dims self.old.rank s d h → held self.new s d h ≡ held self.old s d h }
+        ensures held { (s d : ℕ) → PassesThrough self.old.dims self.old.rank s d h
+            → held self.new s d h ≡ held self.old s d h }
         ensures adds { AddsToHop self.old.dims (h + 1) self.old.outs self.new.outs }
         ensures takes { TakesFromHop self.old.dims h self.old.ins self.new.ins }
-        ensures stopped { (i : ℕ) → i < sum self.old.dims → hop_to self.old.dims i ≡ h → IsStopped self.old.dims self.old.cap h self.new.outs (in_at self.new i) }
+        ensures stopped { (i : ℕ) → i < sum self.old.dims → hop_to self.old.dims i ≡ h
+            → IsStopped self.old.dims self.old.cap h self.new.outs (in_at self.new i) }
         ensures count { result + waiting self.new.ins ≡ waiting self.old.ins }
         ensures rest { self.new ≡ record self.old { outs = self.new.outs; ins = self.new.ins; pulled = None } }
     {
@@ -103,7 +105,8 @@ impl<const CAP: usize, const HOPS: usize> RankState<CAP, HOPS> {
         requires number { number < sum self.now.dims }
         requires last { hop_to self.now.dims number ≡ length self.now.dims }
         requires fair { IsFair self.now.dims (length self.now.dims) tag }
-        ensures { result ≡ sender_of self.now.dims tag (length self.now.dims) (neighbour self.now.dims self.now.rank number) }
+        ensures { result ≡ sender_of self.now.dims tag (length self.now.dims)
+            (neighbour self.now.dims self.now.rank number) }
     {
         sender::<HOPS>(&self.routes, number, tag)
     }
@@ -146,7 +149,8 @@ fn sender<const HOPS: usize>(routes: &Routes, i: u32, tag: Tag) -> u32
     requires neighbour { i < sum routes.now.dims }
     requires last { hop_to routes.now.dims i ≡ length routes.now.dims }
     requires fair { IsFair routes.now.dims (length routes.now.dims) tag }
-    ensures { result ≡ sender_of routes.now.dims tag (length routes.now.dims) (neighbour routes.now.dims routes.now.rank i) }
+    ensures { result ≡ sender_of routes.now.dims tag (length routes.now.dims)
+        (neighbour routes.now.dims routes.now.rank i) }
 {
     if HOPS == 1 {
         routes.neighbour(i).rank

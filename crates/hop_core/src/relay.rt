@@ -29,10 +29,12 @@ pub fn relay_link<const CAP: usize>(
     requires all { length outs.old.items ≡ sum routes.now.dims }
     requires each { EachAt (λ o out. IsOut routes.now.dims CAP (hop_to routes.now.dims o) out) outs.old.items }
     requires link { IsIn routes.now.dims CAP (hop_to routes.now.dims i) link.old }
-    requires not_closed { (o : ℕ) → hop_to routes.now.dims o ≡ hop_to routes.now.dims i + 1 → 0 < length link.old.parcel.untaken → (slice_index_or outs.old.items o no_out).closed ≡ false }
+    requires not_closed { (o : ℕ) → hop_to routes.now.dims o ≡ hop_to routes.now.dims i + 1
+        → 0 < length link.old.parcel.untaken → (slice_index_or outs.old.items o no_out).closed ≡ false }
     ensures each { EachAt (λ o out. IsOut routes.now.dims CAP (hop_to routes.now.dims o) out) outs.new.items }
     ensures link { IsIn routes.now.dims CAP (hop_to routes.now.dims i) link.new }
-    ensures passes_on { PassesOn routes.now.dims routes.now.rank (hop_to routes.now.dims i) i outs.old.items outs.new.items link.old link.new }
+    ensures passes_on { PassesOn routes.now.dims routes.now.rank
+        (hop_to routes.now.dims i) i outs.old.items outs.new.items link.old link.new }
     ensures adds { AddsToHop routes.now.dims (hop_to routes.now.dims i + 1) outs.old.items outs.new.items }
     ensures rest { link.new.parcel.untaken ≡ drop result link.old.parcel.untaken }
     ensures count { result + length link.new.parcel.untaken ≡ length link.old.parcel.untaken }
@@ -57,13 +59,16 @@ fn pass_on<const CAP: usize>(
     requires all { length outs.old.items ≡ sum routes.now.dims }
     requires each { EachAt (λ o out. IsOut routes.now.dims CAP (hop_to routes.now.dims o) out) outs.old.items }
     requires link { IsIn routes.now.dims CAP (hop_to routes.now.dims i) link.now }
-    requires not_closed { (o : ℕ) → hop_to routes.now.dims o ≡ hop_to routes.now.dims i + 1 → 0 < length link.now.parcel.untaken → (slice_index_or outs.old.items o no_out).closed ≡ false }
+    requires not_closed { (o : ℕ) → hop_to routes.now.dims o ≡ hop_to routes.now.dims i + 1
+        → 0 < length link.now.parcel.untaken → (slice_index_or outs.old.items o no_out).closed ≡ false }
     ensures each { EachAt (λ o out. IsOut routes.now.dims CAP (hop_to routes.now.dims o) out) outs.new.items }
     ensures link { IsIn routes.now.dims CAP (hop_to routes.now.dims i) (read_on result link.now) }
-    ensures passes_on { PassesOn routes.now.dims routes.now.rank (hop_to routes.now.dims i) i outs.old.items outs.new.items link.now (read_on result link.now) }
+    ensures passes_on { PassesOn routes.now.dims routes.now.rank
+        (hop_to routes.now.dims i) i outs.old.items outs.new.items link.now (read_on result link.now) }
     ensures adds { AddsToHop routes.now.dims (hop_to routes.now.dims i + 1) outs.old.items outs.new.items }
     ensures within { result ≤ length link.now.parcel.untaken }
-    ensures stopped { IsStopped routes.now.dims CAP (hop_to routes.now.dims i) outs.new.items (read_on result link.now) }
+    ensures stopped { IsStopped routes.now.dims CAP (hop_to routes.now.dims i) outs.new.items
+        (read_on result link.now) }
 {
     let _neighbours = routes.neighbours();
     let from = routes.neighbour(i);
@@ -97,13 +102,18 @@ pub fn relay_hop<const CAP: usize>(
     requires all_ins { length ins.old.items ≡ sum routes.now.dims }
     requires each_out { EachAt (λ o out. IsOut routes.now.dims CAP (hop_to routes.now.dims o) out) outs.old.items }
     requires each_in { EachAt (λ i x. IsIn routes.now.dims CAP (hop_to routes.now.dims i) x) ins.old.items }
-    requires not_closed { (o : ℕ) → hop_to routes.now.dims o ≡ h + 1 → list_all is_finished (ins_of_hop routes.now.dims ins.old.items h) ≡ false → (slice_index_or outs.old.items o no_out).closed ≡ false }
+    requires not_closed { (o : ℕ) → hop_to routes.now.dims o ≡ h + 1
+        → list_all is_finished (ins_of_hop routes.now.dims ins.old.items h) ≡ false
+        → (slice_index_or outs.old.items o no_out).closed ≡ false }
     ensures each_out { EachAt (λ o out. IsOut routes.now.dims CAP (hop_to routes.now.dims o) out) outs.new.items }
     ensures each_in { EachAt (λ i x. IsIn routes.now.dims CAP (hop_to routes.now.dims i) x) ins.new.items }
-    ensures held { (s d : ℕ) → PassesThrough routes.now.dims routes.now.rank s d h → held_by routes.now.dims outs.new.items ins.new.items s d h ≡ held_by routes.now.dims outs.old.items ins.old.items s d h }
+    ensures held { (s d : ℕ) → PassesThrough routes.now.dims routes.now.rank s d h
+        → held_by routes.now.dims outs.new.items ins.new.items s d h
+        ≡ held_by routes.now.dims outs.old.items ins.old.items s d h }
     ensures adds { AddsToHop routes.now.dims (h + 1) outs.old.items outs.new.items }
     ensures takes { TakesFromHop routes.now.dims h ins.old.items ins.new.items }
-    ensures stopped { (i : ℕ) → i < sum routes.now.dims → hop_to routes.now.dims i ≡ h → IsStopped routes.now.dims CAP h outs.new.items (slice_index_or ins.new.items i no_in) }
+    ensures stopped { (i : ℕ) → i < sum routes.now.dims → hop_to routes.now.dims i ≡ h
+        → IsStopped routes.now.dims CAP h outs.new.items (slice_index_or ins.new.items i no_in) }
     ensures count { result + waiting ins.new.items ≡ waiting ins.old.items }
 {
     let mut count = 0;

@@ -159,13 +159,17 @@ impl<const CAP: usize, const HOPS: usize> RankState<CAP, HOPS> {
         requires not_done { self.old.done ≡ false }
         requires to { to < ranks self.old.dims }
         ensures accepted { result ≡ Pushed.Accepted → self.new ≡ record self.old {
-          outs = slice_set self.old.outs (coord self.old.dims to 1) (record (out_at self.old (coord self.old.dims to 1)) {
-            parcel = with_entry (out_at self.old (coord self.old.dims to 1)).parcel (record { tag = tag_at self.old.dims self.old.rank to 1; item = item });
-          });
+          outs = slice_set self.old.outs (coord self.old.dims to 1)
+              (record (out_at self.old (coord self.old.dims to 1)) {
+                parcel = with_entry (out_at self.old (coord self.old.dims to 1)).parcel
+                    (record { tag = tag_at self.old.dims self.old.rank to 1; item = item });
+              });
           pulled = None;
         } }
-        ensures room { result ≡ Pushed.Accepted → length (out_at self.old (coord self.old.dims to 1)).parcel.untaken < self.old.cap }
-        ensures full { result ≡ Pushed.Full → length (out_at self.old (coord self.old.dims to 1)).parcel.untaken ≡ self.old.cap }
+        ensures room { result ≡ Pushed.Accepted
+            → length (out_at self.old (coord self.old.dims to 1)).parcel.untaken < self.old.cap }
+        ensures full { result ≡ Pushed.Full → length (out_at self.old (coord self.old.dims to 1)).parcel.untaken
+            ≡ self.old.cap }
         ensures unchanged { result ≡ Pushed.Full → self.new ≡ record self.old { pulled = None } }
     {
         self.pulled = None;

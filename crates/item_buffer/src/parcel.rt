@@ -93,7 +93,8 @@ impl<const CAP: usize> Parcel<CAP> {
     #[inline]
     pub fn take(&mut self) -> Option<Entry>
         ensures first { IfSome result (λ e. self.old.untaken ≡ e ∷ self.new.untaken) }
-        ensures counted { OnSome result (self.new ≡ record self.old { untaken = self.new.untaken; back = result; taken = self.old.taken + 1 }) }
+        ensures counted { OnSome result
+            (self.new ≡ record self.old { untaken = self.new.untaken; back = result; taken = self.old.taken + 1 }) }
         ensures none { IfNone result (self.old.untaken ≡ []) }
         ensures unchanged { IfNone result (self.new ≡ self.old) }
     {

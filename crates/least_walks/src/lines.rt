@@ -19,7 +19,8 @@ pub fn write_vertex<K: Sink>(
 ) -> Result<(), Failed>
     requires { v + 1 < 2 ^ 32 }
     ensures ok { OnOk result (appended K.taken out.new ≡ after (appended K.taken out.old) (vertex_line v weight)) }
-    ensures err { OnErr result (IsFront (K.taken out.new.sink.now) (after (appended K.taken out.old) (vertex_line v weight))) }
+    ensures err { OnErr result (IsFront (K.taken out.new.sink.now)
+        (after (appended K.taken out.old) (vertex_line v weight))) }
     ensures cause { HasCause (K.faults out.old.sink.now) (K.faults out.new.sink.now) result }
     ensures never_falls { K.faults out.old.sink.now ≤ K.faults out.new.sink.now }
     ensures grows { IsFront (K.taken out.old.sink.now) (K.taken out.new.sink.now) }

@@ -140,7 +140,8 @@ fn keep(
     requires some { 0 < ranks }
     requires inside { t.i / ranks < length spans.old.items }
     requires within { All (IsWithin edges.old.items) spans.old.items }
-    ensures kept { OnOk result (lists_of edges.new.items spans.new.items ≡ kept ranks low high t (lists_of edges.old.items spans.old.items)) }
+    ensures kept { OnOk result (lists_of edges.new.items spans.new.items
+        ≡ kept ranks low high t (lists_of edges.old.items spans.old.items)) }
     ensures within { OnOk result (All (IsWithin edges.new.items) spans.new.items) }
 {
     let weight = bits_of(t.v);
@@ -160,7 +161,8 @@ fn push_edge(
 ) -> Result<(), NoMemory>
     requires inside { place < length spans.old.items }
     requires within { All (IsWithin edges.old.items) spans.old.items }
-    ensures pushed { OnOk result (lists_of edges.new.items spans.new.items ≡ changed_at (lists_of edges.old.items spans.old.items) place [] (λ es. es ++ edge ∷ [])) }
+    ensures pushed { OnOk result (lists_of edges.new.items spans.new.items
+        ≡ changed_at (lists_of edges.old.items spans.old.items) place [] (λ es. es ++ edge ∷ [])) }
     ensures within { OnOk result (All (IsWithin edges.new.items) spans.new.items) }
 {
     let span = last_span(edges, spans[place])?;

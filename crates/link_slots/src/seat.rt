@@ -61,7 +61,8 @@ impl<const CAP: usize> Model for SlotSeat<CAP> {
       ended = s.ended.items;
     } };
 
-    ghost invariant = { λ s. IsSeat CAP s.place.me.0.shape s.place.me s.rank s.outs.items s.ins.items s.ears.items s.ended.items };
+    ghost invariant = { λ s. IsSeat CAP s.place.me.0.shape s.place.me s.rank s.outs.items s.ins.items s.ears.items
+        s.ended.items };
 }
 
 impl<const CAP: usize> SlotSeat<CAP> {
@@ -80,23 +81,35 @@ impl<const CAP: usize> SlotSeat<CAP> {
         requires starts_here { sender_at self.old.shape.dims link ≡ self.old.rank }
         requires fresh { parcel.old.taken ≡ 0 }
         requires epoch { parcel.old.epoch ≡ lasts (posted_on self.old link) }
-        requires law { RelayLaw self.old.shape.dims self.old.rank (added (posted_on self.old) link (shipped parcel.old)) (collected_from self.old) }
-        ensures here { self.new ≡ record self.old { lists = with_out self.old.lists link (out_of self.new.lists link) } }
+        requires law { RelayLaw self.old.shape.dims self.old.rank (added (posted_on self.old) link (shipped parcel.old))
+            (collected_from self.old) }
+        ensures here { self.new ≡ record self.old {
+          lists = with_out self.old.lists link
+              (out_of self.new.lists link);
+        } }
         ensures long { link < length self.old.lists.outs }
-        ensures sent { result ≡ Posted.Sent → (out_of self.new.lists link).sent ≡ (out_of self.old.lists link).sent ++ parcel.old ∷ [] }
-        ensures offered { result ≡ Posted.Sent → (out_of self.new.lists link).offered ≡ length (out_of self.new.lists link).sent }
+        ensures sent { result ≡ Posted.Sent → (out_of self.new.lists link).sent
+            ≡ (out_of self.old.lists link).sent ++ parcel.old ∷ [] }
+        ensures offered { result ≡ Posted.Sent → (out_of self.new.lists link).offered
+            ≡ length (out_of self.new.lists link).sent }
         ensures emptied { result ≡ Posted.Sent → parcel.new ≡ blank parcel.old.epoch }
-        ensures room { result ≡ Posted.Sent → length (out_of self.old.lists link).sent < (out_of self.new.lists link).room }
-        ensures room_is { ((out_of self.new.lists link).room ≡ 0) ⊎ (self.old.shape.slots ≤ (out_of self.new.lists link).room) }
+        ensures room { result ≡ Posted.Sent → length (out_of self.old.lists link).sent <
+            (out_of self.new.lists link).room }
+        ensures room_is { ((out_of self.new.lists link).room ≡ 0)
+            ⊎ (self.old.shape.slots ≤ (out_of self.new.lists link).room) }
         ensures within { length (out_of self.old.lists link).sent ≤ (out_of self.old.lists link).room }
         ensures looks { (out_of self.old.lists link).looks ≤ (out_of self.new.lists link).looks }
         ensures once { (out_of self.new.lists link).looks ≤ suc (out_of self.old.lists link).looks }
-        ensures at_hand { length (out_of self.old.lists link).sent < (out_of self.old.lists link).room → (result ≡ Posted.Sent) × ((out_of self.new.lists link).looks ≡ (out_of self.old.lists link).looks) }
+        ensures at_hand { length (out_of self.old.lists link).sent < (out_of self.old.lists link).room
+            → (result ≡ Posted.Sent) × ((out_of self.new.lists link).looks ≡ (out_of self.old.lists link).looks) }
         ensures found { result ≡ Posted.NoRoom → out_of self.new.lists link ≡ found_full (out_of self.old.lists link) }
-        ensures looked { result ≡ Posted.NoRoom → (out_of self.new.lists link).looks ≡ suc (out_of self.old.lists link).looks }
-        ensures full { result ≡ Posted.NoRoom → (out_of self.new.lists link).room ≡ length (out_of self.old.lists link).sent }
+        ensures looked { result ≡ Posted.NoRoom → (out_of self.new.lists link).looks
+            ≡ suc (out_of self.old.lists link).looks }
+        ensures full { result ≡ Posted.NoRoom → (out_of self.new.lists link).room
+            ≡ length (out_of self.old.lists link).sent }
         ensures all_room { result ≡ Posted.NoRoom → self.old.shape.slots ≤ (out_of self.new.lists link).room }
-        ensures not_sent { result ≡ Posted.NoRoom → (out_of self.new.lists link).sent ≡ (out_of self.old.lists link).sent }
+        ensures not_sent { result ≡ Posted.NoRoom → (out_of self.new.lists link).sent
+            ≡ (out_of self.old.lists link).sent }
         ensures kept { result ≡ Posted.NoRoom → parcel.new ≡ parcel.old }
     {
         let _fresh = parcel.len();
@@ -130,13 +143,20 @@ impl<const CAP: usize> SlotSeat<CAP> {
         requires link { link < links self.old.shape.dims }
         requires ends_here { reader_at self.old.shape.dims link ≡ self.old.rank }
         requires empty { parcel.old ≡ blank (lasts (collected_from self.old link)) }
-        ensures here { self.new ≡ record self.old { lists = self.new.lists; noted = self.new.noted; ended = self.new.ended } }
+        ensures here { self.new ≡ record self.old {
+          lists = self.new.lists;
+          noted = self.new.noted;
+          ended = self.new.ended;
+        } }
         ensures long { link < length self.old.lists.ins }
         ensures outs { self.new.lists.outs ≡ self.old.lists.outs }
-        ensures got { result ≡ Collected.Got → collected_from self.new ≡ added (collected_from self.old) link (shipped parcel.new) }
-        ensures arrived { result ≡ Collected.Got → MayFollow self.old.shape.dims CAP link (got_of self.old.lists link) parcel.new }
+        ensures got { result ≡ Collected.Got → collected_from self.new
+            ≡ added (collected_from self.old) link (shipped parcel.new) }
+        ensures arrived { result ≡ Collected.Got → MayFollow self.old.shape.dims CAP link
+            (got_of self.old.lists link) parcel.new }
         ensures known { result ≡ Collected.Got → length (collected_from self.old link) < known self.new link }
-        ensures own { result ≡ Collected.Got → sender_at self.old.shape.dims link ≡ self.old.rank → Begins (in_of self.new.lists link).seen (out_of self.new.lists link).sent }
+        ensures own { result ≡ Collected.Got → sender_at self.old.shape.dims link ≡ self.old.rank
+            → Begins (in_of self.new.lists link).seen (out_of self.new.lists link).sent }
         ensures not_got { result ≡ Collected.Nothing → collected_from self.new ≡ collected_from self.old }
         ensures none_known { result ≡ Collected.Nothing → length (collected_from self.old link) ≡ known self.new link }
         ensures heard { result ≡ Collected.Nothing → Rose (noted_at self.old link) (listened self.new link) }
@@ -146,11 +166,18 @@ impl<const CAP: usize> SlotSeat<CAP> {
         ensures listens { (l : ℕ) → listened self.old l ≤ listened self.new l }
         ensures known_elsewhere { (l : ℕ) → l ≢ link → known self.new l ≡ known self.old l }
         ensures at_hand { length (collected_from self.old link) < known self.old link → result ≡ Collected.Got }
-        ensures no_looking { length (collected_from self.old link) < known self.old link → self.new.lists ≡ with_in self.old.lists link (taken_more (in_of self.old.lists link)) }
-        ensures heard_beside { length (collected_from self.old link) ≡ known self.old link → (m : ℕ) → m < links self.old.shape.dims → reader_at self.old.shape.dims m ≡ self.old.rank → hop_at self.old.shape.dims m ≡ hop_at self.old.shape.dims link → m ≢ link
-            → HeardWhere (is_due (noted_at self.old link) (in_of self.old.lists link)) (in_of self.old.lists m) (in_of self.new.lists m) }
-        ensures looked_for { length (collected_from self.old link) ≡ known self.old link → LookedFor (noted_at self.old link) (in_of self.old.lists link) (in_of self.new.lists link) }
-        ensures other_hops { (m : ℕ) → m < links self.old.shape.dims → reader_at self.old.shape.dims m ≡ self.old.rank → hop_at self.old.shape.dims m ≢ hop_at self.old.shape.dims link → in_of self.new.lists m ≡ in_of self.old.lists m }
+        ensures no_looking { length (collected_from self.old link) < known self.old link
+            → self.new.lists ≡ with_in self.old.lists link (taken_more (in_of self.old.lists link)) }
+        ensures heard_beside { length (collected_from self.old link) ≡ known self.old link → (m : ℕ)
+            → m < links self.old.shape.dims → reader_at self.old.shape.dims m ≡ self.old.rank
+            → hop_at self.old.shape.dims m ≡ hop_at self.old.shape.dims link → m ≢ link
+            → HeardWhere (is_due (noted_at self.old link) (in_of self.old.lists link)) (in_of self.old.lists m)
+            (in_of self.new.lists m) }
+        ensures looked_for { length (collected_from self.old link) ≡ known self.old link
+            → LookedFor (noted_at self.old link) (in_of self.old.lists link) (in_of self.new.lists link) }
+        ensures other_hops { (m : ℕ) → m < links self.old.shape.dims → reader_at self.old.shape.dims m ≡ self.old.rank
+            → hop_at self.old.shape.dims m ≢ hop_at self.old.shape.dims link
+            → in_of self.new.lists m ≡ in_of self.old.lists m }
     {
         let wire = &bank.wires[link as usize];
         let end = &mut self.ins[link as usize];

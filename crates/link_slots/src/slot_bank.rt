@@ -98,8 +98,10 @@ impl<const CAP: usize> SlotBank<CAP> {
         requires all_there { AllThere self.shape g.lists }
         ensures round { result ≡ slot_round self.entry.shape CAP g.entry.lists }
         ensures in_order { IsRound result }
-        ensures sent { (s : Manning) → slice_index_or g.entry.lists s.rank None ≡ Some s.lists → starting_at self.entry.shape.dims s.rank (logs_of result.sent) ≡ posted_on s }
-        ensures got { (s : Manning) → slice_index_or g.entry.lists s.rank None ≡ Some s.lists → ending_at self.entry.shape.dims s.rank (logs_of result.got) ≡ collected_from s }
+        ensures sent { (s : Manning) → slice_index_or g.entry.lists s.rank None ≡ Some s.lists
+            → starting_at self.entry.shape.dims s.rank (logs_of result.sent) ≡ posted_on s }
+        ensures got { (s : Manning) → slice_index_or g.entry.lists s.rank None ≡ Some s.lists
+            → ending_at self.entry.shape.dims s.rank (logs_of result.got) ≡ collected_from s }
     {
         let SlotBank {
             board,
@@ -148,7 +150,8 @@ fn table_of<const CAP: usize>(
     slots: Vec<Slot<CAP>>,
     plan: &Plan,
 ) -> Result<(Board<CAP>, Place<CAP>), NoMemory>
-    requires { IsLawful CAP plan.now (opening words.now slots.items (first_view plan.now (ranks plan.now.dims) (links plan.now.dims))) }
+    requires { IsLawful CAP plan.now
+        (opening words.now slots.items (first_view plan.now (ranks plan.now.dims) (links plan.now.dims))) }
     ensures words { IfOk result (λ t. t.0.shared.table_id.words ≡ length words.now) }
     ensures slots { IfOk result (λ t. t.0.shared.table_id.slots ≡ length slots.entry.items) }
     ensures key { IfOk result (λ t. t.0.shared.key ≡ plan.now) }

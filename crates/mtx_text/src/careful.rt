@@ -29,7 +29,8 @@ pub(crate) fn read_carefully(
     requires wide { sizes.cols ≤ 16_384 }
     requires room { number + length text.now < 2 ^ 63 }
     ensures { Gives (λ v. v.items) result
-        (entries_of form sizes (number + length (lines_of text.now)) sizes.entries [] (lines_from number (lines_of text.now))) }
+        (entries_of form sizes (number + length (lines_of text.now)) sizes.entries []
+        (lines_from number (lines_of text.now))) }
 {
     let mut entries = Vec::new(alloc);
     let mut seen = BTreeSet::new(alloc);

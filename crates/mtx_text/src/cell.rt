@@ -71,7 +71,8 @@ pub(crate) fn plain_cell(form: Form, sizes: Sizes, text: &[u8]) -> Option<PlainC
 /// What a plain line names.
 #[inline(always)]
 fn cell_on(form: Form, sizes: Sizes, plain: Plain) -> PlainCell
-    ensures value { result.cell ≡ cell_from form sizes (Some (plain.fields.row, plain.fields.column, plain.fields.value)) }
+    ensures value { result.cell ≡ cell_from form sizes
+        (Some (plain.fields.row, plain.fields.column, plain.fields.value)) }
     ensures row { IfOk result.cell (λ t. t.i < sizes.rows) }
     ensures col { IfOk result.cell (λ t. t.j < sizes.cols) }
     ensures limit { IfOk result.cell (λ t. nat_abs t.v ≤ 1_000_000_000_000) }

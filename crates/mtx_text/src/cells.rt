@@ -261,7 +261,11 @@ fn nearer(best: Option<Triple>, t: Triple, i: u32, j: u32) -> Option<Triple>
 /// The first of two triples; of two at one place, that with the greater value.
 #[inline(always)]
 fn first_of(c: Triple, t: Triple) -> Triple
-    ensures { result ≡ (if is_before t c then t else if is_before c t then c else record { i = c.i; j = c.j; v = int_max c.v t.v }) }
+    ensures { result ≡ (if is_before t c then t else if is_before c t then c else record {
+      i = c.i;
+      j = c.j;
+      v = int_max c.v t.v;
+    }) }
 {
     if is_before(t, c) {
         t

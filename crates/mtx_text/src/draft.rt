@@ -43,7 +43,8 @@ pub(crate) fn read_draft(
     requires short { sizes.entries ≤ 262_144 }
     requires room { number + length text.now < 2 ^ 63 }
     ensures draft { IfOk result (λ draft. record { entries = draft.entries.items; stop = draft.stop }
-        ≡ draft_of form sizes (number + length (lines_of text.now)) sizes.entries [] (lines_from number (lines_of text.now))) }
+        ≡ draft_of form sizes (number + length (lines_of text.now)) sizes.entries []
+        (lines_from number (lines_of text.now))) }
     ensures within { IfOk result (λ draft. All (λ t. IsWithin (max sizes.rows sizes.cols) t) draft.entries.items) }
     ensures few { IfOk result (λ draft. length draft.entries.items ≤ 524_288) }
 {
@@ -115,13 +116,18 @@ fn read_plain<'a>(
     requires tall { sizes.rows ≤ 16_384 }
     requires wide { sizes.cols ≤ 16_384 }
     requires room { run.number + length run.rest.now < 2 ^ 63 }
-    ensures draft { (end : ℕ) → IfOk result (λ r. draft_of form sizes end r.left entries.new.items (lines_from r.number (lines_of r.rest.now))
-        ≡ draft_of form sizes end run.entry.left entries.old.items (lines_from run.entry.number (lines_of run.entry.rest.now))) }
-    ensures lines { IfOk result (λ r. r.number + length (lines_of r.rest.now) ≡ run.entry.number + length (lines_of run.entry.rest.now)) }
+    ensures draft { (end : ℕ) → IfOk result (λ r. draft_of form sizes end r.left entries.new.items
+        (lines_from r.number (lines_of r.rest.now))
+        ≡ draft_of form sizes end run.entry.left entries.old.items
+        (lines_from run.entry.number (lines_of run.entry.rest.now))) }
+    ensures lines { IfOk result (λ r. r.number + length (lines_of r.rest.now)
+        ≡ run.entry.number + length (lines_of run.entry.rest.now)) }
     ensures room { IfOk result (λ r. r.number + length r.rest.now ≤ run.entry.number + length run.entry.rest.now) }
     ensures on { IfOk result (λ r. length r.rest.now ≤ length run.entry.rest.now) }
-    ensures within { OnOk result (All (λ t. IsWithin (max sizes.rows sizes.cols) t) entries.old.items → All (λ t. IsWithin (max sizes.rows sizes.cols) t) entries.new.items) }
-    ensures few { IfOk result (λ r. length entries.new.items + 2 * r.left ≤ length entries.old.items + 2 * run.entry.left) }
+    ensures within { OnOk result (All (λ t. IsWithin (max sizes.rows sizes.cols) t) entries.old.items
+        → All (λ t. IsWithin (max sizes.rows sizes.cols) t) entries.new.items) }
+    ensures few { IfOk result (λ r. length entries.new.items + 2 * r.left
+        ≤ length entries.old.items + 2 * run.entry.left) }
 {
     if run.careful > 0 {
         return Ok(Run {
@@ -153,13 +159,18 @@ fn plain_lines<'a>(
     requires tall { sizes.rows ≤ 16_384 }
     requires wide { sizes.cols ≤ 16_384 }
     requires room { run.number + length run.rest.now < 2 ^ 63 }
-    ensures draft { (end : ℕ) → IfOk result (λ r. draft_of form sizes end r.left entries.new.items (lines_from r.number (lines_of r.rest.now))
-        ≡ draft_of form sizes end run.entry.left entries.old.items (lines_from run.entry.number (lines_of run.entry.rest.now))) }
-    ensures lines { IfOk result (λ r. r.number + length (lines_of r.rest.now) ≡ run.entry.number + length (lines_of run.entry.rest.now)) }
+    ensures draft { (end : ℕ) → IfOk result (λ r. draft_of form sizes end r.left entries.new.items
+        (lines_from r.number (lines_of r.rest.now))
+        ≡ draft_of form sizes end run.entry.left entries.old.items
+        (lines_from run.entry.number (lines_of run.entry.rest.now))) }
+    ensures lines { IfOk result (λ r. r.number + length (lines_of r.rest.now)
+        ≡ run.entry.number + length (lines_of run.entry.rest.now)) }
     ensures room { IfOk result (λ r. r.number + length r.rest.now ≤ run.entry.number + length run.entry.rest.now) }
     ensures on { IfOk result (λ r. length r.rest.now ≤ length run.entry.rest.now) }
-    ensures within { OnOk result (All (λ t. IsWithin (max sizes.rows sizes.cols) t) entries.old.items → All (λ t. IsWithin (max sizes.rows sizes.cols) t) entries.new.items) }
-    ensures few { IfOk result (λ r. length entries.new.items + 2 * r.left ≤ length entries.old.items + 2 * run.entry.left) }
+    ensures within { OnOk result (All (λ t. IsWithin (max sizes.rows sizes.cols) t) entries.old.items
+        → All (λ t. IsWithin (max sizes.rows sizes.cols) t) entries.new.items) }
+    ensures few { IfOk result (λ r. length entries.new.items + 2 * r.left
+        ≤ length entries.old.items + 2 * run.entry.left) }
 {
     let mut rest = run.rest;
     let mut left = run.left;
@@ -192,9 +203,12 @@ fn next_entry(form: Form, sizes: Sizes, text: &[u8], number: u64) -> Result<Entr
     requires wide { sizes.cols ≤ 16_384 }
     requires room { number + length text.now < 2 ^ 63 }
     ensures kept { IfOk result (λ entry. lines_from number (lines_of text.now)
-        ≡ record { number = entry.kept.number; words = words_of entry.kept.line.now } ∷ lines_from (entry.kept.number + 1) (lines_of entry.kept.rest.now)) }
-    ensures left { IfOk result (λ entry. entry.kept.number + 1 + length (lines_of entry.kept.rest.now) ≡ number + length (lines_of text.now)) }
-    ensures room { IfOk result (λ entry. entry.kept.number + 1 + length entry.kept.rest.now ≤ number + length text.now) }
+        ≡ record { number = entry.kept.number; words = words_of entry.kept.line.now } ∷ lines_from
+        (entry.kept.number + 1) (lines_of entry.kept.rest.now)) }
+    ensures left { IfOk result (λ entry. entry.kept.number + 1 + length (lines_of entry.kept.rest.now)
+        ≡ number + length (lines_of text.now)) }
+    ensures room { IfOk result (λ entry. entry.kept.number + 1 + length entry.kept.rest.now
+        ≤ number + length text.now) }
     ensures shorter { IfOk result (λ entry. length entry.kept.rest.now < length text.now) }
     ensures none { IfErr result (λ end. lines_from number (lines_of text.now) ≡ []) }
     ensures end { IfErr result (λ end. end ≡ number + length (lines_of text.now)) }
@@ -225,7 +239,8 @@ fn push(
     requires col { t.j < sizes.cols }
     requires limit { nat_abs t.v ≤ 1_000_000_000_000 }
     ensures entries { OnOk result (entries.new.items ≡ entries.old.items ++ stands_for symmetry t) }
-    ensures within { OnOk result (All (λ u. IsWithin (max sizes.rows sizes.cols) u) entries.old.items → All (λ u. IsWithin (max sizes.rows sizes.cols) u) entries.new.items) }
+    ensures within { OnOk result (All (λ u. IsWithin (max sizes.rows sizes.cols) u) entries.old.items
+        → All (λ u. IsWithin (max sizes.rows sizes.cols) u) entries.new.items) }
     ensures few { OnOk result (length entries.new.items ≤ length entries.old.items + 2) }
 {
     entries.push(t)?;

@@ -30,7 +30,8 @@ pub(crate) fn read_entries(
     requires short { sizes.entries ≤ 262_144 }
     requires room { number + length text.now < 2 ^ 63 }
     ensures { Gives (λ v. v.items) result
-        (entries_of form sizes (number + length (lines_of text.now)) sizes.entries [] (lines_from number (lines_of text.now))) }
+        (entries_of form sizes (number + length (lines_of text.now)) sizes.entries []
+        (lines_from number (lines_of text.now))) }
 {
     let Draft { entries, stop } = read_draft(alloc, form, sizes, text, number)?;
     let side = sizes.rows.max(sizes.cols);

@@ -75,7 +75,11 @@ fn hide(
 fn entry_at(rows: &Vec<u32>, cols: &Vec<u32>, row: u32, col: u32, word: u32) -> Triple
     requires row { row < vec_len rows.now }
     requires col { col < vec_len cols.now }
-    ensures { result ≡ record { i = slice_index rows.now.items row; j = slice_index cols.now.items col; v = pos (1 + word % 1000) } }
+    ensures { result ≡ record {
+      i = slice_index rows.now.items row;
+      j = slice_index cols.now.items col;
+      v = pos (1 + word % 1000);
+    } }
 {
     Triple {
         i: rows[row as usize],

@@ -20,8 +20,10 @@ pub(crate) struct Kept<'a> {
 pub(crate) fn next_kept(text: &[u8], number: u64) -> Result<Kept<'_>, u64>
     requires { number + length text.now < 2 ^ 63 }
     ensures kept { IfOk result (λ kept. lines_from number (lines_of text.now)
-        ≡ record { number = kept.number; words = words_of kept.line.now } ∷ lines_from (kept.number + 1) (lines_of kept.rest.now)) }
-    ensures left { IfOk result (λ kept. kept.number + 1 + length (lines_of kept.rest.now) ≡ number + length (lines_of text.now)) }
+        ≡ record { number = kept.number; words = words_of kept.line.now } ∷ lines_from (kept.number + 1)
+        (lines_of kept.rest.now)) }
+    ensures left { IfOk result (λ kept. kept.number + 1 + length (lines_of kept.rest.now)
+        ≡ number + length (lines_of text.now)) }
     ensures room { IfOk result (λ kept. kept.number + 1 + length kept.rest.now ≤ number + length text.now) }
     ensures shorter { IfOk result (λ kept. length kept.rest.now < length text.now) }
     ensures none { IfErr result (λ end. lines_from number (lines_of text.now) ≡ []) }
@@ -53,7 +55,8 @@ pub(crate) fn first_kept(text: &[u8], number: u64, len: usize, next: usize) -> K
     requires counts { is_skipped (words_of (take len text.now)) ≡ false }
     ensures line { result.line.now ≡ take len text.now }
     ensures kept { lines_from number (lines_of text.now)
-        ≡ record { number = result.number; words = words_of result.line.now } ∷ lines_from (result.number + 1) (lines_of result.rest.now) }
+        ≡ record { number = result.number; words = words_of result.line.now } ∷ lines_from (result.number + 1)
+        (lines_of result.rest.now) }
     ensures left { result.number + 1 + length (lines_of result.rest.now) ≡ number + length (lines_of text.now) }
     ensures room { result.number + 1 + length result.rest.now ≤ number + length text.now }
     ensures shorter { length result.rest.now < length text.now }

@@ -26,7 +26,8 @@ impl Model for Matrix {
 
     ghost view = { λ m. record { rows = m.rows; cols = m.cols; kind = m.kind; entries = m.entries.items } };
 
-    ghost invariant = { λ m. IsSparse (record { rows = m.rows; cols = m.cols; kind = m.kind; entries = m.entries.items }) };
+    ghost invariant = { λ m. IsSparse
+        (record { rows = m.rows; cols = m.cols; kind = m.kind; entries = m.entries.items }) };
 }
 
 impl Matrix {

@@ -31,7 +31,8 @@ pub(crate) struct Fields {
 
 /// The fields of an entry line that has as many words as its kind asks for.
 pub(crate) fn read_fields(kind: Kind, line: &[u8]) -> Option<Fields>
-    ensures { option_map (λ f. (f.row, f.column, f.value)) result ≡ option_map read_three (fields_of kind (words_of line.now)) }
+    ensures { option_map (λ f. (f.row, f.column, f.value)) result ≡ option_map read_three
+        (fields_of kind (words_of line.now)) }
 {
     match kind {
         Kind::Integer => three_numbers(line),
@@ -41,7 +42,8 @@ pub(crate) fn read_fields(kind: Kind, line: &[u8]) -> Option<Fields>
 
 /// The fields of a line of three words.
 fn three_numbers(line: &[u8]) -> Option<Fields>
-    ensures { option_map (λ f. (f.row, f.column, f.value)) result ≡ option_map read_three (fields_of Kind.Integer (words_of line.now)) }
+    ensures { option_map (λ f. (f.row, f.column, f.value)) result ≡ option_map read_three
+        (fields_of Kind.Integer (words_of line.now)) }
 {
     let row = first_number(line)?;
     let column = first_number(row.rest)?;
@@ -58,7 +60,8 @@ fn three_numbers(line: &[u8]) -> Option<Fields>
 
 /// The fields of a pattern line, whose value is 1.
 fn two_numbers(line: &[u8]) -> Option<Fields>
-    ensures { option_map (λ f. (f.row, f.column, f.value)) result ≡ option_map read_three (fields_of Kind.Pattern (words_of line.now)) }
+    ensures { option_map (λ f. (f.row, f.column, f.value)) result ≡ option_map read_three
+        (fields_of Kind.Pattern (words_of line.now)) }
 {
     let row = first_number(line)?;
     let column = first_number(row.rest)?;

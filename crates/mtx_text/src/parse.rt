@@ -41,7 +41,8 @@ pub fn parse_matrix(alloc: Global, text: &[u8]) -> Result<Matrix, ParseFault>
 /// The parts of a text's matrix.
 #[tactic(auto, unfolding(crate::specs::Grammar::matrix_of))]
 fn read_parts(alloc: Global, text: &[u8]) -> Result<Parts, ParseFault>
-    ensures { Gives (λ p. record { rows = p.rows; cols = p.cols; kind = p.kind; entries = p.entries.items }) result (matrix_of text.now) }
+    ensures { Gives (λ p. record { rows = p.rows; cols = p.cols; kind = p.kind; entries = p.entries.items }) result
+        (matrix_of text.now) }
 {
     if text.len() > MOST_BYTES {
         return Err(bad(line_after(MOST_BYTES, text), Reason::TooLong));

@@ -95,7 +95,8 @@ pub(crate) fn front_of_three(text: &[u8]) -> Option<Front<'_>>
 pub(crate) fn short_value(front: Front<'_>) -> Option<Last>
     requires few { front.two.row.len + front.two.column.len ≤ 10 }
     requires room { 22 ≤ length front.rest.now + (front.two.row.len + front.two.column.len) }
-    requires others { front.two.others ≡ mask_l (bits_of (14 - (front.two.row.len + front.two.column.len)) front.rest.now) }
+    requires others { front.two.others
+        ≡ mask_l (bits_of (14 - (front.two.row.len + front.two.column.len)) front.rest.now) }
     ensures { IfSome result (λ last. LastAt front.entry.rest.now last.len last.next last.value) }
 {
     let len = front.two.others.trailing_zeros() as usize;
@@ -162,7 +163,8 @@ fn two_numbers(text: &[u8]) -> Option<Two>
     ensures some { IfSome result (λ two. 0 < two.column.len) }
     ensures column { IfSome result (λ two. IsRead (drop (two.row.len + 1) text.now) two.column) }
     ensures others { IfSome result (λ two. two.others
-        ≡ mask_l (bits_of (14 - (two.row.len + two.column.len)) (drop (two.column.len + 1) (drop (two.row.len + 1) text.now)))) }
+        ≡ mask_l (bits_of (14 - (two.row.len + two.column.len))
+        (drop (two.column.len + 1) (drop (two.row.len + 1) text.now)))) }
 {
     if text.len() < WINDOW {
         return None;
@@ -270,7 +272,8 @@ fn line_end(text: &[u8], len: usize) -> Option<usize>
 fn leading(text: &[u8]) -> Option<Digits>
     ensures within { IfSome result (λ d. d.len < length text.now) }
     ensures digits { IfSome result (λ d. list_all is_ascii_digit (take d.len text.now) ≡ true) }
-    ensures value { IfSome result (λ d. d.len ≤ 18 → d.size ≡ min (digits_value 10 (take d.len text.now)) 1_000_000_000_000_000_000) }
+    ensures value { IfSome result (λ d. d.len ≤ 18
+        → d.size ≡ min (digits_value 10 (take d.len text.now)) 1_000_000_000_000_000_000) }
 {
     if text.len() <= UNROLLED {
         return more_digits(text);
@@ -324,7 +327,8 @@ fn digit_more(text: &[u8], digits: Digits) -> Result<Digits, Digits>
 fn more_digits(text: &[u8]) -> Option<Digits>
     ensures within { IfSome result (λ d. d.len < length text.now) }
     ensures digits { IfSome result (λ d. list_all is_ascii_digit (take d.len text.now) ≡ true) }
-    ensures value { IfSome result (λ d. d.len ≤ 18 → d.size ≡ min (digits_value 10 (take d.len text.now)) 1_000_000_000_000_000_000) }
+    ensures value { IfSome result (λ d. d.len ≤ 18
+        → d.size ≡ min (digits_value 10 (take d.len text.now)) 1_000_000_000_000_000_000) }
 {
     let mut size: u64 = 0;
     for (i, b) in text.iter().enumerate() {

@@ -50,8 +50,10 @@ impl From<AllocError> for Unread {
 /// memory may come at any time.
 pub fn read_matrix<S: Source>(alloc: Global, source: &mut S) -> Result<Matrix, ReadFault>
     ensures gives { (text : List ℕ) → S.left source.old ≡ Some text → ReadGives result (matrix_of text) }
-    ensures left { (text : List ℕ) → S.left source.old ≡ Some text → OnDecided result (S.left source.new ≡ Some (drop 16_777_217 text)) }
-    ensures behind { (text rest : List ℕ) → S.left source.old ≡ Some text → S.left source.new ≡ Some rest → IsBehind 16_777_217 text rest }
+    ensures left { (text : List ℕ) → S.left source.old ≡ Some text
+        → OnDecided result (S.left source.new ≡ Some (drop 16_777_217 text)) }
+    ensures behind { (text rest : List ℕ) → S.left source.old ≡ Some text → S.left source.new ≡ Some rest
+        → IsBehind 16_777_217 text rest }
     ensures told { (text : List ℕ) → S.left source.old ≡ Some text → IsSome (S.left source.new) }
     ensures cause { result ≡ Err ReadFault.Source → Rose (S.faults source.old) (S.faults source.new) }
     ensures never_falls { S.faults source.old ≤ S.faults source.new }
@@ -70,9 +72,12 @@ pub fn read_matrix<S: Source>(alloc: Global, source: &mut S) -> Result<Matrix, R
 
 /// The text of a source, up to `limit` bytes.
 fn read_text<S: Source>(alloc: Global, source: &mut S, limit: usize) -> Result<Vec<u8>, Unread>
-    ensures text { (text : List ℕ) → S.left source.old ≡ Some text → IfOk result (λ read. read.items ≡ take limit text) }
-    ensures left { (text : List ℕ) → S.left source.old ≡ Some text → IfOk result (λ read. S.left source.new ≡ Some (drop limit text)) }
-    ensures behind { (text rest : List ℕ) → S.left source.old ≡ Some text → S.left source.new ≡ Some rest → IsBehind limit text rest }
+    ensures text { (text : List ℕ) → S.left source.old ≡ Some text
+        → IfOk result (λ read. read.items ≡ take limit text) }
+    ensures left { (text : List ℕ) → S.left source.old ≡ Some text
+        → IfOk result (λ read. S.left source.new ≡ Some (drop limit text)) }
+    ensures behind { (text rest : List ℕ) → S.left source.old ≡ Some text → S.left source.new ≡ Some rest
+        → IsBehind limit text rest }
     ensures told { (text : List ℕ) → S.left source.old ≡ Some text → IsSome (S.left source.new) }
     ensures cause { result ≡ Err Unread.Source → Rose (S.faults source.old) (S.faults source.new) }
     ensures never_falls { S.faults source.old ≤ S.faults source.new }

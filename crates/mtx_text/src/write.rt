@@ -36,7 +36,8 @@ pub fn write_matrix<K: Sink>(m: &Matrix, out: &mut Out<'_, K>) -> Result<(), Fai
 
 fn write_banner<K: Sink>(out: &mut Out<'_, K>, kind: Kind) -> Result<(), Failed>
     ensures ok { OnOk result (appended K.taken out.new ≡ after (appended K.taken out.old) (banner_text kind)) }
-    ensures err { OnErr result (IsFront (K.taken out.new.sink.now) (after (appended K.taken out.old) (banner_text kind))) }
+    ensures err { OnErr result (IsFront (K.taken out.new.sink.now)
+        (after (appended K.taken out.old) (banner_text kind))) }
     ensures cause { HasCause (K.faults out.old.sink.now) (K.faults out.new.sink.now) result }
     ensures never_falls { K.faults out.old.sink.now ≤ K.faults out.new.sink.now }
     ensures grows { IsFront (K.taken out.old.sink.now) (K.taken out.new.sink.now) }
@@ -50,7 +51,8 @@ fn write_banner<K: Sink>(out: &mut Out<'_, K>, kind: Kind) -> Result<(), Failed>
 
 fn write_sizes<K: Sink>(out: &mut Out<'_, K>, m: &Matrix) -> Result<(), Failed>
     ensures ok { OnOk result (appended K.taken out.new ≡ after (appended K.taken out.old) (size_text m.now)) }
-    ensures err { OnErr result (IsFront (K.taken out.new.sink.now) (after (appended K.taken out.old) (size_text m.now))) }
+    ensures err { OnErr result (IsFront (K.taken out.new.sink.now)
+        (after (appended K.taken out.old) (size_text m.now))) }
     ensures cause { HasCause (K.faults out.old.sink.now) (K.faults out.new.sink.now) result }
     ensures never_falls { K.faults out.old.sink.now ≤ K.faults out.new.sink.now }
     ensures grows { IsFront (K.taken out.old.sink.now) (K.taken out.new.sink.now) }
@@ -71,8 +73,10 @@ fn write_entries<K: Sink>(
     kind: Kind,
     entries: &[Triple],
 ) -> Result<(), Failed>
-    ensures ok { OnOk result (appended K.taken out.new ≡ after (appended K.taken out.old) (flat_map (entry_text kind) entries.now)) }
-    ensures err { OnErr result (IsFront (K.taken out.new.sink.now) (after (appended K.taken out.old) (flat_map (entry_text kind) entries.now))) }
+    ensures ok { OnOk result (appended K.taken out.new ≡ after (appended K.taken out.old)
+        (flat_map (entry_text kind) entries.now)) }
+    ensures err { OnErr result (IsFront (K.taken out.new.sink.now)
+        (after (appended K.taken out.old) (flat_map (entry_text kind) entries.now))) }
     ensures cause { HasCause (K.faults out.old.sink.now) (K.faults out.new.sink.now) result }
     ensures never_falls { K.faults out.old.sink.now ≤ K.faults out.new.sink.now }
     ensures grows { IsFront (K.taken out.old.sink.now) (K.taken out.new.sink.now) }
@@ -87,8 +91,10 @@ fn write_entries<K: Sink>(
 /// The lines of entries, compiled for each kind by itself.
 #[inline(always)]
 fn write_lines<K: Sink>(out: &mut Out<'_, K>, kind: Kind, entries: &[Triple]) -> Result<(), Failed>
-    ensures ok { OnOk result (appended K.taken out.new ≡ after (appended K.taken out.old) (flat_map (entry_text kind) entries.now)) }
-    ensures err { OnErr result (IsFront (K.taken out.new.sink.now) (after (appended K.taken out.old) (flat_map (entry_text kind) entries.now))) }
+    ensures ok { OnOk result (appended K.taken out.new ≡ after (appended K.taken out.old)
+        (flat_map (entry_text kind) entries.now)) }
+    ensures err { OnErr result (IsFront (K.taken out.new.sink.now)
+        (after (appended K.taken out.old) (flat_map (entry_text kind) entries.now))) }
     ensures cause { HasCause (K.faults out.old.sink.now) (K.faults out.new.sink.now) result }
     ensures never_falls { K.faults out.old.sink.now ≤ K.faults out.new.sink.now }
     ensures grows { IsFront (K.taken out.old.sink.now) (K.taken out.new.sink.now) }

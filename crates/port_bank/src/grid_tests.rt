@@ -29,7 +29,8 @@ fn post_last(
     requires law { RelayLaw bank.dims (sender_at bank.dims link)
         (added (sent_of bank) link (record { entries = []; last = true; epoch = epoch })) (got_of bank) }
     ensures same_dims { IfOk result (λ o. IfSome o (λ b. b.dims ≡ bank.dims)) }
-    ensures sent { IfOk result (λ o. IfSome o (λ b. sent_of b ≡ added (sent_of bank) link (record { entries = []; last = true; epoch = epoch }))) }
+    ensures sent { IfOk result (λ o. IfSome o (λ b. sent_of b ≡ added (sent_of bank) link
+        (record { entries = []; last = true; epoch = epoch }))) }
     ensures got { IfOk result (λ o. IfSome o (λ b. got_of b ≡ got_of bank)) }
     ensures emptied { IfOk result (λ o. IfSome o (λ b. p.new ≡ blank epoch)) }
 {
@@ -56,7 +57,8 @@ fn collect_last(
     requires empty { p.old ≡ blank (lasts (got_of bank link)) }
     ensures same_dims { IfSome result (λ b. b.dims ≡ bank.dims) }
     ensures sent { IfSome result (λ b. sent_of b ≡ sent_of bank) }
-    ensures got { IfSome result (λ b. got_of b ≡ added (got_of bank) link (record { entries = []; last = true; epoch = lasts (got_of bank link) })) }
+    ensures got { IfSome result (λ b. got_of b ≡ added (got_of bank) link
+        (record { entries = []; last = true; epoch = lasts (got_of bank link) })) }
 {
     let (_, _, to) = grid.ends(link);
     let mut port = bank.port(to);

@@ -98,12 +98,17 @@ impl<const CAP: usize> PlainBank<CAP> {
         requires link { link < links self.old.dims }
         requires epoch { p.old.epoch ≡ lasts (sent_of self.old link) }
         requires law { let rank = sender_at self.old.dims link in RelayLaw self.old.dims rank
-            (added (starting_at self.old.dims rank (sent_of self.old)) link (shipped p.old)) (ending_at self.old.dims rank (got_of self.old)) }
-        ensures sent { result ≡ Ok Posted.Sent → self.new ≡ with_channel self.old link (posted (channel_at self.old link) (shipped p.old)) }
+            (added (starting_at self.old.dims rank (sent_of self.old)) link (shipped p.old))
+            (ending_at self.old.dims rank (got_of self.old)) }
+        ensures sent { result ≡ Ok Posted.Sent → self.new ≡ with_channel self.old link
+            (posted (channel_at self.old link) (shipped p.old)) }
         ensures emptied { result ≡ Ok Posted.Sent → p.new ≡ blank p.old.epoch }
-        ensures room { result ≡ Ok Posted.Sent → length (sent_of self.old link) < length (got_of self.old link) + self.old.slots }
-        ensures no_room { result ≡ Ok Posted.NoRoom → self.new ≡ with_channel self.old link (refused (channel_at self.old link)) }
-        ensures full { result ≡ Ok Posted.NoRoom → length (sent_of self.old link) ≡ length (got_of self.old link) + self.old.slots }
+        ensures room { result ≡ Ok Posted.Sent → length (sent_of self.old link) < length (got_of self.old link)
+            + self.old.slots }
+        ensures no_room { result ≡ Ok Posted.NoRoom → self.new ≡ with_channel self.old link
+            (refused (channel_at self.old link)) }
+        ensures full { result ≡ Ok Posted.NoRoom → length (sent_of self.old link)
+            ≡ length (got_of self.old link) + self.old.slots }
         ensures no_memory { IsErr result → self.new ≡ self.old }
         ensures kept { result ≢ Ok Posted.Sent → p.new ≡ p.old }
         ensures looks { (channel_at self.old link).looks_out ≤ (channel_at self.new link).looks_out }
@@ -117,13 +122,15 @@ impl<const CAP: usize> PlainBank<CAP> {
     pub(crate) fn collect(&mut self, link: u32, p: &mut Parcel<CAP>) -> Collected
         requires link { link < links self.old.dims }
         requires empty { p.old ≡ blank (lasts (got_of self.old link)) }
-        ensures got { result ≡ Collected.Got → self.new ≡ with_channel self.old link (collected (channel_at self.old link) (shipped p.new)) }
+        ensures got { result ≡ Collected.Got → self.new ≡ with_channel self.old link
+            (collected (channel_at self.old link) (shipped p.new)) }
         ensures arrived { result ≡ Collected.Got → p.new ≡ arrived (shipped p.new) }
         ensures epoch { result ≡ Collected.Got → p.new.epoch ≡ lasts (got_of self.old link) }
         ensures fits { result ≡ Collected.Got → length p.new.untaken ≤ CAP }
         ensures fair { result ≡ Collected.Got → HasFairTags self.old.dims (hop_at self.old.dims link) (shipped p.new) }
         ensures some { result ≡ Collected.Got → length (got_of self.old link) < length (sent_of self.old link) }
-        ensures nothing { result ≡ Collected.Nothing → self.new ≡ with_channel self.old link (listened (channel_at self.old link)) }
+        ensures nothing { result ≡ Collected.Nothing → self.new ≡ with_channel self.old link
+            (listened (channel_at self.old link)) }
         ensures all { result ≡ Collected.Nothing → length (got_of self.old link) ≡ length (sent_of self.old link) }
         ensures kept { result ≡ Collected.Nothing → p.new ≡ p.old }
         ensures lawful { IsBank CAP self.new }

@@ -26,7 +26,8 @@ impl Model for PlainRound {
 
     ghost view = { λ r. closed r.cap (record { dims = r.grid; slots = r.slots; channels = r.links.items }) };
 
-    ghost invariant = { λ r. IsRound (closed r.cap (record { dims = r.grid; slots = r.slots; channels = r.links.items })) };
+    ghost invariant = { λ r. IsRound
+        (closed r.cap (record { dims = r.grid; slots = r.slots; channels = r.links.items })) };
 }
 
 impl PlainRound {

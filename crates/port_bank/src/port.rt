@@ -100,7 +100,8 @@ pub trait Port<const CAP: usize>: Drop {
         requires starts_here { sender_at (dims self.old) link ≡ rank self.old }
         requires fresh { p.old.taken ≡ 0 }
         requires epoch { p.old.epoch ≡ lasts (sent self.old link) }
-        requires law { RelayLaw (dims self.old) (rank self.old) (added (sent self.old) link (shipped p.old)) (got self.old) }
+        requires law { RelayLaw (dims self.old) (rank self.old) (added (sent self.old) link (shipped p.old))
+            (got self.old) }
 
         // Sent: the parcel stands at the end of the link's log, and one slot was free for it.
         ensures sent { result ≡ Ok Posted.Sent → sent self.new ≡ added (sent self.old) link (shipped p.old) }
@@ -109,7 +110,8 @@ pub trait Port<const CAP: usize>: Drop {
 
         // NoRoom: the port looked in this call, and saw every slot taken.
         ensures looked { result ≡ Ok Posted.NoRoom → Rose (looks_out self.old link) (looks_out self.new link) }
-        ensures no_room { result ≡ Ok Posted.NoRoom → length (sent self.old link) ≡ freed self.new link + slots self.old }
+        ensures no_room { result ≡ Ok Posted.NoRoom → length (sent self.old link)
+            ≡ freed self.new link + slots self.old }
         ensures crowded { result ≡ Ok Posted.NoRoom → crowded self.new link ≡ true }
 
         // Where the port knew of a free slot, it is used.
@@ -149,11 +151,13 @@ pub trait Port<const CAP: usize>: Drop {
         ensures arrived { result ≡ Collected.Got → p.new ≡ arrived (shipped p.new) }
         ensures epoch { result ≡ Collected.Got → p.new.epoch ≡ lasts (got self.old link) }
         ensures fits { result ≡ Collected.Got → length p.new.untaken ≤ CAP }
-        ensures fair { result ≡ Collected.Got → All (λ e. IsFair (dims self.old) (hop_at (dims self.old) link) e.tag) p.new.untaken }
+        ensures fair { result ≡ Collected.Got
+            → All (λ e. IsFair (dims self.old) (hop_at (dims self.old) link) e.tag) p.new.untaken }
         ensures known { result ≡ Collected.Got → length (got self.old link) < known self.new link }
 
         // On a link from the rank to itself: what was collected is the front of what was posted.
-        ensures own { result ≡ Collected.Got → sender_at (dims self.old) link ≡ rank self.old → Begins (got self.new link) (sent self.new link) }
+        ensures own { result ≡ Collected.Got → sender_at (dims self.old) link ≡ rank self.old
+            → Begins (got self.new link) (sent self.new link) }
 
         // Nothing: the port listened since its latest collect on the link, and has collected all that it heard of.
         ensures heard { result ≡ Collected.Nothing → Rose (noted self.old link) (listens self.new link) }

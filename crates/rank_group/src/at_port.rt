@@ -36,7 +36,8 @@ impl<'a, Q: Program, const CAP: usize, const HOPS: usize> Model for AtPort<'a, Q
 
     ghost view = { λ s. record { rank = s.rank; seat = s.port.seat; turns = s.turns; lost = s.lost } };
 
-    ghost invariant = { λ s. HasWay Q.rules CAP (record { rank = s.rank; seat = s.port.seat; turns = s.turns; lost = s.lost }) };
+    ghost invariant = { λ s. HasWay Q.rules CAP
+        (record { rank = s.rank; seat = s.port.seat; turns = s.turns; lost = s.lost }) };
 }
 
 impl<'a, Q: Program, const CAP: usize, const HOPS: usize> Seated for AtPort<'a, Q, CAP, HOPS> {

@@ -50,17 +50,20 @@ pub fn drive_serial<const CAP: usize, const HOPS: usize, Q: Program, L: Ledger>(
     requires one_hop { via ≡ Via.Exstack → length grid.now ≡ 1 }
     requires slots { IsSlots slots }
     requires order { IsOrder (ranks grid.now) order.now }
-    requires begins { (shape : List ℕ) × (most : ℕ) × InRound Q.rules (ranks grid.now) 0 shape most progs × EndsWithin Q.rules progs most }
+    requires begins { (shape : List ℕ) × (most : ℕ) × InRound Q.rules (ranks grid.now) 0 shape most progs
+        × EndsWithin Q.rules progs most }
 
     // The programs are as the canonical run leaves them.
     ensures ended { IfOk result (λ f. HaveEnded Q.rules progs f.progs) }
 
     // One closed round tells what was exchanged.
     ensures rounds { IfOk result (λ f. (c : ClosedRound) × (f.rounds ≡ c ∷ []) × ((n : ℕ) → HasRounds Q.rules progs n
-        → TellsRun Q.rules progs n (record { dims = grid.now; cap = CAP; slots = slots; by_slots = false }) (manner_of via steady) (round_of c))) }
+        → TellsRun Q.rules progs n (record { dims = grid.now; cap = CAP; slots = slots; by_slots = false })
+        (manner_of via steady) (round_of c))) }
 
     // The turns are bounded before the run, also where it ends in `NoMemory`.
-    ensures steps { (n : ℕ) → HasRounds Q.rules progs n → steps.new ≤ steps.old + turns_within Q.rules (manner_of via steady) grid.now progs n }
+    ensures steps { (n : ℕ) → HasRounds Q.rules progs n
+        → steps.new ≤ steps.old + turns_within Q.rules (manner_of via steady) grid.now progs n }
 {
     closes_laws();
     let mut all = ranks_of::<CAP, HOPS, Q>(alloc, grid, via, steady, progs)?;

@@ -27,17 +27,24 @@ pub(crate) fn run_all<const CAP: usize, const HOPS: usize, Q: Program, L: Ledger
 ) -> Result<PlainBank<CAP>, NoMemory>
     requires order { IsOrder (ranks bank.dims) order.now }
     requires lawful { IsBank CAP bank }
-    requires world { (manner : Manner) × (n : ℕ) × (h : ℕ → ℕ → Q) × (plan : Plan Q.rules bank.dims bank.slots (progs_of all.old.items) n) × (n ≤ plan.most)
-        × World Q.rules bank.dims CAP bank.slots manner (progs_of all.old.items) h all.old.items (sent_of bank) (got_of bank) }
+    requires world { (manner : Manner) × (n : ℕ) × (h : ℕ → ℕ → Q)
+        × (plan : Plan Q.rules bank.dims bank.slots (progs_of all.old.items) n) × (n ≤ plan.most)
+        × World Q.rules bank.dims CAP bank.slots manner (progs_of all.old.items) h all.old.items (sent_of bank)
+        (got_of bank) }
     ensures lawful { IfOk result (λ b. IsBank CAP b) }
     ensures same_dims { IfOk result (λ b. b.dims ≡ bank.entry.dims) }
     ensures same_slots { IfOk result (λ b. b.slots ≡ bank.entry.slots) }
     ensures over { OnOk result ((r : ℕ) (x : RankState Q) → slice_get all.new.items r ≡ Some x → x.over ≡ true) }
-    ensures world { (manner : Manner) (starts : _) (n : ℕ) (h : ℕ → ℕ → Q) → Plan Q.rules bank.entry.dims bank.entry.slots starts n
-        → World Q.rules bank.entry.dims CAP bank.entry.slots manner starts h all.old.items (sent_of bank.entry) (got_of bank.entry)
-        → IfOk result (λ b. (g : ℕ → ℕ → Q) × World Q.rules bank.entry.dims CAP bank.entry.slots manner starts g all.new.items (sent_of b) (got_of b)) }
-    ensures steps { (manner : Manner) (starts : _) (n : ℕ) (h : ℕ → ℕ → Q) → Plan Q.rules bank.entry.dims bank.entry.slots starts n
-        → World Q.rules bank.entry.dims CAP bank.entry.slots manner starts h all.old.items (sent_of bank.entry) (got_of bank.entry)
+    ensures world { (manner : Manner) (starts : _) (n : ℕ) (h : ℕ → ℕ → Q)
+        → Plan Q.rules bank.entry.dims bank.entry.slots starts n
+        → World Q.rules bank.entry.dims CAP bank.entry.slots manner starts h all.old.items (sent_of bank.entry)
+        (got_of bank.entry)
+        → IfOk result (λ b. (g : ℕ → ℕ → Q)
+        × World Q.rules bank.entry.dims CAP bank.entry.slots manner starts g all.new.items (sent_of b) (got_of b)) }
+    ensures steps { (manner : Manner) (starts : _) (n : ℕ) (h : ℕ → ℕ → Q)
+        → Plan Q.rules bank.entry.dims bank.entry.slots starts n
+        → World Q.rules bank.entry.dims CAP bank.entry.slots manner starts h all.old.items (sent_of bank.entry)
+        (got_of bank.entry)
         → steps.new ≤ steps.old + turns_within Q.rules manner bank.entry.dims starts n }
 {
     closes_laws();

@@ -26,10 +26,13 @@ pub(crate) fn seat_all<'a, const CAP: usize, const HOPS: usize, Q: Program>(
     requires none { gather.old.given ≡ replicate (ranks bank.now.shape.dims) false }
     requires size { length all.items ≡ ranks bank.now.shape.dims }
     requires few { ranks bank.now.shape.dims < 2 ^ 32 }
-    requires fresh { (manner : Manner) × (starts : List Q) × AreFresh Q.rules bank.now.shape.dims CAP manner starts all.items }
+    requires fresh { (manner : Manner) × (starts : List Q)
+        × AreFresh Q.rules bank.now.shape.dims CAP manner starts all.items }
     ensures bank { (gather.new.id ≡ bank.now.id) × (gather.new.shape ≡ bank.now.shape) }
     ensures ranks { IfOk result (λ xs. map (λ x. x.rank) xs.items ≡ all.items) }
-    ensures seated { (manner : Manner) (starts : List Q) → AreFresh Q.rules bank.now.shape.dims CAP manner starts all.items → IfOk result (λ xs. AreSeated Q.rules CAP manner bank.now xs.items) }
+    ensures seated { (manner : Manner) (starts : List Q)
+        → AreFresh Q.rules bank.now.shape.dims CAP manner starts all.items
+        → IfOk result (λ xs. AreSeated Q.rules CAP manner bank.now xs.items) }
 {
     let mut seated = Vec::with_capacity(alloc, all.len())?;
     let mut number = 0;
@@ -63,7 +66,8 @@ pub(crate) fn gather_all<'a, const CAP: usize, const HOPS: usize, Q: Program>(
     ensures bank { (gather.new.id ≡ bank.now.id) × (gather.new.shape ≡ bank.now.shape) }
     ensures ranks { IfOk result (λ rs. rs.items ≡ map (λ y. y.rank) ended.entry.items) }
     ensures none_lost { OnOk result (All (λ y. y.lost ≡ false) ended.entry.items) }
-    ensures there { OnOk result (EachAt (λ r y. slice_index_or gather.new.lists r None ≡ Some y.seat.lists) ended.entry.items) }
+    ensures there { OnOk result (EachAt (λ r y. slice_index_or gather.new.lists r None
+        ≡ Some y.seat.lists) ended.entry.items) }
 {
     let mut ranks = Vec::with_capacity(alloc, ended.len())?;
     for seated in one_by_one(alloc, ended)? {

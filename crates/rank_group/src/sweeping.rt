@@ -48,14 +48,16 @@ fn turn_rank<const CAP: usize, const HOPS: usize, Q: Program, L: Ledger>(
 ) -> Result<PlainBank<CAP>, NoMemory>
     requires number { number < ranks bank.dims }
     requires few { epoch_in rank.old.node.mover < 2 ^ 63 }
-    requires rank { (manner : _) × (h : ℕ → Q) × HasRank Q.rules bank.dims CAP manner number h rank.old (sent_of bank) (got_of bank) }
+    requires rank { (manner : _) × (h : ℕ → Q) × HasRank Q.rules bank.dims CAP manner number h rank.old (sent_of bank)
+        (got_of bank) }
     ensures lawful { IfOk result (λ b. IsBank CAP b) }
     ensures same_dims { IfOk result (λ b. b.dims ≡ bank.entry.dims) }
     ensures same_slots { IfOk result (λ b. b.slots ≡ bank.entry.slots) }
     ensures most_steps { steps.new ≤ steps.old + 1 }
     ensures fewest_steps { steps.old ≤ steps.new }
     ensures steps { IfOk result (λ b. rank.old.over ≡ false → steps.new ≡ steps.old + 1) }
-    ensures turned { IfOk result (λ b. AfterRank Q.rules bank.entry.dims CAP bank.entry.slots number rank.old rank.new (sent_of bank.entry) (got_of bank.entry) (sent_of b) (got_of b)) }
+    ensures turned { IfOk result (λ b. AfterRank Q.rules bank.entry.dims CAP bank.entry.slots number rank.old rank.new
+        (sent_of bank.entry) (got_of bank.entry) (sent_of b) (got_of b)) }
 {
     if rank.over {
         return Ok(bank);
@@ -80,12 +82,14 @@ fn turn_node<const CAP: usize, const HOPS: usize, Q: Program, L: Ledger>(
     requires number { number < ranks bank.dims }
     requires same_dims { dims_of node.old.mover ≡ bank.dims }
     requires same_rank { rank_of node.old.mover ≡ number }
-    requires node { (h : ℕ → Q) × IsNode Q.rules h node.old (starting_at bank.dims number (sent_of bank)) (ending_at bank.dims number (got_of bank)) }
+    requires node { (h : ℕ → Q) × IsNode Q.rules h node.old (starting_at bank.dims number (sent_of bank))
+        (ending_at bank.dims number (got_of bank)) }
     ensures lawful { IfOk result (λ b. IsBank CAP b.0) }
     ensures same_dims { IfOk result (λ b. b.0.dims ≡ bank.entry.dims) }
     ensures same_slots { IfOk result (λ b. b.0.slots ≡ bank.entry.slots) }
     ensures steps { steps.new ≡ steps.old + 1 }
-    ensures turned { IfOk result (λ b. AfterTurn Q.rules bank.entry.dims CAP bank.entry.slots number b.1 node.old node.new (sent_of bank.entry) (got_of bank.entry) (sent_of b.0) (got_of b.0)) }
+    ensures turned { IfOk result (λ b. AfterTurn Q.rules bank.entry.dims CAP bank.entry.slots number b.1 node.old
+        node.new (sent_of bank.entry) (got_of bank.entry) (sent_of b.0) (got_of b.0)) }
 {
     let mut port = bank.port(number);
     let turn = node.turn(&mut port, steps)?;
@@ -101,7 +105,9 @@ fn turn_one<const CAP: usize, const HOPS: usize, Q: Program, L: Ledger>(
 ) -> Result<PlainBank<CAP>, NoMemory>
     requires number { number < ranks bank.dims }
     requires law { ClosesLaws }
-    requires world { (manner : Manner) × (starts : List Q) × (n : ℕ) × (h : ℕ → ℕ → Q) × Plan Q.rules bank.dims bank.slots starts n × World Q.rules bank.dims CAP bank.slots manner starts h all.old.items (sent_of bank) (got_of bank) }
+    requires world { (manner : Manner) × (starts : List Q) × (n : ℕ) × (h : ℕ → ℕ → Q)
+        × Plan Q.rules bank.dims bank.slots starts n
+        × World Q.rules bank.dims CAP bank.slots manner starts h all.old.items (sent_of bank) (got_of bank) }
     ensures size { length all.new.items ≡ length all.old.items }
     ensures others { (k : ℕ) → k ≢ number → slice_get all.new.items k ≡ slice_get all.old.items k }
     ensures lawful { IfOk result (λ b. IsBank CAP b) }
@@ -109,9 +115,12 @@ fn turn_one<const CAP: usize, const HOPS: usize, Q: Program, L: Ledger>(
     ensures same_slots { IfOk result (λ b. b.slots ≡ bank.entry.slots) }
     ensures most_steps { steps.new ≤ steps.old + 1 }
     ensures fewest_steps { steps.old ≤ steps.new }
-    ensures steps { (n : RankState Q) → slice_get all.old.items number ≡ Some n → n.over ≡ false → IfOk result (λ b. steps.new ≡ steps.old + 1) }
-    ensures turned { (n n' : RankState Q) → slice_get all.old.items number ≡ Some n → slice_get all.new.items number ≡ Some n'
-        → IfOk result (λ b. AfterRank Q.rules bank.entry.dims CAP bank.entry.slots number n n' (sent_of bank.entry) (got_of bank.entry) (sent_of b) (got_of b)) }
+    ensures steps { (n : RankState Q) → slice_get all.old.items number ≡ Some n → n.over ≡ false
+        → IfOk result (λ b. steps.new ≡ steps.old + 1) }
+    ensures turned { (n n' : RankState Q) → slice_get all.old.items number ≡ Some n
+        → slice_get all.new.items number ≡ Some n'
+        → IfOk result (λ b. AfterRank Q.rules bank.entry.dims CAP bank.entry.slots number n n' (sent_of bank.entry)
+        (got_of bank.entry) (sent_of b) (got_of b)) }
 {
     turn_rank(bank, &mut all[number as usize], number, steps)
 }
@@ -126,15 +135,22 @@ pub(crate) fn sweep<const CAP: usize, const HOPS: usize, Q: Program, L: Ledger>(
     requires law { ClosesLaws }
     requires order { IsOrder (ranks bank.dims) order.now }
     requires lawful { IsBank CAP bank }
-    requires world { (manner : Manner) × (starts : List Q) × (n : ℕ) × (h : ℕ → ℕ → Q) × Plan Q.rules bank.dims bank.slots starts n × World Q.rules bank.dims CAP bank.slots manner starts h all.old.items (sent_of bank) (got_of bank) }
+    requires world { (manner : Manner) × (starts : List Q) × (n : ℕ) × (h : ℕ → ℕ → Q)
+        × Plan Q.rules bank.dims bank.slots starts n
+        × World Q.rules bank.dims CAP bank.slots manner starts h all.old.items (sent_of bank) (got_of bank) }
     ensures lawful { IfOk result (λ b. IsBank CAP b) }
     ensures same_dims { IfOk result (λ b. b.dims ≡ bank.entry.dims) }
     ensures same_slots { IfOk result (λ b. b.slots ≡ bank.entry.slots) }
     ensures most_steps { steps.new ≤ steps.old + length order.now }
-    ensures some_step { (r : ℕ) (x : RankState Q) → slice_get all.old.items r ≡ Some x → x.over ≡ false → IfOk result (λ b. steps.old < steps.new) }
-    ensures swept { (manner : Manner) (starts : List Q) (n : ℕ) (h : ℕ → ℕ → Q) → Plan Q.rules bank.entry.dims bank.entry.slots starts n
-        → (w : World Q.rules bank.entry.dims CAP bank.entry.slots manner starts h all.old.items (sent_of bank.entry) (got_of bank.entry))
-        → IfOk result (λ b. SweptTo Q.rules bank.entry.dims CAP bank.entry.slots manner starts order.now (length order.now) w.cycle all.old.items (sent_of bank.entry) (got_of bank.entry) all.new.items (sent_of b) (got_of b)) }
+    ensures some_step { (r : ℕ) (x : RankState Q) → slice_get all.old.items r ≡ Some x → x.over ≡ false
+        → IfOk result (λ b. steps.old < steps.new) }
+    ensures swept { (manner : Manner) (starts : List Q) (n : ℕ) (h : ℕ → ℕ → Q)
+        → Plan Q.rules bank.entry.dims bank.entry.slots starts n
+        → (w : World Q.rules bank.entry.dims CAP bank.entry.slots manner starts h all.old.items (sent_of bank.entry)
+        (got_of bank.entry))
+        → IfOk result (λ b. SweptTo Q.rules bank.entry.dims CAP bank.entry.slots manner starts order.now
+        (length order.now) w.cycle all.old.items (sent_of bank.entry) (got_of bank.entry) all.new.items (sent_of b)
+        (got_of b)) }
 {
     let mut bank = bank;
     for i in 0..order.len() {

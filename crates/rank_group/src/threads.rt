@@ -54,14 +54,16 @@ pub fn drive_threads<
     requires hops { length grid.now ≡ HOPS }
     requires one_hop { via ≡ Via.Exstack → length grid.now ≡ 1 }
     requires slots { IsSlots slots }
-    requires begins { (shape : List ℕ) × (most : ℕ) × InRound Q.rules (ranks grid.now) 0 shape most progs × EndsWithin Q.rules progs most }
+    requires begins { (shape : List ℕ) × (most : ℕ) × InRound Q.rules (ranks grid.now) 0 shape most progs
+        × EndsWithin Q.rules progs most }
 
     // The programs are as the canonical run leaves them.
     ensures ended { IfOk result (λ f. HaveEnded Q.rules progs f.progs) }
 
     // One closed round tells what was exchanged.
     ensures rounds { IfOk result (λ f. (c : ClosedRound) × (f.rounds ≡ c ∷ []) × ((n : ℕ) → HasRounds Q.rules progs n
-        → TellsRun Q.rules progs n (record { dims = grid.now; cap = CAP; slots = slots; by_slots = true }) (manner_of via steady) (round_of c))) }
+        → TellsRun Q.rules progs n (record { dims = grid.now; cap = CAP; slots = slots; by_slots = true })
+        (manner_of via steady) (round_of c))) }
 {
     let threads = grid.ranks() as usize;
     drive_with::<CAP, HOPS, R, Q, G>(rt, alloc, grid, via, slots, steady, progs, gate, threads)
@@ -90,10 +92,12 @@ pub(crate) fn drive_with<
     requires hops { length grid.now ≡ HOPS }
     requires one_hop { via ≡ Via.Exstack → length grid.now ≡ 1 }
     requires slots { IsSlots slots }
-    requires begins { (shape : List ℕ) × (most : ℕ) × InRound Q.rules (ranks grid.now) 0 shape most progs × EndsWithin Q.rules progs most }
+    requires begins { (shape : List ℕ) × (most : ℕ) × InRound Q.rules (ranks grid.now) 0 shape most progs
+        × EndsWithin Q.rules progs most }
     ensures ended { IfOk result (λ f. HaveEnded Q.rules progs f.progs) }
     ensures rounds { IfOk result (λ f. (c : ClosedRound) × (f.rounds ≡ c ∷ []) × ((n : ℕ) → HasRounds Q.rules progs n
-        → TellsRun Q.rules progs n (record { dims = grid.now; cap = CAP; slots = slots; by_slots = true }) (manner_of via steady) (round_of c))) }
+        → TellsRun Q.rules progs n (record { dims = grid.now; cap = CAP; slots = slots; by_slots = true })
+        (manner_of via steady) (round_of c))) }
 {
     closes_laws();
     let _few = grid.ranks();

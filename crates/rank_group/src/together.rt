@@ -42,7 +42,8 @@ pub fn run_together<R: Threads + Wait + Sync, A: Seated + Send, G: Gate + Sync>(
         thread::scope_env(),
         rt,
         move |scope| -> Result<Vec<A>, NoMemory>
-            requires { (length kept.now ≡ length all.items) × (ended.items ≡ []) × (length all.items ≤ vec_capacity ended) }
+            requires { (length kept.now ≡ length all.items) × (ended.items ≡ [])
+                × (length all.items ≤ vec_capacity ended) }
             ensures { IfOk result (λ ys. AllRan A.ran all.items ys.items × All (λ y. A.over y ≡ true) ys.items) }
         { run_in(scope, shared, alloc, kept, threads, all, ended) },
     )
@@ -146,7 +147,8 @@ fn come_back<'s, R: Wait, A: Seated, G: Gate>(
     at: A,
 )
     requires room { length ended.old.items < vec_capacity ended.old }
-    ensures ran { (xs : List A) (x : A) → AllRan A.ran xs ended.old.items → A.ran x at → AllRan A.ran (xs ++ x ∷ []) ended.new.items }
+    ensures ran { (xs : List A) (x : A) → AllRan A.ran xs ended.old.items → A.ran x at
+        → AllRan A.ran (xs ++ x ∷ []) ended.new.items }
     ensures over { All (λ y. A.over y ≡ true) ended.old.items → All (λ y. A.over y ≡ true) ended.new.items }
     ensures capacity { vec_capacity ended.old ≤ vec_capacity ended.new }
 {

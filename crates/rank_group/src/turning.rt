@@ -23,14 +23,18 @@ pub(crate) fn turn_over<const CAP: usize, const HOPS: usize, Q: Program, P: Port
     requires fixed { P.Memory.GROWS ≡ false }
     requires going { rank.old.over ≡ false }
     requires few { epoch_in rank.old.node.mover < 2 ^ 63 }
-    requires rank { (manner : Manner) × (h : ℕ → Q) × IsRank Q.rules (P.dims port.old) CAP manner (P.rank port.old) h rank.old (P.sent port.old) (P.got port.old) }
+    requires rank { (manner : Manner) × (h : ℕ → Q) × IsRank Q.rules (P.dims port.old) CAP manner
+        (P.rank port.old) h rank.old (P.sent port.old) (P.got port.old) }
     ensures same_dims { P.dims port.new ≡ P.dims port.old }
     ensures same_rank { P.rank port.new ≡ P.rank port.old }
     ensures same_slots { P.slots port.new ≡ P.slots port.old }
     ensures rest { P.rest port.new ≡ P.rest port.old }
-    ensures epoch { OnOk result (rank.new.over ≡ false → epoch_in rank.new.node.mover ≤ epoch_in rank.old.node.mover + 1) }
-    ensures kept { OnOk result ((manner : Manner) (h : ℕ → Q) → IsRank Q.rules (P.dims port.old) CAP manner (P.rank port.old) h rank.old (P.sent port.old) (P.got port.old)
-        → (g : ℕ → Q) × (g 0 ≡ h 0) × IsRank Q.rules (P.dims port.old) CAP manner (P.rank port.old) g rank.new (P.sent port.new) (P.got port.new)) }
+    ensures epoch { OnOk result (rank.new.over ≡ false → epoch_in rank.new.node.mover
+        ≤ epoch_in rank.old.node.mover + 1) }
+    ensures kept { OnOk result ((manner : Manner) (h : ℕ → Q)
+        → IsRank Q.rules (P.dims port.old) CAP manner (P.rank port.old) h rank.old (P.sent port.old) (P.got port.old)
+        → (g : ℕ → Q) × (g 0 ≡ h 0) × IsRank Q.rules (P.dims port.old) CAP manner (P.rank port.old) g rank.new
+        (P.sent port.new) (P.got port.new)) }
 {
     let pushed = rank.node.pushed();
     let Ok(turn) = rank.node.turn(port, steps) else {

@@ -29,10 +29,13 @@ pub(crate) fn turn_conveyor<const CAP: usize, const HOPS: usize, Q: Program, P: 
 ) -> Result<Turn, NoMemory>
     requires same_dims { P.dims port.old ≡ conveyor.old.dims }
     requires same_rank { P.rank port.old ≡ conveyor.old.rank }
-    requires node { (h : ℕ → Q) × IsNode Q.rules h (record { run = running run.old; mover = Conveying conveyor.old }) (P.sent port.old) (P.got port.old) }
-    ensures moves { AfterMoves Q.rules CAP (record { run = running run.old; mover = Conveying conveyor.old }) (record { run = running run.new; mover = Conveying conveyor.new })
+    requires node { (h : ℕ → Q) × IsNode Q.rules h (record { run = running run.old; mover = Conveying conveyor.old })
+        (P.sent port.old) (P.got port.old) }
+    ensures moves { AfterMoves Q.rules CAP (record { run = running run.old; mover = Conveying conveyor.old })
+        (record { run = running run.new; mover = Conveying conveyor.new })
         (P.sent port.old) (P.got port.old) (P.sent port.new) (P.got port.new) }
-    ensures leaves { Leaves Q.rules CAP (running run.old) (running run.new) (Conveying conveyor.old) (Conveying conveyor.new) (P.sent port.old) (P.got port.old) (P.got port.new) }
+    ensures leaves { Leaves Q.rules CAP (running run.old) (running run.new) (Conveying conveyor.old)
+        (Conveying conveyor.new) (P.sent port.old) (P.got port.old) (P.got port.new) }
     ensures waits { OnOk result (Waits Q.rules (running run.old) (Conveying conveyor.old) (Conveying conveyor.new)
         (P.sent port.old) (P.got port.old) (P.sent port.new) (P.got port.new) (P.crowded port.new) (P.idle port.new)) }
     ensures same_dims { P.dims port.new ≡ P.dims port.old }

@@ -17,7 +17,8 @@ pub(crate) struct OnConveyor<'a, const CAP: usize, const HOPS: usize> {
 impl<'a, const CAP: usize, const HOPS: usize> Departures for OnConveyor<'a, CAP, HOPS> {
     ghost may = { λ s to. MayPush s.conveyor.now to };
 
-    ghost hands = { λ s to x accepted t. (t.conveyor.ghost_name ≡ s.conveyor.ghost_name) × Pushes CAP s.conveyor.now to x accepted t.conveyor.now };
+    ghost hands = { λ s to x accepted t. (t.conveyor.ghost_name ≡ s.conveyor.ghost_name)
+        × Pushes CAP s.conveyor.now to x accepted t.conveyor.now };
 
     ghost stays = { λ s t to other x accepted h. push_stays CAP s.conveyor.now t.conveyor.now to other x accepted h.1 };
 
@@ -38,7 +39,8 @@ pub(crate) struct OnExstack<'a, const CAP: usize> {
 impl<'a, const CAP: usize> Departures for OnExstack<'a, CAP> {
     ghost may = { λ s to. MayFill s.exstack.now to };
 
-    ghost hands = { λ s to x accepted t. (t.exstack.ghost_name ≡ s.exstack.ghost_name) × FillsOne CAP s.exstack.now to x accepted t.exstack.now };
+    ghost hands = { λ s to x accepted t. (t.exstack.ghost_name ≡ s.exstack.ghost_name)
+        × FillsOne CAP s.exstack.now to x accepted t.exstack.now };
 
     ghost stays = { λ s t to other x accepted h. fill_stays CAP s.exstack.now t.exstack.now to other x accepted h.1 };
 

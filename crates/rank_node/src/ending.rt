@@ -19,10 +19,16 @@ pub(crate) enum Follows {
 
 /// Ends the round of a program with the sum of the votes.
 pub(crate) fn end_prog<Q: Program>(prog: &mut Box<Q>, sum: u64) -> Follows
-    ensures round { result ≡ Follows.Round → (Q.rules.goes_on (Q.rules.shape prog.old.value) (Q.rules.round prog.old.value) sum ≡ true) × (prog.new.value ≡ Q.rules.ended prog.old.value sum) }
-    ensures spoiled_round { result ≡ Follows.SpoiledRound → Q.rules.goes_on (Q.rules.shape prog.old.value) (Q.rules.round prog.old.value) sum ≡ true }
-    ensures nothing { result ≡ Follows.Nothing → (Q.rules.goes_on (Q.rules.shape prog.old.value) (Q.rules.round prog.old.value) sum ≡ false) × (prog.new.value ≡ Q.rules.ended prog.old.value sum) }
-    ensures spoiled_nothing { result ≡ Follows.SpoiledNothing → Q.rules.goes_on (Q.rules.shape prog.old.value) (Q.rules.round prog.old.value) sum ≡ false }
+    ensures round { result ≡ Follows.Round
+        → (Q.rules.goes_on (Q.rules.shape prog.old.value) (Q.rules.round prog.old.value) sum ≡ true)
+        × (prog.new.value ≡ Q.rules.ended prog.old.value sum) }
+    ensures spoiled_round { result ≡ Follows.SpoiledRound
+        → Q.rules.goes_on (Q.rules.shape prog.old.value) (Q.rules.round prog.old.value) sum ≡ true }
+    ensures nothing { result ≡ Follows.Nothing
+        → (Q.rules.goes_on (Q.rules.shape prog.old.value) (Q.rules.round prog.old.value) sum ≡ false)
+        × (prog.new.value ≡ Q.rules.ended prog.old.value sum) }
+    ensures spoiled_nothing { result ≡ Follows.SpoiledNothing
+        → Q.rules.goes_on (Q.rules.shape prog.old.value) (Q.rules.round prog.old.value) sum ≡ false }
 {
     let goes_on = prog.goes_on(sum);
     match (prog.end_round(sum), goes_on) {

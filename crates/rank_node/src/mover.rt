@@ -57,16 +57,22 @@ impl<const CAP: usize, const HOPS: usize> Mover<CAP, HOPS> {
     ) -> Result<Turn, NoMemory>
         requires same_dims { P.dims port.old ≡ dims_of (seen self.old) }
         requires same_rank { P.rank port.old ≡ rank_of (seen self.old) }
-        requires node { (h : ℕ → Q) × IsNode Q.rules h (record { run = running run.old; mover = seen self.old }) (P.sent port.old) (P.got port.old) }
-        ensures moves { AfterMoves Q.rules CAP (record { run = running run.old; mover = seen self.old }) (record { run = running run.new; mover = seen self.new })
+        requires node { (h : ℕ → Q) × IsNode Q.rules h (record { run = running run.old; mover = seen self.old })
+            (P.sent port.old) (P.got port.old) }
+        ensures moves { AfterMoves Q.rules CAP (record { run = running run.old; mover = seen self.old })
+            (record { run = running run.new; mover = seen self.new })
             (P.sent port.old) (P.got port.old) (P.sent port.new) (P.got port.new) }
-        ensures cycle { (quota : ℕ → ℕ) (n : ℕ) → IsInCycle Q.rules quota n (running run.old) (seen self.old) (P.sent port.old) (P.got port.old)
-            → IsInCycle Q.rules quota (cycle_of_turn n (seen self.old)) (running run.new) (seen self.new) (P.sent port.new) (P.got port.new) }
+        ensures cycle { (quota : ℕ → ℕ) (n : ℕ) → IsInCycle Q.rules quota n (running run.old) (seen self.old)
+            (P.sent port.old) (P.got port.old)
+            → IsInCycle Q.rules quota (cycle_of_turn n (seen self.old)) (running run.new) (seen self.new)
+            (P.sent port.new) (P.got port.new) }
         ensures onward { TurnsOnward (seen self.old) (seen self.new) }
         ensures awaits { IsOk result → AwaitsSome (seen self.new) }
-        ensures leaves { Leaves Q.rules CAP (running run.old) (running run.new) (seen self.old) (seen self.new) (P.sent port.old) (P.got port.old) (P.got port.new) }
+        ensures leaves { Leaves Q.rules CAP (running run.old) (running run.new) (seen self.old) (seen self.new)
+            (P.sent port.old) (P.got port.old) (P.got port.new) }
         ensures waits { OnOk result (Waits Q.rules (running run.old) (seen self.old) (seen self.new)
-            (P.sent port.old) (P.got port.old) (P.sent port.new) (P.got port.new) (P.crowded port.new) (P.idle port.new)) }
+            (P.sent port.old) (P.got port.old) (P.sent port.new) (P.got port.new) (P.crowded port.new)
+            (P.idle port.new)) }
         ensures same_dims { P.dims port.new ≡ P.dims port.old }
         ensures same_rank { P.rank port.new ≡ P.rank port.old }
         ensures same_slots { P.slots port.new ≡ P.slots port.old }

@@ -77,7 +77,8 @@ impl<Q: Program, const CAP: usize, const HOPS: usize> Node<Q, CAP, HOPS> {
         ensures epoch { IfOk result (λ n. epoch_in n.mover ≡ 0) }
         ensures unread { IfOk result (λ n. NoneUnread n.mover) }
         ensures starts { IfOk result (λ n. IsStarting n.mover) }
-        ensures cycle { IfOk result (λ n. (quota : ℕ → ℕ) → length (Q.rules.emissions prog) ≤ quota 0 → IsInCycle Q.rules quota 0 n.run n.mover (λ l. []) (λ l. [])) }
+        ensures cycle { IfOk result (λ n. (quota : ℕ → ℕ) → length (Q.rules.emissions prog) ≤ quota 0
+            → IsInCycle Q.rules quota 0 n.run n.mover (λ l. []) (λ l. [])) }
     {
         let rank = prog.rank();
         let mover = Mover::new(alloc, grid, via, rank, steady)?;
@@ -118,7 +119,8 @@ impl<Q: Program, const CAP: usize, const HOPS: usize> Node<Q, CAP, HOPS> {
         requires same_dims { P.dims port.old ≡ dims_of self.old.mover }
         requires same_rank { P.rank port.old ≡ rank_of self.old.mover }
         requires node { (h : ℕ → Q) × IsNode Q.rules h self.old (P.sent port.old) (P.got port.old) }
-        ensures kept { (h : ℕ → Q) → IsNode Q.rules h self.old (P.sent port.old) (P.got port.old) → IsNode Q.rules h self.new (P.sent port.new) (P.got port.new) }
+        ensures kept { (h : ℕ → Q) → IsNode Q.rules h self.old (P.sent port.old) (P.got port.old)
+            → IsNode Q.rules h self.new (P.sent port.new) (P.got port.new) }
         ensures steps { steps.new ≡ steps.old + 1 }
         ensures self_dims { dims_of self.new.mover ≡ dims_of self.old.mover }
         ensures self_rank { rank_of self.new.mover ≡ rank_of self.old.mover }
@@ -136,26 +138,36 @@ impl<Q: Program, const CAP: usize, const HOPS: usize> Node<Q, CAP, HOPS> {
         // It advances or polls once: the lists only grow, each by one parcel at most, and of the transport's shape.
         ensures sent_grows { (l : ℕ) → Begins (P.sent port.old l) (P.sent port.new l) }
         ensures got_grows { (l : ℕ) → Begins (P.got port.old l) (P.got port.new l) }
-        ensures one_sent { (l : ℕ) → l < links (dims_of self.old.mover) → sender_at (dims_of self.old.mover) l ≡ rank_of self.old.mover → length (P.sent port.new l) ≤ length (P.sent port.old l) + 1 }
-        ensures one_got { (l : ℕ) → l < links (dims_of self.old.mover) → reader_at (dims_of self.old.mover) l ≡ rank_of self.old.mover → length (P.got port.new l) ≤ length (P.got port.old l) + 1 }
-        ensures shape { (l : ℕ) → l < links (dims_of self.old.mover) → sender_at (dims_of self.old.mover) l ≡ rank_of self.old.mover
-            → IsShape (manner_in self.old.mover) CAP (P.sent port.old l) → IsShape (manner_in self.old.mover) CAP (P.sent port.new l) }
+        ensures one_sent { (l : ℕ) → l < links (dims_of self.old.mover)
+            → sender_at (dims_of self.old.mover) l ≡ rank_of self.old.mover
+            → length (P.sent port.new l) ≤ length (P.sent port.old l) + 1 }
+        ensures one_got { (l : ℕ) → l < links (dims_of self.old.mover)
+            → reader_at (dims_of self.old.mover) l ≡ rank_of self.old.mover
+            → length (P.got port.new l) ≤ length (P.got port.old l) + 1 }
+        ensures shape { (l : ℕ) → l < links (dims_of self.old.mover)
+            → sender_at (dims_of self.old.mover) l ≡ rank_of self.old.mover
+            → IsShape (manner_in self.old.mover) CAP (P.sent port.old l)
+            → IsShape (manner_in self.old.mover) CAP (P.sent port.new l) }
 
         // Ended exactly where the rank has completed its epoch.
         ensures ended { result ≡ Ok Turn.Ended → has_completed self.new.mover ≡ true }
         ensures going { result ≡ Ok Turn.Going → has_completed self.new.mover ≡ false }
 
         // An exstack's cycles keep pace with what its rank has to send; its stages go on; and within a round it waits for a parcel.
-        ensures cycle { (quota : ℕ → ℕ) (n : ℕ) → IsInCycle Q.rules quota n self.old.run self.old.mover (P.sent port.old) (P.got port.old)
-            → IsInCycle Q.rules quota (cycle_of_turn n self.old.mover) self.new.run self.new.mover (P.sent port.new) (P.got port.new) }
+        ensures cycle { (quota : ℕ → ℕ) (n : ℕ) → IsInCycle Q.rules quota n self.old.run self.old.mover
+            (P.sent port.old) (P.got port.old)
+            → IsInCycle Q.rules quota (cycle_of_turn n self.old.mover) self.new.run self.new.mover (P.sent port.new)
+            (P.got port.new) }
         ensures onward { TurnsOnward self.old.mover self.new.mover }
         ensures awaits { IsOk result → AwaitsSome self.new.mover }
 
         // What it leaves in the inboxes, and unpushed; and what outside keeps a rank that moved no parcel, or that waits
         // within a round.
-        ensures leaves { Leaves Q.rules CAP self.old.run self.new.run self.old.mover self.new.mover (P.sent port.old) (P.got port.old) (P.got port.new) }
+        ensures leaves { Leaves Q.rules CAP self.old.run self.new.run self.old.mover self.new.mover (P.sent port.old)
+            (P.got port.old) (P.got port.new) }
         ensures waits { OnOk result (Waits Q.rules self.old.run self.old.mover self.new.mover
-            (P.sent port.old) (P.got port.old) (P.sent port.new) (P.got port.new) (P.crowded port.new) (P.idle port.new)) }
+            (P.sent port.old) (P.got port.old) (P.sent port.new) (P.got port.new) (P.crowded port.new)
+            (P.idle port.new)) }
     {
         steps.tick();
         self.mover.turn(&mut self.run, port)
@@ -181,22 +193,31 @@ impl<Q: Program, const CAP: usize, const HOPS: usize> Node<Q, CAP, HOPS> {
         ensures unread { SameUnread self.old.mover self.new.mover }
 
         // After a round's work come its votes.
-        ensures votes { is_voting self.old.run.sends ≡ false → (result ≡ Ok true) × ((h : ℕ → Q) (sent got : Logs) → IsNode Q.rules h self.old sent got → IsNode Q.rules h self.new sent got) }
+        ensures votes { is_voting self.old.run.sends ≡ false → (result ≡ Ok true)
+            × ((h : ℕ → Q) (sent got : Logs) → IsNode Q.rules h self.old sent got
+            → IsNode Q.rules h self.new sent got) }
 
         // After the votes comes the next round, exactly where the program goes on; its state is the one with memory.
-        ensures work { is_voting self.old.run.sends ≡ true → result ≡ Ok true → (h : ℕ → Q) (sent got : Logs) → IsNode Q.rules h self.old sent got
-            → IsNode Q.rules (extended h (self.old.run.round + 1) (Q.rules.ended self.old.run.prog self.old.run.sum)) self.new sent got }
+        ensures work { is_voting self.old.run.sends ≡ true → result ≡ Ok true → (h : ℕ → Q) (sent got : Logs)
+            → IsNode Q.rules h self.old sent got
+            → IsNode Q.rules (extended h (self.old.run.round + 1) (Q.rules.ended self.old.run.prog self.old.run.sum))
+            self.new sent got }
         ensures stays { result ≡ Ok false → self.new.mover ≡ self.old.mover }
-        ensures stopped { result ≡ Ok false → (h : ℕ → Q) (sent got : Logs) → IsNode Q.rules h self.old sent got → HasStopped Q.rules h self.new sent got }
+        ensures stopped { result ≡ Ok false → (h : ℕ → Q) (sent got : Logs) → IsNode Q.rules h self.old sent got
+            → HasStopped Q.rules h self.new sent got }
 
         // An exstack begins the next epoch in cycle 0, and keeps pace with what its rank has to send in it.
         ensures starts { result ≡ Ok true → IsStarting self.new.mover }
-        ensures cycle { result ≡ Ok true → (quota : ℕ → ℕ) (n : ℕ) (sent got : Logs) → IsInCycle Q.rules quota n self.old.run self.old.mover sent got
-            → length (to_send Q.rules self.new.run.prog self.new.run.sends) ≤ quota (epoch_in self.new.mover) → IsInCycle Q.rules quota 0 self.new.run self.new.mover sent got }
+        ensures cycle { result ≡ Ok true → (quota : ℕ → ℕ) (n : ℕ) (sent got : Logs)
+            → IsInCycle Q.rules quota n self.old.run self.old.mover sent got
+            → length (to_send Q.rules self.new.run.prog self.new.run.sends) ≤ quota (epoch_in self.new.mover)
+            → IsInCycle Q.rules quota 0 self.new.run self.new.mover sent got }
 
         // No memory: never on the way to an epoch that follows, and always where the sum says that some rank had none.
-        ensures no_memory { IsErr result → (is_voting self.old.run.sends ≡ true) × ((self.old.run.spoiled ≡ true) ⊎ (self.old.run.sum ≡ 2 ^ 64 - 1)
-            ⊎ (Q.rules.goes_on (Q.rules.shape self.old.run.prog) (Q.rules.round self.old.run.prog) self.old.run.sum ≡ false)) }
+        ensures no_memory { IsErr result → (is_voting self.old.run.sends ≡ true)
+            × ((self.old.run.spoiled ≡ true) ⊎ (self.old.run.sum ≡ 2 ^ 64 - 1)
+            ⊎ (Q.rules.goes_on (Q.rules.shape self.old.run.prog) (Q.rules.round self.old.run.prog) self.old.run.sum
+            ≡ false)) }
         ensures saturated { is_voting self.old.run.sends ≡ true → self.old.run.sum ≡ 2 ^ 64 - 1 → IsErr result }
     {
         if !votes_now(self.run.sends) {

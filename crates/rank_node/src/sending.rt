@@ -32,9 +32,12 @@ pub(crate) fn push_all<Q: Program, const CAP: usize, const HOPS: usize>(
     ensures same { conveyor.new ≡ record conveyor.old { outs = conveyor.new.outs; pulled = conveyor.new.pulled } }
     ensures kept { KeepsAgreement conveyor.old conveyor.new }
     ensures pushed { (sent got : Logs) → AgreesWith conveyor.old sent got
-        → PushedOn (to_send Q.rules prog.now.value sends) (ranks conveyor.old.dims) from result (part_of (buffers_of conveyor.old) sent got) (part_of (buffers_of conveyor.new) sent got) }
-    ensures refused { (to : ℕ) (x : Item) → slice_get (to_send Q.rules prog.now.value sends) result ≡ Some (to, x) → standing_toward conveyor.new to ≡ CAP }
-    ensures receiver { (to : ℕ) (x : Item) → slice_get (to_send Q.rules prog.now.value sends) result ≡ Some (to, x) → to < ranks conveyor.new.dims }
+        → PushedOn (to_send Q.rules prog.now.value sends) (ranks conveyor.old.dims) from result
+        (part_of (buffers_of conveyor.old) sent got) (part_of (buffers_of conveyor.new) sent got) }
+    ensures refused { (to : ℕ) (x : Item) → slice_get (to_send Q.rules prog.now.value sends) result ≡ Some (to, x)
+        → standing_toward conveyor.new to ≡ CAP }
+    ensures receiver { (to : ℕ) (x : Item) → slice_get (to_send Q.rules prog.now.value sends) result ≡ Some (to, x)
+        → to < ranks conveyor.new.dims }
 {
     let mut out = OnConveyor { conveyor };
     push_each(prog, sends, &mut out, from)
@@ -53,7 +56,8 @@ fn push_each<Q: Program, const CAP: usize, const HOPS: usize>(
     requires all_pushed { out.old.conveyor.now.done ≡ true → from ≡ length (to_send Q.rules prog.now.value sends) }
     ensures forward { from ≤ result }
     ensures next { result ≤ length (to_send Q.rules prog.now.value sends) }
-    ensures handed { Handed CAP (to_send Q.rules prog.now.value sends) out.old.conveyor.now out.new.conveyor.now from result }
+    ensures handed { Handed CAP (to_send Q.rules prog.now.value sends) out.old.conveyor.now out.new.conveyor.now from
+        result }
     ensures same_conveyor { out.new.conveyor.ghost_name ≡ out.old.conveyor.ghost_name }
 {
     send_each(prog, sends, from, out)

@@ -42,7 +42,8 @@ pub(crate) fn send_each<Q: Program, D: Departures>(
     requires may { All (λ e. D.may out.old e.0) (drop from (to_send Q.rules prog.now.value sends)) }
     ensures forward { from ≤ result }
     ensures low { result ≤ length (to_send Q.rules prog.now.value sends) }
-    ensures hands { HandsOver D.hands (drop from (to_send Q.rules prog.now.value sends)) (result - from) out.old out.new }
+    ensures hands { HandsOver D.hands (drop from (to_send Q.rules prog.now.value sends))
+        (result - from) out.old out.new }
 {
     match sends {
         Sends::Emissions => prog.emit_each(from, out),

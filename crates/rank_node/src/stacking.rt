@@ -38,12 +38,17 @@ pub(crate) fn turn_exstack<const CAP: usize, Q: Program, P: Port<CAP>>(
 ) -> Result<Turn, NoMemory>
     requires same_dims { P.dims port.old ≡ dims_of exstack.old }
     requires same_rank { P.rank port.old ≡ exstack.old.rank }
-    requires node { (h : ℕ → Q) × IsNode Q.rules h (record { run = running run.old; mover = Stacking CAP exstack.old }) (P.sent port.old) (P.got port.old) }
-    ensures moves { AfterMoves Q.rules CAP (record { run = running run.old; mover = Stacking CAP exstack.old }) (record { run = running run.new; mover = Stacking CAP exstack.new })
+    requires node { (h : ℕ → Q) × IsNode Q.rules h (record { run = running run.old; mover = Stacking CAP exstack.old })
+        (P.sent port.old) (P.got port.old) }
+    ensures moves { AfterMoves Q.rules CAP (record { run = running run.old; mover = Stacking CAP exstack.old })
+        (record { run = running run.new; mover = Stacking CAP exstack.new })
         (P.sent port.old) (P.got port.old) (P.sent port.new) (P.got port.new) }
-    ensures leaves { Leaves Q.rules CAP (running run.old) (running run.new) (Stacking CAP exstack.old) (Stacking CAP exstack.new) (P.sent port.old) (P.got port.old) (P.got port.new) }
-    ensures cycle { (quota : ℕ → ℕ) (n : ℕ) → InCycle Q.rules quota n (running run.old) exstack.old (P.sent port.old) (P.got port.old)
-        → InCycle Q.rules quota (cycle_after n exstack.old.stage) (running run.new) exstack.new (P.sent port.new) (P.got port.new) }
+    ensures leaves { Leaves Q.rules CAP (running run.old) (running run.new) (Stacking CAP exstack.old)
+        (Stacking CAP exstack.new) (P.sent port.old) (P.got port.old) (P.got port.new) }
+    ensures cycle { (quota : ℕ → ℕ) (n : ℕ) → InCycle Q.rules quota n (running run.old) exstack.old (P.sent port.old)
+        (P.got port.old)
+        → InCycle Q.rules quota (cycle_after n exstack.old.stage) (running run.new) exstack.new (P.sent port.new)
+        (P.got port.new) }
     ensures onward { IsOnward exstack.old.stage exstack.new.stage }
     ensures awaits { IsOk result → Awaits exstack.new }
     ensures waits { OnOk result (Waits Q.rules (running run.old) (Stacking CAP exstack.old) (Stacking CAP exstack.new)
@@ -76,11 +81,15 @@ fn proceed<const CAP: usize, Q: Program, P: Port<CAP>>(
     requires may { may_proceed exstack.old.stage ≡ true }
     requires same_dims { P.dims port.old ≡ dims_of exstack.old }
     requires same_rank { P.rank port.old ≡ exstack.old.rank }
-    requires node { (h : ℕ → Q) × IsNode Q.rules h (record { run = running run.old; mover = Stacking CAP exstack.old }) (P.sent port.old) (P.got port.old) }
-    ensures moves { AfterMoves Q.rules CAP (record { run = running run.old; mover = Stacking CAP exstack.old }) (record { run = running run.new; mover = Stacking CAP exstack.new })
+    requires node { (h : ℕ → Q) × IsNode Q.rules h (record { run = running run.old; mover = Stacking CAP exstack.old })
+        (P.sent port.old) (P.got port.old) }
+    ensures moves { AfterMoves Q.rules CAP (record { run = running run.old; mover = Stacking CAP exstack.old })
+        (record { run = running run.new; mover = Stacking CAP exstack.new })
         (P.sent port.old) (P.got port.old) (P.sent port.new) (P.got port.new) }
-    ensures cycle { (quota : ℕ → ℕ) (n : ℕ) → InCycle Q.rules quota n (running run.old) exstack.old (P.sent port.old) (P.got port.old)
-        → InCycle Q.rules quota (cycle_after n exstack.old.stage) (running run.new) exstack.new (P.sent port.new) (P.got port.new) }
+    ensures cycle { (quota : ℕ → ℕ) (n : ℕ) → InCycle Q.rules quota n (running run.old) exstack.old (P.sent port.old)
+        (P.got port.old)
+        → InCycle Q.rules quota (cycle_after n exstack.old.stage) (running run.new) exstack.new (P.sent port.new)
+        (P.got port.new) }
     ensures onward { IsOnward exstack.old.stage exstack.new.stage }
     ensures awaits { IsOk result → Awaits exstack.new }
     ensures next { run.new.next ≡ run.old.next }
@@ -116,10 +125,13 @@ fn exchange<const CAP: usize, Q: Program, P: Port<CAP>>(
     requires may { may_exchange exstack.old.stage ≡ true }
     requires same_dims { P.dims port.old ≡ dims_of exstack.old }
     requires same_rank { P.rank port.old ≡ exstack.old.rank }
-    requires node { (h : ℕ → Q) × IsNode Q.rules h (record { run = running run.old; mover = Stacking CAP exstack.old }) (P.sent port.old) (P.got port.old) }
-    ensures moves { AfterMoves Q.rules CAP (record { run = running run.old; mover = Stacking CAP exstack.old }) (record { run = running run.new; mover = Stacking CAP exstack.new })
+    requires node { (h : ℕ → Q) × IsNode Q.rules h (record { run = running run.old; mover = Stacking CAP exstack.old })
+        (P.sent port.old) (P.got port.old) }
+    ensures moves { AfterMoves Q.rules CAP (record { run = running run.old; mover = Stacking CAP exstack.old })
+        (record { run = running run.new; mover = Stacking CAP exstack.new })
         (P.sent port.old) (P.got port.old) (P.sent port.new) (P.got port.new) }
-    ensures cycle { (quota : ℕ → ℕ) (n : ℕ) → InExchange Q.rules quota n (running run.old) exstack.old (P.sent port.old) (P.got port.old)
+    ensures cycle { (quota : ℕ → ℕ) (n : ℕ) → InExchange Q.rules quota n (running run.old) exstack.old (P.sent port.old)
+        (P.got port.old)
         → InCycle Q.rules quota n (running run.new) exstack.new (P.sent port.new) (P.got port.new) }
     ensures onward { IsOnward exstack.old.stage exstack.new.stage }
     ensures awaits { IsOk result → Awaits exstack.new }
@@ -145,8 +157,11 @@ fn exchange<const CAP: usize, Q: Program, P: Port<CAP>>(
 /// Pushes what is left to send, in order, until a push is refused or all is pushed.
 fn fill<const CAP: usize, Q: Program>(run: &mut Run<Q>, exstack: &mut Exstack<CAP>)
     requires filling { exstack.old.stage ≡ Stage.Filling }
-    requires node { (h : ℕ → Q) × (sent : Logs) × (got : Logs) × IsNode Q.rules h (record { run = running run.old; mover = Stacking CAP exstack.old }) sent got }
-    ensures cycle { (quota : ℕ → ℕ) (n : ℕ) (sent got : Logs) → InCycle Q.rules quota n (running run.old) exstack.old sent got → InExchange Q.rules quota n (running run.new) exstack.new sent got }
+    requires node { (h : ℕ → Q) × (sent : Logs) × (got : Logs)
+        × IsNode Q.rules h (record { run = running run.old; mover = Stacking CAP exstack.old }) sent got }
+    ensures cycle { (quota : ℕ → ℕ) (n : ℕ) (sent got : Logs)
+        → InCycle Q.rules quota n (running run.old) exstack.old sent got
+        → InExchange Q.rules quota n (running run.new) exstack.new sent got }
     ensures filled { AfterFill Q.rules CAP (running run.old) (running run.new) exstack.old exstack.new }
     ensures same { exstack.new ≡ record exstack.old { outs = exstack.new.outs; popped = exstack.new.popped } }
 {
@@ -183,7 +198,8 @@ fn push_each<const CAP: usize, Q: Program>(
     requires receivers { All (λ e. e.0 < ranks (dims_of out.old.exstack.now)) (to_send Q.rules prog.now.value sends) }
     requires filling { out.old.exstack.now.stage ≡ Stage.Filling }
     requires all_pushed { out.old.exstack.now.done ≡ true → from ≡ length (to_send Q.rules prog.now.value sends) }
-    ensures fills { Fills CAP (to_send Q.rules prog.now.value sends) out.old.exstack.now out.new.exstack.now from result }
+    ensures fills { Fills CAP (to_send Q.rules prog.now.value sends) out.old.exstack.now out.new.exstack.now from
+        result }
     ensures same_exstack { out.new.exstack.ghost_name ≡ out.old.exstack.ghost_name }
 {
     send_each(prog, sends, from, out)
@@ -196,7 +212,8 @@ fn pop_all<const CAP: usize, Q: Program>(
     voting: bool,
     taken: Taken,
 ) -> Taken
-    ensures pops { Pops Q.rules voting exstack.old exstack.new prog.old.value prog.new.value taken.sum result.sum taken.spoiled result.spoiled }
+    ensures pops { Pops Q.rules voting exstack.old exstack.new prog.old.value prog.new.value taken.sum result.sum
+        taken.spoiled result.spoiled }
     ensures read { unread_of exstack.new ≡ 0 }
 {
     let mut taken = taken;
@@ -215,7 +232,8 @@ fn pop_batch<const CAP: usize, Q: Program>(
     taken: Taken,
 ) -> Taken
     requires lowest { lowest_unread exstack.old ≡ Some sender }
-    ensures pops { Pops Q.rules voting exstack.old exstack.new prog.old.value prog.new.value taken.sum result.sum taken.spoiled result.spoiled }
+    ensures pops { Pops Q.rules voting exstack.old exstack.new prog.old.value prog.new.value taken.sum result.sum
+        taken.spoiled result.spoiled }
     ensures less { unread_of exstack.new < unread_of exstack.old }
 {
     exstack.known();

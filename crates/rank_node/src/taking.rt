@@ -51,9 +51,12 @@ pub(crate) fn take_all<Q: Program, const CAP: usize, const HOPS: usize>(
     ensures kept { KeepsAgreement conveyor.old conveyor.new }
     ensures emissions { Q.rules.emissions prog.new.value ≡ Q.rules.emissions prog.old.value }
     ensures read { AllRead conveyor.new }
-    ensures taken { (h : ℕ → Q) (rank round next : ℕ) (sends : Sends) (sent got : Logs) → is_voting sends ≡ voting → AgreesWith conveyor.old sent got
-        → HasTaken Q.rules (ranks conveyor.old.dims) rank h round sends next prog.old.value taken.sum taken.spoiled (part_of (buffers_of conveyor.old) sent got)
-        → HasTaken Q.rules (ranks conveyor.old.dims) rank h round sends next prog.new.value result.sum result.spoiled (part_of (buffers_of conveyor.new) sent got) }
+    ensures taken { (h : ℕ → Q) (rank round next : ℕ) (sends : Sends) (sent got : Logs) → is_voting sends ≡ voting
+        → AgreesWith conveyor.old sent got
+        → HasTaken Q.rules (ranks conveyor.old.dims) rank h round sends next prog.old.value taken.sum taken.spoiled
+        (part_of (buffers_of conveyor.old) sent got)
+        → HasTaken Q.rules (ranks conveyor.old.dims) rank h round sends next prog.new.value result.sum result.spoiled
+        (part_of (buffers_of conveyor.new) sent got) }
 {
     let mut taken = taken;
     while let Some(number) = conveyor.unread() {
@@ -72,7 +75,8 @@ fn take_batch<Q: Program, const CAP: usize, const HOPS: usize>(
 ) -> Taken
     requires begun { conveyor.old.phase ≢ Phase.Dormant }
     requires lowest { lowest_unread conveyor.old ≡ Some number }
-    ensures takes { Takes Q.rules voting conveyor.old conveyor.new prog.old.value prog.new.value taken.sum result.sum taken.spoiled result.spoiled }
+    ensures takes { Takes Q.rules voting conveyor.old conveyor.new prog.old.value prog.new.value taken.sum result.sum
+        taken.spoiled result.spoiled }
     ensures less { waiting conveyor.new.ins < waiting conveyor.old.ins }
 {
     let taken = take_unread(prog, conveyor, number, voting, taken);
@@ -89,9 +93,11 @@ fn take_unread<Q: Program, const CAP: usize, const HOPS: usize>(
     taken: Taken,
 ) -> Taken
     requires lowest { lowest_unread conveyor.now ≡ Some number }
-    ensures takes { TakesEach Q.rules voting prog.old.value prog.new.value (came_on conveyor.now number) taken.sum result.sum taken.spoiled result.spoiled }
+    ensures takes { TakesEach Q.rules voting prog.old.value prog.new.value
+        (came_on conveyor.now number) taken.sum result.sum taken.spoiled result.spoiled }
     ensures some { 0 < length (came_on conveyor.now number) }
-    ensures gives { (i : ℕ) (e : ℕ × Item) → slice_get (came_on conveyor.now number) i ≡ Some e → GivesNext (pulls i conveyor.now) e.0 e.1 }
+    ensures gives { (i : ℕ) (e : ℕ × Item) → slice_get (came_on conveyor.now number) i ≡ Some e
+        → GivesNext (pulls i conveyor.now) e.0 e.1 }
 {
     let routes = conveyor.routes();
     let entries = conveyor.batch(number);
@@ -116,7 +122,8 @@ pub(crate) fn take_each<Q: Program, I: Arrivals>(
     came: I,
     taken: Taken,
 ) -> Taken
-    ensures { TakesEach Q.rules voting prog.old.value prog.new.value (I.items came) taken.sum result.sum taken.spoiled result.spoiled }
+    ensures { TakesEach Q.rules voting prog.old.value prog.new.value
+        (I.items came) taken.sum result.sum taken.spoiled result.spoiled }
 {
     // The contract of `rank` tells that the program's laws hold of it.
     let _lawful = prog.rank();

@@ -140,7 +140,9 @@ impl Program for Ask {
 /// Appends a query to its sender's list.
 fn note(queries: &mut Vec<Vec<Item>>, from: usize, item: Item) -> Result<(), NoMemory>
     requires { from < length queries.old.items }
-    ensures { map (λ l. l.items) queries.new.items ≡ (if is_ok result then noted (map (λ l. l.items) queries.old.items) from item else map (λ l. l.items) queries.old.items) }
+    ensures { map (λ l. l.items) queries.new.items
+        ≡ (if is_ok result then noted (map (λ l. l.items) queries.old.items) from item else map
+        (λ l. l.items) queries.old.items) }
 {
     queries[from].push(item).map_err(|_| NoMemory)
 }
@@ -164,7 +166,8 @@ fn next_outgoing(
 ) -> Result<Vec<(u32, Item)>, NoMemory>
     requires senders { length queries.now < 2 ^ 32 }
     requires asked { All (All (IsQuery (length table.now))) (map (λ l. l.items) queries.now) }
-    ensures { IfOk result (λ v. v.items ≡ (if asked then replies_from table.now 0 (map (λ l. l.items) queries.now) else [])) }
+    ensures { IfOk result (λ v. v.items
+        ≡ (if asked then replies_from table.now 0 (map (λ l. l.items) queries.now) else [])) }
 {
     if asked {
         replies(alloc, table, queries)

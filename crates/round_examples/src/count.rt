@@ -37,7 +37,13 @@ impl Count {
         requires rank { rank < ranks }
         requires columns { length counts.items < 2 ^ 32 }
         requires named { All (λ j. j < length counts.items) names.items }
-        ensures { result ≡ record { rank = rank; ranks = ranks; round = 0; names = names.items; counts = counts.items } }
+        ensures { result ≡ record {
+          rank = rank;
+          ranks = ranks;
+          round = 0;
+          names = names.items;
+          counts = counts.items;
+        } }
     {
         Count {
             rank,

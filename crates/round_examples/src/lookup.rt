@@ -42,7 +42,13 @@ impl Lookup {
         requires values { All (λ v. v < 2 ^ 64) table.items }
         requires asks { All (λ q. (q.0 < ranks) × (q.1 < 2 ^ 64)) queries.items }
         requires replies { length heard.items ≡ length queries.items }
-        ensures { result ≡ record { rank = rank; ranks = ranks; table = table.items; queries = queries.items; heard = heard.items } }
+        ensures { result ≡ record {
+          rank = rank;
+          ranks = ranks;
+          table = table.items;
+          queries = queries.items;
+          heard = heard.items;
+        } }
     {
         Lookup {
             rank,

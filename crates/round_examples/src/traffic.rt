@@ -46,7 +46,15 @@ impl Traffic {
         requires rank { rank < ranks }
         requires items { length targets.items < 2 ^ 32 }
         requires aims { All (λ t. (t.0 < ranks) × (t.1 < 1024)) targets.items }
-        ensures { result ≡ record { rank = rank; ranks = ranks; round = 0; rounds = rounds; targets = targets.items; counts = counts.items; check = 0 } }
+        ensures { result ≡ record {
+          rank = rank;
+          ranks = ranks;
+          round = 0;
+          rounds = rounds;
+          targets = targets.items;
+          counts = counts.items;
+          check = 0;
+        } }
     {
         Traffic {
             rank,

@@ -19,5 +19,6 @@ pub trait Departures {
         requires { may self.old to }
         ensures { hands self.old to item result self.new };
 
-    ghost stays: { (s t : Self) (to other : ℕ) (x : Item) (accepted : Bool) → hands s to x accepted t → may s other → may t other };
+    ghost stays: { (s t : Self) (to other : ℕ) (x : Item) (accepted : Bool) → hands s to x accepted t → may s other
+        → may t other };
 }

@@ -127,7 +127,8 @@ pub trait Program: Drop {
     /// before.
     fn end_round(&mut self, votes: u64) -> Result<bool, NoMemory>
         ensures ended { OnOk result (self.new ≡ rules.ended self.old votes) }
-        ensures answer { IfOk result (λ more. more ≡ rules.goes_on (rules.shape self.old) (rules.round self.old) votes) }
+        ensures answer { IfOk result (λ more. more ≡ rules.goes_on (rules.shape self.old)
+            (rules.round self.old) votes) }
         ensures refused { OnErr result (rules.emissions self.new ≡ rules.emissions self.old) };
 
     ghost laws: { Laws rules };

@@ -25,7 +25,8 @@ pub fn every_run<Q: Program>()
 /// One program as a case of another: where each state of `A` has its state of `B`, which does the same, a run of `B` that
 /// begins with such states is the run of `A`. So one type can stand for several applications, and one drive run them all.
 pub fn same_runs<A: Program, B: Program>()
-    ensures { (inject : A → B) (wrap : List ℕ → List ℕ) → Injects A.rules B.rules inject wrap → SameRuns A.rules B.rules inject wrap }
+    ensures { (inject : A → B) (wrap : List ℕ → List ℕ) → Injects A.rules B.rules inject wrap
+        → SameRuns A.rules B.rules inject wrap }
 {}
 
 /// Either of two programs runs each as it is: the left one, and the right one, is a case of both.
@@ -36,6 +37,7 @@ pub fn either_runs<A: Program, B: Program>()
 
 /// A case of a case is a case: so a program is one of a tree of `Either`s.
 pub fn case_of_case<A: Program, B: Program, C: Program>()
-    ensures { (i : A → B) (w : List ℕ → List ℕ) (j : B → C) (v : List ℕ → List ℕ) → Injects A.rules B.rules i w → Injects B.rules C.rules j v
+    ensures { (i : A → B) (w : List ℕ → List ℕ) (j : B → C) (v : List ℕ → List ℕ) → Injects A.rules B.rules i w
+        → Injects B.rules C.rules j v
         → Injects A.rules C.rules (λ s. j (i s)) (λ shape. v (w shape)) }
 {}

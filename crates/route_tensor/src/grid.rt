@@ -47,7 +47,12 @@ impl Model for Grid {
 
     ghost invariant = { λ g. IsKept g.hops g.n1 g.n2 g.n3 };
 
-    ghost inverse = { λ dims. record { hops = length dims; n1 = slice_index_or dims 0 1; n2 = slice_index_or dims 1 1; n3 = slice_index_or dims 2 1 } };
+    ghost inverse = { λ dims. record {
+      hops = length dims;
+      n1 = slice_index_or dims 0 1;
+      n2 = slice_index_or dims 1 1;
+      n3 = slice_index_or dims 2 1;
+    } };
 
     ghost inverse_ok = { λ a h. inverse_of_kept a h };
 }
@@ -125,7 +130,8 @@ impl Grid {
         requires first { 1 ≤ h }
         requires last { h ≤ length self.now }
         ensures value { result ≡ coord self.now r h }
-        ensures number { r ≡ coord self.now r 1 + dim self.now 1 * (coord self.now r 2 + dim self.now 2 * coord self.now r 3) }
+        ensures number { r ≡ coord self.now r 1 + dim self.now 1 *
+            (coord self.now r 2 + dim self.now 2 * coord self.now r 3) }
         ensures below { result < dim self.now h }
         ensures small { result < 64 }
         ensures grid { IsGrid self.now }

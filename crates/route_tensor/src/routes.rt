@@ -97,7 +97,8 @@ impl Model for Routes {
 
     ghost view = { λ t. record { dims = t.grid; rank = t.rank } };
 
-    ghost invariant = { λ t. IsTable t.grid t.rank t.first_dim t.firsts.items t.neighbours.items t.numbers.items × IsStamped t.grid t.rank t.stamps.items };
+    ghost invariant = { λ t. IsTable t.grid t.rank t.first_dim t.firsts.items t.neighbours.items t.numbers.items
+        × IsStamped t.grid t.rank t.stamps.items };
 }
 
 impl Routes {
@@ -184,7 +185,8 @@ impl Routes {
         requires neighbour { i < sum self.now.dims }
         requires last { hop_to self.now.dims i ≡ length self.now.dims }
         requires fair { IsFair self.now.dims (length self.now.dims) tag }
-        ensures value { result ≡ sender_of self.now.dims tag (length self.now.dims) (neighbour self.now.dims self.now.rank i) }
+        ensures value { result ≡ sender_of self.now.dims tag (length self.now.dims)
+            (neighbour self.now.dims self.now.rank i) }
         ensures rank { result < ranks self.now.dims }
     {
         self.neighbours[i as usize].high + u32::from(tag.d1) + self.first_dim * u32::from(tag.d2)
@@ -274,8 +276,10 @@ fn numbers(
     requires all { length neighbours.now ≡ sum grid.now }
     requires each { EachAt (λ i n. n ≡ about grid.now rank i) neighbours.now }
     ensures all { IfOk result (λ numbers. length numbers.items ≡ links grid.now) }
-    ensures to { IfOk result (λ numbers. (i : ℕ) (d : ℕ) → i < sum grid.now → slice_index_or numbers.items (link_to grid.now rank i) d ≡ i) }
-    ensures from { IfOk result (λ numbers. (i : ℕ) (d : ℕ) → i < sum grid.now → slice_index_or numbers.items (link_from grid.now rank i) d ≡ i) }
+    ensures to { IfOk result (λ numbers. (i : ℕ) (d : ℕ) → i < sum grid.now
+        → slice_index_or numbers.items (link_to grid.now rank i) d ≡ i) }
+    ensures from { IfOk result (λ numbers. (i : ℕ) (d : ℕ) → i < sum grid.now
+        → slice_index_or numbers.items (link_from grid.now rank i) d ≡ i) }
 {
     let mut numbers = vec![in alloc; 0u8; grid.links() as usize]?;
     for i in 0..neighbours.len() {

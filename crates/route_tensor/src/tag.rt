@@ -36,7 +36,8 @@ impl Grid {
         requires fair { IsFair self.now h tag }
         ensures value { result ≡ next_tag self.now tag h a }
         ensures fair { IsFair self.now (h + 1) result }
-        ensures route { (s d : ℕ) → IsOnRoute self.now s d h a b → tag ≡ tag_at self.now s d h → result ≡ tag_at self.now s d (h + 1) }
+        ensures route { (s d : ℕ) → IsOnRoute self.now s d h a b → tag ≡ tag_at self.now s d h
+            → result ≡ tag_at self.now s d (h + 1) }
     {
         let done = self.coord(a, h) as u8;
         if h == 1 {
@@ -62,7 +63,8 @@ impl Grid {
         ensures destination { result.1 ≡ destination_of self.now tag h b }
         ensures route { IsOnRoute self.now result.0 result.1 h a b }
         ensures tag { tag ≡ tag_at self.now result.0 result.1 h }
-        ensures each { (s d : ℕ) → IsOnRoute self.now s d h a b → tag ≡ tag_at self.now s d h → (result.0 ≡ s) × (result.1 ≡ d) }
+        ensures each { (s d : ℕ) → IsOnRoute self.now s d h a b → tag ≡ tag_at self.now s d h → (result.0 ≡ s)
+            × (result.1 ≡ d) }
     {
         let rank = self.tag_rank(tag, h);
         (self.place(a, rank, h - 1), self.place(rank, b, h))

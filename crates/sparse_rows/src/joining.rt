@@ -30,7 +30,8 @@ pub fn join(
     requires wide { cols ≤ 16_384 }
     requires inside { All (λ cells. All (λ t. IsEntry (sparse rows cols kind []) t) cells) rows_of.now }
     ensures whole { IfOk result (λ m. m ≡ sparse rows cols kind (together rows_of.now)) }
-    ensures values { IfOk result (λ m. (i j : ℕ) → at m i j ≡ value_at (slice_index_or rows_of.now (i % length rows_of.now) []) i j) }
+    ensures values { IfOk result (λ m. (i j : ℕ)
+        → at m i j ≡ value_at (slice_index_or rows_of.now (i % length rows_of.now) []) i j) }
     ensures ordered { IfOk result (λ m. InOrder m.entries) }
 {
     let m = Matrix::of_all_cells(alloc, rows, cols, kind, rows_of)?;

@@ -36,22 +36,30 @@ fn hear_if_due<const CAP: usize>(
     requires seat { IsManned top.now.key place.old.me }
     requires link { (link < links top.now.key.dims) × (reader_at top.now.key.dims link ≡ place.old.me.0.pick) }
     requires long { length (own_logs place.old.me.0).ins ≡ links top.now.key.dims }
-    requires end { IsInEnd top.now.key.slots (in_of (own_logs place.old.me.0) link) end.now.taken end.now.place end.now.waiting end.now.look_ins end.now.noted }
+    requires end { IsInEnd top.now.key.slots (in_of (own_logs place.old.me.0) link) end.now.taken end.now.place
+        end.now.waiting end.now.look_ins end.now.noted }
     requires wire { IsWire top.now.key.dims link wire.now.bell wire.now.mask wire.now.hop }
-    requires ear { IsHeard top.now.key place.old.me.0.pick (hop_at top.now.key.dims link) (own_logs place.old.me.0) ear.old.marks ear.old.hears }
+    requires ear { IsHeard top.now.key place.old.me.0.pick (hop_at top.now.key.dims link)
+        (own_logs place.old.me.0) ear.old.marks ear.old.hears }
     ensures table { place.new.table_id ≡ place.old.table_id }
     ensures seat { IsManned top.now.key place.new.me }
-    ensures end { IsInEnd top.now.key.slots (in_of (own_logs place.new.me.0) link) end.now.taken end.now.place end.now.waiting end.now.look_ins end.now.noted }
-    ensures ear { IsHeard top.now.key place.old.me.0.pick (hop_at top.now.key.dims link) (own_logs place.new.me.0) ear.new.marks ear.new.hears }
+    ensures end { IsInEnd top.now.key.slots (in_of (own_logs place.new.me.0) link) end.now.taken end.now.place
+        end.now.waiting end.now.look_ins end.now.noted }
+    ensures ear { IsHeard top.now.key place.old.me.0.pick (hop_at top.now.key.dims link)
+        (own_logs place.new.me.0) ear.new.marks ear.new.hears }
     ensures here { place.new.me.0 ≡ with_logs place.old.me.0 (own_logs place.new.me.0) }
     ensures others { ElseKept top.now.key place.old.me.0.pick link (own_logs place.old.me.0) (own_logs place.new.me.0) }
     ensures seen { (in_of (own_logs place.new.me.0) link).seen ≡ (in_of (own_logs place.old.me.0) link).seen }
     ensures taken { (in_of (own_logs place.new.me.0) link).taken ≡ (in_of (own_logs place.old.me.0) link).taken }
-    ensures look_ins { (in_of (own_logs place.new.me.0) link).look_ins ≡ (in_of (own_logs place.old.me.0) link).look_ins }
+    ensures look_ins { (in_of (own_logs place.new.me.0) link).look_ins
+        ≡ (in_of (own_logs place.old.me.0) link).look_ins }
     ensures more { (in_of (own_logs place.old.me.0) link).hears ≤ (in_of (own_logs place.new.me.0) link).hears }
-    ensures due { (in_of (own_logs place.new.me.0) link).marked ≡ false → Rose end.now.noted (counted (listens (in_of (own_logs place.new.me.0) link))) }
-    ensures heard { (m : ℕ) → m < links top.now.key.dims → reader_at top.now.key.dims m ≡ place.old.me.0.pick → hop_at top.now.key.dims m ≡ hop_at top.now.key.dims link
-        → HeardWhere (is_due end.now.noted (in_of (own_logs place.old.me.0) link)) (in_of (own_logs place.old.me.0) m) (in_of (own_logs place.new.me.0) m) }
+    ensures due { (in_of (own_logs place.new.me.0) link).marked ≡ false
+        → Rose end.now.noted (counted (listens (in_of (own_logs place.new.me.0) link))) }
+    ensures heard { (m : ℕ) → m < links top.now.key.dims → reader_at top.now.key.dims m ≡ place.old.me.0.pick
+        → hop_at top.now.key.dims m ≡ hop_at top.now.key.dims link
+        → HeardWhere (is_due end.now.noted (in_of (own_logs place.old.me.0) link)) (in_of (own_logs place.old.me.0) m)
+        (in_of (own_logs place.new.me.0) m) }
 {
     if ear.marks & wire.mask == 0 && ear.hears.saturating_add(end.look_ins) <= end.noted {
         ear.marks |= hear(top, place, link, wire.bell);
@@ -72,24 +80,30 @@ fn look_if_marked<const CAP: usize>(
     requires seat { IsManned top.now.key place.old.me }
     requires link { (link < links top.now.key.dims) × (reader_at top.now.key.dims link ≡ place.old.me.0.pick) }
     requires long { length (own_logs place.old.me.0).ins ≡ links top.now.key.dims }
-    requires end { IsInEnd top.now.key.slots (in_of (own_logs place.old.me.0) link) end.old.taken end.old.place end.old.waiting end.old.look_ins end.old.noted }
+    requires end { IsInEnd top.now.key.slots (in_of (own_logs place.old.me.0) link) end.old.taken end.old.place
+        end.old.waiting end.old.look_ins end.old.noted }
     requires none { end.old.waiting ≡ 0 }
     requires wire { IsWire top.now.key.dims link wire.now.bell wire.now.mask wire.now.hop }
-    requires ear { IsHeard top.now.key place.old.me.0.pick (hop_at top.now.key.dims link) (own_logs place.old.me.0) ear.old.marks ear.old.hears }
+    requires ear { IsHeard top.now.key place.old.me.0.pick (hop_at top.now.key.dims link)
+        (own_logs place.old.me.0) ear.old.marks ear.old.hears }
     requires good { AreGood CAP top.now.key link (in_of (own_logs place.old.me.0) link) }
     ensures table { place.new.table_id ≡ place.old.table_id }
     ensures seat { IsManned top.now.key place.new.me }
-    ensures end { IsInEnd top.now.key.slots (in_of (own_logs place.new.me.0) link) end.new.taken end.new.place end.new.waiting end.new.look_ins end.new.noted }
-    ensures ear { IsHeard top.now.key place.old.me.0.pick (hop_at top.now.key.dims link) (own_logs place.new.me.0) ear.new.marks ear.new.hears }
+    ensures end { IsInEnd top.now.key.slots (in_of (own_logs place.new.me.0) link) end.new.taken end.new.place
+        end.new.waiting end.new.look_ins end.new.noted }
+    ensures ear { IsHeard top.now.key place.old.me.0.pick (hop_at top.now.key.dims link)
+        (own_logs place.new.me.0) ear.new.marks ear.new.hears }
     ensures good { AreGood CAP top.now.key link (in_of (own_logs place.new.me.0) link) }
     ensures here { place.new.me.0 ≡ with_logs place.old.me.0 (own_logs place.new.me.0) }
     ensures others { ElseKept top.now.key place.old.me.0.pick link (own_logs place.old.me.0) (own_logs place.new.me.0) }
-    ensures seen { take (length (in_of (own_logs place.old.me.0) link).seen) (in_of (own_logs place.new.me.0) link).seen ≡ (in_of (own_logs place.old.me.0) link).seen }
+    ensures seen { take (length (in_of (own_logs place.old.me.0) link).seen) (in_of (own_logs place.new.me.0) link).seen
+        ≡ (in_of (own_logs place.old.me.0) link).seen }
     ensures taken { (in_of (own_logs place.new.me.0) link).taken ≡ (in_of (own_logs place.old.me.0) link).taken }
     ensures noted { end.new.noted ≡ end.old.noted }
     ensures unmarked { (in_of (own_logs place.new.me.0) link).marked ≡ false }
     ensures more { listens (in_of (own_logs place.old.me.0) link) ≤ listens (in_of (own_logs place.new.me.0) link) }
-    ensures looked { own_logs place.new.me.0 ≡ with_in (own_logs place.old.me.0) link (looked_where_marked (in_of (own_logs place.new.me.0) link).seen (in_of (own_logs place.old.me.0) link)) }
+    ensures looked { own_logs place.new.me.0 ≡ with_in (own_logs place.old.me.0) link
+        (looked_where_marked (in_of (own_logs place.new.me.0) link).seen (in_of (own_logs place.old.me.0) link)) }
 {
     if ear.marks & wire.mask != 0 {
         let found = look_in(top, place, link);
@@ -113,29 +127,39 @@ fn find_parcel<const CAP: usize>(
     requires seat { IsManned top.now.key place.old.me }
     requires link { (link < links top.now.key.dims) × (reader_at top.now.key.dims link ≡ place.old.me.0.pick) }
     requires long { length (own_logs place.old.me.0).ins ≡ links top.now.key.dims }
-    requires end { IsInEnd top.now.key.slots (in_of (own_logs place.old.me.0) link) end.old.taken end.old.place end.old.waiting end.old.look_ins end.old.noted }
+    requires end { IsInEnd top.now.key.slots (in_of (own_logs place.old.me.0) link) end.old.taken end.old.place
+        end.old.waiting end.old.look_ins end.old.noted }
     requires wire { IsWire top.now.key.dims link wire.now.bell wire.now.mask wire.now.hop }
-    requires ear { IsHeard top.now.key place.old.me.0.pick (hop_at top.now.key.dims link) (own_logs place.old.me.0) ear.old.marks ear.old.hears }
+    requires ear { IsHeard top.now.key place.old.me.0.pick (hop_at top.now.key.dims link)
+        (own_logs place.old.me.0) ear.old.marks ear.old.hears }
     requires good { AreGood CAP top.now.key link (in_of (own_logs place.old.me.0) link) }
     ensures table { place.new.table_id ≡ place.old.table_id }
     ensures seat { IsManned top.now.key place.new.me }
-    ensures end { IsInEnd top.now.key.slots (in_of (own_logs place.new.me.0) link) end.new.taken end.new.place end.new.waiting end.new.look_ins end.new.noted }
-    ensures ear { IsHeard top.now.key place.old.me.0.pick (hop_at top.now.key.dims link) (own_logs place.new.me.0) ear.new.marks ear.new.hears }
+    ensures end { IsInEnd top.now.key.slots (in_of (own_logs place.new.me.0) link) end.new.taken end.new.place
+        end.new.waiting end.new.look_ins end.new.noted }
+    ensures ear { IsHeard top.now.key place.old.me.0.pick (hop_at top.now.key.dims link)
+        (own_logs place.new.me.0) ear.new.marks ear.new.hears }
     ensures good { AreGood CAP top.now.key link (in_of (own_logs place.new.me.0) link) }
     ensures here { place.new.me.0 ≡ with_logs place.old.me.0 (own_logs place.new.me.0) }
     ensures others { ElseKept top.now.key place.old.me.0.pick link (own_logs place.old.me.0) (own_logs place.new.me.0) }
-    ensures seen { take (length (in_of (own_logs place.old.me.0) link).seen) (in_of (own_logs place.new.me.0) link).seen ≡ (in_of (own_logs place.old.me.0) link).seen }
+    ensures seen { take (length (in_of (own_logs place.old.me.0) link).seen) (in_of (own_logs place.new.me.0) link).seen
+        ≡ (in_of (own_logs place.old.me.0) link).seen }
     ensures taken { (in_of (own_logs place.new.me.0) link).taken ≡ (in_of (own_logs place.old.me.0) link).taken }
     ensures noted { end.new.noted ≡ end.old.noted }
     ensures more { listens (in_of (own_logs place.old.me.0) link) ≤ listens (in_of (own_logs place.new.me.0) link) }
     ensures unmarked { end.new.waiting ≡ 0 → (in_of (own_logs place.new.me.0) link).marked ≡ false }
-    ensures listened { end.new.waiting ≡ 0 → Rose end.old.noted (counted (listens (in_of (own_logs place.new.me.0) link))) }
+    ensures listened { end.new.waiting ≡ 0
+        → Rose end.old.noted (counted (listens (in_of (own_logs place.new.me.0) link))) }
     // A parcel that is at hand costs no step.
     ensures at_hand { end.old.waiting ≢ 0 → place.new.me.0 ≡ place.old.me.0 }
     // Else the doorbell is heard where a hear is due, and the link is looked in where it is then marked.
-    ensures heard { end.old.waiting ≡ 0 → (m : ℕ) → m < links top.now.key.dims → reader_at top.now.key.dims m ≡ place.old.me.0.pick → hop_at top.now.key.dims m ≡ hop_at top.now.key.dims link → m ≢ link
-        → HeardWhere (is_due end.old.noted (in_of (own_logs place.old.me.0) link)) (in_of (own_logs place.old.me.0) m) (in_of (own_logs place.new.me.0) m) }
-    ensures looked { end.old.waiting ≡ 0 → LookedFor end.old.noted (in_of (own_logs place.old.me.0) link) (in_of (own_logs place.new.me.0) link) }
+    ensures heard { end.old.waiting ≡ 0 → (m : ℕ) → m < links top.now.key.dims
+        → reader_at top.now.key.dims m ≡ place.old.me.0.pick → hop_at top.now.key.dims m ≡ hop_at top.now.key.dims link
+        → m ≢ link
+        → HeardWhere (is_due end.old.noted (in_of (own_logs place.old.me.0) link)) (in_of (own_logs place.old.me.0) m)
+        (in_of (own_logs place.new.me.0) m) }
+    ensures looked { end.old.waiting ≡ 0 → LookedFor end.old.noted (in_of (own_logs place.old.me.0) link)
+        (in_of (own_logs place.new.me.0) link) }
 {
     if end.waiting == 0 {
         hear_if_due(top, place, end, ear, wire, link);
@@ -159,37 +183,53 @@ pub(crate) fn collect_on<const CAP: usize>(
     requires link { (link < links top.now.key.dims) × (reader_at top.now.key.dims link ≡ place.old.me.0.pick) }
     requires slots { slots ≡ top.now.key.slots }
     requires long { length (own_logs place.old.me.0).ins ≡ links top.now.key.dims }
-    requires end { IsInEnd top.now.key.slots (in_of (own_logs place.old.me.0) link) end.old.taken end.old.place end.old.waiting end.old.look_ins end.old.noted }
+    requires end { IsInEnd top.now.key.slots (in_of (own_logs place.old.me.0) link) end.old.taken end.old.place
+        end.old.waiting end.old.look_ins end.old.noted }
     requires wire { IsWire top.now.key.dims link wire.now.bell wire.now.mask wire.now.hop }
-    requires ear { IsHeard top.now.key place.old.me.0.pick (hop_at top.now.key.dims link) (own_logs place.old.me.0) ear.old.marks ear.old.hears }
+    requires ear { IsHeard top.now.key place.old.me.0.pick (hop_at top.now.key.dims link)
+        (own_logs place.old.me.0) ear.old.marks ear.old.hears }
     requires good { AreGood CAP top.now.key link (in_of (own_logs place.old.me.0) link) }
     requires empty { IsBlank parcel.old }
     ensures table { place.new.table_id ≡ place.old.table_id }
     ensures seat { IsManned top.now.key place.new.me }
-    ensures end { IsInEnd top.now.key.slots (in_of (own_logs place.new.me.0) link) end.new.taken end.new.place end.new.waiting end.new.look_ins end.new.noted }
-    ensures ear { IsHeard top.now.key place.old.me.0.pick (hop_at top.now.key.dims link) (own_logs place.new.me.0) ear.new.marks ear.new.hears }
+    ensures end { IsInEnd top.now.key.slots (in_of (own_logs place.new.me.0) link) end.new.taken end.new.place
+        end.new.waiting end.new.look_ins end.new.noted }
+    ensures ear { IsHeard top.now.key place.old.me.0.pick (hop_at top.now.key.dims link)
+        (own_logs place.new.me.0) ear.new.marks ear.new.hears }
     ensures good { AreGood CAP top.now.key link (in_of (own_logs place.new.me.0) link) }
     ensures here { place.new.me.0 ≡ with_logs place.old.me.0 (own_logs place.new.me.0) }
     ensures others { ElseKept top.now.key place.old.me.0.pick link (own_logs place.old.me.0) (own_logs place.new.me.0) }
-    ensures seen { take (length (in_of (own_logs place.old.me.0) link).seen) (in_of (own_logs place.new.me.0) link).seen ≡ (in_of (own_logs place.old.me.0) link).seen }
+    ensures seen { take (length (in_of (own_logs place.old.me.0) link).seen) (in_of (own_logs place.new.me.0) link).seen
+        ≡ (in_of (own_logs place.old.me.0) link).seen }
     ensures noted { end.new.noted ≡ counted (listens (in_of (own_logs place.new.me.0) link)) }
     ensures more { listens (in_of (own_logs place.old.me.0) link) ≤ listens (in_of (own_logs place.new.me.0) link) }
-    ensures taken { result ≡ Collected.Got → (in_of (own_logs place.new.me.0) link).taken ≡ suc (in_of (own_logs place.old.me.0) link).taken }
-    ensures parcel { result ≡ Collected.Got → get_elem? (in_of (own_logs place.new.me.0) link).seen (in_of (own_logs place.old.me.0) link).taken ≡ some parcel.new }
-    ensures not_taken { result ≡ Collected.Nothing → (in_of (own_logs place.new.me.0) link).taken ≡ (in_of (own_logs place.old.me.0) link).taken }
-    ensures none_known { result ≡ Collected.Nothing → length (in_of (own_logs place.new.me.0) link).seen ≡ (in_of (own_logs place.old.me.0) link).taken }
+    ensures taken { result ≡ Collected.Got → (in_of (own_logs place.new.me.0) link).taken
+        ≡ suc (in_of (own_logs place.old.me.0) link).taken }
+    ensures parcel { result ≡ Collected.Got → get_elem? (in_of (own_logs place.new.me.0) link).seen
+        (in_of (own_logs place.old.me.0) link).taken ≡ some parcel.new }
+    ensures not_taken { result ≡ Collected.Nothing → (in_of (own_logs place.new.me.0) link).taken
+        ≡ (in_of (own_logs place.old.me.0) link).taken }
+    ensures none_known { result ≡ Collected.Nothing → length (in_of (own_logs place.new.me.0) link).seen
+        ≡ (in_of (own_logs place.old.me.0) link).taken }
     ensures unmarked { result ≡ Collected.Nothing → (in_of (own_logs place.new.me.0) link).marked ≡ false }
-    ensures listened { result ≡ Collected.Nothing → Rose end.old.noted (counted (listens (in_of (own_logs place.new.me.0) link))) }
+    ensures listened { result ≡ Collected.Nothing
+        → Rose end.old.noted (counted (listens (in_of (own_logs place.new.me.0) link))) }
     ensures kept { result ≡ Collected.Nothing → parcel.new ≡ parcel.old }
     // A parcel that is at hand is taken without a step of looking.
     ensures at_hand { end.old.waiting ≢ 0 → result ≡ Collected.Got }
-    ensures no_looking { end.old.waiting ≢ 0 → own_logs place.new.me.0 ≡ with_in (own_logs place.old.me.0) link (taken_more (in_of (own_logs place.old.me.0) link)) }
+    ensures no_looking { end.old.waiting ≢ 0 → own_logs place.new.me.0
+        ≡ with_in (own_logs place.old.me.0) link (taken_more (in_of (own_logs place.old.me.0) link)) }
     // Else the doorbell is heard where a hear is due, and the link is looked in where it is then marked.
-    ensures heard { end.old.waiting ≡ 0 → (m : ℕ) → m < links top.now.key.dims → reader_at top.now.key.dims m ≡ place.old.me.0.pick → hop_at top.now.key.dims m ≡ hop_at top.now.key.dims link → m ≢ link
-        → HeardWhere (is_due end.old.noted (in_of (own_logs place.old.me.0) link)) (in_of (own_logs place.old.me.0) m) (in_of (own_logs place.new.me.0) m) }
-    ensures looked { end.old.waiting ≡ 0 → LookedFor end.old.noted (in_of (own_logs place.old.me.0) link) (in_of (own_logs place.new.me.0) link) }
+    ensures heard { end.old.waiting ≡ 0 → (m : ℕ) → m < links top.now.key.dims
+        → reader_at top.now.key.dims m ≡ place.old.me.0.pick → hop_at top.now.key.dims m ≡ hop_at top.now.key.dims link
+        → m ≢ link
+        → HeardWhere (is_due end.old.noted (in_of (own_logs place.old.me.0) link)) (in_of (own_logs place.old.me.0) m)
+        (in_of (own_logs place.new.me.0) m) }
+    ensures looked { end.old.waiting ≡ 0 → LookedFor end.old.noted (in_of (own_logs place.old.me.0) link)
+        (in_of (own_logs place.new.me.0) link) }
     // On a link from the rank to itself, what it saw is the front of what it posted.
-    ensures own { result ≡ Collected.Got → sender_at top.now.key.dims link ≡ place.old.me.0.pick → Begins (in_of (own_logs place.new.me.0) link).seen (out_of (own_logs place.new.me.0) link).sent }
+    ensures own { result ≡ Collected.Got → sender_at top.now.key.dims link ≡ place.old.me.0.pick
+        → Begins (in_of (own_logs place.new.me.0) link).seen (out_of (own_logs place.new.me.0) link).sent }
 {
     find_parcel(top, place, end, ear, wire, link);
     if end.waiting == 0 {

@@ -29,17 +29,22 @@ fn make_room<const CAP: usize>(
     requires link { (link < links top.now.key.dims) × (sender_at top.now.key.dims link ≡ place.old.me.0.pick) }
     requires slots { slots ≡ top.now.key.slots }
     requires long { link < length (own_logs place.old.me.0).outs }
-    requires end { IsOutEnd top.now.key.slots (out_of (own_logs place.old.me.0) link) end.old.sent end.old.place end.old.spare }
+    requires end { IsOutEnd top.now.key.slots (out_of (own_logs place.old.me.0) link) end.old.sent end.old.place
+        end.old.spare }
     ensures table { place.new.table_id ≡ place.old.table_id }
     ensures seat { IsManned top.now.key place.new.me }
-    ensures end { IsOutEnd top.now.key.slots (out_of (own_logs place.new.me.0) link) end.new.sent end.new.place end.new.spare }
-    ensures here { place.new.me.0 ≡ with_logs place.old.me.0 (with_out (own_logs place.old.me.0) link (out_of (own_logs place.new.me.0) link)) }
+    ensures end { IsOutEnd top.now.key.slots (out_of (own_logs place.new.me.0) link) end.new.sent end.new.place
+        end.new.spare }
+    ensures here { place.new.me.0 ≡ with_logs place.old.me.0
+        (with_out (own_logs place.old.me.0) link (out_of (own_logs place.new.me.0) link)) }
     ensures sent { (out_of (own_logs place.new.me.0) link).sent ≡ (out_of (own_logs place.old.me.0) link).sent }
     ensures looks { (out_of (own_logs place.old.me.0) link).looks ≤ (out_of (own_logs place.new.me.0) link).looks }
     ensures once { (out_of (own_logs place.new.me.0) link).looks ≤ suc (out_of (own_logs place.old.me.0) link).looks }
     ensures ready { end.old.spare ≢ 0 → place.new ≡ place.old }
-    ensures found { end.new.spare ≡ 0 → out_of (own_logs place.new.me.0) link ≡ found_full (out_of (own_logs place.old.me.0) link) }
-    ensures looked { end.new.spare ≡ 0 → (out_of (own_logs place.new.me.0) link).looks ≡ suc (out_of (own_logs place.old.me.0) link).looks }
+    ensures found { end.new.spare ≡ 0 → out_of (own_logs place.new.me.0) link
+        ≡ found_full (out_of (own_logs place.old.me.0) link) }
+    ensures looked { end.new.spare ≡ 0 → (out_of (own_logs place.new.me.0) link).looks
+        ≡ suc (out_of (own_logs place.old.me.0) link).looks }
     ensures all_room { end.new.spare ≡ 0 → top.now.key.slots ≤ (out_of (own_logs place.new.me.0) link).room }
 {
     if end.spare == 0 {
@@ -63,26 +68,40 @@ pub(crate) fn post_on<const CAP: usize>(
     requires link { (link < links top.now.key.dims) × (sender_at top.now.key.dims link ≡ place.old.me.0.pick) }
     requires slots { slots ≡ top.now.key.slots }
     requires long { link < length (own_logs place.old.me.0).outs }
-    requires end { IsOutEnd top.now.key.slots (out_of (own_logs place.old.me.0) link) end.old.sent end.old.place end.old.spare }
+    requires end { IsOutEnd top.now.key.slots (out_of (own_logs place.old.me.0) link) end.old.sent end.old.place
+        end.old.spare }
     requires wire { IsWire top.now.key.dims link wire.now.bell wire.now.mask wire.now.hop }
     requires parcel { MayFollow top.now.key.dims CAP link (out_of (own_logs place.old.me.0) link).sent parcel.old }
-    requires law { KeepsLaw top.now.key.dims place.old.me.0.pick (sent_of (with_out (own_logs place.old.me.0) link (sent_more (out_of (own_logs place.old.me.0) link) parcel.old))) (got_of (own_logs place.old.me.0)) }
+    requires law { KeepsLaw top.now.key.dims place.old.me.0.pick
+        (sent_of (with_out (own_logs place.old.me.0) link
+        (sent_more (out_of (own_logs place.old.me.0) link) parcel.old))) (got_of (own_logs place.old.me.0)) }
     ensures table { place.new.table_id ≡ place.old.table_id }
     ensures seat { IsManned top.now.key place.new.me }
-    ensures end { IsOutEnd top.now.key.slots (out_of (own_logs place.new.me.0) link) end.new.sent end.new.place end.new.spare }
-    ensures here { place.new.me.0 ≡ with_logs place.old.me.0 (with_out (own_logs place.old.me.0) link (out_of (own_logs place.new.me.0) link)) }
-    ensures sent { result ≡ Posted.Sent → (out_of (own_logs place.new.me.0) link).sent ≡ (out_of (own_logs place.old.me.0) link).sent ++ parcel.old ∷ [] }
-    ensures offered { result ≡ Posted.Sent → (out_of (own_logs place.new.me.0) link).offered ≡ length (out_of (own_logs place.new.me.0) link).sent }
+    ensures end { IsOutEnd top.now.key.slots (out_of (own_logs place.new.me.0) link) end.new.sent end.new.place
+        end.new.spare }
+    ensures here { place.new.me.0 ≡ with_logs place.old.me.0
+        (with_out (own_logs place.old.me.0) link (out_of (own_logs place.new.me.0) link)) }
+    ensures sent { result ≡ Posted.Sent → (out_of (own_logs place.new.me.0) link).sent
+        ≡ (out_of (own_logs place.old.me.0) link).sent ++ parcel.old ∷ [] }
+    ensures offered { result ≡ Posted.Sent → (out_of (own_logs place.new.me.0) link).offered
+        ≡ length (out_of (own_logs place.new.me.0) link).sent }
     ensures emptied { result ≡ Posted.Sent → IsBlank parcel.new }
-    ensures room { result ≡ Posted.Sent → length (out_of (own_logs place.old.me.0) link).sent < (out_of (own_logs place.new.me.0) link).room }
+    ensures room { result ≡ Posted.Sent → length (out_of (own_logs place.old.me.0) link).sent <
+        (out_of (own_logs place.new.me.0) link).room }
     ensures looks { (out_of (own_logs place.old.me.0) link).looks ≤ (out_of (own_logs place.new.me.0) link).looks }
     ensures once { (out_of (own_logs place.new.me.0) link).looks ≤ suc (out_of (own_logs place.old.me.0) link).looks }
-    ensures at_hand { length (out_of (own_logs place.old.me.0) link).sent < (out_of (own_logs place.old.me.0) link).room → (result ≡ Posted.Sent) × ((out_of (own_logs place.new.me.0) link).looks ≡ (out_of (own_logs place.old.me.0) link).looks) }
-    ensures found { result ≡ Posted.NoRoom → out_of (own_logs place.new.me.0) link ≡ found_full (out_of (own_logs place.old.me.0) link) }
-    ensures looked { result ≡ Posted.NoRoom → (out_of (own_logs place.new.me.0) link).looks ≡ suc (out_of (own_logs place.old.me.0) link).looks }
-    ensures full { result ≡ Posted.NoRoom → (out_of (own_logs place.new.me.0) link).room ≡ length (out_of (own_logs place.old.me.0) link).sent }
+    ensures at_hand { length (out_of (own_logs place.old.me.0) link).sent < (out_of (own_logs place.old.me.0) link).room
+        → (result ≡ Posted.Sent) × ((out_of (own_logs place.new.me.0) link).looks
+        ≡ (out_of (own_logs place.old.me.0) link).looks) }
+    ensures found { result ≡ Posted.NoRoom → out_of (own_logs place.new.me.0) link
+        ≡ found_full (out_of (own_logs place.old.me.0) link) }
+    ensures looked { result ≡ Posted.NoRoom → (out_of (own_logs place.new.me.0) link).looks
+        ≡ suc (out_of (own_logs place.old.me.0) link).looks }
+    ensures full { result ≡ Posted.NoRoom → (out_of (own_logs place.new.me.0) link).room
+        ≡ length (out_of (own_logs place.old.me.0) link).sent }
     ensures all_room { result ≡ Posted.NoRoom → top.now.key.slots ≤ (out_of (own_logs place.new.me.0) link).room }
-    ensures not_sent { result ≡ Posted.NoRoom → (out_of (own_logs place.new.me.0) link).sent ≡ (out_of (own_logs place.old.me.0) link).sent }
+    ensures not_sent { result ≡ Posted.NoRoom → (out_of (own_logs place.new.me.0) link).sent
+        ≡ (out_of (own_logs place.old.me.0) link).sent }
     ensures kept { result ≡ Posted.NoRoom → parcel.new ≡ parcel.old }
 {
     make_room(top, place, end, slots, link);

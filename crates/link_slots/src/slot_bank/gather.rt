@@ -53,7 +53,10 @@ impl<const CAP: usize> GatherSeat<CAP> {
           noted = replicate (links top.now.key.dims) 0;
           ended = replicate (links top.now.key.dims) 0;
         } }
-        ensures gather { self.new ≡ record self.old { lists = slice_set self.old.lists rank None; given = slice_set self.old.given rank true } }
+        ensures gather { self.new ≡ record self.old {
+          lists = slice_set self.old.lists rank None;
+          given = slice_set self.old.given rank true;
+        } }
     {
         let Some(ends) = self.ends[rank as usize].take() else {
             unreachable!()
@@ -84,10 +87,15 @@ impl<const CAP: usize> GatherSeat<CAP> {
         requires bank { (self.old.id ≡ top.now.table_id) × (self.old.shape ≡ top.now.key) }
         requires seat { (seat.id ≡ top.now.table_id) × (seat.shape ≡ top.now.key) }
         requires board { IsBoard top.now.key top.now.table_id }
-        ensures gather { self.new ≡ record self.old { lists = slice_set self.old.lists seat.entry.rank (Some seat.entry.lists); given = slice_set self.old.given seat.entry.rank true } }
+        ensures gather { self.new ≡ record self.old {
+          lists = slice_set self.old.lists seat.entry.rank
+              (Some seat.entry.lists);
+          given = slice_set self.old.given seat.entry.rank true;
+        } }
         ensures rank { seat.entry.rank < ranks top.now.key.dims }
         ensures there { slice_index_or self.new.lists seat.entry.rank None ≡ Some seat.entry.lists }
-        ensures others { (r : ℕ) → r ≢ seat.entry.rank → slice_index_or self.new.lists r None ≡ slice_index_or self.old.lists r None }
+        ensures others { (r : ℕ) → r ≢ seat.entry.rank → slice_index_or self.new.lists r None
+            ≡ slice_index_or self.old.lists r None }
     {
         let SlotSeat {
             mut place,
@@ -109,10 +117,14 @@ impl<const CAP: usize> SlotBank<CAP> {
     pub fn gather(&self, g: &mut GatherSeat<CAP>, seat: SlotSeat<CAP>)
         requires bank { (g.old.id ≡ self.now.id) × (g.old.shape ≡ self.now.shape) }
         requires seat { (seat.id ≡ self.now.id) × (seat.shape ≡ self.now.shape) }
-        ensures gather { g.new ≡ record g.old { lists = slice_set g.old.lists seat.entry.rank (Some seat.entry.lists); given = slice_set g.old.given seat.entry.rank true } }
+        ensures gather { g.new ≡ record g.old {
+          lists = slice_set g.old.lists seat.entry.rank (Some seat.entry.lists);
+          given = slice_set g.old.given seat.entry.rank true;
+        } }
         ensures rank { seat.entry.rank < ranks self.now.shape.dims }
         ensures there { slice_index_or g.new.lists seat.entry.rank None ≡ Some seat.entry.lists }
-        ensures others { (r : ℕ) → r ≢ seat.entry.rank → slice_index_or g.new.lists r None ≡ slice_index_or g.old.lists r None }
+        ensures others { (r : ℕ) → r ≢ seat.entry.rank → slice_index_or g.new.lists r None
+            ≡ slice_index_or g.old.lists r None }
     {
         g.take_in(&self.board.shared, seat);
     }
@@ -130,7 +142,10 @@ impl<const CAP: usize> SlotBank<CAP> {
           noted = replicate (links self.now.shape.dims) 0;
           ended = replicate (links self.now.shape.dims) 0;
         } }
-        ensures gather { g.new ≡ record g.old { lists = slice_set g.old.lists rank None; given = slice_set g.old.given rank true } }
+        ensures gather { g.new ≡ record g.old {
+          lists = slice_set g.old.lists rank None;
+          given = slice_set g.old.given rank true;
+        } }
     {
         g.give_out(&self.board.shared, rank)
     }

@@ -37,7 +37,8 @@ impl Model for SlotRound {
 
     ghost view = { λ r. slot_round (record { dims = r.grid; slots = r.slots }) r.cap (lists_of r.last.value.views) };
 
-    ghost invariant = { λ r. IsEnding r.cap (record { dims = r.grid; slots = r.slots }) (lists_of r.last.value.views) r.ended.items };
+    ghost invariant = { λ r. IsEnding r.cap (record { dims = r.grid; slots = r.slots })
+        (lists_of r.last.value.views) r.ended.items };
 }
 
 impl SlotRound {

@@ -58,9 +58,11 @@ pub(crate) fn swap<const CAP: usize>(
     slot: usize,
     parcel: &mut Parcel<CAP>,
 )
-    requires { (place.old.table_id ≡ top.now.table_id) × ((old : Contents) × (place.old.me.1 ≡ (slot, old) ∷ rest place.old.me.1)) }
+    requires { (place.old.table_id ≡ top.now.table_id)
+        × ((old : Contents) × (place.old.me.1 ≡ (slot, old) ∷ rest place.old.me.1)) }
     ensures table { place.new.table_id ≡ place.old.table_id }
-    ensures swapped { (place.new.me ≡ (place.old.me.0, (slot, parcel.old) ∷ rest place.old.me.1)) × (place.old.me.1 ≡ (slot, parcel.new) ∷ rest place.old.me.1) }
+    ensures swapped { (place.new.me ≡ (place.old.me.0, (slot, parcel.old) ∷ rest place.old.me.1))
+        × (place.old.me.1 ≡ (slot, parcel.new) ∷ rest place.old.me.1) }
 {
     let held = place.slot_mut(top, slot);
     mem::swap(&mut held.parcel, parcel);
@@ -80,10 +82,13 @@ pub(crate) fn send<const CAP: usize>(
     requires room { length (out_of (own_logs place.old.me.0) link).sent < (out_of (own_logs place.old.me.0) link).room }
     requires slot { slot ≡ slot_of (wiring top.now.key) link (length (out_of (own_logs place.old.me.0) link).sent) }
     requires parcel { MayFollow top.now.key.dims CAP link (out_of (own_logs place.old.me.0) link).sent parcel.old }
-    requires law { KeepsLaw top.now.key.dims place.old.me.0.pick (sent_of (with_out (own_logs place.old.me.0) link (sent_more (out_of (own_logs place.old.me.0) link) parcel.old))) (got_of (own_logs place.old.me.0)) }
+    requires law { KeepsLaw top.now.key.dims place.old.me.0.pick
+        (sent_of (with_out (own_logs place.old.me.0) link
+        (sent_more (out_of (own_logs place.old.me.0) link) parcel.old))) (got_of (own_logs place.old.me.0)) }
     ensures table { place.new.table_id ≡ place.old.table_id }
     ensures seat { IsManned top.now.key place.new.me }
-    ensures posted { place.new.me.0 ≡ with_logs place.old.me.0 (with_out (own_logs place.old.me.0) link (sent_more (out_of (own_logs place.old.me.0) link) parcel.old)) }
+    ensures posted { place.new.me.0 ≡ with_logs place.old.me.0
+        (with_out (own_logs place.old.me.0) link (sent_more (out_of (own_logs place.old.me.0) link) parcel.old)) }
     ensures empty { IsBlank parcel.new }
 {
     bring_spare(top, place, link);
@@ -106,7 +111,8 @@ pub(crate) fn ring<const CAP: usize>(
     requires bell { (word ≡ bell_word (wiring top.now.key) link) × (mask ≡ 2 ^ (wiring top.now.key).bit link) }
     ensures table { place.new.table_id ≡ place.old.table_id }
     ensures seat { IsManned top.now.key place.new.me }
-    ensures rung { place.new.me.0 ≡ with_logs place.old.me.0 (with_out (own_logs place.old.me.0) link (all_offered (out_of (own_logs place.old.me.0) link))) }
+    ensures rung { place.new.me.0 ≡ with_logs place.old.me.0
+        (with_out (own_logs place.old.me.0) link (all_offered (out_of (own_logs place.old.me.0) link))) }
 {
     if top.load::<LookBeforeRing>(place, word) & mask == 0 {
         top.fetch_or::<Ring>(place, word, mask);
@@ -127,7 +133,8 @@ pub(crate) fn hear<const CAP: usize>(
     requires bell { word ≡ bell_word (wiring top.now.key) link }
     ensures table { place.new.table_id ≡ place.old.table_id }
     ensures seat { IsManned top.now.key place.new.me }
-    ensures heard { place.new.me.0 ≡ with_logs place.old.me.0 (after_hear (wiring top.now.key) ((wiring top.now.key).bell link) result (own_logs place.old.me.0)) }
+    ensures heard { place.new.me.0 ≡ with_logs place.old.me.0
+        (after_hear (wiring top.now.key) ((wiring top.now.key).bell link) result (own_logs place.old.me.0)) }
 {
     if top.load::<LookBeforeHear>(place, word) == 0 {
         return 0;
@@ -177,9 +184,12 @@ pub(crate) fn receive<const CAP: usize>(
     requires empty { IsBlank parcel.old }
     ensures table { place.new.table_id ≡ place.old.table_id }
     ensures seat { IsManned top.now.key place.new.me }
-    ensures released { place.new.me.0 ≡ with_logs place.old.me.0 (with_in (own_logs place.old.me.0) link (taken_more (in_of (own_logs place.old.me.0) link))) }
-    ensures parcel { get_elem? (in_of (own_logs place.old.me.0) link).seen (in_of (own_logs place.old.me.0) link).taken ≡ some parcel.new }
-    ensures own { sender_at top.now.key.dims link ≡ place.old.me.0.pick → Begins (in_of (own_logs place.old.me.0) link).seen (out_of (own_logs place.old.me.0) link).sent }
+    ensures released { place.new.me.0 ≡ with_logs place.old.me.0
+        (with_in (own_logs place.old.me.0) link (taken_more (in_of (own_logs place.old.me.0) link))) }
+    ensures parcel { get_elem? (in_of (own_logs place.old.me.0) link).seen (in_of (own_logs place.old.me.0) link).taken
+        ≡ some parcel.new }
+    ensures own { sender_at top.now.key.dims link ≡ place.old.me.0.pick
+        → Begins (in_of (own_logs place.old.me.0) link).seen (out_of (own_logs place.old.me.0) link).sent }
 {
     bring_parcel(top, place, link);
     swap(top, place, slot, parcel);

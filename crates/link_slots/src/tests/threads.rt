@@ -112,9 +112,11 @@ fn numbers_passed<R: Threads + Wait + Sync>(
     let (_, due) = thread::join(
         rt,
         move ||
-            requires { (zero.id ≡ shared.now.id) × (zero.shape ≡ shared.now.shape) × IsGrid shared.now.shape.dims × (1 < links shared.now.shape.dims)
+            requires { (zero.id ≡ shared.now.id) × (zero.shape ≡ shared.now.shape) × IsGrid shared.now.shape.dims
+                × (1 < links shared.now.shape.dims)
                 × (hop_at shared.now.shape.dims 1 ≡ 1) × (sender_at shared.now.shape.dims 1 ≡ zero.rank)
-                × RelayLaw shared.now.shape.dims zero.rank (posted_on zero) (collected_from zero) × (out ≡ blank (lasts (posted_on zero 1))) }
+                × RelayLaw shared.now.shape.dims zero.rank (posted_on zero) (collected_from zero)
+                × (out ≡ blank (lasts (posted_on zero 1))) }
         { post_numbers(rt, shared, zero, out, count) },
         move || -> u64
             requires { (one.id ≡ shared.now.id) × (one.shape ≡ shared.now.shape) × (1 < links shared.now.shape.dims)

@@ -133,12 +133,11 @@ finding_from s round bucket vs settled outgoing v d r w b t o =
     ∙ ap (λ ws. record (finding s) { vertices = ws }) w in
     subst IsDelta (sym is) (finding_valid s v d)
 
-pub sorted_from : (s : DeltaState) (round bucket : ℕ) (arriving : List Triple) (light heavy : List (List Edge)) (vs : List Vertex) (settled : List ℕ) (outgoing : List (ℕ × Item)) → IsDelta s
+pub sorted_is : (s : DeltaState) (round bucket : ℕ) (arriving : List Triple) (light heavy : List (List Edge)) (vs : List Vertex) (settled : List ℕ) (outgoing : List (ℕ × Item))
     → round ≡ next_round s → arriving ≡ [] → light ≡ (sorted_out s).light → heavy ≡ (sorted_out s).heavy → vs ≡ s.vertices → bucket ≡ no_bucket → settled ≡ [] → outgoing ≡ announced s.ranks (bucket_of s.width (least_marked s.vertices))
-    → IsDelta (record s { round = round; phase = Find; arriving = arriving; light = light; heavy = heavy; vertices = vs; bucket = bucket; settled = settled; outgoing = outgoing })
-sorted_from s round bucket arriving light heavy vs settled outgoing v r a l h w b t o =
+    → record s { round = round; phase = Find; arriving = arriving; light = light; heavy = heavy; vertices = vs; bucket = bucket; settled = settled; outgoing = outgoing } ≡ finding (sorted_out s)
+sorted_is s round bucket arriving light heavy vs settled outgoing r a l h w b t o =
     let end : DeltaState = finding (sorted_out s) in
-    let is : record s { round = round; phase = Find; arriving = arriving; light = light; heavy = heavy; vertices = vs; bucket = bucket; settled = settled; outgoing = outgoing } ≡ end =
     ap (λ n. record s { round = n; phase = Find; arriving = arriving; light = light; heavy = heavy; vertices = vs; bucket = bucket; settled = settled; outgoing = outgoing }) r
     ∙ ap (λ es. record end { arriving = arriving; light = light; heavy = heavy; vertices = vs; bucket = bucket; settled = settled; outgoing = es }) o
     ∙ ap (λ ts. record end { arriving = ts; light = light; heavy = heavy; vertices = vs; bucket = bucket; settled = settled }) a
@@ -146,5 +145,10 @@ sorted_from s round bucket arriving light heavy vs settled outgoing v r a l h w 
     ∙ ap (λ rows. record end { heavy = rows; vertices = vs; bucket = bucket; settled = settled }) h
     ∙ ap (λ ps. record end { vertices = vs; bucket = bucket; settled = ps }) t
     ∙ ap (λ k. record end { vertices = vs; bucket = k }) b
-    ∙ ap (λ ws. record end { vertices = ws }) w in
-    subst IsDelta (sym is) (sorted_valid s v)
+    ∙ ap (λ ws. record end { vertices = ws }) w
+
+pub sorted_from : (s : DeltaState) (round bucket : ℕ) (arriving : List Triple) (light heavy : List (List Edge)) (vs : List Vertex) (settled : List ℕ) (outgoing : List (ℕ × Item)) → IsDelta s
+    → round ≡ next_round s → arriving ≡ [] → light ≡ (sorted_out s).light → heavy ≡ (sorted_out s).heavy → vs ≡ s.vertices → bucket ≡ no_bucket → settled ≡ [] → outgoing ≡ announced s.ranks (bucket_of s.width (least_marked s.vertices))
+    → IsDelta (record s { round = round; phase = Find; arriving = arriving; light = light; heavy = heavy; vertices = vs; bucket = bucket; settled = settled; outgoing = outgoing })
+sorted_from s round bucket arriving light heavy vs settled outgoing v r a l h w b t o =
+    subst IsDelta (sym (sorted_is s round bucket arriving light heavy vs settled outgoing r a l h w b t o)) (sorted_valid s v)

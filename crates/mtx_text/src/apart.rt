@@ -6,7 +6,7 @@
 ghost use Rattle.std.specs.Prelude.{◌≡◌, ℕ, ◌+◌, ◌<◌, ◌≤◌, ◌^◌, true, length, get_or, vec_len, Ok, IfOk};
 ghost use Rattle.std.specs.List.{All, AllPairs};
 ghost use Rattle.mtx_text.specs.Sparse.{SamePlace};
-ghost use Rattle.mtx_text.specs.Chains.{IsWithin, LeadsTo, NextsLead, IsRowApart, row_of};
+ghost use Rattle.mtx_text.specs.Chains.{IsWithin, LeadsTo, NextsLead, IsRowApart};
 
 use crate::links::link;
 use bale_types::Triple;
@@ -81,8 +81,8 @@ fn is_row_apart(
     requires nexts { vec_len nexts.now ≡ length entries.now }
     requires stamps { vec_len stamps.old ≡ side }
     requires row { row < side }
-    requires head { LeadsTo (row_of) entries.now row 0 head }
-    requires nexts_lead { NextsLead (row_of) entries.now nexts.now.items 0 }
+    requires head { LeadsTo entries.now row 0 head }
+    requires nexts_lead { NextsLead entries.now nexts.now.items 0 }
     ensures apart { result ≡ true → IsRowApart entries.now row }
     ensures stamps { vec_len stamps.new ≡ side }
 {

@@ -1,7 +1,7 @@
 use Rattle.std.proofs.Common.{◌≡◌, ◌≢◌, ◌<◌, ◌+◌, ℕ, length, get_or, sym, ◌∙◌, rules, arith, subst, pos}
 use Rattle.std.proofs.lemmas.List.{get_or_read_under}
 use Rattle.bale_types.specs.declared.triple.Triple.{Triple}
-use Rattle.mtx_text.specs.Chains.{LeadsTo, row_of}
+use Rattle.mtx_text.specs.Chains.{LeadsTo}
 use Rattle.mtx_text.proofs.Chains.{step}
 use Rattle.mtx_text.proofs.apart.is_row_apart.Goals as goal
 
@@ -32,5 +32,5 @@ loop-at-preserved c =
     let room : k < length c.args.nexts.now.items = omega (arith, here, c.requires.nexts, c.args.nexts.now.ok) in
     let next : c.index-in-loop-at.result.now ≡ get_or c.args.nexts.now.items k 0 =
     get_or_read_under c.args.nexts.now.items k (length c.args.nexts.now.items) c.index-in-loop-at.result.now 0 c.index-in-loop-at.ensures room (search rules) in
-    let leads = subst (λ (w : ℕ). LeadsTo row_of entries (get_or entries k e).i (k + 1) w) (sym next) (c.requires.nexts_lead k e (omega arith) here) in
+    let leads = subst (λ (w : ℕ). LeadsTo entries (get_or entries k e).i (k + 1) w) (sym next) (c.requires.nexts_lead k e (omega arith) here) in
     (step entries stamps c.args.row (c.args.row + 1) k c.index-in-loop-at.result.now e here column fresh leads c.loop-at.invariant.0, c.loop-at.invariant.1)

@@ -2,7 +2,6 @@
 use Rattle.std.proofs.Common.{ℕ, zero, suc, ◌+◌, ◌-◌, ◌<◌, ◌≤◌, ◌≡◌, List, [], ◌∷◌, ◌++◌, Some, length, map, take, drop, get_or, slice_get, slice_set, replicate, All, arith, refl, sym, ap, ◌∙◌, subst}
 use Rattle.std.specs.List.{slice_range}
 use Rattle.std.proofs.lemmas.List.{length-drop, length-append, take_all, take_more, take-append-le, drop-append-le, get_or-drop, get_or_append_left, append_assoc}
-use Rattle.std.proofs.Math.Seq.{drop-append_seam}
 use Rattle.list_laws.specs.Lists.{changed_at, Begins}
 use Rattle.list_laws.proofs.Lists.{map_changed, all_head, all_tail, all_get}
 use Rattle.least_walks.specs.declared.table.Edge.{Edge}
@@ -40,11 +39,6 @@ copied old now new from k e d up low so_far is one =
     let here : e ≡ get_or old k d = is ∙ ap (λ xs. get_or xs k d) so_far ∙ get_or_append_left old (slice_range old from k) d k low in
     one ∙ ap (λ xs. xs ++ e ∷ []) so_far ∙ append_assoc old (slice_range old from k) (e ∷ [])
     ∙ ap (λ x. old ++ (slice_range old from k ++ x ∷ [])) here ∙ ap (λ xs. old ++ xs) (sym (next_of old from k d up low))
-
--- edges that came behind others
-pub moved : (xs zs : List Edge) (to : ℕ) → to ≡ length (xs ++ zs) → slice_range (xs ++ zs) (length xs) to ≡ zs
-moved xs zs to end =
-    ap (take (to - length xs)) (drop-append_seam xs zs) ∙ take_all (to - length xs) zs (omega (arith, end, length-append xs zs))
 
 all_stay : (old new : List Edge) (spans : List Span) → ((u : Span) → IsWithin old u → in_span new u ≡ in_span old u) → All (IsWithin old) spans → lists_of new spans ≡ lists_of old spans
 all_stay old new [] same within = refl

@@ -5,8 +5,11 @@ use Rattle.list_laws.proofs.Lists.{map_changed, map_unchanged}
 use Rattle.round_program.specs.Laws.{Fits}
 use Rattle.app_histo_ig.specs.Owners.{risen}
 use Rattle.app_histo_ig.specs.Igs.{IgState, IsIg, IsQuery, ig_rules, noted, next_outgoing, to_ask, replies_from}
+use Rattle.app_histo_ig.specs.IgSent.{number_and_column, sent_of}
+use Rattle.app_histo_ig.specs.declared.ig_sent.Own.{Own}
 use Rattle.app_histo_ig.specs.IgLaws.{ig_laws, is_query, noted_asked, noted_len, sums_len, sums_words}
 use Rattle.sparse_rows.proofs.Places.{place_below}
+use Rattle.app_histo_ig.proofs.IgSent.{sent_next}
 
 -- one list of many grew by an item, or none did
 pub note_is : {X : Type 0} (f : X → List Item) (xs : List X) (i : ℕ) (x y : X) (item : Item) (b : Bool) → slice_get xs i ≡ Some x → f y ≡ cond b (f x ++ item ∷ []) (f x) → map f (slice_set xs i y) ≡ cond b (noted (map f xs) i item) (map f xs)
@@ -58,11 +61,22 @@ query_place s x v q =
 pub queries_placed : (s : IgState) → IsIg s → All (All (λ x. (x.a < 2 ^ 32) × (x.a / s.ranks < length s.sums))) s.queries
 queries_placed s v k d l i e b = query_place s (get_or (get_or s.queries k d) i e) v (v.asked k d l i e b)
 
-pub ended_from : (s : IgState) (round : ℕ) (own : List (ℕ × ℕ)) (sums : List ℕ) (queries : List (List Item)) (outgoing : List (ℕ × Item)) → IsIg s → round ≡ min (s.round + 1) (2 ^ 64 - 1) → own ≡ s.own → sums ≡ s.sums → queries ≡ s.queries
-    → outgoing ≡ cond (s.round == 0) (map (to_ask s.ranks) own) (cond (s.round == 1) (replies_from s.ranks sums 0 queries) []) → IsIg (record s { round = round; outgoing = outgoing })
-ended_from s round own sums queries outgoing v e o n q h =
-    ended_valid s round outgoing v e
-    (h
+-- what is sent after a round, from the fields that it is read from
+sent_is : (s : IgState) (round : ℕ) (own : List Own) (sums : List ℕ) (queries : List (List Item)) (replies : List (ℕ × Item)) → round ≡ min (s.round + 1) (2 ^ 64 - 1) → map number_and_column own ≡ s.own → sums ≡ s.sums → queries ≡ s.queries
+    → replies ≡ cond (s.round == 1) (replies_from s.ranks sums 0 queries) [] → sent_of round s.ranks own replies ≡ next_outgoing s
+sent_is s round own sums queries replies e o n q h =
+    sent_next s.round round s.ranks own (replies_from s.ranks sums 0 queries) replies e h
     ∙ ap (λ w. cond (s.round == 0) (map (to_ask s.ranks) w) (cond (s.round == 1) (replies_from s.ranks sums 0 queries) [])) o
     ∙ ap (λ w. cond (s.round == 0) (map (to_ask s.ranks) s.own) (cond (s.round == 1) (replies_from s.ranks w 0 queries) [])) n
-    ∙ ap (λ w. cond (s.round == 0) (map (to_ask s.ranks) s.own) (cond (s.round == 1) (replies_from s.ranks s.sums 0 w) [])) q)
+    ∙ ap (λ w. cond (s.round == 0) (map (to_ask s.ranks) s.own) (cond (s.round == 1) (replies_from s.ranks s.sums 0 w) [])) q
+
+pub ended_from : (s : IgState) (round : ℕ) (own : List Own) (sums : List ℕ) (queries : List (List Item)) (replies : List (ℕ × Item)) → IsIg s → round ≡ min (s.round + 1) (2 ^ 64 - 1) → map number_and_column own ≡ s.own → sums ≡ s.sums
+    → queries ≡ s.queries → replies ≡ cond (s.round == 1) (replies_from s.ranks sums 0 queries) [] → IsIg (record s { round = round; outgoing = sent_of round s.ranks own replies })
+ended_from s round own sums queries replies v e o n q h =
+    ended_valid s round (sent_of round s.ranks own replies) v e (sent_is s round own sums queries replies e o n q h)
+
+pub ended_is : (s : IgState) (votes round : ℕ) (own : List Own) (sums : List ℕ) (queries : List (List Item)) (replies : List (ℕ × Item)) → round ≡ min (s.round + 1) (2 ^ 64 - 1) → map number_and_column own ≡ s.own → sums ≡ s.sums
+    → queries ≡ s.queries → replies ≡ cond (s.round == 1) (replies_from s.ranks sums 0 queries) [] → record s { round = round; outgoing = sent_of round s.ranks own replies } ≡ ig_rules.ended s votes
+ended_is s votes round own sums queries replies e o n q h =
+    ap (λ w. record s { round = w; outgoing = sent_of round s.ranks own replies }) e
+    ∙ ap (λ w. record s { round = min (s.round + 1) (2 ^ 64 - 1); outgoing = w }) (sent_is s round own sums queries replies e o n q h)

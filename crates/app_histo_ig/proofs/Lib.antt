@@ -8,6 +8,7 @@ pub mod IgAnswers
 pub mod IgOwners
 pub mod IgQueries
 pub mod IgRounds
+pub mod IgSent
 pub mod IgSteps
 pub mod IgText
 pub mod SumsAsked

@@ -2,6 +2,7 @@
 use Rattle.std.specs.Prelude.{map}
 use Rattle.app_histo_ig.specs.declared.ig.Ig.TheInside.{Inside}
 use Rattle.app_histo_ig.specs.Igs.{IgState}
+use Rattle.app_histo_ig.specs.IgSent.{number_and_column, sent_of}
 
 abbrev pub ig_state : Inside → IgState
 ig_state s =
@@ -10,9 +11,9 @@ ig_state s =
       ranks = s.ranks;
       round = s.round;
       cols = s.cols;
-      own = s.own.items;
+      own = map number_and_column s.own.items;
       sums = s.sums.items;
       queries = map (λ l. l.items) s.queries.items;
-      outgoing = s.outgoing.items;
+      outgoing = sent_of s.round s.ranks s.own.items s.replies.items;
       answers = s.answers.items;
     }

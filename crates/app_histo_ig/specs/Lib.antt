@@ -12,6 +12,7 @@ pub mod Histos
 pub mod IgLaws
 pub mod IgLines
 pub mod IgRuns
+pub mod IgSent
 pub mod IgView
 pub mod Igs
 pub mod OwnerLaws

@@ -4,13 +4,15 @@ ghost use Rattle.std.specs.Prelude.{◌≡◌, ◌<◌, ◌^◌, [], length, map
 ghost use Rattle.std.specs.List.{All};
 ghost use Rattle.sparse_rows.specs.Owners.{places_for};
 ghost use Rattle.app_histo_ig.specs.Igs.{IsIg};
+ghost use Rattle.app_histo_ig.specs.IgSent.{number_and_column, to_add};
 
 use crate::answered::Answered;
 use crate::batches::{note_each, raise_each, rise_each};
-use crate::ig_lists::{after_round, note, raise, rise};
+use crate::ig_lists::{note, raise, replies_after, rise};
+use crate::ig_sent::{Own, count_of, emission_of, emit_sent};
 use crate::seat::Seat;
 use bale_types::{Item, NoMemory};
-use round_program::{Arrivals, Program};
+use round_program::{Arrivals, Departures, Program};
 use std::alloc::Global;
 use std::marker::Model;
 
@@ -25,14 +27,14 @@ pub struct Ig {
     round: u64,
     /// the matrix's number of columns
     cols: u32,
-    /// the rank's entries, in order: the number of each in the matrix, and its column
-    own: Vec<(u32, u32)>,
+    /// the rank's entries, in order
+    own: Vec<Own>,
     /// the sums of own columns
     sums: Vec<u64>,
     /// the queries that came, by sender, in order
     queries: Vec<Vec<Item>>,
-    /// what is sent in this round: values, then queries, then replies
-    outgoing: Vec<(u32, Item)>,
+    /// the replies that are sent in round 2
+    replies: Vec<(u32, Item)>,
     /// the sum of each own entry's column; that of entry number `e` stands at `e div ranks`
     answers: Vec<u64>,
 }
@@ -52,10 +54,9 @@ impl Model for Ig {
 /// What a rank of ig begins with, beside its numbers.
 #[derive(Drop)]
 pub(crate) struct Begins {
-    pub(crate) own: Vec<(u32, u32)>,
+    pub(crate) own: Vec<Own>,
     pub(crate) sums: Vec<u64>,
     pub(crate) queries: Vec<Vec<Item>>,
-    pub(crate) outgoing: Vec<(u32, Item)>,
     pub(crate) answers: Vec<u64>,
 }
 
@@ -67,10 +68,10 @@ impl Ig {
           ranks = ranks;
           round = 0;
           cols = cols;
-          own = begins.own.items;
+          own = map number_and_column begins.own.items;
           sums = begins.sums.items;
           queries = map (λ l. l.items) begins.queries.items;
-          outgoing = begins.outgoing.items;
+          outgoing = map (to_add ranks) begins.own.items;
           answers = begins.answers.items;
         }) }
         ensures { result ≡ record {
@@ -78,10 +79,10 @@ impl Ig {
           ranks = ranks;
           round = 0;
           cols = cols;
-          own = begins.own.items;
+          own = map number_and_column begins.own.items;
           sums = begins.sums.items;
           queries = map (λ l. l.items) begins.queries.items;
-          outgoing = begins.outgoing.items;
+          outgoing = map (to_add ranks) begins.own.items;
           answers = begins.answers.items;
         } }
     {
@@ -94,7 +95,7 @@ impl Ig {
             own: begins.own,
             sums: begins.sums,
             queries: begins.queries,
-            outgoing: begins.outgoing,
+            replies: Vec::new(alloc),
             answers: begins.answers,
         }
     }
@@ -129,11 +130,15 @@ impl Program for Ig {
     }
 
     fn count(&self) -> u64 {
-        self.outgoing.len() as u64
+        count_of(self.round, &self.own, &self.replies)
     }
 
     fn emission(&self, i: u64) -> (u32, Item) {
-        self.outgoing[i as usize]
+        emission_of(self.round, self.ranks, &self.own, &self.replies, i)
+    }
+
+    fn emit_each<D: Departures>(&self, from: u64, out: &mut D) -> u64 {
+        emit_sent(self.round, self.ranks, &self.own, &self.replies, from, out)
     }
 
     fn fits(&self, from: u32, item: Item) -> bool {
@@ -182,11 +187,10 @@ impl Program for Ig {
 
     fn end_round(&mut self, votes: u64) -> Result<bool, NoMemory> {
         let goes_on = self.round < 2;
-        self.outgoing = after_round(
+        self.replies = replies_after(
             self.alloc,
             self.round,
             self.ranks,
-            &self.own,
             &self.sums,
             &self.queries,
         )?;

@@ -1,9 +1,11 @@
 //! ig by queries and replies at once: a rank asks for the sums of its entries' columns.
 
-ghost use Rattle.std.specs.Prelude.{◌≡◌, ◌<◌, ◌^◌, length, slice_index_or};
+ghost use Rattle.std.specs.Prelude.{◌≡◌, ◌<◌, ◌^◌, length, map, slice_index_or};
 ghost use Rattle.std.specs.List.{All};
+ghost use Rattle.app_histo_ig.specs.IgSent.{question_of};
 
 use crate::answered::Answered;
+use crate::ig_sent::{Own, question_of};
 use round_program::Asker;
 use std::marker::Model;
 
@@ -13,8 +15,8 @@ use std::marker::Model;
 pub struct IgAsker {
     rank: u32,
     ranks: u32,
-    /// for each own entry, in order, its column's owner and its column
-    queries: Vec<(u32, u64)>,
+    /// the rank's entries, in order
+    own: Vec<Own>,
     /// the sums of own columns
     sums: Vec<u64>,
     /// what was heard for each own entry
@@ -34,22 +36,22 @@ impl Model for IgAsker {
 }
 
 impl IgAsker {
-    /// A rank that has heard nothing; `answers` has a place for each query.
+    /// A rank that has heard nothing; `answers` has a place for each entry.
     pub(crate) fn new(
         rank: u32,
         ranks: u32,
-        queries: Vec<(u32, u64)>,
+        own: Vec<Own>,
         sums: Vec<u64>,
         answers: Vec<u64>,
     ) -> IgAsker
         requires some { 0 < ranks }
-        requires asks { All (λ q. (q.0 < ranks) × (q.1 < 2 ^ 64)) queries.items }
+        requires asks { All (λ q. (q.0 < ranks) × (q.1 < 2 ^ 64)) (map (question_of ranks) own.items) }
         requires words { All (λ v. v < 2 ^ 64) sums.items }
-        requires places { length answers.items ≡ length queries.items }
+        requires places { length answers.items ≡ length own.items }
         ensures { result ≡ record {
           rank = rank;
           ranks = ranks;
-          queries = queries.items;
+          queries = map (question_of ranks) own.items;
           sums = sums.items;
           answers = answers.items;
         } }
@@ -57,7 +59,7 @@ impl IgAsker {
         IgAsker {
             rank,
             ranks,
-            queries,
+            own,
             sums,
             answers,
         }
@@ -89,11 +91,11 @@ impl Asker for IgAsker {
     }
 
     fn count(&self) -> u64 {
-        self.queries.len() as u64
+        self.own.len() as u64
     }
 
     fn query(&self, i: u64) -> (u32, u64) {
-        self.queries[i as usize]
+        question_of(&self.own, self.ranks, i as usize)
     }
 
     fn answer(&self, from: u32, question: u64) -> u64 {

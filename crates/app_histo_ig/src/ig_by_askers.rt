@@ -13,9 +13,9 @@ ghost use Rattle.app_histo_ig.specs.IgLines.{ig_lines};
 
 use crate::answered::write_sums;
 use crate::ig_asker::IgAsker;
-use crate::ig_run::{values_of, zeros};
+use crate::ig_run::{own_of, zeros};
 use crate::ig_sums::IgSums;
-use bale_types::{Failed, Item, NoMemory, Out, Sink};
+use bale_types::{Failed, NoMemory, Out, Sink};
 use mtx_text::Matrix;
 use round_program::{Program, Progs};
 use sparse_rows::{Parts, split};
@@ -55,9 +55,9 @@ fn summing(
     ensures { IfOk result (λ s. s ≡ sums_begins ranks m.now rank) }
 {
     m.known();
-    let values = values_of(alloc, parts, ranks, rank)?;
+    let own = own_of(alloc, parts, rank)?;
     let sums = zeros(alloc, (m.cols() / ranks + 1) as usize)?;
-    Ok(IgSums::new(rank, ranks, m.cols(), values, sums))
+    Ok(IgSums::new(rank, ranks, m.cols(), own, sums))
 }
 
 /// The askers of the same ranks, once the programs of `ig_sums_start` on this matrix have ended.
@@ -119,19 +119,6 @@ fn asker_of(alloc: Global, q: IgSums) -> Result<IgAsker, NoMemory>
     let rank = q.rank();
     let ranks = q.ranks();
     let added = q.into_added();
-    let queries = queries_of(alloc, &added.values)?;
-    let answers = zeros(alloc, queries.len())?;
-    Ok(IgAsker::new(rank, ranks, queries, added.sums, answers))
-}
-
-/// For each value its column's owner and its column.
-fn queries_of(alloc: Global, values: &[(u32, Item)]) -> Result<Vec<(u32, u64)>, NoMemory>
-    ensures { IfOk result (λ v. v.items ≡ map (λ e. (e.0, e.1.a)) values.now) }
-{
-    let mut queries = Vec::with_capacity(alloc, values.len())?;
-    for value in values {
-        let (to, item) = *value;
-        queries.push((to, item.a))?;
-    }
-    Ok(queries)
+    let answers = zeros(alloc, added.own.len())?;
+    Ok(IgAsker::new(rank, ranks, added.own, added.sums, answers))
 }

@@ -4,7 +4,7 @@ ghost use Rattle.std.specs.Prelude.{◌≡◌, ◌≢◌, ◌<◌, ◌≤◌, �
 ghost use Rattle.std.specs.List.{All};
 ghost use Rattle.sparse_rows.specs.Owners.{places_for};
 ghost use Rattle.app_histo_ig.specs.Owners.{risen};
-ghost use Rattle.app_histo_ig.specs.Igs.{IsQuery, noted, answered, to_ask, reply_to, replies_from};
+ghost use Rattle.app_histo_ig.specs.Igs.{IsQuery, noted, answered, reply_to, replies_from};
 
 use bale_types::{Item, NoMemory};
 use std::alloc::Global;
@@ -58,12 +58,11 @@ fn place_of(number: u64, ranks: u32) -> u64
     }
 }
 
-/// What is sent after a round: queries after round 0, replies after round 1, and then nothing.
-pub(crate) fn after_round(
+/// The replies that are sent after a round: after round 1 those to all queries, and else none.
+pub(crate) fn replies_after(
     alloc: Global,
     round: u64,
     ranks: u32,
-    own: &[(u32, u32)],
     sums: &[u64],
     queries: &[Vec<Item>],
 ) -> Result<Vec<(u32, Item)>, NoMemory>
@@ -71,34 +70,13 @@ pub(crate) fn after_round(
     requires senders { length queries.now < 2 ^ 32 }
     requires asked { All (All (λ x. (x.a < 2 ^ 32) × (x.a / ranks < length sums.now)))
         (map (λ l. l.items) queries.now) }
-    ensures { IfOk result (λ v. v.items ≡ (if round == 0 then map (to_ask ranks) own.now
-        else if round == 1 then replies_from ranks sums.now 0 (map (λ l. l.items) queries.now) else [])) }
+    ensures { IfOk result (λ v. v.items
+        ≡ (if round == 1 then replies_from ranks sums.now 0 (map (λ l. l.items) queries.now) else [])) }
 {
-    if round == 0 {
-        return asks(alloc, ranks, own);
-    }
     if round == 1 {
         return replies(alloc, ranks, sums, queries);
     }
     Ok(Vec::new(alloc))
-}
-
-/// A query for each own entry.
-fn asks(alloc: Global, ranks: u32, own: &[(u32, u32)]) -> Result<Vec<(u32, Item)>, NoMemory>
-    requires { 0 < ranks }
-    ensures { IfOk result (λ v. v.items ≡ map (to_ask ranks) own.now) }
-{
-    let mut outgoing = Vec::with_capacity(alloc, own.len())?;
-    for entry in own {
-        let (number, column) = *entry;
-        let query = Item {
-            a: column as u64,
-            b: number as u64,
-            c: 0,
-        };
-        outgoing.push((column % ranks, query))?;
-    }
-    Ok(outgoing)
 }
 
 /// The replies to lists of queries, by sender.

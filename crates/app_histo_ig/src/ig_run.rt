@@ -1,20 +1,18 @@
 //! ig's start, and its answer as text.
 
-ghost use Rattle.std.specs.Prelude.{◌≡◌, ◌≢◌, ◌<◌, ◌≤◌, ◌+◌, ◌^◌, ◌%◌, ◌/◌, [], ◌∷◌, length, map, replicate, slice_get, slice_index_or, Some, IfOk, OnOk, OnErr};
+ghost use Rattle.std.specs.Prelude.{◌≡◌, ◌<◌, ◌≤◌, [], ◌∷◌, length, map, replicate, slice_index_or, IfOk, OnOk, OnErr};
 ghost use Rattle.bale_types.specs.Stream.{after, HasCause, IsFront};
 ghost use Rattle.bale_types.specs.Out.{appended};
-ghost use Rattle.bale_types.specs.Bits.{twos_complement};
-ghost use Rattle.bale_types.specs.declared.triple.Triple.{Triple};
-ghost use Rattle.mtx_text.specs.Sparse.{Sparse, IsSparse};
 ghost use Rattle.sparse_rows.specs.Parts.{parts_of};
 ghost use Rattle.round_program.specs.Canonical.{InRound, EndsWithin};
-ghost use Rattle.sparse_rows.specs.Owners.{column_owner, places_for};
-ghost use Rattle.app_histo_ig.specs.Igs.{ig_rules, value_item};
-ghost use Rattle.app_histo_ig.specs.IgLines.{column_sum, ig_line, ig_lines};
+ghost use Rattle.app_histo_ig.specs.Igs.{ig_rules};
+ghost use Rattle.app_histo_ig.specs.IgSent.{own_entry};
+ghost use Rattle.app_histo_ig.specs.IgLines.{ig_lines};
 ghost use Rattle.app_histo_ig.specs.IgRuns.{ig_begins, ig_starts, IgEnded};
 
 use crate::answered::write_sums;
 use crate::ig::{Begins, Ig};
+use crate::ig_sent::Own;
 use bale_types::{Failed, Item, NoMemory, Out, Sink, Triple, bits_of};
 use mtx_text::Matrix;
 use round_program::Progs;
@@ -53,53 +51,32 @@ fn part_of(alloc: Global, m: &Matrix, parts: &Parts, ranks: u32, rank: u32) -> R
         own: own_of(alloc, parts, rank)?,
         sums: zeros(alloc, (m.cols() / ranks + 1) as usize)?,
         queries: no_queries(alloc, ranks)?,
-        outgoing: values_of(alloc, parts, ranks, rank)?,
         answers: zeros(alloc, parts.len(rank))?,
     };
     Ok(Ig::new(alloc, rank, ranks, m.cols(), begins))
 }
 
-/// The numbers and columns of a rank's entries.
-fn own_of(alloc: Global, parts: &Parts, rank: u32) -> Result<Vec<(u32, u32)>, NoMemory>
+/// A rank's entries.
+pub(crate) fn own_of(alloc: Global, parts: &Parts, rank: u32) -> Result<Vec<Own>, NoMemory>
     requires { rank < length parts.now }
-    ensures { IfOk result (λ v. v.items ≡ map (λ e. (e.0, e.1.j)) (slice_index_or parts.now rank [])) }
+    ensures { IfOk result (λ v. v.items ≡ map own_entry (slice_index_or parts.now rank [])) }
 {
     let mut own = Vec::with_capacity(alloc, parts.len(rank))?;
     for x in 0..parts.len(rank) {
         let (number, entry) = parts.entry(rank, x);
-        own.push((number, entry.j))?;
+        own.push(kept_of(number, entry))?;
     }
     Ok(own)
 }
 
-/// The values of a rank's entries, for the owners of their columns.
-pub(crate) fn values_of(
-    alloc: Global,
-    parts: &Parts,
-    ranks: u32,
-    rank: u32,
-) -> Result<Vec<(u32, Item)>, NoMemory>
-    requires some { 0 < ranks }
-    requires rank { rank < length parts.now }
-    ensures { IfOk result (λ v. v.items ≡ map (λ e. (column_owner ranks e, value_item e))
-        (slice_index_or parts.now rank [])) }
+/// An entry as its rank keeps it.
+fn kept_of(number: u32, entry: Triple) -> Own
+    ensures { result ≡ own_entry (number, entry) }
 {
-    let mut values = Vec::with_capacity(alloc, parts.len(rank))?;
-    for x in 0..parts.len(rank) {
-        let (_number, entry) = parts.entry(rank, x);
-        values.push((entry.j % ranks, value_sent(entry)))?;
-    }
-    Ok(values)
-}
-
-/// The value of an entry, for the owner of its column.
-fn value_sent(entry: Triple) -> Item
-    ensures { result ≡ record { a = entry.j; b = twos_complement entry.v; c = 0 } }
-{
-    Item {
-        a: entry.j as u64,
-        b: bits_of(entry.v),
-        c: 0,
+    Own {
+        number,
+        column: entry.j,
+        value: bits_of(entry.v),
     }
 }
 

@@ -1,11 +1,13 @@
 //! The sums of columns alone, which ranks of ig know before they ask one another.
 
-ghost use Rattle.std.specs.Prelude.{◌≡◌, ◌<◌, ◌^◌, [], ◌∷◌, true, length};
+ghost use Rattle.std.specs.Prelude.{◌≡◌, ◌<◌, ◌^◌, [], ◌∷◌, true, length, map};
 ghost use Rattle.std.specs.List.{All};
 ghost use Rattle.app_histo_ig.specs.Sums.{IsSums};
+ghost use Rattle.app_histo_ig.specs.IgSent.{to_add};
 
 use crate::batches::rise_each;
 use crate::ig_lists::rise;
+use crate::ig_sent::{Own, value_of_own};
 use crate::seat::Seat;
 use bale_types::{Item, NoMemory};
 use round_program::{Arrivals, Program};
@@ -20,8 +22,8 @@ pub struct IgSums {
     round: u64,
     /// the matrix's number of columns
     cols: u32,
-    /// the values of the rank's entries, in order, each with its column's owner
-    values: Vec<(u32, Item)>,
+    /// the rank's entries, in order
+    own: Vec<Own>,
     /// the sums of own columns
     sums: Vec<u64>,
 }
@@ -38,28 +40,22 @@ impl Model for IgSums {
     ghost invariant = { λ s. IsSums (sums_state s) };
 }
 
-/// What a rank has after the round: its values, and the sums of its columns.
+/// What a rank has after the round: its entries, and the sums of its columns.
 #[derive(Drop)]
 pub(crate) struct Added {
-    pub(crate) values: Vec<(u32, Item)>,
+    pub(crate) own: Vec<Own>,
     pub(crate) sums: Vec<u64>,
 }
 
 impl IgSums {
     /// A rank before the round.
-    pub(crate) fn new(
-        rank: u32,
-        ranks: u32,
-        cols: u32,
-        values: Vec<(u32, Item)>,
-        sums: Vec<u64>,
-    ) -> IgSums
+    pub(crate) fn new(rank: u32, ranks: u32, cols: u32, own: Vec<Own>, sums: Vec<u64>) -> IgSums
         requires { IsSums (record {
           rank = rank;
           ranks = ranks;
           round = 0;
           cols = cols;
-          values = values.items;
+          values = map (to_add ranks) own.items;
           sums = sums.items;
         }) }
         ensures { result ≡ record {
@@ -67,7 +63,7 @@ impl IgSums {
           ranks = ranks;
           round = 0;
           cols = cols;
-          values = values.items;
+          values = map (to_add ranks) own.items;
           sums = sums.items;
         } }
     {
@@ -76,18 +72,18 @@ impl IgSums {
             ranks,
             round: 0,
             cols,
-            values,
+            own,
             sums,
         }
     }
 
     /// What it has.
     pub(crate) fn into_added(self) -> Added
-        ensures values { result.values.items ≡ self.values }
+        ensures values { map (to_add self.ranks) result.own.items ≡ self.values }
         ensures sums { result.sums.items ≡ self.sums }
     {
         Added {
-            values: self.values,
+            own: self.own,
             sums: self.sums,
         }
     }
@@ -115,14 +111,14 @@ impl Program for IgSums {
 
     fn count(&self) -> u64 {
         if self.round == 0 {
-            self.values.len() as u64
+            self.own.len() as u64
         } else {
             0
         }
     }
 
     fn emission(&self, i: u64) -> (u32, Item) {
-        self.values[i as usize]
+        value_of_own(&self.own, self.ranks, i as usize)
     }
 
     fn fits(&self, from: u32, item: Item) -> bool {

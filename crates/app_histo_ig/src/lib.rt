@@ -29,6 +29,7 @@ mod ig_asker;
 mod ig_by_askers;
 mod ig_lists;
 mod ig_run;
+mod ig_sent;
 mod ig_sums;
 mod seat;
 

@@ -1,7 +1,9 @@
-use Rattle.std.proofs.Common.{◌≡◌, ℕ, ◌<◌, ◌^◌, All, map, length, replicate, arith, sym, ap, ◌∙◌, subst}
+use Rattle.std.proofs.Common.{◌≡◌, ℕ, ◌<◌, ◌^◌, All, List, map, length, replicate, arith, sym, ap, ◌∙◌, subst}
 use Rattle.std.specs.Prelude.{vec_len}
 use Rattle.std.proofs.lemmas.List.{length-map, length-replicate}
 use Rattle.bale_types.specs.declared.Item.{Item}
+use Rattle.app_histo_ig.specs.IgSent.{question_of, to_add}
+use Rattle.app_histo_ig.proofs.IgSent.{own_questions}
 use Rattle.app_histo_ig.proofs.SumsAsked.{asks_ranks, asker_is}
 use Rattle.app_histo_ig.proofs.ig_by_askers.asker_of.Goals as goal
 
@@ -13,26 +15,29 @@ new-requires-clause-some c =
 
 pub new-requires-clause-asks : goal.new-requires-clause-asks
 new-requires-clause-asks c =
-    let is : c.in_ok-queries.queries.items ≡ map (λ (e : ℕ × Item). (e.0, e.1.a)) c.args.q.values =
-    c.in_ok-queries.ensures ∙ ap (map {B = ℕ × ℕ} (λ (e : ℕ × Item). (e.0, e.1.a))) (c.deref.ensures.value ∙ c.into_added-added.ensures.values) in
-    subst (All (λ q. (q.0 < c.ranks-ranks.result) × (q.1 < 2 ^ 64))) (sym is)
-    (subst (λ n. All (λ q. (q.0 < n) × (q.1 < 2 ^ 64)) (map (λ (e : ℕ × Item). (e.0, e.1.a)) c.args.q.values)) (sym c.ranks-ranks.ensures) (asks_ranks c.args.q c.rank-rank.ensures.valid))
+    let own = c.into_added-added.result.own.items in
+    let is : map (question_of c.args.q.ranks) own ≡ map (λ (e : ℕ × Item). (e.0, e.1.a)) c.args.q.values =
+    own_questions c.args.q.ranks own ∙ ap (map {B = ℕ × ℕ} (λ (e : ℕ × Item). (e.0, e.1.a))) c.into_added-added.ensures.values in
+    subst (λ n. All (λ q. (q.0 < n) × (q.1 < 2 ^ 64)) (map (question_of n) own)) (sym c.ranks-ranks.ensures)
+    (subst (All (λ q. (q.0 < c.args.q.ranks) × (q.1 < 2 ^ 64))) (sym is) (asks_ranks c.args.q c.rank-rank.ensures.valid))
 
 pub new-requires-clause-words : goal.new-requires-clause-words
 new-requires-clause-words c = subst (All (λ v. v < 2 ^ 64)) (sym c.into_added-added.ensures.sums) c.rank-rank.ensures.valid.words
 
 pub new-requires-clause-places : goal.new-requires-clause-places
 new-requires-clause-places c =
-    let size : vec_len c.in_ok-queries.queries ≡ length c.in_ok-queries.queries.items = omega (arith, c.in_ok-queries.queries.ok.0) in
+    let size : vec_len c.into_added-added.result.own ≡ length c.into_added-added.result.own.items = omega (arith, c.into_added-added.result.own.ok.0) in
     ap length c.in_ok-answers.ensures ∙ length-replicate c.len.result 0 ∙ c.len.ensures ∙ size
 
 pub returns : goal.returns
 returns c =
-    let f : ℕ × Item → ℕ × ℕ = λ e. (e.0, e.1.a) in
-    let is : c.in_ok-queries.queries.items ≡ map (λ (e : ℕ × Item). (e.0, e.1.a)) c.args.q.values =
-    c.in_ok-queries.ensures ∙ ap (map {B = ℕ × ℕ} (λ (e : ℕ × Item). (e.0, e.1.a))) (c.deref.ensures.value ∙ c.into_added-added.ensures.values) in
-    let size : vec_len c.in_ok-queries.queries ≡ length c.in_ok-queries.queries.items = omega (arith, c.in_ok-queries.queries.ok.0) in
+    let own = c.into_added-added.result.own in
+    let values : map (to_add c.args.q.ranks) own.items ≡ c.args.q.values = c.into_added-added.ensures.values in
+    let is : map (question_of c.ranks-ranks.result) own.items ≡ map (λ (e : ℕ × Item). (e.0, e.1.a)) c.args.q.values =
+    ap (λ n. map (question_of n) own.items) c.ranks-ranks.ensures ∙ own_questions c.args.q.ranks own.items ∙ ap (map {B = ℕ × ℕ} (λ (e : ℕ × Item). (e.0, e.1.a))) values in
+    let size : vec_len own ≡ length own.items = omega (arith, own.ok.0) in
+    let all : length own.items ≡ length c.args.q.values = sym (length-map own.items (to_add c.args.q.ranks)) ∙ ap length values in
     c.new.ensures
-    ∙ asker_is c.args.q c.rank-rank.result c.ranks-ranks.result c.in_ok-queries.queries.items c.into_added-added.result.sums.items c.in_ok-answers.answers.items
+    ∙ asker_is c.args.q c.rank-rank.result c.ranks-ranks.result (map (question_of c.ranks-ranks.result) own.items) c.into_added-added.result.sums.items c.in_ok-answers.answers.items
     c.rank-rank.ensures.value c.ranks-ranks.ensures is c.into_added-added.ensures.sums
-    (c.in_ok-answers.ensures ∙ ap (λ n. replicate n 0) (c.len.ensures ∙ size ∙ ap length is ∙ length-map c.args.q.values f))
+    (c.in_ok-answers.ensures ∙ ap (λ n. replicate n 0) (c.len.ensures ∙ size ∙ all))

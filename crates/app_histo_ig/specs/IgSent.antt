@@ -1,0 +1,28 @@
+-- What a rank of ig sends in its round, read from the entries and the replies that it keeps.
+use Rattle.std.specs.Prelude.{ℕ, ◌%◌, ◌==◌, List, map, cond}
+use Rattle.bale_types.specs.declared.Item.{Item}
+use Rattle.bale_types.specs.Bits.{twos_complement}
+use Rattle.sparse_rows.specs.Owners.{Numbered}
+use Rattle.app_histo_ig.specs.declared.ig_sent.Own.{Own}
+use Rattle.app_histo_ig.specs.Igs.{to_ask}
+
+-- an entry as its rank keeps it
+abbrev pub own_entry : Numbered → Own
+own_entry e = record { number = e.0; column = e.1.j; value = twos_complement e.1.v }
+
+-- its number and its column
+abbrev pub number_and_column : Own → ℕ × ℕ
+number_and_column o = (o.number, o.column)
+
+-- round 0, or the round of sums alone: its value, on its way to its column's owner
+abbrev pub to_add : ℕ → Own → ℕ × Item
+to_add ranks o = (o.column % ranks, record { a = o.column; b = o.value; c = 0 })
+
+-- round 0: values, round 1: queries, and then the replies
+abbrev pub sent_of : ℕ → ℕ → List Own → List (ℕ × Item) → List (ℕ × Item)
+sent_of round ranks own replies =
+    cond (round == 0) (map (to_add ranks) own) (cond (round == 1) (map (to_ask ranks) (map number_and_column own)) replies)
+
+-- where ranks ask and answer at once: the question for its column, to the column's owner
+abbrev pub question_of : ℕ → Own → ℕ × ℕ
+question_of ranks o = (o.column % ranks, o.column)

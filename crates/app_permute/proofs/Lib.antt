@@ -3,6 +3,7 @@ pub mod CellWords
 pub mod PermuteCells
 pub mod PermuteNumbers
 pub mod PermuteOwners
+pub mod Sent
 pub mod PermuteSteps
 pub mod TransposeBatches
 pub mod TransposeOwners

@@ -1,8 +1,8 @@
 -- What a step of the code leaves, where a rank is one of permute.
-use Rattle.std.proofs.Common.{ℕ, ◌+◌, ◌-◌, ◌/◌, ◌^◌, ◌<◌, ◌≡◌, ◌==◌, min, Bool, true, false, cond, List, [], map, length, arith, inl, inr, sym, ap, ◌∙◌, subst, lit<}
+use Rattle.std.proofs.Common.{ℕ, ◌+◌, ◌-◌, ◌/◌, ◌^◌, ◌<◌, ◌≤◌, ◌≡◌, ◌==◌, min, Bool, true, false, cond, List, [], map, length, arith, inl, inr, sym, ap, ◌∙◌, subst, lit<}
 use Rattle.std.specs.Prelude.{nat_lt}
 use Rattle.std.specs.List.{All}
-use Rattle.std.proofs.lemmas.Bool.{cases_lt, eq-eqb, ne_eqb, lt-ltb}
+use Rattle.std.proofs.lemmas.Bool.{cases_lt, eq-eqb, ne_eqb, lt-ltb, le-ltb}
 use Rattle.std.proofs.lemmas.List.Elements.{All-nil}
 use Rattle.bale_types.specs.declared.Item.{Item}
 use Rattle.bale_types.specs.declared.triple.Triple.{Triple}
@@ -10,6 +10,8 @@ use Rattle.mtx_text.specs.Cells.{raised}
 use Rattle.round_program.specs.Laws.{Fits}
 use Rattle.app_permute.specs.Permutes.{PermuteState, IsPermuting, IsKept, permute_rules, kept_as, to_column, to_row, next_outgoing}
 use Rattle.app_permute.specs.PermuteLaws.{permute_laws, next_ordered}
+use Rattle.app_permute.specs.Sent.{sent_of, with_new_row, with_new_column}
+use Rattle.app_permute.proofs.Sent.{sent_after}
 
 -- a cell was raised or found no memory
 pub raise_valid : (s : PermuteState) (b : Bool) (from : ℕ) (x : Item) (cells : List Triple) → IsPermuting s → Fits permute_rules s from x → cells ≡ cond b (raised (kept_as s.round x) s.cells) s.cells → IsPermuting (record s { cells = cells })
@@ -70,17 +72,30 @@ sent_next s came h =
           none _ _ ∙ sym (none _ _)
     ]
 
--- the state after a round, from the fields that change
-pub ended_valid : (s : PermuteState) (round : ℕ) (outgoing : List (ℕ × Item)) (cells came : List Triple) (rows cols : List ℕ) → IsPermuting s → round ≡ min (s.round + 1) (2 ^ 64 - 1)
-    → came ≡ cond (nat_lt s.round 2) s.cells [] → cells ≡ cond (nat_lt s.round 2) [] s.cells → rows ≡ s.new_rows → cols ≡ s.new_cols
-    → outgoing ≡ cond (s.round == 0) (map (to_column s.ranks rows) came) (cond (s.round == 1) (map (to_row s.ranks cols) came) [])
-    → IsPermuting (record s { round = round; outgoing = outgoing; cells = cells })
-ended_valid s round outgoing cells came rows cols v r c k a b o =
-    let next : IsPermuting (permute_rules.ended s 0) = (permute_laws.next s 0 v (lit< tt)).valid in
-    let is : outgoing ≡ next_outgoing s =
-    o ∙ ap (λ w. cond (s.round == 0) (map (to_column s.ranks w) came) (cond (s.round == 1) (map (to_row s.ranks cols) came) [])) a
+-- what is sent after a round, from the fields that it is read from
+sent_is : (s : PermuteState) (round : ℕ) (kept came : List Triple) (rows cols : List ℕ) → round ≡ min (s.round + 1) (2 ^ 64 - 1) → came ≡ cond (nat_lt s.round 2) s.cells [] → rows ≡ s.new_rows → cols ≡ s.new_cols
+    → kept ≡ cond (s.round == 0) (map (with_new_row s.ranks rows) came) (cond (s.round == 1) (map (with_new_column s.ranks cols) came) came)
+    → sent_of round s.ranks kept ≡ next_outgoing s
+sent_is s round kept came rows cols r c a b o =
+    let none : 2 ≤ s.round → came ≡ [] = λ high. c ∙ ap (λ t. cond t s.cells []) (le-ltb s.round 2 high) in
+    sent_after s.round round s.ranks rows cols came kept r none o
+    ∙ ap (λ w. cond (s.round == 0) (map (to_column s.ranks w) came) (cond (s.round == 1) (map (to_row s.ranks cols) came) [])) a
     ∙ ap (λ w. cond (s.round == 0) (map (to_column s.ranks s.new_rows) came) (cond (s.round == 1) (map (to_row s.ranks w) came) [])) b
-    ∙ sent_next s came c in
-    subst (λ w. IsPermuting (record s { round = w; outgoing = outgoing; cells = cells })) (sym r)
-    (subst (λ w. IsPermuting (record s { round = min (s.round + 1) (2 ^ 64 - 1); outgoing = w; cells = cells })) (sym is)
-    (subst (λ w. IsPermuting (record s { round = min (s.round + 1) (2 ^ 64 - 1); outgoing = next_outgoing s; cells = w })) (sym k) next))
+    ∙ sent_next s came c
+
+-- the state after a round, from the fields that change
+pub ended_is : (s : PermuteState) (votes round : ℕ) (kept cells came : List Triple) (rows cols : List ℕ) → round ≡ min (s.round + 1) (2 ^ 64 - 1)
+    → came ≡ cond (nat_lt s.round 2) s.cells [] → cells ≡ cond (nat_lt s.round 2) [] s.cells → rows ≡ s.new_rows → cols ≡ s.new_cols
+    → kept ≡ cond (s.round == 0) (map (with_new_row s.ranks rows) came) (cond (s.round == 1) (map (with_new_column s.ranks cols) came) came)
+    → record s { round = round; outgoing = sent_of round s.ranks kept; cells = cells } ≡ permute_rules.ended s votes
+ended_is s votes round kept cells came rows cols r c k a b o =
+    ap (λ w. record s { round = w; outgoing = sent_of round s.ranks kept; cells = cells }) r
+    ∙ ap (λ w. record s { round = min (s.round + 1) (2 ^ 64 - 1); outgoing = w; cells = cells }) (sent_is s round kept came rows cols r c a b o)
+    ∙ ap (λ w. record s { round = min (s.round + 1) (2 ^ 64 - 1); outgoing = next_outgoing s; cells = w }) k
+
+pub ended_valid : (s : PermuteState) (round : ℕ) (kept cells came : List Triple) (rows cols : List ℕ) → IsPermuting s → round ≡ min (s.round + 1) (2 ^ 64 - 1)
+    → came ≡ cond (nat_lt s.round 2) s.cells [] → cells ≡ cond (nat_lt s.round 2) [] s.cells → rows ≡ s.new_rows → cols ≡ s.new_cols
+    → kept ≡ cond (s.round == 0) (map (with_new_row s.ranks rows) came) (cond (s.round == 1) (map (with_new_column s.ranks cols) came) came)
+    → IsPermuting (record s { round = round; outgoing = sent_of round s.ranks kept; cells = cells })
+ended_valid s round kept cells came rows cols v r c k a b o =
+    subst IsPermuting (sym (ended_is s 0 round kept cells came rows cols r c k a b o)) (permute_laws.next s 0 v (lit< tt)).valid

@@ -7,6 +7,7 @@ pub mod PermuteRuns
 pub mod PermuteSeats
 pub mod PermuteView
 pub mod Permutes
+pub mod Sent
 pub mod TransposeLaws
 pub mod TransposeRuns
 pub mod TransposeView

@@ -21,6 +21,7 @@ mod permute;
 mod permute_lists;
 mod permute_run;
 mod seat;
+mod sending;
 mod transpose;
 mod transpose_run;
 

@@ -5,13 +5,15 @@ ghost use Rattle.round_program.specs.Laws.{Fits};
 ghost use Rattle.round_program.specs.Batches.{taken_in};
 ghost use Rattle.app_permute.specs.Permutes.{IsPermuting, permute_rules};
 ghost use Rattle.app_permute.specs.PermuteSeats.{IsSeat};
+ghost use Rattle.app_permute.specs.Sent.{sent_of};
 
 use crate::carried::raise_kept;
-use crate::permute_lists::{after_round, take_cells};
+use crate::permute_lists::{renumber, take_cells};
 use crate::seat::Seat;
-use bale_types::{Item, NoMemory};
+use crate::sending::{emission_of, emit_sent};
+use bale_types::{Item, NoMemory, Triple};
 use mtx_text::Cells;
-use round_program::{Arrivals, Program};
+use round_program::{Arrivals, Departures, Program};
 use std::alloc::Global;
 use std::marker::Model;
 
@@ -20,7 +22,6 @@ use std::marker::Model;
 /// to the owner of its row, then to that of its column, and then to that of its new row.
 #[derive(Drop)]
 pub struct Permute {
-    alloc: Global,
     rank: u32,
     ranks: u32,
     round: u64,
@@ -32,8 +33,8 @@ pub struct Permute {
     new_rows: Vec<u32>,
     /// the new numbers of own columns
     new_cols: Vec<u32>,
-    /// what is sent in this round
-    outgoing: Vec<(u32, Item)>,
+    /// the cells that are sent in this round, with the new numbers that the rank gave them
+    outgoing: Vec<Triple>,
     /// the cells that came in this round
     cells: Cells,
 }
@@ -55,7 +56,7 @@ impl Model for Permute {
 pub(crate) struct Begins {
     pub(crate) new_rows: Vec<u32>,
     pub(crate) new_cols: Vec<u32>,
-    pub(crate) outgoing: Vec<(u32, Item)>,
+    pub(crate) outgoing: Vec<Triple>,
 }
 
 impl Permute {
@@ -76,7 +77,7 @@ impl Permute {
           cols = cols;
           new_rows = begins.new_rows.items;
           new_cols = begins.new_cols.items;
-          outgoing = begins.outgoing.items;
+          outgoing = sent_of 0 ranks begins.outgoing.items;
           cells = [];
         }) }
         ensures { result ≡ record {
@@ -87,12 +88,11 @@ impl Permute {
           cols = cols;
           new_rows = begins.new_rows.items;
           new_cols = begins.new_cols.items;
-          outgoing = begins.outgoing.items;
+          outgoing = sent_of 0 ranks begins.outgoing.items;
           cells = [];
         } }
     {
         Permute {
-            alloc,
             rank,
             ranks,
             round: 0,
@@ -176,7 +176,11 @@ impl Program for Permute {
     }
 
     fn emission(&self, i: u64) -> (u32, Item) {
-        self.outgoing[i as usize]
+        emission_of(self.round, self.ranks, &self.outgoing, i)
+    }
+
+    fn emit_each<D: Departures>(&self, from: u64, out: &mut D) -> u64 {
+        emit_sent(self.round, self.ranks, &self.outgoing, from, out)
     }
 
     fn fits(&self, from: u32, item: Item) -> bool {
@@ -207,15 +211,14 @@ impl Program for Permute {
 
     fn end_round(&mut self, votes: u64) -> Result<bool, NoMemory> {
         let goes_on = self.round < 2;
-        let came = take_cells(self.alloc, &mut self.cells, self.round);
-        self.outgoing = after_round(
-            self.alloc,
+        take_cells(&mut self.cells, &mut self.outgoing, self.round);
+        renumber(
+            &mut self.outgoing,
             self.round,
             self.ranks,
-            &came,
             &self.new_rows,
             &self.new_cols,
-        )?;
+        );
         self.round = self.round.saturating_add(1);
         Ok(goes_on)
     }

@@ -1,95 +1,96 @@
-//! What a rank of permute sends, and the new numbers that it knows.
+//! The cells of a rank of permute between two rounds, and the new numbers that it knows.
 
 ghost use Rattle.std.specs.Prelude.{◌≡◌, ◌<◌, ◌+◌, ◌-◌, ◌/◌, ◌^◌, ◌==◌, [], nat_lt, IfOk, if◌then◌else◌, length, map};
 ghost use Rattle.std.specs.List.{All};
-ghost use Rattle.app_permute.specs.Permutes.{to_column, to_row};
 ghost use Rattle.app_permute.specs.PermuteRuns.{own_numbers};
+ghost use Rattle.app_permute.specs.Sent.{with_new_row, with_new_column};
 
-use bale_types::{Item, NoMemory, Triple, bits_of};
+use bale_types::{NoMemory, Triple};
 use mtx_text::Cells;
 use std::alloc::Global;
-use std::mem;
 
-/// Takes the cells that came in round 0 or 1 out, in order; those of a later round stay.
-pub(crate) fn take_cells(alloc: Global, cells: &mut Cells, round: u64) -> Vec<Triple>
-    ensures came { result.items ≡ (if nat_lt round 2 then cells.old else []) }
+/// Moves the cells that came in round 0 or 1 into `list`, in order; those of a later round stay, and the list is empty.
+pub(crate) fn take_cells(cells: &mut Cells, list: &mut Vec<Triple>, round: u64)
+    ensures came { list.new.items ≡ (if nat_lt round 2 then cells.old else []) }
     ensures kept { cells.new ≡ (if nat_lt round 2 then [] else cells.old) }
 {
     if round < 2 {
-        return mem::replace(cells, Cells::new(alloc)).into_entries();
+        cells.take_entries(list);
+    } else {
+        *list = Vec::new(*list.allocator());
     }
-    Vec::new(alloc)
 }
 
-/// What is sent after a round: to the owners of columns after round 0, to those of new rows after round 1, and then
-/// nothing.
-pub(crate) fn after_round(
-    alloc: Global,
+/// Gives the cells that came in a round the new numbers that the rank knows: of their rows after round 0, and of their
+/// columns after round 1.
+pub(crate) fn renumber(
+    cells: &mut Vec<Triple>,
     round: u64,
     ranks: u32,
-    came: &[Triple],
     new_rows: &[u32],
     new_cols: &[u32],
-) -> Result<Vec<(u32, Item)>, NoMemory>
+)
     requires some { 0 < ranks }
-    requires rows { round ≡ 0 → All (λ t. t.i / ranks < length new_rows.now) came.now }
-    requires cols { round ≡ 1 → All (λ t. t.i / ranks < length new_cols.now) came.now }
-    ensures { IfOk result (λ v. v.items ≡ (if round == 0 then map (to_column ranks new_rows.now) came.now
-        else if round == 1 then map (to_row ranks new_cols.now) came.now else [])) }
+    requires rows { round ≡ 0 → All (λ t. t.i / ranks < length new_rows.now) cells.old.items }
+    requires cols { round ≡ 1 → All (λ t. t.i / ranks < length new_cols.now) cells.old.items }
+    ensures { cells.new.items ≡ (if round == 0 then map (with_new_row ranks new_rows.now) cells.old.items
+        else if round == 1 then map (with_new_column ranks new_cols.now) cells.old.items else cells.old.items) }
 {
     if round == 0 {
-        return for_columns(alloc, ranks, came, new_rows);
+        renumber_rows(cells, ranks, new_rows);
+    } else if round == 1 {
+        renumber_columns(cells, ranks, new_cols);
     }
-    if round == 1 {
-        return for_rows(alloc, ranks, came, new_cols);
-    }
-    Ok(Vec::new(alloc))
 }
 
-/// Cells by row and column, for the owners of their columns, with the new numbers of their rows.
-fn for_columns(
-    alloc: Global,
-    ranks: u32,
-    came: &[Triple],
-    new_rows: &[u32],
-) -> Result<Vec<(u32, Item)>, NoMemory>
+/// Gives cells the new numbers of their rows.
+fn renumber_rows(cells: &mut Vec<Triple>, ranks: u32, news: &[u32])
     requires some { 0 < ranks }
-    requires placed { All (λ t. t.i / ranks < length new_rows.now) came.now }
-    ensures { IfOk result (λ v. v.items ≡ map (to_column ranks new_rows.now) came.now) }
+    requires placed { All (λ t. t.i / ranks < length news.now) cells.old.items }
+    ensures { cells.new.items ≡ map (with_new_row ranks news.now) cells.old.items }
 {
-    let mut outgoing = Vec::with_capacity(alloc, came.len())?;
-    for cell in came {
-        let item = Item {
-            a: new_rows[(cell.i / ranks) as usize] as u64,
-            b: cell.j as u64,
-            c: bits_of(cell.v),
-        };
-        outgoing.push((cell.j % ranks, item))?;
+    for k in 0..cells.len() {
+        let cell = cells[k];
+        cells[k] = with_new_row(ranks, news, cell);
     }
-    Ok(outgoing)
 }
 
-/// Cells by column and new row, for the owners of their new rows, with the new numbers of their columns.
-fn for_rows(
-    alloc: Global,
-    ranks: u32,
-    came: &[Triple],
-    new_cols: &[u32],
-) -> Result<Vec<(u32, Item)>, NoMemory>
+#[inline(always)]
+fn with_new_row(ranks: u32, news: &[u32], cell: Triple) -> Triple
     requires some { 0 < ranks }
-    requires placed { All (λ t. t.i / ranks < length new_cols.now) came.now }
-    ensures { IfOk result (λ v. v.items ≡ map (to_row ranks new_cols.now) came.now) }
+    requires placed { cell.i / ranks < length news.now }
+    ensures { result ≡ with_new_row ranks news.now cell }
 {
-    let mut outgoing = Vec::with_capacity(alloc, came.len())?;
-    for cell in came {
-        let item = Item {
-            a: cell.j as u64,
-            b: new_cols[(cell.i / ranks) as usize] as u64,
-            c: bits_of(cell.v),
-        };
-        outgoing.push((cell.j % ranks, item))?;
+    Triple {
+        i: news[(cell.i / ranks) as usize],
+        j: cell.j,
+        v: cell.v,
     }
-    Ok(outgoing)
+}
+
+/// Gives cells, kept by their columns first, the new numbers of their columns, and keeps them by their rows first.
+fn renumber_columns(cells: &mut Vec<Triple>, ranks: u32, news: &[u32])
+    requires some { 0 < ranks }
+    requires placed { All (λ t. t.i / ranks < length news.now) cells.old.items }
+    ensures { cells.new.items ≡ map (with_new_column ranks news.now) cells.old.items }
+{
+    for k in 0..cells.len() {
+        let cell = cells[k];
+        cells[k] = with_new_column(ranks, news, cell);
+    }
+}
+
+#[inline(always)]
+fn with_new_column(ranks: u32, news: &[u32], cell: Triple) -> Triple
+    requires some { 0 < ranks }
+    requires placed { cell.i / ranks < length news.now }
+    ensures { result ≡ with_new_column ranks news.now cell }
+{
+    Triple {
+        i: cell.j,
+        j: news[(cell.i / ranks) as usize],
+        v: cell.v,
+    }
 }
 
 /// The new numbers of the rows or columns that a rank owns.

@@ -1,19 +1,16 @@
 //! permute's start, and its answer as a matrix.
 
-ghost use Rattle.std.specs.Prelude.{◌≡◌, ◌<◌, ◌≤◌, ◌%◌, ℕ, List, [], ◌∷◌, length, map, slice_index_or, IfOk};
+ghost use Rattle.std.specs.Prelude.{◌≡◌, ◌<◌, ◌≤◌, ℕ, List, [], ◌∷◌, length, map, slice_index_or, IfOk};
 ghost use Rattle.mtx_text.specs.Permutations.{Permutes};
-ghost use Rattle.sparse_rows.specs.Owners.{row_owner};
 ghost use Rattle.sparse_rows.specs.Parts.{parts_of};
 ghost use Rattle.round_program.specs.Canonical.{InRound, EndsWithin};
-ghost use Rattle.app_permute.specs.Carried.{cell_item};
 ghost use Rattle.app_permute.specs.Moved.{permuted, IsPermuted};
 ghost use Rattle.app_permute.specs.Permutes.{permute_rules};
 ghost use Rattle.app_permute.specs.PermuteRuns.{permute_begins, permute_starts, PermuteEnded};
 
-use crate::carried::cell_sent;
 use crate::permute::{Begins, Permute};
 use crate::permute_lists::own_numbers;
-use bale_types::{Item, NoMemory};
+use bale_types::{NoMemory, Triple};
 use mtx_text::{Cells, Matrix};
 use round_program::Progs;
 use sparse_rows::{Parts, split};
@@ -69,29 +66,22 @@ fn part_of(
     let begins = Begins {
         new_rows: own_numbers(alloc, ranks, rank, rp)?,
         new_cols: own_numbers(alloc, ranks, rank, cp)?,
-        outgoing: cells_of(alloc, parts, ranks, rank)?,
+        outgoing: cells_of(alloc, parts, rank)?,
     };
     Ok(Permute::new(alloc, rank, ranks, m.rows(), m.cols(), begins))
 }
 
-/// The entries of a rank, for the owners of their rows.
-fn cells_of(
-    alloc: Global,
-    parts: &Parts,
-    ranks: u32,
-    rank: u32,
-) -> Result<Vec<(u32, Item)>, NoMemory>
-    requires some { 0 < ranks }
-    requires rank { rank < length parts.now }
-    ensures { IfOk result (λ v. v.items ≡ map (λ e. (row_owner ranks e, cell_item e.1))
-        (slice_index_or parts.now rank [])) }
+/// The entries of a rank.
+fn cells_of(alloc: Global, parts: &Parts, rank: u32) -> Result<Vec<Triple>, NoMemory>
+    requires { rank < length parts.now }
+    ensures { IfOk result (λ v. v.items ≡ map (λ e. e.1) (slice_index_or parts.now rank [])) }
 {
-    let mut outgoing = Vec::with_capacity(alloc, parts.len(rank))?;
+    let mut cells = Vec::with_capacity(alloc, parts.len(rank))?;
     for x in 0..parts.len(rank) {
         let (_number, entry) = parts.entry(rank, x);
-        outgoing.push((entry.i % ranks, cell_sent(entry)))?;
+        cells.push(entry)?;
     }
-    Ok(outgoing)
+    Ok(cells)
 }
 
 /// The permuted matrix, by row and then column. The programs are those of `permute_start` on `m` after their run.

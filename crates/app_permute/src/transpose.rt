@@ -1,19 +1,20 @@
 //! transpose: the owner of each new row gets the row's cells.
 
 ghost use Rattle.std.specs.Prelude.{◌≡◌, ◌<◌, []};
+ghost use Rattle.app_permute.specs.Sent.{sent_of};
 ghost use Rattle.app_permute.specs.Transposes.{IsTransposing};
 
 use crate::carried::{RowOwner, cell_fits, raise_cell, raise_each};
-use bale_types::{Item, NoMemory};
+use crate::sending::{emission_of, emit_sent};
+use bale_types::{Item, NoMemory, Triple};
 use mtx_text::Cells;
-use round_program::{Arrivals, Program};
+use round_program::{Arrivals, Departures, Program};
 use std::alloc::Global;
 use std::marker::Model;
 
 /// One rank's part of transpose, in one round. Row `x` of the transposed matrix belongs to rank `x mod ranks`.
 #[derive(Drop)]
 pub struct Transpose {
-    alloc: Global,
     rank: u32,
     ranks: u32,
     round: u64,
@@ -21,8 +22,8 @@ pub struct Transpose {
     rows: u32,
     /// the transposed matrix's columns
     cols: u32,
-    /// what is sent in this round
-    outgoing: Vec<(u32, Item)>,
+    /// the cells that are sent in this round
+    outgoing: Vec<Triple>,
     /// the cells of own rows
     cells: Cells,
 }
@@ -47,7 +48,7 @@ impl Transpose {
         ranks: u32,
         rows: u32,
         cols: u32,
-        outgoing: Vec<(u32, Item)>,
+        outgoing: Vec<Triple>,
     ) -> Transpose
         requires { IsTransposing (record {
           rank = rank;
@@ -55,7 +56,7 @@ impl Transpose {
           round = 0;
           rows = rows;
           cols = cols;
-          outgoing = outgoing.items;
+          outgoing = sent_of 0 ranks outgoing.items;
           cells = [];
         }) }
         ensures { result ≡ record {
@@ -64,12 +65,11 @@ impl Transpose {
           round = 0;
           rows = rows;
           cols = cols;
-          outgoing = outgoing.items;
+          outgoing = sent_of 0 ranks outgoing.items;
           cells = [];
         } }
     {
         Transpose {
-            alloc,
             rank,
             ranks,
             round: 0,
@@ -113,7 +113,11 @@ impl Program for Transpose {
     }
 
     fn emission(&self, i: u64) -> (u32, Item) {
-        self.outgoing[i as usize]
+        emission_of(0, self.ranks, &self.outgoing, i)
+    }
+
+    fn emit_each<D: Departures>(&self, from: u64, out: &mut D) -> u64 {
+        emit_sent(0, self.ranks, &self.outgoing, from, out)
     }
 
     fn fits(&self, from: u32, item: Item) -> bool {
@@ -148,7 +152,8 @@ impl Program for Transpose {
 
     fn end_round(&mut self, votes: u64) -> Result<bool, NoMemory> {
         self.round = self.round.saturating_add(1);
-        self.outgoing = Vec::new(self.alloc);
+        // What was sent makes room for the matrix.
+        self.outgoing = Vec::new(*self.outgoing.allocator());
         Ok(false)
     }
 }

@@ -1,18 +1,15 @@
 //! transpose's start, and its answer as a matrix.
 
-ghost use Rattle.std.specs.Prelude.{◌≡◌, ◌<◌, ◌≤◌, ◌%◌, [], ◌∷◌, length, map, slice_index_or, IfOk};
+ghost use Rattle.std.specs.Prelude.{◌≡◌, ◌<◌, ◌≤◌, [], ◌∷◌, length, map, slice_index_or, IfOk};
 ghost use Rattle.mtx_text.specs.Sparse.{Sparse, IsSparse};
-ghost use Rattle.sparse_rows.specs.Owners.{column_owner};
 ghost use Rattle.sparse_rows.specs.Parts.{parts_of};
 ghost use Rattle.round_program.specs.Canonical.{InRound, EndsWithin};
-ghost use Rattle.app_permute.specs.Carried.{cell_item};
 ghost use Rattle.app_permute.specs.Moved.{turned, transposed, IsTransposed};
 ghost use Rattle.app_permute.specs.Transposes.{transpose_rules};
 ghost use Rattle.app_permute.specs.TransposeRuns.{transpose_begins, transpose_starts, TransposeEnded};
 
-use crate::carried::cell_sent;
 use crate::transpose::Transpose;
-use bale_types::{Item, NoMemory, Triple};
+use bale_types::{NoMemory, Triple};
 use mtx_text::{Cells, Matrix};
 use round_program::Progs;
 use sparse_rows::{Parts, split};
@@ -52,28 +49,21 @@ fn part_of(
     ensures { IfOk result (λ s. s ≡ transpose_begins ranks m.now rank) }
 {
     m.known();
-    let outgoing = turned_of(alloc, parts, ranks, rank)?;
+    let outgoing = turned_of(alloc, parts, rank)?;
     Ok(Transpose::new(alloc, rank, ranks, m.cols(), m.rows(), outgoing))
 }
 
-/// The entries of a rank, turned, for the owners of their columns.
-fn turned_of(
-    alloc: Global,
-    parts: &Parts,
-    ranks: u32,
-    rank: u32,
-) -> Result<Vec<(u32, Item)>, NoMemory>
-    requires some { 0 < ranks }
-    requires rank { rank < length parts.now }
-    ensures { IfOk result (λ v. v.items ≡ map (λ e. (column_owner ranks e, cell_item (turned e.1)))
-        (slice_index_or parts.now rank [])) }
+/// The entries of a rank, turned.
+fn turned_of(alloc: Global, parts: &Parts, rank: u32) -> Result<Vec<Triple>, NoMemory>
+    requires { rank < length parts.now }
+    ensures { IfOk result (λ v. v.items ≡ map (λ e. turned e.1) (slice_index_or parts.now rank [])) }
 {
-    let mut outgoing = Vec::with_capacity(alloc, parts.len(rank))?;
+    let mut cells = Vec::with_capacity(alloc, parts.len(rank))?;
     for x in 0..parts.len(rank) {
         let (_number, entry) = parts.entry(rank, x);
-        outgoing.push((entry.j % ranks, cell_sent(turned(entry))))?;
+        cells.push(turned(entry))?;
     }
-    Ok(outgoing)
+    Ok(cells)
 }
 
 /// An entry turned over the diagonal.

@@ -1,21 +1,21 @@
-use Rattle.std.proofs.Common.{ℕ, map, sym, ap, ◌∙◌, subst}
-use Rattle.bale_types.specs.declared.Item.{Item}
-use Rattle.sparse_rows.specs.Owners.{Numbered, row_owner}
+use Rattle.std.proofs.Common.{map, sym, ap, ◌∙◌, subst}
+use Rattle.sparse_rows.specs.Owners.{Numbered, own_entries}
 use Rattle.sparse_rows.proofs.Starts.{own_part, part_below}
-use Rattle.app_permute.specs.Carried.{cell_item}
 use Rattle.app_permute.specs.Permutes.{IsPermuting}
+use Rattle.app_permute.specs.Sent.{sent_of}
 use Rattle.app_permute.proofs.PermuteOwners.{begins_valid, begins_is}
+use Rattle.app_permute.proofs.Sent.{entries_sent}
 use Rattle.app_permute.proofs.permute_run.part_of.Goals as goal
 
-pub cells_of-requires-clause-rank : goal.cells_of-requires-clause-rank
-cells_of-requires-clause-rank c = part_below c.args.ranks c.args.rank c.args.m.now.entries c.args.parts.now c.requires.rank c.requires.parts
+pub cells_of-requires : goal.cells_of-requires
+cells_of-requires c = part_below c.args.ranks c.args.rank c.args.m.now.entries c.args.parts.now c.requires.rank c.requires.parts
 
 pub new-requires : goal.new-requires
 new-requires c =
     let own = own_part c.args.ranks c.args.rank c.args.m.now.entries c.args.parts.now c.requires.rank c.requires.parts in
     subst IsPermuting (sym (begins_is c.args.ranks c.args.m.now c.args.rp.now c.args.cp.now c.args.rank _ _ _ _ _ c.rows.ensures c.cols.ensures
     c.in_ok-own_numbers.ensures c.in_ok-own_numbers-2.ensures
-    (c.in_ok-cells_of.ensures ∙ ap (map {B = ℕ × Item} (λ (e : Numbered). (row_owner c.args.ranks e, cell_item e.1))) own)))
+    (ap (sent_of 0 c.args.ranks) (c.in_ok-cells_of.ensures ∙ ap (map (λ (e : Numbered). e.1)) own) ∙ entries_sent c.args.ranks (own_entries c.args.ranks c.args.rank c.args.m.now.entries))))
     (begins_valid c.args.ranks c.args.m.now c.args.rp.now c.args.cp.now c.args.rank c.requires.rank c.known.ensures c.requires.rows c.requires.cols)
 
 pub returns : goal.returns
@@ -24,4 +24,4 @@ returns c =
     c.new.ensures
     ∙ begins_is c.args.ranks c.args.m.now c.args.rp.now c.args.cp.now c.args.rank _ _ _ _ _ c.rows.ensures c.cols.ensures
     c.in_ok-own_numbers.ensures c.in_ok-own_numbers-2.ensures
-    (c.in_ok-cells_of.ensures ∙ ap (map {B = ℕ × Item} (λ (e : Numbered). (row_owner c.args.ranks e, cell_item e.1))) own)
+    (ap (sent_of 0 c.args.ranks) (c.in_ok-cells_of.ensures ∙ ap (map (λ (e : Numbered). e.1)) own) ∙ entries_sent c.args.ranks (own_entries c.args.ranks c.args.rank c.args.m.now.entries))

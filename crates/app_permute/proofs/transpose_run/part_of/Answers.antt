@@ -1,21 +1,21 @@
-use Rattle.std.proofs.Common.{ℕ, map, sym, ap, ◌∙◌, subst}
-use Rattle.bale_types.specs.declared.Item.{Item}
-use Rattle.sparse_rows.specs.Owners.{Numbered, column_owner}
+use Rattle.std.proofs.Common.{map, sym, ap, ◌∙◌, subst}
+use Rattle.sparse_rows.specs.Owners.{Numbered, own_entries}
 use Rattle.sparse_rows.proofs.Starts.{own_part, part_below}
-use Rattle.app_permute.specs.Carried.{cell_item}
 use Rattle.app_permute.specs.Moved.{turned}
+use Rattle.app_permute.specs.Sent.{sent_of}
 use Rattle.app_permute.specs.Transposes.{IsTransposing}
+use Rattle.app_permute.proofs.Sent.{turned_sent}
 use Rattle.app_permute.proofs.TransposeOwners.{begins_valid, begins_is}
 use Rattle.app_permute.proofs.transpose_run.part_of.Goals as goal
 
-pub turned_of-requires-clause-rank : goal.turned_of-requires-clause-rank
-turned_of-requires-clause-rank c = part_below c.args.ranks c.args.rank c.args.m.now.entries c.args.parts.now c.requires.rank c.requires.parts
+pub turned_of-requires : goal.turned_of-requires
+turned_of-requires c = part_below c.args.ranks c.args.rank c.args.m.now.entries c.args.parts.now c.requires.rank c.requires.parts
 
 pub new-requires : goal.new-requires
 new-requires c =
     let own = own_part c.args.ranks c.args.rank c.args.m.now.entries c.args.parts.now c.requires.rank c.requires.parts in
     subst IsTransposing (sym (begins_is c.args.ranks c.args.m.now c.args.rank _ _ _ c.cols.ensures c.rows.ensures
-    (c.in_ok-outgoing.ensures ∙ ap (map {B = ℕ × Item} (λ (e : Numbered). (column_owner c.args.ranks e, cell_item (turned e.1)))) own)))
+    (ap (sent_of 0 c.args.ranks) (c.in_ok-outgoing.ensures ∙ ap (map (λ (e : Numbered). turned e.1)) own) ∙ turned_sent c.args.ranks (own_entries c.args.ranks c.args.rank c.args.m.now.entries))))
     (begins_valid c.args.ranks c.args.m.now c.args.rank c.requires.rank c.known.ensures)
 
 pub returns : goal.returns
@@ -23,4 +23,4 @@ returns c =
     let own = own_part c.args.ranks c.args.rank c.args.m.now.entries c.args.parts.now c.requires.rank c.requires.parts in
     c.new.ensures
     ∙ begins_is c.args.ranks c.args.m.now c.args.rank _ _ _ c.cols.ensures c.rows.ensures
-    (c.in_ok-outgoing.ensures ∙ ap (map {B = ℕ × Item} (λ (e : Numbered). (column_owner c.args.ranks e, cell_item (turned e.1)))) own)
+    (ap (sent_of 0 c.args.ranks) (c.in_ok-outgoing.ensures ∙ ap (map (λ (e : Numbered). turned e.1)) own) ∙ turned_sent c.args.ranks (own_entries c.args.ranks c.args.rank c.args.m.now.entries))

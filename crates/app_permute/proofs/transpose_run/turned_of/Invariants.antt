@@ -1,8 +1,6 @@
 use Rattle.std.proofs.Common.{◌≡◌, [], map, take, slice_index_or}
-use Rattle.sparse_rows.specs.Owners.{column_owner}
-use Rattle.app_permute.specs.Carried.{cell_item}
 use Rattle.app_permute.specs.Moved.{turned}
 use Rattle.app_permute.proofs.transpose_run.turned_of.Given as goal
 
 abbrev pub invariant-loop-x : goal.invariant-loop-x
-invariant-loop-x l = l.outgoing.items ≡ map (λ e. (column_owner l.ranks e, cell_item (turned e.1))) (take l.x (slice_index_or l.parts l.rank []))
+invariant-loop-x l = l.cells.items ≡ map (λ e. turned e.1) (take l.x (slice_index_or l.parts l.rank []))

@@ -293,7 +293,7 @@ fn replied_on_threads<R: Threads + Wait + Sync, G: Gate + Sync>(
         (record { dims = grid.now; cap = cap; slots = slots; by_slots = true }) steady f.rounds) }
 {
     m.known();
-    let _many = grid.ranks();
+    grid.known();
     let askers = asking(alloc, m, added)?;
     bi_threads(rt, alloc, grid, cap, slots, steady, askers, gate)
 }

@@ -25,5 +25,3 @@ pub mod OnPorts
 pub mod Placing
 pub mod Threaded
 pub mod Last
-pub mod AdderTests
-mod ByHand

@@ -9,5 +9,3 @@ pub mod Worlds
 pub mod Drives
 pub mod Seats
 pub mod SeatLaws
-pub mod Adders
-pub mod AdderLaws

@@ -11,7 +11,7 @@
 //! | `BiNode::turn` | one turn, which never waits: asks, advances, answers, advances, hears; `Ended` exactly where both ways are complete |
 //! | `bi_serial` | drives all ranks on one thread, until each query has its one reply |
 //! | `bi_threads` | the same, with each rank on a thread of its own |
-//! | `drive_both`, `thread_both` | these two, for a capacity and a number of hops that are known when the program is compiled |
+//! | `drive_both`, `thread_both`, `thread_with` | these, for a capacity and a number of hops that are known when the program is compiled |
 //! | `replies_law` | the replies theorem, over any two lawful banks |
 //! | `askers_law` | what all ranks have heard, at every moment and at the end |
 //!
@@ -39,14 +39,7 @@ mod threads;
 pub use bi_node::BiNode;
 pub use drive::drive_both;
 pub use law::{askers_law, replies_law};
-pub use on_threads::thread_both;
+pub use on_threads::{thread_both, thread_with};
 pub use rank_node::{Steps, Turn};
 pub use serial::bi_serial;
 pub use threads::bi_threads;
-
-#[cfg(test)]
-mod adder;
-#[cfg(test)]
-mod tests;
-#[cfg(test)]
-mod thread_tests;

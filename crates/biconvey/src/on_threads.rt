@@ -61,8 +61,11 @@ pub fn thread_both<
     thread_with::<CAP, HOPS, R, A, G>(rt, alloc, grid, slots, steady, askers, gate, threads)
 }
 
-/// The same with so many threads at most: the caller drives the ranks from the number `threads` on.
-pub(crate) fn thread_with<
+/// The same with `threads` threads at most: the caller drives the ranks from that number on.
+///
+/// # Errors
+/// As those of `thread_both`.
+pub fn thread_with<
     const CAP: usize,
     const HOPS: usize,
     R: Threads + Wait + Sync,
@@ -89,7 +92,7 @@ pub(crate) fn thread_with<
         (round_of q) (round_of r)) }
 {
     closes_law();
-    let _few = grid.ranks();
+    grid.known();
     let all = nodes_of::<CAP, HOPS, A>(alloc, grid, steady, askers)?;
     let (queries, mut of_queries) = SlotBank::<CAP>::new(alloc, grid, slots)?;
     let (replies, mut of_replies) = SlotBank::<CAP>::new(alloc, grid, slots)?;

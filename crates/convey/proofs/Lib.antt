@@ -22,4 +22,3 @@ mod Pushes
 mod Pulls
 pub mod Batched
 pub mod Together
-mod Stations

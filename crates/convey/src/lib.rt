@@ -38,16 +38,3 @@ pub use conveyor::Conveyor;
 pub use hop_core::{Phase, Pushed};
 pub use law::{closes_law, exchange_law, rest_law};
 pub use progress::Progress;
-
-#[cfg(test)]
-mod call_tests;
-#[cfg(test)]
-mod exchange_tests;
-#[cfg(test)]
-mod hop_tests;
-#[cfg(test)]
-mod side;
-#[cfg(test)]
-mod sides;
-#[cfg(test)]
-mod station;

@@ -27,6 +27,13 @@ pub trait LetterProgram: Drop {
         ensures value { result ≡ rules.rank self.now }
         ensures valid { rules.valid self.now };
 
+    /// Does nothing, and tells that the state is one of those that the laws speak of.
+    fn known(&self)
+        ensures { rules.valid self.now }
+    {
+        let _rank = self.rank();
+    }
+
     /// The number of ranks.
     fn ranks(&self) -> u32
         ensures { result ≡ rules.ranks self.now };

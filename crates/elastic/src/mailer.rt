@@ -47,7 +47,7 @@ impl<Q: LetterProgram> Mailer<Q> {
     pub fn new(alloc: Global, q: Q) -> Result<Mailer<Q>, NoMemory>
         ensures { IfOk result (λ m. m ≡ mailing Q.rules q) }
     {
-        let _valid = q.rank();
+        q.known();
         let outgoing = spelled(alloc, &q)?;
         let begun = none_begun(alloc, q.ranks())?;
         Ok(Mailer {
@@ -135,7 +135,7 @@ fn hand_over<Q: LetterProgram>(inner: &mut Q, from: u32, letter: &[u8]) -> Resul
     ensures valid { Q.rules.valid inner.new }
 {
     let absorbed = inner.absorb_letter(from, letter);
-    let _valid = inner.rank();
+    inner.known();
     absorbed
 }
 
@@ -148,7 +148,7 @@ fn end<Q: LetterProgram>(inner: &mut Q, votes: u64) -> Result<bool, NoMemory>
     ensures valid { Q.rules.valid inner.new }
 {
     let ended = inner.end_round(votes);
-    let _valid = inner.rank();
+    inner.known();
     ended
 }
 

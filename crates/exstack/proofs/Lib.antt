@@ -16,6 +16,5 @@ mod Resetting
 mod Polling
 mod BothEnds
 mod Exchange
-mod Together
 mod Batches
 pub mod Lockstep

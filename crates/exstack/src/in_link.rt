@@ -73,7 +73,7 @@ impl<const CAP: usize> InLink<CAP> {
         ensures value { result ≡ length self.now.unread }
         ensures fits { length self.now.unread ≤ 1024 }
     {
-        let _small = self.parcel.cap();
+        self.parcel.known();
         self.parcel.len()
     }
 

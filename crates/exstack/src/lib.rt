@@ -35,10 +35,3 @@ mod stage;
 pub use exstack::Exstack;
 pub use law::{closes_law, cycles_law, exchange_law, lockstep_law};
 pub use stage::{Poll, Proceed, Stage};
-
-#[cfg(test)]
-mod call_tests;
-#[cfg(test)]
-mod side;
-#[cfg(test)]
-mod sides;

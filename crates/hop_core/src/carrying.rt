@@ -82,7 +82,7 @@ impl<const CAP: usize, const HOPS: usize> RankState<CAP, HOPS> {
         } }
     {
         self.pulled = None;
-        let _fits = parcel.len();
+        parcel.known();
         self.outs[number as usize].exchange(parcel, false);
     }
 
@@ -103,7 +103,7 @@ impl<const CAP: usize, const HOPS: usize> RankState<CAP, HOPS> {
     {
         self.pulled = None;
         let hop = self.routes.neighbour(number).hop;
-        let _fits = parcel.len();
+        parcel.known();
         let finished = self.ins[number as usize].exchange(parcel);
         parcel.clear();
         parcel.set_epoch(self.epoch);

@@ -87,7 +87,7 @@ impl<const CAP: usize> InLink<CAP> {
         ensures fits { length self.new.parcel.untaken ≤ CAP }
     {
         self.parcel.untake();
-        let _fits = self.parcel.len();
+        self.parcel.known();
     }
 
     /// Whether nothing is untaken.
@@ -228,8 +228,7 @@ pub fn links_in<const CAP: usize>(alloc: Global, count: u32) -> Result<Vec<InLin
     ensures { IfOk result (λ links. links.items ≡ replicate count no_in) }
 {
     let mut links = Vec::with_capacity(alloc, count as usize)?;
-    for i in 0..count {
-        let _made = i;
+    for _made in 0..count {
         links.push(InLink::new(alloc)?)?;
     }
     Ok(links)

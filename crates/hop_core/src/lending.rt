@@ -101,7 +101,7 @@ impl<const CAP: usize, const HOPS: usize> RankState<CAP, HOPS> {
         let number = self.routes.number_to(link);
         let last = self.at_end(number);
         self.lent = Lent::Nothing;
-        let _fits = parcel.len();
+        parcel.known();
         let mut spare = self.outs[number as usize].take_back(parcel, sent, last);
         spare.clear();
         spare.set_epoch(0);
@@ -150,7 +150,7 @@ impl<const CAP: usize, const HOPS: usize> RankState<CAP, HOPS> {
         let number = self.routes.number_from(link);
         let hop = self.routes.neighbour(number).hop;
         self.lent = Lent::Nothing;
-        let _fits = parcel.len();
+        parcel.known();
         let mut spare = self.ins[number as usize].take_back(parcel, got);
         spare.clear();
         spare.set_epoch(0);

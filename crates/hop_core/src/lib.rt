@@ -50,6 +50,3 @@ mod state;
 
 pub use phase::{Phase, Pushed};
 pub use state::RankState;
-
-#[cfg(test)]
-mod tests;

@@ -127,8 +127,7 @@ pub fn links_out<const CAP: usize>(alloc: Global, count: u32) -> Result<Vec<OutL
     ensures { IfOk result (λ links. links.items ≡ replicate count no_out) }
 {
     let mut links = Vec::with_capacity(alloc, count as usize)?;
-    for i in 0..count {
-        let _made = i;
+    for _made in 0..count {
         links.push(OutLink::new(alloc)?)?;
     }
     Ok(links)

@@ -70,7 +70,7 @@ fn pass_on<const CAP: usize>(
     ensures stopped { IsStopped routes.now.dims CAP (hop_to routes.now.dims i) outs.new.items
         (read_on result link.now) }
 {
-    let _neighbours = routes.neighbours();
+    routes.known();
     let from = routes.neighbour(i);
     let mut count = 0;
     for entry in link.unread() {

@@ -225,7 +225,7 @@ fn straight_to(routes: &Routes, to: u32) -> Onward
     ensures fair { IsFair routes.now.dims 1 result.tag }
     ensures below { result.out < sum routes.now.dims }
 {
-    let _grid = routes.neighbours();
+    routes.known();
     Onward {
         out: to,
         tag: Tag {

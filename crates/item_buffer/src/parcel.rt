@@ -181,6 +181,16 @@ impl<const CAP: usize> Parcel<CAP> {
         (self.pushed - self.taken) as usize == CAP
     }
 
+    /// Does nothing, and tells what holds of a parcel at every moment.
+    #[inline]
+    pub fn known(&self)
+        ensures small { CAP ≤ 1024 }
+        ensures within { length self.now.untaken + self.now.taken ≤ CAP }
+        ensures fresh { self.now.taken ≡ 0 → self.now.back ≡ None }
+    {
+        let _taken = self.taken;
+    }
+
     /// The most entries that the parcel can hold.
     #[inline]
     pub fn cap(&self) -> u32

@@ -1,5 +1,5 @@
 -- Edges in spans: which stay and which come where edges are appended.
-use Rattle.std.proofs.Common.{ℕ, zero, suc, ◌+◌, ◌-◌, ◌<◌, ◌≤◌, ◌≡◌, List, [], ◌∷◌, ◌++◌, Some, length, map, take, drop, get_or, slice_get, slice_set, replicate, All, arith, refl, sym, ap, ◌∙◌, subst}
+use Rattle.std.proofs.Common.{ℕ, zero, suc, ◌+◌, ◌-◌, ◌<◌, ◌≤◌, ◌≡◌, List, [], ◌∷◌, ◌++◌, Some, length, take, drop, get_or, slice_get, slice_set, replicate, All, arith, refl, sym, ap, ◌∙◌}
 use Rattle.std.specs.List.{slice_range}
 use Rattle.std.proofs.lemmas.List.{length-drop, length-append, take_all, take_more, take-append-le, drop-append-le, get_or-drop, get_or_append_left, append_assoc}
 use Rattle.list_laws.specs.Lists.{changed_at, Begins}

@@ -112,7 +112,7 @@ impl<const CAP: usize> SlotSeat<CAP> {
             ≡ (out_of self.old.lists link).sent }
         ensures kept { result ≡ Posted.NoRoom → parcel.new ≡ parcel.old }
     {
-        let _fresh = parcel.len();
+        parcel.known();
         let epoch = parcel.epoch();
         let end = &mut self.outs[link as usize];
         let wire = &bank.wires[link as usize];

@@ -1,4 +1,4 @@
-//! The slot bank by hand and the plain bank by the same rows, with ample memory.
+//! The slot bank and the plain bank by hand, by the same rows, with ample memory.
 ghost use Rattle.std.specs.Prelude.{◌≡◌, ◌+◌, ◌<◌, ◌≤◌, false, Some, if◌then◌else◌, IfOk, OnOk, length};
 ghost use Rattle.item_buffer.specs.Contents.{blank};
 ghost use Rattle.route_tensor.specs.Grid.{IsGrid};
@@ -306,6 +306,12 @@ fn slots_by_hand(rt: HostRuntime) -> Result<(), Fail> {
 #[test]
 #[tactic(auto, unfolding(port_bank::specs::Port::IsSlots))]
 fn two_epochs_ended(rt: HostRuntime) -> Result<(), Fail> {
+    let calls = [PostLast(1), Post(2), Collect];
+    let want = [Sent, Sent, Got(1)];
+    let ((by_slots, slot_epochs), (plain, plain_epochs)) = both_make(rt.alloc(), 2, &calls)?;
+    assert_eq!(rt; by_slots.as_slice(), want.as_slice());
+    assert_eq!(rt; plain.as_slice(), want.as_slice());
+    assert_eq!(rt; (slot_epochs, plain_epochs), (1, 1));
     let calls = [
         Post(1),
         PostLast(2),
@@ -331,7 +337,6 @@ fn two_epochs_ended(rt: HostRuntime) -> Result<(), Fail> {
     let ((by_slots, slot_epochs), (plain, plain_epochs)) = both_make(rt.alloc(), 2, &calls)?;
     assert_eq!(rt; by_slots.as_slice(), want.as_slice());
     assert_eq!(rt; plain.as_slice(), want.as_slice());
-    assert_eq!(rt; slot_epochs, 2);
-    assert_eq!(rt; plain_epochs, 2);
+    assert_eq!(rt; (slot_epochs, plain_epochs), (2, 2));
     Ok(())
 }

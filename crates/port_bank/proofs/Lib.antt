@@ -13,5 +13,3 @@ pub mod Ports
 pub mod Posts
 pub mod Listing
 pub mod Storing
-mod ByHand
-mod ByHops

@@ -29,8 +29,3 @@ pub use plain_bank::PlainBank;
 pub use plain_port::PlainPort;
 pub use plain_round::PlainRound;
 pub use port::{Collected, Port, Posted};
-
-#[cfg(test)]
-mod grid_tests;
-#[cfg(test)]
-mod tests;

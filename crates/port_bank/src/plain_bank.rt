@@ -85,6 +85,13 @@ impl<const CAP: usize> PlainBank<CAP> {
         PlainRound::new(grid, CAP as u32, slots, links)
     }
 
+    /// Does nothing, and tells what holds of the number of slots.
+    pub(crate) fn known(&self)
+        ensures { IsSlots self.now.slots }
+    {
+        let _slots = self.slots;
+    }
+
     /// How many slots each link has.
     pub(crate) fn slots(&self) -> u32
         ensures value { result ≡ self.now.slots }
@@ -114,7 +121,7 @@ impl<const CAP: usize> PlainBank<CAP> {
         ensures looks { (channel_at self.old link).looks_out ≤ (channel_at self.new link).looks_out }
         ensures number { length self.old.channels ≡ links self.old.dims }
     {
-        let _fits = p.len();
+        p.known();
         self.links[link as usize].post(self.slots, p)
     }
 

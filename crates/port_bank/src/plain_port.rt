@@ -78,7 +78,7 @@ impl<const CAP: usize> Port<CAP> for PlainPort<CAP> {
     ghost idle_is = { λ p l. refl };
 
     fn rank(&self) -> u32 {
-        let _lawful = self.bank.slots();
+        self.bank.known();
         self.rank
     }
 

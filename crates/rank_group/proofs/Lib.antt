@@ -17,7 +17,6 @@ pub mod Driven
 pub mod Making
 pub mod Telling
 pub mod Ended
-pub mod DriveTests
 pub mod Orders
 pub mod Sweeps
 pub mod Bounded

@@ -6,7 +6,7 @@
 //! | Call | What it does |
 //! |---|---|
 //! | `drive_serial` | drives the programs of all ranks from their first round to their last, on one thread |
-//! | `drive_threads` | the same, with each rank on a thread of its own |
+//! | `drive_threads`, `drive_with` | the same, with each rank on a thread of its own, or on so many threads at most |
 //! | `Gate::turn` | is called before each turn of a rank on a thread; an `OpenGate` holds nobody |
 //! | `Rounds::get`, `ClosedRound::epochs` | what a run leaves of its bank |
 //! | `Seated`, `run_together` | a rank at its ports, whatever it is, and the threads that turn all ranks: what `drive_threads` stands on, and further drives |
@@ -44,20 +44,5 @@ pub use drive::{Finished, drive_serial};
 pub use gate::{Gate, OpenGate};
 pub use rank_node::{Node, Steps, Turn, Via};
 pub use seated::Seated;
-pub use threads::drive_threads;
+pub use threads::{drive_threads, drive_with};
 pub use together::run_together;
-
-#[cfg(test)]
-mod drive_tests;
-#[cfg(test)]
-mod exstack_slot_tests;
-#[cfg(test)]
-mod refused_tests;
-#[cfg(test)]
-mod side_by_side_tests;
-#[cfg(test)]
-mod slot_tests;
-#[cfg(test)]
-mod thread_tests;
-#[cfg(test)]
-mod watched;

@@ -69,8 +69,11 @@ pub fn drive_threads<
     drive_with::<CAP, HOPS, R, Q, G>(rt, alloc, grid, via, slots, steady, progs, gate, threads)
 }
 
-/// The same with so many threads at most: the caller drives the ranks from the number `threads` on.
-pub(crate) fn drive_with<
+/// The same with `threads` threads at most: the caller drives the ranks from that number on.
+///
+/// # Errors
+/// As those of `drive_threads`.
+pub fn drive_with<
     const CAP: usize,
     const HOPS: usize,
     R: Threads + Wait + Sync,
@@ -100,7 +103,7 @@ pub(crate) fn drive_with<
         (manner_of via steady) (round_of c))) }
 {
     closes_laws();
-    let _few = grid.ranks();
+    grid.known();
     let all = ranks_of::<CAP, HOPS, Q>(alloc, grid, via, steady, progs)?;
     let (bank, mut gather) = SlotBank::<CAP>::new(alloc, grid, slots)?;
     let seated = seat_all(alloc, &bank, &mut gather, all)?;

@@ -125,8 +125,7 @@ pub(crate) fn take_each<Q: Program, I: Arrivals>(
     ensures { TakesEach Q.rules voting prog.old.value prog.new.value
         (I.items came) taken.sum result.sum taken.spoiled result.spoiled }
 {
-    // The contract of `rank` tells that the program's laws hold of it.
-    let _lawful = prog.rank();
+    prog.known();
     if voting {
         return Taken {
             sum: sum_votes(came, taken.sum),

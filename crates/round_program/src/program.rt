@@ -49,6 +49,13 @@ pub trait Program: Drop {
         ensures value { result ≡ rules.rank self.now }
         ensures valid { rules.valid self.now };
 
+    /// Does nothing, and tells that the state is one of those that the laws speak of.
+    fn known(&self)
+        ensures { rules.valid self.now }
+    {
+        let _rank = self.rank();
+    }
+
     /// The number of ranks.
     fn ranks(&self) -> u32
         ensures { result ≡ rules.ranks self.now };
@@ -105,8 +112,7 @@ pub trait Program: Drop {
     {
         let mut came = came;
         while let Some((from, item)) = came.next() {
-            // The contract of `rank` tells that the laws hold of the state.
-            let _lawful = self.rank();
+            self.known();
             if self.fits(from, item) {
                 self.absorb(from, item)?;
             }

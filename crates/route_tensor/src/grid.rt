@@ -107,6 +107,13 @@ impl Grid {
         self.n1 * self.n2 * self.n3
     }
 
+    /// Does nothing, and tells what holds of a grid at every moment.
+    pub fn known(&self)
+        ensures { IsGrid self.now }
+    {
+        let _side = self.n1;
+    }
+
     /// How many dimensions there are, and so how many hops a route has: 1, 2 or 3.
     pub fn hops(&self) -> u32
         ensures value { result ≡ length self.now }

@@ -25,6 +25,3 @@ mod tag;
 
 pub use grid::{Grid, GridError};
 pub use routes::{Neighbour, Onward, Routes};
-
-#[cfg(test)]
-mod tests;

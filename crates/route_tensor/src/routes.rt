@@ -122,6 +122,15 @@ impl Routes {
         })
     }
 
+    /// Does nothing, and tells what holds of tables at every moment.
+    #[inline]
+    pub fn known(&self)
+        ensures grid { IsGrid self.now.dims }
+        ensures rank { self.now.rank < ranks self.now.dims }
+    {
+        let _neighbours = &self.neighbours;
+    }
+
     /// How many neighbours the rank has.
     #[inline]
     pub fn neighbours(&self) -> u32

@@ -16,10 +16,10 @@ use Rattle.bale_runs.proofs.asking.replied_on_threads.Goals.{In_ok-askers}
 use Rattle.bale_runs.proofs.asking.replied_on_threads.Goals as goal
 
 pub asking-requires : goal.asking-requires
-asking-requires g c = record { ended = (ranks c.args.grid.now, ranks_some c.args.grid.now c.ranks-many.ensures.grid.positive, c.requires.ended) }
+asking-requires g c = record { ended = (ranks c.args.grid.now, ranks_some c.args.grid.now c.known-2.ensures.positive, c.requires.ended) }
 
 some : (g : Over) (c : In_ok-askers g) → 1 ≤ ranks c.args.grid.now
-some g c = ranks_some c.args.grid.now c.ranks-many.ensures.grid.positive
+some g c = ranks_some c.args.grid.now c.known-2.ensures.positive
 
 are : (g : Over) (c : In_ok-askers g) → AreAskersOf c.args.m.now (ranks c.args.grid.now) c.in_ok-askers.askers
 are g c = c.in_ok-askers.ensures.askers (ranks c.args.grid.now) (some g c) c.requires.ended

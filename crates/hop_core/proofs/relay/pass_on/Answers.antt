@@ -11,7 +11,7 @@ use Rattle.hop_core.proofs.relay.pass_on.Goals as goal
 pub index_mut-requires : goal.index_mut-requires
 index_mut-requires g c =
     let e : Entry = get_or c.unread-entry-items.result.now c.loop-entry.entry-index no_entry in
-    let w : c.passed_on-step.result.out < length c.loop-entry.outs.items = (step_within _ _ _ _ _ _ _ _ _ e _ c.neighbours-neighbours.ensures.grid c.neighbours-neighbours.ensures.rank c.requires.number c.requires.hop c.loop-entry.invariant.going
+    let w : c.passed_on-step.result.out < length c.loop-entry.outs.items = (step_within _ _ _ _ _ _ _ _ _ e _ c.known.ensures.grid c.known.ensures.rank c.requires.number c.requires.hop c.loop-entry.invariant.going
     (read_next c.unread-entry-items.result.now c.loop-entry.entry-index c.args.link.now c.unread-entry-items.ensures c.loop-entry-test.true) (by_table _ _ _ e.tag c.passed_on-step.ensures c.neighbour-from.ensures.value)).0 in
     omega (arith, w)
 
@@ -19,7 +19,7 @@ pub push-requires : goal.push-requires
 push-requires g c =
     let e : Entry = get_or c.unread-entry-items.result.now c.loop-entry.entry-index no_entry in (
       omega arith,
-      (step_within _ _ _ _ _ _ _ _ _ e _ c.neighbours-neighbours.ensures.grid c.neighbours-neighbours.ensures.rank c.requires.number c.requires.hop c.loop-entry.invariant.going
+      (step_within _ _ _ _ _ _ _ _ _ e _ c.known.ensures.grid c.known.ensures.rank c.requires.number c.requires.hop c.loop-entry.invariant.going
           (read_next c.unread-entry-items.result.now c.loop-entry.entry-index c.args.link.now c.unread-entry-items.ensures c.loop-entry-test.true) (by_table _ _ _ e.tag c.passed_on-step.ensures c.neighbour-from.ensures.value)).1 _ c.index_mut.ensures.value,
     )
 
@@ -27,7 +27,7 @@ pub loop-entry-preserved : goal.loop-entry-preserved
 loop-entry-preserved g c =
     let e : Entry = get_or c.unread-entry-items.result.now c.loop-entry.entry-index no_entry in
     record {
-      going = step_more _ _ _ _ _ _ _ _ _ _ _ _ e _ c.neighbours-neighbours.ensures.grid c.neighbours-neighbours.ensures.rank c.requires.number c.requires.hop c.loop-entry.invariant.going
+      going = step_more _ _ _ _ _ _ _ _ _ _ _ _ e _ c.known.ensures.grid c.known.ensures.rank c.requires.number c.requires.hop c.loop-entry.invariant.going
           (read_next c.unread-entry-items.result.now c.loop-entry.entry-index c.args.link.now c.unread-entry-items.ensures c.loop-entry-test.true) (by_table _ _ _ e.tag c.passed_on-step.ensures c.neighbour-from.ensures.value)
           c.index_mut.ensures.value (c.push.ensures.appended c.if-not-push.false) (c.push.ensures.room c.if-not-push.false) (read_more c.loop-entry.entry-index c.args.link.now);
       count = ap (λ n. n + 1) c.loop-entry.invariant.count;
@@ -43,4 +43,4 @@ returns-then-not-push-clause-stopped g c =
     let step = by_table _ _ _ e.tag c.passed_on-step.ensures c.neighbour-from.ensures.value in
     subst (λ n. IsStopped c.args.routes.now.dims g.row.CAP (hop_to c.args.routes.now.dims c.args.i) (set c.loop-entry.outs.items c.passed_on-step.result.out c.push.new.self) (read_on n c.args.link.now)) (sym c.loop-entry.invariant.count)
     (subst (λ outs. IsStopped c.args.routes.now.dims g.row.CAP (hop_to c.args.routes.now.dims c.args.i) outs (read_on c.loop-entry.entry-index c.args.link.now)) (sym (same_outs _ _ _ _ c.index_mut.ensures.value (c.push.ensures.unchanged c.if-not-push.true)))
-    (step_stopped _ _ _ _ _ (read_on c.loop-entry.entry-index c.args.link.now) _ e _ (step_within _ _ _ _ _ _ _ _ _ e _ c.neighbours-neighbours.ensures.grid c.neighbours-neighbours.ensures.rank c.requires.number c.requires.hop c.loop-entry.invariant.going head step).0 head step c.index_mut.ensures.value (c.push.ensures.full c.if-not-push.true)))
+    (step_stopped _ _ _ _ _ (read_on c.loop-entry.entry-index c.args.link.now) _ e _ (step_within _ _ _ _ _ _ _ _ _ e _ c.known.ensures.grid c.known.ensures.rank c.requires.number c.requires.hop c.loop-entry.invariant.going head step).0 head step c.index_mut.ensures.value (c.push.ensures.full c.if-not-push.true)))

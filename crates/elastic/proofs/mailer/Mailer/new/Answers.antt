@@ -4,5 +4,5 @@ use Rattle.elastic.proofs.mailer.Mailer.new.Goals as goal
 
 pub invariant_of-result : goal.invariant_of-result
 invariant_of-result g c =
-    made_valid g.Q.LetterProgram.rules g.met.Q.LetterProgram.laws c.args.q _ _ c.rank-valid.ensures.valid c.in_ok-outgoing.ensures
+    made_valid g.Q.LetterProgram.rules g.met.Q.LetterProgram.laws c.args.q _ _ c.known.ensures c.in_ok-outgoing.ensures
     (c.in_ok-begun.ensures ∙ ap (λ n. replicate n []) c.ranks.ensures)

@@ -20,7 +20,7 @@ invariant_of-self g c =
     let f = subst (λ (s : State). All (λ (e : Entry). IsFair s.dims (hop_at s.dims c.args.link) e.tag) c.args.parcel.untaken) (sym c.self.view_is) c.requires.fair in
     let h : c.neighbour-hop.result.hop ≡ hop_to c.self.inside.routes.dims c.number_from-number.result = ap (λ n. n.hop) c.neighbour-hop.ensures.value in
     let b : hop_to c.self.inside.routes.dims c.number_from-number.result < length c.self.inside.routes.dims = omega (arith, h, c.self.invariant.0, c.if-hop.true) in
-    (c.self.invariant.0, rw h (got_before_by _ _ _ _ _ _ _ c.index_mut.result.now _ _ _ c.self.invariant.1 n.below b (rw n.value l) (c.set_epoch.ensures ∙ ap (λ (z : Contents). record z { epoch = 0 }) c.clear.ensures) c.requires.fresh c.len-fits.ensures.within (rw n.hop f) c.take_back-spare.ensures.state (c.hop_finished.ensures ∙ ap (λ xs. list_all is_finished (ins_of_hop c.self.inside.routes.dims xs c.neighbour-hop.result.hop)) c.deref.ensures.value ∙ ap (λ j. list_all is_finished (ins_of_hop c.self.inside.routes.dims (set c.self.inside.ins.items c.number_from-number.result c.take_back-spare.new.self) j)) h)))
+    (c.self.invariant.0, rw h (got_before_by _ _ _ _ _ _ _ c.index_mut.result.now _ _ _ c.self.invariant.1 n.below b (rw n.value l) (c.set_epoch.ensures ∙ ap (λ (z : Contents). record z { epoch = 0 }) c.clear.ensures) c.requires.fresh c.known.ensures.within (rw n.hop f) c.take_back-spare.ensures.state (c.hop_finished.ensures ∙ ap (λ xs. list_all is_finished (ins_of_hop c.self.inside.routes.dims xs c.neighbour-hop.result.hop)) c.deref.ensures.value ∙ ap (λ j. list_all is_finished (ins_of_hop c.self.inside.routes.dims (set c.self.inside.ins.items c.number_from-number.result c.take_back-spare.new.self) j)) h)))
 
 pub invariant_of-self-else-hop : goal.invariant_of-self-else-hop
 invariant_of-self-else-hop g c =
@@ -29,7 +29,7 @@ invariant_of-self-else-hop g c =
     let f = subst (λ (s : State). All (λ (e : Entry). IsFair s.dims (hop_at s.dims c.args.link) e.tag) c.args.parcel.untaken) (sym c.self.view_is) c.requires.fair in
     let h : c.neighbour-hop.result.hop ≡ hop_to c.self.inside.routes.dims c.number_from-number.result = ap (λ n. n.hop) c.neighbour-hop.ensures.value in
     let b : hop_to c.self.inside.routes.dims c.number_from-number.result ≡ length c.self.inside.routes.dims = omega (arith, h, c.self.invariant.0, c.if-hop.false, c.neighbour-hop.ensures.last_hop) in
-    (c.self.invariant.0, rw c.min-self-inside.ensures (got_last_by _ _ _ _ _ _ _ c.index_mut.result.now _ _ c.self.invariant.1 n.below b (rw n.value l) (c.set_epoch.ensures ∙ ap (λ (z : Contents). record z { epoch = 0 }) c.clear.ensures) c.requires.fresh c.len-fits.ensures.within (rw n.hop f) c.take_back-spare.ensures.state))
+    (c.self.invariant.0, rw c.min-self-inside.ensures (got_last_by _ _ _ _ _ _ _ c.index_mut.result.now _ _ c.self.invariant.1 n.below b (rw n.value l) (c.set_epoch.ensures ∙ ap (λ (z : Contents). record z { epoch = 0 }) c.clear.ensures) c.requires.fresh c.known.ensures.within (rw n.hop f) c.take_back-spare.ensures.state))
 
 pub returns-then-hop : goal.returns-then-hop
 returns-then-hop g c =

@@ -15,7 +15,7 @@ invariant_of-self-2 g c =
     let n = c.number_to-number.ensures in
     let l = subst (λ (s : State). s.lent ≡ lent.Out (out_index s.dims c.args.link)) (sym c.self.view_is) c.requires.lent in
     let f = subst (λ (s : State). All (λ (e : Entry). IsFair s.dims (hop_at s.dims c.args.link) e.tag) c.args.parcel.untaken) (sym c.self.view_is) c.requires.fair in
-    (c.self.invariant.0, sent_by _ _ _ _ _ _ _ _ _ _ _ c.self.invariant.1 n.below (rw n.value l) (c.set_epoch.ensures ∙ ap (λ (z : Contents). record z { epoch = 0 }) c.clear.ensures) c.requires.fresh c.len-fits.ensures.within (rw n.hop f) c.requires.emptied c.at_end-last.ensures c.index_mut.ensures.value c.take_back-spare.ensures.state)
+    (c.self.invariant.0, sent_by _ _ _ _ _ _ _ _ _ _ _ c.self.invariant.1 n.below (rw n.value l) (c.set_epoch.ensures ∙ ap (λ (z : Contents). record z { epoch = 0 }) c.clear.ensures) c.requires.fresh c.known.ensures.within (rw n.hop f) c.requires.emptied c.at_end-last.ensures c.index_mut.ensures.value c.take_back-spare.ensures.state)
 
 pub returns : goal.returns
 returns g c =

@@ -50,7 +50,7 @@ post_on-answer-requires g c =
                         way,
                         (
                           subst (λ (z : Shape). MayFollow z.dims g.row.CAP l (out_of (own_logs v) l).sent c.args.parcel.now) e
-                              (may_follow v.shape.dims g.row.CAP c.self.inside.rank l (own_logs v) c.args.parcel.now inside mine c.requires.fresh c.len-fresh.ensures.fresh c.len-fresh.ensures.within epoch law),
+                              (may_follow v.shape.dims g.row.CAP c.self.inside.rank l (own_logs v) c.args.parcel.now inside mine c.requires.fresh c.known.ensures.fresh c.known.ensures.within epoch law),
                           subst (λ (z : Shape × ℕ). KeepsLaw z.0.dims z.1 (sent_of (with_out (own_logs v) l (sent_more (out_of (own_logs v) l) c.args.parcel.now))) (got_of (own_logs v))) (λ k. (e k, sym s.rank_is k))
                               (law_for v.shape.dims c.self.inside.rank l (own_logs v) c.args.parcel.now long law),
                         ),

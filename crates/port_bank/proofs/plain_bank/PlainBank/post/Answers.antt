@@ -16,7 +16,7 @@ invariant_of-self g c =
     let within = subst (λ (x : Bank). l < links x.dims) (sym c.self.view_is) c.requires.link in
     let here = channel_read g.row.CAP b l c.index_mut.result.now c.self.invariant within c.index_mut.ensures.value in
     kept_by_post g.row.CAP b l c.index_mut.result.now c.post.new.self c.post.result c.args.p.now c.self.invariant within here
-    (omega (arith, c.len-fits.ensures.within))
+    (omega (arith, c.known.ensures.within))
     (subst (λ (x : Bank). c.args.p.now.epoch ≡ lasts (sent_of x l)) (sym c.self.view_is) c.requires.epoch)
     (law_of_all b.dims (sender_at b.dims l) (sent_of b) (got_of b) l (shipped c.args.p.now) c.self.invariant.grid
     (subst (λ (x : Bank). RelayLaw x.dims (sender_at x.dims l) (added (starting_at x.dims (sender_at x.dims l) (sent_of x)) l (shipped c.args.p.now)) (ending_at x.dims (sender_at x.dims l) (got_of x)))

@@ -1,4 +1,0 @@
-use Rattle.biconvey.proofs.tests.told_by_hand.Given as goal
-
-abbrev pub ghosts-by_hand : goal.ghosts-by_hand
-ghosts-by_hand a = record { name = a.blank.name; parts = a.blank.parts }

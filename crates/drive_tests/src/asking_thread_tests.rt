@@ -1,0 +1,109 @@
+//! Askers with each rank on a thread, by hand and on grids of one to three hops, and with every rank kept by the caller.
+
+ghost use Rattle.std.specs.Prelude.{◌≡◌, ◌<◌, ◌≤◌, length};
+ghost use Rattle.case_table.specs.Capacities.{IsCapacity};
+
+use crate::asking_tests::{Told, adders_of, have_heard};
+use bale_types::NoMemory;
+use biconvey::{bi_threads, thread_with};
+use rank_group::{Finished, OpenGate};
+use route_tensor::Grid;
+use std::alloc::Global;
+use std::sync::Wait;
+use std::test::Fail;
+use std::thread::Threads;
+
+/// The first `asking` ranks ask, each on a thread.
+fn ask_side_by_side<R: Threads + Wait + Sync>(
+    rt: &R,
+    alloc: Global,
+    dims: &[u32],
+    cap: u32,
+    asking: u32,
+) -> Result<Option<Told>, NoMemory>
+    requires { IsCapacity cap }
+{
+    let Ok(grid) = Grid::new(dims) else {
+        return Ok(None);
+    };
+    let askers = adders_of(alloc, grid.ranks(), asking)?;
+    let Finished { progs, rounds } = bi_threads(
+        rt, alloc, &grid, cap, 1, false, askers, &OpenGate,
+    )?;
+    Ok(Some((have_heard(&progs), rounds.len())))
+}
+
+/// Rank 0 asks rank 1.
+fn by_hand<R: Threads + Wait + Sync>(rt: &R, alloc: Global) -> Result<Option<Told>, NoMemory> {
+    ask_side_by_side(rt, alloc, &[2], 1, 1)
+}
+
+/// All ranks ask, with buffers of 1, 2 and 64.
+fn on_buffers<R: Threads + Wait + Sync>(
+    rt: &R,
+    alloc: Global,
+    dims: &[u32],
+) -> Result<[Option<Told>; 3], NoMemory> {
+    Ok([
+        ask_side_by_side(rt, alloc, dims, 1, 64)?,
+        ask_side_by_side(rt, alloc, dims, 2, 64)?,
+        ask_side_by_side(rt, alloc, dims, 64, 64)?,
+    ])
+}
+
+/// All ranks ask, and the caller turns those from the number `threads` on.
+fn ask_here<const CAP: usize, const HOPS: usize, R: Threads + Wait + Sync>(
+    rt: &R,
+    alloc: Global,
+    grid: &Grid,
+    threads: usize,
+) -> Result<Told, NoMemory>
+    requires some { 0 < CAP }
+    requires small { CAP ≤ 1024 }
+    requires hops { length grid.now ≡ HOPS }
+{
+    let askers = adders_of(alloc, grid.ranks(), grid.ranks())?;
+    let Finished { progs, rounds } = thread_with::<CAP, HOPS, R, _, OpenGate>(
+        rt, alloc, grid, 2, true, askers, &OpenGate, threads,
+    )?;
+    Ok((have_heard(&progs), rounds.len()))
+}
+
+#[test]
+fn askers_by_hand_on_threads(rt: HostRuntime) -> Result<(), Fail> {
+    let told = by_hand(&rt, rt.alloc())?;
+    assert_eq!(rt; told, Some((1, 2)));
+    Ok(())
+}
+
+#[test]
+fn askers_on_threads_on_every_grid(rt: HostRuntime) -> Result<(), Fail> {
+    let alloc = rt.alloc();
+    assert_eq!(rt; on_buffers(&rt, alloc, &[1])?, [Some((1, 2)); 3]);
+    assert_eq!(rt; on_buffers(&rt, alloc, &[2])?, [Some((2, 2)); 3]);
+    assert_eq!(rt; on_buffers(&rt, alloc, &[2, 2])?, [Some((4, 2)); 3]);
+    assert_eq!(rt; on_buffers(&rt, alloc, &[2, 2, 2])?, [Some((8, 2)); 3]);
+    Ok(())
+}
+
+#[test]
+fn askers_kept_by_the_caller(rt: HostRuntime) -> Result<(), Fail> {
+    let alloc = rt.alloc();
+    if let Ok(grid) = Grid::new(&[2]) {
+        assert_eq!(rt;
+            ask_here::<1, 1, HostRuntime>(&rt, alloc, &grid, 0)?,
+            (2, 2)
+        );
+    }
+    if let Ok(grid) = Grid::new(&[2, 2, 2]) {
+        assert_eq!(rt;
+            ask_here::<2, 3, HostRuntime>(&rt, alloc, &grid, 0)?,
+            (8, 2)
+        );
+        assert_eq!(rt;
+            ask_here::<64, 3, HostRuntime>(&rt, alloc, &grid, 3)?,
+            (8, 2)
+        );
+    }
+    Ok(())
+}

@@ -1,0 +1,20 @@
+//! The drives on small programs: ranks in turn and on threads, by both transports, what their gates hold, and refused absorbs.
+//! It has tests alone: they stand above the crates that they run, so that proving one does not prove the other again.
+#![tactic(auto)]
+
+#[cfg(test)]
+mod adder;
+#[cfg(test)]
+mod asking_tests;
+#[cfg(test)]
+mod asking_thread_tests;
+#[cfg(test)]
+mod refused_tests;
+#[cfg(test)]
+mod serial_tests;
+#[cfg(test)]
+mod side_by_side_tests;
+#[cfg(test)]
+mod thread_tests;
+#[cfg(test)]
+mod watched;

@@ -1,0 +1,107 @@
+//! A rank that refuses each absorb: both drives answer that memory was wanting, and every rank goes on turning.
+ghost use Rattle.std.specs.Prelude.{◌≡◌, ◌<◌};
+
+use crate::serial_tests::order_of;
+use crate::watched::{Deed, Watch, Watched, drive_on, progs_of};
+use bale_types::NoMemory;
+use rank_group::{Gate, Steps, Via, drive_serial};
+use route_tensor::Grid;
+use std::alloc::Global;
+use std::marker::Brand;
+use std::sync::atomic::{AtomicBool, Ordering};
+use std::sync::ledger::{Blank, Ledger};
+use std::test::Fail;
+
+/// The turns 0 and 1 that were announced.
+#[derive(Drop)]
+struct Seen {
+    firsts: Vec<AtomicBool>,
+    seconds: Vec<AtomicBool>,
+}
+
+impl Gate for Seen {
+    fn turn(&self, rank: u32, n: u64) {
+        let turns = match n {
+            0 => &self.firsts,
+            1 => &self.seconds,
+            _ => return,
+        };
+        if let Some(turn) = turns.get(rank as usize) {
+            turn.store(true, Ordering::SeqCst);
+        }
+    }
+}
+
+fn unseen(alloc: Global, count: usize) -> Result<Vec<AtomicBool>, NoMemory> {
+    let mut turns = Vec::new(alloc);
+    for _ in 0..count {
+        turns.push(AtomicBool::new(false))?;
+    }
+    Ok(turns)
+}
+
+#[test]
+fn refused_absorbs(rt: HostRuntime) -> Result<(), Fail> {
+    let all: &[u32] = &[0, 1, 2, 3];
+    let lists = [all; 4];
+    for (threads, via) in [
+        (0, Via::Convey),
+        (2, Via::Exstack),
+        (4, Via::Convey),
+        (4, Via::Exstack),
+    ] {
+        let watch = Watch::new();
+        let gate = Seen {
+            firsts: unseen(rt.alloc(), 4)?,
+            seconds: unseen(rt.alloc(), 4)?,
+        };
+        let told = drive_on(
+            &rt,
+            rt.alloc(),
+            4,
+            &lists,
+            &watch,
+            Deed::Refuses,
+            &gate,
+            threads,
+            via,
+        );
+        assert!(rt; told.is_err());
+        for turns in [&gate.firsts, &gate.seconds] {
+            assert!(rt; turns.iter().all(|turn| turn.load(Ordering::SeqCst)));
+        }
+    }
+    Ok(())
+}
+
+/// Whether `drive_serial` answers that memory was wanting, where rank 2 of four refuses each absorb.
+fn is_refused_serially<L: Ledger>(alloc: Global, via: Via, blank: Blank) -> Result<bool, NoMemory>
+    requires name { blank.name ≡ L.name }
+    requires parts { blank.parts ≡ L.parts }
+    requires some { 0 < L.parts }
+{
+    let Ok(grid) = Grid::new(&[4]) else {
+        return Ok(false);
+    };
+    let watch = Watch::new();
+    let all: &[u32] = &[0, 1, 2, 3];
+    let ranks = grid.ranks();
+    let progs = progs_of(alloc, ranks, &[all; 4], &watch, Deed::Refuses)?;
+    let order = order_of(alloc, ranks, false)?;
+    let mut steps = Steps::<L>::new(blank);
+    let told = drive_serial::<1, 1, Watched<'_>, L>(
+        alloc, &grid, via, 2, false, &order, progs, &mut steps,
+    );
+    Ok(told.is_err())
+}
+
+fn refused_serially(alloc: Global, via: Via) -> Result<bool, NoMemory> {
+    is_refused_serially::<Brand>(alloc, via, Blank::new(1))
+}
+
+#[test]
+fn refused_absorbs_serially(rt: HostRuntime) -> Result<(), Fail> {
+    assert!(rt; refused_serially(rt.alloc(), Via::Convey)?);
+    assert!(rt; refused_serially(rt.alloc(), Via::Exstack)?);
+    Ok(())
+}

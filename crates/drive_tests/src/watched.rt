@@ -1,0 +1,286 @@
+//! Counting programs that note how a drive turns them.
+ghost use Rattle.std.specs.Prelude.{◌≡◌, ◌<◌, ◌^◌, ◌∷◌, [], length, IfOk};
+ghost use Rattle.std.specs.List.{All};
+ghost use Rattle.round_program.specs.Canonical.{InRound};
+ghost use Rattle.round_examples.specs.Counts.{count_rules};
+
+use bale_types::{Item, NoMemory};
+use rank_group::{Finished, Gate, Via, drive_with};
+use round_examples::Count;
+use round_program::{Program, Progs};
+use route_tensor::Grid;
+use std::alloc::Global;
+use std::marker::Model;
+use std::sync::Wait;
+use std::sync::atomic::{AtomicBool, Ordering};
+use std::thread;
+use std::thread::Threads;
+
+/// How often a hold looks before it gives up.
+const TRIES: u64 = 1_000_000_000;
+
+/// What the ranks and the gate of a test tell each other.
+#[derive(Drop)]
+pub(crate) struct Watch {
+    /// Rank 1's turn 1 was announced.
+    pub(crate) announced: AtomicBool,
+    /// The gate let rank 0's turn 0 go.
+    pub(crate) let_go: AtomicBool,
+    /// Rank 1 absorbed.
+    pub(crate) absorbed: AtomicBool,
+    /// Rank 0, and rank 1, was asked for an emission.
+    zero_asked: AtomicBool,
+    one_asked: AtomicBool,
+    /// Something was not as it should be.
+    pub(crate) noted: AtomicBool,
+}
+
+impl Watch {
+    pub(crate) fn new() -> Watch {
+        Watch {
+            announced: AtomicBool::new(false),
+            let_go: AtomicBool::new(false),
+            absorbed: AtomicBool::new(false),
+            zero_asked: AtomicBool::new(false),
+            one_asked: AtomicBool::new(false),
+            noted: AtomicBool::new(false),
+        }
+    }
+
+    /// Waits for a flag; notes where it gives up.
+    pub(crate) fn hold(&self, flag: &AtomicBool) {
+        for _ in 0..TRIES {
+            if flag.load(Ordering::SeqCst) {
+                return;
+            }
+            thread::yield_now();
+        }
+        self.noted.store(true, Ordering::SeqCst);
+    }
+
+    /// Raises the flag of a rank, and at the first time waits for that of the other.
+    fn look(&self, rank: u32) {
+        let (own, other) = if rank == 0 {
+            (&self.zero_asked, &self.one_asked)
+        } else {
+            (&self.one_asked, &self.zero_asked)
+        };
+        if !own.swap(true, Ordering::SeqCst) {
+            self.hold(other);
+        }
+    }
+
+    /// Notes an absorb before the gate let rank 0's turn 0 go.
+    fn absorb(&self) {
+        if !self.let_go.load(Ordering::SeqCst) {
+            self.noted.store(true, Ordering::SeqCst);
+        }
+        self.absorbed.store(true, Ordering::SeqCst);
+    }
+}
+
+/// What a program does beside its counting.
+#[derive(Clone, Copy, PartialEq, Eq, Debug)]
+pub(crate) enum Deed {
+    Counts,
+    /// Notes an absorb that comes too early.
+    Absorbs,
+    /// Looks for the other rank where it is first asked for an emission.
+    Looks,
+    /// Rank 2 refuses each absorb.
+    Refuses,
+}
+
+/// A counting program that is watched.
+#[derive(Drop)]
+pub(crate) struct Watched<'a> {
+    inner: Count,
+    watch: &'a Watch,
+    deed: Deed,
+}
+
+impl<'a> Model for Watched<'a> {
+    ghost use Rattle.round_examples.specs.Counts.{CountState};
+
+    ghost Value = { CountState };
+
+    ghost view = { λ w. w.inner };
+}
+
+impl<'a> Watched<'a> {
+    fn new(inner: Count, watch: &'a Watch, deed: Deed) -> Self
+        ensures { result ≡ inner }
+    {
+        Watched { inner, watch, deed }
+    }
+}
+
+impl<'a> Program for Watched<'a> {
+    ghost use Rattle.round_examples.specs.Counts.{count_rules};
+    ghost use Rattle.round_examples.specs.CountLaws.{count_laws};
+
+    ghost rules = { count_rules };
+
+    ghost laws = { count_laws };
+
+    fn rank(&self) -> u32 {
+        self.inner.rank()
+    }
+
+    fn ranks(&self) -> u32 {
+        self.inner.ranks()
+    }
+
+    fn round(&self) -> u64 {
+        self.inner.round()
+    }
+
+    fn count(&self) -> u64 {
+        self.inner.count()
+    }
+
+    fn emission(&self, i: u64) -> (u32, Item) {
+        if self.deed == Deed::Looks {
+            self.watch.look(self.inner.rank());
+        }
+        self.inner.emission(i)
+    }
+
+    fn fits(&self, from: u32, item: Item) -> bool {
+        self.inner.fits(from, item)
+    }
+
+    fn absorb(&mut self, from: u32, item: Item) -> Result<(), NoMemory> {
+        if self.deed == Deed::Refuses && self.inner.rank() == 2 {
+            return Err(NoMemory);
+        }
+        if self.deed == Deed::Absorbs {
+            self.watch.absorb();
+        }
+        self.inner.absorb(from, item)
+    }
+
+    fn vote(&self) -> u64 {
+        self.inner.vote()
+    }
+
+    fn goes_on(&self, votes: u64) -> bool {
+        self.inner.goes_on(votes)
+    }
+
+    fn end_round(&mut self, votes: u64) -> Result<bool, NoMemory> {
+        self.inner.end_round(votes)
+    }
+}
+
+/// The columns of a list that are there.
+fn names_of(alloc: Global, columns: u32, list: &[u32]) -> Result<Vec<u32>, NoMemory>
+    ensures { IfOk result (λ names. All (λ j. j < columns) names.items) }
+{
+    let mut names = Vec::new(alloc);
+    for name in list {
+        if *name < columns {
+            names.push(*name)?;
+        }
+    }
+    Ok(names)
+}
+
+/// A watched program for each of so many ranks, each of which sends to the ranks that its list names.
+pub(crate) fn progs_of<'a>(
+    alloc: Global,
+    ranks: u32,
+    lists: &[&[u32]],
+    watch: &'a Watch,
+    deed: Deed,
+) -> Result<Progs<Watched<'a>>, NoMemory>
+    ensures { IfOk result (λ progs. InRound count_rules ranks 0 (ranks ∷ []) 1 progs) }
+{
+    let mut progs = Progs::new(alloc);
+    for rank in 0..ranks {
+        let list: &[u32] = match lists.get(rank as usize) {
+            Some(list) => list,
+            None => &[],
+        };
+        let names = names_of(alloc, ranks, list)?;
+        let counts = vec![in alloc; 0u64; ranks as usize]?;
+        progs.add(Watched::new(Count::new(rank, ranks, names, counts), watch, deed))?;
+    }
+    Ok(progs)
+}
+
+/// Drives watched programs over parcels of one entry, the first `threads` of them on a thread each.
+pub(crate) fn run_watched<'a, R: Threads + Wait + Sync, G: Gate + Sync>(
+    rt: &R,
+    alloc: Global,
+    grid: &Grid,
+    lists: &[&[u32]],
+    watch: &'a Watch,
+    deed: Deed,
+    gate: &G,
+    threads: usize,
+    via: Via,
+) -> Result<Finished<Watched<'a>>, NoMemory>
+    requires hops { length grid.now ≡ 1 }
+{
+    let ranks = grid.ranks();
+    let progs = progs_of(alloc, ranks, lists, watch, deed)?;
+    drive_with::<1, 1, R, Watched<'a>, G>(rt, alloc, grid, via, 2, false, progs, gate, threads)
+}
+
+/// The same, and how often each column was named, and the epochs.
+fn drive_watched<R: Threads + Wait + Sync, G: Gate + Sync>(
+    rt: &R,
+    alloc: Global,
+    grid: &Grid,
+    lists: &[&[u32]],
+    watch: &Watch,
+    deed: Deed,
+    gate: &G,
+    threads: usize,
+    via: Via,
+) -> Result<(Vec<u64>, u64), NoMemory>
+    requires hops { length grid.now ≡ 1 }
+{
+    let finished = run_watched(rt, alloc, grid, lists, watch, deed, gate, threads, via)?;
+    let Finished { progs, rounds } = finished;
+    let mut all = vec![in alloc; 0u64; grid.ranks() as usize]?;
+    for r in 0..progs.len() {
+        if let Some(prog) = progs.get(r) {
+            add_counts(&mut all, prog.inner.counts());
+        }
+    }
+    let epochs = match rounds.get(0) {
+        Some(round) => round.epochs(),
+        None => 0,
+    };
+    Ok((all, epochs))
+}
+
+/// Adds the counts of a rank.
+fn add_counts(all: &mut Vec<u64>, counts: &[u64]) {
+    for j in 0..all.len() {
+        if let Some(count) = counts.get(j) {
+            all[j] = all[j].wrapping_add(*count);
+        }
+    }
+}
+
+/// The same on a grid of one number; `None` where there is no such grid.
+pub(crate) fn drive_on<R: Threads + Wait + Sync, G: Gate + Sync>(
+    rt: &R,
+    alloc: Global,
+    ranks: u32,
+    lists: &[&[u32]],
+    watch: &Watch,
+    deed: Deed,
+    gate: &G,
+    threads: usize,
+    via: Via,
+) -> Result<Option<(Vec<u64>, u64)>, NoMemory> {
+    let Ok(grid) = Grid::new(&[ranks]) else {
+        return Ok(None);
+    };
+    let told = drive_watched(rt, alloc, &grid, lists, watch, deed, gate, threads, via)?;
+    Ok(Some(told))
+}

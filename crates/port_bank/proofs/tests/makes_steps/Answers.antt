@@ -1,5 +1,0 @@
-use Rattle.port_bank.proofs.Closing.{some_links}
-use Rattle.port_bank.proofs.tests.makes_steps.Goals as goal
-
-pub ends-hop-requires : goal.ends-hop-requires
-ends-hop-requires c = some_links c.in-Ok.grid c.in-Ok.ensures.grid

@@ -1,6 +1,0 @@
-use Rattle.rank_group.proofs.exstack_slot_tests.Side.reset.Goals as goal
-
-pub returns : goal.returns
-returns g c =
-    let a = c.requires.agrees in
-    record { agrees = record { cycle = 0; agrees = c.reset.ensures.kept a.cycle (g.P.Port.sent c.args.self.now.port) (g.P.Port.got c.args.self.now.port) a.agrees } }

@@ -1,0 +1,24 @@
+use Rattle.std.proofs.Common.{get_or, sym, subst, ◌∙◌, arith}
+use Rattle.list_laws.specs.Lists.{EachAt}
+use Rattle.list_laws.proofs.Lists.{each_push}
+use Rattle.transport_tests.proofs.OverPlain.{StartsOut, one_more, together_first}
+use Rattle.transport_tests.proofs.exstacks.new_sides.Goals as goal
+
+pub loop-rank-preserved : goal.loop-rank-preserved
+loop-rank-preserved g c =
+    let before = c.loop-rank.sides.items in
+    let one = c.in_ok-new.field-0 in
+    record {
+      all = one_more before _ one _ c.in_ok-push.ensures.items c.loop-rank.invariant.all;
+      each = subst (EachAt (λ r s. StartsOut g.row.CAP c.args.grid.now r s.stack)) (sym c.in_ok-push.ensures.items) (each_push (λ r s. StartsOut g.row.CAP c.args.grid.now r s.stack) before one c.loop-rank.invariant.each (record {
+        same_ranks = c.in_ok-new.ensures.same_ranks;
+        same_rank = c.in_ok-new.ensures.same_rank ∙ sym c.loop-rank.invariant.all;
+        agrees = c.in_ok-new.ensures.agrees;
+        standing = c.in_ok-new.ensures.standing;
+      }));
+    }
+
+pub returns-clause-together : goal.returns-clause-together
+returns-clause-together g c = λ d slots.
+    together_first c.args.grid.now g.row.CAP slots (λ r. (get_or c.loop-rank.sides.items r d).stack) c.ranks.ensures.grid c.requires.one_hop
+    (λ r h. c.loop-rank.invariant.each r d (omega (arith, h, c.loop-rank.invariant.all, c.loop-rank-test.false, c.ranks-rank-end.ensures.value)))

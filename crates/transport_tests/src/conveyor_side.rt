@@ -1,0 +1,188 @@
+//! One rank's conveyor in a test: its calls, made wherever their contracts allow them.
+ghost use Rattle.std.specs.Prelude.{◌≡◌};
+ghost use Rattle.route_tensor.specs.Grid.{ranks};
+
+use bale_types::{Item, NoMemory};
+use convey::{Conveyor, Phase, Progress, Pushed};
+use port_bank::Port;
+use route_tensor::Grid;
+use std::alloc::Global;
+
+/// A call on a conveyor.
+#[derive(Clone, Copy)]
+pub(crate) enum Call {
+    Begin,
+    /// Push an item toward a rank.
+    Push(Item, u32),
+    /// Advance; whether the rank is done.
+    Advance(bool),
+    Pull,
+    Unpull,
+    Reset,
+}
+
+/// What a call answered.
+#[derive(Clone, Copy, PartialEq, Eq, Debug)]
+pub(crate) enum Answer {
+    /// The call was not made, since its contract does not allow it.
+    NotMade,
+    Begun,
+    Pushed(Pushed),
+    Advanced(Progress),
+    Pulled(Option<(u32, Item)>),
+    Unpulled(bool),
+    Reset,
+}
+
+/// A conveyor, and what a caller knows of it by the calls that it made.
+#[derive(Drop)]
+pub(crate) struct Side<const CAP: usize, const HOPS: usize> {
+    pub(crate) conveyor: Conveyor<CAP, HOPS>,
+    rank_count: u32,
+    /// Whether the latest advance of the epoch said that the rank is done.
+    done: bool,
+    epoch: u64,
+    ghost same_count: { ranks conveyor.dims ≡ rank_count },
+    ghost same_done: { conveyor.done ≡ done },
+    ghost same_epoch: { conveyor.epoch ≡ epoch },
+}
+
+impl<const CAP: usize, const HOPS: usize> Side<CAP, HOPS> {
+    ghost use Rattle.std.specs.Prelude.{◌≢◌, ◌<◌, ◌≤◌, [], length, IfOk, OnOk};
+    ghost use Rattle.convey.specs.Buffers.{buffers_of};
+    ghost use Rattle.convey.specs.Law.{IsSound};
+    ghost use Rattle.convey.specs.Conveyors.{AgreesWith, KeepsAgreement};
+
+    pub(crate) fn new(alloc: Global, grid: &Grid, rank: u32, steady: bool) -> Result<Self, NoMemory>
+        requires some { 0 < CAP }
+        requires small { CAP ≤ 1024 }
+        requires hops { length grid.now ≡ HOPS }
+        requires rank { rank < ranks grid.now }
+        ensures same_dims { IfOk result (λ s. s.conveyor.dims ≡ grid.now) }
+        ensures same_rank { IfOk result (λ s. s.conveyor.rank ≡ rank) }
+        ensures agrees { IfOk result (λ s. AgreesWith s.conveyor (λ l. []) (λ l. [])) }
+        ensures sound { IfOk result (λ s. IsSound (buffers_of s.conveyor)) }
+    {
+        let conveyor = Conveyor::new(alloc, grid, rank, steady)?;
+        conveyor.known();
+        Ok(Side {
+            conveyor,
+            rank_count: grid.ranks(),
+            done: false,
+            epoch: 0,
+        })
+    }
+
+    /// Makes a call over the rank's port.
+    pub(crate) fn make<P: Port<CAP>>(
+        &mut self,
+        port: &mut P,
+        call: Call,
+    ) -> Result<Answer, NoMemory>
+        requires same_dims { P.dims port.old ≡ self.old.conveyor.dims }
+        requires same_rank { P.rank port.old ≡ self.old.conveyor.rank }
+        requires agrees { AgreesWith self.old.conveyor (P.sent port.old) (P.got port.old) }
+        ensures agrees { AgreesWith self.new.conveyor (P.sent port.new) (P.got port.new) }
+        ensures sound { IsSound (buffers_of self.new.conveyor) }
+        ensures self_dims { self.new.conveyor.dims ≡ self.old.conveyor.dims }
+        ensures self_rank { self.new.conveyor.rank ≡ self.old.conveyor.rank }
+        ensures port_dims { P.dims port.new ≡ P.dims port.old }
+        ensures port_rank { P.rank port.new ≡ P.rank port.old }
+        ensures port_slots { P.slots port.new ≡ P.slots port.old }
+        ensures rest { P.rest port.new ≡ P.rest port.old }
+    {
+        match call {
+            Call::Advance(done) => self.advance(port, done),
+            _ => Ok(self.make_alone(call)),
+        }
+    }
+
+    /// Makes a call that needs no port.
+    fn make_alone(&mut self, call: Call) -> Answer
+        ensures same_dims { self.new.conveyor.dims ≡ self.old.conveyor.dims }
+        ensures same_rank { self.new.conveyor.rank ≡ self.old.conveyor.rank }
+        ensures kept { KeepsAgreement self.old.conveyor self.new.conveyor }
+        ensures sound { IsSound (buffers_of self.new.conveyor) }
+    {
+        let answer = match call {
+            Call::Begin => self.begin(),
+            Call::Push(item, to) => self.push(item, to),
+            Call::Pull => self.pull(),
+            Call::Unpull => Answer::Unpulled(self.conveyor.unpull()),
+            Call::Reset => self.reset(),
+            Call::Advance(_) => Answer::NotMade,
+        };
+        self.conveyor.known();
+        answer
+    }
+
+    fn advance<P: Port<CAP>>(&mut self, port: &mut P, done: bool) -> Result<Answer, NoMemory>
+        requires same_dims { P.dims port.old ≡ self.old.conveyor.dims }
+        requires same_rank { P.rank port.old ≡ self.old.conveyor.rank }
+        requires agrees { AgreesWith self.old.conveyor (P.sent port.old) (P.got port.old) }
+        ensures agrees { AgreesWith self.new.conveyor (P.sent port.new) (P.got port.new) }
+        ensures sound { IsSound (buffers_of self.new.conveyor) }
+        ensures self_dims { self.new.conveyor.dims ≡ self.old.conveyor.dims }
+        ensures self_rank { self.new.conveyor.rank ≡ self.old.conveyor.rank }
+        ensures port_dims { P.dims port.new ≡ P.dims port.old }
+        ensures port_rank { P.rank port.new ≡ P.rank port.old }
+        ensures port_slots { P.slots port.new ≡ P.slots port.old }
+        ensures rest { P.rest port.new ≡ P.rest port.old }
+    {
+        if self.conveyor.phase() == Phase::Dormant || self.done && !done {
+            return Ok(Answer::NotMade);
+        }
+        let progress = self.conveyor.advance(port, done);
+        self.done = done;
+        self.conveyor.known();
+        Ok(Answer::Advanced(progress?))
+    }
+
+    fn begin(&mut self) -> Answer
+        ensures same_dims { self.new.conveyor.dims ≡ self.old.conveyor.dims }
+        ensures same_rank { self.new.conveyor.rank ≡ self.old.conveyor.rank }
+        ensures kept { KeepsAgreement self.old.conveyor self.new.conveyor }
+    {
+        if self.conveyor.phase() != Phase::Dormant {
+            return Answer::NotMade;
+        }
+        self.conveyor.begin();
+        Answer::Begun
+    }
+
+    fn push(&mut self, item: Item, to: u32) -> Answer
+        ensures same_dims { self.new.conveyor.dims ≡ self.old.conveyor.dims }
+        ensures same_rank { self.new.conveyor.rank ≡ self.old.conveyor.rank }
+        ensures kept { KeepsAgreement self.old.conveyor self.new.conveyor }
+    {
+        if self.conveyor.phase() != Phase::Working || self.done || to >= self.rank_count {
+            return Answer::NotMade;
+        }
+        Answer::Pushed(self.conveyor.push(item, to))
+    }
+
+    fn pull(&mut self) -> Answer
+        ensures same_dims { self.new.conveyor.dims ≡ self.old.conveyor.dims }
+        ensures same_rank { self.new.conveyor.rank ≡ self.old.conveyor.rank }
+        ensures kept { KeepsAgreement self.old.conveyor self.new.conveyor }
+    {
+        if self.conveyor.phase() == Phase::Dormant {
+            return Answer::NotMade;
+        }
+        Answer::Pulled(self.conveyor.pull())
+    }
+
+    fn reset(&mut self) -> Answer
+        ensures same_dims { self.new.conveyor.dims ≡ self.old.conveyor.dims }
+        ensures same_rank { self.new.conveyor.rank ≡ self.old.conveyor.rank }
+        ensures kept { KeepsAgreement self.old.conveyor self.new.conveyor }
+    {
+        if self.conveyor.phase() != Phase::Complete || self.epoch >= 1000 {
+            return Answer::NotMade;
+        }
+        self.conveyor.reset();
+        self.done = false;
+        self.epoch += 1;
+        Answer::Reset
+    }
+}

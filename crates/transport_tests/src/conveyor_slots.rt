@@ -1,0 +1,106 @@
+//! The conveyors of two ranks over a slot bank, whose ports one thread turns.
+ghost use Rattle.std.specs.Prelude.{◌≡◌, ◌<◌, true, false, length, slice_index_or, slice_set, IfOk};
+ghost use Rattle.route_tensor.specs.Grid.{ranks};
+ghost use Rattle.link_slots.specs.Seen.{posted_on, collected_from};
+ghost use Rattle.convey.specs.Conveyors.{AgreesWith};
+
+use crate::conveyor_side::{Answer, Call, Side};
+use bale_types::NoMemory;
+use link_slots::{GatherSeat, SlotBank, SlotPort};
+use port_bank::Port;
+use route_tensor::Grid;
+use std::alloc::Global;
+
+/// A rank's conveyor and its port.
+#[derive(Drop)]
+struct AtPort<P: Port<2>> {
+    side: Side<2, 1>,
+    port: P,
+    ghost same_dims: { P.dims port ≡ side.conveyor.dims },
+    ghost same_rank: { P.rank port ≡ side.conveyor.rank },
+}
+
+impl<P: Port<2>> AtPort<P> {
+    ghost use Rattle.std.specs.Prelude.{[]};
+
+    /// The conveyor of a rank of a grid of one number, over a port on which nothing was sent.
+    fn new(alloc: Global, grid: &Grid, rank: u32, port: P) -> Result<Self, NoMemory>
+        requires hops { length grid.now ≡ 1 }
+        requires rank { rank < ranks grid.now }
+        requires same_dims { P.dims port ≡ grid.now }
+        requires same_rank { P.rank port ≡ rank }
+        requires none_sent { P.sent port ≡ (λ l. []) }
+        requires none_got { P.got port ≡ (λ l. []) }
+        ensures agrees { IfOk result (λ s. AgreesWith s.side.conveyor (P.sent s.port) (P.got s.port)) }
+    {
+        let side = Side::new(alloc, grid, rank, false)?;
+        Ok(AtPort { side, port })
+    }
+
+    fn make(&mut self, call: Call) -> Result<Answer, NoMemory>
+        requires agrees { AgreesWith self.old.side.conveyor (P.sent self.old.port) (P.got self.old.port) }
+        ensures agrees { AgreesWith self.new.side.conveyor (P.sent self.new.port) (P.got self.new.port) }
+    {
+        self.side.make(&mut self.port, call)
+    }
+}
+
+/// Makes the calls of two ranks, up to the first that answers otherwise than wanted, and tells how many came before that.
+fn make_calls<P: Port<2>>(
+    zero: &mut AtPort<P>,
+    one: &mut AtPort<P>,
+    calls: &[(u32, Call, Answer)],
+) -> Result<usize, NoMemory>
+    requires zero { AgreesWith zero.old.side.conveyor (P.sent zero.old.port) (P.got zero.old.port) }
+    requires one { AgreesWith one.old.side.conveyor (P.sent one.old.port) (P.got one.old.port) }
+    ensures zero { AgreesWith zero.new.side.conveyor (P.sent zero.new.port) (P.got zero.new.port) }
+    ensures one { AgreesWith one.new.side.conveyor (P.sent one.new.port) (P.got one.new.port) }
+{
+    for (made, (rank, call, wanted)) in calls.iter().enumerate() {
+        let answer = if *rank == 0 {
+            zero.make(*call)?
+        } else {
+            one.make(*call)?
+        };
+        if answer != *wanted {
+            return Ok(made);
+        }
+    }
+    Ok(calls.len())
+}
+
+/// The conveyor of a rank over the port of the rank's seat, which was not given out before.
+fn side_of<'a>(
+    alloc: Global,
+    grid: &Grid,
+    bank: &'a SlotBank<2>,
+    gather: &mut GatherSeat<2>,
+    rank: u32,
+) -> Result<AtPort<SlotPort<'a, 2>>, NoMemory>
+    requires grid { bank.now.shape.dims ≡ grid.now }
+    requires bank { (gather.old.id ≡ bank.now.id) × (gather.old.shape ≡ bank.now.shape) }
+    requires hops { length grid.now ≡ 1 }
+    requires rank { rank < ranks grid.now }
+    requires here { slice_index_or gather.old.given rank true ≡ false }
+    ensures agrees { IfOk result
+        (λ s. AgreesWith s.side.conveyor (posted_on s.port.seat) (collected_from s.port.seat)) }
+    ensures same_bank { (gather.new.id ≡ gather.old.id) × (gather.new.shape ≡ gather.old.shape) }
+    ensures given { gather.new.given ≡ slice_set gather.old.given rank true }
+{
+    AtPort::new(alloc, grid, rank, bank.port(bank.seat(gather, rank)))
+}
+
+/// Makes the calls of ranks on the conveyors of grid 2 and capacity 2, over a slot bank with 2 slots per link, and
+/// tells how many came before the first that answered otherwise.
+pub(crate) fn answered_over_slots(
+    alloc: Global,
+    calls: &[(u32, Call, Answer)],
+) -> Result<usize, NoMemory> {
+    let Ok(grid) = Grid::new(&[2]) else {
+        return Ok(0);
+    };
+    let (bank, mut gather) = SlotBank::<2>::new(alloc, &grid, 2)?;
+    let mut zero = side_of(alloc, &grid, &bank, &mut gather, 0)?;
+    let mut one = side_of(alloc, &grid, &bank, &mut gather, 1)?;
+    make_calls(&mut zero, &mut one, calls)
+}

@@ -1,0 +1,262 @@
+//! One rank's exstack in a test: its calls, made wherever their contracts allow them.
+ghost use Rattle.std.specs.Prelude.{◌≡◌};
+ghost use Rattle.exstack.specs.State.{may_proceed, may_exchange};
+
+use bale_types::{Item, NoMemory};
+use exstack::{Exstack, Poll, Proceed, Stage};
+use port_bank::Port;
+use route_tensor::Grid;
+use std::alloc::Global;
+
+/// A call on an exstack.
+#[derive(Clone, Copy)]
+pub(crate) enum Call {
+    /// Poll a proceed round; whether the rank is done.
+    Proceed(bool),
+    /// Push an item toward a rank.
+    Push(Item, u32),
+    /// Poll an exchange round.
+    Exchange,
+    Pop,
+    /// Pop all items of one sender.
+    PopAll,
+    Unpop,
+    /// Look at how many items are unread, at the headroom toward this rank, and at the least headroom.
+    Look(u32),
+    Reset,
+}
+
+/// What a call answered.
+#[derive(Clone, Copy, PartialEq, Eq, Debug)]
+pub(crate) enum Answer {
+    /// The call was not made, since its contract does not allow it.
+    NotMade,
+    Proceeded(Proceed),
+    Pushed(u64),
+    Exchanged(Poll),
+    Popped(Option<(u32, Item)>),
+    /// From which rank, and how many.
+    PoppedAll(u32, usize),
+    Unpopped(bool),
+    Seen(u64, u64, u64),
+    Reset,
+}
+
+/// An exstack, and what a caller knows of it by the calls that it made.
+#[derive(Drop)]
+pub(crate) struct Side<const CAP: usize> {
+    pub(crate) stack: Exstack<CAP>,
+    rank_count: u32,
+    /// What the latest proceed poll of the epoch said of the rank.
+    done: bool,
+    epoch: u64,
+    ghost same_count: { stack.ranks ≡ rank_count },
+    ghost same_done: { stack.done ≡ done },
+    ghost same_epoch: { stack.epoch ≡ epoch },
+}
+
+impl<const CAP: usize> Side<CAP> {
+    ghost use Rattle.std.specs.Prelude.{◌≢◌, ℕ, ◌<◌, ◌≤◌, true, [], ◌∷◌, length, IfOk};
+    ghost use Rattle.route_tensor.specs.Grid.{ranks};
+    ghost use Rattle.port_bank.specs.Logs.{Logs};
+    ghost use Rattle.exstack.specs.State.{dims_of};
+    ghost use Rattle.exstack.specs.Agreement.{AgreesIn, AgreesWith};
+    ghost use Rattle.exstack.specs.Standing.{IsStack};
+
+    pub(crate) fn new(alloc: Global, grid: &Grid, rank: u32) -> Result<Self, NoMemory>
+        requires some { 0 < CAP }
+        requires small { CAP ≤ 1024 }
+        requires one_hop { length grid.now ≡ 1 }
+        requires rank { rank < ranks grid.now }
+        ensures same_ranks { IfOk result (λ s. s.stack.ranks ≡ ranks grid.now) }
+        ensures same_rank { IfOk result (λ s. s.stack.rank ≡ rank) }
+        ensures agrees { IfOk result (λ s. AgreesIn 0 s.stack (λ l. []) (λ l. [])) }
+        ensures standing { IfOk result (λ s. IsStack CAP s.stack) }
+    {
+        let stack = Exstack::new(alloc, grid, rank)?;
+        stack.known();
+        Ok(Side {
+            stack,
+            rank_count: grid.ranks(),
+            done: false,
+            epoch: 0,
+        })
+    }
+
+    /// Makes a call over the rank's port.
+    pub(crate) fn make<P: Port<CAP>>(
+        &mut self,
+        port: &mut P,
+        call: Call,
+    ) -> Result<Answer, NoMemory>
+        requires same_dims { P.dims port.old ≡ dims_of self.old.stack }
+        requires same_rank { P.rank port.old ≡ self.old.stack.rank }
+        requires agrees { AgreesWith self.old.stack (P.sent port.old) (P.got port.old) }
+        ensures agrees { AgreesWith self.new.stack (P.sent port.new) (P.got port.new) }
+        ensures standing { IsStack CAP self.new.stack }
+        ensures self_ranks { self.new.stack.ranks ≡ self.old.stack.ranks }
+        ensures self_rank { self.new.stack.rank ≡ self.old.stack.rank }
+        ensures port_dims { P.dims port.new ≡ P.dims port.old }
+        ensures port_rank { P.rank port.new ≡ P.rank port.old }
+        ensures port_slots { P.slots port.new ≡ P.slots port.old }
+        ensures rest { P.rest port.new ≡ P.rest port.old }
+    {
+        match call {
+            Call::Proceed(done) => self.proceed(port, done),
+            Call::Exchange => self.exchange(port),
+            _ => Ok(self.make_alone(call)),
+        }
+    }
+
+    /// Makes a call that needs no port.
+    fn make_alone(&mut self, call: Call) -> Answer
+        ensures same_ranks { self.new.stack.ranks ≡ self.old.stack.ranks }
+        ensures same_rank { self.new.stack.rank ≡ self.old.stack.rank }
+        ensures kept { (sent got : Logs) → AgreesWith self.old.stack sent got → AgreesWith self.new.stack sent got }
+        ensures standing { IsStack CAP self.new.stack }
+    {
+        let answer = match call {
+            Call::Push(item, to) => self.push(item, to),
+            Call::Pop => self.pop(),
+            Call::PopAll => self.pop_all(),
+            Call::Unpop => self.unpop(),
+            Call::Look(to) => self.look(to),
+            Call::Reset => self.reset(),
+            Call::Proceed(_) | Call::Exchange => Answer::NotMade,
+        };
+        self.stack.known();
+        answer
+    }
+
+    fn proceed<P: Port<CAP>>(&mut self, port: &mut P, done: bool) -> Result<Answer, NoMemory>
+        requires same_dims { P.dims port.old ≡ dims_of self.old.stack }
+        requires same_rank { P.rank port.old ≡ self.old.stack.rank }
+        requires agrees { AgreesWith self.old.stack (P.sent port.old) (P.got port.old) }
+        ensures agrees { AgreesWith self.new.stack (P.sent port.new) (P.got port.new) }
+        ensures standing { IsStack CAP self.new.stack }
+        ensures self_ranks { self.new.stack.ranks ≡ self.old.stack.ranks }
+        ensures self_rank { self.new.stack.rank ≡ self.old.stack.rank }
+        ensures port_dims { P.dims port.new ≡ P.dims port.old }
+        ensures port_rank { P.rank port.new ≡ P.rank port.old }
+        ensures port_slots { P.slots port.new ≡ P.slots port.old }
+        ensures rest { P.rest port.new ≡ P.rest port.old }
+    {
+        let stage = self.stack.stage();
+        if !may_proceed(stage) || self.stack.unread() != 0 || self.done && !done {
+            return Ok(Answer::NotMade);
+        }
+        if stage == Stage::Proceeding && done != self.done {
+            return Ok(Answer::NotMade);
+        }
+        let answer = self.stack.poll_proceed(port, done);
+        self.done = done;
+        self.stack.known();
+        Ok(Answer::Proceeded(answer?))
+    }
+
+    fn exchange<P: Port<CAP>>(&mut self, port: &mut P) -> Result<Answer, NoMemory>
+        requires same_dims { P.dims port.old ≡ dims_of self.old.stack }
+        requires same_rank { P.rank port.old ≡ self.old.stack.rank }
+        requires agrees { AgreesWith self.old.stack (P.sent port.old) (P.got port.old) }
+        ensures agrees { AgreesWith self.new.stack (P.sent port.new) (P.got port.new) }
+        ensures standing { IsStack CAP self.new.stack }
+        ensures self_ranks { self.new.stack.ranks ≡ self.old.stack.ranks }
+        ensures self_rank { self.new.stack.rank ≡ self.old.stack.rank }
+        ensures port_dims { P.dims port.new ≡ P.dims port.old }
+        ensures port_rank { P.rank port.new ≡ P.rank port.old }
+        ensures port_slots { P.slots port.new ≡ P.slots port.old }
+        ensures rest { P.rest port.new ≡ P.rest port.old }
+    {
+        if !may_exchange(self.stack.stage()) {
+            return Ok(Answer::NotMade);
+        }
+        let answer = self.stack.poll_exchange(port);
+        self.stack.known();
+        Ok(Answer::Exchanged(answer?))
+    }
+
+    fn push(&mut self, item: Item, to: u32) -> Answer
+        ensures same_ranks { self.new.stack.ranks ≡ self.old.stack.ranks }
+        ensures same_rank { self.new.stack.rank ≡ self.old.stack.rank }
+        ensures kept { (sent got : Logs) → AgreesWith self.old.stack sent got → AgreesWith self.new.stack sent got }
+    {
+        if self.stack.stage() != Stage::Filling || self.done || to >= self.rank_count {
+            return Answer::NotMade;
+        }
+        Answer::Pushed(self.stack.push(item, to))
+    }
+
+    fn pop(&mut self) -> Answer
+        ensures same_ranks { self.new.stack.ranks ≡ self.old.stack.ranks }
+        ensures same_rank { self.new.stack.rank ≡ self.old.stack.rank }
+        ensures kept { (sent got : Logs) → AgreesWith self.old.stack sent got → AgreesWith self.new.stack sent got }
+    {
+        Answer::Popped(self.stack.pop())
+    }
+
+    fn pop_all(&mut self) -> Answer
+        ensures same_ranks { self.new.stack.ranks ≡ self.old.stack.ranks }
+        ensures same_rank { self.new.stack.rank ≡ self.old.stack.rank }
+        ensures kept { (sent got : Logs) → AgreesWith self.old.stack sent got → AgreesWith self.new.stack sent got }
+    {
+        let Some(sender) = self.stack.next_sender() else {
+            return Answer::Popped(None);
+        };
+        let count = self.stack.batch(sender).len();
+        self.stack.pop_all(sender);
+        Answer::PoppedAll(sender, count)
+    }
+
+    fn look(&self, to: u32) -> Answer {
+        if to >= self.rank_count {
+            return Answer::NotMade;
+        }
+        Answer::Seen(
+            self.stack.unread(),
+            self.stack.headroom(to),
+            self.stack.min_headroom(),
+        )
+    }
+
+    fn unpop(&mut self) -> Answer
+        ensures same_ranks { self.new.stack.ranks ≡ self.old.stack.ranks }
+        ensures same_rank { self.new.stack.rank ≡ self.old.stack.rank }
+        ensures kept { (sent got : Logs) → AgreesWith self.old.stack sent got → AgreesWith self.new.stack sent got }
+    {
+        Answer::Unpopped(self.stack.unpop())
+    }
+
+    fn reset(&mut self) -> Answer
+        ensures same_ranks { self.new.stack.ranks ≡ self.old.stack.ranks }
+        ensures same_rank { self.new.stack.rank ≡ self.old.stack.rank }
+        ensures kept { (sent got : Logs) → AgreesWith self.old.stack sent got → AgreesWith self.new.stack sent got }
+    {
+        if self.stack.stage() != Stage::AllDone || self.epoch >= 1000 {
+            return Answer::NotMade;
+        }
+        self.stack.reset();
+        self.done = false;
+        self.epoch += 1;
+        Answer::Reset
+    }
+}
+
+/// Whether a proceed round may begin or go on.
+fn may_proceed(stage: Stage) -> bool
+    ensures { result ≡ may_proceed stage }
+{
+    match stage {
+        Stage::Start | Stage::Proceeding | Stage::Full => true,
+        Stage::Filling | Stage::Exchanging | Stage::AllDone => false,
+    }
+}
+
+/// Whether an exchange round may.
+fn may_exchange(stage: Stage) -> bool
+    ensures { result ≡ may_exchange stage }
+{
+    match stage {
+        Stage::Filling | Stage::Exchanging => true,
+        Stage::Start | Stage::Proceeding | Stage::Full | Stage::AllDone => false,
+    }
+}

@@ -1,0 +1,121 @@
+//! The exstacks of two ranks over a slot bank, whose ports one thread turns.
+ghost use Rattle.std.specs.Prelude.{◌≡◌, ◌<◌, true, false, length, slice_index_or, slice_set, IfOk};
+ghost use Rattle.route_tensor.specs.Grid.{ranks};
+ghost use Rattle.link_slots.specs.Seen.{posted_on, collected_from};
+ghost use Rattle.exstack.specs.State.{dims_of};
+ghost use Rattle.exstack.specs.Agreement.{AgreesWith};
+
+use crate::exstack_side::{Answer, Call, Side};
+use bale_types::NoMemory;
+use link_slots::{GatherSeat, SlotBank, SlotPort};
+use port_bank::Port;
+use route_tensor::Grid;
+use std::alloc::Global;
+
+/// A rank's exstack and its port.
+#[derive(Drop)]
+struct AtPort<P: Port<2>> {
+    side: Side<2>,
+    port: P,
+    ghost same_dims: { P.dims port ≡ dims_of side.stack },
+    ghost same_rank: { P.rank port ≡ side.stack.rank },
+}
+
+impl<P: Port<2>> AtPort<P> {
+    ghost use Rattle.std.specs.Prelude.{[]};
+
+    /// The exstack of a rank of a grid of one number, over a port on which nothing was sent.
+    fn new(alloc: Global, grid: &Grid, rank: u32, port: P) -> Result<Self, NoMemory>
+        requires hops { length grid.now ≡ 1 }
+        requires rank { rank < ranks grid.now }
+        requires same_dims { P.dims port ≡ grid.now }
+        requires same_rank { P.rank port ≡ rank }
+        requires none_sent { P.sent port ≡ (λ l. []) }
+        requires none_got { P.got port ≡ (λ l. []) }
+        ensures agrees { IfOk result (λ s. AgreesWith s.side.stack (P.sent s.port) (P.got s.port)) }
+    {
+        let side = Side::new(alloc, grid, rank)?;
+        Ok(AtPort { side, port })
+    }
+
+    fn make(&mut self, call: Call) -> Result<Answer, NoMemory>
+        requires agrees { AgreesWith self.old.side.stack (P.sent self.old.port) (P.got self.old.port) }
+        ensures agrees { AgreesWith self.new.side.stack (P.sent self.new.port) (P.got self.new.port) }
+    {
+        self.side.make(&mut self.port, call)
+    }
+}
+
+/// Makes a call of one of two ranks.
+fn call_on<P: Port<2>>(
+    zero: &mut AtPort<P>,
+    one: &mut AtPort<P>,
+    rank: u32,
+    call: Call,
+) -> Result<Answer, NoMemory>
+    requires zero { AgreesWith zero.old.side.stack (P.sent zero.old.port) (P.got zero.old.port) }
+    requires one { AgreesWith one.old.side.stack (P.sent one.old.port) (P.got one.old.port) }
+    ensures zero { AgreesWith zero.new.side.stack (P.sent zero.new.port) (P.got zero.new.port) }
+    ensures one { AgreesWith one.new.side.stack (P.sent one.new.port) (P.got one.new.port) }
+{
+    if rank == 0 {
+        zero.make(call)
+    } else {
+        one.make(call)
+    }
+}
+
+/// Makes the calls of two ranks, up to the first that answers otherwise than wanted, and tells how many came before that.
+fn make_calls<P: Port<2>>(
+    zero: &mut AtPort<P>,
+    one: &mut AtPort<P>,
+    calls: &[(u32, Call, Answer)],
+) -> Result<usize, NoMemory>
+    requires zero { AgreesWith zero.old.side.stack (P.sent zero.old.port) (P.got zero.old.port) }
+    requires one { AgreesWith one.old.side.stack (P.sent one.old.port) (P.got one.old.port) }
+    ensures zero { AgreesWith zero.new.side.stack (P.sent zero.new.port) (P.got zero.new.port) }
+    ensures one { AgreesWith one.new.side.stack (P.sent one.new.port) (P.got one.new.port) }
+{
+    for (made, (rank, call, wanted)) in calls.iter().enumerate() {
+        if call_on(zero, one, *rank, *call)? != *wanted {
+            return Ok(made);
+        }
+    }
+    Ok(calls.len())
+}
+
+/// The exstack of a rank over the port of the rank's seat, which was not given out before.
+fn side_of<'a>(
+    alloc: Global,
+    grid: &Grid,
+    bank: &'a SlotBank<2>,
+    gather: &mut GatherSeat<2>,
+    rank: u32,
+) -> Result<AtPort<SlotPort<'a, 2>>, NoMemory>
+    requires grid { bank.now.shape.dims ≡ grid.now }
+    requires bank { (gather.old.id ≡ bank.now.id) × (gather.old.shape ≡ bank.now.shape) }
+    requires hops { length grid.now ≡ 1 }
+    requires rank { rank < ranks grid.now }
+    requires here { slice_index_or gather.old.given rank true ≡ false }
+    ensures agrees { IfOk result
+        (λ s. AgreesWith s.side.stack (posted_on s.port.seat) (collected_from s.port.seat)) }
+    ensures same_bank { (gather.new.id ≡ gather.old.id) × (gather.new.shape ≡ gather.old.shape) }
+    ensures given { gather.new.given ≡ slice_set gather.old.given rank true }
+{
+    AtPort::new(alloc, grid, rank, bank.port(bank.seat(gather, rank)))
+}
+
+/// Makes the calls of ranks on the exstacks of grid 2 and capacity 2, over a slot bank with 2 slots per link, and
+/// tells how many came before the first that answered otherwise.
+pub(crate) fn answered_over_slots(
+    alloc: Global,
+    calls: &[(u32, Call, Answer)],
+) -> Result<usize, NoMemory> {
+    let Ok(grid) = Grid::new(&[2]) else {
+        return Ok(0);
+    };
+    let (bank, mut gather) = SlotBank::<2>::new(alloc, &grid, 2)?;
+    let mut zero = side_of(alloc, &grid, &bank, &mut gather, 0)?;
+    let mut one = side_of(alloc, &grid, &bank, &mut gather, 1)?;
+    make_calls(&mut zero, &mut one, calls)
+}

@@ -1,0 +1,26 @@
+//! Routes, ranks by their states, and conveyors and exstacks by worked calls, over the plain bank and over slots.
+//! It has tests alone: they stand above the crates that they run, so that proving one does not prove the other again.
+#![tactic(auto)]
+
+#[cfg(test)]
+mod conveyor_side;
+#[cfg(test)]
+mod conveyor_slots;
+#[cfg(test)]
+mod conveyor_tests;
+#[cfg(test)]
+mod conveyors;
+#[cfg(test)]
+mod exchange_tests;
+#[cfg(test)]
+mod exstack_side;
+#[cfg(test)]
+mod exstack_slots;
+#[cfg(test)]
+mod exstack_tests;
+#[cfg(test)]
+mod exstacks;
+#[cfg(test)]
+mod hop_tests;
+#[cfg(test)]
+mod route_tests;

@@ -36,7 +36,7 @@ pub record PortTurn {S : Type 0} (R : Rules S) (cap : ℕ) (turn : Turn) (n n' :
   pub sent_grows : (l : ℕ) → Begins (starting_at b.dims r (sent_of b) l) (starting_at b'.dims r' (sent_of b') l)
   pub got_grows : (l : ℕ) → Begins (ending_at b.dims r (got_of b) l) (ending_at b'.dims r' (got_of b') l)
   pub shape : (l : ℕ) → l < links (dims_of n.mover) → sender_at (dims_of n.mover) l ≡ rank_of n.mover → IsShape (manner_in n.mover) cap (starting_at b.dims r (sent_of b) l) → IsShape (manner_in n.mover) cap (starting_at b'.dims r' (sent_of b') l)
-  pub leaves : Leaves R cap n.run n'.run n.mover n'.mover (starting_at b.dims r (sent_of b)) (ending_at b.dims r (got_of b)) (ending_at b'.dims r' (got_of b'))
+  pub leaves : Leaves R cap n.run n'.run n.mover n'.mover (ending_at b.dims r (got_of b)) (ending_at b'.dims r' (got_of b'))
   pub kept : (h : ℕ → S) → IsNode R h n (starting_at b.dims r (sent_of b)) (ending_at b.dims r (got_of b)) → IsNode R h n' (starting_at b'.dims r' (sent_of b')) (ending_at b'.dims r' (got_of b'))
   pub ended : turn ≡ Ended → has_completed n'.mover ≡ true
   pub going : turn ≡ Going → has_completed n'.mover ≡ false
@@ -47,12 +47,12 @@ pub record PortTurn {S : Type 0} (R : Rules S) (cap : ℕ) (turn : Turn) (n n' :
   pub awaits : AwaitsSome n'.mover
 
 -- an inbox holds at most what it held and what came
-lies_by : {S : Type 0} (R : Rules S) (cap : ℕ) (run run' : Running S) (m m' : MoverState) (sent got got' : Logs) → Leaves R cap run run' m m' sent got got'
+lies_by : {S : Type 0} (R : Rules S) (cap : ℕ) (run run' : Running S) (m m' : MoverState) (got got' : Logs) → Leaves R cap run run' m m' got got'
     → (l : ℕ) (more : List Shipped) → l < links (dims_of m) → reader_at (dims_of m) l ≡ rank_of m → got' l ≡ got l ++ more → lying m' l ≤ lying m l + length (flat_map (λ p. p.entries) more)
-lies_by R cap run run' (Conveying c) (Conveying c') sent got got' x = x.lies
-lies_by R cap run run' (Conveying c) (Stacking k y) sent got got' x = absurd x
-lies_by R cap run run' (Stacking k y) (Conveying c) sent got got' x = absurd x
-lies_by R cap run run' (Stacking k y) (Stacking k' y') sent got got' x = λ l more below to is. omega arith
+lies_by R cap run run' (Conveying c) (Conveying c') got got' x = x.lies
+lies_by R cap run run' (Conveying c) (Stacking k y) got got' x = absurd x
+lies_by R cap run run' (Stacking k y) (Conveying c) got got' x = absurd x
+lies_by R cap run run' (Stacking k y) (Stacking k' y') got got' x = λ l more below to is. omega arith
 
 -- a rank that a turn left in its epoch
 left_by : {S : Type 0} (R : Rules S) (h : ℕ → S) (run : Running S) (m m' : MoverState) (sent got sent' got' : Logs) (is_crowded is_idle : ℕ → Bool) → Waits R run m m' sent got sent' got' is_crowded is_idle
@@ -87,7 +87,7 @@ after_turn R cap r turn n n' b b' q q' own same nd nr told =
       sent_grows = t.sent_grows;
       got_grows = t.got_grows;
       shape = λ l below own. t.shape l (subst (λ (d : List ℕ). l < links d) (sym nd) below) (subst (λ (d : List ℕ). sender_at d l ≡ rank_of n.mover) (sym nd) (own ∙ sym nr));
-      lies = λ l more below to. lies_by R cap n.run n'.run n.mover n'.mover _ _ _ t.leaves l more (subst (λ (d : List ℕ). l < links d) (sym nd) below) (subst (λ (d : List ℕ). reader_at d l ≡ rank_of n.mover) (sym nd) (to ∙ sym nr));
+      lies = λ l more below to. lies_by R cap n.run n'.run n.mover n'.mover _ _ t.leaves l more (subst (λ (d : List ℕ). l < links d) (sym nd) below) (subst (λ (d : List ℕ). reader_at d l ≡ rank_of n.mover) (sym nd) (to ∙ sym nr));
       kept = t.kept;
       ended = t.ended;
       going = t.going;

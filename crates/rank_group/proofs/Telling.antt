@@ -9,7 +9,7 @@ use Rattle.route_tensor.specs.Link.{links}
 use Rattle.route_tensor.specs.Ends.{sender_at, reader_at}
 use Rattle.port_bank.specs.Logs.{Logs, lasts, segment, starting_at, ending_at}
 use Rattle.port_bank.specs.Flow.{Begins, hop_link, belongs, items_of}
-use Rattle.port_bank.specs.Round.{Round, logs_of, pushed, pulled, CloseLaw}
+use Rattle.port_bank.specs.Round.{Round, IsRound, logs_of, pushed, pulled, CloseLaw}
 use Rattle.port_bank.proofs.Routes.{numbered}
 use Rattle.port_bank.proofs.Posts.{segment_then}
 use Rattle.port_bank.proofs.Segments.{lasts-append, lasts_first}
@@ -185,10 +185,11 @@ module _ {S : Type 0} (R : Rules S) (laws : Laws R) (law : ClosesLaws) (round : 
             ap (items_of (belongs dims s d (length dims))) got_none ∙ sym (ap (items_of (belongs dims s d 1)) sent_none)
       ]
 
-  pub tells_run : (made : Made) → record { dims = round.dims; cap = round.cap; slots = round.slots; by_slots = round.by_slots } ≡ made → round.cap ≡ cap → TellsRun R starts n made manner round
-  tells_run made is same =
+  pub tells_run : (made : Made) → record { dims = round.dims; cap = round.cap; slots = round.slots; by_slots = round.by_slots } ≡ made → round.cap ≡ cap → IsRound round → TellsRun R starts n made manner round
+  tells_run made is same lawful =
       record {
         bank = is;
+        lawful = lawful;
         ended = λ l below. (out l below).ended;
         by_last = λ l below. (out l below).by_last;
         collected = collected;

@@ -2,6 +2,7 @@
 ghost use Rattle.std.specs.Prelude.{◌≡◌, ◌++◌, ◌∷◌, [], List, length, slice_get, OnOk, OnErr};
 ghost use Rattle.std.specs.Option.{option_copied};
 ghost use Rattle.route_tensor.specs.Grid.{ranks};
+ghost use Rattle.port_bank.specs.Round.{IsRound};
 ghost use Rattle.rank_group.specs.Rounds.{round_of, told_epochs};
 
 use bale_types::NoMemory;
@@ -22,7 +23,8 @@ pub enum ClosedRound {
 impl ClosedRound {
     /// The number of ranks.
     pub fn ranks(&self) -> u32
-        ensures { result ≡ ranks (round_of self.now).dims }
+        ensures value { result ≡ ranks (round_of self.now).dims }
+        ensures round { IsRound (round_of self.now) }
     {
         match self {
             ClosedRound::Plain(round) => round.ranks(),
@@ -32,7 +34,8 @@ impl ClosedRound {
 
     /// How many epochs every link has ended; of a slot bank the count stands still at the last number.
     pub fn epochs(&self) -> u64
-        ensures { result ≡ told_epochs self.now }
+        ensures value { result ≡ told_epochs self.now }
+        ensures round { IsRound (round_of self.now) }
     {
         match self {
             ClosedRound::Plain(round) => round.epochs(),

@@ -13,7 +13,8 @@
 //! | `one_by_one` | takes a list of ranks apart |
 //!
 //! `specs/Told` says what the closed round of a run tells, and how many turns a run takes at most. `specs/Rounds` says what
-//! contracts see of a closed round, and `specs/Ranks` begins with what an order of the ranks is. The others are the code's own.
+//! contracts see of a closed round, `specs/Ranks` begins with what an order of the ranks is, and `specs/Runs` says what turns
+//! leave of ranks, for `Seated` and `run_together`. The others are the code's own.
 #![tactic(auto)]
 
 mod alone;

@@ -12,7 +12,7 @@ use std::sync::ledger::Ledger;
 /// | Call | Needs | Answer |
 /// |---|---|---|
 /// | `is_over` | | whether its run is over |
-/// | `turn` | its run isn't over | one turn, of which the gate is told before; whether the rank moved something |
+/// | `turn` | its run isn't over | one turn, of which the gate is told before; whether the rank got on, by what it counts as that |
 pub trait Seated: Drop {
     ghost ran: { Self → Self → Type 0 };
 
@@ -22,8 +22,8 @@ pub trait Seated: Drop {
     fn is_over(&self) -> bool
         ensures { result ≡ over self.now };
 
-    /// Makes one turn, once the gate was told of it. Answers whether it moved something; where it didn't, others may have
-    /// to be turned first.
+    /// Makes one turn, once the gate was told of it. Answers whether it got on, by what it counts as that: of a node, that it
+    /// pushed an item or ended an epoch. Where it didn't, others may have to be turned first.
     fn turn<R: Wait, G: Gate, L: Ledger>(&mut self, rt: &R, gate: &G, steps: &mut Steps<L>) -> bool
         requires going { over self.old ≡ false }
         ensures ran { ran self.old self.new };

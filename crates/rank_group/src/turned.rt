@@ -51,7 +51,7 @@ impl<A: Seated> Turned<A> {
         self.at.is_over()
     }
 
-    /// Makes one turn. Answers whether it moved something.
+    /// Makes one turn. Answers whether it got on.
     pub(crate) fn turn<R: Wait, G: Gate, L: Ledger>(
         &mut self,
         rt: &R,

@@ -1,5 +1,5 @@
 -- What a turn leaves that moved no parcel.
-use Rattle.std.proofs.Common.{◌≡◌, ◌⊎◌, ℕ, ◌+◌, ◌<◌, ◌≤◌, ◌==◌, Bool, true, false, List, [], ◌++◌, length, length-append, slice_get, Some, Result, Ok, refl, sym, ap, subst, ◌∙◌, arith, inl, inr}
+use Rattle.std.proofs.Common.{◌≡◌, ◌⊎◌, ℕ, ◌+◌, ◌<◌, ◌≤◌, ◌==◌, ◌&&◌, ◌||◌, not, Bool, true, false, List, [], ◌++◌, length, length-append, slice_get, Some, Result, Ok, refl, sym, ap, subst, ◌∙◌, arith, inl, inr}
 use Rattle.std.proofs.lemmas.Bool.{eq-eqb, cases_lt}
 use Rattle.std.proofs.lemmas.List.{append-nil}
 use Rattle.std.specs.List.{flat_map}
@@ -16,6 +16,7 @@ use Rattle.port_bank.specs.Shapes.{IsConveyorShape}
 use Rattle.list_laws.specs.Lists.{Begins}
 use Rattle.hop_core.specs.declared.phase.Phase.{Phase}
 use Rattle.hop_core.specs.declared.phase.Phase.TheVariants.{Dormant, Working, Endgame, Cleanup, Complete}
+use Rattle.hop_core.specs.Link.{Out, is_due, is_empty}
 use Rattle.hop_core.specs.State.{State}
 use Rattle.convey.specs.Agreement.{Ends}
 use Rattle.convey.specs.Arrived.{HasArrived}
@@ -27,7 +28,7 @@ use Rattle.convey.specs.declared.progress.Progress.TheVariants as progress
 use Rattle.convey.proofs.OneRank.{FirstLink, first_link}
 use Rattle.round_program.specs.Rules.{Rules}
 use Rattle.rank_node.specs.Sending.{to_send, is_voting}
-use Rattle.rank_node.specs.Pulls.{NoMore}
+use Rattle.rank_node.specs.Pulls.{NoMore, Handed}
 use Rattle.rank_node.specs.Runs.{Running}
 use Rattle.rank_node.specs.Moves.{AfterMoves, OnConveyor}
 use Rattle.rank_node.specs.Movers.Manner.{ByConveyor}
@@ -47,6 +48,15 @@ complete_from Complete e = refl
 
 pub ok_once : {T E : Type 0} {a b : T} → ◌≡◌ {A = Result T E} (Ok a) (Ok b) → a ≡ b
 ok_once e = cc
+
+-- what is due for its parcel is due at the end of its hop too
+pub due_at_end : (cap : ℕ) (steady ends : Bool) (o : Out) → is_due cap steady false o ≡ true → is_due cap steady ends o ≡ true
+due_at_end cap steady ends o due = at_end_too (length o.parcel.untaken == cap) (steady && not (is_empty o.parcel)) ends (not o.closed) due
+  where
+    at_end_too : (full some ends open' : Bool) → (full || some || (false && open')) ≡ true → (full || some || (ends && open')) ≡ true
+    at_end_too true some ends open' e = refl
+    at_end_too false true ends open' e = refl
+    at_end_too false false ends open' e = absurd (cc)
 
 -- an inbox has at most what it had and what came
 pub lies_less : {X : Type 0} (front more back last : List X) → Ends (front ++ more) back → length last ≤ length back → length last ≤ length front + length more
@@ -196,16 +206,16 @@ module _ {S : Type 0} (R : Rules S) (cap : ℕ) (run : Running S) (c0 c1 c2 c3 :
         shape = λ l b e was. subst (λ s. IsConveyorShape s cap (sent' l)) steady10 (grown.shape l (subst (λ s. IsConveyorShape s cap (sent l)) (sym steady10) was));
       }
 
-  pub advanced_leaves : (fewer : NoMore c2 c3) → R.emissions prog ≡ R.emissions run.prog
-      → ((to : ℕ) (x : Item) → slice_get (to_send R run.prog run.sends) next ≡ Some (to, x) → standing_toward c1 to ≡ cap)
-      → OnConveyor R cap run (record { prog = prog; round = run.round; sends = run.sends; next = next; sum = sum; spoiled = spoiled }) c0 c3 sent got got'
-  advanced_leaves fewer emissions refused =
+  pub advanced_leaves : (fewer : NoMore c2 c3) → R.emissions prog ≡ R.emissions run.prog → Handed cap (to_send R run.prog run.sends) c0 c1 run.next next
+      → OnConveyor R cap run (record { prog = prog; round = run.round; sends = run.sends; next = next; sum = sum; spoiled = spoiled }) c0 c3 got got'
+  advanced_leaves fewer emissions handed =
+      let same : to_send R run.prog run.sends ≡ to_send R prog run.sends = sym (same_sends R prog run.prog run.sends emissions) in
       record {
         lies = λ l more b e g.
             let ins : (in_of c1 l).parcel.untaken ≡ (in_of c0 l).parcel.untaken = ap (λ (c : State). (in_of c l).parcel.untaken) push.same in
             let rest = grown.lies l more (below10 l b) (reader10 l e) g in
             omega (arith, ap length ins, lies_less (in_of c1 l).parcel.untaken (flat_map (λ (p : Shipped). p.entries) more) (in_of c2 l).parcel.untaken (in_of c3 l).parcel.untaken rest (fewer l));
-        refused = λ h is to x left.
-            let same = same_sends R prog run.prog run.sends emissions in
-            record { at_push = c1; same = push.same; full = refused to x (subst (λ (es : List (ℕ × Item)). slice_get es next ≡ Some (to, x)) same left) };
+        at_push = c1;
+        pushed = subst (λ (es : List (ℕ × Item)). Handed cap es c0 c1 run.next next) same handed;
+        done = ap (λ (c : State). c.done) takes.same ∙ (adv.done_is ∙ (all ∙ ap (λ (es : List (ℕ × Item)). next == length es) same));
       }

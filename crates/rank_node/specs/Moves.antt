@@ -1,16 +1,15 @@
 -- What a turn leaves of a node, whatever carries its items.
-use Rattle.std.specs.Prelude.{◌≡◌, ℕ, ◌+◌, ◌<◌, ◌≤◌, Bool, true, List, ◌++◌, length, slice_get, Some}
+use Rattle.std.specs.Prelude.{◌≡◌, ℕ, ⊤, ◌+◌, ◌<◌, ◌≤◌, ◌==◌, Bool, true, false, List, ◌++◌, length}
 use Rattle.std.specs.List.{flat_map}
-use Rattle.bale_types.specs.declared.item.Item.{Item}
 use Rattle.item_buffer.specs.Contents.{Shipped}
 use Rattle.list_laws.specs.Lists.{Begins}
 use Rattle.route_tensor.specs.Link.{links}
 use Rattle.route_tensor.specs.Ends.{sender_at, reader_at}
 use Rattle.port_bank.specs.Logs.{Logs}
+use Rattle.hop_core.specs.Link.{is_due}
 use Rattle.hop_core.specs.State.{State}
-use Rattle.convey.specs.Buffers.{in_of}
+use Rattle.convey.specs.Buffers.{in_of, out_of}
 use Rattle.exstack.specs.declared.stage.Stage.TheVariants.{Filling}
-use Rattle.exstack.specs.Links.{headroom_of}
 use Rattle.exstack.specs.State.{State as Stack}
 use Rattle.exstack.specs.State.{out_at, in_at, link_to, link_from}
 use Rattle.round_program.specs.Rules.{Rules}
@@ -19,7 +18,8 @@ use Rattle.rank_node.specs.Movers.{MoverState, IsShape, dims_of, rank_of, epoch_
 use Rattle.rank_node.specs.Movers.MoverState.{Conveying, Stacking}
 use Rattle.rank_node.specs.Runs.{Running}
 use Rattle.rank_node.specs.Nodes.{NodeState, IsNode}
-use Rattle.rank_node.specs.Stuck.{IsStuck, WasRefused}
+use Rattle.rank_node.specs.Pulls.{Handed, Fills}
+use Rattle.rank_node.specs.Stuck.{IsStuck}
 
 -- kept: it is a node again.
 -- sent_grows .. one_got: the lists only grow, and each by one parcel at most.
@@ -40,23 +40,22 @@ pub record AfterMoves {S : Type 0} (R : Rules S) (cap : ℕ) (n n' : NodeState S
 
 -- What a turn over a conveyor leaves besides.
 -- lies: an inbox holds at most what it held and what came.
--- refused: an item is left to push exactly where a push was refused.
-pub record OnConveyor {S : Type 0} (R : Rules S) (cap : ℕ) (run run' : Running S) (c c' : State) (sent got got' : Logs) : Type 0 where
+-- pushed: what its pushes made of the conveyor before it advanced. They go on until the open parcel toward the next
+-- item's receiver is full, or until no item is left.
+-- done: the rank is done exactly where all its items are pushed.
+pub record OnConveyor {S : Type 0} (R : Rules S) (cap : ℕ) (run run' : Running S) (c c' : State) (got got' : Logs) : Type 0 where
   pub lies : (l : ℕ) (more : List Shipped) → l < links c.dims → reader_at c.dims l ≡ c.rank → got' l ≡ got l ++ more
       → length (in_of c' l).parcel.untaken ≤ length (in_of c l).parcel.untaken + length (flat_map (λ p. p.entries) more)
-  pub refused : (h : ℕ → S) → IsNode R h (record { run = run; mover = Conveying c }) sent got → (to : ℕ) (x : Item)
-      → slice_get (to_send R run'.prog run'.sends) run'.next ≡ Some (to, x) → WasRefused c to cap
+  pub at_push : State
+  pub pushed : Handed cap (to_send R run'.prog run'.sends) c at_push run.next run'.next
+  pub done : c'.done ≡ (run'.next == length (to_send R run'.prog run'.sends))
 
--- A push toward a rank was refused: after the turn's pushes the exstack's buffer toward it was full.
-pub record WasFull (x : Stack) (to cap : ℕ) : Type 0 where
-  pub at_push : Stack
-  pub same : at_push ≡ record x { outs = at_push.outs; popped = at_push.popped }
-  pub full : headroom_of cap (out_at at_push to) ≡ 0
-
--- What a turn over an exstack leaves besides: while the buffers are filled an item is left to push exactly where a push was
--- refused, and in other stages nothing is pushed.
+-- What a turn over an exstack leaves besides.
+-- pushed: while the buffers are filled, what its pushes made of the exstack before it polled. They go on until the buffer
+-- toward the next item's receiver is full, or until no item is left.
+-- unpushed: in other stages nothing is pushed.
 pub record OnExstack {S : Type 0} (R : Rules S) (cap : ℕ) (run run' : Running S) (x : Stack) : Type 0 where
-  pub refused : x.stage ≡ Filling → (to : ℕ) (y : Item) → slice_get (to_send R run'.prog run'.sends) run'.next ≡ Some (to, y) → WasFull x to cap
+  pub pushed : x.stage ≡ Filling → (at_push : Stack) × Fills cap (to_send R run'.prog run'.sends) x at_push run.next run'.next
   pub unpushed : (x.stage ≡ Filling → ⊥) → run'.next ≡ run.next
 
 -- Where a parcel of its round is still to be posted, the link is crowded, unless this turn collected a
@@ -70,14 +69,19 @@ pub record AfterFill {S : Type 0} (R : Rules S) (cap : ℕ) (run run' : Running 
   pub kept : (h : ℕ → S) (sent got : Logs) → IsNode R h (record { run = run; mover = Stacking cap x }) sent got → IsNode R h (record { run = run'; mover = Stacking cap x' }) sent got
   pub round : run'.round ≡ run.round
   pub sends : run'.sends ≡ run.sends
-  pub refused : (to : ℕ) (y : Item) → slice_get (to_send R run'.prog run'.sends) run'.next ≡ Some (to, y) → WasFull x to cap
+  pub pushed : Fills cap (to_send R run'.prog run'.sends) x x' run.next run'.next
 
 -- What a turn leaves of either.
-abbrev pub Leaves : {S : Type 0} → Rules S → ℕ → Running S → Running S → MoverState → MoverState → Logs → Logs → Logs → Type 0
-Leaves R cap run run' (Conveying c) (Conveying c') sent got got' = OnConveyor R cap run run' c c' sent got got'
-Leaves R cap run run' (Conveying c) (Stacking k x) sent got got' = ⊥
-Leaves R cap run run' (Stacking k x) (Conveying c) sent got got' = ⊥
-Leaves R cap run run' (Stacking k x) (Stacking k' x') sent got got' = OnExstack R cap run run' x
+abbrev pub Leaves : {S : Type 0} → Rules S → ℕ → Running S → Running S → MoverState → MoverState → Logs → Logs → Type 0
+Leaves R cap run run' (Conveying c) (Conveying c') got got' = OnConveyor R cap run run' c c' got got'
+Leaves R cap run run' (Conveying c) (Stacking k x) got got' = ⊥
+Leaves R cap run run' (Stacking k x) (Conveying c) got got' = ⊥
+Leaves R cap run run' (Stacking k x) (Stacking k' x') got got' = OnExstack R cap run run' x
+
+-- A link out whose parcel is left to be posted, since it is full or not empty on a steady conveyor, is crowded.
+abbrev pub DueIsCrowded : MoverState → (ℕ → Bool) → Type 0
+DueIsCrowded (Conveying c) is_crowded = (l : ℕ) → l < links c.dims → sender_at c.dims l ≡ c.rank → is_due c.cap c.steady false (out_of c l) ≡ true → is_crowded l ≡ true
+DueIsCrowded (Stacking cap x) is_crowded = ⊤
 
 -- What a turn leaves undone that wanted no memory, and why: over a conveyor, where it moved no parcel.
 abbrev pub Waits : {S : Type 0} → Rules S → Running S → MoverState → MoverState → Logs → Logs → Logs → Logs → (ℕ → Bool) → (ℕ → Bool) → Type 0

@@ -8,7 +8,7 @@ use Rattle.hop_core.specs.declared.phase.Phase.TheVariants.{Complete}
 use Rattle.hop_core.specs.State.{State}
 use Rattle.convey.specs.Buffers.{buffers_of, out_of, in_of}
 use Rattle.convey.specs.Agreement.{Ends}
-use Rattle.convey.specs.Conveyors.{AgreesWith, standing_toward}
+use Rattle.convey.specs.Conveyors.{AgreesWith}
 use Rattle.convey.specs.Arrived.{HasArrived}
 use Rattle.convey.specs.Due.{Wants, IsOver, NextIs}
 
@@ -21,7 +21,7 @@ pub record HasCrowded (dims : List ℕ) (rank : ℕ) (is_crowded : ℕ → Bool)
 
 -- A turn that moved no parcel took the conveyor c to c'. `before` is the conveyor just before the turn's advance, and
 -- `after` just after it: pushes fill open parcels before it, and pulls empty inboxes of the last hop after it.
--- pushed: the rank is done, or a link out is crowded, toward the receiver of the push that was refused.
+-- pushed: the rank is done, or a link out is crowded.
 -- read: all that came was pulled. lies: of each inbox the end is left.
 -- idle: where an inbox wanted a parcel, its link is idle.
 -- stopped: where entries are left in an inbox below the last hop, the next link of the first one is crowded.
@@ -48,9 +48,3 @@ pub record IsStuck (c c' : State) (sent got sent' got' : Logs) (is_crowded is_id
       → NextIs c.dims c.rank l e.tag (λ m. is_crowded m ≡ true)
   pub closing : (l : ℕ) → l < links c.dims → sender_at c.dims l ≡ c.rank → (hop_at c.dims l ≡ 1 → after.done ≡ true) → HasArrived (buffers_of after) l → (out_of after l).closed ≡ false → is_crowded l ≡ true
   pub over : IsOver after → c'.phase ≡ Complete
-
--- A push toward a rank was refused: after the turn's pushes the open parcel toward it held as many entries as it can.
-pub record WasRefused (c : State) (to cap : ℕ) : Type 0 where
-  pub at_push : State
-  pub same : at_push ≡ record c { outs = at_push.outs; pulled = at_push.pulled }
-  pub full : standing_toward at_push to ≡ cap

@@ -6,7 +6,7 @@ ghost use Rattle.rank_node.specs.Movers.Manner.{ByConveyor};
 ghost use Rattle.rank_node.specs.Movers.MoverState.{Conveying};
 ghost use Rattle.rank_node.specs.Runs.{running};
 ghost use Rattle.rank_node.specs.Nodes.{IsNode};
-ghost use Rattle.rank_node.specs.Moves.{AfterMoves, Leaves, Waits};
+ghost use Rattle.rank_node.specs.Moves.{AfterMoves, Leaves, DueIsCrowded, Waits};
 
 use crate::run::Run;
 use crate::sending::push_all;
@@ -35,7 +35,8 @@ pub(crate) fn turn_conveyor<const CAP: usize, const HOPS: usize, Q: Program, P: 
         (record { run = running run.new; mover = Conveying conveyor.new })
         (P.sent port.old) (P.got port.old) (P.sent port.new) (P.got port.new) }
     ensures leaves { Leaves Q.rules CAP (running run.old) (running run.new) (Conveying conveyor.old)
-        (Conveying conveyor.new) (P.sent port.old) (P.got port.old) (P.got port.new) }
+        (Conveying conveyor.new) (P.got port.old) (P.got port.new) }
+    ensures due { IsOk result → DueIsCrowded (Conveying conveyor.new) (P.crowded port.new) }
     ensures waits { OnOk result (Waits Q.rules (running run.old) (Conveying conveyor.old) (Conveying conveyor.new)
         (P.sent port.old) (P.got port.old) (P.sent port.new) (P.got port.new) (P.crowded port.new) (P.idle port.new)) }
     ensures same_dims { P.dims port.new ≡ P.dims port.old }

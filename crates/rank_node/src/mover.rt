@@ -4,7 +4,7 @@ ghost use Rattle.route_tensor.specs.Grid.{ranks};
 ghost use Rattle.rank_node.specs.Movers.{seen, dims_of, rank_of, epoch_in, manner_of, has_completed, IsNew, GoesOn};
 ghost use Rattle.rank_node.specs.Runs.{running};
 ghost use Rattle.rank_node.specs.Nodes.{IsNode};
-ghost use Rattle.rank_node.specs.Moves.{AfterMoves, Leaves, Waits};
+ghost use Rattle.rank_node.specs.Moves.{AfterMoves, Leaves, DueIsCrowded, Waits};
 ghost use Rattle.rank_node.specs.Cycles.{IsInCycle, cycle_of_turn, TurnsOnward, AwaitsSome};
 
 use crate::conveying::{new_conveyor, reset_conveyor, turn_conveyor};
@@ -69,7 +69,8 @@ impl<const CAP: usize, const HOPS: usize> Mover<CAP, HOPS> {
         ensures onward { TurnsOnward (seen self.old) (seen self.new) }
         ensures awaits { IsOk result → AwaitsSome (seen self.new) }
         ensures leaves { Leaves Q.rules CAP (running run.old) (running run.new) (seen self.old) (seen self.new)
-            (P.sent port.old) (P.got port.old) (P.got port.new) }
+            (P.got port.old) (P.got port.new) }
+        ensures due { IsOk result → DueIsCrowded (seen self.new) (P.crowded port.new) }
         ensures waits { OnOk result (Waits Q.rules (running run.old) (seen self.old) (seen self.new)
             (P.sent port.old) (P.got port.old) (P.sent port.new) (P.got port.new) (P.crowded port.new)
             (P.idle port.new)) }

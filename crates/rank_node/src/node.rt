@@ -7,7 +7,7 @@ ghost use Rattle.port_bank.specs.Logs.{Logs};
 ghost use Rattle.list_laws.specs.Lists.{Begins};
 ghost use Rattle.rank_node.specs.Sending.{is_voting, to_send};
 ghost use Rattle.rank_node.specs.Movers.{IsShape, dims_of, rank_of, epoch_in, manner_in, manner_of, has_completed, HasCap, IsStarting, NoneUnread, SameUnread};
-ghost use Rattle.rank_node.specs.Moves.{Leaves, Waits};
+ghost use Rattle.rank_node.specs.Moves.{Leaves, DueIsCrowded, Waits};
 ghost use Rattle.rank_node.specs.Nodes.{IsNode};
 ghost use Rattle.rank_node.specs.Next.{extended, HasStopped};
 ghost use Rattle.rank_node.specs.Cycles.{IsInCycle, cycle_of_turn, TurnsOnward, AwaitsSome};
@@ -163,8 +163,9 @@ impl<Q: Program, const CAP: usize, const HOPS: usize> Node<Q, CAP, HOPS> {
 
         // What it leaves in the inboxes, and unpushed; and what outside keeps a rank that moved no parcel, or that waits
         // within a round.
-        ensures leaves { Leaves Q.rules CAP self.old.run self.new.run self.old.mover self.new.mover (P.sent port.old)
-            (P.got port.old) (P.got port.new) }
+        ensures leaves { Leaves Q.rules CAP self.old.run self.new.run self.old.mover self.new.mover (P.got port.old)
+            (P.got port.new) }
+        ensures due { IsOk result → DueIsCrowded self.new.mover (P.crowded port.new) }
         ensures waits { OnOk result (Waits Q.rules self.old.run self.old.mover self.new.mover
             (P.sent port.old) (P.got port.old) (P.sent port.new) (P.got port.new) (P.crowded port.new)
             (P.idle port.new)) }

@@ -44,7 +44,7 @@ pub(crate) fn turn_exstack<const CAP: usize, Q: Program, P: Port<CAP>>(
         (record { run = running run.new; mover = Stacking CAP exstack.new })
         (P.sent port.old) (P.got port.old) (P.sent port.new) (P.got port.new) }
     ensures leaves { Leaves Q.rules CAP (running run.old) (running run.new) (Stacking CAP exstack.old)
-        (Stacking CAP exstack.new) (P.sent port.old) (P.got port.old) (P.got port.new) }
+        (Stacking CAP exstack.new) (P.got port.old) (P.got port.new) }
     ensures cycle { (quota : ℕ → ℕ) (n : ℕ) → InCycle Q.rules quota n (running run.old) exstack.old (P.sent port.old)
         (P.got port.old)
         → InCycle Q.rules quota (cycle_after n exstack.old.stage) (running run.new) exstack.new (P.sent port.new)

@@ -1,14 +1,17 @@
-use Rattle.std.proofs.Common.{rules, ◌≡◌, ℕ, ◌<◌, ◌==◌, length, All, refl, sym, ap, ◌∙◌}
+use Rattle.std.proofs.Common.{rules, ◌≡◌, ℕ, ◌<◌, ◌==◌, true, false, List, length, All, refl, sym, ap, subst, ◌∙◌}
 use Rattle.bale_types.specs.declared.item.Item.{Item}
 use Rattle.route_tensor.specs.Grid.{ranks}
-use Rattle.hop_core.specs.State.{State}
+use Rattle.route_tensor.specs.Link.{links}
+use Rattle.route_tensor.specs.Ends.{hop_at, sender_at}
+use Rattle.hop_core.specs.Link.{is_due}
+use Rattle.hop_core.specs.State.{State, at_end}
 use Rattle.convey.specs.Progress.{progress_of}
-use Rattle.convey.specs.Buffers.{is_complete}
+use Rattle.convey.specs.Buffers.{is_complete, out_of}
 use Rattle.rank_node.specs.Sending.{to_send}
 use Rattle.rank_node.specs.Runs.{Running, running}
 use Rattle.rank_node.proofs.Ballots.{send_below}
 use Rattle.rank_node.proofs.Moved.{AfterPush, AfterAdvance, AfterTakes, still_working, done_stays}
-use Rattle.rank_node.proofs.Halted.{Advanced, Grown, complete_from, ok_once, stuck, advanced_moves, advanced_leaves}
+use Rattle.rank_node.proofs.Halted.{Advanced, Grown, complete_from, ok_once, due_at_end, stuck, advanced_moves, advanced_leaves}
 use Rattle.rank_node.proofs.conveying.turn_conveyor.Goals as goal
 
 pub push_all-run-requires : goal.push_all-run-requires
@@ -162,7 +165,14 @@ returns-in_err-progress-clause-leaves g c =
       sound = c.known.ensures.sound;
       taken = λ h rank round next sends v a. c.take_all-run.ensures.taken h rank round next sends sent' got' v a;
     } in
-    advanced_leaves R g.row.CAP run c0 c1 c2 c3 next prog' sum' spoiled' done (is_complete c2.phase) voting sent got sent' got' push all adv grown (sym c.votes_now-voting.ensures) takes c.take_all-run.ensures.fewer c.take_all-run.ensures.emissions c.push_all-run.ensures.refused
+    advanced_leaves R g.row.CAP run c0 c1 c2 c3 next prog' sum' spoiled' done (is_complete c2.phase) voting sent got sent' got' push all adv grown (sym c.votes_now-voting.ensures) takes c.take_all-run.ensures.fewer c.take_all-run.ensures.emissions
+    (record {
+      same = c.push_all-run.ensures.same;
+      kept = c.push_all-run.ensures.kept;
+      pushed = c.push_all-run.ensures.pushed;
+      refused = c.push_all-run.ensures.refused;
+      receiver = c.push_all-run.ensures.receiver;
+    })
 
 pub returns-clause-moves : goal.returns-clause-moves
 returns-clause-moves g c =
@@ -274,7 +284,14 @@ returns-clause-leaves g c =
       sound = c.known.ensures.sound;
       taken = λ h rank round next sends v a. c.take_all-run.ensures.taken h rank round next sends sent' got' v a;
     } in
-    advanced_leaves R g.row.CAP run c0 c1 c2 c3 next prog' sum' spoiled' done (is_complete c2.phase) voting sent got sent' got' push all adv grown (sym c.votes_now-voting.ensures) takes c.take_all-run.ensures.fewer c.take_all-run.ensures.emissions c.push_all-run.ensures.refused
+    advanced_leaves R g.row.CAP run c0 c1 c2 c3 next prog' sum' spoiled' done (is_complete c2.phase) voting sent got sent' got' push all adv grown (sym c.votes_now-voting.ensures) takes c.take_all-run.ensures.fewer c.take_all-run.ensures.emissions
+    (record {
+      same = c.push_all-run.ensures.same;
+      kept = c.push_all-run.ensures.kept;
+      pushed = c.push_all-run.ensures.pushed;
+      refused = c.push_all-run.ensures.refused;
+      receiver = c.push_all-run.ensures.receiver;
+    })
 
 pub returns-clause-waits : goal.returns-clause-waits
 returns-clause-waits g c = λ h is sent_same got_same.
@@ -349,3 +366,14 @@ returns-clause-ended g c = λ e.
 pub returns-clause-going : goal.returns-clause-going
 returns-clause-going g c = λ e p.
     c.turn_of.ensures.going (ok_once e) (c.in_ok-progress.ensures.answer ∙ ap progress_of (sym (ap (λ (t : State). t.phase) c.take_all-run.ensures.same) ∙ p))
+
+pub returns-clause-due : goal.returns-clause-due
+returns-clause-due g c = λ ok l below own due.
+    let c1 = c.push_all-run.new.conveyor in
+    let c2 = c.advance-progress.new.self in
+    let c3 = c.take_all-run.new.conveyor in
+    let dims : c3.dims ≡ c1.dims = ap (λ (s : State). s.dims) c.take_all-run.ensures.same ∙ c.advance-progress.ensures.self_dims in
+    let rank : c3.rank ≡ c1.rank = ap (λ (s : State). s.rank) c.take_all-run.ensures.same ∙ c.advance-progress.ensures.self_rank in
+    let still : is_due c2.cap c2.steady false (out_of c2 l) ≡ true = subst (λ (s : State). is_due s.cap s.steady false (out_of s l) ≡ true) c.take_all-run.ensures.same due in
+    let served = c.in_ok-progress.ensures.served l (subst (λ (d : List ℕ). l < links d) dims below) (subst (λ (d : List ℕ). sender_at d l ≡ c1.rank) dims (own ∙ rank)) in
+    served.crowded (due_at_end c2.cap c2.steady (at_end c2.dims c2.ins c2.done (hop_at c2.dims l)) (out_of c2 l) still)

@@ -27,7 +27,7 @@ returns-clause-filled g c =
       kept = λ h sent got is. filled g.Q.Program.rules h run g.row.CAP c.args.exstack.now c.push_on-run.new.exstack c.push_on-run.result sent got c.known.ensures.standing c.requires.filling c.push_on-run.ensures is;
       round = refl;
       sends = refl;
-      refused = λ to y left. record { at_push = c.push_on-run.new.exstack; same = c.push_on-run.ensures.same; full = c.push_on-run.ensures.refused to y left };
+      pushed = c.push_on-run.ensures;
     }
 
 pub returns-clause-same : goal.returns-clause-same

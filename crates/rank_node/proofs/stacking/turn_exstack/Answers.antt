@@ -3,6 +3,7 @@ use Rattle.exstack.specs.State.{State, dims_of, may_exchange}
 use Rattle.rank_node.specs.Runs.{running}
 use Rattle.list_laws.proofs.Results.{on_ok_map}
 use Rattle.rank_node.specs.Sending.{to_send}
+use Rattle.rank_node.specs.Pulls.{Fills}
 use Rattle.rank_node.proofs.Ballots.{same_sends}
 use Rattle.rank_node.proofs.Polled.{nothing_moved, fill_then, waits_like, not_filling, all_done_apart}
 use Rattle.exstack.specs.Agreement.{cycle_after}
@@ -39,21 +40,25 @@ returns-in-Filling-clause-leaves g c =
     let items : to_send R c.exchange.new.run.prog.value c.exchange.new.run.sends ≡ to_send R c.fill.new.run.prog.value c.fill.new.run.sends =
     ap (to_send R c.exchange.new.run.prog.value) c.exchange.ensures.sends ∙ same_sends R c.exchange.new.run.prog.value c.fill.new.run.prog.value c.fill.new.run.sends c.exchange.ensures.emissions in
     record {
-      refused = λ s to y left. c.fill.ensures.filled.refused to y (sym (ap (λ es. slice_get es c.fill.new.run.next) items) ∙ (sym (ap (slice_get (to_send R c.exchange.new.run.prog.value c.exchange.new.run.sends)) c.exchange.ensures.next) ∙ left));
+      pushed = λ s. (
+        c.fill.new.exstack,
+        subst (λ n. Fills g.row.CAP (to_send R c.exchange.new.run.prog.value c.exchange.new.run.sends) c.args.exstack.now c.fill.new.exstack c.args.run.now.next n) (sym c.exchange.ensures.next)
+            (subst (λ es. Fills g.row.CAP es c.args.exstack.now c.fill.new.exstack c.args.run.now.next c.fill.new.run.next) (sym items) c.fill.ensures.filled.pushed),
+      );
       unpushed = λ apart. absurd (apart (sym c.stage.ensures.value ∙ c.in-Filling.is));
     }
 
 pub returns-in-Exchanging-clause-leaves : goal.returns-in-Exchanging-clause-leaves
 returns-in-Exchanging-clause-leaves g c =
     record {
-      refused = λ s to y left. absurd (not_filling c.args.exstack.now.stage (sym c.stage.ensures.value ∙ c.in-Exchanging.is) s);
+      pushed = λ s. absurd (not_filling c.args.exstack.now.stage (sym c.stage.ensures.value ∙ c.in-Exchanging.is) s);
       unpushed = λ apart. c.exchange-in-Exchanging.ensures.next;
     }
 
 pub returns-in-AllDone-clause-leaves : goal.returns-in-AllDone-clause-leaves
 returns-in-AllDone-clause-leaves g c =
     record {
-      refused = λ s to y left. absurd (all_done_apart c.args.exstack.now.stage (sym c.stage.ensures.value ∙ c.in-AllDone.is) s);
+      pushed = λ s. absurd (all_done_apart c.args.exstack.now.stage (sym c.stage.ensures.value ∙ c.in-AllDone.is) s);
       unpushed = λ apart. refl;
     }
 

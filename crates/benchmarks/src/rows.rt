@@ -12,7 +12,7 @@ use std::alloc::Global;
 pub(crate) struct Job {
     /// 0 for the plain bank with one rank, 1 for slot links, 2 for the plain bank with all ranks.
     pub(crate) bank: u64,
-    /// The number of hops, or the number of ranks in a row.
+    /// The number of hops, or the number of ranks of a grid of one number.
     pub(crate) hops: u64,
     pub(crate) buffer: u64,
     /// Of each rank and epoch.

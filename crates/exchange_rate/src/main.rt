@@ -1,10 +1,9 @@
 //! Measures how many items a second ranks exchange, each on a thread of its own, over conveyors on slot links.
 //!
 //! The words are `P N B [REPS] [GRID]`: each of P ranks sends N items to ranks that a seed chooses, B of which travel together (1, 2, 8, 64 or
-//! 1,024). After a run
-//! that isn't measured come REPS others (5), over the grid GRID (a row of P ranks). For each it prints how many items a second that was, and a
-//! checksum of what came; with 0 for REPS the first run's checksum alone. With 0 for N nobody sends in many rounds, and it prints how many
-//! epochs a second that was, of which each round has two.
+//! 1,024). After a run that isn't measured come REPS others (5), over the grid GRID (one number, P). For each it prints how many items a second
+//! that was, and a checksum of what came; with 0 for REPS the first run's checksum alone. With 0 for N nobody sends in many rounds, and it prints
+//! how many epochs a second that was, of which each round has two.
 #![tactic(auto)]
 
 mod command;

@@ -1,6 +1,6 @@
 //! The exstack: one rank's side of a many-to-many exchange in collective rounds.
 //!
-//! An epoch is a row of cycles. In each, all ranks take part in a *proceed round*, which tells whether some rank isn't done,
+//! An epoch is a sequence of cycles. In each, all ranks take part in a *proceed round*, which tells whether some rank isn't done,
 //! push into their buffers, and take part in an *exchange round*, which hands the buffers over; then each pops what came.
 //! In a round a rank posts one parcel on each of its links and collects one from each. No call waits: a poll does what can
 //! be done now, and says for which link the round still waits.

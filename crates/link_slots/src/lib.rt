@@ -17,7 +17,8 @@
 //! | `SlotRound::ranks`, `SlotRound::epochs` | the number of ranks; how many epochs every link has ended |
 //!
 //! The definitions, in the order in which to read them: `Logs` (what a rank knows of its links), `Shape` (grid and slots), `Seen` (a bank and
-//! a seat, as contracts see them), `Doorbell` (when a collect hears and looks), `Does` (a call on a port) and `Closed` (a closed round).
+//! a seat, as contracts see them), `Doorbell` (when a collect hears and looks), `Does` (a call on a port), `Closed` (a closed round) and
+//! `Gathering` (a gathering seat, as contracts see it).
 //! `Wiring`, `View`, `Link`, `Bank`, `Told` and `Plays` are the rule of the table and its steps; the others are the code's own.
 #![tactic(auto)]
 

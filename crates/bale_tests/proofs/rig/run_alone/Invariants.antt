@@ -1,4 +1,4 @@
-use Rattle.bale_rows.proofs.rig.run_alone.Given as goal
+use Rattle.bale_tests.proofs.rig.run_alone.Given as goal
 
 abbrev pub ghosts-run_counted : goal.ghosts-run_counted
 ghosts-run_counted a = record { name = a.blank.name; parts = a.blank.parts }

@@ -55,7 +55,7 @@ fn every_setting_of_votes(rt: HostRuntime) -> Result<(), Fail> {
 
 /// Rows of the applications: words, the text with its banner as `P` or `I`, and the answer with a banner as `I`. A slash stands
 /// for LF.
-const ROWS: &str = "\
+const RUNS: &str = "\
 histo --grid 1;P3 3 4/1 1/1 3/2 3/3 3/;0 1 1/2 0/3 3/
 histo --grid 64 --buffer 1;P3 3 4/1 1/1 3/2 3/3 3/;0 1 1/2 0/3 3/
 histo --grid 004 --buffer 1024;P3 3 4/1 1/1 3/2 3/3 3/;0 1 1/2 0/3 3/
@@ -125,9 +125,9 @@ tally --gen 2,3,42;;2 bale: usage/
 tally --via biconvey;;2 bale: usage/
 ";
 
-/// The words of a row, its text and its answer.
-fn parts_of(alloc: Global, row: &str) -> Result<Option<(String, String, String)>, Fail> {
-    let mut parts = row.split(';');
+/// The words of a run, its text and its answer.
+fn parts_of(alloc: Global, run: &str) -> Result<Option<(String, String, String)>, Fail> {
+    let mut parts = run.split(';');
     let (Some(words), Some(text), Some(want)) = (parts.next(), parts.next(), parts.next()) else {
         return Ok(None);
     };
@@ -142,15 +142,15 @@ fn parts_of(alloc: Global, row: &str) -> Result<Option<(String, String, String)>
 #[test]
 fn applications_and_their_answers(rt: HostRuntime) -> Result<(), Fail> {
     let alloc = rt.alloc();
-    for row in ROWS.lines() {
-        if let Some((words, text, want)) = parts_of(alloc, row)? {
+    for run in RUNS.lines() {
+        if let Some((words, text, want)) = parts_of(alloc, run)? {
             wants(&rt, alloc, words.as_str(), text.as_bytes(), want.as_str())?;
         }
     }
     Ok(())
 }
 
-/// A row on grids of one, two and three numbers.
+/// A run on grids of one, two and three numbers.
 fn wants_on_grids<R: Threads + Wait + Sync + Abort>(
     rt: &R,
     alloc: Global,
@@ -165,12 +165,12 @@ fn wants_on_grids<R: Threads + Wait + Sync + Abort>(
     Ok(())
 }
 
-/// The rows whose words name no grid and whose status is not a refusal.
+/// The runs whose words name no grid and whose status is not a refusal.
 #[test]
 fn grids_give_the_same_answers(rt: HostRuntime) -> Result<(), Fail> {
     let alloc = rt.alloc();
-    for row in ROWS.lines() {
-        if let Some((words, text, want)) = parts_of(alloc, row)? {
+    for run in RUNS.lines() {
+        if let Some((words, text, want)) = parts_of(alloc, run)? {
             let answered = want.starts_with("0 ") || want.starts_with("1 ");
             if !words.contains("--grid") && answered {
                 wants_on_grids(&rt, alloc, words.as_str(), text.as_bytes(), want.as_str())?;
@@ -180,7 +180,7 @@ fn grids_give_the_same_answers(rt: HostRuntime) -> Result<(), Fail> {
     Ok(())
 }
 
-/// A row on exstacks.
+/// A run on exstacks.
 fn wants_on_exstacks<R: Threads + Wait + Sync + Abort>(
     rt: &R,
     alloc: Global,
@@ -192,12 +192,12 @@ fn wants_on_exstacks<R: Threads + Wait + Sync + Abort>(
     wants(rt, alloc, words.as_str(), text, want)
 }
 
-/// The same rows on exstacks, but for those whose grid has more numbers than one or whose words name the transport.
+/// The same runs on exstacks, but for those whose grid has more numbers than one or whose words name the transport.
 #[test]
 fn exstacks_give_the_same_answers(rt: HostRuntime) -> Result<(), Fail> {
     let alloc = rt.alloc();
-    for row in ROWS.lines() {
-        if let Some((words, text, want)) = parts_of(alloc, row)? {
+    for run in RUNS.lines() {
+        if let Some((words, text, want)) = parts_of(alloc, run)? {
             if !words.contains("x") && !words.contains("--via") {
                 wants_on_exstacks(&rt, alloc, words.as_str(), text.as_bytes(), want.as_str())?;
             }

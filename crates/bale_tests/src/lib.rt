@@ -1,4 +1,4 @@
-//! Rows through the top calls of the program: words, a text and the answer, faults of sources and sinks, and a gate that holds a rank.
+//! Worked runs through the top calls of the program: words, a text and the answer, faults of sources and sinks, and a gate that holds a rank.
 //! It has tests alone: they stand above the crates that they run, so that proving one does not prove the other again.
 #![tactic(auto)]
 
@@ -11,6 +11,6 @@ mod line_tests;
 #[cfg(test)]
 mod rig;
 #[cfg(test)]
-mod row_tests;
+mod run_tests;
 #[cfg(test)]
 mod text_tests;

@@ -19,7 +19,7 @@ use Rattle.convey.specs.Agreement.{Ends}
 use Rattle.convey.specs.Arrived.{HasArrived}
 use Rattle.convey.specs.Buffers.{buffers_of, in_of, out_of}
 use Rattle.convey.specs.Conveyors.{AgreesWith, standing_toward}
-use Rattle.convey.specs.Due.{Wants, IsOver, NextIs, next_link}
+use Rattle.convey.specs.Due.{Wants, IsOver, NextIs, HeldUp, next_link}
 use Rattle.convey.specs.Progress.{progress_of}
 use Rattle.convey.specs.declared.progress.Progress.TheVariants as progress
 use Rattle.convey.proofs.OneRank.{FirstLink, first_link}
@@ -70,7 +70,7 @@ pub record Served (c c' : State) (cap : ℕ) (sent sent' got got' : Logs) (is_cr
   pub idles : (l : ℕ) → l < links c.dims → reader_at c.dims l ≡ c.rank → Wants c l → got' l ≡ got l → sent' l ≡ sent l → is_idle l ≡ true
   pub lies : (l : ℕ) (more : List Shipped) → l < links c.dims → reader_at c.dims l ≡ c.rank → got' l ≡ got l ++ more → Ends ((in_of c l).parcel.untaken ++ flat_map (λ p. p.entries) more) (in_of c' l).parcel.untaken
   pub closing : (l : ℕ) → l < links c.dims → sender_at c.dims l ≡ c.rank → (hop_at c.dims l ≡ 1 → c'.done ≡ true) → HasArrived (buffers_of c') l → (out_of c' l).closed ≡ false → is_crowded l ≡ true
-  pub stopped : (l : ℕ) (e : Entry) → l < links c.dims → reader_at c.dims l ≡ c.rank → hop_at c.dims l < length c.dims → slice_get (in_of c' l).parcel.untaken 0 ≡ Some e → NextIs c.dims c.rank l e.tag (λ m. sent' m ≡ sent m → is_crowded m ≡ true)
+  pub stopped : (l : ℕ) (e : Entry) → l < links c.dims → reader_at c.dims l ≡ c.rank → hop_at c.dims l < length c.dims → slice_get (in_of c' l).parcel.untaken 0 ≡ Some e → NextIs c.dims c.rank l e.tag (HeldUp cap c' sent sent' is_crowded)
   pub completes : IsOver c' → c'.phase ≡ Complete
 
 module _ (c c1 c2 c3 : State) (cap : ℕ) (done : Bool) (sent got sent' got' : Logs) (is_crowded is_idle : ℕ → Bool)
@@ -129,7 +129,7 @@ module _ (c c1 c2 c3 : State) (cap : ℕ) (done : Bool) (sent got sent' got' : L
           stopped = λ l x b e o some.
               let next = served.stopped l x (below1 l b) (reader1 l e) (subst (λ (d : List ℕ). hop_at d l < length d) (sym dims1) o) some in
               subst (λ (d : List ℕ). NextIs d c.rank l x.tag (λ m. is_crowded m ≡ true)) dims1 (subst (λ r. NextIs c1.dims r l x.tag (λ m. is_crowded m ≡ true)) rank1
-              (record { below = next.below; sender = next.sender; hop = next.hop; holds = next.holds (sent_same (next_link c1.dims c1.rank (hop_at c1.dims l) x.tag)) }));
+              (record { below = next.below; sender = next.sender; hop = next.hop; holds = next.holds.crowded (sent_same (next_link c1.dims c1.rank (hop_at c1.dims l) x.tag)) }));
           closing = λ l b e o a open'. served.closing l (below1 l b) (sender1 l e) (λ q. o (subst (λ (d : List ℕ). hop_at d l ≡ 1) dims1 q)) a open';
           over = λ o. ap (λ (c : State). c.phase) same3 ∙ served.completes o;
         }

@@ -19,7 +19,7 @@ use Rattle.hop_core.specs.State.{State, phase_of}
 use Rattle.port_bank.specs.Machine.{Part, IsOwnStep}
 use Rattle.convey.specs.Buffers.{out_of, in_of, is_complete, back_of, buffers_of}
 use Rattle.convey.specs.Agreement.{lasts_in, items_among, with_back, Agrees}
-use Rattle.convey.specs.Due.{IsOver}
+use Rattle.convey.specs.Due.{IsOver, HeldUp}
 use Rattle.convey.specs.Parts.{part_of}
 use Rattle.convey.specs.Progress.{advance_step, progress_of}
 use Rattle.convey.specs.Way.{GoesOn}
@@ -63,6 +63,12 @@ over_before mid new e v =
 pub phase_of-settled : (st : State) (phase : Phase) (pulled : Option ℕ) → phase_of (record st { phase = phase; pulled = pulled }) ≡ phase_of st
 unfolding phase_of
 phase_of-settled st phase pulled = refl
+
+pub same_held : (was cap : ℕ) (st : State) (phase : Phase) (sent sent' : Logs) (is_crowded : ℕ → Bool) (m : ℕ) → was ≡ cap → HeldUp was st sent sent' is_crowded m
+    → HeldUp cap (record st { phase = phase; pulled = None }) sent sent' is_crowded m
+same_held was cap st phase sent sent' is_crowded m e held =
+    let new : State = record st { phase = phase; pulled = None } in
+    subst (λ n. HeldUp n new sent sent' is_crowded m) e (record { full = held.full; crowded = held.crowded })
 
 pub forgotten : (st : State) → st.pulled ≡ None → st ≡ record st { phase = st.phase; pulled = None }
 forgotten st e = λ i. record st { pulled = e i }

@@ -1,5 +1,5 @@
 -- What an advance leaves before it settles the phase.
-use Rattle.std.proofs.Common.{◌≡◌, ◌≢◌, ℕ, ◌+◌, ◌<◌, ◌≤◌, ◌⊎◌, Bool, true, false, List, [], ◌++◌, length, arith, slice_get, slice_index_or, Option, None, refl, sym, ap, subst, ◌∙◌, inl, inr}
+use Rattle.std.proofs.Common.{◌≡◌, ℕ, ◌<◌, ◌⊎◌, Bool, true, false, List, [], ◌∷◌, ◌++◌, length, arith, slice_get, slice_index_or, Option, None, refl, sym, ap, subst, ◌∙◌, inl, inr}
 use Rattle.std.specs.List.{flat_map}
 use Rattle.std.proofs.lemmas.Bool.{false≢true}
 use Rattle.std.proofs.lemmas.List.{append-nil}
@@ -20,9 +20,9 @@ use Rattle.hop_core.specs.State.{State, phase_of}
 use Rattle.hop_core.specs.Standing.{IsState}
 use Rattle.convey.specs.Buffers.{out_of, in_of, is_complete, buffers_of}
 use Rattle.convey.specs.Agreement.{Ends, Agrees}
-use Rattle.convey.specs.Due.{Wants, IsOver, NextIs, IsBlocked}
+use Rattle.convey.specs.Due.{Wants, IsOver, WasServed, NextIs, SentFull, HeldUp, IsBlocked}
 use Rattle.convey.specs.Parts.{part_of}
-use Rattle.convey.specs.Way.{IsReady, GoesOn, PassedOn, WasAsked, WasServed, MovesOn, HasServed, at_rest}
+use Rattle.convey.specs.Way.{IsReady, GoesOn, PassedOn, WasAsked, WasPosted, MovesOn, HasServed, at_rest}
 use Rattle.convey.proofs.Moves.{forget_agrees, marks_agree}
 use Rattle.convey.proofs.Routes.{own_loop, not_all_ended}
 use Rattle.convey.proofs.States.{closed_end, is_out}
@@ -30,7 +30,7 @@ use Rattle.convey.proofs.Posts.{due_open, due_full, still_full}
 use Rattle.convey.proofs.Relays.{ends_refl}
 use Rattle.convey.proofs.Blocks.{next_map, none_first}
 use Rattle.convey.proofs.Completes.{is_over, over_not_due, over_not_wanted}
-use Rattle.convey.proofs.Ways.{goes_on_trans, never_grew, wants_same, no_more, none_filled}
+use Rattle.convey.proofs.Ways.{goes_on_trans, at_most_one, wants_same, no_more, none_filled}
 
 -- done is noted
 pub noted_agrees : (st : State) (done : Bool) (pulled : Option ℕ) (sent got : Logs) → (pulled ≡ st.pulled) ⊎ (pulled ≡ None) → Agrees (buffers_of st) sent got → Agrees (buffers_of (record st { done = done; pulled = pulled })) sent got
@@ -92,7 +92,8 @@ module _ (dims : List ℕ) (rank : ℕ) (st0 st1 st2 st3 st4 : State) (done : Bo
     (collected : GoesOn st1 st2 sent sent' got got') (outs : st2.outs ≡ st1.outs) (ready : IsReady dims rank st2 sent' got')
     (passed : PassedOn dims rank st2 st3 sent' got')
     (posted : GoesOn st3 st4 sent' sent'' got' got'') (ins : st4.ins ≡ st3.ins) (ready_again : IsReady dims rank st4 sent'' got'')
-    (waits : (l : ℕ) → l < links dims → sender_at dims l ≡ rank → sent'' l ≡ sent' l → (out_of st4 l).parcel.untaken ≡ (out_of st3 l).parcel.untaken) where
+    (waits : (l : ℕ) → l < links dims → sender_at dims l ≡ rank → sent'' l ≡ sent' l → (out_of st4 l).parcel.untaken ≡ (out_of st3 l).parcel.untaken)
+    (same_sent : sent' ≡ sent) (was_posted : (l : ℕ) → l < links dims → sender_at dims l ≡ rank → WasPosted (out_of st3 l).parcel.untaken (sent' l) (sent'' l)) where
   -- the rank's own links
   here : (l : ℕ) → l < links st0.dims → l < links dims
   here l h = subst (λ ds. l < links ds) (sym d) h
@@ -103,8 +104,8 @@ module _ (dims : List ℕ) (rank : ℕ) (st0 st1 st2 st3 st4 : State) (done : Bo
   reads : (l : ℕ) → reader_at st0.dims l ≡ st0.rank → reader_at dims l ≡ rank
   reads l to = ap (λ ds. reader_at ds l) d ∙ (to ∙ sym r)
 
-  never_sent : (l : ℕ) → sent'' l ≡ sent l → sent' l ≡ sent l
-  never_sent l same = never_grew (sent l) (sent' l) (sent'' l) (collected.sent_grows l) (posted.sent_grows l) same
+  posts_none : (l : ℕ) → sent'' l ≡ sent l → sent'' l ≡ sent' l
+  posts_none l same = same ∙ sym (ap (λ s. s l) same_sent)
 
   same_out : (l : ℕ) → out_of st2 l ≡ out_of st0 l
   same_out l = (λ i. slice_index_or (outs i) (out_index ((ready.same_dims ∙ (d ∙ sym (ap (λ u. u.dims) says))) i) l) no_out) ∙ ap (λ u. out_of u l) says
@@ -124,8 +125,7 @@ module _ (dims : List ℕ) (rank : ℕ) (st0 st1 st2 st3 st4 : State) (done : Bo
   module _ (noted noted' noted'' : ℕ → ℕ) (idle' idle'' : ℕ → Bool)
       (asked : (l : ℕ) → l < links dims → reader_at dims l ≡ rank → WasAsked st1 l (got l) (got' l) (noted l) (noted' l) (idle' l))
       (lies : (l : ℕ) (more : List Shipped) → l < links dims → reader_at dims l ≡ rank → got' l ≡ got l ++ more → (in_of st2 l).parcel.untaken ≡ (in_of st1 l).parcel.untaken ++ flat_map (λ p. p.entries) more)
-      (same_got : got'' ≡ got') (same_noted : noted'' ≡ noted') (same_idle : (l : ℕ) → sent'' l ≡ sent' l → idle'' l ≡ idle' l)
-      (same_sent : sent' ≡ sent) (once : (l : ℕ) → l < links dims → sender_at dims l ≡ rank → length (sent'' l) ≤ length (sent' l) + 1) where
+      (same_got : got'' ≡ got') (same_noted : noted'' ≡ noted') (same_idle : (l : ℕ) → sent'' l ≡ sent' l → idle'' l ≡ idle' l) where
     wants : (l : ℕ) → Wants st0 l → Wants st1 l
     wants l = wants_same st0 st1 l (ap (λ u. in_of u l) says)
 
@@ -138,13 +138,13 @@ module _ (dims : List ℕ) (rank : ℕ) (st0 st1 st2 st3 st4 : State) (done : Bo
       left = λ l h to no. ap (λ g. g l) same_got ∙ (asked l (here l h) (reads l to)).left (λ w. no (wanted l w));
       unasked = λ l h to no. ap (λ n. n l) same_noted ∙ (asked l (here l h) (reads l to)).unasked (λ w. no (wanted l w));
       asked = λ l h to w same. subst (λ n. Rose (noted l) (n l)) (sym same_noted) ((asked l (here l h) (reads l to)).rose (wants l w) (sym (ap (λ g. g l) same_got) ∙ same));
-      idle = λ l h to w same stays. same_idle l (stays ∙ sym (never_sent l stays)) ∙ (asked l (here l h) (reads l to)).idle (wants l w) (sym (ap (λ g. g l) same_got) ∙ same);
+      idle = λ l h to w same stays. same_idle l (posts_none l stays) ∙ (asked l (here l h) (reads l to)).idle (wants l w) (sym (ap (λ g. g l) same_got) ∙ same);
       lies = λ l more h to e.
           let before : (in_of st2 l).parcel.untaken ≡ (in_of st0 l).parcel.untaken ++ flat_map (λ p. p.entries) more =
           lies l more (here l h) (reads l to) (sym (ap (λ g. g l) same_got) ∙ e) ∙ ap (λ u. (in_of u l).parcel.untaken ++ flat_map (λ p. p.entries) more) says in
           subst (Ends ((in_of st0 l).parcel.untaken ++ flat_map (λ p. p.entries) more)) (sym (ap (λ x. x.parcel.untaken) (same_in l))) (subst (λ xs. Ends xs (in_of st3 l).parcel.untaken) before (passed.lies l));
-      waits = λ l h from same. subst (Begins (out_of st0 l).parcel.untaken) (sym (waits l (here l h) (sends l from) (same ∙ sym (never_sent l same)))) (begins l);
-      one_sent = λ l h from. omega (arith, once l (here l h) (sends l from), ap (λ s. length (s l)) same_sent);
+      waits = λ l h from same. subst (Begins (out_of st0 l).parcel.untaken) (sym (waits l (here l h) (sends l from) (posts_none l same))) (begins l);
+      one_sent = λ l h from. omega (arith, at_most_one _ _ _ (was_posted l (here l h) (sends l from)), ap (λ s. length (s l)) same_sent);
       one_got = λ l h to. omega (arith, (asked l (here l h) (reads l to)).once, ap (λ g. length (g l)) same_got);
       not_at_once = λ not_done over.
           not_at_once st0 st2 st4 sent' got' s not_done ready.agrees (ready.same_dims ∙ d) (ready.same_rank ∙ r) (outs ∙ ap (λ u. u.outs) says)
@@ -160,20 +160,32 @@ module _ (dims : List ℕ) (rank : ℕ) (st0 st1 st2 st3 st4 : State) (done : Bo
     -- a link whose parcel was full after the relay, and on which nothing was sent
     crowds : (l : ℕ) → l < links st0.dims → sender_at st0.dims l ≡ st0.rank → length (out_of st3 l).parcel.untaken ≡ st3.cap → sent'' l ≡ sent l → crowded'' l ≡ true
     crowds l h from full same =
-        let last = waits l (here l h) (sends l from) (same ∙ sym (never_sent l same)) in
+        let last = waits l (here l h) (sends l from) (posts_none l same) in
         (served l (here l h) (sends l from)).crowded (due_full st4 l (ap length last ∙ (full ∙ sym posted.cap)))
+
+    same_cap : st3.cap ≡ st0.cap
+    same_cap = passed.goes_on.cap ∙ (collected.cap ∙ ap (λ u. u.cap) says)
+
+    -- the open parcel was full after the relay: it is still, or it was posted
+    held_up : (m : ℕ) → m < links st0.dims → sender_at st0.dims m ≡ st0.rank → length (out_of st3 m).parcel.untaken ≡ st3.cap → HeldUp st0.cap st4 sent sent'' crowded'' m
+    held_up m h from full = record {
+      full = elim (was_posted m (here m h) (sends m from)) as (λ _. (length (out_of st4 m).parcel.untaken ≡ st0.cap) ⊎ SentFull st0.cap (sent m) (sent'' m)) [
+        | inl same ↦ inl (ap length (waits m (here m h) (sends m from) same) ∙ (full ∙ same_cap))
+        | inr more ↦ inr (record { parcel = more.parcel; is = more.is ∙ ap (λ s. s m ++ more.parcel ∷ []) same_sent; full = ap length more.holds ∙ (full ∙ same_cap) })
+      ];
+      crowded = crowds m h from full;
+    }
 
     pub has_served : HasServed st0 st4 sent sent'' looks looks'' crowded''
     has_served = record {
       served = λ l h from. served l (here l h) (sends l from);
       full = λ l h from same filled.
           let fits = (is_out st3 l t (subst (λ ds. l < links ds) (sym to_here) h)).fits in
-          let cap : st3.cap ≡ st0.cap = passed.goes_on.cap ∙ (collected.cap ∙ ap (λ u. u.cap) says) in
-          crowds l h from (still_full (out_of st0 l).parcel.untaken (out_of st3 l).parcel.untaken st3.cap (begins l) fits (filled ∙ sym cap)) same;
+          crowds l h from (still_full (out_of st0 l).parcel.untaken (out_of st3 l).parcel.untaken st3.cap (begins l) fits (filled ∙ sym same_cap)) same;
       stopped = λ l e h to less at.
           let P : ℕ → Type 0 = λ m. length (out_of st3 m).parcel.untaken ≡ st3.cap in
           let b = stopped l (subst (λ ds. l < links ds) (sym to_here) h) (subst (λ ds. hop_at ds l < length ds) (sym to_here) less) e (sym (ap (λ x. slice_get x.parcel.untaken 0) (same_in l)) ∙ at) in
-          next_map st0.dims st0.rank l e.tag P (λ m. sent'' m ≡ sent m → crowded'' m ≡ true) (λ m below from hop full same. crowds m below from full same)
+          next_map st0.dims st0.rank l e.tag P (HeldUp st0.cap st4 sent sent'' crowded'') (λ m below from hop full. held_up m below from full)
           (subst (λ q. NextIs st0.dims q l e.tag P) (passed.ready.same_rank ∙ r) (subst (λ ds. NextIs ds st3.rank l e.tag P) to_here b));
     }
 

@@ -5,6 +5,7 @@ use Rattle.std.specs.List.{flat_map}
 use Rattle.std.proofs.lemmas.List.{append-nil, append_assoc, append_cancel_left}
 use Rattle.std.proofs.lemmas.List.Elements.{All-append}
 use Rattle.bale_types.specs.Stream.{Rose}
+use Rattle.bale_types.specs.declared.item.Entry.{Entry}
 use Rattle.item_buffer.specs.Contents.{Shipped}
 use Rattle.route_tensor.specs.Grid.{ranks, IsGrid}
 use Rattle.route_tensor.specs.Link.{links}
@@ -20,8 +21,8 @@ use Rattle.port_bank.specs.Shapes.{IsFilled, IsConveyorShape}
 use Rattle.hop_core.specs.Link.{is_due, is_wanted}
 use Rattle.hop_core.specs.State.{State, at_end}
 use Rattle.convey.specs.Buffers.{out_of, in_of}
-use Rattle.convey.specs.Due.{IsDue, Wants}
-use Rattle.convey.specs.Way.{IsReady, GoesOn, WasAsked, WasServed}
+use Rattle.convey.specs.Due.{IsDue, Wants, WasServed}
+use Rattle.convey.specs.Way.{IsReady, GoesOn, WasAsked, WasPosted}
 
 -- the links of a neighbour
 pub from_below : (dims : List ℕ) (r i : ℕ) → IsGrid dims → r < ranks dims → i < sum dims → link_from dims r i < links dims
@@ -100,6 +101,13 @@ pub never_grew : (xs ys zs : List Shipped) → Begins xs ys → Begins ys zs →
 never_grew xs ys zs p q e =
     let n : length p.rest ≡ 0 = omega (arith, ap length p.is, ap length q.is, ap length e, length-append xs p.rest, length-append ys q.rest) in
     p.is ∙ (ap (λ r. xs ++ r) (none_left p.rest n) ∙ append-nil xs)
+
+-- a log has one parcel more at most
+pub at_most_one : (entries : List Entry) (log log' : List Shipped) → WasPosted entries log log' → length log' ≤ length log + 1
+at_most_one entries log log' p = elim p [
+  | inl same ↦ omega (arith, ap length same)
+  | inr more ↦ omega (arith, ap length more.is, length-append log (more.parcel ∷ []))
+]
 
 -- what stays where nothing was sent
 pub stays_more : {X : Type 0} (sent sent' sent'' : Logs) (f f' f'' : ℕ → X) → ((l : ℕ) → Begins (sent l) (sent' l)) → ((l : ℕ) → Begins (sent' l) (sent'' l))
@@ -210,7 +218,7 @@ pub record Serving (dims : List ℕ) (rank i : ℕ) (b c : State) (sent sent' : 
   pub to_serve : (l : ℕ) → l < links dims → sender_at dims l ≡ rank → i ≤ out_index dims l → looks' l ≡ looks l
   pub waits : (l : ℕ) → l < links dims → sender_at dims l ≡ rank → sent' l ≡ sent l → (out_of c l).parcel.untaken ≡ (out_of b l).parcel.untaken
   pub to_post : (l : ℕ) → l < links dims → sender_at dims l ≡ rank → i ≤ out_index dims l → sent' l ≡ sent l
-  pub once : (l : ℕ) → l < links dims → sender_at dims l ≡ rank → length (sent' l) ≤ length (sent l) + 1
+  pub posted : (l : ℕ) → l < links dims → sender_at dims l ≡ rank → WasPosted (out_of b l).parcel.untaken (sent l) (sent' l)
 
 pub serving_none : (dims : List ℕ) (rank : ℕ) (b : State) (sent : Logs) (looks : ℕ → ℕ) (crowded : ℕ → Bool) → Serving dims rank 0 b b sent sent looks looks crowded
 serving_none dims rank b sent looks crowded = record {
@@ -218,7 +226,7 @@ serving_none dims rank b sent looks crowded = record {
   to_serve = λ l h from le. refl;
   waits = λ l h from same. refl;
   to_post = λ l h from le. refl;
-  once = λ l h from. omega arith;
+  posted = λ l h from. inl refl;
 }
 
 pub serving_all : (dims : List ℕ) (rank i : ℕ) (b c : State) (sent sent' : Logs) (looks looks' : ℕ → ℕ) (crowded' : ℕ → Bool) → IsGrid dims → i ≡ sum dims
@@ -229,7 +237,7 @@ serving_all dims rank i b c sent sent' looks looks' crowded' g all k l h from = 
 pub record OthersWait (dims : List ℕ) (rank link : ℕ) (b c : State) (sent sent' : Logs) (looks looks' : ℕ → ℕ) (crowded crowded' : ℕ → Bool) : Type 0 where
   pub out : (m : ℕ) → m < links dims → sender_at dims m ≡ rank → m ≢ link → out_of c m ≡ out_of b m
   pub waits : sent' link ≡ sent link → (out_of c link).parcel.untaken ≡ (out_of b link).parcel.untaken
-  pub once : length (sent' link) ≤ length (sent link) + 1
+  pub posted : WasPosted (out_of b link).parcel.untaken (sent link) (sent' link)
   pub sent_stays : (m : ℕ) → m ≢ link → sent' m ≡ sent m
   pub looks_stays : (m : ℕ) → m ≢ link → looks' m ≡ looks m
   pub crowded_stays : (m : ℕ) → m ≢ link → crowded' m ≡ crowded m
@@ -262,13 +270,13 @@ module _ (dims : List ℕ) (rank i link : ℕ) (b c d : State) (sent sent' sent'
         | inr x ↦ ap (λ q. q.parcel.untaken) (o.out l h from x) ∙ k.waits l h from before
       ]
 
-  pub once_more : (l : ℕ) → l < links dims → sender_at dims l ≡ rank → length (sent'' l) ≤ length (sent l) + 1
-  once_more l h from = elim (cases_eq (out_index dims l) i) [
+  pub posted_more : (l : ℕ) → l < links dims → sender_at dims l ≡ rank → WasPosted (out_of b l).parcel.untaken (sent l) (sent'' l)
+  posted_more l h from = elim (cases_eq (out_index dims l) i) [
     | inl same ↦
         let before : sent' l ≡ sent l = k.to_post l h from (omega arith) in
-        let now : length (sent'' l) ≤ length (sent' l) + 1 = subst (λ m. length (sent'' m) ≤ length (sent' m) + 1) (same_out l h from same) o.once in
-        omega (arith, ap length before, now)
-    | inr ne ↦ omega (arith, ap length (o.sent_stays l (other_out l ne)), k.once l h from)
+        let now : WasPosted (out_of c l).parcel.untaken (sent' l) (sent'' l) = subst (λ m. WasPosted (out_of c m).parcel.untaken (sent' m) (sent'' m)) (same_out l h from same) o.posted in
+        subst (λ log. WasPosted (out_of b l).parcel.untaken log (sent'' l)) before (subst (λ xs. WasPosted xs (sent' l) (sent'' l)) (k.waits l h from before) now)
+    | inr ne ↦ subst (WasPosted (out_of b l).parcel.untaken (sent l)) (sym (o.sent_stays l (other_out l ne))) (k.posted l h from)
   ]
 
   pub serving_more : WasServed d link (looks' link) (looks'' link) (crowded'' link)
@@ -290,5 +298,5 @@ module _ (dims : List ℕ) (rank i link : ℕ) (b c d : State) (sent sent' sent'
         o.looks_stays l x ∙ k.to_serve l h from (omega arith);
     waits = waits_more;
     to_post = λ l h from le. o.sent_stays l (other_out l (λ e. omega arith)) ∙ k.to_post l h from (omega arith);
-    once = once_more;
+    posted = posted_more;
   }

@@ -1,11 +1,14 @@
--- Which links an advance serves.
-use Rattle.std.specs.Prelude.{◌≡◌, ℕ, ◌+◌, ◌<◌, true, List, [], length, slice_get, Some}
+-- Which links an advance serves, and why it leaves entries in an inbox.
+use Rattle.std.specs.Prelude.{◌≡◌, ◌⊎◌, ℕ, ◌+◌, ◌<◌, Bool, true, List, [], ◌∷◌, ◌++◌, length, slice_get, Some}
 use Rattle.bale_types.specs.declared.item.Entry.{Entry}
 use Rattle.bale_types.specs.declared.item.Tag.{Tag}
+use Rattle.bale_types.specs.Stream.{Rose}
+use Rattle.item_buffer.specs.Contents.{Shipped}
 use Rattle.route_tensor.specs.Ends.{hop_at, sender_at, reader_at}
 use Rattle.route_tensor.specs.Link.{links, links_before}
 use Rattle.route_tensor.specs.Tag.{digit}
 use Rattle.route_tensor.specs.Neighbour.{link_to}
+use Rattle.port_bank.specs.Logs.{Logs}
 use Rattle.hop_core.specs.Link.{is_due, is_wanted}
 use Rattle.hop_core.specs.State.{State, at_end}
 use Rattle.convey.specs.Buffers.{out_of, in_of}
@@ -14,6 +17,11 @@ use Rattle.convey.specs.Buffers.{out_of, in_of}
 -- its end and it isn't closed.
 abbrev pub IsDue : State → ℕ → Type 0
 IsDue st l = is_due st.cap st.steady (at_end st.dims st.ins st.done (hop_at st.dims l)) (out_of st l) ≡ true
+
+-- What became of a link out that was served where it was due: if it still is, the port looked in vain for room.
+pub record WasServed (st : State) (l : ℕ) (looks looks' : ℕ) (is_crowded : Bool) : Type 0 where
+  pub looked : IsDue st l → Rose looks looks'
+  pub crowded : IsDue st l → is_crowded ≡ true
 
 -- A link in wants a parcel where its inbox is empty and it hasn't ended.
 abbrev pub Wants : State → ℕ → Type 0
@@ -43,3 +51,17 @@ pub record NextIs (dims : List ℕ) (rank l : ℕ) (tag : Tag) (P : ℕ → Type
 abbrev pub IsBlocked : State → ℕ → Type 0
 IsBlocked st l = (e : Entry) → slice_get (in_of st l).parcel.untaken 0 ≡ Some e
     → NextIs st.dims st.rank l e.tag (λ m. length (out_of st m).parcel.untaken ≡ st.cap)
+
+-- One parcel of cap entries was sent on a link: its log has that one more.
+pub record SentFull (cap : ℕ) (log log' : List Shipped) : Type 0 where
+  pub parcel : Shipped
+  pub is : log' ≡ log ++ parcel ∷ []
+  pub full : length parcel.entries ≡ cap
+
+-- Why an advance left an entry in an inbox: the open parcel of its next link m was full when the relay came to it.
+-- full: it holds cap entries still, or a parcel of cap entries was sent there.
+-- crowded: where nothing was sent there, the link is crowded.
+-- At capacity 2 and with [x, y] waiting for link m, z is left; with [x] waiting, z is passed on after it.
+pub record HeldUp (cap : ℕ) (st : State) (sent sent' : Logs) (is_crowded : ℕ → Bool) (m : ℕ) : Type 0 where
+  pub full : (length (out_of st m).parcel.untaken ≡ cap) ⊎ SentFull cap (sent m) (sent' m)
+  pub crowded : sent' m ≡ sent m → is_crowded m ≡ true

@@ -1,5 +1,5 @@
 -- A conveyor and its port in the midst of an advance.
-use Rattle.std.specs.Prelude.{◌≡◌, ℕ, ◌+◌, ◌<◌, ◌≤◌, Bool, true, false, List, ◌++◌, length, slice_get, Some, None}
+use Rattle.std.specs.Prelude.{◌≡◌, ◌⊎◌, ℕ, ◌+◌, ◌<◌, ◌≤◌, Bool, true, false, List, [], ◌∷◌, ◌++◌, length, slice_get, Some, None}
 use Rattle.std.specs.List.{flat_map}
 use Rattle.bale_types.specs.declared.item.Entry.{Entry}
 use Rattle.bale_types.specs.Stream.{Rose}
@@ -15,7 +15,7 @@ use Rattle.hop_core.specs.State.{State}
 use Rattle.convey.specs.Buffers.{out_of, in_of, buffers_of}
 use Rattle.convey.specs.Agreement.{Ends, Agrees}
 use Rattle.convey.specs.Parts.{part_of}
-use Rattle.convey.specs.Due.{IsDue, Wants, IsOver, NextIs}
+use Rattle.convey.specs.Due.{Wants, IsOver, WasServed, NextIs, HeldUp}
 
 -- A state at home, with no parcel lent, whose buffers agree with the lists of its port.
 pub record IsReady (dims : List ℕ) (rank : ℕ) (st : State) (sent got : Logs) : Type 0 where
@@ -53,10 +53,15 @@ pub record WasAsked (st : State) (l : ℕ) (log log' : List Shipped) (noted note
   pub idle : Wants st l → log' ≡ log → is_idle ≡ true
   pub once : length log' ≤ length log + 1
 
--- What became of a link out that was served where it was due: if it still is, the port looked in vain for room.
-pub record WasServed (st : State) (l : ℕ) (looks looks' : ℕ) (is_crowded : Bool) : Type 0 where
-  pub looked : IsDue st l → Rose looks looks'
-  pub crowded : IsDue st l → is_crowded ≡ true
+-- One parcel more stands in a link's log, of these entries.
+pub record OneMore (entries : List Entry) (log log' : List Shipped) : Type 0 where
+  pub parcel : Shipped
+  pub is : log' ≡ log ++ parcel ∷ []
+  pub holds : parcel.entries ≡ entries
+
+-- What posting leaves of a link's log, where these entries waited: it is as before, or has one parcel more, of them.
+abbrev pub WasPosted : List Entry → List Shipped → List Shipped → Type 0
+WasPosted entries log log' = (log' ≡ log) ⊎ OneMore entries log log'
 
 -- What a relay leaves, over the lists of a port: entries only move on from an inbox to the end of an open parcel.
 pub record PassedOn (dims : List ℕ) (rank : ℕ) (old new : State) (sent got : Logs) : Type 0 where
@@ -91,10 +96,9 @@ pub record MovesOn (old new : State) (done : Bool) (sent sent' got got' : Logs) 
 -- What they leave where all posts had memory.
 -- served: a link out that is still due was looked at in vain.
 -- full: so was one on which nothing was sent though its parcel was full.
--- stopped: where entries are left in an inbox of an earlier hop, the next link of the first one is crowded, unless a
--- parcel was sent there.
+-- stopped: where entries are left in an inbox of an earlier hop, the first one is held up at its next link.
 pub record HasServed (old new : State) (sent sent' : Logs) (looks looks' : ℕ → ℕ) (is_crowded : ℕ → Bool) : Type 0 where
   pub served : (l : ℕ) → l < links old.dims → sender_at old.dims l ≡ old.rank → WasServed new l (looks l) (looks' l) (is_crowded l)
   pub full : (l : ℕ) → l < links old.dims → sender_at old.dims l ≡ old.rank → sent' l ≡ sent l → length (out_of old l).parcel.untaken ≡ old.cap → is_crowded l ≡ true
   pub stopped : (l : ℕ) (e : Entry) → l < links old.dims → reader_at old.dims l ≡ old.rank → hop_at old.dims l < length old.dims → slice_get (in_of new l).parcel.untaken 0 ≡ Some e
-      → NextIs old.dims old.rank l e.tag (λ m. sent' m ≡ sent m → is_crowded m ≡ true)
+      → NextIs old.dims old.rank l e.tag (HeldUp old.cap new sent sent' is_crowded)

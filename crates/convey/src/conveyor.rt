@@ -26,8 +26,7 @@ ghost use Rattle.hop_core.specs.State.{at_end};
 ghost use Rattle.hop_core.specs.Standing.{IsState};
 ghost use Rattle.convey.specs.Agreement.{Ends};
 ghost use Rattle.convey.specs.Arrived.{HasArrived};
-ghost use Rattle.convey.specs.Due.{Wants, IsOver, NextIs};
-ghost use Rattle.convey.specs.Way.{WasServed};
+ghost use Rattle.convey.specs.Due.{Wants, IsOver, WasServed, NextIs, HeldUp};
 
 use crate::moving::move_on;
 use crate::progress::Progress;
@@ -311,7 +310,7 @@ impl<const CAP: usize, const HOPS: usize> Conveyor<CAP, HOPS> {
             (in_of self.new l).parcel.untaken }
 
         // Where nothing was sent on a link out, it is crowded if its parcel was full, or if its hop has reached its end
-        // and it isn't closed, or if it is the next link of the first entry that is left in an inbox of the hop before.
+        // and it isn't closed.
         ensures full { IsOk result → (l : ℕ) → l < links self.old.dims → sender_at self.old.dims l ≡ self.old.rank
             → P.sent port.new l ≡ P.sent port.old l
             → length (out_of self.old l).parcel.untaken ≡ CAP → P.crowded port.new l ≡ true }
@@ -321,11 +320,13 @@ impl<const CAP: usize, const HOPS: usize> Conveyor<CAP, HOPS> {
         ensures closing { IsOk result → (l : ℕ) → l < links self.old.dims → sender_at self.old.dims l ≡ self.old.rank
             → (hop_at self.old.dims l ≡ 1 → done ≡ true) → HasArrived (buffers_of self.new) l
             → (out_of self.new l).closed ≡ false → P.crowded port.new l ≡ true }
+
+        // An entry is left in an inbox below the last hop only where the open parcel that it goes to was full.
         ensures stopped { IsOk result → (l : ℕ) (e : Entry) → l < links self.old.dims
             → reader_at self.old.dims l ≡ self.old.rank
             → hop_at self.old.dims l < length self.old.dims → slice_get (in_of self.new l).parcel.untaken 0 ≡ Some e
-            → NextIs self.old.dims self.old.rank l e.tag (λ m. P.sent port.new m ≡ P.sent port.old m
-            → P.crowded port.new m ≡ true) }
+            → NextIs self.old.dims self.old.rank l e.tag (HeldUp CAP self.new (P.sent port.old) (P.sent port.new)
+            (P.crowded port.new)) }
 
         // It is a step of the rank's part of the exchange machine.
         ensures step { IsOwnStep (advance_step self.old.done done (is_complete self.new.phase))

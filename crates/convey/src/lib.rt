@@ -21,8 +21,8 @@
 //! the ranks end each epoch together, and `rest_law` that a sweep in which nothing moves ends an epoch.
 //!
 //! The definitions, in the order in which to read them: `Buffers`, `Conveyors` and `Agreement` (what contracts see, and when it agrees with
-//! a port), `Parts` and `Progress` (which steps of the machine a call makes), `Arrived` and `Due` (which links an advance serves), then
-//! `Law` and `Rest`. `Way` is the code's own.
+//! a port), `Parts` and `Progress` (which steps of the machine a call makes), `Arrived` and `Due` (which links an advance serves, and why it
+//! leaves entries in an inbox), then `Law` and `Rest`. `Way` is the code's own.
 #![tactic(auto)]
 
 mod collecting;

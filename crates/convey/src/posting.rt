@@ -5,7 +5,8 @@ ghost use Rattle.route_tensor.specs.Link.{links};
 ghost use Rattle.route_tensor.specs.Ends.{sender_at};
 ghost use Rattle.route_tensor.specs.Neighbour.{out_index};
 ghost use Rattle.convey.specs.Buffers.{out_of};
-ghost use Rattle.convey.specs.Way.{IsReady, GoesOn, WasServed};
+ghost use Rattle.convey.specs.Due.{WasServed};
+ghost use Rattle.convey.specs.Way.{IsReady, GoesOn, WasPosted};
 
 use bale_types::NoMemory;
 use hop_core::RankState;
@@ -35,8 +36,8 @@ pub(crate) fn post_all<const CAP: usize, const HOPS: usize, P: Port<CAP>>(
     ensures waits { (l : ℕ) → l < links (P.dims port.old) → sender_at (P.dims port.old) l ≡ P.rank port.old
         → P.sent port.new l ≡ P.sent port.old l
         → (out_of state.new l).parcel.untaken ≡ (out_of state.old l).parcel.untaken }
-    ensures once { (l : ℕ) → l < links (P.dims port.old) → sender_at (P.dims port.old) l ≡ P.rank port.old
-        → length (P.sent port.new l) ≤ length (P.sent port.old l) + 1 }
+    ensures posted { (l : ℕ) → l < links (P.dims port.old) → sender_at (P.dims port.old) l ≡ P.rank port.old
+        → WasPosted (out_of state.old l).parcel.untaken (P.sent port.old l) (P.sent port.new l) }
     ensures idle { (l : ℕ) → P.sent port.new l ≡ P.sent port.old l → P.idle port.new l ≡ P.idle port.old l }
     ensures got { P.got port.new ≡ P.got port.old }
     ensures noted { P.noted port.new ≡ P.noted port.old }
@@ -76,7 +77,7 @@ pub(crate) fn post_one<const CAP: usize, const HOPS: usize, P: Port<CAP>>(
     ensures forgotten { IsErr result → state.new.pulled ≡ None }
     ensures out { (m : ℕ) → m < links (P.dims port.old) → sender_at (P.dims port.old) m ≡ P.rank port.old → m ≢ link
         → out_of state.new m ≡ out_of state.old m }
-    ensures once { length (P.sent port.new link) ≤ length (P.sent port.old link) + 1 }
+    ensures posted { WasPosted (out_of state.old link).parcel.untaken (P.sent port.old link) (P.sent port.new link) }
     ensures waits { P.sent port.new link ≡ P.sent port.old link → (out_of state.new link).parcel.untaken
         ≡ (out_of state.old link).parcel.untaken }
     ensures sent { (m : ℕ) → m ≢ link → P.sent port.new m ≡ P.sent port.old m }

@@ -11,7 +11,7 @@ ghost use Rattle.convey.specs.Way.{IsReady, PassedOn};
 
 use hop_core::RankState;
 
-/// PassesThrough from the hop before the last one down to the first.
+/// Passes on, from the hop before the last one down to the first.
 pub(crate) fn relay_all<const CAP: usize, const HOPS: usize>(state: &mut RankState<CAP, HOPS>)
     requires home { state.old.lent ≡ Lent.Nothing }
     requires hops { length state.old.dims ≡ HOPS }

@@ -1,4 +1,4 @@
-use Rattle.std.proofs.Common.{◌≡◌, ℕ, ◌<◌, false, List, length, refl, sym, ap, subst, ◌∙◌, arith, rules}
+use Rattle.std.proofs.Common.{◌≡◌, ℕ, ◌<◌, false, List, length, inl, refl, sym, ap, subst, ◌∙◌, rules}
 use Rattle.std.proofs.lemmas.Result.{on_ok_weaker}
 use Rattle.hop_core.specs.declared.phase.Phase.TheVariants.{Cleanup, Complete}
 use Rattle.item_buffer.specs.Contents.{blank}
@@ -7,10 +7,9 @@ use Rattle.route_tensor.specs.Link.{links}
 use Rattle.route_tensor.specs.Ends.{sender_at}
 use Rattle.port_bank.specs.Logs.{Logs}
 use Rattle.convey.specs.Buffers.{is_complete}
-use Rattle.convey.specs.Way.{WasServed}
-use Rattle.convey.specs.Due.{IsDue}
+use Rattle.convey.specs.Due.{IsDue, WasServed}
 use Rattle.convey.proofs.Ways.{ready_at, link_at, end_at, goes_on_refl}
-use Rattle.convey.proofs.Sent.{closed_of, all_closed_by, sent_not_due, same_closed, cleanup_incomplete}
+use Rattle.convey.proofs.Sent.{all_closed_by, sent_not_due, same_closed, cleanup_incomplete}
 use Rattle.convey.proofs.Completes.{complete_phase}
 use Rattle.convey.proofs.Movements.{noted_ready, moves_on, has_served, over_moves, over_served}
 use Rattle.convey.proofs.Advances.{not_over}
@@ -69,9 +68,9 @@ returns-clause-moves_on g c =
     moves_on dims rank c.args.state.now c.note_done.new.state c.collect_all.new.state c.relay_all.new.state c.post_all.new.state c.args.done _ _ _ _ _ _
     c.phase.ensures.standing (sym c.requires.ready.same_dims) (sym c.requires.ready.same_rank) c.note_done.ensures.state k.goes_on k.outs k.ready passed
     e.goes_on e.ins (ready_at dims _ rank _ _ _ _ k.same_dims k.same_rank e.ready)
-    (λ l h from. e.waits l (link_at dims _ l k.same_dims h) (end_at sender_at dims _ rank _ l k.same_dims k.same_rank from))
-    _ _ _ _ _ k.asked k.lies e.got e.noted e.idle k.sent
-    (λ l h from. e.once l (link_at dims _ l k.same_dims h) (end_at sender_at dims _ rank _ l k.same_dims k.same_rank from))
+    (λ l h from. e.waits l (link_at dims _ l k.same_dims h) (end_at sender_at dims _ rank _ l k.same_dims k.same_rank from)) k.sent
+    (λ l h from. e.posted l (link_at dims _ l k.same_dims h) (end_at sender_at dims _ rank _ l k.same_dims k.same_rank from))
+    _ _ _ _ _ k.asked k.lies e.got e.noted e.idle
 
 pub returns-clause-served : goal.returns-clause-served
 returns-clause-served g c =
@@ -84,7 +83,8 @@ returns-clause-served g c =
     (λ served. has_served dims rank c.args.state.now c.note_done.new.state c.collect_all.new.state c.relay_all.new.state c.post_all.new.state c.args.done _ _ _ _ _ _
     c.phase.ensures.standing (sym c.requires.ready.same_dims) (sym c.requires.ready.same_rank) c.note_done.ensures.state k.goes_on k.outs k.ready passed
     e.goes_on e.ins (ready_at dims _ rank _ _ _ _ k.same_dims k.same_rank e.ready)
-    (λ l h from. e.waits l (link_at dims _ l k.same_dims h) (end_at sender_at dims _ rank _ l k.same_dims k.same_rank from))
+    (λ l h from. e.waits l (link_at dims _ l k.same_dims h) (end_at sender_at dims _ rank _ l k.same_dims k.same_rank from)) k.sent
+    (λ l h from. e.posted l (link_at dims _ l k.same_dims h) (end_at sender_at dims _ rank _ l k.same_dims k.same_rank from))
     _ _ _ c.relay_all.ensures.standing c.relay_all.ensures.stopped
     (λ l h from. subst (λ looks. WasServed c.post_all.new.state l (looks l) (g.P.Port.looks_out c.post_all.new.port l) (g.P.Port.crowded c.post_all.new.port l)) k.looks_out
     (served l (link_at dims _ l k.same_dims h) (end_at sender_at dims _ rank _ l k.same_dims k.same_rank from)))) e.served
@@ -125,8 +125,8 @@ returns-then-eq-clause-moves_on g c =
     let got' : Logs = g.P.Port.got c.collect_all.new.port in
     moves_on dims rank st c.note_done.new.state c.collect_all.new.state mid mid c.args.done (g.P.Port.sent c.args.port.now) sent' sent' (g.P.Port.got c.args.port.now) got' got'
     c.phase.ensures.standing (sym c.requires.ready.same_dims) (sym c.requires.ready.same_rank) c.note_done.ensures.state k.goes_on k.outs k.ready passed
-    (goes_on_refl mid sent' got') refl passed.ready (λ l h from e. refl)
-    _ _ _ _ _ k.asked k.lies refl refl (λ l e. refl) k.sent (λ l h from. omega arith)
+    (goes_on_refl mid sent' got') refl passed.ready (λ l h from e. refl) k.sent (λ l h from. inl refl)
+    _ _ _ _ _ k.asked k.lies refl refl (λ l e. refl)
 
 pub returns-then-eq-clause-served : goal.returns-then-eq-clause-served
 returns-then-eq-clause-served g c =
@@ -146,6 +146,6 @@ returns-then-eq-clause-served g c =
     let not_due : (l : ℕ) → l < links dims → IsDue mid l → ⊥ = λ l h. sent_not_due st mid l c.phase.ensures.standing c.relay_all.ensures.standing same_dims same all (subst (λ ds. l < links ds) (sym passed.ready.same_dims) h) in
     has_served dims rank st c.note_done.new.state c.collect_all.new.state mid mid c.args.done (g.P.Port.sent c.args.port.now) sent' sent' (g.P.Port.got c.args.port.now) got' got'
     c.phase.ensures.standing (sym c.requires.ready.same_dims) (sym c.requires.ready.same_rank) c.note_done.ensures.state k.goes_on k.outs k.ready passed
-    (goes_on_refl mid sent' got') refl passed.ready (λ l h from e. refl)
+    (goes_on_refl mid sent' got') refl passed.ready (λ l h from e. refl) k.sent (λ l h from. inl refl)
     _ _ _ c.relay_all.ensures.standing c.relay_all.ensures.stopped
     (λ l h from. record { looked = λ d. absurd (not_due l h d); crowded = λ d. absurd (not_due l h d) })

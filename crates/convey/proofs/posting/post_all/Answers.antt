@@ -4,7 +4,7 @@ use Rattle.route_tensor.specs.Link.{links}
 use Rattle.route_tensor.specs.Ends.{sender_at}
 use Rattle.route_tensor.specs.Neighbour.{link_to, out_index}
 use Rattle.route_tensor.proofs.Neighbours.{out_index-link_to}
-use Rattle.convey.proofs.Ways.{to_below, to_sender, below_sum, link_here, ready_at, link_at, end_at, stays_more, waits_more, once_more, serving_none, serving_more, serving_all, goes_on_refl, goes_on_trans}
+use Rattle.convey.proofs.Ways.{to_below, to_sender, below_sum, link_here, ready_at, link_at, end_at, stays_more, waits_more, posted_more, serving_none, serving_more, serving_all, goes_on_refl, goes_on_trans}
 use Rattle.convey.proofs.posting.post_all.Goals as goal
 
 pub post_one-requires : goal.post_one-requires
@@ -52,7 +52,7 @@ returns-in_err-post_one-clause-waits g c =
     waits_more dims rank _ _ c.args.state.now c.loop-i.state c.post_one.new.state _ _ _ _ _ _ _ _ grid own below k.serving k.goes_on.sent_grows e.goes_on.sent_grows here (record {
       out = λ m h from ne. e.out m (link_at dims _ m k.same_dims h) (end_at sender_at dims _ rank _ m k.same_dims k.same_rank from) ne;
       waits = e.waits;
-      once = e.once;
+      posted = e.posted;
       sent_stays = e.sent;
       looks_stays = e.looks_out;
       crowded_stays = e.crowded;
@@ -63,8 +63,8 @@ returns-in_err-post_one-clause-waits g c =
       steady = e.goes_on.steady;
     })
 
-pub returns-in_err-post_one-clause-once : goal.returns-in_err-post_one-clause-once
-returns-in_err-post_one-clause-once g c =
+pub returns-in_err-post_one-clause-posted : goal.returns-in_err-post_one-clause-posted
+returns-in_err-post_one-clause-posted g c =
     let dims = g.P.Port.dims c.args.port.now in
     let rank = g.P.Port.rank c.args.port.now in
     let k = c.loop-i.invariant in
@@ -76,10 +76,10 @@ returns-in_err-post_one-clause-once g c =
     let here : link ≡ link_to dims rank c.loop-i.i = link_here link_to dims _ rank _ _ _ (ap (λ t. t.dims) c.routes-in-loop-i.ensures ∙ k.ready.same_dims) (ap (λ t. t.rank) c.routes-in-loop-i.ensures ∙ k.ready.same_rank) (ap (λ n. n.link_to) c.neighbour-link.ensures.value) in
     let e = c.post_one.ensures in
     let new = ready_at dims _ rank _ _ _ _ k.same_dims k.same_rank e.ready in
-    once_more dims rank _ _ c.args.state.now c.loop-i.state c.post_one.new.state _ _ _ _ _ _ _ _ grid own below k.serving k.goes_on.sent_grows e.goes_on.sent_grows here (record {
+    posted_more dims rank _ _ c.args.state.now c.loop-i.state c.post_one.new.state _ _ _ _ _ _ _ _ grid own below k.serving k.goes_on.sent_grows e.goes_on.sent_grows here (record {
       out = λ m h from ne. e.out m (link_at dims _ m k.same_dims h) (end_at sender_at dims _ rank _ m k.same_dims k.same_rank from) ne;
       waits = e.waits;
-      once = e.once;
+      posted = e.posted;
       sent_stays = e.sent;
       looks_stays = e.looks_out;
       crowded_stays = e.crowded;
@@ -135,7 +135,7 @@ loop-i-preserved g c =
       serving = serving_more dims rank _ _ c.args.state.now c.loop-i.state c.post_one.new.state _ _ _ _ _ _ _ _ grid own below k.serving k.goes_on.sent_grows e.goes_on.sent_grows here (record {
         out = λ m h from ne. e.out m (link_at dims _ m k.same_dims h) (end_at sender_at dims _ rank _ m k.same_dims k.same_rank from) ne;
         waits = e.waits;
-        once = e.once;
+        posted = e.posted;
         sent_stays = e.sent;
         looks_stays = e.looks_out;
         crowded_stays = e.crowded;

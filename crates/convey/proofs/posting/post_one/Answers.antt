@@ -1,4 +1,4 @@
-use Rattle.std.proofs.Common.{◌≡◌, ◌≢◌, ℕ, ◌<◌, true, false, inl, inr, refl, sym, ap, subst, ◌∙◌, rules, sum, Ok, Err, Result}
+use Rattle.std.proofs.Common.{◌≡◌, ◌≢◌, ◌<◌, inl, inr, refl, sym, ap, subst, ◌∙◌, rules, sum, Ok, Err, Result}
 use Rattle.std.proofs.lemmas.Bool.{cases_eq}
 use Rattle.bale_types.specs.declared.fault.NoMemory.{NoMemory}
 use Rattle.std.specs.List.{All}
@@ -352,3 +352,25 @@ put_back-requires-in-Err g c =
         ),
       ),
     )
+
+pub returns-then-not-due_to-clause-posted : goal.returns-then-not-due_to-clause-posted
+returns-then-not-due_to-clause-posted g c = inl refl
+
+pub returns-in-Ok-Sent-clause-posted : goal.returns-in-Ok-Sent-clause-posted
+returns-in-Ok-Sent-clause-posted g c =
+    let st = c.args.state.now in
+    let s = c.known.ensures.standing in
+    let below : c.args.link < links st.dims = subst (λ ds. c.args.link < links ds) (sym c.requires.ready.same_dims) c.requires.link in
+    let n : c.args.number ≡ out_index st.dims c.args.link = c.requires.number ∙ ap (λ ds. out_index ds c.args.link) (sym c.requires.ready.same_dims) in
+    let t = taken_out st c.args.number c.args.link c.take_out.new.parcel s below n (sym c.due_to.ensures ∙ c.if-not-due_to.false) c.take_out.ensures.parcel in
+    let q = shipped c.take_out.new.parcel in
+    let was : c.post.result ≡ Ok Sent = c.in-Ok-Sent.is ∙ ap Ok c.in-Ok-Sent.field-0-is in
+    inr (record { parcel = q; is = ap (λ logs. logs c.args.link) (c.post.ensures.sent was) ∙ added-here (g.P.Port.sent c.args.port.now) c.args.link q; holds = t.entries })
+
+pub returns-in-Ok-NoRoom-clause-posted : goal.returns-in-Ok-NoRoom-clause-posted
+returns-in-Ok-NoRoom-clause-posted g c =
+    let no = not_sent _ (c.in-Ok-NoRoom.is ∙ ap Ok c.in-Ok-NoRoom.field-0-is) in
+    inl (ap (λ logs. logs c.args.link) (c.post.ensures.not_sent no))
+
+pub returns-in-Err-clause-posted : goal.returns-in-Err-clause-posted
+returns-in-Err-clause-posted g c = inl (ap (λ logs. logs c.args.link) (c.post.ensures.not_sent (failed _ _ c.in-Err.is)))

@@ -1,4 +1,4 @@
-use Rattle.std.proofs.Common.{◌≡◌, ◌<◌, true, false, Result, Ok, length, None, sym, ap, subst, ◌∙◌, rules}
+use Rattle.std.proofs.Common.{◌≡◌, ◌<◌, true, false, Result, Ok, length, slice_get, Some, None, sym, ap, subst, ◌∙◌, rules}
 use Rattle.std.proofs.lemmas.Bool.{false≢true}
 use Rattle.bale_types.specs.declared.fault.NoMemory.{NoMemory}
 use Rattle.route_tensor.specs.Link.{links}
@@ -8,15 +8,16 @@ use Rattle.hop_core.specs.State.{State, all_closed, phase_of}
 use Rattle.hop_core.specs.Standing.{IsState}
 use Rattle.convey.specs.declared.progress.Progress.{Progress}
 use Rattle.convey.specs.declared.progress.Progress.TheVariants.{Complete as Whole}
-use Rattle.convey.specs.Buffers.{is_complete, buffers_of}
+use Rattle.convey.specs.Buffers.{in_of, is_complete, buffers_of}
 use Rattle.convey.specs.Agreement.{Agrees}
-use Rattle.convey.specs.Due.{IsDue}
+use Rattle.convey.specs.Due.{IsDue, WasServed, NextIs, HeldUp}
 use Rattle.convey.specs.Progress.{progress_of}
-use Rattle.convey.specs.Way.{WasServed, MovesOn, HasServed}
+use Rattle.convey.specs.Way.{MovesOn, HasServed}
+use Rattle.convey.proofs.Blocks.{next_map}
 use Rattle.convey.proofs.Posts.{due_ending}
 use Rattle.convey.proofs.Completes.{complete_phase, is_over, over_complete, reaches_end, working, begun}
 use Rattle.convey.proofs.Movements.{not_true}
-use Rattle.convey.proofs.Advances.{advance_is, settled_agrees, over_before, phase_of-settled, forgotten, complete_answer}
+use Rattle.convey.proofs.Advances.{advance_is, settled_agrees, over_before, phase_of-settled, forgotten, complete_answer, same_held}
 use Rattle.convey.proofs.Sent.{cleanup_sent}
 use Rattle.convey.proofs.conveyor.Conveyor.advance.Goals as goal
 
@@ -89,6 +90,20 @@ returns-clause-served g c =
     let w = k.served l below from in
     subst (λ s. WasServed s l (g.P.Port.looks_out c.args.port.now l) (g.P.Port.looks_out c.move_on.new.port l) (g.P.Port.crowded c.move_on.new.port l)) (sym c.settle.ensures.state)
     (record { looked = w.looked; crowded = w.crowded })
+
+pub returns-clause-stopped : goal.returns-clause-stopped
+returns-clause-stopped g c =
+    let now : State = c.args.self.now in
+    let mid : State = c.move_on.new.state in
+    let sent = g.P.Port.sent c.args.port.now in
+    let sent' = g.P.Port.sent c.move_on.new.port in
+    let is_crowded = g.P.Port.crowded c.move_on.new.port in
+    let k = subst (λ (t : State). HasServed t mid sent sent' (g.P.Port.looks_out c.args.port.now) (g.P.Port.looks_out c.move_on.new.port) is_crowded) c.self.view_is c.in_ok-move_on.ensures.served in
+    let cap : now.cap ≡ g.row.CAP = subst (λ (t : State). t.cap ≡ g.row.CAP) c.self.view_is c.move_on.ensures.cap in
+    λ ok l x below to less.
+    subst (λ s. slice_get (in_of s l).parcel.untaken 0 ≡ Some x → NextIs now.dims now.rank l x.tag (HeldUp g.row.CAP s sent sent' is_crowded)) (sym c.settle.ensures.state)
+    (λ at. next_map now.dims now.rank l x.tag (HeldUp now.cap mid sent sent' is_crowded) (HeldUp g.row.CAP (record mid { phase = phase_of mid; pulled = None }) sent sent' is_crowded)
+    (λ m b from hop held. same_held now.cap g.row.CAP mid (phase_of mid) sent sent' is_crowded m cap held) (k.stopped l x below to less at))
 
 pub returns-clause-closing : goal.returns-clause-closing
 returns-clause-closing g c =

@@ -1,9 +1,9 @@
 -- Counts over lists.
-use Rattle.std.proofs.Common.{ℕ, zero, suc, ◌+◌, ◌*◌, ◌<◌, ◌≤◌, ◌≡◌, Bool, true, false, not, cond, eqb, List, [], ◌∷◌, ◌++◌, length, get_or, sum_by, count_by, All, arith, inl, inr, refl, sym, ap, ◌∙◌}
-use Rattle.std.specs.List.{Contains, position_or_len}
+use Rattle.std.proofs.Common.{ℕ, zero, suc, ◌+◌, ◌*◌, ◌<◌, ◌≤◌, ◌≡◌, Bool, true, false, not, cond, eqb, List, [], ◌∷◌, ◌++◌, map, length, get_or, sum, sum_by, count_by, All, arith, inl, inr, refl, sym, ap, ◌∙◌}
+use Rattle.std.specs.List.{Contains, filter, position_or_len}
 use Rattle.std.proofs.lemmas.Bool.{cases_Bool, cases_eq}
 use Rattle.std.proofs.lemmas.List.Elements.{All-head, All-tail, All-nil, All-cons, All-weaker}
-use Rattle.std.proofs.lemmas.List.Sums.{sum_by-cons, sum_by-append}
+use Rattle.std.proofs.lemmas.List.Sums.{sum-map, sum_by-cons, sum_by-append}
 use Rattle.list_laws.specs.Sums.{total}
 use Rattle.list_laws.proofs.Sums.{total_same, total_const, total_lt}
 use Rattle.sparse_rows.proofs.Deals.{dealt_sum}
@@ -79,6 +79,24 @@ only_one p f (x ∷ xs) h =
         let no : cond {A = ℕ} (p x) (f x) 0 ≡ 0 = ap (λ b. cond {A = ℕ} b (f x) 0) (All-head (λ y. p y ≡ false) x xs h) in
         let rest : sum_by (λ x. cond (p x) (f x) 0) xs ≡ 0 = no_sum p f xs (All-tail (λ y. p y ≡ false) x xs h) in
         omega arith
+
+-- the sum over the elements that pass, and a sum of one number
+pub sum_passing : {X : Type 0} (p : X → Bool) (f : X → ℕ) (xs : List X) → sum_by (λ x. cond (p x) (f x) 0) xs ≡ sum (map f (filter p xs))
+sum_passing p f xs = passing p f xs ∙ sym (sum-map f (filter p xs))
+  where
+    by : {X : Type 0} (f : X → ℕ) (passes : Bool) (x : X) (ys : List X) → cond {A = ℕ} passes (f x) 0 + sum_by f ys ≡ sum_by f (cond passes (x ∷ ys) ys)
+    by f true x ys = sym (sum_by-cons f x ys)
+    by f false x ys = omega arith
+
+    passing : {X : Type 0} (p : X → Bool) (f : X → ℕ) (xs : List X) → sum_by (λ x. cond (p x) (f x) 0) xs ≡ sum_by f (filter p xs)
+    passing p f [] = refl
+    passing p f (x ∷ xs) =
+        sum_by-cons (λ x. cond (p x) (f x) 0) x xs ∙ ap (λ k. cond {A = ℕ} (p x) (f x) 0 + k) (passing p f xs) ∙ by f (p x) x (filter p xs)
+
+pub sum_of_one : (xs : List ℕ) → length xs ≡ 1 → sum xs ≡ get_or xs 0 0
+sum_of_one [] one = absurd (omega arith)
+sum_of_one (x ∷ []) one = omega arith
+sum_of_one (x ∷ y ∷ ys) one = absurd (omega arith)
 
 -- the only place of an element that passes is the first
 pub only_place : {X : Type 0} (p : X → Bool) (xs : List X) (k : ℕ) (d : X) → k < length xs → p (get_or xs k d) ≡ true → count_by p xs ≡ 1 → position_or_len p xs ≡ k

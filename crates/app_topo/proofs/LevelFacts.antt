@@ -1,17 +1,17 @@
 -- What holds of the claims of any matrix's levels: they are of rows of the matrix, no row claims twice, each claim is at an
 -- entry, and a row claims only once all its other columns are taken.
-use Rattle.std.proofs.Common.{ℕ, zero, suc, ◌+◌, ◌-◌, ◌<◌, ◌≤◌, ◌≡◌, Bool, true, false, cond, eqb, List, [], ◌∷◌, ◌++◌, map, length, get_or, take, count_by, All, arith, inl, inr, refl, sym, ap, ◌∙◌, subst}
+use Rattle.std.proofs.Common.{ℕ, zero, suc, ◌+◌, ◌-◌, ◌<◌, ◌≤◌, ◌≡◌, Bool, true, false, cond, eqb, List, [], ◌∷◌, ◌++◌, map, length, get_or, take, sum_by, count_by, All, arith, inl, inr, refl, sym, ap, ◌∙◌, subst}
 use Rattle.std.specs.List.{Contains, filter, range_with_len}
 use Rattle.std.proofs.lemmas.Bool.{cases_Bool, cases_eq, cases_lt, eq-eqb, ne_eqb, eqb-true, and_from, and_parts}
-use Rattle.std.proofs.lemmas.List.{get_or_append_left, get_or-append_right, take-append-le, length-append, take_more}
+use Rattle.std.proofs.lemmas.List.{get_or_append_left, get_or-append_right, take-append-le, length-append, length-map, take_more}
 use Rattle.std.proofs.Math.Seq.{take-append-add}
 use Rattle.std.proofs.lemmas.List.Elements.{All-nil, All-append, All-map, All-filter, All-contains, filter_passes, Contains-append_right}
 use Rattle.std.proofs.lemmas.List.FromFn.{length-range_with_len, get_or-range_with_len}
-use Rattle.std.proofs.lemmas.List.Sums.{count_by-le-length}
+use Rattle.std.proofs.lemmas.List.Sums.{count_by-le-length, length-filter}
 use Rattle.bale_types.specs.declared.triple.Triple.{Triple}
 use Rattle.sparse_rows.proofs.Doubles.{one_if}
-use Rattle.app_topo.specs.Levels.{Claim, row_claims, col_claims, is_open, is_ready, open_column, level, claims_after}
-use Rattle.app_topo.proofs.Counting.{count_cons, count_append, found_by, counted, only_one}
+use Rattle.app_topo.specs.Levels.{Claim, row_claims, col_claims, is_open, is_ready, open_columns, claimed_column, level, claims_after}
+use Rattle.app_topo.proofs.Counting.{count_cons, count_append, found_by, counted, only_one, sum_passing, sum_of_one}
 
 -- ---- The tests as facts
 
@@ -27,17 +27,26 @@ open_parts claims i t h =
 pub open_from : (claims : List Claim) (i : ℕ) (t : Triple) → t.i ≡ i → col_claims t.j claims ≡ 0 → is_open claims i t ≡ true
 open_from claims i t r f = and_from _ _ (eq-eqb t.i i r) (eq-eqb (col_claims t.j claims) 0 f)
 
+open_count : (es : List Triple) (claims : List Claim) (i : ℕ) → length (open_columns es claims i) ≡ count_by (is_open claims i) es
+open_count es claims i = length-map (filter (is_open claims i) es) (λ (t : Triple). t.j) ∙ length-filter (is_open claims i) es
+
 pub record IsReady (es : List Triple) (claims : List Claim) (i : ℕ) : Type 0 where
   pub unclaimed : row_claims i claims ≡ 0
   pub one : count_by (is_open claims i) es ≡ 1
 
 pub ready_parts : (es : List Triple) (claims : List Claim) (i : ℕ) → is_ready es claims i ≡ true → IsReady es claims i
 ready_parts es claims i h =
-    let p = and_parts (eqb (row_claims i claims) 0) (eqb (count_by (is_open claims i) es) 1) h in
-    record { unclaimed = eqb-true (row_claims i claims) 0 p.0; one = eqb-true (count_by (is_open claims i) es) 1 p.1 }
+    let p = and_parts (eqb (row_claims i claims) 0) (eqb (length (open_columns es claims i)) 1) h in
+    record { unclaimed = eqb-true (row_claims i claims) 0 p.0; one = sym (open_count es claims i) ∙ eqb-true (length (open_columns es claims i)) 1 p.1 }
 
 pub ready_from : (es : List Triple) (claims : List Claim) (i : ℕ) → row_claims i claims ≡ 0 → count_by (is_open claims i) es ≡ 1 → is_ready es claims i ≡ true
-ready_from es claims i u o = and_from _ _ (eq-eqb (row_claims i claims) 0 u) (eq-eqb (count_by (is_open claims i) es) 1 o)
+ready_from es claims i u o = and_from _ _ (eq-eqb (row_claims i claims) 0 u) (eq-eqb (length (open_columns es claims i)) 1 (open_count es claims i ∙ o))
+
+-- where a row has one open entry, the columns of its open entries are together the one that it claims
+pub sum_claimed : (es : List Triple) (claims : List Claim) (i : ℕ) → count_by (is_open claims i) es ≡ 1
+    → sum_by (λ t. cond (is_open claims i t) t.j 0) es ≡ claimed_column es claims i
+sum_claimed es claims i one =
+    sum_passing (is_open claims i) (λ t. t.j) es ∙ sum_of_one (open_columns es claims i) (open_count es claims i ∙ one)
 
 -- ---- One level
 
@@ -45,11 +54,11 @@ ready_from es claims i u o = and_from _ _ (eq-eqb (row_claims i claims) 0 u) (eq
 pub record IsNext (n : ℕ) (es : List Triple) (claims : List Claim) (c : Claim) : Type 0 where
   pub below : c.0 < n
   pub ready : IsReady es claims c.0
-  pub column : c.1 ≡ open_column es claims c.0
+  pub column : c.1 ≡ claimed_column es claims c.0
 
 pub level_next : (n : ℕ) (es : List Triple) (claims : List Claim) → All (IsNext n es claims) (level n es claims)
 level_next n es claims =
-    All-map (IsNext n es claims) (λ i. (i, open_column es claims i)) (filter (is_ready es claims) (range_with_len 0 n)) (λ k d l. record {
+    All-map (IsNext n es claims) (λ i. (i, claimed_column es claims i)) (filter (is_ready es claims) (range_with_len 0 n)) (λ k d l. record {
       below = All-filter (is_ready es claims) (λ i. i < n) (range_with_len 0 n) (range_low n) k d l;
       ready = ready_parts es claims _ (filter_passes (is_ready es claims) (range_with_len 0 n) k d l);
       column = refl;
@@ -57,6 +66,14 @@ level_next n es claims =
   where
     range_low : (m : ℕ) → All (λ i. i < m) (range_with_len 0 m)
     range_low m k d l = (let s : length (range_with_len 0 m) ≡ m = length-range_with_len 0 m in let e : get_or (range_with_len 0 m) k d ≡ 0 + k = get_or-range_with_len 0 m k d (omega arith) in omega arith)
+
+-- every open entry of a ready row is in the column that it claims
+pub next_column : (n : ℕ) (es : List Triple) (claims : List Claim) (c : Claim) (t : Triple) → IsNext n es claims c → Contains es t → is_open claims c.0 t ≡ true → t.j ≡ c.1
+next_column n es claims c t h there is =
+    let one : count_by (is_open claims c.0) es ≡ 1 = h.ready.one in
+    let sum : ℕ = sum_by (λ t. cond (is_open claims c.0 t) t.j 0) es in
+    let its_own : t.j ≡ sum = All-contains (λ u. is_open claims c.0 u ≡ true → u.j ≡ sum) es t (only_one (is_open claims c.0) (λ u. u.j) es one) there is in
+    its_own ∙ sum_claimed es claims c.0 one ∙ sym h.column
 
 -- the entry of such a claim
 pub record AtEntry (es : List Triple) (c : Claim) : Type 0 where
@@ -69,13 +86,7 @@ pub next_entry : (n : ℕ) (es : List Triple) (claims : List Claim) (c : Claim) 
 next_entry n es claims c h =
     let one : count_by (is_open claims c.0) es ≡ 1 = h.ready.one in
     let t = found_by (is_open claims c.0) es (omega arith) in
-    let only : t.0.j ≡ open_column es claims c.0 = All-contains (λ u. is_open claims c.0 u ≡ true → u.j ≡ open_column es claims c.0) es t.0 (only_one (is_open claims c.0) (λ u. u.j) es one) t.1 t.2 in
-    record { entry = t.0; there = t.1; row = (open_parts claims c.0 t.0 t.2).row; col = only ∙ sym h.column }
-
--- every open entry of a ready row is in the column that it claims
-pub next_column : (n : ℕ) (es : List Triple) (claims : List Claim) (c : Claim) (t : Triple) → IsNext n es claims c → Contains es t → is_open claims c.0 t ≡ true → t.j ≡ c.1
-next_column n es claims c t h there is =
-    All-contains (λ u. is_open claims c.0 u ≡ true → u.j ≡ open_column es claims c.0) es t (only_one (is_open claims c.0) (λ u. u.j) es h.ready.one) there is ∙ sym h.column
+    record { entry = t.0; there = t.1; row = (open_parts claims c.0 t.0 t.2).row; col = next_column n es claims c t.0 h t.1 t.2 }
 
 -- ---- Rows claim once
 
@@ -138,19 +149,19 @@ claims_of i p f (k ∷ ks) =
 
 level_few : (n : ℕ) (es : List Triple) (claims : List Claim) (i : ℕ) → row_claims i (level n es claims) ≤ 1
 level_few n es claims i =
-    let is = claims_of i (is_ready es claims) (open_column es claims) (range_with_len 0 n) in
+    let is = claims_of i (is_ready es claims) (claimed_column es claims) (range_with_len 0 n) in
     elim (cases_Bool (is_ready es claims i)) [
       | inl t ↦ (let h : row_claims i (level n es claims) ≡ count_by (λ k. eqb k i) (range_with_len 0 n) = is ∙ ap (λ b. cond b (count_by (λ k. eqb k i) (range_with_len 0 n)) 0) t in omega (arith, range_once i 0 n))
       | inr f ↦ (let h : row_claims i (level n es claims) ≡ 0 = is ∙ ap (λ b. cond b (count_by (λ k. eqb k i) (range_with_len 0 n)) 0) f in omega arith)
     ]
 
 level_none : (n : ℕ) (es : List Triple) (claims : List Claim) (i : ℕ) → is_ready es claims i ≡ false → row_claims i (level n es claims) ≡ 0
-level_none n es claims i f = claims_of i (is_ready es claims) (open_column es claims) (range_with_len 0 n) ∙ ap (λ b. cond b (count_by (λ k. eqb k i) (range_with_len 0 n)) 0) f
+level_none n es claims i f = claims_of i (is_ready es claims) (claimed_column es claims) (range_with_len 0 n) ∙ ap (λ b. cond b (count_by (λ k. eqb k i) (range_with_len 0 n)) 0) f
 
 -- a ready row claims in the level
 pub level_holds : (n : ℕ) (es : List Triple) (claims : List Claim) (i : ℕ) → i < n → IsReady es claims i → 0 < length (level n es claims)
 level_holds n es claims i low h =
-    let is = claims_of i (is_ready es claims) (open_column es claims) (range_with_len 0 n) in
+    let is = claims_of i (is_ready es claims) (claimed_column es claims) (range_with_len 0 n) in
     let here : row_claims i (level n es claims) ≡ count_by (λ k. eqb k i) (range_with_len 0 n) = is ∙ ap (λ b. cond b (count_by (λ k. eqb k i) (range_with_len 0 n)) 0) (ready_from es claims i h.unclaimed h.one) in
     let at_it : get_or (range_with_len 0 n) i i ≡ i = get_or-range_with_len 0 n i i low ∙ omega arith in
     let some : 0 < count_by (λ k. eqb k i) (range_with_len 0 n) = counted (λ k. eqb k i) (range_with_len 0 n) i (i, omega (arith, length-range_with_len 0 n), at_it) (eq-eqb i i refl) in

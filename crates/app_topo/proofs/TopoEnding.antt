@@ -27,7 +27,7 @@ use Rattle.sparse_rows.proofs.Starts.{made_at}
 use Rattle.sparse_rows.proofs.Places.{place_below}
 use Rattle.sparse_rows.specs.Owners.{places_for}
 use Rattle.app_topo.specs.declared.placed.Placed.{Placed}
-use Rattle.app_topo.specs.Levels.{Claim, row_claims, col_claims, is_ready, open_column, is_complete, topo_order, row_position, col_position}
+use Rattle.app_topo.specs.Levels.{Claim, row_claims, col_claims, is_ready, claimed_column, is_complete, topo_order, row_position, col_position}
 use Rattle.app_topo.specs.Triangular.{IsValid}
 use Rattle.app_topo.specs.Topos.{TopoState, number_at}
 use Rattle.app_topo.specs.TopoRuns.{TopoEnded}
@@ -82,8 +82,8 @@ level_ordered : (m : Sparse) (t : ℕ) → InOrder (map (level_cell t) (next m t
 unfolding level_cell
 level_ordered m t =
     let rows : List ℕ = filter (is_ready m.entries (claims m t)) (range_with_len 0 m.rows) in
-    let cell : ℕ → Triple = λ i. level_cell t (i, open_column m.entries (claims m t) i) in
-    subst InOrder (sym (map-map (level_cell t) (λ i. (i, open_column m.entries (claims m t) i)) rows))
+    let cell : ℕ → Triple = λ i. level_cell t (i, claimed_column m.entries (claims m t) i) in
+    subst InOrder (sym (map-map (level_cell t) (λ i. (i, claimed_column m.entries (claims m t) i)) rows))
     (pairs_map (λ i. i ≡ i) Less (λ s u. is_before s u ≡ true) cell rows (λ i k a b less. column_before t i t k refl less) (λ k d l. refl)
     (pairs_filter Less (is_ready m.entries (claims m t)) (range_with_len 0 m.rows) (range_up 0 m.rows)))
 

@@ -23,13 +23,13 @@ use Rattle.sparse_rows.proofs.EveryEntry.{every_owned}
 use Rattle.sparse_rows.proofs.Gathering.{row_of, pairs_map}
 use Rattle.sparse_rows.proofs.Places.{place_own, place_below}
 use Rattle.sparse_rows.proofs.Starts.{made_at, made_from, round_made}
-use Rattle.app_topo.specs.Levels.{Claim, row_claims, is_ready, open_column}
+use Rattle.app_topo.specs.Levels.{Claim, row_claims, is_ready, claimed_column}
 use Rattle.app_topo.specs.Topos.{TopoState, topo_rules, spot, number_at, placed_in, next_outgoing, claims_of, falls_of, own_rows, entered, claimed_by, fallen}
 use Rattle.app_topo.specs.TopoLaws.{topo_laws, in_even, added_here, added_there, added_len}
 use Rattle.app_topo.proofs.Counting.{count_cons, count_append}
 use Rattle.app_topo.proofs.LevelFacts.{IsReady, ready_from}
 use Rattle.app_topo.proofs.TopoTables.{table, table_at, added_all, IsFor}
-use Rattle.app_topo.proofs.TopoStates.{claims, next, freed, open_number, fall_item, claiming, freeing}
+use Rattle.app_topo.proofs.TopoStates.{claims, next, freed, open_number, open_sum, fall_item, claiming, freeing}
 use Rattle.app_topo.proofs.TopoClaims.{every, raised_count, dealt_counts, map_counts, rises_more}
 use Rattle.app_topo.proofs.TopoClaimRound.{all_claiming}
 use Rattle.app_topo.proofs.TopoFalls.{minus_one, minus_column, come_falls, falls_own, numbers_after, sums_after, number_falls, lost}
@@ -139,7 +139,7 @@ falls_absorbed ranks m t r some low begun =
     ∙ ap Some (each_fallen (freeing ranks m t r) (come_falls ranks m t r) (λ z. absurd (omega arith)) even)
 
 abbrev after_falls : ℕ → Sparse → ℕ → ℕ → List Triple → TopoState
-after_falls ranks m t r marks = record (freeing ranks m t r) { numbers = table ranks r m.rows (open_number m (claims m (suc t))); sums = table ranks r m.rows (open_column m.entries (claims m (suc t))); came = marks }
+after_falls ranks m t r marks = record (freeing ranks m t r) { numbers = table ranks r m.rows (open_number m (claims m (suc t))); sums = table ranks r m.rows (open_sum m (claims m (suc t))); came = marks }
 
 abbrev fallen_marks : ℕ → Sparse → ℕ → ℕ → List Triple
 fallen_marks ranks m t r = (falls_all (freeing ranks m t r) (come_falls ranks m t r)).came
@@ -165,7 +165,7 @@ lost_some m t i is low one =
           let here : 0 < comes i (filter (is_ready m.entries (claims m t)) (range_with_len 0 m.rows)) =
           to_filter (is_ready m.entries (claims m t)) i (range_with_len 0 m.rows) (ready_from m.entries (claims m t) i ready.unclaimed ready.one) (in_range m.rows i low) in
           let claims_it : row_claims i (next m t) ≡ comes i (filter (is_ready m.entries (claims m t)) (range_with_len 0 m.rows)) =
-          map_counts (λ (c : Claim). eqb c.0 i) (λ i. (i, open_column m.entries (claims m t) i)) (filter (is_ready m.entries (claims m t)) (range_with_len 0 m.rows)) in
+          map_counts (λ (c : Claim). eqb c.0 i) (λ i. (i, claimed_column m.entries (claims m t) i)) (filter (is_ready m.entries (claims m t)) (range_with_len 0 m.rows)) in
           let both : row_claims i (claims m (suc t)) ≡ row_claims i (claims m t) + row_claims i (next m t) = count_append (λ (c : Claim). eqb c.0 i) (claims m t) (next m t) in
           let zero_left : open_number m (claims m (suc t)) i ≡ 0 = claimed_closed m (suc t) i (omega arith) in
           absurd (omega arith)

@@ -15,12 +15,12 @@ use Rattle.sparse_rows.specs.Deals.{dealt}
 use Rattle.sparse_rows.proofs.Doubles.{one_if}
 use Rattle.sparse_rows.proofs.EveryEntry.{came_to}
 use Rattle.sparse_rows.proofs.Gathering.{row_of, Differ, pairs_map, gathered_moves}
-use Rattle.app_topo.specs.Levels.{Claim, col_claims, is_open, open_column}
+use Rattle.app_topo.specs.Levels.{Claim, col_claims, is_open}
 use Rattle.app_topo.specs.Topos.{spot}
 use Rattle.app_topo.proofs.Counting.{count_cons, count_append, found_by}
 use Rattle.app_topo.proofs.LevelFacts.{IsNext, level_next, next_free}
 use Rattle.app_topo.proofs.TopoTables.{table, added_all, share, IsFor, added_total, came_share}
-use Rattle.app_topo.proofs.TopoStates.{claims, next, by_column, freed, is_freed, open_number, fall_item}
+use Rattle.app_topo.proofs.TopoStates.{claims, next, by_column, freed, is_freed, open_number, open_sum, fall_item}
 use Rattle.app_topo.proofs.TopoClaims.{every}
 
 -- ---- Open before: open still, or freed
@@ -130,8 +130,8 @@ lost_columns m t i = sum_by (λ u. cond (u.j == i) u.i 0) (freed m t)
 pub number_falls : (m : Sparse) (t i : ℕ) → IsSparse m → open_number m (claims m t) i ≡ open_number m (claims m (suc t)) i + lost m t i
 number_falls m t i is = split_sum m t i (λ e. 1) m.entries ∙ ap (λ k. open_number m (claims m (suc t)) i + k) (sym (lost_sum m t i (λ u. 1) is))
 
-sum_falls : (m : Sparse) (t i : ℕ) → IsSparse m → open_column m.entries (claims m t) i ≡ open_column m.entries (claims m (suc t)) i + lost_columns m t i
-sum_falls m t i is = split_sum m t i (λ e. e.j) m.entries ∙ ap (λ k. open_column m.entries (claims m (suc t)) i + k) (sym (lost_sum m t i (λ u. u.i) is))
+sum_falls : (m : Sparse) (t i : ℕ) → IsSparse m → open_sum m (claims m t) i ≡ open_sum m (claims m (suc t)) i + lost_columns m t i
+sum_falls m t i is = split_sum m t i (λ e. e.j) m.entries ∙ ap (λ k. open_sum m (claims m (suc t)) i + k) (sym (lost_sum m t i (λ u. u.i) is))
 
 -- ---- The numbers and sums after the falls
 
@@ -194,10 +194,10 @@ sum_small p n (e ∷ es) low wide =
       | inr u ↦ (let a : cond {A = ℕ} (p e) e.j 0 ≡ 0 = ap (λ b. cond {A = ℕ} b e.j 0) u in omega arith)
     ]
 
-pub open_small : (m : Sparse) (cs : List Claim) (i : ℕ) → IsSparse m → open_column m.entries cs i < 2 ^ 63
+pub open_small : (m : Sparse) (cs : List Claim) (i : ℕ) → IsSparse m → open_sum m cs i < 2 ^ 63
 open_small m cs i is =
     let few : length m.entries ≤ 524288 = is.few in
-    let s : open_column m.entries cs i ≤ 16384 * length m.entries = sum_small (is_open cs i) m.cols m.entries (λ k d l. (is.inside k d l).col) is.wide in
+    let s : open_sum m cs i ≤ 16384 * length m.entries = sum_small (is_open cs i) m.cols m.entries (λ k d l. (is.inside k d l).col) is.wide in
     omega arith
 
 pub number_small : (m : Sparse) (cs : List Claim) (i : ℕ) → IsSparse m → open_number m cs i < 2 ^ 63
@@ -226,10 +226,10 @@ numbers_after ranks m t r low square is =
     omega (arith, sum, number_falls m t i is, number_small m (claims m t) i is))
 
 pub sums_after : (ranks : ℕ) (m : Sparse) (t r : ℕ) → r < ranks → m.rows ≡ m.cols → IsSparse m
-    → added_all ranks every minus_column (table ranks r m.rows (open_column m.entries (claims m t))) (come_falls ranks m t r) ≡ table ranks r m.rows (open_column m.entries (claims m (suc t)))
+    → added_all ranks every minus_column (table ranks r m.rows (open_sum m (claims m t))) (come_falls ranks m t r) ≡ table ranks r m.rows (open_sum m (claims m (suc t)))
 sums_after ranks m t r low square is =
     let tall : m.rows ≤ 16384 = is.tall in
-    added_total ranks r m.rows every minus_column (open_column m.entries (claims m t)) (open_column m.entries (claims m (suc t))) (come_falls ranks m t r) low (falls_own ranks m t r square is)
+    added_total ranks r m.rows every minus_column (open_sum m (claims m t)) (open_sum m (claims m (suc t))) (come_falls ranks m t r) low (falls_own ranks m t r square is)
     (λ i own. omega (arith, open_small m (claims m t) i is))
     (λ i own.
     let sum : sum_by (share every minus_column i) (come_falls ranks m t r) ≡ sum_by (λ u. cond (u.j == i) (2 ^ 64 - u.i) 0) (freed m t) = came_share (row_of ranks) fall_item every minus_column ranks i r (freed m t) own in

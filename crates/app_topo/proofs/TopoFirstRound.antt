@@ -21,14 +21,14 @@ use Rattle.sparse_rows.proofs.EveryEntry.{came_to, every_owned}
 use Rattle.sparse_rows.proofs.Gathering.{row_of, pairs_map, gathered_dealt}
 use Rattle.sparse_rows.proofs.Places.{place_below}
 use Rattle.sparse_rows.proofs.Starts.{made_at, made_from, round_made}
-use Rattle.app_topo.specs.Levels.{is_open, open_column}
+use Rattle.app_topo.specs.Levels.{is_open}
 use Rattle.app_topo.specs.Topos.{TopoState, topo_rules, spot, entered, claimed_by, fallen, own_rows, next_outgoing}
 use Rattle.app_topo.specs.TopoLaws.{topo_laws, in_first}
 use Rattle.app_topo.specs.TopoRuns.{for_row, for_column, first_sent, topo_begins, topo_starts}
 use Rattle.app_topo.proofs.Counting.{counted}
 use Rattle.app_topo.proofs.TopoStart.{starts_in_round}
 use Rattle.app_topo.proofs.TopoTables.{table, added_all, share, IsFor, added_total, came_share}
-use Rattle.app_topo.proofs.TopoStates.{claims, by_column, open_number, claiming}
+use Rattle.app_topo.proofs.TopoStates.{claims, by_column, open_number, open_sum, claiming}
 use Rattle.app_topo.proofs.TopoClaims.{one_each, flat_mapped}
 use Rattle.app_topo.proofs.TopoClaimRound.{all_claiming}
 use Rattle.app_topo.proofs.TopoFalls.{open_small, number_small, flip_differ}
@@ -174,11 +174,11 @@ first_numbers ranks m r low square is =
     omega (arith, sum, number_small m [] i is))
 
 first_sums : (ranks : ℕ) (m : Sparse) (r : ℕ) → r < ranks → m.rows ≡ m.cols → IsSparse m
-    → added_all ranks is_row its_column (replicate (places_for ranks m.rows) 0) (come_first ranks m r) ≡ table ranks r m.rows (open_column m.entries (claims m 0))
+    → added_all ranks is_row its_column (replicate (places_for ranks m.rows) 0) (come_first ranks m r) ≡ table ranks r m.rows (open_sum m (claims m 0))
 first_sums ranks m r low square is =
     ap (λ ns. added_all ranks is_row its_column ns (come_first ranks m r)) (zeros_are ranks r m.rows)
-    ∙ added_total ranks r m.rows is_row its_column (λ i. 0) (open_column m.entries (claims m 0)) (come_first ranks m r) low (first_own ranks m r square is) (λ i own. omega arith) (λ i own.
-    let sum : sum_by (share is_row its_column i) (come_first ranks m r) ≡ open_column m.entries [] i = came_share (sent_from ranks) sent_item is_row its_column ranks i r (sent_list (numbered m.entries)) own ∙ rows_come i 0 its_column ranks m.entries in
+    ∙ added_total ranks r m.rows is_row its_column (λ i. 0) (open_sum m (claims m 0)) (come_first ranks m r) low (first_own ranks m r square is) (λ i own. omega arith) (λ i own.
+    let sum : sum_by (share is_row its_column i) (come_first ranks m r) ≡ open_sum m [] i = came_share (sent_from ranks) sent_item is_row its_column ranks i r (sent_list (numbered m.entries)) own ∙ rows_come i 0 its_column ranks m.entries in
     omega (arith, sum, open_small m [] i is))
 
 first_columns : (ranks : ℕ) (m : Sparse) (r : ℕ) → IsSparse m → columns_all [] (come_first ranks m r) ≡ dealt (row_of ranks) r (by_column m)
@@ -205,7 +205,7 @@ rows_all ranks r n i some own low =
 -- ---- The round
 
 abbrev after_first : ℕ → Sparse → ℕ → TopoState
-after_first ranks m r = record (topo_begins ranks m r) { numbers = table ranks r m.rows (open_number m (claims m 0)); sums = table ranks r m.rows (open_column m.entries (claims m 0)); came = dealt (row_of ranks) r (by_column m) }
+after_first ranks m r = record (topo_begins ranks m r) { numbers = table ranks r m.rows (open_number m (claims m 0)); sums = table ranks r m.rows (open_sum m (claims m 0)); came = dealt (row_of ranks) r (by_column m) }
 
 first_are : (ranks : ℕ) (m : Sparse) (r : ℕ) → r < ranks → m.rows ≡ m.cols → IsSparse m → entered_all (topo_begins ranks m r) (come_first ranks m r) ≡ after_first ranks m r
 first_are ranks m r low square is =
@@ -214,7 +214,7 @@ first_are ranks m r low square is =
     entered_parts s came
     ∙ ap (λ w. record s { numbers = w; sums = added_all ranks is_row its_column s.sums came; came = columns_all [] came }) (first_numbers ranks m r low square is)
     ∙ ap (λ w. record s { numbers = table ranks r m.rows (open_number m (claims m 0)); sums = w; came = columns_all [] came }) (first_sums ranks m r low square is)
-    ∙ ap (λ w. record s { numbers = table ranks r m.rows (open_number m (claims m 0)); sums = table ranks r m.rows (open_column m.entries (claims m 0)); came = w }) (first_columns ranks m r is)
+    ∙ ap (λ w. record s { numbers = table ranks r m.rows (open_number m (claims m 0)); sums = table ranks r m.rows (open_sum m (claims m 0)); came = w }) (first_columns ranks m r is)
 
 ends_first : (ranks : ℕ) (m : Sparse) (r votes : ℕ) → 0 < ranks → r < ranks → m.rows ≡ m.cols → IsSparse m → topo_rules.ended (after_first ranks m r) votes ≡ claiming ranks m 0 r
 ends_first ranks m r votes some low square is =

@@ -12,12 +12,12 @@ use Rattle.sparse_rows.specs.Deals.{dealt}
 use Rattle.sparse_rows.proofs.Doubles.{one_if}
 use Rattle.sparse_rows.proofs.EveryEntry.{same_map}
 use Rattle.sparse_rows.proofs.Gathering.{pairs_filter, dealt_map}
-use Rattle.app_topo.specs.Levels.{Claim, row_claims, col_claims, is_open, is_ready, open_column}
+use Rattle.app_topo.specs.Levels.{Claim, row_claims, col_claims, is_open, is_ready, claimed_column}
 use Rattle.app_topo.specs.Topos.{number_at, claims_of, claims_now, to_claim}
 use Rattle.app_topo.proofs.Counting.{count_cons, found_by, counted, a_place}
-use Rattle.app_topo.proofs.LevelFacts.{IsReady, IsOpen, ready_parts, ready_from, open_parts, in_turn}
+use Rattle.app_topo.proofs.LevelFacts.{IsReady, IsOpen, ready_parts, ready_from, open_parts, sum_claimed, in_turn}
 use Rattle.app_topo.proofs.TopoTables.{table, table_at}
-use Rattle.app_topo.proofs.TopoStates.{claims, next, open_number, claim_row, claim_column, claim_item}
+use Rattle.app_topo.proofs.TopoStates.{claims, next, open_number, open_sum, claim_row, claim_column, claim_item}
 use Rattle.app_topo.proofs.TopoClaims.{next_inside}
 
 -- ---- Rising lists with the same members are one
@@ -83,8 +83,8 @@ rising_same (x ∷ xs) (y ∷ ys) a b f g =
 abbrev pub ready_rows : ℕ → Sparse → ℕ → ℕ → List ℕ
 ready_rows ranks m t r = dealt (λ i. i % ranks) r (filter (is_ready m.entries (claims m t)) (range_with_len 0 m.rows))
 
-own_next : (ranks : ℕ) (m : Sparse) (t r : ℕ) → dealt (claim_row ranks) r (next m t) ≡ map (λ i. (i, open_column m.entries (claims m t) i)) (ready_rows ranks m t r)
-own_next ranks m t r = dealt_map (claim_row ranks) r (λ i. (i, open_column m.entries (claims m t) i)) (filter (is_ready m.entries (claims m t)) (range_with_len 0 m.rows))
+own_next : (ranks : ℕ) (m : Sparse) (t r : ℕ) → dealt (claim_row ranks) r (next m t) ≡ map (λ i. (i, claimed_column m.entries (claims m t) i)) (ready_rows ranks m t r)
+own_next ranks m t r = dealt_map (claim_row ranks) r (λ i. (i, claimed_column m.entries (claims m t) i)) (filter (is_ready m.entries (claims m t)) (range_with_len 0 m.rows))
 
 pub range_up : (a n : ℕ) → AllPairs Less (range_with_len a n)
 range_up a n i j d l low =
@@ -184,14 +184,14 @@ ready_where m t i one =
     }
 
 -- its column is one
-ready_column : (m : Sparse) (t i : ℕ) → m.rows ≡ m.cols → IsSparse m → i < m.rows → IsReady m.entries (claims m t) i → open_column m.entries (claims m t) i < m.rows
+ready_column : (m : Sparse) (t i : ℕ) → m.rows ≡ m.cols → IsSparse m → i < m.rows → IsReady m.entries (claims m t) i → claimed_column m.entries (claims m t) i < m.rows
 ready_column m t i square is low h =
     let ready : List ℕ = filter (is_ready m.entries (claims m t)) (range_with_len 0 m.rows) in
     let here : 0 < comes i ready = to_filter (is_ready m.entries (claims m t)) i (range_with_len 0 m.rows) (ready_from m.entries (claims m t) i h.unclaimed h.one) (in_range m.rows i low) in
     let x = found_by (λ y. eqb y i) ready here in
     let same : x.0 ≡ i = eqb-true x.0 i x.2 in
-    subst (λ k. open_column m.entries (claims m t) k < m.rows) same
-    (All-contains (λ i. open_column m.entries (claims m t) i < m.rows) ready x.0 (unmapped (λ i. (i, open_column m.entries (claims m t) i)) (λ (c : Claim). c.1 < m.rows) ready (next_inside m t square is)) x.1)
+    subst (λ k. claimed_column m.entries (claims m t) k < m.rows) same
+    (All-contains (λ i. claimed_column m.entries (claims m t) i < m.rows) ready x.0 (unmapped (λ i. (i, claimed_column m.entries (claims m t) i)) (λ (c : Claim). c.1 < m.rows) ready (next_inside m t square is)) x.1)
   where
     unmapped : {X Y : Type 0} (f : X → Y) (P : Y → Type 0) (xs : List X) → All P (map f xs) → All (λ x. P (f x)) xs
     unmapped f P [] h = All-nil (λ x. P (f x))
@@ -202,13 +202,15 @@ ready_column m t i square is low h =
 -- of rising own rows that have each ready row among them, those that claim are the level's own
 pub claims_next : (ranks : ℕ) (m : Sparse) (t r : ℕ) (rows : List ℕ) → 0 < ranks → m.rows ≡ m.cols → IsSparse m → AllPairs Less rows → All (λ i. i % ranks ≡ r) rows
     → ((i : ℕ) → i % ranks ≡ r → i < m.rows → open_number m (claims m t) i ≡ 1 → 0 < comes i rows)
-    → claims_of ranks m.rows (table ranks r m.rows (open_number m (claims m t))) (table ranks r m.rows (open_column m.entries (claims m t))) rows
+    → claims_of ranks m.rows (table ranks r m.rows (open_number m (claims m t))) (table ranks r m.rows (open_sum m (claims m t))) rows
     ≡ map (λ c. (claim_column ranks c, claim_item c)) (dealt (claim_row ranks) r (next m t))
 claims_next ranks m t r rows some square is up own all =
     let numbers : List ℕ = table ranks r m.rows (open_number m (claims m t)) in
-    let sums : List ℕ = table ranks r m.rows (open_column m.entries (claims m t)) in
+    let sums : List ℕ = table ranks r m.rows (open_sum m (claims m t)) in
     let test : ℕ → Bool = claims_now ranks m.rows numbers sums in
     let ready : List ℕ = ready_rows ranks m t r in
+    let keeps_column : (i : ℕ) → i % ranks ≡ r → i < m.rows → IsReady m.entries (claims m t) i → number_at ranks sums i ≡ claimed_column m.entries (claims m t) i =
+    λ i his low it. table_at ranks r m.rows i (open_sum m (claims m t)) some his low ∙ sum_claimed m.entries (claims m t) i it.one in
     let whole : List ℕ = filter (is_ready m.entries (claims m t)) (range_with_len 0 m.rows) in
     let mine : filter test rows ≡ ready =
     rising_same (filter test rows) ready (pairs_filter Less test rows up) (ready_up ranks m t r)
@@ -229,17 +231,19 @@ claims_next ranks m t r rows some square is up own all =
     let his : i % ranks ≡ r = eqb-true (i % ranks) r a.0 in
     let low : i < m.rows = range_below m.rows i b.1 in
     let ready_it : IsReady m.entries (claims m t) i = ready_parts m.entries (claims m t) i b.0 in
-    let column : open_column m.entries (claims m t) i < m.rows = ready_column m t i square is low ready_it in
+    let column : claimed_column m.entries (claims m t) i < m.rows = ready_column m t i square is low ready_it in
     let number : number_at ranks numbers i ≡ 1 = table_at ranks r m.rows i (open_number m (claims m t)) some his low ∙ ready_it.one in
-    let sum : number_at ranks sums i ≡ open_column m.entries (claims m t) i = table_at ranks r m.rows i (open_column m.entries (claims m t)) some his low in
+    let sum : number_at ranks sums i ≡ claimed_column m.entries (claims m t) i = keeps_column i his low ready_it in
     to_filter test i rows (and_from _ _ (and_from _ _ (eq-eqb (number_at ranks numbers i) 1 number) (lt-ltb (number_at ranks sums i) m.rows (subst (λ k. k < m.rows) (sym sum) column))) (lt-ltb i m.rows low)) (all i his low ready_it.one)) in
     ap (map (λ i. to_claim ranks i (number_at ranks sums i))) mine
-    ∙ same_map (λ i. to_claim ranks i (number_at ranks sums i)) (λ i. to_claim ranks i (open_column m.entries (claims m t) i)) ready (λ k d l.
+    ∙ same_map (λ i. to_claim ranks i (number_at ranks sums i)) (λ i. to_claim ranks i (claimed_column m.entries (claims m t) i)) ready (λ k d l.
     let i : ℕ = get_or ready k d in
     let his : i % ranks ≡ r = eqb-true (i % ranks) r (filter_passes (λ k. eqb (k % ranks) r) whole k d l) in
     let low : i < m.rows = All-filter (λ k. eqb (k % ranks) r) (λ i. i < m.rows) whole (All-filter (is_ready m.entries (claims m t)) (λ i. i < m.rows) (range_with_len 0 m.rows) (range_low m.rows)) k d l in
-    ap (λ s. to_claim ranks i s) (table_at ranks r m.rows i (open_column m.entries (claims m t)) some his low))
-    ∙ sym (ap (map (λ c. (claim_column ranks c, claim_item c))) (own_next ranks m t r) ∙ map-map (λ c. (claim_column ranks c, claim_item c)) (λ i. (i, open_column m.entries (claims m t) i)) ready)
+    let test_holds : is_ready m.entries (claims m t) i ≡ true =
+    All-filter (λ k. eqb (k % ranks) r) (λ i. is_ready m.entries (claims m t) i ≡ true) whole (filter_passes (is_ready m.entries (claims m t)) (range_with_len 0 m.rows)) k d l in
+    ap (λ s. to_claim ranks i s) (keeps_column i his low (ready_parts m.entries (claims m t) i test_holds)))
+    ∙ sym (ap (map (λ c. (claim_column ranks c, claim_item c))) (own_next ranks m t r) ∙ map-map (λ c. (claim_column ranks c, claim_item c)) (λ i. (i, claimed_column m.entries (claims m t) i)) ready)
   where
     range_low : (n : ℕ) → All (λ i. i < n) (range_with_len 0 n)
     range_low n k d l = (let s : length (range_with_len 0 n) ≡ n = length-range_with_len 0 n in let e : get_or (range_with_len 0 n) k d ≡ 0 + k = get_or-range_with_len 0 n k d (omega arith) in omega arith)

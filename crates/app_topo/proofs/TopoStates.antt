@@ -1,5 +1,5 @@
 -- The states of topo's ranks between the rounds, by levels.
-use Rattle.std.proofs.Common.{ℕ, zero, suc, ◌+◌, ◌*◌, ◌%◌, ◌++◌, List, [], map, count_by}
+use Rattle.std.proofs.Common.{ℕ, zero, suc, ◌+◌, ◌*◌, ◌%◌, ◌++◌, List, [], cond, map, sum_by, count_by}
 use Rattle.std.specs.Prelude.{nat_lt, Bool}
 use Rattle.std.specs.List.{filter}
 use Rattle.bale_types.specs.declared.Item.{Item}
@@ -9,7 +9,7 @@ use Rattle.mtx_text.specs.Cells.{gathered}
 use Rattle.sparse_rows.specs.Deals.{dealt}
 use Rattle.sparse_rows.proofs.Gathering.{row_of}
 use Rattle.app_topo.specs.declared.placed.Placed.{Placed}
-use Rattle.app_topo.specs.Levels.{Claim, col_claims, is_open, open_column, level, claims_after}
+use Rattle.app_topo.specs.Levels.{Claim, col_claims, is_open, level, claims_after}
 use Rattle.app_topo.specs.Topos.{TopoState, spot, to_fall}
 use Rattle.app_topo.proofs.TopoTables.{table}
 
@@ -24,8 +24,12 @@ next m t = level m.rows m.entries (claims m t)
 abbrev pub by_column : Sparse → List Triple
 by_column m = gathered (map (λ t. spot t.j t.i) m.entries)
 
+-- the open entries of row i: how many, and their columns together
 abbrev pub open_number : Sparse → List Claim → ℕ → ℕ
 open_number m cs i = count_by (is_open cs i) m.entries
+
+abbrev pub open_sum : Sparse → List Claim → ℕ → ℕ
+open_sum m cs i = sum_by (λ t. cond (is_open cs i t) t.j 0) m.entries
 
 -- a column that level t claims, and the entries that it frees
 abbrev pub is_freed : Sparse → ℕ → ℕ → Bool
@@ -61,7 +65,7 @@ claiming ranks m t r =
       round = 2 * t + 1;
       size = m.rows;
       numbers = table ranks r m.rows (open_number m (claims m t));
-      sums = table ranks r m.rows (open_column m.entries (claims m t));
+      sums = table ranks r m.rows (open_sum m (claims m t));
       columns = dealt (row_of ranks) r (by_column m);
       counts = table ranks r m.rows (λ j. col_claims j (claims m t));
       claimed = placed_upto ranks m r t;

@@ -1,6 +1,6 @@
 -- The levels of a matrix's rows, and the order that they give.
-use Rattle.std.specs.Prelude.{ℕ, zero, suc, ◌==◌, ◌&&◌, Bool, List, [], ◌++◌, Option, None, Some, map, reverse, count_by, if◌then◌else◌, cond}
-use Rattle.std.specs.List.{filter, list_all, range_with_len, sum_by, position_or_len}
+use Rattle.std.specs.Prelude.{ℕ, zero, suc, ◌==◌, ◌&&◌, Bool, List, [], ◌++◌, Option, None, Some, map, reverse, length, slice_index_or, count_by, if◌then◌else◌}
+use Rattle.std.specs.List.{filter, list_all, range_with_len, position_or_len}
 use Rattle.bale_types.specs.declared.triple.Triple.{Triple}
 
 -- A claim: a row, and the column that it claims.
@@ -14,22 +14,28 @@ row_claims i claims = count_by (λ c. c.0 == i) claims
 abbrev pub col_claims : ℕ → List Claim → ℕ
 col_claims j claims = count_by (λ c. c.1 == j) claims
 
--- An entry of row i outside the taken columns.
+-- An open entry of row i: one outside the taken columns.
 abbrev pub is_open : List Claim → ℕ → Triple → Bool
 is_open claims i t = t.i == i && col_claims t.j claims == 0
 
--- A row is ready where it has no level and exactly one entry outside the taken columns.
-abbrev pub is_ready : List Triple → List Claim → ℕ → Bool
-is_ready entries claims i = row_claims i claims == 0 && count_by (is_open claims i) entries == 1
+-- The columns of the open entries of row i.
+-- (0,0), (0,1), (1,1), (2,2) with no claims: 0 and 1 for row 0, 1 for row 1, 2 for row 2
+abbrev pub open_columns : List Triple → List Claim → ℕ → List ℕ
+open_columns entries claims i = map (λ t. t.j) (filter (is_open claims i) entries)
 
--- The column of the one entry of a ready row that is outside the taken columns: the sum of the columns of all such.
-abbrev pub open_column : List Triple → List Claim → ℕ → ℕ
-open_column entries claims i = sum_by (λ t. cond (is_open claims i t) t.j 0) entries
+-- A row is ready where it has no level and exactly one open entry.
+-- of the same entries with no claims: rows 1 and 2; once row 1 has claimed column 1, row 0 too
+abbrev pub is_ready : List Triple → List Claim → ℕ → Bool
+is_ready entries claims i = row_claims i claims == 0 && length (open_columns entries claims i) == 1
+
+-- The column that a ready row claims: that of its one open entry.
+abbrev pub claimed_column : List Triple → List Claim → ℕ → ℕ
+claimed_column entries claims i = slice_index_or (open_columns entries claims i) 0 0
 
 -- The next level: the ready rows of n, ascending, each with the column that it claims.
--- (0,0), (0,1), (1,1), (2,2) with no claims: row 1 claims column 1, row 2 claims column 2
+-- of the same entries with no claims: row 1 claims column 1, row 2 claims column 2
 abbrev pub level : ℕ → List Triple → List Claim → List Claim
-level n entries claims = map (λ i. (i, open_column entries claims i)) (filter (is_ready entries claims) (range_with_len 0 n))
+level n entries claims = map (λ i. (i, claimed_column entries claims i)) (filter (is_ready entries claims) (range_with_len 0 n))
 
 -- The claims of the levels below t, level by level.
 -- after two levels of the same entries: (1,1), (2,2), (0,0)

@@ -1,4 +1,4 @@
-use Rattle.std.proofs.Common.{[], get_or, sym}
+use Rattle.std.proofs.Common.{[], get_or}
 use Rattle.app_topo.proofs.TopoKept.{entry_more}
 use Rattle.app_topo.proofs.topo_run.entries_of.Goals as goal
 

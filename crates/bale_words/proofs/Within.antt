@@ -29,6 +29,11 @@ map_some : {A B P : Type 0} (f : A → B) (o : Option A) (y : B) → option_map 
 map_some f None y e k = absurd (none-some y e)
 map_some f (Some x) y e k = k x refl (same_Some (f x) y e)
 
+-- and so did what a last step gave
+last_some : {A B P : Type 0} (f : A → B) (o : Option A) (y : B) → option_and_then (λ x. Some (f x)) o ≡ Some y → ((x : A) → o ≡ Some x → f x ≡ y → P) → P
+last_some f None y e k = absurd (none-some y e)
+last_some f (Some x) y e k = k x refl (same_Some (f x) y e)
+
 -- what a test let through
 tested : {A : Type 0} (b : Bool) (x y : A) → (if b then Some x else None) ≡ Some y → (b ≡ true) × (x ≡ y)
 tested true x y e = (refl, same_Some x y e)
@@ -66,11 +71,11 @@ can_generate (a ∷ []) g e = absurd (none-some g e)
 can_generate (a ∷ b ∷ []) g e = absurd (none-some g e)
 can_generate (a ∷ b ∷ c ∷ d ∷ more) g e = absurd (none-some g e)
 can_generate (n ∷ m ∷ seed ∷ []) g e =
-    option_and_then_some (λ rows. option_and_then (λ entries. option_map (λ s. record { rows = rows; entries = entries; seed = s }) (number_in 0 (2 ^ 64 - 1) seed)) (number_in rows (most_entries rows) m)) (number_in 1 16384 n) g e
+    option_and_then_some (λ rows. option_and_then (λ entries. option_and_then (λ s. Some (record { rows = rows; entries = entries; seed = s })) (number_in 0 (2 ^ 64 - 1) seed)) (number_in rows (most_entries rows) m)) (number_in 1 16384 n) g e
     (λ rows f h.
-    option_and_then_some (λ entries. option_map (λ s. record { rows = rows; entries = entries; seed = s }) (number_in 0 (2 ^ 64 - 1) seed)) (number_in rows (most_entries rows) m) g h
+    option_and_then_some (λ entries. option_and_then (λ s. Some (record { rows = rows; entries = entries; seed = s })) (number_in 0 (2 ^ 64 - 1) seed)) (number_in rows (most_entries rows) m) g h
     (λ entries i j.
-    map_some (λ s. record { rows = rows; entries = entries; seed = s }) (number_in 0 (2 ^ 64 - 1) seed) g j
+    last_some (λ s. record { rows = rows; entries = entries; seed = s }) (number_in 0 (2 ^ 64 - 1) seed) g j
     (λ s k l.
     let a : (1 ≤ rows) × (rows ≤ 16384) = number_is 1 16384 n rows f in
     let b : (rows ≤ entries) × (entries ≤ most_entries rows) = number_is rows (most_entries rows) m entries i in
@@ -89,7 +94,7 @@ travel_is a via slots steady buffer drive gen t e =
     option_and_then_some _ (or_default false steady_of steady) t e2 (λ st f3 e3.
     option_and_then_some _ (or_default 64 buffer_of buffer) t e3 (λ b f4 e4.
     option_and_then_some _ (or_default Threads driving_of drive) t e4 (λ d f5 e5.
-    map_some (λ g. record { transport = v; slots = s; steady = st; buffer = b; driving = d; generated = g }) (if_given generated_of gen) t e5 (λ g f6 e6.
+    last_some (λ g. record { transport = v; slots = s; steady = st; buffer = b; driving = d; generated = g }) (if_given generated_of gen) t e5 (λ g f6 e6.
     subst TravelInRanges e6 (record { buffer = buffer_is buffer b f4; slots = slots_are slots s f2; generated = generated_is gen g f6 })))))))
 
 -- where none is given, no matrix is generated
@@ -101,7 +106,7 @@ none_of a via slots steady buffer drive gen t none e =
     option_and_then_some _ (or_default false steady_of steady) t e2 (λ st f3 e3.
     option_and_then_some _ (or_default 64 buffer_of buffer) t e3 (λ b f4 e4.
     option_and_then_some _ (or_default Threads driving_of drive) t e4 (λ d f5 e5.
-    map_some (λ g. record { transport = v; slots = s; steady = st; buffer = b; driving = d; generated = g }) (if_given generated_of gen) t e5 (λ g f6 e6.
+    last_some (λ g. record { transport = v; slots = s; steady = st; buffer = b; driving = d; generated = g }) (if_given generated_of gen) t e5 (λ g f6 e6.
     sym (ap (λ (x : Travel). x.generated) e6) ∙ same_Some g None (sym f6 ∙ ap (if_given generated_of) none)))))))
 
 delta_is : (s : ℕ) (o : Option (List ℕ)) (d : Option ℕ) → if_given (number_in 1 1000000000000) o ≡ Some d → TaskInRanges (task.Sssp s d)
@@ -112,13 +117,13 @@ delta_is s (Some text) d e =
 search_is : (source delta : Option (List ℕ)) (t : Task) → search_of source delta ≡ Some t → TaskInRanges t
 search_is source delta t e =
     option_and_then_some _ (or_default 1 (number_in 0 (2 ^ 32 - 1)) source) t e (λ s f h.
-    map_some (λ d. task.Sssp s d) (if_given (number_in 1 1000000000000) delta) t h (λ d g k. subst TaskInRanges k (delta_is s delta d g)))
+    last_some (λ d. task.Sssp s d) (if_given (number_in 1 1000000000000) delta) t h (λ d g k. subst TaskInRanges k (delta_is s delta d g)))
 
 task_is : (a : Application) (gs : List Given) (t : Task) → task_in a gs ≡ Some t → TaskInRanges t
 task_is application.Histo gs t e = subst TaskInRanges (same_Some task.Histo t e) tt
 task_is application.Ig gs t e = subst TaskInRanges (same_Some task.Ig t e) tt
 task_is application.Permute gs t e =
-    map_some (λ p. task.Permute p) (permutations_of (value_in (codes "seed") gs) (value_in (codes "rperm") gs) (value_in (codes "cperm") gs)) t e (λ p f h. subst TaskInRanges h tt)
+    last_some (λ p. task.Permute p) (permutations_of (value_in (codes "seed") gs) (value_in (codes "rperm") gs) (value_in (codes "cperm") gs)) t e (λ p f h. subst TaskInRanges h tt)
 task_is application.Transpose gs t e = subst TaskInRanges (same_Some task.Transpose t e) tt
 task_is application.Topo gs t e = subst TaskInRanges (same_Some task.Topo t e) tt
 task_is application.Sssp gs t e = search_is (value_in (codes "source") gs) (value_in (codes "delta") gs) t e
@@ -140,13 +145,13 @@ no_band : (a : Application) (gs : List Given) (t : Task) (travel : Travel) → a
 no_band application.Histo gs t travel h e f is = absurd (let same : task.Histo ≡ task.Tally = same_Some task.Histo t e ∙ is in cc)
 no_band application.Ig gs t travel h e f is = absurd (let same : task.Ig ≡ task.Tally = same_Some task.Ig t e ∙ is in cc)
 no_band application.Permute gs t travel h e f is =
-    map_some (λ p. task.Permute p) (permutations_of (value_in (codes "seed") gs) (value_in (codes "rperm") gs) (value_in (codes "cperm") gs)) t e
+    last_some (λ p. task.Permute p) (permutations_of (value_in (codes "seed") gs) (value_in (codes "rperm") gs) (value_in (codes "cperm") gs)) t e
     (λ p g k. absurd (let same : task.Permute p ≡ task.Tally = k ∙ is in cc))
 no_band application.Transpose gs t travel h e f is = absurd (let same : task.Transpose ≡ task.Tally = same_Some task.Transpose t e ∙ is in cc)
 no_band application.Topo gs t travel h e f is = absurd (let same : task.Topo ≡ task.Tally = same_Some task.Topo t e ∙ is in cc)
 no_band application.Sssp gs t travel h e f is =
     option_and_then_some _ (or_default 1 (number_in 0 (2 ^ 32 - 1)) (value_in (codes "source") gs)) t e (λ s g k.
-    map_some (λ d. task.Sssp s d) (if_given (number_in 1 1000000000000) (value_in (codes "delta") gs)) t k
+    last_some (λ d. task.Sssp s d) (if_given (number_in 1 1000000000000) (value_in (codes "delta") gs)) t k
     (λ d i j. absurd (let same : task.Sssp s d ≡ task.Tally = j ∙ is in cc)))
 no_band application.Tally gs t travel h e f is =
     none_of application.Tally (value_in (codes "via") gs) (value_in (codes "slots") gs) (value_in (codes "steady") gs) (value_in (codes "buffer") gs) (value_in (codes "drive") gs) (value_in (codes "gen") gs)
@@ -156,7 +161,7 @@ in_is : (a : Application) (gs : List Given) (c : Command) → accepted (names_of
 in_is a gs c h e =
     option_and_then_some _ (or_default (4 ∷ []) grid_of (value_in (codes "grid") gs)) c e (λ grid f1 e1.
     option_and_then_some _ (travel_in a gs) c e1 (λ travel f2 e2.
-    map_some (λ t. record { task = t; grid = grid; travel = travel }) (task_in a gs) c e2 (λ t f3 e3.
+    last_some (λ t. record { task = t; grid = grid; travel = travel }) (task_in a gs) c e2 (λ t f3 e3.
     subst InRanges e3 (record {
       travel = travel_is a (value_in (codes "via") gs) (value_in (codes "slots") gs) (value_in (codes "steady") gs) (value_in (codes "buffer") gs) (value_in (codes "drive") gs) (value_in (codes "gen") gs) travel f2;
       task = task_is a gs t f3;

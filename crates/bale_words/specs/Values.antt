@@ -13,6 +13,11 @@ use Rattle.bale_words.specs.declared.command.Driving.TheVariants.{Threads, Seria
 use Rattle.bale_words.specs.declared.command.Generated.{Generated}
 use Rattle.bale_words.specs.Numbers.{number_in, numbers_in}
 
+-- The second step, where the first gave a value: the `?` of the definitions.
+infixl 10 ◌>>=◌
+abbrev pub ◌>>=◌ : {A B : Type 0} → Option A → (A → Option B) → Option B
+o >>= next = option_and_then next o
+
 -- A text is this word.
 unfoldable pub is_text : List ℕ → List ℕ → Bool
 is_text word text = bytes_eq text word
@@ -38,7 +43,7 @@ as_grid dims = if is_some (refusal dims) then None else Some dims
 -- A grid: one to three numbers joined by x, each from 1 to 64, with a product of at most 64.
 -- "2x2x2" gives 2, 2, 2; "65", "9x8" and "2x2x2x2" give nothing.
 unfoldable pub grid_of : List ℕ → Option (List ℕ)
-grid_of text = option_and_then as_grid (numbers_in 120 1 64 text)
+grid_of text = numbers_in 120 1 64 text >>= as_grid
 
 -- How many slots a link may have, and how many entries a parcel may hold.
 abbrev pub slot_counts : List ℕ
@@ -49,10 +54,10 @@ buffer_sizes = 1 ∷ 2 ∷ 4 ∷ 8 ∷ 16 ∷ 32 ∷ 64 ∷ 128 ∷ 256 ∷ 512 
 
 -- Slots of a link, and the entries of a parcel.
 unfoldable pub slots_of : List ℕ → Option ℕ
-slots_of text = option_and_then (one_of slot_counts) (number_in 1 8 text)
+slots_of text = number_in 1 8 text >>= one_of slot_counts
 
 unfoldable pub buffer_of : List ℕ → Option ℕ
-buffer_of text = option_and_then (one_of buffer_sizes) (number_in 1 1024 text)
+buffer_of text = number_in 1 1024 text >>= one_of buffer_sizes
 
 -- `yes` or `no`.
 unfoldable pub steady_of : List ℕ → Option Bool
@@ -78,9 +83,11 @@ most_entries n = min 262144 (n * (n + 1) / 2)
 -- A matrix to be generated: three numbers n, m and a seed, joined by commas.
 -- "2,3,42" gives 2 rows, 3 entries and the seed 42; "2,4,42" gives nothing, since there are 3 places.
 abbrev pub generated_by : List (List ℕ) → Option Generated
-generated_by (n ∷ m ∷ seed ∷ []) =
-    option_and_then (λ rows. option_and_then (λ entries. option_map (λ s. record { rows = rows; entries = entries; seed = s }) (number_in 0 (2 ^ 64 - 1) seed))
-    (number_in rows (most_entries rows) m)) (number_in 1 16384 n)
+generated_by (n ∷ m ∷ seed ∷ []) = do
+  rows ← number_in 1 16384 n
+  entries ← number_in rows (most_entries rows) m
+  seed ← number_in 0 (2 ^ 64 - 1) seed
+  Some (record { rows = rows; entries = entries; seed = seed })
 generated_by _ = None
 
 unfoldable pub generated_of : List ℕ → Option Generated

@@ -1,6 +1,6 @@
 -- The command line: which lists of words are accepted, and what they ask for.
+-- A `do` gives nothing where one of its steps gives nothing.
 use Rattle.std.specs.Prelude.{ℕ, false, ◌-◌, ◌^◌, List, [], ◌∷◌, ◌++◌, Option, Some, None, codes, if◌then◌else◌}
-use Rattle.std.specs.Option.{option_map, option_and_then}
 use Rattle.bale_words.specs.declared.command.Application.{Application}
 use Rattle.bale_words.specs.declared.command.Application.TheVariants as application
 use Rattle.bale_words.specs.declared.command.Command.{Command}
@@ -13,7 +13,7 @@ use Rattle.bale_words.specs.declared.command.Driving.TheVariants.{Threads}
 use Rattle.bale_words.specs.declared.travel.Travel.{Travel}
 use Rattle.bale_words.specs.Numbers.{number_in, numbers_in}
 use Rattle.bale_words.specs.Options.{Given, given_of, accepted, value_in}
-use Rattle.bale_words.specs.Values.{is_text, or_default, if_given, grid_of, slots_of, buffer_of, steady_of, driving_of, transport_of, generated_of}
+use Rattle.bale_words.specs.Values.{◌>>=◌, is_text, or_default, if_given, grid_of, slots_of, buffer_of, steady_of, driving_of, transport_of, generated_of}
 
 -- The application that the first word names.
 unfoldable pub application_of : List ℕ → Option Application
@@ -36,20 +36,28 @@ names_of _ = shared_names ++ codes "gen" ∷ []
 
 -- The permutations: of a seed, which goes with no list; or of lists of numbers joined by commas.
 abbrev pub permutations_of : Option (List ℕ) → Option (List ℕ) → Option (List ℕ) → Option Permutations
-permutations_of (Some seed) None None = option_map (λ s. Seed s) (number_in 0 (2 ^ 64 - 1) seed)
+permutations_of (Some seed) None None = do
+  seed ← number_in 0 (2 ^ 64 - 1) seed
+  Some (Seed seed)
 permutations_of (Some seed) rows cols = None
-permutations_of None rows cols =
-    option_and_then (λ r. option_map (λ c. Lists r c) (if_given (numbers_in 44 0 (2 ^ 32 - 1)) cols)) (if_given (numbers_in 44 0 (2 ^ 32 - 1)) rows)
+permutations_of None rows cols = do
+  rows ← if_given (numbers_in 44 0 (2 ^ 32 - 1)) rows
+  cols ← if_given (numbers_in 44 0 (2 ^ 32 - 1)) cols
+  Some (Lists rows cols)
 
 -- What an application is told: of sssp the source, 1 where it isn't given, and the width of a bucket.
 abbrev pub search_of : Option (List ℕ) → Option (List ℕ) → Option Task
-search_of source delta =
-    option_and_then (λ s. option_map (λ d. task.Sssp s d) (if_given (number_in 1 1000000000000) delta)) (or_default 1 (number_in 0 (2 ^ 32 - 1)) source)
+search_of source delta = do
+  source ← or_default 1 (number_in 0 (2 ^ 32 - 1)) source
+  delta ← if_given (number_in 1 1000000000000) delta
+  Some (task.Sssp source delta)
 
 abbrev pub task_in : Application → List Given → Option Task
 task_in application.Histo gs = Some task.Histo
 task_in application.Ig gs = Some task.Ig
-task_in application.Permute gs = option_map (λ p. task.Permute p) (permutations_of (value_in (codes "seed") gs) (value_in (codes "rperm") gs) (value_in (codes "cperm") gs))
+task_in application.Permute gs = do
+  permutations ← permutations_of (value_in (codes "seed") gs) (value_in (codes "rperm") gs) (value_in (codes "cperm") gs)
+  Some (task.Permute permutations)
 task_in application.Transpose gs = Some task.Transpose
 task_in application.Topo gs = Some task.Topo
 task_in application.Sssp gs = search_of (value_in (codes "source") gs) (value_in (codes "delta") gs)
@@ -57,11 +65,14 @@ task_in application.Tally gs = Some task.Tally
 
 -- How the items travel, and what stands in the place of a text: transport, slots, steady, buffer, drive, generated matrix.
 unfoldable pub travel_of : Application → Option (List ℕ) → Option (List ℕ) → Option (List ℕ) → Option (List ℕ) → Option (List ℕ) → Option (List ℕ) → Option Travel
-travel_of a via slots steady buffer drive gen =
-    option_and_then (λ v. option_and_then (λ s. option_and_then (λ st. option_and_then (λ b. option_and_then (λ d. option_map (λ g.
-    record { transport = v; slots = s; steady = st; buffer = b; driving = d; generated = g })
-    (if_given generated_of gen)) (or_default Threads driving_of drive)) (or_default 64 buffer_of buffer)) (or_default false steady_of steady))
-    (or_default 2 slots_of slots)) (or_default Convey (transport_of a) via)
+travel_of a via slots steady buffer drive gen = do
+  transport ← or_default Convey (transport_of a) via
+  slots ← or_default 2 slots_of slots
+  steady ← or_default false steady_of steady
+  buffer ← or_default 64 buffer_of buffer
+  driving ← or_default Threads driving_of drive
+  generated ← if_given generated_of gen
+  Some (record { transport = transport; slots = slots; steady = steady; buffer = buffer; driving = driving; generated = generated })
 
 abbrev pub travel_in : Application → List Given → Option Travel
 travel_in a gs =
@@ -70,9 +81,11 @@ travel_in a gs =
 
 -- The command of an application and its options.
 abbrev pub command_in : Application → List Given → Option Command
-command_in a gs =
-    option_and_then (λ grid. option_and_then (λ travel. option_map (λ t. record { task = t; grid = grid; travel = travel }) (task_in a gs)) (travel_in a gs))
-    (or_default (4 ∷ []) grid_of (value_in (codes "grid") gs))
+command_in a gs = do
+  grid ← or_default (4 ∷ []) grid_of (value_in (codes "grid") gs)
+  travel ← travel_in a gs
+  task ← task_in a gs
+  Some (record { task = task; grid = grid; travel = travel })
 
 -- The options are the application's own, and none is given twice.
 abbrev pub command_by : Application → Option (List Given) → Option Command

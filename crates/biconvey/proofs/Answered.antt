@@ -7,7 +7,7 @@ use Rattle.route_tensor.specs.Grid.{ranks}
 use Rattle.port_bank.specs.Machine.{Part, IsOwnStep, with_item}
 use Rattle.port_bank.specs.Machine.Step.{Push, Pull, Idle}
 use Rattle.hop_core.specs.Relay.{waiting}
-use Rattle.hop_core.specs.State.{State, lowest_unread, pulls}
+use Rattle.hop_core.specs.State.{State, lowest_unread, pull_from, pulls}
 use Rattle.hop_core.specs.declared.phase.Pushed.{Pushed}
 use Rattle.hop_core.specs.declared.phase.Pushed.TheVariants.{Accepted, Full}
 use Rattle.convey.specs.Buffers.{buffers_of, in_of}
@@ -15,8 +15,7 @@ use Rattle.convey.specs.Conveyors.{KeepsAgreement, IsStepOf, GivesNext}
 use Rattle.convey.specs.Parts.{part_of}
 use Rattle.round_program.specs.Talks.{Talk}
 use Rattle.round_program.specs.Replies.{carrying, answers}
-use Rattle.convey.specs.Conveyors.{standing_toward}
-use Rattle.biconvey.specs.Taking.{AnswersOn, Answers, PushesAnswer}
+use Rattle.biconvey.specs.Taking.{AnswersOn, Answers, PushesAnswer, RefusesAnswer}
 use Rattle.biconvey.proofs.Offering.{item_here, item_other}
 use Rattle.biconvey.proofs.Pulling.{pulled_same, fewer_pulled, fewer_next}
 
@@ -165,9 +164,14 @@ reply_sender T s n count from from' q r r1 is dims low same =
     let f : ranks r.dims ≡ ranks q.dims = ap ranks dims in
     omega (arith, low, same, d, e, f)
 
--- to whom an answer was refused
-pub refused_to : {S : Type 0} (T : Talk S) (s : S) (cap from : ℕ) (x : Item) (r1 r2 : State) (result : Pushed) → from < ranks r1.dims → PushesAnswer T s cap from x result r1 r2 → result ≡ Full
-    → (from < ranks r2.dims) × (standing_toward r2 from ≡ cap)
-refused_to T s cap from x r1 r2 result low push full =
+-- to whom the answer to the query after those pulled was refused
+pub refused_to : {S : Type 0} (T : Talk S) (s : S) (cap n count from from' : ℕ) (x : Item) (q r r1 r2 : State) (result : Pushed) → Replying T s n count q r r1 → GivesNext (pulls n q) from x → from' ≡ from → from' < ranks r1.dims
+    → PushesAnswer T s cap from' x result r1 r2 → result ≡ Full → RefusesAnswer cap from' (pulls count q) r2
+refused_to T s cap n count from from' x q r r1 r2 result is next same low push full =
     let d : ranks r2.dims ≡ ranks r1.dims = ap (λ (t : State). ranks t.dims) push.same in
-    (omega (arith, low, d), (push.refused full).1)
+    record {
+      query = x;
+      next = ap (λ k. pull_from (pulls k q) (lowest_unread (pulls k q))) is.number ∙ (next.value ∙ ap (λ k. Some (k, x)) (sym same));
+      low = omega (arith, low, d);
+      full = (push.refused full).1;
+    }

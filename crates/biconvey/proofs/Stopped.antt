@@ -23,11 +23,11 @@ use Rattle.convey.specs.Due.{Wants, IsOver, NextIs, HeldUp, next_link}
 use Rattle.convey.specs.Progress.{progress_of}
 use Rattle.convey.specs.declared.progress.Progress.TheVariants as progress
 use Rattle.convey.proofs.OneRank.{FirstLink, first_link}
-use Rattle.biconvey.specs.Taking.{NoMore, Pushes, Answers, Hears}
+use Rattle.biconvey.specs.Taking.{NoMore, Pushes, Answers, RefusesAnswer, Hears}
 use Rattle.round_program.specs.Talks.{Talk}
 use Rattle.convey.specs.Buffers.{is_complete}
 use Rattle.std.specs.Prelude.{IfSome}
-use Rattle.biconvey.specs.States.{BiState, Sides, AllRead, WasRefused}
+use Rattle.biconvey.specs.States.{BiState, Sides, AllRead}
 use Rattle.biconvey.specs.Still.{HasCrowded, IsStill, Known, IsStuck}
 use Rattle.biconvey.proofs.Turned.{Advances}
 
@@ -60,9 +60,14 @@ lies_left c c1 c2 c3 got got' same fewer lies l more b e grew =
     let rest = lies l more (subst (λ ds. l < links ds) (sym d) b) (subst (λ (ds : List ℕ). reader_at ds l ≡ c1.rank) (sym d) (e ∙ sym r)) grew in
     omega (arith, ap length ins, lies_less (in_of c1 l).parcel.untaken (flat_map (λ (p : Shipped). p.entries) more) (in_of c2 l).parcel.untaken (in_of c3 l).parcel.untaken rest (fewer l))
 
--- a push was refused
-pub was_refused : (c c1 : State) (cap to : ℕ) → c1 ≡ record c { outs = c1.outs; pulled = c1.pulled } → to < ranks c1.dims → standing_toward c1 to ≡ cap → WasRefused c cap
-was_refused c c1 cap to same low full = record { at_push = c1; to = to; below = subst (λ (ds : List ℕ). to < ranks ds) (ap (λ (t : State). t.dims) same) low; same = same; full = full }
+-- pushes leave a conveyor its own links
+pub once : (ends : List ℕ → ℕ → ℕ) (c c1 : State) (log log' : Logs) → c1 ≡ record c { outs = c1.outs; pulled = c1.pulled }
+    → ((l : ℕ) → l < links c1.dims → ends c1.dims l ≡ c1.rank → length (log' l) ≤ length (log l) + 1)
+    → (l : ℕ) → l < links c.dims → ends c.dims l ≡ c.rank → length (log' l) ≤ length (log l) + 1
+once ends c c1 log log' same one l b e =
+    let d : c1.dims ≡ c.dims = ap (λ (t : State). t.dims) same in
+    let r : c1.rank ≡ c.rank = ap (λ (t : State). t.rank) same in
+    one l (subst (λ ds. l < links ds) (sym d) b) (subst (λ (ds : List ℕ). ends ds l ≡ c1.rank) (sym d) (e ∙ sym r))
 
 -- what an advance says of the links, where it answered
 pub record Served (c c' : State) (cap : ℕ) (sent sent' got got' : Logs) (is_crowded is_idle : ℕ → Bool) : Type 0 where
@@ -153,7 +158,7 @@ read_or (Some to) A P f g = inr (g to refl)
 pub stuck : {S : Type 0} (T : Talk S) (n : BiState S) (es : List (ℕ × Item)) (cap next : ℕ) (done over : Bool) (asker' : S) (lines' : List (List ℕ)) (q1 q2 q3 r1 r2 r3 : State) (refused : Option ℕ) (old new : Sides) (known : Known)
     → Pushes es cap n.next next n.queries q1 → done ≡ (next == length es) → AgreesWith q1 old.asking old.asked
     → Advances q1 q2 done old.asking old.asked new.asking new.asked → Served q1 q2 cap old.asking new.asking old.asked new.asked known.crowded known.idle
-    → Answers T n.asker q2 q3 n.replies r1 → (refused ≡ None → AllRead q3) → IfSome refused (λ to. (to < ranks r1.dims) × (standing_toward r1 to ≡ cap)) → AgreesWith r1 old.replying old.replied
+    → Answers T n.asker q2 q3 n.replies r1 → (refused ≡ None → AllRead q3) → IfSome refused (λ to. RefusesAnswer cap to q3 r1) → AgreesWith r1 old.replying old.replied
     → over ≡ is_complete q3.phase → Advances r1 r2 over old.replying old.replied new.replying new.replied → Served r1 r2 cap old.replying new.replying old.replied new.replied known.replies_crowded known.replies_idle
     → Hears T n.asker asker' n.lines lines' r2 r3 → IsGrid q3.dims → q3.rank < ranks q3.dims → IsGrid r3.dims → r3.rank < ranks r3.dims
     → ((l : ℕ) → new.asking l ≡ old.asking l) → ((l : ℕ) → new.asked l ≡ old.asked l) → ((l : ℕ) → new.replying l ≡ old.replying l) → ((l : ℕ) → new.replied l ≡ old.replied l)
@@ -173,7 +178,7 @@ stuck T n es cap next done over asker' lines' q1 q2 q3 r1 r2 r3 refused old new 
           (λ to x left. let full = push.refused to x left in
           crowded_toward n.queries q1 q2 q3 cap done old.asking old.asked new.asking new.asked known.crowded known.idle push.same agrees adv served ans.same ans.fewer s1 to (subst IsGrid dims_q grid) own_q full.0 full.1));
       answered = read_or refused (AllRead q3) (HasCrowded n.replies.dims n.replies.rank known.replies_crowded) read
-          (λ to e. let full = subst (λ o. IfSome o (λ to. (to < ranks r1.dims) × (standing_toward r1 to ≡ cap))) e toward in
-          crowded_toward n.replies r1 r2 r3 cap over old.replying old.replied new.replying new.replied known.replies_crowded known.replies_idle ans.same_replies agrees' adv' served' hears.same hears.fewer s2 to (subst IsGrid dims_r grid') own_r full.0 full.1);
+          (λ to e. let full = subst (λ o. IfSome o (λ to. RefusesAnswer cap to q3 r1)) e toward in
+          crowded_toward n.replies r1 r2 r3 cap over old.replying old.replied new.replying new.replied known.replies_crowded known.replies_idle ans.same_replies agrees' adv' served' hears.same hears.fewer s2 to (subst IsGrid dims_r grid') own_r full.low full.full);
       done = λ e. ap (λ (c : State). c.done) hears.same ∙ (adv'.done_is ∙ (is_over ∙ ap is_complete e));
     }

@@ -70,6 +70,10 @@ is_complete_from Endgame e = absurd (cc)
 is_complete_from Cleanup e = absurd (cc)
 is_complete_from Complete e = refl
 
+-- how many queries there are, by the asker that has heard more
+pub asked_count : {S : Type 0} (T : Talk S) (count : ℕ) (asker asker' : S) → count ≡ length (T.queries asker) → T.queries asker' ≡ T.queries asker → count ≡ length (asks_of T asker')
+asked_count T count asker asker' e same = e ∙ (ap length (sym same) ∙ sym (length-map (T.queries asker') (λ (q : ℕ × ℕ). (q.0, carrying q.1))))
+
 module _ {S : Type 0} (T : Talk S) (laws : TalkLaws T) (start : S) (n : BiState S) (asking asked replying replied : Logs) (is : IsBiNode T start n asking asked replying replied) where
   -- what the asker asks, it asked from the start
   pub same_asks : asks_of T n.asker ≡ asks_of T start
@@ -129,6 +133,15 @@ module _ {S : Type 0} (T : Talk S) (laws : TalkLaws T) (start : S) (n : BiState 
       pub answers2 : q2.phase ≢ Complete → n.replies.phase ≡ Working
       answers2 apart = is.replies.working (open2 apart)
 
+      step2 : SameLists (part_of (buffers_of q1) asking asked) (part_of (buffers_of q2) asking' asked')
+      step2 = advance_lists q1.done (next == count) (is_complete q2.phase) (part_of (buffers_of q1) asking asked) (part_of (buffers_of q2) asking' asked') adv.step
+
+      pub epoch2 : q2.epoch ≡ n.queries.epoch
+      epoch2 = adv.epoch ∙ ap (λ (c : State). c.epoch) push.same
+
+      pub pulled2 : (part_of (buffers_of q2) asking' asked').pulled ≡ (part_of (buffers_of n.queries) asking asked).pulled
+      pulled2 = step2.pulled ∙ (push.on asking asked is.asks.agrees).pulled
+
       -- after the answers
       module _ (q3 r1 : State) (ans : Answers T n.asker q2 q3 n.replies r1) where
         phase3 : q3.phase ≡ q2.phase
@@ -155,9 +168,6 @@ module _ {S : Type 0} (T : Talk S) (laws : TalkLaws T) (start : S) (n : BiState 
 
           pub first4 : r2.epoch ≡ 0
           first4 = adv'.epoch ∙ (ap (λ (c : State). c.epoch) ans.same_replies ∙ is.replies.first)
-
-          step2 : SameLists (part_of (buffers_of q1) asking asked) (part_of (buffers_of q2) asking' asked')
-          step2 = advance_lists q1.done (next == count) (is_complete q2.phase) (part_of (buffers_of q1) asking asked) (part_of (buffers_of q2) asking' asked') adv.step
 
           step4 : SameLists (part_of (buffers_of r1) replying replied) (part_of (buffers_of r2) replying' replied')
           step4 = advance_lists r1.done over (is_complete r2.phase) (part_of (buffers_of r1) replying replied) (part_of (buffers_of r2) replying' replied') adv'.step

@@ -1,5 +1,5 @@
 -- A rank that asks and answers, between two turns.
-use Rattle.std.specs.Prelude.{Bool, ◌≡◌, ◌≢◌, ℕ, ◌<◌, ◌≤◌, true, false, List, [], length}
+use Rattle.std.specs.Prelude.{Bool, ◌≡◌, ◌≢◌, ◌⊎◌, ℕ, ◌<◌, ◌≤◌, true, false, List, [], length}
 use Rattle.route_tensor.specs.Grid.{ranks}
 use Rattle.route_tensor.specs.Link.{links}
 use Rattle.route_tensor.specs.Ends.{hop_at, reader_at}
@@ -7,12 +7,12 @@ use Rattle.port_bank.specs.Logs.{Logs}
 use Rattle.hop_core.specs.declared.phase.Phase.TheVariants.{Dormant, Working, Complete}
 use Rattle.hop_core.specs.State.{State}
 use Rattle.convey.specs.Buffers.{buffers_of, in_of}
-use Rattle.convey.specs.Conveyors.{AgreesWith, standing_toward}
+use Rattle.convey.specs.Conveyors.{AgreesWith}
 use Rattle.convey.specs.Law.{IsSound}
 use Rattle.convey.specs.Parts.{part_of}
 use Rattle.round_program.specs.Talks.{Talk}
 use Rattle.round_program.specs.Replies.{asks_of}
-use Rattle.biconvey.specs.Taking.{IsPushed, IsAnswered, HasHeard}
+use Rattle.biconvey.specs.Taking.{IsPushed, IsAnswered, Pushes, Answers, RefusesAnswer, HasHeard}
 
 -- What contracts see of a BiNode: its asker, how many queries are pushed, for each rank the numbers of the queries to it that
 -- have no reply yet, and the conveyors of queries and of replies.
@@ -74,11 +74,24 @@ pub record IsBiNode {S : Type 0} (T : Talk S) (start : S) (n : BiState S) (askin
   pub heard : HasHeard T start (ranks n.replies.dims) n.asker n.lines (part_of (buffers_of n.replies) replying replied).pulled
   pub read : AllRead n.replies
 
--- A push toward a rank was refused: after the pushes of a turn the open parcel toward it held as many entries as it can.
--- c is the conveyor as the turn began.
-pub record WasRefused (c : State) (cap : ℕ) : Type 0 where
+-- What a turn that takes a rank from n to n' asks: it pushes the queries from number n.next on, up to number n'.next.
+-- at_push: the conveyor of queries after these pushes, before it advances.
+-- pushes: where a query is left, the open parcel toward its receiver is full.
+pub record HasAsked {S : Type 0} (T : Talk S) (cap : ℕ) (n n' : BiState S) : Type 0 where
   pub at_push : State
-  pub to : ℕ
-  pub below : to < ranks c.dims
-  pub same : at_push ≡ record c { outs = at_push.outs; pulled = at_push.pulled }
-  pub full : standing_toward at_push to ≡ cap
+  pub pushes : Pushes (asks_of T n.asker) cap n.next n'.next n.queries at_push
+
+-- What it answers, over a port of queries whose lists go from asking and asked to asking' and asked'.
+-- at_pull: the conveyor of queries after it advanced, before any of them is pulled.
+-- agrees, epoch, pulled: it agrees with the port, and no query was pulled since the turn began.
+-- at_push: the conveyor of replies after the answers are pushed, before it advances.
+-- answers: queries are pulled, and their answers pushed, as many of these as of those.
+-- all: no query that came is left unread, or the answer to the next one was refused.
+pub record HasAnswered {S : Type 0} (T : Talk S) (cap : ℕ) (n n' : BiState S) (asking asked asking' asked' : Logs) : Type 0 where
+  pub at_pull : State
+  pub agrees : AgreesWith at_pull asking' asked'
+  pub epoch : at_pull.epoch ≡ n.queries.epoch
+  pub pulled : (part_of (buffers_of at_pull) asking' asked').pulled ≡ (part_of (buffers_of n.queries) asking asked).pulled
+  pub at_push : State
+  pub answers : Answers T n.asker at_pull n'.queries n.replies at_push
+  pub all : AllRead n'.queries ⊎ ((to : ℕ) × RefusesAnswer cap to n'.queries at_push)

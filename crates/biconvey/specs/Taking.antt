@@ -8,7 +8,7 @@ use Rattle.port_bank.specs.Machine.{Part, ItemLists, with_item}
 use Rattle.port_bank.specs.Machine.Step.{Push, Idle}
 use Rattle.hop_core.specs.declared.phase.Pushed.{Pushed}
 use Rattle.hop_core.specs.declared.phase.Pushed.TheVariants.{Accepted, Full}
-use Rattle.hop_core.specs.State.{State}
+use Rattle.hop_core.specs.State.{State, lowest_unread, pull_from}
 use Rattle.convey.specs.Buffers.{buffers_of, in_of}
 use Rattle.convey.specs.Conveyors.{AgreesWith, KeepsAgreement, IsStepOf, standing_toward}
 use Rattle.convey.specs.Parts.{part_of}
@@ -62,6 +62,14 @@ pub record Answers {S : Type 0} (T : Talk S) (s : S) (q q' r r' : State) : Type 
   pub on : (asking asked replying replied : Logs) → AgreesWith q asking asked → AgreesWith r replying replied
       → AnswersOn T s (ranks q.dims) (part_of (buffers_of q) asking asked) (part_of (buffers_of q') asking asked)
       (part_of (buffers_of r) replying replied) (part_of (buffers_of r') replying replied)
+
+-- The answer to the next query to pull of q was refused: r, the conveyor of replies, holds as many entries as it can in its open
+-- parcel toward the rank that asked, `to`.
+pub record RefusesAnswer (cap to : ℕ) (q r : State) : Type 0 where
+  pub query : Item
+  pub next : pull_from q (lowest_unread q) ≡ Some (to, query)
+  pub low : to < ranks r.dims
+  pub full : standing_toward r to ≡ cap
 
 -- What a rank that began in the state `start` has heard of p ranks: `came e d` are the replies of rank d in epoch e, of which there is
 -- one, number 0.

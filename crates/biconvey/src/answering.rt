@@ -5,9 +5,8 @@ ghost use Rattle.route_tensor.specs.Grid.{ranks};
 ghost use Rattle.hop_core.specs.Relay.{waiting};
 ghost use Rattle.hop_core.specs.State.{in_at, lowest_unread, pulls};
 ghost use Rattle.convey.specs.Buffers.{is_complete};
-ghost use Rattle.convey.specs.Conveyors.{standing_toward};
 ghost use Rattle.biconvey.specs.States.{AllRead};
-ghost use Rattle.biconvey.specs.Taking.{Answers, PushesAnswer};
+ghost use Rattle.biconvey.specs.Taking.{Answers, PushesAnswer, RefusesAnswer};
 
 use bale_types::Item;
 use convey::{Conveyor, Phase, Pushed};
@@ -26,7 +25,7 @@ pub(crate) fn answer_open<A: Asker, const CAP: usize, const HOPS: usize>(
     requires not_done { queries.old.phase ≢ Phase.Complete → replies.old.done ≡ false }
     ensures answers { Answers A.talk asker.now.value queries.old queries.new replies.old replies.new }
     ensures read { result ≡ None → AllRead queries.new }
-    ensures refused { IfSome result (λ to. (to < ranks replies.new.dims) × (standing_toward replies.new to ≡ CAP)) }
+    ensures refused { IfSome result (λ to. RefusesAnswer CAP to queries.new replies.new) }
 {
     if is_over(queries.phase()) {
         return None;
@@ -56,7 +55,7 @@ fn answer_all<A: Asker, const CAP: usize, const HOPS: usize>(
     requires not_done { replies.old.done ≡ false }
     ensures answers { Answers A.talk asker.now.value queries.old queries.new replies.old replies.new }
     ensures read { result ≡ None → AllRead queries.new }
-    ensures refused { IfSome result (λ to. (to < ranks replies.new.dims) × (standing_toward replies.new to ≡ CAP)) }
+    ensures refused { IfSome result (λ to. RefusesAnswer CAP to queries.new replies.new) }
 {
     while let Some(number) = queries.unread() {
         if let Some(to) = answer_batch(asker, queries, replies, number) {
@@ -80,7 +79,7 @@ fn answer_batch<A: Asker, const CAP: usize, const HOPS: usize>(
     requires not_done { replies.old.done ≡ false }
     ensures answers { Answers A.talk asker.now.value queries.old queries.new replies.old replies.new }
     ensures less { result ≡ None → waiting queries.new.ins < waiting queries.old.ins }
-    ensures refused { IfSome result (λ to. (to < ranks replies.new.dims) × (standing_toward replies.new to ≡ CAP)) }
+    ensures refused { IfSome result (λ to. RefusesAnswer CAP to queries.new replies.new) }
 {
     let replied = push_answers(asker, queries, replies, number);
     pull_answered(queries, number, &replied);
@@ -110,8 +109,8 @@ fn push_answers<A: Asker, const CAP: usize, const HOPS: usize>(
     ensures count { result.count + waiting (pulls result.count queries.now).ins ≤ waiting queries.now.ins }
     ensures all { result.refused ≡ None → result.count ≡ length (in_at queries.now number).parcel.untaken }
     ensures some { 0 < length (in_at queries.now number).parcel.untaken }
-    ensures refused { IfSome result.refused (λ to. (to < ranks replies.new.dims)
-        × (standing_toward replies.new to ≡ CAP)) }
+    ensures refused { IfSome result.refused (λ to. RefusesAnswer CAP to (pulls result.count queries.now)
+        replies.new) }
 {
     let mut count = 0;
     for entry in queries.batch(number) {

@@ -1,17 +1,16 @@
 //! A rank that asks, answers and hears.
 
-ghost use Rattle.std.specs.Prelude.{◌≡◌, ◌≢◌, ◌⊎◌, ℕ, ◌+◌, ◌<◌, ◌≤◌, ◌++◌, ◌&&◌, false, List, [], length, slice_get, Some, IfOk, OnOk, IsOk, Ok};
+ghost use Rattle.std.specs.Prelude.{◌≡◌, ◌≢◌, ℕ, ◌+◌, ◌<◌, ◌≤◌, ◌==◌, ◌++◌, ◌&&◌, false, List, [], length, IfOk, OnOk, IsOk, Ok};
 ghost use Rattle.std.specs.List.{flat_map};
-ghost use Rattle.bale_types.specs.declared.item.Item.{Item};
 ghost use Rattle.item_buffer.specs.Contents.{Shipped};
 ghost use Rattle.route_tensor.specs.Grid.{ranks};
 ghost use Rattle.route_tensor.specs.Link.{links};
-ghost use Rattle.route_tensor.specs.Ends.{reader_at};
+ghost use Rattle.route_tensor.specs.Ends.{sender_at, reader_at};
 ghost use Rattle.convey.specs.Buffers.{in_of, is_complete};
 ghost use Rattle.list_laws.specs.Lists.{Begins};
 ghost use Rattle.port_bank.specs.Shapes.{IsConveyorShape};
 ghost use Rattle.round_program.specs.Replies.{asks_of};
-ghost use Rattle.biconvey.specs.States.{IsBiNode, IsFirst, AllRead, WasRefused};
+ghost use Rattle.biconvey.specs.States.{IsBiNode, IsFirst, HasAsked, HasAnswered};
 ghost use Rattle.biconvey.specs.Still.{IsStuck};
 
 use crate::answering::{answer_open, is_over};
@@ -116,10 +115,13 @@ impl<A: Asker, const CAP: usize, const HOPS: usize> BiNode<A, CAP, HOPS> {
         ensures going { result ≡ Ok Turn.Going → self.new.queries.phase ≡ Phase.Complete
             → self.new.replies.phase ≢ Phase.Complete }
 
-        // A query is left to push only where a push was refused, and one that came is unread only where an answer was refused.
-        ensures unasked { (to : ℕ) (x : Item) → slice_get (asks_of A.talk self.new.asker) self.new.next ≡ Some (to, x)
-            → WasRefused self.old.queries CAP }
-        ensures unanswered { AllRead self.new.queries ⊎ WasRefused self.old.replies CAP }
+        // A query is left to push only where its push was refused, and one that came is unread only where its answer was. The
+        // rank is done asking exactly where all its queries are pushed, and done replying exactly where the queries are over.
+        ensures unasked { HasAsked A.talk CAP self.old self.new }
+        ensures unanswered { HasAnswered A.talk CAP self.old self.new (P.sent queries.old) (P.got queries.old)
+            (P.sent queries.new) (P.got queries.new) }
+        ensures asked_all { self.new.queries.done ≡ (self.new.next == length (asks_of A.talk self.new.asker)) }
+        ensures replied_all { self.new.replies.done ≡ is_complete self.new.queries.phase }
 
         // What stays.
         ensures dims { self.new.queries.dims ≡ self.old.queries.dims }
@@ -135,11 +137,23 @@ impl<A: Asker, const CAP: usize, const HOPS: usize> BiNode<A, CAP, HOPS> {
         ensures replies_slots { R.slots replies.new ≡ R.slots replies.old }
         ensures replies_rest { R.rest replies.new ≡ R.rest replies.old }
 
-        // Each way advances once: its lists only grow, by parcels of the conveyor's shape.
+        // Each way advances once: its lists only grow, each by one parcel at most, and of the conveyor's shape.
         ensures queries_sent { (l : ℕ) → Begins (P.sent queries.old l) (P.sent queries.new l) }
         ensures queries_got { (l : ℕ) → Begins (P.got queries.old l) (P.got queries.new l) }
         ensures replies_sent { (l : ℕ) → Begins (R.sent replies.old l) (R.sent replies.new l) }
         ensures replies_got { (l : ℕ) → Begins (R.got replies.old l) (R.got replies.new l) }
+        ensures queries_once { (l : ℕ) → l < links self.old.queries.dims
+            → sender_at self.old.queries.dims l ≡ self.old.queries.rank
+            → length (P.sent queries.new l) ≤ length (P.sent queries.old l) + 1 }
+        ensures queries_got_once { (l : ℕ) → l < links self.old.queries.dims
+            → reader_at self.old.queries.dims l ≡ self.old.queries.rank
+            → length (P.got queries.new l) ≤ length (P.got queries.old l) + 1 }
+        ensures replies_once { (l : ℕ) → l < links self.old.replies.dims
+            → sender_at self.old.replies.dims l ≡ self.old.replies.rank
+            → length (R.sent replies.new l) ≤ length (R.sent replies.old l) + 1 }
+        ensures replies_got_once { (l : ℕ) → l < links self.old.replies.dims
+            → reader_at self.old.replies.dims l ≡ self.old.replies.rank
+            → length (R.got replies.new l) ≤ length (R.got replies.old l) + 1 }
         ensures queries_shape { (l : ℕ) → IsConveyorShape self.old.queries.steady CAP (P.sent queries.old l)
             → IsConveyorShape self.old.queries.steady CAP (P.sent queries.new l) }
         ensures replies_shape { (l : ℕ) → IsConveyorShape self.old.replies.steady CAP (R.sent replies.old l)

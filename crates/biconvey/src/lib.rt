@@ -13,9 +13,10 @@
 //! | `bi_threads` | the same, with each rank on a thread of its own |
 //! | `drive_both`, `thread_both`, `thread_with` | these, for a capacity and a number of hops that are known when the program is compiled |
 //! | `replies_law` | the replies theorem, over any two lawful banks |
-//! | `askers_law` | what all ranks have heard, at every moment and at the end |
+//! | `askers_law` | what all ranks have heard, whenever no rank is within a turn, and at the end |
 //!
 //! round_program's `specs/Replies` says what a rank hears, with no word on how it travels; `specs/Banks` states the replies theorem.
+//! `specs/Drives` says what the two closed rounds tell, and `specs/Worlds` bounds the turns (`turns_of`).
 #![tactic(auto)]
 
 mod answering;

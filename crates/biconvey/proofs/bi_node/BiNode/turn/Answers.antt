@@ -1,19 +1,18 @@
-use Rattle.std.proofs.Common.{rules, ◌≡◌, ◌==◌, ◌<◌, length, slice_get, Some, sym, ap, subst, ◌∙◌}
+use Rattle.std.proofs.Common.{rules, ◌≡◌, ◌==◌, ℕ, length, sym, ap, subst, ◌∙◌}
 use Rattle.std.specs.Prelude.{is_ok, IfSome}
-use Rattle.route_tensor.specs.Grid.{ranks}
+use Rattle.route_tensor.specs.Ends.{sender_at, reader_at}
 use Rattle.port_bank.specs.Shapes.{IsConveyorShape}
 use Rattle.list_laws.proofs.Results.{on_ok_from, if_ok_is}
 use Rattle.hop_core.specs.State.{State}
 use Rattle.convey.specs.Buffers.{is_complete}
-use Rattle.convey.specs.Conveyors.{standing_toward}
 use Rattle.convey.specs.Progress.{progress_of}
 use Rattle.convey.specs.declared.progress.Progress.TheVariants as progress
-use Rattle.round_program.specs.Replies.{as_items, asks_of}
-use Rattle.biconvey.specs.Taking.{Pushes, Answers}
-use Rattle.biconvey.specs.States.{BiState, Sides, AllRead, IsBiNode, WasRefused}
+use Rattle.round_program.specs.Replies.{asks_of}
+use Rattle.biconvey.specs.Taking.{Pushes, Answers, RefusesAnswer}
+use Rattle.biconvey.specs.States.{BiState, Sides, AllRead, IsBiNode, HasAsked, HasAnswered}
 use Rattle.biconvey.specs.Still.{IsStuck, Known}
-use Rattle.biconvey.proofs.Turned.{Advances, works_on, same_asks, count_is, receivers, low, all_pushed, begun1, agrees1, stays_done, dims2, open2, answers2, begun3, agrees3, over3, first4, heard4, turned}
-use Rattle.biconvey.proofs.Stopped.{Served, complete_from, lies_left, was_refused, read_or, stuck}
+use Rattle.biconvey.proofs.Turned.{Advances, works_on, same_asks, count_is, asked_count, receivers, low, all_pushed, begun1, agrees1, stays_done, dims2, open2, answers2, epoch2, pulled2, begun3, agrees3, over3, first4, heard4, turned}
+use Rattle.biconvey.proofs.Stopped.{Served, complete_from, lies_left, once, read_or, stuck}
 use Rattle.biconvey.proofs.bi_node.BiNode.turn.Goals as goal
 
 pub push_queries-self-inside-requires : goal.push_queries-self-inside-requires
@@ -242,22 +241,11 @@ returns-clause-kept g c = λ start was.
     turned T laws start inside qs qg rs rg is g.row.CAP next count q1 push counted q2 qs' qg' adv q3 r1 ans over is_over r2 rs' rg' adv' c.hear_all.new.replies c.hear_all.new.asker.value c.hear_all.new.lines.items c.hear_all.ensures.hears c.hear_all.ensures.read c.phase.ensures.sound c.known.ensures.sound
 
 pub returns-clause-unasked : goal.returns-clause-unasked
-returns-clause-unasked g c = λ to x left.
+returns-clause-unasked g c =
     let T = g.A.Asker.talk in
-    let laws = g.met.A.Asker.laws in
     let inside : BiState g.row.A.Denot = record { asker = c.self.inside.asker.value; next = c.self.inside.next; lines = c.self.inside.lines.items; queries = c.self.inside.queries; replies = c.self.inside.replies } in
-    let qs = g.P.Port.sent c.args.queries.now in
-    let qg = g.P.Port.got c.args.queries.now in
-    let rs = g.R.Port.sent c.args.replies.now in
-    let rg = g.R.Port.got c.args.replies.now in
-    let q1 = c.push_queries-self-inside.new.conveyor in
-    let next = c.push_queries-self-inside.result in
-    let count = c.count.result in
-    let push : Pushes (asks_of T inside.asker) g.row.CAP inside.next next inside.queries q1 = c.push_queries-self-inside.ensures in
-    let counted = c.count.ensures ∙ ap (λ s. length (T.queries s)) c.deref.ensures in
-    let e = ap (λ (m : BiState g.row.A.Denot). m.queries) c.self.view_is in
-    let full = push.refused to x (subst (λ es. slice_get es next ≡ Some (to, x)) (ap as_items c.hear_all.ensures.hears.talk) left) in
-    subst (λ (q : State). WasRefused q g.row.CAP) e (was_refused inside.queries q1 g.row.CAP to push.same full.0 full.1)
+    let n' : BiState g.row.A.Denot = record { asker = c.hear_all.new.asker.value; next = c.push_queries-self-inside.result; lines = c.hear_all.new.lines.items; queries = c.answer_open-refused.new.queries; replies = c.hear_all.new.replies } in
+    subst (λ (m : BiState g.row.A.Denot). HasAsked T g.row.CAP m n') c.self.view_is (record { at_push = c.push_queries-self-inside.new.conveyor; pushes = c.push_queries-self-inside.ensures })
 
 pub returns-clause-unanswered : goal.returns-clause-unanswered
 returns-clause-unanswered g c =
@@ -268,12 +256,78 @@ returns-clause-unanswered g c =
     let qg = g.P.Port.got c.args.queries.now in
     let rs = g.R.Port.sent c.args.replies.now in
     let rg = g.R.Port.got c.args.replies.now in
+    let start = c.requires.node.0 in
+    let is : IsBiNode T start inside qs qg rs rg = subst (λ (m : BiState g.row.A.Denot). IsBiNode T start m qs qg rs rg) (sym c.self.view_is) c.requires.node.1 in
+    let q1 = c.push_queries-self-inside.new.conveyor in
+    let next = c.push_queries-self-inside.result in
+    let count = c.count.result in
+    let push : Pushes (asks_of T inside.asker) g.row.CAP inside.next next inside.queries q1 = c.push_queries-self-inside.ensures in
+    let counted = c.count.ensures ∙ ap (λ s. length (T.queries s)) c.deref.ensures in
+    let q2 = c.advance-asked.new.self in
+    let qs' = g.P.Port.sent c.advance-asked.new.port in
+    let qg' = g.P.Port.got c.advance-asked.new.port in
+    let adv : Advances q1 q2 (next == count) qs qg qs' qg' = record {
+      agrees = c.advance-asked.ensures.agrees;
+      dims = c.advance-asked.ensures.self_dims;
+      rank = c.advance-asked.ensures.self_rank;
+      epoch = c.advance-asked.ensures.epoch;
+      done_is = c.advance-asked.ensures.done;
+      begun = c.advance-asked.ensures.begun;
+      works = works_on c.advance-asked.result q1 q2 (next == count) c.advance-asked.ensures.working c.advance-asked.ensures.no_memory;
+      stays = λ e. ap (λ (t : State). t.phase) (c.advance-asked.ensures.complete e) ∙ e;
+      step = c.advance-asked.ensures.step;
+    } in
     let q3 = c.answer_open-refused.new.queries in
     let r1 = c.answer_open-refused.new.replies in
-    let e = ap (λ (m : BiState g.row.A.Denot). m.replies) c.self.view_is in
-    read_or c.answer_open-refused.result (AllRead q3) (WasRefused c.args.self.now.replies g.row.CAP) c.answer_open-refused.ensures.read
-    (λ to is. let full = subst (λ o. IfSome o (λ to. (to < ranks r1.dims) × (standing_toward r1 to ≡ g.row.CAP))) is c.answer_open-refused.ensures.refused in
-    subst (λ (r : State). WasRefused r g.row.CAP) e (was_refused inside.replies r1 g.row.CAP to c.answer_open-refused.ensures.answers.same_replies full.0 full.1))
+    let ans : Answers T inside.asker q2 q3 inside.replies r1 = c.answer_open-refused.ensures.answers in
+    let n' : BiState g.row.A.Denot = record { asker = c.hear_all.new.asker.value; next = next; lines = c.hear_all.new.lines.items; queries = q3; replies = c.hear_all.new.replies } in
+    let refused = c.answer_open-refused.result in
+    subst (λ (m : BiState g.row.A.Denot). HasAnswered T g.row.CAP m n' qs qg qs' qg') c.self.view_is
+    (record {
+      at_pull = q2;
+      agrees = adv.agrees;
+      epoch = epoch2 T laws start inside qs qg rs rg is g.row.CAP next count q1 push counted q2 qs' qg' adv;
+      pulled = pulled2 T laws start inside qs qg rs rg is g.row.CAP next count q1 push counted q2 qs' qg' adv;
+      at_push = r1;
+      answers = ans;
+      all = read_or refused (AllRead q3) ((to : ℕ) × RefusesAnswer g.row.CAP to q3 r1) c.answer_open-refused.ensures.read
+          (λ to is. (to, subst (λ o. IfSome o (λ to. RefusesAnswer g.row.CAP to q3 r1)) is c.answer_open-refused.ensures.refused));
+    })
+
+pub returns-clause-asked_all : goal.returns-clause-asked_all
+returns-clause-asked_all g c =
+    let T = g.A.Asker.talk in
+    let counted = c.count.ensures ∙ ap (λ s. length (T.queries s)) c.deref.ensures in
+    ap (λ (t : State). t.done) c.answer_open-refused.ensures.answers.same ∙ (c.advance-asked.ensures.done
+    ∙ ap (λ k. c.push_queries-self-inside.result == k) (asked_count T c.count.result _ c.hear_all.new.asker.value counted c.hear_all.ensures.hears.talk))
+
+pub returns-clause-replied_all : goal.returns-clause-replied_all
+returns-clause-replied_all g c =
+    ap (λ (t : State). t.done) c.hear_all.ensures.hears.same ∙ (c.advance-replied.ensures.done ∙ (c.is_over-over.ensures ∙ ap is_complete c.phase.ensures.value))
+
+pub returns-clause-queries_once : goal.returns-clause-queries_once
+returns-clause-queries_once g c =
+    let c1 = c.push_queries-self-inside.new.conveyor in
+    let same = subst (λ (t : State). c1 ≡ record t { outs = c1.outs; pulled = c1.pulled }) (ap (λ (m : BiState g.row.A.Denot). m.queries) c.self.view_is) c.push_queries-self-inside.ensures.same in
+    once sender_at c.args.self.now.queries c1 (g.P.Port.sent c.args.queries.now) (g.P.Port.sent c.advance-asked.new.port) same c.advance-asked.ensures.one_sent
+
+pub returns-clause-queries_got_once : goal.returns-clause-queries_got_once
+returns-clause-queries_got_once g c =
+    let c1 = c.push_queries-self-inside.new.conveyor in
+    let same = subst (λ (t : State). c1 ≡ record t { outs = c1.outs; pulled = c1.pulled }) (ap (λ (m : BiState g.row.A.Denot). m.queries) c.self.view_is) c.push_queries-self-inside.ensures.same in
+    once reader_at c.args.self.now.queries c1 (g.P.Port.got c.args.queries.now) (g.P.Port.got c.advance-asked.new.port) same c.advance-asked.ensures.one_got
+
+pub returns-clause-replies_once : goal.returns-clause-replies_once
+returns-clause-replies_once g c =
+    let c1 = c.answer_open-refused.new.replies in
+    let same = subst (λ (t : State). c1 ≡ record t { outs = c1.outs; pulled = c1.pulled }) (ap (λ (m : BiState g.row.A.Denot). m.replies) c.self.view_is) c.answer_open-refused.ensures.answers.same_replies in
+    once sender_at c.args.self.now.replies c1 (g.R.Port.sent c.args.replies.now) (g.R.Port.sent c.advance-replied.new.port) same c.advance-replied.ensures.one_sent
+
+pub returns-clause-replies_got_once : goal.returns-clause-replies_got_once
+returns-clause-replies_got_once g c =
+    let c1 = c.answer_open-refused.new.replies in
+    let same = subst (λ (t : State). c1 ≡ record t { outs = c1.outs; pulled = c1.pulled }) (ap (λ (m : BiState g.row.A.Denot). m.replies) c.self.view_is) c.answer_open-refused.ensures.answers.same_replies in
+    once reader_at c.args.self.now.replies c1 (g.R.Port.got c.args.replies.now) (g.R.Port.got c.advance-replied.new.port) same c.advance-replied.ensures.one_got
 
 pub returns-clause-queries_shape : goal.returns-clause-queries_shape
 returns-clause-queries_shape g c = λ l was.

@@ -16,10 +16,13 @@ use Rattle.convey.specs.Due.{IsOver, NextIs, next_link}
 use Rattle.convey.specs.Rest.{IsBusy, HasBusy, IsAtRest, IsRestingSweep, RestLaw}
 use Rattle.convey.proofs.OneRank.{starting-own, ending-own}
 use Rattle.round_program.specs.Talks.{Talk}
-use Rattle.biconvey.specs.States.{BiState, Sides, AllRead}
-use Rattle.biconvey.specs.Still.{HasCrowded, IsStill}
+use Rattle.rank_node.specs.Movers.{AllRead}
+use Rattle.rank_node.specs.Stuck.{HasCrowded}
+use Rattle.rank_group.specs.Ranks.{crowded_in, idle_in}
+use Rattle.biconvey.specs.States.{BiState, Sides}
+use Rattle.biconvey.specs.Still.{IsStill}
 use Rattle.biconvey.specs.Ways.{conveyor_in}
-use Rattle.biconvey.specs.Worlds.{crowded_in, idle_in, Rests}
+use Rattle.biconvey.specs.Worlds.{Rests}
 use Rattle.biconvey.specs.Ranks.{AllComplete}
 use Rattle.biconvey.proofs.Halting.{IsHalted, never_busy}
 

@@ -11,7 +11,7 @@ use Rattle.hop_core.specs.Link.{In, no_in, with_first_taken}
 use Rattle.hop_core.specs.Relay.{waiting}
 use Rattle.hop_core.specs.State.{State, in_at, lowest_unread, pull_from, pulled_from, pulls}
 use Rattle.convey.specs.Conveyors.{GivesNext}
-use Rattle.biconvey.specs.Taking.{NoMore}
+use Rattle.rank_node.specs.Pulls.{NoMore}
 
 pub pulled_same : (st : State) (o : Option ℕ) → pulled_from st o ≡ record st { ins = (pulled_from st o).ins; pulled = (pulled_from st o).pulled }
 pulled_same st None = refl

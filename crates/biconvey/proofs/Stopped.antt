@@ -23,12 +23,15 @@ use Rattle.convey.specs.Due.{Wants, IsOver, NextIs, HeldUp, next_link}
 use Rattle.convey.specs.Progress.{progress_of}
 use Rattle.convey.specs.declared.progress.Progress.TheVariants as progress
 use Rattle.convey.proofs.OneRank.{FirstLink, first_link}
-use Rattle.biconvey.specs.Taking.{NoMore, Pushes, Answers, RefusesAnswer, Hears}
+use Rattle.biconvey.specs.Taking.{Pushes, Answers, RefusesAnswer, Hears}
 use Rattle.round_program.specs.Talks.{Talk}
 use Rattle.convey.specs.Buffers.{is_complete}
 use Rattle.std.specs.Prelude.{IfSome}
-use Rattle.biconvey.specs.States.{BiState, Sides, AllRead}
-use Rattle.biconvey.specs.Still.{HasCrowded, IsStill, Known, IsStuck}
+use Rattle.rank_node.specs.Movers.{AllRead}
+use Rattle.rank_node.specs.Pulls.{NoMore}
+use Rattle.rank_node.specs.Stuck.{HasCrowded}
+use Rattle.biconvey.specs.States.{BiState, Sides}
+use Rattle.biconvey.specs.Still.{IsStill, Known, IsStuck}
 use Rattle.biconvey.proofs.Turned.{Advances}
 
 -- the phase of an advance that answers Complete

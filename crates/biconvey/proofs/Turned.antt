@@ -20,8 +20,10 @@ use Rattle.convey.specs.Progress.{advance_step}
 use Rattle.convey.specs.declared.progress.Progress.{Progress}
 use Rattle.round_program.specs.Talks.{Talk, TalkLaws, SameTalk}
 use Rattle.round_program.specs.Replies.{carrying, as_items, asks_of, answers}
-use Rattle.biconvey.specs.Taking.{IsPushed, IsAnswered, Pushes, Answers, HasHeard, Hears}
-use Rattle.biconvey.specs.States.{BiState, AllRead, IsBiNode}
+use Rattle.rank_node.specs.Runs.{IsPushed}
+use Rattle.rank_node.specs.Movers.{AllRead}
+use Rattle.biconvey.specs.Taking.{IsAnswered, Pushes, Answers, HasHeard, Hears}
+use Rattle.biconvey.specs.States.{BiState, IsBiNode}
 use Rattle.biconvey.proofs.Offering.{asked_below}
 
 -- what an advance leaves of a rank's lists

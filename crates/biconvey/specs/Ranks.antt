@@ -34,8 +34,8 @@ pub record AllRanks {S : Type 0} (T : Talk S) (dims : List ℕ) (cap slots : ℕ
 abbrev pub heard_of : {S : Type 0} → List ℕ → (ℕ → BiState S) → Sides → ℕ → ℕ → List Item
 heard_of dims ns s r d = (part_of (buffers_of (ns r).replies) (starting_at dims r s.replying) (ending_at dims r s.replied)).pulled 0 d
 
--- At every moment the replies that a rank heard of another are a front of that one's answers to its queries, and it is as
--- after hearing them, by order alone.
+-- Whenever no rank is within a turn, the replies that a rank heard of another are a front of that one's answers to its queries,
+-- and it is as after hearing them, by order alone.
 pub record HearsInOrder {S : Type 0} (T : Talk S) (dims : List ℕ) (starts : ℕ → S) (ns : ℕ → BiState S) (s : Sides) : Type 0 where
   pub begins : (r d : ℕ) → r < ranks dims → d < ranks dims → Begins (heard_of dims ns s r d) (replies_of T starts d r)
   pub state : (r : ℕ) → r < ranks dims → (ns r).asker ≡ heard_by T (starts r) (heard_of dims ns s r)

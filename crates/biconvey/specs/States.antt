@@ -1,8 +1,6 @@
 -- A rank that asks and answers, between two turns.
-use Rattle.std.specs.Prelude.{Bool, ◌≡◌, ◌≢◌, ◌⊎◌, ℕ, ◌<◌, ◌≤◌, true, false, List, [], length}
+use Rattle.std.specs.Prelude.{Bool, ◌≡◌, ◌≢◌, ◌⊎◌, ℕ, ◌≤◌, true, false, List, [], length}
 use Rattle.route_tensor.specs.Grid.{ranks}
-use Rattle.route_tensor.specs.Link.{links}
-use Rattle.route_tensor.specs.Ends.{hop_at, reader_at}
 use Rattle.port_bank.specs.Logs.{Logs}
 use Rattle.hop_core.specs.declared.phase.Phase.TheVariants.{Dormant, Working, Complete}
 use Rattle.hop_core.specs.State.{State}
@@ -12,7 +10,9 @@ use Rattle.convey.specs.Law.{IsSound}
 use Rattle.convey.specs.Parts.{part_of}
 use Rattle.round_program.specs.Talks.{Talk}
 use Rattle.round_program.specs.Replies.{asks_of}
-use Rattle.biconvey.specs.Taking.{IsPushed, IsAnswered, Pushes, Answers, RefusesAnswer, HasHeard}
+use Rattle.rank_node.specs.Runs.{IsPushed}
+use Rattle.rank_node.specs.Movers.{AllRead}
+use Rattle.biconvey.specs.Taking.{IsAnswered, Pushes, Answers, RefusesAnswer, HasHeard}
 
 -- What contracts see of a BiNode: its asker, how many queries are pushed, for each rank the numbers of the queries to it that
 -- have no reply yet, and the conveyors of queries and of replies.
@@ -29,10 +29,6 @@ pub record Sides : Type 0 where
   pub asked : Logs
   pub replying : Logs
   pub replied : Logs
-
--- Everything that came for the rank was pulled.
-abbrev pub AllRead : State → Type 0
-AllRead c = (l : ℕ) → l < links c.dims → reader_at c.dims l ≡ c.rank → hop_at c.dims l ≡ length c.dims → (in_of c l).parcel.untaken ≡ []
 
 -- A conveyor in its first epoch, over a port with these lists.
 pub record IsRunning (c : State) (sent got : Logs) : Type 0 where

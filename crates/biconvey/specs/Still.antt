@@ -1,5 +1,5 @@
 -- What a turn leaves that moved no parcel, and why.
-use Rattle.std.specs.Prelude.{◌≡◌, ◌⊎◌, ℕ, ◌<◌, ◌≤◌, Bool, true, false, List, length, slice_get, Some}
+use Rattle.std.specs.Prelude.{◌≡◌, ◌⊎◌, ℕ, ◌<◌, ◌≤◌, Bool, true, false, length, slice_get, Some}
 use Rattle.bale_types.specs.declared.item.Entry.{Entry}
 use Rattle.route_tensor.specs.Link.{links}
 use Rattle.route_tensor.specs.Ends.{hop_at, sender_at, reader_at}
@@ -11,14 +11,9 @@ use Rattle.convey.specs.Agreement.{Ends}
 use Rattle.convey.specs.Conveyors.{AgreesWith}
 use Rattle.convey.specs.Arrived.{HasArrived}
 use Rattle.convey.specs.Due.{Wants, IsOver, NextIs}
-use Rattle.biconvey.specs.States.{BiState, Sides, AllRead}
-
--- Of a rank's links out there is one that is crowded.
-pub record HasCrowded (dims : List ℕ) (rank : ℕ) (is_crowded : ℕ → Bool) : Type 0 where
-  pub link : ℕ
-  pub below : link < links dims
-  pub sender : sender_at dims link ≡ rank
-  pub crowded : is_crowded link ≡ true
+use Rattle.rank_node.specs.Movers.{AllRead}
+use Rattle.rank_node.specs.Stuck.{HasCrowded}
+use Rattle.biconvey.specs.States.{BiState, Sides}
 
 -- A turn that moved no parcel on a conveyor took it from c to c'. `before` is the conveyor just before the turn's advance, and
 -- `after` just after it: pushes fill open parcels before it, and pulls empty inboxes of the last hop after it.

@@ -1,5 +1,5 @@
 -- What the small steps of a turn leave.
-use Rattle.std.specs.Prelude.{◌≡◌, ℕ, ◌<◌, ◌≤◌, ◌^◌, List, length, take, drop, slice_get, Some}
+use Rattle.std.specs.Prelude.{◌≡◌, ℕ, ◌<◌, ◌≤◌, ◌^◌, List, length, drop, slice_get, Some}
 use Rattle.std.specs.List.{All}
 use Rattle.bale_types.specs.declared.item.Item.{Item}
 use Rattle.route_tensor.specs.Grid.{ranks}
@@ -9,16 +9,13 @@ use Rattle.port_bank.specs.Machine.Step.{Push, Idle}
 use Rattle.hop_core.specs.declared.phase.Pushed.{Pushed}
 use Rattle.hop_core.specs.declared.phase.Pushed.TheVariants.{Accepted, Full}
 use Rattle.hop_core.specs.State.{State, lowest_unread, pull_from}
-use Rattle.convey.specs.Buffers.{buffers_of, in_of}
+use Rattle.convey.specs.Buffers.{buffers_of}
 use Rattle.convey.specs.Conveyors.{AgreesWith, KeepsAgreement, IsStepOf, standing_toward}
 use Rattle.convey.specs.Parts.{part_of}
-use Rattle.round_program.specs.Canonical.{items_of}
 use Rattle.round_program.specs.Talks.{Talk, SameTalk}
 use Rattle.round_program.specs.Replies.{carrying, answers, heard_by, places_to}
-
--- The first so many of some items to send were pushed: toward each of p ranks, those that go to it.
-abbrev pub IsPushed : List (ℕ × Item) → ℕ → ℕ → Part → Type 0
-IsPushed items p next part = (d : ℕ) → d < p → part.pushed part.epoch d ≡ items_of d (take next items)
+use Rattle.rank_node.specs.Runs.{IsPushed}
+use Rattle.rank_node.specs.Pulls.{NoMore}
 
 -- After pushes more of the items are pushed, and nothing else has changed.
 pub record PushedOn (items : List (ℕ × Item)) (p next next' : ℕ) (part part' : Part) : Type 0 where
@@ -47,10 +44,6 @@ pub record AnswersOn {S : Type 0} (T : Talk S) (s : S) (p : ℕ) (asked asked' r
   pub replied_epoch : replied'.epoch ≡ replied.epoch
   pub replied_pulled : replied'.pulled ≡ replied.pulled
   pub answered : IsAnswered T s p asked replied → IsAnswered T s p asked' replied'
-
--- No inbox holds more than it did.
-abbrev pub NoMore : State → State → Type 0
-NoMore old new = (l : ℕ) → length (in_of new l).parcel.untaken ≤ length (in_of old l).parcel.untaken
 
 -- The same of the conveyor of queries, which goes from q to q', and that of replies, from r to r'.
 pub record Answers {S : Type 0} (T : Talk S) (s : S) (q q' r r' : State) : Type 0 where

@@ -1,13 +1,13 @@
 -- All ranks over two plain banks, and what a sweep over them leaves.
-use Rattle.std.specs.Prelude.{◌≡◌, ℕ, ◌+◌, ◌*◌, ◌<◌, ◌≤◌, ◌==◌, ◌&&◌, Bool, List, length, map, Some, slice_get}
+use Rattle.std.specs.Prelude.{◌≡◌, ℕ, ◌+◌, ◌*◌, ◌<◌, ◌≤◌, ◌&&◌, Bool, List, length, map, Some, slice_get}
 use Rattle.std.specs.List.{sum_by}
 use Rattle.route_tensor.specs.Grid.{ranks}
 use Rattle.route_tensor.specs.Link.{links}
 use Rattle.route_tensor.specs.Ends.{reader_at}
-use Rattle.port_bank.specs.Logs.{Logs, starting_at, ending_at}
 use Rattle.port_bank.specs.Plain.{Bank, IsBank, sent_of, got_of}
 use Rattle.convey.specs.Buffers.{in_of, is_complete}
 use Rattle.round_program.specs.Talks.{Talk}
+use Rattle.rank_group.specs.Ranks.{crowded_in, idle_in}
 use Rattle.biconvey.specs.States.{BiState, Sides}
 use Rattle.biconvey.specs.Still.{Known, IsStuck}
 use Rattle.biconvey.specs.Ranks.{sides_at, HasRank}
@@ -26,13 +26,7 @@ pub record AreBanks (cap : ℕ) (dims : List ℕ) (slots : ℕ) (q r : Bank) : T
   pub queries_slots : q.slots ≡ slots
   pub replies_slots : r.slots ≡ slots
 
--- What the ports of rank r know of its links: whether no slot is free on a link out, and whether nothing waits on a link in.
-abbrev pub crowded_in : List ℕ → ℕ → ℕ → Logs → Logs → ℕ → Bool
-crowded_in dims slots r sent got l = length (starting_at dims r sent l) == length (got l) + slots
-
-abbrev pub idle_in : List ℕ → ℕ → Logs → Logs → ℕ → Bool
-idle_in dims r sent got l = length (ending_at dims r got l) == length (sent l)
-
+-- What the ports of rank r know of its links.
 abbrev pub known_at : List ℕ → ℕ → ℕ → Sides → Known
 known_at dims slots r s = record {
   crowded = crowded_in dims slots r s.asking s.asked;

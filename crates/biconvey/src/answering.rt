@@ -5,7 +5,7 @@ ghost use Rattle.route_tensor.specs.Grid.{ranks};
 ghost use Rattle.hop_core.specs.Relay.{waiting};
 ghost use Rattle.hop_core.specs.State.{in_at, lowest_unread, pulls};
 ghost use Rattle.convey.specs.Buffers.{is_complete};
-ghost use Rattle.biconvey.specs.States.{AllRead};
+ghost use Rattle.rank_node.specs.Movers.{AllRead};
 ghost use Rattle.biconvey.specs.Taking.{Answers, PushesAnswer, RefusesAnswer};
 
 use bale_types::Item;

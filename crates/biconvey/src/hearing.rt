@@ -9,7 +9,7 @@ ghost use Rattle.hop_core.specs.State.{lowest_unread};
 ghost use Rattle.convey.specs.Buffers.{buffers_of};
 ghost use Rattle.convey.specs.Conveyors.{AgreesWith};
 ghost use Rattle.convey.specs.Parts.{part_of};
-ghost use Rattle.biconvey.specs.States.{AllRead};
+ghost use Rattle.rank_node.specs.Movers.{AllRead};
 ghost use Rattle.biconvey.specs.Taking.{HasHeard, Hears, HearsOne};
 
 use crate::line::Line;

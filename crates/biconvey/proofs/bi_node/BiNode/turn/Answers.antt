@@ -9,7 +9,8 @@ use Rattle.convey.specs.Progress.{progress_of}
 use Rattle.convey.specs.declared.progress.Progress.TheVariants as progress
 use Rattle.round_program.specs.Replies.{asks_of}
 use Rattle.biconvey.specs.Taking.{Pushes, Answers, RefusesAnswer}
-use Rattle.biconvey.specs.States.{BiState, Sides, AllRead, IsBiNode, HasAsked, HasAnswered}
+use Rattle.rank_node.specs.Movers.{AllRead}
+use Rattle.biconvey.specs.States.{BiState, Sides, IsBiNode, HasAsked, HasAnswered}
 use Rattle.biconvey.specs.Still.{IsStuck, Known}
 use Rattle.biconvey.proofs.Turned.{Advances, works_on, same_asks, count_is, asked_count, receivers, low, all_pushed, begun1, agrees1, stays_done, dims2, open2, answers2, epoch2, pulled2, begun3, agrees3, over3, first4, heard4, turned}
 use Rattle.biconvey.proofs.Stopped.{Served, complete_from, lies_left, once, read_or, stuck}

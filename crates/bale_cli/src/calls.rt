@@ -163,10 +163,15 @@ pub fn run_serial<S: Source, K: Sink, E: Sink, L: Ledger>(
         → TellsCommand true c s result.rounds }
     ensures no_rounds { result.status ≢ 0 → result.status ≢ 1 → result.status ≢ 4 → result.rounds ≡ [] }
 
-    // The turns are bounded by the words and the matrix or lines, at 7 too; a refusal makes none.
+    // The turns are bounded by the words and the matrix or lines, at 7 too; where the words and the text ask for no run, and at a
+    // refusal, there are none.
     ensures steps { (text : List ℕ) (c : Command) (s : Subject)
         → Asked on_one_thread (S.left source.old) (command_of (map string_bytes words.now)) text c s
         → TurnsOfCommand c s steps.old steps.new }
+    ensures idle { (text : List ℕ) → Told (command_of (map string_bytes words.now)) (S.left source.old) text
+        → ((c : Command) (s : Subject)
+        → ¬ Asked on_one_thread (S.left source.old) (command_of (map string_bytes words.now)) text c s)
+        → steps.new ≡ steps.old }
     ensures no_turns { result.status ≢ 0 → result.status ≢ 1 → result.status ≢ 4 → result.status ≢ 7
         → steps.new ≡ steps.old }
 {
@@ -269,6 +274,10 @@ fn answer_serially<S: Source, K: Sink, L: Ledger>(
     ensures steps { (text : List ℕ) (c : Command) (s : Subject)
         → Asked on_one_thread (S.left source.old) (command_of (map string_bytes words.now)) text c s
         → TurnsOfCommand c s steps.old steps.new }
+    ensures idle { (text : List ℕ) → Told (command_of (map string_bytes words.now)) (S.left source.old) text
+        → ((c : Command) (s : Subject)
+        → ¬ Asked on_one_thread (S.left source.old) (command_of (map string_bytes words.now)) text c s)
+        → steps.new ≡ steps.old }
     ensures no_turns { IfErr result (λ r. r ≢ Refusal.NoMemory → steps.new ≡ steps.old) }
 {
     match read_words(alloc, words) {
@@ -292,6 +301,9 @@ fn answer_of_serially<S: Source, K: Sink, L: Ledger>(
     ensures steps { (text : List ℕ) (c : Command) (s : Subject)
         → Asked on_one_thread (S.left source.old) (Some command.now) text c s
         → TurnsOfCommand c s steps.old steps.new }
+    ensures idle { (text : List ℕ) → Told (Some command.now) (S.left source.old) text
+        → ((c : Command) (s : Subject) → ¬ Asked on_one_thread (S.left source.old) (Some command.now) text c s)
+        → steps.new ≡ steps.old }
     ensures no_turns { IfErr result (λ r. r ≢ Refusal.NoMemory → steps.new ≡ steps.old) }
 {
     match subject_for(alloc, command, source, true) {

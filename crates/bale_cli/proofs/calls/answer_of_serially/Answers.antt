@@ -19,6 +19,11 @@ returns-in-Ok-clause-steps g c = λ text command m asked.
     subst (λ (y : Subject). TurnsOfCommand command y c.args.steps.now c.ran_serially.new.steps) e.1
     (subst (λ (x : Command). TurnsOfCommand x c.in-Ok.subject c.args.steps.now c.ran_serially.new.steps) e.0 c.ran_serially.ensures.steps)
 
+pub returns-in-Ok-clause-idle : goal.returns-in-Ok-clause-idle
+returns-in-Ok-clause-idle g c = λ text told none.
+    absurd (none c.args.command.now c.in-Ok.subject
+    (record { asked = refl; told = told; subject = c.in-Ok.ensures.subject text told; fits = c.in-Ok.ensures.fits }))
+
 pub returns-in-Ok-clause-no_turns : goal.returns-in-Ok-clause-no_turns
 returns-in-Ok-clause-no_turns g c = memory_only _ c.ran_serially.result c.ran_serially.ensures.memory
 

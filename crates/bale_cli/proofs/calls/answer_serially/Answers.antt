@@ -1,4 +1,6 @@
-use Rattle.std.proofs.Common.{Err, Some, map, string_bytes, refl, ap}
+use Rattle.std.proofs.Common.{Option, Err, Some, map, string_bytes, refl, sym, ap, subst}
+use Rattle.bale_words.specs.declared.command.Command.{Command}
+use Rattle.bale_subjects.specs.Reading.{Told}
 use Rattle.bale_subjects.specs.declared.refusal.Refusal.{Refusal}
 use Rattle.bale_words.specs.Words.{command_of}
 use Rattle.bale_cli.proofs.Answering.{asked_at, at_job, early}
@@ -11,6 +13,12 @@ returns-in-Ok-clause-answered g c =
 
 pub returns-in-Ok-clause-steps : goal.returns-in-Ok-clause-steps
 returns-in-Ok-clause-steps g c = λ text command m asked. c.answer_of_serially.ensures.steps text command m (asked_at c.in-Ok.ensures.command asked)
+
+pub returns-in-Ok-clause-idle : goal.returns-in-Ok-clause-idle
+returns-in-Ok-clause-idle g c = λ text told none.
+    c.answer_of_serially.ensures.idle text
+    (subst (λ (j : Option Command). Told j (g.S.Source.left c.args.source.now) text) c.in-Ok.ensures.command told)
+    (λ command m asked. none command m (asked_at (sym c.in-Ok.ensures.command) asked))
 
 pub returns-in-Err-clause-answered : goal.returns-in-Err-clause-answered
 returns-in-Err-clause-answered g c =

@@ -1,5 +1,5 @@
 //! The matrix of the text that a source gives.
-ghost use Rattle.std.specs.Prelude.{◌≡◌, ℕ, ◌+◌, ◌<◌, ◌≤◌, List, Option, Some, Ok, Err, length, take, drop, vec_len, IsSome, IfOk, OnErr};
+ghost use Rattle.std.specs.Prelude.{◌≡◌, ◌≢◌, ℕ, ◌+◌, ◌<◌, ◌≤◌, List, Option, Some, Ok, Err, length, take, drop, vec_len, IsSome, IfOk, OnErr};
 ghost use Rattle.bale_types.specs.Stream.{Rose, before, moved};
 ghost use Rattle.mtx_text.specs.declared.read.Unread.TheVariants as Unread;
 ghost use Rattle.mtx_text.specs.Grammar.{matrix_of};
@@ -56,6 +56,7 @@ pub fn read_matrix<S: Source>(alloc: Global, source: &mut S) -> Result<Matrix, R
         → IsBehind 16_777_217 text rest }
     ensures told { (text : List ℕ) → S.left source.old ≡ Some text → IsSome (S.left source.new) }
     ensures cause { result ≡ Err ReadFault.Source → Rose (S.faults source.old) (S.faults source.new) }
+    ensures no_fault { result ≢ Err ReadFault.Source → S.faults source.new ≡ S.faults source.old }
     ensures never_falls { S.faults source.old ≤ S.faults source.new }
 {
     let text = match read_text(alloc, source, MOST_BYTES + 1) {
@@ -80,6 +81,7 @@ fn read_text<S: Source>(alloc: Global, source: &mut S, limit: usize) -> Result<V
         → IsBehind limit text rest }
     ensures told { (text : List ℕ) → S.left source.old ≡ Some text → IsSome (S.left source.new) }
     ensures cause { result ≡ Err Unread.Source → Rose (S.faults source.old) (S.faults source.new) }
+    ensures no_fault { result ≢ Err Unread.Source → S.faults source.new ≡ S.faults source.old }
     ensures never_falls { S.faults source.old ≤ S.faults source.new }
 {
     let mut text = Vec::new(alloc);

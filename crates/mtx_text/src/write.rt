@@ -23,6 +23,7 @@ pub fn write_matrix<K: Sink>(m: &Matrix, out: &mut Out<'_, K>) -> Result<(), Fai
     ensures err { OnErr result (IsFront (K.taken out.new.sink.now) (after (appended K.taken out.old) (text_of m.now))) }
     ensures read_again { length m.now.entries ≤ 262_144 → matrix_of (text_of m.now) ≡ Ok m.now }
     ensures cause { HasCause (K.faults out.old.sink.now) (K.faults out.new.sink.now) result }
+    ensures no_fault { OnOk result (K.faults out.new.sink.now ≡ K.faults out.old.sink.now) }
     ensures never_falls { K.faults out.old.sink.now ≤ K.faults out.new.sink.now }
     ensures grows { IsFront (K.taken out.old.sink.now) (K.taken out.new.sink.now) }
     ensures same_sink { out.new.sink.ghost_name ≡ out.old.sink.ghost_name }
@@ -39,6 +40,7 @@ fn write_banner<K: Sink>(out: &mut Out<'_, K>, kind: Kind) -> Result<(), Failed>
     ensures err { OnErr result (IsFront (K.taken out.new.sink.now)
         (after (appended K.taken out.old) (banner_text kind))) }
     ensures cause { HasCause (K.faults out.old.sink.now) (K.faults out.new.sink.now) result }
+    ensures no_fault { OnOk result (K.faults out.new.sink.now ≡ K.faults out.old.sink.now) }
     ensures never_falls { K.faults out.old.sink.now ≤ K.faults out.new.sink.now }
     ensures grows { IsFront (K.taken out.old.sink.now) (K.taken out.new.sink.now) }
     ensures same_sink { out.new.sink.ghost_name ≡ out.old.sink.ghost_name }
@@ -54,6 +56,7 @@ fn write_sizes<K: Sink>(out: &mut Out<'_, K>, m: &Matrix) -> Result<(), Failed>
     ensures err { OnErr result (IsFront (K.taken out.new.sink.now)
         (after (appended K.taken out.old) (size_text m.now))) }
     ensures cause { HasCause (K.faults out.old.sink.now) (K.faults out.new.sink.now) result }
+    ensures no_fault { OnOk result (K.faults out.new.sink.now ≡ K.faults out.old.sink.now) }
     ensures never_falls { K.faults out.old.sink.now ≤ K.faults out.new.sink.now }
     ensures grows { IsFront (K.taken out.old.sink.now) (K.taken out.new.sink.now) }
     ensures same_sink { out.new.sink.ghost_name ≡ out.old.sink.ghost_name }
@@ -78,6 +81,7 @@ fn write_entries<K: Sink>(
     ensures err { OnErr result (IsFront (K.taken out.new.sink.now)
         (after (appended K.taken out.old) (flat_map (entry_text kind) entries.now))) }
     ensures cause { HasCause (K.faults out.old.sink.now) (K.faults out.new.sink.now) result }
+    ensures no_fault { OnOk result (K.faults out.new.sink.now ≡ K.faults out.old.sink.now) }
     ensures never_falls { K.faults out.old.sink.now ≤ K.faults out.new.sink.now }
     ensures grows { IsFront (K.taken out.old.sink.now) (K.taken out.new.sink.now) }
     ensures same_sink { out.new.sink.ghost_name ≡ out.old.sink.ghost_name }
@@ -96,6 +100,7 @@ fn write_lines<K: Sink>(out: &mut Out<'_, K>, kind: Kind, entries: &[Triple]) ->
     ensures err { OnErr result (IsFront (K.taken out.new.sink.now)
         (after (appended K.taken out.old) (flat_map (entry_text kind) entries.now))) }
     ensures cause { HasCause (K.faults out.old.sink.now) (K.faults out.new.sink.now) result }
+    ensures no_fault { OnOk result (K.faults out.new.sink.now ≡ K.faults out.old.sink.now) }
     ensures never_falls { K.faults out.old.sink.now ≤ K.faults out.new.sink.now }
     ensures grows { IsFront (K.taken out.old.sink.now) (K.taken out.new.sink.now) }
     ensures same_sink { out.new.sink.ghost_name ≡ out.old.sink.ghost_name }

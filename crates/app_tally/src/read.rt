@@ -1,6 +1,6 @@
 //! The lines of the text that a source gives.
 
-ghost use Rattle.std.specs.Prelude.{◌≡◌, ℕ, ◌+◌, ◌<◌, ◌≤◌, List, Some, Err, take, drop, vec_len, IsSome, IfOk};
+ghost use Rattle.std.specs.Prelude.{◌≡◌, ◌≢◌, ℕ, ◌+◌, ◌<◌, ◌≤◌, List, Some, Err, take, drop, vec_len, IsSome, IfOk};
 ghost use Rattle.bale_types.specs.Stream.{Rose};
 ghost use Rattle.mtx_text.specs.Answers.{IsBehind};
 ghost use Rattle.app_tally.specs.declared.read.Unread.TheVariants as Unread;
@@ -56,6 +56,7 @@ pub fn read_lines<S: Source>(alloc: Global, source: &mut S) -> Result<Lines, Lin
         → IsBehind 16_777_217 text rest }
     ensures told { (text : List ℕ) → S.left source.old ≡ Some text → IsSome (S.left source.new) }
     ensures cause { result ≡ Err LinesFault.Source → Rose (S.faults source.old) (S.faults source.new) }
+    ensures no_fault { result ≢ Err LinesFault.Source → S.faults source.new ≡ S.faults source.old }
     ensures never_falls { S.faults source.old ≤ S.faults source.new }
 {
     match read_text(alloc, source, MOST_BYTES + 1) {
@@ -75,6 +76,7 @@ fn read_text<S: Source>(alloc: Global, source: &mut S, limit: usize) -> Result<V
         → IsBehind limit text rest }
     ensures told { (text : List ℕ) → S.left source.old ≡ Some text → IsSome (S.left source.new) }
     ensures cause { result ≡ Err Unread.Source → Rose (S.faults source.old) (S.faults source.new) }
+    ensures no_fault { result ≢ Err Unread.Source → S.faults source.new ≡ S.faults source.old }
     ensures never_falls { S.faults source.old ≤ S.faults source.new }
 {
     let mut text = Vec::new(alloc);

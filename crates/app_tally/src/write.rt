@@ -19,6 +19,7 @@ pub fn tally_write<K: Sink>(c: &Counts, out: &mut Out<'_, K>) -> Result<(), Fail
     ensures err { OnErr result (IsFront (K.taken out.new.sink.now)
         (after (appended K.taken out.old) (tally_text c.now))) }
     ensures cause { HasCause (K.faults out.old.sink.now) (K.faults out.new.sink.now) result }
+    ensures no_fault { OnOk result (K.faults out.new.sink.now ≡ K.faults out.old.sink.now) }
     ensures never_falls { K.faults out.old.sink.now ≤ K.faults out.new.sink.now }
     ensures grows { IsFront (K.taken out.old.sink.now) (K.taken out.new.sink.now) }
     ensures same_sink { out.new.sink.ghost_name ≡ out.old.sink.ghost_name }
@@ -36,6 +37,7 @@ fn write_entry<K: Sink>(out: &mut Out<'_, K>, line: &[u8], times: u64) -> Result
     ensures err { OnErr result (IsFront (K.taken out.new.sink.now)
         (after (appended K.taken out.old) (entry_text (line.now, times)))) }
     ensures cause { HasCause (K.faults out.old.sink.now) (K.faults out.new.sink.now) result }
+    ensures no_fault { OnOk result (K.faults out.new.sink.now ≡ K.faults out.old.sink.now) }
     ensures never_falls { K.faults out.old.sink.now ≤ K.faults out.new.sink.now }
     ensures grows { IsFront (K.taken out.old.sink.now) (K.taken out.new.sink.now) }
     ensures same_sink { out.new.sink.ghost_name ≡ out.old.sink.ghost_name }

@@ -1,4 +1,4 @@
-use Rattle.std.proofs.Common.{◌≡◌, ◌≤◌, ℕ, Option}
+use Rattle.std.proofs.Common.{◌≡◌, ℕ, Option}
 use Rattle.bale_types.specs.Stream.{after, IsFront}
 use Rattle.bale_types.specs.Out.{appended}
 use Rattle.mtx_text.specs.Sparse.{Sparse}
@@ -11,7 +11,7 @@ abbrev pub invariant-loop-v : goal.invariant-loop-v
 invariant-loop-v g l = record {
   so_far : (m : Sparse) (source : ℕ) → SsspEnded m source l.p → (weights : ℕ → Option ℕ) → AreLeast m source weights
       → appended g.K.Sink.taken l.out ≡ after (appended g.K.Sink.taken l.initial.out) (sssp_lines weights l.v);
-  faults : g.K.Sink.faults l.initial.out.sink.now ≤ g.K.Sink.faults l.out.sink.now;
+  faults : g.K.Sink.faults l.out.sink.now ≡ g.K.Sink.faults l.initial.out.sink.now;
   grows : IsFront (g.K.Sink.taken l.initial.out.sink.now) (g.K.Sink.taken l.out.sink.now);
   same_sink : l.out.sink.ghost_name ≡ l.initial.out.sink.ghost_name;
 }

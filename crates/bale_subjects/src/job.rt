@@ -56,13 +56,14 @@ pub fn subject_for<S: Source>(
     ensures suits { IfOk result (λ s. suits command.now.task s ≡ true) }
     ensures fits { IfOk result (λ s. unfitness command.now s serial ≡ None) }
     ensures read_fault { result ≡ Err Refusal.ReadFault → Rose (S.faults source.old) (S.faults source.new) }
+    ensures no_fault { result ≢ Err Refusal.ReadFault → S.faults source.new ≡ S.faults source.old }
     ensures bad { (text : List ℕ) (b : _) → Told (Some command.now) (S.left source.old) text
         → result ≡ Err (Refusal.BadText b) → subject_asked command.now text ≡ Err (Refusal.BadText b) }
     ensures unfit { (text : List ℕ) (u : Unfit) → Told (Some command.now) (S.left source.old) text
         → result ≡ Err (Refusal.Unfit u)
         → (s : Subject) × (subject_asked command.now text ≡ Ok s) × (unfitness command.now s serial ≡ Some u) }
     ensures kinds { IfErr result (λ r. (r ≢ Refusal.WriteFault) × (r ≢ Refusal.Usage)) }
-    ensures unread { reads (Some command.now) ≡ false → S.left source.new ≡ S.left source.old }
+    ensures unread { reads (Some command.now) ≡ false → source.new ≡ source.old }
     ensures read_whole { (text : List ℕ) → S.left source.old ≡ Some text → reads (Some command.now) ≡ true
         → OnOk result (S.left source.new ≡ Some (drop 16_777_217 text)) }
     ensures read_bad { (text : List ℕ) → S.left source.old ≡ Some text → reads (Some command.now) ≡ true
@@ -86,8 +87,9 @@ fn read_subject<S: Source>(
         → IsRead (subject_asked command.now text) result }
     ensures suits { IfOk result (λ s. suits command.now.task s ≡ true) }
     ensures read_fault { result ≡ Err Refusal.ReadFault → Rose (S.faults source.old) (S.faults source.new) }
+    ensures no_fault { result ≢ Err Refusal.ReadFault → S.faults source.new ≡ S.faults source.old }
     ensures kinds { IfErr result IsOfReading }
-    ensures unread { reads (Some command.now) ≡ false → S.left source.new ≡ S.left source.old }
+    ensures unread { reads (Some command.now) ≡ false → source.new ≡ source.old }
     ensures read_whole { (text : List ℕ) → S.left source.old ≡ Some text → reads (Some command.now) ≡ true
         → OnText result (S.left source.new ≡ Some (drop 16_777_217 text)) }
 {
@@ -109,6 +111,7 @@ fn read_lines_of<S: Source>(alloc: Global, source: &mut S) -> Result<Subject, Re
     ensures asked { (text : List ℕ) → S.left source.old ≡ Some text → IsRead (of_lines (lines_of_text text)) result }
     ensures lines { (t : _) → is_tally t ≡ true → IfOk result (λ s. suits t s ≡ true) }
     ensures read_fault { result ≡ Err Refusal.ReadFault → Rose (S.faults source.old) (S.faults source.new) }
+    ensures no_fault { result ≢ Err Refusal.ReadFault → S.faults source.new ≡ S.faults source.old }
     ensures kinds { IfErr result IsOfReading }
     ensures read_whole { (text : List ℕ) → S.left source.old ≡ Some text
         → OnText result (S.left source.new ≡ Some (drop 16_777_217 text)) }
@@ -128,8 +131,9 @@ fn read_matrix_of<S: Source>(
         → IsRead (of_matrix (matrix_asked band text)) result }
     ensures matrix { (t : _) → is_tally t ≡ false → IfOk result (λ s. suits t s ≡ true) }
     ensures read_fault { result ≡ Err Refusal.ReadFault → Rose (S.faults source.old) (S.faults source.new) }
+    ensures no_fault { result ≢ Err Refusal.ReadFault → S.faults source.new ≡ S.faults source.old }
     ensures kinds { IfErr result IsOfReading }
-    ensures unread { is_some band ≡ true → S.left source.new ≡ S.left source.old }
+    ensures unread { is_some band ≡ true → source.new ≡ source.old }
     ensures read_whole { (text : List ℕ) → S.left source.old ≡ Some text → is_some band ≡ false
         → OnText result (S.left source.new ≡ Some (drop 16_777_217 text)) }
 {

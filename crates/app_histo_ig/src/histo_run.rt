@@ -91,6 +91,7 @@ pub fn histo_write<K: Sink>(p: &Progs<Histo>, out: &mut Out<'_, K>) -> Result<()
         → OnErr result (IsFront (K.taken out.new.sink.now)
         (after (appended K.taken out.old) (histo_lines m.entries m.cols))) }
     ensures cause { HasCause (K.faults out.old.sink.now) (K.faults out.new.sink.now) result }
+    ensures no_fault { OnOk result (K.faults out.new.sink.now ≡ K.faults out.old.sink.now) }
     ensures never_falls { K.faults out.old.sink.now ≤ K.faults out.new.sink.now }
     ensures grows { IsFront (K.taken out.old.sink.now) (K.taken out.new.sink.now) }
     ensures same_sink { out.new.sink.ghost_name ≡ out.old.sink.ghost_name }
@@ -137,6 +138,7 @@ pub fn write_count<K: Sink>(out: &mut Out<'_, K>, j: u32, count: u64) -> Result<
     ensures err { OnErr result (IsFront (K.taken out.new.sink.now)
         (after (appended K.taken out.old) (histo_line j count))) }
     ensures cause { HasCause (K.faults out.old.sink.now) (K.faults out.new.sink.now) result }
+    ensures no_fault { OnOk result (K.faults out.new.sink.now ≡ K.faults out.old.sink.now) }
     ensures never_falls { K.faults out.old.sink.now ≤ K.faults out.new.sink.now }
     ensures grows { IsFront (K.taken out.old.sink.now) (K.taken out.new.sink.now) }
     ensures same_sink { out.new.sink.ghost_name ≡ out.old.sink.ghost_name }

@@ -1,4 +1,4 @@
-use Rattle.std.proofs.Common.{◌≡◌, ◌≤◌, ◌<◌, ◌+◌, ◌*◌, take, length}
+use Rattle.std.proofs.Common.{◌≡◌, ◌<◌, ◌+◌, ◌*◌, take, length}
 use Rattle.std.specs.List.{flat_map}
 use Rattle.bale_types.specs.Stream.{after, IsFront}
 use Rattle.bale_types.specs.Out.{appended}
@@ -10,7 +10,7 @@ invariant-loop-e g l = record {
   dealt : l.at.turn * length l.p + l.at.rank ≡ l.e;
   rank : l.at.rank < length l.p;
   so_far : appended g.K.Sink.taken l.out ≡ after (appended g.K.Sink.taken l.initial.out) (flat_map (λ t. ig_line t.i t.j (column_sum t.j l.m.entries)) (take l.e l.m.entries));
-  faults : g.K.Sink.faults l.initial.out.sink.now ≤ g.K.Sink.faults l.out.sink.now;
+  faults : g.K.Sink.faults l.out.sink.now ≡ g.K.Sink.faults l.initial.out.sink.now;
   grows : IsFront (g.K.Sink.taken l.initial.out.sink.now) (g.K.Sink.taken l.out.sink.now);
   same_sink : l.out.sink.ghost_name ≡ l.initial.out.sink.ghost_name;
 }

@@ -1,4 +1,4 @@
-use Rattle.std.proofs.Common.{◌≡◌, ◌≤◌}
+use Rattle.std.proofs.Common.{◌≡◌}
 use Rattle.bale_types.specs.Stream.{after, IsFront}
 use Rattle.bale_types.specs.Out.{appended}
 use Rattle.mtx_text.specs.Sparse.{Sparse}
@@ -9,7 +9,7 @@ use Rattle.app_histo_ig.proofs.histo_run.histo_write.Given as goal
 abbrev pub invariant-loop-j : goal.invariant-loop-j
 invariant-loop-j g l = record {
   so_far : (m : Sparse) → HistoEnded m l.p → appended g.K.Sink.taken l.out ≡ after (appended g.K.Sink.taken l.initial.out) (histo_lines m.entries l.j);
-  faults : g.K.Sink.faults l.initial.out.sink.now ≤ g.K.Sink.faults l.out.sink.now;
+  faults : g.K.Sink.faults l.out.sink.now ≡ g.K.Sink.faults l.initial.out.sink.now;
   grows : IsFront (g.K.Sink.taken l.initial.out.sink.now) (g.K.Sink.taken l.out.sink.now);
   same_sink : l.out.sink.ghost_name ≡ l.initial.out.sink.ghost_name;
 }

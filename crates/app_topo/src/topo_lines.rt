@@ -18,6 +18,7 @@ pub fn topo_write<K: Sink>(t: &TopoOrder, out: &mut Out<'_, K>) -> Result<(), Fa
     ensures err { OnErr result (IsFront (K.taken out.new.sink.now)
         (after (appended K.taken out.old) (topo_lines t.now))) }
     ensures cause { HasCause (K.faults out.old.sink.now) (K.faults out.new.sink.now) result }
+    ensures no_fault { OnOk result (K.faults out.new.sink.now ≡ K.faults out.old.sink.now) }
     ensures never_falls { K.faults out.old.sink.now ≤ K.faults out.new.sink.now }
     ensures grows { IsFront (K.taken out.old.sink.now) (K.taken out.new.sink.now) }
     ensures same_sink { out.new.sink.ghost_name ≡ out.old.sink.ghost_name }
@@ -38,6 +39,7 @@ fn write_line<K: Sink>(out: &mut Out<'_, K>, x: u64, row: u32, column: u32) -> R
     ensures err { OnErr result (IsFront (K.taken out.new.sink.now)
         (after (appended K.taken out.old) (topo_line x (row, column)))) }
     ensures cause { HasCause (K.faults out.old.sink.now) (K.faults out.new.sink.now) result }
+    ensures no_fault { OnOk result (K.faults out.new.sink.now ≡ K.faults out.old.sink.now) }
     ensures never_falls { K.faults out.old.sink.now ≤ K.faults out.new.sink.now }
     ensures grows { IsFront (K.taken out.old.sink.now) (K.taken out.new.sink.now) }
     ensures same_sink { out.new.sink.ghost_name ≡ out.old.sink.ghost_name }

@@ -1,4 +1,4 @@
-use Rattle.std.proofs.Common.{◌≡◌, ◌≤◌, take}
+use Rattle.std.proofs.Common.{◌≡◌, take}
 use Rattle.std.specs.List.{flat_map}
 use Rattle.bale_types.specs.Stream.{after, IsFront}
 use Rattle.bale_types.specs.Out.{appended}
@@ -8,7 +8,7 @@ use Rattle.app_topo.proofs.topo_lines.topo_write.Given as goal
 abbrev pub invariant-loop-x : goal.invariant-loop-x
 invariant-loop-x g l = record {
   so_far : appended g.K.Sink.taken l.out ≡ after (appended g.K.Sink.taken l.initial.out) (flat_map position_line (take l.x (positions l.t)));
-  faults : g.K.Sink.faults l.initial.out.sink.now ≤ g.K.Sink.faults l.out.sink.now;
+  faults : g.K.Sink.faults l.out.sink.now ≡ g.K.Sink.faults l.initial.out.sink.now;
   grows : IsFront (g.K.Sink.taken l.initial.out.sink.now) (g.K.Sink.taken l.out.sink.now);
   same_sink : l.out.sink.ghost_name ≡ l.initial.out.sink.ghost_name;
 }

@@ -63,8 +63,9 @@ pub fn finished<K: Sink>(
     ensures answer { IfOk result (λ e. HasWritten (IsAnswer task.now subject.now) (shown generated) (K.taken out.old)
         (K.taken out.new) e.written) }
     ensures cause { IfOk result (λ e. HasCause (K.faults out.old) (K.faults out.new) e.written) }
+    ensures no_fault { IfOk result (λ e. OnOk e.written (K.faults out.new ≡ K.faults out.old)) }
     ensures held { IsFront (K.taken out.old) (K.taken out.new) }
-    ensures no_answer { OnErr result (K.taken out.new ≡ K.taken out.old) }
+    ensures no_answer { OnErr result (out.new ≡ out.old) }
 {
     match subject {
         Subject::Matrix(m) => finished_on(alloc, task, m, generated, progs, out),
@@ -88,6 +89,7 @@ pub fn finished_by_asking<K: Sink>(
     ensures answer { HasWritten (IsMatrixAnswer Task.Ig m.now) (shown generated) (K.taken out.old)
         (K.taken out.new) result.written }
     ensures cause { HasCause (K.faults out.old) (K.faults out.new) result.written }
+    ensures no_fault { OnOk result.written (K.faults out.new ≡ K.faults out.old) }
     ensures held { IsFront (K.taken out.old) (K.taken out.new) }
 {
     m.known();
@@ -113,8 +115,9 @@ fn finished_on<K: Sink>(
     ensures answer { IfOk result (λ e. HasWritten (IsMatrixAnswer task.now m.now) (shown generated) (K.taken out.old)
         (K.taken out.new) e.written) }
     ensures cause { IfOk result (λ e. HasCause (K.faults out.old) (K.faults out.new) e.written) }
+    ensures no_fault { IfOk result (λ e. OnOk e.written (K.faults out.new ≡ K.faults out.old)) }
     ensures held { IsFront (K.taken out.old) (K.taken out.new) }
-    ensures no_answer { OnErr result (K.taken out.new ≡ K.taken out.old) }
+    ensures no_answer { OnErr result (out.new ≡ out.old) }
 {
     m.known();
     match task {
@@ -149,8 +152,9 @@ fn finished_as<A: Application, K: Sink>(
     ensures answer { IfOk result (λ e. HasWritten (IsAnswer task.now (A.as_subject of.now)) (shown generated)
         (K.taken out.old) (K.taken out.new) e.written) }
     ensures cause { IfOk result (λ e. HasCause (K.faults out.old) (K.faults out.new) e.written) }
+    ensures no_fault { IfOk result (λ e. OnOk e.written (K.faults out.new ≡ K.faults out.old)) }
     ensures held { IsFront (K.taken out.old) (K.taken out.new) }
-    ensures no_answer { OnErr result (K.taken out.new ≡ K.taken out.old) }
+    ensures no_answer { OnErr result (out.new ≡ out.old) }
 {
     let progs = take_all(alloc, progs)?;
     let answer = A::end(alloc, task, of, progs)?;
@@ -172,6 +176,7 @@ fn written_as<A: Written, K: Sink>(
     ensures answer { HasWritten (IsAnswer task.now (A.as_subject of.now)) (shown generated) (K.taken out.old)
         (K.taken out.new) result.written }
     ensures cause { HasCause (K.faults out.old) (K.faults out.new) result.written }
+    ensures no_fault { OnOk result.written (K.faults out.new ≡ K.faults out.old) }
     ensures held { IsFront (K.taken out.old) (K.taken out.new) }
 {
     let status = A::status(task, answer, of);
@@ -195,6 +200,7 @@ fn write_answer<A: Written, K: Sink>(
         (K.taken sink.new) result }
     ensures held { IsFront (K.taken sink.old) (K.taken sink.new) }
     ensures cause { HasCause (K.faults sink.old) (K.faults sink.new) result }
+    ensures no_fault { OnOk result (K.faults sink.new ≡ K.faults sink.old) }
 {
     let mut out = Out::new(sink);
     write_all::<A, K>(task, answer, of, &mut out)
@@ -211,6 +217,7 @@ fn write_all<A: Written, K: Sink>(
     ensures answer { HasWritten (IsAnswer task.now (A.as_subject of.now)) (λ bytes. bytes) (appended K.taken out.old)
         (K.taken out.new.sink.now) result }
     ensures cause { HasCause (K.faults out.old.sink.now) (K.faults out.new.sink.now) result }
+    ensures no_fault { OnOk result (K.faults out.new.sink.now ≡ K.faults out.old.sink.now) }
     ensures held { IsFront (K.taken out.old.sink.now) (K.taken out.new.sink.now) }
     ensures same_sink { out.new.sink.ghost_name ≡ out.old.sink.ghost_name }
 {
@@ -231,6 +238,7 @@ fn write_summary<A: Written, K: Sink>(
         (K.taken sink.new) result }
     ensures held { IsFront (K.taken sink.old) (K.taken sink.new) }
     ensures cause { HasCause (K.faults sink.old) (K.faults sink.new) result }
+    ensures no_fault { OnOk result (K.faults sink.new ≡ K.faults sink.old) }
 {
     let mut counter = Counter::new();
     let counted = write_answer::<A, Counter>(task, answer, of, &mut counter);
@@ -247,6 +255,7 @@ fn write_line<K: Sink>(counter: &Counter, sink: &mut K) -> Result<(), Failed>
         (after (K.taken sink.old) (summary_of (bytes_of counter.now.log)))) }
     ensures held { IsFront (K.taken sink.old) (K.taken sink.new) }
     ensures cause { HasCause (K.faults sink.old) (K.faults sink.new) result }
+    ensures no_fault { OnOk result (K.faults sink.new ≡ K.faults sink.old) }
 {
     let line = summary_line(counter);
     let mut out = Out::new(sink);
@@ -257,6 +266,7 @@ fn flushed<K: Sink>(out: &mut Out<'_, K>, bytes: &[u8]) -> Result<(), Failed>
     ensures ok { OnOk result (K.taken out.new.sink.now ≡ after (appended K.taken out.old) bytes.now) }
     ensures err { OnErr result (IsFront (K.taken out.new.sink.now) (after (appended K.taken out.old) bytes.now)) }
     ensures cause { HasCause (K.faults out.old.sink.now) (K.faults out.new.sink.now) result }
+    ensures no_fault { OnOk result (K.faults out.new.sink.now ≡ K.faults out.old.sink.now) }
     ensures held { IsFront (K.taken out.old.sink.now) (K.taken out.new.sink.now) }
     ensures same_sink { out.new.sink.ghost_name ≡ out.old.sink.ghost_name }
 {

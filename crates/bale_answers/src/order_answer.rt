@@ -87,6 +87,7 @@ fn write_order<K: Sink>(order: &Option<TopoOrder>, out: &mut Out<'_, K>) -> Resu
     ensures err { OnErr result (IsFront (K.taken out.new.sink.now)
         (after (appended K.taken out.old) (order_text order.now))) }
     ensures cause { HasCause (K.faults out.old.sink.now) (K.faults out.new.sink.now) result }
+    ensures no_fault { OnOk result (K.faults out.new.sink.now ≡ K.faults out.old.sink.now) }
     ensures never_falls { K.faults out.old.sink.now ≤ K.faults out.new.sink.now }
     ensures grows { IsFront (K.taken out.old.sink.now) (K.taken out.new.sink.now) }
     ensures same_sink { out.new.sink.ghost_name ≡ out.old.sink.ghost_name }

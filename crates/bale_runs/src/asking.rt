@@ -1,6 +1,6 @@
 //! ig by queries and replies: the columns are summed in one round, then each rank asks for the sums of its entries' columns, and
 //! then the answer is written.
-ghost use Rattle.std.specs.Prelude.{◌≡◌, ◌≤◌, ◌<◌, ◌+◌, ℕ, true, false, List, map, length, IfErr, IfOk, OnErr};
+ghost use Rattle.std.specs.Prelude.{◌≡◌, ◌≤◌, ◌<◌, ◌+◌, ℕ, true, false, List, map, length, IfErr, IfOk, OnOk, OnErr};
 ghost use Rattle.bale_types.specs.Stream.{HasCause, IsFront};
 ghost use Rattle.route_tensor.specs.Grid.{ranks};
 ghost use Rattle.port_bank.specs.Port.{IsSlots};
@@ -57,8 +57,9 @@ pub(crate) fn asked_serially<K: Sink, L: Ledger>(
     ensures answer { IfOk result (λ f. HasWritten (IsAnswer command.now.task subject.now)
         (shown command.now.travel.generated) (K.taken out.old) (K.taken out.new) f.written) }
     ensures cause { IfOk result (λ f. HasCause (K.faults out.old) (K.faults out.new) f.written) }
+    ensures no_fault { IfOk result (λ f. OnOk f.written (K.faults out.new ≡ K.faults out.old)) }
     ensures held { IsFront (K.taken out.old) (K.taken out.new) }
-    ensures no_answer { OnErr result (K.taken out.new ≡ K.taken out.old) }
+    ensures no_answer { OnErr result (out.new ≡ out.old) }
     ensures memory { IfErr result (λ r. r ≡ Refusal.NoMemory) }
     ensures rounds { IfOk result (λ f. TellsBy true command.now subject.now (made_for true command.now) f.rounds) }
     ensures steps { TurnsBy true command.now subject.now steps.old steps.new }
@@ -96,8 +97,9 @@ pub(crate) fn asked_on_threads<R: Threads + Wait + Sync, K: Sink, G: Gate + Sync
     ensures answer { IfOk result (λ f. HasWritten (IsAnswer command.now.task subject.now)
         (shown command.now.travel.generated) (K.taken out.old) (K.taken out.new) f.written) }
     ensures cause { IfOk result (λ f. HasCause (K.faults out.old) (K.faults out.new) f.written) }
+    ensures no_fault { IfOk result (λ f. OnOk f.written (K.faults out.new ≡ K.faults out.old)) }
     ensures held { IsFront (K.taken out.old) (K.taken out.new) }
-    ensures no_answer { OnErr result (K.taken out.new ≡ K.taken out.old) }
+    ensures no_answer { OnErr result (out.new ≡ out.old) }
     ensures memory { IfErr result (λ r. r ≡ Refusal.NoMemory) }
     ensures rounds { IfOk result (λ f. TellsBy true command.now subject.now (made_for false command.now) f.rounds) }
 {
@@ -330,6 +332,7 @@ fn told<K: Sink>(command: &Command, m: &Matrix, run: Finished<IgAsker>, out: &mu
     ensures answer { HasWritten (IsMatrixAnswer command.now.task m.now) (shown command.now.travel.generated)
         (K.taken out.old) (K.taken out.new) result.written }
     ensures cause { HasCause (K.faults out.old) (K.faults out.new) result.written }
+    ensures no_fault { OnOk result.written (K.faults out.new ≡ K.faults out.old) }
     ensures held { IsFront (K.taken out.old) (K.taken out.new) }
     ensures rounds { result.rounds ≡ run.rounds }
 {

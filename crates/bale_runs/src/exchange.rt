@@ -1,5 +1,5 @@
 //! The run of a command for its subject: the programs, driven, and then the answer, written.
-ghost use Rattle.std.specs.Prelude.{◌≡◌, ◌≤◌, ◌<◌, Bool, true, false, None, OnErr, IfOk, IfErr};
+ghost use Rattle.std.specs.Prelude.{◌≡◌, ◌≤◌, ◌<◌, Bool, true, false, None, OnOk, OnErr, IfOk, IfErr};
 ghost use Rattle.bale_types.specs.Stream.{HasCause, IsFront};
 ghost use Rattle.bale_words.specs.Ranges.{InRanges};
 ghost use Rattle.bale_runs.specs.Asking.{TellsCommand, TurnsOfCommand};
@@ -55,8 +55,9 @@ pub fn ran_serially<K: Sink, L: Ledger>(
     ensures answer { IfOk result (λ f. HasWritten (IsAnswer command.now.task subject.now)
         (shown command.now.travel.generated) (K.taken out.old) (K.taken out.new) f.written) }
     ensures cause { IfOk result (λ f. HasCause (K.faults out.old) (K.faults out.new) f.written) }
+    ensures no_fault { IfOk result (λ f. OnOk f.written (K.faults out.new ≡ K.faults out.old)) }
     ensures held { IsFront (K.taken out.old) (K.taken out.new) }
-    ensures no_answer { OnErr result (K.taken out.new ≡ K.taken out.old) }
+    ensures no_answer { OnErr result (out.new ≡ out.old) }
     ensures memory { IfErr result (λ r. r ≡ Refusal.NoMemory) }
     ensures rounds { IfOk result (λ f. TellsCommand true command.now subject.now f.rounds) }
     ensures steps { TurnsOfCommand command.now subject.now steps.old steps.new }
@@ -84,8 +85,9 @@ fn drove_serially<K: Sink, L: Ledger>(
     ensures answer { IfOk result (λ f. HasWritten (IsAnswer command.now.task subject.now)
         (shown command.now.travel.generated) (K.taken out.old) (K.taken out.new) f.written) }
     ensures cause { IfOk result (λ f. HasCause (K.faults out.old) (K.faults out.new) f.written) }
+    ensures no_fault { IfOk result (λ f. OnOk f.written (K.faults out.new ≡ K.faults out.old)) }
     ensures held { IsFront (K.taken out.old) (K.taken out.new) }
-    ensures no_answer { OnErr result (K.taken out.new ≡ K.taken out.old) }
+    ensures no_answer { OnErr result (out.new ≡ out.old) }
     ensures memory { IfErr result (λ r. r ≡ Refusal.NoMemory) }
     ensures rounds { IfOk result (λ f. TellsTask command.now.task subject.now (made_for true command.now)
         (manner_for command.now) f.rounds) }
@@ -152,8 +154,9 @@ fn ran_on_threads<R: Threads + Wait + Sync, K: Sink, G: Gate + Sync>(
     ensures answer { IfOk result (λ f. HasWritten (IsAnswer command.now.task subject.now)
         (shown command.now.travel.generated) (K.taken out.old) (K.taken out.new) f.written) }
     ensures cause { IfOk result (λ f. HasCause (K.faults out.old) (K.faults out.new) f.written) }
+    ensures no_fault { IfOk result (λ f. OnOk f.written (K.faults out.new ≡ K.faults out.old)) }
     ensures held { IsFront (K.taken out.old) (K.taken out.new) }
-    ensures no_answer { OnErr result (K.taken out.new ≡ K.taken out.old) }
+    ensures no_answer { OnErr result (out.new ≡ out.old) }
     ensures memory { IfErr result (λ r. r ≡ Refusal.NoMemory) }
     ensures rounds { IfOk result (λ f. TellsCommand false command.now subject.now f.rounds) }
 {
@@ -181,8 +184,9 @@ fn drove_on_threads<R: Threads + Wait + Sync, K: Sink, G: Gate + Sync>(
     ensures answer { IfOk result (λ f. HasWritten (IsAnswer command.now.task subject.now)
         (shown command.now.travel.generated) (K.taken out.old) (K.taken out.new) f.written) }
     ensures cause { IfOk result (λ f. HasCause (K.faults out.old) (K.faults out.new) f.written) }
+    ensures no_fault { IfOk result (λ f. OnOk f.written (K.faults out.new ≡ K.faults out.old)) }
     ensures held { IsFront (K.taken out.old) (K.taken out.new) }
-    ensures no_answer { OnErr result (K.taken out.new ≡ K.taken out.old) }
+    ensures no_answer { OnErr result (out.new ≡ out.old) }
     ensures memory { IfErr result (λ r. r ≡ Refusal.NoMemory) }
     ensures rounds { IfOk result (λ f. TellsTask command.now.task subject.now (made_for false command.now)
         (manner_for command.now) f.rounds) }
@@ -249,8 +253,9 @@ pub fn ran<R: Threads + Wait + Sync, K: Sink, G: Gate + Sync>(
     ensures answer { IfOk result (λ f. HasWritten (IsAnswer command.now.task subject.now)
         (shown command.now.travel.generated) (K.taken out.old) (K.taken out.new) f.written) }
     ensures cause { IfOk result (λ f. HasCause (K.faults out.old) (K.faults out.new) f.written) }
+    ensures no_fault { IfOk result (λ f. OnOk f.written (K.faults out.new ≡ K.faults out.old)) }
     ensures held { IsFront (K.taken out.old) (K.taken out.new) }
-    ensures no_answer { OnErr result (K.taken out.new ≡ K.taken out.old) }
+    ensures no_answer { OnErr result (out.new ≡ out.old) }
     ensures memory { IfErr result (λ r. r ≡ Refusal.NoMemory) }
     ensures rounds { IfOk result (λ f. TellsCommand (as_asked command.now) command.now subject.now f.rounds) }
 {
@@ -304,8 +309,9 @@ fn ran_uncounted<L: Ledger, K: Sink>(
     ensures answer { IfOk result (λ f. HasWritten (IsAnswer command.now.task subject.now)
         (shown command.now.travel.generated) (K.taken out.old) (K.taken out.new) f.written) }
     ensures cause { IfOk result (λ f. HasCause (K.faults out.old) (K.faults out.new) f.written) }
+    ensures no_fault { IfOk result (λ f. OnOk f.written (K.faults out.new ≡ K.faults out.old)) }
     ensures held { IsFront (K.taken out.old) (K.taken out.new) }
-    ensures no_answer { OnErr result (K.taken out.new ≡ K.taken out.old) }
+    ensures no_answer { OnErr result (out.new ≡ out.old) }
     ensures memory { IfErr result (λ r. r ≡ Refusal.NoMemory) }
     ensures rounds { IfOk result (λ f. TellsCommand true command.now subject.now f.rounds) }
 {
@@ -330,8 +336,9 @@ fn told<K: Sink>(
     ensures answer { IfOk result (λ f. HasWritten (IsAnswer command.now.task subject.now)
         (shown command.now.travel.generated) (K.taken out.old) (K.taken out.new) f.written) }
     ensures cause { IfOk result (λ f. HasCause (K.faults out.old) (K.faults out.new) f.written) }
+    ensures no_fault { IfOk result (λ f. OnOk f.written (K.faults out.new ≡ K.faults out.old)) }
     ensures held { IsFront (K.taken out.old) (K.taken out.new) }
-    ensures no_answer { OnErr result (K.taken out.new ≡ K.taken out.old) }
+    ensures no_answer { OnErr result (out.new ≡ out.old) }
     ensures memory { IfErr result (λ r. r ≡ Refusal.NoMemory) }
     ensures rounds { IfOk result (λ f. f.rounds ≡ run.rounds) }
 {

@@ -46,8 +46,8 @@ impl From<AllocError> for Unread {
 ///
 /// # Errors
 ///
-/// `Source` only where the source's faults rose in this call; `TooLong` exactly where the text has more than 16,777,216 bytes,
-/// and else `LineTooLong` exactly where a line has more than 65,535; want of memory may come at any time.
+/// `Source` where a read failed, and only there, as the source's faults tell; `TooLong` exactly where the text has more than
+/// 16,777,216 bytes, and else `LineTooLong` exactly where a line has more than 65,535; want of memory may come at any time.
 pub fn read_lines<S: Source>(alloc: Global, source: &mut S) -> Result<Lines, LinesFault>
     ensures gives { (text : List ℕ) → S.left source.old ≡ Some text → LinesGive result (lines_of_text text) }
     ensures left { (text : List ℕ) → S.left source.old ≡ Some text

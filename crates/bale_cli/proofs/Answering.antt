@@ -2,7 +2,7 @@
 use Rattle.std.proofs.Common.{ℕ, ◌≡◌, ◌≢◌, ◌⊎◌, Bool, true, false, not, is_some, List, Option, None, Some, Result, Ok, Err, OnOk, OnErr, IfOk, IfErr, drop, refl, sym, ap, subst, ◌∙◌, inl, inr}
 use Rattle.std.proofs.lemmas.Bool.{false≢true}
 use Rattle.std.proofs.lemmas.Option.{none-some, same_Some}
-use Rattle.bale_types.specs.Stream.{after, IsFront}
+use Rattle.bale_types.specs.Stream.{after, HasCause, IsFront, Rose}
 use Rattle.bale_types.proofs.Moves.{front_same}
 use Rattle.bale_words.specs.declared.command.Command.{Command}
 use Rattle.bale_words.specs.declared.command.Generated.{Generated}
@@ -22,28 +22,28 @@ use Rattle.bale_subjects.specs.Subjects.{subject_asked}
 use Rattle.bale_answers.specs.Tasks.{IsAnswer, task_status}
 use Rattle.bale_cli.proofs.Endings.{before_text, wrote_status}
 
-abbrev pub err : Refusal → Result Finish Refusal
+abbrev pub err : {T : Type 0} → Refusal → Result T Refusal
 err r = Err r
 
 abbrev pub ok : Subject → Result Subject Refusal
 ok s = Ok s
 
-abbrev err_or : Refusal → Result Finish Refusal → Refusal
-err_or d (Ok f) = d
+abbrev err_or : {T : Type 0} → Refusal → Result T Refusal → Refusal
+err_or d (Ok x) = d
 err_or d (Err r) = r
 
 abbrev ok_or : Subject → Result Subject Refusal → Subject
 ok_or d (Ok s) = s
 ok_or d (Err r) = d
 
-same_Err : (r s : Refusal) → err r ≡ err s → r ≡ s
+pub same_Err : {T : Type 0} (r s : Refusal) → err {T = T} r ≡ err s → r ≡ s
 same_Err r s e = ap (err_or r) e
 
 same_Ok : (a b : Subject) → ok a ≡ ok b → a ≡ b
 same_Ok a b e = ap (ok_or a) e
 
-front_kept : {taken taken' : Option (List ℕ)} → taken' ≡ taken → IsFront taken taken'
-front_kept {taken = taken} e = subst (IsFront taken) (sym e) (front_same taken)
+front_kept : {K : Type 0} (taken : K → Option (List ℕ)) {out out' : K} → out' ≡ out → IsFront (taken out) (taken out')
+front_kept taken {out = out} e = subst (λ k. IsFront (taken out) (taken k)) (sym e) (front_same (taken out))
 
 -- a refusal of the words is of no other kind
 of_words : (r s : Refusal) → (r ≡ refusal.Usage) ⊎ (r ≡ refusal.NoMemory) → r ≡ s → (s ≡ refusal.Usage) ⊎ (s ≡ refusal.NoMemory)
@@ -79,85 +79,94 @@ same_asked {left = left} c s text c' s' subject a =
 pub asked_at : {serial : Command → Bool} {left : Option (List ℕ)} {job job' : Option Command} {text : List ℕ} {c : Command} {s : Subject} → job ≡ job' → Asked serial left job text c s → Asked serial left job' text c s
 asked_at {serial = serial} {left = left} {text = text} {c = c} {s = s} e a = subst (λ (j : Option Command). Asked serial left j text c s) e a
 
-module _ {serial : Command → Bool} {left left' : Option (List ℕ)} {ReadRose WriteRose : Type 0} {taken taken' : Option (List ℕ)} where
+module _ {S K : Type 0} {serial : Command → Bool} {left : S → Option (List ℕ)} {read_faults : S → ℕ} {source source' : S}
+    {taken : K → Option (List ℕ)} {write_faults : K → ℕ} {out out' : K} where
   -- refused by the words, before anything was read
-  pub early : (job : Option Command) (r : Refusal) → (r ≡ refusal.Usage → job ≡ None) → (r ≡ refusal.Usage) ⊎ (r ≡ refusal.NoMemory) → left' ≡ left → taken' ≡ taken
-      → Answered serial job left left' ReadRose taken taken' WriteRose (Err r)
-  early job r u kinds same_left same_taken =
+  pub early : (job : Option Command) (r : Refusal) → (r ≡ refusal.Usage → job ≡ None) → (r ≡ refusal.Usage) ⊎ (r ≡ refusal.NoMemory) → source' ≡ source → out' ≡ out
+      → Answered serial job left read_faults source source' taken write_faults out out' (Err r)
+  early job r u kinds same_source same_out =
       record {
         usage = λ e. u (same_Err r refusal.Usage e);
         no_command = λ none. kinds;
         read_fault = λ e. absurd (no_read (of_words r refusal.ReadFault kinds (same_Err r refusal.ReadFault e)));
+        no_read_fault = λ other. ap read_faults same_source;
         bad = λ text b told e. absurd (no_bad b (of_words r (refusal.BadText b) kinds (same_Err r (refusal.BadText b) e)));
         unfit = λ text x told e. absurd (no_unfit x (of_words r (refusal.Unfit x) kinds (same_Err r (refusal.Unfit x) e)));
-        no_fault = λ e. no_write (of_words r refusal.WriteFault kinds e);
+        kinds = λ e. no_write (of_words r refusal.WriteFault kinds e);
         wrote = λ text told. tt;
         status = λ text told. tt;
-        cause = tt;
-        held = front_kept same_taken;
-        unread = λ none. same_left;
+        write_fault = tt;
+        no_write_fault = tt;
+        held = front_kept taken same_out;
+        unread = λ none. same_source;
         read_whole = λ text told r. tt;
         read_bad = λ text told rd of_text. absurd (before_text r kinds of_text);
-        no_answer = same_taken;
+        no_answer = same_out;
         rounds = λ text c m asked. tt;
       }
 
   -- the same of another spelling of the job
-  pub at_job : {answered : Result Finish Refusal} (job job' : Option Command) → job ≡ job' → Answered serial job' left left' ReadRose taken taken' WriteRose answered
-      → Answered serial job left left' ReadRose taken taken' WriteRose answered
-  at_job {answered = answered} job job' e a = subst (λ (j : Option Command). Answered serial j left left' ReadRose taken taken' WriteRose answered) (sym e) a
+  pub at_job : {answered : Result Finish Refusal} (job job' : Option Command) → job ≡ job' → Answered serial job' left read_faults source source' taken write_faults out out' answered
+      → Answered serial job left read_faults source source' taken write_faults out out' answered
+  at_job {answered = answered} job job' e a = subst (λ (j : Option Command). Answered serial j left read_faults source source' taken write_faults out out' answered) (sym e) a
 
   -- refused by the subject, or by the reading of it
-  pub subject_refused : (c : Command) (r : Refusal) → (r ≡ refusal.ReadFault → ReadRose)
-      → ((text : List ℕ) (b : BadText) → Told (Some c) left text → r ≡ refusal.BadText b → subject_asked c text ≡ Err (refusal.BadText b))
-      → ((text : List ℕ) (u : Unfit) → Told (Some c) left text → r ≡ refusal.Unfit u
+  pub subject_refused : (c : Command) (r : Refusal) → (r ≡ refusal.ReadFault → Rose (read_faults source) (read_faults source'))
+      → (r ≢ refusal.ReadFault → read_faults source' ≡ read_faults source)
+      → ((text : List ℕ) (b : BadText) → Told (Some c) (left source) text → r ≡ refusal.BadText b → subject_asked c text ≡ Err (refusal.BadText b))
+      → ((text : List ℕ) (u : Unfit) → Told (Some c) (left source) text → r ≡ refusal.Unfit u
       → (s : Subject) × (subject_asked c text ≡ Ok s) × (unfitness c s (serial c) ≡ Some u))
-      → (r ≢ refusal.WriteFault) × (r ≢ refusal.Usage) → (reads (Some c) ≡ false → left' ≡ left)
-      → ((text : List ℕ) → left ≡ Some text → reads (Some c) ≡ true → IsOfText r → left' ≡ Some (drop 16777217 text)) → taken' ≡ taken
-      → Answered serial (Some c) left left' ReadRose taken taken' WriteRose (Err r)
-  subject_refused c r fault bad unfit kinds unread read_bad same_taken =
+      → (r ≢ refusal.WriteFault) × (r ≢ refusal.Usage) → (reads (Some c) ≡ false → source' ≡ source)
+      → ((text : List ℕ) → left source ≡ Some text → reads (Some c) ≡ true → IsOfText r → left source' ≡ Some (drop 16777217 text)) → out' ≡ out
+      → Answered serial (Some c) left read_faults source source' taken write_faults out out' (Err r)
+  subject_refused c r fault no_fault bad unfit kinds unread read_bad same_out =
       record {
         usage = λ e. absurd (kinds.1 (same_Err r refusal.Usage e));
         no_command = λ none. absurd (none-some c (sym none));
         read_fault = λ e. fault (same_Err r refusal.ReadFault e);
+        no_read_fault = λ other. no_fault (λ e. other (ap (λ (x : Refusal). Err x) e));
         bad = λ text b told e. record { command = c; asked = refl; why = bad text b told (same_Err r (refusal.BadText b) e) };
         unfit = λ text u told e.
             let w = unfit text u told (same_Err r (refusal.Unfit u) e) in
             record { command = c; asked = refl; subject = w.0; read = w.1; why = w.2 };
-        no_fault = kinds.0;
+        kinds = kinds.0;
         wrote = λ text told. tt;
         status = λ text told. tt;
-        cause = tt;
-        held = front_kept same_taken;
+        write_fault = tt;
+        no_write_fault = tt;
+        held = front_kept taken same_out;
         unread = unread;
         read_whole = λ text told r. tt;
         read_bad = read_bad;
-        no_answer = same_taken;
+        no_answer = same_out;
         rounds = λ text c' m asked. tt;
       }
 
   -- run, and the answer was written, or memory was wanting
   pub ran_answered : (answered : Result Finish Refusal) (c : Command) (s : Subject)
-      → ((text : List ℕ) → Told (Some c) left text → subject_asked c text ≡ Ok s) → unfitness c s (serial c) ≡ None
-      → (reads (Some c) ≡ false → left' ≡ left) → ((text : List ℕ) → left ≡ Some text → reads (Some c) ≡ true → left' ≡ Some (drop 16777217 text))
-      → IfOk answered (λ f. f.status ≡ task_status c.task s) → IfOk answered (λ f. HasWritten (IsAnswer c.task s) (shown c.travel.generated) taken taken' f.written)
-      → IfOk answered (λ f. OnErr f.written WriteRose) → IsFront taken taken' → OnErr answered (taken' ≡ taken) → IfErr answered (λ r. r ≡ refusal.NoMemory)
-      → IfOk answered (λ f. TellsCommand (serial c) c s f.rounds)
-      → Answered serial (Some c) left left' ReadRose taken taken' WriteRose answered
-  ran_answered (Ok f) c s subject fits unread whole status wrote cause held same memory rounds =
-      let written : (text : List ℕ) → Told (Some c) left text
-      → Wrote serial (Some c) text (λ bytes. OnOk f.written (taken' ≡ after taken bytes) × OnErr f.written (IsFront taken' (after taken bytes))) = λ text told.
+      → ((text : List ℕ) → Told (Some c) (left source) text → subject_asked c text ≡ Ok s) → unfitness c s (serial c) ≡ None
+      → read_faults source' ≡ read_faults source → (reads (Some c) ≡ false → source' ≡ source)
+      → ((text : List ℕ) → left source ≡ Some text → reads (Some c) ≡ true → left source' ≡ Some (drop 16777217 text))
+      → IfOk answered (λ f. f.status ≡ task_status c.task s) → IfOk answered (λ f. HasWritten (IsAnswer c.task s) (shown c.travel.generated) (taken out) (taken out') f.written)
+      → IfOk answered (λ f. HasCause (write_faults out) (write_faults out') f.written) → IfOk answered (λ f. OnOk f.written (write_faults out' ≡ write_faults out))
+      → IsFront (taken out) (taken out') → OnErr answered (out' ≡ out) → IfErr answered (λ r. r ≡ refusal.NoMemory) → IfOk answered (λ f. TellsCommand (serial c) c s f.rounds)
+      → Answered serial (Some c) left read_faults source source' taken write_faults out out' answered
+  ran_answered (Ok f) c s subject fits calm unread whole status wrote write_fault no_write_fault held same memory rounds =
+      let written : (text : List ℕ) → Told (Some c) (left source) text
+      → Wrote serial (Some c) text (λ bytes. OnOk f.written (taken out' ≡ after (taken out) bytes) × OnErr f.written (IsFront (taken out') (after (taken out) bytes))) = λ text told.
       record { command = c; asked = refl; subject = s; read = subject text told; fits = fits; bytes = wrote.bytes; answers = wrote.answers; wrote = (wrote.whole, wrote.front) } in
       record {
         usage = λ e. absurd cc;
         no_command = λ none. absurd (none-some c (sym none));
         read_fault = λ e. absurd cc;
+        no_read_fault = λ other. calm;
         bad = λ text b told e. absurd cc;
         unfit = λ text u told e. absurd cc;
-        no_fault = tt;
+        kinds = tt;
         wrote = written;
         status = λ text told. status ∙ wrote_status (written text told);
-        cause = cause;
+        write_fault = write_fault;
+        no_write_fault = no_write_fault;
         held = held;
         unread = unread;
         read_whole = λ text told r. whole text told r;
@@ -168,18 +177,20 @@ module _ {serial : Command → Bool} {left left' : Option (List ℕ)} {ReadRose 
             subst (λ (y : Subject). TellsCommand (serial c') c' y f.rounds) e.1
             (subst (λ (x : Command). TellsCommand (serial x) x s f.rounds) e.0 rounds);
       }
-  ran_answered (Err r) c s subject fits unread whole status wrote cause held same memory rounds =
+  ran_answered (Err r) c s subject fits calm unread whole status wrote write_fault no_write_fault held same memory rounds =
       let kinds : (r ≡ refusal.Usage) ⊎ (r ≡ refusal.NoMemory) = inr memory in
       record {
         usage = λ e. absurd (no_usage (sym memory ∙ same_Err r refusal.Usage e));
         no_command = λ none. absurd (none-some c (sym none));
         read_fault = λ e. absurd (no_read (of_words r refusal.ReadFault kinds (same_Err r refusal.ReadFault e)));
+        no_read_fault = λ other. calm;
         bad = λ text b told e. absurd (no_bad b (of_words r (refusal.BadText b) kinds (same_Err r (refusal.BadText b) e)));
         unfit = λ text x told e. absurd (no_unfit x (of_words r (refusal.Unfit x) kinds (same_Err r (refusal.Unfit x) e)));
-        no_fault = λ e. no_write (of_words r refusal.WriteFault kinds e);
+        kinds = λ e. no_write (of_words r refusal.WriteFault kinds e);
         wrote = λ text told. tt;
         status = λ text told. tt;
-        cause = tt;
+        write_fault = tt;
+        no_write_fault = tt;
         held = held;
         unread = unread;
         read_whole = λ text told r. tt;

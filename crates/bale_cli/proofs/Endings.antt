@@ -49,6 +49,10 @@ is_read_fault (Unfit u) e = absurd (omega (arith, e))
 is_read_fault WriteFault e = absurd (omega (arith, e))
 is_read_fault NoMemory e = absurd (omega (arith, e))
 
+pub read_fault_is : status_of ReadFault ≡ 3
+unfolding status_of
+read_fault_is = refl
+
 pub is_write_fault : (r : Refusal) → status_of r ≡ 4 → r ≡ WriteFault
 unfolding status_of
 is_write_fault Usage e = absurd (omega (arith, e))

@@ -1,6 +1,6 @@
 -- The promises of the top calls, from what is known of an answer and of how it is told.
 use Rattle.std.proofs.Common.{ℕ, zero, suc, ◌≡◌, ◌≢◌, ◌≤◌, ◌⊎◌, Bool, true, false, List, [], Option, None, Some, Result, Ok, Err, OnOk, OnErr, IfOk, IfErr, ◌<◌, drop, sym, ap, subst, ◌∙◌, arith, inl, inr, refl}
-use Rattle.bale_types.specs.Stream.{after, IsFront}
+use Rattle.bale_types.specs.Stream.{after, IsFront, Rose}
 use Rattle.bale_types.proofs.Moves.{after-nil, front_same}
 use Rattle.rank_group.specs.declared.closed_round.ClosedRound.{ClosedRound}
 use Rattle.bale_words.specs.declared.command.Command.{Command}
@@ -11,7 +11,8 @@ use Rattle.bale_answers.specs.Answer.{Answer, Wrote, answer_to, said}
 use Rattle.bale_subjects.specs.Reading.{Told, reads}
 use Rattle.bale_subjects.specs.Refusals.{refusal_text, status_of}
 use Rattle.bale_cli.specs.Outcomes.{Answered, IsOutcome}
-use Rattle.bale_cli.proofs.Endings.{not_zero, not_one, is_usage, usage_is, is_read_fault, is_write_fault, bad_is, unfit_is, status_same, said_is, of_text, memory_is}
+use Rattle.bale_cli.proofs.Answering.{same_Err}
+use Rattle.bale_cli.proofs.Endings.{not_zero, not_one, is_usage, usage_is, is_read_fault, read_fault_is, is_write_fault, bad_is, unfit_is, status_same, said_is, of_text, memory_is}
 
 -- nothing is said of an answer
 said_none : (status : ℕ) (answer : Answer) → status ≤ 1 → said status answer ≡ []
@@ -41,9 +42,9 @@ failed : {T E P Q : Type 0} {w : Result T E} → Failed w P → OnErr w Q → Q
 failed {Q = Q} d q = subst (λ w. OnErr w Q) d.is q
 
 -- an answer that was written has status 0 or 1, one that wasn't 4
-ends : {old new : Option (List ℕ)} {Rose : Type 0} {status : ℕ} {rounds : List ClosedRound} (f : Finish) → IsOutcome (Ok f) old new Rose status rounds
-    → Did f.written ((status ≡ f.status) × (status ≤ 1) × (new ≡ old))
-    ⊎ Failed f.written ((status ≡ 4) × ((Rose → ⊥) → new ≡ after old (refusal_text refusal.WriteFault)) × IsFront new (after old (refusal_text refusal.WriteFault)))
+ends : {E : Type 0} {said_to : E → Option (List ℕ)} {err_faults : E → ℕ} {err err' : E} {status : ℕ} {rounds : List ClosedRound} (f : Finish) → IsOutcome (Ok f) said_to err_faults err err' status rounds
+    → Did f.written ((status ≡ f.status) × (status ≤ 1) × (err' ≡ err))
+    ⊎ Failed f.written ((status ≡ 4) × (¬ Rose (err_faults err) (err_faults err') → said_to err' ≡ after (said_to err) (refusal_text refusal.WriteFault)) × IsFront (said_to err') (after (said_to err) (refusal_text refusal.WriteFault)))
 ends f o = split f.written o.written o.unwritten
 
 low_not : (status n : ℕ) → 1 < n → status ≤ 1 → status ≡ n → ⊥
@@ -53,17 +54,17 @@ four_not : (status n : ℕ) → n ≢ 4 → status ≡ 4 → status ≡ n → �
 four_not status n other four e = other (sym e ∙ four)
 
 -- an answer has no other status
-no_other : {old new : Option (List ℕ)} {Rose : Type 0} {status : ℕ} {rounds : List ClosedRound} (f : Finish) (n : ℕ) → IsOutcome (Ok f) old new Rose status rounds
+no_other : {E : Type 0} {said_to : E → Option (List ℕ)} {err_faults : E → ℕ} {err err' : E} {status : ℕ} {rounds : List ClosedRound} (f : Finish) (n : ℕ) → IsOutcome (Ok f) said_to err_faults err err' status rounds
     → 1 < n → n ≢ 4 → status ≡ n → ⊥
 no_other {status = status} f n o past other e = elim (ends f o) [ inl w ↦ low_not status n past w.fact.1 e | inr u ↦ four_not status n other u.fact.0 e ]
 
 -- a refusal is neither 0 nor 1 nor 4
-not_low : {old new : Option (List ℕ)} {Rose : Type 0} {status : ℕ} {rounds : List ClosedRound} (r : Refusal) → IsOutcome (Err r) old new Rose status rounds
+not_low : {E : Type 0} {said_to : E → Option (List ℕ)} {err_faults : E → ℕ} {err err' : E} {status : ℕ} {rounds : List ClosedRound} (r : Refusal) → IsOutcome (Err r) said_to err_faults err err' status rounds
     → (status ≡ 0) ⊎ (status ≡ 1) → ⊥
 not_low r o low = elim low [ inl nought ↦ not_zero r (sym o.refused.0 ∙ nought) | inr one ↦ not_one r (sym o.refused.0 ∙ one) ]
 
-not_four : {old new : Option (List ℕ)} {Rose : Type 0} {status : ℕ} {rounds : List ClosedRound} (r : Refusal) → r ≢ refusal.WriteFault
-    → IsOutcome (Err r) old new Rose status rounds → status ≡ 4 → ⊥
+not_four : {E : Type 0} {said_to : E → Option (List ℕ)} {err_faults : E → ℕ} {err err' : E} {status : ℕ} {rounds : List ClosedRound} (r : Refusal) → r ≢ refusal.WriteFault
+    → IsOutcome (Err r) said_to err_faults err err' status rounds → status ≡ 4 → ⊥
 not_four r fault o four = fault (is_write_fault r (sym o.refused.0 ∙ four))
 
 -- a status that is none of an answer's is a refusal's
@@ -72,17 +73,18 @@ neither zero low z o = z refl
 neither (suc zero) low z o = o refl
 neither (suc (suc n)) low z o = omega (arith, low)
 
-only_refused : {old new : Option (List ℕ)} {Rose : Type 0} {status : ℕ} {rounds : List ClosedRound} (f : Finish) → IsOutcome (Ok f) old new Rose status rounds
+only_refused : {E : Type 0} {said_to : E → Option (List ℕ)} {err_faults : E → ℕ} {err err' : E} {status : ℕ} {rounds : List ClosedRound} (f : Finish) → IsOutcome (Ok f) said_to err_faults err err' status rounds
     → status ≢ 0 → status ≢ 1 → status ≢ 4 → ⊥
 only_refused {status = status} f o nought one four = elim (ends f o) [ inl w ↦ neither status w.fact.1 nought one | inr u ↦ four u.fact.0 ]
 
-module _ {serial : Command → Bool} {job : Option Command} {left left' : Option (List ℕ)} {ReadRose WriteRose Rose : Type 0} {taken taken' old new : Option (List ℕ)} {status : ℕ}
+module _ {serial : Command → Bool} {job : Option Command} {S K E : Type 0} {left : S → Option (List ℕ)} {read_faults : S → ℕ} {source source' : S}
+    {taken : K → Option (List ℕ)} {write_faults : K → ℕ} {out out' : K} {said_to : E → Option (List ℕ)} {err_faults : E → ℕ} {err err' : E} {status : ℕ}
     {rounds : List ClosedRound} where
-  pub usage : (answered : Result Finish Refusal) → Answered serial job left left' ReadRose taken taken' WriteRose answered → IsOutcome answered old new Rose status rounds → status ≡ 2 → job ≡ None
+  pub usage : (answered : Result Finish Refusal) → Answered serial job left read_faults source source' taken write_faults out out' answered → IsOutcome answered said_to err_faults err err' status rounds → status ≡ 2 → job ≡ None
   usage (Ok f) a o two = absurd (no_other f 2 o (omega arith) (λ e. omega (arith, e)) two)
   usage (Err r) a o two = a.usage (ap (λ (x : Refusal). Err x) (is_usage r (sym o.refused.0 ∙ two)))
 
-  pub no_command : (answered : Result Finish Refusal) → Answered serial job left left' ReadRose taken taken' WriteRose answered → IsOutcome answered old new Rose status rounds → job ≡ None → status ≢ 7 → status ≡ 2
+  pub no_command : (answered : Result Finish Refusal) → Answered serial job left read_faults source source' taken write_faults out out' answered → IsOutcome answered said_to err_faults err err' status rounds → job ≡ None → status ≢ 7 → status ≡ 2
   no_command (Ok f) a o none seven = absurd (a.no_command none)
   no_command (Err r) a o none seven =
       elim (a.no_command none) [
@@ -90,7 +92,7 @@ module _ {serial : Command → Bool} {job : Option Command} {left left' : Option
         | inr e ↦ absurd (seven (o.refused.0 ∙ ap status_of e ∙ memory_is))
       ]
 
-  pub same_status : (answered : Result Finish Refusal) → Answered serial job left left' ReadRose taken taken' WriteRose answered → IsOutcome answered old new Rose status rounds → (text : List ℕ) → Told job left text
+  pub same_status : (answered : Result Finish Refusal) → Answered serial job left read_faults source source' taken write_faults out out' answered → IsOutcome answered said_to err_faults err err' status rounds → (text : List ℕ) → Told job (left source) text
       → status ≢ 3 → status ≢ 4 → status ≢ 7 → status ≡ (answer_to serial job text).status
   same_status (Ok f) a o text told three four seven =
       elim (ends f o) [ inl w ↦ w.fact.0 ∙ a.status text told | inr u ↦ absurd (four u.fact.0) ]
@@ -99,17 +101,29 @@ module _ {serial : Command → Bool} {job : Option Command} {left left' : Option
       ∙ status_same serial r job text (λ e. a.usage (ap (λ (x : Refusal). Err x) e)) (λ b e. a.bad text b told (ap (λ (x : Refusal). Err x) e))
       (λ u e. a.unfit text u told (ap (λ (x : Refusal). Err x) e)) (λ e. three (o.refused.0 ∙ e)) (λ e. four (o.refused.0 ∙ e)) (λ e. seven (o.refused.0 ∙ e))
 
-  pub read_fault : (answered : Result Finish Refusal) → Answered serial job left left' ReadRose taken taken' WriteRose answered → IsOutcome answered old new Rose status rounds → status ≡ 3 → ReadRose
+  pub read_fault : (answered : Result Finish Refusal) → Answered serial job left read_faults source source' taken write_faults out out' answered → IsOutcome answered said_to err_faults err err' status rounds → status ≡ 3 → Rose (read_faults source) (read_faults source')
   read_fault (Ok f) a o three = absurd (no_other f 3 o (omega arith) (λ e. omega (arith, e)) three)
   read_fault (Err r) a o three = a.read_fault (ap (λ (x : Refusal). Err x) (is_read_fault r (sym o.refused.0 ∙ three)))
 
-  pub write_fault : (answered : Result Finish Refusal) → Answered serial job left left' ReadRose taken taken' WriteRose answered → IsOutcome answered old new Rose status rounds → status ≡ 4 → WriteRose
+  pub write_fault : (answered : Result Finish Refusal) → Answered serial job left read_faults source source' taken write_faults out out' answered → IsOutcome answered said_to err_faults err err' status rounds → status ≡ 4 → Rose (write_faults out) (write_faults out')
   write_fault (Ok f) a o four =
-      elim (ends f o) [ inl w ↦ absurd (low_not status 4 (omega arith) w.fact.1 four) | inr u ↦ failed u a.cause ]
-  write_fault (Err r) a o four = absurd (not_four r a.no_fault o four)
+      elim (ends f o) [ inl w ↦ absurd (low_not status 4 (omega arith) w.fact.1 four) | inr u ↦ failed u a.write_fault ]
+  write_fault (Err r) a o four = absurd (not_four r a.kinds o four)
 
-  pub read_whole : (answered : Result Finish Refusal) → Answered serial job left left' ReadRose taken taken' WriteRose answered → IsOutcome answered old new Rose status rounds → (text : List ℕ) → left ≡ Some text → reads job ≡ true
-      → status ≢ 3 → status ≢ 7 → left' ≡ Some (drop 16777217 text)
+  -- the source has failed only where that is the answer
+  pub no_read_fault : (answered : Result Finish Refusal) → Answered serial job left read_faults source source' taken write_faults out out' answered → IsOutcome answered said_to err_faults err err' status rounds
+      → status ≢ 3 → read_faults source' ≡ read_faults source
+  no_read_fault (Ok f) a o three = a.no_read_fault (λ e. cc)
+  no_read_fault (Err r) a o three = a.no_read_fault (λ e. three (o.refused.0 ∙ ap status_of (same_Err r refusal.ReadFault e) ∙ read_fault_is))
+
+  -- the sink has failed only where that is the answer
+  pub no_write_fault : (answered : Result Finish Refusal) → Answered serial job left read_faults source source' taken write_faults out out' answered → IsOutcome answered said_to err_faults err err' status rounds
+      → status ≢ 4 → write_faults out' ≡ write_faults out
+  no_write_fault (Ok f) a o four = elim (ends f o) [ inl w ↦ did w a.no_write_fault | inr u ↦ absurd (four u.fact.0) ]
+  no_write_fault (Err r) a o four = ap write_faults a.no_answer
+
+  pub read_whole : (answered : Result Finish Refusal) → Answered serial job left read_faults source source' taken write_faults out out' answered → IsOutcome answered said_to err_faults err err' status rounds → (text : List ℕ) → left source ≡ Some text → reads job ≡ true
+      → status ≢ 3 → status ≢ 7 → left source' ≡ Some (drop 16777217 text)
   read_whole (Ok f) a o text told r three seven = a.read_whole text told r
   read_whole (Err x) a o text told r three seven =
       a.read_bad text told r (of_text x (λ e. no_job (a.usage (ap (λ (y : Refusal). Err y) (is_usage x e))) r) (λ e. three (o.refused.0 ∙ e)) (λ e. seven (o.refused.0 ∙ e)))
@@ -117,8 +131,8 @@ module _ {serial : Command → Bool} {job : Option Command} {left left' : Option
       no_job : job ≡ None → reads job ≡ true → ⊥
       no_job none r = (let e : false ≡ true = sym (ap reads none) ∙ r in cc)
 
-  pub answer : (answered : Result Finish Refusal) → Answered serial job left left' ReadRose taken taken' WriteRose answered → IsOutcome answered old new Rose status rounds → (text : List ℕ) → Told job left text → (status ≡ 0) ⊎ (status ≡ 1)
-      → Wrote serial job text (λ bytes. taken' ≡ after taken bytes)
+  pub answer : (answered : Result Finish Refusal) → Answered serial job left read_faults source source' taken write_faults out out' answered → IsOutcome answered said_to err_faults err err' status rounds → (text : List ℕ) → Told job (left source) text → (status ≡ 0) ⊎ (status ≡ 1)
+      → Wrote serial job text (λ bytes. taken out' ≡ after (taken out) bytes)
   answer (Ok f) a o text told low =
       elim (ends f o) [
         | inl w ↦
@@ -128,8 +142,8 @@ module _ {serial : Command → Bool} {job : Option Command} {left left' : Option
       ]
   answer (Err r) a o text told low = absurd (not_low r o low)
 
-  pub front : (answered : Result Finish Refusal) → Answered serial job left left' ReadRose taken taken' WriteRose answered → IsOutcome answered old new Rose status rounds → (text : List ℕ) → Told job left text → status ≡ 4
-      → Wrote serial job text (λ bytes. IsFront taken' (after taken bytes))
+  pub front : (answered : Result Finish Refusal) → Answered serial job left read_faults source source' taken write_faults out out' answered → IsOutcome answered said_to err_faults err err' status rounds → (text : List ℕ) → Told job (left source) text → status ≡ 4
+      → Wrote serial job text (λ bytes. IsFront (taken out') (after (taken out) bytes))
   front (Ok f) a o text told four =
       elim (ends f o) [
         | inl w ↦ absurd (low_not status 4 (omega arith) w.fact.1 four)
@@ -137,13 +151,13 @@ module _ {serial : Command → Bool} {job : Option Command} {left left' : Option
             let d = a.wrote text told in
             record { command = d.command; asked = d.asked; subject = d.subject; read = d.read; fits = d.fits; bytes = d.bytes; answers = d.answers; wrote = failed u d.wrote.1 }
       ]
-  front (Err r) a o text told four = absurd (not_four r a.no_fault o four)
+  front (Err r) a o text told four = absurd (not_four r a.kinds o four)
 
-  pub no_answer : (answered : Result Finish Refusal) → Answered serial job left left' ReadRose taken taken' WriteRose answered → IsOutcome answered old new Rose status rounds → status ≢ 0 → status ≢ 1 → status ≢ 4 → taken' ≡ taken
+  pub no_answer : (answered : Result Finish Refusal) → Answered serial job left read_faults source source' taken write_faults out out' answered → IsOutcome answered said_to err_faults err err' status rounds → status ≢ 0 → status ≢ 1 → status ≢ 4 → out' ≡ out
   no_answer (Ok f) a o nought one four = absurd (only_refused f o nought one four)
   no_answer (Err r) a o nought one four = a.no_answer
 
-  said_of : (r : Refusal) → Answered serial job left left' ReadRose taken taken' WriteRose (Err r) → IsOutcome (Err r) old new Rose status rounds → (text : List ℕ) → ((status ≡ 5) ⊎ (status ≡ 6) → Told job left text)
+  said_of : (r : Refusal) → Answered serial job left read_faults source source' taken write_faults out out' (Err r) → IsOutcome (Err r) said_to err_faults err err' status rounds → (text : List ℕ) → ((status ≡ 5) ⊎ (status ≡ 6) → Told job (left source) text)
       → said status (answer_to serial job text) ≡ refusal_text r
   said_of r a o text told =
       ap (λ n. said n (answer_to serial job text)) o.refused.0
@@ -151,43 +165,43 @@ module _ {serial : Command → Bool} {job : Option Command} {left left' : Option
       (λ b e. a.bad text b (told (inl (o.refused.0 ∙ ap status_of e ∙ bad_is b))) (ap (λ (x : Refusal). Err x) e))
       (λ u e. a.unfit text u (told (inr (o.refused.0 ∙ ap status_of e ∙ unfit_is u))) (ap (λ (x : Refusal). Err x) e))
 
-  pub said_whole : (answered : Result Finish Refusal) → Answered serial job left left' ReadRose taken taken' WriteRose answered → IsOutcome answered old new Rose status rounds → (text : List ℕ) → ((status ≡ 5) ⊎ (status ≡ 6) → Told job left text)
-      → (Rose → ⊥) → new ≡ after old (said status (answer_to serial job text))
+  pub said_whole : (answered : Result Finish Refusal) → Answered serial job left read_faults source source' taken write_faults out out' answered → IsOutcome answered said_to err_faults err err' status rounds → (text : List ℕ) → ((status ≡ 5) ⊎ (status ≡ 6) → Told job (left source) text)
+      → ¬ Rose (err_faults err) (err_faults err') → said_to err' ≡ after (said_to err) (said status (answer_to serial job text))
   said_whole (Ok f) a o text told calm =
       elim (ends f o) [
-        | inl w ↦ w.fact.2 ∙ (sym (after-nil old) ∙ ap (after old) (sym (said_none status (answer_to serial job text) w.fact.1)))
-        | inr u ↦ u.fact.1 calm ∙ ap (λ n. after old (said n (answer_to serial job text))) (sym u.fact.0)
+        | inl w ↦ ap said_to w.fact.2 ∙ (sym (after-nil (said_to err)) ∙ ap (after (said_to err)) (sym (said_none status (answer_to serial job text) w.fact.1)))
+        | inr u ↦ u.fact.1 calm ∙ ap (λ n. after (said_to err) (said n (answer_to serial job text))) (sym u.fact.0)
       ]
-  said_whole (Err r) a o text told calm = o.refused.1 calm ∙ ap (after old) (sym (said_of r a o text told))
+  said_whole (Err r) a o text told calm = o.refused.1 calm ∙ ap (after (said_to err)) (sym (said_of r a o text told))
 
-  pub said_front : (answered : Result Finish Refusal) → Answered serial job left left' ReadRose taken taken' WriteRose answered → IsOutcome answered old new Rose status rounds → (text : List ℕ) → ((status ≡ 5) ⊎ (status ≡ 6) → Told job left text)
-      → IsFront new (after old (said status (answer_to serial job text)))
+  pub said_front : (answered : Result Finish Refusal) → Answered serial job left read_faults source source' taken write_faults out out' answered → IsOutcome answered said_to err_faults err err' status rounds → (text : List ℕ) → ((status ≡ 5) ⊎ (status ≡ 6) → Told job (left source) text)
+      → IsFront (said_to err') (after (said_to err) (said status (answer_to serial job text)))
   said_front (Ok f) a o text told =
       elim (ends f o) [
         | inl w ↦
-            subst (IsFront new) (w.fact.2 ∙ (sym (after-nil old) ∙ ap (after old) (sym (said_none status (answer_to serial job text) w.fact.1)))) (front_same new)
-        | inr u ↦ subst (λ n. IsFront new (after old (said n (answer_to serial job text)))) (sym u.fact.0) u.fact.2
+            subst (IsFront (said_to err')) (ap said_to w.fact.2 ∙ (sym (after-nil (said_to err)) ∙ ap (after (said_to err)) (sym (said_none status (answer_to serial job text) w.fact.1)))) (front_same (said_to err'))
+        | inr u ↦ subst (λ n. IsFront (said_to err') (after (said_to err) (said n (answer_to serial job text)))) (sym u.fact.0) u.fact.2
       ]
-  said_front (Err r) a o text told = subst (λ (all : List ℕ). IsFront new (after old all)) (sym (said_of r a o text told)) o.refused.2
+  said_front (Err r) a o text told = subst (λ (all : List ℕ). IsFront (said_to err') (after (said_to err) all)) (sym (said_of r a o text told)) o.refused.2
 
-  pub silent : (answered : Result Finish Refusal) → Answered serial job left left' ReadRose taken taken' WriteRose answered → IsOutcome answered old new Rose status rounds → (status ≡ 0) ⊎ (status ≡ 1) → new ≡ old
+  pub silent : (answered : Result Finish Refusal) → Answered serial job left read_faults source source' taken write_faults out out' answered → IsOutcome answered said_to err_faults err err' status rounds → (status ≡ 0) ⊎ (status ≡ 1) → err' ≡ err
   silent (Ok f) a o low =
       elim (ends f o) [ inl w ↦ w.fact.2 | inr u ↦ absurd (elim low [ inl nought ↦ omega (arith, u.fact.0, nought) | inr one ↦ omega (arith, u.fact.0, one) ]) ]
   silent (Err r) a o low = absurd (not_low r o low)
 
   -- the rounds of an answer, and none of a refusal
-  pub rounds_told : (P : List ClosedRound → Type 0) (answered : Result Finish Refusal) → Answered serial job left left' ReadRose taken taken' WriteRose answered → IsOutcome answered old new Rose status rounds → IfOk answered (λ f. P f.rounds)
+  pub rounds_told : (P : List ClosedRound → Type 0) (answered : Result Finish Refusal) → Answered serial job left read_faults source source' taken write_faults out out' answered → IsOutcome answered said_to err_faults err err' status rounds → IfOk answered (λ f. P f.rounds)
       → (status ≡ 0) ⊎ (status ≡ 1) ⊎ (status ≡ 4) → P rounds
   rounds_told P (Ok f) a o p ended = subst P (sym o.told) p
   rounds_told P (Err r) a o p ended =
-      absurd (elim ended [ inl nought ↦ not_low r o (inl nought) | inr more ↦ elim more [ inl one ↦ not_low r o (inr one) | inr four ↦ not_four r a.no_fault o four ] ])
+      absurd (elim ended [ inl nought ↦ not_low r o (inl nought) | inr more ↦ elim more [ inl one ↦ not_low r o (inr one) | inr four ↦ not_four r a.kinds o four ] ])
 
-  pub no_rounds : (answered : Result Finish Refusal) → Answered serial job left left' ReadRose taken taken' WriteRose answered → IsOutcome answered old new Rose status rounds → status ≢ 0 → status ≢ 1 → status ≢ 4 → rounds ≡ []
+  pub no_rounds : (answered : Result Finish Refusal) → Answered serial job left read_faults source source' taken write_faults out out' answered → IsOutcome answered said_to err_faults err err' status rounds → status ≢ 0 → status ≢ 1 → status ≢ 4 → rounds ≡ []
   no_rounds (Ok f) a o nought one four = absurd (only_refused f o nought one four)
   no_rounds (Err r) a o nought one four = o.no_rounds
 
   -- what holds of every refusal but want of memory
-  pub refusal_only : (P : Type 0) (answered : Result Finish Refusal) → Answered serial job left left' ReadRose taken taken' WriteRose answered → IsOutcome answered old new Rose status rounds → IfErr answered (λ r. r ≢ refusal.NoMemory → P)
+  pub refusal_only : (P : Type 0) (answered : Result Finish Refusal) → Answered serial job left read_faults source source' taken write_faults out out' answered → IsOutcome answered said_to err_faults err err' status rounds → IfErr answered (λ r. r ≢ refusal.NoMemory → P)
       → status ≢ 0 → status ≢ 1 → status ≢ 4 → status ≢ 7 → P
   refusal_only P (Ok f) a o p nought one four seven = absurd (only_refused f o nought one four)
   refusal_only P (Err r) a o p nought one four seven = p (λ memory. seven (o.refused.0 ∙ ap status_of memory ∙ memory_is))

@@ -45,23 +45,26 @@ pub fn run<R: Threads + Wait + Sync, S: Source, K: Sink, E: Sink, G: Gate + Sync
     err: &mut E,
     gate: &G,
 ) -> Outcome
-    // The status is the serial answer's; a fault has its cause outside, and want of memory is free.
+    // The status is the serial answer's; 3 and 4 come where a read or a write failed, and only there; want of memory is free.
     ensures usage { result.status ≡ 2 → command_of (map string_bytes words.now) ≡ None }
     ensures no_command { command_of (map string_bytes words.now) ≡ None → result.status ≢ 7 → result.status ≡ 2 }
     ensures status { (text : List ℕ) → Told (command_of (map string_bytes words.now)) (S.left source.old) text
         → result.status ≢ 3 → result.status ≢ 4 → result.status ≢ 7
         → result.status ≡ (serial_answer as_asked (map string_bytes words.now) text).status }
     ensures read_fault { result.status ≡ 3 → Rose (S.faults source.old) (S.faults source.new) }
+    ensures no_read_fault { result.status ≢ 3 → S.faults source.new ≡ S.faults source.old }
     ensures write_fault { result.status ≡ 4 → Rose (K.faults out.old) (K.faults out.new) }
+    ensures no_write_fault { result.status ≢ 4 → K.faults out.new ≡ K.faults out.old }
 
-    // No byte is read where the matrix is generated, nor at 2; at 0, 1, 4, 5 and 6 the text was read whole, or to one byte past its limit.
-    ensures unread { reads (command_of (map string_bytes words.now)) ≡ false → S.left source.new ≡ S.left source.old }
+    // The source is as it was where the matrix is generated, and at 2; else at 0, 1, 4, 5 and 6 the text was read whole, or to one byte
+    // past its limit.
+    ensures unread { reads (command_of (map string_bytes words.now)) ≡ false → source.new ≡ source.old }
     ensures read_whole { (text : List ℕ) → S.left source.old ≡ Some text
         → reads (command_of (map string_bytes words.now)) ≡ true
         → result.status ≢ 3 → result.status ≢ 7 → S.left source.new ≡ Some (drop 16_777_217 text) }
 
-    // At 0 and 1 out has taken the answer, at 4 a front of it, and else nothing; what it held stays, so at 4 it has what it held and then a front
-    // of the answer.
+    // At 0 and 1 out has taken the answer, at 4 a front of it, and else it is as it was; what it held stays, so at 4 it has what it held
+    // and then a front of the answer.
     ensures answer { (text : List ℕ) → Told (command_of (map string_bytes words.now)) (S.left source.old) text
         → (result.status ≡ 0) ⊎ (result.status ≡ 1)
         → Wrote as_asked (command_of (map string_bytes words.now)) text
@@ -71,9 +74,9 @@ pub fn run<R: Threads + Wait + Sync, S: Source, K: Sink, E: Sink, G: Gate + Sync
         → Wrote as_asked (command_of (map string_bytes words.now)) text
         (λ bytes. IsFront (K.taken out.new) (after (K.taken out.old) bytes)) }
     ensures held { IsFront (K.taken out.old) (K.taken out.new) }
-    ensures no_answer { result.status ≢ 0 → result.status ≢ 1 → result.status ≢ 4 → K.taken out.new ≡ K.taken out.old }
+    ensures no_answer { result.status ≢ 0 → result.status ≢ 1 → result.status ≢ 4 → out.new ≡ out.old }
 
-    // What is said on err is whole unless its own faults rose; the text matters at 5 and 6 alone.
+    // What is said on err is whole unless its own faults rose; the text matters at 5 and 6 alone. At 0 and 1 it is as it was.
     ensures said { (text : List ℕ) → ((result.status ≡ 5) ⊎ (result.status ≡ 6)
         → Told (command_of (map string_bytes words.now)) (S.left source.old) text)
         → ¬ Rose (E.faults err.old) (E.faults err.new)
@@ -84,7 +87,7 @@ pub fn run<R: Threads + Wait + Sync, S: Source, K: Sink, E: Sink, G: Gate + Sync
         → IsFront (E.taken err.new) (after (E.taken err.old)
         (said result.status (serial_answer as_asked (map string_bytes words.now) text))) }
     ensures said_held { IsFront (E.taken err.old) (E.taken err.new) }
-    ensures silent { (result.status ≡ 0) ⊎ (result.status ≡ 1) → E.taken err.new ≡ E.taken err.old }
+    ensures silent { (result.status ≡ 0) ⊎ (result.status ≡ 1) → err.new ≡ err.old }
 
     // At 0, 1 and 4 the rounds tell the canonical run of the application's programs for its matrix or lines, and for ig over biconvey that
     // of the sums and then the queries and the replies, over banks of the grid, the capacity and the slots that the words name: plain
@@ -113,23 +116,26 @@ pub fn run_serial<S: Source, K: Sink, E: Sink, L: Ledger>(
     err: &mut E,
     steps: &mut Steps<L>,
 ) -> Outcome
-    // The status is the serial answer's; a fault has its cause outside, and want of memory is free.
+    // The status is the serial answer's; 3 and 4 come where a read or a write failed, and only there; want of memory is free.
     ensures usage { result.status ≡ 2 → command_of (map string_bytes words.now) ≡ None }
     ensures no_command { command_of (map string_bytes words.now) ≡ None → result.status ≢ 7 → result.status ≡ 2 }
     ensures status { (text : List ℕ) → Told (command_of (map string_bytes words.now)) (S.left source.old) text
         → result.status ≢ 3 → result.status ≢ 4 → result.status ≢ 7
         → result.status ≡ (serial_answer on_one_thread (map string_bytes words.now) text).status }
     ensures read_fault { result.status ≡ 3 → Rose (S.faults source.old) (S.faults source.new) }
+    ensures no_read_fault { result.status ≢ 3 → S.faults source.new ≡ S.faults source.old }
     ensures write_fault { result.status ≡ 4 → Rose (K.faults out.old) (K.faults out.new) }
+    ensures no_write_fault { result.status ≢ 4 → K.faults out.new ≡ K.faults out.old }
 
-    // No byte is read where the matrix is generated, nor at 2; at 0, 1, 4, 5 and 6 the text was read whole, or to one byte past its limit.
-    ensures unread { reads (command_of (map string_bytes words.now)) ≡ false → S.left source.new ≡ S.left source.old }
+    // The source is as it was where the matrix is generated, and at 2; else at 0, 1, 4, 5 and 6 the text was read whole, or to one byte
+    // past its limit.
+    ensures unread { reads (command_of (map string_bytes words.now)) ≡ false → source.new ≡ source.old }
     ensures read_whole { (text : List ℕ) → S.left source.old ≡ Some text
         → reads (command_of (map string_bytes words.now)) ≡ true
         → result.status ≢ 3 → result.status ≢ 7 → S.left source.new ≡ Some (drop 16_777_217 text) }
 
-    // At 0 and 1 out has taken the answer, at 4 a front of it, and else nothing; what it held stays, so at 4 it has what it held and then a front
-    // of the answer.
+    // At 0 and 1 out has taken the answer, at 4 a front of it, and else it is as it was; what it held stays, so at 4 it has what it held
+    // and then a front of the answer.
     ensures answer { (text : List ℕ) → Told (command_of (map string_bytes words.now)) (S.left source.old) text
         → (result.status ≡ 0) ⊎ (result.status ≡ 1)
         → Wrote on_one_thread (command_of (map string_bytes words.now)) text
@@ -139,9 +145,9 @@ pub fn run_serial<S: Source, K: Sink, E: Sink, L: Ledger>(
         → Wrote on_one_thread (command_of (map string_bytes words.now)) text
         (λ bytes. IsFront (K.taken out.new) (after (K.taken out.old) bytes)) }
     ensures held { IsFront (K.taken out.old) (K.taken out.new) }
-    ensures no_answer { result.status ≢ 0 → result.status ≢ 1 → result.status ≢ 4 → K.taken out.new ≡ K.taken out.old }
+    ensures no_answer { result.status ≢ 0 → result.status ≢ 1 → result.status ≢ 4 → out.new ≡ out.old }
 
-    // What is said on err is whole unless its own faults rose; the text matters at 5 and 6 alone.
+    // What is said on err is whole unless its own faults rose; the text matters at 5 and 6 alone. At 0 and 1 it is as it was.
     ensures said { (text : List ℕ) → ((result.status ≡ 5) ⊎ (result.status ≡ 6)
         → Told (command_of (map string_bytes words.now)) (S.left source.old) text)
         → ¬ Rose (E.faults err.old) (E.faults err.new)
@@ -152,7 +158,7 @@ pub fn run_serial<S: Source, K: Sink, E: Sink, L: Ledger>(
         → IsFront (E.taken err.new) (after (E.taken err.old)
         (said result.status (serial_answer on_one_thread (map string_bytes words.now) text))) }
     ensures said_held { IsFront (E.taken err.old) (E.taken err.new) }
-    ensures silent { (result.status ≡ 0) ⊎ (result.status ≡ 1) → E.taken err.new ≡ E.taken err.old }
+    ensures silent { (result.status ≡ 0) ⊎ (result.status ≡ 1) → err.new ≡ err.old }
 
     // At 0, 1 and 4 the rounds tell the canonical run of the application's programs for its matrix or lines, and for ig over biconvey that
     // of the sums and then the queries and the replies, over plain banks of the grid, the capacity and the slots that the words name; else
@@ -185,7 +191,7 @@ fn outcome_of<E: Sink>(alloc: Global, answered: Result<Finish, Refusal>, err: &m
     ensures rounds { IfOk answered (λ f. result.rounds ≡ f.rounds) }
     ensures no_rounds { OnErr answered (result.rounds ≡ []) }
     ensures written { IfOk answered (λ f. OnOk f.written ((result.status ≡ f.status) × (result.status ≤ 1)
-        × (E.taken err.new ≡ E.taken err.old))) }
+        × (err.new ≡ err.old))) }
     ensures unwritten { IfOk answered (λ f. OnErr f.written ((result.status ≡ 4)
         × (¬ Rose (E.faults err.old) (E.faults err.new) → E.taken err.new
         ≡ after (E.taken err.old) (refusal_text Refusal.WriteFault))
@@ -227,9 +233,8 @@ fn answer<R: Threads + Wait + Sync, S: Source, K: Sink, G: Gate + Sync>(
     gate: &G,
 ) -> Result<Finish, Refusal>
     ensures low { IfOk result (λ f. f.status ≤ 1) }
-    ensures answered { Answered as_asked (command_of (map string_bytes words.now)) (S.left source.old)
-        (S.left source.new) (Rose (S.faults source.old) (S.faults source.new))
-        (K.taken out.old) (K.taken out.new) (Rose (K.faults out.old) (K.faults out.new)) result }
+    ensures answered { Answered as_asked (command_of (map string_bytes words.now))
+        S.left S.faults source.old source.new K.taken K.faults out.old out.new result }
 {
     match read_words(alloc, words) {
         Ok(command) => answer_of(rt, alloc, &command, source, out, gate),
@@ -248,9 +253,8 @@ fn answer_of<R: Threads + Wait + Sync, S: Source, K: Sink, G: Gate + Sync>(
 ) -> Result<Finish, Refusal>
     requires ranges { InRanges command.now }
     ensures low { IfOk result (λ f. f.status ≤ 1) }
-    ensures answered { Answered as_asked (Some command.now) (S.left source.old) (S.left source.new)
-        (Rose (S.faults source.old) (S.faults source.new))
-        (K.taken out.old) (K.taken out.new) (Rose (K.faults out.old) (K.faults out.new)) result }
+    ensures answered { Answered as_asked (Some command.now) S.left S.faults source.old source.new
+        K.taken K.faults out.old out.new result }
 {
     let serial = drives_serially(command);
     match subject_for(alloc, command, source, serial) {
@@ -268,9 +272,8 @@ fn answer_serially<S: Source, K: Sink, L: Ledger>(
     steps: &mut Steps<L>,
 ) -> Result<Finish, Refusal>
     ensures low { IfOk result (λ f. f.status ≤ 1) }
-    ensures answered { Answered on_one_thread (command_of (map string_bytes words.now)) (S.left source.old)
-        (S.left source.new) (Rose (S.faults source.old) (S.faults source.new))
-        (K.taken out.old) (K.taken out.new) (Rose (K.faults out.old) (K.faults out.new)) result }
+    ensures answered { Answered on_one_thread (command_of (map string_bytes words.now))
+        S.left S.faults source.old source.new K.taken K.faults out.old out.new result }
     ensures steps { (text : List ℕ) (c : Command) (s : Subject)
         → Asked on_one_thread (S.left source.old) (command_of (map string_bytes words.now)) text c s
         → TurnsOfCommand c s steps.old steps.new }
@@ -295,9 +298,8 @@ fn answer_of_serially<S: Source, K: Sink, L: Ledger>(
 ) -> Result<Finish, Refusal>
     requires ranges { InRanges command.now }
     ensures low { IfOk result (λ f. f.status ≤ 1) }
-    ensures answered { Answered on_one_thread (Some command.now) (S.left source.old) (S.left source.new)
-        (Rose (S.faults source.old) (S.faults source.new))
-        (K.taken out.old) (K.taken out.new) (Rose (K.faults out.old) (K.faults out.new)) result }
+    ensures answered { Answered on_one_thread (Some command.now) S.left S.faults source.old source.new
+        K.taken K.faults out.old out.new result }
     ensures steps { (text : List ℕ) (c : Command) (s : Subject)
         → Asked on_one_thread (S.left source.old) (Some command.now) text c s
         → TurnsOfCommand c s steps.old steps.new }

@@ -46,8 +46,8 @@ impl From<AllocError> for Unread {
 ///
 /// # Errors
 ///
-/// `Source` only where the source's faults rose in this call; `Bad` exactly as of [`parse_matrix`]; want of
-/// memory may come at any time.
+/// `Source` where a read failed, and only there, as the source's faults tell; `Bad` exactly as of
+/// [`parse_matrix`]; want of memory may come at any time.
 pub fn read_matrix<S: Source>(alloc: Global, source: &mut S) -> Result<Matrix, ReadFault>
     ensures gives { (text : List ℕ) → S.left source.old ≡ Some text → ReadGives result (matrix_of text) }
     ensures left { (text : List ℕ) → S.left source.old ≡ Some text

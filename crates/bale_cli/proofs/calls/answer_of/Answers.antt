@@ -6,7 +6,7 @@ use Rattle.bale_subjects.specs.declared.unfit.Unfit.{Unfit}
 use Rattle.bale_subjects.specs.Reading.{Told}
 use Rattle.bale_subjects.specs.Subjects.{subject_asked}
 use Rattle.bale_subjects.specs.Fitness.{unfitness}
-use Rattle.bale_cli.proofs.Answering.{subject_refused, ran_answered}
+use Rattle.bale_cli.proofs.Answering.{subject_refused, ran_answered, same_Err}
 use Rattle.bale_cli.proofs.calls.answer_of.Goals as goal
 
 pub ran-requires-clause-fits : goal.ran-requires-clause-fits
@@ -15,12 +15,13 @@ ran-requires-clause-fits g c κs within = subst (λ (b : Bool). unfitness c.args
 pub returns-in-Ok-clause-answered : goal.returns-in-Ok-clause-answered
 returns-in-Ok-clause-answered g c =
     ran_answered c.ran.result c.args.command.now c.in-Ok.subject c.in-Ok.ensures.subject
-    (subst (λ (b : Bool). unfitness c.args.command.now c.in-Ok.subject b ≡ None) c.drives_serially-serial.ensures c.in-Ok.ensures.fits) c.subject_for.ensures.unread
-    c.in-Ok.ensures.read_whole c.ran.ensures.status c.ran.ensures.answer c.ran.ensures.cause c.ran.ensures.held c.ran.ensures.no_answer c.ran.ensures.memory c.ran.ensures.rounds
+    (subst (λ (b : Bool). unfitness c.args.command.now c.in-Ok.subject b ≡ None) c.drives_serially-serial.ensures c.in-Ok.ensures.fits) (c.in-Ok.ensures.no_fault (λ e. cc)) c.subject_for.ensures.unread
+    c.in-Ok.ensures.read_whole c.ran.ensures.status c.ran.ensures.answer c.ran.ensures.cause c.ran.ensures.no_fault c.ran.ensures.held c.ran.ensures.no_answer c.ran.ensures.memory c.ran.ensures.rounds
 
 pub returns-in-Err-clause-answered : goal.returns-in-Err-clause-answered
 returns-in-Err-clause-answered g c =
     subject_refused c.args.command.now c.in-Err.refusal (λ e. c.in-Err.ensures.read_fault (ap (λ (r : Refusal). Err r) e))
+    (λ other. c.in-Err.ensures.no_fault (λ e. other (same_Err c.in-Err.refusal refusal.ReadFault e)))
     (λ text b told e. c.in-Err.ensures.bad text b told (ap (λ (r : Refusal). Err r) e))
     (subst (λ (s : Bool). (text : List ℕ) (u : Unfit) → Told (Some c.args.command.now) (g.S.Source.left c.args.source.now) text → c.in-Err.refusal ≡ refusal.Unfit u
     → (x : Subject) × (subject_asked c.args.command.now text ≡ Ok x) × (unfitness c.args.command.now x s ≡ Some u)) c.drives_serially-serial.ensures

@@ -2,15 +2,16 @@ use Rattle.std.proofs.Common.{Err, refl, ap, subst}
 use Rattle.bale_subjects.specs.declared.subject.Subject.{Subject}
 use Rattle.bale_words.specs.declared.command.Command.{Command}
 use Rattle.bale_subjects.specs.declared.refusal.Refusal.{Refusal}
+use Rattle.bale_subjects.specs.declared.refusal.Refusal.TheVariants as refusal
 use Rattle.bale_runs.specs.Asking.{TurnsOfCommand}
-use Rattle.bale_cli.proofs.Answering.{subject_refused, memory_only, ran_answered, same_asked}
+use Rattle.bale_cli.proofs.Answering.{subject_refused, memory_only, ran_answered, same_asked, same_Err}
 use Rattle.bale_runs.proofs.Heard.{no_turns}
 use Rattle.bale_cli.proofs.calls.answer_of_serially.Goals as goal
 
 pub returns-in-Ok-clause-answered : goal.returns-in-Ok-clause-answered
 returns-in-Ok-clause-answered g c =
-    ran_answered c.ran_serially.result c.args.command.now c.in-Ok.subject c.in-Ok.ensures.subject c.in-Ok.ensures.fits c.subject_for.ensures.unread c.in-Ok.ensures.read_whole
-    c.ran_serially.ensures.status c.ran_serially.ensures.answer c.ran_serially.ensures.cause c.ran_serially.ensures.held c.ran_serially.ensures.no_answer
+    ran_answered c.ran_serially.result c.args.command.now c.in-Ok.subject c.in-Ok.ensures.subject c.in-Ok.ensures.fits (c.in-Ok.ensures.no_fault (λ e. cc)) c.subject_for.ensures.unread c.in-Ok.ensures.read_whole
+    c.ran_serially.ensures.status c.ran_serially.ensures.answer c.ran_serially.ensures.cause c.ran_serially.ensures.no_fault c.ran_serially.ensures.held c.ran_serially.ensures.no_answer
     c.ran_serially.ensures.memory c.ran_serially.ensures.rounds
 
 pub returns-in-Ok-clause-steps : goal.returns-in-Ok-clause-steps
@@ -30,6 +31,7 @@ returns-in-Ok-clause-no_turns g c = memory_only _ c.ran_serially.result c.ran_se
 pub returns-in-Err-clause-answered : goal.returns-in-Err-clause-answered
 returns-in-Err-clause-answered g c =
     subject_refused c.args.command.now c.in-Err.refusal (λ e. c.in-Err.ensures.read_fault (ap (λ (r : Refusal). Err r) e))
+    (λ other. c.in-Err.ensures.no_fault (λ e. other (same_Err c.in-Err.refusal refusal.ReadFault e)))
     (λ text b told e. c.in-Err.ensures.bad text b told (ap (λ (r : Refusal). Err r) e)) (λ text u told e. c.in-Err.ensures.unfit text u told (ap (λ (r : Refusal). Err r) e))
     c.in-Err.ensures.kinds c.subject_for.ensures.unread c.in-Err.ensures.read_bad refl
 

@@ -1,16 +1,14 @@
-use Rattle.bale_types.specs.Stream.{Rose}
 use Rattle.rank_group.specs.declared.closed_round.ClosedRound.{ClosedRound}
 use Rattle.bale_cli.specs.Outcomes.{IsOutcome}
 use Rattle.bale_runs.specs.Asking.{TellsCommand}
 use Rattle.std.proofs.Common.{List, true}
-use Rattle.bale_cli.proofs.Outcomes.{usage, no_command, same_status, read_fault, write_fault, read_whole, answer, front, no_answer, said_whole, said_front, silent, rounds_told, no_rounds, refusal_only}
+use Rattle.bale_cli.proofs.Outcomes.{usage, no_command, same_status, read_fault, no_read_fault, write_fault, no_write_fault, read_whole, answer, front, no_answer, said_whole, said_front, silent, rounds_told, no_rounds, refusal_only}
 use Rattle.bale_cli.proofs.calls.run_serial.Given.{Over}
 use Rattle.bale_cli.proofs.calls.run_serial.Goals.{After-outcome_of}
 use Rattle.bale_cli.proofs.calls.run_serial.Goals as goal
 
 -- how the answer is told
-told : (g : Over) (c : After-outcome_of g) → IsOutcome c.answer_serially-answered.result (g.E.Sink.taken c.args.err.now) (g.E.Sink.taken c.outcome_of.new.err)
-    (Rose (g.E.Sink.faults c.args.err.now) (g.E.Sink.faults c.outcome_of.new.err)) c.outcome_of.result.status c.outcome_of.result.rounds
+told : (g : Over) (c : After-outcome_of g) → IsOutcome c.answer_serially-answered.result g.E.Sink.taken g.E.Sink.faults c.args.err.now c.outcome_of.new.err c.outcome_of.result.status c.outcome_of.result.rounds
 told g c =
     record {
       told = c.outcome_of.ensures.rounds;
@@ -33,8 +31,14 @@ returns-clause-status g c = same_status c.answer_serially-answered.result c.answ
 pub returns-clause-read_fault : goal.returns-clause-read_fault
 returns-clause-read_fault g c = read_fault c.answer_serially-answered.result c.answer_serially-answered.ensures.answered (told g c)
 
+pub returns-clause-no_read_fault : goal.returns-clause-no_read_fault
+returns-clause-no_read_fault g c = no_read_fault c.answer_serially-answered.result c.answer_serially-answered.ensures.answered (told g c)
+
 pub returns-clause-write_fault : goal.returns-clause-write_fault
 returns-clause-write_fault g c = write_fault c.answer_serially-answered.result c.answer_serially-answered.ensures.answered (told g c)
+
+pub returns-clause-no_write_fault : goal.returns-clause-no_write_fault
+returns-clause-no_write_fault g c = no_write_fault c.answer_serially-answered.result c.answer_serially-answered.ensures.answered (told g c)
 
 pub returns-clause-read_whole : goal.returns-clause-read_whole
 returns-clause-read_whole g c = read_whole c.answer_serially-answered.result c.answer_serially-answered.ensures.answered (told g c)

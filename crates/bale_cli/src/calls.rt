@@ -76,7 +76,7 @@ pub fn run<R: Threads + Wait + Sync, S: Source, K: Sink, E: Sink, G: Gate + Sync
     ensures held { IsFront (K.taken out.old) (K.taken out.new) }
     ensures no_answer { result.status ≢ 0 → result.status ≢ 1 → result.status ≢ 4 → out.new ≡ out.old }
 
-    // What is said on err is whole unless its own faults rose; the text matters at 5 and 6 alone. At 0 and 1 it is as it was.
+    // What is said on err is whole unless its own faults rose; the text matters at 5 and 6 alone. At 0 and 1 err is as it was.
     ensures said { (text : List ℕ) → ((result.status ≡ 5) ⊎ (result.status ≡ 6)
         → Told (command_of (map string_bytes words.now)) (S.left source.old) text)
         → ¬ Rose (E.faults err.old) (E.faults err.new)
@@ -147,7 +147,7 @@ pub fn run_serial<S: Source, K: Sink, E: Sink, L: Ledger>(
     ensures held { IsFront (K.taken out.old) (K.taken out.new) }
     ensures no_answer { result.status ≢ 0 → result.status ≢ 1 → result.status ≢ 4 → out.new ≡ out.old }
 
-    // What is said on err is whole unless its own faults rose; the text matters at 5 and 6 alone. At 0 and 1 it is as it was.
+    // What is said on err is whole unless its own faults rose; the text matters at 5 and 6 alone. At 0 and 1 err is as it was.
     ensures said { (text : List ℕ) → ((result.status ≡ 5) ⊎ (result.status ≡ 6)
         → Told (command_of (map string_bytes words.now)) (S.left source.old) text)
         → ¬ Rose (E.faults err.old) (E.faults err.new)

@@ -86,13 +86,10 @@ pub tells_asking : (m : Sparse) (made : Made) (steady : Bool) (rounds first othe
 tells_asking m made steady rounds first others t x e =
     record {
       sums = t.closed;
-      queries = x.queries;
-      replies = x.replies;
-      three = e ∙ (ap (λ (rs : List ClosedRound). rs ++ others) t.only ∙ ap (λ (rs : List ClosedRound). t.closed ∷ rs) x.two);
+      rest = others;
+      first = e ∙ ap (λ (rs : List ClosedRound). rs ++ others) t.only;
       summed = subst (λ (rs : List ClosedRound). Tells sums_rules (sums_starts (ranks made.dims) m) made (manner_of via.Convey steady) rs) t.only t;
-      askers = x.askers;
-      are = x.are;
-      exchanged = x.exchanged;
+      replied = x;
     }
 
 -- ---- The turns

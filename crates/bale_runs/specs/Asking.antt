@@ -20,19 +20,7 @@ use Rattle.bale_subjects.specs.declared.subject.Subject.TheVariants as subject
 use Rattle.bale_runs.specs.Jobs.{by_asking, manner_for}
 use Rattle.bale_runs.specs.Runs.{made_for, Tells, TellsTask, TurnsOfTask}
 
--- The rounds of ig by queries and replies are three closed rounds. The first tells the one round on conveyors in which the columns
--- are summed. The others tell the queries, of each entry's rank for its column, and the replies, over two more banks of the same make.
-pub record TellsAsking (m : Sparse) (made : Made) (steady : Bool) (rounds : List ClosedRound) : Type 0 where
-  pub sums : ClosedRound
-  pub queries : ClosedRound
-  pub replies : ClosedRound
-  pub three : rounds ≡ sums ∷ queries ∷ replies ∷ []
-  pub summed : Tells sums_rules (sums_starts (ranks made.dims) m) made (manner_of via.Convey steady) (sums ∷ [])
-  pub askers : List AskingState
-  pub are : AreAskersOf m (ranks made.dims) askers
-  pub exchanged : TellsExchange ig_talk askers made steady (round_of queries) (round_of replies)
-
--- The second and third of them alone: the queries and the replies.
+-- Two closed rounds tell the queries, of each entry's rank for its column, and the replies, over two banks of one make.
 pub record TellsReplies (m : Sparse) (made : Made) (steady : Bool) (rounds : List ClosedRound) : Type 0 where
   pub queries : ClosedRound
   pub replies : ClosedRound
@@ -40,6 +28,15 @@ pub record TellsReplies (m : Sparse) (made : Made) (steady : Bool) (rounds : Lis
   pub askers : List AskingState
   pub are : AreAskersOf m (ranks made.dims) askers
   pub exchanged : TellsExchange ig_talk askers made steady (round_of queries) (round_of replies)
+
+-- The rounds of ig by queries and replies are three. The first tells the one round on conveyors in which the columns are summed, over a
+-- bank of the same make, and the rest the queries and the replies.
+pub record TellsAsking (m : Sparse) (made : Made) (steady : Bool) (rounds : List ClosedRound) : Type 0 where
+  pub sums : ClosedRound
+  pub rest : List ClosedRound
+  pub first : rounds ≡ sums ∷ rest
+  pub summed : Tells sums_rules (sums_starts (ranks made.dims) m) made (manner_of via.Convey steady) (sums ∷ [])
+  pub replied : TellsReplies m made steady rest
 
 -- From `before` turns to `after` there are no more than the round of sums takes at most, and an exchange of one query an entry.
 abbrev pub TurnsOfAsking : Sparse → Bool → List ℕ → ℕ → ℕ → Type 0

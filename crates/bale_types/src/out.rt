@@ -5,7 +5,7 @@
 //! and the rest still waits in the buffer: no byte is forgotten, so that a flush that answers Ok has
 //! handed on all of them, whatever failed before it. What a sink took stays taken. Nothing here takes
 //! memory.
-ghost use Rattle.std.specs.Prelude.{◌≡◌, ◌+◌, ◌<◌, ◌≤◌, [], ◌∷◌, length, take, IfOk, OnOk, OnErr, IsOk};
+ghost use Rattle.std.specs.Prelude.{◌≡◌, ◌+◌, ◌%◌, ◌<◌, ◌≤◌, [], ◌∷◌, length, take, IfOk, OnOk, OnErr, IsOk};
 ghost use Rattle.std.specs.Fmt.{signed_decimal};
 ghost use Rattle.bale_types.specs.Stream.{after, HasCause, IsFront};
 ghost use Rattle.bale_types.specs.declared.out.TheConstants.{BUFFER};
@@ -25,14 +25,14 @@ pub struct Out<'a, K> {
     sink: &'a mut K,
     /// The bytes that the sink doesn't have yet: the first `len`.
     buffer: [u8; BUFFER],
-    /// How many those are; a buffer that becomes full is handed over at once, and is still full
-    /// only where that failed.
+    /// How many those are; a buffer that becomes full is handed over whole and at once, and is still
+    /// full only where that failed.
     len: usize,
     ghost within: { len ≤ BUFFER },
 }
 
 impl<'a, K: Sink> Out<'a, K> {
-    ghost use Rattle.bale_types.specs.Out.{appended};
+    ghost use Rattle.bale_types.specs.Out.{appended, left_over};
 
     /// An empty buffer in front of `sink`.
     pub fn new(sink: &'a mut K) -> Out<'a, K>
@@ -65,7 +65,7 @@ impl<'a, K: Sink> Out<'a, K> {
         ensures never_falls { K.faults self.old.sink.now ≤ K.faults self.new.sink.now }
         ensures gathers { self.old.len + 1 < 4096 → self.new.sink.now ≡ self.old.sink.now }
         ensures no_failure { self.old.len + 1 < 4096 → IsOk result }
-        ensures handed { self.old.len < 4096 → OnOk result (self.new.len < 4096) }
+        ensures waits { OnOk result (self.new.len ≡ left_over self.old.len 1) }
         ensures grows { IsFront (K.taken self.old.sink.now) (K.taken self.new.sink.now) }
         ensures same_sink { self.new.sink.ghost_name ≡ self.old.sink.ghost_name }
     {
@@ -88,7 +88,7 @@ impl<'a, K: Sink> Out<'a, K> {
         ensures never_falls { K.faults self.old.sink.now ≤ K.faults self.new.sink.now }
         ensures gathers { self.old.len + length t.now < 4096 → self.new.sink.now ≡ self.old.sink.now }
         ensures no_failure { self.old.len + length t.now < 4096 → IsOk result }
-        ensures handed { self.old.len < 4096 → OnOk result (self.new.len < 4096) }
+        ensures waits { OnOk result (self.new.len ≡ left_over self.old.len (length t.now)) }
         ensures grows { IsFront (K.taken self.old.sink.now) (K.taken self.new.sink.now) }
         ensures same_sink { self.new.sink.ghost_name ≡ self.old.sink.ghost_name }
     {
@@ -116,7 +116,7 @@ impl<'a, K: Sink> Out<'a, K> {
         ensures never_falls { K.faults self.old.sink.now ≤ K.faults self.new.sink.now }
         ensures gathers { self.old.len + length line.now < 4096 → self.new.sink.now ≡ self.old.sink.now }
         ensures no_failure { self.old.len + length line.now < 4096 → IsOk result }
-        ensures handed { self.old.len < 4096 → OnOk result (self.new.len < 4096) }
+        ensures waits { OnOk result (self.new.len ≡ left_over self.old.len (length line.now)) }
         ensures grows { IsFront (K.taken self.old.sink.now) (K.taken self.new.sink.now) }
         ensures same_sink { self.new.sink.ghost_name ≡ self.old.sink.ghost_name }
     {
@@ -146,7 +146,7 @@ impl<'a, K: Sink> Out<'a, K> {
         ensures gathers { self.old.len + length (signed_decimal n) < 4096
             → self.new.sink.now ≡ self.old.sink.now }
         ensures no_failure { self.old.len + length (signed_decimal n) < 4096 → IsOk result }
-        ensures handed { self.old.len < 4096 → OnOk result (self.new.len < 4096) }
+        ensures waits { OnOk result (self.new.len ≡ left_over self.old.len (length (signed_decimal n))) }
         ensures grows { IsFront (K.taken self.old.sink.now) (K.taken self.new.sink.now) }
         ensures same_sink { self.new.sink.ghost_name ≡ self.old.sink.ghost_name }
     {
@@ -195,9 +195,7 @@ impl<'a, K: Sink> Out<'a, K> {
         ensures never_falls { K.faults self.old.sink.now ≤ K.faults self.new.sink.now }
         ensures gathers { IfOk result (λ count.
             self.old.len + count < BUFFER → self.new.sink.now ≡ self.old.sink.now) }
-        ensures len { IfOk result (λ count.
-            self.old.len + count < BUFFER → self.new.len ≡ self.old.len + count) }
-        ensures handed { OnOk result (self.new.len < BUFFER) }
+        ensures waits { IfOk result (λ count. self.new.len ≡ (self.old.len + count) % BUFFER) }
         ensures full { OnErr result (BUFFER ≤ self.old.len + length t.now) }
         ensures grows { IsFront (K.taken self.old.sink.now) (K.taken self.new.sink.now) }
         ensures same_sink { self.new.sink.ghost_name ≡ self.old.sink.ghost_name }
@@ -212,7 +210,7 @@ impl<'a, K: Sink> Out<'a, K> {
     /// Hands a full buffer to the sink.
     fn flush_if_full(&mut self) -> Result<(), Failed>
         ensures kept { appended K.taken self.new ≡ appended K.taken self.old }
-        ensures handed { OnOk result (self.new.len < BUFFER) }
+        ensures handed { OnOk result (self.new.len ≡ self.old.len % BUFFER) }
         ensures gathers { self.old.len < BUFFER → self.new ≡ self.old }
         ensures full { OnErr result (self.old.len ≡ BUFFER) }
         ensures cause { HasCause (K.faults self.old.sink.now) (K.faults self.new.sink.now) result }

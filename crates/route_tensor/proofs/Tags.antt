@@ -4,6 +4,7 @@ use Rattle.std.proofs.lemmas.Bool.{cases_lt, cases_order, cases_eq, lt-ltb, le-l
 use Rattle.bale_types.specs.declared.item.Tag.{Tag}
 use Rattle.route_tensor.specs.Grid.{ranks, dim, coord, place, IsGrid}
 use Rattle.route_tensor.specs.Link.{IsLink, IsOnRoute}
+use Rattle.route_tensor.specs.Pair.{TagsLaw}
 use Rattle.route_tensor.specs.Tag.{digit, with_digit, IsFair, tag_digit, tag_at, next_tag, rank_of, tag_rank, sender_of, destination_of}
 use Rattle.route_tensor.proofs.Coordinates.{Positive, first-positive, rest-positive, low_digit, high_digits, digits_below, coord-zero, coord_past, coord_below, place_below, coord-place_low, coord-place_high, same_rank, ranks_some}
 use Rattle.route_tensor.proofs.Places.{coord-place, route_link, place_link, place-zero, place-all}
@@ -247,6 +248,15 @@ next_digit dims s d h a b g r l i =
 pub next_tag-tag_at : (dims : List ℕ) (s d h a b : ℕ) → IsGrid dims → IsOnRoute dims s d h a b → h < length dims → next_tag dims (tag_at dims s d h) h a ≡ tag_at dims s d (h + 1)
 next_tag-tag_at dims s d h a b g r l =
     same_tag _ (tag_at dims s d (h + 1)) (λ i. next_digit dims s d h a b g r l i ∙ sym (digit-tag_at dims s d (h + 1) i g.few))
+
+-- so its tags name a pair on each link of its route
+pub named_on_route : TagsLaw
+named_on_route dims s d h a b grid route = record {
+  fair = tag_at_fair dims s d h grid;
+  sender = sender-tag_at dims s d h a b grid route;
+  destination = destination-tag_at dims s d h a b grid route;
+  next = λ more. next_tag-tag_at dims s d h a b grid route more;
+}
 
 -- it is fair there
 pub next_tag_fair : (dims : List ℕ) (h a b : ℕ) (tag : Tag) → IsGrid dims → IsLink dims h a b → IsFair dims h tag → h < length dims → IsFair dims (h + 1) (next_tag dims tag h a)

@@ -12,6 +12,7 @@
 //! | `link`, `ends` | the number of a link; the hop and the two ranks of a number |
 //! | `tag_first`, `tag_next` | the tag of an entry on its first and on its next link |
 //! | `pair_of` | the sender and the destination of an entry, by its tag and link |
+//! | `tags_law` | nothing: it tells that a pair's tag is fair and names the pair on each link of its route |
 //! | `Routes` | what one rank looks up for each entry: its neighbours, first steps, next steps, senders |
 //!
 //! The definitions, in the order in which to read them: `Grid` (ranks and coordinates), `Link` and `Ends` (links and their numbers),
@@ -19,9 +20,11 @@
 #![tactic(auto)]
 
 mod grid;
+mod law;
 mod link;
 mod routes;
 mod tag;
 
 pub use grid::{Grid, GridError};
+pub use law::tags_law;
 pub use routes::{Neighbour, Onward, Routes};

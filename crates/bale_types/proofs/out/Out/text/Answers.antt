@@ -3,6 +3,7 @@ use Rattle.std.proofs.lemmas.Grind.{common_steps}
 use Rattle.bale_types.specs.Out.{appended}
 use Rattle.bale_types.specs.Stream.{after, IsFront}
 use Rattle.bale_types.proofs.Moves.{moved_on, part_of_rest, front_held, front_of_front, on_err_any}
+use Rattle.bale_types.proofs.Waiting.{short_of, waits_on}
 use Rattle.bale_types.proofs.out.Out.text.Goals as goal
 
 pub loop-at-preserved : goal.loop-at-preserved
@@ -10,22 +11,16 @@ loop-at-preserved g c =
     let taken = g.K.Sink.taken in
     let all = appended g.K.Sink.taken in
     let bound : c.in_ok-at.field-0 ≤ length c.args.t.now - c.loop-at.at = grind (arith, common_steps) in
-    let below : c.fill.new.self.len < 4096 = search rules in
     record {
       within = omega arith;
       bytes = moved_on (all c.fill.new.self) (all c.loop-at.self) (all c.args.self.now) c.args.t.now c.loop-at.at (length c.args.t.now) c.in_ok-at.field-0
           c.in_ok-at.ensures.ok c.loop-at.invariant.bytes bound;
       no_fault = search rules;
       gathers = λ (short : c.args.self.now.len + length c.args.t.now < 4096).
-          let here = c.loop-at.invariant.len short in
+          let here = short_of c.args.self.now.len c.loop-at.self.len c.loop-at.at (length c.args.t.now) c.loop-at.invariant.waits c.loop-at.invariant.within short in
           let below : c.loop-at.self.len + c.in_ok-at.field-0 < 4096 = omega arith in
           c.in_ok-at.ensures.gathers below ∙ c.loop-at.invariant.gathers short;
-      len = λ (short : c.args.self.now.len + length c.args.t.now < 4096).
-          let here = c.loop-at.invariant.len short in
-          let below : c.loop-at.self.len + c.in_ok-at.field-0 < 4096 = omega arith in
-          let more = c.in_ok-at.ensures.len below in
-          omega arith;
-      handed = λ _. below;
+      waits = waits_on c.args.self.now.len c.loop-at.self.len c.loop-at.at c.in_ok-at.field-0 c.fill.new.self.len c.loop-at.invariant.waits c.in_ok-at.ensures.some c.in_ok-at.ensures.waits;
       grows = front_of_front (taken c.args.self.now.sink.now) (taken c.loop-at.self.sink.now) (taken c.fill.new.self.sink.now) c.loop-at.invariant.grows c.fill.ensures.grows;
       same_sink = search rules;
     }
@@ -62,6 +57,6 @@ returns-in_err-at-clause-grows g c =
 -- where the buffer has room for the whole text, no write is made that could fail
 pub returns-in_err-at-clause-no_failure : goal.returns-in_err-at-clause-no_failure
 returns-in_err-at-clause-no_failure g c = λ (short : c.args.self.now.len + length c.args.t.now < 4096).
-    let here = c.loop-at.invariant.len short in
+    let here = short_of c.args.self.now.len c.loop-at.self.len c.loop-at.at (length c.args.t.now) c.loop-at.invariant.waits c.loop-at.invariant.within short in
     let full = c.in_err-at.ensures.full in
     absurd (grind (arith, common_steps, here, full))

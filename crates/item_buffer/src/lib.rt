@@ -1,8 +1,9 @@
 //! Parcels: what travels on a link from one rank to another.
 //!
 //! A rank pushes entries into a parcel until it is full, hands it over whole, and the rank at the other
-//! end takes them out in the same order. A parcel can hold `CAP` entries, carries the mark `last` and the
-//! number of its epoch, and takes no memory after `new`; moving it moves no entry.
+//! end takes them out in the same order. A parcel can hold `CAP` entries, and carries the mark `last` and the
+//! number of its epoch. Its entries lie in a vector of fixed capacity behind a box, so that it takes no memory
+//! after `new`, and moving it moves no entry.
 //!
 //! | Call | Needs | Answer |
 //! |---|---|---|

@@ -2,6 +2,7 @@
 ghost use Rattle.std.specs.Prelude.{◌≡◌, ◌+◌, ◌-◌, ◌<◌, ◌≤◌, ◌==◌, [], ◌∷◌, ◌++◌, length, slice_get, IsSome, IfSome, IfNone, OnSome, IfOk, true, false};
 ghost use Rattle.item_buffer.specs.Contents.{Contents, blank, skipped};
 
+use arrayvec::ArrayVec;
 use bale_types::{Entry, NoMemory};
 use std::alloc::Global;
 use std::marker::Model;
@@ -10,11 +11,9 @@ use std::marker::Model;
 /// with two marks for their reader: whether the parcel is the last of its epoch, and the epoch.
 #[derive(Drop)]
 pub struct Parcel<const CAP: usize> {
-    /// `CAP` places, always full, so that a clear writes no place. A move of the parcel moves no entry.
-    places: Vec<Entry>,
-    /// How many of the places, from the first one on, hold an entry pushed since the last clear.
-    pushed: u16,
-    /// How many of those entries are taken.
+    /// All entries pushed since the last clear; a move of the parcel moves none of them.
+    entries: Box<ArrayVec<Entry, CAP>>,
+    /// How many of them, from the first one on, are taken.
     taken: u16,
     /// Whether the last entry that was taken may be put back.
     can_untake: bool,
@@ -25,20 +24,20 @@ pub struct Parcel<const CAP: usize> {
 }
 
 impl<const CAP: usize> Model for Parcel<CAP> {
-    ghost use Rattle.std.specs.Prelude.{◌≡◌, ◌-◌, ◌<◌, ◌≤◌, if◌then◌else◌, take, drop, length, slice_get, None, true};
+    ghost use Rattle.std.specs.Prelude.{◌≡◌, ◌-◌, ◌<◌, ◌≤◌, if◌then◌else◌, drop, length, slice_get, None, true};
     ghost use Rattle.item_buffer.specs.Contents.{Contents};
 
     ghost Value = { Contents };
 
     ghost view = { λ p. record {
-      untaken = drop p.taken (take p.pushed p.places.items);
+      untaken = drop p.taken p.entries.value.items;
       last = p.last;
       epoch = p.epoch;
-      back = (if p.can_untake then slice_get (take p.pushed p.places.items) (p.taken - 1) else None);
+      back = (if p.can_untake then slice_get p.entries.value.items (p.taken - 1) else None);
       taken = p.taken;
     } };
 
-    ghost invariant = { λ p. (CAP ≤ 1024) × (length p.places.items ≡ CAP) × (p.pushed ≤ CAP) × (p.taken ≤ p.pushed)
+    ghost invariant = { λ p. (CAP ≤ 1024) × (length p.entries.value.items ≤ CAP) × (p.taken ≤ length p.entries.value.items)
         × (p.can_untake ≡ true → 0 < p.taken) };
 }
 
@@ -49,11 +48,8 @@ impl<const CAP: usize> Parcel<CAP> {
         requires small { CAP ≤ 1024 }
         ensures { IfOk result (λ p. p ≡ blank 0) }
     {
-        let mut places = Vec::with_capacity(alloc, CAP + 2)?;
-        places.resize(CAP, Entry::default())?;
         Ok(Parcel {
-            places,
-            pushed: 0,
+            entries: Box::new(alloc, ArrayVec::new())?,
             taken: 0,
             can_untake: false,
             last: false,
@@ -70,12 +66,7 @@ impl<const CAP: usize> Parcel<CAP> {
         ensures unchanged { result ≡ false → self.new ≡ self.old }
         ensures full { result ≡ false → length self.old.untaken ≡ CAP }
     {
-        if self.pushed as usize == CAP {
-            return false;
-        }
-        self.places[self.pushed as usize] = entry;
-        self.pushed += 1;
-        true
+        self.entries.try_push(entry).is_ok()
     }
 
     /// The first untaken entry.
@@ -83,10 +74,7 @@ impl<const CAP: usize> Parcel<CAP> {
     pub fn head(&self) -> Option<Entry>
         ensures { result ≡ slice_get self.now.untaken 0 }
     {
-        if self.taken == self.pushed {
-            return None;
-        }
-        Some(self.places[self.taken as usize])
+        self.entries.as_slice().get(self.taken as usize).copied()
     }
 
     /// Takes the first untaken entry.
@@ -113,7 +101,7 @@ impl<const CAP: usize> Parcel<CAP> {
     pub fn untaken(&self) -> &[Entry]
         ensures { result.now ≡ self.now.untaken }
     {
-        &self.places[self.taken as usize..self.pushed as usize]
+        &self.entries.as_slice()[self.taken as usize..]
     }
 
     /// Takes the first `count` untaken entries, as so many calls of `take` would.
@@ -135,9 +123,9 @@ impl<const CAP: usize> Parcel<CAP> {
         requires room { length self.old.untaken + length entries.now ≤ CAP }
         ensures { self.new ≡ record self.old { untaken = self.old.untaken ++ entries.now } }
     {
-        let end = self.pushed as usize + entries.len();
-        self.places[self.pushed as usize..end].copy_from_slice(entries);
-        self.pushed = end as u16;
+        let Ok(()) = self.entries.try_extend_from_slice(entries) else {
+            unreachable!()
+        };
     }
 
     /// Puts the entry that the latest `take` or `skip` took last back in front of the untaken ones.
@@ -157,7 +145,7 @@ impl<const CAP: usize> Parcel<CAP> {
     pub fn clear(&mut self)
         ensures { self.new ≡ blank self.old.epoch }
     {
-        self.pushed = 0;
+        self.entries.clear();
         self.taken = 0;
         self.can_untake = false;
         self.last = false;
@@ -170,7 +158,7 @@ impl<const CAP: usize> Parcel<CAP> {
         ensures within { length self.now.untaken + self.now.taken ≤ CAP }
         ensures fresh { self.now.taken ≡ 0 → self.now.back ≡ None }
     {
-        u32::from(self.pushed - self.taken)
+        (self.entries.len() - self.taken as usize) as u32
     }
 
     /// Whether `CAP` entries are untaken.
@@ -178,7 +166,7 @@ impl<const CAP: usize> Parcel<CAP> {
     pub fn is_full(&self) -> bool
         ensures { result ≡ (length self.now.untaken == CAP) }
     {
-        (self.pushed - self.taken) as usize == CAP
+        self.entries.len() - self.taken as usize == CAP
     }
 
     /// Does nothing, and tells what holds of a parcel at every moment.

@@ -9,8 +9,17 @@ use Rattle.link_slots.specs.Wiring.{Wiring}
 use Rattle.link_slots.specs.Link.{LinkOk, BellOk}
 
 module _ {D T : Type 0} (Blank : T → Type 0) (Good : ℕ → List T → T → Type 0) (Law : ℕ → (ℕ → List T) → (ℕ → List T) → Type 0) (shape : D) (w : Wiring) where
-  -- There are lists of each rank, which stand in one seat's view, that of `owner`, and in no other (part v). Each link meets parts (i), (iv) and (vi)
-  -- by the lists of its sender and its reader, each rank's lists meet the relay law (parts ii and iii), and no doorbell has other bits.
+  -- The six parts, and the field that says each, for the lists of each rank (`logs`):
+  -- (i)   a link's reader took a front of what its sender posted, at most as many parcels are on their way as it has slots, and two words
+  --       count what was posted and taken; each parcel on its way, and each empty one, lies in its slot, but for those that the reader saw
+  --       or the sender may use, which are with these two (`each_link`; fresh parcels of the capacity: its `good`);
+  -- (ii)  tags are fair (`each_link`: `good`), and what a rank passed on is a front of what it got (`each_rank`);
+  -- (iii) a rank ended an epoch on a link only where it had got all of it, and had passed all of it on (`each_rank`);
+  -- (iv)  a parcel's epoch is the number of last ones before it on its link (`each_link`: `good`);
+  -- (v)   a rank's lists stand in the view of one seat, its owner, and in no other (`each_seat`, `owned`);
+  -- (vi)  where a link's bit isn't set and the link isn't marked, all that was offered is seen, and each look in answers one bit that was
+  --       heard (`each_bell`); a doorbell has no other bits (`no_other_bits`).
+  -- `wide` and `deep` say how many words and slots there are.
   pub record Lawful (s : State T (View D T)) : Type 0 where
     pub logs : ℕ → Logs T
     pub owner : ℕ → ℕ

@@ -13,5 +13,6 @@ pub mod Doorbell
 pub mod Seen
 pub mod Seat
 pub mod Closed
+pub mod Offered
 pub mod Gathering
 pub mod Does

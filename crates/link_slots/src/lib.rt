@@ -13,11 +13,12 @@
 //! | `SlotBank::port`, `SlotPort::into_seat` | the rank's port, by the trait of port_bank, and its seat back |
 //! | `SlotBank::gather` | the gathering seat knows what the rank sent and got |
 //! | `SlotBank::close` | a closed round, on which what each rank pulled is what the others pushed |
-//! | `live_law` | the laws of a closed round hold of a bank's lists at every moment |
+//! | `rule_law`, `live_law` | between any two steps the bank is lawful, and its lists keep the laws of a closed round |
+//! | `bell_law` | a collect that answers Nothing right after a hear has left no offered parcel |
 //! | `SlotRound::ranks`, `SlotRound::epochs` | the number of ranks; how many epochs every link has ended |
 //!
 //! The definitions, in the order in which to read them: `Logs` (what a rank knows of its links), `Shape` (grid and slots), `Seen` (a bank and
-//! a seat, as contracts see them), `Doorbell` (when a collect hears and looks), `Does` (a call on a port), `Closed` (a closed round) and
+//! a seat, as contracts see them), `Doorbell` (when a collect hears and looks), `Offered` (what Nothing says), `Does` (a call on a port), `Closed` (a closed round) and
 //! `Gathering` (a gathering seat, as contracts see it).
 //! `Wiring`, `View`, `Link`, `Bank`, `Told` and `Plays` are the rule of the table and its steps; the others are the code's own.
 #![tactic(auto)]
@@ -31,7 +32,7 @@ pub use port::SlotPort;
 pub use seat::SlotSeat;
 pub use slot_bank::SlotBank;
 pub use slot_bank::gather::GatherSeat;
-pub use slot_bank::live::live_law;
+pub use slot_bank::live::{bell_law, live_law, rule_law};
 pub use slot_bank::round::SlotRound;
 
 #[cfg(test)]

@@ -1,8 +1,32 @@
 //! What holds of a bank at every moment.
+ghost use Rattle.item_buffer.specs.Contents.{Contents};
+ghost use Rattle.atomic_table.specs.Table.{State};
+ghost use Rattle.link_slots.specs.Shape.{Shape};
+ghost use Rattle.link_slots.specs.Told.{Knowing, IsLawful};
 ghost use Rattle.link_slots.specs.Closed.{LiveLaw};
+ghost use Rattle.link_slots.specs.Offered.{BellLaw};
+
+use crate::table::plan::Plan;
+use crate::table::rule::Links;
+use crate::table::slot::Slot;
+use crate::table::view::Knows;
+use atomic_table::TableRule;
+
+/// Between any two steps, whichever threads make them, the bank is lawful: the rule that its table keeps, `Links`, says so in all six parts.
+/// This call tells it, and does nothing else.
+pub fn rule_law<const CAP: usize>()
+    ensures { (shape : Shape) (s : State Contents Knowing)
+        → ⟦<Links<CAP> as TableRule<Slot<CAP>, Knows, Plan>>⟧.holds shape s → IsLawful CAP shape s }
+{}
 
 /// The lists of a lawful bank keep the laws of a round at every moment, and not only when it is closed. This call tells it, and does
 /// nothing else.
 pub fn live_law<const CAP: usize>()
     ensures { LiveLaw CAP }
+{}
+
+/// Where a link's bit isn't set, as right after a hear of its doorbell, and a collect of it answered Nothing, each parcel that was offered
+/// is collected. This call tells it, and does nothing else.
+pub fn bell_law<const CAP: usize>()
+    ensures { BellLaw CAP }
 {}

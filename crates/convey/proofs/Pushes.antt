@@ -14,7 +14,7 @@ use Rattle.port_bank.specs.Flow.{hop_link}
 use Rattle.hop_core.specs.Link.{Out, no_out, no_in, with_entry}
 use Rattle.hop_core.specs.declared.phase.Phase.{Phase}
 use Rattle.hop_core.specs.declared.phase.Phase.TheVariants.{Dormant, Complete}
-use Rattle.hop_core.specs.State.{State, out_at, reopened, resumed}
+use Rattle.hop_core.specs.State.{State, out_at, reopened, resumed, with_pushed}
 use Rattle.hop_core.specs.Standing.{IsState}
 use Rattle.port_bank.specs.Machine.{IsOwnStep}
 use Rattle.port_bank.specs.Machine.Step.{Push, Reset, Idle}
@@ -32,12 +32,6 @@ use Rattle.convey.specs.Due.{IsOver}
 entry_of : State → ℕ → Item → Entry
 entry_of st to item = record { tag = tag_at st.dims st.rank to 1; item = item }
 
-abbrev pub pushed_state : State → ℕ → Item → State
-pushed_state st to item = record st {
-  outs = slice_set st.outs (coord st.dims to 1) (record (out_at st (coord st.dims to 1)) { parcel = with_entry (out_at st (coord st.dims to 1)).parcel (record { tag = tag_at st.dims st.rank to 1; item = item }) });
-  pulled = None;
-}
-
 module _ (st : State) (to : ℕ) (item : Item) (s : IsState st) (below : to < ranks st.dims) where
   toward : ℕ
   toward = hop_link st.dims st.rank to 1
@@ -51,42 +45,42 @@ module _ (st : State) (to : ℕ) (item : Item) (s : IsState st) (below : to < ra
       let n = out_number st.dims (hop_link st.dims st.rank to 1) s.grid f.below in
       subst (λ i. i < length st.outs) index (omega (arith, n.within, s.all_outs))
 
-  push_here : out_of (pushed_state st to item) (hop_link st.dims st.rank to 1) ≡ record (out_of st (hop_link st.dims st.rank to 1)) { parcel = with_entry (out_of st (hop_link st.dims st.rank to 1)).parcel (record { tag = tag_at st.dims st.rank to 1; item = item }) }
+  push_here : out_of (with_pushed item to st) (hop_link st.dims st.rank to 1) ≡ record (out_of st (hop_link st.dims st.rank to 1)) { parcel = with_entry (out_of st (hop_link st.dims st.rank to 1)).parcel (record { tag = tag_at st.dims st.rank to 1; item = item }) }
   push_here =
       let put : Out → Out = λ o. record o { parcel = with_entry o.parcel (record { tag = tag_at st.dims st.rank to 1; item = item }) } in
-      ap (λ i. slice_index_or (pushed_state st to item).outs i no_out) index
+      ap (λ i. slice_index_or (with_pushed item to st).outs i no_out) index
       ∙ (get_or-set_same st.outs (coord st.dims to 1) (put (out_at st (coord st.dims to 1))) no_out within
       ∙ ap (λ i. put (slice_index_or st.outs i no_out)) (sym index))
 
-  push_other : (m : ℕ) → m < links st.dims → sender_at st.dims m ≡ st.rank → m ≢ hop_link st.dims st.rank to 1 → out_of (pushed_state st to item) m ≡ out_of st m
+  push_other : (m : ℕ) → m < links st.dims → sender_at st.dims m ≡ st.rank → m ≢ hop_link st.dims st.rank to 1 → out_of (with_pushed item to st) m ≡ out_of st m
   push_other m h from ne =
       let f = first_link st.dims st.rank to s.grid s.rank below in
       let put : Out → Out = λ o. record o { parcel = with_entry o.parcel (record { tag = tag_at st.dims st.rank to 1; item = item }) } in
       get_or-set_other st.outs (coord st.dims to 1) (out_index st.dims m) (put (out_at st (coord st.dims to 1))) no_out
       (λ e. out_apart st.dims st.rank m (hop_link st.dims st.rank to 1) s.grid h f.below from f.sender ne (e ∙ sym index))
 
-  same_closed : (l : ℕ) → (buffers_of (pushed_state st to item)).closed l ≡ (buffers_of st).closed l
+  same_closed : (l : ℕ) → (buffers_of (with_pushed item to st)).closed l ≡ (buffers_of st).closed l
   same_closed l =
       let put : Out → Out = λ o. record o { parcel = with_entry o.parcel (record { tag = tag_at st.dims st.rank to 1; item = item }) } in
       elim (cases_eq (out_index st.dims l) (coord st.dims to 1)) [
-        | inl e ↦ ap (λ i. (slice_index_or (pushed_state st to item).outs i no_out).closed) e
+        | inl e ↦ ap (λ i. (slice_index_or (with_pushed item to st).outs i no_out).closed) e
             ∙ (ap (λ o. o.closed) (get_or-set_same st.outs (coord st.dims to 1) (put (out_at st (coord st.dims to 1))) no_out within) ∙ ap (λ i. (slice_index_or st.outs i no_out).closed) (sym e))
         | inr ne ↦ ap (λ o. o.closed) (get_or-set_other st.outs (coord st.dims to 1) (out_index st.dims l) (put (out_at st (coord st.dims to 1))) no_out ne)
       ]
 
-  push_buffers : buffers_of (pushed_state st to item) ≡ record (buffers_of st) { waiting = (buffers_of (pushed_state st to item)).waiting; latest = None }
-  push_buffers = λ i. record (buffers_of (pushed_state st to item)) { closed = λ l. same_closed l i }
+  push_buffers : buffers_of (with_pushed item to st) ≡ record (buffers_of st) { waiting = (buffers_of (with_pushed item to st)).waiting; latest = None }
+  push_buffers = λ i. record (buffers_of (with_pushed item to st)) { closed = λ l. same_closed l i }
 
-  push_on : PushedOn (buffers_of st) (buffers_of (pushed_state st to item)).waiting to (record { tag = tag_at st.dims st.rank to 1; item = item })
+  push_on : PushedOn (buffers_of st) (buffers_of (with_pushed item to st)).waiting to (record { tag = tag_at st.dims st.rank to 1; item = item })
   push_on = record { grown = ap (λ o. o.parcel.untaken) push_here; waits = λ m h from ne. ap (λ o. o.parcel.untaken) (push_other m h from ne); tag = refl }
 
-  pub pushed_agrees : (sent got : Logs) → Agrees (buffers_of st) sent got → Agrees (buffers_of (pushed_state st to item)) sent got
+  pub pushed_agrees : (sent got : Logs) → Agrees (buffers_of st) sent got → Agrees (buffers_of (with_pushed item to st)) sent got
   pushed_agrees sent got a = subst (λ b. Agrees b sent got) (sym push_buffers)
-      (push_agrees (buffers_of st) (buffers_of (pushed_state st to item)).waiting sent got to (record { tag = tag_at st.dims st.rank to 1; item = item }) s.grid s.rank below a push_on)
+      (push_agrees (buffers_of st) (buffers_of (with_pushed item to st)).waiting sent got to (record { tag = tag_at st.dims st.rank to 1; item = item }) s.grid s.rank below a push_on)
 
-  pub pushed_step : st.done ≡ false → (sent got : Logs) → Agrees (buffers_of st) sent got → IsOwnStep (Push to item) (part_of (buffers_of st) sent got) (part_of (buffers_of (pushed_state st to item)) sent got)
+  pub pushed_step : st.done ≡ false → (sent got : Logs) → Agrees (buffers_of st) sent got → IsOwnStep (Push to item) (part_of (buffers_of st) sent got) (part_of (buffers_of (with_pushed item to st)) sent got)
   pushed_step open' sent got a = subst (λ b. IsOwnStep (Push to item) (part_of (buffers_of st) sent got) (part_of b sent got)) (sym push_buffers)
-      (push_step (buffers_of st) (buffers_of (pushed_state st to item)).waiting sent got to (record { tag = tag_at st.dims st.rank to 1; item = item }) s.grid s.rank below a push_on item refl open')
+      (push_step (buffers_of st) (buffers_of (with_pushed item to st)).waiting sent got to (record { tag = tag_at st.dims st.rank to 1; item = item }) s.grid s.rank below a push_on item refl open')
 
   pub standing_index : length (out_at st (coord st.dims to 1)).parcel.untaken ≡ length (out_of st (hop_link st.dims st.rank to 1)).parcel.untaken
   standing_index = ap (λ i. length (slice_index_or st.outs i no_out).parcel.untaken) (sym index)

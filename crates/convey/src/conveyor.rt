@@ -9,7 +9,7 @@ ghost use Rattle.route_tensor.specs.Ends.{hop_at, sender_at, reader_at};
 ghost use Rattle.list_laws.specs.Lists.{Begins};
 ghost use Rattle.port_bank.specs.Shapes.{IsConveyorShape};
 ghost use Rattle.hop_core.specs.Link.{no_out, no_in};
-ghost use Rattle.hop_core.specs.State.{phase_of, in_at, lowest_unread, pull_from, pulled_from, pulls, unpulled, reopened, resumed};
+ghost use Rattle.hop_core.specs.State.{phase_of, in_at, lowest_unread, pull_from, pulled_from, pulls, unpulled, with_pushed, reopened, resumed};
 ghost use Rattle.route_tensor.specs.Neighbour.{hop_to, neighbour};
 ghost use Rattle.route_tensor.specs.Tag.{IsFair, sender_of};
 ghost use Rattle.std.specs.List.{All};
@@ -136,6 +136,7 @@ impl<const CAP: usize, const HOPS: usize> Conveyor<CAP, HOPS> {
         requires not_done { self.old.done ≡ false }
         requires to { to < ranks self.old.dims }
         ensures room { result ≡ Pushed.Accepted → standing_toward self.old to < CAP }
+        ensures accepted { result ≡ Pushed.Accepted → self.new ≡ with_pushed item to self.old }
         ensures full { result ≡ Pushed.Full → standing_toward self.old to ≡ CAP }
         ensures unchanged { result ≡ Pushed.Full → self.new ≡ record self.old { pulled = None } }
         ensures same { self.new ≡ record self.old { outs = self.new.outs; pulled = None } }

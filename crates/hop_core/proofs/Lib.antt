@@ -12,3 +12,4 @@ pub mod Unread
 pub mod Batches
 pub mod Straight
 pub mod Epochs
+mod InTurn

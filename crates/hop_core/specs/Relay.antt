@@ -1,14 +1,15 @@
 -- What a rank passes on, by pairs of ranks.
-use Rattle.std.specs.Prelude.{◌≡◌, ◌≢◌, ℕ, ◌+◌, ◌-◌, ◌<◌, ◌≤◌, List, ◌++◌, length, take, drop, slice_get, slice_index_or, Some}
+use Rattle.std.specs.Prelude.{◌≡◌, ◌≢◌, ℕ, Bool, zero, suc, ◌+◌, ◌-◌, ◌<◌, ◌≤◌, ◌==◌, if◌then◌else◌, List, [], ◌∷◌, ◌++◌, length, take, drop, slice_get, slice_set, slice_index_or, Some}
 use Rattle.std.specs.List.{sum_by}
 use Rattle.bale_types.specs.declared.item.Entry.{Entry}
 use Rattle.bale_types.specs.declared.item.Item.{Item}
-use Rattle.route_tensor.specs.Grid.{coord}
+use Rattle.route_tensor.specs.Grid.{dim, coord}
 use Rattle.route_tensor.specs.Link.{links_before}
 use Rattle.route_tensor.specs.Neighbour.{hop_to}
 use Rattle.route_tensor.specs.Tag.{digit}
 use Rattle.route_tensor.specs.Pair.{PassesThrough, items_of_pair}
-use Rattle.hop_core.specs.Link.{Out, In, no_out, no_in}
+use Rattle.route_tensor.specs.Routes.{about, passed_on}
+use Rattle.hop_core.specs.Link.{Out, In, no_out, no_in, with_entry, read_on}
 use Rattle.hop_core.specs.State.{State}
 
 -- The number of the link in over which the entries of s come to a rank on hop h, and that of the link out over which
@@ -66,3 +67,51 @@ pub record TakesFromHop (dims : List ℕ) (h : ℕ) (ins ins' : List In) : Type 
 -- How many entries wait in some links in.
 abbrev pub waiting : List In → ℕ
 waiting ins = sum_by (λ x. length x.parcel.untaken) ins
+
+-- Where an entry goes next that came to rank r on link in number i: the number of its link out, and the entry with its next tag.
+abbrev pub next_out : List ℕ → ℕ → ℕ → Entry → ℕ
+next_out dims r i e = (passed_on (about dims r i) e.tag).out
+
+abbrev pub next_entry : List ℕ → ℕ → ℕ → Entry → Entry
+next_entry dims r i e = record { tag = (passed_on (about dims r i) e.tag).tag; item = e.item }
+
+-- Whether its open parcel has no room.
+abbrev pub finds_full : List ℕ → ℕ → ℕ → ℕ → List Out → Entry → Bool
+finds_full dims r cap i outs e = length (slice_index_or outs (next_out dims r i e) no_out).parcel.untaken == cap
+
+-- The links out, with the entry at the end of its open parcel.
+abbrev pub with_passed : List ℕ → ℕ → ℕ → List Out → Entry → List Out
+with_passed dims r i outs e =
+    let out = slice_index_or outs (next_out dims r i e) no_out in
+    slice_set outs (next_out dims r i e) (record out { parcel = with_entry out.parcel (next_entry dims r i e) })
+
+-- The links out after entries of link in number i were passed on, in order, up to the first that finds its open parcel full; and how many
+-- were. At capacity 1, of [x, y, z] with x for the first link out, and y and z for the second, x and y are passed on.
+unfoldable pub passed : List ℕ → ℕ → ℕ → ℕ → List Out → List Entry → List Out
+passed dims r cap i outs [] = outs
+passed dims r cap i outs (e ∷ es) = if finds_full dims r cap i outs e then outs else passed dims r cap i (with_passed dims r i outs e) es
+
+unfoldable pub passed_count : List ℕ → ℕ → ℕ → ℕ → List Out → List Entry → ℕ
+passed_count dims r cap i outs [] = 0
+passed_count dims r cap i outs (e ∷ es) =
+    if finds_full dims r cap i outs e then 0 else suc (passed_count dims r cap i (with_passed dims r i outs e) es)
+
+-- A rank's links out and in.
+pub record Links : Type 0 where
+  pub outs : List Out
+  pub ins : List In
+
+-- The links after n links in, from number i on and in ascending order, had their entries passed on: what a lower link passed on stands in
+-- an open parcel before what a higher one did, and a link stops only against what stood there after the lower ones.
+unfoldable pub relayed : List ℕ → ℕ → ℕ → ℕ → ℕ → Links → Links
+relayed dims r cap zero i ls = ls
+relayed dims r cap (suc n) i ls =
+    let x = slice_index_or ls.ins i no_in in
+    relayed dims r cap n (suc i) (record {
+      outs = passed dims r cap i ls.outs x.parcel.untaken;
+      ins = slice_set ls.ins i (read_on (passed_count dims r cap i ls.outs x.parcel.untaken) x);
+    })
+
+-- What a relay from hop h to the next leaves of them.
+abbrev pub relayed_hop : List ℕ → ℕ → ℕ → ℕ → Links → Links
+relayed_hop dims r cap h ls = relayed dims r cap (dim dims h) (links_before dims h) ls

@@ -3,14 +3,14 @@ use Rattle.std.specs.Prelude.{ℕ, zero, suc, Bool, false, ◌-◌, ◌==◌, no
 use Rattle.std.specs.List.{list_all}
 use Rattle.std.specs.Option.{option_map}
 use Rattle.bale_types.specs.declared.item.Item.{Item}
-use Rattle.route_tensor.specs.Grid.{dim}
+use Rattle.route_tensor.specs.Grid.{dim, coord}
 use Rattle.route_tensor.specs.Link.{links_before}
 use Rattle.route_tensor.specs.Neighbour.{neighbour}
-use Rattle.route_tensor.specs.Tag.{sender_of}
+use Rattle.route_tensor.specs.Tag.{sender_of, tag_at}
 use Rattle.hop_core.specs.declared.phase.Phase.{Phase}
 use Rattle.hop_core.specs.declared.phase.Phase.TheVariants.{Working, Endgame, Cleanup, Complete}
 use Rattle.hop_core.specs.declared.lent.Lent.{Lent}
-use Rattle.hop_core.specs.Link.{Out, In, no_out, no_in, is_empty, is_finished, with_first_taken, with_back}
+use Rattle.hop_core.specs.Link.{Out, In, no_out, no_in, is_empty, is_finished, with_entry, with_first_taken, with_back}
 
 -- The state of one rank. The links out and in stand by the number of the neighbour at the other end.
 -- Example: on the grid 2, rank 0 has two links out and two links in, number 0 of itself and number 1 of rank 1.
@@ -98,6 +98,16 @@ pulls (suc n) st = pulled_from (pulls n st) (lowest_unread (pulls n st))
 abbrev pub unpulled : State → Option ℕ → State
 unpulled st None = st
 unpulled st (Some i) = record st { ins = slice_set st.ins i (record (in_at st i) { parcel = with_back (in_at st i).parcel.back (in_at st i).parcel }); pulled = None }
+
+-- What a push leaves: the item, with its first tag, is the last entry of the open parcel toward the rank's first stop.
+-- On the grid 2 rank 0's item for rank 1 stands at the end of open parcel number 1.
+abbrev pub with_pushed : Item → ℕ → State → State
+with_pushed item to st =
+    let o = coord st.dims to 1 in
+    record st {
+      outs = slice_set st.outs o (record (out_at st o) { parcel = with_entry (out_at st o).parcel (record { tag = tag_at st.dims st.rank to 1; item = item }) });
+      pulled = None;
+    }
 
 -- A new epoch: no link closed or ended.
 abbrev pub reopened : Out → Out

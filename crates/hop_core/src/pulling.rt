@@ -11,7 +11,7 @@ ghost use Rattle.route_tensor.specs.Tag.{IsFair, tag_at, sender_of};
 ghost use Rattle.route_tensor.specs.Routes.{first_step};
 ghost use Rattle.hop_core.specs.Link.{Out, In, no_out, no_in, is_due, is_wanted, with_entry};
 ghost use Rattle.hop_core.specs.State.{out_at, in_at, with_out, with_in, at_end, phase_of, lowest_unread, pull_from, pulled_from, pulls, unpulled, reopened, resumed};
-ghost use Rattle.hop_core.specs.Relay.{held, AddsToHop, TakesFromHop, IsStopped, waiting};
+ghost use Rattle.hop_core.specs.Relay.{held, AddsToHop, TakesFromHop, IsStopped, waiting, relayed_hop};
 ghost use Rattle.route_tensor.specs.Pair.{PassesThrough};
 ghost use Rattle.hop_core.specs.declared.phase.Phase.{Phase};
 
@@ -39,6 +39,10 @@ impl<const CAP: usize, const HOPS: usize> RankState<CAP, HOPS> {
             → IsStopped self.old.dims self.old.cap h self.new.outs (in_at self.new i) }
         ensures count { result + waiting self.new.ins ≡ waiting self.old.ins }
         ensures rest { self.new ≡ record self.old { outs = self.new.outs; ins = self.new.ins; pulled = None } }
+
+        // The links in have their turns in ascending order, and nothing of a parcel changes but its entries and what was taken.
+        ensures in_turn { record { outs = self.new.outs; ins = self.new.ins }
+            ≡ relayed_hop self.old.dims self.old.rank self.old.cap h (record { outs = self.old.outs; ins = self.old.ins }) }
     {
         self.pulled = None;
         let count = relay_hop(&self.routes, &mut self.outs, &mut self.ins, h);

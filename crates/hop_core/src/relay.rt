@@ -6,7 +6,7 @@ ghost use Rattle.route_tensor.specs.Grid.{IsGrid};
 ghost use Rattle.route_tensor.specs.Neighbour.{hop_to};
 ghost use Rattle.hop_core.specs.Link.{no_out, no_in, is_finished, read_on};
 ghost use Rattle.hop_core.specs.Standing.{IsOut, IsIn};
-ghost use Rattle.hop_core.specs.Relay.{PassesOn, held_by, AddsToHop, TakesFromHop, IsStopped, waiting};
+ghost use Rattle.hop_core.specs.Relay.{PassesOn, held_by, AddsToHop, TakesFromHop, IsStopped, waiting, passed, passed_count, relayed_hop};
 ghost use Rattle.route_tensor.specs.Pair.{PassesThrough};
 ghost use Rattle.hop_core.specs.State.{ins_of_hop};
 ghost use Rattle.std.specs.List.{list_all};
@@ -40,6 +40,9 @@ pub fn relay_link<const CAP: usize>(
     ensures count { result + length link.new.parcel.untaken ≡ length link.old.parcel.untaken }
     ensures ended { link.new.ended ≡ link.old.ended }
     ensures stopped { IsStopped routes.now.dims CAP (hop_to routes.now.dims i) outs.new.items link.new }
+    ensures outs { outs.new.items ≡ passed routes.now.dims routes.now.rank CAP i outs.old.items link.old.parcel.untaken }
+    ensures ins { link.new ≡ read_on (passed_count routes.now.dims routes.now.rank CAP i outs.old.items
+        link.old.parcel.untaken) link.old }
 {
     let count = pass_on(routes, outs, link, i);
     link.skip(count);
@@ -69,6 +72,9 @@ fn pass_on<const CAP: usize>(
     ensures within { result ≤ length link.now.parcel.untaken }
     ensures stopped { IsStopped routes.now.dims CAP (hop_to routes.now.dims i) outs.new.items
         (read_on result link.now) }
+    ensures outs { outs.new.items ≡ passed routes.now.dims routes.now.rank CAP i outs.old.items link.now.parcel.untaken }
+    ensures passes { result ≡ passed_count routes.now.dims routes.now.rank CAP i outs.old.items
+        link.now.parcel.untaken }
 {
     routes.known();
     let from = routes.neighbour(i);
@@ -115,6 +121,8 @@ pub fn relay_hop<const CAP: usize>(
     ensures stopped { (i : ℕ) → i < sum routes.now.dims → hop_to routes.now.dims i ≡ h
         → IsStopped routes.now.dims CAP h outs.new.items (slice_index_or ins.new.items i no_in) }
     ensures count { result + waiting ins.new.items ≡ waiting ins.old.items }
+    ensures in_turn { record { outs = outs.new.items; ins = ins.new.items }
+        ≡ relayed_hop routes.now.dims routes.now.rank CAP h (record { outs = outs.old.items; ins = ins.old.items }) }
 {
     let mut count = 0;
     let from = routes.first_of(h);

@@ -10,7 +10,7 @@ ghost use Rattle.route_tensor.specs.Neighbour.{hop_to, neighbour, out_index, in_
 ghost use Rattle.route_tensor.specs.Tag.{IsFair, tag_at, sender_of};
 ghost use Rattle.route_tensor.specs.Routes.{first_step};
 ghost use Rattle.hop_core.specs.Link.{Out, In, no_out, no_in, is_due, is_wanted, with_entry};
-ghost use Rattle.hop_core.specs.State.{out_at, in_at, with_out, with_in, at_end, phase_of, lowest_unread, pull_from, pulled_from, pulls, unpulled, reopened, resumed};
+ghost use Rattle.hop_core.specs.State.{out_at, in_at, with_out, with_in, at_end, phase_of, lowest_unread, pull_from, pulled_from, pulls, unpulled, with_pushed, reopened, resumed};
 ghost use Rattle.hop_core.specs.Relay.{held, AddsToHop, TakesFromHop, IsStopped, waiting};
 ghost use Rattle.route_tensor.specs.Pair.{PassesThrough};
 
@@ -158,14 +158,7 @@ impl<const CAP: usize, const HOPS: usize> RankState<CAP, HOPS> {
         requires working { self.old.phase ≡ Phase.Working }
         requires not_done { self.old.done ≡ false }
         requires to { to < ranks self.old.dims }
-        ensures accepted { result ≡ Pushed.Accepted → self.new ≡ record self.old {
-          outs = slice_set self.old.outs (coord self.old.dims to 1)
-              (record (out_at self.old (coord self.old.dims to 1)) {
-                parcel = with_entry (out_at self.old (coord self.old.dims to 1)).parcel
-                    (record { tag = tag_at self.old.dims self.old.rank to 1; item = item });
-              });
-          pulled = None;
-        } }
+        ensures accepted { result ≡ Pushed.Accepted → self.new ≡ with_pushed item to self.old }
         ensures room { result ≡ Pushed.Accepted
             → length (out_at self.old (coord self.old.dims to 1)).parcel.untaken < self.old.cap }
         ensures full { result ≡ Pushed.Full → length (out_at self.old (coord self.old.dims to 1)).parcel.untaken

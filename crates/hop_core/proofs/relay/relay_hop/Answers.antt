@@ -5,6 +5,7 @@ use Rattle.route_tensor.proofs.Links.{sum_small}
 use Rattle.hop_core.specs.Standing.{IsIn}
 use Rattle.hop_core.proofs.Relaying.{relaying_more, link_open, within_waiting}
 use Rattle.hop_core.proofs.Relayed.{waiting_small, in_hop, all_stopped}
+use Rattle.hop_core.proofs.InTurn.{in_turn_more, in_turn_end, in_hop_end, hop_end_past}
 use Rattle.hop_core.proofs.relay.relay_hop.Goals as goal
 
 pub relay_link-count-requires : goal.relay_link-count-requires
@@ -14,9 +15,9 @@ relay_link-count-requires g c =
     let hi : c.loop-i.i < links_before dims (c.args.h + 1) = omega (arith, c.first_of-i-end.ensures.value, c.loop-i-test.true) in
     let hop : hop_to dims c.loop-i.i ≡ c.args.h = in_hop dims c.args.h c.loop-i.i c.requires.first (omega (arith, c.requires.last)) lo hi in
     let q : c.loop-i.i < sum dims = omega (arith, c.first_of-i-end.ensures.within, c.loop-i-test.true) in
-    let n : c.loop-i.i < length c.loop-i.ins.items = omega (arith, q, c.loop-i.invariant.all_ins) in
+    let n : c.loop-i.i < length c.loop-i.ins.items = omega (arith, q, c.loop-i.invariant.relaying.all_ins) in
     let x : IsIn dims g.row.CAP (hop_to dims c.loop-i.i) c.index_mut.result.now =
-    subst (IsIn dims g.row.CAP (hop_to dims c.loop-i.i)) (sym c.index_mut.ensures.value) (c.loop-i.invariant.each_in c.loop-i.i c.index_mut.result.now n) in (
+    subst (IsIn dims g.row.CAP (hop_to dims c.loop-i.i)) (sym c.index_mut.ensures.value) (c.loop-i.invariant.relaying.each_in c.loop-i.i c.index_mut.result.now n) in (
       omega arith,
       (
         omega arith,
@@ -25,12 +26,12 @@ relay_link-count-requires g c =
           (
             omega (arith, hop, c.requires.last),
             (
-              c.loop-i.invariant.all_outs,
+              c.loop-i.invariant.relaying.all_outs,
               (
-                c.loop-i.invariant.each_out,
+                c.loop-i.invariant.relaying.each_out,
                 (
                   x,
-                  link_open _ _ _ _ _ _ _ _ _ _ _ q hop c.requires.all_ins c.loop-i.invariant c.index_mut.ensures.value,
+                  link_open _ _ _ _ _ _ _ _ _ _ _ q hop c.requires.all_ins c.loop-i.invariant.relaying c.index_mut.ensures.value,
                 ),
               ),
             ),
@@ -46,9 +47,9 @@ overflow_add-count g c =
     let hi : c.loop-i.i < links_before dims (c.args.h + 1) = omega (arith, c.first_of-i-end.ensures.value, c.loop-i-test.true) in
     let hop : hop_to dims c.loop-i.i ≡ c.args.h = in_hop dims c.args.h c.loop-i.i c.requires.first (omega (arith, c.requires.last)) lo hi in
     let q : c.loop-i.i < sum dims = omega (arith, c.first_of-i-end.ensures.within, c.loop-i-test.true) in
-    let n : c.loop-i.i < length c.loop-i.ins.items = omega (arith, q, c.loop-i.invariant.all_ins) in
+    let n : c.loop-i.i < length c.loop-i.ins.items = omega (arith, q, c.loop-i.invariant.relaying.all_ins) in
     let most = waiting_small dims g.row.CAP c.args.ins.now.items c.requires.small c.requires.all_ins (sum_small dims c.first_of-from.ensures.grid) c.requires.each_in in
-    omega (arith, most, c.loop-i.invariant.count, within_waiting c.loop-i.ins.items c.loop-i.i c.index_mut.result.now n c.index_mut.ensures.value, c.relay_link-count.ensures.count)
+    omega (arith, most, c.loop-i.invariant.relaying.count, within_waiting c.loop-i.ins.items c.loop-i.i c.index_mut.result.now n c.index_mut.ensures.value, c.relay_link-count.ensures.count)
 
 pub loop-i-preserved : goal.loop-i-preserved
 loop-i-preserved g c =
@@ -57,18 +58,27 @@ loop-i-preserved g c =
     let hi : c.loop-i.i < links_before dims (c.args.h + 1) = omega (arith, c.first_of-i-end.ensures.value, c.loop-i-test.true) in
     let hop : hop_to dims c.loop-i.i ≡ c.args.h = in_hop dims c.args.h c.loop-i.i c.requires.first (omega (arith, c.requires.last)) lo hi in
     let q : c.loop-i.i < sum dims = omega (arith, c.first_of-i-end.ensures.within, c.loop-i-test.true) in
-    relaying_more _ _ _ _ _ _ _ _ _ _ _ _ _ _ q hop c.loop-i.invariant c.index_mut.ensures.value (record {
-      each = c.relay_link-count.ensures.each;
-      link = c.relay_link-count.ensures.link;
-      passes = c.relay_link-count.ensures.passes_on;
-      adds = c.relay_link-count.ensures.adds;
-      rest = c.relay_link-count.ensures.rest;
-      count = c.relay_link-count.ensures.count;
-      ended = c.relay_link-count.ensures.ended;
-      stopped = c.relay_link-count.ensures.stopped;
-    })
+    record {
+      relaying = relaying_more _ _ _ _ _ _ _ _ _ _ _ _ _ _ q hop c.loop-i.invariant.relaying c.index_mut.ensures.value (record {
+        each = c.relay_link-count.ensures.each;
+        link = c.relay_link-count.ensures.link;
+        passes = c.relay_link-count.ensures.passes_on;
+        adds = c.relay_link-count.ensures.adds;
+        rest = c.relay_link-count.ensures.rest;
+        count = c.relay_link-count.ensures.count;
+        ended = c.relay_link-count.ensures.ended;
+        stopped = c.relay_link-count.ensures.stopped;
+      });
+      in_turn = in_turn_more _ _ _ _ _ _ _ _ _ _ _ _ c.loop-i.invariant.in_turn (in_hop_end dims c.args.h c.loop-i.i c.requires.first (omega (arith, c.requires.last)) hi) (omega (arith, q, c.loop-i.invariant.relaying.all_ins))
+          c.index_mut.ensures.value c.relay_link-count.ensures.outs c.relay_link-count.ensures.ins;
+    }
 
 pub returns-clause-stopped : goal.returns-clause-stopped
 returns-clause-stopped g c =
     let e : links_before c.args.routes.now.dims (c.args.h + 1) ≤ c.loop-i.i = omega (arith, c.first_of-i-end.ensures.value, c.loop-i-test.false) in
-    all_stopped _ _ _ _ _ _ _ _ _ _ c.requires.first (omega (arith, c.requires.last)) e c.loop-i.invariant
+    all_stopped _ _ _ _ _ _ _ _ _ _ c.requires.first (omega (arith, c.requires.last)) e c.loop-i.invariant.relaying
+
+pub returns-clause-in_turn : goal.returns-clause-in_turn
+returns-clause-in_turn g c =
+    let e : links_before c.args.routes.now.dims (c.args.h + 1) ≤ c.loop-i.i = omega (arith, c.first_of-i-end.ensures.value, c.loop-i-test.false) in
+    in_turn_end _ _ _ _ _ _ _ _ _ c.loop-i.invariant.in_turn (hop_end_past c.args.routes.now.dims c.args.h c.loop-i.i c.requires.first (omega (arith, c.requires.last)) e)

@@ -2,7 +2,7 @@ use Rattle.std.proofs.Common.{◌≡◌, ◌<◌, ◌⊎◌, length, None, inl, 
 use Rattle.hop_core.specs.declared.phase.Pushed.{Pushed}
 use Rattle.hop_core.specs.declared.phase.Pushed.TheVariants.{Accepted, Full}
 use Rattle.route_tensor.specs.Grid.{coord}
-use Rattle.hop_core.specs.State.{State, out_at}
+use Rattle.hop_core.specs.State.{State, out_at, with_pushed}
 use Rattle.hop_core.specs.Standing.{IsState}
 use Rattle.port_bank.specs.Machine.{IsOwnStep}
 use Rattle.port_bank.specs.Machine.Step.{Push}
@@ -10,7 +10,7 @@ use Rattle.convey.specs.Buffers.{buffers_of}
 use Rattle.convey.specs.Conveyors.{standing_toward}
 use Rattle.convey.specs.Agreement.{Agrees}
 use Rattle.convey.specs.Parts.{part_of}
-use Rattle.convey.proofs.Pushes.{pushed_state, pushed_agrees, pushed_step, standing_index, idle_agrees}
+use Rattle.convey.proofs.Pushes.{pushed_agrees, pushed_step, standing_index, idle_agrees}
 use Rattle.convey.proofs.conveyor.Conveyor.push.Goals as goal
 
 which : (p : Pushed) → (p ≡ Accepted) ⊎ (p ≡ Full)
@@ -35,7 +35,7 @@ pub returns-clause-kept : goal.returns-clause-kept
 returns-clause-kept g c =
     let now : State = c.args.self.now in
     let s : IsState now = subst IsState c.self.view_is c.known.ensures.standing in
-    let put : State → State = λ t. pushed_state t c.args.to c.args.item in
+    let put : State → State = λ t. with_pushed c.args.item c.args.to t in
     let calm : State → State = λ t. record t { pulled = None } in
     λ sent got a. elim (which c.push.result) [
       | inl r ↦ subst (λ t. Agrees (buffers_of t) sent got) (sym (c.push.ensures.accepted r ∙ ap put c.self.view_is)) (pushed_agrees now c.args.to c.args.item s c.requires.to sent got a)
@@ -46,6 +46,6 @@ pub returns-clause-step_accepted : goal.returns-clause-step_accepted
 returns-clause-step_accepted g c =
     let now : State = c.args.self.now in
     let s : IsState now = subst IsState c.self.view_is c.known.ensures.standing in
-    let put : State → State = λ t. pushed_state t c.args.to c.args.item in
+    let put : State → State = λ t. with_pushed c.args.item c.args.to t in
     λ r sent got a. subst (λ t. IsOwnStep (Push c.args.to c.args.item) (part_of (buffers_of now) sent got) (part_of (buffers_of t) sent got)) (sym (c.push.ensures.accepted r ∙ ap put c.self.view_is))
     (pushed_step now c.args.to c.args.item s c.requires.to c.requires.not_done sent got a)

@@ -11,9 +11,11 @@ use std::marker::Model;
 /// with two marks for their reader: whether the parcel is the last of its epoch, and the epoch.
 #[derive(Drop)]
 pub struct Parcel<const CAP: usize> {
-    /// All entries pushed since the last clear; a move of the parcel moves none of them.
-    entries: Box<ArrayVec<Entry, CAP>>,
-    /// How many of them, from the first one on, are taken.
+    /// `CAP` places, always full, so that a clear writes no place. A move of the parcel moves no entry.
+    places: Box<ArrayVec<Entry, CAP>>,
+    /// How many of the places, from the first one on, hold an entry pushed since the last clear.
+    pushed: u16,
+    /// How many of those entries are taken.
     taken: u16,
     /// Whether the last entry that was taken may be put back.
     can_untake: bool,
@@ -24,20 +26,20 @@ pub struct Parcel<const CAP: usize> {
 }
 
 impl<const CAP: usize> Model for Parcel<CAP> {
-    ghost use Rattle.std.specs.Prelude.{◌≡◌, ◌-◌, ◌<◌, ◌≤◌, if◌then◌else◌, drop, length, slice_get, None, true};
+    ghost use Rattle.std.specs.Prelude.{◌≡◌, ◌-◌, ◌<◌, ◌≤◌, if◌then◌else◌, take, drop, length, slice_get, None, true};
     ghost use Rattle.item_buffer.specs.Contents.{Contents};
 
     ghost Value = { Contents };
 
     ghost view = { λ p. record {
-      untaken = drop p.taken p.entries.value.items;
+      untaken = drop p.taken (take p.pushed p.places.value.items);
       last = p.last;
       epoch = p.epoch;
-      back = (if p.can_untake then slice_get p.entries.value.items (p.taken - 1) else None);
+      back = (if p.can_untake then slice_get (take p.pushed p.places.value.items) (p.taken - 1) else None);
       taken = p.taken;
     } };
 
-    ghost invariant = { λ p. (CAP ≤ 1024) × (length p.entries.value.items ≤ CAP) × (p.taken ≤ length p.entries.value.items)
+    ghost invariant = { λ p. (CAP ≤ 1024) × (length p.places.value.items ≡ CAP) × (p.pushed ≤ CAP) × (p.taken ≤ p.pushed)
         × (p.can_untake ≡ true → 0 < p.taken) };
 }
 
@@ -48,8 +50,10 @@ impl<const CAP: usize> Parcel<CAP> {
         requires small { CAP ≤ 1024 }
         ensures { IfOk result (λ p. p ≡ blank 0) }
     {
+        let places = ArrayVec::from_array_in((), [Entry::default(); CAP]);
         Ok(Parcel {
-            entries: Box::new(alloc, ArrayVec::new())?,
+            places: Box::new(alloc, places)?,
+            pushed: 0,
             taken: 0,
             can_untake: false,
             last: false,
@@ -66,7 +70,12 @@ impl<const CAP: usize> Parcel<CAP> {
         ensures unchanged { result ≡ false → self.new ≡ self.old }
         ensures full { result ≡ false → length self.old.untaken ≡ CAP }
     {
-        self.entries.try_push(entry).is_ok()
+        if self.pushed as usize == CAP {
+            return false;
+        }
+        self.places.as_mut_slice()[self.pushed as usize] = entry;
+        self.pushed += 1;
+        true
     }
 
     /// The first untaken entry.
@@ -74,7 +83,10 @@ impl<const CAP: usize> Parcel<CAP> {
     pub fn head(&self) -> Option<Entry>
         ensures { result ≡ slice_get self.now.untaken 0 }
     {
-        self.entries.as_slice().get(self.taken as usize).copied()
+        if self.taken == self.pushed {
+            return None;
+        }
+        Some(self.places.as_slice()[self.taken as usize])
     }
 
     /// Takes the first untaken entry.
@@ -101,7 +113,7 @@ impl<const CAP: usize> Parcel<CAP> {
     pub fn untaken(&self) -> &[Entry]
         ensures { result.now ≡ self.now.untaken }
     {
-        &self.entries.as_slice()[self.taken as usize..]
+        &self.places.as_slice()[self.taken as usize..self.pushed as usize]
     }
 
     /// Takes the first `count` untaken entries, as so many calls of `take` would.
@@ -123,9 +135,9 @@ impl<const CAP: usize> Parcel<CAP> {
         requires room { length self.old.untaken + length entries.now ≤ CAP }
         ensures { self.new ≡ record self.old { untaken = self.old.untaken ++ entries.now } }
     {
-        let Ok(()) = self.entries.try_extend_from_slice(entries) else {
-            unreachable!()
-        };
+        let end = self.pushed as usize + entries.len();
+        self.places.as_mut_slice()[self.pushed as usize..end].copy_from_slice(entries);
+        self.pushed = end as u16;
     }
 
     /// Puts the entry that the latest `take` or `skip` took last back in front of the untaken ones.
@@ -145,7 +157,7 @@ impl<const CAP: usize> Parcel<CAP> {
     pub fn clear(&mut self)
         ensures { self.new ≡ blank self.old.epoch }
     {
-        self.entries.clear();
+        self.pushed = 0;
         self.taken = 0;
         self.can_untake = false;
         self.last = false;
@@ -158,7 +170,7 @@ impl<const CAP: usize> Parcel<CAP> {
         ensures within { length self.now.untaken + self.now.taken ≤ CAP }
         ensures fresh { self.now.taken ≡ 0 → self.now.back ≡ None }
     {
-        (self.entries.len() - self.taken as usize) as u32
+        u32::from(self.pushed - self.taken)
     }
 
     /// Whether `CAP` entries are untaken.
@@ -166,7 +178,7 @@ impl<const CAP: usize> Parcel<CAP> {
     pub fn is_full(&self) -> bool
         ensures { result ≡ (length self.now.untaken == CAP) }
     {
-        self.entries.len() - self.taken as usize == CAP
+        (self.pushed - self.taken) as usize == CAP
     }
 
     /// Does nothing, and tells what holds of a parcel at every moment.

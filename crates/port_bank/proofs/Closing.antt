@@ -5,6 +5,7 @@ use Rattle.std.proofs.lemmas.Bool.{cases_lt}
 use Rattle.std.proofs.lemmas.List.{length-map, length-replicate, map-append, take_more, take_all, length-take-le}
 use Rattle.std.proofs.lemmas.List.Elements.{All-nil}
 use Rattle.item_buffer.specs.Contents.{Shipped}
+use Rattle.list_laws.specs.Counts.{counted}
 use Rattle.route_tensor.specs.Grid.{ranks, IsGrid}
 use Rattle.route_tensor.specs.Link.{links, link}
 use Rattle.route_tensor.proofs.Coordinates.{ranks_some}
@@ -130,28 +131,33 @@ some_links dims g =
     let below : link dims 1 0 0 < links dims = link_below dims 1 0 0 g (record { first_hop = omega arith; last_hop = g.some; sender = rank; reader = rank; agree = λ i ne. refl }) in
     omega arith
 
+counted_min : (m n : ℕ) → min (counted m) (counted n) ≡ counted (min m n)
+counted_min m n = omega arith
+
 -- the least of the first links, with one link more
 pub least_more : (channels : List Channel) (i least next : ℕ) (c : Channel) → i < length channels → c ≡ get_or channels i c
-    → (i ≡ 0 → least ≡ 2 ^ 64 - 1) → (0 < i → least ≡ ended_by_all (map (λ x. x.got) (take i channels))) → next ≡ lasts c.got → next < 2 ^ 64
-    → min least next ≡ ended_by_all (map (λ x. x.got) (take (i + 1) channels))
-least_more channels i least next c within read none some is fits =
+    → (i ≡ 0 → least ≡ 2 ^ 64 - 1) → (0 < i → least ≡ counted (ended_by_all (map (λ x. x.got) (take i channels)))) → next ≡ counted (lasts c.got)
+    → min least next ≡ counted (ended_by_all (map (λ x. x.got) (take (i + 1) channels)))
+least_more channels i least next c within read none some is =
     let grown : map (λ x. x.got) (take (i + 1) channels) ≡ map (λ x. x.got) (take i channels) ++ c.got ∷ [] =
     ap (map (λ x. x.got)) (take_more channels i c within) ∙ (map-append (λ x. x.got) (take i channels) (get_or channels i c ∷ [])
     ∙ ap (λ (x : Channel). map (λ y. y.got) (take i channels) ++ x.got ∷ []) (sym read)) in
     let held : length (map (λ x. x.got) (take i channels)) ≡ i = length-map (take i channels) (λ x. x.got) ∙ length-take-le i channels (omega arith) in
     let fold' = ended_more (map (λ x. x.got) (take i channels)) c.got in
     elim (cases_lt 0 i) [
-      | inl later ↦ ap (λ m. min m next) (some later) ∙ (ap (min (ended_by_all (map (λ x. x.got) (take i channels)))) is ∙ (sym (fold' (omega arith)) ∙ ap ended_by_all (sym grown)))
+      | inl later ↦
+          ap (λ m. min m next) (some later) ∙ (ap (min (counted (ended_by_all (map (λ x. x.got) (take i channels))))) is
+          ∙ (counted_min (ended_by_all (map (λ x. x.got) (take i channels))) (lasts c.got) ∙ (ap counted (sym (fold' (omega arith))) ∙ ap (λ logs. counted (ended_by_all logs)) (sym grown))))
       | inr first ↦
           let zero' : i ≡ 0 = omega arith in
           let start : map (λ x. x.got) (take i channels) ≡ [] = ap (λ m. map (λ x. x.got) (take m channels)) zero' in
           let alone : ended_by_all (map (λ x. x.got) (take i channels) ++ c.got ∷ []) ≡ lasts c.got = ap (λ (xs : List (List Shipped)). ended_by_all (xs ++ c.got ∷ [])) start in
           let top : least ≡ 2 ^ 64 - 1 = none zero' in
-          let low : min least next ≡ next = omega arith in
-          low ∙ (is ∙ (sym alone ∙ ap ended_by_all (sym grown)))
+          let low : min least next ≡ next = omega (arith, top, is) in
+          low ∙ (is ∙ (ap counted (sym alone) ∙ ap (λ logs. counted (ended_by_all logs)) (sym grown)))
     ]
 
 -- and of all of them
-pub least_all : (channels : List Channel) (i least : ℕ) → 0 < length channels → length channels ≤ i → (0 < i → least ≡ ended_by_all (map (λ x. x.got) (take i channels)))
-    → least ≡ ended_by_all (map (λ x. x.got) channels)
-least_all channels i least some all is = is (omega arith) ∙ ap (λ xs. ended_by_all (map (λ x. x.got) xs)) (take_all i channels all)
+pub least_all : (channels : List Channel) (i least : ℕ) → 0 < length channels → length channels ≤ i → (0 < i → least ≡ counted (ended_by_all (map (λ x. x.got) (take i channels))))
+    → least ≡ counted (ended_by_all (map (λ x. x.got) channels))
+least_all channels i least some all is = is (omega arith) ∙ ap (λ xs. counted (ended_by_all (map (λ x. x.got) xs))) (take_all i channels all)

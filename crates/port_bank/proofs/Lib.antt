@@ -12,4 +12,5 @@ pub mod Owners
 pub mod Ports
 pub mod Posts
 pub mod Listing
-pub mod Storing
+pub mod Turning
+pub mod Rings

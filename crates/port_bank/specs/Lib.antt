@@ -5,6 +5,7 @@ pub mod Link
 pub mod Shapes
 pub mod Round
 pub mod Port
-pub mod Stored
+pub mod Passed
+pub mod Ring
 pub mod Plain
 pub mod Machine

@@ -16,13 +16,14 @@
 //! | `PlainBank::close` | a closed round, on which what each rank pulled is what the others pushed |
 #![tactic(auto)]
 
+mod log;
 mod memory;
 mod plain_bank;
 mod plain_link;
 mod plain_port;
 mod plain_round;
 mod port;
-mod stored;
+mod ring;
 
 pub use memory::{Fixed, Growing, Memory};
 pub use plain_bank::PlainBank;

@@ -1,4 +1,4 @@
-//! The plain bank: the links of all ranks on one thread, with every parcel ever posted on them.
+//! The plain bank: the links of all ranks on one thread.
 ghost use Rattle.std.specs.Prelude.{◌≡◌, ◌≢◌, ◌+◌, ◌<◌, ◌≤◌, ℕ, length, replicate, slice_get, IfOk, IsErr, Ok, Some};
 ghost use Rattle.bale_types.specs.Stream.{Rose};
 ghost use Rattle.item_buffer.specs.Contents.{shipped, arrived, blank};
@@ -15,6 +15,7 @@ ghost use Rattle.port_bank.specs.Plain.{Bank, IsBank, channel_at, with_channel, 
 use crate::plain_link::PlainLink;
 use crate::plain_port::PlainPort;
 use crate::plain_round::PlainRound;
+use crate::ring::Ring;
 use crate::{Collected, Posted};
 use bale_types::NoMemory;
 use item_buffer::Parcel;
@@ -22,7 +23,7 @@ use route_tensor::Grid;
 use std::alloc::Global;
 use std::marker::Model;
 
-/// The links of a grid, with the parcels of capacity `CAP` that were posted on each.
+/// The links of a grid, with the parcels of capacity `CAP` that are on their way on each.
 #[derive(Drop)]
 pub struct PlainBank<const CAP: usize> {
     grid: Grid,
@@ -30,16 +31,19 @@ pub struct PlainBank<const CAP: usize> {
     slots: u32,
     /// By the number of the link.
     links: Vec<PlainLink>,
+    /// By the number of the link: the places of the parcels on their way.
+    rings: Vec<Ring<CAP>>,
 }
 
 impl<const CAP: usize> Model for PlainBank<CAP> {
-    ghost use Rattle.port_bank.specs.Plain.{Bank, IsBank};
+    ghost use Rattle.port_bank.specs.Plain.{Bank, IsBank, HaveRings};
 
     ghost Value = { Bank };
 
     ghost view = { λ b. record { dims = b.grid; slots = b.slots; channels = b.links.items } };
 
-    ghost invariant = { λ b. IsBank CAP (record { dims = b.grid; slots = b.slots; channels = b.links.items }) };
+    ghost invariant = { λ b. IsBank CAP (record { dims = b.grid; slots = b.slots; channels = b.links.items })
+        × HaveRings b.links.items b.rings.items };
 }
 
 impl<const CAP: usize> PlainBank<CAP> {
@@ -53,8 +57,9 @@ impl<const CAP: usize> PlainBank<CAP> {
     {
         let count = grid.links();
         let mut links = Vec::with_capacity(alloc, count as usize)?;
+        let mut rings = Vec::with_capacity(alloc, count as usize)?;
         for _ in 0..count {
-            if links.push(PlainLink::new(alloc)).is_err() {
+            if links.push(PlainLink::new()).is_err() || rings.push(Ring::new(alloc)).is_err() {
                 return Err(NoMemory);
             }
         }
@@ -62,6 +67,7 @@ impl<const CAP: usize> PlainBank<CAP> {
             grid: *grid,
             slots,
             links,
+            rings,
         })
     }
 
@@ -81,7 +87,12 @@ impl<const CAP: usize> PlainBank<CAP> {
         ensures round { result ≡ closed CAP self.entry }
         ensures in_order { IsRound result }
     {
-        let PlainBank { grid, slots, links } = self;
+        let PlainBank {
+            grid,
+            slots,
+            links,
+            rings: _,
+        } = self;
         PlainRound::new(grid, CAP as u32, slots, links)
     }
 
@@ -103,6 +114,7 @@ impl<const CAP: usize> PlainBank<CAP> {
     /// Posts a parcel on a link, for the rank at which the link starts.
     pub(crate) fn post(&mut self, link: u32, p: &mut Parcel<CAP>) -> Result<Posted, NoMemory>
         requires link { link < links self.old.dims }
+        requires fresh { p.old.taken ≡ 0 }
         requires epoch { p.old.epoch ≡ lasts (sent_of self.old link) }
         requires law { let rank = sender_at self.old.dims link in RelayLaw self.old.dims rank
             (added (starting_at self.old.dims rank (sent_of self.old)) link (shipped p.old))
@@ -122,7 +134,8 @@ impl<const CAP: usize> PlainBank<CAP> {
         ensures number { length self.old.channels ≡ links self.old.dims }
     {
         p.known();
-        self.links[link as usize].post(self.slots, p)
+        let at = link as usize;
+        self.links[at].post(&mut self.rings[at], self.slots, p)
     }
 
     /// Collects the next parcel of a link, for the rank at which the link ends.
@@ -146,6 +159,7 @@ impl<const CAP: usize> PlainBank<CAP> {
         ensures looks { (channel_at self.old link).looks_in ≤ (channel_at self.new link).looks_in }
         ensures number { length self.old.channels ≡ links self.old.dims }
     {
-        self.links[link as usize].collect(p)
+        let at = link as usize;
+        self.links[at].collect(&mut self.rings[at], p)
     }
 }

@@ -1,6 +1,7 @@
 //! What is left of a plain bank when its exchange is over.
 ghost use Rattle.std.specs.Prelude.{◌≡◌, ◌≤◌, map, length, List};
 ghost use Rattle.route_tensor.specs.Grid.{ranks};
+ghost use Rattle.list_laws.specs.Counts.{counted};
 ghost use Rattle.port_bank.specs.Round.{Round, IsRound, epochs_of};
 ghost use Rattle.port_bank.specs.Plain.{closed};
 
@@ -8,8 +9,8 @@ use crate::plain_link::PlainLink;
 use route_tensor::Grid;
 use std::marker::Model;
 
-/// All parcels that were posted on a plain bank's links and collected from them. It is made by `PlainBank::close`
-/// alone.
+/// All parcels that were posted on a plain bank's links and collected from them, for contracts alone. It stores no
+/// parcel, and is made by `PlainBank::close` alone.
 #[derive(Drop)]
 pub struct PlainRound {
     grid: Grid,
@@ -51,9 +52,9 @@ impl PlainRound {
         self.grid.ranks()
     }
 
-    /// How many epochs every link has ended.
+    /// How many epochs every link has ended. The count stands still at the last number.
     pub fn epochs(&self) -> u64
-        ensures value { result ≡ epochs_of self.now }
+        ensures value { result ≡ counted (epochs_of self.now) }
         ensures round { IsRound self.now }
     {
         let mut least = u64::MAX;

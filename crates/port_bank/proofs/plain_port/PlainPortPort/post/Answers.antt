@@ -16,8 +16,11 @@ post-requires g c =
         (
           c.requires.link,
           (
-            c.requires.epoch ∙ ap lasts (starting_own b.dims c.args.self.now.rank (sent_of b) c.args.link c.requires.starts_here),
-            subst (λ r. RelayLaw b.dims r (added (starting_at b.dims r (sent_of b)) c.args.link (shipped c.args.p.now)) (ending_at b.dims r (got_of b))) (sym c.requires.starts_here) c.requires.law,
+            c.requires.fresh,
+            (
+              c.requires.epoch ∙ ap lasts (starting_own b.dims c.args.self.now.rank (sent_of b) c.args.link c.requires.starts_here),
+              subst (λ r. RelayLaw b.dims r (added (starting_at b.dims r (sent_of b)) c.args.link (shipped c.args.p.now)) (ending_at b.dims r (got_of b))) (sym c.requires.starts_here) c.requires.law,
+            ),
           ),
         ),
       ),

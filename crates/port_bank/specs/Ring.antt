@@ -1,0 +1,25 @@
+-- The places of a link, which go round.
+use Rattle.std.specs.Prelude.{◌≡◌, ℕ, ◌-◌, ◌<◌, ◌≤◌, List, ◌++◌, map, take, drop, length}
+use Rattle.std.specs.List.{All}
+use Rattle.item_buffer.specs.Contents.{Contents, Shipped, shipped, arrived, blank}
+
+-- The places from place n on, round to the one before it.
+-- turned n xs = drop n xs ++ take n xs
+-- Of the places a, b, c, from place 2 on: c, a, b.
+abbrev pub turned : {X : Type 0} → ℕ → List X → List X
+turned n xs = drop n xs ++ take n xs
+
+-- The parcels on their way: those of the first places from place `first` on, as many as wait.
+-- Of a, b, c with first 2 and 2 that wait: c, a.
+abbrev pub on_way : ℕ → ℕ → List Contents → List Shipped
+on_way first waiting places = map shipped (take waiting (turned first places))
+
+-- What the places of a link keep: there is a next place to collect from as soon as there are places, a parcel on its way is as it was posted,
+-- with nothing taken, and in every other place is an empty one.
+pub record IsRing (cap first waiting : ℕ) (places : List Contents) : Type 0 where
+  pub some : 0 < cap
+  pub small : cap ≤ 1024
+  pub begins : first ≤ length places - 1
+  pub within : waiting ≤ length places
+  pub fresh : All (λ c. c ≡ arrived (shipped c)) (take waiting (turned first places))
+  pub empty : All (λ c. c ≡ blank c.epoch) (drop waiting (turned first places))

@@ -1,0 +1,48 @@
+//! The parcels that went over a link, for contracts alone: none of them is kept.
+ghost use Rattle.std.specs.Prelude.{◌≡◌, ◌++◌, [], ◌∷◌};
+ghost use Rattle.item_buffer.specs.Contents.{shipped};
+ghost use Rattle.port_bank.specs.Passed.{entries_of, parcels_of};
+
+use bale_types::Entry;
+use item_buffer::Parcel;
+use std::snapshot::Snapshot;
+
+/// Entries, of which each is seen by contracts alone.
+#[derive(Drop)]
+pub(crate) enum Entries {
+    None,
+    And(Snapshot<Entries>, Snapshot<Entry>),
+}
+
+/// Parcels, each by its entries, its mark and its epoch, which are seen by contracts alone.
+#[derive(Drop)]
+pub(crate) enum Log {
+    Nothing,
+    Then(Snapshot<Log>, Snapshot<Entries>, Snapshot<bool>, Snapshot<u64>),
+}
+
+impl Log {
+    /// The log with one more parcel.
+    pub(crate) fn with<const CAP: usize>(&self, p: &Parcel<CAP>) -> Log
+        ensures { parcels_of result ≡ parcels_of self.now ++ shipped p.now ∷ [] }
+    {
+        let entries = seen(p.untaken());
+        Log::Then(
+            Snapshot::of(self),
+            Snapshot::of(&entries),
+            Snapshot::of(&p.last()),
+            Snapshot::of(&p.epoch()),
+        )
+    }
+}
+
+/// What contracts see of some entries. The loop has no effect, and a compiler that optimizes leaves nothing of it.
+fn seen(entries: &[Entry]) -> Entries
+    ensures { entries_of result ≡ entries.now }
+{
+    let mut all = Entries::None;
+    for entry in entries {
+        all = Entries::And(Snapshot::of(&all), Snapshot::of(entry));
+    }
+    all
+}

@@ -14,3 +14,4 @@ pub mod Posts
 pub mod Listing
 pub mod Turning
 pub mod Rings
+pub mod Few

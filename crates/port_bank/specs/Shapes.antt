@@ -1,6 +1,6 @@
 -- How the parcels of a log are filled, by who sends them.
-use Rattle.std.specs.Prelude.{◌≡◌, ℕ, ◌%◌, ◌<◌, Bool, true, false, List, [], length, slice_index_or}
-use Rattle.std.specs.List.{All}
+use Rattle.std.specs.Prelude.{◌≡◌, ℕ, ◌+◌, ◌/◌, ◌%◌, ◌<◌, ◌≤◌, Bool, true, false, List, [], length, slice_index_or}
+use Rattle.std.specs.List.{All, sum_by}
 use Rattle.item_buffer.specs.Contents.{Shipped}
 use Rattle.port_bank.specs.Logs.{segment}
 
@@ -21,3 +21,9 @@ IsConveyorShape steady cap log = All (λ p. p.last ≡ false → IsFilled steady
 pub record IsExstackShape (log : List Shipped) : Type 0 where
   pub empty : (e i : ℕ) (d : Shipped) → i < length (segment e log) → i % 2 ≡ 0 → (slice_index_or (segment e log) i d).entries ≡ []
   pub goes_on : (e i : ℕ) (d : Shipped) → i < length (segment e log) → i % 2 ≡ 1 → (slice_index_or (segment e log) i d).last ≡ false
+
+-- So many entries travel in few parcels: in each epoch in no more than full ones would take, and one more.
+-- The number of parcels of segment e is at most n div cap + 1, where n is the number of their entries.
+-- At capacity 2 five entries travel in at most three parcels.
+abbrev pub TravelInFew : ℕ → List Shipped → Type 0
+TravelInFew cap log = (e : ℕ) → length (segment e log) ≤ sum_by (λ p. length p.entries) (segment e log) / cap + 1

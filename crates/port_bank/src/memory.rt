@@ -9,7 +9,7 @@ pub trait Memory {
     ghost GROWS: { Bool };
 }
 
-/// Each parcel that is posted takes memory, which is kept.
+/// A parcel that is posted takes memory where more of its link are on their way than ever before.
 pub struct Growing;
 
 impl Memory for Growing {

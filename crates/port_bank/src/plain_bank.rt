@@ -96,6 +96,13 @@ impl<const CAP: usize> PlainBank<CAP> {
         PlainRound::new(grid, CAP as u32, slots, links)
     }
 
+    /// Does nothing, and tells that the bank keeps the laws of a round at every moment, and not only when it is closed.
+    pub fn live_law(&self)
+        ensures { IsRound (closed CAP self.now) }
+    {
+        let _slots = self.slots;
+    }
+
     /// Does nothing, and tells what holds of the number of slots.
     pub(crate) fn known(&self)
         ensures { IsSlots self.now.slots }

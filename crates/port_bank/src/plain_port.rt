@@ -1,7 +1,8 @@
 //! One rank's end of a plain bank.
 ghost use Rattle.std.specs.Prelude.{◌≡◌, ◌≢◌, ℕ, ◌+◌, ◌==◌, Bool, true, List, length, refl};
 ghost use Rattle.port_bank.specs.Logs.{Logs, starting_at, ending_at};
-ghost use Rattle.port_bank.specs.Plain.{Bank, IsBank, channel_at, sent_of, got_of, others_of};
+ghost use Rattle.port_bank.specs.Plain.{Bank, IsBank, channel_at, sent_of, got_of, others_of, closed};
+ghost use Rattle.port_bank.specs.Round.{IsRound};
 
 use crate::plain_bank::PlainBank;
 use crate::{Collected, Growing, Port, Posted};
@@ -21,6 +22,14 @@ impl<const CAP: usize> PlainPort<CAP> {
         ensures rank { result.rank ≡ rank }
     {
         PlainPort { bank, rank }
+    }
+
+    /// Does nothing, and tells that the bank keeps the laws of a round at every moment: so in each epoch and for each pair
+    /// of ranks what was got on the last hop is a front of what was sent on the first.
+    pub fn live_law(&self)
+        ensures { IsRound (closed CAP self.now.bank) }
+    {
+        self.bank.live_law();
     }
 
     /// The bank, with what this rank sent and got.

@@ -2,8 +2,9 @@
 ghost use Rattle.std.specs.Prelude.{◌≡◌, ◌++◌, ◌∷◌, [], List, length, slice_get, OnOk, OnErr};
 ghost use Rattle.std.specs.Option.{option_copied};
 ghost use Rattle.route_tensor.specs.Grid.{ranks};
-ghost use Rattle.port_bank.specs.Round.{IsRound};
-ghost use Rattle.rank_group.specs.Rounds.{round_of, told_epochs};
+ghost use Rattle.list_laws.specs.Counts.{counted};
+ghost use Rattle.port_bank.specs.Round.{IsRound, epochs_of};
+ghost use Rattle.rank_group.specs.Rounds.{round_of};
 
 use bale_types::NoMemory;
 use link_slots::SlotRound;
@@ -32,9 +33,9 @@ impl ClosedRound {
         }
     }
 
-    /// How many epochs every link has ended; of a slot bank the count stands still at the last number.
+    /// How many epochs every link has ended. The count stands still at the last number.
     pub fn epochs(&self) -> u64
-        ensures value { result ≡ told_epochs self.now }
+        ensures value { result ≡ counted (epochs_of (round_of self.now)) }
         ensures round { IsRound (round_of self.now) }
     {
         match self {

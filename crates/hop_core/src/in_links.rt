@@ -13,14 +13,12 @@ use std::alloc::Global;
 use std::marker::Model;
 use std::mem;
 
-/// A link in.
+/// A link in, of 32 bytes: its place in a list is a shift of its number.
 #[derive(Drop)]
 pub struct InLink<const CAP: usize> {
     parcel: Parcel<CAP>,
     /// Whether the last parcel of this epoch was got.
     ended: bool,
-    /// Fills a link up to 64 bytes: its place in a list is a shift of its number.
-    _filler: [u64; 2],
 }
 
 impl<const CAP: usize> Model for InLink<CAP> {
@@ -41,7 +39,6 @@ impl<const CAP: usize> InLink<CAP> {
         Ok(InLink {
             parcel: Parcel::new(alloc)?,
             ended: false,
-            _filler: [0, 0],
         })
     }
 

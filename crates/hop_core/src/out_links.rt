@@ -12,14 +12,12 @@ use std::alloc::Global;
 use std::marker::Model;
 use std::mem;
 
-/// A link out.
+/// A link out, of 32 bytes: its place in a list is a shift of its number.
 #[derive(Drop)]
 pub struct OutLink<const CAP: usize> {
     parcel: Parcel<CAP>,
     /// Whether the last parcel of this epoch was sent.
     closed: bool,
-    /// Fills a link up to 64 bytes: its place in a list is a shift of its number.
-    _filler: [u64; 2],
 }
 
 impl<const CAP: usize> Model for OutLink<CAP> {
@@ -40,7 +38,6 @@ impl<const CAP: usize> OutLink<CAP> {
         Ok(OutLink {
             parcel: Parcel::new(alloc)?,
             closed: false,
-            _filler: [0, 0],
         })
     }
 

@@ -14,8 +14,12 @@ turned n xs = drop n xs ++ take n xs
 abbrev pub on_way : ℕ → ℕ → List Contents → List Shipped
 on_way first waiting places = map shipped (take waiting (turned first places))
 
--- What the places of a link keep: there is a next place to collect from as soon as there are places, a parcel on its way is as it was posted,
--- with nothing taken, and in every other place is an empty one.
+-- What the places of a link keep, for parcels of capacity cap.
+-- begins: the place of the next collect is one of them.
+-- within: no more parcels are on their way than there are places.
+-- fresh: of a parcel on its way no entry is taken.
+-- empty: in every other place is an empty parcel.
+-- Example: of three places with first 2 and 2 that wait, place 1 has the empty one.
 pub record IsRing (cap first waiting : ℕ) (places : List Contents) : Type 0 where
   pub some : 0 < cap
   pub small : cap ≤ 1024

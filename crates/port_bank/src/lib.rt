@@ -1,9 +1,10 @@
 //! Links between ranks: what a rank may do on its own links, and a bank of links for one thread.
 //!
-//! A rank posts parcels on its links out and collects parcels on its links in, through a `Port`. Everything
-//! above knows of a transport only this trait. The transport here is the plain bank, whose ports take turns on it. Each of
-//! its links is a ring of parcels: a post exchanges the full parcel for an empty one of the ring, and a collect the empty
-//! one at hand for a full one. So no entry is copied, and nothing is kept of what was collected.
+//! A rank posts parcels on its links out and collects parcels on its links in, through a `Port`.
+//! Everything above knows of a transport only this trait. The transport here is the plain bank, whose
+//! ports take turns on it. Each of its links is a ring of parcels: a post exchanges the full parcel
+//! for an empty one of the ring, and a collect the empty one at hand for a full one. So no entry is
+//! copied, and nothing is kept of what was collected.
 //!
 //! `specs/Machine.antt` states the exchange machine: what the ranks of any bank do, seen as two lists of items for each
 //! epoch and ordered pair of ranks.
@@ -17,7 +18,7 @@
 //! | `PlainBank::live_law`, `PlainPort::live_law` | the laws of a closed round hold of a bank's lists at every moment |
 //! | `PlainBank::close` | a closed round, on which what each rank pulled is what the others pushed |
 //! | `PlainRound::ranks`, `PlainRound::epochs` | the number of ranks; how many epochs every link has ended |
-//! | `few_parcels_law` | the entries of an epoch travel in few parcels, where only the last may be less than full |
+//! | `few_parcels_law` | where only its last parcel may be less than full, an epoch has few parcels |
 #![tactic(auto)]
 
 mod few_parcels;

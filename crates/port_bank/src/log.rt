@@ -36,7 +36,7 @@ impl Log {
     }
 }
 
-/// What contracts see of some entries. The loop has no effect, and a compiler that optimizes leaves nothing of it.
+/// What contracts see of some entries. The loop has no effect, so optimized code has none of it.
 fn seen(entries: &[Entry]) -> Entries
     ensures { entries_of result ≡ entries.now }
 {

@@ -96,7 +96,8 @@ impl<const CAP: usize> PlainBank<CAP> {
         PlainRound::new(grid, CAP as u32, slots, links)
     }
 
-    /// Does nothing, and tells that the bank keeps the laws of a round at every moment, and not only when it is closed.
+    /// Does nothing, and tells that the bank keeps the laws of a round at every moment, and not only
+    /// when it is closed.
     pub fn live_law(&self)
         ensures { IsRound (closed CAP self.now) }
     {

@@ -1,4 +1,4 @@
-//! One link of a plain bank: what was done on it, and the place of what is on its way.
+//! One link of a plain bank: what was done on it.
 ghost use Rattle.std.specs.Prelude.{◌≡◌, ◌≢◌, ◌+◌, ◌<◌, ◌≤◌, ◌++◌, length, slice_get, IsErr, Ok, Some};
 ghost use Rattle.bale_types.specs.Stream.{Rose};
 ghost use Rattle.item_buffer.specs.Contents.{shipped, arrived, blank};
@@ -13,13 +13,14 @@ use bale_types::NoMemory;
 use item_buffer::Parcel;
 use std::marker::Model;
 
-/// The counts of a link, and for contracts alone the parcels that were posted on it and collected from it. Its ring has
-/// those that were posted and not collected.
+/// The counts of a link, and for contracts alone the parcels that were posted on it and those that
+/// were collected from it. Its ring has those that were posted and not collected.
 #[derive(Drop)]
 pub(crate) struct PlainLink {
     sent: Log,
     got: Log,
-    /// How many epochs its reader has seen the end of; this count and those below stand still at their last number.
+    /// How many epochs its reader has seen the end of; this count and those below stand still at
+    /// their last number.
     ended: u64,
     /// How often the sender looked for room.
     looks_out: u64,

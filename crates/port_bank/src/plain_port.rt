@@ -24,8 +24,9 @@ impl<const CAP: usize> PlainPort<CAP> {
         PlainPort { bank, rank }
     }
 
-    /// Does nothing, and tells that the bank keeps the laws of a round at every moment: so in each epoch and for each pair
-    /// of ranks what was got on the last hop is a front of what was sent on the first.
+    /// Does nothing, and tells that the bank keeps the laws of a round at every moment: so in each
+    /// epoch and for each pair of ranks what was got on the last hop is a front of what was sent on
+    /// the first.
     pub fn live_law(&self)
         ensures { IsRound (closed CAP self.now.bank) }
     {

@@ -88,8 +88,8 @@ impl<const CAP: usize> Ring<CAP> {
     }
 }
 
-/// Where a parcel is on its way in every place, turns the places until the next one to collect is in front, and adds one
-/// behind them. Answers the place of the next collect.
+/// Where every place has a parcel on its way, turns the places until the next one to collect is in
+/// front, and adds one behind them. Answers the place of the next collect.
 ///
 /// # Errors
 /// `NoMemory` changes nothing.

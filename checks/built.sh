@@ -39,7 +39,7 @@ start() { # command..
     trap 'end_child; exit 129' HUP
     trap 'end_child; exit 130' INT
     trap 'end_child; exit 143' TERM
-    if [ -e /dev/fd/0 ]; then setsid "$@" <&0 & else setsid "$@" <&- & fi
+    setsid "$@" <&0 &
     child=$!
 }
 

@@ -1,5 +1,6 @@
-# What ./bale, ./build and checks/run know of a build; each reads this file. `top` is the repository's folder.
-# A build is recorded in crates/bale/out/built: the sum of the sources that it was made of, the toolchain, and rt's own stamp on the program.
+# What ./bale, ./build and checks/run know of a build; each reads this file. `top` is the
+# repository's folder. A build is recorded in crates/bale/out/built: the sum of the sources that it
+# was made of, the toolchain, and rt's own stamp on the program.
 
 program=$top/crates/bale/out/bale
 stamp=$top/crates/bale/out/bale.stamp
@@ -34,7 +35,8 @@ is_current() {
     [ -z "$by" ] || [ "$was_made_by" = "$by" ]
 }
 
-# Starts a command on this script's standard input, open or closed, as a process group that ends where this script is told to.
+# Starts a command on this script's standard input, open or closed, as a process group that ends
+# where this script is told to.
 start() { # command..
     trap 'end_child; exit 129' HUP
     trap 'end_child; exit 130' INT

@@ -1,14 +1,19 @@
-# What ./bale and ./build know of a build; both read this file. `top` is the repository's folder.
-# A build is recorded in crates/bale/out/built: the sources that it was made of, the toolchain, and rt's own stamp on the program.
+# What ./bale, ./build and checks/run know of a build; each reads this file. `top` is the
+# repository's folder. A build is recorded in crates/bale/out/built: the sum of the sources that it
+# was made of, the toolchain, and rt's own stamp on the program.
 
 program=$top/crates/bale/out/bale
 stamp=$top/crates/bale/out/bale.stamp
 record=$top/crates/bale/out/built
 
-# The sources by name, size and time.
+# The sum of files and folders, by names and contents: a checkout back and forth changes nothing.
+sum_of() { # files and folders..
+    find "$@" -type f -print0 2>/dev/null | LC_ALL=C sort -z | xargs -0 sha256sum | sha256sum
+}
+
+# The sources: all that a proof reads.
 sources() {
-    (cd "$top" && find crates.txt HANDLES crates/*/src crates/*/specs crates/*/proofs -type f -printf '%p %s %T@\n' 2>/dev/null |
-        LC_ALL=C sort | sha256sum)
+    (cd "$top" && sum_of crates.txt HANDLES crates/*/src crates/*/specs crates/*/proofs)
 }
 
 # The toolchain's identity, or nothing where rt is not found.
@@ -24,14 +29,25 @@ is_current() {
     [ -x "$program" ] && [ -r "$record" ] && [ -r "$stamp" ] || return 1
     local was_made_of was_made_by had_stamp by
     { read -r was_made_of && read -r was_made_by && read -r had_stamp; } <"$record"
-    [ "$was_made_of" = "$(sources)" ] || return 1
     [ "$had_stamp" = "$(sha256sum <"$stamp")" ] || return 1
+    [ "$was_made_of" = "$(sources)" ] || return 1
     by=$(toolchain | head -n 1)
     [ -z "$by" ] || [ "$was_made_by" = "$by" ]
 }
 
-# Ends with what was started: its whole process group.
-ends_with() { # process
-    trap 'kill -TERM -- "-'"$1"'" 2>/dev/null; exit 130' INT
-    trap 'kill -TERM -- "-'"$1"'" 2>/dev/null; exit 143' TERM
+# Starts a command on this script's standard input, open or closed, as a process group that ends
+# where this script is told to.
+start() { # command..
+    trap 'end_child; exit 129' HUP
+    trap 'end_child; exit 130' INT
+    trap 'end_child; exit 143' TERM
+    setsid "$@" <&0 &
+    child=$!
+}
+
+child=
+end_child() {
+    [ -n "$child" ] || return
+    kill -TERM -- "-$child" 2>/dev/null || kill -TERM "$child" 2>/dev/null
+    wait "$child"
 }

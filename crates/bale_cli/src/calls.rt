@@ -10,6 +10,7 @@ ghost use Rattle.bale_subjects.specs.Reading.{reads, Told};
 ghost use Rattle.bale_runs.specs.Asking.{TellsCommand, TurnsOfCommand};
 ghost use Rattle.bale_runs.specs.Jobs.{as_asked, on_one_thread};
 ghost use Rattle.bale_cli.specs.Outcomes.{Answered};
+ghost use Rattle.bale_cli.specs.Run.{IsRun};
 
 use bale_runs::{Finish, drives_serially, ran, ran_serially};
 use bale_subjects::{Refusal, Subject, read_words, report, subject_for};
@@ -35,7 +36,8 @@ pub struct Outcome {
 /// thread the gate is told of it.
 ///
 /// Where the source tells its text, out and err take exactly what the serial answer says, unless a read or a
-/// write failed or an allocation was refused. It waits for its threads, and returns where they do.
+/// write failed or an allocation was refused. It waits for its threads, and returns where they do. `IsRun` of
+/// specs/Run says it field by field.
 pub fn run<R: Threads + Wait + Sync, S: Source, K: Sink, E: Sink, G: Gate + Sync>(
     rt: &R,
     alloc: Global,
@@ -45,58 +47,8 @@ pub fn run<R: Threads + Wait + Sync, S: Source, K: Sink, E: Sink, G: Gate + Sync
     err: &mut E,
     gate: &G,
 ) -> Outcome
-    // The status is the serial answer's; 3 and 4 come where a read or a write failed, and only there; want of memory is free.
-    ensures usage { result.status ≡ 2 → command_of (map string_bytes words.now) ≡ None }
-    ensures no_command { command_of (map string_bytes words.now) ≡ None → result.status ≢ 7 → result.status ≡ 2 }
-    ensures status { (text : List ℕ) → Told (command_of (map string_bytes words.now)) (S.left source.old) text
-        → result.status ≢ 3 → result.status ≢ 4 → result.status ≢ 7
-        → result.status ≡ (serial_answer as_asked (map string_bytes words.now) text).status }
-    ensures read_fault { result.status ≡ 3 → Rose (S.faults source.old) (S.faults source.new) }
-    ensures no_read_fault { result.status ≢ 3 → S.faults source.new ≡ S.faults source.old }
-    ensures write_fault { result.status ≡ 4 → Rose (K.faults out.old) (K.faults out.new) }
-    ensures no_write_fault { result.status ≢ 4 → K.faults out.new ≡ K.faults out.old }
-
-    // The source is as it was where the matrix is generated, and at 2; else at 0, 1, 4, 5 and 6 the text was read whole, or to one byte
-    // past its limit.
-    ensures unread { reads (command_of (map string_bytes words.now)) ≡ false → source.new ≡ source.old }
-    ensures read_whole { (text : List ℕ) → S.left source.old ≡ Some text
-        → reads (command_of (map string_bytes words.now)) ≡ true
-        → result.status ≢ 3 → result.status ≢ 7 → S.left source.new ≡ Some (drop 16_777_217 text) }
-
-    // At 0 and 1 out has taken the answer, at 4 a front of it, and else it is as it was; what it held stays, so at 4 it has what it held
-    // and then a front of the answer.
-    ensures answer { (text : List ℕ) → Told (command_of (map string_bytes words.now)) (S.left source.old) text
-        → (result.status ≡ 0) ⊎ (result.status ≡ 1)
-        → Wrote as_asked (command_of (map string_bytes words.now)) text
-        (λ bytes. K.taken out.new ≡ after (K.taken out.old) bytes) }
-    ensures front { (text : List ℕ) → Told (command_of (map string_bytes words.now)) (S.left source.old) text
-        → result.status ≡ 4
-        → Wrote as_asked (command_of (map string_bytes words.now)) text
-        (λ bytes. IsFront (K.taken out.new) (after (K.taken out.old) bytes)) }
-    ensures held { IsFront (K.taken out.old) (K.taken out.new) }
-    ensures no_answer { result.status ≢ 0 → result.status ≢ 1 → result.status ≢ 4 → out.new ≡ out.old }
-
-    // What is said on err is whole unless its own faults rose; the text matters at 5 and 6 alone. At 0 and 1 err is as it was.
-    ensures said { (text : List ℕ) → ((result.status ≡ 5) ⊎ (result.status ≡ 6)
-        → Told (command_of (map string_bytes words.now)) (S.left source.old) text)
-        → ¬ Rose (E.faults err.old) (E.faults err.new)
-        → E.taken err.new ≡ after (E.taken err.old)
-        (said result.status (serial_answer as_asked (map string_bytes words.now) text)) }
-    ensures said_front { (text : List ℕ) → ((result.status ≡ 5) ⊎ (result.status ≡ 6)
-        → Told (command_of (map string_bytes words.now)) (S.left source.old) text)
-        → IsFront (E.taken err.new) (after (E.taken err.old)
-        (said result.status (serial_answer as_asked (map string_bytes words.now) text))) }
-    ensures said_held { IsFront (E.taken err.old) (E.taken err.new) }
-    ensures silent { (result.status ≡ 0) ⊎ (result.status ≡ 1) → err.new ≡ err.old }
-
-    // At 0, 1 and 4 the rounds tell the canonical run of the application's programs for its matrix or lines, and for ig over biconvey that
-    // of the sums and then the queries and the replies, over banks of the grid, the capacity and the slots that the words name: plain
-    // ones for one thread, else ones of slots; else there are none.
-    ensures rounds { (text : List ℕ) (c : Command) (s : Subject)
-        → Asked as_asked (S.left source.old) (command_of (map string_bytes words.now)) text c s
-        → (result.status ≡ 0) ⊎ (result.status ≡ 1) ⊎ (result.status ≡ 4)
-        → TellsCommand (as_asked c) c s result.rounds }
-    ensures no_rounds { result.status ≢ 0 → result.status ≢ 1 → result.status ≢ 4 → result.rounds ≡ [] }
+    ensures run { IsRun as_asked (map string_bytes words.now) S.left S.faults source.old source.new
+        K.taken K.faults out.old out.new E.taken E.faults err.old err.new result.status result.rounds }
 {
     let answered = answer(rt, alloc, words, source, out, gate);
     outcome_of(alloc, answered, err)
@@ -107,7 +59,7 @@ pub fn run<R: Threads + Wait + Sync, S: Source, K: Sink, E: Sink, G: Gate + Sync
 /// It always returns.
 ///
 /// Where the source tells its text, out and err take exactly what the serial answer says, unless a read or a
-/// write failed or an allocation was refused.
+/// write failed or an allocation was refused (`IsRun`).
 pub fn run_serial<S: Source, K: Sink, E: Sink, L: Ledger>(
     alloc: Global,
     words: &[String],
@@ -116,58 +68,8 @@ pub fn run_serial<S: Source, K: Sink, E: Sink, L: Ledger>(
     err: &mut E,
     steps: &mut Steps<L>,
 ) -> Outcome
-    // The status is the serial answer's; 3 and 4 come where a read or a write failed, and only there; want of memory is free.
-    ensures usage { result.status ≡ 2 → command_of (map string_bytes words.now) ≡ None }
-    ensures no_command { command_of (map string_bytes words.now) ≡ None → result.status ≢ 7 → result.status ≡ 2 }
-    ensures status { (text : List ℕ) → Told (command_of (map string_bytes words.now)) (S.left source.old) text
-        → result.status ≢ 3 → result.status ≢ 4 → result.status ≢ 7
-        → result.status ≡ (serial_answer on_one_thread (map string_bytes words.now) text).status }
-    ensures read_fault { result.status ≡ 3 → Rose (S.faults source.old) (S.faults source.new) }
-    ensures no_read_fault { result.status ≢ 3 → S.faults source.new ≡ S.faults source.old }
-    ensures write_fault { result.status ≡ 4 → Rose (K.faults out.old) (K.faults out.new) }
-    ensures no_write_fault { result.status ≢ 4 → K.faults out.new ≡ K.faults out.old }
-
-    // The source is as it was where the matrix is generated, and at 2; else at 0, 1, 4, 5 and 6 the text was read whole, or to one byte
-    // past its limit.
-    ensures unread { reads (command_of (map string_bytes words.now)) ≡ false → source.new ≡ source.old }
-    ensures read_whole { (text : List ℕ) → S.left source.old ≡ Some text
-        → reads (command_of (map string_bytes words.now)) ≡ true
-        → result.status ≢ 3 → result.status ≢ 7 → S.left source.new ≡ Some (drop 16_777_217 text) }
-
-    // At 0 and 1 out has taken the answer, at 4 a front of it, and else it is as it was; what it held stays, so at 4 it has what it held
-    // and then a front of the answer.
-    ensures answer { (text : List ℕ) → Told (command_of (map string_bytes words.now)) (S.left source.old) text
-        → (result.status ≡ 0) ⊎ (result.status ≡ 1)
-        → Wrote on_one_thread (command_of (map string_bytes words.now)) text
-        (λ bytes. K.taken out.new ≡ after (K.taken out.old) bytes) }
-    ensures front { (text : List ℕ) → Told (command_of (map string_bytes words.now)) (S.left source.old) text
-        → result.status ≡ 4
-        → Wrote on_one_thread (command_of (map string_bytes words.now)) text
-        (λ bytes. IsFront (K.taken out.new) (after (K.taken out.old) bytes)) }
-    ensures held { IsFront (K.taken out.old) (K.taken out.new) }
-    ensures no_answer { result.status ≢ 0 → result.status ≢ 1 → result.status ≢ 4 → out.new ≡ out.old }
-
-    // What is said on err is whole unless its own faults rose; the text matters at 5 and 6 alone. At 0 and 1 err is as it was.
-    ensures said { (text : List ℕ) → ((result.status ≡ 5) ⊎ (result.status ≡ 6)
-        → Told (command_of (map string_bytes words.now)) (S.left source.old) text)
-        → ¬ Rose (E.faults err.old) (E.faults err.new)
-        → E.taken err.new ≡ after (E.taken err.old)
-        (said result.status (serial_answer on_one_thread (map string_bytes words.now) text)) }
-    ensures said_front { (text : List ℕ) → ((result.status ≡ 5) ⊎ (result.status ≡ 6)
-        → Told (command_of (map string_bytes words.now)) (S.left source.old) text)
-        → IsFront (E.taken err.new) (after (E.taken err.old)
-        (said result.status (serial_answer on_one_thread (map string_bytes words.now) text))) }
-    ensures said_held { IsFront (E.taken err.old) (E.taken err.new) }
-    ensures silent { (result.status ≡ 0) ⊎ (result.status ≡ 1) → err.new ≡ err.old }
-
-    // At 0, 1 and 4 the rounds tell the canonical run of the application's programs for its matrix or lines, and for ig over biconvey that
-    // of the sums and then the queries and the replies, over plain banks of the grid, the capacity and the slots that the words name; else
-    // there are none.
-    ensures rounds { (text : List ℕ) (c : Command) (s : Subject)
-        → Asked on_one_thread (S.left source.old) (command_of (map string_bytes words.now)) text c s
-        → (result.status ≡ 0) ⊎ (result.status ≡ 1) ⊎ (result.status ≡ 4)
-        → TellsCommand true c s result.rounds }
-    ensures no_rounds { result.status ≢ 0 → result.status ≢ 1 → result.status ≢ 4 → result.rounds ≡ [] }
+    ensures run { IsRun on_one_thread (map string_bytes words.now) S.left S.faults source.old source.new
+        K.taken K.faults out.old out.new E.taken E.faults err.old err.new result.status result.rounds }
 
     // The turns are bounded by the words and the matrix or lines, at 7 too; where the words and the text ask for no run, and at a
     // refusal, there are none.

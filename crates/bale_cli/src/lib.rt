@@ -6,8 +6,9 @@
 //! | [`run_serial`] | the same, all ranks on this thread: it returns, and its turns are bounded |
 //! | [`report`] | to say on a sink why a run ended without an answer |
 //!
-//! Read the serial answer first, `specs/Answer` of bale_answers: it is about the words and the text alone. It stands on bale_subjects (what
-//! a command is asked of). What the rounds tell is in bale_runs. `specs/Outcomes` is this crate's own words.
+//! Read `specs/Run` first: what both calls promise, sentence by sentence. It stands on the serial answer, `specs/Answer` of bale_answers, which
+//! is about the words and the text alone, on bale_subjects (what a command is asked of), and on bale_runs (what the rounds tell).
+//! `specs/Outcomes` is the way there.
 #![tactic(auto)]
 
 mod calls;

@@ -10,9 +10,10 @@ use std::thread;
 /// How often a hold looks before it gives up.
 const TRIES: u32 = 1_000_000_000;
 
-/// Holds rank 0's turn 0 until rank 1's turn 0 was announced.
+/// Holds the turn 0 of one of two ranks until the other's turn 0 was announced.
 #[derive(Drop)]
 struct Holds {
+    held: u32,
     announced: AtomicBool,
     gave_up: AtomicBool,
 }
@@ -31,19 +32,29 @@ impl Holds {
 
 impl Gate for Holds {
     fn turn(&self, rank: u32, n: u64) {
-        match (rank, n) {
-            (0, 0) => self.hold(),
-            (1, 0) => self.announced.store(true, Ordering::SeqCst),
-            _ => {}
+        if n != 0 {
+            return;
+        }
+        if rank == self.held {
+            self.hold();
+        } else {
+            self.announced.store(true, Ordering::SeqCst);
         }
     }
 }
 
+/// And rank 1: a body that turns one rank after the other waits in vain at one of them, whichever it turns first.
 #[test]
 fn gate_holds_rank_0(rt: HostRuntime) -> Result<(), Fail> {
-    for text in ["histo --grid 2", "histo --grid 2 --via exstack"] {
+    for (text, held) in [
+        ("histo --grid 2", 0),
+        ("histo --grid 2", 1),
+        ("histo --grid 2 --via exstack", 0),
+        ("histo --grid 2 --via exstack", 1),
+    ] {
         let words = words(rt.alloc(), text)?;
         let gate = Holds {
+            held,
             announced: AtomicBool::new(false),
             gave_up: AtomicBool::new(false),
         };
@@ -61,6 +72,7 @@ fn gate_holds_rank_0(rt: HostRuntime) -> Result<(), Fail> {
         );
         assert_eq!(rt; outcome.status, 0, "{text}");
         assert_eq!(rt; out.taken(), b"1 1\n2 0\n3 3\n".as_slice(), "{text}");
+        assert!(rt; gate.announced.load(Ordering::SeqCst), "{text}");
         assert!(rt; !gate.gave_up.load(Ordering::SeqCst), "{text}");
     }
     Ok(())

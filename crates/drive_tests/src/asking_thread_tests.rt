@@ -6,20 +6,39 @@ ghost use Rattle.case_table.specs.Capacities.{IsCapacity};
 use crate::asking_tests::{Told, adders_of, have_heard};
 use bale_types::NoMemory;
 use biconvey::{bi_threads, thread_with};
-use rank_group::{Finished, OpenGate};
+use rank_group::{Finished, Gate, OpenGate};
 use route_tensor::Grid;
 use std::alloc::Global;
 use std::sync::Wait;
+use std::sync::atomic::{AtomicBool, Ordering};
 use std::test::Fail;
 use std::thread::Threads;
 
+/// Notes the turn 0 of each of two ranks.
+#[derive(Drop)]
+struct Firsts {
+    of_0: AtomicBool,
+    of_1: AtomicBool,
+}
+
+impl Gate for Firsts {
+    fn turn(&self, rank: u32, n: u64) {
+        match (rank, n) {
+            (0, 0) => self.of_0.store(true, Ordering::SeqCst),
+            (1, 0) => self.of_1.store(true, Ordering::SeqCst),
+            _ => {}
+        }
+    }
+}
+
 /// The first `asking` ranks ask, each on a thread.
-fn ask_side_by_side<R: Threads + Wait + Sync>(
+fn ask_side_by_side<R: Threads + Wait + Sync, G: Gate + Sync>(
     rt: &R,
     alloc: Global,
     dims: &[u32],
     cap: u32,
     asking: u32,
+    gate: &G,
 ) -> Result<Option<Told>, NoMemory>
     requires { IsCapacity cap }
 {
@@ -28,14 +47,18 @@ fn ask_side_by_side<R: Threads + Wait + Sync>(
     };
     let askers = adders_of(alloc, grid.ranks(), asking)?;
     let Finished { progs, rounds } = bi_threads(
-        rt, alloc, &grid, cap, 1, false, askers, &OpenGate,
+        rt, alloc, &grid, cap, 1, false, askers, gate,
     )?;
     Ok(Some((have_heard(&progs), rounds.len())))
 }
 
 /// Rank 0 asks rank 1.
-fn by_hand<R: Threads + Wait + Sync>(rt: &R, alloc: Global) -> Result<Option<Told>, NoMemory> {
-    ask_side_by_side(rt, alloc, &[2], 1, 1)
+fn by_hand<R: Threads + Wait + Sync, G: Gate + Sync>(
+    rt: &R,
+    alloc: Global,
+    gate: &G,
+) -> Result<Option<Told>, NoMemory> {
+    ask_side_by_side(rt, alloc, &[2], 1, 1, gate)
 }
 
 /// All ranks ask, with buffers of 1, 2 and 64.
@@ -45,9 +68,9 @@ fn on_buffers<R: Threads + Wait + Sync>(
     dims: &[u32],
 ) -> Result<[Option<Told>; 3], NoMemory> {
     Ok([
-        ask_side_by_side(rt, alloc, dims, 1, 64)?,
-        ask_side_by_side(rt, alloc, dims, 2, 64)?,
-        ask_side_by_side(rt, alloc, dims, 64, 64)?,
+        ask_side_by_side(rt, alloc, dims, 1, 64, &OpenGate)?,
+        ask_side_by_side(rt, alloc, dims, 2, 64, &OpenGate)?,
+        ask_side_by_side(rt, alloc, dims, 64, 64, &OpenGate)?,
     ])
 }
 
@@ -71,8 +94,13 @@ fn ask_here<const CAP: usize, const HOPS: usize, R: Threads + Wait + Sync>(
 
 #[test]
 fn askers_by_hand_on_threads(rt: HostRuntime) -> Result<(), Fail> {
-    let told = by_hand(&rt, rt.alloc())?;
+    let gate = Firsts {
+        of_0: AtomicBool::new(false),
+        of_1: AtomicBool::new(false),
+    };
+    let told = by_hand(&rt, rt.alloc(), &gate)?;
     assert_eq!(rt; told, Some((1, 2)));
+    assert!(rt; gate.of_0.load(Ordering::SeqCst) && gate.of_1.load(Ordering::SeqCst));
     Ok(())
 }
 

@@ -5,7 +5,7 @@ ghost use Rattle.round_program.specs.Canonical.{InRound};
 ghost use Rattle.round_examples.specs.Counts.{count_rules};
 
 use bale_types::{Item, NoMemory};
-use rank_group::{Finished, Gate, Via, drive_with};
+use rank_group::{Finished, Gate, Via, drive_threads, drive_with};
 use round_examples::Count;
 use round_program::{Program, Progs};
 use route_tensor::Grid;
@@ -228,6 +228,23 @@ pub(crate) fn run_watched<'a, R: Threads + Wait + Sync, G: Gate + Sync>(
     drive_with::<1, 1, R, Watched<'a>, G>(rt, alloc, grid, via, 2, false, progs, gate, threads)
 }
 
+/// The same with a thread for each rank, by the call that programs make.
+fn run_on_threads<'a, R: Threads + Wait + Sync, G: Gate + Sync>(
+    rt: &R,
+    alloc: Global,
+    grid: &Grid,
+    lists: &[&[u32]],
+    watch: &'a Watch,
+    deed: Deed,
+    gate: &G,
+    via: Via,
+) -> Result<Finished<Watched<'a>>, NoMemory>
+    requires hops { length grid.now ≡ 1 }
+{
+    let progs = progs_of(alloc, grid.ranks(), lists, watch, deed)?;
+    drive_threads::<1, 1, R, Watched<'a>, G>(rt, alloc, grid, via, 2, false, progs, gate)
+}
+
 /// The same, and how often each column was named, and the epochs.
 fn drive_watched<R: Threads + Wait + Sync, G: Gate + Sync>(
     rt: &R,
@@ -242,8 +259,11 @@ fn drive_watched<R: Threads + Wait + Sync, G: Gate + Sync>(
 ) -> Result<(Vec<u64>, u64), NoMemory>
     requires hops { length grid.now ≡ 1 }
 {
-    let finished = run_watched(rt, alloc, grid, lists, watch, deed, gate, threads, via)?;
-    let Finished { progs, rounds } = finished;
+    let Finished { progs, rounds } = if threads == grid.ranks() as usize {
+        run_on_threads(rt, alloc, grid, lists, watch, deed, gate, via)?
+    } else {
+        run_watched(rt, alloc, grid, lists, watch, deed, gate, threads, via)?
+    };
     let mut all = vec![in alloc; 0u64; grid.ranks() as usize]?;
     for r in 0..progs.len() {
         if let Some(prog) = progs.get(r) {

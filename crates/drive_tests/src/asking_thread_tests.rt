@@ -46,9 +46,7 @@ fn ask_side_by_side<R: Threads + Wait + Sync, G: Gate + Sync>(
         return Ok(None);
     };
     let askers = adders_of(alloc, grid.ranks(), asking)?;
-    let Finished { progs, rounds } = bi_threads(
-        rt, alloc, &grid, cap, 1, false, askers, gate,
-    )?;
+    let Finished { progs, rounds } = bi_threads(rt, alloc, &grid, cap, 1, false, askers, gate)?;
     Ok(Some((have_heard(&progs), rounds.len())))
 }
 

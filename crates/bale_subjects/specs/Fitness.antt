@@ -27,7 +27,7 @@ abbrev pub first_failed : List Test → Option Unfit
 first_failed [] = None
 first_failed (t ∷ ts) = if t.0 then Some t.1 else first_failed ts
 
--- The tests of an application on a matrix. The last two bound what a serial drive stores.
+-- The tests of an application on a matrix. The last two bound what a serial drive sends.
 abbrev pub tests_of : Task → Sparse → Bool → List Test
 tests_of (task.Sssp source delta) m serial =
     (not (m.cols == m.rows), unfit.NotSquare) ∷ (not (no_negative m.entries), unfit.NegativeWeight) ∷ ((source == 0) || nat_lt m.rows source, unfit.Source)

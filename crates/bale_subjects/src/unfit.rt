@@ -29,9 +29,9 @@ pub enum Unfit {
     RowPermutation,
     /// The list for the columns hasn't each number from 1 to their number once.
     ColumnPermutation,
-    /// A serial drive would store more than rows times entries allow: 16,777,216.
+    /// A serial drive would send more than rows times entries allow: 16,777,216.
     SerialSize,
-    /// Delta-stepping on a serial drive would store the votes of too many rounds: more than 1,024 rows.
+    /// Delta-stepping on a serial drive would send the votes of too many rounds: more than 1,024 rows.
     DeltaRows,
 }
 

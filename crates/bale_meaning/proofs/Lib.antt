@@ -1,0 +1,5 @@
+pub mod Asked
+pub mod Columns
+pub mod Matrices
+pub mod Orders
+pub mod Tallies

@@ -1,0 +1,4 @@
+pub mod Columns
+pub mod Matrices
+pub mod Orders
+pub mod Tallies

@@ -1,0 +1,2 @@
+//! What the answers mean.
+#![tactic(auto)]

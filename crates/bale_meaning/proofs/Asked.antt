@@ -1,8 +1,8 @@
 -- A matrix that was asked of keeps what every matrix keeps, and a command that fits it has what it needs.
-use Rattle.std.proofs.Common.{◌≡◌, ℕ, zero, suc, ◌+◌, ◌*◌, ◌/◌, ◌%◌, ◌^◌, ◌<◌, ◌≤◌, ◌-◌, Bool, true, false, not, cond, eqb, List, [], ◌∷◌, ◌++◌, map, length, get_or, take, min, pos, Option, Some, None, slice_index, arith, inl, inr, refl, sym, ap, ◌∙◌, subst}
+use Rattle.std.proofs.Common.{◌≡◌, ℕ, zero, suc, ◌+◌, ◌*◌, ◌/◌, ◌%◌, ◌^◌, ◌<◌, ◌≤◌, ◌-◌, Bool, true, false, not, cond, eqb, ltb, ◌||◌, List, [], ◌∷◌, ◌++◌, map, length, get_or, take, min, pos, Option, Some, None, slice_index, arith, inl, inr, refl, sym, ap, ◌∙◌, subst}
 use Rattle.std.specs.Prelude.{Result, Ok, Err, if◌then◌else◌}
 use Rattle.std.specs.List.{All, range_with_len, flat_map}
-use Rattle.std.proofs.lemmas.Bool.{cases_Bool, eqb-true, false≢true}
+use Rattle.std.proofs.lemmas.Bool.{cases_Bool, cases_eq, cases_lt, eq-eqb, eqb-true, lt-ltb, or_parts, false≢true}
 use Rattle.std.proofs.lemmas.Option.{none-some}
 use Rattle.std.proofs.lemmas.List.{length-take}
 use Rattle.std.proofs.lemmas.List.Elements.{All-nil, All-cons, All-head, All-tail, All-append, All-map, All-take, All-weaker}
@@ -20,6 +20,7 @@ use Rattle.mtx_text.proofs.Bands.{entry_inside}
 use Rattle.mtx_text.proofs.BandPlaces.{places_apart}
 use Rattle.mtx_text.proofs.Lawful.{lawful}
 use Rattle.mtx_text.proofs.OfCells.{lawful_apart}
+use Rattle.least_walks.specs.Walks.{no_negative}
 use Rattle.bale_words.specs.declared.command.Command.{Command}
 use Rattle.bale_words.specs.declared.command.Generated.{Generated}
 use Rattle.bale_words.specs.declared.command.Task.{Task}
@@ -86,7 +87,7 @@ asked_of (Some g) text m may h =
     let same : generated g.rows g.entries g.seed ≡ m = cc in
     subst IsSparse same (generated_is g may)
 
-no_matrix : (r : Result (List (List ℕ)) LinesFault) (m : Sparse) → of_lines r ≡ Ok (subject.Matrix m) → ⊥
+pub no_matrix : (r : Result (List (List ℕ)) LinesFault) (m : Sparse) → of_lines r ≡ Ok (subject.Matrix m) → ⊥
 no_matrix (Ok lines) m h = cc
 no_matrix (Err f) m h = cc
 
@@ -112,11 +113,28 @@ passes false x rest h = (refl, h)
 pub task_fits : (c : Command) (m : Sparse) (serial : Bool) → unfitness c (subject.Matrix m) serial ≡ None → task_unfitness c.task m serial ≡ None
 task_fits c m serial fits = (passes _ _ _ fits).1
 
+not_not : (b : Bool) → not b ≡ false → b ≡ true
+not_not true h = refl
+not_not false h = absurd (false≢true (sym h))
+
 pub square : (t : Task) (m : Sparse) (serial : Bool) → t ≡ task.Topo → task_unfitness t m serial ≡ None → m.rows ≡ m.cols
 square t m serial is fits =
     let test = passes (not (eqb m.cols m.rows)) _ _ (subst (λ (u : Task). task_unfitness u m serial ≡ None) is fits) in
     sym (eqb-true m.cols m.rows (not_not (eqb m.cols m.rows) test.0))
-  where
-    not_not : (b : Bool) → not b ≡ false → b ≡ true
-    not_not true h = refl
-    not_not false h = absurd (false≢true (sym h))
+
+-- what sssp needs
+pub record IsWalked (m : Sparse) (source : ℕ) : Type 0 where
+  pub square : m.cols ≡ m.rows
+  pub weights : no_negative m.entries ≡ true
+  pub some : 1 ≤ source
+  pub vertex : source ≤ m.rows
+
+pub walked : (source : ℕ) (width : Option ℕ) (m : Sparse) (serial : Bool) → task_unfitness (task.Sssp source width) m serial ≡ None → IsWalked m source
+walked source width m serial fits =
+    let a = passes (not (eqb m.cols m.rows)) _ _ fits in
+    let b = passes (not (no_negative m.entries)) _ _ a.1 in
+    let c = passes (eqb source 0 || ltb m.rows source) _ _ b.1 in
+    let range = or_parts (eqb source 0) (ltb m.rows source) c.0 in
+    let some : 1 ≤ source = elim (cases_eq source 0) [ inl e ↦ absurd (false≢true (sym range.0 ∙ eq-eqb source 0 e)) | inr n ↦ omega arith ] in
+    let vertex : source ≤ m.rows = elim (cases_lt m.rows source) [ inl l ↦ absurd (false≢true (sym range.1 ∙ lt-ltb m.rows source l)) | inr n ↦ omega arith ] in
+    record { square = eqb-true m.cols m.rows (not_not (eqb m.cols m.rows) a.0); weights = not_not (no_negative m.entries) b.0; some = some; vertex = vertex }

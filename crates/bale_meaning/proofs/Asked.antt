@@ -1,18 +1,16 @@
 -- A matrix that was asked of keeps what every matrix keeps, and a command that fits it has what it needs.
-use Rattle.std.proofs.Common.{◌≡◌, ℕ, zero, suc, ◌+◌, ◌*◌, ◌/◌, ◌%◌, ◌^◌, ◌<◌, ◌≤◌, ◌-◌, Bool, true, false, not, cond, eqb, ltb, ◌||◌, List, [], ◌∷◌, ◌++◌, map, length, get_or, take, min, pos, Option, Some, None, slice_index, arith, inl, inr, refl, sym, ap, ◌∙◌, subst}
+use Rattle.std.proofs.Common.{◌≡◌, ℕ, zero, suc, ◌+◌, ◌*◌, ◌/◌, ◌<◌, ◌≤◌, ◌-◌, Bool, true, false, not, eqb, ltb, ◌||◌, List, [], ◌∷◌, length, get_or, min, Option, Some, None, arith, inl, inr, refl, sym, ap, ◌∙◌, subst}
 use Rattle.std.specs.Prelude.{Result, Ok, Err, if◌then◌else◌}
 use Rattle.std.specs.List.{All, range_with_len, flat_map}
 use Rattle.std.proofs.lemmas.Bool.{cases_Bool, cases_eq, cases_lt, eq-eqb, eqb-true, lt-ltb, or_parts, false≢true}
 use Rattle.std.proofs.lemmas.Option.{none-some}
 use Rattle.std.proofs.lemmas.List.{length-take}
-use Rattle.std.proofs.lemmas.List.Elements.{All-nil, All-cons, All-head, All-tail, All-append, All-map, All-take, All-weaker}
+use Rattle.std.proofs.lemmas.List.Elements.{All-nil, All-cons, All-head, All-tail, All-append, All-map, All-take}
 use Rattle.std.proofs.lemmas.List.FromFn.{get_or-range_with_len, length-range_with_len}
-use Rattle.bale_types.specs.declared.triple.Triple.{Triple}
 use Rattle.mtx_text.specs.declared.kind.Kind.TheVariants.{Integer}
 use Rattle.mtx_text.specs.declared.refusal.BadLine.{BadLine}
 use Rattle.mtx_text.specs.Sparse.{Sparse, IsSparse, IsEntry}
 use Rattle.mtx_text.specs.Cells.{sparse}
-use Rattle.mtx_text.specs.Grammar.{matrix_of}
 use Rattle.mtx_text.specs.Permutations.{Permutes}
 use Rattle.mtx_text.specs.Seeds.{word, step, begun, drawn}
 use Rattle.mtx_text.specs.Generated.{diagonal, positions, hidden, generated}
@@ -28,8 +26,6 @@ use Rattle.bale_words.specs.declared.command.Task.TheVariants as task
 use Rattle.bale_words.specs.Ranges.{CanGenerate, MayGenerate}
 use Rattle.bale_words.specs.Words.{command_of}
 use Rattle.bale_words.proofs.Within.{in_ranges}
-use Rattle.bale_subjects.specs.declared.refusal.Refusal.{Refusal}
-use Rattle.bale_subjects.specs.declared.subject.Subject.{Subject}
 use Rattle.bale_subjects.specs.declared.subject.Subject.TheVariants as subject
 use Rattle.bale_subjects.specs.Fitness.{task_unfitness, unfitness}
 use Rattle.bale_subjects.specs.Subjects.{is_tally, matrix_asked, of_lines, of_matrix, subject_asked}

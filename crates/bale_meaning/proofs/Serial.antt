@@ -1,38 +1,40 @@
 -- Each law, from what was asked.
-use Rattle.std.proofs.Common.{◌≡◌, ℕ, Bool, true, false, List, Option, Some, None, inl, inr, refl, sym, ap, ◌∙◌, subst}
+use Rattle.std.proofs.Common.{◌≡◌, ℕ, Bool, List, Option, Some, None, inl, inr, refl, sym, ap, ◌∙◌, subst}
 use Rattle.std.specs.Prelude.{Result, Ok, Err, if◌then◌else◌}
-use Rattle.std.proofs.lemmas.Option.{none-some}
 use Rattle.mtx_text.specs.declared.refusal.BadLine.{BadLine}
 use Rattle.mtx_text.specs.Sparse.{Sparse, IsSparse}
 use Rattle.app_topo.specs.Levels.{Claim, topo_order}
 use Rattle.bale_words.specs.declared.command.Command.{Command}
-use Rattle.bale_words.specs.declared.command.Permutations.{Permutations}
 use Rattle.bale_words.specs.declared.command.Task.{Task}
 use Rattle.bale_words.specs.declared.command.Task.TheVariants as task
 use Rattle.bale_words.specs.Words.{command_of}
 use Rattle.bale_subjects.specs.declared.refusal.Refusal.{Refusal}
 use Rattle.bale_subjects.specs.declared.subject.Subject.{Subject}
 use Rattle.bale_subjects.specs.declared.subject.Subject.TheVariants as subject
-use Rattle.bale_subjects.specs.Fitness.{task_unfitness, unfitness}
+use Rattle.bale_subjects.specs.Fitness.{task_unfitness}
 use Rattle.bale_subjects.specs.Numberings.{perms_for}
 use Rattle.bale_subjects.specs.Subjects.{is_tally, matrix_asked, of_lines, of_matrix, subject_asked}
 use Rattle.app_tally.specs.Texts.{lines_of_text}
-use Rattle.bale_answers.specs.Answer.{serial_answer, answer_to, answer_for, answer_by}
+use Rattle.bale_answers.specs.Answer.{serial_answer, Wrote, answer_to, answer_for, answer_by}
 use Rattle.bale_answers.specs.Orders.{order_status, order_text}
 use Rattle.bale_answers.specs.Serving.{ServesPermute}
 use Rattle.bale_answers.specs.Tasks.{IsAnswer, task_status}
 use Rattle.bale_answers.proofs.Moving.{moves}
-use Rattle.bale_meaning.specs.Laws.{Answers, OfMatrix, OfLines, TopoLaw, PermuteLaw, TransposeLaw, TallyLaw, HistoLaw, IgLaw, SsspLaw}
+use Rattle.bale_meaning.specs.Laws.{Answers, TopoLaw, PermuteLaw, TransposeLaw, TallyLaw, HistoLaw, IgLaw, SsspLaw}
 use Rattle.bale_meaning.specs.Columns.{HistoMeans, IgMeans}
 use Rattle.bale_meaning.specs.Matrices.{PermuteMeans, TransposeMeans}
 use Rattle.bale_meaning.specs.Orders.{TopoMeans}
 use Rattle.bale_meaning.specs.Tallies.{TallyMeans}
-use Rattle.bale_meaning.specs.Walks.{SsspMeans}
 use Rattle.bale_meaning.proofs.Asked.{matrix_is, no_matrix, task_fits, square, IsWalked, walked}
 use Rattle.bale_meaning.proofs.Columns.{histo_means, ig_means}
 use Rattle.bale_meaning.proofs.Matrices.{permute_means, transpose_means}
 use Rattle.bale_meaning.proofs.Orders.{IsFound, found, none}
 use Rattle.bale_meaning.proofs.Tallies.{tally_means}
+
+-- what a run wrote is an answer
+pub of_wrote : (serial : Command → Bool) (words : List (List ℕ)) (text : List ℕ) (P : List ℕ → Type 0) (w : Wrote serial (command_of words) text P)
+    → Answers serial words text w.command w.subject w.bytes
+of_wrote serial words text P w = record { asked = w.asked; read = w.read; fits = w.fits; answers = w.answers }
 
 -- a task on a matrix isn't asked of lines, nor tally of a matrix
 no_lines : (r : Result Sparse BadLine) (lines : List (List ℕ)) → of_matrix r ≡ Ok (subject.Lines lines) → ⊥

@@ -89,12 +89,12 @@ topo serial words text c (subject.Lines lines) bytes a is = no_lines _ lines (as
 -- ---- permute and transpose
 
 pub permute : PermuteLaw
-permute serial words text c (subject.Matrix m) bytes by a is =
+permute serial words text c (subject.Matrix m) bytes a by is =
     let fits : task_unfitness (task.Permute by) m (serial c) ≡ None = subst (λ (t : Task). task_unfitness t m (serial c) ≡ None) is (task_fits c m (serial c) a.fits) in
     let new : ServesPermute (task.Permute by) m = moves by m (serial c) fits in
     subst (PermuteMeans (perms_for by m).rows (perms_for by m).cols m) (sym (answers_by c (subject.Matrix m) bytes (task.Permute by) is a.answers))
     (permute_means m (perms_for by m).rows (perms_for by m).cols (matrix_is words text c m a.asked a.read) new.0 new.1)
-permute serial words text c (subject.Lines lines) bytes by a is = no_lines _ lines (asked_by c text (subject.Lines lines) (task.Permute by) is a.read)
+permute serial words text c (subject.Lines lines) bytes a by is = no_lines _ lines (asked_by c text (subject.Lines lines) (task.Permute by) is a.read)
 
 pub transpose : TransposeLaw
 transpose serial words text c (subject.Matrix m) bytes a is =
@@ -120,7 +120,7 @@ ig serial words text c (subject.Matrix m) bytes a is =
 ig serial words text c (subject.Lines lines) bytes a is = no_lines _ lines (asked_by c text (subject.Lines lines) task.Ig is a.read)
 
 pub sssp : SsspLaw
-sssp serial words text c (subject.Matrix m) bytes source width a is =
+sssp serial words text c (subject.Matrix m) bytes a source width is =
     let w : IsWalked m source = walked source width m (serial c) (subst (λ (t : Task). task_unfitness t m (serial c) ≡ None) is (task_fits c m (serial c) a.fits)) in
     record {
       square = w.square;
@@ -129,4 +129,4 @@ sssp serial words text c (subject.Matrix m) bytes source width a is =
       vertex = w.vertex;
       least = answers_by c (subject.Matrix m) bytes (task.Sssp source width) is a.answers;
     }
-sssp serial words text c (subject.Lines lines) bytes source width a is = no_lines _ lines (asked_by c text (subject.Lines lines) (task.Sssp source width) is a.read)
+sssp serial words text c (subject.Lines lines) bytes a source width is = no_lines _ lines (asked_by c text (subject.Lines lines) (task.Sssp source width) is a.read)

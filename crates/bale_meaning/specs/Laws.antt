@@ -1,4 +1,4 @@
--- What the serial answer of each application means, said of what the words and the text ask for.
+-- What the serial answer of each application means, whatever the words and the text are.
 use Rattle.std.specs.Prelude.{◌≡◌, ℕ, Bool, List, Option, Some, None, Ok}
 use Rattle.mtx_text.specs.Sparse.{Sparse}
 use Rattle.bale_words.specs.declared.command.Command.{Command}
@@ -26,46 +26,47 @@ pub record Answers (serial : Command → Bool) (words : List (List ℕ)) (text :
   pub fits : unfitness c s (serial c) ≡ None
   pub answers : IsAnswer c.task s bytes
 
--- The subject is a matrix, of which this holds; or lines.
+-- Whatever was asked and is answered, this holds of the command, of what it was asked of, of the status and of the bytes.
+abbrev pub OnEachAnswer : (Command → Subject → ℕ → List ℕ → Type 0) → Type 0
+OnEachAnswer Holds = (serial : Command → Bool) (words : List (List ℕ)) (text : List ℕ) (c : Command) (s : Subject) (bytes : List ℕ)
+    → Answers serial words text c s bytes → Holds c s (serial_answer serial words text).status bytes
+
+-- It was asked of a matrix, of which this holds.
 abbrev pub OfMatrix : Subject → (Sparse → Type 0) → Type 0
-OfMatrix (subject.Matrix m) P = P m
-OfMatrix (subject.Lines lines) P = ⊥
+OfMatrix (subject.Matrix m) Holds = Holds m
+OfMatrix (subject.Lines lines) Holds = ⊥
 
+-- It was asked of lines, of which this holds.
 abbrev pub OfLines : Subject → (List (List ℕ) → Type 0) → Type 0
-OfLines (subject.Matrix m) P = ⊥
-OfLines (subject.Lines lines) P = P lines
+OfLines (subject.Matrix m) Holds = ⊥
+OfLines (subject.Lines lines) Holds = Holds lines
 
--- Where topo was asked, the status and the bytes tell a valid order, or that there is none.
-abbrev pub TopoLaw : Type 0
-TopoLaw = (serial : Command → Bool) (words : List (List ℕ)) (text : List ℕ) (c : Command) (s : Subject) (bytes : List ℕ)
-    → Answers serial words text c s bytes → c.task ≡ task.Topo → OfMatrix s (λ m. TopoMeans m (serial_answer serial words text).status bytes)
-
--- Where permute was asked, the bytes are the text of the matrix with the new numbers of rows and columns that the words give.
-abbrev pub PermuteLaw : Type 0
-PermuteLaw = (serial : Command → Bool) (words : List (List ℕ)) (text : List ℕ) (c : Command) (s : Subject) (bytes : List ℕ) (by : Permutations)
-    → Answers serial words text c s bytes → c.task ≡ task.Permute by → OfMatrix s (λ m. PermuteMeans (perms_for by m).rows (perms_for by m).cols m bytes)
-
--- Where transpose was asked, they are that of the transposed matrix.
-abbrev pub TransposeLaw : Type 0
-TransposeLaw = (serial : Command → Bool) (words : List (List ℕ)) (text : List ℕ) (c : Command) (s : Subject) (bytes : List ℕ)
-    → Answers serial words text c s bytes → c.task ≡ task.Transpose → OfMatrix s (λ m. TransposeMeans m bytes)
-
--- Where tally was asked, they tell of each line how many times it was read.
-abbrev pub TallyLaw : Type 0
-TallyLaw = (serial : Command → Bool) (words : List (List ℕ)) (text : List ℕ) (c : Command) (s : Subject) (bytes : List ℕ)
-    → Answers serial words text c s bytes → c.task ≡ task.Tally → OfLines s (λ lines. TallyMeans lines bytes)
-
--- Where histo was asked, they tell of each column how many entries it has.
+-- histo tells of each column how many entries it has.
 abbrev pub HistoLaw : Type 0
-HistoLaw = (serial : Command → Bool) (words : List (List ℕ)) (text : List ℕ) (c : Command) (s : Subject) (bytes : List ℕ)
-    → Answers serial words text c s bytes → c.task ≡ task.Histo → OfMatrix s (λ m. HistoMeans m bytes)
+HistoLaw = OnEachAnswer (λ c s status bytes. c.task ≡ task.Histo → OfMatrix s (λ m. HistoMeans m bytes))
 
--- Where ig was asked, they tell of each entry the sum of its column.
+-- ig tells of each entry the sum of its column.
 abbrev pub IgLaw : Type 0
-IgLaw = (serial : Command → Bool) (words : List (List ℕ)) (text : List ℕ) (c : Command) (s : Subject) (bytes : List ℕ)
-    → Answers serial words text c s bytes → c.task ≡ task.Ig → OfMatrix s (λ m. IgMeans m bytes)
+IgLaw = OnEachAnswer (λ c s status bytes. c.task ≡ task.Ig → OfMatrix s (λ m. IgMeans m bytes))
 
--- Where sssp was asked, by rounds of improvements or by buckets, they tell of each vertex the least weight of a walk to it.
+-- permute tells the matrix with the new numbers of rows and columns that the words give or draw from their seed.
+abbrev pub PermuteLaw : Type 0
+PermuteLaw = OnEachAnswer (λ c s status bytes. (how : Permutations) → c.task ≡ task.Permute how
+    → OfMatrix s (λ m. PermuteMeans (perms_for how m).rows (perms_for how m).cols m bytes))
+
+-- transpose tells the transposed matrix.
+abbrev pub TransposeLaw : Type 0
+TransposeLaw = OnEachAnswer (λ c s status bytes. c.task ≡ task.Transpose → OfMatrix s (λ m. TransposeMeans m bytes))
+
+-- topo tells, by the status and the bytes, a valid order, or that there is none.
+abbrev pub TopoLaw : Type 0
+TopoLaw = OnEachAnswer (λ c s status bytes. c.task ≡ task.Topo → OfMatrix s (λ m. TopoMeans m status bytes))
+
+-- sssp tells of each vertex the least weight of a walk to it, whether or not a bucket's width was given.
 abbrev pub SsspLaw : Type 0
-SsspLaw = (serial : Command → Bool) (words : List (List ℕ)) (text : List ℕ) (c : Command) (s : Subject) (bytes : List ℕ) (source : ℕ) (width : Option ℕ)
-    → Answers serial words text c s bytes → c.task ≡ task.Sssp source width → OfMatrix s (λ m. SsspMeans m source bytes)
+SsspLaw = OnEachAnswer (λ c s status bytes. (source : ℕ) (width : Option ℕ) → c.task ≡ task.Sssp source width
+    → OfMatrix s (λ m. SsspMeans m source bytes))
+
+-- tally tells of each line how many times it was read.
+abbrev pub TallyLaw : Type 0
+TallyLaw = OnEachAnswer (λ c s status bytes. c.task ≡ task.Tally → OfLines s (λ lines. TallyMeans lines bytes))

@@ -1,9 +1,19 @@
 -- The tally of lines, entry by entry.
-use Rattle.std.proofs.Common.{ℕ, List, refl}
-use Rattle.app_tally.specs.Counts.{tally_of, tally_text}
+use Rattle.std.proofs.Common.{ℕ, List, is_eq, refl, ap}
+use Rattle.app_tally.specs.Counts.{by_bytes, tally_of, tally_text, IsTally}
 use Rattle.app_tally.specs.CountOrder.{itself, one_line}
 use Rattle.app_tally.proofs.Tallied.{tally_is}
+use Rattle.app_topo.proofs.Counting.{counted}
 use Rattle.bale_meaning.specs.Tallies.{TallyMeans}
 
 pub tally_means : (lines : List (List ℕ)) → TallyMeans lines (tally_text (tally_of lines))
-tally_means lines = record { entries = tally_of lines; text = refl; tally = tally_is lines; tied = one_line; ties = itself }
+tally_means lines =
+    let tally : IsTally lines (tally_of lines) = tally_is lines in
+    record {
+      entries = tally_of lines;
+      text = refl;
+      tally = tally;
+      printed = λ l there. tally.all l (counted (λ k. is_eq (by_bytes l k)) lines l there (ap is_eq (itself l)));
+      tied = one_line;
+      ties = itself;
+    }

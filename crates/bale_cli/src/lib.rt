@@ -9,6 +9,9 @@
 //! Read `specs/Run` first: what both calls promise, sentence by sentence. It stands on the serial answer, `specs/Answer` of bale_answers, which
 //! is about the words and the text alone, on bale_subjects (what a command is asked of), and on bale_runs (what the rounds tell).
 //! `specs/Outcomes` is the way there.
+//!
+//! What the bytes of each answer mean, in the words of its field, is told by the laws of bale_meaning (`topo_law`, `permute_law` and five
+//! more): their premise is what `Wrote` holds.
 #![tactic(auto)]
 
 mod calls;

@@ -1,0 +1,4 @@
+pub mod Codes
+pub mod Seated
+pub mod Answers
+pub mod Kept

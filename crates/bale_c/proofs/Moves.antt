@@ -23,6 +23,7 @@ at seat st = record { seat = seat; state = st }
 -- a call that its port doesn't see
 pub moved : (seat : Manning) (old new : State) (step : Step) (phase : Phase) → AgreesWith old (posted_on seat) (collected_from seat) → IsStepOf step old new
     → new.phase ≡ phase → new.rank ≡ old.rank → new.dims ≡ old.dims → Moved step phase (at seat old) (at seat new)
+unfolding Moved
 moved seat old new step phase agrees is phase_is rank dims = record {
   step_of = is (posted_on seat) (collected_from seat) agrees;
   phase_is = phase_is;
@@ -35,6 +36,7 @@ moved seat old new step phase agrees is phase_is rank dims = record {
 -- a call that its port sees
 pub moved_on : (bank bank' : Bank) (seat seat' : Manning) (old new : State) (step : Step) → bank' ≡ bank → IsAtBank bank seat old → IsAtBank bank' seat' new
     → new.rank ≡ old.rank → new.dims ≡ old.dims → IsOwnStep step (part (at seat old)) (part (at seat' new)) → Moved step new.phase (at seat old) (at seat' new)
+unfolding Moved
 moved_on bank bank' seat seat' old new step same was now rank dims is = record {
   step_of = is;
   phase_is = refl;

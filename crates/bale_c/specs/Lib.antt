@@ -2,3 +2,4 @@ pub mod Codes
 pub mod Seated
 pub mod Answers
 pub mod Kept
+pub mod Cases

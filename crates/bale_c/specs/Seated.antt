@@ -17,11 +17,15 @@ pub record Seated : Type 0 where
 abbrev pub part : Seated → Part
 part s = part_of (buffers_of s.state) (posted_on s.seat) (collected_from s.seat)
 
--- A call made this step, and left the rank in this phase. Its bank, its grid and its number stay.
-pub record Moved (step : Step) (phase : Phase) (old new : Seated) : Type 0 where
+-- That a call made this step, and left the rank in this phase. Its bank, its grid and its number stay.
+pub record Move (step : Step) (phase : Phase) (old new : Seated) : Type 0 where
   pub step_of : IsOwnStep step (part old) (part new)
   pub phase_is : new.state.phase ≡ phase
   pub bank : new.seat.id ≡ old.seat.id
   pub shape : new.seat.shape ≡ old.seat.shape
   pub rank : new.state.rank ≡ old.state.rank
   pub dims : new.state.dims ≡ old.state.dims
+
+-- A call made this step.
+unfoldable pub Moved : Step → Phase → Seated → Seated → Type 0
+Moved step phase old new = Move step phase old new

@@ -2,5 +2,6 @@
 #![tactic(auto)]
 
 mod answer;
+mod any_rank;
 mod exchange;
 mod rank;

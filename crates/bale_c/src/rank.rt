@@ -56,6 +56,7 @@ impl<const CAP: usize, const HOPS: usize> Exchange for Rank<CAP, HOPS> {
         self.conveyor.phase()
     }
 
+    #[tactic(auto, unfolding(crate::specs::Seated::Moved))]
     fn begin(&mut self) -> Answer {
         match self.conveyor.phase() {
             Phase::Dormant => {
@@ -66,6 +67,7 @@ impl<const CAP: usize, const HOPS: usize> Exchange for Rank<CAP, HOPS> {
         }
     }
 
+    #[tactic(auto, unfolding(crate::specs::Seated::Moved))]
     #[inline]
     fn push(&mut self, item: Item, to: u32) -> Answer {
         match self.conveyor.phase() {
@@ -91,6 +93,7 @@ impl<const CAP: usize, const HOPS: usize> Exchange for Rank<CAP, HOPS> {
         }
     }
 
+    #[tactic(auto, unfolding(crate::specs::Seated::Moved))]
     fn unpull(&mut self) -> Answer {
         if self.conveyor.unpull() {
             Answer::Good

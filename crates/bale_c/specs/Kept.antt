@@ -1,9 +1,10 @@
 -- What is kept of a rank at its bank.
-use Rattle.std.specs.Prelude.{◌≡◌, ℕ, Bool, true, false, Option, Some, None, is_some, [] }
+use Rattle.std.specs.Prelude.{◌≡◌, ℕ, Bool, true, false, ◌<◌, ◌≤◌, length, Option, Some, None, is_some, List, [] }
 use Rattle.route_tensor.specs.Grid.{ranks}
 use Rattle.atomic_table.specs.Seated.{TableId}
 use Rattle.link_slots.specs.Shape.{nowhere}
 use Rattle.link_slots.specs.Seen.{Bank, Manning, posted_on, collected_from}
+use Rattle.link_slots.specs.Gathering.{Gathering}
 use Rattle.hop_core.specs.declared.phase.Phase.TheVariants.{Dormant, Working}
 use Rattle.hop_core.specs.State.{State}
 use Rattle.convey.specs.Conveyors.{AgreesWith}
@@ -41,3 +42,17 @@ pub record IsSeated (bank : Bank) (seat : Option Manning) (state : State) (count
   pub count_is : count ≡ ranks state.dims
   pub epoch_is : epoch ≡ state.epoch
   pub done_is : done ≡ state.done
+
+-- A gathering seat of the bank, that has given out these ranks' seats.
+pub record IsAtGather (bank : Bank) (gather : Gathering) (grid : List ℕ) : Type 0 where
+  pub id : gather.id ≡ bank.id
+  pub shape : gather.shape ≡ bank.shape
+  pub grid_is : grid ≡ bank.shape.dims
+
+-- A group: its ranks are those that the gathering seat has given out.
+pub record IsGroup (cap : ℕ) (bank : Bank) (gather : Gathering) (grid : List ℕ) (given : List Bool) : Type 0 where
+  pub some : 0 < cap
+  pub small : cap ≤ 1024
+  pub at_gather : IsAtGather bank gather grid
+  pub given_is : gather.given ≡ given
+  pub given_all : length given ≡ ranks grid

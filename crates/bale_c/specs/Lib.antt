@@ -3,3 +3,4 @@ pub mod Seated
 pub mod Answers
 pub mod Kept
 pub mod Cases
+pub mod Grouped

@@ -4,4 +4,5 @@
 mod answer;
 mod any_rank;
 mod exchange;
+mod group;
 mod rank;

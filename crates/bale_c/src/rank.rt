@@ -1,5 +1,5 @@
 //! A rank at its bank: its seat and its conveyor, for one capacity and one number of hops.
-ghost use Rattle.std.specs.Prelude.{◌≡◌, ◌≢◌, ℕ, ◌<◌, Bool, true, false};
+ghost use Rattle.std.specs.Prelude.{◌≡◌, ◌≢◌, ℕ, ◌<◌, ◌≤◌, Bool, true, false, None, length, IfOk, OnOk, OnErr, slice_index_or, slice_set};
 ghost use Rattle.std.specs.Arc.{arc_value};
 ghost use Rattle.route_tensor.specs.Grid.{ranks};
 ghost use Rattle.link_slots.specs.Seen.{posted_on, collected_from};
@@ -8,13 +8,15 @@ ghost use Rattle.convey.specs.Buffers.{buffers_of, is_complete};
 ghost use Rattle.convey.specs.Parts.{part_of};
 ghost use Rattle.convey.specs.Progress.{progress_of, advance_step};
 ghost use Rattle.bale_c.specs.Answers.{item_or_nothing};
-ghost use Rattle.bale_c.specs.Kept.{IsAtBank};
+ghost use Rattle.bale_c.specs.Kept.{IsAtBank, IsAtGather};
+ghost use Rattle.bale_c.specs.Grouped.{NewRank};
 
 use crate::answer::Answer;
 use crate::exchange::Exchange;
-use bale_types::Item;
+use bale_types::{Item, NoMemory};
 use convey::{Conveyor, Phase, Progress, Pushed};
-use link_slots::{SlotBank, SlotSeat};
+use link_slots::{GatherSeat, SlotBank, SlotSeat};
+use route_tensor::Grid;
 use std::alloc::Global;
 use std::marker::Model;
 use std::sync::Arc;
@@ -43,6 +45,45 @@ impl<const CAP: usize, const HOPS: usize> Model for Rank<CAP, HOPS> {
     ghost view = { λ r. record { seat = seat_in r.seat; state = r.conveyor } };
 
     ghost invariant = { λ r. IsSeated (arc_value r.bank) r.seat r.conveyor r.ranks r.epoch r.done };
+}
+
+impl<const CAP: usize, const HOPS: usize> Rank<CAP, HOPS> {
+    /// A rank whose seat was not given out before, before its first epoch.
+    pub(crate) fn new(
+        alloc: Global,
+        bank: &Arc<SlotBank<CAP>, Global>,
+        gather: &mut GatherSeat<CAP>,
+        grid: &Grid,
+        rank: u32,
+        steady: bool,
+    ) -> Result<Rank<CAP, HOPS>, NoMemory>
+        requires some { 0 < CAP }
+        requires small { CAP ≤ 1024 }
+        requires hops { length grid.now ≡ HOPS }
+        requires at_gather { IsAtGather (arc_value bank.now) gather.old grid.now }
+        requires rank { rank < ranks grid.now }
+        requires here { slice_index_or gather.old.given rank true ≡ false }
+        ensures made { IfOk result (λ r. NewRank (arc_value bank.now) rank CAP steady r) }
+        ensures gather { OnOk result (gather.new ≡ record gather.old {
+          lists = slice_set gather.old.lists rank None;
+          given = slice_set gather.old.given rank true;
+        }) }
+        ensures unchanged { OnErr result (gather.new ≡ gather.old) }
+    {
+        let conveyor = Conveyor::new(alloc, grid, rank, steady)?;
+        let Ok(bank) = Arc::try_clone(bank) else {
+            return Err(NoMemory);
+        };
+        let seat = bank.seat(gather, rank);
+        Ok(Rank {
+            bank,
+            seat: Some(seat),
+            conveyor,
+            ranks: grid.ranks(),
+            epoch: 0,
+            done: false,
+        })
+    }
 }
 
 impl<const CAP: usize, const HOPS: usize> Exchange for Rank<CAP, HOPS> {

@@ -1,5 +1,5 @@
 -- What contracts see of a group, and of a rank that was just made.
-use Rattle.std.specs.Prelude.{◌≡◌, ℕ, ◌==◌, ◌&&◌, Bool, true, false, List, [], ◌∷◌, sum, replicate, slice_set, None, nat_lt, slice_index_or, if◌then◌else◌, Result, Ok, Err}
+use Rattle.std.specs.Prelude.{◌≡◌, ℕ, ◌==◌, ◌||◌, not, is_some, Bool, true, false, List, [], ◌∷◌, sum, replicate, slice_set, None, nat_lt, slice_index_or, if◌then◌else◌, Result, Ok, Err}
 use Rattle.std.specs.List.{list_any}
 use Rattle.route_tensor.specs.Grid.{ranks}
 use Rattle.route_tensor.specs.Refusal.{refusal}
@@ -9,7 +9,7 @@ use Rattle.hop_core.specs.declared.lent.Lent.TheVariants.{Nothing}
 use Rattle.hop_core.specs.Link.{no_out, no_in}
 use Rattle.hop_core.specs.State.{State}
 use Rattle.bale_c.specs.declared.answer.Answer.{Answer}
-use Rattle.bale_c.specs.declared.answer.Answer.TheVariants.{Good, RankTaken, NoSuchRank}
+use Rattle.bale_c.specs.declared.answer.Answer.TheVariants.{Good, RankTaken, NoSuchRank, BadNumbers}
 use Rattle.bale_c.specs.Seated.{Seated}
 
 -- A group: the bank that its ranks share, with its grid and its slots; how many entries a parcel holds; whether its conveyors are
@@ -26,6 +26,18 @@ capacities = 1 ∷ 2 ∷ 4 ∷ 8 ∷ 16 ∷ 32 ∷ 64 ∷ 128 ∷ 256 ∷ 512 �
 
 abbrev pub is_capacity : ℕ → Bool
 is_capacity cap = list_any (λ size. size == cap) capacities
+
+abbrev pub is_slots : ℕ → Bool
+is_slots n = (n == 1) || (n == 2) || (n == 4) || (n == 8)
+
+-- What becomes of the wish to make a group, where there is memory.
+-- 2x2 with buffers of 64 and 2 slots is Good; 9x8 has too many ranks, 3 is no capacity, and 3 no number of slots.
+abbrev pub group_answer : List ℕ → ℕ → ℕ → Answer
+group_answer dims cap slots =
+    if is_some (refusal dims) then BadNumbers
+    else if not (is_slots slots) then BadNumbers
+    else if not (is_capacity cap) then BadNumbers
+    else Good
 
 -- A group of these numbers that was just made: no rank was.
 pub record IsNewGroup (dims : List ℕ) (cap slots : ℕ) (steady : Bool) (g : Grouped) : Type 0 where

@@ -4,3 +4,6 @@ pub mod Answers
 pub mod Kept
 pub mod Cases
 pub mod Grouped
+pub mod GroupCases
+pub mod Holds
+pub mod Handles

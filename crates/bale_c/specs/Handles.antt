@@ -1,0 +1,49 @@
+-- What contracts see of a handle, and of a call on it.
+use Rattle.std.specs.Prelude.{◌≡◌, ℕ, Bool, true, false, Option, Some, None}
+use Rattle.port_bank.specs.Machine.{Step}
+use Rattle.hop_core.specs.declared.phase.Phase.{Phase}
+use Rattle.hop_core.specs.declared.phase.Phase.TheVariants.{Dormant}
+use Rattle.bale_c.specs.declared.part.Part.{Part}
+use Rattle.bale_c.specs.declared.part.Part.TheVariants.{Empty, Group, Rank}
+use Rattle.bale_c.specs.declared.answer.Answer.{Answer}
+use Rattle.bale_c.specs.declared.answer.Answer.TheVariants.{Gone}
+use Rattle.bale_c.specs.Grouped.{Grouped}
+use Rattle.bale_c.specs.Seated.{Seated, Moved}
+
+-- The rank, or the group, that a handle has.
+abbrev pub rank_in : Option Part → Option Seated
+rank_in (Some (Rank r)) = Some r
+rank_in (Some (Group g)) = None
+rank_in (Some Empty) = None
+rank_in None = None
+
+abbrev pub group_in : Option Part → Option Grouped
+group_in (Some (Group g)) = Some g
+group_in (Some (Rank r)) = None
+group_in (Some Empty) = None
+group_in None = None
+
+-- What a call answers: Gone where there is none, and else by what is there.
+abbrev pub if_there : {T : Type 0} → Option T → (T → Answer) → Answer
+if_there None f = Gone
+if_there (Some x) f = f x
+
+-- The phase of a rank, and whether it is done. Where there is none, that of a rank before its first epoch.
+abbrev pub phase_in : Option Seated → Phase
+phase_in None = Dormant
+phase_in (Some s) = s.state.phase
+
+abbrev pub done_in : Option Seated → Bool
+done_in None = false
+done_in (Some s) = s.state.done
+
+-- A call made this step of a rank that is there before and after it.
+pub record MoveIn (step : Step) (phase : Phase) (old new : Option Seated) : Type 0 where
+  pub before : Seated
+  pub after : Seated
+  pub was : old ≡ Some before
+  pub now : new ≡ Some after
+  pub moved : Moved step phase before after
+
+unfoldable pub MovedIn : Step → Phase → Option Seated → Option Seated → Type 0
+MovedIn step phase old new = MoveIn step phase old new

@@ -1,5 +1,6 @@
 -- What contracts see of a handle, and of a call on it.
-use Rattle.std.specs.Prelude.{◌≡◌, ℕ, Bool, true, false, Option, Some, None}
+use Rattle.std.specs.Prelude.{◌≡◌, ℕ, Bool, true, false, Option, Some, None, Result, Err}
+use Rattle.route_tensor.specs.Grid.{ranks}
 use Rattle.port_bank.specs.Machine.{Step}
 use Rattle.hop_core.specs.declared.phase.Phase.{Phase}
 use Rattle.hop_core.specs.declared.phase.Phase.TheVariants.{Dormant}
@@ -27,6 +28,15 @@ group_in None = None
 abbrev pub if_there : {T : Type 0} → Option T → (T → Answer) → Answer
 if_there None f = Gone
 if_there (Some x) f = f x
+
+abbrev pub result_if_there : {T U : Type 0} → Option T → (T → Result U Answer) → Result U Answer
+result_if_there None f = Err Gone
+result_if_there (Some x) f = f x
+
+-- How many ranks there are, 0 where there is none.
+abbrev pub ranks_in : Option Seated → ℕ
+ranks_in None = 0
+ranks_in (Some s) = ranks s.state.dims
 
 -- The phase of a rank, and whether it is done. Where there is none, that of a rank before its first epoch.
 abbrev pub phase_in : Option Seated → Phase

@@ -6,4 +6,5 @@ pub mod Cases
 pub mod Grouped
 pub mod GroupCases
 pub mod Holds
+pub mod Items
 pub mod Handles

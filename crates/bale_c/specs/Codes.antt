@@ -1,5 +1,5 @@
 -- The numbers by which C knows answers and phases.
-use Rattle.std.specs.Prelude.{ℤ, pos, negsuc}
+use Rattle.std.specs.Prelude.{ℤ, pos, negsuc, Option, Some, None}
 use Rattle.bale_c.specs.declared.answer.Answer.{Answer}
 use Rattle.bale_c.specs.declared.answer.Answer.TheVariants.{Good, Full, Nothing, More, Near, Complete, NoMemory, NotBegun, BegunAlready, DoneAlready, NoSuchRank, NotComplete, Gone, BadNumbers, InUse, RankTaken, NoMoreEpochs}
 use Rattle.hop_core.specs.declared.phase.Phase.{Phase}
@@ -32,3 +32,8 @@ code_of_phase phase.Working = pos 1
 code_of_phase phase.Endgame = pos 2
 code_of_phase phase.Cleanup = pos 3
 code_of_phase phase.Complete = pos 4
+
+-- Of the phase of a handle's rank, if there is one.
+abbrev pub phase_code : Option Phase → ℤ
+phase_code (Some p) = code_of_phase p
+phase_code None = code_of Gone

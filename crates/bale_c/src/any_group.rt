@@ -1,5 +1,5 @@
 //! A group of any capacity.
-ghost use Rattle.std.specs.Prelude.{◌≡◌, ◌≢◌, ℕ, List, Ok, Err, IfOk, OnOk, OnErr, true, false, if◌then◌else◌};
+ghost use Rattle.std.specs.Prelude.{◌≡◌, ◌≢◌, ℕ, List, Ok, Err, IfOk, IfErr, OnOk, OnErr, true, false, if◌then◌else◌};
 ghost use Rattle.route_tensor.specs.Grid.{ranks};
 ghost use Rattle.port_bank.specs.Port.{IsSlots};
 ghost use Rattle.bale_c.specs.GroupCases.{seen_group};
@@ -55,6 +55,7 @@ impl AnyGroup {
         steady: bool,
     ) -> Result<AnyGroup, Answer>
         ensures answer { result ≢ Err Answer.NoMemory → answer_with result ≡ group_answer dims.now buffer slots }
+        ensures refused { IfErr result (λ a. a ≢ Answer.Good) }
         ensures made { IfOk result (λ g. IsNewGroup dims.now buffer slots steady g) }
     {
         let Ok(grid) = Grid::new(dims) else {
@@ -94,6 +95,7 @@ impl AnyGroup {
     /// A rank that was not made before.
     pub(crate) fn new_rank(&mut self, alloc: Global, rank: u32) -> Result<AnyRank, Answer>
         ensures answer { result ≢ Err Answer.NoMemory → answer_with result ≡ rank_answer self.old rank }
+        ensures refused { IfErr result (λ a. a ≢ Answer.Good) }
         ensures made { IfOk result (λ r. IsNewRank self.old rank r) }
         ensures given { OnOk result (self.new ≡ with_given self.old rank) }
         ensures unchanged { OnErr result (self.new ≡ self.old) }

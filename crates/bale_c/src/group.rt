@@ -81,6 +81,7 @@ impl<const CAP: usize> Group<CAP> {
     #[tactic(auto, unfolding(crate::specs::Grouped::IsNewRank))]
     pub(crate) fn new_rank(&mut self, alloc: Global, rank: u32) -> Result<HopsCase<CAP>, Answer>
         ensures answer { result ≢ Err Answer.NoMemory → answer_with result ≡ rank_answer self.old rank }
+        ensures refused { IfErr result (λ a. a ≢ Answer.Good) }
         ensures made { IfOk result (λ r. IsNewRank self.old rank (seen_by_hops r)) }
         ensures given { OnOk result (self.new ≡ with_given self.old rank) }
         ensures unchanged { OnErr result (self.new ≡ self.old) }

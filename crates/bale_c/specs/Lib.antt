@@ -8,3 +8,4 @@ pub mod GroupCases
 pub mod Holds
 pub mod Items
 pub mod Handles
+pub mod Many

@@ -1,14 +1,18 @@
 //! The calls on what a handle has.
-ghost use Rattle.std.specs.Prelude.{◌≡◌, ◌≢◌, ℕ, Bool, true, Some, None, Ok, Err, IfOk, is_some};
+ghost use Rattle.std.specs.Prelude.{◌≡◌, ◌≢◌, ℕ, Bool, true, Some, None, Ok, Err, IfOk, OnErr, is_some, ◌≤◌, ◌++◌, length};
 ghost use Rattle.port_bank.specs.Machine.Step.{Push, Pull, Unpull, Reset, Idle};
 ghost use Rattle.convey.specs.Buffers.{is_complete};
 ghost use Rattle.convey.specs.Progress.{advance_step};
 ghost use Rattle.bale_c.specs.Answers.{begin_answer, push_answer, pull_result, unpull_answer, advance_answer, reset_answer};
+ghost use Rattle.std.specs.Result.{ForOk, ForErr};
+ghost use Rattle.bale_c.specs.Many.{steps_of, then_idle, RanIn, push_many_answer, pull_many_answer};
 ghost use Rattle.bale_c.specs.Handles.{rank_in, if_there, result_if_there, phase_in, done_in, ranks_in, MovedIn};
 ghost use Rattle.std.specs.Option.{option_map};
 
 use crate::answer::Answer;
 use crate::exchange::Exchange;
+use crate::item::BaleItem;
+use crate::many::{pull_all, push_all};
 use crate::part::Part;
 use bale_types::Item;
 use hop_core::Phase;
@@ -111,6 +115,50 @@ pub(crate) fn advance_on(part: &mut Part, done: bool) -> Answer
     match part {
         Part::Rank(rank) => rank.advance(done),
         _ => Answer::Gone,
+    }
+}
+
+/// Pushes items toward ranks until one finds no room. How many were pushed.
+#[tactic(auto, unfolding(crate::specs::Many::RanIn))]
+pub(crate) fn push_many_on(
+    part: &mut Part,
+    items: &[BaleItem],
+    to: &[u32],
+) -> Result<usize, Answer>
+    requires same { length to.now ≡ length items.now }
+    ensures there { is_some (rank_in (Some part.new)) ≡ is_some (rank_in (Some part.old)) }
+    ensures misuse { ForErr result (λ a. a ≡ if_there (rank_in (Some part.old)) (λ s. push_many_answer s to.now)) }
+    ensures good { ForOk result (λ n. if_there (rank_in (Some part.old)) (λ s. push_many_answer s to.now) ≡ Answer.Good) }
+    ensures unchanged { OnErr result (part.new ≡ part.old) }
+    ensures pushed { ForOk result (λ n. RanIn (steps_of Push n items.now to.now ++ then_idle n (length items.now))
+        (rank_in (Some part.old)) (rank_in (Some part.new))) }
+    ensures few { ForOk result (λ n. n ≤ length items.now) }
+{
+    match part {
+        Part::Rank(rank) => push_all(rank, items, to),
+        _ => Err(Answer::Gone),
+    }
+}
+
+/// Pulls items until there are none, or no place is left. How many were pulled.
+#[tactic(auto, unfolding(crate::specs::Many::RanIn))]
+pub(crate) fn pull_many_on(
+    part: &mut Part,
+    items: &mut [BaleItem],
+    from: &mut [u32],
+) -> Result<usize, Answer>
+    requires same { length from.old ≡ length items.old }
+    ensures there { is_some (rank_in (Some part.new)) ≡ is_some (rank_in (Some part.old)) }
+    ensures misuse { ForErr result (λ a. a ≡ if_there (rank_in (Some part.old)) pull_many_answer) }
+    ensures good { ForOk result (λ n. if_there (rank_in (Some part.old)) pull_many_answer ≡ Answer.Good) }
+    ensures unchanged { OnErr result (part.new ≡ part.old) }
+    ensures pulled { ForOk result (λ n. RanIn (steps_of Pull n items.new from.new ++ then_idle n (length items.old))
+        (rank_in (Some part.old)) (rank_in (Some part.new))) }
+    ensures few { ForOk result (λ n. n ≤ length items.old) }
+{
+    match part {
+        Part::Rank(rank) => pull_all(rank, items, from),
+        _ => Err(Answer::Gone),
     }
 }
 

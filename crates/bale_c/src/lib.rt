@@ -13,6 +13,7 @@ mod held;
 mod item;
 mod loose;
 mod making;
+mod many;
 mod part;
 mod rank;
 mod rank_calls;

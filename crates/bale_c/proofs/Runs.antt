@@ -1,5 +1,5 @@
 -- One call after the other.
-use Rattle.std.proofs.Common.{◌≡◌, ℕ, zero, suc, ◌+◌, ◌<◌, ◌≤◌, List, [], ◌∷◌, ◌++◌, length, get_or, set, arith, refl, sym, ap, ◌∙◌, subst, ◌≢◌, Bool, true, false, ◌&&◌, nat_lt, Option, Some, None, Result, Err, append-nil}
+use Rattle.std.proofs.Common.{◌≡◌, ℕ, zero, suc, ◌+◌, ◌<◌, ◌≤◌, List, [], ◌∷◌, ◌++◌, length, get_or, set, arith, refl, sym, ap, ◌∙◌, subst, ◌≢◌, Bool, true, false, ◌&&◌, nat_lt, Option, Some, None, Result, Ok, Err, append-nil, ℤ, pos}
 use Rattle.std.specs.Prelude.{if◌then◌else◌}
 use Rattle.std.specs.List.{list_all}
 use Rattle.std.proofs.lemmas.Bool.{lt-ltb, le-ltb}
@@ -12,12 +12,12 @@ use Rattle.bale_c.specs.declared.answer.Answer.{Answer}
 use Rattle.bale_c.specs.declared.answer.Answer.TheVariants.{Good, Full, Nothing, NoSuchRank}
 use Rattle.bale_c.specs.Answers.{while_working, push_answer, item_or_nothing, pull_once_begun, pull_result}
 use Rattle.bale_types.specs.declared.item.Item.{Item}
-use Rattle.port_bank.specs.Machine.{Part, Step, MayBy, IsOwnStep, after}
+use Rattle.port_bank.specs.Machine.{Part, Step, MayBy, after}
 use Rattle.hop_core.specs.declared.phase.Phase.{Phase}
 use Rattle.bale_c.specs.declared.item.BaleItem.{BaleItem}
 use Rattle.bale_c.specs.Items.{item_of}
 use Rattle.bale_c.specs.Seated.{Seated, Moved, part}
-use Rattle.bale_c.specs.Many.{steps_of, after_all, MayAll, Ran, then_idle, all_ranks}
+use Rattle.bale_c.specs.Many.{steps_of, after_all, MayAll, Ran, then_idle, all_ranks, count_in}
 
 -- one step more
 after_more : (steps : List Step) (s : Step) (p : Part) → after_all (steps ++ s ∷ []) p ≡ after s (after_all steps p)
@@ -132,3 +132,19 @@ same_phase step phase a b m = m.phase_is
 pub same_dims : (step : Step) (phase : Phase) (a b : Seated) → Moved step phase a b → b.state.dims ≡ a.state.dims
 unfolding Moved
 same_dims step phase a b m = m.dims
+
+-- what a number tells that is how many, or what is wrong
+module _ (r : Result ℕ Answer) (answer : Answer) (told : ℤ) (wrong : (a : Answer) → r ≡ Err a → a ≡ answer) (refused : (a : Answer) → r ≡ Err a → a ≢ Good) (number : (n : ℕ) → r ≡ Ok n → told ≡ pos n) where
+  pub told_count : (P : ℕ → Type 0) → ((n : ℕ) → r ≡ Ok n → P n) → answer ≡ Good → P (count_in told)
+  told_count P holds good = by_result r refl
+    where
+      by_result : (s : Result ℕ Answer) → r ≡ s → P (count_in told)
+      by_result (Ok n) e = subst P (sym (ap count_in (number n e))) (holds n e)
+      by_result (Err a) e = absurd (refused a e (wrong a e ∙ good))
+
+  pub told_number : answer ≡ Good → told ≡ pos (count_in told)
+  told_number good = by_result r refl
+    where
+      by_result : (s : Result ℕ Answer) → r ≡ s → told ≡ pos (count_in told)
+      by_result (Ok n) e = number n e ∙ ap pos (sym (ap count_in (number n e)))
+      by_result (Err a) e = absurd (refused a e (wrong a e ∙ good))

@@ -1,10 +1,10 @@
 -- What a call on a rank answers, by the rank before it.
-use Rattle.std.specs.Prelude.{ℕ, Bool, true, false, ◌^◌, ◌&&◌, not, nat_lt, if◌then◌else◌, Option, Some, None, Result, Ok, Err, is_some}
+use Rattle.std.specs.Prelude.{ℕ, Bool, ◌^◌, ◌&&◌, not, nat_lt, if◌then◌else◌, Option, Some, None, Result, Ok, Err, is_some}
 use Rattle.bale_types.specs.declared.item.Item.{Item}
 use Rattle.route_tensor.specs.Grid.{ranks}
 use Rattle.hop_core.specs.declared.phase.Phase.{Phase}
 use Rattle.hop_core.specs.declared.phase.Phase.TheVariants as phase
-use Rattle.hop_core.specs.State.{State, lowest_unread, pull_from}
+use Rattle.hop_core.specs.State.{lowest_unread, pull_from}
 use Rattle.convey.specs.Conveyors.{standing_toward}
 use Rattle.bale_c.specs.declared.answer.Answer.{Answer}
 use Rattle.bale_c.specs.declared.answer.Answer.TheVariants.{Good, Full, Nothing, More, Near, Complete, NotBegun, BegunAlready, DoneAlready, NoSuchRank, NotComplete, NoMoreEpochs}

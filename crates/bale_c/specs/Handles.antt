@@ -1,5 +1,5 @@
 -- What contracts see of a handle, and of a call on it.
-use Rattle.std.specs.Prelude.{◌≡◌, ◌⊎◌, ℕ, Bool, true, false, Option, Some, None, Result, Err, List, is_some, if◌then◌else◌}
+use Rattle.std.specs.Prelude.{◌≡◌, ◌⊎◌, ℕ, Bool, false, Option, Some, None, Result, Err, List, is_some, if◌then◌else◌}
 use Rattle.route_tensor.specs.Grid.{ranks}
 use Rattle.port_bank.specs.Machine.{Step}
 use Rattle.hop_core.specs.declared.phase.Phase.{Phase}

@@ -1,7 +1,6 @@
 -- What is kept of a rank at its bank.
-use Rattle.std.specs.Prelude.{◌≡◌, ℕ, Bool, true, false, ◌<◌, ◌≤◌, length, Option, Some, None, is_some, List, [] }
+use Rattle.std.specs.Prelude.{◌≡◌, ℕ, Bool, true, false, ◌<◌, ◌≤◌, length, Option, Some, None, is_some, List, []}
 use Rattle.route_tensor.specs.Grid.{ranks}
-use Rattle.atomic_table.specs.Seated.{TableId}
 use Rattle.link_slots.specs.Shape.{nowhere}
 use Rattle.link_slots.specs.Seen.{Bank, Manning, posted_on, collected_from}
 use Rattle.link_slots.specs.Gathering.{Gathering}

@@ -1,5 +1,5 @@
 -- Calls of many items, as so many single ones.
-use Rattle.std.specs.Prelude.{◌≡◌, ℕ, zero, suc, Bool, true, false, ⊤, List, [], ◌∷◌, ◌++◌, nat_lt, min, take, if◌then◌else◌, Option, Some, None, ℤ, pos, negsuc}
+use Rattle.std.specs.Prelude.{◌≡◌, ℕ, zero, suc, Bool, ⊤, List, [], ◌∷◌, nat_lt, if◌then◌else◌, Option, Some, ℤ, pos, negsuc}
 use Rattle.std.specs.List.{list_all}
 use Rattle.bale_types.specs.declared.item.Item.{Item}
 use Rattle.route_tensor.specs.Grid.{ranks}

@@ -130,7 +130,10 @@ fn has_slots(slots: u32) -> bool
 fn has_capacity(buffer: u32) -> bool
     ensures { result ≡ is_capacity buffer }
 {
-    matches!(buffer, 1 | 2 | 4 | 8 | 16 | 32 | 64 | 128 | 256 | 512 | 1024)
+    matches!(
+        buffer,
+        1 | 2 | 4 | 8 | 16 | 32 | 64 | 128 | 256 | 512 | 1024
+    )
 }
 
 /// The group of a capacity.
@@ -146,17 +149,17 @@ fn group_of(
     ensures { IfOk result (λ g. IsNewGroup grid.now buffer slots steady (seen_group g)) }
 {
     Ok(match buffer {
-            1 => GroupCase::Of1(Group::new(alloc, grid, slots, steady)?),
-            2 => GroupCase::Of2(Group::new(alloc, grid, slots, steady)?),
-            4 => GroupCase::Of4(Group::new(alloc, grid, slots, steady)?),
-            8 => GroupCase::Of8(Group::new(alloc, grid, slots, steady)?),
-            16 => GroupCase::Of16(Group::new(alloc, grid, slots, steady)?),
-            32 => GroupCase::Of32(Group::new(alloc, grid, slots, steady)?),
-            64 => GroupCase::Of64(Group::new(alloc, grid, slots, steady)?),
-            128 => GroupCase::Of128(Group::new(alloc, grid, slots, steady)?),
-            256 => GroupCase::Of256(Group::new(alloc, grid, slots, steady)?),
-            512 => GroupCase::Of512(Group::new(alloc, grid, slots, steady)?),
-            1024 => GroupCase::Of1024(Group::new(alloc, grid, slots, steady)?),
+        1 => GroupCase::Of1(Group::new(alloc, grid, slots, steady)?),
+        2 => GroupCase::Of2(Group::new(alloc, grid, slots, steady)?),
+        4 => GroupCase::Of4(Group::new(alloc, grid, slots, steady)?),
+        8 => GroupCase::Of8(Group::new(alloc, grid, slots, steady)?),
+        16 => GroupCase::Of16(Group::new(alloc, grid, slots, steady)?),
+        32 => GroupCase::Of32(Group::new(alloc, grid, slots, steady)?),
+        64 => GroupCase::Of64(Group::new(alloc, grid, slots, steady)?),
+        128 => GroupCase::Of128(Group::new(alloc, grid, slots, steady)?),
+        256 => GroupCase::Of256(Group::new(alloc, grid, slots, steady)?),
+        512 => GroupCase::Of512(Group::new(alloc, grid, slots, steady)?),
+        1024 => GroupCase::Of1024(Group::new(alloc, grid, slots, steady)?),
         _ => unreachable!(),
     })
 }

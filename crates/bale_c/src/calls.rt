@@ -120,14 +120,11 @@ pub(crate) fn advance_on(part: &mut Part, done: bool) -> Answer
 
 /// Pushes items toward ranks until one finds no room. How many were pushed.
 #[tactic(auto, unfolding(crate::specs::Many::RanIn))]
-pub(crate) fn push_many_on(
-    part: &mut Part,
-    items: &[BaleItem],
-    to: &[u32],
-) -> Result<usize, Answer>
+pub(crate) fn push_many_on(part: &mut Part, items: &[BaleItem], to: &[u32]) -> Result<usize, Answer>
     requires same { length to.now ≡ length items.now }
     ensures there { is_some (rank_in (Some part.new)) ≡ is_some (rank_in (Some part.old)) }
     ensures misuse { ForErr result (λ a. a ≡ if_there (rank_in (Some part.old)) (λ s. push_many_answer s to.now)) }
+    ensures refused { ForErr result (λ a. a ≢ Answer.Good) }
     ensures good { ForOk result (λ n. if_there (rank_in (Some part.old)) (λ s. push_many_answer s to.now) ≡ Answer.Good) }
     ensures unchanged { OnErr result (part.new ≡ part.old) }
     ensures pushed { ForOk result (λ n. RanIn (steps_of Push n items.now to.now ++ then_idle n (length items.now))
@@ -150,6 +147,7 @@ pub(crate) fn pull_many_on(
     requires same { length from.old ≡ length items.old }
     ensures there { is_some (rank_in (Some part.new)) ≡ is_some (rank_in (Some part.old)) }
     ensures misuse { ForErr result (λ a. a ≡ if_there (rank_in (Some part.old)) pull_many_answer) }
+    ensures refused { ForErr result (λ a. a ≢ Answer.Good) }
     ensures good { ForOk result (λ n. if_there (rank_in (Some part.old)) pull_many_answer ≡ Answer.Good) }
     ensures unchanged { OnErr result (part.new ≡ part.old) }
     ensures pulled { ForOk result (λ n. RanIn (steps_of Pull n items.new from.new ++ then_idle n (length items.old))

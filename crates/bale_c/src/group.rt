@@ -132,14 +132,8 @@ fn case_of<const CAP: usize>(
     ensures unchanged { OnErr result (gather.new ≡ gather.old) }
 {
     match grid.hops() {
-        1 => Ok(HopsCase::One(Rank::new(
-            alloc, bank, gather, grid, rank, steady,
-        )?)),
-        2 => Ok(HopsCase::Two(Rank::new(
-            alloc, bank, gather, grid, rank, steady,
-        )?)),
-        _ => Ok(HopsCase::Three(Rank::new(
-            alloc, bank, gather, grid, rank, steady,
-        )?)),
+        1 => Ok(HopsCase::One(Rank::new(alloc, bank, gather, grid, rank, steady)?)),
+        2 => Ok(HopsCase::Two(Rank::new(alloc, bank, gather, grid, rank, steady)?)),
+        _ => Ok(HopsCase::Three(Rank::new(alloc, bank, gather, grid, rank, steady)?)),
     }
 }

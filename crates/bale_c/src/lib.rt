@@ -14,6 +14,7 @@ mod item;
 mod loose;
 mod making;
 mod many;
+mod many_calls;
 mod part;
 mod rank;
 mod rank_calls;

@@ -31,11 +31,7 @@ pub(crate) fn make_group(
 
 /// A rank of the group, in a box of its own.
 #[tactic(auto, unfolding(crate::specs::Handles::HasNewRank))]
-pub(crate) fn make_rank(
-    alloc: Global,
-    part: &mut Part,
-    rank: u32,
-) -> Result<Box<Part>, Answer>
+pub(crate) fn make_rank(alloc: Global, part: &mut Part, rank: u32) -> Result<Box<Part>, Answer>
     ensures answer { result ≢ Err Answer.NoMemory → answer_with result ≡ if_there (group_in (Some part.old))
         (λ g. rank_answer g rank) }
     ensures refused { IfErr result (λ a. a ≢ Answer.Good) }

@@ -23,6 +23,7 @@ pub(crate) fn push_all<E: Exchange>(
 ) -> Result<usize, Answer>
     requires same { length to.now ≡ length items.now }
     ensures misuse { ForErr result (λ a. a ≡ push_many_answer (E.seen rank.old) to.now) }
+    ensures refused { ForErr result (λ a. a ≢ Answer.Good) }
     ensures good { ForOk result (λ n. push_many_answer (E.seen rank.old) to.now ≡ Answer.Good) }
     ensures unchanged { OnErr result (E.seen rank.new ≡ E.seen rank.old) }
     ensures pushed { ForOk result (λ n. Ran (steps_of Push n items.now to.now ++ then_idle n (length items.now))
@@ -79,6 +80,7 @@ pub(crate) fn pull_all<E: Exchange>(
 ) -> Result<usize, Answer>
     requires same { length from.old ≡ length items.old }
     ensures misuse { ForErr result (λ a. a ≡ pull_many_answer (E.seen rank.old)) }
+    ensures refused { ForErr result (λ a. a ≢ Answer.Good) }
     ensures good { ForOk result (λ n. pull_many_answer (E.seen rank.old) ≡ Answer.Good) }
     ensures unchanged { OnErr result (E.seen rank.new ≡ E.seen rank.old) }
     ensures pulled { ForOk result (λ n. Ran (steps_of Pull n items.new from.new ++ then_idle n (length items.old))

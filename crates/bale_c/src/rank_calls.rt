@@ -11,7 +11,9 @@ ghost use Rattle.bale_c.specs.Items.{item_of, bale_item};
 ghost use Rattle.bale_c.specs.Handles.{rank_in, if_there, result_if_there, phase_in, done_in, ranks_in, MovedIn, IsAdvanced};
 
 use crate::answer::Answer;
-use crate::calls::{advance_on, begin_on, phase_on, pull_on, push_on, ranks_on, reset_on, unpull_on};
+use crate::calls::{
+    advance_on, begin_on, phase_on, pull_on, push_on, ranks_on, reset_on, unpull_on,
+};
 use crate::handle::BaleRank;
 use crate::item::{BaleItem, bale_item_from, item_from};
 use hop_core::Phase;
@@ -93,7 +95,12 @@ pub extern "C" fn bale_reset(alloc: Global, rank: &mut BaleRank) -> i32
 
 /// Pulls the next item that came, with its sender.
 #[unsafe(no_mangle)]
-pub extern "C" fn bale_pull(alloc: Global, rank: &mut BaleRank, item: &mut BaleItem, from: &mut u32) -> i32
+pub extern "C" fn bale_pull(
+    alloc: Global,
+    rank: &mut BaleRank,
+    item: &mut BaleItem,
+    from: &mut u32,
+) -> i32
     ensures answer { result ≡ code_of (answer_with (result_if_there (rank_in rank.old.held.value) pull_result)) }
     ensures pulled { IfOk (result_if_there (rank_in rank.old.held.value) pull_result) (λ p. MovedIn (Pull p.0 p.1)
         (phase_in (rank_in rank.old.held.value)) (rank_in rank.old.held.value) (rank_in rank.new.held.value)) }

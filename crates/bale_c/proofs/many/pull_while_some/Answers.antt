@@ -1,8 +1,8 @@
-use Rattle.std.proofs.Common.{◌≡◌, ◌≢◌, ◌<◌, ◌≤◌, ℕ, List, [], ◌∷◌, ◌++◌, length, get_or, set, arith, refl, sym, ap, ◌∙◌, subst}
+use Rattle.std.proofs.Common.{◌≡◌, ◌≢◌, ◌<◌, ◌≤◌, ℕ, List, [], ◌∷◌, ◌++◌, length, arith, refl, sym, ap, ◌∙◌, subst}
 use Rattle.std.proofs.lemmas.List.{length-set}
 use Rattle.bale_types.specs.declared.item.Item.{Item}
 use Rattle.port_bank.specs.Machine.{Step}
-use Rattle.port_bank.specs.Machine.Step.{Pull, Idle}
+use Rattle.port_bank.specs.Machine.Step.{Pull}
 use Rattle.hop_core.specs.declared.phase.Phase.TheVariants.{Dormant}
 use Rattle.bale_c.specs.Items.{item_of}
 use Rattle.bale_c.specs.Seated.{Seated, Moved}
@@ -20,13 +20,12 @@ loop-count-preserved g c =
     let inside : n < length items = c.loop-count-test.true in let same : length from ≡ length items = inv.2 in
     let sets = length-set items n x in let sets' = length-set from n r in
     let move : Moved (Pull r c.in-Ok.item) b.state.phase b d = c.in-Ok.ensures.pulled in
-    let more : Ran (steps_of Pull n items from ++ Pull r c.in-Ok.item ∷ []) a d = ran_more (steps_of Pull n items from) (Pull r c.in-Ok.item) b.state.phase a b d inv.3 move refl in
-    (
+    let more : Ran (steps_of Pull n items from ++ Pull r c.in-Ok.item ∷ []) a d = ran_more (steps_of Pull n items from) (Pull r c.in-Ok.item) b.state.phase a b d inv.3 move refl in (
       omega (arith, inside, sets),
       sets ∙ inv.1,
       sets' ∙ (same ∙ sym sets),
       subst (λ (l : List Step). Ran l a d) (ap (λ (i : Item). steps_of Pull n items from ++ Pull r i ∷ []) (sym (ap item_of c.bale_item_from.ensures)) ∙ sym (steps_put Pull n items from x r inside (omega (arith, inside, same)))) more,
-      same_phase (Pull r c.in-Ok.item) b.state.phase b d move ∙ inv.4
+      same_phase (Pull r c.in-Ok.item) b.state.phase b d move ∙ inv.4,
     )
 
 pub returns-in-Err-clause-pulled : goal.returns-in-Err-clause-pulled

@@ -1,8 +1,8 @@
-use Rattle.std.proofs.Common.{◌≡◌, ◌≢◌, ◌<◌, ◌≤◌, ℕ, List, [], ◌∷◌, ◌++◌, length, get_or, arith, sym, ap, ◌∙◌, subst, true, rules}
+use Rattle.std.proofs.Common.{◌≡◌, ◌<◌, ◌≤◌, ℕ, List, [], ◌∷◌, ◌++◌, length, get_or, arith, sym, ap, ◌∙◌, subst, true}
 use Rattle.bale_types.specs.declared.item.Item.{Item}
 use Rattle.route_tensor.specs.Grid.{ranks}
 use Rattle.port_bank.specs.Machine.{Step}
-use Rattle.port_bank.specs.Machine.Step.{Push, Idle}
+use Rattle.port_bank.specs.Machine.Step.{Push}
 use Rattle.hop_core.specs.declared.phase.Phase.TheVariants.{Working}
 use Rattle.bale_c.specs.Seated.{Seated, Moved}
 use Rattle.bale_c.specs.Many.{steps_of, Ran, all_ranks}
@@ -25,12 +25,11 @@ loop-count-preserved g c =
     let to : List ℕ = c.args.to.now in let inv = c.loop-count.invariant in
     let inside : n < length c.args.items.now = c.loop-count-test.true in let same : length to ≡ length c.args.items.now = c.requires.same in let at : n < length to = omega (arith, inside, same) in
     let move : Moved (Push (get_or to n 0) c.item_from-item.result) Working b d = c.push.ensures.pushed c.in-Good.is in
-    let more = ran_more (steps_of Push n c.args.items.now to) (Push (get_or to n 0) c.item_from-item.result) Working a b d inv.1 move inv.2 in
-    (
+    let more = ran_more (steps_of Push n c.args.items.now to) (Push (get_or to n 0) c.item_from-item.result) Working a b d inv.1 move inv.2 in (
       omega (arith, inside),
       subst (λ (l : List Step). Ran l a d) (ap (λ (i : Item). steps_of Push n c.args.items.now to ++ Push (get_or to n 0) i ∷ []) c.item_from-item.ensures ∙ sym (steps_plus Push n c.args.items.now to (record { a = 0; b = 0; c = 0 }) 0 inside at)) more,
       same_phase (Push (get_or to n 0) c.item_from-item.result) Working b d move,
-      subst (λ (ds : List ℕ). all_ranks (ranks ds) to ≡ true) (sym (same_dims (Push (get_or to n 0) c.item_from-item.result) Working b d move)) inv.3
+      subst (λ (ds : List ℕ). all_ranks (ranks ds) to ≡ true) (sym (same_dims (Push (get_or to n 0) c.item_from-item.result) Working b d move)) inv.3,
     )
 
 pub returns-clause-pushed : goal.returns-clause-pushed

@@ -1,6 +1,6 @@
 -- `into_loose` has the part's memory again.
 use Rattle.std.proofs.Common.{◌≡◌, List, [], ◌∷◌, ◌++◌, refl, sym, ap, ◌∙◌, subst, Option, Some, is_some, true}
-use mir.Val.{Val, vptr, has_ty}
+use mir.Val.{Val, vptr}
 use base.Logic.{SProp, ent, emp, id⊢, never, fst∗}
 use prog.Wp.{WpFn}
 use types.Logic.{sem}
@@ -15,12 +15,12 @@ use denote.Exit.{yes}
 use denote.Memory.{lone}
 use denote.RattleType.{RattleType, owns}
 use denote.Signature.{types_at, plain}
-use denote.RawPtr.{Ptr, block_ptr, null_ptr, ptr_val, in_a_block}
+use denote.RawPtr.{Ptr, block_ptr, null_ptr, in_a_block}
 use denote.Param.{layout}
 use denote.Steps.{nothing, heard}
 use denote.Triple.Entry.{alive}
 use denote.Triple.Walked.{Stays, stay_dropped, walk_of, Goes-dropped}
-use Rattle.core.proofs.cell.Inside.{Good, one}
+use Rattle.core.proofs.cell.Inside.{one}
 use Rattle.std_heap.specs.contracts.Global as heap
 use Rattle.std_heap.proofs.Global.TheLaws as heap_laws
 use Rattle.std_heap.specs.contracts.GlobalAllocator.TheImpl.{ghosts}
@@ -30,7 +30,7 @@ use Rattle.bale_c.specs.declared.part.Part.{Part}
 use Rattle.bale_c.specs.contracts.part.Part as part
 use Rattle.bale_c.specs.contracts.held.Held as held
 use Rattle.bale_c.specs.Holds.{holds}
-use Rattle.bale_c.proofs.Values.{both, Loose, loose_good, loose_in}
+use Rattle.bale_c.proofs.Values.{both, loose_good, loose_in}
 use Rattle.bale_c.proofs.HeldValues.{lone_ptr, held_out, the_part}
 use Rattle.bale_c.specs.contracts.held.Held.into_loose.{ended, clauses}
 use Rattle.bale_c.specs.contracts.held.Held.into_loose.Key.{name as #self}

@@ -1,9 +1,7 @@
 -- `none` owns nothing, at any pointer.
-use Rattle.std.proofs.Common.{◌≡◌, List, [], ◌∷◌, refl, lit<, Option, None}
+use Rattle.std.proofs.Common.{◌≡◌, [], ◌∷◌, refl, lit<, Option, None}
 use mir.Val.{Val}
 use base.Logic.{SProp, emp}
-use base.Fml.{ftrue}
-use prog.Wp.{WpFn}
 use types.Kit.{‵, raw, ◌⊛◌, ◌$◌, ◌∵◌, !, qed, by, keep, drop, use0}
 use types.Run.{lit, no_more, and_then, returns, enter}
 use types.ByLocal.{alloc_all, free_all, look_at, sets, pass_all}

@@ -1,4 +1,4 @@
-use Rattle.std.proofs.Common.{◌≡◌, refl, sym, ap, ◌∙◌, subst, List, ℕ}
+use Rattle.std.proofs.Common.{◌≡◌, refl, sym, ap, ◌∙◌, subst}
 use Rattle.std.specs.Arc.{arc_value}
 use Rattle.route_tensor.specs.Grid.{ranks}
 use Rattle.link_slots.specs.Seen.{Bank, Manning}
@@ -15,9 +15,9 @@ invariant_of-result g c =
     record {
       there = refl;
       at_bank = subst (λ (b : Bank). Rattle.bale_c.specs.Kept.IsAtBank b c.seat-seat.result c.in_ok-conveyor.conveyor) there
-      (seated_at c.deref.result.now c.args.grid.now c.args.rank g.row.CAP c.args.steady c.seat-seat.result c.in_ok-conveyor.conveyor
-      (c.requires.at_gather.grid_is ∙ ap (λ (b : Bank). b.shape.dims) given) (ap (λ (m : Manning). m.id) seat) (ap (λ (m : Manning). m.shape) seat) (ap (λ (m : Manning). m.rank) seat)
-      (ap (λ (m : Manning). m.lists) seat) is c.in_ok-conveyor.ensures.agrees);
+          (seated_at c.deref.result.now c.args.grid.now c.args.rank g.row.CAP c.args.steady c.seat-seat.result c.in_ok-conveyor.conveyor
+          (c.requires.at_gather.grid_is ∙ ap (λ (b : Bank). b.shape.dims) given) (ap (λ (m : Manning). m.id) seat) (ap (λ (m : Manning). m.shape) seat) (ap (λ (m : Manning). m.rank) seat)
+          (ap (λ (m : Manning). m.lists) seat) is c.in_ok-conveyor.ensures.agrees);
       count_is = c.ranks.ensures.value ∙ ap ranks (sym (ap (λ (z : State). z.dims) is));
       epoch_is = sym (ap (λ (z : State). z.epoch) is);
       done_is = sym (ap (λ (z : State). z.done) is);

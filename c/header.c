@@ -28,7 +28,7 @@ int main(void) {
         return 3;
     for (uint64_t n = 0; n < 3; n++) {
         item.a = n, item.b = n + 1, item.c = n + 2;
-        if (bale_push(&rank, &item, 0) != BALE_OK || bale_advance(&rank, false) != BALE_MORE)
+        if (bale_push(&rank, &item, 0) != BALE_OK || bale_advance(&rank, false) != BALE_MORE || bale_advance(&rank, false) != BALE_MORE)
             return 4;
         item.a = 0;
         if (bale_pull(&rank, &item, &from) != BALE_OK || item.a != n || item.b != n + 1 || item.c != n + 2 || from != 0)

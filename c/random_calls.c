@@ -94,21 +94,22 @@ static void make_group(group *g) {
 
 static void one_call(void) {
     group *g = &groups[below(GROUPS)];
-    uint32_t me = below(MOST_RANKS), to = below(MOST_RANKS + 1), from = 77;
+    uint32_t me = g->many == 0 || below(20) == 0 ? below(MOST_RANKS) : below(g->many), from = 77;
+    uint32_t to = g->many == 0 || below(20) == 0 ? below(MOST_RANKS + 1) : below(g->many);
     bale_rank *rank = &g->ranks[me];
     int32_t state = bale_phase(rank);
     bale_item item = {5, 6, 7};
     switch (below(40)) {
     case 0:
-        if (below(20) == 0 || !g->handle.live)
+        if (below(20) == 0 || (!g->handle.live && below(100) == 0))
             make_group(g);
         break;
     case 1:
-        if (below(500) == 0)
+        if (below(2000) == 0)
             ONLY("bale_group_free", bale_group_free(&g->handle), BALE_OK, BALE_GONE);
         break;
     case 2:
-        if (below(500) == 0) {
+        if (below(2000) == 0) {
             ONLY("bale_rank_free", bale_rank_free(rank), BALE_OK, BALE_GONE);
             if (bale_rank_free(rank) != BALE_GONE)
                 fail("bale_rank_free again", 0);
@@ -146,7 +147,7 @@ static void one_call(void) {
     case 13:
     case 14:
     case 15: {
-        bool done = below(12) == 0;
+        bool done = below(state == BALE_WORKING ? 60 : 2) == 0 || (state > BALE_WORKING && below(20) != 0);
         int32_t answer = bale_advance(rank, done);
         ONLY("bale_advance", answer, BALE_MORE, BALE_NEAR, BALE_COMPLETE, BALE_NOT_BEGUN, BALE_DONE, BALE_GONE);
         if ((answer == BALE_DONE) != (state >= BALE_ENDGAME && !done))

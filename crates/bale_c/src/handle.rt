@@ -26,6 +26,9 @@ pub struct BaleRank {
     pub ghost told: { live ≡ is_some (rank_in held.value) },
 }
 
+/// Asks for the proof that a value may go to another thread.
+fn crosses<T: Send>(_value: &T) {}
+
 impl BaleGroup {
     /// A handle with nothing.
     fn nothing() -> BaleGroup
@@ -61,6 +64,7 @@ impl BaleGroup {
             held: Held::of(Loose::of(part)),
             live: true,
         };
+        crosses(self);
     }
 }
 
@@ -99,5 +103,6 @@ impl BaleRank {
             held: Held::of(Loose::of(part)),
             live: true,
         };
+        crosses(self);
     }
 }

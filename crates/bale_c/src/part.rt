@@ -10,3 +10,9 @@ pub(crate) enum Part {
     Group(AnyGroup),
     Rank(AnyRank),
 }
+
+fn crosses<T: Send>(_value: &T) {}
+
+fn part_crosses(part: &Part) {
+    crosses(part);
+}

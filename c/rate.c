@@ -1,6 +1,7 @@
 /* How many million items a second ranks on threads exchange, through this library one item a call and many a call, and through an exchange
    written by hand in C for this purpose alone: for each pair of ranks two slots and two counters, entries with a tag, buffers handed over by their
-   pointers. Each rank sends ITEMS items to ranks drawn by a random sequence, and sums up what comes. Best and median of five runs. */
+   pointers. Each rank sends so many items to ranks drawn by a random sequence, and sums up what comes. Median and best of some runs.
+   rate [items a rank, 4,000,000 [runs, 5]] */
 #include "bale.h"
 #include <pthread.h>
 #include <sched.h>
@@ -9,9 +10,10 @@
 #include <stdlib.h>
 #include <time.h>
 
-enum { MOST = 64, ITEMS = 4000000, RUNS = 5, AT_ONCE = 1024 };
+enum { MOST = 64, MOST_RUNS = 99, AT_ONCE = 1024 };
 
-static uint32_t many, capacity;
+static uint32_t many, capacity, items_each = 4000000;
+static int runs = 5;
 static uint64_t sums[MOST][16]; /* each rank's on lines of its own */
 
 static inline uint32_t next_of(uint64_t *seed) {
@@ -47,7 +49,7 @@ static hand_buffer new_buffer(void) {
 }
 
 static void *by_hand(void *arg) {
-    uint32_t me = (uint32_t)(size_t)arg, left = ITEMS, ended = 0, to = 0;
+    uint32_t me = (uint32_t)(size_t)arg, left = items_each, ended = 0, to = 0;
     uint64_t seed = me + 1, sum = 0, posted[MOST] = {0}, taken[MOST] = {0};
     bool closed[MOST] = {false}, over[MOST] = {false};
     hand_buffer open[MOST], at_hand[MOST];
@@ -58,7 +60,9 @@ static void *by_hand(void *arg) {
     to = next_of(&seed);
     uint32_t unsent = many;
     while (ended < many || unsent > 0) {
+        bool moved = false;
         while (left > 0 && open[to].count < capacity) {
+            moved = true;
             open[to].entries[open[to].count++] = (hand_entry){me, {left, me, to}};
             to = next_of(&seed);
             left--;
@@ -68,6 +72,7 @@ static void *by_hand(void *arg) {
             if (!closed[r] && (open[r].count == capacity || left == 0) &&
                 posted[r] - atomic_load_explicit(&out->taken, memory_order_acquire) < 2) {
                 hand_buffer *slot = &out->slots[posted[r] % 2], spare = *slot;
+                moved = true;
                 open[r].last = left == 0;
                 *slot = open[r];
                 closed[r] = left == 0;
@@ -80,6 +85,7 @@ static void *by_hand(void *arg) {
             hand_link *in = &links[r * many + me];
             if (!over[r] && atomic_load_explicit(&in->posted, memory_order_acquire) > taken[r]) {
                 hand_buffer *slot = &in->slots[taken[r] % 2], got = *slot;
+                moved = true;
                 *slot = at_hand[r];
                 atomic_store_explicit(&in->taken, ++taken[r], memory_order_release);
                 for (uint32_t k = 0; k < got.count; k++)
@@ -90,7 +96,9 @@ static void *by_hand(void *arg) {
                 at_hand[r] = got;
             }
         }
-        sched_yield();
+        /* Whoever moved nothing gives its processor away. */
+        if (!moved)
+            sched_yield();
     }
     for (uint32_t r = 0; r < many; r++) {
         free(open[r].entries);
@@ -104,32 +112,37 @@ static void *by_hand(void *arg) {
 static bale_rank ranks[MOST];
 
 static void *one_a_call(void *arg) {
-    uint32_t me = (uint32_t)(size_t)arg, left = ITEMS, from;
+    uint32_t me = (uint32_t)(size_t)arg, left = items_each, from;
     uint64_t seed = me + 1, sum = 0;
     bale_rank *rank = &ranks[me];
     bale_begin(rank);
     uint32_t to = next_of(&seed);
     int32_t state = BALE_MORE;
     while (state != BALE_COMPLETE) {
+        bool moved = false;
         while (left > 0) {
             bale_item item = {left, me, to};
             if (bale_push(rank, &item, to) != BALE_OK)
                 break;
+            moved = true;
             to = next_of(&seed);
             left--;
         }
         state = bale_advance(rank, left == 0);
         bale_item item;
-        while (bale_pull(rank, &item, &from) == BALE_OK)
+        while (bale_pull(rank, &item, &from) == BALE_OK) {
             sum += item.a + from;
-        sched_yield();
+            moved = true;
+        }
+        if (!moved)
+            sched_yield();
     }
     sums[me][0] = sum;
     return NULL;
 }
 
 static void *many_a_call(void *arg) {
-    uint32_t me = (uint32_t)(size_t)arg, left = ITEMS;
+    uint32_t me = (uint32_t)(size_t)arg, left = items_each;
     uint64_t seed = me + 1, sum = 0;
     bale_rank *rank = &ranks[me];
     bale_item items[AT_ONCE], came[AT_ONCE];
@@ -137,6 +150,7 @@ static void *many_a_call(void *arg) {
     bale_begin(rank);
     int32_t state = BALE_MORE;
     while (state != BALE_COMPLETE) {
+        bool moved = false;
         while (left > 0 || start < ready) {
             if (start == ready) {
                 start = 0;
@@ -149,15 +163,19 @@ static void *many_a_call(void *arg) {
             if (pushed < 0)
                 exit(1);
             start += (uint32_t)pushed;
+            moved |= pushed > 0;
             if (start < ready)
                 break;
         }
         state = bale_advance(rank, left == 0 && start == ready);
         int64_t pulled;
-        while ((pulled = bale_pull_many(rank, came, AT_ONCE, from, AT_ONCE)) > 0)
+        while ((pulled = bale_pull_many(rank, came, AT_ONCE, from, AT_ONCE)) > 0) {
             for (int64_t k = 0; k < pulled; k++)
                 sum += came[k].a + from[k];
-        sched_yield();
+            moved = true;
+        }
+        if (!moved)
+            sched_yield();
     }
     sums[me][0] = sum;
     return NULL;
@@ -208,7 +226,7 @@ static double one_run(void *(*work)(void *)) {
             bale_rank_free(&ranks[r]);
         bale_group_free(&group);
     }
-    return (double)ITEMS * many / took / 1e6;
+    return (double)items_each * many / took / 1e6;
 }
 
 static int by_value(const void *a, const void *b) {
@@ -216,10 +234,17 @@ static int by_value(const void *a, const void *b) {
     return x < y ? -1 : x > y;
 }
 
-int main(void) {
+int main(int argc, char **argv) {
+    if (argc > 1)
+        items_each = (uint32_t)strtoul(argv[1], NULL, 10);
+    if (argc > 2)
+        runs = (int)strtol(argv[2], NULL, 10);
+    if (items_each == 0 || runs < 1 || runs > MOST_RUNS)
+        return 2;
     static const uint32_t ranks_of[] = {4, 2, 1}, capacities[] = {16, 64, 256, 1024};
     static void *(*const ways[])(void *) = {by_hand, one_a_call, many_a_call};
-    printf("million items a second, median / best of %d runs of %d items a rank\n", RUNS, ITEMS);
+    printf("million items a second, median / best of %d runs of %u items a rank\n", runs, items_each);
+    fflush(stdout);
     printf("ranks buffer    C by hand      one a call     many a call\n");
     for (int p = 0; p < 3; p++)
         for (int c = 0; c < 4; c++) {
@@ -228,8 +253,8 @@ int main(void) {
             printf("%5u %6u", many, capacity);
             uint64_t wanted = 0;
             for (int w = 0; w < 3; w++) {
-                double rates[RUNS];
-                for (int k = 0; k < RUNS; k++) {
+                double rates[MOST_RUNS];
+                for (int k = 0; k < runs; k++) {
                     rates[k] = one_run(ways[w]);
                     uint64_t sum = 0;
                     for (uint32_t r = 0; r < many; r++)
@@ -241,8 +266,8 @@ int main(void) {
                         return 1;
                     }
                 }
-                qsort(rates, RUNS, sizeof(double), by_value);
-                printf("  %5.1f / %5.1f", rates[RUNS / 2], rates[RUNS - 1]);
+                qsort(rates, (size_t)runs, sizeof(double), by_value);
+                printf("  %5.1f / %5.1f", rates[runs / 2], rates[runs - 1]);
             }
             printf("\n");
             fflush(stdout);

@@ -54,9 +54,11 @@ pub(crate) fn push_on(part: &mut Part, item: Item, to: u32) -> Answer
 pub(crate) fn unpull_on(part: &mut Part) -> Answer
     ensures there { is_some (rank_in (Some part.new)) ≡ is_some (rank_in (Some part.old)) }
     ensures answer { result ≡ if_there (rank_in (Some part.old)) (λ s. unpull_answer s) }
-    ensures put_back { result ≡ Answer.Good → MovedIn Unpull (phase_in (rank_in (Some part.old))) (rank_in (Some part.old))
+    ensures put_back { result ≡ Answer.Good
+        → MovedIn Unpull (phase_in (rank_in (Some part.old))) (rank_in (Some part.old))
         (rank_in (Some part.new)) }
-    ensures nothing { result ≡ Answer.Nothing → MovedIn Idle (phase_in (rank_in (Some part.old))) (rank_in (Some part.old))
+    ensures nothing { result ≡ Answer.Nothing
+        → MovedIn Idle (phase_in (rank_in (Some part.old))) (rank_in (Some part.old))
         (rank_in (Some part.new)) }
     ensures misuse { result ≢ Answer.Good → result ≢ Answer.Nothing → part.new ≡ part.old }
 {
@@ -125,7 +127,8 @@ pub(crate) fn push_many_on(part: &mut Part, items: &[BaleItem], to: &[u32]) -> R
     ensures there { is_some (rank_in (Some part.new)) ≡ is_some (rank_in (Some part.old)) }
     ensures misuse { ForErr result (λ a. a ≡ if_there (rank_in (Some part.old)) (λ s. push_many_answer s to.now)) }
     ensures refused { ForErr result (λ a. a ≢ Answer.Good) }
-    ensures good { ForOk result (λ n. if_there (rank_in (Some part.old)) (λ s. push_many_answer s to.now) ≡ Answer.Good) }
+    ensures good { ForOk result
+        (λ n. if_there (rank_in (Some part.old)) (λ s. push_many_answer s to.now) ≡ Answer.Good) }
     ensures unchanged { OnErr result (part.new ≡ part.old) }
     ensures pushed { ForOk result (λ n. RanIn (steps_of Push n items.now to.now ++ then_idle n (length items.now))
         (rank_in (Some part.old)) (rank_in (Some part.new))) }

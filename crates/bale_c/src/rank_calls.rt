@@ -23,7 +23,8 @@ use std::alloc::Global;
 #[unsafe(no_mangle)]
 pub extern "C" fn bale_begin(alloc: Global, rank: &mut BaleRank) -> i32
     ensures answer { result ≡ code_of (if_there (rank_in rank.old.held.value) (λ s. begin_answer s.state.phase)) }
-    ensures begun { if_there (rank_in rank.old.held.value) (λ s. begin_answer s.state.phase) ≡ Answer.Good → MovedIn Idle Phase.Working
+    ensures begun { if_there (rank_in rank.old.held.value) (λ s. begin_answer s.state.phase) ≡ Answer.Good
+        → MovedIn Idle Phase.Working
         (rank_in rank.old.held.value) (rank_in rank.new.held.value) }
     ensures misuse { if_there (rank_in rank.old.held.value) (λ s. begin_answer s.state.phase) ≢ Answer.Good
         → rank_in rank.new.held.value ≡ rank_in rank.old.held.value }
@@ -40,9 +41,11 @@ pub extern "C" fn bale_begin(alloc: Global, rank: &mut BaleRank) -> i32
 #[unsafe(no_mangle)]
 pub extern "C" fn bale_push(alloc: Global, rank: &mut BaleRank, item: &BaleItem, to: u32) -> i32
     ensures answer { result ≡ code_of (if_there (rank_in rank.old.held.value) (λ s. push_answer s to)) }
-    ensures pushed { if_there (rank_in rank.old.held.value) (λ s. push_answer s to) ≡ Answer.Good → MovedIn (Push to (item_of item.now)) Phase.Working
+    ensures pushed { if_there (rank_in rank.old.held.value) (λ s. push_answer s to) ≡ Answer.Good
+        → MovedIn (Push to (item_of item.now)) Phase.Working
         (rank_in rank.old.held.value) (rank_in rank.new.held.value) }
-    ensures full { if_there (rank_in rank.old.held.value) (λ s. push_answer s to) ≡ Answer.Full → MovedIn Idle Phase.Working
+    ensures full { if_there (rank_in rank.old.held.value) (λ s. push_answer s to) ≡ Answer.Full
+        → MovedIn Idle Phase.Working
         (rank_in rank.old.held.value) (rank_in rank.new.held.value) }
     ensures misuse { if_there (rank_in rank.old.held.value) (λ s. push_answer s to) ≢ Answer.Good
         → if_there (rank_in rank.old.held.value) (λ s. push_answer s to) ≢ Answer.Full
@@ -60,9 +63,11 @@ pub extern "C" fn bale_push(alloc: Global, rank: &mut BaleRank, item: &BaleItem,
 #[unsafe(no_mangle)]
 pub extern "C" fn bale_unpull(alloc: Global, rank: &mut BaleRank) -> i32
     ensures answer { result ≡ code_of (if_there (rank_in rank.old.held.value) (λ s. unpull_answer s)) }
-    ensures put_back { if_there (rank_in rank.old.held.value) (λ s. unpull_answer s) ≡ Answer.Good → MovedIn Unpull (phase_in (rank_in rank.old.held.value))
+    ensures put_back { if_there (rank_in rank.old.held.value) (λ s. unpull_answer s) ≡ Answer.Good
+        → MovedIn Unpull (phase_in (rank_in rank.old.held.value))
         (rank_in rank.old.held.value) (rank_in rank.new.held.value) }
-    ensures nothing { if_there (rank_in rank.old.held.value) (λ s. unpull_answer s) ≡ Answer.Nothing → MovedIn Idle (phase_in (rank_in rank.old.held.value))
+    ensures nothing { if_there (rank_in rank.old.held.value) (λ s. unpull_answer s) ≡ Answer.Nothing
+        → MovedIn Idle (phase_in (rank_in rank.old.held.value))
         (rank_in rank.old.held.value) (rank_in rank.new.held.value) }
     ensures misuse { if_there (rank_in rank.old.held.value) (λ s. unpull_answer s) ≢ Answer.Good
         → if_there (rank_in rank.old.held.value) (λ s. unpull_answer s) ≢ Answer.Nothing
@@ -80,7 +85,8 @@ pub extern "C" fn bale_unpull(alloc: Global, rank: &mut BaleRank) -> i32
 #[unsafe(no_mangle)]
 pub extern "C" fn bale_reset(alloc: Global, rank: &mut BaleRank) -> i32
     ensures answer { result ≡ code_of (if_there (rank_in rank.old.held.value) (λ s. reset_answer s)) }
-    ensures ended { if_there (rank_in rank.old.held.value) (λ s. reset_answer s) ≡ Answer.Good → MovedIn Reset Phase.Dormant
+    ensures ended { if_there (rank_in rank.old.held.value) (λ s. reset_answer s) ≡ Answer.Good
+        → MovedIn Reset Phase.Dormant
         (rank_in rank.old.held.value) (rank_in rank.new.held.value) }
     ensures misuse { if_there (rank_in rank.old.held.value) (λ s. reset_answer s) ≢ Answer.Good
         → rank_in rank.new.held.value ≡ rank_in rank.old.held.value }
@@ -110,8 +116,10 @@ pub extern "C" fn bale_pull(
     ensures same_from { OnErr (result_if_there (rank_in rank.old.held.value) pull_result) (from.new ≡ from.old) }
     ensures nothing { result_if_there (rank_in rank.old.held.value) pull_result ≡ Err Answer.Nothing → MovedIn Idle
         (phase_in (rank_in rank.old.held.value)) (rank_in rank.old.held.value) (rank_in rank.new.held.value) }
-    ensures not_begun { result_if_there (rank_in rank.old.held.value) pull_result ≡ Err Answer.NotBegun → rank_in rank.new.held.value ≡ rank_in rank.old.held.value }
-    ensures gone { result_if_there (rank_in rank.old.held.value) pull_result ≡ Err Answer.Gone → rank_in rank.new.held.value ≡ rank_in rank.old.held.value }
+    ensures not_begun { result_if_there (rank_in rank.old.held.value) pull_result ≡ Err Answer.NotBegun
+        → rank_in rank.new.held.value ≡ rank_in rank.old.held.value }
+    ensures gone { result_if_there (rank_in rank.old.held.value) pull_result ≡ Err Answer.Gone
+        → rank_in rank.new.held.value ≡ rank_in rank.old.held.value }
 {
     let Some(mut part) = rank.take(alloc) else {
         return Answer::Gone.code();
@@ -133,16 +141,23 @@ pub extern "C" fn bale_pull(
 pub extern "C" fn bale_advance(alloc: Global, rank: &mut BaleRank, done: bool) -> i32
     ensures answer { result ≡ code_of (if_there (rank_in rank.old.held.value) (λ s. advance_answer s done
         (phase_in (rank_in rank.new.held.value)))) }
-    ensures advanced { IsAdvanced (if_there (rank_in rank.old.held.value) (λ s. advance_answer s done (phase_in (rank_in rank.new.held.value)))) → MovedIn
-        (advance_step (done_in (rank_in rank.old.held.value)) done (is_complete (phase_in (rank_in rank.new.held.value))))
+    ensures advanced { IsAdvanced
+        (if_there (rank_in rank.old.held.value) (λ s. advance_answer s done (phase_in (rank_in rank.new.held.value))))
+        → MovedIn
+        (advance_step (done_in (rank_in rank.old.held.value)) done
+        (is_complete (phase_in (rank_in rank.new.held.value))))
         (phase_in (rank_in rank.new.held.value)) (rank_in rank.old.held.value) (rank_in rank.new.held.value) }
-    ensures done { IsAdvanced (if_there (rank_in rank.old.held.value) (λ s. advance_answer s done (phase_in (rank_in rank.new.held.value))))
+    ensures done { IsAdvanced
+        (if_there (rank_in rank.old.held.value) (λ s. advance_answer s done (phase_in (rank_in rank.new.held.value))))
         → done_in (rank_in rank.new.held.value) ≡ done }
-    ensures not_begun { if_there (rank_in rank.old.held.value) (λ s. advance_answer s done (phase_in (rank_in rank.new.held.value))) ≡ Answer.NotBegun
+    ensures not_begun { if_there (rank_in rank.old.held.value)
+        (λ s. advance_answer s done (phase_in (rank_in rank.new.held.value))) ≡ Answer.NotBegun
         → rank_in rank.new.held.value ≡ rank_in rank.old.held.value }
-    ensures not_undone { if_there (rank_in rank.old.held.value) (λ s. advance_answer s done (phase_in (rank_in rank.new.held.value))) ≡ Answer.DoneAlready
+    ensures not_undone { if_there (rank_in rank.old.held.value)
+        (λ s. advance_answer s done (phase_in (rank_in rank.new.held.value))) ≡ Answer.DoneAlready
         → rank_in rank.new.held.value ≡ rank_in rank.old.held.value }
-    ensures gone { if_there (rank_in rank.old.held.value) (λ s. advance_answer s done (phase_in (rank_in rank.new.held.value))) ≡ Answer.Gone
+    ensures gone { if_there (rank_in rank.old.held.value)
+        (λ s. advance_answer s done (phase_in (rank_in rank.new.held.value))) ≡ Answer.Gone
         → rank_in rank.new.held.value ≡ rank_in rank.old.held.value }
 {
     let Some(mut part) = rank.take(alloc) else {

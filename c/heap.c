@@ -1,5 +1,6 @@
-/* The allocator of the archive: three calls over malloc, realloc and free. A size of 0 takes a block of the alignment's size, and a
-   failed call answers a pointer that is not null, which nothing reads. */
+/* The allocator of the archive: three calls over malloc, realloc and free. A size of 0 takes a
+   block of the alignment's size, and a failed call answers a pointer that is not null, which
+   nothing reads. */
 #include <stdbool.h>
 #include <stddef.h>
 #include <stdlib.h>

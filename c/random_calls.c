@@ -1,5 +1,6 @@
-/* A caller that knows no rules: calls in any order, with any numbers, on live, empty and freed handles. Every call must answer by a code that bale.h
-   names for it, and what is pulled must be what was pushed, in each pair's order: the program keeps its own account of both. */
+/* A caller that knows no rules: calls in any order, with any numbers, on live, empty and freed
+   handles. Every call must answer by a code that bale.h names for it, and what is pulled must be
+   what was pushed, in each pair's order: the program keeps its own account of both. */
 #include "bale.h"
 #include <stdio.h>
 #include <stdlib.h>
@@ -15,7 +16,8 @@ static uint32_t below(uint32_t n) {
     return (uint32_t)((z ^ (z >> 31)) % n);
 }
 
-/* What the program knows of a group: how many items each rank pushed toward each other one in its epoch, and pulled of it. */
+/* What the program knows of a group: how many items each rank pushed toward each other one in its
+   epoch, and pulled of it. */
 typedef struct {
     bale_group handle;
     bale_rank ranks[MOST_RANKS];

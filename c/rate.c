@@ -1,7 +1,8 @@
-/* How many million items a second ranks on threads exchange, through this library one item a call and many a call, and through an exchange
-   written by hand in C for this purpose alone: for each pair of ranks two slots and two counters, entries with a tag, buffers handed over by their
-   pointers. Each rank sends so many items to ranks drawn by a random sequence, and sums up what comes. Median and best of some runs.
-   rate [items a rank, 4,000,000 [runs, 5]] */
+/* How many million items a second ranks on threads exchange, through this library one item a call
+   and many a call, and through an exchange written by hand in C for this purpose alone: for each
+   pair of ranks two slots and two counters, entries with a tag, buffers handed over by their
+   pointers. Each rank sends so many items to ranks drawn by a random sequence, and sums up what
+   comes. Median and best of some runs. rate [items a rank, 4,000,000 [runs, 5]] */
 #include "bale.h"
 #include <pthread.h>
 #include <sched.h>

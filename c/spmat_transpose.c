@@ -1,11 +1,13 @@
-/* The transpose of a sparse matrix in compressed rows (CSR) that is dealt out by rows over the ranks: each rank sends its entries to the ranks
-   that will have their columns as rows, many a call. Twice transposed is the matrix itself, with the columns of each row in order. */
+/* The transpose of a sparse matrix in compressed rows (CSR) that is dealt out by rows over the
+   ranks: each rank sends its entries to the ranks that will have their columns as rows, many a
+   call. Twice transposed is the matrix itself, with the columns of each row in order. */
 #include "ranks.h"
 #include <string.h>
 
 enum { ROWS = 20000, MOST_A_ROW = 20, AT_ONCE = 512 };
 
-/* The rows number, number + RANKS, .. of a square matrix: row k of these has the entries starts[k] to starts[k + 1], by column. */
+/* The rows number, number + RANKS, .. of a square matrix: row k of these has the entries starts[k]
+   to starts[k + 1], by column. */
 typedef struct {
     uint32_t rows;
     size_t *starts;

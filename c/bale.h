@@ -1,0 +1,263 @@
+/* bale conveyors for C: many ranks exchange small items, with nothing lost, nothing doubled and
+   each sender's order kept.
+
+   A rank pushes items toward other ranks, advances the exchange now and then, and pulls what came
+   for it. Items for the same next stop travel together in buffers. Ranks are threads of your own;
+   each has one handle, and no call waits for another thread.
+
+   A whole program: four ranks count how often each rank is named.
+
+       #include "bale.h"
+       #include <pthread.h>
+       #include <sched.h>
+       #include <stdio.h>
+       #include <stdlib.h>
+
+       static bale_group group;
+       static bale_rank ranks[4];
+       static uint64_t counts[4];
+
+       static void *work(void *arg) {
+           uint32_t me = (uint32_t)(size_t)arg, next = me, left = 1000, from;
+           bale_rank *rank = &ranks[me];
+           bale_item item = {0};
+           int32_t state = BALE_MORE;
+           bale_begin(rank);
+           while (state != BALE_COMPLETE) {
+               while (left > 0 && bale_push(rank, &item, next % 4) == BALE_OK) {
+                   next = next * 5 + 1;
+                   left--;
+               }
+               state = bale_advance(rank, left == 0);
+               while (bale_pull(rank, &item, &from) == BALE_OK)
+                   counts[me]++;
+               sched_yield();
+           }
+           bale_rank_free(rank);
+           return NULL;
+       }
+
+       int main(void) {
+           uint32_t dims[1] = {4};
+           pthread_t threads[4];
+           if (bale_group_new(dims, 1, 64, 2, false, &group) != BALE_OK)
+               return 1;
+           for (uint32_t r = 0; r < 4; r++)
+               if (bale_rank_new(&group, r, &ranks[r]) != BALE_OK)
+                   return 1;
+           for (size_t r = 0; r < 4; r++)
+               pthread_create(&threads[r], NULL, work, (void *)r);
+           for (int r = 0; r < 4; r++)
+               pthread_join(threads[r], NULL);
+           bale_group_free(&group);
+           for (int r = 0; r < 4; r++)
+               printf("rank %d was named %llu times\n", r, (unsigned long long)counts[r]);
+       }
+
+   Build it with: cc program.c heap.c libbale_c.a -pthread (or, once installed, with pkg-config
+   --cflags --libs bale_c).
+
+   The states of a rank, the calls that are no misuse in each, and the states that they lead to:
+
+       state      what it means                                 calls, and the state after them
+       DORMANT    the epoch has not begun                       begin -> WORKING
+       WORKING    items may be pushed                           push, pull;
+                                                                advance(false) -> WORKING;
+                                                                advance(true) -> ENDGAME or CLEANUP
+       ENDGAME    it said done; buffers are still to be sent    pull; advance(true) -> ENDGAME,
+                                                                CLEANUP or COMPLETE
+       CLEANUP    all it had is sent; items come or wait        pull; advance(true) -> CLEANUP
+                                                                or COMPLETE
+       COMPLETE   every rank said done, and all that was        reset -> DORMANT, an epoch later;
+                  pushed toward this rank was pulled            pull finds nothing, and
+                                                                advance(true) stays
+
+   unpull, ranks and phase are no misuse in any state. Every call tests what it needs: misuse is
+   answered by a code below 0, and changes nothing.
+
+   What is proved. Each call's contract (crates/bale_c/src/group_calls.rt, rank_calls.rt) says
+   exactly when each answer comes, and which step of the exchange machine the call made: a Push
+   appends the item to what this rank pushed toward that one, a Pull takes the item that the sender
+   pushed next, an Unpull takes it back, Done and Complete end the epoch, and Idle changes nothing
+   but that nothing can be put back. The machine has two lists for each epoch and pair of ranks, and
+   knows no buffers and no routes: one page, crates/port_bank/specs/Machine.antt. docs/PROVED.md
+   says what follows for all ranks together.
+
+   What you owe. C is not checked, so the contracts hold where the program keeps to this:
+   - A handle begins as zeros: bale_rank rank = {0}. Its bytes are this library's: they are not
+     copied while it is live, changed or compared.
+   - A handle is used by one call at a time. It may go to another thread by the thread's start, its
+     join, a lock, or a sequentially consistent atomic. Different handles may be used at once, also
+     of one group; group and ranks may be freed in any order.
+   - Pointers are valid for what the call reads and writes, and not NULL (also for 0 items); an
+     array is as long as the number after it; what one call writes overlaps nothing else that it was
+     given. A bool is 0 or 1.
+   - No call comes from a signal handler, or from the forked child of a process with threads.
+   - malloc, realloc and free are one allocator, which aligns as C's does (heap.c hands them on).
+   Ranks that have nothing to do should give their processor away (sched_yield), above all where
+   there are more ranks than processors. */
+#ifndef BALE_H
+#define BALE_H
+
+#include <stdbool.h>
+#include <stddef.h>
+#include <stdint.h>
+
+#ifdef __cplusplus
+extern "C" {
+#endif
+
+/* What a call answers. From 0 up it is no misuse. */
+enum {
+    BALE_OK = 0,       /* it is done */
+    BALE_FULL = 1,     /* push: the open buffer toward that rank is full; advance, and push again */
+    BALE_NONE = 2,     /* pull: nothing came that was not pulled; unpull: nothing to put back */
+    BALE_MORE = 3,     /* advance: items may still be pushed, or buffers are still to be sent */
+    BALE_NEAR = 4,     /* advance: all is sent; items are still to come or to be pulled */
+    BALE_COMPLETE = 5, /* advance: the epoch is over for this rank */
+
+    BALE_NO_MEMORY = -1, /* nothing changed; the call may be made again */
+
+    BALE_NOT_BEGUN = -2,    /* the epoch has not begun */
+    BALE_BEGUN = -3,        /* begin: the epoch has begun already */
+    BALE_DONE = -4,         /* push, advance(false): the rank said that it is done */
+    BALE_NO_RANK = -5,      /* no rank has this number */
+    BALE_NOT_COMPLETE = -6, /* reset: the epoch isn't over for this rank */
+    BALE_GONE = -7,         /* the handle is empty, or was freed */
+    BALE_BAD_NUMBERS = -8,  /* group_new: no grid, no capacity, or no number of slots */
+    BALE_IN_USE = -9,       /* new: the handle that is to be made is live */
+    BALE_TAKEN = -10,       /* rank_new: this rank of the group was made before */
+    BALE_LAST_EPOCH = -11   /* reset: 2^63 epochs are over, and no number is left for another */
+};
+
+/* The states of a rank, as bale_phase tells them. */
+enum {
+    BALE_DORMANT = 0,
+    BALE_WORKING = 1,
+    BALE_ENDGAME = 2,
+    BALE_CLEANUP = 3,
+    BALE_COMPLETED = 4
+};
+
+/* An item: three words, whose meaning is the program's own. */
+typedef struct {
+    uint64_t a;
+    uint64_t b;
+    uint64_t c;
+} bale_item;
+
+/* The handles. They begin as zeros; their members are this library's. */
+typedef struct {
+    void *at;
+    bool live;
+} bale_group;
+
+typedef struct {
+    void *at;
+    bool live;
+} bale_rank;
+
+/* Makes a group: the memory that its ranks share, all of it at once.
+
+   dims, ndims   a grid of one to three positive numbers with a product of at most 64, the number
+                 of ranks. With one number an item goes straight to its rank; with two or three it
+                 takes as many hops, and each rank has fewer, fuller buffers.
+   buffer        how many items travel together: a power of two from 1 to 1,024.
+   slots         how many buffers a link holds: 1, 2, 4 or 8.
+   steady        whether advance sends what there is, or waits until a buffer is full or the rank
+                 is done.
+
+   BALE_OK; BALE_IN_USE where group is live; BALE_BAD_NUMBERS; BALE_NO_MEMORY. */
+int32_t bale_group_new(const uint32_t *dims, size_t ndims, uint32_t buffer, uint32_t slots,
+                       bool steady, bale_group *group);
+
+/* Makes a rank of the group, DORMANT, before its first epoch. Each number below the product of dims
+   can be made once. The exchange ends only where all ranks are made and say that they are done.
+   BALE_OK; BALE_IN_USE where rank is live; BALE_GONE where group is empty; BALE_NO_RANK;
+   BALE_TAKEN; BALE_NO_MEMORY. */
+int32_t bale_rank_new(bale_group *group, uint32_t number, bale_rank *rank);
+
+/* Begins an epoch: DORMANT -> WORKING.
+   BALE_OK; BALE_GONE; BALE_BEGUN in any other state. */
+int32_t bale_begin(bale_rank *rank);
+
+/* Pushes an item toward a rank; WORKING stays.
+   BALE_OK; BALE_FULL where the open buffer toward it is full, and nothing is pushed; BALE_GONE;
+   BALE_NOT_BEGUN; BALE_DONE; BALE_NO_RANK. */
+int32_t bale_push(bale_rank *rank, const bale_item *item, uint32_t to);
+
+/* Pulls the next item that came, with its sender; of one sender they come in the order in which it
+   pushed them. The state stays.
+   BALE_OK; BALE_NONE, and item and from are as before; BALE_GONE; BALE_NOT_BEGUN. */
+int32_t bale_pull(bale_rank *rank, bale_item *item, uint32_t *from);
+
+/* Puts the item back that the latest call pulled, so that the next pull gives it again. The state
+   stays.
+   BALE_OK; BALE_NONE where the latest call wasn't a pull that gave an item; BALE_GONE. */
+int32_t bale_unpull(bale_rank *rank);
+
+/* Sends and collects what can be sent and collected now, and tells how far the rank is. done says
+   that this rank pushes nothing more in this epoch; once said it stays.
+   BALE_MORE in WORKING and ENDGAME, BALE_NEAR in CLEANUP, BALE_COMPLETE in COMPLETE, by the state
+   after it; BALE_GONE; BALE_NOT_BEGUN; BALE_DONE. */
+int32_t bale_advance(bale_rank *rank, bool done);
+
+/* Ends an epoch: COMPLETE -> DORMANT.
+   BALE_OK; BALE_GONE; BALE_NOT_COMPLETE; BALE_LAST_EPOCH. */
+int32_t bale_reset(bale_rank *rank);
+
+/* Pushes items[0] toward to[0], items[1] toward to[1], and so on, as so many calls of bale_push,
+   until one finds no room: how many were pushed. The numbers of both arrays are the same; if they
+   differ, the lesser counts. Below 0 it is misuse, and nothing is pushed: BALE_GONE,
+   BALE_NOT_BEGUN, BALE_DONE, or BALE_NO_RANK where any of the destinations is none. */
+int64_t bale_push_many(bale_rank *rank, const bale_item *items, size_t nitems, const uint32_t *to,
+                       size_t nto);
+
+/* Pulls into items[0] and from[0], items[1] and from[1], and so on, as so many calls of bale_pull,
+   until nothing is left to be pulled or no place is: how many were pulled. The numbers of both
+   arrays are the same; if they differ, the lesser counts. Below 0 it is misuse: BALE_GONE or
+   BALE_NOT_BEGUN. */
+int64_t bale_pull_many(bale_rank *rank, bale_item *items, size_t nitems, uint32_t *from,
+                       size_t nfrom);
+
+/* How many ranks there are; 0 where the handle is empty. */
+uint32_t bale_ranks(bale_rank *rank);
+
+/* The state, as above; BALE_GONE where the handle is empty. */
+int32_t bale_phase(bale_rank *rank);
+
+/* Frees a rank, or a group; the handle is empty after it, and may be used for another. The other
+   handles go on.
+   BALE_OK; BALE_GONE. */
+int32_t bale_rank_free(bale_rank *rank);
+int32_t bale_group_free(bale_group *group);
+
+/* An answer's name. */
+static inline const char *bale_text(int32_t answer) {
+    switch (answer) {
+    case BALE_OK: return "ok";
+    case BALE_FULL: return "the buffer is full";
+    case BALE_NONE: return "there is none";
+    case BALE_MORE: return "more to push or to send";
+    case BALE_NEAR: return "all is sent, not all is pulled";
+    case BALE_COMPLETE: return "the epoch is over";
+    case BALE_NO_MEMORY: return "no memory";
+    case BALE_NOT_BEGUN: return "the epoch has not begun";
+    case BALE_BEGUN: return "the epoch has begun already";
+    case BALE_DONE: return "the rank said that it is done";
+    case BALE_NO_RANK: return "no rank has this number";
+    case BALE_NOT_COMPLETE: return "the epoch isn't over";
+    case BALE_GONE: return "the handle is empty";
+    case BALE_BAD_NUMBERS: return "no grid, no capacity or no number of slots";
+    case BALE_IN_USE: return "the handle is in use";
+    case BALE_TAKEN: return "the rank was made before";
+    case BALE_LAST_EPOCH: return "no number is left for another epoch";
+    default: return "no answer";
+    }
+}
+
+#ifdef __cplusplus
+}
+#endif
+
+#endif

@@ -1,0 +1,108 @@
+/* Each allocation of each call failing in turn: the call answers that there is no memory, nothing has changed, and it may be made again. No call
+   but the two that make something takes memory at all. */
+#include "bale.h"
+#include <stdio.h>
+#include <stdlib.h>
+#include <string.h>
+
+typedef struct {
+    bool ok;
+    void *p;
+} tried;
+
+static long left = -1; /* so many allocations succeed; below 0, all */
+static long taken;
+static char none;
+
+tried rattle_alloc(size_t size, size_t align);
+tried rattle_realloc(void *p, size_t kept, size_t size, size_t align);
+void rattle_dealloc(void *p);
+
+static tried tried_of(void *p) {
+    tried t = {p != NULL, p != NULL ? p : &none};
+    return t;
+}
+
+static bool refused(void) {
+    if (left == 0)
+        return true;
+    left -= left > 0;
+    return false;
+}
+
+tried rattle_alloc(size_t size, size_t align) {
+    if (refused())
+        return tried_of(NULL);
+    void *p = malloc(size != 0 ? size : align);
+    taken += p != NULL;
+    return tried_of(p);
+}
+
+tried rattle_realloc(void *p, size_t kept, size_t size, size_t align) {
+    (void)kept;
+    return tried_of(refused() ? NULL : realloc(p, size != 0 ? size : align));
+}
+
+void rattle_dealloc(void *p) {
+    taken--;
+    free(p);
+}
+
+static void want(const char *what, int32_t answer, int32_t wanted) {
+    if (answer != wanted) {
+        fprintf(stderr, "no_memory: %s: %s\n", what, bale_text(answer));
+        exit(1);
+    }
+}
+
+int main(void) {
+    uint32_t dims[3] = {2, 1, 2}, from;
+    bale_group group = {0};
+    bale_rank ranks[4] = {{0}};
+    bale_item item = {1, 2, 3};
+    long refusals = 0;
+    for (left = 0;; refusals++) {
+        long first = left;
+        int32_t answer = bale_group_new(dims, 3, 4, 2, false, &group);
+        if (answer == BALE_OK)
+            break;
+        want("bale_group_new", answer, BALE_NO_MEMORY);
+        if (group.live || taken != 0)
+            want("bale_group_new left something", -99, BALE_OK);
+        left = first + 1;
+    }
+    for (uint32_t r = 0; r < 4; r++) {
+        long before = taken;
+        for (left = 0;; refusals++) {
+            long first = left;
+            int32_t answer = bale_rank_new(&group, r, &ranks[r]);
+            if (answer == BALE_OK)
+                break;
+            want("bale_rank_new", answer, BALE_NO_MEMORY);
+            if (ranks[r].live || taken != before)
+                want("bale_rank_new left something", -99, BALE_OK);
+            left = first + 1;
+        }
+    }
+    left = 0; /* from here no allocation succeeds, and none is needed */
+    uint32_t pulled = 0, pushed = 0, over = 0;
+    for (uint32_t r = 0; r < 4; r++)
+        want("bale_begin", bale_begin(&ranks[r]), BALE_OK);
+    while (over < 4) {
+        over = 0;
+        for (uint32_t r = 0; r < 4; r++) {
+            if (bale_phase(&ranks[r]) == BALE_WORKING && pushed < 1000 && bale_push(&ranks[r], &item, pushed % 4) == BALE_OK)
+                pushed++;
+            over += bale_advance(&ranks[r], pushed == 1000) == BALE_COMPLETE;
+            while (bale_pull(&ranks[r], &item, &from) == BALE_OK)
+                pulled++;
+        }
+    }
+    for (uint32_t r = 0; r < 4; r++) {
+        want("bale_reset", bale_reset(&ranks[r]), BALE_OK);
+        want("bale_rank_free", bale_rank_free(&ranks[r]), BALE_OK);
+    }
+    want("bale_group_free", bale_group_free(&group), BALE_OK);
+    printf("no_memory: %ld refusals, %u items pulled after them, %ld blocks left\n", refusals, pulled, taken);
+    return pulled != 1000 || taken != 0;
+}

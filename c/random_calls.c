@@ -1,0 +1,254 @@
+/* A caller that knows no rules: calls in any order, with any numbers, on live, empty and freed
+   handles. Every call must answer by a code that bale.h names for it, and what is pulled must be
+   what was pushed, in each pair's order: the program keeps its own account of both. */
+#include "bale.h"
+#include <stdio.h>
+#include <stdlib.h>
+
+enum { GROUPS = 2, MOST_RANKS = 6, CALLS = 2000000, MANY = 40 };
+
+static uint64_t seed = 1;
+
+static uint32_t below(uint32_t n) {
+    uint64_t z = (seed += 0x9e3779b97f4a7c15u);
+    z = (z ^ (z >> 30)) * 0xbf58476d1ce4e5b9u;
+    z = (z ^ (z >> 27)) * 0x94d049bb133111ebu;
+    return (uint32_t)((z ^ (z >> 31)) % n);
+}
+
+/* What the program knows of a group: how many items each rank pushed toward each other one in its
+   epoch, and pulled of it. */
+typedef struct {
+    bale_group handle;
+    bale_rank ranks[MOST_RANKS];
+    uint32_t many;
+    uint64_t made;
+    uint64_t epoch[MOST_RANKS];
+    uint64_t pushed[MOST_RANKS][MOST_RANKS];
+    uint64_t pulled[MOST_RANKS][MOST_RANKS];
+} group;
+
+static group groups[GROUPS];
+static uint64_t answers[32];
+
+static void fail(const char *what, int64_t answer) {
+    fprintf(stderr, "random_calls: %s: %lld %s\n", what, (long long)answer, bale_text((int32_t)answer));
+    exit(1);
+}
+
+/* Only these answers may come, of which the list ends with 99. */
+static void only(const char *what, int32_t answer, const int32_t *these) {
+    answers[answer + 16]++;
+    for (; *these != 99; these++)
+        if (*these == answer)
+            return;
+    fail(what, answer);
+}
+
+#define ONLY(what, answer, ...) only(what, answer, (const int32_t[]){__VA_ARGS__, 99})
+
+static bale_item item_of(group *g, uint32_t from, uint32_t to, uint64_t number) {
+    bale_item item = {g->made * 1000 + from * 10 + to, g->epoch[from], number};
+    return item;
+}
+
+static void came(group *g, uint32_t me, bale_item item, uint32_t from) {
+    if (from >= g->many)
+        fail("a sender that is none", from);
+    bale_item wanted = item_of(g, from, me, g->pulled[me][from]++);
+    if (item.a != wanted.a || item.b != g->epoch[me] || item.c != wanted.c)
+        fail("another item than was pushed", (int64_t)item.c);
+}
+
+static void make_group(group *g) {
+    static const uint32_t numbers[] = {0, 1, 2, 3, 4, 65, 7};
+    uint32_t dims[4], ndims = below(5), buffer = 1u << below(11), slots = 1u << below(4);
+    for (int k = 0; k < 4; k++)
+        dims[k] = below(3) == 0 ? numbers[below(7)] : 1 + below(2);
+    if (below(10) == 0)
+        buffer = below(2000);
+    if (below(10) == 0)
+        slots = below(10);
+    uint64_t product = 1;
+    for (uint32_t k = 0; k < ndims; k++)
+        product *= dims[k];
+    /* Not so large that the test is slow, nor more ranks than it keeps an account of. */
+    if (product > MOST_RANKS && product <= 64)
+        return;
+    if (buffer > 16 && below(50) != 0)
+        buffer = 1u << below(5);
+    bool was = g->handle.live;
+    int32_t answer = bale_group_new(dims, ndims, buffer, slots, below(2) == 1, &g->handle);
+    ONLY("bale_group_new", answer, BALE_OK, BALE_IN_USE, BALE_BAD_NUMBERS);
+    if ((answer == BALE_IN_USE) != was)
+        fail("bale_group_new where a group is", answer);
+    if (answer == BALE_OK) {
+        for (uint32_t r = 0; r < MOST_RANKS; r++)
+            bale_rank_free(&g->ranks[r]);
+        uint64_t made = g->made;
+        bale_group handle = g->handle;
+        *g = (group){0};
+        g->handle = handle;
+        g->made = made + 1;
+        g->many = (uint32_t)product;
+    }
+}
+
+static void one_call(void) {
+    group *g = &groups[below(GROUPS)];
+    uint32_t me = g->many == 0 || below(20) == 0 ? below(MOST_RANKS) : below(g->many), from = 77;
+    uint32_t to = g->many == 0 || below(20) == 0 ? below(MOST_RANKS + 1) : below(g->many);
+    bale_rank *rank = &g->ranks[me];
+    int32_t state = bale_phase(rank);
+    bale_item item = {5, 6, 7};
+    switch (below(40)) {
+    case 0:
+        if (below(20) == 0 || (!g->handle.live && below(100) == 0))
+            make_group(g);
+        break;
+    case 1:
+        if (below(2000) == 0)
+            ONLY("bale_group_free", bale_group_free(&g->handle), BALE_OK, BALE_GONE);
+        break;
+    case 2:
+        if (below(2000) == 0) {
+            ONLY("bale_rank_free", bale_rank_free(rank), BALE_OK, BALE_GONE);
+            if (bale_rank_free(rank) != BALE_GONE)
+                fail("bale_rank_free again", 0);
+        }
+        break;
+    case 3:
+    case 4:
+        ONLY("bale_rank_new", bale_rank_new(&g->handle, me, rank), BALE_OK, BALE_IN_USE, BALE_GONE, BALE_NO_RANK, BALE_TAKEN);
+        break;
+    case 5:
+    case 6:
+    case 7: {
+        int32_t answer = bale_begin(rank);
+        ONLY("bale_begin", answer, BALE_OK, BALE_BEGUN, BALE_GONE);
+        if ((answer == BALE_OK) != (state == BALE_DORMANT))
+            fail("bale_begin in another state", answer);
+        break;
+    }
+    case 8:
+    case 9: {
+        int32_t answer = bale_reset(rank);
+        ONLY("bale_reset", answer, BALE_OK, BALE_NOT_COMPLETE, BALE_GONE);
+        if ((answer == BALE_OK) != (state == BALE_COMPLETED))
+            fail("bale_reset in another state", answer);
+        if (answer == BALE_OK) {
+            g->epoch[me]++;
+            for (uint32_t r = 0; r < MOST_RANKS; r++)
+                g->pushed[me][r] = g->pulled[me][r] = 0;
+        }
+        break;
+    }
+    case 10:
+    case 11:
+    case 12:
+    case 13:
+    case 14:
+    case 15: {
+        bool done = below(state == BALE_WORKING ? 60 : 2) == 0 || (state > BALE_WORKING && below(20) != 0);
+        int32_t answer = bale_advance(rank, done);
+        ONLY("bale_advance", answer, BALE_MORE, BALE_NEAR, BALE_COMPLETE, BALE_NOT_BEGUN, BALE_DONE, BALE_GONE);
+        if ((answer == BALE_DONE) != (state >= BALE_ENDGAME && !done))
+            fail("bale_advance in another state", answer);
+        break;
+    }
+    case 16:
+    case 17:
+    case 18: {
+        uint32_t many = below(MANY), number[MOST_RANKS + 1] = {0};
+        bale_item items[MANY];
+        uint32_t ranks[MANY];
+        bool good = true;
+        for (uint32_t k = 0; k < many; k++) {
+            ranks[k] = below(300) == 0 ? MOST_RANKS + below(9) : g->many == 0 ? 0 : below(g->many);
+            good &= ranks[k] < g->many;
+            items[k] = item_of(g, me, ranks[k], ranks[k] < g->many ? g->pushed[me][ranks[k]] + number[ranks[k]]++ : 0);
+        }
+        int64_t pushed = bale_push_many(rank, items, many, ranks, many + below(3) * (many < MANY - 2));
+        if (pushed < 0)
+            ONLY("bale_push_many", (int32_t)pushed, BALE_NOT_BEGUN, BALE_DONE, BALE_NO_RANK, BALE_GONE);
+        if ((pushed >= 0) != (state == BALE_WORKING && good) || pushed > many)
+            fail("bale_push_many in another state", pushed);
+        for (int64_t k = 0; k < pushed; k++)
+            g->pushed[me][ranks[k]]++;
+        break;
+    }
+    case 19:
+    case 20: {
+        uint32_t many = below(MANY), senders[MANY];
+        bale_item items[MANY];
+        int64_t pulled = bale_pull_many(rank, items, many, senders, many);
+        if (pulled < 0)
+            ONLY("bale_pull_many", (int32_t)pulled, BALE_NOT_BEGUN, BALE_GONE);
+        if ((pulled >= 0) != (state > BALE_DORMANT) || pulled > many)
+            fail("bale_pull_many in another state", pulled);
+        for (int64_t k = 0; k < pulled; k++)
+            came(g, me, items[k], senders[k]);
+        if (pulled > 0 && pulled == many && below(2) == 0) {
+            if (bale_unpull(rank) != BALE_OK)
+                fail("bale_unpull after bale_pull_many", 0);
+            g->pulled[me][senders[pulled - 1]]--;
+        }
+        break;
+    }
+    case 21:
+    case 22:
+    case 23:
+    case 24:
+    case 25:
+    case 26: {
+        int32_t answer = bale_pull(rank, &item, &from);
+        ONLY("bale_pull", answer, BALE_OK, BALE_NONE, BALE_NOT_BEGUN, BALE_GONE);
+        if ((answer == BALE_OK || answer == BALE_NONE) != (state > BALE_DORMANT))
+            fail("bale_pull in another state", answer);
+        if (answer != BALE_OK) {
+            if (item.a != 5 || item.b != 6 || item.c != 7 || from != 77)
+                fail("bale_pull wrote", answer);
+        } else {
+            came(g, me, item, from);
+            if (below(4) == 0) {
+                if (bale_unpull(rank) != BALE_OK)
+                    fail("bale_unpull after bale_pull", 0);
+                g->pulled[me][from]--;
+                if (bale_unpull(rank) != BALE_NONE)
+                    fail("bale_unpull twice", 0);
+            }
+        }
+        break;
+    }
+    default: {
+        item = item_of(g, me, to, to < MOST_RANKS ? g->pushed[me][to] : 0);
+        int32_t answer = bale_push(rank, &item, to);
+        ONLY("bale_push", answer, BALE_OK, BALE_FULL, BALE_NOT_BEGUN, BALE_DONE, BALE_NO_RANK, BALE_GONE);
+        if ((answer == BALE_OK || answer == BALE_FULL) != (state == BALE_WORKING && to < g->many))
+            fail("bale_push in another state", answer);
+        if (answer == BALE_OK)
+            g->pushed[me][to]++;
+        break;
+    }
+    }
+    if (bale_ranks(rank) != (rank->live ? g->many : 0))
+        fail("bale_ranks", bale_ranks(rank));
+}
+
+int main(int argc, char **argv) {
+    if (argc > 1)
+        seed = strtoull(argv[1], NULL, 10);
+    for (uint32_t k = 0; k < CALLS; k++)
+        one_call();
+    for (int g = 0; g < GROUPS; g++) {
+        for (uint32_t r = 0; r < MOST_RANKS; r++)
+            bale_rank_free(&groups[g].ranks[r]);
+        bale_group_free(&groups[g].handle);
+    }
+    printf("random_calls: %d calls, of these answered:\n", CALLS);
+    for (int32_t a = -11; a <= 5; a++)
+        printf("  %3d %9llu  %s\n", a, (unsigned long long)answers[a + 16], bale_text(a));
+    if (answers[BALE_OK + 16] == 0 || answers[BALE_COMPLETE + 16] == 0)
+        fail("no epoch was completed", 0);
+    return 0;
+}

@@ -1,0 +1,277 @@
+/* How many million items a second ranks on threads exchange, through this library one item a call
+   and many a call, and through an exchange written by hand in C for this purpose alone: for each
+   pair of ranks two slots and two counters, entries with a tag, buffers handed over by their
+   pointers. Each rank sends so many items to ranks drawn by a random sequence, and sums up what
+   comes. Median and best of some runs. rate [items a rank, 4,000,000 [runs, 5]] */
+#include "bale.h"
+#include <pthread.h>
+#include <sched.h>
+#include <stdatomic.h>
+#include <stdio.h>
+#include <stdlib.h>
+#include <time.h>
+
+enum { MOST = 64, MOST_RUNS = 99, AT_ONCE = 1024 };
+
+static uint32_t many, capacity, items_each = 4000000;
+static int runs = 5;
+static uint64_t sums[MOST][16]; /* each rank's on lines of its own */
+
+static inline uint32_t next_of(uint64_t *seed) {
+    *seed = *seed * 6364136223846793005u + 1442695040888963407u;
+    return (uint32_t)(((*seed >> 33) * many) >> 31);
+}
+
+/* The exchange by hand. */
+typedef struct {
+    uint32_t tag;
+    bale_item item;
+} hand_entry;
+
+typedef struct {
+    uint32_t count;
+    bool last;
+    hand_entry *entries;
+} hand_buffer;
+
+typedef struct {
+    _Alignas(64) _Atomic uint64_t posted;
+    _Alignas(64) _Atomic uint64_t taken;
+    _Alignas(64) hand_buffer slots[2];
+} hand_link;
+
+static hand_link *links;
+
+static hand_buffer new_buffer(void) {
+    hand_buffer b = {0, false, malloc(capacity * sizeof(hand_entry))};
+    if (b.entries == NULL)
+        exit(1);
+    return b;
+}
+
+static void *by_hand(void *arg) {
+    uint32_t me = (uint32_t)(size_t)arg, left = items_each, ended = 0, to = 0;
+    uint64_t seed = me + 1, sum = 0, posted[MOST] = {0}, taken[MOST] = {0};
+    bool closed[MOST] = {false}, over[MOST] = {false};
+    hand_buffer open[MOST], at_hand[MOST];
+    for (uint32_t r = 0; r < many; r++) {
+        open[r] = new_buffer();
+        at_hand[r] = new_buffer();
+    }
+    to = next_of(&seed);
+    uint32_t unsent = many;
+    while (ended < many || unsent > 0) {
+        bool moved = false;
+        while (left > 0 && open[to].count < capacity) {
+            moved = true;
+            open[to].entries[open[to].count++] = (hand_entry){me, {left, me, to}};
+            to = next_of(&seed);
+            left--;
+        }
+        for (uint32_t r = 0; r < many; r++) {
+            hand_link *out = &links[me * many + r];
+            if (!closed[r] && (open[r].count == capacity || left == 0) &&
+                posted[r] - atomic_load_explicit(&out->taken, memory_order_acquire) < 2) {
+                hand_buffer *slot = &out->slots[posted[r] % 2], spare = *slot;
+                moved = true;
+                open[r].last = left == 0;
+                *slot = open[r];
+                closed[r] = left == 0;
+                unsent -= closed[r];
+                spare.count = 0;
+                spare.last = false;
+                open[r] = spare;
+                atomic_store_explicit(&out->posted, ++posted[r], memory_order_release);
+            }
+            hand_link *in = &links[r * many + me];
+            if (!over[r] && atomic_load_explicit(&in->posted, memory_order_acquire) > taken[r]) {
+                hand_buffer *slot = &in->slots[taken[r] % 2], got = *slot;
+                moved = true;
+                *slot = at_hand[r];
+                atomic_store_explicit(&in->taken, ++taken[r], memory_order_release);
+                for (uint32_t k = 0; k < got.count; k++)
+                    sum += got.entries[k].item.a + got.entries[k].tag;
+                over[r] = got.last;
+                ended += got.last;
+                got.count = 0;
+                at_hand[r] = got;
+            }
+        }
+        /* Whoever moved nothing gives its processor away. */
+        if (!moved)
+            sched_yield();
+    }
+    for (uint32_t r = 0; r < many; r++) {
+        free(open[r].entries);
+        free(at_hand[r].entries);
+    }
+    sums[me][0] = sum;
+    return NULL;
+}
+
+/* Through the library. */
+static bale_rank ranks[MOST];
+
+static void *one_a_call(void *arg) {
+    uint32_t me = (uint32_t)(size_t)arg, left = items_each, from;
+    uint64_t seed = me + 1, sum = 0;
+    bale_rank *rank = &ranks[me];
+    bale_begin(rank);
+    uint32_t to = next_of(&seed);
+    int32_t state = BALE_MORE;
+    while (state != BALE_COMPLETE) {
+        bool moved = false;
+        while (left > 0) {
+            bale_item item = {left, me, to};
+            if (bale_push(rank, &item, to) != BALE_OK)
+                break;
+            moved = true;
+            to = next_of(&seed);
+            left--;
+        }
+        state = bale_advance(rank, left == 0);
+        bale_item item;
+        while (bale_pull(rank, &item, &from) == BALE_OK) {
+            sum += item.a + from;
+            moved = true;
+        }
+        if (!moved)
+            sched_yield();
+    }
+    sums[me][0] = sum;
+    return NULL;
+}
+
+static void *many_a_call(void *arg) {
+    uint32_t me = (uint32_t)(size_t)arg, left = items_each;
+    uint64_t seed = me + 1, sum = 0;
+    bale_rank *rank = &ranks[me];
+    bale_item items[AT_ONCE], came[AT_ONCE];
+    uint32_t to[AT_ONCE], from[AT_ONCE], ready = 0, start = 0;
+    bale_begin(rank);
+    int32_t state = BALE_MORE;
+    while (state != BALE_COMPLETE) {
+        bool moved = false;
+        while (left > 0 || start < ready) {
+            if (start == ready) {
+                start = 0;
+                for (ready = 0; ready < AT_ONCE && left > 0; ready++, left--) {
+                    to[ready] = next_of(&seed);
+                    items[ready] = (bale_item){left, me, to[ready]};
+                }
+            }
+            int64_t pushed = bale_push_many(rank, items + start, ready - start, to + start, ready - start);
+            if (pushed < 0)
+                exit(1);
+            start += (uint32_t)pushed;
+            moved |= pushed > 0;
+            if (start < ready)
+                break;
+        }
+        state = bale_advance(rank, left == 0 && start == ready);
+        int64_t pulled;
+        while ((pulled = bale_pull_many(rank, came, AT_ONCE, from, AT_ONCE)) > 0) {
+            for (int64_t k = 0; k < pulled; k++)
+                sum += came[k].a + from[k];
+            moved = true;
+        }
+        if (!moved)
+            sched_yield();
+    }
+    sums[me][0] = sum;
+    return NULL;
+}
+
+static double seconds(void) {
+    struct timespec t;
+    timespec_get(&t, TIME_UTC);
+    return (double)t.tv_sec + 1e-9 * (double)t.tv_nsec;
+}
+
+static double one_run(void *(*work)(void *)) {
+    pthread_t threads[MOST];
+    bale_group group = {0};
+    uint32_t dims[1] = {many};
+    links = NULL;
+    if (work == by_hand) {
+        links = aligned_alloc(64, sizeof(hand_link) * many * many);
+        if (links == NULL)
+            exit(1);
+        for (uint32_t l = 0; l < many * many; l++) {
+            atomic_init(&links[l].posted, 0);
+            atomic_init(&links[l].taken, 0);
+            for (int k = 0; k < 2; k++)
+                links[l].slots[k] = new_buffer();
+        }
+    } else {
+        if (bale_group_new(dims, 1, capacity, 2, false, &group) != BALE_OK)
+            exit(1);
+        for (uint32_t r = 0; r < many; r++)
+            if (bale_rank_new(&group, r, &ranks[r]) != BALE_OK)
+                exit(1);
+    }
+    double start = seconds();
+    for (size_t r = 0; r < many; r++)
+        if (pthread_create(&threads[r], NULL, work, (void *)r) != 0)
+            exit(1);
+    for (uint32_t r = 0; r < many; r++)
+        pthread_join(threads[r], NULL);
+    double took = seconds() - start;
+    if (links != NULL) {
+        for (uint32_t l = 0; l < many * many; l++)
+            for (int k = 0; k < 2; k++)
+                free(links[l].slots[k].entries);
+        free(links);
+    } else {
+        for (uint32_t r = 0; r < many; r++)
+            bale_rank_free(&ranks[r]);
+        bale_group_free(&group);
+    }
+    return (double)items_each * many / took / 1e6;
+}
+
+static int by_value(const void *a, const void *b) {
+    double x = *(const double *)a, y = *(const double *)b;
+    return x < y ? -1 : x > y;
+}
+
+int main(int argc, char **argv) {
+    if (argc > 1)
+        items_each = (uint32_t)strtoul(argv[1], NULL, 10);
+    if (argc > 2)
+        runs = (int)strtol(argv[2], NULL, 10);
+    if (items_each == 0 || runs < 1 || runs > MOST_RUNS)
+        return 2;
+    static const uint32_t ranks_of[] = {4, 2, 1}, capacities[] = {16, 64, 256, 1024};
+    static void *(*const ways[])(void *) = {by_hand, one_a_call, many_a_call};
+    printf("million items a second, median / best of %d runs of %u items a rank\n", runs, items_each);
+    fflush(stdout);
+    printf("ranks buffer    C by hand      one a call     many a call\n");
+    for (int p = 0; p < 3; p++)
+        for (int c = 0; c < 4; c++) {
+            many = ranks_of[p];
+            capacity = capacities[c];
+            printf("%5u %6u", many, capacity);
+            uint64_t wanted = 0;
+            for (int w = 0; w < 3; w++) {
+                double rates[MOST_RUNS];
+                for (int k = 0; k < runs; k++) {
+                    rates[k] = one_run(ways[w]);
+                    uint64_t sum = 0;
+                    for (uint32_t r = 0; r < many; r++)
+                        sum += sums[r][0];
+                    if (w == 0 && k == 0)
+                        wanted = sum;
+                    else if (sum != wanted) {
+                        printf("\nanother sum than by hand\n");
+                        return 1;
+                    }
+                }
+                qsort(rates, (size_t)runs, sizeof(double), by_value);
+                printf("  %5.1f / %5.1f", rates[runs / 2], rates[runs - 1]);
+            }
+            printf("\n");
+            fflush(stdout);
+        }
+    return 0;
+}

@@ -1,0 +1,86 @@
+//! What C calls, of a group.
+ghost use Rattle.std.specs.Prelude.{◌≡◌, ◌≢◌, true, Some, None, is_some};
+ghost use Rattle.bale_c.specs.Codes.{code_of};
+ghost use Rattle.bale_c.specs.Handles.{rank_in, group_in, if_there, new_group_answer, new_rank_answer, given_in, HasNewGroup, HasNewRank};
+
+use crate::answer::Answer;
+use crate::handle::{BaleGroup, BaleRank};
+use crate::making::{make_group, make_rank};
+use std::alloc::Global;
+
+/// Makes a group of which no rank is made yet.
+#[unsafe(no_mangle)]
+#[tactic(auto, using(crate::proofs::Codes::code_good))]
+pub extern "C" fn bale_group_new(
+    alloc: Global,
+    dims: &[u32],
+    buffer: u32,
+    slots: u32,
+    steady: bool,
+    out: &mut BaleGroup,
+) -> i32
+    ensures answer { result ≢ code_of Answer.NoMemory → result ≡ code_of (new_group_answer
+        (group_in out.old.held.value) dims.now buffer slots) }
+    ensures made { result ≡ code_of Answer.Good → HasNewGroup dims.now buffer slots steady
+        (group_in out.new.held.value) }
+    ensures unchanged { result ≢ code_of Answer.Good → out.new ≡ out.old }
+{
+    if out.live {
+        return Answer::InUse.code();
+    }
+    match make_group(alloc, dims, buffer, slots, steady) {
+        Ok(part) => {
+            out.put(part);
+            Answer::Good.code()
+        }
+        Err(answer) => answer.code(),
+    }
+}
+
+/// Makes a rank of the group that was not made before.
+#[unsafe(no_mangle)]
+#[tactic(auto, using(crate::proofs::Codes::code_good))]
+pub extern "C" fn bale_rank_new(
+    alloc: Global,
+    group: &mut BaleGroup,
+    rank: u32,
+    out: &mut BaleRank,
+) -> i32
+    ensures answer { result ≢ code_of Answer.NoMemory → result ≡ code_of (new_rank_answer
+        (group_in group.old.held.value) (rank_in out.old.held.value) rank) }
+    ensures made { result ≡ code_of Answer.Good → HasNewRank (group_in group.old.held.value) rank
+        (rank_in out.new.held.value) }
+    ensures given { result ≡ code_of Answer.Good → group_in group.new.held.value
+        ≡ given_in (group_in group.old.held.value) rank }
+    ensures unchanged { result ≢ code_of Answer.Good → out.new ≡ out.old }
+    ensures same_group { result ≢ code_of Answer.Good → group_in group.new.held.value
+        ≡ group_in group.old.held.value }
+{
+    if out.live {
+        return Answer::InUse.code();
+    }
+    let Some(mut part) = group.take(alloc) else {
+        return Answer::Gone.code();
+    };
+    let made = make_rank(alloc, &mut part, rank);
+    group.put(part);
+    match made {
+        Ok(part) => {
+            out.put(part);
+            Answer::Good.code()
+        }
+        Err(answer) => answer.code(),
+    }
+}
+
+/// Frees the group. Its ranks go on.
+#[unsafe(no_mangle)]
+pub extern "C" fn bale_group_free(alloc: Global, group: &mut BaleGroup) -> i32
+    ensures answer { result ≡ code_of (if_there (group_in group.old.held.value) (λ g. Answer.Good)) }
+    ensures gone { group_in group.new.held.value ≡ None }
+{
+    match group.take(alloc) {
+        Some(_) => Answer::Good.code(),
+        None => Answer::Gone.code(),
+    }
+}

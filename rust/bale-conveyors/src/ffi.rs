@@ -1,0 +1,30 @@
+//! What `c/bale.h` declares.
+use crate::Item;
+use std::ffi::c_void;
+
+#[repr(C)]
+pub struct Handle {
+    pub at: *mut c_void,
+    pub live: bool,
+}
+
+impl Handle {
+    pub const EMPTY: Handle = Handle { at: std::ptr::null_mut(), live: false };
+}
+
+extern "C" {
+    pub fn bale_group_new(dims: *const u32, ndims: usize, buffer: u32, slots: u32, steady: bool, out: *mut Handle) -> i32;
+    pub fn bale_rank_new(group: *mut Handle, number: u32, out: *mut Handle) -> i32;
+    pub fn bale_begin(rank: *mut Handle) -> i32;
+    pub fn bale_push(rank: *mut Handle, item: *const Item, to: u32) -> i32;
+    pub fn bale_pull(rank: *mut Handle, item: *mut Item, from: *mut u32) -> i32;
+    pub fn bale_unpull(rank: *mut Handle) -> i32;
+    pub fn bale_advance(rank: *mut Handle, done: bool) -> i32;
+    pub fn bale_reset(rank: *mut Handle) -> i32;
+    pub fn bale_push_many(rank: *mut Handle, items: *const Item, n: usize, to: *const u32, nto: usize) -> i64;
+    pub fn bale_pull_many(rank: *mut Handle, items: *mut Item, n: usize, from: *mut u32, nfrom: usize) -> i64;
+    pub fn bale_ranks(rank: *mut Handle) -> u32;
+    pub fn bale_phase(rank: *mut Handle) -> i32;
+    pub fn bale_rank_free(rank: *mut Handle) -> i32;
+    pub fn bale_group_free(group: *mut Handle) -> i32;
+}

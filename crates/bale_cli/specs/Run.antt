@@ -27,13 +27,11 @@ pub record IsRun {S K E : Type 0} (serial : Command → Bool) (words : List (Lis
   pub no_read_fault : status ≢ 3 → read_faults source' ≡ read_faults source
   pub write_fault : status ≡ 4 → Rose (write_faults out) (write_faults out')
   pub no_write_fault : status ≢ 4 → write_faults out' ≡ write_faults out
-
   -- The source is as it was where the matrix is generated, and at 2; else at 0, 1, 4, 5 and 6 the text was read whole, or to one byte past
   -- its limit.
   pub unread : reads (command_of words) ≡ false → source' ≡ source
   pub read_whole : (text : List ℕ) → left source ≡ Some text → reads (command_of words) ≡ true → status ≢ 3 → status ≢ 7
       → left source' ≡ Some (drop 16_777_217 text)
-
   -- At 0 and 1 out has taken the answer, at 4 a front of it, and else it is as it was; what it held stays, so at 4 it has what it held and then
   -- a front of the answer.
   pub answer : (text : List ℕ) → Told (command_of words) (left source) text → (status ≡ 0) ⊎ (status ≡ 1)
@@ -42,7 +40,6 @@ pub record IsRun {S K E : Type 0} (serial : Command → Bool) (words : List (Lis
       → Wrote serial (command_of words) text (λ bytes. IsFront (taken out') (after (taken out) bytes))
   pub held : IsFront (taken out) (taken out')
   pub no_answer : status ≢ 0 → status ≢ 1 → status ≢ 4 → out' ≡ out
-
   -- What is said on err is whole unless its own faults rose; the text matters at 5 and 6 alone. At 0 and 1 err is as it was.
   pub said_whole : (text : List ℕ) → ((status ≡ 5) ⊎ (status ≡ 6) → Told (command_of words) (left source) text)
       → ¬ Rose (err_faults err) (err_faults err') → told err' ≡ after (told err) (said status (serial_answer serial words text))
@@ -50,7 +47,6 @@ pub record IsRun {S K E : Type 0} (serial : Command → Bool) (words : List (Lis
       → IsFront (told err') (after (told err) (said status (serial_answer serial words text)))
   pub said_held : IsFront (told err) (told err')
   pub silent : (status ≡ 0) ⊎ (status ≡ 1) → err' ≡ err
-
   -- At 0, 1 and 4 the rounds tell the canonical run of the application's programs for its matrix or lines, and for ig over biconvey that of the
   -- sums and then the queries and the replies, over banks of the grid, the capacity and the slots that the words name: plain ones for one
   -- thread, else ones of slots; else there are none.

@@ -9,16 +9,16 @@ use denote.Builtin.{RawPtr}
 use denote.Struct.Struct.{exits_of}
 use denote.Struct.Owning.{shape, fields, to}
 use Rattle.std_alloc.proofs.SendSync.{quiet, lies}
-use Rattle.libc.specs.Heap.{chunk-Keyless}
+use Rattle.std.proofs.Crossing.{frees}
 use Rattle.bale_c.specs.declared.part.Part.{Part}
-use Rattle.bale_c.specs.Holds.{holds}
+use Rattle.bale_c.specs.Holds.{holds, heap}
 use Rattle.bale_c.specs.contracts.part.Part as part
 use Rattle.bale_c.proofs.part.Part.TheSendSync.{the_send as part_send}
 use Rattle.bale_c.specs.contracts.held.Held.{the_row, the_type}
 
 keyless : (at : Ptr) (x : Option Part) → Keyless (holds at x)
 keyless at None = tt
-keyless at (Some x) = (lies part.the_row part_send at x, chunk-Keyless (raw (lone part.the_row.mir)) at)
+keyless at (Some x) = (lies part.the_row part_send at x, frees.frees heap (raw (lone part.the_row.mir)) at)
 
 pub send : IsSend the_row
 send = let O = the_type in let ps : IsSend RawPtr = search sendable in

@@ -1,0 +1,20 @@
+//! Which items each application emits in which round: of each a law about its canonical run, in terms of its matrix or its lines alone.
+//!
+//! | Call | Round | A rank emits |
+//! |---|---|---|
+//! | [`histo_rounds`] | 0 | for each own entry (i,j,v), to the owner of column j, (j,1,0) |
+//! | [`transpose_rounds`] | 0 | for each own entry, to the owner of column j, (j, i, bits of v) |
+//! | [`tally_rounds`] | 0 | for each own line, to the rank that is the sum of its bytes modulo the ranks, the line's spelling |
+//! | [`topo_rounds`] | 0 | for each own entry, to the owner of row i, (i,j,0), and then to that of column j, (j,i,1) |
+//! | | 2t + 1 | for each own row i of level t, to the owner of the column j that it claims, (j,i,2) |
+//! | | 2t + 2 | for each entry (i,j) of an own column that level t claimed, to the owner of row i, (i,j,3) |
+//!
+//! The calls do nothing, and tell their laws. The programs keep books, by which each rank knows what to send next; no law speaks of
+//! them, so they are proved and need not be believed.
+//!
+//! Read `specs/Emit` first: what it is that all ranks emit in a round. Then each application's lines, a file each.
+#![tactic(auto)]
+
+mod laws;
+
+pub use laws::{histo_rounds, tally_rounds, topo_rounds, transpose_rounds};

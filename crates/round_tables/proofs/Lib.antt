@@ -1,3 +1,5 @@
+mod Ig
 mod Made
 mod OneRound
+mod Permute
 mod Topo

@@ -1,5 +1,7 @@
 //! The laws, one an application.
 ghost use Rattle.round_tables.specs.Histo.{HistoRounds};
+ghost use Rattle.round_tables.specs.Ig.{IgRounds};
+ghost use Rattle.round_tables.specs.Permute.{PermuteRounds};
 ghost use Rattle.round_tables.specs.Transpose.{TransposeRounds};
 ghost use Rattle.round_tables.specs.Tally.{TallyRounds};
 ghost use Rattle.round_tables.specs.Topo.{TopoRounds};
@@ -7,6 +9,17 @@ ghost use Rattle.round_tables.specs.Topo.{TopoRounds};
 /// histo has one round, in which each entry goes to the owner of its column.
 pub fn histo_rounds()
     ensures { HistoRounds }
+{}
+
+/// ig has three rounds: each entry's value goes to the owner of its column, then its query, and the owner replies with the sum.
+pub fn ig_rounds()
+    ensures { IgRounds }
+{}
+
+/// permute has three rounds: each entry goes to the owner of its row, of its column, and of its new row, and gets its new row and
+/// its new column on the way.
+pub fn permute_rounds()
+    ensures { PermuteRounds }
 {}
 
 /// transpose has one round, in which each entry goes, turned, to the owner of its column.

@@ -3,6 +3,12 @@
 //! | Call | Round | A rank emits |
 //! |---|---|---|
 //! | [`histo_rounds`] | 0 | for each own entry (i,j,v), to the owner of column j, (j,1,0) |
+//! | [`ig_rounds`] | 0 | for each own entry, to the owner of column j, (j, bits of v, 0) |
+//! | | 1 | for each own entry, with its number e, to the owner of column j, (j,e,0) |
+//! | | 2 | for each entry in an own column j, with its number e, to the rank that asked, (e, bits of the column's sum, 0) |
+//! | [`permute_rounds`] | 0 | for each own entry, to the owner of row i, (i, j, bits of v) |
+//! | | 1 | for each entry of an own row i, to the owner of column j, (p(i), j, bits of v) |
+//! | | 2 | for each entry of an own column j, to the owner of its new row p(i), (p(i), q(j), bits of v) |
 //! | [`transpose_rounds`] | 0 | for each own entry, to the owner of column j, (j, i, bits of v) |
 //! | [`tally_rounds`] | 0 | for each own line, to the rank that is the sum of its bytes modulo the ranks, the line's spelling |
 //! | [`topo_rounds`] | 0 | for each own entry, to the owner of row i, (i,j,0), and then to that of column j, (j,i,1) |
@@ -17,4 +23,6 @@
 
 mod laws;
 
-pub use laws::{histo_rounds, tally_rounds, topo_rounds, transpose_rounds};
+pub use laws::{
+    histo_rounds, ig_rounds, permute_rounds, tally_rounds, topo_rounds, transpose_rounds,
+};

@@ -3,6 +3,7 @@ ghost use Rattle.round_tables.specs.Histo.{HistoRounds};
 ghost use Rattle.round_tables.specs.Ig.{IgRounds};
 ghost use Rattle.round_tables.specs.Permute.{PermuteRounds};
 ghost use Rattle.round_tables.specs.Transpose.{TransposeRounds};
+ghost use Rattle.round_tables.specs.Sssp.{SsspRounds};
 ghost use Rattle.round_tables.specs.Tally.{TallyRounds};
 ghost use Rattle.round_tables.specs.Topo.{TopoRounds};
 
@@ -36,4 +37,10 @@ pub fn tally_rounds()
 /// their columns, and the columns that were claimed tell all their rows.
 pub fn topo_rounds()
     ensures { TopoRounds }
+{}
+
+/// sssp tells each edge to the owner of its beginning; then, with one edge more in each round, the vertices that have lighter walks than
+/// before offer their weights along their edges.
+pub fn sssp_rounds()
+    ensures { SsspRounds }
 {}

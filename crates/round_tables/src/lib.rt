@@ -10,6 +10,8 @@
 //! | | 1 | for each entry of an own row i, to the owner of column j, (p(i), j, bits of v) |
 //! | | 2 | for each entry of an own column j, to the owner of its new row p(i), (p(i), q(j), bits of v) |
 //! | [`transpose_rounds`] | 0 | for each own entry, to the owner of column j, (j, i, bits of v) |
+//! | [`sssp_rounds`] | 0 | for each own entry, to the owner of row i, (i, j, bits of v) |
+//! | | k + 1 | for each edge (i,j,v) of an own vertex i to which some walk of k edges is lighter than all of fewer, and has weight w, to the owner of j, (j, w + v, 0) |
 //! | [`tally_rounds`] | 0 | for each own line, to the rank that is the sum of its bytes modulo the ranks, the line's spelling |
 //! | [`topo_rounds`] | 0 | for each own entry, to the owner of row i, (i,j,0), and then to that of column j, (j,i,1) |
 //! | | 2t + 1 | for each own row i of level t, to the owner of the column j that it claims, (j,i,2) |
@@ -24,5 +26,6 @@
 mod laws;
 
 pub use laws::{
-    histo_rounds, ig_rounds, permute_rounds, tally_rounds, topo_rounds, transpose_rounds,
+    histo_rounds, ig_rounds, permute_rounds, sssp_rounds, tally_rounds, topo_rounds,
+    transpose_rounds,
 };

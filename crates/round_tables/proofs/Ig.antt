@@ -21,12 +21,14 @@ use Rattle.app_histo_ig.specs.IgLines.{column_sum}
 use Rattle.app_histo_ig.specs.Igs.{IgState, ig_rules, value_item, to_ask, reply_to, replies_from}
 use Rattle.app_histo_ig.specs.IgLaws.{ig_laws}
 use Rattle.app_histo_ig.specs.IgRuns.{ig_begins, ig_starts}
+use Rattle.app_histo_ig.specs.Sums.{sums_rules}
+use Rattle.app_histo_ig.specs.SumsRuns.{sums_begins, sums_starts}
 use Rattle.app_histo_ig.proofs.ColumnWords.{IsColumnSum, column_word}
 use Rattle.app_histo_ig.proofs.IgOwners.{owner_sum}
 use Rattle.app_histo_ig.proofs.IgQueries.{noted_from_none}
 use Rattle.app_histo_ig.proofs.IgRounds.{column_bits, ask_item, sums_of, by_sender, asking, replying, each_risen, each_noted, starts_in_round, three_rounds}
 use Rattle.app_histo_ig.proofs.IgRounds.{values as values_come, queries as queries_come}
-use Rattle.round_tables.specs.Ig.{IgRounds, values, queries, replies}
+use Rattle.round_tables.specs.Ig.{IgRounds, IgSumsRounds, values, queries, replies}
 use Rattle.round_tables.proofs.Made.{emit_made, same_flat}
 
 -- ---- The states between the rounds
@@ -107,4 +109,11 @@ ig ranks m some is =
       replies_sent = emit_made ig_rules (ig_starts ranks m) 2 ranks (replying ranks m) (replies ranks m) (second_round ranks m some is) (λ r low.
           replies_flat ranks (sums_of ranks m r) (λ f. items_of f (queries_come ranks m r)) 0 ranks
           ∙ same_flat _ _ (range_with_len 0 ranks) (λ f. replied ranks m r f some is));
+    }
+
+pub ig_sums : IgSumsRounds
+ig_sums ranks m =
+    record {
+      rounds = record { some = lit< tt; goes = λ n l. absurd (omega arith); stops = refl };
+      values_sent = emit_made sums_rules (sums_starts ranks m) 0 ranks (sums_begins ranks m) (values ranks m) refl (λ r low. refl);
     }

@@ -164,6 +164,9 @@ module _ (ranks : ℕ) (m : Sparse) (source : ℕ) (some : 0 < ranks) (g : IsGra
   table_stays s votes vs =
       ap (λ b. cond b (table_of s.ranks (length vs) 0 (2 ^ 64 - 1) (cond (s.round == 0) [] s.arriving)) (table_after s)) (ne_eqb (min (s.round + 1) (2 ^ 64 - 1)) 0 (λ z. absurd (omega arith)))
 
+  table_next : (s u : SsspState) (votes : ℕ) (vs : List Vertex) (edges : List (List Edge)) → s ≡ record (sssp_rules.ended u votes) { vertices = vs } → table_after u ≡ edges → table_after s ≡ edges
+  table_next s u votes vs edges is old = ap table_after is ∙ table_stays u votes vs ∙ old
+
   was_ended : (k : ℕ) → k ≤ 16384 → (r : ℕ) (s u : SsspState) → slice_get (over (suc k)) r ≡ Some s → slice_get (over k) r ≡ Some u
       → (vs : List Vertex) × (s ≡ record (sssp_rules.ended u (vote_sum sssp_rules (over k))) { vertices = vs })
   was_ended k l r s u here before = (
@@ -180,4 +183,4 @@ module _ (ranks : ℕ) (m : Sparse) (source : ℕ) (some : 0 < ranks) (g : IsGra
       let low : r < ranks = subst (λ n. r < n) (over_in (suc k) (omega arith)).size (within (over (suc k)) r s here) in
       let u = find (over k) r (subst (λ n. r < n) (sym (over_in k (omega arith)).size) low) in
       let was = was_ended k (omega arith) r s u.0 here u.1 in
-      ap table_after was.1 ∙ table_stays u.0 (vote_sum sssp_rules (over k)) was.0 ∙ table_is k (omega arith) r u.0 u.1
+      table_next s u.0 (vote_sum sssp_rules (over k)) was.0 (edges_of r) was.1 (table_is k (omega arith) r u.0 u.1)

@@ -10,6 +10,8 @@ use Rattle.sparse_rows.specs.Owners.{own_entries, column_owner}
 use Rattle.app_histo_ig.specs.IgLines.{column_sum}
 use Rattle.app_histo_ig.specs.Igs.{ig_rules}
 use Rattle.app_histo_ig.specs.IgRuns.{ig_starts}
+use Rattle.app_histo_ig.specs.Sums.{sums_rules}
+use Rattle.app_histo_ig.specs.SumsRuns.{sums_starts}
 use Rattle.round_tables.specs.Emit.{item, Emit}
 
 -- Round 0: the value of each own entry, to the owner of its column.
@@ -41,3 +43,11 @@ pub record HasIgRounds (ranks : ℕ) (m : Sparse) : Type 0 where
 
 abbrev pub IgRounds : Type 0
 IgRounds = (ranks : ℕ) (m : Sparse) → 1 ≤ ranks → IsSparse m → HasIgRounds ranks m
+
+-- Where ranks ask one another at once, the round of sums comes before: it is the first of the three alone.
+pub record HasIgSumsRounds (ranks : ℕ) (m : Sparse) : Type 0 where
+  pub rounds : HasRounds sums_rules (sums_starts ranks m) 1
+  pub values_sent : Emit sums_rules (sums_starts ranks m) 0 ranks (values ranks m)
+
+abbrev pub IgSumsRounds : Type 0
+IgSumsRounds = (ranks : ℕ) (m : Sparse) → HasIgSumsRounds ranks m

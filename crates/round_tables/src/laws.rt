@@ -1,6 +1,6 @@
 //! The laws, one an application.
 ghost use Rattle.round_tables.specs.Histo.{HistoRounds};
-ghost use Rattle.round_tables.specs.Ig.{IgRounds};
+ghost use Rattle.round_tables.specs.Ig.{IgRounds, IgSumsRounds};
 ghost use Rattle.round_tables.specs.Permute.{PermuteRounds};
 ghost use Rattle.round_tables.specs.Transpose.{TransposeRounds};
 ghost use Rattle.round_tables.specs.Sssp.{SsspRounds};
@@ -15,6 +15,11 @@ pub fn histo_rounds()
 /// ig has three rounds: each entry's value goes to the owner of its column, then its query, and the owner replies with the sum.
 pub fn ig_rounds()
     ensures { IgRounds }
+{}
+
+/// Where ranks ask one another at once (`ig --via biconvey`), the values are sent in a round of their own.
+pub fn ig_sums_rounds()
+    ensures { IgSumsRounds }
 {}
 
 /// permute has three rounds: each entry goes to the owner of its row, of its column, and of its new row, and gets its new row and

@@ -1,3 +1,6 @@
+mod Delta
+mod DeltaLists
+mod DeltaSteps
 mod Ig
 mod Made
 mod OneRound

@@ -42,7 +42,7 @@ pub in_range_list : (n i : ℕ) → i < n → Contains (range_with_len 0 n) i
 in_range_list n i low =
     (i, subst (λ k. i < k) (sym (length-range_with_len 0 n)) low, get_or-range_with_len 0 n i i low ∙ (let z : 0 + i ≡ i = omega arith in z))
 
-was_in_range : (n i : ℕ) → Contains (range_with_len 0 n) i → i < n
+pub was_in_range : (n i : ℕ) → Contains (range_with_len 0 n) i → i < n
 was_in_range n i h =
     let low : h.0 < n = subst (λ k. h.0 < k) (length-range_with_len 0 n) h.1 in
     let is : get_or (range_with_len 0 n) h.0 i ≡ 0 + h.0 = get_or-range_with_len 0 n h.0 i low in

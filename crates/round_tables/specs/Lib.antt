@@ -1,3 +1,4 @@
+pub mod Delta
 pub mod Emit
 pub mod Histo
 pub mod Ig

@@ -1,4 +1,5 @@
 //! The laws, one an application.
+ghost use Rattle.round_tables.specs.Delta.{DeltaRounds};
 ghost use Rattle.round_tables.specs.Histo.{HistoRounds};
 ghost use Rattle.round_tables.specs.Ig.{IgRounds, IgSumsRounds};
 ghost use Rattle.round_tables.specs.Permute.{PermuteRounds};
@@ -48,4 +49,9 @@ pub fn topo_rounds()
 /// before offer their weights along their edges.
 pub fn sssp_rounds()
     ensures { SsspRounds }
+{}
+
+/// sssp by buckets is delta-stepping over the whole graph, and each rank sends in each round its own vertices' part of it.
+pub fn delta_rounds()
+    ensures { DeltaRounds }
 {}

@@ -15,10 +15,15 @@
 //! | | 2t + 2 | for each entry (i,j) of an own column that level t claimed, to the owner of row i, (i,j,3) |
 //! | [`sssp_rounds`] | 0 | for each own entry, to the owner of row i, (i, j, bits of v) |
 //! | | k + 1 | for each edge (i,j,v) of an own vertex i that improves with k edges, to weight w, to the owner of j, (j, w + v, 0) |
+//! | [`delta_rounds`] | 0 | the same |
+//! | | find | to each rank, (b,0,0) with the least own bucket b in which a vertex is pending |
+//! | | light | for each light edge (i,j,v) of an own active vertex i of weight w, to the owner of j, (j, w + v, 0) |
+//! | | heavy | for each heavy edge of an own settled vertex, the same |
 //! | [`tally_rounds`] | 0 | for each own line, to the rank that is the sum of its bytes modulo the ranks, its spelling |
 //!
 //! Each law says too how many rounds there are. The calls do nothing, and tell their laws. The programs keep books, by which each rank
-//! knows what to send next; no law speaks of them, so they are proved and need not be believed. Of sssp with `--delta` there is no law.
+//! knows what to send next; no law speaks of them, so they are proved and need not be believed. For `delta_rounds` what all ranks together
+//! know is told step by step, over the whole graph (`Look`).
 //!
 //! Read `specs/Emit` first: what it is that all ranks emit in a round. Then each application's lines, a file each.
 #![tactic(auto)]
@@ -26,6 +31,6 @@
 mod laws;
 
 pub use laws::{
-    histo_rounds, ig_rounds, ig_sums_rounds, permute_rounds, sssp_rounds, tally_rounds,
-    topo_rounds, transpose_rounds,
+    delta_rounds, histo_rounds, ig_rounds, ig_sums_rounds, permute_rounds, sssp_rounds,
+    tally_rounds, topo_rounds, transpose_rounds,
 };

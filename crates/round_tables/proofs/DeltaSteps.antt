@@ -1,0 +1,464 @@
+-- Each round of delta-stepping, as a step over the whole graph and as what each rank sends.
+use Rattle.std.proofs.Common.{◌≡◌, ◌≢◌, ℕ, suc, ◌+◌, ◌-◌, ◌*◌, ◌/◌, ◌%◌, ◌^◌, ◌<◌, ◌≤◌, ◌&&◌, not, Bool, true, false, eqb, List, [], ◌∷◌, Option, Some, None, length, map, get_or, slice_get, All, arith, inl, inr, refl, sym, ap, ◌∙◌, subst}
+use Rattle.std.specs.List.{filter, fold, list_any, range_with_len}
+use Rattle.std.proofs.Math.Nat.{mod-lt}
+use Rattle.std.proofs.lemmas.Bool.{cases_lt, and_parts, or_cases, lt-ltb, false≢true}
+use Rattle.std.proofs.lemmas.Nat.{div-mul-add, mod-mul-add}
+use Rattle.std.proofs.lemmas.List.Elements.{All-contains, filter_agree}
+use Rattle.std.proofs.lemmas.List.Sorted.{All-permutation}
+use Rattle.std.proofs.lemmas.Option.{same_Some}
+use Rattle.bale_types.specs.declared.triple.Triple.{Triple}
+use Rattle.list_laws.specs.Sums.{total}
+use Rattle.list_laws.proofs.Lists.{find, within, get_map, got_map}
+use Rattle.list_laws.proofs.Sums.{total_le, total_lt, total_same, total_bound}
+use Rattle.mtx_text.specs.Sparse.{Sparse}
+use Rattle.mtx_text.specs.Cells.{gathered}
+use Rattle.round_program.specs.Canonical.{end_all, votes_at, vote_sum, InRound}
+use Rattle.round_program.proofs.Members.{in_round}
+use Rattle.sparse_rows.specs.Owners.{places_for}
+use Rattle.sparse_rows.proofs.Deals.{filter_filter}
+use Rattle.sparse_rows.proofs.Gathering.{gathered_dealt, gathered_moves}
+use Rattle.least_walks.specs.declared.table.Edge.{Edge}
+use Rattle.least_walks.specs.declared.vertices.Vertex.{Vertex}
+use Rattle.least_walks.specs.Walks.{AtMost}
+use Rattle.least_walks.specs.Tables.{table_of, offers as offers_by_place}
+use Rattle.least_walks.specs.Vertices.{unreached, is_better, lesser, least_marked, marked, in_bucket, weight_in, picked, calm_if}
+use Rattle.least_walks.proofs.Marks.{picks_all}
+use Rattle.least_walks.proofs.Settled.{cost}
+use Rattle.app_sssp.specs.SsspRuns.{IsGraph}
+use Rattle.app_sssp.proofs.Rounds.{Stage}
+use Rattle.app_sssp.proofs.Begins.{graph_edges, own_edges}
+use Rattle.delta_step.specs.declared.phase.Phase.{Phase}
+use Rattle.delta_step.specs.declared.phase.Phase.TheVariants.{First, Find, Light, Heavy}
+use Rattle.delta_step.specs.Deltas.{DeltaState, delta_rules, activated, finished, ascending, announced, bucket_of}
+use Rattle.delta_step.specs.DeltaLaws.{delta_laws}
+use Rattle.delta_step.specs.DeltaRuns.{delta_starts}
+use Rattle.delta_step.proofs.Begins.{starts_in_round}
+use Rattle.delta_step.proofs.Buckets.{Took as TookOffer, Offers, active, calmed_stage, light_sent, heavy_sent, opened}
+use Rattle.delta_step.proofs.FindRounds.{IsFinding, find_found, find_fresh, find_static, find_phase, find_bucket, find_open, find_was, found_bucket, bucket_floor, bucket_reached}
+use Rattle.delta_step.proofs.HeavyRounds.{heavy_round, heavy_static, heavy_phase, heavy_was}
+use Rattle.delta_step.proofs.Looks.{Weighed, offers_weighed, calmed_weighed, look_weighed}
+use Rattle.delta_step.proofs.OfferRounds.{vertex_at, stage_of, at_vertex}
+use Rattle.delta_step.proofs.Runs.{full, full_in}
+use Rattle.delta_step.proofs.Transits.{Static, open_of, at_open, calm_at, calm_weight, light_round, light_open, light_static, light_phase, light_bucket, light_was}
+use Rattle.round_tables.specs.Delta.{Look, is_light, is_active, Improves, Changes, least_pending, line_in}
+use Rattle.round_tables.proofs.SsspLists.{in_range_list, marks_are, vertex_in, own_vertices as vertices_own, IsLight}
+use Rattle.round_tables.proofs.DeltaLists.{any_there, fold_map, fold_on, offers_by_vertex, light_range, heavy_range}
+
+-- the greatest weight of an edge
+abbrev pub LIMIT : ℕ
+LIMIT = 1_000_000_000_000
+
+-- ---- Weights stay small: they rise by an edge only where a vertex more is found
+
+abbrev pub one_found : Option ℕ → ℕ
+one_found None = 0
+one_found (Some w) = 1
+
+abbrev pub reached : ℕ → (ℕ → Option ℕ) → ℕ
+reached n found = total n (λ v. one_found (found v))
+
+reached_most : (n : ℕ) (found : ℕ → Option ℕ) → reached n found ≤ n * 1
+reached_most n found = total_bound n 1 (λ v. one_found (found v)) (λ v l. most (found v))
+  where
+    most : (o : Option ℕ) → one_found o ≤ 1
+    most None = omega arith
+    most (Some w) = omega arith
+
+abbrev pub Bounded : ℕ → (ℕ → Option ℕ) → Type 0
+Bounded n found = (v k : ℕ) → found v ≡ Some k → k ≤ reached n found * LIMIT
+
+found_more : (es : List Triple) (sent : Triple → Bool) (x y : Stage) → Offers es sent x y → (v : ℕ) → one_found (x.found v) ≤ one_found (y.found v)
+found_more es sent x y round v =
+    elim (round.each v) [
+      | inl same ↦ (let e : one_found (y.found v) ≡ one_found (x.found v) = ap one_found same.0 in omega arith)
+      | inr new' ↦ (let e : one_found (y.found v) ≡ 1 = ap one_found new'.1.new in let l : one_found (x.found v) ≤ 1 = most (x.found v) in omega arith)
+    ]
+  where
+    most : (o : Option ℕ) → one_found o ≤ 1
+    most None = omega arith
+    most (Some w) = omega arith
+
+bounded_more : (n : ℕ) (es : List Triple) (sent : Triple → Bool) (x y : Stage) → All (λ (t : Triple). t.j < n) es → All (λ (t : Triple). cost t ≤ LIMIT) es → Offers es sent x y → Bounded n x.found → Bounded n y.found
+bounded_more n es sent x y to few round old v k found =
+    let up : reached n x.found ≤ reached n y.found = total_le n (λ v. one_found (x.found v)) (λ v. one_found (y.found v)) (λ v l. found_more es sent x y round v) in
+    elim (round.each v) [
+      | inl same ↦ (let b : k ≤ reached n x.found * LIMIT = old v k (sym same.0 ∙ found) in omega arith)
+      | inr new' ↦ took v k found new'.1 (x.found v) refl up
+    ]
+  where
+    took : (v k : ℕ) → y.found v ≡ Some k → TookOffer es sent x y v → (o : Option ℕ) → x.found v ≡ o → reached n x.found ≤ reached n y.found → k ≤ reached n y.found * LIMIT
+    took v k found i (Some w) is up =
+        let same : k ≡ i.before + cost i.edge = same_Some k (i.before + cost i.edge) (sym found ∙ i.new) in
+        let b : w ≤ reached n x.found * LIMIT = old v w is in
+        elim (cases_lt k w) [
+          | inl less ↦ omega arith
+          | inr more ↦ absurd (i.less (w, is, (let l : w ≤ i.before + cost i.edge = omega arith in l)))
+        ]
+    took v k found i None is up =
+        let same : k ≡ i.before + cost i.edge = same_Some k (i.before + cost i.edge) (sym found ∙ i.new) in
+        let b : i.before ≤ reached n x.found * LIMIT = old i.edge.i i.before i.from in
+        let c : cost i.edge ≤ LIMIT = All-contains (λ (t : Triple). cost t ≤ LIMIT) es i.edge few i.is in
+        let inside : v < n = subst (λ u. u < n) i.to (All-contains (λ (t : Triple). t.j < n) es i.edge to i.is) in
+        let none : one_found (x.found v) ≡ 0 = ap one_found is in
+        let now : one_found (y.found v) ≡ 1 = ap one_found found in
+        let more : reached n x.found < reached n y.found =
+        total_lt n (λ v. one_found (x.found v)) (λ v. one_found (y.found v)) v inside (omega arith) (λ u l. found_more es sent x y round u) in
+        omega arith
+
+better_from : (o : Option ℕ) (w : ℕ) → ¬ AtMost o w → is_better w o ≡ true
+better_from None w h = refl
+better_from (Some k) w h =
+    elim (cases_lt w k) [
+      | inl low ↦ lt-ltb w k low
+      | inr high ↦ absurd (h (k, refl, high))
+    ]
+
+-- a round of offers, as it is told
+to_improves : (es : List Triple) (sent : Triple → Bool) (x : Stage) (y : Look) → Offers es sent x (record { found = y.found; fresh = y.pending }) → Improves es sent x.found x.fresh y
+to_improves es sent x y round =
+    record {
+      tried = round.tried;
+      each = λ v. elim (round.each v) [
+        | inl same ↦ inl same
+        | inr new' ↦
+            (let i = new'.1 in
+            inr (new'.0, record { edge = i.edge; is = i.is; was_sent = i.was_sent; to = i.to; before = i.before; from = i.from; took = i.new; better = better_from (x.found v) (i.before + cost i.edge) i.less }))
+      ];
+    }
+
+-- ---- Looks
+
+abbrev phase_in : Option DeltaState → Phase
+phase_in None = First
+phase_in (Some s) = s.phase
+
+abbrev bucket_in : Option DeltaState → ℕ
+bucket_in None = 0
+bucket_in (Some s) = s.bucket
+
+module _ (ranks : ℕ) (m : Sparse) (source width : ℕ) (some : 0 < ranks) (few : ranks ≤ 64) (positive : 0 < width) (narrow : width ≤ 1_000_000_000_000) (g : IsGraph m) (source_in : source < m.rows) where
+  abbrev pub starts : List DeltaState
+  starts = delta_starts ranks m source width
+
+  abbrev pub shape : List ℕ
+  shape = m.rows ∷ []
+
+  abbrev pub most : ℕ
+  most = m.rows * (m.rows + 2) + 2
+
+  -- all ranks as the absorbs of round n are over, and as the next round begins
+  abbrev pub all : ℕ → List DeltaState
+  all n = full ranks m source width some few positive narrow g source_in n
+
+  abbrev pub begun : ℕ → List DeltaState
+  begun n = end_all delta_rules (all n)
+
+  abbrev pub stage : ℕ → Stage
+  stage n = stage_of ranks (all n)
+
+  abbrev pub votes : ℕ → ℕ
+  votes n = votes_at delta_rules starts n
+
+  abbrev pub look : ℕ → Look
+  look n =
+      record {
+        phase = phase_in (slice_get (all n) 0);
+        found = (stage n).found;
+        pending = (stage n).fresh;
+        settled = open_of ranks (all n);
+        bucket = bucket_in (slice_get (all n) 0);
+      }
+
+  pub all_in : (n : ℕ) → n < 2 ^ 62 → InRound delta_rules ranks n shape most (all n)
+  all_in n l = full_in ranks m source width some few positive narrow g source_in n (omega arith)
+
+  next_in : (n : ℕ) → n < 2 ^ 62 → InRound delta_rules ranks (suc n) shape most (begun n)
+  next_in n l = in_round delta_rules delta_laws ranks shape most starts (suc n) (starts_in_round ranks m source width positive narrow g.matrix g.square) (omega arith)
+
+  pub rank_at : (n : ℕ) → n < 2 ^ 62 → (j : ℕ) → j < ranks → (s : DeltaState) × (slice_get (all n) j ≡ Some s)
+  rank_at n l j low = find (all n) j (subst (λ k. j < k) (sym (all_in n l).size) low)
+
+  pub low_rank : (n : ℕ) → n < 2 ^ 62 → (j : ℕ) (s : DeltaState) → slice_get (all n) j ≡ Some s → j < ranks
+  low_rank n l j s at = subst (λ k. j < k) (all_in n l).size (within (all n) j s at)
+
+  pub phase_is : (n : ℕ) → n < 2 ^ 62 → (p : Phase) → ((j : ℕ) (s : DeltaState) → slice_get (all n) j ≡ Some s → s.phase ≡ p) → (look n).phase ≡ p
+  phase_is n l p h = (let s = rank_at n l 0 some in ap phase_in s.1 ∙ h 0 s.0 s.1)
+
+  bucket_is : (n : ℕ) → n < 2 ^ 62 → (b : ℕ) → ((j : ℕ) (s : DeltaState) → slice_get (all n) j ≡ Some s → s.bucket ≡ b) → (look n).bucket ≡ b
+  bucket_is n l b h = (let s = rank_at n l 0 some in ap bucket_in s.1 ∙ h 0 s.0 s.1)
+
+  -- the edges of a rank
+  abbrev pub light_of : ℕ → List (List Edge)
+  light_of j = table_of ranks (places_for ranks m.rows) 0 width (gathered (own_edges ranks j m.entries))
+
+  abbrev pub heavy_of : ℕ → List (List Edge)
+  heavy_of j = table_of ranks (places_for ranks m.rows) (width + 1) (2 ^ 64 - 1) (gathered (own_edges ranks j m.entries))
+
+  -- what is known as round n is over, of any after the first
+  pub record Known (n : ℕ) : Type 0 where
+    pub phase : (j : ℕ) (s : DeltaState) → slice_get (all n) j ≡ Some s → s.phase ≡ (look n).phase
+    pub bucket : (j : ℕ) (s : DeltaState) → slice_get (all n) j ≡ Some s → s.bucket ≡ (look n).bucket
+    pub later : (look n).phase ≢ First
+    pub static : Static m.entries m.rows width ranks (all n)
+    pub light : (j : ℕ) (s : DeltaState) → slice_get (all n) j ≡ Some s → s.light ≡ light_of j
+    pub heavy : (j : ℕ) (s : DeltaState) → slice_get (all n) j ≡ Some s → s.heavy ≡ heavy_of j
+    pub weighed : Weighed (stage n)
+    pub bound : Bounded m.rows (stage n).found
+    pub inside : (v k : ℕ) → (stage n).found v ≡ Some k → v < m.rows
+    pub settled_in : (look n).phase ≢ Heavy → (v : ℕ) → open_of ranks (all n) v ≡ true → v < m.rows
+
+  -- and the next round
+  pub record Stepped (n : ℕ) (p : Phase) : Type 0 where
+    pub known : Known (suc n)
+    pub phase : (look (suc n)).phase ≡ p
+    pub changes : Changes p m width (look n) (look (suc n))
+    pub sent : (j : ℕ) (s : DeltaState) → slice_get (begun n) j ≡ Some s → s.outgoing ≡ line_in p ranks m width (look n) j
+
+  low_weights : (found : ℕ → Option ℕ) → Bounded m.rows found → (v k : ℕ) → found v ≡ Some k → k ≤ 2 ^ 60
+  low_weights found bound v k is =
+      let a : k ≤ reached m.rows found * LIMIT = bound v k is in
+      let b : reached m.rows found ≤ m.rows * 1 = reached_most m.rows found in
+      let tall : m.rows ≤ 16384 = g.matrix.tall in
+      omega arith
+
+  inside_more : (sent : Triple → Bool) (x y : Stage) → Offers m.entries sent x y → ((v k : ℕ) → x.found v ≡ Some k → v < m.rows) → (v k : ℕ) → y.found v ≡ Some k → v < m.rows
+  inside_more sent x y round old v k found =
+      elim (round.each v) [
+        | inl same ↦ old v k (sym same.0 ∙ found)
+        | inr new' ↦ (let i = new'.1 in subst (λ u. u < m.rows) i.to (All-contains (λ (t : Triple). t.j < m.rows) m.entries i.edge (graph_edges m g).to i.is))
+      ]
+
+  -- ---- A rank's places and its vertices
+
+  small_edges : All IsLight (gathered m.entries)
+  small_edges =
+      All-permutation IsLight m.entries (gathered m.entries) (gathered_moves m.entries g.matrix.once)
+      (λ k d l. record { plain = (graph_edges m g).plain k d l; light = (graph_edges m g).light k d l })
+
+  vertex_is : (n : ℕ) → n < 2 ^ 62 → (j : ℕ) (s : DeltaState) → slice_get (all n) j ≡ Some s → (p : ℕ) → get_or s.vertices p unreached ≡ vertex_at ranks (all n) (vertex_in ranks j p)
+  vertex_is n l j s at p =
+      let low : j < ranks = low_rank n l j s at in
+      ap (λ q. get_or s.vertices q unreached) (sym (div-mul-add p ranks j low)) ∙ sym (at_vertex ranks (all n) j s (vertex_in ranks j p) at (mod-mul-add p ranks j low))
+
+  size_is : (n : ℕ) → n < 2 ^ 62 → Static m.entries m.rows width ranks (all n) → (j : ℕ) (s : DeltaState) → slice_get (all n) j ≡ Some s → length s.vertices ≡ places_for ranks m.rows
+  size_is n l static j s at =
+      let member = (all_in n l).each j s at in
+      member.valid.places ∙ ap (λ p. places_for p s.rows) member.all_ranks ∙ ap (places_for ranks) (static.size j s at)
+
+  marks : (n : ℕ) → n < 2 ^ 62 → (j : ℕ) (s : DeltaState) → slice_get (all n) j ≡ Some s → length s.vertices ≡ places_for ranks m.rows
+      → marked s.vertices ≡ filter (λ p. (look n).pending (vertex_in ranks j p)) (range_with_len 0 (places_for ranks m.rows))
+  marks n l j s at size =
+      marks_are (λ p. (look n).pending (vertex_in ranks j p)) 0 s.vertices (λ i inside.
+      ap (λ q. (look n).pending (vertex_in ranks j q)) (let z : 0 + i ≡ i = omega arith in z) ∙ sym (ap (λ (x : Vertex). x.improved) (vertex_is n l j s at i)))
+      ∙ ap (λ k. filter (λ p. (look n).pending (vertex_in ranks j p)) (range_with_len 0 k)) size
+
+  -- ---- Light rounds
+
+  abbrev test_of : DeltaState → Vertex → Bool
+  test_of s = in_bucket s.width s.bucket
+
+  active_is : (n : ℕ) → n < 2 ^ 62 → Known n → (j : ℕ) (s : DeltaState) → slice_get (all n) j ≡ Some s → (p : ℕ)
+      → ((look n).pending (vertex_in ranks j p) && test_of s (get_or s.vertices p unreached)) ≡ is_active width (look n) (vertex_in ranks j p)
+  active_is n l k j s at p =
+      ap (λ w. (look n).pending (vertex_in ranks j p) && weight_in w s.bucket (get_or s.vertices p unreached).weight) (k.static.wide j s at)
+      ∙ ap (λ b. (look n).pending (vertex_in ranks j p) && weight_in width b (get_or s.vertices p unreached).weight) (k.bucket j s at)
+      ∙ ap (λ (x : Vertex). (look n).pending (vertex_in ranks j p) && weight_in width (look n).bucket x.weight) (vertex_is n l j s at p)
+
+  picked_is : (n : ℕ) → n < 2 ^ 62 → Known n → (j : ℕ) (s : DeltaState) → slice_get (all n) j ≡ Some s
+      → picked (test_of s) s.vertices ≡ filter (λ p. is_active width (look n) (vertex_in ranks j p)) (range_with_len 0 (places_for ranks m.rows))
+  picked_is n l k j s at =
+      sym (picks_all (test_of s) s.vertices)
+      ∙ ap (filter (λ q. test_of s (get_or s.vertices q unreached))) (marks n l j s at (size_is n l k.static j s at))
+      ∙ filter_filter (λ q. test_of s (get_or s.vertices q unreached)) (λ p. (look n).pending (vertex_in ranks j p)) (range_with_len 0 (places_for ranks m.rows))
+      ∙ filter_agree _ _ (active_is n l k j s at) (range_with_len 0 (places_for ranks m.rows))
+
+  pub active_in : (n : ℕ) → Known n → (v : ℕ) → is_active width (look n) v ≡ true → v < m.rows
+  active_in n k v is = (let w = k.weighed v (and_parts ((look n).pending v) (weight_in width (look n).bucket ((look n).found v)) is).0 in k.inside v w.0 w.1)
+
+  pub to_light : (n : ℕ) → n < 2 ^ 61 → Known n → (look n).phase ≢ Heavy → ((j : ℕ) (s : DeltaState) → slice_get (all n) j ≡ Some s → delta_rules.ended s (vote_sum delta_rules (all n)) ≡ activated s) → Stepped n Light
+  to_light n l k not_heavy becomes =
+      let b : ℕ = (look n).bucket in
+      let now : InRound delta_rules ranks n shape most (all n) = all_in n (omega arith) in
+      let next : InRound delta_rules ranks (suc n) shape most (begun n) = next_in n (omega arith) in
+      let low : (v w : ℕ) → (stage n).found v ≡ Some w → w ≤ 2 ^ 60 = low_weights (stage n).found k.bound in
+      let round : Offers m.entries (light_sent width b (stage n)) (calmed_stage width b (stage n)) (stage (suc n)) =
+      light_round m.entries m.rows width ranks n (suc n) b (all n) shape most some (graph_edges m g) now next k.static k.bucket low becomes in
+      let phase : (look (suc n)).phase ≡ Light = phase_is (suc n) (omega arith) Light (light_phase m.entries m.rows width ranks n (suc n) b (all n) shape most some (graph_edges m g) now next k.static k.bucket low becomes) in
+      let bucket : (look (suc n)).bucket ≡ b = bucket_is (suc n) (omega arith) b (light_bucket m.entries m.rows width ranks n (suc n) b (all n) shape most some (graph_edges m g) now next k.static k.bucket low becomes) in
+      let open' : (v : ℕ) → opened (open_of ranks (all n)) width b (stage n) v ≡ open_of ranks (all (suc n)) v =
+      light_open m.entries m.rows width ranks n (suc n) b (all n) shape most some (graph_edges m g) now next k.static k.bucket low becomes in
+      let was = light_was m.entries m.rows width ranks n (suc n) b (all n) shape most some (graph_edges m g) now next k.static k.bucket low becomes in
+      record {
+        known =
+            record {
+              phase = λ j s at. light_phase m.entries m.rows width ranks n (suc n) b (all n) shape most some (graph_edges m g) now next k.static k.bucket low becomes j s at ∙ sym phase;
+              bucket = λ j s at. light_bucket m.entries m.rows width ranks n (suc n) b (all n) shape most some (graph_edges m g) now next k.static k.bucket low becomes j s at ∙ sym bucket;
+              later = λ e. (let no' : Light ≡ First = sym phase ∙ e in cc);
+              static = light_static m.entries m.rows width ranks n (suc n) b (all n) shape most some (graph_edges m g) now next k.static k.bucket low becomes;
+              light = λ j s at. (let w = was j s at in ap (λ (u : DeltaState). u.light) w.3 ∙ k.light j w.0 w.2);
+              heavy = λ j s at. (let w = was j s at in ap (λ (u : DeltaState). u.heavy) w.3 ∙ k.heavy j w.0 w.2);
+              weighed = offers_weighed m.entries (light_sent width b (stage n)) (calmed_stage width b (stage n)) (stage (suc n)) round (calmed_weighed width b (stage n) k.weighed);
+              bound = bounded_more m.rows m.entries (light_sent width b (stage n)) (calmed_stage width b (stage n)) (stage (suc n)) (graph_edges m g).to (graph_edges m g).light round k.bound;
+              inside = inside_more (light_sent width b (stage n)) (calmed_stage width b (stage n)) (stage (suc n)) round k.inside;
+              settled_in = λ d v is. elim (or_cases (open_of ranks (all n) v) (active width b (stage n) v) (open' v ∙ is)) [
+                | inl before ↦ k.settled_in not_heavy v before
+                | inr new' ↦ active_in n k v new'
+              ];
+            };
+        phase = phase;
+        changes =
+            record {
+              bucket = bucket;
+              settled = λ v. sym (open' v);
+              improves = to_improves m.entries (light_sent width b (stage n)) (calmed_stage width b (stage n)) (look (suc n)) round;
+            };
+        sent = λ j t at.
+            (let s = got_map (λ s. delta_rules.ended s (vote_sum delta_rules (all n))) (all n) j t at in
+            ap (λ (u : DeltaState). u.outgoing) (sym s.2 ∙ becomes j s.0 s.1)
+            ∙ ap (λ ts. offers_by_place ts (map (calm_if (test_of s.0)) s.0.vertices) (picked (test_of s.0) s.0.vertices)) (k.light j s.0 s.1 ∙ ap (table_of ranks (places_for ranks m.rows) 0 width) (gathered_dealt ranks j m.entries g.matrix.once))
+            ∙ offers_by_vertex ranks j m.rows 0 width (gathered m.entries) (map (calm_if (test_of s.0)) s.0.vertices) (picked (test_of s.0) s.0.vertices) (look n).found (is_active width (look n)) (is_light width)
+            (low_rank n (omega arith) j s.0 s.1) small_edges (λ i d lo. light_range width (get_or (gathered m.entries) i d) (small_edges i d lo))
+            (λ p. ap (λ (x : Vertex). x.weight) (calm_at (test_of s.0) s.0.vertices p refl) ∙ calm_weight (test_of s.0) (get_or s.0.vertices p unreached) ∙ ap (λ (x : Vertex). x.weight) (vertex_is n (omega arith) j s.0 s.1 p))
+            low (picked_is n (omega arith) k j s.0 s.1) (active_in n k));
+      }
+
+  -- ---- Heavy rounds
+
+  settled_is : (n : ℕ) → n < 2 ^ 62 → Known n → (j : ℕ) (s : DeltaState) → slice_get (all n) j ≡ Some s
+      → ascending (length s.vertices) s.settled ≡ filter (λ p. (look n).settled (vertex_in ranks j p)) (range_with_len 0 (places_for ranks m.rows))
+  settled_is n l k j s at =
+      let low : j < ranks = low_rank n l j s at in
+      ap (λ c. ascending c s.settled) (size_is n l k.static j s at)
+      ∙ filter_agree (λ p. list_any (eqb p) s.settled) (λ p. open_of ranks (all n) (vertex_in ranks j p)) (λ p.
+      sym (at_open ranks (all n) j s (vertex_in ranks j p) at (mod-mul-add p ranks j low) ∙ ap (λ q. list_any (eqb q) s.settled) (div-mul-add p ranks j low)))
+      (range_with_len 0 (places_for ranks m.rows))
+
+  pub to_heavy : (n : ℕ) → n < 2 ^ 61 → Known n → (look n).phase ≢ Heavy → ((j : ℕ) (s : DeltaState) → slice_get (all n) j ≡ Some s → delta_rules.ended s (vote_sum delta_rules (all n)) ≡ finished s) → Stepped n Heavy
+  to_heavy n l k not_heavy becomes =
+      let now : InRound delta_rules ranks n shape most (all n) = all_in n (omega arith) in
+      let next : InRound delta_rules ranks (suc n) shape most (begun n) = next_in n (omega arith) in
+      let low : (v w : ℕ) → (stage n).found v ≡ Some w → w ≤ 2 ^ 60 = low_weights (stage n).found k.bound in
+      let round : Offers m.entries (heavy_sent width (open_of ranks (all n))) (stage n) (stage (suc n)) =
+      heavy_round m.entries m.rows width ranks n (suc n) (all n) shape most some (graph_edges m g) now next k.static low becomes in
+      let phase : (look (suc n)).phase ≡ Heavy = phase_is (suc n) (omega arith) Heavy (heavy_phase m.entries m.rows width ranks n (suc n) (all n) shape most some (graph_edges m g) now next k.static low becomes) in
+      let was = heavy_was m.entries m.rows width ranks n (suc n) (all n) shape most some (graph_edges m g) now next k.static low becomes in
+      let buckets : (j : ℕ) (s : DeltaState) → slice_get (all (suc n)) j ≡ Some s → s.bucket ≡ (look n).bucket = λ j s at. (let w = was j s at in ap (λ (u : DeltaState). u.bucket) w.3 ∙ k.bucket j w.0 w.2) in
+      record {
+        known =
+            record {
+              phase = λ j s at. heavy_phase m.entries m.rows width ranks n (suc n) (all n) shape most some (graph_edges m g) now next k.static low becomes j s at ∙ sym phase;
+              bucket = λ j s at. buckets j s at ∙ sym (bucket_is (suc n) (omega arith) (look n).bucket buckets);
+              later = λ e. (let no' : Heavy ≡ First = sym phase ∙ e in cc);
+              static = heavy_static m.entries m.rows width ranks n (suc n) (all n) shape most some (graph_edges m g) now next k.static low becomes;
+              light = λ j s at. (let w = was j s at in ap (λ (u : DeltaState). u.light) w.3 ∙ k.light j w.0 w.2);
+              heavy = λ j s at. (let w = was j s at in ap (λ (u : DeltaState). u.heavy) w.3 ∙ k.heavy j w.0 w.2);
+              weighed = offers_weighed m.entries (heavy_sent width (open_of ranks (all n))) (stage n) (stage (suc n)) round k.weighed;
+              bound = bounded_more m.rows m.entries (heavy_sent width (open_of ranks (all n))) (stage n) (stage (suc n)) (graph_edges m g).to (graph_edges m g).light round k.bound;
+              inside = inside_more (heavy_sent width (open_of ranks (all n))) (stage n) (stage (suc n)) round k.inside;
+              settled_in = λ d v is. absurd (d phase);
+            };
+        phase = phase;
+        changes = to_improves m.entries (heavy_sent width (open_of ranks (all n))) (stage n) (look (suc n)) round;
+        sent = λ j t at.
+            (let s = got_map (λ s. delta_rules.ended s (vote_sum delta_rules (all n))) (all n) j t at in
+            ap (λ (u : DeltaState). u.outgoing) (sym s.2 ∙ becomes j s.0 s.1)
+            ∙ ap (λ ts. offers_by_place ts s.0.vertices (ascending (length s.0.vertices) s.0.settled)) (k.heavy j s.0 s.1 ∙ ap (table_of ranks (places_for ranks m.rows) (width + 1) (2 ^ 64 - 1)) (gathered_dealt ranks j m.entries g.matrix.once))
+            ∙ offers_by_vertex ranks j m.rows (width + 1) (2 ^ 64 - 1) (gathered m.entries) s.0.vertices (ascending (length s.0.vertices) s.0.settled) (look n).found (look n).settled (λ t. not (is_light width t))
+            (low_rank n (omega arith) j s.0 s.1) small_edges (λ i d lo. heavy_range width (get_or (gathered m.entries) i d) (small_edges i d lo))
+            (λ p. ap (λ (x : Vertex). x.weight) (vertex_is n (omega arith) j s.0 s.1 p))
+            low (settled_is n (omega arith) k j s.0 s.1) (k.settled_in not_heavy));
+      }
+
+  -- ---- Find rounds
+
+  -- a rank that finds next, from the one that it was
+  pub record ToFind (n : ℕ) : Type 0 where
+    pub finds : (j : ℕ) (s : DeltaState) → slice_get (all n) j ≡ Some s → IsFinding width (delta_rules.ended s (vote_sum delta_rules (all n)))
+    pub stays : (j : ℕ) (s : DeltaState) → slice_get (all n) j ≡ Some s → (delta_rules.ended s (vote_sum delta_rules (all n))).vertices ≡ s.vertices
+    pub light : (j : ℕ) (s : DeltaState) → slice_get (all n) j ≡ Some s → (delta_rules.ended s (vote_sum delta_rules (all n))).light ≡ light_of j
+    pub heavy : (j : ℕ) (s : DeltaState) → slice_get (all n) j ≡ Some s → (delta_rules.ended s (vote_sum delta_rules (all n))).heavy ≡ heavy_of j
+    pub static : Static m.entries m.rows width ranks (begun n)
+    pub size : (j : ℕ) (s : DeltaState) → slice_get (all n) j ≡ Some s → length s.vertices ≡ places_for ranks m.rows
+    pub weighed : Weighed (stage n)
+    pub bound : Bounded m.rows (stage n).found
+    pub inside : (v k : ℕ) → (stage n).found v ≡ Some k → v < m.rows
+
+  least_is : (n : ℕ) → n < 2 ^ 62 → (h : ToFind n) → (j : ℕ) (s : DeltaState) → slice_get (all n) j ≡ Some s → least_marked s.vertices ≡ least_pending ranks m (look n) j
+  least_is n l h j s at =
+      let own : List ℕ = filter (λ p. (look n).pending (vertex_in ranks j p)) (range_with_len 0 (places_for ranks m.rows)) in
+      fold_on (λ w p. lesser w (get_or s.vertices p unreached).weight) (λ w p. lesser w ((look n).found (vertex_in ranks j p))) None (marked s.vertices)
+      (λ w p. ap (λ (x : Vertex). lesser w x.weight) (vertex_is n l j s at p))
+      ∙ ap (fold (λ w p. lesser w ((look n).found (vertex_in ranks j p))) None) (marks n l j s at (h.size j s at))
+      ∙ sym (fold_map (λ w v. lesser w ((look n).found v)) (vertex_in ranks j) None own)
+      ∙ ap (fold (λ w v. lesser w ((look n).found v)) None) (vertices_own ranks j m.rows (look n).pending (low_rank n l j s at) (λ v is. (let w = h.weighed v is in h.inside v w.0 w.1)))
+
+  pub to_find : (n : ℕ) → n < 2 ^ 61 → ToFind n → Stepped n Find
+  to_find n l h =
+      let next : InRound delta_rules ranks (suc n) shape most (begun n) = next_in n (omega arith) in
+      let finds : (j : ℕ) (t : DeltaState) → slice_get (begun n) j ≡ Some t → IsFinding width t =
+      λ j t at. (let s = got_map (λ s. delta_rules.ended s (vote_sum delta_rules (all n))) (all n) j t at in subst (IsFinding width) s.2 (h.finds j s.0 s.1)) in
+      let f : (v : ℕ) → (stage_of ranks (begun n)).found v ≡ (stage n).found v = λ v. ap (λ (w : Vertex). w.weight) (same n l h v) in
+      let p : (v : ℕ) → (stage_of ranks (begun n)).fresh v ≡ (stage n).fresh v = λ v. ap (λ (w : Vertex). w.improved) (same n l h v) in
+      let low : (v w : ℕ) → (stage_of ranks (begun n)).found v ≡ Some w → w ≤ 2 ^ 60 = λ v w is. low_weights (stage n).found h.bound v w (sym (f v) ∙ is) in
+      let weights : Weighed (stage_of ranks (begun n)) = look_weighed (stage n) (stage_of ranks (begun n)) f p h.weighed in
+      let found : (v : ℕ) → (stage (suc n)).found v ≡ (stage n).found v = λ v. find_found m.entries m.rows width ranks (suc n) (begun n) shape most some positive next h.static finds low weights v ∙ f v in
+      let pending : (v : ℕ) → (stage (suc n)).fresh v ≡ (stage n).fresh v = λ v. find_fresh m.entries m.rows width ranks (suc n) (begun n) shape most some positive next h.static finds low weights v ∙ p v in
+      let phase : (look (suc n)).phase ≡ Find = phase_is (suc n) (omega arith) Find (find_phase m.entries m.rows width ranks (suc n) (begun n) shape most some positive next h.static finds low weights) in
+      let b : ℕ = found_bucket m.entries m.rows width ranks (suc n) (begun n) shape most some positive next h.static finds low weights in
+      let bucket : (look (suc n)).bucket ≡ b = bucket_is (suc n) (omega arith) b (find_bucket m.entries m.rows width ranks (suc n) (begun n) shape most some positive next h.static finds low weights) in
+      let was = find_was m.entries m.rows width ranks (suc n) (begun n) shape most some positive next h.static finds low weights in
+      let open' : (v : ℕ) → open_of ranks (all (suc n)) v ≡ false = find_open m.entries m.rows width ranks (suc n) (begun n) shape most some positive next h.static finds low weights in
+      let bound : Bounded m.rows (stage (suc n)).found =
+      λ v w is. subst (λ r. w ≤ r * LIMIT) (sym (total_same m.rows (λ v. one_found ((stage (suc n)).found v)) (λ v. one_found ((stage n).found v)) (λ v low. ap one_found (found v)))) (h.bound v w (sym (found v) ∙ is)) in
+      let inside : (v w : ℕ) → (stage (suc n)).found v ≡ Some w → v < m.rows = λ v w is. h.inside v w (sym (found v) ∙ is) in
+      let weighed : Weighed (stage (suc n)) = look_weighed (stage n) (stage (suc n)) found pending h.weighed in
+      record {
+        known =
+            record {
+              phase = λ j s at. find_phase m.entries m.rows width ranks (suc n) (begun n) shape most some positive next h.static finds low weights j s at ∙ sym phase;
+              bucket = λ j s at. find_bucket m.entries m.rows width ranks (suc n) (begun n) shape most some positive next h.static finds low weights j s at ∙ sym bucket;
+              later = λ e. (let no' : Find ≡ First = sym phase ∙ e in cc);
+              static = find_static m.entries m.rows width ranks (suc n) (begun n) shape most some positive next h.static finds low weights;
+              light = λ j s at. (let w = was j s at in let u = got_map (λ s. delta_rules.ended s (vote_sum delta_rules (all n))) (all n) j w.0 w.1 in ap (λ (u : DeltaState). u.light) (w.2 ∙ ap (λ (t : DeltaState). record t { bucket = b }) (sym u.2)) ∙ h.light j u.0 u.1);
+              heavy = λ j s at. (let w = was j s at in let u = got_map (λ s. delta_rules.ended s (vote_sum delta_rules (all n))) (all n) j w.0 w.1 in ap (λ (u : DeltaState). u.heavy) (w.2 ∙ ap (λ (t : DeltaState). record t { bucket = b }) (sym u.2)) ∙ h.heavy j u.0 u.1);
+              weighed = weighed;
+              bound = bound;
+              inside = inside;
+              settled_in = λ d v is. absurd (false≢true (sym (open' v) ∙ is));
+            };
+        phase = phase;
+        changes =
+            record {
+              found = found;
+              pending = pending;
+              settled = open';
+              least = λ v w is has. subst (λ c. c * width ≤ w) (sym bucket) (bucket_floor m.entries m.rows width ranks (suc n) (begun n) shape most some positive next h.static finds low weights v w (p v ∙ sym (pending v) ∙ is) (f v ∙ sym (found v) ∙ has));
+              reached = λ v is.
+                  (let w = weighed v is in
+                  let u = bucket_reached m.entries m.rows width ranks (suc n) (begun n) shape most some positive next h.static finds low weights v w.0 (p v ∙ sym (pending v) ∙ is) (f v ∙ sym (found v) ∙ w.1) in
+                  let on : is_active width (look (suc n)) u.0 ≡ true =
+                  ap (λ a. a && weight_in width (look (suc n)).bucket ((stage (suc n)).found u.0)) (pending u.0 ∙ sym (p u.0))
+                  ∙ ap (λ o. (stage_of ranks (begun n)).fresh u.0 && weight_in width (look (suc n)).bucket o) (found u.0 ∙ sym (f u.0))
+                  ∙ ap (λ c. (stage_of ranks (begun n)).fresh u.0 && weight_in width c ((stage_of ranks (begun n)).found u.0)) bucket ∙ u.1 in
+                  let mark : (stage (suc n)).fresh u.0 ≡ true = (and_parts ((stage (suc n)).fresh u.0) (weight_in width (look (suc n)).bucket ((stage (suc n)).found u.0)) on).0 in
+                  let weight = weighed u.0 mark in
+                  any_there (is_active width (look (suc n))) (range_with_len 0 m.rows) u.0 (in_range_list m.rows u.0 (inside u.0 weight.0 weight.1)) on);
+            };
+        sent = λ j t at.
+            (let s = got_map (λ s. delta_rules.ended s (vote_sum delta_rules (all n))) (all n) j t at in
+            let is : IsFinding width t = finds j t at in
+            is.outgoing
+            ∙ ap (λ c. announced c (bucket_of t.width (least_marked t.vertices))) (next.each j t at).all_ranks
+            ∙ ap (λ w. announced ranks (bucket_of w (least_marked t.vertices))) is.wide
+            ∙ ap (λ vs. announced ranks (bucket_of width (least_marked vs))) (ap (λ (u : DeltaState). u.vertices) (sym s.2) ∙ h.stays j s.0 s.1)
+            ∙ ap (λ o. announced ranks (bucket_of width o)) (least_is n (omega arith) h j s.0 s.1));
+      }
+    where
+      same : (n : ℕ) → n < 2 ^ 61 → ToFind n → (v : ℕ) → vertex_at ranks (begun n) v ≡ vertex_at ranks (all n) v
+      same n l h v =
+          let j : ℕ = v % ranks in
+          let s = rank_at n (omega arith) j (mod-lt v some) in
+          at_vertex ranks (begun n) j (delta_rules.ended s.0 (vote_sum delta_rules (all n))) v (get_map (λ s. delta_rules.ended s (vote_sum delta_rules (all n))) (all n) j s.0 s.1) refl
+          ∙ ap (λ vs. get_or vs (v / ranks) unreached) (h.stays j s.0 s.1)
+          ∙ sym (at_vertex ranks (all n) j s.0 v s.1 refl)

@@ -7,6 +7,7 @@ use Rattle.std.proofs.lemmas.Nat.{div-mul-add, mod-mul-add}
 use Rattle.std.proofs.lemmas.List.Elements.{All-contains, filter_agree}
 use Rattle.std.proofs.lemmas.List.Sorted.{All-permutation}
 use Rattle.std.proofs.lemmas.Option.{same_Some}
+use Rattle.bale_types.specs.declared.Item.{Item}
 use Rattle.bale_types.specs.declared.triple.Triple.{Triple}
 use Rattle.list_laws.specs.Sums.{total}
 use Rattle.list_laws.proofs.Lists.{find, within, get_map, got_map}
@@ -37,11 +38,11 @@ use Rattle.delta_step.proofs.Begins.{starts_in_round}
 use Rattle.delta_step.proofs.Buckets.{Took as TookOffer, Offers, active, calmed_stage, light_sent, heavy_sent, opened}
 use Rattle.delta_step.proofs.FindRounds.{IsFinding, find_found, find_fresh, find_static, find_phase, find_bucket, find_open, find_was, found_bucket, bucket_floor, bucket_reached}
 use Rattle.delta_step.proofs.HeavyRounds.{heavy_round, heavy_static, heavy_phase, heavy_was}
-use Rattle.delta_step.proofs.Looks.{Weighed, offers_weighed, calmed_weighed, look_weighed}
+use Rattle.delta_step.proofs.Looks.{Weighed, offers_weighed, calmed_weighed, look_weighed, look_active}
 use Rattle.delta_step.proofs.OfferRounds.{vertex_at, stage_of, at_vertex}
 use Rattle.delta_step.proofs.Runs.{full, full_in}
 use Rattle.delta_step.proofs.Transits.{Static, open_of, at_open, calm_at, calm_weight, light_round, light_open, light_static, light_phase, light_bucket, light_was}
-use Rattle.round_tables.specs.Delta.{Look, is_light, is_active, Improves, Changes, least_pending, line_in}
+use Rattle.round_tables.specs.Delta.{Look, is_light, is_active, some_active, Improves, Changes, least_pending, line_in}
 use Rattle.round_tables.proofs.SsspLists.{in_range_list, marks_are, vertex_in, own_vertices as vertices_own, IsLight}
 use Rattle.round_tables.proofs.DeltaLists.{any_there, fold_map, fold_on, offers_by_vertex, light_range, heavy_range}
 
@@ -188,6 +189,13 @@ module _ (ranks : ℕ) (m : Sparse) (source width : ℕ) (some : 0 < ranks) (few
   bucket_is : (n : ℕ) → n < 2 ^ 62 → (b : ℕ) → ((j : ℕ) (s : DeltaState) → slice_get (all n) j ≡ Some s → s.bucket ≡ b) → (look n).bucket ≡ b
   bucket_is n l b h = (let s = rank_at n l 0 some in ap bucket_in s.1 ∙ h 0 s.0 s.1)
 
+  -- which each rank has
+  each_phase : (n : ℕ) → n < 2 ^ 62 → (p : Phase) → ((j : ℕ) (s : DeltaState) → slice_get (all n) j ≡ Some s → s.phase ≡ p) → (j : ℕ) (s : DeltaState) → slice_get (all n) j ≡ Some s → s.phase ≡ (look n).phase
+  each_phase n l p h j s at = h j s at ∙ sym (phase_is n l p h)
+
+  each_bucket : (n : ℕ) → n < 2 ^ 62 → (b : ℕ) → ((j : ℕ) (s : DeltaState) → slice_get (all n) j ≡ Some s → s.bucket ≡ b) → (j : ℕ) (s : DeltaState) → slice_get (all n) j ≡ Some s → s.bucket ≡ (look n).bucket
+  each_bucket n l b h j s at = h j s at ∙ sym (bucket_is n l b h)
+
   -- the edges of a rank
   abbrev pub light_of : ℕ → List (List Edge)
   light_of j = table_of ranks (places_for ranks m.rows) 0 width (gathered (own_edges ranks j m.entries))
@@ -253,6 +261,17 @@ module _ (ranks : ℕ) (m : Sparse) (source width : ℕ) (some : 0 < ranks) (few
       ap (λ q. (look n).pending (vertex_in ranks j q)) (let z : 0 + i ≡ i = omega arith in z) ∙ sym (ap (λ (x : Vertex). x.improved) (vertex_is n l j s at i)))
       ∙ ap (λ k. filter (λ p. (look n).pending (vertex_in ranks j p)) (range_with_len 0 k)) size
 
+  -- what ranks send, from what each becomes
+  sent_from : (n : ℕ) (next : DeltaState → DeltaState) (lines : ℕ → List (ℕ × Item))
+      → ((j : ℕ) (s : DeltaState) → slice_get (all n) j ≡ Some s → delta_rules.ended s (vote_sum delta_rules (all n)) ≡ next s)
+      → ((j : ℕ) (s : DeltaState) → slice_get (all n) j ≡ Some s → (next s).outgoing ≡ lines j)
+      → (j : ℕ) (t : DeltaState) → slice_get (begun n) j ≡ Some t → t.outgoing ≡ lines j
+  sent_from n next lines becomes sends j t at =
+      (let s = got_map (λ s. delta_rules.ended s (vote_sum delta_rules (all n))) (all n) j t at in outgoing_of t (delta_rules.ended s.0 (vote_sum delta_rules (all n))) (next s.0) (lines j) s.2 (becomes j s.0 s.1) (sends j s.0 s.1))
+    where
+      outgoing_of : (t u w : DeltaState) (line : List (ℕ × Item)) → u ≡ t → u ≡ w → w.outgoing ≡ line → t.outgoing ≡ line
+      outgoing_of t u w line a b is = ap (λ (x : DeltaState). x.outgoing) (sym a ∙ b) ∙ is
+
   -- ---- Light rounds
 
   abbrev test_of : DeltaState → Vertex → Bool
@@ -276,6 +295,18 @@ module _ (ranks : ℕ) (m : Sparse) (source width : ℕ) (some : 0 < ranks) (few
   pub active_in : (n : ℕ) → Known n → (v : ℕ) → is_active width (look n) v ≡ true → v < m.rows
   active_in n k v is = (let w = k.weighed v (and_parts ((look n).pending v) (weight_in width (look n).bucket ((look n).found v)) is).0 in k.inside v w.0 w.1)
 
+  -- a rank keeps its edges
+  kept_lit : (s u : DeltaState) (vs : List Vertex) (j : ℕ) → s ≡ record (activated u) { vertices = vs } → u.light ≡ light_of j → u.heavy ≡ heavy_of j → (s.light ≡ light_of j) × (s.heavy ≡ heavy_of j)
+  kept_lit s u vs j is a b = (ap (λ (x : DeltaState). x.light) is ∙ a, ap (λ (x : DeltaState). x.heavy) is ∙ b)
+
+  lit_sends : (n : ℕ) → n < 2 ^ 61 → Known n → (j : ℕ) (s : DeltaState) → slice_get (all n) j ≡ Some s → (activated s).outgoing ≡ line_in Light ranks m width (look n) j
+  lit_sends n l k j s at =
+      ap (λ ts. offers_by_place ts (map (calm_if (test_of s)) s.vertices) (picked (test_of s) s.vertices)) (k.light j s at ∙ ap (table_of ranks (places_for ranks m.rows) 0 width) (gathered_dealt ranks j m.entries g.matrix.once))
+      ∙ offers_by_vertex ranks j m.rows 0 width (gathered m.entries) (map (calm_if (test_of s)) s.vertices) (picked (test_of s) s.vertices) (look n).found (is_active width (look n)) (is_light width)
+      (low_rank n (omega arith) j s at) small_edges (λ i d lo. light_range width (get_or (gathered m.entries) i d) (small_edges i d lo))
+      (λ p. ap (λ (x : Vertex). x.weight) (calm_at (test_of s) s.vertices p refl) ∙ calm_weight (test_of s) (get_or s.vertices p unreached) ∙ ap (λ (x : Vertex). x.weight) (vertex_is n (omega arith) j s at p))
+      (low_weights (stage n).found k.bound) (picked_is n (omega arith) k j s at) (active_in n k)
+
   pub to_light : (n : ℕ) → n < 2 ^ 61 → Known n → (look n).phase ≢ Heavy → ((j : ℕ) (s : DeltaState) → slice_get (all n) j ≡ Some s → delta_rules.ended s (vote_sum delta_rules (all n)) ≡ activated s) → Stepped n Light
   to_light n l k not_heavy becomes =
       let b : ℕ = (look n).bucket in
@@ -292,12 +323,12 @@ module _ (ranks : ℕ) (m : Sparse) (source width : ℕ) (some : 0 < ranks) (few
       record {
         known =
             record {
-              phase = λ j s at. light_phase m.entries m.rows width ranks n (suc n) b (all n) shape most some (graph_edges m g) now next k.static k.bucket low becomes j s at ∙ sym phase;
-              bucket = λ j s at. light_bucket m.entries m.rows width ranks n (suc n) b (all n) shape most some (graph_edges m g) now next k.static k.bucket low becomes j s at ∙ sym bucket;
+              phase = each_phase (suc n) (omega arith) Light (light_phase m.entries m.rows width ranks n (suc n) b (all n) shape most some (graph_edges m g) now next k.static k.bucket low becomes);
+              bucket = each_bucket (suc n) (omega arith) b (light_bucket m.entries m.rows width ranks n (suc n) b (all n) shape most some (graph_edges m g) now next k.static k.bucket low becomes);
               later = λ e. (let no' : Light ≡ First = sym phase ∙ e in cc);
               static = light_static m.entries m.rows width ranks n (suc n) b (all n) shape most some (graph_edges m g) now next k.static k.bucket low becomes;
-              light = λ j s at. (let w = was j s at in ap (λ (u : DeltaState). u.light) w.3 ∙ k.light j w.0 w.2);
-              heavy = λ j s at. (let w = was j s at in ap (λ (u : DeltaState). u.heavy) w.3 ∙ k.heavy j w.0 w.2);
+              light = λ j s at. (let w = was j s at in (kept_lit s w.0 w.1 j w.3 (k.light j w.0 w.2) (k.heavy j w.0 w.2)).0);
+              heavy = λ j s at. (let w = was j s at in (kept_lit s w.0 w.1 j w.3 (k.light j w.0 w.2) (k.heavy j w.0 w.2)).1);
               weighed = offers_weighed m.entries (light_sent width b (stage n)) (calmed_stage width b (stage n)) (stage (suc n)) round (calmed_weighed width b (stage n) k.weighed);
               bound = bounded_more m.rows m.entries (light_sent width b (stage n)) (calmed_stage width b (stage n)) (stage (suc n)) (graph_edges m g).to (graph_edges m g).light round k.bound;
               inside = inside_more (light_sent width b (stage n)) (calmed_stage width b (stage n)) (stage (suc n)) round k.inside;
@@ -313,14 +344,7 @@ module _ (ranks : ℕ) (m : Sparse) (source width : ℕ) (some : 0 < ranks) (few
               settled = λ v. sym (open' v);
               improves = to_improves m.entries (light_sent width b (stage n)) (calmed_stage width b (stage n)) (look (suc n)) round;
             };
-        sent = λ j t at.
-            (let s = got_map (λ s. delta_rules.ended s (vote_sum delta_rules (all n))) (all n) j t at in
-            ap (λ (u : DeltaState). u.outgoing) (sym s.2 ∙ becomes j s.0 s.1)
-            ∙ ap (λ ts. offers_by_place ts (map (calm_if (test_of s.0)) s.0.vertices) (picked (test_of s.0) s.0.vertices)) (k.light j s.0 s.1 ∙ ap (table_of ranks (places_for ranks m.rows) 0 width) (gathered_dealt ranks j m.entries g.matrix.once))
-            ∙ offers_by_vertex ranks j m.rows 0 width (gathered m.entries) (map (calm_if (test_of s.0)) s.0.vertices) (picked (test_of s.0) s.0.vertices) (look n).found (is_active width (look n)) (is_light width)
-            (low_rank n (omega arith) j s.0 s.1) small_edges (λ i d lo. light_range width (get_or (gathered m.entries) i d) (small_edges i d lo))
-            (λ p. ap (λ (x : Vertex). x.weight) (calm_at (test_of s.0) s.0.vertices p refl) ∙ calm_weight (test_of s.0) (get_or s.0.vertices p unreached) ∙ ap (λ (x : Vertex). x.weight) (vertex_is n (omega arith) j s.0 s.1 p))
-            low (picked_is n (omega arith) k j s.0 s.1) (active_in n k));
+        sent = sent_from n activated (line_in Light ranks m width (look n)) becomes (lit_sends n l k);
       }
 
   -- ---- Heavy rounds
@@ -334,6 +358,18 @@ module _ (ranks : ℕ) (m : Sparse) (source width : ℕ) (some : 0 < ranks) (few
       sym (at_open ranks (all n) j s (vertex_in ranks j p) at (mod-mul-add p ranks j low) ∙ ap (λ q. list_any (eqb q) s.settled) (div-mul-add p ranks j low)))
       (range_with_len 0 (places_for ranks m.rows))
 
+  kept_heavy : (s u : DeltaState) (vs : List Vertex) (j b : ℕ) → s ≡ record (finished u) { vertices = vs } → u.light ≡ light_of j → u.heavy ≡ heavy_of j → u.bucket ≡ b
+      → (s.light ≡ light_of j) × (s.heavy ≡ heavy_of j) × (s.bucket ≡ b)
+  kept_heavy s u vs j b is l h e = (ap (λ (x : DeltaState). x.light) is ∙ l, ap (λ (x : DeltaState). x.heavy) is ∙ h, ap (λ (x : DeltaState). x.bucket) is ∙ e)
+
+  heavy_sends : (n : ℕ) → n < 2 ^ 61 → Known n → (look n).phase ≢ Heavy → (j : ℕ) (s : DeltaState) → slice_get (all n) j ≡ Some s → (finished s).outgoing ≡ line_in Heavy ranks m width (look n) j
+  heavy_sends n l k not_heavy j s at =
+      ap (λ ts. offers_by_place ts s.vertices (ascending (length s.vertices) s.settled)) (k.heavy j s at ∙ ap (table_of ranks (places_for ranks m.rows) (width + 1) (2 ^ 64 - 1)) (gathered_dealt ranks j m.entries g.matrix.once))
+      ∙ offers_by_vertex ranks j m.rows (width + 1) (2 ^ 64 - 1) (gathered m.entries) s.vertices (ascending (length s.vertices) s.settled) (look n).found (look n).settled (λ t. not (is_light width t))
+      (low_rank n (omega arith) j s at) small_edges (λ i d lo. heavy_range width (get_or (gathered m.entries) i d) (small_edges i d lo))
+      (λ p. ap (λ (x : Vertex). x.weight) (vertex_is n (omega arith) j s at p))
+      (low_weights (stage n).found k.bound) (settled_is n (omega arith) k j s at) (k.settled_in not_heavy)
+
   pub to_heavy : (n : ℕ) → n < 2 ^ 61 → Known n → (look n).phase ≢ Heavy → ((j : ℕ) (s : DeltaState) → slice_get (all n) j ≡ Some s → delta_rules.ended s (vote_sum delta_rules (all n)) ≡ finished s) → Stepped n Heavy
   to_heavy n l k not_heavy becomes =
       let now : InRound delta_rules ranks n shape most (all n) = all_in n (omega arith) in
@@ -343,16 +379,16 @@ module _ (ranks : ℕ) (m : Sparse) (source width : ℕ) (some : 0 < ranks) (few
       heavy_round m.entries m.rows width ranks n (suc n) (all n) shape most some (graph_edges m g) now next k.static low becomes in
       let phase : (look (suc n)).phase ≡ Heavy = phase_is (suc n) (omega arith) Heavy (heavy_phase m.entries m.rows width ranks n (suc n) (all n) shape most some (graph_edges m g) now next k.static low becomes) in
       let was = heavy_was m.entries m.rows width ranks n (suc n) (all n) shape most some (graph_edges m g) now next k.static low becomes in
-      let buckets : (j : ℕ) (s : DeltaState) → slice_get (all (suc n)) j ≡ Some s → s.bucket ≡ (look n).bucket = λ j s at. (let w = was j s at in ap (λ (u : DeltaState). u.bucket) w.3 ∙ k.bucket j w.0 w.2) in
+      let buckets : (j : ℕ) (s : DeltaState) → slice_get (all (suc n)) j ≡ Some s → s.bucket ≡ (look n).bucket = λ j s at. (let w = was j s at in (kept_heavy s w.0 w.1 j (look n).bucket w.3 (k.light j w.0 w.2) (k.heavy j w.0 w.2) (k.bucket j w.0 w.2)).2) in
       record {
         known =
             record {
-              phase = λ j s at. heavy_phase m.entries m.rows width ranks n (suc n) (all n) shape most some (graph_edges m g) now next k.static low becomes j s at ∙ sym phase;
-              bucket = λ j s at. buckets j s at ∙ sym (bucket_is (suc n) (omega arith) (look n).bucket buckets);
+              phase = each_phase (suc n) (omega arith) Heavy (heavy_phase m.entries m.rows width ranks n (suc n) (all n) shape most some (graph_edges m g) now next k.static low becomes);
+              bucket = each_bucket (suc n) (omega arith) (look n).bucket buckets;
               later = λ e. (let no' : Heavy ≡ First = sym phase ∙ e in cc);
               static = heavy_static m.entries m.rows width ranks n (suc n) (all n) shape most some (graph_edges m g) now next k.static low becomes;
-              light = λ j s at. (let w = was j s at in ap (λ (u : DeltaState). u.light) w.3 ∙ k.light j w.0 w.2);
-              heavy = λ j s at. (let w = was j s at in ap (λ (u : DeltaState). u.heavy) w.3 ∙ k.heavy j w.0 w.2);
+              light = λ j s at. (let w = was j s at in (kept_heavy s w.0 w.1 j (look n).bucket w.3 (k.light j w.0 w.2) (k.heavy j w.0 w.2) (k.bucket j w.0 w.2)).0);
+              heavy = λ j s at. (let w = was j s at in (kept_heavy s w.0 w.1 j (look n).bucket w.3 (k.light j w.0 w.2) (k.heavy j w.0 w.2) (k.bucket j w.0 w.2)).1);
               weighed = offers_weighed m.entries (heavy_sent width (open_of ranks (all n))) (stage n) (stage (suc n)) round k.weighed;
               bound = bounded_more m.rows m.entries (heavy_sent width (open_of ranks (all n))) (stage n) (stage (suc n)) (graph_edges m g).to (graph_edges m g).light round k.bound;
               inside = inside_more (heavy_sent width (open_of ranks (all n))) (stage n) (stage (suc n)) round k.inside;
@@ -360,14 +396,7 @@ module _ (ranks : ℕ) (m : Sparse) (source width : ℕ) (some : 0 < ranks) (few
             };
         phase = phase;
         changes = to_improves m.entries (heavy_sent width (open_of ranks (all n))) (stage n) (look (suc n)) round;
-        sent = λ j t at.
-            (let s = got_map (λ s. delta_rules.ended s (vote_sum delta_rules (all n))) (all n) j t at in
-            ap (λ (u : DeltaState). u.outgoing) (sym s.2 ∙ becomes j s.0 s.1)
-            ∙ ap (λ ts. offers_by_place ts s.0.vertices (ascending (length s.0.vertices) s.0.settled)) (k.heavy j s.0 s.1 ∙ ap (table_of ranks (places_for ranks m.rows) (width + 1) (2 ^ 64 - 1)) (gathered_dealt ranks j m.entries g.matrix.once))
-            ∙ offers_by_vertex ranks j m.rows (width + 1) (2 ^ 64 - 1) (gathered m.entries) s.0.vertices (ascending (length s.0.vertices) s.0.settled) (look n).found (look n).settled (λ t. not (is_light width t))
-            (low_rank n (omega arith) j s.0 s.1) small_edges (λ i d lo. heavy_range width (get_or (gathered m.entries) i d) (small_edges i d lo))
-            (λ p. ap (λ (x : Vertex). x.weight) (vertex_is n (omega arith) j s.0 s.1 p))
-            low (settled_is n (omega arith) k j s.0 s.1) (k.settled_in not_heavy));
+        sent = sent_from n finished (line_in Heavy ranks m width (look n)) becomes (heavy_sends n l k not_heavy);
       }
 
   -- ---- Find rounds
@@ -393,6 +422,32 @@ module _ (ranks : ℕ) (m : Sparse) (source width : ℕ) (some : 0 < ranks) (few
       ∙ sym (fold_map (λ w v. lesser w ((look n).found v)) (vertex_in ranks j) None own)
       ∙ ap (fold (λ w v. lesser w ((look n).found v)) None) (vertices_own ranks j m.rows (look n).pending (low_rank n l j s at) (λ v is. (let w = h.weighed v is in h.inside v w.0 w.1)))
 
+  begun_tables : (n : ℕ) → ToFind n → (j : ℕ) (s t : DeltaState) (b : ℕ) → s ≡ record t { bucket = b } → slice_get (begun n) j ≡ Some t → (s.light ≡ light_of j) × (s.heavy ≡ heavy_of j)
+  begun_tables n h j s t b is at =
+      (let u = got_map (λ s. delta_rules.ended s (vote_sum delta_rules (all n))) (all n) j t at in tables s t (delta_rules.ended u.0 (vote_sum delta_rules (all n))) is u.2 (h.light j u.0 u.1) (h.heavy j u.0 u.1))
+    where
+      tables : (s t u : DeltaState) → s ≡ record t { bucket = b } → u ≡ t → u.light ≡ light_of j → u.heavy ≡ heavy_of j → (s.light ≡ light_of j) × (s.heavy ≡ heavy_of j)
+      tables s t u a c l k = (ap (λ (x : DeltaState). x.light) a ∙ ap (λ (x : DeltaState). x.light) (sym c) ∙ l, ap (λ (x : DeltaState). x.heavy) a ∙ ap (λ (x : DeltaState). x.heavy) (sym c) ∙ k)
+
+  find_sends : (n : ℕ) → n < 2 ^ 61 → ToFind n → (j : ℕ) (s : DeltaState) → slice_get (all n) j ≡ Some s → (delta_rules.ended s (vote_sum delta_rules (all n))).outgoing ≡ line_in Find ranks m width (look n) j
+  find_sends n l h j s at =
+      let t : DeltaState = delta_rules.ended s (vote_sum delta_rules (all n)) in
+      told t (h.finds j s at) ((next_in n (omega arith)).each j t (get_map (λ s. delta_rules.ended s (vote_sum delta_rules (all n))) (all n) j s at)).all_ranks (h.stays j s at) (least_is n (omega arith) h j s at)
+    where
+      told : (t : DeltaState) → IsFinding width t → t.ranks ≡ ranks → t.vertices ≡ s.vertices → least_marked s.vertices ≡ least_pending ranks m (look n) j → t.outgoing ≡ line_in Find ranks m width (look n) j
+      told t is all_ranks stays least =
+          is.outgoing
+          ∙ ap (λ c. announced c (bucket_of t.width (least_marked t.vertices))) all_ranks
+          ∙ ap (λ w. announced ranks (bucket_of w (least_marked t.vertices))) is.wide
+          ∙ ap (λ vs. announced ranks (bucket_of width (least_marked vs))) stays
+          ∙ ap (λ o. announced ranks (bucket_of width o)) least
+
+  -- an active vertex is one of the graph
+  one_active : (n : ℕ) → Weighed (stage n) → ((v k : ℕ) → (stage n).found v ≡ Some k → v < m.rows) → (u : ℕ) → is_active width (look n) u ≡ true → some_active m width (look n) ≡ true
+  one_active n weighed inside u on =
+      let w = weighed u (and_parts ((look n).pending u) (weight_in width (look n).bucket ((look n).found u)) on).0 in
+      any_there (is_active width (look n)) (range_with_len 0 m.rows) u (in_range_list m.rows u (inside u w.0 w.1)) on
+
   pub to_find : (n : ℕ) → n < 2 ^ 61 → ToFind n → Stepped n Find
   to_find n l h =
       let next : InRound delta_rules ranks (suc n) shape most (begun n) = next_in n (omega arith) in
@@ -413,15 +468,21 @@ module _ (ranks : ℕ) (m : Sparse) (source width : ℕ) (some : 0 < ranks) (few
       λ v w is. subst (λ r. w ≤ r * LIMIT) (sym (total_same m.rows (λ v. one_found ((stage (suc n)).found v)) (λ v. one_found ((stage n).found v)) (λ v low. ap one_found (found v)))) (h.bound v w (sym (found v) ∙ is)) in
       let inside : (v w : ℕ) → (stage (suc n)).found v ≡ Some w → v < m.rows = λ v w is. h.inside v w (sym (found v) ∙ is) in
       let weighed : Weighed (stage (suc n)) = look_weighed (stage n) (stage (suc n)) found pending h.weighed in
+      let reach : (v w : ℕ) → (stage (suc n)).fresh v ≡ true → (stage (suc n)).found v ≡ Some w → some_active m width (look (suc n)) ≡ true =
+      λ v w is has.
+      (let u = bucket_reached m.entries m.rows width ranks (suc n) (begun n) shape most some positive next h.static finds low weights v w (p v ∙ sym (pending v) ∙ is) (f v ∙ sym (found v) ∙ has) in
+      one_active (suc n) weighed inside u.0
+      (subst (λ c. active width c (stage (suc n)) u.0 ≡ true) (sym bucket)
+      (look_active width b (stage_of ranks (begun n)) (stage (suc n)) (λ v. found v ∙ sym (f v)) (λ v. pending v ∙ sym (p v)) u.0 u.1))) in
       record {
         known =
             record {
-              phase = λ j s at. find_phase m.entries m.rows width ranks (suc n) (begun n) shape most some positive next h.static finds low weights j s at ∙ sym phase;
-              bucket = λ j s at. find_bucket m.entries m.rows width ranks (suc n) (begun n) shape most some positive next h.static finds low weights j s at ∙ sym bucket;
+              phase = each_phase (suc n) (omega arith) Find (find_phase m.entries m.rows width ranks (suc n) (begun n) shape most some positive next h.static finds low weights);
+              bucket = each_bucket (suc n) (omega arith) b (find_bucket m.entries m.rows width ranks (suc n) (begun n) shape most some positive next h.static finds low weights);
               later = λ e. (let no' : Find ≡ First = sym phase ∙ e in cc);
               static = find_static m.entries m.rows width ranks (suc n) (begun n) shape most some positive next h.static finds low weights;
-              light = λ j s at. (let w = was j s at in let u = got_map (λ s. delta_rules.ended s (vote_sum delta_rules (all n))) (all n) j w.0 w.1 in ap (λ (u : DeltaState). u.light) (w.2 ∙ ap (λ (t : DeltaState). record t { bucket = b }) (sym u.2)) ∙ h.light j u.0 u.1);
-              heavy = λ j s at. (let w = was j s at in let u = got_map (λ s. delta_rules.ended s (vote_sum delta_rules (all n))) (all n) j w.0 w.1 in ap (λ (u : DeltaState). u.heavy) (w.2 ∙ ap (λ (t : DeltaState). record t { bucket = b }) (sym u.2)) ∙ h.heavy j u.0 u.1);
+              light = λ j s at. (let w = was j s at in (begun_tables n h j s w.0 b w.2 w.1).0);
+              heavy = λ j s at. (let w = was j s at in (begun_tables n h j s w.0 b w.2 w.1).1);
               weighed = weighed;
               bound = bound;
               inside = inside;
@@ -434,25 +495,9 @@ module _ (ranks : ℕ) (m : Sparse) (source width : ℕ) (some : 0 < ranks) (few
               pending = pending;
               settled = open';
               least = λ v w is has. subst (λ c. c * width ≤ w) (sym bucket) (bucket_floor m.entries m.rows width ranks (suc n) (begun n) shape most some positive next h.static finds low weights v w (p v ∙ sym (pending v) ∙ is) (f v ∙ sym (found v) ∙ has));
-              reached = λ v is.
-                  (let w = weighed v is in
-                  let u = bucket_reached m.entries m.rows width ranks (suc n) (begun n) shape most some positive next h.static finds low weights v w.0 (p v ∙ sym (pending v) ∙ is) (f v ∙ sym (found v) ∙ w.1) in
-                  let on : is_active width (look (suc n)) u.0 ≡ true =
-                  ap (λ a. a && weight_in width (look (suc n)).bucket ((stage (suc n)).found u.0)) (pending u.0 ∙ sym (p u.0))
-                  ∙ ap (λ o. (stage_of ranks (begun n)).fresh u.0 && weight_in width (look (suc n)).bucket o) (found u.0 ∙ sym (f u.0))
-                  ∙ ap (λ c. (stage_of ranks (begun n)).fresh u.0 && weight_in width c ((stage_of ranks (begun n)).found u.0)) bucket ∙ u.1 in
-                  let mark : (stage (suc n)).fresh u.0 ≡ true = (and_parts ((stage (suc n)).fresh u.0) (weight_in width (look (suc n)).bucket ((stage (suc n)).found u.0)) on).0 in
-                  let weight = weighed u.0 mark in
-                  any_there (is_active width (look (suc n))) (range_with_len 0 m.rows) u.0 (in_range_list m.rows u.0 (inside u.0 weight.0 weight.1)) on);
+              reached = λ v is. reach v (weighed v is).0 is (weighed v is).1;
             };
-        sent = λ j t at.
-            (let s = got_map (λ s. delta_rules.ended s (vote_sum delta_rules (all n))) (all n) j t at in
-            let is : IsFinding width t = finds j t at in
-            is.outgoing
-            ∙ ap (λ c. announced c (bucket_of t.width (least_marked t.vertices))) (next.each j t at).all_ranks
-            ∙ ap (λ w. announced ranks (bucket_of w (least_marked t.vertices))) is.wide
-            ∙ ap (λ vs. announced ranks (bucket_of width (least_marked vs))) (ap (λ (u : DeltaState). u.vertices) (sym s.2) ∙ h.stays j s.0 s.1)
-            ∙ ap (λ o. announced ranks (bucket_of width o)) (least_is n (omega arith) h j s.0 s.1));
+        sent = sent_from n (λ s. delta_rules.ended s (vote_sum delta_rules (all n))) (line_in Find ranks m width (look n)) (λ j s at. refl) (find_sends n l h);
       }
     where
       same : (n : ℕ) → n < 2 ^ 61 → ToFind n → (v : ℕ) → vertex_at ranks (begun n) v ≡ vertex_at ranks (all n) v

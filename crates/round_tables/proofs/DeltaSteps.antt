@@ -2,30 +2,26 @@
 use Rattle.std.proofs.Common.{◌≡◌, ◌≢◌, ℕ, suc, ◌+◌, ◌-◌, ◌*◌, ◌/◌, ◌%◌, ◌^◌, ◌<◌, ◌≤◌, ◌&&◌, not, Bool, true, false, eqb, List, [], ◌∷◌, Option, Some, None, length, map, get_or, slice_get, All, arith, inl, inr, refl, sym, ap, ◌∙◌, subst}
 use Rattle.std.specs.List.{filter, fold, list_any, range_with_len}
 use Rattle.std.proofs.Math.Nat.{mod-lt}
-use Rattle.std.proofs.lemmas.Bool.{cases_lt, and_parts, or_cases, lt-ltb, false≢true}
+use Rattle.std.proofs.lemmas.Bool.{and_parts, or_cases, false≢true}
 use Rattle.std.proofs.lemmas.Nat.{div-mul-add, mod-mul-add}
 use Rattle.std.proofs.lemmas.List.Elements.{All-contains, filter_agree}
 use Rattle.std.proofs.lemmas.List.Sorted.{All-permutation}
-use Rattle.std.proofs.lemmas.Option.{same_Some}
 use Rattle.bale_types.specs.declared.Item.{Item}
 use Rattle.bale_types.specs.declared.triple.Triple.{Triple}
-use Rattle.list_laws.specs.Sums.{total}
 use Rattle.list_laws.proofs.Lists.{find, within, get_map, got_map}
-use Rattle.list_laws.proofs.Sums.{total_le, total_lt, total_same, total_bound}
+use Rattle.list_laws.proofs.Sums.{total_same}
 use Rattle.mtx_text.specs.Sparse.{Sparse}
 use Rattle.mtx_text.specs.Cells.{gathered}
-use Rattle.round_program.specs.Canonical.{end_all, votes_at, vote_sum, InRound}
+use Rattle.round_program.specs.Canonical.{end_all, vote_sum, InRound}
 use Rattle.round_program.proofs.Members.{in_round}
 use Rattle.sparse_rows.specs.Owners.{places_for}
 use Rattle.sparse_rows.proofs.Deals.{filter_filter}
 use Rattle.sparse_rows.proofs.Gathering.{gathered_dealt, gathered_moves}
 use Rattle.least_walks.specs.declared.table.Edge.{Edge}
 use Rattle.least_walks.specs.declared.vertices.Vertex.{Vertex}
-use Rattle.least_walks.specs.Walks.{AtMost}
 use Rattle.least_walks.specs.Tables.{table_of, offers as offers_by_place}
-use Rattle.least_walks.specs.Vertices.{unreached, is_better, lesser, least_marked, marked, in_bucket, weight_in, picked, calm_if}
+use Rattle.least_walks.specs.Vertices.{unreached, lesser, least_marked, marked, in_bucket, weight_in, picked, calm_if}
 use Rattle.least_walks.proofs.Marks.{picks_all}
-use Rattle.least_walks.proofs.Settled.{cost}
 use Rattle.app_sssp.specs.SsspRuns.{IsGraph}
 use Rattle.app_sssp.proofs.Rounds.{Stage}
 use Rattle.app_sssp.proofs.Begins.{graph_edges, own_edges}
@@ -35,98 +31,17 @@ use Rattle.delta_step.specs.Deltas.{DeltaState, delta_rules, activated, finished
 use Rattle.delta_step.specs.DeltaLaws.{delta_laws}
 use Rattle.delta_step.specs.DeltaRuns.{delta_starts}
 use Rattle.delta_step.proofs.Begins.{starts_in_round}
-use Rattle.delta_step.proofs.Buckets.{Took as TookOffer, Offers, active, calmed_stage, light_sent, heavy_sent, opened}
+use Rattle.delta_step.proofs.Buckets.{Offers, active, calmed_stage, light_sent, heavy_sent, opened}
 use Rattle.delta_step.proofs.FindRounds.{IsFinding, find_found, find_fresh, find_static, find_phase, find_bucket, find_open, find_was, found_bucket, bucket_floor, bucket_reached}
 use Rattle.delta_step.proofs.HeavyRounds.{heavy_round, heavy_static, heavy_phase, heavy_was}
 use Rattle.delta_step.proofs.Looks.{Weighed, offers_weighed, calmed_weighed, look_weighed, look_active}
 use Rattle.delta_step.proofs.OfferRounds.{vertex_at, stage_of, at_vertex}
 use Rattle.delta_step.proofs.Runs.{full, full_in}
 use Rattle.delta_step.proofs.Transits.{Static, open_of, at_open, calm_at, calm_weight, light_round, light_open, light_static, light_phase, light_bucket, light_was}
-use Rattle.round_tables.specs.Delta.{Look, is_light, is_active, some_active, Improves, Changes, least_pending, line_in}
+use Rattle.round_tables.specs.Delta.{Look, is_light, is_active, some_active, Changes, least_pending, line_in}
 use Rattle.round_tables.proofs.SsspLists.{in_range_list, marks_are, vertex_in, own_vertices as vertices_own, IsLight}
 use Rattle.round_tables.proofs.DeltaLists.{any_there, fold_map, fold_on, offers_by_vertex, light_range, heavy_range}
-
--- the greatest weight of an edge
-abbrev pub LIMIT : ℕ
-LIMIT = 1_000_000_000_000
-
--- ---- Weights stay small: they rise by an edge only where a vertex more is found
-
-abbrev pub one_found : Option ℕ → ℕ
-one_found None = 0
-one_found (Some w) = 1
-
-abbrev pub reached : ℕ → (ℕ → Option ℕ) → ℕ
-reached n found = total n (λ v. one_found (found v))
-
-reached_most : (n : ℕ) (found : ℕ → Option ℕ) → reached n found ≤ n * 1
-reached_most n found = total_bound n 1 (λ v. one_found (found v)) (λ v l. most (found v))
-  where
-    most : (o : Option ℕ) → one_found o ≤ 1
-    most None = omega arith
-    most (Some w) = omega arith
-
-abbrev pub Bounded : ℕ → (ℕ → Option ℕ) → Type 0
-Bounded n found = (v k : ℕ) → found v ≡ Some k → k ≤ reached n found * LIMIT
-
-found_more : (es : List Triple) (sent : Triple → Bool) (x y : Stage) → Offers es sent x y → (v : ℕ) → one_found (x.found v) ≤ one_found (y.found v)
-found_more es sent x y round v =
-    elim (round.each v) [
-      | inl same ↦ (let e : one_found (y.found v) ≡ one_found (x.found v) = ap one_found same.0 in omega arith)
-      | inr new' ↦ (let e : one_found (y.found v) ≡ 1 = ap one_found new'.1.new in let l : one_found (x.found v) ≤ 1 = most (x.found v) in omega arith)
-    ]
-  where
-    most : (o : Option ℕ) → one_found o ≤ 1
-    most None = omega arith
-    most (Some w) = omega arith
-
-bounded_more : (n : ℕ) (es : List Triple) (sent : Triple → Bool) (x y : Stage) → All (λ (t : Triple). t.j < n) es → All (λ (t : Triple). cost t ≤ LIMIT) es → Offers es sent x y → Bounded n x.found → Bounded n y.found
-bounded_more n es sent x y to few round old v k found =
-    let up : reached n x.found ≤ reached n y.found = total_le n (λ v. one_found (x.found v)) (λ v. one_found (y.found v)) (λ v l. found_more es sent x y round v) in
-    elim (round.each v) [
-      | inl same ↦ (let b : k ≤ reached n x.found * LIMIT = old v k (sym same.0 ∙ found) in omega arith)
-      | inr new' ↦ took v k found new'.1 (x.found v) refl up
-    ]
-  where
-    took : (v k : ℕ) → y.found v ≡ Some k → TookOffer es sent x y v → (o : Option ℕ) → x.found v ≡ o → reached n x.found ≤ reached n y.found → k ≤ reached n y.found * LIMIT
-    took v k found i (Some w) is up =
-        let same : k ≡ i.before + cost i.edge = same_Some k (i.before + cost i.edge) (sym found ∙ i.new) in
-        let b : w ≤ reached n x.found * LIMIT = old v w is in
-        elim (cases_lt k w) [
-          | inl less ↦ omega arith
-          | inr more ↦ absurd (i.less (w, is, (let l : w ≤ i.before + cost i.edge = omega arith in l)))
-        ]
-    took v k found i None is up =
-        let same : k ≡ i.before + cost i.edge = same_Some k (i.before + cost i.edge) (sym found ∙ i.new) in
-        let b : i.before ≤ reached n x.found * LIMIT = old i.edge.i i.before i.from in
-        let c : cost i.edge ≤ LIMIT = All-contains (λ (t : Triple). cost t ≤ LIMIT) es i.edge few i.is in
-        let inside : v < n = subst (λ u. u < n) i.to (All-contains (λ (t : Triple). t.j < n) es i.edge to i.is) in
-        let none : one_found (x.found v) ≡ 0 = ap one_found is in
-        let now : one_found (y.found v) ≡ 1 = ap one_found found in
-        let more : reached n x.found < reached n y.found =
-        total_lt n (λ v. one_found (x.found v)) (λ v. one_found (y.found v)) v inside (omega arith) (λ u l. found_more es sent x y round u) in
-        omega arith
-
-better_from : (o : Option ℕ) (w : ℕ) → ¬ AtMost o w → is_better w o ≡ true
-better_from None w h = refl
-better_from (Some k) w h =
-    elim (cases_lt w k) [
-      | inl low ↦ lt-ltb w k low
-      | inr high ↦ absurd (h (k, refl, high))
-    ]
-
--- a round of offers, as it is told
-to_improves : (es : List Triple) (sent : Triple → Bool) (x : Stage) (y : Look) → Offers es sent x (record { found = y.found; fresh = y.pending }) → Improves es sent x.found x.fresh y
-to_improves es sent x y round =
-    record {
-      tried = round.tried;
-      each = λ v. elim (round.each v) [
-        | inl same ↦ inl same
-        | inr new' ↦
-            (let i = new'.1 in
-            inr (new'.0, record { edge = i.edge; is = i.is; was_sent = i.was_sent; to = i.to; before = i.before; from = i.from; took = i.new; better = better_from (x.found v) (i.before + cost i.edge) i.less }))
-      ];
-    }
+use Rattle.round_tables.proofs.DeltaWeights.{LIMIT, one_found, reached, reached_most, Bounded, bounded_more, to_improves}
 
 -- ---- Looks
 
@@ -157,9 +72,6 @@ module _ (ranks : ℕ) (m : Sparse) (source width : ℕ) (some : 0 < ranks) (few
 
   abbrev pub stage : ℕ → Stage
   stage n = stage_of ranks (all n)
-
-  abbrev pub votes : ℕ → ℕ
-  votes n = votes_at delta_rules starts n
 
   abbrev pub look : ℕ → Look
   look n =

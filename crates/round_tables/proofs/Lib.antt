@@ -1,6 +1,7 @@
 mod Delta
 mod DeltaLists
 mod DeltaSteps
+mod DeltaWeights
 mod Ig
 mod Made
 mod OneRound

@@ -16,7 +16,7 @@ use Rattle.least_walks.specs.Tables.{table_of}
 use Rattle.least_walks.specs.declared.vertices.Vertex.{Vertex}
 use Rattle.least_walks.specs.Vertices.{unreached, marked, in_bucket, weight_in, picked}
 use Rattle.least_walks.proofs.Members.{has_head}
-use Rattle.least_walks.proofs.Offered.{weighing, none_improved}
+use Rattle.least_walks.proofs.Offered.{weighing, none_improved, was_marked}
 use Rattle.app_sssp.specs.SsspRuns.{IsGraph, vertices_begin}
 use Rattle.app_sssp.proofs.Begins.{begin_source, begin_other, begin_len}
 use Rattle.delta_step.specs.declared.phase.Phase.{Phase}
@@ -26,12 +26,12 @@ use Rattle.delta_step.specs.DeltaRuns.{delta_begins, delta_starts}
 use Rattle.delta_step.proofs.Begins.{first, first_at, light_keeps, heavy_keeps, only_source, pending_found}
 use Rattle.delta_step.proofs.Ends.{over, run_rounds}
 use Rattle.delta_step.proofs.FindRounds.{IsFinding}
-use Rattle.delta_step.proofs.Looks.{sum_more}
+use Rattle.delta_step.proofs.Looks.{sum_more, sum_some}
 use Rattle.delta_step.proofs.OfferRounds.{vertex_at, at_vertex}
 use Rattle.delta_step.proofs.Transits.{Keeps, has_pick, was_pick}
 use Rattle.round_tables.specs.Emit.{Emit}
 use Rattle.round_tables.specs.Sssp.{to_rows}
-use Rattle.round_tables.specs.Delta.{Look, is_light, is_active, some_active, next_phase, next_of, Changes, line_in, HasDeltaRounds, DeltaRounds}
+use Rattle.round_tables.specs.Delta.{Look, is_light, is_active, some_active, next_phase, next_of, Finds, Changes, line_in, HasDeltaRounds, DeltaRounds}
 use Rattle.round_tables.proofs.Made.{emit_made, emit_each}
 use Rattle.round_tables.proofs.SsspLists.{in_range_list}
 use Rattle.round_tables.proofs.DeltaLists.{any_there, there_any}
@@ -253,6 +253,36 @@ module _ (ranks : ℕ) (m : Sparse) (source width : ℕ) (some : 0 < ranks) (few
       let mine : delta_rules.vote s.0 ≤ sum_by delta_rules.vote (full n) = subst (λ t. delta_rules.vote t ≤ sum_by delta_rules.vote (full n)) (get_or_from_slice_get (full n) j s.0 s.0 s.1) one in
       ap (λ (w : Vertex). w.improved) (at_vertex ranks (full n) j s.0 v s.1 refl) ∙ none_improved 0 s.0.vertices (omega arith) (v / ranks)
 
+  -- votes in one: a vertex is pending
+  some_pending : (n : ℕ) → n < 2 ^ 61 → Knows n → (sees n).phase ≡ Find → cast n ≢ 0 → (v : ℕ) × ((sees n).pending v ≡ true)
+  some_pending n l k phase more =
+      let total : 0 < sum_by delta_rules.vote (full n) = elim (cases_lt 0 (sum_by delta_rules.vote (full n))) [
+        | inl up ↦ up
+        | inr z ↦ absurd (more (let e : min (sum_by delta_rules.vote (full n)) (2 ^ 64 - 1) ≡ 0 = omega arith in e))
+      ] in
+      let s = sum_some delta_rules.vote (full n) total in
+      let vote : delta_rules.vote s.1 ≡ length (marked s.1.vertices) = ap (λ p. vote_in p s.1) (k.phase s.0 s.1 s.2 ∙ phase) in
+      let voting : 0 < delta_rules.vote s.1 = s.3 in
+      one_of s.0 s.1 s.2 (low_rank ranks m source width some few positive narrow g source_in n (omega arith) s.0 s.1 s.2) (marked s.1.vertices) refl (omega arith)
+    where
+      one_of : (j : ℕ) (s : DeltaState) → slice_get (full n) j ≡ Some s → j < ranks → (ps : List ℕ) → marked s.vertices ≡ ps → 0 < length ps → (v : ℕ) × ((sees n).pending v ≡ true)
+      one_of j s at low [] e up = absurd (omega arith)
+      one_of j s at low (p ∷ ps) e up =
+          let q = was_marked 0 s.vertices p (subst (λ qs. Contains qs p) (sym e) (has_head p ps)) in (
+            q.0 * ranks + j,
+            ap (λ (w : Vertex). w.improved) (at_vertex ranks (full n) j s (q.0 * ranks + j) at (mod-mul-add q.0 ranks j low))
+                ∙ ap (λ c. (get_or s.vertices c unreached).improved) (div-mul-add q.0 ranks j low) ∙ q.3,
+          )
+
+  -- and so one is active
+  found_some : (n : ℕ) → n < 2 ^ 60 → (sees n).phase ≡ Find → cast n ≢ 0 → some_active m width (sees n) ≡ true
+  found_some zero l find' more = absurd (let no' : First ≡ Find = sym first_phase ∙ find' in cc)
+  found_some (suc n) l find' more =
+      let now : Steps n (next_of m width (sees n)) = step n (omega arith) in
+      let finds : Finds m width (sees n) (sees (suc n)) = subst (λ p. Changes p m width (sees n) (sees (suc n))) (sym now.phase ∙ find') now.changes in
+      let v = some_pending (suc n) (omega arith) now.known find' more in
+      finds.reached v.0 v.1
+
   pub table : HasDeltaRounds ranks m source width
   table =
       let end = over ranks m source width some few positive narrow g source_in in
@@ -270,6 +300,7 @@ module _ (ranks : ℕ) (m : Sparse) (source width : ℕ) (some : 0 < ranks) (few
         few = end.few_rounds;
         phases = λ n early. subst (λ k. (sees k).phase ≡ next_of m width (sees n)) (one n) (step n (omega arith)).phase;
         changes = λ n early. subst (λ k. Changes (next_of m width (sees n)) m width (sees n) (sees k)) (one n) (step n (omega arith)).changes;
+        some = λ n early find'. found_some n (omega arith) find' (end.quiet n early);
         over = phase_is ranks m source width some few positive narrow g source_in last (omega arith) Find end.phase;
         none = none_pending last (omega arith) end.phase end.none;
         least = end.least;

@@ -124,7 +124,7 @@ line_in Light ranks m width x r = offers ranks m x.found (is_active width x) (is
 line_in Heavy ranks m width x r = offers ranks m x.found x.settled (λ t. not (is_light width t)) r
 
 -- Delta-stepping tells the entries in round 0, when the source alone is found and pending. From then on each round is the next step, until
--- nothing is pending in a find round; then each weight is least.
+-- nothing is pending in a find round; in every find round before, a vertex became active. Then each weight is least.
 pub record HasDeltaRounds (ranks : ℕ) (m : Sparse) (source width : ℕ) : Type 0 where
   pub look : ℕ → Look
   pub begins : (look 0).phase ≡ First
@@ -134,6 +134,7 @@ pub record HasDeltaRounds (ranks : ℕ) (m : Sparse) (source width : ℕ) : Type
   pub few : last ≤ m.rows * (m.rows + 2) + 1
   pub phases : (n : ℕ) → n < last → (look (n + 1)).phase ≡ next_of m width (look n)
   pub changes : (n : ℕ) → n < last → Changes (next_of m width (look n)) m width (look n) (look (n + 1))
+  pub some : (n : ℕ) → n < last → (look n).phase ≡ Find → some_active m width (look n) ≡ true
   pub over : (look last).phase ≡ Find
   pub none : (v : ℕ) → (look last).pending v ≡ false
   pub least : (v : ℕ) → IsLeast m.entries source v ((look last).found v)

@@ -42,7 +42,8 @@ impl<const CAP: usize, const HOPS: usize> RankState<CAP, HOPS> {
 
         // The links in have their turns in ascending order, and nothing of a parcel changes but its entries and what was taken.
         ensures in_turn { record { outs = self.new.outs; ins = self.new.ins }
-            ≡ relayed_hop self.old.dims self.old.rank self.old.cap h (record { outs = self.old.outs; ins = self.old.ins }) }
+            ≡ relayed_hop self.old.dims self.old.rank self.old.cap h
+            (record { outs = self.old.outs; ins = self.old.ins }) }
     {
         self.pulled = None;
         let count = relay_hop(&self.routes, &mut self.outs, &mut self.ins, h);

@@ -40,7 +40,8 @@ pub fn relay_link<const CAP: usize>(
     ensures count { result + length link.new.parcel.untaken ≡ length link.old.parcel.untaken }
     ensures ended { link.new.ended ≡ link.old.ended }
     ensures stopped { IsStopped routes.now.dims CAP (hop_to routes.now.dims i) outs.new.items link.new }
-    ensures outs { outs.new.items ≡ passed routes.now.dims routes.now.rank CAP i outs.old.items link.old.parcel.untaken }
+    ensures outs { outs.new.items ≡ passed routes.now.dims routes.now.rank CAP i outs.old.items
+        link.old.parcel.untaken }
     ensures ins { link.new ≡ read_on (passed_count routes.now.dims routes.now.rank CAP i outs.old.items
         link.old.parcel.untaken) link.old }
 {
@@ -72,7 +73,8 @@ fn pass_on<const CAP: usize>(
     ensures within { result ≤ length link.now.parcel.untaken }
     ensures stopped { IsStopped routes.now.dims CAP (hop_to routes.now.dims i) outs.new.items
         (read_on result link.now) }
-    ensures outs { outs.new.items ≡ passed routes.now.dims routes.now.rank CAP i outs.old.items link.now.parcel.untaken }
+    ensures outs { outs.new.items ≡ passed routes.now.dims routes.now.rank CAP i outs.old.items
+        link.now.parcel.untaken }
     ensures passes { result ≡ passed_count routes.now.dims routes.now.rank CAP i outs.old.items
         link.now.parcel.untaken }
 {

@@ -39,7 +39,8 @@ impl<const CAP: usize> Model for Parcel<CAP> {
       taken = p.taken;
     } };
 
-    ghost invariant = { λ p. (CAP ≤ 1024) × (length p.places.value.items ≡ CAP) × (p.pushed ≤ CAP) × (p.taken ≤ p.pushed)
+    ghost invariant = { λ p. (CAP ≤ 1024) × (length p.places.value.items ≡ CAP) × (p.pushed ≤ CAP)
+        × (p.taken ≤ p.pushed)
         × (p.can_untake ≡ true → 0 < p.taken) };
 }
 

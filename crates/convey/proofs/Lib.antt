@@ -8,6 +8,7 @@ mod Pairs
 mod Steps
 mod Routes
 mod Ways
+mod Asks
 mod States
 mod Collects
 mod Posts

@@ -261,6 +261,13 @@ module _ (dims : List ℕ) (rank : ℕ) (st new : State) (link : ℕ) (o : Out) 
   pub still_waits : new ≡ with_open st (out_index st.dims link) o → o.parcel.untaken ≡ (out_of st link).parcel.untaken → (out_of new link).parcel.untaken ≡ (out_of st link).parcel.untaken
   still_waits e keeps = ap (λ n. (out_of n link).parcel.untaken) e ∙ (ap (λ y. y.parcel.untaken) (open_here st link o s here_below) ∙ keeps)
 
+  pub still_due : new ≡ with_open st (out_index st.dims link) o → o.parcel.untaken ≡ (out_of st link).parcel.untaken → o.closed ≡ false → IsDue new link
+  still_due e keeps open' =
+      let ends : Bool = at_end st.dims st.ins st.done (hop_at st.dims link) in
+      let same : is_due st.cap st.steady ends o ≡ is_due st.cap st.steady ends (out_of st link) =
+      λ i. (length (keeps i) == st.cap) || (st.steady && not (length (keeps i) == 0)) || (ends && not ((open' ∙ sym open_now) i)) in
+      subst (λ u. IsDue u link) (sym e) (ap (is_due st.cap st.steady ends) (open_here st link o s here_below) ∙ (same ∙ due))
+
   -- sent
   sent_on : o.parcel.untaken ≡ [] → o.closed ≡ q.last → SentOn (buffers_of st) (buffers_of (with_open st (out_index st.dims link) o)).waiting (buffers_of (with_open st (out_index st.dims link) o)).closed link q
   sent_on none closes = record {

@@ -15,6 +15,7 @@ use Rattle.hop_core.specs.Link.{In, no_out, no_in, is_empty, is_finished}
 use Rattle.hop_core.specs.State.{State, ins_of_hop, at_end}
 use Rattle.hop_core.specs.Standing.{IsOut, IsIn, IsState}
 use Rattle.convey.specs.Buffers.{out_of, in_of, buffers_of}
+use Rattle.convey.specs.Conveyors.{HoldsAtMost}
 use Rattle.convey.specs.Arrived.{HasArrived}
 
 -- a list without entries
@@ -114,6 +115,9 @@ pub is_out : (st : State) (l : ℕ) → IsState st → l < links st.dims → IsO
 is_out st l s h =
     let n = out_number st.dims l s.grid h in
     subst (λ k. IsOut st.dims st.cap k (out_of st l)) n.hop (s.each_out (out_index st.dims l) no_out (omega (arith, n.within, s.all_outs)))
+
+pub holds_at_most : (st : State) (cap : ℕ) → IsState st → st.cap ≡ cap → HoldsAtMost cap st
+holds_at_most st cap s same = λ l h from. subst (λ n. length (out_of st l).parcel.untaken ≤ n) same (is_out st l s h).fits
 
 pub is_in : (st : State) (l : ℕ) → IsState st → l < links st.dims → IsIn st.dims st.cap (hop_at st.dims l) (in_of st l)
 is_in st l s h =

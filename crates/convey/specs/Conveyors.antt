@@ -1,7 +1,9 @@
 -- What contracts see of a conveyor.
-use Rattle.std.specs.Prelude.{◌≡◌, ℕ, ◌<◌, true, length, Some, None}
+use Rattle.std.specs.Prelude.{◌≡◌, ℕ, ◌<◌, ◌≤◌, true, length, Some, None}
 use Rattle.bale_types.specs.declared.item.Item.{Item}
 use Rattle.route_tensor.specs.Grid.{ranks}
+use Rattle.route_tensor.specs.Link.{links}
+use Rattle.route_tensor.specs.Ends.{sender_at}
 use Rattle.port_bank.specs.Logs.{Logs}
 use Rattle.port_bank.specs.Flow.{hop_link}
 use Rattle.hop_core.specs.declared.lent.Lent.TheVariants.{Nothing}
@@ -36,6 +38,10 @@ pub record GivesNext (st : State) (from : ℕ) (item : Item) : Type 0 where
 -- How many entries stand in the open parcel toward a rank.
 abbrev pub standing_toward : State → ℕ → ℕ
 standing_toward st to = length (out_of st (hop_link st.dims st.rank to 1)).parcel.untaken
+
+-- No open parcel holds more than so many entries.
+abbrev pub HoldsAtMost : ℕ → State → Type 0
+HoldsAtMost cap st = (l : ℕ) → l < links st.dims → sender_at st.dims l ≡ st.rank → length (out_of st l).parcel.untaken ≤ cap
 
 -- What the code keeps of a conveyor: no parcel is lent, the routes have its number of hops, in the phase Cleanup each
 -- link out is closed, and in the phase Complete all that the phase says still holds.

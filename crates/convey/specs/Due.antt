@@ -1,5 +1,5 @@
 -- Which links an advance serves, and why it leaves entries in an inbox.
-use Rattle.std.specs.Prelude.{◌≡◌, ◌⊎◌, ℕ, ◌+◌, ◌<◌, Bool, true, List, [], ◌∷◌, ◌++◌, length, slice_get, Some}
+use Rattle.std.specs.Prelude.{◌≡◌, ◌⊎◌, ℕ, ◌+◌, ◌<◌, ◌≤◌, nat_lt, Bool, true, ◌||◌, List, [], ◌∷◌, ◌++◌, length, slice_get, Some}
 use Rattle.bale_types.specs.declared.item.Entry.{Entry}
 use Rattle.bale_types.specs.declared.item.Tag.{Tag}
 use Rattle.bale_types.specs.Stream.{Rose}
@@ -7,7 +7,7 @@ use Rattle.item_buffer.specs.Contents.{Shipped}
 use Rattle.route_tensor.specs.Ends.{hop_at, sender_at, reader_at}
 use Rattle.route_tensor.specs.Link.{links, links_before}
 use Rattle.route_tensor.specs.Tag.{digit}
-use Rattle.route_tensor.specs.Neighbour.{link_to}
+use Rattle.route_tensor.specs.Neighbour.{link_to, out_index}
 use Rattle.port_bank.specs.Logs.{Logs}
 use Rattle.hop_core.specs.Link.{is_due, is_wanted}
 use Rattle.hop_core.specs.State.{State, at_end}
@@ -26,6 +26,19 @@ pub record WasServed (st : State) (l : ℕ) (looks looks' : ℕ) (is_crowded : B
 -- A link in wants a parcel where its inbox is empty and it hasn't ended.
 abbrev pub Wants : State → ℕ → Type 0
 Wants st l = is_wanted (in_of st l) ≡ true
+
+-- Whether a link out was served: a parcel went there, or the link is due still.
+abbrev pub was_served : State → ℕ → List Shipped → List Shipped → Bool
+was_served st l log log' = nat_lt (length log) (length log') || is_due st.cap st.steady (at_end st.dims st.ins st.done (hop_at st.dims l)) (out_of st l)
+
+-- Where an advance without memory stopped: at a link out that is due, and neither on it nor on one to a later neighbour
+-- was anything posted.
+pub record StopsAt (st : State) (posts posts' : ℕ → ℕ) : Type 0 where
+  pub link : ℕ
+  pub below : link < links st.dims
+  pub starts_here : sender_at st.dims link ≡ st.rank
+  pub due : IsDue st link
+  pub later : (l : ℕ) → l < links st.dims → sender_at st.dims l ≡ st.rank → out_index st.dims link ≤ out_index st.dims l → posts' l ≡ posts l
 
 -- The epoch is over for a rank: it is done, each link is closed or has ended, and nothing is unread.
 pub record IsOver (st : State) : Type 0 where

@@ -5,7 +5,9 @@ ghost use Rattle.item_buffer.specs.Contents.{Shipped, blank};
 ghost use Rattle.route_tensor.specs.Link.{links};
 ghost use Rattle.route_tensor.specs.Ends.{reader_at};
 ghost use Rattle.route_tensor.specs.Neighbour.{in_index};
+ghost use Rattle.port_bank.specs.Calls.{once_more_if};
 ghost use Rattle.convey.specs.Buffers.{in_of};
+ghost use Rattle.hop_core.specs.Link.{is_wanted};
 ghost use Rattle.convey.specs.Way.{IsReady, GoesOn, WasAsked};
 
 use hop_core::RankState;
@@ -27,6 +29,9 @@ pub(crate) fn collect_all<const CAP: usize, const HOPS: usize, P: Port<CAP>>(
     ensures asked { (l : ℕ) → l < links (P.dims port.old) → reader_at (P.dims port.old) l ≡ P.rank port.old
         → WasAsked state.old l (P.got port.old l) (P.got port.new l) (P.noted port.old l) (P.noted port.new l)
         (P.idle port.new l) }
+    ensures collects { (l : ℕ) → l < links (P.dims port.old) → reader_at (P.dims port.old) l ≡ P.rank port.old
+        → P.collects port.new l ≡ once_more_if (is_wanted (in_of state.old l)) (P.collects port.old l) }
+    ensures posts { P.posts port.new ≡ P.posts port.old }
     ensures lies { (l : ℕ) (more : List Shipped) → l < links (P.dims port.old)
         → reader_at (P.dims port.old) l ≡ P.rank port.old → P.got port.new l ≡ P.got port.old l ++ more
         → (in_of state.new l).parcel.untaken ≡ (in_of state.old l).parcel.untaken ++ flat_map (λ p. p.entries) more }
@@ -62,6 +67,10 @@ pub(crate) fn collect_one<const CAP: usize, const HOPS: usize, P: Port<CAP>>(
     ensures outs { state.new.outs ≡ state.old.outs }
     ensures asked { WasAsked state.old link (P.got port.old link) (P.got port.new link) (P.noted port.old link)
         (P.noted port.new link) (P.idle port.new link) }
+    ensures collects { P.collects port.new link
+        ≡ once_more_if (is_wanted (in_of state.old link)) (P.collects port.old link) }
+    ensures collects_elsewhere { (m : ℕ) → m ≢ link → P.collects port.new m ≡ P.collects port.old m }
+    ensures posts { P.posts port.new ≡ P.posts port.old }
     ensures lies { (more : List Shipped) → P.got port.new link ≡ P.got port.old link ++ more
         → (in_of state.new link).parcel.untaken ≡ (in_of state.old link).parcel.untaken ++ flat_map
         (λ p. p.entries) more }

@@ -15,10 +15,11 @@ ghost use Rattle.route_tensor.specs.Tag.{IsFair, sender_of};
 ghost use Rattle.std.specs.List.{All};
 ghost use Rattle.port_bank.specs.Machine.{IsOwnStep};
 ghost use Rattle.port_bank.specs.Machine.Step.{Push, Pull, Unpull, Reset, Idle};
+ghost use Rattle.port_bank.specs.Calls.{once_more_if};
 ghost use Rattle.convey.specs.Buffers.{buffers_of, out_of, in_of, is_complete};
 ghost use Rattle.convey.specs.Parts.{part_of};
 ghost use Rattle.convey.specs.Law.{IsSound};
-ghost use Rattle.convey.specs.Conveyors.{AgreesWith, IsStepOf, KeepsAgreement, GivesNext, standing_toward};
+ghost use Rattle.convey.specs.Conveyors.{AgreesWith, HoldsAtMost, IsStepOf, KeepsAgreement, GivesNext, standing_toward};
 ghost use Rattle.convey.specs.Progress.{progress_of, advance_step};
 ghost use Rattle.bale_types.specs.Stream.{Rose};
 ghost use Rattle.hop_core.specs.declared.lent.Lent.TheVariants as Lent;
@@ -26,7 +27,8 @@ ghost use Rattle.hop_core.specs.State.{at_end};
 ghost use Rattle.hop_core.specs.Standing.{IsState};
 ghost use Rattle.convey.specs.Agreement.{Ends};
 ghost use Rattle.convey.specs.Arrived.{HasArrived};
-ghost use Rattle.convey.specs.Due.{Wants, IsOver, WasServed, NextIs, HeldUp};
+ghost use Rattle.hop_core.specs.Link.{is_wanted};
+ghost use Rattle.convey.specs.Due.{Wants, IsOver, WasServed, StopsAt, NextIs, HeldUp, was_served};
 
 use crate::moving::move_on;
 use crate::progress::Progress;
@@ -266,6 +268,9 @@ impl<const CAP: usize, const HOPS: usize> Conveyor<CAP, HOPS> {
         ensures no_memory { IsErr result → self.new.phase ≡ self.old.phase }
         ensures memory { P.Memory.GROWS ≡ false → IsOk result }
 
+        // As at every moment, no open parcel held more than its capacity.
+        ensures fits { HoldsAtMost CAP self.old }
+
         ensures begun { self.new.phase ≢ Phase.Dormant }
         ensures working { IsOk result → done ≡ false → self.new.phase ≡ Phase.Working }
         ensures over { result ≡ Ok Progress.Complete → IsOver self.new }
@@ -275,7 +280,8 @@ impl<const CAP: usize, const HOPS: usize> Conveyor<CAP, HOPS> {
         ensures complete { self.old.phase ≡ Phase.Complete → self.new ≡ record self.old { pulled = None } }
         ensures complete_port { self.old.phase ≡ Phase.Complete → port.new ≡ port.old }
 
-        // The lists only grow, each by one parcel at most, and those posted are of the conveyor's shape.
+        // The lists only grow, each by one parcel at most, and those posted are of the conveyor's shape: where it isn't
+        // steady, an epoch's entries travel in few parcels (`port_bank::few_parcels_law`).
         ensures sent_grows { (l : ℕ) → Begins (P.sent port.old l) (P.sent port.new l) }
         ensures got_grows { (l : ℕ) → Begins (P.got port.old l) (P.got port.new l) }
         ensures one_sent { (l : ℕ) → l < links self.old.dims → sender_at self.old.dims l ≡ self.old.rank
@@ -303,6 +309,14 @@ impl<const CAP: usize, const HOPS: usize> Conveyor<CAP, HOPS> {
             → P.got port.new l ≡ P.got port.old l → Rose (P.noted port.old l) (P.noted port.new l) }
         ensures idle { (l : ℕ) → l < links self.old.dims → reader_at self.old.dims l ≡ self.old.rank → Wants self.old l
             → P.got port.new l ≡ P.got port.old l → P.sent port.new l ≡ P.sent port.old l → P.idle port.new l ≡ true }
+
+        // The port is asked once for each such link, and for no other; without memory it stops at the link that found none.
+        ensures posts { OnOk result ((l : ℕ) → l < links self.old.dims → sender_at self.old.dims l ≡ self.old.rank
+            → P.posts port.new l
+            ≡ once_more_if (was_served self.new l (P.sent port.old l) (P.sent port.new l)) (P.posts port.old l)) }
+        ensures stops { IsErr result → StopsAt self.new (P.posts port.old) (P.posts port.new) }
+        ensures collects { (l : ℕ) → l < links self.old.dims → reader_at self.old.dims l ≡ self.old.rank
+            → P.collects port.new l ≡ once_more_if (is_wanted (in_of self.old l)) (P.collects port.old l) }
 
         // An inbox holds the end of what it held and of what came.
         ensures lies { (l : ℕ) (more : List Shipped) → l < links self.old.dims

@@ -1,8 +1,15 @@
 //! Moves an exchange on: what an advance does before it settles the phase.
-ghost use Rattle.std.specs.Prelude.{◌≡◌, ◌≢◌, ◌⊎◌, true, false, None, OnOk, IsOk, IsErr, Result};
+ghost use Rattle.std.specs.Prelude.{◌≡◌, ◌≢◌, ◌⊎◌, ℕ, ◌<◌, true, false, None, OnOk, IsOk, IsErr, Result};
 ghost use Rattle.hop_core.specs.declared.lent.Lent.TheVariants as Lent;
+ghost use Rattle.port_bank.specs.Calls.{once_more_if};
+ghost use Rattle.hop_core.specs.Standing.{IsState};
 ghost use Rattle.convey.specs.Buffers.{is_complete};
 ghost use Rattle.convey.specs.Conveyors.{IsConveyor};
+ghost use Rattle.route_tensor.specs.Link.{links};
+ghost use Rattle.route_tensor.specs.Ends.{sender_at, reader_at};
+ghost use Rattle.hop_core.specs.Link.{is_wanted};
+ghost use Rattle.convey.specs.Buffers.{in_of};
+ghost use Rattle.convey.specs.Due.{StopsAt, was_served};
 ghost use Rattle.convey.specs.Way.{IsReady, MovesOn, HasServed};
 
 use crate::collecting::collect_all;
@@ -34,12 +41,19 @@ pub(crate) fn move_on<const CAP: usize, const HOPS: usize, P: Port<CAP>>(
         (P.got port.new) (P.noted port.old) (P.noted port.new) (P.idle port.new) }
     ensures served { OnOk result (HasServed state.old state.new (P.sent port.old) (P.sent port.new)
         (P.looks_out port.old) (P.looks_out port.new) (P.crowded port.new)) }
+    ensures posts { OnOk result ((l : ℕ) → l < links state.old.dims → sender_at state.old.dims l ≡ state.old.rank
+        → P.posts port.new l
+        ≡ once_more_if (was_served state.new l (P.sent port.old l) (P.sent port.new l)) (P.posts port.old l)) }
+    ensures stops { IsErr result → StopsAt state.new (P.posts port.old) (P.posts port.new) }
+    ensures collects { (l : ℕ) → l < links state.old.dims → reader_at state.old.dims l ≡ state.old.rank
+        → P.collects port.new l ≡ once_more_if (is_wanted (in_of state.old l)) (P.collects port.old l) }
     ensures complete { state.old.phase ≡ Phase.Complete → state.new ≡ state.old }
     ensures complete_port { state.old.phase ≡ Phase.Complete → port.new ≡ port.old }
     ensures incomplete { IsErr result → is_complete state.old.phase ≡ false }
     ensures forgotten { IsErr result → state.new.pulled ≡ None }
     ensures memory { P.Memory.GROWS ≡ false → IsOk result }
     ensures cap { state.old.cap ≡ CAP }
+    ensures standing { IsState state.old }
     ensures rest { P.rest port.new ≡ P.rest port.old }
     ensures same_rank { P.rank port.new ≡ P.rank port.old }
     ensures same_dims { P.dims port.new ≡ P.dims port.old }

@@ -4,8 +4,9 @@ ghost use Rattle.item_buffer.specs.Contents.{blank};
 ghost use Rattle.route_tensor.specs.Link.{links};
 ghost use Rattle.route_tensor.specs.Ends.{sender_at};
 ghost use Rattle.route_tensor.specs.Neighbour.{out_index};
+ghost use Rattle.port_bank.specs.Calls.{once_more_if};
 ghost use Rattle.convey.specs.Buffers.{out_of};
-ghost use Rattle.convey.specs.Due.{WasServed};
+ghost use Rattle.convey.specs.Due.{IsDue, WasServed, StopsAt, was_served};
 ghost use Rattle.convey.specs.Way.{IsReady, GoesOn, WasPosted};
 
 use bale_types::NoMemory;
@@ -31,6 +32,11 @@ pub(crate) fn post_all<const CAP: usize, const HOPS: usize, P: Port<CAP>>(
     ensures served { OnOk result ((l : ℕ) → l < links (P.dims port.old)
         → sender_at (P.dims port.old) l ≡ P.rank port.old
         → WasServed state.new l (P.looks_out port.old l) (P.looks_out port.new l) (P.crowded port.new l)) }
+    ensures posts { OnOk result ((l : ℕ) → l < links (P.dims port.old) → sender_at (P.dims port.old) l ≡ P.rank port.old
+        → P.posts port.new l
+        ≡ once_more_if (was_served state.new l (P.sent port.old l) (P.sent port.new l)) (P.posts port.old l)) }
+    ensures stops { IsErr result → StopsAt state.new (P.posts port.old) (P.posts port.new) }
+    ensures collects { P.collects port.new ≡ P.collects port.old }
     ensures memory { P.Memory.GROWS ≡ false → IsOk result }
     ensures forgotten { IsErr result → state.new.pulled ≡ None }
     ensures waits { (l : ℕ) → l < links (P.dims port.old) → sender_at (P.dims port.old) l ≡ P.rank port.old
@@ -73,6 +79,13 @@ pub(crate) fn post_one<const CAP: usize, const HOPS: usize, P: Port<CAP>>(
     ensures ins { state.new.ins ≡ state.old.ins }
     ensures served { OnOk result (WasServed state.new link (P.looks_out port.old link) (P.looks_out port.new link)
         (P.crowded port.new link)) }
+    ensures posts { OnOk result (P.posts port.new link
+        ≡ once_more_if (was_served state.new link (P.sent port.old link) (P.sent port.new link))
+        (P.posts port.old link)) }
+    ensures posts_elsewhere { (m : ℕ) → m ≢ link → P.posts port.new m ≡ P.posts port.old m }
+    ensures no_post { IsErr result → P.posts port.new ≡ P.posts port.old }
+    ensures still_due { IsErr result → IsDue state.new link }
+    ensures collects { P.collects port.new ≡ P.collects port.old }
     ensures memory { P.Memory.GROWS ≡ false → IsOk result }
     ensures forgotten { IsErr result → state.new.pulled ≡ None }
     ensures out { (m : ℕ) → m < links (P.dims port.old) → sender_at (P.dims port.old) m ≡ P.rank port.old → m ≢ link

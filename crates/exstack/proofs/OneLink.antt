@@ -171,3 +171,14 @@ module _ (e n rounds : ℕ) (exchange : Bool) (i i' : In) (log log' : List Shipp
 
   pub reads_after : WasCollected exchange i i' log log' → Reads e n log i.unread → Reads e n log' i'.unread
   reads_after w r = reads_by (latest log') (was_moved i.due i'.due) refl w.link w.got r
+
+  -- and where it came in this round, it is that parcel whole
+  pub whole_after : exchange ≡ true → i.due ≡ true → i'.due ≡ false → WasCollected exchange i i' log log' → i'.unread ≡ entries_in (exchange_parcel e n log')
+  whole_after x d d' w =
+      let p : Shipped = latest log' in
+      let m : was_moved i.due i'.due ≡ true = λ j. was_moved (d j) (d' j) in
+      let link : i' ≡ came exchange p = w.link ∙ ap (λ b. cond b (came exchange p) i) m in
+      let got : log' ≡ log ++ p ∷ [] = w.got ∙ ap (λ b. cond b (log ++ p ∷ []) log) m in
+      let t = open_due e rounds i.ended i.due log (due_open d) d a in
+      let size : length (segment e log) ≡ 2 * n + 1 = omega (arith, t.each_round refl, odd x) in
+      ap (λ (z : In). z.unread) link ∙ (ap (λ b. cond b p.entries []) x ∙ sym (ap (λ g. entries_in (exchange_parcel e n g)) got ∙ ap entries_in (exchange_is e n log p t.ended size)))

@@ -1,11 +1,11 @@
 -- What a round does on one link, seen through a port.
-use Rattle.std.specs.Prelude.{◌≡◌, ℕ, ◌-◌, ◌<◌, Bool, true, false, not, ◌&&◌, cond, List, [], ◌∷◌, ◌++◌, length, slice_index_or}
+use Rattle.std.specs.Prelude.{◌≡◌, ℕ, ◌-◌, ◌<◌, ◌≤◌, Bool, true, false, not, ◌&&◌, cond, List, [], ◌∷◌, ◌++◌, length, slice_index_or}
 use Rattle.bale_types.specs.Stream.{Rose}
 use Rattle.item_buffer.specs.Contents.{Shipped}
 use Rattle.port_bank.specs.Logs.{Logs}
 use Rattle.list_laws.specs.Lists.{Begins}
-use Rattle.exstack.specs.Links.{Out, In, parcel_of, gone, came}
-use Rattle.exstack.specs.State.{State, out_at, in_at, link_to, link_from}
+use Rattle.exstack.specs.Links.{Out, In, no_out, parcel_of, gone, came}
+use Rattle.exstack.specs.State.{State, out_at, in_at, number, link_to, link_from}
 
 -- What a port shows of a link out: its log, how often the port looked for room, and whether it is crowded. Of a link
 -- in: its log, what was noted of it, and whether it is idle.
@@ -40,6 +40,14 @@ pub record WasCollected (exchange : Bool) (old new : In) (log log' : List Shippe
 pub record InVain (count count' : ℕ) (stuck : Bool) : Type 0 where
   pub rose : Rose count count'
   pub in_vain : stuck ≡ true
+
+-- Where a round without memory stopped: at a link out whose parcel is due still, and neither on it nor on a later one
+-- was anything posted.
+pub record StopsAt (ranks rank : ℕ) (outs : List Out) (posts posts' : ℕ → ℕ) : Type 0 where
+  pub to : ℕ
+  pub below : to < ranks
+  pub due : (slice_index_or outs to no_out).due ≡ true
+  pub later : (b : ℕ) → to ≤ b → b < ranks → posts' (number ranks rank b) ≡ posts (number ranks rank b)
 
 -- A round, or what a poll makes of it: on each link out at most one post, and on each link in at most one collect.
 pub record MadeRound (last exchange : Bool) (old new : State) (sent sent' got got' : Logs) : Type 0 where

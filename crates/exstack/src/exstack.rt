@@ -1,15 +1,17 @@
 //! The exstack of one rank: what a program pushes, polls and pops.
-ghost use Rattle.std.specs.Prelude.{◌≡◌, ℕ, ◌+◌, ◌^◌, ◌<◌, ◌≤◌, ◌&&◌, ◌||◌, not, true, false, List, [], length, is_some, slice_get, slice_index_or, Some, None, IfOk, IfSome, IsOk, IsErr, Ok};
+ghost use Rattle.std.specs.Prelude.{◌≡◌, ℕ, ◌+◌, ◌^◌, ◌<◌, ◌≤◌, ◌&&◌, ◌||◌, not, true, false, List, [], length, is_some, slice_get, slice_index_or, Some, None, IfOk, IfSome, OnOk, IsOk, IsErr, Ok};
 ghost use Rattle.bale_types.specs.Stream.{Rose};
 ghost use Rattle.route_tensor.specs.Grid.{ranks};
 ghost use Rattle.port_bank.specs.Logs.{Logs};
 ghost use Rattle.port_bank.specs.Machine.{IsOwnStep};
 ghost use Rattle.port_bank.specs.Machine.Step.{Push, Pull, Unpull, Reset, Idle};
+ghost use Rattle.port_bank.specs.Calls.{once_more_if};
 ghost use Rattle.exstack.specs.Links.{headroom_of};
 ghost use Rattle.exstack.specs.State.{new_stack, out_at, in_at, dims_of, link_to, link_from, number, least_headroom, unread_of, lowest_unread, pushed_on, pop_from, popped_from, pops, unpopped, after_reset};
 ghost use Rattle.exstack.specs.State.{is_proceeding, is_exchanging, may_proceed, may_exchange, in_proceed, in_exchange, missing_link, all_ended, proceed_answer, exchange_answer, stage_of_proceed, stage_of_exchange};
-ghost use Rattle.exstack.specs.Steps.{MadeRound, InVain};
+ghost use Rattle.exstack.specs.Steps.{MadeRound, InVain, StopsAt};
 ghost use Rattle.exstack.specs.Agreement.{AgreesIn, AgreesWith, cycle_after};
+ghost use Rattle.exstack.specs.Cycles.{exchange_parcel, entries_in};
 ghost use Rattle.exstack.specs.Parts.{IsStepOf, KeepsAgreement, GivesNext, AreOwnSteps, proceed_steps, is_all_done, part_of};
 ghost use Rattle.exstack.specs.Standing.{IsStack};
 
@@ -239,6 +241,16 @@ impl<const CAP: usize> Exstack<CAP> {
         ensures asked { IsOk result → (a : ℕ) → a < self.old.ranks → (in_at self.new a).due ≡ true
             → InVain (P.noted port.old (link_from self.old a)) (P.noted port.new (link_from self.old a))
             (P.idle port.new (link_from self.old a)) }
+
+        // The port is asked once for each link on which a parcel is due, and for no other; without memory it stops at the
+        // link that found none, and collects nothing.
+        ensures posts { OnOk result ((b : ℕ) → b < self.old.ranks → P.posts port.new (link_to self.old b)
+            ≡ once_more_if (out_at (in_proceed done self.old) b).due (P.posts port.old (link_to self.old b))) }
+        ensures stops { IsErr result
+            → StopsAt self.new.ranks self.new.rank self.new.outs (P.posts port.old) (P.posts port.new) }
+        ensures collects { OnOk result ((a : ℕ) → a < self.old.ranks → P.collects port.new (link_from self.old a)
+            ≡ once_more_if (in_at (in_proceed done self.old) a).due (P.collects port.old (link_from self.old a))) }
+        ensures no_collect { IsErr result → P.collects port.new ≡ P.collects port.old }
     {
         self.stack.begin_proceed(done);
         let missing = self.stack.go_round(port, done, false)?;
@@ -292,6 +304,22 @@ impl<const CAP: usize> Exstack<CAP> {
         ensures asked { IsOk result → (a : ℕ) → a < self.old.ranks → (in_at self.new a).due ≡ true
             → InVain (P.noted port.old (link_from self.old a)) (P.noted port.new (link_from self.old a))
             (P.idle port.new (link_from self.old a)) }
+
+        // The port is asked once for each link on which a parcel is due, and for no other; without memory it stops at the
+        // link that found none, and collects nothing.
+        ensures posts { OnOk result ((b : ℕ) → b < self.old.ranks → P.posts port.new (link_to self.old b)
+            ≡ once_more_if (out_at (in_exchange self.old) b).due (P.posts port.old (link_to self.old b))) }
+        ensures stops { IsErr result
+            → StopsAt self.new.ranks self.new.rank self.new.outs (P.posts port.old) (P.posts port.new) }
+        ensures collects { OnOk result ((a : ℕ) → a < self.old.ranks → P.collects port.new (link_from self.old a)
+            ≡ once_more_if (in_at (in_exchange self.old) a).due (P.collects port.old (link_from self.old a))) }
+        ensures no_collect { IsErr result → P.collects port.new ≡ P.collects port.old }
+
+        // A parcel that this poll collected is the exchange parcel of its cycle, and all of it is unread.
+        ensures whole { (n a : ℕ) → AgreesIn n self.old (P.sent port.old) (P.got port.old) → a < self.old.ranks
+            → (in_at (in_exchange self.old) a).due ≡ true → (in_at self.new a).due ≡ false
+            → (in_at self.new a).unread
+            ≡ entries_in (exchange_parcel self.old.epoch n (P.got port.new (link_from self.old a))) }
     {
         self.stack.begin_exchange();
         let missing = self.stack.go_round(port, false, true)?;

@@ -4,6 +4,7 @@ ghost use Rattle.list_laws.specs.Lists.{Begins};
 ghost use Rattle.route_tensor.specs.Link.{links};
 ghost use Rattle.route_tensor.specs.Ends.{sender_at, reader_at};
 ghost use Rattle.port_bank.specs.Logs.{lasts};
+ghost use Rattle.port_bank.specs.Calls.{once_more_if};
 ghost use Rattle.exstack.specs.Links.{no_in, with_first_read, with_back, read_on, begun_in, resumed, has_unread};
 ghost use Rattle.exstack.specs.Steps.{sight, WasCollected, InVain};
 
@@ -144,6 +145,9 @@ impl<const CAP: usize> InLink<CAP> {
             (P.idle port.new link) }
         ensures elsewhere { (m : ℕ) → m ≢ link → sight (P.got port.new) (P.noted port.new) (P.idle port.new) m
             ≡ sight (P.got port.old) (P.noted port.old) (P.idle port.old) m }
+        ensures collects { P.collects port.new link ≡ once_more_if self.old.due (P.collects port.old link) }
+        ensures collects_elsewhere { (m : ℕ) → m ≢ link → P.collects port.new m ≡ P.collects port.old m }
+        ensures posts { P.posts port.new ≡ P.posts port.old }
         ensures own { sender_at (P.dims port.old) link ≡ P.rank port.old
             → Begins (P.got port.old link) (P.sent port.old link)
             → Begins (P.got port.new link) (P.sent port.new link) }

@@ -1,10 +1,11 @@
 //! One link out of a rank: the parcel that is filled for it, and posted once a round.
-ghost use Rattle.std.specs.Prelude.{◌≡◌, ◌≢◌, ℕ, ◌-◌, ◌<◌, ◌≤◌, true, false, length, IfOk, IsOk};
+ghost use Rattle.std.specs.Prelude.{◌≡◌, ◌≢◌, ℕ, ◌-◌, ◌<◌, ◌≤◌, true, false, length, IfOk, OnOk, IsOk, IsErr};
 ghost use Rattle.list_laws.specs.Lists.{Begins};
 ghost use Rattle.route_tensor.specs.Grid.{IsGrid};
 ghost use Rattle.route_tensor.specs.Link.{links};
 ghost use Rattle.route_tensor.specs.Ends.{sender_at};
 ghost use Rattle.port_bank.specs.Logs.{lasts};
+ghost use Rattle.port_bank.specs.Calls.{once_more_if};
 ghost use Rattle.port_bank.specs.Relay.{RelayLaw};
 ghost use Rattle.exstack.specs.Links.{no_out, no_tag, with_entry, headroom_of, begun_out, reopened};
 ghost use Rattle.exstack.specs.Steps.{sight, WasPosted, InVain};
@@ -118,6 +119,11 @@ impl<const CAP: usize> OutLink<CAP> {
             → InVain (P.looks_out port.old link) (P.looks_out port.new link) (P.crowded port.new link) }
         ensures elsewhere { (m : ℕ) → m ≢ link → sight (P.sent port.new) (P.looks_out port.new) (P.crowded port.new) m
             ≡ sight (P.sent port.old) (P.looks_out port.old) (P.crowded port.old) m }
+        ensures posts { OnOk result (P.posts port.new link ≡ once_more_if self.old.due (P.posts port.old link)) }
+        ensures posts_elsewhere { (m : ℕ) → m ≢ link → P.posts port.new m ≡ P.posts port.old m }
+        ensures no_post { IsErr result → P.posts port.new ≡ P.posts port.old }
+        ensures still_due { IsErr result → self.new.due ≡ true }
+        ensures collects { P.collects port.new ≡ P.collects port.old }
         ensures law { RelayLaw (P.dims port.old) (P.rank port.old) (P.sent port.new) (P.got port.old) }
         ensures grows { (m : ℕ) → Begins (P.sent port.old m) (P.sent port.new m) }
         ensures memory { P.Memory.GROWS ≡ false → IsOk result }

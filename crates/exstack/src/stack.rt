@@ -1,11 +1,12 @@
 //! One rank's side of an exstack, as its buffers and marks change.
-ghost use Rattle.std.specs.Prelude.{◌≡◌, ℕ, ◌+◌, ◌^◌, ◌<◌, ◌≤◌, ◌&&◌, ◌||◌, not, true, false, List, [], length, is_some, slice_index_or, Some, None, IfOk, IfSome, IsOk, IsErr, Ok};
+ghost use Rattle.std.specs.Prelude.{◌≡◌, ℕ, ◌+◌, ◌^◌, ◌<◌, ◌≤◌, ◌&&◌, ◌||◌, not, true, false, List, [], length, is_some, slice_index_or, Some, None, IfOk, IfSome, OnOk, IsOk, IsErr, Ok};
 ghost use Rattle.bale_types.specs.Stream.{Rose};
 ghost use Rattle.route_tensor.specs.Grid.{ranks};
+ghost use Rattle.port_bank.specs.Calls.{once_more_if};
 ghost use Rattle.exstack.specs.Links.{headroom_of};
 ghost use Rattle.exstack.specs.State.{new_stack, out_at, in_at, dims_of, link_to, link_from, number, least_headroom, unread_of, lowest_unread, pushed_on, pop_from, popped_from, pops, unpopped, after_reset};
 ghost use Rattle.exstack.specs.State.{is_proceeding, is_exchanging, may_proceed, may_exchange, in_proceed, in_exchange, missing_link, all_ended, proceed_answer, exchange_answer, stage_of_proceed, stage_of_exchange};
-ghost use Rattle.exstack.specs.Steps.{MadeRound, InVain};
+ghost use Rattle.exstack.specs.Steps.{MadeRound, InVain, StopsAt};
 ghost use Rattle.exstack.specs.Agreement.{AgreesIn, AgreesWith};
 ghost use Rattle.exstack.specs.Standing.{IsStack};
 
@@ -295,6 +296,13 @@ impl<const CAP: usize> Stack<CAP> {
         ensures asked { IsOk result → (a : ℕ) → a < self.old.ranks → (in_at self.new a).due ≡ true
             → InVain (P.noted port.old (link_from self.old a)) (P.noted port.new (link_from self.old a))
             (P.idle port.new (link_from self.old a)) }
+        ensures posts { OnOk result ((b : ℕ) → b < self.old.ranks → P.posts port.new (link_to self.old b)
+            ≡ once_more_if (out_at self.old b).due (P.posts port.old (link_to self.old b))) }
+        ensures stops { IsErr result
+            → StopsAt self.new.ranks self.new.rank self.new.outs (P.posts port.old) (P.posts port.new) }
+        ensures collects { OnOk result ((a : ℕ) → a < self.old.ranks → P.collects port.new (link_from self.old a)
+            ≡ once_more_if (in_at self.old a).due (P.collects port.old (link_from self.old a))) }
+        ensures no_collect { IsErr result → P.collects port.new ≡ P.collects port.old }
         ensures memory { P.Memory.GROWS ≡ false → IsOk result }
         ensures same_dims { P.dims port.new ≡ P.dims port.old }
         ensures same_rank { P.rank port.new ≡ P.rank port.old }

@@ -7,13 +7,14 @@ use crate::seat::SlotSeat;
 use crate::slot_bank::SlotBank;
 use bale_types::NoMemory;
 use item_buffer::Parcel;
-use port_bank::{Collected, Fixed, Memory, Port, Posted};
+use port_bank::{Calls, Collected, Fixed, Memory, Port, Posted};
 
 /// The port of one rank at a slot bank. It takes no memory, and no call on it waits.
 #[derive(Drop)]
 pub struct SlotPort<'a, const CAP: usize> {
     bank: &'a SlotBank<CAP>,
     seat: SlotSeat<CAP>,
+    calls: Calls,
     pub ghost own: { (seat.id ≡ bank.now.id) × (seat.shape ≡ bank.now.shape) },
 }
 
@@ -23,7 +24,11 @@ impl<const CAP: usize> SlotBank<CAP> {
         requires bank { (seat.id ≡ self.now.id) × (seat.shape ≡ self.now.shape) }
         ensures seat { result.seat ≡ seat.entry }
     {
-        SlotPort { bank: self, seat }
+        SlotPort {
+            bank: self,
+            seat,
+            calls: Calls::None,
+        }
     }
 }
 
@@ -33,7 +38,11 @@ impl<'a, const CAP: usize> SlotPort<'a, CAP> {
         ensures seat { result ≡ self.entry.seat }
         ensures one_bank { (id : TableId) → named self.entry.seat.id ≡ named id → self.entry.seat.id ≡ id }
     {
-        let SlotPort { bank: _, seat } = self;
+        let SlotPort {
+            bank: _,
+            seat,
+            calls: _,
+        } = self;
         seat
     }
 }
@@ -43,6 +52,7 @@ impl<'a, const CAP: usize> Port<CAP> for SlotPort<'a, CAP> {
     ghost use Rattle.link_slots.specs.Logs.{out_of};
     ghost use Rattle.link_slots.specs.Does.{DidPost, DidCollect};
     ghost use Rattle.link_slots.specs.Seen.{posted_on, collected_from, freed, known, listened, noted_at, named};
+    ghost use Rattle.port_bank.specs.Calls.{posts_of, collects_of};
 
     type Memory = Fixed;
 
@@ -63,6 +73,10 @@ impl<'a, const CAP: usize> Port<CAP> for SlotPort<'a, CAP> {
     ghost known = { λ p l. known p.seat l };
 
     ghost idle = { λ p l. length (collected_from p.seat l) == known p.seat l };
+
+    ghost posts = { λ p. posts_of p.calls };
+
+    ghost collects = { λ p. collects_of p.calls };
 
     ghost looks_out = { λ p l. (out_of p.seat.lists l).looks };
 
@@ -87,10 +101,12 @@ impl<'a, const CAP: usize> Port<CAP> for SlotPort<'a, CAP> {
     }
 
     fn post(&mut self, link: u32, p: &mut Parcel<CAP>) -> Result<Posted, NoMemory> {
+        self.calls.note_post(link, true);
         Ok(self.seat.post(self.bank, link, p))
     }
 
     fn collect(&mut self, link: u32, p: &mut Parcel<CAP>) -> Collected {
+        self.calls.note_collect(link);
         self.seat.collect(self.bank, link, p)
     }
 }

@@ -1,4 +1,5 @@
 pub mod Logs
+pub mod Calls
 pub mod Flow
 pub mod Relay
 pub mod Link

@@ -21,6 +21,7 @@
 //! | `few_parcels_law` | where only its last parcel may be less than full, an epoch has few parcels |
 #![tactic(auto)]
 
+mod calls;
 mod few_parcels;
 mod log;
 mod memory;
@@ -31,6 +32,7 @@ mod plain_round;
 mod port;
 mod ring;
 
+pub use calls::Calls;
 pub use few_parcels::few_parcels_law;
 pub use memory::{Fixed, Growing, Memory};
 pub use plain_bank::PlainBank;

@@ -5,7 +5,7 @@ ghost use Rattle.port_bank.specs.Plain.{Bank, IsBank, channel_at, sent_of, got_o
 ghost use Rattle.port_bank.specs.Round.{IsRound};
 
 use crate::plain_bank::PlainBank;
-use crate::{Collected, Growing, Port, Posted};
+use crate::{Calls, Collected, Growing, Port, Posted};
 use bale_types::NoMemory;
 use item_buffer::Parcel;
 
@@ -14,6 +14,7 @@ use item_buffer::Parcel;
 pub struct PlainPort<const CAP: usize> {
     bank: PlainBank<CAP>,
     rank: u32,
+    calls: Calls,
 }
 
 impl<const CAP: usize> PlainPort<CAP> {
@@ -21,7 +22,11 @@ impl<const CAP: usize> PlainPort<CAP> {
         ensures bank { result.bank ≡ bank.entry }
         ensures rank { result.rank ≡ rank }
     {
-        PlainPort { bank, rank }
+        PlainPort {
+            bank,
+            rank,
+            calls: Calls::None,
+        }
     }
 
     /// Does nothing, and tells that the bank keeps the laws of a round at every moment: so in each
@@ -38,7 +43,11 @@ impl<const CAP: usize> PlainPort<CAP> {
         ensures bank { result ≡ self.entry.bank }
         ensures lawful { IsBank CAP result }
     {
-        let PlainPort { bank, rank: _ } = self;
+        let PlainPort {
+            bank,
+            rank: _,
+            calls: _,
+        } = self;
         bank
     }
 }
@@ -48,6 +57,7 @@ impl<const CAP: usize> Port<CAP> for PlainPort<CAP> {
     ghost use Rattle.port_bank.specs.Logs.{starting_at, ending_at};
     ghost use Rattle.item_buffer.specs.Contents.{shipped};
     ghost use Rattle.port_bank.specs.Plain.{channel_at, sent_of, got_of, others_of, crowded_of, idle_of, DidPost, DidCollect};
+    ghost use Rattle.port_bank.specs.Calls.{posts_of, collects_of};
 
     type Memory = Growing;
 
@@ -68,6 +78,10 @@ impl<const CAP: usize> Port<CAP> for PlainPort<CAP> {
     ghost known = { λ p l. length (sent_of p.bank l) };
 
     ghost idle = { λ p l. idle_of p.rank p.bank l };
+
+    ghost posts = { λ p. posts_of p.calls };
+
+    ghost collects = { λ p. collects_of p.calls };
 
     ghost looks_out = { λ p l. (channel_at p.bank l).looks_out };
 
@@ -93,10 +107,13 @@ impl<const CAP: usize> Port<CAP> for PlainPort<CAP> {
     }
 
     fn post(&mut self, link: u32, p: &mut Parcel<CAP>) -> Result<Posted, NoMemory> {
-        self.bank.post(link, p)
+        let answer = self.bank.post(link, p);
+        self.calls.note_post(link, answer.is_ok());
+        answer
     }
 
     fn collect(&mut self, link: u32, p: &mut Parcel<CAP>) -> Collected {
+        self.calls.note_collect(link);
         self.bank.collect(link, p)
     }
 }

@@ -1,5 +1,5 @@
 //! What a rank can do on its own links, whatever carries the parcels.
-ghost use Rattle.std.specs.Prelude.{◌≡◌, ◌≢◌, ℕ, ◌+◌, ◌<◌, ◌≤◌, ◌==◌, Bool, true, false, List, length, IsOk, IsErr, Ok};
+ghost use Rattle.std.specs.Prelude.{◌≡◌, ◌≢◌, ℕ, suc, ◌+◌, ◌<◌, ◌≤◌, ◌==◌, Bool, true, false, List, length, IsOk, IsErr, Ok};
 ghost use Rattle.std.specs.List.{All};
 ghost use Rattle.bale_types.specs.Stream.{Rose};
 ghost use Rattle.item_buffer.specs.Contents.{shipped, arrived, blank};
@@ -41,12 +41,13 @@ pub enum Collected {
 /// | `sent`, `got` | each link: all parcels that the rank posted there, or collected there; empty where the link isn't its own |
 /// | `freed`, `crowded` | each link out: how many of its parcels the port knows to be collected, and whether that leaves no slot |
 /// | `known`, `idle` | each link in: how many parcels the port knows to be posted, and whether it collected all those |
+/// | `posts`, `collects` | each link: how often `post` was called and had memory, and how often `collect` |
 /// | `looks_out`, `looks_in` | each link: how often `post` looked for room, and how often `collect` looked |
 /// | `listens`, `noted` | each link in: how often the port listened for it, and as of the end of its latest collect |
 /// | `rest` | what belongs to others, which no call changes |
 /// | `post_does`, `collect_does` | what a port says of itself, beyond what holds of all ports |
 ///
-/// The counts are kept in 64 bits and stand still at the last number.
+/// The counts but the first two are kept in 64 bits and stand still at the last number.
 pub trait Port<const CAP: usize>: Drop {
     /// What `post` needs of memory.
     type Memory: Memory;
@@ -68,6 +69,10 @@ pub trait Port<const CAP: usize>: Drop {
     ghost known: { Self → ℕ → ℕ };
 
     ghost idle: { Self → ℕ → Bool };
+
+    ghost posts: { Self → ℕ → ℕ };
+
+    ghost collects: { Self → ℕ → ℕ };
 
     ghost looks_out: { Self → ℕ → ℕ };
 
@@ -128,6 +133,8 @@ pub trait Port<const CAP: usize>: Drop {
         // In each case: what the port knows changes at this link alone, and of its links in nothing does.
         ensures crowded_here { crowded self.new ≡ changed (crowded self.old) link (crowded self.new link) }
         ensures idle_here { idle self.new ≡ changed (idle self.old) link (idle self.new link) }
+        ensures posts { IsOk result → posts self.new ≡ changed (posts self.old) link (suc (posts self.old link)) }
+        ensures collects { collects self.new ≡ collects self.old }
         ensures looks_out { (l : ℕ) → looks_out self.old l ≤ looks_out self.new l }
         ensures looks_here { looks_out self.new ≡ changed (looks_out self.old) link (looks_out self.new link) }
         ensures got { got self.new ≡ got self.old }
@@ -172,6 +179,8 @@ pub trait Port<const CAP: usize>: Drop {
 
         // In each case: what the port knows changes at this link alone, and of its links out nothing does.
         ensures does { collect_does self.old link p.new result self.new }
+        ensures collects { collects self.new ≡ changed (collects self.old) link (suc (collects self.old link)) }
+        ensures posts { posts self.new ≡ posts self.old }
         ensures noted { noted self.new ≡ changed (noted self.old) link (listens self.new link) }
         ensures listens { (l : ℕ) → listens self.old l ≤ listens self.new l }
         ensures looks_in { (l : ℕ) → looks_in self.old l ≤ looks_in self.new l }

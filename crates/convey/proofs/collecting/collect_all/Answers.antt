@@ -3,8 +3,11 @@ use Rattle.route_tensor.specs.Grid.{ranks, IsGrid}
 use Rattle.route_tensor.specs.Link.{links}
 use Rattle.route_tensor.specs.Ends.{reader_at}
 use Rattle.route_tensor.specs.Neighbour.{link_from, in_index}
-use Rattle.route_tensor.proofs.Neighbours.{in_index-link_from}
+use Rattle.route_tensor.proofs.Neighbours.{in_index-link_from, in_stands}
 use Rattle.convey.proofs.Ways.{from_below, from_reader, below_sum, link_here, ready_at, link_at, end_at, collecting_none, collecting_more, collecting_all, goes_on_refl, goes_on_trans}
+use Rattle.hop_core.specs.Link.{is_wanted}
+use Rattle.port_bank.specs.Calls.{once_more_if}
+use Rattle.convey.proofs.Asks.{counted_none, counted_in}
 use Rattle.convey.proofs.collecting.collect_all.Goals as goal
 
 pub collect_one-requires : goal.collect_one-requires
@@ -41,6 +44,8 @@ loop-i-init g c =
       ready = c.requires.ready;
       goes_on = goes_on_refl c.args.state.now _ _;
       collecting = collecting_none dims rank c.args.state.now _ _ _;
+      counted = counted_none dims rank in_index reader_at _ _;
+      posts = refl;
       outs = refl;
       sent = refl;
       looks_out = refl;
@@ -72,6 +77,16 @@ loop-i-preserved g c =
         noted_stays = e.noted;
         idle_stays = e.idle;
       });
+      counted = counted_in dims rank _ _ _ _ _ _ _ grid own below here k.counted (record {
+        stays = λ m h to ne. refl;
+        here =
+            let link = c.neighbour-link.result.link_from in
+            let inbox = (k.collecting.to_ask link (subst (λ l. l < links dims) (sym here) (from_below dims rank _ grid own below)) (ap (reader_at dims) here ∙ from_reader dims rank _ grid own below)
+            (omega (arith, ap (in_index dims) here, in_index-link_from dims rank c.loop-i.i grid own below))).inbox in
+            e.collects ∙ ap (λ x. once_more_if (is_wanted x) (g.P.Port.collects c.loop-i.port link)) inbox;
+        others = e.collects_elsewhere;
+      });
+      posts = e.posts ∙ k.posts;
       outs = search rules;
       sent = search rules;
       looks_out = search rules;
@@ -89,3 +104,12 @@ returns-clause-asked g c =
     let grid : IsGrid dims = subst IsGrid first c.neighbours-i-end.ensures.grid in
     let all : c.loop-i.i ≡ sum dims = omega (arith, ap sum first, c.neighbours-i-end.ensures.value) in
     collecting_all _ _ _ _ _ _ _ _ _ _ grid all k.collecting
+
+pub returns-clause-collects : goal.returns-clause-collects
+returns-clause-collects g c =
+    let dims = g.P.Port.dims c.args.port.now in
+    let k = c.loop-i.invariant in
+    let first : c.routes.result.now.dims ≡ dims = ap (λ t. t.dims) c.routes.ensures ∙ c.requires.ready.same_dims in
+    let grid : IsGrid dims = subst IsGrid first c.neighbours-i-end.ensures.grid in
+    let all : c.loop-i.i ≡ sum dims = omega (arith, ap sum first, c.neighbours-i-end.ensures.value) in
+    λ l h to. k.counted.done l h to (subst (λ n. in_index dims l < n) (sym all) ((in_stands dims _ l grid h to).below))

@@ -6,12 +6,15 @@ use Rattle.hop_core.specs.State.{State}
 use Rattle.route_tensor.specs.Link.{links}
 use Rattle.route_tensor.specs.Ends.{sender_at}
 use Rattle.port_bank.specs.Logs.{Logs}
-use Rattle.convey.specs.Buffers.{is_complete}
+use Rattle.hop_core.specs.Link.{is_wanted}
+use Rattle.convey.specs.Buffers.{in_of, is_complete}
 use Rattle.convey.specs.Due.{IsDue, WasServed}
+use Rattle.port_bank.specs.Calls.{once_more_if}
 use Rattle.convey.proofs.Ways.{ready_at, link_at, end_at, goes_on_refl}
 use Rattle.convey.proofs.Sent.{all_closed_by, sent_not_due, same_closed, cleanup_incomplete}
-use Rattle.convey.proofs.Completes.{complete_phase}
-use Rattle.convey.proofs.Movements.{noted_ready, moves_on, has_served, over_moves, over_served}
+use Rattle.convey.proofs.Completes.{complete_phase, over_not_due, over_not_wanted}
+use Rattle.convey.proofs.Asks.{served_not}
+use Rattle.convey.proofs.Movements.{not_true, noted_ready, moves_on, has_served, over_moves, over_served}
 use Rattle.convey.proofs.Advances.{not_over}
 use Rattle.convey.proofs.moving.move_on.Goals as goal
 
@@ -149,3 +152,31 @@ returns-then-eq-clause-served g c =
     (goes_on_refl mid sent' got') refl passed.ready (λ l h from e. refl) k.sent (λ l h from. inl refl)
     _ _ _ c.relay_all.ensures.standing c.relay_all.ensures.stopped
     (λ l h from. record { looked = λ d. absurd (not_due l h d); crowded = λ d. absurd (not_due l h d) })
+
+pub returns-then-is_over-clause-posts : goal.returns-then-is_over-clause-posts
+returns-then-is_over-clause-posts g c =
+    let st : State = c.args.state.now in
+    let over : st.phase ≡ Complete = complete_phase st.phase (ap is_complete (sym c.phase.ensures.value) ∙ (sym c.is_over.ensures ∙ c.if-is_over.true)) in
+    let log : Logs = g.P.Port.sent c.args.port.now in
+    λ l h from. ap (λ b. once_more_if b (g.P.Port.posts c.args.port.now l)) (sym (served_not st l (log l) (log l) refl (over_not_due st c.phase.ensures.standing (c.requires.conveyor.complete over) l h)))
+
+pub returns-then-is_over-clause-collects : goal.returns-then-is_over-clause-collects
+returns-then-is_over-clause-collects g c =
+    let st : State = c.args.state.now in
+    let over : st.phase ≡ Complete = complete_phase st.phase (ap is_complete (sym c.phase.ensures.value) ∙ (sym c.is_over.ensures ∙ c.if-is_over.true)) in
+    λ l h to. ap (λ b. once_more_if b (g.P.Port.collects c.args.port.now l)) (sym (not_true (is_wanted (in_of st l)) (over_not_wanted st c.phase.ensures.standing (c.requires.conveyor.complete over) l h to)))
+
+pub returns-then-eq-clause-posts : goal.returns-then-eq-clause-posts
+returns-then-eq-clause-posts g c =
+    let st : State = c.args.state.now in
+    let mid : State = c.relay_all.new.state in
+    let k = c.collect_all.ensures in
+    let passed = c.relay_all.ensures.passed (g.P.Port.dims c.args.port.now) (g.P.Port.rank c.args.port.now) _ _ k.ready in
+    let cleanup : mid.phase ≡ Cleanup = search rules in
+    let phase : mid.phase ≡ st.phase = passed.goes_on.phase ∙ (k.goes_on.phase ∙ ap (λ s. s.phase) c.note_done.ensures.state) in
+    let all = c.requires.conveyor.sent (sym phase ∙ cleanup) in
+    let same_dims : mid.dims ≡ st.dims = passed.ready.same_dims ∙ sym c.requires.ready.same_dims in
+    let same = same_closed st c.note_done.new.state c.collect_all.new.state mid c.args.done c.note_done.ensures.state k.outs (k.ready.same_dims ∙ sym c.requires.ready.same_dims) passed.closes in
+    λ l h from.
+    let not_due : IsDue mid l → ⊥ = sent_not_due st mid l c.phase.ensures.standing c.relay_all.ensures.standing same_dims same all (subst (λ ds. l < links ds) (sym same_dims) h) in
+    ap (λ f. f l) k.posts ∙ ap (λ b. once_more_if b (g.P.Port.posts c.args.port.now l)) (sym (served_not mid l (g.P.Port.sent c.args.port.now l) (g.P.Port.sent c.collect_all.new.port l) (ap (λ s. s l) k.sent) not_due))

@@ -3,8 +3,11 @@ use Rattle.route_tensor.specs.Grid.{ranks, IsGrid}
 use Rattle.route_tensor.specs.Link.{links}
 use Rattle.route_tensor.specs.Ends.{sender_at}
 use Rattle.route_tensor.specs.Neighbour.{link_to, out_index}
-use Rattle.route_tensor.proofs.Neighbours.{out_index-link_to}
+use Rattle.route_tensor.proofs.Neighbours.{out_index-link_to, out_stands}
 use Rattle.convey.proofs.Ways.{to_below, to_sender, below_sum, link_here, ready_at, link_at, end_at, stays_more, waits_more, posted_more, serving_none, serving_more, serving_all, goes_on_refl, goes_on_trans}
+use Rattle.convey.specs.Due.{was_served}
+use Rattle.port_bank.specs.Calls.{once_more_if}
+use Rattle.convey.proofs.Asks.{counted_none, counted_out, served_same}
 use Rattle.convey.proofs.posting.post_all.Goals as goal
 
 pub post_one-requires : goal.post_one-requires
@@ -105,6 +108,8 @@ loop-i-init g c =
       ready = c.requires.ready;
       goes_on = goes_on_refl c.args.state.now _ _;
       serving = serving_none dims rank c.args.state.now _ _ _;
+      counted = counted_none dims rank out_index sender_at _ _;
+      collects = refl;
       ins = refl;
       idle = λ l same. refl;
       got = refl;
@@ -145,6 +150,15 @@ loop-i-preserved g c =
         cap = e.goes_on.cap;
         steady = e.goes_on.steady;
       }) c.in_ok-post_one.ensures.served;
+      counted = counted_out dims rank _ _ _ _ _ _ _ grid own below here k.counted (record {
+        stays = λ m h from ne. served_same c.loop-i.state c.post_one.new.state m _ _ _ (new.same_dims ∙ sym k.ready.same_dims) e.ins e.goes_on.done e.goes_on.cap e.goes_on.steady
+            (e.out m (link_at dims _ m k.same_dims h) (end_at sender_at dims _ rank _ m k.same_dims k.same_rank from) ne) (e.sent m ne);
+        here = c.in_ok-post_one.ensures.posts ∙ ap (λ log. once_more_if (was_served c.post_one.new.state link log (g.P.Port.sent c.post_one.new.port link)) (g.P.Port.posts c.loop-i.port link))
+            (k.serving.to_post link (subst (λ l. l < links dims) (sym here) (to_below dims rank _ grid own below)) (ap (sender_at dims) here ∙ to_sender dims rank _ grid own below)
+            (omega (arith, ap (out_index dims) here, out_index-link_to dims rank c.loop-i.i grid own below)));
+        others = e.posts_elsewhere;
+      });
+      collects = e.collects ∙ k.collects;
       ins = search rules;
       idle = stays_more _ _ _ _ _ _ k.goes_on.sent_grows e.goes_on.sent_grows k.idle e.idle;
       got = search rules;
@@ -163,3 +177,36 @@ returns-clause-served g c =
     let grid : IsGrid dims = subst IsGrid first c.neighbours-i-end.ensures.grid in
     let all : c.loop-i.i ≡ sum dims = omega (arith, ap sum first, c.neighbours-i-end.ensures.value) in
     serving_all _ _ _ _ _ _ _ _ _ _ grid all k.serving
+
+pub returns-clause-posts : goal.returns-clause-posts
+returns-clause-posts g c =
+    let dims = g.P.Port.dims c.args.port.now in
+    let k = c.loop-i.invariant in
+    let first : c.routes.result.now.dims ≡ dims = ap (λ t. t.dims) c.routes.ensures ∙ c.requires.ready.same_dims in
+    let grid : IsGrid dims = subst IsGrid first c.neighbours-i-end.ensures.grid in
+    let all : c.loop-i.i ≡ sum dims = omega (arith, ap sum first, c.neighbours-i-end.ensures.value) in
+    λ l h from. k.counted.done l h from (subst (λ n. out_index dims l < n) (sym all) ((out_stands dims _ l grid h from).below))
+
+pub returns-in_err-post_one-clause-stops : goal.returns-in_err-post_one-clause-stops
+returns-in_err-post_one-clause-stops g c =
+    let dims = g.P.Port.dims c.args.port.now in
+    let rank = g.P.Port.rank c.args.port.now in
+    let k = c.loop-i.invariant in
+    let first = ap (λ t. t.dims) c.routes.ensures ∙ c.requires.ready.same_dims in
+    let below = below_sum dims _ _ _ first c.neighbours-i-end.ensures.value c.loop-i-test.true in
+    let grid : IsGrid dims = subst IsGrid first c.neighbours-i-end.ensures.grid in
+    let own : rank < ranks dims = subst (λ r. r < ranks dims) (ap (λ t. t.rank) c.routes.ensures ∙ c.requires.ready.same_rank) (subst (λ ds. c.routes.result.now.rank < ranks ds) first c.neighbours-i-end.ensures.rank) in
+    let link = c.neighbour-link.result.link_to in
+    let here : link ≡ link_to dims rank c.loop-i.i = link_here link_to dims _ rank _ _ _ (ap (λ t. t.dims) c.routes-in-loop-i.ensures ∙ k.ready.same_dims) (ap (λ t. t.rank) c.routes-in-loop-i.ensures ∙ k.ready.same_rank) (ap (λ n. n.link_to) c.neighbour-link.ensures.value) in
+    let e = c.post_one.ensures in
+    let new = ready_at dims _ rank _ _ _ _ k.same_dims k.same_rank e.ready in
+    let st = c.post_one.new.state in
+    let at : out_index st.dims link ≡ c.loop-i.i = ap (λ ds. out_index ds link) new.same_dims ∙ (ap (out_index dims) here ∙ out_index-link_to dims rank c.loop-i.i grid own below) in
+    λ err. record {
+      link = link;
+      below = subst (λ ds. link < links ds) (sym new.same_dims) (subst (λ l. l < links dims) (sym here) (to_below dims rank _ grid own below));
+      starts_here = ap (λ ds. sender_at ds link) new.same_dims ∙ (ap (sender_at dims) here ∙ (to_sender dims rank _ grid own below ∙ sym new.same_rank));
+      due = c.in_err-post_one.ensures.still_due (search rules);
+      later = λ l h from le. ap (λ f. f l) (c.in_err-post_one.ensures.no_post (search rules)) ∙ k.counted.to_do l (subst (λ ds. l < links ds) new.same_dims h)
+          (sym (ap (λ ds. sender_at ds l) new.same_dims) ∙ (from ∙ new.same_rank)) (omega (arith, le, at, ap (λ ds. out_index ds l) new.same_dims));
+    }

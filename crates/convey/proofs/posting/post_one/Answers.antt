@@ -1,4 +1,4 @@
-use Rattle.std.proofs.Common.{◌≡◌, ◌≢◌, ◌<◌, inl, inr, refl, sym, ap, subst, ◌∙◌, rules, sum, Ok, Err, Result}
+use Rattle.std.proofs.Common.{◌≡◌, ◌≢◌, ℕ, suc, ◌<◌, inl, inr, refl, sym, ap, subst, ◌∙◌, rules, sum, Ok, Err, Result}
 use Rattle.std.proofs.lemmas.Bool.{cases_eq}
 use Rattle.bale_types.specs.declared.fault.NoMemory.{NoMemory}
 use Rattle.std.specs.List.{All}
@@ -10,13 +10,15 @@ use Rattle.route_tensor.specs.Neighbour.{hop_to, out_index}
 use Rattle.port_bank.specs.declared.port.Posted.{Posted}
 use Rattle.port_bank.specs.declared.port.Posted.TheVariants.{Sent, NoRoom}
 use Rattle.port_bank.proofs.Kept.{added-here}
-use Rattle.port_bank.proofs.Channels.{changed-other}
+use Rattle.port_bank.proofs.Channels.{changed-here, changed-other}
 use Rattle.hop_core.specs.State.{State}
 use Rattle.convey.specs.Buffers.{out_of}
 use Rattle.convey.proofs.States.{out_number}
 use Rattle.convey.proofs.Collects.{grew}
-use Rattle.convey.proofs.Posts.{taken_out, not_due, place_empty, opened, reopened, may_post, dated, served_one, served_none, still_waits, no_longer_due}
+use Rattle.convey.proofs.Posts.{taken_out, not_due, place_empty, opened, reopened, may_post, dated, served_one, served_none, still_waits, still_due, no_longer_due}
+use Rattle.port_bank.specs.Calls.{once_more_if}
 use Rattle.convey.proofs.Ways.{goes_on_refl}
+use Rattle.convey.proofs.Asks.{served_sent, served_due, served_not}
 use Rattle.convey.proofs.posting.post_one.Goals as goal
 
 apart : (let a : Result Posted NoMemory = Ok NoRoom in let b : Result Posted NoMemory = Ok Sent in a ≡ b) → ⊥
@@ -374,3 +376,71 @@ returns-in-Ok-NoRoom-clause-posted g c =
 
 pub returns-in-Err-clause-posted : goal.returns-in-Err-clause-posted
 returns-in-Err-clause-posted g c = inl (ap (λ logs. logs c.args.link) (c.post.ensures.not_sent (failed _ _ c.in-Err.is)))
+
+pub returns-then-not-due_to-clause-posts : goal.returns-then-not-due_to-clause-posts
+returns-then-not-due_to-clause-posts g c =
+    let st = c.args.state.now in
+    let s = c.known.ensures.standing in
+    let below : c.args.link < links st.dims = subst (λ ds. c.args.link < links ds) (sym c.requires.ready.same_dims) c.requires.link in
+    let n : c.args.number ≡ out_index st.dims c.args.link = c.requires.number ∙ ap (λ ds. out_index ds c.args.link) (sym c.requires.ready.same_dims) in
+    let no = not_due st c.args.number c.args.link _ s below n c.due_to.ensures c.if-not-due_to.true in
+    let log = g.P.Port.sent c.args.port.now c.args.link in
+    ap (λ b. once_more_if b (g.P.Port.posts c.args.port.now c.args.link)) (sym (served_not st c.args.link log log refl no))
+
+pub returns-in-Ok-Sent-clause-posts : goal.returns-in-Ok-Sent-clause-posts
+returns-in-Ok-Sent-clause-posts g c =
+    let q = shipped c.take_out.new.parcel in
+    let was : c.post.result ≡ Ok Sent = c.in-Ok-Sent.is ∙ ap Ok c.in-Ok-Sent.field-0-is in
+    let log = g.P.Port.sent c.args.port.now c.args.link in
+    let more = ap (λ logs. logs c.args.link) (c.post.ensures.sent was) ∙ added-here (g.P.Port.sent c.args.port.now) c.args.link q in
+    let calls : ℕ → ℕ = g.P.Port.posts c.args.port.now in
+    let once = ap (λ f. f c.args.link) (c.post.ensures.posts (search rules)) ∙ changed-here calls c.args.link (suc (calls c.args.link)) in
+    once ∙ ap (λ b. once_more_if b (calls c.args.link)) (sym (served_sent c.take_out.new.self c.args.link log _ q more))
+
+pub returns-in-Ok-NoRoom-clause-posts : goal.returns-in-Ok-NoRoom-clause-posts
+returns-in-Ok-NoRoom-clause-posts g c =
+    let st = c.args.state.now in
+    let s = c.known.ensures.standing in
+    let below : c.args.link < links st.dims = subst (λ ds. c.args.link < links ds) (sym c.requires.ready.same_dims) c.requires.link in
+    let n : c.args.number ≡ out_index st.dims c.args.link = c.requires.number ∙ ap (λ ds. out_index ds c.args.link) (sym c.requires.ready.same_dims) in
+    let t = taken_out st c.args.number c.args.link c.take_out.new.parcel s below n (sym c.due_to.ensures ∙ c.if-not-due_to.false) c.take_out.ensures.parcel in
+    let q = shipped c.take_out.new.parcel in
+    let e = c.post.ensures in
+    let no = not_sent _ (c.in-Ok-NoRoom.is ∙ ap Ok c.in-Ok-NoRoom.field-0-is) in
+    let new = reopened st c.take_out.new.self c.put_back.new.self c.args.number c.args.link _ _ c.requires.ready.home n c.take_out.ensures.state c.put_back.ensures.state in
+    let keeps = ap (λ p. p.untaken) (e.kept no) ∙ t.entries in
+    let due = still_due _ _ st _ c.args.link _ q _ (g.P.Port.sent c.args.port.now) _ _ s c.requires.ready c.requires.link c.requires.starts_here t.due t.entries t.last e.got new keeps refl in
+    let log = g.P.Port.sent c.args.port.now c.args.link in
+    let calls : ℕ → ℕ = g.P.Port.posts c.args.port.now in
+    let once = ap (λ f. f c.args.link) (c.post.ensures.posts (search rules)) ∙ changed-here calls c.args.link (suc (calls c.args.link)) in
+    once ∙ ap (λ b. once_more_if b (calls c.args.link)) (sym (served_due c.put_back.new.self c.args.link log _ due))
+
+pub returns-in-Err-clause-still_due : goal.returns-in-Err-clause-still_due
+returns-in-Err-clause-still_due g c =
+    let st = c.args.state.now in
+    let s = c.known.ensures.standing in
+    let below : c.args.link < links st.dims = subst (λ ds. c.args.link < links ds) (sym c.requires.ready.same_dims) c.requires.link in
+    let n : c.args.number ≡ out_index st.dims c.args.link = c.requires.number ∙ ap (λ ds. out_index ds c.args.link) (sym c.requires.ready.same_dims) in
+    let t = taken_out st c.args.number c.args.link c.take_out.new.parcel s below n (sym c.due_to.ensures ∙ c.if-not-due_to.false) c.take_out.ensures.parcel in
+    let q = shipped c.take_out.new.parcel in
+    let e = c.post.ensures in
+    let no = failed _ _ c.in-Err.is in
+    let new = reopened st c.take_out.new.self c.put_back-in-Err.new.self c.args.number c.args.link _ _ c.requires.ready.home n c.take_out.ensures.state c.put_back-in-Err.ensures.state in
+    let keeps = ap (λ p. p.untaken) (e.kept no) ∙ t.entries in
+    λ err. still_due _ _ st _ c.args.link _ q _ (g.P.Port.sent c.args.port.now) _ _ s c.requires.ready c.requires.link c.requires.starts_here t.due t.entries t.last e.got new keeps refl
+
+pub returns-in-Err-clause-no_post : goal.returns-in-Err-clause-no_post
+returns-in-Err-clause-no_post g c = λ err. ap g.P.Port.posts (c.post.ensures.no_memory (search rules))
+
+pub returns-in-Err-clause-posts_elsewhere : goal.returns-in-Err-clause-posts_elsewhere
+returns-in-Err-clause-posts_elsewhere g c = λ m ne. ap (λ port. g.P.Port.posts port m) (c.post.ensures.no_memory (search rules))
+
+pub returns-in-Ok-Sent-clause-posts_elsewhere : goal.returns-in-Ok-Sent-clause-posts_elsewhere
+returns-in-Ok-Sent-clause-posts_elsewhere g c =
+    let calls : ℕ → ℕ = g.P.Port.posts c.args.port.now in
+    λ m ne. ap (λ f. f m) (c.post.ensures.posts (search rules)) ∙ changed-other calls c.args.link m (suc (calls c.args.link)) ne
+
+pub returns-in-Ok-NoRoom-clause-posts_elsewhere : goal.returns-in-Ok-NoRoom-clause-posts_elsewhere
+returns-in-Ok-NoRoom-clause-posts_elsewhere g c =
+    let calls : ℕ → ℕ = g.P.Port.posts c.args.port.now in
+    λ m ne. ap (λ f. f m) (c.post.ensures.posts (search rules)) ∙ changed-other calls c.args.link m (suc (calls c.args.link)) ne

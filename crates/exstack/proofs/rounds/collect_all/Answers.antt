@@ -5,18 +5,21 @@ use Rattle.route_tensor.specs.Link.{links}
 use Rattle.route_tensor.specs.Ends.{sender_at, reader_at}
 use Rattle.port_bank.specs.Logs.{lasts}
 use Rattle.port_bank.proofs.Fronts.{begins_refl, begins_trans}
+use Rattle.port_bank.specs.Calls.{once_more_if}
 use Rattle.exstack.specs.Links.{In, no_in}
 use Rattle.exstack.specs.State.{number}
 use Rattle.exstack.specs.Steps.{Sight, sight}
 use Rattle.exstack.proofs.OneHop.{number_within, number_sender, number_reader}
 use Rattle.exstack.proofs.Sweeps.{sweep_start, sweep_more, sweep_each, sweep_here}
-use Rattle.exstack.proofs.Moves.{Collected, Asked, in_number, none_collected, in_apart, begins_between}
+use Rattle.exstack.proofs.Moves.{Collected, Asked, CollectsCounted, in_number, none_collected, in_apart, begins_between}
 use Rattle.exstack.proofs.rounds.collect_all.Goals as goal
 
 pub loop-a-init : goal.loop-a-init
 loop-a-init g c = record {
   collected = sweep_start _ _ _ _ _;
   asked = sweep_start _ _ _ _ _;
+  counted = sweep_start _ _ _ _ _;
+  posts = refl;
   own = λ b. b;
   grows = λ m. begins_refl (g.P.Port.got c.args.port.now m);
   crowded = λ m e. refl;
@@ -91,6 +94,10 @@ loop-a-preserved g c =
     record {
       collected = sweep_more (Collected c.args.exchange) no_in (in_number n r) a xs c.loop-a.ins.items before mid after x y within k.collected c.index_mut.ensures.value moved others;
       asked = sweep_more Asked no_in (in_number n r) a xs c.loop-a.ins.items before mid after x y within k.asked c.index_mut.ensures.value vain others;
+      counted = sweep_more CollectsCounted no_in (in_number n r) a xs c.loop-a.ins.items (g.P.Port.collects c.args.port.now) (g.P.Port.collects c.loop-a.port) (g.P.Port.collects c.collect.new.port) x y within k.counted c.index_mut.ensures.value
+          (subst (λ m. g.P.Port.collects c.collect.new.port m ≡ once_more_if x.due (g.P.Port.collects c.loop-a.port m)) (sym here) e.collects)
+          (λ m w ne. e.collects_elsewhere (number n m r) (λ q. in_apart n r a m c.requires.within ne (q ∙ sym here)));
+      posts = e.posts ∙ k.posts;
       own = λ b. own (k.own b);
       grows = λ m. begins_trans _ _ _ (k.grows m) (e.grows m);
       crowded = λ m q.
@@ -110,3 +117,7 @@ returns-clause-moved g c = sweep_each (Collected c.args.exchange) no_in _ _ _ _ 
 pub returns-clause-in_vain : goal.returns-clause-in_vain
 returns-clause-in_vain g c = λ a w.
     c.loop-a.invariant.asked.done a (omega (arith, w, c.loop-a-test.false, c.len-a-end.ensures, c.args.ins.now.ok)) w
+
+pub returns-clause-collects : goal.returns-clause-collects
+returns-clause-collects g c = λ a w.
+    c.loop-a.invariant.counted.done a (omega (arith, w, c.loop-a-test.false, c.len-a-end.ensures, c.args.ins.now.ok)) w

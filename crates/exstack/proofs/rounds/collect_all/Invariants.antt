@@ -4,7 +4,7 @@ use Rattle.exstack.specs.Links.{no_in}
 use Rattle.exstack.specs.State.{number}
 use Rattle.exstack.specs.Steps.{sight}
 use Rattle.exstack.proofs.Sweeps.{Sweep}
-use Rattle.exstack.proofs.Moves.{Collected, Asked, in_number}
+use Rattle.exstack.proofs.Moves.{Collected, Asked, CollectsCounted, in_number}
 use Rattle.exstack.proofs.rounds.collect_all.Given as goal
 
 abbrev pub invariant-loop-a : goal.invariant-loop-a
@@ -13,6 +13,8 @@ invariant-loop-a g l = record {
       (sight (g.P.Port.got l.fn.port) (g.P.Port.noted l.fn.port) (g.P.Port.idle l.fn.port)) (sight (g.P.Port.got l.port) (g.P.Port.noted l.port) (g.P.Port.idle l.port));
   asked : Sweep Asked no_in (in_number (length l.fn.ins.items) l.rank) l.a l.fn.ins.items l.ins.items
       (sight (g.P.Port.got l.fn.port) (g.P.Port.noted l.fn.port) (g.P.Port.idle l.fn.port)) (sight (g.P.Port.got l.port) (g.P.Port.noted l.port) (g.P.Port.idle l.port));
+  counted : Sweep CollectsCounted no_in (in_number (length l.fn.ins.items) l.rank) l.a l.fn.ins.items l.ins.items (g.P.Port.collects l.fn.port) (g.P.Port.collects l.port);
+  posts : g.P.Port.posts l.port ≡ g.P.Port.posts l.fn.port;
   own : Begins (g.P.Port.got l.fn.port (number (length l.fn.ins.items) l.rank l.rank)) (g.P.Port.sent l.fn.port (number (length l.fn.ins.items) l.rank l.rank))
       → Begins (g.P.Port.got l.port (number (length l.fn.ins.items) l.rank l.rank)) (g.P.Port.sent l.port (number (length l.fn.ins.items) l.rank l.rank));
   grows : (m : ℕ) → Begins (g.P.Port.got l.fn.port m) (g.P.Port.got l.port m);

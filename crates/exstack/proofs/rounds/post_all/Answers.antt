@@ -5,18 +5,22 @@ use Rattle.route_tensor.specs.Ends.{sender_at}
 use Rattle.port_bank.specs.Logs.{lasts}
 use Rattle.port_bank.proofs.Fronts.{begins_refl, begins_trans}
 use Rattle.port_bank.proofs.Kept.{law_same}
+use Rattle.std.proofs.lemmas.List.{get_or-set_same}
+use Rattle.port_bank.specs.Calls.{once_more_if}
 use Rattle.exstack.specs.Links.{Out, no_out}
 use Rattle.exstack.specs.State.{number}
 use Rattle.exstack.specs.Steps.{Sight, sight}
 use Rattle.exstack.proofs.OneHop.{grid_one, number_within, number_sender}
 use Rattle.exstack.proofs.Sweeps.{sweep_start, sweep_more, sweep_each, sweep_here}
-use Rattle.exstack.proofs.Moves.{Posted, Served, none_posted, out_apart}
+use Rattle.exstack.proofs.Moves.{Posted, Served, PostsCounted, none_posted, out_apart}
 use Rattle.exstack.proofs.rounds.post_all.Goals as goal
 
 pub loop-b-init : goal.loop-b-init
 loop-b-init g c = record {
   posted = sweep_start _ _ _ _ _;
   served = sweep_start _ _ _ _ _;
+  counted = sweep_start _ _ _ _ _;
+  collects = refl;
   law = c.requires.law;
   grows = λ m. begins_refl (g.P.Port.sent c.args.port.now m);
   got = refl;
@@ -83,6 +87,10 @@ loop-b-preserved g c =
     record {
       posted = sweep_more (Posted c.args.last c.args.epoch) no_out (number n r) b xs c.loop-b.outs.items before mid after x y within k.posted c.index_mut.ensures.value moved others;
       served = sweep_more Served no_out (number n r) b xs c.loop-b.outs.items before mid after x y within k.served c.index_mut.ensures.value vain others;
+      counted = sweep_more PostsCounted no_out (number n r) b xs c.loop-b.outs.items (g.P.Port.posts c.args.port.now) (g.P.Port.posts c.loop-b.port) (g.P.Port.posts c.post.new.port) x y within k.counted c.index_mut.ensures.value
+          (subst (λ m. g.P.Port.posts c.post.new.port m ≡ once_more_if x.due (g.P.Port.posts c.loop-b.port m)) (sym here) c.in_ok-post.ensures.posts)
+          (λ m w ne. e.posts_elsewhere (number n r m) (λ q. out_apart n r b m ne (q ∙ sym here)));
+      collects = e.collects ∙ k.collects;
       law = law_same _ _ _ _ _ _ _ _ (sym k.same_dims) (sym k.same_rank) refl (sym k.got) e.law;
       grows = λ m. begins_trans _ _ _ (k.grows m) (e.grows m);
       got = e.got ∙ k.got;
@@ -121,3 +129,22 @@ returns-clause-moved g c = sweep_each (Posted c.args.last c.args.epoch) no_out _
 pub returns-clause-in_vain : goal.returns-clause-in_vain
 returns-clause-in_vain g c = λ ok b w.
     c.loop-b.invariant.served.done b (omega (arith, w, c.loop-b-test.false, c.len-b-end.ensures, c.args.outs.now.ok)) w
+
+pub returns-clause-posts : goal.returns-clause-posts
+returns-clause-posts g c = λ b w.
+    c.loop-b.invariant.counted.done b (omega (arith, w, c.loop-b-test.false, c.len-b-end.ensures, c.args.outs.now.ok)) w
+
+pub returns-in_err-post-clause-stops : goal.returns-in_err-post-clause-stops
+returns-in_err-post-clause-stops g c =
+    let k = c.loop-b.invariant in
+    let xs : List Out = c.args.outs.now.items in
+    let n : ℕ = length xs in
+    let b : ℕ = c.loop-b.b in
+    let within : b < n = omega (arith, c.loop-b-test.true, c.len-b-end.ensures, c.args.outs.now.ok) in
+    let y : Out = c.post.new.self in
+    λ err. record {
+      to = b;
+      below = within;
+      due = ap (λ (o : Out). o.due) (get_or-set_same c.loop-b.outs.items b y no_out (omega (arith, within, k.counted.count))) ∙ c.in_err-post.ensures.still_due (search rules);
+      later = λ m le w. ap (λ f. f (number n c.args.rank m)) (c.in_err-post.ensures.no_post (search rules)) ∙ k.counted.shown m le w;
+    }

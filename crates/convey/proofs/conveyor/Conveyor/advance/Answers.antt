@@ -18,6 +18,7 @@ use Rattle.convey.proofs.Posts.{due_ending}
 use Rattle.convey.proofs.Completes.{complete_phase, is_over, over_complete, reaches_end, working, begun}
 use Rattle.convey.proofs.Movements.{not_true}
 use Rattle.convey.proofs.Advances.{advance_is, settled_agrees, over_before, phase_of-settled, forgotten, complete_answer, same_held}
+use Rattle.convey.proofs.States.{holds_at_most}
 use Rattle.convey.proofs.Sent.{cleanup_sent}
 use Rattle.convey.proofs.conveyor.Conveyor.advance.Goals as goal
 
@@ -138,3 +139,15 @@ returns-clause-step g c =
     let p : new.phase ≡ Complete = ap (λ s. s.phase) e ∙ (ap phase_of same ∙ ends) in
     (sym (ap (λ s. s.done) same) ∙ (sym (ap (λ s. s.done) e) ∙ (is_over new t (sym phase ∙ p)).done), ap is_complete p) in
     advance_is now mid new c.args.done _ _ _ _ k.goes_on c.requires.done_stays form not_yet over
+
+pub returns-in_err-move_on-clause-fits : goal.returns-in_err-move_on-clause-fits
+returns-in_err-move_on-clause-fits g c =
+    let now : State = c.args.self.now in
+    let standing : IsState now = subst IsState c.self.view_is c.move_on.ensures.standing in
+    holds_at_most now g.row.CAP standing (subst (λ (t : State). t.cap ≡ g.row.CAP) c.self.view_is c.move_on.ensures.cap)
+
+pub returns-clause-fits : goal.returns-clause-fits
+returns-clause-fits g c =
+    let now : State = c.args.self.now in
+    let standing : IsState now = subst IsState c.self.view_is c.move_on.ensures.standing in
+    holds_at_most now g.row.CAP standing (subst (λ (t : State). t.cap ≡ g.row.CAP) c.self.view_is c.move_on.ensures.cap)

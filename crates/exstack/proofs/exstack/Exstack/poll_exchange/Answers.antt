@@ -1,4 +1,4 @@
-use Rattle.std.proofs.Common.{◌≡◌, ℕ, ◌<◌, ◌||◌, true, false, [], ◌∷◌, sym, ap, subst, ◌∙◌, rules}
+use Rattle.std.proofs.Common.{◌≡◌, ℕ, ◌<◌, arith, refl, ◌||◌, true, false, [], ◌∷◌, sym, ap, subst, ◌∙◌, rules}
 use Rattle.port_bank.specs.Logs.{Logs}
 use Rattle.exstack.specs.declared.stage.Stage.{Stage}
 use Rattle.exstack.specs.declared.stage.Stage.TheVariants.{Exchanging}
@@ -13,6 +13,9 @@ use Rattle.exstack.proofs.Manners.{Kind, kind_of, and_false}
 use Rattle.exstack.proofs.Polling.{SameLists, Polled, exchange_lists, made_lists, lists_after, idle_poll, exchange_not_all, exchange_stays, exchange_epoch}
 use Rattle.exstack.proofs.Beginning.{Begun, exchange_begun, exchange_agrees}
 use Rattle.exstack.proofs.Settling.{agrees_staged, exchange_rounds}
+use Rattle.exstack.specs.Links.{no_in}
+use Rattle.exstack.specs.Cycles.{exchange_parcel, entries_in}
+use Rattle.exstack.proofs.OneLink.{whole_after}
 use Rattle.exstack.proofs.exstack.Exstack.poll_exchange.Goals as goal
 
 pub go_round-requires : goal.go_round-requires
@@ -191,3 +194,49 @@ returns-clause-step g c =
     let polled' : Polled now staged now.done = record { ranks = polled.ranks; epoch = polled.epoch; done_is = polled.done_is; forgotten = polled.forgotten } in
     subst (λ (t : State). IsOwnStep Idle (part_of now sent got) (part_of t sent' got')) (sym settled)
     (idle_poll now staged sent sent' got got' polled' (sym (exchange_stays r) ∙ sym (exchange_not_all now.stage c.requires.may)) over)
+
+pub returns-in_err-missing-clause-whole : goal.returns-in_err-missing-clause-whole
+returns-in_err-missing-clause-whole g c =
+    let now : State = c.args.self.now in
+    let b : State = c.begin_exchange.new.self in
+    let h : State = c.go_round.new.self in
+    let sent : Logs = g.P.Port.sent c.args.port.now in
+    let got : Logs = g.P.Port.got c.args.port.now in
+    let got' : Logs = g.P.Port.got c.go_round.new.port in
+    let view : c.self.inside.stack ≡ now = c.self.view_is in
+    let is : b ≡ in_exchange now = c.begin_exchange.ensures.state ∙ ap (in_exchange) view in
+    let s : IsStack g.row.CAP now = subst (IsStack g.row.CAP) view c.begin_exchange.ensures.standing in
+    let k : Begun b Exchanging now.done now = subst (λ (t : State). Begun t Exchanging now.done now) (sym is) (exchange_begun now) in
+    λ n a agrees w due came.
+    let now_in : AgreesIn n b sent got = subst (λ (t : State). AgreesIn n t sent got) (sym is) (exchange_agrees g.row.CAP n now sent got s c.requires.may agrees) in
+    let within : a < b.ranks = subst (λ m. a < m) (sym k.ranks) w in
+    let standing : IsStack g.row.CAP b = c.go_round.ensures.standing in
+    let open' = (standing.each_in a no_in (omega (arith, within, standing.all_ins))).due_open in
+    let epoch : b.epoch ≡ now.epoch = ap (λ (t : State). t.epoch) is ∙ exchange_epoch now in
+    whole_after b.epoch n (rounds_in n b.stage) true (in_at b a) (in_at h a) (got (link_from b a)) (got' (link_from b a)) open' (now_in.ins a within)
+    (λ x. ap (rounds_in n) k.stage_is) refl (ap (λ (t : State). (in_at t a).due) is ∙ due) came (c.go_round.ensures.round.collected a within)
+    ∙ (λ i. entries_in (exchange_parcel (epoch i) n (got' (number (k.ranks i) a (k.rank i)))))
+
+pub returns-clause-whole : goal.returns-clause-whole
+returns-clause-whole g c =
+    let now : State = c.args.self.now in
+    let b : State = c.begin_exchange.new.self in
+    let h : State = c.go_round.new.self in
+    let sent : Logs = g.P.Port.sent c.args.port.now in
+    let got : Logs = g.P.Port.got c.args.port.now in
+    let got' : Logs = g.P.Port.got c.go_round.new.port in
+    let view : c.self.inside.stack ≡ now = c.self.view_is in
+    let is : b ≡ in_exchange now = c.begin_exchange.ensures.state ∙ ap (in_exchange) view in
+    let s : IsStack g.row.CAP now = subst (IsStack g.row.CAP) view c.begin_exchange.ensures.standing in
+    let k : Begun b Exchanging now.done now = subst (λ (t : State). Begun t Exchanging now.done now) (sym is) (exchange_begun now) in
+    λ n a agrees w due came.
+    let now_in : AgreesIn n b sent got = subst (λ (t : State). AgreesIn n t sent got) (sym is) (exchange_agrees g.row.CAP n now sent got s c.requires.may agrees) in
+    let within : a < b.ranks = subst (λ m. a < m) (sym k.ranks) w in
+    let standing : IsStack g.row.CAP b = c.go_round.ensures.standing in
+    let open' = (standing.each_in a no_in (omega (arith, within, standing.all_ins))).due_open in
+    let epoch : b.epoch ≡ now.epoch = ap (λ (t : State). t.epoch) is ∙ exchange_epoch now in
+    let settled = c.settle_exchange.ensures.state in
+    ap (λ (t : State). (in_at t a).unread) settled
+    ∙ (whole_after b.epoch n (rounds_in n b.stage) true (in_at b a) (in_at h a) (got (link_from b a)) (got' (link_from b a)) open' (now_in.ins a within)
+    (λ x. ap (rounds_in n) k.stage_is) refl (ap (λ (t : State). (in_at t a).due) is ∙ due) (sym (ap (λ (t : State). (in_at t a).due) settled) ∙ came) (c.go_round.ensures.round.collected a within)
+    ∙ (λ i. entries_in (exchange_parcel (epoch i) n (got' (number (k.ranks i) a (k.rank i))))))

@@ -213,3 +213,34 @@ returns-clause-asked g c = λ ok a w due.
     let idle' : ℕ → Bool = g.P.Port.idle c.collect_all.new.port in
     subst (λ l. InVain (g.P.Port.noted c.args.port.now l) (noted' l) (idle' l)) number_is
     (subst (λ (counts : ℕ → ℕ). InVain (counts (number n a st.rank)) (noted' (number n a st.rank)) (idle' (number n a st.rank))) c.post_all.ensures.noted (c.collect_all.ensures.in_vain a u due))
+
+pub returns-in_err-post_all-clause-round : goal.returns-in_err-post_all-clause-round
+returns-in_err-post_all-clause-round g c =
+    let st : State = record {
+      ranks = c.self.inside.ranks;
+      rank = c.self.inside.rank;
+      stage = c.self.inside.stage;
+      done = c.self.inside.done;
+      epoch = c.self.inside.epoch;
+      outs = c.self.inside.outs.items;
+      ins = c.self.inside.ins.items;
+      popped = c.self.inside.popped;
+    } in
+    let now : State = c.args.self.now in
+    let view : st ≡ now = c.self.view_is in
+    let s : IsStack g.row.CAP st = c.self.invariant.standing in
+    let b : Before st c.args.last c.args.exchange = before st now c.args.last c.args.exchange view c.requires.in_round c.requires.exchange c.requires.last c.requires.forgotten in
+    let sent : Logs = g.P.Port.sent c.args.port.now in
+    let sent' : Logs = g.P.Port.sent c.post_all.new.port in
+    let got : Logs = g.P.Port.got c.args.port.now in
+    let e = c.post_all.ensures in
+    let p : PostsDone st c.post_all.new.outs.items c.args.last sent sent' got = record {
+      count = e.count;
+      moved = e.moved;
+      law = law_same _ _ _ _ _ _ _ _ (ap dims_of view ∙ sym c.requires.dims) (ap (λ (t : State). t.rank) view ∙ sym c.requires.rank) refl refl e.law;
+      grows = e.grows;
+    } in
+    let q : CollectsDone st st.ins c.args.exchange sent' got got = none_done st c.args.exchange sent' got in
+    subst (λ (logs : Logs). MadeRound c.args.last c.args.exchange now (after_round st c.post_all.new.outs.items st.ins) sent sent' got logs) (sym e.got)
+    (subst (λ (t : State). MadeRound c.args.last c.args.exchange t (after_round st c.post_all.new.outs.items st.ins) sent sent' got got) view
+    (round_done g.row.CAP st c.post_all.new.outs.items st.ins c.args.last c.args.exchange sent sent' got got s b p q))

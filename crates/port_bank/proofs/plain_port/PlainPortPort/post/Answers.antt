@@ -7,8 +7,8 @@ use Rattle.port_bank.proofs.Ports.{idle_here, none_falls, post_turn}
 use Rattle.port_bank.proofs.Owners.{starting_own}
 use Rattle.port_bank.proofs.plain_port.PlainPortPort.post.Goals as goal
 
-pub post-requires : goal.post-requires
-post-requires g c =
+pub post-answer-requires : goal.post-answer-requires
+post-answer-requires g c =
     let b = c.args.self.now.bank in (
       lit< tt,
       (
@@ -29,13 +29,13 @@ post-requires g c =
 pub returns-clause-idle_here : goal.returns-clause-idle_here
 returns-clause-idle_here g c =
     let b = c.args.self.now.bank in
-    let within : c.args.link < length b.channels = omega (arith, c.requires.link, c.post.ensures.number) in
-    idle_here c.args.self.now.rank b c.post.new.self c.args.link
-    (post_turn b c.post.new.self c.args.link c.post.result (shipped c.args.p.now) within c.post.ensures.sent c.post.ensures.no_room c.post.ensures.no_memory)
+    let within : c.args.link < length b.channels = omega (arith, c.requires.link, c.post-answer.ensures.number) in
+    idle_here c.args.self.now.rank b c.post-answer.new.self c.args.link
+    (post_turn b c.post-answer.new.self c.args.link c.post-answer.result (shipped c.args.p.now) within c.post-answer.ensures.sent c.post-answer.ensures.no_room c.post-answer.ensures.no_memory)
 
 pub returns-clause-looks_out : goal.returns-clause-looks_out
 returns-clause-looks_out g c =
     let b = c.args.self.now.bank in
-    let within : c.args.link < length b.channels = omega (arith, c.requires.link, c.post.ensures.number) in
-    none_falls (λ x. x.looks_out) b c.post.new.self c.args.link
-    (post_turn b c.post.new.self c.args.link c.post.result (shipped c.args.p.now) within c.post.ensures.sent c.post.ensures.no_room c.post.ensures.no_memory) c.post.ensures.looks
+    let within : c.args.link < length b.channels = omega (arith, c.requires.link, c.post-answer.ensures.number) in
+    none_falls (λ x. x.looks_out) b c.post-answer.new.self c.args.link
+    (post_turn b c.post-answer.new.self c.args.link c.post-answer.result (shipped c.args.p.now) within c.post-answer.ensures.sent c.post-answer.ensures.no_room c.post-answer.ensures.no_memory) c.post-answer.ensures.looks

@@ -21,7 +21,7 @@ use Rattle.hop_core.specs.State.{State}
 use Rattle.convey.specs.Agreement.{Ends}
 use Rattle.convey.specs.Arrived.{HasArrived}
 use Rattle.convey.specs.Buffers.{buffers_of, in_of, out_of}
-use Rattle.convey.specs.Conveyors.{standing_toward}
+use Rattle.convey.specs.Conveyors.{HoldsAtMost, standing_toward}
 use Rattle.convey.specs.Due.{Wants, IsOver, NextIs, HeldUp, next_link}
 use Rattle.convey.specs.Progress.{progress_of}
 use Rattle.convey.specs.declared.progress.Progress.TheVariants as progress
@@ -206,9 +206,9 @@ module _ {S : Type 0} (R : Rules S) (cap : ℕ) (run : Running S) (c0 c1 c2 c3 :
         shape = λ l b e was. subst (λ s. IsConveyorShape s cap (sent' l)) steady10 (grown.shape l (subst (λ s. IsConveyorShape s cap (sent l)) (sym steady10) was));
       }
 
-  pub advanced_leaves : (fewer : NoMore c2 c3) → R.emissions prog ≡ R.emissions run.prog → Handed cap (to_send R run.prog run.sends) c0 c1 run.next next
+  pub advanced_leaves : HoldsAtMost cap c1 → (fewer : NoMore c2 c3) → R.emissions prog ≡ R.emissions run.prog → Handed cap (to_send R run.prog run.sends) c0 c1 run.next next
       → OnConveyor R cap run (record { prog = prog; round = run.round; sends = run.sends; next = next; sum = sum; spoiled = spoiled }) c0 c3 got got'
-  advanced_leaves fewer emissions handed =
+  advanced_leaves fits fewer emissions handed =
       let same : to_send R run.prog run.sends ≡ to_send R prog run.sends = sym (same_sends R prog run.prog run.sends emissions) in
       record {
         lies = λ l more b e g.
@@ -216,6 +216,7 @@ module _ {S : Type 0} (R : Rules S) (cap : ℕ) (run : Running S) (c0 c1 c2 c3 :
             let rest = grown.lies l more (below10 l b) (reader10 l e) g in
             omega (arith, ap length ins, lies_less (in_of c1 l).parcel.untaken (flat_map (λ (p : Shipped). p.entries) more) (in_of c2 l).parcel.untaken (in_of c3 l).parcel.untaken rest (fewer l));
         at_push = c1;
+        fits = fits;
         pushed = subst (λ (es : List (ℕ × Item)). Handed cap es c0 c1 run.next next) same handed;
         done = ap (λ (c : State). c.done) takes.same ∙ (adv.done_is ∙ (all ∙ ap (λ (es : List (ℕ × Item)). next == length es) same));
       }

@@ -9,6 +9,7 @@ use Rattle.port_bank.specs.Logs.{Logs}
 use Rattle.hop_core.specs.Link.{is_due}
 use Rattle.hop_core.specs.State.{State}
 use Rattle.convey.specs.Buffers.{in_of, out_of}
+use Rattle.convey.specs.Conveyors.{HoldsAtMost}
 use Rattle.exstack.specs.declared.stage.Stage.TheVariants.{Filling}
 use Rattle.exstack.specs.State.{State as Stack}
 use Rattle.exstack.specs.State.{out_at, in_at, link_to, link_from}
@@ -40,13 +41,15 @@ pub record AfterMoves {S : Type 0} (R : Rules S) (cap : ℕ) (n n' : NodeState S
 
 -- What a turn over a conveyor leaves besides.
 -- lies: an inbox holds at most what it held and what came.
--- pushed: what its pushes made of the conveyor before it advanced. They go on until the open parcel toward the next
+-- at_push: the conveyor as its pushes left it, before it advanced, with no more in a parcel than it holds.
+-- pushed: what they made of it. They go on until the open parcel toward the next
 -- item's receiver is full, or until no item is left.
 -- done: the rank is done exactly where all its items are pushed.
 pub record OnConveyor {S : Type 0} (R : Rules S) (cap : ℕ) (run run' : Running S) (c c' : State) (got got' : Logs) : Type 0 where
   pub lies : (l : ℕ) (more : List Shipped) → l < links c.dims → reader_at c.dims l ≡ c.rank → got' l ≡ got l ++ more
       → length (in_of c' l).parcel.untaken ≤ length (in_of c l).parcel.untaken + length (flat_map (λ p. p.entries) more)
   pub at_push : State
+  pub fits : HoldsAtMost cap at_push
   pub pushed : Handed cap (to_send R run'.prog run'.sends) c at_push run.next run'.next
   pub done : c'.done ≡ (run'.next == length (to_send R run'.prog run'.sends))
 

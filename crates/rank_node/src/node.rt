@@ -135,7 +135,8 @@ impl<Q: Program, const CAP: usize, const HOPS: usize> Node<Q, CAP, HOPS> {
         ensures rest { P.rest port.new ≡ P.rest port.old }
         ensures memory { P.Memory.GROWS ≡ false → IsOk result }
 
-        // It advances or polls once: the lists only grow, each by one parcel at most, and of the transport's shape.
+        // It advances or polls once: the lists only grow, each by one parcel at most, and of the transport's shape, so that
+        // over conveyors that aren't steady items travel in few parcels (`port_bank::few_parcels_law`).
         ensures sent_grows { (l : ℕ) → Begins (P.sent port.old l) (P.sent port.new l) }
         ensures got_grows { (l : ℕ) → Begins (P.got port.old l) (P.got port.new l) }
         ensures one_sent { (l : ℕ) → l < links (dims_of self.old.mover)

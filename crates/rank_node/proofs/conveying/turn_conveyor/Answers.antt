@@ -165,7 +165,7 @@ returns-in_err-progress-clause-leaves g c =
       sound = c.known.ensures.sound;
       taken = λ h rank round next sends v a. c.take_all-run.ensures.taken h rank round next sends sent' got' v a;
     } in
-    advanced_leaves R g.row.CAP run c0 c1 c2 c3 next prog' sum' spoiled' done (is_complete c2.phase) voting sent got sent' got' push all adv grown (sym c.votes_now-voting.ensures) takes c.take_all-run.ensures.fewer c.take_all-run.ensures.emissions
+    advanced_leaves R g.row.CAP run c0 c1 c2 c3 next prog' sum' spoiled' done (is_complete c2.phase) voting sent got sent' got' push all adv grown (sym c.votes_now-voting.ensures) takes c.advance-progress.ensures.fits c.take_all-run.ensures.fewer c.take_all-run.ensures.emissions
     (record {
       same = c.push_all-run.ensures.same;
       kept = c.push_all-run.ensures.kept;
@@ -284,7 +284,7 @@ returns-clause-leaves g c =
       sound = c.known.ensures.sound;
       taken = λ h rank round next sends v a. c.take_all-run.ensures.taken h rank round next sends sent' got' v a;
     } in
-    advanced_leaves R g.row.CAP run c0 c1 c2 c3 next prog' sum' spoiled' done (is_complete c2.phase) voting sent got sent' got' push all adv grown (sym c.votes_now-voting.ensures) takes c.take_all-run.ensures.fewer c.take_all-run.ensures.emissions
+    advanced_leaves R g.row.CAP run c0 c1 c2 c3 next prog' sum' spoiled' done (is_complete c2.phase) voting sent got sent' got' push all adv grown (sym c.votes_now-voting.ensures) takes c.advance-progress.ensures.fits c.take_all-run.ensures.fewer c.take_all-run.ensures.emissions
     (record {
       same = c.push_all-run.ensures.same;
       kept = c.push_all-run.ensures.kept;

@@ -18,7 +18,7 @@ use std::alloc::Global;
 use std::sync::Wait;
 use std::thread::Threads;
 
-/// Drives the programs of all ranks, each on a thread of its own, as `drive_threads` does, over parcels of `cap` entries (a power of two from 1 to 1,024) and
+/// Drives the programs of all ranks, on threads, as `drive_threads` does, over parcels of `cap` entries (a power of two from 1 to 1,024) and
 /// routes of as many hops as the grid has numbers.
 ///
 /// # Errors

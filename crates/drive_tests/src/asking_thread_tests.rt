@@ -1,4 +1,4 @@
-//! Askers with each rank on a thread, by hand and on grids of one to three hops, and with every rank kept by the caller.
+//! Askers on threads, by hand and on grids of one to three hops, and with every rank kept by the caller.
 
 ghost use Rattle.std.specs.Prelude.{◌≡◌, ◌<◌, ◌≤◌, length};
 ghost use Rattle.case_table.specs.Capacities.{IsCapacity};
@@ -51,7 +51,7 @@ fn ask_side_by_side<R: Threads + Wait + Sync, G: Gate + Sync>(
 }
 
 /// Rank 0 asks rank 1.
-fn by_hand<R: Threads + Wait + Sync, G: Gate + Sync>(
+pub(crate) fn by_hand<R: Threads + Wait + Sync, G: Gate + Sync>(
     rt: &R,
     alloc: Global,
     gate: &G,
@@ -72,11 +72,12 @@ fn on_buffers<R: Threads + Wait + Sync>(
     ])
 }
 
-/// All ranks ask, and the caller turns those from the number `threads` on.
+/// All ranks ask, in so many crews, of which the caller turns those from the number `threads` on.
 fn ask_here<const CAP: usize, const HOPS: usize, R: Threads + Wait + Sync>(
     rt: &R,
     alloc: Global,
     grid: &Grid,
+    crews: usize,
     threads: usize,
 ) -> Result<Told, NoMemory>
     requires some { 0 < CAP }
@@ -85,7 +86,7 @@ fn ask_here<const CAP: usize, const HOPS: usize, R: Threads + Wait + Sync>(
 {
     let askers = adders_of(alloc, grid.ranks(), grid.ranks())?;
     let Finished { progs, rounds } = thread_with::<CAP, HOPS, R, _, OpenGate>(
-        rt, alloc, grid, 2, true, askers, &OpenGate, threads,
+        rt, alloc, grid, 2, true, askers, &OpenGate, crews, threads,
     )?;
     Ok((have_heard(&progs), rounds.len()))
 }
@@ -117,17 +118,17 @@ fn askers_kept_by_the_caller(rt: HostRuntime) -> Result<(), Fail> {
     let alloc = rt.alloc();
     if let Ok(grid) = Grid::new(&[2]) {
         assert_eq!(rt;
-            ask_here::<1, 1, HostRuntime>(&rt, alloc, &grid, 0)?,
+            ask_here::<1, 1, HostRuntime>(&rt, alloc, &grid, 2, 0)?,
             (2, 2)
         );
     }
     if let Ok(grid) = Grid::new(&[2, 2, 2]) {
         assert_eq!(rt;
-            ask_here::<2, 3, HostRuntime>(&rt, alloc, &grid, 0)?,
+            ask_here::<2, 3, HostRuntime>(&rt, alloc, &grid, 1, 0)?,
             (8, 2)
         );
         assert_eq!(rt;
-            ask_here::<64, 3, HostRuntime>(&rt, alloc, &grid, 3)?,
+            ask_here::<64, 3, HostRuntime>(&rt, alloc, &grid, 3, 2)?,
             (8, 2)
         );
     }

@@ -9,6 +9,10 @@ mod asking_tests;
 #[cfg(test)]
 mod asking_thread_tests;
 #[cfg(test)]
+mod gate_tests;
+#[cfg(test)]
+mod order_tests;
+#[cfg(test)]
 mod refused_tests;
 #[cfg(test)]
 mod serial_tests;

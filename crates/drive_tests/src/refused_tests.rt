@@ -2,7 +2,7 @@
 ghost use Rattle.std.specs.Prelude.{◌≡◌, ◌<◌};
 
 use crate::serial_tests::order_of;
-use crate::watched::{Deed, Watch, Watched, drive_on, progs_of};
+use crate::watched::{Deed, Hands, Watch, Watched, drive_on, progs_of};
 use bale_types::NoMemory;
 use rank_group::{Gate, Steps, Via, drive_serial};
 use route_tensor::Grid;
@@ -44,11 +44,12 @@ fn unseen(alloc: Global, count: usize) -> Result<Vec<AtomicBool>, NoMemory> {
 fn refused_absorbs(rt: HostRuntime) -> Result<(), Fail> {
     let all: &[u32] = &[0, 1, 2, 3];
     let lists = [all; 4];
-    for (threads, via) in [
-        (0, Via::Convey),
-        (2, Via::Exstack),
-        (4, Via::Convey),
-        (4, Via::Exstack),
+    for (hands, via) in [
+        (Hands::Crews(1, 0), Via::Convey),
+        (Hands::Crews(4, 2), Via::Exstack),
+        (Hands::Crews(3, 3), Via::Convey),
+        (Hands::Threads, Via::Convey),
+        (Hands::Threads, Via::Exstack),
     ] {
         let watch = Watch::new();
         let gate = Seen {
@@ -63,7 +64,7 @@ fn refused_absorbs(rt: HostRuntime) -> Result<(), Fail> {
             &watch,
             Deed::Refuses,
             &gate,
-            threads,
+            hands,
             via,
         );
         assert!(rt; told.is_err());

@@ -1,5 +1,5 @@
 //! Ranks on threads turn side by side, and absorb during the exchange.
-use crate::watched::{Deed, Watch, drive_on};
+use crate::watched::{Deed, Hands, Watch, drive_on};
 use rank_group::{Gate, OpenGate, Via};
 use std::sync::atomic::Ordering;
 use std::test::Fail;
@@ -35,7 +35,7 @@ fn absorbs_while_ranks_turn(rt: HostRuntime) -> Result<(), Fail> {
         &watch,
         Deed::Absorbs,
         &gate,
-        2,
+        Hands::Threads,
         Via::Convey,
     )?;
     let Some((counts, epochs)) = told else {
@@ -59,7 +59,7 @@ fn two_ranks_look_for_each_other(rt: HostRuntime) -> Result<(), Fail> {
         &watch,
         Deed::Looks,
         &OpenGate,
-        2,
+        Hands::Threads,
         Via::Convey,
     )?;
     let Some((counts, epochs)) = told else {

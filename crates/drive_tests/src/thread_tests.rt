@@ -1,5 +1,5 @@
 //! Runs on threads in a row, by both transports, and ranks that have no thread.
-use crate::watched::{Deed, Watch, drive_on, run_watched};
+use crate::watched::{Deed, Hands, Watch, drive_on, run_watched};
 use bale_types::NoMemory;
 use rank_group::{OpenGate, Via};
 use route_tensor::Grid;
@@ -25,7 +25,7 @@ fn rounds_of_two_runs<R: Threads + Wait + Sync>(
         &watch,
         Deed::Counts,
         &OpenGate,
-        2,
+        Hands::Threads,
         Via::Convey,
     )?;
     let two = run_watched(
@@ -36,7 +36,7 @@ fn rounds_of_two_runs<R: Threads + Wait + Sync>(
         &watch,
         Deed::Counts,
         &OpenGate,
-        2,
+        Hands::Threads,
         Via::Exstack,
     )?;
     let mut rounds = one.rounds;
@@ -55,13 +55,17 @@ fn rounds_in_a_row(rt: HostRuntime) -> Result<(), Fail> {
 fn the_caller_drives_what_has_no_thread(rt: HostRuntime) -> Result<(), Fail> {
     let all: &[u32] = &[0, 1, 2, 3, 3];
     let lists = [all; 4];
-    for (threads, via) in [
-        (0, Via::Convey),
-        (1, Via::Exstack),
-        (3, Via::Convey),
-        (3, Via::Exstack),
-        (4, Via::Convey),
-        (4, Via::Exstack),
+    for (hands, via) in [
+        (Hands::Crews(1, 0), Via::Convey),
+        (Hands::Crews(4, 0), Via::Convey),
+        (Hands::Crews(4, 1), Via::Exstack),
+        (Hands::Crews(4, 3), Via::Convey),
+        (Hands::Crews(3, 2), Via::Exstack),
+        (Hands::Crews(3, 3), Via::Convey),
+        (Hands::Crews(2, 2), Via::Exstack),
+        (Hands::Crews(2, 1), Via::Convey),
+        (Hands::Threads, Via::Convey),
+        (Hands::Threads, Via::Exstack),
     ] {
         let watch = Watch::new();
         let told = drive_on(
@@ -72,7 +76,7 @@ fn the_caller_drives_what_has_no_thread(rt: HostRuntime) -> Result<(), Fail> {
             &watch,
             Deed::Counts,
             &OpenGate,
-            threads,
+            hands,
             via,
         )?;
         let Some((counts, epochs)) = told else {

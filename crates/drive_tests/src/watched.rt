@@ -12,12 +12,15 @@ use route_tensor::Grid;
 use std::alloc::Global;
 use std::marker::Model;
 use std::sync::Wait;
-use std::sync::atomic::{AtomicBool, Ordering};
+use std::sync::atomic::{AtomicBool, AtomicU64, Ordering};
 use std::thread;
 use std::thread::Threads;
 
 /// How often a hold looks before it gives up.
 const TRIES: u64 = 1_000_000_000;
+
+/// A log of six digits is full.
+const LOGGED: u64 = 0x10_0000;
 
 /// What the ranks and the gate of a test tell each other.
 #[derive(Drop)]
@@ -33,6 +36,8 @@ pub(crate) struct Watch {
     one_asked: AtomicBool,
     /// Something was not as it should be.
     pub(crate) noted: AtomicBool,
+    /// Which ranks were turned, one after the other on one thread: each hexadecimal digit is one more than a rank.
+    turns: AtomicU64,
 }
 
 impl Watch {
@@ -44,7 +49,22 @@ impl Watch {
             zero_asked: AtomicBool::new(false),
             one_asked: AtomicBool::new(false),
             noted: AtomicBool::new(false),
+            turns: AtomicU64::new(0),
         }
+    }
+
+    /// Logs that a rank is turned, where another was before it, for the first few turns.
+    fn log(&self, rank: u32) {
+        let turns = self.turns.load(Ordering::SeqCst);
+        let digit = u64::from(rank).saturating_add(1);
+        if turns < LOGGED && turns % 16 != digit {
+            self.turns.store(turns * 16 + digit, Ordering::SeqCst);
+        }
+    }
+
+    /// The log.
+    pub(crate) fn turns(&self) -> u64 {
+        self.turns.load(Ordering::SeqCst)
     }
 
     /// Waits for a flag; notes where it gives up.
@@ -89,6 +109,8 @@ pub(crate) enum Deed {
     Looks,
     /// Rank 2 refuses each absorb.
     Refuses,
+    /// Logs each turn.
+    Logs,
 }
 
 /// A counting program that is watched.
@@ -136,6 +158,9 @@ impl<'a> Program for Watched<'a> {
     }
 
     fn count(&self) -> u64 {
+        if self.deed == Deed::Logs {
+            self.watch.log(self.inner.rank());
+        }
         self.inner.count()
     }
 
@@ -209,7 +234,16 @@ pub(crate) fn progs_of<'a>(
     Ok(progs)
 }
 
-/// Drives watched programs over parcels of one entry, the first `threads` of them on a thread each.
+/// Who turns the ranks of a drive.
+#[derive(Clone, Copy, PartialEq, Eq, Debug)]
+pub(crate) enum Hands {
+    /// Threads, as many as `drive_threads` finds right.
+    Threads,
+    /// So many crews, of which the first few have a thread each: (crews, threads).
+    Crews(usize, usize),
+}
+
+/// Drives watched programs over parcels of one entry.
 pub(crate) fn run_watched<'a, R: Threads + Wait + Sync, G: Gate + Sync>(
     rt: &R,
     alloc: Global,
@@ -218,31 +252,20 @@ pub(crate) fn run_watched<'a, R: Threads + Wait + Sync, G: Gate + Sync>(
     watch: &'a Watch,
     deed: Deed,
     gate: &G,
-    threads: usize,
-    via: Via,
-) -> Result<Finished<Watched<'a>>, NoMemory>
-    requires hops { length grid.now ≡ 1 }
-{
-    let ranks = grid.ranks();
-    let progs = progs_of(alloc, ranks, lists, watch, deed)?;
-    drive_with::<1, 1, R, Watched<'a>, G>(rt, alloc, grid, via, 2, false, progs, gate, threads)
-}
-
-/// The same with a thread for each rank, by the call that programs make.
-fn run_on_threads<'a, R: Threads + Wait + Sync, G: Gate + Sync>(
-    rt: &R,
-    alloc: Global,
-    grid: &Grid,
-    lists: &[&[u32]],
-    watch: &'a Watch,
-    deed: Deed,
-    gate: &G,
+    hands: Hands,
     via: Via,
 ) -> Result<Finished<Watched<'a>>, NoMemory>
     requires hops { length grid.now ≡ 1 }
 {
     let progs = progs_of(alloc, grid.ranks(), lists, watch, deed)?;
-    drive_threads::<1, 1, R, Watched<'a>, G>(rt, alloc, grid, via, 2, false, progs, gate)
+    match hands {
+        Hands::Threads => {
+            drive_threads::<1, 1, R, Watched<'a>, G>(rt, alloc, grid, via, 2, false, progs, gate)
+        }
+        Hands::Crews(crews, threads) => drive_with::<1, 1, R, Watched<'a>, G>(
+            rt, alloc, grid, via, 2, false, progs, gate, crews, threads,
+        ),
+    }
 }
 
 /// The same, and how often each column was named, and the epochs.
@@ -254,16 +277,14 @@ fn drive_watched<R: Threads + Wait + Sync, G: Gate + Sync>(
     watch: &Watch,
     deed: Deed,
     gate: &G,
-    threads: usize,
+    hands: Hands,
     via: Via,
 ) -> Result<(Vec<u64>, u64), NoMemory>
     requires hops { length grid.now ≡ 1 }
 {
-    let Finished { progs, rounds } = if threads == grid.ranks() as usize {
-        run_on_threads(rt, alloc, grid, lists, watch, deed, gate, via)?
-    } else {
-        run_watched(rt, alloc, grid, lists, watch, deed, gate, threads, via)?
-    };
+    let Finished { progs, rounds } = run_watched(
+        rt, alloc, grid, lists, watch, deed, gate, hands, via,
+    )?;
     let mut all = vec![in alloc; 0u64; grid.ranks() as usize]?;
     for r in 0..progs.len() {
         if let Some(prog) = progs.get(r) {
@@ -295,12 +316,12 @@ pub(crate) fn drive_on<R: Threads + Wait + Sync, G: Gate + Sync>(
     watch: &Watch,
     deed: Deed,
     gate: &G,
-    threads: usize,
+    hands: Hands,
     via: Via,
 ) -> Result<Option<(Vec<u64>, u64)>, NoMemory> {
     let Ok(grid) = Grid::new(&[ranks]) else {
         return Ok(None);
     };
-    let told = drive_watched(rt, alloc, &grid, lists, watch, deed, gate, threads, via)?;
+    let told = drive_watched(rt, alloc, &grid, lists, watch, deed, gate, hands, via)?;
     Ok(Some(told))
 }

@@ -1,4 +1,4 @@
-//! Measures how many items a second ranks exchange, each on a thread of its own, over conveyors on slot links.
+//! Measures how many items a second ranks exchange, on threads, over conveyors on slot links.
 //!
 //! The words are `P N B [REPS] [GRID]`: each of P ranks sends N items to ranks that a seed chooses, B of which travel together (1, 2, 8, 64 or
 //! 1,024). After a run that isn't measured come REPS others (5), over the grid GRID (one number, P). For each it prints how many items a second

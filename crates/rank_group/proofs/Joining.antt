@@ -1,8 +1,8 @@
 -- Ranks come back, one after the other.
-use Rattle.std.proofs.Common.{◌≡◌, ℕ, ◌<◌, ◌≤◌, List, [], ◌∷◌, ◌++◌, length, length-append, map, reverse, slice_get, Some, refl, sym, ap, subst, ◌∙◌, arith, inl, inr}
-use Rattle.std.proofs.lemmas.Bool.{cases_lt}
+use Rattle.std.proofs.Common.{◌≡◌, ℕ, ◌+◌, ◌<◌, ◌≤◌, List, [], ◌∷◌, ◌++◌, length, length-append, map, reverse, slice_get, slice_set, Some, refl, sym, ap, subst, ◌∙◌, arith, inl, inr}
+use Rattle.std.proofs.lemmas.Bool.{cases_eq, cases_lt}
 use Rattle.std.proofs.lemmas.List.{length-map, length-reverse, map-append, reverse-append}
-use Rattle.list_laws.proofs.Lists.{within, get_once, get_last, get_before}
+use Rattle.list_laws.proofs.Lists.{within, get_once, get_here, get_other, get_last, get_before}
 use Rattle.rank_group.specs.Runs.{AllRan}
 
 -- the element at hand stands behind those before it
@@ -31,6 +31,14 @@ ran_more {S} ran xs ys x y all one = record { all = omega (arith, length-append 
         let eb : y ≡ b = get_once (ys ++ y ∷ []) (length ys) y b (get_last ys y) (subst (λ k. slice_get (ys ++ y ∷ []) k ≡ Some b) f hb) in
         subst (λ z. ran z b) ea (subst (λ z. ran x z) eb one)
   ]
+
+-- what holds of the first elements, once the next was changed to one of which it holds
+pub holds_further : {X : Type 0} (P : X → Type 0) (xs : List X) (i : ℕ) (y : X) → i < length xs → ((k : ℕ) (x : X) → k < i → slice_get xs k ≡ Some x → P x) → P y
+    → (k : ℕ) (x : X) → k < i + 1 → slice_get (slice_set xs i y) k ≡ Some x → P x
+holds_further P xs i y low so_far one k x below e = elim (cases_eq k i) [
+  | inl here ↦ subst P (get_once (slice_set xs i y) i y x (get_here xs i y low) (subst (λ j. slice_get (slice_set xs i y) j ≡ Some x) here e)) one
+  | inr other ↦ so_far k x (omega (arith, below, other)) (sym (get_other xs i k y other) ∙ e)
+]
 
 -- The ranks of some children have come back from the end on, and one child more is taken.
 module _ {S C : Type 0} (ran : S → S → Type 0) (f : C → S) (back ys : List S) (all now rest : List C) (x : C) (left : back ++ reverse (map f now) ≡ reverse (map f all)) (is : now ≡ rest ++ x ∷ [])

@@ -2,6 +2,7 @@ pub mod Counted
 pub mod OneTurn
 pub mod OnWay
 pub mod Joining
+pub mod Crewed
 pub mod Places
 pub mod Threaded
 pub mod Ranked
@@ -19,6 +20,7 @@ pub mod Telling
 pub mod Ended
 pub mod Orders
 pub mod Sweeps
+pub mod Ordered
 pub mod Bounded
 pub mod Halves
 pub mod Cycled

@@ -1,5 +1,5 @@
 -- A rank on its way stays on it by a turn.
-use Rattle.std.proofs.Common.{◌≡◌, ℕ, ◌+◌, ◌≤◌, ◌||◌, Bool, true, false, refl, sym, subst, arith}
+use Rattle.std.proofs.Common.{◌≡◌, ℕ, ◌+◌, ◌≤◌, true, false, refl, sym, subst, arith}
 use Rattle.std.proofs.lemmas.Bool.{true≢false}
 use Rattle.link_slots.specs.Seen.{Manning, named, posted_on, collected_from}
 use Rattle.link_slots.proofs.Ported.{one_bank}
@@ -7,11 +7,6 @@ use Rattle.round_program.specs.Rules.{Rules}
 use Rattle.rank_node.specs.Movers.{Manner, epoch_in}
 use Rattle.rank_group.specs.Ranks.{RankState, IsRank}
 use Rattle.rank_group.specs.Seats.{SeatedState, bank_of, HasWay, Ran}
-
--- neither of two, where their or is false
-pub neither : (a b : Bool) → (a || b) ≡ false → (a ≡ false) × (b ≡ false)
-neither true b e = absurd (true≢false e)
-neither false b e = (refl, e)
 
 -- a rank that was turned is still on some way
 pub has_way : {S : Type 0} (R : Rules S) (cap : ℕ) (x y : SeatedState S) → HasWay R cap x → Ran R cap x y → HasWay R cap y

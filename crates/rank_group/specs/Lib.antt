@@ -1,8 +1,13 @@
 pub mod Closes
 pub mod Ranks
+pub mod Turns
 pub mod Runs
+pub mod RunLaws
+pub mod Crews
 pub mod Seats
 pub mod SeatLaws
+pub mod Noted
+pub mod NotedLaws
 pub mod Children
 pub mod Worlds
 pub mod Drives

@@ -5,10 +5,10 @@ use crate::gate::Gate;
 use crate::job::{Job, do_job};
 use crate::seated::Seated;
 use crate::shared::Shared;
+use crate::waiting::wait_a_little;
 use rank_node::Steps;
 use std::sync::Wait;
 use std::sync::ledger::Ledger;
-use std::thread;
 
 /// A rank at its ports, and what it shares with the others.
 pub struct Alone<'a, R: Wait, A: Seated, G: Gate> {
@@ -23,12 +23,15 @@ impl<'a, R: Wait, A: Seated, G: Gate> Job for Alone<'a, R, A, G> {
 
     fn work<L: Ledger>(self, steps: &mut Steps<L>) -> Self {
         let Alone { shared, mut at } = self;
+        let mut vain = 0;
         for _ in shared.rt.forever() {
             if at.is_over() {
                 return Alone { shared, at };
             }
-            if !at.turn(shared.rt, shared.gate, steps) {
-                thread::yield_now();
+            if at.turn(shared.rt, shared.gate, steps) {
+                vain = 0;
+            } else {
+                vain = wait_a_little(vain);
             }
         }
         unreachable!()

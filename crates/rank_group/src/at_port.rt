@@ -2,11 +2,11 @@
 ghost use Rattle.std.specs.Prelude.{◌≡◌, ◌<◌, ◌^◌};
 
 use crate::gate::Gate;
+use crate::noting::NotingPort;
 use crate::seated::Seated;
 use crate::sweeping::Rank;
 use crate::turning::turn_over;
 use bale_types::NoMemory;
-use link_slots::SlotPort;
 use port_bank::Port;
 use rank_node::Steps;
 use round_program::Program;
@@ -22,7 +22,7 @@ const TURNS: u64 = 1 << 63;
 #[derive(Drop)]
 pub struct AtPort<'a, Q: Program, const CAP: usize, const HOPS: usize> {
     pub(crate) rank: Rank<Q, CAP, HOPS>,
-    pub(crate) port: SlotPort<'a, CAP>,
+    pub(crate) port: NotingPort<'a, CAP>,
     /// How many turns it has made.
     pub(crate) turns: u64,
     /// Its run is over, and memory was wanting.
@@ -34,22 +34,28 @@ impl<'a, Q: Program, const CAP: usize, const HOPS: usize> Model for AtPort<'a, Q
 
     ghost Value = { SeatedState Q };
 
-    ghost view = { λ s. record { rank = s.rank; seat = s.port.seat; turns = s.turns; lost = s.lost } };
+    ghost view = { λ s. record { rank = s.rank; seat = s.port.port.seat; turns = s.turns; lost = s.lost } };
 
     ghost invariant = { λ s. HasWay Q.rules CAP
-        (record { rank = s.rank; seat = s.port.seat; turns = s.turns; lost = s.lost }) };
+        (record { rank = s.rank; seat = s.port.port.seat; turns = s.turns; lost = s.lost }) };
 }
 
 impl<'a, Q: Program, const CAP: usize, const HOPS: usize> Seated for AtPort<'a, Q, CAP, HOPS> {
     ghost use Rattle.std.specs.Prelude.{◌||◌};
     ghost use Rattle.rank_group.specs.Seats.{Ran};
     ghost use Rattle.rank_group.specs.SeatLaws.{ran_laws};
+    ghost use Rattle.rank_group.specs.Noted.{HasSame};
+    ghost use Rattle.rank_group.specs.NotedLaws.{same_laws};
 
     ghost ran = { λ x y. Ran Q.rules CAP x y };
 
     ghost over = { λ x. x.rank.over || x.lost };
 
+    ghost still = { λ x y. HasSame x.seat y.seat };
+
     ghost laws = { ran_laws Q.rules CAP };
+
+    ghost still_laws = { same_laws (λ x. x.seat) };
 
     fn is_over(&self) -> bool {
         self.rank.over || self.lost
@@ -64,8 +70,9 @@ impl<'a, Q: Program, const CAP: usize, const HOPS: usize> Seated for AtPort<'a, 
         await_turn(rt, self.turns);
         gate.turn(self.port.rank(), self.turns);
         self.turns += 1;
+        self.port.watch();
         match turn_over(&mut self.rank, &mut self.port, steps) {
-            Ok(moved) => moved,
+            Ok(got_on) => got_on || self.port.moved(),
             Err(NoMemory) => {
                 self.lost = true;
                 true

@@ -2,9 +2,12 @@
 ghost use Rattle.std.specs.Prelude.{◌≡◌, ℕ, ◌+◌, ◌<◌, ◌≤◌, false, List, [], ◌∷◌, length, IfOk};
 ghost use Rattle.route_tensor.specs.Grid.{ranks};
 ghost use Rattle.port_bank.specs.Port.{IsSlots};
+ghost use Rattle.port_bank.specs.Plain.{sent_of, got_of, empty_bank};
 ghost use Rattle.round_program.specs.Canonical.{InRound, HasRounds, EndsWithin, HaveEnded};
 ghost use Rattle.rank_group.specs.declared.closed_round.ClosedRound.{ClosedRound};
-ghost use Rattle.rank_group.specs.Ranks.{IsOrder};
+ghost use Rattle.rank_group.specs.Ranks.{RankState, IsOrder};
+ghost use Rattle.rank_group.specs.Turns.{Scene, SweepsOf};
+ghost use Rattle.rank_group.specs.Drives.{progs_of, AreFresh};
 ghost use Rattle.rank_group.specs.Rounds.{round_of};
 ghost use Rattle.rank_node.specs.Movers.{manner_of};
 ghost use Rattle.rank_group.specs.Told.{TellsRun, turns_within};
@@ -60,6 +63,15 @@ pub fn drive_serial<const CAP: usize, const HOPS: usize, Q: Program, L: Ledger>(
     ensures rounds { IfOk result (λ f. (c : ClosedRound) × (f.rounds ≡ c ∷ []) × ((n : ℕ) → HasRounds Q.rules progs n
         → TellsRun Q.rules progs n (record { dims = grid.now; cap = CAP; slots = slots; by_slots = false })
         (manner_of via steady) (round_of c))) }
+
+    // It made sweeps in the order given, and no other turn.
+    ensures order { IfOk result (λ f. (k : ℕ) × (first : List (RankState Q)) × (last : Scene Q)
+        × AreFresh Q.rules grid.now CAP (manner_of via steady) progs first × (progs_of last.ranks ≡ f.progs)
+        × SweepsOf Q.rules grid.now CAP slots order.now k (record {
+          ranks = first;
+          sent = sent_of (empty_bank grid.now slots);
+          got = got_of (empty_bank grid.now slots);
+        }) last) }
 
     // The turns are bounded before the run, also where it ends in `NoMemory`.
     ensures steps { (n : ℕ) → HasRounds Q.rules progs n

@@ -1,16 +1,17 @@
 //! The ranks that the caller keeps, since no thread could be started for them.
-ghost use Rattle.std.specs.Prelude.{◌≡◌, map};
-ghost use Rattle.rank_group.specs.Children.{first_of};
+ghost use Rattle.std.specs.Prelude.{◌≡◌, ◌⊎◌, map};
+ghost use Rattle.std.specs.List.{All};
+ghost use Rattle.rank_group.specs.Children.{first_of, HasEnded};
 
 use crate::child::Child;
 use crate::gate::Gate;
 use crate::job::{Job, do_job};
 use crate::seated::Seated;
 use crate::shared::Shared;
+use crate::waiting::wait_a_little;
 use rank_node::Steps;
 use std::sync::Wait;
 use std::sync::ledger::Ledger;
-use std::thread;
 
 /// How far the ranks are that the caller keeps, after a turn of each.
 #[derive(Clone, Copy, PartialEq, Eq, Debug)]
@@ -31,32 +32,36 @@ pub struct Keeper<'a, R: Wait, A: Seated, G: Gate> {
 
 impl<'a, R: Wait, A: Seated, G: Gate> Job for Keeper<'a, R, A, G> {
     ghost use Rattle.std.specs.Prelude.{◌≡◌, map};
-    ghost use Rattle.rank_group.specs.Children.{first_of};
+    ghost use Rattle.std.specs.List.{All};
+    ghost use Rattle.rank_group.specs.Children.{first_of, HasEnded};
 
-    ghost ran = { λ a b. map first_of b.children.items ≡ map first_of a.children.items };
+    ghost ran = { λ a b. (map first_of b.children.items ≡ map first_of a.children.items)
+        × All (HasEnded A.over) b.children.items };
 
     fn work<L: Ledger>(self, steps: &mut Steps<L>) -> Self {
         let Keeper {
             shared,
             mut children,
         } = self;
+        let mut vain = 0;
         for _ in shared.rt.forever() {
             match sweep_kept(shared, &mut children, steps) {
                 Kept::Over => return Keeper { shared, children },
-                Kept::Still => thread::yield_now(),
-                Kept::Moved => {}
+                Kept::Still => vain = wait_a_little(vain),
+                Kept::Moved => vain = 0,
             }
         }
         unreachable!()
     }
 }
 
-/// Turns the ranks that the caller keeps, in turns, until the run of each is over.
+/// Turns the crews that the caller keeps, in turns, until the run of each is over.
 pub(crate) fn run_kept<'a, R: Wait, A: Seated, G: Gate>(
     shared: &'a Shared<'a, R, G>,
     children: Vec<Child<A>>,
 ) -> Vec<Child<A>>
-    ensures { map first_of result.items ≡ map first_of children.items }
+    ensures same { map first_of result.items ≡ map first_of children.items }
+    ensures ended { All (HasEnded A.over) result.items }
 {
     let Keeper {
         shared: _,
@@ -71,7 +76,8 @@ fn sweep_kept<'a, R: Wait, A: Seated, G: Gate, L: Ledger>(
     children: &mut Vec<Child<A>>,
     steps: &mut Steps<L>,
 ) -> Kept
-    ensures { map first_of children.new.items ≡ map first_of children.old.items }
+    ensures same { map first_of children.new.items ≡ map first_of children.old.items }
+    ensures ended { result ≡ Kept.Over → All (HasEnded A.over) children.new.items }
 {
     let mut kept = Kept::Over;
     for i in 0..children.len() {
@@ -86,7 +92,8 @@ fn turn_kept<'a, R: Wait, A: Seated, G: Gate, L: Ledger>(
     child: &mut Child<A>,
     steps: &mut Steps<L>,
 ) -> Kept
-    ensures { first_of child.new ≡ first_of child.old }
+    ensures same { first_of child.new ≡ first_of child.old }
+    ensures ended { result ≡ Kept.Over → HasEnded A.over child.new }
 {
     match child {
         Child::There(_) => Kept::Over,
@@ -103,7 +110,12 @@ fn turn_kept<'a, R: Wait, A: Seated, G: Gate, L: Ledger>(
 }
 
 /// How far two ranks are.
-fn both(a: Kept, b: Kept) -> Kept {
+fn both(a: Kept, b: Kept) -> Kept
+    ensures over { (result ≡ Kept.Over → (a ≡ Kept.Over) × (b ≡ Kept.Over))
+        × (a ≡ Kept.Over → b ≡ Kept.Over → result ≡ Kept.Over) }
+    ensures moved { (result ≡ Kept.Moved → (a ≡ Kept.Moved) ⊎ (b ≡ Kept.Moved))
+        × (a ≡ Kept.Moved → result ≡ Kept.Moved) × (b ≡ Kept.Moved → result ≡ Kept.Moved) }
+{
     match (a, b) {
         (Kept::Moved, _) | (_, Kept::Moved) => Kept::Moved,
         (Kept::Still, _) | (_, Kept::Still) => Kept::Still,

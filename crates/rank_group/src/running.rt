@@ -8,6 +8,7 @@ ghost use Rattle.rank_group.specs.Told.{turns_within};
 ghost use Rattle.rank_group.specs.Worlds.{Plan, World};
 ghost use Rattle.rank_group.specs.Drives.{progs_of};
 ghost use Rattle.rank_group.specs.Ranks.{RankState, IsOrder};
+ghost use Rattle.rank_group.specs.Turns.{SweepsOf};
 
 use crate::closes::closes_laws;
 use crate::sweeping::{Rank, sweep};
@@ -34,6 +35,10 @@ pub(crate) fn run_all<const CAP: usize, const HOPS: usize, Q: Program, L: Ledger
     ensures lawful { IfOk result (λ b. IsBank CAP b) }
     ensures same_dims { IfOk result (λ b. b.dims ≡ bank.entry.dims) }
     ensures same_slots { IfOk result (λ b. b.slots ≡ bank.entry.slots) }
+    // It made sweeps in this order, and no other turn.
+    ensures order { IfOk result (λ b. (k : ℕ) × SweepsOf Q.rules bank.entry.dims CAP bank.entry.slots order.now k
+        (record { ranks = all.old.items; sent = sent_of bank.entry; got = got_of bank.entry })
+        (record { ranks = all.new.items; sent = sent_of b; got = got_of b })) }
     ensures over { OnOk result ((r : ℕ) (x : RankState Q) → slice_get all.new.items r ≡ Some x → x.over ≡ true) }
     ensures world { (manner : Manner) (starts : _) (n : ℕ) (h : ℕ → ℕ → Q)
         → Plan Q.rules bank.entry.dims bank.entry.slots starts n

@@ -12,21 +12,26 @@ use std::sync::ledger::Ledger;
 /// | Call | Needs | Answer |
 /// |---|---|---|
 /// | `is_over` | | whether its run is over |
-/// | `turn` | its run isn't over | one turn, of which the gate is told before; whether the rank got on, by what it counts as that |
+/// | `turn` | its run isn't over | one turn, of which the gate is told before; whether the rank got on: else no parcel moved |
 pub trait Seated: Drop {
     ghost ran: { Self → Self → Type 0 };
 
     ghost over: { Self → Bool };
 
+    ghost still: { Self → Self → Type 0 };
+
     /// Whether its run is over: it isn't turned again.
     fn is_over(&self) -> bool
         ensures { result ≡ over self.now };
 
-    /// Makes one turn, once the gate was told of it. Answers whether it got on, by what it counts as that: of a node, that it
-    /// pushed an item or ended an epoch. Where it didn't, others may have to be turned first.
+    /// Makes one turn, once the gate was told of it. Answers whether it got on: a node does where it pushed an item or ended an
+    /// epoch, and where a parcel was posted or collected. Where it didn't, others may have to be turned first.
     fn turn<R: Wait, G: Gate, L: Ledger>(&mut self, rt: &R, gate: &G, steps: &mut Steps<L>) -> bool
         requires going { over self.old ≡ false }
-        ensures ran { ran self.old self.new };
+        ensures ran { ran self.old self.new }
+        ensures still { result ≡ false → still self.old self.new };
 
     ghost laws: { RanLaws ran };
+
+    ghost still_laws: { RanLaws still };
 }

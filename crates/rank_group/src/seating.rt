@@ -9,6 +9,7 @@ ghost use Rattle.rank_group.specs.Seats.{bank_of, AreSeated};
 
 use crate::apart::one_by_one;
 use crate::at_port::AtPort;
+use crate::noting::NotingPort;
 use crate::sweeping::Rank;
 use bale_types::NoMemory;
 use link_slots::{GatherSeat, SlotBank};
@@ -38,7 +39,7 @@ pub(crate) fn seat_all<'a, const CAP: usize, const HOPS: usize, Q: Program>(
     let mut number = 0;
     for rank in one_by_one(alloc, all)? {
         let seat = bank.seat(gather, number);
-        let port = bank.port(seat);
+        let port = NotingPort::new(bank.port(seat));
         seated.push_reserved(AtPort {
             rank,
             port,

@@ -15,6 +15,7 @@ ghost use Rattle.rank_node.specs.Movers.{Manner, dims_of, rank_of, epoch_in};
 ghost use Rattle.rank_node.specs.Nodes.{IsNode};
 ghost use Rattle.rank_group.specs.Worlds.{Plan, World, SweptTo};
 ghost use Rattle.rank_group.specs.Ranks.{RankState, HasRank, AfterTurn, AfterRank, IsOrder};
+ghost use Rattle.rank_group.specs.Turns.{TurnsOf};
 
 use bale_types::NoMemory;
 use port_bank::PlainBank;
@@ -144,6 +145,9 @@ pub(crate) fn sweep<const CAP: usize, const HOPS: usize, Q: Program, L: Ledger>(
     ensures most_steps { steps.new ≤ steps.old + length order.now }
     ensures some_step { (r : ℕ) (x : RankState Q) → slice_get all.old.items r ≡ Some x → x.over ≡ false
         → IfOk result (λ b. steps.old < steps.new) }
+    ensures order { IfOk result (λ b. TurnsOf Q.rules bank.entry.dims CAP bank.entry.slots order.now
+        (record { ranks = all.old.items; sent = sent_of bank.entry; got = got_of bank.entry })
+        (record { ranks = all.new.items; sent = sent_of b; got = got_of b })) }
     ensures swept { (manner : Manner) (starts : List Q) (n : ℕ) (h : ℕ → ℕ → Q)
         → Plan Q.rules bank.entry.dims bank.entry.slots starts n
         → (w : World Q.rules bank.entry.dims CAP bank.entry.slots manner starts h all.old.items (sent_of bank.entry)

@@ -1,4 +1,4 @@
-//! One call that drives all ranks of a grid, each on a thread of its own.
+//! One call that drives all ranks of a grid on threads.
 ghost use Rattle.std.specs.Prelude.{◌≡◌, ℕ, ◌<◌, ◌≤◌, true, List, [], ◌∷◌, length, IfOk};
 ghost use Rattle.route_tensor.specs.Grid.{ranks};
 ghost use Rattle.port_bank.specs.Port.{IsSlots};
@@ -14,6 +14,7 @@ use crate::drive::Finished;
 use crate::gate::Gate;
 use crate::ranks::{ranks_of, take_progs};
 use crate::seating::{gather_all, seat_all};
+use crate::thread_count::threads_for;
 use crate::together::run_together;
 use bale_types::NoMemory;
 use link_slots::SlotBank;
@@ -24,10 +25,11 @@ use std::alloc::Global;
 use std::sync::Wait;
 use std::thread::Threads;
 
-/// Drives the programs of all ranks, from their first round to their last, each on a thread of its own, over one slot bank
-/// with parcels of `CAP` entries and `slots` (1, 2, 4 or 8) parcels on a link at a time. The threads are up over all rounds.
-/// Before each turn of a rank the gate is told of it. A rank whose thread can't be started is driven by the caller, in turns
-/// with the others of its kind.
+/// Drives the programs of all ranks, from their first round to their last, over one slot bank with parcels of `CAP` entries and
+/// `slots` (1, 2, 4 or 8) parcels on a link at a time. With no more ranks than the machine has processors each rank has a thread
+/// of its own; else there are as many threads as processors, and rank r is turned by thread r mod T, in turns with the others of
+/// its crew. The threads are up over all rounds. Before each turn of a rank the gate is told of it. A crew whose thread can't be
+/// started is turned by the caller, in turns with the others of its kind.
 ///
 /// It waits for its threads, and returns where they do.
 ///
@@ -65,11 +67,13 @@ pub fn drive_threads<
         → TellsRun Q.rules progs n (record { dims = grid.now; cap = CAP; slots = slots; by_slots = true })
         (manner_of via steady) (round_of c))) }
 {
-    let threads = grid.ranks() as usize;
-    drive_with::<CAP, HOPS, R, Q, G>(rt, alloc, grid, via, slots, steady, progs, gate, threads)
+    let threads = threads_for(rt, grid.ranks());
+    drive_with::<CAP, HOPS, R, Q, G>(
+        rt, alloc, grid, via, slots, steady, progs, gate, threads, threads,
+    )
 }
 
-/// The same with `threads` threads at most: the caller drives the ranks from that number on.
+/// The same in `crews` crews, of which the first `threads` have a thread each, and the caller turns the others.
 ///
 /// # Errors
 /// As those of `drive_threads`.
@@ -88,6 +92,7 @@ pub fn drive_with<
     steady: bool,
     progs: Progs<Q>,
     gate: &G,
+    crews: usize,
     threads: usize,
 ) -> Result<Finished<Q>, NoMemory>
     requires some { 0 < CAP }
@@ -107,7 +112,7 @@ pub fn drive_with<
     let all = ranks_of::<CAP, HOPS, Q>(alloc, grid, via, steady, progs)?;
     let (bank, mut gather) = SlotBank::<CAP>::new(alloc, grid, slots)?;
     let seated = seat_all(alloc, &bank, &mut gather, all)?;
-    let ended = run_together(rt, alloc, gate, threads, seated)?;
+    let ended = run_together(rt, alloc, gate, crews, threads, seated)?;
     let over = gather_all(alloc, &bank, &mut gather, ended)?;
     let mut rounds = Rounds::new(alloc);
     rounds.add(ClosedRound::Slots(bank.close(gather)))?;

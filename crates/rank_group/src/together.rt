@@ -6,6 +6,7 @@ ghost use Rattle.rank_group.specs.Children.{first_of};
 
 use crate::alone::run_alone;
 use crate::child::{Child, start};
+use crate::dealing::{deal, gather};
 use crate::gate::Gate;
 use crate::keeper::run_kept;
 use crate::seated::Seated;
@@ -19,12 +20,34 @@ use std::sync::atomic::AtomicBool;
 use std::thread;
 use std::thread::{Scope, Threads};
 
-/// Turns all ranks until the run of each is over: the first `threads` of them on a thread each, and those here that have none.
-/// It waits for its threads.
+/// Turns all ranks until the run of each is over, in `crews` crews, rank r in crew r mod `crews`. The first `threads` crews have a
+/// thread each, and those here that have none. It waits for its threads.
 ///
 /// # Errors
 /// `NoMemory` comes before the first turn.
 pub fn run_together<R: Threads + Wait + Sync, A: Seated + Send, G: Gate + Sync>(
+    rt: &R,
+    alloc: Global,
+    gate: &G,
+    crews: usize,
+    threads: usize,
+    all: Vec<A>,
+) -> Result<Vec<A>, NoMemory>
+    ensures ran { IfOk result (λ ended. AllRan A.ran all.items ended.items) }
+    ensures over { IfOk result (λ ended. All (λ y. A.over y ≡ true) ended.items) }
+{
+    let count = all.len();
+    let ended = Vec::with_capacity(alloc, count)?;
+    let dealt = deal(alloc, crews.max(1), all)?;
+    let over = run_each(rt, alloc, gate, threads, dealt)?;
+    Ok(gather(over, count, ended))
+}
+
+/// Turns all ranks, each by itself: the first `threads` of them on a thread each, and those here that have none.
+///
+/// # Errors
+/// `NoMemory` comes before the first turn.
+fn run_each<R: Threads + Wait + Sync, A: Seated + Send, G: Gate + Sync>(
     rt: &R,
     alloc: Global,
     gate: &G,

@@ -3,6 +3,7 @@ use Rattle.port_bank.specs.Plain.{Bank, sent_of, got_of}
 use Rattle.route_tensor.specs.Grid.{ranks}
 use Rattle.rank_node.specs.Movers.{manner_of}
 use Rattle.rank_group.specs.Ranks.{IsOrder}
+use Rattle.rank_group.specs.Turns.{Scene, SweepsOf}
 use Rattle.rank_group.specs.declared.closed_round.ClosedRound.TheVariants.{Plain}
 use Rattle.rank_group.proofs.Ended.{run_needs, steps_at, world_after, have_ended, told}
 use Rattle.rank_group.proofs.drive.drive_serial.Goals as goal
@@ -59,4 +60,17 @@ returns-clause-rounds g c =
       c.in_ok-add.ensures.added ∙ ap (λ xs. xs ++ Plain c.close.result ∷ []) c.new-rounds.ensures,
       λ n rounds.
           told g.Q.Program.rules g.met.Q.Program.laws c.closes_laws.ensures g.row.CAP c.args.grid.now c.args.slots (manner_of c.args.via c.args.steady) c.args.progs w.0 c.run_all.new.all.items c.in_ok-bank-2.bank ed es w.1.ranked (c.in_ok-bank-2.ensures.over) c.requires.begins.0 c.requires.begins.1 n c.requires.begins.2 rounds c.close.result c.close.ensures.round c.close.ensures.in_order,
+    )
+
+pub returns-clause-order : goal.returns-clause-order
+returns-clause-order g c =
+    let swept = c.in_ok-bank-2.ensures.order in
+    let first = c.in_ok-all.all.items in
+    let last : Scene g.row.Q.Denot = record { ranks = c.run_all.new.all.items; sent = sent_of c.in_ok-bank-2.bank; got = got_of c.in_ok-bank-2.bank } in (
+      swept.0,
+      first,
+      last,
+      c.in_ok-all.ensures.fresh,
+      sym c.in_ok-progs.ensures.progs,
+      subst (λ (b : Bank). SweepsOf g.Q.Program.rules b.dims g.row.CAP b.slots c.args.order.now swept.0 (record { ranks = first; sent = sent_of b; got = got_of b }) last) c.in_ok-bank.ensures.made swept.1,
     )

@@ -1,6 +1,11 @@
-use Rattle.std.proofs.Common.{◌≡◌, map}
-use Rattle.rank_group.specs.Children.{first_of}
+use Rattle.std.proofs.Common.{◌≡◌, ◌<◌, ℕ, map, slice_get, Some}
+use Rattle.rank_group.specs.declared.child.Child.{Child}
+use Rattle.rank_group.specs.declared.keeper.Kept.TheVariants.{Over}
+use Rattle.rank_group.specs.Children.{first_of, HasEnded}
 use Rattle.rank_group.proofs.keeper.sweep_kept.Given as goal
 
 abbrev pub invariant-loop-i : goal.invariant-loop-i
-invariant-loop-i g l = record { same : map first_of l.children.items ≡ map first_of l.fn.children.items }
+invariant-loop-i g l = record {
+  same : map first_of l.children.items ≡ map first_of l.fn.children.items;
+  ended : l.kept ≡ Over → (k : ℕ) (x : Child g.row.A.Denot) → k < l.i → slice_get l.children.items k ≡ Some x → HasEnded g.A.Seated.over x;
+}

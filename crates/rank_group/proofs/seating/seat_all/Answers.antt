@@ -6,7 +6,7 @@ pub invariant_of-push_reserved : goal.invariant_of-push_reserved
 invariant_of-push_reserved g c =
     let R = g.Q.Program.rules in
     let x = seated R g.row.CAP c.args.bank.now c.loop-rank.gather c.loop-rank.number c.args.all.items c.loop-rank.yielded c.next.new.self c.loop-rank.rank-iterator c.loop-rank.seated.items c.loop-rank.invariant.seating
-    c.seat-seat.new.g c.in-Some.rank c.port-port.result.seat c.in-Some.ensures.steps _ c.seat-seat.ensures.gather _ _ (c.port-port.ensures.seat ∙ c.seat-seat.ensures.seat) c.requires.fresh.0 c.requires.fresh.1 c.requires.fresh.2 in
+    c.seat-seat.new.g c.in-Some.rank c.new-port.result.port.seat c.in-Some.ensures.steps _ c.seat-seat.ensures.gather _ _ ((c.new-port.ensures.seat ∙ c.port.ensures.seat) ∙ c.seat-seat.ensures.seat) c.requires.fresh.0 c.requires.fresh.1 c.requires.fresh.2 in
     record { manner = c.requires.fresh.0; h = λ m. c.in-Some.rank.node.run.prog; way = x.way }
 
 pub push_reserved-requires : goal.push_reserved-requires
@@ -23,7 +23,7 @@ loop-rank-preserved g c =
     let R = g.Q.Program.rules in
     record {
       seating = seating_more R g.row.CAP c.args.bank.now c.loop-rank.gather c.loop-rank.number c.args.all.items c.loop-rank.yielded c.next.new.self c.loop-rank.rank-iterator c.loop-rank.seated.items c.loop-rank.invariant.seating
-          c.seat-seat.new.g c.in-Some.rank c.port-port.result.seat c.in-Some.ensures.steps _ c.seat-seat.ensures.gather _ _ (c.port-port.ensures.seat ∙ c.seat-seat.ensures.seat) c.push_reserved.new.self.items c.push_reserved.ensures.items;
+          c.seat-seat.new.g c.in-Some.rank c.new-port.result.port.seat c.in-Some.ensures.steps _ c.seat-seat.ensures.gather _ _ ((c.new-port.ensures.seat ∙ c.port.ensures.seat) ∙ c.seat-seat.ensures.seat) c.push_reserved.new.self.items c.push_reserved.ensures.items;
       room = subst (λ n. length c.args.all.items ≤ n) (sym c.push_reserved.ensures.capacity) c.loop-rank.invariant.room;
     }
 

@@ -1,58 +1,73 @@
-use Rattle.std.proofs.Common.{rules, ◌+◌, ◌||◌, true, refl, ap, subst, ◌∙◌, arith}
+use Rattle.std.proofs.Common.{rules, ◌≡◌, ◌+◌, ◌||◌, true, true≢false, refl, sym, ap, subst, ◌∙◌, arith}
 use Rattle.port_bank.specs.Port.{Rest}
-use Rattle.rank_group.specs.Seats.{SeatedState, Ran}
-use Rattle.rank_group.proofs.OnWay.{neither, turned, gave_up, has_way, one_place}
+use Rattle.rank_group.specs.Seats.{SeatedState, HasWay, Ran}
+use Rattle.rank_group.proofs.Crewed.{neither}
+use Rattle.rank_group.proofs.OnWay.{turned, gave_up, has_way, one_place}
 use Rattle.rank_group.proofs.at_port.AtPortSeated.turn.Goals as goal
 
 pub turn_over-requires : goal.turn_over-requires
 turn_over-requires g c =
     let i = c.self.inside in
     let n = neither i.rank.over i.lost (ap (λ (x : SeatedState g.row.Q.Denot). x.rank.over || x.lost) c.self.view_is ∙ c.requires.going) in
-    let w = c.self.invariant in
+    let x : SeatedState g.row.Q.Denot = record { rank = i.rank; seat = c.watch.new.self.port.seat; turns = i.turns; lost = i.lost } in
+    let was : SeatedState g.row.Q.Denot = record { rank = i.rank; seat = i.port.port.seat; turns = i.turns; lost = i.lost } in
+    let at : x ≡ was = ap (λ p. record { rank = i.rank; seat = p.seat; turns = i.turns; lost = i.lost }) c.watch.ensures.port in
+    let w = subst (HasWay g.Q.Program.rules g.row.CAP) (sym at) c.self.invariant in
     let few = w.way.few n.1 n.0 in
     let below = c.await_turn.ensures in
     (search rules, (refl, (n.0, (omega (arith, few, below), (w.manner, w.h, w.way.runs n.1)))))
 
-pub returns-in-Ok : goal.returns-in-Ok
-returns-in-Ok g c =
+pub returns-after-got_on-clause-ran : goal.returns-after-got_on-clause-ran
+returns-after-got_on-clause-ran g c =
     let i = c.self.inside in
     let R = g.Q.Program.rules in
     let n = neither i.rank.over i.lost (ap (λ (x : SeatedState g.row.Q.Denot). x.rank.over || x.lost) c.self.view_is ∙ c.requires.going) in
-    let x : SeatedState g.row.Q.Denot = record { rank = i.rank; seat = i.port.seat; turns = i.turns; lost = i.lost } in
+    let x : SeatedState g.row.Q.Denot = record { rank = i.rank; seat = c.watch.new.self.port.seat; turns = i.turns; lost = i.lost } in
+    let was : SeatedState g.row.Q.Denot = record { rank = i.rank; seat = i.port.port.seat; turns = i.turns; lost = i.lost } in
+    let at : x ≡ was = ap (λ p. record { rank = i.rank; seat = p.seat; turns = i.turns; lost = i.lost }) c.watch.ensures.port in
     let t = c.turn_over.ensures in
-    let seat = c.turn_over.new.port.seat in
+    let seat = c.turn_over.new.port.port.seat in
     let same = one_place x seat (ap (λ (r : Rest). r.bank) t.rest) t.same_dims t.same_slots in
     let y : SeatedState g.row.Q.Denot = record { rank = c.turn_over.new.rank; seat = seat; turns = i.turns + 1; lost = i.lost } in
-    record { ran = subst (λ (z : SeatedState g.row.Q.Denot). Ran R g.row.CAP z y) c.self.view_is (turned R g.row.CAP x c.turn_over.new.rank seat same t.same_rank n.1 n.0 c.in-Ok.ensures.epoch c.in-Ok.ensures.kept) }
+    subst (λ (z : SeatedState g.row.Q.Denot). Ran R g.row.CAP z y) (at ∙ c.self.view_is) (turned R g.row.CAP x c.turn_over.new.rank seat same t.same_rank n.1 n.0 c.in-Ok.ensures.epoch c.in-Ok.ensures.kept)
 
 pub returns-in-Err : goal.returns-in-Err
 returns-in-Err g c =
     let i = c.self.inside in
     let R = g.Q.Program.rules in
-    let x : SeatedState g.row.Q.Denot = record { rank = i.rank; seat = i.port.seat; turns = i.turns; lost = i.lost } in
+    let x : SeatedState g.row.Q.Denot = record { rank = i.rank; seat = c.watch.new.self.port.seat; turns = i.turns; lost = i.lost } in
+    let was : SeatedState g.row.Q.Denot = record { rank = i.rank; seat = i.port.port.seat; turns = i.turns; lost = i.lost } in
+    let at : x ≡ was = ap (λ p. record { rank = i.rank; seat = p.seat; turns = i.turns; lost = i.lost }) c.watch.ensures.port in
     let t = c.turn_over.ensures in
-    let seat = c.turn_over.new.port.seat in
+    let seat = c.turn_over.new.port.port.seat in
     let same = one_place x seat (ap (λ (r : Rest). r.bank) t.rest) t.same_dims t.same_slots in
     let y : SeatedState g.row.Q.Denot = record { rank = c.turn_over.new.rank; seat = seat; turns = i.turns + 1; lost = true } in
-    record { ran = subst (λ (z : SeatedState g.row.Q.Denot). Ran R g.row.CAP z y) c.self.view_is (gave_up R g.row.CAP x c.turn_over.new.rank seat same t.same_rank) }
+    record {
+      ran = subst (λ (z : SeatedState g.row.Q.Denot). Ran R g.row.CAP z y) (at ∙ c.self.view_is) (gave_up R g.row.CAP x c.turn_over.new.rank seat same t.same_rank);
+      still = λ none. absurd (true≢false none);
+    }
 
 pub invariant_of-self : goal.invariant_of-self
 invariant_of-self g c =
     let i = c.self.inside in
     let R = g.Q.Program.rules in
     let n = neither i.rank.over i.lost (ap (λ (x : SeatedState g.row.Q.Denot). x.rank.over || x.lost) c.self.view_is ∙ c.requires.going) in
-    let x : SeatedState g.row.Q.Denot = record { rank = i.rank; seat = i.port.seat; turns = i.turns; lost = i.lost } in
+    let x : SeatedState g.row.Q.Denot = record { rank = i.rank; seat = c.watch.new.self.port.seat; turns = i.turns; lost = i.lost } in
+    let was : SeatedState g.row.Q.Denot = record { rank = i.rank; seat = i.port.port.seat; turns = i.turns; lost = i.lost } in
+    let at : x ≡ was = ap (λ p. record { rank = i.rank; seat = p.seat; turns = i.turns; lost = i.lost }) c.watch.ensures.port in
     let t = c.turn_over.ensures in
-    let seat = c.turn_over.new.port.seat in
+    let seat = c.turn_over.new.port.port.seat in
     let same = one_place x seat (ap (λ (r : Rest). r.bank) t.rest) t.same_dims t.same_slots in
-    has_way R g.row.CAP x _ c.self.invariant (turned R g.row.CAP x c.turn_over.new.rank seat same t.same_rank n.1 n.0 c.in-Ok.ensures.epoch c.in-Ok.ensures.kept)
+    has_way R g.row.CAP x _ (subst (HasWay R g.row.CAP) (sym at) c.self.invariant) (turned R g.row.CAP x c.turn_over.new.rank seat same t.same_rank n.1 n.0 c.in-Ok.ensures.epoch c.in-Ok.ensures.kept)
 
 pub invariant_of-self-in-Err : goal.invariant_of-self-in-Err
 invariant_of-self-in-Err g c =
     let i = c.self.inside in
     let R = g.Q.Program.rules in
-    let x : SeatedState g.row.Q.Denot = record { rank = i.rank; seat = i.port.seat; turns = i.turns; lost = i.lost } in
+    let x : SeatedState g.row.Q.Denot = record { rank = i.rank; seat = c.watch.new.self.port.seat; turns = i.turns; lost = i.lost } in
+    let was : SeatedState g.row.Q.Denot = record { rank = i.rank; seat = i.port.port.seat; turns = i.turns; lost = i.lost } in
+    let at : x ≡ was = ap (λ p. record { rank = i.rank; seat = p.seat; turns = i.turns; lost = i.lost }) c.watch.ensures.port in
     let t = c.turn_over.ensures in
-    let seat = c.turn_over.new.port.seat in
+    let seat = c.turn_over.new.port.port.seat in
     let same = one_place x seat (ap (λ (r : Rest). r.bank) t.rest) t.same_dims t.same_slots in
-    has_way R g.row.CAP x _ c.self.invariant (gave_up R g.row.CAP x c.turn_over.new.rank seat same t.same_rank)
+    has_way R g.row.CAP x _ (subst (HasWay R g.row.CAP) (sym at) c.self.invariant) (gave_up R g.row.CAP x c.turn_over.new.rank seat same t.same_rank)

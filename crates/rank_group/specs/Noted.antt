@@ -1,0 +1,8 @@
+-- What a rank's port notes of a turn.
+use Rattle.std.specs.Prelude.{◌≡◌}
+use Rattle.link_slots.specs.Seen.{Manning, posted_on, collected_from}
+
+-- No parcel was posted or collected between two states of a seat.
+pub record HasSame (x y : Manning) : Type 0 where
+  pub sent : posted_on y ≡ posted_on x
+  pub got : collected_from y ≡ collected_from x

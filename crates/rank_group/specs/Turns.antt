@@ -1,0 +1,28 @@
+-- Turns of all ranks of a drive, one after the other.
+use Rattle.std.specs.Prelude.{◌≡◌, ◌≢◌, ℕ, zero, suc, List, [], ◌∷◌, length, slice_get, Some}
+use Rattle.port_bank.specs.Logs.{Logs}
+use Rattle.round_program.specs.Rules.{Rules}
+use Rattle.rank_group.specs.Ranks.{RankState, AfterRank}
+
+-- All ranks and the logs of all links at one moment.
+pub record Scene (S : Type 0) : Type 0 where
+  pub ranks : List (RankState S)
+  pub sent : Logs
+  pub got : Logs
+
+-- Between two moments rank r was turned, and no other.
+pub record IsTurnOf {S : Type 0} (R : Rules S) (dims : List ℕ) (cap slots r : ℕ) (a b : Scene S) : Type 0 where
+  pub all : length b.ranks ≡ length a.ranks
+  pub others : (k : ℕ) → k ≢ r → slice_get b.ranks k ≡ slice_get a.ranks k
+  pub turned : (n n' : RankState S) → slice_get a.ranks r ≡ Some n → slice_get b.ranks r ≡ Some n' → AfterRank R dims cap slots r n n' a.sent a.got b.sent b.got
+
+-- Between two moments the ranks of a list were turned, one after the other, and no other.
+-- For the list 2, 0 there is a moment between: before it rank 2 was turned, and after it rank 0.
+abbrev pub TurnsOf : {S : Type 0} → Rules S → List ℕ → ℕ → ℕ → List ℕ → Scene S → Scene S → Type 0
+TurnsOf {S} R dims cap slots [] a b = b ≡ a
+TurnsOf {S} R dims cap slots (r ∷ rs) a b = (m : Scene S) × IsTurnOf R dims cap slots r a m × TurnsOf R dims cap slots rs m b
+
+-- Between two moments so many sweeps were made in one order.
+abbrev pub SweepsOf : {S : Type 0} → Rules S → List ℕ → ℕ → ℕ → List ℕ → ℕ → Scene S → Scene S → Type 0
+SweepsOf {S} R dims cap slots order zero a b = b ≡ a
+SweepsOf {S} R dims cap slots order (suc k) a b = (m : Scene S) × TurnsOf R dims cap slots order a m × SweepsOf R dims cap slots order k m b

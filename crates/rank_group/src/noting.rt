@@ -1,0 +1,137 @@
+//! A port that notes whether a parcel moved.
+ghost use Rattle.std.specs.Prelude.{◌≡◌, ◌≢◌, ℕ, ◌+◌, ◌==◌, Bool, true, false, List, length, refl};
+ghost use Rattle.link_slots.specs.Seen.{posted_on, collected_from};
+ghost use Rattle.rank_group.specs.Noted.{HasSame};
+
+use bale_types::NoMemory;
+use item_buffer::Parcel;
+use link_slots::{SlotPort, SlotSeat};
+use port_bank::{Collected, Fixed, Port, Posted};
+use std::snapshot::Snapshot;
+
+/// A rank's port at a slot bank, and whether a parcel was posted or collected there since `watch`.
+#[derive(Drop)]
+pub struct NotingPort<'a, const CAP: usize> {
+    port: SlotPort<'a, CAP>,
+    moved: bool,
+    /// The port as it was at the latest `watch`, for contracts alone.
+    first: Snapshot<SlotPort<'a, CAP>>,
+    pub ghost noted: { moved ≡ false → HasSame first.value.seat port.seat },
+}
+
+impl<'a, const CAP: usize> NotingPort<'a, CAP> {
+    /// The port, which begins to watch.
+    pub fn new(port: SlotPort<'a, CAP>) -> NotingPort<'a, CAP>
+        ensures seat { result.port.seat ≡ port.entry.seat }
+    {
+        let first = Snapshot::of(&port);
+        NotingPort {
+            port,
+            moved: false,
+            first,
+        }
+    }
+
+    /// Forgets what it noted.
+    pub fn watch(&mut self)
+        ensures port { self.new.port ≡ self.old.port }
+        ensures first { self.new.first.value ≡ self.old.port }
+    {
+        self.first = Snapshot::of(&self.port);
+        self.moved = false;
+    }
+
+    /// Whether a parcel was posted or collected since the latest `watch`.
+    pub fn moved(&self) -> bool
+        ensures { result ≡ false → HasSame self.now.first.value.seat self.now.port.seat }
+    {
+        self.moved
+    }
+
+    /// The seat.
+    pub fn into_seat(self) -> SlotSeat<CAP>
+        ensures seat { result ≡ self.entry.port.seat }
+    {
+        let NotingPort {
+            port,
+            moved: _,
+            first: _,
+        } = self;
+        port.into_seat()
+    }
+}
+
+impl<'a, const CAP: usize> Port<CAP> for NotingPort<'a, CAP> {
+    ghost use Rattle.std.specs.Prelude.{◌+◌, ◌==◌, length, refl};
+    ghost use Rattle.link_slots.specs.Logs.{out_of};
+    ghost use Rattle.link_slots.specs.Does.{DidPost, DidCollect};
+    ghost use Rattle.link_slots.specs.Seen.{posted_on, collected_from, freed, known, listened, noted_at, named};
+    ghost use Rattle.port_bank.specs.Calls.{posts_of, collects_of};
+
+    type Memory = Fixed;
+
+    ghost rank = { λ p. p.port.seat.rank };
+
+    ghost dims = { λ p. p.port.seat.shape.dims };
+
+    ghost slots = { λ p. p.port.seat.shape.slots };
+
+    ghost sent = { λ p. posted_on p.port.seat };
+
+    ghost got = { λ p. collected_from p.port.seat };
+
+    ghost freed = { λ p l. freed p.port.seat l };
+
+    ghost crowded = { λ p l. length (posted_on p.port.seat l) == freed p.port.seat l + p.port.seat.shape.slots };
+
+    ghost known = { λ p l. known p.port.seat l };
+
+    ghost idle = { λ p l. length (collected_from p.port.seat l) == known p.port.seat l };
+
+    ghost posts = { λ p. posts_of p.port.calls };
+
+    ghost collects = { λ p. collects_of p.port.calls };
+
+    ghost looks_out = { λ p l. (out_of p.port.seat.lists l).looks };
+
+    ghost looks_in = { λ p l. listened p.port.seat l };
+
+    ghost listens = { λ p l. listened p.port.seat l };
+
+    ghost noted = { λ p l. noted_at p.port.seat l };
+
+    // What it had at the latest `watch` no call changes.
+    ghost rest = { λ p. record {
+      bank = named p.port.seat.id;
+      sent = posted_on p.first.value.seat;
+      got = collected_from p.first.value.seat;
+    } };
+
+    ghost post_does = { λ old l p result new. DidPost old.port.seat new.port.seat l p result };
+
+    ghost collect_does = { λ old l p result new. DidCollect old.port.seat new.port.seat l result };
+
+    ghost crowded_is = { λ p l. refl };
+
+    ghost idle_is = { λ p l. refl };
+
+    fn rank(&self) -> u32 {
+        self.port.rank()
+    }
+
+    fn post(&mut self, link: u32, p: &mut Parcel<CAP>) -> Result<Posted, NoMemory> {
+        let posted = self.port.post(link, p)?;
+        if posted == Posted::Sent {
+            self.moved = true;
+        }
+        Ok(posted)
+    }
+
+    fn collect(&mut self, link: u32, p: &mut Parcel<CAP>) -> Collected {
+        let collected = self.port.collect(link, p);
+        if collected == Collected::Got {
+            self.moved = true;
+        }
+        collected
+    }
+}

@@ -5,6 +5,7 @@ use Rattle.link_slots.specs.Seen.{Bank, Manning, named, posted_on, collected_fro
 use Rattle.link_slots.proofs.Ported.{one_bank}
 use Rattle.round_program.specs.Talks.{Talk}
 use Rattle.biconvey.specs.States.{BiState, IsBiNode}
+use Rattle.rank_group.specs.Noted.{HasSame}
 use Rattle.biconvey.specs.Seats.{SeatedState, HasWay, SameSeat, Ran}
 
 -- a seat by what no turn changes
@@ -14,6 +15,10 @@ one_seat old new e ed es er = let i = one_bank new.id old.id e in record { bank 
 -- a rank that was turned is still on some way
 pub has_way : {S : Type 0} (T : Talk S) (cap : ℕ) (x y : SeatedState S) → HasWay T cap x → Ran T cap x y → HasWay T cap y
 has_way T cap x y w ran = record { steady = w.steady; start = w.start; way = ran.kept w.steady w.start w.way }
+
+-- by a port that noted no move since it began to watch, which it still knows
+pub none_moved : (before watched kept now : Manning) → HasSame kept now → posted_on kept ≡ posted_on watched → collected_from kept ≡ collected_from watched → watched ≡ before → HasSame before now
+none_moved before watched kept now same sent got is = record { sent = same.sent ∙ (sent ∙ ap posted_on is); got = same.got ∙ (got ∙ ap collected_from is) }
 
 pub turned : {S : Type 0} (T : Talk S) (cap : ℕ) (n n' : BiState S) (q q' p p' : Manning) → SameSeat q q' → SameSeat p p' → n'.queries.dims ≡ n.queries.dims → n'.queries.rank ≡ n.queries.rank
     → n'.queries.steady ≡ n.queries.steady → n'.replies.steady ≡ n.replies.steady

@@ -144,6 +144,38 @@ module _ {S : Type 0} (T : Talk S) (laws : TalkLaws T) (start : S) (n : BiState 
       pub pulled2 : (part_of (buffers_of q2) asking' asked').pulled ≡ (part_of (buffers_of n.queries) asking asked).pulled
       pulled2 = step2.pulled ∙ (push.on asking asked is.asks.agrees).pulled
 
+      -- the rank between its two advances
+      pub halfway : IsSound (buffers_of q2) → IsBiNode T start (record { asker = n.asker; next = next; lines = n.lines; queries = q2; replies = n.replies }) asking' asked' replying replied
+      halfway sound =
+          let push_on = push.on asking asked is.asks.agrees in
+          let dims_q2 : q2.dims ≡ n.queries.dims = adv.dims ∙ ap (λ (c : State). c.dims) push.same in
+          let rank_q2 : q2.rank ≡ n.queries.rank = adv.rank ∙ ap (λ (c : State). c.rank) push.same in
+          let part1 = part_of (buffers_of q1) asking asked in
+          let part2 = part_of (buffers_of q2) asking' asked' in
+          let part0 = part_of (buffers_of n.queries) asking asked in
+          record {
+            asks = record { first = epoch2 ∙ is.asks.first; begun = adv.begun; working = working2; sound = sound; agrees = adv.agrees };
+            replies = is.replies;
+            same_dims = dims2;
+            same_rank = is.same_rank ∙ sym rank_q2;
+            own_rank = is.own_rank ∙ sym rank_q2;
+            all_ranks = is.all_ranks ∙ ap ranks (sym dims_q2);
+            next_low = subst (λ (es : List (ℕ × Item)). next ≤ length es) same_asks push.low;
+            all_pushed = λ d. eqb-true next count (sym adv.done_is ∙ d) ∙ count_is count counted;
+            pushed = λ d b.
+                ap (λ (ls : ItemLists). ls part2.epoch d) step2.pushed
+                ∙ (ap (λ k. part1.pushed k d) step2.epoch
+                ∙ push_on.pushed (subst (λ (es : List (ℕ × Item)). IsPushed es (ranks n.queries.dims) n.next part0) (sym same_asks) is.pushed) d (subst (λ (ds : List ℕ). d < ranks ds) dims_q2 b)
+                ∙ ap (λ (es : List (ℕ × Item)). items_of d (take next es)) same_asks);
+            answered = λ f b.
+                is.answered f (subst (λ (ds : List ℕ). f < ranks ds) dims_q2 b)
+                ∙ (ap (λ (ls : ItemLists). answers T start f (ls part0.epoch f)) (sym pulled2)
+                ∙ ap (λ k. answers T start f (part2.pulled k f)) (sym (step2.epoch ∙ push_on.epoch)));
+            over = λ d. stays2 (is.over d);
+            heard = is.heard;
+            read = is.read;
+          }
+
       -- after the answers
       module _ (q3 r1 : State) (ans : Answers T n.asker q2 q3 n.replies r1) where
         phase3 : q3.phase ≡ q2.phase

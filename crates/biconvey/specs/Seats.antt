@@ -3,6 +3,7 @@ use Rattle.std.specs.Prelude.{◌≡◌, ℕ, Bool, List, slice_get, Some}
 use Rattle.port_bank.specs.Shapes.{IsConveyorShape}
 use Rattle.link_slots.specs.Seen.{Bank, Manning, posted_on, collected_from}
 use Rattle.round_program.specs.Talks.{Talk}
+use Rattle.rank_group.specs.Noted.{HasSame}
 use Rattle.biconvey.specs.States.{BiState, IsBiNode}
 
 -- A rank, its seat at the bank of queries and its seat at that of replies.
@@ -56,3 +57,8 @@ pub record IsSeated {S : Type 0} (T : Talk S) (cap : ℕ) (steady : Bool) (q p :
 -- Ranks that haven't turned sit at these banks in order.
 abbrev pub AreSeated : {S : Type 0} → Talk S → ℕ → Bool → Bank → Bank → List (SeatedState S) → Type 0
 AreSeated {S} T cap steady q p xs = (r : ℕ) (x : SeatedState S) → slice_get xs r ≡ Some x → IsSeated T cap steady q p r x
+
+-- No parcel of a rank moved, neither of queries nor of replies.
+pub record HaveSame {S : Type 0} (x y : SeatedState S) : Type 0 where
+  pub queries : HasSame x.queries y.queries
+  pub replies : HasSame x.replies y.replies

@@ -5,7 +5,7 @@ use Rattle.port_bank.specs.Logs.{Logs}
 use Rattle.hop_core.specs.declared.phase.Phase.TheVariants.{Dormant, Working, Complete}
 use Rattle.hop_core.specs.State.{State}
 use Rattle.convey.specs.Buffers.{buffers_of, in_of}
-use Rattle.convey.specs.Conveyors.{AgreesWith}
+use Rattle.convey.specs.Conveyors.{HoldsAtMost, AgreesWith}
 use Rattle.convey.specs.Law.{IsSound}
 use Rattle.convey.specs.Parts.{part_of}
 use Rattle.round_program.specs.Talks.{Talk}
@@ -71,16 +71,18 @@ pub record IsBiNode {S : Type 0} (T : Talk S) (start : S) (n : BiState S) (askin
   pub read : AllRead n.replies
 
 -- What a turn that takes a rank from n to n' asks: it pushes the queries from number n.next on, up to number n'.next.
--- at_push: the conveyor of queries after these pushes, before it advances.
+-- at_push: the conveyor of queries after these pushes, before it advances, with no more in a parcel than it holds.
 -- pushes: where a query is left, the open parcel toward its receiver is full.
 pub record HasAsked {S : Type 0} (T : Talk S) (cap : ℕ) (n n' : BiState S) : Type 0 where
   pub at_push : State
+  pub fits : HoldsAtMost cap at_push
   pub pushes : Pushes (asks_of T n.asker) cap n.next n'.next n.queries at_push
 
 -- What it answers, over a port of queries whose lists go from asking and asked to asking' and asked'.
 -- at_pull: the conveyor of queries after it advanced, before any of them is pulled.
 -- agrees, epoch, pulled: it agrees with the port, and no query was pulled since the turn began.
--- at_push: the conveyor of replies after the answers are pushed, before it advances.
+-- at_push: the conveyor of replies after the answers are pushed, before it advances, with no more in a parcel than it
+-- holds.
 -- answers: queries are pulled, and their answers pushed, as many of these as of those.
 -- all: no query that came is left unread, or the answer to the next one was refused.
 pub record HasAnswered {S : Type 0} (T : Talk S) (cap : ℕ) (n n' : BiState S) (asking asked asking' asked' : Logs) : Type 0 where
@@ -89,5 +91,6 @@ pub record HasAnswered {S : Type 0} (T : Talk S) (cap : ℕ) (n n' : BiState S) 
   pub epoch : at_pull.epoch ≡ n.queries.epoch
   pub pulled : (part_of (buffers_of at_pull) asking' asked').pulled ≡ (part_of (buffers_of n.queries) asking asked).pulled
   pub at_push : State
+  pub fits : HoldsAtMost cap at_push
   pub answers : Answers T n.asker at_pull n'.queries n.replies at_push
   pub all : AllRead n'.queries ⊎ ((to : ℕ) × RefusesAnswer cap to n'.queries at_push)

@@ -1,9 +1,8 @@
 //! A rank of an exchange at its two ports, of two slot banks.
 
 use crate::bi_node::BiNode;
-use link_slots::SlotPort;
 use port_bank::Port;
-use rank_group::{Gate, Seated, await_turn};
+use rank_group::{Gate, NotingPort, Seated, await_turn};
 use rank_node::Steps;
 use round_program::Asker;
 use std::marker::Model;
@@ -14,8 +13,8 @@ use std::sync::ledger::Ledger;
 #[derive(Drop)]
 pub struct AtPorts<'a, A: Asker, const CAP: usize, const HOPS: usize> {
     pub(crate) node: BiNode<A, CAP, HOPS>,
-    pub(crate) queries: SlotPort<'a, CAP>,
-    pub(crate) replies: SlotPort<'a, CAP>,
+    pub(crate) queries: NotingPort<'a, CAP>,
+    pub(crate) replies: NotingPort<'a, CAP>,
     /// How many turns it has made.
     pub(crate) turns: u64,
 }
@@ -25,22 +24,26 @@ impl<'a, A: Asker, const CAP: usize, const HOPS: usize> Model for AtPorts<'a, A,
 
     ghost Value = { SeatedState A };
 
-    ghost view = { λ s. record { node = s.node; queries = s.queries.seat; replies = s.replies.seat } };
+    ghost view = { λ s. record { node = s.node; queries = s.queries.port.seat; replies = s.replies.port.seat } };
 
     ghost invariant = { λ s. HasWay A.talk CAP
-        (record { node = s.node; queries = s.queries.seat; replies = s.replies.seat }) };
+        (record { node = s.node; queries = s.queries.port.seat; replies = s.replies.port.seat }) };
 }
 
 impl<'a, A: Asker, const CAP: usize, const HOPS: usize> Seated for AtPorts<'a, A, CAP, HOPS> {
-    ghost use Rattle.biconvey.specs.Seats.{Ran};
-    ghost use Rattle.biconvey.specs.SeatLaws.{ran_laws};
+    ghost use Rattle.biconvey.specs.Seats.{Ran, HaveSame};
+    ghost use Rattle.biconvey.specs.SeatLaws.{ran_laws, same_laws};
     ghost use Rattle.biconvey.specs.Worlds.{is_over};
 
     ghost ran = { λ x y. Ran A.talk CAP x y };
 
     ghost over = { λ x. is_over x.node };
 
+    ghost still = { λ x y. HaveSame x y };
+
     ghost laws = { ran_laws A.talk CAP };
+
+    ghost still_laws = { same_laws };
 
     fn is_over(&self) -> bool {
         self.node.is_over()
@@ -55,10 +58,13 @@ impl<'a, A: Asker, const CAP: usize, const HOPS: usize> Seated for AtPorts<'a, A
         await_turn(rt, self.turns);
         gate.turn(self.queries.rank(), self.turns);
         self.turns += 1;
+        self.queries.watch();
+        self.replies.watch();
         let asked = self.node.asked();
         let Ok(_turn) = self.node.turn(&mut self.queries, &mut self.replies, steps) else {
             unreachable!()
         };
-        self.node.asked() != asked
+        let has_asked = self.node.asked() != asked;
+        has_asked | self.queries.moved() | self.replies.moved()
     }
 }

@@ -10,7 +10,7 @@ ghost use Rattle.convey.specs.Buffers.{in_of, is_complete};
 ghost use Rattle.list_laws.specs.Lists.{Begins};
 ghost use Rattle.port_bank.specs.Shapes.{IsConveyorShape};
 ghost use Rattle.round_program.specs.Replies.{asks_of};
-ghost use Rattle.biconvey.specs.States.{IsBiNode, IsFirst, HasAsked, HasAnswered};
+ghost use Rattle.biconvey.specs.States.{BiState, IsBiNode, IsFirst, HasAsked, HasAnswered};
 ghost use Rattle.biconvey.specs.Still.{IsStuck};
 
 use crate::answering::{answer_open, is_over};
@@ -107,6 +107,13 @@ impl<A: Asker, const CAP: usize, const HOPS: usize> BiNode<A, CAP, HOPS> {
             → IsBiNode A.talk start self.new (P.sent queries.new) (P.got queries.new) (R.sent replies.new)
             (R.got replies.new) }
         ensures steps { steps.new ≡ steps.old + 1 }
+
+        // Between its two advances, when the queries' port is as the turn leaves it and the replies' port as the turn
+        // found it, the rank is one that stands between two turns: so what holds of those moments holds of this one.
+        ensures between { (mid : BiState A) × ((start : A) → IsBiNode A.talk start self.old (P.sent queries.old)
+            (P.got queries.old) (R.sent replies.old) (R.got replies.old)
+            → IsBiNode A.talk start mid (P.sent queries.new) (P.got queries.new) (R.sent replies.old)
+            (R.got replies.old)) }
         ensures memory { P.Memory.GROWS ≡ false → R.Memory.GROWS ≡ false → IsOk result }
 
         // Ended exactly where both ways are complete.
@@ -200,6 +207,7 @@ impl<A: Asker, const CAP: usize, const HOPS: usize> BiNode<A, CAP, HOPS> {
         self.next = push_queries(&self.asker, &mut self.queries, self.next);
         let all = self.next == self.asker.count();
         let asked = self.queries.advance(queries, all);
+        self.queries.known();
         let _refused = answer_open(&self.asker, &mut self.queries, &mut self.replies);
         let over = is_over(self.queries.phase());
         let replied = self.replies.advance(replies, over);

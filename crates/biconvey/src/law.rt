@@ -14,9 +14,10 @@ pub fn replies_law<A: Asker>()
     ensures end { RepliesEnd A.talk }
 {}
 
-/// The laws of all ranks of an exchange, over any two banks whose links keep their law. Whenever no rank is within a turn,
-/// what a rank heard of another is a front of that one's answers to its queries, matched by order alone. Once all ranks are
-/// complete, each has heard, for each of its queries, the answer of the rank asked.
+/// The laws of all ranks of an exchange, over any two banks whose links keep their law. Whenever each rank stands between
+/// two turns, or between the two advances of one, what a rank heard of another is a front of that one's answers to its
+/// queries, matched by order alone. Once all ranks are complete, each has heard, for each of its queries, the answer of the
+/// rank asked.
 pub fn askers_law<A: Asker>()
     ensures order { OrderLaw A.talk }
     ensures end { EndLaw A.talk }

@@ -10,10 +10,10 @@
 //! | `BiNode::new` | a rank that hasn't turned |
 //! | `BiNode::turn` | one turn, which never waits: asks, advances, answers, advances, hears; `Ended` exactly where both ways are complete |
 //! | `bi_serial` | drives all ranks on one thread, until each query has its one reply |
-//! | `bi_threads` | the same, with each rank on a thread of its own |
+//! | `bi_threads` | the same on threads |
 //! | `drive_both`, `thread_both`, `thread_with` | these, for a capacity and a number of hops that are known when the program is compiled |
 //! | `replies_law` | the replies theorem, over any two lawful banks |
-//! | `askers_law` | what all ranks have heard, whenever no rank is within a turn, and at the end |
+//! | `askers_law` | what all ranks have heard, whenever each stands between turns or between a turn's two advances, and at the end |
 //!
 //! round_program's `specs/Replies` says what a rank hears, with no word on how it travels; `specs/Banks` states the replies theorem.
 //! `specs/Drives` says what the two closed rounds tell, and `specs/Worlds` bounds the turns (`turns_of`).

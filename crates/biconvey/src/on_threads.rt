@@ -1,4 +1,4 @@
-//! One call that drives an exchange of queries and replies with each rank on a thread of its own.
+//! One call that drives an exchange of queries and replies on threads.
 
 ghost use Rattle.std.specs.Prelude.{◌≡◌, ◌<◌, ◌≤◌, true, [], ◌∷◌, length, IfOk};
 ghost use Rattle.route_tensor.specs.Grid.{ranks};
@@ -13,16 +13,16 @@ use crate::seating::{gather_all, seat_all};
 use bale_types::NoMemory;
 use convey::closes_law;
 use link_slots::SlotBank;
-use rank_group::{ClosedRound, Finished, Gate, Rounds, run_together};
+use rank_group::{ClosedRound, Finished, Gate, Rounds, run_together, threads_for};
 use round_program::{Asker, Progs};
 use route_tensor::Grid;
 use std::alloc::Global;
 use std::sync::Wait;
 use std::thread::Threads;
 
-/// Drives the askers of all ranks, each on a thread of its own, over two slot banks, of queries and of replies, with parcels of
-/// `CAP` entries and `slots` (1, 2, 4 or 8) parcels on a link at a time. Before each turn of a rank the gate is told of it. A rank
-/// whose thread can't be started is driven by the caller, in turns with the others of its kind.
+/// Drives the askers of all ranks on threads, as many as `drive_threads` takes and in crews as there, over two slot banks, of
+/// queries and of replies, with parcels of `CAP` entries and `slots` (1, 2, 4 or 8) parcels on a link at a time. Before each turn
+/// of a rank the gate is told of it.
 ///
 /// It waits for its threads, and returns where they do.
 ///
@@ -57,11 +57,13 @@ pub fn thread_both<
         × TellsExchange A.talk askers (record { dims = grid.now; cap = CAP; slots = slots; by_slots = true }) steady
         (round_of q) (round_of r)) }
 {
-    let threads = grid.ranks() as usize;
-    thread_with::<CAP, HOPS, R, A, G>(rt, alloc, grid, slots, steady, askers, gate, threads)
+    let threads = threads_for(rt, grid.ranks());
+    thread_with::<CAP, HOPS, R, A, G>(
+        rt, alloc, grid, slots, steady, askers, gate, threads, threads,
+    )
 }
 
-/// The same with `threads` threads at most: the caller drives the ranks from that number on.
+/// The same in `crews` crews, of which the first `threads` have a thread each, and the caller turns the others.
 ///
 /// # Errors
 /// As those of `thread_both`.
@@ -79,6 +81,7 @@ pub fn thread_with<
     steady: bool,
     askers: Progs<A>,
     gate: &G,
+    crews: usize,
     threads: usize,
 ) -> Result<Finished<A>, NoMemory>
     requires some { 0 < CAP }
@@ -104,7 +107,7 @@ pub fn thread_with<
         &mut of_replies,
         all,
     )?;
-    let ended = run_together(rt, alloc, gate, threads, seated)?;
+    let ended = run_together(rt, alloc, gate, crews, threads, seated)?;
     let over = gather_all(
         alloc,
         &queries,

@@ -11,7 +11,7 @@ use crate::at_ports::AtPorts;
 use crate::bi_node::BiNode;
 use bale_types::NoMemory;
 use link_slots::{GatherSeat, SlotBank};
-use rank_group::one_by_one;
+use rank_group::{NotingPort, one_by_one};
 use round_program::Asker;
 use std::alloc::Global;
 
@@ -44,10 +44,12 @@ pub(crate) fn seat_all<'a, const CAP: usize, const HOPS: usize, A: Asker>(
     for node in one_by_one(alloc, all)? {
         let asking = queries.seat(of_queries, number);
         let replying = replies.seat(of_replies, number);
+        let asking = NotingPort::new(queries.port(asking));
+        let replying = NotingPort::new(replies.port(replying));
         seated.push_reserved(AtPorts {
             node,
-            queries: queries.port(asking),
-            replies: replies.port(replying),
+            queries: asking,
+            replies: replying,
             turns: 0,
         });
         number += 1;

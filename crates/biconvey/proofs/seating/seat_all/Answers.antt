@@ -5,8 +5,8 @@ use Rattle.biconvey.proofs.seating.seat_all.Goals as goal
 pub invariant_of-push_reserved : goal.invariant_of-push_reserved
 invariant_of-push_reserved g c =
     let x = seated g.A.Asker.talk g.row.CAP c.args.queries.now c.args.replies.now c.requires.shape c.loop-node.of_queries c.loop-node.of_replies c.loop-node.number c.args.all.items c.loop-node.yielded c.next.new.self c.loop-node.node-iterator c.loop-node.seated.items c.loop-node.invariant.seating
-    c.seat-asking.new.g c.seat-replying.new.g c.in-Some.node c.port.result.seat c.port-in-loop-node.result.seat c.in-Some.ensures.steps _ _ c.seat-asking.ensures.gather c.seat-replying.ensures.gather _ _ _ _
-    (c.port.ensures.seat ∙ c.seat-asking.ensures.seat) (c.port-in-loop-node.ensures.seat ∙ c.seat-replying.ensures.seat) c.requires.fresh.0 c.requires.fresh.1 c.requires.fresh.2 in
+    c.seat-asking.new.g c.seat-replying.new.g c.in-Some.node c.new-asking.result.port.seat c.new-replying.result.port.seat c.in-Some.ensures.steps _ _ c.seat-asking.ensures.gather c.seat-replying.ensures.gather _ _ _ _
+    ((c.new-asking.ensures.seat ∙ c.port.ensures.seat) ∙ c.seat-asking.ensures.seat) ((c.new-replying.ensures.seat ∙ c.port-in-loop-node.ensures.seat) ∙ c.seat-replying.ensures.seat) c.requires.fresh.0 c.requires.fresh.1 c.requires.fresh.2 in
     record { steady = c.requires.fresh.0; start = c.in-Some.node.asker; way = x.way }
 
 pub push_reserved-requires : goal.push_reserved-requires
@@ -20,8 +20,8 @@ push_reserved-requires g c =
 pub loop-node-preserved : goal.loop-node-preserved
 loop-node-preserved g c = record {
   seating = seating_more g.A.Asker.talk g.row.CAP c.args.queries.now c.args.replies.now c.requires.shape c.loop-node.of_queries c.loop-node.of_replies c.loop-node.number c.args.all.items c.loop-node.yielded c.next.new.self c.loop-node.node-iterator c.loop-node.seated.items c.loop-node.invariant.seating
-      c.seat-asking.new.g c.seat-replying.new.g c.in-Some.node c.port.result.seat c.port-in-loop-node.result.seat c.in-Some.ensures.steps _ _ c.seat-asking.ensures.gather c.seat-replying.ensures.gather _ _ _ _
-      (c.port.ensures.seat ∙ c.seat-asking.ensures.seat) (c.port-in-loop-node.ensures.seat ∙ c.seat-replying.ensures.seat) c.push_reserved.new.self.items c.push_reserved.ensures.items;
+      c.seat-asking.new.g c.seat-replying.new.g c.in-Some.node c.new-asking.result.port.seat c.new-replying.result.port.seat c.in-Some.ensures.steps _ _ c.seat-asking.ensures.gather c.seat-replying.ensures.gather _ _ _ _
+      ((c.new-asking.ensures.seat ∙ c.port.ensures.seat) ∙ c.seat-asking.ensures.seat) ((c.new-replying.ensures.seat ∙ c.port-in-loop-node.ensures.seat) ∙ c.seat-replying.ensures.seat) c.push_reserved.new.self.items c.push_reserved.ensures.items;
   room = subst (λ n. length c.args.all.items ≤ n) (sym c.push_reserved.ensures.capacity) c.loop-node.invariant.room;
 }
 

@@ -1,31 +1,52 @@
-use Rattle.std.proofs.Common.{ap, subst}
+use Rattle.std.proofs.Common.{◌≡◌, ◌==◌, not, ◌||◌, ap, sym, subst, ◌∙◌}
 use Rattle.port_bank.specs.Port.{Rest}
-use Rattle.biconvey.specs.Seats.{SeatedState, Ran}
-use Rattle.biconvey.proofs.OnPorts.{one_seat, has_way, turned}
+use Rattle.rank_group.proofs.Crewed.{neither}
+use Rattle.biconvey.specs.Seats.{SeatedState, HasWay, Ran, HaveSame}
+use Rattle.biconvey.proofs.OnPorts.{one_seat, has_way, turned, none_moved}
 use Rattle.biconvey.proofs.at_ports.AtPortsSeated.turn.Goals as goal
 
 pub invariant_of-self : goal.invariant_of-self
 invariant_of-self g c =
     let i = c.self.inside in
+    let q = c.watch.new.self.port.seat in
+    let p = c.watch-2.new.self.port.seat in
     let n = c.turn-2.new in
     let t = c.turn-2.ensures in
-    let x : SeatedState g.row.A.Denot = record { node = i.node; queries = i.queries.seat; replies = i.replies.seat } in
-    has_way g.A.Asker.talk g.row.CAP x _ c.self.invariant
-    (turned g.A.Asker.talk g.row.CAP i.node n.self i.queries.seat n.queries.seat i.replies.seat n.replies.seat
-    (one_seat i.queries.seat n.queries.seat (ap (λ (r : Rest). r.bank) t.queries_rest) t.queries_dims t.queries_slots t.queries_rank)
-    (one_seat i.replies.seat n.replies.seat (ap (λ (r : Rest). r.bank) t.replies_rest) t.replies_dims t.replies_slots t.replies_rank)
+    let x : SeatedState g.row.A.Denot = record { node = i.node; queries = q; replies = p } in
+    let was : SeatedState g.row.A.Denot = record { node = i.node; queries = i.queries.port.seat; replies = i.replies.port.seat } in
+    let at : x ≡ was = ap (λ k. record { node = i.node; queries = k.seat; replies = p }) c.watch.ensures.port ∙ ap (λ k. record { node = i.node; queries = i.queries.port.seat; replies = k.seat }) c.watch-2.ensures.port in
+    has_way g.A.Asker.talk g.row.CAP x _ (subst (HasWay g.A.Asker.talk g.row.CAP) (sym at) c.self.invariant)
+    (turned g.A.Asker.talk g.row.CAP i.node n.self q n.queries.port.seat p n.replies.port.seat
+    (one_seat q n.queries.port.seat (ap (λ (r : Rest). r.bank) t.queries_rest) t.queries_dims t.queries_slots t.queries_rank)
+    (one_seat p n.replies.port.seat (ap (λ (r : Rest). r.bank) t.replies_rest) t.replies_dims t.replies_slots t.replies_rank)
     t.dims t.rank t.steady t.steady_replies t.kept t.queries_shape t.replies_shape)
 
 pub returns : goal.returns
 returns g c =
     let i = c.self.inside in
+    let q = c.watch.new.self.port.seat in
+    let p = c.watch-2.new.self.port.seat in
     let n = c.turn-2.new in
     let t = c.turn-2.ensures in
-    let y : SeatedState g.row.A.Denot = record { node = n.self; queries = n.queries.seat; replies = n.replies.seat } in
+    let x : SeatedState g.row.A.Denot = record { node = i.node; queries = q; replies = p } in
+    let was : SeatedState g.row.A.Denot = record { node = i.node; queries = i.queries.port.seat; replies = i.replies.port.seat } in
+    let at : x ≡ was = ap (λ k. record { node = i.node; queries = k.seat; replies = p }) c.watch.ensures.port ∙ ap (λ k. record { node = i.node; queries = i.queries.port.seat; replies = k.seat }) c.watch-2.ensures.port in
+    let y : SeatedState g.row.A.Denot = record { node = n.self; queries = n.queries.port.seat; replies = n.replies.port.seat } in
     record {
-      ran = subst (λ (z : SeatedState g.row.A.Denot). Ran g.A.Asker.talk g.row.CAP z y) c.self.view_is
-          (turned g.A.Asker.talk g.row.CAP i.node n.self i.queries.seat n.queries.seat i.replies.seat n.replies.seat
-          (one_seat i.queries.seat n.queries.seat (ap (λ (r : Rest). r.bank) t.queries_rest) t.queries_dims t.queries_slots t.queries_rank)
-          (one_seat i.replies.seat n.replies.seat (ap (λ (r : Rest). r.bank) t.replies_rest) t.replies_dims t.replies_slots t.replies_rank)
+      ran = subst (λ (z : SeatedState g.row.A.Denot). Ran g.A.Asker.talk g.row.CAP z y) (at ∙ c.self.view_is)
+          (turned g.A.Asker.talk g.row.CAP i.node n.self q n.queries.port.seat p n.replies.port.seat
+          (one_seat q n.queries.port.seat (ap (λ (r : Rest). r.bank) t.queries_rest) t.queries_dims t.queries_slots t.queries_rank)
+          (one_seat p n.replies.port.seat (ap (λ (r : Rest). r.bank) t.replies_rest) t.replies_dims t.replies_slots t.replies_rank)
           t.dims t.rank t.steady t.steady_replies t.kept t.queries_shape t.replies_shape);
+      still = λ none.
+          let asked = not (c.asked.result == c.asked-asked.result) in
+          let last = neither (asked || c.moved.result) c.moved-2.result none in
+          let first = neither asked c.moved.result last.0 in
+          subst (λ (z : SeatedState g.row.A.Denot). HaveSame z y) c.self.view_is
+          record {
+            queries = none_moved i.queries.port.seat c.watch.new.self.first.value.seat n.queries.first.value.seat n.queries.port.seat (c.moved.ensures first.1)
+                (ap (λ (r : Rest). r.sent) t.queries_rest) (ap (λ (r : Rest). r.got) t.queries_rest) (ap (λ k. k.seat) c.watch.ensures.first);
+            replies = none_moved i.replies.port.seat c.watch-2.new.self.first.value.seat n.replies.first.value.seat n.replies.port.seat (c.moved-2.ensures last.1)
+                (ap (λ (r : Rest). r.sent) t.replies_rest) (ap (λ (r : Rest). r.got) t.replies_rest) (ap (λ k. k.seat) c.watch-2.ensures.first);
+          };
     }

@@ -12,7 +12,7 @@ use Rattle.biconvey.specs.Taking.{Pushes, Answers, RefusesAnswer}
 use Rattle.rank_node.specs.Movers.{AllRead}
 use Rattle.biconvey.specs.States.{BiState, Sides, IsBiNode, HasAsked, HasAnswered}
 use Rattle.biconvey.specs.Still.{IsStuck, Known}
-use Rattle.biconvey.proofs.Turned.{Advances, works_on, same_asks, count_is, asked_count, receivers, low, all_pushed, begun1, agrees1, stays_done, dims2, open2, answers2, epoch2, pulled2, begun3, agrees3, over3, first4, heard4, turned}
+use Rattle.biconvey.proofs.Turned.{Advances, works_on, same_asks, count_is, asked_count, receivers, low, all_pushed, begun1, agrees1, stays_done, dims2, open2, answers2, epoch2, pulled2, begun3, agrees3, over3, halfway, first4, heard4, turned}
 use Rattle.biconvey.proofs.Stopped.{Served, complete_from, lies_left, once, read_or, stuck}
 use Rattle.biconvey.proofs.bi_node.BiNode.turn.Goals as goal
 
@@ -239,14 +239,14 @@ returns-clause-kept g c = λ start was.
       stays = λ e. ap (λ (t : State). t.phase) (c.advance-replied.ensures.complete e) ∙ e;
       step = c.advance-replied.ensures.step;
     } in
-    turned T laws start inside qs qg rs rg is g.row.CAP next count q1 push counted q2 qs' qg' adv q3 r1 ans over is_over r2 rs' rg' adv' c.hear_all.new.replies c.hear_all.new.asker.value c.hear_all.new.lines.items c.hear_all.ensures.hears c.hear_all.ensures.read c.phase.ensures.sound c.known.ensures.sound
+    turned T laws start inside qs qg rs rg is g.row.CAP next count q1 push counted q2 qs' qg' adv q3 r1 ans over is_over r2 rs' rg' adv' c.hear_all.new.replies c.hear_all.new.asker.value c.hear_all.new.lines.items c.hear_all.ensures.hears c.hear_all.ensures.read c.phase.ensures.sound c.known-2.ensures.sound
 
 pub returns-clause-unasked : goal.returns-clause-unasked
 returns-clause-unasked g c =
     let T = g.A.Asker.talk in
     let inside : BiState g.row.A.Denot = record { asker = c.self.inside.asker.value; next = c.self.inside.next; lines = c.self.inside.lines.items; queries = c.self.inside.queries; replies = c.self.inside.replies } in
     let n' : BiState g.row.A.Denot = record { asker = c.hear_all.new.asker.value; next = c.push_queries-self-inside.result; lines = c.hear_all.new.lines.items; queries = c.answer_open-refused.new.queries; replies = c.hear_all.new.replies } in
-    subst (λ (m : BiState g.row.A.Denot). HasAsked T g.row.CAP m n') c.self.view_is (record { at_push = c.push_queries-self-inside.new.conveyor; pushes = c.push_queries-self-inside.ensures })
+    subst (λ (m : BiState g.row.A.Denot). HasAsked T g.row.CAP m n') c.self.view_is (record { at_push = c.push_queries-self-inside.new.conveyor; fits = c.advance-asked.ensures.fits; pushes = c.push_queries-self-inside.ensures })
 
 pub returns-clause-unanswered : goal.returns-clause-unanswered
 returns-clause-unanswered g c =
@@ -290,6 +290,7 @@ returns-clause-unanswered g c =
       epoch = epoch2 T laws start inside qs qg rs rg is g.row.CAP next count q1 push counted q2 qs' qg' adv;
       pulled = pulled2 T laws start inside qs qg rs rg is g.row.CAP next count q1 push counted q2 qs' qg' adv;
       at_push = r1;
+      fits = c.advance-replied.ensures.fits;
       answers = ans;
       all = read_or refused (AllRead q3) ((to : ℕ) × RefusesAnswer g.row.CAP to q3 r1) c.answer_open-refused.ensures.read
           (λ to is. (to, subst (λ o. IfSome o (λ to. RefusesAnswer g.row.CAP to q3 r1)) is c.answer_open-refused.ensures.refused));
@@ -431,4 +432,38 @@ returns-clause-stuck g c = on_ok_from c.turn_of.result (λ answer ok start was s
     subst (λ (m : BiState g.row.A.Denot). IsStuck m n' old new known) c.self.view_is
     (stuck T inside (asks_of T inside.asker) g.row.CAP next (next == count) over c.hear_all.new.asker.value c.hear_all.new.lines.items q1 q2 q3 r1 r2 c.hear_all.new.replies c.answer_open-refused.result old new known
     push done_is (agrees1 T laws start inside qs qg rs rg is g.row.CAP next count q1 push counted) adv served ans c.answer_open-refused.ensures.read c.answer_open-refused.ensures.refused (agrees3 T laws start inside qs qg rs rg is g.row.CAP next count q1 push counted q2 qs' qg' adv q3 r1 ans) is_over adv' served'
-    c.hear_all.ensures.hears c.phase.ensures.grid c.phase.ensures.rank c.known.ensures.grid c.known.ensures.rank s1 g1 s2 g2))
+    c.hear_all.ensures.hears c.phase.ensures.grid c.phase.ensures.rank c.known-2.ensures.grid c.known-2.ensures.rank s1 g1 s2 g2))
+
+pub returns-clause-between : goal.returns-clause-between
+returns-clause-between g c =
+    let T = g.A.Asker.talk in
+    let laws = g.met.A.Asker.laws in
+    let inside : BiState g.row.A.Denot = record { asker = c.self.inside.asker.value; next = c.self.inside.next; lines = c.self.inside.lines.items; queries = c.self.inside.queries; replies = c.self.inside.replies } in
+    let qs = g.P.Port.sent c.args.queries.now in
+    let qg = g.P.Port.got c.args.queries.now in
+    let rs = g.R.Port.sent c.args.replies.now in
+    let rg = g.R.Port.got c.args.replies.now in
+    let is : (start : g.row.A.Denot) → IsBiNode T start c.args.self.now qs qg rs rg → IsBiNode T start inside qs qg rs rg = λ start was.
+    subst (λ (m : BiState g.row.A.Denot). IsBiNode T start m qs qg rs rg) (sym c.self.view_is) was in
+    let q1 = c.push_queries-self-inside.new.conveyor in
+    let next = c.push_queries-self-inside.result in
+    let count = c.count.result in
+    let push : Pushes (asks_of T inside.asker) g.row.CAP inside.next next inside.queries q1 = c.push_queries-self-inside.ensures in
+    let counted = c.count.ensures ∙ ap (λ s. length (T.queries s)) c.deref.ensures in
+    let q2 = c.advance-asked.new.self in
+    let qs' = g.P.Port.sent c.advance-asked.new.port in
+    let qg' = g.P.Port.got c.advance-asked.new.port in
+    let adv : Advances q1 q2 (next == count) qs qg qs' qg' = record {
+      agrees = c.advance-asked.ensures.agrees;
+      dims = c.advance-asked.ensures.self_dims;
+      rank = c.advance-asked.ensures.self_rank;
+      epoch = c.advance-asked.ensures.epoch;
+      done_is = c.advance-asked.ensures.done;
+      begun = c.advance-asked.ensures.begun;
+      works = works_on c.advance-asked.result q1 q2 (next == count) c.advance-asked.ensures.working c.advance-asked.ensures.no_memory;
+      stays = λ e. ap (λ (t : State). t.phase) (c.advance-asked.ensures.complete e) ∙ e;
+      step = c.advance-asked.ensures.step;
+    } in (
+      record { asker = inside.asker; next = next; lines = inside.lines; queries = q2; replies = inside.replies },
+      λ start was. halfway T laws start inside qs qg rs rg (is start was) g.row.CAP next count q1 push counted q2 qs' qg' adv c.known.ensures.sound,
+    )

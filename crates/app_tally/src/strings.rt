@@ -1,6 +1,6 @@
 //! Strings kept one behind the other: two allocations for all of them.
 
-ghost use Rattle.std.specs.Prelude.{◌≡◌, ◌<◌, ◌≤◌, ◌+◌, ◌++◌, ◌∷◌, [], Some, OnOk, OnErr, length, slice_get};
+ghost use Rattle.std.specs.Prelude.{◌≡◌, ◌<◌, ◌≤◌, ◌+◌, ◌++◌, ◌∷◌, [], nat_lt, Some, OnOk, OnErr, length, slice_get};
 ghost use Rattle.std.specs.List.{All};
 ghost use Rattle.elastic.specs.Spelling.{IsLetter};
 ghost use Rattle.app_tally.specs.Stores.{bytes_at, strings_at, IsStore};
@@ -8,6 +8,9 @@ ghost use Rattle.app_tally.specs.Stores.{bytes_at, strings_at, IsStore};
 use bale_types::NoMemory;
 use std::alloc::Global;
 use std::marker::Model;
+
+/// Bytes that stand before a string at most.
+const MOST_BEFORE: usize = 4_294_967_295;
 
 /// Where a string lies.
 #[derive(Clone, Copy)]
@@ -102,7 +105,7 @@ fn append(bytes: &mut Vec<u8>, spans: &mut Vec<Span>, string: &[u8]) -> Result<(
         ≡ strings_at bytes.old.items spans.old.items) }
 {
     let start = bytes.len();
-    if start > u32::MAX as usize {
+    if is_full(start) {
         return Err(NoMemory);
     }
     is_letter(string);
@@ -113,6 +116,13 @@ fn append(bytes: &mut Vec<u8>, spans: &mut Vec<Span>, string: &[u8]) -> Result<(
     };
     spans.push(span)?;
     Ok(())
+}
+
+/// Whether no string has its place behind so many bytes.
+fn is_full(start: usize) -> bool
+    ensures { result ≡ nat_lt 4_294_967_295 start }
+{
+    start > MOST_BEFORE
 }
 
 /// A short string is a letter: its bytes are below 256, as their type says.

@@ -1,5 +1,5 @@
 //! Matrices of cells.
-ghost use Rattle.std.specs.Prelude.{◌≡◌, ◌≤◌, ◌++◌, [], length, IfOk, OnOk};
+ghost use Rattle.std.specs.Prelude.{◌≡◌, ◌≤◌, ◌++◌, [], nat_lt, length, IfOk, OnOk};
 ghost use Rattle.std.specs.List.{All};
 ghost use Rattle.mtx_text.specs.Sparse.{IsEntry};
 ghost use Rattle.mtx_text.specs.Cells.{InOrder, gathered, together, sparse};
@@ -73,8 +73,15 @@ fn of_triples(rows: u32, cols: u32, kind: Kind, triples: Vec<Triple>) -> Result<
 {
     let mut triples = triples;
     gather(&mut triples);
-    if triples.len() > MOST_ENTRIES {
+    if are_too_many(triples.len()) {
         return Err(NoMemory);
     }
     Ok(Matrix::of_parts(rows, cols, kind, triples))
+}
+
+/// Whether a matrix has no place for so many cells.
+fn are_too_many(cells: usize) -> bool
+    ensures { result ≡ nat_lt 524_288 cells }
+{
+    cells > MOST_ENTRIES
 }

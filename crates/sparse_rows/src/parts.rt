@@ -66,4 +66,16 @@ impl Parts {
         let e = x * self.ranks as usize + rank as usize;
         (e as u32, self.entries[e])
     }
+
+    /// The same, or `None` exactly where `x` is past the part's end. The rank is below the number of parts.
+    pub fn get(&self, rank: u32, x: usize) -> Option<(u32, Triple)>
+        requires { rank < length self.now }
+        ensures { result ≡ slice_get (slice_index_or self.now rank []) x }
+    {
+        if x < self.len(rank) {
+            Some(self.entry(rank, x))
+        } else {
+            None
+        }
+    }
 }

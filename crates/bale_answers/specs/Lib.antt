@@ -1,4 +1,5 @@
 pub mod Answer
+pub mod Endings
 pub mod Logs
 pub mod Orders
 pub mod Serving

@@ -7,13 +7,14 @@ ghost use Rattle.round_program.specs.Canonical.{HaveEnded};
 ghost use Rattle.app_cases.specs.Any.{any_rules};
 ghost use Rattle.app_histo_ig.specs.ColumnAnswers.{IgHeard};
 ghost use Rattle.bale_words.specs.Ranges.{TaskInRanges};
-ghost use Rattle.bale_answers.specs.Answer.{HasWritten, shown};
+ghost use Rattle.bale_answers.specs.Answer.{HasWritten};
+ghost use Rattle.bale_answers.specs.Endings.{IsEnding};
 ghost use Rattle.bale_subjects.specs.Fitness.{first_failed, subject_tests, task_unfitness};
 ghost use Rattle.bale_answers.specs.Logs.{bytes_of};
 ghost use Rattle.bale_answers.specs.Starts.{matrix_starts, starts_of};
 ghost use Rattle.bale_subjects.specs.Subjects.{is_tally, suits};
 ghost use Rattle.bale_answers.specs.Summary.{summary_of};
-ghost use Rattle.bale_answers.specs.Tasks.{IsAnswer, IsMatrixAnswer, matrix_status, task_status};
+ghost use Rattle.bale_answers.specs.Tasks.{IsAnswer};
 
 use crate::application::{Application, Written};
 use crate::column_answers::{HistoAnswer, IgAnswer, IgHeardAnswer};
@@ -40,8 +41,8 @@ pub struct Ending {
     pub written: Result<(), Failed>,
 }
 
-/// Writes the answer of a task for its subject, by the programs after their last round: its bytes, or their summary where
-/// the matrix was generated.
+/// Writes the answer of a task for its subject, by the programs after their last round: its bytes, or, at status 0 and where the
+/// matrix was generated, their summary.
 ///
 /// # Errors
 /// `NoMemory` where the answer found none: then nothing is written.
@@ -58,13 +59,7 @@ pub fn finished<K: Sink>(
     requires fits { (serial : Bool) × (first_failed (subject_tests task.now subject.now serial) ≡ None) }
     requires ended { (ranks : ℕ) × (1 ≤ ranks) × (ranks ≤ 64) × (0 < length (starts_of task.now ranks subject.now))
         × HaveEnded any_rules (starts_of task.now ranks subject.now) progs }
-    ensures status { IfOk result (λ e. e.status ≡ task_status task.now subject.now) }
-    ensures low { IfOk result (λ e. e.status ≤ 1) }
-    ensures answer { IfOk result (λ e. HasWritten (IsAnswer task.now subject.now) (shown generated) (K.taken out.old)
-        (K.taken out.new) e.written) }
-    ensures cause { IfOk result (λ e. HasCause (K.faults out.old) (K.faults out.new) e.written) }
-    ensures no_fault { IfOk result (λ e. OnOk e.written (K.faults out.new ≡ K.faults out.old)) }
-    ensures held { IsFront (K.taken out.old) (K.taken out.new) }
+    ensures ending { IfOk result (IsEnding task.now subject.now generated K.taken K.faults out.old out.new) }
     ensures no_answer { OnErr result (out.new ≡ out.old) }
 {
     match subject {
@@ -75,8 +70,7 @@ pub fn finished<K: Sink>(
     }
 }
 
-/// Writes the answer of ig by the ranks that asked one another, each after its last reply: its bytes, or their summary where the
-/// matrix was generated. No memory is taken.
+/// Writes the answer of ig by the ranks that asked one another, each after its last reply. No memory is taken.
 pub fn finished_by_asking<K: Sink>(
     m: &Matrix,
     askers: &Progs<IgAsker>,
@@ -84,13 +78,7 @@ pub fn finished_by_asking<K: Sink>(
     out: &mut K,
 ) -> Ending
     requires heard { IgHeard m.now askers.now }
-    ensures status { result.status ≡ matrix_status Task.Ig m.now }
-    ensures low { result.status ≤ 1 }
-    ensures answer { HasWritten (IsMatrixAnswer Task.Ig m.now) (shown generated) (K.taken out.old)
-        (K.taken out.new) result.written }
-    ensures cause { HasCause (K.faults out.old) (K.faults out.new) result.written }
-    ensures no_fault { OnOk result.written (K.faults out.new ≡ K.faults out.old) }
-    ensures held { IsFront (K.taken out.old) (K.taken out.new) }
+    ensures { IsEnding Task.Ig (Subject.Matrix m.now) generated K.taken K.faults out.old out.new result }
 {
     m.known();
     written_as::<IgHeardAnswer, K>(&Task::Ig, m, askers, generated, out)
@@ -110,13 +98,7 @@ fn finished_on<K: Sink>(
     requires fits { (serial : Bool) × (task_unfitness task.now m.now serial ≡ None) }
     requires ended { (ranks : ℕ) × (1 ≤ ranks) × (ranks ≤ 64) × (0 < length (matrix_starts task.now ranks m.now))
         × HaveEnded any_rules (matrix_starts task.now ranks m.now) progs }
-    ensures status { IfOk result (λ e. e.status ≡ matrix_status task.now m.now) }
-    ensures low { IfOk result (λ e. e.status ≤ 1) }
-    ensures answer { IfOk result (λ e. HasWritten (IsMatrixAnswer task.now m.now) (shown generated) (K.taken out.old)
-        (K.taken out.new) e.written) }
-    ensures cause { IfOk result (λ e. HasCause (K.faults out.old) (K.faults out.new) e.written) }
-    ensures no_fault { IfOk result (λ e. OnOk e.written (K.faults out.new ≡ K.faults out.old)) }
-    ensures held { IsFront (K.taken out.old) (K.taken out.new) }
+    ensures ending { IfOk result (IsEnding task.now (Subject.Matrix m.now) generated K.taken K.faults out.old out.new) }
     ensures no_answer { OnErr result (out.new ≡ out.old) }
 {
     m.known();
@@ -147,13 +129,7 @@ fn finished_as<A: Application, K: Sink>(
     requires ended { (ranks : ℕ) × (1 ≤ ranks) × (ranks ≤ 64)
         × (0 < length (map A.Prog.case_of (A.starts task.now ranks of.now)))
         × HaveEnded any_rules (map A.Prog.case_of (A.starts task.now ranks of.now)) progs }
-    ensures status { IfOk result (λ e. e.status ≡ task_status task.now (A.as_subject of.now)) }
-    ensures low { IfOk result (λ e. e.status ≤ 1) }
-    ensures answer { IfOk result (λ e. HasWritten (IsAnswer task.now (A.as_subject of.now)) (shown generated)
-        (K.taken out.old) (K.taken out.new) e.written) }
-    ensures cause { IfOk result (λ e. HasCause (K.faults out.old) (K.faults out.new) e.written) }
-    ensures no_fault { IfOk result (λ e. OnOk e.written (K.faults out.new ≡ K.faults out.old)) }
-    ensures held { IsFront (K.taken out.old) (K.taken out.new) }
+    ensures ending { IfOk result (IsEnding task.now (A.as_subject of.now) generated K.taken K.faults out.old out.new) }
     ensures no_answer { OnErr result (out.new ≡ out.old) }
 {
     let progs = take_all(alloc, progs)?;
@@ -161,7 +137,7 @@ fn finished_as<A: Application, K: Sink>(
     Ok(written_as::<A, K>(task, of, &answer, generated, out))
 }
 
-/// Writes an answer: its bytes, or their summary where the matrix was generated. No memory is taken.
+/// Writes an answer: its bytes, or, at status 0 and where the matrix was generated, their summary. No memory is taken.
 fn written_as<A: Written, K: Sink>(
     task: &Task,
     of: &A::Of,
@@ -171,18 +147,13 @@ fn written_as<A: Written, K: Sink>(
 ) -> Ending
     requires serves { A.serves task.now of.now }
     requires answers { A.answers task.now of.now answer.now }
-    ensures status { result.status ≡ task_status task.now (A.as_subject of.now) }
-    ensures low { result.status ≤ 1 }
-    ensures answer { HasWritten (IsAnswer task.now (A.as_subject of.now)) (shown generated) (K.taken out.old)
-        (K.taken out.new) result.written }
-    ensures cause { HasCause (K.faults out.old) (K.faults out.new) result.written }
-    ensures no_fault { OnOk result.written (K.faults out.new ≡ K.faults out.old) }
-    ensures held { IsFront (K.taken out.old) (K.taken out.new) }
+    ensures { IsEnding task.now (A.as_subject of.now) generated K.taken K.faults out.old out.new result }
 {
     let status = A::status(task, answer, of);
-    let written = match generated {
-        None => write_answer::<A, K>(task, answer, of, out),
-        Some(_) => write_summary::<A, K>(task, answer, of, out),
+    let written = if generated.is_some() && status == 0 {
+        write_summary::<A, K>(task, answer, of, out)
+    } else {
+        write_answer::<A, K>(task, answer, of, out)
     };
     Ending { status, written }
 }

@@ -8,8 +8,8 @@
 //! | [`finished_by_asking`] | the same of ig, by the ranks that asked one another |
 //!
 //! Read `specs/Answer` first: the serial answer, about the words and the text alone. Then `specs/Tasks` (what each application answers),
-//! `specs/Orders` (what topo answers) and `specs/Summary` (the line of `--gen`). `specs/Starts` has the programs of a task; the other
-//! files of `specs/` are the code's own words.
+//! `specs/Orders` (what topo answers), `specs/Summary` (the line of `--gen`) and `specs/Endings` (how the writing of an answer ends).
+//! `specs/Starts` has the programs of a task; the other files of `specs/` are the code's own words.
 #![tactic(auto)]
 
 mod application;

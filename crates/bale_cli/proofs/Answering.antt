@@ -12,14 +12,14 @@ use Rattle.bale_subjects.specs.declared.refusal.Refusal.{Refusal}
 use Rattle.bale_subjects.specs.declared.refusal.Refusal.TheVariants as refusal
 use Rattle.bale_subjects.specs.declared.subject.Subject.{Subject}
 use Rattle.bale_subjects.specs.declared.unfit.Unfit.{Unfit}
-use Rattle.bale_answers.specs.Answer.{shown, Asked, HasWritten, Wrote}
+use Rattle.bale_answers.specs.Answer.{Asked, Wrote}
 use Rattle.bale_subjects.specs.Reading.{reads, TellsText, Told}
 use Rattle.bale_subjects.specs.Refusals.{IsOfText}
 use Rattle.bale_runs.specs.Asking.{TellsCommand}
+use Rattle.bale_runs.specs.Finishes.{IsFinish}
 use Rattle.bale_subjects.specs.Fitness.{unfitness}
 use Rattle.bale_cli.specs.Outcomes.{Answered}
 use Rattle.bale_subjects.specs.Subjects.{subject_asked}
-use Rattle.bale_answers.specs.Tasks.{IsAnswer, task_status}
 use Rattle.bale_cli.proofs.Endings.{before_text, wrote_status}
 
 abbrev pub err : {T : Type 0} → Refusal → Result T Refusal
@@ -95,6 +95,7 @@ module _ {S K : Type 0} {serial : Command → Bool} {left : S → Option (List �
         kinds = λ e. no_write (of_words r refusal.WriteFault kinds e);
         wrote = λ text told. tt;
         status = λ text told. tt;
+        low = tt;
         write_fault = tt;
         no_write_fault = tt;
         held = front_kept taken same_out;
@@ -132,6 +133,7 @@ module _ {S K : Type 0} {serial : Command → Bool} {left : S → Option (List �
         kinds = kinds.0;
         wrote = λ text told. tt;
         status = λ text told. tt;
+        low = tt;
         write_fault = tt;
         no_write_fault = tt;
         held = front_kept taken same_out;
@@ -147,13 +149,12 @@ module _ {S K : Type 0} {serial : Command → Bool} {left : S → Option (List �
       → ((text : List ℕ) → Told (Some c) (left source) text → subject_asked c text ≡ Ok s) → unfitness c s (serial c) ≡ None
       → read_faults source' ≡ read_faults source → (reads (Some c) ≡ false → source' ≡ source)
       → ((text : List ℕ) → left source ≡ Some text → reads (Some c) ≡ true → left source' ≡ Some (drop 16777217 text))
-      → IfOk answered (λ f. f.status ≡ task_status c.task s) → IfOk answered (λ f. HasWritten (IsAnswer c.task s) (shown c.travel.generated) (taken out) (taken out') f.written)
-      → IfOk answered (λ f. HasCause (write_faults out) (write_faults out') f.written) → IfOk answered (λ f. OnOk f.written (write_faults out' ≡ write_faults out))
-      → IsFront (taken out) (taken out') → OnErr answered (out' ≡ out) → IfErr answered (λ r. r ≡ refusal.NoMemory) → IfOk answered (λ f. TellsCommand (serial c) c s f.rounds)
+      → IsFinish c s (TellsCommand (serial c) c s) taken write_faults out out' answered
       → Answered serial (Some c) left read_faults source source' taken write_faults out out' answered
-  ran_answered (Ok f) c s subject fits calm unread whole status wrote write_fault no_write_fault held same memory rounds =
+  ran_answered (Ok f) c s subject fits calm unread whole finish =
+      let wrote = finish.ending.answer in
       let written : (text : List ℕ) → Told (Some c) (left source) text
-      → Wrote serial (Some c) text (λ bytes. OnOk f.written (taken out' ≡ after (taken out) bytes) × OnErr f.written (IsFront (taken out') (after (taken out) bytes))) = λ text told.
+      → Wrote serial (Some c) text (λ bytes. OnOk f.ending.written (taken out' ≡ after (taken out) bytes) × OnErr f.ending.written (IsFront (taken out') (after (taken out) bytes))) = λ text told.
       record { command = c; asked = refl; subject = s; read = subject text told; fits = fits; bytes = wrote.bytes; answers = wrote.answers; wrote = (wrote.whole, wrote.front) } in
       record {
         usage = λ e. absurd cc;
@@ -164,10 +165,11 @@ module _ {S K : Type 0} {serial : Command → Bool} {left : S → Option (List �
         unfit = λ text u told e. absurd cc;
         kinds = tt;
         wrote = written;
-        status = λ text told. status ∙ wrote_status (written text told);
-        write_fault = write_fault;
-        no_write_fault = no_write_fault;
-        held = held;
+        status = λ text told. finish.ending.status ∙ wrote_status (written text told);
+        low = finish.ending.low;
+        write_fault = finish.ending.cause;
+        no_write_fault = finish.ending.no_fault;
+        held = finish.ending.held;
         unread = unread;
         read_whole = λ text told r. whole text told r;
         read_bad = λ text told r. tt;
@@ -175,9 +177,10 @@ module _ {S K : Type 0} {serial : Command → Bool} {left : S → Option (List �
         rounds = λ text c' s' asked.
             let e = same_asked c s text c' s' subject asked in
             subst (λ (y : Subject). TellsCommand (serial c') c' y f.rounds) e.1
-            (subst (λ (x : Command). TellsCommand (serial x) x s f.rounds) e.0 rounds);
+            (subst (λ (x : Command). TellsCommand (serial x) x s f.rounds) e.0 finish.rounds);
       }
-  ran_answered (Err r) c s subject fits calm unread whole status wrote write_fault no_write_fault held same memory rounds =
+  ran_answered (Err r) c s subject fits calm unread whole finish =
+      let memory = finish.memory in
       let kinds : (r ≡ refusal.Usage) ⊎ (r ≡ refusal.NoMemory) = inr memory in
       record {
         usage = λ e. absurd (no_usage (sym memory ∙ same_Err r refusal.Usage e));
@@ -189,13 +192,14 @@ module _ {S K : Type 0} {serial : Command → Bool} {left : S → Option (List �
         kinds = λ e. no_write (of_words r refusal.WriteFault kinds e);
         wrote = λ text told. tt;
         status = λ text told. tt;
+        low = tt;
         write_fault = tt;
         no_write_fault = tt;
-        held = held;
+        held = front_kept taken finish.no_answer;
         unread = unread;
         read_whole = λ text told r. tt;
         read_bad = λ text told rd of_text. absurd (before_text r kinds of_text);
-        no_answer = same;
+        no_answer = finish.no_answer;
         rounds = λ text c' s' asked. tt;
       }
     where

@@ -46,9 +46,9 @@ failed {Q = Q} d q = subst (λ w. OnErr w Q) d.is q
 
 -- an answer that was written has status 0 or 1, one that wasn't 4
 ends : {E : Type 0} {said_to : E → Option (List ℕ)} {err_faults : E → ℕ} {err err' : E} {status : ℕ} {rounds : List ClosedRound} (f : Finish) → IsOutcome (Ok f) said_to err_faults err err' status rounds
-    → Did f.written ((status ≡ f.status) × (status ≤ 1) × (err' ≡ err))
-    ⊎ Failed f.written ((status ≡ 4) × (¬ Rose (err_faults err) (err_faults err') → said_to err' ≡ after (said_to err) (refusal_text refusal.WriteFault)) × IsFront (said_to err') (after (said_to err) (refusal_text refusal.WriteFault)))
-ends f o = split f.written o.written o.unwritten
+    → Did f.ending.written ((status ≡ f.ending.status) × (status ≤ 1) × (err' ≡ err))
+    ⊎ Failed f.ending.written ((status ≡ 4) × (¬ Rose (err_faults err) (err_faults err') → said_to err' ≡ after (said_to err) (refusal_text refusal.WriteFault)) × IsFront (said_to err') (after (said_to err) (refusal_text refusal.WriteFault)))
+ends f o = split f.ending.written o.written o.unwritten
 
 low_not : (status n : ℕ) → 1 < n → status ≤ 1 → status ≡ n → ⊥
 low_not status n past low e = omega (arith, past, low, e)

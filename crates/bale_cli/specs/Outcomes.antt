@@ -27,10 +27,11 @@ pub record Answered {S K : Type 0} (serial : Command → Bool) (job : Option Com
   pub unfit : (text : List ℕ) (u : Unfit) → Told job (left source) text → answered ≡ Err (refusal.Unfit u) → IsUnfit serial job text u
   pub kinds : IfErr answered (λ r. r ≢ refusal.WriteFault)
   pub wrote : (text : List ℕ) → Told job (left source) text → IfOk answered (λ f. Wrote serial job text
-      (λ bytes. OnOk f.written (taken out' ≡ after (taken out) bytes) × OnErr f.written (IsFront (taken out') (after (taken out) bytes))))
-  pub status : (text : List ℕ) → Told job (left source) text → IfOk answered (λ f. f.status ≡ (answer_to serial job text).status)
-  pub write_fault : IfOk answered (λ f. HasCause (write_faults out) (write_faults out') f.written)
-  pub no_write_fault : IfOk answered (λ f. OnOk f.written (write_faults out' ≡ write_faults out))
+      (λ bytes. OnOk f.ending.written (taken out' ≡ after (taken out) bytes) × OnErr f.ending.written (IsFront (taken out') (after (taken out) bytes))))
+  pub status : (text : List ℕ) → Told job (left source) text → IfOk answered (λ f. f.ending.status ≡ (answer_to serial job text).status)
+  pub low : IfOk answered (λ f. f.ending.status ≤ 1)
+  pub write_fault : IfOk answered (λ f. HasCause (write_faults out) (write_faults out') f.ending.written)
+  pub no_write_fault : IfOk answered (λ f. OnOk f.ending.written (write_faults out' ≡ write_faults out))
   pub held : IsFront (taken out) (taken out')
   pub unread : reads job ≡ false → source' ≡ source
   pub read_whole : (text : List ℕ) → left source ≡ Some text → reads job ≡ true → OnOk answered (left source' ≡ Some (drop 16777217 text))
@@ -43,8 +44,8 @@ pub record Answered {S K : Type 0} (serial : Command → Bool) (job : Option Com
 pub record IsOutcome {E : Type 0} (answered : Result Finish Refusal) (taken : E → Option (List ℕ)) (faults : E → ℕ) (err err' : E) (status : ℕ) (rounds : List ClosedRound) : Type 0 where
   pub told : IfOk answered (λ f. rounds ≡ f.rounds)
   pub no_rounds : OnErr answered (rounds ≡ [])
-  pub written : IfOk answered (λ f. OnOk f.written ((status ≡ f.status) × (status ≤ 1) × (err' ≡ err)))
-  pub unwritten : IfOk answered (λ f. OnErr f.written ((status ≡ 4) × (¬ Rose (faults err) (faults err') → taken err' ≡ after (taken err) (refusal_text refusal.WriteFault))
+  pub written : IfOk answered (λ f. OnOk f.ending.written ((status ≡ f.ending.status) × (status ≤ 1) × (err' ≡ err)))
+  pub unwritten : IfOk answered (λ f. OnErr f.ending.written ((status ≡ 4) × (¬ Rose (faults err) (faults err') → taken err' ≡ after (taken err) (refusal_text refusal.WriteFault))
       × IsFront (taken err') (after (taken err) (refusal_text refusal.WriteFault))))
   pub refused : IfErr answered (λ r. (status ≡ status_of r) × (¬ Rose (faults err) (faults err') → taken err' ≡ after (taken err) (refusal_text r))
       × IsFront (taken err') (after (taken err) (refusal_text r)))

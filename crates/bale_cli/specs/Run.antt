@@ -7,7 +7,8 @@ use Rattle.bale_words.specs.Words.{command_of}
 use Rattle.bale_subjects.specs.declared.subject.Subject.{Subject}
 use Rattle.bale_subjects.specs.Reading.{reads, Told}
 use Rattle.bale_answers.specs.Answer.{serial_answer, said, Asked, Wrote}
-use Rattle.bale_runs.specs.Asking.{TellsCommand}
+use Rattle.bale_runs.specs.Asking.{TellsCommand, TurnsOfCommand}
+use Rattle.bale_runs.specs.Jobs.{on_one_thread}
 
 -- A run of the command that the words name, which ends with a status and tells its rounds. `serial` says of each command whether one thread
 -- turns all its ranks; `left` is what a source tells of what it has left, `taken` and `told` what out and err tell of what they have taken,
@@ -53,3 +54,10 @@ pub record IsRun {S K E : Type 0} (serial : Command → Bool) (words : List (Lis
   pub rounds_tell : (text : List ℕ) (c : Command) (s : Subject) → Asked serial (left source) (command_of words) text c s
       → (status ≡ 0) ⊎ (status ≡ 1) ⊎ (status ≡ 4) → TellsCommand (serial c) c s rounds
   pub no_rounds : status ≢ 0 → status ≢ 1 → status ≢ 4 → rounds ≡ []
+
+-- The turns of a run on one thread, from `before` to `after`, by what the words name and what the source tells.
+pub record AreTurns (left : Option (List ℕ)) (job : Option Command) (before after : ℕ) : Type 0 where
+  -- They are bounded by the words and the matrix or lines, at 7 too.
+  pub bounded : (text : List ℕ) (c : Command) (s : Subject) → Asked on_one_thread left job text c s → TurnsOfCommand c s before after
+  -- Where the words and the text ask for no run, there are none.
+  pub idle : (text : List ℕ) → Told job left text → ((c : Command) (s : Subject) → ¬ Asked on_one_thread left job text c s) → after ≡ before

@@ -1,16 +1,10 @@
 //! The top calls: from the words and the bytes that come in to the bytes that go out.
-ghost use Rattle.std.specs.Prelude.{◌≡◌, ◌≢◌, ◌⊎◌, ◌≤◌, ◌<◌, ℕ, true, false, [], List, Option, Some, None, Ok, Err, map, drop, string_bytes, OnOk, OnErr, IfOk, IfErr};
-ghost use Rattle.bale_types.specs.Stream.{after, HasCause, IsFront, Rose};
-ghost use Rattle.bale_words.specs.declared.command.Command.{Command};
+ghost use Rattle.std.specs.Prelude.{◌≡◌, ◌≢◌, ◌≤◌, Some, map, string_bytes, IfOk, IfErr};
 ghost use Rattle.bale_words.specs.Ranges.{InRanges};
 ghost use Rattle.bale_words.specs.Words.{command_of};
-ghost use Rattle.bale_answers.specs.Answer.{serial_answer, said, Asked, Wrote};
-ghost use Rattle.bale_subjects.specs.Refusals.{refusal_text, status_of};
-ghost use Rattle.bale_subjects.specs.Reading.{reads, Told};
-ghost use Rattle.bale_runs.specs.Asking.{TellsCommand, TurnsOfCommand};
 ghost use Rattle.bale_runs.specs.Jobs.{as_asked, on_one_thread};
-ghost use Rattle.bale_cli.specs.Outcomes.{Answered};
-ghost use Rattle.bale_cli.specs.Run.{IsRun};
+ghost use Rattle.bale_cli.specs.Outcomes.{Answered, IsOutcome};
+ghost use Rattle.bale_cli.specs.Run.{AreTurns, IsRun};
 
 use bale_runs::{Finish, drives_serially, ran, ran_serially};
 use bale_subjects::{Refusal, Subject, read_words, report, subject_for};
@@ -31,7 +25,7 @@ pub struct Outcome {
     pub rounds: Rounds,
 }
 
-/// Runs the command of the words after the program's name on the text of `source`, each rank on a thread of its own or all
+/// Runs the command of the words after the program's name on the text of `source`, the ranks on threads or all
 /// on this one, as the words say, and writes the answer to `out` or why there is none to `err`. Before each turn of a rank's
 /// thread the gate is told of it.
 ///
@@ -71,15 +65,8 @@ pub fn run_serial<S: Source, K: Sink, E: Sink, L: Ledger>(
     ensures run { IsRun on_one_thread (map string_bytes words.now) S.left S.faults source.old source.new
         K.taken K.faults out.old out.new E.taken E.faults err.old err.new result.status result.rounds }
 
-    // The turns are bounded by the words and the matrix or lines, at 7 too; where the words and the text ask for no run, and at a
-    // refusal, there are none.
-    ensures steps { (text : List ℕ) (c : Command) (s : Subject)
-        → Asked on_one_thread (S.left source.old) (command_of (map string_bytes words.now)) text c s
-        → TurnsOfCommand c s steps.old steps.new }
-    ensures idle { (text : List ℕ) → Told (command_of (map string_bytes words.now)) (S.left source.old) text
-        → ((c : Command) (s : Subject)
-        → ¬ Asked on_one_thread (S.left source.old) (command_of (map string_bytes words.now)) text c s)
-        → steps.new ≡ steps.old }
+    // The turns are bounded, and where the words and the text ask for no run, or they are refused, there are none.
+    ensures turns { AreTurns (S.left source.old) (command_of (map string_bytes words.now)) steps.old steps.new }
     ensures no_turns { result.status ≢ 0 → result.status ≢ 1 → result.status ≢ 4 → result.status ≢ 7
         → steps.new ≡ steps.old }
 {
@@ -89,32 +76,20 @@ pub fn run_serial<S: Source, K: Sink, E: Sink, L: Ledger>(
 
 /// How a run ended, which is said on `err` where there is no answer.
 fn outcome_of<E: Sink>(alloc: Global, answered: Result<Finish, Refusal>, err: &mut E) -> Outcome
-    requires low { IfOk answered (λ f. f.status ≤ 1) }
-    ensures rounds { IfOk answered (λ f. result.rounds ≡ f.rounds) }
-    ensures no_rounds { OnErr answered (result.rounds ≡ []) }
-    ensures written { IfOk answered (λ f. OnOk f.written ((result.status ≡ f.status) × (result.status ≤ 1)
-        × (err.new ≡ err.old))) }
-    ensures unwritten { IfOk answered (λ f. OnErr f.written ((result.status ≡ 4)
-        × (¬ Rose (E.faults err.old) (E.faults err.new) → E.taken err.new
-        ≡ after (E.taken err.old) (refusal_text Refusal.WriteFault))
-        × IsFront (E.taken err.new) (after (E.taken err.old) (refusal_text Refusal.WriteFault)))) }
-    ensures refused { IfErr answered (λ r. (result.status ≡ status_of r)
-        × (¬ Rose (E.faults err.old) (E.faults err.new) → E.taken err.new ≡ after (E.taken err.old) (refusal_text r))
-        × IsFront (E.taken err.new) (after (E.taken err.old) (refusal_text r))) }
-    ensures held { IsFront (E.taken err.old) (E.taken err.new) }
+    requires low { IfOk answered (λ f. f.ending.status ≤ 1) }
+    ensures { IsOutcome answered E.taken E.faults err.old err.new result.status result.rounds }
 {
     match answered {
-        Ok(
-            Finish {
-                status,
-                written: Ok(()),
+        Ok(Finish { ending, rounds }) => match ending.written {
+            Ok(()) => Outcome {
+                status: ending.status,
                 rounds,
             },
-        ) => Outcome { status, rounds },
-        Ok(Finish { rounds, .. }) => {
-            report(err, Refusal::WriteFault);
-            Outcome { status: 4, rounds }
-        }
+            Err(_) => {
+                report(err, Refusal::WriteFault);
+                Outcome { status: 4, rounds }
+            }
+        },
         Err(refusal) => {
             report(err, refusal);
             Outcome {
@@ -134,8 +109,7 @@ fn answer<R: Threads + Wait + Sync, S: Source, K: Sink, G: Gate + Sync>(
     out: &mut K,
     gate: &G,
 ) -> Result<Finish, Refusal>
-    ensures low { IfOk result (λ f. f.status ≤ 1) }
-    ensures answered { Answered as_asked (command_of (map string_bytes words.now))
+    ensures { Answered as_asked (command_of (map string_bytes words.now))
         S.left S.faults source.old source.new K.taken K.faults out.old out.new result }
 {
     match read_words(alloc, words) {
@@ -154,8 +128,7 @@ fn answer_of<R: Threads + Wait + Sync, S: Source, K: Sink, G: Gate + Sync>(
     gate: &G,
 ) -> Result<Finish, Refusal>
     requires ranges { InRanges command.now }
-    ensures low { IfOk result (λ f. f.status ≤ 1) }
-    ensures answered { Answered as_asked (Some command.now) S.left S.faults source.old source.new
+    ensures { Answered as_asked (Some command.now) S.left S.faults source.old source.new
         K.taken K.faults out.old out.new result }
 {
     let serial = drives_serially(command);
@@ -173,16 +146,9 @@ fn answer_serially<S: Source, K: Sink, L: Ledger>(
     out: &mut K,
     steps: &mut Steps<L>,
 ) -> Result<Finish, Refusal>
-    ensures low { IfOk result (λ f. f.status ≤ 1) }
     ensures answered { Answered on_one_thread (command_of (map string_bytes words.now))
         S.left S.faults source.old source.new K.taken K.faults out.old out.new result }
-    ensures steps { (text : List ℕ) (c : Command) (s : Subject)
-        → Asked on_one_thread (S.left source.old) (command_of (map string_bytes words.now)) text c s
-        → TurnsOfCommand c s steps.old steps.new }
-    ensures idle { (text : List ℕ) → Told (command_of (map string_bytes words.now)) (S.left source.old) text
-        → ((c : Command) (s : Subject)
-        → ¬ Asked on_one_thread (S.left source.old) (command_of (map string_bytes words.now)) text c s)
-        → steps.new ≡ steps.old }
+    ensures turns { AreTurns (S.left source.old) (command_of (map string_bytes words.now)) steps.old steps.new }
     ensures no_turns { IfErr result (λ r. r ≢ Refusal.NoMemory → steps.new ≡ steps.old) }
 {
     match read_words(alloc, words) {
@@ -199,15 +165,9 @@ fn answer_of_serially<S: Source, K: Sink, L: Ledger>(
     steps: &mut Steps<L>,
 ) -> Result<Finish, Refusal>
     requires ranges { InRanges command.now }
-    ensures low { IfOk result (λ f. f.status ≤ 1) }
     ensures answered { Answered on_one_thread (Some command.now) S.left S.faults source.old source.new
         K.taken K.faults out.old out.new result }
-    ensures steps { (text : List ℕ) (c : Command) (s : Subject)
-        → Asked on_one_thread (S.left source.old) (Some command.now) text c s
-        → TurnsOfCommand c s steps.old steps.new }
-    ensures idle { (text : List ℕ) → Told (Some command.now) (S.left source.old) text
-        → ((c : Command) (s : Subject) → ¬ Asked on_one_thread (S.left source.old) (Some command.now) text c s)
-        → steps.new ≡ steps.old }
+    ensures turns { AreTurns (S.left source.old) (Some command.now) steps.old steps.new }
     ensures no_turns { IfErr result (λ r. r ≢ Refusal.NoMemory → steps.new ≡ steps.old) }
 {
     match subject_for(alloc, command, source, true) {

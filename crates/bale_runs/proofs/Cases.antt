@@ -1,5 +1,5 @@
 -- What a drive tells of the programs as any of the applications, it tells of the application's own.
-use Rattle.std.proofs.Common.{ℕ, ◌≡◌, ◌<◌, ◌≤◌, ◌+◌, true, not, List, [], ◌∷◌, map, length, None, Some, Result, Ok, Err, IfOk, sym, ap, ◌∙◌, subst, arith, ◌-◌}
+use Rattle.std.proofs.Common.{ℕ, ◌≡◌, ◌<◌, ◌≤◌, ◌+◌, true, not, List, [], ◌∷◌, map, length, Option, None, Some, Result, Ok, Err, IfOk, IfErr, OnErr, refl, sym, ap, ◌∙◌, subst, arith, ◌-◌}
 use Rattle.std.proofs.lemmas.List.{length-map}
 use Rattle.route_tensor.specs.Grid.{ranks}
 use Rattle.mtx_text.specs.Sparse.{Sparse}
@@ -25,6 +25,10 @@ use Rattle.app_cases.specs.Cases.{histo_is_case, ig_is_case, permute_is_case, tr
 use Rattle.app_cases.proofs.Driving.{steps, are_cases, ended, rounds}
 use Rattle.bale_runs.specs.declared.exchange.Finish.{Finish}
 use Rattle.bale_subjects.specs.declared.refusal.Refusal.{Refusal}
+use Rattle.bale_subjects.specs.declared.refusal.Refusal.TheVariants as refusal
+use Rattle.bale_answers.specs.Endings.{IsEnding}
+use Rattle.bale_words.specs.declared.command.Command.{Command}
+use Rattle.bale_runs.specs.Finishes.{IsFinish}
 use Rattle.bale_subjects.specs.Numberings.{perms_for}
 use Rattle.bale_subjects.specs.declared.subject.Subject.{Subject}
 use Rattle.bale_subjects.specs.declared.subject.Subject.TheVariants as subject
@@ -123,3 +127,14 @@ none_made t (subject.Lines lines) manner dims before after e = λ n h. few _ e
 pub rounds_as : (P : List ClosedRound → Type 0) {rs : List ClosedRound} (r : Result Finish Refusal) → IfOk r (λ f. f.rounds ≡ rs) → P rs → IfOk r (λ f. P f.rounds)
 rounds_as P (Ok f) e p = subst P (sym e) p
 rounds_as P (Err x) e p = tt
+
+-- a run that found no memory, before anything was written
+pub refused : {K : Type 0} (c : Command) (s : Subject) (tells : List ClosedRound → Type 0) (taken : K → Option (List ℕ)) (faults : K → ℕ) (out out' : K) → out' ≡ out
+    → IsFinish c s tells taken faults out out' (Err refusal.NoMemory)
+refused c s tells taken faults out out' same = record { ending = tt; rounds = tt; memory = refl; no_answer = same }
+
+-- a run that was driven and then told
+pub finish : {K : Type 0} (c : Command) (s : Subject) (tells : List ClosedRound → Type 0) (taken : K → Option (List ℕ)) (faults : K → ℕ) (out out' : K) (r : Result Finish Refusal) {rs : List ClosedRound}
+    → IfOk r (λ f. IsEnding c.task s c.travel.generated taken faults out out' f.ending) → IfOk r (λ f. f.rounds ≡ rs) → IfErr r (λ e. e ≡ refusal.NoMemory) → OnErr r (out' ≡ out) → tells rs
+    → IsFinish c s tells taken faults out out' r
+finish c s tells taken faults out out' r ending rounds memory same told = record { ending = ending; rounds = rounds_as tells r rounds told; memory = memory; no_answer = same }

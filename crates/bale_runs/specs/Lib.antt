@@ -1,3 +1,4 @@
 pub mod Asking
+pub mod Finishes
 pub mod Jobs
 pub mod Runs

@@ -1,20 +1,16 @@
 //! The run of a command for its subject: the programs, driven, and then the answer, written.
-ghost use Rattle.std.specs.Prelude.{◌≡◌, ◌≤◌, ◌<◌, Bool, true, false, None, OnOk, OnErr, IfOk, IfErr};
-ghost use Rattle.bale_types.specs.Stream.{HasCause, IsFront};
-ghost use Rattle.bale_words.specs.Ranges.{InRanges};
+ghost use Rattle.std.specs.Prelude.{◌≡◌, ◌<◌, Bool, true, false, OnErr, IfOk, IfErr};
+ghost use Rattle.bale_answers.specs.Endings.{IsEnding};
 ghost use Rattle.bale_runs.specs.Asking.{TellsCommand, TurnsOfCommand};
+ghost use Rattle.bale_runs.specs.Finishes.{Fits, IsFinish};
 ghost use Rattle.bale_runs.specs.Jobs.{as_asked, by_asking, via_of, manner_for};
-ghost use Rattle.bale_answers.specs.Answer.{HasWritten, shown};
-ghost use Rattle.bale_subjects.specs.Fitness.{unfitness};
-ghost use Rattle.bale_subjects.specs.Subjects.{suits};
-ghost use Rattle.bale_answers.specs.Tasks.{IsAnswer, task_status};
 ghost use Rattle.bale_runs.specs.Runs.{made_for, HaveRun, TellsTask, TurnsOfTask};
 
 use crate::asking::{asked_on_threads, asked_serially};
 use app_cases::AnyProgram;
 use bale_answers::{Ending, finished, started};
 use bale_subjects::{Refusal, Subject, in_order};
-use bale_types::{Failed, NoMemory, Sink};
+use bale_types::{NoMemory, Sink};
 use bale_words::{Command, Driving, Task, Transport, Travel};
 use case_table::{case_serial, case_threads};
 use rank_group::{Finished, Gate, Rounds, Steps, Via};
@@ -24,15 +20,63 @@ use std::sync::Wait;
 use std::sync::ledger::{Blank, Ledger};
 use std::thread::Threads;
 
-/// A run that came to its end: the answer's status, whether it was written, and what was exchanged.
+/// A run that came to its end: how its answer was written, and what was exchanged.
 #[derive(Drop)]
 pub struct Finish {
-    /// 0, or 1 where topo finds no order
-    pub status: u8,
-    /// An error where a write failed
-    pub written: Result<(), Failed>,
+    /// The answer's status, and whether it was written
+    pub ending: Ending,
     /// One closed round, or three for ig over biconvey
     pub rounds: Rounds,
+}
+
+/// Runs the command for its subject as its words ask, the ranks on threads or all on this one, and writes its answer.
+/// Before each turn of a rank's thread the gate is told of it. It waits for its threads, and returns where they do.
+///
+/// # Errors
+/// `NoMemory` where the programs, the drive or the answer found none: then nothing is written.
+pub fn ran<R: Threads + Wait + Sync, K: Sink, G: Gate + Sync>(
+    rt: &R,
+    alloc: Global,
+    command: &Command,
+    subject: &Subject,
+    out: &mut K,
+    gate: &G,
+) -> Result<Finish, Refusal>
+    requires fit { Fits command.now subject.now (as_asked command.now) }
+    ensures { IsFinish command.now subject.now (TellsCommand (as_asked command.now) command.now subject.now)
+        K.taken K.faults out.old out.new result }
+{
+    if drives_serially(command) {
+        ran_uncounted::<Brand, K>(alloc, command, subject, out, Blank::new(1))
+    } else {
+        ran_on_threads(rt, alloc, command, subject, out, gate)
+    }
+}
+
+/// Whether the words ask for one thread.
+pub fn drives_serially(command: &Command) -> bool
+    ensures { result ≡ as_asked command.now }
+{
+    matches!(command.travel.driving, Driving::Serial)
+}
+
+/// A run on this thread whose turns nobody asks for.
+fn ran_uncounted<L: Ledger, K: Sink>(
+    alloc: Global,
+    command: &Command,
+    subject: &Subject,
+    out: &mut K,
+    blank: Blank,
+) -> Result<Finish, Refusal>
+    requires name { blank.name ≡ L.name }
+    requires parts { blank.parts ≡ L.parts }
+    requires some { 0 < L.parts }
+    requires fit { Fits command.now subject.now true }
+    ensures { IsFinish command.now subject.now (TellsCommand true command.now subject.now)
+        K.taken K.faults out.old out.new result }
+{
+    let mut steps = Steps::<L>::new(blank);
+    ran_serially(alloc, command, subject, out, &mut steps)
 }
 
 /// Runs the command for its subject, all ranks on this thread, and writes its answer. Each turn of a rank raises `steps` by one.
@@ -47,19 +91,9 @@ pub fn ran_serially<K: Sink, L: Ledger>(
     out: &mut K,
     steps: &mut Steps<L>,
 ) -> Result<Finish, Refusal>
-    requires suits { suits command.now.task subject.now ≡ true }
-    requires ranges { InRanges command.now }
-    requires fits { unfitness command.now subject.now true ≡ None }
-    ensures status { IfOk result (λ f. f.status ≡ task_status command.now.task subject.now) }
-    ensures low { IfOk result (λ f. f.status ≤ 1) }
-    ensures answer { IfOk result (λ f. HasWritten (IsAnswer command.now.task subject.now)
-        (shown command.now.travel.generated) (K.taken out.old) (K.taken out.new) f.written) }
-    ensures cause { IfOk result (λ f. HasCause (K.faults out.old) (K.faults out.new) f.written) }
-    ensures no_fault { IfOk result (λ f. OnOk f.written (K.faults out.new ≡ K.faults out.old)) }
-    ensures held { IsFront (K.taken out.old) (K.taken out.new) }
-    ensures no_answer { OnErr result (out.new ≡ out.old) }
-    ensures memory { IfErr result (λ r. r ≡ Refusal.NoMemory) }
-    ensures rounds { IfOk result (λ f. TellsCommand true command.now subject.now f.rounds) }
+    requires { Fits command.now subject.now true }
+    ensures finish { IsFinish command.now subject.now (TellsCommand true command.now subject.now)
+        K.taken K.faults out.old out.new result }
     ensures steps { TurnsOfCommand command.now subject.now steps.old steps.new }
 {
     if by_asking(command) {
@@ -69,7 +103,34 @@ pub fn ran_serially<K: Sink, L: Ledger>(
     }
 }
 
-/// The same of the rounds of the application's programs.
+/// The same on threads.
+fn ran_on_threads<R: Threads + Wait + Sync, K: Sink, G: Gate + Sync>(
+    rt: &R,
+    alloc: Global,
+    command: &Command,
+    subject: &Subject,
+    out: &mut K,
+    gate: &G,
+) -> Result<Finish, Refusal>
+    requires { Fits command.now subject.now false }
+    ensures { IsFinish command.now subject.now (TellsCommand false command.now subject.now)
+        K.taken K.faults out.old out.new result }
+{
+    if by_asking(command) {
+        asked_on_threads(rt, alloc, command, subject, out, gate)
+    } else {
+        drove_on_threads(rt, alloc, command, subject, out, gate)
+    }
+}
+
+/// Whether the command goes by queries and replies.
+fn by_asking(command: &Command) -> bool
+    ensures { result ≡ by_asking command.now }
+{
+    matches!(command.travel.transport, Transport::Biconvey) && matches!(command.task, Task::Ig)
+}
+
+/// The run of the application's programs on this thread.
 fn drove_serially<K: Sink, L: Ledger>(
     alloc: Global,
     command: &Command,
@@ -77,24 +138,30 @@ fn drove_serially<K: Sink, L: Ledger>(
     out: &mut K,
     steps: &mut Steps<L>,
 ) -> Result<Finish, Refusal>
-    requires suits { suits command.now.task subject.now ≡ true }
-    requires ranges { InRanges command.now }
-    requires fits { unfitness command.now subject.now true ≡ None }
-    ensures status { IfOk result (λ f. f.status ≡ task_status command.now.task subject.now) }
-    ensures low { IfOk result (λ f. f.status ≤ 1) }
-    ensures answer { IfOk result (λ f. HasWritten (IsAnswer command.now.task subject.now)
-        (shown command.now.travel.generated) (K.taken out.old) (K.taken out.new) f.written) }
-    ensures cause { IfOk result (λ f. HasCause (K.faults out.old) (K.faults out.new) f.written) }
-    ensures no_fault { IfOk result (λ f. OnOk f.written (K.faults out.new ≡ K.faults out.old)) }
-    ensures held { IsFront (K.taken out.old) (K.taken out.new) }
-    ensures no_answer { OnErr result (out.new ≡ out.old) }
-    ensures memory { IfErr result (λ r. r ≡ Refusal.NoMemory) }
-    ensures rounds { IfOk result (λ f. TellsTask command.now.task subject.now (made_for true command.now)
-        (manner_for command.now) f.rounds) }
+    requires { Fits command.now subject.now true }
+    ensures finish { IsFinish command.now subject.now (TellsTask command.now.task subject.now
+        (made_for true command.now) (manner_for command.now)) K.taken K.faults out.old out.new result }
     ensures steps { TurnsOfTask command.now.task subject.now
         (manner_for command.now) command.now.grid steps.old steps.new }
 {
     let run = driven_serially(alloc, command, subject, steps)?;
+    told(alloc, command, subject, run, out)
+}
+
+/// The same on threads.
+fn drove_on_threads<R: Threads + Wait + Sync, K: Sink, G: Gate + Sync>(
+    rt: &R,
+    alloc: Global,
+    command: &Command,
+    subject: &Subject,
+    out: &mut K,
+    gate: &G,
+) -> Result<Finish, Refusal>
+    requires { Fits command.now subject.now false }
+    ensures { IsFinish command.now subject.now (TellsTask command.now.task subject.now
+        (made_for false command.now) (manner_for command.now)) K.taken K.faults out.old out.new result }
+{
+    let run = driven_on_threads(rt, alloc, command, subject, gate)?;
     told(alloc, command, subject, run, out)
 }
 
@@ -105,9 +172,7 @@ fn driven_serially<L: Ledger>(
     subject: &Subject,
     steps: &mut Steps<L>,
 ) -> Result<Finished<AnyProgram>, NoMemory>
-    requires suits { suits command.now.task subject.now ≡ true }
-    requires ranges { InRanges command.now }
-    requires fits { unfitness command.now subject.now true ≡ None }
+    requires { Fits command.now subject.now true }
     ensures ended { IfOk result (λ f. HaveRun command.now.task subject.now f.progs) }
     ensures rounds { IfOk result (λ f. TellsTask command.now.task subject.now (made_for true command.now)
         (manner_for command.now) f.rounds) }
@@ -137,65 +202,7 @@ fn driven_serially<L: Ledger>(
     )
 }
 
-/// Runs the command for its subject, each rank on a thread of its own, and writes its answer.
-fn ran_on_threads<R: Threads + Wait + Sync, K: Sink, G: Gate + Sync>(
-    rt: &R,
-    alloc: Global,
-    command: &Command,
-    subject: &Subject,
-    out: &mut K,
-    gate: &G,
-) -> Result<Finish, Refusal>
-    requires suits { suits command.now.task subject.now ≡ true }
-    requires ranges { InRanges command.now }
-    requires fits { unfitness command.now subject.now false ≡ None }
-    ensures status { IfOk result (λ f. f.status ≡ task_status command.now.task subject.now) }
-    ensures low { IfOk result (λ f. f.status ≤ 1) }
-    ensures answer { IfOk result (λ f. HasWritten (IsAnswer command.now.task subject.now)
-        (shown command.now.travel.generated) (K.taken out.old) (K.taken out.new) f.written) }
-    ensures cause { IfOk result (λ f. HasCause (K.faults out.old) (K.faults out.new) f.written) }
-    ensures no_fault { IfOk result (λ f. OnOk f.written (K.faults out.new ≡ K.faults out.old)) }
-    ensures held { IsFront (K.taken out.old) (K.taken out.new) }
-    ensures no_answer { OnErr result (out.new ≡ out.old) }
-    ensures memory { IfErr result (λ r. r ≡ Refusal.NoMemory) }
-    ensures rounds { IfOk result (λ f. TellsCommand false command.now subject.now f.rounds) }
-{
-    if by_asking(command) {
-        asked_on_threads(rt, alloc, command, subject, out, gate)
-    } else {
-        drove_on_threads(rt, alloc, command, subject, out, gate)
-    }
-}
-
-/// The same of the rounds of the application's programs.
-fn drove_on_threads<R: Threads + Wait + Sync, K: Sink, G: Gate + Sync>(
-    rt: &R,
-    alloc: Global,
-    command: &Command,
-    subject: &Subject,
-    out: &mut K,
-    gate: &G,
-) -> Result<Finish, Refusal>
-    requires suits { suits command.now.task subject.now ≡ true }
-    requires ranges { InRanges command.now }
-    requires fits { unfitness command.now subject.now false ≡ None }
-    ensures status { IfOk result (λ f. f.status ≡ task_status command.now.task subject.now) }
-    ensures low { IfOk result (λ f. f.status ≤ 1) }
-    ensures answer { IfOk result (λ f. HasWritten (IsAnswer command.now.task subject.now)
-        (shown command.now.travel.generated) (K.taken out.old) (K.taken out.new) f.written) }
-    ensures cause { IfOk result (λ f. HasCause (K.faults out.old) (K.faults out.new) f.written) }
-    ensures no_fault { IfOk result (λ f. OnOk f.written (K.faults out.new ≡ K.faults out.old)) }
-    ensures held { IsFront (K.taken out.old) (K.taken out.new) }
-    ensures no_answer { OnErr result (out.new ≡ out.old) }
-    ensures memory { IfErr result (λ r. r ≡ Refusal.NoMemory) }
-    ensures rounds { IfOk result (λ f. TellsTask command.now.task subject.now (made_for false command.now)
-        (manner_for command.now) f.rounds) }
-{
-    let run = driven_on_threads(rt, alloc, command, subject, gate)?;
-    told(alloc, command, subject, run, out)
-}
-
-/// The application's programs after their last round, each rank on a thread of its own, and that run's closed round.
+/// The application's programs after their last round, on threads, and that run's closed round.
 fn driven_on_threads<R: Threads + Wait + Sync, G: Gate + Sync>(
     rt: &R,
     alloc: Global,
@@ -203,9 +210,7 @@ fn driven_on_threads<R: Threads + Wait + Sync, G: Gate + Sync>(
     subject: &Subject,
     gate: &G,
 ) -> Result<Finished<AnyProgram>, NoMemory>
-    requires suits { suits command.now.task subject.now ≡ true }
-    requires ranges { InRanges command.now }
-    requires fits { unfitness command.now subject.now false ≡ None }
+    requires { Fits command.now subject.now false }
     ensures ended { IfOk result (λ f. HaveRun command.now.task subject.now f.progs) }
     ensures rounds { IfOk result (λ f. TellsTask command.now.task subject.now (made_for false command.now)
         (manner_for command.now) f.rounds) }
@@ -232,54 +237,6 @@ fn driven_on_threads<R: Threads + Wait + Sync, G: Gate + Sync>(
     )
 }
 
-/// Runs the command for its subject as its words ask, each rank on a thread of its own or all on this one, and writes its answer.
-/// Before each turn of a rank's thread the gate is told of it. It waits for its threads, and returns where they do.
-///
-/// # Errors
-/// `NoMemory` where the programs, the drive or the answer found none: then nothing is written.
-pub fn ran<R: Threads + Wait + Sync, K: Sink, G: Gate + Sync>(
-    rt: &R,
-    alloc: Global,
-    command: &Command,
-    subject: &Subject,
-    out: &mut K,
-    gate: &G,
-) -> Result<Finish, Refusal>
-    requires suits { suits command.now.task subject.now ≡ true }
-    requires ranges { InRanges command.now }
-    requires fits { unfitness command.now subject.now (as_asked command.now) ≡ None }
-    ensures status { IfOk result (λ f. f.status ≡ task_status command.now.task subject.now) }
-    ensures low { IfOk result (λ f. f.status ≤ 1) }
-    ensures answer { IfOk result (λ f. HasWritten (IsAnswer command.now.task subject.now)
-        (shown command.now.travel.generated) (K.taken out.old) (K.taken out.new) f.written) }
-    ensures cause { IfOk result (λ f. HasCause (K.faults out.old) (K.faults out.new) f.written) }
-    ensures no_fault { IfOk result (λ f. OnOk f.written (K.faults out.new ≡ K.faults out.old)) }
-    ensures held { IsFront (K.taken out.old) (K.taken out.new) }
-    ensures no_answer { OnErr result (out.new ≡ out.old) }
-    ensures memory { IfErr result (λ r. r ≡ Refusal.NoMemory) }
-    ensures rounds { IfOk result (λ f. TellsCommand (as_asked command.now) command.now subject.now f.rounds) }
-{
-    if drives_serially(command) {
-        ran_uncounted::<Brand, K>(alloc, command, subject, out, Blank::new(1))
-    } else {
-        ran_on_threads(rt, alloc, command, subject, out, gate)
-    }
-}
-
-/// Whether the command goes by queries and replies.
-fn by_asking(command: &Command) -> bool
-    ensures { result ≡ by_asking command.now }
-{
-    matches!(command.travel.transport, Transport::Biconvey) && matches!(command.task, Task::Ig)
-}
-
-/// Whether the words ask for one thread.
-pub fn drives_serially(command: &Command) -> bool
-    ensures { result ≡ as_asked command.now }
-{
-    matches!(command.travel.driving, Driving::Serial)
-}
-
 /// How items travel by a transport.
 fn via_of(transport: Transport) -> Via
     ensures { result ≡ via_of transport }
@@ -290,35 +247,6 @@ fn via_of(transport: Transport) -> Via
     }
 }
 
-/// A run on this thread whose turns nobody asks for.
-fn ran_uncounted<L: Ledger, K: Sink>(
-    alloc: Global,
-    command: &Command,
-    subject: &Subject,
-    out: &mut K,
-    blank: Blank,
-) -> Result<Finish, Refusal>
-    requires name { blank.name ≡ L.name }
-    requires parts { blank.parts ≡ L.parts }
-    requires some { 0 < L.parts }
-    requires suits { suits command.now.task subject.now ≡ true }
-    requires ranges { InRanges command.now }
-    requires fits { unfitness command.now subject.now true ≡ None }
-    ensures status { IfOk result (λ f. f.status ≡ task_status command.now.task subject.now) }
-    ensures low { IfOk result (λ f. f.status ≤ 1) }
-    ensures answer { IfOk result (λ f. HasWritten (IsAnswer command.now.task subject.now)
-        (shown command.now.travel.generated) (K.taken out.old) (K.taken out.new) f.written) }
-    ensures cause { IfOk result (λ f. HasCause (K.faults out.old) (K.faults out.new) f.written) }
-    ensures no_fault { IfOk result (λ f. OnOk f.written (K.faults out.new ≡ K.faults out.old)) }
-    ensures held { IsFront (K.taken out.old) (K.taken out.new) }
-    ensures no_answer { OnErr result (out.new ≡ out.old) }
-    ensures memory { IfErr result (λ r. r ≡ Refusal.NoMemory) }
-    ensures rounds { IfOk result (λ f. TellsCommand true command.now subject.now f.rounds) }
-{
-    let mut steps = Steps::<L>::new(blank);
-    ran_serially(alloc, command, subject, out, &mut steps)
-}
-
 /// The end of a run that was driven: its answer is written, and what was exchanged is told.
 fn told<K: Sink>(
     alloc: Global,
@@ -327,34 +255,16 @@ fn told<K: Sink>(
     run: Finished<AnyProgram>,
     out: &mut K,
 ) -> Result<Finish, Refusal>
-    requires suits { suits command.now.task subject.now ≡ true }
-    requires ranges { InRanges command.now }
-    requires fits { (serial : Bool) × (unfitness command.now subject.now serial ≡ None) }
+    requires fit { (serial : Bool) × Fits command.now subject.now serial }
     requires ended { HaveRun command.now.task subject.now run.progs }
-    ensures status { IfOk result (λ f. f.status ≡ task_status command.now.task subject.now) }
-    ensures low { IfOk result (λ f. f.status ≤ 1) }
-    ensures answer { IfOk result (λ f. HasWritten (IsAnswer command.now.task subject.now)
-        (shown command.now.travel.generated) (K.taken out.old) (K.taken out.new) f.written) }
-    ensures cause { IfOk result (λ f. HasCause (K.faults out.old) (K.faults out.new) f.written) }
-    ensures no_fault { IfOk result (λ f. OnOk f.written (K.faults out.new ≡ K.faults out.old)) }
-    ensures held { IsFront (K.taken out.old) (K.taken out.new) }
-    ensures no_answer { OnErr result (out.new ≡ out.old) }
-    ensures memory { IfErr result (λ r. r ≡ Refusal.NoMemory) }
+    ensures ending { IfOk result (λ f. IsEnding command.now.task subject.now command.now.travel.generated
+        K.taken K.faults out.old out.new f.ending) }
     ensures rounds { IfOk result (λ f. f.rounds ≡ run.rounds) }
+    ensures memory { IfErr result (λ r. r ≡ Refusal.NoMemory) }
+    ensures no_answer { OnErr result (out.new ≡ out.old) }
 {
     let Finished { progs, rounds } = run;
     let generated = command.travel.generated;
-    let Ending { status, written } = finished(
-        alloc,
-        &command.task,
-        subject,
-        generated,
-        progs,
-        out,
-    )?;
-    Ok(Finish {
-        status,
-        written,
-        rounds,
-    })
+    let ending = finished(alloc, &command.task, subject, generated, progs, out)?;
+    Ok(Finish { ending, rounds })
 }

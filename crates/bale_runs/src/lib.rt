@@ -5,10 +5,10 @@
 //! | [`ran`] | the run that the words ask for, each rank on a thread or all on one |
 //! | [`ran_serially`] | the run on this thread, whatever the words say: its turns are bounded |
 //! | [`drives_serially`] | whether the words ask for one thread |
-//! | [`Finish`] | how a run ended: the status, whether the answer was written, and what was exchanged |
+//! | [`Finish`] | how a run ended: the answer's status, whether it was written, and what was exchanged |
 //!
-//! Read `specs/Jobs` first (how a command is driven and carried), then `specs/Runs` (which programs' run the rounds tell, and the bound
-//! on turns) and `specs/Asking` (the same by queries and replies).
+//! Read `specs/Finishes` first: what a run needs, and how it ends. Then `specs/Jobs` (how a command is driven and carried), `specs/Runs`
+//! (which programs' run the rounds tell, and the bound on turns) and `specs/Asking` (the same by queries and replies).
 #![tactic(auto)]
 
 mod asking;

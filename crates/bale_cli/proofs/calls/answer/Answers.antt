@@ -4,9 +4,9 @@ use Rattle.bale_words.specs.Words.{command_of}
 use Rattle.bale_cli.proofs.Answering.{at_job, early}
 use Rattle.bale_cli.proofs.calls.answer.Goals as goal
 
-pub returns-in-Ok-clause-answered : goal.returns-in-Ok-clause-answered
-returns-in-Ok-clause-answered g c = at_job (command_of (map string_bytes c.args.words.now)) (Some c.in-Ok.command) c.in-Ok.ensures.command c.answer_of.ensures.answered
+pub returns-in-Ok : goal.returns-in-Ok
+returns-in-Ok g c = at_job (command_of (map string_bytes c.args.words.now)) (Some c.in-Ok.command) c.in-Ok.ensures.command c.answer_of.ensures
 
-pub returns-in-Err-clause-answered : goal.returns-in-Err-clause-answered
-returns-in-Err-clause-answered g c =
+pub returns-in-Err : goal.returns-in-Err
+returns-in-Err g c =
     early (command_of (map string_bytes c.args.words.now)) c.in-Err.refusal (λ e. c.in-Err.ensures.usage (ap (λ (r : Refusal). Err r) e)) c.in-Err.ensures.kinds refl refl

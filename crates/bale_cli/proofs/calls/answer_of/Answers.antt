@@ -9,17 +9,14 @@ use Rattle.bale_subjects.specs.Fitness.{unfitness}
 use Rattle.bale_cli.proofs.Answering.{subject_refused, ran_answered, same_Err}
 use Rattle.bale_cli.proofs.calls.answer_of.Goals as goal
 
-pub ran-requires-clause-fits : goal.ran-requires-clause-fits
-ran-requires-clause-fits g c κs within = subst (λ (b : Bool). unfitness c.args.command.now c.in-Ok.subject b ≡ None) c.drives_serially-serial.ensures c.in-Ok.ensures.fits
-
-pub returns-in-Ok-clause-answered : goal.returns-in-Ok-clause-answered
-returns-in-Ok-clause-answered g c =
+pub returns-in-Ok : goal.returns-in-Ok
+returns-in-Ok g c =
     ran_answered c.ran.result c.args.command.now c.in-Ok.subject c.in-Ok.ensures.subject
     (subst (λ (b : Bool). unfitness c.args.command.now c.in-Ok.subject b ≡ None) c.drives_serially-serial.ensures c.in-Ok.ensures.fits) (c.in-Ok.ensures.no_fault (λ e. cc)) c.subject_for.ensures.unread
-    c.in-Ok.ensures.read_whole c.ran.ensures.status c.ran.ensures.answer c.ran.ensures.cause c.ran.ensures.no_fault c.ran.ensures.held c.ran.ensures.no_answer c.ran.ensures.memory c.ran.ensures.rounds
+    c.in-Ok.ensures.read_whole c.ran.ensures
 
-pub returns-in-Err-clause-answered : goal.returns-in-Err-clause-answered
-returns-in-Err-clause-answered g c =
+pub returns-in-Err : goal.returns-in-Err
+returns-in-Err g c =
     subject_refused c.args.command.now c.in-Err.refusal (λ e. c.in-Err.ensures.read_fault (ap (λ (r : Refusal). Err r) e))
     (λ other. c.in-Err.ensures.no_fault (λ e. other (same_Err c.in-Err.refusal refusal.ReadFault e)))
     (λ text b told e. c.in-Err.ensures.bad text b told (ap (λ (r : Refusal). Err r) e))

@@ -11,22 +11,21 @@ use Rattle.bale_cli.proofs.calls.answer_of_serially.Goals as goal
 pub returns-in-Ok-clause-answered : goal.returns-in-Ok-clause-answered
 returns-in-Ok-clause-answered g c =
     ran_answered c.ran_serially.result c.args.command.now c.in-Ok.subject c.in-Ok.ensures.subject c.in-Ok.ensures.fits (c.in-Ok.ensures.no_fault (λ e. cc)) c.subject_for.ensures.unread c.in-Ok.ensures.read_whole
-    c.ran_serially.ensures.status c.ran_serially.ensures.answer c.ran_serially.ensures.cause c.ran_serially.ensures.no_fault c.ran_serially.ensures.held c.ran_serially.ensures.no_answer
-    c.ran_serially.ensures.memory c.ran_serially.ensures.rounds
+    c.ran_serially.ensures.finish
 
-pub returns-in-Ok-clause-steps : goal.returns-in-Ok-clause-steps
-returns-in-Ok-clause-steps g c = λ text command m asked.
-    let e = same_asked c.args.command.now c.in-Ok.subject text command m c.in-Ok.ensures.subject asked in
-    subst (λ (y : Subject). TurnsOfCommand command y c.args.steps.now c.ran_serially.new.steps) e.1
-    (subst (λ (x : Command). TurnsOfCommand x c.in-Ok.subject c.args.steps.now c.ran_serially.new.steps) e.0 c.ran_serially.ensures.steps)
-
-pub returns-in-Ok-clause-idle : goal.returns-in-Ok-clause-idle
-returns-in-Ok-clause-idle g c = λ text told none.
-    absurd (none c.args.command.now c.in-Ok.subject
-    (record { asked = refl; told = told; subject = c.in-Ok.ensures.subject text told; fits = c.in-Ok.ensures.fits }))
+pub returns-in-Ok-clause-turns : goal.returns-in-Ok-clause-turns
+returns-in-Ok-clause-turns g c =
+    record {
+      bounded = λ text command m asked.
+          let e = same_asked c.args.command.now c.in-Ok.subject text command m c.in-Ok.ensures.subject asked in
+          subst (λ (y : Subject). TurnsOfCommand command y c.args.steps.now c.ran_serially.new.steps) e.1
+          (subst (λ (x : Command). TurnsOfCommand x c.in-Ok.subject c.args.steps.now c.ran_serially.new.steps) e.0 c.ran_serially.ensures.steps);
+      idle = λ text told none.
+          absurd (none c.args.command.now c.in-Ok.subject (record { asked = refl; told = told; subject = c.in-Ok.ensures.subject text told; fits = c.in-Ok.ensures.fits }));
+    }
 
 pub returns-in-Ok-clause-no_turns : goal.returns-in-Ok-clause-no_turns
-returns-in-Ok-clause-no_turns g c = memory_only _ c.ran_serially.result c.ran_serially.ensures.memory
+returns-in-Ok-clause-no_turns g c = memory_only _ c.ran_serially.result c.ran_serially.ensures.finish.memory
 
 pub returns-in-Err-clause-answered : goal.returns-in-Err-clause-answered
 returns-in-Err-clause-answered g c =
@@ -35,5 +34,5 @@ returns-in-Err-clause-answered g c =
     (λ text b told e. c.in-Err.ensures.bad text b told (ap (λ (r : Refusal). Err r) e)) (λ text u told e. c.in-Err.ensures.unfit text u told (ap (λ (r : Refusal). Err r) e))
     c.in-Err.ensures.kinds c.subject_for.ensures.unread c.in-Err.ensures.read_bad refl
 
-pub returns-in-Err-clause-steps : goal.returns-in-Err-clause-steps
-returns-in-Err-clause-steps g c = λ text command m asked. no_turns command m _ _ refl
+pub returns-in-Err-clause-turns : goal.returns-in-Err-clause-turns
+returns-in-Err-clause-turns g c = record { bounded = λ text command m asked. no_turns command m _ _ refl; idle = λ text told none. refl }

@@ -1,4 +1,4 @@
-use Rattle.std.proofs.Common.{◌<◌, ◌≤◌, ◌≡◌, ◌∙◌, ℕ, List, false, length, map, ap, subst, sym}
+use Rattle.std.proofs.Common.{◌<◌, ◌≤◌, ◌≡◌, ◌∙◌, ℕ, List, length, map, ap, subst, sym, true}
 use Rattle.route_tensor.proofs.Coordinates.{ranks_some}
 use Rattle.route_tensor.specs.Grid.{ranks}
 use Rattle.rank_node.specs.Movers.{manner_of}
@@ -8,8 +8,9 @@ use Rattle.app_cases.specs.Any.{any_rules}
 use Rattle.app_cases.specs.Cases.{sums_case, sums_is_case}
 use Rattle.app_histo_ig.specs.Sums.{sums_rules}
 use Rattle.app_histo_ig.specs.SumsRuns.{sums_starts}
-use Rattle.bale_runs.specs.Runs.{Tells}
+use Rattle.bale_runs.specs.Runs.{made_for, Tells}
 use Rattle.bale_runs.proofs.Cases.{DriveTells, tells}
+use Rattle.bale_runs.proofs.Exchanges.{is_capacity, is_slots}
 use Rattle.bale_runs.proofs.Heard.{if_ok, if_ok_both, sums_at, sums_turns}
 use Rattle.bale_runs.proofs.Orders.{ordered}
 use Rattle.bale_runs.proofs.asking.summed_serially.Given.{Over}
@@ -17,7 +18,7 @@ use Rattle.bale_runs.proofs.asking.summed_serially.Goals.{In_ok-progs}
 use Rattle.bale_runs.proofs.asking.summed_serially.Goals as goal
 
 pub summing-requires-clause-some : goal.summing-requires-clause-some
-summing-requires-clause-some g c = subst (λ n. 1 ≤ n) (sym c.ranks.ensures.value) (ranks_some c.args.grid.now c.ranks.ensures.grid.positive)
+summing-requires-clause-some g c = subst (λ n. 1 ≤ n) (sym c.ranks.ensures.value) (ranks_some c.args.command.now.grid c.ranks.ensures.grid.positive)
 
 pub summing-requires-clause-few : goal.summing-requires-clause-few
 summing-requires-clause-few g c = subst (λ n. n ≤ 64) (sym c.ranks.ensures.value) c.ranks.ensures.grid.small
@@ -25,11 +26,11 @@ summing-requires-clause-few g c = subst (λ n. n ≤ 64) (sym c.ranks.ensures.va
 -- there are ranks, and a program for each
 some : (g : Over) (c : In_ok-progs g) → 0 < length c.in_ok-progs.progs
 some g c =
-    let ranks : 1 ≤ ranks c.args.grid.now = ranks_some c.args.grid.now c.ranks.ensures.grid.positive in
+    let ranks : 1 ≤ ranks c.args.command.now.grid = ranks_some c.args.command.now.grid c.ranks.ensures.grid.positive in
     subst (λ n. 0 < n) (sym c.in_ok-progs.ensures.begins.2.size) (subst (λ n. 0 < n) (sym c.ranks.ensures.value) ranks)
 
 -- they are those that sum columns
-are : (g : Over) (c : In_ok-progs g) → c.in_ok-progs.progs ≡ map sums_case (sums_starts (ranks c.args.grid.now) c.args.m.now)
+are : (g : Over) (c : In_ok-progs g) → c.in_ok-progs.progs ≡ map sums_case (sums_starts (ranks c.args.command.now.grid) c.args.m.now)
 are g c = c.in_ok-progs.ensures.starts ∙ ap (λ n. map sums_case (sums_starts n c.args.m.now)) c.ranks.ensures.value
 
 pub case_serial-requires-clause-begins : goal.case_serial-requires-clause-begins
@@ -39,26 +40,32 @@ case_serial-requires-clause-begins g c =
 
 pub case_serial-requires-clause-order : goal.case_serial-requires-clause-order
 case_serial-requires-clause-order g c =
-    ordered c.ranks-2.result (ranks c.args.grid.now) c.deref.result.now (c.deref.ensures.value ∙ c.in_ok-order.ensures) c.ranks-2.ensures.value
+    ordered c.ranks-2.result (ranks c.args.command.now.grid) c.deref.result.now (c.deref.ensures.value ∙ c.in_ok-order.ensures) c.ranks-2.ensures.value
 
 pub returns-clause-ended : goal.returns-clause-ended
 returns-clause-ended g c =
     let x = (goal.at.returns-clause-ended g c).In_ok-progs in
-    if_ok c.case_serial.result (λ f. HaveEnded any_rules c.in_ok-progs.progs f.progs) (λ f. HaveEnded any_rules (map sums_case (sums_starts (ranks c.args.grid.now) c.args.m.now)) f.progs)
-    (λ f h. sums_at c.args.m.now (ranks c.args.grid.now) c.in_ok-progs.progs f.progs (are g x) h) c.case_serial.ensures.ended
+    if_ok c.case_serial.result (λ f. HaveEnded any_rules c.in_ok-progs.progs f.progs) (λ f. HaveEnded any_rules (map sums_case (sums_starts (ranks c.args.command.now.grid) c.args.m.now)) f.progs)
+    (λ f h. sums_at c.args.m.now (ranks c.args.command.now.grid) c.in_ok-progs.progs f.progs (are g x) h) c.case_serial.ensures.ended
 
 pub returns-clause-rounds : goal.returns-clause-rounds
 returns-clause-rounds g c =
     let x = (goal.at.returns-clause-rounds g c).In_ok-progs in
     if_ok_both c.case_serial.result (λ f. HaveEnded any_rules c.in_ok-progs.progs f.progs)
-    (λ f. DriveTells c.in_ok-progs.progs (record { dims = c.args.grid.now; cap = c.args.cap; slots = c.args.slots; by_slots = false }) (manner_of via.Convey c.args.steady) f.rounds)
-    (λ f. Tells sums_rules (sums_starts (ranks c.args.grid.now) c.args.m.now) (record { dims = c.args.grid.now; cap = c.args.cap; slots = c.args.slots; by_slots = false })
-    (manner_of via.Convey c.args.steady) f.rounds)
-    (λ f h t. tells sums_is_case (sums_starts (ranks c.args.grid.now) c.args.m.now) c.in_ok-progs.progs f.progs
-    (record { dims = c.args.grid.now; cap = c.args.cap; slots = c.args.slots; by_slots = false }) (manner_of via.Convey c.args.steady) f.rounds (are g x) (some g x) h t)
+    (λ f. DriveTells c.in_ok-progs.progs (made_for true c.args.command.now) (manner_of via.Convey c.args.command.now.travel.steady) f.rounds)
+    (λ f. Tells sums_rules (sums_starts (ranks c.args.command.now.grid) c.args.m.now) (made_for true c.args.command.now)
+    (manner_of via.Convey c.args.command.now.travel.steady) f.rounds)
+    (λ f h t. tells sums_is_case (sums_starts (ranks c.args.command.now.grid) c.args.m.now) c.in_ok-progs.progs f.progs
+    (made_for true c.args.command.now) (manner_of via.Convey c.args.command.now.travel.steady) f.rounds (are g x) (some g x) h t)
     c.case_serial.ensures.ended c.case_serial.ensures.rounds
 
 pub returns-clause-steps : goal.returns-clause-steps
 returns-clause-steps g c =
     let x = (goal.at.returns-clause-steps g c).In_ok-progs in
-    sums_turns c.args.m.now c.args.steady c.args.grid.now c.args.steps.now c.case_serial.new.steps c.in_ok-progs.progs (are g x) (some g x) c.case_serial.ensures.steps
+    sums_turns c.args.m.now c.args.command.now.travel.steady c.args.command.now.grid c.args.steps.now c.case_serial.new.steps c.in_ok-progs.progs (are g x) (some g x) c.case_serial.ensures.steps
+
+pub case_serial-requires-clause-capacity : goal.case_serial-requires-clause-capacity
+case_serial-requires-clause-capacity g c = is_capacity c.args.command.now.travel.buffer c.requires.ranges.travel.buffer
+
+pub case_serial-requires-clause-slots : goal.case_serial-requires-clause-slots
+case_serial-requires-clause-slots g c = is_slots c.args.command.now.travel.slots c.requires.ranges.travel.slots

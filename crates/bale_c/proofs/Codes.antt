@@ -23,3 +23,23 @@ code_good BadNumbers e = absurd cc
 code_good InUse e = absurd cc
 code_good RankTaken e = absurd cc
 code_good NoMoreEpochs e = absurd cc
+
+-- and only NoMemory its own
+pub code_no_memory : (a : Answer) → code_of a ≡ code_of NoMemory → a ≡ NoMemory
+code_no_memory Good e = absurd cc
+code_no_memory Full e = absurd cc
+code_no_memory Nothing e = absurd cc
+code_no_memory More e = absurd cc
+code_no_memory Near e = absurd cc
+code_no_memory Complete e = absurd cc
+code_no_memory NoMemory e = refl
+code_no_memory NotBegun e = absurd cc
+code_no_memory BegunAlready e = absurd cc
+code_no_memory DoneAlready e = absurd cc
+code_no_memory NoSuchRank e = absurd cc
+code_no_memory NotComplete e = absurd cc
+code_no_memory Gone e = absurd cc
+code_no_memory BadNumbers e = absurd cc
+code_no_memory InUse e = absurd cc
+code_no_memory RankTaken e = absurd cc
+code_no_memory NoMoreEpochs e = absurd cc

@@ -1,6 +1,7 @@
 -- What contracts see of a handle, and of a call on it.
 use Rattle.std.specs.Prelude.{◌≡◌, ◌⊎◌, ℕ, Bool, false, Option, Some, None, Result, Err, List, is_some, if◌then◌else◌}
 use Rattle.route_tensor.specs.Grid.{ranks}
+use Rattle.link_slots.specs.Seen.{Manning}
 use Rattle.port_bank.specs.Machine.{Step}
 use Rattle.hop_core.specs.declared.phase.Phase.{Phase}
 use Rattle.hop_core.specs.declared.phase.Phase.TheVariants.{Dormant}
@@ -46,6 +47,11 @@ phase_in (Some s) = s.state.phase
 abbrev pub done_in : Option Seated → Bool
 done_in None = false
 done_in (Some s) = s.state.done
+
+-- The seat of a rank, with what it sent and got on each link, if there is a rank.
+abbrev pub seat_of : Option Seated → Option Manning
+seat_of None = None
+seat_of (Some s) = Some s.seat
 
 -- What an advance answers where it is no misuse.
 abbrev pub IsAdvanced : Answer → Type 0

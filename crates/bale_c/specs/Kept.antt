@@ -6,7 +6,12 @@ use Rattle.link_slots.specs.Seen.{Bank, Manning, posted_on, collected_from}
 use Rattle.link_slots.specs.Gathering.{Gathering}
 use Rattle.hop_core.specs.declared.phase.Phase.TheVariants.{Dormant, Working}
 use Rattle.hop_core.specs.State.{State}
-use Rattle.convey.specs.Conveyors.{AgreesWith}
+use Rattle.port_bank.specs.Logs.{Logs}
+use Rattle.port_bank.specs.Machine.{Step}
+use Rattle.convey.specs.Buffers.{buffers_of}
+use Rattle.convey.specs.Parts.{part_of}
+use Rattle.convey.specs.Conveyors.{AgreesWith, KeepsAgreement}
+use Rattle.bale_c.specs.Many.{MayAll, after_all}
 
 -- No seat: of no bank, and with no lists.
 abbrev pub no_seat : Manning
@@ -55,3 +60,10 @@ pub record IsGroup (cap : ℕ) (bank : Bank) (gather : Gathering) (grid : List �
   pub at_gather : IsAtGather bank gather grid
   pub given_is : gather.given ≡ given
   pub given_all : length given ≡ ranks grid
+
+-- Calls on a conveyor that its port doesn't see made these steps, over whatever lists the port has.
+pub record RunOf (steps : List Step) (old new : State) : Type 0 where
+  pub may : (sent got : Logs) → AgreesWith old sent got → MayAll steps (part_of (buffers_of old) sent got)
+  pub is : (sent got : Logs) → AgreesWith old sent got → part_of (buffers_of new) sent got ≡ after_all steps (part_of (buffers_of old) sent got)
+  pub kept : KeepsAgreement old new
+  pub same : new ≡ record old { outs = new.outs; ins = new.ins; pulled = new.pulled }

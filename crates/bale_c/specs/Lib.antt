@@ -1,11 +1,11 @@
 pub mod Codes
 pub mod Seated
 pub mod Answers
-pub mod Kept
+pub mod Many
 pub mod Cases
 pub mod Grouped
 pub mod GroupCases
 pub mod Holds
 pub mod Items
 pub mod Handles
-pub mod Many
+pub mod Kept

@@ -1,5 +1,5 @@
 -- Calls of many items, as so many single ones.
-use Rattle.std.specs.Prelude.{◌≡◌, ℕ, zero, suc, Bool, ⊤, List, [], ◌∷◌, nat_lt, if◌then◌else◌, Option, Some, ℤ, pos, negsuc}
+use Rattle.std.specs.Prelude.{◌≡◌, ℕ, zero, suc, Bool, ⊤, List, [], ◌∷◌, nat_lt, if◌then◌else◌, Option, Some, Result, Ok, Err, ℤ, pos, negsuc}
 use Rattle.std.specs.List.{list_all}
 use Rattle.bale_types.specs.declared.item.Item.{Item}
 use Rattle.route_tensor.specs.Grid.{ranks}
@@ -73,3 +73,8 @@ pull_many_answer s = once_begun s.state.phase Good
 abbrev pub count_in : ℤ → ℕ
 count_in (pos n) = n
 count_in (negsuc n) = 0
+
+-- How many a call moved: none where something was wrong.
+abbrev pub moved_by : Result ℕ Answer → ℕ
+moved_by (Ok n) = n
+moved_by (Err a) = 0

@@ -55,6 +55,7 @@ impl AnyGroup {
         steady: bool,
     ) -> Result<AnyGroup, Answer>
         ensures answer { result ≢ Err Answer.NoMemory → answer_with result ≡ group_answer dims.now buffer slots }
+        ensures memory { result ≡ Err Answer.NoMemory → group_answer dims.now buffer slots ≡ Answer.Good }
         ensures refused { IfErr result (λ a. a ≢ Answer.Good) }
         ensures made { IfOk result (λ g. IsNewGroup dims.now buffer slots steady g) }
     {
@@ -92,10 +93,28 @@ impl AnyGroup {
         }
     }
 
+    /// What becomes of the wish to make this rank, where there is memory.
+    pub(crate) fn answer(&self, rank: u32) -> Answer
+        ensures { result ≡ rank_answer self.now rank }
+    {
+        match &self.case {
+            GroupCase::Of1(group) => group.answer(rank),
+            GroupCase::Of2(group) => group.answer(rank),
+            GroupCase::Of4(group) => group.answer(rank),
+            GroupCase::Of8(group) => group.answer(rank),
+            GroupCase::Of16(group) => group.answer(rank),
+            GroupCase::Of32(group) => group.answer(rank),
+            GroupCase::Of64(group) => group.answer(rank),
+            GroupCase::Of128(group) => group.answer(rank),
+            GroupCase::Of256(group) => group.answer(rank),
+            GroupCase::Of512(group) => group.answer(rank),
+            GroupCase::Of1024(group) => group.answer(rank),
+        }
+    }
+
     /// A rank that was not made before.
-    pub(crate) fn new_rank(&mut self, alloc: Global, rank: u32) -> Result<AnyRank, Answer>
-        ensures answer { result ≢ Err Answer.NoMemory → answer_with result ≡ rank_answer self.old rank }
-        ensures refused { IfErr result (λ a. a ≢ Answer.Good) }
+    pub(crate) fn new_rank(&mut self, alloc: Global, rank: u32) -> Result<AnyRank, NoMemory>
+        requires free { rank_answer self.old rank ≡ Answer.Good }
         ensures made { IfOk result (λ r. IsNewRank self.old rank r) }
         ensures given { OnOk result (self.new ≡ with_given self.old rank) }
         ensures unchanged { OnErr result (self.new ≡ self.old) }

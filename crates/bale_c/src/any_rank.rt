@@ -3,6 +3,7 @@ ghost use Rattle.bale_c.specs.Cases.{seen_by_hops};
 
 use crate::answer::Answer;
 use crate::exchange::Exchange;
+use crate::item::BaleItem;
 use crate::rank::Rank;
 use bale_types::Item;
 use hop_core::Phase;
@@ -112,6 +113,14 @@ impl<const CAP: usize> Exchange for HopsCase<CAP> {
     fn reset(&mut self) -> Answer {
         by_hops!(self, rank, rank.reset())
     }
+
+    fn push_many(&mut self, items: &[BaleItem], to: &[u32]) -> Result<usize, Answer> {
+        by_hops!(self, rank, rank.push_many(items, to))
+    }
+
+    fn pull_many(&mut self, items: &mut [BaleItem], from: &mut [u32]) -> Result<usize, Answer> {
+        by_hops!(self, rank, rank.pull_many(items, from))
+    }
 }
 
 impl Exchange for AnyRank {
@@ -147,5 +156,13 @@ impl Exchange for AnyRank {
 
     fn reset(&mut self) -> Answer {
         by_capacity!(&mut self.case, rank, rank.reset())
+    }
+
+    fn push_many(&mut self, items: &[BaleItem], to: &[u32]) -> Result<usize, Answer> {
+        by_capacity!(&mut self.case, rank, rank.push_many(items, to))
+    }
+
+    fn pull_many(&mut self, items: &mut [BaleItem], from: &mut [u32]) -> Result<usize, Answer> {
+        by_capacity!(&mut self.case, rank, rank.pull_many(items, from))
     }
 }

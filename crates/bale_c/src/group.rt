@@ -77,21 +77,27 @@ impl<const CAP: usize> Group<CAP> {
         self.grid.ranks()
     }
 
+    /// What becomes of the wish to make this rank, where there is memory.
+    pub(crate) fn answer(&self, rank: u32) -> Answer
+        ensures { result ≡ rank_answer self.now rank }
+    {
+        if rank >= self.grid.ranks() {
+            return Answer::NoSuchRank;
+        }
+        if self.given[rank as usize] {
+            return Answer::RankTaken;
+        }
+        Answer::Good
+    }
+
     /// A rank that was not made before.
     #[tactic(auto, unfolding(crate::specs::Grouped::IsNewRank))]
-    pub(crate) fn new_rank(&mut self, alloc: Global, rank: u32) -> Result<HopsCase<CAP>, Answer>
-        ensures answer { result ≢ Err Answer.NoMemory → answer_with result ≡ rank_answer self.old rank }
-        ensures refused { IfErr result (λ a. a ≢ Answer.Good) }
+    pub(crate) fn new_rank(&mut self, alloc: Global, rank: u32) -> Result<HopsCase<CAP>, NoMemory>
+        requires free { rank_answer self.old rank ≡ Answer.Good }
         ensures made { IfOk result (λ r. IsNewRank self.old rank (seen_by_hops r)) }
         ensures given { OnOk result (self.new ≡ with_given self.old rank) }
         ensures unchanged { OnErr result (self.new ≡ self.old) }
     {
-        if rank >= self.grid.ranks() {
-            return Err(Answer::NoSuchRank);
-        }
-        if self.given[rank as usize] {
-            return Err(Answer::RankTaken);
-        }
         let made = case_of(
             alloc,
             &self.bank,
@@ -99,14 +105,9 @@ impl<const CAP: usize> Group<CAP> {
             &self.grid,
             rank,
             self.steady,
-        );
-        match made {
-            Ok(made) => {
-                self.given[rank as usize] = true;
-                Ok(made)
-            }
-            Err(NoMemory) => Err(Answer::NoMemory),
-        }
+        )?;
+        self.given[rank as usize] = true;
+        Ok(made)
     }
 }
 

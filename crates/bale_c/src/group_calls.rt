@@ -10,7 +10,7 @@ use std::alloc::Global;
 
 /// Makes a group of which no rank is made yet.
 #[unsafe(no_mangle)]
-#[tactic(auto, using(crate::proofs::Codes::code_good))]
+#[tactic(auto, using(crate::proofs::Codes::code_good, crate::proofs::Codes::code_no_memory))]
 pub extern "C" fn bale_group_new(
     alloc: Global,
     dims: &[u32],
@@ -21,6 +21,8 @@ pub extern "C" fn bale_group_new(
 ) -> i32
     ensures answer { result ≢ code_of Answer.NoMemory → result ≡ code_of (new_group_answer
         (group_in out.old.held.value) dims.now buffer slots) }
+    ensures memory { result ≡ code_of Answer.NoMemory → new_group_answer
+        (group_in out.old.held.value) dims.now buffer slots ≡ Answer.Good }
     ensures made { result ≡ code_of Answer.Good → HasNewGroup dims.now buffer slots steady
         (group_in out.new.held.value) }
     ensures unchanged { result ≢ code_of Answer.Good → out.new ≡ out.old }
@@ -39,7 +41,7 @@ pub extern "C" fn bale_group_new(
 
 /// Makes a rank of the group that was not made before.
 #[unsafe(no_mangle)]
-#[tactic(auto, using(crate::proofs::Codes::code_good))]
+#[tactic(auto, using(crate::proofs::Codes::code_good, crate::proofs::Codes::code_no_memory))]
 pub extern "C" fn bale_rank_new(
     alloc: Global,
     group: &mut BaleGroup,
@@ -48,6 +50,8 @@ pub extern "C" fn bale_rank_new(
 ) -> i32
     ensures answer { result ≢ code_of Answer.NoMemory → result ≡ code_of (new_rank_answer
         (group_in group.old.held.value) (rank_in out.old.held.value) rank) }
+    ensures memory { result ≡ code_of Answer.NoMemory → new_rank_answer
+        (group_in group.old.held.value) (rank_in out.old.held.value) rank ≡ Answer.Good }
     ensures made { result ≡ code_of Answer.Good → HasNewRank (group_in group.old.held.value) rank
         (rank_in out.new.held.value) }
     ensures given { result ≡ code_of Answer.Good → group_in group.new.held.value

@@ -6,6 +6,7 @@ ghost use Rattle.bale_c.specs.Handles.{rank_in, group_in, if_there, given_in, Ha
 use crate::answer::Answer;
 use crate::any_group::AnyGroup;
 use crate::part::Part;
+use bale_types::NoMemory;
 use std::alloc::Global;
 
 /// A group of these numbers, in a box of its own.
@@ -18,6 +19,7 @@ pub(crate) fn make_group(
     steady: bool,
 ) -> Result<Box<Part>, Answer>
     ensures answer { result ≢ Err Answer.NoMemory → answer_with result ≡ group_answer dims.now buffer slots }
+    ensures memory { result ≡ Err Answer.NoMemory → group_answer dims.now buffer slots ≡ Answer.Good }
     ensures refused { IfErr result (λ a. a ≢ Answer.Good) }
     ensures made { IfOk result (λ b. HasNewGroup dims.now buffer slots steady (group_in (Some b.value))) }
     ensures there { IfOk result (λ b. is_some (group_in (Some b.value)) ≡ true) }
@@ -34,6 +36,8 @@ pub(crate) fn make_group(
 pub(crate) fn make_rank(alloc: Global, part: &mut Part, rank: u32) -> Result<Box<Part>, Answer>
     ensures answer { result ≢ Err Answer.NoMemory → answer_with result ≡ if_there (group_in (Some part.old))
         (λ g. rank_answer g rank) }
+    ensures memory { result ≡ Err Answer.NoMemory
+        → if_there (group_in (Some part.old)) (λ g. rank_answer g rank) ≡ Answer.Good }
     ensures refused { IfErr result (λ a. a ≢ Answer.Good) }
     ensures made { IfOk result (λ b. HasNewRank (group_in (Some part.old)) rank (rank_in (Some b.value))) }
     ensures there { IfOk result (λ b. is_some (rank_in (Some b.value)) ≡ true) }
@@ -41,17 +45,21 @@ pub(crate) fn make_rank(alloc: Global, part: &mut Part, rank: u32) -> Result<Box
     ensures unchanged { OnErr result (part.new ≡ part.old) }
     ensures still { is_some (group_in (Some part.new)) ≡ is_some (group_in (Some part.old)) }
 {
+    let Part::Group(group) = part else {
+        return Err(Answer::Gone);
+    };
+    match group.answer(rank) {
+        Answer::Good => (),
+        wrong => return Err(wrong),
+    }
     let Ok(mut room) = Box::new(alloc, Part::Empty) else {
         return Err(Answer::NoMemory);
     };
-    match part {
-        Part::Group(group) => match group.new_rank(alloc, rank) {
-            Ok(made) => {
-                *room = Part::Rank(made);
-                Ok(room)
-            }
-            Err(answer) => Err(answer),
-        },
-        _ => Err(Answer::Gone),
+    match group.new_rank(alloc, rank) {
+        Ok(made) => {
+            *room = Part::Rank(made);
+            Ok(room)
+        }
+        Err(NoMemory) => Err(Answer::NoMemory),
     }
 }

@@ -1,9 +1,10 @@
 //! What C calls, of a rank and many items.
-ghost use Rattle.std.specs.Prelude.{◌≡◌, ◌≢◌, ◌++◌, ◌≤◌, ◌<◌, ◌^◌, ℕ, min, take, drop, length, pos, IfOk, Some, is_some};
+ghost use Rattle.std.specs.Prelude.{◌≡◌, ◌≢◌, ◌++◌, ◌≤◌, ◌<◌, ◌^◌, ℕ, min, take, drop, length, pos, IfOk, Some, Err, is_some, slice_index_or};
 ghost use Rattle.std.specs.Result.{ForOk, ForErr};
 ghost use Rattle.port_bank.specs.Machine.Step.{Push, Pull};
 ghost use Rattle.bale_c.specs.Codes.{code_of};
-ghost use Rattle.bale_c.specs.Handles.{rank_in, if_there};
+ghost use Rattle.bale_c.specs.Handles.{rank_in, seat_of, if_there, result_if_there};
+ghost use Rattle.bale_c.specs.Answers.{push_answer, pull_result};
 ghost use Rattle.bale_c.specs.Many.{steps_of, then_idle, RanIn, push_many_answer, pull_many_answer, count_in};
 
 use crate::answer::Answer;
@@ -31,9 +32,12 @@ pub extern "C" fn bale_push_many(
     ensures number { if_there (rank_in rank.old.held.value)
         (λ s. push_many_answer s (take (min (length items.now) (length to.now)) to.now)) ≡ Answer.Good
         → result ≡ pos (count_in result) }
-    ensures few { if_there (rank_in rank.old.held.value)
+    ensures few { count_in result ≤ min (length items.now) (length to.now) }
+    ensures links { seat_of (rank_in rank.new.held.value) ≡ seat_of (rank_in rank.old.held.value) }
+    ensures full { if_there (rank_in rank.old.held.value)
         (λ s. push_many_answer s (take (min (length items.now) (length to.now)) to.now)) ≡ Answer.Good
-        → count_in result ≤ min (length items.now) (length to.now) }
+        → count_in result < min (length items.now) (length to.now) → if_there (rank_in rank.new.held.value)
+        (λ s. push_answer s (slice_index_or to.now (count_in result) 0)) ≡ Answer.Full }
     ensures pushed { if_there (rank_in rank.old.held.value)
         (λ s. push_many_answer s (take (min (length items.now) (length to.now)) to.now)) ≡ Answer.Good → RanIn
         (steps_of Push (count_in result) (take (min (length items.now) (length to.now)) items.now)
@@ -64,8 +68,13 @@ pub extern "C" fn bale_pull_many(
         → rank_in rank.new.held.value ≡ rank_in rank.old.held.value }
     ensures number { if_there (rank_in rank.old.held.value) pull_many_answer ≡ Answer.Good
         → result ≡ pos (count_in result) }
-    ensures few { if_there (rank_in rank.old.held.value) pull_many_answer ≡ Answer.Good
-        → count_in result ≤ min (length items.old) (length from.old) }
+    ensures few { count_in result ≤ min (length items.old) (length from.old) }
+    ensures links { seat_of (rank_in rank.new.held.value) ≡ seat_of (rank_in rank.old.held.value) }
+    ensures none { if_there (rank_in rank.old.held.value) pull_many_answer ≡ Answer.Good
+        → count_in result < min (length items.old) (length from.old)
+        → result_if_there (rank_in rank.new.held.value) pull_result ≡ Err Answer.Nothing }
+    ensures other_items { drop (count_in result) items.new ≡ drop (count_in result) items.old }
+    ensures other_from { drop (count_in result) from.new ≡ drop (count_in result) from.old }
     ensures pulled { if_there (rank_in rank.old.held.value) pull_many_answer ≡ Answer.Good → RanIn
         (steps_of Pull (count_in result) (take (min (length items.old) (length from.old)) items.new)
         (take (min (length items.old) (length from.old)) from.new)
@@ -85,14 +94,17 @@ pub extern "C" fn bale_pull_many(
 fn push_number(part: &mut Part, items: &[BaleItem], to: &[u32]) -> i64
     requires same { length to.now ≡ length items.now }
     ensures there { is_some (rank_in (Some part.new)) ≡ is_some (rank_in (Some part.old)) }
+    ensures links { seat_of (rank_in (Some part.new)) ≡ seat_of (rank_in (Some part.old)) }
     ensures misuse { if_there (rank_in (Some part.old)) (λ s. push_many_answer s to.now) ≢ Answer.Good
         → result ≡ code_of (if_there (rank_in (Some part.old)) (λ s. push_many_answer s to.now)) }
     ensures unchanged { if_there (rank_in (Some part.old)) (λ s. push_many_answer s to.now) ≢ Answer.Good
         → part.new ≡ part.old }
     ensures number { if_there (rank_in (Some part.old)) (λ s. push_many_answer s to.now) ≡ Answer.Good
         → result ≡ pos (count_in result) }
-    ensures few { if_there (rank_in (Some part.old)) (λ s. push_many_answer s to.now) ≡ Answer.Good
-        → count_in result ≤ length items.now }
+    ensures few { count_in result ≤ length items.now }
+    ensures full { if_there (rank_in (Some part.old)) (λ s. push_many_answer s to.now) ≡ Answer.Good
+        → count_in result < length items.now → if_there (rank_in (Some part.new))
+        (λ s. push_answer s (slice_index_or to.now (count_in result) 0)) ≡ Answer.Full }
     ensures pushed { if_there (rank_in (Some part.old)) (λ s. push_many_answer s to.now) ≡ Answer.Good → RanIn
         (steps_of Push (count_in result) items.now to.now ++ then_idle (count_in result) (length items.now))
         (rank_in (Some part.old)) (rank_in (Some part.new)) }
@@ -106,13 +118,18 @@ fn push_number(part: &mut Part, items: &[BaleItem], to: &[u32]) -> i64
 fn pull_number(part: &mut Part, items: &mut [BaleItem], from: &mut [u32]) -> i64
     requires same { length from.old ≡ length items.old }
     ensures there { is_some (rank_in (Some part.new)) ≡ is_some (rank_in (Some part.old)) }
+    ensures links { seat_of (rank_in (Some part.new)) ≡ seat_of (rank_in (Some part.old)) }
     ensures misuse { if_there (rank_in (Some part.old)) pull_many_answer ≢ Answer.Good
         → result ≡ code_of (if_there (rank_in (Some part.old)) pull_many_answer) }
     ensures unchanged { if_there (rank_in (Some part.old)) pull_many_answer ≢ Answer.Good → part.new ≡ part.old }
     ensures number { if_there (rank_in (Some part.old)) pull_many_answer ≡ Answer.Good
         → result ≡ pos (count_in result) }
-    ensures few { if_there (rank_in (Some part.old)) pull_many_answer ≡ Answer.Good
-        → count_in result ≤ length items.old }
+    ensures few { count_in result ≤ length items.old }
+    ensures none { if_there (rank_in (Some part.old)) pull_many_answer ≡ Answer.Good
+        → count_in result < length items.old
+        → result_if_there (rank_in (Some part.new)) pull_result ≡ Err Answer.Nothing }
+    ensures other_items { drop (count_in result) items.new ≡ drop (count_in result) items.old }
+    ensures other_from { drop (count_in result) from.new ≡ drop (count_in result) from.old }
     ensures pulled { if_there (rank_in (Some part.old)) pull_many_answer ≡ Answer.Good → RanIn
         (steps_of Pull (count_in result) items.new from.new ++ then_idle (count_in result) (length items.old))
         (rank_in (Some part.old)) (rank_in (Some part.new)) }

@@ -13,6 +13,8 @@ ghost use Rattle.bale_c.specs.Grouped.{NewRank};
 
 use crate::answer::Answer;
 use crate::exchange::Exchange;
+use crate::item::BaleItem;
+use crate::many::{are_ranks, pull_while_some, push_while_room};
 use bale_types::{Item, NoMemory};
 use convey::{Conveyor, Phase, Progress, Pushed};
 use link_slots::{GatherSeat, SlotBank, SlotSeat};
@@ -176,6 +178,25 @@ impl<const CAP: usize, const HOPS: usize> Exchange for Rank<CAP, HOPS> {
             }
             _ => Answer::NotComplete,
         }
+    }
+
+    fn push_many(&mut self, items: &[BaleItem], to: &[u32]) -> Result<usize, Answer> {
+        match self.conveyor.phase() {
+            Phase::Dormant => return Err(Answer::NotBegun),
+            Phase::Working => (),
+            _ => return Err(Answer::DoneAlready),
+        }
+        if !are_ranks(self.ranks, to) {
+            return Err(Answer::NoSuchRank);
+        }
+        Ok(push_while_room(&mut self.conveyor, items, to))
+    }
+
+    fn pull_many(&mut self, items: &mut [BaleItem], from: &mut [u32]) -> Result<usize, Answer> {
+        if self.conveyor.phase() == Phase::Dormant {
+            return Err(Answer::NotBegun);
+        }
+        Ok(pull_while_some(&mut self.conveyor, items, from))
     }
 }
 

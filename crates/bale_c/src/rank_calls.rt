@@ -8,7 +8,7 @@ ghost use Rattle.bale_c.specs.Codes.{code_of, phase_code};
 ghost use Rattle.bale_c.specs.Answers.{begin_answer, push_answer, pull_result, unpull_answer, advance_answer, reset_answer};
 ghost use Rattle.bale_c.specs.Grouped.{answer_with};
 ghost use Rattle.bale_c.specs.Items.{item_of, bale_item};
-ghost use Rattle.bale_c.specs.Handles.{rank_in, if_there, result_if_there, phase_in, done_in, ranks_in, MovedIn, IsAdvanced};
+ghost use Rattle.bale_c.specs.Handles.{rank_in, seat_of, if_there, result_if_there, phase_in, done_in, ranks_in, MovedIn, IsAdvanced};
 
 use crate::answer::Answer;
 use crate::calls::{
@@ -23,6 +23,7 @@ use std::alloc::Global;
 #[unsafe(no_mangle)]
 pub extern "C" fn bale_begin(alloc: Global, rank: &mut BaleRank) -> i32
     ensures answer { result ≡ code_of (if_there (rank_in rank.old.held.value) (λ s. begin_answer s.state.phase)) }
+    ensures links { seat_of (rank_in rank.new.held.value) ≡ seat_of (rank_in rank.old.held.value) }
     ensures begun { if_there (rank_in rank.old.held.value) (λ s. begin_answer s.state.phase) ≡ Answer.Good
         → MovedIn Idle Phase.Working
         (rank_in rank.old.held.value) (rank_in rank.new.held.value) }
@@ -41,6 +42,7 @@ pub extern "C" fn bale_begin(alloc: Global, rank: &mut BaleRank) -> i32
 #[unsafe(no_mangle)]
 pub extern "C" fn bale_push(alloc: Global, rank: &mut BaleRank, item: &BaleItem, to: u32) -> i32
     ensures answer { result ≡ code_of (if_there (rank_in rank.old.held.value) (λ s. push_answer s to)) }
+    ensures links { seat_of (rank_in rank.new.held.value) ≡ seat_of (rank_in rank.old.held.value) }
     ensures pushed { if_there (rank_in rank.old.held.value) (λ s. push_answer s to) ≡ Answer.Good
         → MovedIn (Push to (item_of item.now)) Phase.Working
         (rank_in rank.old.held.value) (rank_in rank.new.held.value) }
@@ -63,6 +65,7 @@ pub extern "C" fn bale_push(alloc: Global, rank: &mut BaleRank, item: &BaleItem,
 #[unsafe(no_mangle)]
 pub extern "C" fn bale_unpull(alloc: Global, rank: &mut BaleRank) -> i32
     ensures answer { result ≡ code_of (if_there (rank_in rank.old.held.value) (λ s. unpull_answer s)) }
+    ensures links { seat_of (rank_in rank.new.held.value) ≡ seat_of (rank_in rank.old.held.value) }
     ensures put_back { if_there (rank_in rank.old.held.value) (λ s. unpull_answer s) ≡ Answer.Good
         → MovedIn Unpull (phase_in (rank_in rank.old.held.value))
         (rank_in rank.old.held.value) (rank_in rank.new.held.value) }
@@ -85,6 +88,7 @@ pub extern "C" fn bale_unpull(alloc: Global, rank: &mut BaleRank) -> i32
 #[unsafe(no_mangle)]
 pub extern "C" fn bale_reset(alloc: Global, rank: &mut BaleRank) -> i32
     ensures answer { result ≡ code_of (if_there (rank_in rank.old.held.value) (λ s. reset_answer s)) }
+    ensures links { seat_of (rank_in rank.new.held.value) ≡ seat_of (rank_in rank.old.held.value) }
     ensures ended { if_there (rank_in rank.old.held.value) (λ s. reset_answer s) ≡ Answer.Good
         → MovedIn Reset Phase.Dormant
         (rank_in rank.old.held.value) (rank_in rank.new.held.value) }
@@ -108,6 +112,7 @@ pub extern "C" fn bale_pull(
     from: &mut u32,
 ) -> i32
     ensures answer { result ≡ code_of (answer_with (result_if_there (rank_in rank.old.held.value) pull_result)) }
+    ensures links { seat_of (rank_in rank.new.held.value) ≡ seat_of (rank_in rank.old.held.value) }
     ensures pulled { IfOk (result_if_there (rank_in rank.old.held.value) pull_result) (λ p. MovedIn (Pull p.0 p.1)
         (phase_in (rank_in rank.old.held.value)) (rank_in rank.old.held.value) (rank_in rank.new.held.value)) }
     ensures item { IfOk (result_if_there (rank_in rank.old.held.value) pull_result) (λ p. item.new ≡ bale_item p.1) }

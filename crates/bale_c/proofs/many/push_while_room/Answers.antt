@@ -1,37 +1,45 @@
-use Rattle.std.proofs.Common.{◌≡◌, ◌<◌, ◌≤◌, ℕ, List, [], ◌∷◌, ◌++◌, length, get_or, arith, sym, ap, ◌∙◌, subst, true}
+use Rattle.std.proofs.Common.{◌≡◌, ◌<◌, ◌++◌, ◌∷◌, [], ℕ, List, length, get_or, arith, sym, ap, ◌∙◌, subst, true}
+use Rattle.std.proofs.lemmas.Bool.{ltb-true}
 use Rattle.bale_types.specs.declared.item.Item.{Item}
 use Rattle.route_tensor.specs.Grid.{ranks}
 use Rattle.port_bank.specs.Machine.{Step}
 use Rattle.port_bank.specs.Machine.Step.{Push}
-use Rattle.hop_core.specs.declared.phase.Phase.TheVariants.{Working}
-use Rattle.bale_c.specs.Seated.{Seated, Moved}
-use Rattle.bale_c.specs.Many.{steps_of, Ran, all_ranks}
-use Rattle.bale_c.proofs.Runs.{ran_zero, ran_more, ran_stopped, ran_through, steps_plus, rank_at, push_stopped, same_phase, same_dims}
+use Rattle.hop_core.specs.State.{State}
+use Rattle.bale_c.specs.Many.{steps_of, all_ranks}
+use Rattle.bale_c.specs.Kept.{RunOf}
+use Rattle.bale_c.proofs.Runs.{run_zero, run_more, run_stopped, push_same, steps_plus, rank_at}
 use Rattle.bale_c.proofs.many.push_while_room.Goals as goal
 
 pub loop-count-init : goal.loop-count-init
-loop-count-init g c = (omega arith, ran_zero Push c.args.items.now c.args.to.now (g.E.Exchange.seen c.args.rank.now), c.requires.working, c.requires.ranks)
+loop-count-init g c = (omega arith, run_zero Push c.args.items.now c.args.to.now c.args.conveyor.now)
 
-pub returns-in_default-clause-pushed : goal.returns-in_default-clause-pushed
-returns-in_default-clause-pushed g c =
-    let n : ℕ = c.loop-count.count in let b : Seated = g.E.Exchange.seen c.loop-count.rank in let to : List ℕ = c.args.to.now in let inv = c.loop-count.invariant in
-    let inside : n < length c.args.items.now = c.loop-count-test.true in let same : length to ≡ length c.args.items.now = c.requires.same in let at : n < length to = omega (arith, inside, same) in
-    ran_stopped (steps_of Push n c.args.items.now to) n (length c.args.items.now) Working (g.E.Exchange.seen c.args.rank.now) b (g.E.Exchange.seen c.push.new.self) inside inv.1
-    (c.push.ensures.full (push_stopped b (get_or to n 0) c.push.result inv.2 (rank_at (ranks b.state.dims) to n at inv.3) c.push.ensures.answer c.in_default.not-Good)) inv.2
+pub push-requires : goal.push-requires
+push-requires g c =
+    let inv = c.loop-count.invariant in let to : List ℕ = c.args.to.now in let n : ℕ = c.loop-count.count in
+    let inside : n < length c.args.items.now = c.loop-count-test.true in let same : length to ≡ length c.args.items.now = c.requires.same in let at : n < length to = omega (arith, inside, same) in (
+      omega arith,
+      (
+        ap (λ (z : State). z.phase) inv.1.same ∙ c.requires.working,
+        (
+          ap (λ (z : State). z.done) inv.1.same ∙ c.requires.not_done,
+          ltb-true (get_or to n 0) (ranks c.loop-count.conveyor.dims) (rank_at (ranks c.loop-count.conveyor.dims) to n at
+              (subst (λ (ds : List ℕ). all_ranks (ranks ds) to ≡ true) (sym (ap (λ (z : State). z.dims) inv.1.same)) c.requires.ranks)),
+        ),
+      ),
+    )
 
 pub loop-count-preserved : goal.loop-count-preserved
 loop-count-preserved g c =
-    let n : ℕ = c.loop-count.count in let a : Seated = g.E.Exchange.seen c.args.rank.now in let b : Seated = g.E.Exchange.seen c.loop-count.rank in let d : Seated = g.E.Exchange.seen c.push.new.self in
-    let to : List ℕ = c.args.to.now in let inv = c.loop-count.invariant in
-    let inside : n < length c.args.items.now = c.loop-count-test.true in let same : length to ≡ length c.args.items.now = c.requires.same in let at : n < length to = omega (arith, inside, same) in
-    let move : Moved (Push (get_or to n 0) c.item_from-item.result) Working b d = c.push.ensures.pushed c.in-Good.is in
-    let more = ran_more (steps_of Push n c.args.items.now to) (Push (get_or to n 0) c.item_from-item.result) Working a b d inv.1 move inv.2 in (
+    let n : ℕ = c.loop-count.count in let items = c.args.items.now in let to : List ℕ = c.args.to.now in let a : State = c.args.conveyor.now in let d : State = c.push.new.self in
+    let inside : n < length items = c.loop-count-test.true in let same : length to ≡ length items = c.requires.same in let at : n < length to = omega (arith, inside, same) in
+    let more = run_more (steps_of Push n items to) (Push (get_or to n 0) c.item_from-item.result) a c.loop-count.conveyor d c.loop-count.invariant.1 (c.push.ensures.step_accepted c.in-Accepted.is) c.push.ensures.kept
+    (push_same c.loop-count.conveyor d c.push.ensures.same) in (
       omega (arith, inside),
-      subst (λ (l : List Step). Ran l a d) (ap (λ (i : Item). steps_of Push n c.args.items.now to ++ Push (get_or to n 0) i ∷ []) c.item_from-item.ensures ∙ sym (steps_plus Push n c.args.items.now to (record { a = 0; b = 0; c = 0 }) 0 inside at)) more,
-      same_phase (Push (get_or to n 0) c.item_from-item.result) Working b d move,
-      subst (λ (ds : List ℕ). all_ranks (ranks ds) to ≡ true) (sym (same_dims (Push (get_or to n 0) c.item_from-item.result) Working b d move)) inv.3,
+      subst (λ (l : List Step). RunOf l a d) (ap (λ (i : Item). steps_of Push n items to ++ Push (get_or to n 0) i ∷ []) c.item_from-item.ensures ∙ sym (steps_plus Push n items to (record { a = 0; b = 0; c = 0 }) 0 inside at)) more,
     )
 
-pub returns-clause-pushed : goal.returns-clause-pushed
-returns-clause-pushed g c = let n : ℕ = c.loop-count.count in let no : length c.args.items.now ≤ n = c.loop-count-test.false in
-    ran_through (steps_of Push n c.args.items.now c.args.to.now) n (length c.args.items.now) (g.E.Exchange.seen c.args.rank.now) (g.E.Exchange.seen c.loop-count.rank) no c.loop-count.invariant.1
+pub returns-in-Full-clause-pushed : goal.returns-in-Full-clause-pushed
+returns-in-Full-clause-pushed g c =
+    let n : ℕ = c.loop-count.count in
+    run_stopped (steps_of Push n c.args.items.now c.args.to.now) n (length c.args.items.now) c.args.conveyor.now c.loop-count.conveyor c.push.new.self c.loop-count-test.true c.loop-count.invariant.1
+    (c.push.ensures.step_full c.in-Full.is) c.push.ensures.kept (push_same c.loop-count.conveyor c.push.new.self c.push.ensures.same)

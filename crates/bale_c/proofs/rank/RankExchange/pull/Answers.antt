@@ -21,6 +21,7 @@ returns-in_default g c =
     (ap (λ (z : State). z.phase) is ∙ pulled_phase old l) (ap (λ (z : State). z.rank) is ∙ pulled_rank old l) (ap (λ (z : State). z.dims) is ∙ pulled_dims old l)) in
     let seen = subst (λ (z : Seated). IfOk c.some_item.result (λ p. Moved (Pull p.0 p.1) z.state.phase z (at seat new)) × (c.some_item.result ≡ Err Nothing → Moved Idle z.state.phase z (at seat new))) c.self.view_is both in
     record {
+      links = ap (λ (z : Seated). z.seat) c.self.view_is;
       value = c.some_item.ensures ∙ (ap item_or_nothing c.pull.ensures.value ∙ (begun_pull old.phase (item_or_nothing (pull_from old l)) begun ∙ ap pull_result c.self.view_is));
       pulled = seen.0;
       nothing = seen.1;

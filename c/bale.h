@@ -209,14 +209,16 @@ int32_t bale_reset(bale_rank *rank);
 /* Pushes items[0] toward to[0], items[1] toward to[1], and so on, as so many calls of bale_push,
    until one finds no room: how many were pushed. The numbers of both arrays are the same; if they
    differ, the lesser counts. Below 0 it is misuse, and nothing is pushed: BALE_GONE,
-   BALE_NOT_BEGUN, BALE_DONE, or BALE_NO_RANK where any of the destinations is none. */
+   BALE_NOT_BEGUN, BALE_DONE, or BALE_NO_RANK where any of the destinations is none. Each call looks
+   at all destinations first, so give it no more at once than the open buffers hold. */
 int64_t bale_push_many(bale_rank *rank, const bale_item *items, size_t nitems, const uint32_t *to,
                        size_t nto);
 
 /* Pulls into items[0] and from[0], items[1] and from[1], and so on, as so many calls of bale_pull,
-   until nothing is left to be pulled or no place is: how many were pulled. The numbers of both
-   arrays are the same; if they differ, the lesser counts. Below 0 it is misuse: BALE_GONE or
-   BALE_NOT_BEGUN. */
+   until nothing is left to be pulled or no place is: how many were pulled. The places after them
+   stay as they were. The numbers of both arrays are the same; if they differ, the lesser counts.
+   Below 0 it is misuse: BALE_GONE or BALE_NOT_BEGUN. Whole buffers are pulled fastest: give it
+   places for one at least. */
 int64_t bale_pull_many(bale_rank *rank, bale_item *items, size_t nitems, uint32_t *from,
                        size_t nfrom);
 

@@ -1,11 +1,12 @@
 /* A caller that knows no rules: calls in any order, with any numbers, on live, empty and freed
-   handles. Every call must answer by a code that bale.h names for it, and what is pulled must be
-   what was pushed, in each pair's order: the program keeps its own account of both. */
+   handles. Every call must answer by a code that bale.h names for it, what is pulled must be what
+   was pushed, in each pair's order, and a complete epoch has lost nothing: the program keeps its
+   own account. random_calls [calls, 2,000,000 [seed, 1]] */
 #include "bale.h"
 #include <stdio.h>
 #include <stdlib.h>
 
-enum { GROUPS = 2, MOST_RANKS = 6, CALLS = 2000000, MANY = 40 };
+enum { GROUPS = 2, MOST_RANKS = 6, MANY = 40 };
 
 static uint64_t seed = 1;
 
@@ -17,7 +18,7 @@ static uint32_t below(uint32_t n) {
 }
 
 /* What the program knows of a group: how many items each rank pushed toward each other one in its
-   epoch, and pulled of it. */
+   epoch and in the one before, and pulled of it. */
 typedef struct {
     bale_group handle;
     bale_rank ranks[MOST_RANKS];
@@ -25,6 +26,7 @@ typedef struct {
     uint64_t made;
     uint64_t epoch[MOST_RANKS];
     uint64_t pushed[MOST_RANKS][MOST_RANKS];
+    uint64_t pushed_before[MOST_RANKS][MOST_RANKS];
     uint64_t pulled[MOST_RANKS][MOST_RANKS];
 } group;
 
@@ -58,6 +60,13 @@ static void came(group *g, uint32_t me, bale_item item, uint32_t from) {
     bale_item wanted = item_of(g, from, me, g->pulled[me][from]++);
     if (item.a != wanted.a || item.b != g->epoch[me] || item.c != wanted.c)
         fail("another item than was pushed", (int64_t)item.c);
+}
+
+/* A rank that is complete pulled all that was pushed toward it, also by those that went on. */
+static void whole(const group *g, uint32_t me) {
+    for (uint32_t r = 0; r < g->many; r++)
+        if (g->pulled[me][r] != (g->epoch[r] == g->epoch[me] ? g->pushed : g->pushed_before)[r][me])
+            fail("lost", r);
 }
 
 static void make_group(group *g) {
@@ -138,8 +147,10 @@ static void one_call(void) {
             fail("bale_reset in another state", answer);
         if (answer == BALE_OK) {
             g->epoch[me]++;
-            for (uint32_t r = 0; r < MOST_RANKS; r++)
+            for (uint32_t r = 0; r < MOST_RANKS; r++) {
+                g->pushed_before[me][r] = g->pushed[me][r];
                 g->pushed[me][r] = g->pulled[me][r] = 0;
+            }
         }
         break;
     }
@@ -154,6 +165,8 @@ static void one_call(void) {
         ONLY("bale_advance", answer, BALE_MORE, BALE_NEAR, BALE_COMPLETE, BALE_NOT_BEGUN, BALE_DONE, BALE_GONE);
         if ((answer == BALE_DONE) != (state >= BALE_ENDGAME && !done))
             fail("bale_advance in another state", answer);
+        if (answer == BALE_COMPLETE)
+            whole(g, me);
         break;
     }
     case 16:
@@ -175,6 +188,8 @@ static void one_call(void) {
             fail("bale_push_many in another state", pushed);
         for (int64_t k = 0; k < pushed; k++)
             g->pushed[me][ranks[k]]++;
+        if (pushed >= 0 && pushed < many && bale_push(rank, &items[pushed], ranks[pushed]) != BALE_FULL)
+            fail("bale_push_many stopped where there was room", pushed);
         break;
     }
     case 19:
@@ -188,6 +203,8 @@ static void one_call(void) {
             fail("bale_pull_many in another state", pulled);
         for (int64_t k = 0; k < pulled; k++)
             came(g, me, items[k], senders[k]);
+        if (pulled >= 0 && pulled < many && bale_pull(rank, &item, &from) != BALE_NONE)
+            fail("bale_pull_many left an item", pulled);
         if (pulled > 0 && pulled == many && below(2) == 0) {
             if (bale_unpull(rank) != BALE_OK)
                 fail("bale_unpull after bale_pull_many", 0);
@@ -236,16 +253,17 @@ static void one_call(void) {
 }
 
 int main(int argc, char **argv) {
-    if (argc > 1)
-        seed = strtoull(argv[1], NULL, 10);
-    for (uint32_t k = 0; k < CALLS; k++)
+    unsigned long calls = argc > 1 ? strtoul(argv[1], NULL, 10) : 2000000;
+    if (argc > 2)
+        seed = strtoull(argv[2], NULL, 10);
+    for (unsigned long k = 0; k < calls; k++)
         one_call();
     for (int g = 0; g < GROUPS; g++) {
         for (uint32_t r = 0; r < MOST_RANKS; r++)
             bale_rank_free(&groups[g].ranks[r]);
         bale_group_free(&groups[g].handle);
     }
-    printf("random_calls: %d calls, of these answered:\n", CALLS);
+    printf("random_calls: %lu calls, of these answered:\n", calls);
     for (int32_t a = -11; a <= 5; a++)
         printf("  %3d %9llu  %s\n", a, (unsigned long long)answers[a + 16], bale_text(a));
     if (answers[BALE_OK + 16] == 0 || answers[BALE_COMPLETE + 16] == 0)

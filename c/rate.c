@@ -2,7 +2,12 @@
    and many a call, and through an exchange written by hand in C for this purpose alone: for each
    pair of ranks two slots and two counters, entries with a tag, buffers handed over by their
    pointers. Each rank sends so many items to ranks drawn by a random sequence, and sums up what
-   comes. Median and best of some runs. rate [items a rank, 4,000,000 [runs, 5]] */
+   comes. Where crates/exchange_rate is built, it runs beside them, over the same conveyors without
+   C. The ways take turns, so that what else the machine does is shared out; the first turn isn't
+   measured. Median and best of the others.
+   rate [items a rank, 4,000,000 [turns, 7 [ranks [buffer [way]]]]]; with ranks, buffer and way (0
+   by hand, 1 one a call, 2 many a call, 3 exchange_rate) that alone. */
+#define _POSIX_C_SOURCE 200809L
 #include "bale.h"
 #include <pthread.h>
 #include <sched.h>
@@ -11,10 +16,11 @@
 #include <stdlib.h>
 #include <time.h>
 
-enum { MOST = 64, MOST_RUNS = 99, AT_ONCE = 1024 };
+enum { MOST = 64, MOST_TURNS = 99, AT_ONCE = 1024, WAYS = 4 };
 
 static uint32_t many, capacity, items_each = 4000000;
-static int runs = 5;
+static int turns = 7;
+static const char *beside = NULL; /* exchange_rate's program */
 static uint64_t sums[MOST][16]; /* each rank's on lines of its own */
 
 static inline uint32_t next_of(uint64_t *seed) {
@@ -148,6 +154,8 @@ static void *many_a_call(void *arg) {
     bale_rank *rank = &ranks[me];
     bale_item items[AT_ONCE], came[AT_ONCE];
     uint32_t to[AT_ONCE], from[AT_ONCE], ready = 0, start = 0;
+    /* As many as all open buffers hold, since each call looks at all that it is given. */
+    uint32_t at_once = capacity * many < AT_ONCE ? capacity * many : AT_ONCE;
     bale_begin(rank);
     int32_t state = BALE_MORE;
     while (state != BALE_COMPLETE) {
@@ -155,7 +163,7 @@ static void *many_a_call(void *arg) {
         while (left > 0 || start < ready) {
             if (start == ready) {
                 start = 0;
-                for (ready = 0; ready < AT_ONCE && left > 0; ready++, left--) {
+                for (ready = 0; ready < at_once && left > 0; ready++, left--) {
                     to[ready] = next_of(&seed);
                     items[ready] = (bale_item){left, me, to[ready]};
                 }
@@ -230,48 +238,100 @@ static double one_run(void *(*work)(void *)) {
     return (double)items_each * many / took / 1e6;
 }
 
+/* exchange_rate's own answer, of its second run. */
+static double from_beside(void) {
+    char command[4096], line[128];
+    double rate = 0;
+    snprintf(command, sizeof command, "'%s' %u %u %u 1", beside, many, items_each, capacity);
+    FILE *said = popen(command, "r");
+    if (said == NULL)
+        exit(1);
+    while (fgets(line, sizeof line, said) != NULL)
+        if (sscanf(line, "items_per_second %lf", &rate) == 1)
+            rate /= 1e6;
+    if (pclose(said) != 0 || rate == 0) {
+        fprintf(stderr, "rate: %s gave no rate\n", beside);
+        exit(1);
+    }
+    return rate;
+}
+
 static int by_value(const void *a, const void *b) {
     double x = *(const double *)a, y = *(const double *)b;
     return x < y ? -1 : x > y;
 }
 
-int main(int argc, char **argv) {
-    if (argc > 1)
-        items_each = (uint32_t)strtoul(argv[1], NULL, 10);
-    if (argc > 2)
-        runs = (int)strtol(argv[2], NULL, 10);
-    if (items_each == 0 || runs < 1 || runs > MOST_RUNS)
-        return 2;
-    static const uint32_t ranks_of[] = {4, 2, 1}, capacities[] = {16, 64, 256, 1024};
-    static void *(*const ways[])(void *) = {by_hand, one_a_call, many_a_call};
-    printf("million items a second, median / best of %d runs of %u items a rank\n", runs, items_each);
-    fflush(stdout);
-    printf("ranks buffer    C by hand      one a call     many a call\n");
-    for (int p = 0; p < 3; p++)
-        for (int c = 0; c < 4; c++) {
-            many = ranks_of[p];
-            capacity = capacities[c];
-            printf("%5u %6u", many, capacity);
-            uint64_t wanted = 0;
-            for (int w = 0; w < 3; w++) {
-                double rates[MOST_RUNS];
-                for (int k = 0; k < runs; k++) {
-                    rates[k] = one_run(ways[w]);
-                    uint64_t sum = 0;
-                    for (uint32_t r = 0; r < many; r++)
-                        sum += sums[r][0];
-                    if (w == 0 && k == 0)
-                        wanted = sum;
-                    else if (sum != wanted) {
-                        printf("\nanother sum than by hand\n");
-                        return 1;
-                    }
-                }
-                qsort(rates, (size_t)runs, sizeof(double), by_value);
-                printf("  %5.1f / %5.1f", rates[runs / 2], rates[runs - 1]);
-            }
-            printf("\n");
-            fflush(stdout);
+/* One turn of one way; what came must be the same by each. */
+static double turn_of(int way, uint64_t *wanted) {
+    static void *(*const works[])(void *) = {by_hand, one_a_call, many_a_call};
+    if (way == 3)
+        return from_beside();
+    double rate = one_run(works[way]);
+    uint64_t sum = 0;
+    for (uint32_t r = 0; r < many; r++)
+        sum += sums[r][0];
+    if (*wanted == 0)
+        *wanted = sum;
+    else if (sum != *wanted) {
+        fprintf(stderr, "rate: another sum than by hand\n");
+        exit(1);
+    }
+    return rate;
+}
+
+static void line_of(uint32_t ranks_now, uint32_t capacity_now) {
+    double rates[WAYS][MOST_TURNS];
+    uint64_t wanted = 0;
+    int ways = beside == NULL ? WAYS - 1 : WAYS;
+    uint32_t all = items_each;
+    many = ranks_now;
+    capacity = capacity_now;
+    /* One item a buffer is slow, so fewer are sent. */
+    if (capacity == 1)
+        items_each = all / 16 + 1;
+    for (int turn = -1; turn < turns; turn++)
+        for (int way = 0; way < ways; way++) {
+            double rate = turn_of(way, &wanted);
+            if (turn >= 0)
+                rates[way][turn] = rate;
         }
+    printf("%5u %6u", many, capacity);
+    for (int way = 0; way < ways; way++) {
+        qsort(rates[way], (size_t)turns, sizeof(double), by_value);
+        printf("  %6.1f / %6.1f", rates[way][turns / 2], rates[way][turns - 1]);
+    }
+    printf("\n");
+    fflush(stdout);
+    items_each = all;
+}
+
+int main(int argc, char **argv) {
+    unsigned long numbers[5] = {items_each, (unsigned long)turns, 0, 0, 0};
+    for (int k = 1; k < argc && k <= 5; k++)
+        numbers[k - 1] = strtoul(argv[k], NULL, 10);
+    if (numbers[0] == 0 || numbers[0] > UINT32_MAX || numbers[1] < 1 || numbers[1] > MOST_TURNS || numbers[2] > MOST || numbers[4] >= WAYS)
+        return 2;
+    items_each = (uint32_t)numbers[0];
+    turns = (int)numbers[1];
+    beside = getenv("EXCHANGE_RATE");
+    if (beside != NULL && *beside == '\0')
+        beside = NULL;
+    if (argc > 5) {
+        uint64_t wanted = 0;
+        many = (uint32_t)numbers[2];
+        capacity = (uint32_t)numbers[3];
+        for (int turn = 0; turn < turns; turn++)
+            printf("%.1f\n", turn_of((int)numbers[4], &wanted));
+        return 0;
+    }
+    static const uint32_t ranks_of[] = {4, 2}, capacities[] = {1, 64, 1024};
+    printf("million items a second, median / best of %d turns of %u items a rank (a sixteenth at buffer 1)\n", turns, items_each);
+    if (beside == NULL)
+        printf("exchange_rate isn't built: (cd crates/exchange_rate && rt run) builds it\n");
+    printf("ranks buffer        C by hand      one a call     many a call%s\n", beside == NULL ? "" : "   exchange_rate");
+    fflush(stdout);
+    for (int p = 0; p < 2; p++)
+        for (int c = 0; c < 3; c++)
+            line_of(ranks_of[p], capacities[c]);
     return 0;
 }

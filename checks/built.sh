@@ -1,4 +1,4 @@
-# What ./bale, ./build and checks/run know of a build; each reads this file. `top` is the
+# What ./bale, ./build, c/build and checks/run know of a build; each reads this file. `top` is the
 # repository's folder. A build is recorded in crates/bale/out/built: the sum of the sources that it
 # was made of, the toolchain, and rt's own stamp on the program.
 
@@ -14,6 +14,24 @@ sum_of() { # files and folders..
 # The sources: all that a proof reads.
 sources() {
     (cd "$top" && sum_of crates.txt HANDLES crates/*/src crates/*/specs crates/*/proofs)
+}
+
+# A crate and those that it stands on, each as `NAME SIZE`, by the bytes of its sources.
+stands_on() { # crate
+    (
+        cd "$top" || exit 1
+        sed 's/#.*//' crates.txt
+        find crates/*/src crates/*/specs crates/*/proofs -type f -printf '%s %p\n' 2>/dev/null
+    ) | awk -v crate="$1" '
+        function reach(name, list, many, i) {
+            if (!(name in below) || name in reached) return
+            reached[name]
+            many = split(below[name], list)
+            for (i = 1; i <= many; i++) reach(list[i])
+        }
+        /:/ { name = $1; sub(/:.*/, "", name); sub(/[^:]*:/, ""); below[name] = $0; next }
+        { split($2, path, "/"); size[path[2]] += $1 }
+        END { reach(crate); for (name in reached) print name, size[name] + 0 }'
 }
 
 # The toolchain's identity, or nothing where rt is not found.

@@ -8,11 +8,12 @@
     for sender, item in rank.came(): ...
     rank.reset()
 
-Items are three numbers below 2^64. push_many and pull_many take and give arrays: of numpy, where numpy is there, and else ctypes arrays. ctypes gives the
-interpreter's lock away for the time of a call, so ranks on threads do run side by side within the calls.
+Items are three whole numbers below 2^64. push_many takes lists, arrays of numpy and ctypes arrays; pull_many gives arrays of numpy, where that is there,
+and else lists. ctypes gives the interpreter's lock away for the time of a call, so ranks on threads do run side by side within the calls.
 """
 
 import ctypes
+import operator
 import os
 
 try:
@@ -22,6 +23,7 @@ except ImportError:
 
 OK, FULL, NONE, MORE, NEAR, COMPLETE = range(6)
 DORMANT, WORKING, ENDGAME, CLEANUP, COMPLETED = range(5)
+NO_RANK, BAD_NUMBERS = -5, -8
 
 _MISUSE = {
     -1: "no memory",
@@ -90,12 +92,59 @@ def _told(answer):
     return answer
 
 
+# ctypes cuts numbers off at 32 bits, so what is too large for the library is told here, by its own answer.
+def _u32(number, code):
+    number = operator.index(number)
+    if not 0 <= number < 2**32:
+        raise Misuse(code)
+    return number
+
+
+def _rows_of(items):
+    """The array, with what keeps it, its address and its length."""
+    if isinstance(items, ctypes.Array):
+        if items._type_ is not Item:
+            raise TypeError("a ctypes array of items is one of bale.Item")
+        return items, ctypes.addressof(items), len(items)
+    if numpy is None:
+        rows = (Item * max(1, len(items)))(*((operator.index(a), operator.index(b), operator.index(c)) for a, b, c in items))
+        return rows, ctypes.addressof(rows), len(items)
+    if isinstance(items, numpy.ndarray) and items.size > 0 and items.dtype.kind not in "iu":
+        raise TypeError("items are whole numbers")
+    rows = numpy.ascontiguousarray(items, dtype=numpy.uint64)
+    if rows.size > 0 and (rows.ndim != 2 or rows.shape[1] != 3):
+        raise ValueError("items are rows of three numbers")
+    return rows, rows.ctypes.data, len(rows)
+
+
+def _ranks_of(to):
+    if isinstance(to, ctypes.Array):
+        if to._type_ is not ctypes.c_uint32:
+            raise TypeError("a ctypes array of ranks is one of ctypes.c_uint32")
+        return to, ctypes.addressof(to), len(to)
+    if numpy is None:
+        ranks = (ctypes.c_uint32 * max(1, len(to)))(*(_u32(rank, NO_RANK) for rank in to))
+        return ranks, ctypes.addressof(ranks), len(to)
+    ranks = numpy.asarray(to)
+    if ranks.dtype != numpy.uint32 and ranks.size > 0:
+        if ranks.dtype.kind not in "iu":
+            raise TypeError("ranks are whole numbers")
+        if int(ranks.min()) < 0 or int(ranks.max()) >= 2**32:
+            raise Misuse(NO_RANK)
+    ranks = numpy.ascontiguousarray(ranks, dtype=numpy.uint32)
+    if ranks.ndim != 1:
+        raise ValueError("ranks are one list of numbers")
+    return ranks, ranks.ctypes.data, len(ranks)
+
+
 class Group:
     """The memory that ranks share, and the ranks that are still to be made."""
 
     def __init__(self, dims, buffer=64, slots=2, steady=False):
         self._handle = _Handle()
-        _told(_group_new((ctypes.c_uint32 * max(1, len(dims)))(*dims), len(dims), buffer, slots, steady, self._handle))
+        numbers = [_u32(number, BAD_NUMBERS) for number in (*dims, buffer, slots)]
+        grid = (ctypes.c_uint32 * max(1, len(dims)))(*numbers[: len(dims)])
+        _told(_group_new(grid, len(dims), *numbers[-2:], bool(steady), self._handle))
 
     def rank(self, number):
         return Rank(self, number)
@@ -114,14 +163,14 @@ class Rank:
     def __init__(self, group, number):
         self._handle = _Handle()
         self._item, self._from = Item(), ctypes.c_uint32()
-        _told(_rank_new(group._handle, number, self._handle))
+        _told(_rank_new(group._handle, _u32(number, NO_RANK), self._handle))
 
     def begin(self):
         _told(_begin(self._handle))
 
     def push(self, item, to):
-        self._item.a, self._item.b, self._item.c = item
-        return _told(_push(self._handle, self._item, to)) == OK
+        self._item.a, self._item.b, self._item.c = map(operator.index, item)
+        return _told(_push(self._handle, self._item, _u32(to, NO_RANK))) == OK
 
     def pull(self):
         """The next item that came, as its sender and the three numbers; None where there is none."""
@@ -139,16 +188,13 @@ class Rank:
 
     def push_many(self, items, to):
         """Pushes rows of three numbers in order, each toward the rank at its place, until one finds no room. How many were pushed."""
-        if numpy is not None:
-            rows = numpy.ascontiguousarray(items, dtype=numpy.uint64).reshape(-1, 3)
-            ranks = numpy.ascontiguousarray(to, dtype=numpy.uint32)
-            return _told(_push_many(self._handle, rows.ctypes.data, len(rows), ranks.ctypes.data, len(ranks)))
-        rows = items if isinstance(items, ctypes.Array) else (Item * max(1, len(items)))(*items)
-        ranks = to if isinstance(to, ctypes.Array) else (ctypes.c_uint32 * max(1, len(to)))(*to)
-        return _told(_push_many(self._handle, ctypes.addressof(rows), len(items), ctypes.addressof(ranks), len(to)))
+        rows, at, many = _rows_of(items)
+        ranks, at_ranks, many_ranks = _ranks_of(to)
+        return _told(_push_many(self._handle, at, many, at_ranks, many_ranks))
 
     def pull_many(self, most=1024):
         """Up to so many items that came: their senders, and rows of three numbers."""
+        most = max(0, operator.index(most))
         if numpy is not None:
             rows, senders = numpy.empty((max(1, most), 3), dtype=numpy.uint64), numpy.empty(max(1, most), dtype=numpy.uint32)
             count = _told(_pull_many(self._handle, rows.ctypes.data, most, senders.ctypes.data, most))
@@ -158,7 +204,7 @@ class Rank:
         return list(senders[:count]), [(i.a, i.b, i.c) for i in rows[:count]]
 
     def advance(self, done=False):
-        return _told(_advance(self._handle, done))
+        return _told(_advance(self._handle, bool(done)))
 
     def reset(self):
         _told(_reset(self._handle))

@@ -1,5 +1,5 @@
 -- What an advance leaves before it settles the phase.
-use Rattle.std.proofs.Common.{◌≡◌, ℕ, ◌<◌, ◌⊎◌, Bool, true, false, List, [], ◌∷◌, ◌++◌, length, arith, slice_get, slice_index_or, Option, None, refl, sym, ap, subst, ◌∙◌, inl, inr}
+use Rattle.std.proofs.Common.{Some, ◌≡◌, ℕ, ◌<◌, ◌⊎◌, Bool, true, false, List, [], ◌∷◌, ◌++◌, length, arith, slice_get, slice_index_or, Option, None, refl, sym, ap, subst, ◌∙◌, inl, inr}
 use Rattle.std.specs.List.{flat_map}
 use Rattle.std.proofs.lemmas.Bool.{false≢true}
 use Rattle.std.proofs.lemmas.List.{append-nil}
@@ -20,7 +20,7 @@ use Rattle.hop_core.specs.State.{State, phase_of}
 use Rattle.hop_core.specs.Standing.{IsState}
 use Rattle.convey.specs.Buffers.{out_of, in_of, is_complete, buffers_of}
 use Rattle.convey.specs.Agreement.{Ends, Agrees}
-use Rattle.convey.specs.Due.{Wants, IsOver, WasServed, NextIs, SentFull, HeldUp, IsBlocked}
+use Rattle.convey.specs.Due.{Wants, IsOver, WasServed, NextIs, SentFull, WasFull, HeldUp, IsBlocked}
 use Rattle.convey.specs.Parts.{part_of}
 use Rattle.convey.specs.Way.{IsReady, GoesOn, PassedOn, WasAsked, WasPosted, MovesOn, HasServed, at_rest}
 use Rattle.convey.proofs.Moves.{forget_agrees, marks_agree}
@@ -151,6 +151,28 @@ module _ (dims : List ℕ) (rank : ℕ) (st0 st1 st2 st3 st4 : State) (done : Bo
           (ready_again.same_dims ∙ sym ready.same_dims) (ready_again.same_rank ∙ sym ready.same_rank) (λ l. ap (λ x. x.ended) (same_in l) ∙ passed.ends l) over;
     }
 
+  module _ (t : IsState st3) (stopped : (l : ℕ) → l < links st3.dims → hop_at st3.dims l < length st3.dims → IsBlocked st3 l) where
+    at_here : st3.dims ≡ st0.dims
+    at_here = passed.ready.same_dims ∙ d
+
+    one_cap : st3.cap ≡ st0.cap
+    one_cap = passed.goes_on.cap ∙ (collected.cap ∙ ap (λ u. u.cap) says)
+
+    -- the open parcel was full after the relay: it is still, or it was posted
+    was_full : (m : ℕ) → m < links st0.dims → sender_at st0.dims m ≡ st0.rank → length (out_of st3 m).parcel.untaken ≡ st3.cap → WasFull st0.cap st4 sent sent'' m
+    was_full m h from full = elim (was_posted m (here m h) (sends m from)) as (λ _. WasFull st0.cap st4 sent sent'' m) [
+      | inl same ↦ inl (ap length (waits m (here m h) (sends m from) same) ∙ (full ∙ one_cap))
+      | inr more ↦ inr (record { parcel = more.parcel; is = more.is ∙ ap (λ s. s m ++ more.parcel ∷ []) same_sent; full = ap length more.holds ∙ (full ∙ one_cap) })
+    ]
+
+    pub held : (l : ℕ) (e : Entry) → l < links st0.dims → reader_at st0.dims l ≡ st0.rank → hop_at st0.dims l < length st0.dims → slice_get (in_of st4 l).parcel.untaken 0 ≡ Some e
+        → NextIs st0.dims st0.rank l e.tag (WasFull st0.cap st4 sent sent'')
+    held l e h to less at =
+        let P : ℕ → Type 0 = λ m. length (out_of st3 m).parcel.untaken ≡ st3.cap in
+        let b = stopped l (subst (λ ds. l < links ds) (sym at_here) h) (subst (λ ds. hop_at ds l < length ds) (sym at_here) less) e (sym (ap (λ x. slice_get x.parcel.untaken 0) (same_in l)) ∙ at) in
+        next_map st0.dims st0.rank l e.tag P (WasFull st0.cap st4 sent sent'') (λ m below from hop full. was_full m below from full)
+        (subst (λ q. NextIs st0.dims q l e.tag P) (passed.ready.same_rank ∙ r) (subst (λ ds. NextIs ds st3.rank l e.tag P) at_here b))
+
   module _ (looks looks'' : ℕ → ℕ) (crowded'' : ℕ → Bool) (t : IsState st3)
       (stopped : (l : ℕ) → l < links st3.dims → hop_at st3.dims l < length st3.dims → IsBlocked st3 l)
       (served : (l : ℕ) → l < links dims → sender_at dims l ≡ rank → WasServed st4 l (looks l) (looks'' l) (crowded'' l)) where
@@ -166,13 +188,9 @@ module _ (dims : List ℕ) (rank : ℕ) (st0 st1 st2 st3 st4 : State) (done : Bo
     same_cap : st3.cap ≡ st0.cap
     same_cap = passed.goes_on.cap ∙ (collected.cap ∙ ap (λ u. u.cap) says)
 
-    -- the open parcel was full after the relay: it is still, or it was posted
     held_up : (m : ℕ) → m < links st0.dims → sender_at st0.dims m ≡ st0.rank → length (out_of st3 m).parcel.untaken ≡ st3.cap → HeldUp st0.cap st4 sent sent'' crowded'' m
     held_up m h from full = record {
-      full = elim (was_posted m (here m h) (sends m from)) as (λ _. (length (out_of st4 m).parcel.untaken ≡ st0.cap) ⊎ SentFull st0.cap (sent m) (sent'' m)) [
-        | inl same ↦ inl (ap length (waits m (here m h) (sends m from) same) ∙ (full ∙ same_cap))
-        | inr more ↦ inr (record { parcel = more.parcel; is = more.is ∙ ap (λ s. s m ++ more.parcel ∷ []) same_sent; full = ap length more.holds ∙ (full ∙ same_cap) })
-      ];
+      full = was_full t stopped m h from full;
       crowded = crowds m h from full;
     }
 
@@ -228,3 +246,6 @@ module _ (st : State) (s : IsState st) (h : phase_of st ≡ Complete) where
         full = λ l k from same filled. absurd (false≢true (sym (due_open st l s k (due_full st l filled)) ∙ v.closed l k from));
         stopped = λ l e k to less at. absurd (none_first e (sym (ap (λ xs. slice_get xs 0) (v.read l k to)) ∙ at));
       }
+
+  pub over_held : (sent : Logs) (l : ℕ) (e : Entry) → l < links st.dims → reader_at st.dims l ≡ st.rank → slice_get (in_of st l).parcel.untaken 0 ≡ Some e → ⊥
+  over_held sent l e k to at = none_first e (sym (ap (λ xs. slice_get xs 0) ((is_over st s h).read l k to)) ∙ at)

@@ -71,10 +71,14 @@ pub record SentFull (cap : ℕ) (log log' : List Shipped) : Type 0 where
   pub is : log' ≡ log ++ parcel ∷ []
   pub full : length parcel.entries ≡ cap
 
--- Why an advance left an entry in an inbox: the open parcel of its next link m was full when the relay came to it.
--- full: it holds cap entries still, or a parcel of cap entries was sent there.
+-- The open parcel of link m was full when the relay came to it: it holds cap entries still, or a parcel of cap entries
+-- was sent there.
+abbrev pub WasFull : ℕ → State → Logs → Logs → ℕ → Type 0
+WasFull cap st sent sent' m = (length (out_of st m).parcel.untaken ≡ cap) ⊎ SentFull cap (sent m) (sent' m)
+
+-- Why an advance that had memory left an entry in an inbox: the open parcel of its next link m was full.
 -- crowded: where nothing was sent there, the link is crowded.
 -- At capacity 2 and with [x, y] waiting for link m, z is left; with [x] waiting, z is passed on after it.
 pub record HeldUp (cap : ℕ) (st : State) (sent sent' : Logs) (is_crowded : ℕ → Bool) (m : ℕ) : Type 0 where
-  pub full : (length (out_of st m).parcel.untaken ≡ cap) ⊎ SentFull cap (sent m) (sent' m)
+  pub full : WasFull cap st sent sent' m
   pub crowded : sent' m ≡ sent m → is_crowded m ≡ true

@@ -28,7 +28,7 @@ ghost use Rattle.hop_core.specs.Standing.{IsState};
 ghost use Rattle.convey.specs.Agreement.{Ends};
 ghost use Rattle.convey.specs.Arrived.{HasArrived};
 ghost use Rattle.hop_core.specs.Link.{is_wanted};
-ghost use Rattle.convey.specs.Due.{Wants, IsOver, WasServed, StopsAt, NextIs, HeldUp, was_served};
+ghost use Rattle.convey.specs.Due.{Wants, IsOver, WasServed, StopsAt, NextIs, WasFull, HeldUp, was_served};
 
 use crate::moving::move_on;
 use crate::progress::Progress;
@@ -336,7 +336,12 @@ impl<const CAP: usize, const HOPS: usize> Conveyor<CAP, HOPS> {
             → (hop_at self.old.dims l ≡ 1 → done ≡ true) → HasArrived (buffers_of self.new) l
             → (out_of self.new l).closed ≡ false → P.crowded port.new l ≡ true }
 
-        // An entry is left in an inbox below the last hop only where the open parcel that it goes to was full.
+        // An entry is left in an inbox below the last hop only where the open parcel that it goes to was full; where the
+        // advance had memory and nothing was sent there, that link is crowded.
+        ensures held { (l : ℕ) (e : Entry) → l < links self.old.dims → reader_at self.old.dims l ≡ self.old.rank
+            → hop_at self.old.dims l < length self.old.dims → slice_get (in_of self.new l).parcel.untaken 0 ≡ Some e
+            → NextIs self.old.dims self.old.rank l e.tag
+            (WasFull CAP self.new (P.sent port.old) (P.sent port.new)) }
         ensures stopped { IsOk result → (l : ℕ) (e : Entry) → l < links self.old.dims
             → reader_at self.old.dims l ≡ self.old.rank
             → hop_at self.old.dims l < length self.old.dims → slice_get (in_of self.new l).parcel.untaken 0 ≡ Some e

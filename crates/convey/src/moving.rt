@@ -1,15 +1,16 @@
 //! Moves an exchange on: what an advance does before it settles the phase.
-ghost use Rattle.std.specs.Prelude.{◌≡◌, ◌≢◌, ◌⊎◌, ℕ, ◌<◌, true, false, None, OnOk, IsOk, IsErr, Result};
+ghost use Rattle.std.specs.Prelude.{◌≡◌, ◌≢◌, ◌⊎◌, ℕ, ◌<◌, true, false, None, Some, length, slice_get, OnOk, IsOk, IsErr, Result};
 ghost use Rattle.hop_core.specs.declared.lent.Lent.TheVariants as Lent;
 ghost use Rattle.port_bank.specs.Calls.{once_more_if};
 ghost use Rattle.hop_core.specs.Standing.{IsState};
 ghost use Rattle.convey.specs.Buffers.{is_complete};
 ghost use Rattle.convey.specs.Conveyors.{IsConveyor};
+ghost use Rattle.bale_types.specs.declared.item.Entry.{Entry};
 ghost use Rattle.route_tensor.specs.Link.{links};
-ghost use Rattle.route_tensor.specs.Ends.{sender_at, reader_at};
+ghost use Rattle.route_tensor.specs.Ends.{hop_at, sender_at, reader_at};
 ghost use Rattle.hop_core.specs.Link.{is_wanted};
 ghost use Rattle.convey.specs.Buffers.{in_of};
-ghost use Rattle.convey.specs.Due.{StopsAt, was_served};
+ghost use Rattle.convey.specs.Due.{StopsAt, was_served, NextIs, WasFull};
 ghost use Rattle.convey.specs.Way.{IsReady, MovesOn, HasServed};
 
 use crate::collecting::collect_all;
@@ -44,6 +45,11 @@ pub(crate) fn move_on<const CAP: usize, const HOPS: usize, P: Port<CAP>>(
     ensures posts { OnOk result ((l : ℕ) → l < links state.old.dims → sender_at state.old.dims l ≡ state.old.rank
         → P.posts port.new l
         ≡ once_more_if (was_served state.new l (P.sent port.old l) (P.sent port.new l)) (P.posts port.old l)) }
+    ensures held { (l : ℕ) (e : Entry) → l < links state.old.dims → reader_at state.old.dims l ≡ state.old.rank
+        → hop_at state.old.dims l < length state.old.dims
+        → slice_get (in_of state.new l).parcel.untaken 0 ≡ Some e
+        → NextIs state.old.dims state.old.rank l e.tag
+        (WasFull state.old.cap state.new (P.sent port.old) (P.sent port.new)) }
     ensures stops { IsErr result → StopsAt state.new (P.posts port.old) (P.posts port.new) }
     ensures collects { (l : ℕ) → l < links state.old.dims → reader_at state.old.dims l ≡ state.old.rank
         → P.collects port.new l ≡ once_more_if (is_wanted (in_of state.old l)) (P.collects port.old l) }

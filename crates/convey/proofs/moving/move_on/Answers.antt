@@ -14,7 +14,7 @@ use Rattle.convey.proofs.Ways.{ready_at, link_at, end_at, goes_on_refl}
 use Rattle.convey.proofs.Sent.{all_closed_by, sent_not_due, same_closed, cleanup_incomplete}
 use Rattle.convey.proofs.Completes.{complete_phase, over_not_due, over_not_wanted}
 use Rattle.convey.proofs.Asks.{served_not}
-use Rattle.convey.proofs.Movements.{not_true, noted_ready, moves_on, has_served, over_moves, over_served}
+use Rattle.convey.proofs.Movements.{not_true, noted_ready, moves_on, held, has_served, over_moves, over_served, over_held}
 use Rattle.convey.proofs.Advances.{not_over}
 use Rattle.convey.proofs.moving.move_on.Goals as goal
 
@@ -180,3 +180,38 @@ returns-then-eq-clause-posts g c =
     λ l h from.
     let not_due : IsDue mid l → ⊥ = sent_not_due st mid l c.phase.ensures.standing c.relay_all.ensures.standing same_dims same all (subst (λ ds. l < links ds) (sym same_dims) h) in
     ap (λ f. f l) k.posts ∙ ap (λ b. once_more_if b (g.P.Port.posts c.args.port.now l)) (sym (served_not mid l (g.P.Port.sent c.args.port.now l) (g.P.Port.sent c.collect_all.new.port l) (ap (λ s. s l) k.sent) not_due))
+
+pub returns-clause-held : goal.returns-clause-held
+returns-clause-held g c =
+    let dims : List ℕ = g.P.Port.dims c.args.port.now in
+    let rank : ℕ = g.P.Port.rank c.args.port.now in
+    let k = c.collect_all.ensures in
+    let e = c.post_all.ensures in
+    let passed = c.relay_all.ensures.passed dims rank _ _ k.ready in
+    held dims rank c.args.state.now c.note_done.new.state c.collect_all.new.state c.relay_all.new.state c.post_all.new.state c.args.done _ _ _ _ _ _
+    c.phase.ensures.standing (sym c.requires.ready.same_dims) (sym c.requires.ready.same_rank) c.note_done.ensures.state k.goes_on k.outs k.ready passed
+    e.goes_on e.ins (ready_at dims _ rank _ _ _ _ k.same_dims k.same_rank e.ready)
+    (λ l h from. e.waits l (link_at dims _ l k.same_dims h) (end_at sender_at dims _ rank _ l k.same_dims k.same_rank from)) k.sent
+    (λ l h from. e.posted l (link_at dims _ l k.same_dims h) (end_at sender_at dims _ rank _ l k.same_dims k.same_rank from))
+    c.relay_all.ensures.standing c.relay_all.ensures.stopped
+
+pub returns-then-eq-clause-held : goal.returns-then-eq-clause-held
+returns-then-eq-clause-held g c =
+    let dims : List ℕ = g.P.Port.dims c.args.port.now in
+    let rank : ℕ = g.P.Port.rank c.args.port.now in
+    let st : State = c.args.state.now in
+    let mid : State = c.relay_all.new.state in
+    let k = c.collect_all.ensures in
+    let passed = c.relay_all.ensures.passed dims rank _ _ k.ready in
+    let sent' : Logs = g.P.Port.sent c.collect_all.new.port in
+    let got' : Logs = g.P.Port.got c.collect_all.new.port in
+    held dims rank st c.note_done.new.state c.collect_all.new.state mid mid c.args.done (g.P.Port.sent c.args.port.now) sent' sent' (g.P.Port.got c.args.port.now) got' got'
+    c.phase.ensures.standing (sym c.requires.ready.same_dims) (sym c.requires.ready.same_rank) c.note_done.ensures.state k.goes_on k.outs k.ready passed
+    (goes_on_refl mid sent' got') refl passed.ready (λ l h from e. refl) k.sent (λ l h from. inl refl)
+    c.relay_all.ensures.standing c.relay_all.ensures.stopped
+
+pub returns-then-is_over-clause-held : goal.returns-then-is_over-clause-held
+returns-then-is_over-clause-held g c =
+    let st : State = c.args.state.now in
+    let over : st.phase ≡ Complete = complete_phase st.phase (ap is_complete (sym c.phase.ensures.value) ∙ (sym c.is_over.ensures ∙ c.if-is_over.true)) in
+    λ l e below to less at. absurd (over_held st c.phase.ensures.standing (c.requires.conveyor.complete over) (g.P.Port.sent c.args.port.now) l e below to at)

@@ -2,7 +2,7 @@ use Rattle.std.proofs.Common.{◌≡◌, ◌<◌, true, false, Result, Ok, lengt
 use Rattle.std.proofs.lemmas.Bool.{false≢true}
 use Rattle.bale_types.specs.declared.fault.NoMemory.{NoMemory}
 use Rattle.route_tensor.specs.Link.{links}
-use Rattle.route_tensor.specs.Ends.{hop_at}
+use Rattle.route_tensor.specs.Ends.{hop_at, reader_at}
 use Rattle.hop_core.specs.declared.phase.Phase.TheVariants.{Complete}
 use Rattle.hop_core.specs.State.{State, all_closed, phase_of}
 use Rattle.hop_core.specs.Standing.{IsState}
@@ -10,7 +10,7 @@ use Rattle.convey.specs.declared.progress.Progress.{Progress}
 use Rattle.convey.specs.declared.progress.Progress.TheVariants.{Complete as Whole}
 use Rattle.convey.specs.Buffers.{in_of, is_complete, buffers_of}
 use Rattle.convey.specs.Agreement.{Agrees}
-use Rattle.convey.specs.Due.{IsDue, WasServed, NextIs, HeldUp}
+use Rattle.convey.specs.Due.{IsDue, WasServed, NextIs, WasFull, HeldUp}
 use Rattle.convey.specs.Progress.{progress_of}
 use Rattle.convey.specs.Way.{MovesOn, HasServed}
 use Rattle.convey.proofs.Blocks.{next_map}
@@ -151,3 +151,28 @@ returns-clause-fits g c =
     let now : State = c.args.self.now in
     let standing : IsState now = subst IsState c.self.view_is c.move_on.ensures.standing in
     holds_at_most now g.row.CAP standing (subst (λ (t : State). t.cap ≡ g.row.CAP) c.self.view_is c.move_on.ensures.cap)
+
+pub returns-in_err-move_on-clause-held : goal.returns-in_err-move_on-clause-held
+returns-in_err-move_on-clause-held g c =
+    let now : State = c.args.self.now in
+    let mid : State = c.move_on.new.state in
+    let sent = g.P.Port.sent c.args.port.now in
+    let sent' = g.P.Port.sent c.move_on.new.port in
+    let cap : now.cap ≡ g.row.CAP = subst (λ (t : State). t.cap ≡ g.row.CAP) c.self.view_is c.move_on.ensures.cap in
+    λ l x below to less.
+    let k = subst (λ (t : State). l < links t.dims → reader_at t.dims l ≡ t.rank → hop_at t.dims l < length t.dims → slice_get (in_of mid l).parcel.untaken 0 ≡ Some x → NextIs t.dims t.rank l x.tag (WasFull t.cap mid sent sent')) c.self.view_is
+    (c.move_on.ensures.held l x) below to less in
+    λ at. subst (λ n. NextIs now.dims now.rank l x.tag (WasFull n mid sent sent')) cap (k at)
+
+pub returns-clause-held : goal.returns-clause-held
+returns-clause-held g c =
+    let now : State = c.args.self.now in
+    let mid : State = c.move_on.new.state in
+    let sent = g.P.Port.sent c.args.port.now in
+    let sent' = g.P.Port.sent c.move_on.new.port in
+    let cap : now.cap ≡ g.row.CAP = subst (λ (t : State). t.cap ≡ g.row.CAP) c.self.view_is c.move_on.ensures.cap in
+    λ l x below to less.
+    let k = subst (λ (t : State). l < links t.dims → reader_at t.dims l ≡ t.rank → hop_at t.dims l < length t.dims → slice_get (in_of mid l).parcel.untaken 0 ≡ Some x → NextIs t.dims t.rank l x.tag (WasFull t.cap mid sent sent')) c.self.view_is
+    (c.move_on.ensures.held l x) below to less in
+    subst (λ s. slice_get (in_of s l).parcel.untaken 0 ≡ Some x → NextIs now.dims now.rank l x.tag (WasFull g.row.CAP s sent sent')) (sym c.settle.ensures.state)
+    (λ at. subst (λ n. NextIs now.dims now.rank l x.tag (WasFull n (record mid { phase = phase_of mid; pulled = None }) sent sent')) cap (k at))

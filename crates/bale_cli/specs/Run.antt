@@ -50,7 +50,8 @@ pub record IsRun {S K E : Type 0} (serial : Command → Bool) (words : List (Lis
   pub silent : (status ≡ 0) ⊎ (status ≡ 1) → err' ≡ err
   -- At 0, 1 and 4 the rounds tell the canonical run of the application's programs for its matrix or lines, and for ig over biconvey that of the
   -- sums and then the queries and the replies, over banks of the grid, the capacity and the slots that the words name: plain ones for one
-  -- thread, else ones of slots; else there are none.
+  -- thread, else ones of slots; else there are none. Over conveyors that aren't steady each epoch's entries travel in few parcels, by
+  -- port_bank's few_parcels_law.
   pub rounds_tell : (text : List ℕ) (c : Command) (s : Subject) → Asked serial (left source) (command_of words) text c s
       → (status ≡ 0) ⊎ (status ≡ 1) ⊎ (status ≡ 4) → TellsCommand (serial c) c s rounds
   pub no_rounds : status ≢ 0 → status ≢ 1 → status ≢ 4 → rounds ≡ []

@@ -2,7 +2,7 @@
 //!
 //! | Call | For |
 //! |---|---|
-//! | [`run`] | from the words and the bytes that come in to the bytes that go out, each rank on a thread or all on one, as the words ask |
+//! | [`run`] | from the words and the bytes that come in to the bytes that go out, the ranks on threads or all on one, as the words ask |
 //! | [`run_serial`] | the same, all ranks on this thread: it returns, and its turns are bounded |
 //! | [`report`] | to say on a sink why a run ended without an answer |
 //!

@@ -37,7 +37,7 @@ pub enum Transport {
 /// Who turns the ranks.
 #[derive(Clone, Copy, PartialEq, Eq, Debug)]
 pub enum Driving {
-    /// A thread for each rank.
+    /// The ranks on threads.
     Threads,
     /// One thread, one rank after the other.
     Serial,

@@ -30,7 +30,8 @@ vote_sent R (Some s) = vote_item (R.vote s) ∷ []
 -- work: in epoch 2m each rank pushed toward each rank what it emits to it in round m of the canonical run.
 -- votes: in epoch 2m + 1 it pushed its one vote on round m.
 -- all_came: each rank pulled what was pushed toward it.
--- shape: each parcel is filled as the transport fills it, conveyors steady or not.
+-- shape: each parcel is filled as the transport fills it, conveyors steady or not. Where they aren't steady, an epoch's
+-- entries travel in few parcels (port_bank's few_parcels_law).
 -- With two ranks and six rounds there are 12 epochs; in each odd one each of the four pairs has one item.
 pub record TellsRun {S : Type 0} (R : Rules S) (starts : List S) (n : ℕ) (made : Made) (manner : Manner) (round : Round) : Type 0 where
   pub bank : record { dims = round.dims; cap = round.cap; slots = round.slots; by_slots = round.by_slots } ≡ made

@@ -1,0 +1,176 @@
+//! One rank's part of the propagation of labels.
+
+ghost use Rattle.std.specs.Prelude.{◌≡◌, ◌<◌, ◌≤◌, length, IfOk};
+ghost use Rattle.std.specs.List.{All, filter};
+ghost use Rattle.components.specs.LabelRules.{IsLink, fell};
+ghost use Rattle.components.specs.Starts.{begins};
+
+use crate::starting::{links_of, numbers};
+use bale_types::{Item, NoMemory};
+use mtx_text::Matrix;
+use round_program::Program;
+use std::alloc::Global;
+use std::marker::Model;
+
+/// A way from a vertex to a neighbour. Each entry of the matrix is two, one in each direction.
+#[derive(Clone, Copy)]
+pub struct Link {
+    pub from: u32,
+    pub to: u32,
+}
+
+/// One rank of the run. Vertex `v` belongs to rank `v mod ranks`; each rank has a label for every vertex, and only those of its
+/// own vertices ever fall.
+#[derive(Drop)]
+pub struct Labels {
+    alloc: Global,
+    rank: u32,
+    ranks: u32,
+    round: u64,
+    /// the links from own vertices
+    links: Vec<Link>,
+    /// those along which a label is sent in this round
+    active: Vec<Link>,
+    /// the labels as the round began, by vertex
+    before: Vec<u32>,
+    /// the labels now
+    labels: Vec<u32>,
+}
+
+impl Model for Labels {
+    ghost use Rattle.components.specs.LabelRules.{LabelState, IsLabels};
+
+    ghost Value = { LabelState };
+
+    ghost use Rattle.components.specs.LabelsView.{label_state};
+
+    ghost view = { label_state };
+
+    ghost invariant = { λ s. IsLabels (label_state s) };
+}
+
+impl Labels {
+    /// A rank before its first round, from 0 to `ranks - 1`: each vertex is labelled by its own number, and all links are active.
+    ///
+    /// # Errors
+    /// `NoMemory` where there was none.
+    pub fn new(alloc: Global, m: &Matrix, ranks: u32, rank: u32) -> Result<Labels, NoMemory>
+        requires rank { rank < ranks }
+        requires few { ranks ≤ 64 }
+        requires square { m.now.cols ≡ m.now.rows }
+        ensures { IfOk result (λ s. s ≡ begins ranks m.now rank) }
+    {
+        let links = links_of(alloc, m.entries(), ranks, rank)?;
+        let active = links_of(alloc, m.entries(), ranks, rank)?;
+        let before = numbers(alloc, m.rows())?;
+        let labels = numbers(alloc, m.rows())?;
+        Ok(Labels {
+            alloc,
+            rank,
+            ranks,
+            round: 0,
+            links,
+            active,
+            before,
+            labels,
+        })
+    }
+
+    /// The labels by vertex; of own vertices they mean something.
+    pub fn labels(&self) -> &[u32]
+        ensures { result.now ≡ self.now.labels }
+    {
+        &self.labels
+    }
+}
+
+impl Program for Labels {
+    ghost use Rattle.components.specs.LabelRules.{label_rules};
+    ghost use Rattle.components.specs.LabelLaws.{label_laws};
+
+    ghost rules = { label_rules };
+
+    ghost laws = { label_laws };
+
+    fn rank(&self) -> u32 {
+        self.rank
+    }
+
+    fn ranks(&self) -> u32 {
+        self.ranks
+    }
+
+    fn round(&self) -> u64 {
+        self.round
+    }
+
+    fn count(&self) -> u64 {
+        self.active.len() as u64
+    }
+
+    fn emission(&self, i: u64) -> (u32, Item) {
+        let link = self.active[i as usize];
+        let item = Item {
+            a: link.to as u64,
+            b: self.before[link.from as usize] as u64,
+            c: 0,
+        };
+        (link.to % self.ranks, item)
+    }
+
+    fn fits(&self, from: u32, item: Item) -> bool {
+        let count = self.labels.len() as u64;
+        from < self.ranks
+            && item.a < count
+            && item.b < count
+            && item.a % self.ranks as u64 == self.rank as u64
+    }
+
+    fn absorb(&mut self, from: u32, item: Item) -> Result<(), NoMemory> {
+        let vertex = item.a as usize;
+        self.labels[vertex] = self.labels[vertex].min(item.b as u32);
+        Ok(())
+    }
+
+    fn vote(&self) -> u64 {
+        if self.labels.as_slice() == self.before.as_slice() {
+            0
+        } else {
+            1
+        }
+    }
+
+    fn goes_on(&self, votes: u64) -> bool {
+        votes != 0
+    }
+
+    fn end_round(&mut self, votes: u64) -> Result<bool, NoMemory> {
+        let active = fallen(self.alloc, &self.links, &self.before, &self.labels)?;
+        let before = Vec::from_slice(self.alloc, &self.labels)?;
+        self.active = active;
+        self.before = before;
+        self.round = self.round.saturating_add(1);
+        Ok(votes != 0)
+    }
+}
+
+/// The links from vertices whose labels fell.
+fn fallen(
+    alloc: Global,
+    links: &[Link],
+    before: &[u32],
+    labels: &[u32],
+) -> Result<Vec<Link>, NoMemory>
+    requires same { length before.now ≡ length labels.now }
+    requires linked { All (IsLink (length labels.now)) links.now }
+    ensures { IfOk result (λ v. v.items ≡ filter (fell before.now labels.now) links.now) }
+{
+    let mut active = Vec::new(alloc);
+    for link in links {
+        let vertex = link.from as usize;
+        if labels[vertex] != before[vertex] {
+            active.push(*link)?;
+        }
+    }
+    Ok(active)
+}

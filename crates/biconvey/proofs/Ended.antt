@@ -1,6 +1,6 @@
 -- The beginning of an exchange and its end.
-use Rattle.std.proofs.Common.{◌≡◌, ℕ, zero, suc, ◌+◌, ◌<◌, ◌≤◌, Bool, true, false, List, [], ◌∷◌, length, map, get_or, slice_get, Option, Some, None, refl, sym, ap, subst, ◌∙◌, arith}
-use Rattle.std.specs.List.{sum_by}
+use Rattle.std.proofs.Common.{◌≡◌, ℕ, zero, suc, ◌+◌, ◌<◌, ◌≤◌, ◌&&◌, Bool, true, false, List, [], ◌∷◌, length, map, get_or, slice_get, Option, Some, None, refl, sym, ap, subst, ◌∙◌, arith}
+use Rattle.std.specs.List.{sum_by, list_all}
 use Rattle.std.proofs.lemmas.Bool.{true≢false}
 use Rattle.std.proofs.lemmas.List.{length-map}
 use Rattle.std.proofs.lemmas.Option.{get_or_from_slice_get}
@@ -17,7 +17,8 @@ use Rattle.port_bank.specs.Port.{IsSlots}
 use Rattle.port_bank.specs.Round.{Round, IsRound, logs_of}
 use Rattle.port_bank.proofs.Closing.{none_sent, none_got, channel-empty}
 use Rattle.hop_core.specs.State.{State}
-use Rattle.convey.specs.Buffers.{in_of}
+use Rattle.hop_core.specs.declared.phase.Phase.TheVariants.{Working}
+use Rattle.convey.specs.Buffers.{in_of, is_complete}
 use Rattle.convey.specs.Law.{ClosesLaw}
 use Rattle.rank_group.specs.Told.{Made}
 use Rattle.round_program.specs.Talks.{Talk, TalkLaws}
@@ -160,6 +161,16 @@ module _ {S : Type 0} (T : Talk S) (cap : ℕ) (dims : List ℕ) (slots : ℕ) (
   steps_at steps steps' told =
       subst (λ ds. steps' ≤ steps + turns_of ds (sum_by (λ s. length (T.queries s)) askers)) (ap (λ (x : Bank). x.dims) eq)
       (subst (λ k. steps' ≤ steps + turns_of q.dims k) (same_count T dims steady askers ns fresh) (told steady begins world_first))
+
+  -- no rank is over as an exchange begins, so each is turned
+  none_over : list_all is_over ns ≡ false
+  none_over = by ns (λ n at. (fresh.each 0 n at).working) (let positive = ranks_some dims is.grid.positive in let e = ap length fresh.same in omega (arith, positive, all.size, e, length-map ns (λ (n : BiState S). n.asker))) where
+    by : (xs : List (BiState S)) → ((n : BiState S) → slice_get xs 0 ≡ Some n → n.queries.phase ≡ Working) → 0 < length xs → list_all is_over xs ≡ false
+    by [] working some = absurd (omega (arith, some))
+    by (x ∷ xs) working some = ap (λ p. (is_complete p && is_complete x.replies.phase) && list_all is_over xs) (working x refl)
+
+  pub fewest_at : (steps steps' : ℕ) → (list_all is_over ns ≡ false → steps + ranks q.dims ≤ steps') → steps + ranks dims ≤ steps'
+  fewest_at steps steps' told = subst (λ ds. steps + ranks ds ≤ steps') (ap (λ (x : Bank). x.dims) eq) (told none_over)
 
   pub world_last : (ns' : List (BiState S)) (q' r' : Bank) → ((steady : Bool) (starts : ℕ → S) → World T q.dims cap q.slots steady starts ns (sides_of q r) → World T q.dims cap q.slots steady starts ns' (sides_of q' r')) → World T dims cap slots steady begins ns' (sides_of q' r')
   world_last ns' q' r' told = subst (λ (x : Bank). World T x.dims cap x.slots steady begins ns' (sides_of q' r')) eq (told steady begins world_first)

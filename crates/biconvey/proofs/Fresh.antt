@@ -59,6 +59,7 @@ first_of dims rank n steady st st' is_dims is_rank is_steady outs ins done first
       same_dims = ap (λ (t : State). t.dims) new ∙ is_dims;
       same_rank = ap (λ (t : State). t.rank) new ∙ is_rank;
       same_steady = ap (λ (t : State). t.steady) new ∙ is_steady;
+      working = phase;
       not_done = ap (λ (t : State). t.done) new ∙ done;
       runs = record {
         first = ap (λ (t : State). t.epoch) new ∙ first;

@@ -3,6 +3,7 @@ use Rattle.std.proofs.Common.{◌≡◌, ℕ, ◌+◌, Bool, List, [], ◌∷◌
 use Rattle.std.proofs.lemmas.Bool.{cases_lt}
 use Rattle.std.proofs.lemmas.List.{map-append, length-map, append-nil}
 use Rattle.list_laws.proofs.Lists.{within, get_once, get_last, get_before}
+use Rattle.hop_core.specs.declared.phase.Phase.TheVariants.{Working}
 use Rattle.convey.specs.Buffers.{in_of}
 use Rattle.round_program.specs.Talks.{Talk}
 use Rattle.biconvey.specs.States.{BiState, IsBiNode}
@@ -37,13 +38,14 @@ module _ {S : Type 0} (T : Talk S) (dims : List ℕ) (steady : Bool) (starts res
       ∙ (ap (slice_get (askers_of ns ++ q ∷ drop 1 rest)) (sym (length-map ns (λ (n : BiState S). n.asker))) ∙ at_end (askers_of ns) (drop 1 rest) q)
 
   pub making_more : (p : ℕ) (rest' : List S) (ns' : List (BiState S)) (q : S) (n : BiState S) → AreAskers T p starts → slice_get rest 0 ≡ Some q → rest' ≡ drop 1 rest → ns' ≡ ns ++ n ∷ []
-      → IsBiNode T q n (λ l. []) (λ l. []) (λ l. []) (λ l. []) → n.asker ≡ q → n.queries.dims ≡ dims → n.queries.rank ≡ T.rank q → (n.queries.steady ≡ steady) × (n.replies.steady ≡ steady)
+      → IsBiNode T q n (λ l. []) (λ l. []) (λ l. []) (λ l. []) → n.asker ≡ q → n.queries.dims ≡ dims → n.queries.rank ≡ T.rank q → n.queries.phase ≡ Working → (n.queries.steady ≡ steady) × (n.replies.steady ≡ steady)
       → ((l : ℕ) → ((in_of n.queries l).parcel.untaken ≡ []) × ((in_of n.replies l).parcel.untaken ≡ [])) → Making T dims steady starts rest' ns'
-  making_more p rest' ns' q n all at gone more node np nd nr steadies unread =
+  making_more p rest' ns' q n all at gone more node np nd nr working steadies unread =
       let made : IsFresh T dims steady (length ns) n = record {
         same_dims = nd;
         same_rank = nr ∙ (all.each (length ns) q (next_asker q at)).0;
         same_steady = steadies;
+        working = working;
         node = subst (λ (s : S). IsBiNode T s n (λ l. []) (λ l. []) (λ l. []) (λ l. [])) (sym np) node;
         unread = unread;
       } in

@@ -1,5 +1,5 @@
 -- A rank at its two ports stays on its way by a turn.
-use Rattle.std.proofs.Common.{◌≡◌, ℕ, sym, ap, subst, ◌∙◌}
+use Rattle.std.proofs.Common.{◌≡◌, ℕ, ◌+◌, Bool, true, sym, ap, subst, ◌∙◌, arith}
 use Rattle.port_bank.specs.Shapes.{IsConveyorShape}
 use Rattle.link_slots.specs.Seen.{Bank, Manning, named, posted_on, collected_from}
 use Rattle.link_slots.proofs.Ported.{one_bank}
@@ -13,23 +13,25 @@ pub one_seat : (old new : Manning) → named new.id ≡ named old.id → new.sha
 one_seat old new e ed es er = let i = one_bank new.id old.id e in record { bank = λ k. record { id = i k; shape = record { dims = ed k; slots = es k } }; number = er }
 
 -- a rank that was turned is still on some way
-pub has_way : {S : Type 0} (T : Talk S) (cap : ℕ) (x y : SeatedState S) → HasWay T cap x → Ran T cap x y → HasWay T cap y
-has_way T cap x y w ran = record { steady = w.steady; start = w.start; way = ran.kept w.steady w.start w.way }
+pub has_way : {S : Type 0} (T : Talk S) (cap : ℕ) (told : ℕ → ℕ → Bool) (x y : SeatedState S) → HasWay T cap x → Ran T cap told x y → HasWay T cap y
+has_way T cap told x y w ran = record { steady = w.steady; start = w.start; way = ran.kept w.steady w.start w.way }
 
 -- by a port that noted no move since it began to watch, which it still knows
 pub none_moved : (before watched kept now : Manning) → HasSame kept now → posted_on kept ≡ posted_on watched → collected_from kept ≡ collected_from watched → watched ≡ before → HasSame before now
 none_moved before watched kept now same sent got is = record { sent = same.sent ∙ (sent ∙ ap posted_on is); got = same.got ∙ (got ∙ ap collected_from is) }
 
-pub turned : {S : Type 0} (T : Talk S) (cap : ℕ) (n n' : BiState S) (q q' p p' : Manning) → SameSeat q q' → SameSeat p p' → n'.queries.dims ≡ n.queries.dims → n'.queries.rank ≡ n.queries.rank
+pub turned : {S : Type 0} (T : Talk S) (cap : ℕ) (told : ℕ → ℕ → Bool) (n n' : BiState S) (q q' p p' : Manning) (turns : ℕ) → told q.rank turns ≡ true → SameSeat q q' → SameSeat p p' → n'.queries.dims ≡ n.queries.dims → n'.queries.rank ≡ n.queries.rank
     → n'.queries.steady ≡ n.queries.steady → n'.replies.steady ≡ n.replies.steady
     → ((start : S) → IsBiNode T start n (posted_on q) (collected_from q) (posted_on p) (collected_from p) → IsBiNode T start n' (posted_on q') (collected_from q') (posted_on p') (collected_from p'))
     → ((l : ℕ) → IsConveyorShape n.queries.steady cap (posted_on q l) → IsConveyorShape n.queries.steady cap (posted_on q' l))
     → ((l : ℕ) → IsConveyorShape n.replies.steady cap (posted_on p l) → IsConveyorShape n.replies.steady cap (posted_on p' l))
-    → Ran T cap (record { node = n; queries = q; replies = p }) (record { node = n'; queries = q'; replies = p' })
-turned {S} T cap n n' q q' p p' same_q same_p dims rank steady_q steady_p kept shape_q shape_p =
+    → Ran T cap told (record { node = n; queries = q; replies = p; turns = turns }) (record { node = n'; queries = q'; replies = p'; turns = turns + 1 })
+turned {S} T cap told n n' q q' p p' turns heard same_q same_p dims rank steady_q steady_p kept shape_q shape_p =
     record {
       queries = same_q;
       replies = same_p;
+      more = omega arith;
+      heard = λ k low high. let e : turns ≡ k = omega (arith, low, high) in subst (λ j. told q.rank j ≡ true) e heard;
       kept = λ steady start w.
           let node = kept start w.node in
           record {
@@ -42,5 +44,6 @@ turned {S} T cap n n' q q' p p' same_q same_p dims rank steady_q steady_p kept s
             node = node;
             queries_shape = λ l. subst (λ s. IsConveyorShape s cap (posted_on q' l)) w.same_steady.0 (shape_q l (subst (λ s. IsConveyorShape s cap (posted_on q l)) (sym w.same_steady.0) (w.queries_shape l)));
             replies_shape = λ l. subst (λ s. IsConveyorShape s cap (posted_on p' l)) w.same_steady.1 (shape_p l (subst (λ s. IsConveyorShape s cap (posted_on p l)) (sym w.same_steady.1) (w.replies_shape l)));
+            some = λ over. omega arith;
           };
     }

@@ -1,5 +1,5 @@
 -- The ranks of an exchange get their seats at two slot banks, and leave them.
-use Rattle.std.proofs.Common.{◌≡◌, ◌≢◌, ℕ, ◌+◌, ◌<◌, ◌≤◌, Bool, true, false, List, [], ◌∷◌, ◌++◌, length, length-append, map, get_or, slice_get, slice_set, Some, None, All, sym, ap, subst, ◌∙◌, arith, inl, inr}
+use Rattle.std.proofs.Common.{◌≡◌, ◌≢◌, ℕ, ◌+◌, ◌<◌, ◌≤◌, Bool, true, false, List, [], ◌∷◌, ◌++◌, length, length-append, map, get_or, slice_get, slice_set, Some, None, All, ◌&&◌, true≢false, refl, sym, ap, subst, ◌∙◌, arith, inl, inr}
 use Rattle.std.proofs.lemmas.Bool.{cases_lt}
 use Rattle.std.proofs.lemmas.List.{length-map, map-append, get_or-set_other}
 use Rattle.item_buffer.specs.Contents.{Contents}
@@ -16,6 +16,7 @@ use Rattle.link_slots.specs.View.{no_logs}
 use Rattle.link_slots.proofs.Opening.{no_sent, no_got}
 use Rattle.rank_group.proofs.Joining.{one_less, next_is}
 use Rattle.round_program.specs.Talks.{Talk}
+use Rattle.convey.specs.Buffers.{is_complete}
 use Rattle.biconvey.specs.States.{BiState, IsBiNode}
 use Rattle.biconvey.specs.Drives.{IsFresh, AreFresh}
 use Rattle.biconvey.specs.Seats.{SeatedState, bank_at, IsSeated, AreSeated}
@@ -72,7 +73,7 @@ module _ {S : Type 0} (T : Talk S) (cap : ℕ) (b p : Bank) (same : p.shape ≡ 
       (is_q : sq ≡ record { id = b.id; shape = b.shape; rank = number; lists = no_logs (links b.shape.dims); noted = noted_q; ended = ended_q })
       (is_p : sp ≡ record { id = p.id; shape = p.shape; rank = number; lists = no_logs (links p.shape.dims); noted = noted_p; ended = ended_p }) where
     abbrev x : SeatedState S
-    x = record { node = node; queries = sq; replies = sp }
+    x = record { node = node; queries = sq; replies = sp; turns = 0 }
 
     new_q : IsNewSeat b number sq
     new_q = new_seat b number sq noted_q ended_q is_q
@@ -94,6 +95,7 @@ module _ {S : Type 0} (T : Talk S) (cap : ℕ) (b p : Bank) (same : p.shape ≡ 
           queries_bank = new_q.bank;
           replies_bank = new_p.bank;
           numbers = (rank_q, rank_p);
+          none = refl;
           way = record {
             queries = record { same_dims = f.same_dims ∙ sym dims_q; same_rank = f.same_rank ∙ sym rank_q };
             replies = record { same_dims = f.node.same_dims ∙ (f.same_dims ∙ sym dims_p); same_rank = f.node.same_rank ∙ (f.same_rank ∙ sym rank_p) };
@@ -105,10 +107,11 @@ module _ {S : Type 0} (T : Talk S) (cap : ℕ) (b p : Bank) (same : p.shape ≡ 
                 (subst (λ (a : Logs). IsBiNode T node.asker node (λ l. []) (λ l. []) (λ l. []) a) (sym new_p.got) f.node)));
             queries_shape = no_parcels steady cap (posted_on sq) new_q.sent;
             replies_shape = no_parcels steady cap (posted_on sp) new_p.sent;
+            some = λ over. absurd (true≢false (sym over ∙ ap (λ k. is_complete k && is_complete node.replies.phase) f.working));
           };
         }
 
-    pub seating_more : (xs' : List (SeatedState S)) → xs' ≡ xs ++ record { node = node; queries = sq; replies = sp } ∷ [] → Seating T cap b p gq' gp' (number + 1) all (taken ++ node ∷ []) rest xs'
+    pub seating_more : (xs' : List (SeatedState S)) → xs' ≡ xs ++ record { node = node; queries = sq; replies = sp; turns = 0 } ∷ [] → Seating T cap b p gq' gp' (number + 1) all (taken ++ node ∷ []) rest xs'
     seating_more xs' more =
         let longer : length (taken ++ node ∷ []) ≡ length taken + 1 = length-append taken (node ∷ []) in
         record {

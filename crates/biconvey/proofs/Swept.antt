@@ -157,6 +157,7 @@ swept_more {S} T dims cap slots steady starts order i r ns0 ns ns' s0 s s' here 
 pub record Sweeping {S : Type 0} (T : Talk S) (cap : ℕ) (dims : List ℕ) (slots : ℕ) (order : List ℕ) (ns0 : List (BiState S)) (s0 : Sides) (steps0 i : ℕ) (ns : List (BiState S)) (q r : Bank) (steps : ℕ) : Type 0 where
   pub banks : AreBanks cap dims slots q r
   pub most_steps : steps ≤ steps0 + i
+  pub fewest_steps : steps0 + i ≤ steps
   pub swept : (steady : Bool) (starts : ℕ → S) → World T dims cap slots steady starts ns0 s0 → SweptTo T dims cap slots steady starts order i ns0 s0 ns (sides_of q r)
 
 pub sweeping_more : {S : Type 0} (T : Talk S) (cap : ℕ) (dims : List ℕ) (slots : ℕ) (order : List ℕ) (ns0 : List (BiState S)) (s0 : Sides) (steps0 i k : ℕ) (ns ns' : List (BiState S)) (q r q' r' : Bank) (steps steps' : ℕ)
@@ -167,6 +168,7 @@ sweeping_more T cap dims slots order ns0 s0 steps0 i k ns ns' q r q' r' steps st
     record {
       banks = banks;
       most_steps = omega (arith, count, v.most_steps);
+      fewest_steps = omega (arith, count, v.fewest_steps);
       swept = λ steady starts w.
           swept_more T dims cap slots steady starts order i k ns0 ns ns' s0 (sides_of q r) (sides_of q' r') here low long others
           (queries_lawful cap dims slots q' r' banks) (replies_lawful cap dims slots q' r' banks) turned (v.swept steady starts w);

@@ -40,7 +40,7 @@ pub record IsLeft (cap : ℕ) (shape : Shape) (lists : _) (c : Round) : Type 0 w
   pub got : (s : Manning) → get_or lists s.rank None ≡ Some s.lists → ending_at shape.dims s.rank (logs_of c.got) ≡ collected_from s
 
 module _ {S : Type 0} (T : Talk S) (cap : ℕ) (b p : Bank) (same : p.shape ≡ b.shape) (steady : Bool) (askers : List S) (all : AreAskers T (ranks b.shape.dims) askers)
-    (ns : List (BiState S)) (fresh : AreFresh T b.shape.dims steady askers ns) (xs ys : List (SeatedState S)) (firsts : map (λ x. x.node) xs ≡ ns) (seated : AreSeated T cap steady b p xs) (ran : AllRan (λ x y. Ran T cap x y) xs ys) where
+    (ns : List (BiState S)) (fresh : AreFresh T b.shape.dims steady askers ns) (xs ys : List (SeatedState S)) (firsts : map (λ x. x.node) xs ≡ ns) (seated : AreSeated T cap steady b p xs) (heard : ℕ → ℕ → Bool) (ran : AllRan (λ x y. Ran T cap heard x y) xs ys) where
   abbrev dims : List ℕ
   dims = b.shape.dims
 
@@ -55,12 +55,13 @@ module _ {S : Type 0} (T : Talk S) (cap : ℕ) (b p : Bank) (same : p.shape ≡ 
     queries_bank : bank_at y.queries ≡ b
     replies_bank : bank_at y.replies ≡ p
     numbers : (y.queries.rank ≡ r) × (y.replies.rank ≡ r)
+    turns : (m : ℕ) → m < y.turns → heard r m ≡ true
 
   came : (r : ℕ) (y : SeatedState S) → slice_get ys r ≡ Some y → Came r y
   came r y at =
       let x : (x : SeatedState S) × (slice_get xs r ≡ Some x) = find xs r (let a = ran.all in omega (arith, within ys r y at, a)) in
       let s : IsSeated T cap steady b p r x.0 = seated r x.0 x.1 in
-      let t : Ran T cap x.0 y = ran.each r x.0 y x.1 at in
+      let t : Ran T cap heard x.0 y = ran.each r x.0 y x.1 at in
       record {
         start = x.0.node.asker;
         began = ap (λ ss. slice_get ss r) (sym fresh.same) ∙ (ap (λ ms. slice_get (askers_of ms) r) (sym firsts) ∙ get_map (λ (n : BiState S). n.asker) (map (λ x. x.node) xs) r x.0.node (get_map (λ (x : SeatedState S). x.node) xs r x.0 x.1));
@@ -68,7 +69,15 @@ module _ {S : Type 0} (T : Talk S) (cap : ℕ) (b p : Bank) (same : p.shape ≡ 
         queries_bank = t.queries.bank ∙ s.queries_bank;
         replies_bank = t.replies.bank ∙ s.replies_bank;
         numbers = (t.queries.number ∙ s.numbers.0, t.replies.number ∙ s.numbers.1);
+        turns = λ m low. subst (λ k. heard k m ≡ true) s.numbers.0 (t.heard m (let z = s.none in omega (arith, z)) low);
       }
+
+  -- the gate was told of the first turn of each
+  pub all_told : All (λ y. is_over y.node ≡ true) ys → (r : ℕ) → r < ranks dims → heard r 0 ≡ true
+  all_told over r low =
+      let y : (y : SeatedState S) × (slice_get ys r ≡ Some y) = find ys r (omega (arith, low, as_many)) in
+      let c : Came r y.0 = came r y.0 y.1 in
+      c.turns 0 (c.way.some (all_get (λ (z : SeatedState S). is_over z.node ≡ true) ys r y.0 over y.1))
 
   -- where each sat
   pub sat_at : All (λ y. (bank_at y.queries ≡ b) × (bank_at y.replies ≡ p)) ys

@@ -7,6 +7,7 @@ use Rattle.port_bank.specs.Logs.{lasts}
 use Rattle.port_bank.specs.Round.{Round, IsRound, logs_of, pushed, pulled}
 use Rattle.port_bank.specs.Shapes.{IsConveyorShape}
 use Rattle.convey.specs.Agreement.{EndsLast}
+use Rattle.hop_core.specs.declared.phase.Phase.TheVariants.{Working}
 use Rattle.convey.specs.Buffers.{in_of}
 use Rattle.rank_group.specs.Told.{Made}
 use Rattle.round_program.specs.Talks.{Talk}
@@ -53,11 +54,12 @@ pub record TellsExchange {S : Type 0} (T : Talk S) (askers : List S) (made : Mad
   pub asking : TellsWay made steady (queries_by T askers) queries
   pub replying : TellsWay made steady (replies_by T askers) replies
 
--- A rank that hasn't turned: on its ports nothing was sent or got, and nothing is unread.
+-- A rank that hasn't turned, and may push: on its ports nothing was sent or got, and nothing is unread.
 pub record IsFresh {S : Type 0} (T : Talk S) (dims : List ℕ) (steady : Bool) (r : ℕ) (n : BiState S) : Type 0 where
   pub same_dims : n.queries.dims ≡ dims
   pub same_rank : n.queries.rank ≡ r
   pub same_steady : (n.queries.steady ≡ steady) × (n.replies.steady ≡ steady)
+  pub working : n.queries.phase ≡ Working
   pub node : IsBiNode T n.asker n (λ l. []) (λ l. []) (λ l. []) (λ l. [])
   pub unread : (l : ℕ) → ((in_of n.queries l).parcel.untaken ≡ []) × ((in_of n.replies l).parcel.untaken ≡ [])
 

@@ -1,21 +1,29 @@
 -- The laws of what turns leave of a rank at two slot banks.
-use Rattle.std.proofs.Common.{refl, ◌∙◌}
+use Rattle.std.proofs.Common.{◌≡◌, ℕ, Bool, true, refl, subst, ◌∙◌, arith, inl, inr}
+use Rattle.std.proofs.lemmas.Bool.{cases_lt}
 use Rattle.rank_group.specs.Runs.{RanLaws}
 use Rattle.round_program.specs.Talks.{Talk}
 use Rattle.rank_group.specs.NotedLaws.{same_laws as one_same_laws}
 use Rattle.biconvey.specs.Seats.{SeatedState, Ran, HaveSame}
 
-pub ran_laws : {S : Type 0} (T : Talk S) (cap : _) → RanLaws (λ x y. Ran T cap x y)
-ran_laws T cap =
+pub ran_laws : {S : Type 0} (T : Talk S) (cap : ℕ) (told : ℕ → ℕ → Bool) → RanLaws (λ x y. Ran T cap told x y)
+ran_laws T cap told =
     record {
       none = λ x. record {
         queries = record { bank = refl; number = refl };
         replies = record { bank = refl; number = refl };
+        more = omega arith;
+        heard = λ n low high. absurd (omega (arith, low, high));
         kept = λ steady start way. way;
       };
       on = λ x y z a b. record {
         queries = record { bank = b.queries.bank ∙ a.queries.bank; number = b.queries.number ∙ a.queries.number };
         replies = record { bank = b.replies.bank ∙ a.replies.bank; number = b.replies.number ∙ a.replies.number };
+        more = (let p = a.more in let q = b.more in omega (arith, p, q));
+        heard = λ n low high. elim (cases_lt n y.turns) [
+          | inl before ↦ a.heard n low before
+          | inr after ↦ subst (λ r. told r n ≡ true) a.queries.number (b.heard n after high)
+        ];
         kept = λ steady start way. b.kept steady start (a.kept steady start way);
       };
     }

@@ -1,16 +1,18 @@
 -- Ranks that sit at two slot banks, one of queries and one of replies.
-use Rattle.std.specs.Prelude.{◌≡◌, ℕ, Bool, List, slice_get, Some}
+use Rattle.std.specs.Prelude.{◌≡◌, ℕ, ◌<◌, ◌≤◌, Bool, true, List, slice_get, Some}
 use Rattle.port_bank.specs.Shapes.{IsConveyorShape}
 use Rattle.link_slots.specs.Seen.{Bank, Manning, posted_on, collected_from}
 use Rattle.round_program.specs.Talks.{Talk}
 use Rattle.rank_group.specs.Noted.{HasSame}
 use Rattle.biconvey.specs.States.{BiState, IsBiNode}
+use Rattle.biconvey.specs.Worlds.{is_over}
 
--- A rank, its seat at the bank of queries and its seat at that of replies.
+-- A rank, its seat at the bank of queries and its seat at that of replies, and how many turns it made.
 pub record SeatedState (S : Type 0) : Type 0 where
   pub node : BiState S
   pub queries : Manning
   pub replies : Manning
+  pub turns : ℕ
 
 -- the bank of a seat
 abbrev pub bank_at : Manning → Bank
@@ -22,6 +24,7 @@ pub record IsSeatOf (rank : ℕ) (dims : List ℕ) (seat : Manning) : Type 0 whe
   pub same_rank : rank ≡ seat.rank
 
 -- By its seats' lists it is a rank of an exchange, which began in the state `start`; its parcels are filled as conveyors fill them.
+-- some: where both its ways are complete it was turned.
 pub record IsOnWay {S : Type 0} (T : Talk S) (cap : ℕ) (steady : Bool) (start : S) (x : SeatedState S) : Type 0 where
   pub queries : IsSeatOf x.node.queries.rank x.node.queries.dims x.queries
   pub replies : IsSeatOf x.node.replies.rank x.node.replies.dims x.replies
@@ -29,6 +32,7 @@ pub record IsOnWay {S : Type 0} (T : Talk S) (cap : ℕ) (steady : Bool) (start 
   pub node : IsBiNode T start x.node (posted_on x.queries) (collected_from x.queries) (posted_on x.replies) (collected_from x.replies)
   pub queries_shape : (l : ℕ) → IsConveyorShape steady cap (posted_on x.queries l)
   pub replies_shape : (l : ℕ) → IsConveyorShape steady cap (posted_on x.replies l)
+  pub some : is_over x.node ≡ true → 0 < x.turns
 
 -- The same, of some exchange.
 pub record HasWay {S : Type 0} (T : Talk S) (cap : ℕ) (x : SeatedState S) : Type 0 where
@@ -42,9 +46,12 @@ pub record SameSeat (old new : Manning) : Type 0 where
   pub number : new.rank ≡ old.rank
 
 -- Turns took a rank from x to y: it sits where it sat, and is still on the way of its exchange.
-pub record Ran {S : Type 0} (T : Talk S) (cap : ℕ) (x y : SeatedState S) : Type 0 where
+-- heard: `told` holds of each of them, by the rank's number and its own, counted from 0 over the whole exchange.
+pub record Ran {S : Type 0} (T : Talk S) (cap : ℕ) (told : ℕ → ℕ → Bool) (x y : SeatedState S) : Type 0 where
   pub queries : SameSeat x.queries y.queries
   pub replies : SameSeat x.replies y.replies
+  pub more : x.turns ≤ y.turns
+  pub heard : (n : ℕ) → x.turns ≤ n → n < y.turns → told x.queries.rank n ≡ true
   pub kept : (steady : Bool) (start : S) → IsOnWay T cap steady start x → IsOnWay T cap steady start y
 
 -- A rank that hasn't turned sits at the banks q and p with the number r.
@@ -52,6 +59,7 @@ pub record IsSeated {S : Type 0} (T : Talk S) (cap : ℕ) (steady : Bool) (q p :
   pub queries_bank : bank_at x.queries ≡ q
   pub replies_bank : bank_at x.replies ≡ p
   pub numbers : (x.queries.rank ≡ r) × (x.replies.rank ≡ r)
+  pub none : x.turns ≡ 0
   pub way : IsOnWay T cap steady x.node.asker x
 
 -- Ranks that haven't turned sit at these banks in order.

@@ -43,6 +43,7 @@ pub record IsFirst (dims : List ℕ) (rank : ℕ) (steady : Bool) (c : State) : 
   pub same_dims : c.dims ≡ dims
   pub same_rank : c.rank ≡ rank
   pub same_steady : c.steady ≡ steady
+  pub working : c.phase ≡ Working
   pub not_done : c.done ≡ false
   pub runs : IsRunning c (λ l. []) (λ l. [])
   pub unread : (l : ℕ) → (in_of c l).parcel.untaken ≡ []

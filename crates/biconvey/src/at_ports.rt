@@ -24,10 +24,15 @@ impl<'a, A: Asker, const CAP: usize, const HOPS: usize> Model for AtPorts<'a, A,
 
     ghost Value = { SeatedState A };
 
-    ghost view = { λ s. record { node = s.node; queries = s.queries.port.seat; replies = s.replies.port.seat } };
+    ghost view = { λ s. record {
+      node = s.node;
+      queries = s.queries.port.seat;
+      replies = s.replies.port.seat;
+      turns = s.turns;
+    } };
 
     ghost invariant = { λ s. HasWay A.talk CAP
-        (record { node = s.node; queries = s.queries.port.seat; replies = s.replies.port.seat }) };
+        (record { node = s.node; queries = s.queries.port.seat; replies = s.replies.port.seat; turns = s.turns }) };
 }
 
 impl<'a, A: Asker, const CAP: usize, const HOPS: usize> Seated for AtPorts<'a, A, CAP, HOPS> {
@@ -35,13 +40,15 @@ impl<'a, A: Asker, const CAP: usize, const HOPS: usize> Seated for AtPorts<'a, A
     ghost use Rattle.biconvey.specs.SeatLaws.{ran_laws, same_laws};
     ghost use Rattle.biconvey.specs.Worlds.{is_over};
 
-    ghost ran = { λ x y. Ran A.talk CAP x y };
+    ghost ran = { λ told x y. Ran A.talk CAP told x y };
+
+    ghost turns = { λ x. x.turns };
 
     ghost over = { λ x. is_over x.node };
 
     ghost still = { λ x y. HaveSame x y };
 
-    ghost laws = { ran_laws A.talk CAP };
+    ghost laws = { λ told. ran_laws A.talk CAP told };
 
     ghost still_laws = { same_laws };
 

@@ -68,6 +68,7 @@ impl<A: Asker, const CAP: usize, const HOPS: usize> BiNode<A, CAP, HOPS> {
         ensures rank { IfOk result (λ n. n.queries.rank ≡ A.talk.rank asker) }
         ensures unread { IfOk result (λ n. (l : ℕ) → ((in_of n.queries l).parcel.untaken ≡ [])
             × ((in_of n.replies l).parcel.untaken ≡ [])) }
+        ensures working { IfOk result (λ n. n.queries.phase ≡ Phase.Working) }
         ensures steady { IfOk result (λ n. (n.queries.steady ≡ steady) × (n.replies.steady ≡ steady)) }
     {
         let rank = asker.rank();

@@ -1,6 +1,6 @@
 //! One call that drives an exchange of queries and replies on one thread.
 
-ghost use Rattle.std.specs.Prelude.{◌≡◌, ℕ, ◌+◌, ◌<◌, ◌≤◌, false, [], ◌∷◌, length, IfOk};
+ghost use Rattle.std.specs.Prelude.{◌≡◌, ℕ, ◌+◌, ◌<◌, ◌≤◌, false, [], ◌∷◌, length, IfOk, OnOk};
 ghost use Rattle.std.specs.List.{sum_by};
 ghost use Rattle.route_tensor.specs.Grid.{ranks};
 ghost use Rattle.port_bank.specs.Port.{IsSlots};
@@ -56,6 +56,9 @@ pub fn drive_both<const CAP: usize, const HOPS: usize, A: Asker, L: Ledger>(
     ensures rounds { IfOk result (λ f. (q : ClosedRound) × (r : ClosedRound) × (f.rounds ≡ q ∷ r ∷ [])
         × TellsExchange A.talk askers (record { dims = grid.now; cap = CAP; slots = slots; by_slots = false }) steady
         (round_of q) (round_of r)) }
+
+    // Each rank made a turn at least.
+    ensures fewest { OnOk result (steps.old + ranks grid.now ≤ steps.new) }
 
     // The turns are bounded before the exchange, also where it ends in `NoMemory`.
     ensures steps { steps.new ≤ steps.old + turns_of grid.now (sum_by (λ s. length (A.talk.queries s)) askers) }

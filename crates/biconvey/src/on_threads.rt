@@ -1,6 +1,6 @@
 //! One call that drives an exchange of queries and replies on threads.
 
-ghost use Rattle.std.specs.Prelude.{◌≡◌, ◌<◌, ◌≤◌, true, [], ◌∷◌, length, IfOk};
+ghost use Rattle.std.specs.Prelude.{◌≡◌, ℕ, ◌<◌, ◌≤◌, true, [], ◌∷◌, length, IfOk, OnOk};
 ghost use Rattle.route_tensor.specs.Grid.{ranks};
 ghost use Rattle.port_bank.specs.Port.{IsSlots};
 ghost use Rattle.rank_group.specs.declared.closed_round.ClosedRound.{ClosedRound};
@@ -19,6 +19,7 @@ use route_tensor::Grid;
 use std::alloc::Global;
 use std::sync::Wait;
 use std::thread::Threads;
+use std::time::Clock;
 
 /// Drives the askers of all ranks on threads, as many as `drive_threads` takes and in crews as there, over two slot banks, of
 /// queries and of replies, with parcels of `CAP` entries and `slots` (1, 2, 4 or 8) parcels on a link at a time. Before each turn
@@ -31,7 +32,7 @@ use std::thread::Threads;
 pub fn thread_both<
     const CAP: usize,
     const HOPS: usize,
-    R: Threads + Wait + Sync,
+    R: Threads + Wait + Clock + Sync,
     A: Asker + Send,
     G: Gate + Sync,
 >(
@@ -56,6 +57,9 @@ pub fn thread_both<
     ensures rounds { IfOk result (λ f. (q : ClosedRound) × (r : ClosedRound) × (f.rounds ≡ q ∷ r ∷ [])
         × TellsExchange A.talk askers (record { dims = grid.now; cap = CAP; slots = slots; by_slots = true }) steady
         (round_of q) (round_of r)) }
+
+    // This gate was told of the turns of each rank, which made one at least.
+    ensures told { (r : ℕ) → r < ranks grid.now → OnOk result (G.told gate.now r 0 ≡ true) }
 {
     let threads = threads_for(rt, grid.ranks());
     thread_with::<CAP, HOPS, R, A, G>(
@@ -70,7 +74,7 @@ pub fn thread_both<
 pub fn thread_with<
     const CAP: usize,
     const HOPS: usize,
-    R: Threads + Wait + Sync,
+    R: Threads + Wait + Clock + Sync,
     A: Asker + Send,
     G: Gate + Sync,
 >(
@@ -93,6 +97,7 @@ pub fn thread_with<
     ensures rounds { IfOk result (λ f. (q : ClosedRound) × (r : ClosedRound) × (f.rounds ≡ q ∷ r ∷ [])
         × TellsExchange A.talk askers (record { dims = grid.now; cap = CAP; slots = slots; by_slots = true }) steady
         (round_of q) (round_of r)) }
+    ensures told { (r : ℕ) → r < ranks grid.now → OnOk result (G.told gate.now r 0 ≡ true) }
 {
     closes_law();
     grid.known();

@@ -1,6 +1,6 @@
 //! Sweeps over all ranks, until both ways of each are complete.
 
-ghost use Rattle.std.specs.Prelude.{◌≡◌, ℕ, ◌+◌, ◌≤◌, Bool, true, slice_get, Some, IfOk, OnOk};
+ghost use Rattle.std.specs.Prelude.{◌≡◌, ℕ, ◌+◌, ◌≤◌, Bool, true, false, slice_get, Some, IfOk, OnOk};
 ghost use Rattle.std.specs.List.{list_all};
 ghost use Rattle.route_tensor.specs.Grid.{ranks};
 ghost use Rattle.rank_group.specs.Ranks.{IsOrder};
@@ -35,6 +35,9 @@ pub(crate) fn run_all<const CAP: usize, const HOPS: usize, A: Asker, L: Ledger>(
         (sides_of banks.entry.queries banks.entry.replies)
         → IfOk result (λ b. World A.talk banks.entry.queries.dims CAP banks.entry.queries.slots steady starts
         all.new.items (sides_of b.queries b.replies)) }
+    // Each rank made a turn at least.
+    ensures fewest { list_all is_over all.old.items ≡ false
+        → OnOk result (steps.old + ranks banks.entry.queries.dims ≤ steps.new) }
     ensures steps { (steady : Bool) (starts : ℕ → A)
         → World A.talk banks.entry.queries.dims CAP banks.entry.queries.slots steady starts all.old.items
         (sides_of banks.entry.queries banks.entry.replies)

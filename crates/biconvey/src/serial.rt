@@ -1,6 +1,6 @@
 //! The drive on one thread, by capacity and hops.
 
-ghost use Rattle.std.specs.Prelude.{◌≡◌, ℕ, ◌+◌, ◌≤◌, false, [], ◌∷◌, length, IfOk};
+ghost use Rattle.std.specs.Prelude.{◌≡◌, ℕ, ◌+◌, ◌≤◌, false, [], ◌∷◌, length, IfOk, OnOk};
 ghost use Rattle.std.specs.List.{sum_by};
 ghost use Rattle.route_tensor.specs.Grid.{ranks};
 ghost use Rattle.port_bank.specs.Port.{IsSlots};
@@ -50,6 +50,9 @@ pub fn bi_serial<A: Asker, L: Ledger>(
         × TellsExchange A.talk askers (record { dims = grid.now; cap = cap; slots = slots; by_slots = false }) steady
         (round_of q) (round_of r)) }
 
+    // Each rank made a turn at least.
+    ensures fewest { OnOk result (steps.old + ranks grid.now ≤ steps.new) }
+
     // The turns are bounded before the exchange, also where it ends in `NoMemory`.
     ensures steps { steps.new ≤ steps.old + turns_of grid.now (sum_by (λ s. length (A.talk.queries s)) askers) }
 {
@@ -80,6 +83,7 @@ fn on_one_hop<A: Asker, L: Ledger>(
     ensures rounds { IfOk result (λ f. (q : ClosedRound) × (r : ClosedRound) × (f.rounds ≡ q ∷ r ∷ [])
         × TellsExchange A.talk askers (record { dims = grid.now; cap = cap; slots = slots; by_slots = false }) steady
         (round_of q) (round_of r)) }
+    ensures fewest { OnOk result (steps.old + ranks grid.now ≤ steps.new) }
     ensures steps { steps.new ≤ steps.old + turns_of grid.now (sum_by (λ s. length (A.talk.queries s)) askers) }
 {
     by_capacity!(
@@ -109,6 +113,7 @@ fn on_two_hops<A: Asker, L: Ledger>(
     ensures rounds { IfOk result (λ f. (q : ClosedRound) × (r : ClosedRound) × (f.rounds ≡ q ∷ r ∷ [])
         × TellsExchange A.talk askers (record { dims = grid.now; cap = cap; slots = slots; by_slots = false }) steady
         (round_of q) (round_of r)) }
+    ensures fewest { OnOk result (steps.old + ranks grid.now ≤ steps.new) }
     ensures steps { steps.new ≤ steps.old + turns_of grid.now (sum_by (λ s. length (A.talk.queries s)) askers) }
 {
     by_capacity!(
@@ -138,6 +143,7 @@ fn on_three_hops<A: Asker, L: Ledger>(
     ensures rounds { IfOk result (λ f. (q : ClosedRound) × (r : ClosedRound) × (f.rounds ≡ q ∷ r ∷ [])
         × TellsExchange A.talk askers (record { dims = grid.now; cap = cap; slots = slots; by_slots = false }) steady
         (round_of q) (round_of r)) }
+    ensures fewest { OnOk result (steps.old + ranks grid.now ≤ steps.new) }
     ensures steps { steps.new ≤ steps.old + turns_of grid.now (sum_by (λ s. length (A.talk.queries s)) askers) }
 {
     by_capacity!(

@@ -3,7 +3,7 @@
 //! In a sweep some parcel is posted or collected on one of the ways, or some entry is taken from an inbox; or else both ways are
 //! complete for every rank. Each of these happens only so often, which bounds the number of sweeps.
 
-ghost use Rattle.std.specs.Prelude.{◌≡◌, ◌≢◌, ℕ, ◌+◌, ◌<◌, ◌≤◌, Bool, List, length, slice_get, Some, IfOk};
+ghost use Rattle.std.specs.Prelude.{◌≡◌, ◌≢◌, ℕ, ◌+◌, ◌<◌, ◌≤◌, Bool, List, length, slice_get, Some, IfOk, OnOk};
 ghost use Rattle.route_tensor.specs.Grid.{ranks};
 ghost use Rattle.rank_group.specs.Ranks.{IsOrder};
 ghost use Rattle.biconvey.specs.States.{BiState};
@@ -91,6 +91,7 @@ pub(crate) fn sweep<const CAP: usize, const HOPS: usize, A: Asker, L: Ledger>(
     ensures banks { IfOk result (λ b. AreBanks CAP banks.entry.queries.dims banks.entry.queries.slots b.queries
         b.replies) }
     ensures most_steps { steps.new ≤ steps.old + length order.now }
+    ensures fewest_steps { OnOk result (steps.old + length order.now ≤ steps.new) }
     ensures swept { (steady : Bool) (starts : ℕ → A)
         → World A.talk banks.entry.queries.dims CAP banks.entry.queries.slots steady starts all.old.items
         (sides_of banks.entry.queries banks.entry.replies)

@@ -1,6 +1,6 @@
 //! The drive on threads, by capacity and hops.
 
-ghost use Rattle.std.specs.Prelude.{◌≡◌, true, [], ◌∷◌, length, IfOk};
+ghost use Rattle.std.specs.Prelude.{◌≡◌, ℕ, ◌<◌, true, [], ◌∷◌, length, IfOk, OnOk};
 ghost use Rattle.route_tensor.specs.Grid.{ranks};
 ghost use Rattle.port_bank.specs.Port.{IsSlots};
 ghost use Rattle.rank_group.specs.declared.closed_round.ClosedRound.{ClosedRound};
@@ -18,13 +18,14 @@ use route_tensor::Grid;
 use std::alloc::Global;
 use std::sync::Wait;
 use std::thread::Threads;
+use std::time::Clock;
 
 /// Drives the askers of all ranks, on threads, as `thread_both` does, over parcels of `cap` entries (a power of
 /// two from 1 to 1,024) and routes of as many hops as the grid has numbers. It waits for its threads, and returns where they do.
 ///
 /// # Errors
 /// `NoMemory` where a rank, a bank or the result found none. The askers are dropped.
-pub fn bi_threads<R: Threads + Wait + Sync, A: Asker + Send, G: Gate + Sync>(
+pub fn bi_threads<R: Threads + Wait + Clock + Sync, A: Asker + Send, G: Gate + Sync>(
     rt: &R,
     alloc: Global,
     grid: &Grid,
@@ -45,6 +46,9 @@ pub fn bi_threads<R: Threads + Wait + Sync, A: Asker + Send, G: Gate + Sync>(
     ensures rounds { IfOk result (λ f. (q : ClosedRound) × (r : ClosedRound) × (f.rounds ≡ q ∷ r ∷ [])
         × TellsExchange A.talk askers (record { dims = grid.now; cap = cap; slots = slots; by_slots = true }) steady
         (round_of q) (round_of r)) }
+
+    // This gate was told of the turns of each rank, which made one at least.
+    ensures told { (r : ℕ) → r < ranks grid.now → OnOk result (G.told gate.now r 0 ≡ true) }
 {
     match grid.hops() {
         1 => on_one_hop(rt, alloc, grid, cap, slots, steady, askers, gate),
@@ -54,7 +58,7 @@ pub fn bi_threads<R: Threads + Wait + Sync, A: Asker + Send, G: Gate + Sync>(
 }
 
 /// The cases of one hop.
-fn on_one_hop<R: Threads + Wait + Sync, A: Asker + Send, G: Gate + Sync>(
+fn on_one_hop<R: Threads + Wait + Clock + Sync, A: Asker + Send, G: Gate + Sync>(
     rt: &R,
     alloc: Global,
     grid: &Grid,
@@ -72,6 +76,7 @@ fn on_one_hop<R: Threads + Wait + Sync, A: Asker + Send, G: Gate + Sync>(
     ensures rounds { IfOk result (λ f. (q : ClosedRound) × (r : ClosedRound) × (f.rounds ≡ q ∷ r ∷ [])
         × TellsExchange A.talk askers (record { dims = grid.now; cap = cap; slots = slots; by_slots = true }) steady
         (round_of q) (round_of r)) }
+    ensures told { (r : ℕ) → r < ranks grid.now → OnOk result (G.told gate.now r 0 ≡ true) }
 {
     by_capacity!(
         cap,
@@ -81,7 +86,7 @@ fn on_one_hop<R: Threads + Wait + Sync, A: Asker + Send, G: Gate + Sync>(
 }
 
 /// The cases of two hops.
-fn on_two_hops<R: Threads + Wait + Sync, A: Asker + Send, G: Gate + Sync>(
+fn on_two_hops<R: Threads + Wait + Clock + Sync, A: Asker + Send, G: Gate + Sync>(
     rt: &R,
     alloc: Global,
     grid: &Grid,
@@ -99,6 +104,7 @@ fn on_two_hops<R: Threads + Wait + Sync, A: Asker + Send, G: Gate + Sync>(
     ensures rounds { IfOk result (λ f. (q : ClosedRound) × (r : ClosedRound) × (f.rounds ≡ q ∷ r ∷ [])
         × TellsExchange A.talk askers (record { dims = grid.now; cap = cap; slots = slots; by_slots = true }) steady
         (round_of q) (round_of r)) }
+    ensures told { (r : ℕ) → r < ranks grid.now → OnOk result (G.told gate.now r 0 ≡ true) }
 {
     by_capacity!(
         cap,
@@ -108,7 +114,7 @@ fn on_two_hops<R: Threads + Wait + Sync, A: Asker + Send, G: Gate + Sync>(
 }
 
 /// The cases of three hops.
-fn on_three_hops<R: Threads + Wait + Sync, A: Asker + Send, G: Gate + Sync>(
+fn on_three_hops<R: Threads + Wait + Clock + Sync, A: Asker + Send, G: Gate + Sync>(
     rt: &R,
     alloc: Global,
     grid: &Grid,
@@ -126,6 +132,7 @@ fn on_three_hops<R: Threads + Wait + Sync, A: Asker + Send, G: Gate + Sync>(
     ensures rounds { IfOk result (λ f. (q : ClosedRound) × (r : ClosedRound) × (f.rounds ≡ q ∷ r ∷ [])
         × TellsExchange A.talk askers (record { dims = grid.now; cap = cap; slots = slots; by_slots = true }) steady
         (round_of q) (round_of r)) }
+    ensures told { (r : ℕ) → r < ranks grid.now → OnOk result (G.told gate.now r 0 ≡ true) }
 {
     by_capacity!(
         cap,

@@ -7,6 +7,7 @@ use Rattle.rank_group.specs.declared.drive.Finished.{Finished}
 use Rattle.rank_group.specs.Rounds.{round_of}
 use Rattle.rank_node.specs.Movers.{Manner}
 use Rattle.rank_group.specs.Told.{TellsRun}
+use Rattle.rank_group.specs.Turns.{SweptBy}
 use Rattle.round_program.specs.Rules.{Rules}
 use Rattle.round_program.specs.Canonical.{HasRounds}
 use Rattle.case_table.specs.Capacities.{IsCapacity}
@@ -21,3 +22,7 @@ pub told_at : {S : Type 0} (R : Rules S) (starts : List S) (dims : List ℕ) (sl
     → IfOk result (λ f. (x : ClosedRound) × (f.rounds ≡ x ∷ []) × ((n : ℕ) → HasRounds R starts n → TellsRun R starts n (record { dims = dims; cap = cap; slots = slots; by_slots = by_slots }) manner (round_of x)))
 told_at R starts dims slots by_slots manner result k cap e t =
     subst (λ z. IfOk result (λ f. (x : ClosedRound) × (f.rounds ≡ x ∷ []) × ((n : ℕ) → HasRounds R starts n → TellsRun R starts n (record { dims = dims; cap = z; slots = slots; by_slots = by_slots }) manner (round_of x)))) e t
+
+pub swept_at : {S : Type 0} (R : Rules S) (starts : List S) (dims : List ℕ) (slots : ℕ) (manner : Manner) (order : List ℕ) (result : Result (Finished S) NoMemory) (k cap : ℕ) → k ≡ cap
+    → IfOk result (λ f. SweptBy R dims k slots manner starts order f.progs) → IfOk result (λ f. SweptBy R dims cap slots manner starts order f.progs)
+swept_at R starts dims slots manner order result k cap e t = subst (λ z. IfOk result (λ f. SweptBy R dims z slots manner starts order f.progs)) e t

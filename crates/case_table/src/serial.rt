@@ -1,12 +1,15 @@
 //! The drives on one thread, by capacity and hops.
-ghost use Rattle.std.specs.Prelude.{◌≡◌, ℕ, ◌+◌, ◌<◌, ◌≤◌, false, List, [], ◌∷◌, length, IfOk};
+ghost use Rattle.std.specs.Prelude.{◌≡◌, ℕ, ◌+◌, ◌*◌, ◌<◌, ◌≤◌, false, List, [], ◌∷◌, length, IfOk, OnOk};
 ghost use Rattle.route_tensor.specs.Grid.{ranks};
+ghost use Rattle.route_tensor.specs.Link.{links};
+ghost use Rattle.port_bank.specs.Round.{logs_of};
 ghost use Rattle.port_bank.specs.Port.{IsSlots};
 ghost use Rattle.round_program.specs.Canonical.{InRound, HasRounds, EndsWithin, HaveEnded};
 ghost use Rattle.rank_node.specs.Movers.{manner_of};
 ghost use Rattle.rank_group.specs.declared.closed_round.ClosedRound.{ClosedRound};
 ghost use Rattle.rank_group.specs.Ranks.{IsOrder};
 ghost use Rattle.rank_group.specs.Rounds.{round_of};
+ghost use Rattle.rank_group.specs.Turns.{SweptBy};
 ghost use Rattle.rank_group.specs.Told.{TellsRun, turns_within};
 ghost use Rattle.case_table.specs.Capacities.{IsCapacity};
 
@@ -49,6 +52,18 @@ pub fn case_serial<Q: Program, L: Ledger>(
         → TellsRun Q.rules progs n (record { dims = grid.now; cap = cap; slots = slots; by_slots = false })
         (manner_of via steady) (round_of c))) }
 
+    // It made sweeps in the order given, and no other turn.
+    ensures order { IfOk result (λ f. SweptBy Q.rules grid.now cap slots (manner_of via steady) progs order.now
+        f.progs) }
+
+    // Each rank made a turn in each epoch at least: one of its work and one of its votes in each round.
+    ensures fewest { (n : ℕ) → HasRounds Q.rules progs n
+        → OnOk result (steps.old + 2 * n * ranks grid.now ≤ steps.new) }
+
+    // No link has more parcels than the run had turns.
+    ensures posted { IfOk result (λ f. (c : ClosedRound) → f.rounds ≡ c ∷ [] → (l : ℕ) → l < links grid.now
+        → length (logs_of (round_of c).sent l) + steps.old ≤ steps.new) }
+
     // The turns are bounded before the run, also where it ends in `NoMemory`.
     ensures steps { (n : ℕ) → HasRounds Q.rules progs n
         → steps.new ≤ steps.old + turns_within Q.rules (manner_of via steady) grid.now progs n }
@@ -83,6 +98,12 @@ fn on_one_hop<Q: Program, L: Ledger>(
     ensures rounds { IfOk result (λ f. (c : ClosedRound) × (f.rounds ≡ c ∷ []) × ((n : ℕ) → HasRounds Q.rules progs n
         → TellsRun Q.rules progs n (record { dims = grid.now; cap = cap; slots = slots; by_slots = false })
         (manner_of via steady) (round_of c))) }
+    ensures order { IfOk result (λ f. SweptBy Q.rules grid.now cap slots (manner_of via steady) progs order.now
+        f.progs) }
+    ensures fewest { (n : ℕ) → HasRounds Q.rules progs n
+        → OnOk result (steps.old + 2 * n * ranks grid.now ≤ steps.new) }
+    ensures posted { IfOk result (λ f. (c : ClosedRound) → f.rounds ≡ c ∷ [] → (l : ℕ) → l < links grid.now
+        → length (logs_of (round_of c).sent l) + steps.old ≤ steps.new) }
     ensures steps { (n : ℕ) → HasRounds Q.rules progs n
         → steps.new ≤ steps.old + turns_within Q.rules (manner_of via steady) grid.now progs n }
 {
@@ -116,6 +137,12 @@ fn on_two_hops<Q: Program, L: Ledger>(
     ensures rounds { IfOk result (λ f. (c : ClosedRound) × (f.rounds ≡ c ∷ []) × ((n : ℕ) → HasRounds Q.rules progs n
         → TellsRun Q.rules progs n (record { dims = grid.now; cap = cap; slots = slots; by_slots = false })
         (manner_of via steady) (round_of c))) }
+    ensures order { IfOk result (λ f. SweptBy Q.rules grid.now cap slots (manner_of via steady) progs order.now
+        f.progs) }
+    ensures fewest { (n : ℕ) → HasRounds Q.rules progs n
+        → OnOk result (steps.old + 2 * n * ranks grid.now ≤ steps.new) }
+    ensures posted { IfOk result (λ f. (c : ClosedRound) → f.rounds ≡ c ∷ [] → (l : ℕ) → l < links grid.now
+        → length (logs_of (round_of c).sent l) + steps.old ≤ steps.new) }
     ensures steps { (n : ℕ) → HasRounds Q.rules progs n
         → steps.new ≤ steps.old + turns_within Q.rules (manner_of via steady) grid.now progs n }
 {
@@ -149,6 +176,12 @@ fn on_three_hops<Q: Program, L: Ledger>(
     ensures rounds { IfOk result (λ f. (c : ClosedRound) × (f.rounds ≡ c ∷ []) × ((n : ℕ) → HasRounds Q.rules progs n
         → TellsRun Q.rules progs n (record { dims = grid.now; cap = cap; slots = slots; by_slots = false })
         (manner_of via steady) (round_of c))) }
+    ensures order { IfOk result (λ f. SweptBy Q.rules grid.now cap slots (manner_of via steady) progs order.now
+        f.progs) }
+    ensures fewest { (n : ℕ) → HasRounds Q.rules progs n
+        → OnOk result (steps.old + 2 * n * ranks grid.now ≤ steps.new) }
+    ensures posted { IfOk result (λ f. (c : ClosedRound) → f.rounds ≡ c ∷ [] → (l : ℕ) → l < links grid.now
+        → length (logs_of (round_of c).sent l) + steps.old ≤ steps.new) }
     ensures steps { (n : ℕ) → HasRounds Q.rules progs n
         → steps.new ≤ steps.old + turns_within Q.rules (manner_of via steady) grid.now progs n }
 {

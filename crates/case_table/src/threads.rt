@@ -1,5 +1,5 @@
 //! The drives on threads, by capacity and hops.
-ghost use Rattle.std.specs.Prelude.{◌≡◌, ℕ, true, List, [], ◌∷◌, length, IfOk};
+ghost use Rattle.std.specs.Prelude.{◌≡◌, ℕ, ◌*◌, ◌<◌, true, List, [], ◌∷◌, length, IfOk, OnOk};
 ghost use Rattle.route_tensor.specs.Grid.{ranks};
 ghost use Rattle.port_bank.specs.Port.{IsSlots};
 ghost use Rattle.round_program.specs.Canonical.{InRound, HasRounds, EndsWithin, HaveEnded};
@@ -17,13 +17,14 @@ use route_tensor::Grid;
 use std::alloc::Global;
 use std::sync::Wait;
 use std::thread::Threads;
+use std::time::Clock;
 
 /// Drives the programs of all ranks, on threads, as `drive_threads` does, over parcels of `cap` entries (a power of two from 1 to 1,024) and
 /// routes of as many hops as the grid has numbers.
 ///
 /// # Errors
 /// `NoMemory` where a program, a node, the bank or the result found none. The programs are dropped.
-pub fn case_threads<R: Threads + Wait + Sync, Q: Program + Send, G: Gate + Sync>(
+pub fn case_threads<R: Threads + Wait + Clock + Sync, Q: Program + Send, G: Gate + Sync>(
     rt: &R,
     alloc: Global,
     grid: &Grid,
@@ -47,6 +48,11 @@ pub fn case_threads<R: Threads + Wait + Sync, Q: Program + Send, G: Gate + Sync>
     ensures rounds { IfOk result (λ f. (c : ClosedRound) × (f.rounds ≡ c ∷ []) × ((n : ℕ) → HasRounds Q.rules progs n
         → TellsRun Q.rules progs n (record { dims = grid.now; cap = cap; slots = slots; by_slots = true })
         (manner_of via steady) (round_of c))) }
+
+    // This gate was told of the turns of each rank: in a run of n rounds, which has 2 * n epochs,
+    // of 2 * n turns at least.
+    ensures told { (n r m : ℕ) → HasRounds Q.rules progs n → r < ranks grid.now → m < 2 * n
+        → OnOk result (G.told gate.now r m ≡ true) }
 {
     match grid.hops() {
         1 => threads_on_one_hop(rt, alloc, grid, cap, via, slots, steady, progs, gate),
@@ -56,7 +62,7 @@ pub fn case_threads<R: Threads + Wait + Sync, Q: Program + Send, G: Gate + Sync>
 }
 
 /// The cases of one hop.
-fn threads_on_one_hop<R: Threads + Wait + Sync, Q: Program + Send, G: Gate + Sync>(
+fn threads_on_one_hop<R: Threads + Wait + Clock + Sync, Q: Program + Send, G: Gate + Sync>(
     rt: &R,
     alloc: Global,
     grid: &Grid,
@@ -77,6 +83,8 @@ fn threads_on_one_hop<R: Threads + Wait + Sync, Q: Program + Send, G: Gate + Syn
     ensures rounds { IfOk result (λ f. (c : ClosedRound) × (f.rounds ≡ c ∷ []) × ((n : ℕ) → HasRounds Q.rules progs n
         → TellsRun Q.rules progs n (record { dims = grid.now; cap = cap; slots = slots; by_slots = true })
         (manner_of via steady) (round_of c))) }
+    ensures told { (n r m : ℕ) → HasRounds Q.rules progs n → r < ranks grid.now → m < 2 * n
+        → OnOk result (G.told gate.now r m ≡ true) }
 {
     by_capacity!(
         cap,
@@ -86,7 +94,7 @@ fn threads_on_one_hop<R: Threads + Wait + Sync, Q: Program + Send, G: Gate + Syn
 }
 
 /// The cases of two hops.
-fn threads_on_two_hops<R: Threads + Wait + Sync, Q: Program + Send, G: Gate + Sync>(
+fn threads_on_two_hops<R: Threads + Wait + Clock + Sync, Q: Program + Send, G: Gate + Sync>(
     rt: &R,
     alloc: Global,
     grid: &Grid,
@@ -107,6 +115,8 @@ fn threads_on_two_hops<R: Threads + Wait + Sync, Q: Program + Send, G: Gate + Sy
     ensures rounds { IfOk result (λ f. (c : ClosedRound) × (f.rounds ≡ c ∷ []) × ((n : ℕ) → HasRounds Q.rules progs n
         → TellsRun Q.rules progs n (record { dims = grid.now; cap = cap; slots = slots; by_slots = true })
         (manner_of via steady) (round_of c))) }
+    ensures told { (n r m : ℕ) → HasRounds Q.rules progs n → r < ranks grid.now → m < 2 * n
+        → OnOk result (G.told gate.now r m ≡ true) }
 {
     by_capacity!(
         cap,
@@ -116,7 +126,7 @@ fn threads_on_two_hops<R: Threads + Wait + Sync, Q: Program + Send, G: Gate + Sy
 }
 
 /// The cases of three hops.
-fn threads_on_three_hops<R: Threads + Wait + Sync, Q: Program + Send, G: Gate + Sync>(
+fn threads_on_three_hops<R: Threads + Wait + Clock + Sync, Q: Program + Send, G: Gate + Sync>(
     rt: &R,
     alloc: Global,
     grid: &Grid,
@@ -137,6 +147,8 @@ fn threads_on_three_hops<R: Threads + Wait + Sync, Q: Program + Send, G: Gate + 
     ensures rounds { IfOk result (λ f. (c : ClosedRound) × (f.rounds ≡ c ∷ []) × ((n : ℕ) → HasRounds Q.rules progs n
         → TellsRun Q.rules progs n (record { dims = grid.now; cap = cap; slots = slots; by_slots = true })
         (manner_of via steady) (round_of c))) }
+    ensures told { (n r m : ℕ) → HasRounds Q.rules progs n → r < ranks grid.now → m < 2 * n
+        → OnOk result (G.told gate.now r m ≡ true) }
 {
     by_capacity!(
         cap,

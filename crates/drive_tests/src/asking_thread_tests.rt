@@ -13,6 +13,7 @@ use std::sync::Wait;
 use std::sync::atomic::{AtomicBool, Ordering};
 use std::test::Fail;
 use std::thread::Threads;
+use std::time::Clock;
 
 /// Notes the turn 0 of each of two ranks.
 #[derive(Drop)]
@@ -32,7 +33,7 @@ impl Gate for Firsts {
 }
 
 /// The first `asking` ranks ask, each on a thread.
-fn ask_side_by_side<R: Threads + Wait + Sync, G: Gate + Sync>(
+fn ask_side_by_side<R: Threads + Wait + Clock + Sync, G: Gate + Sync>(
     rt: &R,
     alloc: Global,
     dims: &[u32],
@@ -51,7 +52,7 @@ fn ask_side_by_side<R: Threads + Wait + Sync, G: Gate + Sync>(
 }
 
 /// Rank 0 asks rank 1.
-pub(crate) fn by_hand<R: Threads + Wait + Sync, G: Gate + Sync>(
+pub(crate) fn by_hand<R: Threads + Wait + Clock + Sync, G: Gate + Sync>(
     rt: &R,
     alloc: Global,
     gate: &G,
@@ -60,7 +61,7 @@ pub(crate) fn by_hand<R: Threads + Wait + Sync, G: Gate + Sync>(
 }
 
 /// All ranks ask, with buffers of 1, 2 and 64.
-fn on_buffers<R: Threads + Wait + Sync>(
+fn on_buffers<R: Threads + Wait + Clock + Sync>(
     rt: &R,
     alloc: Global,
     dims: &[u32],
@@ -73,7 +74,7 @@ fn on_buffers<R: Threads + Wait + Sync>(
 }
 
 /// All ranks ask, in so many crews, of which the caller turns those from the number `threads` on.
-fn ask_here<const CAP: usize, const HOPS: usize, R: Threads + Wait + Sync>(
+fn ask_here<const CAP: usize, const HOPS: usize, R: Threads + Wait + Clock + Sync>(
     rt: &R,
     alloc: Global,
     grid: &Grid,

@@ -26,6 +26,10 @@ impl<'a> Gate for HeldGate<'a> {
             self.watch.announced.store(true, Ordering::SeqCst);
         }
     }
+
+    fn holds(&self) -> bool {
+        true
+    }
 }
 
 /// Whether both turns were announced, and neither waited in vain.

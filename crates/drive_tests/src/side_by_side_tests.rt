@@ -20,6 +20,10 @@ impl<'a> Gate for Holds<'a> {
             _ => {}
         }
     }
+
+    fn holds(&self) -> bool {
+        true
+    }
 }
 
 #[test]

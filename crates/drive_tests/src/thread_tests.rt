@@ -7,9 +7,10 @@ use std::alloc::Global;
 use std::sync::Wait;
 use std::test::Fail;
 use std::thread::Threads;
+use std::time::Clock;
 
 /// The closed rounds of two runs in a row: how many there are, and the ranks of the second.
-fn rounds_of_two_runs<R: Threads + Wait + Sync>(
+fn rounds_of_two_runs<R: Threads + Wait + Clock + Sync>(
     rt: &R,
     alloc: Global,
 ) -> Result<(usize, Option<u32>), NoMemory> {

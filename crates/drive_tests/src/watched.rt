@@ -15,6 +15,7 @@ use std::sync::Wait;
 use std::sync::atomic::{AtomicBool, AtomicU64, Ordering};
 use std::thread;
 use std::thread::Threads;
+use std::time::Clock;
 
 /// How often a hold looks before it gives up.
 const TRIES: u64 = 1_000_000_000;
@@ -244,7 +245,7 @@ pub(crate) enum Hands {
 }
 
 /// Drives watched programs over parcels of one entry.
-pub(crate) fn run_watched<'a, R: Threads + Wait + Sync, G: Gate + Sync>(
+pub(crate) fn run_watched<'a, R: Threads + Wait + Clock + Sync, G: Gate + Sync>(
     rt: &R,
     alloc: Global,
     grid: &Grid,
@@ -269,7 +270,7 @@ pub(crate) fn run_watched<'a, R: Threads + Wait + Sync, G: Gate + Sync>(
 }
 
 /// The same, and how often each column was named, and the epochs.
-fn drive_watched<R: Threads + Wait + Sync, G: Gate + Sync>(
+fn drive_watched<R: Threads + Wait + Clock + Sync, G: Gate + Sync>(
     rt: &R,
     alloc: Global,
     grid: &Grid,
@@ -308,7 +309,7 @@ fn add_counts(all: &mut Vec<u64>, counts: &[u64]) {
 }
 
 /// The same on a grid of one number; `None` where there is no such grid.
-pub(crate) fn drive_on<R: Threads + Wait + Sync, G: Gate + Sync>(
+pub(crate) fn drive_on<R: Threads + Wait + Clock + Sync, G: Gate + Sync>(
     rt: &R,
     alloc: Global,
     ranks: u32,

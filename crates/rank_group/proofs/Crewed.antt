@@ -1,10 +1,11 @@
 -- Ranks are dealt to crews one by one, and taken from them one by one.
-use Rattle.std.proofs.Common.{◌≡◌, ◌≢◌, ℕ, suc, ◌+◌, ◌<◌, ◌%◌, ◌==◌, ◌&&◌, ◌||◌, Bool, true, false, true≢false, cond, List, [], ◌∷◌, ◌++◌, length, length-append, append-nil, replicate, slice_get, slice_set, Some, refl, sym, ap, subst, ◌∙◌, arith, inl, inr}
+use Rattle.std.proofs.Common.{◌≡◌, ◌≢◌, ℕ, zero, suc, ◌+◌, ◌<◌, ◌%◌, ◌==◌, ◌&&◌, ◌||◌, Bool, true, false, true≢false, cond, List, [], ◌∷◌, ◌++◌, length, length-append, append-nil, replicate, slice_get, slice_set, Some, refl, sym, ap, subst, ◌∙◌, arith, inl, inr}
 use Rattle.std.proofs.lemmas.Bool.{cases_eq}
 use Rattle.std.proofs.lemmas.Bool.Decides.{nat_tests}
 use Rattle.std.proofs.lemmas.List.{length-replicate, get_or-replicate}
 use Rattle.std.proofs.lemmas.List.Folds.{list_all-append}
-use Rattle.std.specs.List.{All, list_all}
+use Rattle.std.specs.List.{All, list_all, sum_by}
+use Rattle.std.proofs.lemmas.List.Sums.{sum_by-cons}
 use Rattle.list_laws.proofs.Lists.{find, within, get_once, get_here, get_other, set_len, get_last, get_before, all_get, each_get, each_from_gets}
 use Rattle.rank_group.specs.Runs.{RanLaws, AllRan}
 use Rattle.rank_group.specs.Crews.{crew_of, AreDealt, HaveRun}
@@ -26,6 +27,12 @@ ran_on {S} ran laws xs ys i y z all at one = record { all = set_len ys i z ∙ a
         subst (λ w. ran a w) same (laws.on a y z before one)
     | inr other ↦ all.each r a b ea (sym (get_other ys i r z other) ∙ eb)
   ]
+
+-- a sum over all ranks, of which one is turned on
+pub sum_set : {S : Type 0} (f : S → ℕ) (xs : List S) (i : ℕ) (y z : S) → slice_get xs i ≡ Some y → sum_by f (slice_set xs i z) + f y ≡ sum_by f xs + f z
+sum_set f [] i y z at = absurd (omega (arith, within [] i y at))
+sum_set f (x ∷ xs) zero y z at = omega (arith, sum_by-cons f z xs, sum_by-cons f x xs, ap f (get_once (x ∷ xs) 0 x y refl at))
+sum_set f (x ∷ xs) (suc i) y z at = omega (arith, sum_by-cons f x (slice_set xs i z), sum_by-cons f x xs, sum_set f xs i y z at)
 
 -- what crew k gets of a rank, by whether it is its own
 crew_more : {S : Type 0} (count k r : ℕ) (x : S) (xs : List S) → r % count ≡ k → crew_of count k r (x ∷ xs) ≡ crew_of count k (suc r) xs ++ x ∷ []

@@ -1,23 +1,24 @@
 -- A drive's beginning and its end.
-use Rattle.std.proofs.Common.{◌≡◌, ℕ, zero, suc, ◌+◌, ◌<◌, ◌≤◌, true, false, List, [], ◌∷◌, length, map, get_or, slice_get, Option, Some, None, refl, sym, ap, subst, ◌∙◌, arith}
+use Rattle.std.proofs.Common.{◌≡◌, ℕ, zero, suc, ◌+◌, ◌*◌, ◌<◌, ◌≤◌, true, false, cond, List, [], ◌∷◌, length, map, get_or, slice_get, Option, Some, None, refl, sym, ap, subst, ◌∙◌, arith}
 use Rattle.std.proofs.lemmas.Bool.{true≢false}
 use Rattle.std.proofs.lemmas.List.{length-map}
 use Rattle.std.proofs.lemmas.Option.{get_or_from_slice_get}
 use Rattle.item_buffer.specs.Contents.{Shipped}
-use Rattle.list_laws.proofs.Lists.{find, get_map, got_map, same_reads}
+use Rattle.list_laws.proofs.Lists.{find, get_once, get_map, got_map, same_reads}
+use Rattle.list_laws.proofs.Sums.{total_same, total_const, total_zero}
 use Rattle.route_tensor.specs.Grid.{ranks}
 use Rattle.route_tensor.specs.Ends.{reader_at}
 use Rattle.port_bank.specs.Logs.{Logs, starting_at, ending_at}
 use Rattle.port_bank.specs.Plain.{Bank, Channel, unused, IsBank, sent_of, got_of, empty_bank, closed}
 use Rattle.port_bank.specs.Port.{IsSlots}
 use Rattle.port_bank.specs.Round.{Round, IsRound, logs_of}
-use Rattle.port_bank.proofs.Closing.{none_sent, none_got}
+use Rattle.port_bank.proofs.Closing.{none_sent, none_got, channel-empty}
 use Rattle.rank_group.specs.Closes.{ClosesLaws}
 use Rattle.round_program.specs.Rules.{Rules}
 use Rattle.round_program.specs.Laws.{Laws}
 use Rattle.round_program.specs.Canonical.{HasRounds, InRound, EndsWithin, HaveEnded, states_at}
 use Rattle.round_program.proofs.Members.{in_round_at, rounds_once}
-use Rattle.rank_node.specs.Movers.{MoverState, Manner, IsShape, IsMoving, NoneUnread, lying}
+use Rattle.rank_node.specs.Movers.{MoverState, Manner, IsShape, IsMoving, NoneUnread, lying, epoch_in}
 use Rattle.rank_node.specs.Movers.MoverState.{Conveying, Stacking}
 use Rattle.rank_node.specs.Runs.{Running}
 use Rattle.rank_node.specs.Cycles.{IsInCycle}
@@ -31,7 +32,7 @@ use Rattle.rank_group.proofs.Orders.{lawful}
 use Rattle.rank_group.proofs.Movers.{shape_none}
 use Rattle.rank_group.proofs.Telling.{tells_run}
 use Rattle.rank_group.proofs.Worlds.{over_at_last}
-use Rattle.rank_group.specs.Worlds.{World, Plan, inbox, mover_in}
+use Rattle.rank_group.specs.Worlds.{World, Plan, inbox, mover_in, progress_in, all_progress}
 use Rattle.rank_group.specs.Drives.{progs_of, AreFresh}
 
 -- all ranks as a drive begins, over its bank
@@ -149,6 +150,16 @@ logs_map f [] e l = sym e
 logs_map f (c ∷ channels) e zero = refl
 logs_map f (c ∷ channels) e (suc l) = logs_map f channels e l
 
+-- what a closed bank tells of a link is what was sent on it, and at first that is nothing
+pub all_sent : (cap : ℕ) (b : Bank) (round : Round) (l : ℕ) → round ≡ closed cap b → length (logs_of round.sent l) ≡ length (sent_of b l)
+all_sent cap b round l is = ap (λ (c : Round). length (logs_of c.sent l)) is ∙ ap length (logs_map (λ c. c.sent) b.channels refl l)
+
+pub none_first : (dims : List ℕ) (slots l : ℕ) → length (sent_of (empty_bank dims slots) l) ≡ 0
+none_first dims slots l = ap (λ c. length c.sent) (channel-empty _ l)
+
+pub only_one : {X : Type 0} (x y : X) → x ∷ [] ≡ y ∷ [] → x ≡ y
+only_one x y e = get_once (x ∷ []) 0 x y refl (ap (λ xs. slice_get xs 0) e)
+
 -- the programs of ranks whose runs are over are those of the canonical run's end
 pub have_ended : {S : Type 0} (R : Rules S) → Laws R → ClosesLaws → (cap : ℕ) (dims : List ℕ) (slots : ℕ) (manner : Manner) (starts : List S) (h : ℕ → ℕ → S) (rs : List (RankState S)) (sent got : Logs) → AllRanks R dims cap slots manner starts h rs sent got
     → ((r : ℕ) (x : RankState S) → slice_get rs r ≡ Some x → x.over ≡ true) → (shape : List ℕ) (most n : ℕ) → InRound R (ranks dims) 0 shape most starts → HasRounds R starts n → (ends : List S) → ends ≡ progs_of rs → HaveEnded R starts ends
@@ -162,6 +173,13 @@ have_ended {S} R laws law cap dims slots manner starts h rs sent got w over shap
           let x = got_map (λ (n : RankState S). n.node.run.prog) rs r s at in
           (over_at_last R laws law dims cap slots manner starts h rs sent got w shape most n start rounds r x.0 x.1 (over r x.0 x.1)).1 ∙ ap Some x.2);
     }
+
+-- ranks that haven't turned have completed no epoch
+none_completed : {S : Type 0} (R : Rules S) (dims : List ℕ) (cap : ℕ) (manner : Manner) (starts : List S) (rs : List (RankState S)) → AreFresh R dims cap manner starts rs → all_progress dims rs ≡ 0
+none_completed {S} R dims cap manner starts rs fresh = total_zero (ranks dims) (λ r. progress_in (slice_get rs r)) (λ r low. by r (slice_get rs r) refl) where
+  by : (r : ℕ) (o : Option (RankState S)) → slice_get rs r ≡ o → progress_in (slice_get rs r) ≡ 0
+  by r None e = ap progress_in e
+  by r (Some x) e = let f = fresh.each r x e in ap progress_in e ∙ (ap (λ b. cond b (epoch_in x.node.mover + 1) (epoch_in x.node.mover)) f.on ∙ f.epoch)
 
 module _ {S : Type 0} (R : Rules S) (laws : Laws R) (law : ClosesLaws) (cap : ℕ) (dims : List ℕ) (slots : ℕ) (manner : Manner) (starts : List S) (h : ℕ → ℕ → S) (rs : List (RankState S)) (b : Bank)
     (ed : b.dims ≡ dims) (es : b.slots ≡ slots) (w : AllRanks R dims cap slots manner starts h rs (sent_of b) (got_of b)) (over : (r : ℕ) (x : RankState S) → slice_get rs r ≡ Some x → x.over ≡ true)
@@ -181,3 +199,16 @@ module _ {S : Type 0} (R : Rules S) (laws : Laws R) (law : ClosesLaws) (cap : �
         world : AllRanks R b.dims cap slots manner starts h rs (logs_of (map (λ c. c.sent) b.channels)) (logs_of (map (λ c. c.got) b.channels))
         world = subst (λ ds. AllRanks R ds cap slots manner starts h rs (logs_of (map (λ c. c.sent) b.channels)) (logs_of (map (λ c. c.got) b.channels))) (sym ed)
             (subst (λ (f : Logs). AllRanks R dims cap slots manner starts h rs f (logs_of (map (λ c. c.got) b.channels))) sent (subst (λ (f : Logs). AllRanks R dims cap slots manner starts h rs (sent_of b) f) got w))
+
+  -- each rank has completed all epochs, which takes a turn each
+  pub fewest_turns : (rs0 : List (RankState S)) → AreFresh R dims cap manner starts rs0 → (steps steps' : ℕ) → all_progress dims rs + steps ≤ all_progress dims rs0 + steps' → steps + 2 * n * ranks dims ≤ steps'
+  fewest_turns rs0 fresh steps steps' more =
+      let none = none_completed R dims cap manner starts rs0 fresh in
+      let all : all_progress dims rs ≡ ranks dims * (2 * n) =
+      total_same (ranks dims) (λ r. progress_in (slice_get rs r)) (λ r. 2 * n)
+      (λ r low.
+      let x : (x : RankState S) × (slice_get rs r ≡ Some x) = find rs r (let a = w.all in omega (arith, low, a)) in
+      ap progress_in x.1 ∙ (ap (λ b. cond b (epoch_in x.0.node.mover + 1) (epoch_in x.0.node.mover)) (over r x.0 x.1)
+      ∙ (over_at_last R laws law dims cap slots manner starts h rs (sent_of b) (got_of b) w shape most n start rounds r x.0 x.1 (over r x.0 x.1)).0))
+      ∙ total_const (ranks dims) (2 * n) in
+      omega (arith, all, none, more)

@@ -1,5 +1,5 @@
 -- Turns and sweeps, and one more after them.
-use Rattle.std.proofs.Common.{◌≡◌, ℕ, zero, suc, List, [], ◌∷◌, ◌++◌, refl, sym, subst}
+use Rattle.std.proofs.Common.{ℕ, zero, suc, List, [], ◌∷◌, ◌++◌, refl, subst}
 use Rattle.round_program.specs.Rules.{Rules}
 use Rattle.rank_group.specs.Turns.{Scene, IsTurnOf, TurnsOf, SweepsOf}
 

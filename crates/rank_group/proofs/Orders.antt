@@ -1,22 +1,26 @@
 -- A sweep over all ranks.
-use Rattle.std.proofs.Common.{◌≡◌, ◌≢◌, ◌⊎◌, true, false, ℕ, ◌+◌, ◌<◌, ◌≤◌, Bool, List, length, Some, slice_get, get_or, sym, ap, subst, ◌∙◌, arith, inl, inr}
+use Rattle.std.proofs.Common.{◌≡◌, ◌≢◌, ◌⊎◌, true, false, ℕ, ◌+◌, ◌<◌, ◌≤◌, ◌==◌, Bool, cond, List, [], length, Some, slice_get, get_or, sym, ap, subst, ◌∙◌, arith, inl, inr}
 use Rattle.std.proofs.lemmas.Bool.{cases_Bool, cases_eq, true≢false}
+use Rattle.std.proofs.lemmas.Bool.Decides.{nat_tests}
 use Rattle.std.proofs.lemmas.List.{get_or_past}
 use Rattle.std.proofs.lemmas.Option.{get_or_from_slice_get}
 use Rattle.list_laws.proofs.Lists.{find, within, get_once}
+use Rattle.list_laws.proofs.Sums.{total_one}
 use Rattle.route_tensor.specs.Grid.{ranks}
+use Rattle.route_tensor.specs.Link.{links}
+use Rattle.route_tensor.specs.Ends.{sender_at}
 use Rattle.port_bank.specs.Logs.{Logs}
 use Rattle.port_bank.specs.Plain.{Bank, IsBank, unused, channel_at, sent_of, got_of}
 use Rattle.round_program.specs.Rules.{Rules}
 use Rattle.round_program.specs.Laws.{Laws}
-use Rattle.rank_node.specs.Movers.{MoverState, Manner, manner_in}
+use Rattle.rank_node.specs.Movers.{MoverState, Manner, epoch_in, manner_in}
 use Rattle.rank_node.specs.Movers.MoverState.{Conveying, Stacking}
 use Rattle.rank_node.specs.Movers.Manner.{ByConveyor, ByExstack}
 use Rattle.port_bank.specs.Flow.{Begins}
 use Rattle.rank_group.specs.Closes.{ClosesLaws}
 use Rattle.rank_group.specs.Halves.{most_rounds, MoverMade, next_cycle}
 use Rattle.rank_group.specs.Ranks.{RankState, AfterRank, IsOrder, progress}
-use Rattle.rank_group.specs.Worlds.{World, moves, Lawful, RestsBy, Plan, SweptTo, AllMade}
+use Rattle.rank_group.specs.Worlds.{World, moves, Lawful, RestsBy, Plan, SweptTo, AllMade, progress_in, all_progress}
 use Rattle.rank_group.proofs.Swept.{got_grows, moves_on, world_on, cycle_here, cycle_other, rests_here, rests_on}
 use Rattle.rank_group.proofs.Made.{all_made, made_here}
 
@@ -132,6 +136,8 @@ pub record Sweeping {S : Type 0} (R : Rules S) (cap : ℕ) (order : List ℕ) (r
   pub size : length rs ≡ length rs0
   pub turns : (steps0 < steps) ⊎ NoneTurned order i rs0 rs
   pub fewest : steps0 ≤ steps
+  pub posted : (l : ℕ) → l < links b0.dims → length (sent_of b l) + steps0 ≤ length (sent_of b0 l) + steps
+  pub completed : all_progress b0.dims rs + steps0 ≤ all_progress b0.dims rs0 + steps
   pub swept : (manner : Manner) (starts : List S) (n : ℕ) (h : ℕ → ℕ → S) → Plan R b0.dims b0.slots starts n → (w : World R b0.dims cap b0.slots manner starts h rs0 (sent_of b0) (got_of b0))
       → SweptTo R b0.dims cap b0.slots manner starts order i w.cycle rs0 (sent_of b0) (got_of b0) rs (sent_of b) (got_of b)
 
@@ -169,6 +175,56 @@ some_turn p order rs0 rs steps0 steps is all size (inr none) r x at on =
     let y = find rs r (omega (arith, within rs0 r x at, size)) in
     absurd (true≢false (sym (none.over place.0 r y.0 (within order place.0 r place.1) place.1 y.1) ∙ (none.same r x y.0 at y.1 ∙ on)))
 
+-- a rank that goes on completes at most one epoch by a turn
+at_most_one : {S : Type 0} (R : Rules S) (dims : List ℕ) (cap slots r : ℕ) (n n' : RankState S) (sent got sent' got' : Logs) → AfterRank R dims cap slots r n n' sent got sent' got' → n.over ≡ false → progress n' ≤ progress n + 1
+at_most_one {S} R dims cap slots r n n' sent got sent' got' t on = elim (t.turned on) [
+  | inl stays ↦ let e = stays.epoch in omega (arith, here n' stays.still, here n on, e)
+  | inr ends ↦ elim (cases_Bool n'.over) [
+    | inl over ↦ let m = ap epoch_in (ends.over over) in let e = ends.epoch in omega (arith, last n' over, here n on, m, e)
+    | inr off ↦ let e = ends.next off in omega (arith, here n' off, here n on, e)
+  ]
+] where
+  here : (n : RankState S) → n.over ≡ false → progress n ≡ epoch_in n.node.mover
+  here n e = ap (λ b. cond b (epoch_in n.node.mover + 1) (epoch_in n.node.mover)) e
+
+  last : (n : RankState S) → n.over ≡ true → progress n ≡ epoch_in n.node.mover + 1
+  last n e = ap (λ b. cond b (epoch_in n.node.mover + 1) (epoch_in n.node.mover)) e
+
+-- a turn posts at most one parcel on a link
+one_posted : {S : Type 0} (R : Rules S) (dims : List ℕ) (cap slots r : ℕ) (n n' : RankState S) (sent got sent' got' : Logs) → AfterRank R dims cap slots r n n' sent got sent' got' → (l : ℕ) → l < links dims → length (sent' l) ≤ length (sent l) + 1
+one_posted R dims cap slots r n n' sent got sent' got' t l below = elim (cases_eq (sender_at dims l) r) [
+  | inl own ↦
+      let is : (sender_at dims l == r) ≡ true = grind (arith, nat_tests) in
+      let few = t.one_sent l below own in
+      let was : length (cond (sender_at dims l == r) (sent l) []) ≡ length (sent l) = ap (λ b. length (cond b (sent l) [])) is in
+      let now : length (cond (sender_at dims l == r) (sent' l) []) ≡ length (sent' l) = ap (λ b. length (cond b (sent' l) [])) is in
+      omega (arith, few, was, now)
+  | inr other ↦
+      let is : (sender_at dims l == r) ≡ false = grind (arith, nat_tests) in
+      let same : cond (sender_at dims l == r) [] (sent' l) ≡ cond (sender_at dims l == r) [] (sent l) = ap (λ (f : Logs). f l) t.sent_elsewhere in
+      let both : sent' l ≡ sent l = sym (ap (λ b. cond b [] (sent' l)) is) ∙ (same ∙ ap (λ b. cond b [] (sent l)) is) in
+      omega (arith, ap length both)
+]
+
+-- and none where the rank's run is over
+none_posted : {S : Type 0} (R : Rules S) (dims : List ℕ) (cap slots r : ℕ) (n n' : RankState S) (sent got sent' got' : Logs) → AfterRank R dims cap slots r n n' sent got sent' got' → n.over ≡ true → (l : ℕ) → length (sent' l) ≡ length (sent l)
+none_posted R dims cap slots r n n' sent got sent' got' t over l = by (sender_at dims l == r) (ap (λ (f : Logs). f l) (t.unturned over).same_sent) (ap (λ (f : Logs). f l) t.sent_elsewhere) where
+  by : (b : Bool) → cond b (sent' l) [] ≡ cond b (sent l) [] → cond b [] (sent' l) ≡ cond b [] (sent l) → length (sent' l) ≡ length (sent l)
+  by true own other = ap length own
+  by false own other = ap length other
+
+-- and all ranks complete no more than the turn that was counted
+completed_more : {S : Type 0} (R : Rules S) (dims : List ℕ) (cap slots r steps steps' : ℕ) (n n' : RankState S) (rs rs' : List (RankState S)) (sent got sent' got' : Logs) → r < ranks dims → slice_get rs r ≡ Some n → slice_get rs' r ≡ Some n'
+    → ((k : ℕ) → k ≢ r → slice_get rs' k ≡ slice_get rs k) → AfterRank R dims cap slots r n n' sent got sent' got' → steps ≤ steps' → (n.over ≡ false → steps' ≡ steps + 1) → all_progress dims rs' + steps ≤ all_progress dims rs + steps'
+completed_more {S} R dims cap slots r steps steps' n n' rs rs' sent got sent' got' low at at' others t fewest turn =
+    let one = total_one (ranks dims) (λ k. progress_in (slice_get rs k)) (λ k. progress_in (slice_get rs' k)) r low (λ k apart. ap progress_in (sym (others k apart))) in
+    let was : progress_in (slice_get rs r) ≡ progress n = ap progress_in at in
+    let now : progress_in (slice_get rs' r) ≡ progress n' = ap progress_in at' in
+    elim (cases_Bool n.over) [
+      | inl over ↦ let e : progress n' ≡ progress n = ap (λ (y : RankState S). progress y) (t.unturned over).same in omega (arith, one, was, now, e, fewest)
+      | inr on ↦ let e = at_most_one R dims cap slots r n n' sent got sent' got' t on in let s = turn on in omega (arith, one, was, now, e, s)
+    ]
+
 pub sweeping_more : {S : Type 0} (R : Rules S) → Laws R → ClosesLaws → (cap : ℕ) (order : List ℕ) (rs0 : List (RankState S)) (b0 : Bank) (steps0 i r : ℕ) (rs rs' : List (RankState S)) (b b' : Bank) (steps steps' : ℕ) → Sweeping R cap order rs0 b0 steps0 i rs b steps
     → slice_get order i ≡ Some r → r < ranks b.dims → IsBank cap b' → b'.dims ≡ b.dims → b'.slots ≡ b.slots → steps' ≤ steps + 1 → steps ≤ steps' → ((n : RankState S) → slice_get rs r ≡ Some n → n.over ≡ false → steps' ≡ steps + 1) → length rs ≡ ranks b.dims → length rs' ≡ length rs → ((k : ℕ) → k ≢ r → slice_get rs' k ≡ slice_get rs k)
     → ((n n' : RankState S) → slice_get rs r ≡ Some n → slice_get rs' r ≡ Some n' → AfterRank R b.dims cap b.slots r n n' (sent_of b) (got_of b) (sent_of b') (got_of b'))
@@ -181,6 +237,21 @@ sweeping_more R laws closes cap order rs0 b0 steps0 i r rs rs' b b' steps steps'
       most_steps = omega (arith, count, v.most_steps);
       size = size ∙ v.size;
       fewest = omega (arith, fewest, v.fewest);
+      posted = λ l below.
+          let n = find rs r (omega (arith, low, all)) in
+          let n' = find rs' r (omega (arith, low, all, size)) in
+          let t = turned n.0 n'.0 n.1 n'.1 in
+          let before = v.posted l below in
+          elim (cases_Bool n.0.over) [
+            | inl over ↦ let same = none_posted R b.dims cap b.slots r n.0 n'.0 (sent_of b) (got_of b) (sent_of b') (got_of b') t over l in omega (arith, before, same, fewest)
+            | inr on ↦ let more = one_posted R b.dims cap b.slots r n.0 n'.0 (sent_of b) (got_of b) (sent_of b') (got_of b') t l (subst (λ d. l < links d) (sym v.same_dims) below) in let s = turn n.0 n.1 on in omega (arith, before, more, s)
+          ];
+      completed = (let n = find rs r (omega (arith, low, all)) in
+          let n' = find rs' r (omega (arith, low, all, size)) in
+          let more = completed_more R b.dims cap b.slots r steps steps' n.0 n'.0 rs rs' (sent_of b) (got_of b) (sent_of b') (got_of b') low n.1 n'.1 others (turned n.0 n'.0 n.1 n'.1) fewest (turn n.0 n.1) in
+          let here = subst (λ d. all_progress d rs' + steps ≤ all_progress d rs + steps') v.same_dims more in
+          let before = v.completed in
+          omega (arith, here, before));
       turns = (let n = find rs r (omega (arith, low, all)) in
           let n' = find rs' r (omega (arith, low, all, size)) in
           turns_more order rs0 rs rs' i r steps0 steps steps' n.0 n'.0 here n.1 n'.1 others (λ over. ((turned n.0 n'.0 n.1 n'.1).unturned over).same) (turn n.0 n.1) fewest v.fewest v.turns);

@@ -1,5 +1,5 @@
 -- The ranks of a drive get their seats, and leave them.
-use Rattle.std.proofs.Common.{◌≡◌, ◌≢◌, ℕ, ◌+◌, ◌<◌, ◌≤◌, true, false, List, [], ◌∷◌, ◌++◌, length, length-append, map, get_or, slice_get, slice_set, Some, None, All, sym, ap, subst, ◌∙◌, arith, inl, inr}
+use Rattle.std.proofs.Common.{◌≡◌, ◌≢◌, ℕ, ◌+◌, ◌<◌, ◌≤◌, true, false, List, [], ◌∷◌, ◌++◌, length, length-append, map, get_or, slice_get, slice_set, Some, None, All, cond, refl, sym, ap, subst, ◌∙◌, arith, inl, inr}
 use Rattle.std.proofs.lemmas.Bool.{cases_lt}
 use Rattle.std.proofs.lemmas.List.{length-map, map-append, get_or-set_other}
 use Rattle.std.proofs.lemmas.List.Elements.{All-push}
@@ -16,7 +16,7 @@ use Rattle.link_slots.specs.View.{no_logs}
 use Rattle.link_slots.proofs.Opening.{no_sent, no_got}
 use Rattle.round_program.specs.Rules.{Rules}
 use Rattle.rank_group.specs.Ranks.{RankState, IsRank}
-use Rattle.rank_node.specs.Movers.{Manner}
+use Rattle.rank_node.specs.Movers.{Manner, epoch_in}
 use Rattle.rank_group.proofs.Movers.{shape_none}
 use Rattle.rank_group.specs.Drives.{IsFresh, AreFresh}
 use Rattle.rank_group.specs.Seats.{SeatedState, IsSeated, bank_of}
@@ -67,12 +67,13 @@ module _ {S : Type 0} (R : Rules S) (cap : ℕ) (b : Bank) (gather : Gathering) 
         record {
           bank = ap (λ (m : Manning). record { id = m.id; shape = m.shape }) seat_is;
           number = ap (λ (m : Manning). m.rank) seat_is ∙ s.count;
+          none = refl;
           way = record {
             runs = λ kept. subst (λ ds. IsRank R ds cap manner seat.rank h rank (posted_on seat) (collected_from seat)) (sym (ap (λ (m : Manning). m.shape.dims) seat_is))
                 (subst (λ k. IsRank R b.shape.dims cap manner k h rank (posted_on seat) (collected_from seat)) (sym (ap (λ (m : Manning). m.rank) seat_is ∙ s.count))
                 (subst (λ (a : Logs). IsRank R b.shape.dims cap manner (length taken) h rank a (collected_from seat)) (sym none_sent)
                 (subst (λ (a : Logs). IsRank R b.shape.dims cap manner (length taken) h rank (λ l. []) a) (sym none_got) own)));
-            few = λ kept on. let e = f.epoch in omega (arith, e);
+            few = λ kept. let e = f.epoch in let on = ap (λ b. cond b (epoch_in rank.node.mover + 1) (epoch_in rank.node.mover)) f.on in omega (arith, e, on);
           };
         }
 

@@ -35,6 +35,7 @@ pub record PortTurn {S : Type 0} (R : Rules S) (cap : ℕ) (turn : Turn) (n n' :
   pub node_epoch : epoch_in n'.mover ≡ epoch_in n.mover
   pub sent_grows : (l : ℕ) → Begins (starting_at b.dims r (sent_of b) l) (starting_at b'.dims r' (sent_of b') l)
   pub got_grows : (l : ℕ) → Begins (ending_at b.dims r (got_of b) l) (ending_at b'.dims r' (got_of b') l)
+  pub one_sent : (l : ℕ) → l < links (dims_of n.mover) → sender_at (dims_of n.mover) l ≡ rank_of n.mover → length (starting_at b'.dims r' (sent_of b') l) ≤ length (starting_at b.dims r (sent_of b) l) + 1
   pub shape : (l : ℕ) → l < links (dims_of n.mover) → sender_at (dims_of n.mover) l ≡ rank_of n.mover → IsShape (manner_in n.mover) cap (starting_at b.dims r (sent_of b) l) → IsShape (manner_in n.mover) cap (starting_at b'.dims r' (sent_of b') l)
   pub leaves : Leaves R cap n.run n'.run n.mover n'.mover (ending_at b.dims r (got_of b)) (ending_at b'.dims r' (got_of b'))
   pub kept : (h : ℕ → S) → IsNode R h n (starting_at b.dims r (sent_of b)) (ending_at b.dims r (got_of b)) → IsNode R h n' (starting_at b'.dims r' (sent_of b')) (ending_at b'.dims r' (got_of b'))
@@ -86,6 +87,7 @@ after_turn R cap r turn n n' b b' q q' own same nd nr told =
       node_epoch = t.node_epoch;
       sent_grows = t.sent_grows;
       got_grows = t.got_grows;
+      one_sent = λ l below own. t.one_sent l (subst (λ (d : List ℕ). l < links d) (sym nd) below) (subst (λ (d : List ℕ). sender_at d l ≡ rank_of n.mover) (sym nd) (own ∙ sym nr));
       shape = λ l below own. t.shape l (subst (λ (d : List ℕ). l < links d) (sym nd) below) (subst (λ (d : List ℕ). sender_at d l ≡ rank_of n.mover) (sym nd) (own ∙ sym nr));
       lies = λ l more below to. lies_by R cap n.run n'.run n.mover n'.mover _ _ t.leaves l more (subst (λ (d : List ℕ). l < links d) (sym nd) below) (subst (λ (d : List ℕ). reader_at d l ≡ rank_of n.mover) (sym nd) (to ∙ sym nr));
       kept = t.kept;
@@ -106,6 +108,7 @@ module _ {S : Type 0} (R : Rules S) (dims : List ℕ) (cap slots r : ℕ) where
         got_elsewhere = refl;
         sent_grows = λ l. record { rest = []; is = sym (append-nil (starting_at dims r sent l)) };
         got_grows = λ l. record { rest = []; is = sym (append-nil (ending_at dims r got l)) };
+        one_sent = λ l below own. omega arith;
         lies = λ l more below to is. omega arith;
         forward = omega arith;
         kept = λ manner h is. (h, refl, is);
@@ -134,6 +137,7 @@ module _ {S : Type 0} (R : Rules S) (dims : List ℕ) (cap slots r : ℕ) where
         got_elsewhere = t.got_elsewhere;
         sent_grows = t.sent_grows;
         got_grows = t.got_grows;
+        one_sent = t.one_sent;
         lies = t.lies;
         forward = let a : progress n ≡ epoch_in n.node.mover = ap (λ b. cond b (epoch_in n.node.mover + 1) (epoch_in n.node.mover)) on in
             let b : cond over (epoch_in n'.mover + 1) (epoch_in n'.mover) ≡ epoch_in n'.mover = ap (λ b. cond b (epoch_in n'.mover + 1) (epoch_in n'.mover)) still in
@@ -166,6 +170,7 @@ module _ {S : Type 0} (R : Rules S) (dims : List ℕ) (cap slots r : ℕ) (n : R
         got_elsewhere = t.got_elsewhere;
         sent_grows = t.sent_grows;
         got_grows = t.got_grows;
+        one_sent = t.one_sent;
         lies = λ l xs below to is. omega (arith, t.lies l xs below to is, same_lying n1.mover n2.mover l x.unread);
         forward = let a : progress n ≡ epoch_in n.node.mover = ap (λ b. cond b (epoch_in n.node.mover + 1) (epoch_in n.node.mover)) on in
             let b = ended_epoch in

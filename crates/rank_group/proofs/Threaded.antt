@@ -1,5 +1,5 @@
 -- The ranks of a drive on threads, once their seats are gathered and the bank is closed.
-use Rattle.std.proofs.Common.{◌≡◌, ℕ, ◌<◌, ◌||◌, Bool, true, false, List, length, map, get_or, slice_get, Option, Some, None, IsSome, All, refl, sym, ap, subst, ◌∙◌, arith}
+use Rattle.std.proofs.Common.{◌≡◌, ℕ, ◌+◌, ◌*◌, ◌<◌, ◌||◌, Bool, cond, true, false, List, length, map, get_or, slice_get, Option, Some, None, IsSome, All, refl, sym, ap, subst, ◌∙◌, arith}
 use Rattle.std.proofs.lemmas.Bool.{true≢false}
 use Rattle.std.proofs.lemmas.List.{length-map}
 use Rattle.list_laws.specs.Lists.{EachAt}
@@ -12,11 +12,14 @@ use Rattle.link_slots.specs.Closed.{slot_round, AllThere}
 use Rattle.link_slots.specs.Gathering.{Gathering}
 use Rattle.link_slots.specs.Seen.{Bank, Manning, posted_on, collected_from}
 use Rattle.round_program.specs.Rules.{Rules}
-use Rattle.round_program.specs.Canonical.{InRound}
-use Rattle.rank_node.specs.Movers.{Manner}
+use Rattle.round_program.specs.Laws.{Laws}
+use Rattle.round_program.specs.Canonical.{InRound, HasRounds}
+use Rattle.rank_node.specs.Movers.{Manner, epoch_in}
+use Rattle.rank_group.specs.Closes.{ClosesLaws}
 use Rattle.rank_group.specs.Ranks.{RankState, IsRank, HasRank, AllRanks}
 use Rattle.rank_group.specs.Drives.{progs_of, AreFresh}
 use Rattle.rank_group.specs.Runs.{AllRan}
+use Rattle.rank_group.proofs.Worlds.{over_at_last}
 use Rattle.rank_group.specs.Seats.{SeatedState, bank_of, IsOnWay, Ran, IsSeated, AreSeated}
 
 some_is : {X : Type 0} {o : Option X} {x : X} → o ≡ Some x → IsSome o
@@ -31,7 +34,7 @@ first_true true b e n = refl
 first_true false b e n = absurd (true≢false (sym e ∙ n))
 
 module _ {S : Type 0} (R : Rules S) (cap : ℕ) (b : Bank) (manner : Manner) (starts : List S) (shape : List ℕ) (most : ℕ) (start : InRound R (ranks b.shape.dims) 0 shape most starts)
-    (fs : List (RankState S)) (fresh : AreFresh R b.shape.dims cap manner starts fs) (xs ys : List (SeatedState S)) (firsts : map (λ x. x.rank) xs ≡ fs) (seated : AreSeated R cap manner b xs) (ran : AllRan (λ x y. Ran R cap x y) xs ys) where
+    (fs : List (RankState S)) (fresh : AreFresh R b.shape.dims cap manner starts fs) (xs ys : List (SeatedState S)) (firsts : map (λ x. x.rank) xs ≡ fs) (seated : AreSeated R cap manner b xs) (told : ℕ → ℕ → Bool) (ran : AllRan (λ x y. Ran R cap told x y) xs ys) where
   abbrev dims : List ℕ
   dims = b.shape.dims
 
@@ -47,14 +50,24 @@ module _ {S : Type 0} (R : Rules S) (cap : ℕ) (b : Bank) (manner : Manner) (st
     way : IsOnWay R cap manner h y
     bank : bank_of y ≡ b
     number : y.seat.rank ≡ r
+    heard : (m : ℕ) → m < y.turns → told r m ≡ true
 
   came : (r : ℕ) (y : SeatedState S) → slice_get ys r ≡ Some y → Came r y
   came r y at =
       let x : (x : SeatedState S) × (slice_get xs r ≡ Some x) = find xs r (let a = ran.all in omega (arith, within ys r y at, a)) in
       let s : IsSeated R cap manner b r x.0 = seated r x.0 x.1 in
-      let t : Ran R cap x.0 y = ran.each r x.0 y x.1 at in
+      let t : Ran R cap told x.0 y = ran.each r x.0 y x.1 at in
       let k = t.kept manner (λ m. x.0.rank.node.run.prog) s.way in
-      record { x = x.0; at = x.1; h = k.0; begins = k.1; way = k.2; bank = t.bank ∙ s.bank; number = t.number ∙ s.number }
+      record {
+        x = x.0;
+        at = x.1;
+        h = k.0;
+        begins = k.1;
+        way = k.2;
+        bank = t.bank ∙ s.bank;
+        number = t.number ∙ s.number;
+        heard = λ m low. subst (λ k. told k m ≡ true) s.number (t.heard m (let z = s.none in omega (arith, z)) low);
+      }
 
   -- where each sat
   pub sat_at : All (λ y. bank_of y ≡ b) ys
@@ -137,3 +150,15 @@ module _ {S : Type 0} (R : Rules S) (cap : ℕ) (b : Bank) (manner : Manner) (st
         let o = all_get (λ (z : SeatedState S). (z.rank.over || z.lost) ≡ true) ys r y.0 over y.1 in
         let k = all_get (λ (z : SeatedState S). z.lost ≡ false) ys r y.0 kept y.1 in
         sym (ap (λ (m : RankState S). m.over) y.2) ∙ first_true y.0.rank.over y.0.lost o k
+
+    -- the gate was told of as many turns of each as the run has epochs
+    pub all_told : Laws R → ClosesLaws → (n : ℕ) → HasRounds R starts n → (r m : ℕ) → r < ranks dims → m < 2 * n → told r m ≡ true
+    all_told laws law n rounds r m low below =
+        let y : (y : SeatedState S) × (slice_get ys r ≡ Some y) = find ys r (omega (arith, low, as_many)) in
+        let at : slice_get rs r ≡ Some y.0.rank = get_map (λ (z : SeatedState S). z.rank) ys r y.0 y.1 in
+        let c : Came r y.0 = came r y.0 y.1 in
+        let on : y.0.rank.over ≡ true = all_over r y.0.rank at in
+        let last = (over_at_last R laws law dims cap b.shape.slots manner starts history rs (logs_of round.sent) (logs_of round.got) all_ranked shape most n start rounds r y.0.rank at on).0 in
+        let few = c.way.few (all_get (λ (z : SeatedState S). z.lost ≡ false) ys r y.0 kept y.1) in
+        let done = ap (λ a. cond a (epoch_in y.0.rank.node.mover + 1) (epoch_in y.0.rank.node.mover)) on in
+        c.heard m (omega (arith, below, last, few, done))

@@ -80,6 +80,7 @@ pub record AfterTurn {S : Type 0} (R : Rules S) (dims : List ℕ) (cap slots r :
   pub node_epoch : epoch_in n'.mover ≡ epoch_in n.mover
   pub sent_grows : (l : ℕ) → Begins (starting_at dims r sent l) (starting_at dims r sent' l)
   pub got_grows : (l : ℕ) → Begins (ending_at dims r got l) (ending_at dims r got' l)
+  pub one_sent : (l : ℕ) → l < links dims → sender_at dims l ≡ r → length (starting_at dims r sent' l) ≤ length (starting_at dims r sent l) + 1
   pub shape : (l : ℕ) → l < links dims → sender_at dims l ≡ r → IsShape (manner_in n.mover) cap (starting_at dims r sent l) → IsShape (manner_in n.mover) cap (starting_at dims r sent' l)
   pub lies : (l : ℕ) (more : List Shipped) → l < links dims → reader_at dims l ≡ r → ending_at dims r got' l ≡ ending_at dims r got l ++ more
       → lying n'.mover l ≤ lying n.mover l + length (flat_map (λ p. p.entries) more)
@@ -145,6 +146,7 @@ pub record EndsEpoch {S : Type 0} (R : Rules S) (dims : List ℕ) (r : ℕ) (n n
       → length (to_send R n'.node.run.prog n'.node.run.sends) ≤ quota (epoch_in n'.node.mover) → IsInCycle R quota 0 n'.node.run n'.node.mover (starting_at dims r sent') (ending_at dims r got')
 
 -- What the turn of rank r leaves, with the step to its next epoch where one has ended.
+-- one_sent: it posts at most one parcel on a link.
 -- lies: an inbox holds at most what it held and what came.
 -- forward: its epochs only go on. left: where it is in the same epoch and no parcel was moved, it was left there.
 -- unturned, turned: a rank whose run is over isn't turned, and one that goes on stays in its epoch or ends it.
@@ -153,6 +155,7 @@ pub record AfterRank {S : Type 0} (R : Rules S) (dims : List ℕ) (cap slots r :
   pub got_elsewhere : ending_elsewhere dims r got' ≡ ending_elsewhere dims r got
   pub sent_grows : (l : ℕ) → Begins (starting_at dims r sent l) (starting_at dims r sent' l)
   pub got_grows : (l : ℕ) → Begins (ending_at dims r got l) (ending_at dims r got' l)
+  pub one_sent : (l : ℕ) → l < links dims → sender_at dims l ≡ r → length (starting_at dims r sent' l) ≤ length (starting_at dims r sent l) + 1
   pub lies : (l : ℕ) (more : List Shipped) → l < links dims → reader_at dims l ≡ r → ending_at dims r got' l ≡ ending_at dims r got l ++ more
       → lying n'.node.mover l ≤ lying n.node.mover l + length (flat_map (λ p. p.entries) more)
   pub forward : progress n ≤ progress n'

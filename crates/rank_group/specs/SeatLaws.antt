@@ -1,16 +1,22 @@
 -- The laws of what turns leave of a rank at a slot bank.
-use Rattle.std.proofs.Common.{refl, ◌∙◌}
+use Rattle.std.proofs.Common.{◌≡◌, ℕ, Bool, true, refl, subst, ◌∙◌, arith, inl, inr}
+use Rattle.std.proofs.lemmas.Bool.{cases_lt}
 use Rattle.round_program.specs.Rules.{Rules}
 use Rattle.rank_group.specs.Runs.{RanLaws}
 use Rattle.rank_group.specs.Seats.{Ran}
 
-pub ran_laws : {S : Type 0} (R : Rules S) (cap : _) → RanLaws (λ x y. Ran R cap x y)
-ran_laws R cap =
+pub ran_laws : {S : Type 0} (R : Rules S) (cap : ℕ) (told : ℕ → ℕ → Bool) → RanLaws (λ x y. Ran R cap told x y)
+ran_laws R cap told =
     record {
-      none = λ x. record { bank = refl; number = refl; kept = λ manner h is. (h, refl, is) };
+      none = λ x. record { bank = refl; number = refl; more = omega arith; heard = λ n low high. absurd (omega (arith, low, high)); kept = λ manner h is. (h, refl, is) };
       on = λ x y z a b. record {
         bank = b.bank ∙ a.bank;
         number = b.number ∙ a.number;
+        more = (let p = a.more in let q = b.more in omega (arith, p, q));
+        heard = λ n low high. elim (cases_lt n y.turns) [
+          | inl before ↦ a.heard n low before
+          | inr after ↦ subst (λ r. told r n ≡ true) a.number (b.heard n after high)
+        ];
         kept = λ manner h is.
             let m = a.kept manner h is in
             let n = b.kept manner m.0 m.2 in

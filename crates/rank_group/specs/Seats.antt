@@ -1,9 +1,9 @@
 -- Ranks that sit at a slot bank.
-use Rattle.std.specs.Prelude.{◌≡◌, ℕ, ◌≤◌, Bool, false, List, slice_get, Some}
+use Rattle.std.specs.Prelude.{◌≡◌, ℕ, ◌<◌, ◌≤◌, Bool, true, false, List, slice_get, Some}
 use Rattle.link_slots.specs.Seen.{Bank, Manning, posted_on, collected_from}
 use Rattle.round_program.specs.Rules.{Rules}
-use Rattle.rank_node.specs.Movers.{Manner, epoch_in}
-use Rattle.rank_group.specs.Ranks.{RankState, IsRank}
+use Rattle.rank_node.specs.Movers.{Manner}
+use Rattle.rank_group.specs.Ranks.{RankState, IsRank, progress}
 
 -- A rank and its seat: how many turns it made, and whether memory was wanting at the end of its run.
 pub record SeatedState (S : Type 0) : Type 0 where
@@ -17,10 +17,10 @@ abbrev pub bank_of : {S : Type 0} → SeatedState S → Bank
 bank_of x = record { id = x.seat.id; shape = x.seat.shape }
 
 -- By its seat's lists it is a rank of a run; h m is the state of its program as round m began. Nothing is said where memory was wanting.
--- few: it is in no later epoch than it made turns.
+-- few: it completed no more epochs than it made turns.
 pub record IsOnWay {S : Type 0} (R : Rules S) (cap : ℕ) (manner : Manner) (h : ℕ → S) (x : SeatedState S) : Type 0 where
   pub runs : x.lost ≡ false → IsRank R x.seat.shape.dims cap manner x.seat.rank h x.rank (posted_on x.seat) (collected_from x.seat)
-  pub few : x.lost ≡ false → x.rank.over ≡ false → epoch_in x.rank.node.mover ≤ x.turns
+  pub few : x.lost ≡ false → progress x.rank ≤ x.turns
 
 -- The same, of some run.
 pub record HasWay {S : Type 0} (R : Rules S) (cap : ℕ) (x : SeatedState S) : Type 0 where
@@ -29,15 +29,19 @@ pub record HasWay {S : Type 0} (R : Rules S) (cap : ℕ) (x : SeatedState S) : T
   pub way : IsOnWay R cap manner h x
 
 -- Turns took a rank from x to y: it sits where it sat, and is still on the way of its run.
-pub record Ran {S : Type 0} (R : Rules S) (cap : ℕ) (x y : SeatedState S) : Type 0 where
+-- heard: `told` holds of each of them, by the rank's number and its own, counted from 0 over the whole run.
+pub record Ran {S : Type 0} (R : Rules S) (cap : ℕ) (told : ℕ → ℕ → Bool) (x y : SeatedState S) : Type 0 where
   pub bank : bank_of y ≡ bank_of x
   pub number : y.seat.rank ≡ x.seat.rank
+  pub more : x.turns ≤ y.turns
+  pub heard : (n : ℕ) → x.turns ≤ n → n < y.turns → told x.seat.rank n ≡ true
   pub kept : (manner : Manner) (h : ℕ → S) → IsOnWay R cap manner h x → (g : ℕ → S) × (g 0 ≡ h 0) × IsOnWay R cap manner g y
 
 -- A rank that hasn't turned sits at the bank b with the number r.
 pub record IsSeated {S : Type 0} (R : Rules S) (cap : ℕ) (manner : Manner) (b : Bank) (r : ℕ) (x : SeatedState S) : Type 0 where
   pub bank : bank_of x ≡ b
   pub number : x.seat.rank ≡ r
+  pub none : x.turns ≡ 0
   pub way : IsOnWay R cap manner (λ m. x.rank.node.run.prog) x
 
 -- Ranks that haven't turned sit at the bank b in order.

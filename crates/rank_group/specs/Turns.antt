@@ -2,7 +2,10 @@
 use Rattle.std.specs.Prelude.{◌≡◌, ◌≢◌, ℕ, zero, suc, List, [], ◌∷◌, length, slice_get, Some}
 use Rattle.port_bank.specs.Logs.{Logs}
 use Rattle.round_program.specs.Rules.{Rules}
+use Rattle.rank_node.specs.Movers.{Manner}
+use Rattle.port_bank.specs.Plain.{sent_of, got_of, empty_bank}
 use Rattle.rank_group.specs.Ranks.{RankState, AfterRank}
+use Rattle.rank_group.specs.Drives.{progs_of, AreFresh}
 
 -- All ranks and the logs of all links at one moment.
 pub record Scene (S : Type 0) : Type 0 where
@@ -26,3 +29,13 @@ TurnsOf {S} R dims cap slots (r ∷ rs) a b = (m : Scene S) × IsTurnOf R dims c
 abbrev pub SweepsOf : {S : Type 0} → Rules S → List ℕ → ℕ → ℕ → List ℕ → ℕ → Scene S → Scene S → Type 0
 SweepsOf {S} R dims cap slots order zero a b = b ≡ a
 SweepsOf {S} R dims cap slots order (suc k) a b = (m : Scene S) × TurnsOf R dims cap slots order a m × SweepsOf R dims cap slots order k m b
+
+-- A run of the programs `starts`, over a plain bank with so many slots, made sweeps in one order and no other turn, and left the
+-- programs `ends`.
+pub record SweptBy {S : Type 0} (R : Rules S) (dims : List ℕ) (cap slots : ℕ) (manner : Manner) (starts : List S) (order : List ℕ) (ends : List S) : Type 0 where
+  pub sweeps : ℕ
+  pub first : List (RankState S)
+  pub last : Scene S
+  pub fresh : AreFresh R dims cap manner starts first
+  pub ended : progs_of last.ranks ≡ ends
+  pub swept : SweepsOf R dims cap slots order sweeps (record { ranks = first; sent = sent_of (empty_bank dims slots); got = got_of (empty_bank dims slots) }) last

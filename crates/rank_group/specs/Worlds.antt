@@ -39,6 +39,10 @@ abbrev pub progress_in : {S : Type 0} → Option (RankState S) → ℕ
 progress_in None = 0
 progress_in (Some n) = progress n
 
+-- how many epochs all ranks have completed
+abbrev pub all_progress : {S : Type 0} → List ℕ → List (RankState S) → ℕ
+all_progress dims rs = total (ranks dims) (λ r. progress_in (slice_get rs r))
+
 -- a history with the state in which a run has ended
 abbrev pub history_in : {S : Type 0} → (ℕ → S) → Option (RankState S) → ℕ → S
 history_in h None = h

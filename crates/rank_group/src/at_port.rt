@@ -47,13 +47,15 @@ impl<'a, Q: Program, const CAP: usize, const HOPS: usize> Seated for AtPort<'a, 
     ghost use Rattle.rank_group.specs.Noted.{HasSame};
     ghost use Rattle.rank_group.specs.NotedLaws.{same_laws};
 
-    ghost ran = { λ x y. Ran Q.rules CAP x y };
+    ghost ran = { λ told x y. Ran Q.rules CAP told x y };
+
+    ghost turns = { λ x. x.turns };
 
     ghost over = { λ x. x.rank.over || x.lost };
 
     ghost still = { λ x y. HasSame x.seat y.seat };
 
-    ghost laws = { ran_laws Q.rules CAP };
+    ghost laws = { λ told. ran_laws Q.rules CAP told };
 
     ghost still_laws = { same_laws (λ x. x.seat) };
 

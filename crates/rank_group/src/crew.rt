@@ -1,6 +1,6 @@
 //! Ranks that share a thread.
-ghost use Rattle.std.specs.Prelude.{◌≡◌, false, ◌++◌, ◌∷◌, [], IfOk, OnOk, IfSome, IfNone};
-ghost use Rattle.std.specs.List.{list_all};
+ghost use Rattle.std.specs.Prelude.{◌≡◌, ◌+◌, false, ◌++◌, ◌∷◌, [], IfOk, OnOk, IfSome, IfNone};
+ghost use Rattle.std.specs.List.{list_all, sum_by};
 ghost use Rattle.rank_group.specs.Runs.{AllRan};
 
 use crate::gate::Gate;
@@ -27,6 +27,21 @@ impl<A: Seated> Model for Crew<A> {
 }
 
 impl<A: Seated> Crew<A> {
+    /// A crew of these ranks.
+    pub(crate) fn of(ranks: Vec<A>) -> Crew<A>
+        ensures { result ≡ ranks.items }
+    {
+        Crew { ranks }
+    }
+
+    /// Its ranks.
+    pub(crate) fn into_ranks(self) -> Vec<A>
+        ensures { result.items ≡ self }
+    {
+        let Crew { ranks } = self;
+        ranks
+    }
+
     /// A crew without a rank, with room for so many.
     pub(crate) fn new(alloc: Global, room: usize) -> Result<Crew<A>, NoMemory>
         ensures { IfOk result (λ crew. crew ≡ []) }
@@ -53,17 +68,19 @@ impl<A: Seated> Crew<A> {
 }
 
 impl<A: Seated> Seated for Crew<A> {
-    ghost use Rattle.std.specs.List.{list_all};
+    ghost use Rattle.std.specs.List.{list_all, sum_by};
     ghost use Rattle.rank_group.specs.Runs.{AllRan};
     ghost use Rattle.rank_group.specs.RunLaws.{all_ran_laws};
 
-    ghost ran = { λ xs ys. AllRan A.ran xs ys };
+    ghost ran = { λ told xs ys. AllRan (A.ran told) xs ys };
+
+    ghost turns = { λ xs. sum_by A.turns xs };
 
     ghost over = { λ xs. list_all A.over xs };
 
     ghost still = { λ xs ys. AllRan A.still xs ys };
 
-    ghost laws = { all_ran_laws A.ran A.laws };
+    ghost laws = { λ told. all_ran_laws (A.ran told) (A.laws told) };
 
     ghost still_laws = { all_ran_laws A.still A.still_laws };
 
@@ -100,7 +117,8 @@ fn turn_each<A: Seated, R: Wait, G: Gate, L: Ledger>(
     ranks: &mut Vec<A>,
     steps: &mut Steps<L>,
 ) -> bool
-    ensures ran { AllRan A.ran ranks.old.items ranks.new.items }
+    ensures ran { AllRan (A.ran (G.told gate.now)) ranks.old.items ranks.new.items }
+    ensures counted { sum_by A.turns ranks.new.items + steps.old ≡ sum_by A.turns ranks.old.items + steps.new }
     ensures still { result ≡ false → AllRan A.still ranks.old.items ranks.new.items }
 {
     let mut moved = false;
@@ -118,7 +136,8 @@ fn turn_one<A: Seated, R: Wait, G: Gate, L: Ledger>(
     at: &mut A,
     steps: &mut Steps<L>,
 ) -> bool
-    ensures ran { A.ran at.old at.new }
+    ensures ran { A.ran (G.told gate.now) at.old at.new }
+    ensures counted { A.turns at.new + steps.old ≡ A.turns at.old + steps.new }
     ensures still { result ≡ false → A.still at.old at.new }
 {
     if at.is_over() {

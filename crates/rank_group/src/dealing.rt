@@ -6,6 +6,7 @@ ghost use Rattle.rank_group.specs.Crews.{AreDealt, HaveRun};
 
 use crate::crew::Crew;
 use crate::seated::Seated;
+use crate::shared::Telling;
 use bale_types::NoMemory;
 use std::alloc::Global;
 
@@ -39,14 +40,19 @@ fn no_crews<A: Seated>(alloc: Global, count: usize, ranks: usize) -> Result<Vec<
 }
 
 /// Takes all ranks back, which were dealt to the crews, and puts them in order.
-pub(crate) fn gather<A: Seated>(crews: Vec<Crew<A>>, count: usize, ended: Vec<A>) -> Vec<A>
+pub(crate) fn gather<A: Seated, J: Telling>(
+    crews: Vec<Crew<A>>,
+    count: usize,
+    ended: Vec<A>,
+) -> Vec<A>
     requires some { 0 < length crews.items }
     requires run { (all : List A) × (length all ≡ count)
-        × HaveRun A.ran A.over (length crews.items) 0 all crews.items }
+        × HaveRun (A.ran J.told) A.over (length crews.items) 0 all crews.items }
     requires none { ended.items ≡ [] }
     requires room { count ≤ vec_capacity ended }
-    ensures ran { (all : List A) → length all ≡ count → HaveRun A.ran A.over (length crews.items) 0 all crews.items
-        → AllRan A.ran all result.items }
+    ensures ran { (all : List A) → length all ≡ count
+        → HaveRun (A.ran J.told) A.over (length crews.items) 0 all crews.items
+        → AllRan (A.ran J.told) all result.items }
     ensures over { All (λ y. A.over y ≡ true) result.items }
 {
     let mut crews = crews;

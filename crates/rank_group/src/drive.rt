@@ -1,13 +1,13 @@
 //! One call that drives all ranks of a grid on one thread.
-ghost use Rattle.std.specs.Prelude.{◌≡◌, ℕ, ◌+◌, ◌<◌, ◌≤◌, false, List, [], ◌∷◌, length, IfOk};
+ghost use Rattle.std.specs.Prelude.{◌≡◌, ℕ, ◌+◌, ◌*◌, ◌<◌, ◌≤◌, false, List, [], ◌∷◌, length, IfOk, OnOk};
 ghost use Rattle.route_tensor.specs.Grid.{ranks};
+ghost use Rattle.route_tensor.specs.Link.{links};
 ghost use Rattle.port_bank.specs.Port.{IsSlots};
-ghost use Rattle.port_bank.specs.Plain.{sent_of, got_of, empty_bank};
+ghost use Rattle.port_bank.specs.Round.{logs_of};
 ghost use Rattle.round_program.specs.Canonical.{InRound, HasRounds, EndsWithin, HaveEnded};
 ghost use Rattle.rank_group.specs.declared.closed_round.ClosedRound.{ClosedRound};
-ghost use Rattle.rank_group.specs.Ranks.{RankState, IsOrder};
-ghost use Rattle.rank_group.specs.Turns.{Scene, SweepsOf};
-ghost use Rattle.rank_group.specs.Drives.{progs_of, AreFresh};
+ghost use Rattle.rank_group.specs.Ranks.{IsOrder};
+ghost use Rattle.rank_group.specs.Turns.{SweptBy};
 ghost use Rattle.rank_group.specs.Rounds.{round_of};
 ghost use Rattle.rank_node.specs.Movers.{manner_of};
 ghost use Rattle.rank_group.specs.Told.{TellsRun, turns_within};
@@ -65,13 +65,16 @@ pub fn drive_serial<const CAP: usize, const HOPS: usize, Q: Program, L: Ledger>(
         (manner_of via steady) (round_of c))) }
 
     // It made sweeps in the order given, and no other turn.
-    ensures order { IfOk result (λ f. (k : ℕ) × (first : List (RankState Q)) × (last : Scene Q)
-        × AreFresh Q.rules grid.now CAP (manner_of via steady) progs first × (progs_of last.ranks ≡ f.progs)
-        × SweepsOf Q.rules grid.now CAP slots order.now k (record {
-          ranks = first;
-          sent = sent_of (empty_bank grid.now slots);
-          got = got_of (empty_bank grid.now slots);
-        }) last) }
+    ensures order { IfOk result (λ f. SweptBy Q.rules grid.now CAP slots (manner_of via steady) progs order.now
+        f.progs) }
+
+    // Each rank made a turn in each epoch at least: one of its work and one of its votes in each round.
+    ensures fewest { (n : ℕ) → HasRounds Q.rules progs n
+        → OnOk result (steps.old + 2 * n * ranks grid.now ≤ steps.new) }
+
+    // No link has more parcels than the run had turns.
+    ensures posted { IfOk result (λ f. (c : ClosedRound) → f.rounds ≡ c ∷ [] → (l : ℕ) → l < links grid.now
+        → length (logs_of (round_of c).sent l) + steps.old ≤ steps.new) }
 
     // The turns are bounded before the run, also where it ends in `NoMemory`.
     ensures steps { (n : ℕ) → HasRounds Q.rules progs n

@@ -7,11 +7,12 @@ use crate::child::Child;
 use crate::gate::Gate;
 use crate::job::{Job, do_job};
 use crate::seated::Seated;
-use crate::shared::Shared;
-use crate::waiting::wait_a_little;
+use crate::shared::{Shared, Telling};
+use crate::waiting::Patience;
 use rank_node::Steps;
 use std::sync::Wait;
 use std::sync::ledger::Ledger;
+use std::time::Clock;
 
 /// How far the ranks are that the caller keeps, after a turn of each.
 #[derive(Clone, Copy, PartialEq, Eq, Debug)]
@@ -25,43 +26,47 @@ pub(crate) enum Kept {
 }
 
 /// All ranks of a drive, of which the caller turns those that it keeps.
-pub struct Keeper<'a, R: Wait, A: Seated, G: Gate> {
-    shared: &'a Shared<'a, R, G>,
-    children: Vec<Child<A>>,
+pub struct Keeper<'a, R: Wait + Clock, A: Seated, G: Gate, J: Telling> {
+    shared: &'a Shared<'a, R, G, J>,
+    children: Vec<Child<A, J>>,
 }
 
-impl<'a, R: Wait, A: Seated, G: Gate> Job for Keeper<'a, R, A, G> {
+impl<'a, R: Wait + Clock, A: Seated, G: Gate, J: Telling> Job for Keeper<'a, R, A, G, J> {
     ghost use Rattle.std.specs.Prelude.{◌≡◌, map};
-    ghost use Rattle.std.specs.List.{All};
-    ghost use Rattle.rank_group.specs.Children.{first_of, HasEnded};
+    ghost use Rattle.rank_group.specs.Children.{first_of};
 
-    ghost ran = { λ a b. (map first_of b.children.items ≡ map first_of a.children.items)
-        × All (HasEnded A.over) b.children.items };
+    ghost ran = { λ a b. map first_of b.children.items ≡ map first_of a.children.items };
 
     fn work<L: Ledger>(self, steps: &mut Steps<L>) -> Self {
         let Keeper {
             shared,
             mut children,
         } = self;
-        let mut vain = 0;
+        let mut patience = Patience::new();
         for _ in shared.rt.forever() {
+            if shared.is_home() {
+                return Keeper { shared, children };
+            }
             match sweep_kept(shared, &mut children, steps) {
                 Kept::Over => return Keeper { shared, children },
-                Kept::Still => vain = wait_a_little(vain),
-                Kept::Moved => vain = 0,
+                Kept::Moved => patience.got_on(),
+                Kept::Still => {
+                    if patience.in_vain(shared.rt) {
+                        shared.call_home();
+                    }
+                }
             }
         }
         unreachable!()
     }
 }
 
-/// Turns the crews that the caller keeps, in turns, until the run of each is over.
-pub(crate) fn run_kept<'a, R: Wait, A: Seated, G: Gate>(
-    shared: &'a Shared<'a, R, G>,
-    children: Vec<Child<A>>,
-) -> Vec<Child<A>>
-    ensures same { map first_of result.items ≡ map first_of children.items }
-    ensures ended { All (HasEnded A.over) result.items }
+/// Turns the crews that the caller keeps, in turns, until the run of each is over or all are called home.
+pub(crate) fn run_kept<'a, R: Wait + Clock, A: Seated, G: Gate, J: Telling>(
+    shared: &'a Shared<'a, R, G, J>,
+    children: Vec<Child<A, J>>,
+) -> Vec<Child<A, J>>
+    ensures { map first_of result.items ≡ map first_of children.items }
 {
     let Keeper {
         shared: _,
@@ -71,9 +76,9 @@ pub(crate) fn run_kept<'a, R: Wait, A: Seated, G: Gate>(
 }
 
 /// Turns each rank once that the caller keeps, where its run isn't over.
-fn sweep_kept<'a, R: Wait, A: Seated, G: Gate, L: Ledger>(
-    shared: &Shared<'a, R, G>,
-    children: &mut Vec<Child<A>>,
+fn sweep_kept<'a, R: Wait + Clock, A: Seated, G: Gate, J: Telling, L: Ledger>(
+    shared: &Shared<'a, R, G, J>,
+    children: &mut Vec<Child<A, J>>,
     steps: &mut Steps<L>,
 ) -> Kept
     ensures same { map first_of children.new.items ≡ map first_of children.old.items }
@@ -87,9 +92,9 @@ fn sweep_kept<'a, R: Wait, A: Seated, G: Gate, L: Ledger>(
 }
 
 /// Turns a rank once, where the caller keeps it and its run isn't over.
-fn turn_kept<'a, R: Wait, A: Seated, G: Gate, L: Ledger>(
-    shared: &Shared<'a, R, G>,
-    child: &mut Child<A>,
+fn turn_kept<'a, R: Wait + Clock, A: Seated, G: Gate, J: Telling, L: Ledger>(
+    shared: &Shared<'a, R, G, J>,
+    child: &mut Child<A, J>,
     steps: &mut Steps<L>,
 ) -> Kept
     ensures same { first_of child.new ≡ first_of child.old }
@@ -100,7 +105,7 @@ fn turn_kept<'a, R: Wait, A: Seated, G: Gate, L: Ledger>(
         Child::Here(at) => {
             if at.is_over() {
                 Kept::Over
-            } else if at.turn(shared.rt, shared.gate, steps) {
+            } else if at.turn(shared, steps) {
                 Kept::Moved
             } else {
                 Kept::Still

@@ -1,11 +1,12 @@
 //! Sweeps over all ranks, until the run of each is over.
-ghost use Rattle.std.specs.Prelude.{◌≡◌, ℕ, ◌+◌, ◌≤◌, true, slice_get, Some, IfOk, OnOk};
+ghost use Rattle.std.specs.Prelude.{◌≡◌, ℕ, ◌+◌, ◌<◌, ◌≤◌, true, length, slice_get, Some, IfOk, OnOk};
 ghost use Rattle.std.specs.List.{list_all};
 ghost use Rattle.route_tensor.specs.Grid.{ranks};
+ghost use Rattle.route_tensor.specs.Link.{links};
 ghost use Rattle.port_bank.specs.Plain.{IsBank, sent_of, got_of};
 ghost use Rattle.rank_node.specs.Movers.{Manner};
 ghost use Rattle.rank_group.specs.Told.{turns_within};
-ghost use Rattle.rank_group.specs.Worlds.{Plan, World};
+ghost use Rattle.rank_group.specs.Worlds.{Plan, World, all_progress};
 ghost use Rattle.rank_group.specs.Drives.{progs_of};
 ghost use Rattle.rank_group.specs.Ranks.{RankState, IsOrder};
 ghost use Rattle.rank_group.specs.Turns.{SweepsOf};
@@ -46,6 +47,12 @@ pub(crate) fn run_all<const CAP: usize, const HOPS: usize, Q: Program, L: Ledger
         (got_of bank.entry)
         → IfOk result (λ b. (g : ℕ → ℕ → Q)
         × World Q.rules bank.entry.dims CAP bank.entry.slots manner starts g all.new.items (sent_of b) (got_of b)) }
+    // No epoch was completed but by a turn.
+    ensures fewest { IfOk result (λ b. all_progress bank.entry.dims all.new.items + steps.old
+        ≤ all_progress bank.entry.dims all.old.items + steps.new) }
+    // A turn posts at most one parcel on a link.
+    ensures posted { IfOk result (λ b. (l : ℕ) → l < links bank.entry.dims
+        → length (sent_of b l) + steps.old ≤ length (sent_of bank.entry l) + steps.new) }
     ensures steps { (manner : Manner) (starts : _) (n : ℕ) (h : ℕ → ℕ → Q)
         → Plan Q.rules bank.entry.dims bank.entry.slots starts n
         → World Q.rules bank.entry.dims CAP bank.entry.slots manner starts h all.old.items (sent_of bank.entry)

@@ -8,12 +8,13 @@
 //! and an epoch has only so many rounds.
 ghost use Rattle.std.specs.Prelude.{◌≡◌, ◌≢◌, ℕ, ◌+◌, ◌*◌, ◌^◌, ◌<◌, ◌≤◌, List, length, slice_get, Some, IfOk, OnOk, true, false};
 ghost use Rattle.route_tensor.specs.Grid.{ranks};
+ghost use Rattle.route_tensor.specs.Link.{links};
 ghost use Rattle.port_bank.specs.Plain.{IsBank, sent_of, got_of};
 ghost use Rattle.port_bank.specs.Logs.{starting_at, ending_at};
 ghost use Rattle.rank_group.specs.Closes.{ClosesLaws};
 ghost use Rattle.rank_node.specs.Movers.{Manner, dims_of, rank_of, epoch_in};
 ghost use Rattle.rank_node.specs.Nodes.{IsNode};
-ghost use Rattle.rank_group.specs.Worlds.{Plan, World, SweptTo};
+ghost use Rattle.rank_group.specs.Worlds.{Plan, World, SweptTo, all_progress};
 ghost use Rattle.rank_group.specs.Ranks.{RankState, HasRank, AfterTurn, AfterRank, IsOrder};
 ghost use Rattle.rank_group.specs.Turns.{TurnsOf};
 
@@ -145,6 +146,12 @@ pub(crate) fn sweep<const CAP: usize, const HOPS: usize, Q: Program, L: Ledger>(
     ensures most_steps { steps.new ≤ steps.old + length order.now }
     ensures some_step { (r : ℕ) (x : RankState Q) → slice_get all.old.items r ≡ Some x → x.over ≡ false
         → IfOk result (λ b. steps.old < steps.new) }
+    // No epoch was completed but by a turn.
+    ensures fewest { IfOk result (λ b. all_progress bank.entry.dims all.new.items + steps.old
+        ≤ all_progress bank.entry.dims all.old.items + steps.new) }
+    // A turn posts at most one parcel on a link.
+    ensures posted { IfOk result (λ b. (l : ℕ) → l < links bank.entry.dims
+        → length (sent_of b l) + steps.old ≤ length (sent_of bank.entry l) + steps.new) }
     ensures order { IfOk result (λ b. TurnsOf Q.rules bank.entry.dims CAP bank.entry.slots order.now
         (record { ranks = all.old.items; sent = sent_of bank.entry; got = got_of bank.entry })
         (record { ranks = all.new.items; sent = sent_of b; got = got_of b })) }

@@ -1,5 +1,5 @@
 //! One call that drives all ranks of a grid on threads.
-ghost use Rattle.std.specs.Prelude.{◌≡◌, ℕ, ◌<◌, ◌≤◌, true, List, [], ◌∷◌, length, IfOk};
+ghost use Rattle.std.specs.Prelude.{◌≡◌, ℕ, ◌*◌, ◌<◌, ◌≤◌, true, List, [], ◌∷◌, length, IfOk, OnOk};
 ghost use Rattle.route_tensor.specs.Grid.{ranks};
 ghost use Rattle.port_bank.specs.Port.{IsSlots};
 ghost use Rattle.round_program.specs.Canonical.{InRound, HasRounds, EndsWithin, HaveEnded};
@@ -24,12 +24,14 @@ use route_tensor::Grid;
 use std::alloc::Global;
 use std::sync::Wait;
 use std::thread::Threads;
+use std::time::Clock;
 
 /// Drives the programs of all ranks, from their first round to their last, over one slot bank with parcels of `CAP` entries and
 /// `slots` (1, 2, 4 or 8) parcels on a link at a time. With no more ranks than the machine has processors each rank has a thread
 /// of its own; else there are as many threads as processors, and rank r is turned by thread r mod T, in turns with the others of
 /// its crew. The threads are up over all rounds. Before each turn of a rank the gate is told of it. A crew whose thread can't be
-/// started is turned by the caller, in turns with the others of its kind.
+/// started is turned by the caller, in turns with the others of its kind. Where other work keeps the threads from their processors,
+/// all crews come home, and the caller turns them by itself; none does where the gate holds ranks.
 ///
 /// It waits for its threads, and returns where they do.
 ///
@@ -38,7 +40,7 @@ use std::thread::Threads;
 pub fn drive_threads<
     const CAP: usize,
     const HOPS: usize,
-    R: Threads + Wait + Sync,
+    R: Threads + Wait + Clock + Sync,
     Q: Program + Send,
     G: Gate + Sync,
 >(
@@ -66,6 +68,11 @@ pub fn drive_threads<
     ensures rounds { IfOk result (λ f. (c : ClosedRound) × (f.rounds ≡ c ∷ []) × ((n : ℕ) → HasRounds Q.rules progs n
         → TellsRun Q.rules progs n (record { dims = grid.now; cap = CAP; slots = slots; by_slots = true })
         (manner_of via steady) (round_of c))) }
+
+    // This gate was told of the turns of each rank: in a run of n rounds, which has 2 * n epochs,
+    // of 2 * n turns at least.
+    ensures told { (n r m : ℕ) → HasRounds Q.rules progs n → r < ranks grid.now → m < 2 * n
+        → OnOk result (G.told gate.now r m ≡ true) }
 {
     let threads = threads_for(rt, grid.ranks());
     drive_with::<CAP, HOPS, R, Q, G>(
@@ -80,7 +87,7 @@ pub fn drive_threads<
 pub fn drive_with<
     const CAP: usize,
     const HOPS: usize,
-    R: Threads + Wait + Sync,
+    R: Threads + Wait + Clock + Sync,
     Q: Program + Send,
     G: Gate + Sync,
 >(
@@ -106,6 +113,8 @@ pub fn drive_with<
     ensures rounds { IfOk result (λ f. (c : ClosedRound) × (f.rounds ≡ c ∷ []) × ((n : ℕ) → HasRounds Q.rules progs n
         → TellsRun Q.rules progs n (record { dims = grid.now; cap = CAP; slots = slots; by_slots = true })
         (manner_of via steady) (round_of c))) }
+    ensures told { (n r m : ℕ) → HasRounds Q.rules progs n → r < ranks grid.now → m < 2 * n
+        → OnOk result (G.told gate.now r m ≡ true) }
 {
     closes_laws();
     grid.known();

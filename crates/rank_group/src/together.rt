@@ -4,28 +4,31 @@ ghost use Rattle.std.specs.List.{All};
 ghost use Rattle.rank_group.specs.Runs.{AllRan};
 ghost use Rattle.rank_group.specs.Children.{first_of};
 
-use crate::alone::run_alone;
-use crate::child::{Child, start};
+use crate::alone::run_home;
+use crate::child::{Child, keep, start};
+use crate::crew::Crew;
 use crate::dealing::{deal, gather};
 use crate::gate::Gate;
 use crate::keeper::run_kept;
 use crate::seated::Seated;
-use crate::shared::Shared;
-use crate::turned::Turned;
+use crate::shared::{Shared, Telling};
 use bale_types::NoMemory;
 use std::alloc::Global;
-use std::snapshot::Snapshot;
+use std::marker::Brand;
 use std::sync::Wait;
-use std::sync::atomic::AtomicBool;
 use std::thread;
 use std::thread::{Scope, Threads};
+use std::time::Clock;
 
 /// Turns all ranks until the run of each is over, in `crews` crews, rank r in crew r mod `crews`. The first `threads` crews have a
 /// thread each, and those here that have none. It waits for its threads.
 ///
+/// A thread that others keep from its processor calls all crews home, and the caller turns them to their end by itself, unless the
+/// gate holds ranks.
+///
 /// # Errors
 /// `NoMemory` comes before the first turn.
-pub fn run_together<R: Threads + Wait + Sync, A: Seated + Send, G: Gate + Sync>(
+pub fn run_together<R: Threads + Wait + Clock + Sync, A: Seated + Send, G: Gate + Sync>(
     rt: &R,
     alloc: Global,
     gate: &G,
@@ -33,88 +36,114 @@ pub fn run_together<R: Threads + Wait + Sync, A: Seated + Send, G: Gate + Sync>(
     threads: usize,
     all: Vec<A>,
 ) -> Result<Vec<A>, NoMemory>
-    ensures ran { IfOk result (λ ended. AllRan A.ran all.items ended.items) }
+    // This gate was told of each turn.
+    ensures ran { IfOk result (λ ended. AllRan (A.ran (G.told gate.now)) all.items ended.items) }
+    ensures over { IfOk result (λ ended. All (λ y. A.over y ≡ true) ended.items) }
+{
+    run_crews::<R, A, G, Brand>(rt, alloc, gate, crews, threads, all)
+}
+
+/// The same, of a run of its own.
+fn run_crews<
+    R: Threads + Wait + Clock + Sync,
+    A: Seated + Send,
+    G: Gate + Sync,
+    J: Telling + Send + Sync,
+>(
+    rt: &R,
+    alloc: Global,
+    gate: &G,
+    crews: usize,
+    threads: usize,
+    all: Vec<A>,
+) -> Result<Vec<A>, NoMemory>
+    requires tells { G.told gate.now ≡ J.told }
+    ensures ran { IfOk result (λ ended. AllRan (A.ran J.told) all.items ended.items) }
     ensures over { IfOk result (λ ended. All (λ y. A.over y ≡ true) ended.items) }
 {
     let count = all.len();
     let ended = Vec::with_capacity(alloc, count)?;
     let dealt = deal(alloc, crews.max(1), all)?;
-    let over = run_each(rt, alloc, gate, threads, dealt)?;
-    Ok(gather(over, count, ended))
+    let shared = Shared::<R, G, J>::new(rt, gate);
+    let over = run_each(&shared, alloc, threads, dealt)?;
+    Ok(gather::<A, J>(over, count, ended))
 }
 
 /// Turns all ranks, each by itself: the first `threads` of them on a thread each, and those here that have none.
 ///
 /// # Errors
 /// `NoMemory` comes before the first turn.
-fn run_each<R: Threads + Wait + Sync, A: Seated + Send, G: Gate + Sync>(
-    rt: &R,
+fn run_each<
+    'd,
+    R: Threads + Wait + Clock + Sync,
+    A: Seated + Send,
+    G: Gate + Sync,
+    J: Telling + Send + Sync,
+>(
+    shared: &Shared<'d, R, G, J>,
     alloc: Global,
-    gate: &G,
     threads: usize,
     all: Vec<A>,
 ) -> Result<Vec<A>, NoMemory>
-    ensures ran { IfOk result (λ ended. AllRan A.ran all.items ended.items) }
+    ensures ran { IfOk result (λ ended. AllRan (A.ran J.told) all.items ended.items) }
     ensures over { IfOk result (λ ended. All (λ y. A.over y ≡ true) ended.items) }
 {
-    let kept = flags(alloc, all.len())?;
     let ended = Vec::with_capacity(alloc, all.len())?;
-    let shared = Shared { rt, gate };
-    let (shared, kept) = (&shared, kept.as_slice());
     thread::scope(
         thread::scope_env(),
-        rt,
+        shared.rt,
         move |scope| -> Result<Vec<A>, NoMemory>
-            requires { (length kept.now ≡ length all.items) × (ended.items ≡ [])
-                × (length all.items ≤ vec_capacity ended) }
-            ensures { IfOk result (λ ys. AllRan A.ran all.items ys.items × All (λ y. A.over y ≡ true) ys.items) }
-        { run_in(scope, shared, alloc, kept, threads, all, ended) },
+            requires { (ended.items ≡ []) × (length all.items ≤ vec_capacity ended) }
+            ensures { IfOk result (λ ys. AllRan (A.ran J.told) all.items ys.items
+                × All (λ y. A.over y ≡ true) ys.items) }
+        { run_in(scope, shared, alloc, threads, all, ended) },
     )
 }
 
 /// The same in a scope, with room for what comes back.
-fn run_in<'s, E, R: Threads + Wait + Sync + 's, A: Seated + Send + 's, G: Gate + Sync + 's>(
+fn run_in<
+    's,
+    E,
+    R: Threads + Wait + Clock + Sync + 's,
+    A: Seated + Send + 's,
+    G: Gate + Sync + 's,
+    J: Telling + Send + Sync + 's,
+>(
     scope: &Scope<'s, E>,
-    shared: &'s Shared<'s, R, G>,
+    shared: &'s Shared<'s, R, G, J>,
     alloc: Global,
-    kept: &'s [AtomicBool],
     threads: usize,
     all: Vec<A>,
     ended: Vec<A>,
 ) -> Result<Vec<A>, NoMemory>
-    requires kept { length kept.now ≡ length all.items }
     requires none { ended.items ≡ [] }
     requires room { length all.items ≤ vec_capacity ended }
-    ensures ran { IfOk result (λ ys. AllRan A.ran all.items ys.items) }
+    ensures ran { IfOk result (λ ys. AllRan (A.ran J.told) all.items ys.items) }
     ensures over { IfOk result (λ ys. All (λ y. A.over y ≡ true) ys.items) }
 {
     let children = Vec::with_capacity(alloc, all.len())?;
-    let children = start_all(scope, shared, kept, threads, all, children);
+    let children = start_all(scope, shared, alloc, threads, all, children);
     let children = run_kept(shared, children);
-    Ok(join_all(shared, children, ended))
-}
-
-/// A flag for each rank, which tells its thread that the caller keeps the rank.
-fn flags(alloc: Global, count: usize) -> Result<Vec<AtomicBool>, NoMemory>
-    ensures { IfOk result (λ v. length v.items ≡ count) }
-{
-    let mut flags = Vec::with_capacity(alloc, count)?;
-    for _ in 0..count {
-        flags.push(AtomicBool::new(false))?;
-    }
-    Ok(flags)
+    let back = join_all(shared, children, ended);
+    Ok(run_back(shared, back))
 }
 
 /// Starts a thread for each of the first ranks. It takes the ranks from the end, so the children stand in reverse order.
-fn start_all<'s, E, R: Wait + Sync + 's, A: Seated + Send + 's, G: Gate + Sync + 's>(
+fn start_all<
+    's,
+    E,
+    R: Wait + Clock + Sync + 's,
+    A: Seated + Send + 's,
+    G: Gate + Sync + 's,
+    J: Telling + Send + Sync + 's,
+>(
     scope: &Scope<'s, E>,
-    shared: &'s Shared<'s, R, G>,
-    kept: &'s [AtomicBool],
+    shared: &'s Shared<'s, R, G, J>,
+    alloc: Global,
     threads: usize,
     all: Vec<A>,
-    children: Vec<Child<A>>,
-) -> Vec<Child<A>>
-    requires kept { length kept.now ≡ length all.items }
+    children: Vec<Child<A, J>>,
+) -> Vec<Child<A, J>>
     requires none { children.items ≡ [] }
     requires room { length all.items ≤ vec_capacity children }
     ensures { map first_of result.items ≡ reverse all.items }
@@ -124,7 +153,7 @@ fn start_all<'s, E, R: Wait + Sync + 's, A: Seated + Send + 's, G: Gate + Sync +
     while let Some(at) = all.pop() {
         let number = all.len();
         let child = if number < threads {
-            start(scope, shared, &kept[number], at)
+            start(scope, shared, alloc, at)
         } else {
             keep(at)
         };
@@ -133,47 +162,34 @@ fn start_all<'s, E, R: Wait + Sync + 's, A: Seated + Send + 's, G: Gate + Sync +
     children
 }
 
-/// Keeps a rank here.
-fn keep<A: Seated>(at: A) -> Child<A>
-    ensures { first_of result ≡ at }
-{
-    let first = Snapshot::of(&at);
-    Child::Here(Turned::new(at, first))
-}
-
 /// Waits for all threads, and takes the ranks back. It takes the children from the end, so what stood in reverse order is in order.
-fn join_all<'s, R: Threads + Wait, A: Seated, G: Gate>(
-    shared: &'s Shared<'s, R, G>,
-    children: Vec<Child<A>>,
-    ended: Vec<A>,
+fn join_all<'s, R: Threads + Wait, A: Seated, G: Gate, J: Telling>(
+    shared: &'s Shared<'s, R, G, J>,
+    children: Vec<Child<A, J>>,
+    back: Vec<A>,
 ) -> Vec<A>
-    requires none { ended.items ≡ [] }
-    requires room { length children.items ≤ vec_capacity ended }
-    ensures ran { AllRan A.ran (reverse (map first_of children.items)) result.items }
-    ensures over { All (λ y. A.over y ≡ true) result.items }
+    requires none { back.items ≡ [] }
+    requires room { length children.items ≤ vec_capacity back }
+    ensures { AllRan (A.ran J.told) (reverse (map first_of children.items)) result.items }
 {
     let mut children = children;
-    let mut ended = ended;
+    let mut back = back;
     while let Some(child) = children.pop() {
         match child {
-            Child::There(handle) => come_back(shared, &mut ended, handle.join(shared.rt)),
-            Child::Here(kept) => come_back(shared, &mut ended, kept.into_rank()),
+            Child::There(away) => back.push_reserved(away.join(shared.rt)),
+            Child::Here(kept) => back.push_reserved(kept.into_rank()),
         }
     }
-    ended
+    back
 }
 
-/// A rank comes back. Its run goes to its end, which it has mostly reached.
-fn come_back<'s, R: Wait, A: Seated, G: Gate>(
-    shared: &'s Shared<'s, R, G>,
-    ended: &mut Vec<A>,
-    at: A,
-)
-    requires room { length ended.old.items < vec_capacity ended.old }
-    ensures ran { (xs : List A) (x : A) → AllRan A.ran xs ended.old.items → A.ran x at
-        → AllRan A.ran (xs ++ x ∷ []) ended.new.items }
-    ensures over { All (λ y. A.over y ≡ true) ended.old.items → All (λ y. A.over y ≡ true) ended.new.items }
-    ensures capacity { vec_capacity ended.old ≤ vec_capacity ended.new }
+/// Turns the ranks that came back until the run of each is over, which it mostly is.
+fn run_back<'s, R: Wait + Clock, A: Seated, G: Gate, J: Telling>(
+    shared: &'s Shared<'s, R, G, J>,
+    back: Vec<A>,
+) -> Vec<A>
+    ensures ran { (all : List A) → AllRan (A.ran J.told) all back.items → AllRan (A.ran J.told) all result.items }
+    ensures over { All (λ y. A.over y ≡ true) result.items }
 {
-    ended.push_reserved(run_alone(shared, at));
+    run_home(shared, Crew::of(back)).into_ranks()
 }

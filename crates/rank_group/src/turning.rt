@@ -1,7 +1,7 @@
 //! Turns a rank over a port that takes no memory.
 ghost use Rattle.std.specs.Prelude.{◌≡◌, ℕ, ◌+◌, ◌^◌, ◌<◌, ◌≤◌, Bool, false, OnOk};
 ghost use Rattle.rank_node.specs.Movers.{Manner, epoch_in};
-ghost use Rattle.rank_group.specs.Ranks.{IsRank};
+ghost use Rattle.rank_group.specs.Ranks.{IsRank, progress};
 
 use crate::sweeping::Rank;
 use bale_types::NoMemory;
@@ -29,8 +29,8 @@ pub(crate) fn turn_over<const CAP: usize, const HOPS: usize, Q: Program, P: Port
     ensures same_rank { P.rank port.new ≡ P.rank port.old }
     ensures same_slots { P.slots port.new ≡ P.slots port.old }
     ensures rest { P.rest port.new ≡ P.rest port.old }
-    ensures epoch { OnOk result (rank.new.over ≡ false → epoch_in rank.new.node.mover
-        ≤ epoch_in rank.old.node.mover + 1) }
+    ensures steps { steps.new ≡ steps.old + 1 }
+    ensures epoch { OnOk result (progress rank.new ≤ progress rank.old + 1) }
     ensures kept { OnOk result ((manner : Manner) (h : ℕ → Q)
         → IsRank Q.rules (P.dims port.old) CAP manner (P.rank port.old) h rank.old (P.sent port.old) (P.got port.old)
         → (g : ℕ → Q) × (g 0 ≡ h 0) × IsRank Q.rules (P.dims port.old) CAP manner (P.rank port.old) g rank.new

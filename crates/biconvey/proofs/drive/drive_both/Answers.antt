@@ -1,5 +1,5 @@
 use Rattle.std.proofs.Common.{rules, ◌≡◌, false, [], ◌∷◌, sym, subst}
-use Rattle.list_laws.proofs.Results.{if_ok_from, if_ok_is}
+use Rattle.list_laws.proofs.Results.{on_ok_from, if_ok_from, if_ok_is}
 use Rattle.route_tensor.specs.Grid.{ranks}
 use Rattle.port_bank.specs.Plain.{Bank, closed}
 use Rattle.port_bank.specs.Round.{IsRound}
@@ -8,7 +8,7 @@ use Rattle.rank_group.specs.declared.closed_round.ClosedRound.{ClosedRound}
 use Rattle.rank_group.specs.Rounds.{round_of}
 use Rattle.round_program.specs.Replies.{HaveHeard}
 use Rattle.biconvey.specs.Drives.{TellsExchange, askers_of}
-use Rattle.biconvey.proofs.Ended.{first, banks_first, world_first, begins, steps_at, world_last, banks_last, have_heard, told}
+use Rattle.biconvey.proofs.Ended.{first, banks_first, world_first, begins, steps_at, fewest_at, world_last, banks_last, have_heard, told}
 use Rattle.biconvey.proofs.drive.drive_both.Goals as goal
 
 pub run_all-requires : goal.run_all-requires
@@ -54,3 +54,9 @@ returns-clause-rounds g c =
     (λ f e.
     let x = if_ok_is (λ f. (q : ClosedRound) × (r : ClosedRound) × (f.rounds ≡ q ∷ r ∷ []) × (round_of q ≡ closed g.row.CAP b.queries) × IsRound (round_of q) × (round_of r ≡ closed g.row.CAP b.replies) × IsRound (round_of r)) c.finish.result f e c.finish.ensures.rounds in
     (x.0, x.1, x.2, told T g.met.A.Asker.laws c.closes_law.ensures g.row.CAP c.args.grid.now c.args.slots c.args.steady c.args.askers (first g.A.Asker.talk g.row.CAP c.args.grid.now c.args.slots c.args.steady c.args.askers c.in_ok-all.all.items c.in_ok-banks.banks.queries c.in_ok-banks.banks.replies c.in_ok-all.ensures c.requires.askers c.requires.some c.in_ok-banks.ensures.queries c.in_ok-banks.ensures.replies c.in_ok-banks.ensures.lawful).0 ns b.queries b.replies c.requires.askers banks w c.in_ok-banks-2.ensures.over (round_of x.0) (round_of x.1) x.3 x.4 x.5 x.6))
+
+pub returns-clause-fewest : goal.returns-clause-fewest
+returns-clause-fewest g c =
+    on_ok_from c.finish.result
+    (λ f e. fewest_at g.A.Asker.talk g.row.CAP c.args.grid.now c.args.slots c.args.steady c.args.askers c.in_ok-all.all.items c.in_ok-banks.banks.queries c.in_ok-banks.banks.replies c.in_ok-all.ensures c.requires.askers c.requires.some c.in_ok-banks.ensures.queries c.in_ok-banks.ensures.replies c.in_ok-banks.ensures.lawful
+    c.args.steps.now c.run_all.new.steps c.in_ok-banks-2.ensures.fewest)

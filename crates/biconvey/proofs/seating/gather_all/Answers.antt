@@ -9,8 +9,8 @@ pub gather-requires : goal.gather-requires
 gather-requires g c =
     let i = c.seated.inside in
     let sq = c.into_seat.result in
-    let y : SeatedState g.row.A.Denot = record { node = i.node; queries = sq; replies = i.replies.port.seat } in
-    let here = ap (λ s. record { node = i.node; queries = s; replies = i.replies.port.seat }) c.into_seat.ensures.seat ∙ c.seated.view_is in
+    let y : SeatedState g.row.A.Denot = record { node = i.node; queries = sq; replies = i.replies.port.seat; turns = i.turns } in
+    let here = ap (λ s. record { node = i.node; queries = s; replies = i.replies.port.seat; turns = i.turns }) c.into_seat.ensures.seat ∙ c.seated.view_is in
     let rest = c.next.new.self in
     let v = c.loop-seated.invariant.leaving in
     let is = c.in-Some.ensures.steps ∙ ap (λ z. z ∷ rest) (sym here) in
@@ -21,8 +21,8 @@ pub gather-requires-in-loop-seated : goal.gather-requires-in-loop-seated
 gather-requires-in-loop-seated g c =
     let i = c.seated.inside in
     let sp = c.into_seat-in-loop-seated.result in
-    let y : SeatedState g.row.A.Denot = record { node = i.node; queries = i.queries.port.seat; replies = sp } in
-    let here = ap (λ s. record { node = i.node; queries = i.queries.port.seat; replies = s }) c.into_seat-in-loop-seated.ensures.seat ∙ c.seated.view_is in
+    let y : SeatedState g.row.A.Denot = record { node = i.node; queries = i.queries.port.seat; replies = sp; turns = i.turns } in
+    let here = ap (λ s. record { node = i.node; queries = i.queries.port.seat; replies = s; turns = i.turns }) c.into_seat-in-loop-seated.ensures.seat ∙ c.seated.view_is in
     let rest = c.next.new.self in
     let v = c.loop-seated.invariant.leaving in
     let is = c.in-Some.ensures.steps ∙ ap (λ z. z ∷ rest) (sym here) in
@@ -44,8 +44,8 @@ loop-seated-preserved g c =
     let i = c.seated.inside in
     let sq = c.into_seat.result in
     let sp = c.into_seat-in-loop-seated.result in
-    let y : SeatedState g.row.A.Denot = record { node = i.node; queries = sq; replies = sp } in
-    let here = ap (λ s. record { node = i.node; queries = s; replies = sp }) c.into_seat.ensures.seat ∙ (ap (λ s. record { node = i.node; queries = i.queries.port.seat; replies = s }) c.into_seat-in-loop-seated.ensures.seat ∙ c.seated.view_is) in
+    let y : SeatedState g.row.A.Denot = record { node = i.node; queries = sq; replies = sp; turns = i.turns } in
+    let here = ap (λ s. record { node = i.node; queries = s; replies = sp; turns = i.turns }) c.into_seat.ensures.seat ∙ (ap (λ s. record { node = i.node; queries = i.queries.port.seat; replies = s; turns = i.turns }) c.into_seat-in-loop-seated.ensures.seat ∙ c.seated.view_is) in
     let rest = c.next.new.self in
     let v = c.loop-seated.invariant.leaving in
     let t = c.gather.ensures in

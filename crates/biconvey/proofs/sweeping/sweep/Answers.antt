@@ -10,6 +10,7 @@ loop-i-init g c =
     record {
       banks = c.requires.banks;
       most_steps = omega arith;
+      fewest_steps = omega arith;
       swept = λ steady starts w. swept_none g.A.Asker.talk c.args.banks.queries.dims g.row.CAP c.args.banks.queries.slots steady starts c.args.order.now c.args.all.now.items (sides_of c.args.banks.queries c.args.banks.replies) w;
     }
 

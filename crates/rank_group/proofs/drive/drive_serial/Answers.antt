@@ -1,11 +1,15 @@
-use Rattle.std.proofs.Common.{rules, [], ◌∷◌, ◌++◌, sym, ap, subst, ◌∙◌}
+use Rattle.std.proofs.Common.{rules, ◌≡◌, ◌+◌, ◌<◌, ◌≤◌, [], ◌∷◌, ◌++◌, length, sym, ap, subst, ◌∙◌, arith}
 use Rattle.port_bank.specs.Plain.{Bank, sent_of, got_of}
 use Rattle.route_tensor.specs.Grid.{ranks}
+use Rattle.route_tensor.specs.Link.{links}
+use Rattle.port_bank.specs.Round.{logs_of}
+use Rattle.rank_group.specs.Rounds.{round_of}
 use Rattle.rank_node.specs.Movers.{manner_of}
 use Rattle.rank_group.specs.Ranks.{IsOrder}
 use Rattle.rank_group.specs.Turns.{Scene, SweepsOf}
+use Rattle.rank_group.specs.Worlds.{all_progress}
 use Rattle.rank_group.specs.declared.closed_round.ClosedRound.TheVariants.{Plain}
-use Rattle.rank_group.proofs.Ended.{run_needs, steps_at, world_after, have_ended, told}
+use Rattle.rank_group.proofs.Ended.{run_needs, steps_at, world_after, have_ended, told, fewest_turns, only_one, none_first, all_sent}
 use Rattle.rank_group.proofs.drive.drive_serial.Goals as goal
 
 pub run_all-requires : goal.run_all-requires
@@ -66,11 +70,32 @@ pub returns-clause-order : goal.returns-clause-order
 returns-clause-order g c =
     let swept = c.in_ok-bank-2.ensures.order in
     let first = c.in_ok-all.all.items in
-    let last : Scene g.row.Q.Denot = record { ranks = c.run_all.new.all.items; sent = sent_of c.in_ok-bank-2.bank; got = got_of c.in_ok-bank-2.bank } in (
-      swept.0,
-      first,
-      last,
-      c.in_ok-all.ensures.fresh,
-      sym c.in_ok-progs.ensures.progs,
-      subst (λ (b : Bank). SweepsOf g.Q.Program.rules b.dims g.row.CAP b.slots c.args.order.now swept.0 (record { ranks = first; sent = sent_of b; got = got_of b }) last) c.in_ok-bank.ensures.made swept.1,
-    )
+    let last : Scene g.row.Q.Denot = record { ranks = c.run_all.new.all.items; sent = sent_of c.in_ok-bank-2.bank; got = got_of c.in_ok-bank-2.bank } in
+    record {
+      sweeps = swept.0;
+      first = first;
+      last = last;
+      fresh = c.in_ok-all.ensures.fresh;
+      ended = sym c.in_ok-progs.ensures.progs;
+      swept = subst (λ (b : Bank). SweepsOf g.Q.Program.rules b.dims g.row.CAP b.slots c.args.order.now swept.0 (record { ranks = first; sent = sent_of b; got = got_of b }) last) c.in_ok-bank.ensures.made swept.1;
+    }
+
+pub returns-clause-posted : goal.returns-clause-posted
+returns-clause-posted g c = λ round is l below.
+    let rounds = c.in_ok-add.ensures.added ∙ ap (λ xs. xs ++ Plain c.close.result ∷ []) c.new-rounds.ensures in
+    let same : Plain c.close.result ≡ round = only_one (Plain c.close.result) round (sym rounds ∙ is) in
+    let dims = ap (λ (b : Bank). b.dims) c.in_ok-bank.ensures.made in
+    let told = c.in_ok-bank-2.ensures.posted l (subst (λ d. l < links d) (sym dims) below) in
+    let none : length (sent_of c.in_ok-bank.bank l) ≡ 0 = ap (λ (b : Bank). length (sent_of b l)) c.in_ok-bank.ensures.made ∙ none_first c.args.grid.now c.args.slots l in
+    let all : length (logs_of (round_of round).sent l) ≡ length (sent_of c.in_ok-bank-2.bank l) = ap (λ x. length (logs_of (round_of x).sent l)) (sym same) ∙ all_sent g.row.CAP c.in_ok-bank-2.bank c.close.result l c.close.ensures.round in
+    omega (arith, told, none, all)
+
+pub returns-clause-fewest : goal.returns-clause-fewest
+returns-clause-fewest g c = λ n rounds.
+    let w = world_after g.Q.Program.rules g.met.Q.Program.laws g.row.CAP c.args.grid.now c.args.slots (manner_of c.args.via c.args.steady) c.args.progs c.requires.begins.0 c.requires.begins.1 c.requires.begins.2 c.requires.begins.3 c.in_ok-all.all.items c.in_ok-all.ensures.fresh c.requires.some
+    c.in_ok-bank.bank c.in_ok-bank.ensures.made c.in_ok-bank.ensures.lawful c.run_all.new.all.items c.in_ok-bank-2.bank c.in_ok-bank-2.ensures.world in
+    let ed = c.in_ok-bank-2.ensures.same_dims ∙ ap (λ (b : Bank). b.dims) c.in_ok-bank.ensures.made in
+    let es = c.in_ok-bank-2.ensures.same_slots ∙ ap (λ (b : Bank). b.slots) c.in_ok-bank.ensures.made in
+    let more = subst (λ (b : Bank). all_progress b.dims c.run_all.new.all.items + c.args.steps.now ≤ all_progress b.dims c.in_ok-all.all.items + c.run_all.new.steps) c.in_ok-bank.ensures.made c.in_ok-bank-2.ensures.fewest in
+    fewest_turns g.Q.Program.rules g.met.Q.Program.laws c.closes_laws.ensures g.row.CAP c.args.grid.now c.args.slots (manner_of c.args.via c.args.steady) c.args.progs w.0 c.run_all.new.all.items c.in_ok-bank-2.bank ed es w.1.ranked (c.in_ok-bank-2.ensures.over) c.requires.begins.0 c.requires.begins.1 n c.requires.begins.2 rounds
+    c.in_ok-all.all.items c.in_ok-all.ensures.fresh c.args.steps.now c.run_all.new.steps more

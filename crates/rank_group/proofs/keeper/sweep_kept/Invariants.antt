@@ -7,5 +7,5 @@ use Rattle.rank_group.proofs.keeper.sweep_kept.Given as goal
 abbrev pub invariant-loop-i : goal.invariant-loop-i
 invariant-loop-i g l = record {
   same : map first_of l.children.items ≡ map first_of l.fn.children.items;
-  ended : l.kept ≡ Over → (k : ℕ) (x : Child g.row.A.Denot) → k < l.i → slice_get l.children.items k ≡ Some x → HasEnded g.A.Seated.over x;
+  ended : l.kept ≡ Over → (k : ℕ) (x : Child g.row.A.Denot g.row.J.Denot) → k < l.i → slice_get l.children.items k ≡ Some x → HasEnded g.A.Seated.over x;
 }

@@ -1,16 +1,18 @@
-use Rattle.std.proofs.Common.{suc, rules, refl, arith, sym, ap, subst, ◌∙◌}
+use Rattle.std.proofs.Common.{suc, ◌+◌, ◌<◌, ◌≤◌, rules, refl, arith, sym, ap, subst, ◌∙◌}
 use Rattle.std.specs.List.{list_all}
 use Rattle.port_bank.specs.Plain.{sent_of, got_of}
 use Rattle.route_tensor.specs.Grid.{ranks}
+use Rattle.route_tensor.specs.Link.{links}
 use Rattle.rank_group.specs.Ranks.{RankState, IsOrder}
 use Rattle.rank_group.specs.Drives.{progs_of}
 use Rattle.rank_group.specs.Turns.{Scene, TurnsOf}
+use Rattle.rank_group.specs.Worlds.{all_progress}
 use Rattle.rank_group.proofs.Ordered.{sweeps_more}
 use Rattle.rank_group.proofs.Driven.{some_goes, each_over, steps_low, steps_lower, driving_none, driving_more, world_now, fewer_left}
 use Rattle.rank_group.proofs.running.run_all.Goals as goal
 
 pub loop-bank-init : goal.loop-bank-init
-loop-bank-init g c = record { swept = (0, refl); driving = driving_none g.Q.Program.rules g.row.CAP c.args.all.now.items c.args.bank c.args.steps.now c.requires.lawful }
+loop-bank-init g c = record { completed = omega arith; posted = λ l below. omega arith; swept = (0, refl); driving = driving_none g.Q.Program.rules g.row.CAP c.args.all.now.items c.args.bank c.args.steps.now c.requires.lawful }
 
 pub returns-then-all_over-clause-over : goal.returns-then-all_over-clause-over
 returns-then-all_over-clause-over g c = each_over c.loop-bank.all.items (ap (list_all (λ (n : RankState g.row.Q.Denot). n.over)) (sym c.deref.ensures.value) ∙ (sym c.all_over.ensures ∙ c.if-all_over.true))
@@ -70,7 +72,14 @@ loop-bank-preserved g c =
     let one = subst (λ d. TurnsOf R d g.row.CAP c.args.bank.slots c.args.order.now before after) v.same_dims
     (subst (λ k. TurnsOf R c.loop-bank.bank.dims g.row.CAP k c.args.order.now before after) v.same_slots c.in_ok-bank.ensures.order) in
     let so_far = c.loop-bank.invariant.swept in
+    let more = subst (λ d. all_progress d c.sweep.new.all.items + c.loop-bank.steps ≤ all_progress d c.loop-bank.all.items + c.sweep.new.steps) v.same_dims c.in_ok-bank.ensures.fewest in
+    let done = c.loop-bank.invariant.completed in
     record {
+      completed = omega (arith, more, done);
+      posted = λ l below.
+          let one = c.in_ok-bank.ensures.posted l (subst (λ d. l < links d) (sym v.same_dims) below) in
+          let so = c.loop-bank.invariant.posted l below in
+          omega (arith, one, so);
       driving = driving;
       swept = (suc so_far.0, sweeps_more R c.args.bank.dims g.row.CAP c.args.bank.slots c.args.order.now so_far.0 first before after so_far.1 one);
     }

@@ -25,6 +25,8 @@ loop-i-init g c =
           over = λ q r x low. absurd (omega (arith, low));
         });
         fewest = omega arith;
+        completed = omega arith;
+        posted = λ l below. omega arith;
         swept = λ manner starts n h p w. swept_none g.Q.Program.rules c.args.bank.dims g.row.CAP c.args.bank.slots manner starts c.args.order.now h c.args.all.now.items (sent_of c.args.bank) (got_of c.args.bank) w;
       };
       turns = refl;

@@ -44,6 +44,7 @@ returns-clause-turned g c =
       node_epoch = c.turn.ensures.epoch;
       sent_grows = c.turn.ensures.sent_grows;
       got_grows = c.turn.ensures.got_grows;
+      one_sent = c.turn.ensures.one_sent;
       shape = c.turn.ensures.shape;
       leaves = c.turn.ensures.leaves;
       kept = c.turn.ensures.kept;

@@ -1,5 +1,4 @@
-use Rattle.std.proofs.Common.{◌≡◌, ◌≤◌, ◌++◌, true, List, length, map, reverse, vec_capacity}
-use Rattle.std.specs.List.{All}
+use Rattle.std.proofs.Common.{◌≡◌, ◌≤◌, ◌++◌, List, length, map, reverse, vec_capacity}
 use Rattle.rank_group.specs.Runs.{AllRan}
 use Rattle.rank_group.specs.Children.{first_of}
 use Rattle.rank_group.proofs.together.join_all.Given as goal
@@ -9,9 +8,8 @@ abbrev pub invariant-loop-child : goal.invariant-loop-child
 invariant-loop-child g l = record {
   back : List g.row.A.Denot;
   left : back ++ reverse (map first_of l.children.items) ≡ reverse (map first_of l.fn.children.items);
-  ran : AllRan g.A.Seated.ran back l.ended.items;
-  over : All (λ y. g.A.Seated.over y ≡ true) l.ended.items;
-  room : length l.fn.children.items ≤ vec_capacity l.ended;
+  ran : AllRan (g.A.Seated.ran g.J.Telling.told) back l.back.items;
+  room : length l.fn.children.items ≤ vec_capacity l.back;
 }
 
 abbrev pub decreases-loop-child : goal.decreases-loop-child

@@ -1,6 +1,6 @@
-use Rattle.std.proofs.Common.{rules, ◌<◌, ◌^◌, refl, ap, Ok, ◌∙◌, sym, subst}
+use Rattle.std.proofs.Common.{rules, ◌≡◌, ◌+◌, ◌<◌, ◌^◌, Bool, true, false, not, cond, refl, ap, Ok, ◌∙◌, sym, subst, arith}
 use Rattle.rank_node.specs.Movers.{epoch_in}
-use Rattle.rank_group.specs.Ranks.{RankState, IsRank}
+use Rattle.rank_group.specs.Ranks.{RankState, IsRank, progress}
 use Rattle.rank_group.proofs.OneTurn.{OneTurn, NextTold, stays_in, goes_on}
 use Rattle.rank_node.proofs.Halted.{ok_once}
 use Rattle.rank_group.proofs.turning.turn_over.Goals as goal
@@ -73,3 +73,24 @@ returns-in_ok-rank-inside-in-Ended-clause-kept g c = λ manner h is.
       stopped = λ e. c.in_ok-rank-inside-in-Ended.ensures.stopped (ap Ok e);
     } in
     goes_on R (P.dims p) g.row.CAP (P.rank p) manner h inside c.turn.new.self (P.sent p) (P.got p) (P.sent q) (P.got q) mine on t c.next.new.self more x
+
+pub returns-in-Going-clause-epoch : goal.returns-in-Going-clause-epoch
+returns-in-Going-clause-epoch g c =
+    let e = c.turn.ensures.epoch in
+    let on = ap (λ (m : RankState g.row.Q.Denot). m.over) c.rank.view_is ∙ c.requires.going in
+    let was = ap (λ (m : RankState g.row.Q.Denot). progress m) c.rank.view_is in
+    let here = ap (λ b. cond b (epoch_in c.rank.inside.node.mover + 1) (epoch_in c.rank.inside.node.mover)) on in
+    let now = ap (λ b. cond b (epoch_in c.turn.new.self.mover + 1) (epoch_in c.turn.new.self.mover)) on in
+    omega (arith, e, was, here, now)
+
+pub returns-in_ok-rank-inside-in-Ended-clause-epoch : goal.returns-in_ok-rank-inside-in-Ended-clause-epoch
+returns-in_ok-rank-inside-in-Ended-clause-epoch g c =
+    let e = c.turn.ensures.epoch in
+    let on = ap (λ (m : RankState g.row.Q.Denot). m.over) c.rank.view_is ∙ c.requires.going in
+    let was = ap (λ (m : RankState g.row.Q.Denot). progress m) c.rank.view_is in
+    let here = ap (λ b. cond b (epoch_in c.rank.inside.node.mover + 1) (epoch_in c.rank.inside.node.mover)) on in
+    let now : progress (record { node = c.next.new.self; over = not c.in_ok-rank-inside-in-Ended.field-0 }) ≡ epoch_in c.turn.new.self.mover + 1 = by c.in_ok-rank-inside-in-Ended.field-0 refl in
+    omega (arith, e, was, here, now) where
+      by : (more : Bool) → c.in_ok-rank-inside-in-Ended.field-0 ≡ more → progress (record { node = c.next.new.self; over = not c.in_ok-rank-inside-in-Ended.field-0 }) ≡ epoch_in c.turn.new.self.mover + 1
+      by true is = ap (λ b. cond (not b) (epoch_in c.next.new.self.mover + 1) (epoch_in c.next.new.self.mover)) is ∙ c.in_ok-rank-inside-in-Ended.ensures.epoch (ap Ok is)
+      by false is = ap (λ b. cond (not b) (epoch_in c.next.new.self.mover + 1) (epoch_in c.next.new.self.mover)) is ∙ ap (λ m. epoch_in m + 1) (c.in_ok-rank-inside-in-Ended.ensures.stays (ap Ok is))

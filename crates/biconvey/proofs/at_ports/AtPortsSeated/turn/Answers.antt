@@ -1,4 +1,4 @@
-use Rattle.std.proofs.Common.{◌≡◌, ◌==◌, not, ◌||◌, ap, sym, subst, ◌∙◌}
+use Rattle.std.proofs.Common.{◌≡◌, ◌==◌, ◌+◌, true, not, ◌||◌, ap, sym, subst, ◌∙◌, arith}
 use Rattle.port_bank.specs.Port.{Rest}
 use Rattle.rank_group.proofs.Crewed.{neither}
 use Rattle.biconvey.specs.Seats.{SeatedState, HasWay, Ran, HaveSame}
@@ -12,11 +12,12 @@ invariant_of-self g c =
     let p = c.watch-2.new.self.port.seat in
     let n = c.turn-2.new in
     let t = c.turn-2.ensures in
-    let x : SeatedState g.row.A.Denot = record { node = i.node; queries = q; replies = p } in
-    let was : SeatedState g.row.A.Denot = record { node = i.node; queries = i.queries.port.seat; replies = i.replies.port.seat } in
-    let at : x ≡ was = ap (λ k. record { node = i.node; queries = k.seat; replies = p }) c.watch.ensures.port ∙ ap (λ k. record { node = i.node; queries = i.queries.port.seat; replies = k.seat }) c.watch-2.ensures.port in
-    has_way g.A.Asker.talk g.row.CAP x _ (subst (HasWay g.A.Asker.talk g.row.CAP) (sym at) c.self.invariant)
-    (turned g.A.Asker.talk g.row.CAP i.node n.self q n.queries.port.seat p n.replies.port.seat
+    let x : SeatedState g.row.A.Denot = record { node = i.node; queries = q; replies = p; turns = i.turns } in
+    let was : SeatedState g.row.A.Denot = record { node = i.node; queries = i.queries.port.seat; replies = i.replies.port.seat; turns = i.turns } in
+    let at : x ≡ was = ap (λ k. record { node = i.node; queries = k.seat; replies = p; turns = i.turns }) c.watch.ensures.port ∙ ap (λ k. record { node = i.node; queries = i.queries.port.seat; replies = k.seat; turns = i.turns }) c.watch-2.ensures.port in
+    let heard = subst (λ k. g.G.Gate.told c.args.gate.now k i.turns ≡ true) (sym (ap (λ k. k.seat.rank) c.watch.ensures.port)) (subst (λ k. g.G.Gate.told c.args.gate.now k i.turns ≡ true) c.rank.ensures.value c.turn.ensures.told) in
+    has_way g.A.Asker.talk g.row.CAP (g.G.Gate.told c.args.gate.now) x _ (subst (HasWay g.A.Asker.talk g.row.CAP) (sym at) c.self.invariant)
+    (turned g.A.Asker.talk g.row.CAP (g.G.Gate.told c.args.gate.now) i.node n.self q n.queries.port.seat p n.replies.port.seat i.turns heard
     (one_seat q n.queries.port.seat (ap (λ (r : Rest). r.bank) t.queries_rest) t.queries_dims t.queries_slots t.queries_rank)
     (one_seat p n.replies.port.seat (ap (λ (r : Rest). r.bank) t.replies_rest) t.replies_dims t.replies_slots t.replies_rank)
     t.dims t.rank t.steady t.steady_replies t.kept t.queries_shape t.replies_shape)
@@ -28,16 +29,18 @@ returns g c =
     let p = c.watch-2.new.self.port.seat in
     let n = c.turn-2.new in
     let t = c.turn-2.ensures in
-    let x : SeatedState g.row.A.Denot = record { node = i.node; queries = q; replies = p } in
-    let was : SeatedState g.row.A.Denot = record { node = i.node; queries = i.queries.port.seat; replies = i.replies.port.seat } in
-    let at : x ≡ was = ap (λ k. record { node = i.node; queries = k.seat; replies = p }) c.watch.ensures.port ∙ ap (λ k. record { node = i.node; queries = i.queries.port.seat; replies = k.seat }) c.watch-2.ensures.port in
-    let y : SeatedState g.row.A.Denot = record { node = n.self; queries = n.queries.port.seat; replies = n.replies.port.seat } in
+    let x : SeatedState g.row.A.Denot = record { node = i.node; queries = q; replies = p; turns = i.turns } in
+    let was : SeatedState g.row.A.Denot = record { node = i.node; queries = i.queries.port.seat; replies = i.replies.port.seat; turns = i.turns } in
+    let at : x ≡ was = ap (λ k. record { node = i.node; queries = k.seat; replies = p; turns = i.turns }) c.watch.ensures.port ∙ ap (λ k. record { node = i.node; queries = i.queries.port.seat; replies = k.seat; turns = i.turns }) c.watch-2.ensures.port in
+    let y : SeatedState g.row.A.Denot = record { node = n.self; queries = n.queries.port.seat; replies = n.replies.port.seat; turns = i.turns + 1 } in
+    let heard = subst (λ k. g.G.Gate.told c.args.gate.now k i.turns ≡ true) (sym (ap (λ k. k.seat.rank) c.watch.ensures.port)) (subst (λ k. g.G.Gate.told c.args.gate.now k i.turns ≡ true) c.rank.ensures.value c.turn.ensures.told) in
     record {
-      ran = subst (λ (z : SeatedState g.row.A.Denot). Ran g.A.Asker.talk g.row.CAP z y) (at ∙ c.self.view_is)
-          (turned g.A.Asker.talk g.row.CAP i.node n.self q n.queries.port.seat p n.replies.port.seat
+      ran = subst (λ (z : SeatedState g.row.A.Denot). Ran g.A.Asker.talk g.row.CAP (g.G.Gate.told c.args.gate.now) z y) (at ∙ c.self.view_is)
+          (turned g.A.Asker.talk g.row.CAP (g.G.Gate.told c.args.gate.now) i.node n.self q n.queries.port.seat p n.replies.port.seat i.turns heard
           (one_seat q n.queries.port.seat (ap (λ (r : Rest). r.bank) t.queries_rest) t.queries_dims t.queries_slots t.queries_rank)
           (one_seat p n.replies.port.seat (ap (λ (r : Rest). r.bank) t.replies_rest) t.replies_dims t.replies_slots t.replies_rank)
           t.dims t.rank t.steady t.steady_replies t.kept t.queries_shape t.replies_shape);
+      counted = omega (arith, ap (λ (x : SeatedState g.row.A.Denot). x.turns) c.self.view_is, t.steps);
       still = λ none.
           let asked = not (c.asked.result == c.asked-asked.result) in
           let last = neither (asked || c.moved.result) c.moved-2.result none in

@@ -2,7 +2,7 @@ use Rattle.std.proofs.Common.{rules, ◌≡◌, ◌+◌, ◌||◌, true, true≢
 use Rattle.port_bank.specs.Port.{Rest}
 use Rattle.rank_group.specs.Seats.{SeatedState, HasWay, Ran}
 use Rattle.rank_group.proofs.Crewed.{neither}
-use Rattle.rank_group.proofs.OnWay.{turned, gave_up, has_way, one_place}
+use Rattle.rank_group.proofs.OnWay.{turned, gave_up, has_way, one_place, going_progress}
 use Rattle.rank_group.proofs.at_port.AtPortSeated.turn.Goals as goal
 
 pub turn_over-requires : goal.turn_over-requires
@@ -13,9 +13,10 @@ turn_over-requires g c =
     let was : SeatedState g.row.Q.Denot = record { rank = i.rank; seat = i.port.port.seat; turns = i.turns; lost = i.lost } in
     let at : x ≡ was = ap (λ p. record { rank = i.rank; seat = p.seat; turns = i.turns; lost = i.lost }) c.watch.ensures.port in
     let w = subst (HasWay g.Q.Program.rules g.row.CAP) (sym at) c.self.invariant in
-    let few = w.way.few n.1 n.0 in
+    let few = w.way.few n.1 in
+    let here = going_progress i.rank n.0 in
     let below = c.await_turn.ensures in
-    (search rules, (refl, (n.0, (omega (arith, few, below), (w.manner, w.h, w.way.runs n.1)))))
+    (search rules, (refl, (n.0, (omega (arith, few, here, below), (w.manner, w.h, w.way.runs n.1)))))
 
 pub returns-after-got_on-clause-ran : goal.returns-after-got_on-clause-ran
 returns-after-got_on-clause-ran g c =
@@ -27,9 +28,13 @@ returns-after-got_on-clause-ran g c =
     let at : x ≡ was = ap (λ p. record { rank = i.rank; seat = p.seat; turns = i.turns; lost = i.lost }) c.watch.ensures.port in
     let t = c.turn_over.ensures in
     let seat = c.turn_over.new.port.port.seat in
+    let heard = subst (λ k. g.G.Gate.told c.args.gate.now k i.turns ≡ true) (sym (ap (λ p. p.seat.rank) c.watch.ensures.port)) (subst (λ k. g.G.Gate.told c.args.gate.now k i.turns ≡ true) c.rank.ensures.value c.turn.ensures.told) in
     let same = one_place x seat (ap (λ (r : Rest). r.bank) t.rest) t.same_dims t.same_slots in
     let y : SeatedState g.row.Q.Denot = record { rank = c.turn_over.new.rank; seat = seat; turns = i.turns + 1; lost = i.lost } in
-    subst (λ (z : SeatedState g.row.Q.Denot). Ran R g.row.CAP z y) (at ∙ c.self.view_is) (turned R g.row.CAP x c.turn_over.new.rank seat same t.same_rank n.1 n.0 c.in-Ok.ensures.epoch c.in-Ok.ensures.kept)
+    subst (λ (z : SeatedState g.row.Q.Denot). Ran R g.row.CAP (g.G.Gate.told c.args.gate.now) z y) (at ∙ c.self.view_is) (turned R g.row.CAP x c.turn_over.new.rank seat same t.same_rank (g.G.Gate.told c.args.gate.now) heard n.1 n.0 c.in-Ok.ensures.epoch c.in-Ok.ensures.kept)
+
+pub returns-after-got_on-clause-counted : goal.returns-after-got_on-clause-counted
+returns-after-got_on-clause-counted g c = omega (arith, ap (λ (x : SeatedState g.row.Q.Denot). x.turns) c.self.view_is, c.turn_over.ensures.steps)
 
 pub returns-in-Err : goal.returns-in-Err
 returns-in-Err g c =
@@ -40,10 +45,12 @@ returns-in-Err g c =
     let at : x ≡ was = ap (λ p. record { rank = i.rank; seat = p.seat; turns = i.turns; lost = i.lost }) c.watch.ensures.port in
     let t = c.turn_over.ensures in
     let seat = c.turn_over.new.port.port.seat in
+    let heard = subst (λ k. g.G.Gate.told c.args.gate.now k i.turns ≡ true) (sym (ap (λ p. p.seat.rank) c.watch.ensures.port)) (subst (λ k. g.G.Gate.told c.args.gate.now k i.turns ≡ true) c.rank.ensures.value c.turn.ensures.told) in
     let same = one_place x seat (ap (λ (r : Rest). r.bank) t.rest) t.same_dims t.same_slots in
     let y : SeatedState g.row.Q.Denot = record { rank = c.turn_over.new.rank; seat = seat; turns = i.turns + 1; lost = true } in
     record {
-      ran = subst (λ (z : SeatedState g.row.Q.Denot). Ran R g.row.CAP z y) (at ∙ c.self.view_is) (gave_up R g.row.CAP x c.turn_over.new.rank seat same t.same_rank);
+      ran = subst (λ (z : SeatedState g.row.Q.Denot). Ran R g.row.CAP (g.G.Gate.told c.args.gate.now) z y) (at ∙ c.self.view_is) (gave_up R g.row.CAP x c.turn_over.new.rank seat same t.same_rank (g.G.Gate.told c.args.gate.now) heard);
+      counted = omega (arith, ap (λ (x : SeatedState g.row.Q.Denot). x.turns) c.self.view_is, c.turn_over.ensures.steps);
       still = λ none. absurd (true≢false none);
     }
 
@@ -57,8 +64,9 @@ invariant_of-self g c =
     let at : x ≡ was = ap (λ p. record { rank = i.rank; seat = p.seat; turns = i.turns; lost = i.lost }) c.watch.ensures.port in
     let t = c.turn_over.ensures in
     let seat = c.turn_over.new.port.port.seat in
+    let heard = subst (λ k. g.G.Gate.told c.args.gate.now k i.turns ≡ true) (sym (ap (λ p. p.seat.rank) c.watch.ensures.port)) (subst (λ k. g.G.Gate.told c.args.gate.now k i.turns ≡ true) c.rank.ensures.value c.turn.ensures.told) in
     let same = one_place x seat (ap (λ (r : Rest). r.bank) t.rest) t.same_dims t.same_slots in
-    has_way R g.row.CAP x _ (subst (HasWay R g.row.CAP) (sym at) c.self.invariant) (turned R g.row.CAP x c.turn_over.new.rank seat same t.same_rank n.1 n.0 c.in-Ok.ensures.epoch c.in-Ok.ensures.kept)
+    has_way R g.row.CAP (g.G.Gate.told c.args.gate.now) x _ (subst (HasWay R g.row.CAP) (sym at) c.self.invariant) (turned R g.row.CAP x c.turn_over.new.rank seat same t.same_rank (g.G.Gate.told c.args.gate.now) heard n.1 n.0 c.in-Ok.ensures.epoch c.in-Ok.ensures.kept)
 
 pub invariant_of-self-in-Err : goal.invariant_of-self-in-Err
 invariant_of-self-in-Err g c =
@@ -69,5 +77,6 @@ invariant_of-self-in-Err g c =
     let at : x ≡ was = ap (λ p. record { rank = i.rank; seat = p.seat; turns = i.turns; lost = i.lost }) c.watch.ensures.port in
     let t = c.turn_over.ensures in
     let seat = c.turn_over.new.port.port.seat in
+    let heard = subst (λ k. g.G.Gate.told c.args.gate.now k i.turns ≡ true) (sym (ap (λ p. p.seat.rank) c.watch.ensures.port)) (subst (λ k. g.G.Gate.told c.args.gate.now k i.turns ≡ true) c.rank.ensures.value c.turn.ensures.told) in
     let same = one_place x seat (ap (λ (r : Rest). r.bank) t.rest) t.same_dims t.same_slots in
-    has_way R g.row.CAP x _ (subst (HasWay R g.row.CAP) (sym at) c.self.invariant) (gave_up R g.row.CAP x c.turn_over.new.rank seat same t.same_rank)
+    has_way R g.row.CAP (g.G.Gate.told c.args.gate.now) x _ (subst (HasWay R g.row.CAP) (sym at) c.self.invariant) (gave_up R g.row.CAP x c.turn_over.new.rank seat same t.same_rank (g.G.Gate.told c.args.gate.now) heard)

@@ -14,3 +14,5 @@ pub mod IgText
 pub mod SumsAsked
 pub mod SumsStarts
 pub mod Taken
+pub mod HistoTable
+pub mod IgTable

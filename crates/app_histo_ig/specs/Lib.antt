@@ -15,9 +15,12 @@ pub mod IgRuns
 pub mod IgSent
 pub mod IgView
 pub mod Igs
+pub mod Meanings
 pub mod OwnerLaws
 pub mod Owners
 pub mod Sums
 pub mod SumsLaws
 pub mod SumsRuns
 pub mod SumsView
+pub mod HistoTable
+pub mod IgTable

@@ -18,6 +18,15 @@
 //! alone (`specs/HistoLines` and `specs/IgLines`): no rank, no round and no order of items occurs there.
 //! sparse_rows' `proofs/EveryEntry` has the lemma that carries one to the other: after a round in which the ranks emit what is
 //! theirs of a list, each rank is as if it alone had gone through the list and absorbed what is sent to it.
+//!
+//! | Law | Round | A rank emits, in order |
+//! |---|---|---|
+//! | [`histo_rounds`] | 0 | for each own entry (i,j,v), to the owner of column j, (j,1,0) |
+//! | [`ig_rounds`], [`ig_sums_rounds`] | 0 | for each own entry, to the owner of column j, (j, bits of v, 0) |
+//! | [`ig_rounds`] | 1 | for each own entry, with its number e, to the owner of column j, (j,e,0) |
+//! | | 2 | for each entry in an own column, with its number e, to its rank, (e, bits of the column's sum, 0) |
+//!
+//! What the answers mean is in `specs/Meanings`, and what is emitted in `specs/HistoTable` and `specs/IgTable`.
 #![tactic(auto)]
 
 mod answered;
@@ -31,6 +40,7 @@ mod ig_lists;
 mod ig_run;
 mod ig_sent;
 mod ig_sums;
+mod rounds;
 mod seat;
 
 pub use answered::Answered;
@@ -41,3 +51,4 @@ pub use ig_asker::IgAsker;
 pub use ig_by_askers::{all_askers, ig_askers, ig_heard_write, ig_sums_start};
 pub use ig_run::{ig_start, ig_write};
 pub use ig_sums::IgSums;
+pub use rounds::{histo_rounds, ig_rounds, ig_sums_rounds};

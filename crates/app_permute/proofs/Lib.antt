@@ -1,5 +1,6 @@
 pub mod Answers
 pub mod CellWords
+pub mod Meanings
 pub mod PermuteCells
 pub mod PermuteNumbers
 pub mod PermuteOwners
@@ -7,3 +8,5 @@ pub mod Sent
 pub mod PermuteSteps
 pub mod TransposeBatches
 pub mod TransposeOwners
+pub mod PermuteTable
+pub mod TransposeTable

@@ -1,5 +1,6 @@
 pub mod Batches
 pub mod Carried
+pub mod Meanings
 pub mod Moved
 pub mod Perms
 pub mod PermuteLaws
@@ -12,3 +13,5 @@ pub mod TransposeLaws
 pub mod TransposeRuns
 pub mod TransposeView
 pub mod Transposes
+pub mod PermuteTable
+pub mod TransposeTable

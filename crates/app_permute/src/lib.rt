@@ -13,6 +13,15 @@
 //!
 //! The entries are dealt out in turn; row `i` and column `j` belong to ranks `i mod P` and `j mod P`. What the new matrices
 //! are is said of the matrix alone (`specs/Moved`): no rank, no round and no order of items occurs there.
+//!
+//! | Law | Round | A rank emits, in order |
+//! |---|---|---|
+//! | [`permute_rounds`] | 0 | for each own entry, to the owner of row i, (i, j, bits of v) |
+//! | | 1 | for each entry of an own row i, to the owner of column j, (p(i), j, bits of v) |
+//! | | 2 | for each entry of an own column j, to the owner of its new row p(i), (p(i), q(j), bits of v) |
+//! | [`transpose_rounds`] | 0 | for each own entry, to the owner of column j, (j, i, bits of v) |
+//!
+//! What the answers mean is in `specs/Meanings`, and what is emitted in `specs/PermuteTable` and `specs/TransposeTable`.
 #![tactic(auto)]
 
 mod carried;
@@ -20,6 +29,7 @@ mod perms;
 mod permute;
 mod permute_lists;
 mod permute_run;
+mod rounds;
 mod seat;
 mod sending;
 mod transpose;
@@ -28,5 +38,6 @@ mod transpose_run;
 pub use perms::{Perms, seed_perms};
 pub use permute::Permute;
 pub use permute_run::{permute_end, permute_start};
+pub use rounds::{permute_rounds, transpose_rounds};
 pub use transpose::Transpose;
 pub use transpose_run::{transpose_end, transpose_start};

@@ -4,3 +4,4 @@ pub mod Tallied
 pub mod TallyRounds
 pub mod Walked
 pub mod Written
+pub mod TallyTable

@@ -3,9 +3,11 @@ pub mod CountOrder
 pub mod Counts
 pub mod Cuts
 pub mod Lines
+pub mod Meanings
 pub mod Stores
 pub mod TallyLaws
 pub mod TallyRuns
 pub mod TallyView
 pub mod Tallies
 pub mod Texts
+pub mod TallyTable

@@ -10,12 +10,19 @@
 //! The lines are dealt out in turn, and each goes as one letter to the rank that is the sum of its bytes modulo the number of
 //! ranks. A rank appends what comes; all is sorted and counted once, at the end. What the answer is, is said of the lines
 //! alone (`specs/Counts`): no rank, no round and no item occurs there.
+//!
+//! | Law | Round | A rank emits, in order |
+//! |---|---|---|
+//! | [`tally_rounds`] | 0 | for each own line, to the rank that is the sum of its bytes modulo the ranks, its spelling |
+//!
+//! What the answer means is in `specs/Meanings`, and what is emitted in `specs/TallyTable`.
 #![tactic(auto)]
 
 mod counts;
 mod lines;
 mod mailer;
 mod read;
+mod rounds;
 mod run;
 mod strings;
 mod tally;
@@ -25,6 +32,7 @@ pub use counts::Counts;
 pub use lines::{Lines, LinesFault};
 pub use mailer::TallyMailer;
 pub use read::read_lines;
+pub use rounds::tally_rounds;
 pub use run::{tally_end, tally_start};
 pub use strings::Strings;
 pub use tally::Tally;

@@ -1,6 +1,7 @@
 pub mod Claimed
 pub mod Counting
 pub mod LevelFacts
+pub mod Meanings
 pub mod Printed
 pub mod TopoClaimRound
 pub mod TopoClaims
@@ -17,3 +18,4 @@ pub mod TopoStates
 pub mod TopoSteps
 pub mod TopoTables
 pub mod TopoText
+pub mod TopoTable

@@ -1,4 +1,5 @@
 pub mod Levels
+pub mod Meanings
 pub mod TopoEnds
 pub mod TopoLaws
 pub mod TopoLines
@@ -8,3 +9,4 @@ pub mod TopoSent
 pub mod TopoView
 pub mod Topos
 pub mod Triangular
+pub mod TopoTable

@@ -15,12 +15,21 @@
 //! levels are; neither has a rank or a round. `proofs/Printed` and `proofs/Claimed` prove both directions: the order of the levels is
 //! valid, and where any valid pair of permutations exists, every level takes a row until all have claimed. The other proofs
 //! tie the rounds to the levels.
+//!
+//! | Law | Round | A rank emits, in order |
+//! |---|---|---|
+//! | [`topo_rounds`] | 0 | for each own entry, to the owner of row i, (i,j,0), and then to that of column j, (j,i,1) |
+//! | | 2t + 1 | for each own row i of level t, to the owner of the column j that it claims, (j,i,2) |
+//! | | 2t + 2 | for each entry (i,j) of an own column that level t claimed, to the owner of row i, (i,j,3) |
+//!
+//! What the answer means is in `specs/Meanings`, and what is emitted in `specs/TopoTable`.
 #![tactic(auto)]
 
 mod lists;
 mod marks;
 mod order;
 mod placed;
+mod rounds;
 mod seat;
 mod sent;
 mod spans;
@@ -31,6 +40,7 @@ mod topo_run;
 
 pub use order::TopoOrder;
 pub use placed::Placed;
+pub use rounds::topo_rounds;
 pub use topo::Topo;
 pub use topo_answer::topo_end;
 pub use topo_lines::topo_write;

@@ -29,10 +29,10 @@ use Rattle.delta_step.proofs.FindRounds.{IsFinding}
 use Rattle.delta_step.proofs.Looks.{sum_more, sum_some}
 use Rattle.delta_step.proofs.OfferRounds.{vertex_at, at_vertex}
 use Rattle.delta_step.proofs.Transits.{Keeps, has_pick, was_pick}
-use Rattle.round_tables.specs.Emit.{Emit}
+use Rattle.sparse_rows.specs.Emits.{Emit}
 use Rattle.round_tables.specs.Sssp.{to_rows}
 use Rattle.round_tables.specs.Delta.{Look, is_light, is_active, some_active, next_phase, next_of, Finds, Changes, line_in, HasDeltaRounds, DeltaRounds}
-use Rattle.round_tables.proofs.Made.{emit_made, emit_each}
+use Rattle.sparse_rows.proofs.Emitted.{emit_made, emit_each}
 use Rattle.round_tables.proofs.SsspLists.{in_range_list}
 use Rattle.round_tables.proofs.DeltaLists.{any_there, there_any}
 use Rattle.round_tables.proofs.DeltaSteps.{all, look, all_in, rank_at, low_rank, phase_is, Known, Stepped, active_in, to_light, to_heavy, ToFind, to_find}

@@ -2,11 +2,6 @@ mod Delta
 mod DeltaLists
 mod DeltaSteps
 mod DeltaWeights
-mod Ig
-mod Made
-mod OneRound
-mod Permute
 mod Sssp
 mod SsspFound
 mod SsspLists
-mod Topo

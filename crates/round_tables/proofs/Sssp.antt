@@ -31,9 +31,9 @@ use Rattle.app_sssp.specs.SsspRuns.{IsGraph, sssp_begins, sssp_starts}
 use Rattle.app_sssp.proofs.Stages.{vertex_at, at_vertex}
 use Rattle.app_sssp.proofs.Begins.{graph_edges, own_edges, has_place}
 use Rattle.app_sssp.proofs.Ends.{run_ends, when_over}
-use Rattle.round_tables.specs.Emit.{Emit}
+use Rattle.sparse_rows.specs.Emits.{Emit}
 use Rattle.round_tables.specs.Sssp.{SsspRounds, HasSsspRounds, to_rows, improves, improved_with, offered, offers}
-use Rattle.round_tables.proofs.Made.{emit_made, emit_each}
+use Rattle.sparse_rows.proofs.Emitted.{emit_made, emit_each}
 use Rattle.round_tables.proofs.SsspFound.{over, at, found, over_in, run, small, least_within, fresh_is, fresh_in, source_fresh, table_is}
 use Rattle.round_tables.proofs.SsspLists.{flat_on, in_range_list, marks_are, vertex_in, own_vertices, IsLight, own_edges_are, offers_are}
 

@@ -14,7 +14,7 @@ use Rattle.delta_step.specs.declared.phase.Phase.{Phase}
 use Rattle.delta_step.specs.declared.phase.Phase.TheVariants.{First, Find, Light, Heavy}
 use Rattle.delta_step.specs.Deltas.{delta_rules, bucket_of}
 use Rattle.delta_step.specs.DeltaRuns.{delta_starts}
-use Rattle.round_tables.specs.Emit.{item, Emit}
+use Rattle.sparse_rows.specs.Emits.{item, Emit}
 use Rattle.round_tables.specs.Sssp.{to_rows, offered}
 
 -- What all ranks together know as a round is over.

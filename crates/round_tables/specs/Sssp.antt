@@ -13,7 +13,7 @@ use Rattle.least_walks.specs.Vertices.{is_better}
 use Rattle.least_walks.specs.Walks.{IsWalk, weight_of, AtMost}
 use Rattle.app_sssp.specs.Sssps.{sssp_rules}
 use Rattle.app_sssp.specs.SsspRuns.{IsGraph, sssp_starts}
-use Rattle.round_tables.specs.Emit.{item, Emit}
+use Rattle.sparse_rows.specs.Emits.{item, Emit}
 
 -- Round 0: each own entry, to the owner of its row.
 -- for each own entry (i,j,v) in order: to i mod ranks, (i, j, bits of v)

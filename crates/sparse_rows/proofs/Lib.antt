@@ -6,3 +6,4 @@ pub mod Joined
 pub mod Places
 pub mod Starts
 pub mod Turns
+pub mod Emitted

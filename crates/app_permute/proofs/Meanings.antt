@@ -1,0 +1,71 @@
+-- The matrices of permute and transpose, as finite maps.
+use Rattle.std.proofs.Common.{◌≡◌, ℕ, zero, suc, ◌<◌, ℤ, true, List, [], ◌∷◌, Some, Contains, length, get_or, arith, refl, sym, ap₂, ◌∙◌}
+use Rattle.std.specs.List.{AllPairs, range_with_len}
+use Rattle.std.proofs.lemmas.List.Elements.{All-contains}
+use Rattle.std.proofs.lemmas.List.FromFn.{get_or-range_with_len, length-range_with_len}
+use Rattle.std.proofs.lemmas.List.Sorted.{Contains-permutation}
+use Rattle.bale_types.specs.declared.triple.Triple.{Triple}
+use Rattle.mtx_text.specs.Sparse.{Sparse, IsSparse, SamePlace}
+use Rattle.mtx_text.specs.Cells.{InOrder, is_before}
+use Rattle.mtx_text.specs.Maps.{at, Agree}
+use Rattle.mtx_text.specs.Permutations.{Permutes}
+use Rattle.mtx_text.specs.Written.{text_of}
+use Rattle.mtx_text.proofs.Bands.{as_many}
+use Rattle.mtx_text.proofs.FiniteMaps.{listed, mapped}
+use Rattle.mtx_text.proofs.PlaceOrder.{not_same}
+use Rattle.app_permute.specs.Moved.{number_in, permuted, transposed, IsPermuted, IsTransposed}
+use Rattle.app_permute.proofs.Answers.{permuted_is, transposed_is}
+use Rattle.app_permute.specs.Meanings.{ComesFrom, PermuteMeans, TransposeMeans}
+
+-- entries in order stand at places of their own, so they are a finite map
+in_order : (m : Sparse) → InOrder m.entries → Agree m
+in_order m order =
+    let once : AllPairs (λ s t. ¬ SamePlace s t) m.entries = λ i j d l k same. apart (get_or m.entries i d) (get_or m.entries j d) (order i j d l k) same in
+    record { listed = λ e t h. listed m.entries e t once h; mapped = λ i j v h. mapped m.entries i j v h }
+  where
+    apart : (s t : Triple) → is_before s t ≡ true → SamePlace s t → ⊥
+    apart s t b same = not_same s.i s.j t.i t.j b same.row same.col
+
+-- a permutation reaches each number
+onto : (n : ℕ) (p : List ℕ) (k : ℕ) → Permutes n p → k < n → (i : ℕ) × (i < n) × (number_in p i ≡ k)
+onto n p k h low =
+    let there : get_or (range_with_len 0 n) k k ≡ k = get_or-range_with_len 0 n k k low ∙ omega arith in
+    let c : Contains p k = Contains-permutation (range_with_len 0 n) p k h (k, omega (arith, length-range_with_len 0 n), there) in
+    (c.0, omega (arith, c.1, as_many n p h), get_or_other p c.0 0 k c.1 ∙ c.2)
+  where
+    get_or_other : (xs : List ℕ) (i d e : ℕ) → i < length xs → get_or xs i d ≡ get_or xs i e
+    get_or_other [] i d e l = absurd (omega arith)
+    get_or_other (x ∷ xs) zero d e l = refl
+    get_or_other (x ∷ xs) (suc i) d e l = get_or_other xs i d e (omega arith)
+
+comes_from : (m b : Sparse) (p q : List ℕ) → Permutes m.rows p → Permutes m.cols q → IsPermuted p q m b → (k l : ℕ) (v : ℤ) → at b k l ≡ Some v → ComesFrom p q m k l v
+comes_from m b p q rows cols values k l v h =
+    let t : Triple = record { i = k; j = l; v = v } in
+    let inside : (k < m.rows) × (l < m.cols) = All-contains (λ (u : Triple). (u.i < m.rows) × (u.j < m.cols)) b.entries t values.inside (mapped b.entries k l v h) in
+    let i = onto m.rows p k rows inside.0 in
+    let j = onto m.cols q l cols inside.1 in
+    record {
+      i = i.0;
+      j = j.0;
+      row = i.2;
+      col = j.2;
+      value = sym (values.values i.0 j.0 i.1 j.1) ∙ ap₂ (λ a c. at b a c) i.2 j.2 ∙ h;
+    }
+
+pub permute_means : (m : Sparse) (p q : List ℕ) → IsSparse m → Permutes m.rows p → Permutes m.cols q → PermuteMeans p q m (text_of (permuted p q m))
+permute_means m p q is rows cols =
+    let values : IsPermuted p q m (permuted p q m) = permuted_is m p q rows cols is in
+    record {
+      matrix = permuted p q m;
+      text = refl;
+      rows = rows;
+      cols = cols;
+      values = values;
+      nothing_else = comes_from m (permuted p q m) p q rows cols values;
+      agrees = in_order (permuted p q m) values.ordered;
+    }
+
+pub transpose_means : (m : Sparse) → IsSparse m → TransposeMeans m (text_of (transposed m))
+transpose_means m is =
+    let values : IsTransposed m (transposed m) = transposed_is m is in
+    record { matrix = transposed m; text = refl; values = values; agrees = in_order (transposed m) values.ordered }

@@ -23,7 +23,6 @@ pub type AnyProgram = Either<
 pub trait Case: Program {
     /// the program as any of the applications
     ghost case_of: { Self → AnyState };
-
     /// a run's shape, with the application written before it
     ghost wrap: { List ℕ → List ℕ };
 
@@ -40,13 +39,13 @@ pub trait Case: Program {
 }
 
 impl Case for Histo {
-    ghost use Rattle.app_cases.specs.Cases.{histo_case, histo_shape, histo_is_case};
+    ghost use Rattle.app_cases.specs.Any.{histo_way};
 
-    ghost case_of = { histo_case };
+    ghost case_of = { histo_way.case };
 
-    ghost wrap = { histo_shape };
+    ghost wrap = { histo_way.shape };
 
-    ghost is_case = { histo_is_case };
+    ghost is_case = { histo_way.is_case };
 
     fn put(self) -> AnyProgram {
         Left(Left(self))
@@ -61,13 +60,13 @@ impl Case for Histo {
 }
 
 impl Case for Ig {
-    ghost use Rattle.app_cases.specs.Cases.{ig_case, ig_shape, ig_is_case};
+    ghost use Rattle.app_cases.specs.Any.{ig_way};
 
-    ghost case_of = { ig_case };
+    ghost case_of = { ig_way.case };
 
-    ghost wrap = { ig_shape };
+    ghost wrap = { ig_way.shape };
 
-    ghost is_case = { ig_is_case };
+    ghost is_case = { ig_way.is_case };
 
     fn put(self) -> AnyProgram {
         Left(Right(Left(self)))
@@ -82,13 +81,13 @@ impl Case for Ig {
 }
 
 impl Case for IgSums {
-    ghost use Rattle.app_cases.specs.Cases.{sums_case, sums_shape, sums_is_case};
+    ghost use Rattle.app_cases.specs.Any.{sums_way};
 
-    ghost case_of = { sums_case };
+    ghost case_of = { sums_way.case };
 
-    ghost wrap = { sums_shape };
+    ghost wrap = { sums_way.shape };
 
-    ghost is_case = { sums_is_case };
+    ghost is_case = { sums_way.is_case };
 
     fn put(self) -> AnyProgram {
         Left(Right(Right(self)))
@@ -103,13 +102,13 @@ impl Case for IgSums {
 }
 
 impl Case for Permute {
-    ghost use Rattle.app_cases.specs.Cases.{permute_case, permute_shape, permute_is_case};
+    ghost use Rattle.app_cases.specs.Any.{permute_way};
 
-    ghost case_of = { permute_case };
+    ghost case_of = { permute_way.case };
 
-    ghost wrap = { permute_shape };
+    ghost wrap = { permute_way.shape };
 
-    ghost is_case = { permute_is_case };
+    ghost is_case = { permute_way.is_case };
 
     fn put(self) -> AnyProgram {
         Right(Left(Left(self)))
@@ -124,13 +123,13 @@ impl Case for Permute {
 }
 
 impl Case for Transpose {
-    ghost use Rattle.app_cases.specs.Cases.{transpose_case, transpose_shape, transpose_is_case};
+    ghost use Rattle.app_cases.specs.Any.{transpose_way};
 
-    ghost case_of = { transpose_case };
+    ghost case_of = { transpose_way.case };
 
-    ghost wrap = { transpose_shape };
+    ghost wrap = { transpose_way.shape };
 
-    ghost is_case = { transpose_is_case };
+    ghost is_case = { transpose_way.is_case };
 
     fn put(self) -> AnyProgram {
         Right(Left(Right(self)))
@@ -145,13 +144,13 @@ impl Case for Transpose {
 }
 
 impl Case for Topo {
-    ghost use Rattle.app_cases.specs.Cases.{topo_case, topo_shape, topo_is_case};
+    ghost use Rattle.app_cases.specs.Any.{topo_way};
 
-    ghost case_of = { topo_case };
+    ghost case_of = { topo_way.case };
 
-    ghost wrap = { topo_shape };
+    ghost wrap = { topo_way.shape };
 
-    ghost is_case = { topo_is_case };
+    ghost is_case = { topo_way.is_case };
 
     fn put(self) -> AnyProgram {
         Right(Right(Left(Left(self))))
@@ -166,13 +165,13 @@ impl Case for Topo {
 }
 
 impl Case for TallyMailer {
-    ghost use Rattle.app_cases.specs.Cases.{tally_case, tally_shape, tally_is_case};
+    ghost use Rattle.app_cases.specs.Any.{tally_way};
 
-    ghost case_of = { tally_case };
+    ghost case_of = { tally_way.case };
 
-    ghost wrap = { tally_shape };
+    ghost wrap = { tally_way.shape };
 
-    ghost is_case = { tally_is_case };
+    ghost is_case = { tally_way.is_case };
 
     fn put(self) -> AnyProgram {
         Right(Right(Left(Right(self))))
@@ -187,13 +186,13 @@ impl Case for TallyMailer {
 }
 
 impl Case for Sssp {
-    ghost use Rattle.app_cases.specs.Cases.{sssp_case, sssp_shape, sssp_is_case};
+    ghost use Rattle.app_cases.specs.Any.{sssp_way};
 
-    ghost case_of = { sssp_case };
+    ghost case_of = { sssp_way.case };
 
-    ghost wrap = { sssp_shape };
+    ghost wrap = { sssp_way.shape };
 
-    ghost is_case = { sssp_is_case };
+    ghost is_case = { sssp_way.is_case };
 
     fn put(self) -> AnyProgram {
         Right(Right(Right(Left(self))))
@@ -208,13 +207,13 @@ impl Case for Sssp {
 }
 
 impl Case for Delta {
-    ghost use Rattle.app_cases.specs.Cases.{delta_case, delta_shape, delta_is_case};
+    ghost use Rattle.app_cases.specs.Any.{delta_way};
 
-    ghost case_of = { delta_case };
+    ghost case_of = { delta_way.case };
 
-    ghost wrap = { delta_shape };
+    ghost wrap = { delta_way.shape };
 
-    ghost is_case = { delta_is_case };
+    ghost is_case = { delta_way.is_case };
 
     fn put(self) -> AnyProgram {
         Right(Right(Right(Right(self))))

@@ -9,7 +9,7 @@
 //! | `Case` | one of them |
 //! | `put_all`, `take_all` | the programs of one application as any of them, and out again |
 //!
-//! `specs/Any` has the tree, and `specs/Cases` the way to each leaf.
+//! `specs/Any` has the tree, and the way to each leaf.
 #![tactic(auto)]
 
 mod case;

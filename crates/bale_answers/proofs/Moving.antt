@@ -5,11 +5,11 @@ use Rattle.mtx_text.specs.Seeds.{begun, drawn}
 use Rattle.mtx_text.specs.Sparse.{Sparse}
 use Rattle.bale_words.specs.declared.command.Permutations.{Permutations}
 use Rattle.bale_words.specs.declared.command.Permutations.TheVariants.{Lists, Seed}
-use Rattle.bale_words.specs.declared.command.Task.TheVariants as task
+use Rattle.bale_words.specs.declared.task.Task.TheVariants as task
 use Rattle.bale_subjects.specs.Fitness.{task_unfitness}
 use Rattle.bale_subjects.specs.Numberings.{numbers_all}
 use Rattle.bale_subjects.proofs.Renumbering.{drawn_permutes, new_permutes}
-use Rattle.bale_answers.specs.Serving.{ServesPermute}
+use Rattle.bale_answers.specs.Needs.{CanMove}
 
 -- a test that doesn't fail
 passes : {X : Type 0} (b : Bool) (x : X) (rest : Option X) → (if not b then Some x else rest) ≡ None → (b ≡ true) × (rest ≡ None)
@@ -17,7 +17,7 @@ passes true x rest h = (refl, h)
 passes false x rest h = absurd (none-some x (sym h))
 
 -- the new numbers of a task that fits are permutations
-pub moves : (p : Permutations) (m : Sparse) (serial : Bool) → task_unfitness (task.Permute p) m serial ≡ None → ServesPermute (task.Permute p) m
+pub moves : (p : Permutations) (m : Sparse) (serial : Bool) → task_unfitness (task.Permute p) m serial ≡ None → CanMove p m
 moves (Seed seed) m serial h = (drawn_permutes m.rows (begun seed), drawn_permutes m.cols (drawn m.rows (begun seed)).1)
 moves (Lists rows cols) m serial h =
     let a = passes (numbers_all m.rows rows) _ _ h in

@@ -14,7 +14,7 @@ use Rattle.bale_subjects.specs.Reading.{TellsText}
 use Rattle.bale_subjects.specs.Refusals.{refusal_text, status_of}
 use Rattle.bale_subjects.specs.Subjects.{subject_asked}
 use Rattle.bale_answers.specs.Summary.{summary_of}
-use Rattle.bale_answers.specs.Tasks.{IsAnswer, task_status}
+use Rattle.bale_answers.specs.Tasks.{IsAnswer, Means, task_status}
 
 -- A status, and what is said on err.
 pub record Answer : Type 0 where
@@ -75,7 +75,8 @@ pub record IsUnfit (serial : Command → Bool) (job : Option Command) (text : Li
 abbrev pub shown : Option Generated → ℕ → List ℕ → List ℕ
 shown generated status bytes = if is_some generated && status == 0 then summary_of bytes else bytes
 
--- What a run wrote: the bytes that are the application's answer, for the command of the words and its subject, or their summary.
+-- What a run wrote: the bytes that are the application's answer, for the command of the words and its subject, or their summary; and what
+-- those bytes mean.
 -- For histo and "%%MatrixMarket matrix coordinate pattern general/2 2 0/" they are "1 0/2 0/".
 pub record Wrote (serial : Command → Bool) (job : Option Command) (text : List ℕ) (P : List ℕ → Type 0) : Type 0 where
   pub command : Command
@@ -85,6 +86,7 @@ pub record Wrote (serial : Command → Bool) (job : Option Command) (text : List
   pub fits : unfitness command subject (serial command) ≡ None
   pub bytes : List ℕ
   pub answers : IsAnswer command.task subject bytes
+  pub means : Means command.task subject (task_status command.task subject) bytes
   pub wrote : P (shown command.travel.generated (task_status command.task subject) bytes)
 
 -- What a sink has taken of an answer as it is shown: all of it, or a front where a write failed. `old` is what it held.

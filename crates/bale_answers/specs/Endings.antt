@@ -2,7 +2,7 @@
 use Rattle.std.specs.Prelude.{◌≡◌, ◌≤◌, ℕ, List, Option, OnOk}
 use Rattle.bale_types.specs.Stream.{HasCause, IsFront}
 use Rattle.bale_words.specs.declared.command.Generated.{Generated}
-use Rattle.bale_words.specs.declared.command.Task.{Task}
+use Rattle.bale_words.specs.declared.task.Task.{Task}
 use Rattle.bale_subjects.specs.declared.subject.Subject.{Subject}
 use Rattle.bale_answers.specs.declared.finish.Ending.{Ending}
 use Rattle.bale_answers.specs.Answer.{HasWritten, shown}

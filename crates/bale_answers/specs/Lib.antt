@@ -1,8 +1,8 @@
 pub mod Answer
 pub mod Endings
 pub mod Logs
+pub mod Needs
 pub mod Orders
-pub mod Serving
-pub mod Starts
 pub mod Summary
 pub mod Tasks
+pub mod Walks

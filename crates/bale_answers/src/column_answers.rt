@@ -6,14 +6,12 @@ ghost use Rattle.app_histo_ig.specs.Histos.{histo_rules};
 ghost use Rattle.app_histo_ig.specs.HistoRuns.{histo_starts, HistoEnded};
 ghost use Rattle.app_histo_ig.specs.Igs.{ig_rules};
 ghost use Rattle.app_histo_ig.specs.IgRuns.{ig_starts, IgEnded};
-ghost use Rattle.bale_answers.specs.Serving.{ServesHisto, ServesIg};
 
 use crate::application::{Application, Written};
 use app_histo_ig::{
     Histo, Ig, IgAsker, histo_start, histo_write, ig_heard_write, ig_start, ig_write,
 };
 use bale_types::{Failed, NoMemory, Out, Sink};
-use bale_words::Task;
 use mtx_text::Matrix;
 use round_program::Progs;
 use std::alloc::Global;
@@ -22,25 +20,29 @@ use std::alloc::Global;
 pub(crate) struct HistoAnswer;
 
 impl Written for HistoAnswer {
-    ghost use Rattle.bale_subjects.specs.declared.subject.Subject.TheVariants as subject;
-    ghost use Rattle.bale_answers.specs.Serving.{ServesHisto};
+    ghost use Rattle.bale_subjects.specs.declared.subject.Subject.TheVariants as subjects;
+    ghost use Rattle.bale_words.specs.declared.task.Task.TheVariants as tasks;
+
+    type Options = ();
 
     type Of = Matrix;
 
     type Answer = Progs<Histo>;
 
-    ghost as_subject = { λ m. subject.Matrix m };
+    ghost task = { λ _. tasks.Histo };
 
-    ghost serves = { ServesHisto };
+    ghost subject = { λ m. subjects.Matrix m };
+
+    ghost needs = { λ _ _. Unit {0} };
 
     ghost answers = { λ _ m ps. HistoEnded m ps };
 
-    fn status(task: &Task, answer: &Progs<Histo>, m: &Matrix) -> u8 {
+    fn status(options: &(), answer: &Progs<Histo>, m: &Matrix) -> u8 {
         0
     }
 
     fn write<K: Sink>(
-        task: &Task,
+        options: &(),
         answer: &Progs<Histo>,
         m: &Matrix,
         out: &mut Out<'_, K>,
@@ -50,21 +52,31 @@ impl Written for HistoAnswer {
 }
 
 impl Application for HistoAnswer {
+    ghost use Rattle.bale_words.specs.declared.task.Task.TheVariants as tasks;
+    ghost use Rattle.bale_subjects.specs.declared.subject.Subject.TheVariants as subjects;
+    ghost use Rattle.bale_answers.specs.Tasks.{begun_with};
+
     type Prog = Histo;
 
     ghost starts = { λ _. histo_starts };
 
-    fn start(alloc: Global, task: &Task, m: &Matrix, ranks: u32) -> Result<Progs<Histo>, NoMemory> {
+    ghost of_task = { λ _ p of. begun_with tasks.Histo p (subjects.Matrix of) };
+
+    fn start(
+        alloc: Global,
+        options: &(),
+        m: &Matrix,
+        ranks: u32,
+    ) -> Result<Progs<Histo>, NoMemory> {
         histo_start(alloc, m, ranks)
     }
 
     fn end(
         alloc: Global,
-        task: &Task,
+        options: &(),
         m: &Matrix,
         progs: Progs<Histo>,
     ) -> Result<Progs<Histo>, NoMemory>
-        requires serves { ServesHisto task.now m.now }
         requires ended { (ranks : ℕ) × (1 ≤ ranks) × (ranks ≤ 64)
             × HaveEnded histo_rules (histo_starts ranks m.now) progs }
         ensures { IfOk result (λ a. HistoEnded m.now a) }
@@ -78,25 +90,29 @@ impl Application for HistoAnswer {
 pub(crate) struct IgAnswer;
 
 impl Written for IgAnswer {
-    ghost use Rattle.bale_subjects.specs.declared.subject.Subject.TheVariants as subject;
-    ghost use Rattle.bale_answers.specs.Serving.{ServesIg};
+    ghost use Rattle.bale_subjects.specs.declared.subject.Subject.TheVariants as subjects;
+    ghost use Rattle.bale_words.specs.declared.task.Task.TheVariants as tasks;
+
+    type Options = ();
 
     type Of = Matrix;
 
     type Answer = Progs<Ig>;
 
-    ghost as_subject = { λ m. subject.Matrix m };
+    ghost task = { λ _. tasks.Ig };
 
-    ghost serves = { ServesIg };
+    ghost subject = { λ m. subjects.Matrix m };
+
+    ghost needs = { λ _ _. Unit {0} };
 
     ghost answers = { λ _ m ps. IgEnded m ps };
 
-    fn status(task: &Task, answer: &Progs<Ig>, m: &Matrix) -> u8 {
+    fn status(options: &(), answer: &Progs<Ig>, m: &Matrix) -> u8 {
         0
     }
 
     fn write<K: Sink>(
-        task: &Task,
+        options: &(),
         answer: &Progs<Ig>,
         m: &Matrix,
         out: &mut Out<'_, K>,
@@ -106,16 +122,21 @@ impl Written for IgAnswer {
 }
 
 impl Application for IgAnswer {
+    ghost use Rattle.bale_words.specs.declared.task.Task.TheVariants as tasks;
+    ghost use Rattle.bale_subjects.specs.declared.subject.Subject.TheVariants as subjects;
+    ghost use Rattle.bale_answers.specs.Tasks.{begun_with};
+
     type Prog = Ig;
 
     ghost starts = { λ _. ig_starts };
 
-    fn start(alloc: Global, task: &Task, m: &Matrix, ranks: u32) -> Result<Progs<Ig>, NoMemory> {
+    ghost of_task = { λ _ p of. begun_with tasks.Ig p (subjects.Matrix of) };
+
+    fn start(alloc: Global, options: &(), m: &Matrix, ranks: u32) -> Result<Progs<Ig>, NoMemory> {
         ig_start(alloc, m, ranks)
     }
 
-    fn end(alloc: Global, task: &Task, m: &Matrix, progs: Progs<Ig>) -> Result<Progs<Ig>, NoMemory>
-        requires serves { ServesIg task.now m.now }
+    fn end(alloc: Global, options: &(), m: &Matrix, progs: Progs<Ig>) -> Result<Progs<Ig>, NoMemory>
         requires ended { (ranks : ℕ) × (1 ≤ ranks) × (ranks ≤ 64) × HaveEnded ig_rules (ig_starts ranks m.now) progs }
         ensures { IfOk result (λ a. IgEnded m.now a) }
     {
@@ -129,25 +150,29 @@ pub(crate) struct IgHeardAnswer;
 
 impl Written for IgHeardAnswer {
     ghost use Rattle.app_histo_ig.specs.ColumnAnswers.{IgHeard};
-    ghost use Rattle.bale_subjects.specs.declared.subject.Subject.TheVariants as subject;
-    ghost use Rattle.bale_answers.specs.Serving.{ServesIg};
+    ghost use Rattle.bale_subjects.specs.declared.subject.Subject.TheVariants as subjects;
+    ghost use Rattle.bale_words.specs.declared.task.Task.TheVariants as tasks;
+
+    type Options = ();
 
     type Of = Matrix;
 
     type Answer = Progs<IgAsker>;
 
-    ghost as_subject = { λ m. subject.Matrix m };
+    ghost task = { λ _. tasks.Ig };
 
-    ghost serves = { ServesIg };
+    ghost subject = { λ m. subjects.Matrix m };
+
+    ghost needs = { λ _ _. Unit {0} };
 
     ghost answers = { λ _ m askers. IgHeard m askers };
 
-    fn status(task: &Task, answer: &Progs<IgAsker>, m: &Matrix) -> u8 {
+    fn status(options: &(), answer: &Progs<IgAsker>, m: &Matrix) -> u8 {
         0
     }
 
     fn write<K: Sink>(
-        task: &Task,
+        options: &(),
         answer: &Progs<IgAsker>,
         m: &Matrix,
         out: &mut Out<'_, K>,

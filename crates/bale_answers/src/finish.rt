@@ -1,28 +1,20 @@
 //! The end of a run: the programs after their last round, and then the answer, written.
 
-ghost use Rattle.std.specs.Prelude.{◌≡◌, ◌≤◌, ◌<◌, ℕ, Bool, true, false, List, [], Option, None, length, map, OnOk, OnErr, IfOk};
+ghost use Rattle.std.specs.Prelude.{◌≡◌, ◌≤◌, ◌<◌, ℕ, List, length, OnOk, OnErr, IfOk};
 ghost use Rattle.bale_types.specs.Stream.{after, HasCause, IsFront};
 ghost use Rattle.bale_types.specs.Out.{appended};
 ghost use Rattle.round_program.specs.Canonical.{HaveEnded};
 ghost use Rattle.app_cases.specs.Any.{any_rules};
 ghost use Rattle.app_histo_ig.specs.ColumnAnswers.{IgHeard};
-ghost use Rattle.bale_words.specs.Ranges.{TaskInRanges};
 ghost use Rattle.bale_answers.specs.Answer.{HasWritten};
 ghost use Rattle.bale_answers.specs.Endings.{IsEnding};
-ghost use Rattle.bale_subjects.specs.Fitness.{first_failed, subject_tests, task_unfitness};
 ghost use Rattle.bale_answers.specs.Logs.{bytes_of};
-ghost use Rattle.bale_answers.specs.Starts.{matrix_starts, starts_of};
-ghost use Rattle.bale_subjects.specs.Subjects.{is_tally, suits};
 ghost use Rattle.bale_answers.specs.Summary.{summary_of};
-ghost use Rattle.bale_answers.specs.Tasks.{IsAnswer};
+ghost use Rattle.bale_answers.specs.Tasks.{IsAnswer, starts_of};
 
 use crate::application::{Application, Written};
-use crate::column_answers::{HistoAnswer, IgAnswer, IgHeardAnswer};
+use crate::column_answers::IgHeardAnswer;
 use crate::counter::Counter;
-use crate::line_answer::TallyAnswer;
-use crate::matrix_answers::{PermuteAnswer, TransposeAnswer};
-use crate::order_answer::OrderAnswer;
-use crate::walk_answers::{DeltaAnswer, SsspAnswer};
 use app_cases::{AnyProgram, take_all};
 use app_histo_ig::IgAsker;
 use bale_subjects::Subject;
@@ -41,35 +33,6 @@ pub struct Ending {
     pub written: Result<(), Failed>,
 }
 
-/// Writes the answer of a task for its subject, by the programs after their last round: its bytes, or, at status 0 and where the
-/// matrix was generated, their summary.
-///
-/// # Errors
-/// `NoMemory` where the answer found none: then nothing is written.
-pub fn finished<K: Sink>(
-    alloc: Global,
-    task: &Task,
-    subject: &Subject,
-    generated: Option<Generated>,
-    progs: Progs<AnyProgram>,
-    out: &mut K,
-) -> Result<Ending, NoMemory>
-    requires suits { suits task.now subject.now ≡ true }
-    requires ranges { TaskInRanges task.now }
-    requires fits { (serial : Bool) × (first_failed (subject_tests task.now subject.now serial) ≡ None) }
-    requires ended { (ranks : ℕ) × (1 ≤ ranks) × (ranks ≤ 64) × (0 < length (starts_of task.now ranks subject.now))
-        × HaveEnded any_rules (starts_of task.now ranks subject.now) progs }
-    ensures ending { IfOk result (IsEnding task.now subject.now generated K.taken K.faults out.old out.new) }
-    ensures no_answer { OnErr result (out.new ≡ out.old) }
-{
-    match subject {
-        Subject::Matrix(m) => finished_on(alloc, task, m, generated, progs, out),
-        Subject::Lines(lines) => {
-            finished_as::<TallyAnswer, K>(alloc, task, lines, generated, progs, out)
-        }
-    }
-}
-
 /// Writes the answer of ig by the ranks that asked one another, each after its last reply. No memory is taken.
 pub fn finished_by_asking<K: Sink>(
     m: &Matrix,
@@ -81,138 +44,107 @@ pub fn finished_by_asking<K: Sink>(
     ensures { IsEnding Task.Ig (Subject.Matrix m.now) generated K.taken K.faults out.old out.new result }
 {
     m.known();
-    written_as::<IgHeardAnswer, K>(&Task::Ig, m, askers, generated, out)
-}
-
-/// Writes the answer of a task for a matrix.
-fn finished_on<K: Sink>(
-    alloc: Global,
-    task: &Task,
-    m: &Matrix,
-    generated: Option<Generated>,
-    progs: Progs<AnyProgram>,
-    out: &mut K,
-) -> Result<Ending, NoMemory>
-    requires other { is_tally task.now ≡ false }
-    requires ranges { TaskInRanges task.now }
-    requires fits { (serial : Bool) × (task_unfitness task.now m.now serial ≡ None) }
-    requires ended { (ranks : ℕ) × (1 ≤ ranks) × (ranks ≤ 64) × (0 < length (matrix_starts task.now ranks m.now))
-        × HaveEnded any_rules (matrix_starts task.now ranks m.now) progs }
-    ensures ending { IfOk result (IsEnding task.now (Subject.Matrix m.now) generated K.taken K.faults out.old out.new) }
-    ensures no_answer { OnErr result (out.new ≡ out.old) }
-{
-    m.known();
-    match task {
-        Task::Histo => finished_as::<HistoAnswer, K>(alloc, task, m, generated, progs, out),
-        Task::Ig => finished_as::<IgAnswer, K>(alloc, task, m, generated, progs, out),
-        Task::Permute(_) => finished_as::<PermuteAnswer, K>(alloc, task, m, generated, progs, out),
-        Task::Transpose => finished_as::<TransposeAnswer, K>(alloc, task, m, generated, progs, out),
-        Task::Topo => finished_as::<OrderAnswer, K>(alloc, task, m, generated, progs, out),
-        Task::Sssp(_, None) => finished_as::<SsspAnswer, K>(alloc, task, m, generated, progs, out),
-        Task::Sssp(_, Some(_)) => {
-            finished_as::<DeltaAnswer, K>(alloc, task, m, generated, progs, out)
-        }
-        _ => unreachable!(),
-    }
+    written_as::<IgHeardAnswer, K>(&(), m, askers, generated, out)
 }
 
 /// Writes the answer of one application.
-fn finished_as<A: Application, K: Sink>(
+pub(crate) fn finished_as<A: Application, K: Sink>(
     alloc: Global,
-    task: &Task,
+    options: &A::Options,
     of: &A::Of,
     generated: Option<Generated>,
     progs: Progs<AnyProgram>,
     out: &mut K,
 ) -> Result<Ending, NoMemory>
-    requires serves { A.serves task.now of.now }
+    requires needs { A.needs options.now of.now }
     requires ended { (ranks : ℕ) × (1 ≤ ranks) × (ranks ≤ 64)
-        × (0 < length (map A.Prog.case_of (A.starts task.now ranks of.now)))
-        × HaveEnded any_rules (map A.Prog.case_of (A.starts task.now ranks of.now)) progs }
-    ensures ending { IfOk result (IsEnding task.now (A.as_subject of.now) generated K.taken K.faults out.old out.new) }
+        × (0 < length (starts_of (A.task options.now) ranks (A.subject of.now)))
+        × HaveEnded any_rules (starts_of (A.task options.now) ranks (A.subject of.now)) progs }
+    ensures ending { IfOk result (IsEnding (A.task options.now) (A.subject of.now) generated
+        K.taken K.faults out.old out.new) }
     ensures no_answer { OnErr result (out.new ≡ out.old) }
 {
     let progs = take_all(alloc, progs)?;
-    let answer = A::end(alloc, task, of, progs)?;
-    Ok(written_as::<A, K>(task, of, &answer, generated, out))
+    let answer = A::end(alloc, options, of, progs)?;
+    Ok(written_as::<A, K>(options, of, &answer, generated, out))
 }
 
 /// Writes an answer: its bytes, or, at status 0 and where the matrix was generated, their summary. No memory is taken.
 fn written_as<A: Written, K: Sink>(
-    task: &Task,
+    options: &A::Options,
     of: &A::Of,
     answer: &A::Answer,
     generated: Option<Generated>,
     out: &mut K,
 ) -> Ending
-    requires serves { A.serves task.now of.now }
-    requires answers { A.answers task.now of.now answer.now }
-    ensures { IsEnding task.now (A.as_subject of.now) generated K.taken K.faults out.old out.new result }
+    requires needs { A.needs options.now of.now }
+    requires answers { A.answers options.now of.now answer.now }
+    ensures { IsEnding (A.task options.now) (A.subject of.now) generated K.taken K.faults out.old out.new result }
 {
-    let status = A::status(task, answer, of);
+    let status = A::status(options, answer, of);
     let written = if generated.is_some() && status == 0 {
-        write_summary::<A, K>(task, answer, of, out)
+        write_summary::<A, K>(options, answer, of, out)
     } else {
-        write_answer::<A, K>(task, answer, of, out)
+        write_answer::<A, K>(options, answer, of, out)
     };
     Ending { status, written }
 }
 
 /// Writes the answer through a buffer.
 fn write_answer<A: Written, K: Sink>(
-    task: &Task,
+    options: &A::Options,
     answer: &A::Answer,
     of: &A::Of,
     sink: &mut K,
 ) -> Result<(), Failed>
-    requires serves { A.serves task.now of.now }
-    requires answers { A.answers task.now of.now answer.now }
-    ensures answer { HasWritten (IsAnswer task.now (A.as_subject of.now)) (λ bytes. bytes) (K.taken sink.old)
+    requires needs { A.needs options.now of.now }
+    requires answers { A.answers options.now of.now answer.now }
+    ensures answer { HasWritten (IsAnswer (A.task options.now) (A.subject of.now)) (λ bytes. bytes) (K.taken sink.old)
         (K.taken sink.new) result }
     ensures held { IsFront (K.taken sink.old) (K.taken sink.new) }
     ensures cause { HasCause (K.faults sink.old) (K.faults sink.new) result }
     ensures no_fault { OnOk result (K.faults sink.new ≡ K.faults sink.old) }
 {
     let mut out = Out::new(sink);
-    write_all::<A, K>(task, answer, of, &mut out)
+    write_all::<A, K>(options, answer, of, &mut out)
 }
 
 fn write_all<A: Written, K: Sink>(
-    task: &Task,
+    options: &A::Options,
     answer: &A::Answer,
     of: &A::Of,
     out: &mut Out<'_, K>,
 ) -> Result<(), Failed>
-    requires serves { A.serves task.now of.now }
-    requires answers { A.answers task.now of.now answer.now }
-    ensures answer { HasWritten (IsAnswer task.now (A.as_subject of.now)) (λ bytes. bytes) (appended K.taken out.old)
-        (K.taken out.new.sink.now) result }
+    requires needs { A.needs options.now of.now }
+    requires answers { A.answers options.now of.now answer.now }
+    ensures answer { HasWritten (IsAnswer (A.task options.now) (A.subject of.now)) (λ bytes. bytes)
+        (appended K.taken out.old) (K.taken out.new.sink.now) result }
     ensures cause { HasCause (K.faults out.old.sink.now) (K.faults out.new.sink.now) result }
     ensures no_fault { OnOk result (K.faults out.new.sink.now ≡ K.faults out.old.sink.now) }
     ensures held { IsFront (K.taken out.old.sink.now) (K.taken out.new.sink.now) }
     ensures same_sink { out.new.sink.ghost_name ≡ out.old.sink.ghost_name }
 {
-    A::write(task, answer, of, out)?;
+    A::write(options, answer, of, out)?;
     out.flush()
 }
 
 /// Counts the bytes of the answer, and writes the line of their summary.
 fn write_summary<A: Written, K: Sink>(
-    task: &Task,
+    options: &A::Options,
     answer: &A::Answer,
     of: &A::Of,
     sink: &mut K,
 ) -> Result<(), Failed>
-    requires serves { A.serves task.now of.now }
-    requires answers { A.answers task.now of.now answer.now }
-    ensures answer { HasWritten (IsAnswer task.now (A.as_subject of.now)) summary_of (K.taken sink.old)
+    requires needs { A.needs options.now of.now }
+    requires answers { A.answers options.now of.now answer.now }
+    ensures answer { HasWritten (IsAnswer (A.task options.now) (A.subject of.now)) summary_of (K.taken sink.old)
         (K.taken sink.new) result }
     ensures held { IsFront (K.taken sink.old) (K.taken sink.new) }
     ensures cause { HasCause (K.faults sink.old) (K.faults sink.new) result }
     ensures no_fault { OnOk result (K.faults sink.new ≡ K.faults sink.old) }
 {
     let mut counter = Counter::new();
-    let counted = write_answer::<A, Counter>(task, answer, of, &mut counter);
+    let counted = write_answer::<A, Counter>(options, answer, of, &mut counter);
     match counted {
         Ok(()) => write_line(&counter, sink),
         Err(_) => unreachable!(),

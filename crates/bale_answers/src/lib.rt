@@ -7,9 +7,9 @@
 //! | [`finished`] | the same programs after their last round, to the bytes of the answer or their summary |
 //! | [`finished_by_asking`] | the same of ig, by the ranks that asked one another |
 //!
-//! Read `specs/Answer` first: the serial answer, about the words and the text alone. Then `specs/Tasks` (what each application answers),
+//! Read `specs/Answer` first: the serial answer, about the words and the text alone. Then `specs/Tasks` (what each task runs and answers),
 //! `specs/Orders` (what topo answers), `specs/Summary` (the line of `--gen`) and `specs/Endings` (how the writing of an answer ends).
-//! `specs/Starts` has the programs of a task; the other files of `specs/` are the code's own words.
+//! The other files of `specs/` are the code's own words.
 #![tactic(auto)]
 
 mod application;
@@ -19,8 +19,8 @@ mod finish;
 mod line_answer;
 mod matrix_answers;
 mod order_answer;
-mod start;
+mod tasks;
 mod walk_answers;
 
-pub use finish::{Ending, finished, finished_by_asking};
-pub use start::started;
+pub use finish::{Ending, finished_by_asking};
+pub use tasks::{finished, started};

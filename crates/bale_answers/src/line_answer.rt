@@ -10,7 +10,6 @@ ghost use Rattle.app_tally.specs.TallyRuns.{tally_starts};
 use crate::application::{Application, Written};
 use app_tally::{Counts, Lines, TallyMailer, tally_end, tally_start, tally_write};
 use bale_types::{Failed, NoMemory, Out, Sink};
-use bale_words::Task;
 use round_program::Progs;
 use std::alloc::Global;
 
@@ -20,24 +19,29 @@ pub(crate) struct TallyAnswer;
 impl Written for TallyAnswer {
     ghost use Rattle.std.specs.Prelude.{◌≡◌};
     ghost use Rattle.app_tally.specs.Counts.{tally_of};
-    ghost use Rattle.bale_subjects.specs.declared.subject.Subject.TheVariants as subject;
+    ghost use Rattle.bale_subjects.specs.declared.subject.Subject.TheVariants as subjects;
+    ghost use Rattle.bale_words.specs.declared.task.Task.TheVariants as tasks;
+
+    type Options = ();
 
     type Of = Lines;
 
     type Answer = Counts;
 
-    ghost as_subject = { λ lines. subject.Lines lines };
+    ghost task = { λ _. tasks.Tally };
 
-    ghost serves = { λ _ _. Unit {0} };
+    ghost subject = { λ lines. subjects.Lines lines };
+
+    ghost needs = { λ _ _. Unit {0} };
 
     ghost answers = { λ _ lines counts. counts ≡ tally_of lines };
 
-    fn status(task: &Task, answer: &Counts, lines: &Lines) -> u8 {
+    fn status(options: &(), answer: &Counts, lines: &Lines) -> u8 {
         0
     }
 
     fn write<K: Sink>(
-        task: &Task,
+        options: &(),
         answer: &Counts,
         lines: &Lines,
         out: &mut Out<'_, K>,
@@ -47,15 +51,20 @@ impl Written for TallyAnswer {
 }
 
 impl Application for TallyAnswer {
+    ghost use Rattle.bale_words.specs.declared.task.Task.TheVariants as tasks;
+    ghost use Rattle.bale_subjects.specs.declared.subject.Subject.TheVariants as subjects;
+    ghost use Rattle.bale_answers.specs.Tasks.{begun_with};
     ghost use Rattle.app_tally.specs.TallyRuns.{tally_starts};
 
     type Prog = TallyMailer;
 
     ghost starts = { λ _. tally_starts };
 
+    ghost of_task = { λ _ p of. begun_with tasks.Tally p (subjects.Lines of) };
+
     fn start(
         alloc: Global,
-        task: &Task,
+        options: &(),
         lines: &Lines,
         ranks: u32,
     ) -> Result<Progs<TallyMailer>, NoMemory> {
@@ -64,7 +73,7 @@ impl Application for TallyAnswer {
 
     fn end(
         alloc: Global,
-        task: &Task,
+        options: &(),
         lines: &Lines,
         progs: Progs<TallyMailer>,
     ) -> Result<Counts, NoMemory>

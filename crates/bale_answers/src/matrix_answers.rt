@@ -7,7 +7,8 @@ ghost use Rattle.app_permute.specs.Permutes.{permute_rules};
 ghost use Rattle.app_permute.specs.PermuteRuns.{permute_starts};
 ghost use Rattle.app_permute.specs.Transposes.{transpose_rules};
 ghost use Rattle.app_permute.specs.TransposeRuns.{transpose_starts};
-ghost use Rattle.bale_answers.specs.Serving.{ServesPermute, ServesTranspose, moves_of};
+ghost use Rattle.bale_subjects.specs.Numberings.{perms_for};
+ghost use Rattle.bale_answers.specs.Needs.{CanMove};
 
 use crate::application::{Application, Written};
 use app_permute::{
@@ -15,7 +16,7 @@ use app_permute::{
 };
 use bale_subjects::new_numbers;
 use bale_types::{Failed, NoMemory, Out, Sink};
-use bale_words::{Permutations, Task};
+use bale_words::Permutations;
 use mtx_text::{Matrix, write_matrix};
 use round_program::Progs;
 use std::alloc::Global;
@@ -26,25 +27,31 @@ pub(crate) struct PermuteAnswer;
 impl Written for PermuteAnswer {
     ghost use Rattle.std.specs.Prelude.{◌≡◌};
     ghost use Rattle.app_permute.specs.Moved.{permuted};
-    ghost use Rattle.bale_subjects.specs.declared.subject.Subject.TheVariants as subject;
-    ghost use Rattle.bale_answers.specs.Serving.{ServesPermute, moves_of};
+    ghost use Rattle.bale_subjects.specs.declared.subject.Subject.TheVariants as subjects;
+    ghost use Rattle.bale_words.specs.declared.task.Task.TheVariants as tasks;
+    ghost use Rattle.bale_subjects.specs.Numberings.{perms_for};
+    ghost use Rattle.bale_answers.specs.Needs.{CanMove};
+
+    type Options = Permutations;
 
     type Of = Matrix;
 
     type Answer = Matrix;
 
-    ghost as_subject = { λ m. subject.Matrix m };
+    ghost task = { λ by. tasks.Permute by };
 
-    ghost serves = { ServesPermute };
+    ghost subject = { λ m. subjects.Matrix m };
 
-    ghost answers = { λ t m b. b ≡ permuted (moves_of t m).rows (moves_of t m).cols m };
+    ghost needs = { CanMove };
 
-    fn status(task: &Task, answer: &Matrix, m: &Matrix) -> u8 {
+    ghost answers = { λ by m b. b ≡ permuted (perms_for by m).rows (perms_for by m).cols m };
+
+    fn status(by: &Permutations, answer: &Matrix, m: &Matrix) -> u8 {
         0
     }
 
     fn write<K: Sink>(
-        task: &Task,
+        by: &Permutations,
         answer: &Matrix,
         m: &Matrix,
         out: &mut Out<'_, K>,
@@ -54,45 +61,49 @@ impl Written for PermuteAnswer {
 }
 
 impl Application for PermuteAnswer {
+    ghost use Rattle.bale_words.specs.declared.task.Task.TheVariants as tasks;
+    ghost use Rattle.bale_subjects.specs.declared.subject.Subject.TheVariants as subjects;
+    ghost use Rattle.bale_answers.specs.Tasks.{begun_with};
     ghost use Rattle.app_permute.specs.PermuteRuns.{permute_starts};
-    ghost use Rattle.bale_answers.specs.Serving.{moves_of};
+    ghost use Rattle.bale_subjects.specs.Numberings.{perms_for};
 
     type Prog = Permute;
 
-    ghost starts = { λ t ranks m. permute_starts ranks m (moves_of t m).rows (moves_of t m).cols };
+    ghost starts = { λ by ranks m. permute_starts ranks m (perms_for by m).rows (perms_for by m).cols };
+
+    ghost of_task = { λ by p of. begun_with (tasks.Permute by) p (subjects.Matrix of) };
 
     fn start(
         alloc: Global,
-        task: &Task,
+        by: &Permutations,
         m: &Matrix,
         ranks: u32,
     ) -> Result<Progs<Permute>, NoMemory> {
         m.known();
-        match task {
-            Task::Permute(Permutations::Seed(seed)) => {
+        match by {
+            Permutations::Seed(seed) => {
                 let perms = seed_perms(alloc, m.rows(), m.cols(), *seed)?;
                 permute_start(alloc, m, perms.rows(), perms.cols(), ranks)
             }
-            Task::Permute(Permutations::Lists(rows, cols)) => {
+            Permutations::Lists(rows, cols) => {
                 let rows = new_numbers(alloc, m.rows(), rows)?;
                 let cols = new_numbers(alloc, m.cols(), cols)?;
                 permute_start(alloc, m, rows.as_slice(), cols.as_slice(), ranks)
             }
-            _ => unreachable!(),
         }
     }
 
     fn end(
         alloc: Global,
-        task: &Task,
+        by: &Permutations,
         m: &Matrix,
         progs: Progs<Permute>,
     ) -> Result<Matrix, NoMemory>
-        requires serves { ServesPermute task.now m.now }
+        requires needs { CanMove by.now m.now }
         requires ended { (ranks : ℕ) × (1 ≤ ranks) × (ranks ≤ 64)
-            × HaveEnded permute_rules (permute_starts ranks m.now (moves_of task.now m.now).rows
-            (moves_of task.now m.now).cols) progs }
-        ensures { IfOk result (λ b. b ≡ permuted (moves_of task.now m.now).rows (moves_of task.now m.now).cols m.now) }
+            × HaveEnded permute_rules (permute_starts ranks m.now (perms_for by.now m.now).rows
+            (perms_for by.now m.now).cols) progs }
+        ensures { IfOk result (λ b. b ≡ permuted (perms_for by.now m.now).rows (perms_for by.now m.now).cols m.now) }
     {
         m.known();
         permute_end(alloc, m, &progs)
@@ -105,25 +116,29 @@ pub(crate) struct TransposeAnswer;
 impl Written for TransposeAnswer {
     ghost use Rattle.std.specs.Prelude.{◌≡◌};
     ghost use Rattle.app_permute.specs.Moved.{transposed};
-    ghost use Rattle.bale_subjects.specs.declared.subject.Subject.TheVariants as subject;
-    ghost use Rattle.bale_answers.specs.Serving.{ServesTranspose};
+    ghost use Rattle.bale_subjects.specs.declared.subject.Subject.TheVariants as subjects;
+    ghost use Rattle.bale_words.specs.declared.task.Task.TheVariants as tasks;
+
+    type Options = ();
 
     type Of = Matrix;
 
     type Answer = Matrix;
 
-    ghost as_subject = { λ m. subject.Matrix m };
+    ghost task = { λ _. tasks.Transpose };
 
-    ghost serves = { ServesTranspose };
+    ghost subject = { λ m. subjects.Matrix m };
+
+    ghost needs = { λ _ _. Unit {0} };
 
     ghost answers = { λ _ m b. b ≡ transposed m };
 
-    fn status(task: &Task, answer: &Matrix, m: &Matrix) -> u8 {
+    fn status(options: &(), answer: &Matrix, m: &Matrix) -> u8 {
         0
     }
 
     fn write<K: Sink>(
-        task: &Task,
+        options: &(),
         answer: &Matrix,
         m: &Matrix,
         out: &mut Out<'_, K>,
@@ -133,15 +148,20 @@ impl Written for TransposeAnswer {
 }
 
 impl Application for TransposeAnswer {
+    ghost use Rattle.bale_words.specs.declared.task.Task.TheVariants as tasks;
+    ghost use Rattle.bale_subjects.specs.declared.subject.Subject.TheVariants as subjects;
+    ghost use Rattle.bale_answers.specs.Tasks.{begun_with};
     ghost use Rattle.app_permute.specs.TransposeRuns.{transpose_starts};
 
     type Prog = Transpose;
 
     ghost starts = { λ _. transpose_starts };
 
+    ghost of_task = { λ _ p of. begun_with tasks.Transpose p (subjects.Matrix of) };
+
     fn start(
         alloc: Global,
-        task: &Task,
+        options: &(),
         m: &Matrix,
         ranks: u32,
     ) -> Result<Progs<Transpose>, NoMemory> {
@@ -150,11 +170,10 @@ impl Application for TransposeAnswer {
 
     fn end(
         alloc: Global,
-        task: &Task,
+        options: &(),
         m: &Matrix,
         progs: Progs<Transpose>,
     ) -> Result<Matrix, NoMemory>
-        requires serves { ServesTranspose task.now m.now }
         requires ended { (ranks : ℕ) × (1 ≤ ranks) × (ranks ≤ 64)
             × HaveEnded transpose_rules (transpose_starts ranks m.now) progs }
         ensures { IfOk result (λ b. b ≡ transposed m.now) }

@@ -8,12 +8,10 @@ ghost use Rattle.app_topo.specs.Levels.{topo_order};
 ghost use Rattle.app_topo.specs.Topos.{topo_rules};
 ghost use Rattle.app_topo.specs.TopoRuns.{topo_starts};
 ghost use Rattle.bale_answers.specs.Orders.{order_text};
-ghost use Rattle.bale_answers.specs.Serving.{ServesTopo};
 
 use crate::application::{Application, Written};
 use app_topo::{Topo, TopoOrder, topo_end, topo_start, topo_write};
 use bale_types::{Failed, NoMemory, Out, Sink};
-use bale_words::Task;
 use mtx_text::Matrix;
 use round_program::Progs;
 use std::alloc::Global;
@@ -24,20 +22,24 @@ pub(crate) struct OrderAnswer;
 impl Written for OrderAnswer {
     ghost use Rattle.std.specs.Prelude.{◌≡◌};
     ghost use Rattle.app_topo.specs.Levels.{topo_order};
-    ghost use Rattle.bale_subjects.specs.declared.subject.Subject.TheVariants as subject;
-    ghost use Rattle.bale_answers.specs.Serving.{ServesTopo};
+    ghost use Rattle.bale_subjects.specs.declared.subject.Subject.TheVariants as subjects;
+    ghost use Rattle.bale_words.specs.declared.task.Task.TheVariants as tasks;
+
+    type Options = ();
 
     type Of = Matrix;
 
     type Answer = Option<TopoOrder>;
 
-    ghost as_subject = { λ m. subject.Matrix m };
+    ghost task = { λ _. tasks.Topo };
 
-    ghost serves = { ServesTopo };
+    ghost subject = { λ m. subjects.Matrix m };
+
+    ghost needs = { λ _ m. m.rows ≡ m.cols };
 
     ghost answers = { λ _ m o. o ≡ topo_order m.rows m.entries };
 
-    fn status(task: &Task, answer: &Option<TopoOrder>, m: &Matrix) -> u8 {
+    fn status(options: &(), answer: &Option<TopoOrder>, m: &Matrix) -> u8 {
         match answer {
             Some(_) => 0,
             None => 1,
@@ -45,7 +47,7 @@ impl Written for OrderAnswer {
     }
 
     fn write<K: Sink>(
-        task: &Task,
+        options: &(),
         answer: &Option<TopoOrder>,
         m: &Matrix,
         out: &mut Out<'_, K>,
@@ -55,23 +57,28 @@ impl Written for OrderAnswer {
 }
 
 impl Application for OrderAnswer {
+    ghost use Rattle.bale_words.specs.declared.task.Task.TheVariants as tasks;
+    ghost use Rattle.bale_subjects.specs.declared.subject.Subject.TheVariants as subjects;
+    ghost use Rattle.bale_answers.specs.Tasks.{begun_with};
     ghost use Rattle.app_topo.specs.TopoRuns.{topo_starts};
 
     type Prog = Topo;
 
     ghost starts = { λ _. topo_starts };
 
-    fn start(alloc: Global, task: &Task, m: &Matrix, ranks: u32) -> Result<Progs<Topo>, NoMemory> {
+    ghost of_task = { λ _ p of. begun_with tasks.Topo p (subjects.Matrix of) };
+
+    fn start(alloc: Global, options: &(), m: &Matrix, ranks: u32) -> Result<Progs<Topo>, NoMemory> {
         topo_start(alloc, m, ranks)
     }
 
     fn end(
         alloc: Global,
-        task: &Task,
+        options: &(),
         m: &Matrix,
         progs: Progs<Topo>,
     ) -> Result<Option<TopoOrder>, NoMemory>
-        requires serves { ServesTopo task.now m.now }
+        requires needs { m.now.rows ≡ m.now.cols }
         requires ended { (ranks : ℕ) × (1 ≤ ranks) × (ranks ≤ 64)
             × HaveEnded topo_rules (topo_starts ranks m.now) progs }
         ensures { IfOk result (λ o. o ≡ topo_order m.now.rows m.now.entries) }

@@ -1,17 +1,16 @@
 //! sssp, from a matrix to its lines.
 
-ghost use Rattle.std.specs.Prelude.{ℕ, ◌≤◌, IfOk};
+ghost use Rattle.std.specs.Prelude.{ℕ, ◌≤◌, ◌-◌, IfOk};
 ghost use Rattle.round_program.specs.Canonical.{HaveEnded};
 ghost use Rattle.app_sssp.specs.Sssps.{sssp_rules};
 ghost use Rattle.app_sssp.specs.SsspRuns.{sssp_starts, SsspEnded};
 ghost use Rattle.delta_step.specs.Deltas.{delta_rules};
 ghost use Rattle.delta_step.specs.DeltaRuns.{delta_starts, DeltaEnded};
-ghost use Rattle.bale_answers.specs.Serving.{ServesDelta, ServesSssp, source_of, width_of};
+ghost use Rattle.bale_answers.specs.Needs.{HasWalks, HasBuckets};
 
 use crate::application::{Application, Written};
 use app_sssp::{Sssp, sssp_start, sssp_write};
 use bale_types::{Failed, NoMemory, Out, Sink};
-use bale_words::Task;
 use delta_step::{Delta, delta_start, delta_write};
 use mtx_text::Matrix;
 use round_program::Progs;
@@ -22,25 +21,31 @@ pub(crate) struct SsspAnswer;
 
 impl Written for SsspAnswer {
     ghost use Rattle.app_sssp.specs.SsspRuns.{SsspEnded};
-    ghost use Rattle.bale_subjects.specs.declared.subject.Subject.TheVariants as subject;
-    ghost use Rattle.bale_answers.specs.Serving.{ServesSssp, source_of};
+    ghost use Rattle.bale_subjects.specs.declared.subject.Subject.TheVariants as subjects;
+    ghost use Rattle.std.specs.Prelude.{◌-◌, None};
+    ghost use Rattle.bale_words.specs.declared.task.Task.TheVariants as tasks;
+    ghost use Rattle.bale_answers.specs.Needs.{HasWalks};
+
+    type Options = u32;
 
     type Of = Matrix;
 
     type Answer = Progs<Sssp>;
 
-    ghost as_subject = { λ m. subject.Matrix m };
+    ghost task = { λ source. tasks.Sssp source None };
 
-    ghost serves = { ServesSssp };
+    ghost subject = { λ m. subjects.Matrix m };
 
-    ghost answers = { λ t m ps. SsspEnded m (source_of t) ps };
+    ghost needs = { HasWalks };
 
-    fn status(task: &Task, answer: &Progs<Sssp>, m: &Matrix) -> u8 {
+    ghost answers = { λ source m ps. SsspEnded m (source - 1) ps };
+
+    fn status(source: &u32, answer: &Progs<Sssp>, m: &Matrix) -> u8 {
         0
     }
 
     fn write<K: Sink>(
-        task: &Task,
+        source: &u32,
         answer: &Progs<Sssp>,
         m: &Matrix,
         out: &mut Out<'_, K>,
@@ -50,30 +55,32 @@ impl Written for SsspAnswer {
 }
 
 impl Application for SsspAnswer {
+    ghost use Rattle.std.specs.Prelude.{◌-◌, None};
+    ghost use Rattle.bale_words.specs.declared.task.Task.TheVariants as tasks;
+    ghost use Rattle.bale_subjects.specs.declared.subject.Subject.TheVariants as subjects;
+    ghost use Rattle.bale_answers.specs.Tasks.{begun_with};
     ghost use Rattle.app_sssp.specs.SsspRuns.{sssp_starts};
-    ghost use Rattle.bale_answers.specs.Serving.{source_of};
 
     type Prog = Sssp;
 
-    ghost starts = { λ t ranks m. sssp_starts ranks m (source_of t) };
+    ghost starts = { λ source ranks m. sssp_starts ranks m (source - 1) };
 
-    fn start(alloc: Global, task: &Task, m: &Matrix, ranks: u32) -> Result<Progs<Sssp>, NoMemory> {
-        match task {
-            Task::Sssp(source, None) => sssp_start(alloc, m, *source - 1, ranks),
-            _ => unreachable!(),
-        }
+    ghost of_task = { λ source p of. begun_with (tasks.Sssp source None) p (subjects.Matrix of) };
+
+    fn start(alloc: Global, source: &u32, m: &Matrix, ranks: u32) -> Result<Progs<Sssp>, NoMemory> {
+        sssp_start(alloc, m, *source - 1, ranks)
     }
 
     fn end(
         alloc: Global,
-        task: &Task,
+        source: &u32,
         m: &Matrix,
         progs: Progs<Sssp>,
     ) -> Result<Progs<Sssp>, NoMemory>
-        requires serves { ServesSssp task.now m.now }
+        requires needs { HasWalks source.now m.now }
         requires ended { (ranks : ℕ) × (1 ≤ ranks) × (ranks ≤ 64)
-            × HaveEnded sssp_rules (sssp_starts ranks m.now (source_of task.now)) progs }
-        ensures { IfOk result (λ a. SsspEnded m.now (source_of task.now) a) }
+            × HaveEnded sssp_rules (sssp_starts ranks m.now (source.now - 1)) progs }
+        ensures { IfOk result (λ a. SsspEnded m.now (source.now - 1) a) }
     {
         m.known();
         Ok(progs)
@@ -85,25 +92,31 @@ pub(crate) struct DeltaAnswer;
 
 impl Written for DeltaAnswer {
     ghost use Rattle.delta_step.specs.DeltaRuns.{DeltaEnded};
-    ghost use Rattle.bale_subjects.specs.declared.subject.Subject.TheVariants as subject;
-    ghost use Rattle.bale_answers.specs.Serving.{ServesDelta, source_of};
+    ghost use Rattle.bale_subjects.specs.declared.subject.Subject.TheVariants as subjects;
+    ghost use Rattle.std.specs.Prelude.{◌-◌, Some};
+    ghost use Rattle.bale_words.specs.declared.task.Task.TheVariants as tasks;
+    ghost use Rattle.bale_answers.specs.Needs.{HasBuckets};
+
+    type Options = (u32, u64);
 
     type Of = Matrix;
 
     type Answer = Progs<Delta>;
 
-    ghost as_subject = { λ m. subject.Matrix m };
+    ghost task = { λ by. tasks.Sssp by.0 (Some by.1) };
 
-    ghost serves = { ServesDelta };
+    ghost subject = { λ m. subjects.Matrix m };
 
-    ghost answers = { λ t m ps. DeltaEnded m (source_of t) ps };
+    ghost needs = { HasBuckets };
 
-    fn status(task: &Task, answer: &Progs<Delta>, m: &Matrix) -> u8 {
+    ghost answers = { λ by m ps. DeltaEnded m (by.0 - 1) ps };
+
+    fn status(by: &(u32, u64), answer: &Progs<Delta>, m: &Matrix) -> u8 {
         0
     }
 
     fn write<K: Sink>(
-        task: &Task,
+        by: &(u32, u64),
         answer: &Progs<Delta>,
         m: &Matrix,
         out: &mut Out<'_, K>,
@@ -113,30 +126,37 @@ impl Written for DeltaAnswer {
 }
 
 impl Application for DeltaAnswer {
+    ghost use Rattle.std.specs.Prelude.{◌-◌, Some};
+    ghost use Rattle.bale_words.specs.declared.task.Task.TheVariants as tasks;
+    ghost use Rattle.bale_subjects.specs.declared.subject.Subject.TheVariants as subjects;
+    ghost use Rattle.bale_answers.specs.Tasks.{begun_with};
     ghost use Rattle.delta_step.specs.DeltaRuns.{delta_starts};
-    ghost use Rattle.bale_answers.specs.Serving.{source_of, width_of};
 
     type Prog = Delta;
 
-    ghost starts = { λ t ranks m. delta_starts ranks m (source_of t) (width_of t) };
+    ghost starts = { λ by ranks m. delta_starts ranks m (by.0 - 1) by.1 };
 
-    fn start(alloc: Global, task: &Task, m: &Matrix, ranks: u32) -> Result<Progs<Delta>, NoMemory> {
-        match task {
-            Task::Sssp(source, Some(delta)) => delta_start(alloc, m, *source - 1, *delta, ranks),
-            _ => unreachable!(),
-        }
+    ghost of_task = { λ by p of. begun_with (tasks.Sssp by.0 (Some by.1)) p (subjects.Matrix of) };
+
+    fn start(
+        alloc: Global,
+        by: &(u32, u64),
+        m: &Matrix,
+        ranks: u32,
+    ) -> Result<Progs<Delta>, NoMemory> {
+        delta_start(alloc, m, by.0 - 1, by.1, ranks)
     }
 
     fn end(
         alloc: Global,
-        task: &Task,
+        by: &(u32, u64),
         m: &Matrix,
         progs: Progs<Delta>,
     ) -> Result<Progs<Delta>, NoMemory>
-        requires serves { ServesDelta task.now m.now }
+        requires needs { HasBuckets by.now m.now }
         requires ended { (ranks : ℕ) × (1 ≤ ranks) × (ranks ≤ 64)
-            × HaveEnded delta_rules (delta_starts ranks m.now (source_of task.now) (width_of task.now)) progs }
-        ensures { IfOk result (λ a. DeltaEnded m.now (source_of task.now) a) }
+            × HaveEnded delta_rules (delta_starts ranks m.now (by.now.0 - 1) by.now.1) progs }
+        ensures { IfOk result (λ a. DeltaEnded m.now (by.now.0 - 1) a) }
     {
         m.known();
         Ok(progs)

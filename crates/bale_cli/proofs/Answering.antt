@@ -1,5 +1,5 @@
 -- What is known of an answer, by the way that it took: refused by the words, by the subject, or run.
-use Rattle.std.proofs.Common.{ℕ, ◌≡◌, ◌≢◌, ◌⊎◌, Bool, true, false, not, is_some, List, Option, None, Some, Result, Ok, Err, OnOk, OnErr, IfOk, IfErr, drop, refl, sym, ap, subst, ◌∙◌, inl, inr}
+use Rattle.std.proofs.Common.{ℕ, ◌≡◌, ◌≢◌, ◌⊎◌, Bool, true, false, not, is_some, List, Option, None, Some, Result, Ok, Err, OnOk, OnErr, IfOk, IfErr, drop, refl, sym, ap, subst, ◌∙◌, inl, inr, IsOk}
 use Rattle.std.proofs.lemmas.Bool.{false≢true}
 use Rattle.std.proofs.lemmas.Option.{none-some, same_Some}
 use Rattle.bale_types.specs.Stream.{after, HasCause, IsFront, Rose}
@@ -20,7 +20,14 @@ use Rattle.bale_runs.specs.Finishes.{IsFinish}
 use Rattle.bale_subjects.specs.Fitness.{unfitness}
 use Rattle.bale_cli.specs.Outcomes.{Answered}
 use Rattle.bale_subjects.specs.Subjects.{subject_asked}
+use Rattle.bale_words.specs.Ranges.{InRanges}
+use Rattle.bale_meaning.proofs.Serial.{means_of}
 use Rattle.bale_cli.proofs.Endings.{before_text, wrote_status}
+
+-- what holds of a result that is there
+pub when_ok : {T E : Type 0} (r : Result T E) (P : Type 0) → IfOk r (λ x. P) → IsOk r → P
+when_ok (Ok x) P p ok = p
+when_ok (Err e) P p ok = absurd cc
 
 abbrev pub err : {T : Type 0} → Refusal → Result T Refusal
 err r = Err r
@@ -145,17 +152,27 @@ module _ {S K : Type 0} {serial : Command → Bool} {left : S → Option (List �
       }
 
   -- run, and the answer was written, or memory was wanting
-  pub ran_answered : (answered : Result Finish Refusal) (c : Command) (s : Subject)
+  pub ran_answered : (answered : Result Finish Refusal) (c : Command) (s : Subject) → InRanges c
       → ((text : List ℕ) → Told (Some c) (left source) text → subject_asked c text ≡ Ok s) → unfitness c s (serial c) ≡ None
       → read_faults source' ≡ read_faults source → (reads (Some c) ≡ false → source' ≡ source)
       → ((text : List ℕ) → left source ≡ Some text → reads (Some c) ≡ true → left source' ≡ Some (drop 16777217 text))
       → IsFinish c s (TellsCommand (serial c) c s) taken write_faults out out' answered
       → Answered serial (Some c) left read_faults source source' taken write_faults out out' answered
-  ran_answered (Ok f) c s subject fits calm unread whole finish =
+  ran_answered (Ok f) c s ranges subject fits calm unread whole finish =
       let wrote = finish.ending.answer in
       let written : (text : List ℕ) → Told (Some c) (left source) text
       → Wrote serial (Some c) text (λ bytes. OnOk f.ending.written (taken out' ≡ after (taken out) bytes) × OnErr f.ending.written (IsFront (taken out') (after (taken out) bytes))) = λ text told.
-      record { command = c; asked = refl; subject = s; read = subject text told; fits = fits; bytes = wrote.bytes; answers = wrote.answers; wrote = (wrote.whole, wrote.front) } in
+      record {
+        command = c;
+        asked = refl;
+        subject = s;
+        read = subject text told;
+        fits = fits;
+        bytes = wrote.bytes;
+        answers = wrote.answers;
+        means = means_of c text s (serial c) wrote.bytes ranges (subject text told) fits wrote.answers;
+        wrote = (wrote.whole, wrote.front);
+      } in
       record {
         usage = λ e. absurd cc;
         no_command = λ none. absurd (none-some c (sym none));
@@ -179,7 +196,7 @@ module _ {S K : Type 0} {serial : Command → Bool} {left : S → Option (List �
             subst (λ (y : Subject). TellsCommand (serial c') c' y f.rounds) e.1
             (subst (λ (x : Command). TellsCommand (serial x) x s f.rounds) e.0 finish.rounds);
       }
-  ran_answered (Err r) c s subject fits calm unread whole finish =
+  ran_answered (Err r) c s ranges subject fits calm unread whole finish =
       let memory = finish.memory in
       let kinds : (r ≡ refusal.Usage) ⊎ (r ≡ refusal.NoMemory) = inr memory in
       record {

@@ -1,5 +1,5 @@
 -- The promises of the top calls, from what is known of an answer and of how it is told.
-use Rattle.std.proofs.Common.{ℕ, zero, suc, ◌≡◌, ◌≢◌, ◌≤◌, ◌⊎◌, Bool, true, false, List, [], Option, None, Some, Result, Ok, Err, OnOk, OnErr, IfOk, IfErr, ◌<◌, drop, sym, ap, subst, ◌∙◌, arith, inl, inr, refl}
+use Rattle.std.proofs.Common.{ℕ, zero, suc, ◌≡◌, ◌≢◌, ◌≤◌, ◌⊎◌, Bool, true, false, List, [], Option, None, Some, Result, Ok, Err, OnOk, OnErr, IfOk, IfErr, ◌<◌, drop, sym, ap, subst, ◌∙◌, arith, inl, inr, refl, IsOk}
 use Rattle.bale_types.specs.Stream.{after, IsFront, Rose}
 use Rattle.bale_types.proofs.Moves.{after-nil, front_same}
 use Rattle.rank_group.specs.declared.closed_round.ClosedRound.{ClosedRound}
@@ -140,7 +140,7 @@ module _ {serial : Command → Bool} {job : Option Command} {S K E : Type 0} {le
       elim (ends f o) [
         | inl w ↦
             let d = a.wrote text told in
-            record { command = d.command; asked = d.asked; subject = d.subject; read = d.read; fits = d.fits; bytes = d.bytes; answers = d.answers; wrote = did w d.wrote.0 }
+            record { command = d.command; asked = d.asked; subject = d.subject; read = d.read; fits = d.fits; bytes = d.bytes; answers = d.answers; means = d.means; wrote = did w d.wrote.0 }
         | inr u ↦ absurd (elim low [ inl nought ↦ omega (arith, u.fact.0, nought) | inr one ↦ omega (arith, u.fact.0, one) ])
       ]
   answer (Err r) a o text told low = absurd (not_low r o low)
@@ -152,7 +152,7 @@ module _ {serial : Command → Bool} {job : Option Command} {S K E : Type 0} {le
         | inl w ↦ absurd (low_not status 4 (omega arith) w.fact.1 four)
         | inr u ↦
             let d = a.wrote text told in
-            record { command = d.command; asked = d.asked; subject = d.subject; read = d.read; fits = d.fits; bytes = d.bytes; answers = d.answers; wrote = failed u d.wrote.1 }
+            record { command = d.command; asked = d.asked; subject = d.subject; read = d.read; fits = d.fits; bytes = d.bytes; answers = d.answers; means = d.means; wrote = failed u d.wrote.1 }
       ]
   front (Err r) a o text told four = absurd (not_four r a.kinds o four)
 
@@ -208,6 +208,16 @@ module _ {serial : Command → Bool} {job : Option Command} {S K E : Type 0} {le
       → status ≢ 0 → status ≢ 1 → status ≢ 4 → status ≢ 7 → P
   refusal_only P (Ok f) a o p nought one four seven = absurd (only_refused f o nought one four)
   refusal_only P (Err r) a o p nought one four seven = p (λ memory. seven (o.refused.0 ∙ ap status_of memory ∙ memory_is))
+
+  -- where the run came to its end, it was answered
+  pub is_ended : (answered : Result Finish Refusal) → Answered serial job left read_faults source source' taken write_faults out out' answered → IsOutcome answered said_to err_faults err err' status rounds
+      → (status ≡ 0) ⊎ (status ≡ 1) ⊎ (status ≡ 4) → IsOk answered
+  is_ended (Ok f) a o s = refl
+  is_ended (Err r) a o s =
+      elim s [
+        | inl nought ↦ absurd (not_low r o (inl nought))
+        | inr more ↦ elim more [ inl one ↦ absurd (not_low r o (inr one)) | inr four ↦ absurd (not_four r a.kinds o four) ]
+      ]
 
 -- all of it together
 pub is_run : {S K E : Type 0} (serial : Command → Bool) (words : List (List ℕ)) (left : S → Option (List ℕ)) (read_faults : S → ℕ) (source source' : S) (taken : K → Option (List ℕ)) (write_faults : K → ℕ) (out out' : K)

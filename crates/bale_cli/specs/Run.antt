@@ -7,7 +7,7 @@ use Rattle.bale_words.specs.Words.{command_of}
 use Rattle.bale_subjects.specs.declared.subject.Subject.{Subject}
 use Rattle.bale_subjects.specs.Reading.{reads, Told}
 use Rattle.bale_answers.specs.Answer.{serial_answer, said, Asked, Wrote}
-use Rattle.bale_runs.specs.Asking.{TellsCommand, TurnsOfCommand}
+use Rattle.bale_runs.specs.Asking.{TellsCommand, TurnsOfCommand, FewestOfCommand}
 use Rattle.bale_runs.specs.Jobs.{on_one_thread}
 
 -- A run of the command that the words name, which ends with a status and tells its rounds. `serial` says of each command whether one thread
@@ -62,3 +62,7 @@ pub record AreTurns (left : Option (List ℕ)) (job : Option Command) (before af
   pub bounded : (text : List ℕ) (c : Command) (s : Subject) → Asked on_one_thread left job text c s → TurnsOfCommand c s before after
   -- Where the words and the text ask for no run, there are none.
   pub idle : (text : List ℕ) → Told job left text → ((c : Command) (s : Subject) → ¬ Asked on_one_thread left job text c s) → after ≡ before
+
+-- Where it holds that the run came to its end, each rank made a turn in each epoch at least.
+abbrev pub AreFewest : Option (List ℕ) → Option Command → Type 0 → ℕ → ℕ → Type 0
+AreFewest left job ended before after = (text : List ℕ) (c : Command) (s : Subject) → Asked on_one_thread left job text c s → ended → FewestOfCommand c s before after

@@ -1,10 +1,10 @@
 //! The top calls: from the words and the bytes that come in to the bytes that go out.
-ghost use Rattle.std.specs.Prelude.{◌≡◌, ◌≢◌, ◌≤◌, Some, map, string_bytes, IfOk, IfErr};
+ghost use Rattle.std.specs.Prelude.{◌≡◌, ◌≢◌, ◌≤◌, ◌⊎◌, Some, map, string_bytes, IsOk, IfOk, IfErr};
 ghost use Rattle.bale_words.specs.Ranges.{InRanges};
 ghost use Rattle.bale_words.specs.Words.{command_of};
 ghost use Rattle.bale_runs.specs.Jobs.{as_asked, on_one_thread};
 ghost use Rattle.bale_cli.specs.Outcomes.{Answered, IsOutcome};
-ghost use Rattle.bale_cli.specs.Run.{AreTurns, IsRun};
+ghost use Rattle.bale_cli.specs.Run.{AreFewest, AreTurns, IsRun};
 
 use bale_runs::{Finish, drives_serially, ran, ran_serially};
 use bale_subjects::{Refusal, Subject, read_words, report, subject_for};
@@ -15,6 +15,7 @@ use std::alloc::Global;
 use std::sync::Wait;
 use std::sync::ledger::Ledger;
 use std::thread::Threads;
+use std::time::Clock;
 
 /// How a run ended.
 #[derive(Drop)]
@@ -32,7 +33,7 @@ pub struct Outcome {
 /// Where the source tells its text, out and err take exactly what the serial answer says, unless a read or a
 /// write failed or an allocation was refused. It waits for its threads, and returns where they do. `IsRun` of
 /// specs/Run says it field by field.
-pub fn run<R: Threads + Wait + Sync, S: Source, K: Sink, E: Sink, G: Gate + Sync>(
+pub fn run<R: Threads + Wait + Clock + Sync, S: Source, K: Sink, E: Sink, G: Gate + Sync>(
     rt: &R,
     alloc: Global,
     words: &[String],
@@ -69,6 +70,10 @@ pub fn run_serial<S: Source, K: Sink, E: Sink, L: Ledger>(
     ensures turns { AreTurns (S.left source.old) (command_of (map string_bytes words.now)) steps.old steps.new }
     ensures no_turns { result.status ≢ 0 → result.status ≢ 1 → result.status ≢ 4 → result.status ≢ 7
         → steps.new ≡ steps.old }
+
+    // Each rank made a turn in each epoch at least.
+    ensures fewest { AreFewest (S.left source.old) (command_of (map string_bytes words.now))
+        ((result.status ≡ 0) ⊎ (result.status ≡ 1) ⊎ (result.status ≡ 4)) steps.old steps.new }
 {
     let answered = answer_serially(alloc, words, source, out, steps);
     outcome_of(alloc, answered, err)
@@ -101,7 +106,7 @@ fn outcome_of<E: Sink>(alloc: Global, answered: Result<Finish, Refusal>, err: &m
 }
 
 /// The run that the words ask for, and its answer on out, or why there is none.
-fn answer<R: Threads + Wait + Sync, S: Source, K: Sink, G: Gate + Sync>(
+fn answer<R: Threads + Wait + Clock + Sync, S: Source, K: Sink, G: Gate + Sync>(
     rt: &R,
     alloc: Global,
     words: &[String],
@@ -119,7 +124,7 @@ fn answer<R: Threads + Wait + Sync, S: Source, K: Sink, G: Gate + Sync>(
 }
 
 /// The run of a command, and its answer on out, or why there is none.
-fn answer_of<R: Threads + Wait + Sync, S: Source, K: Sink, G: Gate + Sync>(
+fn answer_of<R: Threads + Wait + Clock + Sync, S: Source, K: Sink, G: Gate + Sync>(
     rt: &R,
     alloc: Global,
     command: &Command,
@@ -150,6 +155,8 @@ fn answer_serially<S: Source, K: Sink, L: Ledger>(
         S.left S.faults source.old source.new K.taken K.faults out.old out.new result }
     ensures turns { AreTurns (S.left source.old) (command_of (map string_bytes words.now)) steps.old steps.new }
     ensures no_turns { IfErr result (λ r. r ≢ Refusal.NoMemory → steps.new ≡ steps.old) }
+    ensures fewest { AreFewest (S.left source.old) (command_of (map string_bytes words.now)) (IsOk result)
+        steps.old steps.new }
 {
     match read_words(alloc, words) {
         Ok(command) => answer_of_serially(alloc, &command, source, out, steps),
@@ -169,6 +176,7 @@ fn answer_of_serially<S: Source, K: Sink, L: Ledger>(
         K.taken K.faults out.old out.new result }
     ensures turns { AreTurns (S.left source.old) (Some command.now) steps.old steps.new }
     ensures no_turns { IfErr result (λ r. r ≢ Refusal.NoMemory → steps.new ≡ steps.old) }
+    ensures fewest { AreFewest (S.left source.old) (Some command.now) (IsOk result) steps.old steps.new }
 {
     match subject_for(alloc, command, source, true) {
         Ok(subject) => ran_serially(alloc, command, &subject, out, steps),

@@ -21,14 +21,13 @@ use Rattle.mtx_text.proofs.OfCells.{lawful_apart}
 use Rattle.least_walks.specs.Walks.{no_negative}
 use Rattle.bale_words.specs.declared.command.Command.{Command}
 use Rattle.bale_words.specs.declared.command.Generated.{Generated}
-use Rattle.bale_words.specs.declared.command.Task.{Task}
-use Rattle.bale_words.specs.declared.command.Task.TheVariants as task
-use Rattle.bale_words.specs.Ranges.{CanGenerate, MayGenerate}
-use Rattle.bale_words.specs.Words.{command_of}
-use Rattle.bale_words.proofs.Within.{in_ranges}
+use Rattle.bale_words.specs.declared.task.Task.{Task}
+use Rattle.bale_words.specs.declared.task.Task.TheVariants as task
+use Rattle.bale_words.specs.Ranges.{CanGenerate, MayGenerate, InRanges}
 use Rattle.bale_subjects.specs.declared.subject.Subject.TheVariants as subject
 use Rattle.bale_subjects.specs.Fitness.{task_unfitness, unfitness}
 use Rattle.bale_subjects.specs.Subjects.{is_tally, matrix_asked, of_lines, of_matrix, subject_asked}
+use Rattle.bale_subjects.proofs.Read.{a_tally}
 use Rattle.bale_subjects.proofs.Renumbering.{drawn_permutes}
 use Rattle.app_tally.specs.declared.lines.LinesFault.{LinesFault}
 use Rattle.app_tally.specs.Texts.{lines_of_text}
@@ -83,7 +82,7 @@ asked_of (Some g) text m may h =
     let same : generated g.rows g.entries g.seed ≡ m = cc in
     subst IsSparse same (generated_is g may)
 
-pub no_matrix : (r : Result (List (List ℕ)) LinesFault) (m : Sparse) → of_lines r ≡ Ok (subject.Matrix m) → ⊥
+no_matrix : (r : Result (List (List ℕ)) LinesFault) (m : Sparse) → of_lines r ≡ Ok (subject.Matrix m) → ⊥
 no_matrix (Ok lines) m h = cc
 no_matrix (Err f) m h = cc
 
@@ -91,13 +90,25 @@ is_matrix : (r : Result Sparse BadLine) (m : Sparse) → of_matrix r ≡ Ok (sub
 is_matrix (Ok k) m h = (let same : k ≡ m = cc in ap (λ w. Ok w) same)
 is_matrix (Err b) m h = absurd (cc)
 
-pub matrix_is : (words : List (List ℕ)) (text : List ℕ) (c : Command) (m : Sparse) → command_of words ≡ Some c → subject_asked c text ≡ Ok (subject.Matrix m) → IsSparse m
-matrix_is words text c m asked read =
+pub matrix_is : (text : List ℕ) (c : Command) (m : Sparse) → InRanges c → subject_asked c text ≡ Ok (subject.Matrix m) → IsSparse m
+matrix_is text c m ranges read =
     elim (cases_Bool (is_tally c.task)) [
       | inl t ↦ absurd (no_matrix (lines_of_text text) m (sym (ap (λ b. if b then of_lines (lines_of_text text) else of_matrix (matrix_asked c.travel.generated text)) t) ∙ read))
       | inr f ↦
-          asked_of c.travel.generated text m (in_ranges words c asked).travel.generated
+          asked_of c.travel.generated text m ranges.travel.generated
           (is_matrix (matrix_asked c.travel.generated text) m (sym (ap (λ b. if b then of_lines (lines_of_text text) else of_matrix (matrix_asked c.travel.generated text)) f) ∙ read))
+    ]
+
+no_lines : (r : Result Sparse BadLine) (lines : List (List ℕ)) → of_matrix r ≡ Ok (subject.Lines lines) → ⊥
+no_lines (Ok m) lines h = cc
+no_lines (Err b) lines h = cc
+
+-- tally alone is asked of lines
+pub tally_is : (c : Command) (text : List ℕ) (lines : List (List ℕ)) → subject_asked c text ≡ Ok (subject.Lines lines) → c.task ≡ task.Tally
+tally_is c text lines read =
+    elim (cases_Bool (is_tally c.task)) [
+      | inl t ↦ a_tally c.task t
+      | inr f ↦ absurd (no_lines (matrix_asked c.travel.generated text) lines (sym (ap (λ b. if b then of_lines (lines_of_text text) else of_matrix (matrix_asked c.travel.generated text)) f) ∙ read))
     ]
 
 -- ---- What fits

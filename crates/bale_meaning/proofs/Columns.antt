@@ -18,7 +18,7 @@ use Rattle.sparse_rows.proofs.Doubles.{one_if}
 use Rattle.app_topo.proofs.Counting.{count_cons}
 use Rattle.app_histo_ig.specs.HistoLines.{in_column, histo_line, histo_lines}
 use Rattle.app_histo_ig.specs.IgLines.{column_sum, ig_line, ig_lines}
-use Rattle.bale_meaning.specs.Columns.{entries_in, or_zero, sum_upto, sum_in, HistoMeans, IgMeans}
+use Rattle.app_histo_ig.specs.Meanings.{entries_in, or_zero, sum_upto, sum_in, HistoMeans, IgMeans}
 
 abbrev Apart : Triple → Triple → Type 0
 Apart s t = ¬ SamePlace s t

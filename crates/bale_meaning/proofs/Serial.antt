@@ -1,52 +1,34 @@
--- Each law, from what was asked.
+-- What each task's answer means, from what was asked.
 use Rattle.std.proofs.Common.{◌≡◌, ℕ, Bool, List, Option, Some, None, inl, inr, refl, sym, ap, ◌∙◌, subst}
-use Rattle.std.specs.Prelude.{Result, Ok, Err, if◌then◌else◌}
-use Rattle.mtx_text.specs.declared.refusal.BadLine.{BadLine}
+use Rattle.std.specs.Prelude.{Result, Ok}
 use Rattle.mtx_text.specs.Sparse.{Sparse, IsSparse}
 use Rattle.app_topo.specs.Levels.{Claim, topo_order}
 use Rattle.bale_words.specs.declared.command.Command.{Command}
-use Rattle.bale_words.specs.declared.command.Task.{Task}
-use Rattle.bale_words.specs.declared.command.Task.TheVariants as task
-use Rattle.bale_words.specs.Words.{command_of}
+use Rattle.bale_words.specs.declared.task.Task.{Task}
+use Rattle.bale_words.specs.declared.task.Task.TheVariants as task
+use Rattle.bale_words.specs.Ranges.{InRanges}
+use Rattle.bale_words.proofs.Within.{in_ranges}
 use Rattle.bale_subjects.specs.declared.refusal.Refusal.{Refusal}
 use Rattle.bale_subjects.specs.declared.subject.Subject.{Subject}
 use Rattle.bale_subjects.specs.declared.subject.Subject.TheVariants as subject
-use Rattle.bale_subjects.specs.Fitness.{task_unfitness}
+use Rattle.bale_subjects.specs.Fitness.{task_unfitness, unfitness}
 use Rattle.bale_subjects.specs.Numberings.{perms_for}
-use Rattle.bale_subjects.specs.Subjects.{is_tally, matrix_asked, of_lines, of_matrix, subject_asked}
-use Rattle.app_tally.specs.Texts.{lines_of_text}
-use Rattle.bale_answers.specs.Answer.{serial_answer, Wrote, answer_to, answer_for, answer_by}
+use Rattle.bale_subjects.specs.Subjects.{subject_asked}
+use Rattle.bale_answers.specs.Answer.{serial_answer, answer_to, answer_for, answer_by}
+use Rattle.bale_answers.specs.Needs.{CanMove}
 use Rattle.bale_answers.specs.Orders.{order_status, order_text}
-use Rattle.bale_answers.specs.Serving.{ServesPermute}
-use Rattle.bale_answers.specs.Tasks.{IsAnswer, task_status}
+use Rattle.bale_answers.specs.Tasks.{IsAnswer, MatrixMeans, Means, task_status}
 use Rattle.bale_answers.proofs.Moving.{moves}
-use Rattle.bale_meaning.specs.Laws.{Answers, TopoLaw, PermuteLaw, TransposeLaw, TallyLaw, HistoLaw, IgLaw, SsspLaw}
-use Rattle.bale_meaning.specs.Columns.{HistoMeans, IgMeans}
-use Rattle.bale_meaning.specs.Matrices.{PermuteMeans, TransposeMeans}
-use Rattle.bale_meaning.specs.Orders.{TopoMeans}
-use Rattle.bale_meaning.specs.Tallies.{TallyMeans}
-use Rattle.bale_meaning.proofs.Asked.{matrix_is, no_matrix, task_fits, square, IsWalked, walked}
+use Rattle.app_histo_ig.specs.Meanings.{HistoMeans, IgMeans}
+use Rattle.app_permute.specs.Meanings.{PermuteMeans, TransposeMeans}
+use Rattle.app_permute.proofs.Meanings.{permute_means, transpose_means}
+use Rattle.app_topo.specs.Meanings.{TopoMeans}
+use Rattle.app_topo.proofs.Meanings.{IsFound, found, none}
+use Rattle.app_tally.specs.Meanings.{TallyMeans}
+use Rattle.bale_meaning.specs.Laws.{Answers, AnswerLaw}
+use Rattle.bale_meaning.proofs.Asked.{matrix_is, tally_is, task_fits, square, IsWalked, walked}
 use Rattle.bale_meaning.proofs.Columns.{histo_means, ig_means}
-use Rattle.bale_meaning.proofs.Matrices.{permute_means, transpose_means}
-use Rattle.bale_meaning.proofs.Orders.{IsFound, found, none}
 use Rattle.bale_meaning.proofs.Tallies.{tally_means}
-
--- what a run wrote is an answer
-pub of_wrote : (serial : Command → Bool) (words : List (List ℕ)) (text : List ℕ) (P : List ℕ → Type 0) (w : Wrote serial (command_of words) text P)
-    → Answers serial words text w.command w.subject w.bytes
-of_wrote serial words text P w = record { asked = w.asked; read = w.read; fits = w.fits; answers = w.answers }
-
--- a task on a matrix isn't asked of lines, nor tally of a matrix
-no_lines : (r : Result Sparse BadLine) (lines : List (List ℕ)) → of_matrix r ≡ Ok (subject.Lines lines) → ⊥
-no_lines (Ok m) lines h = cc
-no_lines (Err b) lines h = cc
-
-asked_by : (c : Command) (text : List ℕ) (s : Subject) (t : Task) → c.task ≡ t → subject_asked c text ≡ Ok s
-    → (if is_tally t then of_lines (lines_of_text text) else of_matrix (matrix_asked c.travel.generated text)) ≡ Ok s
-asked_by c text s t is read = subst (λ (u : Task). (if is_tally u then of_lines (lines_of_text text) else of_matrix (matrix_asked c.travel.generated text)) ≡ Ok s) is read
-
-answers_by : (c : Command) (s : Subject) (bytes : List ℕ) (t : Task) → c.task ≡ t → IsAnswer c.task s bytes → IsAnswer t s bytes
-answers_by c s bytes t is a = subst (λ (u : Task). IsAnswer u s bytes) is a
 
 -- the status of what was asked
 status_asked : (serial : Command → Bool) (words : List (List ℕ)) (text : List ℕ) (c : Command) (s : Subject) (bytes : List ℕ) → Answers serial words text c s bytes
@@ -56,8 +38,7 @@ status_asked serial words text c s bytes a =
     ∙ ap (λ (r : Result Subject Refusal). (answer_for (serial c) c r).status) a.read
     ∙ ap (λ u. (answer_by (task_status c.task s) u).status) a.fits
 
--- ---- topo
-
+-- topo's order, or that there is none
 order_means : (m : Sparse) (o : Option (List Claim)) → IsSparse m → m.rows ≡ m.cols → topo_order m.rows m.entries ≡ o → TopoMeans m (order_status o) (order_text o)
 order_means m (Some order) is sq h =
     let f : IsFound m order = found m order is sq h in
@@ -75,58 +56,30 @@ order_means m None is sq h =
       one_of_them = inr refl;
     }
 
-pub topo : TopoLaw
-topo serial words text c (subject.Matrix m) bytes a is =
-    let fits : m.rows ≡ m.cols = square c.task m (serial c) is (task_fits c m (serial c) a.fits) in
-    let status : (serial_answer serial words text).status ≡ order_status (topo_order m.rows m.entries) =
-    status_asked serial words text c (subject.Matrix m) bytes a ∙ ap (λ (t : Task). task_status t (subject.Matrix m)) is in
-    let text_is : bytes ≡ order_text (topo_order m.rows m.entries) = answers_by c (subject.Matrix m) bytes task.Topo is a.answers in
-    subst (λ n. TopoMeans m n bytes) (sym status)
-    (subst (TopoMeans m (order_status (topo_order m.rows m.entries))) (sym text_is)
-    (order_means m (topo_order m.rows m.entries) (matrix_is words text c m a.asked a.read) fits refl))
-topo serial words text c (subject.Lines lines) bytes a is = no_lines _ lines (asked_by c text (subject.Lines lines) task.Topo is a.read)
+-- each task on a matrix
+matrix_means : (t : Task) (m : Sparse) (serial : Bool) (bytes : List ℕ) → IsSparse m → task_unfitness t m serial ≡ None → IsAnswer t (subject.Matrix m) bytes
+    → MatrixMeans t m (task_status t (subject.Matrix m)) bytes
+matrix_means task.Histo m serial bytes is fits a = subst (HistoMeans m) (sym a) (histo_means m is)
+matrix_means task.Ig m serial bytes is fits a = subst (IgMeans m) (sym a) (ig_means m is)
+matrix_means (task.Permute by) m serial bytes is fits a =
+    let new : CanMove by m = moves by m serial fits in
+    subst (PermuteMeans (perms_for by m).rows (perms_for by m).cols m) (sym a) (permute_means m (perms_for by m).rows (perms_for by m).cols is new.0 new.1)
+matrix_means task.Transpose m serial bytes is fits a = subst (TransposeMeans m) (sym a) (transpose_means m is)
+matrix_means task.Topo m serial bytes is fits a =
+    subst (TopoMeans m (order_status (topo_order m.rows m.entries))) (sym a) (order_means m (topo_order m.rows m.entries) is (square task.Topo m serial refl fits) refl)
+matrix_means (task.Sssp source delta) m serial bytes is fits a =
+    let w : IsWalked m source = walked source delta m serial fits in
+    record { square = w.square; weights = w.weights; some = w.some; vertex = w.vertex; least = a }
+matrix_means task.Tally m serial bytes is fits a = absurd a
 
--- ---- permute and transpose
+-- what a command asks of a text, where it fits and its numbers are in their ranges
+pub means_of : (c : Command) (text : List ℕ) (s : Subject) (serial : Bool) (bytes : List ℕ) → InRanges c → subject_asked c text ≡ Ok s → unfitness c s serial ≡ None
+    → IsAnswer c.task s bytes → Means c.task s (task_status c.task s) bytes
+means_of c text (subject.Matrix m) serial bytes ranges read fits a =
+    matrix_means c.task m serial bytes (matrix_is text c m ranges read) (task_fits c m serial fits) a
+means_of c text (subject.Lines lines) serial bytes ranges read fits a = (tally_is c text lines read, subst (TallyMeans lines) (sym a) (tally_means lines))
 
-pub permute : PermuteLaw
-permute serial words text c (subject.Matrix m) bytes a by is =
-    let fits : task_unfitness (task.Permute by) m (serial c) ≡ None = subst (λ (t : Task). task_unfitness t m (serial c) ≡ None) is (task_fits c m (serial c) a.fits) in
-    let new : ServesPermute (task.Permute by) m = moves by m (serial c) fits in
-    subst (PermuteMeans (perms_for by m).rows (perms_for by m).cols m) (sym (answers_by c (subject.Matrix m) bytes (task.Permute by) is a.answers))
-    (permute_means m (perms_for by m).rows (perms_for by m).cols (matrix_is words text c m a.asked a.read) new.0 new.1)
-permute serial words text c (subject.Lines lines) bytes a by is = no_lines _ lines (asked_by c text (subject.Lines lines) (task.Permute by) is a.read)
-
-pub transpose : TransposeLaw
-transpose serial words text c (subject.Matrix m) bytes a is =
-    subst (TransposeMeans m) (sym (answers_by c (subject.Matrix m) bytes task.Transpose is a.answers)) (transpose_means m (matrix_is words text c m a.asked a.read))
-transpose serial words text c (subject.Lines lines) bytes a is = no_lines _ lines (asked_by c text (subject.Lines lines) task.Transpose is a.read)
-
--- ---- tally
-
-pub tally : TallyLaw
-tally serial words text c (subject.Matrix m) bytes a is = no_matrix _ m (asked_by c text (subject.Matrix m) task.Tally is a.read)
-tally serial words text c (subject.Lines lines) bytes a is = subst (TallyMeans lines) (sym a.answers) (tally_means lines)
-
--- ---- histo, ig and sssp
-
-pub histo : HistoLaw
-histo serial words text c (subject.Matrix m) bytes a is =
-    subst (HistoMeans m) (sym (answers_by c (subject.Matrix m) bytes task.Histo is a.answers)) (histo_means m (matrix_is words text c m a.asked a.read))
-histo serial words text c (subject.Lines lines) bytes a is = no_lines _ lines (asked_by c text (subject.Lines lines) task.Histo is a.read)
-
-pub ig : IgLaw
-ig serial words text c (subject.Matrix m) bytes a is =
-    subst (IgMeans m) (sym (answers_by c (subject.Matrix m) bytes task.Ig is a.answers)) (ig_means m (matrix_is words text c m a.asked a.read))
-ig serial words text c (subject.Lines lines) bytes a is = no_lines _ lines (asked_by c text (subject.Lines lines) task.Ig is a.read)
-
-pub sssp : SsspLaw
-sssp serial words text c (subject.Matrix m) bytes a source width is =
-    let w : IsWalked m source = walked source width m (serial c) (subst (λ (t : Task). task_unfitness t m (serial c) ≡ None) is (task_fits c m (serial c) a.fits)) in
-    record {
-      square = w.square;
-      weights = w.weights;
-      some = w.some;
-      vertex = w.vertex;
-      least = answers_by c (subject.Matrix m) bytes (task.Sssp source width) is a.answers;
-    }
-sssp serial words text c (subject.Lines lines) bytes a source width is = no_lines _ lines (asked_by c text (subject.Lines lines) (task.Sssp source width) is a.read)
+pub means : AnswerLaw
+means serial words text c s bytes a =
+    subst (λ n. Means c.task s n bytes) (sym (status_asked serial words text c s bytes a))
+    (means_of c text s (serial c) bytes (in_ranges words c a.asked) a.read a.fits a.answers)

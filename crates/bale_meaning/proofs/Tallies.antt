@@ -4,7 +4,7 @@ use Rattle.app_tally.specs.Counts.{by_bytes, tally_of, tally_text, IsTally}
 use Rattle.app_tally.specs.CountOrder.{itself, one_line}
 use Rattle.app_tally.proofs.Tallied.{tally_is}
 use Rattle.app_topo.proofs.Counting.{counted}
-use Rattle.bale_meaning.specs.Tallies.{TallyMeans}
+use Rattle.app_tally.specs.Meanings.{TallyMeans}
 
 pub tally_means : (lines : List (List ℕ)) → TallyMeans lines (tally_text (tally_of lines))
 tally_means lines =

@@ -1,5 +1,5 @@
 -- What a run by queries and replies tells, and how many turns it takes.
-use Rattle.std.proofs.Common.{ℕ, ◌≡◌, ◌≤◌, ◌<◌, ◌+◌, ◌&&◌, Bool, true, false, List, [], ◌∷◌, ◌++◌, All, map, length, get_or, sum_by, Result, Ok, Err, IfOk, refl, sym, ap, ◌∙◌, subst, arith}
+use Rattle.std.proofs.Common.{ℕ, ◌≡◌, ◌≤◌, ◌<◌, ◌+◌, ◌&&◌, Bool, true, false, List, [], ◌∷◌, ◌++◌, All, map, length, get_or, sum_by, Result, Ok, Err, IfOk, refl, sym, ap, ◌∙◌, subst, arith, ◌*◌}
 use Rattle.std.proofs.Math.Nat.{mod-lt}
 use Rattle.std.proofs.lemmas.List.{length-map}
 use Rattle.std.proofs.lemmas.List.FromFn.{length-enumerate_from, length-map-range_with_len}
@@ -23,13 +23,12 @@ use Rattle.app_histo_ig.specs.Asking.{AskingState, ig_talk}
 use Rattle.app_histo_ig.specs.AskingRuns.{AreAskersOf}
 use Rattle.app_histo_ig.specs.ColumnAnswers.{IgHeard}
 use Rattle.app_histo_ig.proofs.SumsStarts.{one_round}
-use Rattle.app_cases.specs.Any.{AnyState, any_rules}
-use Rattle.app_cases.specs.Cases.{sums_case, sums_is_case}
+use Rattle.app_cases.specs.Any.{AnyState, any_rules, sums_way}
 use Rattle.biconvey.specs.Drives.{TellsExchange}
 use Rattle.biconvey.specs.Worlds.{turns_of}
 use Rattle.bale_words.specs.declared.command.Command.{Command}
-use Rattle.bale_words.specs.declared.command.Task.{Task}
-use Rattle.bale_words.specs.declared.command.Task.TheVariants as task
+use Rattle.bale_words.specs.declared.task.Task.{Task}
+use Rattle.bale_words.specs.declared.task.Task.TheVariants as task
 use Rattle.bale_words.specs.declared.command.Transport.{Transport}
 use Rattle.bale_words.specs.declared.command.Transport.TheVariants.{Convey, Exstack, Biconvey}
 use Rattle.bale_subjects.specs.declared.subject.Subject.{Subject}
@@ -53,14 +52,7 @@ if_ok_both (Err e) P Q R f p q = tt
 
 asks_ig : (t : Transport) (k : Task) → (is_biconvey t && is_ig k) ≡ true → k ≡ task.Ig
 asks_ig Biconvey task.Ig e = refl
-asks_ig Biconvey task.Histo e = absurd cc
-asks_ig Biconvey (task.Permute p) e = absurd cc
-asks_ig Biconvey task.Transpose e = absurd cc
-asks_ig Biconvey task.Topo e = absurd cc
-asks_ig Biconvey (task.Sssp source delta) e = absurd cc
-asks_ig Biconvey task.Tally e = absurd cc
-asks_ig Convey k e = absurd cc
-asks_ig Exstack k e = absurd cc
+asks_ig _ _ e = absurd cc
 
 pub is_asked : (c : Command) → by_asking c ≡ true → c.task ≡ task.Ig
 is_asked c e = asks_ig c.travel.transport c.task e
@@ -111,11 +103,11 @@ one_each m p askers some are =
     owned k d l = mod-lt (get_or (numbered m.entries) k d).0 some
 
 -- the round of sums
-pub sums_turns : (m : Sparse) (steady : Bool) (dims : List ℕ) (before after : ℕ) (ps : List AnyState) → ps ≡ map sums_case (sums_starts (ranks dims) m) → 0 < length ps
+pub sums_turns : (m : Sparse) (steady : Bool) (dims : List ℕ) (before after : ℕ) (ps : List AnyState) → ps ≡ map sums_way.case (sums_starts (ranks dims) m) → 0 < length ps
     → ((n : ℕ) → HasRounds any_rules ps n → after ≤ before + turns_within any_rules (manner_of via.Convey steady) dims ps n)
     → after ≤ before + turns_within sums_rules (manner_of via.Convey steady) dims (sums_starts (ranks dims) m) 1
 sums_turns m steady dims before after ps put some f =
-    turns sums_is_case (sums_starts (ranks dims) m) ps (manner_of via.Convey steady) dims before after put some f 1 (one_round (sums_starts (ranks dims) m))
+    turns sums_way.is_case (sums_starts (ranks dims) m) ps (manner_of via.Convey steady) dims before after put some f 1 (one_round (sums_starts (ranks dims) m))
 
 more_turns : (before after sums queries : ℕ) → after ≤ before + sums → after ≤ before + (sums + queries)
 more_turns before after sums queries h = omega (arith, h)
@@ -133,6 +125,10 @@ pub turns_of_both : (m : Sparse) (steady : Bool) (dims : List ℕ) (before betwe
     → after ≤ between + turns_of dims (length m.entries) → TurnsOfAsking m steady dims before after
 turns_of_both m steady dims before between after h k =
     both_turns before between after (turns_within sums_rules (manner_of via.Convey steady) dims (sums_starts (ranks dims) m) 1) (turns_of dims (length m.entries)) h k
+
+-- each rank's turn in an epoch of sums, of votes and of the exchange
+pub three_each : (before between after ranks : ℕ) → before + 2 * ranks ≤ between → between + ranks ≤ after → before + 3 * ranks ≤ after
+three_each before between after ranks h k = omega (arith, h, k)
 
 -- where no turn was made, there are few
 pub no_turns_by : (b : Bool) (c : Command) (s : Subject) (before after : ℕ) → after ≡ before → TurnsBy b c s before after
@@ -154,7 +150,7 @@ few_turns m steady dims before after e = none_more before after _ e
 
 -- ---- What is heard
 
-pub sums_at : (m : Sparse) (p : ℕ) (ps ends : List AnyState) → ps ≡ map sums_case (sums_starts p m) → HaveEnded any_rules ps ends → HaveEnded any_rules (map sums_case (sums_starts p m)) ends
+pub sums_at : (m : Sparse) (p : ℕ) (ps ends : List AnyState) → ps ≡ map sums_way.case (sums_starts p m) → HaveEnded any_rules ps ends → HaveEnded any_rules (map sums_way.case (sums_starts p m)) ends
 sums_at m p ps ends put h = subst (λ (xs : List AnyState). HaveEnded any_rules xs ends) put h
 
 pub all_heard : (m : Sparse) (p : ℕ) (began ends : List AskingState) → 1 ≤ p → IsSparse m → AreAskersOf m p began → HaveHeard ig_talk began ends → IgHeard m ends

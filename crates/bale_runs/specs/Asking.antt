@@ -1,6 +1,6 @@
 -- What a command exchanges, and how many turns that takes on one thread: by queries and replies for ig over biconvey, else in the
 -- rounds of its programs.
-use Rattle.std.specs.Prelude.{◌≡◌, ◌≤◌, ◌+◌, ℕ, Bool, true, false, List, [], ◌∷◌, length}
+use Rattle.std.specs.Prelude.{◌≡◌, ◌≤◌, ◌+◌, ◌*◌, ℕ, Bool, true, false, List, [], ◌∷◌, length}
 use Rattle.route_tensor.specs.Grid.{ranks}
 use Rattle.mtx_text.specs.Sparse.{Sparse}
 use Rattle.rank_node.specs.Movers.{manner_of}
@@ -18,7 +18,7 @@ use Rattle.bale_words.specs.declared.command.Command.{Command}
 use Rattle.bale_subjects.specs.declared.subject.Subject.{Subject}
 use Rattle.bale_subjects.specs.declared.subject.Subject.TheVariants as subject
 use Rattle.bale_runs.specs.Jobs.{by_asking, manner_for}
-use Rattle.bale_runs.specs.Runs.{made_for, Tells, TellsTask, TurnsOfTask}
+use Rattle.bale_runs.specs.Runs.{made_for, Tells, TellsTask, TurnsOfTask, FewestOfTask}
 
 -- Two closed rounds tell the queries, of each entry's rank for its column, and the replies, over two banks of one make.
 pub record TellsReplies (m : Sparse) (made : Made) (steady : Bool) (rounds : List ClosedRound) : Type 0 where
@@ -61,3 +61,13 @@ TurnsBy false c s before after = TurnsOfTask c.task s (manner_for c) c.grid befo
 -- The turns of a command on its subject, all ranks on one thread, are bounded before it.
 abbrev pub TurnsOfCommand : Command → Subject → ℕ → ℕ → Type 0
 TurnsOfCommand c s before after = TurnsBy (by_asking c) c s before after
+
+-- Each rank made one in each epoch at least: by queries and replies two in the round of sums and one in the exchange.
+abbrev pub FewestBy : Bool → Command → Subject → ℕ → ℕ → Type 0
+FewestBy true c (subject.Matrix m) before after = before + 3 * ranks c.grid ≤ after
+FewestBy true c (subject.Lines lines) before after = ⊥
+FewestBy false c s before after = FewestOfTask c.task s c.grid before after
+
+-- The fewest turns of a command on its subject, all ranks on one thread.
+abbrev pub FewestOfCommand : Command → Subject → ℕ → ℕ → Type 0
+FewestOfCommand c s before after = FewestBy (by_asking c) c s before after

@@ -1,8 +1,8 @@
 -- How the commands of words are driven and carried.
 use Rattle.std.specs.Prelude.{Bool, true, false, ◌&&◌}
 use Rattle.bale_words.specs.declared.command.Command.{Command}
-use Rattle.bale_words.specs.declared.command.Task.{Task}
-use Rattle.bale_words.specs.declared.command.Task.TheVariants as task
+use Rattle.bale_words.specs.declared.task.Task.{Task}
+use Rattle.bale_words.specs.declared.task.Task.TheVariants as task
 use Rattle.bale_words.specs.declared.command.Transport.{Transport}
 use Rattle.bale_words.specs.declared.command.Transport.TheVariants.{Exstack, Biconvey}
 use Rattle.bale_words.specs.declared.command.Driving.{Driving}

@@ -1,20 +1,19 @@
 //! ig by queries and replies: the columns are summed in one round, then each rank asks for the sums of its entries' columns, and
 //! then the answer is written.
-ghost use Rattle.std.specs.Prelude.{◌≡◌, ◌≤◌, ◌+◌, ℕ, true, false, List, map, length, IfOk};
+ghost use Rattle.std.specs.Prelude.{◌≡◌, ◌≤◌, ◌+◌, ◌*◌, ◌++◌, ℕ, true, false, List, map, length, OnOk, OnErr, IfOk, IfErr};
 ghost use Rattle.route_tensor.specs.Grid.{ranks};
 ghost use Rattle.rank_node.specs.Movers.{manner_of};
 ghost use Rattle.rank_group.specs.Told.{turns_within};
 ghost use Rattle.biconvey.specs.Worlds.{turns_of};
 ghost use Rattle.round_program.specs.Canonical.{InRound, EndsWithin, HaveEnded};
-ghost use Rattle.app_cases.specs.Any.{any_rules};
-ghost use Rattle.app_cases.specs.Cases.{sums_case};
+ghost use Rattle.app_cases.specs.Any.{any_rules, sums_way};
 ghost use Rattle.app_histo_ig.specs.Sums.{sums_rules};
 ghost use Rattle.app_histo_ig.specs.SumsRuns.{sums_starts};
 ghost use Rattle.app_histo_ig.specs.AskingRuns.{AreAskersOf};
 ghost use Rattle.app_histo_ig.specs.ColumnAnswers.{IgHeard};
 ghost use Rattle.bale_words.specs.Ranges.{InRanges};
 ghost use Rattle.bale_answers.specs.Endings.{IsEnding};
-ghost use Rattle.bale_runs.specs.Asking.{TellsAsking, TellsReplies, TellsBy, TurnsBy, TurnsOfAsking};
+ghost use Rattle.bale_runs.specs.Asking.{TellsReplies, TellsBy, TurnsBy, TurnsOfAsking, FewestBy};
 ghost use Rattle.bale_runs.specs.Finishes.{Fits, IsFinish};
 ghost use Rattle.bale_runs.specs.Jobs.{by_asking};
 ghost use Rattle.bale_runs.specs.Runs.{made_for, Tells};
@@ -29,12 +28,13 @@ use bale_words::{Command, Task, Travel};
 use biconvey::{bi_serial, bi_threads};
 use case_table::{case_serial, case_threads};
 use mtx_text::Matrix;
-use rank_group::{Finished, Gate, Steps, Via};
+use rank_group::{Finished, Gate, Rounds, Steps, Via};
 use round_program::Progs;
 use std::alloc::Global;
 use std::sync::Wait;
 use std::sync::ledger::Ledger;
 use std::thread::Threads;
+use std::time::Clock;
 
 /// Runs a command that goes by asking, and writes its answer.
 pub(crate) fn asked_serially<K: Sink, L: Ledger>(
@@ -49,18 +49,16 @@ pub(crate) fn asked_serially<K: Sink, L: Ledger>(
     ensures finish { IsFinish command.now subject.now (TellsBy true command.now subject.now
         (made_for true command.now)) K.taken K.faults out.old out.new result }
     ensures steps { TurnsBy true command.now subject.now steps.old steps.new }
+    ensures fewest { IfOk result (λ f. FewestBy true command.now subject.now steps.old steps.new) }
 {
     match subject {
-        Subject::Matrix(m) => {
-            let run = heard_serially(alloc, command, m, steps)?;
-            Ok(told(command, m, run, out))
-        }
+        Subject::Matrix(m) => heard_serially(alloc, command, m, out, steps),
         Subject::Lines(_) => unreachable!(),
     }
 }
 
 /// The same on threads.
-pub(crate) fn asked_on_threads<R: Threads + Wait + Sync, K: Sink, G: Gate + Sync>(
+pub(crate) fn asked_on_threads<R: Threads + Wait + Clock + Sync, K: Sink, G: Gate + Sync>(
     rt: &R,
     alloc: Global,
     command: &Command,
@@ -74,67 +72,57 @@ pub(crate) fn asked_on_threads<R: Threads + Wait + Sync, K: Sink, G: Gate + Sync
         (made_for false command.now)) K.taken K.faults out.old out.new result }
 {
     match subject {
-        Subject::Matrix(m) => {
-            let run = heard_on_threads(rt, alloc, command, m, gate)?;
-            Ok(told(command, m, run, out))
-        }
+        Subject::Matrix(m) => heard_on_threads(rt, alloc, command, m, out, gate),
         Subject::Lines(_) => unreachable!(),
     }
 }
 
-/// The askers after each has heard its replies, and the three closed rounds.
-fn heard_serially<L: Ledger>(
+/// The three closed rounds of a matrix, and then the answer, by the askers after each has heard its replies.
+fn heard_serially<K: Sink, L: Ledger>(
     alloc: Global,
     command: &Command,
     m: &Matrix,
+    out: &mut K,
     steps: &mut Steps<L>,
-) -> Result<Finished<IgAsker>, NoMemory>
+) -> Result<Finish, Refusal>
+    requires asking { by_asking command.now ≡ true }
     requires ranges { InRanges command.now }
-    ensures heard { IfOk result (λ f. IgHeard m.now f.progs) }
-    ensures rounds { IfOk result (λ f. TellsAsking m.now (made_for true command.now)
-        command.now.travel.steady f.rounds) }
+    ensures finish { IsFinish command.now (Subject.Matrix m.now) (TellsBy true command.now (Subject.Matrix m.now)
+        (made_for true command.now)) K.taken K.faults out.old out.new result }
     ensures steps { TurnsOfAsking m.now command.now.travel.steady command.now.grid
         steps.old steps.new }
+    ensures fewest { IfOk result (λ f. steps.old + 3 * ranks command.now.grid ≤ steps.new) }
 {
     let summed = summed_serially(alloc, command, m, steps)?;
     let Finished {
-        progs: added,
-        mut rounds,
-    } = summed;
-    let replied = replied_serially(alloc, command, m, added, steps)?;
-    let Finished {
         progs,
-        rounds: exchanged,
-    } = replied;
-    rounds.append(exchanged)?;
-    Ok(Finished { progs, rounds })
+        rounds: sums,
+    } = summed;
+    let replied = replied_serially(alloc, command, m, progs, steps)?;
+    told(command, m, sums, replied, out)
 }
 
 /// The same on threads.
-fn heard_on_threads<R: Threads + Wait + Sync, G: Gate + Sync>(
+fn heard_on_threads<R: Threads + Wait + Clock + Sync, K: Sink, G: Gate + Sync>(
     rt: &R,
     alloc: Global,
     command: &Command,
     m: &Matrix,
+    out: &mut K,
     gate: &G,
-) -> Result<Finished<IgAsker>, NoMemory>
+) -> Result<Finish, Refusal>
+    requires asking { by_asking command.now ≡ true }
     requires ranges { InRanges command.now }
-    ensures heard { IfOk result (λ f. IgHeard m.now f.progs) }
-    ensures rounds { IfOk result (λ f. TellsAsking m.now (made_for false command.now)
-        command.now.travel.steady f.rounds) }
+    ensures finish { IsFinish command.now (Subject.Matrix m.now) (TellsBy true command.now (Subject.Matrix m.now)
+        (made_for false command.now)) K.taken K.faults out.old out.new result }
 {
     let summed = summed_on_threads(rt, alloc, command, m, gate)?;
     let Finished {
-        progs: added,
-        mut rounds,
-    } = summed;
-    let replied = replied_on_threads(rt, alloc, command, m, added, gate)?;
-    let Finished {
         progs,
-        rounds: exchanged,
-    } = replied;
-    rounds.append(exchanged)?;
-    Ok(Finished { progs, rounds })
+        rounds: sums,
+    } = summed;
+    let replied = replied_on_threads(rt, alloc, command, m, progs, gate)?;
+    told(command, m, sums, replied, out)
 }
 
 /// The programs that have summed the columns in their one round, and that round.
@@ -146,12 +134,13 @@ fn summed_serially<L: Ledger>(
 ) -> Result<Finished<AnyProgram>, NoMemory>
     requires ranges { InRanges command.now }
     ensures ended { IfOk result (λ f. HaveEnded any_rules
-        (map sums_case (sums_starts (ranks command.now.grid) m.now)) f.progs) }
+        (map sums_way.case (sums_starts (ranks command.now.grid) m.now)) f.progs) }
     ensures rounds { IfOk result (λ f. Tells sums_rules (sums_starts (ranks command.now.grid) m.now)
         (made_for true command.now) (manner_of Via.Convey command.now.travel.steady) f.rounds) }
     ensures steps { steps.new ≤ steps.old + turns_within sums_rules
         (manner_of Via.Convey command.now.travel.steady) command.now.grid
         (sums_starts (ranks command.now.grid) m.now) 1 }
+    ensures fewest { OnOk result (steps.old + 2 * ranks command.now.grid ≤ steps.new) }
 {
     let grid = &command.grid;
     let Travel {
@@ -176,7 +165,7 @@ fn summed_serially<L: Ledger>(
 }
 
 /// The same on threads.
-fn summed_on_threads<R: Threads + Wait + Sync, G: Gate + Sync>(
+fn summed_on_threads<R: Threads + Wait + Clock + Sync, G: Gate + Sync>(
     rt: &R,
     alloc: Global,
     command: &Command,
@@ -185,7 +174,7 @@ fn summed_on_threads<R: Threads + Wait + Sync, G: Gate + Sync>(
 ) -> Result<Finished<AnyProgram>, NoMemory>
     requires ranges { InRanges command.now }
     ensures ended { IfOk result (λ f. HaveEnded any_rules
-        (map sums_case (sums_starts (ranks command.now.grid) m.now)) f.progs) }
+        (map sums_way.case (sums_starts (ranks command.now.grid) m.now)) f.progs) }
     ensures rounds { IfOk result (λ f. Tells sums_rules (sums_starts (ranks command.now.grid) m.now)
         (made_for false command.now) (manner_of Via.Convey command.now.travel.steady) f.rounds) }
 {
@@ -219,11 +208,12 @@ fn replied_serially<L: Ledger>(
     steps: &mut Steps<L>,
 ) -> Result<Finished<IgAsker>, NoMemory>
     requires ranges { InRanges command.now }
-    requires ended { HaveEnded any_rules (map sums_case (sums_starts (ranks command.now.grid) m.now)) added }
+    requires ended { HaveEnded any_rules (map sums_way.case (sums_starts (ranks command.now.grid) m.now)) added }
     ensures heard { IfOk result (λ f. IgHeard m.now f.progs) }
     ensures rounds { IfOk result (λ f. TellsReplies m.now (made_for true command.now)
         command.now.travel.steady f.rounds) }
     ensures steps { steps.new ≤ steps.old + turns_of command.now.grid (length m.now.entries) }
+    ensures fewest { OnOk result (steps.old + ranks command.now.grid ≤ steps.new) }
 {
     m.known();
     let grid = &command.grid;
@@ -239,7 +229,7 @@ fn replied_serially<L: Ledger>(
 }
 
 /// The same on threads.
-fn replied_on_threads<R: Threads + Wait + Sync, G: Gate + Sync>(
+fn replied_on_threads<R: Threads + Wait + Clock + Sync, G: Gate + Sync>(
     rt: &R,
     alloc: Global,
     command: &Command,
@@ -248,7 +238,7 @@ fn replied_on_threads<R: Threads + Wait + Sync, G: Gate + Sync>(
     gate: &G,
 ) -> Result<Finished<IgAsker>, NoMemory>
     requires ranges { InRanges command.now }
-    requires ended { HaveEnded any_rules (map sums_case (sums_starts (ranks command.now.grid) m.now)) added }
+    requires ended { HaveEnded any_rules (map sums_way.case (sums_starts (ranks command.now.grid) m.now)) added }
     ensures heard { IfOk result (λ f. IgHeard m.now f.progs) }
     ensures rounds { IfOk result (λ f. TellsReplies m.now (made_for false command.now)
         command.now.travel.steady f.rounds) }
@@ -270,7 +260,7 @@ fn replied_on_threads<R: Threads + Wait + Sync, G: Gate + Sync>(
 fn summing(alloc: Global, m: &Matrix, ranks: u32) -> Result<Progs<AnyProgram>, NoMemory>
     requires some { 1 ≤ ranks }
     requires few { ranks ≤ 64 }
-    ensures starts { IfOk result (λ ps. ps ≡ map sums_case (sums_starts ranks m.now)) }
+    ensures starts { IfOk result (λ ps. ps ≡ map sums_way.case (sums_starts ranks m.now)) }
     ensures begins { IfOk result (λ ps. (shape : List ℕ) × (most : ℕ) × InRound any_rules ranks 0 shape most ps
         × EndsWithin any_rules ps most) }
 {
@@ -280,8 +270,9 @@ fn summing(alloc: Global, m: &Matrix, ranks: u32) -> Result<Progs<AnyProgram>, N
 
 /// The askers that these programs leave.
 fn asking(alloc: Global, m: &Matrix, progs: Progs<AnyProgram>) -> Result<Progs<IgAsker>, NoMemory>
-    requires ended { (ranks : ℕ) × (1 ≤ ranks) × HaveEnded any_rules (map sums_case (sums_starts ranks m.now)) progs }
-    ensures askers { (ranks : ℕ) → 1 ≤ ranks → HaveEnded any_rules (map sums_case (sums_starts ranks m.now)) progs
+    requires ended { (ranks : ℕ) × (1 ≤ ranks)
+        × HaveEnded any_rules (map sums_way.case (sums_starts ranks m.now)) progs }
+    ensures askers { (ranks : ℕ) → 1 ≤ ranks → HaveEnded any_rules (map sums_way.case (sums_starts ranks m.now)) progs
         → IfOk result (λ qs. AreAskersOf m.now ranks qs) }
 {
     m.known();
@@ -289,15 +280,28 @@ fn asking(alloc: Global, m: &Matrix, progs: Progs<AnyProgram>) -> Result<Progs<I
     ig_askers(alloc, m, sums)
 }
 
-/// The end of a run by asking: its answer is written, and what was exchanged is told. No memory is taken.
-fn told<K: Sink>(command: &Command, m: &Matrix, run: Finished<IgAsker>, out: &mut K) -> Finish
+/// The end of a run by asking: its rounds are put together, and then its answer is written.
+fn told<K: Sink>(
+    command: &Command,
+    m: &Matrix,
+    sums: Rounds,
+    replied: Finished<IgAsker>,
+    out: &mut K,
+) -> Result<Finish, Refusal>
     requires task { command.now.task ≡ Task.Ig }
-    requires heard { IgHeard m.now run.progs }
-    ensures ending { IsEnding command.now.task (Subject.Matrix m.now) command.now.travel.generated
-        K.taken K.faults out.old out.new result.ending }
-    ensures rounds { result.rounds ≡ run.rounds }
+    requires heard { IgHeard m.now replied.progs }
+    ensures ending { IfOk result (λ f. IsEnding command.now.task (Subject.Matrix m.now) command.now.travel.generated
+        K.taken K.faults out.old out.new f.ending) }
+    ensures rounds { IfOk result (λ f. f.rounds ≡ sums ++ replied.rounds) }
+    ensures memory { IfErr result (λ r. r ≡ Refusal.NoMemory) }
+    ensures no_answer { OnErr result (out.new ≡ out.old) }
 {
-    let Finished { progs, rounds } = run;
+    let Finished {
+        progs,
+        rounds: exchanged,
+    } = replied;
+    let mut rounds = sums;
+    rounds.append(exchanged)?;
     let ending = finished_by_asking(m, &progs, command.travel.generated, out);
-    Finish { ending, rounds }
+    Ok(Finish { ending, rounds })
 }

@@ -1,10 +1,10 @@
 //! The run of a command for its subject: the programs, driven, and then the answer, written.
 ghost use Rattle.std.specs.Prelude.{◌≡◌, ◌<◌, Bool, true, false, OnErr, IfOk, IfErr};
 ghost use Rattle.bale_answers.specs.Endings.{IsEnding};
-ghost use Rattle.bale_runs.specs.Asking.{TellsCommand, TurnsOfCommand};
+ghost use Rattle.bale_runs.specs.Asking.{TellsCommand, TurnsOfCommand, FewestOfCommand};
 ghost use Rattle.bale_runs.specs.Finishes.{Fits, IsFinish};
 ghost use Rattle.bale_runs.specs.Jobs.{as_asked, by_asking, via_of, manner_for};
-ghost use Rattle.bale_runs.specs.Runs.{made_for, HaveRun, TellsTask, TurnsOfTask};
+ghost use Rattle.bale_runs.specs.Runs.{made_for, HaveRun, TellsTask, TurnsOfTask, FewestOfTask};
 
 use crate::asking::{asked_on_threads, asked_serially};
 use app_cases::AnyProgram;
@@ -19,6 +19,7 @@ use std::marker::Brand;
 use std::sync::Wait;
 use std::sync::ledger::{Blank, Ledger};
 use std::thread::Threads;
+use std::time::Clock;
 
 /// A run that came to its end: how its answer was written, and what was exchanged.
 #[derive(Drop)]
@@ -34,7 +35,7 @@ pub struct Finish {
 ///
 /// # Errors
 /// `NoMemory` where the programs, the drive or the answer found none: then nothing is written.
-pub fn ran<R: Threads + Wait + Sync, K: Sink, G: Gate + Sync>(
+pub fn ran<R: Threads + Wait + Clock + Sync, K: Sink, G: Gate + Sync>(
     rt: &R,
     alloc: Global,
     command: &Command,
@@ -95,6 +96,7 @@ pub fn ran_serially<K: Sink, L: Ledger>(
     ensures finish { IsFinish command.now subject.now (TellsCommand true command.now subject.now)
         K.taken K.faults out.old out.new result }
     ensures steps { TurnsOfCommand command.now subject.now steps.old steps.new }
+    ensures fewest { IfOk result (λ f. FewestOfCommand command.now subject.now steps.old steps.new) }
 {
     if by_asking(command) {
         asked_serially(alloc, command, subject, out, steps)
@@ -104,7 +106,7 @@ pub fn ran_serially<K: Sink, L: Ledger>(
 }
 
 /// The same on threads.
-fn ran_on_threads<R: Threads + Wait + Sync, K: Sink, G: Gate + Sync>(
+fn ran_on_threads<R: Threads + Wait + Clock + Sync, K: Sink, G: Gate + Sync>(
     rt: &R,
     alloc: Global,
     command: &Command,
@@ -143,13 +145,15 @@ fn drove_serially<K: Sink, L: Ledger>(
         (made_for true command.now) (manner_for command.now)) K.taken K.faults out.old out.new result }
     ensures steps { TurnsOfTask command.now.task subject.now
         (manner_for command.now) command.now.grid steps.old steps.new }
+    ensures fewest { IfOk result (λ f. FewestOfTask command.now.task subject.now
+        command.now.grid steps.old steps.new) }
 {
     let run = driven_serially(alloc, command, subject, steps)?;
     told(alloc, command, subject, run, out)
 }
 
 /// The same on threads.
-fn drove_on_threads<R: Threads + Wait + Sync, K: Sink, G: Gate + Sync>(
+fn drove_on_threads<R: Threads + Wait + Clock + Sync, K: Sink, G: Gate + Sync>(
     rt: &R,
     alloc: Global,
     command: &Command,
@@ -178,6 +182,8 @@ fn driven_serially<L: Ledger>(
         (manner_for command.now) f.rounds) }
     ensures steps { TurnsOfTask command.now.task subject.now
         (manner_for command.now) command.now.grid steps.old steps.new }
+    ensures fewest { IfOk result (λ f. FewestOfTask command.now.task subject.now
+        command.now.grid steps.old steps.new) }
 {
     let grid = &command.grid;
     let Travel {
@@ -203,7 +209,7 @@ fn driven_serially<L: Ledger>(
 }
 
 /// The application's programs after their last round, on threads, and that run's closed round.
-fn driven_on_threads<R: Threads + Wait + Sync, G: Gate + Sync>(
+fn driven_on_threads<R: Threads + Wait + Clock + Sync, G: Gate + Sync>(
     rt: &R,
     alloc: Global,
     command: &Command,

@@ -5,8 +5,8 @@ use Rattle.std.proofs.lemmas.Bool.{false≢true}
 use Rattle.app_tally.specs.declared.lines.LinesFault.{LinesFault}
 use Rattle.app_tally.specs.declared.lines.LinesFault.TheVariants as fault
 use Rattle.app_tally.specs.Texts.{LinesGive}
-use Rattle.bale_words.specs.declared.command.Task.{Task}
-use Rattle.bale_words.specs.declared.command.Task.TheVariants as task
+use Rattle.bale_words.specs.declared.task.Task.{Task}
+use Rattle.bale_words.specs.declared.task.Task.TheVariants as task
 use Rattle.bale_subjects.specs.declared.refusal.Refusal.{Refusal}
 use Rattle.bale_subjects.specs.declared.subject.Subject.{Subject}
 use Rattle.bale_subjects.specs.Reading.{IsRead}
@@ -25,13 +25,8 @@ no_lines_read f read (Ok s) g e = absurd e
 no_lines_read f read (Err r) g e = subst (λ (x : Refusal). IsRead (of_lines read) (Err x)) (sym e) (fault_read f read g)
 
 pub a_tally : (t : Task) → is_tally t ≡ true → t ≡ task.Tally
-a_tally task.Histo e = absurd (false≢true e)
-a_tally task.Ig e = absurd (false≢true e)
-a_tally (task.Permute p) e = absurd (false≢true e)
-a_tally task.Transpose e = absurd (false≢true e)
-a_tally task.Topo e = absurd (false≢true e)
-a_tally (task.Sssp source delta) e = absurd (false≢true e)
 a_tally task.Tally e = refl
+a_tally _ e = absurd (false≢true e)
 
 pub not_false : (b : Bool) → not b ≡ false → b ≡ true
 not_false true e = refl

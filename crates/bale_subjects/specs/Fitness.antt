@@ -5,8 +5,8 @@ use Rattle.least_walks.specs.Walks.{no_negative}
 use Rattle.bale_words.specs.declared.command.Command.{Command}
 use Rattle.bale_words.specs.declared.command.Transport.{Transport}
 use Rattle.bale_words.specs.declared.command.Transport.TheVariants.{Exstack}
-use Rattle.bale_words.specs.declared.command.Task.{Task}
-use Rattle.bale_words.specs.declared.command.Task.TheVariants as task
+use Rattle.bale_words.specs.declared.task.Task.{Task}
+use Rattle.bale_words.specs.declared.task.Task.TheVariants as task
 use Rattle.bale_words.specs.declared.command.Permutations.TheVariants.{Lists}
 use Rattle.bale_subjects.specs.Numberings.{numbers_all}
 use Rattle.bale_subjects.specs.declared.subject.Subject.{Subject}

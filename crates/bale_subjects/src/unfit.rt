@@ -2,7 +2,7 @@
 
 ghost use Rattle.std.specs.Prelude.{◌≡◌, ◌*◌, ◌≤◌, ◌+◌, ◌<◌, ◌==◌, ◌||◌, ◌&&◌, nat_lt, is_some, true, length, IfOk};
 ghost use Rattle.least_walks.specs.Walks.{no_negative};
-ghost use Rattle.bale_words.specs.declared.command.Task.TheVariants.{Permute, Sssp, Topo};
+ghost use Rattle.bale_words.specs.declared.task.Task.TheVariants.{Permute, Sssp, Topo};
 ghost use Rattle.bale_words.specs.declared.command.Permutations.TheVariants.{Lists};
 ghost use Rattle.bale_subjects.specs.Fitness.{task_unfitness, unfitness};
 

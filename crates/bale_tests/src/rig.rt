@@ -3,15 +3,18 @@ ghost use Rattle.std.specs.Prelude.{◌≡◌, ◌<◌};
 
 use bale_cli::{Outcome, run, run_serial};
 use bale_types::{MemSink, MemSource};
-use rank_group::{OpenGate, Steps};
+use rank_group::{Gate, Steps};
 use std::alloc::Global;
 use std::marker::Brand;
 use std::process::Abort;
 use std::string::ToString;
 use std::sync::Wait;
+use std::sync::atomic::{AtomicBool, AtomicU64, Ordering};
 use std::sync::ledger::{Blank, Ledger};
 use std::test::Fail;
+use std::thread;
 use std::thread::Threads;
+use std::time::Clock;
 
 /// The text of most runs: one rank's worth of everything.
 pub(crate) const ONE: &[u8] =
@@ -27,6 +30,61 @@ pub(crate) fn words(alloc: Global, text: &str) -> Result<Vec<String>, Fail> {
         words.push(word.to_string(alloc)?)?;
     }
     Ok(words)
+}
+
+/// How often a hold looks before it gives up.
+const TRIES: u32 = 1_000_000_000;
+
+/// The gate of all runs here: for each of them that had another, the ranks' threads would be compiled anew. It counts how often the turn
+/// 0 of each of two ranks was announced, once in each run, and may hold that of one until the other's was.
+#[derive(Drop)]
+pub(crate) struct Watch {
+    held: Option<u32>,
+    pub(crate) of_0: AtomicU64,
+    pub(crate) of_1: AtomicU64,
+    pub(crate) announced: AtomicBool,
+    pub(crate) gave_up: AtomicBool,
+}
+
+impl Watch {
+    pub(crate) fn new(held: Option<u32>) -> Watch {
+        Watch {
+            held,
+            of_0: AtomicU64::new(0),
+            of_1: AtomicU64::new(0),
+            announced: AtomicBool::new(false),
+            gave_up: AtomicBool::new(false),
+        }
+    }
+
+    fn hold(&self) {
+        for _ in 0..TRIES {
+            if self.announced.load(Ordering::SeqCst) {
+                return;
+            }
+            thread::yield_now();
+        }
+        self.gave_up.store(true, Ordering::SeqCst);
+    }
+}
+
+impl Gate for Watch {
+    fn turn(&self, rank: u32, n: u64) {
+        if n != 0 {
+            return;
+        }
+        let begun = if rank == 0 { &self.of_0 } else { &self.of_1 };
+        begun.fetch_add(1, Ordering::SeqCst);
+        if self.held == Some(rank) {
+            self.hold();
+        } else {
+            self.announced.store(true, Ordering::SeqCst);
+        }
+    }
+
+    fn holds(&self) -> bool {
+        self.held.is_some()
+    }
 }
 
 /// A serial run whose turns nobody asks for.
@@ -73,7 +131,7 @@ pub(crate) fn told_alone(
 }
 
 /// The same of a run as the words ask for it.
-pub(crate) fn told_as_asked<R: Threads + Wait + Sync>(
+pub(crate) fn told_as_asked<R: Threads + Wait + Clock + Sync>(
     rt: &R,
     alloc: Global,
     text: &str,
@@ -89,7 +147,7 @@ pub(crate) fn told_as_asked<R: Threads + Wait + Sync>(
         source,
         out,
         &mut err,
-        &OpenGate,
+        &Watch::new(None),
     );
     let status = outcome.status;
     let said = str::from_utf8(err.taken())?;
@@ -113,7 +171,7 @@ pub(crate) fn read_alone(
 }
 
 /// The same of a run as the words ask for it: on threads, where they don't say else.
-pub(crate) fn read_as_asked<R: Threads + Wait + Sync>(
+pub(crate) fn read_as_asked<R: Threads + Wait + Clock + Sync>(
     rt: &R,
     alloc: Global,
     words: &str,
@@ -144,7 +202,7 @@ pub(crate) fn written_alone(
 }
 
 /// The same of a run as the words ask for it.
-pub(crate) fn written_as_asked<R: Threads + Wait + Sync>(
+pub(crate) fn written_as_asked<R: Threads + Wait + Clock + Sync>(
     rt: &R,
     alloc: Global,
     words: &str,
@@ -165,7 +223,7 @@ pub(crate) fn answer_alone(alloc: Global, words: &str, text: &[u8]) -> Result<St
 }
 
 /// The answer of a run as the words ask for it.
-pub(crate) fn answer_as_asked<R: Threads + Wait + Sync>(
+pub(crate) fn answer_as_asked<R: Threads + Wait + Clock + Sync>(
     rt: &R,
     alloc: Global,
     words: &str,
@@ -193,7 +251,7 @@ pub(crate) fn wants_alone<R: Abort>(
 }
 
 /// A run as the words ask for it has this answer.
-pub(crate) fn wants_as_asked<R: Threads + Wait + Sync + Abort>(
+pub(crate) fn wants_as_asked<R: Threads + Wait + Clock + Sync + Abort>(
     rt: &R,
     alloc: Global,
     words: &str,
@@ -206,7 +264,7 @@ pub(crate) fn wants_as_asked<R: Threads + Wait + Sync + Abort>(
 }
 
 /// Both have it.
-pub(crate) fn wants<R: Threads + Wait + Sync + Abort>(
+pub(crate) fn wants<R: Threads + Wait + Clock + Sync + Abort>(
     rt: &R,
     alloc: Global,
     words: &str,

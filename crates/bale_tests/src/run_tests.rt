@@ -10,6 +10,7 @@ use std::string::ToString;
 use std::sync::Wait;
 use std::test::Fail;
 use std::thread::Threads;
+use std::time::Clock;
 
 #[test]
 fn every_case_gives_one_answer(rt: HostRuntime) -> Result<(), Fail> {
@@ -151,7 +152,7 @@ fn applications_and_their_answers(rt: HostRuntime) -> Result<(), Fail> {
 }
 
 /// A run on grids of one, two and three numbers.
-fn wants_on_grids<R: Threads + Wait + Sync + Abort>(
+fn wants_on_grids<R: Threads + Wait + Clock + Sync + Abort>(
     rt: &R,
     alloc: Global,
     words: &str,
@@ -181,7 +182,7 @@ fn grids_give_the_same_answers(rt: HostRuntime) -> Result<(), Fail> {
 }
 
 /// A run on exstacks.
-fn wants_on_exstacks<R: Threads + Wait + Sync + Abort>(
+fn wants_on_exstacks<R: Threads + Wait + Clock + Sync + Abort>(
     rt: &R,
     alloc: Global,
     words: &str,
@@ -294,7 +295,7 @@ fn begins_alone(alloc: Global, words: &str, text: &[u8], front: &str) -> Result<
 }
 
 /// Whether the answer of a run as the words ask for it begins so.
-fn begins_as_asked<R: Threads + Wait + Sync>(
+fn begins_as_asked<R: Threads + Wait + Clock + Sync>(
     rt: &R,
     alloc: Global,
     words: &str,

@@ -3,9 +3,9 @@ use Rattle.std.proofs.Common.{ℕ, ◌≡◌, List, [], ◌∷◌, Option, Some,
 use Rattle.std.specs.Option.{option_and_then}
 use Rattle.bale_words.specs.declared.fault.WordsFault.{WordsFault}
 use Rattle.bale_words.specs.declared.fault.WordsFault.TheVariants.{Usage, NoMemory}
-use Rattle.bale_words.specs.declared.command.Application.{Application}
+use Rattle.bale_words.specs.declared.task.Application.{Application}
 use Rattle.bale_words.specs.declared.command.Command.{Command}
-use Rattle.bale_words.specs.declared.command.Task.{Task}
+use Rattle.bale_words.specs.declared.task.Task.{Task}
 use Rattle.bale_words.specs.declared.travel.Travel.{Travel}
 use Rattle.bale_words.specs.Options.{Given, value_in}
 use Rattle.bale_words.specs.Reading.{Reads}

@@ -6,12 +6,12 @@ use Rattle.std.proofs.lemmas.Option.{option_and_then_some, none-some, same_Some}
 use Rattle.std.proofs.lemmas.Bool.{cases_Bool, false≢true}
 use Rattle.std.proofs.lemmas.Bool.Decides.{nat_tests}
 use Rattle.std.specs.Str.{bytes_eq}
-use Rattle.bale_words.specs.declared.command.Application.{Application}
-use Rattle.bale_words.specs.declared.command.Application.TheVariants as application
+use Rattle.bale_words.specs.declared.task.Application.{Application}
+use Rattle.bale_words.specs.declared.task.Application.TheVariants as application
 use Rattle.bale_words.specs.declared.command.Command.{Command}
 use Rattle.bale_words.specs.declared.command.Generated.{Generated}
-use Rattle.bale_words.specs.declared.command.Task.{Task}
-use Rattle.bale_words.specs.declared.command.Task.TheVariants as task
+use Rattle.bale_words.specs.declared.task.Task.{Task}
+use Rattle.bale_words.specs.declared.task.Task.TheVariants as task
 use Rattle.bale_words.specs.declared.command.Transport.TheVariants.{Convey}
 use Rattle.bale_words.specs.declared.command.Driving.TheVariants.{Threads}
 use Rattle.bale_words.specs.declared.travel.Travel.{Travel}
@@ -120,14 +120,10 @@ search_is source delta t e =
     last_some (λ d. task.Sssp s d) (if_given (number_in 1 1000000000000) delta) t h (λ d g k. subst TaskInRanges k (delta_is s delta d g)))
 
 task_is : (a : Application) (gs : List Given) (t : Task) → task_in a gs ≡ Some t → TaskInRanges t
-task_is application.Histo gs t e = subst TaskInRanges (same_Some task.Histo t e) tt
-task_is application.Ig gs t e = subst TaskInRanges (same_Some task.Ig t e) tt
 task_is application.Permute gs t e =
     last_some (λ p. task.Permute p) (permutations_of (value_in (codes "seed") gs) (value_in (codes "rperm") gs) (value_in (codes "cperm") gs)) t e (λ p f h. subst TaskInRanges h tt)
-task_is application.Transpose gs t e = subst TaskInRanges (same_Some task.Transpose t e) tt
-task_is application.Topo gs t e = subst TaskInRanges (same_Some task.Topo t e) tt
 task_is application.Sssp gs t e = search_is (value_in (codes "source") gs) (value_in (codes "delta") gs) t e
-task_is application.Tally gs t e = subst TaskInRanges (same_Some task.Tally t e) tt
+task_is _ gs t e = subst TaskInRanges (same_Some _ t e) tt
 
 -- an option that is none of the names wasn't given
 not_given : (names : List (List ℕ)) (name : List ℕ) (gs : List Given) → is_among name names ≡ false → accepted names gs ≡ true → value_in name gs ≡ None
@@ -142,13 +138,9 @@ not_given names name (g ∷ gs) out h =
 -- a matrix isn't generated for tally
 no_band : (a : Application) (gs : List Given) (t : Task) (travel : Travel) → accepted (names_of a) gs ≡ true → task_in a gs ≡ Some t → travel_in a gs ≡ Some travel
     → t ≡ task.Tally → travel.generated ≡ None
-no_band application.Histo gs t travel h e f is = absurd (let same : task.Histo ≡ task.Tally = same_Some task.Histo t e ∙ is in cc)
-no_band application.Ig gs t travel h e f is = absurd (let same : task.Ig ≡ task.Tally = same_Some task.Ig t e ∙ is in cc)
 no_band application.Permute gs t travel h e f is =
     last_some (λ p. task.Permute p) (permutations_of (value_in (codes "seed") gs) (value_in (codes "rperm") gs) (value_in (codes "cperm") gs)) t e
     (λ p g k. absurd (let same : task.Permute p ≡ task.Tally = k ∙ is in cc))
-no_band application.Transpose gs t travel h e f is = absurd (let same : task.Transpose ≡ task.Tally = same_Some task.Transpose t e ∙ is in cc)
-no_band application.Topo gs t travel h e f is = absurd (let same : task.Topo ≡ task.Tally = same_Some task.Topo t e ∙ is in cc)
 no_band application.Sssp gs t travel h e f is =
     option_and_then_some _ (or_default 1 (number_in 0 (2 ^ 32 - 1)) (value_in (codes "source") gs)) t e (λ s g k.
     last_some (λ d. task.Sssp s d) (if_given (number_in 1 1000000000000) (value_in (codes "delta") gs)) t k
@@ -156,6 +148,7 @@ no_band application.Sssp gs t travel h e f is =
 no_band application.Tally gs t travel h e f is =
     none_of application.Tally (value_in (codes "via") gs) (value_in (codes "slots") gs) (value_in (codes "steady") gs) (value_in (codes "buffer") gs) (value_in (codes "drive") gs) (value_in (codes "gen") gs)
     travel (not_given (names_of application.Tally) (codes "gen") gs refl h) f
+no_band _ gs t travel h e f is = absurd (let same = same_Some _ t e ∙ is in cc)
 
 in_is : (a : Application) (gs : List Given) (c : Command) → accepted (names_of a) gs ≡ true → command_in a gs ≡ Some c → InRanges c
 in_is a gs c h e =

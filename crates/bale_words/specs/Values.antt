@@ -4,8 +4,8 @@ use Rattle.std.specs.List.{list_any, slice_split}
 use Rattle.std.specs.Option.{option_map, option_and_then}
 use Rattle.std.specs.Str.{bytes_eq}
 use Rattle.route_tensor.specs.Refusal.{refusal}
-use Rattle.bale_words.specs.declared.command.Application.{Application}
-use Rattle.bale_words.specs.declared.command.Application.TheVariants as application
+use Rattle.bale_words.specs.declared.task.Application.{Application}
+use Rattle.bale_words.specs.declared.task.Application.TheVariants as application
 use Rattle.bale_words.specs.declared.command.Transport.{Transport}
 use Rattle.bale_words.specs.declared.command.Transport.TheVariants.{Convey, Exstack, Biconvey}
 use Rattle.bale_words.specs.declared.command.Driving.{Driving}

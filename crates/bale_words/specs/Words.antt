@@ -1,11 +1,11 @@
 -- The command line: which lists of words are accepted, and what they ask for.
 -- A `do` gives nothing where one of its steps gives nothing.
 use Rattle.std.specs.Prelude.{ℕ, false, ◌-◌, ◌^◌, List, [], ◌∷◌, ◌++◌, Option, Some, None, codes, if◌then◌else◌}
-use Rattle.bale_words.specs.declared.command.Application.{Application}
-use Rattle.bale_words.specs.declared.command.Application.TheVariants as application
+use Rattle.bale_words.specs.declared.task.Application.{Application}
+use Rattle.bale_words.specs.declared.task.Application.TheVariants as application
 use Rattle.bale_words.specs.declared.command.Command.{Command}
-use Rattle.bale_words.specs.declared.command.Task.{Task}
-use Rattle.bale_words.specs.declared.command.Task.TheVariants as task
+use Rattle.bale_words.specs.declared.task.Task.{Task}
+use Rattle.bale_words.specs.declared.task.Task.TheVariants as task
 use Rattle.bale_words.specs.declared.command.Permutations.{Permutations}
 use Rattle.bale_words.specs.declared.command.Permutations.TheVariants.{Lists, Seed}
 use Rattle.bale_words.specs.declared.command.Transport.TheVariants.{Convey}

@@ -1,27 +1,9 @@
 //! What a command line asks for.
 
 use crate::numbers::Numbers;
+use crate::task::Task;
 use crate::travel::Travel;
 use route_tensor::Grid;
-
-/// The first word: which application is asked for.
-#[derive(Clone, Copy, PartialEq, Eq, Debug)]
-pub enum Application {
-    /// How many entries each column has.
-    Histo,
-    /// For each entry the sum of its column.
-    Ig,
-    /// The matrix with its rows and columns renumbered.
-    Permute,
-    /// The matrix with rows and columns exchanged.
-    Transpose,
-    /// An order of rows and columns that makes the matrix upper triangular.
-    Topo,
-    /// The least weight of a walk from a source to each vertex.
-    Sssp,
-    /// How often each line comes.
-    Tally,
-}
 
 /// How items travel.
 #[derive(Clone, Copy, PartialEq, Eq, Debug)]
@@ -61,19 +43,6 @@ pub enum Permutations {
     Lists(Option<Numbers>, Option<Numbers>),
     /// Both drawn from a seed.
     Seed(u64),
-}
-
-/// The application with what it alone is told.
-#[derive(Drop)]
-pub enum Task {
-    Histo,
-    Ig,
-    Permute(Permutations),
-    Transpose,
-    Topo,
-    /// The source, counted from 1, and the width of a bucket where delta-stepping is asked for.
-    Sssp(u32, Option<u64>),
-    Tally,
 }
 
 /// What a command line asks for.

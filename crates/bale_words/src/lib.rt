@@ -11,13 +11,15 @@ mod numbers;
 mod options;
 mod parse;
 mod read;
+mod task;
 #[cfg(test)]
 mod tests;
 mod travel;
 mod values;
 
-pub use command::{Application, Command, Driving, Generated, Permutations, Task, Transport};
+pub use command::{Command, Driving, Generated, Permutations, Transport};
 pub use fault::WordsFault;
 pub use numbers::Numbers;
 pub use read::read_command;
+pub use task::{Application, Task};
 pub use travel::Travel;

@@ -8,9 +8,10 @@ ghost use Rattle.bale_words.specs.declared.command.Driving.TheVariants.{Threads}
 ghost use Rattle.bale_words.specs.Reading.{Reads};
 ghost use Rattle.bale_words.specs.Values.{as_grid, or_default, if_given, is_text, grid_of, slots_of, buffer_of, steady_of, driving_of, transport_of, has_biconvey, generated_by, generated_of, most_entries};
 
-use crate::command::{Application, Driving, Generated, Transport};
+use crate::command::{Driving, Generated, Transport};
 use crate::fault::WordsFault;
 use crate::numbers::{first_part, number_between, numbers_between};
+use crate::task::Application;
 use route_tensor::Grid;
 use std::alloc::Global;
 
@@ -138,14 +139,10 @@ pub(crate) fn read_transport(application: Application, text: Option<&str>) -> Op
 fn biconvey_for(application: Application) -> Option<Transport>
     ensures { result ≡ (if has_biconvey application then Some Transport.Biconvey else None) }
 {
-    match application {
-        Application::Ig => Some(Transport::Biconvey),
-        Application::Histo
-        | Application::Permute
-        | Application::Transpose
-        | Application::Topo
-        | Application::Sssp
-        | Application::Tally => None,
+    if application == Application::Ig {
+        Some(Transport::Biconvey)
+    } else {
+        None
     }
 }
 

@@ -1,9 +1,18 @@
-use Rattle.std.proofs.Common.{false}
+use Rattle.std.proofs.Common.{List, false, refl}
+use Rattle.rank_group.specs.declared.closed_round.ClosedRound.{ClosedRound}
+use Rattle.bale_subjects.specs.declared.subject.Subject.TheVariants as subject
+use Rattle.bale_runs.specs.Asking.{TellsAsking}
 use Rattle.bale_runs.specs.Runs.{made_for}
+use Rattle.bale_runs.proofs.Cases.{finish}
 use Rattle.bale_runs.proofs.Heard.{tells_asking}
 use Rattle.bale_runs.proofs.asking.heard_on_threads.Goals as goal
 
-pub returns-clause-rounds : goal.returns-clause-rounds
-returns-clause-rounds g c =
-    tells_asking c.args.m.now (made_for false c.args.command.now) c.args.command.now.travel.steady _ c.in_ok-summed.summed.rounds
-    c.in_ok-replied.replied.rounds c.in_ok-summed.ensures.rounds c.in_ok-replied.ensures.rounds c.in_ok-append.ensures.added
+pub returns : goal.returns
+returns g c =
+    record {
+      finish = finish c.args.command.now (subject.Matrix c.args.m.now)
+          (λ (rs : List ClosedRound). TellsAsking c.args.m.now (made_for false c.args.command.now) c.args.command.now.travel.steady rs)
+          g.K.Sink.taken g.K.Sink.faults c.args.out.now c.told.new.out c.told.result c.told.ensures.ending c.told.ensures.rounds c.told.ensures.memory c.told.ensures.no_answer
+          (tells_asking c.args.m.now (made_for false c.args.command.now) c.args.command.now.travel.steady _ c.in_ok-summed.summed.rounds
+          c.in_ok-replied.replied.rounds c.in_ok-summed.ensures.rounds c.in_ok-replied.ensures.rounds refl);
+    }

@@ -1,12 +1,20 @@
-use Rattle.std.proofs.Common.{true}
+use Rattle.std.proofs.Common.{◌+◌, ◌*◌, ◌≤◌, List, true, refl}
+use Rattle.route_tensor.specs.Grid.{ranks}
+use Rattle.rank_group.specs.declared.closed_round.ClosedRound.{ClosedRound}
+use Rattle.bale_subjects.specs.declared.subject.Subject.TheVariants as subject
+use Rattle.bale_runs.specs.Asking.{TellsAsking}
 use Rattle.bale_runs.specs.Runs.{made_for}
-use Rattle.bale_runs.proofs.Heard.{tells_asking, turns_of_both, turns_of_sums}
+use Rattle.bale_runs.proofs.Cases.{finish, always}
+use Rattle.bale_runs.proofs.Heard.{tells_asking, three_each, turns_of_both, turns_of_sums}
 use Rattle.bale_runs.proofs.asking.heard_serially.Goals as goal
 
-pub returns-clause-rounds : goal.returns-clause-rounds
-returns-clause-rounds g c =
-    tells_asking c.args.m.now (made_for true c.args.command.now) c.args.command.now.travel.steady _ c.in_ok-summed.summed.rounds
-    c.in_ok-replied.replied.rounds c.in_ok-summed.ensures.rounds c.in_ok-replied.ensures.rounds c.in_ok-append.ensures.added
+pub returns-clause-finish : goal.returns-clause-finish
+returns-clause-finish g c =
+    finish c.args.command.now (subject.Matrix c.args.m.now)
+    (λ (rs : List ClosedRound). TellsAsking c.args.m.now (made_for true c.args.command.now) c.args.command.now.travel.steady rs)
+    g.K.Sink.taken g.K.Sink.faults c.args.out.now c.told.new.out c.told.result c.told.ensures.ending c.told.ensures.rounds c.told.ensures.memory c.told.ensures.no_answer
+    (tells_asking c.args.m.now (made_for true c.args.command.now) c.args.command.now.travel.steady _ c.in_ok-summed.summed.rounds
+    c.in_ok-replied.replied.rounds c.in_ok-summed.ensures.rounds c.in_ok-replied.ensures.rounds refl)
 
 pub returns-in_err-summed-clause-steps : goal.returns-in_err-summed-clause-steps
 returns-in_err-summed-clause-steps g c =
@@ -17,12 +25,13 @@ returns-in_err-replied-clause-steps g c =
     turns_of_both c.args.m.now c.args.command.now.travel.steady c.args.command.now.grid c.args.steps.now c.summed_serially.new.steps c.replied_serially.new.steps
     c.summed_serially.ensures.steps c.replied_serially.ensures.steps
 
-pub returns-in_err-append-clause-steps : goal.returns-in_err-append-clause-steps
-returns-in_err-append-clause-steps g c =
-    turns_of_both c.args.m.now c.args.command.now.travel.steady c.args.command.now.grid c.args.steps.now c.summed_serially.new.steps c.replied_serially.new.steps
-    c.summed_serially.ensures.steps c.replied_serially.ensures.steps
-
 pub returns-clause-steps : goal.returns-clause-steps
 returns-clause-steps g c =
     turns_of_both c.args.m.now c.args.command.now.travel.steady c.args.command.now.grid c.args.steps.now c.summed_serially.new.steps c.replied_serially.new.steps
     c.summed_serially.ensures.steps c.replied_serially.ensures.steps
+
+pub returns-clause-fewest : goal.returns-clause-fewest
+returns-clause-fewest g c =
+    let n = ranks c.args.command.now.grid in
+    always c.told.result (c.args.steps.now + 3 * n ≤ c.replied_serially.new.steps)
+    (three_each c.args.steps.now c.summed_serially.new.steps c.replied_serially.new.steps n c.in_ok-summed.ensures.fewest c.in_ok-replied.ensures.fewest)

@@ -4,8 +4,7 @@ use Rattle.route_tensor.specs.Grid.{ranks}
 use Rattle.rank_node.specs.Movers.{manner_of}
 use Rattle.rank_node.specs.declared.via.Via.TheVariants as via
 use Rattle.round_program.specs.Canonical.{InRound, EndsWithin, HaveEnded}
-use Rattle.app_cases.specs.Any.{any_rules}
-use Rattle.app_cases.specs.Cases.{sums_case, sums_is_case}
+use Rattle.app_cases.specs.Any.{any_rules, sums_way}
 use Rattle.app_histo_ig.specs.Sums.{sums_rules}
 use Rattle.app_histo_ig.specs.SumsRuns.{sums_starts}
 use Rattle.bale_runs.specs.Runs.{made_for, Tells}
@@ -29,8 +28,8 @@ some g c =
     subst (λ n. 0 < n) (sym c.in_ok-progs.ensures.begins.2.size) (subst (λ n. 0 < n) (sym c.ranks.ensures.value) ranks)
 
 -- they are those that sum columns
-are : (g : Over) (c : In_ok-progs g) → c.in_ok-progs.progs ≡ map sums_case (sums_starts (ranks c.args.command.now.grid) c.args.m.now)
-are g c = c.in_ok-progs.ensures.starts ∙ ap (λ n. map sums_case (sums_starts n c.args.m.now)) c.ranks.ensures.value
+are : (g : Over) (c : In_ok-progs g) → c.in_ok-progs.progs ≡ map sums_way.case (sums_starts (ranks c.args.command.now.grid) c.args.m.now)
+are g c = c.in_ok-progs.ensures.starts ∙ ap (λ n. map sums_way.case (sums_starts n c.args.m.now)) c.ranks.ensures.value
 
 pub case_threads-requires-clause-begins : goal.case_threads-requires-clause-begins
 case_threads-requires-clause-begins g c κs within =
@@ -40,7 +39,7 @@ case_threads-requires-clause-begins g c κs within =
 pub returns-clause-ended : goal.returns-clause-ended
 returns-clause-ended g c =
     let x = (goal.at.returns-clause-ended g c).In_ok-progs in
-    if_ok c.case_threads.result (λ f. HaveEnded any_rules c.in_ok-progs.progs f.progs) (λ f. HaveEnded any_rules (map sums_case (sums_starts (ranks c.args.command.now.grid) c.args.m.now)) f.progs)
+    if_ok c.case_threads.result (λ f. HaveEnded any_rules c.in_ok-progs.progs f.progs) (λ f. HaveEnded any_rules (map sums_way.case (sums_starts (ranks c.args.command.now.grid) c.args.m.now)) f.progs)
     (λ f h. sums_at c.args.m.now (ranks c.args.command.now.grid) c.in_ok-progs.progs f.progs (are g x) h) c.case_threads.ensures.ended
 
 pub returns-clause-rounds : goal.returns-clause-rounds
@@ -50,7 +49,7 @@ returns-clause-rounds g c =
     (λ f. DriveTells c.in_ok-progs.progs (made_for false c.args.command.now) (manner_of via.Convey c.args.command.now.travel.steady) f.rounds)
     (λ f. Tells sums_rules (sums_starts (ranks c.args.command.now.grid) c.args.m.now) (made_for false c.args.command.now)
     (manner_of via.Convey c.args.command.now.travel.steady) f.rounds)
-    (λ f h t. tells sums_is_case (sums_starts (ranks c.args.command.now.grid) c.args.m.now) c.in_ok-progs.progs f.progs
+    (λ f h t. tells sums_way.is_case (sums_starts (ranks c.args.command.now.grid) c.args.m.now) c.in_ok-progs.progs f.progs
     (made_for false c.args.command.now) (manner_of via.Convey c.args.command.now.travel.steady) f.rounds (are g x) (some g x) h t)
     c.case_threads.ensures.ended c.case_threads.ensures.rounds
 

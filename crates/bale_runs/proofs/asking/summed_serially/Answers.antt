@@ -1,15 +1,15 @@
-use Rattle.std.proofs.Common.{◌<◌, ◌≤◌, ◌≡◌, ◌∙◌, ℕ, List, length, map, ap, subst, sym, true}
+use Rattle.std.proofs.Common.{◌<◌, ◌≤◌, ◌≡◌, ◌∙◌, ℕ, List, length, map, ap, subst, sym, true, ◌+◌, ◌*◌}
 use Rattle.route_tensor.proofs.Coordinates.{ranks_some}
 use Rattle.route_tensor.specs.Grid.{ranks}
 use Rattle.rank_node.specs.Movers.{manner_of}
 use Rattle.rank_node.specs.declared.via.Via.TheVariants as via
-use Rattle.round_program.specs.Canonical.{InRound, EndsWithin, HaveEnded}
-use Rattle.app_cases.specs.Any.{any_rules}
-use Rattle.app_cases.specs.Cases.{sums_case, sums_is_case}
+use Rattle.round_program.specs.Canonical.{InRound, EndsWithin, HasRounds, HaveEnded}
+use Rattle.app_cases.specs.Any.{any_rules, sums_way}
 use Rattle.app_histo_ig.specs.Sums.{sums_rules}
 use Rattle.app_histo_ig.specs.SumsRuns.{sums_starts}
+use Rattle.app_histo_ig.proofs.SumsStarts.{one_round}
 use Rattle.bale_runs.specs.Runs.{made_for, Tells}
-use Rattle.bale_runs.proofs.Cases.{DriveTells, tells}
+use Rattle.bale_runs.proofs.Cases.{DriveTells, tells, fewest, on_all}
 use Rattle.bale_runs.proofs.Exchanges.{is_capacity, is_slots}
 use Rattle.bale_runs.proofs.Heard.{if_ok, if_ok_both, sums_at, sums_turns}
 use Rattle.bale_runs.proofs.Orders.{ordered}
@@ -30,8 +30,8 @@ some g c =
     subst (λ n. 0 < n) (sym c.in_ok-progs.ensures.begins.2.size) (subst (λ n. 0 < n) (sym c.ranks.ensures.value) ranks)
 
 -- they are those that sum columns
-are : (g : Over) (c : In_ok-progs g) → c.in_ok-progs.progs ≡ map sums_case (sums_starts (ranks c.args.command.now.grid) c.args.m.now)
-are g c = c.in_ok-progs.ensures.starts ∙ ap (λ n. map sums_case (sums_starts n c.args.m.now)) c.ranks.ensures.value
+are : (g : Over) (c : In_ok-progs g) → c.in_ok-progs.progs ≡ map sums_way.case (sums_starts (ranks c.args.command.now.grid) c.args.m.now)
+are g c = c.in_ok-progs.ensures.starts ∙ ap (λ n. map sums_way.case (sums_starts n c.args.m.now)) c.ranks.ensures.value
 
 pub case_serial-requires-clause-begins : goal.case_serial-requires-clause-begins
 case_serial-requires-clause-begins g c =
@@ -45,7 +45,7 @@ case_serial-requires-clause-order g c =
 pub returns-clause-ended : goal.returns-clause-ended
 returns-clause-ended g c =
     let x = (goal.at.returns-clause-ended g c).In_ok-progs in
-    if_ok c.case_serial.result (λ f. HaveEnded any_rules c.in_ok-progs.progs f.progs) (λ f. HaveEnded any_rules (map sums_case (sums_starts (ranks c.args.command.now.grid) c.args.m.now)) f.progs)
+    if_ok c.case_serial.result (λ f. HaveEnded any_rules c.in_ok-progs.progs f.progs) (λ f. HaveEnded any_rules (map sums_way.case (sums_starts (ranks c.args.command.now.grid) c.args.m.now)) f.progs)
     (λ f h. sums_at c.args.m.now (ranks c.args.command.now.grid) c.in_ok-progs.progs f.progs (are g x) h) c.case_serial.ensures.ended
 
 pub returns-clause-rounds : goal.returns-clause-rounds
@@ -55,7 +55,7 @@ returns-clause-rounds g c =
     (λ f. DriveTells c.in_ok-progs.progs (made_for true c.args.command.now) (manner_of via.Convey c.args.command.now.travel.steady) f.rounds)
     (λ f. Tells sums_rules (sums_starts (ranks c.args.command.now.grid) c.args.m.now) (made_for true c.args.command.now)
     (manner_of via.Convey c.args.command.now.travel.steady) f.rounds)
-    (λ f h t. tells sums_is_case (sums_starts (ranks c.args.command.now.grid) c.args.m.now) c.in_ok-progs.progs f.progs
+    (λ f h t. tells sums_way.is_case (sums_starts (ranks c.args.command.now.grid) c.args.m.now) c.in_ok-progs.progs f.progs
     (made_for true c.args.command.now) (manner_of via.Convey c.args.command.now.travel.steady) f.rounds (are g x) (some g x) h t)
     c.case_serial.ensures.ended c.case_serial.ensures.rounds
 
@@ -69,3 +69,12 @@ case_serial-requires-clause-capacity g c = is_capacity c.args.command.now.travel
 
 pub case_serial-requires-clause-slots : goal.case_serial-requires-clause-slots
 case_serial-requires-clause-slots g c = is_slots c.args.command.now.travel.slots c.requires.ranges.travel.slots
+
+pub returns-clause-fewest : goal.returns-clause-fewest
+returns-clause-fewest g c =
+    let x = (goal.at.returns-clause-fewest g c).In_ok-progs in
+    let dims = c.args.command.now.grid in
+    let starts = sums_starts (ranks dims) c.args.m.now in
+    on_all c.case_serial.result (λ n. HasRounds any_rules c.in_ok-progs.progs n) (λ n. c.args.steps.now + 2 * n * ranks dims ≤ c.case_serial.new.steps)
+    (c.args.steps.now + 2 * ranks dims ≤ c.case_serial.new.steps)
+    (λ f. fewest sums_way.is_case starts c.in_ok-progs.progs dims c.args.steps.now c.case_serial.new.steps (are g x) (some g x) f 1 (one_round starts)) c.case_serial.ensures.fewest

@@ -4,7 +4,7 @@ use Rattle.route_tensor.specs.Grid.{ranks}
 use Rattle.round_program.specs.Canonical.{InRound, EndsWithin, HaveEnded}
 use Rattle.app_cases.specs.Any.{any_rules}
 use Rattle.bale_runs.specs.Jobs.{manner_for}
-use Rattle.bale_answers.specs.Starts.{starts_of}
+use Rattle.bale_answers.specs.Tasks.{starts_of}
 use Rattle.bale_runs.specs.Runs.{made_for, HaveRun, TellsTask}
 use Rattle.rank_node.specs.Movers.{manner_of}
 use Rattle.bale_runs.proofs.Cases.{DriveTells, have_run, tells_task}
@@ -56,6 +56,6 @@ returns-clause-rounds g c =
     (λ f. DriveTells c.in_ok-progs.progs (made_for false c.args.command.now) (manner_of c.via_of.result c.args.command.now.travel.steady) f.rounds)
     (λ f. TellsTask c.args.command.now.task c.args.subject.now (made_for false c.args.command.now) (manner_for c.args.command.now) f.rounds)
     (λ f h t. tells_task c.args.command.now.task c.args.subject.now (made_for false c.args.command.now) (manner_for c.args.command.now) f.rounds c.in_ok-progs.progs f.progs
-    c.requires.suits (are g x) (some g x) h
+    (are g x) (some g x) h
     (subst (λ v. DriveTells c.in_ok-progs.progs (made_for false c.args.command.now) (manner_of v c.args.command.now.travel.steady) f.rounds) c.via_of.ensures t))
     c.case_threads.ensures.ended c.case_threads.ensures.rounds

@@ -1,14 +1,14 @@
-use Rattle.std.proofs.Common.{◌<◌, ◌≤◌, ◌≡◌, ◌∙◌, ℕ, List, true, length, ap, subst, sym, ◌+◌}
+use Rattle.std.proofs.Common.{◌<◌, ◌≤◌, ◌≡◌, ◌∙◌, ℕ, List, true, length, ap, subst, sym, ◌+◌, ◌*◌}
 use Rattle.route_tensor.proofs.Coordinates.{ranks_some}
 use Rattle.route_tensor.specs.Grid.{ranks}
 use Rattle.round_program.specs.Canonical.{InRound, EndsWithin, HasRounds, HaveEnded}
 use Rattle.app_cases.specs.Any.{any_rules}
 use Rattle.bale_runs.specs.Jobs.{manner_for}
-use Rattle.bale_answers.specs.Starts.{starts_of}
-use Rattle.bale_runs.specs.Runs.{made_for, HaveRun, TellsTask}
+use Rattle.bale_answers.specs.Tasks.{starts_of}
+use Rattle.bale_runs.specs.Runs.{made_for, HaveRun, TellsTask, FewestOfTask}
 use Rattle.rank_node.specs.Movers.{manner_of}
 use Rattle.rank_group.specs.Told.{turns_within}
-use Rattle.bale_runs.proofs.Cases.{DriveTells, have_run, tells_task, turns_of_task}
+use Rattle.bale_runs.proofs.Cases.{DriveTells, have_run, tells_task, turns_of_task, fewest_of_task, on_all}
 use Rattle.bale_runs.proofs.Exchanges.{is_capacity, is_slots}
 use Rattle.bale_runs.proofs.Heard.{if_ok, if_ok_both}
 use Rattle.bale_runs.proofs.Orders.{ordered}
@@ -62,7 +62,7 @@ returns-clause-rounds g c =
     (λ f. DriveTells c.in_ok-progs.progs (made_for true c.args.command.now) (manner_of c.via_of.result c.args.command.now.travel.steady) f.rounds)
     (λ f. TellsTask c.args.command.now.task c.args.subject.now (made_for true c.args.command.now) (manner_for c.args.command.now) f.rounds)
     (λ f h t. tells_task c.args.command.now.task c.args.subject.now (made_for true c.args.command.now) (manner_for c.args.command.now) f.rounds c.in_ok-progs.progs f.progs
-    c.requires.suits (are g x) (some g x) h
+    (are g x) (some g x) h
     (subst (λ v. DriveTells c.in_ok-progs.progs (made_for true c.args.command.now) (manner_of v c.args.command.now.travel.steady) f.rounds) c.via_of.ensures t))
     c.case_serial.ensures.ended c.case_serial.ensures.rounds
 
@@ -70,6 +70,14 @@ pub returns-clause-steps : goal.returns-clause-steps
 returns-clause-steps g c =
     let x = (goal.at.returns-clause-steps g c).In_ok-progs in
     turns_of_task c.args.command.now.task c.args.subject.now (manner_for c.args.command.now) c.args.command.now.grid c.args.steps.now c.case_serial.new.steps c.in_ok-progs.progs
-    c.requires.suits (are g x) (some g x)
+    (are g x) (some g x)
     (subst (λ v. (n : ℕ) → HasRounds any_rules c.in_ok-progs.progs n → c.case_serial.new.steps ≤ c.args.steps.now + turns_within any_rules (manner_of v c.args.command.now.travel.steady) c.args.command.now.grid c.in_ok-progs.progs n)
     c.via_of.ensures c.case_serial.ensures.steps)
+
+pub returns-clause-fewest : goal.returns-clause-fewest
+returns-clause-fewest g c =
+    let x = (goal.at.returns-clause-fewest g c).In_ok-progs in
+    let dims = c.args.command.now.grid in
+    on_all c.case_serial.result (λ n. HasRounds any_rules c.in_ok-progs.progs n) (λ n. c.args.steps.now + 2 * n * ranks dims ≤ c.case_serial.new.steps)
+    (FewestOfTask c.args.command.now.task c.args.subject.now dims c.args.steps.now c.case_serial.new.steps)
+    (fewest_of_task c.args.command.now.task c.args.subject.now dims c.args.steps.now c.case_serial.new.steps c.in_ok-progs.progs (are g x) (some g x)) c.case_serial.ensures.fewest

@@ -1,5 +1,5 @@
 use Rattle.std.proofs.Common.{◌∙◌, ap, sym}
-use Rattle.bale_words.specs.declared.command.Task.{Task}
+use Rattle.bale_words.specs.declared.task.Task.{Task}
 use Rattle.bale_subjects.specs.Fitness.{task_unfitness}
 use Rattle.bale_subjects.proofs.unfit.task_unfitness.Goals as goal
 

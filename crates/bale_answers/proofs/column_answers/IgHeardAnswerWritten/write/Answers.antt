@@ -1,9 +1,0 @@
-use Rattle.std.proofs.Common.{ℕ, List, refl, sym, subst}
-use Rattle.bale_words.specs.declared.command.Task.{Task}
-use Rattle.app_histo_ig.specs.IgLines.{ig_lines}
-use Rattle.bale_answers.specs.Tasks.{IsMatrixAnswer}
-use Rattle.bale_answers.proofs.column_answers.IgHeardAnswerWritten.write.Goals as goal
-
-pub returns-clause-there_is : goal.returns-clause-there_is
-returns-clause-there_is g c =
-    subst (λ (t : Task). (bytes : List ℕ) × IsMatrixAnswer t c.args.m.now bytes) (sym c.requires.serves) (ig_lines c.args.m.now.entries, refl)

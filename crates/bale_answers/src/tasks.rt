@@ -1,0 +1,163 @@
+//! Which application does a task: its programs as they begin, and, after their last round, its answer.
+
+ghost use Rattle.std.specs.Prelude.{◌≡◌, ◌≤◌, ◌<◌, ℕ, Bool, true, false, List, None, length, IfOk, OnErr};
+ghost use Rattle.round_program.specs.Canonical.{InRound, EndsWithin, HaveEnded};
+ghost use Rattle.app_cases.specs.Any.{any_rules};
+ghost use Rattle.bale_words.specs.Ranges.{TaskInRanges};
+ghost use Rattle.bale_subjects.specs.Fitness.{first_failed, subject_tests, task_unfitness};
+ghost use Rattle.bale_subjects.specs.Subjects.{is_tally, suits};
+ghost use Rattle.bale_answers.specs.Endings.{IsEnding};
+ghost use Rattle.bale_answers.specs.Tasks.{starts_of};
+
+use crate::application::Application;
+use crate::column_answers::{HistoAnswer, IgAnswer};
+use crate::finish::{Ending, finished_as};
+use crate::line_answer::TallyAnswer;
+use crate::matrix_answers::{PermuteAnswer, TransposeAnswer};
+use crate::order_answer::OrderAnswer;
+use crate::walk_answers::{DeltaAnswer, SsspAnswer};
+use app_cases::{AnyProgram, put_all};
+use bale_subjects::Subject;
+use bale_types::{NoMemory, Sink};
+use bale_words::{Generated, Task};
+use mtx_text::Matrix;
+use round_program::Progs;
+use std::alloc::Global;
+
+/// The programs of so many ranks, from 1 to 64, for a task and a subject that fit each other.
+///
+/// # Errors
+/// `NoMemory` where the programs found none.
+pub fn started(
+    alloc: Global,
+    task: &Task,
+    subject: &Subject,
+    ranks: u32,
+) -> Result<Progs<AnyProgram>, NoMemory>
+    requires suits { suits task.now subject.now ≡ true }
+    requires ranges { TaskInRanges task.now }
+    requires fits { (serial : Bool) × (first_failed (subject_tests task.now subject.now serial) ≡ None) }
+    requires some { 1 ≤ ranks }
+    requires few { ranks ≤ 64 }
+    ensures starts { IfOk result (λ ps. ps ≡ starts_of task.now ranks subject.now) }
+    ensures begins { IfOk result (λ ps. (shape : List ℕ) × (most : ℕ) × InRound any_rules ranks 0 shape most ps
+        × EndsWithin any_rules ps most) }
+{
+    match subject {
+        Subject::Matrix(m) => started_on(alloc, task, m, ranks),
+        Subject::Lines(lines) => started_as::<TallyAnswer>(alloc, &(), lines, ranks),
+    }
+}
+
+/// Writes the answer of a task for its subject, by the programs after their last round: its bytes, or, at status 0 and where the
+/// matrix was generated, their summary.
+///
+/// # Errors
+/// `NoMemory` where the answer found none: then nothing is written.
+pub fn finished<K: Sink>(
+    alloc: Global,
+    task: &Task,
+    subject: &Subject,
+    generated: Option<Generated>,
+    progs: Progs<AnyProgram>,
+    out: &mut K,
+) -> Result<Ending, NoMemory>
+    requires suits { suits task.now subject.now ≡ true }
+    requires ranges { TaskInRanges task.now }
+    requires fits { (serial : Bool) × (first_failed (subject_tests task.now subject.now serial) ≡ None) }
+    requires ended { (ranks : ℕ) × (1 ≤ ranks) × (ranks ≤ 64) × (0 < length (starts_of task.now ranks subject.now))
+        × HaveEnded any_rules (starts_of task.now ranks subject.now) progs }
+    ensures ending { IfOk result (IsEnding task.now subject.now generated K.taken K.faults out.old out.new) }
+    ensures no_answer { OnErr result (out.new ≡ out.old) }
+{
+    match subject {
+        Subject::Matrix(m) => finished_on(alloc, task, m, generated, progs, out),
+        Subject::Lines(lines) => {
+            finished_as::<TallyAnswer, K>(alloc, &(), lines, generated, progs, out)
+        }
+    }
+}
+
+/// The programs for a task and a matrix that fit each other.
+fn started_on(
+    alloc: Global,
+    task: &Task,
+    m: &Matrix,
+    ranks: u32,
+) -> Result<Progs<AnyProgram>, NoMemory>
+    requires other { is_tally task.now ≡ false }
+    requires ranges { TaskInRanges task.now }
+    requires fits { (serial : Bool) × (task_unfitness task.now m.now serial ≡ None) }
+    requires some { 1 ≤ ranks }
+    requires few { ranks ≤ 64 }
+    ensures starts { IfOk result (λ ps. ps ≡ starts_of task.now ranks (Subject.Matrix m.now)) }
+    ensures begins { IfOk result (λ ps. (shape : List ℕ) × (most : ℕ) × InRound any_rules ranks 0 shape most ps
+        × EndsWithin any_rules ps most) }
+{
+    m.known();
+    match task {
+        Task::Histo => started_as::<HistoAnswer>(alloc, &(), m, ranks),
+        Task::Ig => started_as::<IgAnswer>(alloc, &(), m, ranks),
+        Task::Permute(by) => started_as::<PermuteAnswer>(alloc, by, m, ranks),
+        Task::Transpose => started_as::<TransposeAnswer>(alloc, &(), m, ranks),
+        Task::Topo => started_as::<OrderAnswer>(alloc, &(), m, ranks),
+        Task::Sssp(source, None) => started_as::<SsspAnswer>(alloc, source, m, ranks),
+        Task::Sssp(source, Some(delta)) => {
+            started_as::<DeltaAnswer>(alloc, &(*source, *delta), m, ranks)
+        }
+        Task::Tally => unreachable!(),
+    }
+}
+
+/// Writes the answer of a task for a matrix.
+fn finished_on<K: Sink>(
+    alloc: Global,
+    task: &Task,
+    m: &Matrix,
+    generated: Option<Generated>,
+    progs: Progs<AnyProgram>,
+    out: &mut K,
+) -> Result<Ending, NoMemory>
+    requires other { is_tally task.now ≡ false }
+    requires ranges { TaskInRanges task.now }
+    requires fits { (serial : Bool) × (task_unfitness task.now m.now serial ≡ None) }
+    requires ended { (ranks : ℕ) × (1 ≤ ranks) × (ranks ≤ 64)
+        × (0 < length (starts_of task.now ranks (Subject.Matrix m.now)))
+        × HaveEnded any_rules (starts_of task.now ranks (Subject.Matrix m.now)) progs }
+    ensures ending { IfOk result (IsEnding task.now (Subject.Matrix m.now) generated K.taken K.faults out.old out.new) }
+    ensures no_answer { OnErr result (out.new ≡ out.old) }
+{
+    m.known();
+    match task {
+        Task::Histo => finished_as::<HistoAnswer, K>(alloc, &(), m, generated, progs, out),
+        Task::Ig => finished_as::<IgAnswer, K>(alloc, &(), m, generated, progs, out),
+        Task::Permute(by) => finished_as::<PermuteAnswer, K>(alloc, by, m, generated, progs, out),
+        Task::Transpose => finished_as::<TransposeAnswer, K>(alloc, &(), m, generated, progs, out),
+        Task::Topo => finished_as::<OrderAnswer, K>(alloc, &(), m, generated, progs, out),
+        Task::Sssp(source, None) => {
+            finished_as::<SsspAnswer, K>(alloc, source, m, generated, progs, out)
+        }
+        Task::Sssp(source, Some(delta)) => {
+            finished_as::<DeltaAnswer, K>(alloc, &(*source, *delta), m, generated, progs, out)
+        }
+        Task::Tally => unreachable!(),
+    }
+}
+
+/// The programs of one application, put as any of them.
+fn started_as<A: Application>(
+    alloc: Global,
+    options: &A::Options,
+    of: &A::Of,
+    ranks: u32,
+) -> Result<Progs<AnyProgram>, NoMemory>
+    requires needs { A.needs options.now of.now }
+    requires some { 1 ≤ ranks }
+    requires few { ranks ≤ 64 }
+    ensures starts { IfOk result (λ ps. ps ≡ starts_of (A.task options.now) ranks (A.subject of.now)) }
+    ensures begins { IfOk result (λ ps. (shape : List ℕ) × (most : ℕ) × InRound any_rules ranks 0 shape most ps
+        × EndsWithin any_rules ps most) }
+{
+    let progs = A::start(alloc, options, of, ranks)?;
+    put_all(alloc, progs)
+}

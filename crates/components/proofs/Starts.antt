@@ -6,7 +6,7 @@ use Rattle.std.proofs.lemmas.List.FromFn.{length-range_with_len, get_or-range_wi
 use Rattle.bale_types.specs.declared.triple.Triple.{Triple}
 use Rattle.mtx_text.specs.Sparse.{Sparse, IsSparse}
 use Rattle.round_program.specs.Canonical.{InRound}
-use Rattle.sparse_rows.proofs.Starts.{made_in_round}
+use Rattle.reductions.proofs.Starts.{made_in_round}
 use Rattle.components.specs.Connected.{links}
 use Rattle.components.specs.LabelRules.{IsLabels, IsLink, label_rules, most_rounds}
 use Rattle.components.specs.Starts.{own_links, begins, starts}

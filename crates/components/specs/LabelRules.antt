@@ -1,11 +1,11 @@
 -- The propagation of labels, as a program in rounds.
-use Rattle.std.specs.Prelude.{ℕ, ◌+◌, ◌-◌, ◌*◌, ◌%◌, ◌^◌, ◌<◌, ◌≤◌, ◌≡◌, ◌==◌, ◌&&◌, not, nat_lt, nat_eq, min, Bool, false, List, [], ◌∷◌, map, cond, length, slice_index_or}
+use Rattle.std.specs.Prelude.{ℕ, ◌+◌, ◌-◌, ◌*◌, ◌%◌, ◌^◌, ◌<◌, ◌≤◌, ◌≡◌, ◌==◌, ◌&&◌, not, nat_lt, min, Bool, false, List, [], ◌∷◌, map, length, slice_index_or}
 use Rattle.std.specs.List.{All, filter}
-use Rattle.std.specs.Cmp.Lexicographic.{pointwise}
 use Rattle.bale_types.specs.declared.Item.{Item}
-use Rattle.list_laws.specs.Lists.{changed_at}
 use Rattle.round_program.specs.Rules.{Rules}
 use Rattle.round_program.specs.Laws.{is_item}
+use Rattle.reductions.specs.declared.reduced.Reduction.TheVariants.{Least}
+use Rattle.reductions.specs.Reductions.{ReducedState, begun, reduced, has_changed, vote_of}
 use Rattle.components.specs.declared.labels.Link.{Link}
 
 -- one rank's part
@@ -17,10 +17,8 @@ pub record LabelState : Type 0 where
   pub links : List Link
   -- those along which a label is sent in this round
   pub active : List Link
-  -- the labels as the round began, by vertex
-  pub before : List ℕ
-  -- the labels now
-  pub labels : List ℕ
+  -- the labels, by vertex
+  pub labels : ReducedState
 
 -- a link between vertices below n
 pub record IsLink (n : ℕ) (l : Link) : Type 0 where
@@ -31,16 +29,12 @@ pub record IsLink (n : ℕ) (l : Link) : Type 0 where
 pub record IsLabels (s : LabelState) : Type 0 where
   pub own : s.rank < s.ranks
   pub few : s.ranks ≤ 64
-  pub vertices : length s.labels ≤ 16_384
-  pub same : length s.before ≡ length s.labels
-  pub low : All (λ l. l < length s.labels) s.labels
-  pub low_before : All (λ l. l < length s.labels) s.before
-  pub linked : All (IsLink (length s.labels)) s.links
-  pub sent : All (IsLink (length s.labels)) s.active
-
--- the label of the vertex where a link begins fell
-abbrev pub fell : List ℕ → List ℕ → Link → Bool
-fell before labels l = not (slice_index_or labels l.from 0 == slice_index_or before l.from 0)
+  pub vertices : length s.labels.cells ≤ 16_384
+  pub same : length s.labels.before ≡ length s.labels.cells
+  pub low : All (λ l. l < length s.labels.cells) s.labels.cells
+  pub low_before : All (λ l. l < length s.labels.cells) s.labels.before
+  pub linked : All (IsLink (length s.labels.cells)) s.links
+  pub sent : All (IsLink (length s.labels.cells)) s.active
 
 -- the label of a link's beginning, for its end, on its way to the end's owner
 abbrev pub label_item : List ℕ → Link → Item
@@ -54,10 +48,6 @@ abbrev pub is_label : List ℕ → ℕ → ℕ → ℕ → ℕ → Item → Bool
 is_label (n ∷ []) ranks round to from x = nat_lt from ranks && nat_lt to ranks && nat_lt x.a n && nat_lt x.b n && x.a % ranks == to && is_item x
 is_label shape ranks round to from x = false
 
--- a vertex keeps the least label that it hears
-abbrev pub lowered : List ℕ → Item → List ℕ
-lowered labels x = changed_at labels x.a 0 (λ l. min l x.b)
-
 -- A bound on the rounds: in each but the last some label falls, and 64 ranks have 16,384 labels below 16,384 at most.
 abbrev pub most_rounds : ℕ
 most_rounds = 64 * 16_384 * 16_384 + 1
@@ -69,16 +59,16 @@ label_rules =
       rank = λ s. s.rank;
       ranks = λ s. s.ranks;
       round = λ s. s.round;
-      shape = λ s. length s.labels ∷ [];
+      shape = λ s. length s.labels.cells ∷ [];
       most = λ s. most_rounds;
-      emissions = λ s. map (to_owner s.ranks s.before) s.active;
+      emissions = λ s. map (to_owner s.ranks s.labels.before) s.active;
       may_be_sent = is_label;
-      absorbed = λ s from x. record s { labels = lowered s.labels x };
-      vote = λ s. cond (pointwise nat_eq s.labels s.before) 0 1;
+      absorbed = λ s from x. record s { labels = reduced Least s.labels x.a x.b };
+      vote = λ s. vote_of s.labels;
       goes_on = λ shape round votes. not (votes == 0);
       ended = λ s votes. record s {
         round = min (s.round + 1) (2 ^ 64 - 1);
-        active = filter (fell s.before s.labels) s.links;
-        before = s.labels;
+        active = filter (λ l. has_changed s.labels l.from) s.links;
+        labels = begun s.labels.cells;
       };
     }

@@ -10,6 +10,5 @@ label_state s =
       round = s.round;
       links = s.links.items;
       active = s.active.items;
-      before = s.before.items;
-      labels = s.labels.items;
+      labels = s.labels;
     }

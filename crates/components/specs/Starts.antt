@@ -4,6 +4,7 @@ use Rattle.std.specs.List.{range_with_len}
 use Rattle.bale_types.specs.declared.triple.Triple.{Triple}
 use Rattle.mtx_text.specs.Sparse.{Sparse}
 use Rattle.sparse_rows.specs.Deals.{dealt}
+use Rattle.reductions.specs.Reductions.{begun}
 use Rattle.components.specs.declared.labels.Link.{Link}
 use Rattle.components.specs.Connected.{links}
 use Rattle.components.specs.LabelRules.{LabelState}
@@ -21,8 +22,7 @@ begins ranks m rank =
       round = 0;
       links = own_links ranks rank m.entries;
       active = own_links ranks rank m.entries;
-      before = range_with_len 0 m.rows;
-      labels = range_with_len 0 m.rows;
+      labels = begun (range_with_len 0 m.rows);
     }
 
 -- All ranks as they begin.

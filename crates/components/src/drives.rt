@@ -7,59 +7,30 @@ ghost use Rattle.components.specs.LabelRules.{label_rules};
 ghost use Rattle.components.specs.Starts.{starts};
 
 use crate::labels::Labels;
-use crate::starting::{numbers, start};
+use crate::starting::start;
 use bale_types::NoMemory;
 use mtx_text::Matrix;
-use rank_group::{OpenGate, Steps, Via, drive_serial, drive_threads};
+use rank_group::{Settings, drive_in_turn, drive_on_threads};
 use round_program::Progs;
 use route_tensor::Grid;
 use std::alloc::Global;
-use std::marker::Brand;
 use std::sync::Wait;
-use std::sync::ledger::{Blank, Ledger};
 use std::thread::Threads;
+use std::time::Clock;
 
 /// The label of each vertex, found by the ranks of a grid of one number, which one thread turns.
 ///
 /// # Errors
 /// `NoMemory` where there was none.
+#[tactic(auto, using(crate::proofs::Ranks::some_ranks))]
 pub fn components_serial(alloc: Global, m: &Matrix, grid: &Grid) -> Result<Vec<u32>, NoMemory>
     requires square { m.now.cols ≡ m.now.rows }
     requires one_hop { length grid.now ≡ 1 }
     ensures { IfOk result (λ v. AreComponents m.now v.items) }
 {
-    serial::<Brand>(alloc, m, grid, Blank::new(1))
-}
-
-/// The same, with each turn noted on a ledger, as `drive_serial` asks.
-#[tactic(auto, using(crate::proofs::Ranks::some_ranks), unfolding(port_bank::specs::Port::IsSlots))]
-fn serial<L: Ledger>(
-    alloc: Global,
-    m: &Matrix,
-    grid: &Grid,
-    blank: Blank,
-) -> Result<Vec<u32>, NoMemory>
-    requires square { m.now.cols ≡ m.now.rows }
-    requires one_hop { length grid.now ≡ 1 }
-    requires name { blank.name ≡ L.name }
-    requires parts { blank.parts ≡ L.parts }
-    requires some { 0 < L.parts }
-    ensures { IfOk result (λ v. AreComponents m.now v.items) }
-{
     let ranks = grid.ranks();
     let progs = start(alloc, m, ranks)?;
-    let order = numbers(alloc, ranks)?;
-    let mut steps = Steps::<L>::new(blank);
-    let finished = drive_serial::<64, 1, Labels, L>(
-        alloc,
-        grid,
-        Via::Convey,
-        2,
-        false,
-        &order,
-        progs,
-        &mut steps,
-    )?;
+    let finished = drive_in_turn::<64, 1, Labels>(alloc, grid, Settings::new(), progs)?;
     labels_of(alloc, m, ranks, &finished.progs)
 }
 
@@ -68,7 +39,7 @@ fn serial<L: Ledger>(
 /// # Errors
 /// `NoMemory` where there was none.
 #[tactic(auto, using(crate::proofs::Ranks::some_ranks))]
-pub fn components_threads<R: Threads + Wait + Sync>(
+pub fn components_threads<R: Threads + Wait + Clock + Sync>(
     rt: &R,
     alloc: Global,
     m: &Matrix,
@@ -80,16 +51,7 @@ pub fn components_threads<R: Threads + Wait + Sync>(
 {
     let ranks = grid.ranks();
     let progs = start(alloc, m, ranks)?;
-    let finished = drive_threads::<64, 1, R, Labels, OpenGate>(
-        rt,
-        alloc,
-        grid,
-        Via::Convey,
-        2,
-        false,
-        progs,
-        &OpenGate,
-    )?;
+    let finished = drive_on_threads::<64, 1, R, Labels>(rt, alloc, grid, Settings::new(), progs)?;
     labels_of(alloc, m, ranks, &finished.progs)
 }
 
@@ -124,7 +86,7 @@ fn label_of(m: &Matrix, ranks: u32, progs: &Progs<Labels>, vertex: u32) -> u32
 {
     m.known();
     match progs.get((vertex % ranks) as usize) {
-        Some(owner) => owner.labels()[vertex as usize],
+        Some(owner) => owner.labels().cells()[vertex as usize] as u32,
         None => unreachable!(),
     }
 }

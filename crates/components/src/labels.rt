@@ -2,12 +2,14 @@
 
 ghost use Rattle.std.specs.Prelude.{◌≡◌, ◌<◌, ◌≤◌, length, IfOk};
 ghost use Rattle.std.specs.List.{All, filter};
-ghost use Rattle.components.specs.LabelRules.{IsLink, fell};
+ghost use Rattle.reductions.specs.Reductions.{has_changed};
+ghost use Rattle.components.specs.LabelRules.{IsLink};
 ghost use Rattle.components.specs.Starts.{begins};
 
 use crate::starting::{links_of, numbers};
 use bale_types::{Item, NoMemory};
 use mtx_text::Matrix;
+use reductions::{Reduced, Reduction};
 use round_program::Program;
 use std::alloc::Global;
 use std::marker::Model;
@@ -31,10 +33,8 @@ pub struct Labels {
     links: Vec<Link>,
     /// those along which a label is sent in this round
     active: Vec<Link>,
-    /// the labels as the round began, by vertex
-    before: Vec<u32>,
-    /// the labels now
-    labels: Vec<u32>,
+    /// the labels, by vertex
+    labels: Reduced,
 }
 
 impl Model for Labels {
@@ -62,8 +62,7 @@ impl Labels {
     {
         let links = links_of(alloc, m.entries(), ranks, rank)?;
         let active = links_of(alloc, m.entries(), ranks, rank)?;
-        let before = numbers(alloc, m.rows())?;
-        let labels = numbers(alloc, m.rows())?;
+        let labels = Reduced::new(alloc, &numbers(alloc, m.rows())?)?;
         Ok(Labels {
             alloc,
             rank,
@@ -71,13 +70,12 @@ impl Labels {
             round: 0,
             links,
             active,
-            before,
             labels,
         })
     }
 
     /// The labels by vertex; of own vertices they mean something.
-    pub fn labels(&self) -> &[u32]
+    pub fn labels(&self) -> &Reduced
         ensures { result.now ≡ self.now.labels }
     {
         &self.labels
@@ -112,7 +110,7 @@ impl Program for Labels {
         let link = self.active[i as usize];
         let item = Item {
             a: link.to as u64,
-            b: self.before[link.from as usize] as u64,
+            b: self.labels.before()[link.from as usize],
             c: 0,
         };
         (link.to % self.ranks, item)
@@ -127,17 +125,12 @@ impl Program for Labels {
     }
 
     fn absorb(&mut self, from: u32, item: Item) -> Result<(), NoMemory> {
-        let vertex = item.a as usize;
-        self.labels[vertex] = self.labels[vertex].min(item.b as u32);
+        self.labels.take(Reduction::Least, item.a as usize, item.b);
         Ok(())
     }
 
     fn vote(&self) -> u64 {
-        if self.labels.as_slice() == self.before.as_slice() {
-            0
-        } else {
-            1
-        }
+        self.labels.vote()
     }
 
     fn goes_on(&self, votes: u64) -> bool {
@@ -145,30 +138,21 @@ impl Program for Labels {
     }
 
     fn end_round(&mut self, votes: u64) -> Result<bool, NoMemory> {
-        let active = fallen(self.alloc, &self.links, &self.before, &self.labels)?;
-        let before = Vec::from_slice(self.alloc, &self.labels)?;
-        self.active = active;
-        self.before = before;
+        self.active = fallen(self.alloc, &self.links, &self.labels)?;
+        self.labels.begin();
         self.round = self.round.saturating_add(1);
         Ok(votes != 0)
     }
 }
 
 /// The links from vertices whose labels fell.
-fn fallen(
-    alloc: Global,
-    links: &[Link],
-    before: &[u32],
-    labels: &[u32],
-) -> Result<Vec<Link>, NoMemory>
-    requires same { length before.now ≡ length labels.now }
-    requires linked { All (IsLink (length labels.now)) links.now }
-    ensures { IfOk result (λ v. v.items ≡ filter (fell before.now labels.now) links.now) }
+fn fallen(alloc: Global, links: &[Link], labels: &Reduced) -> Result<Vec<Link>, NoMemory>
+    requires { All (IsLink (length labels.now.cells)) links.now }
+    ensures { IfOk result (λ v. v.items ≡ filter (λ l. has_changed labels.now l.from) links.now) }
 {
     let mut active = Vec::new(alloc);
     for link in links {
-        let vertex = link.from as usize;
-        if labels[vertex] != before[vertex] {
+        if labels.has_changed(link.from as usize) {
             active.push(*link)?;
         }
     }

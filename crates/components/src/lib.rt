@@ -13,9 +13,11 @@
 //! | `specs/LabelLaws` | the proof of the seven laws |
 //! | `src/starting.rt`, `specs/Starts` | [`start`], the programs of all ranks from a matrix, and the states in which they begin |
 //! | `src/drives.rt` | [`components_serial`], [`components_threads`]: from a matrix to the labels of its vertices |
-//! | `proofs/Absorbs`, `Rounds`, `Runs` | one round on one rank; one round on all; that the run ends, and that each label is then least |
 //! | `proofs/Starts` | that the ranks begin in round 0 of one run |
-//! | `proofs/Programs`, `Votes`, `Ranks`, `Lists` | what says nothing of labels: a round of any program; programs that go on while there are votes; orders of ranks; lists |
+//! | `proofs/Rounds`, `Runs` | what holds as a round begins holds as the next begins; the run ends, and each label is then least |
+//!
+//! What says nothing of labels stands in the crate reductions: labels are a `Reduced`, whose reductions commute, and whose rounds and
+//! ends are proved there.
 #![tactic(auto)]
 
 mod drives;

@@ -9,6 +9,7 @@ ghost use Rattle.components.specs.Starts.{own_links, starts};
 use crate::labels::{Labels, Link};
 use bale_types::{NoMemory, Triple};
 use mtx_text::Matrix;
+use reductions::programs;
 use round_program::Progs;
 use std::alloc::Global;
 
@@ -25,11 +26,7 @@ pub fn start(alloc: Global, m: &Matrix, ranks: u32) -> Result<Progs<Labels>, NoM
     ensures ends { IfOk result (λ ps. EndsWithin label_rules ps most_rounds) }
 {
     m.known();
-    let mut progs = Progs::new(alloc);
-    for rank in 0..ranks {
-        progs.add(Labels::new(alloc, m, ranks, rank)?)?;
-    }
-    Ok(progs)
+    programs(alloc, ranks, |rank| Labels::new(alloc, m, ranks, rank))
 }
 
 /// The links from a rank's vertices.
@@ -65,12 +62,12 @@ fn keep_own(own: &mut Vec<Link>, ranks: u32, rank: u32, link: Link) -> Result<()
 }
 
 /// The numbers below `count`, in order.
-pub(crate) fn numbers(alloc: Global, count: u32) -> Result<Vec<u32>, NoMemory>
+pub(crate) fn numbers(alloc: Global, count: u32) -> Result<Vec<u64>, NoMemory>
     ensures { IfOk result (λ v. v.items ≡ range_with_len 0 count) }
 {
     let mut all = Vec::new(alloc);
     for number in 0..count {
-        all.push(number)?;
+        all.push(number as u64)?;
     }
     Ok(all)
 }

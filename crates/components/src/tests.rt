@@ -8,6 +8,7 @@ use std::alloc::Global;
 use std::sync::Wait;
 use std::test::Fail;
 use std::thread::Threads;
+use std::time::Clock;
 
 /// Joined are 1-6, 6-3, 3-5 and 2-7; vertex 4 has an entry to itself.
 const TWO: &[u8] =
@@ -17,7 +18,7 @@ const TWO: &[u8] =
 const WAY: &[u8] = b"%%MatrixMarket matrix coordinate pattern general\n5 5 4\n5 4\n4 3\n3 2\n2 1\n";
 
 /// Whether both drives find these labels, on all grids.
-fn both_find<R: Threads + Wait + Sync>(
+fn both_find<R: Threads + Wait + Clock + Sync>(
     rt: &R,
     alloc: Global,
     text: &[u8],

@@ -1,4 +1,4 @@
-use Rattle.std.proofs.Common.{◌≡◌, ◌<◌, ◌%◌, Some, None, slice_get, length, get_or, sym, subst, ap, ◌∙◌}
+use Rattle.std.proofs.Common.{◌≡◌, ◌<◌, ◌≤◌, ◌%◌, [], arith, refl, Some, None, slice_get, length, get_or, sym, subst, ap, ◌∙◌}
 use Rattle.std.proofs.Math.Nat.{mod-lt}
 use Rattle.std.specs.Option.{option_copied}
 use Rattle.list_laws.proofs.Lists.{find}
@@ -14,14 +14,24 @@ unreachable-requires c =
     let there : slice_get c.args.progs.now (c.args.vertex % c.args.ranks) ≡ Some s.0 = s.1 in
     cc
 
-pub bounds-labels-vertex : goal.bounds-labels-vertex
-bounds-labels-vertex c =
+pub bounds-cells-vertex : goal.bounds-cells-vertex
+bounds-cells-vertex c =
     let o = owner_has c.args.m.now c.args.ranks c.requires.some c.requires.few c.known.ensures c.requires.square c.args.progs.now c.requires.ended c.args.vertex c.in-Some.owner.now
     (sym c.get.ensures ∙ ap option_copied c.in-Some.is) in
-    subst (λ ls. c.args.vertex < length ls) (sym c.labels.ensures) (subst (λ n. c.args.vertex < n) (sym o.size) c.requires.vertex)
+    subst (λ ls. c.args.vertex < length ls) (sym (c.cells.ensures ∙ ap (λ l. l.cells) c.labels.ensures)) (subst (λ n. c.args.vertex < n) (sym o.size) c.requires.vertex)
+
+pub overflow_cast-result-in-Some : goal.overflow_cast-result-in-Some
+overflow_cast-result-in-Some c =
+    let o = owner_has c.args.m.now c.args.ranks c.requires.some c.requires.few c.known.ensures c.requires.square c.args.progs.now c.requires.ended c.args.vertex c.in-Some.owner.now
+    (sym c.get.ensures ∙ ap option_copied c.in-Some.is) in
+    let low : get_or c.in-Some.owner.now.labels.cells c.args.vertex 0 ≤ c.args.vertex = (o.least c.requires.vertex).least c.args.vertex ([], refl) in
+    let is : get_or c.cells.result.now c.args.vertex 0 ≡ get_or c.in-Some.owner.now.labels.cells c.args.vertex 0 = ap (λ ls. get_or ls c.args.vertex 0) (c.cells.ensures ∙ ap (λ l. l.cells) c.labels.ensures) in
+    let small : c.args.vertex < c.args.m.now.rows = c.requires.vertex in
+    let tall : c.args.m.now.rows ≤ 16384 = c.known.ensures.tall in
+    omega arith
 
 pub returns : goal.returns
 returns c =
     let o = owner_has c.args.m.now c.args.ranks c.requires.some c.requires.few c.known.ensures c.requires.square c.args.progs.now c.requires.ended c.args.vertex c.in-Some.owner.now
     (sym c.get.ensures ∙ ap option_copied c.in-Some.is) in
-    subst (λ ls. IsLeast c.args.m.now.entries c.args.vertex (get_or ls c.args.vertex 0)) (sym c.labels.ensures) (o.least c.requires.vertex)
+    subst (λ ls. IsLeast c.args.m.now.entries c.args.vertex (get_or ls c.args.vertex 0)) (sym (c.cells.ensures ∙ ap (λ l. l.cells) c.labels.ensures)) (o.least c.requires.vertex)

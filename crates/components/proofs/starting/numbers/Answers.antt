@@ -1,5 +1,5 @@
 use Rattle.std.proofs.Common.{◌++◌, [], ◌∷◌, sym, ap, ◌∙◌}
-use Rattle.components.proofs.Lists.{numbers_more}
+use Rattle.reductions.proofs.Lists.{numbers_more}
 use Rattle.components.proofs.starting.numbers.Goals as goal
 
 pub loop-number-preserved : goal.loop-number-preserved

@@ -1,0 +1,35 @@
+-- Cells by key, each reduced by what comes for it.
+use Rattle.std.specs.Prelude.{ℕ, ◌+◌, ◌%◌, ◌^◌, ◌==◌, not, nat_eq, min, max, Bool, List, cond, slice_index_or}
+use Rattle.std.specs.Cmp.Lexicographic.{pointwise}
+use Rattle.list_laws.specs.Lists.{changed_at}
+use Rattle.reductions.specs.declared.reduced.Reduction.{Reduction}
+use Rattle.reductions.specs.declared.reduced.Reduction.TheVariants.{Least, Greatest, Sum}
+
+-- the cells as the round began, and as they are now
+pub record ReducedState : Type 0 where
+  pub before : List ℕ
+  pub cells : List ℕ
+
+-- What a cell and a value make: the lesser, the greater, or the sum modulo 2^64.
+-- combined Least 5 3 = 3, combined Greatest 5 3 = 5, combined Sum 5 3 = 8
+abbrev pub combined : Reduction → ℕ → ℕ → ℕ
+combined Least cell value = min cell value
+combined Greatest cell value = max cell value
+combined Sum cell value = (cell + value) % 2 ^ 64
+
+-- Cells as a round begins: they are what they were.
+abbrev pub begun : List ℕ → ReducedState
+begun values = record { before = values; cells = values }
+
+-- A cell is reduced by a value.
+-- reduced Least (7, 5, 9) 1 3 = (7, 3, 9)
+abbrev pub reduced : Reduction → ReducedState → ℕ → ℕ → ReducedState
+reduced how s key value = record { before = s.before; cells = changed_at s.cells key 0 (λ cell. combined how cell value) }
+
+-- A cell has changed since the round began.
+abbrev pub has_changed : ReducedState → ℕ → Bool
+has_changed s key = not (slice_index_or s.cells key 0 == slice_index_or s.before key 0)
+
+-- One vote where a cell has changed since the round began, else none.
+abbrev pub vote_of : ReducedState → ℕ
+vote_of s = cond (pointwise nat_eq s.cells s.before) 0 1

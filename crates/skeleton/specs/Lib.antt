@@ -1,0 +1,4 @@
+pub mod Laws
+pub mod Starts
+pub mod State
+pub mod View

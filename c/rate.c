@@ -2,11 +2,11 @@
    and many a call, and through an exchange written by hand in C for this purpose alone: for each
    pair of ranks two slots and two counters, entries with a tag, buffers handed over by their
    pointers. Each rank sends so many items to ranks drawn by a random sequence, and sums up what
-   comes. Where crates/exchange_rate is built, it runs beside them, over the same conveyors without
+   comes. Where crates/measure_threads is built, it runs beside them, over the same conveyors without
    C. The ways take turns, so that what else the machine does is shared out; the first turn isn't
    measured. Median and best of the others.
    rate [items a rank, 4,000,000 [turns, 7 [ranks [buffer [way]]]]]; with ranks, buffer and way (0
-   by hand, 1 one a call, 2 many a call, 3 exchange_rate) that alone. */
+   by hand, 1 one a call, 2 many a call, 3 measure_threads) that alone. */
 #define _POSIX_C_SOURCE 200809L
 #include "bale.h"
 #include <pthread.h>
@@ -20,7 +20,7 @@ enum { MOST = 64, MOST_TURNS = 99, AT_ONCE = 1024, WAYS = 4 };
 
 static uint32_t many, capacity, items_each = 4000000;
 static int turns = 7;
-static const char *beside = NULL; /* exchange_rate's program */
+static const char *beside = NULL; /* measure_threads's program */
 static uint64_t sums[MOST][16]; /* each rank's on lines of its own */
 
 static inline uint32_t next_of(uint64_t *seed) {
@@ -238,7 +238,7 @@ static double one_run(void *(*work)(void *)) {
     return (double)items_each * many / took / 1e6;
 }
 
-/* exchange_rate's own answer, of its second run. */
+/* measure_threads's own answer, of its second run. */
 static double from_beside(void) {
     char command[4096], line[128];
     double rate = 0;
@@ -313,7 +313,7 @@ int main(int argc, char **argv) {
         return 2;
     items_each = (uint32_t)numbers[0];
     turns = (int)numbers[1];
-    beside = getenv("EXCHANGE_RATE");
+    beside = getenv("MEASURE_THREADS");
     if (beside != NULL && *beside == '\0')
         beside = NULL;
     if (argc > 5) {
@@ -327,8 +327,8 @@ int main(int argc, char **argv) {
     static const uint32_t ranks_of[] = {4, 2}, capacities[] = {1, 64, 1024};
     printf("million items a second, median / best of %d turns of %u items a rank (a sixteenth at buffer 1)\n", turns, items_each);
     if (beside == NULL)
-        printf("exchange_rate isn't built: (cd crates/exchange_rate && rt run) builds it\n");
-    printf("ranks buffer        C by hand      one a call     many a call%s\n", beside == NULL ? "" : "   exchange_rate");
+        printf("measure_threads isn't built: (cd crates/measure_threads && rt run) builds it\n");
+    printf("ranks buffer        C by hand      one a call     many a call%s\n", beside == NULL ? "" : "   measure_threads");
     fflush(stdout);
     for (int p = 0; p < 2; p++)
         for (int c = 0; c < 3; c++)

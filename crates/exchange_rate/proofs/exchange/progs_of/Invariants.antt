@@ -1,5 +1,0 @@
-use Rattle.round_examples.proofs.TrafficRuns.{Made}
-use Rattle.exchange_rate.proofs.exchange.progs_of.Given as goal
-
-abbrev pub invariant-loop-rank : goal.invariant-loop-rank
-invariant-loop-rank g l = Made l.ranks l.rounds l.rank l.progs

@@ -1,5 +1,0 @@
-use Rattle.std.proofs.Common.{◌<◌, ◌≡◌, length, All}
-use Rattle.exchange_rate.proofs.exchange.targets_of.Given as goal
-
-abbrev pub invariant-loop : goal.invariant-loop
-invariant-loop l = (length l.targets.items ≡ l.counter) × All (λ t. (t.0 < l.ranks) × (t.1 < 1024)) l.targets.items

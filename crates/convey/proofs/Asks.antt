@@ -39,12 +39,30 @@ counted_by dims rank index ends i link asked asked' calls calls' calls'' same ot
   to_do = λ l h at le. n.others l (other l (λ e. omega arith)) ∙ k.to_do l h at (omega arith);
 }
 
-pub counted_in : (dims : List ℕ) (rank i link : ℕ) (asked asked' : ℕ → Bool) (calls calls' calls'' : ℕ → ℕ) → IsGrid dims → rank < ranks dims → i < sum dims → link ≡ link_from dims rank i
-    → Counted dims rank in_index reader_at i asked calls calls' → CountsOn dims rank in_index reader_at i link asked asked' calls' calls'' → Counted dims rank in_index reader_at (i + 1) asked' calls calls''
-counted_in dims rank i link asked asked' calls calls' calls'' g own below here =
-    counted_by dims rank in_index reader_at i link asked asked' calls calls' calls''
-    (λ l h to e. here ∙ (ap (link_from dims rank) (sym e) ∙ (in_stands dims rank l g h to).number))
-    (λ l ne e. ne (ap (in_index dims) (e ∙ here) ∙ in_index-link_from dims rank i g own below))
+-- The links in from number i on were asked so, and the others not at all.
+pub record CountedFrom (dims : List ℕ) (rank i : ℕ) (asked : ℕ → Bool) (calls calls' : ℕ → ℕ) : Type 0 where
+  pub done : (l : ℕ) → l < links dims → reader_at dims l ≡ rank → i ≤ in_index dims l → calls' l ≡ once_more_if (asked l) (calls l)
+  pub to_do : (l : ℕ) → l < links dims → reader_at dims l ≡ rank → in_index dims l < i → calls' l ≡ calls l
+
+pub counted_from_none : (dims : List ℕ) (rank i : ℕ) (asked : ℕ → Bool) (calls : ℕ → ℕ) → IsGrid dims → i ≡ sum dims → CountedFrom dims rank i asked calls calls
+counted_from_none dims rank i asked calls g all = record {
+  done = λ l h at le. absurd (omega (arith, le, all, (in_stands dims rank l g h at).below));
+  to_do = λ l h at less. refl;
+}
+
+pub counted_in : (dims : List ℕ) (rank i link : ℕ) (asked : ℕ → Bool) (calls calls' calls'' : ℕ → ℕ) → IsGrid dims → rank < ranks dims → i < sum dims → link ≡ link_from dims rank i → (n : ℕ) → n ≡ i + 1
+    → CountedFrom dims rank n asked calls calls' → CountsOn dims rank in_index reader_at i link asked asked calls' calls'' → CountedFrom dims rank i asked calls calls''
+counted_in dims rank i link asked calls calls' calls'' g own below here n next k o =
+    let other : (l : ℕ) → in_index dims l ≢ i → l ≢ link = λ l ne e. ne (ap (in_index dims) (e ∙ here) ∙ in_index-link_from dims rank i g own below) in
+    record {
+      done = λ l h at le. elim (cases_eq (in_index dims l) i) [
+        | inl e ↦
+            let same : link ≡ l = here ∙ (ap (link_from dims rank) (sym e) ∙ (in_stands dims rank l g h at).number) in
+            subst (λ m. calls'' m ≡ once_more_if (asked m) (calls' m)) same o.here ∙ ap (once_more_if (asked l)) (k.to_do l h at (omega (arith, next)))
+        | inr ne ↦ o.others l (other l ne) ∙ k.done l h at (omega (arith, next))
+      ];
+      to_do = λ l h at less. o.others l (other l (λ e. omega arith)) ∙ k.to_do l h at (omega (arith, next));
+    }
 
 pub counted_out : (dims : List ℕ) (rank i link : ℕ) (asked asked' : ℕ → Bool) (calls calls' calls'' : ℕ → ℕ) → IsGrid dims → rank < ranks dims → i < sum dims → link ≡ link_to dims rank i
     → Counted dims rank out_index sender_at i asked calls calls' → CountsOn dims rank out_index sender_at i link asked asked' calls' calls'' → Counted dims rank out_index sender_at (i + 1) asked' calls calls''

@@ -14,7 +14,10 @@ use hop_core::RankState;
 use item_buffer::Parcel;
 use port_bank::{Collected, Port};
 
-/// Asks each link in once, in ascending order, where it wants a parcel. The spare parcel, which is empty, goes round.
+/// Asks each link in once, in descending order, where it wants a parcel. The spare parcel, which is empty, goes round.
+///
+/// Of ranks that have their turns in ascending order on one thread, those above a rank post last. So their links are asked
+/// first: a doorbell is heard then, and the links that it marks are still to be asked.
 pub(crate) fn collect_all<const CAP: usize, const HOPS: usize, P: Port<CAP>>(
     state: &mut RankState<CAP, HOPS>,
     spare: &mut Parcel<CAP>,
@@ -42,7 +45,7 @@ pub(crate) fn collect_all<const CAP: usize, const HOPS: usize, P: Port<CAP>>(
     ensures same_dims { P.dims port.new ≡ P.dims port.old }
     ensures same_slots { P.slots port.new ≡ P.slots port.old }
 {
-    for i in 0..state.routes().neighbours() {
+    for i in (0..state.routes().neighbours()).rev() {
         let link = state.routes().neighbour(i).link_from;
         collect_one(state, spare, port, i, link);
     }

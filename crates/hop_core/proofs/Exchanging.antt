@@ -2,7 +2,7 @@
 use Rattle.std.proofs.Common.{ℕ, ◌≡◌, ◌-◌, ◌<◌, ◌≤◌, ◌+◌, Bool, true, false, List, [], length, get_or, set, sum, min, Option, Some, None, arith, refl, sym, ap, subst, ◌∙◌, inl, inr}
 use Rattle.std.specs.List.{All, list_all}
 use Rattle.std.proofs.lemmas.List.{length-set, get_or-set_same, get_or-set_other}
-use Rattle.std.proofs.lemmas.Bool.{false≢true}
+use Rattle.std.proofs.lemmas.Bool.{cases_eq, false≢true}
 use Rattle.bale_types.specs.declared.item.Entry.{Entry}
 use Rattle.item_buffer.specs.Contents.{Contents, IsFresh, blank}
 use Rattle.route_tensor.specs.Link.{links_before}
@@ -99,6 +99,22 @@ module _ (st : State) (ends : List Bool) (spare : Option Contents) (from i : ℕ
         from_high = omega (arith, k.from_high);
         from_none = λ j a v. ap (λ y. is_empty y.parcel) (get_or-set_other st.ins i j x no_in (omega (arith, v))) ∙ k.from_none j a (omega (arith, v));
       }
+
+  -- by an empty parcel
+  pub in_empty_kept : hop_to st.dims i ≡ length st.dims → is_empty x.parcel ≡ true → IsKept (in_written st i x st.lent None) ends spare from
+  in_empty_kept l e = record {
+    standing = filled;
+    ends_all = k.ends_all;
+    ends_each = λ h d a b. k.ends_each h d a b ∙ sym (at_end_other st.dims st.ins st.done i x h q (omega arith) b (omega (arith, b, l)));
+    spare_home = k.spare_home;
+    spare_blank = k.spare_blank;
+    from_low = k.from_low;
+    from_high = k.from_high;
+    from_none = λ j a v. elim (cases_eq j i) as (λ _. is_empty (get_or (set st.ins i x) j no_in).parcel ≡ true) [
+      | inl z ↦ subst (λ m. is_empty (get_or (set st.ins i x) m no_in).parcel ≡ true) (sym z) (ap (λ y. is_empty y.parcel) (get_or-set_same st.ins i x no_in (omega (arith, q, k.standing.all_ins))) ∙ e)
+      | inr n ↦ ap (λ y. is_empty y.parcel) (get_or-set_other st.ins i j x no_in n) ∙ k.from_none j a v
+    ];
+  }
 
   -- on a hop before, with something left to come or to be read
   pub in_going_kept : hop_to st.dims i < length st.dims → is_finished x ≡ false → IsKept (in_written st i x st.lent None) ends spare from

@@ -1,7 +1,7 @@
 //! The way of parcels out of a rank's hands and into them, by the number of the neighbour and with a parcel of the caller's that is empty:
 //! an exchange at each call, and no parcel is lent.
 
-ghost use Rattle.std.specs.Prelude.{◌≡◌, ◌<◌, ◌≤◌, ◌==◌, ◌&&◌, ◌||◌, sum, slice_set, true, false, None};
+ghost use Rattle.std.specs.Prelude.{◌≡◌, ◌<◌, sum, slice_set, true, false, None};
 ghost use Rattle.std.specs.List.{All};
 ghost use Rattle.item_buffer.specs.Contents.{IsFresh, blank};
 ghost use Rattle.route_tensor.specs.Neighbour.{hop_to};
@@ -108,7 +108,9 @@ impl<const CAP: usize, const HOPS: usize> RankState<CAP, HOPS> {
         parcel.clear();
         parcel.set_epoch(self.epoch);
         if hop as usize >= HOPS {
-            self.from = self.from.min(number);
+            if !finished {
+                self.from = self.from.min(number);
+            }
         } else if finished {
             self.ends[hop as usize] = hop_finished(&self.routes, &self.ins, hop);
         }

@@ -1,9 +1,8 @@
 //! One link into a rank: the parcel that came over it and is being read.
 
-ghost use Rattle.std.specs.Prelude.{◌≡◌, ℕ, ◌+◌, ◌-◌, ◌^◌, ◌<◌, ◌≤◌, ◌==◌, ◌&&◌, ◌||◌, [], length, sum, map, replicate, take, drop, slice_get, slice_index_or, true, false, Some, None, IsSome, IfOk};
+ghost use Rattle.std.specs.Prelude.{◌≡◌, ℕ, ◌+◌, ◌-◌, ◌^◌, ◌<◌, ◌≤◌, ◌==◌, ◌&&◌, ◌||◌, length, sum, map, replicate, take, drop, slice_get, slice_index_or, true, false, Some, None, IsSome, IfOk};
 ghost use Rattle.std.specs.List.{list_all};
 ghost use Rattle.hop_core.specs.State.{ins_of_hop, resumed};
-ghost use Rattle.item_buffer.specs.Contents.{blank};
 ghost use Rattle.hop_core.specs.Link.{no_in, is_empty, is_wanted, is_finished, with_first_taken, with_back, read_on};
 
 use bale_types::{Entry, NoMemory};
@@ -13,12 +12,14 @@ use std::alloc::Global;
 use std::marker::Model;
 use std::mem;
 
-/// A link in, of 32 bytes: its place in a list is a shift of its number.
+/// A link in.
 #[derive(Drop)]
 pub struct InLink<const CAP: usize> {
     parcel: Parcel<CAP>,
     /// Whether the last parcel of this epoch was got.
     ended: bool,
+    /// Fills a link up to 32 bytes: its place in a list is a shift of its number.
+    _filler: u64,
 }
 
 impl<const CAP: usize> Model for InLink<CAP> {
@@ -39,6 +40,7 @@ impl<const CAP: usize> InLink<CAP> {
         Ok(InLink {
             parcel: Parcel::new(alloc)?,
             ended: false,
+            _filler: 0,
         })
     }
 
@@ -108,7 +110,10 @@ impl<const CAP: usize> InLink<CAP> {
     pub fn is_finished(&self) -> bool
         ensures { result ≡ is_finished self.now }
     {
-        self.ended && self.parcel.len() == 0
+        if !self.ended {
+            return false;
+        }
+        self.parcel.len() == 0
     }
 
     /// Hands the inbox out and keeps `spare` in its place.

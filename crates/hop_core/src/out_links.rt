@@ -1,10 +1,9 @@
 //! One link out of a rank: the parcel that is being filled for it.
 
-ghost use Rattle.std.specs.Prelude.{◌≡◌, ◌+◌, ◌<◌, ◌≤◌, ◌==◌, ◌&&◌, ◌||◌, [], length, map, true, false, IfOk};
-ghost use Rattle.item_buffer.specs.Contents.{blank};
+ghost use Rattle.std.specs.Prelude.{◌≡◌, ◌<◌, ◌≤◌, ◌&&◌, ◌||◌, length, map, true, false, IfOk};
 ghost use Rattle.hop_core.specs.State.{all_closed, reopened};
 ghost use Rattle.std.specs.Prelude.{replicate};
-ghost use Rattle.hop_core.specs.Link.{no_out, is_due, with_entry, is_empty};
+ghost use Rattle.hop_core.specs.Link.{no_out, is_due, with_entry};
 
 use bale_types::{Entry, NoMemory};
 use item_buffer::Parcel;
@@ -12,12 +11,14 @@ use std::alloc::Global;
 use std::marker::Model;
 use std::mem;
 
-/// A link out, of 32 bytes: its place in a list is a shift of its number.
+/// A link out.
 #[derive(Drop)]
 pub struct OutLink<const CAP: usize> {
     parcel: Parcel<CAP>,
     /// Whether the last parcel of this epoch was sent.
     closed: bool,
+    /// Fills a link up to 32 bytes: its place in a list is a shift of its number.
+    _filler: u64,
 }
 
 impl<const CAP: usize> Model for OutLink<CAP> {
@@ -38,6 +39,7 @@ impl<const CAP: usize> OutLink<CAP> {
         Ok(OutLink {
             parcel: Parcel::new(alloc)?,
             closed: false,
+            _filler: 0,
         })
     }
 
@@ -58,7 +60,10 @@ impl<const CAP: usize> OutLink<CAP> {
     pub fn is_due(&self, steady: bool, at_end: bool) -> bool
         ensures { result ≡ is_due CAP steady at_end self.now }
     {
-        self.parcel.is_full() || (steady && self.parcel.len() > 0) || (at_end && !self.closed)
+        if at_end && !self.closed {
+            return true;
+        }
+        self.parcel.is_full() || (steady && self.parcel.len() > 0)
     }
 
     /// Hands the parcel out and keeps `spare` in its place.

@@ -1,16 +1,12 @@
 //! What came: it is passed on to the next hop, or pulled, one item or one inbox at a time.
 
-ghost use Rattle.std.specs.Prelude.{◌≡◌, ◌≢◌, ℕ, ◌+◌, ◌-◌, ◌^◌, ◌<◌, ◌≤◌, ◌==◌, ◌&&◌, ◌||◌, List, [], length, sum, map, replicate, slice_set, slice_index_or, true, false, Some, None, is_some, IfOk, IsSome};
+ghost use Rattle.std.specs.Prelude.{◌≡◌, ◌≢◌, ℕ, ◌+◌, ◌-◌, ◌<◌, ◌≤◌, ◌==◌, length, sum, true, false, Some, None, is_some};
 ghost use Rattle.std.specs.List.{All};
-ghost use Rattle.item_buffer.specs.Contents.{Contents, IsFresh, blank};
-ghost use Rattle.route_tensor.specs.Grid.{ranks, coord, IsGrid};
+ghost use Rattle.route_tensor.specs.Grid.{ranks};
 ghost use Rattle.route_tensor.specs.Link.{links};
-ghost use Rattle.route_tensor.specs.Ends.{hop_at, sender_at, reader_at};
-ghost use Rattle.route_tensor.specs.Neighbour.{hop_to, neighbour, out_index, in_index};
-ghost use Rattle.route_tensor.specs.Tag.{IsFair, tag_at, sender_of};
-ghost use Rattle.route_tensor.specs.Routes.{first_step};
-ghost use Rattle.hop_core.specs.Link.{Out, In, no_out, no_in, is_due, is_wanted, with_entry};
-ghost use Rattle.hop_core.specs.State.{out_at, in_at, with_out, with_in, at_end, phase_of, lowest_unread, pull_from, pulled_from, pulls, unpulled, reopened, resumed};
+ghost use Rattle.route_tensor.specs.Neighbour.{hop_to, neighbour};
+ghost use Rattle.route_tensor.specs.Tag.{IsFair, sender_of};
+ghost use Rattle.hop_core.specs.State.{in_at, lowest_unread, pull_from, pulled_from, pulls, unpulled};
 ghost use Rattle.hop_core.specs.Relay.{held, AddsToHop, TakesFromHop, IsStopped, waiting, relayed_hop};
 ghost use Rattle.route_tensor.specs.Pair.{PassesThrough};
 ghost use Rattle.hop_core.specs.declared.phase.Phase.{Phase};

@@ -1,8 +1,7 @@
 //! The relay: entries that have come over one hop go on to the open parcels of the next.
 
-ghost use Rattle.std.specs.Prelude.{◌≡◌, ◌≢◌, ℕ, ◌+◌, ◌-◌, ◌<◌, ◌≤◌, length, sum, drop, slice_index_or, false};
+ghost use Rattle.std.specs.Prelude.{◌≡◌, ℕ, ◌+◌, ◌-◌, ◌<◌, ◌≤◌, length, sum, drop, slice_index_or, false};
 ghost use Rattle.list_laws.specs.Lists.{EachAt};
-ghost use Rattle.route_tensor.specs.Grid.{IsGrid};
 ghost use Rattle.route_tensor.specs.Neighbour.{hop_to};
 ghost use Rattle.hop_core.specs.Link.{no_out, no_in, is_finished, read_on};
 ghost use Rattle.hop_core.specs.Standing.{IsOut, IsIn};

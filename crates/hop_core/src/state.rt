@@ -1,18 +1,13 @@
 //! The state of one rank: what it has to send, what has come, and how far it is in its epoch.
 
-ghost use Rattle.std.specs.Prelude.{◌≡◌, ◌≢◌, ℕ, ◌+◌, ◌-◌, ◌^◌, ◌<◌, ◌≤◌, ◌==◌, ◌&&◌, ◌||◌, List, [], length, sum, map, replicate, slice_set, slice_index_or, true, false, Some, None, is_some, IfOk, IsSome};
-ghost use Rattle.std.specs.List.{All};
-ghost use Rattle.item_buffer.specs.Contents.{Contents, IsFresh, blank};
-ghost use Rattle.route_tensor.specs.Grid.{ranks, coord, IsGrid};
+ghost use Rattle.std.specs.Prelude.{◌≡◌, ◌-◌, ◌<◌, ◌≤◌, ◌==◌, length, sum, replicate, false, Some, None, IfOk};
+ghost use Rattle.route_tensor.specs.Grid.{ranks, coord};
 ghost use Rattle.route_tensor.specs.Link.{links};
-ghost use Rattle.route_tensor.specs.Ends.{hop_at, sender_at, reader_at};
-ghost use Rattle.route_tensor.specs.Neighbour.{hop_to, neighbour, out_index, in_index};
-ghost use Rattle.route_tensor.specs.Tag.{IsFair, tag_at, sender_of};
+ghost use Rattle.route_tensor.specs.Neighbour.{hop_to, neighbour};
+ghost use Rattle.route_tensor.specs.Tag.{IsFair, tag_at};
 ghost use Rattle.route_tensor.specs.Routes.{first_step};
-ghost use Rattle.hop_core.specs.Link.{Out, In, no_out, no_in, is_due, is_wanted, with_entry};
-ghost use Rattle.hop_core.specs.State.{out_at, in_at, with_out, with_in, at_end, phase_of, lowest_unread, pull_from, pulled_from, pulls, unpulled, with_pushed, reopened, resumed};
-ghost use Rattle.hop_core.specs.Relay.{held, AddsToHop, TakesFromHop, IsStopped, waiting};
-ghost use Rattle.route_tensor.specs.Pair.{PassesThrough};
+ghost use Rattle.hop_core.specs.Link.{no_out, no_in};
+ghost use Rattle.hop_core.specs.State.{out_at, at_end, with_pushed};
 
 use crate::in_links::{InLink, links_in};
 use crate::lent::Lent;

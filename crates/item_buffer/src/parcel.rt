@@ -11,8 +11,7 @@ use std::marker::Model;
 /// with two marks for their reader: whether the parcel is the last of its epoch, and the epoch.
 #[derive(Drop)]
 pub struct Parcel<const CAP: usize> {
-    /// `CAP` places, always full, so that a clear writes no place. A move of the parcel moves no entry.
-    places: Box<ArrayVec<Entry, CAP>>,
+    held: Box<Held<CAP>>,
     /// How many of the places, from the first one on, hold an entry pushed since the last clear.
     pushed: u16,
     /// How many of those entries are taken.
@@ -21,8 +20,15 @@ pub struct Parcel<const CAP: usize> {
     can_untake: bool,
     /// Whether no parcel of the same epoch follows on the link.
     last: bool,
+}
+
+/// What a move of the parcel leaves where it is.
+#[derive(Drop)]
+struct Held<const CAP: usize> {
     /// Counts from 0.
     epoch: u64,
+    /// `CAP` places, always full, so that a clear writes no place.
+    places: ArrayVec<Entry, CAP>,
 }
 
 impl<const CAP: usize> Model for Parcel<CAP> {
@@ -32,14 +38,14 @@ impl<const CAP: usize> Model for Parcel<CAP> {
     ghost Value = { Contents };
 
     ghost view = { λ p. record {
-      untaken = drop p.taken (take p.pushed p.places.value.items);
+      untaken = drop p.taken (take p.pushed p.held.value.places.items);
       last = p.last;
-      epoch = p.epoch;
-      back = (if p.can_untake then slice_get (take p.pushed p.places.value.items) (p.taken - 1) else None);
+      epoch = p.held.value.epoch;
+      back = (if p.can_untake then slice_get (take p.pushed p.held.value.places.items) (p.taken - 1) else None);
       taken = p.taken;
     } };
 
-    ghost invariant = { λ p. (CAP ≤ 1024) × (length p.places.value.items ≡ CAP) × (p.pushed ≤ CAP)
+    ghost invariant = { λ p. (CAP ≤ 1024) × (length p.held.value.places.items ≡ CAP) × (p.pushed ≤ CAP)
         × (p.taken ≤ p.pushed)
         × (p.can_untake ≡ true → 0 < p.taken) };
 }
@@ -52,13 +58,13 @@ impl<const CAP: usize> Parcel<CAP> {
         ensures { IfOk result (λ p. p ≡ blank 0) }
     {
         let places = ArrayVec::from_array_in((), [Entry::default(); CAP]);
+        let held = Held { epoch: 0, places };
         Ok(Parcel {
-            places: Box::new(alloc, places)?,
+            held: Box::new(alloc, held)?,
             pushed: 0,
             taken: 0,
             can_untake: false,
             last: false,
-            epoch: 0,
         })
     }
 
@@ -74,7 +80,7 @@ impl<const CAP: usize> Parcel<CAP> {
         if self.pushed as usize == CAP {
             return false;
         }
-        self.places.as_mut_slice()[self.pushed as usize] = entry;
+        self.held.places.as_mut_slice()[self.pushed as usize] = entry;
         self.pushed += 1;
         true
     }
@@ -87,7 +93,7 @@ impl<const CAP: usize> Parcel<CAP> {
         if self.taken == self.pushed {
             return None;
         }
-        Some(self.places.as_slice()[self.taken as usize])
+        Some(self.held.places.as_slice()[self.taken as usize])
     }
 
     /// Takes the first untaken entry.
@@ -114,7 +120,7 @@ impl<const CAP: usize> Parcel<CAP> {
     pub fn untaken(&self) -> &[Entry]
         ensures { result.now ≡ self.now.untaken }
     {
-        &self.places.as_slice()[self.taken as usize..self.pushed as usize]
+        &self.held.places.as_slice()[self.taken as usize..self.pushed as usize]
     }
 
     /// Takes the first `count` untaken entries, as so many calls of `take` would.
@@ -137,7 +143,7 @@ impl<const CAP: usize> Parcel<CAP> {
         ensures { self.new ≡ record self.old { untaken = self.old.untaken ++ entries.now } }
     {
         let end = self.pushed as usize + entries.len();
-        self.places.as_mut_slice()[self.pushed as usize..end].copy_from_slice(entries);
+        self.held.places.as_mut_slice()[self.pushed as usize..end].copy_from_slice(entries);
         self.pushed = end as u16;
     }
 
@@ -223,7 +229,7 @@ impl<const CAP: usize> Parcel<CAP> {
     pub fn epoch(&self) -> u64
         ensures { result ≡ self.now.epoch }
     {
-        self.epoch
+        self.held.epoch
     }
 
     /// Sets the epoch.
@@ -231,6 +237,6 @@ impl<const CAP: usize> Parcel<CAP> {
     pub fn set_epoch(&mut self, epoch: u64)
         ensures { self.new ≡ record self.old { epoch = epoch } }
     {
-        self.epoch = epoch;
+        self.held.epoch = epoch;
     }
 }

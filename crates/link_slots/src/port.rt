@@ -1,7 +1,7 @@
 //! A rank's port: its seat, with the bank.
 ghost use Rattle.atomic_table.specs.Seated.{TableId};
 ghost use Rattle.link_slots.specs.Seen.{named};
-ghost use Rattle.std.specs.Prelude.{◌≡◌, ◌≢◌, ℕ, ◌+◌, ◌==◌, Bool, true, List, length, refl};
+ghost use Rattle.std.specs.Prelude.{◌≡◌, ◌+◌, ◌==◌, true, length, refl};
 
 use crate::seat::SlotSeat;
 use crate::slot_bank::SlotBank;

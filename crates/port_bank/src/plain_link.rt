@@ -24,16 +24,12 @@ pub(crate) struct PlainLink {
     ended: u64,
     /// How often the sender looked for room.
     looks_out: u64,
-    /// How often the reader looked.
-    looks_in: u64,
-    /// How often the reader listened for this link.
+    /// How often the reader looked, and so listened for this link. It does both at each collect, and nowhere else.
     listens: u64,
-    /// What `listens` was at the end of the latest collect.
-    noted: u64,
 }
 
 impl Model for PlainLink {
-    ghost use Rattle.std.specs.Prelude.{◌≡◌, ◌≤◌};
+    ghost use Rattle.std.specs.Prelude.{◌≡◌};
     ghost use Rattle.list_laws.specs.Counts.{counted};
     ghost use Rattle.port_bank.specs.Logs.{lasts};
     ghost use Rattle.port_bank.specs.Passed.{parcels_of};
@@ -45,12 +41,12 @@ impl Model for PlainLink {
       sent = parcels_of c.sent;
       got = parcels_of c.got;
       looks_out = c.looks_out;
-      looks_in = c.looks_in;
+      looks_in = c.listens;
       listens = c.listens;
-      noted = c.noted;
+      noted = c.listens;
     } };
 
-    ghost invariant = { λ c. (c.noted ≤ c.listens) × (c.ended ≡ counted (lasts (parcels_of c.got))) };
+    ghost invariant = { λ c. c.ended ≡ counted (lasts (parcels_of c.got)) };
 }
 
 impl PlainLink {
@@ -63,9 +59,7 @@ impl PlainLink {
             got: Log::Nothing,
             ended: 0,
             looks_out: 0,
-            looks_in: 0,
             listens: 0,
-            noted: 0,
         }
     }
 
@@ -119,9 +113,7 @@ impl PlainLink {
         ensures listens { self.old.listens ≤ self.new.listens }
         ensures looks { self.old.looks_in ≤ self.new.looks_in }
     {
-        self.looks_in = self.looks_in.saturating_add(1);
         self.listens = self.listens.saturating_add(1);
-        self.noted = self.listens;
         if ring.len() == 0 {
             return Collected::Nothing;
         }

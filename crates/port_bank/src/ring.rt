@@ -88,11 +88,11 @@ impl<const CAP: usize> Ring<CAP> {
     }
 }
 
-/// Where every place has a parcel on its way, turns the places until the next one to collect is in
-/// front, and adds one behind them. Answers the place of the next collect.
+/// Adds a place where every place has a parcel on its way. Answers the place of the next collect.
 ///
 /// # Errors
 /// `NoMemory` changes nothing.
+#[inline]
 fn make_room<const CAP: usize>(
     places: &mut Vec<Parcel<CAP>>,
     first: usize,
@@ -107,6 +107,28 @@ fn make_room<const CAP: usize>(
     if waiting < places.len() {
         return Ok(first);
     }
+    add_place(places, first, waiting)
+}
+
+/// Turns the places, each of which has a parcel on its way, until the next one to collect is in front, and adds one
+/// behind them. It is seldom called, and out of the way of the code that is.
+///
+/// # Errors
+/// `NoMemory` changes nothing.
+#[cold]
+#[inline(never)]
+fn add_place<const CAP: usize>(
+    places: &mut Vec<Parcel<CAP>>,
+    first: usize,
+    waiting: usize,
+) -> Result<usize, NoMemory>
+    requires ring { IsRing CAP first waiting places.old.items }
+    requires full { length places.old.items ≤ waiting }
+    ensures ring { IfOk result (λ f. IsRing CAP f waiting places.new.items) }
+    ensures room { OnOk result (waiting < length places.new.items) }
+    ensures same { IfOk result (λ f. on_way f waiting places.new.items ≡ on_way first waiting places.old.items) }
+    ensures unchanged { OnErr result (places.new.items ≡ places.old.items) }
+{
     places.reserve(1)?;
     let place = Parcel::new(*places.allocator())?;
     places.rotate_left(first);

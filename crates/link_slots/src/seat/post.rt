@@ -1,11 +1,10 @@
 //! A post: a look for room where no empty slot is at hand, the exchange, and the ring.
-ghost use Rattle.std.specs.Prelude.{◌≡◌, ◌≢◌, ℕ, suc, ◌+◌, ◌*◌, ◌^◌, ◌<◌, ◌≤◌, List, [], ◌∷◌, ◌++◌, length};
-ghost use Rattle.item_buffer.specs.Contents.{Contents};
+ghost use Rattle.std.specs.Prelude.{◌≡◌, ◌≢◌, suc, ◌+◌, ◌*◌, ◌<◌, ◌≤◌, [], ◌∷◌, ◌++◌, length};
 ghost use Rattle.route_tensor.specs.Link.{links};
-ghost use Rattle.route_tensor.specs.Ends.{sender_at, reader_at};
-ghost use Rattle.link_slots.specs.Logs.{OutLog, out_of, in_of, with_out, sent_of, got_of, sent_more, found_full};
+ghost use Rattle.route_tensor.specs.Ends.{sender_at};
+ghost use Rattle.link_slots.specs.Logs.{out_of, with_out, sent_of, got_of, sent_more, found_full};
 ghost use Rattle.link_slots.specs.View.{own_logs, with_logs};
-ghost use Rattle.link_slots.specs.Shape.{IsBoard, wiring, IsBlank, MayFollow, KeepsLaw};
+ghost use Rattle.link_slots.specs.Shape.{IsBoard, IsBlank, MayFollow, KeepsLaw};
 ghost use Rattle.link_slots.specs.Told.{IsManned};
 ghost use Rattle.link_slots.specs.Counts.{IsOutEnd, IsWire};
 

@@ -1,5 +1,5 @@
 //! The gathering seat: it gives out the seat of each rank, and takes in what the ranks know at the end.
-ghost use Rattle.std.specs.Prelude.{◌≡◌, ◌≢◌, ℕ, ◌<◌, ◌≤◌, false, true, length, replicate, slice_index_or, slice_set, Some, None};
+ghost use Rattle.std.specs.Prelude.{◌≡◌, ◌≢◌, ℕ, ◌<◌, false, true, replicate, slice_index_or, slice_set, Some, None};
 ghost use Rattle.route_tensor.specs.Grid.{ranks};
 ghost use Rattle.route_tensor.specs.Link.{links};
 ghost use Rattle.link_slots.specs.View.{no_logs};

@@ -1,6 +1,6 @@
 //! What is left of a slot bank when its exchange is over.
-ghost use Rattle.std.specs.Prelude.{◌≡◌, ◌<◌, false, length, slice_index_or};
-ghost use Rattle.std.specs.Mem.Slots.{slots_len, slots_filled, IsFull};
+ghost use Rattle.std.specs.Prelude.{◌≡◌, ◌<◌};
+ghost use Rattle.std.specs.Mem.Slots.{IsFull};
 ghost use Rattle.route_tensor.specs.Grid.{ranks};
 ghost use Rattle.link_slots.specs.Shape.{IsBoard};
 ghost use Rattle.port_bank.specs.Round.{IsRound, epochs_of};

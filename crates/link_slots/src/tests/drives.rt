@@ -1,5 +1,5 @@
 //! A drive in small: who sees the public contracts alone can tell, of each rank, that the closed round has what the rank's port had at the end.
-ghost use Rattle.std.specs.Prelude.{◌≡◌, ◌≤◌, IfOk};
+ghost use Rattle.std.specs.Prelude.{◌≡◌, IfOk};
 ghost use Rattle.route_tensor.specs.Grid.{ranks};
 ghost use Rattle.port_bank.specs.Logs.{starting_at, ending_at};
 ghost use Rattle.port_bank.specs.Round.{IsRound, logs_of};

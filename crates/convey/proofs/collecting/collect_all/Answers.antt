@@ -1,4 +1,4 @@
-use Rattle.std.proofs.Common.{◌≡◌, ◌<◌, sum, refl, sym, ap, subst, ◌∙◌, arith, rules}
+use Rattle.std.proofs.Common.{ℕ, ◌≡◌, ◌+◌, ◌-◌, ◌<◌, sum, refl, sym, ap, subst, ◌∙◌, arith, rules}
 use Rattle.route_tensor.specs.Grid.{ranks, IsGrid}
 use Rattle.route_tensor.specs.Link.{links}
 use Rattle.route_tensor.specs.Ends.{reader_at}
@@ -7,7 +7,7 @@ use Rattle.route_tensor.proofs.Neighbours.{in_index-link_from, in_stands}
 use Rattle.convey.proofs.Ways.{from_below, from_reader, below_sum, link_here, ready_at, link_at, end_at, collecting_none, collecting_more, collecting_all, goes_on_refl, goes_on_trans}
 use Rattle.hop_core.specs.Link.{is_wanted}
 use Rattle.port_bank.specs.Calls.{once_more_if}
-use Rattle.convey.proofs.Asks.{counted_none, counted_in}
+use Rattle.convey.proofs.Asks.{counted_from_none, counted_in}
 use Rattle.convey.proofs.collecting.collect_all.Goals as goal
 
 pub collect_one-requires : goal.collect_one-requires
@@ -16,12 +16,13 @@ collect_one-requires g c =
     let rank = g.P.Port.rank c.args.port.now in
     let k = c.loop-i.invariant in
     let first = ap (λ t. t.dims) c.routes.ensures ∙ c.requires.ready.same_dims in
-    let below = below_sum dims _ _ _ first c.neighbours-i-end.ensures.value c.loop-i-test.true in
-    let grid : IsGrid dims = subst IsGrid first c.neighbours-i-end.ensures.grid in
-    let own : rank < ranks dims = subst (λ r. r < ranks dims) (ap (λ t. t.rank) c.routes.ensures ∙ c.requires.ready.same_rank) (subst (λ ds. c.routes.result.now.rank < ranks ds) first c.neighbours-i-end.ensures.rank) in
+    let i : ℕ = c.loop-i.i - 1 in
+    let below : i < sum dims = omega (arith, c.loop-i-test.true, ap sum first, c.neighbours-i.ensures.value) in
+    let grid : IsGrid dims = subst IsGrid first c.neighbours-i.ensures.grid in
+    let own : rank < ranks dims = subst (λ r. r < ranks dims) (ap (λ t. t.rank) c.routes.ensures ∙ c.requires.ready.same_rank) (subst (λ ds. c.routes.result.now.rank < ranks ds) first c.neighbours-i.ensures.rank) in
     let link = c.neighbour-link.result.link_from in
-    let here : link ≡ link_from dims rank c.loop-i.i = link_here link_from dims _ rank _ _ _ (ap (λ t. t.dims) c.routes-in-loop-i.ensures ∙ k.ready.same_dims) (ap (λ t. t.rank) c.routes-in-loop-i.ensures ∙ k.ready.same_rank) (ap (λ n. n.link_from) c.neighbour-link.ensures.value) in
-    let at : c.loop-i.i ≡ in_index (g.P.Port.dims c.loop-i.port) link = sym (ap (λ ds. in_index ds link) k.same_dims ∙ (ap (in_index dims) here ∙ in_index-link_from dims rank c.loop-i.i grid own below)) in (
+    let here : link ≡ link_from dims rank i = link_here link_from dims _ rank _ _ _ (ap (λ t. t.dims) c.routes-in-loop-i.ensures ∙ k.ready.same_dims) (ap (λ t. t.rank) c.routes-in-loop-i.ensures ∙ k.ready.same_rank) (ap (λ n. n.link_from) c.neighbour-link.ensures.value) in
+    let at : i ≡ in_index (g.P.Port.dims c.loop-i.port) link = sym (ap (λ ds. in_index ds link) k.same_dims ∙ (ap (in_index dims) here ∙ in_index-link_from dims rank i grid own below)) in (
       search rules,
       (
         search rules,
@@ -39,12 +40,15 @@ pub loop-i-init : goal.loop-i-init
 loop-i-init g c =
     let dims = g.P.Port.dims c.args.port.now in
     let rank = g.P.Port.rank c.args.port.now in
+    let first : c.routes.result.now.dims ≡ dims = ap (λ t. t.dims) c.routes.ensures ∙ c.requires.ready.same_dims in
+    let grid : IsGrid dims = subst IsGrid first c.neighbours-i.ensures.grid in
+    let all : c.neighbours-i.result ≡ sum dims = omega (arith, ap sum first, c.neighbours-i.ensures.value) in
     record {
       empty = c.requires.empty;
       ready = c.requires.ready;
       goes_on = goes_on_refl c.args.state.now _ _;
-      collecting = collecting_none dims rank c.args.state.now _ _ _;
-      counted = counted_none dims rank in_index reader_at _ _;
+      collecting = collecting_none dims rank _ c.args.state.now _ _ _ grid all;
+      counted = counted_from_none dims rank _ _ _ grid all;
       posts = refl;
       outs = refl;
       sent = refl;
@@ -62,27 +66,29 @@ loop-i-preserved g c =
     let k = c.loop-i.invariant in
     let e = c.collect_one.ensures in
     let first = ap (λ t. t.dims) c.routes.ensures ∙ c.requires.ready.same_dims in
-    let below = below_sum dims _ _ _ first c.neighbours-i-end.ensures.value c.loop-i-test.true in
-    let grid : IsGrid dims = subst IsGrid first c.neighbours-i-end.ensures.grid in
-    let own : rank < ranks dims = subst (λ r. r < ranks dims) (ap (λ t. t.rank) c.routes.ensures ∙ c.requires.ready.same_rank) (subst (λ ds. c.routes.result.now.rank < ranks ds) first c.neighbours-i-end.ensures.rank) in
+    let i : ℕ = c.loop-i.i - 1 in
+    let below : i < sum dims = omega (arith, c.loop-i-test.true, ap sum first, c.neighbours-i.ensures.value) in
+    let back : c.loop-i.i ≡ i + 1 = omega (arith, c.loop-i-test.true) in
+    let grid : IsGrid dims = subst IsGrid first c.neighbours-i.ensures.grid in
+    let own : rank < ranks dims = subst (λ r. r < ranks dims) (ap (λ t. t.rank) c.routes.ensures ∙ c.requires.ready.same_rank) (subst (λ ds. c.routes.result.now.rank < ranks ds) first c.neighbours-i.ensures.rank) in
     let here = link_here link_from dims _ rank _ _ _ (ap (λ t. t.dims) c.routes-in-loop-i.ensures ∙ k.ready.same_dims) (ap (λ t. t.rank) c.routes-in-loop-i.ensures ∙ k.ready.same_rank) (ap (λ n. n.link_from) c.neighbour-link.ensures.value) in
     record {
       empty = e.empty;
       ready = ready_at dims _ rank _ _ _ _ k.same_dims k.same_rank e.ready;
       goes_on = goes_on_trans _ _ _ _ _ _ _ _ _ k.goes_on e.goes_on;
-      collecting = collecting_more dims rank _ _ c.args.state.now c.loop-i.state c.collect_one.new.state _ _ _ _ _ _ _ _ grid own below k.collecting here e.asked (record {
+      collecting = collecting_more dims rank _ _ c.args.state.now c.loop-i.state c.collect_one.new.state _ _ _ _ _ _ _ _ grid own below _ back k.collecting here e.asked (record {
         lies = e.lies;
         inbox = λ m h to ne. e.inbox m (link_at dims _ m k.same_dims h) (end_at reader_at dims _ rank _ m k.same_dims k.same_rank to) ne;
         got_stays = e.got;
         noted_stays = e.noted;
         idle_stays = e.idle;
       });
-      counted = counted_in dims rank _ _ _ _ _ _ _ grid own below here k.counted (record {
+      counted = counted_in dims rank _ _ _ _ _ _ grid own below here _ back k.counted (record {
         stays = λ m h to ne. refl;
         here =
             let link = c.neighbour-link.result.link_from in
             let inbox = (k.collecting.to_ask link (subst (λ l. l < links dims) (sym here) (from_below dims rank _ grid own below)) (ap (reader_at dims) here ∙ from_reader dims rank _ grid own below)
-            (omega (arith, ap (in_index dims) here, in_index-link_from dims rank c.loop-i.i grid own below))).inbox in
+            (omega (arith, ap (in_index dims) here, in_index-link_from dims rank i grid own below))).inbox in
             e.collects ∙ ap (λ x. once_more_if (is_wanted x) (g.P.Port.collects c.loop-i.port link)) inbox;
         others = e.collects_elsewhere;
       });
@@ -97,19 +103,7 @@ loop-i-preserved g c =
     }
 
 pub returns-clause-asked : goal.returns-clause-asked
-returns-clause-asked g c =
-    let dims = g.P.Port.dims c.args.port.now in
-    let k = c.loop-i.invariant in
-    let first : c.routes.result.now.dims ≡ dims = ap (λ t. t.dims) c.routes.ensures ∙ c.requires.ready.same_dims in
-    let grid : IsGrid dims = subst IsGrid first c.neighbours-i-end.ensures.grid in
-    let all : c.loop-i.i ≡ sum dims = omega (arith, ap sum first, c.neighbours-i-end.ensures.value) in
-    collecting_all _ _ _ _ _ _ _ _ _ _ grid all k.collecting
+returns-clause-asked g c = collecting_all _ _ _ _ _ _ _ _ _ _ (omega arith) c.loop-i.invariant.collecting
 
 pub returns-clause-collects : goal.returns-clause-collects
-returns-clause-collects g c =
-    let dims = g.P.Port.dims c.args.port.now in
-    let k = c.loop-i.invariant in
-    let first : c.routes.result.now.dims ≡ dims = ap (λ t. t.dims) c.routes.ensures ∙ c.requires.ready.same_dims in
-    let grid : IsGrid dims = subst IsGrid first c.neighbours-i-end.ensures.grid in
-    let all : c.loop-i.i ≡ sum dims = omega (arith, ap sum first, c.neighbours-i-end.ensures.value) in
-    λ l h to. k.counted.done l h to (subst (λ n. in_index dims l < n) (sym all) ((in_stands dims _ l grid h to).below))
+returns-clause-collects g c = λ l h to. c.loop-i.invariant.counted.done l h to (omega arith)

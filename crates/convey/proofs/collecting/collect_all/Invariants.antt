@@ -1,12 +1,10 @@
 use Rattle.std.proofs.Common.{◌≡◌}
 use Rattle.item_buffer.specs.Contents.{blank}
 use Rattle.convey.specs.Way.{IsReady, GoesOn}
-use Rattle.route_tensor.specs.Ends.{reader_at}
-use Rattle.route_tensor.specs.Neighbour.{in_index}
 use Rattle.hop_core.specs.Link.{is_wanted}
 use Rattle.convey.specs.Buffers.{in_of}
 use Rattle.convey.proofs.Ways.{Collecting}
-use Rattle.convey.proofs.Asks.{Counted}
+use Rattle.convey.proofs.Asks.{CountedFrom}
 use Rattle.convey.proofs.collecting.collect_all.Given as goal
 
 abbrev pub invariant-loop-i : goal.invariant-loop-i
@@ -18,7 +16,7 @@ invariant-loop-i g l = record {
       (g.P.Port.noted l.fn.port) (g.P.Port.noted l.port) (g.P.Port.idle l.port);
   outs : l.state.outs ≡ l.fn.state.outs;
   sent : g.P.Port.sent l.port ≡ g.P.Port.sent l.fn.port;
-  counted : Counted (g.P.Port.dims l.fn.port) (g.P.Port.rank l.fn.port) in_index reader_at l.i (λ m. is_wanted (in_of l.fn.state m)) (g.P.Port.collects l.fn.port) (g.P.Port.collects l.port);
+  counted : CountedFrom (g.P.Port.dims l.fn.port) (g.P.Port.rank l.fn.port) l.i (λ m. is_wanted (in_of l.fn.state m)) (g.P.Port.collects l.fn.port) (g.P.Port.collects l.port);
   posts : g.P.Port.posts l.port ≡ g.P.Port.posts l.fn.port;
   looks_out : g.P.Port.looks_out l.port ≡ g.P.Port.looks_out l.fn.port;
   rest : g.P.Port.rest l.port ≡ g.P.Port.rest l.fn.port;

@@ -1,11 +1,12 @@
 use Rattle.std.proofs.Common.{◌≡◌, ◌∙◌, ◌<◌, true, sym, ap, subst, arith, length, set, sum}
 use Rattle.std.specs.List.{All, list_all}
+use Rattle.std.proofs.lemmas.Bool.{and_parts}
 use Rattle.bale_types.specs.declared.item.Entry.{Entry}
 use Rattle.route_tensor.specs.Neighbour.{hop_to}
 use Rattle.route_tensor.specs.Tag.{IsFair}
-use Rattle.hop_core.specs.Link.{is_wanted, is_finished}
+use Rattle.hop_core.specs.Link.{is_wanted, is_finished, is_empty}
 use Rattle.hop_core.specs.State.{State, in_at, ins_of_hop}
-use Rattle.hop_core.proofs.Exchanging.{in_last_kept, in_going_kept, in_ending_kept}
+use Rattle.hop_core.proofs.Exchanging.{in_last_kept, in_empty_kept, in_going_kept, in_ending_kept}
 use Rattle.hop_core.proofs.state.RankState.take_in.Goals as goal
 
 pub invariant_of-self : goal.invariant_of-self
@@ -18,6 +19,18 @@ invariant_of-self g c =
     let q = subst (λ (s : State). c.args.number < sum s.dims) (sym c.self.view_is) c.requires.number in
     let last : hop_to c.self.inside.routes.dims c.args.number ≡ length c.self.inside.routes.dims = omega (arith, h, c.self.invariant.0, c.if-hop.true, c.neighbour-hop.ensures.last_hop) in
     (c.self.invariant.0, rw c.min-self-inside.ensures (in_last_kept _ _ _ _ _ _ _ k q home w c.known.ensures.within c.requires.fresh.none_back f (ap (λ y. y.parcel) c.exchange-finished.ensures.state) last))
+
+pub invariant_of-self-else-not-finished : goal.invariant_of-self-else-not-finished
+invariant_of-self-else-not-finished g c =
+    let k = c.self.invariant.1 in
+    let home = ap (λ (s : State). s.lent) c.self.view_is ∙ c.requires.home in
+    let w = subst (λ (s : State). is_wanted (in_at s c.args.number) ≡ true) (sym c.self.view_is) c.requires.wanted in
+    let f = subst (λ (s : State). All (λ (e : Entry). IsFair s.dims (hop_to s.dims c.args.number) e.tag) c.args.parcel.now.untaken) (sym c.self.view_is) c.requires.fair in
+    let h : c.neighbour-hop.result.hop ≡ hop_to c.self.inside.routes.dims c.args.number = ap (λ n. n.hop) c.neighbour-hop.ensures.value in
+    let q = subst (λ (s : State). c.args.number < sum s.dims) (sym c.self.view_is) c.requires.number in
+    let last : hop_to c.self.inside.routes.dims c.args.number ≡ length c.self.inside.routes.dims = omega (arith, h, c.self.invariant.0, c.if-hop.true, c.neighbour-hop.ensures.last_hop) in
+    let e : is_empty c.exchange-finished.new.self.parcel ≡ true = (and_parts _ _ (sym c.exchange-finished.ensures.value ∙ c.if-not-finished.false)).1 in
+    (c.self.invariant.0, in_empty_kept _ _ _ _ _ _ _ k q home w c.known.ensures.within c.requires.fresh.none_back f (ap (λ y. y.parcel) c.exchange-finished.ensures.state) last e)
 
 pub invariant_of-self-then-finished : goal.invariant_of-self-then-finished
 invariant_of-self-then-finished g c =

@@ -42,7 +42,7 @@ pub(crate) fn write_sums<Q: Answered, K: Sink>(
     let mut at = Dealt { rank: 0, turn: 0 };
     for e in 0..entries.len() {
         line.set(Kind::Integer, summed(entries[e], sum_at(p, m, at)));
-        out.line(line.as_line())?;
+        out.line(&line)?;
         at = next(at, ranks);
     }
     Ok(())

@@ -1,5 +1,5 @@
 -- A line laid over a buffer, of which more is copied than it has.
-use Rattle.std.proofs.Common.{◌≡◌, ℕ, ◌+◌, ◌≤◌, List, ◌++◌, length, take, ap, sym, ◌∙◌, arith, length-take-le, take-add, take-take, take_at, drop_at}
+use Rattle.std.proofs.Common.{◌≡◌, ℕ, ◌+◌, ◌≤◌, List, ◌++◌, length, take, ap, sym, ◌∙◌, arith, length-append, length-take-le, take-add, take-take, take_at, drop_at}
 use Rattle.std.proofs.lemmas.Slice.{take-put_mid}
 use borrow.Rule.Slice.PartMut.{put_mid}
 
@@ -20,3 +20,8 @@ laid at k room n buffer copied whole fits same long few =
     ∙ front_and at n (take at buffer) copied (length-take-le at buffer (omega (arith, fits)))
     ∙ ap (λ xs. take at buffer ++ take n xs) same
     ∙ ap (λ xs. take at buffer ++ xs) (take-take n k whole few)
+
+-- where what was laid ends
+pub laid_to : (end at : ℕ) (new old text : List ℕ) → take end new ≡ take at old ++ text → end ≤ length new → at ≤ length old → end ≡ at + length text
+laid_to end at new old text whole within before =
+    sym (length-take-le end new within) ∙ ap length whole ∙ length-append (take at old) text ∙ ap (λ k. k + length text) (length-take-le at old before)

@@ -11,18 +11,23 @@
 //! | `StdinSource`, `StdoutSink`, `StderrSink` | the standard streams |
 //! | `Line` | a line of an answer before it is written |
 //! | `Out` | a buffer of 4,096 bytes in front of a sink |
+//! | `LineText` | what has a line's text, and lays it into a buffer: a `Line`, or a writer of many lines |
+//! | `lay_byte`, `lay_natural`, `lay_natural_by`, `lay_integer` | lay a byte or a number into a buffer |
+//! | `Fours` | the four digits of each number below 10,000, for a writer of many lines |
 //! | `bits_of`, `value_of` | a signed number as a word, and back |
 //!
-//! An answer goes out line by line: a `Line` is put together in place, `Out::text` takes it, and the
+//! An answer goes out line by line: a `Line` is put together in place, `Out::line` takes it, and the
 //! `Out` hands its buffer to the sink each time that it is full, and at `Out::flush`. After a failure
 //! a sink holds a front of what was appended, the rest still waits in the `Out`, and the sink's count of
 //! faults rose.
 //!
-//! The definitions, in the order in which to read them: `Stream` (sources and sinks), `Out`, `Memory`, `Bits`.
+//! The definitions, in the order in which to read them: `Stream` (sources and sinks), `Out`, `Memory`, `Bits`, `Digits`.
 #![tactic(auto)]
 
 mod bits;
+mod digits;
 mod fault;
+mod fours;
 mod item;
 mod line;
 mod memory;
@@ -34,9 +39,11 @@ mod tests;
 mod triple;
 
 pub use bits::{bits_of, value_of};
+pub use digits::{lay_byte, lay_integer, lay_natural, lay_natural_by};
 pub use fault::{Failed, NoMemory};
+pub use fours::Fours;
 pub use item::{Entry, Item, Tag};
-pub use line::{LINE_ROOM, Line};
+pub use line::{LINE_ROOM, Line, LineText};
 pub use memory::{MemSink, MemSource};
 pub use out::Out;
 pub use standard::{StderrSink, StdinSource, StdoutSink};

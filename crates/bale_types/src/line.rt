@@ -1,8 +1,9 @@
 //! A line of an answer before it is written: put together in place, and handed on by one call of
-//! `Out::text`.
-ghost use Rattle.std.specs.Prelude.{◌≡◌, ◌+◌, ◌/◌, ◌%◌, ◌<◌, ◌≤◌, [], ◌∷◌, ◌++◌, length, take};
+//! `Out::line`.
+ghost use Rattle.std.specs.Prelude.{◌≡◌, ◌+◌, ◌≤◌, ℕ, List, [], ◌∷◌, ◌++◌, length, take};
 ghost use Rattle.std.specs.Fmt.{decimal, signed_decimal};
 
+use super::digits::{lay_byte, lay_integer, lay_natural, lay_text};
 use itoa::{Buffer, Integer};
 use std::marker::Model;
 
@@ -10,11 +11,7 @@ use std::marker::Model;
 pub const LINE_ROOM: usize = 80;
 
 /// How many bytes most lines have at most.
-const SHORT: usize = 32;
-
-/// The two digits of each number below 100: a look costs less than two divisions.
-static PAIRS: [u8; 200] =
-    *b"00010203040506070809101112131415161718192021222324252627282930313233343536373839404142434445464748495051525354555657585960616263646566676869707172737475767778798081828384858687888990919293949596979899";
+const SHORT: usize = 16;
 
 /// A line of up to `LINE_ROOM` bytes.
 #[derive(Drop)]
@@ -54,9 +51,7 @@ impl Line {
         ensures bytes { self.new ≡ self.old ++ b ∷ [] }
         ensures len { length self.new ≡ length self.old + 1 }
     {
-        let at = self.len;
-        self.room[at] = b;
-        self.len = at + 1;
+        self.len = lay_byte(&mut self.room, self.len, b);
     }
 
     /// Appends bytes, for which there must be room.
@@ -65,9 +60,7 @@ impl Line {
         ensures bytes { self.new ≡ self.old ++ t.now }
         ensures len { length self.new ≡ length self.old + length t.now }
     {
-        let end = self.len + t.len();
-        self.room[self.len..end].copy_from_slice(t);
-        self.len = end;
+        self.len = lay_text(&mut self.room, self.len, t);
     }
 
     /// Appends the decimal text of `n`, for the longest of whose type there must be room: 20 bytes for
@@ -89,11 +82,7 @@ impl Line {
         ensures bytes { self.new ≡ self.old ++ decimal n }
         ensures len { length self.new ≤ length self.old + 20 }
     {
-        if n < 100_000 {
-            self.len = five_digits(&mut self.room, self.len, n as u32);
-        } else {
-            self.number(n);
-        }
+        self.len = lay_natural(&mut self.room, self.len, n);
     }
 
     /// The same for a number with or without a sign.
@@ -103,11 +92,7 @@ impl Line {
         ensures bytes { self.new ≡ self.old ++ signed_decimal n }
         ensures len { length self.new ≤ length self.old + 20 }
     {
-        if 0 <= n && n < 100_000 {
-            self.len = five_digits(&mut self.room, self.len, n as u32);
-        } else {
-            self.number(n);
-        }
+        self.len = lay_integer(&mut self.room, self.len, n);
     }
 
     /// Goes back to the first `n` bytes.
@@ -135,102 +120,37 @@ impl Line {
     {
         self.len
     }
+}
 
-    /// Copies the room, or the front of it where the line is short, to an index of a buffer, so that the copy has one of two
-    /// fixed sizes.
+/// What has a line's text, and lays it into a buffer.
+pub trait LineText {
+    ghost text: { Self → List ℕ };
+
+    /// Lays the text behind the first `at` bytes of a buffer, and says where it ends; what follows there may be anything.
+    fn lay(&self, buffer: &mut [u8], at: usize) -> usize
+        requires room { at + LINE_ROOM ≤ length buffer.old }
+        ensures bytes { take result buffer.new ≡ take at buffer.old ++ text self.now }
+        ensures end { result ≤ at + LINE_ROOM }
+        ensures len { length buffer.new ≡ length buffer.old };
+}
+
+impl LineText for Line {
+    ghost text = { λ l. l };
+
+    /// Copies the room, or the front of it where the line is short, so that the copy has one of two fixed sizes.
     #[inline(always)]
-    pub(crate) fn lay(&self, buffer: &mut [u8], at: usize)
-        requires { at + LINE_ROOM ≤ length buffer.old }
-        ensures bytes { take (at + length self.now) buffer.new ≡ take at buffer.old ++ self.now }
+    fn lay(&self, buffer: &mut [u8], at: usize) -> usize
+        requires room { at + LINE_ROOM ≤ length buffer.old }
+        ensures bytes { take result buffer.new ≡ take at buffer.old ++ self.now }
+        ensures end { result ≤ at + LINE_ROOM }
         ensures len { length buffer.new ≡ length buffer.old }
     {
+        let end = at + self.len;
         if self.len <= SHORT {
             buffer[at..at + SHORT].copy_from_slice(&self.room[..SHORT]);
-            return;
+            return end;
         }
         buffer[at..at + LINE_ROOM].copy_from_slice(&self.room);
+        end
     }
-}
-
-/// Writes a number of at most five digits behind the first `at` bytes, and says where it ends.
-#[inline(always)]
-fn five_digits(room: &mut [u8; LINE_ROOM], at: usize, n: u32) -> usize
-    requires room { at + 5 ≤ LINE_ROOM }
-    requires few { n < 100_000 }
-    ensures bytes { take result room.new ≡ take at room.old ++ decimal n }
-    ensures end { result ≤ at + 5 }
-{
-    if n < 10_000 {
-        return four_digits(room, at, n);
-    }
-    let rest = n % 10_000;
-    digit(room, at, n / 10_000);
-    pair(room, at + 1, rest / 100);
-    pair(room, at + 3, rest % 100);
-    at + 5
-}
-
-/// The same of at most four digits.
-#[inline(always)]
-fn four_digits(room: &mut [u8; LINE_ROOM], at: usize, n: u32) -> usize
-    requires room { at + 4 ≤ LINE_ROOM }
-    requires few { n < 10_000 }
-    ensures bytes { take result room.new ≡ take at room.old ++ decimal n }
-    ensures end { result ≤ at + 4 }
-{
-    if n < 100 {
-        return two_digits(room, at, n);
-    }
-    let hundreds = n / 100;
-    let next = two_digits(room, at, hundreds);
-    pair(room, next, n % 100);
-    next + 2
-}
-
-/// The same of at most two digits.
-#[inline(always)]
-fn two_digits(room: &mut [u8; LINE_ROOM], at: usize, n: u32) -> usize
-    requires room { at + 2 ≤ LINE_ROOM }
-    requires few { n < 100 }
-    ensures bytes { take result room.new ≡ take at room.old ++ decimal n }
-    ensures end { result ≤ at + 2 }
-{
-    if n < 10 {
-        digit(room, at, n);
-        return at + 1;
-    }
-    pair(room, at, n);
-    at + 2
-}
-
-/// Writes both digits of a number below 100 behind the first `at` bytes.
-#[inline(always)]
-fn pair(room: &mut [u8; LINE_ROOM], at: usize, n: u32)
-    requires room { at + 2 ≤ LINE_ROOM }
-    requires few { n < 100 }
-    ensures bytes { take (at + 2) room.new ≡ take at room.old ++ (48 + n / 10) ∷ (48 + n % 10) ∷ [] }
-{
-    let from = n as usize * 2;
-    let (tens, ones) = (PAIRS[from], PAIRS[from + 1]);
-    put(room, at, tens);
-    put(room, at + 1, ones);
-}
-
-/// Writes a digit behind the first `at` bytes.
-#[inline(always)]
-fn digit(room: &mut [u8; LINE_ROOM], at: usize, n: u32)
-    requires room { at + 1 ≤ LINE_ROOM }
-    requires few { n < 10 }
-    ensures bytes { take (at + 1) room.new ≡ take at room.old ++ (48 + n) ∷ [] }
-{
-    put(room, at, b'0' + n as u8);
-}
-
-/// Writes a byte behind the first `at` bytes.
-#[inline(always)]
-fn put(room: &mut [u8; LINE_ROOM], at: usize, b: u8)
-    requires { at + 1 ≤ LINE_ROOM }
-    ensures { take (at + 1) room.new ≡ take at room.old ++ b ∷ [] }
-{
-    room[at] = b;
 }

@@ -11,7 +11,7 @@ ghost use Rattle.bale_types.specs.Stream.{after, HasCause, IsFront};
 ghost use Rattle.bale_types.specs.declared.out.TheConstants.{BUFFER};
 
 use super::fault::Failed;
-use super::line::{LINE_ROOM, Line};
+use super::line::{LINE_ROOM, LineText};
 use super::stream::Sink;
 use itoa::Buffer;
 
@@ -99,24 +99,25 @@ impl<'a, K: Sink> Out<'a, K> {
         Ok(())
     }
 
-    /// Appends a line. Where the buffer has room for the longest, it is copied without a look at its length.
+    /// Appends a line, which is laid straight into the buffer where that has room for the longest.
     ///
     /// # Errors
     ///
     /// `Failed` where the sink's faults rose in this call.
     #[inline(always)]
-    pub fn line(&mut self, line: &Line) -> Result<(), Failed>
-        ensures ok { OnOk result (appended K.taken self.new ≡ after (appended K.taken self.old) line.now) }
+    pub fn line<L: LineText>(&mut self, line: &L) -> Result<(), Failed>
+        ensures ok { OnOk result (appended K.taken self.new ≡ after (appended K.taken self.old) (L.text line.now)) }
         ensures err { OnErr result
-            (IsFront (K.taken self.new.sink.now) (after (appended K.taken self.old) line.now)) }
+            (IsFront (K.taken self.new.sink.now) (after (appended K.taken self.old) (L.text line.now))) }
         ensures kept { OnErr result (IsFront (appended K.taken self.old) (appended K.taken self.new)) }
-        ensures part { OnErr result (IsFront (appended K.taken self.new) (after (appended K.taken self.old) line.now)) }
+        ensures part { OnErr result
+            (IsFront (appended K.taken self.new) (after (appended K.taken self.old) (L.text line.now))) }
         ensures cause { HasCause (K.faults self.old.sink.now) (K.faults self.new.sink.now) result }
         ensures no_fault { OnOk result (K.faults self.new.sink.now ≡ K.faults self.old.sink.now) }
         ensures never_falls { K.faults self.old.sink.now ≤ K.faults self.new.sink.now }
-        ensures gathers { self.old.len + length line.now < 4096 → self.new.sink.now ≡ self.old.sink.now }
-        ensures no_failure { self.old.len + length line.now < 4096 → IsOk result }
-        ensures waits { OnOk result (self.new.len ≡ left_over self.old.len (length line.now)) }
+        ensures gathers { self.old.len + length (L.text line.now) < 4096 → self.new.sink.now ≡ self.old.sink.now }
+        ensures no_failure { self.old.len + length (L.text line.now) < 4096 → IsOk result }
+        ensures waits { OnOk result (self.new.len ≡ left_over self.old.len (length (L.text line.now))) }
         ensures grows { IsFront (K.taken self.old.sink.now) (K.taken self.new.sink.now) }
         ensures same_sink { self.new.sink.ghost_name ≡ self.old.sink.ghost_name }
     {
@@ -124,7 +125,9 @@ impl<'a, K: Sink> Out<'a, K> {
             self.lay(line);
             return Ok(());
         }
-        self.text(line.bytes())
+        let mut room = [0; LINE_ROOM];
+        let len = line.lay(&mut room, 0);
+        self.text(&room[..len])
     }
 
     /// Appends the decimal text of `n`.
@@ -225,18 +228,16 @@ impl<'a, K: Sink> Out<'a, K> {
         Ok(())
     }
 
-    /// Lays a line behind the bytes that the buffer holds, and what is left of its room after it.
+    /// Lays a line behind the bytes that the buffer holds.
     #[inline(always)]
-    fn lay(&mut self, line: &Line)
+    fn lay<L: LineText>(&mut self, line: &L)
         requires { self.old.len + LINE_ROOM < BUFFER }
-        ensures appended { appended K.taken self.new ≡ after (appended K.taken self.old) line.now }
-        ensures len { self.new.len ≡ self.old.len + length line.now }
+        ensures appended { appended K.taken self.new ≡ after (appended K.taken self.old) (L.text line.now) }
+        ensures len { self.new.len ≡ self.old.len + length (L.text line.now) }
         ensures room { self.new.len < BUFFER }
         ensures sink { self.new.sink ≡ self.old.sink }
     {
-        let len = self.len;
-        line.lay(&mut self.buffer, len);
-        self.len = len + line.len();
+        self.len = line.lay(&mut self.buffer, self.len);
     }
 
     /// Copies as many bytes from the front of `t` as fit behind those that the buffer holds.

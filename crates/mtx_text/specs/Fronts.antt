@@ -1,7 +1,6 @@
 -- Lines of entries, cut behind the row: entries of one row share that front.
-use Rattle.std.specs.Prelude.{ℕ, ◌≡◌, ◌≤◌, ◌<◌, ◌+◌, List, [], ◌∷◌, ◌++◌, length, take, decimal}
+use Rattle.std.specs.Prelude.{ℕ, ℤ, ◌≡◌, ◌≤◌, ◌<◌, ◌+◌, Option, None, Some, List, [], ◌∷◌, ◌++◌, length, decimal}
 use Rattle.std.specs.Fmt.{signed_decimal}
-use Rattle.bale_types.specs.declared.triple.Triple.{Triple}
 use Rattle.mtx_text.specs.declared.kind.Kind.{Kind}
 use Rattle.mtx_text.specs.declared.kind.Kind.TheVariants as kind
 
@@ -9,14 +8,18 @@ use Rattle.mtx_text.specs.declared.kind.Kind.TheVariants as kind
 abbrev pub row_text : ℕ → List ℕ
 row_text row = decimal row ++ 32 ∷ []
 
--- What follows it: the column, from 1, and the value in an integer matrix.
-abbrev pub rest_text : Kind → Triple → List ℕ
-rest_text kind.Integer t = decimal (t.j + 1) ++ 32 ∷ [] ++ signed_decimal t.v ++ 10 ∷ []
-rest_text kind.Pattern t = decimal (t.j + 1) ++ 10 ∷ []
+-- What follows it: the column, which counts from 0 and is written from 1, and the value in an integer matrix.
+abbrev pub rest_text : Kind → ℕ → ℤ → List ℕ
+rest_text kind.Integer column value = decimal (column + 1) ++ 32 ∷ [] ++ signed_decimal value ++ 10 ∷ []
+rest_text kind.Pattern column value = decimal (column + 1) ++ 10 ∷ []
 
--- The line begins with a row's front of so many bytes, where a row is named.
---   "12 7/" with row 12 and 3 bytes
-pub record Names (row front : ℕ) (line : List ℕ) : Type 0 where
-  pub within : front ≤ length line
-  pub short : front ≤ 21
-  pub bytes : 0 < row → take front line ≡ row_text row
+-- The line of an entry whose row has that front; without a kind there is none yet.
+abbrev pub line_of : List ℕ → Option Kind → ℕ → ℤ → List ℕ
+line_of front None column value = []
+line_of front (Some kind) column value = front ++ rest_text kind column value
+
+-- The front names the row, where there is one.
+--   "12 " names row 12
+pub record Names (row : ℕ) (front : List ℕ) : Type 0 where
+  pub short : length front ≤ 21
+  pub bytes : 0 < row → front ≡ row_text row

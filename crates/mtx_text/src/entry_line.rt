@@ -1,33 +1,41 @@
-//! Lines of entries, put together in place: entries of one row share their front.
-ghost use Rattle.std.specs.Prelude.{◌≡◌, ◌+◌, ◌≤◌, ◌<◌, [], ◌++◌, length};
+//! Lines of entries, whose rows are written once: entries of one row share their front.
+ghost use Rattle.std.specs.Prelude.{◌≡◌, ◌+◌, ◌≤◌, ◌<◌, ℕ, List, [], ◌++◌, length, take};
+ghost use Rattle.bale_types.specs.declared.line.TheConstants.{LINE_ROOM};
 ghost use Rattle.bale_types.specs.declared.triple.Triple.{Triple};
 ghost use Rattle.mtx_text.specs.Written.{entry_text};
-ghost use Rattle.mtx_text.specs.Fronts.{row_text, rest_text, Names};
+ghost use Rattle.mtx_text.specs.Fronts.{row_text, rest_text, line_of, Names};
 
 use crate::kind::Kind;
-use bale_types::{Line, Triple};
+use bale_types::{Fours, LINE_ROOM, Line, LineText, Triple, lay_byte, lay_integer, lay_natural_by};
 use std::marker::Model;
 
 /// The line of one entry after another, seen as its bytes. Its front, which names the row, stays where the next entry has the
-/// same row, so that only what follows is written anew.
+/// same row, and what follows is written when an output takes the line.
 #[derive(Drop)]
 pub struct EntryLine {
-    line: Line,
-    /// The row that the front names, from 1; 0 where the line has no front yet.
+    /// The digits of columns.
+    fours: Fours,
+    /// The row, from 1, and a blank.
+    front: Line,
+    /// The row that the front names, from 1; 0 where it names none yet.
     row: u64,
-    /// How many bytes the front has.
-    front: usize,
+    /// What the value is; none where there is no entry yet.
+    kind: Option<Kind>,
+    /// The column, from 0.
+    column: u32,
+    /// The value, where it is written.
+    value: i64,
 }
 
 impl Model for EntryLine {
     ghost use Rattle.std.specs.Prelude.{ℕ, List};
-    ghost use Rattle.mtx_text.specs.Fronts.{Names};
+    ghost use Rattle.mtx_text.specs.Fronts.{line_of, Names};
 
     ghost Value = { List ℕ };
 
-    ghost view = { λ e. e.line };
+    ghost view = { λ e. line_of e.front e.kind e.column e.value };
 
-    ghost invariant = { λ e. Names e.row e.front e.line };
+    ghost invariant = { λ e. Names e.row e.front };
 }
 
 impl EntryLine {
@@ -36,9 +44,12 @@ impl EntryLine {
         ensures { result ≡ [] }
     {
         EntryLine {
-            line: Line::new(),
+            fours: Fours::new(),
+            front: Line::new(),
             row: 0,
-            front: 0,
+            kind: None,
+            column: 0,
+            value: 0,
         }
     }
 
@@ -48,49 +59,68 @@ impl EntryLine {
         ensures { self.new ≡ entry_text kind t }
     {
         let row = t.i as u64 + 1;
-        self.front = on_row(&mut self.line, self.row, self.front, row);
-        self.row = row;
-        finish(&mut self.line, kind, t);
+        if self.row != row {
+            name(&mut self.front, row);
+            self.row = row;
+        }
+        self.kind = Some(kind);
+        self.column = t.j;
+        if let Kind::Integer = kind {
+            self.value = t.v;
+        }
     }
+}
 
-    /// The line, for `Out::line`.
+impl LineText for EntryLine {
+    ghost text = { λ l. l };
+
     #[inline(always)]
-    pub fn as_line(&self) -> &Line
-        ensures { result.now ≡ self.now }
+    fn lay(&self, buffer: &mut [u8], at: usize) -> usize
+        requires room { at + LINE_ROOM ≤ length buffer.old }
+        ensures bytes { take result buffer.new ≡ take at buffer.old ++ self.now }
+        ensures end { result ≤ at + LINE_ROOM }
+        ensures len { length buffer.new ≡ length buffer.old }
     {
-        &self.line
+        let Some(kind) = self.kind else {
+            return at;
+        };
+        let front = self.front.lay(buffer, at);
+        lay_rest(buffer, front, &self.fours, kind, self.column, self.value)
     }
 }
 
-/// Leaves a line's front alone, where it is that of a row, and else writes that row's; says how many bytes it has.
-#[inline(always)]
-fn on_row(line: &mut Line, named: u64, front: usize, row: u64) -> usize
-    requires some { 0 < row }
-    requires front { Names named front line.old }
-    ensures line { line.new ≡ row_text row }
-    ensures front { result ≡ length line.new }
-    ensures short { result ≤ 21 }
+/// Makes a line the front of a row's lines.
+fn name(front: &mut Line, row: u64)
+    ensures front { front.new ≡ row_text row }
+    ensures short { length front.new ≤ 21 }
 {
-    if named == row {
-        line.cut(front);
-        return front;
-    }
-    line.cut(0);
-    line.natural(row);
-    line.byte(b' ');
-    line.len()
+    front.cut(0);
+    front.natural(row);
+    front.byte(b' ');
 }
 
-/// Appends what follows the row in an entry's line.
+/// Lays what follows the row in an entry's line behind the first `at` bytes of a buffer, and says where it ends.
 #[inline(always)]
-fn finish(line: &mut Line, kind: Kind, t: Triple)
-    requires short { length line.old ≤ 21 }
-    ensures bytes { line.new ≡ line.old ++ rest_text kind t }
+fn lay_rest(
+    buffer: &mut [u8],
+    at: usize,
+    fours: &Fours,
+    kind: Kind,
+    column: u32,
+    value: i64,
+) -> usize
+    requires { at + 42 ≤ length buffer.old }
+    ensures bytes { take result buffer.new ≡ take at buffer.old ++ rest_text kind column value }
+    ensures end { result ≤ at + 42 }
+    ensures len { length buffer.new ≡ length buffer.old }
 {
-    line.natural(t.j as u64 + 1);
-    if let Kind::Integer = kind {
-        line.byte(b' ');
-        line.integer(t.v);
+    let column = lay_natural_by(buffer, at, fours, column as u64 + 1);
+    match kind {
+        Kind::Integer => {
+            let blank = lay_byte(buffer, column, b' ');
+            let value = lay_integer(buffer, blank, value);
+            lay_byte(buffer, value, b'\n')
+        }
+        Kind::Pattern => lay_byte(buffer, column, b'\n'),
     }
-    line.byte(b'\n');
 }

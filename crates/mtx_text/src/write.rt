@@ -108,7 +108,7 @@ fn write_lines<K: Sink>(out: &mut Out<'_, K>, kind: Kind, entries: &[Triple]) ->
     let mut line = EntryLine::new();
     for t in entries {
         line.set(kind, *t);
-        out.line(line.as_line())?;
+        out.line(&line)?;
     }
     Ok(())
 }

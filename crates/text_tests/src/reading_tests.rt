@@ -1,7 +1,7 @@
 //! Worked texts with their matrices or bad lines, and that calls succeed with ample memory.
 ghost use Rattle.std.specs.Prelude.{None};
 
-use bale_types::{Failed, MemSource, Source, Triple};
+use bale_types::{Failed, MemSink, MemSource, Out, Source, Triple};
 use mtx_text::{
     BadLine, EntryLine, Kind, Matrix, ParseFault, ReadFault, Reason, parse_matrix, read_matrix,
 };
@@ -347,17 +347,31 @@ fn hostile_lengths(rt: HostRuntime) -> Result<(), Fail> {
 }
 
 #[test]
-fn lines_of_entries(rt: HostRuntime) {
-    let mut line = EntryLine::new();
-    let rows: [(u32, u32, i64, Kind, &[u8]); 5] = [
-        (0, 2, -7, Kind::Integer, b"1 3 -7\n"),
-        (0, 99_999, 12, Kind::Integer, b"1 100000 12\n"),
-        (0, 4, 1, Kind::Pattern, b"1 5\n"),
-        (122, 0, 0, Kind::Integer, b"123 1 0\n"),
-        (0, 0, i64::MIN, Kind::Integer, b"1 1 -9223372036854775808\n"),
+fn lines_of_entries(rt: HostRuntime) -> Result<(), Fail> {
+    let entries: [(u32, u32, i64, Kind); 10] = [
+        (0, 2, -7, Kind::Integer),
+        (0, 98, 99, Kind::Integer),
+        (0, 998, 100, Kind::Integer),
+        (0, 999, 9_999, Kind::Integer),
+        (0, 9_998, 10_000, Kind::Integer),
+        (0, 9_999, 99_999, Kind::Integer),
+        (0, 99_998, 100_000, Kind::Integer),
+        (0, 99_999, 1, Kind::Pattern),
+        (122, 10_006, 0, Kind::Integer),
+        (u32::MAX, u32::MAX, i64::MIN, Kind::Integer),
     ];
-    for (i, j, v, kind, wanted) in rows {
+    let mut sink = MemSink::new(rt.alloc(), 200, 200, &[])?;
+    let mut out = Out::new(&mut sink);
+    let mut line = EntryLine::new();
+    out.line(&line)?;
+    for (i, j, v, kind) in entries {
         line.set(kind, Triple { i, j, v });
-        assert!(rt; line.as_line().bytes() == wanted);
+        out.line(&line)?;
     }
+    out.flush()?;
+    assert_eq!(rt;
+        sink.taken(),
+        b"1 3 -7\n1 99 99\n1 999 100\n1 1000 9999\n1 9999 10000\n1 10000 99999\n1 99999 100000\n1 100000\n123 10007 0\n4294967296 4294967296 -9223372036854775808\n".as_slice()
+    );
+    Ok(())
 }

@@ -10,22 +10,22 @@ use Rattle.app_histo_ig.specs.IgLines.{column_sum, ig_line}
 use Rattle.app_histo_ig.proofs.Dealt.{turn_low}
 use Rattle.app_histo_ig.proofs.IgText.{line_is, lines_more, front_at, field_at}
 use Rattle.app_histo_ig.proofs.answered.write_sums.Given.{Over}
-use Rattle.app_histo_ig.proofs.answered.write_sums.Goals.{After-as_line}
+use Rattle.app_histo_ig.proofs.answered.write_sums.Goals.{After-set}
 use Rattle.app_histo_ig.proofs.answered.write_sums.Goals as goal
 
 -- the entry
-entry : (g : Over) (c : After-as_line g) → (t : Triple) × (slice_get c.args.m.now.entries c.loop-e.e ≡ Some t)
+entry : (g : Over) (c : After-set g) → (t : Triple) × (slice_get c.args.m.now.entries c.loop-e.e ≡ Some t)
 entry g c = find c.args.m.now.entries c.loop-e.e (subst (λ xs. c.loop-e.e < length xs) c.entries-entries.ensures.entries c.loop-e-test.true)
 
 -- its line
-line : (g : Over) (c : After-as_line g)
-    → c.as_line.result.now ≡ ig_line (entry g c).0.i (entry g c).0.j (column_sum (entry g c).0.j c.args.m.now.entries)
+line : (g : Over) (c : After-set g)
+    → c.set.new.self ≡ ig_line (entry g c).0.i (entry g c).0.j (column_sum (entry g c).0.j c.args.m.now.entries)
 line g c =
     let ts : List Triple = c.args.m.now.entries in
     let t = entry g c in
     let fits : SFits w64 c.sum_at.result = record { sfits = c.sum_at.type_inv } in
     let at : slice_get ts (c.loop-e.at.turn * length c.args.p.now + c.loop-e.at.rank) ≡ Some t.0 = subst (λ k. slice_get ts k ≡ Some t.0) (sym c.loop-e.invariant.dealt) t.1 in
-    c.as_line.ensures ∙ c.set.ensures ∙ ap (entry_text kind.Integer) c.summed.ensures
+    c.set.ensures ∙ ap (entry_text kind.Integer) c.summed.ensures
     ∙ line_is ts t.0 _ _ _
     (field_at (λ (u : Triple). u.i) c.entries-entries.result.now ts c.loop-e.e t.0 _ c.entries-entries.ensures.entries t.1)
     (field_at (λ (u : Triple). u.j) c.entries-entries.result.now ts c.loop-e.e t.0 _ c.entries-entries.ensures.entries t.1)
@@ -43,7 +43,7 @@ next-at-requires-clause-turn g c =
 pub returns-in_err-line-clause-err : goal.returns-in_err-line-clause-err
 returns-in_err-line-clause-err g c =
     let ts : List Triple = c.args.m.now.entries in
-    let x = (goal.at.returns-in_err-line-clause-err g c).After-as_line in
+    let x = (goal.at.returns-in_err-line-clause-err g c).After-set in
     on_err_any c.from_residual.result
     (front_at (λ u. ig_line u.i u.j (column_sum u.j ts)) ts c.loop-e.e (entry g x).0 _ _ _ _ (entry g x).1 (line g x) c.in_err-line.ensures.err c.loop-e.invariant.so_far)
 
@@ -54,7 +54,7 @@ returns-in_err-line-clause-grows g c =
 pub loop-e-preserved : goal.loop-e-preserved
 loop-e-preserved g c =
     let ts : List Triple = c.args.m.now.entries in
-    let x = (goal.at.loop-e-preserved g c).After-as_line in
+    let x = (goal.at.loop-e-preserved g c).After-set in
     record {
       dealt = search (rules, c.next-at.ensures.next, c.loop-e.invariant.dealt, c.len-ranks.ensures);
       rank = search (rules, c.next-at.ensures.rank, c.len-ranks.ensures);

@@ -62,21 +62,18 @@ pub queries_placed : (s : IgState) → IsIg s → All (All (λ x. (x.a < 2 ^ 32)
 queries_placed s v k d l i e b = query_place s (get_or (get_or s.queries k d) i e) v (v.asked k d l i e b)
 
 -- what is sent after a round, from the fields that it is read from
-sent_is : (s : IgState) (round : ℕ) (own : List Own) (sums : List ℕ) (queries : List (List Item)) (replies : List (ℕ × Item)) → round ≡ min (s.round + 1) (2 ^ 64 - 1) → map number_and_column own ≡ s.own → sums ≡ s.sums → queries ≡ s.queries
-    → replies ≡ cond (s.round == 1) (replies_from s.ranks sums 0 queries) [] → sent_of round s.ranks own replies ≡ next_outgoing s
-sent_is s round own sums queries replies e o n q h =
-    sent_next s.round round s.ranks own (replies_from s.ranks sums 0 queries) replies e h
-    ∙ ap (λ w. cond (s.round == 0) (map (to_ask s.ranks) w) (cond (s.round == 1) (replies_from s.ranks sums 0 queries) [])) o
-    ∙ ap (λ w. cond (s.round == 0) (map (to_ask s.ranks) s.own) (cond (s.round == 1) (replies_from s.ranks w 0 queries) [])) n
-    ∙ ap (λ w. cond (s.round == 0) (map (to_ask s.ranks) s.own) (cond (s.round == 1) (replies_from s.ranks s.sums 0 w) [])) q
+sent_is : (s : IgState) (round : ℕ) (own : List Own) → round ≡ min (s.round + 1) (2 ^ 64 - 1) → map number_and_column own ≡ s.own
+    → sent_of round s.ranks own (replies_from s.ranks s.sums 0 s.queries) ≡ next_outgoing s
+sent_is s round own e o =
+    sent_next s.round round s.ranks own (replies_from s.ranks s.sums 0 s.queries) e
+    ∙ ap (λ w. cond (s.round == 0) (map (to_ask s.ranks) w) (cond (s.round == 1) (replies_from s.ranks s.sums 0 s.queries) [])) o
 
-pub ended_from : (s : IgState) (round : ℕ) (own : List Own) (sums : List ℕ) (queries : List (List Item)) (replies : List (ℕ × Item)) → IsIg s → round ≡ min (s.round + 1) (2 ^ 64 - 1) → map number_and_column own ≡ s.own → sums ≡ s.sums
-    → queries ≡ s.queries → replies ≡ cond (s.round == 1) (replies_from s.ranks sums 0 queries) [] → IsIg (record s { round = round; outgoing = sent_of round s.ranks own replies })
-ended_from s round own sums queries replies v e o n q h =
-    ended_valid s round (sent_of round s.ranks own replies) v e (sent_is s round own sums queries replies e o n q h)
+pub ended_from : (s : IgState) (round : ℕ) (own : List Own) → IsIg s → round ≡ min (s.round + 1) (2 ^ 64 - 1) → map number_and_column own ≡ s.own
+    → IsIg (record s { round = round; outgoing = sent_of round s.ranks own (replies_from s.ranks s.sums 0 s.queries) })
+ended_from s round own v e o = ended_valid s round (sent_of round s.ranks own (replies_from s.ranks s.sums 0 s.queries)) v e (sent_is s round own e o)
 
-pub ended_is : (s : IgState) (votes round : ℕ) (own : List Own) (sums : List ℕ) (queries : List (List Item)) (replies : List (ℕ × Item)) → round ≡ min (s.round + 1) (2 ^ 64 - 1) → map number_and_column own ≡ s.own → sums ≡ s.sums
-    → queries ≡ s.queries → replies ≡ cond (s.round == 1) (replies_from s.ranks sums 0 queries) [] → record s { round = round; outgoing = sent_of round s.ranks own replies } ≡ ig_rules.ended s votes
-ended_is s votes round own sums queries replies e o n q h =
-    ap (λ w. record s { round = w; outgoing = sent_of round s.ranks own replies }) e
-    ∙ ap (λ w. record s { round = min (s.round + 1) (2 ^ 64 - 1); outgoing = w }) (sent_is s round own sums queries replies e o n q h)
+pub ended_is : (s : IgState) (votes round : ℕ) (own : List Own) → round ≡ min (s.round + 1) (2 ^ 64 - 1) → map number_and_column own ≡ s.own
+    → record s { round = round; outgoing = sent_of round s.ranks own (replies_from s.ranks s.sums 0 s.queries) } ≡ ig_rules.ended s votes
+ended_is s votes round own e o =
+    ap (λ w. record s { round = w; outgoing = sent_of round s.ranks own (replies_from s.ranks s.sums 0 s.queries) }) e
+    ∙ ap (λ w. record s { round = min (s.round + 1) (2 ^ 64 - 1); outgoing = w }) (sent_is s round own e o)

@@ -7,6 +7,7 @@ pub mod HistoText
 pub mod IgAnswers
 pub mod IgOwners
 pub mod IgQueries
+pub mod IgReplies
 pub mod IgRounds
 pub mod IgSent
 pub mod IgSteps

@@ -8,12 +8,12 @@ ghost use Rattle.app_histo_ig.specs.IgSent.{number_and_column, to_add};
 
 use crate::answered::Answered;
 use crate::batches::{note_each, raise_each, rise_each};
-use crate::ig_lists::{note, raise, replies_after, rise};
-use crate::ig_sent::{Own, count_of, emission_of, emit_sent};
+use crate::ig_lists::{note, raise, rise};
+use crate::ig_replies::{count_after, emit_replies, reply_at};
+use crate::ig_sent::{Own, count_of, emit_own, own_emission};
 use crate::seat::Seat;
 use bale_types::{Item, NoMemory};
 use round_program::{Arrivals, Departures, Program};
-use std::alloc::Global;
 use std::marker::Model;
 
 /// One rank's part of ig, in three rounds: the owner of each column adds up its values; each rank asks for the column of
@@ -21,7 +21,6 @@ use std::marker::Model;
 /// `j div ranks`. Sums are words, as `bits_of` gives them, and rise modulo 2^64.
 #[derive(Drop)]
 pub struct Ig {
-    alloc: Global,
     rank: u32,
     ranks: u32,
     round: u64,
@@ -33,8 +32,8 @@ pub struct Ig {
     sums: Vec<u64>,
     /// the queries that came, by sender, in order
     queries: Vec<Vec<Item>>,
-    /// the replies that are sent in round 2
-    replies: Vec<(u32, Item)>,
+    /// in round 2, how many they are
+    asked: u64,
     /// the sum of each own entry's column; that of entry number `e` stands at `e div ranks`
     answers: Vec<u64>,
 }
@@ -44,11 +43,11 @@ impl Model for Ig {
 
     ghost Value = { IgState };
 
-    ghost use Rattle.app_histo_ig.specs.IgView.{ig_state};
+    ghost use Rattle.app_histo_ig.specs.IgView.{ig_state, IsIgInside};
 
     ghost view = { ig_state };
 
-    ghost invariant = { λ s. IsIg (ig_state s) };
+    ghost invariant = { λ s. IsIgInside s };
 }
 
 /// What a rank of ig begins with, beside its numbers.
@@ -62,7 +61,7 @@ pub(crate) struct Begins {
 
 impl Ig {
     /// A rank before its first round.
-    pub(crate) fn new(alloc: Global, rank: u32, ranks: u32, cols: u32, begins: Begins) -> Ig
+    pub(crate) fn new(rank: u32, ranks: u32, cols: u32, begins: Begins) -> Ig
         requires { IsIg (record {
           rank = rank;
           ranks = ranks;
@@ -87,7 +86,6 @@ impl Ig {
         } }
     {
         Ig {
-            alloc,
             rank,
             ranks,
             round: 0,
@@ -95,7 +93,7 @@ impl Ig {
             own: begins.own,
             sums: begins.sums,
             queries: begins.queries,
-            replies: Vec::new(alloc),
+            asked: 0,
             answers: begins.answers,
         }
     }
@@ -130,15 +128,24 @@ impl Program for Ig {
     }
 
     fn count(&self) -> u64 {
-        count_of(self.round, &self.own, &self.replies)
+        count_of(self.round, &self.own, self.asked)
     }
 
     fn emission(&self, i: u64) -> (u32, Item) {
-        emission_of(self.round, self.ranks, &self.own, &self.replies, i)
+        if self.round < 2 {
+            return own_emission(self.round, self.ranks, &self.own, i);
+        }
+        reply_at(self.ranks, &self.sums, &self.queries, i)
     }
 
     fn emit_each<D: Departures>(&self, from: u64, out: &mut D) -> u64 {
-        emit_sent(self.round, self.ranks, &self.own, &self.replies, from, out)
+        if self.round < 2 {
+            return emit_own(self.round, self.ranks, &self.own, from, out);
+        }
+        if self.round == 2 {
+            return emit_replies(self.ranks, &self.sums, &self.queries, self.asked, from, out);
+        }
+        from
     }
 
     fn fits(&self, from: u32, item: Item) -> bool {
@@ -187,13 +194,7 @@ impl Program for Ig {
 
     fn end_round(&mut self, votes: u64) -> Result<bool, NoMemory> {
         let goes_on = self.round < 2;
-        self.replies = replies_after(
-            self.alloc,
-            self.round,
-            self.ranks,
-            &self.sums,
-            &self.queries,
-        )?;
+        self.asked = count_after(self.round, &self.queries)?;
         self.round = self.round.saturating_add(1);
         Ok(goes_on)
     }

@@ -53,7 +53,7 @@ fn part_of(alloc: Global, m: &Matrix, parts: &Parts, ranks: u32, rank: u32) -> R
         queries: no_queries(alloc, ranks)?,
         answers: zeros(alloc, parts.len(rank))?,
     };
-    Ok(Ig::new(alloc, rank, ranks, m.cols(), begins))
+    Ok(Ig::new(rank, ranks, m.cols(), begins))
 }
 
 /// A rank's entries.

@@ -1,10 +1,10 @@
 //! What a rank of ig sends, put together from the entries that it keeps: so of values and queries no list is made.
 
-ghost use Rattle.std.specs.Prelude.{◌≡◌, ◌<◌, ◌≤◌, ◌-◌, ℕ, drop, Some, length, map, slice_get};
+ghost use Rattle.std.specs.Prelude.{◌≡◌, ◌<◌, ◌≤◌, ◌-◌, ℕ, List, drop, Some, length, map, slice_get};
 ghost use Rattle.std.specs.List.{All};
 ghost use Rattle.round_program.specs.Emissions.{HandsOver};
 ghost use Rattle.app_histo_ig.specs.Igs.{to_ask};
-ghost use Rattle.app_histo_ig.specs.IgSent.{number_and_column, question_of, to_add, sent_of};
+ghost use Rattle.app_histo_ig.specs.IgSent.{number_and_column, question_of, to_add, sent_of, sent_of_own};
 
 use bale_types::Item;
 use round_program::Departures;
@@ -17,40 +17,42 @@ pub(crate) struct Own {
     pub(crate) value: u64,
 }
 
-/// How many items are sent in a round.
+/// How many items are sent in a round, if so many replies are sent in round 2.
 #[inline(always)]
-pub(crate) fn count_of(round: u64, own: &Vec<Own>, replies: &Vec<(u32, Item)>) -> u64
-    ensures { (ranks : ℕ) → result ≡ length (sent_of round ranks own.now.items replies.now.items) }
+pub(crate) fn count_of(round: u64, own: &Vec<Own>, asked: u64) -> u64
+    ensures { (ranks : ℕ) (replies : List (ℕ × Item)) → (round ≡ 2 → asked ≡ length replies)
+        → result ≡ length (sent_of round ranks own.now.items replies) }
 {
     if round < 2 {
         return own.len() as u64;
     }
-    replies.len() as u64
+    if round == 2 {
+        return asked;
+    }
+    0
 }
 
-/// Hands on what is sent, from number `from` on, until one is refused or all are handed over, and says how many are by
-/// then. What a rank keeps is looked up once for them all.
+/// Hands on what is sent of the entries in rounds 0 and 1, from number `from` on, until one is refused or all are handed
+/// over, and says how many are by then. What a rank keeps is looked up once for them all.
 #[inline(always)]
-pub(crate) fn emit_sent<D: Departures>(
+pub(crate) fn emit_own<D: Departures>(
     round: u64,
     ranks: u32,
-    own: &Vec<Own>,
-    replies: &Vec<(u32, Item)>,
+    own: &[Own],
     from: u64,
     out: &mut D,
 ) -> u64
     requires some { 0 < ranks }
-    requires from { from ≤ length (sent_of round ranks own.now.items replies.now.items) }
-    requires may { All (λ e. D.may out.old e.0) (drop from (sent_of round ranks own.now.items replies.now.items)) }
+    requires from { from ≤ length (sent_of_own round ranks own.now) }
+    requires may { All (λ e. D.may out.old e.0) (drop from (sent_of_own round ranks own.now)) }
     ensures forward { from ≤ result }
-    ensures low { result ≤ length (sent_of round ranks own.now.items replies.now.items) }
-    ensures hands { HandsOver D.hands (drop from (sent_of round ranks own.now.items replies.now.items)) (result - from)
-        out.old out.new }
+    ensures low { result ≤ length (sent_of_own round ranks own.now) }
+    ensures hands { HandsOver D.hands (drop from (sent_of_own round ranks own.now)) (result - from) out.old out.new }
 {
-    let count = count_of(round, own, replies);
+    let count = own.len() as u64;
     let mut next = from;
     while next < count {
-        let (to, item) = emission_of(round, ranks, own, replies, next);
+        let (to, item) = own_emission(round, ranks, own, next);
         if !out.push(to, item) {
             return next;
         }
@@ -61,24 +63,15 @@ pub(crate) fn emit_sent<D: Departures>(
 
 /// Number `i` of them, with the rank that it goes to.
 #[inline(always)]
-pub(crate) fn emission_of(
-    round: u64,
-    ranks: u32,
-    own: &Vec<Own>,
-    replies: &Vec<(u32, Item)>,
-    i: u64,
-) -> (u32, Item)
+pub(crate) fn own_emission(round: u64, ranks: u32, own: &[Own], i: u64) -> (u32, Item)
     requires some { 0 < ranks }
-    requires within { i < length (sent_of round ranks own.now.items replies.now.items) }
-    ensures { slice_get (sent_of round ranks own.now.items replies.now.items) i ≡ Some result }
+    requires within { i < length (sent_of_own round ranks own.now) }
+    ensures { slice_get (sent_of_own round ranks own.now) i ≡ Some result }
 {
     if round == 0 {
         return value_of_own(own, ranks, i as usize);
     }
-    if round == 1 {
-        return query_of_own(own, ranks, i as usize);
-    }
-    replies[i as usize]
+    query_of_own(own, ranks, i as usize)
 }
 
 /// The value of own entry number `i`, for the owner of its column.

@@ -37,6 +37,7 @@ mod ig;
 mod ig_asker;
 mod ig_by_askers;
 mod ig_lists;
+mod ig_replies;
 mod ig_run;
 mod ig_sent;
 mod ig_sums;

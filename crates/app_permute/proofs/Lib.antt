@@ -1,6 +1,7 @@
 pub mod Answers
 pub mod CellWords
 pub mod Meanings
+pub mod PermuteBatches
 pub mod PermuteCells
 pub mod PermuteNumbers
 pub mod PermuteOwners

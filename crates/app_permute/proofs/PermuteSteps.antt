@@ -18,11 +18,6 @@ pub raise_valid : (s : PermuteState) (b : Bool) (from : ℕ) (x : Item) (cells :
 raise_valid s true from x cells v e h = subst (λ c. IsPermuting (record s { cells = c })) (sym h) (permute_laws.keeps s from x v e).valid
 raise_valid s false from x cells v e h = subst (λ c. IsPermuting (record s { cells = c })) (sym h) v
 
--- the same, where the round is known by another name
-pub raise_in_valid : (s : PermuteState) (b : Bool) (round from : ℕ) (x : Item) (cells : List Triple) → IsPermuting s → round ≡ s.round → Fits permute_rules s from x → cells ≡ cond b (raised (kept_as round x) s.cells) s.cells
-    → IsPermuting (record s { cells = cells })
-raise_in_valid s b round from x cells v r e h = raise_valid s b from x cells v e (subst (λ n. cells ≡ cond b (raised (kept_as n x) s.cells) s.cells) r h)
-
 -- the cells of an early round were taken out
 taken_kept : (b : Bool) (P : Triple → Type 0) (cells : List Triple) → All P cells → All P (cond b [] cells)
 taken_kept true P cells h = All-nil P

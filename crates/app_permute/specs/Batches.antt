@@ -15,3 +15,8 @@ own_raised owner cells from x = cond (may_cell owner.rows owner.cols owner.ranks
 -- all_raised of rank 1 of 2: of (0,(3,0,7)), (0,(2,0,9)) the first alone
 abbrev pub all_raised : RowOwner → List Triple → List (ℕ × Item) → List Triple
 all_raised owner cells came = fold (λ l e. own_raised owner l e.0 e.1) cells came
+
+-- A cell with its row and its column changed for one another, from the same sender.
+-- (1,(3,0,7)) turned is (1,(0,3,7)).
+abbrev pub turned_over : ℕ × Item → ℕ × Item
+turned_over e = (e.0, record { a = e.1.b; b = e.1.a; c = e.1.c })

@@ -5,7 +5,6 @@ pub mod Moved
 pub mod Perms
 pub mod PermuteLaws
 pub mod PermuteRuns
-pub mod PermuteSeats
 pub mod PermuteView
 pub mod Permutes
 pub mod Sent

@@ -17,7 +17,7 @@ use Rattle.app_permute.specs.Carried.{cell_of}
 use Rattle.app_permute.specs.Permutes.{PermuteState, IsPermuting, IsKept, HasNumbers, permute_rules, may_permute, kept_as, new_number, to_column, to_row, next_outgoing}
 
 -- what may be sent, once it is known whether the round is that of the columns
-abbrev may_by : Bool → ℕ → ℕ → ℕ → ℕ → ℕ → Item → Bool
+abbrev pub may_by : Bool → ℕ → ℕ → ℕ → ℕ → ℕ → Item → Bool
 may_by b rows cols ranks to from x = nat_lt from ranks && nat_lt x.a rows && nat_lt x.b cols && cond b x.b x.a % ranks == to && is_item x
 
 within_by : (b : Bool) (rows cols ranks to from : ℕ) (x : Item) → may_by b rows cols ranks to from x ≡ true → (to < ranks) × (from < ranks) × IsItem x
@@ -35,12 +35,12 @@ permute_within (rows ∷ (cols ∷ (c ∷ cs))) ranks round to from x h = absurd
 word_low : (w : ℕ) → w < 2 ^ 64 → twos_complement (from_twos_complement w) < 2 ^ 64
 word_low w h = grind (arith, nat_tests)
 
-kept_by : (b : Bool) (rows cols ranks to from : ℕ) (x : Item) → may_by b rows cols ranks to from x ≡ true
+pub kept_by : (b : Bool) (rows cols ranks to from : ℕ) (x : Item) → may_by b rows cols ranks to from x ≡ true
     → IsKept (cond b cols rows) (cond b rows cols) ranks to (cond b (record { i = x.b; j = x.a; v = from_twos_complement x.c }) (cell_of x))
 kept_by true rows cols ranks to from x h = record { row = grind (arith, nat_tests); col = grind (arith, nat_tests); own = grind (arith, nat_tests); word = word_low x.c (grind (arith, nat_tests)) }
 kept_by false rows cols ranks to from x h = record { row = grind (arith, nat_tests); col = grind (arith, nat_tests); own = grind (arith, nat_tests); word = word_low x.c (grind (arith, nat_tests)) }
 
-greater_kept : (height width ranks rank : ℕ) (s t : Triple) → s.i ≡ t.i → s.j ≡ t.j → IsKept height width ranks rank s → IsKept height width ranks rank t → IsKept height width ranks rank (greater s t)
+pub greater_kept : (height width ranks rank : ℕ) (s t : Triple) → s.i ≡ t.i → s.j ≡ t.j → IsKept height width ranks rank s → IsKept height width ranks rank t → IsKept height width ranks rank (greater s t)
 greater_kept height width ranks rank s t e f a b =
     record {
       row = a.row;

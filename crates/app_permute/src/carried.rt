@@ -1,10 +1,11 @@
 //! Cells on their way from rank to rank, as items.
 
 ghost use Rattle.std.specs.Prelude.{◌≡◌, ◌<◌, ◌^◌, OnOk, is_ok, if◌then◌else◌};
+ghost use Rattle.std.specs.List.{All};
 ghost use Rattle.bale_types.specs.Bits.{twos_complement};
 ghost use Rattle.mtx_text.specs.Cells.{InOrder, raised};
 ghost use Rattle.app_permute.specs.Carried.{cell_item, cell_of, may_cell};
-ghost use Rattle.app_permute.specs.Permutes.{kept_as};
+ghost use Rattle.app_permute.specs.Permutes.{IsKept, kept_as};
 ghost use Rattle.app_permute.specs.Batches.{own_raised, all_raised};
 
 use bale_types::{Item, NoMemory, Triple, bits_of, value_of};
@@ -65,6 +66,30 @@ pub(crate) fn raise_kept(cells: &mut Cells, round: u64, item: Item) -> Result<()
     raise_cell(cells, item)
 }
 
+/// Cells that came, turned: so the owner of a column takes them in as that of a row.
+#[derive(Drop)]
+pub(crate) struct Turned<I> {
+    pub(crate) came: I,
+}
+
+impl<I: Arrivals> Arrivals for Turned<I> {
+    ghost use Rattle.std.specs.Prelude.{map};
+    ghost use Rattle.app_permute.specs.Batches.{turned_over};
+
+    ghost items = { λ s. map turned_over (I.items s.came) };
+
+    #[inline(always)]
+    fn next(&mut self) -> Option<(u32, Item)> {
+        let (from, item) = self.came.next()?;
+        let turned = Item {
+            a: item.b,
+            b: item.a,
+            c: item.c,
+        };
+        Some((from, turned))
+    }
+}
+
 /// Takes in the cells of own rows among items that came.
 #[inline(always)]
 pub(crate) fn raise_each<I: Arrivals>(
@@ -75,6 +100,8 @@ pub(crate) fn raise_each<I: Arrivals>(
     requires ordered { InOrder cells.old }
     ensures ok { OnOk result (cells.new ≡ all_raised owner cells.old (I.items came)) }
     ensures ordered { InOrder cells.new }
+    ensures own { All (IsKept owner.rows owner.cols owner.ranks owner.rank) cells.old
+        → All (IsKept owner.rows owner.cols owner.ranks owner.rank) cells.new }
 {
     let mut came = came;
     while let Some((from, item)) = came.next() {
@@ -89,6 +116,8 @@ fn raise_own(cells: &mut Cells, owner: RowOwner, from: u32, item: Item) -> Resul
     requires ordered { InOrder cells.old }
     ensures ok { OnOk result (cells.new ≡ own_raised owner cells.old from item) }
     ensures ordered { InOrder cells.new }
+    ensures own { All (IsKept owner.rows owner.cols owner.ranks owner.rank) cells.old
+        → All (IsKept owner.rows owner.cols owner.ranks owner.rank) cells.new }
 {
     if cell_fits(owner.rows, owner.cols, owner.ranks, owner.rank, from, item) {
         return raise_cell(cells, item);

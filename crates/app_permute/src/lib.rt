@@ -30,7 +30,6 @@ mod permute;
 mod permute_lists;
 mod permute_run;
 mod rounds;
-mod seat;
 mod sending;
 mod transpose;
 mod transpose_run;

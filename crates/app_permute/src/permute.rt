@@ -1,15 +1,11 @@
 //! permute: cells travel by their rows, by their columns, and by their new rows, and each owner gives a new number.
 
-ghost use Rattle.std.specs.Prelude.{◌≡◌, ◌<◌, [], OnOk, OnErr};
-ghost use Rattle.round_program.specs.Laws.{Fits};
-ghost use Rattle.round_program.specs.Batches.{taken_in};
-ghost use Rattle.app_permute.specs.Permutes.{IsPermuting, permute_rules};
-ghost use Rattle.app_permute.specs.PermuteSeats.{IsSeat};
+ghost use Rattle.std.specs.Prelude.{◌≡◌, []};
+ghost use Rattle.app_permute.specs.Permutes.{IsPermuting};
 ghost use Rattle.app_permute.specs.Sent.{sent_of};
 
-use crate::carried::raise_kept;
+use crate::carried::{RowOwner, Turned, raise_each, raise_kept};
 use crate::permute_lists::{renumber, take_cells};
-use crate::seat::Seat;
 use crate::sending::{emission_of, emit_sent};
 use bale_types::{Item, NoMemory, Triple};
 use mtx_text::Cells;
@@ -105,44 +101,6 @@ impl Permute {
         }
     }
 
-    /// Which items this rank may be sent in its round.
-    fn seat(&self) -> Seat
-        ensures { IsSeat result self.now }
-    {
-        Seat {
-            rank: self.rank,
-            ranks: self.ranks,
-            rows: self.rows,
-            cols: self.cols,
-            round: self.round,
-        }
-    }
-
-    /// Takes in an item of a rank, where it fits.
-    #[inline(always)]
-    fn take_in(&mut self, seat: Seat, from: u32, item: Item) -> Result<(), NoMemory>
-        requires { IsSeat seat self.old }
-        ensures ok { OnOk result (self.new ≡ taken_in permute_rules self.old from item) }
-        ensures sent { self.new.outgoing ≡ self.old.outgoing }
-        ensures seat { IsSeat seat self.new }
-    {
-        if seat.fits(from, item) {
-            return self.absorb_in(seat.round, from, item);
-        }
-        Ok(())
-    }
-
-    /// Takes in an item that fits.
-    #[inline(always)]
-    fn absorb_in(&mut self, round: u64, from: u32, item: Item) -> Result<(), NoMemory>
-        requires round { round ≡ self.old.round }
-        requires fits { Fits permute_rules self.old from item }
-        ensures ok { OnOk result (self.new ≡ permute_rules.absorbed self.old from item) }
-        ensures err { OnErr result (self.new ≡ self.old) }
-    {
-        raise_kept(&mut self.cells, round, item)
-    }
-
     /// The cells that came: after the run those of own rows of the permuted matrix.
     pub fn cells(&self) -> &Cells
         ensures { result.now ≡ self.now.cells }
@@ -184,21 +142,35 @@ impl Program for Permute {
     }
 
     fn fits(&self, from: u32, item: Item) -> bool {
-        self.seat().fits(from, item)
+        let owned = if self.round == 1 { item.b } else { item.a };
+        from < self.ranks
+            && item.a < self.rows as u64
+            && item.b < self.cols as u64
+            && owned as u32 % self.ranks == self.rank
     }
 
     fn absorb(&mut self, from: u32, item: Item) -> Result<(), NoMemory> {
-        self.absorb_in(self.round, from, item)
+        raise_kept(&mut self.cells, self.round, item)
     }
 
     fn absorb_each<I: Arrivals>(&mut self, came: I) -> Result<(), NoMemory> {
-        // What the rank is sent in its round is read once for all items.
-        let seat = self.seat();
-        let mut came = came;
-        while let Some((from, item)) = came.next() {
-            self.take_in(seat, from, item)?;
+        // Which cells are for this rank, and by which side they are kept, is read once for all.
+        if self.round == 1 {
+            let owner = RowOwner {
+                rank: self.rank,
+                ranks: self.ranks,
+                rows: self.cols,
+                cols: self.rows,
+            };
+            return raise_each(&mut self.cells, owner, Turned { came });
         }
-        Ok(())
+        let owner = RowOwner {
+            rank: self.rank,
+            ranks: self.ranks,
+            rows: self.rows,
+            cols: self.cols,
+        };
+        raise_each(&mut self.cells, owner, came)
     }
 
     fn vote(&self) -> u64 {

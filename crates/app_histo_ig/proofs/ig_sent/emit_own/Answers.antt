@@ -1,0 +1,32 @@
+use Rattle.std.proofs.Common.{ℕ, true, subst, arith}
+use Rattle.bale_types.specs.declared.item.Item.{Item}
+use Rattle.round_program.proofs.Emissions.{reaches_more, refused_at, none_at, all_after}
+use Rattle.app_histo_ig.specs.IgSent.{sent_of_own}
+use Rattle.app_histo_ig.proofs.ig_sent.emit_own.Goals as goal
+
+pub loop-next-preserved : goal.loop-next-preserved
+loop-next-preserved g c =
+    let i = c.loop-next.invariant in
+    let hands = subst (λ b. g.D.Departures.hands c.loop-next.out c.own_emission-to.result.0 c.own_emission-to.result.1 b c.push.new.self) c.if-not-push.false c.push.ensures in
+    record {
+      all = i.all;
+      forward = omega (arith, i.forward);
+      low = omega (arith, c.loop-next-test.true);
+      may = λ k d low. g.met.D.Departures.stays c.loop-next.out c.push.new.self c.own_emission-to.result.0 _ c.own_emission-to.result.1 true hands (i.may k d low);
+      reaches = reaches_more g.D.Departures.hands (sent_of_own c.args.round c.args.ranks c.args.own.now) c.args.from c.loop-next.next c.own_emission-to.result c.args.out.now c.loop-next.out c.push.new.self i.forward c.own_emission-to.ensures hands i.reaches;
+    }
+
+pub returns-then-not-push-clause-hands : goal.returns-then-not-push-clause-hands
+returns-then-not-push-clause-hands g c =
+    let hands = subst (λ b. g.D.Departures.hands c.loop-next.out c.own_emission-to.result.0 c.own_emission-to.result.1 b c.push.new.self) c.if-not-push.true c.push.ensures in
+    refused_at g.D.Departures.hands (sent_of_own c.args.round c.args.ranks c.args.own.now) c.args.from c.loop-next.next c.own_emission-to.result c.args.out.now c.loop-next.out c.push.new.self c.own_emission-to.ensures hands c.loop-next.invariant.reaches
+
+pub returns-clause-hands : goal.returns-clause-hands
+returns-clause-hands g c =
+    none_at g.D.Departures.hands (sent_of_own c.args.round c.args.ranks c.args.own.now) c.args.from c.loop-next.next c.args.out.now c.loop-next.out
+    (omega (arith, c.loop-next-test.false, c.loop-next.invariant.all)) c.loop-next.invariant.reaches
+
+pub push-requires : goal.push-requires
+push-requires g c =
+    all_after (λ (e : ℕ × Item). g.D.Departures.may c.loop-next.out e.0) (sent_of_own c.args.round c.args.ranks c.args.own.now) c.args.from c.loop-next.next c.own_emission-to.result
+    c.loop-next.invariant.forward c.own_emission-to.ensures c.loop-next.invariant.may

@@ -1,0 +1,17 @@
+use Rattle.std.proofs.Common.{◌≡◌, ◌≤◌, ◌-◌, length, drop}
+use Rattle.std.specs.List.{All}
+use Rattle.round_program.proofs.Emissions.{Reaches}
+use Rattle.app_histo_ig.specs.IgSent.{sent_of_own}
+use Rattle.app_histo_ig.proofs.ig_sent.emit_own.Given as goal
+
+abbrev pub invariant-loop-next : goal.invariant-loop-next
+invariant-loop-next g l = record {
+  all : l.count ≡ length (sent_of_own l.round l.ranks l.own);
+  forward : l.fn.from ≤ l.next;
+  low : l.next ≤ l.count;
+  may : All (λ e. g.D.Departures.may l.out e.0) (drop l.fn.from (sent_of_own l.round l.ranks l.own));
+  reaches : Reaches g.D.Departures.hands (sent_of_own l.round l.ranks l.own) l.fn.from l.next l.fn.out l.out;
+}
+
+abbrev pub decreases-loop-next : goal.decreases-loop-next
+decreases-loop-next g l = l.count - l.next

@@ -4,7 +4,7 @@ use Rattle.std.specs.List.{flat_map}
 use Rattle.item_buffer.specs.Contents.{Shipped}
 use Rattle.list_laws.specs.Lists.{Begins}
 use Rattle.route_tensor.specs.Link.{links}
-use Rattle.route_tensor.specs.Ends.{reader_at}
+use Rattle.route_tensor.specs.Ends.{sender_at, reader_at}
 use Rattle.port_bank.specs.Logs.{starting_at, ending_at}
 use Rattle.port_bank.specs.Port.{Rest}
 use Rattle.port_bank.specs.Shapes.{IsConveyorShape}
@@ -28,7 +28,9 @@ pub record PortTurns {S : Type 0} (T : Talk S) (cap : ℕ) (n n' : BiState S) (q
   pub queries_got : (l : ℕ) → Begins (ending_at q.dims a (got_of q) l) (ending_at q'.dims a' (got_of q') l)
   pub replies_sent : (l : ℕ) → Begins (starting_at r.dims b (sent_of r) l) (starting_at r'.dims b' (sent_of r') l)
   pub replies_got : (l : ℕ) → Begins (ending_at r.dims b (got_of r) l) (ending_at r'.dims b' (got_of r') l)
+  pub queries_once : (l : ℕ) → l < links n.queries.dims → sender_at n.queries.dims l ≡ n.queries.rank → length (starting_at q'.dims a' (sent_of q') l) ≤ length (starting_at q.dims a (sent_of q) l) + 1
   pub queries_shape : (l : ℕ) → IsConveyorShape n.queries.steady cap (starting_at q.dims a (sent_of q) l) → IsConveyorShape n.queries.steady cap (starting_at q'.dims a' (sent_of q') l)
+  pub replies_once : (l : ℕ) → l < links n.replies.dims → sender_at n.replies.dims l ≡ n.replies.rank → length (starting_at r'.dims b' (sent_of r') l) ≤ length (starting_at r.dims b (sent_of r) l) + 1
   pub replies_shape : (l : ℕ) → IsConveyorShape n.replies.steady cap (starting_at r.dims b (sent_of r) l) → IsConveyorShape n.replies.steady cap (starting_at r'.dims b' (sent_of r') l)
   pub queries_lie : (l : ℕ) (more : List Shipped) → l < links n.queries.dims → reader_at n.queries.dims l ≡ n.queries.rank → ending_at q'.dims a' (got_of q') l ≡ ending_at q.dims a (got_of q) l ++ more
       → length (in_of n'.queries l).parcel.untaken ≤ length (in_of n.queries l).parcel.untaken + length (flat_map (λ p. p.entries) more)
@@ -69,6 +71,7 @@ after_turn T dims cap slots number n n' q a q' a' r b r' b' qd qs rd rs qd' qs' 
         got_elsewhere = ap (λ (x : Rest). x.got) t.queries_rest;
         sent_grows = t.queries_sent;
         got_grows = t.queries_got;
+        once = λ l below from. t.queries_once l (subst (λ (d : List ℕ). l < links d) (sym nd) below) (subst (λ (d : List ℕ). sender_at d l ≡ n.queries.rank) (sym nd) (from ∙ sym nr));
         steady = t.steady;
         shape = t.queries_shape;
         lies = λ l more below to. t.queries_lie l more (subst (λ (d : List ℕ). l < links d) (sym nd) below) (subst (λ (d : List ℕ). reader_at d l ≡ n.queries.rank) (sym nd) (to ∙ sym nr));
@@ -78,6 +81,7 @@ after_turn T dims cap slots number n n' q a q' a' r b r' b' qd qs rd rs qd' qs' 
         got_elsewhere = ap (λ (x : Rest). x.got) t.replies_rest;
         sent_grows = t.replies_sent;
         got_grows = t.replies_got;
+        once = λ l below from. t.replies_once l (subst (λ (d : List ℕ). l < links d) (sym md) below) (subst (λ (d : List ℕ). sender_at d l ≡ n.replies.rank) (sym md) (from ∙ sym mr));
         steady = t.steady_replies;
         shape = t.replies_shape;
         lies = λ l more below to. t.replies_lie l more (subst (λ (d : List ℕ). l < links d) (sym md) below) (subst (λ (d : List ℕ). reader_at d l ≡ n.replies.rank) (sym md) (to ∙ sym mr));

@@ -1,12 +1,15 @@
 -- One more rank is turned in a sweep.
-use Rattle.std.proofs.Common.{◌≡◌, ◌≢◌, ℕ, ◌+◌, ◌<◌, ◌≤◌, Bool, List, length, map, Some, slice_get, get_or, sym, ap, subst, ◌∙◌, arith, inl, inr}
+use Rattle.std.proofs.Common.{◌≡◌, ◌≢◌, ℕ, ◌+◌, ◌<◌, ◌≤◌, Bool, cond, List, [], length, map, Some, slice_get, get_or, sym, ap, subst, ◌∙◌, arith, inl, inr}
 use Rattle.std.specs.Option.{option_map}
-use Rattle.std.proofs.lemmas.Bool.{cases_eq}
+use Rattle.std.proofs.lemmas.Bool.{cases_eq, ne_eqb}
 use Rattle.std.proofs.lemmas.List.{length-map, get_or_past}
 use Rattle.std.proofs.lemmas.Option.{slice_get-map, get_or_from_slice_get}
 use Rattle.list_laws.proofs.Lists.{find, get_once, get_map}
 use Rattle.route_tensor.specs.Grid.{ranks}
-use Rattle.port_bank.specs.Logs.{starting_at, ending_at}
+use Rattle.port_bank.specs.Logs.{Logs, starting_at, ending_at}
+use Rattle.convey.proofs.OneRank.{starting-own}
+use Rattle.route_tensor.specs.Link.{links}
+use Rattle.route_tensor.specs.Ends.{sender_at}
 use Rattle.port_bank.specs.Plain.{Bank, IsBank, unused, channel_at, sent_of, got_of}
 use Rattle.port_bank.proofs.Owners.{sent_elsewhere, got_elsewhere}
 use Rattle.hop_core.specs.State.{State}
@@ -14,8 +17,8 @@ use Rattle.round_program.specs.Talks.{Talk}
 use Rattle.biconvey.specs.States.{BiState, Sides, IsBiNode}
 use Rattle.biconvey.specs.Still.{IsStuck}
 use Rattle.biconvey.specs.Ranks.{HasRank, sides_at}
-use Rattle.biconvey.specs.Ways.{moves, Lawful}
-use Rattle.biconvey.specs.Worlds.{AreBanks, AfterRank, Rests, World, all_moves, SweptTo, sides_of, known_at}
+use Rattle.biconvey.specs.Ways.{moves, Lawful, AfterTurn}
+use Rattle.biconvey.specs.Worlds.{AreBanks, AfterRank, PostedWithin, Rests, World, all_moves, SweptTo, sides_of, known_at}
 use Rattle.biconvey.proofs.Moving.{moves_on, sent_same, got_same, inbox_kept, way_on}
 
 lawful : (cap : ℕ) (b : Bank) (dims : List ℕ) (slots : ℕ) → IsBank cap b → b.dims ≡ dims → b.slots ≡ slots → Lawful dims cap slots (sent_of b) (got_of b)
@@ -153,22 +156,40 @@ swept_more {S} T dims cap slots steady starts order i r ns0 ns ns' s0 s s' here 
       not_last : (j : ℕ) {k : ℕ} → k ≢ r → slice_get order j ≡ Some k → j ≢ i
       not_last j {k} apart at e = apart (get_once order i k r (subst (λ q. slice_get order q ≡ Some k) e at) here)
 
+-- a turn posts at most one parcel on a link
+posted_once : (dims : List ℕ) (cap r : ℕ) (c c' : State) (sent got sent' got' : Logs) → AfterTurn dims cap r c c' sent got sent' got' → (l : ℕ) → l < links dims → length (sent' l) ≤ length (sent l) + 1
+posted_once dims cap r c c' sent got sent' got' t l below = elim (cases_eq (sender_at dims l) r) [
+  | inl here ↦ let once = t.once l below here in omega (arith, once, ap length (starting-own dims r sent l here), ap length (starting-own dims r sent' l here))
+  | inr apart ↦
+      let same : sent' l ≡ sent l = subst (λ b. cond b [] (sent' l) ≡ cond b [] (sent l)) (ne_eqb (sender_at dims l) r apart) (ap (λ (f : Logs). f l) t.sent_elsewhere) in
+      omega (arith, ap length same)
+]
+
 -- a sweep's loop
 pub record Sweeping {S : Type 0} (T : Talk S) (cap : ℕ) (dims : List ℕ) (slots : ℕ) (order : List ℕ) (ns0 : List (BiState S)) (s0 : Sides) (steps0 i : ℕ) (ns : List (BiState S)) (q r : Bank) (steps : ℕ) : Type 0 where
   pub banks : AreBanks cap dims slots q r
   pub most_steps : steps ≤ steps0 + i
   pub fewest_steps : steps0 + i ≤ steps
+  pub posted : PostedWithin dims s0 steps0 (sides_of q r) steps
   pub swept : (steady : Bool) (starts : ℕ → S) → World T dims cap slots steady starts ns0 s0 → SweptTo T dims cap slots steady starts order i ns0 s0 ns (sides_of q r)
 
 pub sweeping_more : {S : Type 0} (T : Talk S) (cap : ℕ) (dims : List ℕ) (slots : ℕ) (order : List ℕ) (ns0 : List (BiState S)) (s0 : Sides) (steps0 i k : ℕ) (ns ns' : List (BiState S)) (q r q' r' : Bank) (steps steps' : ℕ)
-    → Sweeping T cap dims slots order ns0 s0 steps0 i ns q r steps → slice_get order i ≡ Some k → k < ranks dims → AreBanks cap dims slots q' r' → steps' ≡ steps + 1 → length ns' ≡ length ns → ((j : ℕ) → j ≢ k → slice_get ns' j ≡ slice_get ns j)
+    → Sweeping T cap dims slots order ns0 s0 steps0 i ns q r steps → length ns ≡ ranks dims → slice_get order i ≡ Some k → k < ranks dims → AreBanks cap dims slots q' r' → steps' ≡ steps + 1 → length ns' ≡ length ns → ((j : ℕ) → j ≢ k → slice_get ns' j ≡ slice_get ns j)
     → ((n n' : BiState S) → slice_get ns k ≡ Some n → slice_get ns' k ≡ Some n' → AfterRank T dims cap slots k n n' (sides_of q r) (sides_of q' r'))
     → Sweeping T cap dims slots order ns0 s0 steps0 (i + 1) ns' q' r' steps'
-sweeping_more T cap dims slots order ns0 s0 steps0 i k ns ns' q r q' r' steps steps' v here low banks count long others turned =
+sweeping_more {S} T cap dims slots order ns0 s0 steps0 i k ns ns' q r q' r' steps steps' v all here low banks count long others turned =
+    let n : (n : BiState S) × (slice_get ns k ≡ Some n) = find ns k (omega (arith, low, all)) in
+    let n' : (n' : BiState S) × (slice_get ns' k ≡ Some n') = find ns' k (omega (arith, low, all, long)) in
+    let t : AfterRank T dims cap slots k n.0 n'.0 (sides_of q r) (sides_of q' r') = turned n.0 n'.0 n.1 n'.1 in
     record {
       banks = banks;
       most_steps = omega (arith, count, v.most_steps);
       fewest_steps = omega (arith, count, v.fewest_steps);
+      posted = λ l below.
+          let so = v.posted l below in
+          let asked = posted_once dims cap k n.0.queries n'.0.queries (sent_of q) (got_of q) (sent_of q') (got_of q') t.queries l below in
+          let replied = posted_once dims cap k n.0.replies n'.0.replies (sent_of r) (got_of r) (sent_of r') (got_of r') t.replies l below in
+          (omega (arith, count, so.0, asked), omega (arith, count, so.1, replied));
       swept = λ steady starts w.
           swept_more T dims cap slots steady starts order i k ns0 ns ns' s0 (sides_of q r) (sides_of q' r') here low long others
           (queries_lawful cap dims slots q' r' banks) (replies_lawful cap dims slots q' r' banks) turned (v.swept steady starts w);

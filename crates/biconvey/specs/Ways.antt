@@ -7,7 +7,7 @@ use Rattle.list_laws.specs.Lists.{Begins}
 use Rattle.list_laws.specs.Sums.{total}
 use Rattle.route_tensor.specs.Grid.{ranks, IsGrid}
 use Rattle.route_tensor.specs.Link.{links}
-use Rattle.route_tensor.specs.Ends.{reader_at}
+use Rattle.route_tensor.specs.Ends.{sender_at, reader_at}
 use Rattle.port_bank.specs.Logs.{Logs, starting_at, ending_at, starting_elsewhere, ending_elsewhere}
 use Rattle.port_bank.specs.Link.{LinkLaw}
 use Rattle.port_bank.specs.Relay.{RelayLaw}
@@ -58,6 +58,7 @@ pub record AfterTurn (dims : List ℕ) (cap r : ℕ) (c c' : State) (sent got se
   pub got_elsewhere : ending_elsewhere dims r got' ≡ ending_elsewhere dims r got
   pub sent_grows : (l : ℕ) → Begins (starting_at dims r sent l) (starting_at dims r sent' l)
   pub got_grows : (l : ℕ) → Begins (ending_at dims r got l) (ending_at dims r got' l)
+  pub once : (l : ℕ) → l < links dims → sender_at dims l ≡ r → length (starting_at dims r sent' l) ≤ length (starting_at dims r sent l) + 1
   pub steady : c'.steady ≡ c.steady
   pub shape : (l : ℕ) → IsConveyorShape c.steady cap (starting_at dims r sent l) → IsConveyorShape c.steady cap (starting_at dims r sent' l)
   pub lies : (l : ℕ) (more : List Shipped) → l < links dims → reader_at dims l ≡ r → ending_at dims r got' l ≡ ending_at dims r got l ++ more

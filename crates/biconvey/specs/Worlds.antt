@@ -63,6 +63,10 @@ pub record World {S : Type 0} (T : Talk S) (dims : List ℕ) (cap slots : ℕ) (
   pub some_cap : 0 < cap
   pub each : (r : ℕ) (n : BiState S) → slice_get ns r ≡ Some n → HasRank T dims r (starts r) n s
 
+-- Between two states of the banks no link of either way got more parcels than there were turns.
+abbrev pub PostedWithin : List ℕ → Sides → ℕ → Sides → ℕ → Type 0
+PostedWithin dims s steps s' steps' = (l : ℕ) → l < links dims → (length (s'.asking l) + steps ≤ length (s.asking l) + steps') × (length (s'.replying l) + steps ≤ length (s.replying l) + steps')
+
 -- What moved on both ways.
 abbrev pub all_moves : {S : Type 0} → List ℕ → List (BiState S) → Sides → ℕ
 all_moves dims ns s = moves dims (map (λ n. n.queries) ns) s.asking s.asked + moves dims (map (λ n. n.replies) ns) s.replying s.replied

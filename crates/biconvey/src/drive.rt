@@ -3,9 +3,10 @@
 ghost use Rattle.std.specs.Prelude.{◌≡◌, ℕ, ◌+◌, ◌<◌, ◌≤◌, false, [], ◌∷◌, length, IfOk, OnOk};
 ghost use Rattle.std.specs.List.{sum_by};
 ghost use Rattle.route_tensor.specs.Grid.{ranks};
+ghost use Rattle.route_tensor.specs.Link.{links};
 ghost use Rattle.port_bank.specs.Port.{IsSlots};
 ghost use Rattle.port_bank.specs.Plain.{IsBank, empty_bank, closed};
-ghost use Rattle.port_bank.specs.Round.{IsRound};
+ghost use Rattle.port_bank.specs.Round.{IsRound, logs_of};
 ghost use Rattle.rank_group.specs.declared.closed_round.ClosedRound.{ClosedRound};
 ghost use Rattle.rank_group.specs.Ranks.{IsOrder};
 ghost use Rattle.rank_group.specs.Rounds.{round_of};
@@ -59,6 +60,11 @@ pub fn drive_both<const CAP: usize, const HOPS: usize, A: Asker, L: Ledger>(
 
     // Each rank made a turn at least.
     ensures fewest { OnOk result (steps.old + ranks grid.now ≤ steps.new) }
+
+    // No link of either way has more parcels than the run had turns.
+    ensures posted { IfOk result (λ f. (q r : ClosedRound) → f.rounds ≡ q ∷ r ∷ [] → (l : ℕ) → l < links grid.now
+        → (length (logs_of (round_of q).sent l) + steps.old ≤ steps.new)
+        × (length (logs_of (round_of r).sent l) + steps.old ≤ steps.new)) }
 
     // The turns are bounded before the exchange, also where it ends in `NoMemory`.
     ensures steps { steps.new ≤ steps.old + turns_of grid.now (sum_by (λ s. length (A.talk.queries s)) askers) }

@@ -5,7 +5,7 @@ ghost use Rattle.std.specs.List.{list_all};
 ghost use Rattle.route_tensor.specs.Grid.{ranks};
 ghost use Rattle.rank_group.specs.Ranks.{IsOrder};
 ghost use Rattle.biconvey.specs.States.{BiState};
-ghost use Rattle.biconvey.specs.Worlds.{AreBanks, World, is_over, queries_in, sides_of, turns_of};
+ghost use Rattle.biconvey.specs.Worlds.{AreBanks, PostedWithin, World, is_over, queries_in, sides_of, turns_of};
 
 use crate::bi_node::BiNode;
 use crate::sweeping::{Banks, sweep};
@@ -38,6 +38,9 @@ pub(crate) fn run_all<const CAP: usize, const HOPS: usize, A: Asker, L: Ledger>(
     // Each rank made a turn at least.
     ensures fewest { list_all is_over all.old.items ≡ false
         → OnOk result (steps.old + ranks banks.entry.queries.dims ≤ steps.new) }
+    // A turn posts at most one parcel on a link of either way.
+    ensures posted { IfOk result (λ b. PostedWithin banks.entry.queries.dims
+        (sides_of banks.entry.queries banks.entry.replies) steps.old (sides_of b.queries b.replies) steps.new) }
     ensures steps { (steady : Bool) (starts : ℕ → A)
         → World A.talk banks.entry.queries.dims CAP banks.entry.queries.slots steady starts all.old.items
         (sides_of banks.entry.queries banks.entry.replies)

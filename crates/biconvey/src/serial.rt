@@ -1,8 +1,10 @@
 //! The drive on one thread, by capacity and hops.
 
-ghost use Rattle.std.specs.Prelude.{◌≡◌, ℕ, ◌+◌, ◌≤◌, false, [], ◌∷◌, length, IfOk, OnOk};
+ghost use Rattle.std.specs.Prelude.{◌≡◌, ℕ, ◌+◌, ◌<◌, ◌≤◌, false, [], ◌∷◌, length, IfOk, OnOk};
 ghost use Rattle.std.specs.List.{sum_by};
 ghost use Rattle.route_tensor.specs.Grid.{ranks};
+ghost use Rattle.route_tensor.specs.Link.{links};
+ghost use Rattle.port_bank.specs.Round.{logs_of};
 ghost use Rattle.port_bank.specs.Port.{IsSlots};
 ghost use Rattle.rank_group.specs.declared.closed_round.ClosedRound.{ClosedRound};
 ghost use Rattle.rank_group.specs.Ranks.{IsOrder};
@@ -53,6 +55,11 @@ pub fn bi_serial<A: Asker, L: Ledger>(
     // Each rank made a turn at least.
     ensures fewest { OnOk result (steps.old + ranks grid.now ≤ steps.new) }
 
+    // No link of either way has more parcels than the run had turns.
+    ensures posted { IfOk result (λ f. (q r : ClosedRound) → f.rounds ≡ q ∷ r ∷ [] → (l : ℕ) → l < links grid.now
+        → (length (logs_of (round_of q).sent l) + steps.old ≤ steps.new)
+        × (length (logs_of (round_of r).sent l) + steps.old ≤ steps.new)) }
+
     // The turns are bounded before the exchange, also where it ends in `NoMemory`.
     ensures steps { steps.new ≤ steps.old + turns_of grid.now (sum_by (λ s. length (A.talk.queries s)) askers) }
 {
@@ -84,6 +91,9 @@ fn on_one_hop<A: Asker, L: Ledger>(
         × TellsExchange A.talk askers (record { dims = grid.now; cap = cap; slots = slots; by_slots = false }) steady
         (round_of q) (round_of r)) }
     ensures fewest { OnOk result (steps.old + ranks grid.now ≤ steps.new) }
+    ensures posted { IfOk result (λ f. (q r : ClosedRound) → f.rounds ≡ q ∷ r ∷ [] → (l : ℕ) → l < links grid.now
+        → (length (logs_of (round_of q).sent l) + steps.old ≤ steps.new)
+        × (length (logs_of (round_of r).sent l) + steps.old ≤ steps.new)) }
     ensures steps { steps.new ≤ steps.old + turns_of grid.now (sum_by (λ s. length (A.talk.queries s)) askers) }
 {
     by_capacity!(
@@ -114,6 +124,9 @@ fn on_two_hops<A: Asker, L: Ledger>(
         × TellsExchange A.talk askers (record { dims = grid.now; cap = cap; slots = slots; by_slots = false }) steady
         (round_of q) (round_of r)) }
     ensures fewest { OnOk result (steps.old + ranks grid.now ≤ steps.new) }
+    ensures posted { IfOk result (λ f. (q r : ClosedRound) → f.rounds ≡ q ∷ r ∷ [] → (l : ℕ) → l < links grid.now
+        → (length (logs_of (round_of q).sent l) + steps.old ≤ steps.new)
+        × (length (logs_of (round_of r).sent l) + steps.old ≤ steps.new)) }
     ensures steps { steps.new ≤ steps.old + turns_of grid.now (sum_by (λ s. length (A.talk.queries s)) askers) }
 {
     by_capacity!(
@@ -144,6 +157,9 @@ fn on_three_hops<A: Asker, L: Ledger>(
         × TellsExchange A.talk askers (record { dims = grid.now; cap = cap; slots = slots; by_slots = false }) steady
         (round_of q) (round_of r)) }
     ensures fewest { OnOk result (steps.old + ranks grid.now ≤ steps.new) }
+    ensures posted { IfOk result (λ f. (q r : ClosedRound) → f.rounds ≡ q ∷ r ∷ [] → (l : ℕ) → l < links grid.now
+        → (length (logs_of (round_of q).sent l) + steps.old ≤ steps.new)
+        × (length (logs_of (round_of r).sent l) + steps.old ≤ steps.new)) }
     ensures steps { steps.new ≤ steps.old + turns_of grid.now (sum_by (λ s. length (A.talk.queries s)) askers) }
 {
     by_capacity!(

@@ -8,7 +8,7 @@ ghost use Rattle.route_tensor.specs.Grid.{ranks};
 ghost use Rattle.rank_group.specs.Ranks.{IsOrder};
 ghost use Rattle.biconvey.specs.States.{BiState};
 ghost use Rattle.biconvey.specs.Ranks.{HasRank};
-ghost use Rattle.biconvey.specs.Worlds.{AreBanks, AfterRank, World, SweptTo, sides_of};
+ghost use Rattle.biconvey.specs.Worlds.{AreBanks, AfterRank, PostedWithin, World, SweptTo, sides_of};
 
 use crate::bi_node::BiNode;
 use bale_types::NoMemory;
@@ -92,6 +92,9 @@ pub(crate) fn sweep<const CAP: usize, const HOPS: usize, A: Asker, L: Ledger>(
         b.replies) }
     ensures most_steps { steps.new ≤ steps.old + length order.now }
     ensures fewest_steps { OnOk result (steps.old + length order.now ≤ steps.new) }
+    // A turn posts at most one parcel on a link of either way.
+    ensures posted { IfOk result (λ b. PostedWithin banks.entry.queries.dims
+        (sides_of banks.entry.queries banks.entry.replies) steps.old (sides_of b.queries b.replies) steps.new) }
     ensures swept { (steady : Bool) (starts : ℕ → A)
         → World A.talk banks.entry.queries.dims CAP banks.entry.queries.slots steady starts all.old.items
         (sides_of banks.entry.queries banks.entry.replies)

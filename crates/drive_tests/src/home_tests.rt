@@ -8,20 +8,21 @@ use std::test::Fail;
 use std::thread::Threads;
 use std::time::{Clock, Duration};
 
-/// A handle with a clock that is a second further at each look: whoever gives its processor away seems to wait for it.
+/// A handle with a clock that is some seconds further at each look: whoever gives its processor away seems to wait so long for it.
 #[derive(Drop)]
-struct Slow<'a, R> {
+struct Paced<'a, R> {
     _rt: &'a R,
-    looks: AtomicU64,
+    seconds: u64,
+    now: AtomicU64,
 }
 
-impl<'a, R: Threads> Threads for Slow<'a, R> {}
+impl<'a, R: Threads> Threads for Paced<'a, R> {}
 
-impl<'a, R: Wait> Wait for Slow<'a, R> {}
+impl<'a, R: Wait> Wait for Paced<'a, R> {}
 
-impl<'a, R> Clock for Slow<'a, R> {
+impl<'a, R> Clock for Paced<'a, R> {
     fn monotonic(&self) -> io::Result<Duration> {
-        Ok(Duration::from_secs(self.looks.fetch_add(1, Ordering::SeqCst)))
+        Ok(Duration::from_secs(self.now.fetch_add(self.seconds, Ordering::SeqCst)))
     }
 
     fn since_1970(&self) -> io::Result<Duration> {
@@ -29,17 +30,35 @@ impl<'a, R> Clock for Slow<'a, R> {
     }
 }
 
-/// Holds rank 0's turn 0 until a crew calls the others home, and says whether it may.
+/// Holds rank 0 until a crew calls the others home, or rank 1 was turned often meanwhile, as it can only be on a thread of its own.
 #[derive(Drop)]
 struct Asked<'a> {
     watch: &'a Watch,
+    calls: bool,
     stay: bool,
+    turns: AtomicU64,
+}
+
+impl<'a> Asked<'a> {
+    /// Holds rank 0 until rank 1 was turned a hundred times.
+    fn hold_beside(&self) {
+        self.watch.let_go.store(true, Ordering::SeqCst);
+        self.watch.hold(&self.watch.absorbed);
+    }
 }
 
 impl<'a> Gate for Asked<'a> {
     fn turn(&self, rank: u32, n: u64) {
-        if (rank, n) == (0, 0) {
-            self.watch.hold(&self.watch.announced);
+        match (rank, n) {
+            (0, 0) if self.calls => self.watch.hold(&self.watch.announced),
+            (0, 0) => self.hold_beside(),
+            (0, 1) if self.stay => self.hold_beside(),
+            (1, _) if self.watch.let_go.load(Ordering::SeqCst) => {
+                if self.turns.fetch_add(1, Ordering::SeqCst) == 99 {
+                    self.watch.absorbed.store(true, Ordering::SeqCst);
+                }
+            }
+            _ => {}
         }
     }
 
@@ -53,24 +72,27 @@ impl<'a> Gate for Asked<'a> {
 fn crews_come_home(rt: HostRuntime) -> Result<(), Fail> {
     let all: &[u32] = &[0, 1, 2, 3, 3];
     let lists = [all; 4];
-    let slow = Slow {
-        _rt: &rt,
-        looks: AtomicU64::new(0),
-    };
     for (hands, via) in [
         (Hands::Threads, Via::Convey),
         (Hands::Threads, Via::Exstack),
         (Hands::Crews(4, 3), Via::Convey),
         (Hands::Crews(2, 2), Via::Exstack),
     ] {
-        for stay in [false, true] {
+        for (seconds, calls, stay) in [(1, true, false), (1, true, true), (0, false, false)] {
+            let clock = Paced {
+                _rt: &rt,
+                seconds,
+                now: AtomicU64::new(0),
+            };
             let watch = Watch::new();
             let gate = Asked {
                 watch: &watch,
+                calls,
                 stay,
+                turns: AtomicU64::new(0),
             };
             let told = drive_on(
-                &slow,
+                &clock,
                 rt.alloc(),
                 4,
                 &lists,
@@ -85,6 +107,7 @@ fn crews_come_home(rt: HostRuntime) -> Result<(), Fail> {
             };
             assert_eq!(rt; counts.as_slice(), [4, 4, 4, 8].as_slice());
             assert_eq!(rt; epochs, 2);
+            assert_eq!(rt; watch.announced.load(Ordering::SeqCst), calls);
             assert!(rt; !watch.noted.load(Ordering::SeqCst));
         }
     }

@@ -10,7 +10,7 @@ const VAIN_TURNS: u32 = 4;
 const AWAY_MICROS: u64 = 100;
 
 /// A thread that was kept waiting for so many milliseconds, and for a quarter of its time, has others at its processor.
-const CROWDED_MILLIS: u64 = 10;
+const CROWDED_MILLIS: u64 = 100;
 
 /// How long a thread's turns have been in vain, and how long it was kept waiting for its processor.
 #[derive(Drop)]

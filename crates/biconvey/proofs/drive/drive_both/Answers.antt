@@ -1,8 +1,11 @@
-use Rattle.std.proofs.Common.{rules, ◌≡◌, false, [], ◌∷◌, sym, subst}
+use Rattle.std.proofs.Common.{rules, ◌≡◌, ◌+◌, ◌<◌, ◌≤◌, ℕ, false, [], ◌∷◌, length, slice_get, refl, arith, sym, ap, subst, ◌∙◌}
+use Rattle.list_laws.proofs.Lists.{get_once}
 use Rattle.list_laws.proofs.Results.{on_ok_from, if_ok_from, if_ok_is}
 use Rattle.route_tensor.specs.Grid.{ranks}
-use Rattle.port_bank.specs.Plain.{Bank, closed}
-use Rattle.port_bank.specs.Round.{IsRound}
+use Rattle.route_tensor.specs.Link.{links}
+use Rattle.port_bank.specs.Plain.{Bank, closed, sent_of}
+use Rattle.port_bank.specs.Round.{IsRound, logs_of}
+use Rattle.rank_group.proofs.Ended.{all_sent, none_first}
 use Rattle.rank_group.specs.Ranks.{IsOrder}
 use Rattle.rank_group.specs.declared.closed_round.ClosedRound.{ClosedRound}
 use Rattle.rank_group.specs.Rounds.{round_of}
@@ -60,3 +63,21 @@ returns-clause-fewest g c =
     on_ok_from c.finish.result
     (λ f e. fewest_at g.A.Asker.talk g.row.CAP c.args.grid.now c.args.slots c.args.steady c.args.askers c.in_ok-all.all.items c.in_ok-banks.banks.queries c.in_ok-banks.banks.replies c.in_ok-all.ensures c.requires.askers c.requires.some c.in_ok-banks.ensures.queries c.in_ok-banks.ensures.replies c.in_ok-banks.ensures.lawful
     c.args.steps.now c.run_all.new.steps c.in_ok-banks-2.ensures.fewest)
+
+pub returns-clause-posted : goal.returns-clause-posted
+returns-clause-posted g c =
+    let b = c.in_ok-banks-2.banks in
+    if_ok_from
+    (λ f. (q r : ClosedRound) → f.rounds ≡ q ∷ r ∷ [] → (l : ℕ) → l < links c.args.grid.now
+    → (length (logs_of (round_of q).sent l) + c.args.steps.now ≤ c.run_all.new.steps) × (length (logs_of (round_of r).sent l) + c.args.steps.now ≤ c.run_all.new.steps)) c.finish.result
+    (λ f e q r is l below.
+    let x = if_ok_is (λ f. (q : ClosedRound) × (r : ClosedRound) × (f.rounds ≡ q ∷ r ∷ []) × (round_of q ≡ closed g.row.CAP b.queries) × IsRound (round_of q) × (round_of r ≡ closed g.row.CAP b.replies) × IsRound (round_of r)) c.finish.result f e c.finish.ensures.rounds in
+    let same : x.0 ∷ x.1 ∷ [] ≡ q ∷ r ∷ [] = sym x.2 ∙ is in
+    let same_q : x.0 ≡ q = get_once (x.0 ∷ x.1 ∷ []) 0 x.0 q refl (ap (λ rs. slice_get rs 0) same) in
+    let same_r : x.1 ≡ r = get_once (x.0 ∷ x.1 ∷ []) 1 x.1 r refl (ap (λ rs. slice_get rs 1) same) in
+    let told = c.in_ok-banks-2.ensures.posted l (subst (λ (y : Bank). l < links y.dims) (sym c.in_ok-banks.ensures.queries) below) in
+    let none_q : length (sent_of c.in_ok-banks.banks.queries l) ≡ 0 = ap (λ (y : Bank). length (sent_of y l)) c.in_ok-banks.ensures.queries ∙ none_first c.args.grid.now c.args.slots l in
+    let none_r : length (sent_of c.in_ok-banks.banks.replies l) ≡ 0 = ap (λ (y : Bank). length (sent_of y l)) c.in_ok-banks.ensures.replies ∙ none_first c.args.grid.now c.args.slots l in
+    let all_q : length (logs_of (round_of q).sent l) ≡ length (sent_of b.queries l) = ap (λ y. length (logs_of (round_of y).sent l)) (sym same_q) ∙ all_sent g.row.CAP b.queries (round_of x.0) l x.3 in
+    let all_r : length (logs_of (round_of r).sent l) ≡ length (sent_of b.replies l) = ap (λ y. length (logs_of (round_of y).sent l)) (sym same_r) ∙ all_sent g.row.CAP b.replies (round_of x.1) l x.5 in
+    (omega (arith, told.0, none_q, all_q), omega (arith, told.1, none_r, all_r)))

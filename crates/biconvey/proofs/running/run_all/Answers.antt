@@ -1,6 +1,7 @@
-use Rattle.std.proofs.Common.{rules, ◌≡◌, ℕ, List, Bool, true, true≢false, length, refl, sym, ap, subst, ◌∙◌, arith, inl, inr}
+use Rattle.std.proofs.Common.{rules, ◌≡◌, ◌<◌, ℕ, List, Bool, true, true≢false, length, refl, sym, ap, subst, ◌∙◌, arith, inl, inr}
 use Rattle.std.specs.List.{list_all}
 use Rattle.route_tensor.specs.Grid.{ranks}
+use Rattle.route_tensor.specs.Link.{links}
 use Rattle.rank_group.specs.Ranks.{IsOrder}
 use Rattle.biconvey.specs.Worlds.{is_over, World, SweptTo, sides_of}
 use Rattle.biconvey.proofs.Driven.{each_over, driving_none, steps_low, steps_lower, driving_more, fewer_left}
@@ -82,6 +83,10 @@ loop-banks-preserved g c =
     record {
       rose = omega (arith, more, rose);
       turned = inr (omega (arith, more, rose, size));
+      posted = λ l below.
+          let one = c.in_ok-banks.ensures.posted l (subst (λ ds. l < links ds) (sym v.banks.queries_dims) below) in
+          let so = c.loop-banks.invariant.posted l below in
+          (omega (arith, one.0, so.0), omega (arith, one.1, so.1));
       driving = driving_more T g.met.A.Asker.laws c.closes_law.ensures c.rest_law.ensures g.row.CAP d k c.args.all.now.items (sides_of c.args.banks.queries c.args.banks.replies) c.args.steps.now
           c.loop-banks.all.items b.queries b.replies c.loop-banks.steps v c.args.order.now c.requires.order on c.sweep.new.steps c.sweep.ensures.most_steps c.sweep.new.all.items b'.queries b'.replies
           (same_banks g.row.CAP d b.queries.dims k b.queries.slots b'.queries b'.replies v.banks.queries_dims v.banks.queries_slots c.in_ok-banks.ensures.banks)
@@ -93,7 +98,7 @@ loop-banks-preserved g c =
     }
 
 pub loop-banks-init : goal.loop-banks-init
-loop-banks-init g c = record { rose = omega arith; turned = inl refl; driving = driving_none g.A.Asker.talk g.row.CAP c.args.banks.queries.dims c.args.banks.queries.slots c.args.all.now.items c.args.steps.now c.args.banks.queries c.args.banks.replies c.requires.banks }
+loop-banks-init g c = record { rose = omega arith; posted = λ l below. (omega arith, omega arith); turned = inl refl; driving = driving_none g.A.Asker.talk g.row.CAP c.args.banks.queries.dims c.args.banks.queries.slots c.args.all.now.items c.args.steps.now c.args.banks.queries c.args.banks.replies c.requires.banks }
 
 pub returns-then-all_over-clause-fewest : goal.returns-then-all_over-clause-fewest
 returns-then-all_over-clause-fewest g c = λ on.

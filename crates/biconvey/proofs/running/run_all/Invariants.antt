@@ -1,6 +1,6 @@
 use Rattle.std.proofs.Common.{◌≡◌, ◌⊎◌, ◌+◌, ◌≤◌}
 use Rattle.route_tensor.specs.Grid.{ranks}
-use Rattle.biconvey.specs.Worlds.{sides_of}
+use Rattle.biconvey.specs.Worlds.{PostedWithin, sides_of}
 use Rattle.biconvey.proofs.Driven.{Driving, left}
 use Rattle.biconvey.proofs.running.run_all.Given as goal
 
@@ -8,6 +8,7 @@ abbrev pub invariant-loop-banks : goal.invariant-loop-banks
 invariant-loop-banks g l = record {
   rose : l.fn.steps ≤ l.steps;
   turned : (l.all.items ≡ l.fn.all.items) ⊎ (l.fn.steps + ranks l.fn.banks.queries.dims ≤ l.steps);
+  posted : PostedWithin l.fn.banks.queries.dims (sides_of l.fn.banks.queries l.fn.banks.replies) l.fn.steps (sides_of l.banks.queries l.banks.replies) l.steps;
   driving : Driving g.A.Asker.talk g.row.CAP l.fn.banks.queries.dims l.fn.banks.queries.slots l.fn.all.items (sides_of l.fn.banks.queries l.fn.banks.replies) l.fn.steps l.all.items l.banks.queries l.banks.replies l.steps;
 }
 

@@ -1,6 +1,8 @@
-use Rattle.std.proofs.Common.{rules, ◌≡◌, ◌<◌, length, get_or, arith, subst, sym}
+use Rattle.std.proofs.Common.{rules, ◌≡◌, ◌<◌, length, get_or, arith, subst, sym, ◌∙◌}
+use Rattle.std.proofs.lemmas.List.{length-map}
 use Rattle.list_laws.proofs.Lists.{all_get}
 use Rattle.route_tensor.specs.Grid.{ranks}
+use Rattle.biconvey.specs.States.{BiState}
 use Rattle.biconvey.specs.Worlds.{SweptTo, sides_of}
 use Rattle.biconvey.proofs.Swept.{sweeping_more, swept_none, same_turn, same_banks, same_world, order_at}
 use Rattle.biconvey.proofs.sweeping.sweep.Goals as goal
@@ -11,6 +13,7 @@ loop-i-init g c =
       banks = c.requires.banks;
       most_steps = omega arith;
       fewest_steps = omega arith;
+      posted = λ l below. (omega arith, omega arith);
       swept = λ steady starts w. swept_none g.A.Asker.talk c.args.banks.queries.dims g.row.CAP c.args.banks.queries.slots steady starts c.args.order.now c.args.all.now.items (sides_of c.args.banks.queries c.args.banks.replies) w;
     }
 
@@ -50,8 +53,10 @@ loop-i-preserved g c =
     let number = get_or c.args.order.now c.loop-i.i 0 in
     let below = all_get (λ r. r < ranks d) c.args.order.now c.loop-i.i number c.requires.order.below here in
     let b = c.in_ok-banks.banks in
+    let w = (v.swept c.requires.world.0 c.requires.world.1 c.requires.world.2).world in
+    let all = sym (length-map c.loop-i.all.items (λ (n : BiState g.row.A.Denot). n.queries)) ∙ w.queries.all in
     sweeping_more T g.row.CAP d k c.args.order.now c.args.all.now.items (sides_of c.args.banks.queries c.args.banks.replies) c.args.steps.now c.loop-i.i number c.loop-i.all.items c.turn_one.new.all.items
-    c.loop-i.banks.queries c.loop-i.banks.replies b.queries b.replies c.loop-i.steps c.turn_one.new.steps v here below
+    c.loop-i.banks.queries c.loop-i.banks.replies b.queries b.replies c.loop-i.steps c.turn_one.new.steps v all here below
     (same_banks g.row.CAP d c.loop-i.banks.queries.dims k c.loop-i.banks.queries.slots b.queries b.replies v.banks.queries_dims v.banks.queries_slots c.in_ok-banks.ensures.banks)
     c.turn_one.ensures.steps c.turn_one.ensures.size c.turn_one.ensures.others
     (λ n n' was now. same_turn T g.row.CAP d c.loop-i.banks.queries.dims k c.loop-i.banks.queries.slots number n n' (sides_of c.loop-i.banks.queries c.loop-i.banks.replies) (sides_of b.queries b.replies) v.banks.queries_dims v.banks.queries_slots (c.in_ok-banks.ensures.turned n n' was now))

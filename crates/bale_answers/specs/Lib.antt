@@ -1,5 +1,5 @@
 pub mod Answer
-pub mod Endings
+pub mod AnswerEnds
 pub mod Logs
 pub mod Needs
 pub mod Orders

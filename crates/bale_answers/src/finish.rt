@@ -7,7 +7,7 @@ ghost use Rattle.round_program.specs.Canonical.{HaveEnded};
 ghost use Rattle.app_cases.specs.Any.{any_rules};
 ghost use Rattle.app_histo_ig.specs.ColumnAnswers.{IgHeard};
 ghost use Rattle.bale_answers.specs.Answer.{HasWritten};
-ghost use Rattle.bale_answers.specs.Endings.{IsEnding};
+ghost use Rattle.bale_answers.specs.AnswerEnds.{IsAnswerEnd};
 ghost use Rattle.bale_answers.specs.Logs.{bytes_of};
 ghost use Rattle.bale_answers.specs.Summary.{summary_of};
 ghost use Rattle.bale_answers.specs.Tasks.{IsAnswer, starts_of};
@@ -26,7 +26,7 @@ use std::alloc::Global;
 
 /// The answer's status, and whether it was written.
 #[derive(Drop)]
-pub struct Ending {
+pub struct AnswerEnd {
     /// 0, or 1 where topo finds no order
     pub status: u8,
     /// An error where a write failed
@@ -34,52 +34,52 @@ pub struct Ending {
 }
 
 /// Writes the answer of ig by the ranks that asked one another, each after its last reply. No memory is taken.
-pub fn finished_by_asking<K: Sink>(
+pub fn finish_by_asking<K: Sink>(
     m: &Matrix,
     askers: &Progs<IgAsker>,
     generated: Option<Generated>,
     out: &mut K,
-) -> Ending
+) -> AnswerEnd
     requires heard { IgHeard m.now askers.now }
-    ensures { IsEnding Task.Ig (Subject.Matrix m.now) generated K.taken K.faults out.old out.new result }
+    ensures { IsAnswerEnd Task.Ig (Subject.Matrix m.now) generated K.taken K.faults out.old out.new result }
 {
     m.known();
-    written_as::<IgHeardAnswer, K>(&(), m, askers, generated, out)
+    write_as::<IgHeardAnswer, K>(&(), m, askers, generated, out)
 }
 
 /// Writes the answer of one application.
-pub(crate) fn finished_as<A: Application, K: Sink>(
+pub(crate) fn finish_as<A: Application, K: Sink>(
     alloc: Global,
     options: &A::Options,
     of: &A::Of,
     generated: Option<Generated>,
     progs: Progs<AnyProgram>,
     out: &mut K,
-) -> Result<Ending, NoMemory>
+) -> Result<AnswerEnd, NoMemory>
     requires needs { A.needs options.now of.now }
     requires ended { (ranks : ℕ) × (1 ≤ ranks) × (ranks ≤ 64)
         × (0 < length (starts_of (A.task options.now) ranks (A.subject of.now)))
         × HaveEnded any_rules (starts_of (A.task options.now) ranks (A.subject of.now)) progs }
-    ensures ending { IfOk result (IsEnding (A.task options.now) (A.subject of.now) generated
+    ensures ending { IfOk result (IsAnswerEnd (A.task options.now) (A.subject of.now) generated
         K.taken K.faults out.old out.new) }
     ensures no_answer { OnErr result (out.new ≡ out.old) }
 {
     let progs = take_all(alloc, progs)?;
     let answer = A::end(alloc, options, of, progs)?;
-    Ok(written_as::<A, K>(options, of, &answer, generated, out))
+    Ok(write_as::<A, K>(options, of, &answer, generated, out))
 }
 
 /// Writes an answer: its bytes, or, at status 0 and where the matrix was generated, their summary. No memory is taken.
-fn written_as<A: Written, K: Sink>(
+fn write_as<A: Written, K: Sink>(
     options: &A::Options,
     of: &A::Of,
     answer: &A::Answer,
     generated: Option<Generated>,
     out: &mut K,
-) -> Ending
+) -> AnswerEnd
     requires needs { A.needs options.now of.now }
     requires answers { A.answers options.now of.now answer.now }
-    ensures { IsEnding (A.task options.now) (A.subject of.now) generated K.taken K.faults out.old out.new result }
+    ensures { IsAnswerEnd (A.task options.now) (A.subject of.now) generated K.taken K.faults out.old out.new result }
 {
     let status = A::status(options, answer, of);
     let written = if generated.is_some() && status == 0 {
@@ -87,7 +87,7 @@ fn written_as<A: Written, K: Sink>(
     } else {
         write_answer::<A, K>(options, answer, of, out)
     };
-    Ending { status, written }
+    AnswerEnd { status, written }
 }
 
 /// Writes the answer through a buffer.
@@ -162,10 +162,10 @@ fn write_line<K: Sink>(counter: &Counter, sink: &mut K) -> Result<(), Failed>
 {
     let line = summary_line(counter);
     let mut out = Out::new(sink);
-    flushed(&mut out, line.bytes())
+    flush_text(&mut out, line.bytes())
 }
 
-fn flushed<K: Sink>(out: &mut Out<'_, K>, bytes: &[u8]) -> Result<(), Failed>
+fn flush_text<K: Sink>(out: &mut Out<'_, K>, bytes: &[u8]) -> Result<(), Failed>
     ensures ok { OnOk result (K.taken out.new.sink.now ≡ after (appended K.taken out.old) bytes.now) }
     ensures err { OnErr result (IsFront (K.taken out.new.sink.now) (after (appended K.taken out.old) bytes.now)) }
     ensures cause { HasCause (K.faults out.old.sink.now) (K.faults out.new.sink.now) result }

@@ -5,10 +5,10 @@
 //! |---|---|
 //! | [`started`] | the programs of a task on its subject, in round 0 |
 //! | [`finished`] | the same programs after their last round, to the bytes of the answer or their summary |
-//! | [`finished_by_asking`] | the same of ig, by the ranks that asked one another |
+//! | [`finish_by_asking`] | the same of ig, by the ranks that asked one another |
 //!
 //! Read `specs/Answer` first: the serial answer, about the words and the text alone. Then `specs/Tasks` (what each task runs and answers),
-//! `specs/Orders` (what topo answers), `specs/Summary` (the line of `--gen`) and `specs/Endings` (how the writing of an answer ends).
+//! `specs/Orders` (what topo answers), `specs/Summary` (the line of `--gen`) and `specs/AnswerEnds` (how the writing of an answer ends).
 //! The other files of `specs/` are the code's own words.
 #![tactic(auto)]
 
@@ -22,5 +22,5 @@ mod order_answer;
 mod tasks;
 mod walk_answers;
 
-pub use finish::{Ending, finished_by_asking};
-pub use tasks::{finished, started};
+pub use finish::{AnswerEnd, finish_by_asking};
+pub use tasks::{finish_task, start_task};

@@ -6,12 +6,12 @@ ghost use Rattle.app_cases.specs.Any.{any_rules};
 ghost use Rattle.bale_words.specs.Ranges.{TaskInRanges};
 ghost use Rattle.bale_subjects.specs.Fitness.{first_failed, subject_tests, task_unfitness};
 ghost use Rattle.bale_subjects.specs.Subjects.{is_tally, suits};
-ghost use Rattle.bale_answers.specs.Endings.{IsEnding};
+ghost use Rattle.bale_answers.specs.AnswerEnds.{IsAnswerEnd};
 ghost use Rattle.bale_answers.specs.Tasks.{starts_of};
 
 use crate::application::Application;
 use crate::column_answers::{HistoAnswer, IgAnswer};
-use crate::finish::{Ending, finished_as};
+use crate::finish::{AnswerEnd, finish_as};
 use crate::line_answer::TallyAnswer;
 use crate::matrix_answers::{PermuteAnswer, TransposeAnswer};
 use crate::order_answer::OrderAnswer;
@@ -28,7 +28,7 @@ use std::alloc::Global;
 ///
 /// # Errors
 /// `NoMemory` where the programs found none.
-pub fn started(
+pub fn start_task(
     alloc: Global,
     task: &Task,
     subject: &Subject,
@@ -44,8 +44,8 @@ pub fn started(
         × EndsWithin any_rules ps most) }
 {
     match subject {
-        Subject::Matrix(m) => started_on(alloc, task, m, ranks),
-        Subject::Lines(lines) => started_as::<TallyAnswer>(alloc, &(), lines, ranks),
+        Subject::Matrix(m) => start_on(alloc, task, m, ranks),
+        Subject::Lines(lines) => start_as::<TallyAnswer>(alloc, &(), lines, ranks),
     }
 }
 
@@ -54,32 +54,32 @@ pub fn started(
 ///
 /// # Errors
 /// `NoMemory` where the answer found none: then nothing is written.
-pub fn finished<K: Sink>(
+pub fn finish_task<K: Sink>(
     alloc: Global,
     task: &Task,
     subject: &Subject,
     generated: Option<Generated>,
     progs: Progs<AnyProgram>,
     out: &mut K,
-) -> Result<Ending, NoMemory>
+) -> Result<AnswerEnd, NoMemory>
     requires suits { suits task.now subject.now ≡ true }
     requires ranges { TaskInRanges task.now }
     requires fits { (serial : Bool) × (first_failed (subject_tests task.now subject.now serial) ≡ None) }
     requires ended { (ranks : ℕ) × (1 ≤ ranks) × (ranks ≤ 64) × (0 < length (starts_of task.now ranks subject.now))
         × HaveEnded any_rules (starts_of task.now ranks subject.now) progs }
-    ensures ending { IfOk result (IsEnding task.now subject.now generated K.taken K.faults out.old out.new) }
+    ensures ending { IfOk result (IsAnswerEnd task.now subject.now generated K.taken K.faults out.old out.new) }
     ensures no_answer { OnErr result (out.new ≡ out.old) }
 {
     match subject {
-        Subject::Matrix(m) => finished_on(alloc, task, m, generated, progs, out),
+        Subject::Matrix(m) => finish_on(alloc, task, m, generated, progs, out),
         Subject::Lines(lines) => {
-            finished_as::<TallyAnswer, K>(alloc, &(), lines, generated, progs, out)
+            finish_as::<TallyAnswer, K>(alloc, &(), lines, generated, progs, out)
         }
     }
 }
 
 /// The programs for a task and a matrix that fit each other.
-fn started_on(
+fn start_on(
     alloc: Global,
     task: &Task,
     m: &Matrix,
@@ -96,56 +96,57 @@ fn started_on(
 {
     m.known();
     match task {
-        Task::Histo => started_as::<HistoAnswer>(alloc, &(), m, ranks),
-        Task::Ig => started_as::<IgAnswer>(alloc, &(), m, ranks),
-        Task::Permute(by) => started_as::<PermuteAnswer>(alloc, by, m, ranks),
-        Task::Transpose => started_as::<TransposeAnswer>(alloc, &(), m, ranks),
-        Task::Topo => started_as::<OrderAnswer>(alloc, &(), m, ranks),
-        Task::Sssp(source, None) => started_as::<SsspAnswer>(alloc, source, m, ranks),
+        Task::Histo => start_as::<HistoAnswer>(alloc, &(), m, ranks),
+        Task::Ig => start_as::<IgAnswer>(alloc, &(), m, ranks),
+        Task::Permute(by) => start_as::<PermuteAnswer>(alloc, by, m, ranks),
+        Task::Transpose => start_as::<TransposeAnswer>(alloc, &(), m, ranks),
+        Task::Topo => start_as::<OrderAnswer>(alloc, &(), m, ranks),
+        Task::Sssp(source, None) => start_as::<SsspAnswer>(alloc, source, m, ranks),
         Task::Sssp(source, Some(delta)) => {
-            started_as::<DeltaAnswer>(alloc, &(*source, *delta), m, ranks)
+            start_as::<DeltaAnswer>(alloc, &(*source, *delta), m, ranks)
         }
         Task::Tally => unreachable!(),
     }
 }
 
 /// Writes the answer of a task for a matrix.
-fn finished_on<K: Sink>(
+fn finish_on<K: Sink>(
     alloc: Global,
     task: &Task,
     m: &Matrix,
     generated: Option<Generated>,
     progs: Progs<AnyProgram>,
     out: &mut K,
-) -> Result<Ending, NoMemory>
+) -> Result<AnswerEnd, NoMemory>
     requires other { is_tally task.now ≡ false }
     requires ranges { TaskInRanges task.now }
     requires fits { (serial : Bool) × (task_unfitness task.now m.now serial ≡ None) }
     requires ended { (ranks : ℕ) × (1 ≤ ranks) × (ranks ≤ 64)
         × (0 < length (starts_of task.now ranks (Subject.Matrix m.now)))
         × HaveEnded any_rules (starts_of task.now ranks (Subject.Matrix m.now)) progs }
-    ensures ending { IfOk result (IsEnding task.now (Subject.Matrix m.now) generated K.taken K.faults out.old out.new) }
+    ensures ending { IfOk result (IsAnswerEnd task.now (Subject.Matrix m.now) generated K.taken K.faults out.old
+        out.new) }
     ensures no_answer { OnErr result (out.new ≡ out.old) }
 {
     m.known();
     match task {
-        Task::Histo => finished_as::<HistoAnswer, K>(alloc, &(), m, generated, progs, out),
-        Task::Ig => finished_as::<IgAnswer, K>(alloc, &(), m, generated, progs, out),
-        Task::Permute(by) => finished_as::<PermuteAnswer, K>(alloc, by, m, generated, progs, out),
-        Task::Transpose => finished_as::<TransposeAnswer, K>(alloc, &(), m, generated, progs, out),
-        Task::Topo => finished_as::<OrderAnswer, K>(alloc, &(), m, generated, progs, out),
+        Task::Histo => finish_as::<HistoAnswer, K>(alloc, &(), m, generated, progs, out),
+        Task::Ig => finish_as::<IgAnswer, K>(alloc, &(), m, generated, progs, out),
+        Task::Permute(by) => finish_as::<PermuteAnswer, K>(alloc, by, m, generated, progs, out),
+        Task::Transpose => finish_as::<TransposeAnswer, K>(alloc, &(), m, generated, progs, out),
+        Task::Topo => finish_as::<OrderAnswer, K>(alloc, &(), m, generated, progs, out),
         Task::Sssp(source, None) => {
-            finished_as::<SsspAnswer, K>(alloc, source, m, generated, progs, out)
+            finish_as::<SsspAnswer, K>(alloc, source, m, generated, progs, out)
         }
         Task::Sssp(source, Some(delta)) => {
-            finished_as::<DeltaAnswer, K>(alloc, &(*source, *delta), m, generated, progs, out)
+            finish_as::<DeltaAnswer, K>(alloc, &(*source, *delta), m, generated, progs, out)
         }
         Task::Tally => unreachable!(),
     }
 }
 
 /// The programs of one application, put as any of them.
-fn started_as<A: Application>(
+fn start_as<A: Application>(
     alloc: Global,
     options: &A::Options,
     of: &A::Of,

@@ -6,7 +6,7 @@ use Rattle.bale_types.specs.Stream.{after, HasCause, IsFront, Rose}
 use Rattle.bale_types.proofs.Moves.{front_same}
 use Rattle.bale_words.specs.declared.command.Command.{Command}
 use Rattle.bale_words.specs.declared.command.Generated.{Generated}
-use Rattle.bale_runs.specs.declared.exchange.Finish.{Finish}
+use Rattle.bale_runs.specs.declared.exchange.RunEnd.{RunEnd}
 use Rattle.bale_subjects.specs.declared.refusal.BadText.{BadText}
 use Rattle.bale_subjects.specs.declared.refusal.Refusal.{Refusal}
 use Rattle.bale_subjects.specs.declared.refusal.Refusal.TheVariants as refusal
@@ -16,13 +16,13 @@ use Rattle.bale_answers.specs.Answer.{Asked, Wrote}
 use Rattle.bale_subjects.specs.Reading.{reads, TellsText, Told}
 use Rattle.bale_subjects.specs.Refusals.{IsOfText}
 use Rattle.bale_runs.specs.Asking.{TellsCommand}
-use Rattle.bale_runs.specs.Finishes.{IsFinish}
+use Rattle.bale_runs.specs.RunEnds.{IsRunEnd}
 use Rattle.bale_subjects.specs.Fitness.{unfitness}
 use Rattle.bale_cli.specs.Outcomes.{Answered}
 use Rattle.bale_subjects.specs.Subjects.{subject_asked}
 use Rattle.bale_words.specs.Ranges.{InRanges}
 use Rattle.bale_meaning.proofs.Serial.{means_of}
-use Rattle.bale_cli.proofs.Endings.{before_text, wrote_status}
+use Rattle.bale_cli.proofs.AnswerEnds.{before_text, wrote_status}
 
 -- what holds of a result that is there
 pub when_ok : {T E : Type 0} (r : Result T E) (P : Type 0) → IfOk r (λ x. P) → IsOk r → P
@@ -114,7 +114,7 @@ module _ {S K : Type 0} {serial : Command → Bool} {left : S → Option (List �
       }
 
   -- the same of another spelling of the job
-  pub at_job : {answered : Result Finish Refusal} (job job' : Option Command) → job ≡ job' → Answered serial job' left read_faults source source' taken write_faults out out' answered
+  pub at_job : {answered : Result RunEnd Refusal} (job job' : Option Command) → job ≡ job' → Answered serial job' left read_faults source source' taken write_faults out out' answered
       → Answered serial job left read_faults source source' taken write_faults out out' answered
   at_job {answered = answered} job job' e a = subst (λ (j : Option Command). Answered serial j left read_faults source source' taken write_faults out out' answered) (sym e) a
 
@@ -152,11 +152,11 @@ module _ {S K : Type 0} {serial : Command → Bool} {left : S → Option (List �
       }
 
   -- run, and the answer was written, or memory was wanting
-  pub ran_answered : (answered : Result Finish Refusal) (c : Command) (s : Subject) → InRanges c
+  pub ran_answered : (answered : Result RunEnd Refusal) (c : Command) (s : Subject) → InRanges c
       → ((text : List ℕ) → Told (Some c) (left source) text → subject_asked c text ≡ Ok s) → unfitness c s (serial c) ≡ None
       → read_faults source' ≡ read_faults source → (reads (Some c) ≡ false → source' ≡ source)
       → ((text : List ℕ) → left source ≡ Some text → reads (Some c) ≡ true → left source' ≡ Some (drop 16777217 text))
-      → IsFinish c s (TellsCommand (serial c) c s) taken write_faults out out' answered
+      → IsRunEnd c s (TellsCommand (serial c) c s) taken write_faults out out' answered
       → Answered serial (Some c) left read_faults source source' taken write_faults out out' answered
   ran_answered (Ok f) c s ranges subject fits calm unread whole finish =
       let wrote = finish.ending.answer in
@@ -224,7 +224,7 @@ module _ {S K : Type 0} {serial : Command → Bool} {left : S → Option (List �
       no_usage e = cc
 
 -- where the only refusal is want of memory
-pub memory_only : (P : Type 0) (answered : Result Finish Refusal) → IfErr answered (λ r. r ≡ refusal.NoMemory) → IfErr answered (λ r. r ≢ refusal.NoMemory → P)
+pub memory_only : (P : Type 0) (answered : Result RunEnd Refusal) → IfErr answered (λ r. r ≡ refusal.NoMemory) → IfErr answered (λ r. r ≢ refusal.NoMemory → P)
 memory_only P (Ok f) memory = tt
 memory_only P (Err r) memory = λ other. absurd (other memory)
 

@@ -1,3 +1,3 @@
 pub mod Answering
-pub mod Endings
+pub mod AnswerEnds
 pub mod Outcomes

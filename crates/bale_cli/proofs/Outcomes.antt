@@ -4,7 +4,7 @@ use Rattle.bale_types.specs.Stream.{after, IsFront, Rose}
 use Rattle.bale_types.proofs.Moves.{after-nil, front_same}
 use Rattle.rank_group.specs.declared.closed_round.ClosedRound.{ClosedRound}
 use Rattle.bale_words.specs.declared.command.Command.{Command}
-use Rattle.bale_runs.specs.declared.exchange.Finish.{Finish}
+use Rattle.bale_runs.specs.declared.exchange.RunEnd.{RunEnd}
 use Rattle.bale_subjects.specs.declared.refusal.Refusal.{Refusal}
 use Rattle.bale_subjects.specs.declared.refusal.Refusal.TheVariants as refusal
 use Rattle.bale_answers.specs.Answer.{Answer, Wrote, answer_to, said}
@@ -15,7 +15,7 @@ use Rattle.bale_runs.specs.Asking.{TellsCommand}
 use Rattle.bale_cli.specs.Outcomes.{Answered, IsOutcome}
 use Rattle.bale_cli.specs.Run.{IsRun}
 use Rattle.bale_cli.proofs.Answering.{same_Err}
-use Rattle.bale_cli.proofs.Endings.{not_zero, not_one, is_usage, usage_is, is_read_fault, read_fault_is, is_write_fault, bad_is, unfit_is, status_same, said_is, of_text, memory_is}
+use Rattle.bale_cli.proofs.AnswerEnds.{not_zero, not_one, is_usage, usage_is, is_read_fault, read_fault_is, is_write_fault, bad_is, unfit_is, status_same, said_is, of_text, memory_is}
 
 -- nothing is said of an answer
 said_none : (status : ℕ) (answer : Answer) → status ≤ 1 → said status answer ≡ []
@@ -45,7 +45,7 @@ failed : {T E P Q : Type 0} {w : Result T E} → Failed w P → OnErr w Q → Q
 failed {Q = Q} d q = subst (λ w. OnErr w Q) d.is q
 
 -- an answer that was written has status 0 or 1, one that wasn't 4
-ends : {E : Type 0} {said_to : E → Option (List ℕ)} {err_faults : E → ℕ} {err err' : E} {status : ℕ} {rounds : List ClosedRound} (f : Finish) → IsOutcome (Ok f) said_to err_faults err err' status rounds
+ends : {E : Type 0} {said_to : E → Option (List ℕ)} {err_faults : E → ℕ} {err err' : E} {status : ℕ} {rounds : List ClosedRound} (f : RunEnd) → IsOutcome (Ok f) said_to err_faults err err' status rounds
     → Did f.ending.written ((status ≡ f.ending.status) × (status ≤ 1) × (err' ≡ err))
     ⊎ Failed f.ending.written ((status ≡ 4) × (¬ Rose (err_faults err) (err_faults err') → said_to err' ≡ after (said_to err) (refusal_text refusal.WriteFault)) × IsFront (said_to err') (after (said_to err) (refusal_text refusal.WriteFault)))
 ends f o = split f.ending.written o.written o.unwritten
@@ -57,7 +57,7 @@ four_not : (status n : ℕ) → n ≢ 4 → status ≡ 4 → status ≡ n → �
 four_not status n other four e = other (sym e ∙ four)
 
 -- an answer has no other status
-no_other : {E : Type 0} {said_to : E → Option (List ℕ)} {err_faults : E → ℕ} {err err' : E} {status : ℕ} {rounds : List ClosedRound} (f : Finish) (n : ℕ) → IsOutcome (Ok f) said_to err_faults err err' status rounds
+no_other : {E : Type 0} {said_to : E → Option (List ℕ)} {err_faults : E → ℕ} {err err' : E} {status : ℕ} {rounds : List ClosedRound} (f : RunEnd) (n : ℕ) → IsOutcome (Ok f) said_to err_faults err err' status rounds
     → 1 < n → n ≢ 4 → status ≡ n → ⊥
 no_other {status = status} f n o past other e = elim (ends f o) [ inl w ↦ low_not status n past w.fact.1 e | inr u ↦ four_not status n other u.fact.0 e ]
 
@@ -76,18 +76,18 @@ neither zero low z o = z refl
 neither (suc zero) low z o = o refl
 neither (suc (suc n)) low z o = omega (arith, low)
 
-only_refused : {E : Type 0} {said_to : E → Option (List ℕ)} {err_faults : E → ℕ} {err err' : E} {status : ℕ} {rounds : List ClosedRound} (f : Finish) → IsOutcome (Ok f) said_to err_faults err err' status rounds
+only_refused : {E : Type 0} {said_to : E → Option (List ℕ)} {err_faults : E → ℕ} {err err' : E} {status : ℕ} {rounds : List ClosedRound} (f : RunEnd) → IsOutcome (Ok f) said_to err_faults err err' status rounds
     → status ≢ 0 → status ≢ 1 → status ≢ 4 → ⊥
 only_refused {status = status} f o nought one four = elim (ends f o) [ inl w ↦ neither status w.fact.1 nought one | inr u ↦ four u.fact.0 ]
 
 module _ {serial : Command → Bool} {job : Option Command} {S K E : Type 0} {left : S → Option (List ℕ)} {read_faults : S → ℕ} {source source' : S}
     {taken : K → Option (List ℕ)} {write_faults : K → ℕ} {out out' : K} {said_to : E → Option (List ℕ)} {err_faults : E → ℕ} {err err' : E} {status : ℕ}
     {rounds : List ClosedRound} where
-  usage : (answered : Result Finish Refusal) → Answered serial job left read_faults source source' taken write_faults out out' answered → IsOutcome answered said_to err_faults err err' status rounds → status ≡ 2 → job ≡ None
+  usage : (answered : Result RunEnd Refusal) → Answered serial job left read_faults source source' taken write_faults out out' answered → IsOutcome answered said_to err_faults err err' status rounds → status ≡ 2 → job ≡ None
   usage (Ok f) a o two = absurd (no_other f 2 o (omega arith) (λ e. omega (arith, e)) two)
   usage (Err r) a o two = a.usage (ap (λ (x : Refusal). Err x) (is_usage r (sym o.refused.0 ∙ two)))
 
-  no_command : (answered : Result Finish Refusal) → Answered serial job left read_faults source source' taken write_faults out out' answered → IsOutcome answered said_to err_faults err err' status rounds → job ≡ None → status ≢ 7 → status ≡ 2
+  no_command : (answered : Result RunEnd Refusal) → Answered serial job left read_faults source source' taken write_faults out out' answered → IsOutcome answered said_to err_faults err err' status rounds → job ≡ None → status ≢ 7 → status ≡ 2
   no_command (Ok f) a o none seven = absurd (a.no_command none)
   no_command (Err r) a o none seven =
       elim (a.no_command none) [
@@ -95,7 +95,7 @@ module _ {serial : Command → Bool} {job : Option Command} {S K E : Type 0} {le
         | inr e ↦ absurd (seven (o.refused.0 ∙ ap status_of e ∙ memory_is))
       ]
 
-  same_status : (answered : Result Finish Refusal) → Answered serial job left read_faults source source' taken write_faults out out' answered → IsOutcome answered said_to err_faults err err' status rounds → (text : List ℕ) → Told job (left source) text
+  same_status : (answered : Result RunEnd Refusal) → Answered serial job left read_faults source source' taken write_faults out out' answered → IsOutcome answered said_to err_faults err err' status rounds → (text : List ℕ) → Told job (left source) text
       → status ≢ 3 → status ≢ 4 → status ≢ 7 → status ≡ (answer_to serial job text).status
   same_status (Ok f) a o text told three four seven =
       elim (ends f o) [ inl w ↦ w.fact.0 ∙ a.status text told | inr u ↦ absurd (four u.fact.0) ]
@@ -104,28 +104,28 @@ module _ {serial : Command → Bool} {job : Option Command} {S K E : Type 0} {le
       ∙ status_same serial r job text (λ e. a.usage (ap (λ (x : Refusal). Err x) e)) (λ b e. a.bad text b told (ap (λ (x : Refusal). Err x) e))
       (λ u e. a.unfit text u told (ap (λ (x : Refusal). Err x) e)) (λ e. three (o.refused.0 ∙ e)) (λ e. four (o.refused.0 ∙ e)) (λ e. seven (o.refused.0 ∙ e))
 
-  read_fault : (answered : Result Finish Refusal) → Answered serial job left read_faults source source' taken write_faults out out' answered → IsOutcome answered said_to err_faults err err' status rounds → status ≡ 3 → Rose (read_faults source) (read_faults source')
+  read_fault : (answered : Result RunEnd Refusal) → Answered serial job left read_faults source source' taken write_faults out out' answered → IsOutcome answered said_to err_faults err err' status rounds → status ≡ 3 → Rose (read_faults source) (read_faults source')
   read_fault (Ok f) a o three = absurd (no_other f 3 o (omega arith) (λ e. omega (arith, e)) three)
   read_fault (Err r) a o three = a.read_fault (ap (λ (x : Refusal). Err x) (is_read_fault r (sym o.refused.0 ∙ three)))
 
-  write_fault : (answered : Result Finish Refusal) → Answered serial job left read_faults source source' taken write_faults out out' answered → IsOutcome answered said_to err_faults err err' status rounds → status ≡ 4 → Rose (write_faults out) (write_faults out')
+  write_fault : (answered : Result RunEnd Refusal) → Answered serial job left read_faults source source' taken write_faults out out' answered → IsOutcome answered said_to err_faults err err' status rounds → status ≡ 4 → Rose (write_faults out) (write_faults out')
   write_fault (Ok f) a o four =
       elim (ends f o) [ inl w ↦ absurd (low_not status 4 (omega arith) w.fact.1 four) | inr u ↦ failed u a.write_fault ]
   write_fault (Err r) a o four = absurd (not_four r a.kinds o four)
 
   -- the source has failed only where that is the answer
-  no_read_fault : (answered : Result Finish Refusal) → Answered serial job left read_faults source source' taken write_faults out out' answered → IsOutcome answered said_to err_faults err err' status rounds
+  no_read_fault : (answered : Result RunEnd Refusal) → Answered serial job left read_faults source source' taken write_faults out out' answered → IsOutcome answered said_to err_faults err err' status rounds
       → status ≢ 3 → read_faults source' ≡ read_faults source
   no_read_fault (Ok f) a o three = a.no_read_fault (λ e. cc)
   no_read_fault (Err r) a o three = a.no_read_fault (λ e. three (o.refused.0 ∙ ap status_of (same_Err r refusal.ReadFault e) ∙ read_fault_is))
 
   -- the sink has failed only where that is the answer
-  no_write_fault : (answered : Result Finish Refusal) → Answered serial job left read_faults source source' taken write_faults out out' answered → IsOutcome answered said_to err_faults err err' status rounds
+  no_write_fault : (answered : Result RunEnd Refusal) → Answered serial job left read_faults source source' taken write_faults out out' answered → IsOutcome answered said_to err_faults err err' status rounds
       → status ≢ 4 → write_faults out' ≡ write_faults out
   no_write_fault (Ok f) a o four = elim (ends f o) [ inl w ↦ did w a.no_write_fault | inr u ↦ absurd (four u.fact.0) ]
   no_write_fault (Err r) a o four = ap write_faults a.no_answer
 
-  read_whole : (answered : Result Finish Refusal) → Answered serial job left read_faults source source' taken write_faults out out' answered → IsOutcome answered said_to err_faults err err' status rounds → (text : List ℕ) → left source ≡ Some text → reads job ≡ true
+  read_whole : (answered : Result RunEnd Refusal) → Answered serial job left read_faults source source' taken write_faults out out' answered → IsOutcome answered said_to err_faults err err' status rounds → (text : List ℕ) → left source ≡ Some text → reads job ≡ true
       → status ≢ 3 → status ≢ 7 → left source' ≡ Some (drop 16777217 text)
   read_whole (Ok f) a o text told r three seven = a.read_whole text told r
   read_whole (Err x) a o text told r three seven =
@@ -134,7 +134,7 @@ module _ {serial : Command → Bool} {job : Option Command} {S K E : Type 0} {le
       no_job : job ≡ None → reads job ≡ true → ⊥
       no_job none r = (let e : false ≡ true = sym (ap reads none) ∙ r in cc)
 
-  answer : (answered : Result Finish Refusal) → Answered serial job left read_faults source source' taken write_faults out out' answered → IsOutcome answered said_to err_faults err err' status rounds → (text : List ℕ) → Told job (left source) text → (status ≡ 0) ⊎ (status ≡ 1)
+  answer : (answered : Result RunEnd Refusal) → Answered serial job left read_faults source source' taken write_faults out out' answered → IsOutcome answered said_to err_faults err err' status rounds → (text : List ℕ) → Told job (left source) text → (status ≡ 0) ⊎ (status ≡ 1)
       → Wrote serial job text (λ bytes. taken out' ≡ after (taken out) bytes)
   answer (Ok f) a o text told low =
       elim (ends f o) [
@@ -145,7 +145,7 @@ module _ {serial : Command → Bool} {job : Option Command} {S K E : Type 0} {le
       ]
   answer (Err r) a o text told low = absurd (not_low r o low)
 
-  front : (answered : Result Finish Refusal) → Answered serial job left read_faults source source' taken write_faults out out' answered → IsOutcome answered said_to err_faults err err' status rounds → (text : List ℕ) → Told job (left source) text → status ≡ 4
+  front : (answered : Result RunEnd Refusal) → Answered serial job left read_faults source source' taken write_faults out out' answered → IsOutcome answered said_to err_faults err err' status rounds → (text : List ℕ) → Told job (left source) text → status ≡ 4
       → Wrote serial job text (λ bytes. IsFront (taken out') (after (taken out) bytes))
   front (Ok f) a o text told four =
       elim (ends f o) [
@@ -156,7 +156,7 @@ module _ {serial : Command → Bool} {job : Option Command} {S K E : Type 0} {le
       ]
   front (Err r) a o text told four = absurd (not_four r a.kinds o four)
 
-  no_answer : (answered : Result Finish Refusal) → Answered serial job left read_faults source source' taken write_faults out out' answered → IsOutcome answered said_to err_faults err err' status rounds → status ≢ 0 → status ≢ 1 → status ≢ 4 → out' ≡ out
+  no_answer : (answered : Result RunEnd Refusal) → Answered serial job left read_faults source source' taken write_faults out out' answered → IsOutcome answered said_to err_faults err err' status rounds → status ≢ 0 → status ≢ 1 → status ≢ 4 → out' ≡ out
   no_answer (Ok f) a o nought one four = absurd (only_refused f o nought one four)
   no_answer (Err r) a o nought one four = a.no_answer
 
@@ -168,7 +168,7 @@ module _ {serial : Command → Bool} {job : Option Command} {S K E : Type 0} {le
       (λ b e. a.bad text b (told (inl (o.refused.0 ∙ ap status_of e ∙ bad_is b))) (ap (λ (x : Refusal). Err x) e))
       (λ u e. a.unfit text u (told (inr (o.refused.0 ∙ ap status_of e ∙ unfit_is u))) (ap (λ (x : Refusal). Err x) e))
 
-  said_whole : (answered : Result Finish Refusal) → Answered serial job left read_faults source source' taken write_faults out out' answered → IsOutcome answered said_to err_faults err err' status rounds → (text : List ℕ) → ((status ≡ 5) ⊎ (status ≡ 6) → Told job (left source) text)
+  said_whole : (answered : Result RunEnd Refusal) → Answered serial job left read_faults source source' taken write_faults out out' answered → IsOutcome answered said_to err_faults err err' status rounds → (text : List ℕ) → ((status ≡ 5) ⊎ (status ≡ 6) → Told job (left source) text)
       → ¬ Rose (err_faults err) (err_faults err') → said_to err' ≡ after (said_to err) (said status (answer_to serial job text))
   said_whole (Ok f) a o text told calm =
       elim (ends f o) [
@@ -177,7 +177,7 @@ module _ {serial : Command → Bool} {job : Option Command} {S K E : Type 0} {le
       ]
   said_whole (Err r) a o text told calm = o.refused.1 calm ∙ ap (after (said_to err)) (sym (said_of r a o text told))
 
-  said_front : (answered : Result Finish Refusal) → Answered serial job left read_faults source source' taken write_faults out out' answered → IsOutcome answered said_to err_faults err err' status rounds → (text : List ℕ) → ((status ≡ 5) ⊎ (status ≡ 6) → Told job (left source) text)
+  said_front : (answered : Result RunEnd Refusal) → Answered serial job left read_faults source source' taken write_faults out out' answered → IsOutcome answered said_to err_faults err err' status rounds → (text : List ℕ) → ((status ≡ 5) ⊎ (status ≡ 6) → Told job (left source) text)
       → IsFront (said_to err') (after (said_to err) (said status (answer_to serial job text)))
   said_front (Ok f) a o text told =
       elim (ends f o) [
@@ -187,30 +187,30 @@ module _ {serial : Command → Bool} {job : Option Command} {S K E : Type 0} {le
       ]
   said_front (Err r) a o text told = subst (λ (all : List ℕ). IsFront (said_to err') (after (said_to err) all)) (sym (said_of r a o text told)) o.refused.2
 
-  silent : (answered : Result Finish Refusal) → Answered serial job left read_faults source source' taken write_faults out out' answered → IsOutcome answered said_to err_faults err err' status rounds → (status ≡ 0) ⊎ (status ≡ 1) → err' ≡ err
+  silent : (answered : Result RunEnd Refusal) → Answered serial job left read_faults source source' taken write_faults out out' answered → IsOutcome answered said_to err_faults err err' status rounds → (status ≡ 0) ⊎ (status ≡ 1) → err' ≡ err
   silent (Ok f) a o low =
       elim (ends f o) [ inl w ↦ w.fact.2 | inr u ↦ absurd (elim low [ inl nought ↦ omega (arith, u.fact.0, nought) | inr one ↦ omega (arith, u.fact.0, one) ]) ]
   silent (Err r) a o low = absurd (not_low r o low)
 
   -- the rounds of an answer, and none of a refusal
-  rounds_told : (P : List ClosedRound → Type 0) (answered : Result Finish Refusal) → Answered serial job left read_faults source source' taken write_faults out out' answered → IsOutcome answered said_to err_faults err err' status rounds → IfOk answered (λ f. P f.rounds)
+  rounds_told : (P : List ClosedRound → Type 0) (answered : Result RunEnd Refusal) → Answered serial job left read_faults source source' taken write_faults out out' answered → IsOutcome answered said_to err_faults err err' status rounds → IfOk answered (λ f. P f.rounds)
       → (status ≡ 0) ⊎ (status ≡ 1) ⊎ (status ≡ 4) → P rounds
   rounds_told P (Ok f) a o p ended = subst P (sym o.told) p
   rounds_told P (Err r) a o p ended =
       absurd (elim ended [ inl nought ↦ not_low r o (inl nought) | inr more ↦ elim more [ inl one ↦ not_low r o (inr one) | inr four ↦ not_four r a.kinds o four ] ])
 
-  no_rounds : (answered : Result Finish Refusal) → Answered serial job left read_faults source source' taken write_faults out out' answered → IsOutcome answered said_to err_faults err err' status rounds → status ≢ 0 → status ≢ 1 → status ≢ 4 → rounds ≡ []
+  no_rounds : (answered : Result RunEnd Refusal) → Answered serial job left read_faults source source' taken write_faults out out' answered → IsOutcome answered said_to err_faults err err' status rounds → status ≢ 0 → status ≢ 1 → status ≢ 4 → rounds ≡ []
   no_rounds (Ok f) a o nought one four = absurd (only_refused f o nought one four)
   no_rounds (Err r) a o nought one four = o.no_rounds
 
   -- what holds of every refusal but want of memory
-  pub refusal_only : (P : Type 0) (answered : Result Finish Refusal) → Answered serial job left read_faults source source' taken write_faults out out' answered → IsOutcome answered said_to err_faults err err' status rounds → IfErr answered (λ r. r ≢ refusal.NoMemory → P)
+  pub refusal_only : (P : Type 0) (answered : Result RunEnd Refusal) → Answered serial job left read_faults source source' taken write_faults out out' answered → IsOutcome answered said_to err_faults err err' status rounds → IfErr answered (λ r. r ≢ refusal.NoMemory → P)
       → status ≢ 0 → status ≢ 1 → status ≢ 4 → status ≢ 7 → P
   refusal_only P (Ok f) a o p nought one four seven = absurd (only_refused f o nought one four)
   refusal_only P (Err r) a o p nought one four seven = p (λ memory. seven (o.refused.0 ∙ ap status_of memory ∙ memory_is))
 
   -- where the run came to its end, it was answered
-  pub is_ended : (answered : Result Finish Refusal) → Answered serial job left read_faults source source' taken write_faults out out' answered → IsOutcome answered said_to err_faults err err' status rounds
+  pub is_ended : (answered : Result RunEnd Refusal) → Answered serial job left read_faults source source' taken write_faults out out' answered → IsOutcome answered said_to err_faults err err' status rounds
       → (status ≡ 0) ⊎ (status ≡ 1) ⊎ (status ≡ 4) → IsOk answered
   is_ended (Ok f) a o s = refl
   is_ended (Err r) a o s =
@@ -221,7 +221,7 @@ module _ {serial : Command → Bool} {job : Option Command} {S K E : Type 0} {le
 
 -- all of it together
 pub is_run : {S K E : Type 0} (serial : Command → Bool) (words : List (List ℕ)) (left : S → Option (List ℕ)) (read_faults : S → ℕ) (source source' : S) (taken : K → Option (List ℕ)) (write_faults : K → ℕ) (out out' : K)
-    (said_to : E → Option (List ℕ)) (err_faults : E → ℕ) (err err' : E) (status : ℕ) (rounds : List ClosedRound) (answered : Result Finish Refusal)
+    (said_to : E → Option (List ℕ)) (err_faults : E → ℕ) (err err' : E) (status : ℕ) (rounds : List ClosedRound) (answered : Result RunEnd Refusal)
     → Answered serial (command_of words) left read_faults source source' taken write_faults out out' answered → IsOutcome answered said_to err_faults err err' status rounds
     → IsRun serial words left read_faults source source' taken write_faults out out' said_to err_faults err err' status rounds
 is_run serial words left read_faults source source' taken write_faults out out' said_to err_faults err err' status rounds answered a o = record {

@@ -4,7 +4,7 @@ use Rattle.std.specs.Result.{IsErrAnd}
 use Rattle.bale_types.specs.Stream.{after, HasCause, IsFront, Rose}
 use Rattle.rank_group.specs.declared.closed_round.ClosedRound.{ClosedRound}
 use Rattle.bale_words.specs.declared.command.Command.{Command}
-use Rattle.bale_runs.specs.declared.exchange.Finish.{Finish}
+use Rattle.bale_runs.specs.declared.exchange.RunEnd.{RunEnd}
 use Rattle.bale_subjects.specs.declared.refusal.BadText.{BadText}
 use Rattle.bale_subjects.specs.declared.refusal.Refusal.{Refusal}
 use Rattle.bale_subjects.specs.declared.refusal.Refusal.TheVariants as refusal
@@ -18,7 +18,7 @@ use Rattle.bale_runs.specs.Asking.{TellsCommand}
 -- An answer, or why there is none: what the words ask for (`job`), of a source before and after, on a sink before and after. `left` is what
 -- a source tells of what it has left, `taken` what a sink tells of what it has taken, and each counts its own faults.
 pub record Answered {S K : Type 0} (serial : Command → Bool) (job : Option Command) (left : S → Option (List ℕ)) (read_faults : S → ℕ) (source source' : S)
-    (taken : K → Option (List ℕ)) (write_faults : K → ℕ) (out out' : K) (answered : Result Finish Refusal) : Type 0 where
+    (taken : K → Option (List ℕ)) (write_faults : K → ℕ) (out out' : K) (answered : Result RunEnd Refusal) : Type 0 where
   pub usage : answered ≡ Err refusal.Usage → job ≡ None
   pub no_command : job ≡ None → IsErrAnd answered (λ r. (r ≡ refusal.Usage) ⊎ (r ≡ refusal.NoMemory))
   pub read_fault : answered ≡ Err refusal.ReadFault → Rose (read_faults source) (read_faults source')
@@ -41,7 +41,7 @@ pub record Answered {S K : Type 0} (serial : Command → Bool) (job : Option Com
       IfOk answered (λ f. TellsCommand (serial c) c s f.rounds)
 
 -- How an answer is told, or why there is none: the status, the rounds, and what is said on a sink before and after.
-pub record IsOutcome {E : Type 0} (answered : Result Finish Refusal) (taken : E → Option (List ℕ)) (faults : E → ℕ) (err err' : E) (status : ℕ) (rounds : List ClosedRound) : Type 0 where
+pub record IsOutcome {E : Type 0} (answered : Result RunEnd Refusal) (taken : E → Option (List ℕ)) (faults : E → ℕ) (err err' : E) (status : ℕ) (rounds : List ClosedRound) : Type 0 where
   pub told : IfOk answered (λ f. rounds ≡ f.rounds)
   pub no_rounds : OnErr answered (rounds ≡ [])
   pub written : IfOk answered (λ f. OnOk f.ending.written ((status ≡ f.ending.status) × (status ≤ 1) × (err' ≡ err)))

@@ -6,7 +6,7 @@ ghost use Rattle.bale_runs.specs.Jobs.{as_asked, on_one_thread};
 ghost use Rattle.bale_cli.specs.Outcomes.{Answered, IsOutcome};
 ghost use Rattle.bale_cli.specs.Run.{AreFewest, AreTurns, IsRun};
 
-use bale_runs::{Finish, drives_serially, ran, ran_serially};
+use bale_runs::{RunEnd, drives_serially, run_command, run_serially};
 use bale_subjects::{Refusal, Subject, read_words, report, subject_for};
 use bale_types::{Sink, Source};
 use bale_words::Command;
@@ -80,12 +80,12 @@ pub fn run_serial<S: Source, K: Sink, E: Sink, L: Ledger>(
 }
 
 /// How a run ended, which is said on `err` where there is no answer.
-fn outcome_of<E: Sink>(alloc: Global, answered: Result<Finish, Refusal>, err: &mut E) -> Outcome
+fn outcome_of<E: Sink>(alloc: Global, answered: Result<RunEnd, Refusal>, err: &mut E) -> Outcome
     requires low { IfOk answered (λ f. f.ending.status ≤ 1) }
     ensures { IsOutcome answered E.taken E.faults err.old err.new result.status result.rounds }
 {
     match answered {
-        Ok(Finish { ending, rounds }) => match ending.written {
+        Ok(RunEnd { ending, rounds }) => match ending.written {
             Ok(()) => Outcome {
                 status: ending.status,
                 rounds,
@@ -113,7 +113,7 @@ fn answer<R: Threads + Wait + Clock + Sync, S: Source, K: Sink, G: Gate + Sync>(
     source: &mut S,
     out: &mut K,
     gate: &G,
-) -> Result<Finish, Refusal>
+) -> Result<RunEnd, Refusal>
     ensures { Answered as_asked (command_of (map string_bytes words.now))
         S.left S.faults source.old source.new K.taken K.faults out.old out.new result }
 {
@@ -131,14 +131,14 @@ fn answer_of<R: Threads + Wait + Clock + Sync, S: Source, K: Sink, G: Gate + Syn
     source: &mut S,
     out: &mut K,
     gate: &G,
-) -> Result<Finish, Refusal>
+) -> Result<RunEnd, Refusal>
     requires ranges { InRanges command.now }
     ensures { Answered as_asked (Some command.now) S.left S.faults source.old source.new
         K.taken K.faults out.old out.new result }
 {
     let serial = drives_serially(command);
     match subject_for(alloc, command, source, serial) {
-        Ok(subject) => ran(rt, alloc, command, &subject, out, gate),
+        Ok(subject) => run_command(rt, alloc, command, &subject, out, gate),
         Err(refusal) => Err(refusal),
     }
 }
@@ -150,7 +150,7 @@ fn answer_serially<S: Source, K: Sink, L: Ledger>(
     source: &mut S,
     out: &mut K,
     steps: &mut Steps<L>,
-) -> Result<Finish, Refusal>
+) -> Result<RunEnd, Refusal>
     ensures answered { Answered on_one_thread (command_of (map string_bytes words.now))
         S.left S.faults source.old source.new K.taken K.faults out.old out.new result }
     ensures turns { AreTurns (S.left source.old) (command_of (map string_bytes words.now)) steps.old steps.new }
@@ -170,7 +170,7 @@ fn answer_of_serially<S: Source, K: Sink, L: Ledger>(
     source: &mut S,
     out: &mut K,
     steps: &mut Steps<L>,
-) -> Result<Finish, Refusal>
+) -> Result<RunEnd, Refusal>
     requires ranges { InRanges command.now }
     ensures answered { Answered on_one_thread (Some command.now) S.left S.faults source.old source.new
         K.taken K.faults out.old out.new result }
@@ -179,7 +179,7 @@ fn answer_of_serially<S: Source, K: Sink, L: Ledger>(
     ensures fewest { AreFewest (S.left source.old) (Some command.now) (IsOk result) steps.old steps.new }
 {
     match subject_for(alloc, command, source, true) {
-        Ok(subject) => ran_serially(alloc, command, &subject, out, steps),
+        Ok(subject) => run_serially(alloc, command, &subject, out, steps),
         Err(refusal) => Err(refusal),
     }
 }

@@ -13,12 +13,12 @@ use Rattle.rank_group.specs.Told.{Made, TellsRun, turns_within}
 use Rattle.bale_words.specs.declared.task.Task.{Task}
 use Rattle.app_cases.specs.Any.{AnyState, any_rules}
 use Rattle.app_cases.proofs.Driving.{steps, are_cases, ended, rounds}
-use Rattle.bale_runs.specs.declared.exchange.Finish.{Finish}
+use Rattle.bale_runs.specs.declared.exchange.RunEnd.{RunEnd}
 use Rattle.bale_subjects.specs.declared.refusal.Refusal.{Refusal}
 use Rattle.bale_subjects.specs.declared.refusal.Refusal.TheVariants as refusal
-use Rattle.bale_answers.specs.Endings.{IsEnding}
+use Rattle.bale_answers.specs.AnswerEnds.{IsAnswerEnd}
 use Rattle.bale_words.specs.declared.command.Command.{Command}
-use Rattle.bale_runs.specs.Finishes.{IsFinish}
+use Rattle.bale_runs.specs.RunEnds.{IsRunEnd}
 use Rattle.bale_subjects.specs.declared.subject.Subject.{Subject}
 use Rattle.bale_answers.specs.Tasks.{plan_of, way_of, starts_of}
 use Rattle.bale_runs.specs.Runs.{HaveRun, Tells, TellsTask, WithinTurns, TurnsOfTask, BeyondTurns, FewestOfTask}
@@ -93,17 +93,17 @@ pub none_made : (t : Task) (s : Subject) (manner : Manner) (dims : List ℕ) (be
 none_made t s manner dims before after e = λ n h. few _ e
 
 -- where the rounds of a run are those that were told
-pub rounds_as : (P : List ClosedRound → Type 0) {rs : List ClosedRound} (r : Result Finish Refusal) → IfOk r (λ f. f.rounds ≡ rs) → P rs → IfOk r (λ f. P f.rounds)
+pub rounds_as : (P : List ClosedRound → Type 0) {rs : List ClosedRound} (r : Result RunEnd Refusal) → IfOk r (λ f. f.rounds ≡ rs) → P rs → IfOk r (λ f. P f.rounds)
 rounds_as P (Ok f) e p = subst P (sym e) p
 rounds_as P (Err x) e p = tt
 
 -- a run that found no memory, before anything was written
 pub refused : {K : Type 0} (c : Command) (s : Subject) (tells : List ClosedRound → Type 0) (taken : K → Option (List ℕ)) (faults : K → ℕ) (out out' : K) → out' ≡ out
-    → IsFinish c s tells taken faults out out' (Err refusal.NoMemory)
+    → IsRunEnd c s tells taken faults out out' (Err refusal.NoMemory)
 refused c s tells taken faults out out' same = record { ending = tt; rounds = tt; memory = refl; no_answer = same }
 
 -- a run that was driven and then told
-pub finish : {K : Type 0} (c : Command) (s : Subject) (tells : List ClosedRound → Type 0) (taken : K → Option (List ℕ)) (faults : K → ℕ) (out out' : K) (r : Result Finish Refusal) {rs : List ClosedRound}
-    → IfOk r (λ f. IsEnding c.task s c.travel.generated taken faults out out' f.ending) → IfOk r (λ f. f.rounds ≡ rs) → IfErr r (λ e. e ≡ refusal.NoMemory) → OnErr r (out' ≡ out) → tells rs
-    → IsFinish c s tells taken faults out out' r
+pub finish : {K : Type 0} (c : Command) (s : Subject) (tells : List ClosedRound → Type 0) (taken : K → Option (List ℕ)) (faults : K → ℕ) (out out' : K) (r : Result RunEnd Refusal) {rs : List ClosedRound}
+    → IfOk r (λ f. IsAnswerEnd c.task s c.travel.generated taken faults out out' f.ending) → IfOk r (λ f. f.rounds ≡ rs) → IfErr r (λ e. e ≡ refusal.NoMemory) → OnErr r (out' ≡ out) → tells rs
+    → IsRunEnd c s tells taken faults out out' r
 finish c s tells taken faults out out' r ending rounds memory same told = record { ending = ending; rounds = rounds_as tells r rounds told; memory = memory; no_answer = same }

@@ -1,4 +1,4 @@
 pub mod Asking
-pub mod Finishes
+pub mod RunEnds
 pub mod Jobs
 pub mod Runs

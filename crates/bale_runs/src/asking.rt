@@ -12,16 +12,16 @@ ghost use Rattle.app_histo_ig.specs.SumsRuns.{sums_starts};
 ghost use Rattle.app_histo_ig.specs.AskingRuns.{AreAskersOf};
 ghost use Rattle.app_histo_ig.specs.ColumnAnswers.{IgHeard};
 ghost use Rattle.bale_words.specs.Ranges.{InRanges};
-ghost use Rattle.bale_answers.specs.Endings.{IsEnding};
+ghost use Rattle.bale_answers.specs.AnswerEnds.{IsAnswerEnd};
 ghost use Rattle.bale_runs.specs.Asking.{TellsReplies, TellsBy, TurnsBy, TurnsOfAsking, FewestBy};
-ghost use Rattle.bale_runs.specs.Finishes.{Fits, IsFinish};
+ghost use Rattle.bale_runs.specs.RunEnds.{Fits, IsRunEnd};
 ghost use Rattle.bale_runs.specs.Jobs.{by_asking};
 ghost use Rattle.bale_runs.specs.Runs.{made_for, Tells};
 
-use crate::exchange::Finish;
+use crate::exchange::RunEnd;
 use app_cases::{AnyProgram, put_all, take_all};
 use app_histo_ig::{IgAsker, IgSums, ig_askers, ig_sums_start};
-use bale_answers::finished_by_asking;
+use bale_answers::finish_by_asking;
 use bale_subjects::{Refusal, Subject, in_order};
 use bale_types::{NoMemory, Sink};
 use bale_words::{Command, Task, Travel};
@@ -37,96 +37,96 @@ use std::thread::Threads;
 use std::time::Clock;
 
 /// Runs a command that goes by asking, and writes its answer.
-pub(crate) fn asked_serially<K: Sink, L: Ledger>(
+pub(crate) fn ask_serially<K: Sink, L: Ledger>(
     alloc: Global,
     command: &Command,
     subject: &Subject,
     out: &mut K,
     steps: &mut Steps<L>,
-) -> Result<Finish, Refusal>
+) -> Result<RunEnd, Refusal>
     requires asking { by_asking command.now ≡ true }
     requires fit { Fits command.now subject.now true }
-    ensures finish { IsFinish command.now subject.now (TellsBy true command.now subject.now
+    ensures finish { IsRunEnd command.now subject.now (TellsBy true command.now subject.now
         (made_for true command.now)) K.taken K.faults out.old out.new result }
     ensures steps { TurnsBy true command.now subject.now steps.old steps.new }
     ensures fewest { IfOk result (λ f. FewestBy true command.now subject.now steps.old steps.new) }
 {
     match subject {
-        Subject::Matrix(m) => heard_serially(alloc, command, m, out, steps),
+        Subject::Matrix(m) => ask_matrix_serially(alloc, command, m, out, steps),
         Subject::Lines(_) => unreachable!(),
     }
 }
 
 /// The same on threads.
-pub(crate) fn asked_on_threads<R: Threads + Wait + Clock + Sync, K: Sink, G: Gate + Sync>(
+pub(crate) fn ask_on_threads<R: Threads + Wait + Clock + Sync, K: Sink, G: Gate + Sync>(
     rt: &R,
     alloc: Global,
     command: &Command,
     subject: &Subject,
     out: &mut K,
     gate: &G,
-) -> Result<Finish, Refusal>
+) -> Result<RunEnd, Refusal>
     requires asking { by_asking command.now ≡ true }
     requires fit { Fits command.now subject.now false }
-    ensures finish { IsFinish command.now subject.now (TellsBy true command.now subject.now
+    ensures finish { IsRunEnd command.now subject.now (TellsBy true command.now subject.now
         (made_for false command.now)) K.taken K.faults out.old out.new result }
 {
     match subject {
-        Subject::Matrix(m) => heard_on_threads(rt, alloc, command, m, out, gate),
+        Subject::Matrix(m) => ask_matrix_on_threads(rt, alloc, command, m, out, gate),
         Subject::Lines(_) => unreachable!(),
     }
 }
 
 /// The three closed rounds of a matrix, and then the answer, by the askers after each has heard its replies.
-fn heard_serially<K: Sink, L: Ledger>(
+fn ask_matrix_serially<K: Sink, L: Ledger>(
     alloc: Global,
     command: &Command,
     m: &Matrix,
     out: &mut K,
     steps: &mut Steps<L>,
-) -> Result<Finish, Refusal>
+) -> Result<RunEnd, Refusal>
     requires asking { by_asking command.now ≡ true }
     requires ranges { InRanges command.now }
-    ensures finish { IsFinish command.now (Subject.Matrix m.now) (TellsBy true command.now (Subject.Matrix m.now)
+    ensures finish { IsRunEnd command.now (Subject.Matrix m.now) (TellsBy true command.now (Subject.Matrix m.now)
         (made_for true command.now)) K.taken K.faults out.old out.new result }
     ensures steps { TurnsOfAsking m.now command.now.travel.steady command.now.grid
         steps.old steps.new }
     ensures fewest { IfOk result (λ f. steps.old + 3 * ranks command.now.grid ≤ steps.new) }
 {
-    let summed = summed_serially(alloc, command, m, steps)?;
+    let summed = sum_serially(alloc, command, m, steps)?;
     let Finished {
         progs,
         rounds: sums,
     } = summed;
-    let replied = replied_serially(alloc, command, m, progs, steps)?;
-    told(command, m, sums, replied, out)
+    let replied = hear_serially(alloc, command, m, progs, steps)?;
+    finish_asking(command, m, sums, replied, out)
 }
 
 /// The same on threads.
-fn heard_on_threads<R: Threads + Wait + Clock + Sync, K: Sink, G: Gate + Sync>(
+fn ask_matrix_on_threads<R: Threads + Wait + Clock + Sync, K: Sink, G: Gate + Sync>(
     rt: &R,
     alloc: Global,
     command: &Command,
     m: &Matrix,
     out: &mut K,
     gate: &G,
-) -> Result<Finish, Refusal>
+) -> Result<RunEnd, Refusal>
     requires asking { by_asking command.now ≡ true }
     requires ranges { InRanges command.now }
-    ensures finish { IsFinish command.now (Subject.Matrix m.now) (TellsBy true command.now (Subject.Matrix m.now)
+    ensures finish { IsRunEnd command.now (Subject.Matrix m.now) (TellsBy true command.now (Subject.Matrix m.now)
         (made_for false command.now)) K.taken K.faults out.old out.new result }
 {
-    let summed = summed_on_threads(rt, alloc, command, m, gate)?;
+    let summed = sum_on_threads(rt, alloc, command, m, gate)?;
     let Finished {
         progs,
         rounds: sums,
     } = summed;
-    let replied = replied_on_threads(rt, alloc, command, m, progs, gate)?;
-    told(command, m, sums, replied, out)
+    let replied = hear_on_threads(rt, alloc, command, m, progs, gate)?;
+    finish_asking(command, m, sums, replied, out)
 }
 
 /// The programs that have summed the columns in their one round, and that round.
-fn summed_serially<L: Ledger>(
+fn sum_serially<L: Ledger>(
     alloc: Global,
     command: &Command,
     m: &Matrix,
@@ -149,7 +149,7 @@ fn summed_serially<L: Ledger>(
         steady,
         ..
     } = command.travel;
-    let progs = summing(alloc, m, grid.ranks())?;
+    let progs = start_sums(alloc, m, grid.ranks())?;
     let order = in_order(alloc, grid.ranks())?;
     case_serial(
         alloc,
@@ -165,7 +165,7 @@ fn summed_serially<L: Ledger>(
 }
 
 /// The same on threads.
-fn summed_on_threads<R: Threads + Wait + Clock + Sync, G: Gate + Sync>(
+fn sum_on_threads<R: Threads + Wait + Clock + Sync, G: Gate + Sync>(
     rt: &R,
     alloc: Global,
     command: &Command,
@@ -185,7 +185,7 @@ fn summed_on_threads<R: Threads + Wait + Clock + Sync, G: Gate + Sync>(
         steady,
         ..
     } = command.travel;
-    let progs = summing(alloc, m, grid.ranks())?;
+    let progs = start_sums(alloc, m, grid.ranks())?;
     case_threads(
         rt,
         alloc,
@@ -200,7 +200,7 @@ fn summed_on_threads<R: Threads + Wait + Clock + Sync, G: Gate + Sync>(
 }
 
 /// The askers that these programs leave, after each has heard its replies, and the rounds of the queries and the replies.
-fn replied_serially<L: Ledger>(
+fn hear_serially<L: Ledger>(
     alloc: Global,
     command: &Command,
     m: &Matrix,
@@ -224,12 +224,12 @@ fn replied_serially<L: Ledger>(
         ..
     } = command.travel;
     let order = in_order(alloc, grid.ranks())?;
-    let askers = asking(alloc, m, added)?;
+    let askers = start_askers(alloc, m, added)?;
     bi_serial(alloc, grid, buffer, slots, steady, &order, askers, steps)
 }
 
 /// The same on threads.
-fn replied_on_threads<R: Threads + Wait + Clock + Sync, G: Gate + Sync>(
+fn hear_on_threads<R: Threads + Wait + Clock + Sync, G: Gate + Sync>(
     rt: &R,
     alloc: Global,
     command: &Command,
@@ -252,12 +252,12 @@ fn replied_on_threads<R: Threads + Wait + Clock + Sync, G: Gate + Sync>(
         steady,
         ..
     } = command.travel;
-    let askers = asking(alloc, m, added)?;
+    let askers = start_askers(alloc, m, added)?;
     bi_threads(rt, alloc, grid, buffer, slots, steady, askers, gate)
 }
 
 /// The programs that sum the columns of a matrix, on so many ranks, from 1 to 64.
-fn summing(alloc: Global, m: &Matrix, ranks: u32) -> Result<Progs<AnyProgram>, NoMemory>
+fn start_sums(alloc: Global, m: &Matrix, ranks: u32) -> Result<Progs<AnyProgram>, NoMemory>
     requires some { 1 ≤ ranks }
     requires few { ranks ≤ 64 }
     ensures starts { IfOk result (λ ps. ps ≡ map sums_way.case (sums_starts ranks m.now)) }
@@ -269,7 +269,11 @@ fn summing(alloc: Global, m: &Matrix, ranks: u32) -> Result<Progs<AnyProgram>, N
 }
 
 /// The askers that these programs leave.
-fn asking(alloc: Global, m: &Matrix, progs: Progs<AnyProgram>) -> Result<Progs<IgAsker>, NoMemory>
+fn start_askers(
+    alloc: Global,
+    m: &Matrix,
+    progs: Progs<AnyProgram>,
+) -> Result<Progs<IgAsker>, NoMemory>
     requires ended { (ranks : ℕ) × (1 ≤ ranks)
         × HaveEnded any_rules (map sums_way.case (sums_starts ranks m.now)) progs }
     ensures askers { (ranks : ℕ) → 1 ≤ ranks → HaveEnded any_rules (map sums_way.case (sums_starts ranks m.now)) progs
@@ -281,16 +285,16 @@ fn asking(alloc: Global, m: &Matrix, progs: Progs<AnyProgram>) -> Result<Progs<I
 }
 
 /// The end of a run by asking: its rounds are put together, and then its answer is written.
-fn told<K: Sink>(
+fn finish_asking<K: Sink>(
     command: &Command,
     m: &Matrix,
     sums: Rounds,
     replied: Finished<IgAsker>,
     out: &mut K,
-) -> Result<Finish, Refusal>
+) -> Result<RunEnd, Refusal>
     requires task { command.now.task ≡ Task.Ig }
     requires heard { IgHeard m.now replied.progs }
-    ensures ending { IfOk result (λ f. IsEnding command.now.task (Subject.Matrix m.now) command.now.travel.generated
+    ensures ending { IfOk result (λ f. IsAnswerEnd command.now.task (Subject.Matrix m.now) command.now.travel.generated
         K.taken K.faults out.old out.new f.ending) }
     ensures rounds { IfOk result (λ f. f.rounds ≡ sums ++ replied.rounds) }
     ensures memory { IfErr result (λ r. r ≡ Refusal.NoMemory) }
@@ -302,6 +306,6 @@ fn told<K: Sink>(
     } = replied;
     let mut rounds = sums;
     rounds.append(exchanged)?;
-    let ending = finished_by_asking(m, &progs, command.travel.generated, out);
-    Ok(Finish { ending, rounds })
+    let ending = finish_by_asking(m, &progs, command.travel.generated, out);
+    Ok(RunEnd { ending, rounds })
 }

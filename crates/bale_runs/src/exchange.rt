@@ -1,14 +1,14 @@
 //! The run of a command for its subject: the programs, driven, and then the answer, written.
 ghost use Rattle.std.specs.Prelude.{◌≡◌, ◌<◌, Bool, true, false, OnErr, IfOk, IfErr};
-ghost use Rattle.bale_answers.specs.Endings.{IsEnding};
+ghost use Rattle.bale_answers.specs.AnswerEnds.{IsAnswerEnd};
 ghost use Rattle.bale_runs.specs.Asking.{TellsCommand, TurnsOfCommand, FewestOfCommand};
-ghost use Rattle.bale_runs.specs.Finishes.{Fits, IsFinish};
+ghost use Rattle.bale_runs.specs.RunEnds.{Fits, IsRunEnd};
 ghost use Rattle.bale_runs.specs.Jobs.{as_asked, by_asking, via_of, manner_for};
 ghost use Rattle.bale_runs.specs.Runs.{made_for, HaveRun, TellsTask, TurnsOfTask, FewestOfTask};
 
-use crate::asking::{asked_on_threads, asked_serially};
+use crate::asking::{ask_on_threads, ask_serially};
 use app_cases::AnyProgram;
-use bale_answers::{Ending, finished, started};
+use bale_answers::{AnswerEnd, finish_task, start_task};
 use bale_subjects::{Refusal, Subject, in_order};
 use bale_types::{NoMemory, Sink};
 use bale_words::{Command, Driving, Task, Transport, Travel};
@@ -23,9 +23,9 @@ use std::time::Clock;
 
 /// A run that came to its end: how its answer was written, and what was exchanged.
 #[derive(Drop)]
-pub struct Finish {
+pub struct RunEnd {
     /// The answer's status, and whether it was written
-    pub ending: Ending,
+    pub ending: AnswerEnd,
     /// One closed round, or three for ig over biconvey
     pub rounds: Rounds,
 }
@@ -35,22 +35,22 @@ pub struct Finish {
 ///
 /// # Errors
 /// `NoMemory` where the programs, the drive or the answer found none: then nothing is written.
-pub fn ran<R: Threads + Wait + Clock + Sync, K: Sink, G: Gate + Sync>(
+pub fn run_command<R: Threads + Wait + Clock + Sync, K: Sink, G: Gate + Sync>(
     rt: &R,
     alloc: Global,
     command: &Command,
     subject: &Subject,
     out: &mut K,
     gate: &G,
-) -> Result<Finish, Refusal>
+) -> Result<RunEnd, Refusal>
     requires fit { Fits command.now subject.now (as_asked command.now) }
-    ensures { IsFinish command.now subject.now (TellsCommand (as_asked command.now) command.now subject.now)
+    ensures { IsRunEnd command.now subject.now (TellsCommand (as_asked command.now) command.now subject.now)
         K.taken K.faults out.old out.new result }
 {
     if drives_serially(command) {
-        ran_uncounted::<Brand, K>(alloc, command, subject, out, Blank::new(1))
+        run_uncounted::<Brand, K>(alloc, command, subject, out, Blank::new(1))
     } else {
-        ran_on_threads(rt, alloc, command, subject, out, gate)
+        run_on_threads(rt, alloc, command, subject, out, gate)
     }
 }
 
@@ -62,22 +62,22 @@ pub fn drives_serially(command: &Command) -> bool
 }
 
 /// A run on this thread whose turns nobody asks for.
-fn ran_uncounted<L: Ledger, K: Sink>(
+fn run_uncounted<L: Ledger, K: Sink>(
     alloc: Global,
     command: &Command,
     subject: &Subject,
     out: &mut K,
     blank: Blank,
-) -> Result<Finish, Refusal>
+) -> Result<RunEnd, Refusal>
     requires name { blank.name ≡ L.name }
     requires parts { blank.parts ≡ L.parts }
     requires some { 0 < L.parts }
     requires fit { Fits command.now subject.now true }
-    ensures { IsFinish command.now subject.now (TellsCommand true command.now subject.now)
+    ensures { IsRunEnd command.now subject.now (TellsCommand true command.now subject.now)
         K.taken K.faults out.old out.new result }
 {
     let mut steps = Steps::<L>::new(blank);
-    ran_serially(alloc, command, subject, out, &mut steps)
+    run_serially(alloc, command, subject, out, &mut steps)
 }
 
 /// Runs the command for its subject, all ranks on this thread, and writes its answer. Each turn of a rank raises `steps` by one.
@@ -85,43 +85,43 @@ fn ran_uncounted<L: Ledger, K: Sink>(
 ///
 /// # Errors
 /// `NoMemory` where the programs, the drive or the answer found none: then nothing is written.
-pub fn ran_serially<K: Sink, L: Ledger>(
+pub fn run_serially<K: Sink, L: Ledger>(
     alloc: Global,
     command: &Command,
     subject: &Subject,
     out: &mut K,
     steps: &mut Steps<L>,
-) -> Result<Finish, Refusal>
+) -> Result<RunEnd, Refusal>
     requires { Fits command.now subject.now true }
-    ensures finish { IsFinish command.now subject.now (TellsCommand true command.now subject.now)
+    ensures finish { IsRunEnd command.now subject.now (TellsCommand true command.now subject.now)
         K.taken K.faults out.old out.new result }
     ensures steps { TurnsOfCommand command.now subject.now steps.old steps.new }
     ensures fewest { IfOk result (λ f. FewestOfCommand command.now subject.now steps.old steps.new) }
 {
     if by_asking(command) {
-        asked_serially(alloc, command, subject, out, steps)
+        ask_serially(alloc, command, subject, out, steps)
     } else {
-        drove_serially(alloc, command, subject, out, steps)
+        exchange_serially(alloc, command, subject, out, steps)
     }
 }
 
 /// The same on threads.
-fn ran_on_threads<R: Threads + Wait + Clock + Sync, K: Sink, G: Gate + Sync>(
+fn run_on_threads<R: Threads + Wait + Clock + Sync, K: Sink, G: Gate + Sync>(
     rt: &R,
     alloc: Global,
     command: &Command,
     subject: &Subject,
     out: &mut K,
     gate: &G,
-) -> Result<Finish, Refusal>
+) -> Result<RunEnd, Refusal>
     requires { Fits command.now subject.now false }
-    ensures { IsFinish command.now subject.now (TellsCommand false command.now subject.now)
+    ensures { IsRunEnd command.now subject.now (TellsCommand false command.now subject.now)
         K.taken K.faults out.old out.new result }
 {
     if by_asking(command) {
-        asked_on_threads(rt, alloc, command, subject, out, gate)
+        ask_on_threads(rt, alloc, command, subject, out, gate)
     } else {
-        drove_on_threads(rt, alloc, command, subject, out, gate)
+        exchange_on_threads(rt, alloc, command, subject, out, gate)
     }
 }
 
@@ -133,44 +133,44 @@ fn by_asking(command: &Command) -> bool
 }
 
 /// The run of the application's programs on this thread.
-fn drove_serially<K: Sink, L: Ledger>(
+fn exchange_serially<K: Sink, L: Ledger>(
     alloc: Global,
     command: &Command,
     subject: &Subject,
     out: &mut K,
     steps: &mut Steps<L>,
-) -> Result<Finish, Refusal>
+) -> Result<RunEnd, Refusal>
     requires { Fits command.now subject.now true }
-    ensures finish { IsFinish command.now subject.now (TellsTask command.now.task subject.now
+    ensures finish { IsRunEnd command.now subject.now (TellsTask command.now.task subject.now
         (made_for true command.now) (manner_for command.now)) K.taken K.faults out.old out.new result }
     ensures steps { TurnsOfTask command.now.task subject.now
         (manner_for command.now) command.now.grid steps.old steps.new }
     ensures fewest { IfOk result (λ f. FewestOfTask command.now.task subject.now
         command.now.grid steps.old steps.new) }
 {
-    let run = driven_serially(alloc, command, subject, steps)?;
-    told(alloc, command, subject, run, out)
+    let run = drive_serially(alloc, command, subject, steps)?;
+    finish_run(alloc, command, subject, run, out)
 }
 
 /// The same on threads.
-fn drove_on_threads<R: Threads + Wait + Clock + Sync, K: Sink, G: Gate + Sync>(
+fn exchange_on_threads<R: Threads + Wait + Clock + Sync, K: Sink, G: Gate + Sync>(
     rt: &R,
     alloc: Global,
     command: &Command,
     subject: &Subject,
     out: &mut K,
     gate: &G,
-) -> Result<Finish, Refusal>
+) -> Result<RunEnd, Refusal>
     requires { Fits command.now subject.now false }
-    ensures { IsFinish command.now subject.now (TellsTask command.now.task subject.now
+    ensures { IsRunEnd command.now subject.now (TellsTask command.now.task subject.now
         (made_for false command.now) (manner_for command.now)) K.taken K.faults out.old out.new result }
 {
-    let run = driven_on_threads(rt, alloc, command, subject, gate)?;
-    told(alloc, command, subject, run, out)
+    let run = drive_on_threads(rt, alloc, command, subject, gate)?;
+    finish_run(alloc, command, subject, run, out)
 }
 
 /// The application's programs after their last round on this thread, and that run's closed round.
-fn driven_serially<L: Ledger>(
+fn drive_serially<L: Ledger>(
     alloc: Global,
     command: &Command,
     subject: &Subject,
@@ -193,7 +193,7 @@ fn driven_serially<L: Ledger>(
         transport,
         ..
     } = command.travel;
-    let progs = started(alloc, &command.task, subject, grid.ranks())?;
+    let progs = start_task(alloc, &command.task, subject, grid.ranks())?;
     let order = in_order(alloc, grid.ranks())?;
     case_serial(
         alloc,
@@ -209,7 +209,7 @@ fn driven_serially<L: Ledger>(
 }
 
 /// The application's programs after their last round, on threads, and that run's closed round.
-fn driven_on_threads<R: Threads + Wait + Clock + Sync, G: Gate + Sync>(
+fn drive_on_threads<R: Threads + Wait + Clock + Sync, G: Gate + Sync>(
     rt: &R,
     alloc: Global,
     command: &Command,
@@ -229,7 +229,7 @@ fn driven_on_threads<R: Threads + Wait + Clock + Sync, G: Gate + Sync>(
         transport,
         ..
     } = command.travel;
-    let progs = started(alloc, &command.task, subject, grid.ranks())?;
+    let progs = start_task(alloc, &command.task, subject, grid.ranks())?;
     case_threads(
         rt,
         alloc,
@@ -254,16 +254,16 @@ fn via_of(transport: Transport) -> Via
 }
 
 /// The end of a run that was driven: its answer is written, and what was exchanged is told.
-fn told<K: Sink>(
+fn finish_run<K: Sink>(
     alloc: Global,
     command: &Command,
     subject: &Subject,
     run: Finished<AnyProgram>,
     out: &mut K,
-) -> Result<Finish, Refusal>
+) -> Result<RunEnd, Refusal>
     requires fit { (serial : Bool) × Fits command.now subject.now serial }
     requires ended { HaveRun command.now.task subject.now run.progs }
-    ensures ending { IfOk result (λ f. IsEnding command.now.task subject.now command.now.travel.generated
+    ensures ending { IfOk result (λ f. IsAnswerEnd command.now.task subject.now command.now.travel.generated
         K.taken K.faults out.old out.new f.ending) }
     ensures rounds { IfOk result (λ f. f.rounds ≡ run.rounds) }
     ensures memory { IfErr result (λ r. r ≡ Refusal.NoMemory) }
@@ -271,6 +271,6 @@ fn told<K: Sink>(
 {
     let Finished { progs, rounds } = run;
     let generated = command.travel.generated;
-    let ending = finished(alloc, &command.task, subject, generated, progs, out)?;
-    Ok(Finish { ending, rounds })
+    let ending = finish_task(alloc, &command.task, subject, generated, progs, out)?;
+    Ok(RunEnd { ending, rounds })
 }

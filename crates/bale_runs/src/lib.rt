@@ -3,15 +3,15 @@
 //! | Call | For |
 //! |---|---|
 //! | [`ran`] | the run that the words ask for, the ranks on threads or all on one |
-//! | [`ran_serially`] | the run on this thread, whatever the words say: its turns are bounded |
+//! | [`run_serially`] | the run on this thread, whatever the words say: its turns are bounded |
 //! | [`drives_serially`] | whether the words ask for one thread |
-//! | [`Finish`] | how a run ended: the answer's status, whether it was written, and what was exchanged |
+//! | [`RunEnd`] | how a run ended: the answer's status, whether it was written, and what was exchanged |
 //!
-//! Read `specs/Finishes` first: what a run needs, and how it ends. Then `specs/Jobs` (how a command is driven and carried), `specs/Runs`
+//! Read `specs/RunEnds` first: what a run needs, and how it ends. Then `specs/Jobs` (how a command is driven and carried), `specs/Runs`
 //! (which programs' run the rounds tell, and the bound on turns) and `specs/Asking` (the same by queries and replies).
 #![tactic(auto)]
 
 mod asking;
 mod exchange;
 
-pub use exchange::{Finish, drives_serially, ran, ran_serially};
+pub use exchange::{RunEnd, drives_serially, run_command, run_serially};

@@ -139,15 +139,7 @@ fn read_matrix_of<S: Source>(
 {
     let matrix = match band {
         None => read_matrix(alloc, source)?,
-        Some(band) => generated(alloc, band)?,
+        Some(band) => gen_matrix(alloc, band.rows, band.entries, band.seed)?,
     };
     Ok(Subject::Matrix(matrix))
-}
-
-/// The generated matrix.
-fn generated(alloc: Global, band: Generated) -> Result<Matrix, NoMemory>
-    requires { MayGenerate (Some band) }
-    ensures { IfOk result (λ m. m ≡ generated band.rows band.entries band.seed) }
-{
-    gen_matrix(alloc, band.rows, band.entries, band.seed)
 }

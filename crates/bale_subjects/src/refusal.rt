@@ -6,7 +6,7 @@ ghost use Rattle.bale_subjects.specs.Refusals.{bad_line_text, bad_text, refusal_
 
 use crate::unfit::Unfit;
 use app_tally::LinesFault;
-use bale_types::{Failed, Line, Out, Sink};
+use bale_types::{Line, Out, Sink};
 use mtx_text::BadLine;
 
 /// Why a text isn't what a command is asked of. Lines count from 1.
@@ -76,17 +76,6 @@ impl From<bale_types::NoMemory> for Refusal {
 
     fn from(_: bale_types::NoMemory) -> Refusal {
         Refusal::NoMemory
-    }
-}
-
-impl From<Failed> for Refusal {
-    ghost use Rattle.std.specs.Prelude.{◌≡◌};
-    ghost use Rattle.bale_subjects.specs.declared.refusal.Refusal.TheVariants.{WriteFault};
-
-    ghost from_gives = { λ _ refusal. refusal ≡ WriteFault };
-
-    fn from(_: Failed) -> Refusal {
-        Refusal::WriteFault
     }
 }
 

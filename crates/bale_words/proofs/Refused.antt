@@ -3,7 +3,7 @@ use Rattle.std.proofs.Common.{ℕ, ◌≡◌, List, [], ◌∷◌, Option, Some,
 use Rattle.std.specs.Option.{option_and_then}
 use Rattle.bale_words.specs.declared.fault.WordsFault.{WordsFault}
 use Rattle.bale_words.specs.declared.fault.WordsFault.TheVariants.{Usage, NoMemory}
-use Rattle.bale_words.specs.declared.task.Application.{Application}
+use Rattle.bale_words.specs.declared.task.TaskName.{TaskName}
 use Rattle.bale_words.specs.declared.command.Command.{Command}
 use Rattle.bale_words.specs.declared.task.Task.{Task}
 use Rattle.bale_words.specs.declared.travel.Travel.{Travel}
@@ -23,7 +23,7 @@ refused {C = C} go tr ta f g t e grid travel task =
     (subst (λ o. Reads {X = C} (option_and_then (λ y. option_and_then (λ k. Some (f g y k)) ta) o) (Err e)) (sym travel)
     (reads_on ta (λ k. Some (f g t k)) e task))
 
-pub task_refused : (a : Application) (gs : List Given) (g : List ℕ) (t : Travel) (e : WordsFault) → or_default (4 ∷ []) grid_of (value_in (codes "grid") gs) ≡ Some g → travel_in a gs ≡ Some t
+pub task_refused : (a : TaskName) (gs : List Given) (g : List ℕ) (t : Travel) (e : WordsFault) → or_default (4 ∷ []) grid_of (value_in (codes "grid") gs) ≡ Some g → travel_in a gs ≡ Some t
     → Reads (task_in a gs) (Err e) → Reads (command_in a gs) (Err e)
 task_refused a gs g t e grid travel task =
     let made : List ℕ → Travel → Task → Command = λ x y k. record { task = k; grid = x; travel = y } in

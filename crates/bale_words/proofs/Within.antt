@@ -6,8 +6,8 @@ use Rattle.std.proofs.lemmas.Option.{option_and_then_some, none-some, same_Some}
 use Rattle.std.proofs.lemmas.Bool.{cases_Bool, false≢true}
 use Rattle.std.proofs.lemmas.Bool.Decides.{nat_tests}
 use Rattle.std.specs.Str.{bytes_eq}
-use Rattle.bale_words.specs.declared.task.Application.{Application}
-use Rattle.bale_words.specs.declared.task.Application.TheVariants as application
+use Rattle.bale_words.specs.declared.task.TaskName.{TaskName}
+use Rattle.bale_words.specs.declared.task.TaskName.TheVariants as application
 use Rattle.bale_words.specs.declared.command.Command.{Command}
 use Rattle.bale_words.specs.declared.command.Generated.{Generated}
 use Rattle.bale_words.specs.declared.task.Task.{Task}
@@ -86,7 +86,7 @@ unfolding generated_of
 generated_is None g e = subst MayGenerate (same_Some None g e) tt
 generated_is (Some text) g e = map_some (λ x. Some x) (generated_of text) g e (λ x f h. subst MayGenerate h (can_generate (slice_split (λ b. b == 44) text) x f))
 
-travel_is : (a : Application) (via slots steady buffer drive gen : Option (List ℕ)) (t : Travel) → travel_of a via slots steady buffer drive gen ≡ Some t → TravelInRanges t
+travel_is : (a : TaskName) (via slots steady buffer drive gen : Option (List ℕ)) (t : Travel) → travel_of a via slots steady buffer drive gen ≡ Some t → TravelInRanges t
 unfolding travel_of
 travel_is a via slots steady buffer drive gen t e =
     option_and_then_some _ (or_default Convey (transport_of a) via) t e (λ v f1 e1.
@@ -98,7 +98,7 @@ travel_is a via slots steady buffer drive gen t e =
     subst TravelInRanges e6 (record { buffer = buffer_is buffer b f4; slots = slots_are slots s f2; generated = generated_is gen g f6 })))))))
 
 -- where none is given, no matrix is generated
-none_of : (a : Application) (via slots steady buffer drive gen : Option (List ℕ)) (t : Travel) → gen ≡ None → travel_of a via slots steady buffer drive gen ≡ Some t → t.generated ≡ None
+none_of : (a : TaskName) (via slots steady buffer drive gen : Option (List ℕ)) (t : Travel) → gen ≡ None → travel_of a via slots steady buffer drive gen ≡ Some t → t.generated ≡ None
 unfolding travel_of
 none_of a via slots steady buffer drive gen t none e =
     option_and_then_some _ (or_default Convey (transport_of a) via) t e (λ v f1 e1.
@@ -119,7 +119,7 @@ search_is source delta t e =
     option_and_then_some _ (or_default 1 (number_in 0 (2 ^ 32 - 1)) source) t e (λ s f h.
     last_some (λ d. task.Sssp s d) (if_given (number_in 1 1000000000000) delta) t h (λ d g k. subst TaskInRanges k (delta_is s delta d g)))
 
-task_is : (a : Application) (gs : List Given) (t : Task) → task_in a gs ≡ Some t → TaskInRanges t
+task_is : (a : TaskName) (gs : List Given) (t : Task) → task_in a gs ≡ Some t → TaskInRanges t
 task_is application.Permute gs t e =
     last_some (λ p. task.Permute p) (permutations_of (value_in (codes "seed") gs) (value_in (codes "rperm") gs) (value_in (codes "cperm") gs)) t e (λ p f h. subst TaskInRanges h tt)
 task_is application.Sssp gs t e = search_is (value_in (codes "source") gs) (value_in (codes "delta") gs) t e
@@ -136,7 +136,7 @@ not_given names name (g ∷ gs) out h =
     ]
 
 -- a matrix isn't generated for tally
-no_band : (a : Application) (gs : List Given) (t : Task) (travel : Travel) → accepted (names_of a) gs ≡ true → task_in a gs ≡ Some t → travel_in a gs ≡ Some travel
+no_band : (a : TaskName) (gs : List Given) (t : Task) (travel : Travel) → accepted (names_of a) gs ≡ true → task_in a gs ≡ Some t → travel_in a gs ≡ Some travel
     → t ≡ task.Tally → travel.generated ≡ None
 no_band application.Permute gs t travel h e f is =
     last_some (λ p. task.Permute p) (permutations_of (value_in (codes "seed") gs) (value_in (codes "rperm") gs) (value_in (codes "cperm") gs)) t e
@@ -150,7 +150,7 @@ no_band application.Tally gs t travel h e f is =
     travel (not_given (names_of application.Tally) (codes "gen") gs refl h) f
 no_band _ gs t travel h e f is = absurd (let same = same_Some _ t e ∙ is in cc)
 
-in_is : (a : Application) (gs : List Given) (c : Command) → accepted (names_of a) gs ≡ true → command_in a gs ≡ Some c → InRanges c
+in_is : (a : TaskName) (gs : List Given) (c : Command) → accepted (names_of a) gs ≡ true → command_in a gs ≡ Some c → InRanges c
 in_is a gs c h e =
     option_and_then_some _ (or_default (4 ∷ []) grid_of (value_in (codes "grid") gs)) c e (λ grid f1 e1.
     option_and_then_some _ (travel_in a gs) c e1 (λ travel f2 e2.
@@ -161,15 +161,15 @@ in_is a gs c h e =
       lines = no_band a gs t travel h f3 f2;
     }))))
 
-by_is : (a : Application) (o : Option (List Given)) (c : Command) → command_by a o ≡ Some c → InRanges c
+by_is : (a : TaskName) (o : Option (List Given)) (c : Command) → command_by a o ≡ Some c → InRanges c
 by_is a None c e = absurd (none-some c e)
 by_is a (Some gs) c e = accepted_is (accepted (names_of a) gs) a gs c refl e
   where
-    accepted_is : (b : Bool) (a : Application) (gs : List Given) (c : Command) → accepted (names_of a) gs ≡ b → (if b then command_in a gs else None) ≡ Some c → InRanges c
+    accepted_is : (b : Bool) (a : TaskName) (gs : List Given) (c : Command) → accepted (names_of a) gs ≡ b → (if b then command_in a gs else None) ≡ Some c → InRanges c
     accepted_is true a gs c h e = in_is a gs c h e
     accepted_is false a gs c h e = absurd (none-some c e)
 
-with_is : (o : Option Application) (words : List (List ℕ)) (c : Command) → command_with o words ≡ Some c → InRanges c
+with_is : (o : Option TaskName) (words : List (List ℕ)) (c : Command) → command_with o words ≡ Some c → InRanges c
 with_is None words c e = absurd (none-some c e)
 with_is (Some a) words c e = by_is a (given_of words) c e
 
@@ -178,6 +178,6 @@ in_ranges [] c e = absurd (none-some c e)
 in_ranges (first ∷ words) c e = with_is (application_of first) words c e
 
 -- the same of what was read
-pub read_is : (a : Application) (o : Option (List Given)) (read : Result Command WordsFault) → Reads (command_by a o) read → IfOk read (λ c. InRanges c)
+pub read_is : (a : TaskName) (o : Option (List Given)) (read : Result Command WordsFault) → Reads (command_by a o) read → IfOk read (λ c. InRanges c)
 read_is a o (Ok c) e = by_is a o c e
 read_is a o (Err f) e = tt

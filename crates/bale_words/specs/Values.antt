@@ -4,8 +4,8 @@ use Rattle.std.specs.List.{list_any, slice_split}
 use Rattle.std.specs.Option.{option_map, option_and_then}
 use Rattle.std.specs.Str.{bytes_eq}
 use Rattle.route_tensor.specs.Refusal.{refusal}
-use Rattle.bale_words.specs.declared.task.Application.{Application}
-use Rattle.bale_words.specs.declared.task.Application.TheVariants as application
+use Rattle.bale_words.specs.declared.task.TaskName.{TaskName}
+use Rattle.bale_words.specs.declared.task.TaskName.TheVariants as application
 use Rattle.bale_words.specs.declared.command.Transport.{Transport}
 use Rattle.bale_words.specs.declared.command.Transport.TheVariants.{Convey, Exstack, Biconvey}
 use Rattle.bale_words.specs.declared.command.Driving.{Driving}
@@ -67,11 +67,11 @@ unfoldable pub driving_of : List ℕ → Option Driving
 driving_of text = if is_text (codes "threads") text then Some Threads else (if is_text (codes "serial") text then Some Serial else None)
 
 -- biconvey is for ig alone.
-abbrev pub has_biconvey : Application → Bool
+abbrev pub has_biconvey : TaskName → Bool
 has_biconvey application.Ig = true
 has_biconvey _ = false
 
-unfoldable pub transport_of : Application → List ℕ → Option Transport
+unfoldable pub transport_of : TaskName → List ℕ → Option Transport
 transport_of a text =
     if is_text (codes "convey") text then Some Convey else (if is_text (codes "exstack") text then Some Exstack
     else (if is_text (codes "biconvey") text then (if has_biconvey a then Some Biconvey else None) else None))

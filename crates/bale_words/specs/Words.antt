@@ -1,8 +1,8 @@
 -- The command line: which lists of words are accepted, and what they ask for.
 -- A `do` gives nothing where one of its steps gives nothing.
 use Rattle.std.specs.Prelude.{ℕ, false, ◌-◌, ◌^◌, List, [], ◌∷◌, ◌++◌, Option, Some, None, codes, if◌then◌else◌}
-use Rattle.bale_words.specs.declared.task.Application.{Application}
-use Rattle.bale_words.specs.declared.task.Application.TheVariants as application
+use Rattle.bale_words.specs.declared.task.TaskName.{TaskName}
+use Rattle.bale_words.specs.declared.task.TaskName.TheVariants as application
 use Rattle.bale_words.specs.declared.command.Command.{Command}
 use Rattle.bale_words.specs.declared.task.Task.{Task}
 use Rattle.bale_words.specs.declared.task.Task.TheVariants as task
@@ -16,7 +16,7 @@ use Rattle.bale_words.specs.Options.{Given, given_of, accepted, value_in}
 use Rattle.bale_words.specs.Values.{◌>>=◌, is_text, or_default, if_given, grid_of, slots_of, buffer_of, steady_of, driving_of, transport_of, generated_of}
 
 -- The application that the first word names.
-unfoldable pub application_of : List ℕ → Option Application
+unfoldable pub application_of : List ℕ → Option TaskName
 application_of word =
     if is_text (codes "histo") word then Some application.Histo else (if is_text (codes "ig") word then Some application.Ig
     else (if is_text (codes "permute") word then Some application.Permute else (if is_text (codes "transpose") word then Some application.Transpose
@@ -28,7 +28,7 @@ abbrev pub shared_names : List (List ℕ)
 shared_names = codes "grid" ∷ codes "via" ∷ codes "slots" ∷ codes "steady" ∷ codes "buffer" ∷ codes "drive" ∷ []
 
 -- The options of an application.
-abbrev pub names_of : Application → List (List ℕ)
+abbrev pub names_of : TaskName → List (List ℕ)
 names_of application.Permute = shared_names ++ codes "gen" ∷ codes "seed" ∷ codes "rperm" ∷ codes "cperm" ∷ []
 names_of application.Sssp = shared_names ++ codes "gen" ∷ codes "source" ∷ codes "delta" ∷ []
 names_of application.Tally = shared_names
@@ -52,7 +52,7 @@ search_of source delta = do
   delta ← if_given (number_in 1 1000000000000) delta
   Some (task.Sssp source delta)
 
-abbrev pub task_in : Application → List Given → Option Task
+abbrev pub task_in : TaskName → List Given → Option Task
 task_in application.Histo gs = Some task.Histo
 task_in application.Ig gs = Some task.Ig
 task_in application.Permute gs = do
@@ -64,7 +64,7 @@ task_in application.Sssp gs = search_of (value_in (codes "source") gs) (value_in
 task_in application.Tally gs = Some task.Tally
 
 -- How the items travel, and what stands in the place of a text: transport, slots, steady, buffer, drive, generated matrix.
-unfoldable pub travel_of : Application → Option (List ℕ) → Option (List ℕ) → Option (List ℕ) → Option (List ℕ) → Option (List ℕ) → Option (List ℕ) → Option Travel
+unfoldable pub travel_of : TaskName → Option (List ℕ) → Option (List ℕ) → Option (List ℕ) → Option (List ℕ) → Option (List ℕ) → Option (List ℕ) → Option Travel
 travel_of a via slots steady buffer drive gen = do
   transport ← or_default Convey (transport_of a) via
   slots ← or_default 2 slots_of slots
@@ -74,13 +74,13 @@ travel_of a via slots steady buffer drive gen = do
   generated ← if_given generated_of gen
   Some (record { transport = transport; slots = slots; steady = steady; buffer = buffer; driving = driving; generated = generated })
 
-abbrev pub travel_in : Application → List Given → Option Travel
+abbrev pub travel_in : TaskName → List Given → Option Travel
 travel_in a gs =
     travel_of a (value_in (codes "via") gs) (value_in (codes "slots") gs) (value_in (codes "steady") gs) (value_in (codes "buffer") gs)
     (value_in (codes "drive") gs) (value_in (codes "gen") gs)
 
 -- The command of an application and its options.
-abbrev pub command_in : Application → List Given → Option Command
+abbrev pub command_in : TaskName → List Given → Option Command
 command_in a gs = do
   grid ← or_default (4 ∷ []) grid_of (value_in (codes "grid") gs)
   travel ← travel_in a gs
@@ -88,11 +88,11 @@ command_in a gs = do
   Some (record { task = task; grid = grid; travel = travel })
 
 -- The options are the application's own, and none is given twice.
-abbrev pub command_by : Application → Option (List Given) → Option Command
+abbrev pub command_by : TaskName → Option (List Given) → Option Command
 command_by a None = None
 command_by a (Some gs) = if accepted (names_of a) gs then command_in a gs else None
 
-abbrev pub command_with : Option Application → List (List ℕ) → Option Command
+abbrev pub command_with : Option TaskName → List (List ℕ) → Option Command
 command_with None words = None
 command_with (Some a) words = command_by a (given_of words)
 

@@ -21,5 +21,5 @@ pub use command::{Command, Driving, Generated, Permutations, Transport};
 pub use fault::WordsFault;
 pub use numbers::Numbers;
 pub use read::read_command;
-pub use task::{Application, Task};
+pub use task::Task;
 pub use travel::Travel;

@@ -14,7 +14,7 @@ use crate::command::Command;
 use crate::fault::WordsFault;
 use crate::options::{all_accepted, given};
 use crate::parse::{commanded, parse};
-use crate::task::{Application, option_names, read_application, read_task};
+use crate::task::{TaskName, option_names, read_application, read_task};
 use crate::travel::Travel;
 use crate::values::{
     read_buffer, read_driving, read_generated, read_grid, read_slots, read_steady, read_transport,
@@ -44,7 +44,7 @@ pub fn read_command(alloc: Global, words: &[String]) -> Result<Command, WordsFau
 /// The command of an application, by the words of its options.
 fn read_options(
     alloc: Global,
-    application: Application,
+    application: TaskName,
     words: &[String],
 ) -> Result<Command, WordsFault>
     ensures { Reads (command_by application (given_of (map string_bytes words.now))) result }
@@ -61,7 +61,7 @@ fn read_options(
 /// The command of an application, by the words that were made of its options for clap.
 fn read_values(
     alloc: Global,
-    application: Application,
+    application: TaskName,
     names: &[&str],
     words: &[String],
 ) -> Result<Command, WordsFault>
@@ -77,7 +77,7 @@ fn read_values(
 
 fn read_matches(
     alloc: Global,
-    application: Application,
+    application: TaskName,
     matches: &ArgMatches<'_>,
 ) -> Result<Command, WordsFault>
     ensures { (gs : List Given) → ((n : List ℕ) → first_value (found_of matches.now) n ≡ value_in n gs)
@@ -94,7 +94,7 @@ fn read_matches(
     }
 }
 
-fn travel_by(application: Application, matches: &ArgMatches<'_>) -> Option<Travel>
+fn travel_by(application: TaskName, matches: &ArgMatches<'_>) -> Option<Travel>
     ensures { (gs : List Given) → ((n : List ℕ) → first_value (found_of matches.now) n ≡ value_in n gs)
         → result ≡ travel_in application gs }
 {
@@ -110,7 +110,7 @@ fn travel_by(application: Application, matches: &ArgMatches<'_>) -> Option<Trave
 /// How the items travel, by the texts of `--via`, `--slots`, `--steady`, `--buffer`, `--drive` and `--gen`.
 #[tactic(auto, unfolding(crate::specs::Words::travel_of))]
 fn read_travel(
-    application: Application,
+    application: TaskName,
     via: Option<&str>,
     slots: Option<&str>,
     steady: Option<&str>,

@@ -19,7 +19,7 @@ use std::alloc::Global;
 
 /// The first word: which application is asked for.
 #[derive(Clone, Copy, PartialEq, Eq, Debug)]
-pub enum Application {
+pub(crate) enum TaskName {
     /// How many entries each column has.
     Histo,
     /// For each entry the sum of its column.
@@ -51,23 +51,23 @@ pub enum Task {
 
 /// The application that a word names.
 #[tactic(auto, unfolding(crate::specs::Words::application_of))]
-pub(crate) fn read_application(word: &str) -> Option<Application>
+pub(crate) fn read_application(word: &str) -> Option<TaskName>
     ensures { result ≡ application_of word.now }
 {
     if is_word("histo", word) {
-        Some(Application::Histo)
+        Some(TaskName::Histo)
     } else if is_word("ig", word) {
-        Some(Application::Ig)
+        Some(TaskName::Ig)
     } else if is_word("permute", word) {
-        Some(Application::Permute)
+        Some(TaskName::Permute)
     } else if is_word("transpose", word) {
-        Some(Application::Transpose)
+        Some(TaskName::Transpose)
     } else if is_word("topo", word) {
-        Some(Application::Topo)
+        Some(TaskName::Topo)
     } else if is_word("sssp", word) {
-        Some(Application::Sssp)
+        Some(TaskName::Sssp)
     } else if is_word("tally", word) {
-        Some(Application::Tally)
+        Some(TaskName::Tally)
     } else {
         None
     }
@@ -86,15 +86,15 @@ static SSSP_NAMES: [&str; 9] = [
 ];
 
 /// The options of an application.
-pub(crate) fn option_names(application: Application) -> &'static [&'static str]
+pub(crate) fn option_names(application: TaskName) -> &'static [&'static str]
     ensures names { map (λ s. s.now) result.now ≡ names_of application }
     ensures fair { list_all is_name (map (λ s. s.now) result.now) ≡ true }
 {
     match application {
-        Application::Permute => PERMUTE_NAMES.as_slice(),
-        Application::Sssp => SSSP_NAMES.as_slice(),
-        Application::Tally => SHARED_NAMES.as_slice(),
-        Application::Histo | Application::Ig | Application::Transpose | Application::Topo => {
+        TaskName::Permute => PERMUTE_NAMES.as_slice(),
+        TaskName::Sssp => SSSP_NAMES.as_slice(),
+        TaskName::Tally => SHARED_NAMES.as_slice(),
+        TaskName::Histo | TaskName::Ig | TaskName::Transpose | TaskName::Topo => {
             NAMES.as_slice()
         }
     }
@@ -103,26 +103,26 @@ pub(crate) fn option_names(application: Application) -> &'static [&'static str]
 /// What the application is told beside.
 pub(crate) fn read_task(
     alloc: Global,
-    application: Application,
+    application: TaskName,
     matches: &ArgMatches<'_>,
 ) -> Result<Task, WordsFault>
     ensures { (gs : List Given) → ((n : List ℕ) → first_value (found_of matches.now) n ≡ value_in n gs)
         → Reads (task_in application gs) result }
 {
     match application {
-        Application::Histo => Ok(Task::Histo),
-        Application::Ig => Ok(Task::Ig),
-        Application::Permute => read_permute(alloc, matches),
-        Application::Transpose => Ok(Task::Transpose),
-        Application::Topo => Ok(Task::Topo),
-        Application::Sssp => read_sssp(matches),
-        Application::Tally => Ok(Task::Tally),
+        TaskName::Histo => Ok(Task::Histo),
+        TaskName::Ig => Ok(Task::Ig),
+        TaskName::Permute => read_permute(alloc, matches),
+        TaskName::Transpose => Ok(Task::Transpose),
+        TaskName::Topo => Ok(Task::Topo),
+        TaskName::Sssp => read_sssp(matches),
+        TaskName::Tally => Ok(Task::Tally),
     }
 }
 
 fn read_permute(alloc: Global, matches: &ArgMatches<'_>) -> Result<Task, WordsFault>
     ensures { (gs : List Given) → ((n : List ℕ) → first_value (found_of matches.now) n ≡ value_in n gs)
-        → Reads (task_in Application.Permute gs) result }
+        → Reads (task_in TaskName.Permute gs) result }
 {
     let seed = matches.get_str("seed");
     let rows = matches.get_str("rperm");
@@ -176,7 +176,7 @@ fn read_list(alloc: Global, text: Option<&str>) -> Result<Option<Numbers>, Words
 
 fn read_sssp(matches: &ArgMatches<'_>) -> Result<Task, WordsFault>
     ensures { (gs : List Given) → ((n : List ℕ) → first_value (found_of matches.now) n ≡ value_in n gs)
-        → Reads (task_in Application.Sssp gs) result }
+        → Reads (task_in TaskName.Sssp gs) result }
 {
     match read_search(matches.get_str("source"), matches.get_str("delta")) {
         Some(task) => Ok(task),

@@ -11,7 +11,7 @@ ghost use Rattle.bale_words.specs.Values.{as_grid, or_default, if_given, is_text
 use crate::command::{Driving, Generated, Transport};
 use crate::fault::WordsFault;
 use crate::numbers::{first_part, number_between, numbers_between};
-use crate::task::Application;
+use crate::task::TaskName;
 use route_tensor::Grid;
 use std::alloc::Global;
 
@@ -124,7 +124,7 @@ pub(crate) fn read_driving(text: Option<&str>) -> Option<Driving>
 
 /// The transport of `--via`; conveyors where it isn't given.
 #[tactic(auto, unfolding(crate::specs::Values::transport_of))]
-pub(crate) fn read_transport(application: Application, text: Option<&str>) -> Option<Transport>
+pub(crate) fn read_transport(application: TaskName, text: Option<&str>) -> Option<Transport>
     ensures { result ≡ or_default Convey (transport_of application) (option_map (λ s. s.now) text.entry) }
 {
     match text {
@@ -136,10 +136,10 @@ pub(crate) fn read_transport(application: Application, text: Option<&str>) -> Op
     }
 }
 
-fn biconvey_for(application: Application) -> Option<Transport>
+fn biconvey_for(application: TaskName) -> Option<Transport>
     ensures { result ≡ (if has_biconvey application then Some Transport.Biconvey else None) }
 {
-    if application == Application::Ig {
+    if application == TaskName::Ig {
         Some(Transport::Biconvey)
     } else {
         None

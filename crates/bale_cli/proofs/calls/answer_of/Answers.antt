@@ -11,9 +11,9 @@ use Rattle.bale_cli.proofs.calls.answer_of.Goals as goal
 
 pub returns-in-Ok : goal.returns-in-Ok
 returns-in-Ok g c =
-    ran_answered c.ran.result c.args.command.now c.in-Ok.subject c.requires.ranges c.in-Ok.ensures.subject
+    ran_answered c.run_command.result c.args.command.now c.in-Ok.subject c.requires.ranges c.in-Ok.ensures.subject
     (subst (λ (b : Bool). unfitness c.args.command.now c.in-Ok.subject b ≡ None) c.drives_serially-serial.ensures c.in-Ok.ensures.fits) (c.in-Ok.ensures.no_fault (λ e. cc)) c.subject_for.ensures.unread
-    c.in-Ok.ensures.read_whole c.ran.ensures
+    c.in-Ok.ensures.read_whole c.run_command.ensures
 
 pub returns-in-Err : goal.returns-in-Err
 returns-in-Err g c =

@@ -10,22 +10,22 @@ use Rattle.bale_cli.proofs.calls.answer_of_serially.Goals as goal
 
 pub returns-in-Ok-clause-answered : goal.returns-in-Ok-clause-answered
 returns-in-Ok-clause-answered g c =
-    ran_answered c.ran_serially.result c.args.command.now c.in-Ok.subject c.requires.ranges c.in-Ok.ensures.subject c.in-Ok.ensures.fits (c.in-Ok.ensures.no_fault (λ e. cc)) c.subject_for.ensures.unread c.in-Ok.ensures.read_whole
-    c.ran_serially.ensures.finish
+    ran_answered c.run_serially.result c.args.command.now c.in-Ok.subject c.requires.ranges c.in-Ok.ensures.subject c.in-Ok.ensures.fits (c.in-Ok.ensures.no_fault (λ e. cc)) c.subject_for.ensures.unread c.in-Ok.ensures.read_whole
+    c.run_serially.ensures.finish
 
 pub returns-in-Ok-clause-turns : goal.returns-in-Ok-clause-turns
 returns-in-Ok-clause-turns g c =
     record {
       bounded = λ text command m asked.
           let e = same_asked c.args.command.now c.in-Ok.subject text command m c.in-Ok.ensures.subject asked in
-          subst (λ (y : Subject). TurnsOfCommand command y c.args.steps.now c.ran_serially.new.steps) e.1
-          (subst (λ (x : Command). TurnsOfCommand x c.in-Ok.subject c.args.steps.now c.ran_serially.new.steps) e.0 c.ran_serially.ensures.steps);
+          subst (λ (y : Subject). TurnsOfCommand command y c.args.steps.now c.run_serially.new.steps) e.1
+          (subst (λ (x : Command). TurnsOfCommand x c.in-Ok.subject c.args.steps.now c.run_serially.new.steps) e.0 c.run_serially.ensures.steps);
       idle = λ text told none.
           absurd (none c.args.command.now c.in-Ok.subject (record { asked = refl; told = told; subject = c.in-Ok.ensures.subject text told; fits = c.in-Ok.ensures.fits }));
     }
 
 pub returns-in-Ok-clause-no_turns : goal.returns-in-Ok-clause-no_turns
-returns-in-Ok-clause-no_turns g c = memory_only _ c.ran_serially.result c.ran_serially.ensures.finish.memory
+returns-in-Ok-clause-no_turns g c = memory_only _ c.run_serially.result c.run_serially.ensures.finish.memory
 
 pub returns-in-Err-clause-answered : goal.returns-in-Err-clause-answered
 returns-in-Err-clause-answered g c =
@@ -40,9 +40,9 @@ returns-in-Err-clause-turns g c = record { bounded = λ text command m asked. no
 pub returns-in-Ok-clause-fewest : goal.returns-in-Ok-clause-fewest
 returns-in-Ok-clause-fewest g c = λ text command m asked ok.
     let e = same_asked c.args.command.now c.in-Ok.subject text command m c.in-Ok.ensures.subject asked in
-    subst (λ (y : Subject). FewestOfCommand command y c.args.steps.now c.ran_serially.new.steps) e.1
-    (subst (λ (x : Command). FewestOfCommand x c.in-Ok.subject c.args.steps.now c.ran_serially.new.steps) e.0
-    (when_ok c.ran_serially.result (FewestOfCommand c.args.command.now c.in-Ok.subject c.args.steps.now c.ran_serially.new.steps) c.ran_serially.ensures.fewest ok))
+    subst (λ (y : Subject). FewestOfCommand command y c.args.steps.now c.run_serially.new.steps) e.1
+    (subst (λ (x : Command). FewestOfCommand x c.in-Ok.subject c.args.steps.now c.run_serially.new.steps) e.0
+    (when_ok c.run_serially.result (FewestOfCommand c.args.command.now c.in-Ok.subject c.args.steps.now c.run_serially.new.steps) c.run_serially.ensures.fewest ok))
 
 pub returns-in-Err-clause-fewest : goal.returns-in-Err-clause-fewest
 returns-in-Err-clause-fewest g c = λ text command m asked ok. absurd cc

@@ -1,0 +1,80 @@
+use Rattle.std.proofs.Common.{◌<◌, ◌≤◌, ◌≡◌, ◌∙◌, ℕ, List, length, map, ap, subst, sym, true, ◌+◌, ◌*◌}
+use Rattle.route_tensor.proofs.Coordinates.{ranks_some}
+use Rattle.route_tensor.specs.Grid.{ranks}
+use Rattle.rank_node.specs.Movers.{manner_of}
+use Rattle.rank_node.specs.declared.via.Via.TheVariants as via
+use Rattle.round_program.specs.Canonical.{InRound, EndsWithin, HasRounds, HaveEnded}
+use Rattle.app_cases.specs.Any.{any_rules, sums_way}
+use Rattle.app_histo_ig.specs.Sums.{sums_rules}
+use Rattle.app_histo_ig.specs.SumsRuns.{sums_starts}
+use Rattle.app_histo_ig.proofs.SumsStarts.{one_round}
+use Rattle.bale_runs.specs.Runs.{made_for, Tells}
+use Rattle.bale_runs.proofs.Cases.{DriveTells, tells, fewest, on_all}
+use Rattle.bale_runs.proofs.Exchanges.{is_capacity, is_slots}
+use Rattle.bale_runs.proofs.Heard.{if_ok, if_ok_both, sums_at, sums_turns}
+use Rattle.bale_runs.proofs.Orders.{ordered}
+use Rattle.bale_runs.proofs.asking.sum_serially.Given.{Over}
+use Rattle.bale_runs.proofs.asking.sum_serially.Goals.{In_ok-progs}
+use Rattle.bale_runs.proofs.asking.sum_serially.Goals as goal
+
+pub start_sums-requires-clause-some : goal.start_sums-requires-clause-some
+start_sums-requires-clause-some g c = subst (λ n. 1 ≤ n) (sym c.ranks.ensures.value) (ranks_some c.args.command.now.grid c.ranks.ensures.grid.positive)
+
+pub start_sums-requires-clause-few : goal.start_sums-requires-clause-few
+start_sums-requires-clause-few g c = subst (λ n. n ≤ 64) (sym c.ranks.ensures.value) c.ranks.ensures.grid.small
+
+-- there are ranks, and a program for each
+some : (g : Over) (c : In_ok-progs g) → 0 < length c.in_ok-progs.progs
+some g c =
+    let ranks : 1 ≤ ranks c.args.command.now.grid = ranks_some c.args.command.now.grid c.ranks.ensures.grid.positive in
+    subst (λ n. 0 < n) (sym c.in_ok-progs.ensures.begins.2.size) (subst (λ n. 0 < n) (sym c.ranks.ensures.value) ranks)
+
+-- they are those that sum columns
+are : (g : Over) (c : In_ok-progs g) → c.in_ok-progs.progs ≡ map sums_way.case (sums_starts (ranks c.args.command.now.grid) c.args.m.now)
+are g c = c.in_ok-progs.ensures.starts ∙ ap (λ n. map sums_way.case (sums_starts n c.args.m.now)) c.ranks.ensures.value
+
+pub case_serial-requires-clause-begins : goal.case_serial-requires-clause-begins
+case_serial-requires-clause-begins g c =
+    subst (λ n. (shape : List ℕ) × (most : ℕ) × InRound any_rules n 0 shape most c.in_ok-progs.progs × EndsWithin any_rules c.in_ok-progs.progs most) c.ranks.ensures.value
+    c.in_ok-progs.ensures.begins
+
+pub case_serial-requires-clause-order : goal.case_serial-requires-clause-order
+case_serial-requires-clause-order g c =
+    ordered c.ranks-2.result (ranks c.args.command.now.grid) c.deref.result.now (c.deref.ensures.value ∙ c.in_ok-order.ensures) c.ranks-2.ensures.value
+
+pub returns-clause-ended : goal.returns-clause-ended
+returns-clause-ended g c =
+    let x = (goal.at.returns-clause-ended g c).In_ok-progs in
+    if_ok c.case_serial.result (λ f. HaveEnded any_rules c.in_ok-progs.progs f.progs) (λ f. HaveEnded any_rules (map sums_way.case (sums_starts (ranks c.args.command.now.grid) c.args.m.now)) f.progs)
+    (λ f h. sums_at c.args.m.now (ranks c.args.command.now.grid) c.in_ok-progs.progs f.progs (are g x) h) c.case_serial.ensures.ended
+
+pub returns-clause-rounds : goal.returns-clause-rounds
+returns-clause-rounds g c =
+    let x = (goal.at.returns-clause-rounds g c).In_ok-progs in
+    if_ok_both c.case_serial.result (λ f. HaveEnded any_rules c.in_ok-progs.progs f.progs)
+    (λ f. DriveTells c.in_ok-progs.progs (made_for true c.args.command.now) (manner_of via.Convey c.args.command.now.travel.steady) f.rounds)
+    (λ f. Tells sums_rules (sums_starts (ranks c.args.command.now.grid) c.args.m.now) (made_for true c.args.command.now)
+    (manner_of via.Convey c.args.command.now.travel.steady) f.rounds)
+    (λ f h t. tells sums_way.is_case (sums_starts (ranks c.args.command.now.grid) c.args.m.now) c.in_ok-progs.progs f.progs
+    (made_for true c.args.command.now) (manner_of via.Convey c.args.command.now.travel.steady) f.rounds (are g x) (some g x) h t)
+    c.case_serial.ensures.ended c.case_serial.ensures.rounds
+
+pub returns-clause-steps : goal.returns-clause-steps
+returns-clause-steps g c =
+    let x = (goal.at.returns-clause-steps g c).In_ok-progs in
+    sums_turns c.args.m.now c.args.command.now.travel.steady c.args.command.now.grid c.args.steps.now c.case_serial.new.steps c.in_ok-progs.progs (are g x) (some g x) c.case_serial.ensures.steps
+
+pub case_serial-requires-clause-capacity : goal.case_serial-requires-clause-capacity
+case_serial-requires-clause-capacity g c = is_capacity c.args.command.now.travel.buffer c.requires.ranges.travel.buffer
+
+pub case_serial-requires-clause-slots : goal.case_serial-requires-clause-slots
+case_serial-requires-clause-slots g c = is_slots c.args.command.now.travel.slots c.requires.ranges.travel.slots
+
+pub returns-clause-fewest : goal.returns-clause-fewest
+returns-clause-fewest g c =
+    let x = (goal.at.returns-clause-fewest g c).In_ok-progs in
+    let dims = c.args.command.now.grid in
+    let starts = sums_starts (ranks dims) c.args.m.now in
+    on_all c.case_serial.result (λ n. HasRounds any_rules c.in_ok-progs.progs n) (λ n. c.args.steps.now + 2 * n * ranks dims ≤ c.case_serial.new.steps)
+    (c.args.steps.now + 2 * ranks dims ≤ c.case_serial.new.steps)
+    (λ f. fewest sums_way.is_case starts c.in_ok-progs.progs dims c.args.steps.now c.case_serial.new.steps (are g x) (some g x) f 1 (one_round starts)) c.case_serial.ensures.fewest

@@ -1,0 +1,61 @@
+use Rattle.std.proofs.Common.{◌<◌, ◌≤◌, ◌≡◌, ◌∙◌, ℕ, List, false, length, ap, subst, sym}
+use Rattle.route_tensor.proofs.Coordinates.{ranks_some}
+use Rattle.route_tensor.specs.Grid.{ranks}
+use Rattle.round_program.specs.Canonical.{InRound, EndsWithin, HaveEnded}
+use Rattle.app_cases.specs.Any.{any_rules}
+use Rattle.bale_runs.specs.Jobs.{manner_for}
+use Rattle.bale_answers.specs.Tasks.{starts_of}
+use Rattle.bale_runs.specs.Runs.{made_for, HaveRun, TellsTask}
+use Rattle.rank_node.specs.Movers.{manner_of}
+use Rattle.bale_runs.proofs.Cases.{DriveTells, have_run, tells_task}
+use Rattle.bale_runs.proofs.Exchanges.{is_capacity, is_slots}
+use Rattle.bale_runs.proofs.Heard.{if_ok, if_ok_both}
+use Rattle.bale_runs.proofs.exchange.drive_on_threads.Given.{Over}
+use Rattle.bale_runs.proofs.exchange.drive_on_threads.Goals.{In_ok-progs}
+use Rattle.bale_runs.proofs.exchange.drive_on_threads.Goals as goal
+
+pub start_task-requires-clause-some : goal.start_task-requires-clause-some
+start_task-requires-clause-some g c = subst (λ n. 1 ≤ n) (sym c.ranks.ensures.value) (ranks_some c.args.command.now.grid c.ranks.ensures.grid.positive)
+
+pub start_task-requires-clause-few : goal.start_task-requires-clause-few
+start_task-requires-clause-few g c = subst (λ n. n ≤ 64) (sym c.ranks.ensures.value) c.ranks.ensures.grid.small
+
+-- there are ranks, and a program for each
+some : (g : Over) (c : In_ok-progs g) → 0 < length c.in_ok-progs.progs
+some g c =
+    let ranks : 1 ≤ ranks c.args.command.now.grid = ranks_some c.args.command.now.grid c.ranks.ensures.grid.positive in
+    subst (λ n. 0 < n) (sym c.in_ok-progs.ensures.begins.2.size) (subst (λ n. 0 < n) (sym c.ranks.ensures.value) ranks)
+
+-- they are those of the task
+are : (g : Over) (c : In_ok-progs g) → c.in_ok-progs.progs ≡ starts_of c.args.command.now.task (ranks c.args.command.now.grid) c.args.subject.now
+are g c = c.in_ok-progs.ensures.starts ∙ ap (λ n. starts_of c.args.command.now.task n c.args.subject.now) c.ranks.ensures.value
+
+pub case_threads-requires-clause-capacity : goal.case_threads-requires-clause-capacity
+case_threads-requires-clause-capacity g c κs within = is_capacity c.args.command.now.travel.buffer c.requires.ranges.travel.buffer
+
+pub case_threads-requires-clause-slots : goal.case_threads-requires-clause-slots
+case_threads-requires-clause-slots g c κs within = is_slots c.args.command.now.travel.slots c.requires.ranges.travel.slots
+
+pub case_threads-requires-clause-begins : goal.case_threads-requires-clause-begins
+case_threads-requires-clause-begins g c κs within =
+    subst (λ n. (shape : List ℕ) × (most : ℕ) × InRound any_rules n 0 shape most c.in_ok-progs.progs × EndsWithin any_rules c.in_ok-progs.progs most) c.ranks.ensures.value
+    c.in_ok-progs.ensures.begins
+
+pub returns-clause-ended : goal.returns-clause-ended
+returns-clause-ended g c =
+    let x = (goal.at.returns-clause-ended g c).In_ok-progs in
+    if_ok c.case_threads.result (λ f. HaveEnded any_rules c.in_ok-progs.progs f.progs) (λ f. HaveRun c.args.command.now.task c.args.subject.now f.progs)
+    (λ f h. have_run c.args.command.now.task c.args.subject.now (ranks c.args.command.now.grid) c.in_ok-progs.progs f.progs
+    (ranks_some c.args.command.now.grid c.ranks.ensures.grid.positive) c.ranks.ensures.grid.small (are g x) (some g x) h)
+    c.case_threads.ensures.ended
+
+pub returns-clause-rounds : goal.returns-clause-rounds
+returns-clause-rounds g c =
+    let x = (goal.at.returns-clause-rounds g c).In_ok-progs in
+    if_ok_both c.case_threads.result (λ f. HaveEnded any_rules c.in_ok-progs.progs f.progs)
+    (λ f. DriveTells c.in_ok-progs.progs (made_for false c.args.command.now) (manner_of c.via_of.result c.args.command.now.travel.steady) f.rounds)
+    (λ f. TellsTask c.args.command.now.task c.args.subject.now (made_for false c.args.command.now) (manner_for c.args.command.now) f.rounds)
+    (λ f h t. tells_task c.args.command.now.task c.args.subject.now (made_for false c.args.command.now) (manner_for c.args.command.now) f.rounds c.in_ok-progs.progs f.progs
+    (are g x) (some g x) h
+    (subst (λ v. DriveTells c.in_ok-progs.progs (made_for false c.args.command.now) (manner_of v c.args.command.now.travel.steady) f.rounds) c.via_of.ensures t))
+    c.case_threads.ensures.ended c.case_threads.ensures.rounds

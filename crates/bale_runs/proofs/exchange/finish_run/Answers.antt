@@ -1,0 +1,10 @@
+use Rattle.bale_runs.proofs.Exchanges.{task_fit}
+use Rattle.bale_runs.proofs.exchange.finish_run.Goals as goal
+
+pub finish_task-requires-clause-fits : goal.finish_task-requires-clause-fits
+finish_task-requires-clause-fits g c =
+    (c.requires.fit.0, task_fit c.args.command.now c.args.subject.now c.requires.fit.0 c.requires.fit.1.fits)
+
+pub finish_task-requires-clause-ended : goal.finish_task-requires-clause-ended
+finish_task-requires-clause-ended g c =
+    let run = c.requires.ended in (run.ranks, run.some, run.few, run.begun, run.ended)

@@ -52,6 +52,7 @@ pub(crate) fn make_rank(alloc: Global, part: &mut Part, rank: u32) -> Result<Box
         Answer::Good => (),
         wrong => return Err(wrong),
     }
+    // The seat of a rank is given out once, so nothing that can fail for memory stands after it.
     let Ok(mut room) = Box::new(alloc, Part::Empty) else {
         return Err(Answer::NoMemory);
     };

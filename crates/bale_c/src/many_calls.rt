@@ -14,7 +14,8 @@ use crate::item::BaleItem;
 use crate::part::Part;
 use std::alloc::Global;
 
-/// Pushes items toward ranks, as so many single calls, until one finds no room. How many were pushed, or what is wrong.
+/// Pushes items toward ranks, as so many single calls, until one finds no room. How many were pushed, or what is wrong: all destinations
+/// are looked at first, so that misuse changes nothing.
 #[unsafe(no_mangle)]
 pub extern "C" fn bale_push_many(
     alloc: Global,

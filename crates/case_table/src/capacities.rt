@@ -1,6 +1,7 @@
 //! One case for each capacity.
 
-/// The drive for a capacity: each case hands the values on.
+/// The drive for a capacity: each case hands the values on. In a `match` the last arm would know nothing of the others, so no contract
+/// could say that 1,024 is left.
 macro_rules! by_capacity {
     ($cap:expr, $drive:ident::<$hops:literal, $($param:ty),*>, ($($value:expr),*)) => {
         if $cap == 1 {

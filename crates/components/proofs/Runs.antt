@@ -11,13 +11,15 @@ use Rattle.list_laws.proofs.Lists.{find, get_once}
 use Rattle.mtx_text.specs.Sparse.{Sparse, IsSparse}
 use Rattle.round_program.specs.Canonical.{states_at, votes_at, EndsWithin, HaveEnded, InRound}
 use Rattle.round_program.proofs.Members.{in_round_at}
+use Rattle.reductions.specs.Answers.{owned}
+use Rattle.reductions.proofs.Answers.{owned_len, each_owned, ends_len, ends_keys}
 use Rattle.reductions.proofs.CellRuns.{calm_at, least_ends, total_low}
 use Rattle.reductions.proofs.Ends.{last_round}
 use Rattle.reductions.proofs.Links.{Sends, Settled, all_settled}
 use Rattle.reductions.proofs.Lists.{unfiltered}
 use Rattle.reductions.proofs.Starts.{made_from}
 use Rattle.components.specs.declared.labels.Link.{Link}
-use Rattle.components.specs.Connected.{links, IsWay, Connected, IsLeast}
+use Rattle.components.specs.Connected.{links, IsWay, Connected, IsLeast, AreComponents}
 use Rattle.components.specs.LabelRules.{LabelState, label_rules, most_rounds}
 use Rattle.components.specs.LabelLaws.{label_laws}
 use Rattle.components.specs.Starts.{own_links, begins, starts}
@@ -125,19 +127,28 @@ module _ (m : Sparse) (ranks : ℕ) (some : 1 ≤ ranks) (few : ranks ≤ 64) (s
               omega arith;
         }
 
-  -- what the owner of a vertex has at the end
-  pub record Owner (ends : List LabelState) (v : ℕ) (s : LabelState) : Type 0 where
-    pub size : length s.labels.cells ≡ m.rows
-    pub least : v < m.rows → IsLeast m.entries v (at s v)
+  -- What all ranks have at the end.
+  pub record Ended (ends : List LabelState) : Type 0 where
+    pub some : 0 < length ends
+    pub keys : All (λ s. m.rows ≤ length s.labels.cells) ends
+    pub answer : AreComponents m (owned (λ s. s.labels) ends m.rows)
 
-  pub ends_len : (ends : List LabelState) → HaveEnded label_rules (starts ranks m) ends → length ends ≡ ranks
-  ends_len ends h = ap length h.states ∙ (in_round h.rounds).size
-
-  pub owner_has : (ends : List LabelState) → HaveEnded label_rules (starts ranks m) ends → (v : ℕ) (s : LabelState) → slice_get ends (v % ranks) ≡ Some s → Owner ends v s
-  owner_has ends h v s here =
+  pub ended : (ends : List LabelState) → HaveEnded label_rules (starts ranks m) ends → Ended ends
+  ended ends h =
+      let begin : InRound label_rules ranks 0 (m.rows ∷ []) most_rounds (starts ranks m) = starts_in_round ranks m few sparse square in
+      let many : length ends ≡ ranks = ends_len label_rules label_laws (λ s. s.labels) (λ s. refl) ranks m.rows most_rounds (starts ranks m) begin ends h in
+      let there : 0 < length ends = omega arith in
       let o = last_round label_rules (starts ranks m) (λ shape round votes. refl) h.rounds h.has_rounds in
-      let there : slice_get (now (suc o.last)) (v % ranks) ≡ Some s = subst (λ k. slice_get (now k) (v % ranks) ≡ Some s) o.is (subst (λ ss. slice_get ss (v % ranks) ≡ Some s) h.states here) in
       record {
-        size = ap (λ ns. get_or ns 0 0) ((in_round (suc o.last)).each (v % ranks) s there).same_shape;
-        least = λ low. least_at o.last o.no_votes v s low there;
+        some = there;
+        keys = ends_keys label_rules label_laws (λ s. s.labels) (λ s. refl) ranks m.rows most_rounds (starts ranks m) begin ends h;
+        answer =
+            record {
+              each = owned_len (λ s. s.labels) ends m.rows;
+              least =
+                  each_owned (λ s. s.labels) ends m.rows (IsLeast m.entries) there
+                  (λ v s low here. least_at o.last o.no_votes v s low
+                  (subst (λ k. slice_get (now k) (v % ranks) ≡ Some s) o.is
+                  (subst (λ ss. slice_get ss (v % ranks) ≡ Some s) h.states (subst (λ n. slice_get ends (v % n) ≡ Some s) many here))));
+            };
       }

@@ -1,8 +1,8 @@
 //! From a matrix to the labels of its vertices: the programs, driven on one thread or on several.
 
-ghost use Rattle.std.specs.Prelude.{◌≡◌, ◌<◌, ◌≤◌, length, IfOk};
+ghost use Rattle.std.specs.Prelude.{◌≡◌, ◌≤◌, length, IfOk};
 ghost use Rattle.round_program.specs.Canonical.{HaveEnded};
-ghost use Rattle.components.specs.Connected.{AreComponents, IsLeast};
+ghost use Rattle.components.specs.Connected.{AreComponents};
 ghost use Rattle.components.specs.LabelRules.{label_rules};
 ghost use Rattle.components.specs.Starts.{starts};
 
@@ -11,6 +11,7 @@ use crate::starting::start;
 use bale_types::NoMemory;
 use mtx_text::Matrix;
 use rank_group::{Settings, drive_in_turn, drive_on_threads};
+use reductions::owned;
 use round_program::Progs;
 use route_tensor::Grid;
 use std::alloc::Global;
@@ -23,7 +24,7 @@ use std::time::Clock;
 /// # Errors
 /// `NoMemory` where there was none.
 #[tactic(auto, using(crate::proofs::Ranks::some_ranks))]
-pub fn components_serial(alloc: Global, m: &Matrix, grid: &Grid) -> Result<Vec<u32>, NoMemory>
+pub fn components_serial(alloc: Global, m: &Matrix, grid: &Grid) -> Result<Vec<u64>, NoMemory>
     requires square { m.now.cols ≡ m.now.rows }
     requires one_hop { length grid.now ≡ 1 }
     ensures { IfOk result (λ v. AreComponents m.now v.items) }
@@ -44,7 +45,7 @@ pub fn components_threads<R: Threads + Wait + Clock + Sync>(
     alloc: Global,
     m: &Matrix,
     grid: &Grid,
-) -> Result<Vec<u32>, NoMemory>
+) -> Result<Vec<u64>, NoMemory>
     requires square { m.now.cols ≡ m.now.rows }
     requires one_hop { length grid.now ≡ 1 }
     ensures { IfOk result (λ v. AreComponents m.now v.items) }
@@ -61,32 +62,13 @@ fn labels_of(
     m: &Matrix,
     ranks: u32,
     progs: &Progs<Labels>,
-) -> Result<Vec<u32>, NoMemory>
+) -> Result<Vec<u64>, NoMemory>
     requires some { 1 ≤ ranks }
     requires few { ranks ≤ 64 }
     requires square { m.now.cols ≡ m.now.rows }
     requires ended { HaveEnded label_rules (starts ranks m.now) progs.now }
     ensures { IfOk result (λ v. AreComponents m.now v.items) }
 {
-    let mut labels = Vec::new(alloc);
-    for vertex in 0..m.rows() {
-        labels.push(label_of(m, ranks, progs, vertex))?;
-    }
-    Ok(labels)
-}
-
-/// The label of a vertex, as its owner has it.
-fn label_of(m: &Matrix, ranks: u32, progs: &Progs<Labels>, vertex: u32) -> u32
-    requires some { 1 ≤ ranks }
-    requires few { ranks ≤ 64 }
-    requires square { m.now.cols ≡ m.now.rows }
-    requires ended { HaveEnded label_rules (starts ranks m.now) progs.now }
-    requires vertex { vertex < m.now.rows }
-    ensures { IsLeast m.now.entries vertex result }
-{
     m.known();
-    match progs.get((vertex % ranks) as usize) {
-        Some(owner) => owner.labels().cells()[vertex as usize] as u32,
-        None => unreachable!(),
-    }
+    owned(alloc, progs, m.rows() as usize)
 }

@@ -9,7 +9,7 @@ ghost use Rattle.components.specs.Starts.{begins};
 use crate::starting::{links_of, numbers};
 use bale_types::{Item, NoMemory};
 use mtx_text::Matrix;
-use reductions::{Reduced, Reduction};
+use reductions::{HasCells, Reduced, Reduction};
 use round_program::Program;
 use std::alloc::Global;
 use std::marker::Model;
@@ -73,11 +73,12 @@ impl Labels {
             labels,
         })
     }
+}
 
-    /// The labels by vertex; of own vertices they mean something.
-    pub fn labels(&self) -> &Reduced
-        ensures { result.now ≡ self.now.labels }
-    {
+impl HasCells for Labels {
+    ghost cells_of = { λ s. s.labels };
+
+    fn cells(&self) -> &Reduced {
         &self.labels
     }
 }

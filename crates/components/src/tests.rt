@@ -22,7 +22,7 @@ fn both_find<R: Threads + Wait + Clock + Sync>(
     rt: &R,
     alloc: Global,
     text: &[u8],
-    labels: &[u32],
+    labels: &[u64],
 ) -> Result<bool, NoMemory> {
     let Ok(m) = parse_matrix(alloc, text) else {
         return Ok(false);

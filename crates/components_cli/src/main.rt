@@ -36,13 +36,13 @@ fn main(rt: HostRuntime) -> ExitCode {
 }
 
 /// Writes a line for each vertex.
-fn write_labels<K: Sink>(labels: &[u32], sink: &mut K) -> Result<(), Failed> {
+fn write_labels<K: Sink>(labels: &[u64], sink: &mut K) -> Result<(), Failed> {
     let mut out = Out::new(sink);
     for vertex in 0..labels.len() {
         let mut line = Line::new();
         line.natural(vertex as u64 + 1);
         line.byte(b' ');
-        line.natural(labels[vertex] as u64 + 1);
+        line.natural(labels[vertex].saturating_add(1));
         line.byte(b'\n');
         out.line(&line)?;
     }

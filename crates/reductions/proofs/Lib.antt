@@ -1,3 +1,4 @@
+pub mod Answers
 pub mod CellRounds
 pub mod CellRuns
 pub mod Cells

@@ -6,12 +6,15 @@
 //! | [`Reduced`] | numbers by key, each reduced by what comes for it, and which of them changed in this round |
 //! | [`Reduction`] | how: the least, the greatest, or the sum |
 //! | [`programs`] | the programs of all ranks, each made from its rank |
+//! | [`HasCells`], [`owned`] | the answer of a run: the cell of each key, as its owner has it |
 //!
 //! A program that keeps a `Reduced` in its state proves its laws and its answer by lemmas that stand here:
 //!
 //! | File | What it says |
 //! |---|---|
 //! | `specs/Reductions` | what contracts see of a `Reduced`: read this first |
+//! | `specs/Answers` | the cells as their owners have them |
+//! | `proofs/Answers` | what holds of each cell at its owner holds of the answer; at the end all ranks have a cell for each key |
 //! | `proofs/Cells` | reductions commute, and keep the number of cells; a vote is below 2^32 |
 //! | `proofs/CellRounds` | after a round a cell is the fold of all that all ranks sent for it; where least values are kept, it fell, heard all, and is one of them |
 //! | `proofs/CellRuns` | least values fall, so the run ends; after a round without votes no cell has changed |
@@ -21,10 +24,12 @@
 //! | `proofs/Starts` | the ranks that `programs` made are in round 0 of one run |
 #![tactic(auto)]
 
+mod answer;
 mod making;
 mod reduced;
 #[cfg(test)]
 mod tests;
 
+pub use answer::{HasCells, owned};
 pub use making::programs;
 pub use reduced::{Reduced, Reduction};

@@ -1,17 +1,19 @@
 -- The ranks begin in round 0 of one run, which ends.
-use Rattle.std.proofs.Common.{ℕ, ◌%◌, ◌<◌, ◌≤◌, ◌≡◌, nat_eq, true, List, [], ◌∷◌, get_or, All, arith, refl, sym, ap, subst}
+use Rattle.std.proofs.Common.{ℕ, ◌%◌, ◌<◌, ◌≤◌, ◌≡◌, nat_eq, true, List, [], ◌∷◌, length, get_or, All, arith, refl, sym, ap, subst}
 use Rattle.std.proofs.Math.Nat.{mod-lt}
 use Rattle.std.proofs.lemmas.Bool.Decides.{nat_tests}
 use Rattle.std.proofs.lemmas.List.{length-replicate}
 use Rattle.std.proofs.lemmas.List.Elements.{All-map, All-filter}
 use Rattle.bale_types.specs.declared.triple.Triple.{Triple}
 use Rattle.mtx_text.specs.Sparse.{Sparse, IsSparse}
+use Rattle.reductions.proofs.Answers.{ends_len, ends_keys}
 use Rattle.reductions.proofs.Ends.{ends_by}
 use Rattle.reductions.proofs.Starts.{made_in_round}
 use Rattle.route_tensor.specs.Grid.{ranks, IsGrid}
 use Rattle.route_tensor.proofs.Coordinates.{ranks_some}
-use Rattle.round_program.specs.Canonical.{InRound, EndsWithin}
-use Rattle.skeleton.specs.State.{IsState, rules, may_be_sent}
+use Rattle.round_program.specs.Canonical.{InRound, EndsWithin, HaveEnded}
+use Rattle.skeleton.specs.State.{State, IsState, rules, may_be_sent}
+use Rattle.skeleton.specs.Laws.{laws}
 use Rattle.skeleton.specs.Starts.{send_of, begins, starts}
 
 -- a grid has a rank
@@ -48,3 +50,10 @@ starts_in_round p m few is =
 -- no round follows the first
 pub run_ends : (p : ℕ) (m : Sparse) → EndsWithin rules (starts p m) 1
 run_ends p m = ends_by rules (starts p m) 0 refl
+
+-- at the end there are ranks, and each has a cell for each column
+pub all_there : (p : ℕ) (m : Sparse) → 1 ≤ p → p ≤ 64 → IsSparse m → (ends : List State) → HaveEnded rules (starts p m) ends → (0 < length ends) × All (λ s. m.cols ≤ length s.cells.cells) ends
+all_there p m some few is ends h =
+    let begin : InRound rules p 0 (m.cols ∷ []) 1 (starts p m) = starts_in_round p m few is in
+    let many : length ends ≡ p = ends_len rules laws (λ s. s.cells) (λ s. refl) p m.cols 1 (starts p m) begin ends h in
+    (omega arith, ends_keys rules laws (λ s. s.cells) (λ s. refl) p m.cols 1 (starts p m) begin ends h)

@@ -10,7 +10,8 @@
 //! | `specs/View` | the state, read from the fields |
 //! | `specs/Laws` | the proof of the laws |
 //! | `src/starting.rt`, `specs/Starts`, `proofs/Starts` | the programs of all ranks, and that they are in round 0 of one run, which ends |
-//! | `src/drives.rt` | [`skeleton_serial`], [`skeleton_threads`]: the programs after their run |
+//! | `specs/Found` | the answer, as it stands the cells that the owners have after the run: say here what they mean |
+//! | `src/drives.rt` | [`skeleton_serial`], [`skeleton_threads`]: from a matrix to the answer |
 #![tactic(auto)]
 
 mod drives;

@@ -4,7 +4,7 @@ ghost use Rattle.std.specs.Prelude.{◌≡◌};
 ghost use Rattle.skeleton.specs.State.{IsState};
 
 use bale_types::{Item, NoMemory};
-use reductions::{Reduced, Reduction};
+use reductions::{HasCells, Reduced, Reduction};
 use round_program::Program;
 use std::marker::Model;
 
@@ -59,11 +59,12 @@ impl Skeleton {
             cells,
         }
     }
+}
 
-    /// The cells by column; of own columns they mean something.
-    pub fn cells(&self) -> &Reduced
-        ensures { result.now ≡ self.now.cells }
-    {
+impl HasCells for Skeleton {
+    ghost cells_of = { λ s. s.cells };
+
+    fn cells(&self) -> &Reduced {
         &self.cells
     }
 }

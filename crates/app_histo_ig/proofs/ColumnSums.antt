@@ -10,7 +10,7 @@ use Rattle.list_laws.proofs.Lists.{all_head, all_tail}
 use Rattle.sparse_rows.specs.Deals.{dealt}
 use Rattle.sparse_rows.specs.Owners.{Numbered, column_owner}
 use Rattle.app_histo_ig.specs.Owners.{risen}
-use Rattle.app_histo_ig.specs.OwnerLaws.{risen_len}
+use Rattle.app_histo_ig.specs.laws.OwnerLaws.{risen_len}
 use Rattle.sparse_rows.proofs.Places.{place_own}
 use Rattle.sparse_rows.proofs.EveryEntry.{came_to, came_keyed}
 

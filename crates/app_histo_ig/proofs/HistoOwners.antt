@@ -18,7 +18,7 @@ use Rattle.sparse_rows.specs.Deals.{dealt}
 use Rattle.sparse_rows.specs.Owners.{Numbered, numbered, entry_owner, column_owner, own_entries, places_for}
 use Rattle.app_histo_ig.specs.Owners.{risen}
 use Rattle.app_histo_ig.specs.Histos.{HistoState, histo_rules, to_column}
-use Rattle.app_histo_ig.specs.HistoLaws.{histo_laws}
+use Rattle.app_histo_ig.specs.laws.HistoLaws.{histo_laws}
 use Rattle.app_histo_ig.specs.HistoLines.{in_column}
 use Rattle.app_histo_ig.specs.HistoRuns.{histo_begins, histo_starts, HistoEnded}
 use Rattle.sparse_rows.proofs.EveryEntry.{came_to, every_owned}

@@ -18,7 +18,7 @@ use Rattle.sparse_rows.specs.Deals.{dealt}
 use Rattle.sparse_rows.proofs.Deals.{filter_dealt}
 use Rattle.sparse_rows.specs.Owners.{Numbered, numbered, entry_owner, column_owner, own_entries, places_for}
 use Rattle.app_histo_ig.specs.Igs.{IgState, ig_rules, value_item, to_ask, reply_to}
-use Rattle.app_histo_ig.specs.IgLaws.{ig_laws}
+use Rattle.app_histo_ig.specs.laws.IgLaws.{ig_laws}
 use Rattle.app_histo_ig.specs.IgRuns.{ig_begins, ig_starts, IgEnded}
 use Rattle.sparse_rows.proofs.EveryEntry.{came_from, every_owned, every_entry, same_map}
 use Rattle.app_histo_ig.proofs.ColumnSums.{for_column, risen_sum, came_own, came_sum, numbered_sum}

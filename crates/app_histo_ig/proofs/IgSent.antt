@@ -7,7 +7,7 @@ use Rattle.list_laws.proofs.Lists.{get_map}
 use Rattle.sparse_rows.specs.Owners.{Numbered, column_owner}
 use Rattle.app_histo_ig.specs.declared.ig_sent.Own.{Own}
 use Rattle.app_histo_ig.specs.Igs.{to_ask, value_item}
-use Rattle.app_histo_ig.specs.IgSent.{own_entry, number_and_column, question_of, to_add, sent_of, sent_of_own}
+use Rattle.app_histo_ig.specs.code.IgSent.{own_entry, number_and_column, question_of, to_add, sent_of, sent_of_own}
 
 -- in rounds 0 and 1 what is sent is of the entries, as many items as there are entries
 pub sent_early : (round ranks : ℕ) (own : List Own) (replies : List (ℕ × Item)) → round < 2 → sent_of round ranks own replies ≡ sent_of_own round ranks own

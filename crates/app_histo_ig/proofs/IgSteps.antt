@@ -5,9 +5,9 @@ use Rattle.list_laws.proofs.Lists.{map_changed, map_unchanged}
 use Rattle.round_program.specs.Laws.{Fits}
 use Rattle.app_histo_ig.specs.Owners.{risen}
 use Rattle.app_histo_ig.specs.Igs.{IgState, IsIg, IsQuery, ig_rules, noted, next_outgoing, to_ask, replies_from}
-use Rattle.app_histo_ig.specs.IgSent.{number_and_column, sent_of}
+use Rattle.app_histo_ig.specs.code.IgSent.{number_and_column, sent_of}
 use Rattle.app_histo_ig.specs.declared.ig_sent.Own.{Own}
-use Rattle.app_histo_ig.specs.IgLaws.{ig_laws, is_query, noted_asked, noted_len, sums_len, sums_words}
+use Rattle.app_histo_ig.specs.laws.IgLaws.{ig_laws, is_query, noted_asked, noted_len, sums_len, sums_words}
 use Rattle.sparse_rows.proofs.Places.{place_below}
 use Rattle.app_histo_ig.proofs.IgSent.{sent_next}
 

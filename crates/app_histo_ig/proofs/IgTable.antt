@@ -19,7 +19,7 @@ use Rattle.sparse_rows.proofs.EveryEntry.{came_from, every_owned, same_map}
 use Rattle.sparse_rows.proofs.Starts.{made_at, made_from, all_numbered, all_owned, round_made}
 use Rattle.app_histo_ig.specs.IgLines.{column_sum}
 use Rattle.app_histo_ig.specs.Igs.{IgState, ig_rules, value_item, to_ask, reply_to, replies_from}
-use Rattle.app_histo_ig.specs.IgLaws.{ig_laws}
+use Rattle.app_histo_ig.specs.laws.IgLaws.{ig_laws}
 use Rattle.app_histo_ig.specs.IgRuns.{ig_begins, ig_starts}
 use Rattle.app_histo_ig.specs.Sums.{sums_rules}
 use Rattle.app_histo_ig.specs.SumsRuns.{sums_begins, sums_starts}

@@ -12,7 +12,7 @@ use Rattle.mtx_text.specs.Sparse.{Sparse}
 use Rattle.sparse_rows.specs.Owners.{Numbered, column_owner, own_entries}
 use Rattle.sparse_rows.proofs.Starts.{made_from}
 use Rattle.app_histo_ig.specs.Histos.{may_count}
-use Rattle.app_histo_ig.specs.HistoLaws.{count_within}
+use Rattle.app_histo_ig.specs.laws.HistoLaws.{count_within}
 use Rattle.app_histo_ig.specs.Igs.{value_item}
 use Rattle.app_histo_ig.specs.Sums.{SumsState, IsSums}
 use Rattle.app_histo_ig.specs.SumsRuns.{SumsEnded}

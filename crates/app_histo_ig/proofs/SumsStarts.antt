@@ -20,7 +20,7 @@ use Rattle.app_histo_ig.specs.Owners.{risen}
 use Rattle.app_histo_ig.specs.Histos.{may_count}
 use Rattle.app_histo_ig.specs.Igs.{value_item}
 use Rattle.app_histo_ig.specs.Sums.{SumsState, IsSums, sums_rules}
-use Rattle.app_histo_ig.specs.SumsLaws.{sums_laws}
+use Rattle.app_histo_ig.specs.laws.SumsLaws.{sums_laws}
 use Rattle.app_histo_ig.specs.SumsRuns.{sums_begins, sums_starts, SumsEnded}
 use Rattle.app_histo_ig.proofs.ColumnSums.{risen_all}
 use Rattle.app_histo_ig.proofs.IgRounds.{values, sums_of}

@@ -14,8 +14,8 @@ use Rattle.app_histo_ig.specs.Owners.{risen}
 use Rattle.app_histo_ig.specs.Histos.{HistoState, IsHisto, histo_rules, may_count}
 use Rattle.app_histo_ig.specs.Sums.{SumsState, IsSums, sums_rules}
 use Rattle.app_histo_ig.specs.Igs.{IgState, IsIg, ig_rules, may_ig, noted, answered}
-use Rattle.app_histo_ig.specs.IgLaws.{sums_len, sums_words}
-use Rattle.app_histo_ig.specs.Batches.{own_risen, all_risen, own_noted, all_noted, own_answered, all_answered}
+use Rattle.app_histo_ig.specs.laws.IgLaws.{sums_len, sums_words}
+use Rattle.app_histo_ig.specs.code.Batches.{own_risen, all_risen, own_noted, all_noted, own_answered, all_answered}
 
 -- a batch of which each item changes one field alone
 pub in_field : {S F : Type 0} (R : Rules S) (put : F → S) (step : F → ℕ → Item → F) → ((f : F) (from : ℕ) (x : Item) → taken_in R (put f) from x ≡ put (step f from x))

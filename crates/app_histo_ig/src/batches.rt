@@ -4,7 +4,7 @@ ghost use Rattle.std.specs.Prelude.{◌≡◌, ◌<◌, OnOk, length, map};
 ghost use Rattle.std.specs.List.{All};
 ghost use Rattle.sparse_rows.specs.Owners.{places_for};
 ghost use Rattle.app_histo_ig.specs.Igs.{IsQuery};
-ghost use Rattle.app_histo_ig.specs.Batches.{own_risen, all_risen, own_noted, all_noted, own_answered, all_answered};
+ghost use Rattle.app_histo_ig.specs.code.Batches.{own_risen, all_risen, own_noted, all_noted, own_answered, all_answered};
 
 use crate::ig_lists::{note, raise, rise};
 use crate::seat::Seat;

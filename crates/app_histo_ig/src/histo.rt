@@ -29,7 +29,7 @@ impl Model for Histo {
 
     ghost Value = { HistoState };
 
-    ghost use Rattle.app_histo_ig.specs.HistoView.{histo_state};
+    ghost use Rattle.app_histo_ig.specs.code.HistoView.{histo_state};
 
     ghost view = { histo_state };
 
@@ -84,7 +84,7 @@ impl Histo {
 
 impl Program for Histo {
     ghost use Rattle.app_histo_ig.specs.Histos.{histo_rules};
-    ghost use Rattle.app_histo_ig.specs.HistoLaws.{histo_laws};
+    ghost use Rattle.app_histo_ig.specs.laws.HistoLaws.{histo_laws};
 
     ghost rules = { histo_rules };
 

@@ -4,7 +4,7 @@ ghost use Rattle.std.specs.Prelude.{◌≡◌, ◌<◌, ◌^◌, [], length, map
 ghost use Rattle.std.specs.List.{All};
 ghost use Rattle.sparse_rows.specs.Owners.{places_for};
 ghost use Rattle.app_histo_ig.specs.Igs.{IsIg};
-ghost use Rattle.app_histo_ig.specs.IgSent.{number_and_column, to_add};
+ghost use Rattle.app_histo_ig.specs.code.IgSent.{number_and_column, to_add};
 
 use crate::answered::Answered;
 use crate::batches::{note_each, raise_each, rise_each};
@@ -43,7 +43,7 @@ impl Model for Ig {
 
     ghost Value = { IgState };
 
-    ghost use Rattle.app_histo_ig.specs.IgView.{ig_state, IsIgInside};
+    ghost use Rattle.app_histo_ig.specs.code.IgView.{ig_state, IsIgInside};
 
     ghost view = { ig_state };
 
@@ -109,7 +109,7 @@ impl Answered for Ig {
 
 impl Program for Ig {
     ghost use Rattle.app_histo_ig.specs.Igs.{ig_rules};
-    ghost use Rattle.app_histo_ig.specs.IgLaws.{ig_laws};
+    ghost use Rattle.app_histo_ig.specs.laws.IgLaws.{ig_laws};
 
     ghost rules = { ig_rules };
 

@@ -2,7 +2,7 @@
 
 ghost use Rattle.std.specs.Prelude.{◌≡◌, ◌<◌, ◌^◌, length, map, slice_index_or};
 ghost use Rattle.std.specs.List.{All};
-ghost use Rattle.app_histo_ig.specs.IgSent.{question_of};
+ghost use Rattle.app_histo_ig.specs.code.IgSent.{question_of};
 
 use crate::answered::Answered;
 use crate::ig_sent::{Own, question_of};
@@ -28,7 +28,7 @@ impl Model for IgAsker {
 
     ghost Value = { AskingState };
 
-    ghost use Rattle.app_histo_ig.specs.AskingView.{asking_state};
+    ghost use Rattle.app_histo_ig.specs.code.AskingView.{asking_state};
 
     ghost view = { asking_state };
 
@@ -76,7 +76,7 @@ impl Answered for IgAsker {
 
 impl Asker for IgAsker {
     ghost use Rattle.app_histo_ig.specs.Asking.{ig_talk};
-    ghost use Rattle.app_histo_ig.specs.AskingLaws.{ig_talk_laws};
+    ghost use Rattle.app_histo_ig.specs.laws.AskingLaws.{ig_talk_laws};
 
     ghost talk = { ig_talk };
 

@@ -6,7 +6,7 @@ ghost use Rattle.bale_types.specs.Out.{appended};
 ghost use Rattle.sparse_rows.specs.Parts.{parts_of};
 ghost use Rattle.round_program.specs.Canonical.{InRound, EndsWithin};
 ghost use Rattle.app_histo_ig.specs.Igs.{ig_rules};
-ghost use Rattle.app_histo_ig.specs.IgSent.{own_entry};
+ghost use Rattle.app_histo_ig.specs.code.IgSent.{own_entry};
 ghost use Rattle.app_histo_ig.specs.IgLines.{ig_lines};
 ghost use Rattle.app_histo_ig.specs.IgRuns.{ig_begins, ig_starts, IgEnded};
 

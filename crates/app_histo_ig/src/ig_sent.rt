@@ -4,7 +4,7 @@ ghost use Rattle.std.specs.Prelude.{◌≡◌, ◌<◌, ◌≤◌, ◌-◌, ℕ,
 ghost use Rattle.std.specs.List.{All};
 ghost use Rattle.round_program.specs.Emissions.{HandsOver};
 ghost use Rattle.app_histo_ig.specs.Igs.{to_ask};
-ghost use Rattle.app_histo_ig.specs.IgSent.{number_and_column, question_of, to_add, sent_of, sent_of_own};
+ghost use Rattle.app_histo_ig.specs.code.IgSent.{number_and_column, question_of, to_add, sent_of, sent_of_own};
 
 use bale_types::Item;
 use round_program::Departures;

@@ -3,7 +3,7 @@
 ghost use Rattle.std.specs.Prelude.{◌≡◌, ◌<◌, ◌^◌, [], ◌∷◌, true, length, map};
 ghost use Rattle.std.specs.List.{All};
 ghost use Rattle.app_histo_ig.specs.Sums.{IsSums};
-ghost use Rattle.app_histo_ig.specs.IgSent.{to_add};
+ghost use Rattle.app_histo_ig.specs.code.IgSent.{to_add};
 
 use crate::batches::rise_each;
 use crate::ig_lists::rise;
@@ -33,7 +33,7 @@ impl Model for IgSums {
 
     ghost Value = { SumsState };
 
-    ghost use Rattle.app_histo_ig.specs.SumsView.{sums_state};
+    ghost use Rattle.app_histo_ig.specs.code.SumsView.{sums_state};
 
     ghost view = { sums_state };
 
@@ -91,7 +91,7 @@ impl IgSums {
 
 impl Program for IgSums {
     ghost use Rattle.app_histo_ig.specs.Sums.{sums_rules};
-    ghost use Rattle.app_histo_ig.specs.SumsLaws.{sums_laws};
+    ghost use Rattle.app_histo_ig.specs.laws.SumsLaws.{sums_laws};
 
     ghost rules = { sums_rules };
 

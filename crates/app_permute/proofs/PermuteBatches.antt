@@ -12,8 +12,8 @@ use Rattle.round_program.specs.Batches.{taken_in, all_taken_in}
 use Rattle.app_permute.specs.declared.carried.RowOwner.{RowOwner}
 use Rattle.app_permute.specs.Carried.{cell_of, may_cell}
 use Rattle.app_permute.specs.Permutes.{PermuteState, IsPermuting, IsKept, permute_rules}
-use Rattle.app_permute.specs.PermuteLaws.{may_by, kept_by, greater_kept}
-use Rattle.app_permute.specs.Batches.{own_raised, all_raised, turned_over}
+use Rattle.app_permute.specs.laws.PermuteLaws.{may_by, kept_by, greater_kept}
+use Rattle.app_permute.specs.code.Batches.{own_raised, all_raised, turned_over}
 
 -- the owner of a rank's rows, and that of its columns
 abbrev pub row_owner_of : PermuteState → RowOwner

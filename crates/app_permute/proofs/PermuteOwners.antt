@@ -28,7 +28,7 @@ use Rattle.sparse_rows.proofs.Starts.{made_at, made_from, made_in_round, all_num
 use Rattle.app_permute.specs.Carried.{cell_item, cell_of}
 use Rattle.app_permute.specs.Moved.{number_in, moved}
 use Rattle.app_permute.specs.Permutes.{PermuteState, IsPermuting, IsKept, permute_rules, may_permute, kept_as, to_column, to_row}
-use Rattle.app_permute.specs.PermuteLaws.{permute_laws}
+use Rattle.app_permute.specs.laws.PermuteLaws.{permute_laws}
 use Rattle.app_permute.specs.PermuteRuns.{own_numbers, permute_begins, permute_starts, PermuteEnded}
 use Rattle.app_permute.proofs.CellWords.{word_back, word_of, cell_back}
 use Rattle.app_permute.proofs.PermuteNumbers.{has_numbers}

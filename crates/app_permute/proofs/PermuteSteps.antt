@@ -9,8 +9,8 @@ use Rattle.bale_types.specs.declared.triple.Triple.{Triple}
 use Rattle.mtx_text.specs.Cells.{raised}
 use Rattle.round_program.specs.Laws.{Fits}
 use Rattle.app_permute.specs.Permutes.{PermuteState, IsPermuting, IsKept, permute_rules, kept_as, to_column, to_row, next_outgoing}
-use Rattle.app_permute.specs.PermuteLaws.{permute_laws, next_ordered}
-use Rattle.app_permute.specs.Sent.{sent_of, with_new_row, with_new_column}
+use Rattle.app_permute.specs.laws.PermuteLaws.{permute_laws, next_ordered}
+use Rattle.app_permute.specs.code.Sent.{sent_of, with_new_row, with_new_column}
 use Rattle.app_permute.proofs.Sent.{sent_after}
 
 -- a cell was raised or found no memory

@@ -22,7 +22,7 @@ use Rattle.sparse_rows.proofs.Starts.{made_at, made_from, all_numbered, numbered
 use Rattle.app_permute.specs.Carried.{cell_item, cell_of}
 use Rattle.app_permute.specs.Moved.{number_in}
 use Rattle.app_permute.specs.Permutes.{PermuteState, permute_rules, kept_as, to_column, to_row}
-use Rattle.app_permute.specs.PermuteLaws.{permute_laws}
+use Rattle.app_permute.specs.laws.PermuteLaws.{permute_laws}
 use Rattle.app_permute.specs.PermuteRuns.{own_numbers, permute_begins, permute_starts}
 use Rattle.app_permute.proofs.CellWords.{word_back, cell_back}
 use Rattle.app_permute.proofs.PermuteCells.{crossed, by_row, by_column, rows_inside, columns_inside, to_columns_differ, numbered_as}

@@ -6,7 +6,7 @@ use Rattle.sparse_rows.specs.Owners.{Numbered, row_owner, column_owner}
 use Rattle.app_permute.specs.Carried.{cell_item}
 use Rattle.app_permute.specs.Moved.{turned}
 use Rattle.app_permute.specs.Permutes.{to_column, to_row}
-use Rattle.app_permute.specs.Sent.{sent_of, with_new_row, with_new_column}
+use Rattle.app_permute.specs.code.Sent.{sent_of, with_new_row, with_new_column}
 
 pub entries_sent : (ranks : ℕ) (es : List Numbered) → sent_of 0 ranks (map (λ e. e.1) es) ≡ map (λ e. (row_owner ranks e, cell_item e.1)) es
 entries_sent ranks [] = refl

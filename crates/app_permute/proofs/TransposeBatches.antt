@@ -10,7 +10,7 @@ use Rattle.round_program.specs.Batches.{taken_in, all_taken_in}
 use Rattle.app_permute.specs.declared.carried.RowOwner.{RowOwner}
 use Rattle.app_permute.specs.Carried.{cell_of, may_cell}
 use Rattle.app_permute.specs.Transposes.{TransposeState, transpose_rules}
-use Rattle.app_permute.specs.Batches.{own_raised, all_raised}
+use Rattle.app_permute.specs.code.Batches.{own_raised, all_raised}
 
 inside : (s : TransposeState) (b : Bool) (x y : List Triple) → cond b (record s { cells = x }) (record s { cells = y }) ≡ record s { cells = cond b x y }
 inside s true x y = refl

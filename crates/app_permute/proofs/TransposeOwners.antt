@@ -25,7 +25,7 @@ use Rattle.sparse_rows.proofs.Starts.{made_at, made_from, made_in_round, all_num
 use Rattle.app_permute.specs.Carried.{cell_item, cell_of}
 use Rattle.app_permute.specs.Moved.{turned}
 use Rattle.app_permute.specs.Transposes.{TransposeState, IsTransposing, transpose_rules, may_transpose}
-use Rattle.app_permute.specs.TransposeLaws.{transpose_laws}
+use Rattle.app_permute.specs.laws.TransposeLaws.{transpose_laws}
 use Rattle.app_permute.specs.TransposeRuns.{transpose_begins, transpose_starts, TransposeEnded}
 use Rattle.app_permute.proofs.CellWords.{word_of, cell_back}
 use Rattle.app_permute.proofs.Answers.{turned_differ}

@@ -6,7 +6,7 @@ ghost use Rattle.bale_types.specs.Bits.{twos_complement};
 ghost use Rattle.mtx_text.specs.Cells.{InOrder, raised};
 ghost use Rattle.app_permute.specs.Carried.{cell_item, cell_of, may_cell};
 ghost use Rattle.app_permute.specs.Permutes.{IsKept, kept_as};
-ghost use Rattle.app_permute.specs.Batches.{own_raised, all_raised};
+ghost use Rattle.app_permute.specs.code.Batches.{own_raised, all_raised};
 
 use bale_types::{Item, NoMemory, Triple, bits_of, value_of};
 use mtx_text::Cells;
@@ -74,7 +74,7 @@ pub(crate) struct Turned<I> {
 
 impl<I: Arrivals> Arrivals for Turned<I> {
     ghost use Rattle.std.specs.Prelude.{map};
-    ghost use Rattle.app_permute.specs.Batches.{turned_over};
+    ghost use Rattle.app_permute.specs.code.Batches.{turned_over};
 
     ghost items = { λ s. map turned_over (I.items s.came) };
 

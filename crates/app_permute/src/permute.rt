@@ -2,7 +2,7 @@
 
 ghost use Rattle.std.specs.Prelude.{◌≡◌, []};
 ghost use Rattle.app_permute.specs.Permutes.{IsPermuting};
-ghost use Rattle.app_permute.specs.Sent.{sent_of};
+ghost use Rattle.app_permute.specs.code.Sent.{sent_of};
 
 use crate::carried::{RowOwner, Turned, raise_each, raise_kept};
 use crate::permute_lists::{renumber, take_cells};
@@ -40,7 +40,7 @@ impl Model for Permute {
 
     ghost Value = { PermuteState };
 
-    ghost use Rattle.app_permute.specs.PermuteView.{permute_state};
+    ghost use Rattle.app_permute.specs.code.PermuteView.{permute_state};
 
     ghost view = { permute_state };
 
@@ -111,7 +111,7 @@ impl Permute {
 
 impl Program for Permute {
     ghost use Rattle.app_permute.specs.Permutes.{permute_rules};
-    ghost use Rattle.app_permute.specs.PermuteLaws.{permute_laws};
+    ghost use Rattle.app_permute.specs.laws.PermuteLaws.{permute_laws};
 
     ghost rules = { permute_rules };
 

@@ -3,7 +3,7 @@
 ghost use Rattle.std.specs.Prelude.{◌≡◌, ◌<◌, ◌+◌, ◌-◌, ◌/◌, ◌^◌, ◌==◌, [], nat_lt, IfOk, if◌then◌else◌, length, map};
 ghost use Rattle.std.specs.List.{All};
 ghost use Rattle.app_permute.specs.PermuteRuns.{own_numbers};
-ghost use Rattle.app_permute.specs.Sent.{with_new_row, with_new_column};
+ghost use Rattle.app_permute.specs.code.Sent.{with_new_row, with_new_column};
 
 use bale_types::{NoMemory, Triple};
 use mtx_text::Cells;

@@ -3,7 +3,7 @@
 ghost use Rattle.std.specs.Prelude.{◌≡◌, ◌<◌, ◌≤◌, ◌-◌, drop, Some, length, slice_get};
 ghost use Rattle.std.specs.List.{All};
 ghost use Rattle.round_program.specs.Emissions.{HandsOver};
-ghost use Rattle.app_permute.specs.Sent.{sent_of, to_owner};
+ghost use Rattle.app_permute.specs.code.Sent.{sent_of, to_owner};
 
 use crate::carried::cell_sent;
 use bale_types::{Item, Triple};

@@ -1,7 +1,7 @@
 //! transpose: the owner of each new row gets the row's cells.
 
 ghost use Rattle.std.specs.Prelude.{◌≡◌, ◌<◌, []};
-ghost use Rattle.app_permute.specs.Sent.{sent_of};
+ghost use Rattle.app_permute.specs.code.Sent.{sent_of};
 ghost use Rattle.app_permute.specs.Transposes.{IsTransposing};
 
 use crate::carried::{RowOwner, cell_fits, raise_cell, raise_each};
@@ -33,7 +33,7 @@ impl Model for Transpose {
 
     ghost Value = { TransposeState };
 
-    ghost use Rattle.app_permute.specs.TransposeView.{transpose_state};
+    ghost use Rattle.app_permute.specs.code.TransposeView.{transpose_state};
 
     ghost view = { transpose_state };
 
@@ -90,7 +90,7 @@ impl Transpose {
 
 impl Program for Transpose {
     ghost use Rattle.app_permute.specs.Transposes.{transpose_rules};
-    ghost use Rattle.app_permute.specs.TransposeLaws.{transpose_laws};
+    ghost use Rattle.app_permute.specs.laws.TransposeLaws.{transpose_laws};
 
     ghost rules = { transpose_rules };
 

@@ -32,7 +32,7 @@ use Rattle.std.proofs.lemmas.Option.{same_Some}
 use Rattle.least_walks.proofs.Members.{none_in, has_filtered, was_filtered, has_mapped, was_mapped}
 use Rattle.least_walks.proofs.Offered.{weighing}
 use Rattle.app_sssp.specs.Sssps.{SsspState, IsSssp, IsInside, IsEdge, sssp_rules, may_sssp, edge_came}
-use Rattle.app_sssp.specs.SsspLaws.{sssp_laws, len_either}
+use Rattle.app_sssp.specs.laws.SsspLaws.{sssp_laws, len_either}
 use Rattle.app_sssp.specs.SsspRuns.{IsGraph, edge_item, vertices_begin, sssp_begins, sssp_starts}
 use Rattle.app_sssp.proofs.Rounds.{Reached}
 use Rattle.app_sssp.proofs.Stages.{AreEdges, Knows, vertex_at, stage_of, at_vertex, word_is}

@@ -17,7 +17,7 @@ use Rattle.least_walks.specs.Walks.{IsLeast}
 use Rattle.least_walks.specs.Vertices.{unreached, marked, calm}
 use Rattle.least_walks.proofs.Offered.{none_improved, none_counted, calm_at}
 use Rattle.app_sssp.specs.Sssps.{SsspState, sssp_rules}
-use Rattle.app_sssp.specs.SsspLaws.{sssp_laws}
+use Rattle.app_sssp.specs.laws.SsspLaws.{sssp_laws}
 use Rattle.app_sssp.specs.SsspRuns.{IsGraph, sssp_starts}
 use Rattle.app_sssp.proofs.Rounds.{Stage, Round, Reached, next_reached, none_fresh, all_least}
 use Rattle.app_sssp.proofs.Stages.{Knows, stage_of, at_vertex, one_round, still_knows, still_size}

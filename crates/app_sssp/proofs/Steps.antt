@@ -16,7 +16,7 @@ use Rattle.least_walks.specs.Tables.{offers}
 use Rattle.least_walks.specs.Vertices.{marked, calm}
 use Rattle.least_walks.proofs.Marks.{marked_below}
 use Rattle.app_sssp.specs.Sssps.{SsspState, IsSssp, IsInside, sssp_rules, table_after}
-use Rattle.app_sssp.specs.SsspLaws.{greater_inside, table_after_len, ended_valid}
+use Rattle.app_sssp.specs.laws.SsspLaws.{greater_inside, table_after_len, ended_valid}
 
 -- what fits names a vertex that has a place here
 pub vertex_place : (s : SsspState) (f : ℕ) (x : Item) → IsSssp s → Fits sssp_rules s f x → (x.a < 2 ^ 32) × (x.a / s.ranks < length s.vertices)

@@ -1,5 +1,4 @@
-pub mod SsspLaws
 pub mod SsspRuns
-pub mod SsspSeats
-pub mod SsspView
 pub mod Sssps
+pub mod code
+pub mod laws

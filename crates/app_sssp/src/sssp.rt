@@ -7,7 +7,7 @@ ghost use Rattle.least_walks.specs.Tables.{table_of};
 ghost use Rattle.round_program.specs.Laws.{Fits};
 ghost use Rattle.round_program.specs.Batches.{taken_in};
 ghost use Rattle.app_sssp.specs.Sssps.{IsSssp, sssp_rules};
-ghost use Rattle.app_sssp.specs.SsspSeats.{IsSeat};
+ghost use Rattle.app_sssp.specs.code.SsspSeats.{IsSeat};
 
 use crate::seat::Seat;
 use bale_types::{Item, NoMemory, Triple, value_of};
@@ -42,7 +42,7 @@ impl Model for Sssp {
 
     ghost Value = { SsspState };
 
-    ghost use Rattle.app_sssp.specs.SsspView.{sssp_state};
+    ghost use Rattle.app_sssp.specs.code.SsspView.{sssp_state};
 
     ghost view = { sssp_state };
 
@@ -152,7 +152,7 @@ impl Sssp {
 
 impl Program for Sssp {
     ghost use Rattle.app_sssp.specs.Sssps.{sssp_rules};
-    ghost use Rattle.app_sssp.specs.SsspLaws.{sssp_laws};
+    ghost use Rattle.app_sssp.specs.laws.SsspLaws.{sssp_laws};
 
     ghost rules = { sssp_rules };
 

@@ -8,8 +8,8 @@ use Rattle.std.proofs.lemmas.List.Sorted.{ranks_by, sorted_far}
 use Rattle.std.proofs.lemmas.Option.{get_or_from_slice_get, same_Some}
 use Rattle.list_laws.proofs.Lists.{find, within, get_map, all_get, all_head, all_tail}
 use Rattle.app_tally.specs.Counts.{by_bytes, Entry, counted, tally_of, Before, Rises}
-use Rattle.app_tally.specs.CountOrder.{order, one_line, itself, turned, which, no_tie, at_less, at_equal, at_greater}
-use Rattle.app_tally.specs.CountView.{entries_of, IsCounts}
+use Rattle.app_tally.specs.laws.CountOrder.{order, one_line, itself, turned, which, no_tie, at_less, at_equal, at_greater}
+use Rattle.app_tally.specs.code.CountView.{entries_of, IsCounts}
 use Rattle.app_tally.proofs.Tallied.{rises_counted, tally_push}
 
 -- ---- Entries by their parts

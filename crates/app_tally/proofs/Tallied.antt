@@ -6,7 +6,7 @@ use Rattle.std.proofs.lemmas.List.Elements.{All-nil, All-cons, All-weaker}
 use Rattle.std.proofs.lemmas.List.Sums.{sum_by-cons, fold_push}
 use Rattle.list_laws.proofs.Lists.{all_head, all_tail}
 use Rattle.app_tally.specs.Counts.{by_bytes, Entry, times, counted, tally_of, Before, Rises, IsTally}
-use Rattle.app_tally.specs.CountOrder.{order, one_line, itself, turned, which, no_tie, at_less, at_equal, at_greater}
+use Rattle.app_tally.specs.laws.CountOrder.{order, one_line, itself, turned, which, no_tie, at_less, at_equal, at_greater}
 
 -- ---- What entries say of a line
 

@@ -26,7 +26,7 @@ use Rattle.elastic.specs.Theorem.{SameLetterRuns}
 use Rattle.elastic.proofs.Runs.{mailers_run_letters}
 use Rattle.app_tally.specs.Counts.{by_bytes, counted, times, tally_of, Rises}
 use Rattle.app_tally.specs.Tallies.{TallyState, tally_rules, IsTallying, counter_of}
-use Rattle.app_tally.specs.TallyLaws.{tally_laws}
+use Rattle.app_tally.specs.laws.TallyLaws.{tally_laws}
 use Rattle.app_tally.specs.TallyRuns.{own_lines, tally_begins, tally_starts, TallyEnded}
 use Rattle.app_tally.proofs.Tallied.{found, found_on, rises_on, found_tally, times_cons}
 

@@ -1,13 +1,11 @@
-pub mod CountView
-pub mod CountOrder
 pub mod Counts
 pub mod Cuts
 pub mod Lines
 pub mod Meanings
 pub mod Stores
-pub mod TallyLaws
 pub mod TallyRuns
-pub mod TallyView
 pub mod Tallies
 pub mod Texts
 pub mod TallyTable
+pub mod code
+pub mod laws

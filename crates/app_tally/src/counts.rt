@@ -5,7 +5,7 @@ ghost use Rattle.std.specs.List.{All};
 ghost use Rattle.std.specs.List.Sorted.{IsSortedBy};
 ghost use Rattle.std.specs.Ordering.{is_gt, is_lt};
 ghost use Rattle.elastic.specs.Spelling.{IsLetter};
-ghost use Rattle.app_tally.specs.CountView.{entries_of, IsCounts};
+ghost use Rattle.app_tally.specs.code.CountView.{entries_of, IsCounts};
 ghost use Rattle.app_tally.specs.Counts.{by_bytes, counted, tally_of};
 
 use crate::strings::Strings;
@@ -22,7 +22,7 @@ pub struct Counts {
 
 impl Model for Counts {
     ghost use Rattle.std.specs.Prelude.{List};
-    ghost use Rattle.app_tally.specs.CountView.{entries_of, IsCounts};
+    ghost use Rattle.app_tally.specs.code.CountView.{entries_of, IsCounts};
     ghost use Rattle.app_tally.specs.Counts.{Entry};
 
     ghost Value = { List Entry };

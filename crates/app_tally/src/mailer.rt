@@ -42,9 +42,9 @@ impl TallyMailer {
 
 impl Program for TallyMailer {
     ghost use Rattle.elastic.specs.Mails.{mail_rules};
-    ghost use Rattle.elastic.specs.MailLaws.{mail_laws};
+    ghost use Rattle.elastic.specs.laws.MailLaws.{mail_laws};
     ghost use Rattle.app_tally.specs.Tallies.{tally_rules};
-    ghost use Rattle.app_tally.specs.TallyLaws.{tally_laws};
+    ghost use Rattle.app_tally.specs.laws.TallyLaws.{tally_laws};
 
     ghost rules = { mail_rules tally_rules };
 

@@ -26,7 +26,7 @@ pub struct Tally {
 
 impl Model for Tally {
     ghost use Rattle.app_tally.specs.Tallies.{TallyState, IsTallying};
-    ghost use Rattle.app_tally.specs.TallyView.{tally_state};
+    ghost use Rattle.app_tally.specs.code.TallyView.{tally_state};
 
     ghost Value = { TallyState };
 
@@ -61,7 +61,7 @@ impl Tally {
 
 impl LetterProgram for Tally {
     ghost use Rattle.app_tally.specs.Tallies.{tally_rules};
-    ghost use Rattle.app_tally.specs.TallyLaws.{tally_laws};
+    ghost use Rattle.app_tally.specs.laws.TallyLaws.{tally_laws};
 
     ghost rules = { tally_rules };
 

@@ -20,7 +20,7 @@ use Rattle.sparse_rows.proofs.Starts.{made_at, made_from, round_made}
 use Rattle.app_topo.specs.declared.placed.Placed.{Placed}
 use Rattle.app_topo.specs.Levels.{Claim, col_claims}
 use Rattle.app_topo.specs.Topos.{TopoState, topo_rules, spot, number_at, falls_of, placed_in, next_outgoing, claims_of, own_rows, claimed_by}
-use Rattle.app_topo.specs.TopoLaws.{topo_laws, in_odd}
+use Rattle.app_topo.specs.laws.TopoLaws.{topo_laws, in_odd}
 use Rattle.app_topo.proofs.LevelFacts.{IsNext, level_next, next_free}
 use Rattle.app_topo.proofs.TopoTables.{table, table_at}
 use Rattle.app_topo.proofs.TopoStates.{claims, next, claim_row, claim_column, claim_item, claiming, freeing}

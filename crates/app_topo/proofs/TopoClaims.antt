@@ -23,7 +23,7 @@ use Rattle.sparse_rows.proofs.EveryEntry.{came_to}
 use Rattle.sparse_rows.proofs.Gathering.{row_of, pairs_filter, gathered_cons}
 use Rattle.app_topo.specs.Levels.{Claim, row_claims, col_claims}
 use Rattle.app_topo.specs.Topos.{TopoState, topo_rules, spot, to_fall, falls_of, entered, claimed_by, fallen}
-use Rattle.app_topo.specs.TopoLaws.{in_odd}
+use Rattle.app_topo.specs.laws.TopoLaws.{in_odd}
 use Rattle.app_topo.proofs.Counting.{count_cons, count_append, count_total, found_by}
 use Rattle.app_topo.proofs.LevelFacts.{rows_once, rows_below, cols_below}
 use Rattle.app_topo.proofs.TopoTables.{table, added_all, share, IsFor, added_total, came_share}

@@ -25,7 +25,7 @@ use Rattle.sparse_rows.proofs.Places.{place_own, place_below}
 use Rattle.sparse_rows.proofs.Starts.{made_at, made_from, round_made}
 use Rattle.app_topo.specs.Levels.{Claim, row_claims, is_ready, claimed_column}
 use Rattle.app_topo.specs.Topos.{TopoState, topo_rules, spot, number_at, placed_in, next_outgoing, claims_of, falls_of, own_rows, entered, claimed_by, fallen}
-use Rattle.app_topo.specs.TopoLaws.{topo_laws, in_even, added_here, added_there, added_len}
+use Rattle.app_topo.specs.laws.TopoLaws.{topo_laws, in_even, added_here, added_there, added_len}
 use Rattle.app_topo.proofs.Counting.{count_cons, count_append}
 use Rattle.app_topo.proofs.LevelFacts.{IsReady, ready_from}
 use Rattle.app_topo.proofs.TopoTables.{table, table_at, added_all, IsFor}

@@ -23,7 +23,7 @@ use Rattle.sparse_rows.proofs.Places.{place_below}
 use Rattle.sparse_rows.proofs.Starts.{made_at, made_from, round_made}
 use Rattle.app_topo.specs.Levels.{is_open}
 use Rattle.app_topo.specs.Topos.{TopoState, topo_rules, spot, entered, claimed_by, fallen, own_rows, next_outgoing}
-use Rattle.app_topo.specs.TopoLaws.{topo_laws, in_first}
+use Rattle.app_topo.specs.laws.TopoLaws.{topo_laws, in_first}
 use Rattle.app_topo.specs.TopoRuns.{for_row, for_column, first_sent, topo_begins, topo_starts}
 use Rattle.app_topo.proofs.Counting.{counted}
 use Rattle.app_topo.proofs.TopoStart.{starts_in_round}

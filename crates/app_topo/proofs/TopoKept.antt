@@ -12,7 +12,7 @@ use Rattle.sparse_rows.specs.Owners.{Numbered}
 use Rattle.app_topo.specs.declared.placed.Placed.{Placed}
 use Rattle.app_topo.specs.Topos.{claims_of, falls_of, to_fall, own_rows, sent_after, placed_in}
 use Rattle.app_topo.specs.TopoRuns.{first_sent}
-use Rattle.app_topo.specs.TopoSent.{for_both, to_other, sent_of}
+use Rattle.app_topo.specs.code.TopoSent.{for_both, to_other, sent_of}
 
 -- ---- Round 0: two items for each entry
 

@@ -8,7 +8,7 @@ use Rattle.round_program.specs.Canonical.{absorbed_round, round_of, states_at, v
 use Rattle.round_program.proofs.Members.{rounds_once, in_round}
 use Rattle.app_topo.specs.Levels.{level}
 use Rattle.app_topo.specs.Topos.{TopoState, topo_rules}
-use Rattle.app_topo.specs.TopoLaws.{topo_laws}
+use Rattle.app_topo.specs.laws.TopoLaws.{topo_laws}
 use Rattle.app_topo.specs.TopoRuns.{topo_starts, TopoEnded}
 use Rattle.app_topo.proofs.TopoStart.{starts_in_round}
 use Rattle.app_topo.proofs.TopoStates.{claims, next, freeing}

@@ -8,7 +8,7 @@ use Rattle.sparse_rows.specs.Owners.{places_for}
 use Rattle.sparse_rows.proofs.Places.{place_below}
 use Rattle.app_topo.specs.declared.placed.Placed.{Placed}
 use Rattle.app_topo.specs.Topos.{TopoState, IsTopo, IsInside, topo_rules, spot, sent_after, next_outgoing}
-use Rattle.app_topo.specs.TopoLaws.{IsOwn, topo_laws, raised_in}
+use Rattle.app_topo.specs.laws.TopoLaws.{IsOwn, topo_laws, raised_in}
 
 -- a number has a place
 pub own_place : (s : TopoState) (x : Item) → IsTopo s → IsOwn s.size s.ranks s.rank x → x.a / s.ranks < places_for s.ranks s.size

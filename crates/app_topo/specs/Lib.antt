@@ -1,12 +1,10 @@
 pub mod Levels
 pub mod Meanings
 pub mod TopoEnds
-pub mod TopoLaws
 pub mod TopoLines
 pub mod TopoRuns
-pub mod TopoSeats
-pub mod TopoSent
-pub mod TopoView
 pub mod Topos
 pub mod Triangular
 pub mod TopoTable
+pub mod code
+pub mod laws

@@ -6,7 +6,7 @@ ghost use Rattle.bale_types.specs.declared.triple.Triple.{Triple};
 ghost use Rattle.mtx_text.specs.Cells.{InOrder};
 ghost use Rattle.sparse_rows.specs.Owners.{places_for};
 ghost use Rattle.app_topo.specs.Topos.{claims_of, sent_after, own_rows, placed_in};
-ghost use Rattle.app_topo.specs.TopoSent.{sent_of, to_other};
+ghost use Rattle.app_topo.specs.code.TopoSent.{sent_of, to_other};
 
 use crate::marks::number_at;
 use crate::placed::Placed;

@@ -3,7 +3,7 @@
 ghost use Rattle.std.specs.Prelude.{◌≡◌, ◌<◌, ◌≤◌, ◌-◌, ◌%◌, ℕ, drop, Some, length, map, slice_get, slice_index_or};
 ghost use Rattle.std.specs.List.{All, flat_map};
 ghost use Rattle.round_program.specs.Emissions.{HandsOver};
-ghost use Rattle.app_topo.specs.TopoSent.{for_both, sent_of, to_other};
+ghost use Rattle.app_topo.specs.code.TopoSent.{for_both, sent_of, to_other};
 
 use bale_types::{Item, Triple};
 use round_program::Departures;

@@ -3,9 +3,9 @@
 ghost use Rattle.std.specs.Prelude.{◌≡◌, ◌≢◌, ◌<◌, ℕ, [], OnOk, OnErr};
 ghost use Rattle.round_program.specs.Batches.{taken_in};
 ghost use Rattle.app_topo.specs.Topos.{IsTopo, topo_rules, entered, claimed_by, fallen};
-ghost use Rattle.app_topo.specs.TopoSeats.{IsSeat};
-ghost use Rattle.app_topo.specs.TopoSent.{sent_of};
-ghost use Rattle.app_topo.specs.TopoLaws.{IsOwn};
+ghost use Rattle.app_topo.specs.code.TopoSeats.{IsSeat};
+ghost use Rattle.app_topo.specs.code.TopoSent.{sent_of};
+ghost use Rattle.app_topo.specs.laws.TopoLaws.{IsOwn};
 
 use crate::lists::{keep_claims, put_columns, put_next};
 use crate::marks::{add, fresh_after, lessen, mark, mark_if, number_at};
@@ -63,7 +63,7 @@ impl Model for Topo {
 
     ghost Value = { TopoState };
 
-    ghost use Rattle.app_topo.specs.TopoView.{topo_state};
+    ghost use Rattle.app_topo.specs.code.TopoView.{topo_state};
 
     ghost view = { topo_state };
 
@@ -313,7 +313,7 @@ impl Topo {
 
 impl Program for Topo {
     ghost use Rattle.app_topo.specs.Topos.{topo_rules};
-    ghost use Rattle.app_topo.specs.TopoLaws.{topo_laws};
+    ghost use Rattle.app_topo.specs.laws.TopoLaws.{topo_laws};
 
     ghost rules = { topo_rules };
 

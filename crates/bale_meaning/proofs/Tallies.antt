@@ -1,7 +1,7 @@
 -- The tally of lines, entry by entry.
 use Rattle.std.proofs.Common.{ℕ, List, is_eq, refl, ap}
 use Rattle.app_tally.specs.Counts.{by_bytes, tally_of, tally_text, IsTally}
-use Rattle.app_tally.specs.CountOrder.{itself, one_line}
+use Rattle.app_tally.specs.laws.CountOrder.{itself, one_line}
 use Rattle.app_tally.proofs.Tallied.{tally_is}
 use Rattle.app_topo.proofs.Counting.{counted}
 use Rattle.app_tally.specs.Meanings.{TallyMeans}

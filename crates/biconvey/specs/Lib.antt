@@ -8,4 +8,4 @@ pub mod Ways
 pub mod Worlds
 pub mod Drives
 pub mod Seats
-pub mod SeatLaws
+pub mod laws

@@ -37,7 +37,7 @@ impl<'a, A: Asker, const CAP: usize, const HOPS: usize> Model for AtPorts<'a, A,
 
 impl<'a, A: Asker, const CAP: usize, const HOPS: usize> Seated for AtPorts<'a, A, CAP, HOPS> {
     ghost use Rattle.biconvey.specs.Seats.{Ran, HaveSame};
-    ghost use Rattle.biconvey.specs.SeatLaws.{ran_laws, same_laws};
+    ghost use Rattle.biconvey.specs.laws.SeatLaws.{ran_laws, same_laws};
     ghost use Rattle.biconvey.specs.Worlds.{is_over};
 
     ghost ran = { λ told x y. Ran A.talk CAP told x y };

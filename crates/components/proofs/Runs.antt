@@ -21,7 +21,7 @@ use Rattle.reductions.proofs.Starts.{made_from}
 use Rattle.components.specs.declared.labels.Link.{Link}
 use Rattle.components.specs.Connected.{links, IsWay, Connected, IsLeast, AreComponents}
 use Rattle.components.specs.LabelRules.{LabelState, label_rules, most_rounds}
-use Rattle.components.specs.LabelLaws.{label_laws}
+use Rattle.components.specs.laws.LabelLaws.{label_laws}
 use Rattle.components.specs.Starts.{own_links, begins, starts}
 use Rattle.components.proofs.Rounds.{Stage, at, has_labels, label_offers, label_links, begins_sends, own_contained, size, to_owners, next_stage}
 use Rattle.components.proofs.Starts.{starts_in_round}

@@ -1,5 +1,5 @@
 pub mod Connected
-pub mod LabelLaws
 pub mod LabelRules
-pub mod LabelsView
 pub mod Starts
+pub mod code
+pub mod laws

@@ -42,7 +42,7 @@ impl Model for Labels {
 
     ghost Value = { LabelState };
 
-    ghost use Rattle.components.specs.LabelsView.{label_state};
+    ghost use Rattle.components.specs.code.LabelsView.{label_state};
 
     ghost view = { label_state };
 
@@ -85,7 +85,7 @@ impl HasCells for Labels {
 
 impl Program for Labels {
     ghost use Rattle.components.specs.LabelRules.{label_rules};
-    ghost use Rattle.components.specs.LabelLaws.{label_laws};
+    ghost use Rattle.components.specs.laws.LabelLaws.{label_laws};
 
     ghost rules = { label_rules };
 

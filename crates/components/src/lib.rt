@@ -9,8 +9,8 @@
 //! | `specs/Connected` | what the answer means, with no rank and no round: read this first |
 //! | `src/labels.rt` | [`Labels`], one rank's part: its fields, [`Labels::new`], and the calls of `Program` |
 //! | `specs/LabelRules` | its state, when that is valid, and what each call answers or makes of it |
-//! | `specs/LabelsView` | the state, read from the fields |
-//! | `specs/LabelLaws` | the proof of the seven laws |
+//! | `specs/code/LabelsView` | the state, read from the fields |
+//! | `specs/laws/LabelLaws` | the proof of the seven laws |
 //! | `src/starting.rt`, `specs/Starts` | [`start`], the programs of all ranks from a matrix, and the states in which they begin |
 //! | `src/drives.rt` | [`components_serial`], [`components_threads`]: from a matrix to the labels of its vertices |
 //! | `proofs/Starts` | that the ranks begin in round 0 of one run |

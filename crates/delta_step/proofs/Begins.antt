@@ -35,7 +35,7 @@ use Rattle.app_sssp.proofs.Stages.{word_is}
 use Rattle.app_sssp.proofs.Begins.{graph_edges, begin_source, begin_other, begin_len, word_low, own_edges, came_own}
 use Rattle.delta_step.specs.declared.phase.Phase.TheVariants.{First}
 use Rattle.delta_step.specs.Deltas.{DeltaState, IsDelta, delta_rules, may_delta}
-use Rattle.delta_step.specs.DeltaLaws.{delta_laws}
+use Rattle.delta_step.specs.laws.DeltaLaws.{delta_laws}
 use Rattle.delta_step.specs.DeltaRuns.{delta_begins, delta_starts}
 use Rattle.delta_step.proofs.Buckets.{is_light, Owes, none_open}
 use Rattle.delta_step.proofs.OfferRounds.{vertex_at, stage_of, at_vertex}

@@ -23,7 +23,7 @@ use Rattle.app_sssp.proofs.Rounds.{Stage}
 use Rattle.app_sssp.proofs.Begins.{graph_edges}
 use Rattle.delta_step.specs.declared.phase.Phase.TheVariants.{Find, Light, Heavy}
 use Rattle.delta_step.specs.Deltas.{DeltaState, delta_rules, vote_in, ended_in, finding, activated, finished}
-use Rattle.delta_step.specs.DeltaLaws.{delta_laws}
+use Rattle.delta_step.specs.laws.DeltaLaws.{delta_laws}
 use Rattle.delta_step.specs.DeltaRuns.{delta_starts}
 use Rattle.delta_step.proofs.Buckets.{is_light, Offers, offers_fall, Owes, active, calmed_stage, light_sent, heavy_sent, opened, none_open, light_owes, heavy_owes, bucket_low, Within, light_within, Beyond, heavy_beyond, Lit, lit_begins}
 use Rattle.delta_step.proofs.BucketEnds.{lit_more, lit_ends, left_count, fewer_left, later_one}

@@ -15,10 +15,10 @@ use Rattle.least_walks.specs.declared.vertices.Vertex.{Vertex}
 use Rattle.least_walks.specs.Vertices.{in_bucket, picked, calm_if, least_marked}
 use Rattle.least_walks.proofs.Marks.{picked_below, picked_count}
 use Rattle.app_sssp.specs.Sssps.{IsInside}
-use Rattle.app_sssp.specs.SsspLaws.{greater_inside}
+use Rattle.app_sssp.specs.laws.SsspLaws.{greater_inside}
 use Rattle.delta_step.specs.declared.phase.Phase.TheVariants.{First, Find, Light, Heavy}
 use Rattle.delta_step.specs.Deltas.{DeltaState, IsDelta, no_bucket, bucket_of, announced, next_round, ascending, finding, sorted_out, activated, finished}
-use Rattle.delta_step.specs.DeltaLaws.{vertices_valid, arriving_valid, ascending_below, finding_valid, sorted_valid, activated_valid, finished_valid}
+use Rattle.delta_step.specs.laws.DeltaLaws.{vertices_valid, arriving_valid, ascending_below, finding_valid, sorted_valid, activated_valid, finished_valid}
 
 -- an edge came
 pub came_valid : (s : DeltaState) (t : Triple) (new : List Triple) → IsDelta s → t.i < s.rows → t.j < s.rows → new ≡ raised t s.arriving → IsDelta (record s { arriving = new })

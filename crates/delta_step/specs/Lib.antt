@@ -1,5 +1,4 @@
-pub mod DeltaLaws
 pub mod DeltaRuns
-pub mod DeltaSeats
-pub mod DeltaView
 pub mod Deltas
+pub mod code
+pub mod laws

@@ -8,7 +8,7 @@ ghost use Rattle.least_walks.specs.Tables.{table_of, offers};
 ghost use Rattle.least_walks.specs.Vertices.{improved_at, in_bucket, picked, calm_if, least_marked};
 ghost use Rattle.delta_step.specs.declared.phase.Phase.TheVariants.{First, Find, Light, Heavy};
 ghost use Rattle.delta_step.specs.Deltas.{IsDelta, DeltaState, delta_rules, bucket_of, announced, no_bucket, ascending, offered, absorbed_in, finding, sorted_out, activated, finished};
-ghost use Rattle.delta_step.specs.DeltaSeats.{IsSeat};
+ghost use Rattle.delta_step.specs.code.DeltaSeats.{IsSeat};
 
 use crate::phase::Phase;
 use crate::seat::Seat;
@@ -56,7 +56,7 @@ impl Model for Delta {
 
     ghost Value = { DeltaState };
 
-    ghost use Rattle.delta_step.specs.DeltaView.{delta_state};
+    ghost use Rattle.delta_step.specs.code.DeltaView.{delta_state};
 
     ghost view = { delta_state };
 
@@ -140,7 +140,7 @@ impl Delta {
 
 impl Program for Delta {
     ghost use Rattle.delta_step.specs.Deltas.{delta_rules};
-    ghost use Rattle.delta_step.specs.DeltaLaws.{delta_laws};
+    ghost use Rattle.delta_step.specs.laws.DeltaLaws.{delta_laws};
 
     ghost rules = { delta_rules };
 

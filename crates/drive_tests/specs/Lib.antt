@@ -1,2 +1,2 @@
 pub mod Adders
-pub mod AdderLaws
+pub mod laws

@@ -51,7 +51,7 @@ impl Adder {
 
 impl Asker for Adder {
     ghost use Rattle.drive_tests.specs.Adders.{adder_talk};
-    ghost use Rattle.drive_tests.specs.AdderLaws.{adder_laws};
+    ghost use Rattle.drive_tests.specs.laws.AdderLaws.{adder_laws};
 
     ghost talk = { adder_talk };
 

@@ -140,7 +140,7 @@ impl<'a> Watched<'a> {
 
 impl<'a> Program for Watched<'a> {
     ghost use Rattle.round_examples.specs.Counts.{count_rules};
-    ghost use Rattle.round_examples.specs.CountLaws.{count_laws};
+    ghost use Rattle.round_examples.specs.laws.CountLaws.{count_laws};
 
     ghost rules = { count_rules };
 

@@ -6,7 +6,7 @@ use Rattle.std.proofs.lemmas.List.{drop-drop}
 use Rattle.std.proofs.lemmas.List.Elements.{All-drop}
 use Rattle.std.proofs.lemmas.Nat.{le_bytes_8}
 use Rattle.elastic.specs.Spelling.{IsLetter, pad, word_of, further, first_item, next_item, next_items, bytes_in, letter_from}
-use Rattle.elastic.specs.MailLaws.{pad_len, padded_byte}
+use Rattle.elastic.specs.laws.MailLaws.{pad_len, padded_byte}
 
 abbrev no_bytes : List ℕ
 no_bytes = []

@@ -19,7 +19,7 @@ use Rattle.elastic.specs.LetterRules.{LetterRules}
 use Rattle.elastic.specs.LetterLaws.{LetterLaws}
 use Rattle.elastic.specs.LetterRuns.{letters_to_of, letters_by, absorb_letters, letters_upto, letters_absorbed, letter_votes, letter_round, letter_states, letter_votes_at, letter_shape, HasLetterRounds, LetterMember, InLetterRound}
 use Rattle.elastic.specs.Mails.{MailState, mailing, mail_rules, spelled, is_whole, letter_of, begun_with, item_absorbed}
-use Rattle.elastic.specs.MailLaws.{mail_laws, mailing_valid, sender_low}
+use Rattle.elastic.specs.laws.MailLaws.{mail_laws, mailing_valid, sender_low}
 use Rattle.elastic.specs.Theorem.{EachLetterOnce, MailersRunLetters}
 use Rattle.elastic.proofs.Letters.{read_on, left_over, read_all, spellings_are_read}
 

@@ -11,7 +11,7 @@ use Rattle.elastic.specs.Spelling.{IsLetter, next_item, next_items, spelling, le
 use Rattle.elastic.specs.LetterRules.{LetterRules}
 use Rattle.elastic.specs.LetterLaws.{LetterLaws, SameLetters, NextLetters, StillSends}
 use Rattle.elastic.specs.Mails.{MailState, IsMail, spelled, is_whole, begun_after}
-use Rattle.elastic.specs.MailLaws.{spelled_sent, mail_kept}
+use Rattle.elastic.specs.laws.MailLaws.{spelled_sent, mail_kept}
 
 -- ---- Reading
 

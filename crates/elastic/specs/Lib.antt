@@ -1,8 +1,8 @@
 pub mod LetterLaws
 pub mod LetterRules
 pub mod LetterRuns
-pub mod MailLaws
-pub mod MailView
 pub mod Mails
 pub mod Spelling
 pub mod Theorem
+pub mod code
+pub mod laws

@@ -29,7 +29,7 @@ pub struct Mailer<Q: LetterProgram> {
 
 impl<Q: LetterProgram> Model for Mailer<Q> {
     ghost use Rattle.elastic.specs.Mails.{MailState, IsMail};
-    ghost use Rattle.elastic.specs.MailView.{mail_state};
+    ghost use Rattle.elastic.specs.code.MailView.{mail_state};
 
     ghost Value = { MailState Q };
 
@@ -69,7 +69,7 @@ impl<Q: LetterProgram> Mailer<Q> {
 
 impl<Q: LetterProgram> Program for Mailer<Q> {
     ghost use Rattle.elastic.specs.Mails.{mail_rules};
-    ghost use Rattle.elastic.specs.MailLaws.{mail_laws};
+    ghost use Rattle.elastic.specs.laws.MailLaws.{mail_laws};
 
     ghost rules = { mail_rules Q.rules };
 

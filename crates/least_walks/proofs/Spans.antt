@@ -6,7 +6,7 @@ use Rattle.list_laws.specs.Lists.{changed_at, Begins}
 use Rattle.list_laws.proofs.Lists.{map_changed, all_head, all_tail, all_get}
 use Rattle.least_walks.specs.declared.table.Edge.{Edge}
 use Rattle.least_walks.specs.declared.table.Span.{Span}
-use Rattle.least_walks.specs.Spans.{in_span, lists_of, IsWithin}
+use Rattle.least_walks.specs.code.Spans.{in_span, lists_of, IsWithin}
 
 -- edges in a span stay where others come behind them
 pub stays : (xs ys : List Edge) (s : Span) → IsWithin xs s → in_span (xs ++ ys) s ≡ in_span xs s

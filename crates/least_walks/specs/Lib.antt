@@ -1,5 +1,5 @@
 pub mod Lines
-pub mod Spans
 pub mod Tables
 pub mod Vertices
 pub mod Walks
+pub mod code

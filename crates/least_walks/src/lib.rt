@@ -12,7 +12,7 @@
 //! | [`write_vertex`] | the line of a vertex |
 //!
 //! `proofs/Settled` has the lemma on which every answer stands: where no edge improves a weight, each is least.
-//! `proofs/Simple` cuts cycles out of walks, for bounds on rounds alone. `specs/Spans` tells how a table keeps its edges.
+//! `proofs/Simple` cuts cycles out of walks, for bounds on rounds alone. `specs/code/Spans` tells how a table keeps its edges.
 #![tactic(auto)]
 
 mod lines;

@@ -6,7 +6,7 @@ ghost use Rattle.bale_types.specs.declared.triple.Triple.{Triple};
 ghost use Rattle.bale_types.specs.Bits.{twos_complement};
 ghost use Rattle.list_laws.specs.Lists.{changed_at, Begins};
 ghost use Rattle.least_walks.specs.Tables.{edge_of, is_kept, kept, table_of, offer, offers_from, offers_at, offers};
-ghost use Rattle.least_walks.specs.Spans.{in_span, lists_of, IsWithin};
+ghost use Rattle.least_walks.specs.code.Spans.{in_span, lists_of, IsWithin};
 
 use crate::vertices::Vertices;
 use bale_types::{Item, NoMemory, Triple, bits_of};
@@ -43,7 +43,7 @@ impl Model for Table {
     ghost use Rattle.std.specs.Prelude.{List};
     ghost use Rattle.std.specs.List.{All};
     ghost use Rattle.least_walks.specs.declared.table.Edge.{Edge};
-    ghost use Rattle.least_walks.specs.Spans.{lists_of, IsWithin};
+    ghost use Rattle.least_walks.specs.code.Spans.{lists_of, IsWithin};
 
     ghost Value = { List (List Edge) };
 

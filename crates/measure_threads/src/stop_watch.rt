@@ -93,7 +93,7 @@ impl<'a, R> Timed<'a, R> {
 
 impl<'a, R: Clock> Program for Timed<'a, R> {
     ghost use Rattle.round_examples.specs.Traffics.{traffic_rules};
-    ghost use Rattle.round_examples.specs.TrafficLaws.{traffic_laws};
+    ghost use Rattle.round_examples.specs.laws.TrafficLaws.{traffic_laws};
 
     ghost rules = { traffic_rules };
 

@@ -1,13 +1,10 @@
 pub mod Closes
 pub mod Ranks
 pub mod Runs
-pub mod RunLaws
 pub mod Crews
 pub mod Defaults
 pub mod Seats
-pub mod SeatLaws
 pub mod Noted
-pub mod NotedLaws
 pub mod Rings
 pub mod Children
 pub mod Worlds
@@ -16,3 +13,4 @@ pub mod Turns
 pub mod Rounds
 pub mod Told
 pub mod Halves
+pub mod laws

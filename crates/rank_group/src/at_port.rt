@@ -43,9 +43,9 @@ impl<'a, Q: Program, const CAP: usize, const HOPS: usize> Model for AtPort<'a, Q
 impl<'a, Q: Program, const CAP: usize, const HOPS: usize> Seated for AtPort<'a, Q, CAP, HOPS> {
     ghost use Rattle.std.specs.Prelude.{◌||◌};
     ghost use Rattle.rank_group.specs.Seats.{Ran};
-    ghost use Rattle.rank_group.specs.SeatLaws.{ran_laws};
+    ghost use Rattle.rank_group.specs.laws.SeatLaws.{ran_laws};
     ghost use Rattle.rank_group.specs.Noted.{HasSame};
-    ghost use Rattle.rank_group.specs.NotedLaws.{same_laws};
+    ghost use Rattle.rank_group.specs.laws.NotedLaws.{same_laws};
 
     ghost ran = { λ told x y. Ran Q.rules CAP told x y };
 

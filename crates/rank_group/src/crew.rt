@@ -70,7 +70,7 @@ impl<A: Seated> Crew<A> {
 impl<A: Seated> Seated for Crew<A> {
     ghost use Rattle.std.specs.List.{list_all, sum_by};
     ghost use Rattle.rank_group.specs.Runs.{AllRan};
-    ghost use Rattle.rank_group.specs.RunLaws.{all_ran_laws};
+    ghost use Rattle.rank_group.specs.laws.RunLaws.{all_ran_laws};
 
     ghost ran = { λ told xs ys. AllRan (A.ran told) xs ys };
 

@@ -9,4 +9,4 @@ pub mod Moves
 pub mod Cycles
 pub mod Batches
 pub mod Pushes
-pub mod PushLaws
+pub mod laws

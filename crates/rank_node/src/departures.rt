@@ -1,7 +1,7 @@
 //! A conveyor and an exstack, as what takes the items that a rank sends.
 ghost use Rattle.std.specs.Prelude.{◌≡◌, ℕ, Bool};
 ghost use Rattle.rank_node.specs.Pushes.{MayPush, Pushes, MayFill, FillsOne};
-ghost use Rattle.rank_node.specs.PushLaws.{push_stays, fill_stays};
+ghost use Rattle.rank_node.specs.laws.PushLaws.{push_stays, fill_stays};
 
 use bale_types::Item;
 use convey::{Conveyor, Pushed};

@@ -8,7 +8,7 @@ use Rattle.bale_types.specs.declared.Item.{Item}
 use Rattle.list_laws.proofs.Lists.{map_changed, map_unchanged, all_head, all_tail}
 use Rattle.round_program.specs.Laws.{Fits}
 use Rattle.round_examples.specs.Asks.{AskState, IsAsk, IsQuery, ask_rules, is_asked, noted, answered, query, asks_from, replies_from}
-use Rattle.round_examples.specs.AskLaws.{ask_laws}
+use Rattle.round_examples.specs.laws.AskLaws.{ask_laws}
 
 -- one list of many grew by an item, or none did
 pub note_is : {X : Type 0} (f : X → List Item) (xs : List X) (i : ℕ) (x y : X) (item : Item) (b : Bool) → slice_get xs i ≡ Some x → f y ≡ cond b (f x ++ item ∷ []) (f x) → map f (slice_set xs i y) ≡ cond b (noted (map f xs) i item) (map f xs)

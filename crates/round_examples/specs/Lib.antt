@@ -1,13 +1,7 @@
-pub mod AskLaws
-pub mod AskView
 pub mod Asks
-pub mod CountLaws
-pub mod CountView
 pub mod Counts
-pub mod LookupLaws
-pub mod LookupView
 pub mod Lookups
 pub mod SmallTable
 pub mod Traffics
-pub mod TrafficView
-pub mod TrafficLaws
+pub mod code
+pub mod laws

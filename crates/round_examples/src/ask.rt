@@ -33,7 +33,7 @@ impl Model for Ask {
 
     ghost Value = { AskState };
 
-    ghost use Rattle.round_examples.specs.AskView.{ask_state};
+    ghost use Rattle.round_examples.specs.code.AskView.{ask_state};
 
     ghost view = { ask_state };
 
@@ -80,7 +80,7 @@ impl Ask {
 
 impl Program for Ask {
     ghost use Rattle.round_examples.specs.Asks.{ask_rules};
-    ghost use Rattle.round_examples.specs.AskLaws.{ask_laws};
+    ghost use Rattle.round_examples.specs.laws.AskLaws.{ask_laws};
 
     ghost rules = { ask_rules };
 

@@ -24,7 +24,7 @@ impl Model for Count {
 
     ghost Value = { CountState };
 
-    ghost use Rattle.round_examples.specs.CountView.{count_state};
+    ghost use Rattle.round_examples.specs.code.CountView.{count_state};
 
     ghost view = { count_state };
 
@@ -64,7 +64,7 @@ impl Count {
 
 impl Program for Count {
     ghost use Rattle.round_examples.specs.Counts.{count_rules};
-    ghost use Rattle.round_examples.specs.CountLaws.{count_laws};
+    ghost use Rattle.round_examples.specs.laws.CountLaws.{count_laws};
 
     ghost rules = { count_rules };
 

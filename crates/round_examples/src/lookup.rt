@@ -23,7 +23,7 @@ impl Model for Lookup {
 
     ghost Value = { LookupState };
 
-    ghost use Rattle.round_examples.specs.LookupView.{lookup_state};
+    ghost use Rattle.round_examples.specs.code.LookupView.{lookup_state};
 
     ghost view = { lookup_state };
 
@@ -69,7 +69,7 @@ impl Lookup {
 
 impl Asker for Lookup {
     ghost use Rattle.round_examples.specs.Lookups.{lookup_talk};
-    ghost use Rattle.round_examples.specs.LookupLaws.{lookup_laws};
+    ghost use Rattle.round_examples.specs.laws.LookupLaws.{lookup_laws};
 
     ghost talk = { lookup_talk };
 

@@ -25,7 +25,7 @@ pub struct Traffic {
 
 impl Model for Traffic {
     ghost use Rattle.round_examples.specs.Traffics.{TrafficState, IsTraffic};
-    ghost use Rattle.round_examples.specs.TrafficView.{traffic_state};
+    ghost use Rattle.round_examples.specs.code.TrafficView.{traffic_state};
 
     ghost Value = { TrafficState };
 
@@ -81,7 +81,7 @@ impl Traffic {
 
 impl Program for Traffic {
     ghost use Rattle.round_examples.specs.Traffics.{traffic_rules};
-    ghost use Rattle.round_examples.specs.TrafficLaws.{traffic_laws};
+    ghost use Rattle.round_examples.specs.laws.TrafficLaws.{traffic_laws};
 
     ghost rules = { traffic_rules };
 

@@ -28,7 +28,7 @@ use Rattle.app_sssp.proofs.Begins.{graph_edges, own_edges}
 use Rattle.delta_step.specs.declared.phase.Phase.{Phase}
 use Rattle.delta_step.specs.declared.phase.Phase.TheVariants.{First, Find, Light, Heavy}
 use Rattle.delta_step.specs.Deltas.{DeltaState, delta_rules, activated, finished, ascending, announced, bucket_of}
-use Rattle.delta_step.specs.DeltaLaws.{delta_laws}
+use Rattle.delta_step.specs.laws.DeltaLaws.{delta_laws}
 use Rattle.delta_step.specs.DeltaRuns.{delta_starts}
 use Rattle.delta_step.proofs.Begins.{starts_in_round}
 use Rattle.delta_step.proofs.Buckets.{Offers, active, calmed_stage, light_sent, heavy_sent, opened}

@@ -20,7 +20,7 @@ use Rattle.least_walks.specs.Vertices.{unreached}
 use Rattle.least_walks.proofs.Offered.{weighing}
 use Rattle.least_walks.proofs.Settled.{cost, walk_push, weight_push}
 use Rattle.app_sssp.specs.Sssps.{SsspState, sssp_rules, table_after}
-use Rattle.app_sssp.specs.SsspLaws.{sssp_laws}
+use Rattle.app_sssp.specs.laws.SsspLaws.{sssp_laws}
 use Rattle.app_sssp.specs.SsspRuns.{IsGraph, vertices_begin, sssp_starts}
 use Rattle.app_sssp.proofs.Rounds.{Stage, Improved, Round}
 use Rattle.app_sssp.proofs.Stages.{vertex_at, stage_of, at_vertex, one_round, later_at}

@@ -1,7 +1,7 @@
 -- What is left makes of these queries what all makes of the first ones.
 use Rattle.std.proofs.Common.{◌≡◌, length, map, All}
 use Rattle.app_histo_ig.specs.Igs.{IsQuery}
-use Rattle.app_histo_ig.specs.Batches.{all_noted}
+use Rattle.app_histo_ig.specs.code.Batches.{all_noted}
 use Rattle.app_histo_ig.proofs.batches.note_each.Given as goal
 
 abbrev pub invariant-loop-from : goal.invariant-loop-from

@@ -1,6 +1,6 @@
 -- What is left makes of these answers what all makes of the first ones.
 use Rattle.std.proofs.Common.{◌≡◌, length}
-use Rattle.app_histo_ig.specs.Batches.{all_answered}
+use Rattle.app_histo_ig.specs.code.Batches.{all_answered}
 use Rattle.app_histo_ig.proofs.batches.raise_each.Given as goal
 
 abbrev pub invariant-loop-from : goal.invariant-loop-from

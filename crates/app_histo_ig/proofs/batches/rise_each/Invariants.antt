@@ -1,6 +1,6 @@
 -- What is left makes of these sums what all makes of the first ones.
 use Rattle.std.proofs.Common.{◌≡◌, length}
-use Rattle.app_histo_ig.specs.Batches.{all_risen}
+use Rattle.app_histo_ig.specs.code.Batches.{all_risen}
 use Rattle.app_histo_ig.proofs.batches.rise_each.Given as goal
 
 abbrev pub invariant-loop-from : goal.invariant-loop-from

@@ -2,7 +2,7 @@ use Rattle.std.proofs.Common.{◌≡◌, ℕ, ◌<◌, ◌^◌, All, List, map, 
 use Rattle.std.specs.Prelude.{vec_len}
 use Rattle.std.proofs.lemmas.List.{length-map, length-replicate}
 use Rattle.bale_types.specs.declared.Item.{Item}
-use Rattle.app_histo_ig.specs.IgSent.{question_of, to_add}
+use Rattle.app_histo_ig.specs.code.IgSent.{question_of, to_add}
 use Rattle.app_histo_ig.proofs.IgSent.{own_questions}
 use Rattle.app_histo_ig.proofs.SumsAsked.{asks_ranks, asker_is}
 use Rattle.app_histo_ig.proofs.ig_by_askers.asker_of.Goals as goal

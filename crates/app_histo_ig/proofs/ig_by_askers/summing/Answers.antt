@@ -1,6 +1,6 @@
 use Rattle.std.proofs.Common.{◌+◌, ◌/◌, map, replicate, sym, ap, ◌∙◌, subst}
 use Rattle.sparse_rows.specs.Owners.{own_entries}
-use Rattle.app_histo_ig.specs.IgSent.{own_entry, to_add}
+use Rattle.app_histo_ig.specs.code.IgSent.{own_entry, to_add}
 use Rattle.app_histo_ig.specs.Sums.{IsSums}
 use Rattle.sparse_rows.proofs.Starts.{own_part, part_below}
 use Rattle.app_histo_ig.proofs.IgSent.{own_values}

@@ -1,5 +1,5 @@
 use Rattle.std.proofs.Common.{[], ◌∷◌, ◌++◌, get_or, ap, ◌∙◌}
-use Rattle.app_histo_ig.specs.IgSent.{own_entry}
+use Rattle.app_histo_ig.specs.code.IgSent.{own_entry}
 use Rattle.sparse_rows.proofs.Starts.{fields_more}
 use Rattle.app_histo_ig.proofs.ig_run.own_of.Goals as goal
 

@@ -1,5 +1,5 @@
 use Rattle.std.proofs.Common.{◌≡◌, [], map, take, slice_index_or}
-use Rattle.app_histo_ig.specs.IgSent.{own_entry}
+use Rattle.app_histo_ig.specs.code.IgSent.{own_entry}
 use Rattle.app_histo_ig.proofs.ig_run.own_of.Given as goal
 
 abbrev pub invariant-loop-x : goal.invariant-loop-x

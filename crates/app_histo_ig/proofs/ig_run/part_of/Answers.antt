@@ -1,7 +1,7 @@
 use Rattle.std.proofs.Common.{ℕ, ◌+◌, ◌/◌, length, map, replicate, sym, ap, ◌∙◌, subst}
 use Rattle.sparse_rows.specs.Owners.{own_entries}
 use Rattle.app_histo_ig.specs.Igs.{IsIg}
-use Rattle.app_histo_ig.specs.IgSent.{own_entry, number_and_column, to_add}
+use Rattle.app_histo_ig.specs.code.IgSent.{own_entry, number_and_column, to_add}
 use Rattle.sparse_rows.proofs.Starts.{own_part, part_below}
 use Rattle.app_histo_ig.proofs.IgRounds.{begins_valid, begins_is}
 use Rattle.app_histo_ig.proofs.IgSent.{own_numbers, own_values}

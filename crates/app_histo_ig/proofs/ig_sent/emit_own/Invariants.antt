@@ -1,7 +1,7 @@
 use Rattle.std.proofs.Common.{◌≡◌, ◌≤◌, ◌-◌, length, drop}
 use Rattle.std.specs.List.{All}
 use Rattle.round_program.proofs.Emissions.{Reaches}
-use Rattle.app_histo_ig.specs.IgSent.{sent_of_own}
+use Rattle.app_histo_ig.specs.code.IgSent.{sent_of_own}
 use Rattle.app_histo_ig.proofs.ig_sent.emit_own.Given as goal
 
 abbrev pub invariant-loop-next : goal.invariant-loop-next

@@ -2,7 +2,7 @@ use Rattle.std.proofs.Common.{◌≡◌, length, map, arith, ◌∙◌}
 use Rattle.std.proofs.lemmas.List.{length-map}
 use Rattle.std.proofs.lemmas.Option.{slice_get-get_or}
 use Rattle.app_histo_ig.specs.Igs.{to_ask}
-use Rattle.app_histo_ig.specs.IgSent.{number_and_column}
+use Rattle.app_histo_ig.specs.code.IgSent.{number_and_column}
 use Rattle.app_histo_ig.proofs.IgSent.{query_at}
 use Rattle.app_histo_ig.proofs.ig_sent.query_of_own.Goals as goal
 

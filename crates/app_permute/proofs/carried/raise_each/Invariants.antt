@@ -1,7 +1,7 @@
 -- What is left makes of these cells what all makes of the first ones.
 use Rattle.std.proofs.Common.{◌≡◌, length, All}
 use Rattle.mtx_text.specs.Cells.{InOrder}
-use Rattle.app_permute.specs.Batches.{all_raised}
+use Rattle.app_permute.specs.code.Batches.{all_raised}
 use Rattle.app_permute.specs.Permutes.{IsKept}
 use Rattle.app_permute.proofs.carried.raise_each.Given as goal
 

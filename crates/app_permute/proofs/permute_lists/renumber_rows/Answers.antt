@@ -1,5 +1,5 @@
 use Rattle.std.proofs.Common.{◌<◌, length, arith}
-use Rattle.app_permute.specs.Sent.{with_new_row}
+use Rattle.app_permute.specs.code.Sent.{with_new_row}
 use Rattle.list_laws.proofs.Mapping.{mapped_step}
 use Rattle.app_permute.proofs.permute_lists.renumber_rows.Goals as goal
 

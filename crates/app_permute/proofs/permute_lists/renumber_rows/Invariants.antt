@@ -1,4 +1,4 @@
-use Rattle.app_permute.specs.Sent.{with_new_row}
+use Rattle.app_permute.specs.code.Sent.{with_new_row}
 use Rattle.list_laws.proofs.Mapping.{Mapped}
 use Rattle.app_permute.proofs.permute_lists.renumber_rows.Given as goal
 

@@ -1,7 +1,7 @@
 use Rattle.std.proofs.Common.{◌≡◌, ◌≤◌, ◌-◌, length, drop}
 use Rattle.std.specs.List.{All}
 use Rattle.round_program.proofs.Emissions.{Reaches}
-use Rattle.app_permute.specs.Sent.{sent_of}
+use Rattle.app_permute.specs.code.Sent.{sent_of}
 use Rattle.app_permute.proofs.sending.emit_sent.Given as goal
 
 abbrev pub invariant-loop-next : goal.invariant-loop-next

@@ -2,7 +2,7 @@ use Rattle.std.proofs.Common.{map, sym, ap, ◌∙◌, subst}
 use Rattle.sparse_rows.specs.Owners.{Numbered, own_entries}
 use Rattle.sparse_rows.proofs.Starts.{own_part, part_below}
 use Rattle.app_permute.specs.Moved.{turned}
-use Rattle.app_permute.specs.Sent.{sent_of}
+use Rattle.app_permute.specs.code.Sent.{sent_of}
 use Rattle.app_permute.specs.Transposes.{IsTransposing}
 use Rattle.app_permute.proofs.Sent.{turned_sent}
 use Rattle.app_permute.proofs.TransposeOwners.{begins_valid, begins_is}

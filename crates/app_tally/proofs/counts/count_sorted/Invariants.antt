@@ -1,6 +1,6 @@
 use Rattle.std.proofs.Common.{◌≡◌, map, take}
 use Rattle.app_tally.specs.Counts.{tally_of}
-use Rattle.app_tally.specs.CountView.{entries_of, IsCounts}
+use Rattle.app_tally.specs.code.CountView.{entries_of, IsCounts}
 use Rattle.app_tally.proofs.counts.count_sorted.Given as goal
 
 abbrev pub invariant-loop-line : goal.invariant-loop-line

@@ -1,7 +1,7 @@
 use Rattle.std.proofs.Common.{◌%◌, ◌++◌, cond, map, sym, ap, ◌∙◌}
 use Rattle.std.proofs.lemmas.Bool.{eq-eqb}
 use Rattle.app_topo.specs.Topos.{placed_in}
-use Rattle.app_topo.specs.TopoSent.{sent_of}
+use Rattle.app_topo.specs.code.TopoSent.{sent_of}
 use Rattle.app_topo.proofs.TopoKept.{placed_is}
 use Rattle.app_topo.proofs.lists.keep_claims.Goals as goal
 

@@ -1,5 +1,5 @@
 use Rattle.std.proofs.Common.{map}
-use Rattle.app_topo.specs.TopoSent.{to_other}
+use Rattle.app_topo.specs.code.TopoSent.{to_other}
 use Rattle.app_topo.proofs.TopoLists.{rows_more}
 use Rattle.app_topo.proofs.lists.push_first_claims.Goals as goal
 

@@ -1,6 +1,6 @@
 use Rattle.std.proofs.Common.{◌≡◌, ◌+◌, ◌*◌, map}
 use Rattle.std.specs.List.{range_with_len}
-use Rattle.app_topo.specs.TopoSent.{to_other}
+use Rattle.app_topo.specs.code.TopoSent.{to_other}
 use Rattle.app_topo.specs.Topos.{claims_of}
 use Rattle.app_topo.proofs.lists.push_first_claims.Given as goal
 

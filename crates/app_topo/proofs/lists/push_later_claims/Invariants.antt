@@ -1,5 +1,5 @@
 use Rattle.std.proofs.Common.{◌≡◌, map, take}
-use Rattle.app_topo.specs.TopoSent.{to_other}
+use Rattle.app_topo.specs.code.TopoSent.{to_other}
 use Rattle.app_topo.specs.Topos.{claims_of}
 use Rattle.app_topo.proofs.lists.push_later_claims.Given as goal
 

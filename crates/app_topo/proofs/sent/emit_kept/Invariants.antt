@@ -1,7 +1,7 @@
 use Rattle.std.proofs.Common.{◌≡◌, ◌≤◌, ◌-◌, length, drop}
 use Rattle.std.specs.List.{All}
 use Rattle.round_program.proofs.Emissions.{Reaches}
-use Rattle.app_topo.specs.TopoSent.{sent_of}
+use Rattle.app_topo.specs.code.TopoSent.{sent_of}
 use Rattle.app_topo.proofs.sent.emit_kept.Given as goal
 
 abbrev pub invariant-loop-next : goal.invariant-loop-next

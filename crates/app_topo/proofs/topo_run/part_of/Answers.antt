@@ -3,7 +3,7 @@ use Rattle.std.specs.List.{flat_map}
 use Rattle.sparse_rows.proofs.Starts.{own_part, part_below}
 use Rattle.app_topo.specs.Topos.{IsTopo}
 use Rattle.app_topo.specs.TopoRuns.{first_sent}
-use Rattle.app_topo.specs.TopoSent.{for_both}
+use Rattle.app_topo.specs.code.TopoSent.{for_both}
 use Rattle.app_topo.proofs.TopoKept.{both_first}
 use Rattle.app_topo.proofs.TopoStart.{begins_valid, begins_is}
 use Rattle.app_topo.proofs.topo_run.part_of.Goals as goal

@@ -1,6 +1,6 @@
 use Rattle.std.proofs.Common.{◌<◌, ◌-◌, length, refl, arith}
 use Rattle.std.proofs.lemmas.Option.{slice_get_read}
-use Rattle.rank_group.specs.RunLaws.{all_ran_laws}
+use Rattle.rank_group.specs.laws.RunLaws.{all_ran_laws}
 use Rattle.rank_group.proofs.Crewed.{neither, ran_on, sum_set}
 use Rattle.rank_group.proofs.crew.turn_each.Goals as goal
 

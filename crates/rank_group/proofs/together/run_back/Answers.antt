@@ -1,6 +1,6 @@
 use Rattle.std.proofs.Common.{sym, subst}
 use Rattle.rank_group.specs.Runs.{AllRan}
-use Rattle.rank_group.specs.RunLaws.{all_ran_laws}
+use Rattle.rank_group.specs.laws.RunLaws.{all_ran_laws}
 use Rattle.rank_group.proofs.together.run_back.Goals as goal
 
 pub returns-clause-ran : goal.returns-clause-ran

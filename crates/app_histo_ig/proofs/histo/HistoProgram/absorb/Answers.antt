@@ -1,8 +1,8 @@
 use Rattle.std.proofs.Common.{◌<◌, ◌^◌, arith, sym, subst}
 use Rattle.round_program.specs.Laws.{Fits}
 use Rattle.app_histo_ig.specs.Histos.{histo_rules}
-use Rattle.app_histo_ig.specs.HistoLaws.{count_small}
-use Rattle.app_histo_ig.specs.HistoView.{histo_state}
+use Rattle.app_histo_ig.specs.laws.HistoLaws.{count_small}
+use Rattle.app_histo_ig.specs.code.HistoView.{histo_state}
 use Rattle.app_histo_ig.proofs.histo.HistoProgram.absorb.Goals as goal
 
 pub overflow_cast-place : goal.overflow_cast-place

@@ -5,8 +5,8 @@ use Rattle.std.proofs.lemmas.List.{with_items_is}
 use Rattle.round_program.specs.Batches.{all_taken_in}
 use Rattle.app_histo_ig.specs.declared.seat.Seat.{Seat}
 use Rattle.app_histo_ig.specs.Histos.{histo_rules}
-use Rattle.app_histo_ig.specs.HistoView.{histo_state}
-use Rattle.app_histo_ig.specs.Batches.{all_risen}
+use Rattle.app_histo_ig.specs.code.HistoView.{histo_state}
+use Rattle.app_histo_ig.specs.code.Batches.{all_risen}
 use Rattle.app_histo_ig.proofs.Taken.{all_risen_len, counts_taken, no_counts}
 use Rattle.app_histo_ig.proofs.histo.HistoProgram.absorb_each.Goals as goal
 

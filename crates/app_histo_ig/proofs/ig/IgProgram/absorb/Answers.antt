@@ -3,9 +3,9 @@ use Rattle.std.specs.Vec.{with_items}
 use Rattle.std.proofs.lemmas.List.{with_items_is}
 use Rattle.round_program.specs.Laws.{Fits}
 use Rattle.app_histo_ig.specs.Owners.{risen}
-use Rattle.app_histo_ig.specs.OwnerLaws.{risen_len}
+use Rattle.app_histo_ig.specs.laws.OwnerLaws.{risen_len}
 use Rattle.app_histo_ig.specs.Igs.{IsIg, ig_rules, replies_from}
-use Rattle.app_histo_ig.specs.IgView.{ig_state}
+use Rattle.app_histo_ig.specs.code.IgView.{ig_state}
 use Rattle.app_histo_ig.proofs.IgSent.{same_early}
 use Rattle.app_histo_ig.proofs.IgSteps.{note_valid, rise_valid}
 use Rattle.app_histo_ig.proofs.ig.IgProgram.absorb.Goals as goal

@@ -7,8 +7,8 @@ use Rattle.round_program.specs.Batches.{all_taken_in}
 use Rattle.round_program.proofs.Batches.{then}
 use Rattle.app_histo_ig.specs.declared.seat.Seat.{Seat}
 use Rattle.app_histo_ig.specs.Igs.{IsIg, ig_rules, replies_from}
-use Rattle.app_histo_ig.specs.IgView.{ig_state}
-use Rattle.app_histo_ig.specs.Batches.{all_risen, all_answered}
+use Rattle.app_histo_ig.specs.code.IgView.{ig_state}
+use Rattle.app_histo_ig.specs.code.Batches.{all_risen, all_answered}
 use Rattle.app_histo_ig.proofs.IgSent.{same_early}
 use Rattle.app_histo_ig.proofs.Taken.{all_risen_len, all_answered_len, values_taken, queries_taken, replies_taken, values_valid}
 use Rattle.app_histo_ig.proofs.ig.IgProgram.absorb_each.Goals as goal

@@ -1,6 +1,6 @@
 use Rattle.std.proofs.Common.{map, length, ap, refl, ◌∙◌, arith}
 use Rattle.app_histo_ig.specs.Igs.{ig_rules, replies_from}
-use Rattle.app_histo_ig.specs.IgView.{ig_state}
+use Rattle.app_histo_ig.specs.code.IgView.{ig_state}
 use Rattle.app_histo_ig.proofs.IgSteps.{ended_from, ended_is}
 use Rattle.app_histo_ig.proofs.ig.IgProgram.end_round.Goals as goal
 

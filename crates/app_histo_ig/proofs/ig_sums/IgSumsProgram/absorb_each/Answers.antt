@@ -5,8 +5,8 @@ use Rattle.std.proofs.lemmas.List.{with_items_is}
 use Rattle.round_program.specs.Batches.{all_taken_in}
 use Rattle.app_histo_ig.specs.declared.seat.Seat.{Seat}
 use Rattle.app_histo_ig.specs.Sums.{sums_rules}
-use Rattle.app_histo_ig.specs.SumsView.{sums_state}
-use Rattle.app_histo_ig.specs.Batches.{all_risen}
+use Rattle.app_histo_ig.specs.code.SumsView.{sums_state}
+use Rattle.app_histo_ig.specs.code.Batches.{all_risen}
 use Rattle.app_histo_ig.proofs.Taken.{all_risen_len, sums_taken, no_sums, sums_valid}
 use Rattle.app_histo_ig.proofs.ig_sums.IgSumsProgram.absorb_each.Goals as goal
 

@@ -1,7 +1,7 @@
 use Rattle.std.proofs.Common.{sym, subst}
 use Rattle.round_program.specs.Laws.{Fits}
 use Rattle.app_permute.specs.Permutes.{permute_rules}
-use Rattle.app_permute.specs.PermuteView.{permute_state}
+use Rattle.app_permute.specs.code.PermuteView.{permute_state}
 use Rattle.app_permute.proofs.PermuteSteps.{raise_valid}
 use Rattle.app_permute.proofs.permute.PermuteProgram.absorb.Goals as goal
 

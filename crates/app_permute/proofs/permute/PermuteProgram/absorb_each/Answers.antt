@@ -5,7 +5,7 @@ use Rattle.bale_types.specs.declared.triple.Triple.{Triple}
 use Rattle.round_program.specs.Batches.{all_taken_in}
 use Rattle.round_program.proofs.Batches.{then}
 use Rattle.app_permute.specs.Permutes.{permute_rules}
-use Rattle.app_permute.specs.PermuteView.{permute_state}
+use Rattle.app_permute.specs.code.PermuteView.{permute_state}
 use Rattle.app_permute.proofs.PermuteBatches.{columns_taken, rows_taken, batch_valid}
 use Rattle.app_permute.proofs.permute.PermuteProgram.absorb_each.Goals as goal
 

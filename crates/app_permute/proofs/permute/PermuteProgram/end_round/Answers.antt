@@ -1,6 +1,6 @@
 use Rattle.std.proofs.Common.{ap, ◌∙◌}
 use Rattle.app_permute.specs.Permutes.{permute_rules}
-use Rattle.app_permute.specs.PermuteView.{permute_state}
+use Rattle.app_permute.specs.code.PermuteView.{permute_state}
 use Rattle.app_permute.proofs.PermuteSteps.{ended_valid, ended_is}
 use Rattle.app_permute.proofs.permute.PermuteProgram.end_round.Goals as goal
 

@@ -1,4 +1,4 @@
-use Rattle.app_permute.specs.TransposeView.{transpose_state}
+use Rattle.app_permute.specs.code.TransposeView.{transpose_state}
 use Rattle.app_permute.proofs.TransposeOwners.{raise_valid}
 use Rattle.app_permute.proofs.transpose.TransposeProgram.absorb.Goals as goal
 

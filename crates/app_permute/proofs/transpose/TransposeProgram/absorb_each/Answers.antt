@@ -4,7 +4,7 @@ use Rattle.bale_types.specs.declared.triple.Triple.{Triple}
 use Rattle.round_program.specs.Batches.{all_taken_in}
 use Rattle.round_program.proofs.Batches.{then}
 use Rattle.app_permute.specs.Transposes.{transpose_rules}
-use Rattle.app_permute.specs.TransposeView.{transpose_state}
+use Rattle.app_permute.specs.code.TransposeView.{transpose_state}
 use Rattle.app_permute.proofs.TransposeBatches.{cells_taken, no_cells}
 use Rattle.app_permute.proofs.transpose.TransposeProgram.absorb_each.Goals as goal
 

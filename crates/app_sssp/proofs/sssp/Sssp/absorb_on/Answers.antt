@@ -1,7 +1,7 @@
 use Rattle.std.proofs.Common.{◌≡◌, sym, subst, refl, ◌∙◌}
 use Rattle.round_program.specs.Laws.{Fits}
 use Rattle.app_sssp.specs.Sssps.{sssp_rules}
-use Rattle.app_sssp.specs.SsspView.{sssp_state}
+use Rattle.app_sssp.specs.code.SsspView.{sssp_state}
 use Rattle.app_sssp.proofs.Steps.{came_valid}
 use Rattle.app_sssp.proofs.sssp.Sssp.absorb_on.Goals as goal
 

@@ -1,7 +1,7 @@
 use Rattle.std.proofs.Common.{◌≡◌, length}
 use Rattle.round_program.specs.Batches.{all_taken_in}
 use Rattle.app_sssp.specs.Sssps.{sssp_rules}
-use Rattle.app_sssp.specs.SsspSeats.{IsSeat}
+use Rattle.app_sssp.specs.code.SsspSeats.{IsSeat}
 use Rattle.app_sssp.proofs.sssp.SsspProgram.absorb_each.Given as goal
 
 -- what is left makes of this state what all makes of the first one

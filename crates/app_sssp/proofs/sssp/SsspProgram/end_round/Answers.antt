@@ -2,8 +2,8 @@ use Rattle.std.proofs.Common.{ap, ◌∙◌, length}
 use Rattle.std.proofs.lemmas.List.{length-map}
 use Rattle.least_walks.specs.Tables.{offers}
 use Rattle.least_walks.specs.Vertices.{calm}
-use Rattle.app_sssp.specs.SsspLaws.{table_after_len}
-use Rattle.app_sssp.specs.SsspView.{sssp_state}
+use Rattle.app_sssp.specs.laws.SsspLaws.{table_after_len}
+use Rattle.app_sssp.specs.code.SsspView.{sssp_state}
 use Rattle.app_sssp.proofs.Steps.{stopped_valid, ended_from, marked_in}
 use Rattle.app_sssp.proofs.sssp.SsspProgram.end_round.Goals as goal
 

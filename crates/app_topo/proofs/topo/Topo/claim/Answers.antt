@@ -1,7 +1,7 @@
 use Rattle.std.proofs.Common.{sym, subst, refl, ap, length, ◌∙◌}
 use Rattle.app_topo.specs.Topos.{spot}
-use Rattle.app_topo.specs.TopoLaws.{IsOwn, added_len}
-use Rattle.app_topo.specs.TopoView.{topo_state}
+use Rattle.app_topo.specs.laws.TopoLaws.{IsOwn, added_len}
+use Rattle.app_topo.specs.code.TopoView.{topo_state}
 use Rattle.app_topo.proofs.TopoSteps.{kept_valid, at_one, fresh_low}
 use Rattle.app_topo.proofs.topo.Topo.claim.Goals as goal
 

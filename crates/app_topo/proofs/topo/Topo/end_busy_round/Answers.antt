@@ -1,5 +1,5 @@
 use Rattle.std.proofs.Common.{ap, cond, ◌==◌, ◌∙◌}
-use Rattle.app_topo.specs.TopoView.{topo_state}
+use Rattle.app_topo.specs.code.TopoView.{topo_state}
 use Rattle.app_topo.proofs.TopoKept.{sent_then}
 use Rattle.app_topo.proofs.TopoSteps.{ended_valid}
 use Rattle.app_topo.proofs.topo.Topo.end_busy_round.Goals as goal

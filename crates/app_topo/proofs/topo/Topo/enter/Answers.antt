@@ -1,7 +1,7 @@
 use Rattle.std.proofs.Common.{sym, subst, refl}
 use Rattle.app_topo.specs.Topos.{spot}
-use Rattle.app_topo.specs.TopoLaws.{IsOwn}
-use Rattle.app_topo.specs.TopoView.{topo_state}
+use Rattle.app_topo.specs.laws.TopoLaws.{IsOwn}
+use Rattle.app_topo.specs.code.TopoView.{topo_state}
 use Rattle.app_topo.proofs.TopoSteps.{kept_valid}
 use Rattle.app_topo.proofs.topo.Topo.enter.Goals as goal
 

@@ -1,7 +1,7 @@
 use Rattle.std.proofs.Common.{◌≡◌, length}
 use Rattle.round_program.specs.Batches.{all_taken_in}
 use Rattle.app_topo.specs.Topos.{topo_rules}
-use Rattle.app_topo.specs.TopoSeats.{IsSeat}
+use Rattle.app_topo.specs.code.TopoSeats.{IsSeat}
 use Rattle.app_topo.proofs.topo.TopoProgram.absorb_each.Given as goal
 
 -- what is left makes of this state what all makes of the first one

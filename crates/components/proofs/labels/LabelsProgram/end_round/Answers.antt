@@ -1,7 +1,7 @@
 use Rattle.std.proofs.Common.{◌≡◌, sym, subst, rules}
 use Rattle.components.specs.LabelRules.{LabelState, IsLabels, label_rules}
-use Rattle.components.specs.LabelLaws.{ended_valid}
-use Rattle.components.specs.LabelsView.{label_state}
+use Rattle.components.specs.laws.LabelLaws.{ended_valid}
+use Rattle.components.specs.code.LabelsView.{label_state}
 use Rattle.components.proofs.labels.LabelsProgram.end_round.Goals as goal
 
 same : (s t : LabelState) → t ≡ s → IsLabels s → IsLabels t

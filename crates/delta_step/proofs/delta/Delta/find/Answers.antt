@@ -1,7 +1,7 @@
 use Rattle.std.proofs.Common.{◌≢◌, sym, subst}
 use Rattle.delta_step.specs.declared.phase.Phase.TheVariants.{First}
 use Rattle.delta_step.specs.Deltas.{DeltaState}
-use Rattle.delta_step.specs.DeltaView.{delta_state}
+use Rattle.delta_step.specs.code.DeltaView.{delta_state}
 use Rattle.delta_step.proofs.Steps.{finding_from}
 use Rattle.delta_step.proofs.delta.Delta.find.Goals as goal
 

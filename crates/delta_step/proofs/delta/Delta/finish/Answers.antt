@@ -2,7 +2,7 @@ use Rattle.std.proofs.Common.{◌≢◌, refl, sym, subst, ap, ◌∙◌}
 use Rattle.least_walks.specs.Tables.{offers}
 use Rattle.delta_step.specs.declared.phase.Phase.TheVariants.{First}
 use Rattle.delta_step.specs.Deltas.{DeltaState, ascending}
-use Rattle.delta_step.specs.DeltaView.{delta_state}
+use Rattle.delta_step.specs.code.DeltaView.{delta_state}
 use Rattle.delta_step.proofs.Steps.{settled_in, settled_valid, finished_from}
 use Rattle.delta_step.proofs.delta.Delta.finish.Goals as goal
 

@@ -1,7 +1,7 @@
 use Rattle.std.proofs.Common.{◌≡◌, ◌^◌, ◌-◌, ◌+◌, ap, ◌∙◌, length}
 use Rattle.least_walks.specs.Tables.{table_of}
 use Rattle.delta_step.specs.Deltas.{finding, sorted_out}
-use Rattle.delta_step.specs.DeltaView.{delta_state}
+use Rattle.delta_step.specs.code.DeltaView.{delta_state}
 use Rattle.delta_step.proofs.Steps.{sorted_from, sorted_is}
 use Rattle.delta_step.proofs.delta.Delta.sort_out.Goals as goal
 

@@ -1,5 +1,5 @@
 use Rattle.std.proofs.Common.{◌<◌, sym, subst}
-use Rattle.delta_step.specs.DeltaView.{delta_state}
+use Rattle.delta_step.specs.code.DeltaView.{delta_state}
 use Rattle.delta_step.specs.Deltas.{DeltaState}
 use Rattle.delta_step.proofs.Steps.{came_valid}
 use Rattle.delta_step.proofs.delta.Delta.take_edge.Goals as goal

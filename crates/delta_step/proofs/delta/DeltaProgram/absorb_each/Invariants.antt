@@ -2,7 +2,7 @@
 use Rattle.std.proofs.Common.{◌≡◌, length}
 use Rattle.round_program.specs.Batches.{all_taken_in}
 use Rattle.delta_step.specs.Deltas.{delta_rules}
-use Rattle.delta_step.specs.DeltaSeats.{IsSeat}
+use Rattle.delta_step.specs.code.DeltaSeats.{IsSeat}
 use Rattle.delta_step.proofs.delta.DeltaProgram.absorb_each.Given as goal
 
 abbrev pub invariant-loop-from : goal.invariant-loop-from

@@ -1,5 +1,5 @@
 use Rattle.std.proofs.Common.{◌≤◌, arith}
-use Rattle.delta_step.specs.DeltaView.{delta_state}
+use Rattle.delta_step.specs.code.DeltaView.{delta_state}
 use Rattle.delta_step.proofs.Steps.{votes_few}
 use Rattle.delta_step.proofs.delta.DeltaProgram.vote.Goals as goal
 

@@ -3,8 +3,8 @@ use Rattle.std.proofs.lemmas.List.{length-map}
 use Rattle.round_program.specs.Laws.{Fits}
 use Rattle.elastic.specs.Spelling.{IsLetter}
 use Rattle.elastic.specs.Mails.{begun_with, mail_rules}
-use Rattle.elastic.specs.MailView.{mail_state}
-use Rattle.elastic.specs.MailLaws.{letter_is, sender_low}
+use Rattle.elastic.specs.code.MailView.{mail_state}
+use Rattle.elastic.specs.laws.MailLaws.{letter_is, sender_low}
 use Rattle.elastic.proofs.Steps.{taken_valid}
 use Rattle.elastic.proofs.mailer.MailerProgram.absorb.Goals as goal
 

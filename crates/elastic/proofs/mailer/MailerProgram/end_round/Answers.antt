@@ -1,6 +1,6 @@
 use Rattle.std.proofs.Common.{length, sym}
 use Rattle.std.proofs.lemmas.List.{length-map}
-use Rattle.elastic.specs.MailView.{mail_state}
+use Rattle.elastic.specs.code.MailView.{mail_state}
 use Rattle.elastic.proofs.Steps.{ended_valid}
 use Rattle.elastic.proofs.mailer.MailerProgram.end_round.Goals as goal
 

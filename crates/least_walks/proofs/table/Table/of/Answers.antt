@@ -2,7 +2,7 @@ use Rattle.std.proofs.Common.{◌<◌, ◌/◌, ◌≡◌, ◌≤◌, [], pos, A
 use Rattle.std.proofs.lemmas.List.{length-map}
 use Rattle.std.proofs.lemmas.List.Elements.{All-replicate}
 use Rattle.least_walks.specs.declared.table.Span.{Span}
-use Rattle.least_walks.specs.Spans.{in_span, lists_of, IsWithin}
+use Rattle.least_walks.specs.code.Spans.{in_span, lists_of, IsWithin}
 use Rattle.least_walks.proofs.Rows.{table_none, table_more, table_len}
 use Rattle.least_walks.proofs.Spans.{none_of}
 use Rattle.least_walks.proofs.table.Table.of.Goals as goal

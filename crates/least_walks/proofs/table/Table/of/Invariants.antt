@@ -1,5 +1,5 @@
 use Rattle.std.proofs.Common.{◌≡◌, take, All}
-use Rattle.least_walks.specs.Spans.{lists_of, IsWithin}
+use Rattle.least_walks.specs.code.Spans.{lists_of, IsWithin}
 use Rattle.least_walks.specs.Tables.{table_of}
 use Rattle.least_walks.proofs.table.Table.of.Given as goal
 

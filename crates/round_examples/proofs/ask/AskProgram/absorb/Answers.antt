@@ -1,7 +1,7 @@
 use Rattle.std.proofs.Common.{sym, subst}
 use Rattle.round_program.specs.Laws.{Fits}
 use Rattle.round_examples.specs.Asks.{ask_rules}
-use Rattle.round_examples.specs.AskView.{ask_state}
+use Rattle.round_examples.specs.code.AskView.{ask_state}
 use Rattle.round_examples.proofs.AskSteps.{note_valid}
 use Rattle.round_examples.proofs.ask.AskProgram.absorb.Goals as goal
 

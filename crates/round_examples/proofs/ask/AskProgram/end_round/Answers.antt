@@ -1,5 +1,5 @@
 use Rattle.std.proofs.Common.{ap, map}
-use Rattle.round_examples.specs.AskView.{ask_state}
+use Rattle.round_examples.specs.code.AskView.{ask_state}
 use Rattle.round_examples.proofs.AskSteps.{ended_valid}
 use Rattle.round_examples.proofs.ask.AskProgram.end_round.Goals as goal
 

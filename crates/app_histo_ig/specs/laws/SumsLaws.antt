@@ -7,10 +7,10 @@ use Rattle.bale_types.specs.declared.Item.{Item}
 use Rattle.sparse_rows.proofs.Places.{place_below}
 use Rattle.round_program.specs.Laws.{Laws, Fits, SameRound}
 use Rattle.app_histo_ig.specs.Owners.{risen}
-use Rattle.app_histo_ig.specs.OwnerLaws.{risen_comm, risen_len}
+use Rattle.app_histo_ig.specs.laws.OwnerLaws.{risen_comm, risen_len}
 use Rattle.app_histo_ig.specs.Histos.{may_count}
-use Rattle.app_histo_ig.specs.HistoLaws.{count_within}
-use Rattle.app_histo_ig.specs.IgLaws.{sums_words}
+use Rattle.app_histo_ig.specs.laws.HistoLaws.{count_within}
+use Rattle.app_histo_ig.specs.laws.IgLaws.{sums_words}
 use Rattle.app_histo_ig.specs.Sums.{SumsState, IsSums, sums_rules}
 
 emits : (s : SumsState) → IsSums s → All (λ e. may_count (s.cols ∷ []) s.ranks s.round e.0 s.rank e.1 ≡ true) (sums_rules.emissions s)

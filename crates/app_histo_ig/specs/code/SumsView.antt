@@ -1,7 +1,7 @@
 -- The state of a rank that adds up columns, read from the fields.
 use Rattle.std.specs.Prelude.{map}
 use Rattle.app_histo_ig.specs.declared.ig_sums.IgSums.TheInside.{Inside}
-use Rattle.app_histo_ig.specs.IgSent.{to_add}
+use Rattle.app_histo_ig.specs.code.IgSent.{to_add}
 use Rattle.app_histo_ig.specs.Sums.{SumsState}
 
 abbrev pub sums_state : Inside → SumsState

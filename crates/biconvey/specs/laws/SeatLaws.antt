@@ -3,7 +3,7 @@ use Rattle.std.proofs.Common.{◌≡◌, ℕ, Bool, true, refl, subst, ◌∙◌
 use Rattle.std.proofs.lemmas.Bool.{cases_lt}
 use Rattle.rank_group.specs.Runs.{RanLaws}
 use Rattle.round_program.specs.Talks.{Talk}
-use Rattle.rank_group.specs.NotedLaws.{same_laws as one_same_laws}
+use Rattle.rank_group.specs.laws.NotedLaws.{same_laws as one_same_laws}
 use Rattle.biconvey.specs.Seats.{SeatedState, Ran, HaveSame}
 
 pub ran_laws : {S : Type 0} (T : Talk S) (cap : ℕ) (told : ℕ → ℕ → Bool) → RanLaws (λ x y. Ran T cap told x y)

@@ -1,7 +1,7 @@
 -- The state of a rank that asks for sums, read from the fields.
 use Rattle.std.specs.Prelude.{map}
 use Rattle.app_histo_ig.specs.declared.ig_asker.IgAsker.TheInside.{Inside}
-use Rattle.app_histo_ig.specs.IgSent.{question_of}
+use Rattle.app_histo_ig.specs.code.IgSent.{question_of}
 use Rattle.app_histo_ig.specs.Asking.{AskingState}
 
 abbrev pub asking_state : Inside → AskingState

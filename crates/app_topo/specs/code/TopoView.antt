@@ -1,6 +1,6 @@
 -- The state of a rank of topo, read from the fields.
 use Rattle.app_topo.specs.declared.topo.Topo.TheInside.{Inside}
-use Rattle.app_topo.specs.TopoSent.{sent_of}
+use Rattle.app_topo.specs.code.TopoSent.{sent_of}
 use Rattle.app_topo.specs.Topos.{TopoState}
 
 abbrev pub topo_state : Inside → TopoState

@@ -6,7 +6,7 @@ use Rattle.std.proofs.lemmas.List.Elements.{All-nil, All-map}
 use Rattle.bale_types.specs.declared.Item.{Item}
 use Rattle.round_program.specs.Laws.{Laws, Fits, SameRound, IsItem}
 use Rattle.app_histo_ig.specs.Histos.{HistoState, IsHisto, histo_rules, may_count, to_column, counted_item}
-use Rattle.app_histo_ig.specs.OwnerLaws.{risen_comm, risen_len}
+use Rattle.app_histo_ig.specs.laws.OwnerLaws.{risen_comm, risen_len}
 
 pub count_within : (shape : List ℕ) (ranks round to from : ℕ) (x : Item) → may_count shape ranks round to from x ≡ true → (to < ranks) × (from < ranks) × IsItem x
 count_within [] ranks round to from x h = absurd (cc)

@@ -1,7 +1,7 @@
 -- The state of a rank of permute, read from the fields.
 use Rattle.app_permute.specs.declared.permute.Permute.TheInside.{Inside}
 use Rattle.app_permute.specs.Permutes.{PermuteState}
-use Rattle.app_permute.specs.Sent.{sent_of}
+use Rattle.app_permute.specs.code.Sent.{sent_of}
 
 abbrev pub permute_state : Inside → PermuteState
 permute_state s =

@@ -3,7 +3,7 @@ use Rattle.std.specs.Prelude.{◌≡◌, ℕ, List, map, length}
 use Rattle.bale_types.specs.declared.Item.{Item}
 use Rattle.app_histo_ig.specs.declared.ig.Ig.TheInside.{Inside}
 use Rattle.app_histo_ig.specs.Igs.{IgState, IsIg, replies_from}
-use Rattle.app_histo_ig.specs.IgSent.{number_and_column, sent_of}
+use Rattle.app_histo_ig.specs.code.IgSent.{number_and_column, sent_of}
 
 -- the replies to all queries that came
 abbrev pub replies_of : Inside → List (ℕ × Item)

@@ -1,6 +1,6 @@
 -- The state of a rank of transpose, read from the fields.
 use Rattle.app_permute.specs.declared.transpose.Transpose.TheInside.{Inside}
-use Rattle.app_permute.specs.Sent.{sent_of}
+use Rattle.app_permute.specs.code.Sent.{sent_of}
 use Rattle.app_permute.specs.Transposes.{TransposeState}
 
 abbrev pub transpose_state : Inside → TransposeState

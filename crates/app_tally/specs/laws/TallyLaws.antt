@@ -5,7 +5,7 @@ use Rattle.std.proofs.lemmas.List.Elements.{All-nil, All-map}
 use Rattle.std.specs.List.{sum}
 use Rattle.elastic.specs.Spelling.{IsLetter}
 use Rattle.elastic.specs.LetterLaws.{LetterLaws}
-use Rattle.app_tally.specs.CountOrder.{counted_comm}
+use Rattle.app_tally.specs.laws.CountOrder.{counted_comm}
 use Rattle.app_tally.specs.Tallies.{TallyState, IsTallying, tally_rules, counter_of}
 
 -- lines go to ranks

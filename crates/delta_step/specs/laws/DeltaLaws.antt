@@ -21,7 +21,7 @@ use Rattle.least_walks.specs.Vertices.{unreached, improved_at, marked, in_bucket
 use Rattle.least_walks.proofs.Marks.{marked_count, picked_count, picked_below}
 use Rattle.least_walks.proofs.Rows.{table_len}
 use Rattle.app_sssp.specs.Sssps.{IsEdge, IsInside, edge_came}
-use Rattle.app_sssp.specs.SsspLaws.{improved_comm, improved_len, greater_inside, table_edges}
+use Rattle.app_sssp.specs.laws.SsspLaws.{improved_comm, improved_len, greater_inside, table_edges}
 use Rattle.delta_step.specs.declared.phase.Phase.{Phase}
 use Rattle.delta_step.specs.declared.phase.Phase.TheVariants.{First, Find, Light, Heavy}
 use Rattle.delta_step.specs.Deltas.{DeltaState, IsDelta, delta_rules, may_delta, bucket_of, announced, ascending, offered, absorbed_in, vote_in, finding, sorted_out, activated, finished, ended_in}

@@ -9,7 +9,7 @@ use Rattle.bale_types.specs.declared.Item.{Item}
 use Rattle.list_laws.proofs.Lists.{changed_comm, changed_len, changed_all, all_head, all_tail}
 use Rattle.round_program.specs.Laws.{Laws, Fits, SameRound, IsItem}
 use Rattle.app_histo_ig.specs.Owners.{risen}
-use Rattle.app_histo_ig.specs.OwnerLaws.{risen_comm, risen_len}
+use Rattle.app_histo_ig.specs.laws.OwnerLaws.{risen_comm, risen_len}
 use Rattle.app_histo_ig.specs.Igs.{IgState, IsIg, IsQuery, ig_rules, may_ig, noted, answered, replies_from, reply_to, to_ask, next_outgoing}
 
 ig_within : (shape : List ℕ) (ranks round to from : ℕ) (x : Item) → may_ig shape ranks round to from x ≡ true → (to < ranks) × (from < ranks) × IsItem x

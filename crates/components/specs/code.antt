@@ -1,0 +1,2 @@
+-- How the code keeps what the other files speak of.
+pub mod LabelsView

@@ -1,0 +1,3 @@
+-- How the code keeps what the other files speak of.
+pub mod DeltaSeats
+pub mod DeltaView

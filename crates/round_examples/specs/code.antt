@@ -1,0 +1,5 @@
+-- How the code keeps what the other files speak of.
+pub mod AskView
+pub mod CountView
+pub mod LookupView
+pub mod TrafficView

@@ -129,7 +129,7 @@ module _ (m : Sparse) (ranks : ℕ) (some : 1 ≤ ranks) (few : ranks ≤ 64) (s
 
   -- What all ranks have at the end.
   pub record Ended (ends : List LabelState) : Type 0 where
-    pub some : 0 < length ends
+    pub there : 0 < length ends
     pub keys : All (λ s. m.rows ≤ length s.labels.cells) ends
     pub answer : AreComponents m (owned (λ s. s.labels) ends m.rows)
 
@@ -140,7 +140,7 @@ module _ (m : Sparse) (ranks : ℕ) (some : 1 ≤ ranks) (few : ranks ≤ 64) (s
       let there : 0 < length ends = omega arith in
       let o = last_round label_rules (starts ranks m) (λ shape round votes. refl) h.rounds h.has_rounds in
       record {
-        some = there;
+        there = there;
         keys = ends_keys label_rules label_laws (λ s. s.labels) (λ s. refl) ranks m.rows most_rounds (starts ranks m) begin ends h;
         answer =
             record {

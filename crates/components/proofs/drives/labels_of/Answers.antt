@@ -1,4 +1,23 @@
-use Rattle.std.proofs.Common.{◌≡◌, sym, subst}
+use Rattle.std.proofs.Common.{◌≡◌, ◌≤◌, sym, subst, All, length, ap, ◌∙◌}
+use Rattle.list_laws.proofs.Results.{if_ok_is, if_ok_from}
+use Rattle.reductions.specs.Answers.{owned}
 use Rattle.components.specs.Connected.{AreComponents}
-use Rattle.components.proofs.Runs.{Ended, ended}
+use Rattle.components.proofs.Runs.{ended}
 use Rattle.components.proofs.drives.labels_of.Goals as goal
+
+pub owned-requires-clause-some : goal.owned-requires-clause-some
+owned-requires-clause-some c =
+    (ended c.args.m.now c.args.ranks c.requires.some c.requires.few c.known.ensures c.requires.square c.args.progs.now c.requires.ended).there
+
+pub owned-requires-clause-keys : goal.owned-requires-clause-keys
+owned-requires-clause-keys c =
+    subst (λ n. All (λ s. n ≤ length s.labels.cells) c.args.progs.now) (sym c.rows.ensures)
+    (ended c.args.m.now c.args.ranks c.requires.some c.requires.few c.known.ensures c.requires.square c.args.progs.now c.requires.ended).keys
+
+pub returns : goal.returns
+returns c =
+    let answer = (ended c.args.m.now c.args.ranks c.requires.some c.requires.few c.known.ensures c.requires.square c.args.progs.now c.requires.ended).answer in
+    if_ok_from (λ v. AreComponents c.args.m.now v.items) c.owned.result
+    (λ v e. subst (AreComponents c.args.m.now)
+    (sym (if_ok_is (λ w. w.items ≡ owned (λ s. s.labels) c.args.progs.now c.rows.result) c.owned.result v e c.owned.ensures
+    ∙ ap (owned (λ s. s.labels) c.args.progs.now) c.rows.ensures)) answer)

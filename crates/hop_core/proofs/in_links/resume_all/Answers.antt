@@ -1,6 +1,6 @@
-use Rattle.std.proofs.Common.{◌<◌, ◌≤◌, ◌∙◌, length, map, sym, ap, arith}
+use Rattle.std.proofs.Common.{◌<◌, ◌∙◌, length, sym, ap, arith}
 use Rattle.hop_core.specs.State.{resumed}
-use Rattle.list_laws.proofs.Mapping.{mapped_step, mapped_end}
+use Rattle.list_laws.proofs.Mapping.{mapped_step}
 use Rattle.hop_core.proofs.in_links.resume_all.Goals as goal
 
 pub loop-i-preserved : goal.loop-i-preserved

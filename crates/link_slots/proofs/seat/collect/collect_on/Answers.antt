@@ -1,5 +1,5 @@
 use Rattle.port_bank.specs.Flow.{Begins}
-use Rattle.std.proofs.Common.{arith, ◌≡◌, ◌+◌, ◌-◌, ◌<◌, ◌%◌, ◌^◌, ℕ, suc, refl, sym, ap, subst, ◌∙◌, length, min}
+use Rattle.std.proofs.Common.{arith, ◌≡◌, ◌+◌, ◌-◌, ◌<◌, ◌^◌, ℕ, suc, refl, sym, ap, subst, ◌∙◌, length, min}
 use Rattle.item_buffer.specs.Contents.{Contents}
 use Rattle.route_tensor.specs.Ends.{hop_at}
 use Rattle.link_slots.specs.Logs.{InLog, Logs, out_of, in_of, with_in, taken_more}

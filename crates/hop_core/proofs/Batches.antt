@@ -1,5 +1,5 @@
 -- As many pulls as an inbox has unread items: they give these items, in order, and leave the inbox empty.
-use Rattle.std.proofs.Common.{ℕ, zero, suc, ◌≡◌, ◌+◌, ◌-◌, ◌<◌, ◌≤◌, Bool, true, false, List, [], ◌∷◌, length, drop, get_or, set, sum, slice_get, Option, Some, None, arith, refl, sym, ap, subst, inl, inr, cond, ◌∙◌, eqb, add-one}
+use Rattle.std.proofs.Common.{ℕ, zero, suc, ◌≡◌, ◌+◌, ◌-◌, ◌<◌, ◌≤◌, Bool, false, List, [], ◌∷◌, length, drop, get_or, sum, slice_get, Option, Some, arith, refl, sym, ap, subst, inl, inr, ◌∙◌, eqb, add-one}
 use Rattle.std.specs.List.{All}
 use Rattle.std.specs.Option.{IsSome, is_some, option_map}
 use Rattle.std.proofs.lemmas.Bool.{ne_eqb, cond-false, cases_lt, false≢true}
@@ -11,7 +11,6 @@ use Rattle.bale_types.specs.declared.item.Entry.{Entry}
 use Rattle.bale_types.specs.declared.item.Item.{Item}
 use Rattle.hop_core.specs.declared.lent.Lent.TheVariants as lent
 use Rattle.item_buffer.specs.Contents.{Contents}
-use Rattle.route_tensor.specs.Link.{links_before}
 use Rattle.route_tensor.specs.Neighbour.{hop_to, neighbour}
 use Rattle.route_tensor.specs.Tag.{IsFair, sender_of}
 use Rattle.hop_core.specs.Link.{In, no_in, is_empty, with_first_taken, read_on}

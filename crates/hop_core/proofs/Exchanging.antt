@@ -1,5 +1,5 @@
 -- That a rank's state stands where an open parcel is taken out, put back, or an inbox is filled, by an exchange.
-use Rattle.std.proofs.Common.{ℕ, ◌≡◌, ◌-◌, ◌<◌, ◌≤◌, ◌+◌, Bool, true, false, List, [], length, get_or, set, sum, min, Option, Some, None, arith, refl, sym, ap, subst, ◌∙◌, inl, inr}
+use Rattle.std.proofs.Common.{ℕ, ◌≡◌, ◌<◌, ◌≤◌, ◌+◌, Bool, true, false, List, length, get_or, set, sum, min, Option, None, arith, refl, sym, ap, subst, ◌∙◌, inl, inr}
 use Rattle.std.specs.List.{All, list_all}
 use Rattle.std.proofs.lemmas.List.{length-set, get_or-set_same, get_or-set_other}
 use Rattle.std.proofs.lemmas.Bool.{cases_eq, false≢true}
@@ -10,11 +10,11 @@ use Rattle.route_tensor.specs.Neighbour.{hop_to}
 use Rattle.route_tensor.specs.Tag.{IsFair}
 use Rattle.route_tensor.proofs.Neighbours.{hop_to_has}
 use Rattle.hop_core.specs.declared.lent.Lent.TheVariants as lent
-use Rattle.hop_core.specs.Link.{Out, In, no_out, no_in, is_empty, is_due, is_wanted, is_finished}
-use Rattle.hop_core.specs.State.{State, out_at, in_at, at_end, ins_of_hop}
-use Rattle.hop_core.specs.Standing.{IsOut, IsIn, IsState, IsKept}
+use Rattle.hop_core.specs.Link.{Out, In, no_in, is_empty, is_wanted, is_finished}
+use Rattle.hop_core.specs.State.{State, in_at, at_end, ins_of_hop}
+use Rattle.hop_core.specs.Standing.{IsOut, IsState, IsKept}
 use Rattle.hop_core.proofs.Marks.{at_end_other}
-use Rattle.hop_core.proofs.Standing.{out_written, in_written, state_out, state_in, kept_out, out_fact, out_here, in_here, blank_out, out_of, in_of, none_some, none_entry, out_not_nothing, in_not_nothing, wanted_open, open_unfinished, ends_open, ends_marked, not_last}
+use Rattle.hop_core.proofs.Standing.{out_written, in_written, state_out, state_in, kept_out, none_some, none_entry, out_not_nothing, in_not_nothing, wanted_open, open_unfinished, ends_open, ends_marked, not_last}
 
 -- an empty parcel of any epoch
 empty_out : (dims : List ℕ) (cap h e : ℕ) (o : Out) → o.parcel ≡ blank e → IsOut dims cap h o

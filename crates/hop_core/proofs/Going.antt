@@ -1,5 +1,5 @@
 -- What a relay adds to links out and takes from inboxes, step after step.
-use Rattle.std.proofs.Common.{ℕ, zero, suc, Bool, cond, ◌==◌, ◌-◌, ne_eqb, ◌≡◌, ◌+◌, ◌<◌, ◌≤◌, false, List, [], ◌∷◌, ◌++◌, length, take, drop, get_or, set, sum, slice_get, None, Option, Some, arith, refl, sym, ap, subst, ◌∙◌, inl, inr}
+use Rattle.std.proofs.Common.{ℕ, zero, suc, Bool, cond, ◌==◌, ◌-◌, ne_eqb, ◌≡◌, ◌+◌, ◌<◌, ◌≤◌, false, List, [], ◌∷◌, ◌++◌, length, take, drop, get_or, set, sum, slice_get, Option, Some, arith, refl, sym, ap, subst, ◌∙◌, inl, inr}
 use Rattle.std.specs.List.{All}
 use Rattle.std.proofs.lemmas.Bool.{cases_eq, cond-false, false≢true}
 use Rattle.std.proofs.lemmas.List.{length-set, length-take, length-drop, length_push, take_at, take-take, take_all, drop-drop, get_or-set_same, get_or-set_other, get_or_default, set-get_or}
@@ -16,10 +16,9 @@ use Rattle.route_tensor.specs.Link.{links_before}
 use Rattle.route_tensor.specs.Grid.{ranks, IsGrid}
 use Rattle.route_tensor.specs.Neighbour.{hop_to}
 use Rattle.route_tensor.specs.Tag.{digit, IsFair}
-use Rattle.route_tensor.specs.Pair.{items_of_pair}
 use Rattle.route_tensor.specs.Routes.{about, passed_on}
 use Rattle.hop_core.specs.Link.{Out, In, no_out, with_entry, with_first_taken, read_on}
-use Rattle.hop_core.specs.Relay.{PassesOn, AddsToHop, IsStopped, way_out}
+use Rattle.hop_core.specs.Relay.{PassesOn, AddsToHop, IsStopped}
 use Rattle.hop_core.specs.Standing.{IsOut, IsIn}
 use Rattle.hop_core.proofs.Passing.{moves, one_moves, passes_none, passes_both}
 

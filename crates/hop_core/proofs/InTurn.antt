@@ -1,5 +1,5 @@
 -- A relay passes entries on in turn: link in after link in, and of each link entry after entry.
-use Rattle.std.proofs.Common.{ℕ, zero, suc, ◌≡◌, ◌+◌, ◌-◌, ◌<◌, ◌≤◌, ◌==◌, true, false, List, [], ◌∷◌, length, take, drop, sum, get_or, set, slice_get, Some, arith, refl, sym, ap, subst, ◌∙◌, ne_eqb, eq-eqb}
+use Rattle.std.proofs.Common.{ℕ, suc, ◌≡◌, ◌+◌, ◌-◌, ◌<◌, ◌≤◌, true, false, List, [], ◌∷◌, length, take, drop, sum, get_or, set, slice_get, Some, arith, refl, sym, ap, subst, ◌∙◌, ne_eqb, eq-eqb}
 use Rattle.std.proofs.lemmas.Bool.{cond-true, cond-false}
 use Rattle.std.proofs.lemmas.List.{drop_all, drop-drop, get_or_default}
 use Rattle.bale_types.specs.declared.item.Entry.{Entry}
@@ -9,7 +9,7 @@ use Rattle.route_tensor.specs.Link.{links_before}
 use Rattle.route_tensor.specs.Routes.{about, passed_on}
 use Rattle.route_tensor.proofs.Links.{before_more}
 use Rattle.hop_core.specs.Link.{Out, In, no_out, no_in, with_entry, read_on}
-use Rattle.hop_core.specs.Relay.{next_out, next_entry, finds_full, with_passed, passed, passed_count, Links, relayed, relayed_hop}
+use Rattle.hop_core.specs.Relay.{next_out, next_entry, finds_full, with_passed, passed, passed_count, relayed, relayed_hop}
 use Rattle.hop_core.proofs.Going.{by_head, entry}
 
 -- how far the entries es of link in number i are passed on: n of them

@@ -1,26 +1,23 @@
 -- What a write to one link leaves of a rank's state, and what the code reads of a link.
-use Rattle.std.proofs.Common.{ℕ, zero, suc, ◌≡◌, ◌+◌, ◌-◌, ◌<◌, ◌≤◌, ◌⊎◌, Bool, true, false, List, [], length, get_or, set, sum, min, slice_get, Option, Some, None, arith, refl, sym, ap, subst, ◌∙◌, inl, inr, eqb, not, ◌&&◌, ◌||◌}
-use Rattle.std.specs.List.{All, list_all}
-use Rattle.std.specs.Option.{IsSome, is_some}
+use Rattle.std.proofs.Common.{ℕ, ◌≡◌, ◌+◌, ◌-◌, ◌<◌, ◌≤◌, ◌⊎◌, Bool, true, false, List, [], length, get_or, set, sum, Option, Some, None, arith, refl, sym, ap, subst, ◌∙◌, inl, inr, eqb, not, ◌&&◌}
+use Rattle.std.specs.List.{list_all}
+use Rattle.std.specs.Option.{IsSome}
 use Rattle.std.proofs.lemmas.List.{length-set, get_or-set_same, get_or-set_other, get_or_default, take_all}
-use Rattle.std.proofs.lemmas.Bool.{cases_eq, cases_lt, false≢true, false_from_ne_true, ne_eqb, eq-eqb, not_from_true, or_from, and_right, and_parts, not-true, cases_Bool}
+use Rattle.std.proofs.lemmas.Bool.{cases_eq, false≢true, false_from_ne_true, ne_eqb, eq-eqb, not_from_true, or_from, and_right, and_parts, not-true}
 use Rattle.list_laws.proofs.Lists.{each_set}
 use Rattle.bale_types.specs.declared.item.Entry.{Entry}
-use Rattle.item_buffer.specs.Contents.{Contents, IsFresh, blank}
-use Rattle.route_tensor.specs.Grid.{IsGrid, dim, coord}
-use Rattle.route_tensor.proofs.Links.{before_more, coord_in}
+use Rattle.item_buffer.specs.Contents.{Contents, blank}
+use Rattle.route_tensor.specs.Grid.{dim}
+use Rattle.route_tensor.proofs.Links.{before_more}
 use Rattle.route_tensor.specs.Link.{links_before}
-use Rattle.route_tensor.specs.Neighbour.{hop_to, out_index, in_index}
-use Rattle.route_tensor.specs.Ends.{hop_at}
-use Rattle.hop_core.proofs.Going.{out_pushed, in_taken, head_fair, same_outs}
-use Rattle.route_tensor.specs.Tag.{IsFair}
+use Rattle.route_tensor.specs.Neighbour.{hop_to}
 use Rattle.route_tensor.proofs.Neighbours.{hop_to_has, hop_to_is}
 use Rattle.hop_core.specs.declared.lent.Lent.{Lent}
 use Rattle.hop_core.specs.declared.lent.Lent.TheVariants as lent
-use Rattle.hop_core.specs.Link.{Out, In, no_out, no_in, is_empty, is_due, is_wanted, is_finished, with_entry, with_first_taken}
+use Rattle.hop_core.specs.Link.{Out, In, no_out, no_in, is_empty, is_due, is_wanted, is_finished}
 use Rattle.hop_core.specs.State.{State, out_at, in_at, at_end, ins_of_hop}
 use Rattle.hop_core.specs.Standing.{IsOut, IsIn, IsState, CanUnpull, IsKept}
-use Rattle.hop_core.proofs.Marks.{at_end_kept, at_end_other, at_end-first, at_end-later, hop_unfinished, end_zero}
+use Rattle.hop_core.proofs.Marks.{at_end_kept, at_end_other, at_end-later, hop_unfinished}
 
 pub none_some : (j : ℕ) → (o : Option ℕ) → o ≡ None → o ≡ Some j → ⊥
 none_some j o n e = cc

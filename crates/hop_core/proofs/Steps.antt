@@ -1,27 +1,22 @@
 -- That a rank's state stands where it is done, and where items are pushed and pulled.
-use Rattle.std.proofs.Common.{ℕ, zero, suc, ◌≡◌, ◌+◌, ◌-◌, ◌<◌, ◌≤◌, ◌⊎◌, Bool, true, false, List, [], length, get_or, set, sum, min, slice_get, Option, Some, None, arith, refl, sym, ap, subst, ◌∙◌, inl, inr, eqb, not, ◌&&◌, ◌||◌}
-use Rattle.std.specs.List.{All, list_all}
+use Rattle.std.proofs.Common.{ℕ, zero, suc, ◌≡◌, ◌+◌, ◌<◌, ◌≤◌, Bool, true, false, List, length, get_or, sum, slice_get, Option, Some, None, arith, refl, sym, ap, subst, ◌∙◌, inl, inr}
 use Rattle.std.specs.Option.{IsSome, is_some}
-use Rattle.std.proofs.lemmas.List.{length-set, get_or-set_same, get_or-set_other, get_or_default, take_all}
-use Rattle.std.proofs.lemmas.Bool.{cases_eq, cases_lt, false≢true, false_from_ne_true, ne_eqb, eq-eqb, not_from_true, or_from, and_right, and_parts, not-true, cases_Bool}
-use Rattle.list_laws.proofs.Lists.{each_set}
+use Rattle.std.proofs.lemmas.List.{get_or-set_same, get_or-set_other}
+use Rattle.std.proofs.lemmas.Bool.{cases_lt, false≢true, false_from_ne_true, cases_Bool}
 use Rattle.bale_types.specs.declared.item.Entry.{Entry}
-use Rattle.item_buffer.specs.Contents.{Contents, IsFresh, blank}
+use Rattle.item_buffer.specs.Contents.{Contents}
 use Rattle.route_tensor.specs.Grid.{IsGrid, dim, coord}
-use Rattle.route_tensor.proofs.Links.{before_more, coord_in}
-use Rattle.route_tensor.specs.Link.{links_before}
-use Rattle.route_tensor.specs.Neighbour.{hop_to, out_index, in_index}
-use Rattle.route_tensor.specs.Ends.{hop_at}
+use Rattle.route_tensor.proofs.Links.{coord_in}
+use Rattle.route_tensor.specs.Neighbour.{hop_to}
 use Rattle.hop_core.proofs.Going.{out_pushed, in_taken, head_fair, same_outs}
 use Rattle.route_tensor.specs.Tag.{IsFair}
-use Rattle.route_tensor.proofs.Neighbours.{hop_to_has, hop_to_is}
-use Rattle.hop_core.specs.declared.lent.Lent.{Lent}
+use Rattle.route_tensor.proofs.Neighbours.{hop_to_is}
 use Rattle.hop_core.specs.declared.lent.Lent.TheVariants as lent
-use Rattle.hop_core.specs.Link.{Out, In, no_out, no_in, is_empty, is_due, is_wanted, is_finished, with_entry, with_first_taken}
-use Rattle.hop_core.specs.State.{State, out_at, in_at, at_end, ins_of_hop}
-use Rattle.hop_core.specs.Standing.{IsOut, IsIn, IsState, CanUnpull, IsKept}
-use Rattle.hop_core.proofs.Marks.{at_end_kept, at_end_other, at_end-first, at_end-later, hop_unfinished, end_zero}
-use Rattle.hop_core.proofs.Standing.{none_some, out_written, state_out, kept_out, out_not_nothing, in_not_nothing, none_entry, not_false_is, blank_out, due_open, out_fact, in_written, state_in, in_fact, blank_in, wanted_open, open_unfinished, wanted_empty, ends_open, out_here, in_here, out_of, in_of, ends_marked, hop_last, not_last}
+use Rattle.hop_core.specs.Link.{Out, In, no_out, no_in, is_empty, with_entry, with_first_taken}
+use Rattle.hop_core.specs.State.{State, in_at, at_end}
+use Rattle.hop_core.specs.Standing.{IsOut, IsIn, CanUnpull, IsKept}
+use Rattle.hop_core.proofs.Marks.{at_end_other, at_end-first, at_end-later, end_zero}
+use Rattle.hop_core.proofs.Standing.{none_some, out_written, state_out, kept_out, out_not_nothing, in_not_nothing, out_fact, in_written, state_in, in_fact, out_here, in_here, hop_last}
 
 end_later : (dims : List ℕ) (ins : List In) (a b : Bool) (h : ℕ) → 2 ≤ h → at_end dims ins a h ≡ at_end dims ins b h
 end_later dims ins a b zero p = absurd (omega (arith, p))

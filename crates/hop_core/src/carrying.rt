@@ -1,7 +1,7 @@
 //! The way of parcels out of a rank's hands and into them, by the number of the neighbour and with a parcel of the caller's that is empty:
 //! an exchange at each call, and no parcel is lent.
 
-ghost use Rattle.std.specs.Prelude.{◌≡◌, ◌<◌, sum, slice_set, true, false, None};
+ghost use Rattle.std.specs.Prelude.{◌≡◌, ◌<◌, ◌≤◌, length, sum, slice_set, true, false, None};
 ghost use Rattle.std.specs.List.{All};
 ghost use Rattle.item_buffer.specs.Contents.{IsFresh, blank};
 ghost use Rattle.route_tensor.specs.Neighbour.{hop_to};
@@ -13,6 +13,7 @@ use crate::in_links::hop_finished;
 use crate::lent::Lent;
 use crate::state::RankState;
 use item_buffer::Parcel;
+use route_tensor::Routes;
 
 impl<const CAP: usize, const HOPS: usize> RankState<CAP, HOPS> {
     /// Whether the open parcel toward this neighbour is to be sent.
@@ -102,7 +103,7 @@ impl<const CAP: usize, const HOPS: usize> RankState<CAP, HOPS> {
         } }
     {
         self.pulled = None;
-        let hop = self.routes.neighbour(number).hop;
+        let hop = hop_of::<HOPS>(&self.routes, number);
         parcel.known();
         let finished = self.ins[number as usize].exchange(parcel);
         parcel.clear();
@@ -114,5 +115,21 @@ impl<const CAP: usize, const HOPS: usize> RankState<CAP, HOPS> {
         } else if finished {
             self.ends[hop as usize] = hop_finished(&self.routes, &self.ins, hop);
         }
+    }
+}
+
+/// The hop on which this neighbour lies: of one hop it is that one, by no table.
+#[inline]
+fn hop_of<const HOPS: usize>(routes: &Routes, number: u32) -> u32
+    requires hops { length routes.now.dims ≡ HOPS }
+    requires number { number < sum routes.now.dims }
+    ensures value { result ≡ hop_to routes.now.dims number }
+    ensures first_hop { 1 ≤ result }
+    ensures last_hop { result ≤ length routes.now.dims }
+{
+    if HOPS == 1 {
+        1
+    } else {
+        routes.neighbour(number).hop
     }
 }

@@ -164,7 +164,7 @@ pub fn all_finished<const CAP: usize>(links: &[InLink<CAP>], from: usize, to: us
     requires within { to ≤ length links.now }
     ensures { result ≡ list_all is_finished (take (to - from) (drop from links.now)) }
 {
-    for i in from..to {
+    for i in (from..to).rev() {
         if !links[i].is_finished() {
             return false;
         }
@@ -240,7 +240,8 @@ pub fn links_in<const CAP: usize>(alloc: Global, count: u32) -> Result<Vec<InLin
 pub fn resume_all<const CAP: usize>(links: &mut Vec<InLink<CAP>>)
     ensures { links.new.items ≡ map resumed links.old.items }
 {
-    for i in 0..links.len() {
-        links[i].resume();
+    let all = links.as_mut_slice();
+    for i in 0..all.len() {
+        all[i].resume();
     }
 }

@@ -63,7 +63,10 @@ impl<const CAP: usize> OutLink<CAP> {
         if at_end && !self.closed {
             return true;
         }
-        self.parcel.is_full() || (steady && self.parcel.len() > 0)
+        if self.parcel.is_full() {
+            return true;
+        }
+        steady && self.parcel.len() > 0
     }
 
     /// Hands the parcel out and keeps `spare` in its place.
@@ -139,7 +142,8 @@ pub fn links_out<const CAP: usize>(alloc: Global, count: u32) -> Result<Vec<OutL
 pub fn reopen_all<const CAP: usize>(links: &mut Vec<OutLink<CAP>>)
     ensures { links.new.items ≡ map reopened links.old.items }
 {
-    for i in 0..links.len() {
-        links[i].reopen();
+    let all = links.as_mut_slice();
+    for i in 0..all.len() {
+        all[i].reopen();
     }
 }

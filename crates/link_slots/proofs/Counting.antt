@@ -1,6 +1,5 @@
 -- What a seat counts stays right under each step.
 use Rattle.std.proofs.Common.{◌≡◌, ℕ, suc, ◌+◌, ◌-◌, ◌^◌, ◌%◌, ◌<◌, ◌≤◌, ◌⊎◌, [], ◌∷◌, ◌++◌, length, sym, ap, ◌∙◌, subst, inr, arith, length-append}
-use Rattle.std.proofs.Math.Nat.{suc-mod}
 use Rattle.link_slots.specs.Logs.{OutLog, InLog}
 use Rattle.link_slots.specs.Plays.{beyond}
 use Rattle.list_laws.specs.Counts.{counted}
@@ -8,38 +7,34 @@ use Rattle.link_slots.specs.Counts.{IsOutEnd, IsInEnd}
 
 module _ {T : Type 0} (slots : ℕ) where
   -- after a look for room
-  pub end_looked : (o o' : OutLog T) (sent place spare n spare' : ℕ) → IsOutEnd slots o sent place spare → beyond (length o.sent) n ≤ slots → beyond (length o.sent) n ≤ length o.sent
-      → o'.sent ≡ o.sent → o'.room ≡ length o.sent + (slots - beyond (length o.sent) n) → spare' ≡ slots - (sent + (2 ^ 64 - n)) % 2 ^ 64 → IsOutEnd slots o' sent place spare'
-  end_looked o o' sent place spare n spare' is few low same room spare_is =
+  pub end_looked : (o o' : OutLog T) (sent spare n spare' : ℕ) → IsOutEnd slots o sent spare → beyond (length o.sent) n ≤ slots → beyond (length o.sent) n ≤ length o.sent
+      → o'.sent ≡ o.sent → o'.room ≡ length o.sent + (slots - beyond (length o.sent) n) → spare' ≡ slots - (sent + (2 ^ 64 - n)) % 2 ^ 64 → IsOutEnd slots o' sent spare'
+  end_looked o o' sent spare n spare' is few low same room spare_is =
       let b : ℕ = beyond (length o.sent) n in
       let e : (sent + (2 ^ 64 - n)) % 2 ^ 64 ≡ b = ap (λ (z : ℕ). (z + (2 ^ 64 - n)) % 2 ^ 64) is.sent_is in
       let l : length o'.sent ≡ length o.sent = ap length same in record {
         sent_is = is.sent_is ∙ ap (λ (z : ℕ). z % 2 ^ 64) (sym l);
-        place_is = is.place_is ∙ ap (λ (z : ℕ). z % slots) (sym l);
         spare_is = omega arith;
         few = omega arith;
         looked = inr (omega arith);
       }
 
   -- after a post
-  pub end_posted : (o o' : OutLog T) (p : T) (sent place spare sent' place' : ℕ) → IsOutEnd slots o sent place (suc spare) → o'.sent ≡ o.sent ++ p ∷ [] → o'.room ≡ o.room
-      → sent' ≡ (sent + 1) % 2 ^ 64 → place' ≡ (place + 1) % slots → IsOutEnd slots o' sent' place' spare
-  end_posted o o' p sent place spare sent' place' is more room sent_is place_is =
-      let l : length o'.sent ≡ length o.sent + 1 = ap length more ∙ length-append o.sent (p ∷ []) in
-      let next : suc (length o.sent) % slots ≡ suc (length o.sent % slots) % slots = suc-mod (length o.sent) slots in record {
+  pub end_posted : (o o' : OutLog T) (p : T) (sent spare sent' : ℕ) → IsOutEnd slots o sent (suc spare) → o'.sent ≡ o.sent ++ p ∷ [] → o'.room ≡ o.room
+      → sent' ≡ (sent + 1) % 2 ^ 64 → IsOutEnd slots o' sent' spare
+  end_posted o o' p sent spare sent' is more room sent_is =
+      let l : length o'.sent ≡ length o.sent + 1 = ap length more ∙ length-append o.sent (p ∷ []) in record {
         sent_is = (let e = is.sent_is in omega arith);
-        place_is = place_is ∙ ap (λ (z : ℕ). z % slots) (let e = is.place_is in let q : place + 1 ≡ suc (length o.sent % slots) = omega arith in q) ∙ sym next ∙ ap (λ (z : ℕ). z % slots) (let q : suc (length o.sent) ≡ length o'.sent = omega arith in q);
         spare_is = (let e = is.spare_is in omega arith);
         few = (let e = is.few in omega arith);
         looked = subst (λ (z : ℕ). (z ≡ 0) ⊎ (slots ≤ z)) (sym room) is.looked;
       }
 
   -- where nothing was taken or seen, and the reader listened no less
-  pub end_kept : (i i' : InLog T) (taken place waiting look_ins noted : ℕ) → IsInEnd slots i taken place waiting look_ins noted → i'.seen ≡ i.seen → i'.taken ≡ i.taken → i'.look_ins ≡ i.look_ins → i.hears ≤ i'.hears
-      → IsInEnd slots i' taken place waiting look_ins noted
-  end_kept i i' taken place waiting look_ins noted is seen took looked more = record {
+  pub end_kept : (i i' : InLog T) (taken waiting look_ins noted : ℕ) → IsInEnd slots i taken waiting look_ins noted → i'.seen ≡ i.seen → i'.taken ≡ i.taken → i'.look_ins ≡ i.look_ins → i.hears ≤ i'.hears
+      → IsInEnd slots i' taken waiting look_ins noted
+  end_kept i i' taken waiting look_ins noted is seen took looked more = record {
     taken_is = is.taken_is ∙ ap (λ (z : ℕ). z % 2 ^ 64) (sym took);
-    place_is = is.place_is ∙ ap (λ (z : ℕ). z % slots) (sym took);
     waiting_is = (let e = is.waiting_is in let l = ap length seen in omega arith);
     few = is.few;
     look_ins_is = is.look_ins_is ∙ ap counted (sym looked);
@@ -47,16 +42,15 @@ module _ {T : Type 0} (slots : ℕ) where
   }
 
   -- after a look in
-  pub end_looked_in : (i i' : InLog T) (taken place look_ins noted n : ℕ) (waiting' look_ins' : ℕ) → IsInEnd slots i taken place 0 look_ins noted → i'.taken ≡ i.taken → i'.look_ins ≡ suc i.look_ins → i'.hears ≡ i.hears
+  pub end_looked_in : (i i' : InLog T) (taken look_ins noted n : ℕ) (waiting' look_ins' : ℕ) → IsInEnd slots i taken 0 look_ins noted → i'.taken ≡ i.taken → i'.look_ins ≡ suc i.look_ins → i'.hears ≡ i.hears
       → beyond n (length i.seen % 2 ^ 64) ≤ slots → length i'.seen ≡ length i.seen + beyond n (length i.seen % 2 ^ 64) → n < 2 ^ 64
-      → waiting' ≡ (n + (2 ^ 64 - taken)) % 2 ^ 64 → look_ins' ≡ counted (suc i.look_ins) → IsInEnd slots i' taken place waiting' look_ins' noted
-  end_looked_in i i' taken place look_ins noted n waiting' look_ins' is took looked heard few more small waiting_is looks_is =
+      → waiting' ≡ (n + (2 ^ 64 - taken)) % 2 ^ 64 → look_ins' ≡ counted (suc i.look_ins) → IsInEnd slots i' taken waiting' look_ins' noted
+  end_looked_in i i' taken look_ins noted n waiting' look_ins' is took looked heard few more small waiting_is looks_is =
       let known : length i.seen ≡ i.taken = (let e = is.waiting_is in omega arith) in
       let t : taken ≡ length i.seen % 2 ^ 64 = is.taken_is ∙ ap (λ (z : ℕ). z % 2 ^ 64) (sym known) in
       let b : ℕ = beyond n (length i.seen % 2 ^ 64) in
       let w : waiting' ≡ b = waiting_is ∙ ap (λ (z : ℕ). (n + (2 ^ 64 - z)) % 2 ^ 64) t ∙ ap (λ (z : ℕ). (z + (2 ^ 64 - length i.seen % 2 ^ 64)) % 2 ^ 64) (let q : n ≡ n % 2 ^ 64 = omega arith in q) in record {
         taken_is = is.taken_is ∙ ap (λ (z : ℕ). z % 2 ^ 64) (sym took);
-        place_is = is.place_is ∙ ap (λ (z : ℕ). z % slots) (sym took);
         waiting_is = omega arith;
         few = omega arith;
         look_ins_is = looks_is ∙ ap counted (sym looked);
@@ -64,11 +58,10 @@ module _ {T : Type 0} (slots : ℕ) where
       }
 
   -- after a parcel was taken
-  pub end_taken : (i i' : InLog T) (taken place waiting look_ins noted taken' place' noted' : ℕ) → IsInEnd slots i taken place (suc waiting) look_ins noted → i'.seen ≡ i.seen → i'.taken ≡ suc i.taken → i'.look_ins ≡ i.look_ins → i'.hears ≡ i.hears
-      → taken' ≡ (taken + 1) % 2 ^ 64 → place' ≡ (place + 1) % slots → noted' ≡ counted (i'.hears + i'.look_ins) → IsInEnd slots i' taken' place' waiting look_ins noted'
-  end_taken i i' taken place waiting look_ins noted taken' place' noted' is seen took looked heard taken_is place_is noted_is = record {
+  pub end_taken : (i i' : InLog T) (taken waiting look_ins noted taken' noted' : ℕ) → IsInEnd slots i taken (suc waiting) look_ins noted → i'.seen ≡ i.seen → i'.taken ≡ suc i.taken → i'.look_ins ≡ i.look_ins → i'.hears ≡ i.hears
+      → taken' ≡ (taken + 1) % 2 ^ 64 → noted' ≡ counted (i'.hears + i'.look_ins) → IsInEnd slots i' taken' waiting look_ins noted'
+  end_taken i i' taken waiting look_ins noted taken' noted' is seen took looked heard taken_is noted_is = record {
     taken_is = (let e = is.taken_is in omega arith);
-    place_is = place_is ∙ ap (λ (z : ℕ). z % slots) (let e = is.place_is in let q : place + 1 ≡ suc (i.taken % slots) = omega arith in q) ∙ sym (suc-mod i.taken slots) ∙ ap (λ (z : ℕ). z % slots) (sym took);
     waiting_is = (let e = is.waiting_is in let l = ap length seen in omega arith);
     few = (let e = is.few in omega arith);
     look_ins_is = is.look_ins_is ∙ ap counted (sym looked);

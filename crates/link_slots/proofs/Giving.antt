@@ -1,5 +1,5 @@
 -- A rank's seat at first, and what is left with the gathering seat.
-use Rattle.std.proofs.Common.{◌≡◌, ℕ, zero, suc, ◌+◌, ◌*◌, ◌%◌, ◌<◌, ◌≤◌, eqb, List, [], ◌∷◌, map, length, take, replicate, get_or, set, sym, refl, ap, ◌∙◌, subst, inl, ⊎_elim, arith, Option, Some, None, length-set, get_or-set_same, get_or-set_other}
+use Rattle.std.proofs.Common.{◌≡◌, ℕ, zero, suc, ◌+◌, ◌*◌, ◌<◌, ◌≤◌, eqb, List, [], ◌∷◌, map, length, take, replicate, get_or, set, sym, refl, ap, ◌∙◌, subst, inl, ⊎_elim, arith, Option, Some, None, length-set, get_or-set_same, get_or-set_other}
 use Rattle.std.proofs.lemmas.List.{length-map, length-replicate}
 use Rattle.std.proofs.lemmas.Nat.Bits.{bit_at-zero}
 use Rattle.std.proofs.Math.Nat.{mul-le-mul_left, mul-one}
@@ -91,12 +91,12 @@ module _ (shape : Shape) where
         ended_many = ap length new.ended ∙ length-replicate n 0;
         lists_out = ap (λ (z : Logs Contents). length z.outs) own ∙ length-replicate n no_out;
         lists_in = ap (λ (z : Logs Contents). length z.ins) own ∙ length-replicate n no_in;
-        each_out = λ l d a b. subst (λ (z : OutLog Contents × OutEnd). IsOutEnd shape.slots z.0 z.1.sent z.1.place z.1.spare)
+        each_out = λ l d a b. subst (λ (z : OutLog Contents × OutEnd). IsOutEnd shape.slots z.0 z.1.sent z.1.spare)
             (λ k. (sym (out_at l) k, sym (ap (λ (z : List OutEnd). get_or z l d) new.outs ∙ replicate_at n l _ d a) k))
-            (record { sent_is = refl; place_is = (let q : 0 ≡ 0 % shape.slots = (let f = is.some in omega arith) in q); spare_is = refl; few = omega arith; looked = inl refl });
-        each_in = λ l d a b. subst (λ (z : InLog Contents × InEnd). IsInEnd shape.slots z.0 z.1.taken z.1.place z.1.waiting z.1.look_ins z.1.noted)
+            (record { sent_is = refl; spare_is = refl; few = omega arith; looked = inl refl });
+        each_in = λ l d a b. subst (λ (z : InLog Contents × InEnd). IsInEnd shape.slots z.0 z.1.taken z.1.waiting z.1.look_ins z.1.noted)
             (λ k. (sym (in_at l) k, sym (ap (λ (z : List InEnd). get_or z l d) new.ins ∙ replicate_at n l _ d a) k))
-            (record { taken_is = refl; place_is = (let q : 0 ≡ 0 % shape.slots = (let f = is.some in omega arith) in q); waiting_is = refl; few = omega arith; look_ins_is = refl; noted_before = omega arith });
+            (record { taken_is = refl; waiting_is = refl; few = omega arith; look_ins_is = refl; noted_before = omega arith });
         each_ear = λ h d a. subst (λ (z : Ear). IsHeard shape r (h + 1) (own_logs v) z.marks z.hears) (sym (ap (λ (z : List Ear). get_or z h d) new.ears ∙ replicate_at 3 h _ d a))
             (record {
               marked = λ l p q t. ap (λ (z : InLog Contents). z.marked) (in_at l) ∙ ap (λ (z : ℕ). eqb z 1) (sym (bit_at-zero ((wiring shape).bit l)));

@@ -74,7 +74,7 @@ may_follow dims cap r l x p inside mine fresh back within epoch law = record {
 }
 
 module _ (cap : ℕ) (shape : Shape) (m m' : Me Contents Knowing) (rank l : ℕ) (outs : List OutEnd) (ins : List InEnd) (ears : List Ear) (ended : List ℕ) (is : IsSeat cap shape m rank outs ins ears ended) (manned : IsManned shape m') (inside : l < links shape.dims) where
-  pub seat_posted : (e : OutEnd) → m'.0 ≡ with_logs m.0 (with_out (own_logs m.0) l (out_of (own_logs m'.0) l)) → sender_at shape.dims l ≡ rank → IsOutEnd shape.slots (out_of (own_logs m'.0) l) e.sent e.place e.spare
+  pub seat_posted : (e : OutEnd) → m'.0 ≡ with_logs m.0 (with_out (own_logs m.0) l (out_of (own_logs m'.0) l)) → sender_at shape.dims l ≡ rank → IsOutEnd shape.slots (out_of (own_logs m'.0) l) e.sent e.spare
       → IsSeat cap m'.0.shape m' rank (set outs l e) ins ears ended
   seat_posted e here mine counts =
       let o : OutLog Contents = out_of (own_logs m'.0) l in
@@ -101,16 +101,16 @@ module _ (cap : ℕ) (shape : Shape) (m m' : Me Contents Knowing) (rank l : ℕ)
         lists_out = ap (λ (z : Logs Contents). length z.outs) own ∙ length-set (own_logs m.0).outs l o ∙ is.lists_out;
         lists_in = ap (λ (z : Logs Contents). length z.ins) own ∙ is.lists_in;
         each_out = λ k d a b. dite (ℕ_discrete k l)
-            (λ s. subst (λ (z : ℕ × OutEnd). IsOutEnd shape.slots (out_of (own_logs m'.0) z.0) z.1.sent z.1.place z.1.spare) (λ j. (sym s j, sym (ap (λ (z : ℕ). get_or (set outs l e) z d) s ∙ get_or-set_same outs l e d (let n = is.outs_many in omega arith)) j)) counts)
-            (λ ne. subst (λ (z : OutLog Contents × OutEnd). IsOutEnd shape.slots z.0 z.1.sent z.1.place z.1.spare) (λ j. (sym (outs_else k ne) j, sym (get_or-set_other outs l k e d ne) j)) (is.each_out k d a b));
-        each_in = λ k d a b. subst (λ (z : InLog Contents). let w = get_or ins k d in IsInEnd shape.slots z w.taken w.place w.waiting w.look_ins w.noted) (sym (ins_same k)) (is.each_in k d a b);
+            (λ s. subst (λ (z : ℕ × OutEnd). IsOutEnd shape.slots (out_of (own_logs m'.0) z.0) z.1.sent z.1.spare) (λ j. (sym s j, sym (ap (λ (z : ℕ). get_or (set outs l e) z d) s ∙ get_or-set_same outs l e d (let n = is.outs_many in omega arith)) j)) counts)
+            (λ ne. subst (λ (z : OutLog Contents × OutEnd). IsOutEnd shape.slots z.0 z.1.sent z.1.spare) (λ j. (sym (outs_else k ne) j, sym (get_or-set_other outs l k e d ne) j)) (is.each_out k d a b));
+        each_in = λ k d a b. subst (λ (z : InLog Contents). let w = get_or ins k d in IsInEnd shape.slots z w.taken w.waiting w.look_ins w.noted) (sym (ins_same k)) (is.each_in k d a b);
         each_ear = λ h d a. let w = get_or ears h d in heard_same shape rank (h + 1) (own_logs m.0) (own_logs m'.0) w.marks w.hears (λ k. ap (λ (i : InLog Contents). i.marked) (ins_same k)) (λ k. ap (λ (i : InLog Contents). i.hears) (ins_same k)) (is.each_ear h d a);
         each_good = λ k a b. good_same cap shape k (in_of (own_logs m.0) k) (in_of (own_logs m'.0) k) (ap (λ (i : InLog Contents). i.seen) (ins_same k)) (is.each_good k a b);
         each_ended = λ k d a b. is.each_ended k d a b ∙ ap (λ (i : InLog Contents). counted (lasts (map shipped (got i)))) (sym (ins_same k));
       })
 
   pub seat_collected : (e : InEnd) (ear : Ear) (hop now : ℕ) → m'.0 ≡ with_logs m.0 (own_logs m'.0) → ElseKept shape m.0.pick l (own_logs m.0) (own_logs m'.0) → reader_at shape.dims l ≡ rank
-      → IsInEnd shape.slots (in_of (own_logs m'.0) l) e.taken e.place e.waiting e.look_ins e.noted → IsHeard shape m.0.pick (hop_at shape.dims l) (own_logs m'.0) ear.marks ear.hears → hop_at shape.dims l ≡ hop + 1
+      → IsInEnd shape.slots (in_of (own_logs m'.0) l) e.taken e.waiting e.look_ins e.noted → IsHeard shape m.0.pick (hop_at shape.dims l) (own_logs m'.0) ear.marks ear.hears → hop_at shape.dims l ≡ hop + 1
       → AreGood cap shape l (in_of (own_logs m'.0) l) → now ≡ counted (lasts (map shipped (got_of (own_logs m'.0) l)))
       → IsSeat cap m'.0.shape m' rank outs (set ins l e) (set ears hop ear) (set ended l now)
   seat_collected e ear hop now here others mine counts hears hop_is good ended_is =
@@ -135,11 +135,11 @@ module _ (cap : ℕ) (shape : Shape) (m m' : Me Contents Knowing) (rank l : ℕ)
         ended_many = length-set ended l now ∙ is.ended_many;
         lists_out = ap length others.outs ∙ is.lists_out;
         lists_in = others.long ∙ is.lists_in;
-        each_out = λ k d a b. subst (λ (z : OutLog Contents). let w = get_or outs k d in IsOutEnd shape.slots z w.sent w.place w.spare) (sym (outs_same k)) (is.each_out k d a b);
+        each_out = λ k d a b. subst (λ (z : OutLog Contents). let w = get_or outs k d in IsOutEnd shape.slots z w.sent w.spare) (sym (outs_same k)) (is.each_out k d a b);
         each_in = λ k d a b. dite (ℕ_discrete k l)
-            (λ s. subst (λ (z : ℕ × InEnd). IsInEnd shape.slots (in_of y' z.0) z.1.taken z.1.place z.1.waiting z.1.look_ins z.1.noted) (λ j. (sym s j, sym (ap (λ (z : ℕ). get_or (set ins l e) z d) s ∙ get_or-set_same ins l e d (let n = is.ins_many in omega arith)) j)) counts)
-            (λ ne. subst (λ (z : InEnd). IsInEnd shape.slots (in_of y' k) z.taken z.place z.waiting z.look_ins z.noted) (sym (get_or-set_other ins l k e d ne))
-            (let w = get_or ins k d in end_kept shape.slots (in_of y k) (in_of y' k) w.taken w.place w.waiting w.look_ins w.noted (is.each_in k d a b) (others.seen k ne) (others.taken k ne) (others.look_ins k ne) (others.hears k ne)));
+            (λ s. subst (λ (z : ℕ × InEnd). IsInEnd shape.slots (in_of y' z.0) z.1.taken z.1.waiting z.1.look_ins z.1.noted) (λ j. (sym s j, sym (ap (λ (z : ℕ). get_or (set ins l e) z d) s ∙ get_or-set_same ins l e d (let n = is.ins_many in omega arith)) j)) counts)
+            (λ ne. subst (λ (z : InEnd). IsInEnd shape.slots (in_of y' k) z.taken z.waiting z.look_ins z.noted) (sym (get_or-set_other ins l k e d ne))
+            (let w = get_or ins k d in end_kept shape.slots (in_of y k) (in_of y' k) w.taken w.waiting w.look_ins w.noted (is.each_in k d a b) (others.seen k ne) (others.taken k ne) (others.look_ins k ne) (others.hears k ne)));
         each_ear = λ h d a. dite (ℕ_discrete h hop)
             (λ s. subst (λ (z : ℕ × Ear). IsHeard shape rank z.0 y' z.1.marks z.1.hears) (λ j. ((hop_is ∙ (let q : hop + 1 ≡ h + 1 = omega arith in q)) j, sym (ap (λ (z : ℕ). get_or (set ears hop ear) z d) s ∙ get_or-set_same ears hop ear d (let n = is.ears_many in omega arith)) j))
             (subst (λ (z : ℕ). IsHeard shape z (hop_at shape.dims l) y' ear.marks ear.hears) is.rank_is hears))

@@ -13,21 +13,19 @@ use Rattle.port_bank.specs.declared.port.Collected.TheVariants.{Got, Nothing}
 use Rattle.link_slots.specs.Logs.{OutLog, InLog, Logs, in_of, listens}
 use Rattle.link_slots.specs.Shape.{Shape, wiring, MayFollow}
 
--- The sender counts what it posted, modulo 2^64 and modulo the number of slots, and its empty slots at hand. Once it has looked for room,
+-- The sender counts what it posted, modulo 2^64, and its empty slots at hand. Once it has looked for room,
 -- its room is at least all slots.
--- Example: with 2 slots, after three posts and one look that found all taken: sent 3, place 1, spare 2.
-pub record IsOutEnd {T : Type 0} (slots : ℕ) (o : OutLog T) (sent place spare : ℕ) : Type 0 where
+-- Example: with 2 slots, after three posts and one look that found all taken: sent 3, spare 2.
+pub record IsOutEnd {T : Type 0} (slots : ℕ) (o : OutLog T) (sent spare : ℕ) : Type 0 where
   pub sent_is : sent ≡ length o.sent % 2 ^ 64
-  pub place_is : place ≡ length o.sent % slots
   pub spare_is : o.room ≡ length o.sent + spare
   pub few : spare ≤ slots
   pub looked : (o.room ≡ 0) ⊎ (slots ≤ o.room)
 
 -- The reader counts what it took in the same two ways, the parcels at hand, how often it looked in, and how often it had listened at the end
 -- of its latest collect.
-pub record IsInEnd {T : Type 0} (slots : ℕ) (i : InLog T) (taken place waiting look_ins noted : ℕ) : Type 0 where
+pub record IsInEnd {T : Type 0} (slots : ℕ) (i : InLog T) (taken waiting look_ins noted : ℕ) : Type 0 where
   pub taken_is : taken ≡ i.taken % 2 ^ 64
-  pub place_is : place ≡ i.taken % slots
   pub waiting_is : length i.seen ≡ i.taken + waiting
   pub few : waiting ≤ slots
   pub look_ins_is : look_ins ≡ counted i.look_ins

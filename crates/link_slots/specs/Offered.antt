@@ -5,7 +5,7 @@ use Rattle.item_buffer.specs.Contents.{Contents}
 use Rattle.route_tensor.specs.Link.{links}
 use Rattle.route_tensor.specs.Ends.{sender_at, reader_at}
 use Rattle.atomic_table.specs.Table.{State}
-use Rattle.link_slots.specs.Logs.{OutLog, InLog, out_of, in_of}
+use Rattle.link_slots.specs.Logs.{InLog, out_of, in_of}
 use Rattle.link_slots.specs.Wiring.{bell_word}
 use Rattle.link_slots.specs.Shape.{Shape, wiring}
 use Rattle.link_slots.specs.Told.{Knowing, IsLawful}

@@ -34,9 +34,9 @@ pub record IsSeat (cap : ℕ) (shape : Shape) (m : Me Contents Knowing) (rank : 
   pub lists_out : length (own_logs m.0).outs ≡ links shape.dims
   pub lists_in : length (own_logs m.0).ins ≡ links shape.dims
   pub each_out : (l : ℕ) (d : OutEnd) → l < links shape.dims → sender_at shape.dims l ≡ rank
-      → let e = slice_index_or outs l d in IsOutEnd shape.slots (out_of (own_logs m.0) l) e.sent e.place e.spare
+      → let e = slice_index_or outs l d in IsOutEnd shape.slots (out_of (own_logs m.0) l) e.sent e.spare
   pub each_in : (l : ℕ) (d : InEnd) → l < links shape.dims → reader_at shape.dims l ≡ rank
-      → let e = slice_index_or ins l d in IsInEnd shape.slots (in_of (own_logs m.0) l) e.taken e.place e.waiting e.look_ins e.noted
+      → let e = slice_index_or ins l d in IsInEnd shape.slots (in_of (own_logs m.0) l) e.taken e.waiting e.look_ins e.noted
   pub each_ear : (h : ℕ) (d : Ear) → h < 3 → let e = slice_index_or ears h d in IsHeard shape rank (h + 1) (own_logs m.0) e.marks e.hears
   pub each_good : (l : ℕ) → l < links shape.dims → reader_at shape.dims l ≡ rank → AreGood cap shape l (in_of (own_logs m.0) l)
   pub each_ended : (l d : ℕ) → l < links shape.dims → reader_at shape.dims l ≡ rank → slice_index_or ended l d ≡ counted (lasts (map shipped (got_of (own_logs m.0) l)))

@@ -15,7 +15,7 @@ ghost use Rattle.link_slots.specs.Counts.{IsInEnd, IsHeard, IsWire, ElseKept, Ar
 ghost use Rattle.link_slots.specs.Doorbell.{is_due, HeardWhere, looked_where_marked, LookedFor};
 
 use crate::seat::ear::Ear;
-use crate::seat::ends::{InEnd, next_place};
+use crate::seat::ends::{InEnd, slot_of};
 use crate::table::rule::{Place, Top};
 use crate::table::steps::{hear, look_in, receive};
 use crate::table::wire::Wire;
@@ -35,14 +35,14 @@ fn hear_if_due<const CAP: usize>(
     requires seat { IsManned top.now.key place.old.me }
     requires link { (link < links top.now.key.dims) × (reader_at top.now.key.dims link ≡ place.old.me.0.pick) }
     requires long { length (own_logs place.old.me.0).ins ≡ links top.now.key.dims }
-    requires end { IsInEnd top.now.key.slots (in_of (own_logs place.old.me.0) link) end.now.taken end.now.place
+    requires end { IsInEnd top.now.key.slots (in_of (own_logs place.old.me.0) link) end.now.taken
         end.now.waiting end.now.look_ins end.now.noted }
     requires wire { IsWire top.now.key.dims link wire.now.bell wire.now.mask wire.now.hop }
     requires ear { IsHeard top.now.key place.old.me.0.pick (hop_at top.now.key.dims link)
         (own_logs place.old.me.0) ear.old.marks ear.old.hears }
     ensures table { place.new.table_id ≡ place.old.table_id }
     ensures seat { IsManned top.now.key place.new.me }
-    ensures end { IsInEnd top.now.key.slots (in_of (own_logs place.new.me.0) link) end.now.taken end.now.place
+    ensures end { IsInEnd top.now.key.slots (in_of (own_logs place.new.me.0) link) end.now.taken
         end.now.waiting end.now.look_ins end.now.noted }
     ensures ear { IsHeard top.now.key place.old.me.0.pick (hop_at top.now.key.dims link)
         (own_logs place.new.me.0) ear.new.marks ear.new.hears }
@@ -79,7 +79,7 @@ fn look_if_marked<const CAP: usize>(
     requires seat { IsManned top.now.key place.old.me }
     requires link { (link < links top.now.key.dims) × (reader_at top.now.key.dims link ≡ place.old.me.0.pick) }
     requires long { length (own_logs place.old.me.0).ins ≡ links top.now.key.dims }
-    requires end { IsInEnd top.now.key.slots (in_of (own_logs place.old.me.0) link) end.old.taken end.old.place
+    requires end { IsInEnd top.now.key.slots (in_of (own_logs place.old.me.0) link) end.old.taken
         end.old.waiting end.old.look_ins end.old.noted }
     requires none { end.old.waiting ≡ 0 }
     requires wire { IsWire top.now.key.dims link wire.now.bell wire.now.mask wire.now.hop }
@@ -88,7 +88,7 @@ fn look_if_marked<const CAP: usize>(
     requires good { AreGood CAP top.now.key link (in_of (own_logs place.old.me.0) link) }
     ensures table { place.new.table_id ≡ place.old.table_id }
     ensures seat { IsManned top.now.key place.new.me }
-    ensures end { IsInEnd top.now.key.slots (in_of (own_logs place.new.me.0) link) end.new.taken end.new.place
+    ensures end { IsInEnd top.now.key.slots (in_of (own_logs place.new.me.0) link) end.new.taken
         end.new.waiting end.new.look_ins end.new.noted }
     ensures ear { IsHeard top.now.key place.old.me.0.pick (hop_at top.now.key.dims link)
         (own_logs place.new.me.0) ear.new.marks ear.new.hears }
@@ -126,7 +126,7 @@ fn find_parcel<const CAP: usize>(
     requires seat { IsManned top.now.key place.old.me }
     requires link { (link < links top.now.key.dims) × (reader_at top.now.key.dims link ≡ place.old.me.0.pick) }
     requires long { length (own_logs place.old.me.0).ins ≡ links top.now.key.dims }
-    requires end { IsInEnd top.now.key.slots (in_of (own_logs place.old.me.0) link) end.old.taken end.old.place
+    requires end { IsInEnd top.now.key.slots (in_of (own_logs place.old.me.0) link) end.old.taken
         end.old.waiting end.old.look_ins end.old.noted }
     requires wire { IsWire top.now.key.dims link wire.now.bell wire.now.mask wire.now.hop }
     requires ear { IsHeard top.now.key place.old.me.0.pick (hop_at top.now.key.dims link)
@@ -134,7 +134,7 @@ fn find_parcel<const CAP: usize>(
     requires good { AreGood CAP top.now.key link (in_of (own_logs place.old.me.0) link) }
     ensures table { place.new.table_id ≡ place.old.table_id }
     ensures seat { IsManned top.now.key place.new.me }
-    ensures end { IsInEnd top.now.key.slots (in_of (own_logs place.new.me.0) link) end.new.taken end.new.place
+    ensures end { IsInEnd top.now.key.slots (in_of (own_logs place.new.me.0) link) end.new.taken
         end.new.waiting end.new.look_ins end.new.noted }
     ensures ear { IsHeard top.now.key place.old.me.0.pick (hop_at top.now.key.dims link)
         (own_logs place.new.me.0) ear.new.marks ear.new.hears }
@@ -182,7 +182,7 @@ pub(crate) fn collect_on<const CAP: usize>(
     requires link { (link < links top.now.key.dims) × (reader_at top.now.key.dims link ≡ place.old.me.0.pick) }
     requires slots { slots ≡ top.now.key.slots }
     requires long { length (own_logs place.old.me.0).ins ≡ links top.now.key.dims }
-    requires end { IsInEnd top.now.key.slots (in_of (own_logs place.old.me.0) link) end.old.taken end.old.place
+    requires end { IsInEnd top.now.key.slots (in_of (own_logs place.old.me.0) link) end.old.taken
         end.old.waiting end.old.look_ins end.old.noted }
     requires wire { IsWire top.now.key.dims link wire.now.bell wire.now.mask wire.now.hop }
     requires ear { IsHeard top.now.key place.old.me.0.pick (hop_at top.now.key.dims link)
@@ -191,7 +191,7 @@ pub(crate) fn collect_on<const CAP: usize>(
     requires empty { IsBlank parcel.old }
     ensures table { place.new.table_id ≡ place.old.table_id }
     ensures seat { IsManned top.now.key place.new.me }
-    ensures end { IsInEnd top.now.key.slots (in_of (own_logs place.new.me.0) link) end.new.taken end.new.place
+    ensures end { IsInEnd top.now.key.slots (in_of (own_logs place.new.me.0) link) end.new.taken
         end.new.waiting end.new.look_ins end.new.noted }
     ensures ear { IsHeard top.now.key place.old.me.0.pick (hop_at top.now.key.dims link)
         (own_logs place.new.me.0) ear.new.marks ear.new.hears }
@@ -235,10 +235,9 @@ pub(crate) fn collect_on<const CAP: usize>(
         end.noted = ear.hears.saturating_add(end.look_ins);
         return Collected::Nothing;
     }
-    let slot = slots as usize * link as usize + end.place as usize;
+    let slot = slot_of(slots, link, end.taken);
     receive(top, place, link, slot, parcel);
     end.taken = end.taken.wrapping_add(1);
-    end.place = next_place(end.place, slots);
     end.waiting -= 1;
     end.noted = ear.hears.saturating_add(end.look_ins);
     Collected::Got

@@ -1,13 +1,12 @@
 //! What a rank's seat counts for each of its links, beside the table.
-ghost use Rattle.std.specs.Prelude.{◌≡◌, ◌+◌, ◌%◌, ◌<◌};
+ghost use Rattle.std.specs.Prelude.{◌≡◌, ℕ, ◌+◌, ◌*◌, ◌%◌, ◌^◌};
+ghost use Rattle.port_bank.specs.Port.{IsSlots};
 
 /// The sender's end of a link.
 #[derive(Clone, Copy)]
 pub(crate) struct OutEnd {
     /// Parcels posted, modulo 2^64.
     pub(crate) sent: u64,
-    /// The same modulo the number of slots: where the next one goes.
-    pub(crate) place: u32,
     /// Empty slots at hand.
     pub(crate) spare: u32,
 }
@@ -17,8 +16,6 @@ pub(crate) struct OutEnd {
 pub(crate) struct InEnd {
     /// Parcels taken, modulo 2^64.
     pub(crate) taken: u64,
-    /// The same modulo the number of slots: where the next one comes.
-    pub(crate) place: u32,
     /// Parcels seen and not taken.
     pub(crate) waiting: u32,
     /// How often the link was looked in; it stands still at the last number.
@@ -27,10 +24,12 @@ pub(crate) struct InEnd {
     pub(crate) noted: u64,
 }
 
-/// The place after this one, round the slots of a link.
-pub(crate) fn next_place(place: u32, slots: u32) -> u32
-    requires { place < slots }
-    ensures { result ≡ (place + 1) % slots }
+/// The slot through which parcel number `count` of a link goes, where the count is known modulo 2^64. The number of slots is a power of two.
+#[inline]
+#[tactic(auto, unfolding(port_bank::specs::Port::IsSlots))]
+pub(crate) fn slot_of(slots: u32, link: u32, count: u64) -> usize
+    requires { IsSlots slots }
+    ensures { (n : ℕ) → count ≡ n % 2 ^ 64 → result ≡ slots * link + n % slots }
 {
-    if place + 1 == slots { 0 } else { place + 1 }
+    slots as usize * link as usize + (count & (slots as u64 - 1)) as usize
 }

@@ -8,7 +8,7 @@ ghost use Rattle.link_slots.specs.Shape.{IsBoard, IsBlank, MayFollow, KeepsLaw};
 ghost use Rattle.link_slots.specs.Told.{IsManned};
 ghost use Rattle.link_slots.specs.Counts.{IsOutEnd, IsWire};
 
-use crate::seat::ends::{OutEnd, next_place};
+use crate::seat::ends::{OutEnd, slot_of};
 use crate::table::rule::{Place, Top};
 use crate::table::steps::{look_for_room, ring, send};
 use crate::table::wire::Wire;
@@ -28,11 +28,11 @@ fn make_room<const CAP: usize>(
     requires link { (link < links top.now.key.dims) × (sender_at top.now.key.dims link ≡ place.old.me.0.pick) }
     requires slots { slots ≡ top.now.key.slots }
     requires long { link < length (own_logs place.old.me.0).outs }
-    requires end { IsOutEnd top.now.key.slots (out_of (own_logs place.old.me.0) link) end.old.sent end.old.place
+    requires end { IsOutEnd top.now.key.slots (out_of (own_logs place.old.me.0) link) end.old.sent
         end.old.spare }
     ensures table { place.new.table_id ≡ place.old.table_id }
     ensures seat { IsManned top.now.key place.new.me }
-    ensures end { IsOutEnd top.now.key.slots (out_of (own_logs place.new.me.0) link) end.new.sent end.new.place
+    ensures end { IsOutEnd top.now.key.slots (out_of (own_logs place.new.me.0) link) end.new.sent
         end.new.spare }
     ensures here { place.new.me.0 ≡ with_logs place.old.me.0
         (with_out (own_logs place.old.me.0) link (out_of (own_logs place.new.me.0) link)) }
@@ -67,7 +67,7 @@ pub(crate) fn post_on<const CAP: usize>(
     requires link { (link < links top.now.key.dims) × (sender_at top.now.key.dims link ≡ place.old.me.0.pick) }
     requires slots { slots ≡ top.now.key.slots }
     requires long { link < length (own_logs place.old.me.0).outs }
-    requires end { IsOutEnd top.now.key.slots (out_of (own_logs place.old.me.0) link) end.old.sent end.old.place
+    requires end { IsOutEnd top.now.key.slots (out_of (own_logs place.old.me.0) link) end.old.sent
         end.old.spare }
     requires wire { IsWire top.now.key.dims link wire.now.bell wire.now.mask wire.now.hop }
     requires parcel { MayFollow top.now.key.dims CAP link (out_of (own_logs place.old.me.0) link).sent parcel.old }
@@ -76,7 +76,7 @@ pub(crate) fn post_on<const CAP: usize>(
         (sent_more (out_of (own_logs place.old.me.0) link) parcel.old))) (got_of (own_logs place.old.me.0)) }
     ensures table { place.new.table_id ≡ place.old.table_id }
     ensures seat { IsManned top.now.key place.new.me }
-    ensures end { IsOutEnd top.now.key.slots (out_of (own_logs place.new.me.0) link) end.new.sent end.new.place
+    ensures end { IsOutEnd top.now.key.slots (out_of (own_logs place.new.me.0) link) end.new.sent
         end.new.spare }
     ensures here { place.new.me.0 ≡ with_logs place.old.me.0
         (with_out (own_logs place.old.me.0) link (out_of (own_logs place.new.me.0) link)) }
@@ -107,11 +107,10 @@ pub(crate) fn post_on<const CAP: usize>(
     if end.spare == 0 {
         return Posted::NoRoom;
     }
-    let slot = slots as usize * link as usize + end.place as usize;
+    let slot = slot_of(slots, link, end.sent);
     send(top, place, link, slot, parcel);
     ring(top, place, link, wire.bell, wire.mask);
     end.sent = end.sent.wrapping_add(1);
-    end.place = next_place(end.place, slots);
     end.spare -= 1;
     Posted::Sent
 }

@@ -40,14 +40,9 @@ pub(crate) fn none_ended(alloc: Global, ranks: usize) -> Result<Vec<Option<Ended
 pub(crate) fn new_ends(alloc: Global, links: usize) -> Result<RankEnds, NoMemory>
     ensures { IfOk result (λ e. AreNew links e) }
 {
-    let out_end = OutEnd {
-        sent: 0,
-        place: 0,
-        spare: 0,
-    };
+    let out_end = OutEnd { sent: 0, spare: 0 };
     let in_end = InEnd {
         taken: 0,
-        place: 0,
         waiting: 0,
         look_ins: 0,
         noted: 0,

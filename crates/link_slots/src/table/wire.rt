@@ -17,6 +17,8 @@ pub(crate) struct Wire {
     pub(crate) mask: u64,
     /// The link's hop, from 0.
     pub(crate) hop: usize,
+    /// Fills a wire up to 32 bytes: its place in a list is a shift of its number.
+    _filler: u64,
 }
 
 /// The wire of the link with this number.
@@ -30,6 +32,7 @@ fn wire_of(grid: &Grid, link: u32) -> Wire
         bell: 16 * (2 * grid.links() as usize + bells),
         mask: 1 << grid.coord(a, h),
         hop: h as usize - 1,
+        _filler: 0,
     }
 }
 

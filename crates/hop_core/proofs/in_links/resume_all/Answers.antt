@@ -1,14 +1,9 @@
-use Rattle.std.proofs.Common.{◌<◌, ◌≤◌, length, arith}
+use Rattle.std.proofs.Common.{◌<◌, ◌∙◌, length, sym, ap, arith}
 use Rattle.hop_core.specs.State.{resumed}
-use Rattle.list_laws.proofs.Mapping.{mapped_step, mapped_end}
+use Rattle.list_laws.proofs.Mapping.{mapped_step}
 use Rattle.hop_core.proofs.in_links.resume_all.Goals as goal
 
 pub loop-i-preserved : goal.loop-i-preserved
 loop-i-preserved g c =
-    let i : c.loop-i.i < length c.args.links.now.items = omega (arith, c.loop-i-test.true, c.len-i-end.ensures, c.args.links.now.ok) in
-    mapped_step resumed _ _ _ _ _ i c.loop-i.invariant c.index_mut.ensures.value c.resume.ensures
-
-pub returns : goal.returns
-returns g c =
-    let i : length c.args.links.now.items ≤ c.loop-i.i = omega (arith, c.loop-i-test.false, c.len-i-end.ensures, c.args.links.now.ok) in
-    mapped_end resumed _ _ _ i c.loop-i.invariant
+    let i : c.loop-i.i < length c.as_mut_slice-all.result.now = omega (arith, c.loop-i-test.true) in
+    mapped_step resumed _ _ _ _ _ i c.loop-i.invariant c.index-all-i.is (c.resume.ensures ∙ ap resumed (sym c.index-all-i.is))

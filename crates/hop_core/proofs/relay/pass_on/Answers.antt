@@ -1,4 +1,4 @@
-use Rattle.std.proofs.Common.{◌≡◌, ◌∙◌, ◌<◌, sym, ap, subst, arith, length, get_or, set, ◌+◌}
+use Rattle.std.proofs.Common.{◌∙◌, ◌<◌, sym, ap, subst, arith, length, get_or, set, ◌+◌}
 use Rattle.bale_types.specs.declared.item.Entry.{Entry}
 use Rattle.list_laws.specs.Lists.{EachAt}
 use Rattle.route_tensor.specs.Neighbour.{hop_to}
@@ -6,7 +6,7 @@ use Rattle.hop_core.specs.Link.{read_on}
 use Rattle.hop_core.specs.Relay.{IsStopped}
 use Rattle.hop_core.specs.Standing.{IsOut}
 use Rattle.hop_core.proofs.Going.{no_entry, step_within, step_more, same_outs, step_stopped, read_more, read_next, by_table}
-use Rattle.hop_core.proofs.InTurn.{Passing, AllPassed, passing_more, passing_end, passing_full}
+use Rattle.hop_core.proofs.InTurn.{passing_more, passing_end, passing_full}
 use Rattle.hop_core.proofs.relay.pass_on.Goals as goal
 
 pub index_mut-requires : goal.index_mut-requires

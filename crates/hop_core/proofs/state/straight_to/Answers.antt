@@ -1,6 +1,6 @@
 use Rattle.route_tensor.proofs.Tables.{first_step_is}
 use Rattle.hop_core.proofs.Straight.{straight}
-use Rattle.std.proofs.Common.{refl, ◌<◌}
+use Rattle.std.proofs.Common.{refl}
 use Rattle.hop_core.proofs.state.straight_to.Goals as goal
 
 pub returns-clause-value : goal.returns-clause-value

@@ -1,9 +1,7 @@
-use Rattle.std.proofs.Common.{◌≡◌, ◌<◌, Some, length, sum, sym, ap, subst, ◌∙◌, arith}
-use Rattle.route_tensor.specs.Neighbour.{hop_to}
-use Rattle.hop_core.specs.State.{State, lowest_unread}
-use Rattle.hop_core.specs.Standing.{IsState}
+use Rattle.std.proofs.Common.{ap, ◌∙◌, arith}
+use Rattle.hop_core.specs.State.{lowest_unread}
 use Rattle.hop_core.proofs.Unread.{unread_at}
-use Rattle.hop_core.proofs.Batches.{Batch, batch_of}
+use Rattle.hop_core.proofs.Batches.{batch_of}
 use Rattle.hop_core.proofs.state.RankState.batch.Goals as goal
 
 pub index-requires : goal.index-requires

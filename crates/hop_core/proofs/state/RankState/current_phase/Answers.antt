@@ -1,18 +1,7 @@
 use Rattle.std.proofs.Common.{sym, ap, ◌∙◌}
-use Rattle.hop_core.specs.Link.{is_finished}
-use Rattle.std.specs.List.{list_all}
-use Rattle.hop_core.specs.State.{phase_of, all_closed, ins_of_hop}
-use Rattle.hop_core.proofs.Epochs.{phase_working, phase_endgame, phase_cleanup, phase_complete}
+use Rattle.hop_core.specs.State.{phase_of, all_closed}
+use Rattle.hop_core.proofs.Epochs.{phase_endgame}
 use Rattle.hop_core.proofs.state.RankState.current_phase.Goals as goal
 
-pub returns-then-not-self : goal.returns-then-not-self
-returns-then-not-self g c = sym (ap phase_of (sym c.self.view_is) ∙ phase_working _ c.if-not-self.true)
-
 pub returns-then-not-all_closed : goal.returns-then-not-all_closed
-returns-then-not-all_closed g c = sym (ap phase_of (sym c.self.view_is) ∙ phase_endgame _ c.if-not-self.false (ap all_closed (sym c.deref.ensures.value) ∙ sym c.all_closed.ensures ∙ c.if-not-all_closed.true))
-
-pub returns-then-not-hop_finished : goal.returns-then-not-hop_finished
-returns-then-not-hop_finished g c = sym (ap phase_of (sym c.self.view_is) ∙ phase_cleanup _ c.if-not-self.false (ap all_closed (sym c.deref.ensures.value) ∙ sym c.all_closed.ensures ∙ c.if-not-all_closed.false) (ap (λ n. list_all is_finished (ins_of_hop c.self.inside.routes.dims c.self.inside.ins.items n)) c.self.invariant.0 ∙ ap (λ xs. list_all is_finished (ins_of_hop c.self.inside.routes.dims xs g.row.HOPS)) (sym c.deref-2.ensures.value) ∙ sym c.hop_finished.ensures ∙ c.if-not-hop_finished.true))
-
-pub returns : goal.returns
-returns g c = sym (ap phase_of (sym c.self.view_is) ∙ phase_complete _ c.if-not-self.false (ap all_closed (sym c.deref.ensures.value) ∙ sym c.all_closed.ensures ∙ c.if-not-all_closed.false) (ap (λ n. list_all is_finished (ins_of_hop c.self.inside.routes.dims c.self.inside.ins.items n)) c.self.invariant.0 ∙ ap (λ xs. list_all is_finished (ins_of_hop c.self.inside.routes.dims xs g.row.HOPS)) (sym c.deref-2.ensures.value) ∙ sym c.hop_finished.ensures ∙ c.if-not-hop_finished.false))
+returns-then-not-all_closed g c = sym (ap phase_of (sym c.self.view_is) ∙ phase_endgame _ c.if-self.true (ap all_closed (sym c.deref.ensures.value) ∙ sym c.all_closed.ensures ∙ c.if-not-all_closed.true))

@@ -1,5 +1,5 @@
-use Rattle.std.proofs.Common.{◌≡◌, ◌∙◌, ◌<◌, Some, length, sum, sym, ap, arith}
-use Rattle.hop_core.specs.State.{State, lowest_unread}
+use Rattle.std.proofs.Common.{◌∙◌, ◌<◌, length, ap, arith}
+use Rattle.hop_core.specs.State.{lowest_unread}
 use Rattle.hop_core.proofs.Unread.{unread_at}
 use Rattle.hop_core.proofs.Batches.{same_read, skipped_all, batch_kept, batch_state}
 use Rattle.hop_core.proofs.state.RankState.pull_all.Goals as goal

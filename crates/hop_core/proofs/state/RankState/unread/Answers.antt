@@ -1,6 +1,6 @@
-use Rattle.std.proofs.Common.{◌≡◌, ◌∙◌, ◌<◌, length, sum, sym, ap, refl, arith}
+use Rattle.std.proofs.Common.{◌∙◌, ◌<◌, length, sum, sym, ap, refl, arith}
 use Rattle.route_tensor.proofs.Links.{sum_small}
-use Rattle.hop_core.specs.State.{State, lowest_unread}
+use Rattle.hop_core.specs.State.{lowest_unread}
 use Rattle.hop_core.proofs.Steps.{none_kept}
 use Rattle.hop_core.proofs.Unread.{scan_of, scan_all, scan_some, scan_none}
 use Rattle.hop_core.proofs.state.RankState.unread.Goals as goal

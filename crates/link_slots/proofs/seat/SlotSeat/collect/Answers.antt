@@ -33,8 +33,8 @@ collect_on-answer-requires g c =
     let inside : l < links v.shape.dims = subst (λ (z : Manning). l < links z.shape.dims) (sym c.self.view_is) c.requires.link in
     let mine : reader_at v.shape.dims l ≡ c.self.inside.rank = subst (λ (z : Manning). reader_at z.shape.dims l ≡ z.rank) (sym c.self.view_is) c.requires.ends_here in
     let end : InEnd = c.index_mut-end.result.now in
-    let counts : IsInEnd v.shape.slots (in_of (own_logs v) l) end.taken end.place end.waiting end.look_ins end.noted =
-    subst (λ (z : InEnd). IsInEnd v.shape.slots (in_of (own_logs v) l) z.taken z.place z.waiting z.look_ins z.noted) (sym c.index_mut-end.ensures.value) (s.each_in l end inside mine) in
+    let counts : IsInEnd v.shape.slots (in_of (own_logs v) l) end.taken end.waiting end.look_ins end.noted =
+    subst (λ (z : InEnd). IsInEnd v.shape.slots (in_of (own_logs v) l) z.taken z.waiting z.look_ins z.noted) (sym c.index_mut-end.ensures.value) (s.each_in l end inside mine) in
     let ear : Ear = c.index_mut-ear.result.now in
     let heard : IsHeard v.shape c.self.inside.rank (c.index-wire.result.now.hop + 1) (own_logs v) ear.marks ear.hears = subst (λ (z : Ear). IsHeard v.shape c.self.inside.rank (c.index-wire.result.now.hop + 1) (own_logs v) z.marks z.hears) (sym c.index_mut-ear.ensures.value) (s.each_ear c.index-wire.result.now.hop ear (let low = hop_small key c.bank.invariant.board.shape l (subst (λ (z : Shape). l < links z.dims) e inside) in let hop = way.hop_is in omega arith)) in
     let low = hop_small key c.bank.invariant.board.shape l (subst (λ (z : Shape). l < links z.dims) e inside) in let hop = way.hop_is in (
@@ -54,7 +54,7 @@ collect_on-answer-requires g c =
                   (
                     subst (λ (z : Shape). length (own_logs v).ins ≡ links z.dims) e s.lists_in,
                     (
-                      subst (λ (z : Shape). IsInEnd z.slots (in_of (own_logs v) l) end.taken end.place end.waiting end.look_ins end.noted) e counts,
+                      subst (λ (z : Shape). IsInEnd z.slots (in_of (own_logs v) l) end.taken end.waiting end.look_ins end.noted) e counts,
                       (
                         way,
                         (
@@ -129,7 +129,7 @@ invariant_of-self g c =
     seat_collected g.row.CAP v.shape c.self.inside.place.me m' c.self.inside.rank l c.self.inside.outs.items c.self.inside.ins.items c.self.inside.ears.items c.self.inside.ended.items s
     (subst (λ (z : Shape). IsManned z m') back f.seat) inside c.collect_on-answer.new.end c.collect_on-answer.new.ear c.index-wire.result.now.hop c.note_last.new.ended f.here
     (subst (λ (z : Shape). ElseKept z v.pick l x x') back f.others) mine
-    (subst (λ (z : Shape). IsInEnd z.slots (in_of x' l) c.collect_on-answer.new.end.taken c.collect_on-answer.new.end.place c.collect_on-answer.new.end.waiting c.collect_on-answer.new.end.look_ins c.collect_on-answer.new.end.noted) back f.end)
+    (subst (λ (z : Shape). IsInEnd z.slots (in_of x' l) c.collect_on-answer.new.end.taken c.collect_on-answer.new.end.waiting c.collect_on-answer.new.end.look_ins c.collect_on-answer.new.end.noted) back f.end)
     (subst (λ (z : Shape). IsHeard z v.pick (hop_at z.dims l) x' c.collect_on-answer.new.ear.marks c.collect_on-answer.new.ear.hears) back f.ear)
     (subst (λ (z : Shape). hop_at z.dims l ≡ c.index-wire.result.now.hop + 1) back way.hop_is)
     (subst (λ (z : Shape). AreGood g.row.CAP z l (in_of x' l)) back f.good) now

@@ -27,8 +27,8 @@ post_on-answer-requires g c =
     let epoch : c.args.parcel.now.epoch ≡ lasts (map shipped (sent_of (own_logs v) l)) = subst (λ (z : Manning). c.args.parcel.now.epoch ≡ lasts (posted_on z l)) (sym c.self.view_is) c.requires.epoch in
     let long : l < length (own_logs v).outs = (let n = s.lists_out in omega arith) in
     let end : OutEnd = c.index_mut-end.result.now in
-    let counts : IsOutEnd v.shape.slots (out_of (own_logs v) l) end.sent end.place end.spare =
-    subst (λ (z : OutEnd). IsOutEnd v.shape.slots (out_of (own_logs v) l) z.sent z.place z.spare) (sym c.index_mut-end.ensures.value) (s.each_out l end inside mine) in (
+    let counts : IsOutEnd v.shape.slots (out_of (own_logs v) l) end.sent end.spare =
+    subst (λ (z : OutEnd). IsOutEnd v.shape.slots (out_of (own_logs v) l) z.sent z.spare) (sym c.index_mut-end.ensures.value) (s.each_out l end inside mine) in (
       omega arith,
       (
         omega arith,
@@ -45,7 +45,7 @@ post_on-answer-requires g c =
                   (
                     long,
                     (
-                      subst (λ (z : Shape). IsOutEnd z.slots (out_of (own_logs v) l) end.sent end.place end.spare) e counts,
+                      subst (λ (z : Shape). IsOutEnd z.slots (out_of (own_logs v) l) end.sent end.spare) e counts,
                       (
                         way,
                         (
@@ -73,7 +73,7 @@ invariant_of-self g c =
     let mine : sender_at v.shape.dims l ≡ c.self.inside.rank = subst (λ (z : Manning). sender_at z.shape.dims l ≡ z.rank) (sym c.self.view_is) c.requires.starts_here in
     seat_posted g.row.CAP v.shape c.self.inside.place.me c.post_on-answer.new.place.me c.self.inside.rank l c.self.inside.outs.items c.self.inside.ins.items c.self.inside.ears.items c.self.inside.ended.items s
     (subst (λ (z : Shape). IsManned z c.post_on-answer.new.place.me) (sym e) c.post_on-answer.ensures.seat) inside c.post_on-answer.new.end c.post_on-answer.ensures.here mine
-    (subst (λ (z : Shape). IsOutEnd z.slots (out_of (own_logs c.post_on-answer.new.place.me.0) l) c.post_on-answer.new.end.sent c.post_on-answer.new.end.place c.post_on-answer.new.end.spare) (sym e) c.post_on-answer.ensures.end)
+    (subst (λ (z : Shape). IsOutEnd z.slots (out_of (own_logs c.post_on-answer.new.place.me.0) l) c.post_on-answer.new.end.sent c.post_on-answer.new.end.spare) (sym e) c.post_on-answer.ensures.end)
 
 -- what the seat counts beside its view: the parcels posted and the spare slots are the room
 pub returns-clause-within : goal.returns-clause-within

@@ -1,5 +1,5 @@
 use Rattle.port_bank.specs.Flow.{Begins}
-use Rattle.std.proofs.Common.{arith, ◌≡◌, ◌+◌, ◌-◌, ◌<◌, ◌%◌, ◌^◌, ℕ, suc, refl, sym, ap, subst, ◌∙◌, length, min}
+use Rattle.std.proofs.Common.{arith, ◌≡◌, ◌+◌, ◌-◌, ◌<◌, ◌^◌, ℕ, suc, refl, sym, ap, subst, ◌∙◌, length, min}
 use Rattle.item_buffer.specs.Contents.{Contents}
 use Rattle.route_tensor.specs.Ends.{hop_at}
 use Rattle.link_slots.specs.Logs.{InLog, Logs, out_of, in_of, with_in, taken_more}
@@ -34,10 +34,10 @@ returns-clause-end g c =
     let hs : c.find_parcel.new.ear.hears ≡ counted i2.hears = f.ear.heard l c.requires.link.0 c.requires.link.1 refl in
     let ks : c.find_parcel.new.end.look_ins ≡ counted i2.look_ins = f.end.look_ins_is in
     let noted : min (c.find_parcel.new.ear.hears + c.find_parcel.new.end.look_ins) (2 ^ 64 - 1) ≡ counted (i2.hears + i2.look_ins) = omega arith in
-    end_taken key.slots i2 (in_of (own_logs v3) l) c.find_parcel.new.end.taken c.find_parcel.new.end.place k c.find_parcel.new.end.look_ins c.find_parcel.new.end.noted _ _ _
-    (subst (λ (z : ℕ). IsInEnd key.slots i2 c.find_parcel.new.end.taken c.find_parcel.new.end.place z c.find_parcel.new.end.look_ins c.find_parcel.new.end.noted) more f.end)
+    end_taken key.slots i2 (in_of (own_logs v3) l) c.find_parcel.new.end.taken k c.find_parcel.new.end.look_ins c.find_parcel.new.end.noted _ _
+    (subst (λ (z : ℕ). IsInEnd key.slots i2 c.find_parcel.new.end.taken z c.find_parcel.new.end.look_ins c.find_parcel.new.end.noted) more f.end)
     (ap (λ (z : InLog Contents). z.seen) a) (ap (λ (z : InLog Contents). z.taken) a) (ap (λ (z : InLog Contents). z.look_ins) a) (ap (λ (z : InLog Contents). z.hears) a)
-    refl (c.next_place-end.ensures ∙ ap (λ (z : ℕ). (c.find_parcel.new.end.place + 1) % z) c.requires.slots)
+    refl
     (c.saturating_add-end-2.ensures ∙ noted ∙ sym (ap (λ (z : InLog Contents). counted (z.hears + z.look_ins)) a))
 
 pub returns-clause-ear : goal.returns-clause-ear

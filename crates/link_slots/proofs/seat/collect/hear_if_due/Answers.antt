@@ -34,7 +34,7 @@ pub returns-then-saturating_add-end-clause-end : goal.returns-then-saturating_ad
 returns-then-saturating_add-end-clause-end g c =
     let a = at c.args.place.now.me.0 c.hear.new.place.me.0 c.args.top.now.key c.requires.table.1.shape c.args.link c.hear.result c.hear.ensures.heard c.requires.seat.speaks c.requires.link.0 c.requires.link.1 c.requires.long in
     let h = ap (λ (i : InLog Contents). i.hears) a in
-    end_kept c.args.top.now.key.slots _ _ _ _ _ _ _ c.requires.end (ap (λ (i : InLog Contents). i.seen) a) (ap (λ (i : InLog Contents). i.taken) a) (ap (λ (i : InLog Contents). i.look_ins) a) (omega arith)
+    end_kept c.args.top.now.key.slots _ _ _ _ _ _ c.requires.end (ap (λ (i : InLog Contents). i.seen) a) (ap (λ (i : InLog Contents). i.taken) a) (ap (λ (i : InLog Contents). i.look_ins) a) (omega arith)
 
 pub returns-then-saturating_add-end-clause-ear : goal.returns-then-saturating_add-end-clause-ear
 returns-then-saturating_add-end-clause-ear g c =

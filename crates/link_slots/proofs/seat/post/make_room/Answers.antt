@@ -10,7 +10,7 @@ pub returns-then-end-eq0-clause-end : goal.returns-then-end-eq0-clause-end
 returns-then-end-eq0-clause-end g c =
     let f = c.look_for_room-found.ensures.found in
     let e = out_after c.args.place.now.me.0 c.look_for_room-found.new.place.me.0 c.requires.seat.speaks c.args.link _ _ f.2 c.requires.long in
-    end_looked c.args.top.now.key.slots _ _ _ _ _ c.look_for_room-found.result _ c.requires.end f.0 f.1 (ap (λ (z : OutLog Contents). z.sent) e) (ap (λ (z : OutLog Contents). z.room) e) (let s = c.requires.slots in omega arith)
+    end_looked c.args.top.now.key.slots _ _ _ _ c.look_for_room-found.result _ c.requires.end f.0 f.1 (ap (λ (z : OutLog Contents). z.sent) e) (ap (λ (z : OutLog Contents). z.room) e) (let s = c.requires.slots in omega arith)
 
 pub returns-then-end-eq0-clause-all_room : goal.returns-then-end-eq0-clause-all_room
 returns-then-end-eq0-clause-all_room g c none =

@@ -1,4 +1,4 @@
-use Rattle.std.proofs.Common.{arith, ◌≡◌, ◌+◌, ◌-◌, ◌*◌, ◌%◌, ℕ, List, suc, refl, sym, ap, subst, ◌∙◌}
+use Rattle.std.proofs.Common.{arith, ◌≡◌, ◌+◌, ◌-◌, ◌*◌, ◌%◌, ℕ, List, suc, refl, sym, ap, subst, ◌∙◌, length}
 use Rattle.item_buffer.specs.Contents.{Contents}
 use Rattle.link_slots.specs.Logs.{OutLog, out_of, sent_more, all_offered}
 use Rattle.link_slots.specs.View.{own_logs}
@@ -27,7 +27,7 @@ send-requires g c =
                 (
                   (let s = c.make_room.ensures.end.spare_is in let n = c.if-end-eq0.false in omega arith),
                   (
-                    (let s = c.requires.slots in let p = c.make_room.ensures.end.place_is in ap (λ (z : ℕ). z * l + c.make_room.new.end.place) s ∙ ap (λ (z : ℕ). key.slots * l + z) p),
+                    c.slot_of-slot.ensures _ c.make_room.ensures.end.sent_is ∙ ap (λ (z : ℕ). z * l + length (out_of (own_logs v1) l).sent % z) c.requires.slots,
                     (
                       subst (λ (z : List Contents). MayFollow key.dims g.row.CAP l z c.args.parcel.now) (sym c.make_room.ensures.sent) c.requires.parcel,
                       law_after v c.requires.seat.speaks l c.requires.long key.dims v1 c.args.parcel.now e c.make_room.ensures.sent c.requires.law,
@@ -61,9 +61,9 @@ returns-clause-end g c =
     let at : out_of (own_logs v3) l ≡ all_offered (sent_more o1 c.args.parcel.now) = at3 ∙ ap all_offered at2 in
     let k : ℕ = c.make_room.new.end.spare - 1 in
     let more : c.make_room.new.end.spare ≡ suc k = (let n = c.if-end-eq0.false in omega arith) in
-    end_posted key.slots o1 (out_of (own_logs v3) l) c.args.parcel.now c.make_room.new.end.sent c.make_room.new.end.place k _ _
-    (subst (IsOutEnd key.slots o1 c.make_room.new.end.sent c.make_room.new.end.place) more c.make_room.ensures.end)
-    (ap (λ (z : OutLog Contents). z.sent) at) (ap (λ (z : OutLog Contents). z.room) at) refl (c.next_place-end.ensures ∙ ap (λ (z : ℕ). (c.make_room.new.end.place + 1) % z) c.requires.slots)
+    end_posted key.slots o1 (out_of (own_logs v3) l) c.args.parcel.now c.make_room.new.end.sent k _
+    (subst (IsOutEnd key.slots o1 c.make_room.new.end.sent) more c.make_room.ensures.end)
+    (ap (λ (z : OutLog Contents). z.sent) at) (ap (λ (z : OutLog Contents). z.room) at) refl
 
 -- with an empty slot at hand nothing was looked for
 pub returns-clause-at_hand : goal.returns-clause-at_hand

@@ -4,6 +4,7 @@ pub mod Counts
 pub mod Cuts
 pub mod Lines
 pub mod Meanings
+pub mod Numbers
 pub mod Stores
 pub mod TallyLaws
 pub mod TallyRuns

@@ -11,7 +11,7 @@ ghost use Rattle.app_sssp.specs.code.SsspSeats.{IsSeat};
 
 use crate::seat::Seat;
 use bale_types::{Item, NoMemory, Triple, value_of};
-use least_walks::{Table, Vertices, offers};
+use least_walks::{Table, Vertices, put_offers};
 use mtx_text::Cells;
 use round_program::{Arrivals, Program};
 use std::alloc::Global;
@@ -35,6 +35,8 @@ pub struct Sssp {
     vertices: Vertices,
     /// what is sent in this round: edges, then weights
     outgoing: Vec<(u32, Item)>,
+    /// what was sent in the round before, or anything: a list whose memory is kept for the next round
+    spare: Vec<(u32, Item)>,
 }
 
 impl Model for Sssp {
@@ -90,6 +92,7 @@ impl Sssp {
             table: Table::new(alloc),
             vertices,
             outgoing,
+            spare: Vec::new(alloc),
         }
     }
 
@@ -220,7 +223,8 @@ impl Program for Sssp {
             &mut self.table,
         )?;
         let improved = self.vertices.take_improved();
-        self.outgoing = offers(self.alloc, &self.table, &self.vertices, &improved)?;
+        put_offers(&mut self.spare, &self.table, &self.vertices, &improved)?;
+        mem::swap(&mut self.outgoing, &mut self.spare);
         self.round = self.round.saturating_add(1);
         Ok(goes_on)
     }

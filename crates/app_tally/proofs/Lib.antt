@@ -1,4 +1,5 @@
 pub mod Counted
+pub mod Fronts
 pub mod Kept
 pub mod Tallied
 pub mod TallyRounds

@@ -2,6 +2,7 @@ pub mod Counts
 pub mod Cuts
 pub mod Lines
 pub mod Meanings
+pub mod Numbers
 pub mod Stores
 pub mod TallyRuns
 pub mod Tallies

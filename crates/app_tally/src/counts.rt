@@ -7,7 +7,9 @@ ghost use Rattle.std.specs.Ordering.{is_gt, is_lt};
 ghost use Rattle.elastic.specs.Spelling.{IsLetter};
 ghost use Rattle.app_tally.specs.code.CountView.{entries_of, IsCounts};
 ghost use Rattle.app_tally.specs.Counts.{by_bytes, counted, tally_of};
+ghost use Rattle.app_tally.specs.Numbers.{front_number};
 
+use crate::numbered::Numbered;
 use crate::strings::Strings;
 use bale_types::NoMemory;
 use std::alloc::Global;
@@ -66,9 +68,10 @@ impl Counts {
 }
 
 /// The tally of lines: they are sorted, and then equal ones stand side by side.
-pub(crate) fn tally_all(alloc: Global, lines: Vec<&[u8]>) -> Result<Counts, NoMemory>
-    requires { All IsLetter (map (λ l. l.now) lines.items) }
-    ensures { IfOk result (λ c. c ≡ tally_of (map (λ l. l.now) lines.entry.items)) }
+pub(crate) fn tally_all(alloc: Global, lines: Vec<Numbered<'_>>) -> Result<Counts, NoMemory>
+    requires letters { All IsLetter (map (λ l. l.1.now) lines.items) }
+    requires numbers { All (λ l. l.0 ≡ front_number 16 l.1.now) lines.items }
+    ensures { IfOk result (λ c. c ≡ tally_of (map (λ l. l.1.now) lines.entry.items)) }
 {
     let mut sorted = lines;
     sorted.sort_unstable();
@@ -76,15 +79,15 @@ pub(crate) fn tally_all(alloc: Global, lines: Vec<&[u8]>) -> Result<Counts, NoMe
 }
 
 /// The tally of lines that are in order.
-fn count_sorted(alloc: Global, sorted: &[&[u8]]) -> Result<Counts, NoMemory>
-    requires order { IsSortedBy (λ l m. is_lt (by_bytes l m)) (map (λ l. l.now) sorted.now) }
-    requires letters { All IsLetter (map (λ l. l.now) sorted.now) }
-    ensures { IfOk result (λ c. c ≡ tally_of (map (λ l. l.now) sorted.now)) }
+fn count_sorted(alloc: Global, sorted: &[Numbered<'_>]) -> Result<Counts, NoMemory>
+    requires order { IsSortedBy (λ l m. is_lt (by_bytes l m)) (map (λ l. l.1.now) sorted.now) }
+    requires letters { All IsLetter (map (λ l. l.1.now) sorted.now) }
+    ensures { IfOk result (λ c. c ≡ tally_of (map (λ l. l.1.now) sorted.now)) }
 {
     let mut lines = Strings::new(alloc);
     let mut times = Vec::new(alloc);
     for line in sorted {
-        count(&mut lines, &mut times, line)?;
+        count(&mut lines, &mut times, line.1)?;
     }
     Ok(Counts::of_parts(lines, times))
 }

@@ -21,6 +21,7 @@
 mod counts;
 mod lines;
 mod mailer;
+mod numbered;
 mod read;
 mod rounds;
 mod run;

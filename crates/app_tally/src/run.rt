@@ -6,12 +6,14 @@ ghost use Rattle.round_program.specs.Canonical.{InRound, EndsWithin};
 ghost use Rattle.elastic.specs.Spelling.{IsLetter};
 ghost use Rattle.elastic.specs.Mails.{mailing, mail_rules};
 ghost use Rattle.app_tally.specs.Counts.{times, tally_of, IsTally};
+ghost use Rattle.app_tally.specs.Numbers.{front_number};
 ghost use Rattle.app_tally.specs.Tallies.{tally_rules};
 ghost use Rattle.app_tally.specs.TallyRuns.{own_lines, tally_begins, tally_starts, TallyEnded};
 
 use crate::counts::{Counts, tally_all};
 use crate::lines::Lines;
 use crate::mailer::TallyMailer;
+use crate::numbered::{Numbered, numbered};
 use crate::strings::Strings;
 use crate::tally::Tally;
 use bale_types::NoMemory;
@@ -89,10 +91,11 @@ pub fn tally_end(alloc: Global, p: &Progs<TallyMailer>) -> Result<Counts, NoMemo
 }
 
 /// The lines that came to all ranks.
-fn all_came(alloc: Global, p: &Progs<TallyMailer>) -> Result<Vec<&[u8]>, NoMemory>
+fn all_came(alloc: Global, p: &Progs<TallyMailer>) -> Result<Vec<Numbered<'_>>, NoMemory>
     ensures times { (lines : List (List ℕ)) → TallyEnded lines p.now
-        → IfOk result (λ all. (q : List ℕ) → times q (map (λ l. l.now) all.items) ≡ times q lines) }
-    ensures letters { IfOk result (λ all. All IsLetter (map (λ l. l.now) all.items)) }
+        → IfOk result (λ all. (q : List ℕ) → times q (map (λ l. l.1.now) all.items) ≡ times q lines) }
+    ensures letters { IfOk result (λ all. All IsLetter (map (λ l. l.1.now) all.items)) }
+    ensures numbers { IfOk result (λ all. All (λ l. l.0 ≡ front_number 16 l.1.now) all.items) }
 {
     let mut all = Vec::new(alloc);
     for rank in 0..p.len() {
@@ -105,12 +108,14 @@ fn all_came(alloc: Global, p: &Progs<TallyMailer>) -> Result<Vec<&[u8]>, NoMemor
 }
 
 /// Appends the lines that came to one rank.
-fn gather<'a>(all: &mut Vec<&'a [u8]>, came: &'a Strings) -> Result<(), NoMemory>
-    ensures gathered { OnOk result (map (λ l. l.now) all.new.items ≡ map (λ l. l.now) all.old.items ++ came.now) }
+fn gather<'a>(all: &mut Vec<Numbered<'a>>, came: &'a Strings) -> Result<(), NoMemory>
+    ensures gathered { OnOk result (map (λ l. l.1.now) all.new.items ≡ map (λ l. l.1.now) all.old.items ++ came.now) }
+    ensures numbers { OnOk result (All (λ l. l.0 ≡ front_number 16 l.1.now) all.old.items
+        → All (λ l. l.0 ≡ front_number 16 l.1.now) all.new.items) }
     ensures letters { All IsLetter came.now }
 {
     for i in 0..came.len() {
-        all.push(came.at(i))?;
+        all.push(numbered(came.at(i)))?;
     }
     Ok(())
 }

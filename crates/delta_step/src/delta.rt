@@ -13,7 +13,7 @@ ghost use Rattle.delta_step.specs.code.DeltaSeats.{IsSeat};
 use crate::phase::Phase;
 use crate::seat::Seat;
 use bale_types::{Item, NoMemory, value_of};
-use least_walks::{Table, Vertices, offers};
+use least_walks::{Table, Vertices, put_offers};
 use mtx_text::Cells;
 use round_program::{Arrivals, Program};
 use std::alloc::Global;
@@ -49,6 +49,8 @@ pub struct Delta {
     settled: Vec<u32>,
     /// what is sent in this round
     outgoing: Vec<(u32, Item)>,
+    /// what was sent in the round before, or anything: a list whose memory is kept for the next round
+    spare: Vec<(u32, Item)>,
 }
 
 impl Model for Delta {
@@ -120,6 +122,7 @@ impl Delta {
             bucket: 0,
             settled: Vec::new(alloc),
             outgoing,
+            spare: Vec::new(alloc),
         }
     }
 
@@ -310,8 +313,8 @@ impl Delta {
         let light = Table::of(self.alloc, self.ranks, places, 0, self.width, &entries)?;
         let above = self.width + 1;
         let heavy = Table::of(self.alloc, self.ranks, places, above, u64::MAX, &entries)?;
-        let outgoing = announce(self.alloc, self.ranks, self.width, &mut self.vertices)?;
-        self.outgoing = outgoing;
+        announce(&mut self.spare, self.ranks, self.width, &mut self.vertices)?;
+        mem::swap(&mut self.outgoing, &mut self.spare);
         self.light = light;
         self.heavy = heavy;
         begin_finding(&mut self.settled, &mut self.bucket);
@@ -326,8 +329,8 @@ impl Delta {
         ensures ok { OnOk result (self.new ≡ finding self.old) }
         ensures err { OnErr result (self.new.outgoing ≡ self.old.outgoing) }
     {
-        let outgoing = announce(self.alloc, self.ranks, self.width, &mut self.vertices)?;
-        self.outgoing = outgoing;
+        announce(&mut self.spare, self.ranks, self.width, &mut self.vertices)?;
+        mem::swap(&mut self.outgoing, &mut self.spare);
         begin_finding(&mut self.settled, &mut self.bucket);
         self.phase = Phase::Find;
         self.round = self.round.saturating_add(1);
@@ -342,8 +345,8 @@ impl Delta {
     {
         let active = self.vertices.take_bucket(self.width, self.bucket)?;
         self.settled.extend_from_slice(&active)?;
-        let outgoing = offers(self.alloc, &self.light, &self.vertices, &active)?;
-        self.outgoing = outgoing;
+        put_offers(&mut self.spare, &self.light, &self.vertices, &active)?;
+        mem::swap(&mut self.outgoing, &mut self.spare);
         self.phase = Phase::Light;
         self.round = self.round.saturating_add(1);
         Ok(())
@@ -356,8 +359,8 @@ impl Delta {
         ensures err { OnErr result (self.new.outgoing ≡ self.old.outgoing) }
     {
         put_in_order(&mut self.settled, self.vertices.len());
-        let outgoing = offers(self.alloc, &self.heavy, &self.vertices, &self.settled)?;
-        self.outgoing = outgoing;
+        put_offers(&mut self.spare, &self.heavy, &self.vertices, &self.settled)?;
+        mem::swap(&mut self.outgoing, &mut self.spare);
         self.phase = Phase::Heavy;
         self.round = self.round.saturating_add(1);
         Ok(())
@@ -373,19 +376,19 @@ fn begin_finding(settled: &mut Vec<u32>, bucket: &mut u64)
     *bucket = NO_BUCKET;
 }
 
-/// Tells each rank the least bucket with a pending vertex.
+/// Puts word for each rank of the least bucket with a pending vertex in the place of what `outgoing` held, whose memory is kept.
 fn announce(
-    alloc: Global,
+    outgoing: &mut Vec<(u32, Item)>,
     ranks: u32,
     width: u64,
     vertices: &mut Vertices,
-) -> Result<Vec<(u32, Item)>, NoMemory>
+) -> Result<(), NoMemory>
     requires { 0 < width }
-    ensures told { IfOk result (λ v. v.items ≡ announced ranks (bucket_of width (least_marked vertices.old))) }
+    ensures told { OnOk result (outgoing.new.items ≡ announced ranks (bucket_of width (least_marked vertices.old))) }
     ensures same { vertices.new ≡ vertices.old }
 {
     let bucket = bucket_of(width, vertices.least());
-    let mut outgoing = Vec::with_capacity(alloc, ranks as usize)?;
+    outgoing.clear();
     for rank in 0..ranks {
         let item = Item {
             a: bucket,
@@ -394,7 +397,7 @@ fn announce(
         };
         outgoing.push((rank, item))?;
     }
-    Ok(outgoing)
+    Ok(())
 }
 
 /// The bucket of a weight.

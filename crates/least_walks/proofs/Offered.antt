@@ -1,18 +1,17 @@
 -- What vertices offer, which offers a vertex takes, and what it is then.
-use Rattle.std.proofs.Common.{ℕ, zero, suc, ◌+◌, ◌/◌, ◌%◌, ◌^◌, ◌<◌, ◌≤◌, ◌≡◌, ◌≢◌, Bool, true, false, cond, eqb, ltb, List, [], ◌∷◌, ◌++◌, Option, Some, None, length, map, get_or, slice_set, All, arith, inl, inr, refl, sym, ap, ◌∙◌, subst, ◌⊎◌}
+use Rattle.std.proofs.Common.{ℕ, zero, suc, ◌+◌, ◌/◌, ◌<◌, ◌≤◌, ◌≡◌, Bool, true, false, cond, List, [], ◌∷◌, Option, Some, None, length, map, get_or, arith, inl, inr, refl, sym, ap, ◌∙◌, subst, ◌⊎◌}
 use Rattle.std.specs.Prelude.{Contains}
-use Rattle.std.specs.List.{fold, flat_map}
+use Rattle.std.specs.List.{fold}
 use Rattle.std.proofs.lemmas.Bool.{cases_Bool, cases_eq, cases_lt, lt-ltb, le-ltb}
-use Rattle.std.proofs.lemmas.List.{get_or-set_same, get_or-set_other, get_or_past}
+use Rattle.std.proofs.lemmas.List.{get_or-set_same, get_or-set_other}
 use Rattle.std.proofs.lemmas.Option.{same_Some}
 use Rattle.bale_types.specs.declared.Item.{Item}
-use Rattle.list_laws.specs.Lists.{changed_at}
 use Rattle.list_laws.proofs.Lists.{changed_len, changed_past}
 use Rattle.least_walks.specs.declared.table.Edge.{Edge}
 use Rattle.least_walks.specs.declared.vertices.Vertex.{Vertex}
 use Rattle.least_walks.specs.Walks.{AtMost}
 use Rattle.least_walks.specs.Tables.{offer, offers_from, offers_at, offers}
-use Rattle.least_walks.specs.Vertices.{unreached, is_better, improve, improved_at, marked_from, marked, calm}
+use Rattle.least_walks.specs.Vertices.{unreached, improve, improved_at, marked_from, calm}
 use Rattle.least_walks.proofs.Members.{has_head, has_tail, has_cases, none_in, has_mapped, was_mapped, has_joined, was_joined}
 
 -- ---- One weight

@@ -1,5 +1,5 @@
 -- The table after one more entry.
-use Rattle.std.proofs.Common.{ℕ, ◌+◌, ◌/◌, ◌<◌, ◌≡◌, Bool, true, false, cond, eqb, ◌&&◌, List, [], ◌∷◌, ◌++◌, Some, length, map, get_or, slice_get, slice_set, take, arith, inl, inr, refl, sym, ap, ◌∙◌, subst, replicate}
+use Rattle.std.proofs.Common.{ℕ, ◌+◌, ◌/◌, ◌<◌, ◌≡◌, Bool, true, false, cond, eqb, ◌&&◌, List, [], ◌∷◌, ◌++◌, Some, length, map, get_or, slice_get, take, arith, inl, inr, refl, sym, ap, ◌∙◌, subst, replicate}
 use Rattle.std.specs.List.{filter, range_with_len}
 use Rattle.std.proofs.lemmas.Bool.{cases_Bool, cases_eq, eq-eqb, ne_eqb}
 use Rattle.std.proofs.lemmas.List.{append-nil, map-append, take_more, length-replicate, get_or-replicate}
@@ -8,7 +8,7 @@ use Rattle.std.proofs.lemmas.List.FromFn.{length-map-range_with_len, get_or-map-
 use Rattle.std.proofs.lemmas.Option.{get_or_from_slice_get}
 use Rattle.bale_types.specs.declared.triple.Triple.{Triple}
 use Rattle.list_laws.specs.Lists.{changed_at}
-use Rattle.list_laws.proofs.Lists.{find, within, get_once, get_here, get_other, set_len, same_reads, map_changed, map_unchanged}
+use Rattle.list_laws.proofs.Lists.{find, within, get_once, get_here, get_other, set_len, same_reads}
 use Rattle.least_walks.specs.declared.table.Edge.{Edge}
 use Rattle.least_walks.specs.Tables.{edge_of, in_range, is_kept, edges_at, table_of, kept}
 

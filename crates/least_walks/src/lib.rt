@@ -7,7 +7,7 @@
 //! |---|---|
 //! | [`Vertices`] | the least weight found for each own vertex, and which were improved |
 //! | [`Table`] | the edges of own vertices, those of each vertex together |
-//! | [`offers`] | what vertices offer along their edges |
+//! | [`put_offers`] | what vertices offer along their edges |
 //! | [`no_negative`] | whether the entries can be edges |
 //! | [`write_vertex`] | the line of a vertex |
 //!
@@ -23,6 +23,6 @@ mod vertices;
 mod weights;
 
 pub use lines::write_vertex;
-pub use table::{Edge, Table, offers};
+pub use table::{Edge, Table, put_offers};
 pub use vertices::{Vertex, Vertices};
 pub use weights::no_negative;

@@ -207,28 +207,30 @@ fn edge_of(ranks: u32, t: Triple) -> Edge
     }
 }
 
-/// What the vertices at some places offer along their edges, place by place.
+/// Puts what the vertices at some places offer along their edges, place by place, in the place of what `outgoing` held, whose
+/// memory is kept.
 ///
 /// # Errors
 ///
-/// `NoMemory` where there was none.
-pub fn offers(
-    alloc: Global,
+/// `NoMemory` where there was none; `outgoing` may hold anything then.
+pub fn put_offers(
+    outgoing: &mut Vec<(u32, Item)>,
     table: &Table,
     vertices: &Vertices,
     places: &[u32],
-) -> Result<Vec<(u32, Item)>, NoMemory>
+) -> Result<(), NoMemory>
     requires edges { All (λ p. p < length table.now) places.now }
     requires weights { All (λ p. p < length vertices.now) places.now }
-    ensures { IfOk result (λ v. v.items ≡ offers table.now vertices.now places.now) }
+    ensures { OnOk result (outgoing.new.items ≡ offers table.now vertices.now places.now) }
 {
-    let mut outgoing = Vec::with_capacity(alloc, edges_at(table, places))?;
+    outgoing.clear();
+    outgoing.reserve(edges_at(table, places))?;
     for place in places {
         if let Some(weight) = vertices.weight(*place) {
-            offer_all(&mut outgoing, weight, table.at(*place))?;
+            offer_all(outgoing, weight, table.at(*place))?;
         }
     }
-    Ok(outgoing)
+    Ok(())
 }
 
 /// How many edges there are at some places.
@@ -242,17 +244,18 @@ fn edges_at(table: &Table, places: &[u32]) -> usize
     count
 }
 
-/// Appends what a vertex with a weight offers along its edges.
+/// Appends what a vertex with a weight offers along its edges. Room is looked for once for them all.
 fn offer_all(outgoing: &mut Vec<(u32, Item)>, weight: u64, edges: &[Edge]) -> Result<(), NoMemory>
     ensures { OnOk result (outgoing.new.items ≡ outgoing.old.items ++ map (offer weight) edges.now) }
 {
+    outgoing.reserve(edges.len())?;
     for edge in edges {
         let item = Item {
             a: edge.to as u64,
             b: weight.wrapping_add(edge.weight),
             c: 0,
         };
-        outgoing.push((edge.owner, item))?;
+        outgoing.push_reserved((edge.owner, item));
     }
     Ok(())
 }

@@ -31,7 +31,8 @@ fn offers_of_places(rt: HostRuntime) -> Result<(), Fail> {
     let mut vertices = Vertices::new(alloc, 2)?;
     vertices.improve(1, 10)?;
     let places = vertices.take_improved();
-    let sent = offers(alloc, &table, &vertices, &places)?;
+    let mut sent = Vec::new(alloc);
+    put_offers(&mut sent, &table, &vertices, &places)?;
     assert!(rt; table.len() == 2 && vertices.len() == 2 && sent.len() == 1);
     assert!(rt; sent[0].0 == 0 && sent[0].1.a == 0 && sent[0].1.b == 15);
     assert!(rt; Table::new(alloc).len() == 0);
@@ -46,7 +47,8 @@ fn offers_of_places(rt: HostRuntime) -> Result<(), Fail> {
     vertices.improve(0, 1)?;
     vertices.improve(1, 9)?;
     let places = vertices.take_improved();
-    let sent = offers(alloc, &table, &vertices, &places)?;
+    let mut sent = Vec::new(alloc);
+    put_offers(&mut sent, &table, &vertices, &places)?;
     assert!(rt; sent.len() == 3 && sent[0].1.a == 3 && sent[1].1.a == 1 && sent[2].1.a == 0);
     assert!(rt; sent[0].1.b == 5 && sent[1].1.b == 10 && sent[2].1.b == 14);
     Ok(())

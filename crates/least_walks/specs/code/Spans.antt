@@ -1,5 +1,5 @@
 -- How a table keeps its edges: all in one list, with the span of each vertex.
-use Rattle.std.specs.Prelude.{ℕ, ◌≤◌, List, map, length, slice_range}
+use Rattle.std.specs.Prelude.{◌≤◌, List, map, length, slice_range}
 use Rattle.least_walks.specs.declared.table.Edge.{Edge}
 use Rattle.least_walks.specs.declared.table.Span.{Span}
 

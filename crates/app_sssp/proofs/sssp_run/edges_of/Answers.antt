@@ -1,4 +1,4 @@
-use Rattle.std.proofs.Common.{ℕ, [], ◌∷◌, ◌++◌, ◌%◌, get_or, sym, ap, ◌∙◌}
+use Rattle.std.proofs.Common.{ℕ, [], ◌∷◌, ◌++◌, ◌%◌, get_or, ap, ◌∙◌}
 use Rattle.bale_types.specs.declared.Item.{Item}
 use Rattle.sparse_rows.specs.Owners.{Numbered, row_owner}
 use Rattle.sparse_rows.proofs.Starts.{fields_more}

@@ -9,24 +9,24 @@ use Rattle.app_tally.proofs.counts.count_sorted.Goals as goal
 
 pub count-requires-clause-last : goal.count-requires-clause-last
 count-requires-clause-last c =
-    let low : c.loop-line.line-index < length (map (λ l. l.now) c.args.sorted.now) = subst (λ n. c.loop-line.line-index < n) (sym (length-map c.args.sorted.now (λ l. l.now))) c.loop-line-test.true in
-    subst (All (λ (e : Entry). is_gt (by_bytes e.0 (get_or c.args.sorted.now c.loop-line.line-index (record { ref_ptr = (0, 0); now = [] })).now) ≡ false)) (sym c.loop-line.invariant.1)
-    (none_greater (map (λ l. l.now) c.args.sorted.now) c.loop-line.line-index _ c.requires.order low (map_at (λ l. l.now) c.args.sorted.now c.loop-line.line-index _ c.loop-line-test.true))
+    let low : c.loop-line.line-index < length (map (λ l. l.1.now) c.args.sorted.now) = subst (λ n. c.loop-line.line-index < n) (sym (length-map c.args.sorted.now (λ l. l.1.now))) c.loop-line-test.true in
+    subst (All (λ (e : Entry). is_gt (by_bytes e.0 (get_or c.args.sorted.now c.loop-line.line-index (0, record { ref_ptr = (0, 0); now = [] })).1.now) ≡ false)) (sym c.loop-line.invariant.1)
+    (none_greater (map (λ l. l.1.now) c.args.sorted.now) c.loop-line.line-index _ c.requires.order low (map_at (λ l. l.1.now) c.args.sorted.now c.loop-line.line-index _ c.loop-line-test.true))
 
 pub count-requires-clause-room : goal.count-requires-clause-room
 count-requires-clause-room c =
-    let low : c.loop-line.line-index < length (map (λ l. l.now) c.args.sorted.now) = subst (λ n. c.loop-line.line-index < n) (sym (length-map c.args.sorted.now (λ l. l.now))) c.loop-line-test.true in
+    let low : c.loop-line.line-index < length (map (λ l. l.1.now) c.args.sorted.now) = subst (λ n. c.loop-line.line-index < n) (sym (length-map c.args.sorted.now (λ l. l.1.now))) c.loop-line-test.true in
     let few : length c.args.sorted.now < 2 ^ 63 = search rules in
     subst (All (λ (e : Entry). e.1 + 1 < 2 ^ 64)) (sym c.loop-line.invariant.1)
-    (room_left (map (λ l. l.now) c.args.sorted.now) c.loop-line.line-index low (subst (λ n. n < 2 ^ 63) (sym (length-map c.args.sorted.now (λ l. l.now))) few))
+    (room_left (map (λ l. l.1.now) c.args.sorted.now) c.loop-line.line-index low (subst (λ n. n < 2 ^ 63) (sym (length-map c.args.sorted.now (λ l. l.1.now))) few))
 
 pub count-requires-clause-short : goal.count-requires-clause-short
 count-requires-clause-short c =
-    (all_get IsLetter (map (λ l. l.now) c.args.sorted.now) c.loop-line.line-index _ c.requires.letters (map_at (λ l. l.now) c.args.sorted.now c.loop-line.line-index _ c.loop-line-test.true)).short
+    (all_get IsLetter (map (λ l. l.1.now) c.args.sorted.now) c.loop-line.line-index _ c.requires.letters (map_at (λ l. l.1.now) c.args.sorted.now c.loop-line.line-index _ c.loop-line-test.true)).short
 
 pub loop-line-preserved : goal.loop-line-preserved
 loop-line-preserved c =
-    let low : c.loop-line.line-index < length (map (λ l. l.now) c.args.sorted.now) = subst (λ n. c.loop-line.line-index < n) (sym (length-map c.args.sorted.now (λ l. l.now))) c.loop-line-test.true in (
+    let low : c.loop-line.line-index < length (map (λ l. l.1.now) c.args.sorted.now) = subst (λ n. c.loop-line.line-index < n) (sym (length-map c.args.sorted.now (λ l. l.1.now))) c.loop-line-test.true in (
       c.in_ok-count.ensures.counts,
-      counted_take (map (λ l. l.now) c.args.sorted.now) c.loop-line.line-index _ _ _ low (map_at (λ l. l.now) c.args.sorted.now c.loop-line.line-index _ c.loop-line-test.true) c.loop-line.invariant.1 c.in_ok-count.ensures.counted,
+      counted_take (map (λ l. l.1.now) c.args.sorted.now) c.loop-line.line-index _ _ _ low (map_at (λ l. l.1.now) c.args.sorted.now c.loop-line.line-index _ c.loop-line-test.true) c.loop-line.invariant.1 c.in_ok-count.ensures.counted,
     )

@@ -5,4 +5,4 @@ use Rattle.app_tally.proofs.counts.count_sorted.Given as goal
 
 abbrev pub invariant-loop-line : goal.invariant-loop-line
 invariant-loop-line l =
-    IsCounts l.lines l.times.items × (entries_of l.lines l.times.items ≡ tally_of (take l.line-index (map (λ r. r.now) l.sorted)))
+    IsCounts l.lines l.times.items × (entries_of l.lines l.times.items ≡ tally_of (take l.line-index (map (λ r. r.1.now) l.sorted)))

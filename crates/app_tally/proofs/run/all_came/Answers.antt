@@ -15,6 +15,7 @@ loop-rank-preserved c = record {
       ∙ rank_has lines c.args.p.now h c.loop-rank.rank c.in-Some.program.now q (search rules) (sym c.get.ensures ∙ ap option_copied c.in-Some.is))
       refl;
   letters = subst (All IsLetter) (sym c.in_ok-gather.ensures.gathered) (All-append IsLetter _ _ c.loop-rank.invariant.letters c.gather.ensures.letters);
+  numbers = c.in_ok-gather.ensures.numbers c.loop-rank.invariant.numbers;
 }
 
 pub returns-clause-times : goal.returns-clause-times
@@ -26,3 +27,6 @@ returns-clause-times c = λ lines h q.
 
 pub returns-clause-letters : goal.returns-clause-letters
 returns-clause-letters c = c.loop-rank.invariant.letters
+
+pub returns-clause-numbers : goal.returns-clause-numbers
+returns-clause-numbers c = c.loop-rank.invariant.numbers

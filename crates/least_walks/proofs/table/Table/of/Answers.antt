@@ -1,4 +1,4 @@
-use Rattle.std.proofs.Common.{◌<◌, ◌/◌, ◌≡◌, ◌≤◌, [], pos, All, List, length, sym, ap, ◌∙◌, subst, get_or, take, replicate, arith}
+use Rattle.std.proofs.Common.{◌<◌, ◌/◌, [], pos, All, length, sym, ap, ◌∙◌, subst, get_or, take, arith}
 use Rattle.std.proofs.lemmas.List.{length-map}
 use Rattle.std.proofs.lemmas.List.Elements.{All-replicate}
 use Rattle.least_walks.specs.declared.table.Span.{Span}

@@ -1,11 +1,9 @@
-//! What no clause says: that calls succeed with ample memory, and worked values.
-ghost use Rattle.std.specs.Prelude.{◌≡◌, negsuc, [], ◌∷◌, ◌++◌, ◌≤◌, OnOk, OnErr};
-ghost use Rattle.std.specs.Fmt.{decimal, signed_decimal};
-ghost use Rattle.std.specs.List.{flat_map};
-ghost use Rattle.bale_types.specs.Stream.{after, IsFront, HasCause};
-ghost use Rattle.bale_types.specs.Out.{appended};
+//! Sources and sinks: what they give, take and refuse, and how a text comes to a sink through a buffer.
 
-use super::*;
+use bale_types::{
+    Failed, Line, MemSink, MemSource, Out, Sink, Source, StderrSink, StdinSource, StdoutSink,
+    bits_of, value_of,
+};
 use std::alloc::Allocator;
 use std::io::{self, BufRead, Input, Lines, Read};
 use std::test::Fail;
@@ -150,15 +148,7 @@ fn numbers_are_written_in_decimal(rt: HostRuntime) -> Result<(), Fail> {
 }
 
 // Three numbers with blanks between them and LF behind, by one call on the output.
-fn write_three<K: Sink>(out: &mut Out<'_, K>, a: u32, b: u64, c: i64) -> Result<(), Failed>
-    ensures ok { OnOk result (appended K.taken out.new ≡ after (appended K.taken out.old)
-        (decimal a ++ 32 ∷ [] ++ decimal b ++ 32 ∷ [] ++ signed_decimal c ++ 10 ∷ [])) }
-    ensures err { OnErr result (IsFront (K.taken out.new.sink.now) (after (appended K.taken out.old)
-        (decimal a ++ 32 ∷ [] ++ decimal b ++ 32 ∷ [] ++ signed_decimal c ++ 10 ∷ []))) }
-    ensures cause { HasCause (K.faults out.old.sink.now) (K.faults out.new.sink.now) result }
-    ensures never_falls { K.faults out.old.sink.now ≤ K.faults out.new.sink.now }
-    ensures same_sink { out.new.sink.ghost_name ≡ out.old.sink.ghost_name }
-{
+fn write_three<K: Sink>(out: &mut Out<'_, K>, a: u32, b: u64, c: i64) -> Result<(), Failed> {
     let mut line = Line::new();
     line.number(a);
     line.byte(b' ');
@@ -170,55 +160,25 @@ fn write_three<K: Sink>(out: &mut Out<'_, K>, a: u32, b: u64, c: i64) -> Result<
 }
 
 // Two such lines and a flush: a whole answer.
-fn write_answer<K: Sink>(sink: &mut K) -> Result<(), Failed>
-    ensures ok { OnOk result (K.taken sink.new ≡ after (K.taken sink.old)
-        (decimal 1 ++ 32 ∷ [] ++ decimal 2 ++ 32 ∷ [] ++ signed_decimal (negsuc 2) ++ 10 ∷ [])) }
-    ensures err { OnErr result (IsFront (K.taken sink.new) (after (K.taken sink.old)
-        (decimal 1 ++ 32 ∷ [] ++ decimal 2 ++ 32 ∷ [] ++ signed_decimal (negsuc 2) ++ 10 ∷ []))) }
-    ensures cause { HasCause (K.faults sink.old) (K.faults sink.new) result }
-{
+fn write_answer<K: Sink>(sink: &mut K) -> Result<(), Failed> {
     let mut out = Out::new(sink);
     finish(&mut out)
 }
 
-fn finish<K: Sink>(out: &mut Out<'_, K>) -> Result<(), Failed>
-    ensures ok { OnOk result (K.taken out.new.sink.now ≡ after (appended K.taken out.old)
-        (decimal 1 ++ 32 ∷ [] ++ decimal 2 ++ 32 ∷ [] ++ signed_decimal (negsuc 2) ++ 10 ∷ [])) }
-    ensures err { OnErr result (IsFront (K.taken out.new.sink.now) (after (appended K.taken out.old)
-        (decimal 1 ++ 32 ∷ [] ++ decimal 2 ++ 32 ∷ [] ++ signed_decimal (negsuc 2) ++ 10 ∷ []))) }
-    ensures cause { HasCause (K.faults out.old.sink.now) (K.faults out.new.sink.now) result }
-    ensures never_falls { K.faults out.old.sink.now ≤ K.faults out.new.sink.now }
-    ensures same_sink { out.new.sink.ghost_name ≡ out.old.sink.ghost_name }
-{
+fn finish<K: Sink>(out: &mut Out<'_, K>) -> Result<(), Failed> {
     write_three(out, 1, 2, -3)?;
     out.flush()
 }
 
 // A line for each number.
-fn write_numbers<K: Sink>(out: &mut Out<'_, K>, numbers: &[u64]) -> Result<(), Failed>
-    ensures ok { OnOk result (appended K.taken out.new ≡ after (appended K.taken out.old)
-        (flat_map (λ n. decimal n ++ 10 ∷ []) numbers.now)) }
-    ensures err { OnErr result (IsFront (K.taken out.new.sink.now) (after (appended K.taken out.old)
-        (flat_map (λ n. decimal n ++ 10 ∷ []) numbers.now))) }
-    ensures cause { HasCause (K.faults out.old.sink.now) (K.faults out.new.sink.now) result }
-    ensures never_falls { K.faults out.old.sink.now ≤ K.faults out.new.sink.now }
-    ensures same_sink { out.new.sink.ghost_name ≡ out.old.sink.ghost_name }
-{
+fn write_numbers<K: Sink>(out: &mut Out<'_, K>, numbers: &[u64]) -> Result<(), Failed> {
     for number in numbers {
         write_number(out, *number)?;
     }
     Ok(())
 }
 
-fn write_number<K: Sink>(out: &mut Out<'_, K>, number: u64) -> Result<(), Failed>
-    ensures ok { OnOk result (appended K.taken out.new ≡ after (appended K.taken out.old)
-        (decimal number ++ 10 ∷ [])) }
-    ensures err { OnErr result (IsFront (K.taken out.new.sink.now)
-        (after (appended K.taken out.old) (decimal number ++ 10 ∷ []))) }
-    ensures cause { HasCause (K.faults out.old.sink.now) (K.faults out.new.sink.now) result }
-    ensures never_falls { K.faults out.old.sink.now ≤ K.faults out.new.sink.now }
-    ensures same_sink { out.new.sink.ghost_name ≡ out.old.sink.ghost_name }
-{
+fn write_number<K: Sink>(out: &mut Out<'_, K>, number: u64) -> Result<(), Failed> {
     let mut line = Line::new();
     line.number(number);
     line.byte(b'\n');

@@ -1,5 +1,6 @@
 //! Command lines with what they give.
-use super::*;
+
+use bale_words::{Command, Numbers, Permutations, Task, WordsFault, read_command};
 use std::alloc::Global;
 use std::test::Fail;
 

@@ -23,8 +23,6 @@
 
 mod making;
 mod reduced;
-#[cfg(test)]
-mod tests;
 
 pub use making::programs;
 pub use reduced::{Reduced, Reduction};

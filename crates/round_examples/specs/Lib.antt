@@ -7,7 +7,6 @@ pub mod Counts
 pub mod LookupLaws
 pub mod LookupView
 pub mod Lookups
-pub mod SmallTable
 pub mod Traffics
 pub mod TrafficView
 pub mod TrafficLaws

@@ -1,7 +1,7 @@
 //! Vertices, tables and lines worked by hand.
 
-use super::*;
 use bale_types::{MemSink, Out, Triple};
+use least_walks::{Table, Vertices, offers, write_vertex};
 use std::test::Fail;
 
 #[test]

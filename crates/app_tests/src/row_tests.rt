@@ -1,13 +1,13 @@
-//! That calls succeed with ample memory, on worked examples.
+//! Matrices dealt out by rows and put together again, and lists that permute, on worked examples.
 ghost use Rattle.std.specs.Prelude.{◌≡◌, ◌≤◌, ◌<◌, ◌%◌, ◌∷◌, [], nat_abs, IfOk};
 ghost use Rattle.std.specs.List.{All};
 ghost use Rattle.mtx_text.specs.declared.kind.Kind.TheVariants.{Integer};
 ghost use Rattle.mtx_text.specs.Sparse.{IsEntry};
 ghost use Rattle.mtx_text.specs.Cells.{sparse};
 
-use super::*;
 use bale_types::{MemSink, NoMemory, Out, Triple};
 use mtx_text::{Cells, Kind, Matrix, parse_matrix, write_matrix};
+use sparse_rows::{is_permutation, join, split};
 use std::alloc::Global;
 use std::test::Fail;
 

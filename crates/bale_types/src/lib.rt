@@ -34,8 +34,6 @@ mod memory;
 mod out;
 mod standard;
 mod stream;
-#[cfg(test)]
-mod tests;
 mod triple;
 
 pub use bits::{bits_of, value_of};

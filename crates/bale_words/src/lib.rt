@@ -12,8 +12,6 @@ mod options;
 mod parse;
 mod read;
 mod task;
-#[cfg(test)]
-mod tests;
 mod travel;
 mod values;
 

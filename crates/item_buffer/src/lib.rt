@@ -25,6 +25,3 @@
 mod parcel;
 
 pub use parcel::Parcel;
-
-#[cfg(test)]
-mod tests;

@@ -17,8 +17,6 @@
 
 mod lines;
 mod table;
-#[cfg(test)]
-mod tests;
 mod vertices;
 mod weights;
 

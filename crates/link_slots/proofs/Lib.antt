@@ -21,4 +21,3 @@ pub mod Ported
 pub mod Giving
 pub mod Making
 pub mod Settling
-pub mod ByHand

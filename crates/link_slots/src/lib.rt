@@ -34,6 +34,3 @@ pub use slot_bank::SlotBank;
 pub use slot_bank::gather::GatherSeat;
 pub use slot_bank::live::{bell_law, live_law, rule_law};
 pub use slot_bank::round::SlotRound;
-
-#[cfg(test)]
-mod tests;

@@ -27,8 +27,6 @@
 mod answer;
 mod making;
 mod reduced;
-#[cfg(test)]
-mod tests;
 
 pub use answer::{HasCells, owned};
 pub use making::programs;

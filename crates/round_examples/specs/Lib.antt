@@ -1,7 +1,6 @@
 pub mod Asks
 pub mod Counts
 pub mod Lookups
-pub mod SmallTable
 pub mod Traffics
 pub mod code
 pub mod laws

@@ -14,8 +14,6 @@
 mod ask;
 mod count;
 mod lookup;
-#[cfg(test)]
-mod tests;
 mod traffic;
 
 pub use ask::Ask;

@@ -32,8 +32,6 @@ mod departures;
 mod either_program;
 mod program;
 mod progs;
-#[cfg(test)]
-mod tests;
 mod theorems;
 
 pub use arrivals::Arrivals;

@@ -17,8 +17,6 @@
 mod joining;
 mod parts;
 mod permutations;
-#[cfg(test)]
-mod tests;
 
 pub use joining::join;
 pub use parts::{Parts, split};

@@ -1,8 +1,13 @@
-//! Matrix Market texts and what they are made of: texts with their matrices or bad lines, and matrices written, made of cells and of seeds.
-//! It has tests alone: they stand above the crate that they run, so that proving one does not prove the other again.
+//! Texts and what they are made of: sources and sinks, command lines, and Matrix Market texts with their matrices or bad lines,
+//! written, made of cells and of seeds.
+//! It has tests alone: they stand above the crates that they run, so that proving one does not prove the others again.
 #![tactic(auto)]
 
 #[cfg(test)]
 mod cell_tests;
 #[cfg(test)]
+mod command_tests;
+#[cfg(test)]
 mod reading_tests;
+#[cfg(test)]
+mod stream_tests;

@@ -43,187 +43,193 @@ fn has_entries(m: &Matrix, entries: &[(u32, u32, i64)]) -> bool {
     m.len() == entries.len() && m.get(entries.len()) == None
 }
 
+/// The entries of the matrix of most runs.
+const ONE_RANK: &[(u32, u32, i64)] = &[(1, 1, 1), (1, 3, 1), (2, 3, 1), (3, 3, 1)];
+
+/// A banner and what follows it, and what they are read as.
+const READ: [(&str, &str, Wanted); 17] = [
+    (
+        P,
+        "3 3 4\n1 1\n1 3\n2 3\n3 3\n",
+        Ok((3, 3, Kind::Pattern, ONE_RANK)),
+    ),
+    // the last line without its end
+    (
+        P,
+        "3 3 4\n1 1\n1 3\n2 3\n3 3",
+        Ok((3, 3, Kind::Pattern, ONE_RANK)),
+    ),
+    // lenient spelling
+    (
+        "%%MatrixMarket MATRIX Coordinate Pattern GENERAL\r\n",
+        "%\r\n\r\n3 3 4\r\n1 1\r\n1\t3\r\n2 3\r\n% end\r\n3 3",
+        Ok((3, 3, Kind::Pattern, ONE_RANK)),
+    ),
+    // blanks before the banner, further words in it, a comment behind blanks
+    (
+        " \t%%MatrixMarket matrix coordinate integer general 1 2 3\n",
+        " \t% 9 9 9\n \t\n +2 0003 1 \n\t 2 +1 -7 \n",
+        Ok((2, 3, Kind::Integer, &[(2, 1, -7)])),
+    ),
+    (P, "0 0 0\n", Ok((0, 0, Kind::Pattern, &[]))),
+    // a size line followed by nothing, not even its end
+    (P, "2 2 0", Ok((2, 2, Kind::Pattern, &[]))),
+    (P, "-0 +0 -00\n", Ok((0, 0, Kind::Pattern, &[]))),
+    (P, "16384 1 0\n", Ok((16384, 1, Kind::Pattern, &[]))),
+    // entries of value 0 are entries
+    (
+        I,
+        "1 2 2\n1 2 0\n1 1 -0\n",
+        Ok((1, 2, Kind::Integer, &[(1, 2, 0), (1, 1, 0)])),
+    ),
+    (
+        I,
+        "1 1 1\n1 1 1000000000000\n",
+        Ok((1, 1, Kind::Integer, &[(1, 1, 1_000_000_000_000)])),
+    ),
+    (
+        I,
+        "1 1 1\n1 1 -0000001000000000000\n",
+        Ok((1, 1, Kind::Integer, &[(1, 1, -1_000_000_000_000)])),
+    ),
+    (
+        I,
+        "2 3 2\n1 3 -7\n2 1 4\n",
+        Ok((2, 3, Kind::Integer, &[(1, 3, -7), (2, 1, 4)])),
+    ),
+    (
+        S,
+        "3 3 3\n1 1 5\n2 1 7\n3 2 -4\n",
+        Ok((
+            3,
+            3,
+            Kind::Integer,
+            &[(1, 1, 5), (2, 1, 7), (1, 2, 7), (3, 2, -4), (2, 3, -4)],
+        )),
+    ),
+    (
+        S,
+        "2 2 1\n1 2 3\n",
+        Ok((2, 2, Kind::Integer, &[(1, 2, 3), (2, 1, 3)])),
+    ),
+    (
+        K,
+        "2 2 1\n2 1 3\n",
+        Ok((2, 2, Kind::Integer, &[(2, 1, 3), (1, 2, -3)])),
+    ),
+    (
+        "%%MatrixMarket matrix coordinate pattern symmetric\n",
+        "2 2 2\n2 1\n2 2\n",
+        Ok((2, 2, Kind::Pattern, &[(2, 1, 1), (1, 2, 1), (2, 2, 1)])),
+    ),
+    // a lone CR after the last LF is a line without words
+    (P, "1 1 1\n1 1\n\r", Ok((1, 1, Kind::Pattern, &[(1, 1, 1)]))),
+];
+
 #[test]
 fn texts_with_a_matrix(rt: HostRuntime) -> Result<(), Fail> {
-    let one_rank: &'static [(u32, u32, i64)] = &[(1, 1, 1), (1, 3, 1), (2, 3, 1), (3, 3, 1)];
-    let rows: [(&str, &str, Wanted); 17] = [
-        (
-            P,
-            "3 3 4\n1 1\n1 3\n2 3\n3 3\n",
-            Ok((3, 3, Kind::Pattern, one_rank)),
-        ),
-        // the last line without its end
-        (
-            P,
-            "3 3 4\n1 1\n1 3\n2 3\n3 3",
-            Ok((3, 3, Kind::Pattern, one_rank)),
-        ),
-        // lenient spelling
-        (
-            "%%MatrixMarket MATRIX Coordinate Pattern GENERAL\r\n",
-            "%\r\n\r\n3 3 4\r\n1 1\r\n1\t3\r\n2 3\r\n% end\r\n3 3",
-            Ok((3, 3, Kind::Pattern, one_rank)),
-        ),
-        // blanks before the banner, further words in it, a comment behind blanks
-        (
-            " \t%%MatrixMarket matrix coordinate integer general 1 2 3\n",
-            " \t% 9 9 9\n \t\n +2 0003 1 \n\t 2 +1 -7 \n",
-            Ok((2, 3, Kind::Integer, &[(2, 1, -7)])),
-        ),
-        (P, "0 0 0\n", Ok((0, 0, Kind::Pattern, &[]))),
-        // a size line followed by nothing, not even its end
-        (P, "2 2 0", Ok((2, 2, Kind::Pattern, &[]))),
-        (P, "-0 +0 -00\n", Ok((0, 0, Kind::Pattern, &[]))),
-        (P, "16384 1 0\n", Ok((16384, 1, Kind::Pattern, &[]))),
-        // entries of value 0 are entries
-        (
-            I,
-            "1 2 2\n1 2 0\n1 1 -0\n",
-            Ok((1, 2, Kind::Integer, &[(1, 2, 0), (1, 1, 0)])),
-        ),
-        (
-            I,
-            "1 1 1\n1 1 1000000000000\n",
-            Ok((1, 1, Kind::Integer, &[(1, 1, 1_000_000_000_000)])),
-        ),
-        (
-            I,
-            "1 1 1\n1 1 -0000001000000000000\n",
-            Ok((1, 1, Kind::Integer, &[(1, 1, -1_000_000_000_000)])),
-        ),
-        (
-            I,
-            "2 3 2\n1 3 -7\n2 1 4\n",
-            Ok((2, 3, Kind::Integer, &[(1, 3, -7), (2, 1, 4)])),
-        ),
-        (
-            S,
-            "3 3 3\n1 1 5\n2 1 7\n3 2 -4\n",
-            Ok((
-                3,
-                3,
-                Kind::Integer,
-                &[(1, 1, 5), (2, 1, 7), (1, 2, 7), (3, 2, -4), (2, 3, -4)],
-            )),
-        ),
-        (
-            S,
-            "2 2 1\n1 2 3\n",
-            Ok((2, 2, Kind::Integer, &[(1, 2, 3), (2, 1, 3)])),
-        ),
-        (
-            K,
-            "2 2 1\n2 1 3\n",
-            Ok((2, 2, Kind::Integer, &[(2, 1, 3), (1, 2, -3)])),
-        ),
-        (
-            "%%MatrixMarket matrix coordinate pattern symmetric\n",
-            "2 2 2\n2 1\n2 2\n",
-            Ok((2, 2, Kind::Pattern, &[(2, 1, 1), (1, 2, 1), (2, 2, 1)])),
-        ),
-        // a lone CR after the last LF is a line without words
-        (P, "1 1 1\n1 1\n\r", Ok((1, 1, Kind::Pattern, &[(1, 1, 1)]))),
-    ];
-    for (banner, body, wanted) in &rows {
+    for (banner, body, wanted) in &READ {
         assert!(rt; is_read(rt.alloc(), banner, body, wanted)?, "{body}");
     }
     Ok(())
 }
 
+/// A banner and what follows it, the number of the line that is bad, and why.
+const BAD: [(&str, &str, u64, Reason); 44] = [
+    ("", "", 1, Reason::Banner),
+    ("\u{feff}", P, 1, Reason::Banner),
+    (
+        "%%MatrixMarket matrix coordinate pattern\n",
+        "",
+        1,
+        Reason::Banner,
+    ),
+    (
+        "%%matrixmarket matrix coordinate pattern general\n",
+        "",
+        1,
+        Reason::Banner,
+    ),
+    ("\n", P, 1, Reason::Banner),
+    (
+        "%%MatrixMarket matrix coordinate real general\n",
+        "1 1 0\n",
+        1,
+        Reason::Unsupported,
+    ),
+    (
+        "%%MatrixMarket matrix array integer general\n",
+        "1 1 0\n",
+        1,
+        Reason::Unsupported,
+    ),
+    (
+        "%%MatrixMarket vector coordinate integer general\n",
+        "",
+        1,
+        Reason::Unsupported,
+    ),
+    (
+        "%%MatrixMarket matrix coordinate integer hermitian\n",
+        "",
+        1,
+        Reason::Unsupported,
+    ),
+    (
+        "%%MatrixMarket matrix coordinate pattern skew-symmetric\n",
+        "",
+        1,
+        Reason::Unsupported,
+    ),
+    // a second CR is a byte of the word
+    (
+        "%%MatrixMarket matrix coordinate integer general\r\r\n",
+        "",
+        1,
+        Reason::Unsupported,
+    ),
+    (P, "", 2, Reason::SizeLine),
+    (P, "% a\n\n", 4, Reason::SizeLine),
+    (P, "-1 1 0\n", 2, Reason::SizeLine),
+    (P, "1 1\n", 2, Reason::SizeLine),
+    (P, "1 1 0 0\n", 2, Reason::SizeLine),
+    (P, "16385 1 0\n", 2, Reason::TooLarge),
+    (P, "1 1 262145\n", 2, Reason::TooLarge),
+    (P, "18446744073709551616 1 0\n", 2, Reason::TooLarge),
+    (S, "2 3 0\n", 2, Reason::NotSquare),
+    (S, "2 16385 0\n", 2, Reason::TooLarge),
+    (P, "3 3 2\n1 1\n", 4, Reason::TooFew),
+    // the lone CR is a line, so the end line is one more
+    (P, "3 3 2\n1 1\n\r", 5, Reason::TooFew),
+    (P, "3 3 1\n1 1\n2 2\n", 4, Reason::TooMany),
+    (P, "3 3 1\n1 1\nx\n", 4, Reason::TooMany),
+    (P, "2 2 1\n1 1 1\n", 3, Reason::EntryLine),
+    (P, "2 2 1\n1 x\n", 3, Reason::EntryLine),
+    // VT, FF, NUL and a CR in mid-line are bytes of words
+    (P, "2 2 1\n1\x0b1\n", 3, Reason::EntryLine),
+    (P, "2 2 1\n1 1\x0c\n", 3, Reason::EntryLine),
+    (P, "2 2 1\n1 1\0\n", 3, Reason::EntryLine),
+    (P, "2 2 1\n1\r1\n", 3, Reason::EntryLine),
+    (P, "2 2 1\n1 1\r\r\n", 3, Reason::EntryLine),
+    (P, "2 2 1\n3 1\n", 3, Reason::OutOfRange),
+    (P, "2 2 1\n1 0\n", 3, Reason::OutOfRange),
+    (P, "1 1 1\n18446744073709551617 1\n", 3, Reason::OutOfRange),
+    (I, "2 2 1\n3 1 x\n", 3, Reason::OutOfRange),
+    (K, "2 2 1\n1 1 0\n", 3, Reason::Diagonal),
+    (K, "2 2 1\n1 1 x\n", 3, Reason::Diagonal),
+    (I, "1 1 1\n1 1 1000000000001\n", 3, Reason::Value),
+    (I, "1 1 1\n1 1 1.0\n", 3, Reason::Value),
+    (I, "1 1 2\n1 1 1\n1 1 x\n", 4, Reason::Value),
+    (P, "3 3 2\n1 1\n1 1\n", 4, Reason::Duplicate),
+    (P, "3 3 3\n1 1\n1 1\nx\n", 4, Reason::Duplicate),
+    (S, "2 2 2\n2 1 3\n1 2 3\n", 4, Reason::Duplicate),
+];
+
 #[test]
 fn texts_with_a_bad_line(rt: HostRuntime) -> Result<(), Fail> {
-    let rows = [
-        ("", "", 1, Reason::Banner),
-        ("\u{feff}", P, 1, Reason::Banner),
-        (
-            "%%MatrixMarket matrix coordinate pattern\n",
-            "",
-            1,
-            Reason::Banner,
-        ),
-        (
-            "%%matrixmarket matrix coordinate pattern general\n",
-            "",
-            1,
-            Reason::Banner,
-        ),
-        ("\n", P, 1, Reason::Banner),
-        (
-            "%%MatrixMarket matrix coordinate real general\n",
-            "1 1 0\n",
-            1,
-            Reason::Unsupported,
-        ),
-        (
-            "%%MatrixMarket matrix array integer general\n",
-            "1 1 0\n",
-            1,
-            Reason::Unsupported,
-        ),
-        (
-            "%%MatrixMarket vector coordinate integer general\n",
-            "",
-            1,
-            Reason::Unsupported,
-        ),
-        (
-            "%%MatrixMarket matrix coordinate integer hermitian\n",
-            "",
-            1,
-            Reason::Unsupported,
-        ),
-        (
-            "%%MatrixMarket matrix coordinate pattern skew-symmetric\n",
-            "",
-            1,
-            Reason::Unsupported,
-        ),
-        // a second CR is a byte of the word
-        (
-            "%%MatrixMarket matrix coordinate integer general\r\r\n",
-            "",
-            1,
-            Reason::Unsupported,
-        ),
-        (P, "", 2, Reason::SizeLine),
-        (P, "% a\n\n", 4, Reason::SizeLine),
-        (P, "-1 1 0\n", 2, Reason::SizeLine),
-        (P, "1 1\n", 2, Reason::SizeLine),
-        (P, "1 1 0 0\n", 2, Reason::SizeLine),
-        (P, "16385 1 0\n", 2, Reason::TooLarge),
-        (P, "1 1 262145\n", 2, Reason::TooLarge),
-        (P, "18446744073709551616 1 0\n", 2, Reason::TooLarge),
-        (S, "2 3 0\n", 2, Reason::NotSquare),
-        (S, "2 16385 0\n", 2, Reason::TooLarge),
-        (P, "3 3 2\n1 1\n", 4, Reason::TooFew),
-        // the lone CR is a line, so the end line is one more
-        (P, "3 3 2\n1 1\n\r", 5, Reason::TooFew),
-        (P, "3 3 1\n1 1\n2 2\n", 4, Reason::TooMany),
-        (P, "3 3 1\n1 1\nx\n", 4, Reason::TooMany),
-        (P, "2 2 1\n1 1 1\n", 3, Reason::EntryLine),
-        (P, "2 2 1\n1 x\n", 3, Reason::EntryLine),
-        // VT, FF, NUL and a CR in mid-line are bytes of words
-        (P, "2 2 1\n1\x0b1\n", 3, Reason::EntryLine),
-        (P, "2 2 1\n1 1\x0c\n", 3, Reason::EntryLine),
-        (P, "2 2 1\n1 1\0\n", 3, Reason::EntryLine),
-        (P, "2 2 1\n1\r1\n", 3, Reason::EntryLine),
-        (P, "2 2 1\n1 1\r\r\n", 3, Reason::EntryLine),
-        (P, "2 2 1\n3 1\n", 3, Reason::OutOfRange),
-        (P, "2 2 1\n1 0\n", 3, Reason::OutOfRange),
-        (P, "1 1 1\n18446744073709551617 1\n", 3, Reason::OutOfRange),
-        (I, "2 2 1\n3 1 x\n", 3, Reason::OutOfRange),
-        (K, "2 2 1\n1 1 0\n", 3, Reason::Diagonal),
-        (K, "2 2 1\n1 1 x\n", 3, Reason::Diagonal),
-        (I, "1 1 1\n1 1 1000000000001\n", 3, Reason::Value),
-        (I, "1 1 1\n1 1 1.0\n", 3, Reason::Value),
-        (I, "1 1 2\n1 1 1\n1 1 x\n", 4, Reason::Value),
-        (P, "3 3 2\n1 1\n1 1\n", 4, Reason::Duplicate),
-        (P, "3 3 3\n1 1\n1 1\nx\n", 4, Reason::Duplicate),
-        (S, "2 2 2\n2 1 3\n1 2 3\n", 4, Reason::Duplicate),
-    ];
-    for (banner, body, line, reason) in rows {
+    for (banner, body, line, reason) in &BAD {
         assert!(rt;
-            is_read(rt.alloc(), banner, body, &Err((line, reason)))?,
+            is_read(rt.alloc(), banner, body, &Err((*line, *reason)))?,
             "{body}"
         );
     }

@@ -1,1 +1,2 @@
+mod ByHand
 mod OverPlain

@@ -35,44 +35,40 @@ fn answered(alloc: Global, steady: bool, calls: &[(u32, Call, Answer)]) -> Resul
 }
 
 /// The worked order of calls.
-fn worked_calls() -> [(u32, Call, Answer); 22] {
-    [
-        (0, Begin, Begun),
-        (1, Begin, Begun),
-        (0, Push(X, 1), Answer::Pushed(Accepted)),
-        (0, Push(Y, 1), Answer::Pushed(Accepted)),
-        (0, Push(Z, 1), Answer::Pushed(Full)),
-        (0, Advance(false), Advanced(More)),
-        (0, Push(Z, 1), Answer::Pushed(Accepted)),
-        (1, Advance(false), Advanced(More)),
-        (1, Pull, Pulled(Some((0, X)))),
-        (1, Pull, Pulled(Some((0, Y)))),
-        (1, Unpull, Unpulled(true)),
-        (1, Unpull, Unpulled(false)),
-        (1, Pull, Pulled(Some((0, Y)))),
-        (1, Pull, Pulled(None)),
-        (1, Unpull, Unpulled(false)),
-        (0, Advance(true), Advanced(Near)),
-        (1, Advance(true), Advanced(Near)),
-        (1, Pull, Pulled(Some((0, Z)))),
-        (1, Advance(true), Advanced(Complete)),
-        (0, Advance(true), Advanced(Complete)),
-        (0, Call::Reset, Answer::Reset),
-        (1, Call::Reset, Answer::Reset),
-    ]
-}
+const WORKED: [(u32, Call, Answer); 22] = [
+    (0, Begin, Begun),
+    (1, Begin, Begun),
+    (0, Push(X, 1), Answer::Pushed(Accepted)),
+    (0, Push(Y, 1), Answer::Pushed(Accepted)),
+    (0, Push(Z, 1), Answer::Pushed(Full)),
+    (0, Advance(false), Advanced(More)),
+    (0, Push(Z, 1), Answer::Pushed(Accepted)),
+    (1, Advance(false), Advanced(More)),
+    (1, Pull, Pulled(Some((0, X)))),
+    (1, Pull, Pulled(Some((0, Y)))),
+    (1, Unpull, Unpulled(true)),
+    (1, Unpull, Unpulled(false)),
+    (1, Pull, Pulled(Some((0, Y)))),
+    (1, Pull, Pulled(None)),
+    (1, Unpull, Unpulled(false)),
+    (0, Advance(true), Advanced(Near)),
+    (1, Advance(true), Advanced(Near)),
+    (1, Pull, Pulled(Some((0, Z)))),
+    (1, Advance(true), Advanced(Complete)),
+    (0, Advance(true), Advanced(Complete)),
+    (0, Call::Reset, Answer::Reset),
+    (1, Call::Reset, Answer::Reset),
+];
 
 #[test]
 fn conveyor_calls(rt: HostRuntime) -> Result<(), Fail> {
-    let calls = worked_calls();
-    assert_eq!(rt; answered(rt.alloc(), false, &calls)?, calls.len());
+    assert_eq!(rt; answered(rt.alloc(), false, &WORKED)?, WORKED.len());
     Ok(())
 }
 
 #[test]
 fn conveyor_calls_over_slots(rt: HostRuntime) -> Result<(), Fail> {
-    let calls = worked_calls();
-    assert_eq!(rt; answered_over_slots(rt.alloc(), &calls)?, calls.len());
+    assert_eq!(rt; answered_over_slots(rt.alloc(), &WORKED)?, WORKED.len());
     Ok(())
 }
 

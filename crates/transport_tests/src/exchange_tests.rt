@@ -33,16 +33,11 @@ type Got = (u64, u32, Item, u32);
 
 /// A call of each of the eight ranks, and its answer.
 fn of_each(call: Call, answer: Answer) -> [(u32, Call, Answer); 8] {
-    [
-        (0, call, answer),
-        (1, call, answer),
-        (2, call, answer),
-        (3, call, answer),
-        (4, call, answer),
-        (5, call, answer),
-        (6, call, answer),
-        (7, call, answer),
-    ]
+    let mut all = [(0, call, answer); 8];
+    for rank in 1..8 {
+        all[rank as usize].0 = rank;
+    }
+    all
 }
 
 /// A push of each item that is sent.

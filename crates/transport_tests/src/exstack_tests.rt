@@ -34,95 +34,104 @@ fn answered(alloc: Global, calls: &[(u32, Call, Answer)]) -> Result<usize, NoMem
     Ok(made)
 }
 
+/// The worked order of calls.
+const WORKED: [(u32, Call, Answer); 23] = [
+    (0, Call::Proceed(false), Proceeded(Proceed::NotYet(2))),
+    (1, Call::Proceed(true), Proceeded(GoOn)),
+    (0, Call::Proceed(false), Proceeded(GoOn)),
+    (0, Push(X, 1), Pushed(2)),
+    (0, Push(Y, 1), Pushed(1)),
+    (0, Push(Z, 1), Pushed(0)),
+    (0, Exchange, Exchanged(Ready)),
+    (1, Exchange, Exchanged(Ready)),
+    (1, Pop, Popped(Some((0, X)))),
+    (1, Pop, Popped(Some((0, Y)))),
+    (1, Pop, Popped(None)),
+    (1, Unpop, Unpopped(false)),
+    (0, Call::Proceed(false), Proceeded(GoOn)),
+    (0, Push(Z, 1), Pushed(2)),
+    (0, Exchange, Exchanged(Ready)),
+    (0, Call::Proceed(true), Proceeded(Proceed::NotYet(1))),
+    (1, Call::Proceed(true), Proceeded(GoOn)),
+    (1, Exchange, Exchanged(Ready)),
+    (1, Pop, Popped(Some((0, Z)))),
+    (0, Call::Proceed(true), Proceeded(AllDone)),
+    (1, Call::Proceed(true), Proceeded(AllDone)),
+    (0, Call::Reset, Answer::Reset),
+    (1, Call::Reset, Answer::Reset),
+];
+
 #[test]
 fn exstack_calls(rt: HostRuntime) -> Result<(), Fail> {
-    let calls = [
-        (0, Call::Proceed(false), Proceeded(Proceed::NotYet(2))),
-        (1, Call::Proceed(true), Proceeded(GoOn)),
-        (0, Call::Proceed(false), Proceeded(GoOn)),
-        (0, Push(X, 1), Pushed(2)),
-        (0, Push(Y, 1), Pushed(1)),
-        (0, Push(Z, 1), Pushed(0)),
-        (0, Exchange, Exchanged(Ready)),
-        (1, Exchange, Exchanged(Ready)),
-        (1, Pop, Popped(Some((0, X)))),
-        (1, Pop, Popped(Some((0, Y)))),
-        (1, Pop, Popped(None)),
-        (1, Unpop, Unpopped(false)),
-        (0, Call::Proceed(false), Proceeded(GoOn)),
-        (0, Push(Z, 1), Pushed(2)),
-        (0, Exchange, Exchanged(Ready)),
-        (0, Call::Proceed(true), Proceeded(Proceed::NotYet(1))),
-        (1, Call::Proceed(true), Proceeded(GoOn)),
-        (1, Exchange, Exchanged(Ready)),
-        (1, Pop, Popped(Some((0, Z)))),
-        (0, Call::Proceed(true), Proceeded(AllDone)),
-        (1, Call::Proceed(true), Proceeded(AllDone)),
-        (0, Call::Reset, Answer::Reset),
-        (1, Call::Reset, Answer::Reset),
-    ];
-    assert_eq!(rt; answered(rt.alloc(), &calls)?, calls.len());
+    assert_eq!(rt; answered(rt.alloc(), &WORKED)?, WORKED.len());
     Ok(())
 }
 
+/// The same over slots, where a poll more is made.
+const OVER_SLOTS: [(u32, Call, Answer); 24] = [
+    (0, Call::Proceed(false), Proceeded(Proceed::NotYet(2))),
+    (1, Call::Proceed(true), Proceeded(GoOn)),
+    (0, Call::Proceed(false), Proceeded(GoOn)),
+    (0, Push(X, 1), Pushed(2)),
+    (0, Push(Y, 1), Pushed(1)),
+    (0, Push(Z, 1), Pushed(0)),
+    // Its own parcel came after its latest hear, which counts for all its links in: this poll makes none, and the next one does.
+    (0, Exchange, Exchanged(Poll::NotYet(0))),
+    (0, Exchange, Exchanged(Ready)),
+    (1, Exchange, Exchanged(Ready)),
+    (1, Pop, Popped(Some((0, X)))),
+    (1, Pop, Popped(Some((0, Y)))),
+    (1, Pop, Popped(None)),
+    (1, Unpop, Unpopped(false)),
+    (0, Call::Proceed(false), Proceeded(GoOn)),
+    (0, Push(Z, 1), Pushed(2)),
+    (0, Exchange, Exchanged(Ready)),
+    (0, Call::Proceed(true), Proceeded(Proceed::NotYet(1))),
+    (1, Call::Proceed(true), Proceeded(GoOn)),
+    (1, Exchange, Exchanged(Ready)),
+    (1, Pop, Popped(Some((0, Z)))),
+    (0, Call::Proceed(true), Proceeded(AllDone)),
+    (1, Call::Proceed(true), Proceeded(AllDone)),
+    (0, Call::Reset, Answer::Reset),
+    (1, Call::Reset, Answer::Reset),
+];
+
 #[test]
 fn exstack_calls_over_slots(rt: HostRuntime) -> Result<(), Fail> {
-    let calls = [
-        (0, Call::Proceed(false), Proceeded(Proceed::NotYet(2))),
-        (1, Call::Proceed(true), Proceeded(GoOn)),
-        (0, Call::Proceed(false), Proceeded(GoOn)),
-        (0, Push(X, 1), Pushed(2)),
-        (0, Push(Y, 1), Pushed(1)),
-        (0, Push(Z, 1), Pushed(0)),
-        // Its own parcel came after its latest hear, which counts for all its links in: this poll makes none, and the next one does.
-        (0, Exchange, Exchanged(Poll::NotYet(0))),
-        (0, Exchange, Exchanged(Ready)),
-        (1, Exchange, Exchanged(Ready)),
-        (1, Pop, Popped(Some((0, X)))),
-        (1, Pop, Popped(Some((0, Y)))),
-        (1, Pop, Popped(None)),
-        (1, Unpop, Unpopped(false)),
-        (0, Call::Proceed(false), Proceeded(GoOn)),
-        (0, Push(Z, 1), Pushed(2)),
-        (0, Exchange, Exchanged(Ready)),
-        (0, Call::Proceed(true), Proceeded(Proceed::NotYet(1))),
-        (1, Call::Proceed(true), Proceeded(GoOn)),
-        (1, Exchange, Exchanged(Ready)),
-        (1, Pop, Popped(Some((0, Z)))),
-        (0, Call::Proceed(true), Proceeded(AllDone)),
-        (1, Call::Proceed(true), Proceeded(AllDone)),
-        (0, Call::Reset, Answer::Reset),
-        (1, Call::Reset, Answer::Reset),
-    ];
-    assert_eq!(rt; answered_over_slots(rt.alloc(), &calls)?, calls.len());
+    assert_eq!(rt;
+        answered_over_slots(rt.alloc(), &OVER_SLOTS)?,
+        OVER_SLOTS.len()
+    );
     Ok(())
 }
+
+/// Two senders, and a reader that takes what came of each.
+const BY_SENDER: [(u32, Call, Answer); 20] = [
+    (0, Call::Proceed(false), Proceeded(Proceed::NotYet(2))),
+    (1, Call::Proceed(false), Proceeded(GoOn)),
+    (0, Call::Proceed(false), Proceeded(GoOn)),
+    (0, Push(X, 1), Pushed(2)),
+    (0, Call::Look(1), Answer::Seen(0, 1, 1)),
+    (1, Push(Y, 1), Pushed(2)),
+    (1, Push(Z, 1), Pushed(1)),
+    (1, Call::Look(0), Answer::Seen(0, 2, 0)),
+    (0, Exchange, Exchanged(Poll::NotYet(2))),
+    (1, Exchange, Exchanged(Ready)),
+    (1, Call::Look(1), Answer::Seen(3, 2, 2)),
+    (1, Call::PopAll, Answer::PoppedAll(0, 1)),
+    (1, Pop, Popped(Some((1, Y)))),
+    (1, Unpop, Unpopped(true)),
+    (1, Unpop, Unpopped(false)),
+    (1, Call::PopAll, Answer::PoppedAll(1, 2)),
+    (1, Unpop, Unpopped(true)),
+    (1, Pop, Popped(Some((1, Z)))),
+    (1, Call::PopAll, Popped(None)),
+    (0, Exchange, Exchanged(Ready)),
+];
 
 /// Items of two senders, popped by sender, with what is unread and how much room there is.
 #[test]
 fn pops_by_sender(rt: HostRuntime) -> Result<(), Fail> {
-    let calls = [
-        (0, Call::Proceed(false), Proceeded(Proceed::NotYet(2))),
-        (1, Call::Proceed(false), Proceeded(GoOn)),
-        (0, Call::Proceed(false), Proceeded(GoOn)),
-        (0, Push(X, 1), Pushed(2)),
-        (0, Call::Look(1), Answer::Seen(0, 1, 1)),
-        (1, Push(Y, 1), Pushed(2)),
-        (1, Push(Z, 1), Pushed(1)),
-        (1, Call::Look(0), Answer::Seen(0, 2, 0)),
-        (0, Exchange, Exchanged(Poll::NotYet(2))),
-        (1, Exchange, Exchanged(Ready)),
-        (1, Call::Look(1), Answer::Seen(3, 2, 2)),
-        (1, Call::PopAll, Answer::PoppedAll(0, 1)),
-        (1, Pop, Popped(Some((1, Y)))),
-        (1, Unpop, Unpopped(true)),
-        (1, Unpop, Unpopped(false)),
-        (1, Call::PopAll, Answer::PoppedAll(1, 2)),
-        (1, Unpop, Unpopped(true)),
-        (1, Pop, Popped(Some((1, Z)))),
-        (1, Call::PopAll, Popped(None)),
-        (0, Exchange, Exchanged(Ready)),
-    ];
-    assert_eq!(rt; answered(rt.alloc(), &calls)?, calls.len());
+    assert_eq!(rt; answered(rt.alloc(), &BY_SENDER)?, BY_SENDER.len());
     Ok(())
 }

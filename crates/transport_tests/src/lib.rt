@@ -1,4 +1,5 @@
-//! Routes, ranks by their states, and conveyors and exstacks by worked calls, over the plain bank and over slots.
+//! Parcels, routes, links by hand and on two threads, ranks by their states, and conveyors and exstacks by worked calls, over
+//! the plain bank and over slots.
 //! It has tests alone: they stand above the crates that they run, so that proving one does not prove the other again.
 #![tactic(auto)]
 
@@ -11,6 +12,8 @@ mod conveyor_tests;
 #[cfg(test)]
 mod conveyors;
 #[cfg(test)]
+mod doorbell_tests;
+#[cfg(test)]
 mod exchange_tests;
 #[cfg(test)]
 mod exstack_side;
@@ -22,5 +25,11 @@ mod exstack_tests;
 mod exstacks;
 #[cfg(test)]
 mod hop_tests;
+#[cfg(test)]
+mod link_tests;
+#[cfg(test)]
+mod link_thread_tests;
+#[cfg(test)]
+mod parcel_tests;
 #[cfg(test)]
 mod route_tests;

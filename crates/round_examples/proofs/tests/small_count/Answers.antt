@@ -1,5 +1,0 @@
-use Rattle.std.proofs.Common.{refl, lit<, arith}
-use Rattle.round_examples.proofs.tests.small_count.Goals as goal
-
-pub returns : goal.returns
-returns c = record { one_round = record { some = lit< tt; goes = λ m l. absurd (omega arith); stops = refl }; counts = refl }

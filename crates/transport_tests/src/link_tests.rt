@@ -1,0 +1,315 @@
+//! The slot bank and the plain bank by hand, by the same rows.
+ghost use Rattle.std.specs.Prelude.{◌≡◌, ◌+◌, ◌<◌, ◌≤◌, false, Some, if◌then◌else◌, IfOk, OnOk, length};
+ghost use Rattle.item_buffer.specs.Contents.{blank};
+ghost use Rattle.route_tensor.specs.Grid.{IsGrid};
+ghost use Rattle.route_tensor.specs.Link.{links};
+ghost use Rattle.route_tensor.specs.Ends.{hop_at, sender_at, reader_at};
+ghost use Rattle.port_bank.specs.Logs.{lasts};
+ghost use Rattle.port_bank.specs.Port.{IsSlots};
+ghost use Rattle.port_bank.specs.Relay.{RelayLaw};
+
+use bale_types::{Entry, Item, NoMemory, Tag};
+use item_buffer::Parcel;
+use link_slots::SlotBank;
+use port_bank::{Collected, PlainBank, Port, Posted};
+use route_tensor::Grid;
+use std::alloc::Global;
+use std::test::Fail;
+
+/// Posts an item on a link of the first hop, whatever the port, and answers whether it was sent.
+fn post_item<P: Port<1>>(
+    port: &mut P,
+    link: u32,
+    out: &mut Parcel<1>,
+    a: u64,
+    last: bool,
+) -> Result<bool, NoMemory>
+    requires grid { IsGrid (P.dims port.old) }
+    requires link { link < links (P.dims port.old) }
+    requires first { hop_at (P.dims port.old) link ≡ 1 }
+    requires sender { sender_at (P.dims port.old) link ≡ P.rank port.old }
+    requires law { RelayLaw (P.dims port.old) (P.rank port.old) (P.sent port.old) (P.got port.old) }
+    requires out { out.old ≡ blank (lasts (P.sent port.old link)) }
+    requires few { out.old.epoch < 1000 }
+    ensures rest { P.rest port.new ≡ P.rest port.old }
+    ensures same_slots { P.slots port.new ≡ P.slots port.old }
+    ensures same_dims { P.dims port.new ≡ P.dims port.old }
+    ensures same_rank { P.rank port.new ≡ P.rank port.old }
+    ensures same_got { P.got port.new ≡ P.got port.old }
+    ensures law { RelayLaw (P.dims port.new) (P.rank port.new) (P.sent port.new) (P.got port.new) }
+    ensures out { OnOk result (out.new ≡ blank (lasts (P.sent port.new link))) }
+    ensures few { OnOk result (out.new.epoch ≤ out.old.epoch + 1) }
+{
+    let epoch = out.epoch();
+    let _accepted = out.try_push(entry(a));
+    out.set_last(last);
+    match port.post(link, out)? {
+        Posted::Sent => {
+            out.set_epoch(after(epoch, last));
+            Ok(true)
+        }
+        Posted::NoRoom => {
+            out.clear();
+            Ok(false)
+        }
+    }
+}
+
+/// Collects from a link, whatever the port, and answers the item that came.
+fn collect_item<P: Port<1>>(port: &mut P, link: u32, into: &mut Parcel<1>) -> Option<u64>
+    requires grid { IsGrid (P.dims port.old) }
+    requires link { link < links (P.dims port.old) }
+    requires reader { reader_at (P.dims port.old) link ≡ P.rank port.old }
+    requires law { RelayLaw (P.dims port.old) (P.rank port.old) (P.sent port.old) (P.got port.old) }
+    requires into { into.old ≡ blank (lasts (P.got port.old link)) }
+    requires few { into.old.epoch < 1000 }
+    ensures rest { P.rest port.new ≡ P.rest port.old }
+    ensures same_slots { P.slots port.new ≡ P.slots port.old }
+    ensures same_dims { P.dims port.new ≡ P.dims port.old }
+    ensures same_rank { P.rank port.new ≡ P.rank port.old }
+    ensures same_sent { P.sent port.new ≡ P.sent port.old }
+    ensures law { RelayLaw (P.dims port.new) (P.rank port.new) (P.sent port.new) (P.got port.new) }
+    ensures into { into.new ≡ blank (lasts (P.got port.new link)) }
+    ensures few { into.new.epoch ≤ into.old.epoch + 1 }
+{
+    let epoch = into.epoch();
+    match port.collect(link, into) {
+        Collected::Got => {
+            let first = into.head();
+            let last = into.last();
+            into.clear();
+            into.set_epoch(after(epoch, last));
+            number_of(first)
+        }
+        Collected::Nothing => None,
+    }
+}
+
+/// The number that an entry carries, where there is one.
+pub(crate) fn number_of(entry: Option<Entry>) -> Option<u64> {
+    match entry {
+        Some(entry) => Some(entry.item.a),
+        None => None,
+    }
+}
+
+/// An entry whose tag has no digits.
+pub(crate) fn entry(a: u64) -> Entry
+    ensures { result.tag ≡ record { d1 = 0; d2 = 0; d3 = 0 } }
+{
+    Entry {
+        tag: Tag {
+            d1: 0,
+            d2: 0,
+            d3: 0,
+        },
+        item: Item { a, b: 0, c: 0 },
+    }
+}
+
+/// The epoch of a link after a parcel of this epoch.
+pub(crate) fn after(epoch: u64, last: bool) -> u64
+    requires { epoch < 1000 }
+    ensures { result ≡ (if last then epoch + 1 else epoch) }
+{
+    if last { epoch + 1 } else { epoch }
+}
+
+/// A call of a worked row.
+#[derive(Clone, Copy)]
+enum Call {
+    Post(u64),
+    /// Post this item in the last parcel of an epoch.
+    PostLast(u64),
+    Collect,
+}
+
+/// What a call answers.
+#[derive(Clone, Copy, PartialEq, Eq, Debug)]
+enum Answer {
+    Sent,
+    NoRoom,
+    Got(u64),
+    Nothing,
+}
+
+use Answer::{Got, NoRoom, Nothing, Sent};
+use Call::{Collect, Post, PostLast};
+
+/// Makes one call on a link from a rank to itself, whatever the port.
+fn answer_to<P: Port<1>>(
+    port: &mut P,
+    link: u32,
+    out: &mut Parcel<1>,
+    into: &mut Parcel<1>,
+    call: Call,
+) -> Result<Answer, NoMemory>
+    requires grid { IsGrid (P.dims port.old) }
+    requires link { link < links (P.dims port.old) }
+    requires first { hop_at (P.dims port.old) link ≡ 1 }
+    requires sender { sender_at (P.dims port.old) link ≡ P.rank port.old }
+    requires reader { reader_at (P.dims port.old) link ≡ P.rank port.old }
+    requires law { RelayLaw (P.dims port.old) (P.rank port.old) (P.sent port.old) (P.got port.old) }
+    requires out { out.old ≡ blank (lasts (P.sent port.old link)) }
+    requires into { into.old ≡ blank (lasts (P.got port.old link)) }
+    requires few_out { out.old.epoch < 1000 }
+    requires few_into { into.old.epoch < 1000 }
+    ensures rest { P.rest port.new ≡ P.rest port.old }
+    ensures same_slots { P.slots port.new ≡ P.slots port.old }
+    ensures same_dims { P.dims port.new ≡ P.dims port.old }
+    ensures same_rank { P.rank port.new ≡ P.rank port.old }
+    ensures law { RelayLaw (P.dims port.new) (P.rank port.new) (P.sent port.new) (P.got port.new) }
+    ensures out { OnOk result (out.new ≡ blank (lasts (P.sent port.new link))) }
+    ensures into { OnOk result (into.new ≡ blank (lasts (P.got port.new link))) }
+    ensures few_out { OnOk result (out.new.epoch ≤ out.old.epoch + 1) }
+    ensures few_into { OnOk result (into.new.epoch ≤ into.old.epoch + 1) }
+{
+    match call {
+        Post(a) => Ok(posted(post_item(port, link, out, a, false)?)),
+        PostLast(a) => Ok(posted(post_item(port, link, out, a, true)?)),
+        Collect => Ok(collected(collect_item(port, link, into))),
+    }
+}
+
+fn posted(sent: bool) -> Answer {
+    if sent { Sent } else { NoRoom }
+}
+
+fn collected(item: Option<u64>) -> Answer {
+    match item {
+        Some(a) => Got(a),
+        None => Nothing,
+    }
+}
+
+/// What a new port answers to the calls of a row, whichever bank it is of.
+fn answers_to<P: Port<1>>(
+    alloc: Global,
+    port: &mut P,
+    link: u32,
+    calls: &[Call],
+) -> Result<Vec<Answer>, NoMemory>
+    requires grid { IsGrid (P.dims port.old) }
+    requires link { link < links (P.dims port.old) }
+    requires first { hop_at (P.dims port.old) link ≡ 1 }
+    requires sender { sender_at (P.dims port.old) link ≡ P.rank port.old }
+    requires reader { reader_at (P.dims port.old) link ≡ P.rank port.old }
+    requires law { RelayLaw (P.dims port.old) (P.rank port.old) (P.sent port.old) (P.got port.old) }
+    requires none_sent { lasts (P.sent port.old link) ≡ 0 }
+    requires none_got { lasts (P.got port.old link) ≡ 0 }
+    requires few { length calls.now < 1000 }
+    ensures rest { P.rest port.new ≡ P.rest port.old }
+    ensures same_slots { P.slots port.new ≡ P.slots port.old }
+    ensures same_dims { P.dims port.new ≡ P.dims port.old }
+{
+    let mut out = Parcel::new(alloc)?;
+    let mut into = Parcel::new(alloc)?;
+    let mut answers = Vec::with_capacity(alloc, calls.len())?;
+    for call in calls {
+        let answer = answer_to(port, link, &mut out, &mut into, *call)?;
+        if answers.push(answer).is_err() {
+            return Err(NoMemory);
+        }
+    }
+    Ok(answers)
+}
+
+/// What a bank answers to the calls of a row, and how many epochs its links have ended when it is closed.
+type Outcome = (Vec<Answer>, u64);
+
+/// What both banks make of the calls on the one link of one rank: the slot bank, and then the plain bank.
+fn both_make(alloc: Global, slots: u32, calls: &[Call]) -> Result<(Outcome, Outcome), NoMemory>
+    requires slots { IsSlots slots }
+    requires few { length calls.now < 1000 }
+{
+    let Ok(grid) = Grid::new(&[1]) else {
+        return Err(NoMemory);
+    };
+    let (hop, from, to) = grid.ends(0);
+    if hop != 1 || from != to {
+        return Err(NoMemory);
+    }
+    let (bank, mut gather) = SlotBank::<1>::new(alloc, &grid, slots)?;
+    let mut by_slots = bank.port(bank.seat(&mut gather, from));
+    let first = answers_to(alloc, &mut by_slots, 0, calls)?;
+    bank.gather(&mut gather, by_slots.into_seat());
+    let first_epochs = bank.close(gather).epochs();
+    let mut plain = PlainBank::<1>::new(alloc, &grid, slots)?.port(from);
+    let second = answers_to(alloc, &mut plain, 0, calls)?;
+    let second_epochs = plain.into_bank().close().epochs();
+    Ok(((first, first_epochs), (second, second_epochs)))
+}
+
+#[test]
+#[tactic(auto, unfolding(port_bank::specs::Port::IsSlots))]
+fn slot_bank_by_hand(rt: HostRuntime) -> Result<(), Fail> {
+    let calls = [
+        Post(1),
+        Post(2),
+        Post(3),
+        Collect,
+        Post(3),
+        Collect,
+        Collect,
+        Collect,
+    ];
+    let want = [Sent, Sent, NoRoom, Got(1), Sent, Got(2), Got(3), Nothing];
+    let ((by_slots, _), (plain, _)) = both_make(rt.alloc(), 2, &calls)?;
+    assert_eq!(rt; by_slots.as_slice(), want.as_slice());
+    assert_eq!(rt; plain.as_slice(), want.as_slice());
+    Ok(())
+}
+
+#[test]
+#[tactic(auto, unfolding(port_bank::specs::Port::IsSlots))]
+fn slots_by_hand(rt: HostRuntime) -> Result<(), Fail> {
+    let calls = [Post(1), Post(2), Collect, Post(2), Collect, Collect];
+    let want = [Sent, NoRoom, Got(1), Sent, Got(2), Nothing];
+    let ((by_slots, _), (plain, _)) = both_make(rt.alloc(), 1, &calls)?;
+    assert_eq!(rt; by_slots.as_slice(), want.as_slice());
+    assert_eq!(rt; plain.as_slice(), want.as_slice());
+    let calls = [Post(1), Post(2), Post(3), Post(4), Post(5)];
+    let want = [Sent, Sent, Sent, Sent, NoRoom];
+    let ((by_slots, _), (plain, _)) = both_make(rt.alloc(), 4, &calls)?;
+    assert_eq!(rt; by_slots.as_slice(), want.as_slice());
+    assert_eq!(rt; plain.as_slice(), want.as_slice());
+    Ok(())
+}
+
+#[test]
+#[tactic(auto, unfolding(port_bank::specs::Port::IsSlots))]
+fn two_epochs_ended(rt: HostRuntime) -> Result<(), Fail> {
+    let calls = [PostLast(1), Post(2), Collect];
+    let want = [Sent, Sent, Got(1)];
+    let ((by_slots, slot_epochs), (plain, plain_epochs)) = both_make(rt.alloc(), 2, &calls)?;
+    assert_eq!(rt; by_slots.as_slice(), want.as_slice());
+    assert_eq!(rt; plain.as_slice(), want.as_slice());
+    assert_eq!(rt; (slot_epochs, plain_epochs), (1, 1));
+    let calls = [
+        Post(1),
+        PostLast(2),
+        Collect,
+        PostLast(3),
+        Collect,
+        Post(4),
+        Collect,
+        Collect,
+        Collect,
+    ];
+    let want = [
+        Sent,
+        Sent,
+        Got(1),
+        Sent,
+        Got(2),
+        Sent,
+        Got(3),
+        Got(4),
+        Nothing,
+    ];
+    let ((by_slots, slot_epochs), (plain, plain_epochs)) = both_make(rt.alloc(), 2, &calls)?;
+    assert_eq!(rt; by_slots.as_slice(), want.as_slice());
+    assert_eq!(rt; plain.as_slice(), want.as_slice());
+    assert_eq!(rt; (slot_epochs, plain_epochs), (2, 2));
+    Ok(())
+}

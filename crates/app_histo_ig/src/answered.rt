@@ -5,7 +5,7 @@ ghost use Rattle.bale_types.specs.Stream.{after, HasCause, IsFront};
 ghost use Rattle.bale_types.specs.Out.{appended};
 ghost use Rattle.bale_types.specs.declared.triple.Triple.{Triple};
 ghost use Rattle.app_histo_ig.specs.ColumnAnswers.{HaveSums};
-ghost use Rattle.app_histo_ig.specs.IgLines.{column_sum, ig_line, ig_lines};
+ghost use Rattle.app_histo_ig.specs.IgLines.{column_sum, ig_lines};
 
 use bale_types::{Failed, Out, Sink, Triple, value_of};
 use mtx_text::{EntryLine, Kind, Matrix};

@@ -1,8 +1,6 @@
 //! ig: each entry of a matrix gets to know the sum of its column, which the column's owner has.
 
-ghost use Rattle.std.specs.Prelude.{◌≡◌, ◌<◌, ◌^◌, [], length, map};
-ghost use Rattle.std.specs.List.{All};
-ghost use Rattle.sparse_rows.specs.Owners.{places_for};
+ghost use Rattle.std.specs.Prelude.{◌≡◌, ◌<◌, ◌^◌, [], map};
 ghost use Rattle.app_histo_ig.specs.Igs.{IsIg};
 ghost use Rattle.app_histo_ig.specs.code.IgSent.{number_and_column, to_add};
 

@@ -2,7 +2,6 @@
 
 ghost use Rattle.std.specs.Prelude.{◌≡◌, ◌<◌, ◌^◌, OnOk, is_ok, if◌then◌else◌};
 ghost use Rattle.std.specs.List.{All};
-ghost use Rattle.bale_types.specs.Bits.{twos_complement};
 ghost use Rattle.mtx_text.specs.Cells.{InOrder, raised};
 ghost use Rattle.app_permute.specs.Carried.{cell_item, cell_of, may_cell};
 ghost use Rattle.app_permute.specs.Permutes.{IsKept, kept_as};

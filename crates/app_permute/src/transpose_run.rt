@@ -1,7 +1,6 @@
 //! transpose's start, and its answer as a matrix.
 
 ghost use Rattle.std.specs.Prelude.{◌≡◌, ◌<◌, ◌≤◌, [], ◌∷◌, length, map, slice_index_or, IfOk};
-ghost use Rattle.mtx_text.specs.Sparse.{Sparse, IsSparse};
 ghost use Rattle.sparse_rows.specs.Parts.{parts_of};
 ghost use Rattle.round_program.specs.Canonical.{InRound, EndsWithin};
 ghost use Rattle.app_permute.specs.Moved.{turned, transposed, IsTransposed};

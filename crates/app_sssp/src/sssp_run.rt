@@ -1,19 +1,18 @@
 //! sssp's start, and its answer as text.
 
 ghost use Rattle.std.specs.Prelude.{ℕ, true, ◌==◌, if◌then◌else◌, ◌≡◌, ◌≢◌, ◌<◌, ◌≤◌, ◌+◌, ◌^◌, ◌%◌, ◌/◌, [], ◌∷◌, length, map, replicate, slice_index_or, Option, IfOk, OnOk, OnErr};
-ghost use Rattle.std.specs.List.{All};
 ghost use Rattle.least_walks.specs.Vertices.{unreached, improved_at};
 ghost use Rattle.bale_types.specs.Stream.{after, HasCause, IsFront};
 ghost use Rattle.bale_types.specs.Out.{appended};
 ghost use Rattle.bale_types.specs.Bits.{twos_complement};
 ghost use Rattle.mtx_text.specs.Sparse.{Sparse};
 ghost use Rattle.sparse_rows.specs.Parts.{parts_of};
-ghost use Rattle.sparse_rows.specs.Owners.{row_owner, places_for};
+ghost use Rattle.sparse_rows.specs.Owners.{row_owner};
 ghost use Rattle.round_program.specs.Canonical.{InRound, EndsWithin};
 ghost use Rattle.least_walks.specs.Walks.{no_negative, IsLeast, AreLeast};
 ghost use Rattle.least_walks.specs.Lines.{sssp_lines};
 ghost use Rattle.app_sssp.specs.Sssps.{sssp_rules};
-ghost use Rattle.app_sssp.specs.SsspRuns.{IsGraph, edge_item, vertices_begin, sssp_begins, sssp_starts, SsspEnded};
+ghost use Rattle.app_sssp.specs.SsspRuns.{edge_item, sssp_begins, sssp_starts, SsspEnded};
 
 use crate::sssp::Sssp;
 use bale_types::{Failed, Item, NoMemory, Out, Sink, Triple, bits_of};

@@ -10,7 +10,7 @@ use Rattle.std.proofs.lemmas.Option.{get_or_from_slice_get}
 use Rattle.list_laws.proofs.Lists.{find, get_map, all_get, all_head, all_tail}
 use Rattle.elastic.specs.Spelling.{IsLetter}
 use Rattle.app_tally.specs.Counts.{by_bytes}
-use Rattle.app_tally.specs.CountOrder.{turned}
+use Rattle.app_tally.specs.laws.CountOrder.{turned}
 use Rattle.app_tally.specs.Numbers.{front_number}
 
 -- ---- The order

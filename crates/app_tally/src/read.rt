@@ -1,7 +1,7 @@
 //! The lines of the text that a source gives.
 
 ghost use Rattle.std.specs.Prelude.{◌≡◌, ◌≢◌, ℕ, ◌+◌, ◌<◌, ◌≤◌, List, Some, Err, take, drop, vec_len, IsSome, IfOk};
-ghost use Rattle.bale_types.specs.Stream.{Rose};
+ghost use Rattle.bale_types.specs.Stream.{RoseOrFull};
 ghost use Rattle.mtx_text.specs.Answers.{IsBehind};
 ghost use Rattle.app_tally.specs.declared.read.Unread.TheVariants as Unread;
 ghost use Rattle.app_tally.specs.declared.lines.LinesFault.TheVariants as LinesFault;
@@ -55,7 +55,7 @@ pub fn read_lines<S: Source>(alloc: Global, source: &mut S) -> Result<Lines, Lin
     ensures behind { (text rest : List ℕ) → S.left source.old ≡ Some text → S.left source.new ≡ Some rest
         → IsBehind 16_777_217 text rest }
     ensures told { (text : List ℕ) → S.left source.old ≡ Some text → IsSome (S.left source.new) }
-    ensures cause { result ≡ Err LinesFault.Source → Rose (S.faults source.old) (S.faults source.new) }
+    ensures cause { result ≡ Err LinesFault.Source → RoseOrFull (S.faults source.old) (S.faults source.new) }
     ensures no_fault { result ≢ Err LinesFault.Source → S.faults source.new ≡ S.faults source.old }
     ensures never_falls { S.faults source.old ≤ S.faults source.new }
 {
@@ -75,7 +75,7 @@ fn read_text<S: Source>(alloc: Global, source: &mut S, limit: usize) -> Result<V
     ensures behind { (text rest : List ℕ) → S.left source.old ≡ Some text → S.left source.new ≡ Some rest
         → IsBehind limit text rest }
     ensures told { (text : List ℕ) → S.left source.old ≡ Some text → IsSome (S.left source.new) }
-    ensures cause { result ≡ Err Unread.Source → Rose (S.faults source.old) (S.faults source.new) }
+    ensures cause { result ≡ Err Unread.Source → RoseOrFull (S.faults source.old) (S.faults source.new) }
     ensures no_fault { result ≢ Err Unread.Source → S.faults source.new ≡ S.faults source.old }
     ensures never_falls { S.faults source.old ≤ S.faults source.new }
 {

@@ -1,5 +1,5 @@
 //! Matrices dealt out by rows and put together again, and lists that permute, on worked examples.
-ghost use Rattle.std.specs.Prelude.{◌≡◌, ◌≤◌, ◌<◌, ◌%◌, ◌∷◌, [], nat_abs, IfOk};
+ghost use Rattle.std.specs.Prelude.{◌≡◌, ◌≤◌, ◌<◌, ◌%◌, ◌∷◌, [], IfOk};
 ghost use Rattle.std.specs.List.{All};
 ghost use Rattle.mtx_text.specs.declared.kind.Kind.TheVariants.{Integer};
 ghost use Rattle.mtx_text.specs.Sparse.{IsEntry};

@@ -1,9 +1,8 @@
 //! topo's answer, as an order.
 
-ghost use Rattle.std.specs.Prelude.{◌≡◌, ◌<◌, ◌≤◌, ◌^◌, ◌==◌, ◌+◌, ◌%◌, ℕ, List, None, length, map, reverse, IfOk, IfSome, OnOk};
+ghost use Rattle.std.specs.Prelude.{◌≡◌, ◌<◌, ◌≤◌, ◌^◌, ◌==◌, ◌+◌, ◌%◌, ℕ, List, None, map, reverse, IfOk, IfSome, OnOk};
 ghost use Rattle.std.specs.List.{All, list_all, range_with_len};
 ghost use Rattle.bale_types.specs.Bits.{twos_complement};
-ghost use Rattle.mtx_text.specs.Sparse.{Sparse};
 ghost use Rattle.mtx_text.specs.Cells.{raised_all};
 ghost use Rattle.app_topo.specs.Levels.{topo_order, claims_after, col_claims, row_position, col_position};
 ghost use Rattle.app_topo.specs.Triangular.{IsValid};

@@ -1,6 +1,6 @@
 //! The end of a run: the programs after their last round, and then the answer, written.
 
-ghost use Rattle.std.specs.Prelude.{◌≡◌, ◌≤◌, ◌<◌, ℕ, List, length, OnOk, OnErr, IfOk};
+ghost use Rattle.std.specs.Prelude.{◌≡◌, ◌≤◌, ◌<◌, ℕ, length, OnOk, OnErr, IfOk};
 ghost use Rattle.bale_types.specs.Stream.{after, HasCause, IsFront};
 ghost use Rattle.bale_types.specs.Out.{appended};
 ghost use Rattle.round_program.specs.Canonical.{HaveEnded};

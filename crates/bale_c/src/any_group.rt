@@ -1,5 +1,5 @@
 //! A group of any capacity.
-ghost use Rattle.std.specs.Prelude.{◌≡◌, ◌≢◌, ℕ, List, Ok, Err, IfOk, IfErr, OnOk, OnErr, true, false, if◌then◌else◌};
+ghost use Rattle.std.specs.Prelude.{◌≡◌, ◌≢◌, ℕ, Ok, Err, IfOk, IfErr, OnOk, OnErr, true, if◌then◌else◌};
 ghost use Rattle.route_tensor.specs.Grid.{ranks};
 ghost use Rattle.port_bank.specs.Port.{IsSlots};
 ghost use Rattle.bale_c.specs.GroupCases.{seen_group};

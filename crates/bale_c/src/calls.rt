@@ -1,5 +1,5 @@
 //! The calls on what a handle has.
-ghost use Rattle.std.specs.Prelude.{◌≡◌, ◌≢◌, ℕ, Bool, true, Some, None, Ok, Err, IfOk, OnErr, is_some, ◌<◌, ◌≤◌, ◌++◌, length, drop, slice_index_or};
+ghost use Rattle.std.specs.Prelude.{◌≡◌, ◌≢◌, ℕ, Some, None, Err, IfOk, OnErr, is_some, ◌<◌, ◌≤◌, ◌++◌, length, drop, slice_index_or};
 ghost use Rattle.port_bank.specs.Machine.Step.{Push, Pull, Unpull, Reset, Idle};
 ghost use Rattle.convey.specs.Buffers.{is_complete};
 ghost use Rattle.convey.specs.Progress.{advance_step};

@@ -1,9 +1,8 @@
 //! One rank's side of an exchange, whatever its capacity and its hops.
-ghost use Rattle.std.specs.Prelude.{◌≡◌, ◌≢◌, ◌<◌, ◌≤◌, ◌++◌, ℕ, Bool, true, false, Ok, Err, None, IfOk, OnErr, length, drop, slice_index_or};
+ghost use Rattle.std.specs.Prelude.{◌≡◌, ◌≢◌, ◌<◌, ◌≤◌, ◌++◌, ℕ, Err, IfOk, OnErr, length, drop, slice_index_or};
 ghost use Rattle.std.specs.Result.{ForOk, ForErr};
 ghost use Rattle.route_tensor.specs.Grid.{ranks};
 ghost use Rattle.port_bank.specs.Machine.Step.{Push, Pull, Unpull, Reset, Idle};
-ghost use Rattle.hop_core.specs.State.{lowest_unread};
 ghost use Rattle.convey.specs.Buffers.{is_complete};
 ghost use Rattle.convey.specs.Progress.{advance_step};
 ghost use Rattle.bale_c.specs.Seated.{Seated, Moved};

@@ -1,9 +1,9 @@
 //! A group: the bank that its ranks share, for one capacity, and the ranks that are still to be made.
-ghost use Rattle.std.specs.Prelude.{◌≡◌, ◌≢◌, None, ◌<◌, ◌≤◌, ℕ, Bool, true, false, length, Ok, Err, IfOk, IfErr, OnOk, OnErr, slice_index_or, slice_set};
+ghost use Rattle.std.specs.Prelude.{◌≡◌, ◌≢◌, None, ◌<◌, ◌≤◌, ℕ, true, false, Ok, Err, IfOk, OnOk, OnErr, slice_index_or, slice_set};
 ghost use Rattle.std.specs.Arc.{arc_value};
 ghost use Rattle.route_tensor.specs.Grid.{ranks};
 ghost use Rattle.port_bank.specs.Port.{IsSlots};
-ghost use Rattle.bale_c.specs.Grouped.{Grouped, IsNewGroup, NewRank, IsNewRank, with_given, rank_answer, answer_with};
+ghost use Rattle.bale_c.specs.Grouped.{Grouped, IsNewGroup, NewRank, IsNewRank, with_given, rank_answer};
 ghost use Rattle.bale_c.specs.Kept.{IsAtGather};
 ghost use Rattle.bale_c.specs.Cases.{seen_by_hops};
 

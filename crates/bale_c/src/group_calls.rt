@@ -1,5 +1,5 @@
 //! What C calls, of a group.
-ghost use Rattle.std.specs.Prelude.{◌≡◌, ◌≢◌, true, Some, None, is_some};
+ghost use Rattle.std.specs.Prelude.{◌≡◌, ◌≢◌, Some, None};
 ghost use Rattle.bale_c.specs.Codes.{code_of};
 ghost use Rattle.bale_c.specs.Handles.{rank_in, group_in, if_there, new_group_answer, new_rank_answer, given_in, HasNewGroup, HasNewRank};
 

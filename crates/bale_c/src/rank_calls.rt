@@ -1,5 +1,5 @@
 //! What C calls, of a rank.
-ghost use Rattle.std.specs.Prelude.{◌≡◌, ◌≢◌, ℕ, Bool, true, Some, None, Ok, Err, IfOk, IfErr, OnErr, is_some};
+ghost use Rattle.std.specs.Prelude.{◌≡◌, ◌≢◌, ℕ, Some, None, Ok, Err, IfOk, OnErr};
 ghost use Rattle.std.specs.Option.{option_map};
 ghost use Rattle.port_bank.specs.Machine.Step.{Push, Pull, Unpull, Reset, Idle};
 ghost use Rattle.convey.specs.Buffers.{is_complete};

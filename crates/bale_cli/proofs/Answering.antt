@@ -2,7 +2,7 @@
 use Rattle.std.proofs.Common.{ℕ, ◌≡◌, ◌≢◌, ◌⊎◌, Bool, true, false, not, is_some, List, Option, None, Some, Result, Ok, Err, OnOk, OnErr, IfOk, IfErr, drop, refl, sym, ap, subst, ◌∙◌, inl, inr, IsOk}
 use Rattle.std.proofs.lemmas.Bool.{false≢true}
 use Rattle.std.proofs.lemmas.Option.{none-some, same_Some}
-use Rattle.bale_types.specs.Stream.{after, HasCause, IsFront, Rose}
+use Rattle.bale_types.specs.Stream.{after, HasCause, IsFront, RoseOrFull}
 use Rattle.bale_types.proofs.Moves.{front_same}
 use Rattle.bale_words.specs.declared.command.Command.{Command}
 use Rattle.bale_words.specs.declared.command.Generated.{Generated}
@@ -119,7 +119,7 @@ module _ {S K : Type 0} {serial : Command → Bool} {left : S → Option (List �
   at_job {answered = answered} job job' e a = subst (λ (j : Option Command). Answered serial j left read_faults source source' taken write_faults out out' answered) (sym e) a
 
   -- refused by the subject, or by the reading of it
-  pub subject_refused : (c : Command) (r : Refusal) → (r ≡ refusal.ReadFault → Rose (read_faults source) (read_faults source'))
+  pub subject_refused : (c : Command) (r : Refusal) → (r ≡ refusal.ReadFault → RoseOrFull (read_faults source) (read_faults source'))
       → (r ≢ refusal.ReadFault → read_faults source' ≡ read_faults source)
       → ((text : List ℕ) (b : BadText) → Told (Some c) (left source) text → r ≡ refusal.BadText b → subject_asked c text ≡ Err (refusal.BadText b))
       → ((text : List ℕ) (u : Unfit) → Told (Some c) (left source) text → r ≡ refusal.Unfit u

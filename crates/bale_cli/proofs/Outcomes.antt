@@ -1,6 +1,6 @@
 -- The promises of the top calls, from what is known of an answer and of how it is told.
 use Rattle.std.proofs.Common.{ℕ, zero, suc, ◌≡◌, ◌≢◌, ◌≤◌, ◌⊎◌, Bool, true, false, List, [], Option, None, Some, Result, Ok, Err, OnOk, OnErr, IfOk, IfErr, ◌<◌, drop, sym, ap, subst, ◌∙◌, arith, inl, inr, refl, IsOk}
-use Rattle.bale_types.specs.Stream.{after, IsFront, Rose}
+use Rattle.bale_types.specs.Stream.{after, IsFront, RoseOrFull}
 use Rattle.bale_types.proofs.Moves.{after-nil, front_same}
 use Rattle.rank_group.specs.declared.closed_round.ClosedRound.{ClosedRound}
 use Rattle.bale_words.specs.declared.command.Command.{Command}
@@ -47,7 +47,7 @@ failed {Q = Q} d q = subst (λ w. OnErr w Q) d.is q
 -- an answer that was written has status 0 or 1, one that wasn't 4
 ends : {E : Type 0} {said_to : E → Option (List ℕ)} {err_faults : E → ℕ} {err err' : E} {status : ℕ} {rounds : List ClosedRound} (f : RunEnd) → IsOutcome (Ok f) said_to err_faults err err' status rounds
     → Did f.ending.written ((status ≡ f.ending.status) × (status ≤ 1) × (err' ≡ err))
-    ⊎ Failed f.ending.written ((status ≡ 4) × (¬ Rose (err_faults err) (err_faults err') → said_to err' ≡ after (said_to err) (refusal_text refusal.WriteFault)) × IsFront (said_to err') (after (said_to err) (refusal_text refusal.WriteFault)))
+    ⊎ Failed f.ending.written ((status ≡ 4) × (¬ RoseOrFull (err_faults err) (err_faults err') → said_to err' ≡ after (said_to err) (refusal_text refusal.WriteFault)) × IsFront (said_to err') (after (said_to err) (refusal_text refusal.WriteFault)))
 ends f o = split f.ending.written o.written o.unwritten
 
 low_not : (status n : ℕ) → 1 < n → status ≤ 1 → status ≡ n → ⊥
@@ -104,11 +104,11 @@ module _ {serial : Command → Bool} {job : Option Command} {S K E : Type 0} {le
       ∙ status_same serial r job text (λ e. a.usage (ap (λ (x : Refusal). Err x) e)) (λ b e. a.bad text b told (ap (λ (x : Refusal). Err x) e))
       (λ u e. a.unfit text u told (ap (λ (x : Refusal). Err x) e)) (λ e. three (o.refused.0 ∙ e)) (λ e. four (o.refused.0 ∙ e)) (λ e. seven (o.refused.0 ∙ e))
 
-  read_fault : (answered : Result RunEnd Refusal) → Answered serial job left read_faults source source' taken write_faults out out' answered → IsOutcome answered said_to err_faults err err' status rounds → status ≡ 3 → Rose (read_faults source) (read_faults source')
+  read_fault : (answered : Result RunEnd Refusal) → Answered serial job left read_faults source source' taken write_faults out out' answered → IsOutcome answered said_to err_faults err err' status rounds → status ≡ 3 → RoseOrFull (read_faults source) (read_faults source')
   read_fault (Ok f) a o three = absurd (no_other f 3 o (omega arith) (λ e. omega (arith, e)) three)
   read_fault (Err r) a o three = a.read_fault (ap (λ (x : Refusal). Err x) (is_read_fault r (sym o.refused.0 ∙ three)))
 
-  write_fault : (answered : Result RunEnd Refusal) → Answered serial job left read_faults source source' taken write_faults out out' answered → IsOutcome answered said_to err_faults err err' status rounds → status ≡ 4 → Rose (write_faults out) (write_faults out')
+  write_fault : (answered : Result RunEnd Refusal) → Answered serial job left read_faults source source' taken write_faults out out' answered → IsOutcome answered said_to err_faults err err' status rounds → status ≡ 4 → RoseOrFull (write_faults out) (write_faults out')
   write_fault (Ok f) a o four =
       elim (ends f o) [ inl w ↦ absurd (low_not status 4 (omega arith) w.fact.1 four) | inr u ↦ failed u a.write_fault ]
   write_fault (Err r) a o four = absurd (not_four r a.kinds o four)
@@ -169,7 +169,7 @@ module _ {serial : Command → Bool} {job : Option Command} {S K E : Type 0} {le
       (λ u e. a.unfit text u (told (inr (o.refused.0 ∙ ap status_of e ∙ unfit_is u))) (ap (λ (x : Refusal). Err x) e))
 
   said_whole : (answered : Result RunEnd Refusal) → Answered serial job left read_faults source source' taken write_faults out out' answered → IsOutcome answered said_to err_faults err err' status rounds → (text : List ℕ) → ((status ≡ 5) ⊎ (status ≡ 6) → Told job (left source) text)
-      → ¬ Rose (err_faults err) (err_faults err') → said_to err' ≡ after (said_to err) (said status (answer_to serial job text))
+      → ¬ RoseOrFull (err_faults err) (err_faults err') → said_to err' ≡ after (said_to err) (said status (answer_to serial job text))
   said_whole (Ok f) a o text told calm =
       elim (ends f o) [
         | inl w ↦ ap said_to w.fact.2 ∙ (sym (after-nil (said_to err)) ∙ ap (after (said_to err)) (sym (said_none status (answer_to serial job text) w.fact.1)))

@@ -1,7 +1,7 @@
 -- What the two top calls stand on: what is known of an answer before it is told, and how it is told.
 use Rattle.std.specs.Prelude.{◌≡◌, ◌≢◌, ◌⊎◌, ◌≤◌, ℕ, Bool, true, false, List, [], Option, None, Some, Result, Err, drop, OnOk, OnErr, IfOk, IfErr}
 use Rattle.std.specs.Result.{IsErrAnd}
-use Rattle.bale_types.specs.Stream.{after, HasCause, IsFront, Rose}
+use Rattle.bale_types.specs.Stream.{after, HasCause, IsFront, RoseOrFull}
 use Rattle.rank_group.specs.declared.closed_round.ClosedRound.{ClosedRound}
 use Rattle.bale_words.specs.declared.command.Command.{Command}
 use Rattle.bale_runs.specs.declared.exchange.RunEnd.{RunEnd}
@@ -21,7 +21,7 @@ pub record Answered {S K : Type 0} (serial : Command → Bool) (job : Option Com
     (taken : K → Option (List ℕ)) (write_faults : K → ℕ) (out out' : K) (answered : Result RunEnd Refusal) : Type 0 where
   pub usage : answered ≡ Err refusal.Usage → job ≡ None
   pub no_command : job ≡ None → IsErrAnd answered (λ r. (r ≡ refusal.Usage) ⊎ (r ≡ refusal.NoMemory))
-  pub read_fault : answered ≡ Err refusal.ReadFault → Rose (read_faults source) (read_faults source')
+  pub read_fault : answered ≡ Err refusal.ReadFault → RoseOrFull (read_faults source) (read_faults source')
   pub no_read_fault : answered ≢ Err refusal.ReadFault → read_faults source' ≡ read_faults source
   pub bad : (text : List ℕ) (b : BadText) → Told job (left source) text → answered ≡ Err (refusal.BadText b) → IsBad job text b
   pub unfit : (text : List ℕ) (u : Unfit) → Told job (left source) text → answered ≡ Err (refusal.Unfit u) → IsUnfit serial job text u
@@ -45,8 +45,8 @@ pub record IsOutcome {E : Type 0} (answered : Result RunEnd Refusal) (taken : E 
   pub told : IfOk answered (λ f. rounds ≡ f.rounds)
   pub no_rounds : OnErr answered (rounds ≡ [])
   pub written : IfOk answered (λ f. OnOk f.ending.written ((status ≡ f.ending.status) × (status ≤ 1) × (err' ≡ err)))
-  pub unwritten : IfOk answered (λ f. OnErr f.ending.written ((status ≡ 4) × (¬ Rose (faults err) (faults err') → taken err' ≡ after (taken err) (refusal_text refusal.WriteFault))
+  pub unwritten : IfOk answered (λ f. OnErr f.ending.written ((status ≡ 4) × (¬ RoseOrFull (faults err) (faults err') → taken err' ≡ after (taken err) (refusal_text refusal.WriteFault))
       × IsFront (taken err') (after (taken err) (refusal_text refusal.WriteFault))))
-  pub refused : IfErr answered (λ r. (status ≡ status_of r) × (¬ Rose (faults err) (faults err') → taken err' ≡ after (taken err) (refusal_text r))
+  pub refused : IfErr answered (λ r. (status ≡ status_of r) × (¬ RoseOrFull (faults err) (faults err') → taken err' ≡ after (taken err) (refusal_text r))
       × IsFront (taken err') (after (taken err) (refusal_text r)))
   pub held : IsFront (taken err) (taken err')

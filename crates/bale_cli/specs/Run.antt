@@ -1,6 +1,6 @@
 -- What the two top calls promise alike.
 use Rattle.std.specs.Prelude.{◌≡◌, ◌≢◌, ◌⊎◌, ℕ, Bool, true, false, List, [], Option, None, Some, drop}
-use Rattle.bale_types.specs.Stream.{after, IsFront, Rose}
+use Rattle.bale_types.specs.Stream.{after, IsFront, RoseOrFull}
 use Rattle.rank_group.specs.declared.closed_round.ClosedRound.{ClosedRound}
 use Rattle.bale_words.specs.declared.command.Command.{Command}
 use Rattle.bale_words.specs.Words.{command_of}
@@ -24,9 +24,9 @@ pub record IsRun {S K E : Type 0} (serial : Command → Bool) (words : List (Lis
   pub no_command : command_of words ≡ None → status ≢ 7 → status ≡ 2
   pub status_is : (text : List ℕ) → Told (command_of words) (left source) text → status ≢ 3 → status ≢ 4 → status ≢ 7
       → status ≡ (serial_answer serial words text).status
-  pub read_fault : status ≡ 3 → Rose (read_faults source) (read_faults source')
+  pub read_fault : status ≡ 3 → RoseOrFull (read_faults source) (read_faults source')
   pub no_read_fault : status ≢ 3 → read_faults source' ≡ read_faults source
-  pub write_fault : status ≡ 4 → Rose (write_faults out) (write_faults out')
+  pub write_fault : status ≡ 4 → RoseOrFull (write_faults out) (write_faults out')
   pub no_write_fault : status ≢ 4 → write_faults out' ≡ write_faults out
   -- The source is as it was where the matrix is generated, and at 2; else at 0, 1, 4, 5 and 6 the text was read whole, or to one byte past
   -- its limit.
@@ -43,7 +43,7 @@ pub record IsRun {S K E : Type 0} (serial : Command → Bool) (words : List (Lis
   pub no_answer : status ≢ 0 → status ≢ 1 → status ≢ 4 → out' ≡ out
   -- What is said on err is whole unless its own faults rose; the text matters at 5 and 6 alone. At 0 and 1 err is as it was.
   pub said_whole : (text : List ℕ) → ((status ≡ 5) ⊎ (status ≡ 6) → Told (command_of words) (left source) text)
-      → ¬ Rose (err_faults err) (err_faults err') → told err' ≡ after (told err) (said status (serial_answer serial words text))
+      → ¬ RoseOrFull (err_faults err) (err_faults err') → told err' ≡ after (told err) (said status (serial_answer serial words text))
   pub said_front : (text : List ℕ) → ((status ≡ 5) ⊎ (status ≡ 6) → Told (command_of words) (left source) text)
       → IsFront (told err') (after (told err) (said status (serial_answer serial words text)))
   pub said_held : IsFront (told err) (told err')

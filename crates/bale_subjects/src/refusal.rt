@@ -1,6 +1,6 @@
 //! Why a run ended without an answer.
 ghost use Rattle.std.specs.Prelude.{◌≡◌, ◌≤◌, ◌++◌, [], length, codes, decimal};
-ghost use Rattle.bale_types.specs.Stream.{after, IsFront, Rose};
+ghost use Rattle.bale_types.specs.Stream.{after, IsFront, RoseOrFull};
 ghost use Rattle.bale_types.specs.Out.{appended};
 ghost use Rattle.bale_subjects.specs.Refusals.{bad_line_text, bad_text, refusal_text, status_of, unfit_text};
 
@@ -98,7 +98,7 @@ impl Refusal {
 
 /// Says on `err` why there is no answer. A failing write changes nothing but what was said.
 pub fn report<E: Sink>(err: &mut E, refusal: Refusal)
-    ensures said { ¬ Rose (E.faults err.old) (E.faults err.new) → E.taken err.new
+    ensures said { ¬ RoseOrFull (E.faults err.old) (E.faults err.new) → E.taken err.new
         ≡ after (E.taken err.old) (refusal_text refusal) }
     ensures front { IsFront (E.taken err.new) (after (E.taken err.old) (refusal_text refusal)) }
     ensures held { IsFront (E.taken err.old) (E.taken err.new) }
@@ -111,7 +111,7 @@ pub fn report<E: Sink>(err: &mut E, refusal: Refusal)
 
 /// Hands the bytes through to the sink.
 fn say<E: Sink>(out: &mut Out<'_, E>, bytes: &[u8])
-    ensures said { ¬ Rose (E.faults out.old.sink.now) (E.faults out.new.sink.now)
+    ensures said { ¬ RoseOrFull (E.faults out.old.sink.now) (E.faults out.new.sink.now)
         → E.taken out.new.sink.now ≡ after (appended E.taken out.old) bytes.now }
     ensures front { IsFront (E.taken out.new.sink.now) (after (appended E.taken out.old) bytes.now) }
     ensures never_falls { E.faults out.old.sink.now ≤ E.faults out.new.sink.now }

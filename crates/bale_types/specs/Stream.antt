@@ -32,16 +32,16 @@ some_moved (Some zero) = None
 some_moved (Some (suc n)) = Some (suc n)
 
 -- a count of faults rose in a call, or it stands at its type's last value
--- Rose old new = old < new, or new = 2^64 - 1
+-- RoseOrFull old new = old < new, or new = 2^64 - 1
 -- from 3 to 4; from 2^64 - 1 to itself
-abbrev pub Rose : ℕ → ℕ → Type 0
-Rose old new = (old < new) ⊎ (new ≡ 2 ^ 64 - 1)
+abbrev pub RoseOrFull : ℕ → ℕ → Type 0
+RoseOrFull old new = (old < new) ⊎ (new ≡ 2 ^ 64 - 1)
 
 -- a failure has its cause outside: the object counted it
--- HasCause old new result = Rose old new, where the result is an Err
+-- HasCause old new result = RoseOrFull old new, where the result is an Err
 -- Err from 3 to 4 has its cause, and Err from 3 to 3 has none
 abbrev pub HasCause : {T E : Type 0} → ℕ → ℕ → Result T E → Type 0
-HasCause old new result = OnErr result (Rose old new)
+HasCause old new result = OnErr result (RoseOrFull old new)
 
 -- a counter's next value, which stands still at its type's end
 -- next_count n = min (n + 1) (2^64 - 1)

@@ -6,7 +6,7 @@
 //! files, pipes and devices.
 ghost use Rattle.std.specs.Prelude.{◌≡◌, ◌<◌, ◌≤◌, ℕ, List, Option, None, Some, Ok, [], length, is_err, IfOk, OnOk, if◌then◌else◌};
 ghost use Rattle.std.specs.Result.{result_ok};
-ghost use Rattle.bale_types.specs.Stream.{after, before, moved, next_count, HasCause, some_moved};
+ghost use Rattle.bale_types.specs.Stream.{moved, next_count, HasCause, some_moved};
 
 use super::fault::Failed;
 use super::stream::{Sink, Source};

@@ -1,6 +1,6 @@
 //! The options' values by clap.
 
-ghost use Rattle.std.specs.Prelude.{ℕ, ◌≡◌, ◌++◌, ◌∷◌, [], List, map, string_bytes, true, IfOk, IfErr, Ok, Err};
+ghost use Rattle.std.specs.Prelude.{ℕ, ◌≡◌, ◌++◌, ◌∷◌, [], List, map, string_bytes, true, IfOk, IfErr, Ok};
 ghost use Rattle.std.specs.List.{list_all};
 ghost use Rattle.clap.specs.Words.{app_of, first_value, found_of, kind_of};
 ghost use Rattle.bale_words.specs.Options.{Given, accepted, value_in, is_name};

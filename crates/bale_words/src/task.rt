@@ -1,13 +1,13 @@
 //! What each application is told: its word, its options and their values.
 
-ghost use Rattle.std.specs.Prelude.{ℕ, ◌≡◌, ◌-◌, ◌^◌, List, Option, Some, None, map, codes, true};
+ghost use Rattle.std.specs.Prelude.{ℕ, ◌≡◌, ◌-◌, ◌^◌, List, Option, Some, None, map, true};
 ghost use Rattle.std.specs.List.{list_all};
 ghost use Rattle.std.specs.Option.{option_map};
 ghost use Rattle.clap.specs.Words.{first_value, found_of};
 ghost use Rattle.bale_words.specs.Options.{Given, value_in, is_name};
 ghost use Rattle.bale_words.specs.Reading.{Reads};
 ghost use Rattle.bale_words.specs.Numbers.{number_in, numbers_in};
-ghost use Rattle.bale_words.specs.Values.{is_text, or_default, if_given};
+ghost use Rattle.bale_words.specs.Values.{or_default, if_given};
 ghost use Rattle.bale_words.specs.Words.{application_of, names_of, task_in, permutations_of, search_of};
 
 use crate::command::Permutations;

@@ -3,7 +3,7 @@
 //! In a sweep some parcel is posted or collected on one of the ways, or some entry is taken from an inbox; or else both ways are
 //! complete for every rank. Each of these happens only so often, which bounds the number of sweeps.
 
-ghost use Rattle.std.specs.Prelude.{◌≡◌, ◌≢◌, ℕ, ◌+◌, ◌<◌, ◌≤◌, Bool, List, length, slice_get, Some, IfOk, OnOk};
+ghost use Rattle.std.specs.Prelude.{◌≡◌, ◌≢◌, ℕ, ◌+◌, ◌<◌, ◌≤◌, Bool, length, slice_get, Some, IfOk, OnOk};
 ghost use Rattle.route_tensor.specs.Grid.{ranks};
 ghost use Rattle.rank_group.specs.Ranks.{IsOrder};
 ghost use Rattle.biconvey.specs.States.{BiState};

@@ -13,7 +13,7 @@ use Rattle.port_bank.specs.Logs.{Logs}
 use Rattle.port_bank.specs.Flow.{hop_link}
 use Rattle.list_laws.specs.Lists.{Begins}
 use Rattle.port_bank.proofs.Fronts.{begins_refl}
-use Rattle.bale_types.specs.Stream.{Rose}
+use Rattle.bale_types.specs.Stream.{RoseOrFull}
 use Rattle.hop_core.specs.declared.phase.Phase.TheVariants.{Complete}
 use Rattle.hop_core.specs.Link.{Out, no_out, no_in}
 use Rattle.hop_core.specs.State.{State, phase_of}
@@ -137,7 +137,7 @@ module _ (dims : List ℕ) (rank : ℕ) (st0 st1 st2 st3 st4 : State) (done : Bo
       goes_on = whole_way;
       left = λ l h to no. ap (λ g. g l) same_got ∙ (asked l (here l h) (reads l to)).left (λ w. no (wanted l w));
       unasked = λ l h to no. ap (λ n. n l) same_noted ∙ (asked l (here l h) (reads l to)).unasked (λ w. no (wanted l w));
-      asked = λ l h to w same. subst (λ n. Rose (noted l) (n l)) (sym same_noted) ((asked l (here l h) (reads l to)).rose (wants l w) (sym (ap (λ g. g l) same_got) ∙ same));
+      asked = λ l h to w same. subst (λ n. RoseOrFull (noted l) (n l)) (sym same_noted) ((asked l (here l h) (reads l to)).rose (wants l w) (sym (ap (λ g. g l) same_got) ∙ same));
       idle = λ l h to w same stays. same_idle l (posts_none l stays) ∙ (asked l (here l h) (reads l to)).idle (wants l w) (sym (ap (λ g. g l) same_got) ∙ same);
       lies = λ l more h to e.
           let before : (in_of st2 l).parcel.untaken ≡ (in_of st0 l).parcel.untaken ++ flat_map (λ p. p.entries) more =

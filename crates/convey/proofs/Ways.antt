@@ -4,7 +4,7 @@ use Rattle.std.proofs.lemmas.Bool.{cases_eq}
 use Rattle.std.specs.List.{flat_map}
 use Rattle.std.proofs.lemmas.List.{append-nil, append_assoc, append_cancel_left}
 use Rattle.std.proofs.lemmas.List.Elements.{All-append}
-use Rattle.bale_types.specs.Stream.{Rose}
+use Rattle.bale_types.specs.Stream.{RoseOrFull}
 use Rattle.bale_types.specs.declared.item.Entry.{Entry}
 use Rattle.item_buffer.specs.Contents.{Shipped}
 use Rattle.route_tensor.specs.Grid.{ranks, IsGrid}
@@ -153,7 +153,7 @@ pub asked_still : (b : State) (l : ℕ) (log log' log'' : List Shipped) (noted n
 asked_still b l log log' log'' noted noted' noted'' idle idle' same_log same_noted same_idle w = record {
   left = λ no. same_log ∙ w.left no;
   unasked = λ no. same_noted ∙ w.unasked no;
-  rose = λ yes same. subst (Rose noted) (sym same_noted) (w.rose yes (sym same_log ∙ same));
+  rose = λ yes same. subst (RoseOrFull noted) (sym same_noted) (w.rose yes (sym same_log ∙ same));
   idle = λ yes same. same_idle ∙ w.idle yes (sym same_log ∙ same);
   once = omega (arith, ap length same_log, w.once);
 }
@@ -169,7 +169,7 @@ asked_now b c l log log' log'' noted noted' noted'' idle n w =
     record {
       left = λ no. w.left (λ q. no (down q)) ∙ n.got;
       unasked = λ no. w.unasked (λ q. no (down q)) ∙ n.noted;
-      rose = λ yes same. subst (λ k. Rose k noted'') n.noted (w.rose (up yes) (same ∙ sym n.got));
+      rose = λ yes same. subst (λ k. RoseOrFull k noted'') n.noted (w.rose (up yes) (same ∙ sym n.got));
       idle = λ yes same. w.idle (up yes) (same ∙ sym n.got);
       once = omega (arith, ap length n.got, w.once);
     }
@@ -286,12 +286,12 @@ module _ (dims : List ℕ) (rank i link : ℕ) (b c d : State) (sent sent' sent'
       | inl same ↦
           let e = same_out l h from same in
           let v = subst (λ m. WasServed d m (looks' m) (looks'' m) (crowded'' m)) e w in
-          record { looked = λ due. subst (λ n. Rose n (looks'' l)) (k.to_serve l h from (omega arith)) (v.looked due); crowded = v.crowded }
+          record { looked = λ due. subst (λ n. RoseOrFull n (looks'' l)) (k.to_serve l h from (omega arith)) (v.looked due); crowded = v.crowded }
       | inr ne ↦
           let x = other_out l ne in
           let v = k.served l h from (omega arith) in
           let still : IsDue d l → IsDue c l = due_same c d l o.same_dims o.ins o.done o.cap o.steady (o.out l h from x) in
-          record { looked = λ due. subst (Rose (looks l)) (sym (o.looks_stays l x)) (v.looked (still due)); crowded = λ due. o.crowded_stays l x ∙ v.crowded (still due) }
+          record { looked = λ due. subst (RoseOrFull (looks l)) (sym (o.looks_stays l x)) (v.looked (still due)); crowded = λ due. o.crowded_stays l x ∙ v.crowded (still due) }
     ];
     to_serve = λ l h from le.
         let x = other_out l (λ e. omega arith) in

@@ -2,7 +2,7 @@
 use Rattle.std.specs.Prelude.{◌≡◌, ◌⊎◌, ℕ, ◌+◌, ◌<◌, ◌≤◌, nat_lt, Bool, true, ◌||◌, List, [], ◌∷◌, ◌++◌, length, slice_get, Some}
 use Rattle.bale_types.specs.declared.item.Entry.{Entry}
 use Rattle.bale_types.specs.declared.item.Tag.{Tag}
-use Rattle.bale_types.specs.Stream.{Rose}
+use Rattle.bale_types.specs.Stream.{RoseOrFull}
 use Rattle.item_buffer.specs.Contents.{Shipped}
 use Rattle.route_tensor.specs.Ends.{hop_at, sender_at, reader_at}
 use Rattle.route_tensor.specs.Link.{links, links_before}
@@ -20,7 +20,7 @@ IsDue st l = is_due st.cap st.steady (at_end st.dims st.ins st.done (hop_at st.d
 
 -- What became of a link out that was served where it was due: if it still is, the port looked in vain for room.
 pub record WasServed (st : State) (l : ℕ) (looks looks' : ℕ) (is_crowded : Bool) : Type 0 where
-  pub looked : IsDue st l → Rose looks looks'
+  pub looked : IsDue st l → RoseOrFull looks looks'
   pub crowded : IsDue st l → is_crowded ≡ true
 
 -- A link in wants a parcel where its inbox is empty and it hasn't ended.

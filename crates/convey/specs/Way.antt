@@ -2,7 +2,7 @@
 use Rattle.std.specs.Prelude.{◌≡◌, ◌⊎◌, ℕ, ◌+◌, ◌<◌, ◌≤◌, Bool, true, false, List, [], ◌∷◌, ◌++◌, length, slice_get, Some, None}
 use Rattle.std.specs.List.{flat_map}
 use Rattle.bale_types.specs.declared.item.Entry.{Entry}
-use Rattle.bale_types.specs.Stream.{Rose}
+use Rattle.bale_types.specs.Stream.{RoseOrFull}
 use Rattle.route_tensor.specs.Link.{links}
 use Rattle.route_tensor.specs.Ends.{hop_at, sender_at, reader_at}
 use Rattle.port_bank.specs.Logs.{Logs}
@@ -49,7 +49,7 @@ pub record GoesOn (old new : State) (sent sent' got got' : Logs) : Type 0 where
 pub record WasAsked (st : State) (l : ℕ) (log log' : List Shipped) (noted noted' : ℕ) (is_idle : Bool) : Type 0 where
   pub left : (Wants st l → ⊥) → log' ≡ log
   pub unasked : (Wants st l → ⊥) → noted' ≡ noted
-  pub rose : Wants st l → log' ≡ log → Rose noted noted'
+  pub rose : Wants st l → log' ≡ log → RoseOrFull noted noted'
   pub idle : Wants st l → log' ≡ log → is_idle ≡ true
   pub once : length log' ≤ length log + 1
 
@@ -84,7 +84,7 @@ pub record MovesOn (old new : State) (done : Bool) (sent sent' got got' : Logs) 
   pub goes_on : GoesOn (record old { done = done; pulled = None }) new sent sent' got got'
   pub left : (l : ℕ) → l < links old.dims → reader_at old.dims l ≡ old.rank → (Wants old l → ⊥) → got' l ≡ got l
   pub unasked : (l : ℕ) → l < links old.dims → reader_at old.dims l ≡ old.rank → (Wants old l → ⊥) → noted' l ≡ noted l
-  pub asked : (l : ℕ) → l < links old.dims → reader_at old.dims l ≡ old.rank → Wants old l → got' l ≡ got l → Rose (noted l) (noted' l)
+  pub asked : (l : ℕ) → l < links old.dims → reader_at old.dims l ≡ old.rank → Wants old l → got' l ≡ got l → RoseOrFull (noted l) (noted' l)
   pub idle : (l : ℕ) → l < links old.dims → reader_at old.dims l ≡ old.rank → Wants old l → got' l ≡ got l → sent' l ≡ sent l → is_idle l ≡ true
   pub lies : (l : ℕ) (more : List Shipped) → l < links old.dims → reader_at old.dims l ≡ old.rank → got' l ≡ got l ++ more
       → Ends ((in_of old l).parcel.untaken ++ flat_map (λ p. p.entries) more) (in_of new l).parcel.untaken

@@ -21,7 +21,7 @@ ghost use Rattle.convey.specs.Parts.{part_of};
 ghost use Rattle.convey.specs.Law.{IsSound};
 ghost use Rattle.convey.specs.Conveyors.{AgreesWith, HoldsAtMost, IsStepOf, KeepsAgreement, GivesNext, standing_toward};
 ghost use Rattle.convey.specs.Progress.{progress_of, advance_step};
-ghost use Rattle.bale_types.specs.Stream.{Rose};
+ghost use Rattle.bale_types.specs.Stream.{RoseOrFull};
 ghost use Rattle.hop_core.specs.declared.lent.Lent.TheVariants as Lent;
 ghost use Rattle.hop_core.specs.State.{at_end};
 ghost use Rattle.hop_core.specs.Standing.{IsState};
@@ -306,7 +306,7 @@ impl<const CAP: usize, const HOPS: usize> Conveyor<CAP, HOPS> {
             → P.sent port.new l ≡ P.sent port.old l
             → Begins (out_of self.old l).parcel.untaken (out_of self.new l).parcel.untaken }
         ensures asked { (l : ℕ) → l < links self.old.dims → reader_at self.old.dims l ≡ self.old.rank → Wants self.old l
-            → P.got port.new l ≡ P.got port.old l → Rose (P.noted port.old l) (P.noted port.new l) }
+            → P.got port.new l ≡ P.got port.old l → RoseOrFull (P.noted port.old l) (P.noted port.new l) }
         ensures idle { (l : ℕ) → l < links self.old.dims → reader_at self.old.dims l ≡ self.old.rank → Wants self.old l
             → P.got port.new l ≡ P.got port.old l → P.sent port.new l ≡ P.sent port.old l → P.idle port.new l ≡ true }
 

@@ -1,11 +1,10 @@
 //! One rank's part of delta-stepping.
 
-ghost use Rattle.std.specs.Prelude.{◌≡◌, ◌≢◌, ◌<◌, ◌≤◌, ◌/◌, ◌+◌, ◌-◌, ◌^◌, ◌++◌, ◌&&◌, ◌==◌, nat_lt, [], if◌then◌else◌, OnOk, OnErr, IfOk, length, map, min};
+ghost use Rattle.std.specs.Prelude.{◌≡◌, ◌≢◌, ◌<◌, ◌≤◌, ◌/◌, ◌+◌, ◌-◌, ◌^◌, ◌++◌, ◌&&◌, ◌==◌, [], if◌then◌else◌, OnOk, OnErr, min};
 ghost use Rattle.std.specs.List.{All};
 ghost use Rattle.round_program.specs.Laws.{Fits};
 ghost use Rattle.round_program.specs.Batches.{taken_in};
-ghost use Rattle.least_walks.specs.Tables.{table_of, offers};
-ghost use Rattle.least_walks.specs.Vertices.{improved_at, in_bucket, picked, calm_if, least_marked};
+ghost use Rattle.least_walks.specs.Vertices.{least_marked};
 ghost use Rattle.delta_step.specs.declared.phase.Phase.TheVariants.{First, Find, Light, Heavy};
 ghost use Rattle.delta_step.specs.Deltas.{IsDelta, DeltaState, delta_rules, bucket_of, announced, no_bucket, ascending, offered, absorbed_in, finding, sorted_out, activated, finished};
 ghost use Rattle.delta_step.specs.code.DeltaSeats.{IsSeat};

@@ -1,6 +1,6 @@
 //! The start of delta-stepping, and its answer as text.
 
-ghost use Rattle.std.specs.Prelude.{ℕ, true, ◌≡◌, ◌≢◌, ◌<◌, ◌≤◌, ◌+◌, ◌*◌, ◌^◌, ◌%◌, ◌/◌, [], ◌∷◌, length, map, Option, IfOk, OnOk, OnErr};
+ghost use Rattle.std.specs.Prelude.{ℕ, true, ◌≡◌, ◌≢◌, ◌<◌, ◌≤◌, ◌+◌, ◌*◌, ◌^◌, ◌%◌, ◌/◌, [], ◌∷◌, Option, IfOk, OnOk, OnErr};
 ghost use Rattle.bale_types.specs.Stream.{after, HasCause, IsFront};
 ghost use Rattle.bale_types.specs.Out.{appended};
 ghost use Rattle.mtx_text.specs.Sparse.{Sparse};

@@ -1,6 +1,6 @@
 -- What a round does on one link, seen through a port.
 use Rattle.std.specs.Prelude.{◌≡◌, ℕ, ◌-◌, ◌<◌, ◌≤◌, Bool, true, false, not, ◌&&◌, cond, List, [], ◌∷◌, ◌++◌, length, slice_index_or}
-use Rattle.bale_types.specs.Stream.{Rose}
+use Rattle.bale_types.specs.Stream.{RoseOrFull}
 use Rattle.item_buffer.specs.Contents.{Shipped}
 use Rattle.port_bank.specs.Logs.{Logs}
 use Rattle.list_laws.specs.Lists.{Begins}
@@ -38,7 +38,7 @@ pub record WasCollected (exchange : Bool) (old new : In) (log log' : List Shippe
 -- A link whose parcel is still due was asked in vain: the port looked for room, or listened, in this call, and the link
 -- is crowded, or idle.
 pub record InVain (count count' : ℕ) (stuck : Bool) : Type 0 where
-  pub rose : Rose count count'
+  pub rose : RoseOrFull count count'
   pub in_vain : stuck ≡ true
 
 -- Where a round without memory stopped: at a link out whose parcel is due still, and neither on it nor on a later one

@@ -1,14 +1,14 @@
 //! The exstack of one rank: what a program pushes, polls and pops.
-ghost use Rattle.std.specs.Prelude.{◌≡◌, ℕ, ◌+◌, ◌^◌, ◌<◌, ◌≤◌, ◌&&◌, ◌||◌, not, true, false, List, [], length, is_some, slice_get, slice_index_or, Some, None, IfOk, IfSome, OnOk, IsOk, IsErr, Ok};
-ghost use Rattle.bale_types.specs.Stream.{Rose};
+ghost use Rattle.std.specs.Prelude.{◌≡◌, ℕ, ◌+◌, ◌^◌, ◌<◌, ◌≤◌, ◌&&◌, ◌||◌, true, false, [], length, is_some, slice_get, Some, None, IfOk, IfSome, OnOk, IsOk, IsErr, Ok};
+ghost use Rattle.bale_types.specs.Stream.{RoseOrFull};
 ghost use Rattle.route_tensor.specs.Grid.{ranks};
 ghost use Rattle.port_bank.specs.Logs.{Logs};
 ghost use Rattle.port_bank.specs.Machine.{IsOwnStep};
 ghost use Rattle.port_bank.specs.Machine.Step.{Push, Pull, Unpull, Reset, Idle};
 ghost use Rattle.port_bank.specs.Calls.{once_more_if};
 ghost use Rattle.exstack.specs.Links.{headroom_of};
-ghost use Rattle.exstack.specs.State.{new_stack, out_at, in_at, dims_of, link_to, link_from, number, least_headroom, unread_of, lowest_unread, pushed_on, pop_from, popped_from, pops, unpopped, after_reset};
-ghost use Rattle.exstack.specs.State.{is_proceeding, is_exchanging, may_proceed, may_exchange, in_proceed, in_exchange, missing_link, all_ended, proceed_answer, exchange_answer, stage_of_proceed, stage_of_exchange};
+ghost use Rattle.exstack.specs.State.{new_stack, out_at, in_at, dims_of, link_to, link_from, least_headroom, unread_of, lowest_unread, pushed_on, pop_from, popped_from, pops, unpopped, after_reset};
+ghost use Rattle.exstack.specs.State.{may_proceed, may_exchange, in_proceed, in_exchange, missing_link, all_ended, proceed_answer, exchange_answer, stage_of_proceed, stage_of_exchange};
 ghost use Rattle.exstack.specs.Steps.{MadeRound, InVain, StopsAt};
 ghost use Rattle.exstack.specs.Agreement.{AgreesIn, AgreesWith, cycle_after};
 ghost use Rattle.exstack.specs.Cycles.{exchange_parcel, entries_in};
@@ -234,7 +234,7 @@ impl<const CAP: usize> Exstack<CAP> {
         ensures round { MadeRound done false (in_proceed done self.old) self.new (P.sent port.old) (P.sent port.new)
             (P.got port.old) (P.got port.new) }
         ensures looked { IsOk result → (b : ℕ) → b < self.old.ranks → (out_at self.new b).due ≡ true
-            → Rose (P.looks_out port.old (link_to self.old b)) (P.looks_out port.new (link_to self.old b)) }
+            → RoseOrFull (P.looks_out port.old (link_to self.old b)) (P.looks_out port.new (link_to self.old b)) }
         ensures crowded { IsOk result → (b : ℕ) → b < self.old.ranks → (out_at self.new b).due ≡ true
             → P.got port.new (link_to self.old b) ≡ P.got port.old (link_to self.old b)
             → P.crowded port.new (link_to self.old b) ≡ true }
@@ -297,7 +297,7 @@ impl<const CAP: usize> Exstack<CAP> {
         ensures round { MadeRound false true (in_exchange self.old) self.new (P.sent port.old) (P.sent port.new)
             (P.got port.old) (P.got port.new) }
         ensures looked { IsOk result → (b : ℕ) → b < self.old.ranks → (out_at self.new b).due ≡ true
-            → Rose (P.looks_out port.old (link_to self.old b)) (P.looks_out port.new (link_to self.old b)) }
+            → RoseOrFull (P.looks_out port.old (link_to self.old b)) (P.looks_out port.new (link_to self.old b)) }
         ensures crowded { IsOk result → (b : ℕ) → b < self.old.ranks → (out_at self.new b).due ≡ true
             → P.got port.new (link_to self.old b) ≡ P.got port.old (link_to self.old b)
             → P.crowded port.new (link_to self.old b) ≡ true }

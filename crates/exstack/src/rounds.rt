@@ -2,13 +2,12 @@
 ghost use Rattle.std.specs.Prelude.{◌≡◌, ◌≢◌, ℕ, ◌+◌, ◌*◌, ◌^◌, ◌<◌, ◌≤◌, true, false, map, replicate, length, slice_index_or, [], ◌∷◌, IfOk, IfSome, OnOk, IsOk, IsErr};
 ghost use Rattle.std.specs.List.{list_all, position, sum_by};
 ghost use Rattle.list_laws.specs.Lists.{Begins};
-ghost use Rattle.route_tensor.specs.Grid.{IsGrid};
 ghost use Rattle.port_bank.specs.Logs.{lasts};
 ghost use Rattle.port_bank.specs.Relay.{RelayLaw};
 ghost use Rattle.port_bank.specs.Calls.{once_more_if};
 ghost use Rattle.exstack.specs.Links.{no_out, no_in, has_unread, begun_out, begun_in, reopened, resumed};
 ghost use Rattle.exstack.specs.State.{number, missing_out, least_headroom};
-ghost use Rattle.exstack.specs.Steps.{sight, WasPosted, WasCollected, InVain, StopsAt};
+ghost use Rattle.exstack.specs.Steps.{WasPosted, WasCollected, InVain, StopsAt};
 
 use crate::in_link::InLink;
 use crate::out_link::OutLink;

@@ -1,11 +1,10 @@
 //! The edges of a rank's vertices, those of each vertex together, and what they offer.
 
-ghost use Rattle.std.specs.Prelude.{◌≡◌, ◌<◌, ◌≤◌, ◌/◌, ◌+◌, ◌%◌, ◌^◌, ◌++◌, [], ◌∷◌, OnOk, IfOk, is_ok, if◌then◌else◌, length, map, replicate, slice_index_or};
-ghost use Rattle.std.specs.List.{All, flat_map};
+ghost use Rattle.std.specs.Prelude.{◌≡◌, ◌<◌, ◌≤◌, ◌/◌, ◌+◌, ◌%◌, ◌^◌, ◌++◌, [], ◌∷◌, OnOk, IfOk, if◌then◌else◌, length, map, replicate, slice_index_or};
+ghost use Rattle.std.specs.List.{All};
 ghost use Rattle.bale_types.specs.declared.triple.Triple.{Triple};
-ghost use Rattle.bale_types.specs.Bits.{twos_complement};
 ghost use Rattle.list_laws.specs.Lists.{changed_at, Begins};
-ghost use Rattle.least_walks.specs.Tables.{edge_of, is_kept, kept, table_of, offer, offers_from, offers_at, offers};
+ghost use Rattle.least_walks.specs.Tables.{edge_of, kept, table_of, offer, offers};
 ghost use Rattle.least_walks.specs.code.Spans.{in_span, lists_of, IsWithin};
 
 use crate::vertices::Vertices;

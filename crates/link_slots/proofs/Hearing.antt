@@ -6,7 +6,7 @@ use Rattle.std.specs.Int.{bit_at}
 use Rattle.std.specs.Int.Bits.{bit_or, bit_xor, bit_and}
 use mathlib.Core.Logic.{dite}
 use native.Mathlib.Decide.{ℕ_discrete, dec_le}
-use Rattle.bale_types.specs.Stream.{Rose}
+use Rattle.bale_types.specs.Stream.{RoseOrFull}
 use Rattle.item_buffer.specs.Contents.{Contents}
 use Rattle.route_tensor.specs.Link.{links}
 use Rattle.route_tensor.specs.Ends.{hop_at, reader_at}
@@ -56,10 +56,10 @@ marks_else n c d ne = let x = bit_at_xor n (2 ^ c) d in let p = bit_at-pow_other
 pub counted_suc : (n a : ℕ) → a ≡ counted n → min (a + 1) (2 ^ 64 - 1) ≡ counted (suc n)
 counted_suc n a e = omega arith
 
-pub rises : (noted n : ℕ) → noted ≤ counted n → counted n ≤ noted → Rose noted (counted (suc n))
+pub rises : (noted n : ℕ) → noted ≤ counted n → counted n ≤ noted → RoseOrFull noted (counted (suc n))
 rises noted n low high = dite (dec_le (suc n) (2 ^ 64 - 1)) (λ h. inl (omega arith)) (λ h. inr (omega arith))
 
-pub rises_over : (noted n : ℕ) → noted ≤ counted n → Rose noted (counted (suc n))
+pub rises_over : (noted n : ℕ) → noted ≤ counted n → RoseOrFull noted (counted (suc n))
 rises_over noted n low = dite (dec_le (suc n) (2 ^ 64 - 1)) (λ h. inl (omega arith)) (λ h. inr (omega arith))
 
 module _ (shape : Shape) (is : IsShape shape) (rank l : ℕ) (inside : l < links shape.dims) (mine : reader_at shape.dims l ≡ rank) (x : Logs Contents) (wide : length x.ins ≡ links shape.dims) where

@@ -8,7 +8,7 @@ ghost use Rattle.port_bank.specs.Flow.{Begins};
 ghost use Rattle.port_bank.specs.Relay.{RelayLaw};
 ghost use Rattle.link_slots.specs.Logs.{out_of, in_of, with_out, with_in, taken_more, found_full, got_of};
 ghost use Rattle.link_slots.specs.Shape.{MayFollow};
-ghost use Rattle.bale_types.specs.Stream.{Rose};
+ghost use Rattle.bale_types.specs.Stream.{RoseOrFull};
 ghost use Rattle.port_bank.specs.Port.{changed, IsSlots};
 ghost use Rattle.link_slots.specs.Counts.{ended_after};
 ghost use Rattle.link_slots.specs.Doorbell.{is_due, HeardWhere, LookedFor};
@@ -159,7 +159,7 @@ impl<const CAP: usize> SlotSeat<CAP> {
             → Begins (in_of self.new.lists link).seen (out_of self.new.lists link).sent }
         ensures not_got { result ≡ Collected.Nothing → collected_from self.new ≡ collected_from self.old }
         ensures none_known { result ≡ Collected.Nothing → length (collected_from self.old link) ≡ known self.new link }
-        ensures heard { result ≡ Collected.Nothing → Rose (noted_at self.old link) (listened self.new link) }
+        ensures heard { result ≡ Collected.Nothing → RoseOrFull (noted_at self.old link) (listened self.new link) }
         ensures unmarked { result ≡ Collected.Nothing → (in_of self.new.lists link).marked ≡ false }
         ensures kept { result ≡ Collected.Nothing → parcel.new ≡ parcel.old }
         ensures noted { noted_at self.new ≡ changed (noted_at self.old) link (listened self.new link) }

@@ -2,7 +2,7 @@
 ghost use Rattle.std.specs.Prelude.{◌≡◌};
 ghost use Rattle.std.specs.Option.{option_map};
 ghost use Rattle.mtx_text.specs.Lines.{words_of};
-ghost use Rattle.mtx_text.specs.Grammar.{five_of, form_of, kind_of, symmetry_of, accepted, spells, is_general, is_skew};
+ghost use Rattle.mtx_text.specs.Grammar.{five_of, form_of, kind_of, symmetry_of, accepted, spells};
 
 use crate::kind::Kind;
 use crate::refusal::Reason;

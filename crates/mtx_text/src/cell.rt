@@ -2,7 +2,7 @@
 ghost use Rattle.std.specs.Prelude.{◌≡◌, ◌<◌, ◌≤◌, ◌∷◌, ◌-◌, nat_abs, take, false, Some, IfOk, IfSome};
 ghost use Rattle.std.specs.Option.{option_map, option_to_list};
 ghost use Rattle.mtx_text.specs.Lines.{words_of, is_skipped};
-ghost use Rattle.mtx_text.specs.Integers.{integer_of, value_of};
+ghost use Rattle.mtx_text.specs.Integers.{integer_of};
 ghost use Rattle.mtx_text.specs.Capped.{cell_from};
 ghost use Rattle.mtx_text.specs.PlainLines.{LineAt};
 ghost use Rattle.mtx_text.specs.Grammar.{cell_by, place_of, value_within, is_index, is_skew, stands_for};

@@ -1,7 +1,6 @@
 //! Ordered maps from places to values, in which raises come in any order at the cost of a push each.
-ghost use Rattle.std.specs.Prelude.{◌≡◌, ◌≢◌, ℕ, ◌+◌, ◌≤◌, ◌++◌, ◌∷◌, ◌==◌, true, not, [], List, length, slice_get, take, Ok, IfOk, OnOk, OnErr, is_ok, if◌then◌else◌};
+ghost use Rattle.std.specs.Prelude.{◌≡◌, ◌≢◌, ℕ, ◌+◌, ◌≤◌, ◌++◌, ◌∷◌, ◌==◌, true, not, [], List, length, slice_get, take, Ok, IfOk, OnOk, OnErr, if◌then◌else◌};
 ghost use Rattle.std.specs.Int.{int_max};
-ghost use Rattle.std.specs.List.{All};
 ghost use Rattle.bale_types.specs.declared.triple.Triple.{Triple};
 ghost use Rattle.mtx_text.specs.Grammar.{has_place};
 ghost use Rattle.mtx_text.specs.Maps.{is_at};

@@ -4,7 +4,7 @@ ghost use Rattle.std.specs.List.{All};
 ghost use Rattle.mtx_text.specs.Lines.{lines_of, lines_from, words_of};
 ghost use Rattle.mtx_text.specs.Integers.{integer_of};
 ghost use Rattle.mtx_text.specs.Grammar.{cell_by, stands_for};
-ghost use Rattle.mtx_text.specs.Drafts.{Drafted, draft_of};
+ghost use Rattle.mtx_text.specs.Drafts.{draft_of};
 ghost use Rattle.mtx_text.specs.Chains.{IsWithin};
 
 use crate::banner::{Form, Symmetry};

@@ -1,5 +1,5 @@
 //! Matrices generated from a seed.
-ghost use Rattle.std.specs.Prelude.{◌≡◌, ◌≤◌, ◌+◌, ◌*◌, ◌<◌, ◌^◌, ◌++◌, ◌%◌, [], pos, slice_index, vec_len, length, IfOk, OnOk};
+ghost use Rattle.std.specs.Prelude.{◌≡◌, ◌≤◌, ◌+◌, ◌*◌, ◌<◌, ◌^◌, ◌++◌, ◌%◌, [], pos, slice_index, vec_len, length, IfOk};
 ghost use Rattle.std.specs.List.{All};
 ghost use Rattle.mtx_text.specs.declared.kind.Kind.TheVariants.{Integer};
 ghost use Rattle.mtx_text.specs.Permutations.{Permutes};

@@ -1,7 +1,7 @@
 //! Integer words of any length, read without overflow.
-ghost use Rattle.std.specs.Prelude.{◌≡◌, min, codes};
+ghost use Rattle.std.specs.Prelude.{◌≡◌, min};
 ghost use Rattle.std.specs.Option.{option_map};
-ghost use Rattle.mtx_text.specs.Integers.{digits_of, integer_of, value_of};
+ghost use Rattle.mtx_text.specs.Integers.{digits_of, integer_of};
 ghost use Rattle.mtx_text.specs.Capped.{capped};
 
 /// Above every limit of the grammar: a greater size is read as this one.

@@ -1,6 +1,5 @@
 //! Matrices as their readers see them.
 ghost use Rattle.std.specs.Prelude.{◌≡◌, length, slice_get};
-ghost use Rattle.std.specs.Option.{option_map};
 ghost use Rattle.mtx_text.specs.Sparse.{Sparse, IsSparse};
 
 use crate::kind::Kind;

@@ -1,5 +1,5 @@
 //! Matrices of cells.
-ghost use Rattle.std.specs.Prelude.{◌≡◌, ◌≤◌, ◌++◌, [], nat_lt, length, IfOk, OnOk};
+ghost use Rattle.std.specs.Prelude.{◌≡◌, ◌≤◌, ◌++◌, [], nat_lt, IfOk, OnOk};
 ghost use Rattle.std.specs.List.{All};
 ghost use Rattle.mtx_text.specs.Sparse.{IsEntry};
 ghost use Rattle.mtx_text.specs.Cells.{InOrder, gathered, together, sparse};

@@ -1,9 +1,8 @@
 //! The matrix of a text in memory.
-ghost use Rattle.std.specs.Prelude.{◌≡◌, ◌+◌, ◌<◌, ◌≤◌, ◌^◌, length, IfOk, IfSome, Ok};
+ghost use Rattle.std.specs.Prelude.{◌≡◌, ◌+◌, ◌<◌, ◌≤◌, ◌^◌, length, Ok};
 ghost use Rattle.mtx_text.specs.declared.parse.Parts.{Parts};
-ghost use Rattle.mtx_text.specs.Lines.{lines_of, lines_from, words_of};
+ghost use Rattle.mtx_text.specs.Lines.{lines_of, lines_from};
 ghost use Rattle.mtx_text.specs.Grammar.{matrix_of, lines_read, body_of, line_after};
-ghost use Rattle.mtx_text.specs.Sparse.{Sparse, IsSparse};
 ghost use Rattle.mtx_text.specs.Answers.{Gives};
 
 use crate::banner::{Form, read_form};

@@ -1,6 +1,6 @@
 //! The matrix of the text that a source gives.
-ghost use Rattle.std.specs.Prelude.{◌≡◌, ◌≢◌, ℕ, ◌+◌, ◌<◌, ◌≤◌, List, Option, Some, Ok, Err, length, take, drop, vec_len, IsSome, IfOk, OnErr};
-ghost use Rattle.bale_types.specs.Stream.{Rose, before, moved};
+ghost use Rattle.std.specs.Prelude.{◌≡◌, ◌≢◌, ℕ, ◌+◌, ◌<◌, ◌≤◌, List, Some, Ok, Err, take, drop, vec_len, IsSome, IfOk};
+ghost use Rattle.bale_types.specs.Stream.{RoseOrFull};
 ghost use Rattle.mtx_text.specs.declared.read.Unread.TheVariants as Unread;
 ghost use Rattle.mtx_text.specs.Grammar.{matrix_of};
 ghost use Rattle.mtx_text.specs.Answers.{ReadGives, OnDecided, IsBehind};
@@ -55,7 +55,7 @@ pub fn read_matrix<S: Source>(alloc: Global, source: &mut S) -> Result<Matrix, R
     ensures behind { (text rest : List ℕ) → S.left source.old ≡ Some text → S.left source.new ≡ Some rest
         → IsBehind 16_777_217 text rest }
     ensures told { (text : List ℕ) → S.left source.old ≡ Some text → IsSome (S.left source.new) }
-    ensures cause { result ≡ Err ReadFault.Source → Rose (S.faults source.old) (S.faults source.new) }
+    ensures cause { result ≡ Err ReadFault.Source → RoseOrFull (S.faults source.old) (S.faults source.new) }
     ensures no_fault { result ≢ Err ReadFault.Source → S.faults source.new ≡ S.faults source.old }
     ensures never_falls { S.faults source.old ≤ S.faults source.new }
 {
@@ -80,7 +80,7 @@ fn read_text<S: Source>(alloc: Global, source: &mut S, limit: usize) -> Result<V
     ensures behind { (text rest : List ℕ) → S.left source.old ≡ Some text → S.left source.new ≡ Some rest
         → IsBehind limit text rest }
     ensures told { (text : List ℕ) → S.left source.old ≡ Some text → IsSome (S.left source.new) }
-    ensures cause { result ≡ Err Unread.Source → Rose (S.faults source.old) (S.faults source.new) }
+    ensures cause { result ≡ Err Unread.Source → RoseOrFull (S.faults source.old) (S.faults source.new) }
     ensures no_fault { result ≢ Err Unread.Source → S.faults source.new ≡ S.faults source.old }
     ensures never_falls { S.faults source.old ≤ S.faults source.new }
 {

@@ -1,10 +1,9 @@
 //! The plain bank: the links of all ranks on one thread.
-ghost use Rattle.std.specs.Prelude.{◌≡◌, ◌≢◌, ◌+◌, ◌<◌, ◌≤◌, ℕ, length, replicate, slice_get, IfOk, IsErr, Ok, Some};
-ghost use Rattle.bale_types.specs.Stream.{Rose};
+ghost use Rattle.std.specs.Prelude.{◌≡◌, ◌≢◌, ◌+◌, ◌<◌, ◌≤◌, ℕ, length, IfOk, IsErr, Ok};
+ghost use Rattle.bale_types.specs.Stream.{RoseOrFull};
 ghost use Rattle.item_buffer.specs.Contents.{shipped, arrived, blank};
 ghost use Rattle.route_tensor.specs.Grid.{ranks};
 ghost use Rattle.route_tensor.specs.Link.{links};
-ghost use Rattle.route_tensor.specs.Tag.{IsFair};
 ghost use Rattle.route_tensor.specs.Ends.{hop_at, sender_at};
 ghost use Rattle.port_bank.specs.Logs.{lasts, added, starting_at, ending_at};
 ghost use Rattle.port_bank.specs.Relay.{RelayLaw, HasFairTags};
@@ -162,7 +161,7 @@ impl<const CAP: usize> PlainBank<CAP> {
         ensures all { result ≡ Collected.Nothing → length (got_of self.old link) ≡ length (sent_of self.old link) }
         ensures kept { result ≡ Collected.Nothing → p.new ≡ p.old }
         ensures lawful { IsBank CAP self.new }
-        ensures heard { Rose (channel_at self.old link).noted (channel_at self.new link).listens }
+        ensures heard { RoseOrFull (channel_at self.old link).noted (channel_at self.new link).listens }
         ensures listens { (channel_at self.old link).listens ≤ (channel_at self.new link).listens }
         ensures looks { (channel_at self.old link).looks_in ≤ (channel_at self.new link).looks_in }
         ensures number { length self.old.channels ≡ links self.old.dims }

@@ -1,6 +1,6 @@
 //! One link of a plain bank: what was done on it.
 ghost use Rattle.std.specs.Prelude.{◌≡◌, ◌≢◌, ◌+◌, ◌<◌, ◌≤◌, ◌++◌, length, slice_get, IsErr, Ok, Some};
-ghost use Rattle.bale_types.specs.Stream.{Rose};
+ghost use Rattle.bale_types.specs.Stream.{RoseOrFull};
 ghost use Rattle.item_buffer.specs.Contents.{shipped, arrived, blank};
 ghost use Rattle.list_laws.specs.Counts.{counted};
 ghost use Rattle.port_bank.specs.Logs.{lasts};
@@ -109,7 +109,7 @@ impl PlainLink {
         ensures nothing { result ≡ Collected.Nothing → self.new ≡ listened self.old }
         ensures all { result ≡ Collected.Nothing → length self.old.got ≡ length self.old.sent }
         ensures kept { result ≡ Collected.Nothing → p.new ≡ p.old }
-        ensures heard { Rose self.old.noted self.new.listens }
+        ensures heard { RoseOrFull self.old.noted self.new.listens }
         ensures listens { self.old.listens ≤ self.new.listens }
         ensures looks { self.old.looks_in ≤ self.new.looks_in }
     {

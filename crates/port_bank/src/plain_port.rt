@@ -1,7 +1,7 @@
 //! One rank's end of a plain bank.
-ghost use Rattle.std.specs.Prelude.{◌≡◌, ◌≢◌, ℕ, ◌+◌, ◌==◌, Bool, true, List, length, refl};
+ghost use Rattle.std.specs.Prelude.{◌≡◌, ◌≢◌, ℕ, ◌+◌, ◌==◌, true, length, refl};
 ghost use Rattle.port_bank.specs.Logs.{Logs, starting_at, ending_at};
-ghost use Rattle.port_bank.specs.Plain.{Bank, IsBank, channel_at, sent_of, got_of, others_of, closed};
+ghost use Rattle.port_bank.specs.Plain.{IsBank, channel_at, sent_of, got_of, others_of, closed};
 ghost use Rattle.port_bank.specs.Round.{IsRound};
 
 use crate::plain_bank::PlainBank;

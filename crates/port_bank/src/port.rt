@@ -1,7 +1,7 @@
 //! What a rank can do on its own links, whatever carries the parcels.
 ghost use Rattle.std.specs.Prelude.{◌≡◌, ◌≢◌, ℕ, suc, ◌+◌, ◌<◌, ◌≤◌, ◌==◌, Bool, true, false, List, length, IsOk, IsErr, Ok};
 ghost use Rattle.std.specs.List.{All};
-ghost use Rattle.bale_types.specs.Stream.{Rose};
+ghost use Rattle.bale_types.specs.Stream.{RoseOrFull};
 ghost use Rattle.item_buffer.specs.Contents.{shipped, arrived, blank};
 ghost use Rattle.route_tensor.specs.Link.{links};
 ghost use Rattle.route_tensor.specs.Tag.{IsFair};
@@ -114,7 +114,7 @@ pub trait Port<const CAP: usize>: Drop {
         ensures room { result ≡ Ok Posted.Sent → length (sent self.old link) < freed self.new link + slots self.old }
 
         // NoRoom: the port looked in this call, and saw every slot taken.
-        ensures looked { result ≡ Ok Posted.NoRoom → Rose (looks_out self.old link) (looks_out self.new link) }
+        ensures looked { result ≡ Ok Posted.NoRoom → RoseOrFull (looks_out self.old link) (looks_out self.new link) }
         ensures no_room { result ≡ Ok Posted.NoRoom → length (sent self.old link)
             ≡ freed self.new link + slots self.old }
         ensures crowded { result ≡ Ok Posted.NoRoom → crowded self.new link ≡ true }
@@ -167,7 +167,7 @@ pub trait Port<const CAP: usize>: Drop {
             → Begins (got self.new link) (sent self.new link) }
 
         // Nothing: the port listened since its latest collect on the link, and has collected all that it heard of.
-        ensures heard { result ≡ Collected.Nothing → Rose (noted self.old link) (listens self.new link) }
+        ensures heard { result ≡ Collected.Nothing → RoseOrFull (noted self.old link) (listens self.new link) }
         ensures none_known { result ≡ Collected.Nothing → length (got self.old link) ≡ known self.new link }
         ensures idle { result ≡ Collected.Nothing → idle self.new link ≡ true }
         ensures not_got { result ≡ Collected.Nothing → got self.new ≡ got self.old }

@@ -1,5 +1,5 @@
 //! Turns a rank over a port that takes no memory.
-ghost use Rattle.std.specs.Prelude.{◌≡◌, ℕ, ◌+◌, ◌^◌, ◌<◌, ◌≤◌, Bool, false, OnOk};
+ghost use Rattle.std.specs.Prelude.{◌≡◌, ℕ, ◌+◌, ◌^◌, ◌<◌, ◌≤◌, false, OnOk};
 ghost use Rattle.rank_node.specs.Movers.{Manner, epoch_in};
 ghost use Rattle.rank_group.specs.Ranks.{IsRank, progress};
 

@@ -1,5 +1,5 @@
 //! One rank of a run.
-ghost use Rattle.std.specs.Prelude.{◌≡◌, ◌⊎◌, ℕ, ◌+◌, ◌-◌, ◌^◌, ◌<◌, ◌≤◌, List, [], length, IfOk, true, false, IsOk, IsErr, OnOk, Result, Ok};
+ghost use Rattle.std.specs.Prelude.{◌≡◌, ◌⊎◌, ℕ, ◌+◌, ◌-◌, ◌^◌, ◌<◌, ◌≤◌, [], length, IfOk, true, false, IsOk, IsErr, OnOk, Result, Ok};
 ghost use Rattle.route_tensor.specs.Grid.{ranks};
 ghost use Rattle.route_tensor.specs.Link.{links};
 ghost use Rattle.route_tensor.specs.Ends.{sender_at, reader_at};

@@ -1,7 +1,7 @@
 //! The answer of a run: the cell of each key, as its owner has it.
 
-ghost use Rattle.std.specs.Prelude.{◌≡◌, ◌<◌, ◌≤◌, ◌%◌, map, length, slice_get, IfOk};
-ghost use Rattle.std.specs.List.{All, range_with_len};
+ghost use Rattle.std.specs.Prelude.{◌≡◌, ◌<◌, ◌≤◌, ◌%◌, length, IfOk};
+ghost use Rattle.std.specs.List.{All};
 ghost use Rattle.reductions.specs.Answers.{cell_of, owned};
 
 use crate::reduced::Reduced;

@@ -1,6 +1,6 @@
 //! Numbers by key, each reduced by what comes for it.
 
-ghost use Rattle.std.specs.Prelude.{◌≡◌, ◌<◌, length, slice_index_or, IfOk};
+ghost use Rattle.std.specs.Prelude.{◌≡◌, ◌<◌, length, IfOk};
 ghost use Rattle.reductions.specs.Reductions.{combined, begun, reduced, has_changed, vote_of};
 
 use bale_types::NoMemory;

@@ -1,7 +1,7 @@
 //! What one rank knows of its ways, for the loops that handle every item: made once, so that sending,
 //! passing on and receiving an entry is a look-up and no division.
 
-ghost use Rattle.std.specs.Prelude.{◌≡◌, ℕ, ◌+◌, ◌-◌, ◌<◌, ◌≤◌, List, length, sum, slice_index_or, IfOk};
+ghost use Rattle.std.specs.Prelude.{◌≡◌, ℕ, ◌+◌, ◌-◌, ◌<◌, ◌≤◌, length, sum, slice_index_or, IfOk};
 ghost use Rattle.list_laws.specs.Lists.{EachAt};
 ghost use Rattle.route_tensor.specs.Grid.{ranks, dim, coord, place, IsGrid};
 ghost use Rattle.route_tensor.specs.Link.{links, links_before};

@@ -48,7 +48,7 @@ pub(crate) struct Side<const CAP: usize, const HOPS: usize> {
 }
 
 impl<const CAP: usize, const HOPS: usize> Side<CAP, HOPS> {
-    ghost use Rattle.std.specs.Prelude.{◌≢◌, ◌<◌, ◌≤◌, [], length, IfOk, OnOk};
+    ghost use Rattle.std.specs.Prelude.{◌≢◌, ◌<◌, ◌≤◌, [], length, IfOk};
     ghost use Rattle.convey.specs.Buffers.{buffers_of};
     ghost use Rattle.convey.specs.Law.{IsSound};
     ghost use Rattle.convey.specs.Conveyors.{AgreesWith, KeepsAgreement};

@@ -1,5 +1,5 @@
 //! The slot bank and the plain bank by hand, by the same rows.
-ghost use Rattle.std.specs.Prelude.{◌≡◌, ◌+◌, ◌<◌, ◌≤◌, false, Some, if◌then◌else◌, IfOk, OnOk, length};
+ghost use Rattle.std.specs.Prelude.{◌≡◌, ◌+◌, ◌<◌, ◌≤◌, false, Some, if◌then◌else◌, OnOk, length};
 ghost use Rattle.item_buffer.specs.Contents.{blank};
 ghost use Rattle.route_tensor.specs.Grid.{IsGrid};
 ghost use Rattle.route_tensor.specs.Link.{links};

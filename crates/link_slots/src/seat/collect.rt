@@ -2,7 +2,7 @@
 ghost use Rattle.std.specs.Prelude.{◌≡◌, ◌≢◌, ℕ, suc, ◌+◌, ◌*◌, ◌^◌, ◌<◌, ◌≤◌, false, take, length};
 ghost use mathlib.Core.Option.{some};
 ghost use lib.ListN.{get_elem?};
-ghost use Rattle.bale_types.specs.Stream.{Rose};
+ghost use Rattle.bale_types.specs.Stream.{RoseOrFull};
 ghost use Rattle.port_bank.specs.Flow.{Begins};
 ghost use Rattle.route_tensor.specs.Link.{links};
 ghost use Rattle.route_tensor.specs.Ends.{hop_at, sender_at, reader_at};
@@ -54,7 +54,7 @@ fn hear_if_due<const CAP: usize>(
         ≡ (in_of (own_logs place.old.me.0) link).look_ins }
     ensures more { (in_of (own_logs place.old.me.0) link).hears ≤ (in_of (own_logs place.new.me.0) link).hears }
     ensures due { (in_of (own_logs place.new.me.0) link).marked ≡ false
-        → Rose end.now.noted (counted (listens (in_of (own_logs place.new.me.0) link))) }
+        → RoseOrFull end.now.noted (counted (listens (in_of (own_logs place.new.me.0) link))) }
     ensures heard { (m : ℕ) → m < links top.now.key.dims → reader_at top.now.key.dims m ≡ place.old.me.0.pick
         → hop_at top.now.key.dims m ≡ hop_at top.now.key.dims link
         → HeardWhere (is_due end.now.noted (in_of (own_logs place.old.me.0) link)) (in_of (own_logs place.old.me.0) m)
@@ -148,7 +148,7 @@ fn find_parcel<const CAP: usize>(
     ensures more { listens (in_of (own_logs place.old.me.0) link) ≤ listens (in_of (own_logs place.new.me.0) link) }
     ensures unmarked { end.new.waiting ≡ 0 → (in_of (own_logs place.new.me.0) link).marked ≡ false }
     ensures listened { end.new.waiting ≡ 0
-        → Rose end.old.noted (counted (listens (in_of (own_logs place.new.me.0) link))) }
+        → RoseOrFull end.old.noted (counted (listens (in_of (own_logs place.new.me.0) link))) }
     // A parcel that is at hand costs no step.
     ensures at_hand { end.old.waiting ≢ 0 → place.new.me.0 ≡ place.old.me.0 }
     // Else the doorbell is heard where a hear is due, and the link is looked in where it is then marked.
@@ -212,7 +212,7 @@ pub(crate) fn collect_on<const CAP: usize>(
         ≡ (in_of (own_logs place.old.me.0) link).taken }
     ensures unmarked { result ≡ Collected.Nothing → (in_of (own_logs place.new.me.0) link).marked ≡ false }
     ensures listened { result ≡ Collected.Nothing
-        → Rose end.old.noted (counted (listens (in_of (own_logs place.new.me.0) link))) }
+        → RoseOrFull end.old.noted (counted (listens (in_of (own_logs place.new.me.0) link))) }
     ensures kept { result ≡ Collected.Nothing → parcel.new ≡ parcel.old }
     // A parcel that is at hand is taken without a step of looking.
     ensures at_hand { end.old.waiting ≢ 0 → result ≡ Collected.Got }

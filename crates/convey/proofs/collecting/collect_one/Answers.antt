@@ -7,7 +7,7 @@ use Rattle.std.proofs.lemmas.List.{append-nil}
 use Rattle.item_buffer.specs.Contents.{shipped}
 use Rattle.port_bank.specs.Logs.{Logs}
 use Rattle.port_bank.proofs.Kept.{added-here}
-use Rattle.bale_types.specs.Stream.{Rose}
+use Rattle.bale_types.specs.Stream.{RoseOrFull}
 use Rattle.port_bank.proofs.Channels.{changed-here, changed-other}
 use Rattle.hop_core.specs.Link.{is_wanted}
 use Rattle.hop_core.specs.State.{in_at}
@@ -104,7 +104,7 @@ returns-in-Nothing-clause-asked g c =
     record {
       left = λ no. absurd (no wants);
       unasked = λ no. absurd (no wants);
-      rose = λ yes same. subst (Rose (g.P.Port.noted c.args.port.now link)) (sym noted) (e.heard refl);
+      rose = λ yes same. subst (RoseOrFull (g.P.Port.noted c.args.port.now link)) (sym noted) (e.heard refl);
       idle = λ yes same. e.idle refl;
       once = omega (arith, ap (λ logs. length (logs link)) (e.not_got refl));
     }

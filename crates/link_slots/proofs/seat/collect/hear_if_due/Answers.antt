@@ -1,7 +1,7 @@
 use Rattle.std.proofs.Common.{arith, ◌≡◌, ◌<◌, ℕ, suc, refl, sym, ap, subst, ◌∙◌, length, true, false, eqb, eq-eqb, inl}
 use Rattle.std.specs.Int.{bit_at}
 use Rattle.std.specs.Int.Bits.{bit_or}
-use Rattle.bale_types.specs.Stream.{Rose}
+use Rattle.bale_types.specs.Stream.{RoseOrFull}
 use Rattle.item_buffer.specs.Contents.{Contents}
 use Rattle.route_tensor.specs.Link.{links}
 use Rattle.route_tensor.specs.Ends.{hop_at, reader_at}
@@ -70,7 +70,7 @@ returns-then-saturating_add-end-clause-due g c _ =
     let hs : c.args.ear.now.hears ≡ counted i.hears = c.requires.ear.heard c.args.link c.requires.link.0 c.requires.link.1 refl in
     let ks : c.args.end.now.look_ins ≡ counted i.look_ins = c.requires.end.look_ins_is in
     let low = c.requires.end.noted_before in
-    subst (λ (z : ℕ). Rose c.args.end.now.noted (counted z)) e (rises c.args.end.now.noted (listens i) low (let t = c.if-saturating_add-end.true in let r = c.saturating_add.ensures in omega arith))
+    subst (λ (z : ℕ). RoseOrFull c.args.end.now.noted (counted z)) e (rises c.args.end.now.noted (listens i) low (let t = c.if-saturating_add-end.true in let r = c.saturating_add.ensures in omega arith))
 
 pub returns-then-saturating_add-end-clause-heard : goal.returns-then-saturating_add-end-clause-heard
 returns-then-saturating_add-end-clause-heard g c m inside mine hop =

@@ -4,33 +4,16 @@ ghost use Rattle.std.specs.Prelude.{◌≡◌, ◌<◌, ◌≤◌, length};
 ghost use Rattle.case_table.specs.Capacities.{IsCapacity};
 
 use crate::asking_tests::{Told, adders_of, have_heard};
+use crate::gates::TestGate;
 use bale_types::NoMemory;
 use biconvey::{bi_threads, thread_with};
-use rank_group::{Finished, Gate, OpenGate};
+use rank_group::{Finished, Gate};
 use route_tensor::Grid;
 use std::alloc::Global;
 use std::sync::Wait;
-use std::sync::atomic::{AtomicBool, Ordering};
 use std::test::Fail;
 use std::thread::Threads;
 use std::time::Clock;
-
-/// Notes the turn 0 of each of two ranks.
-#[derive(Drop)]
-struct Firsts {
-    of_0: AtomicBool,
-    of_1: AtomicBool,
-}
-
-impl Gate for Firsts {
-    fn turn(&self, rank: u32, n: u64) {
-        match (rank, n) {
-            (0, 0) => self.of_0.store(true, Ordering::SeqCst),
-            (1, 0) => self.of_1.store(true, Ordering::SeqCst),
-            _ => {}
-        }
-    }
-}
 
 /// The first `asking` ranks ask, each on a thread.
 fn ask_side_by_side<R: Threads + Wait + Clock + Sync, G: Gate + Sync>(
@@ -67,9 +50,9 @@ fn on_buffers<R: Threads + Wait + Clock + Sync>(
     dims: &[u32],
 ) -> Result<[Option<Told>; 3], NoMemory> {
     Ok([
-        ask_side_by_side(rt, alloc, dims, 1, 64, &OpenGate)?,
-        ask_side_by_side(rt, alloc, dims, 2, 64, &OpenGate)?,
-        ask_side_by_side(rt, alloc, dims, 64, 64, &OpenGate)?,
+        ask_side_by_side(rt, alloc, dims, 1, 64, &TestGate::Open)?,
+        ask_side_by_side(rt, alloc, dims, 2, 64, &TestGate::Open)?,
+        ask_side_by_side(rt, alloc, dims, 64, 64, &TestGate::Open)?,
     ])
 }
 
@@ -86,21 +69,27 @@ fn ask_here<const CAP: usize, const HOPS: usize, R: Threads + Wait + Clock + Syn
     requires hops { length grid.now ≡ HOPS }
 {
     let askers = adders_of(alloc, grid.ranks(), grid.ranks())?;
-    let Finished { progs, rounds } = thread_with::<CAP, HOPS, R, _, OpenGate>(
-        rt, alloc, grid, 2, true, askers, &OpenGate, crews, threads,
+    let Finished { progs, rounds } = thread_with::<CAP, HOPS, R, _, TestGate<'_>>(
+        rt,
+        alloc,
+        grid,
+        2,
+        true,
+        askers,
+        &TestGate::Open,
+        crews,
+        threads,
     )?;
     Ok((have_heard(&progs), rounds.len()))
 }
 
+/// The gate is told of each rank's turns in their order.
 #[test]
 fn askers_by_hand_on_threads(rt: HostRuntime) -> Result<(), Fail> {
-    let gate = Firsts {
-        of_0: AtomicBool::new(false),
-        of_1: AtomicBool::new(false),
-    };
+    let gate = TestGate::counts(rt.alloc(), 2)?;
     let told = by_hand(&rt, rt.alloc(), &gate)?;
     assert_eq!(rt; told, Some((1, 2)));
-    assert!(rt; gate.of_0.load(Ordering::SeqCst) && gate.of_1.load(Ordering::SeqCst));
+    assert!(rt; gate.has_counted(1));
     Ok(())
 }
 

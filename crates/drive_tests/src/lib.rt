@@ -11,6 +11,8 @@ mod asking_thread_tests;
 #[cfg(test)]
 mod gate_tests;
 #[cfg(test)]
+mod gates;
+#[cfg(test)]
 mod home_tests;
 #[cfg(test)]
 mod order_tests;

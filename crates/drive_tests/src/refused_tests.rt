@@ -1,44 +1,16 @@
 //! A rank that refuses each absorb: both drives answer that memory was wanting, and every rank goes on turning.
 ghost use Rattle.std.specs.Prelude.{◌≡◌, ◌<◌};
 
+use crate::gates::TestGate;
 use crate::serial_tests::order_of;
 use crate::watched::{Deed, Hands, Watch, Watched, drive_on, progs_of};
 use bale_types::NoMemory;
-use rank_group::{Gate, Steps, Via, drive_serial};
+use rank_group::{Steps, Via, drive_serial};
 use route_tensor::Grid;
 use std::alloc::Global;
 use std::marker::Brand;
-use std::sync::atomic::{AtomicBool, Ordering};
 use std::sync::ledger::{Blank, Ledger};
 use std::test::Fail;
-
-/// The turns 0 and 1 that were announced.
-#[derive(Drop)]
-struct Seen {
-    firsts: Vec<AtomicBool>,
-    seconds: Vec<AtomicBool>,
-}
-
-impl Gate for Seen {
-    fn turn(&self, rank: u32, n: u64) {
-        let turns = match n {
-            0 => &self.firsts,
-            1 => &self.seconds,
-            _ => return,
-        };
-        if let Some(turn) = turns.get(rank as usize) {
-            turn.store(true, Ordering::SeqCst);
-        }
-    }
-}
-
-fn unseen(alloc: Global, count: usize) -> Result<Vec<AtomicBool>, NoMemory> {
-    let mut turns = Vec::new(alloc);
-    for _ in 0..count {
-        turns.push(AtomicBool::new(false))?;
-    }
-    Ok(turns)
-}
 
 #[test]
 fn refused_absorbs(rt: HostRuntime) -> Result<(), Fail> {
@@ -52,10 +24,7 @@ fn refused_absorbs(rt: HostRuntime) -> Result<(), Fail> {
         (Hands::Threads, Via::Exstack),
     ] {
         let watch = Watch::new();
-        let gate = Seen {
-            firsts: unseen(rt.alloc(), 4)?,
-            seconds: unseen(rt.alloc(), 4)?,
-        };
+        let gate = TestGate::counts(rt.alloc(), 4)?;
         let told = drive_on(
             &rt,
             rt.alloc(),
@@ -68,9 +37,7 @@ fn refused_absorbs(rt: HostRuntime) -> Result<(), Fail> {
             via,
         );
         assert!(rt; told.is_err());
-        for turns in [&gate.firsts, &gate.seconds] {
-            assert!(rt; turns.iter().all(|turn| turn.load(Ordering::SeqCst)));
-        }
+        assert!(rt; gate.has_counted(2));
     }
     Ok(())
 }

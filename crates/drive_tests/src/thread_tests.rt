@@ -1,7 +1,8 @@
 //! Runs on threads in a row, by both transports, and ranks that have no thread.
+use crate::gates::TestGate;
 use crate::watched::{Deed, Hands, Watch, drive_on, run_watched};
 use bale_types::NoMemory;
-use rank_group::{OpenGate, Via};
+use rank_group::Via;
 use route_tensor::Grid;
 use std::alloc::Global;
 use std::sync::Wait;
@@ -25,7 +26,7 @@ fn rounds_of_two_runs<R: Threads + Wait + Clock + Sync>(
         &[],
         &watch,
         Deed::Counts,
-        &OpenGate,
+        &TestGate::Open,
         Hands::Threads,
         Via::Convey,
     )?;
@@ -36,7 +37,7 @@ fn rounds_of_two_runs<R: Threads + Wait + Clock + Sync>(
         &[],
         &watch,
         Deed::Counts,
-        &OpenGate,
+        &TestGate::Open,
         Hands::Threads,
         Via::Exstack,
     )?;
@@ -76,7 +77,7 @@ fn the_caller_drives_what_has_no_thread(rt: HostRuntime) -> Result<(), Fail> {
             &lists,
             &watch,
             Deed::Counts,
-            &OpenGate,
+            &TestGate::Open,
             hands,
             via,
         )?;

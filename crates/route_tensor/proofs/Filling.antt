@@ -94,7 +94,7 @@ numbered_more dims r i numbers g a q n =
 
 -- what stands past the end of a table of neighbours
 abbrev pub no_neighbour : Neighbour
-no_neighbour = record { rank = 0; hop = 0; link_to = 0; link_from = 0; digit = 0; next = 0; high = 0 }
+no_neighbour = record { rank = 0; hop = 0; link_to = 0; link_from = 0; digit = 0; next = 0; high = 0; filler = 0 }
 
 -- the same with what the table of the neighbours says
 pub links_within : (dims : List ℕ) (r i : ℕ) (n : Neighbour) → IsGrid dims → r < ranks dims → i < sum dims → n ≡ about dims r i → (n.link_to < links dims) × (n.link_from < links dims)

@@ -30,6 +30,7 @@ about dims r i = record {
   digit = coord dims (neighbour dims r i) (hop_to dims i);
   next = links_before dims (hop_to dims i + 1);
   high = place dims (neighbour dims r i) 0 (hop_to dims i - 1);
+  filler = 0;
 }
 
 -- Where an entry goes that came from a neighbour: to the neighbour of the next hop with the coordinate that the tag

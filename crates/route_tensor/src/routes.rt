@@ -40,6 +40,8 @@ pub struct Neighbour {
     pub next: u32,
     /// Its rank, without the coordinates below that hop.
     pub high: u32,
+    /// Fills it up to 32 bytes: its place in a list is a shift of its number.
+    pub filler: u32,
 }
 
 impl Neighbour {
@@ -317,6 +319,7 @@ impl Grid {
             digit: digit as u8,
             next: self.sum(hop),
             high: self.place(other, 0, hop - 1),
+            filler: 0,
         }
     }
 }

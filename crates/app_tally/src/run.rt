@@ -97,7 +97,7 @@ fn all_came(alloc: Global, p: &Progs<TallyMailer>) -> Result<Vec<Numbered<'_>>, 
     ensures letters { IfOk result (λ all. All IsLetter (map (λ l. l.1.now) all.items)) }
     ensures numbers { IfOk result (λ all. All (λ l. l.0 ≡ front_number 16 l.1.now) all.items) }
 {
-    let mut all = Vec::new(alloc);
+    let mut all = Vec::with_capacity(alloc, how_many_came(p))?;
     for rank in 0..p.len() {
         let Some(program) = p.get(rank) else {
             unreachable!()
@@ -105,6 +105,18 @@ fn all_came(alloc: Global, p: &Progs<TallyMailer>) -> Result<Vec<Numbered<'_>>, 
         gather(&mut all, program.inner().came())?;
     }
     Ok(all)
+}
+
+/// How many lines came to all ranks, for which room is made at once.
+fn how_many_came(p: &Progs<TallyMailer>) -> usize {
+    let mut count = 0usize;
+    for rank in 0..p.len() {
+        let Some(program) = p.get(rank) else {
+            unreachable!()
+        };
+        count = count.saturating_add(program.inner().came().len());
+    }
+    count
 }
 
 /// Appends the lines that came to one rank.

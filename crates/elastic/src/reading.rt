@@ -52,6 +52,11 @@ fn take_in(begun: &mut Vec<Item>, letter: &mut Vec<u8>, item: Item) -> Result<bo
         (begun.old.items ++ item ∷ [])) }
     ensures letter { IfOk result (λ whole. whole ≡ true → letter.new.items ≡ letter_of (begun.old.items ++ item ∷ [])) }
 {
+    // A short letter is whole with its first item: then nothing is begun.
+    if begun.is_empty() && is_whole(&[item]) {
+        read_first(letter, item)?;
+        return Ok(true);
+    }
     begun.push(item)?;
     if !is_whole(begun) {
         return Ok(false);
@@ -76,6 +81,14 @@ fn forget(begun: &mut Vec<Vec<Item>>, from: usize)
     ensures { map (λ l. l.items) begun.new.items ≡ slice_set (map (λ l. l.items) begun.old.items) from [] }
 {
     begun[from].clear();
+}
+
+/// Puts the letter that one item is in the place of what `letter` held. After `NoMemory` it may hold anything.
+fn read_first(letter: &mut Vec<u8>, item: Item) -> Result<(), NoMemory>
+    ensures { OnOk result (letter.new.items ≡ letter_of (item ∷ [])) }
+{
+    letter.clear();
+    append_letter(letter, item, &[])
 }
 
 /// Puts the letter that items are in the place of what `letter` held. After `NoMemory` it may hold anything.

@@ -83,6 +83,9 @@ fn short_word(bytes: &[u8]) -> u64
     requires { length bytes.now < 8 }
     ensures { result ≡ word_of bytes.now }
 {
+    if bytes.is_empty() {
+        return 0;
+    }
     let mut word = [0u8; 8];
     word[..bytes.len()].copy_from_slice(bytes);
     u64::from_le_bytes(word)

@@ -80,7 +80,7 @@ impl Table {
         requires inside { All (λ t. t.i / ranks < places) entries.now }
         ensures { IfOk result (λ t. t ≡ table_of ranks places low high entries.now) }
     {
-        let mut edges = Vec::with_capacity(alloc, count_of(low, high, entries))?;
+        let mut edges = Vec::with_capacity(alloc, entries.len())?;
         let mut spans = empty_spans(alloc, places as usize)?;
         for t in entries {
             keep(&mut edges, &mut spans, ranks, low, high, *t)?;
@@ -112,18 +112,6 @@ fn empty_spans(alloc: Global, places: usize) -> Result<Vec<Span>, NoMemory>
 {
     let nothing = Span { from: 0, to: 0 };
     Ok(vec![in alloc; nothing; places]?)
-}
-
-/// How many edges with weights from `low` to `high` there are.
-fn count_of(low: u64, high: u64, entries: &[Triple]) -> usize {
-    let mut count = 0usize;
-    for t in entries {
-        let weight = bits_of(t.v);
-        if low <= weight && weight <= high {
-            count = count.saturating_add(1);
-        }
-    }
-    count
 }
 
 /// Puts the edge of an entry to its vertex, where its weight is from `low` to `high`.

@@ -1,17 +1,12 @@
 -- When a hear is due, and what a collect's hear and look in make of a link.
-use Rattle.std.proofs.Common.{◌≡◌, ◌≢◌, ℕ, zero, suc, ◌+◌, ◌-◌, ◌<◌, ◌≤◌, Bool, true, false, not, ◌&&◌, leb, List, length, sym, refl, ap, ◌∙◌, subst, arith}
+use Rattle.std.proofs.Common.{◌≡◌, ◌≢◌, ℕ, zero, suc, ◌+◌, ◌-◌, ◌<◌, ◌≤◌, Bool, true, false, not, ◌&&◌, leb, List, sym, refl, ap, ◌∙◌, subst, arith}
 use Rattle.std.proofs.Common.{le-leb, leb-true}
-use Rattle.std.proofs.lemmas.List.{length-map, length-take}
-use mathlib.Core.Logic.{dite}
-use native.Mathlib.Decide.{ℕ_discrete, dec_le}
-use Rattle.item_buffer.specs.Contents.{Contents, shipped}
-use Rattle.link_slots.specs.Logs.{InLog, Logs, in_of, with_in, got, listens, taken_more}
-use Rattle.link_slots.specs.Seen.{Manning, collected_from, known, noted_at}
-use Rattle.link_slots.proofs.Moves.{in_here, in_there}
+use native.Mathlib.Decide.{ℕ_discrete}
+use Rattle.link_slots.specs.Logs.{InLog, listens, taken_more}
 use Rattle.link_slots.specs.Link.{one_where}
 use Rattle.link_slots.specs.Plays.{heard_by, marked_by}
 use Rattle.list_laws.specs.Counts.{counted}
-use Rattle.link_slots.specs.Doorbell.{is_due, HeardWhere, looked_where_marked, LookedFor, IsEven}
+use Rattle.link_slots.specs.Doorbell.{is_due, HeardWhere, looked_where_marked, LookedFor}
 
 leb-above : (a b : ℕ) → b < a → leb a b ≡ false
 leb-above a b h = by_case (leb a b) refl
@@ -105,38 +100,3 @@ module _ {T : Type 0} where
       let one : one_where i.marked ≡ 1 = ap one_where e in
       let more : i.look_ins + one_where i.marked ≡ suc i.look_ins = omega arith in
       λ k. record { seen = seen; taken = i.taken; marked = false; hears = i.hears; heard = i.heard; look_ins = more k }
-
-  -- the finds of a link's bit and the looks into it, under what a collect does
-  pub even_looked : (noted : ℕ) (i j : InLog T) → LookedFor noted i j → IsEven i → IsEven j
-  even_looked noted i j l even =
-      let none : one_where j.marked ≡ 0 = ap one_where l.unmarked in
-      let a = l.look_ins in let b = l.heard in omega arith
-
-  pub even_taken : (i j : InLog T) → j ≡ taken_more i → IsEven i → IsEven j
-  even_taken i j e even = subst IsEven (sym e) (let g : i.heard ≡ i.look_ins + one_where i.marked = even in g)
-
-  pub even_heard : (d : Bool) (i j : InLog T) → i.marked ≡ false → HeardWhere d i j → IsEven i → IsEven j
-  even_heard true i j unmarked h even =
-      let none : one_where i.marked ≡ 0 = ap one_where unmarked in
-      let marked : one_where j.marked ≡ j.heard - i.heard = ap (λ (z : InLog T). one_where z.marked) h.0 ∙ marks_one (j.heard - i.heard) i.marked (let b = h.1 in omega arith) unmarked in
-      let look_ins : j.look_ins ≡ i.look_ins = ap (λ (z : InLog T). z.look_ins) h.0 in
-      let heard : j.heard ≡ i.heard + (j.heard - i.heard) = ap (λ (z : InLog T). z.heard) h.0 in
-      omega arith
-  even_heard false i j unmarked h even = subst IsEven (sym h) even
-
--- the same of a seat, of link m under a collect of link l
-pub even_kept : (s s' : Manning) (l m : ℕ) → l < length s.lists.ins
-    → (length (collected_from s l) < known s l → s'.lists ≡ with_in s.lists l (taken_more (in_of s.lists l)))
-    → (length (collected_from s l) ≡ known s l → LookedFor (noted_at s l) (in_of s.lists l) (in_of s'.lists l))
-    → (length (collected_from s l) ≡ known s l → m ≢ l → HeardWhere (is_due (noted_at s l) (in_of s.lists l)) (in_of s.lists m) (in_of s'.lists m))
-    → (m ≢ l → (in_of s.lists m).marked ≡ false) → IsEven (in_of s.lists m) → IsEven (in_of s'.lists m)
-even_kept s s' l m inside none looked beside unmarked even =
-    let i : InLog Contents = in_of s.lists l in
-    let short : length (collected_from s l) ≤ known s l = (let a = length-map (got i) shipped in let b = length-take i.taken i.seen in omega arith) in
-    dite (dec_le (suc (length (collected_from s l))) (known s l))
-    (λ more. let lists = none more in dite (ℕ_discrete m l)
-    (λ e. even_taken (in_of s.lists m) (in_of s'.lists m) (ap (λ (z : Logs Contents). in_of z m) lists ∙ ap (λ (z : ℕ). in_of (with_in s.lists l (taken_more i)) z) e ∙ in_here s.lists l (taken_more i) inside ∙ ap (λ (z : ℕ). taken_more (in_of s.lists z)) (sym e)) even)
-    (λ ne. subst IsEven (sym (ap (λ (z : Logs Contents). in_of z m) lists ∙ in_there s.lists l (taken_more i) m ne)) even))
-    (λ no_more. let all : length (collected_from s l) ≡ known s l = omega arith in dite (ℕ_discrete m l)
-    (λ e. subst (λ (z : ℕ). IsEven (in_of s'.lists z)) (sym e) (even_looked (noted_at s l) i (in_of s'.lists l) (looked all) (subst (λ (z : ℕ). IsEven (in_of s.lists z)) e even)))
-    (λ ne. even_heard (is_due (noted_at s l) i) (in_of s.lists m) (in_of s'.lists m) (unmarked ne) (beside all ne) even))

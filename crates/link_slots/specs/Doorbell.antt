@@ -29,7 +29,3 @@ module _ {T : Type 0} where
     pub one_bit : j.heard ≤ i.heard + one_where (is_due noted i)
     pub look_ins : j.look_ins ≡ i.look_ins + one_where i.marked + (j.heard - i.heard)
     pub unmarked : j.marked ≡ false
-
-  -- Each find of the link's bit was answered by a look in, but the latest where the link is marked.
-  abbrev pub IsEven : InLog T → Type 0
-  IsEven i = i.heard ≡ i.look_ins + one_where i.marked

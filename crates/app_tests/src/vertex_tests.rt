@@ -1,7 +1,7 @@
 //! Vertices, tables and lines worked by hand.
 
 use bale_types::{MemSink, Out, Triple};
-use least_walks::{Table, Vertices, offers, write_vertex};
+use least_walks::{Table, Vertices, put_offers, write_vertex};
 use std::test::Fail;
 
 #[test]

@@ -1,15 +1,15 @@
-use Rattle.std.proofs.Common.{rules, refl}
+use Rattle.std.proofs.Common.{refl}
 use Rattle.case_table.specs.Capacities.{IsCapacity}
 use Rattle.drive_tests.proofs.asking_thread_tests.on_buffers.Goals as goal
 
-pub ask_side_by_side-requires : goal.ask_side_by_side-requires
+pub ask_side_by_side-requires-after_bounds : goal.ask_side_by_side-requires-after_bounds
 unfolding IsCapacity
-ask_side_by_side-requires g c = (search rules, (search rules, refl))
+ask_side_by_side-requires-after_bounds g c κs within = refl
 
-pub ask_side_by_side-requires-2 : goal.ask_side_by_side-requires-2
+pub ask_side_by_side-requires-2-after_bounds : goal.ask_side_by_side-requires-2-after_bounds
 unfolding IsCapacity
-ask_side_by_side-requires-2 g c = (search rules, (search rules, refl))
+ask_side_by_side-requires-2-after_bounds g c κs within = refl
 
-pub ask_side_by_side-requires-3 : goal.ask_side_by_side-requires-3
+pub ask_side_by_side-requires-3-after_bounds : goal.ask_side_by_side-requires-3-after_bounds
 unfolding IsCapacity
-ask_side_by_side-requires-3 g c = (search rules, (search rules, refl))
+ask_side_by_side-requires-3-after_bounds g c κs within = refl

@@ -28,16 +28,18 @@ fn a_source_that_fails_at_each_call(rt: HostRuntime) -> Result<(), Fail> {
     Ok(())
 }
 
+/// The call of the sink that fails, and the answer.
+const FAILING: [(u64, &str); 4] = [
+    (1, "4 bale: write fault\n"),
+    (2, "4 1 1\n2bale: write fault\n"),
+    (3, "4 1 1\n2 0\n3 bale: write fault\n"),
+    (4, "0 1 1\n2 0\n3 3\n"),
+];
+
 #[test]
 fn a_sink_that_fails_at_each_call(rt: HostRuntime) -> Result<(), Fail> {
-    let calls = [
-        (1, "4 bale: write fault\n"),
-        (2, "4 1 1\n2bale: write fault\n"),
-        (3, "4 1 1\n2 0\n3 bale: write fault\n"),
-        (4, "0 1 1\n2 0\n3 3\n"),
-    ];
-    for (call, want) in calls {
-        let got = written_alone(rt.alloc(), "histo", ONE, 5, &[call])?;
+    for (call, want) in &FAILING {
+        let got = written_alone(rt.alloc(), "histo", ONE, 5, &[*call])?;
         is_wanted(&rt, "histo", got, want);
     }
     Ok(())

@@ -14,9 +14,9 @@ use std::time::Clock;
 
 #[test]
 fn every_case_gives_one_answer(rt: HostRuntime) -> Result<(), Fail> {
-    let buffers = [1, 2, 4, 8, 16, 32, 64, 128, 256, 512, 1024];
-    for grid in ["4", "2x2", "2x2x2"] {
-        for buffer in buffers {
+    let buffers = "1 2 4 8 16 32 64 128 256 512 1024";
+    for grid in "4 2x2 2x2x2".split_whitespace() {
+        for buffer in buffers.split_whitespace() {
             let words = format!(in rt.alloc(); "histo --grid {grid} --buffer {buffer}")?;
             wants(&rt, rt.alloc(), words.as_str(), ONE, "0 1 1\n2 0\n3 3\n")?;
         }
@@ -26,8 +26,8 @@ fn every_case_gives_one_answer(rt: HostRuntime) -> Result<(), Fail> {
 
 #[test]
 fn every_setting(rt: HostRuntime) -> Result<(), Fail> {
-    for slots in [1, 2, 4, 8] {
-        for steady in ["no", "yes"] {
+    for slots in "1 2 4 8".split_whitespace() {
+        for steady in "no yes".split_whitespace() {
             let words = format!(in rt.alloc();
                 "histo --grid 2x2x2 --buffer 1 --slots {slots} --steady {steady}"
             )?;
@@ -39,8 +39,8 @@ fn every_setting(rt: HostRuntime) -> Result<(), Fail> {
 
 #[test]
 fn every_setting_of_votes(rt: HostRuntime) -> Result<(), Fail> {
-    for slots in [1, 2, 4, 8] {
-        for steady in ["no", "yes"] {
+    for slots in "1 2 4 8".split_whitespace() {
+        for steady in "no yes".split_whitespace() {
             let words = format!(in rt.alloc(); "topo --slots={slots} --steady={steady}")?;
             wants(
                 &rt,
@@ -159,7 +159,7 @@ fn wants_on_grids<R: Threads + Wait + Clock + Sync + Abort>(
     text: &[u8],
     want: &str,
 ) -> Result<(), Fail> {
-    for grid in ["1", "2x2", "2x2x2", "64"] {
+    for grid in "1 2x2 2x2x2 64".split_whitespace() {
         let words = format!(in alloc; "{words} --grid {grid}")?;
         wants(rt, alloc, words.as_str(), text, want)?;
     }
@@ -210,10 +210,8 @@ fn exstacks_give_the_same_answers(rt: HostRuntime) -> Result<(), Fail> {
 #[test]
 fn ig_over_exstacks(rt: HostRuntime) -> Result<(), Fail> {
     let alloc = rt.alloc();
-    for words in [
-        "ig --via exstack --buffer 1",
-        "ig --via exstack --drive serial",
-    ] {
+    let both = "ig --via exstack --buffer 1\nig --via exstack --drive serial";
+    for words in both.lines() {
         wants(&rt, alloc, words, TWO, "0 1 3 -7\n2 1 4\n")?;
     }
     let want = "6 bale: unfit: exstack needs a grid of one number\n";
@@ -223,8 +221,8 @@ fn ig_over_exstacks(rt: HostRuntime) -> Result<(), Fail> {
 #[test]
 fn ig_over_biconvey(rt: HostRuntime) -> Result<(), Fail> {
     let alloc = rt.alloc();
-    for grid in ["4", "2x2", "2x2x2"] {
-        for buffer in [1, 2, 64] {
+    for grid in "4 2x2 2x2x2".split_whitespace() {
+        for buffer in "1 2 64".split_whitespace() {
             let words = format!(in alloc; "ig --via biconvey --grid {grid} --buffer {buffer}")?;
             wants(&rt, alloc, words.as_str(), TWO, "0 1 3 -7\n2 1 4\n")?;
         }
@@ -236,10 +234,10 @@ fn ig_over_biconvey(rt: HostRuntime) -> Result<(), Fail> {
 fn generated_ig_over_biconvey(rt: HostRuntime) -> Result<(), Fail> {
     let alloc = rt.alloc();
     let one = answer_alone(alloc, "ig --gen 200,2000,7", b"")?;
-    for words in [
-        "ig --gen 200,2000,7 --via biconvey",
-        "ig --gen 200,2000,7 --via biconvey --grid 2x2 --buffer 8",
-    ] {
+    let both = "\
+ig --gen 200,2000,7 --via biconvey\n\
+ig --gen 200,2000,7 --via biconvey --grid 2x2 --buffer 8";
+    for words in both.lines() {
         wants(&rt, alloc, words, b"", one.as_str())?;
     }
     Ok(())
@@ -250,12 +248,12 @@ fn generated_matrices_have_one_answer_everywhere(rt: HostRuntime) -> Result<(), 
     let alloc = rt.alloc();
     let one = answer_alone(alloc, "topo --gen 200,2000,7 --grid 4x4x4 --buffer 8", b"")?;
     assert!(rt; one.starts_with("0 lines 200 bytes "), "{one}");
-    for words in [
-        "topo --gen 200,2000,7 --grid 4 --buffer 8",
-        "topo --gen 200,2000,7 --grid 2x2 --buffer 8",
-        "topo --gen 200,2000,7 --grid 4 --buffer 8 --via exstack",
-        "topo --gen 200,2000,7 --grid 1 --drive serial",
-    ] {
+    let all = "\
+topo --gen 200,2000,7 --grid 4 --buffer 8\n\
+topo --gen 200,2000,7 --grid 2x2 --buffer 8\n\
+topo --gen 200,2000,7 --grid 4 --buffer 8 --via exstack\n\
+topo --gen 200,2000,7 --grid 1 --drive serial";
+    for words in all.lines() {
         wants_as_asked(&rt, alloc, words, b"", one.as_str())?;
     }
     Ok(())
@@ -265,14 +263,14 @@ fn generated_matrices_have_one_answer_everywhere(rt: HostRuntime) -> Result<(), 
 fn generated_walks_have_one_answer_everywhere(rt: HostRuntime) -> Result<(), Fail> {
     let alloc = rt.alloc();
     let walks = answer_alone(alloc, "sssp --gen 300,3000,5", b"")?;
-    for words in [
-        "sssp --gen 300,3000,5 --delta 1",
-        "sssp --gen 300,3000,5 --delta 500",
-        "sssp --gen 300,3000,5 --grid 1",
-        "sssp --gen 300,3000,5 --grid 64 --delta 500",
-        "sssp --gen 300,3000,5 --grid 2x2x2 --buffer 8",
-        "sssp --gen 300,3000,5 --grid 2x2x2 --buffer 8 --delta 500",
-    ] {
+    let all = "\
+sssp --gen 300,3000,5 --delta 1\n\
+sssp --gen 300,3000,5 --delta 500\n\
+sssp --gen 300,3000,5 --grid 1\n\
+sssp --gen 300,3000,5 --grid 64 --delta 500\n\
+sssp --gen 300,3000,5 --grid 2x2x2 --buffer 8\n\
+sssp --gen 300,3000,5 --grid 2x2x2 --buffer 8 --delta 500";
+    for words in all.lines() {
         wants_alone(&rt, alloc, words, b"", walks.as_str())?;
     }
     Ok(())

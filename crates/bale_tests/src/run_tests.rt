@@ -1,12 +1,10 @@
 //! Worked runs of each application, by both top calls.
 use crate::rig::{
-    INTEGER, ONE, PATTERN, answer_alone, answer_as_asked, run_alone, wants, wants_alone,
-    wants_as_asked, words,
+    ONE, PATTERN, answer_alone, answer_as_asked, run_alone, wants, wants_alone, wants_as_asked,
+    words,
 };
 use bale_types::{MemSink, MemSource};
 use std::alloc::Global;
-use std::process::Abort;
-use std::string::ToString;
 use std::sync::Wait;
 use std::test::Fail;
 use std::thread::Threads;
@@ -49,159 +47,6 @@ fn every_setting_of_votes(rt: HostRuntime) -> Result<(), Fail> {
                 TIES,
                 "0 1 1 1\n2 3 3\n3 2 2\n",
             )?;
-        }
-    }
-    Ok(())
-}
-
-/// Rows of the applications: words, the text with its banner as `P` or `I`, and the answer with a banner as `I`. A slash stands
-/// for LF.
-const RUNS: &str = "\
-histo --grid 1;P3 3 4/1 1/1 3/2 3/3 3/;0 1 1/2 0/3 3/
-histo --grid 64 --buffer 1;P3 3 4/1 1/1 3/2 3/3 3/;0 1 1/2 0/3 3/
-histo --grid 004 --buffer 1024;P3 3 4/1 1/1 3/2 3/3 3/;0 1 1/2 0/3 3/
-histo --slots 2 --grid=3x5 --steady no --via convey;P3 3 4/1 1/1 3/2 3/3 3/;0 1 1/2 0/3 3/
-histo;P2 2 0/;0 1 0/2 0/
-histo;P0 0 0/;0 
-ig --buffer 1;I2 3 2/1 3 -7/2 1 4/;0 1 3 -7/2 1 4/
-ig --grid 2x2;I2 3 2/1 3 -7/2 1 4/;0 1 3 -7/2 1 4/
-ig --grid 4x4;I2 3 2/1 3 -7/2 1 4/;0 1 3 -7/2 1 4/
-ig --via biconvey --buffer 1;I2 3 2/1 3 -7/2 1 4/;0 1 3 -7/2 1 4/
-ig --via biconvey --slots 1 --steady yes;I2 3 3/1 3 -7/2 1 4/2 3 9/;0 1 3 2/2 1 4/2 3 2/
-ig --via biconvey;P0 0 0/;0 
-ig --via biconvey;I2 3 1/1 3/;5 bale: line 3: bad entry line/
-transpose;I2 3 2/1 3 -7/2 1 4/;0 I3 2 2/1 2 4/3 1 -7/
-transpose --grid 2x2x2 --buffer 1;I2 3 2/1 3 -7/2 1 4/;0 I3 2 2/1 2 4/3 1 -7/
-transpose;I1 1 1/1 1 1000000000000/;0 I1 1 1/1 1 1000000000000/
-transpose;I1 1 1/1 1 -0000001000000000000/;0 I1 1 1/1 1 -1000000000000/
-transpose;I1 1 1/1 1 1000000000001/;5 bale: line 3: bad value/
-transpose;I1 1 1/1 1 1.0/;5 bale: line 3: bad value/
-permute --rperm 2,3,1 --cperm 3,1,2;I3 3 1/1 2 9/;0 I3 3 1/2 1 9/
-permute --rperm 2,3,1;I3 3 1/1 2 9/;0 I3 3 1/2 2 9/
-permute;I3 3 1/1 2 9/;0 I3 3 1/1 2 9/
-permute --rperm 2,2,1 --cperm 3,1,2;I3 3 1/1 2 9/;6 bale: unfit: row permutation/
-permute --rperm 0,1,2;I3 3 1/1 2 9/;6 bale: unfit: row permutation/
-permute --rperm 1,2;I3 3 1/1 2 9/;6 bale: unfit: row permutation/
-permute --cperm 2;I1 1 1/1 1 4/;6 bale: unfit: column permutation/
-permute --seed 42;I3 3 2/1 2 5/3 3 6/;0 I3 3 2/1 3 6/3 2 5/
-permute --seed 42 --grid 2x2 --buffer 1;I3 3 2/1 2 5/3 3 6/;0 I3 3 2/1 3 6/3 2 5/
-topo;P3 3 4/1 1/1 2/2 2/3 3/;0 1 1 1/2 3 3/3 2 2/
-topo --grid 2x2x2 --buffer 1;P3 3 4/1 1/1 2/2 2/3 3/;0 1 1 1/2 3 3/3 2 2/
-topo;P2 2 4/1 1/1 2/2 1/2 2/;1 not triangular/
-topo;P2 2 3/1 1/1 2/2 1/;0 1 1 2/2 2 1/
-topo;P2 2 2/1 1/2 1/;1 not triangular/
-topo;P0 0 0/;0 
-topo;P1 2 0/;6 bale: unfit: matrix is not square/
-sssp --source 1;I4 4 4/1 2 5/1 3 2/3 2 1/2 4 7/;0 1 0/2 3/3 2/4 10/
-sssp --source 1 --grid 2x2x2 --buffer 1;I4 4 4/1 2 5/1 3 2/3 2 1/2 4 7/;0 1 0/2 3/3 2/4 10/
-sssp --source 4;I4 4 4/1 2 5/1 3 2/3 2 1/2 4 7/;0 1 -/2 -/3 -/4 0/
-sssp --source 5;I4 4 4/1 2 5/1 3 2/3 2 1/2 4 7/;6 bale: unfit: source out of range/
-sssp --source 0;I4 4 4/1 2 5/1 3 2/3 2 1/2 4 7/;6 bale: unfit: source out of range/
-sssp --delta 3;I4 4 4/1 2 5/1 3 2/3 2 1/2 4 7/;0 1 0/2 3/3 2/4 10/
-sssp --delta 3 --grid 2x2x2 --buffer 1;I4 4 4/1 2 5/1 3 2/3 2 1/2 4 7/;0 1 0/2 3/3 2/4 10/
-sssp --delta 3 --source 4;I4 4 4/1 2 5/1 3 2/3 2 1/2 4 7/;0 1 -/2 -/3 -/4 0/
-sssp --delta 3 --source 5;I4 4 4/1 2 5/1 3 2/3 2 1/2 4 7/;6 bale: unfit: source out of range/
-sssp;I2 2 1/1 2 -1/;6 bale: unfit: negative weight/
-sssp;P0 0 0/;6 bale: unfit: source out of range/
-sssp;P1 2 0/;6 bale: unfit: matrix is not square/
-histo --gen 2,3,42;;0 lines 2 bytes 8 sum 282/
-sssp --gen 2,3,42;;0 lines 2 bytes 10 sum 395/
-transpose --gen 1,1,42;;0 lines 3 bytes 63 sum 5218/
-sssp --gen 2,3,42 --source 3;;6 bale: unfit: source out of range/
-histo --gen 2,4,42;;2 bale: usage/
-histo --grid 65;;2 bale: usage/
-histo --slots 3;;2 bale: usage/
-histo --drive serial more;;2 bale: usage/
-sssp --delta 0;;2 bale: usage/
-histo --delta 3;;2 bale: usage/
-histo --via biconvey;;2 bale: usage/
-tally --grid 2 --buffer 1;b/a/b//a b/;0 1 /1 a/1 a b/2 b/
-tally --grid=2x2x2 --slots 1 --steady yes;b/a/b//a b/;0 1 /1 a/1 a b/2 b/
-tally;b/a/b//a b/;0 1 /1 a/1 a b/2 b/
-tally --grid 3;abcdefghijklmnopqrstuvwxyz/abcdefghijklmnopq/abcdefghijklmnopqrstuvwxyz;0 1 abcdefghijklmnopq/2 abcdefghijklmnopqrstuvwxyz/
-tally --grid 4;a\r/a/b\r;0 1 a/1 a\r/1 b\r/
-tally --grid 4;;0 
-tally --grid 4;/;0 1 /
-tally --gen 2,3,42;;2 bale: usage/
-tally --via biconvey;;2 bale: usage/
-";
-
-/// The words of a run, its text and its answer.
-fn parts_of(alloc: Global, run: &str) -> Result<Option<(String, String, String)>, Fail> {
-    let mut parts = run.split(';');
-    let (Some(words), Some(text), Some(want)) = (parts.next(), parts.next(), parts.next()) else {
-        return Ok(None);
-    };
-    let text = text.replace(alloc, "/", "\n")?;
-    let text = text.replace(alloc, "P", PATTERN)?;
-    let text = text.replace(alloc, "I", INTEGER)?;
-    let want = want.replace(alloc, "/", "\n")?;
-    let want = want.replace(alloc, "I", INTEGER)?;
-    Ok(Some((words.to_string(alloc)?, text, want)))
-}
-
-#[test]
-fn applications_and_their_answers(rt: HostRuntime) -> Result<(), Fail> {
-    let alloc = rt.alloc();
-    for run in RUNS.lines() {
-        if let Some((words, text, want)) = parts_of(alloc, run)? {
-            wants(&rt, alloc, words.as_str(), text.as_bytes(), want.as_str())?;
-        }
-    }
-    Ok(())
-}
-
-/// A run on grids of one, two and three numbers.
-fn wants_on_grids<R: Threads + Wait + Clock + Sync + Abort>(
-    rt: &R,
-    alloc: Global,
-    words: &str,
-    text: &[u8],
-    want: &str,
-) -> Result<(), Fail> {
-    for grid in "1 2x2 2x2x2 64".split_whitespace() {
-        let words = format!(in alloc; "{words} --grid {grid}")?;
-        wants(rt, alloc, words.as_str(), text, want)?;
-    }
-    Ok(())
-}
-
-/// The runs whose words name no grid and whose status is not a refusal.
-#[test]
-fn grids_give_the_same_answers(rt: HostRuntime) -> Result<(), Fail> {
-    let alloc = rt.alloc();
-    for run in RUNS.lines() {
-        if let Some((words, text, want)) = parts_of(alloc, run)? {
-            let answered = want.starts_with("0 ") || want.starts_with("1 ");
-            if !words.contains("--grid") && answered {
-                wants_on_grids(&rt, alloc, words.as_str(), text.as_bytes(), want.as_str())?;
-            }
-        }
-    }
-    Ok(())
-}
-
-/// A run on exstacks.
-fn wants_on_exstacks<R: Threads + Wait + Clock + Sync + Abort>(
-    rt: &R,
-    alloc: Global,
-    words: &str,
-    text: &[u8],
-    want: &str,
-) -> Result<(), Fail> {
-    let words = format!(in alloc; "{words} --via exstack")?;
-    wants(rt, alloc, words.as_str(), text, want)
-}
-
-/// The same runs on exstacks, but for those whose grid has more numbers than one or whose words name the transport.
-#[test]
-fn exstacks_give_the_same_answers(rt: HostRuntime) -> Result<(), Fail> {
-    let alloc = rt.alloc();
-    for run in RUNS.lines() {
-        if let Some((words, text, want)) = parts_of(alloc, run)? {
-            if !words.contains("x") && !words.contains("--via") {
-                wants_on_exstacks(&rt, alloc, words.as_str(), text.as_bytes(), want.as_str())?;
-            }
         }
     }
     Ok(())

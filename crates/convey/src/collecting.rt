@@ -6,6 +6,7 @@ ghost use Rattle.route_tensor.specs.Link.{links};
 ghost use Rattle.route_tensor.specs.Ends.{reader_at};
 ghost use Rattle.route_tensor.specs.Neighbour.{in_index};
 ghost use Rattle.port_bank.specs.Calls.{once_more_if};
+ghost use Rattle.port_bank.specs.Frames.{SamePort, SameOuts, InsElsewhere};
 ghost use Rattle.convey.specs.Buffers.{in_of};
 ghost use Rattle.hop_core.specs.Link.{is_wanted};
 ghost use Rattle.convey.specs.Way.{IsReady, GoesOn, WasAsked};
@@ -34,16 +35,11 @@ pub(crate) fn collect_all<const CAP: usize, const HOPS: usize, P: Port<CAP>>(
         (P.idle port.new l) }
     ensures collects { (l : ℕ) → l < links (P.dims port.old) → reader_at (P.dims port.old) l ≡ P.rank port.old
         → P.collects port.new l ≡ once_more_if (is_wanted (in_of state.old l)) (P.collects port.old l) }
-    ensures posts { P.posts port.new ≡ P.posts port.old }
     ensures lies { (l : ℕ) (more : List Shipped) → l < links (P.dims port.old)
         → reader_at (P.dims port.old) l ≡ P.rank port.old → P.got port.new l ≡ P.got port.old l ++ more
         → (in_of state.new l).parcel.untaken ≡ (in_of state.old l).parcel.untaken ++ flat_map (λ p. p.entries) more }
-    ensures sent { P.sent port.new ≡ P.sent port.old }
-    ensures looks_out { P.looks_out port.new ≡ P.looks_out port.old }
-    ensures rest { P.rest port.new ≡ P.rest port.old }
-    ensures same_rank { P.rank port.new ≡ P.rank port.old }
-    ensures same_dims { P.dims port.new ≡ P.dims port.old }
-    ensures same_slots { P.slots port.new ≡ P.slots port.old }
+    ensures same_outs { SameOuts P.Port port.old port.new }
+    ensures same_port { SamePort P.Port port.old port.new }
 {
     for i in (0..state.routes().neighbours()).rev() {
         let link = state.routes().neighbour(i).link_from;
@@ -72,22 +68,14 @@ pub(crate) fn collect_one<const CAP: usize, const HOPS: usize, P: Port<CAP>>(
         (P.noted port.new link) (P.idle port.new link) }
     ensures collects { P.collects port.new link
         ≡ once_more_if (is_wanted (in_of state.old link)) (P.collects port.old link) }
-    ensures collects_elsewhere { (m : ℕ) → m ≢ link → P.collects port.new m ≡ P.collects port.old m }
-    ensures posts { P.posts port.new ≡ P.posts port.old }
     ensures lies { (more : List Shipped) → P.got port.new link ≡ P.got port.old link ++ more
         → (in_of state.new link).parcel.untaken ≡ (in_of state.old link).parcel.untaken ++ flat_map
         (λ p. p.entries) more }
     ensures inbox { (m : ℕ) → m < links (P.dims port.old) → reader_at (P.dims port.old) m ≡ P.rank port.old → m ≢ link
         → in_of state.new m ≡ in_of state.old m }
-    ensures got { (m : ℕ) → m ≢ link → P.got port.new m ≡ P.got port.old m }
-    ensures noted { (m : ℕ) → m ≢ link → P.noted port.new m ≡ P.noted port.old m }
-    ensures idle { (m : ℕ) → m ≢ link → P.idle port.new m ≡ P.idle port.old m }
-    ensures sent { P.sent port.new ≡ P.sent port.old }
-    ensures looks_out { P.looks_out port.new ≡ P.looks_out port.old }
-    ensures rest { P.rest port.new ≡ P.rest port.old }
-    ensures same_rank { P.rank port.new ≡ P.rank port.old }
-    ensures same_dims { P.dims port.new ≡ P.dims port.old }
-    ensures same_slots { P.slots port.new ≡ P.slots port.old }
+    ensures elsewhere { InsElsewhere P.Port link port.old port.new }
+    ensures same_outs { SameOuts P.Port port.old port.new }
+    ensures same_port { SamePort P.Port port.old port.new }
 {
     state.known();
     if !state.wants_from(number) {

@@ -16,12 +16,14 @@ ghost use Rattle.std.specs.List.{All};
 ghost use Rattle.port_bank.specs.Machine.{IsOwnStep};
 ghost use Rattle.port_bank.specs.Machine.Step.{Push, Pull, Unpull, Reset, Idle};
 ghost use Rattle.port_bank.specs.Calls.{once_more_if};
+ghost use Rattle.port_bank.specs.Frames.{SamePort};
 ghost use Rattle.convey.specs.Buffers.{buffers_of, out_of, in_of, is_complete};
 ghost use Rattle.convey.specs.Parts.{part_of};
 ghost use Rattle.convey.specs.Law.{IsSound};
 ghost use Rattle.convey.specs.Conveyors.{AgreesWith, HoldsAtMost, IsStepOf, KeepsAgreement, GivesNext, standing_toward};
 ghost use Rattle.convey.specs.Progress.{progress_of, advance_step};
 ghost use Rattle.bale_types.specs.Stream.{RoseOrFull};
+ghost use Rattle.item_buffer.specs.Capacity.{IsCap};
 ghost use Rattle.hop_core.specs.declared.lent.Lent.TheVariants as Lent;
 ghost use Rattle.hop_core.specs.State.{at_end};
 ghost use Rattle.hop_core.specs.Standing.{IsState};
@@ -64,8 +66,7 @@ impl<const CAP: usize, const HOPS: usize> Conveyor<CAP, HOPS> {
     ///
     /// A steady conveyor sends what it has at every advance, and not only full parcels.
     pub fn new(alloc: Global, grid: &Grid, rank: u32, steady: bool) -> Result<Self, NoMemory>
-        requires some { 0 < CAP }
-        requires small { CAP ≤ 1024 }
+        requires cap { IsCap CAP }
         requires hops { length grid.now ≡ HOPS }
         requires rank { rank < ranks grid.now }
         ensures made { IfOk result (λ c. c ≡ record {
@@ -257,10 +258,7 @@ impl<const CAP: usize, const HOPS: usize> Conveyor<CAP, HOPS> {
         ensures steady { self.new.steady ≡ self.old.steady }
         ensures epoch { self.new.epoch ≡ self.old.epoch }
         ensures done { self.new.done ≡ done }
-        ensures same_dims { P.dims port.new ≡ P.dims port.old }
-        ensures same_rank { P.rank port.new ≡ P.rank port.old }
-        ensures same_slots { P.slots port.new ≡ P.slots port.old }
-        ensures rest { P.rest port.new ≡ P.rest port.old }
+        ensures same_port { SamePort P.Port port.old port.new }
 
         // Answers.
         ensures answer { IfOk result (λ p. p ≡ progress_of self.new.phase) }

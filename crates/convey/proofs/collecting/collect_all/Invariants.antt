@@ -1,5 +1,6 @@
 use Rattle.std.proofs.Common.{◌≡◌}
 use Rattle.item_buffer.specs.Contents.{blank}
+use Rattle.port_bank.specs.Frames.{SamePort, SameOuts}
 use Rattle.convey.specs.Way.{IsReady, GoesOn}
 use Rattle.hop_core.specs.Link.{is_wanted}
 use Rattle.convey.specs.Buffers.{in_of}
@@ -15,12 +16,7 @@ invariant-loop-i g l = record {
   collecting : Collecting (g.P.Port.dims l.fn.port) (g.P.Port.rank l.fn.port) l.i l.fn.state l.state (g.P.Port.got l.fn.port) (g.P.Port.got l.port)
       (g.P.Port.noted l.fn.port) (g.P.Port.noted l.port) (g.P.Port.idle l.port);
   outs : l.state.outs ≡ l.fn.state.outs;
-  sent : g.P.Port.sent l.port ≡ g.P.Port.sent l.fn.port;
   counted : CountedFrom (g.P.Port.dims l.fn.port) (g.P.Port.rank l.fn.port) l.i (λ m. is_wanted (in_of l.fn.state m)) (g.P.Port.collects l.fn.port) (g.P.Port.collects l.port);
-  posts : g.P.Port.posts l.port ≡ g.P.Port.posts l.fn.port;
-  looks_out : g.P.Port.looks_out l.port ≡ g.P.Port.looks_out l.fn.port;
-  rest : g.P.Port.rest l.port ≡ g.P.Port.rest l.fn.port;
-  same_rank : g.P.Port.rank l.port ≡ g.P.Port.rank l.fn.port;
-  same_dims : g.P.Port.dims l.port ≡ g.P.Port.dims l.fn.port;
-  same_slots : g.P.Port.slots l.port ≡ g.P.Port.slots l.fn.port;
+  same_outs : SameOuts g.P.Port l.fn.port l.port;
+  same_port : SamePort g.P.Port l.fn.port l.port;
 }

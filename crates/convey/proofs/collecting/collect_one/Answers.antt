@@ -38,7 +38,7 @@ returns-in-Got-clause-ready g c =
     let q = shipped c.collect.new.p in
     let e = c.in-Got.ensures in
     let new = filled st c.take_in.new.self c.args.number c.args.link _ c.requires.ready.home n c.take_in.ensures.state in
-    (collected_one _ _ _ _ c.args.link _ _ _ _ _ s c.requires.ready c.requires.link c.requires.ends_here wants new c.collect.ensures.sent q refl refl (e.fair refl) (e.own refl) (e.got refl)).ready
+    (collected_one _ _ _ _ c.args.link _ _ _ _ _ s c.requires.ready c.requires.link c.requires.ends_here wants new c.collect.ensures.same_outs.sent q refl refl (e.fair refl) (e.own refl) (e.got refl)).ready
 
 pub returns-in-Got-clause-goes_on : goal.returns-in-Got-clause-goes_on
 returns-in-Got-clause-goes_on g c =
@@ -50,7 +50,7 @@ returns-in-Got-clause-goes_on g c =
     let q = shipped c.collect.new.p in
     let e = c.in-Got.ensures in
     let new = filled st c.take_in.new.self c.args.number c.args.link _ c.requires.ready.home n c.take_in.ensures.state in
-    (collected_one _ _ _ _ c.args.link _ _ _ _ _ s c.requires.ready c.requires.link c.requires.ends_here wants new c.collect.ensures.sent q refl refl (e.fair refl) (e.own refl) (e.got refl)).goes_on
+    (collected_one _ _ _ _ c.args.link _ _ _ _ _ s c.requires.ready c.requires.link c.requires.ends_here wants new c.collect.ensures.same_outs.sent q refl refl (e.fair refl) (e.own refl) (e.got refl)).goes_on
 
 pub returns-in-Got-clause-inbox : goal.returns-in-Got-clause-inbox
 returns-in-Got-clause-inbox g c =
@@ -62,7 +62,7 @@ returns-in-Got-clause-inbox g c =
     let q = shipped c.collect.new.p in
     let e = c.in-Got.ensures in
     let new = filled st c.take_in.new.self c.args.number c.args.link _ c.requires.ready.home n c.take_in.ensures.state in
-    (collected_one _ _ _ _ c.args.link _ _ _ _ _ s c.requires.ready c.requires.link c.requires.ends_here wants new c.collect.ensures.sent q refl refl (e.fair refl) (e.own refl) (e.got refl)).inbox
+    (collected_one _ _ _ _ c.args.link _ _ _ _ _ s c.requires.ready c.requires.link c.requires.ends_here wants new c.collect.ensures.same_outs.sent q refl refl (e.fair refl) (e.own refl) (e.got refl)).inbox
 
 pub returns-in-Got-clause-asked : goal.returns-in-Got-clause-asked
 returns-in-Got-clause-asked g c =
@@ -82,13 +82,13 @@ returns-in-Got-clause-asked g c =
 
 pub returns-in-Nothing-clause-ready : goal.returns-in-Nothing-clause-ready
 returns-in-Nothing-clause-ready g c =
-    still_ready _ _ c.args.state.now _ _ _ _ c.collect.ensures.sent (c.in-Nothing.ensures.not_got refl) c.requires.ready
+    still_ready _ _ c.args.state.now _ _ _ _ c.collect.ensures.same_outs.sent (c.in-Nothing.ensures.not_got refl) c.requires.ready
 
 pub returns-in-Nothing-clause-goes_on : goal.returns-in-Nothing-clause-goes_on
 returns-in-Nothing-clause-goes_on g c =
     let sent : Logs = g.P.Port.sent c.args.port.now in
     let got : Logs = g.P.Port.got c.args.port.now in
-    subst (λ (a : Logs). GoesOn c.args.state.now c.args.state.now sent a got (g.P.Port.got c.collect.new.self)) (sym c.collect.ensures.sent)
+    subst (λ (a : Logs). GoesOn c.args.state.now c.args.state.now sent a got (g.P.Port.got c.collect.new.self)) (sym c.collect.ensures.same_outs.sent)
     (subst (λ (b : Logs). GoesOn c.args.state.now c.args.state.now sent sent got b) (sym (c.in-Nothing.ensures.not_got refl)) (goes_on_refl c.args.state.now sent got))
 
 pub returns-in-Nothing-clause-asked : goal.returns-in-Nothing-clause-asked
@@ -184,9 +184,14 @@ returns-in-Got-clause-collects g c =
     ap (λ calls. calls c.args.link) c.collect.ensures.collects
     ∙ (changed-here (g.P.Port.collects c.args.port.now) c.args.link (suc (g.P.Port.collects c.args.port.now c.args.link)) ∙ ap (λ b. once_more_if b (g.P.Port.collects c.args.port.now c.args.link)) (sym wants))
 
-pub returns-in-Got-clause-collects_elsewhere : goal.returns-in-Got-clause-collects_elsewhere
-returns-in-Got-clause-collects_elsewhere g c = λ m ne.
-    ap (λ calls. calls m) c.collect.ensures.collects ∙ changed-other (g.P.Port.collects c.args.port.now) c.args.link m (suc (g.P.Port.collects c.args.port.now c.args.link)) ne
+pub returns-in-Got-clause-elsewhere : goal.returns-in-Got-clause-elsewhere
+returns-in-Got-clause-elsewhere g c = record {
+  got = search rules;
+  noted = search rules;
+  idle = search rules;
+  collects = λ m ne.
+      ap (λ calls. calls m) c.collect.ensures.collects ∙ changed-other (g.P.Port.collects c.args.port.now) c.args.link m (suc (g.P.Port.collects c.args.port.now c.args.link)) ne;
+}
 
 pub returns-in-Nothing-clause-collects : goal.returns-in-Nothing-clause-collects
 returns-in-Nothing-clause-collects g c =
@@ -197,9 +202,14 @@ returns-in-Nothing-clause-collects g c =
     ap (λ calls. calls c.args.link) c.collect.ensures.collects
     ∙ (changed-here (g.P.Port.collects c.args.port.now) c.args.link (suc (g.P.Port.collects c.args.port.now c.args.link)) ∙ ap (λ b. once_more_if b (g.P.Port.collects c.args.port.now c.args.link)) (sym wants))
 
-pub returns-in-Nothing-clause-collects_elsewhere : goal.returns-in-Nothing-clause-collects_elsewhere
-returns-in-Nothing-clause-collects_elsewhere g c = λ m ne.
-    ap (λ calls. calls m) c.collect.ensures.collects ∙ changed-other (g.P.Port.collects c.args.port.now) c.args.link m (suc (g.P.Port.collects c.args.port.now c.args.link)) ne
+pub returns-in-Nothing-clause-elsewhere : goal.returns-in-Nothing-clause-elsewhere
+returns-in-Nothing-clause-elsewhere g c = record {
+  got = search rules;
+  noted = search rules;
+  idle = search rules;
+  collects = λ m ne.
+      ap (λ calls. calls m) c.collect.ensures.collects ∙ changed-other (g.P.Port.collects c.args.port.now) c.args.link m (suc (g.P.Port.collects c.args.port.now c.args.link)) ne;
+}
 
 pub returns-then-not-wants_from-clause-collects : goal.returns-then-not-wants_from-clause-collects
 returns-then-not-wants_from-clause-collects g c =

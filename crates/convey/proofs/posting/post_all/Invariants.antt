@@ -1,5 +1,6 @@
 use Rattle.std.proofs.Common.{◌≡◌, ℕ}
 use Rattle.item_buffer.specs.Contents.{blank}
+use Rattle.port_bank.specs.Frames.{SamePort, SameIns}
 use Rattle.convey.specs.Way.{IsReady, GoesOn}
 use Rattle.route_tensor.specs.Ends.{sender_at}
 use Rattle.route_tensor.specs.Neighbour.{out_index}
@@ -17,12 +18,7 @@ invariant-loop-i g l = record {
       (g.P.Port.looks_out l.fn.port) (g.P.Port.looks_out l.port) (g.P.Port.crowded l.port);
   ins : l.state.ins ≡ l.fn.state.ins;
   counted : Counted (g.P.Port.dims l.fn.port) (g.P.Port.rank l.fn.port) out_index sender_at l.i (λ m. was_served l.state m (g.P.Port.sent l.fn.port m) (g.P.Port.sent l.port m)) (g.P.Port.posts l.fn.port) (g.P.Port.posts l.port);
-  collects : g.P.Port.collects l.port ≡ g.P.Port.collects l.fn.port;
   idle : (l' : ℕ) → g.P.Port.sent l.port l' ≡ g.P.Port.sent l.fn.port l' → g.P.Port.idle l.port l' ≡ g.P.Port.idle l.fn.port l';
-  got : g.P.Port.got l.port ≡ g.P.Port.got l.fn.port;
-  noted : g.P.Port.noted l.port ≡ g.P.Port.noted l.fn.port;
-  rest : g.P.Port.rest l.port ≡ g.P.Port.rest l.fn.port;
-  same_rank : g.P.Port.rank l.port ≡ g.P.Port.rank l.fn.port;
-  same_dims : g.P.Port.dims l.port ≡ g.P.Port.dims l.fn.port;
-  same_slots : g.P.Port.slots l.port ≡ g.P.Port.slots l.fn.port;
+  same_ins : SameIns g.P.Port l.fn.port l.port;
+  same_port : SamePort g.P.Port l.fn.port l.port;
 }

@@ -69,7 +69,7 @@ returns-in-Ok-Sent-clause-ready g c =
     let was : c.post.result ≡ Ok Sent = c.in-Ok-Sent.is ∙ ap Ok c.in-Ok-Sent.field-0-is in
     let new = opened st c.take_out.new.self c.args.number c.args.link _ c.requires.ready.home n c.take_out.ensures.state in
     let closes = sym (ap (λ p. p.last) c.take_out.ensures.parcel) in
-    (served_one _ _ st _ c.args.link _ q _ _ _ _ s c.requires.ready c.requires.link c.requires.starts_here t.due t.entries t.last e.got new refl closes (e.sent was)).ready
+    (served_one _ _ st _ c.args.link _ q _ _ _ _ s c.requires.ready c.requires.link c.requires.starts_here t.due t.entries t.last e.same_ins.got new refl closes (e.sent was)).ready
 
 pub returns-in-Ok-Sent-clause-goes_on : goal.returns-in-Ok-Sent-clause-goes_on
 returns-in-Ok-Sent-clause-goes_on g c =
@@ -83,7 +83,7 @@ returns-in-Ok-Sent-clause-goes_on g c =
     let was : c.post.result ≡ Ok Sent = c.in-Ok-Sent.is ∙ ap Ok c.in-Ok-Sent.field-0-is in
     let new = opened st c.take_out.new.self c.args.number c.args.link _ c.requires.ready.home n c.take_out.ensures.state in
     let closes = sym (ap (λ p. p.last) c.take_out.ensures.parcel) in
-    (served_one _ _ st _ c.args.link _ q _ _ _ _ s c.requires.ready c.requires.link c.requires.starts_here t.due t.entries t.last e.got new refl closes (e.sent was)).goes_on
+    (served_one _ _ st _ c.args.link _ q _ _ _ _ s c.requires.ready c.requires.link c.requires.starts_here t.due t.entries t.last e.same_ins.got new refl closes (e.sent was)).goes_on
 
 pub returns-in-Ok-Sent-clause-out : goal.returns-in-Ok-Sent-clause-out
 returns-in-Ok-Sent-clause-out g c =
@@ -97,7 +97,7 @@ returns-in-Ok-Sent-clause-out g c =
     let was : c.post.result ≡ Ok Sent = c.in-Ok-Sent.is ∙ ap Ok c.in-Ok-Sent.field-0-is in
     let new = opened st c.take_out.new.self c.args.number c.args.link _ c.requires.ready.home n c.take_out.ensures.state in
     let closes = sym (ap (λ p. p.last) c.take_out.ensures.parcel) in
-    (served_one _ _ st _ c.args.link _ q _ _ _ _ s c.requires.ready c.requires.link c.requires.starts_here t.due t.entries t.last e.got new refl closes (e.sent was)).out
+    (served_one _ _ st _ c.args.link _ q _ _ _ _ s c.requires.ready c.requires.link c.requires.starts_here t.due t.entries t.last e.same_ins.got new refl closes (e.sent was)).out
 
 pub returns-in-Ok-Sent-clause-served : goal.returns-in-Ok-Sent-clause-served
 returns-in-Ok-Sent-clause-served g c =
@@ -111,7 +111,7 @@ returns-in-Ok-Sent-clause-served g c =
     let was : c.post.result ≡ Ok Sent = c.in-Ok-Sent.is ∙ ap Ok c.in-Ok-Sent.field-0-is in
     let new = opened st c.take_out.new.self c.args.number c.args.link _ c.requires.ready.home n c.take_out.ensures.state in
     let closes = sym (ap (λ p. p.last) c.take_out.ensures.parcel) in
-    let no = no_longer_due _ _ st _ c.args.link _ q _ (g.P.Port.sent c.args.port.now) _ _ s c.requires.ready c.requires.link c.requires.starts_here t.due t.entries t.last e.got new refl closes in
+    let no = no_longer_due _ _ st _ c.args.link _ q _ (g.P.Port.sent c.args.port.now) _ _ s c.requires.ready c.requires.link c.requires.starts_here t.due t.entries t.last e.same_ins.got new refl closes in
     record { looked = λ d. absurd (no d); crowded = λ d. absurd (no d) }
 
 pub returns-in-Ok-Sent-clause-waits : goal.returns-in-Ok-Sent-clause-waits
@@ -159,7 +159,7 @@ returns-in-Ok-NoRoom-clause-ready g c =
     let no = not_sent _ (c.in-Ok-NoRoom.is ∙ ap Ok c.in-Ok-NoRoom.field-0-is) in
     let new = reopened st c.take_out.new.self c.put_back.new.self c.args.number c.args.link _ _ c.requires.ready.home n c.take_out.ensures.state c.put_back.ensures.state in
     let keeps = ap (λ p. p.untaken) (e.kept no) ∙ t.entries in
-    (served_none _ _ st _ c.args.link _ q _ _ _ _ s c.requires.ready c.requires.link c.requires.starts_here t.due t.entries t.last e.got new keeps refl (e.not_sent no)).ready
+    (served_none _ _ st _ c.args.link _ q _ _ _ _ s c.requires.ready c.requires.link c.requires.starts_here t.due t.entries t.last e.same_ins.got new keeps refl (e.not_sent no)).ready
 
 pub returns-in-Ok-NoRoom-clause-goes_on : goal.returns-in-Ok-NoRoom-clause-goes_on
 returns-in-Ok-NoRoom-clause-goes_on g c =
@@ -173,7 +173,7 @@ returns-in-Ok-NoRoom-clause-goes_on g c =
     let no = not_sent _ (c.in-Ok-NoRoom.is ∙ ap Ok c.in-Ok-NoRoom.field-0-is) in
     let new = reopened st c.take_out.new.self c.put_back.new.self c.args.number c.args.link _ _ c.requires.ready.home n c.take_out.ensures.state c.put_back.ensures.state in
     let keeps = ap (λ p. p.untaken) (e.kept no) ∙ t.entries in
-    (served_none _ _ st _ c.args.link _ q _ _ _ _ s c.requires.ready c.requires.link c.requires.starts_here t.due t.entries t.last e.got new keeps refl (e.not_sent no)).goes_on
+    (served_none _ _ st _ c.args.link _ q _ _ _ _ s c.requires.ready c.requires.link c.requires.starts_here t.due t.entries t.last e.same_ins.got new keeps refl (e.not_sent no)).goes_on
 
 pub returns-in-Ok-NoRoom-clause-out : goal.returns-in-Ok-NoRoom-clause-out
 returns-in-Ok-NoRoom-clause-out g c =
@@ -187,7 +187,7 @@ returns-in-Ok-NoRoom-clause-out g c =
     let no = not_sent _ (c.in-Ok-NoRoom.is ∙ ap Ok c.in-Ok-NoRoom.field-0-is) in
     let new = reopened st c.take_out.new.self c.put_back.new.self c.args.number c.args.link _ _ c.requires.ready.home n c.take_out.ensures.state c.put_back.ensures.state in
     let keeps = ap (λ p. p.untaken) (e.kept no) ∙ t.entries in
-    (served_none _ _ st _ c.args.link _ q _ _ _ _ s c.requires.ready c.requires.link c.requires.starts_here t.due t.entries t.last e.got new keeps refl (e.not_sent no)).out
+    (served_none _ _ st _ c.args.link _ q _ _ _ _ s c.requires.ready c.requires.link c.requires.starts_here t.due t.entries t.last e.same_ins.got new keeps refl (e.not_sent no)).out
 
 pub returns-in-Ok-NoRoom-clause-waits : goal.returns-in-Ok-NoRoom-clause-waits
 returns-in-Ok-NoRoom-clause-waits g c =
@@ -201,7 +201,7 @@ returns-in-Ok-NoRoom-clause-waits g c =
     let no = not_sent _ (c.in-Ok-NoRoom.is ∙ ap Ok c.in-Ok-NoRoom.field-0-is) in
     let new = reopened st c.take_out.new.self c.put_back.new.self c.args.number c.args.link _ _ c.requires.ready.home n c.take_out.ensures.state c.put_back.ensures.state in
     let keeps = ap (λ p. p.untaken) (e.kept no) ∙ t.entries in
-    λ same. still_waits _ _ st _ c.args.link _ q _ (g.P.Port.sent c.args.port.now) _ _ s c.requires.ready c.requires.link c.requires.starts_here t.due t.entries t.last e.got new keeps
+    λ same. still_waits _ _ st _ c.args.link _ q _ (g.P.Port.sent c.args.port.now) _ _ s c.requires.ready c.requires.link c.requires.starts_here t.due t.entries t.last e.same_ins.got new keeps
 
 pub returns-in-Err-clause-ready : goal.returns-in-Err-clause-ready
 returns-in-Err-clause-ready g c =
@@ -215,7 +215,7 @@ returns-in-Err-clause-ready g c =
     let no = failed _ _ c.in-Err.is in
     let new = reopened st c.take_out.new.self c.put_back-in-Err.new.self c.args.number c.args.link _ _ c.requires.ready.home n c.take_out.ensures.state c.put_back-in-Err.ensures.state in
     let keeps = ap (λ p. p.untaken) (e.kept no) ∙ t.entries in
-    (served_none _ _ st _ c.args.link _ q _ _ _ _ s c.requires.ready c.requires.link c.requires.starts_here t.due t.entries t.last e.got new keeps refl (e.not_sent no)).ready
+    (served_none _ _ st _ c.args.link _ q _ _ _ _ s c.requires.ready c.requires.link c.requires.starts_here t.due t.entries t.last e.same_ins.got new keeps refl (e.not_sent no)).ready
 
 pub returns-in-Err-clause-goes_on : goal.returns-in-Err-clause-goes_on
 returns-in-Err-clause-goes_on g c =
@@ -229,7 +229,7 @@ returns-in-Err-clause-goes_on g c =
     let no = failed _ _ c.in-Err.is in
     let new = reopened st c.take_out.new.self c.put_back-in-Err.new.self c.args.number c.args.link _ _ c.requires.ready.home n c.take_out.ensures.state c.put_back-in-Err.ensures.state in
     let keeps = ap (λ p. p.untaken) (e.kept no) ∙ t.entries in
-    (served_none _ _ st _ c.args.link _ q _ _ _ _ s c.requires.ready c.requires.link c.requires.starts_here t.due t.entries t.last e.got new keeps refl (e.not_sent no)).goes_on
+    (served_none _ _ st _ c.args.link _ q _ _ _ _ s c.requires.ready c.requires.link c.requires.starts_here t.due t.entries t.last e.same_ins.got new keeps refl (e.not_sent no)).goes_on
 
 pub returns-in-Err-clause-out : goal.returns-in-Err-clause-out
 returns-in-Err-clause-out g c =
@@ -243,7 +243,7 @@ returns-in-Err-clause-out g c =
     let no = failed _ _ c.in-Err.is in
     let new = reopened st c.take_out.new.self c.put_back-in-Err.new.self c.args.number c.args.link _ _ c.requires.ready.home n c.take_out.ensures.state c.put_back-in-Err.ensures.state in
     let keeps = ap (λ p. p.untaken) (e.kept no) ∙ t.entries in
-    (served_none _ _ st _ c.args.link _ q _ _ _ _ s c.requires.ready c.requires.link c.requires.starts_here t.due t.entries t.last e.got new keeps refl (e.not_sent no)).out
+    (served_none _ _ st _ c.args.link _ q _ _ _ _ s c.requires.ready c.requires.link c.requires.starts_here t.due t.entries t.last e.same_ins.got new keeps refl (e.not_sent no)).out
 
 pub returns-in-Err-clause-waits : goal.returns-in-Err-clause-waits
 returns-in-Err-clause-waits g c =
@@ -257,7 +257,7 @@ returns-in-Err-clause-waits g c =
     let no = failed _ _ c.in-Err.is in
     let new = reopened st c.take_out.new.self c.put_back-in-Err.new.self c.args.number c.args.link _ _ c.requires.ready.home n c.take_out.ensures.state c.put_back-in-Err.ensures.state in
     let keeps = ap (λ p. p.untaken) (e.kept no) ∙ t.entries in
-    λ same. still_waits _ _ st _ c.args.link _ q _ (g.P.Port.sent c.args.port.now) _ _ s c.requires.ready c.requires.link c.requires.starts_here t.due t.entries t.last e.got new keeps
+    λ same. still_waits _ _ st _ c.args.link _ q _ (g.P.Port.sent c.args.port.now) _ _ s c.requires.ready c.requires.link c.requires.starts_here t.due t.entries t.last e.same_ins.got new keeps
 
 pub returns-in-Ok-NoRoom-clause-served : goal.returns-in-Ok-NoRoom-clause-served
 returns-in-Ok-NoRoom-clause-served g c =
@@ -409,7 +409,7 @@ returns-in-Ok-NoRoom-clause-posts g c =
     let no = not_sent _ (c.in-Ok-NoRoom.is ∙ ap Ok c.in-Ok-NoRoom.field-0-is) in
     let new = reopened st c.take_out.new.self c.put_back.new.self c.args.number c.args.link _ _ c.requires.ready.home n c.take_out.ensures.state c.put_back.ensures.state in
     let keeps = ap (λ p. p.untaken) (e.kept no) ∙ t.entries in
-    let due = still_due _ _ st _ c.args.link _ q _ (g.P.Port.sent c.args.port.now) _ _ s c.requires.ready c.requires.link c.requires.starts_here t.due t.entries t.last e.got new keeps refl in
+    let due = still_due _ _ st _ c.args.link _ q _ (g.P.Port.sent c.args.port.now) _ _ s c.requires.ready c.requires.link c.requires.starts_here t.due t.entries t.last e.same_ins.got new keeps refl in
     let log = g.P.Port.sent c.args.port.now c.args.link in
     let calls : ℕ → ℕ = g.P.Port.posts c.args.port.now in
     let once = ap (λ f. f c.args.link) (c.post.ensures.posts (search rules)) ∙ changed-here calls c.args.link (suc (calls c.args.link)) in
@@ -427,20 +427,37 @@ returns-in-Err-clause-still_due g c =
     let no = failed _ _ c.in-Err.is in
     let new = reopened st c.take_out.new.self c.put_back-in-Err.new.self c.args.number c.args.link _ _ c.requires.ready.home n c.take_out.ensures.state c.put_back-in-Err.ensures.state in
     let keeps = ap (λ p. p.untaken) (e.kept no) ∙ t.entries in
-    λ err. still_due _ _ st _ c.args.link _ q _ (g.P.Port.sent c.args.port.now) _ _ s c.requires.ready c.requires.link c.requires.starts_here t.due t.entries t.last e.got new keeps refl
+    λ err. still_due _ _ st _ c.args.link _ q _ (g.P.Port.sent c.args.port.now) _ _ s c.requires.ready c.requires.link c.requires.starts_here t.due t.entries t.last e.same_ins.got new keeps refl
 
 pub returns-in-Err-clause-no_post : goal.returns-in-Err-clause-no_post
 returns-in-Err-clause-no_post g c = λ err. ap g.P.Port.posts (c.post.ensures.no_memory (search rules))
 
-pub returns-in-Err-clause-posts_elsewhere : goal.returns-in-Err-clause-posts_elsewhere
-returns-in-Err-clause-posts_elsewhere g c = λ m ne. ap (λ port. g.P.Port.posts port m) (c.post.ensures.no_memory (search rules))
+pub returns-in-Err-clause-elsewhere : goal.returns-in-Err-clause-elsewhere
+returns-in-Err-clause-elsewhere g c =
+    let same = c.post.ensures.no_memory (search rules) in
+    record {
+      sent = λ m ne. ap (λ port. g.P.Port.sent port m) same;
+      posts = λ m ne. ap (λ port. g.P.Port.posts port m) same;
+      looks_out = λ m ne. ap (λ port. g.P.Port.looks_out port m) same;
+      crowded = λ m ne. ap (λ port. g.P.Port.crowded port m) same;
+    }
 
-pub returns-in-Ok-Sent-clause-posts_elsewhere : goal.returns-in-Ok-Sent-clause-posts_elsewhere
-returns-in-Ok-Sent-clause-posts_elsewhere g c =
+pub returns-in-Ok-Sent-clause-elsewhere : goal.returns-in-Ok-Sent-clause-elsewhere
+returns-in-Ok-Sent-clause-elsewhere g c =
     let calls : ℕ → ℕ = g.P.Port.posts c.args.port.now in
-    λ m ne. ap (λ f. f m) (c.post.ensures.posts (search rules)) ∙ changed-other calls c.args.link m (suc (calls c.args.link)) ne
+    record {
+      sent = search rules;
+      posts = λ m ne. ap (λ f. f m) (c.post.ensures.posts (search rules)) ∙ changed-other calls c.args.link m (suc (calls c.args.link)) ne;
+      looks_out = search rules;
+      crowded = search rules;
+    }
 
-pub returns-in-Ok-NoRoom-clause-posts_elsewhere : goal.returns-in-Ok-NoRoom-clause-posts_elsewhere
-returns-in-Ok-NoRoom-clause-posts_elsewhere g c =
+pub returns-in-Ok-NoRoom-clause-elsewhere : goal.returns-in-Ok-NoRoom-clause-elsewhere
+returns-in-Ok-NoRoom-clause-elsewhere g c =
     let calls : ℕ → ℕ = g.P.Port.posts c.args.port.now in
-    λ m ne. ap (λ f. f m) (c.post.ensures.posts (search rules)) ∙ changed-other calls c.args.link m (suc (calls c.args.link)) ne
+    record {
+      sent = search rules;
+      posts = λ m ne. ap (λ f. f m) (c.post.ensures.posts (search rules)) ∙ changed-other calls c.args.link m (suc (calls c.args.link)) ne;
+      looks_out = search rules;
+      crowded = search rules;
+    }

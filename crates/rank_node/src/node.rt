@@ -4,7 +4,9 @@ ghost use Rattle.route_tensor.specs.Grid.{ranks};
 ghost use Rattle.route_tensor.specs.Link.{links};
 ghost use Rattle.route_tensor.specs.Ends.{sender_at, reader_at};
 ghost use Rattle.port_bank.specs.Logs.{Logs};
+ghost use Rattle.port_bank.specs.Frames.{SamePort};
 ghost use Rattle.list_laws.specs.Lists.{Begins};
+ghost use Rattle.item_buffer.specs.Capacity.{IsCap};
 ghost use Rattle.rank_node.specs.Sending.{is_voting, to_send};
 ghost use Rattle.rank_node.specs.Movers.{IsShape, dims_of, rank_of, epoch_in, manner_in, manner_of, has_completed, HasCap, IsStarting, NoneUnread, SameUnread};
 ghost use Rattle.rank_node.specs.Moves.{Leaves, DueIsCrowded, Waits};
@@ -60,8 +62,7 @@ impl<Q: Program, const CAP: usize, const HOPS: usize> Node<Q, CAP, HOPS> {
         prog: Q,
         steady: bool,
     ) -> Result<Self, NoMemory>
-        requires some { 0 < CAP }
-        requires small { CAP ≤ 1024 }
+        requires cap { IsCap CAP }
         requires hops { length grid.now ≡ HOPS }
         requires one_hop { via ≡ Via.Exstack → length grid.now ≡ 1 }
         requires rank { Q.rules.rank prog < ranks grid.now }
@@ -129,10 +130,7 @@ impl<Q: Program, const CAP: usize, const HOPS: usize> Node<Q, CAP, HOPS> {
         ensures epoch { epoch_in self.new.mover ≡ epoch_in self.old.mover }
         ensures round { self.new.run.round ≡ self.old.run.round }
         ensures sends { self.new.run.sends ≡ self.old.run.sends }
-        ensures same_dims { P.dims port.new ≡ P.dims port.old }
-        ensures same_rank { P.rank port.new ≡ P.rank port.old }
-        ensures same_slots { P.slots port.new ≡ P.slots port.old }
-        ensures rest { P.rest port.new ≡ P.rest port.old }
+        ensures same_port { SamePort P.Port port.old port.new }
         ensures memory { P.Memory.GROWS ≡ false → IsOk result }
 
         // It advances or polls once: the lists only grow, each by one parcel at most, and of the transport's shape, so that

@@ -1,6 +1,7 @@
 //! A rank whose items travel by an exstack.
 ghost use Rattle.std.specs.Prelude.{◌≡◌, ◌≢◌, ℕ, ◌^◌, ◌<◌, ◌≤◌, true, false, length, Some, IfOk, IsOk, OnOk, Ok};
 ghost use Rattle.std.specs.List.{All};
+ghost use Rattle.item_buffer.specs.Capacity.{IsCap};
 ghost use Rattle.route_tensor.specs.Grid.{ranks};
 ghost use Rattle.exstack.specs.State.{dims_of, unread_of, lowest_unread, may_exchange, may_proceed};
 ghost use Rattle.exstack.specs.Agreement.{cycle_after};
@@ -8,6 +9,7 @@ ghost use Rattle.rank_node.specs.Movers.{IsNew, GoesOn};
 ghost use Rattle.rank_node.specs.Movers.MoverState.{Stacking};
 ghost use Rattle.rank_node.specs.Movers.Manner.{ByExstack};
 ghost use Rattle.port_bank.specs.Logs.{Logs};
+ghost use Rattle.port_bank.specs.Frames.{SamePort};
 ghost use Rattle.rank_node.specs.Pulls.{Pops, Fills};
 ghost use Rattle.rank_node.specs.Runs.{running};
 ghost use Rattle.rank_node.specs.Sending.{to_send};
@@ -53,10 +55,7 @@ pub(crate) fn turn_exstack<const CAP: usize, Q: Program, P: Port<CAP>>(
     ensures awaits { IsOk result → Awaits exstack.new }
     ensures waits { OnOk result (Waits Q.rules (running run.old) (Stacking CAP exstack.old) (Stacking CAP exstack.new)
         (P.sent port.old) (P.got port.old) (P.sent port.new) (P.got port.new) (P.crowded port.new) (P.idle port.new)) }
-    ensures same_dims { P.dims port.new ≡ P.dims port.old }
-    ensures same_rank { P.rank port.new ≡ P.rank port.old }
-    ensures same_slots { P.slots port.new ≡ P.slots port.old }
-    ensures rest { P.rest port.new ≡ P.rest port.old }
+    ensures same_port { SamePort P.Port port.old port.new }
     ensures memory { P.Memory.GROWS ≡ false → IsOk result }
     ensures ended { result ≡ Ok Turn.Ended → exstack.new.stage ≡ Stage.AllDone }
     ensures going { result ≡ Ok Turn.Going → exstack.new.stage ≢ Stage.AllDone }
@@ -97,10 +96,7 @@ fn proceed<const CAP: usize, Q: Program, P: Port<CAP>>(
     ensures sends { run.new.sends ≡ run.old.sends }
     ensures waits { OnOk result (Waits Q.rules (running run.old) (Stacking CAP exstack.old) (Stacking CAP exstack.new)
         (P.sent port.old) (P.got port.old) (P.sent port.new) (P.got port.new) (P.crowded port.new) (P.idle port.new)) }
-    ensures same_dims { P.dims port.new ≡ P.dims port.old }
-    ensures same_rank { P.rank port.new ≡ P.rank port.old }
-    ensures same_slots { P.slots port.new ≡ P.slots port.old }
-    ensures rest { P.rest port.new ≡ P.rest port.old }
+    ensures same_port { SamePort P.Port port.old port.new }
     ensures memory { P.Memory.GROWS ≡ false → IsOk result }
     ensures ended { result ≡ Ok Turn.Ended → exstack.new.stage ≡ Stage.AllDone }
     ensures going { result ≡ Ok Turn.Going → exstack.new.stage ≢ Stage.AllDone }
@@ -140,10 +136,7 @@ fn exchange<const CAP: usize, Q: Program, P: Port<CAP>>(
     ensures sends { run.new.sends ≡ run.old.sends }
     ensures waits { OnOk result (Waits Q.rules (running run.old) (Stacking CAP exstack.old) (Stacking CAP exstack.new)
         (P.sent port.old) (P.got port.old) (P.sent port.new) (P.got port.new) (P.crowded port.new) (P.idle port.new)) }
-    ensures same_dims { P.dims port.new ≡ P.dims port.old }
-    ensures same_rank { P.rank port.new ≡ P.rank port.old }
-    ensures same_slots { P.slots port.new ≡ P.slots port.old }
-    ensures rest { P.rest port.new ≡ P.rest port.old }
+    ensures same_port { SamePort P.Port port.old port.new }
     ensures memory { P.Memory.GROWS ≡ false → IsOk result }
     ensures going { IfOk result (λ t. t ≡ Turn.Going) }
     ensures stage { exstack.new.stage ≢ Stage.AllDone }
@@ -252,8 +245,7 @@ pub(crate) fn new_exstack<const CAP: usize>(
     grid: &Grid,
     rank: u32,
 ) -> Result<Exstack<CAP>, NoMemory>
-    requires some { 0 < CAP }
-    requires small { CAP ≤ 1024 }
+    requires cap { IsCap CAP }
     requires one_hop { length grid.now ≡ 1 }
     requires rank { rank < ranks grid.now }
     ensures { IfOk result (λ x. IsNew grid.now rank ByExstack (Stacking CAP x)) }

@@ -99,3 +99,6 @@ returns-clause-cycle g c = λ quota n i.
 
 pub returns-clause-awaits : goal.returns-clause-awaits
 returns-clause-awaits g c = λ ok. exchange_awaits g.row.CAP c.poll_exchange-polled.new.self c.known.ensures.standing _ c.in_ok-_made.ensures.answer c.in_ok-_made.ensures.stage
+
+pub returns-clause-waits : goal.returns-clause-waits
+returns-clause-waits g c = record { posts = c.in_ok-_made.ensures.crowded refl; collects = λ a w due. (c.in_ok-_made.ensures.asked refl a w due).in_vain }

@@ -244,3 +244,10 @@ returns-in-AllDone-clause-cycle g c = λ quota n i.
 
 pub returns-in-GoOn-clause-awaits : goal.returns-in-GoOn-clause-awaits
 returns-in-GoOn-clause-awaits g c = λ ok. proceed_awaits g.row.CAP c.poll_proceed-polled.new.self c.known.ensures.standing _ c.in_ok-polled.ensures.answer c.in_ok-polled.ensures.stage
+
+pub returns-in-AllDone-clause-waits : goal.returns-in-AllDone-clause-waits
+returns-in-AllDone-clause-waits g c =
+    let pops = c.pop_all-run.ensures.pops in
+    waits_like c.args.exstack.now c.pop_all-run.new.exstack c.poll_proceed-polled.new.self (g.P.Port.got c.args.port.now) (g.P.Port.got c.poll_proceed-polled.new.port) (g.P.Port.crowded c.poll_proceed-polled.new.port) (g.P.Port.idle c.poll_proceed-polled.new.port)
+    (ap (λ (t : State). t.ranks) pops.same) (ap (λ (t : State). t.rank) pops.same)
+    (record { posts = c.in_ok-polled.ensures.crowded refl; collects = λ a low due. (c.in_ok-polled.ensures.asked refl a low due).in_vain })

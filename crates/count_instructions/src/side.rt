@@ -1,9 +1,11 @@
 //! One rank of a benchmark: its conveyor, which turns at the port that it is lent.
 ghost use Rattle.std.specs.Prelude.{◌≡◌, ◌≢◌, ◌<◌, ◌≤◌, [], false, length, IfOk};
+ghost use Rattle.item_buffer.specs.Capacity.{IsCap};
 ghost use Rattle.route_tensor.specs.Grid.{ranks};
 ghost use Rattle.convey.specs.Buffers.{buffers_of};
 ghost use Rattle.convey.specs.Conveyors.{AgreesWith, KeepsAgreement};
 ghost use Rattle.convey.specs.Law.{IsSound};
+ghost use Rattle.port_bank.specs.Frames.{SamePort};
 
 use crate::sending::push_some;
 use crate::taking::sum_all;
@@ -36,8 +38,7 @@ impl<const CAP: usize, const HOPS: usize> Side<CAP, HOPS> {
 
     /// The conveyor of a rank.
     pub(crate) fn new(alloc: Global, grid: &Grid, rank: u32) -> Result<Self, NoMemory>
-        requires some { 0 < CAP }
-        requires small { CAP ≤ 1024 }
+        requires cap { IsCap CAP }
         requires hops { length grid.now ≡ HOPS }
         requires rank { rank < ranks grid.now }
         ensures same_dims { IfOk result (λ s. s.conveyor.dims ≡ grid.now) }
@@ -78,10 +79,7 @@ impl<const CAP: usize, const HOPS: usize> Side<CAP, HOPS> {
         ensures sound { IsSound (buffers_of self.new.conveyor) }
         ensures self_dims { self.new.conveyor.dims ≡ self.old.conveyor.dims }
         ensures self_rank { self.new.conveyor.rank ≡ self.old.conveyor.rank }
-        ensures port_dims { P.dims port.new ≡ P.dims port.old }
-        ensures port_rank { P.rank port.new ≡ P.rank port.old }
-        ensures port_slots { P.slots port.new ≡ P.slots port.old }
-        ensures rest { P.rest port.new ≡ P.rest port.old }
+        ensures same_port { SamePort P.Port port.old port.new }
     {
         self.begin(begins);
         self.push(items);
@@ -136,10 +134,7 @@ impl<const CAP: usize, const HOPS: usize> Side<CAP, HOPS> {
         ensures agrees { AgreesWith self.new.conveyor (P.sent port.new) (P.got port.new) }
         ensures self_dims { self.new.conveyor.dims ≡ self.old.conveyor.dims }
         ensures self_rank { self.new.conveyor.rank ≡ self.old.conveyor.rank }
-        ensures port_dims { P.dims port.new ≡ P.dims port.old }
-        ensures port_rank { P.rank port.new ≡ P.rank port.old }
-        ensures port_slots { P.slots port.new ≡ P.slots port.old }
-        ensures rest { P.rest port.new ≡ P.rest port.old }
+        ensures same_port { SamePort P.Port port.old port.new }
     {
         if self.conveyor.phase() == Phase::Dormant {
             return Ok(true);

@@ -21,10 +21,10 @@ returns-clause-together g c =
       sound = c.turn.ensures.sound;
       self_dims = c.turn.ensures.self_dims;
       self_rank = c.turn.ensures.self_rank;
-      port_dims = c.turn.ensures.port_dims;
-      port_rank = c.turn.ensures.port_rank;
-      port_slots = c.turn.ensures.port_slots;
-      rest = c.turn.ensures.rest;
+      port_dims = c.turn.ensures.same_port.dims;
+      port_rank = c.turn.ensures.same_port.rank;
+      port_slots = c.turn.ensures.same_port.slots;
+      rest = c.turn.ensures.same_port.rest;
       lawful = subst (IsBank g.row.CAP) c.into_bank.ensures.bank c.into_bank.ensures.lawful;
     } in
     λ d. (together_advance g.row.CAP c.args.rank _ _ _ _ c.args.bank c.port-port.result.bank c.turn.new.port.bank c.into_bank.result c.port-port.result.rank c.turn.new.port.rank

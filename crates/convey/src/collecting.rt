@@ -9,7 +9,7 @@ ghost use Rattle.port_bank.specs.Calls.{once_more_if};
 ghost use Rattle.port_bank.specs.Frames.{SamePort, SameOuts, InsElsewhere};
 ghost use Rattle.convey.specs.Buffers.{in_of};
 ghost use Rattle.hop_core.specs.Link.{is_wanted};
-ghost use Rattle.convey.specs.Way.{IsReady, GoesOn, WasAsked};
+ghost use Rattle.convey.specs.Way.{IsReady, GoesOn, WasAsked, LeftByCollects};
 
 use hop_core::RankState;
 use item_buffer::Parcel;
@@ -27,9 +27,6 @@ pub(crate) fn collect_all<const CAP: usize, const HOPS: usize, P: Port<CAP>>(
     requires empty { spare.old ≡ blank state.old.epoch }
     requires ready { IsReady (P.dims port.old) (P.rank port.old) state.old (P.sent port.old) (P.got port.old) }
     ensures empty { spare.new ≡ blank state.new.epoch }
-    ensures ready { IsReady (P.dims port.old) (P.rank port.old) state.new (P.sent port.new) (P.got port.new) }
-    ensures goes_on { GoesOn state.old state.new (P.sent port.old) (P.sent port.new) (P.got port.old) (P.got port.new) }
-    ensures outs { state.new.outs ≡ state.old.outs }
     ensures asked { (l : ℕ) → l < links (P.dims port.old) → reader_at (P.dims port.old) l ≡ P.rank port.old
         → WasAsked state.old l (P.got port.old l) (P.got port.new l) (P.noted port.old l) (P.noted port.new l)
         (P.idle port.new l) }
@@ -38,8 +35,7 @@ pub(crate) fn collect_all<const CAP: usize, const HOPS: usize, P: Port<CAP>>(
     ensures lies { (l : ℕ) (more : List Shipped) → l < links (P.dims port.old)
         → reader_at (P.dims port.old) l ≡ P.rank port.old → P.got port.new l ≡ P.got port.old l ++ more
         → (in_of state.new l).parcel.untaken ≡ (in_of state.old l).parcel.untaken ++ flat_map (λ p. p.entries) more }
-    ensures same_outs { SameOuts P.Port port.old port.new }
-    ensures same_port { SamePort P.Port port.old port.new }
+    ensures leaves { LeftByCollects P.Port state.old state.new port.old port.new }
 {
     for i in (0..state.routes().neighbours()).rev() {
         let link = state.routes().neighbour(i).link_from;
@@ -61,9 +57,6 @@ pub(crate) fn collect_one<const CAP: usize, const HOPS: usize, P: Port<CAP>>(
     requires empty { spare.old ≡ blank state.old.epoch }
     requires ready { IsReady (P.dims port.old) (P.rank port.old) state.old (P.sent port.old) (P.got port.old) }
     ensures empty { spare.new ≡ blank state.new.epoch }
-    ensures ready { IsReady (P.dims port.old) (P.rank port.old) state.new (P.sent port.new) (P.got port.new) }
-    ensures goes_on { GoesOn state.old state.new (P.sent port.old) (P.sent port.new) (P.got port.old) (P.got port.new) }
-    ensures outs { state.new.outs ≡ state.old.outs }
     ensures asked { WasAsked state.old link (P.got port.old link) (P.got port.new link) (P.noted port.old link)
         (P.noted port.new link) (P.idle port.new link) }
     ensures collects { P.collects port.new link
@@ -74,8 +67,7 @@ pub(crate) fn collect_one<const CAP: usize, const HOPS: usize, P: Port<CAP>>(
     ensures inbox { (m : ℕ) → m < links (P.dims port.old) → reader_at (P.dims port.old) m ≡ P.rank port.old → m ≢ link
         → in_of state.new m ≡ in_of state.old m }
     ensures elsewhere { InsElsewhere P.Port link port.old port.new }
-    ensures same_outs { SameOuts P.Port port.old port.new }
-    ensures same_port { SamePort P.Port port.old port.new }
+    ensures leaves { LeftByCollects P.Port state.old state.new port.old port.new }
 {
     state.known();
     if !state.wants_from(number) {

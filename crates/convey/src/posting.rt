@@ -8,7 +8,7 @@ ghost use Rattle.port_bank.specs.Calls.{once_more_if};
 ghost use Rattle.port_bank.specs.Frames.{SameIns, SamePort, OutsElsewhere};
 ghost use Rattle.convey.specs.Buffers.{out_of};
 ghost use Rattle.convey.specs.Due.{IsDue, WasServed, StopsAt, was_served};
-ghost use Rattle.convey.specs.Way.{IsReady, GoesOn, WasPosted};
+ghost use Rattle.convey.specs.Way.{IsReady, GoesOn, WasPosted, LeftByPosts};
 
 use bale_types::NoMemory;
 use hop_core::RankState;
@@ -27,9 +27,6 @@ pub(crate) fn post_all<const CAP: usize, const HOPS: usize, P: Port<CAP>>(
     requires empty { spare.old ≡ blank state.old.epoch }
     requires ready { IsReady (P.dims port.old) (P.rank port.old) state.old (P.sent port.old) (P.got port.old) }
     ensures empty { spare.new ≡ blank state.new.epoch }
-    ensures ready { IsReady (P.dims port.old) (P.rank port.old) state.new (P.sent port.new) (P.got port.new) }
-    ensures goes_on { GoesOn state.old state.new (P.sent port.old) (P.sent port.new) (P.got port.old) (P.got port.new) }
-    ensures ins { state.new.ins ≡ state.old.ins }
     ensures served { OnOk result ((l : ℕ) → l < links (P.dims port.old)
         → sender_at (P.dims port.old) l ≡ P.rank port.old
         → WasServed state.new l (P.looks_out port.old l) (P.looks_out port.new l) (P.crowded port.new l)) }
@@ -44,9 +41,7 @@ pub(crate) fn post_all<const CAP: usize, const HOPS: usize, P: Port<CAP>>(
         → (out_of state.new l).parcel.untaken ≡ (out_of state.old l).parcel.untaken }
     ensures posted { (l : ℕ) → l < links (P.dims port.old) → sender_at (P.dims port.old) l ≡ P.rank port.old
         → WasPosted (out_of state.old l).parcel.untaken (P.sent port.old l) (P.sent port.new l) }
-    ensures idle { (l : ℕ) → P.sent port.new l ≡ P.sent port.old l → P.idle port.new l ≡ P.idle port.old l }
-    ensures same_ins { SameIns P.Port port.old port.new }
-    ensures same_port { SamePort P.Port port.old port.new }
+    ensures leaves { LeftByPosts P.Port state.old state.new port.old port.new }
 {
     for i in 0..state.routes().neighbours() {
         let link = state.routes().neighbour(i).link_to;
@@ -70,9 +65,6 @@ pub(crate) fn post_one<const CAP: usize, const HOPS: usize, P: Port<CAP>>(
     requires empty { spare.old ≡ blank state.old.epoch }
     requires ready { IsReady (P.dims port.old) (P.rank port.old) state.old (P.sent port.old) (P.got port.old) }
     ensures empty { spare.new ≡ blank state.new.epoch }
-    ensures ready { IsReady (P.dims port.old) (P.rank port.old) state.new (P.sent port.new) (P.got port.new) }
-    ensures goes_on { GoesOn state.old state.new (P.sent port.old) (P.sent port.new) (P.got port.old) (P.got port.new) }
-    ensures ins { state.new.ins ≡ state.old.ins }
     ensures served { OnOk result (WasServed state.new link (P.looks_out port.old link) (P.looks_out port.new link)
         (P.crowded port.new link)) }
     ensures posts { OnOk result (P.posts port.new link
@@ -88,9 +80,7 @@ pub(crate) fn post_one<const CAP: usize, const HOPS: usize, P: Port<CAP>>(
     ensures waits { P.sent port.new link ≡ P.sent port.old link → (out_of state.new link).parcel.untaken
         ≡ (out_of state.old link).parcel.untaken }
     ensures elsewhere { OutsElsewhere P.Port link port.old port.new }
-    ensures idle { (m : ℕ) → P.sent port.new m ≡ P.sent port.old m → P.idle port.new m ≡ P.idle port.old m }
-    ensures same_ins { SameIns P.Port port.old port.new }
-    ensures same_port { SamePort P.Port port.old port.new }
+    ensures leaves { LeftByPosts P.Port state.old state.new port.old port.new }
 {
     state.known();
     if !state.due_to(number) {

@@ -1,6 +1,8 @@
 //! One rank's conveyor in a test: its calls, made wherever their contracts allow them.
 ghost use Rattle.std.specs.Prelude.{◌≡◌};
+ghost use Rattle.item_buffer.specs.Capacity.{IsCap};
 ghost use Rattle.route_tensor.specs.Grid.{ranks};
+ghost use Rattle.port_bank.specs.Frames.{SamePort};
 
 use bale_types::{Item, NoMemory};
 use convey::{Conveyor, Phase, Progress, Pushed};
@@ -54,8 +56,7 @@ impl<const CAP: usize, const HOPS: usize> Side<CAP, HOPS> {
     ghost use Rattle.convey.specs.Conveyors.{AgreesWith, KeepsAgreement};
 
     pub(crate) fn new(alloc: Global, grid: &Grid, rank: u32, steady: bool) -> Result<Self, NoMemory>
-        requires some { 0 < CAP }
-        requires small { CAP ≤ 1024 }
+        requires cap { IsCap CAP }
         requires hops { length grid.now ≡ HOPS }
         requires rank { rank < ranks grid.now }
         ensures same_dims { IfOk result (λ s. s.conveyor.dims ≡ grid.now) }
@@ -86,10 +87,7 @@ impl<const CAP: usize, const HOPS: usize> Side<CAP, HOPS> {
         ensures sound { IsSound (buffers_of self.new.conveyor) }
         ensures self_dims { self.new.conveyor.dims ≡ self.old.conveyor.dims }
         ensures self_rank { self.new.conveyor.rank ≡ self.old.conveyor.rank }
-        ensures port_dims { P.dims port.new ≡ P.dims port.old }
-        ensures port_rank { P.rank port.new ≡ P.rank port.old }
-        ensures port_slots { P.slots port.new ≡ P.slots port.old }
-        ensures rest { P.rest port.new ≡ P.rest port.old }
+        ensures same_port { SamePort P.Port port.old port.new }
     {
         match call {
             Call::Advance(done) => self.advance(port, done),
@@ -124,10 +122,7 @@ impl<const CAP: usize, const HOPS: usize> Side<CAP, HOPS> {
         ensures sound { IsSound (buffers_of self.new.conveyor) }
         ensures self_dims { self.new.conveyor.dims ≡ self.old.conveyor.dims }
         ensures self_rank { self.new.conveyor.rank ≡ self.old.conveyor.rank }
-        ensures port_dims { P.dims port.new ≡ P.dims port.old }
-        ensures port_rank { P.rank port.new ≡ P.rank port.old }
-        ensures port_slots { P.slots port.new ≡ P.slots port.old }
-        ensures rest { P.rest port.new ≡ P.rest port.old }
+        ensures same_port { SamePort P.Port port.old port.new }
     {
         if self.conveyor.phase() == Phase::Dormant || self.done && !done {
             return Ok(Answer::NotMade);

@@ -1,6 +1,8 @@
 //! One rank's exstack in a test: its calls, made wherever their contracts allow them.
 ghost use Rattle.std.specs.Prelude.{◌≡◌};
+ghost use Rattle.item_buffer.specs.Capacity.{IsCap};
 ghost use Rattle.exstack.specs.State.{may_proceed, may_exchange};
+ghost use Rattle.port_bank.specs.Frames.{SamePort};
 
 use bale_types::{Item, NoMemory};
 use exstack::{Exstack, Poll, Proceed, Stage};
@@ -64,8 +66,7 @@ impl<const CAP: usize> Side<CAP> {
     ghost use Rattle.exstack.specs.Standing.{IsStack};
 
     pub(crate) fn new(alloc: Global, grid: &Grid, rank: u32) -> Result<Self, NoMemory>
-        requires some { 0 < CAP }
-        requires small { CAP ≤ 1024 }
+        requires cap { IsCap CAP }
         requires one_hop { length grid.now ≡ 1 }
         requires rank { rank < ranks grid.now }
         ensures same_ranks { IfOk result (λ s. s.stack.ranks ≡ ranks grid.now) }
@@ -96,10 +97,7 @@ impl<const CAP: usize> Side<CAP> {
         ensures standing { IsStack CAP self.new.stack }
         ensures self_ranks { self.new.stack.ranks ≡ self.old.stack.ranks }
         ensures self_rank { self.new.stack.rank ≡ self.old.stack.rank }
-        ensures port_dims { P.dims port.new ≡ P.dims port.old }
-        ensures port_rank { P.rank port.new ≡ P.rank port.old }
-        ensures port_slots { P.slots port.new ≡ P.slots port.old }
-        ensures rest { P.rest port.new ≡ P.rest port.old }
+        ensures same_port { SamePort P.Port port.old port.new }
     {
         match call {
             Call::Proceed(done) => self.proceed(port, done),
@@ -136,10 +134,7 @@ impl<const CAP: usize> Side<CAP> {
         ensures standing { IsStack CAP self.new.stack }
         ensures self_ranks { self.new.stack.ranks ≡ self.old.stack.ranks }
         ensures self_rank { self.new.stack.rank ≡ self.old.stack.rank }
-        ensures port_dims { P.dims port.new ≡ P.dims port.old }
-        ensures port_rank { P.rank port.new ≡ P.rank port.old }
-        ensures port_slots { P.slots port.new ≡ P.slots port.old }
-        ensures rest { P.rest port.new ≡ P.rest port.old }
+        ensures same_port { SamePort P.Port port.old port.new }
     {
         let stage = self.stack.stage();
         if !may_proceed(stage) || self.stack.unread() != 0 || self.done && !done {
@@ -162,10 +157,7 @@ impl<const CAP: usize> Side<CAP> {
         ensures standing { IsStack CAP self.new.stack }
         ensures self_ranks { self.new.stack.ranks ≡ self.old.stack.ranks }
         ensures self_rank { self.new.stack.rank ≡ self.old.stack.rank }
-        ensures port_dims { P.dims port.new ≡ P.dims port.old }
-        ensures port_rank { P.rank port.new ≡ P.rank port.old }
-        ensures port_slots { P.slots port.new ≡ P.slots port.old }
-        ensures rest { P.rest port.new ≡ P.rest port.old }
+        ensures same_port { SamePort P.Port port.old port.new }
     {
         if !may_exchange(self.stack.stage()) {
             return Ok(Answer::NotMade);

@@ -1,7 +1,6 @@
 use Rattle.std.proofs.Common.{◌≡◌}
 use Rattle.item_buffer.specs.Contents.{blank}
-use Rattle.port_bank.specs.Frames.{SamePort, SameOuts}
-use Rattle.convey.specs.Way.{IsReady, GoesOn}
+use Rattle.convey.specs.Way.{LeftByCollects}
 use Rattle.hop_core.specs.Link.{is_wanted}
 use Rattle.convey.specs.Buffers.{in_of}
 use Rattle.convey.proofs.Ways.{Collecting}
@@ -11,12 +10,8 @@ use Rattle.convey.proofs.collecting.collect_all.Given as goal
 abbrev pub invariant-loop-i : goal.invariant-loop-i
 invariant-loop-i g l = record {
   empty : l.spare ≡ blank l.state.epoch;
-  ready : IsReady (g.P.Port.dims l.fn.port) (g.P.Port.rank l.fn.port) l.state (g.P.Port.sent l.port) (g.P.Port.got l.port);
-  goes_on : GoesOn l.fn.state l.state (g.P.Port.sent l.fn.port) (g.P.Port.sent l.port) (g.P.Port.got l.fn.port) (g.P.Port.got l.port);
   collecting : Collecting (g.P.Port.dims l.fn.port) (g.P.Port.rank l.fn.port) l.i l.fn.state l.state (g.P.Port.got l.fn.port) (g.P.Port.got l.port)
       (g.P.Port.noted l.fn.port) (g.P.Port.noted l.port) (g.P.Port.idle l.port);
-  outs : l.state.outs ≡ l.fn.state.outs;
   counted : CountedFrom (g.P.Port.dims l.fn.port) (g.P.Port.rank l.fn.port) l.i (λ m. is_wanted (in_of l.fn.state m)) (g.P.Port.collects l.fn.port) (g.P.Port.collects l.port);
-  same_outs : SameOuts g.P.Port l.fn.port l.port;
-  same_port : SamePort g.P.Port l.fn.port l.port;
+  leaves : LeftByCollects g.P.Port l.fn.state l.state l.fn.port l.port;
 }

@@ -23,10 +23,10 @@ returns-clause-together g c =
       sound = c.in_ok-answer.ensures.sound;
       self_dims = c.in_ok-answer.ensures.self_dims;
       self_rank = c.in_ok-answer.ensures.self_rank;
-      port_dims = c.in_ok-answer.ensures.port_dims;
-      port_rank = c.in_ok-answer.ensures.port_rank;
-      port_slots = c.in_ok-answer.ensures.port_slots;
-      rest = c.in_ok-answer.ensures.rest;
+      port_dims = c.in_ok-answer.ensures.same_port.dims;
+      port_rank = c.in_ok-answer.ensures.same_port.rank;
+      port_slots = c.in_ok-answer.ensures.same_port.slots;
+      rest = c.in_ok-answer.ensures.same_port.rest;
       lawful = subst (IsBank g.row.CAP) c.into_bank.ensures.bank c.into_bank.ensures.lawful;
     } in
     λ d. (together_advance g.row.CAP c.args.rank _ _ _ _ c.args.bank c.port-port.result.bank c.make.new.port.bank c.into_bank.result c.port-port.result.rank c.make.new.port.rank

@@ -26,10 +26,10 @@ returns-clause-together g c =
       standing = c.in_ok-answer.ensures.standing;
       self_ranks = c.in_ok-answer.ensures.self_ranks;
       self_rank = c.in_ok-answer.ensures.self_rank;
-      port_dims = c.in_ok-answer.ensures.port_dims;
-      port_rank = c.in_ok-answer.ensures.port_rank;
-      port_slots = c.in_ok-answer.ensures.port_slots;
-      rest = c.in_ok-answer.ensures.rest;
+      port_dims = c.in_ok-answer.ensures.same_port.dims;
+      port_rank = c.in_ok-answer.ensures.same_port.rank;
+      port_slots = c.in_ok-answer.ensures.same_port.slots;
+      rest = c.in_ok-answer.ensures.same_port.rest;
       lawful = subst (IsBank g.row.CAP) c.into_bank.ensures.bank c.into_bank.ensures.lawful;
     } in
     let count : length (set sides c.args.rank c.make.new.self) ≡ length sides = length-set sides c.args.rank c.make.new.self in
@@ -42,4 +42,4 @@ returns-clause-together g c =
 pub returns-clause-one_hop : goal.returns-clause-one_hop
 returns-clause-one_hop g c =
     let sides = c.args.sides.now.items in
-    ap (λ b. b.dims) c.into_bank.ensures.bank ∙ (c.in_ok-answer.ensures.port_dims ∙ (ap (λ b. b.dims) c.port-port.ensures.bank ∙ (c.requires.one_hop ∙ ap (λ n. n ∷ []) (sym (length-set sides c.args.rank c.make.new.self)))))
+    ap (λ b. b.dims) c.into_bank.ensures.bank ∙ (c.in_ok-answer.ensures.same_port.dims ∙ (ap (λ b. b.dims) c.port-port.ensures.bank ∙ (c.requires.one_hop ∙ ap (λ n. n ∷ []) (sym (length-set sides c.args.rank c.make.new.self)))))

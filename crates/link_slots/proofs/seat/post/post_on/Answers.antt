@@ -19,20 +19,20 @@ send-requires g c =
         (
           omega arith,
           (
-            (c.make_room.ensures.table ∙ c.requires.table.0, c.requires.table.1),
+            record {
+              here = c.make_room.ensures.stays.table ∙ c.requires.at.here;
+              board = c.requires.at.board;
+              manned = c.make_room.ensures.stays.seat;
+              below = c.requires.at.below;
+              own = c.requires.at.own ∙ sym (ap (λ (z : Knowing). z.pick) e);
+            },
             (
-              c.make_room.ensures.seat,
+              (let s = c.make_room.ensures.end.spare_is in let n = c.if-end-eq0.false in omega arith),
               (
-                (c.requires.link.0, c.requires.link.1 ∙ sym (ap (λ (z : Knowing). z.pick) e)),
+                c.slot_of-slot.ensures _ c.make_room.ensures.end.sent_is ∙ ap (λ (z : ℕ). z * l + length (out_of (own_logs v1) l).sent % z) c.requires.slots,
                 (
-                  (let s = c.make_room.ensures.end.spare_is in let n = c.if-end-eq0.false in omega arith),
-                  (
-                    c.slot_of-slot.ensures _ c.make_room.ensures.end.sent_is ∙ ap (λ (z : ℕ). z * l + length (out_of (own_logs v1) l).sent % z) c.requires.slots,
-                    (
-                      subst (λ (z : List Contents). MayFollow key.dims g.row.CAP l z c.args.parcel.now) (sym c.make_room.ensures.sent) c.requires.parcel,
-                      law_after v c.requires.seat.speaks l c.requires.long key.dims v1 c.args.parcel.now e c.make_room.ensures.sent c.requires.law,
-                    ),
-                  ),
+                  subst (λ (z : List Contents). MayFollow key.dims g.row.CAP l z c.args.parcel.now) (sym c.make_room.ensures.sent) c.requires.parcel,
+                  law_after v c.requires.at.manned.speaks l c.requires.long key.dims v1 c.args.parcel.now e c.make_room.ensures.sent c.requires.law,
                 ),
               ),
             ),
@@ -44,7 +44,7 @@ send-requires g c =
 pub returns-clause-here : goal.returns-clause-here
 returns-clause-here g c =
     let v : Knowing = c.args.place.now.me.0 in let v1 : Knowing = c.make_room.new.place.me.0 in let v2 : Knowing = c.send.new.place.me.0 in let v3 : Knowing = c.ring.new.place.me.0 in let l : ℕ = c.args.link in
-    let speaks = c.requires.seat.speaks in let long = c.requires.long in
+    let speaks = c.requires.at.manned.speaks in let long = c.requires.long in
     let e2 = then_out v speaks l long v1 v2 _ _ c.make_room.ensures.here c.send.ensures.posted in
     out_itself v speaks l long v3 _ (then_out v speaks l long v2 v3 _ _ e2 c.ring.ensures.rung)
 
@@ -52,7 +52,7 @@ pub returns-clause-end : goal.returns-clause-end
 returns-clause-end g c =
     let key : Shape = c.args.top.now.key in
     let v : Knowing = c.args.place.now.me.0 in let v1 : Knowing = c.make_room.new.place.me.0 in let v2 : Knowing = c.send.new.place.me.0 in let v3 : Knowing = c.ring.new.place.me.0 in let l : ℕ = c.args.link in
-    let speaks = c.requires.seat.speaks in let long = c.requires.long in
+    let speaks = c.requires.at.manned.speaks in let long = c.requires.long in
     let e1 = c.make_room.ensures.here in
     let e2 = then_out v speaks l long v1 v2 _ _ e1 c.send.ensures.posted in
     let o1 : OutLog Contents = out_of (own_logs v1) l in
@@ -69,7 +69,7 @@ returns-clause-end g c =
 pub returns-clause-at_hand : goal.returns-clause-at_hand
 returns-clause-at_hand g c = λ room.
     let v : Knowing = c.args.place.now.me.0 in let v1 : Knowing = c.make_room.new.place.me.0 in let v2 : Knowing = c.send.new.place.me.0 in let v3 : Knowing = c.ring.new.place.me.0 in let l : ℕ = c.args.link in
-    let speaks = c.requires.seat.speaks in let long = c.requires.long in
+    let speaks = c.requires.at.manned.speaks in let long = c.requires.long in
     let e1 = c.make_room.ensures.here in
     let e2 = then_out v speaks l long v1 v2 _ _ e1 c.send.ensures.posted in
     let at2 : out_of (own_logs v2) l ≡ sent_more (out_of (own_logs v1) l) c.args.parcel.now = out_after v1 v2 (speaks_after v speaks l long v1 _ e1) l (own_logs v1) _ c.send.ensures.posted (long_after v speaks l long v1 _ e1) in
@@ -82,7 +82,7 @@ returns-clause-at_hand g c = λ room.
 pub returns-clause-once : goal.returns-clause-once
 returns-clause-once g c =
     let v : Knowing = c.args.place.now.me.0 in let v1 : Knowing = c.make_room.new.place.me.0 in let v2 : Knowing = c.send.new.place.me.0 in let v3 : Knowing = c.ring.new.place.me.0 in let l : ℕ = c.args.link in
-    let speaks = c.requires.seat.speaks in let long = c.requires.long in
+    let speaks = c.requires.at.manned.speaks in let long = c.requires.long in
     let e1 = c.make_room.ensures.here in
     let e2 = then_out v speaks l long v1 v2 _ _ e1 c.send.ensures.posted in
     let at2 : out_of (own_logs v2) l ≡ sent_more (out_of (own_logs v1) l) c.args.parcel.now = out_after v1 v2 (speaks_after v speaks l long v1 _ e1) l (own_logs v1) _ c.send.ensures.posted (long_after v speaks l long v1 _ e1) in

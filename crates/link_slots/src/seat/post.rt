@@ -6,7 +6,7 @@ ghost use Rattle.link_slots.specs.Logs.{out_of, with_out, sent_of, got_of, sent_
 ghost use Rattle.link_slots.specs.View.{own_logs, with_logs};
 ghost use Rattle.link_slots.specs.Shape.{IsBoard, IsBlank, MayFollow, KeepsLaw};
 ghost use Rattle.link_slots.specs.Told.{IsManned, IsAtOut, StaysSeated};
-ghost use Rattle.link_slots.specs.Counts.{IsOutEnd, IsWire};
+ghost use Rattle.link_slots.specs.Counts.{IsOutEnd, IsWire, HasPosted};
 
 use crate::seat::ends::{OutEnd, slot_of};
 use crate::table::rule::{Place, Top};
@@ -74,27 +74,8 @@ pub(crate) fn post_on<const CAP: usize>(
         end.new.spare }
     ensures here { place.new.me.0 ≡ with_logs place.old.me.0
         (with_out (own_logs place.old.me.0) link (out_of (own_logs place.new.me.0) link)) }
-    ensures sent { result ≡ Posted.Sent → (out_of (own_logs place.new.me.0) link).sent
-        ≡ (out_of (own_logs place.old.me.0) link).sent ++ parcel.old ∷ [] }
-    ensures offered { result ≡ Posted.Sent → (out_of (own_logs place.new.me.0) link).offered
-        ≡ length (out_of (own_logs place.new.me.0) link).sent }
     ensures emptied { result ≡ Posted.Sent → IsBlank parcel.new }
-    ensures room { result ≡ Posted.Sent → length (out_of (own_logs place.old.me.0) link).sent <
-        (out_of (own_logs place.new.me.0) link).room }
-    ensures looks { (out_of (own_logs place.old.me.0) link).looks ≤ (out_of (own_logs place.new.me.0) link).looks }
-    ensures once { (out_of (own_logs place.new.me.0) link).looks ≤ suc (out_of (own_logs place.old.me.0) link).looks }
-    ensures at_hand { length (out_of (own_logs place.old.me.0) link).sent < (out_of (own_logs place.old.me.0) link).room
-        → (result ≡ Posted.Sent) × ((out_of (own_logs place.new.me.0) link).looks
-        ≡ (out_of (own_logs place.old.me.0) link).looks) }
-    ensures found { result ≡ Posted.NoRoom → out_of (own_logs place.new.me.0) link
-        ≡ found_full (out_of (own_logs place.old.me.0) link) }
-    ensures looked { result ≡ Posted.NoRoom → (out_of (own_logs place.new.me.0) link).looks
-        ≡ suc (out_of (own_logs place.old.me.0) link).looks }
-    ensures full { result ≡ Posted.NoRoom → (out_of (own_logs place.new.me.0) link).room
-        ≡ length (out_of (own_logs place.old.me.0) link).sent }
-    ensures all_room { result ≡ Posted.NoRoom → top.now.key.slots ≤ (out_of (own_logs place.new.me.0) link).room }
-    ensures not_sent { result ≡ Posted.NoRoom → (out_of (own_logs place.new.me.0) link).sent
-        ≡ (out_of (own_logs place.old.me.0) link).sent }
+    ensures link { HasPosted top.now.key.slots (out_of (own_logs place.old.me.0) link) (out_of (own_logs place.new.me.0) link) parcel.old result }
     ensures kept { result ≡ Posted.NoRoom → parcel.new ≡ parcel.old }
 {
     make_room(top, place, end, slots, link);

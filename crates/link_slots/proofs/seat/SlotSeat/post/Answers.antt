@@ -10,7 +10,7 @@ use Rattle.link_slots.specs.Logs.{out_of, with_out, sent_of, got_of, sent_more}
 use Rattle.link_slots.specs.View.{own_logs}
 use Rattle.link_slots.specs.Shape.{Shape, MayFollow, KeepsLaw, shipped_all}
 use Rattle.link_slots.specs.Told.{IsManned}
-use Rattle.link_slots.specs.Counts.{IsWire, IsOutEnd}
+use Rattle.link_slots.specs.Counts.{IsWire, IsOutEnd, HasPosted}
 use Rattle.link_slots.specs.Seen.{Bank, Manning, posted_on, collected_from}
 use Rattle.link_slots.proofs.Seating.{law_for, may_follow, seat_posted}
 use Rattle.link_slots.proofs.seat.SlotSeat.post.Goals as goal
@@ -84,3 +84,10 @@ returns-clause-within g c =
     let counts = s.each_out l c.index_mut-end.result.now inside mine in
     let spare = counts.spare_is in
     subst (λ (z : Manning). length (out_of z.lists l).sent ≤ (out_of z.lists l).room) c.self.view_is (omega (arith, spare))
+
+pub returns-clause-link : goal.returns-clause-link
+returns-clause-link g c =
+    let l : ℕ = c.args.link in
+    let e : c.self.inside.place.me.0.shape ≡ c.bank.inside.board.shared.key = ap (λ (z : Manning). z.shape) c.self.view_is ∙ (c.requires.bank.1 ∙ sym (ap (λ (z : Bank). z.shape) c.bank.view_is)) in
+    subst (λ (z : Manning). HasPosted z.shape.slots (out_of z.lists l) (out_of (own_logs c.post_on-answer.new.place.me.0) l) c.args.parcel.now c.post_on-answer.result) c.self.view_is
+    (subst (λ (z : Shape). HasPosted z.slots (out_of (own_logs c.self.inside.place.me.0) l) (out_of (own_logs c.post_on-answer.new.place.me.0) l) c.args.parcel.now c.post_on-answer.result) (sym e) c.post_on-answer.ensures.link)

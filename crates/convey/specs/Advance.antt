@@ -31,6 +31,13 @@ pub record IsAtPort {P : Type 0} {cap : ℕ} {M : Type 0} (G : Ghosts P cap M) (
   pub same_rank : G.rank port ≡ st.rank
   pub agrees : AgreesWith st (G.sent port) (G.got port)
 
+-- What any call at the port keeps: the conveyor agrees with it again, and both are those of the same rank.
+pub record KeepsPort {P : Type 0} {cap : ℕ} {M : Type 0} (G : Ghosts P cap M) (old new : State) (port port' : P) : Type 0 where
+  pub agrees : AgreesWith new (G.sent port') (G.got port')
+  pub dims : new.dims ≡ old.dims
+  pub rank : new.rank ≡ old.rank
+  pub same_port : SamePort G port port'
+
 -- The conveyor agrees with the port again, and is that of its rank, in the same epoch and done as told.
 -- begun: it isn't Dormant.
 -- step: the advance is a step of its part of the exchange machine.

@@ -14,7 +14,7 @@ ghost use Rattle.exstack.specs.State.{may_proceed, may_exchange, in_proceed, in_
 ghost use Rattle.exstack.specs.Steps.{MadeRound, InVain, StopsAt};
 ghost use Rattle.exstack.specs.Agreement.{AgreesIn, AgreesWith, cycle_after};
 ghost use Rattle.exstack.specs.Cycles.{exchange_parcel, entries_in};
-ghost use Rattle.exstack.specs.Parts.{IsStepOf, KeepsAgreement, GivesNext, AreOwnSteps, proceed_steps, is_all_done, part_of};
+ghost use Rattle.exstack.specs.Parts.{IsStepOf, KeepsAgreement, GivesNext, AreOwnSteps, proceed_steps, is_all_done, part_of, IsAtPort};
 ghost use Rattle.exstack.specs.Standing.{IsStack};
 
 use crate::stack::Stack;
@@ -197,9 +197,7 @@ impl<const CAP: usize> Exstack<CAP> {
         done: bool,
     ) -> Result<Proceed, NoMemory>
         requires may { may_proceed self.old.stage ≡ true }
-        requires same_dims { P.dims port.old ≡ dims_of self.old }
-        requires same_rank { P.rank port.old ≡ self.old.rank }
-        requires agrees { AgreesWith self.old (P.sent port.old) (P.got port.old) }
+        requires at_port { IsAtPort P.Port self.old port.old }
         requires read { unread_of self.old ≡ 0 }
         requires done_stays { self.old.done ≡ true → done ≡ true }
         requires same_done { self.old.stage ≡ Stage.Proceeding → done ≡ self.old.done }
@@ -262,9 +260,7 @@ impl<const CAP: usize> Exstack<CAP> {
     /// `NoMemory` comes only from the port's post. What was posted before it stands, and the poll may be made again.
     pub fn poll_exchange<P: Port<CAP>>(&mut self, port: &mut P) -> Result<Poll, NoMemory>
         requires may { may_exchange self.old.stage ≡ true }
-        requires same_dims { P.dims port.old ≡ dims_of self.old }
-        requires same_rank { P.rank port.old ≡ self.old.rank }
-        requires agrees { AgreesWith self.old (P.sent port.old) (P.got port.old) }
+        requires at_port { IsAtPort P.Port self.old port.old }
 
         // The exstack agrees with the port again.
         ensures agrees { AgreesWith self.new (P.sent port.new) (P.got port.new) }

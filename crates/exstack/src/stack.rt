@@ -11,6 +11,7 @@ ghost use Rattle.exstack.specs.State.{is_proceeding, is_exchanging, may_proceed,
 ghost use Rattle.exstack.specs.Steps.{MadeRound, InVain, StopsAt};
 ghost use Rattle.exstack.specs.Agreement.{AgreesIn, AgreesWith};
 ghost use Rattle.exstack.specs.Standing.{IsStack};
+ghost use Rattle.exstack.specs.Parts.{IsAtPort};
 
 use crate::in_link::InLink;
 use crate::out_link::OutLink;
@@ -279,9 +280,7 @@ impl<const CAP: usize> Stack<CAP> {
         requires exchange { exchange ≡ is_exchanging self.old.stage }
         requires last { last ≡ (self.old.done && not exchange) }
         requires forgotten { self.old.popped ≡ None }
-        requires dims { P.dims port.old ≡ dims_of self.old }
-        requires rank { P.rank port.old ≡ self.old.rank }
-        requires agrees { AgreesWith self.old (P.sent port.old) (P.got port.old) }
+        requires at_port { IsAtPort P.Port self.old port.old }
         ensures standing { IsStack CAP self.old }
         ensures same { self.new ≡ record self.old { outs = self.new.outs; ins = self.new.ins } }
         ensures cycle { (n : ℕ) → AgreesIn n self.old (P.sent port.old) (P.got port.old)

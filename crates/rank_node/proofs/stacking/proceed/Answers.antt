@@ -31,18 +31,16 @@ poll_proceed-polled-requires g c =
       (
         ap (λ (t : State). may_proceed t.stage) pops.same ∙ c.requires.may,
         (
-          c.requires.same_dims ∙ sym (ap (λ (t : State). dims_of t) pops.same),
+          record {
+            same_dims = c.requires.same_dims ∙ sym (ap (λ (t : State). dims_of t) pops.same);
+            same_rank = c.requires.same_rank ∙ sym (ap (λ (t : State). t.rank) pops.same);
+            agrees = record { cycle = a.cycle; agrees = pops.kept a.cycle sent got a.agrees };
+          },
           (
-            c.requires.same_rank ∙ sym (ap (λ (t : State). t.rank) pops.same),
+            c.pop_all-run.ensures.read,
             (
-              record { cycle = a.cycle; agrees = pops.kept a.cycle sent got a.agrees },
-              (
-                c.pop_all-run.ensures.read,
-                (
-                  λ d. done_keeps R (c.requires.node.0) run g.row.CAP x0 x1 prog' sum' spoiled' voting done sent got pops all i d,
-                  λ q. same_done R (c.requires.node.0) run g.row.CAP x0 x1 prog' sum' spoiled' voting done sent got pops all i q,
-                ),
-              ),
+              λ d. done_keeps R (c.requires.node.0) run g.row.CAP x0 x1 prog' sum' spoiled' voting done sent got pops all i d,
+              λ q. same_done R (c.requires.node.0) run g.row.CAP x0 x1 prog' sum' spoiled' voting done sent got pops all i q,
             ),
           ),
         ),

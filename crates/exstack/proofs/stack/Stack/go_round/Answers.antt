@@ -33,7 +33,7 @@ invariant_of-self g c =
     let p : PostsDone st c.post_all.new.outs.items c.args.last sent sent' got = record {
       count = e.count;
       moved = e.moved;
-      law = law_same _ _ _ _ _ _ _ _ (ap dims_of view ∙ sym c.requires.dims) (ap (λ (t : State). t.rank) view ∙ sym c.requires.rank) refl refl e.law;
+      law = law_same _ _ _ _ _ _ _ _ (ap dims_of view ∙ sym c.requires.at_port.same_dims) (ap (λ (t : State). t.rank) view ∙ sym c.requires.at_port.same_rank) refl refl e.law;
       grows = e.grows;
     } in
     let q : CollectsDone st st.ins c.args.exchange sent' got got = none_done st c.args.exchange sent' got in
@@ -66,7 +66,7 @@ returns-in_err-post_all-clause-cycle g c =
     let p : PostsDone st c.post_all.new.outs.items c.args.last sent sent' got = record {
       count = e.count;
       moved = e.moved;
-      law = law_same _ _ _ _ _ _ _ _ (ap dims_of view ∙ sym c.requires.dims) (ap (λ (t : State). t.rank) view ∙ sym c.requires.rank) refl refl e.law;
+      law = law_same _ _ _ _ _ _ _ _ (ap dims_of view ∙ sym c.requires.at_port.same_dims) (ap (λ (t : State). t.rank) view ∙ sym c.requires.at_port.same_rank) refl refl e.law;
       grows = e.grows;
     } in
     let q : CollectsDone st st.ins c.args.exchange sent' got got = none_done st c.args.exchange sent' got in
@@ -96,7 +96,7 @@ invariant_of-self-2 g c =
     let p : PostsDone st c.post_all.new.outs.items c.args.last sent sent' got = record {
       count = e.count;
       moved = e.moved;
-      law = law_same _ _ _ _ _ _ _ _ (ap dims_of view ∙ sym c.requires.dims) (ap (λ (t : State). t.rank) view ∙ sym c.requires.rank) refl refl e.law;
+      law = law_same _ _ _ _ _ _ _ _ (ap dims_of view ∙ sym c.requires.at_port.same_dims) (ap (λ (t : State). t.rank) view ∙ sym c.requires.at_port.same_rank) refl refl e.law;
       grows = e.grows;
     } in
     let got' : Logs = g.P.Port.got c.collect_all.new.port in
@@ -137,7 +137,7 @@ returns-clause-cycle g c =
     let p : PostsDone st c.post_all.new.outs.items c.args.last sent sent' got = record {
       count = e.count;
       moved = e.moved;
-      law = law_same _ _ _ _ _ _ _ _ (ap dims_of view ∙ sym c.requires.dims) (ap (λ (t : State). t.rank) view ∙ sym c.requires.rank) refl refl e.law;
+      law = law_same _ _ _ _ _ _ _ _ (ap dims_of view ∙ sym c.requires.at_port.same_dims) (ap (λ (t : State). t.rank) view ∙ sym c.requires.at_port.same_rank) refl refl e.law;
       grows = e.grows;
     } in
     let got' : Logs = g.P.Port.got c.collect_all.new.port in
@@ -175,7 +175,7 @@ returns-clause-round g c =
     let p : PostsDone st c.post_all.new.outs.items c.args.last sent sent' got = record {
       count = e.count;
       moved = e.moved;
-      law = law_same _ _ _ _ _ _ _ _ (ap dims_of view ∙ sym c.requires.dims) (ap (λ (t : State). t.rank) view ∙ sym c.requires.rank) refl refl e.law;
+      law = law_same _ _ _ _ _ _ _ _ (ap dims_of view ∙ sym c.requires.at_port.same_dims) (ap (λ (t : State). t.rank) view ∙ sym c.requires.at_port.same_rank) refl refl e.law;
       grows = e.grows;
     } in
     let got' : Logs = g.P.Port.got c.collect_all.new.port in
@@ -237,7 +237,7 @@ returns-in_err-post_all-clause-round g c =
     let p : PostsDone st c.post_all.new.outs.items c.args.last sent sent' got = record {
       count = e.count;
       moved = e.moved;
-      law = law_same _ _ _ _ _ _ _ _ (ap dims_of view ∙ sym c.requires.dims) (ap (λ (t : State). t.rank) view ∙ sym c.requires.rank) refl refl e.law;
+      law = law_same _ _ _ _ _ _ _ _ (ap dims_of view ∙ sym c.requires.at_port.same_dims) (ap (λ (t : State). t.rank) view ∙ sym c.requires.at_port.same_rank) refl refl e.law;
       grows = e.grows;
     } in
     let q : CollectsDone st st.ins c.args.exchange sent' got got = none_done st c.args.exchange sent' got in

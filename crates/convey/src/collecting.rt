@@ -6,10 +6,10 @@ ghost use Rattle.route_tensor.specs.Link.{links};
 ghost use Rattle.route_tensor.specs.Ends.{reader_at};
 ghost use Rattle.route_tensor.specs.Neighbour.{in_index};
 ghost use Rattle.port_bank.specs.Calls.{once_more_if};
-ghost use Rattle.port_bank.specs.Frames.{SamePort, SameOuts, InsElsewhere};
+ghost use Rattle.port_bank.specs.Frames.{InsElsewhere};
 ghost use Rattle.convey.specs.Buffers.{in_of};
 ghost use Rattle.hop_core.specs.Link.{is_wanted};
-ghost use Rattle.convey.specs.Way.{IsReady, GoesOn, WasAsked, LeftByCollects};
+ghost use Rattle.convey.specs.Way.{IsReady, WasAsked, LeftByCollects};
 
 use hop_core::RankState;
 use item_buffer::Parcel;

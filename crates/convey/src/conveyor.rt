@@ -1,5 +1,5 @@
 //! The conveyor of one rank: what a program pushes, advances and pulls.
-ghost use Rattle.std.specs.Prelude.{◌≡◌, ◌≢◌, ℕ, ◌+◌, ◌<◌, ◌≤◌, ◌^◌, true, false, [], ◌++◌, length, sum, replicate, map, is_some, slice_get, Some, None, IfOk, IfSome, OnOk, IsOk, IsErr, Ok, Result};
+ghost use Rattle.std.specs.Prelude.{◌≡◌, ◌≢◌, ℕ, ◌+◌, ◌<◌, ◌^◌, true, false, [], length, sum, replicate, map, is_some, slice_get, Some, None, IfOk, IfSome, OnOk, IsOk, IsErr, Ok, Result};
 ghost use Rattle.bale_types.specs.declared.item.Entry.{Entry};
 ghost use Rattle.route_tensor.specs.Grid.{ranks, IsGrid};
 ghost use Rattle.route_tensor.specs.Link.{links};
@@ -18,9 +18,7 @@ ghost use Rattle.convey.specs.Conveyors.{AgreesWith, HoldsAtMost, IsStepOf, Keep
 ghost use Rattle.convey.specs.Progress.{progress_of};
 ghost use Rattle.item_buffer.specs.Capacity.{IsCap};
 ghost use Rattle.hop_core.specs.declared.lent.Lent.TheVariants as Lent;
-ghost use Rattle.hop_core.specs.State.{at_end};
 ghost use Rattle.hop_core.specs.Standing.{IsState};
-ghost use Rattle.hop_core.specs.Link.{is_wanted};
 ghost use Rattle.convey.specs.Due.{StopsAt, NextIs, WasFull};
 
 use crate::moving::move_on;

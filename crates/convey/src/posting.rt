@@ -1,14 +1,14 @@
 //! Posts on the links out that are due.
-ghost use Rattle.std.specs.Prelude.{◌≡◌, ◌≢◌, ℕ, ◌+◌, ◌<◌, ◌≤◌, false, None, IsOk, IsErr, OnOk, Result};
+ghost use Rattle.std.specs.Prelude.{◌≡◌, ◌≢◌, ℕ, ◌<◌, false, None, IsOk, IsErr, OnOk, Result};
 ghost use Rattle.item_buffer.specs.Contents.{blank};
 ghost use Rattle.route_tensor.specs.Link.{links};
 ghost use Rattle.route_tensor.specs.Ends.{sender_at};
 ghost use Rattle.route_tensor.specs.Neighbour.{out_index};
 ghost use Rattle.port_bank.specs.Calls.{once_more_if};
-ghost use Rattle.port_bank.specs.Frames.{SameIns, SamePort, OutsElsewhere};
+ghost use Rattle.port_bank.specs.Frames.{OutsElsewhere};
 ghost use Rattle.convey.specs.Buffers.{out_of};
 ghost use Rattle.convey.specs.Due.{IsDue, WasServed, StopsAt, was_served};
-ghost use Rattle.convey.specs.Way.{IsReady, GoesOn, WasPosted, LeftByPosts};
+ghost use Rattle.convey.specs.Way.{IsReady, WasPosted, LeftByPosts};
 
 use bale_types::NoMemory;
 use hop_core::RankState;

@@ -1,5 +1,5 @@
 //! What is measured.
-ghost use Rattle.std.specs.Prelude.{◌≡◌, ◌<◌, ◌≤◌, length};
+ghost use Rattle.std.specs.Prelude.{◌≡◌, ◌<◌, length};
 ghost use Rattle.item_buffer.specs.Capacity.{IsCap};
 
 use crate::plain::over_plain;

@@ -1,5 +1,5 @@
 //! One rank's side of an exstack, as its buffers and marks change.
-ghost use Rattle.std.specs.Prelude.{◌≡◌, ℕ, ◌+◌, ◌^◌, ◌<◌, ◌≤◌, ◌&&◌, ◌||◌, not, true, false, [], length, is_some, Some, None, IfOk, OnOk, IsOk, IsErr, Ok};
+ghost use Rattle.std.specs.Prelude.{◌≡◌, ℕ, ◌+◌, ◌^◌, ◌<◌, ◌&&◌, ◌||◌, not, true, false, [], length, is_some, Some, None, IfOk, OnOk, IsOk, IsErr, Ok};
 ghost use Rattle.bale_types.specs.Stream.{RoseOrFull};
 ghost use Rattle.item_buffer.specs.Capacity.{IsCap};
 ghost use Rattle.route_tensor.specs.Grid.{ranks};
@@ -9,7 +9,7 @@ ghost use Rattle.exstack.specs.Links.{headroom_of};
 ghost use Rattle.exstack.specs.State.{new_stack, out_at, in_at, dims_of, link_to, link_from, least_headroom, unread_of, lowest_unread, pushed_on, pop_from, popped_from, pops, unpopped, after_reset};
 ghost use Rattle.exstack.specs.State.{is_proceeding, is_exchanging, may_proceed, may_exchange, in_proceed, in_exchange, missing_link, all_ended, proceed_answer, exchange_answer, stage_of_proceed, stage_of_exchange};
 ghost use Rattle.exstack.specs.Steps.{MadeRound, InVain, StopsAt};
-ghost use Rattle.exstack.specs.Agreement.{AgreesIn, AgreesWith};
+ghost use Rattle.exstack.specs.Agreement.{AgreesIn};
 ghost use Rattle.exstack.specs.Standing.{IsStack};
 ghost use Rattle.exstack.specs.Parts.{IsAtPort};
 

@@ -1,12 +1,12 @@
 //! A rank's seat: what the rank knows of its links at the bank's table, and what it counts beside it.
-ghost use Rattle.std.specs.Prelude.{◌≡◌, ◌≢◌, ◌⊎◌, ℕ, suc, ◌+◌, ◌<◌, ◌≤◌, false, [], ◌∷◌, ◌++◌, length};
+ghost use Rattle.std.specs.Prelude.{◌≡◌, ◌≢◌, ◌⊎◌, ℕ, ◌<◌, ◌≤◌, false, length};
 ghost use Rattle.item_buffer.specs.Contents.{shipped, arrived, blank};
 ghost use Rattle.route_tensor.specs.Link.{links};
 ghost use Rattle.route_tensor.specs.Ends.{hop_at, sender_at, reader_at};
 ghost use Rattle.port_bank.specs.Logs.{lasts, added};
 ghost use Rattle.port_bank.specs.Flow.{Begins};
 ghost use Rattle.port_bank.specs.Relay.{RelayLaw};
-ghost use Rattle.link_slots.specs.Logs.{out_of, in_of, with_out, with_in, taken_more, found_full, got_of};
+ghost use Rattle.link_slots.specs.Logs.{out_of, in_of, with_out, with_in, taken_more, got_of};
 ghost use Rattle.link_slots.specs.Shape.{MayFollow};
 ghost use Rattle.bale_types.specs.Stream.{RoseOrFull};
 ghost use Rattle.port_bank.specs.Port.{changed, IsSlots};

@@ -1,5 +1,5 @@
 //! A collect: a hear where it is due, a look into the marked link, and the exchange.
-ghost use Rattle.std.specs.Prelude.{◌≡◌, ◌≢◌, ℕ, suc, ◌+◌, ◌*◌, ◌^◌, ◌<◌, ◌≤◌, false, take, length};
+ghost use Rattle.std.specs.Prelude.{◌≡◌, ◌≢◌, ℕ, suc, ◌^◌, ◌<◌, ◌≤◌, false, take, length};
 ghost use mathlib.Core.Option.{some};
 ghost use lib.ListN.{get_elem?};
 ghost use Rattle.bale_types.specs.Stream.{RoseOrFull};
@@ -8,8 +8,8 @@ ghost use Rattle.route_tensor.specs.Link.{links};
 ghost use Rattle.route_tensor.specs.Ends.{hop_at, sender_at, reader_at};
 ghost use Rattle.link_slots.specs.Logs.{out_of, in_of, with_in, taken_more, listens};
 ghost use Rattle.link_slots.specs.View.{own_logs, with_logs};
-ghost use Rattle.link_slots.specs.Shape.{IsBoard, IsBlank};
-ghost use Rattle.link_slots.specs.Told.{IsManned, StaysSeated, IsAtIn};
+ghost use Rattle.link_slots.specs.Shape.{IsBlank};
+ghost use Rattle.link_slots.specs.Told.{StaysSeated, IsAtIn};
 ghost use Rattle.list_laws.specs.Counts.{counted};
 ghost use Rattle.link_slots.specs.Counts.{IsInEnd, IsHeard, IsWire, ElseKept, AreGood};
 ghost use Rattle.link_slots.specs.Doorbell.{is_due, HeardWhere, looked_where_marked, LookedFor};

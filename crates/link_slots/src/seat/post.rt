@@ -1,11 +1,9 @@
 //! A post: a look for room where no empty slot is at hand, the exchange, and the ring.
-ghost use Rattle.std.specs.Prelude.{◌≡◌, ◌≢◌, suc, ◌+◌, ◌*◌, ◌<◌, ◌≤◌, [], ◌∷◌, ◌++◌, length};
-ghost use Rattle.route_tensor.specs.Link.{links};
-ghost use Rattle.route_tensor.specs.Ends.{sender_at};
+ghost use Rattle.std.specs.Prelude.{◌≡◌, ◌≢◌, suc, ◌<◌, ◌≤◌, length};
 ghost use Rattle.link_slots.specs.Logs.{out_of, with_out, sent_of, got_of, sent_more, found_full};
 ghost use Rattle.link_slots.specs.View.{own_logs, with_logs};
-ghost use Rattle.link_slots.specs.Shape.{IsBoard, IsBlank, MayFollow, KeepsLaw};
-ghost use Rattle.link_slots.specs.Told.{IsManned, IsAtOut, StaysSeated};
+ghost use Rattle.link_slots.specs.Shape.{IsBlank, MayFollow, KeepsLaw};
+ghost use Rattle.link_slots.specs.Told.{IsAtOut, StaysSeated};
 ghost use Rattle.link_slots.specs.Counts.{IsOutEnd, IsWire, HasPosted};
 
 use crate::seat::ends::{OutEnd, slot_of};

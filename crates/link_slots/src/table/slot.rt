@@ -1,5 +1,5 @@
 //! A slot of the bank's table: the place of one parcel on its way.
-ghost use Rattle.std.specs.Prelude.{◌≡◌, ◌<◌, ◌≤◌, IfOk};
+ghost use Rattle.std.specs.Prelude.{◌≡◌, ◌<◌, IfOk};
 ghost use Rattle.item_buffer.specs.Capacity.{IsCap};
 ghost use Rattle.item_buffer.specs.Contents.{blank};
 

@@ -3,16 +3,15 @@ ghost use Rattle.std.specs.Prelude.{◌≡◌, ◌+◌, ◌*◌, ◌^◌, ◌<�
 ghost use mathlib.Core.Option.{some};
 ghost use lib.ListN.{get_elem?};
 ghost use Rattle.item_buffer.specs.Contents.{Contents};
-ghost use Rattle.route_tensor.specs.Link.{links};
-ghost use Rattle.route_tensor.specs.Ends.{sender_at, reader_at};
+ghost use Rattle.route_tensor.specs.Ends.{sender_at};
 ghost use Rattle.atomic_table.specs.Table.{rest};
 ghost use Rattle.port_bank.specs.Flow.{Begins};
 ghost use Rattle.link_slots.specs.Logs.{out_of, in_of, with_out, with_in, sent_of, got_of, sent_more, all_offered, taken_more};
 ghost use Rattle.link_slots.specs.View.{own_logs, with_logs};
 ghost use Rattle.link_slots.specs.Wiring.{slot_of, bell_word};
 ghost use Rattle.link_slots.specs.Plays.{after_hear};
-ghost use Rattle.link_slots.specs.Shape.{IsBoard, wiring, IsBlank, MayFollow, KeepsLaw};
-ghost use Rattle.link_slots.specs.Told.{IsManned, room_found, posted, looked_in, released, spare_brought, parcel_brought, rung, heard, IsAtOut, StaysSeated, IsAtIn};
+ghost use Rattle.link_slots.specs.Shape.{wiring, IsBlank, MayFollow, KeepsLaw};
+ghost use Rattle.link_slots.specs.Told.{room_found, posted, looked_in, released, spare_brought, parcel_brought, rung, heard, IsAtOut, StaysSeated, IsAtIn};
 
 use crate::table::plays::{
     BringParcel, BringSpare, Hear, LookBeforeHear, LookBeforeRing, LookForRoom, LookIn, Post,

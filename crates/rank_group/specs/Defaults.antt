@@ -1,5 +1,5 @@
 -- How items travel where a caller says nothing else, and what a drive promises.
-use Rattle.std.specs.Prelude.{ℕ, ◌<◌, ◌≤◌, ◌≡◌, false, List, length}
+use Rattle.std.specs.Prelude.{ℕ, ◌≡◌, false, List, length}
 use Rattle.std.specs.List.{range_with_len}
 use Rattle.item_buffer.specs.Capacity.{IsCap}
 use Rattle.route_tensor.specs.Grid.{ranks}

@@ -34,9 +34,9 @@ returns-clause-turned g c =
     let b0 : Bank = c.port-port.result.bank in
     let b1 : Bank = c.turn.new.port.bank in
     let told : PortTurn R g.row.CAP c.in_ok-turn.turn n n' b0 c.port-port.result.rank b1 c.turn.new.port.rank = record {
-      dims = c.turn.ensures.same_dims;
-      slots = c.turn.ensures.same_slots;
-      rest = c.turn.ensures.rest;
+      dims = c.turn.ensures.same_port.dims;
+      slots = c.turn.ensures.same_port.slots;
+      rest = c.turn.ensures.same_port.rest;
       node_dims = c.turn.ensures.self_dims;
       node_rank = c.turn.ensures.self_rank;
       node_manner = c.turn.ensures.manner;
@@ -56,5 +56,5 @@ returns-clause-turned g c =
       awaits = c.in_ok-turn.ensures.awaits refl;
     } in
     subst (λ (b : Bank). AfterTurn R c.args.bank.dims g.row.CAP c.args.bank.slots c.args.number c.in_ok-turn.turn n n' (sent_of c.args.bank) (got_of c.args.bank) (sent_of b) (got_of b)) (sym c.into_bank.ensures.bank)
-    (after_turn R g.row.CAP c.args.number c.in_ok-turn.turn n n' c.args.bank b1 c.port-port.result.rank c.turn.new.port.rank c.port-port.ensures.rank c.turn.ensures.same_rank c.requires.same_dims c.requires.same_rank
+    (after_turn R g.row.CAP c.args.number c.in_ok-turn.turn n n' c.args.bank b1 c.port-port.result.rank c.turn.new.port.rank c.port-port.ensures.rank c.turn.ensures.same_port.rank c.requires.same_dims c.requires.same_rank
     (subst (λ (b : Bank). PortTurn R g.row.CAP c.in_ok-turn.turn n n' b c.port-port.result.rank b1 c.turn.new.port.rank) c.port-port.ensures.bank told))

@@ -1,13 +1,12 @@
 //! A rank whose items travel by a conveyor.
-ghost use Rattle.std.specs.Prelude.{◌≡◌, ◌≢◌, ℕ, ◌^◌, ◌<◌, ◌≤◌, false, length, IfOk, IsOk, OnOk, Ok};
+ghost use Rattle.std.specs.Prelude.{◌≡◌, ◌≢◌, ◌^◌, ◌<◌, false, length, IfOk, IsOk, OnOk, Ok};
 ghost use Rattle.item_buffer.specs.Capacity.{IsCap};
 ghost use Rattle.route_tensor.specs.Grid.{ranks};
 ghost use Rattle.rank_node.specs.Movers.{IsNew, GoesOn};
 ghost use Rattle.rank_node.specs.Movers.Manner.{ByConveyor};
 ghost use Rattle.rank_node.specs.Movers.MoverState.{Conveying};
 ghost use Rattle.rank_node.specs.Runs.{running};
-ghost use Rattle.rank_node.specs.Nodes.{IsNode};
-ghost use Rattle.rank_node.specs.Moves.{AfterMoves, Leaves, DueIsCrowded, Waits};
+ghost use Rattle.rank_node.specs.Moves.{AfterMoves, Leaves, DueIsCrowded, Waits, MayTurn};
 ghost use Rattle.port_bank.specs.Frames.{SamePort};
 
 use crate::run::Run;
@@ -29,10 +28,8 @@ pub(crate) fn turn_conveyor<const CAP: usize, const HOPS: usize, Q: Program, P: 
     conveyor: &mut Conveyor<CAP, HOPS>,
     port: &mut P,
 ) -> Result<Turn, NoMemory>
-    requires same_dims { P.dims port.old ≡ conveyor.old.dims }
-    requires same_rank { P.rank port.old ≡ conveyor.old.rank }
-    requires node { (h : ℕ → Q) × IsNode Q.rules h (record { run = running run.old; mover = Conveying conveyor.old })
-        (P.sent port.old) (P.got port.old) }
+    requires turns { MayTurn P.Port Q.rules (record { run = running run.old; mover = Conveying conveyor.old })
+        port.old }
     ensures moves { AfterMoves Q.rules CAP (record { run = running run.old; mover = Conveying conveyor.old })
         (record { run = running run.new; mover = Conveying conveyor.new })
         (P.sent port.old) (P.got port.old) (P.sent port.new) (P.got port.new) }

@@ -1,11 +1,10 @@
 //! What carries the items of a rank.
-ghost use Rattle.std.specs.Prelude.{◌≡◌, ℕ, ◌+◌, ◌^◌, ◌<◌, ◌≤◌, true, false, length, IfOk, IsOk, OnOk, Ok};
+ghost use Rattle.std.specs.Prelude.{◌≡◌, ℕ, ◌^◌, ◌<◌, true, false, length, IfOk, IsOk, OnOk, Ok};
 ghost use Rattle.item_buffer.specs.Capacity.{IsCap};
 ghost use Rattle.route_tensor.specs.Grid.{ranks};
-ghost use Rattle.rank_node.specs.Movers.{seen, dims_of, rank_of, epoch_in, manner_of, has_completed, IsNew, GoesOn};
+ghost use Rattle.rank_node.specs.Movers.{seen, epoch_in, manner_of, has_completed, IsNew, GoesOn};
 ghost use Rattle.rank_node.specs.Runs.{running};
-ghost use Rattle.rank_node.specs.Nodes.{IsNode};
-ghost use Rattle.rank_node.specs.Moves.{AfterMoves, Leaves, DueIsCrowded, Waits};
+ghost use Rattle.rank_node.specs.Moves.{AfterMoves, Leaves, DueIsCrowded, Waits, MayTurn};
 ghost use Rattle.rank_node.specs.Cycles.{IsInCycle, cycle_of_turn, TurnsOnward, AwaitsSome};
 ghost use Rattle.port_bank.specs.Frames.{SamePort};
 
@@ -56,10 +55,8 @@ impl<const CAP: usize, const HOPS: usize> Mover<CAP, HOPS> {
         run: &mut Run<Q>,
         port: &mut P,
     ) -> Result<Turn, NoMemory>
-        requires same_dims { P.dims port.old ≡ dims_of (seen self.old) }
-        requires same_rank { P.rank port.old ≡ rank_of (seen self.old) }
-        requires node { (h : ℕ → Q) × IsNode Q.rules h (record { run = running run.old; mover = seen self.old })
-            (P.sent port.old) (P.got port.old) }
+        requires turns { MayTurn P.Port Q.rules (record { run = running run.old; mover = seen self.old })
+            port.old }
         ensures moves { AfterMoves Q.rules CAP (record { run = running run.old; mover = seen self.old })
             (record { run = running run.new; mover = seen self.new })
             (P.sent port.old) (P.got port.old) (P.sent port.new) (P.got port.new) }

@@ -14,7 +14,7 @@ ghost use Rattle.rank_node.specs.Pulls.{Pops, Fills};
 ghost use Rattle.rank_node.specs.Runs.{running};
 ghost use Rattle.rank_node.specs.Sending.{to_send};
 ghost use Rattle.rank_node.specs.Nodes.{IsNode};
-ghost use Rattle.rank_node.specs.Moves.{AfterMoves, AfterFill, Leaves, Waits};
+ghost use Rattle.rank_node.specs.Moves.{AfterMoves, AfterFill, Leaves, Waits, MayTurn};
 ghost use Rattle.rank_node.specs.Cycles.{InCycle, InExchange, IsOnward, Awaits};
 
 use crate::arrivals::FromSender;
@@ -38,10 +38,8 @@ pub(crate) fn turn_exstack<const CAP: usize, Q: Program, P: Port<CAP>>(
     exstack: &mut Exstack<CAP>,
     port: &mut P,
 ) -> Result<Turn, NoMemory>
-    requires same_dims { P.dims port.old ≡ dims_of exstack.old }
-    requires same_rank { P.rank port.old ≡ exstack.old.rank }
-    requires node { (h : ℕ → Q) × IsNode Q.rules h (record { run = running run.old; mover = Stacking CAP exstack.old })
-        (P.sent port.old) (P.got port.old) }
+    requires turns { MayTurn P.Port Q.rules (record { run = running run.old; mover = Stacking CAP exstack.old })
+        port.old }
     ensures moves { AfterMoves Q.rules CAP (record { run = running run.old; mover = Stacking CAP exstack.old })
         (record { run = running run.new; mover = Stacking CAP exstack.new })
         (P.sent port.old) (P.got port.old) (P.sent port.new) (P.got port.new) }
@@ -78,10 +76,8 @@ fn proceed<const CAP: usize, Q: Program, P: Port<CAP>>(
     port: &mut P,
 ) -> Result<Turn, NoMemory>
     requires may { may_proceed exstack.old.stage ≡ true }
-    requires same_dims { P.dims port.old ≡ dims_of exstack.old }
-    requires same_rank { P.rank port.old ≡ exstack.old.rank }
-    requires node { (h : ℕ → Q) × IsNode Q.rules h (record { run = running run.old; mover = Stacking CAP exstack.old })
-        (P.sent port.old) (P.got port.old) }
+    requires turns { MayTurn P.Port Q.rules (record { run = running run.old; mover = Stacking CAP exstack.old })
+        port.old }
     ensures moves { AfterMoves Q.rules CAP (record { run = running run.old; mover = Stacking CAP exstack.old })
         (record { run = running run.new; mover = Stacking CAP exstack.new })
         (P.sent port.old) (P.got port.old) (P.sent port.new) (P.got port.new) }
@@ -119,10 +115,8 @@ fn exchange<const CAP: usize, Q: Program, P: Port<CAP>>(
     port: &mut P,
 ) -> Result<Turn, NoMemory>
     requires may { may_exchange exstack.old.stage ≡ true }
-    requires same_dims { P.dims port.old ≡ dims_of exstack.old }
-    requires same_rank { P.rank port.old ≡ exstack.old.rank }
-    requires node { (h : ℕ → Q) × IsNode Q.rules h (record { run = running run.old; mover = Stacking CAP exstack.old })
-        (P.sent port.old) (P.got port.old) }
+    requires turns { MayTurn P.Port Q.rules (record { run = running run.old; mover = Stacking CAP exstack.old })
+        port.old }
     ensures moves { AfterMoves Q.rules CAP (record { run = running run.old; mover = Stacking CAP exstack.old })
         (record { run = running run.new; mover = Stacking CAP exstack.new })
         (P.sent port.old) (P.got port.old) (P.sent port.new) (P.got port.new) }

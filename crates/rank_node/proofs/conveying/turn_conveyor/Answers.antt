@@ -18,8 +18,8 @@ pub push_all-run-requires : goal.push_all-run-requires
 push_all-run-requires g c =
     let R = g.Q.Program.rules in
     let run : Running g.row.Q.Denot = running c.args.run.now in
-    let h = c.requires.node.0 in
-    let i = c.requires.node.1 in
+    let h = c.requires.turns.first in
+    let i = c.requires.turns.node in
     let below : All (λ (e : ℕ × Item). e.0 < ranks c.args.conveyor.now.dims) (to_send R run.prog run.sends) =
     send_below R g.met.Q.Program.laws (ranks c.args.conveyor.now.dims) (h run.round) run.prog run.sends i.passed.valid i.passed.all_ranks i.within.emissions (λ v q s. (i.within.vote v q s).0) in
     (search rules, (i.within.next_low, (below, (i.moving.working, i.within.all_pushed))))
@@ -30,8 +30,8 @@ advance-progress-requires g c =
     let sent = g.P.Port.sent c.args.port.now in
     let got = g.P.Port.got c.args.port.now in
     let run : Running g.row.Q.Denot = running c.args.run.now in
-    let h = c.requires.node.0 in
-    let i = c.requires.node.1 in
+    let h = c.requires.turns.first in
+    let i = c.requires.turns.node in
     let c0 = c.args.conveyor.now in
     let c1 = c.push_all-run.new.conveyor in
     let next = c.push_all-run.result in
@@ -46,7 +46,7 @@ advance-progress-requires g c =
       (
         λ d. i.moving.begun (sym (ap (λ (t : State). t.phase) push.same) ∙ d),
         (
-          record { same_dims = c.requires.same_dims ∙ sym (ap (λ (t : State). t.dims) push.same); same_rank = c.requires.same_rank ∙ sym (ap (λ (t : State). t.rank) push.same); agrees = push.agrees },
+          record { same_dims = c.requires.turns.same_dims ∙ sym (ap (λ (t : State). t.dims) push.same); same_rank = c.requires.turns.same_rank ∙ sym (ap (λ (t : State). t.rank) push.same); agrees = push.agrees },
           λ d. ap (λ m. next == m) c.count_of.ensures ∙ done_stays R h run c0 c1 next sent got push i d,
         ),
       ),
@@ -60,8 +60,8 @@ returns-in_err-progress-clause-moves g c =
     let sent' = g.P.Port.sent c.advance-progress.new.port in
     let got' = g.P.Port.got c.advance-progress.new.port in
     let run : Running g.row.Q.Denot = running c.args.run.now in
-    let h = c.requires.node.0 in
-    let i = c.requires.node.1 in
+    let h = c.requires.turns.first in
+    let i = c.requires.turns.node in
     let c0 = c.args.conveyor.now in
     let c1 = c.push_all-run.new.conveyor in
     let next = c.push_all-run.result in
@@ -116,8 +116,8 @@ returns-in_err-progress-clause-leaves g c =
     let sent' = g.P.Port.sent c.advance-progress.new.port in
     let got' = g.P.Port.got c.advance-progress.new.port in
     let run : Running g.row.Q.Denot = running c.args.run.now in
-    let h = c.requires.node.0 in
-    let i = c.requires.node.1 in
+    let h = c.requires.turns.first in
+    let i = c.requires.turns.node in
     let c0 = c.args.conveyor.now in
     let c1 = c.push_all-run.new.conveyor in
     let next = c.push_all-run.result in
@@ -179,8 +179,8 @@ returns-clause-moves g c =
     let sent' = g.P.Port.sent c.advance-progress.new.port in
     let got' = g.P.Port.got c.advance-progress.new.port in
     let run : Running g.row.Q.Denot = running c.args.run.now in
-    let h = c.requires.node.0 in
-    let i = c.requires.node.1 in
+    let h = c.requires.turns.first in
+    let i = c.requires.turns.node in
     let c0 = c.args.conveyor.now in
     let c1 = c.push_all-run.new.conveyor in
     let next = c.push_all-run.result in
@@ -235,8 +235,8 @@ returns-clause-leaves g c =
     let sent' = g.P.Port.sent c.advance-progress.new.port in
     let got' = g.P.Port.got c.advance-progress.new.port in
     let run : Running g.row.Q.Denot = running c.args.run.now in
-    let h = c.requires.node.0 in
-    let i = c.requires.node.1 in
+    let h = c.requires.turns.first in
+    let i = c.requires.turns.node in
     let c0 = c.args.conveyor.now in
     let c1 = c.push_all-run.new.conveyor in
     let next = c.push_all-run.result in

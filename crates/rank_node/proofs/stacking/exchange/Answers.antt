@@ -28,7 +28,7 @@ returns-in_err-_made-clause-moves g c =
       apart = exchanging_apart (c.in_err-_made.ensures.no_memory refl);
       step = e.step;
     } in
-    let s : IsStack g.row.CAP x0 = c.requires.node.1.moving.stack in
+    let s : IsStack g.row.CAP x0 = c.requires.turns.node.moving.stack in
     let begun = exchange_begun x0 in
     let m : Made g.row.CAP x0 (in_exchange x0) x2 false true sent sent' got got' = record {
       some = omega (arith, s.rank);
@@ -62,7 +62,7 @@ returns-clause-moves g c =
       apart = ready_apart _ (c.in_ok-_made.ensures.stage);
       step = e.step;
     } in
-    let s : IsStack g.row.CAP x0 = c.requires.node.1.moving.stack in
+    let s : IsStack g.row.CAP x0 = c.requires.turns.node.moving.stack in
     let begun = exchange_begun x0 in
     let m : Made g.row.CAP x0 (in_exchange x0) x2 false true sent sent' got got' = record {
       some = omega (arith, s.rank);

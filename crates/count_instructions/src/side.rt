@@ -81,7 +81,7 @@ impl<const CAP: usize, const HOPS: usize> Side<CAP, HOPS> {
 
     /// Where told so, ends the epoch that is complete, if one is, and begins the next.
     fn begin(&mut self, begins: bool)
-        ensures stays { StaysWithRank self.old.conveyor self.new.conveyor }
+        ensures { StaysWithRank self.old.conveyor self.new.conveyor }
     {
         if !begins {
             return;
@@ -91,7 +91,7 @@ impl<const CAP: usize, const HOPS: usize> Side<CAP, HOPS> {
     }
 
     fn end(&mut self)
-        ensures stays { StaysWithRank self.old.conveyor self.new.conveyor }
+        ensures { StaysWithRank self.old.conveyor self.new.conveyor }
     {
         if self.conveyor.phase() != Phase::Complete || self.epoch >= 1_000_000 {
             return;
@@ -102,7 +102,7 @@ impl<const CAP: usize, const HOPS: usize> Side<CAP, HOPS> {
     }
 
     fn start(&mut self)
-        ensures stays { StaysWithRank self.old.conveyor self.new.conveyor }
+        ensures { StaysWithRank self.old.conveyor self.new.conveyor }
     {
         if self.conveyor.phase() != Phase::Dormant {
             return;
@@ -125,7 +125,7 @@ impl<const CAP: usize, const HOPS: usize> Side<CAP, HOPS> {
     }
 
     fn take(&mut self)
-        ensures stays { StaysWithRank self.old.conveyor self.new.conveyor }
+        ensures { StaysWithRank self.old.conveyor self.new.conveyor }
     {
         if self.conveyor.phase() == Phase::Dormant {
             return;
@@ -135,7 +135,7 @@ impl<const CAP: usize, const HOPS: usize> Side<CAP, HOPS> {
 
     /// Pushes items, where the epoch still takes them.
     fn push(&mut self, items: u64)
-        ensures stays { StaysWithRank self.old.conveyor self.new.conveyor }
+        ensures { StaysWithRank self.old.conveyor self.new.conveyor }
     {
         if self.conveyor.phase() != Phase::Working || self.done {
             return;

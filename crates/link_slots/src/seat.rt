@@ -92,7 +92,8 @@ impl<const CAP: usize> SlotSeat<CAP> {
         ensures room_is { ((out_of self.new.lists link).room ≡ 0)
             ⊎ (self.old.shape.slots ≤ (out_of self.new.lists link).room) }
         ensures within { length (out_of self.old.lists link).sent ≤ (out_of self.old.lists link).room }
-        ensures link { HasPosted self.old.shape.slots (out_of self.old.lists link) (out_of self.new.lists link) parcel.old result }
+        ensures link { HasPosted self.old.shape.slots (out_of self.old.lists link) (out_of self.new.lists link)
+            parcel.old result }
         ensures kept { result ≡ Posted.NoRoom → parcel.new ≡ parcel.old }
     {
         parcel.known();

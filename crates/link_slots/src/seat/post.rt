@@ -73,7 +73,8 @@ pub(crate) fn post_on<const CAP: usize>(
     ensures here { place.new.me.0 ≡ with_logs place.old.me.0
         (with_out (own_logs place.old.me.0) link (out_of (own_logs place.new.me.0) link)) }
     ensures emptied { result ≡ Posted.Sent → IsBlank parcel.new }
-    ensures link { HasPosted top.now.key.slots (out_of (own_logs place.old.me.0) link) (out_of (own_logs place.new.me.0) link) parcel.old result }
+    ensures link { HasPosted top.now.key.slots (out_of (own_logs place.old.me.0) link)
+        (out_of (own_logs place.new.me.0) link) parcel.old result }
     ensures kept { result ≡ Posted.NoRoom → parcel.new ≡ parcel.old }
 {
     make_room(top, place, end, slots, link);

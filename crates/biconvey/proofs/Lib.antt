@@ -24,4 +24,3 @@ pub mod Ended
 pub mod OnPorts
 pub mod Placing
 pub mod Threaded
-pub mod Last

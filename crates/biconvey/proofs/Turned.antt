@@ -1,6 +1,6 @@
 -- What a turn leaves.
 use Rattle.std.proofs.Common.{◌≡◌, ◌≢◌, ℕ, ◌<◌, ◌≤◌, ◌==◌, Bool, true, false, List, length, All, refl, sym, ap, subst, ◌∙◌, arith, eqb-true, inl, inr}
-use Rattle.std.specs.Prelude.{Result, Ok, Err, IsOk, IsErr, take, map}
+use Rattle.std.specs.Prelude.{Result, Ok, Err, IsOk, IsErr, IfOk, OnOk, take, map}
 use Rattle.round_program.specs.Canonical.{items_of}
 use Rattle.std.proofs.lemmas.Bool.{cases_Bool, true≢false, eq-eqb}
 use Rattle.std.proofs.lemmas.List.{length-map}
@@ -16,8 +16,11 @@ use Rattle.convey.specs.Buffers.{buffers_of, is_complete}
 use Rattle.convey.specs.Conveyors.{AgreesWith}
 use Rattle.convey.specs.Law.{IsSound}
 use Rattle.convey.specs.Parts.{part_of}
-use Rattle.convey.specs.Progress.{advance_step}
+use Rattle.convey.specs.Advance.{HasSettled}
+use Rattle.convey.specs.Due.{IsOver}
+use Rattle.convey.specs.Progress.{progress_of, advance_step}
 use Rattle.convey.specs.declared.progress.Progress.{Progress}
+use Rattle.convey.specs.declared.progress.Progress.TheVariants as progress
 use Rattle.round_program.specs.Talks.{Talk, TalkLaws, SameTalk}
 use Rattle.round_program.specs.Replies.{carrying, as_items, asks_of, answers}
 use Rattle.rank_node.specs.Runs.{IsPushed}
@@ -54,10 +57,19 @@ pub record Advances (c c' : State) (done : Bool) (sent got sent' got' : Logs) : 
   pub step : IsOwnStep (advance_step c.done done (is_complete c'.phase)) (part_of (buffers_of c) sent got) (part_of (buffers_of c') sent' got')
 
 -- a rank that isn't done goes on working
-pub works_on : (result : Result Progress NoMemory) (c c' : State) (done : Bool) → (IsOk result → done ≡ false → c'.phase ≡ Working) → (IsErr result → c'.phase ≡ c.phase)
+pub works_on : (result : Result Progress NoMemory) (c c' : State) (done : Bool) → IfOk result (HasSettled done c') → (IsErr result → c'.phase ≡ c.phase)
     → (done ≡ false → c.phase ≡ Working) → done ≡ false → c'.phase ≡ Working
-works_on (Ok p) c c' done f g w d = f refl d
+works_on (Ok p) c c' done f g w d = f.working d
 works_on (Err e) c c' done f g w d = g refl ∙ w d
+
+-- what an advance that had memory tells
+pub was_served : {X : Type 0} (result : Result Progress NoMemory) → IsOk result → OnOk result X → X
+was_served (Ok p) ok x = x
+was_served (Err e) ok x = absurd (cc)
+
+pub has_completed : (result : Result Progress NoMemory) (c : State) (done : Bool) → IsOk result → IfOk result (HasSettled done c) → IsOver c → progress_of c.phase ≡ progress.Complete
+has_completed (Ok p) c done ok told over = sym told.is ∙ told.completes over
+has_completed (Err e) c done ok told over = absurd (cc)
 
 pub done_of_complete : (p : Phase) (done : Bool) → (done ≡ false → p ≡ Working) → p ≡ Complete → done ≡ true
 done_of_complete p true w c = refl

@@ -7,5 +7,6 @@ pub mod Ranks
 pub mod Ways
 pub mod Worlds
 pub mod Drives
+pub mod Driven
 pub mod Seats
 pub mod laws

@@ -1,6 +1,8 @@
 //! A rank that asks, answers and hears.
 
 ghost use Rattle.std.specs.Prelude.{◌≡◌, ◌≢◌, ℕ, ◌+◌, ◌<◌, ◌≤◌, ◌==◌, ◌++◌, ◌&&◌, false, List, [], length, IfOk, OnOk, IsOk, Ok};
+ghost use Rattle.port_bank.specs.Frames.{SamePort};
+ghost use Rattle.item_buffer.specs.Capacity.{IsCap};
 ghost use Rattle.std.specs.List.{flat_map};
 ghost use Rattle.item_buffer.specs.Contents.{Shipped};
 ghost use Rattle.route_tensor.specs.Grid.{ranks};
@@ -57,8 +59,7 @@ impl<A, const CAP: usize, const HOPS: usize> Model for BiNode<A, CAP, HOPS> {
 impl<A: Asker, const CAP: usize, const HOPS: usize> BiNode<A, CAP, HOPS> {
     /// A rank that hasn't turned.
     pub fn new(alloc: Global, grid: &Grid, asker: A, steady: bool) -> Result<Self, NoMemory>
-        requires some { 0 < CAP }
-        requires small { CAP ≤ 1024 }
+        requires cap { IsCap CAP }
         requires hops { length grid.now ≡ HOPS }
         requires rank { A.talk.rank asker < ranks grid.now }
         requires all_ranks { A.talk.ranks asker ≡ ranks grid.now }
@@ -136,14 +137,8 @@ impl<A: Asker, const CAP: usize, const HOPS: usize> BiNode<A, CAP, HOPS> {
         ensures rank { self.new.queries.rank ≡ self.old.queries.rank }
         ensures steady { self.new.queries.steady ≡ self.old.queries.steady }
         ensures steady_replies { self.new.replies.steady ≡ self.old.replies.steady }
-        ensures queries_dims { P.dims queries.new ≡ P.dims queries.old }
-        ensures queries_rank { P.rank queries.new ≡ P.rank queries.old }
-        ensures queries_slots { P.slots queries.new ≡ P.slots queries.old }
-        ensures queries_rest { P.rest queries.new ≡ P.rest queries.old }
-        ensures replies_dims { R.dims replies.new ≡ R.dims replies.old }
-        ensures replies_rank { R.rank replies.new ≡ R.rank replies.old }
-        ensures replies_slots { R.slots replies.new ≡ R.slots replies.old }
-        ensures replies_rest { R.rest replies.new ≡ R.rest replies.old }
+        ensures same_queries { SamePort P.Port queries.old queries.new }
+        ensures same_replies { SamePort R.Port replies.old replies.new }
 
         // Each way advances once: its lists only grow, each by one parcel at most, and of the conveyor's shape.
         ensures queries_sent { (l : ℕ) → Begins (P.sent queries.old l) (P.sent queries.new l) }
@@ -253,8 +248,7 @@ fn begun<const CAP: usize, const HOPS: usize>(
     rank: u32,
     steady: bool,
 ) -> Result<Conveyor<CAP, HOPS>, NoMemory>
-    requires some { 0 < CAP }
-    requires small { CAP ≤ 1024 }
+    requires cap { IsCap CAP }
     requires hops { length grid.now ≡ HOPS }
     requires rank { rank < ranks grid.now }
     ensures { IfOk result (λ c. IsFirst grid.now rank steady c) }

@@ -1,18 +1,18 @@
 //! One call that drives an exchange of queries and replies on one thread.
 
-ghost use Rattle.std.specs.Prelude.{◌≡◌, ℕ, ◌+◌, ◌<◌, ◌≤◌, false, [], ◌∷◌, length, IfOk, OnOk};
+ghost use Rattle.std.specs.Prelude.{◌≡◌, ◌+◌, ◌<◌, ◌≤◌, false, [], ◌∷◌, length, IfOk};
+ghost use Rattle.item_buffer.specs.Capacity.{IsCap};
 ghost use Rattle.std.specs.List.{sum_by};
 ghost use Rattle.route_tensor.specs.Grid.{ranks};
-ghost use Rattle.route_tensor.specs.Link.{links};
 ghost use Rattle.port_bank.specs.Port.{IsSlots};
 ghost use Rattle.port_bank.specs.Plain.{IsBank, empty_bank, closed};
-ghost use Rattle.port_bank.specs.Round.{IsRound, logs_of};
+ghost use Rattle.port_bank.specs.Round.{IsRound};
 ghost use Rattle.rank_group.specs.declared.closed_round.ClosedRound.{ClosedRound};
 ghost use Rattle.rank_group.specs.Ranks.{IsOrder};
 ghost use Rattle.rank_group.specs.Rounds.{round_of};
 ghost use Rattle.biconvey.specs.Worlds.{turns_of};
-ghost use Rattle.round_program.specs.Replies.{HaveHeard};
-ghost use Rattle.biconvey.specs.Drives.{AreAskers, TellsExchange, askers_of};
+ghost use Rattle.biconvey.specs.Drives.{AreAskers, askers_of};
+ghost use Rattle.biconvey.specs.Driven.{HasExchanged, HasSweptBoth};
 
 use crate::bi_node::BiNode;
 use crate::nodes::{nodes_of, take_askers};
@@ -43,28 +43,14 @@ pub fn drive_both<const CAP: usize, const HOPS: usize, A: Asker, L: Ledger>(
     askers: Progs<A>,
     steps: &mut Steps<L>,
 ) -> Result<Finished<A>, NoMemory>
-    requires some { 0 < CAP }
-    requires small { CAP ≤ 1024 }
+    requires cap { IsCap CAP }
     requires hops { length grid.now ≡ HOPS }
     requires slots { IsSlots slots }
     requires order { IsOrder (ranks grid.now) order.now }
     requires askers { AreAskers A.talk (ranks grid.now) askers }
-
-    // Each query has its one reply.
-    ensures heard { IfOk result (λ f. HaveHeard A.talk askers f.progs) }
-
-    // Two closed rounds tell what was exchanged.
-    ensures rounds { IfOk result (λ f. (q : ClosedRound) × (r : ClosedRound) × (f.rounds ≡ q ∷ r ∷ [])
-        × TellsExchange A.talk askers (record { dims = grid.now; cap = CAP; slots = slots; by_slots = false }) steady
-        (round_of q) (round_of r)) }
-
-    // Each rank made a turn at least.
-    ensures fewest { OnOk result (steps.old + ranks grid.now ≤ steps.new) }
-
-    // No link of either way has more parcels than the run had turns.
-    ensures posted { IfOk result (λ f. (q r : ClosedRound) → f.rounds ≡ q ∷ r ∷ [] → (l : ℕ) → l < links grid.now
-        → (length (logs_of (round_of q).sent l) + steps.old ≤ steps.new)
-        × (length (logs_of (round_of r).sent l) + steps.old ≤ steps.new)) }
+    ensures exchanged { IfOk result (HasExchanged A.talk askers
+        (record { dims = grid.now; cap = CAP; slots = slots; by_slots = false }) steady) }
+    ensures swept { IfOk result (HasSweptBoth grid.now steps.old steps.new) }
 
     // The turns are bounded before the exchange, also where it ends in `NoMemory`.
     ensures steps { steps.new ≤ steps.old + turns_of grid.now (sum_by (λ s. length (A.talk.queries s)) askers) }
@@ -82,8 +68,7 @@ fn two_banks<const CAP: usize>(
     grid: &Grid,
     slots: u32,
 ) -> Result<Banks<CAP>, NoMemory>
-    requires some { 0 < CAP }
-    requires small { CAP ≤ 1024 }
+    requires cap { IsCap CAP }
     requires slots { IsSlots slots }
     ensures queries { IfOk result (λ b. b.queries ≡ empty_bank grid.now slots) }
     ensures replies { IfOk result (λ b. b.replies ≡ empty_bank grid.now slots) }

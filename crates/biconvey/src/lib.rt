@@ -23,7 +23,6 @@ mod answering;
 mod asking;
 mod at_ports;
 mod bi_node;
-mod capacities;
 mod drive;
 mod hearing;
 mod law;

@@ -1,6 +1,7 @@
 //! The ranks of an exchange, as it begins and ends.
 
 ghost use Rattle.std.specs.Prelude.{◌≡◌, ℕ, ◌<◌, ◌≤◌, length, IfOk};
+ghost use Rattle.item_buffer.specs.Capacity.{IsCap};
 ghost use Rattle.route_tensor.specs.Grid.{ranks};
 ghost use Rattle.biconvey.specs.Drives.{AreAskers, AreFresh, askers_of};
 
@@ -18,8 +19,7 @@ pub(crate) fn nodes_of<const CAP: usize, const HOPS: usize, A: Asker>(
     steady: bool,
     askers: Progs<A>,
 ) -> Result<Vec<BiNode<A, CAP, HOPS>>, NoMemory>
-    requires some { 0 < CAP }
-    requires small { CAP ≤ 1024 }
+    requires cap { IsCap CAP }
     requires hops { length grid.now ≡ HOPS }
     requires askers { AreAskers A.talk (ranks grid.now) askers }
     ensures { IfOk result (λ all. AreFresh A.talk grid.now steady askers all.items) }

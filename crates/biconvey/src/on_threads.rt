@@ -1,12 +1,11 @@
 //! One call that drives an exchange of queries and replies on threads.
 
-ghost use Rattle.std.specs.Prelude.{◌≡◌, ℕ, ◌<◌, ◌≤◌, true, [], ◌∷◌, length, IfOk, OnOk};
+ghost use Rattle.std.specs.Prelude.{◌≡◌, ℕ, ◌<◌, ◌≤◌, true, length, IfOk, OnOk};
+ghost use Rattle.item_buffer.specs.Capacity.{IsCap};
 ghost use Rattle.route_tensor.specs.Grid.{ranks};
 ghost use Rattle.port_bank.specs.Port.{IsSlots};
-ghost use Rattle.rank_group.specs.declared.closed_round.ClosedRound.{ClosedRound};
-ghost use Rattle.rank_group.specs.Rounds.{round_of};
-ghost use Rattle.round_program.specs.Replies.{HaveHeard};
-ghost use Rattle.biconvey.specs.Drives.{AreAskers, TellsExchange};
+ghost use Rattle.biconvey.specs.Drives.{AreAskers};
+ghost use Rattle.biconvey.specs.Driven.{HasExchanged};
 
 use crate::nodes::{nodes_of, take_askers};
 use crate::seating::{gather_all, seat_all};
@@ -44,22 +43,15 @@ pub fn thread_both<
     askers: Progs<A>,
     gate: &G,
 ) -> Result<Finished<A>, NoMemory>
-    requires some { 0 < CAP }
-    requires small { CAP ≤ 1024 }
+    requires cap { IsCap CAP }
     requires hops { length grid.now ≡ HOPS }
     requires slots { IsSlots slots }
     requires askers { AreAskers A.talk (ranks grid.now) askers }
-
-    // Each query has its one reply.
-    ensures heard { IfOk result (λ f. HaveHeard A.talk askers f.progs) }
-
-    // Two closed rounds tell what was exchanged.
-    ensures rounds { IfOk result (λ f. (q : ClosedRound) × (r : ClosedRound) × (f.rounds ≡ q ∷ r ∷ [])
-        × TellsExchange A.talk askers (record { dims = grid.now; cap = CAP; slots = slots; by_slots = true }) steady
-        (round_of q) (round_of r)) }
+    ensures exchanged { IfOk result (HasExchanged A.talk askers
+        (record { dims = grid.now; cap = CAP; slots = slots; by_slots = true }) steady) }
 
     // This gate was told of the turns of each rank, which made one at least.
-    ensures told { (r : ℕ) → r < ranks grid.now → OnOk result (G.told gate.now r 0 ≡ true) }
+    ensures told { OnOk result ((r : ℕ) → r < ranks grid.now → G.told gate.now r 0 ≡ true) }
 {
     let threads = threads_for(rt, grid.ranks());
     thread_with::<CAP, HOPS, R, A, G>(
@@ -88,16 +80,13 @@ pub fn thread_with<
     crews: usize,
     threads: usize,
 ) -> Result<Finished<A>, NoMemory>
-    requires some { 0 < CAP }
-    requires small { CAP ≤ 1024 }
+    requires cap { IsCap CAP }
     requires hops { length grid.now ≡ HOPS }
     requires slots { IsSlots slots }
     requires askers { AreAskers A.talk (ranks grid.now) askers }
-    ensures heard { IfOk result (λ f. HaveHeard A.talk askers f.progs) }
-    ensures rounds { IfOk result (λ f. (q : ClosedRound) × (r : ClosedRound) × (f.rounds ≡ q ∷ r ∷ [])
-        × TellsExchange A.talk askers (record { dims = grid.now; cap = CAP; slots = slots; by_slots = true }) steady
-        (round_of q) (round_of r)) }
-    ensures told { (r : ℕ) → r < ranks grid.now → OnOk result (G.told gate.now r 0 ≡ true) }
+    ensures exchanged { IfOk result (HasExchanged A.talk askers
+        (record { dims = grid.now; cap = CAP; slots = slots; by_slots = true }) steady) }
+    ensures told { OnOk result ((r : ℕ) → r < ranks grid.now → G.told gate.now r 0 ≡ true) }
 {
     closes_law();
     grid.known();

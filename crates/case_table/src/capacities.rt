@@ -2,8 +2,9 @@
 
 /// The drive for a capacity: each case hands the values on. In a `match` the last arm would know nothing of the others, so no contract
 /// could say that 1,024 is left.
+#[macro_export]
 macro_rules! by_capacity {
-    ($cap:expr, $drive:ident::<$hops:literal, $($param:ty),*>, ($($value:expr),*)) => {
+    ($cap:expr, $drive:ident::<$hops:ident, $($param:ty),*>, ($($value:expr),*)) => {
         if $cap == 1 {
             $drive::<1, $hops, $($param),*>($($value),*)
         } else if $cap == 2 {
@@ -29,5 +30,3 @@ macro_rules! by_capacity {
         }
     };
 }
-
-pub(crate) use by_capacity;

@@ -1,19 +1,26 @@
 -- An advance as a whole.
-use Rattle.std.proofs.Common.{◌≡◌, ℕ, zero, suc, ◌+◌, Bool, true, false, [], ◌++◌, replicate, slice_index_or, Option, None, refl, sym, ap, subst, ◌∙◌}
+use Rattle.std.proofs.Common.{◌≡◌, ℕ, zero, suc, ◌+◌, ◌<◌, Bool, true, false, List, [], ◌++◌, replicate, slice_index_or, Option, None, refl, sym, ap, subst, ◌∙◌}
 use Rattle.std.specs.List.{All}
 use Rattle.std.proofs.lemmas.Bool.{false≢true}
-use Rattle.route_tensor.specs.Ends.{hop_at}
+use Rattle.std.proofs.lemmas.List.Elements.{All-append}
+use Rattle.item_buffer.specs.Contents.{Shipped}
+use Rattle.route_tensor.specs.Link.{links}
+use Rattle.route_tensor.specs.Ends.{hop_at, reader_at}
 use Rattle.route_tensor.specs.Tag.{IsFair}
 use Rattle.route_tensor.specs.Neighbour.{out_index, in_index}
+use Rattle.port_bank.specs.declared.port.Port.{Ghosts}
+use Rattle.port_bank.specs.Calls.{once_more_if}
 use Rattle.port_bank.specs.Logs.{Logs}
+use Rattle.port_bank.specs.Shapes.{IsFilled, IsConveyorShape}
 use Rattle.port_bank.specs.Flow.{hop_link}
 use Rattle.route_tensor.specs.Pair.{belongs}
 use Rattle.port_bank.proofs.Closing.{law_nothing}
 use Rattle.port_bank.proofs.Fronts.{begins_nil}
 use Rattle.hop_core.specs.declared.phase.Phase.{Phase}
-use Rattle.hop_core.specs.Link.{no_out, no_in}
+use Rattle.hop_core.specs.Link.{no_out, no_in, is_wanted}
 use Rattle.hop_core.specs.declared.phase.Phase.TheVariants.{Dormant, Working, Endgame, Cleanup}
 use Rattle.hop_core.specs.declared.phase.Phase.TheVariants.{Complete as Over}
+use Rattle.convey.specs.Advance.{ListsGrow, WereAsked}
 use Rattle.convey.specs.declared.progress.Progress.TheVariants.{Complete as Whole}
 use Rattle.hop_core.specs.State.{State, phase_of}
 use Rattle.port_bank.specs.Machine.{Part, IsOwnStep}
@@ -22,7 +29,7 @@ use Rattle.convey.specs.Agreement.{lasts_in, items_among, with_back, Agrees}
 use Rattle.convey.specs.Due.{IsOver, HeldUp}
 use Rattle.convey.specs.Parts.{part_of}
 use Rattle.convey.specs.Progress.{advance_step, progress_of}
-use Rattle.convey.specs.Way.{GoesOn}
+use Rattle.convey.specs.Way.{GoesOn, MovesOn}
 use Rattle.convey.proofs.Moves.{forget_agrees, marks_agree, all_none}
 use Rattle.convey.proofs.Movements.{not_true}
 
@@ -112,3 +119,25 @@ new_agrees st n m outs ins epoch pulled =
       arrived = λ l h to at. record { front = []; is = sym (lies l) };
       own = λ l h from to. begins_nil [];
     }
+
+-- what moving on leaves, in the groups of an advance, where mid is the state before the phase settles
+module _ {P : Type 0} {cap : ℕ} {M : Type 0} (G : Ghosts P cap M) (old mid : State) (told : Bool) (p q : P)
+    (k : MovesOn old mid told (G.sent p) (G.sent q) (G.got p) (G.got q) (G.noted p) (G.noted q) (G.idle q)) where
+  pub lists_grow : old.cap ≡ cap → ListsGrow G old p q
+  lists_grow e =
+      let fills : (l : ℕ) (more : List Shipped) → G.sent q l ≡ G.sent p l ++ more → IsConveyorShape old.steady cap more = λ l more is.
+      subst (λ n. IsConveyorShape old.steady n more) e (k.goes_on.fills l more is) in
+      record {
+        sent_grows = k.goes_on.sent_grows;
+        got_grows = k.goes_on.got_grows;
+        one_sent = k.one_sent;
+        one_got = k.one_got;
+        fills = fills;
+        shape = λ l before.
+            let b = k.goes_on.sent_grows l in
+            subst (IsConveyorShape old.steady cap) (sym b.is) (All-append (λ (s : Shipped). s.last ≡ false → IsFilled old.steady cap s) (G.sent p l) b.rest before (fills l b.rest b.is));
+      }
+
+  pub were_asked : (phase : Phase) (pulled : Option ℕ) → ((l : ℕ) → l < links old.dims → reader_at old.dims l ≡ old.rank → G.collects q l ≡ once_more_if (is_wanted (in_of old l)) (G.collects p l))
+      → WereAsked G old (record mid { phase = phase; pulled = pulled }) p q
+  were_asked phase pulled collects = record { left = k.left; unasked = k.unasked; rose = k.asked; idle = k.idle; lies = k.lies; collects = collects }

@@ -99,7 +99,7 @@ due_open st l s h d =
       | inl closed ↦
           let none : (out_of st l).parcel.untaken ≡ [] = (is_out st l s h).closed_empty closed in
           absurd (elim (due_cases st l d) [
-            | inl full ↦ false≢true (sym (empty_not_full st.cap (out_of st l).parcel.untaken s.cap_some none) ∙ full)
+            | inl full ↦ false≢true (sym (empty_not_full st.cap (out_of st l).parcel.untaken s.cap.some none) ∙ full)
             | inr (inl some) ↦ false≢true (sym some.1 ∙ ap (λ xs. length xs == 0) none)
             | inr (inr ends) ↦ false≢true (sym ends.1 ∙ closed)
           ])
@@ -127,7 +127,7 @@ filled_by false cap q some (inr more) = absurd (false≢true more.0)
 
 pub post_filled : (st : State) (l : ℕ) (q : Shipped) → IsState st → IsDue st l → q.entries ≡ (out_of st l).parcel.untaken → q.last ≡ at_end st.dims st.ins st.done (hop_at st.dims l) → q.last ≡ false → IsFilled st.steady st.cap q
 post_filled st l q s d entries last open' =
-    filled_by st.steady st.cap q s.cap_some (elim (due_cases st l d) [
+    filled_by st.steady st.cap q s.cap.some (elim (due_cases st l d) [
       | inl full ↦ inl (ap (λ xs. length xs == st.cap) entries ∙ full)
       | inr (inl more) ↦ inr (more.0, ap (λ xs. length xs == 0) entries ∙ more.1)
       | inr (inr ends) ↦ absurd (false≢true (sym open' ∙ (last ∙ ends.0)))
@@ -291,5 +291,5 @@ module _ (dims : List ℕ) (rank : ℕ) (st new : State) (link : ℕ) (o : Out) 
 
   pub no_longer_due : new ≡ with_open st (out_index st.dims link) o → o.parcel.untaken ≡ [] → o.closed ≡ q.last → IsDue new link → ⊥
   no_longer_due e none closes d =
-      sent_not_due (with_open st (out_index st.dims link) o) link s.cap_some (ap (λ y. y.parcel.untaken) (open_here st link o s here_below) ∙ none)
+      sent_not_due (with_open st (out_index st.dims link) o) link s.cap.some (ap (λ y. y.parcel.untaken) (open_here st link o s here_below) ∙ none)
       (ap (λ y. y.closed) (open_here st link o s here_below) ∙ (closes ∙ last)) (subst (λ u. IsDue u link) e d)

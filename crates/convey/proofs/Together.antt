@@ -11,18 +11,11 @@ use Rattle.port_bank.specs.Plain.{Bank, IsBank, sent_of, got_of, others_of, empt
 use Rattle.port_bank.proofs.Closing.{empty_links, none_sent, none_got}
 use Rattle.hop_core.specs.State.{State}
 use Rattle.convey.specs.Buffers.{Buffers, buffers_of}
-use Rattle.convey.specs.Conveyors.{AgreesWith, KeepsAgreement}
+use Rattle.convey.specs.Conveyors.{AgreesWith, KeepsAgreement, StartsOut}
 use Rattle.convey.specs.Law.{IsSound, AgreeTogether, StaysTogether}
 
 pub one_more : {X : Type 0} (xs ys : List X) (x : X) (n : ℕ) → ys ≡ xs ++ x ∷ [] → length xs ≡ n → length ys ≡ n + 1
 one_more xs ys x n is all = ap length is ∙ (length-append xs (x ∷ []) ∙ ap (λ k. k + 1) all)
-
--- a rank's conveyor on which nothing was done
-pub record StartsOut (dims : List ℕ) (r : ℕ) (st : State) : Type 0 where
-  pub same_dims : st.dims ≡ dims
-  pub same_rank : st.rank ≡ r
-  pub agrees : AgreesWith st (λ l. []) (λ l. [])
-  pub sound : IsSound (buffers_of st)
 
 pub together_first : (dims : List ℕ) (cap slots : ℕ) (all : ℕ → State) → IsGrid dims → ((r : ℕ) → r < ranks dims → StartsOut dims r (all r))
     → AgreeTogether dims cap slots (λ r. buffers_of (all r)) (sent_of (empty_bank dims slots)) (got_of (empty_bank dims slots))

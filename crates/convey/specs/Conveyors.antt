@@ -1,5 +1,5 @@
 -- What contracts see of a conveyor.
-use Rattle.std.specs.Prelude.{◌≡◌, ℕ, ◌<◌, ◌≤◌, true, length, Some, None}
+use Rattle.std.specs.Prelude.{◌≡◌, ℕ, ◌<◌, ◌≤◌, true, List, [], length, Some, None}
 use Rattle.bale_types.specs.declared.item.Item.{Item}
 use Rattle.route_tensor.specs.Grid.{ranks}
 use Rattle.route_tensor.specs.Link.{links}
@@ -13,6 +13,7 @@ use Rattle.port_bank.specs.Machine.{Step, IsOwnStep}
 use Rattle.port_bank.specs.Machine.Step.{Pull}
 use Rattle.convey.specs.Buffers.{buffers_of, out_of}
 use Rattle.convey.specs.Agreement.{Agrees}
+use Rattle.convey.specs.Law.{IsSound}
 use Rattle.convey.specs.Parts.{part_of}
 
 -- A port with these lists agrees with a conveyor.
@@ -26,6 +27,19 @@ IsStepOf step old new = (sent got : Logs) → AgreesWith old sent got → IsOwnS
 -- A call keeps the agreement with a port that it doesn't see.
 abbrev pub KeepsAgreement : State → State → Type 0
 KeepsAgreement old new = (sent got : Logs) → AgreesWith old sent got → AgreesWith new sent got
+
+-- A call that the port doesn't see: the conveyor stays that of its rank, and keeps the agreement.
+pub record StaysWithRank (old new : State) : Type 0 where
+  pub dims : new.dims ≡ old.dims
+  pub rank : new.rank ≡ old.rank
+  pub kept : KeepsAgreement old new
+
+-- A rank's conveyor on which nothing was done.
+pub record StartsOut (dims : List ℕ) (r : ℕ) (st : State) : Type 0 where
+  pub same_dims : st.dims ≡ dims
+  pub same_rank : st.rank ≡ r
+  pub agrees : AgreesWith st (λ l. []) (λ l. [])
+  pub sound : IsSound (buffers_of st)
 
 -- The next pull gives this item of this sender: it is a step of the rank's part of the exchange machine, and keeps
 -- the agreement.

@@ -8,3 +8,4 @@ pub mod Progress
 pub mod Conveyors
 pub mod Way
 pub mod Rest
+pub mod Advance

@@ -5,6 +5,8 @@ use Rattle.bale_types.specs.declared.item.Entry.{Entry}
 use Rattle.bale_types.specs.Stream.{RoseOrFull}
 use Rattle.route_tensor.specs.Link.{links}
 use Rattle.route_tensor.specs.Ends.{hop_at, sender_at, reader_at}
+use Rattle.port_bank.specs.declared.port.Port.{Ghosts}
+use Rattle.port_bank.specs.Frames.{SamePort, SameIns, SameOuts}
 use Rattle.port_bank.specs.Logs.{Logs}
 use Rattle.list_laws.specs.Lists.{Begins}
 use Rattle.port_bank.specs.Shapes.{IsConveyorShape}
@@ -40,6 +42,24 @@ pub record GoesOn (old new : State) (sent sent' got got' : Logs) : Type 0 where
   pub sent_grows : (l : ℕ) → Begins (sent l) (sent' l)
   pub got_grows : (l : ℕ) → Begins (got l) (got' l)
   pub fills : (l : ℕ) (more : List Shipped) → sent' l ≡ sent l ++ more → IsConveyorShape old.steady old.cap more
+
+-- What posts on links out leave of the rank's state and of its port.
+-- idle: what the port knows of a link in changes only where a parcel was posted on it, from the rank to itself.
+pub record LeftByPosts {P : Type 0} {cap : ℕ} {M : Type 0} (G : Ghosts P cap M) (old new : State) (port port' : P) : Type 0 where
+  pub ready : IsReady (G.dims port) (G.rank port) new (G.sent port') (G.got port')
+  pub goes_on : GoesOn old new (G.sent port) (G.sent port') (G.got port) (G.got port')
+  pub ins : new.ins ≡ old.ins
+  pub idle : (l : ℕ) → G.sent port' l ≡ G.sent port l → G.idle port' l ≡ G.idle port l
+  pub same_ins : SameIns G port port'
+  pub same_port : SamePort G port port'
+
+-- What collects on links in leave of them.
+pub record LeftByCollects {P : Type 0} {cap : ℕ} {M : Type 0} (G : Ghosts P cap M) (old new : State) (port port' : P) : Type 0 where
+  pub ready : IsReady (G.dims port) (G.rank port) new (G.sent port') (G.got port')
+  pub goes_on : GoesOn old new (G.sent port) (G.sent port') (G.got port) (G.got port')
+  pub outs : new.outs ≡ old.outs
+  pub same_outs : SameOuts G port port'
+  pub same_port : SamePort G port port'
 
 -- What became of a link in that was asked where it wanted a parcel.
 -- left: where it didn't want one, nothing was got, and it wasn't asked.

@@ -6,9 +6,10 @@ ghost use Rattle.route_tensor.specs.Link.{links};
 ghost use Rattle.route_tensor.specs.Ends.{reader_at};
 ghost use Rattle.route_tensor.specs.Neighbour.{in_index};
 ghost use Rattle.port_bank.specs.Calls.{once_more_if};
+ghost use Rattle.port_bank.specs.Frames.{InsElsewhere};
 ghost use Rattle.convey.specs.Buffers.{in_of};
 ghost use Rattle.hop_core.specs.Link.{is_wanted};
-ghost use Rattle.convey.specs.Way.{IsReady, GoesOn, WasAsked};
+ghost use Rattle.convey.specs.Way.{IsReady, WasAsked, LeftByCollects};
 
 use hop_core::RankState;
 use item_buffer::Parcel;
@@ -26,24 +27,15 @@ pub(crate) fn collect_all<const CAP: usize, const HOPS: usize, P: Port<CAP>>(
     requires empty { spare.old ≡ blank state.old.epoch }
     requires ready { IsReady (P.dims port.old) (P.rank port.old) state.old (P.sent port.old) (P.got port.old) }
     ensures empty { spare.new ≡ blank state.new.epoch }
-    ensures ready { IsReady (P.dims port.old) (P.rank port.old) state.new (P.sent port.new) (P.got port.new) }
-    ensures goes_on { GoesOn state.old state.new (P.sent port.old) (P.sent port.new) (P.got port.old) (P.got port.new) }
-    ensures outs { state.new.outs ≡ state.old.outs }
     ensures asked { (l : ℕ) → l < links (P.dims port.old) → reader_at (P.dims port.old) l ≡ P.rank port.old
         → WasAsked state.old l (P.got port.old l) (P.got port.new l) (P.noted port.old l) (P.noted port.new l)
         (P.idle port.new l) }
     ensures collects { (l : ℕ) → l < links (P.dims port.old) → reader_at (P.dims port.old) l ≡ P.rank port.old
         → P.collects port.new l ≡ once_more_if (is_wanted (in_of state.old l)) (P.collects port.old l) }
-    ensures posts { P.posts port.new ≡ P.posts port.old }
     ensures lies { (l : ℕ) (more : List Shipped) → l < links (P.dims port.old)
         → reader_at (P.dims port.old) l ≡ P.rank port.old → P.got port.new l ≡ P.got port.old l ++ more
         → (in_of state.new l).parcel.untaken ≡ (in_of state.old l).parcel.untaken ++ flat_map (λ p. p.entries) more }
-    ensures sent { P.sent port.new ≡ P.sent port.old }
-    ensures looks_out { P.looks_out port.new ≡ P.looks_out port.old }
-    ensures rest { P.rest port.new ≡ P.rest port.old }
-    ensures same_rank { P.rank port.new ≡ P.rank port.old }
-    ensures same_dims { P.dims port.new ≡ P.dims port.old }
-    ensures same_slots { P.slots port.new ≡ P.slots port.old }
+    ensures leaves { LeftByCollects P.Port state.old state.new port.old port.new }
 {
     for i in (0..state.routes().neighbours()).rev() {
         let link = state.routes().neighbour(i).link_from;
@@ -65,29 +57,17 @@ pub(crate) fn collect_one<const CAP: usize, const HOPS: usize, P: Port<CAP>>(
     requires empty { spare.old ≡ blank state.old.epoch }
     requires ready { IsReady (P.dims port.old) (P.rank port.old) state.old (P.sent port.old) (P.got port.old) }
     ensures empty { spare.new ≡ blank state.new.epoch }
-    ensures ready { IsReady (P.dims port.old) (P.rank port.old) state.new (P.sent port.new) (P.got port.new) }
-    ensures goes_on { GoesOn state.old state.new (P.sent port.old) (P.sent port.new) (P.got port.old) (P.got port.new) }
-    ensures outs { state.new.outs ≡ state.old.outs }
     ensures asked { WasAsked state.old link (P.got port.old link) (P.got port.new link) (P.noted port.old link)
         (P.noted port.new link) (P.idle port.new link) }
     ensures collects { P.collects port.new link
         ≡ once_more_if (is_wanted (in_of state.old link)) (P.collects port.old link) }
-    ensures collects_elsewhere { (m : ℕ) → m ≢ link → P.collects port.new m ≡ P.collects port.old m }
-    ensures posts { P.posts port.new ≡ P.posts port.old }
     ensures lies { (more : List Shipped) → P.got port.new link ≡ P.got port.old link ++ more
         → (in_of state.new link).parcel.untaken ≡ (in_of state.old link).parcel.untaken ++ flat_map
         (λ p. p.entries) more }
     ensures inbox { (m : ℕ) → m < links (P.dims port.old) → reader_at (P.dims port.old) m ≡ P.rank port.old → m ≢ link
         → in_of state.new m ≡ in_of state.old m }
-    ensures got { (m : ℕ) → m ≢ link → P.got port.new m ≡ P.got port.old m }
-    ensures noted { (m : ℕ) → m ≢ link → P.noted port.new m ≡ P.noted port.old m }
-    ensures idle { (m : ℕ) → m ≢ link → P.idle port.new m ≡ P.idle port.old m }
-    ensures sent { P.sent port.new ≡ P.sent port.old }
-    ensures looks_out { P.looks_out port.new ≡ P.looks_out port.old }
-    ensures rest { P.rest port.new ≡ P.rest port.old }
-    ensures same_rank { P.rank port.new ≡ P.rank port.old }
-    ensures same_dims { P.dims port.new ≡ P.dims port.old }
-    ensures same_slots { P.slots port.new ≡ P.slots port.old }
+    ensures elsewhere { InsElsewhere P.Port link port.old port.new }
+    ensures leaves { LeftByCollects P.Port state.old state.new port.old port.new }
 {
     state.known();
     if !state.wants_from(number) {

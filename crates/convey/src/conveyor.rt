@@ -1,34 +1,25 @@
 //! The conveyor of one rank: what a program pushes, advances and pulls.
-ghost use Rattle.std.specs.Prelude.{◌≡◌, ◌≢◌, ℕ, ◌+◌, ◌<◌, ◌≤◌, ◌^◌, true, false, List, [], ◌++◌, length, sum, replicate, map, is_some, slice_get, Some, None, IfOk, IfSome, OnOk, IsOk, IsErr, Ok, Result};
-ghost use Rattle.std.specs.List.{flat_map};
+ghost use Rattle.std.specs.Prelude.{◌≡◌, ◌≢◌, ℕ, ◌+◌, ◌<◌, ◌^◌, true, false, [], length, sum, replicate, map, is_some, slice_get, Some, None, IfOk, IfSome, OnOk, IsOk, IsErr, Ok, Result};
 ghost use Rattle.bale_types.specs.declared.item.Entry.{Entry};
-ghost use Rattle.item_buffer.specs.Contents.{Shipped};
 ghost use Rattle.route_tensor.specs.Grid.{ranks, IsGrid};
 ghost use Rattle.route_tensor.specs.Link.{links};
 ghost use Rattle.route_tensor.specs.Ends.{hop_at, sender_at, reader_at};
 ghost use Rattle.list_laws.specs.Lists.{Begins};
-ghost use Rattle.port_bank.specs.Shapes.{IsConveyorShape};
 ghost use Rattle.hop_core.specs.Link.{no_out, no_in};
 ghost use Rattle.hop_core.specs.State.{all_closed, phase_of, in_at, lowest_unread, pull_from, pulled_from, pulls, unpulled, with_pushed, reopened, resumed};
 ghost use Rattle.route_tensor.specs.Neighbour.{hop_to, neighbour};
 ghost use Rattle.route_tensor.specs.Tag.{IsFair, sender_of};
 ghost use Rattle.std.specs.List.{All};
-ghost use Rattle.port_bank.specs.Machine.{IsOwnStep};
 ghost use Rattle.port_bank.specs.Machine.Step.{Push, Pull, Unpull, Reset, Idle};
-ghost use Rattle.port_bank.specs.Calls.{once_more_if};
-ghost use Rattle.convey.specs.Buffers.{buffers_of, out_of, in_of, is_complete};
-ghost use Rattle.convey.specs.Parts.{part_of};
+ghost use Rattle.convey.specs.Buffers.{buffers_of, out_of, in_of};
 ghost use Rattle.convey.specs.Law.{IsSound};
+ghost use Rattle.convey.specs.Advance.{IsAtPort, StaysAtPort, HasSettled, ListsGrow, WereAsked, WereServed};
 ghost use Rattle.convey.specs.Conveyors.{AgreesWith, HoldsAtMost, IsStepOf, KeepsAgreement, GivesNext, standing_toward};
-ghost use Rattle.convey.specs.Progress.{progress_of, advance_step};
-ghost use Rattle.bale_types.specs.Stream.{RoseOrFull};
+ghost use Rattle.convey.specs.Progress.{progress_of};
+ghost use Rattle.item_buffer.specs.Capacity.{IsCap};
 ghost use Rattle.hop_core.specs.declared.lent.Lent.TheVariants as Lent;
-ghost use Rattle.hop_core.specs.State.{at_end};
 ghost use Rattle.hop_core.specs.Standing.{IsState};
-ghost use Rattle.convey.specs.Agreement.{Ends};
-ghost use Rattle.convey.specs.Arrived.{HasArrived};
-ghost use Rattle.hop_core.specs.Link.{is_wanted};
-ghost use Rattle.convey.specs.Due.{Wants, IsOver, WasServed, StopsAt, NextIs, WasFull, HeldUp, was_served};
+ghost use Rattle.convey.specs.Due.{StopsAt, NextIs, WasFull};
 
 use crate::moving::move_on;
 use crate::progress::Progress;
@@ -64,8 +55,7 @@ impl<const CAP: usize, const HOPS: usize> Conveyor<CAP, HOPS> {
     ///
     /// A steady conveyor sends what it has at every advance, and not only full parcels.
     pub fn new(alloc: Global, grid: &Grid, rank: u32, steady: bool) -> Result<Self, NoMemory>
-        requires some { 0 < CAP }
-        requires small { CAP ≤ 1024 }
+        requires cap { IsCap CAP }
         requires hops { length grid.now ≡ HOPS }
         requires rank { rank < ranks grid.now }
         ensures made { IfOk result (λ c. c ≡ record {
@@ -245,113 +235,42 @@ impl<const CAP: usize, const HOPS: usize> Conveyor<CAP, HOPS> {
     /// noted, the phase is as before, and advance may be called again.
     pub fn advance<P: Port<CAP>>(&mut self, port: &mut P, done: bool) -> Result<Progress, NoMemory>
         requires begun { self.old.phase ≢ Phase.Dormant }
-        requires same_dims { P.dims port.old ≡ self.old.dims }
-        requires same_rank { P.rank port.old ≡ self.old.rank }
-        requires agrees { AgreesWith self.old (P.sent port.old) (P.got port.old) }
+        requires at_port { IsAtPort P.Port self.old port.old }
         requires done_stays { self.old.done ≡ true → done ≡ true }
 
-        // The conveyor agrees with the port again.
-        ensures agrees { AgreesWith self.new (P.sent port.new) (P.got port.new) }
-        ensures self_dims { self.new.dims ≡ self.old.dims }
-        ensures self_rank { self.new.rank ≡ self.old.rank }
-        ensures steady { self.new.steady ≡ self.old.steady }
-        ensures epoch { self.new.epoch ≡ self.old.epoch }
-        ensures done { self.new.done ≡ done }
-        ensures same_dims { P.dims port.new ≡ P.dims port.old }
-        ensures same_rank { P.rank port.new ≡ P.rank port.old }
-        ensures same_slots { P.slots port.new ≡ P.slots port.old }
-        ensures rest { P.rest port.new ≡ P.rest port.old }
+        // The conveyor agrees with the port again, and made a step of the exchange machine.
+        ensures stays { StaysAtPort P.Port done self.old self.new port.old port.new }
 
         // Answers.
-        ensures answer { IfOk result (λ p. p ≡ progress_of self.new.phase) }
-        ensures settled { OnOk result (self.new.phase ≡ phase_of self.new) }
+        ensures settled { IfOk result (λ p. HasSettled done self.new p) }
         ensures no_memory { IsErr result → self.new.phase ≡ self.old.phase }
         ensures memory { P.Memory.GROWS ≡ false → IsOk result }
 
         // As at every moment, no open parcel held more than its capacity.
         ensures fits { HoldsAtMost CAP self.old }
 
-        ensures begun { self.new.phase ≢ Phase.Dormant }
-        ensures working { IsOk result → done ≡ false → self.new.phase ≡ Phase.Working }
-        ensures over { result ≡ Ok Progress.Complete → IsOver self.new }
-        ensures completes { IsOk result → IsOver self.new → result ≡ Ok Progress.Complete }
-
         // In the phase Complete nothing changes but the right to unpull.
         ensures complete { self.old.phase ≡ Phase.Complete → self.new ≡ record self.old { pulled = None } }
         ensures complete_port { self.old.phase ≡ Phase.Complete → port.new ≡ port.old }
 
-        // The lists only grow, each by one parcel at most, and those posted are of the conveyor's shape: where it isn't
-        // steady, an epoch's entries travel in few parcels (`port_bank::few_parcels_law`).
-        ensures sent_grows { (l : ℕ) → Begins (P.sent port.old l) (P.sent port.new l) }
-        ensures got_grows { (l : ℕ) → Begins (P.got port.old l) (P.got port.new l) }
-        ensures one_sent { (l : ℕ) → l < links self.old.dims → sender_at self.old.dims l ≡ self.old.rank
-            → length (P.sent port.new l) ≤ length (P.sent port.old l) + 1 }
-        ensures one_got { (l : ℕ) → l < links self.old.dims → reader_at self.old.dims l ≡ self.old.rank
-            → length (P.got port.new l) ≤ length (P.got port.old l) + 1 }
-        ensures fills { (l : ℕ) (more : List Shipped) → P.sent port.new l ≡ P.sent port.old l ++ more
-            → IsConveyorShape self.old.steady CAP more }
-        ensures shape { (l : ℕ) → IsConveyorShape self.old.steady CAP (P.sent port.old l)
-            → IsConveyorShape self.old.steady CAP (P.sent port.new l) }
+        // The lists only grow.
+        ensures grows { ListsGrow P.Port self.old port.old port.new }
 
-        // Each link out that is left due was served in vain; each link in that wanted a parcel was asked.
-        ensures served { OnOk result ((l : ℕ) → l < links self.old.dims → sender_at self.old.dims l ≡ self.old.rank
-            → WasServed self.new l (P.looks_out port.old l) (P.looks_out port.new l) (P.crowded port.new l)) }
-        ensures left { (l : ℕ) → l < links self.old.dims → reader_at self.old.dims l ≡ self.old.rank
-            → (Wants self.old l → ⊥)
-            → P.got port.new l ≡ P.got port.old l }
-        ensures unasked { (l : ℕ) → l < links self.old.dims → reader_at self.old.dims l ≡ self.old.rank
-            → (Wants self.old l → ⊥)
-            → P.noted port.new l ≡ P.noted port.old l }
+        // Each link in that wanted a parcel was asked once; each link out that was due was served once, where that had
+        // memory, and else none after the one that found none.
+        ensures asked { WereAsked P.Port self.old self.new port.old port.new }
+        ensures served { OnOk result (WereServed P.Port self.old self.new port.old port.new) }
+        ensures stops { IsErr result → StopsAt self.new (P.posts port.old) (P.posts port.new) }
+
+        // Where nothing was sent on a link out, its open parcel begins with what it held. An entry is left in an inbox
+        // below the last hop only where the open parcel that it goes to was full.
         ensures waits { (l : ℕ) → l < links self.old.dims → sender_at self.old.dims l ≡ self.old.rank
             → P.sent port.new l ≡ P.sent port.old l
             → Begins (out_of self.old l).parcel.untaken (out_of self.new l).parcel.untaken }
-        ensures asked { (l : ℕ) → l < links self.old.dims → reader_at self.old.dims l ≡ self.old.rank → Wants self.old l
-            → P.got port.new l ≡ P.got port.old l → RoseOrFull (P.noted port.old l) (P.noted port.new l) }
-        ensures idle { (l : ℕ) → l < links self.old.dims → reader_at self.old.dims l ≡ self.old.rank → Wants self.old l
-            → P.got port.new l ≡ P.got port.old l → P.sent port.new l ≡ P.sent port.old l → P.idle port.new l ≡ true }
-
-        // The port is asked once for each such link, and for no other; without memory it stops at the link that found none.
-        ensures posts { OnOk result ((l : ℕ) → l < links self.old.dims → sender_at self.old.dims l ≡ self.old.rank
-            → P.posts port.new l
-            ≡ once_more_if (was_served self.new l (P.sent port.old l) (P.sent port.new l)) (P.posts port.old l)) }
-        ensures stops { IsErr result → StopsAt self.new (P.posts port.old) (P.posts port.new) }
-        ensures collects { (l : ℕ) → l < links self.old.dims → reader_at self.old.dims l ≡ self.old.rank
-            → P.collects port.new l ≡ once_more_if (is_wanted (in_of self.old l)) (P.collects port.old l) }
-
-        // An inbox holds the end of what it held and of what came.
-        ensures lies { (l : ℕ) (more : List Shipped) → l < links self.old.dims
-            → reader_at self.old.dims l ≡ self.old.rank → P.got port.new l ≡ P.got port.old l ++ more
-            → Ends ((in_of self.old l).parcel.untaken ++ flat_map (λ p. p.entries) more)
-            (in_of self.new l).parcel.untaken }
-
-        // Where nothing was sent on a link out, it is crowded if its parcel was full, or if its hop has reached its end
-        // and it isn't closed.
-        ensures full { IsOk result → (l : ℕ) → l < links self.old.dims → sender_at self.old.dims l ≡ self.old.rank
-            → P.sent port.new l ≡ P.sent port.old l
-            → length (out_of self.old l).parcel.untaken ≡ CAP → P.crowded port.new l ≡ true }
-        ensures ending { IsOk result → (l : ℕ) → l < links self.old.dims → sender_at self.old.dims l ≡ self.old.rank
-            → at_end self.new.dims self.new.ins self.new.done (hop_at self.new.dims l) ≡ true
-            → (out_of self.new l).closed ≡ false → P.crowded port.new l ≡ true }
-        ensures closing { IsOk result → (l : ℕ) → l < links self.old.dims → sender_at self.old.dims l ≡ self.old.rank
-            → (hop_at self.old.dims l ≡ 1 → done ≡ true) → HasArrived (buffers_of self.new) l
-            → (out_of self.new l).closed ≡ false → P.crowded port.new l ≡ true }
-
-        // An entry is left in an inbox below the last hop only where the open parcel that it goes to was full; where the
-        // advance had memory and nothing was sent there, that link is crowded.
         ensures held { (l : ℕ) (e : Entry) → l < links self.old.dims → reader_at self.old.dims l ≡ self.old.rank
             → hop_at self.old.dims l < length self.old.dims → slice_get (in_of self.new l).parcel.untaken 0 ≡ Some e
             → NextIs self.old.dims self.old.rank l e.tag
             (WasFull CAP self.new (P.sent port.old) (P.sent port.new)) }
-        ensures stopped { IsOk result → (l : ℕ) (e : Entry) → l < links self.old.dims
-            → reader_at self.old.dims l ≡ self.old.rank
-            → hop_at self.old.dims l < length self.old.dims → slice_get (in_of self.new l).parcel.untaken 0 ≡ Some e
-            → NextIs self.old.dims self.old.rank l e.tag (HeldUp CAP self.new (P.sent port.old) (P.sent port.new)
-            (P.crowded port.new)) }
-
-        // It is a step of the rank's part of the exchange machine.
-        ensures step { IsOwnStep (advance_step self.old.done done (is_complete self.new.phase))
-            (part_of (buffers_of self.old) (P.sent port.old) (P.got port.old))
-            (part_of (buffers_of self.new) (P.sent port.new) (P.got port.new)) }
     {
         move_on(&mut self.state, &mut self.spare, port, done)?;
         Ok(settle(&mut self.state))

@@ -2,6 +2,7 @@
 ghost use Rattle.std.specs.Prelude.{◌≡◌, ◌≢◌, ◌⊎◌, ℕ, ◌<◌, true, false, None, Some, length, slice_get, OnOk, IsOk, IsErr, Result};
 ghost use Rattle.hop_core.specs.declared.lent.Lent.TheVariants as Lent;
 ghost use Rattle.port_bank.specs.Calls.{once_more_if};
+ghost use Rattle.port_bank.specs.Frames.{SamePort};
 ghost use Rattle.hop_core.specs.Standing.{IsState};
 ghost use Rattle.convey.specs.Buffers.{is_complete};
 ghost use Rattle.convey.specs.Conveyors.{IsConveyor};
@@ -60,10 +61,7 @@ pub(crate) fn move_on<const CAP: usize, const HOPS: usize, P: Port<CAP>>(
     ensures memory { P.Memory.GROWS ≡ false → IsOk result }
     ensures cap { state.old.cap ≡ CAP }
     ensures standing { IsState state.old }
-    ensures rest { P.rest port.new ≡ P.rest port.old }
-    ensures same_rank { P.rank port.new ≡ P.rank port.old }
-    ensures same_dims { P.dims port.new ≡ P.dims port.old }
-    ensures same_slots { P.slots port.new ≡ P.slots port.old }
+    ensures same_port { SamePort P.Port port.old port.new }
 {
     // The contract of `phase` tells what holds of the state.
     if is_over(state.phase()) {

@@ -1,13 +1,14 @@
 //! Posts on the links out that are due.
-ghost use Rattle.std.specs.Prelude.{◌≡◌, ◌≢◌, ℕ, ◌+◌, ◌<◌, ◌≤◌, false, None, IsOk, IsErr, OnOk, Result};
+ghost use Rattle.std.specs.Prelude.{◌≡◌, ◌≢◌, ℕ, ◌<◌, false, None, IsOk, IsErr, OnOk, Result};
 ghost use Rattle.item_buffer.specs.Contents.{blank};
 ghost use Rattle.route_tensor.specs.Link.{links};
 ghost use Rattle.route_tensor.specs.Ends.{sender_at};
 ghost use Rattle.route_tensor.specs.Neighbour.{out_index};
 ghost use Rattle.port_bank.specs.Calls.{once_more_if};
+ghost use Rattle.port_bank.specs.Frames.{OutsElsewhere};
 ghost use Rattle.convey.specs.Buffers.{out_of};
 ghost use Rattle.convey.specs.Due.{IsDue, WasServed, StopsAt, was_served};
-ghost use Rattle.convey.specs.Way.{IsReady, GoesOn, WasPosted};
+ghost use Rattle.convey.specs.Way.{IsReady, WasPosted, LeftByPosts};
 
 use bale_types::NoMemory;
 use hop_core::RankState;
@@ -26,9 +27,6 @@ pub(crate) fn post_all<const CAP: usize, const HOPS: usize, P: Port<CAP>>(
     requires empty { spare.old ≡ blank state.old.epoch }
     requires ready { IsReady (P.dims port.old) (P.rank port.old) state.old (P.sent port.old) (P.got port.old) }
     ensures empty { spare.new ≡ blank state.new.epoch }
-    ensures ready { IsReady (P.dims port.old) (P.rank port.old) state.new (P.sent port.new) (P.got port.new) }
-    ensures goes_on { GoesOn state.old state.new (P.sent port.old) (P.sent port.new) (P.got port.old) (P.got port.new) }
-    ensures ins { state.new.ins ≡ state.old.ins }
     ensures served { OnOk result ((l : ℕ) → l < links (P.dims port.old)
         → sender_at (P.dims port.old) l ≡ P.rank port.old
         → WasServed state.new l (P.looks_out port.old l) (P.looks_out port.new l) (P.crowded port.new l)) }
@@ -36,7 +34,6 @@ pub(crate) fn post_all<const CAP: usize, const HOPS: usize, P: Port<CAP>>(
         → P.posts port.new l
         ≡ once_more_if (was_served state.new l (P.sent port.old l) (P.sent port.new l)) (P.posts port.old l)) }
     ensures stops { IsErr result → StopsAt state.new (P.posts port.old) (P.posts port.new) }
-    ensures collects { P.collects port.new ≡ P.collects port.old }
     ensures memory { P.Memory.GROWS ≡ false → IsOk result }
     ensures forgotten { IsErr result → state.new.pulled ≡ None }
     ensures waits { (l : ℕ) → l < links (P.dims port.old) → sender_at (P.dims port.old) l ≡ P.rank port.old
@@ -44,13 +41,7 @@ pub(crate) fn post_all<const CAP: usize, const HOPS: usize, P: Port<CAP>>(
         → (out_of state.new l).parcel.untaken ≡ (out_of state.old l).parcel.untaken }
     ensures posted { (l : ℕ) → l < links (P.dims port.old) → sender_at (P.dims port.old) l ≡ P.rank port.old
         → WasPosted (out_of state.old l).parcel.untaken (P.sent port.old l) (P.sent port.new l) }
-    ensures idle { (l : ℕ) → P.sent port.new l ≡ P.sent port.old l → P.idle port.new l ≡ P.idle port.old l }
-    ensures got { P.got port.new ≡ P.got port.old }
-    ensures noted { P.noted port.new ≡ P.noted port.old }
-    ensures rest { P.rest port.new ≡ P.rest port.old }
-    ensures same_rank { P.rank port.new ≡ P.rank port.old }
-    ensures same_dims { P.dims port.new ≡ P.dims port.old }
-    ensures same_slots { P.slots port.new ≡ P.slots port.old }
+    ensures leaves { LeftByPosts P.Port state.old state.new port.old port.new }
 {
     for i in 0..state.routes().neighbours() {
         let link = state.routes().neighbour(i).link_to;
@@ -74,18 +65,13 @@ pub(crate) fn post_one<const CAP: usize, const HOPS: usize, P: Port<CAP>>(
     requires empty { spare.old ≡ blank state.old.epoch }
     requires ready { IsReady (P.dims port.old) (P.rank port.old) state.old (P.sent port.old) (P.got port.old) }
     ensures empty { spare.new ≡ blank state.new.epoch }
-    ensures ready { IsReady (P.dims port.old) (P.rank port.old) state.new (P.sent port.new) (P.got port.new) }
-    ensures goes_on { GoesOn state.old state.new (P.sent port.old) (P.sent port.new) (P.got port.old) (P.got port.new) }
-    ensures ins { state.new.ins ≡ state.old.ins }
     ensures served { OnOk result (WasServed state.new link (P.looks_out port.old link) (P.looks_out port.new link)
         (P.crowded port.new link)) }
     ensures posts { OnOk result (P.posts port.new link
         ≡ once_more_if (was_served state.new link (P.sent port.old link) (P.sent port.new link))
         (P.posts port.old link)) }
-    ensures posts_elsewhere { (m : ℕ) → m ≢ link → P.posts port.new m ≡ P.posts port.old m }
     ensures no_post { IsErr result → P.posts port.new ≡ P.posts port.old }
     ensures still_due { IsErr result → IsDue state.new link }
-    ensures collects { P.collects port.new ≡ P.collects port.old }
     ensures memory { P.Memory.GROWS ≡ false → IsOk result }
     ensures forgotten { IsErr result → state.new.pulled ≡ None }
     ensures out { (m : ℕ) → m < links (P.dims port.old) → sender_at (P.dims port.old) m ≡ P.rank port.old → m ≢ link
@@ -93,16 +79,8 @@ pub(crate) fn post_one<const CAP: usize, const HOPS: usize, P: Port<CAP>>(
     ensures posted { WasPosted (out_of state.old link).parcel.untaken (P.sent port.old link) (P.sent port.new link) }
     ensures waits { P.sent port.new link ≡ P.sent port.old link → (out_of state.new link).parcel.untaken
         ≡ (out_of state.old link).parcel.untaken }
-    ensures sent { (m : ℕ) → m ≢ link → P.sent port.new m ≡ P.sent port.old m }
-    ensures looks_out { (m : ℕ) → m ≢ link → P.looks_out port.new m ≡ P.looks_out port.old m }
-    ensures crowded { (m : ℕ) → m ≢ link → P.crowded port.new m ≡ P.crowded port.old m }
-    ensures idle { (m : ℕ) → P.sent port.new m ≡ P.sent port.old m → P.idle port.new m ≡ P.idle port.old m }
-    ensures got { P.got port.new ≡ P.got port.old }
-    ensures noted { P.noted port.new ≡ P.noted port.old }
-    ensures rest { P.rest port.new ≡ P.rest port.old }
-    ensures same_rank { P.rank port.new ≡ P.rank port.old }
-    ensures same_dims { P.dims port.new ≡ P.dims port.old }
-    ensures same_slots { P.slots port.new ≡ P.slots port.old }
+    ensures elsewhere { OutsElsewhere P.Port link port.old port.new }
+    ensures leaves { LeftByPosts P.Port state.old state.new port.old port.new }
 {
     state.known();
     if !state.due_to(number) {

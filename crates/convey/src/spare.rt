@@ -1,5 +1,6 @@
 //! The parcel that a rank has at hand.
-ghost use Rattle.std.specs.Prelude.{◌≡◌, ◌<◌, ◌≤◌};
+ghost use Rattle.std.specs.Prelude.{◌≡◌, ◌<◌};
+ghost use Rattle.item_buffer.specs.Capacity.{IsCap};
 ghost use Rattle.item_buffer.specs.Contents.{blank};
 
 use bale_types::NoMemory;
@@ -15,8 +16,7 @@ pub(crate) struct Spare<const CAP: usize> {
 
 impl<const CAP: usize> Spare<CAP> {
     pub(crate) fn new(alloc: Global) -> Result<Self, NoMemory>
-        requires some { 0 < CAP }
-        requires small { CAP ≤ 1024 }
+        requires cap { IsCap CAP }
     {
         Ok(Spare {
             parcel: Parcel::new(alloc)?,

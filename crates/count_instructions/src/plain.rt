@@ -1,5 +1,6 @@
 //! All ranks of a grid, over a plain bank, in turn on one thread.
-ghost use Rattle.std.specs.Prelude.{◌≡◌, ◌<◌, ◌≤◌, length, slice_index_or, IfOk};
+ghost use Rattle.std.specs.Prelude.{◌≡◌, ◌<◌, length, slice_index_or, IfOk};
+ghost use Rattle.item_buffer.specs.Capacity.{IsCap};
 ghost use Rattle.route_tensor.specs.Grid.{ranks};
 ghost use Rattle.port_bank.specs.Plain.{sent_of, got_of, empty_bank};
 ghost use Rattle.convey.specs.Buffers.{buffers_of};
@@ -20,8 +21,7 @@ pub(crate) fn over_plain<const CAP: usize, const HOPS: usize>(
     job: Job,
     grid: &Grid,
 ) -> Result<u64, NoMemory>
-    requires some { 0 < CAP }
-    requires small { CAP ≤ 1024 }
+    requires cap { IsCap CAP }
     requires hops { length grid.now ≡ HOPS }
 {
     let mut bank = PlainBank::<CAP>::new(alloc, grid, 2)?;
@@ -37,8 +37,7 @@ fn sides_of<const CAP: usize, const HOPS: usize>(
     alloc: Global,
     grid: &Grid,
 ) -> Result<Vec<Side<CAP, HOPS>>, NoMemory>
-    requires some { 0 < CAP }
-    requires small { CAP ≤ 1024 }
+    requires cap { IsCap CAP }
     requires hops { length grid.now ≡ HOPS }
     ensures all { IfOk result (λ v. length v.items ≡ ranks grid.now) }
     ensures together { (d : _) (slots : _)

@@ -1,5 +1,6 @@
 //! What is measured.
-ghost use Rattle.std.specs.Prelude.{◌≡◌, ◌<◌, ◌≤◌, length};
+ghost use Rattle.std.specs.Prelude.{◌≡◌, ◌<◌, length};
+ghost use Rattle.item_buffer.specs.Capacity.{IsCap};
 
 use crate::plain::over_plain;
 use crate::slots::over_slots;
@@ -57,8 +58,7 @@ fn over<const CAP: usize, const HOPS: usize>(
     job: Job,
     grid: &Grid,
 ) -> Result<u64, NoMemory>
-    requires some { 0 < CAP }
-    requires small { CAP ≤ 1024 }
+    requires cap { IsCap CAP }
     requires hops { length grid.now ≡ HOPS }
 {
     if job.bank == 1 {

@@ -1,9 +1,11 @@
 //! One rank of a benchmark: its conveyor, which turns at the port that it is lent.
-ghost use Rattle.std.specs.Prelude.{◌≡◌, ◌≢◌, ◌<◌, ◌≤◌, [], false, length, IfOk};
+ghost use Rattle.std.specs.Prelude.{◌≡◌, ◌<◌, false, length, IfOk};
+ghost use Rattle.item_buffer.specs.Capacity.{IsCap};
 ghost use Rattle.route_tensor.specs.Grid.{ranks};
 ghost use Rattle.convey.specs.Buffers.{buffers_of};
-ghost use Rattle.convey.specs.Conveyors.{AgreesWith, KeepsAgreement};
+ghost use Rattle.convey.specs.Conveyors.{StartsOut, StaysWithRank};
 ghost use Rattle.convey.specs.Law.{IsSound};
+ghost use Rattle.convey.specs.Advance.{IsAtPort, KeepsPort};
 
 use crate::sending::push_some;
 use crate::taking::sum_all;
@@ -32,18 +34,12 @@ pub(crate) struct Side<const CAP: usize, const HOPS: usize> {
 }
 
 impl<const CAP: usize, const HOPS: usize> Side<CAP, HOPS> {
-    ghost use Rattle.std.specs.Prelude.{[]};
-
     /// The conveyor of a rank.
     pub(crate) fn new(alloc: Global, grid: &Grid, rank: u32) -> Result<Self, NoMemory>
-        requires some { 0 < CAP }
-        requires small { CAP ≤ 1024 }
+        requires cap { IsCap CAP }
         requires hops { length grid.now ≡ HOPS }
         requires rank { rank < ranks grid.now }
-        ensures same_dims { IfOk result (λ s. s.conveyor.dims ≡ grid.now) }
-        ensures same_rank { IfOk result (λ s. s.conveyor.rank ≡ rank) }
-        ensures agrees { IfOk result (λ s. AgreesWith s.conveyor (λ l. []) (λ l. [])) }
-        ensures sound { IfOk result (λ s. IsSound (buffers_of s.conveyor)) }
+        ensures starts { IfOk result (λ s. StartsOut grid.now rank s.conveyor) }
     {
         let conveyor = Conveyor::new(alloc, grid, rank, false)?;
         conveyor.known();
@@ -71,17 +67,9 @@ impl<const CAP: usize, const HOPS: usize> Side<CAP, HOPS> {
         begins: bool,
         items: u64,
     ) -> Result<bool, NoMemory>
-        requires same_dims { P.dims port.old ≡ self.old.conveyor.dims }
-        requires same_rank { P.rank port.old ≡ self.old.conveyor.rank }
-        requires agrees { AgreesWith self.old.conveyor (P.sent port.old) (P.got port.old) }
-        ensures agrees { AgreesWith self.new.conveyor (P.sent port.new) (P.got port.new) }
+        requires at_port { IsAtPort P.Port self.old.conveyor port.old }
         ensures sound { IsSound (buffers_of self.new.conveyor) }
-        ensures self_dims { self.new.conveyor.dims ≡ self.old.conveyor.dims }
-        ensures self_rank { self.new.conveyor.rank ≡ self.old.conveyor.rank }
-        ensures port_dims { P.dims port.new ≡ P.dims port.old }
-        ensures port_rank { P.rank port.new ≡ P.rank port.old }
-        ensures port_slots { P.slots port.new ≡ P.slots port.old }
-        ensures rest { P.rest port.new ≡ P.rest port.old }
+        ensures keeps { KeepsPort P.Port self.old.conveyor self.new.conveyor port.old port.new }
     {
         self.begin(begins);
         self.push(items);
@@ -93,9 +81,7 @@ impl<const CAP: usize, const HOPS: usize> Side<CAP, HOPS> {
 
     /// Where told so, ends the epoch that is complete, if one is, and begins the next.
     fn begin(&mut self, begins: bool)
-        ensures kept { KeepsAgreement self.old.conveyor self.new.conveyor }
-        ensures same_dims { self.new.conveyor.dims ≡ self.old.conveyor.dims }
-        ensures same_rank { self.new.conveyor.rank ≡ self.old.conveyor.rank }
+        ensures { StaysWithRank self.old.conveyor self.new.conveyor }
     {
         if !begins {
             return;
@@ -105,9 +91,7 @@ impl<const CAP: usize, const HOPS: usize> Side<CAP, HOPS> {
     }
 
     fn end(&mut self)
-        ensures kept { KeepsAgreement self.old.conveyor self.new.conveyor }
-        ensures same_dims { self.new.conveyor.dims ≡ self.old.conveyor.dims }
-        ensures same_rank { self.new.conveyor.rank ≡ self.old.conveyor.rank }
+        ensures { StaysWithRank self.old.conveyor self.new.conveyor }
     {
         if self.conveyor.phase() != Phase::Complete || self.epoch >= 1_000_000 {
             return;
@@ -118,9 +102,7 @@ impl<const CAP: usize, const HOPS: usize> Side<CAP, HOPS> {
     }
 
     fn start(&mut self)
-        ensures kept { KeepsAgreement self.old.conveyor self.new.conveyor }
-        ensures same_dims { self.new.conveyor.dims ≡ self.old.conveyor.dims }
-        ensures same_rank { self.new.conveyor.rank ≡ self.old.conveyor.rank }
+        ensures { StaysWithRank self.old.conveyor self.new.conveyor }
     {
         if self.conveyor.phase() != Phase::Dormant {
             return;
@@ -130,16 +112,8 @@ impl<const CAP: usize, const HOPS: usize> Side<CAP, HOPS> {
     }
 
     fn advance<P: Port<CAP>>(&mut self, port: &mut P, items: u64) -> Result<bool, NoMemory>
-        requires same_dims { P.dims port.old ≡ self.old.conveyor.dims }
-        requires same_rank { P.rank port.old ≡ self.old.conveyor.rank }
-        requires agrees { AgreesWith self.old.conveyor (P.sent port.old) (P.got port.old) }
-        ensures agrees { AgreesWith self.new.conveyor (P.sent port.new) (P.got port.new) }
-        ensures self_dims { self.new.conveyor.dims ≡ self.old.conveyor.dims }
-        ensures self_rank { self.new.conveyor.rank ≡ self.old.conveyor.rank }
-        ensures port_dims { P.dims port.new ≡ P.dims port.old }
-        ensures port_rank { P.rank port.new ≡ P.rank port.old }
-        ensures port_slots { P.slots port.new ≡ P.slots port.old }
-        ensures rest { P.rest port.new ≡ P.rest port.old }
+        requires at_port { IsAtPort P.Port self.old.conveyor port.old }
+        ensures keeps { KeepsPort P.Port self.old.conveyor self.new.conveyor port.old port.new }
     {
         if self.conveyor.phase() == Phase::Dormant {
             return Ok(true);
@@ -151,9 +125,7 @@ impl<const CAP: usize, const HOPS: usize> Side<CAP, HOPS> {
     }
 
     fn take(&mut self)
-        ensures kept { KeepsAgreement self.old.conveyor self.new.conveyor }
-        ensures same_dims { self.new.conveyor.dims ≡ self.old.conveyor.dims }
-        ensures same_rank { self.new.conveyor.rank ≡ self.old.conveyor.rank }
+        ensures { StaysWithRank self.old.conveyor self.new.conveyor }
     {
         if self.conveyor.phase() == Phase::Dormant {
             return;
@@ -163,9 +135,7 @@ impl<const CAP: usize, const HOPS: usize> Side<CAP, HOPS> {
 
     /// Pushes items, where the epoch still takes them.
     fn push(&mut self, items: u64)
-        ensures kept { KeepsAgreement self.old.conveyor self.new.conveyor }
-        ensures same_dims { self.new.conveyor.dims ≡ self.old.conveyor.dims }
-        ensures same_rank { self.new.conveyor.rank ≡ self.old.conveyor.rank }
+        ensures { StaysWithRank self.old.conveyor self.new.conveyor }
     {
         if self.conveyor.phase() != Phase::Working || self.done {
             return;

@@ -1,7 +1,8 @@
 //! All ranks of a grid, over slot links, in turn on one thread.
-ghost use Rattle.std.specs.Prelude.{◌≡◌, ℕ, ◌<◌, ◌≤◌, true, false, length, slice_index_or, slice_set, IfOk};
+ghost use Rattle.std.specs.Prelude.{◌≡◌, ℕ, ◌<◌, true, false, length, slice_index_or, slice_set, IfOk};
 ghost use Rattle.route_tensor.specs.Grid.{ranks};
 ghost use Rattle.list_laws.specs.Lists.{EachAt};
+ghost use Rattle.item_buffer.specs.Capacity.{IsCap};
 ghost use Rattle.link_slots.specs.Seen.{posted_on, collected_from};
 ghost use Rattle.convey.specs.Conveyors.{AgreesWith};
 
@@ -40,8 +41,7 @@ pub(crate) fn over_slots<const CAP: usize, const HOPS: usize>(
     job: Job,
     grid: &Grid,
 ) -> Result<u64, NoMemory>
-    requires some { 0 < CAP }
-    requires small { CAP ≤ 1024 }
+    requires cap { IsCap CAP }
     requires hops { length grid.now ≡ HOPS }
 {
     let (bank, mut gather) = SlotBank::<CAP>::new(alloc, grid, 2)?;
@@ -57,8 +57,7 @@ fn sides_of<'a, const CAP: usize, const HOPS: usize>(
     bank: &'a SlotBank<CAP>,
     gather: &mut GatherSeat<CAP>,
 ) -> Result<Vec<AtSeat<'a, CAP, HOPS>>, NoMemory>
-    requires some { 0 < CAP }
-    requires small { CAP ≤ 1024 }
+    requires cap { IsCap CAP }
     requires hops { length grid.now ≡ HOPS }
     requires grid { bank.now.shape.dims ≡ grid.now }
     requires bank { (gather.old.id ≡ bank.now.id) × (gather.old.shape ≡ bank.now.shape) }
@@ -82,8 +81,7 @@ fn side_of<'a, const CAP: usize, const HOPS: usize>(
     gather: &mut GatherSeat<CAP>,
     rank: u32,
 ) -> Result<AtSeat<'a, CAP, HOPS>, NoMemory>
-    requires some { 0 < CAP }
-    requires small { CAP ≤ 1024 }
+    requires cap { IsCap CAP }
     requires hops { length grid.now ≡ HOPS }
     requires grid { bank.now.shape.dims ≡ grid.now }
     requires bank { (gather.old.id ≡ bank.now.id) × (gather.old.shape ≡ bank.now.shape) }

@@ -81,8 +81,7 @@ module _ (cap : ℕ) (st : State) (from : ℕ) (stage : Stage) (done : Bool) (k 
   pub begun_kept : IsKept cap (record st { stage = stage; done = done; outs = map begun_out st.outs; ins = map begun_in st.ins; popped = None }) from
   begun_kept = record {
     standing = record {
-      some = k.standing.some;
-      small = k.standing.small;
+      is_cap = k.standing.is_cap;
       rank = k.standing.rank;
       few = k.standing.few;
       all_outs = length-map st.outs begun_out ∙ k.standing.all_outs;

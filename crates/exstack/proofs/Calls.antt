@@ -34,8 +34,7 @@ first_some (e ∷ es) h = refl
 -- the right to unpop is forgotten
 pub stack_rest : (cap : ℕ) (st : State) → IsStack cap st → IsStack cap (record st { popped = None })
 stack_rest cap st s = record {
-  some = s.some;
-  small = s.small;
+  is_cap = s.is_cap;
   rank = s.rank;
   few = s.few;
   all_outs = s.all_outs;
@@ -91,8 +90,7 @@ module _ (cap : ℕ) (st : State) (from a : ℕ) (x : In) (k : IsKept cap st fro
     pub pop_kept : IsKept cap (record st { ins = set st.ins a y; popped = Some a }) a
     pop_kept = record {
       standing = record {
-        some = k.standing.some;
-        small = k.standing.small;
+        is_cap = k.standing.is_cap;
         rank = k.standing.rank;
         few = k.standing.few;
         all_outs = k.standing.all_outs;
@@ -140,8 +138,7 @@ module _ (cap : ℕ) (st : State) (from a : ℕ) (k : IsKept cap st from) (poppe
       pub unpop_kept : IsKept cap (record st { ins = set st.ins a y; popped = None }) low
       unpop_kept = record {
         standing = record {
-          some = k.standing.some;
-          small = k.standing.small;
+          is_cap = k.standing.is_cap;
           rank = k.standing.rank;
           few = k.standing.few;
           all_outs = k.standing.all_outs;
@@ -204,8 +201,7 @@ module _ (cap : ℕ) (st : State) (from : ℕ) (k : IsKept cap st from) (all : s
   pub reset_kept : IsKept cap (after_reset st) from
   reset_kept = record {
     standing = record {
-      some = k.standing.some;
-      small = k.standing.small;
+      is_cap = k.standing.is_cap;
       rank = k.standing.rank;
       few = k.standing.few;
       all_outs = length-map st.outs reopened ∙ k.standing.all_outs;

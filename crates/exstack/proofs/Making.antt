@@ -85,8 +85,7 @@ module _ (cap : ℕ) (st : State) (outs : List Out) (ins : List In) (last exchan
 
     pub stack_made : IsStack cap (after_round st outs ins)
     stack_made = record {
-      some = s.some;
-      small = s.small;
+      is_cap = s.is_cap;
       rank = s.rank;
       few = s.few;
       all_outs = all_outs ∙ s.all_outs;

@@ -4,9 +4,36 @@ use Rattle.std.proofs.lemmas.List.{length-append, append-nil}
 use Rattle.std.proofs.lemmas.Nat.{same_from_place}
 use Rattle.list_laws.specs.Lists.{Begins}
 use Rattle.exstack.specs.Links.{Out, In, parcel_of, gone, came}
+use Rattle.item_buffer.specs.Contents.{Shipped}
+use Rattle.port_bank.specs.declared.port.Port.{Ghosts}
+use Rattle.port_bank.specs.Logs.{Logs}
 use Rattle.port_bank.specs.Calls.{once_more_if}
+use Rattle.port_bank.specs.Frames.{OutsElsewhere, InsElsewhere}
 use Rattle.exstack.specs.State.{number}
-use Rattle.exstack.specs.Steps.{Sight, latest, was_moved, WasPosted, WasCollected, InVain}
+use Rattle.exstack.specs.Steps.{latest, was_moved, WasPosted, WasCollected, InVain}
+
+-- what a port shows of a link out: its log, how often the port looked for room, and whether it is crowded; and of a
+-- link in: its log, what was noted of it, and whether it is idle
+pub record Sight : Type 0 where
+  pub log : List Shipped
+  pub count : ℕ
+  pub stuck : Bool
+
+abbrev pub sight : Logs → (ℕ → ℕ) → (ℕ → Bool) → ℕ → Sight
+sight logs counts stuck l = record { log = logs l; count = counts l; stuck = stuck l }
+
+abbrev pub out_sight : {P : Type 0} {cap : ℕ} {M : Type 0} → Ghosts P cap M → P → ℕ → Sight
+out_sight G p = sight (G.sent p) (G.looks_out p) (G.crowded p)
+
+abbrev pub in_sight : {P : Type 0} {cap : ℕ} {M : Type 0} → Ghosts P cap M → P → ℕ → Sight
+in_sight G p = sight (G.got p) (G.noted p) (G.idle p)
+
+-- elsewhere it shows the same
+pub out_seen : {P : Type 0} {cap : ℕ} {M : Type 0} (G : Ghosts P cap M) (l : ℕ) (old new : P) → OutsElsewhere G l old new → (m : ℕ) → m ≢ l → out_sight G new m ≡ out_sight G old m
+out_seen G l old new e m ne = λ i. record { log = e.sent m ne i; count = e.looks_out m ne i; stuck = e.crowded m ne i }
+
+pub in_seen : {P : Type 0} {cap : ℕ} {M : Type 0} (G : Ghosts P cap M) (l : ℕ) (old new : P) → InsElsewhere G l old new → (m : ℕ) → m ≢ l → in_sight G new m ≡ in_sight G old m
+in_seen G l old new e m ne = λ i. record { log = e.got m ne i; count = e.noted m ne i; stuck = e.idle m ne i }
 
 -- the steps of a sweep over links out, and over links in
 abbrev pub Posted : Bool → ℕ → Out → Out → Sight → Sight → Type 0

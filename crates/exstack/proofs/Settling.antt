@@ -62,8 +62,7 @@ module _ (cap : ℕ) (st : State) (from : ℕ) (new : Stage) (k : IsKept cap st 
   pub settled : IsKept cap (record st { stage = new }) from
   settled = record {
     standing = record {
-      some = k.standing.some;
-      small = k.standing.small;
+      is_cap = k.standing.is_cap;
       rank = k.standing.rank;
       few = k.standing.few;
       all_outs = k.standing.all_outs;

@@ -1,14 +1,16 @@
 -- A running rank's part of the exchange machine, by its exstack and its port's lists.
 use Rattle.std.specs.Prelude.{◌≡◌, ℕ, ◌-◌, ◌==◌, Bool, true, false, ◌&&◌, not, cond, if◌then◌else◌, List, [], ◌∷◌, ◌++◌, length, take, Some}
 use Rattle.bale_types.specs.declared.item.Item.{Item}
+use Rattle.port_bank.specs.declared.port.Port.{Ghosts}
+use Rattle.port_bank.specs.Frames.{SamePort}
 use Rattle.port_bank.specs.Logs.{Logs}
 use Rattle.port_bank.specs.Machine.{Part, Step, IsOwnStep, after, for_ranks}
 use Rattle.port_bank.specs.Machine.Step.{Pull, Done, Complete, Idle}
 use Rattle.exstack.specs.declared.stage.Stage.{Stage}
 use Rattle.exstack.specs.declared.stage.Stage.TheVariants.{Start, Proceeding, Filling, Exchanging, Full, AllDone}
-use Rattle.exstack.specs.State.{State, out_at, in_at, link_to, link_from, lowest_unread, pop_from, popped_from}
+use Rattle.exstack.specs.State.{State, dims_of, out_at, in_at, link_to, link_from, lowest_unread, pop_from, popped_from}
 use Rattle.exstack.specs.Cycles.{entries_sent, entries_exchanged, items}
-use Rattle.exstack.specs.Agreement.{AgreesIn}
+use Rattle.exstack.specs.Agreement.{AgreesIn, AgreesWith}
 
 -- What a rank pushed toward d in an epoch: what it sent there and, in its current epoch, what waits for d.
 -- With [x] sent and [y] waiting it is [x, y].
@@ -48,6 +50,25 @@ IsStepOf step old new = (n : ℕ) (sent got : Logs) → AgreesIn n old sent got 
 -- A call keeps the agreement with a port that it doesn't see.
 abbrev pub KeepsAgreement : State → State → Type 0
 KeepsAgreement old new = (n : ℕ) (sent got : Logs) → AgreesIn n old sent got → AgreesIn n new sent got
+
+-- The port is the exstack's own: of its grid and its rank, and with lists that agree with it.
+pub record IsAtPort {P : Type 0} {cap : ℕ} {M : Type 0} (G : Ghosts P cap M) (st : State) (port : P) : Type 0 where
+  pub same_dims : G.dims port ≡ dims_of st
+  pub same_rank : G.rank port ≡ st.rank
+  pub agrees : AgreesWith st (G.sent port) (G.got port)
+
+-- What any call at the port keeps: the exstack agrees with it again, and both are those of the same rank.
+pub record KeepsPort {P : Type 0} {cap : ℕ} {M : Type 0} (G : Ghosts P cap M) (old new : State) (port port' : P) : Type 0 where
+  pub agrees : AgreesWith new (G.sent port') (G.got port')
+  pub ranks : new.ranks ≡ old.ranks
+  pub rank : new.rank ≡ old.rank
+  pub same_port : SamePort G port port'
+
+-- A call that the port doesn't see: the exstack stays that of its rank, and keeps the agreement.
+pub record StaysWithRank (old new : State) : Type 0 where
+  pub ranks : new.ranks ≡ old.ranks
+  pub rank : new.rank ≡ old.rank
+  pub kept : (sent got : Logs) → AgreesWith old sent got → AgreesWith new sent got
 
 -- Several steps of a rank's own part, one after the other.
 abbrev pub AreOwnSteps : List Step → Part → Part → Type 0

@@ -1,5 +1,6 @@
 -- What holds of an exstack at every moment.
 use Rattle.std.specs.Prelude.{◌≡◌, ℕ, ◌<◌, ◌≤◌, Bool, true, false, ◌||◌, [], length, Some, IsSome}
+use Rattle.item_buffer.specs.Capacity.{IsCap}
 use Rattle.list_laws.specs.Lists.{EachAt}
 use Rattle.exstack.specs.declared.stage.Stage.{Stage}
 use Rattle.exstack.specs.declared.stage.Stage.TheVariants.{Start, Proceeding, Filling, Exchanging, Full, AllDone}
@@ -47,8 +48,7 @@ pub record CanUnpop (st : State) (a : ℕ) : Type 0 where
 
 -- An exstack for parcels of capacity cap.
 pub record IsStack (cap : ℕ) (st : State) : Type 0 where
-  pub some : 0 < cap
-  pub small : cap ≤ 1024
+  pub is_cap : IsCap cap
   pub rank : st.rank < st.ranks
   pub few : st.ranks ≤ 64
   pub all_outs : length st.outs ≡ st.ranks

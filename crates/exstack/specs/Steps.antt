@@ -7,16 +7,6 @@ use Rattle.list_laws.specs.Lists.{Begins}
 use Rattle.exstack.specs.Links.{Out, In, no_out, parcel_of, gone, came}
 use Rattle.exstack.specs.State.{State, out_at, in_at, number, link_to, link_from}
 
--- What a port shows of a link out: its log, how often the port looked for room, and whether it is crowded. Of a link
--- in: its log, what was noted of it, and whether it is idle.
-pub record Sight : Type 0 where
-  pub log : List Shipped
-  pub count : ℕ
-  pub stuck : Bool
-
-abbrev pub sight : Logs → (ℕ → ℕ) → (ℕ → Bool) → ℕ → Sight
-sight logs counts stuck l = record { log = logs l; count = counts l; stuck = stuck l }
-
 -- A parcel was due, and isn't any more.
 abbrev pub was_moved : Bool → Bool → Bool
 was_moved old new = old && not new

@@ -1,18 +1,20 @@
 //! The exstack of one rank: what a program pushes, polls and pops.
-ghost use Rattle.std.specs.Prelude.{◌≡◌, ℕ, ◌+◌, ◌^◌, ◌<◌, ◌≤◌, ◌&&◌, ◌||◌, true, false, [], length, is_some, slice_get, Some, None, IfOk, IfSome, OnOk, IsOk, IsErr, Ok};
+ghost use Rattle.std.specs.Prelude.{◌≡◌, ℕ, ◌^◌, ◌<◌, true, false, [], length, is_some, slice_get, Some, None, IfOk, IfSome, OnOk, IsOk, IsErr, Ok};
 ghost use Rattle.bale_types.specs.Stream.{RoseOrFull};
+ghost use Rattle.item_buffer.specs.Capacity.{IsCap};
 ghost use Rattle.route_tensor.specs.Grid.{ranks};
 ghost use Rattle.port_bank.specs.Logs.{Logs};
 ghost use Rattle.port_bank.specs.Machine.{IsOwnStep};
 ghost use Rattle.port_bank.specs.Machine.Step.{Push, Pull, Unpull, Reset, Idle};
 ghost use Rattle.port_bank.specs.Calls.{once_more_if};
+ghost use Rattle.port_bank.specs.Frames.{SamePort};
 ghost use Rattle.exstack.specs.Links.{headroom_of};
 ghost use Rattle.exstack.specs.State.{new_stack, out_at, in_at, dims_of, link_to, link_from, least_headroom, unread_of, lowest_unread, pushed_on, pop_from, popped_from, pops, unpopped, after_reset};
 ghost use Rattle.exstack.specs.State.{may_proceed, may_exchange, in_proceed, in_exchange, missing_link, all_ended, proceed_answer, exchange_answer, stage_of_proceed, stage_of_exchange};
 ghost use Rattle.exstack.specs.Steps.{MadeRound, InVain, StopsAt};
 ghost use Rattle.exstack.specs.Agreement.{AgreesIn, AgreesWith, cycle_after};
 ghost use Rattle.exstack.specs.Cycles.{exchange_parcel, entries_in};
-ghost use Rattle.exstack.specs.Parts.{IsStepOf, KeepsAgreement, GivesNext, AreOwnSteps, proceed_steps, is_all_done, part_of};
+ghost use Rattle.exstack.specs.Parts.{IsStepOf, KeepsAgreement, GivesNext, AreOwnSteps, proceed_steps, is_all_done, part_of, IsAtPort};
 ghost use Rattle.exstack.specs.Standing.{IsStack};
 
 use crate::stack::Stack;
@@ -40,8 +42,7 @@ impl<const CAP: usize> Model for Exstack<CAP> {
 impl<const CAP: usize> Exstack<CAP> {
     /// The exstack of `rank`, at the start of epoch 0, with nothing pushed and nothing come.
     pub fn new(alloc: Global, grid: &Grid, rank: u32) -> Result<Self, NoMemory>
-        requires some { 0 < CAP }
-        requires small { CAP ≤ 1024 }
+        requires cap { IsCap CAP }
         requires one_hop { length grid.now ≡ 1 }
         requires rank { rank < ranks grid.now }
         ensures made { IfOk result (λ s. s ≡ new_stack (ranks grid.now) rank) }
@@ -196,9 +197,7 @@ impl<const CAP: usize> Exstack<CAP> {
         done: bool,
     ) -> Result<Proceed, NoMemory>
         requires may { may_proceed self.old.stage ≡ true }
-        requires same_dims { P.dims port.old ≡ dims_of self.old }
-        requires same_rank { P.rank port.old ≡ self.old.rank }
-        requires agrees { AgreesWith self.old (P.sent port.old) (P.got port.old) }
+        requires at_port { IsAtPort P.Port self.old port.old }
         requires read { unread_of self.old ≡ 0 }
         requires done_stays { self.old.done ≡ true → done ≡ true }
         requires same_done { self.old.stage ≡ Stage.Proceeding → done ≡ self.old.done }
@@ -214,10 +213,7 @@ impl<const CAP: usize> Exstack<CAP> {
           ins = self.new.ins;
           popped = None;
         } }
-        ensures same_dims { P.dims port.new ≡ P.dims port.old }
-        ensures same_rank { P.rank port.new ≡ P.rank port.old }
-        ensures same_slots { P.slots port.new ≡ P.slots port.old }
-        ensures rest { P.rest port.new ≡ P.rest port.old }
+        ensures same_port { SamePort P.Port port.old port.new }
 
         // Answers.
         ensures answer { IfOk result (λ p. p ≡ proceed_answer (missing_link self.new) (all_ended self.new)) }
@@ -264,9 +260,7 @@ impl<const CAP: usize> Exstack<CAP> {
     /// `NoMemory` comes only from the port's post. What was posted before it stands, and the poll may be made again.
     pub fn poll_exchange<P: Port<CAP>>(&mut self, port: &mut P) -> Result<Poll, NoMemory>
         requires may { may_exchange self.old.stage ≡ true }
-        requires same_dims { P.dims port.old ≡ dims_of self.old }
-        requires same_rank { P.rank port.old ≡ self.old.rank }
-        requires agrees { AgreesWith self.old (P.sent port.old) (P.got port.old) }
+        requires at_port { IsAtPort P.Port self.old port.old }
 
         // The exstack agrees with the port again.
         ensures agrees { AgreesWith self.new (P.sent port.new) (P.got port.new) }
@@ -278,10 +272,7 @@ impl<const CAP: usize> Exstack<CAP> {
           ins = self.new.ins;
           popped = None;
         } }
-        ensures same_dims { P.dims port.new ≡ P.dims port.old }
-        ensures same_rank { P.rank port.new ≡ P.rank port.old }
-        ensures same_slots { P.slots port.new ≡ P.slots port.old }
-        ensures rest { P.rest port.new ≡ P.rest port.old }
+        ensures same_port { SamePort P.Port port.old port.new }
 
         // Answers.
         ensures answer { IfOk result (λ p. p ≡ exchange_answer (missing_link self.new)) }

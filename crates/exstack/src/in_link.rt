@@ -1,12 +1,15 @@
 //! One link into a rank: the parcel that came over it and is being read.
-ghost use Rattle.std.specs.Prelude.{◌≡◌, ◌≢◌, ℕ, ◌<◌, ◌≤◌, ◌==◌, true, [], length, slice_get, Option, None, IsSome, IfOk};
+ghost use Rattle.std.specs.Prelude.{◌≡◌, ℕ, ◌<◌, ◌≤◌, true, length, slice_get, Option, None, IsSome, IfOk};
 ghost use Rattle.list_laws.specs.Lists.{Begins};
+ghost use Rattle.item_buffer.specs.declared.capacity.TheConstants.{MOST_ENTRIES};
+ghost use Rattle.item_buffer.specs.Capacity.{IsCap};
 ghost use Rattle.route_tensor.specs.Link.{links};
 ghost use Rattle.route_tensor.specs.Ends.{sender_at, reader_at};
 ghost use Rattle.port_bank.specs.Logs.{lasts};
 ghost use Rattle.port_bank.specs.Calls.{once_more_if};
+ghost use Rattle.port_bank.specs.Frames.{SamePort, SameOuts, InsElsewhere};
 ghost use Rattle.exstack.specs.Links.{no_in, with_first_read, with_back, read_on, begun_in, resumed, has_unread};
-ghost use Rattle.exstack.specs.Steps.{sight, WasCollected, InVain};
+ghost use Rattle.exstack.specs.Steps.{WasCollected, InVain};
 
 use bale_types::{Entry, NoMemory};
 use item_buffer::Parcel;
@@ -39,8 +42,7 @@ impl<const CAP: usize> Model for InLink<CAP> {
 impl<const CAP: usize> InLink<CAP> {
     /// A link on which nothing came.
     pub fn new(alloc: Global) -> Result<Self, NoMemory>
-        requires some { 0 < CAP }
-        requires small { CAP ≤ 1024 }
+        requires cap { IsCap CAP }
         ensures { IfOk result (λ i. i ≡ no_in) }
     {
         Ok(InLink {
@@ -72,7 +74,7 @@ impl<const CAP: usize> InLink<CAP> {
     #[inline]
     pub fn len(&self) -> u32
         ensures value { result ≡ length self.now.unread }
-        ensures fits { length self.now.unread ≤ 1024 }
+        ensures fits { length self.now.unread ≤ MOST_ENTRIES }
     {
         self.parcel.known();
         self.parcel.len()
@@ -143,22 +145,15 @@ impl<const CAP: usize> InLink<CAP> {
         ensures moved { WasCollected exchange self.old self.new (P.got port.old link) (P.got port.new link) }
         ensures in_vain { self.new.due ≡ true → InVain (P.noted port.old link) (P.noted port.new link)
             (P.idle port.new link) }
-        ensures elsewhere { (m : ℕ) → m ≢ link → sight (P.got port.new) (P.noted port.new) (P.idle port.new) m
-            ≡ sight (P.got port.old) (P.noted port.old) (P.idle port.old) m }
         ensures collects { P.collects port.new link ≡ once_more_if self.old.due (P.collects port.old link) }
-        ensures collects_elsewhere { (m : ℕ) → m ≢ link → P.collects port.new m ≡ P.collects port.old m }
-        ensures posts { P.posts port.new ≡ P.posts port.old }
+        ensures elsewhere { InsElsewhere P.Port link port.old port.new }
         ensures own { sender_at (P.dims port.old) link ≡ P.rank port.old
             → Begins (P.got port.old link) (P.sent port.old link)
             → Begins (P.got port.new link) (P.sent port.new link) }
         ensures grows { (m : ℕ) → Begins (P.got port.old m) (P.got port.new m) }
         ensures crowded { (m : ℕ) → P.got port.new m ≡ P.got port.old m → P.crowded port.new m ≡ P.crowded port.old m }
-        ensures sent { P.sent port.new ≡ P.sent port.old }
-        ensures looks_out { P.looks_out port.new ≡ P.looks_out port.old }
-        ensures rest { P.rest port.new ≡ P.rest port.old }
-        ensures same_rank { P.rank port.new ≡ P.rank port.old }
-        ensures same_dims { P.dims port.new ≡ P.dims port.old }
-        ensures same_slots { P.slots port.new ≡ P.slots port.old }
+        ensures same_outs { SameOuts P.Port port.old port.new }
+        ensures same_port { SamePort P.Port port.old port.new }
     {
         if !self.due {
             return;

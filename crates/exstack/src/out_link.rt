@@ -1,14 +1,16 @@
 //! One link out of a rank: the parcel that is filled for it, and posted once a round.
-ghost use Rattle.std.specs.Prelude.{◌≡◌, ◌≢◌, ℕ, ◌-◌, ◌<◌, ◌≤◌, true, false, length, IfOk, OnOk, IsOk, IsErr};
+ghost use Rattle.std.specs.Prelude.{◌≡◌, ℕ, ◌-◌, ◌<◌, ◌≤◌, true, false, length, IfOk, OnOk, IsOk, IsErr};
 ghost use Rattle.list_laws.specs.Lists.{Begins};
+ghost use Rattle.item_buffer.specs.Capacity.{IsCap};
 ghost use Rattle.route_tensor.specs.Grid.{IsGrid};
 ghost use Rattle.route_tensor.specs.Link.{links};
 ghost use Rattle.route_tensor.specs.Ends.{sender_at};
 ghost use Rattle.port_bank.specs.Logs.{lasts};
 ghost use Rattle.port_bank.specs.Calls.{once_more_if};
 ghost use Rattle.port_bank.specs.Relay.{RelayLaw};
+ghost use Rattle.port_bank.specs.Frames.{SameIns, SamePort, OutsElsewhere};
 ghost use Rattle.exstack.specs.Links.{no_out, no_tag, with_entry, headroom_of, begun_out, reopened};
-ghost use Rattle.exstack.specs.Steps.{sight, WasPosted, InVain};
+ghost use Rattle.exstack.specs.Steps.{WasPosted, InVain};
 
 use bale_types::{Entry, NoMemory};
 use item_buffer::Parcel;
@@ -42,8 +44,7 @@ impl<const CAP: usize> Model for OutLink<CAP> {
 impl<const CAP: usize> OutLink<CAP> {
     /// A link on which nothing waits.
     pub fn new(alloc: Global) -> Result<Self, NoMemory>
-        requires some { 0 < CAP }
-        requires small { CAP ≤ 1024 }
+        requires cap { IsCap CAP }
         ensures { IfOk result (λ o. o ≡ no_out) }
     {
         Ok(OutLink {
@@ -117,22 +118,15 @@ impl<const CAP: usize> OutLink<CAP> {
         ensures moved { WasPosted last epoch self.old self.new (P.sent port.old link) (P.sent port.new link) }
         ensures in_vain { IsOk result → self.new.due ≡ true
             → InVain (P.looks_out port.old link) (P.looks_out port.new link) (P.crowded port.new link) }
-        ensures elsewhere { (m : ℕ) → m ≢ link → sight (P.sent port.new) (P.looks_out port.new) (P.crowded port.new) m
-            ≡ sight (P.sent port.old) (P.looks_out port.old) (P.crowded port.old) m }
         ensures posts { OnOk result (P.posts port.new link ≡ once_more_if self.old.due (P.posts port.old link)) }
-        ensures posts_elsewhere { (m : ℕ) → m ≢ link → P.posts port.new m ≡ P.posts port.old m }
+        ensures elsewhere { OutsElsewhere P.Port link port.old port.new }
         ensures no_post { IsErr result → P.posts port.new ≡ P.posts port.old }
         ensures still_due { IsErr result → self.new.due ≡ true }
-        ensures collects { P.collects port.new ≡ P.collects port.old }
         ensures law { RelayLaw (P.dims port.old) (P.rank port.old) (P.sent port.new) (P.got port.old) }
         ensures grows { (m : ℕ) → Begins (P.sent port.old m) (P.sent port.new m) }
         ensures memory { P.Memory.GROWS ≡ false → IsOk result }
-        ensures got { P.got port.new ≡ P.got port.old }
-        ensures noted { P.noted port.new ≡ P.noted port.old }
-        ensures rest { P.rest port.new ≡ P.rest port.old }
-        ensures same_rank { P.rank port.new ≡ P.rank port.old }
-        ensures same_dims { P.dims port.new ≡ P.dims port.old }
-        ensures same_slots { P.slots port.new ≡ P.slots port.old }
+        ensures same_ins { SameIns P.Port port.old port.new }
+        ensures same_port { SamePort P.Port port.old port.new }
     {
         if !self.due {
             return Ok(());

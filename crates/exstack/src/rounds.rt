@@ -1,10 +1,12 @@
 //! A round over all links of a rank: what begins it, what is posted and collected in it, and what it still waits for.
-ghost use Rattle.std.specs.Prelude.{◌≡◌, ◌≢◌, ℕ, ◌+◌, ◌*◌, ◌^◌, ◌<◌, ◌≤◌, true, false, map, replicate, length, slice_index_or, [], ◌∷◌, IfOk, IfSome, OnOk, IsOk, IsErr};
+ghost use Rattle.std.specs.Prelude.{◌≡◌, ℕ, ◌+◌, ◌*◌, ◌<◌, ◌≤◌, true, false, map, replicate, length, slice_index_or, [], ◌∷◌, IfOk, IfSome, OnOk, IsOk, IsErr};
 ghost use Rattle.std.specs.List.{list_all, position, sum_by};
 ghost use Rattle.list_laws.specs.Lists.{Begins};
+ghost use Rattle.item_buffer.specs.Capacity.{IsCap};
 ghost use Rattle.port_bank.specs.Logs.{lasts};
 ghost use Rattle.port_bank.specs.Relay.{RelayLaw};
 ghost use Rattle.port_bank.specs.Calls.{once_more_if};
+ghost use Rattle.port_bank.specs.Frames.{SameIns, SamePort, SameOuts};
 ghost use Rattle.exstack.specs.Links.{no_out, no_in, has_unread, begun_out, begun_in, reopened, resumed};
 ghost use Rattle.exstack.specs.State.{number, missing_out, least_headroom};
 ghost use Rattle.exstack.specs.Steps.{WasPosted, WasCollected, InVain, StopsAt};
@@ -17,8 +19,7 @@ use std::alloc::Global;
 
 /// So many links out, on which nothing waits.
 pub fn links_out<const CAP: usize>(alloc: Global, count: u32) -> Result<Vec<OutLink<CAP>>, NoMemory>
-    requires some { 0 < CAP }
-    requires small { CAP ≤ 1024 }
+    requires cap { IsCap CAP }
     ensures { IfOk result (λ links. links.items ≡ replicate count no_out) }
 {
     let mut links = Vec::with_capacity(alloc, count as usize)?;
@@ -30,8 +31,7 @@ pub fn links_out<const CAP: usize>(alloc: Global, count: u32) -> Result<Vec<OutL
 
 /// So many links in, on which nothing came.
 pub fn links_in<const CAP: usize>(alloc: Global, count: u32) -> Result<Vec<InLink<CAP>>, NoMemory>
-    requires some { 0 < CAP }
-    requires small { CAP ≤ 1024 }
+    requires cap { IsCap CAP }
     ensures { IfOk result (λ links. links.items ≡ replicate count no_in) }
 {
     let mut links = Vec::with_capacity(alloc, count as usize)?;
@@ -118,16 +118,11 @@ pub fn post_all<const CAP: usize, P: Port<CAP>>(
         (P.posts port.old (number (length outs.old.items) rank b))) }
     ensures stops { IsErr result
         → StopsAt (length outs.old.items) rank outs.new.items (P.posts port.old) (P.posts port.new) }
-    ensures collects { P.collects port.new ≡ P.collects port.old }
     ensures law { RelayLaw (P.dims port.old) (P.rank port.old) (P.sent port.new) (P.got port.old) }
     ensures grows { (m : ℕ) → Begins (P.sent port.old m) (P.sent port.new m) }
     ensures memory { P.Memory.GROWS ≡ false → IsOk result }
-    ensures got { P.got port.new ≡ P.got port.old }
-    ensures noted { P.noted port.new ≡ P.noted port.old }
-    ensures rest { P.rest port.new ≡ P.rest port.old }
-    ensures same_rank { P.rank port.new ≡ P.rank port.old }
-    ensures same_dims { P.dims port.new ≡ P.dims port.old }
-    ensures same_slots { P.slots port.new ≡ P.slots port.old }
+    ensures same_ins { SameIns P.Port port.old port.new }
+    ensures same_port { SamePort P.Port port.old port.new }
 {
     let ranks = outs.len() as u32;
     for b in 0..outs.len() {
@@ -163,19 +158,14 @@ pub fn collect_all<const CAP: usize, P: Port<CAP>>(
         → P.collects port.new (number (length ins.old.items) a rank)
         ≡ once_more_if (slice_index_or ins.old.items a no_in).due
         (P.collects port.old (number (length ins.old.items) a rank)) }
-    ensures posts { P.posts port.new ≡ P.posts port.old }
     ensures own { Begins (P.got port.old (number (length ins.old.items) rank rank))
         (P.sent port.old (number (length ins.old.items) rank rank))
         → Begins (P.got port.new (number (length ins.old.items) rank rank))
         (P.sent port.new (number (length ins.old.items) rank rank)) }
     ensures grows { (m : ℕ) → Begins (P.got port.old m) (P.got port.new m) }
     ensures crowded { (m : ℕ) → P.got port.new m ≡ P.got port.old m → P.crowded port.new m ≡ P.crowded port.old m }
-    ensures sent { P.sent port.new ≡ P.sent port.old }
-    ensures looks_out { P.looks_out port.new ≡ P.looks_out port.old }
-    ensures rest { P.rest port.new ≡ P.rest port.old }
-    ensures same_rank { P.rank port.new ≡ P.rank port.old }
-    ensures same_dims { P.dims port.new ≡ P.dims port.old }
-    ensures same_slots { P.slots port.new ≡ P.slots port.old }
+    ensures same_outs { SameOuts P.Port port.old port.new }
+    ensures same_port { SamePort P.Port port.old port.new }
 {
     let ranks = ins.len() as u32;
     for a in 0..ins.len() {

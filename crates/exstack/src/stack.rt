@@ -1,14 +1,17 @@
 //! One rank's side of an exstack, as its buffers and marks change.
-ghost use Rattle.std.specs.Prelude.{◌≡◌, ℕ, ◌+◌, ◌^◌, ◌<◌, ◌≤◌, ◌&&◌, ◌||◌, not, true, false, [], length, is_some, Some, None, IfOk, OnOk, IsOk, IsErr, Ok};
+ghost use Rattle.std.specs.Prelude.{◌≡◌, ℕ, ◌+◌, ◌^◌, ◌<◌, ◌&&◌, ◌||◌, not, true, false, [], length, is_some, Some, None, IfOk, OnOk, IsOk, IsErr, Ok};
 ghost use Rattle.bale_types.specs.Stream.{RoseOrFull};
+ghost use Rattle.item_buffer.specs.Capacity.{IsCap};
 ghost use Rattle.route_tensor.specs.Grid.{ranks};
 ghost use Rattle.port_bank.specs.Calls.{once_more_if};
+ghost use Rattle.port_bank.specs.Frames.{SamePort};
 ghost use Rattle.exstack.specs.Links.{headroom_of};
 ghost use Rattle.exstack.specs.State.{new_stack, out_at, in_at, dims_of, link_to, link_from, least_headroom, unread_of, lowest_unread, pushed_on, pop_from, popped_from, pops, unpopped, after_reset};
 ghost use Rattle.exstack.specs.State.{is_proceeding, is_exchanging, may_proceed, may_exchange, in_proceed, in_exchange, missing_link, all_ended, proceed_answer, exchange_answer, stage_of_proceed, stage_of_exchange};
 ghost use Rattle.exstack.specs.Steps.{MadeRound, InVain, StopsAt};
-ghost use Rattle.exstack.specs.Agreement.{AgreesIn, AgreesWith};
+ghost use Rattle.exstack.specs.Agreement.{AgreesIn};
 ghost use Rattle.exstack.specs.Standing.{IsStack};
+ghost use Rattle.exstack.specs.Parts.{IsAtPort};
 
 use crate::in_link::InLink;
 use crate::out_link::OutLink;
@@ -75,8 +78,7 @@ impl<const CAP: usize> Model for Stack<CAP> {
 impl<const CAP: usize> Stack<CAP> {
     /// The exstack of `rank`, at the start of epoch 0, with nothing pushed and nothing come.
     pub fn new(alloc: Global, grid: &Grid, rank: u32) -> Result<Self, NoMemory>
-        requires some { 0 < CAP }
-        requires small { CAP ≤ 1024 }
+        requires cap { IsCap CAP }
         requires one_hop { length grid.now ≡ 1 }
         requires rank { rank < ranks grid.now }
         ensures made { IfOk result (λ s. s ≡ new_stack (ranks grid.now) rank) }
@@ -278,9 +280,7 @@ impl<const CAP: usize> Stack<CAP> {
         requires exchange { exchange ≡ is_exchanging self.old.stage }
         requires last { last ≡ (self.old.done && not exchange) }
         requires forgotten { self.old.popped ≡ None }
-        requires dims { P.dims port.old ≡ dims_of self.old }
-        requires rank { P.rank port.old ≡ self.old.rank }
-        requires agrees { AgreesWith self.old (P.sent port.old) (P.got port.old) }
+        requires at_port { IsAtPort P.Port self.old port.old }
         ensures standing { IsStack CAP self.old }
         ensures same { self.new ≡ record self.old { outs = self.new.outs; ins = self.new.ins } }
         ensures cycle { (n : ℕ) → AgreesIn n self.old (P.sent port.old) (P.got port.old)
@@ -304,10 +304,7 @@ impl<const CAP: usize> Stack<CAP> {
             ≡ once_more_if (in_at self.old a).due (P.collects port.old (link_from self.old a))) }
         ensures no_collect { IsErr result → P.collects port.new ≡ P.collects port.old }
         ensures memory { P.Memory.GROWS ≡ false → IsOk result }
-        ensures same_dims { P.dims port.new ≡ P.dims port.old }
-        ensures same_rank { P.rank port.new ≡ P.rank port.old }
-        ensures same_slots { P.slots port.new ≡ P.slots port.old }
-        ensures rest { P.rest port.new ≡ P.rest port.old }
+        ensures same_port { SamePort P.Port port.old port.new }
     {
         post_all(&mut self.outs, port, self.rank, self.epoch, last)?;
         collect_all(&mut self.ins, port, self.rank, self.epoch, exchange);

@@ -6,6 +6,7 @@ use Rattle.std.proofs.lemmas.Bool.{cond-true, cond-false, false≢true, not_from
 use Rattle.std.proofs.lemmas.List.{length-map, length-replicate, get_or-map, get_or-replicate, get_or-set_other}
 use Rattle.std.proofs.lemmas.List.Elements.{All-cons}
 use Rattle.bale_types.specs.declared.item.Entry.{Entry}
+use Rattle.item_buffer.specs.Capacity.{IsCap}
 use Rattle.item_buffer.specs.Contents.{Contents, blank}
 use Rattle.route_tensor.specs.Grid.{IsGrid, ranks, dim}
 use Rattle.route_tensor.specs.Link.{links_before}
@@ -68,8 +69,7 @@ renewed_kept st ends ends' spare from n k home e =
       standing = record {
         grid = s.grid;
         rank = s.rank;
-        cap_some = s.cap_some;
-        cap_small = s.cap_small;
+        cap = s.cap;
         all_outs = no;
         all_ins = ni;
         each_out = λ i d l.
@@ -111,9 +111,9 @@ new_state dims r cap steady = record {
   pulled = None;
 }
 
-pub new_kept : (dims : List ℕ) (r cap : ℕ) (steady : Bool) (ends : List Bool) (c : Contents) (from : ℕ) → IsGrid dims → r < ranks dims → 0 < cap → cap ≤ 1024 → ends ≡ replicate 3 false → c ≡ blank 0 →
+pub new_kept : (dims : List ℕ) (r cap : ℕ) (steady : Bool) (ends : List Bool) (c : Contents) (from : ℕ) → IsGrid dims → r < ranks dims → IsCap cap → ends ≡ replicate 3 false → c ≡ blank 0 →
     from ≡ links_before dims (length dims) → from ≤ sum dims → IsKept (new_state dims r cap steady) ends (Some c) from
-new_kept dims r cap steady ends c from g a some small e b f low =
+new_kept dims r cap steady ends c from g a is_cap e b f low =
     let n = sum dims in
     let no : length (replicate n no_out) ≡ n = length-replicate n no_out in
     let ni : length (replicate n no_in) ≡ n = length-replicate n no_in in
@@ -123,8 +123,7 @@ new_kept dims r cap steady ends c from g a some small e b f low =
       standing = record {
         grid = g;
         rank = a;
-        cap_some = some;
-        cap_small = small;
+        cap = is_cap;
         all_outs = no;
         all_ins = ni;
         each_out = λ i d l. blank_out dims cap (hop_to dims i) _ (ap (λ y. y.parcel) (o i d (omega (arith, l, no))));

@@ -39,7 +39,7 @@ pub lend_out_kept : (st : State) (ends : List Bool) (spare spare' : Option Conte
 lend_out_kept st ends spare spare' from i o k q none blank' same due =
     let s = k.standing in
     let p = out_fact st i s q in
-    let open' : o.closed ≡ false = same ∙ due_open st.cap st.steady _ (out_at st i) s.cap_some p.closed_empty due in
+    let open' : o.closed ≡ false = same ∙ due_open st.cap st.steady _ (out_at st i) s.cap.some p.closed_empty due in
     let n : i < length st.outs = omega (arith, s.all_outs, q) in
     kept_out st ends spare spare' from i o (lent.Out i) k
     (state_out st i o (lent.Out i) s q (blank_out st.dims st.cap _ o blank')

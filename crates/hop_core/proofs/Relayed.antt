@@ -1,6 +1,7 @@
 -- What a whole hop's relay leaves: how much waits, which links are finished, which pairs went on.
 use Rattle.std.proofs.Common.{ℕ, zero, suc, ◌≡◌, ◌≢◌, ◌+◌, ◌-◌, ◌*◌, ◌<◌, ◌≤◌, Bool, true, false, List, [], ◌∷◌, length, take, drop, get_or, set, sum, Option, None, arith, refl, sym, ap, subst, ◌∙◌, inl, inr}
 use Rattle.std.specs.List.{list_all}
+use Rattle.item_buffer.specs.declared.capacity.TheConstants.{MOST_ENTRIES}
 use Rattle.std.proofs.lemmas.Bool.{cases_eq, cases_lt, false≢true, false_from_ne_true, and_parts, and_from, eqb-true, eq-eqb}
 use Rattle.std.proofs.lemmas.List.{length-set, length-take, length-drop, drop_all, get_or-set_same, get_or-set_other, get_or_default, get_or_past, get_or-take, get_or-drop, same_lists, nil_from_length}
 use Rattle.std.proofs.lemmas.List.Sums.{sum_by-cons}
@@ -29,8 +30,8 @@ waiting_most c (x ∷ xs) f =
     let rest = waiting_most c xs (λ k d q. f (suc k) d (omega (arith, q))) in
     omega (arith, sum_by-cons (λ (y : In). length y.parcel.untaken) x xs, f 0 no_in (omega arith), rest, suc-mul (length xs) c)
 
-pub waiting_small : (dims : List ℕ) (cap : ℕ) (ins : List In) → cap ≤ 1024 → length ins ≡ sum dims → sum dims ≤ 66 → EachAt (λ j x. IsIn dims cap (hop_to dims j) x) ins → waiting ins ≤ 67584
-waiting_small dims cap ins c n s e = omega (arith, waiting_most cap ins (λ k d q. (e k d q).fits), mul-le (length ins) cap 66 1024 (omega (arith, n, s)) c)
+pub waiting_small : (dims : List ℕ) (cap : ℕ) (ins : List In) → cap ≤ MOST_ENTRIES → length ins ≡ sum dims → sum dims ≤ 66 → EachAt (λ j x. IsIn dims cap (hop_to dims j) x) ins → waiting ins ≤ 66 * MOST_ENTRIES
+waiting_small dims cap ins c n s e = omega (arith, waiting_most cap ins (λ k d q. (e k d q).fits), mul-le (length ins) cap 66 MOST_ENTRIES (omega (arith, n, s)) c)
 
 -- the links of a hop, by number
 pub in_hop : (dims : List ℕ) (h i : ℕ) → 1 ≤ h → h ≤ length dims → links_before dims h ≤ i → i < links_before dims (h + 1) → hop_to dims i ≡ h
@@ -124,8 +125,7 @@ relay_kept st ends spare from h outs' ins' b k home p l eo ei a t eb =
       standing = record {
         grid = s.grid;
         rank = s.rank;
-        cap_some = s.cap_some;
-        cap_small = s.cap_small;
+        cap = s.cap;
         all_outs = no;
         all_ins = ni;
         each_out = eo;

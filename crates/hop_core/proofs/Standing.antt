@@ -33,8 +33,7 @@ pub state_out : (st : State) (i : ℕ) (o : Out) (l : Lent) → IsState st → i
 state_out st i o l k q p closed lo li = record {
   grid = k.grid;
   rank = k.rank;
-  cap_some = k.cap_some;
-  cap_small = k.cap_small;
+  cap = k.cap;
   all_outs = length-set st.outs i o ∙ k.all_outs;
   all_ins = k.all_ins;
   each_out = each_set (λ j out. IsOut st.dims st.cap (hop_to st.dims j) out) st.outs i o k.each_out p;
@@ -103,8 +102,7 @@ pub state_in : (st : State) (i : ℕ) (x : In) (l : Lent) (p : Option ℕ) → I
 state_in st i x l p k q f c lo li cu = record {
   grid = k.grid;
   rank = k.rank;
-  cap_some = k.cap_some;
-  cap_small = k.cap_small;
+  cap = k.cap;
   all_outs = k.all_outs;
   all_ins = length-set st.ins i x ∙ k.all_ins;
   each_out = k.each_out;

@@ -2,6 +2,7 @@
 use Rattle.std.specs.Prelude.{◌≡◌, ℕ, Bool, true, false, ◌-◌, ◌<◌, ◌≤◌, List, [], length, sum, slice_index_or, Option, Some, IsSome}
 use Rattle.std.specs.List.{All}
 use Rattle.bale_types.specs.declared.item.Entry.{Entry}
+use Rattle.item_buffer.specs.Capacity.{IsCap}
 use Rattle.item_buffer.specs.Contents.{Contents, IsFresh, blank}
 use Rattle.list_laws.specs.Lists.{EachAt}
 use Rattle.route_tensor.specs.Grid.{ranks, IsGrid}
@@ -38,8 +39,7 @@ pub record CanUnpull (st : State) (i : ℕ) : Type 0 where
 pub record IsState (st : State) : Type 0 where
   pub grid : IsGrid st.dims
   pub rank : st.rank < ranks st.dims
-  pub cap_some : 0 < st.cap
-  pub cap_small : st.cap ≤ 1024
+  pub cap : IsCap st.cap
   pub all_outs : length st.outs ≡ sum st.dims
   pub all_ins : length st.ins ≡ sum st.dims
   pub each_out : EachAt (λ i o. IsOut st.dims st.cap (hop_to st.dims i) o) st.outs

@@ -2,6 +2,7 @@
 
 ghost use Rattle.std.specs.Prelude.{◌≡◌, ℕ, ◌+◌, ◌-◌, ◌^◌, ◌<◌, ◌≤◌, ◌==◌, ◌&&◌, ◌||◌, length, sum, map, replicate, take, drop, slice_get, slice_index_or, true, false, Some, None, IsSome, IfOk};
 ghost use Rattle.std.specs.List.{list_all};
+ghost use Rattle.item_buffer.specs.Capacity.{IsCap};
 ghost use Rattle.hop_core.specs.State.{ins_of_hop, resumed};
 ghost use Rattle.hop_core.specs.Link.{no_in, is_empty, is_wanted, is_finished, with_first_taken, with_back, read_on};
 
@@ -33,8 +34,7 @@ impl<const CAP: usize> Model for InLink<CAP> {
 impl<const CAP: usize> InLink<CAP> {
     /// A link that has not ended, with an empty inbox.
     pub fn new(alloc: Global) -> Result<Self, NoMemory>
-        requires some { 0 < CAP }
-        requires small { CAP ≤ 1024 }
+        requires cap { IsCap CAP }
         ensures { IfOk result (λ i. i ≡ no_in) }
     {
         Ok(InLink {
@@ -225,8 +225,7 @@ fn search_unread<const CAP: usize>(links: &[InLink<CAP>], from: u32) -> Option<u
 
 /// So many links, none of which has ended, with empty inboxes.
 pub fn links_in<const CAP: usize>(alloc: Global, count: u32) -> Result<Vec<InLink<CAP>>, NoMemory>
-    requires some { 0 < CAP }
-    requires small { CAP ≤ 1024 }
+    requires cap { IsCap CAP }
     ensures { IfOk result (λ links. links.items ≡ replicate count no_in) }
 {
     let mut links = Vec::with_capacity(alloc, count as usize)?;

@@ -3,6 +3,7 @@
 ghost use Rattle.std.specs.Prelude.{◌≡◌, ◌<◌, ◌≤◌, ◌&&◌, ◌||◌, length, map, true, false, IfOk};
 ghost use Rattle.hop_core.specs.State.{all_closed, reopened};
 ghost use Rattle.std.specs.Prelude.{replicate};
+ghost use Rattle.item_buffer.specs.Capacity.{IsCap};
 ghost use Rattle.hop_core.specs.Link.{no_out, is_due, with_entry};
 
 use bale_types::{Entry, NoMemory};
@@ -32,8 +33,7 @@ impl<const CAP: usize> Model for OutLink<CAP> {
 impl<const CAP: usize> OutLink<CAP> {
     /// A link that is not closed, with an empty parcel.
     pub fn new(alloc: Global) -> Result<Self, NoMemory>
-        requires some { 0 < CAP }
-        requires small { CAP ≤ 1024 }
+        requires cap { IsCap CAP }
         ensures { IfOk result (λ o. o ≡ no_out) }
     {
         Ok(OutLink {
@@ -127,8 +127,7 @@ pub fn all_closed<const CAP: usize>(links: &[OutLink<CAP>]) -> bool
 
 /// So many links, none of them closed, with empty parcels.
 pub fn links_out<const CAP: usize>(alloc: Global, count: u32) -> Result<Vec<OutLink<CAP>>, NoMemory>
-    requires some { 0 < CAP }
-    requires small { CAP ≤ 1024 }
+    requires cap { IsCap CAP }
     ensures { IfOk result (λ links. links.items ≡ replicate count no_out) }
 {
     let mut links = Vec::with_capacity(alloc, count as usize)?;

@@ -1,6 +1,7 @@
 //! The relay: entries that have come over one hop go on to the open parcels of the next.
 
 ghost use Rattle.std.specs.Prelude.{◌≡◌, ℕ, ◌+◌, ◌-◌, ◌<◌, ◌≤◌, length, sum, drop, slice_index_or, false};
+ghost use Rattle.item_buffer.specs.declared.capacity.TheConstants.{MOST_ENTRIES};
 ghost use Rattle.list_laws.specs.Lists.{EachAt};
 ghost use Rattle.route_tensor.specs.Neighbour.{hop_to};
 ghost use Rattle.hop_core.specs.Link.{no_out, no_in, is_finished, read_on};
@@ -104,7 +105,7 @@ pub fn relay_hop<const CAP: usize>(
 ) -> u64
     requires first { 1 ≤ h }
     requires last { h < length routes.now.dims }
-    requires small { CAP ≤ 1024 }
+    requires small { CAP ≤ MOST_ENTRIES }
     requires all_outs { length outs.old.items ≡ sum routes.now.dims }
     requires all_ins { length ins.old.items ≡ sum routes.now.dims }
     requires each_out { EachAt (λ o out. IsOut routes.now.dims CAP (hop_to routes.now.dims o) out) outs.old.items }

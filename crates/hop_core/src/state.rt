@@ -1,6 +1,7 @@
 //! The state of one rank: what it has to send, what has come, and how far it is in its epoch.
 
 ghost use Rattle.std.specs.Prelude.{◌≡◌, ◌-◌, ◌<◌, ◌≤◌, ◌==◌, length, sum, replicate, false, Some, None, IfOk};
+ghost use Rattle.item_buffer.specs.Capacity.{IsCap};
 ghost use Rattle.route_tensor.specs.Grid.{ranks, coord};
 ghost use Rattle.route_tensor.specs.Link.{links};
 ghost use Rattle.route_tensor.specs.Neighbour.{hop_to, neighbour};
@@ -83,8 +84,7 @@ impl<const CAP: usize, const HOPS: usize> RankState<CAP, HOPS> {
 
     /// The state of `rank`, Dormant in epoch 0, with nothing pushed and nothing got.
     pub fn new(alloc: Global, grid: &Grid, rank: u32, steady: bool) -> Result<Self, NoMemory>
-        requires some { 0 < CAP }
-        requires small { CAP ≤ 1024 }
+        requires cap { IsCap CAP }
         requires hops { length grid.now ≡ HOPS }
         requires rank { rank < ranks grid.now }
         ensures { IfOk result (λ st. st ≡ record {

@@ -7,7 +7,7 @@
 //!
 //! | Call | Needs | Answer |
 //! |---|---|---|
-//! | `new(alloc)` | `CAP` from 1 to 1,024 | empty, nothing taken, not last, epoch 0 |
+//! | `new(alloc)` | `IsCap CAP`: from 1 to `MOST_ENTRIES` | empty, nothing taken, not last, epoch 0 |
 //! | `try_push(e)` | nothing taken | `false` exactly where the parcel holds `CAP` entries |
 //! | `head()` | | the first untaken entry, if any |
 //! | `take()` | | the same, which is then taken |
@@ -19,9 +19,11 @@
 //! | `len()`, `is_full()`, `cap()` | | of the untaken entries, and `CAP` |
 //! | `last()`, `set_last(on)`, `epoch()`, `set_epoch(e)` | | the marks |
 //!
-//! `specs/Contents` says what contracts see of a parcel.
+//! `specs/Contents` says what contracts see of a parcel, and `specs/Capacity` what `CAP` may be.
 #![tactic(auto)]
 
+mod capacity;
 mod parcel;
 
+pub use capacity::MOST_ENTRIES;
 pub use parcel::Parcel;

@@ -1,5 +1,6 @@
 //! The parcel, for whoever fills, carries or empties one: ports, inboxes and open parcels.
 ghost use Rattle.std.specs.Prelude.{◌≡◌, ◌+◌, ◌-◌, ◌<◌, ◌≤◌, ◌==◌, [], ◌∷◌, ◌++◌, length, slice_get, IsSome, IfSome, IfNone, OnSome, IfOk, true, false};
+ghost use Rattle.item_buffer.specs.Capacity.{IsCap};
 ghost use Rattle.item_buffer.specs.Contents.{Contents, blank, skipped};
 
 use arrayvec::ArrayVec;
@@ -33,6 +34,7 @@ struct Held<const CAP: usize> {
 
 impl<const CAP: usize> Model for Parcel<CAP> {
     ghost use Rattle.std.specs.Prelude.{◌≡◌, ◌-◌, ◌<◌, ◌≤◌, if◌then◌else◌, take, drop, length, slice_get, None, true};
+    ghost use Rattle.item_buffer.specs.Capacity.{IsCap};
     ghost use Rattle.item_buffer.specs.Contents.{Contents};
 
     ghost Value = { Contents };
@@ -45,7 +47,7 @@ impl<const CAP: usize> Model for Parcel<CAP> {
       taken = p.taken;
     } };
 
-    ghost invariant = { λ p. (CAP ≤ 1024) × (length p.held.value.places.items ≡ CAP) × (p.pushed ≤ CAP)
+    ghost invariant = { λ p. IsCap CAP × (length p.held.value.places.items ≡ CAP) × (p.pushed ≤ CAP)
         × (p.taken ≤ p.pushed)
         × (p.can_untake ≡ true → 0 < p.taken) };
 }
@@ -53,8 +55,7 @@ impl<const CAP: usize> Model for Parcel<CAP> {
 impl<const CAP: usize> Parcel<CAP> {
     /// An empty parcel of epoch 0, not marked last. It takes the memory for all its entries, once.
     pub fn new(alloc: Global) -> Result<Self, NoMemory>
-        requires some { 0 < CAP }
-        requires small { CAP ≤ 1024 }
+        requires cap { IsCap CAP }
         ensures { IfOk result (λ p. p ≡ blank 0) }
     {
         let places = ArrayVec::from_array_in((), [Entry::default(); CAP]);
@@ -191,7 +192,7 @@ impl<const CAP: usize> Parcel<CAP> {
     /// Does nothing, and tells what holds of a parcel at every moment.
     #[inline]
     pub fn known(&self)
-        ensures small { CAP ≤ 1024 }
+        ensures cap { IsCap CAP }
         ensures within { length self.now.untaken + self.now.taken ≤ CAP }
         ensures fresh { self.now.taken ≡ 0 → self.now.back ≡ None }
     {
@@ -202,7 +203,7 @@ impl<const CAP: usize> Parcel<CAP> {
     #[inline]
     pub fn cap(&self) -> u32
         ensures value { result ≡ CAP }
-        ensures small { CAP ≤ 1024 }
+        ensures cap { IsCap CAP }
     {
         let _taken = self.taken;
         CAP as u32

@@ -1,5 +1,5 @@
 -- What a rank's seat counts beside the table, and the lists that the counts stand for.
-use Rattle.std.specs.Prelude.{◌≡◌, ◌≢◌, ◌⊎◌, ℕ, ◌+◌, ◌-◌, ◌*◌, ◌^◌, ◌%◌, ◌<◌, ◌≤◌, ◌==◌, Bool, true, false, List, take, length}
+use Rattle.std.specs.Prelude.{◌≡◌, ◌≢◌, ◌⊎◌, ℕ, ◌+◌, ◌-◌, ◌*◌, ◌^◌, ◌%◌, ◌<◌, ◌≤◌, ◌==◌, Bool, true, false, List, take, length, suc, [], ◌∷◌, ◌++◌}
 use Rattle.std.specs.Int.{bit_at}
 use Rattle.list_laws.specs.Counts.{counted}
 use mathlib.Core.Option.{some}
@@ -8,10 +8,28 @@ use Rattle.item_buffer.specs.Contents.{Contents}
 use Rattle.route_tensor.specs.Grid.{coord}
 use Rattle.route_tensor.specs.Link.{links}
 use Rattle.route_tensor.specs.Ends.{hop_at, sender_at, reader_at}
+use Rattle.port_bank.specs.declared.port.Posted.{Posted}
+use Rattle.port_bank.specs.declared.port.Posted.TheVariants.{Sent, NoRoom}
 use Rattle.port_bank.specs.declared.port.Collected.{Collected}
 use Rattle.port_bank.specs.declared.port.Collected.TheVariants.{Got, Nothing}
-use Rattle.link_slots.specs.Logs.{OutLog, InLog, Logs, in_of, listens}
+use Rattle.link_slots.specs.Logs.{OutLog, InLog, Logs, in_of, listens, found_full}
 use Rattle.link_slots.specs.Shape.{Shape, wiring, MayFollow}
+
+-- What a post of parcel p makes of a link out, from o to o', by its answer.
+-- looks, once: it looks at most once, and only where no empty slot is at hand.
+-- found: where it finds no room, every slot is taken, and nothing changed but the look.
+pub record HasPosted (slots : ℕ) (o o' : OutLog Contents) (p : Contents) (answer : Posted) : Type 0 where
+  pub sent : answer ≡ Sent → o'.sent ≡ o.sent ++ p ∷ []
+  pub offered : answer ≡ Sent → o'.offered ≡ length o'.sent
+  pub room : answer ≡ Sent → length o.sent < o'.room
+  pub looks : o.looks ≤ o'.looks
+  pub once : o'.looks ≤ suc o.looks
+  pub at_hand : length o.sent < o.room → (answer ≡ Sent) × (o'.looks ≡ o.looks)
+  pub found : answer ≡ NoRoom → o' ≡ found_full o
+  pub looked : answer ≡ NoRoom → o'.looks ≡ suc o.looks
+  pub full : answer ≡ NoRoom → o'.room ≡ length o.sent
+  pub all_room : answer ≡ NoRoom → slots ≤ o'.room
+  pub not_sent : answer ≡ NoRoom → o'.sent ≡ o.sent
 
 -- The sender counts what it posted, modulo 2^64, and its empty slots at hand. Once it has looked for room,
 -- its room is at least all slots.

@@ -1,5 +1,6 @@
 -- What is kept of a rank's seat.
 use Rattle.std.specs.Prelude.{◌≡◌, ℕ, ◌+◌, ◌<◌, ◌≤◌, List, length, map, slice_index_or}
+use Rattle.item_buffer.specs.Capacity.{IsCap}
 use Rattle.item_buffer.specs.Contents.{Contents, shipped}
 use Rattle.route_tensor.specs.Grid.{ranks}
 use Rattle.route_tensor.specs.Link.{links}
@@ -43,7 +44,7 @@ pub record IsSeat (cap : ℕ) (shape : Shape) (m : Me Contents Knowing) (rank : 
 
 -- What is kept of a bank beside its table: the way of each link, by its number.
 pub record IsWiredUp (cap : ℕ) (shape : Shape) (id : TableId) (slots : ℕ) (grid : List ℕ) (wires : List Wire) : Type 0 where
-  pub small : cap ≤ 1024
+  pub is_cap : IsCap cap
   pub board : IsBoard shape id
   pub slots_is : slots ≡ shape.slots
   pub grid_is : grid ≡ shape.dims

@@ -2,12 +2,15 @@
 use Rattle.std.specs.Prelude.{◌≡◌, ℕ, ◌+◌, ◌*◌, ◌^◌, ◌<◌, eqb}
 use Rattle.std.specs.Int.{bit_at}
 use Rattle.item_buffer.specs.Contents.{Contents}
+use Rattle.route_tensor.specs.Link.{links}
+use Rattle.route_tensor.specs.Ends.{sender_at, reader_at}
 use Rattle.atomic_table.specs.Table.{Me, State, Step}
+use Rattle.atomic_table.specs.Seated.{TableId}
 use Rattle.link_slots.specs.View.{View, own_logs, Speaks, speaking_for}
 use Rattle.link_slots.specs.Wiring.{posted_word, released_word, bell_word}
 use Rattle.link_slots.specs.Hands.{Holds}
 use Rattle.link_slots.specs.Bank.{Lawful}
-use Rattle.link_slots.specs.Shape.{Shape, wiring, IsBlank, MayFollow, KeepsLaw}
+use Rattle.link_slots.specs.Shape.{Shape, IsBoard, wiring, IsBlank, MayFollow, KeepsLaw}
 use Rattle.link_slots.specs.Plays.{LookedFirst}
 use Rattle.link_slots.specs.Plays as plays
 
@@ -23,6 +26,26 @@ pub record IsManned (shape : Shape) (m : Me Contents Knowing) : Type 0 where
   pub of : m.0.shape ≡ shape
   pub speaks : Speaks m.0
   pub holds : Holds IsBlank (wiring shape) m.0.pick (own_logs m.0) m.1
+
+-- A rank's seat m in its place at the bank's table, and a link that starts at the rank; or one that ends there.
+pub record IsAtOut (shape : Shape) (table place : TableId) (m : Me Contents Knowing) (l : ℕ) : Type 0 where
+  pub here : place ≡ table
+  pub board : IsBoard shape table
+  pub manned : IsManned shape m
+  pub below : l < links shape.dims
+  pub own : sender_at shape.dims l ≡ m.0.pick
+
+pub record IsAtIn (shape : Shape) (table place : TableId) (m : Me Contents Knowing) (l : ℕ) : Type 0 where
+  pub here : place ≡ table
+  pub board : IsBoard shape table
+  pub manned : IsManned shape m
+  pub below : l < links shape.dims
+  pub own : reader_at shape.dims l ≡ m.0.pick
+
+-- What each step leaves: the same place, and a seat of this bank.
+pub record StaysSeated (shape : Shape) (place place' : TableId) (m : Me Contents Knowing) : Type 0 where
+  pub table : place' ≡ place
+  pub seat : IsManned shape m
 
 -- What one step of a rank's seat makes of what it knows and holds, from m to m', where it found n.
 module _ (cap : ℕ) (shape : Shape) (l : ℕ) (m : Me Contents Knowing) where

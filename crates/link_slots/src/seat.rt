@@ -1,16 +1,16 @@
 //! A rank's seat: what the rank knows of its links at the bank's table, and what it counts beside it.
-ghost use Rattle.std.specs.Prelude.{◌≡◌, ◌≢◌, ◌⊎◌, ℕ, suc, ◌+◌, ◌<◌, ◌≤◌, false, [], ◌∷◌, ◌++◌, length};
+ghost use Rattle.std.specs.Prelude.{◌≡◌, ◌≢◌, ◌⊎◌, ℕ, ◌<◌, ◌≤◌, false, length};
 ghost use Rattle.item_buffer.specs.Contents.{shipped, arrived, blank};
 ghost use Rattle.route_tensor.specs.Link.{links};
 ghost use Rattle.route_tensor.specs.Ends.{hop_at, sender_at, reader_at};
 ghost use Rattle.port_bank.specs.Logs.{lasts, added};
 ghost use Rattle.port_bank.specs.Flow.{Begins};
 ghost use Rattle.port_bank.specs.Relay.{RelayLaw};
-ghost use Rattle.link_slots.specs.Logs.{out_of, in_of, with_out, with_in, taken_more, found_full, got_of};
+ghost use Rattle.link_slots.specs.Logs.{out_of, in_of, with_out, with_in, taken_more, got_of};
 ghost use Rattle.link_slots.specs.Shape.{MayFollow};
 ghost use Rattle.bale_types.specs.Stream.{RoseOrFull};
 ghost use Rattle.port_bank.specs.Port.{changed, IsSlots};
-ghost use Rattle.link_slots.specs.Counts.{ended_after};
+ghost use Rattle.link_slots.specs.Counts.{ended_after, HasPosted};
 ghost use Rattle.link_slots.specs.Doorbell.{is_due, HeardWhere, LookedFor};
 ghost use Rattle.link_slots.specs.Seen.{Manning, posted_on, collected_from, known, listened, noted_at};
 
@@ -88,28 +88,12 @@ impl<const CAP: usize> SlotSeat<CAP> {
               (out_of self.new.lists link);
         } }
         ensures long { link < length self.old.lists.outs }
-        ensures sent { result ≡ Posted.Sent → (out_of self.new.lists link).sent
-            ≡ (out_of self.old.lists link).sent ++ parcel.old ∷ [] }
-        ensures offered { result ≡ Posted.Sent → (out_of self.new.lists link).offered
-            ≡ length (out_of self.new.lists link).sent }
         ensures emptied { result ≡ Posted.Sent → parcel.new ≡ blank parcel.old.epoch }
-        ensures room { result ≡ Posted.Sent → length (out_of self.old.lists link).sent <
-            (out_of self.new.lists link).room }
         ensures room_is { ((out_of self.new.lists link).room ≡ 0)
             ⊎ (self.old.shape.slots ≤ (out_of self.new.lists link).room) }
         ensures within { length (out_of self.old.lists link).sent ≤ (out_of self.old.lists link).room }
-        ensures looks { (out_of self.old.lists link).looks ≤ (out_of self.new.lists link).looks }
-        ensures once { (out_of self.new.lists link).looks ≤ suc (out_of self.old.lists link).looks }
-        ensures at_hand { length (out_of self.old.lists link).sent < (out_of self.old.lists link).room
-            → (result ≡ Posted.Sent) × ((out_of self.new.lists link).looks ≡ (out_of self.old.lists link).looks) }
-        ensures found { result ≡ Posted.NoRoom → out_of self.new.lists link ≡ found_full (out_of self.old.lists link) }
-        ensures looked { result ≡ Posted.NoRoom → (out_of self.new.lists link).looks
-            ≡ suc (out_of self.old.lists link).looks }
-        ensures full { result ≡ Posted.NoRoom → (out_of self.new.lists link).room
-            ≡ length (out_of self.old.lists link).sent }
-        ensures all_room { result ≡ Posted.NoRoom → self.old.shape.slots ≤ (out_of self.new.lists link).room }
-        ensures not_sent { result ≡ Posted.NoRoom → (out_of self.new.lists link).sent
-            ≡ (out_of self.old.lists link).sent }
+        ensures link { HasPosted self.old.shape.slots (out_of self.old.lists link) (out_of self.new.lists link)
+            parcel.old result }
         ensures kept { result ≡ Posted.NoRoom → parcel.new ≡ parcel.old }
     {
         parcel.known();

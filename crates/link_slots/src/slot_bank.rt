@@ -1,5 +1,6 @@
 //! The slot bank: the table that all ranks' seats share, and the way of each link.
-ghost use Rattle.std.specs.Prelude.{◌≡◌, ◌<◌, ◌≤◌, false, [], length, replicate, IfOk, Some, None, slice_index_or};
+ghost use Rattle.std.specs.Prelude.{◌≡◌, ◌<◌, false, [], length, replicate, IfOk, Some, None, slice_index_or};
+ghost use Rattle.item_buffer.specs.Capacity.{IsCap};
 ghost use Rattle.item_buffer.specs.Contents.{blank};
 ghost use Rattle.route_tensor.specs.Grid.{ranks};
 ghost use Rattle.route_tensor.specs.Link.{links};
@@ -59,8 +60,7 @@ impl<const CAP: usize> SlotBank<CAP> {
         grid: &Grid,
         slots: u32,
     ) -> Result<(SlotBank<CAP>, GatherSeat<CAP>), NoMemory>
-        requires some { 0 < CAP }
-        requires small { CAP ≤ 1024 }
+        requires cap { IsCap CAP }
         requires slots { IsSlots slots }
         ensures bank { IfOk result (λ b. b.0.shape ≡ record { dims = grid.now; slots = slots }) }
         ensures gather { IfOk result (λ b. b.1 ≡ record {
@@ -128,8 +128,7 @@ impl<const CAP: usize> SlotBank<CAP> {
 
 /// So many slots, each with an empty parcel.
 fn empty_slots<const CAP: usize>(alloc: Global, count: usize) -> Result<Vec<Slot<CAP>>, NoMemory>
-    requires some { 0 < CAP }
-    requires small { CAP ≤ 1024 }
+    requires cap { IsCap CAP }
     ensures { IfOk result (λ v. v.items ≡ replicate count (blank 0)) }
 {
     let mut slots = Vec::with_capacity(alloc, count)?;

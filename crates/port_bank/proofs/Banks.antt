@@ -46,7 +46,7 @@ bank_looked cap b l c within s g is =
     let sent = sym (sent_alike b l c in' s) in
     let got = sym (got_alike b l c in' g) in
     record {
-      small = is.small;
+      is_cap = is.is_cap;
       grid = is.grid;
       counts = is.counts;
       number = length-set b.channels l c ∙ is.number;
@@ -82,7 +82,7 @@ bank_posted cap b l p within fits now room law is =
     let got = sym (got_alike b l c in' refl) in
     let link = link_posted cap b.slots (sent_of b l) (got_of b l) p fits now room (is.each_link l within) in
     record {
-      small = is.small;
+      is_cap = is.is_cap;
       grid = is.grid;
       counts = is.counts;
       number = length-set b.channels l c ∙ is.number;
@@ -101,7 +101,7 @@ bank_collected cap b l p within next is =
     let got = sym (got_added b l c p in' refl) in
     let link = link_collected cap b.slots (sent_of b l) (got_of b l) p next (is.each_link l within) in
     record {
-      small = is.small;
+      is_cap = is.is_cap;
       grid = is.grid;
       counts = is.counts;
       number = length-set b.channels l c ∙ is.number;

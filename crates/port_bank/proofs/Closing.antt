@@ -4,6 +4,7 @@ use Rattle.std.specs.List.{All}
 use Rattle.std.proofs.lemmas.Bool.{cases_lt}
 use Rattle.std.proofs.lemmas.List.{length-map, length-replicate, map-append, take_more, take_all, length-take-le}
 use Rattle.std.proofs.lemmas.List.Elements.{All-nil}
+use Rattle.item_buffer.specs.Capacity.{IsCap}
 use Rattle.item_buffer.specs.Contents.{Shipped}
 use Rattle.list_laws.specs.Counts.{counted}
 use Rattle.route_tensor.specs.Grid.{ranks, IsGrid}
@@ -44,11 +45,11 @@ empty_links cap slots dims l =
     let got : [] ≡ got_of (empty_bank dims slots) l = ap (λ (c : Channel). c.got) (sym (channel-empty (links dims) l)) in
     subst (λ x. LinkLaw cap slots (sent_of (empty_bank dims slots) l) x) got (subst (λ x. LinkLaw cap slots x []) sent (link_unused cap slots))
 
-pub empty_is_bank : (cap slots : ℕ) (dims : List ℕ) → cap ≤ 1024 → IsGrid dims → IsSlots slots → IsBank cap (empty_bank dims slots)
-empty_is_bank cap slots dims small g counts =
+pub empty_is_bank : (cap slots : ℕ) (dims : List ℕ) → IsCap cap → IsGrid dims → IsSlots slots → IsBank cap (empty_bank dims slots)
+empty_is_bank cap slots dims is_cap g counts =
     let sent : ◌≡◌ {A = Logs} (λ l. []) (sent_of (empty_bank dims slots)) = λ i l. (sym (channel-empty (links dims) l) i).sent in
     record {
-      small = small;
+      is_cap = is_cap;
       grid = g;
       counts = counts;
       number = length-replicate (links dims) unused;

@@ -15,3 +15,4 @@ pub mod Listing
 pub mod Turning
 pub mod Rings
 pub mod Few
+pub mod Frames

@@ -102,8 +102,7 @@ module _ (cap first waiting i : ℕ) (xs : List Contents) (x y : Contents) (is :
       let rest : drop (waiting + 1) (turned first (slice_set xs i x)) ≡ drop (waiting + 1) (turned first xs) = ap (drop (waiting + 1)) put ∙ drop-set-lt (waiting + 1) (turned first xs) waiting x less in
       let b = is.begins in
       record {
-        some = is.some;
-        small = is.small;
+        is_cap = is.is_cap;
         begins = omega (arith, b, same);
         within = omega (arith, room, same);
         fresh = subst FreshOnes (sym one_more) (All-append (λ (c : Contents). c ≡ arrived (shipped c)) (take waiting (turned first xs)) (x ∷ []) is.fresh
@@ -154,8 +153,7 @@ module _ (cap first k j : ℕ) (xs : List Contents) (x y : Contents) (is : IsRin
       let same : length (slice_set xs first x) ≡ length xs = length-set xs first x in
       let w = is.within in
       record {
-        some = is.some;
-        small = is.small;
+        is_cap = is.is_cap;
         begins = omega (arith, within, same);
         within = omega (arith, w, same);
         fresh = subst FreshOnes (sym left) (All-tail (λ (c : Contents). c ≡ arrived (shipped c)) y (take k others) fresh_ones);

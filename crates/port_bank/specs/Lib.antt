@@ -6,6 +6,7 @@ pub mod Link
 pub mod Shapes
 pub mod Round
 pub mod Port
+pub mod Frames
 pub mod Passed
 pub mod Ring
 pub mod Plain

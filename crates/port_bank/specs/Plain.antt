@@ -1,7 +1,8 @@
 -- What contracts see of a plain bank.
-use Rattle.std.specs.Prelude.{◌≡◌, ℕ, ◌+◌, ◌<◌, ◌≤◌, ◌==◌, Bool, false, List, [], ◌∷◌, ◌++◌, map, replicate, length, slice_index_or, slice_set, Result, Ok, IsErr}
+use Rattle.std.specs.Prelude.{◌≡◌, ℕ, ◌+◌, ◌<◌, ◌==◌, Bool, false, List, [], ◌∷◌, ◌++◌, map, replicate, length, slice_index_or, slice_set, Result, Ok, IsErr}
 use Rattle.bale_types.specs.declared.fault.NoMemory.{NoMemory}
 use Rattle.bale_types.specs.Stream.{next_count}
+use Rattle.item_buffer.specs.Capacity.{IsCap}
 use Rattle.item_buffer.specs.Contents.{Shipped}
 use Rattle.port_bank.specs.Logs.{Logs, starting_at, ending_at, starting_elsewhere, ending_elsewhere}
 use Rattle.route_tensor.specs.Grid.{ranks, IsGrid}
@@ -104,7 +105,7 @@ closed cap b = record {
 -- What a plain bank keeps, for parcels of capacity cap: a link has 1, 2, 4 or 8 slots, and each link keeps its law and
 -- each rank the relay law.
 pub record IsBank (cap : ℕ) (b : Bank) : Type 0 where
-  pub small : cap ≤ 1024
+  pub is_cap : IsCap cap
   pub grid : IsGrid b.dims
   pub counts : IsSlots b.slots
   pub number : length b.channels ≡ links b.dims

@@ -1,5 +1,5 @@
 -- What a call on a port leaves as it was.
-use Rattle.std.specs.Prelude.{ℕ, List, ◌==◌, ◌||◌, IsTrue, Result}
+use Rattle.std.specs.Prelude.{◌≡◌, ℕ, List, ◌==◌, ◌||◌, IsTrue, Result}
 pub use Rattle.list_laws.specs.Lists.{changed}
 use Rattle.bale_types.specs.declared.fault.NoMemory.{NoMemory}
 use Rattle.item_buffer.specs.Contents.{Contents}
@@ -20,6 +20,27 @@ pub record Rest : Type 0 where
   pub bank : List ℕ
   pub sent : Logs
   pub got : Logs
+
+-- What no call on a port changes: its rank, its grid, its number of slots, and what belongs to others.
+pub record PortStays {P : Type 0} (rank_of : P → ℕ) (dims_of : P → List ℕ) (slots_of : P → ℕ) (rest_of : P → Rest) (old new : P) : Type 0 where
+  pub rank : rank_of new ≡ rank_of old
+  pub dims : dims_of new ≡ dims_of old
+  pub slots : slots_of new ≡ slots_of old
+  pub rest : rest_of new ≡ rest_of old
+
+-- What a collect leaves of the links out: what was posted there, and how often the port was asked and looked.
+pub record OutsStay {P : Type 0} (sent_of : P → Logs) (posts_of looks_of : P → ℕ → ℕ) (old new : P) : Type 0 where
+  pub sent : sent_of new ≡ sent_of old
+  pub posts : posts_of new ≡ posts_of old
+  pub looks_out : looks_of new ≡ looks_of old
+
+-- What a post leaves of the links in: what was collected there, and how often the port was asked, looked and listened.
+pub record InsStay {P : Type 0} (got_of : P → Logs) (collects_of looks_of listens_of noted_of : P → ℕ → ℕ) (old new : P) : Type 0 where
+  pub got : got_of new ≡ got_of old
+  pub collects : collects_of new ≡ collects_of old
+  pub looks_in : looks_of new ≡ looks_of old
+  pub listens : listens_of new ≡ listens_of old
+  pub noted : noted_of new ≡ noted_of old
 
 -- The numbers of slots that a link can have.
 unfoldable pub IsSlots : ℕ → Type 0

@@ -1,6 +1,7 @@
 -- The places of a link, which go round.
-use Rattle.std.specs.Prelude.{◌≡◌, ℕ, ◌-◌, ◌<◌, ◌≤◌, List, ◌++◌, map, take, drop, length}
+use Rattle.std.specs.Prelude.{◌≡◌, ℕ, ◌-◌, ◌≤◌, List, ◌++◌, map, take, drop, length}
 use Rattle.std.specs.List.{All}
+use Rattle.item_buffer.specs.Capacity.{IsCap}
 use Rattle.item_buffer.specs.Contents.{Contents, Shipped, shipped, arrived, blank}
 
 -- The places from place n on, round to the one before it.
@@ -21,8 +22,7 @@ on_way first waiting places = map shipped (take waiting (turned first places))
 -- empty: in every other place is an empty parcel.
 -- Example: of three places with first 2 and 2 that wait, place 1 has the empty one.
 pub record IsRing (cap first waiting : ℕ) (places : List Contents) : Type 0 where
-  pub some : 0 < cap
-  pub small : cap ≤ 1024
+  pub is_cap : IsCap cap
   pub begins : first ≤ length places - 1
   pub within : waiting ≤ length places
   pub fresh : All (λ c. c ≡ arrived (shipped c)) (take waiting (turned first places))

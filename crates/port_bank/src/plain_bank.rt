@@ -1,6 +1,7 @@
 //! The plain bank: the links of all ranks on one thread.
 ghost use Rattle.std.specs.Prelude.{◌≡◌, ◌≢◌, ◌+◌, ◌<◌, ◌≤◌, ℕ, length, IfOk, IsErr, Ok};
 ghost use Rattle.bale_types.specs.Stream.{RoseOrFull};
+ghost use Rattle.item_buffer.specs.Capacity.{IsCap};
 ghost use Rattle.item_buffer.specs.Contents.{shipped, arrived, blank};
 ghost use Rattle.route_tensor.specs.Grid.{ranks};
 ghost use Rattle.route_tensor.specs.Link.{links};
@@ -48,8 +49,7 @@ impl<const CAP: usize> Model for PlainBank<CAP> {
 impl<const CAP: usize> PlainBank<CAP> {
     /// A bank on which nothing was posted, with so many slots per link: 1, 2, 4 or 8.
     pub fn new(alloc: Global, grid: &Grid, slots: u32) -> Result<Self, NoMemory>
-        requires some { 0 < CAP }
-        requires small { CAP ≤ 1024 }
+        requires cap { IsCap CAP }
         requires slots { IsSlots slots }
         ensures made { IfOk result (λ b. b ≡ empty_bank grid.now slots) }
         ensures lawful { IfOk result (λ b. IsBank CAP b) }

@@ -9,7 +9,7 @@ ghost use Rattle.route_tensor.specs.Ends.{hop_at, sender_at, reader_at};
 ghost use Rattle.port_bank.specs.Logs.{Logs, lasts, added};
 ghost use Rattle.list_laws.specs.Lists.{Begins, changed};
 ghost use Rattle.port_bank.specs.Relay.{RelayLaw};
-ghost use Rattle.port_bank.specs.Port.{Rest, IsSlots, PostDoes, CollectDoes};
+ghost use Rattle.port_bank.specs.Port.{Rest, PortStays, OutsStay, InsStay, IsSlots, PostDoes, CollectDoes};
 
 use crate::memory::Memory;
 use bale_types::NoMemory;
@@ -134,17 +134,10 @@ pub trait Port<const CAP: usize>: Drop {
         ensures crowded_here { crowded self.new ≡ changed (crowded self.old) link (crowded self.new link) }
         ensures idle_here { idle self.new ≡ changed (idle self.old) link (idle self.new link) }
         ensures posts { IsOk result → posts self.new ≡ changed (posts self.old) link (suc (posts self.old link)) }
-        ensures collects { collects self.new ≡ collects self.old }
         ensures looks_out { (l : ℕ) → looks_out self.old l ≤ looks_out self.new l }
         ensures looks_here { looks_out self.new ≡ changed (looks_out self.old) link (looks_out self.new link) }
-        ensures got { got self.new ≡ got self.old }
-        ensures looks_in { looks_in self.new ≡ looks_in self.old }
-        ensures listens { listens self.new ≡ listens self.old }
-        ensures noted { noted self.new ≡ noted self.old }
-        ensures rest { rest self.new ≡ rest self.old }
-        ensures same_rank { rank self.new ≡ rank self.old }
-        ensures same_dims { dims self.new ≡ dims self.old }
-        ensures same_slots { slots self.new ≡ slots self.old };
+        ensures same_ins { InsStay got collects looks_in listens noted self.old self.new }
+        ensures same_port { PortStays rank dims slots rest self.old self.new };
 
     /// Collects the next parcel of a link in, in place of the empty one at hand, which is of the epoch that the
     /// link is in.
@@ -180,18 +173,13 @@ pub trait Port<const CAP: usize>: Drop {
         // In each case: what the port knows changes at this link alone, and of its links out nothing does.
         ensures does { collect_does self.old link p.new result self.new }
         ensures collects { collects self.new ≡ changed (collects self.old) link (suc (collects self.old link)) }
-        ensures posts { posts self.new ≡ posts self.old }
         ensures noted { noted self.new ≡ changed (noted self.old) link (listens self.new link) }
         ensures listens { (l : ℕ) → listens self.old l ≤ listens self.new l }
         ensures looks_in { (l : ℕ) → looks_in self.old l ≤ looks_in self.new l }
         ensures crowded_here { crowded self.new ≡ changed (crowded self.old) link (crowded self.new link) }
         ensures idle_here { idle self.new ≡ changed (idle self.old) link (idle self.new link) }
-        ensures sent { sent self.new ≡ sent self.old }
-        ensures looks_out { looks_out self.new ≡ looks_out self.old }
-        ensures rest { rest self.new ≡ rest self.old }
-        ensures same_rank { rank self.new ≡ rank self.old }
-        ensures same_dims { dims self.new ≡ dims self.old }
-        ensures same_slots { slots self.new ≡ slots self.old };
+        ensures same_outs { OutsStay sent posts looks_out self.old self.new }
+        ensures same_port { PortStays rank dims slots rest self.old self.new };
 
     ghost crowded_is: { (p : Self) (l : ℕ) → crowded p l ≡ (length (sent p l) == freed p l + slots p) };
 

@@ -1,5 +1,6 @@
 //! The places of a link: each has a parcel, which is on its way or empty.
 ghost use Rattle.std.specs.Prelude.{◌≡◌, ◌+◌, ◌<◌, ◌≤◌, ◌⊎◌, ◌++◌, [], ◌∷◌, length, IfOk, OnOk, OnErr};
+ghost use Rattle.item_buffer.specs.Capacity.{IsCap};
 ghost use Rattle.item_buffer.specs.Contents.{shipped, arrived, blank};
 ghost use Rattle.port_bank.specs.Ring.{on_way, IsRing};
 
@@ -37,8 +38,7 @@ impl<const CAP: usize> Model for Ring<CAP> {
 impl<const CAP: usize> Ring<CAP> {
     /// No place yet.
     pub(crate) fn new(alloc: Global) -> Self
-        requires some { 0 < CAP }
-        requires small { CAP ≤ 1024 }
+        requires cap { IsCap CAP }
         ensures { result ≡ [] }
     {
         Ring {

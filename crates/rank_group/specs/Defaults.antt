@@ -1,17 +1,16 @@
 -- How items travel where a caller says nothing else, and what a drive promises.
-use Rattle.std.specs.Prelude.{ℕ, ◌<◌, ◌≤◌, ◌≡◌, false, List, [], ◌∷◌, length}
+use Rattle.std.specs.Prelude.{ℕ, ◌≡◌, false, List, length}
 use Rattle.std.specs.List.{range_with_len}
+use Rattle.item_buffer.specs.Capacity.{IsCap}
 use Rattle.route_tensor.specs.Grid.{ranks}
 use Rattle.round_program.specs.Rules.{Rules}
-use Rattle.round_program.specs.Canonical.{InRound, HasRounds, EndsWithin, HaveEnded}
-use Rattle.rank_node.specs.Movers.{Manner, manner_of}
-use Rattle.rank_node.specs.declared.via.Via.TheVariants.{Convey, Exstack}
-use Rattle.rank_group.specs.declared.closed_round.ClosedRound.{ClosedRound}
+use Rattle.rank_node.specs.Movers.{manner_of}
+use Rattle.rank_node.specs.declared.via.Via.TheVariants.{Convey}
+use Rattle.rank_group.specs.declared.drive.Finished.{Finished}
 use Rattle.rank_group.specs.declared.defaults.Settings.{Settings}
 use Rattle.rank_group.specs.declared.defaults.Slots.{Slots}
 use Rattle.rank_group.specs.declared.defaults.Slots.TheVariants.{One, Two, Four, Eight}
-use Rattle.rank_group.specs.Rounds.{round_of}
-use Rattle.rank_group.specs.Told.{Made, TellsRun}
+use Rattle.rank_group.specs.Driven.{MayRun, HasFinished}
 use Rattle.rank_group.specs.Turns.{SweptBy}
 
 -- The number of slots of a link.
@@ -26,20 +25,13 @@ count_of Eight = 8
 abbrev pub usual : Settings
 usual = record { via = Convey; slots = Two; steady = false }
 
--- The rounds that a run leaves are one, and it tells what was exchanged.
-abbrev pub TellsIt : {S : Type 0} → Rules S → List S → Made → Manner → List ClosedRound → Type 0
-TellsIt R starts made manner rounds = (c : ClosedRound) × (rounds ≡ c ∷ []) × ((n : ℕ) → HasRounds R starts n → TellsRun R starts n made manner (round_of c))
-
 -- What is asked of a run that is driven on one thread.
 pub record MayDrive {S : Type 0} (R : Rules S) (cap hops : ℕ) (dims : List ℕ) (settings : Settings) (starts : List S) : Type 0 where
-  pub some : 0 < cap
-  pub small : cap ≤ 1024
+  pub is_cap : IsCap cap
   pub is_hops : length dims ≡ hops
-  pub one_hop : settings.via ≡ Exstack → length dims ≡ 1
-  pub begins : (shape : List ℕ) × (most : ℕ) × InRound R (ranks dims) 0 shape most starts × EndsWithin R starts most
+  pub run : MayRun R dims settings.via starts
 
--- What it has then done.
-pub record HasDriven {S : Type 0} (R : Rules S) (cap : ℕ) (dims : List ℕ) (settings : Settings) (starts ends : List S) (rounds : List ClosedRound) : Type 0 where
-  pub ended : HaveEnded R starts ends
-  pub tells : TellsIt R starts (record { dims = dims; cap = cap; slots = count_of settings.slots; by_slots = false }) (manner_of settings.via settings.steady) rounds
-  pub order : SweptBy R dims cap (count_of settings.slots) (manner_of settings.via settings.steady) starts (range_with_len 0 (ranks dims)) ends
+-- What a run with these settings leaves on one thread, which turns the ranks in their own order.
+pub record HasDriven {S : Type 0} (R : Rules S) (cap : ℕ) (dims : List ℕ) (settings : Settings) (starts : List S) (run : Finished S) : Type 0 where
+  pub finished : HasFinished R starts (record { dims = dims; cap = cap; slots = count_of settings.slots; by_slots = false }) (manner_of settings.via settings.steady) run
+  pub order : SweptBy R dims cap (count_of settings.slots) (manner_of settings.via settings.steady) starts (range_with_len 0 (ranks dims)) run.progs

@@ -12,5 +12,6 @@ pub mod Drives
 pub mod Turns
 pub mod Rounds
 pub mod Told
+pub mod Driven
 pub mod Halves
 pub mod laws

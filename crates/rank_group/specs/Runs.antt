@@ -1,5 +1,6 @@
 -- What turns leave of ranks, whatever a rank is.
-use Rattle.std.specs.Prelude.{◌≡◌, ℕ, List, length, slice_get, Some}
+use Rattle.std.specs.Prelude.{◌≡◌, ℕ, Bool, true, List, length, slice_get, Some}
+use Rattle.std.specs.List.{All}
 
 -- The laws of a relation `ran` between a rank before some turns and after them.
 -- none: it holds where no turn was made. on: and from some turns to further ones.
@@ -11,6 +12,11 @@ pub record RanLaws {S : Type 0} (ran : S → S → Type 0) : Type 0 where
 pub record AllRan {S : Type 0} (ran : S → S → Type 0) (xs ys : List S) : Type 0 where
   pub all : length ys ≡ length xs
   pub each : (r : ℕ) (x y : S) → slice_get xs r ≡ Some x → slice_get ys r ≡ Some y → ran x y
+
+-- And the run of each is over.
+pub record AllEnded {S : Type 0} (turned : S → S → Type 0) (is_over : S → Bool) (xs ys : List S) : Type 0 where
+  pub ran : AllRan turned xs ys
+  pub over : All (λ y. is_over y ≡ true) ys
 
 -- A rank that is turned, and what it was before.
 pub record TurnedState (S : Type 0) : Type 0 where

@@ -10,6 +10,7 @@ use Rattle.route_tensor.specs.Ends.{reader_at}
 use Rattle.port_bank.specs.Logs.{Logs, starting_at, ending_at}
 use Rattle.port_bank.specs.Link.{LinkLaw}
 use Rattle.port_bank.specs.Machine.{Part}
+use Rattle.port_bank.specs.Plain.{Bank, IsBank}
 use Rattle.port_bank.specs.Relay.{RelayLaw}
 use Rattle.hop_core.specs.declared.phase.Phase.TheVariants.{Dormant}
 use Rattle.hop_core.specs.declared.lent.Lent.TheVariants as lent
@@ -96,6 +97,14 @@ RestsBy dims slots r (Stacking cap x) sent got = ⊤
 -- Every rank, in its cycle, has made j halves of rounds.
 abbrev pub AllMade : {S : Type 0} → (ℕ → ℕ) → ℕ → (ℕ → ℕ) → List (RankState S) → Type 0
 AllMade {S} most j cycle rs = (r : ℕ) (x : RankState S) → slice_get rs r ≡ Some x → MoverMade most j x.over (cycle r) x.node.mover
+
+-- What turns leave of the plain bank that they began with.
+pub record KeepsBank (cap : ℕ) (before after : Bank) : Type 0 where
+  -- It is lawful.
+  pub lawful : IsBank cap after
+  -- It has the same grid and as many slots.
+  pub same_dims : after.dims ≡ before.dims
+  pub same_slots : after.slots ≡ before.slots
 
 -- What a drive is given: programs that begin one run of n rounds, and links with some slots.
 pub record Plan {S : Type 0} (R : Rules S) (dims : List ℕ) (slots : ℕ) (starts : List S) (n : ℕ) : Type 0 where

@@ -1,13 +1,13 @@
 //! Drives of which a caller says no more than what is driven.
-ghost use Rattle.std.specs.Prelude.{◌≡◌, ℕ, ◌<◌, ◌≤◌, true, false, List, length, IfOk};
+ghost use Rattle.std.specs.Prelude.{◌≡◌, ◌<◌, ◌≤◌, true, length, IfOk};
+ghost use Rattle.item_buffer.specs.Capacity.{IsCap};
 ghost use Rattle.std.specs.List.{range_with_len};
-ghost use Rattle.route_tensor.specs.Grid.{ranks};
 ghost use Rattle.port_bank.specs.Port.{IsSlots};
-ghost use Rattle.round_program.specs.Canonical.{InRound, EndsWithin, HaveEnded};
-ghost use Rattle.rank_group.specs.Ranks.{IsOrder};
-ghost use Rattle.rank_group.specs.Turns.{SweptBy};
 ghost use Rattle.rank_node.specs.Movers.{manner_of};
-ghost use Rattle.rank_group.specs.Defaults.{count_of, usual, TellsIt};
+ghost use Rattle.rank_group.specs.Ranks.{IsOrder};
+ghost use Rattle.rank_group.specs.Driven.{MayRun, HasFinished};
+ghost use Rattle.rank_group.specs.Defaults.{count_of, usual, HasDriven};
+ghost use Rattle.rank_node.specs.Ledgers.{IsBlankOf};
 
 use crate::drive::{Finished, drive_serial};
 use crate::gate::OpenGate;
@@ -80,18 +80,10 @@ pub fn drive_in_turn<const CAP: usize, const HOPS: usize, Q: Program>(
     settings: Settings,
     progs: Progs<Q>,
 ) -> Result<Finished<Q>, NoMemory>
-    requires some { 0 < CAP }
-    requires small { CAP ≤ 1024 }
+    requires cap { IsCap CAP }
     requires hops { length grid.now ≡ HOPS }
-    requires one_hop { settings.via ≡ Via.Exstack → length grid.now ≡ 1 }
-    requires begins { (shape : List ℕ) × (most : ℕ) × InRound Q.rules (ranks grid.now) 0 shape most progs
-        × EndsWithin Q.rules progs most }
-    ensures ended { IfOk result (λ f. HaveEnded Q.rules progs f.progs) }
-    ensures rounds { IfOk result (λ f. TellsIt Q.rules progs
-        (record { dims = grid.now; cap = CAP; slots = count_of settings.slots; by_slots = false })
-        (manner_of settings.via settings.steady) f.rounds) }
-    ensures order { IfOk result (λ f. SweptBy Q.rules grid.now CAP (count_of settings.slots)
-        (manner_of settings.via settings.steady) progs (range_with_len 0 (ranks grid.now)) f.progs) }
+    requires run { MayRun Q.rules grid.now settings.via progs }
+    ensures { IfOk result (HasDriven Q.rules CAP grid.now settings progs) }
 {
     in_turn(Driving::<CAP, HOPS, Q> {
         alloc,
@@ -129,9 +121,7 @@ fn in_turn_counted<Q: Program, D: InTurn<Q>, L: Ledger>(
     blank: Blank,
 ) -> Result<Finished<Q>, NoMemory>
     requires may { D.may driving }
-    requires name { blank.name ≡ L.name }
-    requires parts { blank.parts ≡ L.parts }
-    requires some { 0 < L.parts }
+    requires blank { IsBlankOf L.name L.parts blank.name blank.parts }
     ensures { IfOk result (D.ended driving) }
 {
     let mut steps = Steps::<L>::new(blank);
@@ -151,7 +141,7 @@ impl<'a, const CAP: usize, const HOPS: usize, Q: Program> InTurn<Q> for Driving<
 
     ghost may = { λ d. MayDrive Q.rules CAP HOPS d.grid.now d.settings d.progs };
 
-    ghost ended = { λ d f. HasDriven Q.rules CAP d.grid.now d.settings d.progs f.progs f.rounds };
+    ghost ended = { λ d. HasDriven Q.rules CAP d.grid.now d.settings d.progs };
 
     fn run<L: Ledger>(self, steps: &mut Steps<L>) -> Result<Finished<Q>, NoMemory> {
         let Driving {
@@ -191,16 +181,12 @@ pub fn drive_on_threads<
     settings: Settings,
     progs: Progs<Q>,
 ) -> Result<Finished<Q>, NoMemory>
-    requires some { 0 < CAP }
-    requires small { CAP ≤ 1024 }
+    requires cap { IsCap CAP }
     requires hops { length grid.now ≡ HOPS }
-    requires one_hop { settings.via ≡ Via.Exstack → length grid.now ≡ 1 }
-    requires begins { (shape : List ℕ) × (most : ℕ) × InRound Q.rules (ranks grid.now) 0 shape most progs
-        × EndsWithin Q.rules progs most }
-    ensures ended { IfOk result (λ f. HaveEnded Q.rules progs f.progs) }
-    ensures rounds { IfOk result (λ f. TellsIt Q.rules progs
+    requires run { MayRun Q.rules grid.now settings.via progs }
+    ensures { IfOk result (HasFinished Q.rules progs
         (record { dims = grid.now; cap = CAP; slots = count_of settings.slots; by_slots = true })
-        (manner_of settings.via settings.steady) f.rounds) }
+        (manner_of settings.via settings.steady)) }
 {
     let slots = settings.slots.count();
     drive_threads::<CAP, HOPS, R, Q, OpenGate>(

@@ -1,5 +1,6 @@
 //! Turns that are made to their end by a count of their own.
 ghost use Rattle.std.specs.Prelude.{◌≡◌, ◌<◌};
+ghost use Rattle.rank_node.specs.Ledgers.{IsBlankOf};
 
 use rank_node::Steps;
 use std::marker::Brand;
@@ -23,9 +24,7 @@ pub(crate) fn do_job<J: Job>(job: J) -> J
 
 /// Does a job, and counts its turns by a ledger that nothing was written in.
 fn do_counted<J: Job, L: Ledger>(job: J, blank: Blank) -> J
-    requires name { blank.name ≡ L.name }
-    requires parts { blank.parts ≡ L.parts }
-    requires some { 0 < L.parts }
+    requires blank { IsBlankOf L.name L.parts blank.name blank.parts }
     ensures { J.ran job result }
 {
     let mut steps = Steps::<L>::new(blank);

@@ -1,5 +1,6 @@
 //! The ranks of a drive, as it begins and ends.
 ghost use Rattle.std.specs.Prelude.{◌≡◌, ℕ, ◌<◌, ◌≤◌, List, length, IfOk};
+ghost use Rattle.item_buffer.specs.Capacity.{IsCap};
 ghost use Rattle.route_tensor.specs.Grid.{ranks};
 ghost use Rattle.round_program.specs.Canonical.{InRound};
 ghost use Rattle.rank_node.specs.Movers.{manner_of};
@@ -21,8 +22,7 @@ pub(crate) fn ranks_of<const CAP: usize, const HOPS: usize, Q: Program>(
     steady: bool,
     progs: Progs<Q>,
 ) -> Result<Vec<Rank<Q, CAP, HOPS>>, NoMemory>
-    requires some { 0 < CAP }
-    requires small { CAP ≤ 1024 }
+    requires cap { IsCap CAP }
     requires hops { length grid.now ≡ HOPS }
     requires one_hop { via ≡ Via.Exstack → length grid.now ≡ 1 }
     requires begins { (shape : List ℕ) × (most : ℕ) × InRound Q.rules (ranks grid.now) 0 shape most progs }

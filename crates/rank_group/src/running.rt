@@ -6,7 +6,7 @@ ghost use Rattle.route_tensor.specs.Link.{links};
 ghost use Rattle.port_bank.specs.Plain.{IsBank, sent_of, got_of};
 ghost use Rattle.rank_node.specs.Movers.{Manner};
 ghost use Rattle.rank_group.specs.Told.{turns_within};
-ghost use Rattle.rank_group.specs.Worlds.{Plan, World, all_progress};
+ghost use Rattle.rank_group.specs.Worlds.{Plan, World, KeepsBank, all_progress};
 ghost use Rattle.rank_group.specs.Drives.{progs_of};
 ghost use Rattle.rank_group.specs.Ranks.{RankState, IsOrder};
 ghost use Rattle.rank_group.specs.Turns.{SweepsOf};
@@ -33,9 +33,7 @@ pub(crate) fn run_all<const CAP: usize, const HOPS: usize, Q: Program, L: Ledger
         × (plan : Plan Q.rules bank.dims bank.slots (progs_of all.old.items) n) × (n ≤ plan.most)
         × World Q.rules bank.dims CAP bank.slots manner (progs_of all.old.items) h all.old.items (sent_of bank)
         (got_of bank) }
-    ensures lawful { IfOk result (λ b. IsBank CAP b) }
-    ensures same_dims { IfOk result (λ b. b.dims ≡ bank.entry.dims) }
-    ensures same_slots { IfOk result (λ b. b.slots ≡ bank.entry.slots) }
+    ensures bank { IfOk result (KeepsBank CAP bank.entry) }
     // It made sweeps in this order, and no other turn.
     ensures order { IfOk result (λ b. (k : ℕ) × SweepsOf Q.rules bank.entry.dims CAP bank.entry.slots order.now k
         (record { ranks = all.old.items; sent = sent_of bank.entry; got = got_of bank.entry })

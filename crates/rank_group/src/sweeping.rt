@@ -14,7 +14,7 @@ ghost use Rattle.port_bank.specs.Logs.{starting_at, ending_at};
 ghost use Rattle.rank_group.specs.Closes.{ClosesLaws};
 ghost use Rattle.rank_node.specs.Movers.{Manner, dims_of, rank_of, epoch_in};
 ghost use Rattle.rank_node.specs.Nodes.{IsNode};
-ghost use Rattle.rank_group.specs.Worlds.{Plan, World, SweptTo, all_progress};
+ghost use Rattle.rank_group.specs.Worlds.{Plan, World, SweptTo, KeepsBank, all_progress};
 ghost use Rattle.rank_group.specs.Ranks.{RankState, HasRank, AfterTurn, AfterRank, IsOrder};
 ghost use Rattle.rank_group.specs.Turns.{TurnsOf};
 
@@ -52,9 +52,7 @@ fn turn_rank<const CAP: usize, const HOPS: usize, Q: Program, L: Ledger>(
     requires few { epoch_in rank.old.node.mover < 2 ^ 63 }
     requires rank { (manner : _) × (h : ℕ → Q) × HasRank Q.rules bank.dims CAP manner number h rank.old (sent_of bank)
         (got_of bank) }
-    ensures lawful { IfOk result (λ b. IsBank CAP b) }
-    ensures same_dims { IfOk result (λ b. b.dims ≡ bank.entry.dims) }
-    ensures same_slots { IfOk result (λ b. b.slots ≡ bank.entry.slots) }
+    ensures bank { IfOk result (KeepsBank CAP bank.entry) }
     ensures most_steps { steps.new ≤ steps.old + 1 }
     ensures fewest_steps { steps.old ≤ steps.new }
     ensures steps { IfOk result (λ b. rank.old.over ≡ false → steps.new ≡ steps.old + 1) }
@@ -86,9 +84,7 @@ fn turn_node<const CAP: usize, const HOPS: usize, Q: Program, L: Ledger>(
     requires same_rank { rank_of node.old.mover ≡ number }
     requires node { (h : ℕ → Q) × IsNode Q.rules h node.old (starting_at bank.dims number (sent_of bank))
         (ending_at bank.dims number (got_of bank)) }
-    ensures lawful { IfOk result (λ b. IsBank CAP b.0) }
-    ensures same_dims { IfOk result (λ b. b.0.dims ≡ bank.entry.dims) }
-    ensures same_slots { IfOk result (λ b. b.0.slots ≡ bank.entry.slots) }
+    ensures bank { IfOk result (λ b. KeepsBank CAP bank.entry b.0) }
     ensures steps { steps.new ≡ steps.old + 1 }
     ensures turned { IfOk result (λ b. AfterTurn Q.rules bank.entry.dims CAP bank.entry.slots number b.1 node.old
         node.new (sent_of bank.entry) (got_of bank.entry) (sent_of b.0) (got_of b.0)) }
@@ -112,9 +108,7 @@ fn turn_one<const CAP: usize, const HOPS: usize, Q: Program, L: Ledger>(
         × World Q.rules bank.dims CAP bank.slots manner starts h all.old.items (sent_of bank) (got_of bank) }
     ensures size { length all.new.items ≡ length all.old.items }
     ensures others { (k : ℕ) → k ≢ number → slice_get all.new.items k ≡ slice_get all.old.items k }
-    ensures lawful { IfOk result (λ b. IsBank CAP b) }
-    ensures same_dims { IfOk result (λ b. b.dims ≡ bank.entry.dims) }
-    ensures same_slots { IfOk result (λ b. b.slots ≡ bank.entry.slots) }
+    ensures bank { IfOk result (KeepsBank CAP bank.entry) }
     ensures most_steps { steps.new ≤ steps.old + 1 }
     ensures fewest_steps { steps.old ≤ steps.new }
     ensures steps { (n : RankState Q) → slice_get all.old.items number ≡ Some n → n.over ≡ false
@@ -140,9 +134,7 @@ pub(crate) fn sweep<const CAP: usize, const HOPS: usize, Q: Program, L: Ledger>(
     requires world { (manner : Manner) × (starts : List Q) × (n : ℕ) × (h : ℕ → ℕ → Q)
         × Plan Q.rules bank.dims bank.slots starts n
         × World Q.rules bank.dims CAP bank.slots manner starts h all.old.items (sent_of bank) (got_of bank) }
-    ensures lawful { IfOk result (λ b. IsBank CAP b) }
-    ensures same_dims { IfOk result (λ b. b.dims ≡ bank.entry.dims) }
-    ensures same_slots { IfOk result (λ b. b.slots ≡ bank.entry.slots) }
+    ensures bank { IfOk result (KeepsBank CAP bank.entry) }
     ensures most_steps { steps.new ≤ steps.old + length order.now }
     ensures some_step { (r : ℕ) (x : RankState Q) → slice_get all.old.items r ≡ Some x → x.over ≡ false
         → IfOk result (λ b. steps.old < steps.new) }

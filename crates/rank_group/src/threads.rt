@@ -1,12 +1,9 @@
 //! One call that drives all ranks of a grid on threads.
-ghost use Rattle.std.specs.Prelude.{◌≡◌, ℕ, ◌*◌, ◌<◌, ◌≤◌, true, List, [], ◌∷◌, length, IfOk, OnOk};
-ghost use Rattle.route_tensor.specs.Grid.{ranks};
+ghost use Rattle.std.specs.Prelude.{◌≡◌, ◌<◌, ◌≤◌, true, length, IfOk, OnOk};
+ghost use Rattle.item_buffer.specs.Capacity.{IsCap};
 ghost use Rattle.port_bank.specs.Port.{IsSlots};
-ghost use Rattle.round_program.specs.Canonical.{InRound, HasRounds, EndsWithin, HaveEnded};
-ghost use Rattle.rank_group.specs.declared.closed_round.ClosedRound.{ClosedRound};
-ghost use Rattle.rank_group.specs.Rounds.{round_of};
 ghost use Rattle.rank_node.specs.Movers.{manner_of};
-ghost use Rattle.rank_group.specs.Told.{TellsRun};
+ghost use Rattle.rank_group.specs.Driven.{MayRun, HasFinished, ToldOfTurns};
 
 use crate::closed_round::{ClosedRound, Rounds};
 use crate::closes::closes_laws;
@@ -53,26 +50,15 @@ pub fn drive_threads<
     progs: Progs<Q>,
     gate: &G,
 ) -> Result<Finished<Q>, NoMemory>
-    requires some { 0 < CAP }
-    requires small { CAP ≤ 1024 }
+    requires cap { IsCap CAP }
     requires hops { length grid.now ≡ HOPS }
-    requires one_hop { via ≡ Via.Exstack → length grid.now ≡ 1 }
     requires slots { IsSlots slots }
-    requires begins { (shape : List ℕ) × (most : ℕ) × InRound Q.rules (ranks grid.now) 0 shape most progs
-        × EndsWithin Q.rules progs most }
+    requires run { MayRun Q.rules grid.now via progs }
+    ensures finished { IfOk result (HasFinished Q.rules progs
+        (record { dims = grid.now; cap = CAP; slots = slots; by_slots = true }) (manner_of via steady)) }
 
-    // The programs are as the canonical run leaves them.
-    ensures ended { IfOk result (λ f. HaveEnded Q.rules progs f.progs) }
-
-    // One closed round tells what was exchanged.
-    ensures rounds { IfOk result (λ f. (c : ClosedRound) × (f.rounds ≡ c ∷ []) × ((n : ℕ) → HasRounds Q.rules progs n
-        → TellsRun Q.rules progs n (record { dims = grid.now; cap = CAP; slots = slots; by_slots = true })
-        (manner_of via steady) (round_of c))) }
-
-    // This gate was told of the turns of each rank: in a run of n rounds, which has 2 * n epochs,
-    // of 2 * n turns at least.
-    ensures told { (n r m : ℕ) → HasRounds Q.rules progs n → r < ranks grid.now → m < 2 * n
-        → OnOk result (G.told gate.now r m ≡ true) }
+    // This gate was told of the turns of each rank.
+    ensures told { OnOk result (ToldOfTurns Q.rules progs grid.now (G.told gate.now)) }
 {
     let threads = threads_for(rt, grid.ranks());
     drive_with::<CAP, HOPS, R, Q, G>(
@@ -102,19 +88,13 @@ pub fn drive_with<
     crews: usize,
     threads: usize,
 ) -> Result<Finished<Q>, NoMemory>
-    requires some { 0 < CAP }
-    requires small { CAP ≤ 1024 }
+    requires cap { IsCap CAP }
     requires hops { length grid.now ≡ HOPS }
-    requires one_hop { via ≡ Via.Exstack → length grid.now ≡ 1 }
     requires slots { IsSlots slots }
-    requires begins { (shape : List ℕ) × (most : ℕ) × InRound Q.rules (ranks grid.now) 0 shape most progs
-        × EndsWithin Q.rules progs most }
-    ensures ended { IfOk result (λ f. HaveEnded Q.rules progs f.progs) }
-    ensures rounds { IfOk result (λ f. (c : ClosedRound) × (f.rounds ≡ c ∷ []) × ((n : ℕ) → HasRounds Q.rules progs n
-        → TellsRun Q.rules progs n (record { dims = grid.now; cap = CAP; slots = slots; by_slots = true })
-        (manner_of via steady) (round_of c))) }
-    ensures told { (n r m : ℕ) → HasRounds Q.rules progs n → r < ranks grid.now → m < 2 * n
-        → OnOk result (G.told gate.now r m ≡ true) }
+    requires run { MayRun Q.rules grid.now via progs }
+    ensures finished { IfOk result (HasFinished Q.rules progs
+        (record { dims = grid.now; cap = CAP; slots = slots; by_slots = true }) (manner_of via steady)) }
+    ensures told { OnOk result (ToldOfTurns Q.rules progs grid.now (G.told gate.now)) }
 {
     closes_laws();
     grid.known();

@@ -1,7 +1,7 @@
 //! All ranks of a drive on threads, side by side.
 ghost use Rattle.std.specs.Prelude.{◌≡◌, ◌<◌, ◌≤◌, true, List, [], ◌∷◌, ◌++◌, map, length, reverse, vec_capacity, IfOk};
 ghost use Rattle.std.specs.List.{All};
-ghost use Rattle.rank_group.specs.Runs.{AllRan};
+ghost use Rattle.rank_group.specs.Runs.{AllRan, AllEnded};
 ghost use Rattle.rank_group.specs.Children.{first_of};
 
 use crate::alone::run_home;
@@ -37,8 +37,7 @@ pub fn run_together<R: Threads + Wait + Clock + Sync, A: Seated + Send, G: Gate 
     all: Vec<A>,
 ) -> Result<Vec<A>, NoMemory>
     // This gate was told of each turn.
-    ensures ran { IfOk result (λ ended. AllRan (A.ran (G.told gate.now)) all.items ended.items) }
-    ensures over { IfOk result (λ ended. All (λ y. A.over y ≡ true) ended.items) }
+    ensures { IfOk result (λ ended. AllEnded (A.ran (G.told gate.now)) A.over all.items ended.items) }
 {
     run_crews::<R, A, G, Brand>(rt, alloc, gate, crews, threads, all)
 }
@@ -58,8 +57,7 @@ fn run_crews<
     all: Vec<A>,
 ) -> Result<Vec<A>, NoMemory>
     requires tells { G.told gate.now ≡ J.told }
-    ensures ran { IfOk result (λ ended. AllRan (A.ran J.told) all.items ended.items) }
-    ensures over { IfOk result (λ ended. All (λ y. A.over y ≡ true) ended.items) }
+    ensures { IfOk result (λ ended. AllEnded (A.ran J.told) A.over all.items ended.items) }
 {
     let count = all.len();
     let ended = Vec::with_capacity(alloc, count)?;
@@ -85,8 +83,7 @@ fn run_each<
     threads: usize,
     all: Vec<A>,
 ) -> Result<Vec<A>, NoMemory>
-    ensures ran { IfOk result (λ ended. AllRan (A.ran J.told) all.items ended.items) }
-    ensures over { IfOk result (λ ended. All (λ y. A.over y ≡ true) ended.items) }
+    ensures { IfOk result (λ ended. AllEnded (A.ran J.told) A.over all.items ended.items) }
 {
     let ended = Vec::with_capacity(alloc, all.len())?;
     thread::scope(
@@ -94,8 +91,7 @@ fn run_each<
         shared.rt,
         move |scope| -> Result<Vec<A>, NoMemory>
             requires { (ended.items ≡ []) × (length all.items ≤ vec_capacity ended) }
-            ensures { IfOk result (λ ys. AllRan (A.ran J.told) all.items ys.items
-                × All (λ y. A.over y ≡ true) ys.items) }
+            ensures { IfOk result (λ ys. AllEnded (A.ran J.told) A.over all.items ys.items) }
         { run_in(scope, shared, alloc, threads, all, ended) },
     )
 }
@@ -118,8 +114,7 @@ fn run_in<
 ) -> Result<Vec<A>, NoMemory>
     requires none { ended.items ≡ [] }
     requires room { length all.items ≤ vec_capacity ended }
-    ensures ran { IfOk result (λ ys. AllRan (A.ran J.told) all.items ys.items) }
-    ensures over { IfOk result (λ ys. All (λ y. A.over y ≡ true) ys.items) }
+    ensures { IfOk result (λ ys. AllEnded (A.ran J.told) A.over all.items ys.items) }
 {
     let children = Vec::with_capacity(alloc, all.len())?;
     let children = start_all(scope, shared, alloc, threads, all, children);

@@ -1,5 +1,6 @@
 //! Turns a rank over a port that takes no memory.
 ghost use Rattle.std.specs.Prelude.{◌≡◌, ℕ, ◌+◌, ◌^◌, ◌<◌, ◌≤◌, false, OnOk};
+ghost use Rattle.port_bank.specs.Frames.{SamePort};
 ghost use Rattle.rank_node.specs.Movers.{Manner, epoch_in};
 ghost use Rattle.rank_group.specs.Ranks.{IsRank, progress};
 
@@ -25,10 +26,7 @@ pub(crate) fn turn_over<const CAP: usize, const HOPS: usize, Q: Program, P: Port
     requires few { epoch_in rank.old.node.mover < 2 ^ 63 }
     requires rank { (manner : Manner) × (h : ℕ → Q) × IsRank Q.rules (P.dims port.old) CAP manner
         (P.rank port.old) h rank.old (P.sent port.old) (P.got port.old) }
-    ensures same_dims { P.dims port.new ≡ P.dims port.old }
-    ensures same_rank { P.rank port.new ≡ P.rank port.old }
-    ensures same_slots { P.slots port.new ≡ P.slots port.old }
-    ensures rest { P.rest port.new ≡ P.rest port.old }
+    ensures same_port { SamePort P.Port port.old port.new }
     ensures steps { steps.new ≡ steps.old + 1 }
     ensures epoch { OnOk result (progress rank.new ≤ progress rank.old + 1) }
     ensures kept { OnOk result ((manner : Manner) (h : ℕ → Q)

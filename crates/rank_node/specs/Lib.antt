@@ -8,5 +8,6 @@ pub mod Pulls
 pub mod Moves
 pub mod Cycles
 pub mod Batches
+pub mod Ledgers
 pub mod Pushes
 pub mod laws

@@ -5,6 +5,7 @@ use Rattle.item_buffer.specs.Contents.{Shipped}
 use Rattle.list_laws.specs.Lists.{Begins}
 use Rattle.route_tensor.specs.Link.{links}
 use Rattle.route_tensor.specs.Ends.{sender_at, reader_at}
+use Rattle.port_bank.specs.declared.port.Port.{Ghosts}
 use Rattle.port_bank.specs.Logs.{Logs}
 use Rattle.hop_core.specs.Link.{is_due}
 use Rattle.hop_core.specs.State.{State}
@@ -21,6 +22,13 @@ use Rattle.rank_node.specs.Runs.{Running}
 use Rattle.rank_node.specs.Nodes.{NodeState, IsNode}
 use Rattle.rank_node.specs.Pulls.{Handed, Fills}
 use Rattle.rank_node.specs.Stuck.{IsStuck}
+
+-- A node that may turn over a port of its own, whose programs began in these states.
+pub record MayTurn {P : Type 0} {cap : ℕ} {M : Type 0} (G : Ghosts P cap M) {S : Type 0} (R : Rules S) (n : NodeState S) (port : P) : Type 0 where
+  pub same_dims : G.dims port ≡ dims_of n.mover
+  pub same_rank : G.rank port ≡ rank_of n.mover
+  pub first : ℕ → S
+  pub node : IsNode R first n (G.sent port) (G.got port)
 
 -- kept: it is a node again.
 -- sent_grows .. one_got: the lists only grow, and each by one parcel at most.

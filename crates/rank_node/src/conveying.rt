@@ -1,12 +1,13 @@
 //! A rank whose items travel by a conveyor.
-ghost use Rattle.std.specs.Prelude.{◌≡◌, ◌≢◌, ℕ, ◌^◌, ◌<◌, ◌≤◌, false, length, IfOk, IsOk, OnOk, Ok};
+ghost use Rattle.std.specs.Prelude.{◌≡◌, ◌≢◌, ◌^◌, ◌<◌, false, length, IfOk, IsOk, OnOk, Ok};
+ghost use Rattle.item_buffer.specs.Capacity.{IsCap};
 ghost use Rattle.route_tensor.specs.Grid.{ranks};
 ghost use Rattle.rank_node.specs.Movers.{IsNew, GoesOn};
 ghost use Rattle.rank_node.specs.Movers.Manner.{ByConveyor};
 ghost use Rattle.rank_node.specs.Movers.MoverState.{Conveying};
 ghost use Rattle.rank_node.specs.Runs.{running};
-ghost use Rattle.rank_node.specs.Nodes.{IsNode};
-ghost use Rattle.rank_node.specs.Moves.{AfterMoves, Leaves, DueIsCrowded, Waits};
+ghost use Rattle.rank_node.specs.Moves.{AfterMoves, Leaves, DueIsCrowded, Waits, MayTurn};
+ghost use Rattle.port_bank.specs.Frames.{SamePort};
 
 use crate::run::Run;
 use crate::sending::push_all;
@@ -27,10 +28,8 @@ pub(crate) fn turn_conveyor<const CAP: usize, const HOPS: usize, Q: Program, P: 
     conveyor: &mut Conveyor<CAP, HOPS>,
     port: &mut P,
 ) -> Result<Turn, NoMemory>
-    requires same_dims { P.dims port.old ≡ conveyor.old.dims }
-    requires same_rank { P.rank port.old ≡ conveyor.old.rank }
-    requires node { (h : ℕ → Q) × IsNode Q.rules h (record { run = running run.old; mover = Conveying conveyor.old })
-        (P.sent port.old) (P.got port.old) }
+    requires turns { MayTurn P.Port Q.rules (record { run = running run.old; mover = Conveying conveyor.old })
+        port.old }
     ensures moves { AfterMoves Q.rules CAP (record { run = running run.old; mover = Conveying conveyor.old })
         (record { run = running run.new; mover = Conveying conveyor.new })
         (P.sent port.old) (P.got port.old) (P.sent port.new) (P.got port.new) }
@@ -39,10 +38,7 @@ pub(crate) fn turn_conveyor<const CAP: usize, const HOPS: usize, Q: Program, P: 
     ensures due { IsOk result → DueIsCrowded (Conveying conveyor.new) (P.crowded port.new) }
     ensures waits { OnOk result (Waits Q.rules (running run.old) (Conveying conveyor.old) (Conveying conveyor.new)
         (P.sent port.old) (P.got port.old) (P.sent port.new) (P.got port.new) (P.crowded port.new) (P.idle port.new)) }
-    ensures same_dims { P.dims port.new ≡ P.dims port.old }
-    ensures same_rank { P.rank port.new ≡ P.rank port.old }
-    ensures same_slots { P.slots port.new ≡ P.slots port.old }
-    ensures rest { P.rest port.new ≡ P.rest port.old }
+    ensures same_port { SamePort P.Port port.old port.new }
     ensures memory { P.Memory.GROWS ≡ false → IsOk result }
     ensures ended { result ≡ Ok Turn.Ended → conveyor.new.phase ≡ Phase.Complete }
     ensures going { result ≡ Ok Turn.Going → conveyor.new.phase ≢ Phase.Complete }
@@ -74,8 +70,7 @@ pub(crate) fn new_conveyor<const CAP: usize, const HOPS: usize>(
     rank: u32,
     steady: bool,
 ) -> Result<Conveyor<CAP, HOPS>, NoMemory>
-    requires some { 0 < CAP }
-    requires small { CAP ≤ 1024 }
+    requires cap { IsCap CAP }
     requires hops { length grid.now ≡ HOPS }
     requires rank { rank < ranks grid.now }
     ensures { IfOk result (λ c. IsNew grid.now rank (ByConveyor steady) (Conveying c)) }

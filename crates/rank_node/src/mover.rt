@@ -1,11 +1,12 @@
 //! What carries the items of a rank.
-ghost use Rattle.std.specs.Prelude.{◌≡◌, ℕ, ◌+◌, ◌^◌, ◌<◌, ◌≤◌, true, false, length, IfOk, IsOk, OnOk, Ok};
+ghost use Rattle.std.specs.Prelude.{◌≡◌, ℕ, ◌^◌, ◌<◌, true, false, length, IfOk, IsOk, OnOk, Ok};
+ghost use Rattle.item_buffer.specs.Capacity.{IsCap};
 ghost use Rattle.route_tensor.specs.Grid.{ranks};
-ghost use Rattle.rank_node.specs.Movers.{seen, dims_of, rank_of, epoch_in, manner_of, has_completed, IsNew, GoesOn};
+ghost use Rattle.rank_node.specs.Movers.{seen, epoch_in, manner_of, has_completed, IsNew, GoesOn};
 ghost use Rattle.rank_node.specs.Runs.{running};
-ghost use Rattle.rank_node.specs.Nodes.{IsNode};
-ghost use Rattle.rank_node.specs.Moves.{AfterMoves, Leaves, DueIsCrowded, Waits};
+ghost use Rattle.rank_node.specs.Moves.{AfterMoves, Leaves, DueIsCrowded, Waits, MayTurn};
 ghost use Rattle.rank_node.specs.Cycles.{IsInCycle, cycle_of_turn, TurnsOnward, AwaitsSome};
+ghost use Rattle.port_bank.specs.Frames.{SamePort};
 
 use crate::conveying::{new_conveyor, reset_conveyor, turn_conveyor};
 use crate::run::Run;
@@ -36,8 +37,7 @@ impl<const CAP: usize, const HOPS: usize> Mover<CAP, HOPS> {
         rank: u32,
         steady: bool,
     ) -> Result<Self, NoMemory>
-        requires some { 0 < CAP }
-        requires small { CAP ≤ 1024 }
+        requires cap { IsCap CAP }
         requires hops { length grid.now ≡ HOPS }
         requires one_hop { via ≡ Via.Exstack → length grid.now ≡ 1 }
         requires rank { rank < ranks grid.now }
@@ -55,10 +55,8 @@ impl<const CAP: usize, const HOPS: usize> Mover<CAP, HOPS> {
         run: &mut Run<Q>,
         port: &mut P,
     ) -> Result<Turn, NoMemory>
-        requires same_dims { P.dims port.old ≡ dims_of (seen self.old) }
-        requires same_rank { P.rank port.old ≡ rank_of (seen self.old) }
-        requires node { (h : ℕ → Q) × IsNode Q.rules h (record { run = running run.old; mover = seen self.old })
-            (P.sent port.old) (P.got port.old) }
+        requires turns { MayTurn P.Port Q.rules (record { run = running run.old; mover = seen self.old })
+            port.old }
         ensures moves { AfterMoves Q.rules CAP (record { run = running run.old; mover = seen self.old })
             (record { run = running run.new; mover = seen self.new })
             (P.sent port.old) (P.got port.old) (P.sent port.new) (P.got port.new) }
@@ -74,10 +72,7 @@ impl<const CAP: usize, const HOPS: usize> Mover<CAP, HOPS> {
         ensures waits { OnOk result (Waits Q.rules (running run.old) (seen self.old) (seen self.new)
             (P.sent port.old) (P.got port.old) (P.sent port.new) (P.got port.new) (P.crowded port.new)
             (P.idle port.new)) }
-        ensures same_dims { P.dims port.new ≡ P.dims port.old }
-        ensures same_rank { P.rank port.new ≡ P.rank port.old }
-        ensures same_slots { P.slots port.new ≡ P.slots port.old }
-        ensures rest { P.rest port.new ≡ P.rest port.old }
+        ensures same_port { SamePort P.Port port.old port.new }
         ensures memory { P.Memory.GROWS ≡ false → IsOk result }
         ensures ended { result ≡ Ok Turn.Ended → has_completed (seen self.new) ≡ true }
         ensures going { result ≡ Ok Turn.Going → has_completed (seen self.new) ≡ false }

@@ -1,13 +1,12 @@
 //! One rank of a run.
 ghost use Rattle.std.specs.Prelude.{◌≡◌, ◌⊎◌, ℕ, ◌+◌, ◌-◌, ◌^◌, ◌<◌, ◌≤◌, [], length, IfOk, true, false, IsOk, IsErr, OnOk, Result, Ok};
 ghost use Rattle.route_tensor.specs.Grid.{ranks};
-ghost use Rattle.route_tensor.specs.Link.{links};
-ghost use Rattle.route_tensor.specs.Ends.{sender_at, reader_at};
 ghost use Rattle.port_bank.specs.Logs.{Logs};
-ghost use Rattle.list_laws.specs.Lists.{Begins};
+ghost use Rattle.port_bank.specs.Frames.{SamePort};
+ghost use Rattle.item_buffer.specs.Capacity.{IsCap};
 ghost use Rattle.rank_node.specs.Sending.{is_voting, to_send};
-ghost use Rattle.rank_node.specs.Movers.{IsShape, dims_of, rank_of, epoch_in, manner_in, manner_of, has_completed, HasCap, IsStarting, NoneUnread, SameUnread};
-ghost use Rattle.rank_node.specs.Moves.{Leaves, DueIsCrowded, Waits};
+ghost use Rattle.rank_node.specs.Movers.{dims_of, rank_of, epoch_in, manner_in, manner_of, has_completed, HasCap, IsStarting, NoneUnread, SameUnread};
+ghost use Rattle.rank_node.specs.Moves.{Leaves, DueIsCrowded, Waits, MayTurn, AfterMoves};
 ghost use Rattle.rank_node.specs.Nodes.{IsNode};
 ghost use Rattle.rank_node.specs.Next.{extended, HasStopped};
 ghost use Rattle.rank_node.specs.Cycles.{IsInCycle, cycle_of_turn, TurnsOnward, AwaitsSome};
@@ -60,8 +59,7 @@ impl<Q: Program, const CAP: usize, const HOPS: usize> Node<Q, CAP, HOPS> {
         prog: Q,
         steady: bool,
     ) -> Result<Self, NoMemory>
-        requires some { 0 < CAP }
-        requires small { CAP ≤ 1024 }
+        requires cap { IsCap CAP }
         requires hops { length grid.now ≡ HOPS }
         requires one_hop { via ≡ Via.Exstack → length grid.now ≡ 1 }
         requires rank { Q.rules.rank prog < ranks grid.now }
@@ -116,39 +114,17 @@ impl<Q: Program, const CAP: usize, const HOPS: usize> Node<Q, CAP, HOPS> {
         port: &mut P,
         steps: &mut Steps<L>,
     ) -> Result<Turn, NoMemory>
-        requires same_dims { P.dims port.old ≡ dims_of self.old.mover }
-        requires same_rank { P.rank port.old ≡ rank_of self.old.mover }
-        requires node { (h : ℕ → Q) × IsNode Q.rules h self.old (P.sent port.old) (P.got port.old) }
-        ensures kept { (h : ℕ → Q) → IsNode Q.rules h self.old (P.sent port.old) (P.got port.old)
-            → IsNode Q.rules h self.new (P.sent port.new) (P.got port.new) }
+        requires turns { MayTurn P.Port Q.rules self.old port.old }
         ensures steps { steps.new ≡ steps.old + 1 }
-        ensures self_dims { dims_of self.new.mover ≡ dims_of self.old.mover }
-        ensures self_rank { rank_of self.new.mover ≡ rank_of self.old.mover }
-        ensures manner { manner_in self.new.mover ≡ manner_in self.old.mover }
         ensures cap { HasCap CAP self.new.mover }
-        ensures epoch { epoch_in self.new.mover ≡ epoch_in self.old.mover }
-        ensures round { self.new.run.round ≡ self.old.run.round }
-        ensures sends { self.new.run.sends ≡ self.old.run.sends }
-        ensures same_dims { P.dims port.new ≡ P.dims port.old }
-        ensures same_rank { P.rank port.new ≡ P.rank port.old }
-        ensures same_slots { P.slots port.new ≡ P.slots port.old }
-        ensures rest { P.rest port.new ≡ P.rest port.old }
+        ensures same_port { SamePort P.Port port.old port.new }
         ensures memory { P.Memory.GROWS ≡ false → IsOk result }
 
-        // It advances or polls once: the lists only grow, each by one parcel at most, and of the transport's shape, so that
-        // over conveyors that aren't steady items travel in few parcels (`port_bank::few_parcels_law`).
-        ensures sent_grows { (l : ℕ) → Begins (P.sent port.old l) (P.sent port.new l) }
-        ensures got_grows { (l : ℕ) → Begins (P.got port.old l) (P.got port.new l) }
-        ensures one_sent { (l : ℕ) → l < links (dims_of self.old.mover)
-            → sender_at (dims_of self.old.mover) l ≡ rank_of self.old.mover
-            → length (P.sent port.new l) ≤ length (P.sent port.old l) + 1 }
-        ensures one_got { (l : ℕ) → l < links (dims_of self.old.mover)
-            → reader_at (dims_of self.old.mover) l ≡ rank_of self.old.mover
-            → length (P.got port.new l) ≤ length (P.got port.old l) + 1 }
-        ensures shape { (l : ℕ) → l < links (dims_of self.old.mover)
-            → sender_at (dims_of self.old.mover) l ≡ rank_of self.old.mover
-            → IsShape (manner_in self.old.mover) CAP (P.sent port.old l)
-            → IsShape (manner_in self.old.mover) CAP (P.sent port.new l) }
+        // It is a node again, of the same rank and round, that advanced or polled once: the lists only grow, each by one
+        // parcel at most, and of the transport's shape, so that over conveyors that aren't steady items travel in few
+        // parcels (`port_bank::few_parcels_law`).
+        ensures moves { AfterMoves Q.rules CAP self.old self.new (P.sent port.old) (P.got port.old) (P.sent port.new)
+            (P.got port.new) }
 
         // Ended exactly where the rank has completed its epoch.
         ensures ended { result ≡ Ok Turn.Ended → has_completed self.new.mover ≡ true }

@@ -1,6 +1,7 @@
 //! A rank whose items travel by an exstack.
 ghost use Rattle.std.specs.Prelude.{◌≡◌, ◌≢◌, ℕ, ◌^◌, ◌<◌, ◌≤◌, true, false, length, Some, IfOk, IsOk, OnOk, Ok};
 ghost use Rattle.std.specs.List.{All};
+ghost use Rattle.item_buffer.specs.Capacity.{IsCap};
 ghost use Rattle.route_tensor.specs.Grid.{ranks};
 ghost use Rattle.exstack.specs.State.{dims_of, unread_of, lowest_unread, may_exchange, may_proceed};
 ghost use Rattle.exstack.specs.Agreement.{cycle_after};
@@ -8,11 +9,12 @@ ghost use Rattle.rank_node.specs.Movers.{IsNew, GoesOn};
 ghost use Rattle.rank_node.specs.Movers.MoverState.{Stacking};
 ghost use Rattle.rank_node.specs.Movers.Manner.{ByExstack};
 ghost use Rattle.port_bank.specs.Logs.{Logs};
+ghost use Rattle.port_bank.specs.Frames.{SamePort};
 ghost use Rattle.rank_node.specs.Pulls.{Pops, Fills};
 ghost use Rattle.rank_node.specs.Runs.{running};
 ghost use Rattle.rank_node.specs.Sending.{to_send};
 ghost use Rattle.rank_node.specs.Nodes.{IsNode};
-ghost use Rattle.rank_node.specs.Moves.{AfterMoves, AfterFill, Leaves, Waits};
+ghost use Rattle.rank_node.specs.Moves.{AfterMoves, AfterFill, Leaves, Waits, MayTurn};
 ghost use Rattle.rank_node.specs.Cycles.{InCycle, InExchange, IsOnward, Awaits};
 
 use crate::arrivals::FromSender;
@@ -36,10 +38,8 @@ pub(crate) fn turn_exstack<const CAP: usize, Q: Program, P: Port<CAP>>(
     exstack: &mut Exstack<CAP>,
     port: &mut P,
 ) -> Result<Turn, NoMemory>
-    requires same_dims { P.dims port.old ≡ dims_of exstack.old }
-    requires same_rank { P.rank port.old ≡ exstack.old.rank }
-    requires node { (h : ℕ → Q) × IsNode Q.rules h (record { run = running run.old; mover = Stacking CAP exstack.old })
-        (P.sent port.old) (P.got port.old) }
+    requires turns { MayTurn P.Port Q.rules (record { run = running run.old; mover = Stacking CAP exstack.old })
+        port.old }
     ensures moves { AfterMoves Q.rules CAP (record { run = running run.old; mover = Stacking CAP exstack.old })
         (record { run = running run.new; mover = Stacking CAP exstack.new })
         (P.sent port.old) (P.got port.old) (P.sent port.new) (P.got port.new) }
@@ -53,10 +53,7 @@ pub(crate) fn turn_exstack<const CAP: usize, Q: Program, P: Port<CAP>>(
     ensures awaits { IsOk result → Awaits exstack.new }
     ensures waits { OnOk result (Waits Q.rules (running run.old) (Stacking CAP exstack.old) (Stacking CAP exstack.new)
         (P.sent port.old) (P.got port.old) (P.sent port.new) (P.got port.new) (P.crowded port.new) (P.idle port.new)) }
-    ensures same_dims { P.dims port.new ≡ P.dims port.old }
-    ensures same_rank { P.rank port.new ≡ P.rank port.old }
-    ensures same_slots { P.slots port.new ≡ P.slots port.old }
-    ensures rest { P.rest port.new ≡ P.rest port.old }
+    ensures same_port { SamePort P.Port port.old port.new }
     ensures memory { P.Memory.GROWS ≡ false → IsOk result }
     ensures ended { result ≡ Ok Turn.Ended → exstack.new.stage ≡ Stage.AllDone }
     ensures going { result ≡ Ok Turn.Going → exstack.new.stage ≢ Stage.AllDone }
@@ -79,10 +76,8 @@ fn proceed<const CAP: usize, Q: Program, P: Port<CAP>>(
     port: &mut P,
 ) -> Result<Turn, NoMemory>
     requires may { may_proceed exstack.old.stage ≡ true }
-    requires same_dims { P.dims port.old ≡ dims_of exstack.old }
-    requires same_rank { P.rank port.old ≡ exstack.old.rank }
-    requires node { (h : ℕ → Q) × IsNode Q.rules h (record { run = running run.old; mover = Stacking CAP exstack.old })
-        (P.sent port.old) (P.got port.old) }
+    requires turns { MayTurn P.Port Q.rules (record { run = running run.old; mover = Stacking CAP exstack.old })
+        port.old }
     ensures moves { AfterMoves Q.rules CAP (record { run = running run.old; mover = Stacking CAP exstack.old })
         (record { run = running run.new; mover = Stacking CAP exstack.new })
         (P.sent port.old) (P.got port.old) (P.sent port.new) (P.got port.new) }
@@ -97,10 +92,7 @@ fn proceed<const CAP: usize, Q: Program, P: Port<CAP>>(
     ensures sends { run.new.sends ≡ run.old.sends }
     ensures waits { OnOk result (Waits Q.rules (running run.old) (Stacking CAP exstack.old) (Stacking CAP exstack.new)
         (P.sent port.old) (P.got port.old) (P.sent port.new) (P.got port.new) (P.crowded port.new) (P.idle port.new)) }
-    ensures same_dims { P.dims port.new ≡ P.dims port.old }
-    ensures same_rank { P.rank port.new ≡ P.rank port.old }
-    ensures same_slots { P.slots port.new ≡ P.slots port.old }
-    ensures rest { P.rest port.new ≡ P.rest port.old }
+    ensures same_port { SamePort P.Port port.old port.new }
     ensures memory { P.Memory.GROWS ≡ false → IsOk result }
     ensures ended { result ≡ Ok Turn.Ended → exstack.new.stage ≡ Stage.AllDone }
     ensures going { result ≡ Ok Turn.Going → exstack.new.stage ≢ Stage.AllDone }
@@ -123,10 +115,8 @@ fn exchange<const CAP: usize, Q: Program, P: Port<CAP>>(
     port: &mut P,
 ) -> Result<Turn, NoMemory>
     requires may { may_exchange exstack.old.stage ≡ true }
-    requires same_dims { P.dims port.old ≡ dims_of exstack.old }
-    requires same_rank { P.rank port.old ≡ exstack.old.rank }
-    requires node { (h : ℕ → Q) × IsNode Q.rules h (record { run = running run.old; mover = Stacking CAP exstack.old })
-        (P.sent port.old) (P.got port.old) }
+    requires turns { MayTurn P.Port Q.rules (record { run = running run.old; mover = Stacking CAP exstack.old })
+        port.old }
     ensures moves { AfterMoves Q.rules CAP (record { run = running run.old; mover = Stacking CAP exstack.old })
         (record { run = running run.new; mover = Stacking CAP exstack.new })
         (P.sent port.old) (P.got port.old) (P.sent port.new) (P.got port.new) }
@@ -140,10 +130,7 @@ fn exchange<const CAP: usize, Q: Program, P: Port<CAP>>(
     ensures sends { run.new.sends ≡ run.old.sends }
     ensures waits { OnOk result (Waits Q.rules (running run.old) (Stacking CAP exstack.old) (Stacking CAP exstack.new)
         (P.sent port.old) (P.got port.old) (P.sent port.new) (P.got port.new) (P.crowded port.new) (P.idle port.new)) }
-    ensures same_dims { P.dims port.new ≡ P.dims port.old }
-    ensures same_rank { P.rank port.new ≡ P.rank port.old }
-    ensures same_slots { P.slots port.new ≡ P.slots port.old }
-    ensures rest { P.rest port.new ≡ P.rest port.old }
+    ensures same_port { SamePort P.Port port.old port.new }
     ensures memory { P.Memory.GROWS ≡ false → IsOk result }
     ensures going { IfOk result (λ t. t ≡ Turn.Going) }
     ensures stage { exstack.new.stage ≢ Stage.AllDone }
@@ -252,8 +239,7 @@ pub(crate) fn new_exstack<const CAP: usize>(
     grid: &Grid,
     rank: u32,
 ) -> Result<Exstack<CAP>, NoMemory>
-    requires some { 0 < CAP }
-    requires small { CAP ≤ 1024 }
+    requires cap { IsCap CAP }
     requires one_hop { length grid.now ≡ 1 }
     requires rank { rank < ranks grid.now }
     ensures { IfOk result (λ x. IsNew grid.now rank ByExstack (Stacking CAP x)) }

@@ -1,5 +1,6 @@
 //! A count of turns that takes no memory and no time.
 ghost use Rattle.std.specs.Prelude.{◌≡◌, ◌+◌, ◌<◌};
+ghost use Rattle.rank_node.specs.Ledgers.{IsBlankOf};
 
 use std::marker::Model;
 use std::sync::ledger::{Blank, Book, Ledger, Share};
@@ -24,9 +25,7 @@ impl<L: Ledger> Model for Steps<L> {
 impl<L: Ledger> Steps<L> {
     /// A count of no turns, from a ledger that nothing was written in.
     pub fn new(blank: Blank) -> Steps<L>
-        requires name { blank.name ≡ L.name }
-        requires parts { blank.parts ≡ L.parts }
-        requires some { 0 < L.parts }
+        requires blank { IsBlankOf L.name L.parts blank.name blank.parts }
         ensures { result ≡ 0 }
     {
         let (book, share) = blank.open::<L>();

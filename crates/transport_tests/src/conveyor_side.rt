@@ -1,6 +1,9 @@
 //! One rank's conveyor in a test: its calls, made wherever their contracts allow them.
 ghost use Rattle.std.specs.Prelude.{◌≡◌};
+ghost use Rattle.item_buffer.specs.Capacity.{IsCap};
 ghost use Rattle.route_tensor.specs.Grid.{ranks};
+ghost use Rattle.convey.specs.Advance.{IsAtPort, KeepsPort};
+ghost use Rattle.convey.specs.Conveyors.{StartsOut, StaysWithRank};
 
 use bale_types::{Item, NoMemory};
 use convey::{Conveyor, Phase, Progress, Pushed};
@@ -48,20 +51,15 @@ pub(crate) struct Side<const CAP: usize, const HOPS: usize> {
 }
 
 impl<const CAP: usize, const HOPS: usize> Side<CAP, HOPS> {
-    ghost use Rattle.std.specs.Prelude.{◌≢◌, ◌<◌, ◌≤◌, [], length, IfOk};
+    ghost use Rattle.std.specs.Prelude.{◌<◌, length, IfOk};
     ghost use Rattle.convey.specs.Buffers.{buffers_of};
     ghost use Rattle.convey.specs.Law.{IsSound};
-    ghost use Rattle.convey.specs.Conveyors.{AgreesWith, KeepsAgreement};
 
     pub(crate) fn new(alloc: Global, grid: &Grid, rank: u32, steady: bool) -> Result<Self, NoMemory>
-        requires some { 0 < CAP }
-        requires small { CAP ≤ 1024 }
+        requires cap { IsCap CAP }
         requires hops { length grid.now ≡ HOPS }
         requires rank { rank < ranks grid.now }
-        ensures same_dims { IfOk result (λ s. s.conveyor.dims ≡ grid.now) }
-        ensures same_rank { IfOk result (λ s. s.conveyor.rank ≡ rank) }
-        ensures agrees { IfOk result (λ s. AgreesWith s.conveyor (λ l. []) (λ l. [])) }
-        ensures sound { IfOk result (λ s. IsSound (buffers_of s.conveyor)) }
+        ensures starts { IfOk result (λ s. StartsOut grid.now rank s.conveyor) }
     {
         let conveyor = Conveyor::new(alloc, grid, rank, steady)?;
         conveyor.known();
@@ -79,17 +77,9 @@ impl<const CAP: usize, const HOPS: usize> Side<CAP, HOPS> {
         port: &mut P,
         call: Call,
     ) -> Result<Answer, NoMemory>
-        requires same_dims { P.dims port.old ≡ self.old.conveyor.dims }
-        requires same_rank { P.rank port.old ≡ self.old.conveyor.rank }
-        requires agrees { AgreesWith self.old.conveyor (P.sent port.old) (P.got port.old) }
-        ensures agrees { AgreesWith self.new.conveyor (P.sent port.new) (P.got port.new) }
+        requires at_port { IsAtPort P.Port self.old.conveyor port.old }
         ensures sound { IsSound (buffers_of self.new.conveyor) }
-        ensures self_dims { self.new.conveyor.dims ≡ self.old.conveyor.dims }
-        ensures self_rank { self.new.conveyor.rank ≡ self.old.conveyor.rank }
-        ensures port_dims { P.dims port.new ≡ P.dims port.old }
-        ensures port_rank { P.rank port.new ≡ P.rank port.old }
-        ensures port_slots { P.slots port.new ≡ P.slots port.old }
-        ensures rest { P.rest port.new ≡ P.rest port.old }
+        ensures keeps { KeepsPort P.Port self.old.conveyor self.new.conveyor port.old port.new }
     {
         match call {
             Call::Advance(done) => self.advance(port, done),
@@ -99,9 +89,7 @@ impl<const CAP: usize, const HOPS: usize> Side<CAP, HOPS> {
 
     /// Makes a call that needs no port.
     fn make_alone(&mut self, call: Call) -> Answer
-        ensures same_dims { self.new.conveyor.dims ≡ self.old.conveyor.dims }
-        ensures same_rank { self.new.conveyor.rank ≡ self.old.conveyor.rank }
-        ensures kept { KeepsAgreement self.old.conveyor self.new.conveyor }
+        ensures stays { StaysWithRank self.old.conveyor self.new.conveyor }
         ensures sound { IsSound (buffers_of self.new.conveyor) }
     {
         let answer = match call {
@@ -117,17 +105,9 @@ impl<const CAP: usize, const HOPS: usize> Side<CAP, HOPS> {
     }
 
     fn advance<P: Port<CAP>>(&mut self, port: &mut P, done: bool) -> Result<Answer, NoMemory>
-        requires same_dims { P.dims port.old ≡ self.old.conveyor.dims }
-        requires same_rank { P.rank port.old ≡ self.old.conveyor.rank }
-        requires agrees { AgreesWith self.old.conveyor (P.sent port.old) (P.got port.old) }
-        ensures agrees { AgreesWith self.new.conveyor (P.sent port.new) (P.got port.new) }
+        requires at_port { IsAtPort P.Port self.old.conveyor port.old }
         ensures sound { IsSound (buffers_of self.new.conveyor) }
-        ensures self_dims { self.new.conveyor.dims ≡ self.old.conveyor.dims }
-        ensures self_rank { self.new.conveyor.rank ≡ self.old.conveyor.rank }
-        ensures port_dims { P.dims port.new ≡ P.dims port.old }
-        ensures port_rank { P.rank port.new ≡ P.rank port.old }
-        ensures port_slots { P.slots port.new ≡ P.slots port.old }
-        ensures rest { P.rest port.new ≡ P.rest port.old }
+        ensures keeps { KeepsPort P.Port self.old.conveyor self.new.conveyor port.old port.new }
     {
         if self.conveyor.phase() == Phase::Dormant || self.done && !done {
             return Ok(Answer::NotMade);
@@ -139,9 +119,7 @@ impl<const CAP: usize, const HOPS: usize> Side<CAP, HOPS> {
     }
 
     fn begin(&mut self) -> Answer
-        ensures same_dims { self.new.conveyor.dims ≡ self.old.conveyor.dims }
-        ensures same_rank { self.new.conveyor.rank ≡ self.old.conveyor.rank }
-        ensures kept { KeepsAgreement self.old.conveyor self.new.conveyor }
+        ensures { StaysWithRank self.old.conveyor self.new.conveyor }
     {
         if self.conveyor.phase() != Phase::Dormant {
             return Answer::NotMade;
@@ -151,9 +129,7 @@ impl<const CAP: usize, const HOPS: usize> Side<CAP, HOPS> {
     }
 
     fn push(&mut self, item: Item, to: u32) -> Answer
-        ensures same_dims { self.new.conveyor.dims ≡ self.old.conveyor.dims }
-        ensures same_rank { self.new.conveyor.rank ≡ self.old.conveyor.rank }
-        ensures kept { KeepsAgreement self.old.conveyor self.new.conveyor }
+        ensures { StaysWithRank self.old.conveyor self.new.conveyor }
     {
         if self.conveyor.phase() != Phase::Working || self.done || to >= self.rank_count {
             return Answer::NotMade;
@@ -162,9 +138,7 @@ impl<const CAP: usize, const HOPS: usize> Side<CAP, HOPS> {
     }
 
     fn pull(&mut self) -> Answer
-        ensures same_dims { self.new.conveyor.dims ≡ self.old.conveyor.dims }
-        ensures same_rank { self.new.conveyor.rank ≡ self.old.conveyor.rank }
-        ensures kept { KeepsAgreement self.old.conveyor self.new.conveyor }
+        ensures { StaysWithRank self.old.conveyor self.new.conveyor }
     {
         if self.conveyor.phase() == Phase::Dormant {
             return Answer::NotMade;
@@ -173,9 +147,7 @@ impl<const CAP: usize, const HOPS: usize> Side<CAP, HOPS> {
     }
 
     fn reset(&mut self) -> Answer
-        ensures same_dims { self.new.conveyor.dims ≡ self.old.conveyor.dims }
-        ensures same_rank { self.new.conveyor.rank ≡ self.old.conveyor.rank }
-        ensures kept { KeepsAgreement self.old.conveyor self.new.conveyor }
+        ensures { StaysWithRank self.old.conveyor self.new.conveyor }
     {
         if self.conveyor.phase() != Phase::Complete || self.epoch >= 1000 {
             return Answer::NotMade;

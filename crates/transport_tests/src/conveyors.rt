@@ -1,5 +1,6 @@
 //! The conveyors of all ranks of a plain bank in a test.
-ghost use Rattle.std.specs.Prelude.{◌≡◌, ◌<◌, ◌≤◌, length, slice_index_or, IfOk};
+ghost use Rattle.std.specs.Prelude.{◌≡◌, ◌<◌, length, slice_index_or, IfOk};
+ghost use Rattle.item_buffer.specs.Capacity.{IsCap};
 ghost use Rattle.route_tensor.specs.Grid.{ranks};
 ghost use Rattle.port_bank.specs.Plain.{sent_of, got_of, empty_bank};
 ghost use Rattle.convey.specs.Buffers.{buffers_of};
@@ -18,8 +19,7 @@ pub(crate) fn new_sides<const CAP: usize, const HOPS: usize>(
     grid: &Grid,
     steady: bool,
 ) -> Result<Vec<Side<CAP, HOPS>>, NoMemory>
-    requires some { 0 < CAP }
-    requires small { CAP ≤ 1024 }
+    requires cap { IsCap CAP }
     requires hops { length grid.now ≡ HOPS }
     ensures all { IfOk result (λ v. length v.items ≡ ranks grid.now) }
     ensures together { (d : _) (slots : _)

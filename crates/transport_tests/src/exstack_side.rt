@@ -1,6 +1,8 @@
 //! One rank's exstack in a test: its calls, made wherever their contracts allow them.
 ghost use Rattle.std.specs.Prelude.{◌≡◌};
+ghost use Rattle.item_buffer.specs.Capacity.{IsCap};
 ghost use Rattle.exstack.specs.State.{may_proceed, may_exchange};
+ghost use Rattle.exstack.specs.Parts.{IsAtPort, KeepsPort, StaysWithRank};
 
 use bale_types::{Item, NoMemory};
 use exstack::{Exstack, Poll, Proceed, Stage};
@@ -56,16 +58,13 @@ pub(crate) struct Side<const CAP: usize> {
 }
 
 impl<const CAP: usize> Side<CAP> {
-    ghost use Rattle.std.specs.Prelude.{◌≢◌, ℕ, ◌<◌, ◌≤◌, true, [], ◌∷◌, length, IfOk};
+    ghost use Rattle.std.specs.Prelude.{◌<◌, true, [], length, IfOk};
     ghost use Rattle.route_tensor.specs.Grid.{ranks};
-    ghost use Rattle.port_bank.specs.Logs.{Logs};
-    ghost use Rattle.exstack.specs.State.{dims_of};
-    ghost use Rattle.exstack.specs.Agreement.{AgreesIn, AgreesWith};
+    ghost use Rattle.exstack.specs.Agreement.{AgreesIn};
     ghost use Rattle.exstack.specs.Standing.{IsStack};
 
     pub(crate) fn new(alloc: Global, grid: &Grid, rank: u32) -> Result<Self, NoMemory>
-        requires some { 0 < CAP }
-        requires small { CAP ≤ 1024 }
+        requires cap { IsCap CAP }
         requires one_hop { length grid.now ≡ 1 }
         requires rank { rank < ranks grid.now }
         ensures same_ranks { IfOk result (λ s. s.stack.ranks ≡ ranks grid.now) }
@@ -89,17 +88,9 @@ impl<const CAP: usize> Side<CAP> {
         port: &mut P,
         call: Call,
     ) -> Result<Answer, NoMemory>
-        requires same_dims { P.dims port.old ≡ dims_of self.old.stack }
-        requires same_rank { P.rank port.old ≡ self.old.stack.rank }
-        requires agrees { AgreesWith self.old.stack (P.sent port.old) (P.got port.old) }
-        ensures agrees { AgreesWith self.new.stack (P.sent port.new) (P.got port.new) }
+        requires at_port { IsAtPort P.Port self.old.stack port.old }
         ensures standing { IsStack CAP self.new.stack }
-        ensures self_ranks { self.new.stack.ranks ≡ self.old.stack.ranks }
-        ensures self_rank { self.new.stack.rank ≡ self.old.stack.rank }
-        ensures port_dims { P.dims port.new ≡ P.dims port.old }
-        ensures port_rank { P.rank port.new ≡ P.rank port.old }
-        ensures port_slots { P.slots port.new ≡ P.slots port.old }
-        ensures rest { P.rest port.new ≡ P.rest port.old }
+        ensures keeps { KeepsPort P.Port self.old.stack self.new.stack port.old port.new }
     {
         match call {
             Call::Proceed(done) => self.proceed(port, done),
@@ -110,9 +101,7 @@ impl<const CAP: usize> Side<CAP> {
 
     /// Makes a call that needs no port.
     fn make_alone(&mut self, call: Call) -> Answer
-        ensures same_ranks { self.new.stack.ranks ≡ self.old.stack.ranks }
-        ensures same_rank { self.new.stack.rank ≡ self.old.stack.rank }
-        ensures kept { (sent got : Logs) → AgreesWith self.old.stack sent got → AgreesWith self.new.stack sent got }
+        ensures stays { StaysWithRank self.old.stack self.new.stack }
         ensures standing { IsStack CAP self.new.stack }
     {
         let answer = match call {
@@ -129,17 +118,9 @@ impl<const CAP: usize> Side<CAP> {
     }
 
     fn proceed<P: Port<CAP>>(&mut self, port: &mut P, done: bool) -> Result<Answer, NoMemory>
-        requires same_dims { P.dims port.old ≡ dims_of self.old.stack }
-        requires same_rank { P.rank port.old ≡ self.old.stack.rank }
-        requires agrees { AgreesWith self.old.stack (P.sent port.old) (P.got port.old) }
-        ensures agrees { AgreesWith self.new.stack (P.sent port.new) (P.got port.new) }
+        requires at_port { IsAtPort P.Port self.old.stack port.old }
         ensures standing { IsStack CAP self.new.stack }
-        ensures self_ranks { self.new.stack.ranks ≡ self.old.stack.ranks }
-        ensures self_rank { self.new.stack.rank ≡ self.old.stack.rank }
-        ensures port_dims { P.dims port.new ≡ P.dims port.old }
-        ensures port_rank { P.rank port.new ≡ P.rank port.old }
-        ensures port_slots { P.slots port.new ≡ P.slots port.old }
-        ensures rest { P.rest port.new ≡ P.rest port.old }
+        ensures keeps { KeepsPort P.Port self.old.stack self.new.stack port.old port.new }
     {
         let stage = self.stack.stage();
         if !may_proceed(stage) || self.stack.unread() != 0 || self.done && !done {
@@ -155,17 +136,9 @@ impl<const CAP: usize> Side<CAP> {
     }
 
     fn exchange<P: Port<CAP>>(&mut self, port: &mut P) -> Result<Answer, NoMemory>
-        requires same_dims { P.dims port.old ≡ dims_of self.old.stack }
-        requires same_rank { P.rank port.old ≡ self.old.stack.rank }
-        requires agrees { AgreesWith self.old.stack (P.sent port.old) (P.got port.old) }
-        ensures agrees { AgreesWith self.new.stack (P.sent port.new) (P.got port.new) }
+        requires at_port { IsAtPort P.Port self.old.stack port.old }
         ensures standing { IsStack CAP self.new.stack }
-        ensures self_ranks { self.new.stack.ranks ≡ self.old.stack.ranks }
-        ensures self_rank { self.new.stack.rank ≡ self.old.stack.rank }
-        ensures port_dims { P.dims port.new ≡ P.dims port.old }
-        ensures port_rank { P.rank port.new ≡ P.rank port.old }
-        ensures port_slots { P.slots port.new ≡ P.slots port.old }
-        ensures rest { P.rest port.new ≡ P.rest port.old }
+        ensures keeps { KeepsPort P.Port self.old.stack self.new.stack port.old port.new }
     {
         if !may_exchange(self.stack.stage()) {
             return Ok(Answer::NotMade);
@@ -176,9 +149,7 @@ impl<const CAP: usize> Side<CAP> {
     }
 
     fn push(&mut self, item: Item, to: u32) -> Answer
-        ensures same_ranks { self.new.stack.ranks ≡ self.old.stack.ranks }
-        ensures same_rank { self.new.stack.rank ≡ self.old.stack.rank }
-        ensures kept { (sent got : Logs) → AgreesWith self.old.stack sent got → AgreesWith self.new.stack sent got }
+        ensures { StaysWithRank self.old.stack self.new.stack }
     {
         if self.stack.stage() != Stage::Filling || self.done || to >= self.rank_count {
             return Answer::NotMade;
@@ -187,17 +158,13 @@ impl<const CAP: usize> Side<CAP> {
     }
 
     fn pop(&mut self) -> Answer
-        ensures same_ranks { self.new.stack.ranks ≡ self.old.stack.ranks }
-        ensures same_rank { self.new.stack.rank ≡ self.old.stack.rank }
-        ensures kept { (sent got : Logs) → AgreesWith self.old.stack sent got → AgreesWith self.new.stack sent got }
+        ensures { StaysWithRank self.old.stack self.new.stack }
     {
         Answer::Popped(self.stack.pop())
     }
 
     fn pop_all(&mut self) -> Answer
-        ensures same_ranks { self.new.stack.ranks ≡ self.old.stack.ranks }
-        ensures same_rank { self.new.stack.rank ≡ self.old.stack.rank }
-        ensures kept { (sent got : Logs) → AgreesWith self.old.stack sent got → AgreesWith self.new.stack sent got }
+        ensures { StaysWithRank self.old.stack self.new.stack }
     {
         let Some(sender) = self.stack.next_sender() else {
             return Answer::Popped(None);
@@ -219,17 +186,13 @@ impl<const CAP: usize> Side<CAP> {
     }
 
     fn unpop(&mut self) -> Answer
-        ensures same_ranks { self.new.stack.ranks ≡ self.old.stack.ranks }
-        ensures same_rank { self.new.stack.rank ≡ self.old.stack.rank }
-        ensures kept { (sent got : Logs) → AgreesWith self.old.stack sent got → AgreesWith self.new.stack sent got }
+        ensures { StaysWithRank self.old.stack self.new.stack }
     {
         Answer::Unpopped(self.stack.unpop())
     }
 
     fn reset(&mut self) -> Answer
-        ensures same_ranks { self.new.stack.ranks ≡ self.old.stack.ranks }
-        ensures same_rank { self.new.stack.rank ≡ self.old.stack.rank }
-        ensures kept { (sent got : Logs) → AgreesWith self.old.stack sent got → AgreesWith self.new.stack sent got }
+        ensures { StaysWithRank self.old.stack self.new.stack }
     {
         if self.stack.stage() != Stage::AllDone || self.epoch >= 1000 {
             return Answer::NotMade;

@@ -1,5 +1,6 @@
 //! The exstacks of all ranks of a plain bank in a test.
-ghost use Rattle.std.specs.Prelude.{◌≡◌, ◌<◌, ◌≤◌, ◌∷◌, [], length, slice_index_or, IfOk};
+ghost use Rattle.std.specs.Prelude.{◌≡◌, ◌<◌, ◌∷◌, [], length, slice_index_or, IfOk};
+ghost use Rattle.item_buffer.specs.Capacity.{IsCap};
 ghost use Rattle.route_tensor.specs.Grid.{ranks};
 ghost use Rattle.port_bank.specs.Plain.{sent_of, got_of, empty_bank};
 ghost use Rattle.exstack.specs.Law.{AgreeTogether};
@@ -16,8 +17,7 @@ pub(crate) fn new_sides<const CAP: usize>(
     alloc: Global,
     grid: &Grid,
 ) -> Result<Vec<Side<CAP>>, NoMemory>
-    requires some { 0 < CAP }
-    requires small { CAP ≤ 1024 }
+    requires cap { IsCap CAP }
     requires one_hop { length grid.now ≡ 1 }
     ensures all { IfOk result (λ v. length v.items ≡ ranks grid.now) }
     ensures together { (d : _) (slots : _)

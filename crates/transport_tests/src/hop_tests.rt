@@ -1,6 +1,7 @@
 //! Rank states by hand, with ample memory: a route of three hops, the course of an epoch, and when parcels are full and due.
-ghost use Rattle.std.specs.Prelude.{◌≡◌, ◌≢◌, ◌<◌, ◌≤◌, [], length, true, false, Some, IfOk};
+ghost use Rattle.std.specs.Prelude.{◌≡◌, ◌≢◌, ◌<◌, length, true, false, Some, IfOk};
 ghost use Rattle.std.specs.List.{All};
+ghost use Rattle.item_buffer.specs.Capacity.{IsCap};
 ghost use Rattle.item_buffer.specs.Contents.{IsFresh, blank};
 ghost use Rattle.route_tensor.specs.Grid.{ranks};
 ghost use Rattle.route_tensor.specs.Link.{links};
@@ -33,8 +34,7 @@ fn begun<const CAP: usize, const HOPS: usize>(
     rank: u32,
     steady: bool,
 ) -> Result<RankState<CAP, HOPS>, NoMemory>
-    requires some { 0 < CAP }
-    requires small { CAP ≤ 1024 }
+    requires cap { IsCap CAP }
     requires hops { length grid.now ≡ HOPS }
     requires rank { rank < ranks grid.now }
     ensures dims { IfOk result (λ st. st.dims ≡ grid.now) }

@@ -7,6 +7,7 @@ ghost use Rattle.route_tensor.specs.Ends.{hop_at, sender_at, reader_at};
 ghost use Rattle.port_bank.specs.Logs.{lasts};
 ghost use Rattle.port_bank.specs.Port.{IsSlots};
 ghost use Rattle.port_bank.specs.Relay.{RelayLaw};
+ghost use Rattle.port_bank.specs.Frames.{SamePort};
 
 use bale_types::{Entry, Item, NoMemory, Tag};
 use item_buffer::Parcel;
@@ -31,10 +32,7 @@ fn post_item<P: Port<1>>(
     requires law { RelayLaw (P.dims port.old) (P.rank port.old) (P.sent port.old) (P.got port.old) }
     requires out { out.old ≡ blank (lasts (P.sent port.old link)) }
     requires few { out.old.epoch < 1000 }
-    ensures rest { P.rest port.new ≡ P.rest port.old }
-    ensures same_slots { P.slots port.new ≡ P.slots port.old }
-    ensures same_dims { P.dims port.new ≡ P.dims port.old }
-    ensures same_rank { P.rank port.new ≡ P.rank port.old }
+    ensures same_port { SamePort P.Port port.old port.new }
     ensures same_got { P.got port.new ≡ P.got port.old }
     ensures law { RelayLaw (P.dims port.new) (P.rank port.new) (P.sent port.new) (P.got port.new) }
     ensures out { OnOk result (out.new ≡ blank (lasts (P.sent port.new link))) }
@@ -63,10 +61,7 @@ fn collect_item<P: Port<1>>(port: &mut P, link: u32, into: &mut Parcel<1>) -> Op
     requires law { RelayLaw (P.dims port.old) (P.rank port.old) (P.sent port.old) (P.got port.old) }
     requires into { into.old ≡ blank (lasts (P.got port.old link)) }
     requires few { into.old.epoch < 1000 }
-    ensures rest { P.rest port.new ≡ P.rest port.old }
-    ensures same_slots { P.slots port.new ≡ P.slots port.old }
-    ensures same_dims { P.dims port.new ≡ P.dims port.old }
-    ensures same_rank { P.rank port.new ≡ P.rank port.old }
+    ensures same_port { SamePort P.Port port.old port.new }
     ensures same_sent { P.sent port.new ≡ P.sent port.old }
     ensures law { RelayLaw (P.dims port.new) (P.rank port.new) (P.sent port.new) (P.got port.new) }
     ensures into { into.new ≡ blank (lasts (P.got port.new link)) }
@@ -154,10 +149,7 @@ fn answer_to<P: Port<1>>(
     requires into { into.old ≡ blank (lasts (P.got port.old link)) }
     requires few_out { out.old.epoch < 1000 }
     requires few_into { into.old.epoch < 1000 }
-    ensures rest { P.rest port.new ≡ P.rest port.old }
-    ensures same_slots { P.slots port.new ≡ P.slots port.old }
-    ensures same_dims { P.dims port.new ≡ P.dims port.old }
-    ensures same_rank { P.rank port.new ≡ P.rank port.old }
+    ensures same_port { SamePort P.Port port.old port.new }
     ensures law { RelayLaw (P.dims port.new) (P.rank port.new) (P.sent port.new) (P.got port.new) }
     ensures out { OnOk result (out.new ≡ blank (lasts (P.sent port.new link))) }
     ensures into { OnOk result (into.new ≡ blank (lasts (P.got port.new link))) }
@@ -198,9 +190,7 @@ fn answers_to<P: Port<1>>(
     requires none_sent { lasts (P.sent port.old link) ≡ 0 }
     requires none_got { lasts (P.got port.old link) ≡ 0 }
     requires few { length calls.now < 1000 }
-    ensures rest { P.rest port.new ≡ P.rest port.old }
-    ensures same_slots { P.slots port.new ≡ P.slots port.old }
-    ensures same_dims { P.dims port.new ≡ P.dims port.old }
+    ensures same_port { SamePort P.Port port.old port.new }
 {
     let mut out = Parcel::new(alloc)?;
     let mut into = Parcel::new(alloc)?;

@@ -1,5 +1,5 @@
 //! A collect: a hear where it is due, a look into the marked link, and the exchange.
-ghost use Rattle.std.specs.Prelude.{◌≡◌, ◌≢◌, ℕ, suc, ◌+◌, ◌*◌, ◌^◌, ◌<◌, ◌≤◌, false, take, length};
+ghost use Rattle.std.specs.Prelude.{◌≡◌, ◌≢◌, ℕ, suc, ◌^◌, ◌<◌, ◌≤◌, false, take, length};
 ghost use mathlib.Core.Option.{some};
 ghost use lib.ListN.{get_elem?};
 ghost use Rattle.bale_types.specs.Stream.{RoseOrFull};
@@ -8,8 +8,8 @@ ghost use Rattle.route_tensor.specs.Link.{links};
 ghost use Rattle.route_tensor.specs.Ends.{hop_at, sender_at, reader_at};
 ghost use Rattle.link_slots.specs.Logs.{out_of, in_of, with_in, taken_more, listens};
 ghost use Rattle.link_slots.specs.View.{own_logs, with_logs};
-ghost use Rattle.link_slots.specs.Shape.{IsBoard, IsBlank};
-ghost use Rattle.link_slots.specs.Told.{IsManned};
+ghost use Rattle.link_slots.specs.Shape.{IsBlank};
+ghost use Rattle.link_slots.specs.Told.{StaysSeated, IsAtIn};
 ghost use Rattle.list_laws.specs.Counts.{counted};
 ghost use Rattle.link_slots.specs.Counts.{IsInEnd, IsHeard, IsWire, ElseKept, AreGood};
 ghost use Rattle.link_slots.specs.Doorbell.{is_due, HeardWhere, looked_where_marked, LookedFor};
@@ -31,17 +31,14 @@ fn hear_if_due<const CAP: usize>(
     wire: &Wire,
     link: u32,
 )
-    requires table { (place.old.table_id ≡ top.now.table_id) × IsBoard top.now.key top.now.table_id }
-    requires seat { IsManned top.now.key place.old.me }
-    requires link { (link < links top.now.key.dims) × (reader_at top.now.key.dims link ≡ place.old.me.0.pick) }
+    requires at { IsAtIn top.now.key top.now.table_id place.old.table_id place.old.me link }
     requires long { length (own_logs place.old.me.0).ins ≡ links top.now.key.dims }
     requires end { IsInEnd top.now.key.slots (in_of (own_logs place.old.me.0) link) end.now.taken
         end.now.waiting end.now.look_ins end.now.noted }
     requires wire { IsWire top.now.key.dims link wire.now.bell wire.now.mask wire.now.hop }
     requires ear { IsHeard top.now.key place.old.me.0.pick (hop_at top.now.key.dims link)
         (own_logs place.old.me.0) ear.old.marks ear.old.hears }
-    ensures table { place.new.table_id ≡ place.old.table_id }
-    ensures seat { IsManned top.now.key place.new.me }
+    ensures stays { StaysSeated top.now.key place.old.table_id place.new.table_id place.new.me }
     ensures end { IsInEnd top.now.key.slots (in_of (own_logs place.new.me.0) link) end.now.taken
         end.now.waiting end.now.look_ins end.now.noted }
     ensures ear { IsHeard top.now.key place.old.me.0.pick (hop_at top.now.key.dims link)
@@ -75,9 +72,7 @@ fn look_if_marked<const CAP: usize>(
     wire: &Wire,
     link: u32,
 )
-    requires table { (place.old.table_id ≡ top.now.table_id) × IsBoard top.now.key top.now.table_id }
-    requires seat { IsManned top.now.key place.old.me }
-    requires link { (link < links top.now.key.dims) × (reader_at top.now.key.dims link ≡ place.old.me.0.pick) }
+    requires at { IsAtIn top.now.key top.now.table_id place.old.table_id place.old.me link }
     requires long { length (own_logs place.old.me.0).ins ≡ links top.now.key.dims }
     requires end { IsInEnd top.now.key.slots (in_of (own_logs place.old.me.0) link) end.old.taken
         end.old.waiting end.old.look_ins end.old.noted }
@@ -86,8 +81,7 @@ fn look_if_marked<const CAP: usize>(
     requires ear { IsHeard top.now.key place.old.me.0.pick (hop_at top.now.key.dims link)
         (own_logs place.old.me.0) ear.old.marks ear.old.hears }
     requires good { AreGood CAP top.now.key link (in_of (own_logs place.old.me.0) link) }
-    ensures table { place.new.table_id ≡ place.old.table_id }
-    ensures seat { IsManned top.now.key place.new.me }
+    ensures stays { StaysSeated top.now.key place.old.table_id place.new.table_id place.new.me }
     ensures end { IsInEnd top.now.key.slots (in_of (own_logs place.new.me.0) link) end.new.taken
         end.new.waiting end.new.look_ins end.new.noted }
     ensures ear { IsHeard top.now.key place.old.me.0.pick (hop_at top.now.key.dims link)
@@ -122,9 +116,7 @@ fn find_parcel<const CAP: usize>(
     wire: &Wire,
     link: u32,
 )
-    requires table { (place.old.table_id ≡ top.now.table_id) × IsBoard top.now.key top.now.table_id }
-    requires seat { IsManned top.now.key place.old.me }
-    requires link { (link < links top.now.key.dims) × (reader_at top.now.key.dims link ≡ place.old.me.0.pick) }
+    requires at { IsAtIn top.now.key top.now.table_id place.old.table_id place.old.me link }
     requires long { length (own_logs place.old.me.0).ins ≡ links top.now.key.dims }
     requires end { IsInEnd top.now.key.slots (in_of (own_logs place.old.me.0) link) end.old.taken
         end.old.waiting end.old.look_ins end.old.noted }
@@ -132,8 +124,7 @@ fn find_parcel<const CAP: usize>(
     requires ear { IsHeard top.now.key place.old.me.0.pick (hop_at top.now.key.dims link)
         (own_logs place.old.me.0) ear.old.marks ear.old.hears }
     requires good { AreGood CAP top.now.key link (in_of (own_logs place.old.me.0) link) }
-    ensures table { place.new.table_id ≡ place.old.table_id }
-    ensures seat { IsManned top.now.key place.new.me }
+    ensures stays { StaysSeated top.now.key place.old.table_id place.new.table_id place.new.me }
     ensures end { IsInEnd top.now.key.slots (in_of (own_logs place.new.me.0) link) end.new.taken
         end.new.waiting end.new.look_ins end.new.noted }
     ensures ear { IsHeard top.now.key place.old.me.0.pick (hop_at top.now.key.dims link)
@@ -177,9 +168,7 @@ pub(crate) fn collect_on<const CAP: usize>(
     link: u32,
     parcel: &mut Parcel<CAP>,
 ) -> Collected
-    requires table { (place.old.table_id ≡ top.now.table_id) × IsBoard top.now.key top.now.table_id }
-    requires seat { IsManned top.now.key place.old.me }
-    requires link { (link < links top.now.key.dims) × (reader_at top.now.key.dims link ≡ place.old.me.0.pick) }
+    requires at { IsAtIn top.now.key top.now.table_id place.old.table_id place.old.me link }
     requires slots { slots ≡ top.now.key.slots }
     requires long { length (own_logs place.old.me.0).ins ≡ links top.now.key.dims }
     requires end { IsInEnd top.now.key.slots (in_of (own_logs place.old.me.0) link) end.old.taken
@@ -189,8 +178,7 @@ pub(crate) fn collect_on<const CAP: usize>(
         (own_logs place.old.me.0) ear.old.marks ear.old.hears }
     requires good { AreGood CAP top.now.key link (in_of (own_logs place.old.me.0) link) }
     requires empty { IsBlank parcel.old }
-    ensures table { place.new.table_id ≡ place.old.table_id }
-    ensures seat { IsManned top.now.key place.new.me }
+    ensures stays { StaysSeated top.now.key place.old.table_id place.new.table_id place.new.me }
     ensures end { IsInEnd top.now.key.slots (in_of (own_logs place.new.me.0) link) end.new.taken
         end.new.waiting end.new.look_ins end.new.noted }
     ensures ear { IsHeard top.now.key place.old.me.0.pick (hop_at top.now.key.dims link)

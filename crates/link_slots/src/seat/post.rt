@@ -1,12 +1,10 @@
 //! A post: a look for room where no empty slot is at hand, the exchange, and the ring.
-ghost use Rattle.std.specs.Prelude.{◌≡◌, ◌≢◌, suc, ◌+◌, ◌*◌, ◌<◌, ◌≤◌, [], ◌∷◌, ◌++◌, length};
-ghost use Rattle.route_tensor.specs.Link.{links};
-ghost use Rattle.route_tensor.specs.Ends.{sender_at};
+ghost use Rattle.std.specs.Prelude.{◌≡◌, ◌≢◌, suc, ◌<◌, ◌≤◌, length};
 ghost use Rattle.link_slots.specs.Logs.{out_of, with_out, sent_of, got_of, sent_more, found_full};
 ghost use Rattle.link_slots.specs.View.{own_logs, with_logs};
-ghost use Rattle.link_slots.specs.Shape.{IsBoard, IsBlank, MayFollow, KeepsLaw};
-ghost use Rattle.link_slots.specs.Told.{IsManned};
-ghost use Rattle.link_slots.specs.Counts.{IsOutEnd, IsWire};
+ghost use Rattle.link_slots.specs.Shape.{IsBlank, MayFollow, KeepsLaw};
+ghost use Rattle.link_slots.specs.Told.{IsAtOut, StaysSeated};
+ghost use Rattle.link_slots.specs.Counts.{IsOutEnd, IsWire, HasPosted};
 
 use crate::seat::ends::{OutEnd, slot_of};
 use crate::table::rule::{Place, Top};
@@ -23,15 +21,12 @@ fn make_room<const CAP: usize>(
     slots: u32,
     link: u32,
 )
-    requires table { (place.old.table_id ≡ top.now.table_id) × IsBoard top.now.key top.now.table_id }
-    requires seat { IsManned top.now.key place.old.me }
-    requires link { (link < links top.now.key.dims) × (sender_at top.now.key.dims link ≡ place.old.me.0.pick) }
+    requires at { IsAtOut top.now.key top.now.table_id place.old.table_id place.old.me link }
     requires slots { slots ≡ top.now.key.slots }
     requires long { link < length (own_logs place.old.me.0).outs }
     requires end { IsOutEnd top.now.key.slots (out_of (own_logs place.old.me.0) link) end.old.sent
         end.old.spare }
-    ensures table { place.new.table_id ≡ place.old.table_id }
-    ensures seat { IsManned top.now.key place.new.me }
+    ensures stays { StaysSeated top.now.key place.old.table_id place.new.table_id place.new.me }
     ensures end { IsOutEnd top.now.key.slots (out_of (own_logs place.new.me.0) link) end.new.sent
         end.new.spare }
     ensures here { place.new.me.0 ≡ with_logs place.old.me.0
@@ -62,9 +57,7 @@ pub(crate) fn post_on<const CAP: usize>(
     link: u32,
     parcel: &mut Parcel<CAP>,
 ) -> Posted
-    requires table { (place.old.table_id ≡ top.now.table_id) × IsBoard top.now.key top.now.table_id }
-    requires seat { IsManned top.now.key place.old.me }
-    requires link { (link < links top.now.key.dims) × (sender_at top.now.key.dims link ≡ place.old.me.0.pick) }
+    requires at { IsAtOut top.now.key top.now.table_id place.old.table_id place.old.me link }
     requires slots { slots ≡ top.now.key.slots }
     requires long { link < length (own_logs place.old.me.0).outs }
     requires end { IsOutEnd top.now.key.slots (out_of (own_logs place.old.me.0) link) end.old.sent
@@ -74,33 +67,14 @@ pub(crate) fn post_on<const CAP: usize>(
     requires law { KeepsLaw top.now.key.dims place.old.me.0.pick
         (sent_of (with_out (own_logs place.old.me.0) link
         (sent_more (out_of (own_logs place.old.me.0) link) parcel.old))) (got_of (own_logs place.old.me.0)) }
-    ensures table { place.new.table_id ≡ place.old.table_id }
-    ensures seat { IsManned top.now.key place.new.me }
+    ensures stays { StaysSeated top.now.key place.old.table_id place.new.table_id place.new.me }
     ensures end { IsOutEnd top.now.key.slots (out_of (own_logs place.new.me.0) link) end.new.sent
         end.new.spare }
     ensures here { place.new.me.0 ≡ with_logs place.old.me.0
         (with_out (own_logs place.old.me.0) link (out_of (own_logs place.new.me.0) link)) }
-    ensures sent { result ≡ Posted.Sent → (out_of (own_logs place.new.me.0) link).sent
-        ≡ (out_of (own_logs place.old.me.0) link).sent ++ parcel.old ∷ [] }
-    ensures offered { result ≡ Posted.Sent → (out_of (own_logs place.new.me.0) link).offered
-        ≡ length (out_of (own_logs place.new.me.0) link).sent }
     ensures emptied { result ≡ Posted.Sent → IsBlank parcel.new }
-    ensures room { result ≡ Posted.Sent → length (out_of (own_logs place.old.me.0) link).sent <
-        (out_of (own_logs place.new.me.0) link).room }
-    ensures looks { (out_of (own_logs place.old.me.0) link).looks ≤ (out_of (own_logs place.new.me.0) link).looks }
-    ensures once { (out_of (own_logs place.new.me.0) link).looks ≤ suc (out_of (own_logs place.old.me.0) link).looks }
-    ensures at_hand { length (out_of (own_logs place.old.me.0) link).sent < (out_of (own_logs place.old.me.0) link).room
-        → (result ≡ Posted.Sent) × ((out_of (own_logs place.new.me.0) link).looks
-        ≡ (out_of (own_logs place.old.me.0) link).looks) }
-    ensures found { result ≡ Posted.NoRoom → out_of (own_logs place.new.me.0) link
-        ≡ found_full (out_of (own_logs place.old.me.0) link) }
-    ensures looked { result ≡ Posted.NoRoom → (out_of (own_logs place.new.me.0) link).looks
-        ≡ suc (out_of (own_logs place.old.me.0) link).looks }
-    ensures full { result ≡ Posted.NoRoom → (out_of (own_logs place.new.me.0) link).room
-        ≡ length (out_of (own_logs place.old.me.0) link).sent }
-    ensures all_room { result ≡ Posted.NoRoom → top.now.key.slots ≤ (out_of (own_logs place.new.me.0) link).room }
-    ensures not_sent { result ≡ Posted.NoRoom → (out_of (own_logs place.new.me.0) link).sent
-        ≡ (out_of (own_logs place.old.me.0) link).sent }
+    ensures link { HasPosted top.now.key.slots (out_of (own_logs place.old.me.0) link)
+        (out_of (own_logs place.new.me.0) link) parcel.old result }
     ensures kept { result ≡ Posted.NoRoom → parcel.new ≡ parcel.old }
 {
     make_room(top, place, end, slots, link);

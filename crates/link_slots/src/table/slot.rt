@@ -1,5 +1,6 @@
 //! A slot of the bank's table: the place of one parcel on its way.
-ghost use Rattle.std.specs.Prelude.{◌≡◌, ◌<◌, ◌≤◌, IfOk};
+ghost use Rattle.std.specs.Prelude.{◌≡◌, ◌<◌, IfOk};
+ghost use Rattle.item_buffer.specs.Capacity.{IsCap};
 ghost use Rattle.item_buffer.specs.Contents.{blank};
 
 use bale_types::NoMemory;
@@ -26,8 +27,7 @@ impl<const CAP: usize> Model for Slot<CAP> {
 impl<const CAP: usize> Slot<CAP> {
     /// A slot with an empty parcel.
     pub(crate) fn new(alloc: Global) -> Result<Self, NoMemory>
-        requires some { 0 < CAP }
-        requires small { CAP ≤ 1024 }
+        requires cap { IsCap CAP }
         ensures { IfOk result (λ s. s ≡ blank 0) }
     {
         Ok(Slot {

@@ -3,16 +3,15 @@ ghost use Rattle.std.specs.Prelude.{◌≡◌, ◌+◌, ◌*◌, ◌^◌, ◌<�
 ghost use mathlib.Core.Option.{some};
 ghost use lib.ListN.{get_elem?};
 ghost use Rattle.item_buffer.specs.Contents.{Contents};
-ghost use Rattle.route_tensor.specs.Link.{links};
-ghost use Rattle.route_tensor.specs.Ends.{sender_at, reader_at};
+ghost use Rattle.route_tensor.specs.Ends.{sender_at};
 ghost use Rattle.atomic_table.specs.Table.{rest};
 ghost use Rattle.port_bank.specs.Flow.{Begins};
 ghost use Rattle.link_slots.specs.Logs.{out_of, in_of, with_out, with_in, sent_of, got_of, sent_more, all_offered, taken_more};
 ghost use Rattle.link_slots.specs.View.{own_logs, with_logs};
 ghost use Rattle.link_slots.specs.Wiring.{slot_of, bell_word};
 ghost use Rattle.link_slots.specs.Plays.{after_hear};
-ghost use Rattle.link_slots.specs.Shape.{IsBoard, wiring, IsBlank, MayFollow, KeepsLaw};
-ghost use Rattle.link_slots.specs.Told.{IsManned, room_found, posted, looked_in, released, spare_brought, parcel_brought, rung, heard};
+ghost use Rattle.link_slots.specs.Shape.{wiring, IsBlank, MayFollow, KeepsLaw};
+ghost use Rattle.link_slots.specs.Told.{room_found, posted, looked_in, released, spare_brought, parcel_brought, rung, heard, IsAtOut, StaysSeated, IsAtIn};
 
 use crate::table::plays::{
     BringParcel, BringSpare, Hear, LookBeforeHear, LookBeforeRing, LookForRoom, LookIn, Post,
@@ -28,11 +27,8 @@ pub(crate) fn look_for_room<const CAP: usize>(
     place: &mut Place<CAP>,
     link: u32,
 ) -> u64
-    requires table { (place.old.table_id ≡ top.now.table_id) × IsBoard top.now.key top.now.table_id }
-    requires seat { IsManned top.now.key place.old.me }
-    requires link { (link < links top.now.key.dims) × (sender_at top.now.key.dims link ≡ place.old.me.0.pick) }
-    ensures table { place.new.table_id ≡ place.old.table_id }
-    ensures seat { IsManned top.now.key place.new.me }
+    requires at { IsAtOut top.now.key top.now.table_id place.old.table_id place.old.me link }
+    ensures stays { StaysSeated top.now.key place.old.table_id place.new.table_id place.new.me }
     ensures found { room_found CAP top.now.key link place.old.me result place.new.me }
 {
     top.load::<LookForRoom>(place, 16 * (2 * link as usize + 1))
@@ -40,12 +36,9 @@ pub(crate) fn look_for_room<const CAP: usize>(
 
 /// Brings the slot of the link's next post to the front.
 pub(crate) fn bring_spare<const CAP: usize>(top: &Top<CAP>, place: &mut Place<CAP>, link: u32)
-    requires table { (place.old.table_id ≡ top.now.table_id) × IsBoard top.now.key top.now.table_id }
-    requires seat { IsManned top.now.key place.old.me }
-    requires link { (link < links top.now.key.dims) × (sender_at top.now.key.dims link ≡ place.old.me.0.pick) }
+    requires at { IsAtOut top.now.key top.now.table_id place.old.table_id place.old.me link }
     requires room { length (out_of (own_logs place.old.me.0) link).sent < (out_of (own_logs place.old.me.0) link).room }
-    ensures table { place.new.table_id ≡ place.old.table_id }
-    ensures seat { IsManned top.now.key place.new.me }
+    ensures stays { StaysSeated top.now.key place.old.table_id place.new.table_id place.new.me }
     ensures front { spare_brought CAP top.now.key link place.old.me place.new.me }
 {
     top.load::<BringSpare>(place, 16 * (2 * link as usize));
@@ -76,17 +69,14 @@ pub(crate) fn send<const CAP: usize>(
     slot: usize,
     parcel: &mut Parcel<CAP>,
 )
-    requires table { (place.old.table_id ≡ top.now.table_id) × IsBoard top.now.key top.now.table_id }
-    requires seat { IsManned top.now.key place.old.me }
-    requires link { (link < links top.now.key.dims) × (sender_at top.now.key.dims link ≡ place.old.me.0.pick) }
+    requires at { IsAtOut top.now.key top.now.table_id place.old.table_id place.old.me link }
     requires room { length (out_of (own_logs place.old.me.0) link).sent < (out_of (own_logs place.old.me.0) link).room }
     requires slot { slot ≡ slot_of (wiring top.now.key) link (length (out_of (own_logs place.old.me.0) link).sent) }
     requires parcel { MayFollow top.now.key.dims CAP link (out_of (own_logs place.old.me.0) link).sent parcel.old }
     requires law { KeepsLaw top.now.key.dims place.old.me.0.pick
         (sent_of (with_out (own_logs place.old.me.0) link
         (sent_more (out_of (own_logs place.old.me.0) link) parcel.old))) (got_of (own_logs place.old.me.0)) }
-    ensures table { place.new.table_id ≡ place.old.table_id }
-    ensures seat { IsManned top.now.key place.new.me }
+    ensures stays { StaysSeated top.now.key place.old.table_id place.new.table_id place.new.me }
     ensures posted { place.new.me.0 ≡ with_logs place.old.me.0
         (with_out (own_logs place.old.me.0) link (sent_more (out_of (own_logs place.old.me.0) link) parcel.old)) }
     ensures empty { IsBlank parcel.new }
@@ -105,12 +95,9 @@ pub(crate) fn ring<const CAP: usize>(
     word: usize,
     mask: u64,
 )
-    requires table { (place.old.table_id ≡ top.now.table_id) × IsBoard top.now.key top.now.table_id }
-    requires seat { IsManned top.now.key place.old.me }
-    requires link { (link < links top.now.key.dims) × (sender_at top.now.key.dims link ≡ place.old.me.0.pick) }
+    requires at { IsAtOut top.now.key top.now.table_id place.old.table_id place.old.me link }
     requires bell { (word ≡ bell_word (wiring top.now.key) link) × (mask ≡ 2 ^ (wiring top.now.key).bit link) }
-    ensures table { place.new.table_id ≡ place.old.table_id }
-    ensures seat { IsManned top.now.key place.new.me }
+    ensures stays { StaysSeated top.now.key place.old.table_id place.new.table_id place.new.me }
     ensures rung { place.new.me.0 ≡ with_logs place.old.me.0
         (with_out (own_logs place.old.me.0) link (all_offered (out_of (own_logs place.old.me.0) link))) }
 {
@@ -127,12 +114,9 @@ pub(crate) fn hear<const CAP: usize>(
     link: u32,
     word: usize,
 ) -> u64
-    requires table { (place.old.table_id ≡ top.now.table_id) × IsBoard top.now.key top.now.table_id }
-    requires seat { IsManned top.now.key place.old.me }
-    requires link { (link < links top.now.key.dims) × (reader_at top.now.key.dims link ≡ place.old.me.0.pick) }
+    requires at { IsAtIn top.now.key top.now.table_id place.old.table_id place.old.me link }
     requires bell { word ≡ bell_word (wiring top.now.key) link }
-    ensures table { place.new.table_id ≡ place.old.table_id }
-    ensures seat { IsManned top.now.key place.new.me }
+    ensures stays { StaysSeated top.now.key place.old.table_id place.new.table_id place.new.me }
     ensures heard { place.new.me.0 ≡ with_logs place.old.me.0
         (after_hear (wiring top.now.key) ((wiring top.now.key).bell link) result (own_logs place.old.me.0)) }
 {
@@ -144,12 +128,9 @@ pub(crate) fn hear<const CAP: usize>(
 
 /// Loads how many parcels were posted on the marked link, takes the slots of those that are new, and takes the mark away.
 pub(crate) fn look_in<const CAP: usize>(top: &Top<CAP>, place: &mut Place<CAP>, link: u32) -> u64
-    requires table { (place.old.table_id ≡ top.now.table_id) × IsBoard top.now.key top.now.table_id }
-    requires seat { IsManned top.now.key place.old.me }
-    requires link { (link < links top.now.key.dims) × (reader_at top.now.key.dims link ≡ place.old.me.0.pick) }
+    requires at { IsAtIn top.now.key top.now.table_id place.old.table_id place.old.me link }
     requires marked { (in_of (own_logs place.old.me.0) link).marked ≡ true }
-    ensures table { place.new.table_id ≡ place.old.table_id }
-    ensures seat { IsManned top.now.key place.new.me }
+    ensures stays { StaysSeated top.now.key place.old.table_id place.new.table_id place.new.me }
     ensures found { looked_in CAP top.now.key link place.old.me result place.new.me }
 {
     top.load::<LookIn>(place, 16 * (2 * link as usize))
@@ -157,12 +138,9 @@ pub(crate) fn look_in<const CAP: usize>(top: &Top<CAP>, place: &mut Place<CAP>, 
 
 /// Brings the slot of the link's next parcel to the front.
 pub(crate) fn bring_parcel<const CAP: usize>(top: &Top<CAP>, place: &mut Place<CAP>, link: u32)
-    requires table { (place.old.table_id ≡ top.now.table_id) × IsBoard top.now.key top.now.table_id }
-    requires seat { IsManned top.now.key place.old.me }
-    requires link { (link < links top.now.key.dims) × (reader_at top.now.key.dims link ≡ place.old.me.0.pick) }
+    requires at { IsAtIn top.now.key top.now.table_id place.old.table_id place.old.me link }
     requires known { (in_of (own_logs place.old.me.0) link).taken < length (in_of (own_logs place.old.me.0) link).seen }
-    ensures table { place.new.table_id ≡ place.old.table_id }
-    ensures seat { IsManned top.now.key place.new.me }
+    ensures stays { StaysSeated top.now.key place.old.table_id place.new.table_id place.new.me }
     ensures front { parcel_brought CAP top.now.key link place.old.me place.new.me }
 {
     top.load::<BringParcel>(place, 16 * (2 * link as usize + 1));
@@ -176,14 +154,11 @@ pub(crate) fn receive<const CAP: usize>(
     slot: usize,
     parcel: &mut Parcel<CAP>,
 )
-    requires table { (place.old.table_id ≡ top.now.table_id) × IsBoard top.now.key top.now.table_id }
-    requires seat { IsManned top.now.key place.old.me }
-    requires link { (link < links top.now.key.dims) × (reader_at top.now.key.dims link ≡ place.old.me.0.pick) }
+    requires at { IsAtIn top.now.key top.now.table_id place.old.table_id place.old.me link }
     requires known { (in_of (own_logs place.old.me.0) link).taken < length (in_of (own_logs place.old.me.0) link).seen }
     requires slot { slot ≡ slot_of (wiring top.now.key) link (in_of (own_logs place.old.me.0) link).taken }
     requires empty { IsBlank parcel.old }
-    ensures table { place.new.table_id ≡ place.old.table_id }
-    ensures seat { IsManned top.now.key place.new.me }
+    ensures stays { StaysSeated top.now.key place.old.table_id place.new.table_id place.new.me }
     ensures released { place.new.me.0 ≡ with_logs place.old.me.0
         (with_in (own_logs place.old.me.0) link (taken_more (in_of (own_logs place.old.me.0) link))) }
     ensures parcel { get_elem? (in_of (own_logs place.old.me.0) link).seen (in_of (own_logs place.old.me.0) link).taken

@@ -1,6 +1,6 @@
 use Rattle.std.proofs.Common.{rules, ◌≡◌, ◌+◌, ◌<◌, ◌≤◌, ℕ, false, [], ◌∷◌, length, slice_get, refl, arith, sym, ap, subst, ◌∙◌}
 use Rattle.list_laws.proofs.Lists.{get_once}
-use Rattle.list_laws.proofs.Results.{on_ok_from, if_ok_from, if_ok_is}
+use Rattle.list_laws.proofs.Results.{if_ok_from, if_ok_is}
 use Rattle.route_tensor.specs.Grid.{ranks}
 use Rattle.route_tensor.specs.Link.{links}
 use Rattle.port_bank.specs.Plain.{Bank, closed, sent_of}
@@ -9,8 +9,8 @@ use Rattle.rank_group.proofs.Ended.{all_sent, none_first}
 use Rattle.rank_group.specs.Ranks.{IsOrder}
 use Rattle.rank_group.specs.declared.closed_round.ClosedRound.{ClosedRound}
 use Rattle.rank_group.specs.Rounds.{round_of}
-use Rattle.round_program.specs.Replies.{HaveHeard}
-use Rattle.biconvey.specs.Drives.{TellsExchange, askers_of}
+use Rattle.biconvey.specs.Drives.{askers_of}
+use Rattle.biconvey.specs.Driven.{HasExchanged, HasSweptBoth}
 use Rattle.biconvey.proofs.Ended.{first, banks_first, world_first, begins, steps_at, fewest_at, world_last, banks_last, have_heard, told}
 use Rattle.biconvey.proofs.drive.drive_both.Goals as goal
 
@@ -22,62 +22,52 @@ run_all-requires g c = (
     (
       subst (λ (b : Bank). IsOrder (ranks b.dims) c.args.order.now) (sym c.in_ok-banks.ensures.queries) c.requires.order,
       (
-        banks_first g.A.Asker.talk g.row.CAP c.args.grid.now c.args.slots c.args.steady c.args.askers c.in_ok-all.all.items c.in_ok-banks.banks.queries c.in_ok-banks.banks.replies c.in_ok-all.ensures c.requires.askers c.requires.some c.in_ok-banks.ensures.queries c.in_ok-banks.ensures.replies c.in_ok-banks.ensures.lawful,
-        (c.args.steady, begins g.A.Asker.talk g.row.CAP c.args.grid.now c.args.slots c.args.steady c.args.askers c.in_ok-all.all.items c.in_ok-banks.banks.queries c.in_ok-banks.banks.replies c.in_ok-all.ensures c.requires.askers c.requires.some c.in_ok-banks.ensures.queries c.in_ok-banks.ensures.replies c.in_ok-banks.ensures.lawful, world_first g.A.Asker.talk g.row.CAP c.args.grid.now c.args.slots c.args.steady c.args.askers c.in_ok-all.all.items c.in_ok-banks.banks.queries c.in_ok-banks.banks.replies c.in_ok-all.ensures c.requires.askers c.requires.some c.in_ok-banks.ensures.queries c.in_ok-banks.ensures.replies c.in_ok-banks.ensures.lawful),
+        banks_first g.A.Asker.talk g.row.CAP c.args.grid.now c.args.slots c.args.steady c.args.askers c.in_ok-all.all.items c.in_ok-banks.banks.queries c.in_ok-banks.banks.replies c.in_ok-all.ensures c.requires.askers c.requires.cap.some c.in_ok-banks.ensures.queries c.in_ok-banks.ensures.replies c.in_ok-banks.ensures.lawful,
+        (c.args.steady, begins g.A.Asker.talk g.row.CAP c.args.grid.now c.args.slots c.args.steady c.args.askers c.in_ok-all.all.items c.in_ok-banks.banks.queries c.in_ok-banks.banks.replies c.in_ok-all.ensures c.requires.askers c.requires.cap.some c.in_ok-banks.ensures.queries c.in_ok-banks.ensures.replies c.in_ok-banks.ensures.lawful, world_first g.A.Asker.talk g.row.CAP c.args.grid.now c.args.slots c.args.steady c.args.askers c.in_ok-all.all.items c.in_ok-banks.banks.queries c.in_ok-banks.banks.replies c.in_ok-all.ensures c.requires.askers c.requires.cap.some c.in_ok-banks.ensures.queries c.in_ok-banks.ensures.replies c.in_ok-banks.ensures.lawful),
       ),
     ),
   ),
 )
 
 pub returns-in_err-banks-2-clause-steps : goal.returns-in_err-banks-2-clause-steps
-returns-in_err-banks-2-clause-steps g c = steps_at g.A.Asker.talk g.row.CAP c.args.grid.now c.args.slots c.args.steady c.args.askers c.in_ok-all.all.items c.in_ok-banks.banks.queries c.in_ok-banks.banks.replies c.in_ok-all.ensures c.requires.askers c.requires.some c.in_ok-banks.ensures.queries c.in_ok-banks.ensures.replies c.in_ok-banks.ensures.lawful c.args.steps.now c.run_all.new.steps c.run_all.ensures.steps
+returns-in_err-banks-2-clause-steps g c = steps_at g.A.Asker.talk g.row.CAP c.args.grid.now c.args.slots c.args.steady c.args.askers c.in_ok-all.all.items c.in_ok-banks.banks.queries c.in_ok-banks.banks.replies c.in_ok-all.ensures c.requires.askers c.requires.cap.some c.in_ok-banks.ensures.queries c.in_ok-banks.ensures.replies c.in_ok-banks.ensures.lawful c.args.steps.now c.run_all.new.steps c.run_all.ensures.steps
 
 pub returns-clause-steps : goal.returns-clause-steps
-returns-clause-steps g c = steps_at g.A.Asker.talk g.row.CAP c.args.grid.now c.args.slots c.args.steady c.args.askers c.in_ok-all.all.items c.in_ok-banks.banks.queries c.in_ok-banks.banks.replies c.in_ok-all.ensures c.requires.askers c.requires.some c.in_ok-banks.ensures.queries c.in_ok-banks.ensures.replies c.in_ok-banks.ensures.lawful c.args.steps.now c.run_all.new.steps c.run_all.ensures.steps
+returns-clause-steps g c = steps_at g.A.Asker.talk g.row.CAP c.args.grid.now c.args.slots c.args.steady c.args.askers c.in_ok-all.all.items c.in_ok-banks.banks.queries c.in_ok-banks.banks.replies c.in_ok-all.ensures c.requires.askers c.requires.cap.some c.in_ok-banks.ensures.queries c.in_ok-banks.ensures.replies c.in_ok-banks.ensures.lawful c.args.steps.now c.run_all.new.steps c.run_all.ensures.steps
 
-pub returns-clause-heard : goal.returns-clause-heard
-returns-clause-heard g c =
+pub returns-clause-exchanged : goal.returns-clause-exchanged
+returns-clause-exchanged g c =
     let T = g.A.Asker.talk in
     let ns = c.run_all.new.all.items in
     let b = c.in_ok-banks-2.banks in
-    let w = world_last g.A.Asker.talk g.row.CAP c.args.grid.now c.args.slots c.args.steady c.args.askers c.in_ok-all.all.items c.in_ok-banks.banks.queries c.in_ok-banks.banks.replies c.in_ok-all.ensures c.requires.askers c.requires.some c.in_ok-banks.ensures.queries c.in_ok-banks.ensures.replies c.in_ok-banks.ensures.lawful ns b.queries b.replies c.in_ok-banks-2.ensures.world in
-    let banks = banks_last g.A.Asker.talk g.row.CAP c.args.grid.now c.args.slots c.args.steady c.args.askers c.in_ok-all.all.items c.in_ok-banks.banks.queries c.in_ok-banks.banks.replies c.in_ok-all.ensures c.requires.askers c.requires.some c.in_ok-banks.ensures.queries c.in_ok-banks.ensures.replies c.in_ok-banks.ensures.lawful b.queries b.replies c.in_ok-banks-2.ensures.banks in
-    if_ok_from (λ f. HaveHeard T c.args.askers f.progs) c.finish.result
-    (λ f e. have_heard T g.met.A.Asker.laws c.closes_law.ensures g.row.CAP c.args.grid.now c.args.slots c.args.steady c.args.askers (first g.A.Asker.talk g.row.CAP c.args.grid.now c.args.slots c.args.steady c.args.askers c.in_ok-all.all.items c.in_ok-banks.banks.queries c.in_ok-banks.banks.replies c.in_ok-all.ensures c.requires.askers c.requires.some c.in_ok-banks.ensures.queries c.in_ok-banks.ensures.replies c.in_ok-banks.ensures.lawful).0 ns b.queries b.replies c.requires.askers banks w c.in_ok-banks-2.ensures.over f.progs
-    (if_ok_is (λ f. f.progs ≡ askers_of ns) c.finish.result f e c.finish.ensures.progs))
-
-pub returns-clause-rounds : goal.returns-clause-rounds
-returns-clause-rounds g c =
-    let T = g.A.Asker.talk in
-    let ns = c.run_all.new.all.items in
-    let b = c.in_ok-banks-2.banks in
-    let w = world_last g.A.Asker.talk g.row.CAP c.args.grid.now c.args.slots c.args.steady c.args.askers c.in_ok-all.all.items c.in_ok-banks.banks.queries c.in_ok-banks.banks.replies c.in_ok-all.ensures c.requires.askers c.requires.some c.in_ok-banks.ensures.queries c.in_ok-banks.ensures.replies c.in_ok-banks.ensures.lawful ns b.queries b.replies c.in_ok-banks-2.ensures.world in
-    let banks = banks_last g.A.Asker.talk g.row.CAP c.args.grid.now c.args.slots c.args.steady c.args.askers c.in_ok-all.all.items c.in_ok-banks.banks.queries c.in_ok-banks.banks.replies c.in_ok-all.ensures c.requires.askers c.requires.some c.in_ok-banks.ensures.queries c.in_ok-banks.ensures.replies c.in_ok-banks.ensures.lawful b.queries b.replies c.in_ok-banks-2.ensures.banks in
-    if_ok_from (λ f. (q : ClosedRound) × (r : ClosedRound) × (f.rounds ≡ q ∷ r ∷ []) × TellsExchange T c.args.askers (record { dims = c.args.grid.now; cap = g.row.CAP; slots = c.args.slots; by_slots = false }) c.args.steady (round_of q) (round_of r)) c.finish.result
+    let w = world_last g.A.Asker.talk g.row.CAP c.args.grid.now c.args.slots c.args.steady c.args.askers c.in_ok-all.all.items c.in_ok-banks.banks.queries c.in_ok-banks.banks.replies c.in_ok-all.ensures c.requires.askers c.requires.cap.some c.in_ok-banks.ensures.queries c.in_ok-banks.ensures.replies c.in_ok-banks.ensures.lawful ns b.queries b.replies c.in_ok-banks-2.ensures.world in
+    let banks = banks_last g.A.Asker.talk g.row.CAP c.args.grid.now c.args.slots c.args.steady c.args.askers c.in_ok-all.all.items c.in_ok-banks.banks.queries c.in_ok-banks.banks.replies c.in_ok-all.ensures c.requires.askers c.requires.cap.some c.in_ok-banks.ensures.queries c.in_ok-banks.ensures.replies c.in_ok-banks.ensures.lawful b.queries b.replies c.in_ok-banks-2.ensures.banks in
+    if_ok_from (HasExchanged T c.args.askers (record { dims = c.args.grid.now; cap = g.row.CAP; slots = c.args.slots; by_slots = false }) c.args.steady) c.finish.result
     (λ f e.
     let x = if_ok_is (λ f. (q : ClosedRound) × (r : ClosedRound) × (f.rounds ≡ q ∷ r ∷ []) × (round_of q ≡ closed g.row.CAP b.queries) × IsRound (round_of q) × (round_of r ≡ closed g.row.CAP b.replies) × IsRound (round_of r)) c.finish.result f e c.finish.ensures.rounds in
-    (x.0, x.1, x.2, told T g.met.A.Asker.laws c.closes_law.ensures g.row.CAP c.args.grid.now c.args.slots c.args.steady c.args.askers (first g.A.Asker.talk g.row.CAP c.args.grid.now c.args.slots c.args.steady c.args.askers c.in_ok-all.all.items c.in_ok-banks.banks.queries c.in_ok-banks.banks.replies c.in_ok-all.ensures c.requires.askers c.requires.some c.in_ok-banks.ensures.queries c.in_ok-banks.ensures.replies c.in_ok-banks.ensures.lawful).0 ns b.queries b.replies c.requires.askers banks w c.in_ok-banks-2.ensures.over (round_of x.0) (round_of x.1) x.3 x.4 x.5 x.6))
+    record {
+      heard = have_heard T g.met.A.Asker.laws c.closes_law.ensures g.row.CAP c.args.grid.now c.args.slots c.args.steady c.args.askers (first g.A.Asker.talk g.row.CAP c.args.grid.now c.args.slots c.args.steady c.args.askers c.in_ok-all.all.items c.in_ok-banks.banks.queries c.in_ok-banks.banks.replies c.in_ok-all.ensures c.requires.askers c.requires.cap.some c.in_ok-banks.ensures.queries c.in_ok-banks.ensures.replies c.in_ok-banks.ensures.lawful).0 ns b.queries b.replies c.requires.askers banks w c.in_ok-banks-2.ensures.over f.progs
+          (if_ok_is (λ f. f.progs ≡ askers_of ns) c.finish.result f e c.finish.ensures.progs);
+      rounds = (x.0, x.1, x.2, told T g.met.A.Asker.laws c.closes_law.ensures g.row.CAP c.args.grid.now c.args.slots c.args.steady c.args.askers (first g.A.Asker.talk g.row.CAP c.args.grid.now c.args.slots c.args.steady c.args.askers c.in_ok-all.all.items c.in_ok-banks.banks.queries c.in_ok-banks.banks.replies c.in_ok-all.ensures c.requires.askers c.requires.cap.some c.in_ok-banks.ensures.queries c.in_ok-banks.ensures.replies c.in_ok-banks.ensures.lawful).0 ns b.queries b.replies c.requires.askers banks w c.in_ok-banks-2.ensures.over (round_of x.0) (round_of x.1) x.3 x.4 x.5 x.6);
+    })
 
-pub returns-clause-fewest : goal.returns-clause-fewest
-returns-clause-fewest g c =
-    on_ok_from c.finish.result
-    (λ f e. fewest_at g.A.Asker.talk g.row.CAP c.args.grid.now c.args.slots c.args.steady c.args.askers c.in_ok-all.all.items c.in_ok-banks.banks.queries c.in_ok-banks.banks.replies c.in_ok-all.ensures c.requires.askers c.requires.some c.in_ok-banks.ensures.queries c.in_ok-banks.ensures.replies c.in_ok-banks.ensures.lawful
-    c.args.steps.now c.run_all.new.steps c.in_ok-banks-2.ensures.fewest)
-
-pub returns-clause-posted : goal.returns-clause-posted
-returns-clause-posted g c =
+pub returns-clause-swept : goal.returns-clause-swept
+returns-clause-swept g c =
     let b = c.in_ok-banks-2.banks in
-    if_ok_from
-    (λ f. (q r : ClosedRound) → f.rounds ≡ q ∷ r ∷ [] → (l : ℕ) → l < links c.args.grid.now
-    → (length (logs_of (round_of q).sent l) + c.args.steps.now ≤ c.run_all.new.steps) × (length (logs_of (round_of r).sent l) + c.args.steps.now ≤ c.run_all.new.steps)) c.finish.result
-    (λ f e q r is l below.
+    if_ok_from (HasSweptBoth c.args.grid.now c.args.steps.now c.run_all.new.steps) c.finish.result
+    (λ f e.
     let x = if_ok_is (λ f. (q : ClosedRound) × (r : ClosedRound) × (f.rounds ≡ q ∷ r ∷ []) × (round_of q ≡ closed g.row.CAP b.queries) × IsRound (round_of q) × (round_of r ≡ closed g.row.CAP b.replies) × IsRound (round_of r)) c.finish.result f e c.finish.ensures.rounds in
-    let same : x.0 ∷ x.1 ∷ [] ≡ q ∷ r ∷ [] = sym x.2 ∙ is in
-    let same_q : x.0 ≡ q = get_once (x.0 ∷ x.1 ∷ []) 0 x.0 q refl (ap (λ rs. slice_get rs 0) same) in
-    let same_r : x.1 ≡ r = get_once (x.0 ∷ x.1 ∷ []) 1 x.1 r refl (ap (λ rs. slice_get rs 1) same) in
-    let told = c.in_ok-banks-2.ensures.posted l (subst (λ (y : Bank). l < links y.dims) (sym c.in_ok-banks.ensures.queries) below) in
-    let none_q : length (sent_of c.in_ok-banks.banks.queries l) ≡ 0 = ap (λ (y : Bank). length (sent_of y l)) c.in_ok-banks.ensures.queries ∙ none_first c.args.grid.now c.args.slots l in
-    let none_r : length (sent_of c.in_ok-banks.banks.replies l) ≡ 0 = ap (λ (y : Bank). length (sent_of y l)) c.in_ok-banks.ensures.replies ∙ none_first c.args.grid.now c.args.slots l in
-    let all_q : length (logs_of (round_of q).sent l) ≡ length (sent_of b.queries l) = ap (λ y. length (logs_of (round_of y).sent l)) (sym same_q) ∙ all_sent g.row.CAP b.queries (round_of x.0) l x.3 in
-    let all_r : length (logs_of (round_of r).sent l) ≡ length (sent_of b.replies l) = ap (λ y. length (logs_of (round_of y).sent l)) (sym same_r) ∙ all_sent g.row.CAP b.replies (round_of x.1) l x.5 in
-    (omega (arith, told.0, none_q, all_q), omega (arith, told.1, none_r, all_r)))
+    record {
+      fewest = fewest_at g.A.Asker.talk g.row.CAP c.args.grid.now c.args.slots c.args.steady c.args.askers c.in_ok-all.all.items c.in_ok-banks.banks.queries c.in_ok-banks.banks.replies c.in_ok-all.ensures c.requires.askers c.requires.cap.some c.in_ok-banks.ensures.queries c.in_ok-banks.ensures.replies c.in_ok-banks.ensures.lawful
+          c.args.steps.now c.run_all.new.steps c.in_ok-banks-2.ensures.fewest;
+      posted = λ q r is l below.
+          let same : x.0 ∷ x.1 ∷ [] ≡ q ∷ r ∷ [] = sym x.2 ∙ is in
+          let same_q : x.0 ≡ q = get_once (x.0 ∷ x.1 ∷ []) 0 x.0 q refl (ap (λ rs. slice_get rs 0) same) in
+          let same_r : x.1 ≡ r = get_once (x.0 ∷ x.1 ∷ []) 1 x.1 r refl (ap (λ rs. slice_get rs 1) same) in
+          let told = c.in_ok-banks-2.ensures.posted l (subst (λ (y : Bank). l < links y.dims) (sym c.in_ok-banks.ensures.queries) below) in
+          let none_q : length (sent_of c.in_ok-banks.banks.queries l) ≡ 0 = ap (λ (y : Bank). length (sent_of y l)) c.in_ok-banks.ensures.queries ∙ none_first c.args.grid.now c.args.slots l in
+          let none_r : length (sent_of c.in_ok-banks.banks.replies l) ≡ 0 = ap (λ (y : Bank). length (sent_of y l)) c.in_ok-banks.ensures.replies ∙ none_first c.args.grid.now c.args.slots l in
+          let all_q : length (logs_of (round_of q).sent l) ≡ length (sent_of b.queries l) = ap (λ y. length (logs_of (round_of y).sent l)) (sym same_q) ∙ all_sent g.row.CAP b.queries (round_of x.0) l x.3 in
+          let all_r : length (logs_of (round_of r).sent l) ≡ length (sent_of b.replies l) = ap (λ y. length (logs_of (round_of y).sent l)) (sym same_r) ∙ all_sent g.row.CAP b.replies (round_of x.1) l x.5 in
+          (omega (arith, told.0, none_q, all_q), omega (arith, told.1, none_r, all_r));
+    })

@@ -80,8 +80,8 @@ close-requires-2 g c =
       ),
     )
 
-pub returns-clause-heard : goal.returns-clause-heard
-returns-clause-heard g c =
+pub returns-clause-exchanged : goal.returns-clause-exchanged
+returns-clause-exchanged g c =
     let T = g.A.Asker.talk in
     let b = c.in_ok-queries.queries in
     let p = c.in_ok-replies.replies in
@@ -92,28 +92,18 @@ returns-clause-heard g c =
     let seated = c.in_ok-seated.ensures.seated c.args.steady c.args.askers fresh in
     let left_q : IsLeft g.row.CAP b.shape c.gather_all.new.of_queries.lists c.close.result = record { round = c.close.ensures.round; in_order = c.close.ensures.in_order; sent = c.close.ensures.sent; got = c.close.ensures.got } in
     let left_p : IsLeft g.row.CAP p.shape c.gather_all.new.of_replies.lists c.close-2.result = record { round = c.close-2.ensures.round; in_order = c.close-2.ensures.in_order; sent = c.close-2.ensures.sent; got = c.close-2.ensures.got } in
-    have_heard T g.row.CAP b p same c.args.steady c.args.askers all c.in_ok-all.all.items fresh c.in_ok-seated.seated.items c.in_ok-ended.ended.items c.in_ok-seated.ensures.nodes seated (g.G.Gate.told c.args.gate.now) c.in_ok-ended.ensures.ran
-    (g.met.A.Asker g.world.𝓛 g.world.𝓜 g.world.𝓡 ((λ s x. x), (λ x. x), (λ x. x), λ x. x)).laws c.closes_law.ensures c.in_ok-ended.ensures.over c.gather_all.new.of_queries.lists c.gather_all.new.of_replies.lists c.in_ok-over.ensures.queries_there c.in_ok-over.ensures.replies_there c.close.result c.close-2.result left_q left_p c.in_ok-progs.progs (c.in_ok-progs.ensures ∙ ap askers_of c.in_ok-over.ensures.nodes)
-
-pub returns-clause-rounds : goal.returns-clause-rounds
-returns-clause-rounds g c =
-    let T = g.A.Asker.talk in
-    let b = c.in_ok-queries.queries in
-    let p = c.in_ok-replies.replies in
-    let shape_q = c.in_ok-queries.ensures.bank in
-    let same = c.in_ok-replies.ensures.bank ∙ sym shape_q in
-    let fresh = subst (λ (h : Shape). AreFresh T h.dims c.args.steady c.args.askers c.in_ok-all.all.items) (sym shape_q) c.in_ok-all.ensures in
-    let all = subst (λ (h : Shape). AreAskers T (ranks h.dims) c.args.askers) (sym shape_q) c.requires.askers in
-    let seated = c.in_ok-seated.ensures.seated c.args.steady c.args.askers fresh in
-    let left_q : IsLeft g.row.CAP b.shape c.gather_all.new.of_queries.lists c.close.result = record { round = c.close.ensures.round; in_order = c.close.ensures.in_order; sent = c.close.ensures.sent; got = c.close.ensures.got } in
-    let left_p : IsLeft g.row.CAP p.shape c.gather_all.new.of_replies.lists c.close-2.result = record { round = c.close-2.ensures.round; in_order = c.close-2.ensures.in_order; sent = c.close-2.ensures.sent; got = c.close-2.ensures.got } in (
-      Slots c.close.result,
-      Slots c.close-2.result,
-      c.in_ok-add-2.ensures.added ∙ (ap (λ xs. xs ++ Slots c.close-2.result ∷ []) (c.in_ok-add.ensures.added ∙ ap (λ xs. xs ++ Slots c.close.result ∷ []) c.new-rounds.ensures)),
-      subst (λ (h : Shape). TellsExchange T c.args.askers (record { dims = h.dims; cap = g.row.CAP; slots = h.slots; by_slots = true }) c.args.steady c.close.result c.close-2.result) shape_q
-          (told T g.row.CAP b p same c.args.steady c.args.askers all c.in_ok-all.all.items fresh c.in_ok-seated.seated.items c.in_ok-ended.ended.items c.in_ok-seated.ensures.nodes seated (g.G.Gate.told c.args.gate.now) c.in_ok-ended.ensures.ran
-          (g.met.A.Asker g.world.𝓛 g.world.𝓜 g.world.𝓡 ((λ s x. x), (λ x. x), (λ x. x), λ x. x)).laws c.closes_law.ensures c.in_ok-ended.ensures.over c.gather_all.new.of_queries.lists c.gather_all.new.of_replies.lists c.in_ok-over.ensures.queries_there c.in_ok-over.ensures.replies_there c.close.result c.close-2.result left_q left_p),
-    )
+    record {
+      heard = have_heard T g.row.CAP b p same c.args.steady c.args.askers all c.in_ok-all.all.items fresh c.in_ok-seated.seated.items c.in_ok-ended.ended.items c.in_ok-seated.ensures.nodes seated (g.G.Gate.told c.args.gate.now) c.in_ok-ended.ensures.ran
+          (g.met.A.Asker g.world.𝓛 g.world.𝓜 g.world.𝓡 ((λ s x. x), (λ x. x), (λ x. x), λ x. x)).laws c.closes_law.ensures c.in_ok-ended.ensures.over c.gather_all.new.of_queries.lists c.gather_all.new.of_replies.lists c.in_ok-over.ensures.queries_there c.in_ok-over.ensures.replies_there c.close.result c.close-2.result left_q left_p c.in_ok-progs.progs (c.in_ok-progs.ensures ∙ ap askers_of c.in_ok-over.ensures.nodes);
+      rounds = (
+        Slots c.close.result,
+        Slots c.close-2.result,
+        c.in_ok-add-2.ensures.added ∙ (ap (λ xs. xs ++ Slots c.close-2.result ∷ []) (c.in_ok-add.ensures.added ∙ ap (λ xs. xs ++ Slots c.close.result ∷ []) c.new-rounds.ensures)),
+        subst (λ (h : Shape). TellsExchange T c.args.askers (record { dims = h.dims; cap = g.row.CAP; slots = h.slots; by_slots = true }) c.args.steady c.close.result c.close-2.result) shape_q
+            (told T g.row.CAP b p same c.args.steady c.args.askers all c.in_ok-all.all.items fresh c.in_ok-seated.seated.items c.in_ok-ended.ended.items c.in_ok-seated.ensures.nodes seated (g.G.Gate.told c.args.gate.now) c.in_ok-ended.ensures.ran
+            (g.met.A.Asker g.world.𝓛 g.world.𝓜 g.world.𝓡 ((λ s x. x), (λ x. x), (λ x. x), λ x. x)).laws c.closes_law.ensures c.in_ok-ended.ensures.over c.gather_all.new.of_queries.lists c.gather_all.new.of_replies.lists c.in_ok-over.ensures.queries_there c.in_ok-over.ensures.replies_there c.close.result c.close-2.result left_q left_p),
+      );
+    }
 
 pub returns-clause-told : goal.returns-clause-told
 returns-clause-told g c = λ r low.

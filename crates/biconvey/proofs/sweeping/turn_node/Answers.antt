@@ -39,10 +39,10 @@ returns-clause-banks g c =
     record {
       queries = c.into_bank.ensures.lawful;
       replies = c.into_bank-2.ensures.lawful;
-      queries_dims = ap (λ (b : Bank). b.dims) c.into_bank.ensures.bank ∙ (c.turn.ensures.queries_dims ∙ ap (λ (b : Bank). b.dims) c.port-asking.ensures.bank);
-      replies_dims = ap (λ (b : Bank). b.dims) c.into_bank-2.ensures.bank ∙ (c.turn.ensures.replies_dims ∙ (ap (λ (b : Bank). b.dims) c.port-replying.ensures.bank ∙ c.requires.banks.replies_dims));
-      queries_slots = ap (λ (b : Bank). b.slots) c.into_bank.ensures.bank ∙ (c.turn.ensures.queries_slots ∙ ap (λ (b : Bank). b.slots) c.port-asking.ensures.bank);
-      replies_slots = ap (λ (b : Bank). b.slots) c.into_bank-2.ensures.bank ∙ (c.turn.ensures.replies_slots ∙ (ap (λ (b : Bank). b.slots) c.port-replying.ensures.bank ∙ c.requires.banks.replies_slots));
+      queries_dims = ap (λ (b : Bank). b.dims) c.into_bank.ensures.bank ∙ (c.turn.ensures.same_queries.dims ∙ ap (λ (b : Bank). b.dims) c.port-asking.ensures.bank);
+      replies_dims = ap (λ (b : Bank). b.dims) c.into_bank-2.ensures.bank ∙ (c.turn.ensures.same_replies.dims ∙ (ap (λ (b : Bank). b.dims) c.port-replying.ensures.bank ∙ c.requires.banks.replies_dims));
+      queries_slots = ap (λ (b : Bank). b.slots) c.into_bank.ensures.bank ∙ (c.turn.ensures.same_queries.slots ∙ ap (λ (b : Bank). b.slots) c.port-asking.ensures.bank);
+      replies_slots = ap (λ (b : Bank). b.slots) c.into_bank-2.ensures.bank ∙ (c.turn.ensures.same_replies.slots ∙ (ap (λ (b : Bank). b.slots) c.port-replying.ensures.bank ∙ c.requires.banks.replies_slots));
     }
 
 pub returns-clause-turned : goal.returns-clause-turned
@@ -62,8 +62,8 @@ returns-clause-turned g c =
     let a' = c.turn.new.queries.rank in
     let b' = c.turn.new.replies.rank in
     let told : PortTurns T g.row.CAP n n' pq a pq' a' pr b pr' b' = record {
-      queries_rest = c.turn.ensures.queries_rest;
-      replies_rest = c.turn.ensures.replies_rest;
+      queries_rest = c.turn.ensures.same_queries.rest;
+      replies_rest = c.turn.ensures.same_replies.rest;
       dims = c.turn.ensures.dims;
       rank = c.turn.ensures.rank;
       steady = c.turn.ensures.steady;
@@ -84,8 +84,8 @@ returns-clause-turned g c =
     subst (λ (x : Bank). AfterRank T q.dims g.row.CAP q.slots c.args.number n n' (sides_of q r) (sides_of x c.into_bank-2.result)) (sym c.into_bank.ensures.bank)
     (subst (λ (x : Bank). AfterRank T q.dims g.row.CAP q.slots c.args.number n n' (sides_of q r) (sides_of pq' x)) (sym c.into_bank-2.ensures.bank)
     (after_turn T q.dims g.row.CAP q.slots c.args.number n n' q a pq' a' r b pr' b' refl refl c.requires.banks.replies_dims c.requires.banks.replies_slots
-    (c.turn.ensures.queries_dims ∙ ap (λ (x : Bank). x.dims) c.port-asking.ensures.bank) (c.turn.ensures.queries_slots ∙ ap (λ (x : Bank). x.slots) c.port-asking.ensures.bank)
-    (c.turn.ensures.replies_dims ∙ ap (λ (x : Bank). x.dims) c.port-replying.ensures.bank) (c.turn.ensures.replies_slots ∙ ap (λ (x : Bank). x.slots) c.port-replying.ensures.bank)
-    c.port-asking.ensures.rank c.turn.ensures.queries_rank c.port-replying.ensures.rank c.turn.ensures.replies_rank
+    (c.turn.ensures.same_queries.dims ∙ ap (λ (x : Bank). x.dims) c.port-asking.ensures.bank) (c.turn.ensures.same_queries.slots ∙ ap (λ (x : Bank). x.slots) c.port-asking.ensures.bank)
+    (c.turn.ensures.same_replies.dims ∙ ap (λ (x : Bank). x.dims) c.port-replying.ensures.bank) (c.turn.ensures.same_replies.slots ∙ ap (λ (x : Bank). x.slots) c.port-replying.ensures.bank)
+    c.port-asking.ensures.rank c.turn.ensures.same_queries.rank c.port-replying.ensures.rank c.turn.ensures.same_replies.rank
     h.same_dims h.same_rank (h.node.same_dims ∙ h.same_dims) (h.node.same_rank ∙ h.same_rank)
     (subst (λ (x : Bank). PortTurns T g.row.CAP n n' q a pq' a' x b pr' b') c.port-replying.ensures.bank (subst (λ (x : Bank). PortTurns T g.row.CAP n n' x a pq' a' pr b pr' b') c.port-asking.ensures.bank told))))

@@ -4,7 +4,7 @@ use Rattle.route_tensor.specs.Link.{links}
 use Rattle.route_tensor.specs.Ends.{reader_at}
 use Rattle.route_tensor.specs.Neighbour.{link_from, in_index}
 use Rattle.route_tensor.proofs.Neighbours.{in_index-link_from, in_stands}
-use Rattle.convey.proofs.Ways.{from_below, from_reader, below_sum, link_here, ready_at, link_at, end_at, collecting_none, collecting_more, collecting_all, goes_on_refl, goes_on_trans}
+use Rattle.convey.proofs.Ways.{from_below, from_reader, below_sum, link_here, ready_at, link_at, end_at, collecting_none, collecting_more, collecting_all, collects_first, collects_then}
 use Rattle.hop_core.specs.Link.{is_wanted}
 use Rattle.port_bank.specs.Calls.{once_more_if}
 use Rattle.convey.proofs.Asks.{counted_from_none, counted_in}
@@ -21,16 +21,16 @@ collect_one-requires g c =
     let grid : IsGrid dims = subst IsGrid first c.neighbours-i.ensures.grid in
     let own : rank < ranks dims = subst (λ r. r < ranks dims) (ap (λ t. t.rank) c.routes.ensures ∙ c.requires.ready.same_rank) (subst (λ ds. c.routes.result.now.rank < ranks ds) first c.neighbours-i.ensures.rank) in
     let link = c.neighbour-link.result.link_from in
-    let here : link ≡ link_from dims rank i = link_here link_from dims _ rank _ _ _ (ap (λ t. t.dims) c.routes-in-loop-i.ensures ∙ k.ready.same_dims) (ap (λ t. t.rank) c.routes-in-loop-i.ensures ∙ k.ready.same_rank) (ap (λ n. n.link_from) c.neighbour-link.ensures.value) in
-    let at : i ≡ in_index (g.P.Port.dims c.loop-i.port) link = sym (ap (λ ds. in_index ds link) k.same_dims ∙ (ap (in_index dims) here ∙ in_index-link_from dims rank i grid own below)) in (
+    let here : link ≡ link_from dims rank i = link_here link_from dims _ rank _ _ _ (ap (λ t. t.dims) c.routes-in-loop-i.ensures ∙ k.leaves.ready.same_dims) (ap (λ t. t.rank) c.routes-in-loop-i.ensures ∙ k.leaves.ready.same_rank) (ap (λ n. n.link_from) c.neighbour-link.ensures.value) in
+    let at : i ≡ in_index (g.P.Port.dims c.loop-i.port) link = sym (ap (λ ds. in_index ds link) k.leaves.same_port.dims ∙ (ap (in_index dims) here ∙ in_index-link_from dims rank i grid own below)) in (
       search rules,
       (
         search rules,
         (
-          subst (λ ds. link < links ds) (sym k.same_dims) (subst (λ l. l < links dims) (sym here) (from_below dims rank _ grid own below)),
+          subst (λ ds. link < links ds) (sym k.leaves.same_port.dims) (subst (λ l. l < links dims) (sym here) (from_below dims rank _ grid own below)),
           (
-            ap (λ ds. reader_at ds link) k.same_dims ∙ (ap (reader_at dims) here ∙ (from_reader dims rank _ grid own below ∙ sym k.same_rank)),
-            (at, (k.empty, ready_at _ _ _ _ _ _ _ (sym k.same_dims) (sym k.same_rank) k.ready)),
+            ap (λ ds. reader_at ds link) k.leaves.same_port.dims ∙ (ap (reader_at dims) here ∙ (from_reader dims rank _ grid own below ∙ sym k.leaves.same_port.rank)),
+            (at, (k.empty, ready_at _ _ _ _ _ _ _ (sym k.leaves.same_port.dims) (sym k.leaves.same_port.rank) k.leaves.ready)),
           ),
         ),
       ),
@@ -45,18 +45,9 @@ loop-i-init g c =
     let all : c.neighbours-i.result ≡ sum dims = omega (arith, ap sum first, c.neighbours-i.ensures.value) in
     record {
       empty = c.requires.empty;
-      ready = c.requires.ready;
-      goes_on = goes_on_refl c.args.state.now _ _;
+      leaves = collects_first g.P.Port c.args.state.now c.args.port.now c.requires.ready;
       collecting = collecting_none dims rank _ c.args.state.now _ _ _ grid all;
       counted = counted_from_none dims rank _ _ _ grid all;
-      posts = refl;
-      outs = refl;
-      sent = refl;
-      looks_out = refl;
-      rest = refl;
-      same_rank = refl;
-      same_dims = refl;
-      same_slots = refl;
     }
 
 pub loop-i-preserved : goal.loop-i-preserved
@@ -71,17 +62,16 @@ loop-i-preserved g c =
     let back : c.loop-i.i ≡ i + 1 = omega (arith, c.loop-i-test.true) in
     let grid : IsGrid dims = subst IsGrid first c.neighbours-i.ensures.grid in
     let own : rank < ranks dims = subst (λ r. r < ranks dims) (ap (λ t. t.rank) c.routes.ensures ∙ c.requires.ready.same_rank) (subst (λ ds. c.routes.result.now.rank < ranks ds) first c.neighbours-i.ensures.rank) in
-    let here = link_here link_from dims _ rank _ _ _ (ap (λ t. t.dims) c.routes-in-loop-i.ensures ∙ k.ready.same_dims) (ap (λ t. t.rank) c.routes-in-loop-i.ensures ∙ k.ready.same_rank) (ap (λ n. n.link_from) c.neighbour-link.ensures.value) in
+    let here = link_here link_from dims _ rank _ _ _ (ap (λ t. t.dims) c.routes-in-loop-i.ensures ∙ k.leaves.ready.same_dims) (ap (λ t. t.rank) c.routes-in-loop-i.ensures ∙ k.leaves.ready.same_rank) (ap (λ n. n.link_from) c.neighbour-link.ensures.value) in
     record {
       empty = e.empty;
-      ready = ready_at dims _ rank _ _ _ _ k.same_dims k.same_rank e.ready;
-      goes_on = goes_on_trans _ _ _ _ _ _ _ _ _ k.goes_on e.goes_on;
+      leaves = collects_then g.P.Port _ _ _ _ _ _ k.leaves e.leaves;
       collecting = collecting_more dims rank _ _ c.args.state.now c.loop-i.state c.collect_one.new.state _ _ _ _ _ _ _ _ grid own below _ back k.collecting here e.asked (record {
         lies = e.lies;
-        inbox = λ m h to ne. e.inbox m (link_at dims _ m k.same_dims h) (end_at reader_at dims _ rank _ m k.same_dims k.same_rank to) ne;
-        got_stays = e.got;
-        noted_stays = e.noted;
-        idle_stays = e.idle;
+        inbox = λ m h to ne. e.inbox m (link_at dims _ m k.leaves.same_port.dims h) (end_at reader_at dims _ rank _ m k.leaves.same_port.dims k.leaves.same_port.rank to) ne;
+        got_stays = e.elsewhere.got;
+        noted_stays = e.elsewhere.noted;
+        idle_stays = e.elsewhere.idle;
       });
       counted = counted_in dims rank _ _ _ _ _ _ grid own below here _ back k.counted (record {
         stays = λ m h to ne. refl;
@@ -90,16 +80,8 @@ loop-i-preserved g c =
             let inbox = (k.collecting.to_ask link (subst (λ l. l < links dims) (sym here) (from_below dims rank _ grid own below)) (ap (reader_at dims) here ∙ from_reader dims rank _ grid own below)
             (omega (arith, ap (in_index dims) here, in_index-link_from dims rank i grid own below))).inbox in
             e.collects ∙ ap (λ x. once_more_if (is_wanted x) (g.P.Port.collects c.loop-i.port link)) inbox;
-        others = e.collects_elsewhere;
+        others = e.elsewhere.collects;
       });
-      posts = e.posts ∙ k.posts;
-      outs = search rules;
-      sent = search rules;
-      looks_out = search rules;
-      rest = search rules;
-      same_rank = search rules;
-      same_dims = search rules;
-      same_slots = search rules;
     }
 
 pub returns-clause-asked : goal.returns-clause-asked

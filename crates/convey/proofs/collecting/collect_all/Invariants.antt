@@ -1,6 +1,6 @@
 use Rattle.std.proofs.Common.{◌≡◌}
 use Rattle.item_buffer.specs.Contents.{blank}
-use Rattle.convey.specs.Way.{IsReady, GoesOn}
+use Rattle.convey.specs.Way.{LeftByCollects}
 use Rattle.hop_core.specs.Link.{is_wanted}
 use Rattle.convey.specs.Buffers.{in_of}
 use Rattle.convey.proofs.Ways.{Collecting}
@@ -10,17 +10,8 @@ use Rattle.convey.proofs.collecting.collect_all.Given as goal
 abbrev pub invariant-loop-i : goal.invariant-loop-i
 invariant-loop-i g l = record {
   empty : l.spare ≡ blank l.state.epoch;
-  ready : IsReady (g.P.Port.dims l.fn.port) (g.P.Port.rank l.fn.port) l.state (g.P.Port.sent l.port) (g.P.Port.got l.port);
-  goes_on : GoesOn l.fn.state l.state (g.P.Port.sent l.fn.port) (g.P.Port.sent l.port) (g.P.Port.got l.fn.port) (g.P.Port.got l.port);
   collecting : Collecting (g.P.Port.dims l.fn.port) (g.P.Port.rank l.fn.port) l.i l.fn.state l.state (g.P.Port.got l.fn.port) (g.P.Port.got l.port)
       (g.P.Port.noted l.fn.port) (g.P.Port.noted l.port) (g.P.Port.idle l.port);
-  outs : l.state.outs ≡ l.fn.state.outs;
-  sent : g.P.Port.sent l.port ≡ g.P.Port.sent l.fn.port;
   counted : CountedFrom (g.P.Port.dims l.fn.port) (g.P.Port.rank l.fn.port) l.i (λ m. is_wanted (in_of l.fn.state m)) (g.P.Port.collects l.fn.port) (g.P.Port.collects l.port);
-  posts : g.P.Port.posts l.port ≡ g.P.Port.posts l.fn.port;
-  looks_out : g.P.Port.looks_out l.port ≡ g.P.Port.looks_out l.fn.port;
-  rest : g.P.Port.rest l.port ≡ g.P.Port.rest l.fn.port;
-  same_rank : g.P.Port.rank l.port ≡ g.P.Port.rank l.fn.port;
-  same_dims : g.P.Port.dims l.port ≡ g.P.Port.dims l.fn.port;
-  same_slots : g.P.Port.slots l.port ≡ g.P.Port.slots l.fn.port;
+  leaves : LeftByCollects g.P.Port l.fn.state l.state l.fn.port l.port;
 }

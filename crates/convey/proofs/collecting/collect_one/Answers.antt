@@ -15,7 +15,7 @@ use Rattle.convey.specs.Buffers.{in_of}
 use Rattle.convey.specs.Due.{Wants}
 use Rattle.port_bank.specs.Calls.{once_more_if}
 use Rattle.convey.specs.Way.{GoesOn}
-use Rattle.convey.proofs.Ways.{no_more, goes_on_refl}
+use Rattle.convey.proofs.Ways.{no_more, goes_on_refl, collects_first}
 use Rattle.convey.proofs.States.{in_number}
 use Rattle.convey.proofs.Collects.{filled, fair_at, collected_one, came_lies, grew, still_ready}
 use Rattle.convey.proofs.collecting.collect_one.Goals as goal
@@ -28,8 +28,8 @@ wants_from-requires g c =
     let n : c.args.number ≡ in_index st.dims c.args.link = c.requires.number ∙ ap (λ ds. in_index ds c.args.link) (sym c.requires.ready.same_dims) in
     (search rules, subst (λ i. i < sum st.dims) (sym n) (in_number st.dims c.args.link s.grid below).within)
 
-pub returns-in-Got-clause-ready : goal.returns-in-Got-clause-ready
-returns-in-Got-clause-ready g c =
+pub returns-in-Got-clause-leaves : goal.returns-in-Got-clause-leaves
+returns-in-Got-clause-leaves g c =
     let st = c.args.state.now in
     let s = c.known.ensures.standing in
     let below : c.args.link < links st.dims = subst (λ ds. c.args.link < links ds) (sym c.requires.ready.same_dims) c.requires.link in
@@ -38,19 +38,30 @@ returns-in-Got-clause-ready g c =
     let q = shipped c.collect.new.p in
     let e = c.in-Got.ensures in
     let new = filled st c.take_in.new.self c.args.number c.args.link _ c.requires.ready.home n c.take_in.ensures.state in
-    (collected_one _ _ _ _ c.args.link _ _ _ _ _ s c.requires.ready c.requires.link c.requires.ends_here wants new c.collect.ensures.sent q refl refl (e.fair refl) (e.own refl) (e.got refl)).ready
+    let one = (collected_one _ _ _ _ c.args.link _ _ _ _ _ s c.requires.ready c.requires.link c.requires.ends_here wants new c.collect.ensures.same_outs.sent q refl refl (e.fair refl) (e.own refl) (e.got refl)) in
+    record {
+      ready = one.ready;
+      goes_on = one.goes_on;
+      outs = search rules;
+      same_outs = c.collect.ensures.same_outs;
+      same_port = c.collect.ensures.same_port;
+    }
 
-pub returns-in-Got-clause-goes_on : goal.returns-in-Got-clause-goes_on
-returns-in-Got-clause-goes_on g c =
-    let st = c.args.state.now in
-    let s = c.known.ensures.standing in
-    let below : c.args.link < links st.dims = subst (λ ds. c.args.link < links ds) (sym c.requires.ready.same_dims) c.requires.link in
-    let n : c.args.number ≡ in_index st.dims c.args.link = c.requires.number ∙ ap (λ ds. in_index ds c.args.link) (sym c.requires.ready.same_dims) in
-    let wants : Wants st c.args.link = subst (λ i. is_wanted (in_at st i) ≡ true) n (sym c.wants_from.ensures ∙ c.if-not-wants_from.false) in
-    let q = shipped c.collect.new.p in
-    let e = c.in-Got.ensures in
-    let new = filled st c.take_in.new.self c.args.number c.args.link _ c.requires.ready.home n c.take_in.ensures.state in
-    (collected_one _ _ _ _ c.args.link _ _ _ _ _ s c.requires.ready c.requires.link c.requires.ends_here wants new c.collect.ensures.sent q refl refl (e.fair refl) (e.own refl) (e.got refl)).goes_on
+pub returns-in-Nothing-clause-leaves : goal.returns-in-Nothing-clause-leaves
+returns-in-Nothing-clause-leaves g c =
+    let sent : Logs = g.P.Port.sent c.args.port.now in
+    let got : Logs = g.P.Port.got c.args.port.now in
+    record {
+      ready = still_ready _ _ c.args.state.now _ _ _ _ c.collect.ensures.same_outs.sent (c.in-Nothing.ensures.not_got refl) c.requires.ready;
+      goes_on = subst (λ (a : Logs). GoesOn c.args.state.now c.args.state.now sent a got (g.P.Port.got c.collect.new.self)) (sym c.collect.ensures.same_outs.sent)
+          (subst (λ (b : Logs). GoesOn c.args.state.now c.args.state.now sent sent got b) (sym (c.in-Nothing.ensures.not_got refl)) (goes_on_refl c.args.state.now sent got));
+      outs = search rules;
+      same_outs = c.collect.ensures.same_outs;
+      same_port = c.collect.ensures.same_port;
+    }
+
+pub returns-then-not-wants_from-clause-leaves : goal.returns-then-not-wants_from-clause-leaves
+returns-then-not-wants_from-clause-leaves g c = collects_first g.P.Port c.args.state.now c.args.port.now c.requires.ready
 
 pub returns-in-Got-clause-inbox : goal.returns-in-Got-clause-inbox
 returns-in-Got-clause-inbox g c =
@@ -62,7 +73,7 @@ returns-in-Got-clause-inbox g c =
     let q = shipped c.collect.new.p in
     let e = c.in-Got.ensures in
     let new = filled st c.take_in.new.self c.args.number c.args.link _ c.requires.ready.home n c.take_in.ensures.state in
-    (collected_one _ _ _ _ c.args.link _ _ _ _ _ s c.requires.ready c.requires.link c.requires.ends_here wants new c.collect.ensures.sent q refl refl (e.fair refl) (e.own refl) (e.got refl)).inbox
+    (collected_one _ _ _ _ c.args.link _ _ _ _ _ s c.requires.ready c.requires.link c.requires.ends_here wants new c.collect.ensures.same_outs.sent q refl refl (e.fair refl) (e.own refl) (e.got refl)).inbox
 
 pub returns-in-Got-clause-asked : goal.returns-in-Got-clause-asked
 returns-in-Got-clause-asked g c =
@@ -79,17 +90,6 @@ returns-in-Got-clause-asked g c =
       idle = λ yes same. absurd (grew _ _ (sym more ∙ same));
       once = omega (arith, ap length more, length-append (g.P.Port.got c.args.port.now c.args.link) (shipped c.collect.new.p ∷ []));
     }
-
-pub returns-in-Nothing-clause-ready : goal.returns-in-Nothing-clause-ready
-returns-in-Nothing-clause-ready g c =
-    still_ready _ _ c.args.state.now _ _ _ _ c.collect.ensures.sent (c.in-Nothing.ensures.not_got refl) c.requires.ready
-
-pub returns-in-Nothing-clause-goes_on : goal.returns-in-Nothing-clause-goes_on
-returns-in-Nothing-clause-goes_on g c =
-    let sent : Logs = g.P.Port.sent c.args.port.now in
-    let got : Logs = g.P.Port.got c.args.port.now in
-    subst (λ (a : Logs). GoesOn c.args.state.now c.args.state.now sent a got (g.P.Port.got c.collect.new.self)) (sym c.collect.ensures.sent)
-    (subst (λ (b : Logs). GoesOn c.args.state.now c.args.state.now sent sent got b) (sym (c.in-Nothing.ensures.not_got refl)) (goes_on_refl c.args.state.now sent got))
 
 pub returns-in-Nothing-clause-asked : goal.returns-in-Nothing-clause-asked
 returns-in-Nothing-clause-asked g c =
@@ -131,10 +131,6 @@ returns-in-Got-clause-lies g c =
     let new = filled st c.take_in.new.self c.args.number c.args.link _ c.requires.ready.home n c.take_in.ensures.state in
     λ more same. came_lies _ _ c.args.link _ q _ _ more s below wants new refl
     (ap (λ logs. logs c.args.link) (e.got refl) ∙ added-here (g.P.Port.got c.args.port.now) c.args.link q) same
-
-pub returns-then-not-wants_from-clause-goes_on : goal.returns-then-not-wants_from-clause-goes_on
-returns-then-not-wants_from-clause-goes_on g c =
-    goes_on_refl c.args.state.now _ _
 
 pub returns-then-not-wants_from-clause-asked : goal.returns-then-not-wants_from-clause-asked
 returns-then-not-wants_from-clause-asked g c =
@@ -184,9 +180,14 @@ returns-in-Got-clause-collects g c =
     ap (λ calls. calls c.args.link) c.collect.ensures.collects
     ∙ (changed-here (g.P.Port.collects c.args.port.now) c.args.link (suc (g.P.Port.collects c.args.port.now c.args.link)) ∙ ap (λ b. once_more_if b (g.P.Port.collects c.args.port.now c.args.link)) (sym wants))
 
-pub returns-in-Got-clause-collects_elsewhere : goal.returns-in-Got-clause-collects_elsewhere
-returns-in-Got-clause-collects_elsewhere g c = λ m ne.
-    ap (λ calls. calls m) c.collect.ensures.collects ∙ changed-other (g.P.Port.collects c.args.port.now) c.args.link m (suc (g.P.Port.collects c.args.port.now c.args.link)) ne
+pub returns-in-Got-clause-elsewhere : goal.returns-in-Got-clause-elsewhere
+returns-in-Got-clause-elsewhere g c = record {
+  got = search rules;
+  noted = search rules;
+  idle = search rules;
+  collects = λ m ne.
+      ap (λ calls. calls m) c.collect.ensures.collects ∙ changed-other (g.P.Port.collects c.args.port.now) c.args.link m (suc (g.P.Port.collects c.args.port.now c.args.link)) ne;
+}
 
 pub returns-in-Nothing-clause-collects : goal.returns-in-Nothing-clause-collects
 returns-in-Nothing-clause-collects g c =
@@ -197,9 +198,14 @@ returns-in-Nothing-clause-collects g c =
     ap (λ calls. calls c.args.link) c.collect.ensures.collects
     ∙ (changed-here (g.P.Port.collects c.args.port.now) c.args.link (suc (g.P.Port.collects c.args.port.now c.args.link)) ∙ ap (λ b. once_more_if b (g.P.Port.collects c.args.port.now c.args.link)) (sym wants))
 
-pub returns-in-Nothing-clause-collects_elsewhere : goal.returns-in-Nothing-clause-collects_elsewhere
-returns-in-Nothing-clause-collects_elsewhere g c = λ m ne.
-    ap (λ calls. calls m) c.collect.ensures.collects ∙ changed-other (g.P.Port.collects c.args.port.now) c.args.link m (suc (g.P.Port.collects c.args.port.now c.args.link)) ne
+pub returns-in-Nothing-clause-elsewhere : goal.returns-in-Nothing-clause-elsewhere
+returns-in-Nothing-clause-elsewhere g c = record {
+  got = search rules;
+  noted = search rules;
+  idle = search rules;
+  collects = λ m ne.
+      ap (λ calls. calls m) c.collect.ensures.collects ∙ changed-other (g.P.Port.collects c.args.port.now) c.args.link m (suc (g.P.Port.collects c.args.port.now c.args.link)) ne;
+}
 
 pub returns-then-not-wants_from-clause-collects : goal.returns-then-not-wants_from-clause-collects
 returns-then-not-wants_from-clause-collects g c =

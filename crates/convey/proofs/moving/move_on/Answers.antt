@@ -40,23 +40,23 @@ collect_all-requires g c =
 pub post_all-requires : goal.post_all-requires
 post_all-requires g c =
     let k = c.collect_all.ensures in
-    let passed = c.relay_all.ensures.passed _ _ _ _ k.ready in
+    let passed = c.relay_all.ensures.passed _ _ _ _ k.leaves.ready in
     let empty : c.collect_all.new.spare ≡ blank c.relay_all.new.state.epoch = k.empty ∙ ap blank (sym passed.goes_on.epoch) in
-    (search rules, (search rules, (empty, ready_at _ _ _ _ _ _ _ (sym k.same_dims) (sym k.same_rank) passed.ready)))
+    (search rules, (search rules, (empty, ready_at _ _ _ _ _ _ _ (sym k.leaves.same_port.dims) (sym k.leaves.same_port.rank) passed.ready)))
 
 pub returns-clause-conveyor : goal.returns-clause-conveyor
 returns-clause-conveyor g c =
     let st : State = c.args.state.now in
     let last : State = c.post_all.new.state in
     let k = c.collect_all.ensures in
-    let passed = c.relay_all.ensures.passed _ _ _ _ k.ready in
-    let phase : last.phase ≡ st.phase = c.post_all.ensures.goes_on.phase ∙ (passed.goes_on.phase ∙ (k.goes_on.phase ∙ ap (λ s. s.phase) c.note_done.ensures.state)) in
+    let passed = c.relay_all.ensures.passed _ _ _ _ k.leaves.ready in
+    let phase : last.phase ≡ st.phase = c.post_all.ensures.leaves.goes_on.phase ∙ (passed.goes_on.phase ∙ (k.leaves.goes_on.phase ∙ ap (λ s. s.phase) c.note_done.ensures.state)) in
     let open' : is_complete st.phase ≡ false = ap is_complete (sym c.phase.ensures.value) ∙ (sym c.is_over.ensures ∙ c.if-is_over.false) in
     let open_still : c.relay_all.new.state.phase ≡ Cleanup → ⊥ = search rules in
     record {
-      home = c.post_all.ensures.ready.home;
-      sent = λ p. absurd (open_still (sym c.post_all.ensures.goes_on.phase ∙ p));
-      hops_all = ap length (c.post_all.ensures.ready.same_dims ∙ (k.same_dims ∙ sym c.requires.ready.same_dims)) ∙ c.requires.conveyor.hops_all;
+      home = c.post_all.ensures.leaves.ready.home;
+      sent = λ p. absurd (open_still (sym c.post_all.ensures.leaves.goes_on.phase ∙ p));
+      hops_all = ap length (c.post_all.ensures.leaves.ready.same_dims ∙ (k.leaves.same_port.dims ∙ sym c.requires.ready.same_dims)) ∙ c.requires.conveyor.hops_all;
       complete = λ p. absurd (not_over st.phase last.phase open' phase p);
       none_back = λ p. absurd (not_over st.phase last.phase open' phase p);
     }
@@ -67,13 +67,13 @@ returns-clause-moves_on g c =
     let rank : ℕ = g.P.Port.rank c.args.port.now in
     let k = c.collect_all.ensures in
     let e = c.post_all.ensures in
-    let passed = c.relay_all.ensures.passed dims rank _ _ k.ready in
+    let passed = c.relay_all.ensures.passed dims rank _ _ k.leaves.ready in
     moves_on dims rank c.args.state.now c.note_done.new.state c.collect_all.new.state c.relay_all.new.state c.post_all.new.state c.args.done _ _ _ _ _ _
-    c.phase.ensures.standing (sym c.requires.ready.same_dims) (sym c.requires.ready.same_rank) c.note_done.ensures.state k.goes_on k.outs k.ready passed
-    e.goes_on e.ins (ready_at dims _ rank _ _ _ _ k.same_dims k.same_rank e.ready)
-    (λ l h from. e.waits l (link_at dims _ l k.same_dims h) (end_at sender_at dims _ rank _ l k.same_dims k.same_rank from)) k.sent
-    (λ l h from. e.posted l (link_at dims _ l k.same_dims h) (end_at sender_at dims _ rank _ l k.same_dims k.same_rank from))
-    _ _ _ _ _ k.asked k.lies e.got e.noted e.idle
+    c.phase.ensures.standing (sym c.requires.ready.same_dims) (sym c.requires.ready.same_rank) c.note_done.ensures.state k.leaves.goes_on k.leaves.outs k.leaves.ready passed
+    e.leaves.goes_on e.leaves.ins (ready_at dims _ rank _ _ _ _ k.leaves.same_port.dims k.leaves.same_port.rank e.leaves.ready)
+    (λ l h from. e.waits l (link_at dims _ l k.leaves.same_port.dims h) (end_at sender_at dims _ rank _ l k.leaves.same_port.dims k.leaves.same_port.rank from)) k.leaves.same_outs.sent
+    (λ l h from. e.posted l (link_at dims _ l k.leaves.same_port.dims h) (end_at sender_at dims _ rank _ l k.leaves.same_port.dims k.leaves.same_port.rank from))
+    _ _ _ _ _ k.asked k.lies e.leaves.same_ins.got e.leaves.same_ins.noted e.leaves.idle
 
 pub returns-clause-served : goal.returns-clause-served
 returns-clause-served g c =
@@ -81,19 +81,19 @@ returns-clause-served g c =
     let rank : ℕ = g.P.Port.rank c.args.port.now in
     let k = c.collect_all.ensures in
     let e = c.post_all.ensures in
-    let passed = c.relay_all.ensures.passed dims rank _ _ k.ready in
+    let passed = c.relay_all.ensures.passed dims rank _ _ k.leaves.ready in
     on_ok_weaker c.post_all.result
     (λ served. has_served dims rank c.args.state.now c.note_done.new.state c.collect_all.new.state c.relay_all.new.state c.post_all.new.state c.args.done _ _ _ _ _ _
-    c.phase.ensures.standing (sym c.requires.ready.same_dims) (sym c.requires.ready.same_rank) c.note_done.ensures.state k.goes_on k.outs k.ready passed
-    e.goes_on e.ins (ready_at dims _ rank _ _ _ _ k.same_dims k.same_rank e.ready)
-    (λ l h from. e.waits l (link_at dims _ l k.same_dims h) (end_at sender_at dims _ rank _ l k.same_dims k.same_rank from)) k.sent
-    (λ l h from. e.posted l (link_at dims _ l k.same_dims h) (end_at sender_at dims _ rank _ l k.same_dims k.same_rank from))
+    c.phase.ensures.standing (sym c.requires.ready.same_dims) (sym c.requires.ready.same_rank) c.note_done.ensures.state k.leaves.goes_on k.leaves.outs k.leaves.ready passed
+    e.leaves.goes_on e.leaves.ins (ready_at dims _ rank _ _ _ _ k.leaves.same_port.dims k.leaves.same_port.rank e.leaves.ready)
+    (λ l h from. e.waits l (link_at dims _ l k.leaves.same_port.dims h) (end_at sender_at dims _ rank _ l k.leaves.same_port.dims k.leaves.same_port.rank from)) k.leaves.same_outs.sent
+    (λ l h from. e.posted l (link_at dims _ l k.leaves.same_port.dims h) (end_at sender_at dims _ rank _ l k.leaves.same_port.dims k.leaves.same_port.rank from))
     _ _ _ c.relay_all.ensures.standing c.relay_all.ensures.stopped
-    (λ l h from. subst (λ looks. WasServed c.post_all.new.state l (looks l) (g.P.Port.looks_out c.post_all.new.port l) (g.P.Port.crowded c.post_all.new.port l)) k.looks_out
-    (served l (link_at dims _ l k.same_dims h) (end_at sender_at dims _ rank _ l k.same_dims k.same_rank from)))) e.served
+    (λ l h from. subst (λ looks. WasServed c.post_all.new.state l (looks l) (g.P.Port.looks_out c.post_all.new.port l) (g.P.Port.crowded c.post_all.new.port l)) k.leaves.same_outs.looks_out
+    (served l (link_at dims _ l k.leaves.same_port.dims h) (end_at sender_at dims _ rank _ l k.leaves.same_port.dims k.leaves.same_port.rank from)))) e.served
 
 pub returns-then-eq-clause-ready : goal.returns-then-eq-clause-ready
-returns-then-eq-clause-ready g c = (c.relay_all.ensures.passed (g.P.Port.dims c.args.port.now) (g.P.Port.rank c.args.port.now) _ _ c.collect_all.ensures.ready).ready
+returns-then-eq-clause-ready g c = (c.relay_all.ensures.passed (g.P.Port.dims c.args.port.now) (g.P.Port.rank c.args.port.now) _ _ c.collect_all.ensures.leaves.ready).ready
 
 pub returns-then-eq-clause-conveyor : goal.returns-then-eq-clause-conveyor
 returns-then-eq-clause-conveyor g c =
@@ -102,12 +102,12 @@ returns-then-eq-clause-conveyor g c =
     let st : State = c.args.state.now in
     let mid : State = c.relay_all.new.state in
     let k = c.collect_all.ensures in
-    let passed = c.relay_all.ensures.passed dims rank _ _ k.ready in
+    let passed = c.relay_all.ensures.passed dims rank _ _ k.leaves.ready in
     let cleanup : mid.phase ≡ Cleanup = search rules in
-    let phase : mid.phase ≡ st.phase = passed.goes_on.phase ∙ (k.goes_on.phase ∙ ap (λ s. s.phase) c.note_done.ensures.state) in
+    let phase : mid.phase ≡ st.phase = passed.goes_on.phase ∙ (k.leaves.goes_on.phase ∙ ap (λ s. s.phase) c.note_done.ensures.state) in
     let all = c.requires.conveyor.sent (sym phase ∙ cleanup) in
     let same_dims : mid.dims ≡ st.dims = passed.ready.same_dims ∙ sym c.requires.ready.same_dims in
-    let same = same_closed st c.note_done.new.state c.collect_all.new.state mid c.args.done c.note_done.ensures.state k.outs (k.ready.same_dims ∙ sym c.requires.ready.same_dims) passed.closes in
+    let same = same_closed st c.note_done.new.state c.collect_all.new.state mid c.args.done c.note_done.ensures.state k.leaves.outs (k.leaves.ready.same_dims ∙ sym c.requires.ready.same_dims) passed.closes in
     record {
       home = passed.ready.home;
       hops_all = ap length same_dims ∙ c.requires.conveyor.hops_all;
@@ -123,12 +123,12 @@ returns-then-eq-clause-moves_on g c =
     let st : State = c.args.state.now in
     let mid : State = c.relay_all.new.state in
     let k = c.collect_all.ensures in
-    let passed = c.relay_all.ensures.passed dims rank _ _ k.ready in
+    let passed = c.relay_all.ensures.passed dims rank _ _ k.leaves.ready in
     let sent' : Logs = g.P.Port.sent c.collect_all.new.port in
     let got' : Logs = g.P.Port.got c.collect_all.new.port in
     moves_on dims rank st c.note_done.new.state c.collect_all.new.state mid mid c.args.done (g.P.Port.sent c.args.port.now) sent' sent' (g.P.Port.got c.args.port.now) got' got'
-    c.phase.ensures.standing (sym c.requires.ready.same_dims) (sym c.requires.ready.same_rank) c.note_done.ensures.state k.goes_on k.outs k.ready passed
-    (goes_on_refl mid sent' got') refl passed.ready (λ l h from e. refl) k.sent (λ l h from. inl refl)
+    c.phase.ensures.standing (sym c.requires.ready.same_dims) (sym c.requires.ready.same_rank) c.note_done.ensures.state k.leaves.goes_on k.leaves.outs k.leaves.ready passed
+    (goes_on_refl mid sent' got') refl passed.ready (λ l h from e. refl) k.leaves.same_outs.sent (λ l h from. inl refl)
     _ _ _ _ _ k.asked k.lies refl refl (λ l e. refl)
 
 pub returns-then-eq-clause-served : goal.returns-then-eq-clause-served
@@ -138,18 +138,18 @@ returns-then-eq-clause-served g c =
     let st : State = c.args.state.now in
     let mid : State = c.relay_all.new.state in
     let k = c.collect_all.ensures in
-    let passed = c.relay_all.ensures.passed dims rank _ _ k.ready in
+    let passed = c.relay_all.ensures.passed dims rank _ _ k.leaves.ready in
     let cleanup : mid.phase ≡ Cleanup = search rules in
-    let phase : mid.phase ≡ st.phase = passed.goes_on.phase ∙ (k.goes_on.phase ∙ ap (λ s. s.phase) c.note_done.ensures.state) in
+    let phase : mid.phase ≡ st.phase = passed.goes_on.phase ∙ (k.leaves.goes_on.phase ∙ ap (λ s. s.phase) c.note_done.ensures.state) in
     let all = c.requires.conveyor.sent (sym phase ∙ cleanup) in
     let same_dims : mid.dims ≡ st.dims = passed.ready.same_dims ∙ sym c.requires.ready.same_dims in
-    let same = same_closed st c.note_done.new.state c.collect_all.new.state mid c.args.done c.note_done.ensures.state k.outs (k.ready.same_dims ∙ sym c.requires.ready.same_dims) passed.closes in
+    let same = same_closed st c.note_done.new.state c.collect_all.new.state mid c.args.done c.note_done.ensures.state k.leaves.outs (k.leaves.ready.same_dims ∙ sym c.requires.ready.same_dims) passed.closes in
     let sent' : Logs = g.P.Port.sent c.collect_all.new.port in
     let got' : Logs = g.P.Port.got c.collect_all.new.port in
     let not_due : (l : ℕ) → l < links dims → IsDue mid l → ⊥ = λ l h. sent_not_due st mid l c.phase.ensures.standing c.relay_all.ensures.standing same_dims same all (subst (λ ds. l < links ds) (sym passed.ready.same_dims) h) in
     has_served dims rank st c.note_done.new.state c.collect_all.new.state mid mid c.args.done (g.P.Port.sent c.args.port.now) sent' sent' (g.P.Port.got c.args.port.now) got' got'
-    c.phase.ensures.standing (sym c.requires.ready.same_dims) (sym c.requires.ready.same_rank) c.note_done.ensures.state k.goes_on k.outs k.ready passed
-    (goes_on_refl mid sent' got') refl passed.ready (λ l h from e. refl) k.sent (λ l h from. inl refl)
+    c.phase.ensures.standing (sym c.requires.ready.same_dims) (sym c.requires.ready.same_rank) c.note_done.ensures.state k.leaves.goes_on k.leaves.outs k.leaves.ready passed
+    (goes_on_refl mid sent' got') refl passed.ready (λ l h from e. refl) k.leaves.same_outs.sent (λ l h from. inl refl)
     _ _ _ c.relay_all.ensures.standing c.relay_all.ensures.stopped
     (λ l h from. record { looked = λ d. absurd (not_due l h d); crowded = λ d. absurd (not_due l h d) })
 
@@ -171,15 +171,15 @@ returns-then-eq-clause-posts g c =
     let st : State = c.args.state.now in
     let mid : State = c.relay_all.new.state in
     let k = c.collect_all.ensures in
-    let passed = c.relay_all.ensures.passed (g.P.Port.dims c.args.port.now) (g.P.Port.rank c.args.port.now) _ _ k.ready in
+    let passed = c.relay_all.ensures.passed (g.P.Port.dims c.args.port.now) (g.P.Port.rank c.args.port.now) _ _ k.leaves.ready in
     let cleanup : mid.phase ≡ Cleanup = search rules in
-    let phase : mid.phase ≡ st.phase = passed.goes_on.phase ∙ (k.goes_on.phase ∙ ap (λ s. s.phase) c.note_done.ensures.state) in
+    let phase : mid.phase ≡ st.phase = passed.goes_on.phase ∙ (k.leaves.goes_on.phase ∙ ap (λ s. s.phase) c.note_done.ensures.state) in
     let all = c.requires.conveyor.sent (sym phase ∙ cleanup) in
     let same_dims : mid.dims ≡ st.dims = passed.ready.same_dims ∙ sym c.requires.ready.same_dims in
-    let same = same_closed st c.note_done.new.state c.collect_all.new.state mid c.args.done c.note_done.ensures.state k.outs (k.ready.same_dims ∙ sym c.requires.ready.same_dims) passed.closes in
+    let same = same_closed st c.note_done.new.state c.collect_all.new.state mid c.args.done c.note_done.ensures.state k.leaves.outs (k.leaves.ready.same_dims ∙ sym c.requires.ready.same_dims) passed.closes in
     λ l h from.
     let not_due : IsDue mid l → ⊥ = sent_not_due st mid l c.phase.ensures.standing c.relay_all.ensures.standing same_dims same all (subst (λ ds. l < links ds) (sym same_dims) h) in
-    ap (λ f. f l) k.posts ∙ ap (λ b. once_more_if b (g.P.Port.posts c.args.port.now l)) (sym (served_not mid l (g.P.Port.sent c.args.port.now l) (g.P.Port.sent c.collect_all.new.port l) (ap (λ s. s l) k.sent) not_due))
+    ap (λ f. f l) k.leaves.same_outs.posts ∙ ap (λ b. once_more_if b (g.P.Port.posts c.args.port.now l)) (sym (served_not mid l (g.P.Port.sent c.args.port.now l) (g.P.Port.sent c.collect_all.new.port l) (ap (λ s. s l) k.leaves.same_outs.sent) not_due))
 
 pub returns-clause-held : goal.returns-clause-held
 returns-clause-held g c =
@@ -187,12 +187,12 @@ returns-clause-held g c =
     let rank : ℕ = g.P.Port.rank c.args.port.now in
     let k = c.collect_all.ensures in
     let e = c.post_all.ensures in
-    let passed = c.relay_all.ensures.passed dims rank _ _ k.ready in
+    let passed = c.relay_all.ensures.passed dims rank _ _ k.leaves.ready in
     held dims rank c.args.state.now c.note_done.new.state c.collect_all.new.state c.relay_all.new.state c.post_all.new.state c.args.done _ _ _ _ _ _
-    c.phase.ensures.standing (sym c.requires.ready.same_dims) (sym c.requires.ready.same_rank) c.note_done.ensures.state k.goes_on k.outs k.ready passed
-    e.goes_on e.ins (ready_at dims _ rank _ _ _ _ k.same_dims k.same_rank e.ready)
-    (λ l h from. e.waits l (link_at dims _ l k.same_dims h) (end_at sender_at dims _ rank _ l k.same_dims k.same_rank from)) k.sent
-    (λ l h from. e.posted l (link_at dims _ l k.same_dims h) (end_at sender_at dims _ rank _ l k.same_dims k.same_rank from))
+    c.phase.ensures.standing (sym c.requires.ready.same_dims) (sym c.requires.ready.same_rank) c.note_done.ensures.state k.leaves.goes_on k.leaves.outs k.leaves.ready passed
+    e.leaves.goes_on e.leaves.ins (ready_at dims _ rank _ _ _ _ k.leaves.same_port.dims k.leaves.same_port.rank e.leaves.ready)
+    (λ l h from. e.waits l (link_at dims _ l k.leaves.same_port.dims h) (end_at sender_at dims _ rank _ l k.leaves.same_port.dims k.leaves.same_port.rank from)) k.leaves.same_outs.sent
+    (λ l h from. e.posted l (link_at dims _ l k.leaves.same_port.dims h) (end_at sender_at dims _ rank _ l k.leaves.same_port.dims k.leaves.same_port.rank from))
     c.relay_all.ensures.standing c.relay_all.ensures.stopped
 
 pub returns-then-eq-clause-held : goal.returns-then-eq-clause-held
@@ -202,12 +202,12 @@ returns-then-eq-clause-held g c =
     let st : State = c.args.state.now in
     let mid : State = c.relay_all.new.state in
     let k = c.collect_all.ensures in
-    let passed = c.relay_all.ensures.passed dims rank _ _ k.ready in
+    let passed = c.relay_all.ensures.passed dims rank _ _ k.leaves.ready in
     let sent' : Logs = g.P.Port.sent c.collect_all.new.port in
     let got' : Logs = g.P.Port.got c.collect_all.new.port in
     held dims rank st c.note_done.new.state c.collect_all.new.state mid mid c.args.done (g.P.Port.sent c.args.port.now) sent' sent' (g.P.Port.got c.args.port.now) got' got'
-    c.phase.ensures.standing (sym c.requires.ready.same_dims) (sym c.requires.ready.same_rank) c.note_done.ensures.state k.goes_on k.outs k.ready passed
-    (goes_on_refl mid sent' got') refl passed.ready (λ l h from e. refl) k.sent (λ l h from. inl refl)
+    c.phase.ensures.standing (sym c.requires.ready.same_dims) (sym c.requires.ready.same_rank) c.note_done.ensures.state k.leaves.goes_on k.leaves.outs k.leaves.ready passed
+    (goes_on_refl mid sent' got') refl passed.ready (λ l h from e. refl) k.leaves.same_outs.sent (λ l h from. inl refl)
     c.relay_all.ensures.standing c.relay_all.ensures.stopped
 
 pub returns-then-is_over-clause-held : goal.returns-then-is_over-clause-held

@@ -4,7 +4,7 @@ use Rattle.route_tensor.specs.Link.{links}
 use Rattle.route_tensor.specs.Ends.{sender_at}
 use Rattle.route_tensor.specs.Neighbour.{link_to, out_index}
 use Rattle.route_tensor.proofs.Neighbours.{out_index-link_to, out_stands}
-use Rattle.convey.proofs.Ways.{to_below, to_sender, below_sum, link_here, ready_at, link_at, end_at, stays_more, waits_more, posted_more, serving_none, serving_more, serving_all, goes_on_refl, goes_on_trans}
+use Rattle.convey.proofs.Ways.{to_below, to_sender, below_sum, link_here, ready_at, link_at, end_at, stays_more, waits_more, posted_more, serving_none, serving_more, serving_all, posts_first, posts_then}
 use Rattle.convey.specs.Due.{was_served}
 use Rattle.port_bank.specs.Calls.{once_more_if}
 use Rattle.convey.proofs.Asks.{counted_none, counted_out, served_same}
@@ -20,24 +20,20 @@ post_one-requires g c =
     let grid : IsGrid dims = subst IsGrid first c.neighbours-i-end.ensures.grid in
     let own : rank < ranks dims = subst (λ r. r < ranks dims) (ap (λ t. t.rank) c.routes.ensures ∙ c.requires.ready.same_rank) (subst (λ ds. c.routes.result.now.rank < ranks ds) first c.neighbours-i-end.ensures.rank) in
     let link = c.neighbour-link.result.link_to in
-    let here : link ≡ link_to dims rank c.loop-i.i = link_here link_to dims _ rank _ _ _ (ap (λ t. t.dims) c.routes-in-loop-i.ensures ∙ k.ready.same_dims) (ap (λ t. t.rank) c.routes-in-loop-i.ensures ∙ k.ready.same_rank) (ap (λ n. n.link_to) c.neighbour-link.ensures.value) in
-    let at : c.loop-i.i ≡ out_index (g.P.Port.dims c.loop-i.port) link = sym (ap (λ ds. out_index ds link) k.same_dims ∙ (ap (out_index dims) here ∙ out_index-link_to dims rank c.loop-i.i grid own below)) in (
+    let here : link ≡ link_to dims rank c.loop-i.i = link_here link_to dims _ rank _ _ _ (ap (λ t. t.dims) c.routes-in-loop-i.ensures ∙ k.leaves.ready.same_dims) (ap (λ t. t.rank) c.routes-in-loop-i.ensures ∙ k.leaves.ready.same_rank) (ap (λ n. n.link_to) c.neighbour-link.ensures.value) in
+    let at : c.loop-i.i ≡ out_index (g.P.Port.dims c.loop-i.port) link = sym (ap (λ ds. out_index ds link) k.leaves.same_port.dims ∙ (ap (out_index dims) here ∙ out_index-link_to dims rank c.loop-i.i grid own below)) in (
       search rules,
       (
         search rules,
         (
-          subst (λ ds. link < links ds) (sym k.same_dims) (subst (λ l. l < links dims) (sym here) (to_below dims rank _ grid own below)),
+          subst (λ ds. link < links ds) (sym k.leaves.same_port.dims) (subst (λ l. l < links dims) (sym here) (to_below dims rank _ grid own below)),
           (
-            ap (λ ds. sender_at ds link) k.same_dims ∙ (ap (sender_at dims) here ∙ (to_sender dims rank _ grid own below ∙ sym k.same_rank)),
-            (at, (k.empty, ready_at _ _ _ _ _ _ _ (sym k.same_dims) (sym k.same_rank) k.ready)),
+            ap (λ ds. sender_at ds link) k.leaves.same_port.dims ∙ (ap (sender_at dims) here ∙ (to_sender dims rank _ grid own below ∙ sym k.leaves.same_port.rank)),
+            (at, (k.empty, ready_at _ _ _ _ _ _ _ (sym k.leaves.same_port.dims) (sym k.leaves.same_port.rank) k.leaves.ready)),
           ),
         ),
       ),
     )
-
-pub returns-in_err-post_one-clause-goes_on : goal.returns-in_err-post_one-clause-goes_on
-returns-in_err-post_one-clause-goes_on g c =
-    goes_on_trans _ _ _ _ _ _ _ _ _ c.loop-i.invariant.goes_on c.post_one.ensures.goes_on
 
 pub returns-in_err-post_one-clause-waits : goal.returns-in_err-post_one-clause-waits
 returns-in_err-post_one-clause-waits g c =
@@ -49,21 +45,21 @@ returns-in_err-post_one-clause-waits g c =
     let grid : IsGrid dims = subst IsGrid first c.neighbours-i-end.ensures.grid in
     let own : rank < ranks dims = subst (λ r. r < ranks dims) (ap (λ t. t.rank) c.routes.ensures ∙ c.requires.ready.same_rank) (subst (λ ds. c.routes.result.now.rank < ranks ds) first c.neighbours-i-end.ensures.rank) in
     let link = c.neighbour-link.result.link_to in
-    let here : link ≡ link_to dims rank c.loop-i.i = link_here link_to dims _ rank _ _ _ (ap (λ t. t.dims) c.routes-in-loop-i.ensures ∙ k.ready.same_dims) (ap (λ t. t.rank) c.routes-in-loop-i.ensures ∙ k.ready.same_rank) (ap (λ n. n.link_to) c.neighbour-link.ensures.value) in
+    let here : link ≡ link_to dims rank c.loop-i.i = link_here link_to dims _ rank _ _ _ (ap (λ t. t.dims) c.routes-in-loop-i.ensures ∙ k.leaves.ready.same_dims) (ap (λ t. t.rank) c.routes-in-loop-i.ensures ∙ k.leaves.ready.same_rank) (ap (λ n. n.link_to) c.neighbour-link.ensures.value) in
     let e = c.post_one.ensures in
-    let new = ready_at dims _ rank _ _ _ _ k.same_dims k.same_rank e.ready in
-    waits_more dims rank _ _ c.args.state.now c.loop-i.state c.post_one.new.state _ _ _ _ _ _ _ _ grid own below k.serving k.goes_on.sent_grows e.goes_on.sent_grows here (record {
-      out = λ m h from ne. e.out m (link_at dims _ m k.same_dims h) (end_at sender_at dims _ rank _ m k.same_dims k.same_rank from) ne;
+    let new = ready_at dims _ rank _ _ _ _ k.leaves.same_port.dims k.leaves.same_port.rank e.leaves.ready in
+    waits_more dims rank _ _ c.args.state.now c.loop-i.state c.post_one.new.state _ _ _ _ _ _ _ _ grid own below k.serving k.leaves.goes_on.sent_grows e.leaves.goes_on.sent_grows here (record {
+      out = λ m h from ne. e.out m (link_at dims _ m k.leaves.same_port.dims h) (end_at sender_at dims _ rank _ m k.leaves.same_port.dims k.leaves.same_port.rank from) ne;
       waits = e.waits;
       posted = e.posted;
-      sent_stays = e.sent;
-      looks_stays = e.looks_out;
-      crowded_stays = e.crowded;
-      same_dims = new.same_dims ∙ sym k.ready.same_dims;
-      ins = e.ins;
-      done = e.goes_on.done;
-      cap = e.goes_on.cap;
-      steady = e.goes_on.steady;
+      sent_stays = e.elsewhere.sent;
+      looks_stays = e.elsewhere.looks_out;
+      crowded_stays = e.elsewhere.crowded;
+      same_dims = new.same_dims ∙ sym k.leaves.ready.same_dims;
+      ins = e.leaves.ins;
+      done = e.leaves.goes_on.done;
+      cap = e.leaves.goes_on.cap;
+      steady = e.leaves.goes_on.steady;
     })
 
 pub returns-in_err-post_one-clause-posted : goal.returns-in_err-post_one-clause-posted
@@ -76,28 +72,25 @@ returns-in_err-post_one-clause-posted g c =
     let grid : IsGrid dims = subst IsGrid first c.neighbours-i-end.ensures.grid in
     let own : rank < ranks dims = subst (λ r. r < ranks dims) (ap (λ t. t.rank) c.routes.ensures ∙ c.requires.ready.same_rank) (subst (λ ds. c.routes.result.now.rank < ranks ds) first c.neighbours-i-end.ensures.rank) in
     let link = c.neighbour-link.result.link_to in
-    let here : link ≡ link_to dims rank c.loop-i.i = link_here link_to dims _ rank _ _ _ (ap (λ t. t.dims) c.routes-in-loop-i.ensures ∙ k.ready.same_dims) (ap (λ t. t.rank) c.routes-in-loop-i.ensures ∙ k.ready.same_rank) (ap (λ n. n.link_to) c.neighbour-link.ensures.value) in
+    let here : link ≡ link_to dims rank c.loop-i.i = link_here link_to dims _ rank _ _ _ (ap (λ t. t.dims) c.routes-in-loop-i.ensures ∙ k.leaves.ready.same_dims) (ap (λ t. t.rank) c.routes-in-loop-i.ensures ∙ k.leaves.ready.same_rank) (ap (λ n. n.link_to) c.neighbour-link.ensures.value) in
     let e = c.post_one.ensures in
-    let new = ready_at dims _ rank _ _ _ _ k.same_dims k.same_rank e.ready in
-    posted_more dims rank _ _ c.args.state.now c.loop-i.state c.post_one.new.state _ _ _ _ _ _ _ _ grid own below k.serving k.goes_on.sent_grows e.goes_on.sent_grows here (record {
-      out = λ m h from ne. e.out m (link_at dims _ m k.same_dims h) (end_at sender_at dims _ rank _ m k.same_dims k.same_rank from) ne;
+    let new = ready_at dims _ rank _ _ _ _ k.leaves.same_port.dims k.leaves.same_port.rank e.leaves.ready in
+    posted_more dims rank _ _ c.args.state.now c.loop-i.state c.post_one.new.state _ _ _ _ _ _ _ _ grid own below k.serving k.leaves.goes_on.sent_grows e.leaves.goes_on.sent_grows here (record {
+      out = λ m h from ne. e.out m (link_at dims _ m k.leaves.same_port.dims h) (end_at sender_at dims _ rank _ m k.leaves.same_port.dims k.leaves.same_port.rank from) ne;
       waits = e.waits;
       posted = e.posted;
-      sent_stays = e.sent;
-      looks_stays = e.looks_out;
-      crowded_stays = e.crowded;
-      same_dims = new.same_dims ∙ sym k.ready.same_dims;
-      ins = e.ins;
-      done = e.goes_on.done;
-      cap = e.goes_on.cap;
-      steady = e.goes_on.steady;
+      sent_stays = e.elsewhere.sent;
+      looks_stays = e.elsewhere.looks_out;
+      crowded_stays = e.elsewhere.crowded;
+      same_dims = new.same_dims ∙ sym k.leaves.ready.same_dims;
+      ins = e.leaves.ins;
+      done = e.leaves.goes_on.done;
+      cap = e.leaves.goes_on.cap;
+      steady = e.leaves.goes_on.steady;
     })
 
-pub returns-in_err-post_one-clause-idle : goal.returns-in_err-post_one-clause-idle
-returns-in_err-post_one-clause-idle g c =
-    let k = c.loop-i.invariant in
-    let e = c.post_one.ensures in
-    stays_more _ _ _ _ _ _ k.goes_on.sent_grows e.goes_on.sent_grows k.idle e.idle
+pub returns-in_err-post_one-clause-leaves : goal.returns-in_err-post_one-clause-leaves
+returns-in_err-post_one-clause-leaves g c = posts_then g.P.Port _ _ _ _ _ _ c.loop-i.invariant.leaves c.post_one.ensures.leaves
 
 pub loop-i-init : goal.loop-i-init
 loop-i-init g c =
@@ -105,19 +98,9 @@ loop-i-init g c =
     let rank = g.P.Port.rank c.args.port.now in
     record {
       empty = c.requires.empty;
-      ready = c.requires.ready;
-      goes_on = goes_on_refl c.args.state.now _ _;
+      leaves = posts_first g.P.Port c.args.state.now c.args.port.now c.requires.ready;
       serving = serving_none dims rank c.args.state.now _ _ _;
       counted = counted_none dims rank out_index sender_at _ _;
-      collects = refl;
-      ins = refl;
-      idle = λ l same. refl;
-      got = refl;
-      noted = refl;
-      rest = refl;
-      same_rank = refl;
-      same_dims = refl;
-      same_slots = refl;
     }
 
 pub loop-i-preserved : goal.loop-i-preserved
@@ -130,43 +113,33 @@ loop-i-preserved g c =
     let grid : IsGrid dims = subst IsGrid first c.neighbours-i-end.ensures.grid in
     let own : rank < ranks dims = subst (λ r. r < ranks dims) (ap (λ t. t.rank) c.routes.ensures ∙ c.requires.ready.same_rank) (subst (λ ds. c.routes.result.now.rank < ranks ds) first c.neighbours-i-end.ensures.rank) in
     let link = c.neighbour-link.result.link_to in
-    let here : link ≡ link_to dims rank c.loop-i.i = link_here link_to dims _ rank _ _ _ (ap (λ t. t.dims) c.routes-in-loop-i.ensures ∙ k.ready.same_dims) (ap (λ t. t.rank) c.routes-in-loop-i.ensures ∙ k.ready.same_rank) (ap (λ n. n.link_to) c.neighbour-link.ensures.value) in
+    let here : link ≡ link_to dims rank c.loop-i.i = link_here link_to dims _ rank _ _ _ (ap (λ t. t.dims) c.routes-in-loop-i.ensures ∙ k.leaves.ready.same_dims) (ap (λ t. t.rank) c.routes-in-loop-i.ensures ∙ k.leaves.ready.same_rank) (ap (λ n. n.link_to) c.neighbour-link.ensures.value) in
     let e = c.post_one.ensures in
-    let new = ready_at dims _ rank _ _ _ _ k.same_dims k.same_rank e.ready in
+    let new = ready_at dims _ rank _ _ _ _ k.leaves.same_port.dims k.leaves.same_port.rank e.leaves.ready in
     record {
       empty = e.empty;
-      ready = new;
-      goes_on = goes_on_trans _ _ _ _ _ _ _ _ _ k.goes_on e.goes_on;
-      serving = serving_more dims rank _ _ c.args.state.now c.loop-i.state c.post_one.new.state _ _ _ _ _ _ _ _ grid own below k.serving k.goes_on.sent_grows e.goes_on.sent_grows here (record {
-        out = λ m h from ne. e.out m (link_at dims _ m k.same_dims h) (end_at sender_at dims _ rank _ m k.same_dims k.same_rank from) ne;
+      leaves = posts_then g.P.Port _ _ _ _ _ _ k.leaves e.leaves;
+      serving = serving_more dims rank _ _ c.args.state.now c.loop-i.state c.post_one.new.state _ _ _ _ _ _ _ _ grid own below k.serving k.leaves.goes_on.sent_grows e.leaves.goes_on.sent_grows here (record {
+        out = λ m h from ne. e.out m (link_at dims _ m k.leaves.same_port.dims h) (end_at sender_at dims _ rank _ m k.leaves.same_port.dims k.leaves.same_port.rank from) ne;
         waits = e.waits;
         posted = e.posted;
-        sent_stays = e.sent;
-        looks_stays = e.looks_out;
-        crowded_stays = e.crowded;
-        same_dims = new.same_dims ∙ sym k.ready.same_dims;
-        ins = e.ins;
-        done = e.goes_on.done;
-        cap = e.goes_on.cap;
-        steady = e.goes_on.steady;
+        sent_stays = e.elsewhere.sent;
+        looks_stays = e.elsewhere.looks_out;
+        crowded_stays = e.elsewhere.crowded;
+        same_dims = new.same_dims ∙ sym k.leaves.ready.same_dims;
+        ins = e.leaves.ins;
+        done = e.leaves.goes_on.done;
+        cap = e.leaves.goes_on.cap;
+        steady = e.leaves.goes_on.steady;
       }) c.in_ok-post_one.ensures.served;
       counted = counted_out dims rank _ _ _ _ _ _ _ grid own below here k.counted (record {
-        stays = λ m h from ne. served_same c.loop-i.state c.post_one.new.state m _ _ _ (new.same_dims ∙ sym k.ready.same_dims) e.ins e.goes_on.done e.goes_on.cap e.goes_on.steady
-            (e.out m (link_at dims _ m k.same_dims h) (end_at sender_at dims _ rank _ m k.same_dims k.same_rank from) ne) (e.sent m ne);
+        stays = λ m h from ne. served_same c.loop-i.state c.post_one.new.state m _ _ _ (new.same_dims ∙ sym k.leaves.ready.same_dims) e.leaves.ins e.leaves.goes_on.done e.leaves.goes_on.cap e.leaves.goes_on.steady
+            (e.out m (link_at dims _ m k.leaves.same_port.dims h) (end_at sender_at dims _ rank _ m k.leaves.same_port.dims k.leaves.same_port.rank from) ne) (e.elsewhere.sent m ne);
         here = c.in_ok-post_one.ensures.posts ∙ ap (λ log. once_more_if (was_served c.post_one.new.state link log (g.P.Port.sent c.post_one.new.port link)) (g.P.Port.posts c.loop-i.port link))
             (k.serving.to_post link (subst (λ l. l < links dims) (sym here) (to_below dims rank _ grid own below)) (ap (sender_at dims) here ∙ to_sender dims rank _ grid own below)
             (omega (arith, ap (out_index dims) here, out_index-link_to dims rank c.loop-i.i grid own below)));
-        others = e.posts_elsewhere;
+        others = e.elsewhere.posts;
       });
-      collects = e.collects ∙ k.collects;
-      ins = search rules;
-      idle = stays_more _ _ _ _ _ _ k.goes_on.sent_grows e.goes_on.sent_grows k.idle e.idle;
-      got = search rules;
-      noted = search rules;
-      rest = search rules;
-      same_rank = search rules;
-      same_dims = search rules;
-      same_slots = search rules;
     }
 
 pub returns-clause-served : goal.returns-clause-served
@@ -197,9 +170,9 @@ returns-in_err-post_one-clause-stops g c =
     let grid : IsGrid dims = subst IsGrid first c.neighbours-i-end.ensures.grid in
     let own : rank < ranks dims = subst (λ r. r < ranks dims) (ap (λ t. t.rank) c.routes.ensures ∙ c.requires.ready.same_rank) (subst (λ ds. c.routes.result.now.rank < ranks ds) first c.neighbours-i-end.ensures.rank) in
     let link = c.neighbour-link.result.link_to in
-    let here : link ≡ link_to dims rank c.loop-i.i = link_here link_to dims _ rank _ _ _ (ap (λ t. t.dims) c.routes-in-loop-i.ensures ∙ k.ready.same_dims) (ap (λ t. t.rank) c.routes-in-loop-i.ensures ∙ k.ready.same_rank) (ap (λ n. n.link_to) c.neighbour-link.ensures.value) in
+    let here : link ≡ link_to dims rank c.loop-i.i = link_here link_to dims _ rank _ _ _ (ap (λ t. t.dims) c.routes-in-loop-i.ensures ∙ k.leaves.ready.same_dims) (ap (λ t. t.rank) c.routes-in-loop-i.ensures ∙ k.leaves.ready.same_rank) (ap (λ n. n.link_to) c.neighbour-link.ensures.value) in
     let e = c.post_one.ensures in
-    let new = ready_at dims _ rank _ _ _ _ k.same_dims k.same_rank e.ready in
+    let new = ready_at dims _ rank _ _ _ _ k.leaves.same_port.dims k.leaves.same_port.rank e.leaves.ready in
     let st = c.post_one.new.state in
     let at : out_index st.dims link ≡ c.loop-i.i = ap (λ ds. out_index ds link) new.same_dims ∙ (ap (out_index dims) here ∙ out_index-link_to dims rank c.loop-i.i grid own below) in
     λ err. record {

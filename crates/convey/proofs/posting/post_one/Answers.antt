@@ -17,7 +17,7 @@ use Rattle.convey.proofs.States.{out_number}
 use Rattle.convey.proofs.Collects.{grew}
 use Rattle.convey.proofs.Posts.{taken_out, not_due, place_empty, opened, reopened, may_post, dated, served_one, served_none, still_waits, still_due, no_longer_due}
 use Rattle.port_bank.specs.Calls.{once_more_if}
-use Rattle.convey.proofs.Ways.{goes_on_refl}
+use Rattle.convey.proofs.Ways.{posts_first}
 use Rattle.convey.proofs.Asks.{served_sent, served_due, served_not}
 use Rattle.convey.proofs.posting.post_one.Goals as goal
 
@@ -57,8 +57,8 @@ post-requires g c =
       ),
     )
 
-pub returns-in-Ok-Sent-clause-ready : goal.returns-in-Ok-Sent-clause-ready
-returns-in-Ok-Sent-clause-ready g c =
+pub returns-in-Ok-Sent-clause-leaves : goal.returns-in-Ok-Sent-clause-leaves
+returns-in-Ok-Sent-clause-leaves g c =
     let st = c.args.state.now in
     let s = c.known.ensures.standing in
     let below : c.args.link < links st.dims = subst (λ ds. c.args.link < links ds) (sym c.requires.ready.same_dims) c.requires.link in
@@ -69,10 +69,22 @@ returns-in-Ok-Sent-clause-ready g c =
     let was : c.post.result ≡ Ok Sent = c.in-Ok-Sent.is ∙ ap Ok c.in-Ok-Sent.field-0-is in
     let new = opened st c.take_out.new.self c.args.number c.args.link _ c.requires.ready.home n c.take_out.ensures.state in
     let closes = sym (ap (λ p. p.last) c.take_out.ensures.parcel) in
-    (served_one _ _ st _ c.args.link _ q _ _ _ _ s c.requires.ready c.requires.link c.requires.starts_here t.due t.entries t.last e.got new refl closes (e.sent was)).ready
+    let more = ap (λ logs. logs c.args.link) (e.sent was) ∙ added-here (g.P.Port.sent c.args.port.now) c.args.link q in
+    let one = (served_one _ _ st _ c.args.link _ q _ _ _ _ s c.requires.ready c.requires.link c.requires.starts_here t.due t.entries t.last e.same_ins.got new refl closes (e.sent was)) in
+    record {
+      ready = one.ready;
+      goes_on = one.goes_on;
+      ins = search rules;
+      idle = λ m same. elim (cases_eq m c.args.link) [
+        | inl here ↦ absurd (grew _ _ (sym more ∙ subst (λ l. g.P.Port.sent c.post.new.self l ≡ g.P.Port.sent c.args.port.now l) here same))
+        | inr other ↦ ap (λ f. f m) e.idle_here ∙ changed-other (g.P.Port.idle c.args.port.now) c.args.link m (g.P.Port.idle c.post.new.self c.args.link) other
+      ];
+      same_ins = e.same_ins;
+      same_port = e.same_port;
+    }
 
-pub returns-in-Ok-Sent-clause-goes_on : goal.returns-in-Ok-Sent-clause-goes_on
-returns-in-Ok-Sent-clause-goes_on g c =
+pub returns-in-Ok-NoRoom-clause-leaves : goal.returns-in-Ok-NoRoom-clause-leaves
+returns-in-Ok-NoRoom-clause-leaves g c =
     let st = c.args.state.now in
     let s = c.known.ensures.standing in
     let below : c.args.link < links st.dims = subst (λ ds. c.args.link < links ds) (sym c.requires.ready.same_dims) c.requires.link in
@@ -80,10 +92,43 @@ returns-in-Ok-Sent-clause-goes_on g c =
     let t = taken_out st c.args.number c.args.link c.take_out.new.parcel s below n (sym c.due_to.ensures ∙ c.if-not-due_to.false) c.take_out.ensures.parcel in
     let q = shipped c.take_out.new.parcel in
     let e = c.post.ensures in
-    let was : c.post.result ≡ Ok Sent = c.in-Ok-Sent.is ∙ ap Ok c.in-Ok-Sent.field-0-is in
-    let new = opened st c.take_out.new.self c.args.number c.args.link _ c.requires.ready.home n c.take_out.ensures.state in
-    let closes = sym (ap (λ p. p.last) c.take_out.ensures.parcel) in
-    (served_one _ _ st _ c.args.link _ q _ _ _ _ s c.requires.ready c.requires.link c.requires.starts_here t.due t.entries t.last e.got new refl closes (e.sent was)).goes_on
+    let no = not_sent _ (c.in-Ok-NoRoom.is ∙ ap Ok c.in-Ok-NoRoom.field-0-is) in
+    let new = reopened st c.take_out.new.self c.put_back.new.self c.args.number c.args.link _ _ c.requires.ready.home n c.take_out.ensures.state c.put_back.ensures.state in
+    let keeps = ap (λ p. p.untaken) (e.kept no) ∙ t.entries in
+    let none = (served_none _ _ st _ c.args.link _ q _ _ _ _ s c.requires.ready c.requires.link c.requires.starts_here t.due t.entries t.last e.same_ins.got new keeps refl (e.not_sent no)) in
+    record {
+      ready = none.ready;
+      goes_on = none.goes_on;
+      ins = search rules;
+      idle = λ m same. ap (λ f. f m) (e.still_idle no);
+      same_ins = e.same_ins;
+      same_port = e.same_port;
+    }
+
+pub returns-in-Err-clause-leaves : goal.returns-in-Err-clause-leaves
+returns-in-Err-clause-leaves g c =
+    let st = c.args.state.now in
+    let s = c.known.ensures.standing in
+    let below : c.args.link < links st.dims = subst (λ ds. c.args.link < links ds) (sym c.requires.ready.same_dims) c.requires.link in
+    let n : c.args.number ≡ out_index st.dims c.args.link = c.requires.number ∙ ap (λ ds. out_index ds c.args.link) (sym c.requires.ready.same_dims) in
+    let t = taken_out st c.args.number c.args.link c.take_out.new.parcel s below n (sym c.due_to.ensures ∙ c.if-not-due_to.false) c.take_out.ensures.parcel in
+    let q = shipped c.take_out.new.parcel in
+    let e = c.post.ensures in
+    let no = failed _ _ c.in-Err.is in
+    let new = reopened st c.take_out.new.self c.put_back-in-Err.new.self c.args.number c.args.link _ _ c.requires.ready.home n c.take_out.ensures.state c.put_back-in-Err.ensures.state in
+    let keeps = ap (λ p. p.untaken) (e.kept no) ∙ t.entries in
+    let none = (served_none _ _ st _ c.args.link _ q _ _ _ _ s c.requires.ready c.requires.link c.requires.starts_here t.due t.entries t.last e.same_ins.got new keeps refl (e.not_sent no)) in
+    record {
+      ready = none.ready;
+      goes_on = none.goes_on;
+      ins = search rules;
+      idle = λ m same. ap (λ f. f m) (e.still_idle no);
+      same_ins = e.same_ins;
+      same_port = e.same_port;
+    }
+
+pub returns-then-not-due_to-clause-leaves : goal.returns-then-not-due_to-clause-leaves
+returns-then-not-due_to-clause-leaves g c = posts_first g.P.Port c.args.state.now c.args.port.now c.requires.ready
 
 pub returns-in-Ok-Sent-clause-out : goal.returns-in-Ok-Sent-clause-out
 returns-in-Ok-Sent-clause-out g c =
@@ -97,7 +142,7 @@ returns-in-Ok-Sent-clause-out g c =
     let was : c.post.result ≡ Ok Sent = c.in-Ok-Sent.is ∙ ap Ok c.in-Ok-Sent.field-0-is in
     let new = opened st c.take_out.new.self c.args.number c.args.link _ c.requires.ready.home n c.take_out.ensures.state in
     let closes = sym (ap (λ p. p.last) c.take_out.ensures.parcel) in
-    (served_one _ _ st _ c.args.link _ q _ _ _ _ s c.requires.ready c.requires.link c.requires.starts_here t.due t.entries t.last e.got new refl closes (e.sent was)).out
+    (served_one _ _ st _ c.args.link _ q _ _ _ _ s c.requires.ready c.requires.link c.requires.starts_here t.due t.entries t.last e.same_ins.got new refl closes (e.sent was)).out
 
 pub returns-in-Ok-Sent-clause-served : goal.returns-in-Ok-Sent-clause-served
 returns-in-Ok-Sent-clause-served g c =
@@ -111,7 +156,7 @@ returns-in-Ok-Sent-clause-served g c =
     let was : c.post.result ≡ Ok Sent = c.in-Ok-Sent.is ∙ ap Ok c.in-Ok-Sent.field-0-is in
     let new = opened st c.take_out.new.self c.args.number c.args.link _ c.requires.ready.home n c.take_out.ensures.state in
     let closes = sym (ap (λ p. p.last) c.take_out.ensures.parcel) in
-    let no = no_longer_due _ _ st _ c.args.link _ q _ (g.P.Port.sent c.args.port.now) _ _ s c.requires.ready c.requires.link c.requires.starts_here t.due t.entries t.last e.got new refl closes in
+    let no = no_longer_due _ _ st _ c.args.link _ q _ (g.P.Port.sent c.args.port.now) _ _ s c.requires.ready c.requires.link c.requires.starts_here t.due t.entries t.last e.same_ins.got new refl closes in
     record { looked = λ d. absurd (no d); crowded = λ d. absurd (no d) }
 
 pub returns-in-Ok-Sent-clause-waits : goal.returns-in-Ok-Sent-clause-waits
@@ -129,52 +174,6 @@ returns-in-Ok-Sent-clause-waits g c =
     let more = ap (λ logs. logs c.args.link) (e.sent was) ∙ added-here (g.P.Port.sent c.args.port.now) c.args.link q in
     λ same. absurd (grew _ _ (sym more ∙ same))
 
-pub returns-in-Ok-Sent-clause-idle : goal.returns-in-Ok-Sent-clause-idle
-returns-in-Ok-Sent-clause-idle g c =
-    let st = c.args.state.now in
-    let s = c.known.ensures.standing in
-    let below : c.args.link < links st.dims = subst (λ ds. c.args.link < links ds) (sym c.requires.ready.same_dims) c.requires.link in
-    let n : c.args.number ≡ out_index st.dims c.args.link = c.requires.number ∙ ap (λ ds. out_index ds c.args.link) (sym c.requires.ready.same_dims) in
-    let t = taken_out st c.args.number c.args.link c.take_out.new.parcel s below n (sym c.due_to.ensures ∙ c.if-not-due_to.false) c.take_out.ensures.parcel in
-    let q = shipped c.take_out.new.parcel in
-    let e = c.post.ensures in
-    let was : c.post.result ≡ Ok Sent = c.in-Ok-Sent.is ∙ ap Ok c.in-Ok-Sent.field-0-is in
-    let new = opened st c.take_out.new.self c.args.number c.args.link _ c.requires.ready.home n c.take_out.ensures.state in
-    let closes = sym (ap (λ p. p.last) c.take_out.ensures.parcel) in
-    let more = ap (λ logs. logs c.args.link) (e.sent was) ∙ added-here (g.P.Port.sent c.args.port.now) c.args.link q in
-    λ m same. elim (cases_eq m c.args.link) [
-      | inl here ↦ absurd (grew _ _ (sym more ∙ subst (λ l. g.P.Port.sent c.post.new.self l ≡ g.P.Port.sent c.args.port.now l) here same))
-      | inr other ↦ ap (λ f. f m) e.idle_here ∙ changed-other (g.P.Port.idle c.args.port.now) c.args.link m (g.P.Port.idle c.post.new.self c.args.link) other
-    ]
-
-pub returns-in-Ok-NoRoom-clause-ready : goal.returns-in-Ok-NoRoom-clause-ready
-returns-in-Ok-NoRoom-clause-ready g c =
-    let st = c.args.state.now in
-    let s = c.known.ensures.standing in
-    let below : c.args.link < links st.dims = subst (λ ds. c.args.link < links ds) (sym c.requires.ready.same_dims) c.requires.link in
-    let n : c.args.number ≡ out_index st.dims c.args.link = c.requires.number ∙ ap (λ ds. out_index ds c.args.link) (sym c.requires.ready.same_dims) in
-    let t = taken_out st c.args.number c.args.link c.take_out.new.parcel s below n (sym c.due_to.ensures ∙ c.if-not-due_to.false) c.take_out.ensures.parcel in
-    let q = shipped c.take_out.new.parcel in
-    let e = c.post.ensures in
-    let no = not_sent _ (c.in-Ok-NoRoom.is ∙ ap Ok c.in-Ok-NoRoom.field-0-is) in
-    let new = reopened st c.take_out.new.self c.put_back.new.self c.args.number c.args.link _ _ c.requires.ready.home n c.take_out.ensures.state c.put_back.ensures.state in
-    let keeps = ap (λ p. p.untaken) (e.kept no) ∙ t.entries in
-    (served_none _ _ st _ c.args.link _ q _ _ _ _ s c.requires.ready c.requires.link c.requires.starts_here t.due t.entries t.last e.got new keeps refl (e.not_sent no)).ready
-
-pub returns-in-Ok-NoRoom-clause-goes_on : goal.returns-in-Ok-NoRoom-clause-goes_on
-returns-in-Ok-NoRoom-clause-goes_on g c =
-    let st = c.args.state.now in
-    let s = c.known.ensures.standing in
-    let below : c.args.link < links st.dims = subst (λ ds. c.args.link < links ds) (sym c.requires.ready.same_dims) c.requires.link in
-    let n : c.args.number ≡ out_index st.dims c.args.link = c.requires.number ∙ ap (λ ds. out_index ds c.args.link) (sym c.requires.ready.same_dims) in
-    let t = taken_out st c.args.number c.args.link c.take_out.new.parcel s below n (sym c.due_to.ensures ∙ c.if-not-due_to.false) c.take_out.ensures.parcel in
-    let q = shipped c.take_out.new.parcel in
-    let e = c.post.ensures in
-    let no = not_sent _ (c.in-Ok-NoRoom.is ∙ ap Ok c.in-Ok-NoRoom.field-0-is) in
-    let new = reopened st c.take_out.new.self c.put_back.new.self c.args.number c.args.link _ _ c.requires.ready.home n c.take_out.ensures.state c.put_back.ensures.state in
-    let keeps = ap (λ p. p.untaken) (e.kept no) ∙ t.entries in
-    (served_none _ _ st _ c.args.link _ q _ _ _ _ s c.requires.ready c.requires.link c.requires.starts_here t.due t.entries t.last e.got new keeps refl (e.not_sent no)).goes_on
-
 pub returns-in-Ok-NoRoom-clause-out : goal.returns-in-Ok-NoRoom-clause-out
 returns-in-Ok-NoRoom-clause-out g c =
     let st = c.args.state.now in
@@ -187,7 +186,7 @@ returns-in-Ok-NoRoom-clause-out g c =
     let no = not_sent _ (c.in-Ok-NoRoom.is ∙ ap Ok c.in-Ok-NoRoom.field-0-is) in
     let new = reopened st c.take_out.new.self c.put_back.new.self c.args.number c.args.link _ _ c.requires.ready.home n c.take_out.ensures.state c.put_back.ensures.state in
     let keeps = ap (λ p. p.untaken) (e.kept no) ∙ t.entries in
-    (served_none _ _ st _ c.args.link _ q _ _ _ _ s c.requires.ready c.requires.link c.requires.starts_here t.due t.entries t.last e.got new keeps refl (e.not_sent no)).out
+    (served_none _ _ st _ c.args.link _ q _ _ _ _ s c.requires.ready c.requires.link c.requires.starts_here t.due t.entries t.last e.same_ins.got new keeps refl (e.not_sent no)).out
 
 pub returns-in-Ok-NoRoom-clause-waits : goal.returns-in-Ok-NoRoom-clause-waits
 returns-in-Ok-NoRoom-clause-waits g c =
@@ -201,35 +200,7 @@ returns-in-Ok-NoRoom-clause-waits g c =
     let no = not_sent _ (c.in-Ok-NoRoom.is ∙ ap Ok c.in-Ok-NoRoom.field-0-is) in
     let new = reopened st c.take_out.new.self c.put_back.new.self c.args.number c.args.link _ _ c.requires.ready.home n c.take_out.ensures.state c.put_back.ensures.state in
     let keeps = ap (λ p. p.untaken) (e.kept no) ∙ t.entries in
-    λ same. still_waits _ _ st _ c.args.link _ q _ (g.P.Port.sent c.args.port.now) _ _ s c.requires.ready c.requires.link c.requires.starts_here t.due t.entries t.last e.got new keeps
-
-pub returns-in-Err-clause-ready : goal.returns-in-Err-clause-ready
-returns-in-Err-clause-ready g c =
-    let st = c.args.state.now in
-    let s = c.known.ensures.standing in
-    let below : c.args.link < links st.dims = subst (λ ds. c.args.link < links ds) (sym c.requires.ready.same_dims) c.requires.link in
-    let n : c.args.number ≡ out_index st.dims c.args.link = c.requires.number ∙ ap (λ ds. out_index ds c.args.link) (sym c.requires.ready.same_dims) in
-    let t = taken_out st c.args.number c.args.link c.take_out.new.parcel s below n (sym c.due_to.ensures ∙ c.if-not-due_to.false) c.take_out.ensures.parcel in
-    let q = shipped c.take_out.new.parcel in
-    let e = c.post.ensures in
-    let no = failed _ _ c.in-Err.is in
-    let new = reopened st c.take_out.new.self c.put_back-in-Err.new.self c.args.number c.args.link _ _ c.requires.ready.home n c.take_out.ensures.state c.put_back-in-Err.ensures.state in
-    let keeps = ap (λ p. p.untaken) (e.kept no) ∙ t.entries in
-    (served_none _ _ st _ c.args.link _ q _ _ _ _ s c.requires.ready c.requires.link c.requires.starts_here t.due t.entries t.last e.got new keeps refl (e.not_sent no)).ready
-
-pub returns-in-Err-clause-goes_on : goal.returns-in-Err-clause-goes_on
-returns-in-Err-clause-goes_on g c =
-    let st = c.args.state.now in
-    let s = c.known.ensures.standing in
-    let below : c.args.link < links st.dims = subst (λ ds. c.args.link < links ds) (sym c.requires.ready.same_dims) c.requires.link in
-    let n : c.args.number ≡ out_index st.dims c.args.link = c.requires.number ∙ ap (λ ds. out_index ds c.args.link) (sym c.requires.ready.same_dims) in
-    let t = taken_out st c.args.number c.args.link c.take_out.new.parcel s below n (sym c.due_to.ensures ∙ c.if-not-due_to.false) c.take_out.ensures.parcel in
-    let q = shipped c.take_out.new.parcel in
-    let e = c.post.ensures in
-    let no = failed _ _ c.in-Err.is in
-    let new = reopened st c.take_out.new.self c.put_back-in-Err.new.self c.args.number c.args.link _ _ c.requires.ready.home n c.take_out.ensures.state c.put_back-in-Err.ensures.state in
-    let keeps = ap (λ p. p.untaken) (e.kept no) ∙ t.entries in
-    (served_none _ _ st _ c.args.link _ q _ _ _ _ s c.requires.ready c.requires.link c.requires.starts_here t.due t.entries t.last e.got new keeps refl (e.not_sent no)).goes_on
+    λ same. still_waits _ _ st _ c.args.link _ q _ (g.P.Port.sent c.args.port.now) _ _ s c.requires.ready c.requires.link c.requires.starts_here t.due t.entries t.last e.same_ins.got new keeps
 
 pub returns-in-Err-clause-out : goal.returns-in-Err-clause-out
 returns-in-Err-clause-out g c =
@@ -243,7 +214,7 @@ returns-in-Err-clause-out g c =
     let no = failed _ _ c.in-Err.is in
     let new = reopened st c.take_out.new.self c.put_back-in-Err.new.self c.args.number c.args.link _ _ c.requires.ready.home n c.take_out.ensures.state c.put_back-in-Err.ensures.state in
     let keeps = ap (λ p. p.untaken) (e.kept no) ∙ t.entries in
-    (served_none _ _ st _ c.args.link _ q _ _ _ _ s c.requires.ready c.requires.link c.requires.starts_here t.due t.entries t.last e.got new keeps refl (e.not_sent no)).out
+    (served_none _ _ st _ c.args.link _ q _ _ _ _ s c.requires.ready c.requires.link c.requires.starts_here t.due t.entries t.last e.same_ins.got new keeps refl (e.not_sent no)).out
 
 pub returns-in-Err-clause-waits : goal.returns-in-Err-clause-waits
 returns-in-Err-clause-waits g c =
@@ -257,15 +228,12 @@ returns-in-Err-clause-waits g c =
     let no = failed _ _ c.in-Err.is in
     let new = reopened st c.take_out.new.self c.put_back-in-Err.new.self c.args.number c.args.link _ _ c.requires.ready.home n c.take_out.ensures.state c.put_back-in-Err.ensures.state in
     let keeps = ap (λ p. p.untaken) (e.kept no) ∙ t.entries in
-    λ same. still_waits _ _ st _ c.args.link _ q _ (g.P.Port.sent c.args.port.now) _ _ s c.requires.ready c.requires.link c.requires.starts_here t.due t.entries t.last e.got new keeps
+    λ same. still_waits _ _ st _ c.args.link _ q _ (g.P.Port.sent c.args.port.now) _ _ s c.requires.ready c.requires.link c.requires.starts_here t.due t.entries t.last e.same_ins.got new keeps
 
 pub returns-in-Ok-NoRoom-clause-served : goal.returns-in-Ok-NoRoom-clause-served
 returns-in-Ok-NoRoom-clause-served g c =
     let was : c.post.result ≡ Ok NoRoom = c.in-Ok-NoRoom.is ∙ ap Ok c.in-Ok-NoRoom.field-0-is in
     record { looked = λ d. c.post.ensures.looked was; crowded = λ d. c.post.ensures.crowded was }
-
-pub returns-then-not-due_to-clause-goes_on : goal.returns-then-not-due_to-clause-goes_on
-returns-then-not-due_to-clause-goes_on g c = goes_on_refl c.args.state.now _ _
 
 pub due_to-requires : goal.due_to-requires
 due_to-requires g c =
@@ -409,7 +377,7 @@ returns-in-Ok-NoRoom-clause-posts g c =
     let no = not_sent _ (c.in-Ok-NoRoom.is ∙ ap Ok c.in-Ok-NoRoom.field-0-is) in
     let new = reopened st c.take_out.new.self c.put_back.new.self c.args.number c.args.link _ _ c.requires.ready.home n c.take_out.ensures.state c.put_back.ensures.state in
     let keeps = ap (λ p. p.untaken) (e.kept no) ∙ t.entries in
-    let due = still_due _ _ st _ c.args.link _ q _ (g.P.Port.sent c.args.port.now) _ _ s c.requires.ready c.requires.link c.requires.starts_here t.due t.entries t.last e.got new keeps refl in
+    let due = still_due _ _ st _ c.args.link _ q _ (g.P.Port.sent c.args.port.now) _ _ s c.requires.ready c.requires.link c.requires.starts_here t.due t.entries t.last e.same_ins.got new keeps refl in
     let log = g.P.Port.sent c.args.port.now c.args.link in
     let calls : ℕ → ℕ = g.P.Port.posts c.args.port.now in
     let once = ap (λ f. f c.args.link) (c.post.ensures.posts (search rules)) ∙ changed-here calls c.args.link (suc (calls c.args.link)) in
@@ -427,20 +395,37 @@ returns-in-Err-clause-still_due g c =
     let no = failed _ _ c.in-Err.is in
     let new = reopened st c.take_out.new.self c.put_back-in-Err.new.self c.args.number c.args.link _ _ c.requires.ready.home n c.take_out.ensures.state c.put_back-in-Err.ensures.state in
     let keeps = ap (λ p. p.untaken) (e.kept no) ∙ t.entries in
-    λ err. still_due _ _ st _ c.args.link _ q _ (g.P.Port.sent c.args.port.now) _ _ s c.requires.ready c.requires.link c.requires.starts_here t.due t.entries t.last e.got new keeps refl
+    λ err. still_due _ _ st _ c.args.link _ q _ (g.P.Port.sent c.args.port.now) _ _ s c.requires.ready c.requires.link c.requires.starts_here t.due t.entries t.last e.same_ins.got new keeps refl
 
 pub returns-in-Err-clause-no_post : goal.returns-in-Err-clause-no_post
 returns-in-Err-clause-no_post g c = λ err. ap g.P.Port.posts (c.post.ensures.no_memory (search rules))
 
-pub returns-in-Err-clause-posts_elsewhere : goal.returns-in-Err-clause-posts_elsewhere
-returns-in-Err-clause-posts_elsewhere g c = λ m ne. ap (λ port. g.P.Port.posts port m) (c.post.ensures.no_memory (search rules))
+pub returns-in-Err-clause-elsewhere : goal.returns-in-Err-clause-elsewhere
+returns-in-Err-clause-elsewhere g c =
+    let same = c.post.ensures.no_memory (search rules) in
+    record {
+      sent = λ m ne. ap (λ port. g.P.Port.sent port m) same;
+      posts = λ m ne. ap (λ port. g.P.Port.posts port m) same;
+      looks_out = λ m ne. ap (λ port. g.P.Port.looks_out port m) same;
+      crowded = λ m ne. ap (λ port. g.P.Port.crowded port m) same;
+    }
 
-pub returns-in-Ok-Sent-clause-posts_elsewhere : goal.returns-in-Ok-Sent-clause-posts_elsewhere
-returns-in-Ok-Sent-clause-posts_elsewhere g c =
+pub returns-in-Ok-Sent-clause-elsewhere : goal.returns-in-Ok-Sent-clause-elsewhere
+returns-in-Ok-Sent-clause-elsewhere g c =
     let calls : ℕ → ℕ = g.P.Port.posts c.args.port.now in
-    λ m ne. ap (λ f. f m) (c.post.ensures.posts (search rules)) ∙ changed-other calls c.args.link m (suc (calls c.args.link)) ne
+    record {
+      sent = search rules;
+      posts = λ m ne. ap (λ f. f m) (c.post.ensures.posts (search rules)) ∙ changed-other calls c.args.link m (suc (calls c.args.link)) ne;
+      looks_out = search rules;
+      crowded = search rules;
+    }
 
-pub returns-in-Ok-NoRoom-clause-posts_elsewhere : goal.returns-in-Ok-NoRoom-clause-posts_elsewhere
-returns-in-Ok-NoRoom-clause-posts_elsewhere g c =
+pub returns-in-Ok-NoRoom-clause-elsewhere : goal.returns-in-Ok-NoRoom-clause-elsewhere
+returns-in-Ok-NoRoom-clause-elsewhere g c =
     let calls : ℕ → ℕ = g.P.Port.posts c.args.port.now in
-    λ m ne. ap (λ f. f m) (c.post.ensures.posts (search rules)) ∙ changed-other calls c.args.link m (suc (calls c.args.link)) ne
+    record {
+      sent = search rules;
+      posts = λ m ne. ap (λ f. f m) (c.post.ensures.posts (search rules)) ∙ changed-other calls c.args.link m (suc (calls c.args.link)) ne;
+      looks_out = search rules;
+      crowded = search rules;
+    }

@@ -1,6 +1,6 @@
 use Rattle.std.proofs.Common.{◌≡◌, length}
 use Rattle.list_laws.specs.Lists.{EachAt}
-use Rattle.convey.proofs.Together.{StartsOut}
+use Rattle.convey.specs.Conveyors.{StartsOut}
 use Rattle.count_instructions.proofs.plain.sides_of.Given as goal
 
 abbrev pub invariant-loop-rank : goal.invariant-loop-rank

@@ -6,25 +6,22 @@ use Rattle.count_instructions.proofs.plain.turn_one.Goals as goal
 pub turn-requires : goal.turn-requires
 turn-requires g c =
     let sides = c.args.sides.now.items in
-    let d = c.index_mut.result.now in (
-      omega arith,
-      together_port g.row.CAP c.args.rank (λ q. (get_or sides q d).conveyor) d.conveyor c.args.bank c.port-port.result.bank c.port-port.result.rank (c.requires.together d) c.requires.rank
-          (ap (λ s. s.conveyor) c.index_mut.ensures.value) c.port-port.ensures.bank c.port-port.ensures.rank,
-    )
+    let d = c.index_mut.result.now in
+    let w = together_port g.row.CAP c.args.rank (λ q. (get_or sides q d).conveyor) d.conveyor c.args.bank c.port-port.result.bank c.port-port.result.rank (c.requires.together d) c.requires.rank (ap (λ s. s.conveyor) c.index_mut.ensures.value) c.port-port.ensures.bank c.port-port.ensures.rank in (omega arith, record { same_dims = w.0; same_rank = w.1.0; agrees = w.1.1 })
 
 pub returns-clause-together : goal.returns-clause-together
 returns-clause-together g c =
     let sides = c.args.sides.now.items in
     let within : c.args.rank < length sides = subst (λ n. c.args.rank < n) (sym c.requires.all) c.requires.rank in
     let a : Advances g.row.CAP c.args.rank c.index_mut.result.now.conveyor c.turn.new.self.conveyor c.port-port.result.bank c.turn.new.port.bank c.port-port.result.rank c.turn.new.port.rank = record {
-      agrees = c.turn.ensures.agrees;
+      agrees = c.turn.ensures.keeps.agrees;
       sound = c.turn.ensures.sound;
-      self_dims = c.turn.ensures.self_dims;
-      self_rank = c.turn.ensures.self_rank;
-      port_dims = c.turn.ensures.port_dims;
-      port_rank = c.turn.ensures.port_rank;
-      port_slots = c.turn.ensures.port_slots;
-      rest = c.turn.ensures.rest;
+      self_dims = c.turn.ensures.keeps.dims;
+      self_rank = c.turn.ensures.keeps.rank;
+      port_dims = c.turn.ensures.keeps.same_port.dims;
+      port_rank = c.turn.ensures.keeps.same_port.rank;
+      port_slots = c.turn.ensures.keeps.same_port.slots;
+      rest = c.turn.ensures.keeps.same_port.rest;
       lawful = subst (IsBank g.row.CAP) c.into_bank.ensures.bank c.into_bank.ensures.lawful;
     } in
     λ d. (together_advance g.row.CAP c.args.rank _ _ _ _ c.args.bank c.port-port.result.bank c.turn.new.port.bank c.into_bank.result c.port-port.result.rank c.turn.new.port.rank

@@ -15,4 +15,4 @@ returns-clause-agrees g c =
     let sent = ap posted_on made ∙ ap shipped_all (no_sent Contents none) in
     let got = ap collected_from made ∙ ap shipped_all (no_got Contents none) in
     subst (λ (a : Logs). AgreesWith c.in_ok-side.side.conveyor a (collected_from c.port-port.result.seat)) (sym sent)
-    (subst (λ (b : Logs). AgreesWith c.in_ok-side.side.conveyor (λ l. []) b) (sym got) c.in_ok-side.ensures.agrees)
+    (subst (λ (b : Logs). AgreesWith c.in_ok-side.side.conveyor (λ l. []) b) (sym got) c.in_ok-side.ensures.starts.agrees)

@@ -3,16 +3,16 @@ use Rattle.route_tensor.specs.Grid.{IsGrid}
 use Rattle.route_tensor.specs.Link.{links}
 use Rattle.route_tensor.specs.Ends.{sender_at}
 use Rattle.port_bank.specs.Logs.{lasts}
+use Rattle.port_bank.proofs.Frames.{port_at_first, port_then, ins_at_first, ins_then}
 use Rattle.port_bank.proofs.Fronts.{begins_refl, begins_trans}
 use Rattle.port_bank.proofs.Kept.{law_same}
 use Rattle.std.proofs.lemmas.List.{get_or-set_same}
 use Rattle.port_bank.specs.Calls.{once_more_if}
 use Rattle.exstack.specs.Links.{Out, no_out}
 use Rattle.exstack.specs.State.{number}
-use Rattle.exstack.specs.Steps.{Sight, sight}
 use Rattle.exstack.proofs.OneHop.{grid_one, number_within, number_sender}
 use Rattle.exstack.proofs.Sweeps.{sweep_start, sweep_more, sweep_each, sweep_here}
-use Rattle.exstack.proofs.Moves.{Posted, Served, PostsCounted, none_posted, out_apart}
+use Rattle.exstack.proofs.Moves.{Sight, out_sight, out_seen, Posted, Served, PostsCounted, none_posted, out_apart}
 use Rattle.exstack.proofs.rounds.post_all.Goals as goal
 
 pub loop-b-init : goal.loop-b-init
@@ -20,15 +20,10 @@ loop-b-init g c = record {
   posted = sweep_start _ _ _ _ _;
   served = sweep_start _ _ _ _ _;
   counted = sweep_start _ _ _ _ _;
-  collects = refl;
   law = c.requires.law;
   grows = λ m. begins_refl (g.P.Port.sent c.args.port.now m);
-  got = refl;
-  noted = refl;
-  rest = refl;
-  same_rank = refl;
-  same_dims = refl;
-  same_slots = refl;
+  same_ins = ins_at_first;
+  same_port = port_at_first;
 }
 
 pub post-requires : goal.post-requires
@@ -43,7 +38,7 @@ post-requires g c =
     let some : 0 < n = omega arith in
     let l : ℕ = r * c.len-ranks.result + b in
     let here : number n r b ≡ l = ap (λ m. r * m + b) (sym len) in
-    let dims : g.P.Port.dims c.loop-b.port ≡ n ∷ [] = k.same_dims ∙ c.requires.dims in
+    let dims : g.P.Port.dims c.loop-b.port ≡ n ∷ [] = k.same_port.dims ∙ c.requires.dims in
     let now : c.index_mut.result.now ≡ get_or xs b no_out = sweep_here _ _ _ _ _ _ _ _ _ within k.posted c.index_mut.ensures.value in
     let log : g.P.Port.sent c.loop-b.port (number n r b) ≡ g.P.Port.sent c.args.port.now (number n r b) = ap (λ (s : Sight). s.log) (k.posted.shown b (omega arith) within) in
     let due : c.index_mut.result.now.due ≡ true → lasts (g.P.Port.sent c.loop-b.port l) ≡ c.args.epoch = λ d.
@@ -56,8 +51,8 @@ post-requires g c =
           (
             subst (λ ds. l < links ds) (sym dims) (subst (λ x. x < links (n ∷ [])) here (number_within n r b c.requires.within within c.requires.few)),
             (
-              ap (λ ds. sender_at ds l) dims ∙ (ap (sender_at (n ∷ [])) (sym here) ∙ (number_sender n r b c.requires.within within c.requires.few ∙ (sym c.requires.rank ∙ sym k.same_rank))),
-              (due, law_same _ _ _ _ _ _ _ _ k.same_dims k.same_rank refl k.got k.law),
+              ap (λ ds. sender_at ds l) dims ∙ (ap (sender_at (n ∷ [])) (sym here) ∙ (number_sender n r b c.requires.within within c.requires.few ∙ (sym c.requires.rank ∙ sym k.same_port.rank))),
+              (due, law_same _ _ _ _ _ _ _ _ k.same_port.dims k.same_port.rank refl k.same_ins.got k.law),
             ),
           ),
         ),
@@ -76,12 +71,12 @@ loop-b-preserved g c =
     let within : b < n = omega (arith, c.loop-b-test.true, c.len-b-end.ensures, c.args.outs.now.ok) in
     let l : ℕ = r * c.len-ranks.result + b in
     let here : number n r b ≡ l = ap (λ m. r * m + b) (sym len) in
-    let before : ℕ → Sight = sight (g.P.Port.sent c.args.port.now) (g.P.Port.looks_out c.args.port.now) (g.P.Port.crowded c.args.port.now) in
-    let mid : ℕ → Sight = sight (g.P.Port.sent c.loop-b.port) (g.P.Port.looks_out c.loop-b.port) (g.P.Port.crowded c.loop-b.port) in
-    let after : ℕ → Sight = sight (g.P.Port.sent c.post.new.port) (g.P.Port.looks_out c.post.new.port) (g.P.Port.crowded c.post.new.port) in
+    let before : ℕ → Sight = out_sight g.P.Port c.args.port.now in
+    let mid : ℕ → Sight = out_sight g.P.Port c.loop-b.port in
+    let after : ℕ → Sight = out_sight g.P.Port c.post.new.port in
     let x : Out = c.index_mut.result.now in
     let y : Out = c.post.new.self in
-    let others : (m : ℕ) → m < n → m ≢ b → after (number n r m) ≡ mid (number n r m) = λ m w ne. e.elsewhere (number n r m) (λ q. out_apart n r b m ne (q ∙ sym here)) in
+    let others : (m : ℕ) → m < n → m ≢ b → after (number n r m) ≡ mid (number n r m) = λ m w ne. out_seen g.P.Port l c.loop-b.port c.post.new.port e.elsewhere (number n r m) (λ q. out_apart n r b m ne (q ∙ sym here)) in
     let moved : Posted c.args.last c.args.epoch x y (mid (number n r b)) (after (number n r b)) = subst (λ m. Posted c.args.last c.args.epoch x y (mid m) (after m)) (sym here) e.moved in
     let vain : Served x y (mid (number n r b)) (after (number n r b)) = subst (λ m. Served x y (mid m) (after m)) (sym here) (e.in_vain (search rules)) in
     record {
@@ -89,16 +84,11 @@ loop-b-preserved g c =
       served = sweep_more Served no_out (number n r) b xs c.loop-b.outs.items before mid after x y within k.served c.index_mut.ensures.value vain others;
       counted = sweep_more PostsCounted no_out (number n r) b xs c.loop-b.outs.items (g.P.Port.posts c.args.port.now) (g.P.Port.posts c.loop-b.port) (g.P.Port.posts c.post.new.port) x y within k.counted c.index_mut.ensures.value
           (subst (λ m. g.P.Port.posts c.post.new.port m ≡ once_more_if x.due (g.P.Port.posts c.loop-b.port m)) (sym here) c.in_ok-post.ensures.posts)
-          (λ m w ne. e.posts_elsewhere (number n r m) (λ q. out_apart n r b m ne (q ∙ sym here)));
-      collects = e.collects ∙ k.collects;
-      law = law_same _ _ _ _ _ _ _ _ (sym k.same_dims) (sym k.same_rank) refl (sym k.got) e.law;
+          (λ m w ne. e.elsewhere.posts (number n r m) (λ q. out_apart n r b m ne (q ∙ sym here)));
+      law = law_same _ _ _ _ _ _ _ _ (sym k.same_port.dims) (sym k.same_port.rank) refl (sym k.same_ins.got) e.law;
       grows = λ m. begins_trans _ _ _ (k.grows m) (e.grows m);
-      got = e.got ∙ k.got;
-      noted = e.noted ∙ k.noted;
-      rest = e.rest ∙ k.rest;
-      same_rank = e.same_rank ∙ k.same_rank;
-      same_dims = e.same_dims ∙ k.same_dims;
-      same_slots = e.same_slots ∙ k.same_slots;
+      same_ins = ins_then k.same_ins e.same_ins;
+      same_port = port_then k.same_port e.same_port;
     }
 
 pub returns-in_err-post-clause-moved : goal.returns-in_err-post-clause-moved
@@ -113,12 +103,12 @@ returns-in_err-post-clause-moved g c =
     let within : b < n = omega (arith, c.loop-b-test.true, c.len-b-end.ensures, c.args.outs.now.ok) in
     let l : ℕ = r * c.len-ranks.result + b in
     let here : number n r b ≡ l = ap (λ m. r * m + b) (sym len) in
-    let before : ℕ → Sight = sight (g.P.Port.sent c.args.port.now) (g.P.Port.looks_out c.args.port.now) (g.P.Port.crowded c.args.port.now) in
-    let mid : ℕ → Sight = sight (g.P.Port.sent c.loop-b.port) (g.P.Port.looks_out c.loop-b.port) (g.P.Port.crowded c.loop-b.port) in
-    let after : ℕ → Sight = sight (g.P.Port.sent c.post.new.port) (g.P.Port.looks_out c.post.new.port) (g.P.Port.crowded c.post.new.port) in
+    let before : ℕ → Sight = out_sight g.P.Port c.args.port.now in
+    let mid : ℕ → Sight = out_sight g.P.Port c.loop-b.port in
+    let after : ℕ → Sight = out_sight g.P.Port c.post.new.port in
     let x : Out = c.index_mut.result.now in
     let y : Out = c.post.new.self in
-    let others : (m : ℕ) → m < n → m ≢ b → after (number n r m) ≡ mid (number n r m) = λ m w ne. e.elsewhere (number n r m) (λ q. out_apart n r b m ne (q ∙ sym here)) in
+    let others : (m : ℕ) → m < n → m ≢ b → after (number n r m) ≡ mid (number n r m) = λ m w ne. out_seen g.P.Port l c.loop-b.port c.post.new.port e.elsewhere (number n r m) (λ q. out_apart n r b m ne (q ∙ sym here)) in
     let moved : Posted c.args.last c.args.epoch x y (mid (number n r b)) (after (number n r b)) = subst (λ m. Posted c.args.last c.args.epoch x y (mid m) (after m)) (sym here) e.moved in
     sweep_each (Posted c.args.last c.args.epoch) no_out (number n r) (b + 1) xs _ before after (none_posted c.args.last c.args.epoch)
     (sweep_more (Posted c.args.last c.args.epoch) no_out (number n r) b xs c.loop-b.outs.items before mid after x y within k.posted c.index_mut.ensures.value moved others)

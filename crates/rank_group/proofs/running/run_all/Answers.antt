@@ -57,13 +57,13 @@ loop-bank-smaller g c =
     let on = some_goes c.loop-bank.all.items (ap (list_all (λ (n : RankState g.row.Q.Denot). n.over)) (sym c.deref.ensures.value) ∙ (sym c.all_over.ensures ∙ c.if-all_over.false)) in
     let q = c.requires.world in
     fewer_left g.Q.Program.rules g.row.CAP c.args.all.now.items c.args.bank c.args.steps.now c.loop-bank.all.items c.loop-bank.bank c.loop-bank.steps c.loop-bank.invariant.driving g.met.Q.Program.laws c.closes_laws.ensures c.rest_law.ensures c.args.order.now c.requires.order on
-    c.sweep.new.all.items c.in_ok-bank.bank c.sweep.new.steps c.in_ok-bank.ensures.lawful c.in_ok-bank.ensures.same_dims c.in_ok-bank.ensures.same_slots c.sweep.ensures.most_steps c.in_ok-bank.ensures.swept (c.in_ok-bank.ensures.some_step on.rank on.state on.at on.still) q.0 q.1 q.2 q.3 q.4 q.5
+    c.sweep.new.all.items c.in_ok-bank.bank c.sweep.new.steps c.in_ok-bank.ensures.bank.lawful c.in_ok-bank.ensures.bank.same_dims c.in_ok-bank.ensures.bank.same_slots c.sweep.ensures.most_steps c.in_ok-bank.ensures.swept (c.in_ok-bank.ensures.some_step on.rank on.state on.at on.still) q.0 q.1 q.2 q.3 q.4 q.5
 
 pub loop-bank-preserved : goal.loop-bank-preserved
 loop-bank-preserved g c =
     let on = some_goes c.loop-bank.all.items (ap (list_all (λ (n : RankState g.row.Q.Denot). n.over)) (sym c.deref.ensures.value) ∙ (sym c.all_over.ensures ∙ c.if-all_over.false)) in
     let driving = driving_more g.Q.Program.rules g.row.CAP c.args.all.now.items c.args.bank c.args.steps.now c.loop-bank.all.items c.loop-bank.bank c.loop-bank.steps c.loop-bank.invariant.driving g.met.Q.Program.laws c.closes_laws.ensures c.rest_law.ensures c.args.order.now c.requires.order on
-    c.sweep.new.all.items c.in_ok-bank.bank c.sweep.new.steps c.in_ok-bank.ensures.lawful c.in_ok-bank.ensures.same_dims c.in_ok-bank.ensures.same_slots c.sweep.ensures.most_steps c.in_ok-bank.ensures.swept in
+    c.sweep.new.all.items c.in_ok-bank.bank c.sweep.new.steps c.in_ok-bank.ensures.bank.lawful c.in_ok-bank.ensures.bank.same_dims c.in_ok-bank.ensures.bank.same_slots c.sweep.ensures.most_steps c.in_ok-bank.ensures.swept in
     let R = g.Q.Program.rules in
     let first : Scene g.row.Q.Denot = record { ranks = c.args.all.now.items; sent = sent_of c.args.bank; got = got_of c.args.bank } in
     let before : Scene g.row.Q.Denot = record { ranks = c.loop-bank.all.items; sent = sent_of c.loop-bank.bank; got = got_of c.loop-bank.bank } in

@@ -59,7 +59,7 @@ loop-i-preserved g c =
     let number = all_get (λ r. r < ranks c.args.bank.dims) c.args.order.now c.loop-i.i (get_or c.args.order.now c.loop-i.i 0) c.requires.order.below at in
     let w = (world_at g.Q.Program.rules g.row.CAP c.args.order.now c.args.all.now.items c.args.bank c.args.steps.now c.loop-i.i c.loop-i.all.items c.loop-i.bank c.loop-i.steps v c.requires.world.0 c.requires.world.1 c.requires.world.2 c.requires.world.3 c.requires.world.4 c.requires.world.5).5 in
     let sweeping = sweeping_more g.Q.Program.rules g.met.Q.Program.laws c.requires.law g.row.CAP c.args.order.now c.args.all.now.items c.args.bank c.args.steps.now c.loop-i.i (get_or c.args.order.now c.loop-i.i 0) c.loop-i.all.items c.turn_one.new.all.items c.loop-i.bank c.in_ok-bank.bank c.loop-i.steps c.turn_one.new.steps
-    v at (subst (λ d. get_or c.args.order.now c.loop-i.i 0 < ranks d) (sym v.same_dims) number) c.in_ok-bank.ensures.lawful c.in_ok-bank.ensures.same_dims c.in_ok-bank.ensures.same_slots c.turn_one.ensures.most_steps
+    v at (subst (λ d. get_or c.args.order.now c.loop-i.i 0 < ranks d) (sym v.same_dims) number) c.in_ok-bank.ensures.bank.lawful c.in_ok-bank.ensures.bank.same_dims c.in_ok-bank.ensures.bank.same_slots c.turn_one.ensures.most_steps
     c.turn_one.ensures.fewest_steps c.in_ok-bank.ensures.steps w.ranked.all c.turn_one.ensures.size c.turn_one.ensures.others c.in_ok-bank.ensures.turned in
     let R = g.Q.Program.rules in
     let first : Scene g.row.Q.Denot = record { ranks = c.args.all.now.items; sent = sent_of c.args.bank; got = got_of c.args.bank } in

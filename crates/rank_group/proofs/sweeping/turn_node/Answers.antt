@@ -11,20 +11,7 @@ pub turn-requires : goal.turn-requires
 turn-requires g c =
     let R = g.Q.Program.rules in
     let eb = c.port-port.ensures.bank in
-    let er = c.port-port.ensures.rank in (
-      search rules,
-      (
-        subst (λ (b : Bank). b.dims ≡ dims_of c.args.node.now.mover) (sym eb) (sym c.requires.same_dims),
-        (
-          er ∙ sym c.requires.same_rank,
-          (
-            c.requires.node.0,
-            subst (λ (b : Bank). IsNode R c.requires.node.0 c.args.node.now (starting_at b.dims c.port-port.result.rank (sent_of b)) (ending_at b.dims c.port-port.result.rank (got_of b))) (sym eb)
-                (subst (λ r. IsNode R c.requires.node.0 c.args.node.now (starting_at c.args.bank.dims r (sent_of c.args.bank)) (ending_at c.args.bank.dims r (got_of c.args.bank))) (sym er) c.requires.node.1),
-          ),
-        ),
-      ),
-    )
+    let er = c.port-port.ensures.rank in (search rules, record { same_dims = subst (λ (b : Bank). b.dims ≡ dims_of c.args.node.now.mover) (sym eb) (sym c.requires.same_dims); same_rank = er ∙ sym c.requires.same_rank; first = c.requires.node.0; node = subst (λ (b : Bank). IsNode R c.requires.node.0 c.args.node.now (starting_at b.dims c.port-port.result.rank (sent_of b)) (ending_at b.dims c.port-port.result.rank (got_of b))) (sym eb) (subst (λ r. IsNode R c.requires.node.0 c.args.node.now (starting_at c.args.bank.dims r (sent_of c.args.bank)) (ending_at c.args.bank.dims r (got_of c.args.bank))) (sym er) c.requires.node.1) })
 
 pub returns-clause-turned : goal.returns-clause-turned
 returns-clause-turned g c =
@@ -34,20 +21,20 @@ returns-clause-turned g c =
     let b0 : Bank = c.port-port.result.bank in
     let b1 : Bank = c.turn.new.port.bank in
     let told : PortTurn R g.row.CAP c.in_ok-turn.turn n n' b0 c.port-port.result.rank b1 c.turn.new.port.rank = record {
-      dims = c.turn.ensures.same_dims;
-      slots = c.turn.ensures.same_slots;
-      rest = c.turn.ensures.rest;
-      node_dims = c.turn.ensures.self_dims;
-      node_rank = c.turn.ensures.self_rank;
-      node_manner = c.turn.ensures.manner;
+      dims = c.turn.ensures.same_port.dims;
+      slots = c.turn.ensures.same_port.slots;
+      rest = c.turn.ensures.same_port.rest;
+      node_dims = c.turn.ensures.moves.dims;
+      node_rank = c.turn.ensures.moves.rank;
+      node_manner = c.turn.ensures.moves.manner;
       node_cap = c.turn.ensures.cap;
-      node_epoch = c.turn.ensures.epoch;
-      sent_grows = c.turn.ensures.sent_grows;
-      got_grows = c.turn.ensures.got_grows;
-      one_sent = c.turn.ensures.one_sent;
-      shape = c.turn.ensures.shape;
+      node_epoch = c.turn.ensures.moves.epoch;
+      sent_grows = c.turn.ensures.moves.sent_grows;
+      got_grows = c.turn.ensures.moves.got_grows;
+      one_sent = c.turn.ensures.moves.one_sent;
+      shape = c.turn.ensures.moves.shape;
       leaves = c.turn.ensures.leaves;
-      kept = c.turn.ensures.kept;
+      kept = c.turn.ensures.moves.kept;
       ended = λ e. c.in_ok-turn.ensures.ended (ap Ok e);
       going = λ e. c.in_ok-turn.ensures.going (ap Ok e);
       waits = c.in_ok-turn.ensures.waits;
@@ -56,5 +43,5 @@ returns-clause-turned g c =
       awaits = c.in_ok-turn.ensures.awaits refl;
     } in
     subst (λ (b : Bank). AfterTurn R c.args.bank.dims g.row.CAP c.args.bank.slots c.args.number c.in_ok-turn.turn n n' (sent_of c.args.bank) (got_of c.args.bank) (sent_of b) (got_of b)) (sym c.into_bank.ensures.bank)
-    (after_turn R g.row.CAP c.args.number c.in_ok-turn.turn n n' c.args.bank b1 c.port-port.result.rank c.turn.new.port.rank c.port-port.ensures.rank c.turn.ensures.same_rank c.requires.same_dims c.requires.same_rank
+    (after_turn R g.row.CAP c.args.number c.in_ok-turn.turn n n' c.args.bank b1 c.port-port.result.rank c.turn.new.port.rank c.port-port.ensures.rank c.turn.ensures.same_port.rank c.requires.same_dims c.requires.same_rank
     (subst (λ (b : Bank). PortTurn R g.row.CAP c.in_ok-turn.turn n n' b c.port-port.result.rank b1 c.turn.new.port.rank) c.port-port.ensures.bank told))

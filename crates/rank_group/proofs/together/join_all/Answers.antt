@@ -1,7 +1,7 @@
-use Rattle.std.proofs.Common.{[], ◌∷◌, ◌++◌, vec_capacity, sym, subst, arith}
+use Rattle.std.proofs.Common.{[], ◌∷◌, ◌++◌, sym, subst, arith}
 use Rattle.rank_group.specs.Runs.{AllRan}
 use Rattle.rank_group.specs.Children.{first_of}
-use Rattle.rank_group.proofs.Joining.{one_more, room_for_one, ran_more}
+use Rattle.rank_group.proofs.Joining.{one_more, ran_more}
 use Rattle.rank_group.proofs.together.join_all.Goals as goal
 
 pub loop-child-preserved : goal.loop-child-preserved

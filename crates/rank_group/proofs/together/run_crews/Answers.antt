@@ -8,8 +8,11 @@ gather-requires-clause-run g c =
     let size : length all ≡ c.len-count.result = omega (arith, c.len-count.ensures) in
     (all, size, dealt_run (g.A.Seated.ran g.J.Telling.told) g.A.Seated.over c.max.result 0 all c.in_ok-dealt.dealt.items c.in_ok-over.over.items c.in_ok-dealt.ensures c.in_ok-over.ensures.ran c.in_ok-over.ensures.over)
 
-pub returns-clause-ran : goal.returns-clause-ran
-returns-clause-ran g c =
+pub returns : goal.returns
+returns g c =
     let all = c.args.all.items in
     let size : length all ≡ c.len-count.result = omega (arith, c.len-count.ensures) in
-    c.gather.ensures.ran all size (dealt_run (g.A.Seated.ran g.J.Telling.told) g.A.Seated.over c.max.result 0 all c.in_ok-dealt.dealt.items c.in_ok-over.over.items c.in_ok-dealt.ensures c.in_ok-over.ensures.ran c.in_ok-over.ensures.over)
+    record {
+      ran = c.gather.ensures.ran all size (dealt_run (g.A.Seated.ran g.J.Telling.told) g.A.Seated.over c.max.result 0 all c.in_ok-dealt.dealt.items c.in_ok-over.over.items c.in_ok-dealt.ensures c.in_ok-over.ensures.ran c.in_ok-over.ensures.over);
+      over = c.gather.ensures.over;
+    }

@@ -3,8 +3,11 @@ use Rattle.std.proofs.lemmas.List.{reverse-reverse}
 use Rattle.rank_group.specs.Runs.{AllRan}
 use Rattle.rank_group.proofs.together.run_in.Goals as goal
 
-pub returns-clause-ran : goal.returns-clause-ran
-returns-clause-ran g c =
+pub returns : goal.returns
+returns g c =
     let all = c.args.all.items in
     let back = c.join_all-back.result.items in
-    c.run_back.ensures.ran all (subst (λ xs. AllRan (g.A.Seated.ran g.J.Telling.told) xs back) (ap reverse (c.run_kept-children.ensures ∙ c.start_all-children.ensures) ∙ reverse-reverse all) c.join_all-back.ensures)
+    record {
+      ran = c.run_back.ensures.ran all (subst (λ xs. AllRan (g.A.Seated.ran g.J.Telling.told) xs back) (ap reverse (c.run_kept-children.ensures ∙ c.start_all-children.ensures) ∙ reverse-reverse all) c.join_all-back.ensures);
+      over = c.run_back.ensures.over;
+    }

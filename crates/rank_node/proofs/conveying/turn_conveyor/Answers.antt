@@ -18,8 +18,8 @@ pub push_all-run-requires : goal.push_all-run-requires
 push_all-run-requires g c =
     let R = g.Q.Program.rules in
     let run : Running g.row.Q.Denot = running c.args.run.now in
-    let h = c.requires.node.0 in
-    let i = c.requires.node.1 in
+    let h = c.requires.turns.first in
+    let i = c.requires.turns.node in
     let below : All (λ (e : ℕ × Item). e.0 < ranks c.args.conveyor.now.dims) (to_send R run.prog run.sends) =
     send_below R g.met.Q.Program.laws (ranks c.args.conveyor.now.dims) (h run.round) run.prog run.sends i.passed.valid i.passed.all_ranks i.within.emissions (λ v q s. (i.within.vote v q s).0) in
     (search rules, (i.within.next_low, (below, (i.moving.working, i.within.all_pushed))))
@@ -30,8 +30,8 @@ advance-progress-requires g c =
     let sent = g.P.Port.sent c.args.port.now in
     let got = g.P.Port.got c.args.port.now in
     let run : Running g.row.Q.Denot = running c.args.run.now in
-    let h = c.requires.node.0 in
-    let i = c.requires.node.1 in
+    let h = c.requires.turns.first in
+    let i = c.requires.turns.node in
     let c0 = c.args.conveyor.now in
     let c1 = c.push_all-run.new.conveyor in
     let next = c.push_all-run.result in
@@ -46,11 +46,8 @@ advance-progress-requires g c =
       (
         λ d. i.moving.begun (sym (ap (λ (t : State). t.phase) push.same) ∙ d),
         (
-          c.requires.same_dims ∙ sym (ap (λ (t : State). t.dims) push.same),
-          (
-            c.requires.same_rank ∙ sym (ap (λ (t : State). t.rank) push.same),
-            (push.agrees, λ d. ap (λ m. next == m) c.count_of.ensures ∙ done_stays R h run c0 c1 next sent got push i d),
-          ),
+          record { same_dims = c.requires.turns.same_dims ∙ sym (ap (λ (t : State). t.dims) push.same); same_rank = c.requires.turns.same_rank ∙ sym (ap (λ (t : State). t.rank) push.same); agrees = push.agrees },
+          λ d. ap (λ m. next == m) c.count_of.ensures ∙ done_stays R h run c0 c1 next sent got push i d,
         ),
       ),
     )
@@ -63,8 +60,8 @@ returns-in_err-progress-clause-moves g c =
     let sent' = g.P.Port.sent c.advance-progress.new.port in
     let got' = g.P.Port.got c.advance-progress.new.port in
     let run : Running g.row.Q.Denot = running c.args.run.now in
-    let h = c.requires.node.0 in
-    let i = c.requires.node.1 in
+    let h = c.requires.turns.first in
+    let i = c.requires.turns.node in
     let c0 = c.args.conveyor.now in
     let c1 = c.push_all-run.new.conveyor in
     let next = c.push_all-run.result in
@@ -84,23 +81,23 @@ returns-in_err-progress-clause-moves g c =
     let done = next == c.count_of.result in
     let all : done ≡ (next == length (to_send R run.prog run.sends)) = ap (λ m. next == m) c.count_of.ensures in
     let adv : AfterAdvance c1 c2 done (is_complete c2.phase) sent got sent' got' = record {
-      agrees = c.advance-progress.ensures.agrees;
-      dims = c.advance-progress.ensures.self_dims;
-      rank = c.advance-progress.ensures.self_rank;
-      done_is = c.advance-progress.ensures.done;
-      begun = c.advance-progress.ensures.begun;
+      agrees = c.advance-progress.ensures.stays.agrees;
+      dims = c.advance-progress.ensures.stays.dims;
+      rank = c.advance-progress.ensures.stays.rank;
+      done_is = c.advance-progress.ensures.stays.done;
+      begun = c.advance-progress.ensures.stays.begun;
       working = λ d. c.in_err-progress.ensures.no_memory refl ∙ still_working R h run c0 c1 next sent got push i (sym all ∙ d);
-      step = c.advance-progress.ensures.step;
+      step = c.advance-progress.ensures.stays.step;
     } in
     let grown : Grown c1 c2 g.row.CAP sent sent' got got' = record {
-      steady = c.advance-progress.ensures.steady;
-      epoch = c.advance-progress.ensures.epoch;
-      sent_grows = c.advance-progress.ensures.sent_grows;
-      got_grows = c.advance-progress.ensures.got_grows;
-      one_sent = c.advance-progress.ensures.one_sent;
-      one_got = c.advance-progress.ensures.one_got;
-      shape = c.advance-progress.ensures.shape;
-      lies = c.advance-progress.ensures.lies;
+      steady = c.advance-progress.ensures.stays.steady;
+      epoch = c.advance-progress.ensures.stays.epoch;
+      sent_grows = c.advance-progress.ensures.grows.sent_grows;
+      got_grows = c.advance-progress.ensures.grows.got_grows;
+      one_sent = c.advance-progress.ensures.grows.one_sent;
+      one_got = c.advance-progress.ensures.grows.one_got;
+      shape = c.advance-progress.ensures.grows.shape;
+      lies = c.advance-progress.ensures.asked.lies;
     } in
     let takes : AfterTakes R voting c2 c3 run.prog prog' run.sum sum' run.spoiled spoiled' sent' got' = record {
       same = c.take_all-run.ensures.same;
@@ -119,8 +116,8 @@ returns-in_err-progress-clause-leaves g c =
     let sent' = g.P.Port.sent c.advance-progress.new.port in
     let got' = g.P.Port.got c.advance-progress.new.port in
     let run : Running g.row.Q.Denot = running c.args.run.now in
-    let h = c.requires.node.0 in
-    let i = c.requires.node.1 in
+    let h = c.requires.turns.first in
+    let i = c.requires.turns.node in
     let c0 = c.args.conveyor.now in
     let c1 = c.push_all-run.new.conveyor in
     let next = c.push_all-run.result in
@@ -140,23 +137,23 @@ returns-in_err-progress-clause-leaves g c =
     let done = next == c.count_of.result in
     let all : done ≡ (next == length (to_send R run.prog run.sends)) = ap (λ m. next == m) c.count_of.ensures in
     let adv : AfterAdvance c1 c2 done (is_complete c2.phase) sent got sent' got' = record {
-      agrees = c.advance-progress.ensures.agrees;
-      dims = c.advance-progress.ensures.self_dims;
-      rank = c.advance-progress.ensures.self_rank;
-      done_is = c.advance-progress.ensures.done;
-      begun = c.advance-progress.ensures.begun;
+      agrees = c.advance-progress.ensures.stays.agrees;
+      dims = c.advance-progress.ensures.stays.dims;
+      rank = c.advance-progress.ensures.stays.rank;
+      done_is = c.advance-progress.ensures.stays.done;
+      begun = c.advance-progress.ensures.stays.begun;
       working = λ d. c.in_err-progress.ensures.no_memory refl ∙ still_working R h run c0 c1 next sent got push i (sym all ∙ d);
-      step = c.advance-progress.ensures.step;
+      step = c.advance-progress.ensures.stays.step;
     } in
     let grown : Grown c1 c2 g.row.CAP sent sent' got got' = record {
-      steady = c.advance-progress.ensures.steady;
-      epoch = c.advance-progress.ensures.epoch;
-      sent_grows = c.advance-progress.ensures.sent_grows;
-      got_grows = c.advance-progress.ensures.got_grows;
-      one_sent = c.advance-progress.ensures.one_sent;
-      one_got = c.advance-progress.ensures.one_got;
-      shape = c.advance-progress.ensures.shape;
-      lies = c.advance-progress.ensures.lies;
+      steady = c.advance-progress.ensures.stays.steady;
+      epoch = c.advance-progress.ensures.stays.epoch;
+      sent_grows = c.advance-progress.ensures.grows.sent_grows;
+      got_grows = c.advance-progress.ensures.grows.got_grows;
+      one_sent = c.advance-progress.ensures.grows.one_sent;
+      one_got = c.advance-progress.ensures.grows.one_got;
+      shape = c.advance-progress.ensures.grows.shape;
+      lies = c.advance-progress.ensures.asked.lies;
     } in
     let takes : AfterTakes R voting c2 c3 run.prog prog' run.sum sum' run.spoiled spoiled' sent' got' = record {
       same = c.take_all-run.ensures.same;
@@ -182,8 +179,8 @@ returns-clause-moves g c =
     let sent' = g.P.Port.sent c.advance-progress.new.port in
     let got' = g.P.Port.got c.advance-progress.new.port in
     let run : Running g.row.Q.Denot = running c.args.run.now in
-    let h = c.requires.node.0 in
-    let i = c.requires.node.1 in
+    let h = c.requires.turns.first in
+    let i = c.requires.turns.node in
     let c0 = c.args.conveyor.now in
     let c1 = c.push_all-run.new.conveyor in
     let next = c.push_all-run.result in
@@ -203,23 +200,23 @@ returns-clause-moves g c =
     let done = next == c.count_of.result in
     let all : done ≡ (next == length (to_send R run.prog run.sends)) = ap (λ m. next == m) c.count_of.ensures in
     let adv : AfterAdvance c1 c2 done (is_complete c2.phase) sent got sent' got' = record {
-      agrees = c.advance-progress.ensures.agrees;
-      dims = c.advance-progress.ensures.self_dims;
-      rank = c.advance-progress.ensures.self_rank;
-      done_is = c.advance-progress.ensures.done;
-      begun = c.advance-progress.ensures.begun;
-      working = c.in_ok-progress.ensures.working refl;
-      step = c.advance-progress.ensures.step;
+      agrees = c.advance-progress.ensures.stays.agrees;
+      dims = c.advance-progress.ensures.stays.dims;
+      rank = c.advance-progress.ensures.stays.rank;
+      done_is = c.advance-progress.ensures.stays.done;
+      begun = c.advance-progress.ensures.stays.begun;
+      working = c.in_ok-progress.ensures.settled.working;
+      step = c.advance-progress.ensures.stays.step;
     } in
     let grown : Grown c1 c2 g.row.CAP sent sent' got got' = record {
-      steady = c.advance-progress.ensures.steady;
-      epoch = c.advance-progress.ensures.epoch;
-      sent_grows = c.advance-progress.ensures.sent_grows;
-      got_grows = c.advance-progress.ensures.got_grows;
-      one_sent = c.advance-progress.ensures.one_sent;
-      one_got = c.advance-progress.ensures.one_got;
-      shape = c.advance-progress.ensures.shape;
-      lies = c.advance-progress.ensures.lies;
+      steady = c.advance-progress.ensures.stays.steady;
+      epoch = c.advance-progress.ensures.stays.epoch;
+      sent_grows = c.advance-progress.ensures.grows.sent_grows;
+      got_grows = c.advance-progress.ensures.grows.got_grows;
+      one_sent = c.advance-progress.ensures.grows.one_sent;
+      one_got = c.advance-progress.ensures.grows.one_got;
+      shape = c.advance-progress.ensures.grows.shape;
+      lies = c.advance-progress.ensures.asked.lies;
     } in
     let takes : AfterTakes R voting c2 c3 run.prog prog' run.sum sum' run.spoiled spoiled' sent' got' = record {
       same = c.take_all-run.ensures.same;
@@ -238,8 +235,8 @@ returns-clause-leaves g c =
     let sent' = g.P.Port.sent c.advance-progress.new.port in
     let got' = g.P.Port.got c.advance-progress.new.port in
     let run : Running g.row.Q.Denot = running c.args.run.now in
-    let h = c.requires.node.0 in
-    let i = c.requires.node.1 in
+    let h = c.requires.turns.first in
+    let i = c.requires.turns.node in
     let c0 = c.args.conveyor.now in
     let c1 = c.push_all-run.new.conveyor in
     let next = c.push_all-run.result in
@@ -259,23 +256,23 @@ returns-clause-leaves g c =
     let done = next == c.count_of.result in
     let all : done ≡ (next == length (to_send R run.prog run.sends)) = ap (λ m. next == m) c.count_of.ensures in
     let adv : AfterAdvance c1 c2 done (is_complete c2.phase) sent got sent' got' = record {
-      agrees = c.advance-progress.ensures.agrees;
-      dims = c.advance-progress.ensures.self_dims;
-      rank = c.advance-progress.ensures.self_rank;
-      done_is = c.advance-progress.ensures.done;
-      begun = c.advance-progress.ensures.begun;
-      working = c.in_ok-progress.ensures.working refl;
-      step = c.advance-progress.ensures.step;
+      agrees = c.advance-progress.ensures.stays.agrees;
+      dims = c.advance-progress.ensures.stays.dims;
+      rank = c.advance-progress.ensures.stays.rank;
+      done_is = c.advance-progress.ensures.stays.done;
+      begun = c.advance-progress.ensures.stays.begun;
+      working = c.in_ok-progress.ensures.settled.working;
+      step = c.advance-progress.ensures.stays.step;
     } in
     let grown : Grown c1 c2 g.row.CAP sent sent' got got' = record {
-      steady = c.advance-progress.ensures.steady;
-      epoch = c.advance-progress.ensures.epoch;
-      sent_grows = c.advance-progress.ensures.sent_grows;
-      got_grows = c.advance-progress.ensures.got_grows;
-      one_sent = c.advance-progress.ensures.one_sent;
-      one_got = c.advance-progress.ensures.one_got;
-      shape = c.advance-progress.ensures.shape;
-      lies = c.advance-progress.ensures.lies;
+      steady = c.advance-progress.ensures.stays.steady;
+      epoch = c.advance-progress.ensures.stays.epoch;
+      sent_grows = c.advance-progress.ensures.grows.sent_grows;
+      got_grows = c.advance-progress.ensures.grows.got_grows;
+      one_sent = c.advance-progress.ensures.grows.one_sent;
+      one_got = c.advance-progress.ensures.grows.one_got;
+      shape = c.advance-progress.ensures.grows.shape;
+      lies = c.advance-progress.ensures.asked.lies;
     } in
     let takes : AfterTakes R voting c2 c3 run.prog prog' run.sum sum' run.spoiled spoiled' sent' got' = record {
       same = c.take_all-run.ensures.same;
@@ -321,23 +318,23 @@ returns-clause-waits g c = λ h is sent_same got_same.
     let done = next == c.count_of.result in
     let all : done ≡ (next == length (to_send R run.prog run.sends)) = ap (λ m. next == m) c.count_of.ensures in
     let adv : AfterAdvance c1 c2 done (is_complete c2.phase) sent got sent' got' = record {
-      agrees = c.advance-progress.ensures.agrees;
-      dims = c.advance-progress.ensures.self_dims;
-      rank = c.advance-progress.ensures.self_rank;
-      done_is = c.advance-progress.ensures.done;
-      begun = c.advance-progress.ensures.begun;
-      working = c.in_ok-progress.ensures.working refl;
-      step = c.advance-progress.ensures.step;
+      agrees = c.advance-progress.ensures.stays.agrees;
+      dims = c.advance-progress.ensures.stays.dims;
+      rank = c.advance-progress.ensures.stays.rank;
+      done_is = c.advance-progress.ensures.stays.done;
+      begun = c.advance-progress.ensures.stays.begun;
+      working = c.in_ok-progress.ensures.settled.working;
+      step = c.advance-progress.ensures.stays.step;
     } in
     let grown : Grown c1 c2 g.row.CAP sent sent' got got' = record {
-      steady = c.advance-progress.ensures.steady;
-      epoch = c.advance-progress.ensures.epoch;
-      sent_grows = c.advance-progress.ensures.sent_grows;
-      got_grows = c.advance-progress.ensures.got_grows;
-      one_sent = c.advance-progress.ensures.one_sent;
-      one_got = c.advance-progress.ensures.one_got;
-      shape = c.advance-progress.ensures.shape;
-      lies = c.advance-progress.ensures.lies;
+      steady = c.advance-progress.ensures.stays.steady;
+      epoch = c.advance-progress.ensures.stays.epoch;
+      sent_grows = c.advance-progress.ensures.grows.sent_grows;
+      got_grows = c.advance-progress.ensures.grows.got_grows;
+      one_sent = c.advance-progress.ensures.grows.one_sent;
+      one_got = c.advance-progress.ensures.grows.one_got;
+      shape = c.advance-progress.ensures.grows.shape;
+      lies = c.advance-progress.ensures.asked.lies;
     } in
     let takes : AfterTakes R voting c2 c3 run.prog prog' run.sum sum' run.spoiled spoiled' sent' got' = record {
       same = c.take_all-run.ensures.same;
@@ -347,13 +344,13 @@ returns-clause-waits g c = λ h is sent_same got_same.
       taken = λ h rank round next sends v a. c.take_all-run.ensures.taken h rank round next sends sent' got' v a;
     } in
     let advanced : Advanced c1 c2 g.row.CAP sent sent' got got' (g.P.Port.crowded c.advance-progress.new.port) (g.P.Port.idle c.advance-progress.new.port) = record {
-      epoch = c.advance-progress.ensures.epoch;
-      full = c.in_ok-progress.ensures.full refl;
-      idles = c.advance-progress.ensures.idle;
-      lies = c.advance-progress.ensures.lies;
-      closing = λ l b o hop a still. c.in_ok-progress.ensures.closing refl l b o (λ q. sym c.advance-progress.ensures.done ∙ hop q) a still;
-      stopped = c.in_ok-progress.ensures.stopped refl;
-      completes = λ over. complete_from c2.phase (sym c.in_ok-progress.ensures.answer ∙ ok_once (c.in_ok-progress.ensures.completes refl over));
+      epoch = c.advance-progress.ensures.stays.epoch;
+      full = c.in_ok-progress.ensures.served.full;
+      idles = c.advance-progress.ensures.asked.idle;
+      lies = c.advance-progress.ensures.asked.lies;
+      closing = c.in_ok-progress.ensures.served.closing;
+      stopped = c.in_ok-progress.ensures.served.stopped;
+      completes = λ over. complete_from c2.phase (sym c.in_ok-progress.ensures.settled.is ∙ c.in_ok-progress.ensures.settled.completes over);
     } in
     stuck R h run c0 c1 c2 c3 next g.row.CAP done (is_complete c2.phase) voting prog' sum' spoiled' sent got sent' got' (g.P.Port.crowded c.advance-progress.new.port) (g.P.Port.idle c.advance-progress.new.port)
     c.known.ensures.grid c.known.ensures.rank push c.push_all-run.ensures.refused c.push_all-run.ensures.receiver all adv advanced takes c.take_all-run.ensures.fewer i sent_same got_same
@@ -361,19 +358,19 @@ returns-clause-waits g c = λ h is sent_same got_same.
 pub returns-clause-ended : goal.returns-clause-ended
 returns-clause-ended g c = λ e.
     let p = c.turn_of.ensures.ended (ok_once e) in
-    ap (λ (t : State). t.phase) c.take_all-run.ensures.same ∙ complete_from c.advance-progress.new.self.phase (sym c.in_ok-progress.ensures.answer ∙ p)
+    ap (λ (t : State). t.phase) c.take_all-run.ensures.same ∙ complete_from c.advance-progress.new.self.phase (sym c.in_ok-progress.ensures.settled.is ∙ p)
 
 pub returns-clause-going : goal.returns-clause-going
 returns-clause-going g c = λ e p.
-    c.turn_of.ensures.going (ok_once e) (c.in_ok-progress.ensures.answer ∙ ap progress_of (sym (ap (λ (t : State). t.phase) c.take_all-run.ensures.same) ∙ p))
+    c.turn_of.ensures.going (ok_once e) (c.in_ok-progress.ensures.settled.is ∙ ap progress_of (sym (ap (λ (t : State). t.phase) c.take_all-run.ensures.same) ∙ p))
 
 pub returns-clause-due : goal.returns-clause-due
 returns-clause-due g c = λ ok l below own due.
     let c1 = c.push_all-run.new.conveyor in
     let c2 = c.advance-progress.new.self in
     let c3 = c.take_all-run.new.conveyor in
-    let dims : c3.dims ≡ c1.dims = ap (λ (s : State). s.dims) c.take_all-run.ensures.same ∙ c.advance-progress.ensures.self_dims in
-    let rank : c3.rank ≡ c1.rank = ap (λ (s : State). s.rank) c.take_all-run.ensures.same ∙ c.advance-progress.ensures.self_rank in
+    let dims : c3.dims ≡ c1.dims = ap (λ (s : State). s.dims) c.take_all-run.ensures.same ∙ c.advance-progress.ensures.stays.dims in
+    let rank : c3.rank ≡ c1.rank = ap (λ (s : State). s.rank) c.take_all-run.ensures.same ∙ c.advance-progress.ensures.stays.rank in
     let still : is_due c2.cap c2.steady false (out_of c2 l) ≡ true = subst (λ (s : State). is_due s.cap s.steady false (out_of s l) ≡ true) c.take_all-run.ensures.same due in
-    let served = c.in_ok-progress.ensures.served l (subst (λ (d : List ℕ). l < links d) dims below) (subst (λ (d : List ℕ). sender_at d l ≡ c1.rank) dims (own ∙ rank)) in
+    let served = c.in_ok-progress.ensures.served.each l (subst (λ (d : List ℕ). l < links d) dims below) (subst (λ (d : List ℕ). sender_at d l ≡ c1.rank) dims (own ∙ rank)) in
     served.crowded (due_at_end c2.cap c2.steady (at_end c2.dims c2.ins c2.done (hop_at c2.dims l)) (out_of c2 l) still)

@@ -28,7 +28,7 @@ returns-in_err-_made-clause-moves g c =
       apart = exchanging_apart (c.in_err-_made.ensures.no_memory refl);
       step = e.step;
     } in
-    let s : IsStack g.row.CAP x0 = c.requires.node.1.moving.stack in
+    let s : IsStack g.row.CAP x0 = c.requires.turns.node.moving.stack in
     let begun = exchange_begun x0 in
     let m : Made g.row.CAP x0 (in_exchange x0) x2 false true sent sent' got got' = record {
       some = omega (arith, s.rank);
@@ -62,7 +62,7 @@ returns-clause-moves g c =
       apart = ready_apart _ (c.in_ok-_made.ensures.stage);
       step = e.step;
     } in
-    let s : IsStack g.row.CAP x0 = c.requires.node.1.moving.stack in
+    let s : IsStack g.row.CAP x0 = c.requires.turns.node.moving.stack in
     let begun = exchange_begun x0 in
     let m : Made g.row.CAP x0 (in_exchange x0) x2 false true sent sent' got got' = record {
       some = omega (arith, s.rank);
@@ -99,3 +99,6 @@ returns-clause-cycle g c = λ quota n i.
 
 pub returns-clause-awaits : goal.returns-clause-awaits
 returns-clause-awaits g c = λ ok. exchange_awaits g.row.CAP c.poll_exchange-polled.new.self c.known.ensures.standing _ c.in_ok-_made.ensures.answer c.in_ok-_made.ensures.stage
+
+pub returns-clause-waits : goal.returns-clause-waits
+returns-clause-waits g c = record { posts = c.in_ok-_made.ensures.crowded refl; collects = λ a w due. (c.in_ok-_made.ensures.asked refl a w due).in_vain }

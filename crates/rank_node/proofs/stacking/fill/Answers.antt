@@ -44,4 +44,4 @@ returns-clause-cycle g c = λ quota n sent got is.
     let below : All (λ (e : ℕ × Item). e.0 < ranks (dims_of x)) (to_send R run.prog run.sends) =
     send_below R g.met.Q.Program.laws (ranks (dims_of x)) (h run.round) run.prog run.sends i.passed.valid i.passed.all_ranks i.within.emissions (λ v q s. (i.within.vote v q s).0) in
     filled_keep R run x c.push_on-run.new.exstack c.push_on-run.result sent got quota n c.requires.filling fills.same (fills.kept n sent got is.agrees)
-    (λ f. pushes_one g.row.CAP (to_send R run.prog run.sends) x c.push_on-run.new.exstack run.next c.push_on-run.result i.moving.stack.some fills below (is.emptied c.requires.filling) (is.left c.requires.filling f)) is
+    (λ f. pushes_one g.row.CAP (to_send R run.prog run.sends) x c.push_on-run.new.exstack run.next c.push_on-run.result i.moving.stack.is_cap.some fills below (is.emptied c.requires.filling) (is.left c.requires.filling f)) is

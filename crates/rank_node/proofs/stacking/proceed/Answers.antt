@@ -25,24 +25,22 @@ poll_proceed-polled-requires g c =
     let done = run.next == c.count_of.result in
     let pops = c.pop_all-run.ensures.pops in
     let all : done ≡ (run.next == length (to_send R prog' run.sends)) = ap (λ m. run.next == m) c.count_of.ensures in
-    let i = c.requires.node.1 in
+    let i = c.requires.turns.node in
     let a = i.moving.agrees in (
       search rules,
       (
         ap (λ (t : State). may_proceed t.stage) pops.same ∙ c.requires.may,
         (
-          c.requires.same_dims ∙ sym (ap (λ (t : State). dims_of t) pops.same),
+          record {
+            same_dims = c.requires.turns.same_dims ∙ sym (ap (λ (t : State). dims_of t) pops.same);
+            same_rank = c.requires.turns.same_rank ∙ sym (ap (λ (t : State). t.rank) pops.same);
+            agrees = record { cycle = a.cycle; agrees = pops.kept a.cycle sent got a.agrees };
+          },
           (
-            c.requires.same_rank ∙ sym (ap (λ (t : State). t.rank) pops.same),
+            c.pop_all-run.ensures.read,
             (
-              record { cycle = a.cycle; agrees = pops.kept a.cycle sent got a.agrees },
-              (
-                c.pop_all-run.ensures.read,
-                (
-                  λ d. done_keeps R (c.requires.node.0) run g.row.CAP x0 x1 prog' sum' spoiled' voting done sent got pops all i d,
-                  λ q. same_done R (c.requires.node.0) run g.row.CAP x0 x1 prog' sum' spoiled' voting done sent got pops all i q,
-                ),
-              ),
+              λ d. done_keeps R (c.requires.turns.first) run g.row.CAP x0 x1 prog' sum' spoiled' voting done sent got pops all i d,
+              λ q. same_done R (c.requires.turns.first) run g.row.CAP x0 x1 prog' sum' spoiled' voting done sent got pops all i q,
             ),
           ),
         ),
@@ -76,8 +74,8 @@ returns-in_err-polled-clause-moves g c =
       done_is = ap (λ (t : State). t.done) e.same;
       steps = e.steps;
     } in
-    let s : IsStack g.row.CAP x0 = c.requires.node.1.moving.stack in
-    let begun = proceed_begun done x1 (λ q. same_done R (c.requires.node.0) run g.row.CAP x0 x1 prog' sum' spoiled' voting done sent got pops all c.requires.node.1 q) in
+    let s : IsStack g.row.CAP x0 = c.requires.turns.node.moving.stack in
+    let begun = proceed_begun done x1 (λ q. same_done R (c.requires.turns.first) run g.row.CAP x0 x1 prog' sum' spoiled' voting done sent got pops all c.requires.turns.node q) in
     let m : Made g.row.CAP x0 (in_proceed done x1) x2 done false sent sent' got got' = record {
       some = omega (arith, s.rank);
       few = s.few;
@@ -119,8 +117,8 @@ returns-in-GoOn-clause-moves g c =
       done_is = ap (λ (t : State). t.done) e.same;
       steps = e.steps;
     } in
-    let s : IsStack g.row.CAP x0 = c.requires.node.1.moving.stack in
-    let begun = proceed_begun done x1 (λ q. same_done R (c.requires.node.0) run g.row.CAP x0 x1 prog' sum' spoiled' voting done sent got pops all c.requires.node.1 q) in
+    let s : IsStack g.row.CAP x0 = c.requires.turns.node.moving.stack in
+    let begun = proceed_begun done x1 (λ q. same_done R (c.requires.turns.first) run g.row.CAP x0 x1 prog' sum' spoiled' voting done sent got pops all c.requires.turns.node q) in
     let m : Made g.row.CAP x0 (in_proceed done x1) x2 done false sent sent' got got' = record {
       some = omega (arith, s.rank);
       few = s.few;
@@ -162,8 +160,8 @@ returns-in-AllDone-clause-moves g c =
       done_is = ap (λ (t : State). t.done) e.same;
       steps = e.steps;
     } in
-    let s : IsStack g.row.CAP x0 = c.requires.node.1.moving.stack in
-    let begun = proceed_begun done x1 (λ q. same_done R (c.requires.node.0) run g.row.CAP x0 x1 prog' sum' spoiled' voting done sent got pops all c.requires.node.1 q) in
+    let s : IsStack g.row.CAP x0 = c.requires.turns.node.moving.stack in
+    let begun = proceed_begun done x1 (λ q. same_done R (c.requires.turns.first) run g.row.CAP x0 x1 prog' sum' spoiled' voting done sent got pops all c.requires.turns.node q) in
     let m : Made g.row.CAP x0 (in_proceed done x1) x2 done false sent sent' got got' = record {
       some = omega (arith, s.rank);
       few = s.few;
@@ -200,8 +198,8 @@ returns-in_err-polled-clause-cycle g c = λ quota n i.
     let done = run.next == c.count_of.result in
     let e = c.poll_proceed-polled.ensures in
     let all : done ≡ (run.next == length (to_send R c.pop_all-run.new.prog.value run.sends)) = ap (λ m. run.next == m) c.count_of.ensures in
-    let p = proceeds_of R (c.requires.node.0) run g.row.CAP x0 x1 x2 c.pop_all-run.new.prog.value taken.sum taken.spoiled c.votes_now-voting.result done sent got sent' got'
-    c.pop_all-run.ensures.pops all c.requires.node.1 c.known.ensures.standing c.requires.may e.same e.round e.cycle (ap has_proceeded (c.in_err-polled.ensures.no_memory refl)) (λ f. absurd (proceeding_apart x2.stage (c.in_err-polled.ensures.no_memory refl) f)) in
+    let p = proceeds_of R (c.requires.turns.first) run g.row.CAP x0 x1 x2 c.pop_all-run.new.prog.value taken.sum taken.spoiled c.votes_now-voting.result done sent got sent' got'
+    c.pop_all-run.ensures.pops all c.requires.turns.node c.known.ensures.standing c.requires.may e.same e.round e.cycle (ap has_proceeded (c.in_err-polled.ensures.no_memory refl)) (λ f. absurd (proceeding_apart x2.stage (c.in_err-polled.ensures.no_memory refl) f)) in
     proceeds_keep R g.row.CAP run _ x0 x1 x2 done sent got sent' got' p quota n i
 
 pub returns-in-GoOn-clause-cycle : goal.returns-in-GoOn-clause-cycle
@@ -219,8 +217,8 @@ returns-in-GoOn-clause-cycle g c = λ quota n i.
     let done = run.next == c.count_of.result in
     let e = c.poll_proceed-polled.ensures in
     let all : done ≡ (run.next == length (to_send R c.pop_all-run.new.prog.value run.sends)) = ap (λ m. run.next == m) c.count_of.ensures in
-    let p = proceeds_of R (c.requires.node.0) run g.row.CAP x0 x1 x2 c.pop_all-run.new.prog.value taken.sum taken.spoiled c.votes_now-voting.result done sent got sent' got'
-    c.pop_all-run.ensures.pops all c.requires.node.1 c.known.ensures.standing c.requires.may e.same e.round e.cycle (ap has_proceeded (c.in_ok-polled.ensures.stage) ∙ proceeded_stage _) (λ f. filling_open _ _ _ c.in_ok-polled.ensures.answer (sym (c.in_ok-polled.ensures.stage) ∙ f)) in
+    let p = proceeds_of R (c.requires.turns.first) run g.row.CAP x0 x1 x2 c.pop_all-run.new.prog.value taken.sum taken.spoiled c.votes_now-voting.result done sent got sent' got'
+    c.pop_all-run.ensures.pops all c.requires.turns.node c.known.ensures.standing c.requires.may e.same e.round e.cycle (ap has_proceeded (c.in_ok-polled.ensures.stage) ∙ proceeded_stage _) (λ f. filling_open _ _ _ c.in_ok-polled.ensures.answer (sym (c.in_ok-polled.ensures.stage) ∙ f)) in
     proceeds_keep R g.row.CAP run _ x0 x1 x2 done sent got sent' got' p quota n i
 
 pub returns-in-AllDone-clause-cycle : goal.returns-in-AllDone-clause-cycle
@@ -238,9 +236,16 @@ returns-in-AllDone-clause-cycle g c = λ quota n i.
     let done = run.next == c.count_of.result in
     let e = c.poll_proceed-polled.ensures in
     let all : done ≡ (run.next == length (to_send R c.pop_all-run.new.prog.value run.sends)) = ap (λ m. run.next == m) c.count_of.ensures in
-    let p = proceeds_of R (c.requires.node.0) run g.row.CAP x0 x1 x2 c.pop_all-run.new.prog.value taken.sum taken.spoiled c.votes_now-voting.result done sent got sent' got'
-    c.pop_all-run.ensures.pops all c.requires.node.1 c.known.ensures.standing c.requires.may e.same e.round e.cycle (ap has_proceeded (c.in_ok-polled.ensures.stage) ∙ proceeded_stage _) (λ f. filling_open _ _ _ c.in_ok-polled.ensures.answer (sym (c.in_ok-polled.ensures.stage) ∙ f)) in
+    let p = proceeds_of R (c.requires.turns.first) run g.row.CAP x0 x1 x2 c.pop_all-run.new.prog.value taken.sum taken.spoiled c.votes_now-voting.result done sent got sent' got'
+    c.pop_all-run.ensures.pops all c.requires.turns.node c.known.ensures.standing c.requires.may e.same e.round e.cycle (ap has_proceeded (c.in_ok-polled.ensures.stage) ∙ proceeded_stage _) (λ f. filling_open _ _ _ c.in_ok-polled.ensures.answer (sym (c.in_ok-polled.ensures.stage) ∙ f)) in
     proceeds_keep R g.row.CAP run _ x0 x1 x2 done sent got sent' got' p quota n i
 
 pub returns-in-GoOn-clause-awaits : goal.returns-in-GoOn-clause-awaits
 returns-in-GoOn-clause-awaits g c = λ ok. proceed_awaits g.row.CAP c.poll_proceed-polled.new.self c.known.ensures.standing _ c.in_ok-polled.ensures.answer c.in_ok-polled.ensures.stage
+
+pub returns-in-AllDone-clause-waits : goal.returns-in-AllDone-clause-waits
+returns-in-AllDone-clause-waits g c =
+    let pops = c.pop_all-run.ensures.pops in
+    waits_like c.args.exstack.now c.pop_all-run.new.exstack c.poll_proceed-polled.new.self (g.P.Port.got c.args.port.now) (g.P.Port.got c.poll_proceed-polled.new.port) (g.P.Port.crowded c.poll_proceed-polled.new.port) (g.P.Port.idle c.poll_proceed-polled.new.port)
+    (ap (λ (t : State). t.ranks) pops.same) (ap (λ (t : State). t.rank) pops.same)
+    (record { posts = c.in_ok-polled.ensures.crowded refl; collects = λ a low due. (c.in_ok-polled.ensures.asked refl a low due).in_vain })

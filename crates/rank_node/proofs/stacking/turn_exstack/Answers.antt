@@ -16,9 +16,9 @@ exchange-requires g c =
     let sent = g.P.Port.sent c.args.port.now in
     let got = g.P.Port.got c.args.port.now in
     let same = c.fill.ensures.same in
-    let h = c.requires.node.0 in
+    let h = c.requires.turns.first in
     let filling = ap (λ (t : State). may_exchange t.stage) same ∙ ap may_exchange (sym c.stage.ensures.value ∙ c.in-Filling.is) in
-    (search rules, (filling, (c.requires.same_dims ∙ sym (ap (λ (t : State). dims_of t) same), (c.requires.same_rank ∙ sym (ap (λ (t : State). t.rank) same), (h, c.fill.ensures.filled.kept h sent got c.requires.node.1)))))
+    (search rules, (filling, record { same_dims = c.requires.turns.same_dims ∙ sym (ap (λ (t : State). dims_of t) same); same_rank = c.requires.turns.same_rank ∙ sym (ap (λ (t : State). t.rank) same); first = h; node = c.fill.ensures.filled.kept h sent got c.requires.turns.node }))
 
 pub returns-in-AllDone-clause-moves : goal.returns-in-AllDone-clause-moves
 returns-in-AllDone-clause-moves g c = nothing_moved g.Q.Program.rules g.row.CAP (running c.args.run.now) c.args.exstack.now (g.P.Port.sent c.args.port.now) (g.P.Port.got c.args.port.now)

@@ -28,4 +28,4 @@ side_of-requires-2-clause-here c =
 
 pub new-requires-2 : goal.new-requires-2
 unfolding IsSlots
-new-requires-2 c = (search rules, (search rules, (lit< tt, (search rules, refl))))
+new-requires-2 c = (search rules, (search rules, (record { some = lit< tt; small = search rules }, refl)))

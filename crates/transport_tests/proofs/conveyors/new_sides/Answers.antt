@@ -1,7 +1,8 @@
 use Rattle.std.proofs.Common.{get_or, sym, subst, ◌∙◌, arith}
 use Rattle.list_laws.specs.Lists.{EachAt}
 use Rattle.list_laws.proofs.Lists.{each_push}
-use Rattle.convey.proofs.Together.{StartsOut, one_more, together_first}
+use Rattle.convey.specs.Conveyors.{StartsOut}
+use Rattle.convey.proofs.Together.{one_more, together_first}
 use Rattle.transport_tests.proofs.conveyors.new_sides.Goals as goal
 
 pub loop-rank-preserved : goal.loop-rank-preserved
@@ -11,10 +12,10 @@ loop-rank-preserved g c =
     record {
       all = one_more before _ one _ c.in_ok-push.ensures.items c.loop-rank.invariant.all;
       each = subst (EachAt (λ r s. StartsOut c.args.grid.now r s.conveyor)) (sym c.in_ok-push.ensures.items) (each_push (λ r s. StartsOut c.args.grid.now r s.conveyor) before one c.loop-rank.invariant.each (record {
-        same_dims = c.in_ok-new.ensures.same_dims;
-        same_rank = c.in_ok-new.ensures.same_rank ∙ sym c.loop-rank.invariant.all;
-        agrees = c.in_ok-new.ensures.agrees;
-        sound = c.in_ok-new.ensures.sound;
+        same_dims = c.in_ok-new.ensures.starts.same_dims;
+        same_rank = c.in_ok-new.ensures.starts.same_rank ∙ sym c.loop-rank.invariant.all;
+        agrees = c.in_ok-new.ensures.starts.agrees;
+        sound = c.in_ok-new.ensures.starts.sound;
       }));
     }
 

@@ -1,6 +1,6 @@
 use Rattle.std.proofs.Common.{◌≡◌, length}
 use Rattle.list_laws.specs.Lists.{EachAt}
-use Rattle.convey.proofs.Together.{StartsOut}
+use Rattle.convey.specs.Conveyors.{StartsOut}
 use Rattle.transport_tests.proofs.conveyors.new_sides.Given as goal
 
 abbrev pub invariant-loop-rank : goal.invariant-loop-rank

@@ -51,6 +51,6 @@ returns-in-Sent-clause-law c =
     let fair = one_fair dims (shipped p) c.entry.result c.requires.grid (ap (λ x. x.untaken) pushed) c.entry.ensures in
     let law = first_posted dims s.rank (posted_on s) (collected_from s) c.args.link (shipped p) c.requires.grid c.requires.first fair c.requires.law in
     let f = c.post.ensures in
-    let sent : posted_on s' ≡ added (posted_on s) c.args.link (shipped p) = sent_here s s' c.args.link f.here p f.long (f.sent c.in-Sent.is) in
+    let sent : posted_on s' ≡ added (posted_on s) c.args.link (shipped p) = sent_here s s' c.args.link f.here p f.long (f.link.sent c.in-Sent.is) in
     let got : collected_from s' ≡ collected_from s = ap collected_from f.here in
     subst (λ (z : ℕ × Logs × Logs). RelayLaw dims z.0 z.1 z.2) (λ k. ((sym f.here k).rank, sym sent k, sym got k)) law

@@ -16,20 +16,20 @@ make-requires g c =
     let d = c.index_mut.result.now in
     let w : WantsPort d.stack c.port-port.result.bank c.port-port.result.rank = together_port (length sides) g.row.CAP c.args.rank (λ q. (get_or sides q d).stack) d.stack c.args.bank c.port-port.result.bank c.port-port.result.rank
     c.requires.one_hop (c.requires.together d) c.requires.rank (ap (λ s. s.stack) c.index_mut.ensures.value) c.port-port.ensures.bank c.port-port.ensures.rank in
-    (search rules, (w.same_dims, (w.same_rank, w.agrees)))
+    (search rules, record { same_dims = w.same_dims; same_rank = w.same_rank; agrees = w.agrees })
 
 pub returns-clause-together : goal.returns-clause-together
 returns-clause-together g c =
     let sides = c.args.sides.now.items in
     let a : Polls g.row.CAP c.index_mut.result.now.stack c.make.new.self.stack c.port-port.result.bank c.make.new.port.bank c.port-port.result.rank c.make.new.port.rank = record {
-      agrees = c.in_ok-answer.ensures.agrees;
+      agrees = c.in_ok-answer.ensures.keeps.agrees;
       standing = c.in_ok-answer.ensures.standing;
-      self_ranks = c.in_ok-answer.ensures.self_ranks;
-      self_rank = c.in_ok-answer.ensures.self_rank;
-      port_dims = c.in_ok-answer.ensures.port_dims;
-      port_rank = c.in_ok-answer.ensures.port_rank;
-      port_slots = c.in_ok-answer.ensures.port_slots;
-      rest = c.in_ok-answer.ensures.rest;
+      self_ranks = c.in_ok-answer.ensures.keeps.ranks;
+      self_rank = c.in_ok-answer.ensures.keeps.rank;
+      port_dims = c.in_ok-answer.ensures.keeps.same_port.dims;
+      port_rank = c.in_ok-answer.ensures.keeps.same_port.rank;
+      port_slots = c.in_ok-answer.ensures.keeps.same_port.slots;
+      rest = c.in_ok-answer.ensures.keeps.same_port.rest;
       lawful = subst (IsBank g.row.CAP) c.into_bank.ensures.bank c.into_bank.ensures.lawful;
     } in
     let count : length (set sides c.args.rank c.make.new.self) ≡ length sides = length-set sides c.args.rank c.make.new.self in
@@ -42,4 +42,4 @@ returns-clause-together g c =
 pub returns-clause-one_hop : goal.returns-clause-one_hop
 returns-clause-one_hop g c =
     let sides = c.args.sides.now.items in
-    ap (λ b. b.dims) c.into_bank.ensures.bank ∙ (c.in_ok-answer.ensures.port_dims ∙ (ap (λ b. b.dims) c.port-port.ensures.bank ∙ (c.requires.one_hop ∙ ap (λ n. n ∷ []) (sym (length-set sides c.args.rank c.make.new.self)))))
+    ap (λ b. b.dims) c.into_bank.ensures.bank ∙ (c.in_ok-answer.ensures.keeps.same_port.dims ∙ (ap (λ b. b.dims) c.port-port.ensures.bank ∙ (c.requires.one_hop ∙ ap (λ n. n ∷ []) (sym (length-set sides c.args.rank c.make.new.self)))))

@@ -34,5 +34,5 @@ returns-in-Sent-clause-law g c =
     let p = c.set_last.ensures in
     let fair = one_fair (g.P.Port.dims port) (shipped c.set_last.new.self) c.entry.result c.requires.grid (ap (λ x. x.untaken) p ∙ ap (λ x. x.untaken) pushed) c.entry.ensures in
     law_same (g.P.Port.dims port) _ (g.P.Port.rank port) _ (added (g.P.Port.sent port) c.args.link (shipped c.set_last.new.self)) _ (g.P.Port.got port) _
-    c.post.ensures.same_dims c.post.ensures.same_rank (c.post.ensures.sent (c.in_ok-post.was ∙ ap Ok c.in-Sent.is)) c.post.ensures.got
+    c.post.ensures.same_port.dims c.post.ensures.same_port.rank (c.post.ensures.sent (c.in_ok-post.was ∙ ap Ok c.in-Sent.is)) c.post.ensures.same_ins.got
     (first_posted (g.P.Port.dims port) (g.P.Port.rank port) (g.P.Port.sent port) (g.P.Port.got port) c.args.link (shipped c.set_last.new.self) c.requires.grid c.requires.first fair c.requires.law)

@@ -12,7 +12,7 @@ use Rattle.biconvey.specs.Taking.{Pushes, Answers, RefusesAnswer}
 use Rattle.rank_node.specs.Movers.{AllRead}
 use Rattle.biconvey.specs.States.{BiState, Sides, IsBiNode, HasAsked, HasAnswered}
 use Rattle.biconvey.specs.Still.{IsStuck, Known}
-use Rattle.biconvey.proofs.Turned.{Advances, works_on, same_asks, count_is, asked_count, receivers, low, all_pushed, begun1, agrees1, stays_done, dims2, open2, answers2, epoch2, pulled2, begun3, agrees3, over3, halfway, first4, heard4, turned}
+use Rattle.biconvey.proofs.Turned.{Advances, works_on, was_served, has_completed, same_asks, count_is, asked_count, receivers, low, all_pushed, begun1, agrees1, stays_done, dims2, open2, answers2, epoch2, pulled2, begun3, agrees3, over3, halfway, first4, heard4, turned}
 use Rattle.biconvey.proofs.Stopped.{Served, complete_from, lies_left, once, read_or, stuck}
 use Rattle.biconvey.proofs.bi_node.BiNode.turn.Goals as goal
 
@@ -50,11 +50,8 @@ advance-asked-requires g c =
       (
         begun1 T laws start inside qs qg rs rg is g.row.CAP next count q1 push counted,
         (
-          c.requires.queries_dims ∙ (sym (ap (λ (t : State). t.dims) e) ∙ sym (ap (λ (t : State). t.dims) push.same)),
-          (
-            c.requires.queries_rank ∙ (sym (ap (λ (t : State). t.rank) e) ∙ sym (ap (λ (t : State). t.rank) push.same)),
-            (agrees1 T laws start inside qs qg rs rg is g.row.CAP next count q1 push counted, stays_done T laws start inside qs qg rs rg is g.row.CAP next count q1 push counted),
-          ),
+          record { same_dims = c.requires.queries_dims ∙ (sym (ap (λ (t : State). t.dims) e) ∙ sym (ap (λ (t : State). t.dims) push.same)); same_rank = c.requires.queries_rank ∙ (sym (ap (λ (t : State). t.rank) e) ∙ sym (ap (λ (t : State). t.rank) push.same)); agrees = agrees1 T laws start inside qs qg rs rg is g.row.CAP next count q1 push counted },
+          stays_done T laws start inside qs qg rs rg is g.row.CAP next count q1 push counted,
         ),
       ),
     )
@@ -79,15 +76,15 @@ answer_open-refused-requires g c =
     let qs' = g.P.Port.sent c.advance-asked.new.port in
     let qg' = g.P.Port.got c.advance-asked.new.port in
     let adv : Advances q1 q2 (next == count) qs qg qs' qg' = record {
-      agrees = c.advance-asked.ensures.agrees;
-      dims = c.advance-asked.ensures.self_dims;
-      rank = c.advance-asked.ensures.self_rank;
-      epoch = c.advance-asked.ensures.epoch;
-      done_is = c.advance-asked.ensures.done;
-      begun = c.advance-asked.ensures.begun;
-      works = works_on c.advance-asked.result q1 q2 (next == count) c.advance-asked.ensures.working c.advance-asked.ensures.no_memory;
+      agrees = c.advance-asked.ensures.stays.agrees;
+      dims = c.advance-asked.ensures.stays.dims;
+      rank = c.advance-asked.ensures.stays.rank;
+      epoch = c.advance-asked.ensures.stays.epoch;
+      done_is = c.advance-asked.ensures.stays.done;
+      begun = c.advance-asked.ensures.stays.begun;
+      works = works_on c.advance-asked.result q1 q2 (next == count) c.advance-asked.ensures.settled c.advance-asked.ensures.no_memory;
       stays = λ e. ap (λ (t : State). t.phase) (c.advance-asked.ensures.complete e) ∙ e;
-      step = c.advance-asked.ensures.step;
+      step = c.advance-asked.ensures.stays.step;
     } in
     (search rules, (adv.begun, (dims2 T laws start inside qs qg rs rg is g.row.CAP next count q1 push counted q2 qs' qg' adv, (answers2 T laws start inside qs qg rs rg is g.row.CAP next count q1 push counted q2 qs' qg' adv, open2 T laws start inside qs qg rs rg is g.row.CAP next count q1 push counted q2 qs' qg' adv))))
 
@@ -111,15 +108,15 @@ advance-replied-requires g c =
     let qs' = g.P.Port.sent c.advance-asked.new.port in
     let qg' = g.P.Port.got c.advance-asked.new.port in
     let adv : Advances q1 q2 (next == count) qs qg qs' qg' = record {
-      agrees = c.advance-asked.ensures.agrees;
-      dims = c.advance-asked.ensures.self_dims;
-      rank = c.advance-asked.ensures.self_rank;
-      epoch = c.advance-asked.ensures.epoch;
-      done_is = c.advance-asked.ensures.done;
-      begun = c.advance-asked.ensures.begun;
-      works = works_on c.advance-asked.result q1 q2 (next == count) c.advance-asked.ensures.working c.advance-asked.ensures.no_memory;
+      agrees = c.advance-asked.ensures.stays.agrees;
+      dims = c.advance-asked.ensures.stays.dims;
+      rank = c.advance-asked.ensures.stays.rank;
+      epoch = c.advance-asked.ensures.stays.epoch;
+      done_is = c.advance-asked.ensures.stays.done;
+      begun = c.advance-asked.ensures.stays.begun;
+      works = works_on c.advance-asked.result q1 q2 (next == count) c.advance-asked.ensures.settled c.advance-asked.ensures.no_memory;
       stays = λ e. ap (λ (t : State). t.phase) (c.advance-asked.ensures.complete e) ∙ e;
-      step = c.advance-asked.ensures.step;
+      step = c.advance-asked.ensures.stays.step;
     } in
     let q3 = c.answer_open-refused.new.queries in
     let r1 = c.answer_open-refused.new.replies in
@@ -131,11 +128,8 @@ advance-replied-requires g c =
       (
         begun3 T laws start inside qs qg rs rg is g.row.CAP next count q1 push counted q2 qs' qg' adv q3 r1 ans,
         (
-          c.requires.replies_dims ∙ (sym (ap (λ (t : State). t.dims) e) ∙ sym (ap (λ (t : State). t.dims) ans.same_replies)),
-          (
-            c.requires.replies_rank ∙ (sym (ap (λ (t : State). t.rank) e) ∙ sym (ap (λ (t : State). t.rank) ans.same_replies)),
-            (agrees3 T laws start inside qs qg rs rg is g.row.CAP next count q1 push counted q2 qs' qg' adv q3 r1 ans, over3 T laws start inside qs qg rs rg is g.row.CAP next count q1 push counted q2 qs' qg' adv q3 r1 ans over is_over),
-          ),
+          record { same_dims = c.requires.replies_dims ∙ (sym (ap (λ (t : State). t.dims) e) ∙ sym (ap (λ (t : State). t.dims) ans.same_replies)); same_rank = c.requires.replies_rank ∙ (sym (ap (λ (t : State). t.rank) e) ∙ sym (ap (λ (t : State). t.rank) ans.same_replies)); agrees = agrees3 T laws start inside qs qg rs rg is g.row.CAP next count q1 push counted q2 qs' qg' adv q3 r1 ans },
+          over3 T laws start inside qs qg rs rg is g.row.CAP next count q1 push counted q2 qs' qg' adv q3 r1 ans over is_over,
         ),
       ),
     )
@@ -160,15 +154,15 @@ hear_all-requires g c =
     let qs' = g.P.Port.sent c.advance-asked.new.port in
     let qg' = g.P.Port.got c.advance-asked.new.port in
     let adv : Advances q1 q2 (next == count) qs qg qs' qg' = record {
-      agrees = c.advance-asked.ensures.agrees;
-      dims = c.advance-asked.ensures.self_dims;
-      rank = c.advance-asked.ensures.self_rank;
-      epoch = c.advance-asked.ensures.epoch;
-      done_is = c.advance-asked.ensures.done;
-      begun = c.advance-asked.ensures.begun;
-      works = works_on c.advance-asked.result q1 q2 (next == count) c.advance-asked.ensures.working c.advance-asked.ensures.no_memory;
+      agrees = c.advance-asked.ensures.stays.agrees;
+      dims = c.advance-asked.ensures.stays.dims;
+      rank = c.advance-asked.ensures.stays.rank;
+      epoch = c.advance-asked.ensures.stays.epoch;
+      done_is = c.advance-asked.ensures.stays.done;
+      begun = c.advance-asked.ensures.stays.begun;
+      works = works_on c.advance-asked.result q1 q2 (next == count) c.advance-asked.ensures.settled c.advance-asked.ensures.no_memory;
       stays = λ e. ap (λ (t : State). t.phase) (c.advance-asked.ensures.complete e) ∙ e;
-      step = c.advance-asked.ensures.step;
+      step = c.advance-asked.ensures.stays.step;
     } in
     let q3 = c.answer_open-refused.new.queries in
     let r1 = c.answer_open-refused.new.replies in
@@ -179,15 +173,15 @@ hear_all-requires g c =
     let rs' = g.R.Port.sent c.advance-replied.new.port in
     let rg' = g.R.Port.got c.advance-replied.new.port in
     let adv' : Advances r1 r2 over rs rg rs' rg' = record {
-      agrees = c.advance-replied.ensures.agrees;
-      dims = c.advance-replied.ensures.self_dims;
-      rank = c.advance-replied.ensures.self_rank;
-      epoch = c.advance-replied.ensures.epoch;
-      done_is = c.advance-replied.ensures.done;
-      begun = c.advance-replied.ensures.begun;
-      works = works_on c.advance-replied.result r1 r2 over c.advance-replied.ensures.working c.advance-replied.ensures.no_memory;
+      agrees = c.advance-replied.ensures.stays.agrees;
+      dims = c.advance-replied.ensures.stays.dims;
+      rank = c.advance-replied.ensures.stays.rank;
+      epoch = c.advance-replied.ensures.stays.epoch;
+      done_is = c.advance-replied.ensures.stays.done;
+      begun = c.advance-replied.ensures.stays.begun;
+      works = works_on c.advance-replied.result r1 r2 over c.advance-replied.ensures.settled c.advance-replied.ensures.no_memory;
       stays = λ e. ap (λ (t : State). t.phase) (c.advance-replied.ensures.complete e) ∙ e;
-      step = c.advance-replied.ensures.step;
+      step = c.advance-replied.ensures.stays.step;
     } in
     (search rules, (adv'.begun, (first4 T laws start inside qs qg rs rg is g.row.CAP next count q1 push counted q2 qs' qg' adv q3 r1 ans over is_over r2 rs' rg' adv', (start, rs', rg', adv'.agrees, heard4 T laws start inside qs qg rs rg is g.row.CAP next count q1 push counted q2 qs' qg' adv q3 r1 ans over is_over r2 rs' rg' adv'))))
 
@@ -210,15 +204,15 @@ returns-clause-kept g c = λ start was.
     let qs' = g.P.Port.sent c.advance-asked.new.port in
     let qg' = g.P.Port.got c.advance-asked.new.port in
     let adv : Advances q1 q2 (next == count) qs qg qs' qg' = record {
-      agrees = c.advance-asked.ensures.agrees;
-      dims = c.advance-asked.ensures.self_dims;
-      rank = c.advance-asked.ensures.self_rank;
-      epoch = c.advance-asked.ensures.epoch;
-      done_is = c.advance-asked.ensures.done;
-      begun = c.advance-asked.ensures.begun;
-      works = works_on c.advance-asked.result q1 q2 (next == count) c.advance-asked.ensures.working c.advance-asked.ensures.no_memory;
+      agrees = c.advance-asked.ensures.stays.agrees;
+      dims = c.advance-asked.ensures.stays.dims;
+      rank = c.advance-asked.ensures.stays.rank;
+      epoch = c.advance-asked.ensures.stays.epoch;
+      done_is = c.advance-asked.ensures.stays.done;
+      begun = c.advance-asked.ensures.stays.begun;
+      works = works_on c.advance-asked.result q1 q2 (next == count) c.advance-asked.ensures.settled c.advance-asked.ensures.no_memory;
       stays = λ e. ap (λ (t : State). t.phase) (c.advance-asked.ensures.complete e) ∙ e;
-      step = c.advance-asked.ensures.step;
+      step = c.advance-asked.ensures.stays.step;
     } in
     let q3 = c.answer_open-refused.new.queries in
     let r1 = c.answer_open-refused.new.replies in
@@ -229,15 +223,15 @@ returns-clause-kept g c = λ start was.
     let rs' = g.R.Port.sent c.advance-replied.new.port in
     let rg' = g.R.Port.got c.advance-replied.new.port in
     let adv' : Advances r1 r2 over rs rg rs' rg' = record {
-      agrees = c.advance-replied.ensures.agrees;
-      dims = c.advance-replied.ensures.self_dims;
-      rank = c.advance-replied.ensures.self_rank;
-      epoch = c.advance-replied.ensures.epoch;
-      done_is = c.advance-replied.ensures.done;
-      begun = c.advance-replied.ensures.begun;
-      works = works_on c.advance-replied.result r1 r2 over c.advance-replied.ensures.working c.advance-replied.ensures.no_memory;
+      agrees = c.advance-replied.ensures.stays.agrees;
+      dims = c.advance-replied.ensures.stays.dims;
+      rank = c.advance-replied.ensures.stays.rank;
+      epoch = c.advance-replied.ensures.stays.epoch;
+      done_is = c.advance-replied.ensures.stays.done;
+      begun = c.advance-replied.ensures.stays.begun;
+      works = works_on c.advance-replied.result r1 r2 over c.advance-replied.ensures.settled c.advance-replied.ensures.no_memory;
       stays = λ e. ap (λ (t : State). t.phase) (c.advance-replied.ensures.complete e) ∙ e;
-      step = c.advance-replied.ensures.step;
+      step = c.advance-replied.ensures.stays.step;
     } in
     turned T laws start inside qs qg rs rg is g.row.CAP next count q1 push counted q2 qs' qg' adv q3 r1 ans over is_over r2 rs' rg' adv' c.hear_all.new.replies c.hear_all.new.asker.value c.hear_all.new.lines.items c.hear_all.ensures.hears c.hear_all.ensures.read c.phase.ensures.sound c.known-2.ensures.sound
 
@@ -268,15 +262,15 @@ returns-clause-unanswered g c =
     let qs' = g.P.Port.sent c.advance-asked.new.port in
     let qg' = g.P.Port.got c.advance-asked.new.port in
     let adv : Advances q1 q2 (next == count) qs qg qs' qg' = record {
-      agrees = c.advance-asked.ensures.agrees;
-      dims = c.advance-asked.ensures.self_dims;
-      rank = c.advance-asked.ensures.self_rank;
-      epoch = c.advance-asked.ensures.epoch;
-      done_is = c.advance-asked.ensures.done;
-      begun = c.advance-asked.ensures.begun;
-      works = works_on c.advance-asked.result q1 q2 (next == count) c.advance-asked.ensures.working c.advance-asked.ensures.no_memory;
+      agrees = c.advance-asked.ensures.stays.agrees;
+      dims = c.advance-asked.ensures.stays.dims;
+      rank = c.advance-asked.ensures.stays.rank;
+      epoch = c.advance-asked.ensures.stays.epoch;
+      done_is = c.advance-asked.ensures.stays.done;
+      begun = c.advance-asked.ensures.stays.begun;
+      works = works_on c.advance-asked.result q1 q2 (next == count) c.advance-asked.ensures.settled c.advance-asked.ensures.no_memory;
       stays = λ e. ap (λ (t : State). t.phase) (c.advance-asked.ensures.complete e) ∙ e;
-      step = c.advance-asked.ensures.step;
+      step = c.advance-asked.ensures.stays.step;
     } in
     let q3 = c.answer_open-refused.new.queries in
     let r1 = c.answer_open-refused.new.replies in
@@ -300,48 +294,48 @@ pub returns-clause-asked_all : goal.returns-clause-asked_all
 returns-clause-asked_all g c =
     let T = g.A.Asker.talk in
     let counted = c.count.ensures ∙ ap (λ s. length (T.queries s)) c.deref.ensures in
-    ap (λ (t : State). t.done) c.answer_open-refused.ensures.answers.same ∙ (c.advance-asked.ensures.done
+    ap (λ (t : State). t.done) c.answer_open-refused.ensures.answers.same ∙ (c.advance-asked.ensures.stays.done
     ∙ ap (λ k. c.push_queries-self-inside.result == k) (asked_count T c.count.result _ c.hear_all.new.asker.value counted c.hear_all.ensures.hears.talk))
 
 pub returns-clause-replied_all : goal.returns-clause-replied_all
 returns-clause-replied_all g c =
-    ap (λ (t : State). t.done) c.hear_all.ensures.hears.same ∙ (c.advance-replied.ensures.done ∙ (c.is_over-over.ensures ∙ ap is_complete c.phase.ensures.value))
+    ap (λ (t : State). t.done) c.hear_all.ensures.hears.same ∙ (c.advance-replied.ensures.stays.done ∙ (c.is_over-over.ensures ∙ ap is_complete c.phase.ensures.value))
 
 pub returns-clause-queries_once : goal.returns-clause-queries_once
 returns-clause-queries_once g c =
     let c1 = c.push_queries-self-inside.new.conveyor in
     let same = subst (λ (t : State). c1 ≡ record t { outs = c1.outs; pulled = c1.pulled }) (ap (λ (m : BiState g.row.A.Denot). m.queries) c.self.view_is) c.push_queries-self-inside.ensures.same in
-    once sender_at c.args.self.now.queries c1 (g.P.Port.sent c.args.queries.now) (g.P.Port.sent c.advance-asked.new.port) same c.advance-asked.ensures.one_sent
+    once sender_at c.args.self.now.queries c1 (g.P.Port.sent c.args.queries.now) (g.P.Port.sent c.advance-asked.new.port) same c.advance-asked.ensures.grows.one_sent
 
 pub returns-clause-queries_got_once : goal.returns-clause-queries_got_once
 returns-clause-queries_got_once g c =
     let c1 = c.push_queries-self-inside.new.conveyor in
     let same = subst (λ (t : State). c1 ≡ record t { outs = c1.outs; pulled = c1.pulled }) (ap (λ (m : BiState g.row.A.Denot). m.queries) c.self.view_is) c.push_queries-self-inside.ensures.same in
-    once reader_at c.args.self.now.queries c1 (g.P.Port.got c.args.queries.now) (g.P.Port.got c.advance-asked.new.port) same c.advance-asked.ensures.one_got
+    once reader_at c.args.self.now.queries c1 (g.P.Port.got c.args.queries.now) (g.P.Port.got c.advance-asked.new.port) same c.advance-asked.ensures.grows.one_got
 
 pub returns-clause-replies_once : goal.returns-clause-replies_once
 returns-clause-replies_once g c =
     let c1 = c.answer_open-refused.new.replies in
     let same = subst (λ (t : State). c1 ≡ record t { outs = c1.outs; pulled = c1.pulled }) (ap (λ (m : BiState g.row.A.Denot). m.replies) c.self.view_is) c.answer_open-refused.ensures.answers.same_replies in
-    once sender_at c.args.self.now.replies c1 (g.R.Port.sent c.args.replies.now) (g.R.Port.sent c.advance-replied.new.port) same c.advance-replied.ensures.one_sent
+    once sender_at c.args.self.now.replies c1 (g.R.Port.sent c.args.replies.now) (g.R.Port.sent c.advance-replied.new.port) same c.advance-replied.ensures.grows.one_sent
 
 pub returns-clause-replies_got_once : goal.returns-clause-replies_got_once
 returns-clause-replies_got_once g c =
     let c1 = c.answer_open-refused.new.replies in
     let same = subst (λ (t : State). c1 ≡ record t { outs = c1.outs; pulled = c1.pulled }) (ap (λ (m : BiState g.row.A.Denot). m.replies) c.self.view_is) c.answer_open-refused.ensures.answers.same_replies in
-    once reader_at c.args.self.now.replies c1 (g.R.Port.got c.args.replies.now) (g.R.Port.got c.advance-replied.new.port) same c.advance-replied.ensures.one_got
+    once reader_at c.args.self.now.replies c1 (g.R.Port.got c.args.replies.now) (g.R.Port.got c.advance-replied.new.port) same c.advance-replied.ensures.grows.one_got
 
 pub returns-clause-queries_shape : goal.returns-clause-queries_shape
 returns-clause-queries_shape g c = λ l was.
     let same : c.push_queries-self-inside.new.conveyor.steady ≡ c.args.self.now.queries.steady = ap (λ (t : State). t.steady) c.push_queries-self-inside.ensures.same ∙ ap (λ (m : BiState g.row.A.Denot). m.queries.steady) c.self.view_is in
     subst (λ b. IsConveyorShape b g.row.CAP (g.P.Port.sent c.advance-asked.new.port l)) same
-    (c.advance-asked.ensures.shape l (subst (λ b. IsConveyorShape b g.row.CAP (g.P.Port.sent c.args.queries.now l)) (sym same) was))
+    (c.advance-asked.ensures.grows.shape l (subst (λ b. IsConveyorShape b g.row.CAP (g.P.Port.sent c.args.queries.now l)) (sym same) was))
 
 pub returns-clause-replies_shape : goal.returns-clause-replies_shape
 returns-clause-replies_shape g c = λ l was.
     let same : c.answer_open-refused.new.replies.steady ≡ c.args.self.now.replies.steady = ap (λ (t : State). t.steady) c.answer_open-refused.ensures.answers.same_replies ∙ ap (λ (m : BiState g.row.A.Denot). m.replies.steady) c.self.view_is in
     subst (λ b. IsConveyorShape b g.row.CAP (g.R.Port.sent c.advance-replied.new.port l)) same
-    (c.advance-replied.ensures.shape l (subst (λ b. IsConveyorShape b g.row.CAP (g.R.Port.sent c.args.replies.now l)) (sym same) was))
+    (c.advance-replied.ensures.grows.shape l (subst (λ b. IsConveyorShape b g.row.CAP (g.R.Port.sent c.args.replies.now l)) (sym same) was))
 
 pub returns-clause-queries_lie : goal.returns-clause-queries_lie
 returns-clause-queries_lie g c = λ l more below to grew.
@@ -349,7 +343,7 @@ returns-clause-queries_lie g c = λ l more below to grew.
     let q1 = c.push_queries-self-inside.new.conveyor in
     let same = subst (λ (q : State). q1 ≡ record q { outs = q1.outs; pulled = q1.pulled }) e c.push_queries-self-inside.ensures.same in
     lies_left c.args.self.now.queries q1 c.advance-asked.new.self c.answer_open-refused.new.queries (g.P.Port.got c.args.queries.now) (g.P.Port.got c.advance-asked.new.port) same c.answer_open-refused.ensures.answers.fewer
-    c.advance-asked.ensures.lies l more below to grew
+    c.advance-asked.ensures.asked.lies l more below to grew
 
 pub returns-clause-replies_lie : goal.returns-clause-replies_lie
 returns-clause-replies_lie g c = λ l more below to grew.
@@ -357,7 +351,7 @@ returns-clause-replies_lie g c = λ l more below to grew.
     let r1 = c.answer_open-refused.new.replies in
     let same = subst (λ (r : State). r1 ≡ record r { outs = r1.outs; pulled = r1.pulled }) e c.answer_open-refused.ensures.answers.same_replies in
     lies_left c.args.self.now.replies r1 c.advance-replied.new.self c.hear_all.new.replies (g.R.Port.got c.args.replies.now) (g.R.Port.got c.advance-replied.new.port) same c.hear_all.ensures.hears.fewer
-    c.advance-replied.ensures.lies l more below to grew
+    c.advance-replied.ensures.asked.lies l more below to grew
 
 pub returns-clause-stuck : goal.returns-clause-stuck
 returns-clause-stuck g c = on_ok_from c.turn_of.result (λ answer ok start was s1 g1 s2 g2.
@@ -378,15 +372,15 @@ returns-clause-stuck g c = on_ok_from c.turn_of.result (λ answer ok start was s
     let qs' = g.P.Port.sent c.advance-asked.new.port in
     let qg' = g.P.Port.got c.advance-asked.new.port in
     let adv : Advances q1 q2 (next == count) qs qg qs' qg' = record {
-      agrees = c.advance-asked.ensures.agrees;
-      dims = c.advance-asked.ensures.self_dims;
-      rank = c.advance-asked.ensures.self_rank;
-      epoch = c.advance-asked.ensures.epoch;
-      done_is = c.advance-asked.ensures.done;
-      begun = c.advance-asked.ensures.begun;
-      works = works_on c.advance-asked.result q1 q2 (next == count) c.advance-asked.ensures.working c.advance-asked.ensures.no_memory;
+      agrees = c.advance-asked.ensures.stays.agrees;
+      dims = c.advance-asked.ensures.stays.dims;
+      rank = c.advance-asked.ensures.stays.rank;
+      epoch = c.advance-asked.ensures.stays.epoch;
+      done_is = c.advance-asked.ensures.stays.done;
+      begun = c.advance-asked.ensures.stays.begun;
+      works = works_on c.advance-asked.result q1 q2 (next == count) c.advance-asked.ensures.settled c.advance-asked.ensures.no_memory;
       stays = λ e. ap (λ (t : State). t.phase) (c.advance-asked.ensures.complete e) ∙ e;
-      step = c.advance-asked.ensures.step;
+      step = c.advance-asked.ensures.stays.step;
     } in
     let q3 = c.answer_open-refused.new.queries in
     let r1 = c.answer_open-refused.new.replies in
@@ -397,32 +391,32 @@ returns-clause-stuck g c = on_ok_from c.turn_of.result (λ answer ok start was s
     let rs' = g.R.Port.sent c.advance-replied.new.port in
     let rg' = g.R.Port.got c.advance-replied.new.port in
     let adv' : Advances r1 r2 over rs rg rs' rg' = record {
-      agrees = c.advance-replied.ensures.agrees;
-      dims = c.advance-replied.ensures.self_dims;
-      rank = c.advance-replied.ensures.self_rank;
-      epoch = c.advance-replied.ensures.epoch;
-      done_is = c.advance-replied.ensures.done;
-      begun = c.advance-replied.ensures.begun;
-      works = works_on c.advance-replied.result r1 r2 over c.advance-replied.ensures.working c.advance-replied.ensures.no_memory;
+      agrees = c.advance-replied.ensures.stays.agrees;
+      dims = c.advance-replied.ensures.stays.dims;
+      rank = c.advance-replied.ensures.stays.rank;
+      epoch = c.advance-replied.ensures.stays.epoch;
+      done_is = c.advance-replied.ensures.stays.done;
+      begun = c.advance-replied.ensures.stays.begun;
+      works = works_on c.advance-replied.result r1 r2 over c.advance-replied.ensures.settled c.advance-replied.ensures.no_memory;
       stays = λ e. ap (λ (t : State). t.phase) (c.advance-replied.ensures.complete e) ∙ e;
-      step = c.advance-replied.ensures.step;
+      step = c.advance-replied.ensures.stays.step;
     } in
     let oks = c.turn_of.ensures.both (ap is_ok ok) in
     let served : Served q1 q2 g.row.CAP qs qs' qg qg' (g.P.Port.crowded c.advance-asked.new.port) (g.P.Port.idle c.advance-asked.new.port) = record {
-      full = c.advance-asked.ensures.full oks.0;
-      idles = c.advance-asked.ensures.idle;
-      lies = c.advance-asked.ensures.lies;
-      closing = λ l b f o a open'. c.advance-asked.ensures.closing oks.0 l b f (λ q. sym c.advance-asked.ensures.done ∙ o q) a open';
-      stopped = c.advance-asked.ensures.stopped oks.0;
-      completes = λ o. complete_from q2.phase (sym (if_ok_is (λ p. p ≡ progress_of q2.phase) c.advance-asked.result progress.Complete (c.advance-asked.ensures.completes oks.0 o) c.advance-asked.ensures.answer));
+      full = (was_served c.advance-asked.result oks.0 c.advance-asked.ensures.served).full;
+      idles = c.advance-asked.ensures.asked.idle;
+      lies = c.advance-asked.ensures.asked.lies;
+      closing = (was_served c.advance-asked.result oks.0 c.advance-asked.ensures.served).closing;
+      stopped = (was_served c.advance-asked.result oks.0 c.advance-asked.ensures.served).stopped;
+      completes = λ o. complete_from q2.phase (has_completed c.advance-asked.result q2 _ oks.0 c.advance-asked.ensures.settled o);
     } in
     let served' : Served r1 r2 g.row.CAP rs rs' rg rg' (g.R.Port.crowded c.advance-replied.new.port) (g.R.Port.idle c.advance-replied.new.port) = record {
-      full = c.advance-replied.ensures.full oks.1;
-      idles = c.advance-replied.ensures.idle;
-      lies = c.advance-replied.ensures.lies;
-      closing = λ l b f o a open'. c.advance-replied.ensures.closing oks.1 l b f (λ q. sym c.advance-replied.ensures.done ∙ o q) a open';
-      stopped = c.advance-replied.ensures.stopped oks.1;
-      completes = λ o. complete_from r2.phase (sym (if_ok_is (λ p. p ≡ progress_of r2.phase) c.advance-replied.result progress.Complete (c.advance-replied.ensures.completes oks.1 o) c.advance-replied.ensures.answer));
+      full = (was_served c.advance-replied.result oks.1 c.advance-replied.ensures.served).full;
+      idles = c.advance-replied.ensures.asked.idle;
+      lies = c.advance-replied.ensures.asked.lies;
+      closing = (was_served c.advance-replied.result oks.1 c.advance-replied.ensures.served).closing;
+      stopped = (was_served c.advance-replied.result oks.1 c.advance-replied.ensures.served).stopped;
+      completes = λ o. complete_from r2.phase (has_completed c.advance-replied.result r2 _ oks.1 c.advance-replied.ensures.settled o);
     } in
     let old : Sides = record { asking = qs; asked = qg; replying = rs; replied = rg } in
     let new : Sides = record { asking = qs'; asked = qg'; replying = rs'; replied = rg' } in
@@ -454,15 +448,15 @@ returns-clause-between g c =
     let qs' = g.P.Port.sent c.advance-asked.new.port in
     let qg' = g.P.Port.got c.advance-asked.new.port in
     let adv : Advances q1 q2 (next == count) qs qg qs' qg' = record {
-      agrees = c.advance-asked.ensures.agrees;
-      dims = c.advance-asked.ensures.self_dims;
-      rank = c.advance-asked.ensures.self_rank;
-      epoch = c.advance-asked.ensures.epoch;
-      done_is = c.advance-asked.ensures.done;
-      begun = c.advance-asked.ensures.begun;
-      works = works_on c.advance-asked.result q1 q2 (next == count) c.advance-asked.ensures.working c.advance-asked.ensures.no_memory;
+      agrees = c.advance-asked.ensures.stays.agrees;
+      dims = c.advance-asked.ensures.stays.dims;
+      rank = c.advance-asked.ensures.stays.rank;
+      epoch = c.advance-asked.ensures.stays.epoch;
+      done_is = c.advance-asked.ensures.stays.done;
+      begun = c.advance-asked.ensures.stays.begun;
+      works = works_on c.advance-asked.result q1 q2 (next == count) c.advance-asked.ensures.settled c.advance-asked.ensures.no_memory;
       stays = λ e. ap (λ (t : State). t.phase) (c.advance-asked.ensures.complete e) ∙ e;
-      step = c.advance-asked.ensures.step;
+      step = c.advance-asked.ensures.stays.step;
     } in (
       record { asker = inside.asker; next = next; lines = inside.lines; queries = q2; replies = inside.replies },
       λ start was. halfway T laws start inside qs qg rs rg (is start was) g.row.CAP next count q1 push counted q2 qs' qg' adv c.known.ensures.sound,

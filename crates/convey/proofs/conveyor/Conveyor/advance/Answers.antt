@@ -1,127 +1,74 @@
-use Rattle.std.proofs.Common.{◌≡◌, ◌<◌, true, false, Result, Ok, length, slice_get, Some, None, sym, ap, subst, ◌∙◌, rules}
+use Rattle.std.proofs.Common.{◌≡◌, ℕ, ◌<◌, true, false, Result, Ok, length, slice_get, Some, None, sym, ap, subst, ◌∙◌, rules}
 use Rattle.std.proofs.lemmas.Bool.{false≢true}
 use Rattle.bale_types.specs.declared.fault.NoMemory.{NoMemory}
 use Rattle.route_tensor.specs.Link.{links}
-use Rattle.route_tensor.specs.Ends.{hop_at, reader_at}
+use Rattle.route_tensor.specs.Ends.{hop_at, sender_at, reader_at}
 use Rattle.hop_core.specs.declared.phase.Phase.TheVariants.{Complete}
-use Rattle.hop_core.specs.State.{State, all_closed, phase_of}
+use Rattle.port_bank.specs.Calls.{once_more_if}
+use Rattle.hop_core.specs.Link.{is_wanted}
+use Rattle.hop_core.specs.State.{State, all_closed, phase_of, at_end}
 use Rattle.hop_core.specs.Standing.{IsState}
 use Rattle.convey.specs.declared.progress.Progress.{Progress}
 use Rattle.convey.specs.declared.progress.Progress.TheVariants.{Complete as Whole}
-use Rattle.convey.specs.Buffers.{in_of, is_complete, buffers_of}
+use Rattle.convey.specs.Buffers.{out_of, in_of, is_complete, buffers_of}
 use Rattle.convey.specs.Agreement.{Agrees}
-use Rattle.convey.specs.Due.{IsDue, WasServed, NextIs, WasFull, HeldUp}
+use Rattle.convey.specs.Due.{IsDue, WasServed, NextIs, WasFull, HeldUp, was_served}
 use Rattle.convey.specs.Progress.{progress_of}
 use Rattle.convey.specs.Way.{MovesOn, HasServed}
+use Rattle.convey.specs.Advance.{WereAsked}
 use Rattle.convey.proofs.Blocks.{next_map}
 use Rattle.convey.proofs.Posts.{due_ending}
 use Rattle.convey.proofs.Completes.{complete_phase, is_over, over_complete, reaches_end, working, begun}
 use Rattle.convey.proofs.Movements.{not_true}
-use Rattle.convey.proofs.Advances.{advance_is, settled_agrees, over_before, phase_of-settled, forgotten, complete_answer, same_held}
+use Rattle.convey.proofs.Advances.{lists_grow, were_asked, advance_is, settled_agrees, over_before, phase_of-settled, forgotten, complete_answer, same_held}
 use Rattle.convey.proofs.States.{holds_at_most}
 use Rattle.convey.proofs.Sent.{cleanup_sent}
 use Rattle.convey.proofs.conveyor.Conveyor.advance.Goals as goal
-
-whole : (r : Progress) → (let a : Result Progress NoMemory = Ok r in let b : Result Progress NoMemory = Ok Whole in a ≡ b) → r ≡ Whole
-whole r h = cc
 
 -- a settled state's phase is that of its buffers
 settled_phase : (mid new : State) → new ≡ record mid { phase = phase_of mid; pulled = None } → new.phase ≡ phase_of new
 settled_phase mid new e = ap (λ s. s.phase) e ∙ sym (ap phase_of e ∙ phase_of-settled mid (phase_of mid) None)
 
-pub returns-in_err-move_on-clause-step : goal.returns-in_err-move_on-clause-step
-returns-in_err-move_on-clause-step g c =
+pub returns-in_err-move_on-clause-stays : goal.returns-in_err-move_on-clause-stays
+returns-in_err-move_on-clause-stays g c =
     let now : State = c.args.self.now in
     let mid : State = c.move_on.new.state in
     let k = subst (λ (t : State). MovesOn t mid c.args.done (g.P.Port.sent c.args.port.now) (g.P.Port.sent c.move_on.new.port) (g.P.Port.got c.args.port.now) (g.P.Port.got c.move_on.new.port)
     (g.P.Port.noted c.args.port.now) (g.P.Port.noted c.move_on.new.port) (g.P.Port.idle c.move_on.new.port)) c.self.view_is c.move_on.ensures.moves_on in
     let open' : is_complete now.phase ≡ false = subst (λ (t : State). is_complete t.phase ≡ false) c.self.view_is (c.in_err-move_on.ensures.incomplete (search rules)) in
-    advance_is now mid mid c.args.done _ _ _ _ k.goes_on c.requires.done_stays (forgotten mid (c.in_err-move_on.ensures.forgotten (search rules)))
-    (λ not_done says. ap is_complete k.goes_on.phase ∙ open') (λ over. absurd (false≢true (sym open' ∙ over)))
-
-pub invariant_of-self-2 : goal.invariant_of-self-2
-invariant_of-self-2 g c =
-    let mid : State = c.move_on.new.state in
-    let e = c.settle.ensures.state in
-    let k = c.move_on.ensures.conveyor in
+    let at = c.move_on.ensures.ready in
     record {
-      home = ap (λ s. s.lent) e ∙ k.home;
-      hops_all = ap (λ s. length s.dims) e ∙ k.hops_all;
-      sent = λ p. ap (λ s. all_closed s.outs) e ∙ cleanup_sent mid (sym (ap (λ s. s.phase) e) ∙ p);
-      complete = λ p. sym (settled_phase mid c.settle.new.state e) ∙ p;
-      none_back = λ p. ap (λ s. s.pulled) e;
+      agrees = at.agrees;
+      dims = at.same_dims ∙ c.requires.at_port.same_dims;
+      rank = at.same_rank ∙ c.requires.at_port.same_rank;
+      steady = k.goes_on.steady;
+      epoch = k.goes_on.epoch;
+      done = k.goes_on.done;
+      begun = λ dormant. c.requires.begun (sym k.goes_on.phase ∙ dormant);
+      step = advance_is now mid mid c.args.done _ _ _ _ k.goes_on c.requires.done_stays (forgotten mid (c.in_err-move_on.ensures.forgotten (search rules)))
+          (λ not_done says. ap is_complete k.goes_on.phase ∙ open') (λ over. absurd (false≢true (sym open' ∙ over)));
+      same_port = c.move_on.ensures.same_port;
     }
 
-pub returns-clause-agrees : goal.returns-clause-agrees
-returns-clause-agrees g c =
-    let mid : State = c.move_on.new.state in
-    subst (λ s. Agrees (buffers_of s) (g.P.Port.sent c.move_on.new.port) (g.P.Port.got c.move_on.new.port)) (sym c.settle.ensures.state) (settled_agrees mid (phase_of mid) _ _ c.move_on.ensures.ready.agrees)
-
-pub returns-clause-settled : goal.returns-clause-settled
-returns-clause-settled g c = settled_phase c.move_on.new.state c.settle.new.state c.settle.ensures.state
-
-pub returns-clause-begun : goal.returns-clause-begun
-returns-clause-begun g c =
-    let new : State = c.settle.new.state in
-    λ dormant. begun new (sym (settled_phase c.move_on.new.state new c.settle.ensures.state) ∙ dormant)
-
-pub returns-clause-working : goal.returns-clause-working
-returns-clause-working g c =
-    let new : State = c.settle.new.state in
-    let e = c.settle.ensures.state in
-    λ ok not_done. settled_phase c.move_on.new.state new e ∙ working new (ap (λ s. s.done) e ∙ (c.move_on.ensures.moves_on.goes_on.done ∙ not_done))
-
-pub returns-clause-over : goal.returns-clause-over
-returns-clause-over g c =
-    let new : State = c.settle.new.state in
-    λ r. is_over new c.settle.ensures.standing
-    (sym (settled_phase c.move_on.new.state new c.settle.ensures.state) ∙ complete_answer new.phase (sym c.settle.ensures.value ∙ whole c.settle.result r))
-
-pub returns-clause-completes : goal.returns-clause-completes
-returns-clause-completes g c =
-    let new : State = c.settle.new.state in
-    λ ok over. ap Ok (c.settle.ensures.value ∙ ap progress_of (settled_phase c.move_on.new.state new c.settle.ensures.state ∙ over_complete new c.settle.ensures.standing over))
-
-pub returns-clause-served : goal.returns-clause-served
-returns-clause-served g c =
-    let mid : State = c.move_on.new.state in
-    let k = subst (λ (t : State). HasServed t mid (g.P.Port.sent c.args.port.now) (g.P.Port.sent c.move_on.new.port) (g.P.Port.looks_out c.args.port.now)
-    (g.P.Port.looks_out c.move_on.new.port) (g.P.Port.crowded c.move_on.new.port)) c.self.view_is c.in_ok-move_on.ensures.served in
-    λ l below from.
-    let w = k.served l below from in
-    subst (λ s. WasServed s l (g.P.Port.looks_out c.args.port.now l) (g.P.Port.looks_out c.move_on.new.port l) (g.P.Port.crowded c.move_on.new.port l)) (sym c.settle.ensures.state)
-    (record { looked = w.looked; crowded = w.crowded })
-
-pub returns-clause-stopped : goal.returns-clause-stopped
-returns-clause-stopped g c =
+pub returns-in_err-move_on-clause-grows : goal.returns-in_err-move_on-clause-grows
+returns-in_err-move_on-clause-grows g c =
     let now : State = c.args.self.now in
     let mid : State = c.move_on.new.state in
-    let sent = g.P.Port.sent c.args.port.now in
-    let sent' = g.P.Port.sent c.move_on.new.port in
-    let is_crowded = g.P.Port.crowded c.move_on.new.port in
-    let k = subst (λ (t : State). HasServed t mid sent sent' (g.P.Port.looks_out c.args.port.now) (g.P.Port.looks_out c.move_on.new.port) is_crowded) c.self.view_is c.in_ok-move_on.ensures.served in
-    let cap : now.cap ≡ g.row.CAP = subst (λ (t : State). t.cap ≡ g.row.CAP) c.self.view_is c.move_on.ensures.cap in
-    λ ok l x below to less.
-    subst (λ s. slice_get (in_of s l).parcel.untaken 0 ≡ Some x → NextIs now.dims now.rank l x.tag (HeldUp g.row.CAP s sent sent' is_crowded)) (sym c.settle.ensures.state)
-    (λ at. next_map now.dims now.rank l x.tag (HeldUp now.cap mid sent sent' is_crowded) (HeldUp g.row.CAP (record mid { phase = phase_of mid; pulled = None }) sent sent' is_crowded)
-    (λ m b from hop held. same_held now.cap g.row.CAP mid (phase_of mid) sent sent' is_crowded m cap held) (k.stopped l x below to less at))
+    let k = subst (λ (t : State). MovesOn t mid c.args.done (g.P.Port.sent c.args.port.now) (g.P.Port.sent c.move_on.new.port) (g.P.Port.got c.args.port.now) (g.P.Port.got c.move_on.new.port)
+    (g.P.Port.noted c.args.port.now) (g.P.Port.noted c.move_on.new.port) (g.P.Port.idle c.move_on.new.port)) c.self.view_is c.move_on.ensures.moves_on in
+    lists_grow g.P.Port now mid c.args.done c.args.port.now c.move_on.new.port k (subst (λ (t : State). t.cap ≡ g.row.CAP) c.self.view_is c.move_on.ensures.cap)
 
-pub returns-clause-closing : goal.returns-clause-closing
-returns-clause-closing g c =
+pub returns-in_err-move_on-clause-asked : goal.returns-in_err-move_on-clause-asked
+returns-in_err-move_on-clause-asked g c =
     let now : State = c.args.self.now in
     let mid : State = c.move_on.new.state in
-    let new : State = c.settle.new.state in
-    let e = c.settle.ensures.state in
-    let k = subst (λ (t : State). HasServed t mid (g.P.Port.sent c.args.port.now) (g.P.Port.sent c.move_on.new.port) (g.P.Port.looks_out c.args.port.now)
-    (g.P.Port.looks_out c.move_on.new.port) (g.P.Port.crowded c.move_on.new.port)) c.self.view_is c.in_ok-move_on.ensures.served in
-    let same : new.dims ≡ now.dims = ap (λ s. s.dims) e ∙ (c.move_on.ensures.ready.same_dims ∙ c.requires.same_dims) in
-    λ ok l below from done arrived open'.
-    let says : hop_at new.dims l ≡ 1 → new.done ≡ true = λ one. ap (λ s. s.done) e ∙ (c.move_on.ensures.moves_on.goes_on.done ∙ done (sym (ap (λ ds. hop_at ds l) same) ∙ one)) in
-    let ends = reaches_end new l c.settle.ensures.standing (subst (λ ds. l < links ds) (sym same) below) says arrived in
-    (k.served l below from).crowded (subst (λ s. IsDue s l) e (due_ending new l ends open'))
+    let k = subst (λ (t : State). MovesOn t mid c.args.done (g.P.Port.sent c.args.port.now) (g.P.Port.sent c.move_on.new.port) (g.P.Port.got c.args.port.now) (g.P.Port.got c.move_on.new.port)
+    (g.P.Port.noted c.args.port.now) (g.P.Port.noted c.move_on.new.port) (g.P.Port.idle c.move_on.new.port)) c.self.view_is c.move_on.ensures.moves_on in
+    were_asked g.P.Port now mid c.args.done c.args.port.now c.move_on.new.port k mid.phase mid.pulled
+    (subst (λ (t : State). (l : ℕ) → l < links t.dims → reader_at t.dims l ≡ t.rank → g.P.Port.collects c.move_on.new.port l ≡ once_more_if (is_wanted (in_of t l)) (g.P.Port.collects c.args.port.now l)) c.self.view_is c.move_on.ensures.collects)
 
-pub returns-clause-step : goal.returns-clause-step
-returns-clause-step g c =
+pub returns-clause-stays : goal.returns-clause-stays
+returns-clause-stays g c =
     let now : State = c.args.self.now in
     let mid : State = c.move_on.new.state in
     let new : State = c.settle.new.state in
@@ -138,7 +85,94 @@ returns-clause-step g c =
     let ends : phase_of now ≡ Complete = subst (λ (t : State). t.phase ≡ Complete → phase_of t ≡ Complete) c.self.view_is c.self.invariant.complete (complete_phase now.phase q) in
     let p : new.phase ≡ Complete = ap (λ s. s.phase) e ∙ (ap phase_of same ∙ ends) in
     (sym (ap (λ s. s.done) same) ∙ (sym (ap (λ s. s.done) e) ∙ (is_over new t (sym phase ∙ p)).done), ap is_complete p) in
-    advance_is now mid new c.args.done _ _ _ _ k.goes_on c.requires.done_stays form not_yet over
+    let at = c.move_on.ensures.ready in
+    record {
+      agrees = subst (λ s. Agrees (buffers_of s) (g.P.Port.sent c.move_on.new.port) (g.P.Port.got c.move_on.new.port)) (sym c.settle.ensures.state) (settled_agrees mid (phase_of mid) _ _ c.move_on.ensures.ready.agrees);
+      dims = ap (λ s. s.dims) e ∙ (at.same_dims ∙ c.requires.at_port.same_dims);
+      rank = ap (λ s. s.rank) e ∙ (at.same_rank ∙ c.requires.at_port.same_rank);
+      steady = ap (λ s. s.steady) e ∙ k.goes_on.steady;
+      epoch = ap (λ s. s.epoch) e ∙ k.goes_on.epoch;
+      done = ap (λ s. s.done) e ∙ k.goes_on.done;
+      begun = λ dormant. begun new (sym phase ∙ dormant);
+      step = advance_is now mid new c.args.done _ _ _ _ k.goes_on c.requires.done_stays form not_yet over;
+      same_port = c.move_on.ensures.same_port;
+    }
+
+pub returns-clause-settled : goal.returns-clause-settled
+returns-clause-settled g c =
+    let new : State = c.settle.new.state in
+    let e = c.settle.ensures.state in
+    let phase : new.phase ≡ phase_of new = settled_phase c.move_on.new.state new e in
+    record {
+      is = c.settle.ensures.value;
+      phase = phase;
+      working = λ not_done. phase ∙ working new (ap (λ s. s.done) e ∙ (c.move_on.ensures.moves_on.goes_on.done ∙ not_done));
+      over = λ r. is_over new c.settle.ensures.standing (sym phase ∙ complete_answer new.phase (sym c.settle.ensures.value ∙ r));
+      completes = λ over. c.settle.ensures.value ∙ ap progress_of (phase ∙ over_complete new c.settle.ensures.standing over);
+    }
+
+pub returns-clause-grows : goal.returns-clause-grows
+returns-clause-grows g c =
+    let now : State = c.args.self.now in
+    let mid : State = c.move_on.new.state in
+    let k = subst (λ (t : State). MovesOn t mid c.args.done (g.P.Port.sent c.args.port.now) (g.P.Port.sent c.move_on.new.port) (g.P.Port.got c.args.port.now) (g.P.Port.got c.move_on.new.port)
+    (g.P.Port.noted c.args.port.now) (g.P.Port.noted c.move_on.new.port) (g.P.Port.idle c.move_on.new.port)) c.self.view_is c.move_on.ensures.moves_on in
+    lists_grow g.P.Port now mid c.args.done c.args.port.now c.move_on.new.port k (subst (λ (t : State). t.cap ≡ g.row.CAP) c.self.view_is c.move_on.ensures.cap)
+
+pub returns-clause-asked : goal.returns-clause-asked
+returns-clause-asked g c =
+    let now : State = c.args.self.now in
+    let mid : State = c.move_on.new.state in
+    let k = subst (λ (t : State). MovesOn t mid c.args.done (g.P.Port.sent c.args.port.now) (g.P.Port.sent c.move_on.new.port) (g.P.Port.got c.args.port.now) (g.P.Port.got c.move_on.new.port)
+    (g.P.Port.noted c.args.port.now) (g.P.Port.noted c.move_on.new.port) (g.P.Port.idle c.move_on.new.port)) c.self.view_is c.move_on.ensures.moves_on in
+    subst (λ s. WereAsked g.P.Port now s c.args.port.now c.move_on.new.port) (sym c.settle.ensures.state)
+    (were_asked g.P.Port now mid c.args.done c.args.port.now c.move_on.new.port k (phase_of mid) None
+    (subst (λ (t : State). (l : ℕ) → l < links t.dims → reader_at t.dims l ≡ t.rank → g.P.Port.collects c.move_on.new.port l ≡ once_more_if (is_wanted (in_of t l)) (g.P.Port.collects c.args.port.now l)) c.self.view_is c.move_on.ensures.collects))
+
+pub returns-clause-served : goal.returns-clause-served
+returns-clause-served g c =
+    let now : State = c.args.self.now in
+    let mid : State = c.move_on.new.state in
+    let new : State = c.settle.new.state in
+    let e = c.settle.ensures.state in
+    let p = c.args.port.now in
+    let q = c.move_on.new.port in
+    let sent = g.P.Port.sent p in
+    let sent' = g.P.Port.sent q in
+    let is_crowded = g.P.Port.crowded q in
+    let k = subst (λ (t : State). HasServed t mid sent sent' (g.P.Port.looks_out p) (g.P.Port.looks_out q) is_crowded) c.self.view_is c.in_ok-move_on.ensures.served in
+    let calls = subst (λ (t : State). (l : ℕ) → l < links t.dims → sender_at t.dims l ≡ t.rank → g.P.Port.posts q l ≡ once_more_if (was_served mid l (sent l) (sent' l)) (g.P.Port.posts p l)) c.self.view_is c.in_ok-move_on.ensures.posts in
+    let cap : now.cap ≡ g.row.CAP = subst (λ (t : State). t.cap ≡ g.row.CAP) c.self.view_is c.move_on.ensures.cap in
+    let same : new.dims ≡ now.dims = ap (λ s. s.dims) e ∙ (c.move_on.ensures.ready.same_dims ∙ c.requires.at_port.same_dims) in
+    let ending : (l : ℕ) → l < links now.dims → sender_at now.dims l ≡ now.rank → at_end new.dims new.ins new.done (hop_at new.dims l) ≡ true → (out_of new l).closed ≡ false → is_crowded l ≡ true = λ l below from ends open'.
+    (k.served l below from).crowded (subst (λ s. IsDue s l) e (due_ending new l ends open')) in
+    record {
+      each = λ l below from.
+          let w = k.served l below from in
+          subst (λ s. WasServed s l (g.P.Port.looks_out p l) (g.P.Port.looks_out q l) (is_crowded l)) (sym e) (record { looked = w.looked; crowded = w.crowded });
+      posts = λ l below from. subst (λ s. g.P.Port.posts q l ≡ once_more_if (was_served s l (sent l) (sent' l)) (g.P.Port.posts p l)) (sym e) (calls l below from);
+      full = λ l below from stays full. k.full l below from stays (full ∙ sym cap);
+      ending = ending;
+      closing = λ l below from says arrived open'.
+          ending l below from (reaches_end new l c.settle.ensures.standing (subst (λ ds. l < links ds) (sym same) below) (λ one. says (sym (ap (λ ds. hop_at ds l) same) ∙ one)) arrived) open';
+      stopped = λ l x below to less.
+          subst (λ s. slice_get (in_of s l).parcel.untaken 0 ≡ Some x → NextIs now.dims now.rank l x.tag (HeldUp g.row.CAP s sent sent' is_crowded)) (sym e)
+          (λ at. next_map now.dims now.rank l x.tag (HeldUp now.cap mid sent sent' is_crowded) (HeldUp g.row.CAP (record mid { phase = phase_of mid; pulled = None }) sent sent' is_crowded)
+          (λ m b from hop held. same_held now.cap g.row.CAP mid (phase_of mid) sent sent' is_crowded m cap held) (k.stopped l x below to less at));
+    }
+
+pub invariant_of-self-2 : goal.invariant_of-self-2
+invariant_of-self-2 g c =
+    let mid : State = c.move_on.new.state in
+    let e = c.settle.ensures.state in
+    let k = c.move_on.ensures.conveyor in
+    record {
+      home = ap (λ s. s.lent) e ∙ k.home;
+      hops_all = ap (λ s. length s.dims) e ∙ k.hops_all;
+      sent = λ p. ap (λ s. all_closed s.outs) e ∙ cleanup_sent mid (sym (ap (λ s. s.phase) e) ∙ p);
+      complete = λ p. sym (settled_phase mid c.settle.new.state e) ∙ p;
+      none_back = λ p. ap (λ s. s.pulled) e;
+    }
 
 pub returns-in_err-move_on-clause-fits : goal.returns-in_err-move_on-clause-fits
 returns-in_err-move_on-clause-fits g c =

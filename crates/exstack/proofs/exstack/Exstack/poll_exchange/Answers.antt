@@ -38,7 +38,7 @@ go_round-requires g c =
             sym (and_false b.done),
             (
               k.forgotten,
-              (c.requires.same_dims ∙ ap (λ m. m ∷ []) (sym k.ranks), (c.requires.same_rank ∙ sym k.rank, record { cycle = c.requires.agrees.cycle; agrees = agrees c.requires.agrees.cycle c.requires.agrees.agrees })),
+              record { same_dims = c.requires.at_port.same_dims ∙ ap (λ m. m ∷ []) (sym k.ranks); same_rank = c.requires.at_port.same_rank ∙ sym k.rank; agrees = record { cycle = c.requires.at_port.agrees.cycle; agrees = agrees c.requires.at_port.agrees.cycle c.requires.at_port.agrees.agrees } },
             ),
           ),
         ),
@@ -56,7 +56,7 @@ returns-in_err-missing-clause-agrees g c =
     let s : IsStack g.row.CAP now = subst (IsStack g.row.CAP) view c.begin_exchange.ensures.standing in
     let k : Begun b Exchanging now.done now = subst (λ (t : State). Begun t Exchanging now.done now) (sym is) (exchange_begun now) in
     let agrees : (n : ℕ) → AgreesIn n now sent got → AgreesIn n b sent got = λ n a. subst (λ (t : State). AgreesIn n t sent got) (sym is) (exchange_agrees g.row.CAP n now sent got s c.requires.may a) in
-    record { cycle = c.requires.agrees.cycle; agrees = c.go_round.ensures.cycle c.requires.agrees.cycle (agrees c.requires.agrees.cycle c.requires.agrees.agrees) }
+    record { cycle = c.requires.at_port.agrees.cycle; agrees = c.go_round.ensures.cycle c.requires.at_port.agrees.cycle (agrees c.requires.at_port.agrees.cycle c.requires.at_port.agrees.agrees) }
 
 pub returns-in_err-missing-clause-cycle : goal.returns-in_err-missing-clause-cycle
 returns-in_err-missing-clause-cycle g c =
@@ -90,7 +90,7 @@ returns-clause-agrees g c =
     let over : (n : ℕ) → AgreesIn n now sent got → AgreesIn n c.settle_exchange.new.self sent' got' = λ n a.
     subst (λ (t : State). AgreesIn n t sent' got') (sym c.settle_exchange.ensures.state)
     (agrees_staged n h (stage_of_exchange r) sent' got' (ap (rounds_in n) stage ∙ exchange_rounds n r) (c.go_round.ensures.cycle n (agrees n a))) in
-    record { cycle = c.requires.agrees.cycle; agrees = over c.requires.agrees.cycle c.requires.agrees.agrees }
+    record { cycle = c.requires.at_port.agrees.cycle; agrees = over c.requires.at_port.agrees.cycle c.requires.at_port.agrees.agrees }
 
 pub returns-clause-cycle : goal.returns-clause-cycle
 returns-clause-cycle g c =
@@ -139,8 +139,8 @@ returns-in_err-missing-clause-step g c =
     let is : b ≡ in_exchange now = c.begin_exchange.ensures.state ∙ ap (in_exchange) view in
     let s : IsStack g.row.CAP now = subst (IsStack g.row.CAP) view c.begin_exchange.ensures.standing in
     let k : Begun b Exchanging now.done now = subst (λ (t : State). Begun t Exchanging now.done now) (sym is) (exchange_begun now) in
-    let n : ℕ = c.requires.agrees.cycle in
-    let a : AgreesIn n now sent got = c.requires.agrees.agrees in
+    let n : ℕ = c.requires.at_port.agrees.cycle in
+    let a : AgreesIn n now sent got = c.requires.at_port.agrees.agrees in
     let m : ℕ = n in
     let agrees : AgreesIn m b sent got = subst (λ (t : State). AgreesIn m t sent got) (sym is) (exchange_agrees g.row.CAP n now sent got s c.requires.may a) in
     let first : SameLists now b sent sent got got = subst (λ (t : State). SameLists now t sent sent got got) (sym is) (exchange_lists g.row.CAP now sent got s c.requires.may) in
@@ -171,8 +171,8 @@ returns-clause-step g c =
     let is : b ≡ in_exchange now = c.begin_exchange.ensures.state ∙ ap (in_exchange) view in
     let s : IsStack g.row.CAP now = subst (IsStack g.row.CAP) view c.begin_exchange.ensures.standing in
     let k : Begun b Exchanging now.done now = subst (λ (t : State). Begun t Exchanging now.done now) (sym is) (exchange_begun now) in
-    let n : ℕ = c.requires.agrees.cycle in
-    let a : AgreesIn n now sent got = c.requires.agrees.agrees in
+    let n : ℕ = c.requires.at_port.agrees.cycle in
+    let a : AgreesIn n now sent got = c.requires.at_port.agrees.agrees in
     let m : ℕ = n in
     let agrees : AgreesIn m b sent got = subst (λ (t : State). AgreesIn m t sent got) (sym is) (exchange_agrees g.row.CAP n now sent got s c.requires.may a) in
     let first : SameLists now b sent sent got got = subst (λ (t : State). SameLists now t sent sent got got) (sym is) (exchange_lists g.row.CAP now sent got s c.requires.may) in

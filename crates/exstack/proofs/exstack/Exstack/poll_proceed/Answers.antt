@@ -32,7 +32,7 @@ go_round-requires g c =
             sym (and_true b.done ∙ k.done_is),
             (
               k.forgotten,
-              (c.requires.same_dims ∙ ap (λ m. m ∷ []) (sym k.ranks), (c.requires.same_rank ∙ sym k.rank, record { cycle = (cycle_after c.requires.agrees.cycle now.stage); agrees = agrees c.requires.agrees.cycle c.requires.agrees.agrees })),
+              record { same_dims = c.requires.at_port.same_dims ∙ ap (λ m. m ∷ []) (sym k.ranks); same_rank = c.requires.at_port.same_rank ∙ sym k.rank; agrees = record { cycle = (cycle_after c.requires.at_port.agrees.cycle now.stage); agrees = agrees c.requires.at_port.agrees.cycle c.requires.at_port.agrees.agrees } },
             ),
           ),
         ),
@@ -50,7 +50,7 @@ returns-in_err-missing-clause-agrees g c =
     let s : IsStack g.row.CAP now = subst (IsStack g.row.CAP) view c.begin_proceed.ensures.standing in
     let k : Begun b Proceeding c.args.done now = subst (λ (t : State). Begun t Proceeding c.args.done now) (sym is) (proceed_begun c.args.done now c.requires.same_done) in
     let agrees : (n : ℕ) → AgreesIn n now sent got → AgreesIn (cycle_after n now.stage) b sent got = λ n a. subst (λ (t : State). AgreesIn (cycle_after n now.stage) t sent got) (sym is) (proceed_agrees g.row.CAP n now c.args.done sent got s c.requires.may a) in
-    record { cycle = (cycle_after c.requires.agrees.cycle now.stage); agrees = c.go_round.ensures.cycle (cycle_after c.requires.agrees.cycle now.stage) (agrees c.requires.agrees.cycle c.requires.agrees.agrees) }
+    record { cycle = (cycle_after c.requires.at_port.agrees.cycle now.stage); agrees = c.go_round.ensures.cycle (cycle_after c.requires.at_port.agrees.cycle now.stage) (agrees c.requires.at_port.agrees.cycle c.requires.at_port.agrees.agrees) }
 
 pub returns-in_err-missing-clause-cycle : goal.returns-in_err-missing-clause-cycle
 returns-in_err-missing-clause-cycle g c =
@@ -84,7 +84,7 @@ returns-clause-agrees g c =
     let over : (n : ℕ) → AgreesIn n now sent got → AgreesIn (cycle_after n now.stage) c.settle_proceed.new.self sent' got' = λ n a.
     subst (λ (t : State). AgreesIn (cycle_after n now.stage) t sent' got') (sym c.settle_proceed.ensures.state)
     (agrees_staged (cycle_after n now.stage) h (stage_of_proceed r) sent' got' (ap (rounds_in (cycle_after n now.stage)) stage ∙ proceed_rounds (cycle_after n now.stage) r) (c.go_round.ensures.cycle (cycle_after n now.stage) (agrees n a))) in
-    record { cycle = (cycle_after c.requires.agrees.cycle now.stage); agrees = over c.requires.agrees.cycle c.requires.agrees.agrees }
+    record { cycle = (cycle_after c.requires.at_port.agrees.cycle now.stage); agrees = over c.requires.at_port.agrees.cycle c.requires.at_port.agrees.agrees }
 
 pub returns-clause-cycle : goal.returns-clause-cycle
 returns-clause-cycle g c =
@@ -120,8 +120,8 @@ returns-in_err-missing-clause-steps g c =
     let is : b ≡ in_proceed c.args.done now = c.begin_proceed.ensures.state ∙ ap (in_proceed c.args.done) view in
     let s : IsStack g.row.CAP now = subst (IsStack g.row.CAP) view c.begin_proceed.ensures.standing in
     let k : Begun b Proceeding c.args.done now = subst (λ (t : State). Begun t Proceeding c.args.done now) (sym is) (proceed_begun c.args.done now c.requires.same_done) in
-    let n : ℕ = c.requires.agrees.cycle in
-    let a : AgreesIn n now sent got = c.requires.agrees.agrees in
+    let n : ℕ = c.requires.at_port.agrees.cycle in
+    let a : AgreesIn n now sent got = c.requires.at_port.agrees.agrees in
     let m : ℕ = cycle_after n now.stage in
     let agrees : AgreesIn m b sent got = subst (λ (t : State). AgreesIn m t sent got) (sym is) (proceed_agrees g.row.CAP n now c.args.done sent got s c.requires.may a) in
     let first : SameLists now b sent sent got got = subst (λ (t : State). SameLists now t sent sent got got) (sym is) (proceed_lists g.row.CAP now c.args.done sent got s c.requires.read) in
@@ -152,8 +152,8 @@ returns-clause-steps g c =
     let is : b ≡ in_proceed c.args.done now = c.begin_proceed.ensures.state ∙ ap (in_proceed c.args.done) view in
     let s : IsStack g.row.CAP now = subst (IsStack g.row.CAP) view c.begin_proceed.ensures.standing in
     let k : Begun b Proceeding c.args.done now = subst (λ (t : State). Begun t Proceeding c.args.done now) (sym is) (proceed_begun c.args.done now c.requires.same_done) in
-    let n : ℕ = c.requires.agrees.cycle in
-    let a : AgreesIn n now sent got = c.requires.agrees.agrees in
+    let n : ℕ = c.requires.at_port.agrees.cycle in
+    let a : AgreesIn n now sent got = c.requires.at_port.agrees.agrees in
     let m : ℕ = cycle_after n now.stage in
     let agrees : AgreesIn m b sent got = subst (λ (t : State). AgreesIn m t sent got) (sym is) (proceed_agrees g.row.CAP n now c.args.done sent got s c.requires.may a) in
     let first : SameLists now b sent sent got got = subst (λ (t : State). SameLists now t sent sent got got) (sym is) (proceed_lists g.row.CAP now c.args.done sent got s c.requires.read) in

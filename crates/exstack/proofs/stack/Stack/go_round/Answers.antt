@@ -33,7 +33,7 @@ invariant_of-self g c =
     let p : PostsDone st c.post_all.new.outs.items c.args.last sent sent' got = record {
       count = e.count;
       moved = e.moved;
-      law = law_same _ _ _ _ _ _ _ _ (ap dims_of view ∙ sym c.requires.dims) (ap (λ (t : State). t.rank) view ∙ sym c.requires.rank) refl refl e.law;
+      law = law_same _ _ _ _ _ _ _ _ (ap dims_of view ∙ sym c.requires.at_port.same_dims) (ap (λ (t : State). t.rank) view ∙ sym c.requires.at_port.same_rank) refl refl e.law;
       grows = e.grows;
     } in
     let q : CollectsDone st st.ins c.args.exchange sent' got got = none_done st c.args.exchange sent' got in
@@ -66,11 +66,11 @@ returns-in_err-post_all-clause-cycle g c =
     let p : PostsDone st c.post_all.new.outs.items c.args.last sent sent' got = record {
       count = e.count;
       moved = e.moved;
-      law = law_same _ _ _ _ _ _ _ _ (ap dims_of view ∙ sym c.requires.dims) (ap (λ (t : State). t.rank) view ∙ sym c.requires.rank) refl refl e.law;
+      law = law_same _ _ _ _ _ _ _ _ (ap dims_of view ∙ sym c.requires.at_port.same_dims) (ap (λ (t : State). t.rank) view ∙ sym c.requires.at_port.same_rank) refl refl e.law;
       grows = e.grows;
     } in
     let q : CollectsDone st st.ins c.args.exchange sent' got got = none_done st c.args.exchange sent' got in
-    λ n a. subst (λ (logs : Logs). AgreesIn n (after_round st c.post_all.new.outs.items st.ins) sent' logs) (sym e.got)
+    λ n a. subst (λ (logs : Logs). AgreesIn n (after_round st c.post_all.new.outs.items st.ins) sent' logs) (sym e.same_ins.got)
     (agrees_done g.row.CAP st c.post_all.new.outs.items st.ins c.args.last c.args.exchange sent sent' got got s b p q n (subst (λ t. AgreesIn n t sent got) (sym view) a))
 
 pub invariant_of-self-2 : goal.invariant_of-self-2
@@ -96,17 +96,17 @@ invariant_of-self-2 g c =
     let p : PostsDone st c.post_all.new.outs.items c.args.last sent sent' got = record {
       count = e.count;
       moved = e.moved;
-      law = law_same _ _ _ _ _ _ _ _ (ap dims_of view ∙ sym c.requires.dims) (ap (λ (t : State). t.rank) view ∙ sym c.requires.rank) refl refl e.law;
+      law = law_same _ _ _ _ _ _ _ _ (ap dims_of view ∙ sym c.requires.at_port.same_dims) (ap (λ (t : State). t.rank) view ∙ sym c.requires.at_port.same_rank) refl refl e.law;
       grows = e.grows;
     } in
     let got' : Logs = g.P.Port.got c.collect_all.new.port in
     let f = c.collect_all.ensures in
     let q : CollectsDone st c.collect_all.new.ins.items c.args.exchange sent' got got' = record {
       count = f.count;
-      moved = subst (λ (logs : Logs). (a : ℕ) → a < length st.ins → WasCollected c.args.exchange (get_or st.ins a no_in) (get_or c.collect_all.new.ins.items a no_in) (logs (number (length st.ins) a st.rank)) (got' (number (length st.ins) a st.rank))) e.got f.moved;
-      own = subst (λ (logs : Logs). Begins (logs (number (length st.ins) st.rank st.rank)) (sent' (number (length st.ins) st.rank st.rank)) → Begins (got' (number (length st.ins) st.rank st.rank)) (sent' (number (length st.ins) st.rank st.rank))) e.got
-          (subst (λ (logs : Logs). Begins (g.P.Port.got c.post_all.new.port (number (length st.ins) st.rank st.rank)) (sent' (number (length st.ins) st.rank st.rank)) → Begins (got' (number (length st.ins) st.rank st.rank)) (logs (number (length st.ins) st.rank st.rank))) f.sent f.own);
-      grows = subst (λ (logs : Logs). (m : ℕ) → Begins (logs m) (got' m)) e.got f.grows;
+      moved = subst (λ (logs : Logs). (a : ℕ) → a < length st.ins → WasCollected c.args.exchange (get_or st.ins a no_in) (get_or c.collect_all.new.ins.items a no_in) (logs (number (length st.ins) a st.rank)) (got' (number (length st.ins) a st.rank))) e.same_ins.got f.moved;
+      own = subst (λ (logs : Logs). Begins (logs (number (length st.ins) st.rank st.rank)) (sent' (number (length st.ins) st.rank st.rank)) → Begins (got' (number (length st.ins) st.rank st.rank)) (sent' (number (length st.ins) st.rank st.rank))) e.same_ins.got
+          (subst (λ (logs : Logs). Begins (g.P.Port.got c.post_all.new.port (number (length st.ins) st.rank st.rank)) (sent' (number (length st.ins) st.rank st.rank)) → Begins (got' (number (length st.ins) st.rank st.rank)) (logs (number (length st.ins) st.rank st.rank))) f.same_outs.sent f.own);
+      grows = subst (λ (logs : Logs). (m : ℕ) → Begins (logs m) (got' m)) e.same_ins.got f.grows;
     } in
     record {
       standing = stack_done g.row.CAP st c.post_all.new.outs.items c.collect_all.new.ins.items c.args.last c.args.exchange sent sent' got got' s b p q;
@@ -137,19 +137,19 @@ returns-clause-cycle g c =
     let p : PostsDone st c.post_all.new.outs.items c.args.last sent sent' got = record {
       count = e.count;
       moved = e.moved;
-      law = law_same _ _ _ _ _ _ _ _ (ap dims_of view ∙ sym c.requires.dims) (ap (λ (t : State). t.rank) view ∙ sym c.requires.rank) refl refl e.law;
+      law = law_same _ _ _ _ _ _ _ _ (ap dims_of view ∙ sym c.requires.at_port.same_dims) (ap (λ (t : State). t.rank) view ∙ sym c.requires.at_port.same_rank) refl refl e.law;
       grows = e.grows;
     } in
     let got' : Logs = g.P.Port.got c.collect_all.new.port in
     let f = c.collect_all.ensures in
     let q : CollectsDone st c.collect_all.new.ins.items c.args.exchange sent' got got' = record {
       count = f.count;
-      moved = subst (λ (logs : Logs). (a : ℕ) → a < length st.ins → WasCollected c.args.exchange (get_or st.ins a no_in) (get_or c.collect_all.new.ins.items a no_in) (logs (number (length st.ins) a st.rank)) (got' (number (length st.ins) a st.rank))) e.got f.moved;
-      own = subst (λ (logs : Logs). Begins (logs (number (length st.ins) st.rank st.rank)) (sent' (number (length st.ins) st.rank st.rank)) → Begins (got' (number (length st.ins) st.rank st.rank)) (sent' (number (length st.ins) st.rank st.rank))) e.got
-          (subst (λ (logs : Logs). Begins (g.P.Port.got c.post_all.new.port (number (length st.ins) st.rank st.rank)) (sent' (number (length st.ins) st.rank st.rank)) → Begins (got' (number (length st.ins) st.rank st.rank)) (logs (number (length st.ins) st.rank st.rank))) f.sent f.own);
-      grows = subst (λ (logs : Logs). (m : ℕ) → Begins (logs m) (got' m)) e.got f.grows;
+      moved = subst (λ (logs : Logs). (a : ℕ) → a < length st.ins → WasCollected c.args.exchange (get_or st.ins a no_in) (get_or c.collect_all.new.ins.items a no_in) (logs (number (length st.ins) a st.rank)) (got' (number (length st.ins) a st.rank))) e.same_ins.got f.moved;
+      own = subst (λ (logs : Logs). Begins (logs (number (length st.ins) st.rank st.rank)) (sent' (number (length st.ins) st.rank st.rank)) → Begins (got' (number (length st.ins) st.rank st.rank)) (sent' (number (length st.ins) st.rank st.rank))) e.same_ins.got
+          (subst (λ (logs : Logs). Begins (g.P.Port.got c.post_all.new.port (number (length st.ins) st.rank st.rank)) (sent' (number (length st.ins) st.rank st.rank)) → Begins (got' (number (length st.ins) st.rank st.rank)) (logs (number (length st.ins) st.rank st.rank))) f.same_outs.sent f.own);
+      grows = subst (λ (logs : Logs). (m : ℕ) → Begins (logs m) (got' m)) e.same_ins.got f.grows;
     } in
-    λ n a. subst (λ (logs : Logs). AgreesIn n (after_round st c.post_all.new.outs.items c.collect_all.new.ins.items) logs got') (sym f.sent)
+    λ n a. subst (λ (logs : Logs). AgreesIn n (after_round st c.post_all.new.outs.items c.collect_all.new.ins.items) logs got') (sym f.same_outs.sent)
     (agrees_done g.row.CAP st c.post_all.new.outs.items c.collect_all.new.ins.items c.args.last c.args.exchange sent sent' got got' s b p q n (subst (λ t. AgreesIn n t sent got) (sym view) a))
 
 pub returns-clause-round : goal.returns-clause-round
@@ -175,19 +175,19 @@ returns-clause-round g c =
     let p : PostsDone st c.post_all.new.outs.items c.args.last sent sent' got = record {
       count = e.count;
       moved = e.moved;
-      law = law_same _ _ _ _ _ _ _ _ (ap dims_of view ∙ sym c.requires.dims) (ap (λ (t : State). t.rank) view ∙ sym c.requires.rank) refl refl e.law;
+      law = law_same _ _ _ _ _ _ _ _ (ap dims_of view ∙ sym c.requires.at_port.same_dims) (ap (λ (t : State). t.rank) view ∙ sym c.requires.at_port.same_rank) refl refl e.law;
       grows = e.grows;
     } in
     let got' : Logs = g.P.Port.got c.collect_all.new.port in
     let f = c.collect_all.ensures in
     let q : CollectsDone st c.collect_all.new.ins.items c.args.exchange sent' got got' = record {
       count = f.count;
-      moved = subst (λ (logs : Logs). (a : ℕ) → a < length st.ins → WasCollected c.args.exchange (get_or st.ins a no_in) (get_or c.collect_all.new.ins.items a no_in) (logs (number (length st.ins) a st.rank)) (got' (number (length st.ins) a st.rank))) e.got f.moved;
-      own = subst (λ (logs : Logs). Begins (logs (number (length st.ins) st.rank st.rank)) (sent' (number (length st.ins) st.rank st.rank)) → Begins (got' (number (length st.ins) st.rank st.rank)) (sent' (number (length st.ins) st.rank st.rank))) e.got
-          (subst (λ (logs : Logs). Begins (g.P.Port.got c.post_all.new.port (number (length st.ins) st.rank st.rank)) (sent' (number (length st.ins) st.rank st.rank)) → Begins (got' (number (length st.ins) st.rank st.rank)) (logs (number (length st.ins) st.rank st.rank))) f.sent f.own);
-      grows = subst (λ (logs : Logs). (m : ℕ) → Begins (logs m) (got' m)) e.got f.grows;
+      moved = subst (λ (logs : Logs). (a : ℕ) → a < length st.ins → WasCollected c.args.exchange (get_or st.ins a no_in) (get_or c.collect_all.new.ins.items a no_in) (logs (number (length st.ins) a st.rank)) (got' (number (length st.ins) a st.rank))) e.same_ins.got f.moved;
+      own = subst (λ (logs : Logs). Begins (logs (number (length st.ins) st.rank st.rank)) (sent' (number (length st.ins) st.rank st.rank)) → Begins (got' (number (length st.ins) st.rank st.rank)) (sent' (number (length st.ins) st.rank st.rank))) e.same_ins.got
+          (subst (λ (logs : Logs). Begins (g.P.Port.got c.post_all.new.port (number (length st.ins) st.rank st.rank)) (sent' (number (length st.ins) st.rank st.rank)) → Begins (got' (number (length st.ins) st.rank st.rank)) (logs (number (length st.ins) st.rank st.rank))) f.same_outs.sent f.own);
+      grows = subst (λ (logs : Logs). (m : ℕ) → Begins (logs m) (got' m)) e.same_ins.got f.grows;
     } in
-    subst (λ (logs : Logs). MadeRound c.args.last c.args.exchange now (after_round st c.post_all.new.outs.items c.collect_all.new.ins.items) sent logs got got') (sym f.sent)
+    subst (λ (logs : Logs). MadeRound c.args.last c.args.exchange now (after_round st c.post_all.new.outs.items c.collect_all.new.ins.items) sent logs got got') (sym f.same_outs.sent)
     (subst (λ (t : State). MadeRound c.args.last c.args.exchange t (after_round st c.post_all.new.outs.items c.collect_all.new.ins.items) sent sent' got got') view
     (round_done g.row.CAP st c.post_all.new.outs.items c.collect_all.new.ins.items c.args.last c.args.exchange sent sent' got got' s b p q))
 
@@ -212,7 +212,7 @@ returns-clause-asked g c = λ ok a w due.
     let noted' : ℕ → ℕ = g.P.Port.noted c.collect_all.new.port in
     let idle' : ℕ → Bool = g.P.Port.idle c.collect_all.new.port in
     subst (λ l. InVain (g.P.Port.noted c.args.port.now l) (noted' l) (idle' l)) number_is
-    (subst (λ (counts : ℕ → ℕ). InVain (counts (number n a st.rank)) (noted' (number n a st.rank)) (idle' (number n a st.rank))) c.post_all.ensures.noted (c.collect_all.ensures.in_vain a u due))
+    (subst (λ (counts : ℕ → ℕ). InVain (counts (number n a st.rank)) (noted' (number n a st.rank)) (idle' (number n a st.rank))) c.post_all.ensures.same_ins.noted (c.collect_all.ensures.in_vain a u due))
 
 pub returns-in_err-post_all-clause-round : goal.returns-in_err-post_all-clause-round
 returns-in_err-post_all-clause-round g c =
@@ -237,10 +237,10 @@ returns-in_err-post_all-clause-round g c =
     let p : PostsDone st c.post_all.new.outs.items c.args.last sent sent' got = record {
       count = e.count;
       moved = e.moved;
-      law = law_same _ _ _ _ _ _ _ _ (ap dims_of view ∙ sym c.requires.dims) (ap (λ (t : State). t.rank) view ∙ sym c.requires.rank) refl refl e.law;
+      law = law_same _ _ _ _ _ _ _ _ (ap dims_of view ∙ sym c.requires.at_port.same_dims) (ap (λ (t : State). t.rank) view ∙ sym c.requires.at_port.same_rank) refl refl e.law;
       grows = e.grows;
     } in
     let q : CollectsDone st st.ins c.args.exchange sent' got got = none_done st c.args.exchange sent' got in
-    subst (λ (logs : Logs). MadeRound c.args.last c.args.exchange now (after_round st c.post_all.new.outs.items st.ins) sent sent' got logs) (sym e.got)
+    subst (λ (logs : Logs). MadeRound c.args.last c.args.exchange now (after_round st c.post_all.new.outs.items st.ins) sent sent' got logs) (sym e.same_ins.got)
     (subst (λ (t : State). MadeRound c.args.last c.args.exchange t (after_round st c.post_all.new.outs.items st.ins) sent sent' got got) view
     (round_done g.row.CAP st c.post_all.new.outs.items st.ins c.args.last c.args.exchange sent sent' got got s b p q))

@@ -10,7 +10,7 @@ pub relay_hop-count-requires : goal.relay_hop-count-requires
 relay_hop-count-requires g c =
     let s = c.self.invariant.1.standing in
     let last : c.args.h < length c.self.inside.routes.dims = subst (λ (v : State). c.args.h < length v.dims) (sym c.self.view_is) c.requires.last in
-    (omega arith, (omega arith, (c.requires.first, (last, (s.cap_small, (s.all_outs, (s.all_ins, (s.each_out, (s.each_in, relay_open _ _ s c.requires.first)))))))))
+    (omega arith, (omega arith, (c.requires.first, (last, (s.cap.small, (s.all_outs, (s.all_ins, (s.each_out, (s.each_in, relay_open _ _ s c.requires.first)))))))))
 
 pub invariant_of-self : goal.invariant_of-self
 invariant_of-self g c =

@@ -44,26 +44,26 @@ collect_on-answer-requires g c =
         (
           omega arith,
           (
-            (ap (λ (z : Manning). z.id) c.self.view_is ∙ (c.requires.bank.0 ∙ sym (ap (λ (z : Bank). z.id) c.bank.view_is)), c.bank.invariant.board),
+            record {
+              here = ap (λ (z : Manning). z.id) c.self.view_is ∙ (c.requires.bank.0 ∙ sym (ap (λ (z : Bank). z.id) c.bank.view_is));
+              board = c.bank.invariant.board;
+              manned = subst (λ (z : Shape). IsManned z c.self.inside.place.me) e s.manned;
+              below = subst (λ (z : Shape). l < links z.dims) e inside;
+              own = subst (λ (z : Shape). reader_at z.dims l ≡ v.pick) e (mine ∙ sym s.rank_is);
+            },
             (
-              subst (λ (z : Shape). IsManned z c.self.inside.place.me) e s.manned,
+              c.bank.invariant.slots_is,
               (
-                subst (λ (z : Shape). (l < links z.dims) × (reader_at z.dims l ≡ v.pick)) e (inside, mine ∙ sym s.rank_is),
+                subst (λ (z : Shape). length (own_logs v).ins ≡ links z.dims) e s.lists_in,
                 (
-                  c.bank.invariant.slots_is,
+                  subst (λ (z : Shape). IsInEnd z.slots (in_of (own_logs v) l) end.taken end.waiting end.look_ins end.noted) e counts,
                   (
-                    subst (λ (z : Shape). length (own_logs v).ins ≡ links z.dims) e s.lists_in,
+                    way,
                     (
-                      subst (λ (z : Shape). IsInEnd z.slots (in_of (own_logs v) l) end.taken end.waiting end.look_ins end.noted) e counts,
+                      subst (λ (z : Shape × ℕ × ℕ). IsHeard z.0 z.1 z.2 (own_logs v) ear.marks ear.hears) (λ k. (e k, sym s.rank_is k, sym hop k)) heard,
                       (
-                        way,
-                        (
-                          subst (λ (z : Shape × ℕ × ℕ). IsHeard z.0 z.1 z.2 (own_logs v) ear.marks ear.hears) (λ k. (e k, sym s.rank_is k, sym hop k)) heard,
-                          (
-                            subst (λ (z : Shape). AreGood g.row.CAP z l (in_of (own_logs v) l)) e (s.each_good l inside mine),
-                            c.requires.empty ∙ ap blank (sym (ap (λ (z : Contents). z.epoch) c.requires.empty)),
-                          ),
-                        ),
+                        subst (λ (z : Shape). AreGood g.row.CAP z l (in_of (own_logs v) l)) e (s.each_good l inside mine),
+                        c.requires.empty ∙ ap blank (sym (ap (λ (z : Contents). z.epoch) c.requires.empty)),
                       ),
                     ),
                   ),
@@ -127,7 +127,7 @@ invariant_of-self g c =
     let now : c.note_last.new.ended ≡ counted (lasts (map shipped (got_of x' l))) = c.note_last.ensures ∙ ended_case c.collect_on-answer.result (got_of x l) (got_of x' l) c.collect_on-answer.new.parcel c.last.result n
     (λ got. got_one key v.pick l x x' f.others (omega arith) f.seen c.collect_on-answer.new.parcel (f.taken got) (f.parcel got)) (λ none. got_none key v.pick l x x' f.others (omega arith) f.seen (f.not_taken none)) (sym c.last.ensures) was in
     seat_collected g.row.CAP v.shape c.self.inside.place.me m' c.self.inside.rank l c.self.inside.outs.items c.self.inside.ins.items c.self.inside.ears.items c.self.inside.ended.items s
-    (subst (λ (z : Shape). IsManned z m') back f.seat) inside c.collect_on-answer.new.end c.collect_on-answer.new.ear c.index-wire.result.now.hop c.note_last.new.ended f.here
+    (subst (λ (z : Shape). IsManned z m') back f.stays.seat) inside c.collect_on-answer.new.end c.collect_on-answer.new.ear c.index-wire.result.now.hop c.note_last.new.ended f.here
     (subst (λ (z : Shape). ElseKept z v.pick l x x') back f.others) mine
     (subst (λ (z : Shape). IsInEnd z.slots (in_of x' l) c.collect_on-answer.new.end.taken c.collect_on-answer.new.end.waiting c.collect_on-answer.new.end.look_ins c.collect_on-answer.new.end.noted) back f.end)
     (subst (λ (z : Shape). IsHeard z v.pick (hop_at z.dims l) x' c.collect_on-answer.new.ear.marks c.collect_on-answer.new.ear.hears) back f.ear)

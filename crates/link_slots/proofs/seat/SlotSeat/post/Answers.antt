@@ -10,7 +10,7 @@ use Rattle.link_slots.specs.Logs.{out_of, with_out, sent_of, got_of, sent_more}
 use Rattle.link_slots.specs.View.{own_logs}
 use Rattle.link_slots.specs.Shape.{Shape, MayFollow, KeepsLaw, shipped_all}
 use Rattle.link_slots.specs.Told.{IsManned}
-use Rattle.link_slots.specs.Counts.{IsWire, IsOutEnd}
+use Rattle.link_slots.specs.Counts.{IsWire, IsOutEnd, HasPosted}
 use Rattle.link_slots.specs.Seen.{Bank, Manning, posted_on, collected_from}
 use Rattle.link_slots.proofs.Seating.{law_for, may_follow, seat_posted}
 use Rattle.link_slots.proofs.seat.SlotSeat.post.Goals as goal
@@ -35,26 +35,26 @@ post_on-answer-requires g c =
         (
           omega arith,
           (
-            (ap (λ (z : Manning). z.id) c.self.view_is ∙ (c.requires.bank.0 ∙ sym (ap (λ (z : Bank). z.id) c.bank.view_is)), c.bank.invariant.board),
+            record {
+              here = ap (λ (z : Manning). z.id) c.self.view_is ∙ (c.requires.bank.0 ∙ sym (ap (λ (z : Bank). z.id) c.bank.view_is));
+              board = c.bank.invariant.board;
+              manned = subst (λ (z : Shape). IsManned z c.self.inside.place.me) e s.manned;
+              below = subst (λ (z : Shape). l < links z.dims) e inside;
+              own = subst (λ (z : Shape). sender_at z.dims l ≡ v.pick) e (mine ∙ sym s.rank_is);
+            },
             (
-              subst (λ (z : Shape). IsManned z c.self.inside.place.me) e s.manned,
+              c.bank.invariant.slots_is,
               (
-                subst (λ (z : Shape). (l < links z.dims) × (sender_at z.dims l ≡ v.pick)) e (inside, mine ∙ sym s.rank_is),
+                long,
                 (
-                  c.bank.invariant.slots_is,
+                  subst (λ (z : Shape). IsOutEnd z.slots (out_of (own_logs v) l) end.sent end.spare) e counts,
                   (
-                    long,
+                    way,
                     (
-                      subst (λ (z : Shape). IsOutEnd z.slots (out_of (own_logs v) l) end.sent end.spare) e counts,
-                      (
-                        way,
-                        (
-                          subst (λ (z : Shape). MayFollow z.dims g.row.CAP l (out_of (own_logs v) l).sent c.args.parcel.now) e
-                              (may_follow v.shape.dims g.row.CAP c.self.inside.rank l (own_logs v) c.args.parcel.now inside mine c.requires.fresh c.known.ensures.fresh c.known.ensures.within epoch law),
-                          subst (λ (z : Shape × ℕ). KeepsLaw z.0.dims z.1 (sent_of (with_out (own_logs v) l (sent_more (out_of (own_logs v) l) c.args.parcel.now))) (got_of (own_logs v))) (λ k. (e k, sym s.rank_is k))
-                              (law_for v.shape.dims c.self.inside.rank l (own_logs v) c.args.parcel.now long law),
-                        ),
-                      ),
+                      subst (λ (z : Shape). MayFollow z.dims g.row.CAP l (out_of (own_logs v) l).sent c.args.parcel.now) e
+                          (may_follow v.shape.dims g.row.CAP c.self.inside.rank l (own_logs v) c.args.parcel.now inside mine c.requires.fresh c.known.ensures.fresh c.known.ensures.within epoch law),
+                      subst (λ (z : Shape × ℕ). KeepsLaw z.0.dims z.1 (sent_of (with_out (own_logs v) l (sent_more (out_of (own_logs v) l) c.args.parcel.now))) (got_of (own_logs v))) (λ k. (e k, sym s.rank_is k))
+                          (law_for v.shape.dims c.self.inside.rank l (own_logs v) c.args.parcel.now long law),
                     ),
                   ),
                 ),
@@ -72,7 +72,7 @@ invariant_of-self g c =
     let inside : l < links v.shape.dims = subst (λ (z : Manning). l < links z.shape.dims) (sym c.self.view_is) c.requires.link in
     let mine : sender_at v.shape.dims l ≡ c.self.inside.rank = subst (λ (z : Manning). sender_at z.shape.dims l ≡ z.rank) (sym c.self.view_is) c.requires.starts_here in
     seat_posted g.row.CAP v.shape c.self.inside.place.me c.post_on-answer.new.place.me c.self.inside.rank l c.self.inside.outs.items c.self.inside.ins.items c.self.inside.ears.items c.self.inside.ended.items s
-    (subst (λ (z : Shape). IsManned z c.post_on-answer.new.place.me) (sym e) c.post_on-answer.ensures.seat) inside c.post_on-answer.new.end c.post_on-answer.ensures.here mine
+    (subst (λ (z : Shape). IsManned z c.post_on-answer.new.place.me) (sym e) c.post_on-answer.ensures.stays.seat) inside c.post_on-answer.new.end c.post_on-answer.ensures.here mine
     (subst (λ (z : Shape). IsOutEnd z.slots (out_of (own_logs c.post_on-answer.new.place.me.0) l) c.post_on-answer.new.end.sent c.post_on-answer.new.end.spare) (sym e) c.post_on-answer.ensures.end)
 
 -- what the seat counts beside its view: the parcels posted and the spare slots are the room
@@ -84,3 +84,10 @@ returns-clause-within g c =
     let counts = s.each_out l c.index_mut-end.result.now inside mine in
     let spare = counts.spare_is in
     subst (λ (z : Manning). length (out_of z.lists l).sent ≤ (out_of z.lists l).room) c.self.view_is (omega (arith, spare))
+
+pub returns-clause-link : goal.returns-clause-link
+returns-clause-link g c =
+    let l : ℕ = c.args.link in
+    let e : c.self.inside.place.me.0.shape ≡ c.bank.inside.board.shared.key = ap (λ (z : Manning). z.shape) c.self.view_is ∙ (c.requires.bank.1 ∙ sym (ap (λ (z : Bank). z.shape) c.bank.view_is)) in
+    subst (λ (z : Manning). HasPosted z.shape.slots (out_of z.lists l) (out_of (own_logs c.post_on-answer.new.place.me.0) l) c.args.parcel.now c.post_on-answer.result) c.self.view_is
+    (subst (λ (z : Shape). HasPosted z.slots (out_of (own_logs c.self.inside.place.me.0) l) (out_of (own_logs c.post_on-answer.new.place.me.0) l) c.args.parcel.now c.post_on-answer.result) (sym e) c.post_on-answer.ensures.link)

@@ -15,7 +15,7 @@ abbrev Lists : Type 0
 Lists = List (Option (Logs Contents))
 
 pub overflow_cast-result : goal.overflow_cast-result
-overflow_cast-result g c = let s = c.self.invariant.small in omega arith
+overflow_cast-result g c = let s = c.self.invariant.is_cap.small in omega arith
 
 pub returns-clause-in_order : goal.returns-clause-in_order
 returns-clause-in_order g c =

@@ -33,7 +33,7 @@ invariant_of-bank g c =
     ap length c.as_slice.ensures.value ∙ ap length items ∙ length-replicate (16 * (2 * c.links-links.result + c.ranks-ranks.result * c.hops.result)) 0 ∙ (λ k. 16 * (2 * l k + r k * h k)) in
     let slots : length c.in_ok-places.places.items ≡ c.args.slots * links dims = ap length c.in_ok-places.ensures ∙ length-replicate (c.args.slots * c.links-links.result) (blank 0) ∙ ap (λ n. c.args.slots * n) l in
     subst (λ (s : Shape). IsWiredUp g.row.CAP s c.in_ok-board.board.shared.table_id c.args.slots dims c.in_ok-wires.wires.items) (sym c.in_ok-board.ensures.key) (record {
-      small = c.requires.small;
+      is_cap = c.requires.cap;
       board = record { shape = is_shape dims c.args.slots c.links-links.ensures.grid c.requires.slots; words = c.in_ok-board.ensures.words ∙ words; slots = c.in_ok-board.ensures.slots ∙ slots };
       slots_is = refl;
       grid_is = refl;

@@ -1,4 +1,4 @@
-use Rattle.std.proofs.Common.{arith, ◌≡◌, ◌∷◌, ◌+◌, ◌%◌, ◌^◌, ℕ, List, length, refl, sym, ap, subst, ◌∙◌}
+use Rattle.std.proofs.Common.{rules, arith, ◌≡◌, ◌∷◌, ◌+◌, ◌%◌, ◌^◌, ℕ, List, length, refl, sym, ap, subst, ◌∙◌}
 use mathlib.Core.Option.{none}
 use Rattle.atomic_table.specs.Table.{Me, Allows, step, rest}
 use Rattle.item_buffer.specs.Contents.{Contents}
@@ -17,20 +17,23 @@ filled shape m m1 m2 k slot b p c e f h = h ∙ ap (λ (z : Me Contents Knowing)
 
 pub fetch_add-requires : goal.fetch_add-requires
 fetch_add-requires g c =
-    let b = c.requires.table.1 in let key : Shape = c.args.top.now.key in let m : Me Contents Knowing = c.args.place.now.me in
+    let b = c.requires.at.board in let key : Shape = c.args.top.now.key in let m : Me Contents Knowing = c.args.place.now.me in
     let f = c.bring_spare.ensures.front in
     let there = filled key m c.bring_spare.new.place.me c.swap.new.place.me c.args.slot (slot_of (wiring key) c.args.link (length (out_of (own_logs m.0) c.args.link).sent)) f.0 c.args.parcel.now f.1 c.requires.slot f.3 c.swap.ensures.swapped.0 in (
-      c.swap.ensures.table ∙ c.bring_spare.ensures.table ∙ c.requires.table.0,
-      (let e = b.words in let h = c.requires.link.0 in omega arith),
+      c.swap.ensures.table ∙ c.bring_spare.ensures.stays.table ∙ c.requires.at.here,
+      (let e = b.words in let h = c.requires.at.below in omega arith),
       subst (λ (z : Me Contents Knowing). Allows (IsLawful g.row.CAP key) c.args.top.now.table_id.slots c.swap.new.place.id z (posted_word c.args.link) (λ n. (n + 1) % 2 ^ 64) (post_told g.row.CAP (step c.args.top.now.table_id.slots (posted_word c.args.link) 1 0 none) z)) (sym there)
-          (tells.post g.row.CAP key b.shape c.args.top.now.table_id.slots b.slots c.swap.new.place.id c.args.link m.0 f.1 f.0 c.args.parcel.now (subst (IsManned key) f.3 c.bring_spare.ensures.seat) c.requires.link.0 c.requires.link.1 c.requires.room c.requires.parcel (λ _. c.requires.law)),
+          (tells.post g.row.CAP key b.shape c.args.top.now.table_id.slots b.slots c.swap.new.place.id c.args.link m.0 f.1 f.0 c.args.parcel.now (subst (IsManned key) f.3 c.bring_spare.ensures.stays.seat) c.requires.at.below c.requires.at.own c.requires.room c.requires.parcel (λ _. c.requires.law)),
     )
 
-pub returns-clause-seat : goal.returns-clause-seat
-returns-clause-seat g c =
-    let key : Shape = c.args.top.now.key in let m : Me Contents Knowing = c.args.place.now.me in let m3 : Me Contents Knowing = c.fetch_add.new.seat.me in
-    let f = c.bring_spare.ensures.front in
-    let there = filled key m c.bring_spare.new.place.me c.swap.new.place.me c.args.slot (slot_of (wiring key) c.args.link (length (out_of (own_logs m.0) c.args.link).sent)) f.0 c.args.parcel.now f.1 c.requires.slot f.3 c.swap.ensures.swapped.0 in
-    let t = subst (λ (z : Me Contents Knowing). posted g.row.CAP z.0.shape c.args.link z m3) there (c.fetch_add.ensures.2 c.args.link refl) in
-    let u = subst (λ (z : Shape). posted g.row.CAP z c.args.link (m.0, (slot_of (wiring key) c.args.link (length (out_of (own_logs m.0) c.args.link).sent), c.args.parcel.now) ∷ f.1) m3) c.requires.seat.of t in
-    manned_with key m m3 c.requires.seat _ (ap (λ (z : Me Contents Knowing). z.0) u.0) u.1
+pub returns-clause-stays : goal.returns-clause-stays
+returns-clause-stays g c = record {
+  table = search rules;
+  seat =
+      let key : Shape = c.args.top.now.key in let m : Me Contents Knowing = c.args.place.now.me in let m3 : Me Contents Knowing = c.fetch_add.new.seat.me in
+      let f = c.bring_spare.ensures.front in
+      let there = filled key m c.bring_spare.new.place.me c.swap.new.place.me c.args.slot (slot_of (wiring key) c.args.link (length (out_of (own_logs m.0) c.args.link).sent)) f.0 c.args.parcel.now f.1 c.requires.slot f.3 c.swap.ensures.swapped.0 in
+      let t = subst (λ (z : Me Contents Knowing). posted g.row.CAP z.0.shape c.args.link z m3) there (c.fetch_add.ensures.2 c.args.link refl) in
+      let u = subst (λ (z : Shape). posted g.row.CAP z c.args.link (m.0, (slot_of (wiring key) c.args.link (length (out_of (own_logs m.0) c.args.link).sent), c.args.parcel.now) ∷ f.1) m3) c.requires.at.manned.of t in
+      manned_with key m m3 c.requires.at.manned _ (ap (λ (z : Me Contents Knowing). z.0) u.0) u.1;
+}

@@ -11,6 +11,6 @@ invariant_of-result g c =
     let items : c.loop.links.items ≡ replicate (links c.args.grid.now) unused = c.loop.invariant.links ∙ ap (λ n. replicate n unused) all in
     let rings : c.loop.rings.items ≡ replicate (links c.args.grid.now) [] = c.loop.invariant.rings ∙ ap (λ n. replicate n []) all in
     let P : List Channel → Type 0 = λ channels. IsBank g.row.CAP (record { dims = c.args.grid.now; slots = c.args.slots; channels = channels }) in (
-      subst P (sym items) (empty_is_bank g.row.CAP c.args.slots c.args.grid.now c.requires.small c.links-count.ensures.grid c.requires.slots),
+      subst P (sym items) (empty_is_bank g.row.CAP c.args.slots c.args.grid.now c.requires.cap c.links-count.ensures.grid c.requires.slots),
       subst (λ (xs : List Channel). HaveRings xs c.loop.rings.items) (sym items) (subst (HaveRings (replicate (links c.args.grid.now) unused)) (sym rings) (rings_empty (links c.args.grid.now))),
     )

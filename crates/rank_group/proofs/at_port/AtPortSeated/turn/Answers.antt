@@ -29,9 +29,9 @@ returns-after-got_on-clause-ran g c =
     let t = c.turn_over.ensures in
     let seat = c.turn_over.new.port.port.seat in
     let heard = subst (λ k. g.G.Gate.told c.args.gate.now k i.turns ≡ true) (sym (ap (λ p. p.seat.rank) c.watch.ensures.port)) (subst (λ k. g.G.Gate.told c.args.gate.now k i.turns ≡ true) c.rank.ensures.value c.turn.ensures.told) in
-    let same = one_place x seat (ap (λ (r : Rest). r.bank) t.rest) t.same_dims t.same_slots in
+    let same = one_place x seat (ap (λ (r : Rest). r.bank) t.same_port.rest) t.same_port.dims t.same_port.slots in
     let y : SeatedState g.row.Q.Denot = record { rank = c.turn_over.new.rank; seat = seat; turns = i.turns + 1; lost = i.lost } in
-    subst (λ (z : SeatedState g.row.Q.Denot). Ran R g.row.CAP (g.G.Gate.told c.args.gate.now) z y) (at ∙ c.self.view_is) (turned R g.row.CAP x c.turn_over.new.rank seat same t.same_rank (g.G.Gate.told c.args.gate.now) heard n.1 n.0 c.in-Ok.ensures.epoch c.in-Ok.ensures.kept)
+    subst (λ (z : SeatedState g.row.Q.Denot). Ran R g.row.CAP (g.G.Gate.told c.args.gate.now) z y) (at ∙ c.self.view_is) (turned R g.row.CAP x c.turn_over.new.rank seat same t.same_port.rank (g.G.Gate.told c.args.gate.now) heard n.1 n.0 c.in-Ok.ensures.epoch c.in-Ok.ensures.kept)
 
 pub returns-after-got_on-clause-counted : goal.returns-after-got_on-clause-counted
 returns-after-got_on-clause-counted g c = omega (arith, ap (λ (x : SeatedState g.row.Q.Denot). x.turns) c.self.view_is, c.turn_over.ensures.steps)
@@ -46,10 +46,10 @@ returns-in-Err g c =
     let t = c.turn_over.ensures in
     let seat = c.turn_over.new.port.port.seat in
     let heard = subst (λ k. g.G.Gate.told c.args.gate.now k i.turns ≡ true) (sym (ap (λ p. p.seat.rank) c.watch.ensures.port)) (subst (λ k. g.G.Gate.told c.args.gate.now k i.turns ≡ true) c.rank.ensures.value c.turn.ensures.told) in
-    let same = one_place x seat (ap (λ (r : Rest). r.bank) t.rest) t.same_dims t.same_slots in
+    let same = one_place x seat (ap (λ (r : Rest). r.bank) t.same_port.rest) t.same_port.dims t.same_port.slots in
     let y : SeatedState g.row.Q.Denot = record { rank = c.turn_over.new.rank; seat = seat; turns = i.turns + 1; lost = true } in
     record {
-      ran = subst (λ (z : SeatedState g.row.Q.Denot). Ran R g.row.CAP (g.G.Gate.told c.args.gate.now) z y) (at ∙ c.self.view_is) (gave_up R g.row.CAP x c.turn_over.new.rank seat same t.same_rank (g.G.Gate.told c.args.gate.now) heard);
+      ran = subst (λ (z : SeatedState g.row.Q.Denot). Ran R g.row.CAP (g.G.Gate.told c.args.gate.now) z y) (at ∙ c.self.view_is) (gave_up R g.row.CAP x c.turn_over.new.rank seat same t.same_port.rank (g.G.Gate.told c.args.gate.now) heard);
       counted = omega (arith, ap (λ (x : SeatedState g.row.Q.Denot). x.turns) c.self.view_is, c.turn_over.ensures.steps);
       still = λ none. absurd (true≢false none);
     }
@@ -65,8 +65,8 @@ invariant_of-self g c =
     let t = c.turn_over.ensures in
     let seat = c.turn_over.new.port.port.seat in
     let heard = subst (λ k. g.G.Gate.told c.args.gate.now k i.turns ≡ true) (sym (ap (λ p. p.seat.rank) c.watch.ensures.port)) (subst (λ k. g.G.Gate.told c.args.gate.now k i.turns ≡ true) c.rank.ensures.value c.turn.ensures.told) in
-    let same = one_place x seat (ap (λ (r : Rest). r.bank) t.rest) t.same_dims t.same_slots in
-    has_way R g.row.CAP (g.G.Gate.told c.args.gate.now) x _ (subst (HasWay R g.row.CAP) (sym at) c.self.invariant) (turned R g.row.CAP x c.turn_over.new.rank seat same t.same_rank (g.G.Gate.told c.args.gate.now) heard n.1 n.0 c.in-Ok.ensures.epoch c.in-Ok.ensures.kept)
+    let same = one_place x seat (ap (λ (r : Rest). r.bank) t.same_port.rest) t.same_port.dims t.same_port.slots in
+    has_way R g.row.CAP (g.G.Gate.told c.args.gate.now) x _ (subst (HasWay R g.row.CAP) (sym at) c.self.invariant) (turned R g.row.CAP x c.turn_over.new.rank seat same t.same_port.rank (g.G.Gate.told c.args.gate.now) heard n.1 n.0 c.in-Ok.ensures.epoch c.in-Ok.ensures.kept)
 
 pub invariant_of-self-in-Err : goal.invariant_of-self-in-Err
 invariant_of-self-in-Err g c =
@@ -78,5 +78,5 @@ invariant_of-self-in-Err g c =
     let t = c.turn_over.ensures in
     let seat = c.turn_over.new.port.port.seat in
     let heard = subst (λ k. g.G.Gate.told c.args.gate.now k i.turns ≡ true) (sym (ap (λ p. p.seat.rank) c.watch.ensures.port)) (subst (λ k. g.G.Gate.told c.args.gate.now k i.turns ≡ true) c.rank.ensures.value c.turn.ensures.told) in
-    let same = one_place x seat (ap (λ (r : Rest). r.bank) t.rest) t.same_dims t.same_slots in
-    has_way R g.row.CAP (g.G.Gate.told c.args.gate.now) x _ (subst (HasWay R g.row.CAP) (sym at) c.self.invariant) (gave_up R g.row.CAP x c.turn_over.new.rank seat same t.same_rank (g.G.Gate.told c.args.gate.now) heard)
+    let same = one_place x seat (ap (λ (r : Rest). r.bank) t.same_port.rest) t.same_port.dims t.same_port.slots in
+    has_way R g.row.CAP (g.G.Gate.told c.args.gate.now) x _ (subst (HasWay R g.row.CAP) (sym at) c.self.invariant) (gave_up R g.row.CAP x c.turn_over.new.rank seat same t.same_port.rank (g.G.Gate.told c.args.gate.now) heard)

@@ -11,26 +11,14 @@ turn_conveyor-requires g c =
     let R = g.Q.Program.rules in
     let sent = g.P.Port.sent c.args.port.now in
     let got = g.P.Port.got c.args.port.now in
-    let h = c.requires.node.0 in (
-      search rules,
-      (
-        subst (λ m. g.P.Port.dims c.args.port.now ≡ dims_of (seen m)) c.in-Convey.is c.requires.same_dims,
-        (subst (λ m. g.P.Port.rank c.args.port.now ≡ rank_of (seen m)) c.in-Convey.is c.requires.same_rank, (h, subst (λ m. IsNode R h (record { run = running c.args.run.now; mover = seen m }) sent got) c.in-Convey.is c.requires.node.1)),
-      ),
-    )
+    let h = c.requires.turns.first in (search rules, record { same_dims = subst (λ m. g.P.Port.dims c.args.port.now ≡ dims_of (seen m)) c.in-Convey.is c.requires.turns.same_dims; same_rank = subst (λ m. g.P.Port.rank c.args.port.now ≡ rank_of (seen m)) c.in-Convey.is c.requires.turns.same_rank; first = h; node = subst (λ m. IsNode R h (record { run = running c.args.run.now; mover = seen m }) sent got) c.in-Convey.is c.requires.turns.node })
 
 pub turn_exstack-requires : goal.turn_exstack-requires
 turn_exstack-requires g c =
     let R = g.Q.Program.rules in
     let sent = g.P.Port.sent c.args.port.now in
     let got = g.P.Port.got c.args.port.now in
-    let h = c.requires.node.0 in (
-      search rules,
-      (
-        subst (λ m. g.P.Port.dims c.args.port.now ≡ dims_of (seen m)) c.in-Exstack.is c.requires.same_dims,
-        (subst (λ m. g.P.Port.rank c.args.port.now ≡ rank_of (seen m)) c.in-Exstack.is c.requires.same_rank, (h, subst (λ m. IsNode R h (record { run = running c.args.run.now; mover = seen m }) sent got) c.in-Exstack.is c.requires.node.1)),
-      ),
-    )
+    let h = c.requires.turns.first in (search rules, record { same_dims = subst (λ m. g.P.Port.dims c.args.port.now ≡ dims_of (seen m)) c.in-Exstack.is c.requires.turns.same_dims; same_rank = subst (λ m. g.P.Port.rank c.args.port.now ≡ rank_of (seen m)) c.in-Exstack.is c.requires.turns.same_rank; first = h; node = subst (λ m. IsNode R h (record { run = running c.args.run.now; mover = seen m }) sent got) c.in-Exstack.is c.requires.turns.node })
 
 pub returns-in-Exstack-clause-cycle : goal.returns-in-Exstack-clause-cycle
 returns-in-Exstack-clause-cycle g c = λ quota n i.

@@ -1,5 +1,7 @@
 use Rattle.std.proofs.Common.{rules, sym, ap, subst, ◌∙◌}
-use Rattle.rank_node.specs.Movers.{dims_of, rank_of}
+use Rattle.rank_node.specs.Movers.{seen, dims_of, rank_of}
+use Rattle.rank_node.specs.Runs.{running}
+use Rattle.rank_node.specs.Moves.{AfterMoves}
 use Rattle.rank_node.specs.Nodes.{NodeState, IsNode}
 use Rattle.rank_node.proofs.Onward.{seen_cap}
 use Rattle.rank_node.proofs.node.Node.turn.Goals as goal
@@ -9,13 +11,12 @@ turn-requires g c =
     let R = g.Q.Program.rules in
     let sent = g.P.Port.sent c.args.port.now in
     let got = g.P.Port.got c.args.port.now in
-    let h = c.requires.node.0 in (
-      search rules,
-      (
-        c.requires.same_dims ∙ sym (ap (λ (m : NodeState g.row.Q.Denot). dims_of m.mover) c.self.view_is),
-        (c.requires.same_rank ∙ sym (ap (λ (m : NodeState g.row.Q.Denot). rank_of m.mover) c.self.view_is), (h, subst (λ (m : NodeState g.row.Q.Denot). IsNode R h m sent got) (sym c.self.view_is) c.requires.node.1)),
-      ),
-    )
+    let h = c.requires.turns.first in (search rules, record { same_dims = c.requires.turns.same_dims ∙ sym (ap (λ (m : NodeState g.row.Q.Denot). dims_of m.mover) c.self.view_is); same_rank = c.requires.turns.same_rank ∙ sym (ap (λ (m : NodeState g.row.Q.Denot). rank_of m.mover) c.self.view_is); first = h; node = subst (λ (m : NodeState g.row.Q.Denot). IsNode R h m sent got) (sym c.self.view_is) c.requires.turns.node })
 
 pub returns-clause-cap : goal.returns-clause-cap
 returns-clause-cap g c = seen_cap c.turn.new.self
+
+pub returns-clause-moves : goal.returns-clause-moves
+returns-clause-moves g c =
+    let R = g.Q.Program.rules in
+    subst (λ (m : NodeState g.row.Q.Denot). AfterMoves R g.row.CAP m (record { run = running c.turn.new.run; mover = seen c.turn.new.self }) (g.P.Port.sent c.args.port.now) (g.P.Port.got c.args.port.now) (g.P.Port.sent c.turn.new.port) (g.P.Port.got c.turn.new.port)) c.self.view_is c.turn.ensures.moves

@@ -9,7 +9,9 @@ use Rattle.round_program.proofs.Injections.{same_runs}
 use Rattle.rank_group.specs.declared.closed_round.ClosedRound.{ClosedRound}
 use Rattle.rank_group.specs.Rounds.{round_of}
 use Rattle.rank_node.specs.Movers.{Manner}
-use Rattle.rank_group.specs.Told.{Made, TellsRun, turns_within}
+use Rattle.rank_group.specs.declared.drive.Finished.{Finished}
+use Rattle.rank_group.specs.Told.{Made, turns_within}
+use Rattle.rank_group.specs.Driven.{HasFinished, WithinTurns}
 use Rattle.bale_words.specs.declared.task.Task.{Task}
 use Rattle.app_cases.specs.Any.{AnyState, any_rules}
 use Rattle.app_cases.proofs.Driving.{steps, are_cases, ended, rounds}
@@ -21,23 +23,19 @@ use Rattle.bale_words.specs.declared.command.Command.{Command}
 use Rattle.bale_runs.specs.RunEnds.{IsRunEnd}
 use Rattle.bale_subjects.specs.declared.subject.Subject.{Subject}
 use Rattle.bale_answers.specs.Tasks.{plan_of, way_of, starts_of}
-use Rattle.bale_runs.specs.Runs.{HaveRun, Tells, TellsTask, WithinTurns, TurnsOfTask, BeyondTurns, FewestOfTask}
+use Rattle.bale_runs.specs.Runs.{HaveRun, Tells, TellsTask, IsTaskRun, TurnsOfTask, BeyondTurns, FewestOfTask}
 
--- What a drive tells of its programs.
-abbrev pub DriveTells : List AnyState → Made → Manner → List ClosedRound → Type 0
-DriveTells ps made manner rs = (c : ClosedRound) × (rs ≡ c ∷ []) × ((n : ℕ) → HasRounds any_rules ps n → TellsRun any_rules ps n made manner (round_of c))
-
-pub tells : {S : Type 0} {R : Rules S} {i : S → AnyState} {w : List ℕ → List ℕ} → Injects R any_rules i w → (starts : List S) (ps ends : List AnyState) (made : Made) (manner : Manner)
-    (rs : List ClosedRound) → ps ≡ map i starts → 0 < length ps → HaveEnded any_rules ps ends → DriveTells ps made manner rs → Tells R starts made manner rs
-tells {i = i} case starts ps ends made manner rs put some h t =
+pub tells : {S : Type 0} {R : Rules S} {i : S → AnyState} {w : List ℕ → List ℕ} → Injects R any_rules i w → (starts : List S) (ps : List AnyState) (made : Made) (manner : Manner)
+    (run : Finished AnyState) → ps ≡ map i starts → 0 < length ps → HasFinished any_rules ps made manner run → Tells R starts made manner run.rounds
+tells {i = i} case starts ps made manner run put some h =
     let few : 0 < length starts = subst (λ n. 0 < n) (ap length put ∙ length-map starts i) some in
-    let cs = are_cases case starts few ps put ends h in
-    let e = ended case starts few ps put ends cs.0 h cs.1 in
-    let r = rounds case starts few ps put made manner rs t in
+    let cs = are_cases case starts few ps put run.progs h.ended in
+    let e = ended case starts few ps put run.progs cs.0 h.ended cs.1 in
+    let r = rounds case starts few ps put made manner run.rounds h.rounds in
     record { closed = r.0; only = r.1; count = e.rounds; has_rounds = e.has_rounds; tells = r.2 e.rounds e.has_rounds }
 
 -- the programs of a task's run
-pub have_run : (t : Task) (s : Subject) (n : ℕ) (ps ends : List AnyState) → 1 ≤ n → n ≤ 64 → ps ≡ starts_of t n s → 0 < length ps → HaveEnded any_rules ps ends → HaveRun t s ends
+have_run : (t : Task) (s : Subject) (n : ℕ) (ps ends : List AnyState) → 1 ≤ n → n ≤ 64 → ps ≡ starts_of t n s → 0 < length ps → HaveEnded any_rules ps ends → HaveRun t s ends
 have_run t s n ps ends low high are some h =
     record {
       ranks = n;
@@ -48,10 +46,16 @@ have_run t s n ps ends low high are some h =
     }
 
 -- the rounds of a task's run
-pub tells_task : (t : Task) (s : Subject) (made : Made) (manner : Manner) (rs : List ClosedRound) (ps ends : List AnyState)
-    → ps ≡ starts_of t (ranks made.dims) s → 0 < length ps → HaveEnded any_rules ps ends → DriveTells ps made manner rs → TellsTask t s made manner rs
+tells_task : (t : Task) (s : Subject) (made : Made) (manner : Manner) (ps : List AnyState) (run : Finished AnyState)
+    → ps ≡ starts_of t (ranks made.dims) s → 0 < length ps → HasFinished any_rules ps made manner run → TellsTask t s made manner run.rounds
 unfolding starts_of
-tells_task t s made manner rs ps ends put some h told = tells (way_of t s).is_case ((plan_of t s).starts (ranks made.dims)) ps ends made manner rs put some h told
+tells_task t s made manner ps run put some h = tells (way_of t s).is_case ((plan_of t s).starts (ranks made.dims)) ps made manner run put some h
+
+-- the run of a task
+pub task_run : (t : Task) (s : Subject) (made : Made) (manner : Manner) (ps : List AnyState) (run : Finished AnyState) → 1 ≤ ranks made.dims → ranks made.dims ≤ 64
+    → ps ≡ starts_of t (ranks made.dims) s → 0 < length ps → HasFinished any_rules ps made manner run → IsTaskRun t s made manner run
+task_run t s made manner ps run low high put some h =
+    record { ended = have_run t s (ranks made.dims) ps run.progs low high put some h.ended; rounds = tells_task t s made manner ps run put some h }
 
 pub turns : {S : Type 0} {R : Rules S} {i : S → AnyState} {w : List ℕ → List ℕ} → Injects R any_rules i w → (starts : List S) (ps : List AnyState) (manner : Manner) (dims : List ℕ) (before after : ℕ)
     → ps ≡ map i starts → 0 < length ps → ((n : ℕ) → HasRounds any_rules ps n → after ≤ before + turns_within any_rules manner dims ps n) → WithinTurns R starts manner dims before after
@@ -75,11 +79,6 @@ pub fewest_of_task : (t : Task) (s : Subject) (dims : List ℕ) (before after : 
 unfolding starts_of
 fewest_of_task t s dims before after ps put some f = fewest (way_of t s).is_case ((plan_of t s).starts (ranks dims)) ps dims before after put some f
 
--- what a drive tells at its end of each number of rounds
-pub on_all : {T E : Type 0} (r : Result T E) (H B : ℕ → Type 0) (Q : Type 0) → (((n : ℕ) → H n → B n) → Q) → ((n : ℕ) → H n → OnOk r (B n)) → IfOk r (λ x. Q)
-on_all (Ok x) H B Q q f = q f
-on_all (Err e) H B Q q f = tt
-
 -- what holds in any case
 pub always : {T E : Type 0} (r : Result T E) (P : Type 0) → P → IfOk r (λ x. P)
 always (Ok x) P p = p
@@ -102,8 +101,7 @@ pub refused : {K : Type 0} (c : Command) (s : Subject) (tells : List ClosedRound
     → IsRunEnd c s tells taken faults out out' (Err refusal.NoMemory)
 refused c s tells taken faults out out' same = record { ending = tt; rounds = tt; memory = refl; no_answer = same }
 
--- a run that was driven and then told
+-- a run whose rounds are those that were told
 pub finish : {K : Type 0} (c : Command) (s : Subject) (tells : List ClosedRound → Type 0) (taken : K → Option (List ℕ)) (faults : K → ℕ) (out out' : K) (r : Result RunEnd Refusal) {rs : List ClosedRound}
-    → IfOk r (λ f. IsAnswerEnd c.task s c.travel.generated taken faults out out' f.ending) → IfOk r (λ f. f.rounds ≡ rs) → IfErr r (λ e. e ≡ refusal.NoMemory) → OnErr r (out' ≡ out) → tells rs
-    → IsRunEnd c s tells taken faults out out' r
-finish c s tells taken faults out out' r ending rounds memory same told = record { ending = ending; rounds = rounds_as tells r rounds told; memory = memory; no_answer = same }
+    → IsRunEnd c s (λ rounds. rounds ≡ rs) taken faults out out' r → tells rs → IsRunEnd c s tells taken faults out out' r
+finish c s tells taken faults out out' r e told = record { ending = e.ending; rounds = rounds_as tells r e.rounds told; memory = e.memory; no_answer = e.no_answer }

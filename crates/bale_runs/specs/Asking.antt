@@ -1,17 +1,21 @@
 -- What a command exchanges, and how many turns that takes on one thread: by queries and replies for ig over biconvey, else in the
 -- rounds of its programs.
-use Rattle.std.specs.Prelude.{◌≡◌, ◌≤◌, ◌+◌, ◌*◌, ℕ, Bool, true, false, List, [], ◌∷◌, length}
+use Rattle.std.specs.Prelude.{◌≡◌, ◌≤◌, ◌+◌, ◌*◌, ℕ, Bool, true, false, List, [], ◌∷◌, map, length}
 use Rattle.route_tensor.specs.Grid.{ranks}
 use Rattle.mtx_text.specs.Sparse.{Sparse}
 use Rattle.rank_node.specs.Movers.{manner_of}
 use Rattle.rank_node.specs.declared.via.Via.TheVariants as via
 use Rattle.rank_group.specs.declared.closed_round.ClosedRound.{ClosedRound}
+use Rattle.rank_group.specs.declared.drive.Finished.{Finished}
 use Rattle.rank_group.specs.Rounds.{round_of}
 use Rattle.rank_group.specs.Told.{Made, turns_within}
+use Rattle.round_program.specs.Canonical.{HaveEnded}
+use Rattle.app_cases.specs.Any.{AnyState, any_rules, sums_way}
 use Rattle.app_histo_ig.specs.Sums.{sums_rules}
 use Rattle.app_histo_ig.specs.SumsRuns.{sums_starts}
 use Rattle.app_histo_ig.specs.Asking.{AskingState, ig_talk}
 use Rattle.app_histo_ig.specs.AskingRuns.{AreAskersOf}
+use Rattle.app_histo_ig.specs.ColumnAnswers.{IgHeard}
 use Rattle.biconvey.specs.Drives.{TellsExchange}
 use Rattle.biconvey.specs.Worlds.{turns_of}
 use Rattle.bale_words.specs.declared.command.Command.{Command}
@@ -37,6 +41,20 @@ pub record TellsAsking (m : Sparse) (made : Made) (steady : Bool) (rounds : List
   pub first : rounds ≡ sums ∷ rest
   pub summed : Tells sums_rules (sums_starts (ranks made.dims) m) made (manner_of via.Convey steady) (sums ∷ [])
   pub replied : TellsReplies m made steady rest
+
+-- What the round leaves in which the columns of a matrix are summed.
+pub record HasSummed (m : Sparse) (made : Made) (steady : Bool) (run : Finished AnyState) : Type 0 where
+  -- The programs are as the canonical run leaves them.
+  pub ended : HaveEnded any_rules (map sums_way.case (sums_starts (ranks made.dims) m)) run.progs
+  -- One closed round tells it.
+  pub rounds : Tells sums_rules (sums_starts (ranks made.dims) m) made (manner_of via.Convey steady) run.rounds
+
+-- What the queries and the replies leave.
+pub record HasAsked (m : Sparse) (made : Made) (steady : Bool) (run : Finished AskingState) : Type 0 where
+  -- Each asker has heard the sums of its entries' columns.
+  pub heard : IgHeard m run.progs
+  -- Two closed rounds tell both ways.
+  pub rounds : TellsReplies m made steady run.rounds
 
 -- From `before` turns to `after` there are no more than the round of sums takes at most, and an exchange of one query an entry.
 abbrev pub TurnsOfAsking : Sparse → Bool → List ℕ → ℕ → ℕ → Type 0

@@ -6,7 +6,9 @@ use Rattle.round_program.specs.Canonical.{HasRounds, HaveEnded}
 use Rattle.rank_group.specs.declared.closed_round.ClosedRound.{ClosedRound}
 use Rattle.rank_group.specs.Rounds.{round_of}
 use Rattle.rank_node.specs.Movers.{Manner}
-use Rattle.rank_group.specs.Told.{Made, TellsRun, turns_within}
+use Rattle.rank_group.specs.declared.drive.Finished.{Finished}
+use Rattle.rank_group.specs.Told.{Made, TellsRun}
+use Rattle.rank_group.specs.Driven.{WithinTurns}
 use Rattle.bale_words.specs.declared.command.Command.{Command}
 use Rattle.bale_words.specs.declared.task.Task.{Task}
 use Rattle.app_cases.specs.Any.{AnyState, any_rules}
@@ -39,9 +41,12 @@ pub record Tells {S : Type 0} (R : Rules S) (starts : List S) (made : Made) (man
 abbrev pub TellsTask : Task → Subject → Made → Manner → List ClosedRound → Type 0
 TellsTask t s made manner rounds = Tells (plan_of t s).rules ((plan_of t s).starts (ranks made.dims)) made manner rounds
 
--- From `before` turns to `after` there are no more than a run of these programs takes at most.
-abbrev pub WithinTurns : {S : Type 0} → Rules S → List S → Manner → List ℕ → ℕ → ℕ → Type 0
-WithinTurns R starts manner dims before after = (n : ℕ) → HasRounds R starts n → after ≤ before + turns_within R manner dims starts n
+-- What the drive of a task's programs for its subject leaves.
+pub record IsTaskRun (t : Task) (s : Subject) (made : Made) (manner : Manner) (run : Finished AnyState) : Type 0 where
+  -- The programs are those after the run.
+  pub ended : HaveRun t s run.progs
+  -- The rounds tell it.
+  pub rounds : TellsTask t s made manner run.rounds
 
 -- The turns of a task's run for its subject are bounded before it.
 abbrev pub TurnsOfTask : Task → Subject → Manner → List ℕ → ℕ → ℕ → Type 0

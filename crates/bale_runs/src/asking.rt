@@ -13,7 +13,7 @@ ghost use Rattle.app_histo_ig.specs.AskingRuns.{AreAskersOf};
 ghost use Rattle.app_histo_ig.specs.ColumnAnswers.{IgHeard};
 ghost use Rattle.bale_words.specs.Ranges.{InRanges};
 ghost use Rattle.bale_answers.specs.AnswerEnds.{IsAnswerEnd};
-ghost use Rattle.bale_runs.specs.Asking.{TellsReplies, TellsBy, TurnsBy, TurnsOfAsking, FewestBy};
+ghost use Rattle.bale_runs.specs.Asking.{HasSummed, HasAsked, TellsBy, TurnsBy, TurnsOfAsking, FewestBy};
 ghost use Rattle.bale_runs.specs.RunEnds.{Fits, IsRunEnd};
 ghost use Rattle.bale_runs.specs.Jobs.{by_asking};
 ghost use Rattle.bale_runs.specs.Runs.{made_for, Tells};
@@ -133,10 +133,7 @@ fn sum_serially<L: Ledger>(
     steps: &mut Steps<L>,
 ) -> Result<Finished<AnyProgram>, NoMemory>
     requires ranges { InRanges command.now }
-    ensures ended { IfOk result (λ f. HaveEnded any_rules
-        (map sums_way.case (sums_starts (ranks command.now.grid) m.now)) f.progs) }
-    ensures rounds { IfOk result (λ f. Tells sums_rules (sums_starts (ranks command.now.grid) m.now)
-        (made_for true command.now) (manner_of Via.Convey command.now.travel.steady) f.rounds) }
+    ensures summed { IfOk result (HasSummed m.now (made_for true command.now) command.now.travel.steady) }
     ensures steps { steps.new ≤ steps.old + turns_within sums_rules
         (manner_of Via.Convey command.now.travel.steady) command.now.grid
         (sums_starts (ranks command.now.grid) m.now) 1 }
@@ -173,10 +170,7 @@ fn sum_on_threads<R: Threads + Wait + Clock + Sync, G: Gate + Sync>(
     gate: &G,
 ) -> Result<Finished<AnyProgram>, NoMemory>
     requires ranges { InRanges command.now }
-    ensures ended { IfOk result (λ f. HaveEnded any_rules
-        (map sums_way.case (sums_starts (ranks command.now.grid) m.now)) f.progs) }
-    ensures rounds { IfOk result (λ f. Tells sums_rules (sums_starts (ranks command.now.grid) m.now)
-        (made_for false command.now) (manner_of Via.Convey command.now.travel.steady) f.rounds) }
+    ensures { IfOk result (HasSummed m.now (made_for false command.now) command.now.travel.steady) }
 {
     let grid = &command.grid;
     let Travel {
@@ -209,9 +203,7 @@ fn hear_serially<L: Ledger>(
 ) -> Result<Finished<IgAsker>, NoMemory>
     requires ranges { InRanges command.now }
     requires ended { HaveEnded any_rules (map sums_way.case (sums_starts (ranks command.now.grid) m.now)) added }
-    ensures heard { IfOk result (λ f. IgHeard m.now f.progs) }
-    ensures rounds { IfOk result (λ f. TellsReplies m.now (made_for true command.now)
-        command.now.travel.steady f.rounds) }
+    ensures asked { IfOk result (HasAsked m.now (made_for true command.now) command.now.travel.steady) }
     ensures steps { steps.new ≤ steps.old + turns_of command.now.grid (length m.now.entries) }
     ensures fewest { OnOk result (steps.old + ranks command.now.grid ≤ steps.new) }
 {
@@ -239,9 +231,7 @@ fn hear_on_threads<R: Threads + Wait + Clock + Sync, G: Gate + Sync>(
 ) -> Result<Finished<IgAsker>, NoMemory>
     requires ranges { InRanges command.now }
     requires ended { HaveEnded any_rules (map sums_way.case (sums_starts (ranks command.now.grid) m.now)) added }
-    ensures heard { IfOk result (λ f. IgHeard m.now f.progs) }
-    ensures rounds { IfOk result (λ f. TellsReplies m.now (made_for false command.now)
-        command.now.travel.steady f.rounds) }
+    ensures { IfOk result (HasAsked m.now (made_for false command.now) command.now.travel.steady) }
 {
     m.known();
     let grid = &command.grid;
@@ -294,11 +284,8 @@ fn finish_asking<K: Sink>(
 ) -> Result<RunEnd, Refusal>
     requires task { command.now.task ≡ Task.Ig }
     requires heard { IgHeard m.now replied.progs }
-    ensures ending { IfOk result (λ f. IsAnswerEnd command.now.task (Subject.Matrix m.now) command.now.travel.generated
-        K.taken K.faults out.old out.new f.ending) }
-    ensures rounds { IfOk result (λ f. f.rounds ≡ sums ++ replied.rounds) }
-    ensures memory { IfErr result (λ r. r ≡ Refusal.NoMemory) }
-    ensures no_answer { OnErr result (out.new ≡ out.old) }
+    ensures { IsRunEnd command.now (Subject.Matrix m.now) (λ rounds. rounds ≡ sums ++ replied.rounds)
+        K.taken K.faults out.old out.new result }
 {
     let Finished {
         progs,

@@ -4,7 +4,8 @@ ghost use Rattle.bale_answers.specs.AnswerEnds.{IsAnswerEnd};
 ghost use Rattle.bale_runs.specs.Asking.{TellsCommand, TurnsOfCommand, FewestOfCommand};
 ghost use Rattle.bale_runs.specs.RunEnds.{Fits, IsRunEnd};
 ghost use Rattle.bale_runs.specs.Jobs.{as_asked, by_asking, via_of, manner_for};
-ghost use Rattle.bale_runs.specs.Runs.{made_for, HaveRun, TellsTask, TurnsOfTask, FewestOfTask};
+ghost use Rattle.bale_runs.specs.Runs.{made_for, HaveRun, TellsTask, IsTaskRun, TurnsOfTask, FewestOfTask};
+ghost use Rattle.rank_node.specs.Ledgers.{IsBlankOf};
 
 use crate::asking::{ask_on_threads, ask_serially};
 use app_cases::AnyProgram;
@@ -69,9 +70,7 @@ fn run_uncounted<L: Ledger, K: Sink>(
     out: &mut K,
     blank: Blank,
 ) -> Result<RunEnd, Refusal>
-    requires name { blank.name ≡ L.name }
-    requires parts { blank.parts ≡ L.parts }
-    requires some { 0 < L.parts }
+    requires blank { IsBlankOf L.name L.parts blank.name blank.parts }
     requires fit { Fits command.now subject.now true }
     ensures { IsRunEnd command.now subject.now (TellsCommand true command.now subject.now)
         K.taken K.faults out.old out.new result }
@@ -177,9 +176,8 @@ fn drive_serially<L: Ledger>(
     steps: &mut Steps<L>,
 ) -> Result<Finished<AnyProgram>, NoMemory>
     requires { Fits command.now subject.now true }
-    ensures ended { IfOk result (λ f. HaveRun command.now.task subject.now f.progs) }
-    ensures rounds { IfOk result (λ f. TellsTask command.now.task subject.now (made_for true command.now)
-        (manner_for command.now) f.rounds) }
+    ensures run { IfOk result (IsTaskRun command.now.task subject.now (made_for true command.now)
+        (manner_for command.now)) }
     ensures steps { TurnsOfTask command.now.task subject.now
         (manner_for command.now) command.now.grid steps.old steps.new }
     ensures fewest { IfOk result (λ f. FewestOfTask command.now.task subject.now
@@ -217,9 +215,8 @@ fn drive_on_threads<R: Threads + Wait + Clock + Sync, G: Gate + Sync>(
     gate: &G,
 ) -> Result<Finished<AnyProgram>, NoMemory>
     requires { Fits command.now subject.now false }
-    ensures ended { IfOk result (λ f. HaveRun command.now.task subject.now f.progs) }
-    ensures rounds { IfOk result (λ f. TellsTask command.now.task subject.now (made_for false command.now)
-        (manner_for command.now) f.rounds) }
+    ensures { IfOk result (IsTaskRun command.now.task subject.now (made_for false command.now)
+        (manner_for command.now)) }
 {
     let grid = &command.grid;
     let Travel {
@@ -263,11 +260,8 @@ fn finish_run<K: Sink>(
 ) -> Result<RunEnd, Refusal>
     requires fit { (serial : Bool) × Fits command.now subject.now serial }
     requires ended { HaveRun command.now.task subject.now run.progs }
-    ensures ending { IfOk result (λ f. IsAnswerEnd command.now.task subject.now command.now.travel.generated
-        K.taken K.faults out.old out.new f.ending) }
-    ensures rounds { IfOk result (λ f. f.rounds ≡ run.rounds) }
-    ensures memory { IfErr result (λ r. r ≡ Refusal.NoMemory) }
-    ensures no_answer { OnErr result (out.new ≡ out.old) }
+    ensures { IsRunEnd command.now subject.now (λ rounds. rounds ≡ run.rounds)
+        K.taken K.faults out.old out.new result }
 {
     let Finished { progs, rounds } = run;
     let generated = command.travel.generated;

@@ -1,9 +1,11 @@
 //! Askers by hand, and on grids of one to three hops with every kind of buffer.
 
 ghost use Rattle.std.specs.Prelude.{◌≡◌, ◌<◌, ◌≤◌, ◌^◌, length, IfOk};
+ghost use Rattle.item_buffer.specs.Capacity.{IsCap};
 ghost use Rattle.std.specs.List.{All};
 ghost use Rattle.drive_tests.specs.Adders.{adder_talk};
 ghost use Rattle.biconvey.specs.Drives.{AreAskers};
+ghost use Rattle.rank_node.specs.Ledgers.{IsBlankOf};
 
 use crate::adder::Adder;
 use crate::serial_tests::order_of;
@@ -81,8 +83,7 @@ fn ask<const CAP: usize, const HOPS: usize, L: Ledger>(
     steady: bool,
     steps: &mut Steps<L>,
 ) -> Result<Told, NoMemory>
-    requires some { 0 < CAP }
-    requires small { CAP ≤ 1024 }
+    requires cap { IsCap CAP }
     requires hops { length grid.now ≡ HOPS }
 {
     let ranks = grid.ranks();
@@ -96,9 +97,7 @@ fn ask<const CAP: usize, const HOPS: usize, L: Ledger>(
 
 /// Rank 0 asks rank 1.
 fn by_hand<L: Ledger>(alloc: Global, blank: Blank) -> Result<Option<Told>, NoMemory>
-    requires name { blank.name ≡ L.name }
-    requires parts { blank.parts ≡ L.parts }
-    requires some { 0 < L.parts }
+    requires blank { IsBlankOf L.name L.parts blank.name blank.parts }
 {
     let mut steps = Steps::<L>::new(blank);
     let Ok(grid) = Grid::new(&[2]) else {
@@ -114,9 +113,7 @@ fn by_hand<L: Ledger>(alloc: Global, blank: Blank) -> Result<Option<Told>, NoMem
 
 /// All ranks ask, on grids of one, two and three hops.
 fn on_grids<L: Ledger>(alloc: Global, blank: Blank) -> Result<[Option<Told>; 4], NoMemory>
-    requires name { blank.name ≡ L.name }
-    requires parts { blank.parts ≡ L.parts }
-    requires some { 0 < L.parts }
+    requires blank { IsBlankOf L.name L.parts blank.name blank.parts }
 {
     let mut steps = Steps::<L>::new(blank);
     let mut told = [None; 4];

@@ -1,6 +1,7 @@
 //! Askers on threads, by hand and on grids of one to three hops, and with every rank kept by the caller.
 
 ghost use Rattle.std.specs.Prelude.{◌≡◌, ◌<◌, ◌≤◌, length};
+ghost use Rattle.item_buffer.specs.Capacity.{IsCap};
 ghost use Rattle.case_table.specs.Capacities.{IsCapacity};
 
 use crate::asking_tests::{Told, adders_of, have_heard};
@@ -64,8 +65,7 @@ fn ask_here<const CAP: usize, const HOPS: usize, R: Threads + Wait + Clock + Syn
     crews: usize,
     threads: usize,
 ) -> Result<Told, NoMemory>
-    requires some { 0 < CAP }
-    requires small { CAP ≤ 1024 }
+    requires cap { IsCap CAP }
     requires hops { length grid.now ≡ HOPS }
 {
     let askers = adders_of(alloc, grid.ranks(), grid.ranks())?;

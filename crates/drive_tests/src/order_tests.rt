@@ -1,5 +1,6 @@
 //! The order in which `drive_serial` turns the ranks.
 ghost use Rattle.std.specs.Prelude.{◌≡◌, ◌<◌};
+ghost use Rattle.rank_node.specs.Ledgers.{IsBlankOf};
 
 use crate::serial_tests::order_of;
 use crate::watched::{Deed, Watch, Watched, progs_of};
@@ -13,9 +14,7 @@ use std::test::Fail;
 
 /// Which of three ranks were turned in the first two sweeps, where the sweeps go from rank 0 up, or from rank 2 down.
 fn turned_by<L: Ledger>(alloc: Global, reversed: bool, blank: Blank) -> Result<u64, NoMemory>
-    requires name { blank.name ≡ L.name }
-    requires parts { blank.parts ≡ L.parts }
-    requires some { 0 < L.parts }
+    requires blank { IsBlankOf L.name L.parts blank.name blank.parts }
 {
     let Ok(grid) = Grid::new(&[3]) else {
         return Ok(0);

@@ -1,5 +1,6 @@
 //! A rank that refuses each absorb: both drives answer that memory was wanting, and every rank goes on turning.
 ghost use Rattle.std.specs.Prelude.{◌≡◌, ◌<◌};
+ghost use Rattle.rank_node.specs.Ledgers.{IsBlankOf};
 
 use crate::gates::TestGate;
 use crate::serial_tests::order_of;
@@ -44,9 +45,7 @@ fn refused_absorbs(rt: HostRuntime) -> Result<(), Fail> {
 
 /// Whether `drive_serial` answers that memory was wanting, where rank 2 of four refuses each absorb.
 fn is_refused_serially<L: Ledger>(alloc: Global, via: Via, blank: Blank) -> Result<bool, NoMemory>
-    requires name { blank.name ≡ L.name }
-    requires parts { blank.parts ≡ L.parts }
-    requires some { 0 < L.parts }
+    requires blank { IsBlankOf L.name L.parts blank.name blank.parts }
 {
     let Ok(grid) = Grid::new(&[4]) else {
         return Ok(false);

@@ -1,10 +1,12 @@
 //! Counts by `drive_serial`: conveyors over one to three hops and exstacks, with the ranks of a sweep in both orders.
 ghost use Rattle.std.specs.Prelude.{◌≡◌, ◌+◌, ◌<◌, ◌≤◌, ◌-◌, ◌∷◌, [], cond, length, IfOk};
+ghost use Rattle.item_buffer.specs.Capacity.{IsCap};
 ghost use Rattle.std.specs.List.{All};
 ghost use Rattle.route_tensor.specs.Grid.{ranks};
 ghost use Rattle.round_program.specs.Canonical.{InRound, items_at};
 ghost use Rattle.round_examples.specs.Counts.{count_rules};
 ghost use Rattle.rank_group.specs.Ranks.{IsOrder};
+ghost use Rattle.rank_node.specs.Ledgers.{IsBlankOf};
 
 use bale_types::NoMemory;
 use rank_group::{Finished, Steps, Via, drive_serial};
@@ -98,8 +100,7 @@ fn count<const CAP: usize, const HOPS: usize, L: Ledger>(
     reversed: bool,
     steps: &mut Steps<L>,
 ) -> Result<Told, NoMemory>
-    requires some { 0 < CAP }
-    requires small { CAP ≤ 1024 }
+    requires cap { IsCap CAP }
     requires hops { length grid.now ≡ HOPS }
     requires one_hop { via ≡ Via.Exstack → length grid.now ≡ 1 }
     ensures few_by_conveyor { via ≡ Via.Convey → grid.now ≡ 1 ∷ [] → steps.new ≤ steps.old + 26 }
@@ -126,8 +127,7 @@ fn one_rank<const CAP: usize, L: Ledger>(
     reversed: bool,
     steps: &mut Steps<L>,
 ) -> Result<Option<Told>, NoMemory>
-    requires some { 0 < CAP }
-    requires small { CAP ≤ 1024 }
+    requires cap { IsCap CAP }
     ensures few_by_conveyor { via ≡ Via.Convey → steps.new ≤ steps.old + 26 }
     ensures few_by_exstack { via ≡ Via.Exstack → steps.new ≤ steps.old + 36 }
 {
@@ -171,9 +171,7 @@ fn count_all<L: Ledger>(
     reversed: bool,
     blank: Blank,
 ) -> Result<[Option<Told>; 3], NoMemory>
-    requires name { blank.name ≡ L.name }
-    requires parts { blank.parts ≡ L.parts }
-    requires some { 0 < L.parts }
+    requires blank { IsBlankOf L.name L.parts blank.name blank.parts }
 {
     let mut steps = Steps::<L>::new(blank);
     let one = one_rank::<64, L>(alloc, Via::Convey, reversed, &mut steps)?;
@@ -192,9 +190,7 @@ fn count_stacks<L: Ledger>(
     reversed: bool,
     blank: Blank,
 ) -> Result<[Option<Told>; 3], NoMemory>
-    requires name { blank.name ≡ L.name }
-    requires parts { blank.parts ≡ L.parts }
-    requires some { 0 < L.parts }
+    requires blank { IsBlankOf L.name L.parts blank.name blank.parts }
 {
     let mut steps = Steps::<L>::new(blank);
     let small = one_rank::<1, L>(alloc, Via::Exstack, reversed, &mut steps)?;

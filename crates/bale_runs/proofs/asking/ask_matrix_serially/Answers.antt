@@ -12,9 +12,9 @@ pub returns-clause-finish : goal.returns-clause-finish
 returns-clause-finish g c =
     finish c.args.command.now (subject.Matrix c.args.m.now)
     (λ (rs : List ClosedRound). TellsAsking c.args.m.now (made_for true c.args.command.now) c.args.command.now.travel.steady rs)
-    g.K.Sink.taken g.K.Sink.faults c.args.out.now c.finish_asking.new.out c.finish_asking.result c.finish_asking.ensures.ending c.finish_asking.ensures.rounds c.finish_asking.ensures.memory c.finish_asking.ensures.no_answer
+    g.K.Sink.taken g.K.Sink.faults c.args.out.now c.finish_asking.new.out c.finish_asking.result c.finish_asking.ensures
     (tells_asking c.args.m.now (made_for true c.args.command.now) c.args.command.now.travel.steady _ c.in_ok-summed.summed.rounds
-    c.in_ok-replied.replied.rounds c.in_ok-summed.ensures.rounds c.in_ok-replied.ensures.rounds refl)
+    c.in_ok-replied.replied.rounds c.in_ok-summed.ensures.summed.rounds c.in_ok-replied.ensures.asked.rounds refl)
 
 pub returns-in_err-summed-clause-steps : goal.returns-in_err-summed-clause-steps
 returns-in_err-summed-clause-steps g c =

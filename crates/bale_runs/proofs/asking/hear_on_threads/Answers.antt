@@ -1,15 +1,11 @@
 use Rattle.std.proofs.Common.{◌≤◌, ◌≡◌, [], ◌∷◌, false}
 use Rattle.route_tensor.proofs.Coordinates.{ranks_some}
 use Rattle.route_tensor.specs.Grid.{ranks}
-use Rattle.round_program.specs.Replies.{HaveHeard}
-use Rattle.rank_group.specs.declared.closed_round.ClosedRound.{ClosedRound}
-use Rattle.rank_group.specs.Rounds.{round_of}
 use Rattle.app_histo_ig.specs.Asking.{ig_talk}
 use Rattle.app_histo_ig.specs.AskingRuns.{AreAskersOf}
-use Rattle.app_histo_ig.specs.ColumnAnswers.{IgHeard}
 use Rattle.bale_runs.proofs.Asked.{they_ask}
-use Rattle.biconvey.specs.Drives.{TellsExchange}
-use Rattle.bale_runs.specs.Asking.{TellsReplies}
+use Rattle.biconvey.specs.Driven.{HasExchanged}
+use Rattle.bale_runs.specs.Asking.{HasAsked}
 use Rattle.bale_runs.proofs.Exchanges.{is_capacity, is_slots}
 use Rattle.bale_runs.specs.Runs.{made_for}
 use Rattle.bale_runs.proofs.Heard.{all_heard, if_ok, told_replies}
@@ -30,21 +26,16 @@ pub bi_threads-requires-clause-askers : goal.bi_threads-requires-clause-askers
 bi_threads-requires-clause-askers g c κs within =
     they_ask c.args.m.now (ranks c.args.command.now.grid) c.in_ok-askers.askers (are g (goal.at.bi_threads-requires-clause-askers g c).In_ok-askers)
 
-pub returns-clause-heard : goal.returns-clause-heard
-returns-clause-heard g c =
-    let x = (goal.at.returns-clause-heard g c).In_ok-askers in
-    if_ok c.bi_threads.result (λ f. HaveHeard ig_talk c.in_ok-askers.askers f.progs) (λ f. IgHeard c.args.m.now f.progs)
-    (λ f h. all_heard c.args.m.now (ranks c.args.command.now.grid) c.in_ok-askers.askers f.progs (some g x) c.known.ensures (are g x) h) c.bi_threads.ensures.heard
-
-pub returns-clause-rounds : goal.returns-clause-rounds
-returns-clause-rounds g c =
-    let x = (goal.at.returns-clause-rounds g c).In_ok-askers in
-    if_ok c.bi_threads.result
-    (λ f. (q : ClosedRound) × (r : ClosedRound) × (f.rounds ≡ q ∷ r ∷ []) × TellsExchange ig_talk c.in_ok-askers.askers
-    (made_for false c.args.command.now) c.args.command.now.travel.steady (round_of q) (round_of r))
-    (λ f. TellsReplies c.args.m.now (made_for false c.args.command.now) c.args.command.now.travel.steady f.rounds)
-    (λ f t. told_replies c.args.m.now (made_for false c.args.command.now) c.args.command.now.travel.steady f.rounds c.in_ok-askers.askers (are g x) t)
-    c.bi_threads.ensures.rounds
+pub returns : goal.returns
+returns g c =
+    let x = (goal.at.returns g c).In_ok-askers in
+    let steady = c.args.command.now.travel.steady in
+    if_ok c.bi_threads.result (HasExchanged ig_talk c.in_ok-askers.askers (made_for false c.args.command.now) steady) (HasAsked c.args.m.now (made_for false c.args.command.now) steady)
+    (λ run h. record {
+      heard = all_heard c.args.m.now (ranks c.args.command.now.grid) c.in_ok-askers.askers run.progs (some g x) c.known.ensures (are g x) h.heard;
+      rounds = told_replies c.args.m.now (made_for false c.args.command.now) steady run.rounds c.in_ok-askers.askers (are g x) h.rounds;
+    })
+    c.bi_threads.ensures.exchanged
 
 pub bi_threads-requires-clause-capacity : goal.bi_threads-requires-clause-capacity
 bi_threads-requires-clause-capacity g c κs within = is_capacity c.args.command.now.travel.buffer c.requires.ranges.travel.buffer

@@ -1,16 +1,12 @@
 use Rattle.std.proofs.Common.{◌≤◌, ◌≡◌, ◌+◌, ◌∙◌, [], ◌∷◌, subst, true}
 use Rattle.route_tensor.proofs.Coordinates.{ranks_some}
 use Rattle.route_tensor.specs.Grid.{ranks}
-use Rattle.round_program.specs.Replies.{HaveHeard}
-use Rattle.rank_group.specs.declared.closed_round.ClosedRound.{ClosedRound}
-use Rattle.rank_group.specs.Rounds.{round_of}
 use Rattle.app_histo_ig.specs.Asking.{ig_talk}
 use Rattle.app_histo_ig.specs.AskingRuns.{AreAskersOf}
-use Rattle.app_histo_ig.specs.ColumnAnswers.{IgHeard}
 use Rattle.bale_runs.proofs.Asked.{they_ask}
-use Rattle.biconvey.specs.Drives.{TellsExchange}
+use Rattle.biconvey.specs.Driven.{HasExchanged, HasSweptBoth}
 use Rattle.biconvey.specs.Worlds.{turns_of}
-use Rattle.bale_runs.specs.Asking.{TellsReplies}
+use Rattle.bale_runs.specs.Asking.{HasAsked}
 use Rattle.bale_runs.proofs.Exchanges.{is_capacity, is_slots}
 use Rattle.bale_runs.specs.Runs.{made_for}
 use Rattle.bale_runs.proofs.Heard.{all_heard, if_ok, one_each, told_replies}
@@ -36,21 +32,16 @@ pub bi_serial-requires-clause-order : goal.bi_serial-requires-clause-order
 bi_serial-requires-clause-order g c =
     ordered c.ranks.result (ranks c.args.command.now.grid) c.deref.result.now (c.deref.ensures.value ∙ c.in_ok-order.ensures) c.ranks.ensures.value
 
-pub returns-clause-heard : goal.returns-clause-heard
-returns-clause-heard g c =
-    let x = (goal.at.returns-clause-heard g c).In_ok-askers in
-    if_ok c.bi_serial.result (λ f. HaveHeard ig_talk c.in_ok-askers.askers f.progs) (λ f. IgHeard c.args.m.now f.progs)
-    (λ f h. all_heard c.args.m.now (ranks c.args.command.now.grid) c.in_ok-askers.askers f.progs (some g x) c.known.ensures (are g x) h) c.bi_serial.ensures.heard
-
-pub returns-clause-rounds : goal.returns-clause-rounds
-returns-clause-rounds g c =
-    let x = (goal.at.returns-clause-rounds g c).In_ok-askers in
-    if_ok c.bi_serial.result
-    (λ f. (q : ClosedRound) × (r : ClosedRound) × (f.rounds ≡ q ∷ r ∷ []) × TellsExchange ig_talk c.in_ok-askers.askers
-    (made_for true c.args.command.now) c.args.command.now.travel.steady (round_of q) (round_of r))
-    (λ f. TellsReplies c.args.m.now (made_for true c.args.command.now) c.args.command.now.travel.steady f.rounds)
-    (λ f t. told_replies c.args.m.now (made_for true c.args.command.now) c.args.command.now.travel.steady f.rounds c.in_ok-askers.askers (are g x) t)
-    c.bi_serial.ensures.rounds
+pub returns-clause-asked : goal.returns-clause-asked
+returns-clause-asked g c =
+    let x = (goal.at.returns-clause-asked g c).In_ok-askers in
+    let steady = c.args.command.now.travel.steady in
+    if_ok c.bi_serial.result (HasExchanged ig_talk c.in_ok-askers.askers (made_for true c.args.command.now) steady) (HasAsked c.args.m.now (made_for true c.args.command.now) steady)
+    (λ run h. record {
+      heard = all_heard c.args.m.now (ranks c.args.command.now.grid) c.in_ok-askers.askers run.progs (some g x) c.known.ensures (are g x) h.heard;
+      rounds = told_replies c.args.m.now (made_for true c.args.command.now) steady run.rounds c.in_ok-askers.askers (are g x) h.rounds;
+    })
+    c.bi_serial.ensures.exchanged
 
 pub returns-clause-steps : goal.returns-clause-steps
 returns-clause-steps g c =
@@ -62,3 +53,8 @@ bi_serial-requires-clause-capacity g c = is_capacity c.args.command.now.travel.b
 
 pub bi_serial-requires-clause-slots : goal.bi_serial-requires-clause-slots
 bi_serial-requires-clause-slots g c = is_slots c.args.command.now.travel.slots c.requires.ranges.travel.slots
+
+pub returns-clause-fewest : goal.returns-clause-fewest
+returns-clause-fewest g c =
+    if_ok c.bi_serial.result (HasSweptBoth c.args.command.now.grid c.args.steps.now c.bi_serial.new.steps) (λ run. c.args.steps.now + ranks c.args.command.now.grid ≤ c.bi_serial.new.steps)
+    (λ run h. h.fewest) c.bi_serial.ensures.swept

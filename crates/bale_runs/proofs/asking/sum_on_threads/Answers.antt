@@ -2,15 +2,16 @@ use Rattle.std.proofs.Common.{◌<◌, ◌≤◌, ◌≡◌, ◌∙◌, ℕ, Lis
 use Rattle.route_tensor.proofs.Coordinates.{ranks_some}
 use Rattle.route_tensor.specs.Grid.{ranks}
 use Rattle.rank_node.specs.Movers.{manner_of}
+use Rattle.rank_group.specs.Driven.{HasFinished}
 use Rattle.rank_node.specs.declared.via.Via.TheVariants as via
-use Rattle.round_program.specs.Canonical.{InRound, EndsWithin, HaveEnded}
+use Rattle.round_program.specs.Canonical.{InRound, EndsWithin}
 use Rattle.app_cases.specs.Any.{any_rules, sums_way}
-use Rattle.app_histo_ig.specs.Sums.{sums_rules}
 use Rattle.app_histo_ig.specs.SumsRuns.{sums_starts}
-use Rattle.bale_runs.specs.Runs.{made_for, Tells}
-use Rattle.bale_runs.proofs.Cases.{DriveTells, tells}
+use Rattle.bale_runs.specs.Asking.{HasSummed}
+use Rattle.bale_runs.specs.Runs.{made_for}
+use Rattle.bale_runs.proofs.Cases.{tells}
 use Rattle.bale_runs.proofs.Exchanges.{is_capacity, is_slots}
-use Rattle.bale_runs.proofs.Heard.{if_ok, if_ok_both, sums_at}
+use Rattle.bale_runs.proofs.Heard.{if_ok, sums_at}
 use Rattle.bale_runs.proofs.asking.sum_on_threads.Given.{Over}
 use Rattle.bale_runs.proofs.asking.sum_on_threads.Goals.{In_ok-progs}
 use Rattle.bale_runs.proofs.asking.sum_on_threads.Goals as goal
@@ -31,27 +32,23 @@ some g c =
 are : (g : Over) (c : In_ok-progs g) → c.in_ok-progs.progs ≡ map sums_way.case (sums_starts (ranks c.args.command.now.grid) c.args.m.now)
 are g c = c.in_ok-progs.ensures.starts ∙ ap (λ n. map sums_way.case (sums_starts n c.args.m.now)) c.ranks.ensures.value
 
-pub case_threads-requires-clause-begins : goal.case_threads-requires-clause-begins
-case_threads-requires-clause-begins g c κs within =
-    subst (λ n. (shape : List ℕ) × (most : ℕ) × InRound any_rules n 0 shape most c.in_ok-progs.progs × EndsWithin any_rules c.in_ok-progs.progs most) c.ranks.ensures.value
-    c.in_ok-progs.ensures.begins
+pub case_threads-requires-clause-run : goal.case_threads-requires-clause-run
+case_threads-requires-clause-run g c κs within = record {
+  one_hop = λ e. absurd cc;
+  begins = subst (λ n. (shape : List ℕ) × (most : ℕ) × InRound any_rules n 0 shape most c.in_ok-progs.progs × EndsWithin any_rules c.in_ok-progs.progs most) c.ranks.ensures.value
+      c.in_ok-progs.ensures.begins;
+}
 
-pub returns-clause-ended : goal.returns-clause-ended
-returns-clause-ended g c =
-    let x = (goal.at.returns-clause-ended g c).In_ok-progs in
-    if_ok c.case_threads.result (λ f. HaveEnded any_rules c.in_ok-progs.progs f.progs) (λ f. HaveEnded any_rules (map sums_way.case (sums_starts (ranks c.args.command.now.grid) c.args.m.now)) f.progs)
-    (λ f h. sums_at c.args.m.now (ranks c.args.command.now.grid) c.in_ok-progs.progs f.progs (are g x) h) c.case_threads.ensures.ended
-
-pub returns-clause-rounds : goal.returns-clause-rounds
-returns-clause-rounds g c =
-    let x = (goal.at.returns-clause-rounds g c).In_ok-progs in
-    if_ok_both c.case_threads.result (λ f. HaveEnded any_rules c.in_ok-progs.progs f.progs)
-    (λ f. DriveTells c.in_ok-progs.progs (made_for false c.args.command.now) (manner_of via.Convey c.args.command.now.travel.steady) f.rounds)
-    (λ f. Tells sums_rules (sums_starts (ranks c.args.command.now.grid) c.args.m.now) (made_for false c.args.command.now)
-    (manner_of via.Convey c.args.command.now.travel.steady) f.rounds)
-    (λ f h t. tells sums_way.is_case (sums_starts (ranks c.args.command.now.grid) c.args.m.now) c.in_ok-progs.progs f.progs
-    (made_for false c.args.command.now) (manner_of via.Convey c.args.command.now.travel.steady) f.rounds (are g x) (some g x) h t)
-    c.case_threads.ensures.ended c.case_threads.ensures.rounds
+pub returns : goal.returns
+returns g c =
+    let x = (goal.at.returns g c).In_ok-progs in
+    let p = ranks c.args.command.now.grid in
+    if_ok c.case_threads.result (HasFinished any_rules c.in_ok-progs.progs (made_for false c.args.command.now) (manner_of via.Convey c.args.command.now.travel.steady)) (HasSummed c.args.m.now (made_for false c.args.command.now) c.args.command.now.travel.steady)
+    (λ run h. record {
+      ended = sums_at c.args.m.now p c.in_ok-progs.progs run.progs (are g x) h.ended;
+      rounds = tells sums_way.is_case (sums_starts p c.args.m.now) c.in_ok-progs.progs (made_for false c.args.command.now) (manner_of via.Convey c.args.command.now.travel.steady) run (are g x) (some g x) h;
+    })
+    c.case_threads.ensures.finished
 
 pub case_threads-requires-clause-capacity : goal.case_threads-requires-clause-capacity
 case_threads-requires-clause-capacity g c κs within = is_capacity c.args.command.now.travel.buffer c.requires.ranges.travel.buffer

@@ -2,16 +2,17 @@ use Rattle.std.proofs.Common.{◌<◌, ◌≤◌, ◌≡◌, ◌∙◌, ℕ, Lis
 use Rattle.route_tensor.proofs.Coordinates.{ranks_some}
 use Rattle.route_tensor.specs.Grid.{ranks}
 use Rattle.rank_node.specs.Movers.{manner_of}
+use Rattle.rank_group.specs.Driven.{HasFinished, HasSwept}
 use Rattle.rank_node.specs.declared.via.Via.TheVariants as via
-use Rattle.round_program.specs.Canonical.{InRound, EndsWithin, HasRounds, HaveEnded}
+use Rattle.round_program.specs.Canonical.{InRound, EndsWithin}
 use Rattle.app_cases.specs.Any.{any_rules, sums_way}
-use Rattle.app_histo_ig.specs.Sums.{sums_rules}
 use Rattle.app_histo_ig.specs.SumsRuns.{sums_starts}
 use Rattle.app_histo_ig.proofs.SumsStarts.{one_round}
-use Rattle.bale_runs.specs.Runs.{made_for, Tells}
-use Rattle.bale_runs.proofs.Cases.{DriveTells, tells, fewest, on_all}
+use Rattle.bale_runs.specs.Asking.{HasSummed}
+use Rattle.bale_runs.specs.Runs.{made_for}
+use Rattle.bale_runs.proofs.Cases.{tells, fewest}
 use Rattle.bale_runs.proofs.Exchanges.{is_capacity, is_slots}
-use Rattle.bale_runs.proofs.Heard.{if_ok, if_ok_both, sums_at, sums_turns}
+use Rattle.bale_runs.proofs.Heard.{if_ok, sums_at, sums_turns}
 use Rattle.bale_runs.proofs.Orders.{ordered}
 use Rattle.bale_runs.proofs.asking.sum_serially.Given.{Over}
 use Rattle.bale_runs.proofs.asking.sum_serially.Goals.{In_ok-progs}
@@ -33,31 +34,27 @@ some g c =
 are : (g : Over) (c : In_ok-progs g) → c.in_ok-progs.progs ≡ map sums_way.case (sums_starts (ranks c.args.command.now.grid) c.args.m.now)
 are g c = c.in_ok-progs.ensures.starts ∙ ap (λ n. map sums_way.case (sums_starts n c.args.m.now)) c.ranks.ensures.value
 
-pub case_serial-requires-clause-begins : goal.case_serial-requires-clause-begins
-case_serial-requires-clause-begins g c =
-    subst (λ n. (shape : List ℕ) × (most : ℕ) × InRound any_rules n 0 shape most c.in_ok-progs.progs × EndsWithin any_rules c.in_ok-progs.progs most) c.ranks.ensures.value
-    c.in_ok-progs.ensures.begins
+pub case_serial-requires-clause-run : goal.case_serial-requires-clause-run
+case_serial-requires-clause-run g c = record {
+  one_hop = λ e. absurd cc;
+  begins = subst (λ n. (shape : List ℕ) × (most : ℕ) × InRound any_rules n 0 shape most c.in_ok-progs.progs × EndsWithin any_rules c.in_ok-progs.progs most) c.ranks.ensures.value
+      c.in_ok-progs.ensures.begins;
+}
 
 pub case_serial-requires-clause-order : goal.case_serial-requires-clause-order
 case_serial-requires-clause-order g c =
     ordered c.ranks-2.result (ranks c.args.command.now.grid) c.deref.result.now (c.deref.ensures.value ∙ c.in_ok-order.ensures) c.ranks-2.ensures.value
 
-pub returns-clause-ended : goal.returns-clause-ended
-returns-clause-ended g c =
-    let x = (goal.at.returns-clause-ended g c).In_ok-progs in
-    if_ok c.case_serial.result (λ f. HaveEnded any_rules c.in_ok-progs.progs f.progs) (λ f. HaveEnded any_rules (map sums_way.case (sums_starts (ranks c.args.command.now.grid) c.args.m.now)) f.progs)
-    (λ f h. sums_at c.args.m.now (ranks c.args.command.now.grid) c.in_ok-progs.progs f.progs (are g x) h) c.case_serial.ensures.ended
-
-pub returns-clause-rounds : goal.returns-clause-rounds
-returns-clause-rounds g c =
-    let x = (goal.at.returns-clause-rounds g c).In_ok-progs in
-    if_ok_both c.case_serial.result (λ f. HaveEnded any_rules c.in_ok-progs.progs f.progs)
-    (λ f. DriveTells c.in_ok-progs.progs (made_for true c.args.command.now) (manner_of via.Convey c.args.command.now.travel.steady) f.rounds)
-    (λ f. Tells sums_rules (sums_starts (ranks c.args.command.now.grid) c.args.m.now) (made_for true c.args.command.now)
-    (manner_of via.Convey c.args.command.now.travel.steady) f.rounds)
-    (λ f h t. tells sums_way.is_case (sums_starts (ranks c.args.command.now.grid) c.args.m.now) c.in_ok-progs.progs f.progs
-    (made_for true c.args.command.now) (manner_of via.Convey c.args.command.now.travel.steady) f.rounds (are g x) (some g x) h t)
-    c.case_serial.ensures.ended c.case_serial.ensures.rounds
+pub returns-clause-summed : goal.returns-clause-summed
+returns-clause-summed g c =
+    let x = (goal.at.returns-clause-summed g c).In_ok-progs in
+    let p = ranks c.args.command.now.grid in
+    if_ok c.case_serial.result (HasFinished any_rules c.in_ok-progs.progs (made_for true c.args.command.now) (manner_of via.Convey c.args.command.now.travel.steady)) (HasSummed c.args.m.now (made_for true c.args.command.now) c.args.command.now.travel.steady)
+    (λ run h. record {
+      ended = sums_at c.args.m.now p c.in_ok-progs.progs run.progs (are g x) h.ended;
+      rounds = tells sums_way.is_case (sums_starts p c.args.m.now) c.in_ok-progs.progs (made_for true c.args.command.now) (manner_of via.Convey c.args.command.now.travel.steady) run (are g x) (some g x) h;
+    })
+    c.case_serial.ensures.finished
 
 pub returns-clause-steps : goal.returns-clause-steps
 returns-clause-steps g c =
@@ -75,6 +72,7 @@ returns-clause-fewest g c =
     let x = (goal.at.returns-clause-fewest g c).In_ok-progs in
     let dims = c.args.command.now.grid in
     let starts = sums_starts (ranks dims) c.args.m.now in
-    on_all c.case_serial.result (λ n. HasRounds any_rules c.in_ok-progs.progs n) (λ n. c.args.steps.now + 2 * n * ranks dims ≤ c.case_serial.new.steps)
-    (c.args.steps.now + 2 * ranks dims ≤ c.case_serial.new.steps)
-    (λ f. fewest sums_way.is_case starts c.in_ok-progs.progs dims c.args.steps.now c.case_serial.new.steps (are g x) (some g x) f 1 (one_round starts)) c.case_serial.ensures.fewest
+    if_ok c.case_serial.result (HasSwept any_rules c.in_ok-progs.progs (made_for true c.args.command.now) (manner_of via.Convey c.args.command.now.travel.steady) c.deref.result.now c.args.steps.now c.case_serial.new.steps)
+    (λ run. c.args.steps.now + 2 * ranks dims ≤ c.case_serial.new.steps)
+    (λ run h. fewest sums_way.is_case starts c.in_ok-progs.progs dims c.args.steps.now c.case_serial.new.steps (are g x) (some g x) h.fewest 1 (one_round starts))
+    c.case_serial.ensures.swept

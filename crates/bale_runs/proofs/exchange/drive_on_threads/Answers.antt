@@ -1,15 +1,16 @@
 use Rattle.std.proofs.Common.{◌<◌, ◌≤◌, ◌≡◌, ◌∙◌, ℕ, List, false, length, ap, subst, sym}
 use Rattle.route_tensor.proofs.Coordinates.{ranks_some}
 use Rattle.route_tensor.specs.Grid.{ranks}
-use Rattle.round_program.specs.Canonical.{InRound, EndsWithin, HaveEnded}
+use Rattle.round_program.specs.Canonical.{InRound, EndsWithin}
 use Rattle.app_cases.specs.Any.{any_rules}
 use Rattle.bale_runs.specs.Jobs.{manner_for}
 use Rattle.bale_answers.specs.Tasks.{starts_of}
-use Rattle.bale_runs.specs.Runs.{made_for, HaveRun, TellsTask}
+use Rattle.bale_runs.specs.Runs.{made_for, IsTaskRun}
 use Rattle.rank_node.specs.Movers.{manner_of}
-use Rattle.bale_runs.proofs.Cases.{DriveTells, have_run, tells_task}
-use Rattle.bale_runs.proofs.Exchanges.{is_capacity, is_slots}
-use Rattle.bale_runs.proofs.Heard.{if_ok, if_ok_both}
+use Rattle.rank_group.specs.Driven.{HasFinished}
+use Rattle.bale_runs.proofs.Cases.{task_run}
+use Rattle.bale_runs.proofs.Exchanges.{is_capacity, is_slots, fit_grid}
+use Rattle.bale_runs.proofs.Heard.{if_ok}
 use Rattle.bale_runs.proofs.exchange.drive_on_threads.Given.{Over}
 use Rattle.bale_runs.proofs.exchange.drive_on_threads.Goals.{In_ok-progs}
 use Rattle.bale_runs.proofs.exchange.drive_on_threads.Goals as goal
@@ -36,26 +37,19 @@ case_threads-requires-clause-capacity g c κs within = is_capacity c.args.comman
 pub case_threads-requires-clause-slots : goal.case_threads-requires-clause-slots
 case_threads-requires-clause-slots g c κs within = is_slots c.args.command.now.travel.slots c.requires.ranges.travel.slots
 
-pub case_threads-requires-clause-begins : goal.case_threads-requires-clause-begins
-case_threads-requires-clause-begins g c κs within =
-    subst (λ n. (shape : List ℕ) × (most : ℕ) × InRound any_rules n 0 shape most c.in_ok-progs.progs × EndsWithin any_rules c.in_ok-progs.progs most) c.ranks.ensures.value
-    c.in_ok-progs.ensures.begins
+pub case_threads-requires-clause-run : goal.case_threads-requires-clause-run
+case_threads-requires-clause-run g c κs within = record {
+  one_hop = λ e. fit_grid c.args.command.now c.args.subject.now false c.requires.fits (sym c.via_of.ensures ∙ e);
+  begins = subst (λ n. (shape : List ℕ) × (most : ℕ) × InRound any_rules n 0 shape most c.in_ok-progs.progs × EndsWithin any_rules c.in_ok-progs.progs most) c.ranks.ensures.value
+      c.in_ok-progs.ensures.begins;
+}
 
-pub returns-clause-ended : goal.returns-clause-ended
-returns-clause-ended g c =
-    let x = (goal.at.returns-clause-ended g c).In_ok-progs in
-    if_ok c.case_threads.result (λ f. HaveEnded any_rules c.in_ok-progs.progs f.progs) (λ f. HaveRun c.args.command.now.task c.args.subject.now f.progs)
-    (λ f h. have_run c.args.command.now.task c.args.subject.now (ranks c.args.command.now.grid) c.in_ok-progs.progs f.progs
-    (ranks_some c.args.command.now.grid c.ranks.ensures.grid.positive) c.ranks.ensures.grid.small (are g x) (some g x) h)
-    c.case_threads.ensures.ended
-
-pub returns-clause-rounds : goal.returns-clause-rounds
-returns-clause-rounds g c =
-    let x = (goal.at.returns-clause-rounds g c).In_ok-progs in
-    if_ok_both c.case_threads.result (λ f. HaveEnded any_rules c.in_ok-progs.progs f.progs)
-    (λ f. DriveTells c.in_ok-progs.progs (made_for false c.args.command.now) (manner_of c.via_of.result c.args.command.now.travel.steady) f.rounds)
-    (λ f. TellsTask c.args.command.now.task c.args.subject.now (made_for false c.args.command.now) (manner_for c.args.command.now) f.rounds)
-    (λ f h t. tells_task c.args.command.now.task c.args.subject.now (made_for false c.args.command.now) (manner_for c.args.command.now) f.rounds c.in_ok-progs.progs f.progs
-    (are g x) (some g x) h
-    (subst (λ v. DriveTells c.in_ok-progs.progs (made_for false c.args.command.now) (manner_of v c.args.command.now.travel.steady) f.rounds) c.via_of.ensures t))
-    c.case_threads.ensures.ended c.case_threads.ensures.rounds
+pub returns : goal.returns
+returns g c =
+    let x = (goal.at.returns g c).In_ok-progs in
+    if_ok c.case_threads.result (HasFinished any_rules c.in_ok-progs.progs (made_for false c.args.command.now) (manner_of c.via_of.result c.args.command.now.travel.steady))
+    (IsTaskRun c.args.command.now.task c.args.subject.now (made_for false c.args.command.now) (manner_for c.args.command.now))
+    (λ run h. task_run c.args.command.now.task c.args.subject.now (made_for false c.args.command.now) (manner_for c.args.command.now) c.in_ok-progs.progs run
+    (ranks_some c.args.command.now.grid c.ranks.ensures.grid.positive) c.ranks.ensures.grid.small (are g x) (some g x)
+    (subst (λ v. HasFinished any_rules c.in_ok-progs.progs (made_for false c.args.command.now) (manner_of v c.args.command.now.travel.steady) run) c.via_of.ensures h))
+    c.case_threads.ensures.finished

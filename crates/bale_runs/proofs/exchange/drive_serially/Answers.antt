@@ -1,16 +1,16 @@
 use Rattle.std.proofs.Common.{◌<◌, ◌≤◌, ◌≡◌, ◌∙◌, ℕ, List, true, length, ap, subst, sym, ◌+◌, ◌*◌}
 use Rattle.route_tensor.proofs.Coordinates.{ranks_some}
 use Rattle.route_tensor.specs.Grid.{ranks}
-use Rattle.round_program.specs.Canonical.{InRound, EndsWithin, HasRounds, HaveEnded}
+use Rattle.round_program.specs.Canonical.{InRound, EndsWithin}
 use Rattle.app_cases.specs.Any.{any_rules}
 use Rattle.bale_runs.specs.Jobs.{manner_for}
 use Rattle.bale_answers.specs.Tasks.{starts_of}
-use Rattle.bale_runs.specs.Runs.{made_for, HaveRun, TellsTask, FewestOfTask}
+use Rattle.bale_runs.specs.Runs.{made_for, IsTaskRun, FewestOfTask}
 use Rattle.rank_node.specs.Movers.{manner_of}
-use Rattle.rank_group.specs.Told.{turns_within}
-use Rattle.bale_runs.proofs.Cases.{DriveTells, have_run, tells_task, turns_of_task, fewest_of_task, on_all}
-use Rattle.bale_runs.proofs.Exchanges.{is_capacity, is_slots}
-use Rattle.bale_runs.proofs.Heard.{if_ok, if_ok_both}
+use Rattle.rank_group.specs.Driven.{HasFinished, HasSwept, WithinTurns}
+use Rattle.bale_runs.proofs.Cases.{task_run, turns_of_task, fewest_of_task}
+use Rattle.bale_runs.proofs.Exchanges.{is_capacity, is_slots, fit_grid}
+use Rattle.bale_runs.proofs.Heard.{if_ok}
 use Rattle.bale_runs.proofs.Orders.{ordered}
 use Rattle.bale_runs.proofs.exchange.drive_serially.Given.{Over}
 use Rattle.bale_runs.proofs.exchange.drive_serially.Goals.{In_ok-progs}
@@ -38,46 +38,40 @@ case_serial-requires-clause-capacity g c = is_capacity c.args.command.now.travel
 pub case_serial-requires-clause-slots : goal.case_serial-requires-clause-slots
 case_serial-requires-clause-slots g c = is_slots c.args.command.now.travel.slots c.requires.ranges.travel.slots
 
-pub case_serial-requires-clause-begins : goal.case_serial-requires-clause-begins
-case_serial-requires-clause-begins g c =
-    subst (λ n. (shape : List ℕ) × (most : ℕ) × InRound any_rules n 0 shape most c.in_ok-progs.progs × EndsWithin any_rules c.in_ok-progs.progs most) c.ranks.ensures.value
-    c.in_ok-progs.ensures.begins
+pub case_serial-requires-clause-run : goal.case_serial-requires-clause-run
+case_serial-requires-clause-run g c = record {
+  one_hop = λ e. fit_grid c.args.command.now c.args.subject.now true c.requires.fits (sym c.via_of.ensures ∙ e);
+  begins = subst (λ n. (shape : List ℕ) × (most : ℕ) × InRound any_rules n 0 shape most c.in_ok-progs.progs × EndsWithin any_rules c.in_ok-progs.progs most) c.ranks.ensures.value
+      c.in_ok-progs.ensures.begins;
+}
 
 pub case_serial-requires-clause-order : goal.case_serial-requires-clause-order
 case_serial-requires-clause-order g c =
     ordered c.ranks-2.result (ranks c.args.command.now.grid) c.deref.result.now (c.deref.ensures.value ∙ c.in_ok-order.ensures) c.ranks-2.ensures.value
 
-pub returns-clause-ended : goal.returns-clause-ended
-returns-clause-ended g c =
-    let x = (goal.at.returns-clause-ended g c).In_ok-progs in
-    if_ok c.case_serial.result (λ f. HaveEnded any_rules c.in_ok-progs.progs f.progs) (λ f. HaveRun c.args.command.now.task c.args.subject.now f.progs)
-    (λ f h. have_run c.args.command.now.task c.args.subject.now (ranks c.args.command.now.grid) c.in_ok-progs.progs f.progs
-    (ranks_some c.args.command.now.grid c.ranks.ensures.grid.positive) c.ranks.ensures.grid.small (are g x) (some g x) h)
-    c.case_serial.ensures.ended
-
-pub returns-clause-rounds : goal.returns-clause-rounds
-returns-clause-rounds g c =
-    let x = (goal.at.returns-clause-rounds g c).In_ok-progs in
-    if_ok_both c.case_serial.result (λ f. HaveEnded any_rules c.in_ok-progs.progs f.progs)
-    (λ f. DriveTells c.in_ok-progs.progs (made_for true c.args.command.now) (manner_of c.via_of.result c.args.command.now.travel.steady) f.rounds)
-    (λ f. TellsTask c.args.command.now.task c.args.subject.now (made_for true c.args.command.now) (manner_for c.args.command.now) f.rounds)
-    (λ f h t. tells_task c.args.command.now.task c.args.subject.now (made_for true c.args.command.now) (manner_for c.args.command.now) f.rounds c.in_ok-progs.progs f.progs
-    (are g x) (some g x) h
-    (subst (λ v. DriveTells c.in_ok-progs.progs (made_for true c.args.command.now) (manner_of v c.args.command.now.travel.steady) f.rounds) c.via_of.ensures t))
-    c.case_serial.ensures.ended c.case_serial.ensures.rounds
+pub returns-clause-run : goal.returns-clause-run
+returns-clause-run g c =
+    let x = (goal.at.returns-clause-run g c).In_ok-progs in
+    if_ok c.case_serial.result (HasFinished any_rules c.in_ok-progs.progs (made_for true c.args.command.now) (manner_of c.via_of.result c.args.command.now.travel.steady))
+    (IsTaskRun c.args.command.now.task c.args.subject.now (made_for true c.args.command.now) (manner_for c.args.command.now))
+    (λ run h. task_run c.args.command.now.task c.args.subject.now (made_for true c.args.command.now) (manner_for c.args.command.now) c.in_ok-progs.progs run
+    (ranks_some c.args.command.now.grid c.ranks.ensures.grid.positive) c.ranks.ensures.grid.small (are g x) (some g x)
+    (subst (λ v. HasFinished any_rules c.in_ok-progs.progs (made_for true c.args.command.now) (manner_of v c.args.command.now.travel.steady) run) c.via_of.ensures h))
+    c.case_serial.ensures.finished
 
 pub returns-clause-steps : goal.returns-clause-steps
 returns-clause-steps g c =
     let x = (goal.at.returns-clause-steps g c).In_ok-progs in
     turns_of_task c.args.command.now.task c.args.subject.now (manner_for c.args.command.now) c.args.command.now.grid c.args.steps.now c.case_serial.new.steps c.in_ok-progs.progs
     (are g x) (some g x)
-    (subst (λ v. (n : ℕ) → HasRounds any_rules c.in_ok-progs.progs n → c.case_serial.new.steps ≤ c.args.steps.now + turns_within any_rules (manner_of v c.args.command.now.travel.steady) c.args.command.now.grid c.in_ok-progs.progs n)
+    (subst (λ v. WithinTurns any_rules c.in_ok-progs.progs (manner_of v c.args.command.now.travel.steady) c.args.command.now.grid c.args.steps.now c.case_serial.new.steps)
     c.via_of.ensures c.case_serial.ensures.steps)
 
 pub returns-clause-fewest : goal.returns-clause-fewest
 returns-clause-fewest g c =
     let x = (goal.at.returns-clause-fewest g c).In_ok-progs in
     let dims = c.args.command.now.grid in
-    on_all c.case_serial.result (λ n. HasRounds any_rules c.in_ok-progs.progs n) (λ n. c.args.steps.now + 2 * n * ranks dims ≤ c.case_serial.new.steps)
-    (FewestOfTask c.args.command.now.task c.args.subject.now dims c.args.steps.now c.case_serial.new.steps)
-    (fewest_of_task c.args.command.now.task c.args.subject.now dims c.args.steps.now c.case_serial.new.steps c.in_ok-progs.progs (are g x) (some g x)) c.case_serial.ensures.fewest
+    if_ok c.case_serial.result (HasSwept any_rules c.in_ok-progs.progs (made_for true c.args.command.now) (manner_of c.via_of.result c.args.command.now.travel.steady) c.deref.result.now c.args.steps.now c.case_serial.new.steps)
+    (λ run. FewestOfTask c.args.command.now.task c.args.subject.now dims c.args.steps.now c.case_serial.new.steps)
+    (λ run h. fewest_of_task c.args.command.now.task c.args.subject.now dims c.args.steps.now c.case_serial.new.steps c.in_ok-progs.progs (are g x) (some g x) h.fewest)
+    c.case_serial.ensures.swept

@@ -9,4 +9,4 @@ pub returns : goal.returns
 returns g c =
     finish c.args.command.now c.args.subject.now
     (λ (rs : List ClosedRound). TellsTask c.args.command.now.task c.args.subject.now (made_for false c.args.command.now) (manner_for c.args.command.now) rs)
-    g.K.Sink.taken g.K.Sink.faults c.args.out.now c.finish_run.new.out c.finish_run.result c.finish_run.ensures.ending c.finish_run.ensures.rounds c.finish_run.ensures.memory c.finish_run.ensures.no_answer c.in_ok-run.ensures.rounds
+    g.K.Sink.taken g.K.Sink.faults c.args.out.now c.finish_run.new.out c.finish_run.result c.finish_run.ensures c.in_ok-run.ensures.rounds

@@ -1,4 +1,4 @@
-use Rattle.std.proofs.Common.{[], ◌∷◌, refl, subst}
+use Rattle.std.proofs.Common.{[], ◌∷◌, refl, rules, subst}
 use Rattle.port_bank.specs.Port.{IsSlots}
 use Rattle.round_program.specs.Canonical.{InRound}
 use Rattle.round_examples.specs.Counts.{count_rules}
@@ -9,7 +9,7 @@ pub drive_serial-told-requires-clause-slots : goal.drive_serial-told-requires-cl
 unfolding IsSlots
 drive_serial-told-requires-clause-slots g c = refl
 
-pub drive_serial-told-requires-clause-begins : goal.drive_serial-told-requires-clause-begins
-drive_serial-told-requires-clause-begins g c =
+pub drive_serial-told-requires-clause-run : goal.drive_serial-told-requires-clause-run
+drive_serial-told-requires-clause-run g c =
     let p = c.ranks-ranks.result in
-    (p ∷ [], 1, subst (λ n. InRound count_rules n 0 (p ∷ []) 1 c.in_ok-progs.progs) c.ranks-ranks.ensures.value c.in_ok-progs.ensures, one_round c.in_ok-progs.progs)
+    record { one_hop = search rules; begins = (p ∷ [], 1, subst (λ n. InRound count_rules n 0 (p ∷ []) 1 c.in_ok-progs.progs) c.ranks-ranks.ensures.value c.in_ok-progs.ensures, one_round c.in_ok-progs.progs) }

@@ -1,4 +1,4 @@
-use Rattle.std.proofs.Common.{[], ◌∷◌, refl, subst, ◌∙◌, arith}
+use Rattle.std.proofs.Common.{[], ◌∷◌, refl, rules, subst, ◌∙◌, arith}
 use Rattle.port_bank.specs.Port.{IsSlots}
 use Rattle.round_program.specs.Canonical.{InRound}
 use Rattle.round_examples.specs.Counts.{count_rules}
@@ -9,9 +9,9 @@ pub drive_serial-requires-clause-slots : goal.drive_serial-requires-clause-slots
 unfolding IsSlots
 drive_serial-requires-clause-slots g c = refl
 
-pub drive_serial-requires-clause-begins : goal.drive_serial-requires-clause-begins
-drive_serial-requires-clause-begins g c =
-    (3 ∷ [], 1, subst (λ p. InRound count_rules p 0 (3 ∷ []) 1 c.in_ok-progs.progs) c.ranks-ranks.ensures.value c.in_ok-progs.ensures.round, one_round c.in_ok-progs.progs)
+pub drive_serial-requires-clause-run : goal.drive_serial-requires-clause-run
+drive_serial-requires-clause-run g c =
+    record { one_hop = search rules; begins = (3 ∷ [], 1, subst (λ p. InRound count_rules p 0 (3 ∷ []) 1 c.in_ok-progs.progs) c.ranks-ranks.ensures.value c.in_ok-progs.ensures.round, one_round c.in_ok-progs.progs) }
 
 pub returns-clause-few_by_conveyor : goal.returns-clause-few_by_conveyor
 returns-clause-few_by_conveyor g c = λ by one. omega (

@@ -5,3 +5,4 @@ pub mod HistoView
 pub mod IgSent
 pub mod IgView
 pub mod SumsView
+pub mod Queries

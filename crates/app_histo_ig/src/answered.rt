@@ -1,8 +1,7 @@
 //! ig's answer as text, from ranks that each know the sums of their entries' columns.
 
 ghost use Rattle.std.specs.Prelude.{◌≡◌, ℕ, ◌<◌, ◌≤◌, ◌+◌, ◌*◌, ◌^◌, List, map, length, slice_get, Some, OnOk, OnErr};
-ghost use Rattle.bale_types.specs.Stream.{after, HasCause, IsFront};
-ghost use Rattle.bale_types.specs.Out.{appended};
+ghost use Rattle.bale_types.specs.Out.{Writes};
 ghost use Rattle.bale_types.specs.declared.triple.Triple.{Triple};
 ghost use Rattle.app_histo_ig.specs.ColumnAnswers.{HaveSums};
 ghost use Rattle.app_histo_ig.specs.IgLines.{column_sum, ig_lines};
@@ -27,14 +26,7 @@ pub(crate) fn write_sums<Q: Answered, K: Sink>(
     out: &mut Out<'_, K>,
 ) -> Result<(), Failed>
     requires sums { HaveSums m.now.entries (map Q.words p.now) }
-    ensures ok { OnOk result (appended K.taken out.new ≡ after (appended K.taken out.old) (ig_lines m.now.entries)) }
-    ensures err { OnErr result (IsFront (K.taken out.new.sink.now)
-        (after (appended K.taken out.old) (ig_lines m.now.entries))) }
-    ensures cause { HasCause (K.faults out.old.sink.now) (K.faults out.new.sink.now) result }
-    ensures no_fault { OnOk result (K.faults out.new.sink.now ≡ K.faults out.old.sink.now) }
-    ensures never_falls { K.faults out.old.sink.now ≤ K.faults out.new.sink.now }
-    ensures grows { IsFront (K.taken out.old.sink.now) (K.taken out.new.sink.now) }
-    ensures same_sink { out.new.sink.ghost_name ≡ out.old.sink.ghost_name }
+    ensures { Writes K.taken K.faults (ig_lines m.now.entries) out.old out.new result }
 {
     let entries = m.entries();
     let ranks = p.len();

@@ -1,10 +1,11 @@
 //! histo's start, and its answer as text.
 
+ghost use Rattle.round_program.specs.Ranks.{AreRanks};
 ghost use Rattle.std.specs.Prelude.{◌≡◌, ◌≢◌, ◌<◌, ◌≤◌, ◌+◌, ◌^◌, ◌%◌, ◌/◌, [], ◌∷◌, length, map, replicate, slice_index_or, IfOk, OnOk, OnErr};
-ghost use Rattle.bale_types.specs.Stream.{after, HasCause, IsFront};
-ghost use Rattle.bale_types.specs.Out.{appended};
+ghost use Rattle.bale_types.specs.Stream.{after};
+ghost use Rattle.bale_types.specs.Out.{HandsOn, Writes};
 ghost use Rattle.mtx_text.specs.Sparse.{Sparse};
-ghost use Rattle.sparse_rows.specs.Parts.{parts_of};
+ghost use Rattle.sparse_rows.specs.Parts.{parts_of, HasPart};
 ghost use Rattle.round_program.specs.Canonical.{InRound, EndsWithin};
 ghost use Rattle.app_histo_ig.specs.Histos.{histo_rules};
 ghost use Rattle.app_histo_ig.specs.HistoLines.{in_column, histo_line, histo_lines};
@@ -23,8 +24,7 @@ use std::alloc::Global;
 ///
 /// `NoMemory` where there was none for the programs.
 pub fn histo_start(alloc: Global, m: &Matrix, ranks: u32) -> Result<Progs<Histo>, NoMemory>
-    requires some { 1 ≤ ranks }
-    requires few { ranks ≤ 64 }
+    requires { AreRanks ranks }
     ensures starts { IfOk result (λ ps. ps ≡ histo_starts ranks m.now) }
     ensures begins { IfOk result (λ ps. InRound histo_rules ranks 0 (m.now.cols ∷ []) 1 ps) }
     ensures ends { IfOk result (λ ps. EndsWithin histo_rules ps 1) }
@@ -46,8 +46,7 @@ fn part_of(
     ranks: u32,
     rank: u32,
 ) -> Result<Histo, NoMemory>
-    requires rank { rank < ranks }
-    requires parts { parts.now ≡ parts_of ranks m.now.entries }
+    requires { HasPart ranks rank m.now.entries parts.now }
     ensures { IfOk result (λ s. s ≡ histo_begins ranks m.now rank) }
 {
     m.known();
@@ -85,16 +84,9 @@ fn columns_of(alloc: Global, parts: &Parts, rank: u32) -> Result<Vec<u32>, NoMem
 /// `Failed` where the sink's faults rose in this call.
 pub fn histo_write<K: Sink>(p: &Progs<Histo>, out: &mut Out<'_, K>) -> Result<(), Failed>
     requires ended { (m : Sparse) × HistoEnded m p.now }
-    ensures ok { (m : Sparse) → HistoEnded m p.now
-        → OnOk result (appended K.taken out.new ≡ after (appended K.taken out.old) (histo_lines m.entries m.cols)) }
-    ensures err { (m : Sparse) → HistoEnded m p.now
-        → OnErr result (IsFront (K.taken out.new.sink.now)
-        (after (appended K.taken out.old) (histo_lines m.entries m.cols))) }
-    ensures cause { HasCause (K.faults out.old.sink.now) (K.faults out.new.sink.now) result }
-    ensures no_fault { OnOk result (K.faults out.new.sink.now ≡ K.faults out.old.sink.now) }
-    ensures never_falls { K.faults out.old.sink.now ≤ K.faults out.new.sink.now }
-    ensures grows { IsFront (K.taken out.old.sink.now) (K.taken out.new.sink.now) }
-    ensures same_sink { out.new.sink.ghost_name ≡ out.old.sink.ghost_name }
+    ensures written { (m : Sparse) → HistoEnded m p.now
+        → Writes K.taken K.faults (histo_lines m.entries m.cols) out.old out.new result }
+    ensures sink { HandsOn K.taken K.faults out.old out.new result }
 {
     let cols = columns_counted(p);
     for j in 0..cols {
@@ -134,14 +126,7 @@ fn count_of(p: &Progs<Histo>, j: u32) -> u64
 /// `Failed` where the sink's faults rose in this call.
 pub fn write_count<K: Sink>(out: &mut Out<'_, K>, j: u32, count: u64) -> Result<(), Failed>
     requires { j + 1 < 2 ^ 32 }
-    ensures ok { OnOk result (appended K.taken out.new ≡ after (appended K.taken out.old) (histo_line j count)) }
-    ensures err { OnErr result (IsFront (K.taken out.new.sink.now)
-        (after (appended K.taken out.old) (histo_line j count))) }
-    ensures cause { HasCause (K.faults out.old.sink.now) (K.faults out.new.sink.now) result }
-    ensures no_fault { OnOk result (K.faults out.new.sink.now ≡ K.faults out.old.sink.now) }
-    ensures never_falls { K.faults out.old.sink.now ≤ K.faults out.new.sink.now }
-    ensures grows { IsFront (K.taken out.old.sink.now) (K.taken out.new.sink.now) }
-    ensures same_sink { out.new.sink.ghost_name ≡ out.old.sink.ghost_name }
+    ensures { Writes K.taken K.faults (histo_line j count) out.old out.new result }
 {
     let mut line = Line::new();
     line.natural((j + 1) as u64);

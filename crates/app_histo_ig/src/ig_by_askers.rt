@@ -1,9 +1,10 @@
 //! ig by queries and replies at once: the programs that add up columns, and the askers that they leave.
 
+ghost use Rattle.round_program.specs.Ranks.{AreRanks};
 ghost use Rattle.std.specs.Prelude.{◌≡◌, ◌<◌, ◌≤◌, [], ◌∷◌, length, map, IfOk, OnOk, OnErr};
-ghost use Rattle.bale_types.specs.Stream.{after, HasCause, IsFront};
-ghost use Rattle.bale_types.specs.Out.{appended};
-ghost use Rattle.sparse_rows.specs.Parts.{parts_of};
+ghost use Rattle.bale_types.specs.Stream.{after};
+ghost use Rattle.bale_types.specs.Out.{Writes};
+ghost use Rattle.sparse_rows.specs.Parts.{parts_of, HasPart};
 ghost use Rattle.round_program.specs.Canonical.{InRound, EndsWithin};
 ghost use Rattle.app_histo_ig.specs.Sums.{sums_rules};
 ghost use Rattle.app_histo_ig.specs.SumsRuns.{sums_begins, sums_starts, SumsEnded};
@@ -27,8 +28,7 @@ use std::alloc::Global;
 ///
 /// `NoMemory` where there was none for the programs.
 pub fn ig_sums_start(alloc: Global, m: &Matrix, ranks: u32) -> Result<Progs<IgSums>, NoMemory>
-    requires some { 1 ≤ ranks }
-    requires few { ranks ≤ 64 }
+    requires { AreRanks ranks }
     ensures starts { IfOk result (λ ps. ps ≡ sums_starts ranks m.now) }
     ensures begins { IfOk result (λ ps. InRound sums_rules ranks 0 (m.now.cols ∷ []) 1 ps) }
     ensures ends { IfOk result (λ ps. EndsWithin sums_rules ps 1) }
@@ -50,8 +50,7 @@ fn summing(
     ranks: u32,
     rank: u32,
 ) -> Result<IgSums, NoMemory>
-    requires rank { rank < ranks }
-    requires parts { parts.now ≡ parts_of ranks m.now.entries }
+    requires { HasPart ranks rank m.now.entries parts.now }
     ensures { IfOk result (λ s. s ≡ sums_begins ranks m.now rank) }
 {
     m.known();
@@ -85,14 +84,7 @@ pub fn ig_heard_write<K: Sink>(
     out: &mut Out<'_, K>,
 ) -> Result<(), Failed>
     requires heard { IgHeard m.now p.now }
-    ensures ok { OnOk result (appended K.taken out.new ≡ after (appended K.taken out.old) (ig_lines m.now.entries)) }
-    ensures err { OnErr result (IsFront (K.taken out.new.sink.now)
-        (after (appended K.taken out.old) (ig_lines m.now.entries))) }
-    ensures cause { HasCause (K.faults out.old.sink.now) (K.faults out.new.sink.now) result }
-    ensures no_fault { OnOk result (K.faults out.new.sink.now ≡ K.faults out.old.sink.now) }
-    ensures never_falls { K.faults out.old.sink.now ≤ K.faults out.new.sink.now }
-    ensures grows { IsFront (K.taken out.old.sink.now) (K.taken out.new.sink.now) }
-    ensures same_sink { out.new.sink.ghost_name ≡ out.old.sink.ghost_name }
+    ensures { Writes K.taken K.faults (ig_lines m.now.entries) out.old out.new result }
 {
     write_sums(p, m, out)
 }

@@ -3,7 +3,9 @@
 ghost use Rattle.std.specs.Prelude.{◌≡◌, ◌<◌, ◌≤◌, ◌-◌, ◌/◌, ◌^◌, ℕ, List, IfOk, Some, drop, length, map, slice_get};
 ghost use Rattle.std.specs.List.{All};
 ghost use Rattle.round_program.specs.Emissions.{HandsOver};
+ghost use Rattle.round_program.specs.Handing.{MayHandOver, HandsUpTo};
 ghost use Rattle.app_histo_ig.specs.Igs.{reply_to, replies_from};
+ghost use Rattle.app_histo_ig.specs.code.Queries.{CanReply};
 
 use bale_types::{Item, NoMemory};
 use round_program::Departures;
@@ -37,10 +39,7 @@ fn how_many(queries: &[Vec<Item>]) -> Result<u64, NoMemory>
 
 /// Reply number `i`, with the rank that asked.
 pub(crate) fn reply_at(ranks: u32, sums: &[u64], queries: &[Vec<Item>], i: u64) -> (u32, Item)
-    requires some { 0 < ranks }
-    requires senders { length queries.now < 2 ^ 32 }
-    requires asked { All (All (λ x. (x.a < 2 ^ 32) × (x.a / ranks < length sums.now)))
-        (map (λ l. l.items) queries.now) }
+    requires can { CanReply ranks sums.now (length queries.now) (map (λ l. l.items) queries.now) }
     requires within { i < length (replies_from ranks sums.now 0 (map (λ l. l.items) queries.now)) }
     ensures { slice_get (replies_from ranks sums.now 0 (map (λ l. l.items) queries.now)) i ≡ Some result }
 {
@@ -82,18 +81,11 @@ pub(crate) fn emit_replies<D: Departures>(
     from: u64,
     out: &mut D,
 ) -> u64
-    requires some { 0 < ranks }
-    requires senders { length queries.now < 2 ^ 32 }
-    requires asked { All (All (λ x. (x.a < 2 ^ 32) × (x.a / ranks < length sums.now)))
-        (map (λ l. l.items) queries.now) }
+    requires can { CanReply ranks sums.now (length queries.now) (map (λ l. l.items) queries.now) }
     requires count { count ≡ length (replies_from ranks sums.now 0 (map (λ l. l.items) queries.now)) }
-    requires from { from ≤ length (replies_from ranks sums.now 0 (map (λ l. l.items) queries.now)) }
-    requires may { All (λ e. D.may out.old e.0)
-        (drop from (replies_from ranks sums.now 0 (map (λ l. l.items) queries.now))) }
-    ensures forward { from ≤ result }
-    ensures low { result ≤ length (replies_from ranks sums.now 0 (map (λ l. l.items) queries.now)) }
-    ensures hands { HandsOver D.hands (drop from (replies_from ranks sums.now 0 (map (λ l. l.items) queries.now)))
-        (result - from) out.old out.new }
+    requires may { MayHandOver (D.may out.old) (replies_from ranks sums.now 0 (map (λ l. l.items) queries.now)) from }
+    ensures { HandsUpTo D.hands (replies_from ranks sums.now 0 (map (λ l. l.items) queries.now)) from result
+        out.old out.new }
 {
     if from == count {
         return from;

@@ -1,9 +1,10 @@
 //! ig's start, and its answer as text.
 
+ghost use Rattle.round_program.specs.Ranks.{AreRanks};
 ghost use Rattle.std.specs.Prelude.{◌≡◌, ◌<◌, ◌≤◌, [], ◌∷◌, length, map, replicate, slice_index_or, IfOk, OnOk, OnErr};
-ghost use Rattle.bale_types.specs.Stream.{after, HasCause, IsFront};
-ghost use Rattle.bale_types.specs.Out.{appended};
-ghost use Rattle.sparse_rows.specs.Parts.{parts_of};
+ghost use Rattle.bale_types.specs.Stream.{after};
+ghost use Rattle.bale_types.specs.Out.{Writes};
+ghost use Rattle.sparse_rows.specs.Parts.{parts_of, HasPart};
 ghost use Rattle.round_program.specs.Canonical.{InRound, EndsWithin};
 ghost use Rattle.app_histo_ig.specs.Igs.{ig_rules};
 ghost use Rattle.app_histo_ig.specs.code.IgSent.{own_entry};
@@ -25,8 +26,7 @@ use std::alloc::Global;
 ///
 /// `NoMemory` where there was none for the programs.
 pub fn ig_start(alloc: Global, m: &Matrix, ranks: u32) -> Result<Progs<Ig>, NoMemory>
-    requires some { 1 ≤ ranks }
-    requires few { ranks ≤ 64 }
+    requires { AreRanks ranks }
     ensures starts { IfOk result (λ ps. ps ≡ ig_starts ranks m.now) }
     ensures begins { IfOk result (λ ps. InRound ig_rules ranks 0 (m.now.cols ∷ []) 3 ps) }
     ensures ends { IfOk result (λ ps. EndsWithin ig_rules ps 3) }
@@ -42,8 +42,7 @@ pub fn ig_start(alloc: Global, m: &Matrix, ranks: u32) -> Result<Progs<Ig>, NoMe
 
 /// One rank's program.
 fn part_of(alloc: Global, m: &Matrix, parts: &Parts, ranks: u32, rank: u32) -> Result<Ig, NoMemory>
-    requires rank { rank < ranks }
-    requires parts { parts.now ≡ parts_of ranks m.now.entries }
+    requires { HasPart ranks rank m.now.entries parts.now }
     ensures { IfOk result (λ s. s ≡ ig_begins ranks m.now rank) }
 {
     m.known();
@@ -106,14 +105,7 @@ fn no_queries(alloc: Global, ranks: u32) -> Result<Vec<Vec<Item>>, NoMemory>
 /// `Failed` where the sink's faults rose in this call.
 pub fn ig_write<K: Sink>(p: &Progs<Ig>, m: &Matrix, out: &mut Out<'_, K>) -> Result<(), Failed>
     requires ended { IgEnded m.now p.now }
-    ensures ok { OnOk result (appended K.taken out.new ≡ after (appended K.taken out.old) (ig_lines m.now.entries)) }
-    ensures err { OnErr result (IsFront (K.taken out.new.sink.now)
-        (after (appended K.taken out.old) (ig_lines m.now.entries))) }
-    ensures cause { HasCause (K.faults out.old.sink.now) (K.faults out.new.sink.now) result }
-    ensures no_fault { OnOk result (K.faults out.new.sink.now ≡ K.faults out.old.sink.now) }
-    ensures never_falls { K.faults out.old.sink.now ≤ K.faults out.new.sink.now }
-    ensures grows { IsFront (K.taken out.old.sink.now) (K.taken out.new.sink.now) }
-    ensures same_sink { out.new.sink.ghost_name ≡ out.old.sink.ghost_name }
+    ensures { Writes K.taken K.faults (ig_lines m.now.entries) out.old out.new result }
 {
     write_sums(p, m, out)
 }

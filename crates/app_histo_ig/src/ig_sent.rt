@@ -2,7 +2,7 @@
 
 ghost use Rattle.std.specs.Prelude.{◌≡◌, ◌<◌, ◌≤◌, ◌-◌, ℕ, List, drop, Some, length, map, slice_get};
 ghost use Rattle.std.specs.List.{All};
-ghost use Rattle.round_program.specs.Emissions.{HandsOver};
+ghost use Rattle.round_program.specs.Handing.{MayHandOver, HandsUpTo};
 ghost use Rattle.app_histo_ig.specs.Igs.{to_ask};
 ghost use Rattle.app_histo_ig.specs.code.IgSent.{number_and_column, question_of, to_add, sent_of, sent_of_own};
 
@@ -43,11 +43,8 @@ pub(crate) fn emit_own<D: Departures>(
     out: &mut D,
 ) -> u64
     requires some { 0 < ranks }
-    requires from { from ≤ length (sent_of_own round ranks own.now) }
-    requires may { All (λ e. D.may out.old e.0) (drop from (sent_of_own round ranks own.now)) }
-    ensures forward { from ≤ result }
-    ensures low { result ≤ length (sent_of_own round ranks own.now) }
-    ensures hands { HandsOver D.hands (drop from (sent_of_own round ranks own.now)) (result - from) out.old out.new }
+    requires may { MayHandOver (D.may out.old) (sent_of_own round ranks own.now) from }
+    ensures { HandsUpTo D.hands (sent_of_own round ranks own.now) from result out.old out.new }
 {
     let count = own.len() as u64;
     let mut next = from;

@@ -1,8 +1,9 @@
 //! permute's start, and its answer as a matrix.
 
+ghost use Rattle.round_program.specs.Ranks.{AreRanks};
 ghost use Rattle.std.specs.Prelude.{◌≡◌, ◌<◌, ◌≤◌, ℕ, List, [], ◌∷◌, length, map, slice_index_or, IfOk};
 ghost use Rattle.mtx_text.specs.Permutations.{Permutes};
-ghost use Rattle.sparse_rows.specs.Parts.{parts_of};
+ghost use Rattle.sparse_rows.specs.Parts.{parts_of, HasPart};
 ghost use Rattle.round_program.specs.Canonical.{InRound, EndsWithin};
 ghost use Rattle.app_permute.specs.Moved.{permuted, IsPermuted};
 ghost use Rattle.app_permute.specs.Permutes.{permute_rules};
@@ -31,8 +32,7 @@ pub fn permute_start(
 ) -> Result<Progs<Permute>, NoMemory>
     requires rows { Permutes m.now.rows rp.now }
     requires cols { Permutes m.now.cols cp.now }
-    requires some { 1 ≤ ranks }
-    requires few { ranks ≤ 64 }
+    requires ranks { AreRanks ranks }
     ensures starts { IfOk result (λ ps. ps ≡ permute_starts ranks m.now rp.now cp.now) }
     ensures begins { IfOk result (λ ps. InRound permute_rules ranks 0 (m.now.rows ∷ m.now.cols ∷ []) 3 ps) }
     ensures ends { IfOk result (λ ps. EndsWithin permute_rules ps 3) }
@@ -56,8 +56,7 @@ fn part_of(
     ranks: u32,
     rank: u32,
 ) -> Result<Permute, NoMemory>
-    requires rank { rank < ranks }
-    requires parts { parts.now ≡ parts_of ranks m.now.entries }
+    requires part { HasPart ranks rank m.now.entries parts.now }
     requires rows { Permutes m.now.rows rp.now }
     requires cols { Permutes m.now.cols cp.now }
     ensures { IfOk result (λ s. s ≡ permute_begins ranks m.now rp.now cp.now rank) }

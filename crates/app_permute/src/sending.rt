@@ -2,7 +2,7 @@
 
 ghost use Rattle.std.specs.Prelude.{◌≡◌, ◌<◌, ◌≤◌, ◌-◌, drop, Some, length, slice_get};
 ghost use Rattle.std.specs.List.{All};
-ghost use Rattle.round_program.specs.Emissions.{HandsOver};
+ghost use Rattle.round_program.specs.Handing.{MayHandOver, HandsUpTo};
 ghost use Rattle.app_permute.specs.code.Sent.{sent_of, to_owner};
 
 use crate::carried::cell_sent;
@@ -20,11 +20,8 @@ pub(crate) fn emit_sent<D: Departures>(
     out: &mut D,
 ) -> u64
     requires some { 0 < ranks }
-    requires from { from ≤ length (sent_of round ranks cells.now) }
-    requires may { All (λ e. D.may out.old e.0) (drop from (sent_of round ranks cells.now)) }
-    ensures forward { from ≤ result }
-    ensures low { result ≤ length (sent_of round ranks cells.now) }
-    ensures hands { HandsOver D.hands (drop from (sent_of round ranks cells.now)) (result - from) out.old out.new }
+    requires may { MayHandOver (D.may out.old) (sent_of round ranks cells.now) from }
+    ensures { HandsUpTo D.hands (sent_of round ranks cells.now) from result out.old out.new }
 {
     let count = cells.len() as u64;
     let mut next = from;

@@ -1,7 +1,8 @@
 //! transpose's start, and its answer as a matrix.
 
+ghost use Rattle.round_program.specs.Ranks.{AreRanks};
 ghost use Rattle.std.specs.Prelude.{◌≡◌, ◌<◌, ◌≤◌, [], ◌∷◌, length, map, slice_index_or, IfOk};
-ghost use Rattle.sparse_rows.specs.Parts.{parts_of};
+ghost use Rattle.sparse_rows.specs.Parts.{parts_of, HasPart};
 ghost use Rattle.round_program.specs.Canonical.{InRound, EndsWithin};
 ghost use Rattle.app_permute.specs.Moved.{turned, transposed, IsTransposed};
 ghost use Rattle.app_permute.specs.Transposes.{transpose_rules};
@@ -20,8 +21,7 @@ use std::alloc::Global;
 ///
 /// `NoMemory` where there was none for the programs.
 pub fn transpose_start(alloc: Global, m: &Matrix, ranks: u32) -> Result<Progs<Transpose>, NoMemory>
-    requires some { 1 ≤ ranks }
-    requires few { ranks ≤ 64 }
+    requires { AreRanks ranks }
     ensures starts { IfOk result (λ ps. ps ≡ transpose_starts ranks m.now) }
     ensures begins { IfOk result (λ ps. InRound transpose_rules ranks 0 (m.now.cols ∷ m.now.rows ∷ []) 1 ps) }
     ensures ends { IfOk result (λ ps. EndsWithin transpose_rules ps 1) }
@@ -43,8 +43,7 @@ fn part_of(
     ranks: u32,
     rank: u32,
 ) -> Result<Transpose, NoMemory>
-    requires rank { rank < ranks }
-    requires parts { parts.now ≡ parts_of ranks m.now.entries }
+    requires { HasPart ranks rank m.now.entries parts.now }
     ensures { IfOk result (λ s. s ≡ transpose_begins ranks m.now rank) }
 {
     m.known();

@@ -1,6 +1,7 @@
 //! sssp: each rank has the edges of its vertices and the least weight found for each, and in each round offers weights
 //! along the edges of those that were improved.
 
+ghost use Rattle.bale_types.specs.Changes.{AllOrNothing};
 ghost use Rattle.std.specs.Prelude.{◌≡◌, ◌<◌, ◌/◌, ◌-◌, ◌^◌, ◌==◌, [], if◌then◌else◌, OnOk, OnErr, length};
 ghost use Rattle.std.specs.List.{All};
 ghost use Rattle.least_walks.specs.Tables.{table_of};
@@ -127,8 +128,7 @@ impl Sssp {
     fn absorb_on(&mut self, seat: Seat, from: u32, item: Item) -> Result<(), NoMemory>
         requires seat { IsSeat seat self.old }
         requires fits { Fits sssp_rules self.old from item }
-        ensures ok { OnOk result (self.new ≡ sssp_rules.absorbed self.old from item) }
-        ensures err { OnErr result (self.new ≡ self.old) }
+        ensures { AllOrNothing (sssp_rules.absorbed self.old from item) self.old self.new result }
     {
         if seat.round == 0 {
             self.arriving

@@ -1,15 +1,16 @@
 //! sssp's start, and its answer as text.
 
+ghost use Rattle.round_program.specs.Ranks.{AreRanks};
 ghost use Rattle.std.specs.Prelude.{ℕ, true, ◌==◌, if◌then◌else◌, ◌≡◌, ◌≢◌, ◌<◌, ◌≤◌, ◌+◌, ◌^◌, ◌%◌, ◌/◌, [], ◌∷◌, length, map, replicate, slice_index_or, Option, IfOk, OnOk, OnErr};
 ghost use Rattle.least_walks.specs.Vertices.{unreached, improved_at};
-ghost use Rattle.bale_types.specs.Stream.{after, HasCause, IsFront};
-ghost use Rattle.bale_types.specs.Out.{appended};
+ghost use Rattle.bale_types.specs.Stream.{after};
+ghost use Rattle.bale_types.specs.Out.{HandsOn, Writes};
 ghost use Rattle.bale_types.specs.Bits.{twos_complement};
 ghost use Rattle.mtx_text.specs.Sparse.{Sparse};
-ghost use Rattle.sparse_rows.specs.Parts.{parts_of};
+ghost use Rattle.sparse_rows.specs.Parts.{parts_of, HasPart};
 ghost use Rattle.sparse_rows.specs.Owners.{row_owner};
 ghost use Rattle.round_program.specs.Canonical.{InRound, EndsWithin};
-ghost use Rattle.least_walks.specs.Walks.{no_negative, IsLeast, AreLeast};
+ghost use Rattle.least_walks.specs.Walks.{IsSource, no_negative, IsLeast, AreLeast};
 ghost use Rattle.least_walks.specs.Lines.{sssp_lines};
 ghost use Rattle.app_sssp.specs.Sssps.{sssp_rules};
 ghost use Rattle.app_sssp.specs.SsspRuns.{edge_item, sssp_begins, sssp_starts, SsspEnded};
@@ -34,11 +35,9 @@ pub fn sssp_start(
     source: u32,
     ranks: u32,
 ) -> Result<Progs<Sssp>, NoMemory>
-    requires some { 1 ≤ ranks }
-    requires few { ranks ≤ 64 }
-    requires square { m.now.cols ≡ m.now.rows }
+    requires ranks { AreRanks ranks }
     requires weights { no_negative m.now.entries ≡ true }
-    requires source { source < m.now.rows }
+    requires source { IsSource source m.now }
     ensures starts { IfOk result (λ ps. ps ≡ sssp_starts ranks m.now source) }
     ensures begins { IfOk result (λ ps. InRound sssp_rules ranks 0 (m.now.rows ∷ []) (m.now.rows + 1) ps) }
     ensures ends { IfOk result (λ ps. EndsWithin sssp_rules ps (m.now.rows + 1)) }
@@ -61,10 +60,8 @@ fn part_of(
     ranks: u32,
     rank: u32,
 ) -> Result<Sssp, NoMemory>
-    requires rank { rank < ranks }
-    requires parts { parts.now ≡ parts_of ranks m.now.entries }
-    requires square { m.now.cols ≡ m.now.rows }
-    requires source { source < m.now.rows }
+    requires part { HasPart ranks rank m.now.entries parts.now }
+    requires source { IsSource source m.now }
     ensures { IfOk result (λ s. s ≡ sssp_begins ranks m.now source rank) }
 {
     m.known();
@@ -143,18 +140,9 @@ pub fn sssp_write<K: Sink>(p: &Progs<Sssp>, out: &mut Out<'_, K>) -> Result<(), 
     requires ended { (m : Sparse) × (source : ℕ) × SsspEnded m source p.now }
     ensures least { (m : Sparse) (source : ℕ) → SsspEnded m source p.now → (weights : ℕ → Option ℕ)
         × AreLeast m source weights }
-    ensures ok { (m : Sparse) (source : ℕ) → SsspEnded m source p.now → (weights : ℕ → Option ℕ)
-        → AreLeast m source weights
-        → OnOk result (appended K.taken out.new ≡ after (appended K.taken out.old) (sssp_lines weights m.rows)) }
-    ensures err { (m : Sparse) (source : ℕ) → SsspEnded m source p.now → (weights : ℕ → Option ℕ)
-        → AreLeast m source weights
-        → OnErr result (IsFront (K.taken out.new.sink.now)
-        (after (appended K.taken out.old) (sssp_lines weights m.rows))) }
-    ensures cause { HasCause (K.faults out.old.sink.now) (K.faults out.new.sink.now) result }
-    ensures no_fault { OnOk result (K.faults out.new.sink.now ≡ K.faults out.old.sink.now) }
-    ensures never_falls { K.faults out.old.sink.now ≤ K.faults out.new.sink.now }
-    ensures grows { IsFront (K.taken out.old.sink.now) (K.taken out.new.sink.now) }
-    ensures same_sink { out.new.sink.ghost_name ≡ out.old.sink.ghost_name }
+    ensures written { (m : Sparse) (source : ℕ) → SsspEnded m source p.now → (weights : ℕ → Option ℕ)
+        → AreLeast m source weights → Writes K.taken K.faults (sssp_lines weights m.rows) out.old out.new result }
+    ensures sink { HandsOn K.taken K.faults out.old out.new result }
 {
     let rows = vertices_in(p);
     for v in 0..rows {

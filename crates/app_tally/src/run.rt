@@ -1,5 +1,6 @@
 //! tally's start, and its answer.
 
+ghost use Rattle.round_program.specs.Ranks.{AreRanks, IsRankOf};
 ghost use Rattle.std.specs.Prelude.{◌≡◌, ◌<◌, ◌≤◌, ◌+◌, ◌-◌, ◌/◌, ◌^◌, ◌++◌, ℕ, List, [], IfOk, OnOk, map};
 ghost use Rattle.std.specs.List.{All};
 ghost use Rattle.round_program.specs.Canonical.{InRound, EndsWithin};
@@ -27,8 +28,7 @@ use std::alloc::Global;
 ///
 /// `NoMemory` where there was none for the programs.
 pub fn tally_start(alloc: Global, lines: &Lines, ranks: u32) -> Result<Progs<TallyMailer>, NoMemory>
-    requires some { 1 ≤ ranks }
-    requires few { ranks ≤ 64 }
+    requires { AreRanks ranks }
     ensures starts { IfOk result (λ ps. ps ≡ tally_starts ranks lines.now) }
     ensures begins { IfOk result (λ ps. InRound (mail_rules tally_rules) ranks 0 [] 1 ps) }
     ensures ends { IfOk result (λ ps. EndsWithin (mail_rules tally_rules) ps 1) }
@@ -43,8 +43,7 @@ pub fn tally_start(alloc: Global, lines: &Lines, ranks: u32) -> Result<Progs<Tal
 
 /// One rank's program.
 fn part_of(alloc: Global, lines: &Lines, ranks: u32, rank: u32) -> Result<TallyMailer, NoMemory>
-    requires rank { rank < ranks }
-    requires few { ranks ≤ 64 }
+    requires { IsRankOf ranks rank }
     ensures { IfOk result (λ m. m ≡ mailing tally_rules (tally_begins ranks lines.now rank)) }
 {
     lines.known();
@@ -55,8 +54,7 @@ fn part_of(alloc: Global, lines: &Lines, ranks: u32, rank: u32) -> Result<TallyM
 
 /// The lines of a rank.
 fn own_of(alloc: Global, lines: &Lines, ranks: u32, rank: u32) -> Result<Strings, NoMemory>
-    requires rank { rank < ranks }
-    requires few { ranks ≤ 64 }
+    requires { IsRankOf ranks rank }
     ensures { IfOk result (λ s. s ≡ own_lines ranks rank lines.now) }
 {
     let (step, first) = (ranks as usize, rank as usize);

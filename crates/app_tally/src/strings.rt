@@ -1,5 +1,6 @@
 //! Strings kept one behind the other: two allocations for all of them.
 
+ghost use Rattle.bale_types.specs.Changes.{AllOrNothing};
 ghost use Rattle.std.specs.Prelude.{◌≡◌, ◌<◌, ◌≤◌, ◌+◌, ◌++◌, ◌∷◌, [], nat_lt, Some, OnOk, OnErr, length, slice_get};
 ghost use Rattle.std.specs.List.{All};
 ghost use Rattle.elastic.specs.Spelling.{IsLetter};
@@ -61,8 +62,7 @@ impl Strings {
     /// Puts a string at the end. After `NoMemory`, which is also the answer once the strings have 4 GiB, they are as before.
     pub(crate) fn push(&mut self, string: &[u8]) -> Result<(), NoMemory>
         requires { length string.now ≤ 65_535 }
-        ensures pushed { OnOk result (self.new ≡ self.old ++ string.now ∷ []) }
-        ensures refused { OnErr result (self.new ≡ self.old) }
+        ensures { AllOrNothing (self.old ++ string.now ∷ []) self.old self.new result }
     {
         append(&mut self.bytes, &mut self.spans, string)
     }

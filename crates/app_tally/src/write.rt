@@ -1,8 +1,7 @@
 //! tally's answer as text.
 
 ghost use Rattle.std.specs.Prelude.{◌≡◌, ◌≤◌, ◌<◌, OnOk, OnErr};
-ghost use Rattle.bale_types.specs.Stream.{after, HasCause, IsFront};
-ghost use Rattle.bale_types.specs.Out.{appended};
+ghost use Rattle.bale_types.specs.Out.{Writes};
 ghost use Rattle.app_tally.specs.Counts.{entry_text, tally_text};
 
 use crate::counts::Counts;
@@ -15,14 +14,7 @@ use bale_types::{Failed, Line, Out, Sink};
 ///
 /// `Failed` where the sink's faults rose in this call.
 pub fn tally_write<K: Sink>(c: &Counts, out: &mut Out<'_, K>) -> Result<(), Failed>
-    ensures ok { OnOk result (appended K.taken out.new ≡ after (appended K.taken out.old) (tally_text c.now)) }
-    ensures err { OnErr result (IsFront (K.taken out.new.sink.now)
-        (after (appended K.taken out.old) (tally_text c.now))) }
-    ensures cause { HasCause (K.faults out.old.sink.now) (K.faults out.new.sink.now) result }
-    ensures no_fault { OnOk result (K.faults out.new.sink.now ≡ K.faults out.old.sink.now) }
-    ensures never_falls { K.faults out.old.sink.now ≤ K.faults out.new.sink.now }
-    ensures grows { IsFront (K.taken out.old.sink.now) (K.taken out.new.sink.now) }
-    ensures same_sink { out.new.sink.ghost_name ≡ out.old.sink.ghost_name }
+    ensures { Writes K.taken K.faults (tally_text c.now) out.old out.new result }
 {
     for i in 0..c.len() {
         write_entry(out, c.line(i), c.times(i))?;
@@ -32,15 +24,7 @@ pub fn tally_write<K: Sink>(c: &Counts, out: &mut Out<'_, K>) -> Result<(), Fail
 
 /// Writes one entry.
 fn write_entry<K: Sink>(out: &mut Out<'_, K>, line: &[u8], times: u64) -> Result<(), Failed>
-    ensures ok { OnOk result (appended K.taken out.new ≡ after (appended K.taken out.old)
-        (entry_text (line.now, times))) }
-    ensures err { OnErr result (IsFront (K.taken out.new.sink.now)
-        (after (appended K.taken out.old) (entry_text (line.now, times)))) }
-    ensures cause { HasCause (K.faults out.old.sink.now) (K.faults out.new.sink.now) result }
-    ensures no_fault { OnOk result (K.faults out.new.sink.now ≡ K.faults out.old.sink.now) }
-    ensures never_falls { K.faults out.old.sink.now ≤ K.faults out.new.sink.now }
-    ensures grows { IsFront (K.taken out.old.sink.now) (K.taken out.new.sink.now) }
-    ensures same_sink { out.new.sink.ghost_name ≡ out.old.sink.ghost_name }
+    ensures { Writes K.taken K.faults (entry_text (line.now, times)) out.old out.new result }
 {
     let mut number = Line::new();
     number.natural(times);

@@ -2,3 +2,4 @@
 pub mod TopoSeats
 pub mod TopoSent
 pub mod TopoView
+pub mod TopoPlaces

@@ -4,9 +4,9 @@ ghost use Rattle.std.specs.Prelude.{◌≡◌, ◌<◌, ◌≤◌, ◌+◌, ◌-
 ghost use Rattle.std.specs.List.{All, filter, flat_map};
 ghost use Rattle.bale_types.specs.declared.triple.Triple.{Triple};
 ghost use Rattle.mtx_text.specs.Cells.{InOrder};
-ghost use Rattle.sparse_rows.specs.Owners.{places_for};
 ghost use Rattle.app_topo.specs.Topos.{claims_of, sent_after, own_rows, placed_in};
 ghost use Rattle.app_topo.specs.code.TopoSent.{sent_of, to_other};
+ghost use Rattle.app_topo.specs.code.TopoPlaces.{IsCounted, AreCounted};
 
 use crate::marks::number_at;
 use crate::placed::Placed;
@@ -23,9 +23,7 @@ fn push_claim(
     sums: &[u64],
     i: u32,
 ) -> Result<(), NoMemory>
-    requires some { 0 < ranks }
-    requires number { i / ranks < length numbers.now }
-    requires sum { i / ranks < length sums.now }
+    requires { IsCounted ranks i numbers.now sums.now }
     ensures { OnOk result (map (to_other ranks 2) outgoing.new.items
         ≡ map (to_other ranks 2) outgoing.old.items ++ claims_of ranks size numbers.now sums.now (i ∷ [])) }
 {
@@ -50,9 +48,7 @@ fn push_row(
     sums: &[u64],
     row: u64,
 ) -> Result<(), NoMemory>
-    requires some { 0 < ranks }
-    requires number { row / ranks < length numbers.now }
-    requires sum { row / ranks < length sums.now }
+    requires { IsCounted ranks row numbers.now sums.now }
     ensures { OnOk result (map (to_other ranks 2) outgoing.new.items
         ≡ map (to_other ranks 2) outgoing.old.items ++ claims_of ranks size numbers.now sums.now (row ∷ [])) }
 {
@@ -72,9 +68,7 @@ fn push_first_claims(
     sums: &[u64],
 ) -> Result<(), NoMemory>
     requires none { outgoing.old.items ≡ [] }
-    requires rank { rank < ranks }
-    requires numbers { length numbers.now ≡ places_for ranks size }
-    requires sums { length sums.now ≡ places_for ranks size }
+    requires counted { AreCounted ranks rank size numbers.now sums.now }
     ensures { OnOk result (map (to_other ranks 2) outgoing.new.items
         ≡ claims_of ranks size numbers.now sums.now (own_rows ranks rank size)) }
 {
@@ -139,9 +133,7 @@ pub(crate) fn put_next(
     came: &[Triple],
 ) -> Result<(), NoMemory>
     requires none { outgoing.old.items ≡ [] }
-    requires rank { rank < ranks }
-    requires numbers { length numbers.now ≡ places_for ranks size }
-    requires sums { length sums.now ≡ places_for ranks size }
+    requires counted { AreCounted ranks rank size numbers.now sums.now }
     requires placed { All (λ u. (u.i / ranks < length numbers.now) × (u.i / ranks < length sums.now)) came.now }
     requires ordered { InOrder columns.now }
     ensures { OnOk result (sent_of (min (round + 1) (2 ^ 64 - 1)) ranks outgoing.new.items

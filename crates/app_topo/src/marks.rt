@@ -3,6 +3,7 @@
 ghost use Rattle.std.specs.Prelude.{◌≡◌, ◌<◌, ◌≤◌, ◌+◌, ◌-◌, ◌/◌, ◌%◌, ◌^◌, ◌==◌, ◌&&◌, is_ok, if◌then◌else◌, length, min};
 ghost use Rattle.mtx_text.specs.Cells.{raised};
 ghost use Rattle.app_topo.specs.Topos.{added, number_at, spot};
+ghost use Rattle.app_topo.specs.code.TopoPlaces.{IsPlaced};
 
 use bale_types::NoMemory;
 use mtx_text::Cells;
@@ -10,9 +11,7 @@ use mtx_text::Cells;
 /// Lets the number at `x` rise by `b`, modulo 2^64.
 #[inline(always)]
 pub(crate) fn add(numbers: &mut Vec<u64>, ranks: u32, x: u64, b: u64)
-    requires some { 0 < ranks }
-    requires small { x < 2 ^ 32 }
-    requires place { x / ranks < length numbers.old.items }
+    requires { IsPlaced ranks x numbers.old.items }
     ensures { numbers.new.items ≡ added ranks numbers.old.items x b }
 {
     let place = (x as u32 / ranks) as usize;
@@ -22,9 +21,7 @@ pub(crate) fn add(numbers: &mut Vec<u64>, ranks: u32, x: u64, b: u64)
 /// Lets the number at `x` fall by `b`, modulo 2^64.
 #[inline(always)]
 pub(crate) fn lessen(numbers: &mut Vec<u64>, ranks: u32, x: u64, b: u64)
-    requires some { 0 < ranks }
-    requires small { x < 2 ^ 32 }
-    requires place { x / ranks < length numbers.old.items }
+    requires { IsPlaced ranks x numbers.old.items }
     ensures { numbers.new.items ≡ added ranks numbers.old.items x (2 ^ 64 - b) }
 {
     let place = (x as u32 / ranks) as usize;
@@ -34,9 +31,7 @@ pub(crate) fn lessen(numbers: &mut Vec<u64>, ranks: u32, x: u64, b: u64)
 /// The number at `x`.
 #[inline(always)]
 pub(crate) fn number_at(numbers: &[u64], ranks: u32, x: u64) -> u64
-    requires some { 0 < ranks }
-    requires small { x < 2 ^ 32 }
-    requires place { x / ranks < length numbers.now }
+    requires { IsPlaced ranks x numbers.now }
     ensures { result ≡ number_at ranks numbers.now x }
 {
     numbers[(x as u32 / ranks) as usize]

@@ -2,7 +2,7 @@
 
 ghost use Rattle.std.specs.Prelude.{◌≡◌, ◌<◌, ◌≤◌, ◌-◌, ◌%◌, ℕ, drop, Some, length, map, slice_get, slice_index_or};
 ghost use Rattle.std.specs.List.{All, flat_map};
-ghost use Rattle.round_program.specs.Emissions.{HandsOver};
+ghost use Rattle.round_program.specs.Handing.{MayHandOver, HandsUpTo};
 ghost use Rattle.app_topo.specs.code.TopoSent.{for_both, sent_of, to_other};
 
 use bale_types::{Item, Triple};
@@ -30,11 +30,8 @@ pub(crate) fn emit_kept<D: Departures>(
     out: &mut D,
 ) -> u64
     requires some { 0 < ranks }
-    requires from { from ≤ length (sent_of round ranks kept.now.items) }
-    requires may { All (λ e. D.may out.old e.0) (drop from (sent_of round ranks kept.now.items)) }
-    ensures forward { from ≤ result }
-    ensures low { result ≤ length (sent_of round ranks kept.now.items) }
-    ensures hands { HandsOver D.hands (drop from (sent_of round ranks kept.now.items)) (result - from) out.old out.new }
+    requires may { MayHandOver (D.may out.old) (sent_of round ranks kept.now.items) from }
+    ensures { HandsUpTo D.hands (sent_of round ranks kept.now.items) from result out.old out.new }
 {
     let count = count_of(kept, round);
     let mut next = from;

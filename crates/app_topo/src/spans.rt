@@ -5,6 +5,7 @@ ghost use Rattle.std.specs.Prelude.{◌≡◌, ◌<◌, ◌≤◌, ◌==◌, ℕ
 ghost use Rattle.std.specs.List.{filter};
 ghost use Rattle.bale_types.specs.declared.triple.Triple.{Triple};
 ghost use Rattle.mtx_text.specs.Cells.{InOrder};
+ghost use Rattle.app_topo.specs.code.TopoPlaces.{SplitsAt};
 
 use bale_types::Triple;
 
@@ -74,9 +75,7 @@ fn guessed(spans: &[Span], ranks: u32, c: u32) -> Span
 #[inline(always)]
 fn place_of(columns: &[Triple], c: u64, guess: usize) -> usize
     requires { InOrder columns.now }
-    ensures within { result ≤ length columns.now }
-    ensures before { (k : ℕ) (d : Triple) → k < result → (slice_index_or columns.now k d).i < c }
-    ensures from { (k : ℕ) (d : Triple) → result ≤ k → k < length columns.now → c ≤ (slice_index_or columns.now k d).i }
+    ensures { SplitsAt c result columns.now }
 {
     if guess > columns.len() {
         return first_of(columns, c);
@@ -119,9 +118,7 @@ fn bound_from(columns: &[Triple], at: usize) -> u64
 #[inline(never)]
 fn first_of(columns: &[Triple], c: u64) -> usize
     requires { InOrder columns.now }
-    ensures within { result ≤ length columns.now }
-    ensures before { (k : ℕ) (d : Triple) → k < result → (slice_index_or columns.now k d).i < c }
-    ensures from { (k : ℕ) (d : Triple) → result ≤ k → k < length columns.now → c ≤ (slice_index_or columns.now k d).i }
+    ensures { SplitsAt c result columns.now }
 {
     let mut low = 0;
     let mut high = columns.len();

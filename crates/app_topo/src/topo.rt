@@ -1,9 +1,10 @@
 //! topo: rows claim columns, level by level.
 
+ghost use Rattle.bale_types.specs.Changes.{AllOrNothing};
 ghost use Rattle.std.specs.Prelude.{◌≡◌, ◌≢◌, ◌<◌, ℕ, [], OnOk, OnErr};
 ghost use Rattle.round_program.specs.Batches.{taken_in};
 ghost use Rattle.app_topo.specs.Topos.{IsTopo, topo_rules, entered, claimed_by, fallen};
-ghost use Rattle.app_topo.specs.code.TopoSeats.{IsSeat};
+ghost use Rattle.app_topo.specs.code.TopoSeats.{IsSeat, TakesIn};
 ghost use Rattle.app_topo.specs.code.TopoSent.{sent_of};
 ghost use Rattle.app_topo.specs.laws.TopoLaws.{IsOwn};
 
@@ -161,9 +162,7 @@ impl Topo {
     #[inline(always)]
     fn take_in(&mut self, seat: Seat, from: u32, item: Item) -> Result<(), NoMemory>
         requires { IsSeat seat self.old }
-        ensures ok { OnOk result (self.new ≡ taken_in topo_rules self.old from item) }
-        ensures sent { self.new.outgoing ≡ self.old.outgoing }
-        ensures seat { IsSeat seat self.new }
+        ensures { TakesIn (taken_in topo_rules self.old from item) seat self.old self.new result }
     {
         if seat.round == 0 {
             return self.take_in_entry(seat, from, item);
@@ -179,9 +178,7 @@ impl Topo {
     fn take_in_entry(&mut self, seat: Seat, from: u32, item: Item) -> Result<(), NoMemory>
         requires seat { IsSeat seat self.old }
         requires first { seat.round ≡ 0 }
-        ensures ok { OnOk result (self.new ≡ taken_in topo_rules self.old from item) }
-        ensures sent { self.new.outgoing ≡ self.old.outgoing }
-        ensures seat { IsSeat seat self.new }
+        ensures { TakesIn (taken_in topo_rules self.old from item) seat self.old self.new result }
     {
         if item.c == 0 {
             if seat.owns(from, item) {
@@ -200,8 +197,7 @@ impl Topo {
     fn absorb_on(&mut self, seat: Seat, from: u32, item: Item) -> Result<(), NoMemory>
         requires seat { IsSeat seat self.old }
         requires own { IsOwn self.old.size self.old.ranks self.old.rank item }
-        ensures ok { OnOk result (self.new ≡ topo_rules.absorbed self.old from item) }
-        ensures err { OnErr result (self.new ≡ self.old) }
+        ensures { AllOrNothing (topo_rules.absorbed self.old from item) self.old self.new result }
     {
         if seat.round == 0 {
             return self.enter(seat.ranks, item);
@@ -217,8 +213,7 @@ impl Topo {
     fn enter(&mut self, ranks: u32, item: Item) -> Result<(), NoMemory>
         requires ranks { ranks ≡ self.old.ranks }
         requires own { IsOwn self.old.size self.old.ranks self.old.rank item }
-        ensures ok { OnOk result (self.new ≡ entered self.old item) }
-        ensures err { OnErr result (self.new ≡ self.old) }
+        ensures { AllOrNothing (entered self.old item) self.old self.new result }
     {
         if item.c == 0 {
             add(&mut self.numbers, ranks, item.a, 1);
@@ -233,8 +228,7 @@ impl Topo {
     fn claim(&mut self, ranks: u32, item: Item) -> Result<(), NoMemory>
         requires ranks { ranks ≡ self.old.ranks }
         requires own { IsOwn self.old.size self.old.ranks self.old.rank item }
-        ensures ok { OnOk result (self.new ≡ claimed_by self.old item) }
-        ensures err { OnErr result (self.new ≡ self.old) }
+        ensures { AllOrNothing (claimed_by self.old item) self.old self.new result }
     {
         mark(&mut self.came, item.a, 0)?;
         self.fresh = fresh_after(self.fresh, number_at(&self.counts, ranks, item.a));
@@ -300,8 +294,7 @@ impl Topo {
     fn fall(&mut self, ranks: u32, item: Item) -> Result<(), NoMemory>
         requires ranks { ranks ≡ self.old.ranks }
         requires own { IsOwn self.old.size self.old.ranks self.old.rank item }
-        ensures ok { OnOk result (self.new ≡ fallen self.old item) }
-        ensures err { OnErr result (self.new ≡ self.old) }
+        ensures { AllOrNothing (fallen self.old item) self.old self.new result }
     {
         let left = number_at(&self.numbers, ranks, item.a).wrapping_sub(1);
         mark_if(&mut self.came, left == 1, item.a)?;

@@ -1,7 +1,8 @@
 //! topo's start.
 
+ghost use Rattle.round_program.specs.Ranks.{AreRanks};
 ghost use Rattle.std.specs.Prelude.{◌≡◌, ◌<◌, ◌≤◌, ◌*◌, ◌+◌, [], ◌∷◌, length, map, replicate, slice_index_or, IfOk};
-ghost use Rattle.sparse_rows.specs.Parts.{parts_of};
+ghost use Rattle.sparse_rows.specs.Parts.{parts_of, HasPart};
 ghost use Rattle.round_program.specs.Canonical.{InRound, EndsWithin};
 ghost use Rattle.app_topo.specs.Topos.{topo_rules};
 ghost use Rattle.app_topo.specs.TopoRuns.{topo_begins, topo_starts};
@@ -22,8 +23,7 @@ use std::alloc::Global;
 /// `NoMemory` where there was none for the programs.
 pub fn topo_start(alloc: Global, m: &Matrix, ranks: u32) -> Result<Progs<Topo>, NoMemory>
     requires square { m.now.rows ≡ m.now.cols }
-    requires some { 1 ≤ ranks }
-    requires few { ranks ≤ 64 }
+    requires ranks { AreRanks ranks }
     ensures starts { IfOk result (λ ps. ps ≡ topo_starts ranks m.now) }
     ensures begins { IfOk result (λ ps. InRound topo_rules ranks 0 (m.now.rows ∷ []) (2 * m.now.rows + 2) ps) }
     ensures ends { IfOk result (λ ps. EndsWithin topo_rules ps (2 * m.now.rows + 2)) }
@@ -46,8 +46,7 @@ fn part_of(
     rank: u32,
 ) -> Result<Topo, NoMemory>
     requires square { m.now.rows ≡ m.now.cols }
-    requires rank { rank < ranks }
-    requires parts { parts.now ≡ parts_of ranks m.now.entries }
+    requires part { HasPart ranks rank m.now.entries parts.now }
     ensures { IfOk result (λ s. s ≡ topo_begins ranks m.now rank) }
 {
     m.known();

@@ -1,6 +1,6 @@
 -- What a run answers: a status, the bytes for out and the bytes for err.
 use Rattle.std.specs.Prelude.{◌≡◌, ℕ, Bool, List, [], ◌==◌, ◌&&◌, Option, Some, None, is_some, Result, Ok, Err, OnOk, OnErr, if◌then◌else◌}
-use Rattle.bale_types.specs.Stream.{after, IsFront}
+use Rattle.bale_types.specs.Stream.{after, IsFront, CountsFaults}
 use Rattle.bale_words.specs.declared.command.Command.{Command}
 use Rattle.bale_words.specs.declared.command.Generated.{Generated}
 use Rattle.bale_words.specs.Words.{command_of}
@@ -95,6 +95,13 @@ pub record HasWritten {T E : Type 0} (IsAnswer : List ℕ → Type 0) (shows : L
   pub answers : IsAnswer bytes
   pub whole : OnOk written (new ≡ after old (shows bytes))
   pub front : OnErr written (IsFront new (after old (shows bytes)))
+
+-- What a call does to a sink that it writes to, by its answer.
+-- held: what the sink held stays
+-- counts: how its count of faults goes with the answer
+pub record TakesMore {K T E : Type 0} (taken : K → Option (List ℕ)) (faults : K → ℕ) (old new : K) (result : Result T E) : Type 0 where
+  pub held : IsFront (taken old) (taken new)
+  pub counts : CountsFaults (faults old) (faults new) result
 
 -- What is said on err at a status: nothing at 0 and 1, of a fault its text, else what the serial answer says.
 -- At 3 it is "bale: read fault\n"; at 5 it is the bad line and its reason.

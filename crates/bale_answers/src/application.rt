@@ -1,11 +1,12 @@
 //! An application, from what it is asked of to the bytes of its answer.
 
+ghost use Rattle.round_program.specs.Ranks.{AreRanks};
 ghost use Rattle.std.specs.Prelude.{◌≡◌, ◌≤◌, ℕ, List, map, IfOk, OnOk, OnErr};
-ghost use Rattle.bale_types.specs.Stream.{after, HasCause, IsFront};
-ghost use Rattle.bale_types.specs.Out.{appended};
+ghost use Rattle.bale_types.specs.Out.{HandsOn, Writes};
 ghost use Rattle.round_program.specs.Canonical.{InRound, EndsWithin, HaveEnded};
 ghost use Rattle.bale_words.specs.declared.task.Task.{Task};
 ghost use Rattle.bale_subjects.specs.declared.subject.Subject.{Subject};
+ghost use Rattle.bale_answers.specs.Needs.{CanWrite};
 ghost use Rattle.bale_answers.specs.Tasks.{IsAnswer, starts_of, task_status};
 
 use app_cases::Case;
@@ -33,8 +34,7 @@ pub(crate) trait Written {
 
     /// The exit status.
     fn status(options: &Self::Options, answer: &Self::Answer, of: &Self::Of) -> u8
-        requires needs { needs options.now of.now }
-        requires answers { answers options.now of.now answer.now }
+        requires { CanWrite needs answers options.now of.now answer.now }
         ensures value { result ≡ task_status (task options.now) (subject of.now) }
         ensures low { result ≤ 1 };
 
@@ -45,18 +45,11 @@ pub(crate) trait Written {
         of: &Self::Of,
         out: &mut Out<'_, K>,
     ) -> Result<(), Failed>
-        requires needs { needs options.now of.now }
-        requires answers { answers options.now of.now answer.now }
+        requires { CanWrite needs answers options.now of.now answer.now }
         ensures there_is { (bytes : List ℕ) × IsAnswer (task options.now) (subject of.now) bytes }
-        ensures ok { (bytes : List ℕ) → IsAnswer (task options.now) (subject of.now) bytes
-            → OnOk result (appended K.taken out.new ≡ after (appended K.taken out.old) bytes) }
-        ensures err { (bytes : List ℕ) → IsAnswer (task options.now) (subject of.now) bytes
-            → OnErr result (IsFront (K.taken out.new.sink.now) (after (appended K.taken out.old) bytes)) }
-        ensures cause { HasCause (K.faults out.old.sink.now) (K.faults out.new.sink.now) result }
-        ensures no_fault { OnOk result (K.faults out.new.sink.now ≡ K.faults out.old.sink.now) }
-        ensures never_falls { K.faults out.old.sink.now ≤ K.faults out.new.sink.now }
-        ensures grows { IsFront (K.taken out.old.sink.now) (K.taken out.new.sink.now) }
-        ensures same_sink { out.new.sink.ghost_name ≡ out.old.sink.ghost_name };
+        ensures written { (bytes : List ℕ) → IsAnswer (task options.now) (subject of.now) bytes
+            → Writes K.taken K.faults bytes out.old out.new result }
+        ensures sink { HandsOn K.taken K.faults out.old out.new result };
 }
 
 /// An application: its programs for a matrix or lines, and what is written once they ended.
@@ -75,8 +68,7 @@ pub(crate) trait Application: Written {
         ranks: u32,
     ) -> Result<Progs<Self::Prog>, NoMemory>
         requires needs { Self.needs options.now of.now }
-        requires some { 1 ≤ ranks }
-        requires few { ranks ≤ 64 }
+        requires ranks { AreRanks ranks }
         ensures starts { IfOk result (λ ps. ps ≡ starts options.now ranks of.now) }
         ensures begins { IfOk result (λ ps. (shape : List ℕ) × (most : ℕ)
             × InRound Self.Prog.rules ranks 0 shape most ps × EndsWithin Self.Prog.rules ps most) };

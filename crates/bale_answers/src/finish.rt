@@ -1,12 +1,13 @@
 //! The end of a run: the programs after their last round, and then the answer, written.
 
 ghost use Rattle.std.specs.Prelude.{◌≡◌, ◌≤◌, ◌<◌, ℕ, length, OnOk, OnErr, IfOk};
-ghost use Rattle.bale_types.specs.Stream.{after, HasCause, IsFront};
-ghost use Rattle.bale_types.specs.Out.{appended};
+ghost use Rattle.bale_types.specs.Stream.{after, IsFront};
+ghost use Rattle.bale_types.specs.Out.{appended, HandsOn, Writes};
 ghost use Rattle.round_program.specs.Canonical.{HaveEnded};
 ghost use Rattle.app_cases.specs.Any.{any_rules};
 ghost use Rattle.app_histo_ig.specs.ColumnAnswers.{IgHeard};
-ghost use Rattle.bale_answers.specs.Answer.{HasWritten};
+ghost use Rattle.bale_answers.specs.Needs.{CanWrite};
+ghost use Rattle.bale_answers.specs.Answer.{HasWritten, TakesMore};
 ghost use Rattle.bale_answers.specs.AnswerEnds.{IsAnswerEnd};
 ghost use Rattle.bale_answers.specs.Logs.{bytes_of};
 ghost use Rattle.bale_answers.specs.Summary.{summary_of};
@@ -77,8 +78,7 @@ fn write_as<A: Written, K: Sink>(
     generated: Option<Generated>,
     out: &mut K,
 ) -> AnswerEnd
-    requires needs { A.needs options.now of.now }
-    requires answers { A.answers options.now of.now answer.now }
+    requires { CanWrite A.needs A.answers options.now of.now answer.now }
     ensures { IsAnswerEnd (A.task options.now) (A.subject of.now) generated K.taken K.faults out.old out.new result }
 {
     let status = A::status(options, answer, of);
@@ -97,13 +97,10 @@ fn write_answer<A: Written, K: Sink>(
     of: &A::Of,
     sink: &mut K,
 ) -> Result<(), Failed>
-    requires needs { A.needs options.now of.now }
-    requires answers { A.answers options.now of.now answer.now }
+    requires { CanWrite A.needs A.answers options.now of.now answer.now }
     ensures answer { HasWritten (IsAnswer (A.task options.now) (A.subject of.now)) (λ bytes. bytes) (K.taken sink.old)
         (K.taken sink.new) result }
-    ensures held { IsFront (K.taken sink.old) (K.taken sink.new) }
-    ensures cause { HasCause (K.faults sink.old) (K.faults sink.new) result }
-    ensures no_fault { OnOk result (K.faults sink.new ≡ K.faults sink.old) }
+    ensures sink { TakesMore K.taken K.faults sink.old sink.new result }
 {
     let mut out = Out::new(sink);
     write_all::<A, K>(options, answer, of, &mut out)
@@ -115,14 +112,10 @@ fn write_all<A: Written, K: Sink>(
     of: &A::Of,
     out: &mut Out<'_, K>,
 ) -> Result<(), Failed>
-    requires needs { A.needs options.now of.now }
-    requires answers { A.answers options.now of.now answer.now }
+    requires { CanWrite A.needs A.answers options.now of.now answer.now }
     ensures answer { HasWritten (IsAnswer (A.task options.now) (A.subject of.now)) (λ bytes. bytes)
         (appended K.taken out.old) (K.taken out.new.sink.now) result }
-    ensures cause { HasCause (K.faults out.old.sink.now) (K.faults out.new.sink.now) result }
-    ensures no_fault { OnOk result (K.faults out.new.sink.now ≡ K.faults out.old.sink.now) }
-    ensures held { IsFront (K.taken out.old.sink.now) (K.taken out.new.sink.now) }
-    ensures same_sink { out.new.sink.ghost_name ≡ out.old.sink.ghost_name }
+    ensures sink { HandsOn K.taken K.faults out.old out.new result }
 {
     A::write(options, answer, of, out)?;
     out.flush()
@@ -135,13 +128,10 @@ fn write_summary<A: Written, K: Sink>(
     of: &A::Of,
     sink: &mut K,
 ) -> Result<(), Failed>
-    requires needs { A.needs options.now of.now }
-    requires answers { A.answers options.now of.now answer.now }
+    requires { CanWrite A.needs A.answers options.now of.now answer.now }
     ensures answer { HasWritten (IsAnswer (A.task options.now) (A.subject of.now)) summary_of (K.taken sink.old)
         (K.taken sink.new) result }
-    ensures held { IsFront (K.taken sink.old) (K.taken sink.new) }
-    ensures cause { HasCause (K.faults sink.old) (K.faults sink.new) result }
-    ensures no_fault { OnOk result (K.faults sink.new ≡ K.faults sink.old) }
+    ensures sink { TakesMore K.taken K.faults sink.old sink.new result }
 {
     let mut counter = Counter::new();
     let counted = write_answer::<A, Counter>(options, answer, of, &mut counter);
@@ -156,9 +146,7 @@ fn write_line<K: Sink>(counter: &Counter, sink: &mut K) -> Result<(), Failed>
     ensures ok { OnOk result (K.taken sink.new ≡ after (K.taken sink.old) (summary_of (bytes_of counter.now.log))) }
     ensures err { OnErr result (IsFront (K.taken sink.new)
         (after (K.taken sink.old) (summary_of (bytes_of counter.now.log)))) }
-    ensures held { IsFront (K.taken sink.old) (K.taken sink.new) }
-    ensures cause { HasCause (K.faults sink.old) (K.faults sink.new) result }
-    ensures no_fault { OnOk result (K.faults sink.new ≡ K.faults sink.old) }
+    ensures sink { TakesMore K.taken K.faults sink.old sink.new result }
 {
     let line = summary_line(counter);
     let mut out = Out::new(sink);
@@ -168,10 +156,7 @@ fn write_line<K: Sink>(counter: &Counter, sink: &mut K) -> Result<(), Failed>
 fn flush_text<K: Sink>(out: &mut Out<'_, K>, bytes: &[u8]) -> Result<(), Failed>
     ensures ok { OnOk result (K.taken out.new.sink.now ≡ after (appended K.taken out.old) bytes.now) }
     ensures err { OnErr result (IsFront (K.taken out.new.sink.now) (after (appended K.taken out.old) bytes.now)) }
-    ensures cause { HasCause (K.faults out.old.sink.now) (K.faults out.new.sink.now) result }
-    ensures no_fault { OnOk result (K.faults out.new.sink.now ≡ K.faults out.old.sink.now) }
-    ensures held { IsFront (K.taken out.old.sink.now) (K.taken out.new.sink.now) }
-    ensures same_sink { out.new.sink.ghost_name ≡ out.old.sink.ghost_name }
+    ensures sink { HandsOn K.taken K.faults out.old out.new result }
 {
     out.text(bytes)?;
     out.flush()

@@ -1,8 +1,7 @@
 //! topo, from a matrix to its lines, or to `not triangular`.
 
 ghost use Rattle.std.specs.Prelude.{ℕ, ◌≡◌, ◌≤◌, IfOk, OnOk, OnErr};
-ghost use Rattle.bale_types.specs.Stream.{after, HasCause, IsFront};
-ghost use Rattle.bale_types.specs.Out.{appended};
+ghost use Rattle.bale_types.specs.Out.{Writes};
 ghost use Rattle.round_program.specs.Canonical.{HaveEnded};
 ghost use Rattle.app_topo.specs.Levels.{topo_order};
 ghost use Rattle.app_topo.specs.Topos.{topo_rules};
@@ -90,14 +89,7 @@ impl Application for OrderAnswer {
 
 /// The lines of an order, or that there is none.
 fn write_order<K: Sink>(order: &Option<TopoOrder>, out: &mut Out<'_, K>) -> Result<(), Failed>
-    ensures ok { OnOk result (appended K.taken out.new ≡ after (appended K.taken out.old) (order_text order.now)) }
-    ensures err { OnErr result (IsFront (K.taken out.new.sink.now)
-        (after (appended K.taken out.old) (order_text order.now))) }
-    ensures cause { HasCause (K.faults out.old.sink.now) (K.faults out.new.sink.now) result }
-    ensures no_fault { OnOk result (K.faults out.new.sink.now ≡ K.faults out.old.sink.now) }
-    ensures never_falls { K.faults out.old.sink.now ≤ K.faults out.new.sink.now }
-    ensures grows { IsFront (K.taken out.old.sink.now) (K.taken out.new.sink.now) }
-    ensures same_sink { out.new.sink.ghost_name ≡ out.old.sink.ghost_name }
+    ensures { Writes K.taken K.faults (order_text order.now) out.old out.new result }
 {
     match order {
         Some(order) => topo_write(order, out),

@@ -1,13 +1,12 @@
 //! Which application does a task: its programs as they begin, and, after their last round, its answer.
 
-ghost use Rattle.std.specs.Prelude.{◌≡◌, ◌≤◌, ◌<◌, ℕ, Bool, true, false, List, None, length, IfOk, OnErr};
+ghost use Rattle.round_program.specs.Ranks.{AreRanks};
+ghost use Rattle.std.specs.Prelude.{◌≡◌, ◌≤◌, ◌<◌, ℕ, List, length, IfOk, OnErr};
 ghost use Rattle.round_program.specs.Canonical.{InRound, EndsWithin, HaveEnded};
 ghost use Rattle.app_cases.specs.Any.{any_rules};
-ghost use Rattle.bale_words.specs.Ranges.{TaskInRanges};
-ghost use Rattle.bale_subjects.specs.Fitness.{first_failed, subject_tests, task_unfitness};
-ghost use Rattle.bale_subjects.specs.Subjects.{is_tally, suits};
 ghost use Rattle.bale_answers.specs.AnswerEnds.{IsAnswerEnd};
 ghost use Rattle.bale_answers.specs.Tasks.{starts_of};
+ghost use Rattle.bale_answers.specs.Needs.{IsFit, IsFitOn};
 
 use crate::application::Application;
 use crate::column_answers::{HistoAnswer, IgAnswer};
@@ -34,11 +33,8 @@ pub fn start_task(
     subject: &Subject,
     ranks: u32,
 ) -> Result<Progs<AnyProgram>, NoMemory>
-    requires suits { suits task.now subject.now ≡ true }
-    requires ranges { TaskInRanges task.now }
-    requires fits { (serial : Bool) × (first_failed (subject_tests task.now subject.now serial) ≡ None) }
-    requires some { 1 ≤ ranks }
-    requires few { ranks ≤ 64 }
+    requires fit { IsFit task.now subject.now }
+    requires ranks { AreRanks ranks }
     ensures starts { IfOk result (λ ps. ps ≡ starts_of task.now ranks subject.now) }
     ensures begins { IfOk result (λ ps. (shape : List ℕ) × (most : ℕ) × InRound any_rules ranks 0 shape most ps
         × EndsWithin any_rules ps most) }
@@ -62,9 +58,7 @@ pub fn finish_task<K: Sink>(
     progs: Progs<AnyProgram>,
     out: &mut K,
 ) -> Result<AnswerEnd, NoMemory>
-    requires suits { suits task.now subject.now ≡ true }
-    requires ranges { TaskInRanges task.now }
-    requires fits { (serial : Bool) × (first_failed (subject_tests task.now subject.now serial) ≡ None) }
+    requires fit { IsFit task.now subject.now }
     requires ended { (ranks : ℕ) × (1 ≤ ranks) × (ranks ≤ 64) × (0 < length (starts_of task.now ranks subject.now))
         × HaveEnded any_rules (starts_of task.now ranks subject.now) progs }
     ensures ending { IfOk result (IsAnswerEnd task.now subject.now generated K.taken K.faults out.old out.new) }
@@ -85,11 +79,8 @@ fn start_on(
     m: &Matrix,
     ranks: u32,
 ) -> Result<Progs<AnyProgram>, NoMemory>
-    requires other { is_tally task.now ≡ false }
-    requires ranges { TaskInRanges task.now }
-    requires fits { (serial : Bool) × (task_unfitness task.now m.now serial ≡ None) }
-    requires some { 1 ≤ ranks }
-    requires few { ranks ≤ 64 }
+    requires fit { IsFitOn task.now m.now }
+    requires ranks { AreRanks ranks }
     ensures starts { IfOk result (λ ps. ps ≡ starts_of task.now ranks (Subject.Matrix m.now)) }
     ensures begins { IfOk result (λ ps. (shape : List ℕ) × (most : ℕ) × InRound any_rules ranks 0 shape most ps
         × EndsWithin any_rules ps most) }
@@ -118,9 +109,7 @@ fn finish_on<K: Sink>(
     progs: Progs<AnyProgram>,
     out: &mut K,
 ) -> Result<AnswerEnd, NoMemory>
-    requires other { is_tally task.now ≡ false }
-    requires ranges { TaskInRanges task.now }
-    requires fits { (serial : Bool) × (task_unfitness task.now m.now serial ≡ None) }
+    requires fit { IsFitOn task.now m.now }
     requires ended { (ranks : ℕ) × (1 ≤ ranks) × (ranks ≤ 64)
         × (0 < length (starts_of task.now ranks (Subject.Matrix m.now)))
         × HaveEnded any_rules (starts_of task.now ranks (Subject.Matrix m.now)) progs }
@@ -153,8 +142,7 @@ fn start_as<A: Application>(
     ranks: u32,
 ) -> Result<Progs<AnyProgram>, NoMemory>
     requires needs { A.needs options.now of.now }
-    requires some { 1 ≤ ranks }
-    requires few { ranks ≤ 64 }
+    requires ranks { AreRanks ranks }
     ensures starts { IfOk result (λ ps. ps ≡ starts_of (A.task options.now) ranks (A.subject of.now)) }
     ensures begins { IfOk result (λ ps. (shape : List ℕ) × (most : ℕ) × InRound any_rules ranks 0 shape most ps
         × EndsWithin any_rules ps most) }

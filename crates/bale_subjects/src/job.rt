@@ -1,7 +1,7 @@
 //! The command of words, and what it is asked of.
 
 ghost use Rattle.std.specs.Prelude.{◌≡◌, ◌≢◌, ◌⊎◌, ℕ, true, false, is_some, List, map, drop, string_bytes, Some, None, OnOk, IfOk, IfErr, Ok, Err};
-ghost use Rattle.bale_types.specs.Stream.{RoseOrFull};
+ghost use Rattle.bale_types.specs.Stream.{Blames};
 ghost use Rattle.mtx_text.specs.Generated.{generated};
 ghost use Rattle.app_tally.specs.Texts.{lines_of_text};
 ghost use Rattle.bale_words.specs.Ranges.{InRanges, MayGenerate};
@@ -55,8 +55,7 @@ pub fn subject_for<S: Source>(
         → IfOk result (λ s. subject_asked command.now text ≡ Ok s) }
     ensures suits { IfOk result (λ s. suits command.now.task s ≡ true) }
     ensures fits { IfOk result (λ s. unfitness command.now s serial ≡ None) }
-    ensures read_fault { result ≡ Err Refusal.ReadFault → RoseOrFull (S.faults source.old) (S.faults source.new) }
-    ensures no_fault { result ≢ Err Refusal.ReadFault → S.faults source.new ≡ S.faults source.old }
+    ensures faults { Blames (result ≡ Err Refusal.ReadFault) (S.faults source.old) (S.faults source.new) }
     ensures bad { (text : List ℕ) (b : _) → Told (Some command.now) (S.left source.old) text
         → result ≡ Err (Refusal.BadText b) → subject_asked command.now text ≡ Err (Refusal.BadText b) }
     ensures unfit { (text : List ℕ) (u : Unfit) → Told (Some command.now) (S.left source.old) text
@@ -86,8 +85,7 @@ fn read_subject<S: Source>(
     ensures asked { (text : List ℕ) → Told (Some command.now) (S.left source.old) text
         → IsRead (subject_asked command.now text) result }
     ensures suits { IfOk result (λ s. suits command.now.task s ≡ true) }
-    ensures read_fault { result ≡ Err Refusal.ReadFault → RoseOrFull (S.faults source.old) (S.faults source.new) }
-    ensures no_fault { result ≢ Err Refusal.ReadFault → S.faults source.new ≡ S.faults source.old }
+    ensures faults { Blames (result ≡ Err Refusal.ReadFault) (S.faults source.old) (S.faults source.new) }
     ensures kinds { IfErr result IsOfReading }
     ensures unread { reads (Some command.now) ≡ false → source.new ≡ source.old }
     ensures read_whole { (text : List ℕ) → S.left source.old ≡ Some text → reads (Some command.now) ≡ true
@@ -110,8 +108,7 @@ fn is_tally(task: &Task) -> bool
 fn read_lines_of<S: Source>(alloc: Global, source: &mut S) -> Result<Subject, Refusal>
     ensures asked { (text : List ℕ) → S.left source.old ≡ Some text → IsRead (of_lines (lines_of_text text)) result }
     ensures lines { (t : _) → is_tally t ≡ true → IfOk result (λ s. suits t s ≡ true) }
-    ensures read_fault { result ≡ Err Refusal.ReadFault → RoseOrFull (S.faults source.old) (S.faults source.new) }
-    ensures no_fault { result ≢ Err Refusal.ReadFault → S.faults source.new ≡ S.faults source.old }
+    ensures faults { Blames (result ≡ Err Refusal.ReadFault) (S.faults source.old) (S.faults source.new) }
     ensures kinds { IfErr result IsOfReading }
     ensures read_whole { (text : List ℕ) → S.left source.old ≡ Some text
         → OnText result (S.left source.new ≡ Some (drop 16_777_217 text)) }
@@ -130,8 +127,7 @@ fn read_matrix_of<S: Source>(
     ensures asked { (text : List ℕ) → TellsText band (S.left source.old) text
         → IsRead (of_matrix (matrix_asked band text)) result }
     ensures matrix { (t : _) → is_tally t ≡ false → IfOk result (λ s. suits t s ≡ true) }
-    ensures read_fault { result ≡ Err Refusal.ReadFault → RoseOrFull (S.faults source.old) (S.faults source.new) }
-    ensures no_fault { result ≢ Err Refusal.ReadFault → S.faults source.new ≡ S.faults source.old }
+    ensures faults { Blames (result ≡ Err Refusal.ReadFault) (S.faults source.old) (S.faults source.new) }
     ensures kinds { IfErr result IsOfReading }
     ensures unread { is_some band ≡ true → source.new ≡ source.old }
     ensures read_whole { (text : List ℕ) → S.left source.old ≡ Some text → is_some band ≡ false

@@ -1,4 +1,5 @@
 pub mod Bits
+pub mod Changes
 pub mod Digits
 pub mod Memory
 pub mod Out

@@ -1,6 +1,6 @@
 -- What a source has still to give, what a sink has taken, and what one call moves between them and a
 -- buffer. Where an object doesn't tell its bytes, they are None before and after each call.
-use Rattle.std.specs.Prelude.{◌≡◌, ◌<◌, ◌^◌, ◌-◌, ◌⊎◌, ℕ, zero, suc, ◌+◌, min, List, [], ◌++◌, Option, None, Some, Result, Ok, Err, OnErr, take}
+use Rattle.std.specs.Prelude.{◌≡◌, ◌<◌, ◌≤◌, ◌^◌, ◌-◌, ◌⊎◌, ℕ, zero, suc, ◌+◌, min, List, [], ◌++◌, Option, None, Some, Result, Ok, Err, OnErr, OnOk, IfOk, take}
 
 -- what is taken once these bytes were appended
 -- after (Some taken) bytes = Some (taken ++ bytes)
@@ -42,6 +42,34 @@ RoseOrFull old new = (old < new) ⊎ (new ≡ 2 ^ 64 - 1)
 -- Err from 3 to 4 has its cause, and Err from 3 to 3 has none
 abbrev pub HasCause : {T E : Type 0} → ℕ → ℕ → Result T E → Type 0
 HasCause old new result = OnErr result (RoseOrFull old new)
+
+-- what a call does to an object's count of faults, by its answer
+-- cause: a failure has its cause: the object counted it
+-- no_fault: a call that answers Ok passed over no fault
+-- never_falls: the count never falls
+-- Err from 3 to 4; Ok from 3 to 3
+pub record CountsFaults {T E : Type 0} (old new : ℕ) (result : Result T E) : Type 0 where
+  pub cause : HasCause old new result
+  pub no_fault : OnOk result (new ≡ old)
+  pub never_falls : old ≤ new
+
+-- where a call blames an object, and where it doesn't: the object's count of faults tells
+-- cause: what is blamed on it, it counted
+-- no_fault: what isn't, it didn't
+-- never_falls: the count never falls
+-- a read fault from 3 to 4; a bad line from 3 to 3
+pub record Blames (blamed : Type 0) (old new : ℕ) : Type 0 where
+  pub cause : blamed → RoseOrFull old new
+  pub no_fault : ¬ blamed → new ≡ old
+  pub never_falls : old ≤ new
+
+-- a call that succeeds moves some of so many bytes
+-- some: at least one
+-- bound: no more than there are
+-- of three bytes Ok 2, and not Ok 0
+pub record MovesSome {E : Type 0} (all : ℕ) (result : Result ℕ E) : Type 0 where
+  pub some : IfOk result (λ count. 0 < count)
+  pub bound : IfOk result (λ count. count ≤ all)
 
 -- a counter's next value, which stands still at its type's end
 -- next_count n = min (n + 1) (2^64 - 1)

@@ -1,7 +1,7 @@
 //! The text of numbers, laid into a buffer behind the bytes that it holds: each call says where the next is laid.
 ghost use Rattle.std.specs.Prelude.{◌≡◌, ◌+◌, ◌/◌, ◌%◌, ◌<◌, ◌≤◌, [], ◌∷◌, ◌++◌, length, take};
 ghost use Rattle.std.specs.Fmt.{decimal, signed_decimal};
-ghost use Rattle.bale_types.specs.Digits.{four};
+ghost use Rattle.bale_types.specs.Digits.{four, IsLaid};
 
 use super::fours::Fours;
 use itoa::{Buffer, Integer};
@@ -14,9 +14,8 @@ static PAIRS: [u8; 200] =
 #[inline(always)]
 pub fn lay_byte(buffer: &mut [u8], at: usize, b: u8) -> usize
     requires { at + 1 ≤ length buffer.old }
-    ensures bytes { take result buffer.new ≡ take at buffer.old ++ b ∷ [] }
+    ensures laid { IsLaid 1 at result buffer.old buffer.new (b ∷ []) }
     ensures end { result ≡ at + 1 }
-    ensures len { length buffer.new ≡ length buffer.old }
 {
     buffer[at] = b;
     at + 1
@@ -27,9 +26,7 @@ pub fn lay_byte(buffer: &mut [u8], at: usize, b: u8) -> usize
 #[inline(always)]
 pub fn lay_natural(buffer: &mut [u8], at: usize, n: u64) -> usize
     requires { at + 20 ≤ length buffer.old }
-    ensures bytes { take result buffer.new ≡ take at buffer.old ++ decimal n }
-    ensures end { result ≤ at + 20 }
-    ensures len { length buffer.new ≡ length buffer.old }
+    ensures { IsLaid 20 at result buffer.old buffer.new (decimal n) }
 {
     if n < 100 {
         two_digits(buffer, at, n as u32)
@@ -46,9 +43,7 @@ pub fn lay_natural(buffer: &mut [u8], at: usize, n: u64) -> usize
 #[inline(always)]
 pub fn lay_natural_by(buffer: &mut [u8], at: usize, fours: &Fours, n: u64) -> usize
     requires { at + 20 ≤ length buffer.old }
-    ensures bytes { take result buffer.new ≡ take at buffer.old ++ decimal n }
-    ensures end { result ≤ at + 20 }
-    ensures len { length buffer.new ≡ length buffer.old }
+    ensures { IsLaid 20 at result buffer.old buffer.new (decimal n) }
 {
     if n < 1_000 || 100_000 <= n {
         lay_natural(buffer, at, n)
@@ -63,9 +58,7 @@ pub fn lay_natural_by(buffer: &mut [u8], at: usize, fours: &Fours, n: u64) -> us
 #[inline(always)]
 pub fn lay_integer(buffer: &mut [u8], at: usize, n: i64) -> usize
     requires { at + 20 ≤ length buffer.old }
-    ensures bytes { take result buffer.new ≡ take at buffer.old ++ signed_decimal n }
-    ensures end { result ≤ at + 20 }
-    ensures len { length buffer.new ≡ length buffer.old }
+    ensures { IsLaid 20 at result buffer.old buffer.new (signed_decimal n) }
 {
     if 0 <= n {
         lay_natural(buffer, at, n as u64)
@@ -78,9 +71,7 @@ pub fn lay_integer(buffer: &mut [u8], at: usize, n: i64) -> usize
 #[inline(never)]
 fn lay_number<I: Integer>(buffer: &mut [u8], at: usize, n: I) -> usize
     requires { at + I.MAX_STR_LEN ≤ length buffer.old }
-    ensures bytes { take result buffer.new ≡ take at buffer.old ++ I.text n }
-    ensures end { result ≤ at + I.MAX_STR_LEN }
-    ensures len { length buffer.new ≡ length buffer.old }
+    ensures { IsLaid I.MAX_STR_LEN at result buffer.old buffer.new (I.text n) }
 {
     let mut digits = Buffer::new();
     lay_text(buffer, at, digits.format(n).as_bytes())
@@ -89,9 +80,8 @@ fn lay_number<I: Integer>(buffer: &mut [u8], at: usize, n: I) -> usize
 /// The same of bytes.
 pub(crate) fn lay_text(buffer: &mut [u8], at: usize, t: &[u8]) -> usize
     requires { at + length t.now ≤ length buffer.old }
-    ensures bytes { take result buffer.new ≡ take at buffer.old ++ t.now }
+    ensures laid { IsLaid (length t.now) at result buffer.old buffer.new t.now }
     ensures end { result ≡ at + length t.now }
-    ensures len { length buffer.new ≡ length buffer.old }
 {
     let end = at + t.len();
     buffer[at..end].copy_from_slice(t);
@@ -103,9 +93,7 @@ pub(crate) fn lay_text(buffer: &mut [u8], at: usize, t: &[u8]) -> usize
 fn two_digits(buffer: &mut [u8], at: usize, n: u32) -> usize
     requires room { at + 2 ≤ length buffer.old }
     requires few { n < 100 }
-    ensures bytes { take result buffer.new ≡ take at buffer.old ++ decimal n }
-    ensures end { result ≤ at + 2 }
-    ensures len { length buffer.new ≡ length buffer.old }
+    ensures { IsLaid 2 at result buffer.old buffer.new (decimal n) }
 {
     if n < 10 {
         digit(buffer, at, n);
@@ -121,9 +109,7 @@ fn four_digits(buffer: &mut [u8], at: usize, n: u32) -> usize
     requires room { at + 4 ≤ length buffer.old }
     requires many { 100 ≤ n }
     requires few { n < 10_000 }
-    ensures bytes { take result buffer.new ≡ take at buffer.old ++ decimal n }
-    ensures end { result ≤ at + 4 }
-    ensures len { length buffer.new ≡ length buffer.old }
+    ensures { IsLaid 4 at result buffer.old buffer.new (decimal n) }
 {
     let next = two_digits(buffer, at, n / 100);
     pair(buffer, next, n % 100);
@@ -136,9 +122,7 @@ fn five_digits(buffer: &mut [u8], at: usize, n: u32) -> usize
     requires room { at + 5 ≤ length buffer.old }
     requires many { 10_000 ≤ n }
     requires few { n < 100_000 }
-    ensures bytes { take result buffer.new ≡ take at buffer.old ++ decimal n }
-    ensures end { result ≤ at + 5 }
-    ensures len { length buffer.new ≡ length buffer.old }
+    ensures { IsLaid 5 at result buffer.old buffer.new (decimal n) }
 {
     let rest = n % 10_000;
     digit(buffer, at, n / 10_000);
@@ -153,9 +137,7 @@ fn four_by(buffer: &mut [u8], at: usize, fours: &Fours, n: u32) -> usize
     requires room { at + 4 ≤ length buffer.old }
     requires many { 1_000 ≤ n }
     requires few { n < 10_000 }
-    ensures bytes { take result buffer.new ≡ take at buffer.old ++ decimal n }
-    ensures end { result ≤ at + 4 }
-    ensures len { length buffer.new ≡ length buffer.old }
+    ensures { IsLaid 4 at result buffer.old buffer.new (decimal n) }
 {
     look(buffer, at, fours, n);
     at + 4
@@ -167,9 +149,7 @@ fn five_by(buffer: &mut [u8], at: usize, fours: &Fours, n: u32) -> usize
     requires room { at + 5 ≤ length buffer.old }
     requires many { 10_000 ≤ n }
     requires few { n < 100_000 }
-    ensures bytes { take result buffer.new ≡ take at buffer.old ++ decimal n }
-    ensures end { result ≤ at + 5 }
-    ensures len { length buffer.new ≡ length buffer.old }
+    ensures { IsLaid 5 at result buffer.old buffer.new (decimal n) }
 {
     digit(buffer, at, n / 10_000);
     look(buffer, at + 1, fours, n % 10_000);
@@ -181,8 +161,7 @@ fn five_by(buffer: &mut [u8], at: usize, fours: &Fours, n: u32) -> usize
 fn look(buffer: &mut [u8], at: usize, fours: &Fours, n: u32)
     requires room { at + 4 ≤ length buffer.old }
     requires few { n < 10_000 }
-    ensures bytes { take (at + 4) buffer.new ≡ take at buffer.old ++ four n }
-    ensures len { length buffer.new ≡ length buffer.old }
+    ensures { IsLaid 4 at (at + 4) buffer.old buffer.new (four n) }
 {
     buffer[at..at + 4].copy_from_slice(&fours.of(n));
 }
@@ -192,8 +171,7 @@ fn look(buffer: &mut [u8], at: usize, fours: &Fours, n: u32)
 fn pair(buffer: &mut [u8], at: usize, n: u32)
     requires room { at + 2 ≤ length buffer.old }
     requires few { n < 100 }
-    ensures bytes { take (at + 2) buffer.new ≡ take at buffer.old ++ (48 + n / 10) ∷ (48 + n % 10) ∷ [] }
-    ensures len { length buffer.new ≡ length buffer.old }
+    ensures { IsLaid 2 at (at + 2) buffer.old buffer.new ((48 + n / 10) ∷ (48 + n % 10) ∷ []) }
 {
     let from = n as usize * 2;
     let digits = [PAIRS[from], PAIRS[from + 1]];
@@ -205,8 +183,7 @@ fn pair(buffer: &mut [u8], at: usize, n: u32)
 fn digit(buffer: &mut [u8], at: usize, n: u32)
     requires room { at + 1 ≤ length buffer.old }
     requires few { n < 10 }
-    ensures bytes { take (at + 1) buffer.new ≡ take at buffer.old ++ (48 + n) ∷ [] }
-    ensures len { length buffer.new ≡ length buffer.old }
+    ensures { IsLaid 1 at (at + 1) buffer.old buffer.new ((48 + n) ∷ []) }
 {
     buffer[at] = b'0' + n as u8;
 }

@@ -21,7 +21,8 @@
 //! a sink holds a front of what was appended, the rest still waits in the `Out`, and the sink's count of
 //! faults rose.
 //!
-//! The definitions, in the order in which to read them: `Stream` (sources and sinks), `Out`, `Memory`, `Bits`, `Digits`.
+//! The definitions, in the order in which to read them: `Stream` (sources and sinks), `Out`, `Memory`, `Bits`, `Digits`, and
+//! `Changes`, of calls that may fail.
 #![tactic(auto)]
 
 mod bits;

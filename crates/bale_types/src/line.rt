@@ -2,6 +2,7 @@
 //! `Out::line`.
 ghost use Rattle.std.specs.Prelude.{◌≡◌, ◌+◌, ◌≤◌, ℕ, List, [], ◌∷◌, ◌++◌, length, take};
 ghost use Rattle.std.specs.Fmt.{decimal, signed_decimal};
+ghost use Rattle.bale_types.specs.Digits.{IsLaid, HasMore};
 
 use super::digits::{lay_byte, lay_integer, lay_natural, lay_text};
 use itoa::{Buffer, Integer};
@@ -48,8 +49,7 @@ impl Line {
     #[inline(always)]
     pub fn byte(&mut self, b: u8)
         requires { length self.old + 1 ≤ LINE_ROOM }
-        ensures bytes { self.new ≡ self.old ++ b ∷ [] }
-        ensures len { length self.new ≡ length self.old + 1 }
+        ensures { HasMore 1 self.old self.new (b ∷ []) }
     {
         self.len = lay_byte(&mut self.room, self.len, b);
     }
@@ -57,8 +57,7 @@ impl Line {
     /// Appends bytes, for which there must be room.
     pub fn text(&mut self, t: &[u8])
         requires { length self.old + length t.now ≤ LINE_ROOM }
-        ensures bytes { self.new ≡ self.old ++ t.now }
-        ensures len { length self.new ≡ length self.old + length t.now }
+        ensures { HasMore (length t.now) self.old self.new t.now }
     {
         self.len = lay_text(&mut self.room, self.len, t);
     }
@@ -67,8 +66,7 @@ impl Line {
     /// 64 bits, with or without a sign.
     pub fn number<I: Integer>(&mut self, n: I)
         requires { length self.old + I.MAX_STR_LEN ≤ LINE_ROOM }
-        ensures bytes { self.new ≡ self.old ++ I.text n }
-        ensures len { length self.new ≤ length self.old + I.MAX_STR_LEN }
+        ensures { HasMore I.MAX_STR_LEN self.old self.new (I.text n) }
     {
         let mut buffer = Buffer::new();
         self.text(buffer.format(n).as_bytes());
@@ -79,8 +77,7 @@ impl Line {
     #[inline(always)]
     pub fn natural(&mut self, n: u64)
         requires { length self.old + 20 ≤ LINE_ROOM }
-        ensures bytes { self.new ≡ self.old ++ decimal n }
-        ensures len { length self.new ≤ length self.old + 20 }
+        ensures { HasMore 20 self.old self.new (decimal n) }
     {
         self.len = lay_natural(&mut self.room, self.len, n);
     }
@@ -89,8 +86,7 @@ impl Line {
     #[inline(always)]
     pub fn integer(&mut self, n: i64)
         requires { length self.old + 20 ≤ LINE_ROOM }
-        ensures bytes { self.new ≡ self.old ++ signed_decimal n }
-        ensures len { length self.new ≤ length self.old + 20 }
+        ensures { HasMore 20 self.old self.new (signed_decimal n) }
     {
         self.len = lay_integer(&mut self.room, self.len, n);
     }
@@ -129,9 +125,7 @@ pub trait LineText {
     /// Lays the text behind the first `at` bytes of a buffer, and says where it ends; what follows there may be anything.
     fn lay(&self, buffer: &mut [u8], at: usize) -> usize
         requires room { at + LINE_ROOM ≤ length buffer.old }
-        ensures bytes { take result buffer.new ≡ take at buffer.old ++ text self.now }
-        ensures end { result ≤ at + LINE_ROOM }
-        ensures len { length buffer.new ≡ length buffer.old };
+        ensures { IsLaid LINE_ROOM at result buffer.old buffer.new (text self.now) };
 }
 
 impl LineText for Line {
@@ -141,9 +135,7 @@ impl LineText for Line {
     #[inline(always)]
     fn lay(&self, buffer: &mut [u8], at: usize) -> usize
         requires room { at + LINE_ROOM ≤ length buffer.old }
-        ensures bytes { take result buffer.new ≡ take at buffer.old ++ self.now }
-        ensures end { result ≤ at + LINE_ROOM }
-        ensures len { length buffer.new ≡ length buffer.old }
+        ensures { IsLaid LINE_ROOM at result buffer.old buffer.new self.now }
     {
         let end = at + self.len;
         if self.len <= SHORT {

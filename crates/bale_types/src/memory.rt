@@ -1,7 +1,7 @@
 //! A source and a sink in memory, which fail at the calls that their maker names: for tests, and for
 //! whoever has the bytes at hand.
 ghost use Rattle.std.specs.Prelude.{◌≡◌, ◌<◌, ◌≤◌, ◌-◌, ◌↔◌, ◌⊎◌, if◌then◌else◌, ℕ, List, Some, [], length, min, is_err, IfOk, IsErr, OnOk, Contains};
-ghost use Rattle.bale_types.specs.Stream.{after, before, moved, next_count, HasCause};
+ghost use Rattle.bale_types.specs.Stream.{after, before, moved, next_count, CountsFaults, MovesSome};
 
 use super::fault::{Failed, NoMemory};
 use super::stream::{Sink, Source};
@@ -88,9 +88,7 @@ impl Source for MemSource {
         ensures bytes { Some self.old.left ≡ before (moved result buf.new) (Some self.new.left) }
         ensures only_at_end { (text : List ℕ) → result ≡ Ok 0 → Some self.old.left ≡ Some text → text ≡ [] }
         ensures at_end { Some self.old.left ≡ Some [] → IfOk result (λ count. count ≡ 0) }
-        ensures cause { HasCause self.old.faults self.new.faults result }
-        ensures no_fault { OnOk result (self.new.faults ≡ self.old.faults) }
-        ensures never_falls { self.old.faults ≤ self.new.faults }
+        ensures counts { CountsFaults self.old.faults self.new.faults result }
         ensures calls { self.new.calls ≡ next_count self.old.calls }
         ensures fails { IsErr result ↔ Contains self.old.fails self.new.calls }
         ensures count { IfOk result (λ count.
@@ -194,12 +192,9 @@ impl Sink for MemSink {
 
     fn write(&mut self, piece: &[u8]) -> Result<usize, Failed>
         requires { 0 < length piece.now }
-        ensures some { IfOk result (λ count. 0 < count) }
-        ensures bound { IfOk result (λ count. count ≤ length piece.now) }
+        ensures some { MovesSome (length piece.now) result }
         ensures bytes { Some self.new.taken ≡ after (Some self.old.taken) (moved result piece.now) }
-        ensures cause { HasCause self.old.faults self.new.faults result }
-        ensures no_fault { OnOk result (self.new.faults ≡ self.old.faults) }
-        ensures never_falls { self.old.faults ≤ self.new.faults }
+        ensures counts { CountsFaults self.old.faults self.new.faults result }
         ensures calls { self.new.calls ≡ next_count self.old.calls }
         ensures fails { IsErr result ↔
             (Contains self.old.fails self.new.calls ⊎ (length self.old.taken ≡ self.old.room)) }

@@ -7,7 +7,7 @@
 //! memory.
 ghost use Rattle.std.specs.Prelude.{◌≡◌, ◌+◌, ◌%◌, ◌<◌, ◌≤◌, [], ◌∷◌, length, take, IfOk, OnOk, OnErr, IsOk};
 ghost use Rattle.std.specs.Fmt.{signed_decimal};
-ghost use Rattle.bale_types.specs.Stream.{after, HasCause, IsFront};
+ghost use Rattle.bale_types.specs.Stream.{after, CountsFaults, IsFront, MovesSome};
 ghost use Rattle.bale_types.specs.declared.out.TheConstants.{BUFFER};
 
 use super::fault::Failed;
@@ -32,7 +32,7 @@ pub struct Out<'a, K> {
 }
 
 impl<'a, K: Sink> Out<'a, K> {
-    ghost use Rattle.bale_types.specs.Out.{appended, left_over};
+    ghost use Rattle.bale_types.specs.Out.{appended, Appends, HandsOn};
 
     /// An empty buffer in front of `sink`.
     pub fn new(sink: &'a mut K) -> Out<'a, K>
@@ -55,19 +55,7 @@ impl<'a, K: Sink> Out<'a, K> {
     ///
     /// `Failed` where the sink's faults rose in this call.
     pub fn byte(&mut self, b: u8) -> Result<(), Failed>
-        ensures ok { OnOk result (appended K.taken self.new ≡ after (appended K.taken self.old) (b ∷ [])) }
-        ensures err { OnErr result
-            (IsFront (K.taken self.new.sink.now) (after (appended K.taken self.old) (b ∷ []))) }
-        ensures kept { OnErr result (IsFront (appended K.taken self.old) (appended K.taken self.new)) }
-        ensures part { OnErr result (IsFront (appended K.taken self.new) (after (appended K.taken self.old) (b ∷ []))) }
-        ensures cause { HasCause (K.faults self.old.sink.now) (K.faults self.new.sink.now) result }
-        ensures no_fault { OnOk result (K.faults self.new.sink.now ≡ K.faults self.old.sink.now) }
-        ensures never_falls { K.faults self.old.sink.now ≤ K.faults self.new.sink.now }
-        ensures gathers { self.old.len + 1 < 4096 → self.new.sink.now ≡ self.old.sink.now }
-        ensures no_failure { self.old.len + 1 < 4096 → IsOk result }
-        ensures waits { OnOk result (self.new.len ≡ left_over self.old.len 1) }
-        ensures grows { IsFront (K.taken self.old.sink.now) (K.taken self.new.sink.now) }
-        ensures same_sink { self.new.sink.ghost_name ≡ self.old.sink.ghost_name }
+        ensures { Appends K.taken K.faults (b ∷ []) self.old self.new result }
     {
         self.text(&[b])
     }
@@ -78,19 +66,7 @@ impl<'a, K: Sink> Out<'a, K> {
     ///
     /// `Failed` where the sink's faults rose in this call.
     pub fn text(&mut self, t: &[u8]) -> Result<(), Failed>
-        ensures ok { OnOk result (appended K.taken self.new ≡ after (appended K.taken self.old) t.now) }
-        ensures err { OnErr result
-            (IsFront (K.taken self.new.sink.now) (after (appended K.taken self.old) t.now)) }
-        ensures kept { OnErr result (IsFront (appended K.taken self.old) (appended K.taken self.new)) }
-        ensures part { OnErr result (IsFront (appended K.taken self.new) (after (appended K.taken self.old) t.now)) }
-        ensures cause { HasCause (K.faults self.old.sink.now) (K.faults self.new.sink.now) result }
-        ensures no_fault { OnOk result (K.faults self.new.sink.now ≡ K.faults self.old.sink.now) }
-        ensures never_falls { K.faults self.old.sink.now ≤ K.faults self.new.sink.now }
-        ensures gathers { self.old.len + length t.now < 4096 → self.new.sink.now ≡ self.old.sink.now }
-        ensures no_failure { self.old.len + length t.now < 4096 → IsOk result }
-        ensures waits { OnOk result (self.new.len ≡ left_over self.old.len (length t.now)) }
-        ensures grows { IsFront (K.taken self.old.sink.now) (K.taken self.new.sink.now) }
-        ensures same_sink { self.new.sink.ghost_name ≡ self.old.sink.ghost_name }
+        ensures { Appends K.taken K.faults t.now self.old self.new result }
     {
         let mut at = 0;
         while at < t.len() {
@@ -106,20 +82,7 @@ impl<'a, K: Sink> Out<'a, K> {
     /// `Failed` where the sink's faults rose in this call.
     #[inline(always)]
     pub fn line<L: LineText>(&mut self, line: &L) -> Result<(), Failed>
-        ensures ok { OnOk result (appended K.taken self.new ≡ after (appended K.taken self.old) (L.text line.now)) }
-        ensures err { OnErr result
-            (IsFront (K.taken self.new.sink.now) (after (appended K.taken self.old) (L.text line.now))) }
-        ensures kept { OnErr result (IsFront (appended K.taken self.old) (appended K.taken self.new)) }
-        ensures part { OnErr result
-            (IsFront (appended K.taken self.new) (after (appended K.taken self.old) (L.text line.now))) }
-        ensures cause { HasCause (K.faults self.old.sink.now) (K.faults self.new.sink.now) result }
-        ensures no_fault { OnOk result (K.faults self.new.sink.now ≡ K.faults self.old.sink.now) }
-        ensures never_falls { K.faults self.old.sink.now ≤ K.faults self.new.sink.now }
-        ensures gathers { self.old.len + length (L.text line.now) < 4096 → self.new.sink.now ≡ self.old.sink.now }
-        ensures no_failure { self.old.len + length (L.text line.now) < 4096 → IsOk result }
-        ensures waits { OnOk result (self.new.len ≡ left_over self.old.len (length (L.text line.now))) }
-        ensures grows { IsFront (K.taken self.old.sink.now) (K.taken self.new.sink.now) }
-        ensures same_sink { self.new.sink.ghost_name ≡ self.old.sink.ghost_name }
+        ensures { Appends K.taken K.faults (L.text line.now) self.old self.new result }
     {
         if self.len < BUFFER - LINE_ROOM {
             self.lay(line);
@@ -136,22 +99,7 @@ impl<'a, K: Sink> Out<'a, K> {
     ///
     /// `Failed` where the sink's faults rose in this call.
     pub fn number(&mut self, n: i64) -> Result<(), Failed>
-        ensures ok { OnOk result
-            (appended K.taken self.new ≡ after (appended K.taken self.old) (signed_decimal n)) }
-        ensures err { OnErr result
-            (IsFront (K.taken self.new.sink.now) (after (appended K.taken self.old) (signed_decimal n))) }
-        ensures kept { OnErr result (IsFront (appended K.taken self.old) (appended K.taken self.new)) }
-        ensures part { OnErr result (IsFront (appended K.taken self.new)
-            (after (appended K.taken self.old) (signed_decimal n))) }
-        ensures cause { HasCause (K.faults self.old.sink.now) (K.faults self.new.sink.now) result }
-        ensures no_fault { OnOk result (K.faults self.new.sink.now ≡ K.faults self.old.sink.now) }
-        ensures never_falls { K.faults self.old.sink.now ≤ K.faults self.new.sink.now }
-        ensures gathers { self.old.len + length (signed_decimal n) < 4096
-            → self.new.sink.now ≡ self.old.sink.now }
-        ensures no_failure { self.old.len + length (signed_decimal n) < 4096 → IsOk result }
-        ensures waits { OnOk result (self.new.len ≡ left_over self.old.len (length (signed_decimal n))) }
-        ensures grows { IsFront (K.taken self.old.sink.now) (K.taken self.new.sink.now) }
-        ensures same_sink { self.new.sink.ghost_name ≡ self.old.sink.ghost_name }
+        ensures { Appends K.taken K.faults (signed_decimal n) self.old self.new result }
     {
         let mut buffer = Buffer::new();
         self.text(buffer.format(n).as_bytes())
@@ -170,11 +118,7 @@ impl<'a, K: Sink> Out<'a, K> {
         ensures kept { appended K.taken self.new ≡ appended K.taken self.old }
         ensures no_write { self.old.len ≡ 0 → self.new.sink.now ≡ self.old.sink.now }
         ensures no_failure { self.old.len ≡ 0 → IsOk result }
-        ensures cause { HasCause (K.faults self.old.sink.now) (K.faults self.new.sink.now) result }
-        ensures no_fault { OnOk result (K.faults self.new.sink.now ≡ K.faults self.old.sink.now) }
-        ensures never_falls { K.faults self.old.sink.now ≤ K.faults self.new.sink.now }
-        ensures grows { IsFront (K.taken self.old.sink.now) (K.taken self.new.sink.now) }
-        ensures same_sink { self.new.sink.ghost_name ≡ self.old.sink.ghost_name }
+        ensures sink { HandsOn K.taken K.faults self.old self.new result }
     {
         while self.len > 0 {
             self.len = hand_some(self.sink, &mut self.buffer, self.len)?;
@@ -186,22 +130,17 @@ impl<'a, K: Sink> Out<'a, K> {
     /// many.
     fn fill(&mut self, t: &[u8]) -> Result<usize, Failed>
         requires { 0 < length t.now }
-        ensures some { IfOk result (λ count. 0 < count) }
-        ensures bound { IfOk result (λ count. count ≤ length t.now) }
+        ensures some { MovesSome (length t.now) result }
         ensures ok { IfOk result (λ count.
             appended K.taken self.new ≡ after (appended K.taken self.old) (take count t.now)) }
         ensures kept { OnErr result (IsFront (appended K.taken self.old) (appended K.taken self.new)) }
         ensures part { OnErr result
             (IsFront (appended K.taken self.new) (after (appended K.taken self.old) t.now)) }
-        ensures cause { HasCause (K.faults self.old.sink.now) (K.faults self.new.sink.now) result }
-        ensures no_fault { OnOk result (K.faults self.new.sink.now ≡ K.faults self.old.sink.now) }
-        ensures never_falls { K.faults self.old.sink.now ≤ K.faults self.new.sink.now }
         ensures gathers { IfOk result (λ count.
             self.old.len + count < BUFFER → self.new.sink.now ≡ self.old.sink.now) }
         ensures waits { IfOk result (λ count. self.new.len ≡ (self.old.len + count) % BUFFER) }
         ensures full { OnErr result (BUFFER ≤ self.old.len + length t.now) }
-        ensures grows { IsFront (K.taken self.old.sink.now) (K.taken self.new.sink.now) }
-        ensures same_sink { self.new.sink.ghost_name ≡ self.old.sink.ghost_name }
+        ensures sink { HandsOn K.taken K.faults self.old self.new result }
     {
         // Full here only where an earlier call failed.
         self.flush_if_full()?;
@@ -216,11 +155,7 @@ impl<'a, K: Sink> Out<'a, K> {
         ensures handed { OnOk result (self.new.len ≡ self.old.len % BUFFER) }
         ensures gathers { self.old.len < BUFFER → self.new ≡ self.old }
         ensures full { OnErr result (self.old.len ≡ BUFFER) }
-        ensures cause { HasCause (K.faults self.old.sink.now) (K.faults self.new.sink.now) result }
-        ensures no_fault { OnOk result (K.faults self.new.sink.now ≡ K.faults self.old.sink.now) }
-        ensures never_falls { K.faults self.old.sink.now ≤ K.faults self.new.sink.now }
-        ensures grows { IsFront (K.taken self.old.sink.now) (K.taken self.new.sink.now) }
-        ensures same_sink { self.new.sink.ghost_name ≡ self.old.sink.ghost_name }
+        ensures sink { HandsOn K.taken K.faults self.old self.new result }
     {
         if self.len == BUFFER {
             self.flush()?;
@@ -269,9 +204,7 @@ fn hand_some<K: Sink>(sink: &mut K, buffer: &mut [u8; BUFFER], len: usize) -> Re
     ensures err { OnErr result (K.taken sink.new ≡ K.taken sink.old) }
     ensures grows { IsFront (K.taken sink.old) (K.taken sink.new) }
     ensures same { OnErr result (buffer.new ≡ buffer.old) }
-    ensures cause { HasCause (K.faults sink.old) (K.faults sink.new) result }
-    ensures no_fault { OnOk result (K.faults sink.new ≡ K.faults sink.old) }
-    ensures never_falls { K.faults sink.old ≤ K.faults sink.new }
+    ensures counts { CountsFaults (K.faults sink.old) (K.faults sink.new) result }
 {
     let count = sink.write(&buffer[..len])?;
     buffer.copy_within(count..len, 0);

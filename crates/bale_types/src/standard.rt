@@ -6,7 +6,7 @@
 //! files, pipes and devices.
 ghost use Rattle.std.specs.Prelude.{◌≡◌, ◌<◌, ◌≤◌, ℕ, List, Option, None, Some, Ok, [], length, is_err, IfOk, OnOk, if◌then◌else◌};
 ghost use Rattle.std.specs.Result.{result_ok};
-ghost use Rattle.bale_types.specs.Stream.{moved, next_count, HasCause, some_moved};
+ghost use Rattle.bale_types.specs.Stream.{moved, next_count, CountsFaults, MovesSome, some_moved};
 
 use super::fault::Failed;
 use super::stream::{Sink, Source};
@@ -46,9 +46,7 @@ impl<R: Input> Source for StdinSource<'_, R> {
         ensures bound { IfOk result (λ count. count ≤ length buf.new) }
         ensures only_at_end { (text : List ℕ) → result ≡ Ok 0 → None ≡ Some text → text ≡ [] }
         ensures at_end { (let left : Option (List ℕ) = None in left ≡ Some []) → IfOk result (λ count. count ≡ 0) }
-        ensures cause { HasCause self.old.faults self.new.faults result }
-        ensures no_fault { OnOk result (self.new.faults ≡ self.old.faults) }
-        ensures never_falls { self.old.faults ≤ self.new.faults }
+        ensures counts { CountsFaults self.old.faults self.new.faults result }
         ensures faults { self.new.faults ≡
             (if is_err result then next_count self.old.faults else self.old.faults) }
     {
@@ -80,11 +78,8 @@ impl<R: Print> Sink for StdoutSink<'_, R> {
 
     fn write(&mut self, piece: &[u8]) -> Result<usize, Failed>
         requires { 0 < length piece.now }
-        ensures some { IfOk result (λ count. 0 < count) }
-        ensures bound { IfOk result (λ count. count ≤ length piece.now) }
-        ensures cause { HasCause self.old.faults self.new.faults result }
-        ensures no_fault { OnOk result (self.new.faults ≡ self.old.faults) }
-        ensures never_falls { self.old.faults ≤ self.new.faults }
+        ensures some { MovesSome (length piece.now) result }
+        ensures counts { CountsFaults self.old.faults self.new.faults result }
         ensures faults { self.new.faults ≡
             (if is_err result then next_count self.old.faults else self.old.faults) }
     {
@@ -120,12 +115,9 @@ impl<R: Eprint> Sink for StderrSink<'_, R> {
 
     fn write(&mut self, piece: &[u8]) -> Result<usize, Failed>
         requires { 0 < length piece.now }
-        ensures some { IfOk result (λ count. 0 < count) }
-        ensures bound { IfOk result (λ count. count ≤ length piece.now) }
+        ensures some { MovesSome (length piece.now) result }
         ensures whole { IfOk result (λ count. count ≡ length piece.now) }
-        ensures cause { HasCause self.old.faults self.new.faults result }
-        ensures no_fault { OnOk result (self.new.faults ≡ self.old.faults) }
-        ensures never_falls { self.old.faults ≤ self.new.faults }
+        ensures counts { CountsFaults self.old.faults self.new.faults result }
         ensures faults { self.new.faults ≡
             (if is_err result then next_count self.old.faults else self.old.faults) }
     {

@@ -5,7 +5,7 @@
 //! and `faults`. A caller that reads or writes through these traits knows that a call which failed
 //! moved nothing, and that the object counted its failure, and none at a call that didn't fail.
 ghost use Rattle.std.specs.Prelude.{◌≡◌, ◌<◌, ◌≤◌, ℕ, List, Option, Some, [], length, IfOk, OnOk};
-ghost use Rattle.bale_types.specs.Stream.{after, before, moved, HasCause};
+ghost use Rattle.bale_types.specs.Stream.{after, before, moved, CountsFaults, MovesSome};
 
 use super::fault::Failed;
 
@@ -29,9 +29,7 @@ pub trait Source {
         ensures bytes { left self.old ≡ before (moved result buf.new) (left self.new) }
         ensures only_at_end { (text : List ℕ) → result ≡ Ok 0 → left self.old ≡ Some text → text ≡ [] }
         ensures at_end { left self.old ≡ Some [] → IfOk result (λ count. count ≡ 0) }
-        ensures cause { HasCause (faults self.old) (faults self.new) result }
-        ensures no_fault { OnOk result (faults self.new ≡ faults self.old) }
-        ensures never_falls { faults self.old ≤ faults self.new };
+        ensures counts { CountsFaults (faults self.old) (faults self.new) result };
 }
 
 /// Takes bytes, and keeps their order.
@@ -49,10 +47,7 @@ pub trait Sink {
     /// `Failed` where the write failed: nothing was taken.
     fn write(&mut self, piece: &[u8]) -> Result<usize, Failed>
         requires { 0 < length piece.now }
-        ensures some { IfOk result (λ count. 0 < count) }
-        ensures bound { IfOk result (λ count. count ≤ length piece.now) }
+        ensures some { MovesSome (length piece.now) result }
         ensures bytes { taken self.new ≡ after (taken self.old) (moved result piece.now) }
-        ensures cause { HasCause (faults self.old) (faults self.new) result }
-        ensures no_fault { OnOk result (faults self.new ≡ faults self.old) }
-        ensures never_falls { faults self.old ≤ faults self.new };
+        ensures counts { CountsFaults (faults self.old) (faults self.new) result };
 }

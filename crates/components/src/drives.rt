@@ -1,5 +1,6 @@
 //! From a matrix to the labels of its vertices: the programs, driven on one thread or on several.
 
+ghost use Rattle.round_program.specs.Ranks.{AreRanks};
 ghost use Rattle.std.specs.Prelude.{◌≡◌, ◌≤◌, length, IfOk};
 ghost use Rattle.round_program.specs.Canonical.{HaveEnded};
 ghost use Rattle.components.specs.Connected.{AreComponents};
@@ -63,8 +64,7 @@ fn labels_of(
     ranks: u32,
     progs: &Progs<Labels>,
 ) -> Result<Vec<u64>, NoMemory>
-    requires some { 1 ≤ ranks }
-    requires few { ranks ≤ 64 }
+    requires ranks { AreRanks ranks }
     requires square { m.now.cols ≡ m.now.rows }
     requires ended { HaveEnded label_rules (starts ranks m.now) progs.now }
     ensures { IfOk result (λ v. AreComponents m.now v.items) }

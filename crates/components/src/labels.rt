@@ -1,5 +1,6 @@
 //! One rank's part of the propagation of labels.
 
+ghost use Rattle.round_program.specs.Ranks.{IsRankOf};
 ghost use Rattle.std.specs.Prelude.{◌≡◌, ◌<◌, ◌≤◌, length, IfOk};
 ghost use Rattle.std.specs.List.{All, filter};
 ghost use Rattle.reductions.specs.Reductions.{has_changed};
@@ -55,8 +56,7 @@ impl Labels {
     /// # Errors
     /// `NoMemory` where there was none.
     pub fn new(alloc: Global, m: &Matrix, ranks: u32, rank: u32) -> Result<Labels, NoMemory>
-        requires rank { rank < ranks }
-        requires few { ranks ≤ 64 }
+        requires rank { IsRankOf ranks rank }
         requires square { m.now.cols ≡ m.now.rows }
         ensures { IfOk result (λ s. s ≡ begins ranks m.now rank) }
     {

@@ -1,5 +1,6 @@
 //! The programs of all ranks, made from a matrix.
 
+ghost use Rattle.round_program.specs.Ranks.{AreRanks};
 ghost use Rattle.std.specs.Prelude.{◌≡◌, ◌<◌, ◌≤◌, ◌%◌, ◌++◌, ◌==◌, [], ◌∷◌, if◌then◌else◌, IfOk, OnOk};
 ghost use Rattle.std.specs.List.{range_with_len};
 ghost use Rattle.round_program.specs.Canonical.{InRound, EndsWithin};
@@ -18,8 +19,7 @@ use std::alloc::Global;
 /// # Errors
 /// `NoMemory` where there was none for them.
 pub fn start(alloc: Global, m: &Matrix, ranks: u32) -> Result<Progs<Labels>, NoMemory>
-    requires some { 1 ≤ ranks }
-    requires few { ranks ≤ 64 }
+    requires ranks { AreRanks ranks }
     requires square { m.now.cols ≡ m.now.rows }
     ensures starts { IfOk result (λ ps. ps ≡ starts ranks m.now) }
     ensures begins { IfOk result (λ ps. InRound label_rules ranks 0 (m.now.rows ∷ []) most_rounds ps) }

@@ -166,3 +166,8 @@ delta_rules =
       goes_on = λ shape round votes. not (votes == 0);
       ended = λ s votes. ended_in s.phase s votes;
     }
+
+-- Buckets may be so wide.
+pub record IsWidth (delta : ℕ) : Type 0 where
+  pub positive : 1 ≤ delta
+  pub narrow : delta ≤ 1_000_000_000_000

@@ -1,5 +1,6 @@
 //! One rank's part of delta-stepping.
 
+ghost use Rattle.bale_types.specs.Changes.{AllOrNothing};
 ghost use Rattle.std.specs.Prelude.{◌≡◌, ◌≢◌, ◌<◌, ◌≤◌, ◌/◌, ◌+◌, ◌-◌, ◌^◌, ◌++◌, ◌&&◌, ◌==◌, [], if◌then◌else◌, OnOk, OnErr, min};
 ghost use Rattle.std.specs.List.{All};
 ghost use Rattle.round_program.specs.Laws.{Fits};
@@ -7,7 +8,7 @@ ghost use Rattle.round_program.specs.Batches.{taken_in};
 ghost use Rattle.least_walks.specs.Vertices.{least_marked};
 ghost use Rattle.delta_step.specs.declared.phase.Phase.TheVariants.{First, Find, Light, Heavy};
 ghost use Rattle.delta_step.specs.Deltas.{IsDelta, DeltaState, delta_rules, bucket_of, announced, no_bucket, ascending, offered, absorbed_in, finding, sorted_out, activated, finished};
-ghost use Rattle.delta_step.specs.code.DeltaSeats.{IsSeat};
+ghost use Rattle.delta_step.specs.code.DeltaSeats.{IsSeat, TakesIn, BeginsRound};
 
 use crate::phase::Phase;
 use crate::seat::Seat;
@@ -236,9 +237,7 @@ impl Delta {
     #[inline(always)]
     fn take_in(&mut self, seat: Seat, from: u32, item: Item) -> Result<(), NoMemory>
         requires { IsSeat seat self.old }
-        ensures ok { OnOk result (self.new ≡ taken_in delta_rules self.old from item) }
-        ensures sent { self.new.outgoing ≡ self.old.outgoing }
-        ensures seat { IsSeat seat self.new }
+        ensures { TakesIn (taken_in delta_rules self.old from item) seat self.old self.new result }
     {
         if seat.fits(from, item) {
             return self.absorb_on(seat, from, item);
@@ -251,9 +250,7 @@ impl Delta {
     fn absorb_on(&mut self, seat: Seat, from: u32, item: Item) -> Result<(), NoMemory>
         requires seat { IsSeat seat self.old }
         requires fits { Fits delta_rules self.old from item }
-        ensures ok { OnOk result (self.new ≡ delta_rules.absorbed self.old from item) }
-        ensures sent { self.new.outgoing ≡ self.old.outgoing }
-        ensures seat { IsSeat seat self.new }
+        ensures { TakesIn (delta_rules.absorbed self.old from item) seat self.old self.new result }
     {
         match seat.phase {
             Phase::First => self.take_edge(item),
@@ -272,8 +269,7 @@ impl Delta {
         requires first { self.old.phase ≡ First }
         requires row { item.a < self.old.rows }
         requires col { item.b < self.old.rows }
-        ensures ok { OnOk result (self.new ≡ absorbed_in First self.old item) }
-        ensures err { OnErr result (self.new ≡ self.old) }
+        ensures { AllOrNothing (absorbed_in First self.old item) self.old self.new result }
     {
         self.arriving
             .raise(item.a as u32, item.b as u32, value_of(item.c))?;
@@ -292,8 +288,7 @@ impl Delta {
     #[inline(always)]
     fn take_offer(&mut self, seat: Seat, item: Item) -> Result<(), NoMemory>
         requires seat { IsSeat seat self.old }
-        ensures ok { OnOk result (self.new ≡ record self.old { vertices = offered self.old item }) }
-        ensures err { OnErr result (self.new ≡ self.old) }
+        ensures { AllOrNothing (record self.old { vertices = offered self.old item }) self.old self.new result }
     {
         if item.a < seat.rows as u64 && item.a as u32 % seat.ranks == seat.rank {
             self.vertices.improve(item.a as u32 / seat.ranks, item.b)?;
@@ -304,8 +299,7 @@ impl Delta {
     /// Ends the first round: edges are light or heavy, and a find round begins.
     fn sort_out(&mut self) -> Result<(), NoMemory>
         requires { self.old.phase ≡ First }
-        ensures ok { OnOk result (self.new ≡ finding (sorted_out self.old)) }
-        ensures err { OnErr result (self.new.outgoing ≡ self.old.outgoing) }
+        ensures { BeginsRound (finding (sorted_out self.old)) self.old self.new result }
     {
         let places = self.vertices.len() as u32;
         let entries = mem::replace(&mut self.arriving, Cells::new(self.alloc)).into_entries();
@@ -325,8 +319,7 @@ impl Delta {
     /// Begins a find round, in which no vertex is settled.
     fn find(&mut self) -> Result<(), NoMemory>
         requires { self.old.phase ≢ First }
-        ensures ok { OnOk result (self.new ≡ finding self.old) }
-        ensures err { OnErr result (self.new.outgoing ≡ self.old.outgoing) }
+        ensures { BeginsRound (finding self.old) self.old self.new result }
     {
         announce(&mut self.spare, self.ranks, self.width, &mut self.vertices)?;
         mem::swap(&mut self.outgoing, &mut self.spare);
@@ -339,8 +332,7 @@ impl Delta {
     /// Begins a light round: the pending vertices of the bucket are active and settled.
     fn activate(&mut self) -> Result<(), NoMemory>
         requires { self.old.phase ≢ First }
-        ensures ok { OnOk result (self.new ≡ activated self.old) }
-        ensures err { OnErr result (self.new.outgoing ≡ self.old.outgoing) }
+        ensures { BeginsRound (activated self.old) self.old self.new result }
     {
         let active = self.vertices.take_bucket(self.width, self.bucket)?;
         self.settled.extend_from_slice(&active)?;
@@ -354,8 +346,7 @@ impl Delta {
     /// Begins a heavy round: the settled vertices offer along their heavy edges.
     fn finish(&mut self) -> Result<(), NoMemory>
         requires { self.old.phase ≢ First }
-        ensures ok { OnOk result (self.new ≡ finished self.old) }
-        ensures err { OnErr result (self.new.outgoing ≡ self.old.outgoing) }
+        ensures { BeginsRound (finished self.old) self.old self.new result }
     {
         put_in_order(&mut self.settled, self.vertices.len());
         put_offers(&mut self.spare, &self.heavy, &self.vertices, &self.settled)?;

@@ -1,14 +1,15 @@
 //! The start of delta-stepping, and its answer as text.
 
+ghost use Rattle.round_program.specs.Ranks.{AreRanks};
 ghost use Rattle.std.specs.Prelude.{ℕ, true, ◌≡◌, ◌≢◌, ◌<◌, ◌≤◌, ◌+◌, ◌*◌, ◌^◌, ◌%◌, ◌/◌, [], ◌∷◌, Option, IfOk, OnOk, OnErr};
-ghost use Rattle.bale_types.specs.Stream.{after, HasCause, IsFront};
-ghost use Rattle.bale_types.specs.Out.{appended};
+ghost use Rattle.bale_types.specs.Stream.{after};
+ghost use Rattle.bale_types.specs.Out.{HandsOn, Writes};
 ghost use Rattle.mtx_text.specs.Sparse.{Sparse};
-ghost use Rattle.sparse_rows.specs.Parts.{parts_of};
+ghost use Rattle.sparse_rows.specs.Parts.{parts_of, HasPart};
 ghost use Rattle.round_program.specs.Canonical.{InRound, EndsWithin};
-ghost use Rattle.least_walks.specs.Walks.{no_negative, IsLeast, AreLeast};
+ghost use Rattle.least_walks.specs.Walks.{IsSource, no_negative, IsLeast, AreLeast};
 ghost use Rattle.least_walks.specs.Lines.{sssp_lines};
-ghost use Rattle.delta_step.specs.Deltas.{delta_rules};
+ghost use Rattle.delta_step.specs.Deltas.{IsWidth, delta_rules};
 ghost use Rattle.delta_step.specs.DeltaRuns.{delta_begins, delta_starts, DeltaEnded};
 
 use crate::delta::Delta;
@@ -34,13 +35,10 @@ pub fn delta_start(
     delta: u64,
     ranks: u32,
 ) -> Result<Progs<Delta>, NoMemory>
-    requires some { 1 ≤ ranks }
-    requires few { ranks ≤ 64 }
-    requires square { m.now.cols ≡ m.now.rows }
+    requires ranks { AreRanks ranks }
     requires weights { no_negative m.now.entries ≡ true }
-    requires source { source < m.now.rows }
-    requires positive { 1 ≤ delta }
-    requires narrow { delta ≤ 1_000_000_000_000 }
+    requires source { IsSource source m.now }
+    requires width { IsWidth delta }
     ensures starts { IfOk result (λ ps. ps ≡ delta_starts ranks m.now source delta) }
     ensures begins { IfOk result (λ ps. InRound delta_rules ranks 0 (m.now.rows ∷ [])
         (m.now.rows * (m.now.rows + 2) + 2) ps) }
@@ -65,12 +63,9 @@ fn part_of(
     ranks: u32,
     rank: u32,
 ) -> Result<Delta, NoMemory>
-    requires rank { rank < ranks }
-    requires parts { parts.now ≡ parts_of ranks m.now.entries }
-    requires square { m.now.cols ≡ m.now.rows }
-    requires source { source < m.now.rows }
-    requires positive { 1 ≤ delta }
-    requires narrow { delta ≤ 1_000_000_000_000 }
+    requires part { HasPart ranks rank m.now.entries parts.now }
+    requires source { IsSource source m.now }
+    requires width { IsWidth delta }
     ensures { IfOk result (λ s. s ≡ delta_begins ranks m.now source delta rank) }
 {
     m.known();
@@ -91,18 +86,9 @@ pub fn delta_write<K: Sink>(p: &Progs<Delta>, out: &mut Out<'_, K>) -> Result<()
     requires ended { (m : Sparse) × (source : ℕ) × DeltaEnded m source p.now }
     ensures least { (m : Sparse) (source : ℕ) → DeltaEnded m source p.now → (weights : ℕ → Option ℕ)
         × AreLeast m source weights }
-    ensures ok { (m : Sparse) (source : ℕ) → DeltaEnded m source p.now → (weights : ℕ → Option ℕ)
-        → AreLeast m source weights
-        → OnOk result (appended K.taken out.new ≡ after (appended K.taken out.old) (sssp_lines weights m.rows)) }
-    ensures err { (m : Sparse) (source : ℕ) → DeltaEnded m source p.now → (weights : ℕ → Option ℕ)
-        → AreLeast m source weights
-        → OnErr result (IsFront (K.taken out.new.sink.now)
-        (after (appended K.taken out.old) (sssp_lines weights m.rows))) }
-    ensures cause { HasCause (K.faults out.old.sink.now) (K.faults out.new.sink.now) result }
-    ensures no_fault { OnOk result (K.faults out.new.sink.now ≡ K.faults out.old.sink.now) }
-    ensures never_falls { K.faults out.old.sink.now ≤ K.faults out.new.sink.now }
-    ensures grows { IsFront (K.taken out.old.sink.now) (K.taken out.new.sink.now) }
-    ensures same_sink { out.new.sink.ghost_name ≡ out.old.sink.ghost_name }
+    ensures written { (m : Sparse) (source : ℕ) → DeltaEnded m source p.now → (weights : ℕ → Option ℕ)
+        → AreLeast m source weights → Writes K.taken K.faults (sssp_lines weights m.rows) out.old out.new result }
+    ensures sink { HandsOn K.taken K.faults out.old out.new result }
 {
     let rows = vertices_in(p);
     for v in 0..rows {

@@ -11,6 +11,11 @@ abbrev pub IsWalk : List Triple → ℕ → ℕ → List Triple → Type 0
 IsWalk entries s t [] = s ≡ t
 IsWalk entries s t (e ∷ walk) = Contains entries e × (e.i ≡ s) × IsWalk entries e.j t walk
 
+-- The rows of a square matrix are vertices, and one of them is the source.
+pub record IsSource (source : ℕ) (m : Sparse) : Type 0 where
+  pub square : m.cols ≡ m.rows
+  pub within : source < m.rows
+
 -- No value is negative, so each is the weight of an edge.
 -- no_negative (e1, .., ek) = e1.v is at least 0, and .., and ek.v is at least 0
 -- of (0,1,3), (1,2,0) true, and of (0,1,3), (1,2,-1) false

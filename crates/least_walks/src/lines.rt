@@ -1,8 +1,7 @@
 //! The line of a vertex in an answer.
 
 ghost use Rattle.std.specs.Prelude.{◌≡◌, ◌<◌, ◌≤◌, ◌+◌, ◌^◌, ◌++◌, length, OnOk, OnErr};
-ghost use Rattle.bale_types.specs.Stream.{after, HasCause, IsFront};
-ghost use Rattle.bale_types.specs.Out.{appended};
+ghost use Rattle.bale_types.specs.Out.{Writes};
 ghost use Rattle.least_walks.specs.Lines.{weight_text, vertex_line};
 
 use bale_types::{Failed, Line, Out, Sink};
@@ -18,14 +17,7 @@ pub fn write_vertex<K: Sink>(
     weight: Option<u64>,
 ) -> Result<(), Failed>
     requires { v + 1 < 2 ^ 32 }
-    ensures ok { OnOk result (appended K.taken out.new ≡ after (appended K.taken out.old) (vertex_line v weight)) }
-    ensures err { OnErr result (IsFront (K.taken out.new.sink.now)
-        (after (appended K.taken out.old) (vertex_line v weight))) }
-    ensures cause { HasCause (K.faults out.old.sink.now) (K.faults out.new.sink.now) result }
-    ensures no_fault { OnOk result (K.faults out.new.sink.now ≡ K.faults out.old.sink.now) }
-    ensures never_falls { K.faults out.old.sink.now ≤ K.faults out.new.sink.now }
-    ensures grows { IsFront (K.taken out.old.sink.now) (K.taken out.new.sink.now) }
-    ensures same_sink { out.new.sink.ghost_name ≡ out.old.sink.ghost_name }
+    ensures { Writes K.taken K.faults (vertex_line v weight) out.old out.new result }
 {
     let mut line = Line::new();
     line.natural((v + 1) as u64);

@@ -1,12 +1,15 @@
 -- Entry lines read without regard to duplicates.
-use Rattle.std.specs.Prelude.{ℕ, ◌-◌, ◌==◌, List, [], ◌∷◌, ◌++◌, Option, Some, None, Result, Ok, Err, nat_lt, if◌then◌else◌}
+use Rattle.std.specs.Prelude.{ℕ, ◌≡◌, ◌≤◌, ◌+◌, ◌*◌, max, length, ◌-◌, ◌==◌, List, [], ◌∷◌, ◌++◌, Option, Some, None, Result, Ok, Err, nat_lt, if◌then◌else◌}
 use Rattle.bale_types.specs.declared.triple.Triple.{Triple}
 use Rattle.mtx_text.specs.declared.banner.Form.{Form}
 use Rattle.mtx_text.specs.declared.sizes.Sizes.{Sizes}
 use Rattle.mtx_text.specs.declared.refusal.Reason.{Reason}
 use Rattle.mtx_text.specs.declared.refusal.Reason.TheVariants as reason
 use Rattle.mtx_text.specs.declared.refusal.BadLine.{BadLine}
-use Rattle.mtx_text.specs.Lines.{Line}
+use Rattle.std.specs.List.{All}
+use Rattle.mtx_text.specs.declared.draft.Run.{Run}
+use Rattle.mtx_text.specs.Lines.{Line, lines_of, lines_from}
+use Rattle.mtx_text.specs.Chains.{IsWithin}
 use Rattle.mtx_text.specs.Integers.{integer_of}
 use Rattle.mtx_text.specs.Grammar.{bad, cell_by, stands_for}
 
@@ -36,3 +39,19 @@ draft_of form sizes end left done (line ∷ rest) =
 -- What a draft decides, where no place comes twice in it.
 abbrev pub verdict : Drafted → Result (List Triple) BadLine
 verdict draft = verdict_at draft.entries draft.stop
+
+-- The draft of the entry lines that are left of a run, after entries that are done.
+abbrev pub draft_from : Form → Sizes → ℕ → List Triple → Run → Drafted
+draft_from form sizes end done run = draft_of form sizes end run.left done (lines_from run.number (lines_of run.rest.now))
+
+-- A run reads on: what it leaves to be read, after the entries that it adds, drafts the same.
+-- lines, room, on: as many lines, and at most as many bytes, are left as stood behind those that it read
+-- within: entries whose rows and columns are within the sizes stay so
+-- few: each line gives at most two entries
+pub record ReadsOn (form : Form) (sizes : Sizes) (old new : List Triple) (from to : Run) : Type 0 where
+  pub draft : (end : ℕ) → draft_from form sizes end new to ≡ draft_from form sizes end old from
+  pub lines : to.number + length (lines_of to.rest.now) ≡ from.number + length (lines_of from.rest.now)
+  pub room : to.number + length to.rest.now ≤ from.number + length from.rest.now
+  pub on : length to.rest.now ≤ length from.rest.now
+  pub within : All (λ t. IsWithin (max sizes.rows sizes.cols) t) old → All (λ t. IsWithin (max sizes.rows sizes.cols) t) new
+  pub few : length new + 2 * to.left ≤ length old + 2 * from.left

@@ -1,5 +1,5 @@
 -- Matrices generated from a seed: an upper triangular band with a full diagonal, hidden under two permutations.
-use Rattle.std.specs.Prelude.{ℕ, ◌+◌, ◌-◌, ◌%◌, List, [], ◌∷◌, map, take, pos, slice_index}
+use Rattle.std.specs.Prelude.{ℕ, ◌≤◌, ◌*◌, ◌+◌, ◌-◌, ◌%◌, List, [], ◌∷◌, map, take, pos, slice_index}
 use Rattle.std.specs.List.{range_with_len, flat_map}
 use Rattle.bale_types.specs.declared.triple.Triple.{Triple}
 use Rattle.mtx_text.specs.declared.kind.Kind.TheVariants.{Integer}
@@ -27,6 +27,12 @@ hidden p q state (x ∷ rest) =
 -- 2, 3 and seed 42 stand for 825 at (0,0), 956 at (1,1) and 956 at (0,1).
 abbrev pub hidden_by : List ℕ × ℕ → (ℕ → List ℕ × ℕ) → List (ℕ × ℕ) → List Triple
 hidden_by rows cols xs = hidden rows.0 (cols rows.1).0 (cols rows.1).1 xs
+
+-- A band of so many rows and entries can be hidden: within the limits, and no more than there are positions.
+pub record CanHide (n m : ℕ) : Type 0 where
+  pub tall : n ≤ 16_384
+  pub few : m ≤ 262_144
+  pub room : 2 * m ≤ n * (n + 1)
 
 abbrev pub generated : ℕ → ℕ → ℕ → Sparse
 generated n m seed = sparse n n Integer (hidden_by (drawn n (begun seed)) (drawn n) (positions n m))

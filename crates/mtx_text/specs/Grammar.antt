@@ -1,6 +1,6 @@
 -- The matrix of a text: the Matrix Market exchange format in coordinate form, as this project reads it.
 -- Too long is decided first, on the whole text. Else the lines are read in order and the first bad line decides.
-use Rattle.std.specs.Prelude.{ℕ, ◌+◌, ◌-◌, ◌==◌, ◌&&◌, ◌||◌, not, Bool, true, false, List, [], ◌∷◌, ◌++◌, length, map, take, drop, count_by, ℤ, neg_ℤ, Option, Some, None, ok_or, Result, Ok, Err, nat_lt, nat_le, codes, if◌then◌else◌}
+use Rattle.std.specs.Prelude.{ℕ, ◌≤◌, ◌+◌, ◌-◌, ◌==◌, ◌&&◌, ◌||◌, not, Bool, true, false, List, [], ◌∷◌, ◌++◌, length, map, take, drop, count_by, ℤ, neg_ℤ, Option, Some, None, ok_or, Result, Ok, Err, nat_lt, nat_le, codes, if◌then◌else◌}
 use Rattle.std.specs.List.{list_any}
 use Rattle.std.specs.Option.{option_map}
 use Rattle.std.specs.Char.{to_ascii_lowercase}
@@ -18,7 +18,7 @@ use Rattle.mtx_text.specs.declared.refusal.Reason.TheVariants as reason
 use Rattle.mtx_text.specs.declared.refusal.BadLine.{BadLine}
 use Rattle.mtx_text.specs.Lines.{Line, lines_of, lines_from, words_of}
 use Rattle.mtx_text.specs.Integers.{integer_of, is_natural, value_of}
-use Rattle.mtx_text.specs.Sparse.{Sparse}
+use Rattle.mtx_text.specs.Sparse.{Sparse, AreSides}
 
 -- ---- Steps that may refuse
 
@@ -106,6 +106,12 @@ within_limits form sizes =
     if nat_lt 16_384 sizes.rows || nat_lt 16_384 sizes.cols || nat_lt 262_144 sizes.entries then Err reason.TooLarge
     else if not (is_general form.symmetry) && not (sizes.rows == sizes.cols) then Err reason.NotSquare
     else Ok sizes
+
+-- Sizes within the limits.
+-- short: at most 262,144 entry lines
+pub record AreLimited (sizes : Sizes) : Type 0 where
+  pub sides : AreSides sizes.rows sizes.cols
+  pub short : sizes.entries ≤ 262_144
 
 -- The sizes: three integer words that aren't negative, for rows, columns and entries; `read` reads an integer word.
 --   reason 3 where a word is missing, over, or no such integer, then the limits

@@ -1,5 +1,5 @@
 -- Places as numbers, and what a set of them says of a list of entries.
-use Rattle.std.specs.Prelude.{◌≡◌, ℕ, ◌+◌, ◌*◌, ◌==◌, Bool, List, nat_lt}
+use Rattle.std.specs.Prelude.{◌≡◌, ℕ, ◌+◌, ◌*◌, ◌==◌, ◌++◌, Bool, true, List, nat_lt}
 use Rattle.std.specs.List.{list_all, list_any}
 use Rattle.std.specs.Ordering.{nat_cmp}
 use Rattle.std.specs.BTreeSet.{BTreeSet, contains}
@@ -18,3 +18,9 @@ narrow entries = list_all (λ t. nat_lt t.j 65_536) entries
 -- The set holds the places of the entries and no other.
 abbrev pub Tracks : BTreeSet ℕ → List Triple → Type 0
 Tracks seen entries = (q : ℕ) → contains nat_cmp seen q ≡ has_key q entries
+
+-- Entries are added, and their places to the set.
+pub record AddsTo (more old new : List Triple) (seen seen' : BTreeSet ℕ) : Type 0 where
+  pub entries : new ≡ old ++ more
+  pub tracks : Tracks seen old → Tracks seen' new
+  pub narrow : narrow old ≡ true → narrow new ≡ true

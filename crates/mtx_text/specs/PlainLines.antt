@@ -1,5 +1,5 @@
 -- The line that a text begins with, and its words, by how many bytes they have.
-use Rattle.std.specs.Prelude.{ℕ, ◌≡◌, ◌+◌, ◌-◌, ◌^◌, ◌≤◌, ◌<◌, true, List, [], ◌∷◌, length, take, drop, get_or, min, Some}
+use Rattle.std.specs.Prelude.{ℕ, ◌≡◌, ◌+◌, ◌-◌, ◌^◌, ◌≤◌, ◌<◌, true, false, List, [], ◌∷◌, length, take, drop, get_or, min, Some}
 use Rattle.std.specs.List.{list_all}
 use Rattle.std.specs.Option.{option_map}
 use Rattle.std.specs.Char.{is_ascii_digit}
@@ -9,9 +9,13 @@ use Rattle.std.specs.Simd.Lanes.{mask_l}
 use Rattle.mtx_text.specs.declared.plain.Digits.{Digits}
 use Rattle.mtx_text.specs.declared.plain.Two.{Two}
 use Rattle.mtx_text.specs.DigitLanes.{bits_of}
-use Rattle.mtx_text.specs.Lines.{lines_of, words_of}
+use Rattle.mtx_text.specs.declared.lines.Kept.{Kept}
+use Rattle.mtx_text.specs.declared.plain.Plain.{Plain}
+use Rattle.mtx_text.specs.declared.kind.Kind.{Kind}
+use Rattle.mtx_text.specs.Lines.{lines_of, lines_from, words_of, is_skipped}
+use Rattle.mtx_text.specs.Grammar.{fields_of}
 use Rattle.mtx_text.specs.Integers.{integer_of}
-use Rattle.mtx_text.specs.Capped.{capped}
+use Rattle.mtx_text.specs.Capped.{capped, read_three}
 
 -- The text's first line is its first `len` bytes, and the others are those of what stands behind its first `next` bytes.
 --   of "1 2/3/" with 3 and 4, or with CR before its first LF with 3 and 5: the line "1 2", and then the lines of "3/"
@@ -19,6 +23,27 @@ pub record LineAt (text : List ℕ) (len next : ℕ) : Type 0 where
   pub within : len < next
   pub room : next ≤ length text
   pub lines : lines_of text ≡ take len text ∷ lines_of (drop next text)
+
+-- That line counts.
+pub record CountsAt (text : List ℕ) (len next : ℕ) : Type 0 where
+  pub line : LineAt text len next
+  pub counts : is_skipped (words_of (take len text)) ≡ false
+
+-- The first line that counts of a text whose first line has a number, as it was cut off, with what stands behind it.
+-- kept: it is the first of the lines that count, and those behind it are the others
+-- left, room, shorter: as many lines, and at most as many bytes, are left as stood behind it
+--   of "%/3 3/1/" from line 2: line 3, "3 3", and "1/"
+pub record IsFirstKept (text : List ℕ) (number : ℕ) (k : Kept) : Type 0 where
+  pub kept : lines_from number (lines_of text) ≡ record { number = k.number; words = words_of k.line.now } ∷ lines_from (k.number + 1) (lines_of k.rest.now)
+  pub left : k.number + 1 + length (lines_of k.rest.now) ≡ number + length (lines_of text)
+  pub room : k.number + 1 + length k.rest.now ≤ number + length text
+  pub shorter : length k.rest.now < length text
+
+-- No line counts of a text whose first line has a number.
+-- is_end: `end` is the number behind its last line
+pub record NoneCounts (text : List ℕ) (number end : ℕ) : Type 0 where
+  pub none : lines_from number (lines_of text) ≡ []
+  pub is_end : end ≡ number + length (lines_of text)
 
 -- The text begins with `len` digits, one or more, whose number is `size`, and the byte `end` follows.
 --   "12 3" with 2 digits, the number 12 and a space as the end
@@ -45,6 +70,13 @@ pub record LastAt (text : List ℕ) (len next : ℕ) (z : Integer) : Type 0 wher
   pub word : words_of (take len text) ≡ take len text ∷ []
   pub value : Some z ≡ option_map capped (integer_of (take len text))
 
+-- The text begins with digits, none or more, and another byte follows; a number of many digits isn't read.
+--   of "12 7/" two digits, and 12
+pub record LeadingDigits (text : List ℕ) (d : Digits) : Type 0 where
+  pub within : d.len < length text
+  pub digits : list_all is_ascii_digit (take d.len text) ≡ true
+  pub value : d.len ≤ 18 → d.size ≡ min (digits_value 10 (take d.len text)) 1_000_000_000_000_000_000
+
 -- A text's first `len` bytes are digits, and `size` is their number, where they are at most 18.
 --   of "12 7/" with 2 and 12
 pub record NumberTo (text : List ℕ) (len size : ℕ) : Type 0 where
@@ -66,3 +98,8 @@ pub record FrontAt (text : List ℕ) (two : Two) (rest : List ℕ) : Type 0 wher
   pub behind : rest ≡ drop (two.column.len + 1) (drop (two.row.len + 1) text)
   pub room : 22 ≤ length rest + (two.row.len + two.column.len)
   pub others : two.others ≡ mask_l (bits_of (14 - (two.row.len + two.column.len)) rest)
+
+-- A text begins with a plain line of a kind of matrix, and these are its numbers.
+pub record IsPlain (kind : Kind) (text : List ℕ) (p : Plain) : Type 0 where
+  pub at : CountsAt text p.len p.next
+  pub fields : Some (p.fields.row, p.fields.column, p.fields.value) ≡ option_map read_three (fields_of kind (words_of (take p.len text)))

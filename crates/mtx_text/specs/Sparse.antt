@@ -12,6 +12,18 @@ pub record Sparse : Type 0 where
   pub kind : Kind
   pub entries : List Triple
 
+-- A matrix may have so many rows and columns.
+-- tall, wide: at most 16,384 of each
+pub record AreSides (rows cols : ℕ) : Type 0 where
+  pub tall : rows ≤ 16_384
+  pub wide : cols ≤ 16_384
+
+-- A triple lies among so many rows and columns and has a value within the limits.
+pub record IsInside (rows cols : ℕ) (t : Triple) : Type 0 where
+  pub row : t.i < rows
+  pub col : t.j < cols
+  pub limit : nat_abs t.v ≤ 1_000_000_000_000
+
 -- An entry lies inside its matrix and has a value within the limits, which is 1 where the kind is Pattern.
 pub record IsEntry (m : Sparse) (t : Triple) : Type 0 where
   pub row : t.i < m.rows

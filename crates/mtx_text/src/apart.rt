@@ -6,7 +6,7 @@
 ghost use Rattle.std.specs.Prelude.{◌≡◌, ℕ, ◌+◌, ◌<◌, ◌≤◌, ◌^◌, true, length, get_or, vec_len, Ok, IfOk};
 ghost use Rattle.std.specs.List.{All, AllPairs};
 ghost use Rattle.mtx_text.specs.Sparse.{SamePlace};
-ghost use Rattle.mtx_text.specs.Chains.{IsWithin, LeadsTo, NextsLead, IsRowApart};
+ghost use Rattle.mtx_text.specs.Chains.{IsWithin, AreIndexed, LeadsTo, NextsLead, IsRowApart};
 
 use crate::links::link;
 use bale_types::Triple;
@@ -15,8 +15,7 @@ use std::alloc::{AllocError, Global};
 /// Whether no place comes twice; rows and columns are below `side`. The answer false may also come of
 /// another cause, and true comes of none.
 pub(crate) fn are_apart(alloc: Global, side: u32, entries: &[Triple]) -> Result<bool, AllocError>
-    requires within { All (λ t. IsWithin side t) entries.now }
-    requires few { length entries.now < 2 ^ 31 }
+    requires { AreIndexed side entries.now }
     ensures { result ≡ Ok true → AllPairs (λ s t. ¬ SamePlace s t) entries.now }
 {
     let mut marks = zeros(alloc, side as usize)?;
@@ -76,8 +75,7 @@ fn is_row_apart(
     head: u32,
     stamps: &mut Vec<u32>,
 ) -> bool
-    requires within { All (λ t. IsWithin side t) entries.now }
-    requires few { length entries.now < 2 ^ 31 }
+    requires indexed { AreIndexed side entries.now }
     requires nexts { vec_len nexts.now ≡ length entries.now }
     requires stamps { vec_len stamps.old ≡ side }
     requires row { row < side }

@@ -1,6 +1,7 @@
 //! Entry lines read with a look at every place that came before: slower, and exact where a place comes twice.
 ghost use Rattle.std.specs.Prelude.{◌≡◌, ◌+◌, ◌<◌, ◌≤◌, ◌^◌, [], true, List, length, nat_abs, IfOk};
 ghost use Rattle.bale_types.specs.declared.triple.Triple.{Triple};
+ghost use Rattle.mtx_text.specs.Sparse.{AreSides, IsInside};
 ghost use Rattle.mtx_text.specs.Lines.{lines_of, lines_from, words_of};
 ghost use Rattle.mtx_text.specs.Grammar.{entry_of, entries_of};
 ghost use Rattle.mtx_text.specs.Places.{Tracks, narrow};
@@ -25,8 +26,7 @@ pub(crate) fn read_carefully(
     text: &[u8],
     number: u64,
 ) -> Result<Vec<Triple>, ParseFault>
-    requires tall { sizes.rows ≤ 16_384 }
-    requires wide { sizes.cols ≤ 16_384 }
+    requires sides { AreSides sizes.rows sizes.cols }
     requires room { number + length text.now < 2 ^ 63 }
     ensures { Gives (λ v. v.items) result
         (entries_of form sizes (number + length (lines_of text.now)) sizes.entries []
@@ -71,13 +71,10 @@ pub(crate) fn bad(line: u64, reason: Reason) -> ParseFault
 /// An entry line after others, whose places are in `seen`.
 #[tactic(auto, unfolding(crate::specs::Grammar::entry_of))]
 fn read_entry(form: Form, sizes: Sizes, seen: &BTreeSet<u64>, line: &[u8]) -> Result<Triple, Reason>
-    requires tall { sizes.rows ≤ 16_384 }
-    requires wide { sizes.cols ≤ 16_384 }
+    requires { AreSides sizes.rows sizes.cols }
     ensures value { (done : List Triple) → Tracks seen.now done → narrow done ≡ true
         → result ≡ entry_of form sizes done (words_of line.now) }
-    ensures row { IfOk result (λ t. t.i < sizes.rows) }
-    ensures col { IfOk result (λ t. t.j < sizes.cols) }
-    ensures limit { IfOk result (λ t. nat_abs t.v ≤ 1_000_000_000_000) }
+    ensures inside { IfOk result (IsInside sizes.rows sizes.cols) }
 {
     let t = read_cell(form, sizes, line)?;
     if is_taken(seen, t) {

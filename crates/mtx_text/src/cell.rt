@@ -1,10 +1,11 @@
 //! An entry line by itself.
 ghost use Rattle.std.specs.Prelude.{◌≡◌, ◌<◌, ◌≤◌, ◌∷◌, ◌-◌, nat_abs, take, false, Some, IfOk, IfSome};
 ghost use Rattle.std.specs.Option.{option_map, option_to_list};
+ghost use Rattle.mtx_text.specs.Sparse.{AreSides, IsInside};
 ghost use Rattle.mtx_text.specs.Lines.{words_of, is_skipped};
 ghost use Rattle.mtx_text.specs.Integers.{integer_of};
 ghost use Rattle.mtx_text.specs.Capped.{cell_from};
-ghost use Rattle.mtx_text.specs.PlainLines.{LineAt};
+ghost use Rattle.mtx_text.specs.PlainLines.{CountsAt};
 ghost use Rattle.mtx_text.specs.Grammar.{cell_by, place_of, value_within, is_index, is_skew, stands_for};
 
 use crate::banner::{Form, Symmetry};
@@ -30,12 +31,9 @@ pub(crate) struct PlainCell {
 /// The entry that a line names, counted from 0.
 #[tactic(auto, using(crate::proofs::Caps::cell_capped))]
 pub(crate) fn read_cell(form: Form, sizes: Sizes, line: &[u8]) -> Result<Triple, Reason>
-    requires tall { sizes.rows ≤ 16_384 }
-    requires wide { sizes.cols ≤ 16_384 }
+    requires { AreSides sizes.rows sizes.cols }
     ensures value { result ≡ cell_by integer_of form sizes (words_of line.now) }
-    ensures row { IfOk result (λ t. t.i < sizes.rows) }
-    ensures col { IfOk result (λ t. t.j < sizes.cols) }
-    ensures limit { IfOk result (λ t. nat_abs t.v ≤ 1_000_000_000_000) }
+    ensures inside { IfOk result (IsInside sizes.rows sizes.cols) }
 {
     cell_of(form, sizes, read_fields(form.kind, line))
 }
@@ -44,14 +42,10 @@ pub(crate) fn read_cell(form: Form, sizes: Sizes, line: &[u8]) -> Result<Triple,
 #[inline(always)]
 #[tactic(auto, using(crate::proofs::Caps::cell_capped))]
 pub(crate) fn plain_cell(form: Form, sizes: Sizes, text: &[u8]) -> Option<PlainCell>
-    requires tall { sizes.rows ≤ 16_384 }
-    requires wide { sizes.cols ≤ 16_384 }
-    ensures line { IfSome result (λ p. LineAt text.now p.len p.next) }
-    ensures counts { IfSome result (λ p. is_skipped (words_of (take p.len text.now)) ≡ false) }
+    requires { AreSides sizes.rows sizes.cols }
+    ensures at { IfSome result (λ p. CountsAt text.now p.len p.next) }
     ensures value { IfSome result (λ p. p.cell ≡ cell_by integer_of form sizes (words_of (take p.len text.now))) }
-    ensures row { IfSome result (λ p. IfOk p.cell (λ t. t.i < sizes.rows)) }
-    ensures col { IfSome result (λ p. IfOk p.cell (λ t. t.j < sizes.cols)) }
-    ensures limit { IfSome result (λ p. IfOk p.cell (λ t. nat_abs t.v ≤ 1_000_000_000_000)) }
+    ensures inside { IfSome result (λ p. IfOk p.cell (IsInside sizes.rows sizes.cols)) }
 {
     match form.kind {
         Kind::Integer => {
@@ -73,9 +67,7 @@ pub(crate) fn plain_cell(form: Form, sizes: Sizes, text: &[u8]) -> Option<PlainC
 fn cell_on(form: Form, sizes: Sizes, plain: Plain) -> PlainCell
     ensures value { result.cell ≡ cell_from form sizes
         (Some (plain.fields.row, plain.fields.column, plain.fields.value)) }
-    ensures row { IfOk result.cell (λ t. t.i < sizes.rows) }
-    ensures col { IfOk result.cell (λ t. t.j < sizes.cols) }
-    ensures limit { IfOk result.cell (λ t. nat_abs t.v ≤ 1_000_000_000_000) }
+    ensures inside { IfOk result.cell (IsInside sizes.rows sizes.cols) }
     ensures line { (result.len ≡ plain.len) × (result.next ≡ plain.next) }
 {
     PlainCell {
@@ -90,9 +82,7 @@ fn cell_on(form: Form, sizes: Sizes, plain: Plain) -> PlainCell
 #[tactic(auto, unfolding(crate::specs::Capped::cell_from))]
 fn cell_of(form: Form, sizes: Sizes, fields: Option<Fields>) -> Result<Triple, Reason>
     ensures value { result ≡ cell_from form sizes (option_map (λ f. (f.row, f.column, f.value)) fields) }
-    ensures row { IfOk result (λ t. t.i < sizes.rows) }
-    ensures col { IfOk result (λ t. t.j < sizes.cols) }
-    ensures limit { IfOk result (λ t. nat_abs t.v ≤ 1_000_000_000_000) }
+    ensures inside { IfOk result (IsInside sizes.rows sizes.cols) }
 {
     let fields = fields.ok_or(Reason::EntryLine)?;
     let i = fields.row.ok_or(Reason::EntryLine)?;

@@ -1,10 +1,11 @@
 //! Ordered maps from places to values, in which raises come in any order at the cost of a push each.
 ghost use Rattle.std.specs.Prelude.{◌≡◌, ◌≢◌, ℕ, ◌+◌, ◌≤◌, ◌++◌, ◌∷◌, ◌==◌, true, not, [], List, length, slice_get, take, Ok, IfOk, OnOk, OnErr, if◌then◌else◌};
 ghost use Rattle.std.specs.Int.{int_max};
+ghost use Rattle.bale_types.specs.Changes.{AllOrNothing};
 ghost use Rattle.bale_types.specs.declared.triple.Triple.{Triple};
 ghost use Rattle.mtx_text.specs.Grammar.{has_place};
 ghost use Rattle.mtx_text.specs.Maps.{is_at};
-ghost use Rattle.mtx_text.specs.Cells.{is_before, comes_before, InOrder, raised, raised_all, gathered, first_from};
+ghost use Rattle.mtx_text.specs.Cells.{is_before, comes_before, InOrder, IsOrderedFront, raised, raised_all, gathered, first_from};
 
 use crate::place_order::{comes_before, gather, greater, is_before};
 use bale_types::{NoMemory, Triple};
@@ -59,8 +60,7 @@ impl Cells {
     /// `NoMemory` where there was none; the cells are as before.
     #[inline(always)]
     pub fn raise(&mut self, i: u32, j: u32, v: i64) -> Result<(), NoMemory>
-        ensures ok { OnOk result (self.new ≡ raised (record { i = i; j = j; v = v }) self.old) }
-        ensures err { OnErr result (self.new ≡ self.old) }
+        ensures { AllOrNothing (raised (record { i = i; j = j; v = v }) self.old) self.old self.new result }
     {
         self.triples.push(Triple { i, j, v })?;
         Ok(())
@@ -72,8 +72,7 @@ impl Cells {
     ///
     /// `NoMemory` where there was none; the cells are as before.
     pub fn raise_all(&mut self, other: &Cells) -> Result<(), NoMemory>
-        ensures ok { OnOk result (self.new ≡ raised_all self.old other.now) }
-        ensures err { OnErr result (self.new ≡ self.old) }
+        ensures { AllOrNothing (raised_all self.old other.now) self.old self.new result }
     {
         self.triples.extend_from_slice(other.triples.as_slice())?;
         Ok(())
@@ -102,8 +101,7 @@ impl Cells {
 
     /// The same as `raise`. Where the cells are in order and `t` comes behind them all, they stay known to be.
     fn raise_in_order(&mut self, t: Triple) -> Result<(), NoMemory>
-        ensures ok { OnOk result (self.new ≡ raised t self.old) }
-        ensures err { OnErr result (self.new ≡ self.old) }
+        ensures { AllOrNothing (raised t self.old) self.old self.new result }
     {
         let settled = settled_with(&self.triples, self.settled, t);
         self.triples.push(t)?;
@@ -181,10 +179,8 @@ impl Cells {
 /// How many triples are in order from the front once `t` came behind them all.
 #[inline(always)]
 fn settled_with(triples: &Vec<Triple>, settled: usize, t: Triple) -> usize
-    requires within { settled ≤ length triples.now.items }
-    requires ordered { InOrder (take settled triples.now.items) }
-    ensures within { result ≤ length triples.now.items + 1 }
-    ensures ordered { InOrder (take result (triples.now.items ++ t ∷ [])) }
+    requires { IsOrderedFront settled triples.now.items }
+    ensures { IsOrderedFront result (triples.now.items ++ t ∷ []) }
 {
     if settled < triples.len() {
         return settled;

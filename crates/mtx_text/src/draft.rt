@@ -2,9 +2,11 @@
 ghost use Rattle.std.specs.Prelude.{ℕ, ◌≡◌, ◌+◌, ◌*◌, ◌<◌, ◌≤◌, ◌++◌, ◌^◌, [], ◌∷◌, max, length, IfOk, IfErr, OnOk, nat_abs};
 ghost use Rattle.std.specs.List.{All};
 ghost use Rattle.mtx_text.specs.Lines.{lines_of, lines_from, words_of};
+ghost use Rattle.mtx_text.specs.Sparse.{AreSides, IsInside};
+ghost use Rattle.mtx_text.specs.PlainLines.{IsFirstKept, NoneCounts};
 ghost use Rattle.mtx_text.specs.Integers.{integer_of};
-ghost use Rattle.mtx_text.specs.Grammar.{cell_by, stands_for};
-ghost use Rattle.mtx_text.specs.Drafts.{draft_of};
+ghost use Rattle.mtx_text.specs.Grammar.{cell_by, stands_for, AreLimited};
+ghost use Rattle.mtx_text.specs.Drafts.{draft_of, ReadsOn};
 ghost use Rattle.mtx_text.specs.Chains.{IsWithin};
 
 use crate::banner::{Form, Symmetry};
@@ -38,9 +40,7 @@ pub(crate) fn read_draft(
     text: &[u8],
     number: u64,
 ) -> Result<Draft, AllocError>
-    requires tall { sizes.rows ≤ 16_384 }
-    requires wide { sizes.cols ≤ 16_384 }
-    requires short { sizes.entries ≤ 262_144 }
+    requires limits { AreLimited sizes }
     requires room { number + length text.now < 2 ^ 63 }
     ensures draft { IfOk result (λ draft. record { entries = draft.entries.items; stop = draft.stop }
         ≡ draft_of form sizes (number + length (lines_of text.now)) sizes.entries []
@@ -113,21 +113,9 @@ fn read_plain<'a>(
     entries: &mut Vec<Triple>,
     run: Run<'a>,
 ) -> Result<Run<'a>, AllocError>
-    requires tall { sizes.rows ≤ 16_384 }
-    requires wide { sizes.cols ≤ 16_384 }
+    requires sides { AreSides sizes.rows sizes.cols }
     requires room { run.number + length run.rest.now < 2 ^ 63 }
-    ensures draft { (end : ℕ) → IfOk result (λ r. draft_of form sizes end r.left entries.new.items
-        (lines_from r.number (lines_of r.rest.now))
-        ≡ draft_of form sizes end run.entry.left entries.old.items
-        (lines_from run.entry.number (lines_of run.entry.rest.now))) }
-    ensures lines { IfOk result (λ r. r.number + length (lines_of r.rest.now)
-        ≡ run.entry.number + length (lines_of run.entry.rest.now)) }
-    ensures room { IfOk result (λ r. r.number + length r.rest.now ≤ run.entry.number + length run.entry.rest.now) }
-    ensures on { IfOk result (λ r. length r.rest.now ≤ length run.entry.rest.now) }
-    ensures within { OnOk result (All (λ t. IsWithin (max sizes.rows sizes.cols) t) entries.old.items
-        → All (λ t. IsWithin (max sizes.rows sizes.cols) t) entries.new.items) }
-    ensures few { IfOk result (λ r. length entries.new.items + 2 * r.left
-        ≤ length entries.old.items + 2 * run.entry.left) }
+    ensures { IfOk result (λ r. ReadsOn form sizes entries.old.items entries.new.items run.entry r) }
 {
     if run.careful > 0 {
         return Ok(Run {
@@ -156,21 +144,9 @@ fn plain_lines<'a>(
     entries: &mut Vec<Triple>,
     run: Run<'a>,
 ) -> Result<Run<'a>, AllocError>
-    requires tall { sizes.rows ≤ 16_384 }
-    requires wide { sizes.cols ≤ 16_384 }
+    requires sides { AreSides sizes.rows sizes.cols }
     requires room { run.number + length run.rest.now < 2 ^ 63 }
-    ensures draft { (end : ℕ) → IfOk result (λ r. draft_of form sizes end r.left entries.new.items
-        (lines_from r.number (lines_of r.rest.now))
-        ≡ draft_of form sizes end run.entry.left entries.old.items
-        (lines_from run.entry.number (lines_of run.entry.rest.now))) }
-    ensures lines { IfOk result (λ r. r.number + length (lines_of r.rest.now)
-        ≡ run.entry.number + length (lines_of run.entry.rest.now)) }
-    ensures room { IfOk result (λ r. r.number + length r.rest.now ≤ run.entry.number + length run.entry.rest.now) }
-    ensures on { IfOk result (λ r. length r.rest.now ≤ length run.entry.rest.now) }
-    ensures within { OnOk result (All (λ t. IsWithin (max sizes.rows sizes.cols) t) entries.old.items
-        → All (λ t. IsWithin (max sizes.rows sizes.cols) t) entries.new.items) }
-    ensures few { IfOk result (λ r. length entries.new.items + 2 * r.left
-        ≤ length entries.old.items + 2 * run.entry.left) }
+    ensures { IfOk result (λ r. ReadsOn form sizes entries.old.items entries.new.items run.entry r) }
 {
     let mut rest = run.rest;
     let mut left = run.left;
@@ -199,23 +175,12 @@ fn plain_lines<'a>(
 /// The next line that counts, and what it names; else the number of the end line.
 #[inline(never)]
 fn next_entry(form: Form, sizes: Sizes, text: &[u8], number: u64) -> Result<Entry<'_>, u64>
-    requires tall { sizes.rows ≤ 16_384 }
-    requires wide { sizes.cols ≤ 16_384 }
+    requires sides { AreSides sizes.rows sizes.cols }
     requires room { number + length text.now < 2 ^ 63 }
-    ensures kept { IfOk result (λ entry. lines_from number (lines_of text.now)
-        ≡ record { number = entry.kept.number; words = words_of entry.kept.line.now } ∷ lines_from
-        (entry.kept.number + 1) (lines_of entry.kept.rest.now)) }
-    ensures left { IfOk result (λ entry. entry.kept.number + 1 + length (lines_of entry.kept.rest.now)
-        ≡ number + length (lines_of text.now)) }
-    ensures room { IfOk result (λ entry. entry.kept.number + 1 + length entry.kept.rest.now
-        ≤ number + length text.now) }
-    ensures shorter { IfOk result (λ entry. length entry.kept.rest.now < length text.now) }
-    ensures none { IfErr result (λ end. lines_from number (lines_of text.now) ≡ []) }
-    ensures end { IfErr result (λ end. end ≡ number + length (lines_of text.now)) }
+    ensures kept { IfOk result (λ entry. IsFirstKept text.now number entry.kept) }
+    ensures none { IfErr result (NoneCounts text.now number) }
     ensures value { IfOk result (λ entry. entry.cell ≡ cell_by integer_of form sizes (words_of entry.kept.line.now)) }
-    ensures row { IfOk result (λ entry. IfOk entry.cell (λ t. t.i < sizes.rows)) }
-    ensures col { IfOk result (λ entry. IfOk entry.cell (λ t. t.j < sizes.cols)) }
-    ensures limit { IfOk result (λ entry. IfOk entry.cell (λ t. nat_abs t.v ≤ 1_000_000_000_000)) }
+    ensures inside { IfOk result (λ entry. IfOk entry.cell (IsInside sizes.rows sizes.cols)) }
 {
     let kept = next_kept(text, number)?;
     let cell = read_cell(form, sizes, kept.line);
@@ -235,9 +200,7 @@ fn push(
     symmetry: Symmetry,
     t: Triple,
 ) -> Result<(), AllocError>
-    requires row { t.i < sizes.rows }
-    requires col { t.j < sizes.cols }
-    requires limit { nat_abs t.v ≤ 1_000_000_000_000 }
+    requires { IsInside sizes.rows sizes.cols t }
     ensures entries { OnOk result (entries.new.items ≡ entries.old.items ++ stands_for symmetry t) }
     ensures within { OnOk result (All (λ u. IsWithin (max sizes.rows sizes.cols) u) entries.old.items
         → All (λ u. IsWithin (max sizes.rows sizes.cols) u) entries.new.items) }

@@ -5,7 +5,7 @@
 //! before, for the first bad line.
 ghost use Rattle.std.specs.Prelude.{◌+◌, ◌<◌, ◌≤◌, ◌^◌, [], length};
 ghost use Rattle.mtx_text.specs.Lines.{lines_of, lines_from};
-ghost use Rattle.mtx_text.specs.Grammar.{entries_of};
+ghost use Rattle.mtx_text.specs.Grammar.{entries_of, AreLimited};
 ghost use Rattle.mtx_text.specs.Answers.{Gives};
 
 use crate::apart::are_apart;
@@ -25,9 +25,7 @@ pub(crate) fn read_entries(
     text: &[u8],
     number: u64,
 ) -> Result<Vec<Triple>, ParseFault>
-    requires tall { sizes.rows ≤ 16_384 }
-    requires wide { sizes.cols ≤ 16_384 }
-    requires short { sizes.entries ≤ 262_144 }
+    requires limits { AreLimited sizes }
     requires room { number + length text.now < 2 ^ 63 }
     ensures { Gives (λ v. v.items) result
         (entries_of form sizes (number + length (lines_of text.now)) sizes.entries []

@@ -1,6 +1,7 @@
 //! Lines of entries, whose rows are written once: entries of one row share their front.
 ghost use Rattle.std.specs.Prelude.{◌≡◌, ◌+◌, ◌≤◌, ◌<◌, ℕ, List, [], ◌++◌, length, take};
 ghost use Rattle.bale_types.specs.declared.line.TheConstants.{LINE_ROOM};
+ghost use Rattle.bale_types.specs.Digits.{IsLaid};
 ghost use Rattle.bale_types.specs.declared.triple.Triple.{Triple};
 ghost use Rattle.mtx_text.specs.Written.{entry_text};
 ghost use Rattle.mtx_text.specs.Fronts.{row_text, rest_text, line_of, Names};
@@ -76,10 +77,8 @@ impl LineText for EntryLine {
 
     #[inline(always)]
     fn lay(&self, buffer: &mut [u8], at: usize) -> usize
-        requires room { at + LINE_ROOM ≤ length buffer.old }
-        ensures bytes { take result buffer.new ≡ take at buffer.old ++ self.now }
-        ensures end { result ≤ at + LINE_ROOM }
-        ensures len { length buffer.new ≡ length buffer.old }
+        requires { at + LINE_ROOM ≤ length buffer.old }
+        ensures { IsLaid LINE_ROOM at result buffer.old buffer.new self.now }
     {
         let Some(kind) = self.kind else {
             return at;
@@ -110,9 +109,7 @@ fn lay_rest(
     value: i64,
 ) -> usize
     requires { at + 42 ≤ length buffer.old }
-    ensures bytes { take result buffer.new ≡ take at buffer.old ++ rest_text kind column value }
-    ensures end { result ≤ at + 42 }
-    ensures len { length buffer.new ≡ length buffer.old }
+    ensures { IsLaid 42 at result buffer.old buffer.new (rest_text kind column value) }
 {
     let column = lay_natural_by(buffer, at, fours, column as u64 + 1);
     match kind {

@@ -5,7 +5,7 @@ ghost use Rattle.mtx_text.specs.declared.kind.Kind.TheVariants.{Integer};
 ghost use Rattle.mtx_text.specs.Permutations.{Permutes};
 ghost use Rattle.mtx_text.specs.Sparse.{IsEntry};
 ghost use Rattle.mtx_text.specs.Cells.{sparse};
-ghost use Rattle.mtx_text.specs.Generated.{hidden, positions, generated};
+ghost use Rattle.mtx_text.specs.Generated.{hidden, positions, CanHide, generated};
 
 use crate::kind::Kind;
 use crate::matrix::Matrix;
@@ -21,10 +21,8 @@ use std::alloc::{AllocError, Global};
 /// `NoMemory` where there was none.
 pub fn gen_matrix(alloc: Global, n: u32, m: u32, seed: u64) -> Result<Matrix, NoMemory>
     requires some { 1 ≤ n }
-    requires tall { n ≤ 16_384 }
     requires full { n ≤ m }
-    requires few { m ≤ 262_144 }
-    requires room { 2 * m ≤ n * (n + 1) }
+    requires hidden { CanHide n m }
     ensures { IfOk result (λ g. g ≡ generated n m seed) }
 {
     let mut words = Words::of_seed(seed);
@@ -43,9 +41,7 @@ fn hide(
     cols: &Vec<u32>,
     words: Words,
 ) -> Result<Vec<Triple>, AllocError>
-    requires tall { n ≤ 16_384 }
-    requires few { m ≤ 262_144 }
-    requires room { 2 * m ≤ n * (n + 1) }
+    requires hidden { CanHide n m }
     requires rows { Permutes n rows.now.items }
     requires cols { Permutes n cols.now.items }
     ensures hidden { IfOk result (λ v. v.items ≡ hidden rows.now.items cols.now.items words (positions n m)) }

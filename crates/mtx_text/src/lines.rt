@@ -1,7 +1,7 @@
 //! A text cut into lines, one line at a time and without a copy.
 ghost use Rattle.std.specs.Prelude.{◌≡◌, ◌≢◌, not, false, ℕ, ◌+◌, ◌<◌, ◌≤◌, ◌^◌, length, take, drop, slice_index, [], ◌∷◌, IfOk, IfErr};
 ghost use Rattle.mtx_text.specs.Lines.{lines_of, words_of, lines_from, without_cr, is_blank, is_skipped};
-ghost use Rattle.mtx_text.specs.PlainLines.{LineAt};
+ghost use Rattle.mtx_text.specs.PlainLines.{CountsAt, IsFirstKept, NoneCounts};
 
 use crate::words::trimmed;
 
@@ -19,15 +19,8 @@ pub(crate) struct Kept<'a> {
 /// The next line that counts, where the text begins with line `number`; else the number of the end line.
 pub(crate) fn next_kept(text: &[u8], number: u64) -> Result<Kept<'_>, u64>
     requires { number + length text.now < 2 ^ 63 }
-    ensures kept { IfOk result (λ kept. lines_from number (lines_of text.now)
-        ≡ record { number = kept.number; words = words_of kept.line.now } ∷ lines_from (kept.number + 1)
-        (lines_of kept.rest.now)) }
-    ensures left { IfOk result (λ kept. kept.number + 1 + length (lines_of kept.rest.now)
-        ≡ number + length (lines_of text.now)) }
-    ensures room { IfOk result (λ kept. kept.number + 1 + length kept.rest.now ≤ number + length text.now) }
-    ensures shorter { IfOk result (λ kept. length kept.rest.now < length text.now) }
-    ensures none { IfErr result (λ end. lines_from number (lines_of text.now) ≡ []) }
-    ensures end { IfErr result (λ end. end ≡ number + length (lines_of text.now)) }
+    ensures kept { IfOk result (IsFirstKept text.now number) }
+    ensures none { IfErr result (NoneCounts text.now number) }
 {
     let mut rest = text;
     let mut number = number;
@@ -51,15 +44,9 @@ pub(crate) fn next_kept(text: &[u8], number: u64) -> Result<Kept<'_>, u64>
 #[inline(always)]
 #[tactic(auto, using(crate::proofs::PlainLines::kept_at, crate::proofs::PlainLines::left_at))]
 pub(crate) fn first_kept(text: &[u8], number: u64, len: usize, next: usize) -> Kept<'_>
-    requires line { LineAt text.now len next }
-    requires counts { is_skipped (words_of (take len text.now)) ≡ false }
+    requires { CountsAt text.now len next }
     ensures line { result.line.now ≡ take len text.now }
-    ensures kept { lines_from number (lines_of text.now)
-        ≡ record { number = result.number; words = words_of result.line.now } ∷ lines_from (result.number + 1)
-        (lines_of result.rest.now) }
-    ensures left { result.number + 1 + length (lines_of result.rest.now) ≡ number + length (lines_of text.now) }
-    ensures room { result.number + 1 + length result.rest.now ≤ number + length text.now }
-    ensures shorter { length result.rest.now < length text.now }
+    ensures kept { IsFirstKept text.now number result }
 {
     Kept {
         number,

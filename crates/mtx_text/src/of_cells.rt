@@ -1,7 +1,7 @@
 //! Matrices of cells.
 ghost use Rattle.std.specs.Prelude.{◌≡◌, ◌≤◌, ◌++◌, [], nat_lt, IfOk, OnOk};
 ghost use Rattle.std.specs.List.{All};
-ghost use Rattle.mtx_text.specs.Sparse.{IsEntry};
+ghost use Rattle.mtx_text.specs.Sparse.{IsEntry, AreSides};
 ghost use Rattle.mtx_text.specs.Cells.{InOrder, gathered, together, sparse};
 
 use crate::cells::Cells;
@@ -27,8 +27,7 @@ impl Matrix {
         kind: Kind,
         cells: &Cells,
     ) -> Result<Matrix, NoMemory>
-        requires tall { rows ≤ 16_384 }
-        requires wide { cols ≤ 16_384 }
+        requires sides { AreSides rows cols }
         requires inside { All (λ t. IsEntry (sparse rows cols kind []) t) cells.now }
         ensures { IfOk result (λ m. m ≡ sparse rows cols kind cells.now) }
     {
@@ -50,8 +49,7 @@ impl Matrix {
         kind: Kind,
         all: &[Cells],
     ) -> Result<Matrix, NoMemory>
-        requires tall { rows ≤ 16_384 }
-        requires wide { cols ≤ 16_384 }
+        requires sides { AreSides rows cols }
         requires inside { All (λ t. IsEntry (sparse rows cols kind []) t) (together all.now) }
         ensures matrix { IfOk result (λ m. m ≡ sparse rows cols kind (together all.now)) }
         ensures ordered { OnOk result (All (λ cells. InOrder cells) all.now) }
@@ -66,8 +64,7 @@ impl Matrix {
 
 /// The matrix of triples in any order, of which those at one place leave the greatest value.
 fn of_triples(rows: u32, cols: u32, kind: Kind, triples: Vec<Triple>) -> Result<Matrix, NoMemory>
-    requires tall { rows ≤ 16_384 }
-    requires wide { cols ≤ 16_384 }
+    requires sides { AreSides rows cols }
     requires inside { All (λ t. IsEntry (sparse rows cols kind []) t) (gathered triples.items) }
     ensures { IfOk result (λ m. m ≡ sparse rows cols kind (gathered triples.items)) }
 {

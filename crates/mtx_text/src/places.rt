@@ -2,7 +2,8 @@
 ghost use Rattle.std.specs.Prelude.{◌≡◌, ◌<◌, ◌≤◌, ◌∷◌, ◌++◌, [], true, List, nat_abs, OnOk};
 ghost use Rattle.bale_types.specs.declared.triple.Triple.{Triple};
 ghost use Rattle.mtx_text.specs.Grammar.{has_place, stands_for};
-ghost use Rattle.mtx_text.specs.Places.{Tracks, narrow, key_of};
+ghost use Rattle.mtx_text.specs.Sparse.{IsInside};
+ghost use Rattle.mtx_text.specs.Places.{Tracks, narrow, key_of, AddsTo};
 
 use crate::banner::Symmetry;
 use crate::cell::mirror;
@@ -33,9 +34,7 @@ pub(crate) fn add_one(
     t: Triple,
 ) -> Result<(), AllocError>
     requires { t.j < 65_536 }
-    ensures entries { OnOk result (entries.new.items ≡ entries.old.items ++ t ∷ []) }
-    ensures tracks { OnOk result (Tracks seen.old entries.old.items → Tracks seen.new entries.new.items) }
-    ensures narrow { OnOk result (narrow entries.old.items ≡ true → narrow entries.new.items ≡ true) }
+    ensures { OnOk result (AddsTo (t ∷ []) entries.old.items entries.new.items seen.old seen.new) }
 {
     entries.push(t)?;
     seen.insert(key(t.i, t.j))?;
@@ -49,12 +48,8 @@ pub(crate) fn add(
     symmetry: Symmetry,
     t: Triple,
 ) -> Result<(), AllocError>
-    requires row { t.i < 65_536 }
-    requires col { t.j < 65_536 }
-    requires limit { nat_abs t.v ≤ 1_000_000_000_000 }
-    ensures entries { OnOk result (entries.new.items ≡ entries.old.items ++ stands_for symmetry t) }
-    ensures tracks { OnOk result (Tracks seen.old entries.old.items → Tracks seen.new entries.new.items) }
-    ensures narrow { OnOk result (narrow entries.old.items ≡ true → narrow entries.new.items ≡ true) }
+    requires { IsInside 65_536 65_536 t }
+    ensures { OnOk result (AddsTo (stands_for symmetry t) entries.old.items entries.new.items seen.old seen.new) }
 {
     add_one(entries, seen, t)?;
     match mirror(symmetry, t) {

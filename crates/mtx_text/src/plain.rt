@@ -11,7 +11,7 @@ ghost use Rattle.mtx_text.specs.Lines.{words_of, is_skipped};
 ghost use Rattle.mtx_text.specs.Grammar.{fields_of};
 ghost use Rattle.mtx_text.specs.Capped.{read_three};
 ghost use Rattle.mtx_text.specs.DigitLanes.{bits_of};
-ghost use Rattle.mtx_text.specs.PlainLines.{LineAt, DigitsTo, DigitsEnd, LastAt, IsRead, FrontAt};
+ghost use Rattle.mtx_text.specs.PlainLines.{LineAt, DigitsTo, DigitsEnd, LastAt, IsRead, FrontAt, IsPlain, LeadingDigits};
 
 use crate::digit_lanes::{no_digits, number_of};
 use crate::integer::Integer;
@@ -116,10 +116,7 @@ pub(crate) fn short_value(front: Front<'_>) -> Option<Last>
 pub(crate) fn plain_three(text: &[u8], front: Front<'_>, last: Last) -> Plain
     requires front { FrontAt text.now front.two front.rest.now }
     requires last { LastAt front.rest.now last.len last.next last.value }
-    ensures line { LineAt text.now result.len result.next }
-    ensures counts { is_skipped (words_of (take result.len text.now)) ≡ false }
-    ensures fields { Some (result.fields.row, result.fields.column, result.fields.value)
-        ≡ option_map read_three (fields_of Kind.Integer (words_of (take result.len text.now))) }
+    ensures { IsPlain Kind.Integer text.now result }
 {
     let Two { row, column, .. } = front.two;
     Plain {
@@ -136,10 +133,7 @@ pub(crate) fn plain_three(text: &[u8], front: Front<'_>, last: Last) -> Plain
 /// The plain line of row and column, whose value is 1, that a text begins with.
 #[inline(always)]
 pub(crate) fn plain_two(text: &[u8]) -> Option<Plain>
-    ensures line { IfSome result (λ p. LineAt text.now p.len p.next) }
-    ensures counts { IfSome result (λ p. is_skipped (words_of (take p.len text.now)) ≡ false) }
-    ensures fields { IfSome result (λ p. Some (p.fields.row, p.fields.column, p.fields.value)
-        ≡ option_map read_three (fields_of Kind.Pattern (words_of (take p.len text.now)))) }
+    ensures { IfSome result (IsPlain Kind.Pattern text.now) }
 {
     let Two { row, column, .. } = two_numbers(text)?;
     let end = line_end(behind(row.len, text), column.len)?;
@@ -270,10 +264,7 @@ fn line_end(text: &[u8], len: usize) -> Option<usize>
 /// is cheaper to count them once than to look at each whether it is one too many.
 #[inline(always)]
 fn leading(text: &[u8]) -> Option<Digits>
-    ensures within { IfSome result (λ d. d.len < length text.now) }
-    ensures digits { IfSome result (λ d. list_all is_ascii_digit (take d.len text.now) ≡ true) }
-    ensures value { IfSome result (λ d. d.len ≤ 18
-        → d.size ≡ min (digits_value 10 (take d.len text.now)) 1_000_000_000_000_000_000) }
+    ensures { IfSome result (LeadingDigits text.now) }
 {
     if text.len() <= UNROLLED {
         return more_digits(text);
@@ -325,10 +316,7 @@ fn digit_more(text: &[u8], digits: Digits) -> Result<Digits, Digits>
 /// The digits that a text begins with, however many, where another byte follows.
 #[inline(always)]
 fn more_digits(text: &[u8]) -> Option<Digits>
-    ensures within { IfSome result (λ d. d.len < length text.now) }
-    ensures digits { IfSome result (λ d. list_all is_ascii_digit (take d.len text.now) ≡ true) }
-    ensures value { IfSome result (λ d. d.len ≤ 18
-        → d.size ≡ min (digits_value 10 (take d.len text.now)) 1_000_000_000_000_000_000) }
+    ensures { IfSome result (LeadingDigits text.now) }
 {
     let mut size: u64 = 0;
     for (i, b) in text.iter().enumerate() {

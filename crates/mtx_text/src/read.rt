@@ -1,9 +1,9 @@
-//! The matrix of the text that a source gives.
+//! The text that a source gives, and the matrix of it.
 ghost use Rattle.std.specs.Prelude.{◌≡◌, ◌≢◌, ℕ, ◌+◌, ◌<◌, ◌≤◌, List, Some, Ok, Err, take, drop, vec_len, IsSome, IfOk};
-ghost use Rattle.bale_types.specs.Stream.{RoseOrFull};
+ghost use Rattle.bale_types.specs.Stream.{Blames};
 ghost use Rattle.mtx_text.specs.declared.read.Unread.TheVariants as Unread;
 ghost use Rattle.mtx_text.specs.Grammar.{matrix_of};
-ghost use Rattle.mtx_text.specs.Answers.{ReadGives, OnDecided, IsBehind};
+ghost use Rattle.mtx_text.specs.Answers.{ReadGives, OnDecided, TakesUpTo};
 
 use crate::matrix::Matrix;
 use crate::parse::{MOST_BYTES, parse_matrix};
@@ -16,7 +16,7 @@ const PIECE: usize = 65_536;
 
 /// Why a text couldn't be read to its end.
 #[derive(Clone, Copy)]
-enum Unread {
+pub enum Unread {
     /// A read failed.
     Source,
     /// An allocation was refused.
@@ -52,12 +52,8 @@ pub fn read_matrix<S: Source>(alloc: Global, source: &mut S) -> Result<Matrix, R
     ensures gives { (text : List ℕ) → S.left source.old ≡ Some text → ReadGives result (matrix_of text) }
     ensures left { (text : List ℕ) → S.left source.old ≡ Some text
         → OnDecided result (S.left source.new ≡ Some (drop 16_777_217 text)) }
-    ensures behind { (text rest : List ℕ) → S.left source.old ≡ Some text → S.left source.new ≡ Some rest
-        → IsBehind 16_777_217 text rest }
-    ensures told { (text : List ℕ) → S.left source.old ≡ Some text → IsSome (S.left source.new) }
-    ensures cause { result ≡ Err ReadFault.Source → RoseOrFull (S.faults source.old) (S.faults source.new) }
-    ensures no_fault { result ≢ Err ReadFault.Source → S.faults source.new ≡ S.faults source.old }
-    ensures never_falls { S.faults source.old ≤ S.faults source.new }
+    ensures takes { TakesUpTo 16_777_217 (S.left source.old) (S.left source.new) }
+    ensures faults { Blames (result ≡ Err ReadFault.Source) (S.faults source.old) (S.faults source.new) }
 {
     let text = match read_text(alloc, source, MOST_BYTES + 1) {
         Ok(text) => text,
@@ -72,17 +68,13 @@ pub fn read_matrix<S: Source>(alloc: Global, source: &mut S) -> Result<Matrix, R
 }
 
 /// The text of a source, up to `limit` bytes.
-fn read_text<S: Source>(alloc: Global, source: &mut S, limit: usize) -> Result<Vec<u8>, Unread>
+pub fn read_text<S: Source>(alloc: Global, source: &mut S, limit: usize) -> Result<Vec<u8>, Unread>
     ensures text { (text : List ℕ) → S.left source.old ≡ Some text
         → IfOk result (λ read. read.items ≡ take limit text) }
     ensures left { (text : List ℕ) → S.left source.old ≡ Some text
         → IfOk result (λ read. S.left source.new ≡ Some (drop limit text)) }
-    ensures behind { (text rest : List ℕ) → S.left source.old ≡ Some text → S.left source.new ≡ Some rest
-        → IsBehind limit text rest }
-    ensures told { (text : List ℕ) → S.left source.old ≡ Some text → IsSome (S.left source.new) }
-    ensures cause { result ≡ Err Unread.Source → RoseOrFull (S.faults source.old) (S.faults source.new) }
-    ensures no_fault { result ≢ Err Unread.Source → S.faults source.new ≡ S.faults source.old }
-    ensures never_falls { S.faults source.old ≤ S.faults source.new }
+    ensures takes { TakesUpTo limit (S.left source.old) (S.left source.new) }
+    ensures faults { Blames (result ≡ Err Unread.Source) (S.faults source.old) (S.faults source.new) }
 {
     let mut text = Vec::new(alloc);
     let mut buffer = room_for(alloc, PIECE)?;

@@ -4,7 +4,7 @@ ghost use Rattle.std.specs.Option.{option_map};
 ghost use Rattle.mtx_text.specs.Lines.{words_of};
 ghost use Rattle.mtx_text.specs.Integers.{integer_of};
 ghost use Rattle.mtx_text.specs.Capped.{capped};
-ghost use Rattle.mtx_text.specs.Grammar.{sizes_by, natural_of, within_limits, is_general};
+ghost use Rattle.mtx_text.specs.Grammar.{sizes_by, natural_of, within_limits, is_general, AreLimited};
 
 use crate::banner::{Form, Symmetry};
 use crate::integer::{Integer, read_integer};
@@ -29,9 +29,7 @@ pub(crate) struct Sizes {
 #[tactic(auto, using(crate::proofs::Caps::sizes_capped))]
 pub(crate) fn read_sizes(form: Form, line: &[u8]) -> Result<Sizes, Reason>
     ensures value { result ≡ sizes_by integer_of form (words_of line.now) }
-    ensures tall { IfOk result (λ sizes. sizes.rows ≤ 16_384) }
-    ensures wide { IfOk result (λ sizes. sizes.cols ≤ 16_384) }
-    ensures short { IfOk result (λ sizes. sizes.entries ≤ 262_144) }
+    ensures limited { IfOk result AreLimited }
 {
     sizes_cut(form, line)
 }
@@ -40,9 +38,7 @@ pub(crate) fn read_sizes(form: Form, line: &[u8]) -> Result<Sizes, Reason>
 #[tactic(auto, unfolding(crate::specs::Grammar::sizes_by))]
 fn sizes_cut(form: Form, line: &[u8]) -> Result<Sizes, Reason>
     ensures value { result ≡ sizes_by (λ w. option_map capped (integer_of w)) form (words_of line.now) }
-    ensures tall { IfOk result (λ sizes. sizes.rows ≤ 16_384) }
-    ensures wide { IfOk result (λ sizes. sizes.cols ≤ 16_384) }
-    ensures short { IfOk result (λ sizes. sizes.entries ≤ 262_144) }
+    ensures limited { IfOk result AreLimited }
 {
     let three = three_words(line).ok_or(Reason::SizeLine)?;
     let rows = natural(read_integer(three.first)).ok_or(Reason::SizeLine)?;
@@ -66,9 +62,7 @@ fn natural(z: Option<Integer>) -> Option<u64>
 /// The sizes, where they are within the limits.
 fn limited(form: Form, rows: u64, cols: u64, entries: u64) -> Result<Sizes, Reason>
     ensures value { result ≡ within_limits form (record { rows = rows; cols = cols; entries = entries }) }
-    ensures tall { IfOk result (λ sizes. sizes.rows ≤ 16_384) }
-    ensures wide { IfOk result (λ sizes. sizes.cols ≤ 16_384) }
-    ensures short { IfOk result (λ sizes. sizes.entries ≤ 262_144) }
+    ensures limited { IfOk result AreLimited }
 {
     if rows > MOST_ROWS || cols > MOST_ROWS || entries > MOST_LINES {
         return Err(Reason::TooLarge);

@@ -1,8 +1,7 @@
 //! A matrix as text.
 ghost use Rattle.std.specs.Prelude.{◌≡◌, ◌≤◌, ◌<◌, ◌+◌, ◌^◌, ◌++◌, Ok, List, length, OnOk, OnErr};
 ghost use Rattle.std.specs.List.{flat_map};
-ghost use Rattle.bale_types.specs.Stream.{after, HasCause, IsFront};
-ghost use Rattle.bale_types.specs.Out.{appended};
+ghost use Rattle.bale_types.specs.Out.{Writes};
 ghost use Rattle.bale_types.specs.declared.triple.Triple.{Triple};
 ghost use Rattle.mtx_text.specs.Grammar.{matrix_of};
 ghost use Rattle.mtx_text.specs.Written.{banner_text, size_text, entry_text, text_of};
@@ -19,14 +18,8 @@ use bale_types::{Failed, Line, Out, Sink, Triple};
 ///
 /// `Failed` where the sink's faults rose in this call.
 pub fn write_matrix<K: Sink>(m: &Matrix, out: &mut Out<'_, K>) -> Result<(), Failed>
-    ensures ok { OnOk result (appended K.taken out.new ≡ after (appended K.taken out.old) (text_of m.now)) }
-    ensures err { OnErr result (IsFront (K.taken out.new.sink.now) (after (appended K.taken out.old) (text_of m.now))) }
+    ensures written { Writes K.taken K.faults (text_of m.now) out.old out.new result }
     ensures read_again { length m.now.entries ≤ 262_144 → matrix_of (text_of m.now) ≡ Ok m.now }
-    ensures cause { HasCause (K.faults out.old.sink.now) (K.faults out.new.sink.now) result }
-    ensures no_fault { OnOk result (K.faults out.new.sink.now ≡ K.faults out.old.sink.now) }
-    ensures never_falls { K.faults out.old.sink.now ≤ K.faults out.new.sink.now }
-    ensures grows { IsFront (K.taken out.old.sink.now) (K.taken out.new.sink.now) }
-    ensures same_sink { out.new.sink.ghost_name ≡ out.old.sink.ghost_name }
 {
     let entries = m.entries();
     write_banner(out, m.kind())?;
@@ -36,14 +29,7 @@ pub fn write_matrix<K: Sink>(m: &Matrix, out: &mut Out<'_, K>) -> Result<(), Fai
 }
 
 fn write_banner<K: Sink>(out: &mut Out<'_, K>, kind: Kind) -> Result<(), Failed>
-    ensures ok { OnOk result (appended K.taken out.new ≡ after (appended K.taken out.old) (banner_text kind)) }
-    ensures err { OnErr result (IsFront (K.taken out.new.sink.now)
-        (after (appended K.taken out.old) (banner_text kind))) }
-    ensures cause { HasCause (K.faults out.old.sink.now) (K.faults out.new.sink.now) result }
-    ensures no_fault { OnOk result (K.faults out.new.sink.now ≡ K.faults out.old.sink.now) }
-    ensures never_falls { K.faults out.old.sink.now ≤ K.faults out.new.sink.now }
-    ensures grows { IsFront (K.taken out.old.sink.now) (K.taken out.new.sink.now) }
-    ensures same_sink { out.new.sink.ghost_name ≡ out.old.sink.ghost_name }
+    ensures { Writes K.taken K.faults (banner_text kind) out.old out.new result }
 {
     match kind {
         Kind::Integer => out.text(b"%%MatrixMarket matrix coordinate integer general\n"),
@@ -52,14 +38,7 @@ fn write_banner<K: Sink>(out: &mut Out<'_, K>, kind: Kind) -> Result<(), Failed>
 }
 
 fn write_sizes<K: Sink>(out: &mut Out<'_, K>, m: &Matrix) -> Result<(), Failed>
-    ensures ok { OnOk result (appended K.taken out.new ≡ after (appended K.taken out.old) (size_text m.now)) }
-    ensures err { OnErr result (IsFront (K.taken out.new.sink.now)
-        (after (appended K.taken out.old) (size_text m.now))) }
-    ensures cause { HasCause (K.faults out.old.sink.now) (K.faults out.new.sink.now) result }
-    ensures no_fault { OnOk result (K.faults out.new.sink.now ≡ K.faults out.old.sink.now) }
-    ensures never_falls { K.faults out.old.sink.now ≤ K.faults out.new.sink.now }
-    ensures grows { IsFront (K.taken out.old.sink.now) (K.taken out.new.sink.now) }
-    ensures same_sink { out.new.sink.ghost_name ≡ out.old.sink.ghost_name }
+    ensures { Writes K.taken K.faults (size_text m.now) out.old out.new result }
 {
     let mut line = Line::new();
     line.natural(m.rows() as u64);
@@ -76,15 +55,7 @@ fn write_entries<K: Sink>(
     kind: Kind,
     entries: &[Triple],
 ) -> Result<(), Failed>
-    ensures ok { OnOk result (appended K.taken out.new ≡ after (appended K.taken out.old)
-        (flat_map (entry_text kind) entries.now)) }
-    ensures err { OnErr result (IsFront (K.taken out.new.sink.now)
-        (after (appended K.taken out.old) (flat_map (entry_text kind) entries.now))) }
-    ensures cause { HasCause (K.faults out.old.sink.now) (K.faults out.new.sink.now) result }
-    ensures no_fault { OnOk result (K.faults out.new.sink.now ≡ K.faults out.old.sink.now) }
-    ensures never_falls { K.faults out.old.sink.now ≤ K.faults out.new.sink.now }
-    ensures grows { IsFront (K.taken out.old.sink.now) (K.taken out.new.sink.now) }
-    ensures same_sink { out.new.sink.ghost_name ≡ out.old.sink.ghost_name }
+    ensures { Writes K.taken K.faults (flat_map (entry_text kind) entries.now) out.old out.new result }
 {
     match kind {
         Kind::Integer => write_lines(out, Kind::Integer, entries),
@@ -95,15 +66,7 @@ fn write_entries<K: Sink>(
 /// The lines of entries, compiled for each kind by itself.
 #[inline(always)]
 fn write_lines<K: Sink>(out: &mut Out<'_, K>, kind: Kind, entries: &[Triple]) -> Result<(), Failed>
-    ensures ok { OnOk result (appended K.taken out.new ≡ after (appended K.taken out.old)
-        (flat_map (entry_text kind) entries.now)) }
-    ensures err { OnErr result (IsFront (K.taken out.new.sink.now)
-        (after (appended K.taken out.old) (flat_map (entry_text kind) entries.now))) }
-    ensures cause { HasCause (K.faults out.old.sink.now) (K.faults out.new.sink.now) result }
-    ensures no_fault { OnOk result (K.faults out.new.sink.now ≡ K.faults out.old.sink.now) }
-    ensures never_falls { K.faults out.old.sink.now ≤ K.faults out.new.sink.now }
-    ensures grows { IsFront (K.taken out.old.sink.now) (K.taken out.new.sink.now) }
-    ensures same_sink { out.new.sink.ghost_name ≡ out.old.sink.ghost_name }
+    ensures { Writes K.taken K.faults (flat_map (entry_text kind) entries.now) out.old out.new result }
 {
     let mut line = EntryLine::new();
     for t in entries {

@@ -10,3 +10,5 @@ pub mod Orders
 pub mod Replies
 pub mod Rules
 pub mod Talks
+pub mod Ranks
+pub mod Handing

@@ -1,5 +1,6 @@
 //! From a matrix to the answer: the programs, driven on one thread or on several, and the cells of their owners.
 
+ghost use Rattle.round_program.specs.Ranks.{AreRanks};
 ghost use Rattle.std.specs.Prelude.{◌≡◌, ◌≤◌, length, IfOk};
 ghost use Rattle.route_tensor.specs.Grid.{ranks};
 ghost use Rattle.round_program.specs.Canonical.{HaveEnded};
@@ -62,8 +63,7 @@ fn found(
     ranks: u32,
     progs: &Progs<Skeleton>,
 ) -> Result<Vec<u64>, NoMemory>
-    requires some { 1 ≤ ranks }
-    requires few { ranks ≤ 64 }
+    requires ranks { AreRanks ranks }
     requires ended { HaveEnded rules (starts ranks m.now) progs.now }
     ensures { IfOk result (λ v. IsFound ranks m.now v.items) }
 {

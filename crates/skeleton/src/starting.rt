@@ -1,5 +1,6 @@
 //! The programs of all ranks, made from a matrix.
 
+ghost use Rattle.round_program.specs.Ranks.{AreRanks, IsRankOf};
 ghost use Rattle.std.specs.Prelude.{◌≡◌, ◌<◌, ◌≤◌, ◌%◌, [], ◌∷◌, map, IfOk};
 ghost use Rattle.round_program.specs.Canonical.{InRound, EndsWithin};
 ghost use Rattle.sparse_rows.specs.Deals.{dealt};
@@ -18,8 +19,7 @@ use std::alloc::Global;
 /// # Errors
 /// `NoMemory` where there was none for them.
 pub fn start(alloc: Global, m: &Matrix, ranks: u32) -> Result<Progs<Skeleton>, NoMemory>
-    requires some { 1 ≤ ranks }
-    requires few { ranks ≤ 64 }
+    requires { AreRanks ranks }
     ensures starts { IfOk result (λ ps. ps ≡ starts ranks m.now) }
     ensures begins { IfOk result (λ ps. InRound rules ranks 0 (m.now.cols ∷ []) 1 ps) }
     ensures ends { IfOk result (λ ps. EndsWithin rules ps 1) }
@@ -30,8 +30,7 @@ pub fn start(alloc: Global, m: &Matrix, ranks: u32) -> Result<Progs<Skeleton>, N
 
 /// The program of a rank.
 fn one(alloc: Global, m: &Matrix, ranks: u32, rank: u32) -> Result<Skeleton, NoMemory>
-    requires rank { rank < ranks }
-    requires few { ranks ≤ 64 }
+    requires { IsRankOf ranks rank }
     ensures { IfOk result (λ s. s ≡ begins ranks m.now rank) }
 {
     m.known();

@@ -1,4 +1,5 @@
 //! A matrix's entries dealt out to ranks, in turn.
+ghost use Rattle.round_program.specs.Ranks.{AreRanks};
 ghost use Rattle.std.specs.Prelude.{◌≡◌, ℕ, ◌<◌, ◌≤◌, [], Some, length, slice_get, slice_index_or, IfOk};
 ghost use Rattle.sparse_rows.specs.Parts.{parts_of};
 
@@ -36,8 +37,7 @@ impl Model for Parts {
 /// `NoMemory` where there was none for the copy.
 #[tactic(auto, using(crate::proofs::Turns::parts_count))]
 pub fn split(alloc: Global, m: &Matrix, ranks: u32) -> Result<Parts, NoMemory>
-    requires some { 1 ≤ ranks }
-    requires few { ranks ≤ 64 }
+    requires { AreRanks ranks }
     ensures parts { IfOk result (λ p. p ≡ parts_of ranks m.now.entries) }
     ensures ranks { IfOk result (λ p. length p ≡ ranks) }
 {

@@ -1,5 +1,5 @@
 -- A rank of delta-stepping, as far as it says what the rank may be sent and makes of it.
-use Rattle.std.specs.Prelude.{◌≡◌, ◌<◌}
+use Rattle.std.specs.Prelude.{◌≡◌, ◌<◌, Result, OnOk, OnErr}
 use Rattle.delta_step.specs.declared.seat.Seat.{Seat}
 use Rattle.delta_step.specs.declared.phase.Phase.TheVariants.{First}
 use Rattle.delta_step.specs.Deltas.{DeltaState}
@@ -13,3 +13,14 @@ pub record IsSeat (seat : Seat) (s : DeltaState) : Type 0 where
   pub round : seat.round ≡ s.round
   pub phase : seat.phase ≡ s.phase
   pub early : seat.phase ≡ First → seat.round ≡ 0
+
+-- an item is taken in from a seat: the state becomes the one that is made, and what is sent and the seat stay
+pub record TakesIn {T E : Type 0} (made : DeltaState) (seat : Seat) (old new : DeltaState) (result : Result T E) : Type 0 where
+  pub ok : OnOk result (new ≡ made)
+  pub sent : new.outgoing ≡ old.outgoing
+  pub seated : IsSeat seat new
+
+-- a round begins: the state becomes the one that is made, or what is sent stays
+pub record BeginsRound {T E : Type 0} (made old new : DeltaState) (result : Result T E) : Type 0 where
+  pub ok : OnOk result (new ≡ made)
+  pub err : OnErr result (new.outgoing ≡ old.outgoing)

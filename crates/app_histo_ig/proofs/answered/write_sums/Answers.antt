@@ -40,17 +40,6 @@ next-at-requires-clause-turn g c =
     let low = turn_low (length c.args.p.now) c.loop-e.at.turn c.loop-e.at.rank c.loop-e.e c.loop-e.invariant.rank c.loop-e.invariant.dealt in
     omega (arith, low, c.loop-e-test.true, c.entries-entries.type_inv)
 
-pub returns-in_err-line-clause-err : goal.returns-in_err-line-clause-err
-returns-in_err-line-clause-err g c =
-    let ts : List Triple = c.args.m.now.entries in
-    let x = (goal.at.returns-in_err-line-clause-err g c).After-set in
-    on_err_any c.from_residual.result
-    (front_at (λ u. ig_line u.i u.j (column_sum u.j ts)) ts c.loop-e.e (entry g x).0 _ _ _ _ (entry g x).1 (line g x) c.in_err-line.ensures.err c.loop-e.invariant.so_far)
-
-pub returns-in_err-line-clause-grows : goal.returns-in_err-line-clause-grows
-returns-in_err-line-clause-grows g c =
-    front_of_front (g.K.Sink.taken c.args.out.now.sink.now) (g.K.Sink.taken c.loop-e.out.sink.now) (g.K.Sink.taken c.line.new.self.sink.now) c.loop-e.invariant.grows c.line.ensures.grows
-
 pub loop-e-preserved : goal.loop-e-preserved
 loop-e-preserved g c =
     let ts : List Triple = c.args.m.now.entries in
@@ -58,8 +47,18 @@ loop-e-preserved g c =
     record {
       dealt = search (rules, c.next-at.ensures.next, c.loop-e.invariant.dealt, c.len-ranks.ensures);
       rank = search (rules, c.next-at.ensures.rank, c.len-ranks.ensures);
-      so_far = lines_more (λ u. ig_line u.i u.j (column_sum u.j ts)) ts c.loop-e.e (entry g x).0 _ _ _ _ (entry g x).1 (line g x) c.in_ok-line.ensures.ok c.loop-e.invariant.so_far;
+      so_far = lines_more (λ u. ig_line u.i u.j (column_sum u.j ts)) ts c.loop-e.e (entry g x).0 _ _ _ _ (entry g x).1 (line g x) c.in_ok-line.ensures.written.ok c.loop-e.invariant.so_far;
       faults = search rules;
-      grows = front_of_front (g.K.Sink.taken c.args.out.now.sink.now) (g.K.Sink.taken c.loop-e.out.sink.now) (g.K.Sink.taken c.line.new.self.sink.now) c.loop-e.invariant.grows c.line.ensures.grows;
+      grows = front_of_front (g.K.Sink.taken c.args.out.now.sink.now) (g.K.Sink.taken c.loop-e.out.sink.now) (g.K.Sink.taken c.line.new.self.sink.now) c.loop-e.invariant.grows c.line.ensures.written.sink.grows;
       same_sink = search rules;
     }
+
+pub returns-in_err-line : goal.returns-in_err-line
+returns-in_err-line g c = record {
+  ok = search rules;
+  err = let ts : List Triple = c.args.m.now.entries in
+      let x = (goal.at.returns-in_err-line g c).After-set in
+      on_err_any c.from_residual.result
+      (front_at (λ u. ig_line u.i u.j (column_sum u.j ts)) ts c.loop-e.e (entry g x).0 _ _ _ _ (entry g x).1 (line g x) c.in_err-line.ensures.written.err c.loop-e.invariant.so_far);
+  sink = record { counts = search rules; grows = front_of_front (g.K.Sink.taken c.args.out.now.sink.now) (g.K.Sink.taken c.loop-e.out.sink.now) (g.K.Sink.taken c.line.new.self.sink.now) c.loop-e.invariant.grows c.line.ensures.written.sink.grows; same_sink = search rules };
+}

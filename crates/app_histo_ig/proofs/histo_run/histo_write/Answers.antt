@@ -17,15 +17,17 @@ loop-j-preserved g c = record {
       ∙ ap (λ (t : Option (List ℕ)). after t (histo_line c.loop-j.j c.count_of.result)) (c.loop-j.invariant.so_far m h)
       ∙ histo_more m.entries c.loop-j.j c.count_of.result (c.count_of.ensures m h) _;
   faults = search rules;
-  grows = front_of_front (g.K.Sink.taken c.args.out.now.sink.now) (g.K.Sink.taken c.loop-j.out.sink.now) (g.K.Sink.taken c.write_count.new.out.sink.now) c.loop-j.invariant.grows c.write_count.ensures.grows;
+  grows = front_of_front (g.K.Sink.taken c.args.out.now.sink.now) (g.K.Sink.taken c.loop-j.out.sink.now) (g.K.Sink.taken c.write_count.new.out.sink.now) c.loop-j.invariant.grows c.write_count.ensures.sink.grows;
   same_sink = search rules;
 }
 
-pub returns-in_err-write_count-clause-err : goal.returns-in_err-write_count-clause-err
-returns-in_err-write_count-clause-err g c = λ m h.
-    on_err_any c.from_residual.result (front_at_line m.entries c.loop-j.j c.count_of.result m.cols (subst (λ n. c.loop-j.j < n) (c.columns_counted-cols.ensures.columns m h) c.loop-j-test.true)
-    (c.count_of.ensures m h) _ _ _ (c.loop-j.invariant.so_far m h) c.in_err-write_count.ensures.err)
+pub returns-in_err-write_count-clause-sink : goal.returns-in_err-write_count-clause-sink
+returns-in_err-write_count-clause-sink g c = record { counts = search rules; grows = front_of_front (g.K.Sink.taken c.args.out.now.sink.now) (g.K.Sink.taken c.loop-j.out.sink.now) (g.K.Sink.taken c.write_count.new.out.sink.now) c.loop-j.invariant.grows c.write_count.ensures.sink.grows; same_sink = search rules }
 
-pub returns-in_err-write_count-clause-grows : goal.returns-in_err-write_count-clause-grows
-returns-in_err-write_count-clause-grows g c =
-    front_of_front (g.K.Sink.taken c.args.out.now.sink.now) (g.K.Sink.taken c.loop-j.out.sink.now) (g.K.Sink.taken c.write_count.new.out.sink.now) c.loop-j.invariant.grows c.write_count.ensures.grows
+pub returns-in_err-write_count-clause-written : goal.returns-in_err-write_count-clause-written
+returns-in_err-write_count-clause-written g c = λ m h. record {
+  ok = search rules;
+  err = on_err_any c.from_residual.result (front_at_line m.entries c.loop-j.j c.count_of.result m.cols (subst (λ n. c.loop-j.j < n) (c.columns_counted-cols.ensures.columns m h) c.loop-j-test.true)
+      (c.count_of.ensures m h) _ _ _ (c.loop-j.invariant.so_far m h) c.in_err-write_count.ensures.err);
+  sink = returns-in_err-write_count-clause-sink g c;
+}

@@ -32,10 +32,14 @@ within g c =
 pub overflow_add-end : goal.overflow_add-end
 overflow_add-end g c = omega (arith, within g (goal.at.overflow_add-end g c).After-len, c.requires.count, c.ranges.count.fits)
 
-pub returns-then-from-count-clause-hands : goal.returns-then-from-count-clause-hands
-returns-then-from-count-clause-hands g c =
-    let es = from_list c.args.ranks c.args.sums.now (map (λ l. l.items) c.args.queries.now) 0 in
-    none_at g.D.Departures.hands es c.args.from c.args.from c.args.out.now c.args.out.now (omega (arith, c.requires.count, c.if-from-count.true)) (reaches_none g.D.Departures.hands es c.args.from c.args.out.now)
+pub returns-then-from-count : goal.returns-then-from-count
+returns-then-from-count g c = record {
+  forward = omega arith;
+  low = c.requires.may.from_within;
+  hands =
+      let es = from_list c.args.ranks c.args.sums.now (map (λ l. l.items) c.args.queries.now) 0 in
+      none_at g.D.Departures.hands es c.args.from c.args.from c.args.out.now c.args.out.now (omega (arith, c.requires.count, c.if-from-count.true)) (reaches_none g.D.Departures.hands es c.args.from c.args.out.now);
+}
 
 -- the same of the list as it is lent
 split_lent : (g : Over) (c : After-deref g) → drop c.loop-to.first (from_list c.args.ranks c.args.sums.now (map (λ l. l.items) c.args.queries.now) 0)
@@ -49,7 +53,7 @@ size g c = length-map c.deref.result.now (reply_to c.args.ranks c.args.sums.now 
 pub emit_to-requires-clause-asked : goal.emit_to-requires-clause-asked
 emit_to-requires-clause-asked g c =
     subst (All (λ (x : Item). (x.a < 2 ^ 32) × (x.a / c.args.ranks < length c.args.sums.now))) (sym c.deref.ensures.value)
-    (all_get (All (λ (x : Item). (x.a < 2 ^ 32) × (x.a / c.args.ranks < length c.args.sums.now))) (map (λ l. l.items) c.args.queries.now) c.loop-to.to c.index-queries-to.result.items c.requires.asked
+    (all_get (All (λ (x : Item). (x.a < 2 ^ 32) × (x.a / c.args.ranks < length c.args.sums.now))) (map (λ l. l.items) c.args.queries.now) c.loop-to.to c.index-queries-to.result.items c.requires.can.asked
     (list g (goal.at.emit_to-requires-clause-asked g c).After-len))
 
 pub emit_to-requires-clause-may : goal.emit_to-requires-clause-may
@@ -63,15 +67,16 @@ overflow_add-handed g c =
     let w = (goal.at.overflow_add-handed g c).After-deref in
     omega (arith, within g (goal.at.overflow_add-handed g c).After-len, c.requires.count, c.ranges.count.fits, c.emit_to.ensures.low, size g w, length-map c.deref.result.now (reply_to c.args.ranks c.args.sums.now c.loop-to.to))
 
-pub returns-then-handed-end-clause-low : goal.returns-then-handed-end-clause-low
-returns-then-handed-end-clause-low g c = omega (arith, within g (goal.at.returns-then-handed-end-clause-low g c).After-len, c.if-handed-end.true)
-
-pub returns-then-handed-end-clause-hands : goal.returns-then-handed-end-clause-hands
-returns-then-handed-end-clause-hands g c =
-    let w = (goal.at.returns-then-handed-end-clause-hands g c).After-deref in
-    let i = c.loop-to.invariant in
-    handed_part g.D.Departures.hands _ (map (reply_to c.args.ranks c.args.sums.now c.loop-to.to) c.deref.result.now) _ c.args.from c.loop-to.first c.loop-to.next (c.min.result - c.loop-to.first) c.emit_to.result c.args.out.now c.loop-to.out c.emit_to.new.out
-    i.forward (split_lent g w) i.behind (omega (arith, c.min.ensures, size g w)) c.emit_to.ensures.forward (omega (arith, size g w, c.if-handed-end.true)) c.emit_to.ensures.hands i.reaches
+pub returns-then-handed-end : goal.returns-then-handed-end
+returns-then-handed-end g c = record {
+  forward = omega (arith, c.loop-to.invariant.forward, c.loop-to.invariant.behind, c.min.ensures, c.emit_to.ensures.forward, c.if-handed-end.true);
+  low = omega (arith, within g (goal.at.returns-then-handed-end g c).After-len, c.if-handed-end.true);
+  hands =
+      let w = (goal.at.returns-then-handed-end g c).After-deref in
+      let i = c.loop-to.invariant in
+      handed_part g.D.Departures.hands _ (map (reply_to c.args.ranks c.args.sums.now c.loop-to.to) c.deref.result.now) _ c.args.from c.loop-to.first c.loop-to.next (c.min.result - c.loop-to.first) c.emit_to.result c.args.out.now c.loop-to.out c.emit_to.new.out
+      i.forward (split_lent g w) i.behind (omega (arith, c.min.ensures, size g w)) c.emit_to.ensures.forward (omega (arith, size g w, c.if-handed-end.true)) c.emit_to.ensures.hands i.reaches;
+}
 
 pub loop-to-preserved : goal.loop-to-preserved
 loop-to-preserved g c =
@@ -94,9 +99,13 @@ loop-to-preserved g c =
           (omega (arith, size g w, c.if-handed-end.false, c.emit_to.ensures.low, length-map c.deref.result.now (reply_to c.args.ranks c.args.sums.now c.loop-to.to))) c.emit_to.ensures.hands i.reaches);
     }
 
-pub returns-clause-hands : goal.returns-clause-hands
-returns-clause-hands g c =
-    let qs = map (λ l. l.items) c.args.queries.now in
-    let over = c.loop-to.invariant.rest ∙ no_list c.args.ranks c.args.sums.now qs c.loop-to.to (omega (arith, c.loop-to-test.false, length-map c.args.queries.now (λ l. l.items))) in
-    none_at g.D.Departures.hands (from_list c.args.ranks c.args.sums.now qs 0) c.args.from c.loop-to.next c.args.out.now c.loop-to.out
-    (omega (arith, nothing_left (from_list c.args.ranks c.args.sums.now qs 0) c.loop-to.first over, c.loop-to.invariant.behind)) c.loop-to.invariant.reaches
+pub returns : goal.returns
+returns g c = record {
+  forward = c.loop-to.invariant.forward;
+  low = c.loop-to.invariant.low;
+  hands =
+      let qs = map (λ l. l.items) c.args.queries.now in
+      let over = c.loop-to.invariant.rest ∙ no_list c.args.ranks c.args.sums.now qs c.loop-to.to (omega (arith, c.loop-to-test.false, length-map c.args.queries.now (λ l. l.items))) in
+      none_at g.D.Departures.hands (from_list c.args.ranks c.args.sums.now qs 0) c.args.from c.loop-to.next c.args.out.now c.loop-to.out
+      (omega (arith, nothing_left (from_list c.args.ranks c.args.sums.now qs 0) c.loop-to.first over, c.loop-to.invariant.behind)) c.loop-to.invariant.reaches;
+}

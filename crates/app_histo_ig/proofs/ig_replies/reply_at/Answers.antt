@@ -17,7 +17,7 @@ list c =
 pub reply_of-requires-clause-asked : goal.reply_of-requires-clause-asked
 reply_of-requires-clause-asked c =
     subst (All (λ (x : Item). (x.a < 2 ^ 32) × (x.a / c.args.ranks < length c.args.sums.now))) (sym c.deref.ensures.value)
-    (all_get (All (λ (x : Item). (x.a < 2 ^ 32) × (x.a / c.args.ranks < length c.args.sums.now))) (map (λ l. l.items) c.args.queries.now) c.loop-from.from c.index-queries-from.result.items c.requires.asked
+    (all_get (All (λ (x : Item). (x.a < 2 ^ 32) × (x.a / c.args.ranks < length c.args.sums.now))) (map (λ l. l.items) c.args.queries.now) c.loop-from.from c.index-queries-from.result.items c.requires.can.asked
     (list (goal.at.reply_of-requires-clause-asked c).After-len-count))
 
 pub returns-then-left-count : goal.returns-then-left-count

@@ -16,15 +16,23 @@ loop-next-preserved g c =
       reaches = reaches_more g.D.Departures.hands (sent_of_own c.args.round c.args.ranks c.args.own.now) c.args.from c.loop-next.next c.own_emission-to.result c.args.out.now c.loop-next.out c.push.new.self i.forward c.own_emission-to.ensures hands i.reaches;
     }
 
-pub returns-then-not-push-clause-hands : goal.returns-then-not-push-clause-hands
-returns-then-not-push-clause-hands g c =
-    let hands = subst (λ b. g.D.Departures.hands c.loop-next.out c.own_emission-to.result.0 c.own_emission-to.result.1 b c.push.new.self) c.if-not-push.true c.push.ensures in
-    refused_at g.D.Departures.hands (sent_of_own c.args.round c.args.ranks c.args.own.now) c.args.from c.loop-next.next c.own_emission-to.result c.args.out.now c.loop-next.out c.push.new.self c.own_emission-to.ensures hands c.loop-next.invariant.reaches
+pub returns-then-not-push : goal.returns-then-not-push
+returns-then-not-push g c = record {
+  forward = c.loop-next.invariant.forward;
+  low = omega (arith, c.loop-next.invariant.low, c.loop-next.invariant.all);
+  hands =
+      let hands = subst (λ b. g.D.Departures.hands c.loop-next.out c.own_emission-to.result.0 c.own_emission-to.result.1 b c.push.new.self) c.if-not-push.true c.push.ensures in
+      refused_at g.D.Departures.hands (sent_of_own c.args.round c.args.ranks c.args.own.now) c.args.from c.loop-next.next c.own_emission-to.result c.args.out.now c.loop-next.out c.push.new.self c.own_emission-to.ensures hands c.loop-next.invariant.reaches;
+}
 
-pub returns-clause-hands : goal.returns-clause-hands
-returns-clause-hands g c =
-    none_at g.D.Departures.hands (sent_of_own c.args.round c.args.ranks c.args.own.now) c.args.from c.loop-next.next c.args.out.now c.loop-next.out
-    (omega (arith, c.loop-next-test.false, c.loop-next.invariant.all)) c.loop-next.invariant.reaches
+pub returns : goal.returns
+returns g c = record {
+  forward = c.loop-next.invariant.forward;
+  low = omega (arith, c.loop-next.invariant.low, c.loop-next.invariant.all);
+  hands =
+      none_at g.D.Departures.hands (sent_of_own c.args.round c.args.ranks c.args.own.now) c.args.from c.loop-next.next c.args.out.now c.loop-next.out
+      (omega (arith, c.loop-next-test.false, c.loop-next.invariant.all)) c.loop-next.invariant.reaches;
+}
 
 pub push-requires : goal.push-requires
 push-requires g c =

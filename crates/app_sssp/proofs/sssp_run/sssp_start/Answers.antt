@@ -17,11 +17,11 @@ returns-clause-begins c =
     let all : c.loop-rank.rank ≡ c.args.ranks = omega arith in
     let is : c.loop-rank.progs ≡ sssp_starts c.args.ranks c.args.m.now c.args.source = c.loop-rank.invariant ∙ ap (λ n. map (sssp_begins c.args.ranks c.args.m.now c.args.source) (range_with_len 0 n)) all in
     subst (InRound sssp_rules c.args.ranks 0 (c.args.m.now.rows ∷ []) (c.args.m.now.rows + 1)) (sym is)
-    (starts_in_round c.args.ranks c.args.m.now c.args.source c.known.ensures c.requires.square)
+    (starts_in_round c.args.ranks c.args.m.now c.args.source c.known.ensures c.requires.source.square)
 
 pub returns-clause-ends : goal.returns-clause-ends
 returns-clause-ends c =
     let all : c.loop-rank.rank ≡ c.args.ranks = omega arith in
     let is : c.loop-rank.progs ≡ sssp_starts c.args.ranks c.args.m.now c.args.source = c.loop-rank.invariant ∙ ap (λ n. map (sssp_begins c.args.ranks c.args.m.now c.args.source) (range_with_len 0 n)) all in
     subst (λ ps. EndsWithin sssp_rules ps (c.args.m.now.rows + 1)) (sym is)
-    (run_ends c.args.ranks c.args.m.now c.args.source c.requires.some (record { matrix = c.known.ensures; square = c.requires.square; weights = c.requires.weights }) c.requires.source)
+    (run_ends c.args.ranks c.args.m.now c.args.source c.requires.ranks.some (record { matrix = c.known.ensures; square = c.requires.source.square; weights = c.requires.weights }) c.requires.source.within)

@@ -14,8 +14,8 @@ returns-then-ends_with-clause-counted c =
 
 pub returns-clause-counts : goal.returns-clause-counts
 returns-clause-counts c =
-    pushed_counts c.args.lines.now _ c.args.times.now.items _ c.args.line.now c.requires.counts c.requires.last (c.ends_with.ensures.other c.if-ends_with.false) c.in_ok-push.ensures.pushed c.in_ok-push-2.ensures.items
+    pushed_counts c.args.lines.now _ c.args.times.now.items _ c.args.line.now c.requires.counts c.requires.last (c.ends_with.ensures.other c.if-ends_with.false) c.in_ok-push.ensures.ok c.in_ok-push-2.ensures.items
 
 pub returns-clause-counted : goal.returns-clause-counted
 returns-clause-counted c =
-    pushed_more c.args.lines.now _ c.args.times.now.items _ c.args.line.now c.requires.counts c.requires.last (c.ends_with.ensures.other c.if-ends_with.false) c.in_ok-push.ensures.pushed c.in_ok-push-2.ensures.items
+    pushed_more c.args.lines.now _ c.args.times.now.items _ c.args.line.now c.requires.counts c.requires.last (c.ends_with.ensures.other c.if-ends_with.false) c.in_ok-push.ensures.ok c.in_ok-push-2.ensures.items

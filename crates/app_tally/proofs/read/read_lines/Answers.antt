@@ -1,4 +1,4 @@
-use Rattle.std.proofs.Common.{◌∙◌, ap, subst, arith}
+use Rattle.std.proofs.Common.{◌∙◌, ap, subst, arith, rules}
 use Rattle.app_tally.specs.Texts.{lines_of_text, LinesGive}
 use Rattle.app_tally.proofs.Walked.{front_decides, on_read_any}
 use Rattle.app_tally.proofs.read.read_lines.Goals as goal
@@ -10,5 +10,9 @@ returns-in-Ok-clause-gives g c = λ text told.
 pub returns-in-Ok-clause-left : goal.returns-in-Ok-clause-left
 returns-in-Ok-clause-left g c = λ text told. on_read_any c.lines_of.result (c.in-Ok.ensures.left text told)
 
-pub returns-in-Ok-clause-cause : goal.returns-in-Ok-clause-cause
-returns-in-Ok-clause-cause g c = λ e. absurd (c.lines_of.ensures.read e)
+pub returns-in-Ok-clause-faults : goal.returns-in-Ok-clause-faults
+returns-in-Ok-clause-faults g c = record {
+  cause = λ e. absurd (c.lines_of.ensures.read e);
+  no_fault = search rules;
+  never_falls = search rules;
+}

@@ -6,4 +6,4 @@ use Rattle.app_tally.proofs.run.part_of.Goals as goal
 pub new-requires : goal.new-requires
 new-requires c =
     subst (λ own. IsTallying (record { rank = c.args.rank; ranks = c.args.ranks; round = 0; own = own; came = [] })) (sym c.in_ok-own.ensures)
-    (begins_valid c.args.ranks c.args.rank c.args.lines.now c.requires.rank c.known.ensures.letters)
+    (begins_valid c.args.ranks c.args.rank c.args.lines.now c.requires.below c.known.ensures.letters)

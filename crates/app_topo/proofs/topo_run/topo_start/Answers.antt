@@ -24,4 +24,4 @@ returns-clause-ends c =
     let m = c.args.m.now in
     let all : c.loop-rank.rank ≡ c.args.ranks = omega arith in
     let is : c.loop-rank.progs ≡ topo_starts c.args.ranks m = c.loop-rank.invariant ∙ ap (λ n. map (topo_begins c.args.ranks m) (range_with_len 0 n)) all in
-    subst (λ ps. EndsWithin topo_rules ps (2 * m.rows + 2)) (sym is) (within c.args.ranks m c.requires.some c.requires.square c.known.ensures)
+    subst (λ ps. EndsWithin topo_rules ps (2 * m.rows + 2)) (sym is) (within c.args.ranks m c.requires.ranks.some c.requires.square c.known.ensures)

@@ -6,4 +6,4 @@ use Rattle.bale_answers.proofs.tasks.finish_on.Goals as goal
 
 pub finish_as-requires-in-Permute-clause-needs : goal.finish_as-requires-in-Permute-clause-needs
 finish_as-requires-in-Permute-clause-needs g c =
-    moves c.in-Permute.by c.args.m.now c.requires.fits.0 (subst (λ (t : Task). task_unfitness t c.args.m.now c.requires.fits.0 ≡ None) c.in-Permute.is c.requires.fits.1)
+    moves c.in-Permute.by c.args.m.now c.requires.fit.fits.0 (subst (λ (t : Task). task_unfitness t c.args.m.now c.requires.fit.fits.0 ≡ None) c.in-Permute.is c.requires.fit.fits.1)

@@ -12,13 +12,13 @@ use Rattle.bale_cli.proofs.calls.answer_of.Goals as goal
 pub returns-in-Ok : goal.returns-in-Ok
 returns-in-Ok g c =
     ran_answered c.run_command.result c.args.command.now c.in-Ok.subject c.requires.ranges c.in-Ok.ensures.subject
-    (subst (λ (b : Bool). unfitness c.args.command.now c.in-Ok.subject b ≡ None) c.drives_serially-serial.ensures c.in-Ok.ensures.fits) (c.in-Ok.ensures.no_fault (λ e. cc)) c.subject_for.ensures.unread
+    (subst (λ (b : Bool). unfitness c.args.command.now c.in-Ok.subject b ≡ None) c.drives_serially-serial.ensures c.in-Ok.ensures.fits) (c.in-Ok.ensures.faults.no_fault (λ e. cc)) c.subject_for.ensures.unread
     c.in-Ok.ensures.read_whole c.run_command.ensures
 
 pub returns-in-Err : goal.returns-in-Err
 returns-in-Err g c =
-    subject_refused c.args.command.now c.in-Err.refusal (λ e. c.in-Err.ensures.read_fault (ap (λ (r : Refusal). Err r) e))
-    (λ other. c.in-Err.ensures.no_fault (λ e. other (same_Err c.in-Err.refusal refusal.ReadFault e)))
+    subject_refused c.args.command.now c.in-Err.refusal (λ e. c.in-Err.ensures.faults.cause (ap (λ (r : Refusal). Err r) e))
+    (λ other. c.in-Err.ensures.faults.no_fault (λ e. other (same_Err c.in-Err.refusal refusal.ReadFault e)))
     (λ text b told e. c.in-Err.ensures.bad text b told (ap (λ (r : Refusal). Err r) e))
     (subst (λ (s : Bool). (text : List ℕ) (u : Unfit) → Told (Some c.args.command.now) (g.S.Source.left c.args.source.now) text → c.in-Err.refusal ≡ refusal.Unfit u
     → (x : Subject) × (subject_asked c.args.command.now text ≡ Ok x) × (unfitness c.args.command.now x s ≡ Some u)) c.drives_serially-serial.ensures

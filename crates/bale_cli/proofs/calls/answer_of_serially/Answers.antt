@@ -10,7 +10,7 @@ use Rattle.bale_cli.proofs.calls.answer_of_serially.Goals as goal
 
 pub returns-in-Ok-clause-answered : goal.returns-in-Ok-clause-answered
 returns-in-Ok-clause-answered g c =
-    ran_answered c.run_serially.result c.args.command.now c.in-Ok.subject c.requires.ranges c.in-Ok.ensures.subject c.in-Ok.ensures.fits (c.in-Ok.ensures.no_fault (λ e. cc)) c.subject_for.ensures.unread c.in-Ok.ensures.read_whole
+    ran_answered c.run_serially.result c.args.command.now c.in-Ok.subject c.requires.ranges c.in-Ok.ensures.subject c.in-Ok.ensures.fits (c.in-Ok.ensures.faults.no_fault (λ e. cc)) c.subject_for.ensures.unread c.in-Ok.ensures.read_whole
     c.run_serially.ensures.finish
 
 pub returns-in-Ok-clause-turns : goal.returns-in-Ok-clause-turns
@@ -29,8 +29,8 @@ returns-in-Ok-clause-no_turns g c = memory_only _ c.run_serially.result c.run_se
 
 pub returns-in-Err-clause-answered : goal.returns-in-Err-clause-answered
 returns-in-Err-clause-answered g c =
-    subject_refused c.args.command.now c.in-Err.refusal (λ e. c.in-Err.ensures.read_fault (ap (λ (r : Refusal). Err r) e))
-    (λ other. c.in-Err.ensures.no_fault (λ e. other (same_Err c.in-Err.refusal refusal.ReadFault e)))
+    subject_refused c.args.command.now c.in-Err.refusal (λ e. c.in-Err.ensures.faults.cause (ap (λ (r : Refusal). Err r) e))
+    (λ other. c.in-Err.ensures.faults.no_fault (λ e. other (same_Err c.in-Err.refusal refusal.ReadFault e)))
     (λ text b told e. c.in-Err.ensures.bad text b told (ap (λ (r : Refusal). Err r) e)) (λ text u told e. c.in-Err.ensures.unfit text u told (ap (λ (r : Refusal). Err r) e))
     c.in-Err.ensures.kinds c.subject_for.ensures.unread c.in-Err.ensures.read_bad refl
 

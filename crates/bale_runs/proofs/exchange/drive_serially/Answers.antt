@@ -1,6 +1,7 @@
 use Rattle.std.proofs.Common.{◌<◌, ◌≤◌, ◌≡◌, ◌∙◌, ℕ, List, true, length, ap, subst, sym, ◌+◌, ◌*◌}
 use Rattle.route_tensor.proofs.Coordinates.{ranks_some}
 use Rattle.route_tensor.specs.Grid.{ranks}
+use Rattle.round_program.specs.Ranks.{AreRanks}
 use Rattle.round_program.specs.Canonical.{InRound, EndsWithin}
 use Rattle.app_cases.specs.Any.{any_rules}
 use Rattle.bale_runs.specs.Jobs.{manner_for}
@@ -16,11 +17,9 @@ use Rattle.bale_runs.proofs.exchange.drive_serially.Given.{Over}
 use Rattle.bale_runs.proofs.exchange.drive_serially.Goals.{In_ok-progs}
 use Rattle.bale_runs.proofs.exchange.drive_serially.Goals as goal
 
-pub start_task-requires-clause-some : goal.start_task-requires-clause-some
-start_task-requires-clause-some g c = subst (λ n. 1 ≤ n) (sym c.ranks.ensures.value) (ranks_some c.args.command.now.grid c.ranks.ensures.grid.positive)
-
-pub start_task-requires-clause-few : goal.start_task-requires-clause-few
-start_task-requires-clause-few g c = subst (λ n. n ≤ 64) (sym c.ranks.ensures.value) c.ranks.ensures.grid.small
+pub start_task-requires-clause-ranks : goal.start_task-requires-clause-ranks
+start_task-requires-clause-ranks g c =
+    subst AreRanks (sym c.ranks.ensures.value) (record { some = ranks_some c.args.command.now.grid c.ranks.ensures.grid.positive; few = c.ranks.ensures.grid.small })
 
 -- there are ranks, and a program for each
 some : (g : Over) (c : In_ok-progs g) → 0 < length c.in_ok-progs.progs

@@ -7,16 +7,16 @@ use Rattle.components.proofs.drives.labels_of.Goals as goal
 
 pub owned-requires-clause-some : goal.owned-requires-clause-some
 owned-requires-clause-some c =
-    (ended c.args.m.now c.args.ranks c.requires.some c.requires.few c.known.ensures c.requires.square c.args.progs.now c.requires.ended).there
+    (ended c.args.m.now c.args.ranks c.requires.ranks.some c.requires.ranks.few c.known.ensures c.requires.square c.args.progs.now c.requires.ended).there
 
 pub owned-requires-clause-keys : goal.owned-requires-clause-keys
 owned-requires-clause-keys c =
     subst (λ n. All (λ s. n ≤ length s.labels.cells) c.args.progs.now) (sym c.rows.ensures)
-    (ended c.args.m.now c.args.ranks c.requires.some c.requires.few c.known.ensures c.requires.square c.args.progs.now c.requires.ended).keys
+    (ended c.args.m.now c.args.ranks c.requires.ranks.some c.requires.ranks.few c.known.ensures c.requires.square c.args.progs.now c.requires.ended).keys
 
 pub returns : goal.returns
 returns c =
-    let answer = (ended c.args.m.now c.args.ranks c.requires.some c.requires.few c.known.ensures c.requires.square c.args.progs.now c.requires.ended).answer in
+    let answer = (ended c.args.m.now c.args.ranks c.requires.ranks.some c.requires.ranks.few c.known.ensures c.requires.square c.args.progs.now c.requires.ended).answer in
     if_ok_from (λ v. AreComponents c.args.m.now v.items) c.owned.result
     (λ v e. subst (AreComponents c.args.m.now)
     (sym (if_ok_is (λ w. w.items ≡ owned (λ s. s.labels) c.args.progs.now c.rows.result) c.owned.result v e c.owned.ensures

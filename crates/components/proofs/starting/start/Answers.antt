@@ -10,9 +10,9 @@ use Rattle.components.proofs.starting.start.Goals as goal
 pub returns-clause-begins : goal.returns-clause-begins
 returns-clause-begins c =
     made_so (InRound label_rules c.args.ranks 0 (c.args.m.now.rows ∷ []) most_rounds) c.programs.result (starts c.args.ranks c.args.m.now) (search rules)
-    (starts_in_round c.args.ranks c.args.m.now c.requires.few c.known.ensures c.requires.square)
+    (starts_in_round c.args.ranks c.args.m.now c.requires.ranks.few c.known.ensures c.requires.square)
 
 pub returns-clause-ends : goal.returns-clause-ends
 returns-clause-ends c =
     made_so (λ ps. EndsWithin label_rules ps most_rounds) c.programs.result (starts c.args.ranks c.args.m.now) (search rules)
-    (run_ends c.args.m.now c.args.ranks c.requires.some c.requires.few c.known.ensures c.requires.square)
+    (run_ends c.args.m.now c.args.ranks c.requires.ranks.some c.requires.ranks.few c.known.ensures c.requires.square)

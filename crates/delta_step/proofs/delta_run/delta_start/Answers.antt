@@ -17,12 +17,12 @@ returns-clause-begins c =
     let all : c.loop-rank.rank ≡ c.args.ranks = omega arith in
     let is : c.loop-rank.progs ≡ delta_starts c.args.ranks c.args.m.now c.args.source c.args.delta = c.loop-rank.invariant ∙ ap (λ n. map (delta_begins c.args.ranks c.args.m.now c.args.source c.args.delta) (range_with_len 0 n)) all in
     subst (InRound delta_rules c.args.ranks 0 (c.args.m.now.rows ∷ []) (c.args.m.now.rows * (c.args.m.now.rows + 2) + 2)) (sym is)
-    (starts_in_round c.args.ranks c.args.m.now c.args.source c.args.delta c.requires.positive c.requires.narrow c.known.ensures c.requires.square)
+    (starts_in_round c.args.ranks c.args.m.now c.args.source c.args.delta c.requires.width.positive c.requires.width.narrow c.known.ensures c.requires.source.square)
 
 pub returns-clause-ends : goal.returns-clause-ends
 returns-clause-ends c =
     let all : c.loop-rank.rank ≡ c.args.ranks = omega arith in
     let is : c.loop-rank.progs ≡ delta_starts c.args.ranks c.args.m.now c.args.source c.args.delta = c.loop-rank.invariant ∙ ap (λ n. map (delta_begins c.args.ranks c.args.m.now c.args.source c.args.delta) (range_with_len 0 n)) all in
     subst (λ ps. EndsWithin delta_rules ps (c.args.m.now.rows * (c.args.m.now.rows + 2) + 2)) (sym is)
-    (run_ends c.args.ranks c.args.m.now c.args.source c.args.delta c.requires.some c.requires.few c.requires.positive c.requires.narrow
-    (record { matrix = c.known.ensures; square = c.requires.square; weights = c.requires.weights }) c.requires.source)
+    (run_ends c.args.ranks c.args.m.now c.args.source c.args.delta c.requires.ranks.some c.requires.ranks.few c.requires.width.positive c.requires.width.narrow
+    (record { matrix = c.known.ensures; square = c.requires.source.square; weights = c.requires.weights }) c.requires.source.within)

@@ -24,7 +24,7 @@ loop-at-preserved c =
     let k = c.loop-at.at in
     let e : Triple = record { i = 0; j = 0; v = pos 0 } in
     let here : k < length entries = c.loop-at-test.true in
-    let within = c.requires.within k e here in
+    let within = c.requires.indexed.within k e here in
     let column : (get_or entries k e).j < length stamps = omega (arith, within.col, c.loop-at.invariant.1, c.loop-at.stamps.ok) in
     let read : c.index.result.now ≡ get_or stamps (get_or entries k e).j 0 =
     get_or_read_under stamps (get_or entries k e).j (length stamps) c.index.result.now 0 c.index.ensures column (search rules) in

@@ -18,7 +18,7 @@ loop-left-init c =
     record {
       told = ap (λ done. done ++ hidden c.args.rows.now.items c.args.cols.now.items c.args.words (take c.args.m (rest_from n 0 0))) none
           ∙ ap (λ xs. hidden c.args.rows.now.items c.args.cols.now.items c.args.words (take c.args.m xs)) (rest_start n);
-      room = room_start n c.args.m c.requires.room;
+      room = room_start n c.args.m c.requires.hidden.room;
       place = λ l. l;
       inside = subst (All (λ t. IsEntry (sparse n n Integer []) t)) (sym none) (All-nil (λ t. IsEntry (sparse n n Integer []) t));
       count = ap (λ es. length es + c.args.m) none ∙ omega arith;
@@ -28,7 +28,7 @@ pub overflow_add-row : goal.overflow_add-row
 overflow_add-row c =
     let l = c.loop-left in
     let low : l.row + l.distance < c.args.n = on_band c.args.n l.distance l.row l.left c.loop-left-test.true l.invariant.room l.invariant.place in
-    omega (arith, c.requires.tall)
+    omega (arith, c.requires.hidden.tall)
 
 pub entry_at-requires-clause-row : goal.entry_at-requires-clause-row
 entry_at-requires-clause-row c =
@@ -46,13 +46,13 @@ pub overflow_add-row-in-loop-left : goal.overflow_add-row-in-loop-left
 overflow_add-row-in-loop-left c =
     let l = c.loop-left in
     let low : l.row + l.distance < c.args.n = on_band c.args.n l.distance l.row l.left c.loop-left-test.true l.invariant.room l.invariant.place in
-    omega (arith, c.requires.tall)
+    omega (arith, c.requires.hidden.tall)
 
 pub overflow_add-row-in-loop-left-2 : goal.overflow_add-row-in-loop-left-2
 overflow_add-row-in-loop-left-2 c =
     let l = c.loop-left in
     let low : l.row + l.distance < c.args.n = on_band c.args.n l.distance l.row l.left c.loop-left-test.true l.invariant.room l.invariant.place in
-    omega (arith, c.requires.tall)
+    omega (arith, c.requires.hidden.tall)
 
 pub loop-left-preserved-then-row-distance : goal.loop-left-preserved-then-row-distance
 loop-left-preserved-then-row-distance c =

@@ -13,4 +13,4 @@ of_parts-requires c =
     let few : length ts.items ≤ 524_288 = grind (arith, nat_tests, no, ts.ok.0, c.len.ensures) in
     let here = gathered c.args.triples.items in
     subst (λ es. IsSparse (sparse c.args.rows c.args.cols c.args.kind es)) (sym c.gather.ensures)
-    (lawful c.args.rows c.args.cols c.args.kind here c.requires.tall c.requires.wide (subst (λ es. length es ≤ 524_288) c.gather.ensures few) c.requires.inside (gathered_ordered c.args.triples.items))
+    (lawful c.args.rows c.args.cols c.args.kind here c.requires.sides.tall c.requires.sides.wide (subst (λ es. length es ≤ 524_288) c.gather.ensures few) c.requires.inside (gathered_ordered c.args.triples.items))

@@ -9,18 +9,21 @@ use Rattle.mtx_text.proofs.write.write_lines.Goals as goal
 pub loop-t-preserved : goal.loop-t-preserved
 loop-t-preserved g c = record {
   so_far = pieces_more (entry_text c.args.kind) _ _ _ c.args.entries.now c.loop-t.t-index _ c.loop-t-test.true
-      (c.in_ok-line.ensures.ok ∙ ap (after (appended g.K.Sink.taken c.loop-t.out)) c.set.ensures) c.loop-t.invariant.so_far;
+      (c.in_ok-line.ensures.written.ok ∙ ap (after (appended g.K.Sink.taken c.loop-t.out)) c.set.ensures) c.loop-t.invariant.so_far;
   faults = search rules;
-  grows = front_of_front (g.K.Sink.taken c.args.out.now.sink.now) (g.K.Sink.taken c.loop-t.out.sink.now) (g.K.Sink.taken c.line.new.self.sink.now) c.loop-t.invariant.grows c.line.ensures.grows;
+  grows = front_of_front (g.K.Sink.taken c.args.out.now.sink.now) (g.K.Sink.taken c.loop-t.out.sink.now) (g.K.Sink.taken c.line.new.self.sink.now) c.loop-t.invariant.grows c.line.ensures.written.sink.grows;
   same_sink = search rules;
 }
 
-pub returns-in_err-line-clause-err : goal.returns-in_err-line-clause-err
-returns-in_err-line-clause-err g c =
-    on_err_any c.from_residual.result
-    (front_in_loop (entry_text c.args.kind) _ _ _ c.args.entries.now c.loop-t.t-index _ c.loop-t-test.true c.loop-t.invariant.so_far
-    (subst (λ text. IsFront (g.K.Sink.taken c.line.new.self.sink.now) (after (appended g.K.Sink.taken c.loop-t.out) text)) c.set.ensures c.in_err-line.ensures.err))
-
-pub returns-in_err-line-clause-grows : goal.returns-in_err-line-clause-grows
-returns-in_err-line-clause-grows g c =
-    front_of_front (g.K.Sink.taken c.args.out.now.sink.now) (g.K.Sink.taken c.loop-t.out.sink.now) (g.K.Sink.taken c.line.new.self.sink.now) c.loop-t.invariant.grows c.line.ensures.grows
+pub returns-in_err-line : goal.returns-in_err-line
+returns-in_err-line g c = record {
+  ok = search rules;
+  err = on_err_any c.from_residual.result
+      (front_in_loop (entry_text c.args.kind) _ _ _ c.args.entries.now c.loop-t.t-index _ c.loop-t-test.true c.loop-t.invariant.so_far
+      (subst (λ text. IsFront (g.K.Sink.taken c.line.new.self.sink.now) (after (appended g.K.Sink.taken c.loop-t.out) text)) c.set.ensures c.in_err-line.ensures.written.err));
+  sink = record {
+    counts = search rules;
+    grows = front_of_front (g.K.Sink.taken c.args.out.now.sink.now) (g.K.Sink.taken c.loop-t.out.sink.now) (g.K.Sink.taken c.line.new.self.sink.now) c.loop-t.invariant.grows c.line.ensures.written.sink.grows;
+    same_sink = search rules;
+  };
+}

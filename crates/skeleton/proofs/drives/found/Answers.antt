@@ -6,12 +6,12 @@ use Rattle.skeleton.proofs.Starts.{all_there}
 use Rattle.skeleton.proofs.drives.found.Goals as goal
 
 pub owned-requires-clause-some : goal.owned-requires-clause-some
-owned-requires-clause-some c = (all_there c.args.ranks c.args.m.now c.requires.some c.requires.few c.known.ensures c.args.progs.now c.requires.ended).0
+owned-requires-clause-some c = (all_there c.args.ranks c.args.m.now c.requires.ranks.some c.requires.ranks.few c.known.ensures c.args.progs.now c.requires.ended).0
 
 pub owned-requires-clause-keys : goal.owned-requires-clause-keys
 owned-requires-clause-keys c =
     subst (λ n. All (λ s. n ≤ length s.cells.cells) c.args.progs.now) (sym c.cols.ensures)
-    (all_there c.args.ranks c.args.m.now c.requires.some c.requires.few c.known.ensures c.args.progs.now c.requires.ended).1
+    (all_there c.args.ranks c.args.m.now c.requires.ranks.some c.requires.ranks.few c.known.ensures c.args.progs.now c.requires.ended).1
 
 pub returns : goal.returns
 returns c =

@@ -8,4 +8,4 @@ same : (s t : State) → t ≡ s → IsState s → IsState t
 same s t e v = subst IsState (sym e) v
 
 pub new-requires-2 : goal.new-requires-2
-new-requires-2 c = same (begins c.args.ranks c.args.m.now c.args.rank) _ (search rules) (begins_valid c.args.ranks c.args.rank c.args.m.now c.requires.rank c.requires.few c.known.ensures)
+new-requires-2 c = same (begins c.args.ranks c.args.m.now c.args.rank) _ (search rules) (begins_valid c.args.ranks c.args.rank c.args.m.now c.requires.below c.requires.few c.known.ensures)

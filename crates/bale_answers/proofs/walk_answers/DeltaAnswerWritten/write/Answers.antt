@@ -1,6 +1,5 @@
-use Rattle.std.proofs.Common.{◌≡◌, ◌-◌, List, ℕ, OnOk, OnErr, refl, sym, subst}
-use Rattle.bale_types.specs.Stream.{after, IsFront}
-use Rattle.bale_types.specs.Out.{appended}
+use Rattle.std.proofs.Common.{◌-◌, List, ℕ, refl, sym, subst}
+use Rattle.bale_types.specs.Out.{Writes}
 use Rattle.least_walks.specs.Lines.{sssp_lines}
 use Rattle.bale_answers.proofs.walk_answers.DeltaAnswerWritten.write.Goals as goal
 
@@ -9,12 +8,7 @@ returns-clause-there_is g c =
     let l = c.delta_write.ensures.least c.args.m.now (c.args.by.now.0 - 1) c.requires.answers in
     (sssp_lines l.0 c.args.m.now.rows, record { weights = l.0; least = l.1; lines = refl })
 
-pub returns-clause-ok : goal.returns-clause-ok
-returns-clause-ok g c = λ bytes is.
-    subst (λ (bs : List ℕ). OnOk c.delta_write.result (appended g.K.Sink.taken c.delta_write.new.out ≡ after (appended g.K.Sink.taken c.args.out.now) bs)) (sym is.lines)
-    (c.delta_write.ensures.ok c.args.m.now (c.args.by.now.0 - 1) c.requires.answers is.weights is.least)
-
-pub returns-clause-err : goal.returns-clause-err
-returns-clause-err g c = λ bytes is.
-    subst (λ (bs : List ℕ). OnErr c.delta_write.result (IsFront (g.K.Sink.taken c.delta_write.new.out.sink.now) (after (appended g.K.Sink.taken c.args.out.now) bs))) (sym is.lines)
-    (c.delta_write.ensures.err c.args.m.now (c.args.by.now.0 - 1) c.requires.answers is.weights is.least)
+pub returns-clause-written : goal.returns-clause-written
+returns-clause-written g c = λ bytes is.
+    subst (λ (bs : List ℕ). Writes g.K.Sink.taken g.K.Sink.faults bs c.args.out.now c.delta_write.new.out c.delta_write.result) (sym is.lines)
+    (c.delta_write.ensures.written c.args.m.now (c.args.by.now.0 - 1) c.requires.answers is.weights is.least)

@@ -12,6 +12,10 @@ loop-self-preserved g c = record {
   same_sink = search rules;
 }
 
-pub returns-in_err-self-clause-grows : goal.returns-in_err-self-clause-grows
-returns-in_err-self-clause-grows g c =
-    front_of_front (g.K.Sink.taken c.args.self.now.sink.now) (g.K.Sink.taken c.loop-self.self.sink.now) (g.K.Sink.taken c.hand_some.new.sink) c.loop-self.invariant.grows c.hand_some.ensures.grows
+pub returns-in_err-self-clause-sink : goal.returns-in_err-self-clause-sink
+returns-in_err-self-clause-sink g c = record {
+  counts = search rules;
+  grows =
+      front_of_front (g.K.Sink.taken c.args.self.now.sink.now) (g.K.Sink.taken c.loop-self.self.sink.now) (g.K.Sink.taken c.hand_some.new.sink) c.loop-self.invariant.grows c.hand_some.ensures.grows;
+  same_sink = search rules;
+}

@@ -8,6 +8,6 @@ returns-clause-len g c =
     let new = c.lay-self.new.buffer in
     let size : length old ≡ 4096 = search rules in
     let same : length new ≡ length old = c.lay-self.ensures.len in
-    let end = c.lay-self.ensures.end in
+    let end = c.lay-self.ensures.bound in
     laid_to c.lay-self.result c.args.self.now.len new old (g.L.LineText.text c.args.line.now) c.lay-self.ensures.bytes
     (omega (arith, end, same, size, c.requires)) (omega (arith, size, c.requires))

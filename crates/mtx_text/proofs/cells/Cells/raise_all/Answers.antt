@@ -4,12 +4,16 @@ use Rattle.mtx_text.specs.Cells.{gathered, raised, raised_all}
 use Rattle.mtx_text.proofs.Gathered.{raised_gathered, gathered_ordered}
 use Rattle.mtx_text.proofs.cells.Cells.raise_all.Goals as goal
 
-pub returns-clause-ok : goal.returns-clause-ok
-returns-clause-ok c =
+pub returns : goal.returns
+returns c =
     let mine = c.self.inside.triples.items in
     let theirs = c.other.inside.triples.items in
     let items : c.extend_from_slice.new.self.items ≡ mine ++ theirs = search (rules, c.in_ok-extend_from_slice.was, c.extend_from_slice.ensures.items, c.as_slice.ensures.value) in
-    ap gathered items
-    ∙ fold-append (λ cells t. raised t cells) [] mine theirs
-    ∙ sym (raised_gathered (gathered mine) theirs (gathered_ordered mine))
-    ∙ ap₂ raised_all c.self.view_is c.other.view_is
+    record {
+      ok =
+          ap gathered items
+          ∙ fold-append (λ cells t. raised t cells) [] mine theirs
+          ∙ sym (raised_gathered (gathered mine) theirs (gathered_ordered mine))
+          ∙ ap₂ raised_all c.self.view_is c.other.view_is;
+      err = search rules;
+    }

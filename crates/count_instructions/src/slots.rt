@@ -1,8 +1,7 @@
 //! All ranks of a grid, over slot links, in turn on one thread.
-ghost use Rattle.std.specs.Prelude.{◌≡◌, ℕ, ◌<◌, true, false, length, slice_index_or, slice_set, IfOk};
-ghost use Rattle.route_tensor.specs.Grid.{ranks};
-ghost use Rattle.list_laws.specs.Lists.{EachAt};
+ghost use Rattle.std.specs.Prelude.{◌≡◌, ℕ, ◌<◌, ◌≤◌, true, false, length, slice_index_or, slice_set, IfOk};
 ghost use Rattle.item_buffer.specs.Capacity.{IsCap};
+ghost use Rattle.route_tensor.specs.Grid.{ranks};
 ghost use Rattle.link_slots.specs.Seen.{posted_on, collected_from};
 ghost use Rattle.convey.specs.Conveyors.{AgreesWith};
 
@@ -12,26 +11,27 @@ use bale_types::NoMemory;
 use link_slots::{GatherSeat, SlotBank, SlotPort};
 use route_tensor::Grid;
 use std::alloc::Global;
+use std::marker::Model;
 
-/// A rank and its port.
+/// A rank and its port, which agree. Contracts see its number.
 #[derive(Drop)]
 struct AtSeat<'a, const CAP: usize, const HOPS: usize> {
     side: Side<CAP, HOPS>,
     port: SlotPort<'a, CAP>,
-    ghost same_dims: { port.seat.shape.dims ≡ side.conveyor.dims },
-    ghost same_rank: { port.seat.rank ≡ side.conveyor.rank },
 }
 
-impl<'a, const CAP: usize, const HOPS: usize> AtSeat<'a, CAP, HOPS> {
-    /// One turn at the port.
-    fn turn(&mut self, begins: bool, items: u64) -> Result<bool, NoMemory>
-        requires agrees { AgreesWith self.old.side.conveyor (posted_on self.old.port.seat)
-            (collected_from self.old.port.seat) }
-        ensures agrees { AgreesWith self.new.side.conveyor (posted_on self.new.port.seat)
-            (collected_from self.new.port.seat) }
-    {
-        self.side.turn(&mut self.port, begins, items)
-    }
+impl<'a, const CAP: usize, const HOPS: usize> Model for AtSeat<'a, CAP, HOPS> {
+    ghost use Rattle.std.specs.Prelude.{◌≡◌, ℕ};
+    ghost use Rattle.link_slots.specs.Seen.{posted_on, collected_from};
+    ghost use Rattle.convey.specs.Conveyors.{AgreesWith};
+
+    ghost Value = { ℕ };
+
+    ghost view = { λ a. a.port.seat.rank };
+
+    ghost invariant = { λ a. (a.port.seat.shape.dims ≡ a.side.conveyor.dims)
+        × (a.port.seat.rank ≡ a.side.conveyor.rank)
+        × AgreesWith a.side.conveyor (posted_on a.port.seat) (collected_from a.port.seat) };
 }
 
 /// Sends items between all ranks of a grid.
@@ -46,7 +46,9 @@ pub(crate) fn over_slots<const CAP: usize, const HOPS: usize>(
 {
     let (bank, mut gather) = SlotBank::<CAP>::new(alloc, grid, 2)?;
     let mut sides = sides_of::<CAP, HOPS>(alloc, grid, &bank, &mut gather)?;
-    run_epochs(&mut sides, job)?;
+    for _ in 0..job.epochs {
+        run_epoch(&mut sides, job.items)?;
+    }
     Ok(sum_of(&sides))
 }
 
@@ -62,8 +64,6 @@ fn sides_of<'a, const CAP: usize, const HOPS: usize>(
     requires grid { bank.now.shape.dims ≡ grid.now }
     requires bank { (gather.old.id ≡ bank.now.id) × (gather.old.shape ≡ bank.now.shape) }
     requires here { (k : ℕ) → k < ranks grid.now → slice_index_or gather.old.given k true ≡ false }
-    ensures agree { IfOk result (λ v. EachAt (λ k s. AgreesWith s.side.conveyor (posted_on s.port.seat)
-        (collected_from s.port.seat)) v.items) }
 {
     let mut sides = Vec::new(alloc);
     for rank in 0..grid.ranks() {
@@ -87,8 +87,6 @@ fn side_of<'a, const CAP: usize, const HOPS: usize>(
     requires bank { (gather.old.id ≡ bank.now.id) × (gather.old.shape ≡ bank.now.shape) }
     requires rank { rank < ranks grid.now }
     requires here { slice_index_or gather.old.given rank true ≡ false }
-    ensures agrees { IfOk result (λ s. AgreesWith s.side.conveyor (posted_on s.port.seat)
-        (collected_from s.port.seat)) }
     ensures same_bank { (gather.new.id ≡ gather.old.id) × (gather.new.shape ≡ gather.old.shape) }
     ensures given { gather.new.given ≡ slice_set gather.old.given rank true }
 {
@@ -97,32 +95,11 @@ fn side_of<'a, const CAP: usize, const HOPS: usize>(
     Ok(AtSeat { side, port })
 }
 
-/// The epochs of a job, one after the other.
-fn run_epochs<const CAP: usize, const HOPS: usize>(
-    sides: &mut Vec<AtSeat<'_, CAP, HOPS>>,
-    job: Job,
-) -> Result<(), NoMemory>
-    requires agree { EachAt (λ k s. AgreesWith s.side.conveyor (posted_on s.port.seat) (collected_from s.port.seat))
-        sides.old.items }
-    ensures agree { EachAt (λ k s. AgreesWith s.side.conveyor (posted_on s.port.seat) (collected_from s.port.seat))
-        sides.new.items }
-{
-    for _ in 0..job.epochs {
-        run_epoch(sides, job.items)?;
-    }
-    Ok(())
-}
-
 /// Begins an epoch for each rank, and turns each in order, sweep after sweep, until the epoch is over for each.
 fn run_epoch<const CAP: usize, const HOPS: usize>(
     sides: &mut Vec<AtSeat<'_, CAP, HOPS>>,
     items: u64,
-) -> Result<(), NoMemory>
-    requires agree { EachAt (λ k s. AgreesWith s.side.conveyor (posted_on s.port.seat) (collected_from s.port.seat))
-        sides.old.items }
-    ensures agree { EachAt (λ k s. AgreesWith s.side.conveyor (posted_on s.port.seat) (collected_from s.port.seat))
-        sides.new.items }
-{
+) -> Result<(), NoMemory> {
     let mut begins = true;
     for _ in 0..u64::MAX {
         if sweep(sides, begins, items)? {
@@ -138,35 +115,13 @@ fn sweep<const CAP: usize, const HOPS: usize>(
     sides: &mut Vec<AtSeat<'_, CAP, HOPS>>,
     begins: bool,
     items: u64,
-) -> Result<bool, NoMemory>
-    requires agree { EachAt (λ k s. AgreesWith s.side.conveyor (posted_on s.port.seat) (collected_from s.port.seat))
-        sides.old.items }
-    ensures agree { EachAt (λ k s. AgreesWith s.side.conveyor (posted_on s.port.seat) (collected_from s.port.seat))
-        sides.new.items }
-{
+) -> Result<bool, NoMemory> {
     let mut over = true;
-    for i in 0..sides.len() {
-        let ended = turn_one(sides, i, begins, items)?;
+    for at in sides.iter_mut() {
+        let ended = at.side.turn(&mut at.port, begins, items)?;
         over = over && ended;
     }
     Ok(over)
-}
-
-/// Turns a rank, and answers whether its epoch is over.
-fn turn_one<const CAP: usize, const HOPS: usize>(
-    sides: &mut Vec<AtSeat<'_, CAP, HOPS>>,
-    i: usize,
-    begins: bool,
-    items: u64,
-) -> Result<bool, NoMemory>
-    requires within { i < length sides.old.items }
-    requires agree { EachAt (λ k s. AgreesWith s.side.conveyor (posted_on s.port.seat) (collected_from s.port.seat))
-        sides.old.items }
-    ensures agree { EachAt (λ k s. AgreesWith s.side.conveyor (posted_on s.port.seat) (collected_from s.port.seat))
-        sides.new.items }
-    ensures all { length sides.new.items ≡ length sides.old.items }
-{
-    sides[i].turn(begins, items)
 }
 
 /// The sum of what came to all ranks.

@@ -7,12 +7,14 @@ use Rattle.bale_types.specs.declared.item.Entry.{Entry}
 use Rattle.item_buffer.specs.Contents.{Contents, Shipped, shipped, blank}
 use Rattle.route_tensor.specs.Grid.{dim, IsGrid}
 use Rattle.route_tensor.specs.Tag.{digit, IsFair}
-use Rattle.route_tensor.specs.Ends.{hop_at}
+use Rattle.route_tensor.specs.Link.{links}
+use Rattle.route_tensor.specs.Ends.{hop_at, sender_at, reader_at}
 use Rattle.port_bank.specs.Logs.{Logs, lasts, added}
 use Rattle.port_bank.specs.Relay.{HasFairTags, RelayLaw}
 use Rattle.port_bank.proofs.Segments.{lasts-append, lasts_first}
 use Rattle.port_bank.proofs.Kept.{added-here}
 use Rattle.port_bank.proofs.Posts.{may_post_first, law_posted}
+use Rattle.transport_tests.specs.ByHand.{Posts, Collects}
 
 abbrev pub no_digits : Tag
 no_digits = record { d1 = 0; d2 = 0; d3 = 0 }
@@ -72,3 +74,24 @@ pub still_blank : (logs logs' : Logs) (l : ℕ) (p q : Contents) → logs' ≡ a
 still_blank logs logs' l p q more open' is cleared =
     let now : lasts (logs' l) ≡ lasts (logs l) = ap (λ (f : Logs). lasts (f l)) more ∙ lasts_added logs l (shipped p) ∙ ap (λ (b : Bool). cond b (lasts (logs l) + 1) (lasts (logs l))) open' in
     cleared ∙ ap blank (is ∙ sym now)
+
+-- a port that is the same, but for what it posted or collected, may still post
+pub still_posts : (dims dims' : List ℕ) (r r' : ℕ) (sent got sent' got' : Logs) (l : ℕ) (out out' : Contents) → dims' ≡ dims → r' ≡ r
+    → RelayLaw dims' r' sent' got' → out' ≡ blank (lasts (sent' l)) → Posts dims r sent got l out → Posts dims' r' sent' got' l out'
+still_posts dims dims' r r' sent got sent' got' l out out' same same_rank law empty may = record {
+  grid = subst IsGrid (sym same) may.grid;
+  link = subst (λ ds. l < links ds) (sym same) may.link;
+  first = ap (λ ds. hop_at ds l) same ∙ may.first;
+  sender = ap (λ ds. sender_at ds l) same ∙ (may.sender ∙ sym same_rank);
+  law = law;
+  empty = empty;
+}
+
+-- and still collect
+pub still_collects : (dims dims' : List ℕ) (r r' : ℕ) (got got' : Logs) (l : ℕ) (into into' : Contents) → dims' ≡ dims → r' ≡ r
+    → into' ≡ blank (lasts (got' l)) → Collects dims r got l into → Collects dims' r' got' l into'
+still_collects dims dims' r r' got got' l into into' same same_rank empty may = record {
+  link = subst (λ ds. l < links ds) (sym same) may.link;
+  reader = ap (λ ds. reader_at ds l) same ∙ (may.reader ∙ sym same_rank);
+  empty = empty;
+}

@@ -1,7 +1,6 @@
 //! The conveyors of two ranks over a slot bank, whose ports one thread turns.
 ghost use Rattle.std.specs.Prelude.{◌≡◌, ◌<◌, true, false, length, slice_index_or, slice_set, IfOk};
 ghost use Rattle.route_tensor.specs.Grid.{ranks};
-ghost use Rattle.link_slots.specs.Seen.{posted_on, collected_from};
 ghost use Rattle.convey.specs.Conveyors.{AgreesWith};
 
 use crate::conveyor_side::{Answer, Call, Side};
@@ -10,14 +9,24 @@ use link_slots::{GatherSeat, SlotBank, SlotPort};
 use port_bank::Port;
 use route_tensor::Grid;
 use std::alloc::Global;
+use std::marker::Model;
 
-/// A rank's conveyor and its port.
+/// A rank's conveyor and its port, which agree. Contracts see its number.
 #[derive(Drop)]
 struct AtPort<P: Port<2>> {
     side: Side<2, 1>,
     port: P,
-    ghost same_dims: { P.dims port ≡ side.conveyor.dims },
-    ghost same_rank: { P.rank port ≡ side.conveyor.rank },
+}
+
+impl<P: Port<2>> Model for AtPort<P> {
+    ghost use Rattle.std.specs.Prelude.{ℕ};
+    ghost use Rattle.convey.specs.Advance.{IsAtPort};
+
+    ghost Value = { ℕ };
+
+    ghost view = { λ a. P.rank a.port };
+
+    ghost invariant = { λ a. IsAtPort P.Port a.side.conveyor a.port };
 }
 
 impl<P: Port<2>> AtPort<P> {
@@ -31,16 +40,12 @@ impl<P: Port<2>> AtPort<P> {
         requires same_rank { P.rank port ≡ rank }
         requires none_sent { P.sent port ≡ (λ l. []) }
         requires none_got { P.got port ≡ (λ l. []) }
-        ensures agrees { IfOk result (λ s. AgreesWith s.side.conveyor (P.sent s.port) (P.got s.port)) }
     {
         let side = Side::new(alloc, grid, rank, false)?;
         Ok(AtPort { side, port })
     }
 
-    fn make(&mut self, call: Call) -> Result<Answer, NoMemory>
-        requires agrees { AgreesWith self.old.side.conveyor (P.sent self.old.port) (P.got self.old.port) }
-        ensures agrees { AgreesWith self.new.side.conveyor (P.sent self.new.port) (P.got self.new.port) }
-    {
+    fn make(&mut self, call: Call) -> Result<Answer, NoMemory> {
         self.side.make(&mut self.port, call)
     }
 }
@@ -50,12 +55,7 @@ fn make_calls<P: Port<2>>(
     zero: &mut AtPort<P>,
     one: &mut AtPort<P>,
     calls: &[(u32, Call, Answer)],
-) -> Result<usize, NoMemory>
-    requires zero { AgreesWith zero.old.side.conveyor (P.sent zero.old.port) (P.got zero.old.port) }
-    requires one { AgreesWith one.old.side.conveyor (P.sent one.old.port) (P.got one.old.port) }
-    ensures zero { AgreesWith zero.new.side.conveyor (P.sent zero.new.port) (P.got zero.new.port) }
-    ensures one { AgreesWith one.new.side.conveyor (P.sent one.new.port) (P.got one.new.port) }
-{
+) -> Result<usize, NoMemory> {
     for (made, (rank, call, wanted)) in calls.iter().enumerate() {
         let answer = if *rank == 0 {
             zero.make(*call)?
@@ -82,8 +82,6 @@ fn side_of<'a>(
     requires hops { length grid.now ≡ 1 }
     requires rank { rank < ranks grid.now }
     requires here { slice_index_or gather.old.given rank true ≡ false }
-    ensures agrees { IfOk result
-        (λ s. AgreesWith s.side.conveyor (posted_on s.port.seat) (collected_from s.port.seat)) }
     ensures same_bank { (gather.new.id ≡ gather.old.id) × (gather.new.shape ≡ gather.old.shape) }
     ensures given { gather.new.given ≡ slice_set gather.old.given rank true }
 {

@@ -3,14 +3,13 @@ ghost use Rattle.std.specs.Prelude.{◌≡◌, ◌<◌, ◌≤◌};
 
 use crate::conveyor_side::{Answer, Call};
 use crate::conveyor_slots::answered_over_slots;
-use crate::conveyors::{make_calls, new_sides};
+use crate::conveyors::Conveyors;
 use Answer::{Advanced, Begun, Pulled, Unpulled};
 use Call::{Advance, Begin, Pull, Push, Unpull};
 use Progress::{Complete, More, Near};
 use Pushed::{Accepted, Full};
 use bale_types::{Item, NoMemory};
 use convey::{Progress, Pushed};
-use port_bank::PlainBank;
 use route_tensor::Grid;
 use std::alloc::Global;
 use std::test::Fail;
@@ -28,9 +27,8 @@ fn answered(alloc: Global, steady: bool, calls: &[(u32, Call, Answer)]) -> Resul
     let Ok(grid) = Grid::new(&[2]) else {
         return Ok(0);
     };
-    let bank = PlainBank::<2>::new(alloc, &grid, 2)?;
-    let mut sides = new_sides::<2, 1>(alloc, &grid, steady)?;
-    let (_bank, made) = make_calls(&mut sides, bank, &grid, calls)?;
+    let ranks = Conveyors::<2, 1>::new(alloc, &grid, 2, steady)?;
+    let (_ranks, made) = ranks.make_calls(calls)?;
     Ok(made)
 }
 

@@ -1,7 +1,6 @@
 //! The exstacks of two ranks over a slot bank, whose ports one thread turns.
 ghost use Rattle.std.specs.Prelude.{◌≡◌, ◌<◌, true, false, length, slice_index_or, slice_set, IfOk};
 ghost use Rattle.route_tensor.specs.Grid.{ranks};
-ghost use Rattle.link_slots.specs.Seen.{posted_on, collected_from};
 ghost use Rattle.exstack.specs.State.{dims_of};
 ghost use Rattle.exstack.specs.Agreement.{AgreesWith};
 
@@ -11,14 +10,24 @@ use link_slots::{GatherSeat, SlotBank, SlotPort};
 use port_bank::Port;
 use route_tensor::Grid;
 use std::alloc::Global;
+use std::marker::Model;
 
-/// A rank's exstack and its port.
+/// A rank's exstack and its port, which agree. Contracts see its number.
 #[derive(Drop)]
 struct AtPort<P: Port<2>> {
     side: Side<2>,
     port: P,
-    ghost same_dims: { P.dims port ≡ dims_of side.stack },
-    ghost same_rank: { P.rank port ≡ side.stack.rank },
+}
+
+impl<P: Port<2>> Model for AtPort<P> {
+    ghost use Rattle.std.specs.Prelude.{ℕ};
+    ghost use Rattle.exstack.specs.Parts.{IsAtPort};
+
+    ghost Value = { ℕ };
+
+    ghost view = { λ a. P.rank a.port };
+
+    ghost invariant = { λ a. IsAtPort P.Port a.side.stack a.port };
 }
 
 impl<P: Port<2>> AtPort<P> {
@@ -32,16 +41,12 @@ impl<P: Port<2>> AtPort<P> {
         requires same_rank { P.rank port ≡ rank }
         requires none_sent { P.sent port ≡ (λ l. []) }
         requires none_got { P.got port ≡ (λ l. []) }
-        ensures agrees { IfOk result (λ s. AgreesWith s.side.stack (P.sent s.port) (P.got s.port)) }
     {
         let side = Side::new(alloc, grid, rank)?;
         Ok(AtPort { side, port })
     }
 
-    fn make(&mut self, call: Call) -> Result<Answer, NoMemory>
-        requires agrees { AgreesWith self.old.side.stack (P.sent self.old.port) (P.got self.old.port) }
-        ensures agrees { AgreesWith self.new.side.stack (P.sent self.new.port) (P.got self.new.port) }
-    {
+    fn make(&mut self, call: Call) -> Result<Answer, NoMemory> {
         self.side.make(&mut self.port, call)
     }
 }
@@ -52,12 +57,7 @@ fn call_on<P: Port<2>>(
     one: &mut AtPort<P>,
     rank: u32,
     call: Call,
-) -> Result<Answer, NoMemory>
-    requires zero { AgreesWith zero.old.side.stack (P.sent zero.old.port) (P.got zero.old.port) }
-    requires one { AgreesWith one.old.side.stack (P.sent one.old.port) (P.got one.old.port) }
-    ensures zero { AgreesWith zero.new.side.stack (P.sent zero.new.port) (P.got zero.new.port) }
-    ensures one { AgreesWith one.new.side.stack (P.sent one.new.port) (P.got one.new.port) }
-{
+) -> Result<Answer, NoMemory> {
     if rank == 0 {
         zero.make(call)
     } else {
@@ -70,12 +70,7 @@ fn make_calls<P: Port<2>>(
     zero: &mut AtPort<P>,
     one: &mut AtPort<P>,
     calls: &[(u32, Call, Answer)],
-) -> Result<usize, NoMemory>
-    requires zero { AgreesWith zero.old.side.stack (P.sent zero.old.port) (P.got zero.old.port) }
-    requires one { AgreesWith one.old.side.stack (P.sent one.old.port) (P.got one.old.port) }
-    ensures zero { AgreesWith zero.new.side.stack (P.sent zero.new.port) (P.got zero.new.port) }
-    ensures one { AgreesWith one.new.side.stack (P.sent one.new.port) (P.got one.new.port) }
-{
+) -> Result<usize, NoMemory> {
     for (made, (rank, call, wanted)) in calls.iter().enumerate() {
         if call_on(zero, one, *rank, *call)? != *wanted {
             return Ok(made);
@@ -97,8 +92,6 @@ fn side_of<'a>(
     requires hops { length grid.now ≡ 1 }
     requires rank { rank < ranks grid.now }
     requires here { slice_index_or gather.old.given rank true ≡ false }
-    ensures agrees { IfOk result
-        (λ s. AgreesWith s.side.stack (posted_on s.port.seat) (collected_from s.port.seat)) }
     ensures same_bank { (gather.new.id ≡ gather.old.id) × (gather.new.shape ≡ gather.old.shape) }
     ensures given { gather.new.given ≡ slice_set gather.old.given rank true }
 {

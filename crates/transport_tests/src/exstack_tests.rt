@@ -3,14 +3,13 @@ ghost use Rattle.std.specs.Prelude.{◌≡◌, ◌<◌, ◌≤◌};
 
 use crate::exstack_side::{Answer, Call};
 use crate::exstack_slots::answered_over_slots;
-use crate::exstacks::{make_calls, new_sides};
+use crate::exstacks::Exstacks;
 use Answer::{Exchanged, Popped, Proceeded, Pushed, Unpopped};
 use Call::{Exchange, Pop, Push, Unpop};
 use Poll::Ready;
 use Proceed::{AllDone, GoOn};
 use bale_types::{Item, NoMemory};
 use exstack::{Poll, Proceed};
-use port_bank::PlainBank;
 use route_tensor::Grid;
 use std::alloc::Global;
 use std::test::Fail;
@@ -28,10 +27,7 @@ fn answered(alloc: Global, calls: &[(u32, Call, Answer)]) -> Result<usize, NoMem
     let Ok(grid) = Grid::new(&[2]) else {
         return Ok(0);
     };
-    let bank = PlainBank::<2>::new(alloc, &grid, 2)?;
-    let mut sides = new_sides::<2>(alloc, &grid)?;
-    let (_bank, made) = make_calls(&mut sides, bank, calls)?;
-    Ok(made)
+    Exstacks::<2>::new(alloc, &grid, 2)?.make_calls(calls)
 }
 
 /// The worked order of calls.

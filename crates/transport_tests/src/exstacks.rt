@@ -1,7 +1,8 @@
-//! The exstacks of all ranks of a plain bank in a test.
-ghost use Rattle.std.specs.Prelude.{◌≡◌, ◌<◌, ◌∷◌, [], length, slice_index_or, IfOk};
+//! The exstacks of all ranks, over a plain bank, in a test.
+ghost use Rattle.std.specs.Prelude.{◌≡◌, ◌<◌, ◌≤◌, ◌∷◌, [], length, slice_index_or, IfOk};
 ghost use Rattle.item_buffer.specs.Capacity.{IsCap};
 ghost use Rattle.route_tensor.specs.Grid.{ranks};
+ghost use Rattle.port_bank.specs.Port.{IsSlots};
 ghost use Rattle.port_bank.specs.Plain.{sent_of, got_of, empty_bank};
 ghost use Rattle.exstack.specs.Law.{AgreeTogether};
 
@@ -11,12 +12,70 @@ use exstack::exchange_law;
 use port_bank::PlainBank;
 use route_tensor::Grid;
 use std::alloc::Global;
+use std::marker::Model;
+
+/// The exstacks of all ranks, which agree with the bank's logs. Contracts see how many there are.
+#[derive(Drop)]
+pub(crate) struct Exstacks<const CAP: usize> {
+    sides: Vec<Side<CAP>>,
+    bank: PlainBank<CAP>,
+}
+
+impl<const CAP: usize> Model for Exstacks<CAP> {
+    ghost use Rattle.std.specs.Prelude.{◌≡◌, ◌∷◌, ℕ, [], length, slice_index_or};
+    ghost use Rattle.port_bank.specs.Plain.{sent_of, got_of};
+    ghost use Rattle.exstack.specs.Law.{AgreeTogether};
+
+    ghost Value = { ℕ };
+
+    ghost view = { λ a. length a.sides.items };
+
+    ghost invariant = { λ a. (a.bank.dims ≡ length a.sides.items ∷ []) × ((d : _) → AgreeTogether
+        (length a.sides.items) CAP a.bank.slots (λ r. (slice_index_or a.sides.items r d).stack)
+        (sent_of a.bank) (got_of a.bank)) };
+}
+
+impl<const CAP: usize> Exstacks<CAP> {
+    /// The exstacks of a grid of one number, with nothing pushed, over a bank of so many slots per link.
+    pub(crate) fn new(alloc: Global, grid: &Grid, slots: u32) -> Result<Self, NoMemory>
+        requires cap { IsCap CAP }
+        requires one_hop { length grid.now ≡ 1 }
+        requires slots { IsSlots slots }
+    {
+        let bank = PlainBank::new(alloc, grid, slots)?;
+        let sides = new_sides(alloc, grid)?;
+        Ok(Exstacks { sides, bank })
+    }
+
+    /// Makes a call on the exstack of a rank, over the rank's port of the bank.
+    fn call(self, rank: u32, call: Call) -> Result<(Self, Answer), NoMemory> {
+        let Exstacks { mut sides, bank } = self;
+        if rank as usize >= sides.len() {
+            return Ok((Exstacks { sides, bank }, Answer::NotMade));
+        }
+        exchange_law();
+        let mut port = bank.port(rank);
+        let answer = sides[rank as usize].make(&mut port, call)?;
+        let bank = port.into_bank();
+        Ok((Exstacks { sides, bank }, answer))
+    }
+
+    /// Makes the calls of ranks, up to the first that answers otherwise than wanted, and tells how many came before that.
+    pub(crate) fn make_calls(self, calls: &[(u32, Call, Answer)]) -> Result<usize, NoMemory> {
+        let mut all = self;
+        for (made, (rank, call, wanted)) in calls.iter().enumerate() {
+            let (after, answer) = all.call(*rank, *call)?;
+            all = after;
+            if answer != *wanted {
+                return Ok(made);
+            }
+        }
+        Ok(calls.len())
+    }
+}
 
 /// The exstacks of all ranks of a grid of one number.
-pub(crate) fn new_sides<const CAP: usize>(
-    alloc: Global,
-    grid: &Grid,
-) -> Result<Vec<Side<CAP>>, NoMemory>
+fn new_sides<const CAP: usize>(alloc: Global, grid: &Grid) -> Result<Vec<Side<CAP>>, NoMemory>
     requires cap { IsCap CAP }
     requires one_hop { length grid.now ≡ 1 }
     ensures all { IfOk result (λ v. length v.items ≡ ranks grid.now) }
@@ -29,54 +88,4 @@ pub(crate) fn new_sides<const CAP: usize>(
         sides.push(Side::new(alloc, grid, rank)?)?;
     }
     Ok(sides)
-}
-
-/// Makes a call on the exstack of a rank, over the rank's port of the bank.
-pub(crate) fn call<const CAP: usize>(
-    sides: &mut Vec<Side<CAP>>,
-    bank: PlainBank<CAP>,
-    rank: u32,
-    call: Call,
-) -> Result<(PlainBank<CAP>, Answer), NoMemory>
-    requires one_hop { bank.dims ≡ length sides.old.items ∷ [] }
-    requires rank { rank < length sides.old.items }
-    requires together { (d : _) → AgreeTogether (length sides.old.items) CAP bank.slots
-        (λ r. (slice_index_or sides.old.items r d).stack) (sent_of bank) (got_of bank) }
-    ensures all { length sides.new.items ≡ length sides.old.items }
-    ensures one_hop { IfOk result (λ p. p.0.dims ≡ length sides.new.items ∷ []) }
-    ensures together { (d : _) → IfOk result (λ p. AgreeTogether (length sides.new.items) CAP p.0.slots
-        (λ r. (slice_index_or sides.new.items r d).stack) (sent_of p.0) (got_of p.0)) }
-{
-    exchange_law();
-    let mut port = bank.port(rank);
-    let answer = sides[rank as usize].make(&mut port, call)?;
-    Ok((port.into_bank(), answer))
-}
-
-/// Makes the calls of ranks, up to the first that answers otherwise than wanted, and tells how many came before that.
-pub(crate) fn make_calls<const CAP: usize>(
-    sides: &mut Vec<Side<CAP>>,
-    bank: PlainBank<CAP>,
-    calls: &[(u32, Call, Answer)],
-) -> Result<(PlainBank<CAP>, usize), NoMemory>
-    requires one_hop { bank.dims ≡ length sides.old.items ∷ [] }
-    requires together { (d : _) → AgreeTogether (length sides.old.items) CAP bank.slots
-        (λ r. (slice_index_or sides.old.items r d).stack) (sent_of bank) (got_of bank) }
-    ensures all { length sides.new.items ≡ length sides.old.items }
-    ensures one_hop { IfOk result (λ p. p.0.dims ≡ length sides.new.items ∷ []) }
-    ensures together { (d : _) → IfOk result (λ p. AgreeTogether (length sides.new.items) CAP p.0.slots
-        (λ r. (slice_index_or sides.new.items r d).stack) (sent_of p.0) (got_of p.0)) }
-{
-    let mut bank = bank;
-    for (made, (rank, next, wanted)) in calls.iter().enumerate() {
-        if *rank as usize >= sides.len() {
-            return Ok((bank, made));
-        }
-        let (after, answer) = call(sides, bank, *rank, *next)?;
-        bank = after;
-        if answer != *wanted {
-            return Ok((bank, made));
-        }
-    }
-    Ok((bank, calls.len()))
 }

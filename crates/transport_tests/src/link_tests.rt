@@ -1,13 +1,10 @@
 //! The slot bank and the plain bank by hand, by the same rows.
-ghost use Rattle.std.specs.Prelude.{◌≡◌, ◌+◌, ◌<◌, ◌≤◌, false, Some, if◌then◌else◌, OnOk, length};
-ghost use Rattle.item_buffer.specs.Contents.{blank};
-ghost use Rattle.route_tensor.specs.Grid.{IsGrid};
-ghost use Rattle.route_tensor.specs.Link.{links};
-ghost use Rattle.route_tensor.specs.Ends.{hop_at, sender_at, reader_at};
-ghost use Rattle.port_bank.specs.Logs.{lasts};
-ghost use Rattle.port_bank.specs.Port.{IsSlots};
-ghost use Rattle.port_bank.specs.Relay.{RelayLaw};
+ghost use Rattle.std.specs.Prelude.{◌≡◌, ◌≢◌, ℕ, ◌+◌, ◌<◌, if◌then◌else◌, OnOk};
 ghost use Rattle.port_bank.specs.Frames.{SamePort};
+ghost use Rattle.item_buffer.specs.Contents.{blank};
+ghost use Rattle.port_bank.specs.Port.{IsSlots};
+ghost use Rattle.transport_tests.specs.ByHand.{MayPost, MayCollect};
+ghost use Rattle.transport_tests.specs.declared.link_tests.TheConstants.{MOST_EPOCHS};
 
 use bale_types::{Entry, Item, NoMemory, Tag};
 use item_buffer::Parcel;
@@ -17,28 +14,26 @@ use route_tensor::Grid;
 use std::alloc::Global;
 use std::test::Fail;
 
+/// The most epochs that a test's link has.
+const MOST_EPOCHS: u64 = 1000;
+
 /// Posts an item on a link of the first hop, whatever the port, and answers whether it was sent.
-fn post_item<P: Port<1>>(
+pub(crate) fn post_item<P: Port<1>>(
     port: &mut P,
     link: u32,
     out: &mut Parcel<1>,
     a: u64,
     last: bool,
 ) -> Result<bool, NoMemory>
-    requires grid { IsGrid (P.dims port.old) }
-    requires link { link < links (P.dims port.old) }
-    requires first { hop_at (P.dims port.old) link ≡ 1 }
-    requires sender { sender_at (P.dims port.old) link ≡ P.rank port.old }
-    requires law { RelayLaw (P.dims port.old) (P.rank port.old) (P.sent port.old) (P.got port.old) }
-    requires out { out.old ≡ blank (lasts (P.sent port.old link)) }
-    requires few { out.old.epoch < 1000 }
+    requires out { MayPost P.Port port.old link out.old }
+    ensures out { OnOk result (MayPost P.Port port.new link out.new) }
     ensures same_port { SamePort P.Port port.old port.new }
     ensures same_got { P.got port.new ≡ P.got port.old }
-    ensures law { RelayLaw (P.dims port.new) (P.rank port.new) (P.sent port.new) (P.got port.new) }
-    ensures out { OnOk result (out.new ≡ blank (lasts (P.sent port.new link))) }
-    ensures few { OnOk result (out.new.epoch ≤ out.old.epoch + 1) }
 {
     let epoch = out.epoch();
+    if epoch >= MOST_EPOCHS {
+        return Ok(false);
+    }
     let _accepted = out.try_push(entry(a));
     out.set_last(last);
     match port.post(link, out)? {
@@ -54,20 +49,18 @@ fn post_item<P: Port<1>>(
 }
 
 /// Collects from a link, whatever the port, and answers the item that came.
-fn collect_item<P: Port<1>>(port: &mut P, link: u32, into: &mut Parcel<1>) -> Option<u64>
-    requires grid { IsGrid (P.dims port.old) }
-    requires link { link < links (P.dims port.old) }
-    requires reader { reader_at (P.dims port.old) link ≡ P.rank port.old }
-    requires law { RelayLaw (P.dims port.old) (P.rank port.old) (P.sent port.old) (P.got port.old) }
-    requires into { into.old ≡ blank (lasts (P.got port.old link)) }
-    requires few { into.old.epoch < 1000 }
+pub(crate) fn collect_item<P: Port<1>>(port: &mut P, link: u32, into: &mut Parcel<1>) -> Option<u64>
+    requires into { MayCollect P.Port port.old link into.old }
+    ensures into { MayCollect P.Port port.new link into.new }
+    ensures elsewhere { (m : ℕ) (other : _) → m ≢ link → MayCollect P.Port port.old m other
+        → MayCollect P.Port port.new m other }
+    ensures out { (m : ℕ) (out : _) → MayPost P.Port port.old m out → MayPost P.Port port.new m out }
     ensures same_port { SamePort P.Port port.old port.new }
-    ensures same_sent { P.sent port.new ≡ P.sent port.old }
-    ensures law { RelayLaw (P.dims port.new) (P.rank port.new) (P.sent port.new) (P.got port.new) }
-    ensures into { into.new ≡ blank (lasts (P.got port.new link)) }
-    ensures few { into.new.epoch ≤ into.old.epoch + 1 }
 {
     let epoch = into.epoch();
+    if epoch >= MOST_EPOCHS {
+        return None;
+    }
     match port.collect(link, into) {
         Collected::Got => {
             let first = into.head();
@@ -89,7 +82,7 @@ pub(crate) fn number_of(entry: Option<Entry>) -> Option<u64> {
 }
 
 /// An entry whose tag has no digits.
-pub(crate) fn entry(a: u64) -> Entry
+fn entry(a: u64) -> Entry
     ensures { result.tag ≡ record { d1 = 0; d2 = 0; d3 = 0 } }
 {
     Entry {
@@ -103,8 +96,8 @@ pub(crate) fn entry(a: u64) -> Entry
 }
 
 /// The epoch of a link after a parcel of this epoch.
-pub(crate) fn after(epoch: u64, last: bool) -> u64
-    requires { epoch < 1000 }
+fn after(epoch: u64, last: bool) -> u64
+    requires { epoch < MOST_EPOCHS }
     ensures { result ≡ (if last then epoch + 1 else epoch) }
 {
     if last { epoch + 1 } else { epoch }
@@ -139,22 +132,11 @@ fn answer_to<P: Port<1>>(
     into: &mut Parcel<1>,
     call: Call,
 ) -> Result<Answer, NoMemory>
-    requires grid { IsGrid (P.dims port.old) }
-    requires link { link < links (P.dims port.old) }
-    requires first { hop_at (P.dims port.old) link ≡ 1 }
-    requires sender { sender_at (P.dims port.old) link ≡ P.rank port.old }
-    requires reader { reader_at (P.dims port.old) link ≡ P.rank port.old }
-    requires law { RelayLaw (P.dims port.old) (P.rank port.old) (P.sent port.old) (P.got port.old) }
-    requires out { out.old ≡ blank (lasts (P.sent port.old link)) }
-    requires into { into.old ≡ blank (lasts (P.got port.old link)) }
-    requires few_out { out.old.epoch < 1000 }
-    requires few_into { into.old.epoch < 1000 }
+    requires out { MayPost P.Port port.old link out.old }
+    requires into { MayCollect P.Port port.old link into.old }
+    ensures out { OnOk result (MayPost P.Port port.new link out.new) }
+    ensures into { OnOk result (MayCollect P.Port port.new link into.new) }
     ensures same_port { SamePort P.Port port.old port.new }
-    ensures law { RelayLaw (P.dims port.new) (P.rank port.new) (P.sent port.new) (P.got port.new) }
-    ensures out { OnOk result (out.new ≡ blank (lasts (P.sent port.new link))) }
-    ensures into { OnOk result (into.new ≡ blank (lasts (P.got port.new link))) }
-    ensures few_out { OnOk result (out.new.epoch ≤ out.old.epoch + 1) }
-    ensures few_into { OnOk result (into.new.epoch ≤ into.old.epoch + 1) }
 {
     match call {
         Post(a) => Ok(posted(post_item(port, link, out, a, false)?)),
@@ -181,15 +163,8 @@ fn answers_to<P: Port<1>>(
     link: u32,
     calls: &[Call],
 ) -> Result<Vec<Answer>, NoMemory>
-    requires grid { IsGrid (P.dims port.old) }
-    requires link { link < links (P.dims port.old) }
-    requires first { hop_at (P.dims port.old) link ≡ 1 }
-    requires sender { sender_at (P.dims port.old) link ≡ P.rank port.old }
-    requires reader { reader_at (P.dims port.old) link ≡ P.rank port.old }
-    requires law { RelayLaw (P.dims port.old) (P.rank port.old) (P.sent port.old) (P.got port.old) }
-    requires none_sent { lasts (P.sent port.old link) ≡ 0 }
-    requires none_got { lasts (P.got port.old link) ≡ 0 }
-    requires few { length calls.now < 1000 }
+    requires out { MayPost P.Port port.old link (blank 0) }
+    requires into { MayCollect P.Port port.old link (blank 0) }
     ensures same_port { SamePort P.Port port.old port.new }
 {
     let mut out = Parcel::new(alloc)?;
@@ -210,7 +185,6 @@ type Outcome = (Vec<Answer>, u64);
 /// What both banks make of the calls on the one link of one rank: the slot bank, and then the plain bank.
 fn both_make(alloc: Global, slots: u32, calls: &[Call]) -> Result<(Outcome, Outcome), NoMemory>
     requires slots { IsSlots slots }
-    requires few { length calls.now < 1000 }
 {
     let Ok(grid) = Grid::new(&[1]) else {
         return Err(NoMemory);

@@ -1,19 +1,13 @@
 //! Two threads at one bank, of which one posts and the other collects.
-ghost use Rattle.std.specs.Prelude.{◌≡◌, ◌<◌};
-ghost use Rattle.item_buffer.specs.Contents.{blank};
-ghost use Rattle.route_tensor.specs.Grid.{IsGrid};
-ghost use Rattle.route_tensor.specs.Link.{links};
-ghost use Rattle.route_tensor.specs.Ends.{hop_at, sender_at, reader_at};
-ghost use Rattle.port_bank.specs.Logs.{lasts};
-ghost use Rattle.port_bank.specs.Relay.{RelayLaw};
+ghost use Rattle.std.specs.Prelude.{◌≡◌};
 ghost use Rattle.link_slots.specs.Seen.{posted_on, collected_from};
+ghost use Rattle.transport_tests.specs.ByHand.{Posts, Collects, MayPost, MayCollect};
 
-use crate::doorbell_tests::post_from;
-use crate::link_tests::number_of;
+use crate::link_tests::{collect_item, post_item};
 use bale_types::NoMemory;
 use item_buffer::Parcel;
-use link_slots::{SlotBank, SlotSeat};
-use port_bank::Collected;
+use link_slots::SlotBank;
+use port_bank::Port;
 use route_tensor::Grid;
 use std::alloc::Global;
 use std::sync::Wait;
@@ -22,46 +16,31 @@ use std::thread;
 use std::thread::Threads;
 
 /// Posts the numbers below `count` on link 1, one in each parcel.
-fn post_numbers<R: Wait>(
+fn post_numbers<R: Wait, P: Port<1>>(
     rt: &R,
-    bank: &SlotBank<1>,
-    mut seat: SlotSeat<1>,
+    mut port: P,
     mut out: Parcel<1>,
     count: u64,
-)
-    requires bank { (seat.id ≡ bank.now.id) × (seat.shape ≡ bank.now.shape) }
-    requires grid { IsGrid bank.now.shape.dims }
-    requires link { 1 < links bank.now.shape.dims }
-    requires first { hop_at bank.now.shape.dims 1 ≡ 1 }
-    requires sender { sender_at bank.now.shape.dims 1 ≡ seat.rank }
-    requires law { RelayLaw bank.now.shape.dims seat.rank (posted_on seat) (collected_from seat) }
-    requires out { out ≡ blank (lasts (posted_on seat 1)) }
+) -> Result<(), NoMemory>
+    requires out { MayPost P.Port port 1 out }
 {
     let mut next = 0;
     for _ in rt.forever() {
         if next >= count {
             break;
         }
-        if post_from(bank, &mut seat, 1, &mut out, next) {
+        if post_item(&mut port, 1, &mut out, next, false)? {
             next += 1;
         } else {
             thread::yield_now();
         }
     }
+    Ok(())
 }
 
 /// Collects `count` parcels from link 1, and answers how many of them had the number that was due.
-fn collect_numbers<R: Wait>(
-    rt: &R,
-    bank: &SlotBank<1>,
-    mut seat: SlotSeat<1>,
-    mut into: Parcel<1>,
-    count: u64,
-) -> u64
-    requires bank { (seat.id ≡ bank.now.id) × (seat.shape ≡ bank.now.shape) }
-    requires link { 1 < links bank.now.shape.dims }
-    requires reader { reader_at bank.now.shape.dims 1 ≡ seat.rank }
-    requires into { into ≡ blank (lasts (collected_from seat 1)) }
+fn collect_numbers<R: Wait, P: Port<1>>(rt: &R, mut port: P, mut into: Parcel<1>, count: u64) -> u64
+    requires into { MayCollect P.Port port 1 into }
 {
     let mut next = 0;
     let mut due = 0;
@@ -69,18 +48,14 @@ fn collect_numbers<R: Wait>(
         if next >= count {
             break;
         }
-        match seat.collect(bank, 1, &mut into) {
-            Collected::Got => {
-                if into.last() {
-                    break;
-                }
-                if number_of(into.head()) == Some(next) {
+        match collect_item(&mut port, 1, &mut into) {
+            Some(number) => {
+                if number == next {
                     due += 1;
                 }
-                into.clear();
                 next += 1;
             }
-            Collected::Nothing => thread::yield_now(),
+            None => thread::yield_now(),
         }
     }
     due
@@ -110,20 +85,18 @@ fn numbers_passed<R: Threads + Wait + Sync>(
     let out = Parcel::new(alloc)?;
     let into = Parcel::new(alloc)?;
     let shared = &bank;
-    let (_, due) = thread::join(
+    let (posted, due) = thread::join(
         rt,
-        move ||
-            requires { (zero.id ≡ shared.now.id) × (zero.shape ≡ shared.now.shape) × IsGrid shared.now.shape.dims
-                × (1 < links shared.now.shape.dims)
-                × (hop_at shared.now.shape.dims 1 ≡ 1) × (sender_at shared.now.shape.dims 1 ≡ zero.rank)
-                × RelayLaw shared.now.shape.dims zero.rank (posted_on zero) (collected_from zero)
-                × (out ≡ blank (lasts (posted_on zero 1))) }
-        { post_numbers(rt, shared, zero, out, count) },
+        move || -> Result<(), NoMemory>
+            requires { (zero.id ≡ shared.now.id) × (zero.shape ≡ shared.now.shape)
+                × Posts zero.shape.dims zero.rank (posted_on zero) (collected_from zero) 1 out }
+        { post_numbers(rt, shared.port(zero), out, count) },
         move || -> u64
-            requires { (one.id ≡ shared.now.id) × (one.shape ≡ shared.now.shape) × (1 < links shared.now.shape.dims)
-                × (reader_at shared.now.shape.dims 1 ≡ one.rank) × (into ≡ blank (lasts (collected_from one 1))) }
-        { collect_numbers(rt, shared, one, into, count) },
+            requires { (one.id ≡ shared.now.id) × (one.shape ≡ shared.now.shape)
+                × Collects one.shape.dims one.rank (collected_from one) 1 into }
+        { collect_numbers(rt, shared.port(one), into, count) },
     );
+    posted?;
     Ok(due)
 }
 

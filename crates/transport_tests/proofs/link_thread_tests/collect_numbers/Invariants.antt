@@ -1,15 +1,10 @@
-use Rattle.std.proofs.Common.{◌≡◌, ◌≤◌}
-use Rattle.item_buffer.specs.Contents.{blank}
-use Rattle.port_bank.specs.Logs.{lasts}
-use Rattle.link_slots.specs.Seen.{collected_from}
+use Rattle.std.proofs.Common.{◌≤◌}
+use Rattle.transport_tests.specs.ByHand.{MayCollect}
 use Rattle.transport_tests.proofs.link_thread_tests.collect_numbers.Given as goal
 
 abbrev pub invariant-loop : goal.invariant-loop
 invariant-loop g l = record {
-  table : l.seat.id ≡ l.initial.seat.id;
-  shape : l.seat.shape ≡ l.initial.seat.shape;
-  rank : l.seat.rank ≡ l.initial.seat.rank;
-  into : l.into ≡ blank (lasts (collected_from l.seat 1));
+  into : MayCollect g.P.Port l.port 1 l.into;
   due : l.due ≤ l.next;
   iterator : (goal.iterator-loop g).can_next l.iterator' × (goal.iterator-loop g).is_finite l.iterator';
 }

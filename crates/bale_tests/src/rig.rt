@@ -1,5 +1,6 @@
 //! What the tests of the top calls share: runs of both, and their answers as texts.
 ghost use Rattle.std.specs.Prelude.{◌≡◌, ◌<◌};
+ghost use Rattle.rank_node.specs.Ledgers.{IsBlankOf};
 
 use bale_cli::{Outcome, run, run_serial};
 use bale_types::{MemSink, MemSource};
@@ -96,9 +97,7 @@ fn run_counted<L: Ledger>(
     err: &mut MemSink,
     blank: Blank,
 ) -> Outcome
-    requires name { blank.name ≡ L.name }
-    requires parts { blank.parts ≡ L.parts }
-    requires some { 0 < L.parts }
+    requires blank { IsBlankOf L.name L.parts blank.name blank.parts }
 {
     let mut steps = Steps::<L>::new(blank);
     run_serial(alloc, words, source, out, err, &mut steps)

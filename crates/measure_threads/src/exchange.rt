@@ -1,5 +1,6 @@
 //! One exchange between all ranks.
 ghost use Rattle.std.specs.Prelude.{◌≡◌, ◌<◌, ◌≤◌, ◌∷◌, [], length, IfOk};
+ghost use Rattle.item_buffer.specs.Capacity.{IsCap};
 ghost use Rattle.std.specs.List.{All};
 ghost use Rattle.round_program.specs.Canonical.{InRound};
 ghost use Rattle.round_examples.specs.Traffics.{traffic_rules};
@@ -52,8 +53,7 @@ fn over_hops<const CAP: usize, R: Threads + Wait + Clock + Sync>(
     alloc: Global,
     command: &Command,
 ) -> Result<Rate, NoMemory>
-    requires some { 0 < CAP }
-    requires small { CAP ≤ 1024 }
+    requires cap { IsCap CAP }
 {
     let hops = command.grid.hops();
     if hops == 1 {
@@ -71,8 +71,7 @@ fn measured<const CAP: usize, const HOPS: usize, R: Threads + Wait + Clock + Syn
     alloc: Global,
     command: &Command,
 ) -> Result<Rate, NoMemory>
-    requires some { 0 < CAP }
-    requires small { CAP ≤ 1024 }
+    requires cap { IsCap CAP }
     requires hops { length command.now.grid ≡ HOPS }
 {
     let watch = StopWatch::new(rt);

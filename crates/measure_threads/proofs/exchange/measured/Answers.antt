@@ -1,4 +1,4 @@
-use Rattle.std.proofs.Common.{[], ◌∷◌, refl, subst, arith}
+use Rattle.std.proofs.Common.{[], ◌∷◌, refl, rules, subst, arith}
 use Rattle.port_bank.specs.Port.{IsSlots}
 use Rattle.round_program.specs.Canonical.{InRound}
 use Rattle.route_tensor.proofs.Coordinates.{ranks_some}
@@ -13,11 +13,15 @@ pub drive_threads-requires-clause-slots : goal.drive_threads-requires-clause-slo
 unfolding IsSlots
 drive_threads-requires-clause-slots g c κs within = refl
 
-pub drive_threads-requires-clause-begins : goal.drive_threads-requires-clause-begins
-drive_threads-requires-clause-begins g c κs within =
-    let n = c.rounds_of-rounds.result in (
-      n ∷ [],
-      n,
-      subst (λ p. InRound traffic_rules p 0 (n ∷ []) n c.in_ok-progs.progs) c.ranks-ranks.ensures.value c.in_ok-progs.ensures,
-      ends c.ranks-ranks.result n c.in_ok-progs.progs (omega (arith, c.ranks-ranks.ensures.value, ranks_some c.args.command.now.grid c.ranks-ranks.ensures.grid.positive)) c.rounds_of-rounds.ensures c.in_ok-progs.ensures,
-    )
+pub drive_threads-requires-clause-run : goal.drive_threads-requires-clause-run
+drive_threads-requires-clause-run g c κs within =
+    let n = c.rounds_of-rounds.result in
+    record {
+      one_hop = search rules;
+      begins = (
+        n ∷ [],
+        n,
+        subst (λ p. InRound traffic_rules p 0 (n ∷ []) n c.in_ok-progs.progs) c.ranks-ranks.ensures.value c.in_ok-progs.ensures,
+        ends c.ranks-ranks.result n c.in_ok-progs.progs (omega (arith, c.ranks-ranks.ensures.value, ranks_some c.args.command.now.grid c.ranks-ranks.ensures.grid.positive)) c.rounds_of-rounds.ensures c.in_ok-progs.ensures,
+      );
+    }

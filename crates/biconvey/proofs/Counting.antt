@@ -15,7 +15,7 @@ use Rattle.route_tensor.specs.Link.{links}
 use Rattle.route_tensor.specs.Tag.{IsFair}
 use Rattle.route_tensor.specs.Ends.{hop_at, sender_at}
 use Rattle.route_tensor.proofs.Coordinates.{ranks_some}
-use Rattle.port_bank.specs.Logs.{Logs, lasts, segment, starting_at, ending_at}
+use Rattle.port_bank.specs.Logs.{Logs, lasts, segment, starting_at, ending_at, EndsLast, lasts_in}
 use Rattle.port_bank.specs.Flow.{flow}
 use Rattle.port_bank.specs.Relay.{HasFairTags}
 use Rattle.port_bank.proofs.Fronts.{begins_shorter, begins_flat_map}
@@ -23,7 +23,6 @@ use Rattle.port_bank.proofs.Pipeline.{Keeps}
 use Rattle.port_bank.proofs.Routes.{numbered}
 use Rattle.port_bank.proofs.Segments.{lasts-append, lasts_first}
 use Rattle.hop_core.specs.State.{State}
-use Rattle.convey.specs.Agreement.{EndsLast, lasts_in}
 use Rattle.convey.specs.Buffers.{buffers_of, out_of}
 use Rattle.convey.specs.Conveyors.{AgreesWith}
 use Rattle.convey.specs.Law.{ClosesLaw}
@@ -40,7 +39,7 @@ use Rattle.biconvey.specs.States.{BiState, Sides}
 use Rattle.biconvey.specs.Ranks.{AllRanks}
 use Rattle.biconvey.specs.Ways.{entries_of, move_of, moves, IsWay}
 use Rattle.biconvey.specs.Worlds.{World, all_moves, queries_in}
-use Rattle.biconvey.proofs.Halting.{at_most}
+use Rattle.port_bank.proofs.Marks.{at_most}
 use Rattle.biconvey.proofs.Taken.{items_begin}
 use Rattle.biconvey.proofs.Offering.{asked_below}
 use Rattle.biconvey.proofs.Closing.{queries_close, pushed_of, replied_of}
@@ -133,7 +132,7 @@ module _ (dims : List ℕ) (cap slots : ℕ) (steady : Bool) (cs : List State) (
             let e = begins_shorter (entries_of (got l)) (entries_of (sent l)) (begins_flat_map (λ (p : Shipped). p.entries) (got l) (sent l) front) in
             let s = log_short steady cap (sent l) some (w.shape l) in
             let c = closed_at l below in
-            let f = at_most c.0 in
+            let f = at_most 0 c.0 in
             omega (arith, g, e, s, f, c.1)
 
 -- all ranks as a function of their number

@@ -10,17 +10,17 @@ use Rattle.port_bank.specs.Link.{LinkLaw}
 use Rattle.hop_core.specs.declared.phase.Phase.TheVariants.{Complete}
 use Rattle.hop_core.specs.State.{State}
 use Rattle.convey.specs.Buffers.{in_of}
-use Rattle.convey.specs.Agreement.{Ends}
+use Rattle.list_laws.specs.Lists.{Ends}
 use Rattle.convey.specs.Conveyors.{AgreesWith}
 use Rattle.convey.specs.Due.{IsOver, NextIs, next_link}
 use Rattle.convey.specs.Rest.{IsBusy, HasBusy, IsAtRest, IsRestingSweep, RestLaw}
 use Rattle.convey.proofs.OneRank.{starting-own, ending-own}
 use Rattle.round_program.specs.Talks.{Talk}
 use Rattle.rank_node.specs.Movers.{AllRead}
-use Rattle.rank_node.specs.Stuck.{HasCrowded}
+use Rattle.rank_node.specs.Stuck.{IsStill}
 use Rattle.rank_group.specs.Ranks.{crowded_in, idle_in}
+use Rattle.rank_group.proofs.Still.{below, reader, kept_all, all_got, next_busy, busy_of, at_rest}
 use Rattle.biconvey.specs.States.{BiState, Sides}
-use Rattle.biconvey.specs.Still.{IsStill}
 use Rattle.biconvey.specs.Ways.{conveyor_in}
 use Rattle.biconvey.specs.Worlds.{Rests}
 use Rattle.biconvey.specs.Ranks.{AllComplete}
@@ -38,73 +38,22 @@ none_of : {X : Type 0} (xs : List X) → length xs ≤ 0 → xs ≡ []
 none_of [] h = refl
 none_of (x ∷ xs) h = absurd (omega (arith, h))
 
--- one way of one rank
-module _ (dims : List ℕ) (slots r : ℕ) (c c' : State) (sent got : Logs) (some : 0 < slots) (same_dims : c.dims ≡ dims) (same_rank : c.rank ≡ r) (first : c.epoch ≡ 0)
-    (s : IsStill c c' (starting_at dims r sent) (ending_at dims r got) (starting_at dims r sent) (ending_at dims r got) (crowded_in dims slots r sent got) (idle_in dims r sent got))
-    (kept : (l : ℕ) → l < links dims → reader_at dims l ≡ r → length (in_of c l).parcel.untaken ≤ length (in_of c' l).parcel.untaken) where
-  below : (l : ℕ) → l < links dims → l < links c.dims
-  below l b = subst (λ ds. l < links ds) (sym same_dims) b
-
-  reader : (l : ℕ) → reader_at dims l ≡ r → reader_at c.dims l ≡ c.rank
-  reader l e = subst (λ ds. reader_at ds l ≡ c.rank) (sym same_dims) (e ∙ sym same_rank)
-
-  sender : (l : ℕ) → sender_at dims l ≡ r → sender_at c.dims l ≡ c.rank
-  sender l e = subst (λ ds. sender_at ds l ≡ c.rank) (sym same_dims) (e ∙ sym same_rank)
-
-  -- a crowded link has parcels on their way
-  pub busy_from : (l : ℕ) → sender_at dims l ≡ r → crowded_in dims slots r sent got l ≡ true → IsBusy sent got l
-  busy_from l from full =
-      let e : length (starting_at dims r sent l) ≡ length (got l) + slots = eqb-true (length (starting_at dims r sent l)) (length (got l) + slots) full in
-      omega (arith, e, ap length (starting-own dims r sent l from), some)
-
-  pub busy_of : HasCrowded c.dims c.rank (crowded_in dims slots r sent got) → HasBusy dims r sent got
-  busy_of x =
-      let from : sender_at dims x.link ≡ r = subst (λ ds. sender_at ds x.link ≡ r) same_dims (x.sender ∙ same_rank) in
-      record { link = x.link; below = subst (λ ds. x.link < links ds) same_dims x.below; sender = from; busy = busy_from x.link from x.crowded }
-
-  -- of an inbox nothing was taken
-  kept_all : (l : ℕ) → l < links dims → reader_at dims l ≡ r → length (in_of s.before l).parcel.untaken ≤ length (in_of s.after l).parcel.untaken
-  kept_all l b e = omega (arith, ap length (s.ins_before l), kept l b e, s.ins_after l)
-
-  all_got : (l : ℕ) → reader_at dims l ≡ r → idle_in dims r sent got l ≡ true → length (got l) ≡ length (sent l)
-  all_got l e i =
-      let same : length (ending_at dims r got l) ≡ length (sent l) = eqb-true (length (ending_at dims r got l)) (length (sent l)) i in
-      omega (arith, same, ap length (ending-own dims r got l e))
-
-  next_busy : (l : ℕ) (e : Entry) → l < links dims → reader_at dims l ≡ r → hop_at dims l < length dims → slice_get (in_of s.after l).parcel.untaken 0 ≡ Some e → NextIs dims r l e.tag (IsBusy sent got)
-  next_busy l y b e o first' =
-      let next = s.stopped l y (below l b) (reader l e) (subst (λ ds. hop_at ds l < length ds) (sym same_dims) o) first' in
-      let here : NextIs dims r l y.tag (λ m. crowded_in dims slots r sent got m ≡ true) =
-      subst (λ ds. NextIs ds r l y.tag (λ m. crowded_in dims slots r sent got m ≡ true)) same_dims (subst (λ k. NextIs c.dims k l y.tag (λ m. crowded_in dims slots r sent got m ≡ true)) same_rank next) in
-      record { below = here.below; sender = here.sender; hop = here.hop; holds = busy_from (next_link dims r (hop_at dims l) y.tag) here.sender here.holds }
-
-  module _ (read : (l : ℕ) → l < links dims → reader_at dims l ≡ r → hop_at dims l ≡ length dims → (in_of c l).parcel.untaken ≡ []) where
-    pub halted : IsHalted dims r s.before s.after sent got
-    halted = record {
-      same_dims = s.dims_before ∙ same_dims;
-      same_rank = s.rank_before ∙ same_rank;
-      first = s.epoch_before ∙ first;
-      agrees = s.agrees_before;
-      lies = λ l b e. same_end (in_of s.before l).parcel.untaken (in_of s.after l).parcel.untaken (s.lies l (below l b) (reader l e)) (kept_all l b e);
-      read = λ l b e o. s.ins_before l ∙ read l b e o;
-      idle = λ l b e w. all_got l e (s.idle l (below l b) (reader l e) w);
-      stopped = next_busy;
-    }
-
-    pub at_rest : (s.after.done ≡ true) ⊎ HasBusy dims r sent got → IsAtRest dims r s.before s.after sent got
-    at_rest pushed = record {
-      same_dims = s.dims_after;
-      same_rank = s.rank_after;
-      same_epoch = s.epoch_after;
-      agrees = s.agrees_before;
-      pushed = pushed;
-      read = λ l b e o. s.ins_before l ∙ read l b e o;
-      lies = λ l b e. s.lies l (below l b) (reader l e);
-      kept = λ l b e o. kept_all l b e;
-      idle = λ l b e w. all_got l e (s.idle l (below l b) (reader l e) w);
-      stopped = next_busy;
-      closing = λ l b e hop arrived open'. busy_from l e (s.closing l (below l b) (sender l e) (λ o. hop (subst (λ ds. hop_at ds l ≡ 1) same_dims o)) arrived open');
-    }
+-- one way of one rank, of which all that came was read
+halted : (dims : List ℕ) (slots r : ℕ) (c c' : State) (sent got : Logs) → 0 < slots → (d : c.dims ≡ dims) (q : c.rank ≡ r) → c.epoch ≡ 0
+    → (s : IsStill c c' (starting_at dims r sent) (ending_at dims r got) (starting_at dims r sent) (ending_at dims r got) (crowded_in dims slots r sent got) (idle_in dims r sent got))
+    → ((l : ℕ) → l < links dims → reader_at dims l ≡ r → length (in_of c l).parcel.untaken ≤ length (in_of c' l).parcel.untaken)
+    → ((l : ℕ) → l < links dims → reader_at dims l ≡ r → hop_at dims l ≡ length dims → (in_of c l).parcel.untaken ≡ [])
+    → IsHalted dims r s.before s.after sent got
+halted dims slots r c c' sent got some d q first s kept read = record {
+  same_dims = s.dims_before ∙ d;
+  same_rank = s.rank_before ∙ q;
+  first = s.epoch_before ∙ first;
+  agrees = s.agrees_before;
+  lies = λ l b e. same_end (in_of s.before l).parcel.untaken (in_of s.after l).parcel.untaken (s.lies l (below dims slots r c c' sent got some d q s kept l b) (reader dims slots r c c' sent got some d q s kept l e)) (kept_all dims slots r c c' sent got some d q s kept l b e);
+  read = λ l b e o. s.ins_before l ∙ read l b e o;
+  idle = λ l b e w. all_got dims slots r c c' sent got some d q s kept l e (s.idle l (below dims slots r c c' sent got some d q s kept l b) (reader dims slots r c c' sent got some d q s kept l e) w);
+  stopped = next_busy dims slots r c c' sent got some d q s kept;
+}
 
 -- what is known of one way of rank r, just before its latest advance and just after it
 record Two (dims : List ℕ) (r : ℕ) (phase_is : Type 0) (old new : State) (sent got : Logs) : Type 0 where
@@ -173,7 +122,7 @@ module _ {S : Type 0} (T : Talk S) (law : RestLaw) (dims : List ℕ) (cap slots 
   answered r b = elim (each r b).stuck.answered [
     | inl read ↦ read
     | inr x ↦
-        let y = busy_of dims slots r (each r b).before.replies (ns r).replies s.replying s.replied some (dims_r r b) (rank_r r b) (each r b).has.node.replies.first (each r b).stuck.replies (each r b).kept_replies x in
+        let y = busy_of dims slots r (each r b).before.replies (ns r).replies s.replying s.replied some (dims_r r b) (rank_r r b) (each r b).stuck.replies (each r b).kept_replies x in
         absurd (replies_idle y.link y.below y.busy)
   ]
 
@@ -194,11 +143,12 @@ module _ {S : Type 0} (T : Talk S) (law : RestLaw) (dims : List ℕ) (cap slots 
           same_rank = t.rank_after ∙ (t.rank_before ∙ e.has.same_rank);
           first = t.epoch_after ∙ (t.epoch_before ∙ e.has.node.asks.first);
           agrees = t.agrees_after;
-          rest = at_rest dims slots r e.before.queries (ns r).queries s.asking s.asked some e.has.same_dims e.has.same_rank e.has.node.asks.first t e.kept_queries (read_q r b)
+          rest = at_rest dims slots r e.before.queries (ns r).queries s.asking s.asked some e.has.same_dims e.has.same_rank t e.kept_queries
               (elim e.stuck.asked [
                 | inl done ↦ inl (t.done_after ∙ done)
-                | inr x ↦ inr (busy_of dims slots r e.before.queries (ns r).queries s.asking s.asked some e.has.same_dims e.has.same_rank e.has.node.asks.first t e.kept_queries x)
-              ]);
+                | inr x ↦ inr (busy_of dims slots r e.before.queries (ns r).queries s.asking s.asked some e.has.same_dims e.has.same_rank t e.kept_queries x)
+              ])
+              (λ l low to o. t.ins_before l ∙ read_q r b l low to o);
           over = t.over;
         },
       ))
@@ -214,7 +164,7 @@ module _ {S : Type 0} (T : Talk S) (law : RestLaw) (dims : List ℕ) (cap slots 
           same_rank = t.rank_after ∙ (t.rank_before ∙ rank_r r b);
           first = t.epoch_after ∙ (t.epoch_before ∙ e.has.node.replies.first);
           agrees = t.agrees_after;
-          rest = at_rest dims slots r e.before.replies (ns r).replies s.replying s.replied some (dims_r r b) (rank_r r b) e.has.node.replies.first t e.kept_replies (read_r r b) (inl (t.done_after ∙ e.stuck.done (queries_over r b)));
+          rest = at_rest dims slots r e.before.replies (ns r).replies s.replying s.replied some (dims_r r b) (rank_r r b) t e.kept_replies (inl (t.done_after ∙ e.stuck.done (queries_over r b))) (λ l low to o. t.ins_before l ∙ read_r r b l low to o);
           over = t.over;
         },
       ))

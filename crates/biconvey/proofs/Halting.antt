@@ -7,13 +7,13 @@ use Rattle.route_tensor.specs.Grid.{ranks, IsGrid}
 use Rattle.route_tensor.specs.Link.{links}
 use Rattle.route_tensor.specs.Ends.{hop_at, sender_at, reader_at}
 use Rattle.route_tensor.proofs.Ends.{number_ends}
-use Rattle.port_bank.specs.Logs.{Logs, lasts, starting_at, ending_at}
+use Rattle.port_bank.specs.Logs.{Logs, lasts, starting_at, ending_at, EndsLast, lasts_in}
 use Rattle.list_laws.specs.Lists.{Begins}
-use Rattle.port_bank.proofs.Segments.{lasts_begins, lasts-append, lasts_first}
+use Rattle.port_bank.proofs.Segments.{lasts_begins}
+use Rattle.port_bank.proofs.Marks.{all_got, mark_of, at_most}
 use Rattle.hop_core.specs.Link.{In, is_wanted}
 use Rattle.hop_core.specs.State.{State}
 use Rattle.convey.specs.Buffers.{out_of, in_of}
-use Rattle.convey.specs.Agreement.{EndsLast, lasts_in}
 use Rattle.convey.specs.Conveyors.{AgreesWith}
 use Rattle.convey.specs.Due.{Wants, NextIs, next_link}
 use Rattle.convey.specs.Rest.{IsBusy}
@@ -29,33 +29,6 @@ pub record IsHalted (dims : List ℕ) (r : ℕ) (old new : State) (sent got : Lo
   pub read : (l : ℕ) → l < links dims → reader_at dims l ≡ r → hop_at dims l ≡ length dims → (in_of old l).parcel.untaken ≡ []
   pub idle : (l : ℕ) → l < links dims → reader_at dims l ≡ r → Wants old l → length (got l) ≡ length (sent l)
   pub stopped : (l : ℕ) (e : Entry) → l < links dims → reader_at dims l ≡ r → hop_at dims l < length dims → slice_get (in_of new l).parcel.untaken 0 ≡ Some e → NextIs dims r l e.tag (IsBusy sent got)
-
--- a log that begins one that ends with its last parcel, and has as many marked last, is that one
-abbrev tail_of : List Shipped → List Shipped
-tail_of [] = []
-tail_of (x ∷ xs) = xs
-
-one_last : (p : Shipped) → p.last ≡ true → lasts (p ∷ []) ≡ 1
-one_last p h = lasts_first p [] true h
-
-none_after : (got rest front : List Shipped) (final : Shipped) → got ++ rest ≡ front ++ final ∷ [] → final.last ≡ true → lasts rest ≡ 0 → length rest ≡ 0
-none_after [] rest front final e last none = absurd (omega (arith, ap lasts e, lasts-append front (final ∷ []), one_last final last))
-none_after (g ∷ gs) rest [] final e last none = omega (arith, ap length e, length-append gs rest)
-none_after (g ∷ gs) rest (f ∷ fs) final e last none = none_after gs rest fs final (ap tail_of e) last none
-
-pub all_got : (got sent : List Shipped) → Begins got sent → EndsLast sent → lasts got ≡ lasts sent → length got ≡ length sent
-all_got got sent b t e =
-    let none : lasts b.rest ≡ 0 = omega (arith, ap lasts b.is, lasts-append got b.rest) in
-    let few = none_after got b.rest t.front t.final (sym b.is ∙ t.is) t.last none in
-    omega (arith, ap length b.is, length-append got b.rest)
-
-mark_of : (c : Bool) → 0 < lasts_in 0 c → c ≡ true
-mark_of true h = refl
-mark_of false h = absurd (omega (arith, h))
-
-pub at_most : (c : Bool) → lasts_in 0 c ≤ 1
-at_most true = omega arith
-at_most false = omega arith
 
 wants_now : (x : In) → x.parcel.untaken ≡ [] → x.ended ≡ false → is_wanted x ≡ true
 wants_now x none open' = λ i. (length (none i) == 0) && not (open' i)
@@ -79,9 +52,9 @@ module _ (dims : List ℕ) (olds news : ℕ → State) (sent got : Logs) (g : Is
       let own = starting-own dims a sent l refl in
       let marks : lasts (sent l) ≡ lasts_in 0 (out_of (olds a) l).closed = ap lasts (sym own) ∙ (o.lasts ∙ ap (λ n. lasts_in n (out_of (olds a) l).closed) h.first) in
       let more = lasts_begins (got l) (sent l) (fronts l below) in
-      let most = at_most (out_of (olds a) l).closed in
+      let most = at_most 0 (out_of (olds a) l).closed in
       let same : lasts (got l) ≡ lasts (sent l) = omega (arith, marks, more, most, ended) in
-      all_got (got l) (sent l) (fronts l below) (subst EndsLast own (o.by_last (mark_of (out_of (olds a) l).closed (omega (arith, marks, more, ended))))) same
+      ap length (all_got (got l) (sent l) (fronts l below) (subst EndsLast own (o.by_last (mark_of 0 (out_of (olds a) l).closed (omega (arith, marks, more, ended))))) same)
 
   held_up : (l : ℕ) → l < links dims → IsBusy sent got l → HasNext dims l sent got
   held_up l below busy = by (in_of (olds (reader_at dims l)) l).parcel.untaken refl where

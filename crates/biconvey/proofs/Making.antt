@@ -6,6 +6,7 @@ use Rattle.list_laws.proofs.Lists.{within, get_once, get_last, get_before}
 use Rattle.hop_core.specs.declared.phase.Phase.TheVariants.{Working}
 use Rattle.convey.specs.Buffers.{in_of}
 use Rattle.round_program.specs.Talks.{Talk}
+use Rattle.rank_group.proofs.Making.{at_end, shift, first_of, none_of}
 use Rattle.biconvey.specs.States.{BiState, IsBiNode}
 use Rattle.biconvey.specs.Drives.{AreAskers, IsFresh, AreFresh, askers_of}
 
@@ -13,22 +14,6 @@ use Rattle.biconvey.specs.Drives.{AreAskers, IsFresh, AreFresh, askers_of}
 pub record Making {S : Type 0} (T : Talk S) (dims : List ℕ) (steady : Bool) (starts rest : List S) (ns : List (BiState S)) : Type 0 where
   pub left : starts ≡ askers_of ns ++ rest
   pub each : (r : ℕ) (n : BiState S) → slice_get ns r ≡ Some n → IsFresh T dims steady r n
-
-at_end : {X : Type 0} (xs ys : List X) (q : X) → slice_get (xs ++ q ∷ ys) (length xs) ≡ Some q
-at_end [] ys q = refl
-at_end (x ∷ xs) ys q = at_end xs ys q
-
-shift : {X : Type 0} (xs ys : List X) (q : X) → (xs ++ q ∷ []) ++ ys ≡ xs ++ q ∷ ys
-shift [] ys q = refl
-shift (x ∷ xs) ys q = ap (λ zs. x ∷ zs) (shift xs ys q)
-
-first_of : {X : Type 0} (xs : List X) (q : X) → slice_get xs 0 ≡ Some q → xs ≡ q ∷ drop 1 xs
-first_of [] q at = absurd (omega (arith, within [] 0 q at))
-first_of (x ∷ xs) q at = ap (λ y. y ∷ xs) (get_once (x ∷ xs) 0 x q refl at)
-
-none_of : {X : Type 0} (xs : List X) → slice_get xs 0 ≡ None → xs ≡ []
-none_of [] e = refl
-none_of (x ∷ xs) e = absurd (cc)
 
 module _ {S : Type 0} (T : Talk S) (dims : List ℕ) (steady : Bool) (starts rest : List S) (ns : List (BiState S)) (f : Making T dims steady starts rest ns) where
   -- the next asker is that of the next rank

@@ -14,7 +14,7 @@ use Rattle.link_slots.specs.Seen.{Bank, Manning, posted_on, collected_from}
 use Rattle.link_slots.specs.Shape.{shipped_all}
 use Rattle.link_slots.specs.View.{no_logs}
 use Rattle.link_slots.proofs.Opening.{no_sent, no_got}
-use Rattle.rank_group.proofs.Joining.{one_less, next_is}
+use Rattle.rank_crews.proofs.Joining.{one_less, next_is}
 use Rattle.round_program.specs.Talks.{Talk}
 use Rattle.convey.specs.Buffers.{is_complete}
 use Rattle.biconvey.specs.States.{BiState, IsBiNode}

@@ -11,6 +11,7 @@ use Rattle.hop_core.specs.Link.{In, no_in, with_first_taken}
 use Rattle.hop_core.specs.Relay.{waiting}
 use Rattle.hop_core.specs.State.{State, in_at, lowest_unread, pull_from, pulled_from, pulls}
 use Rattle.convey.specs.Conveyors.{GivesNext}
+use Rattle.rank_node.proofs.Absorbed.{fewer_from}
 use Rattle.rank_node.specs.Pulls.{NoMore}
 
 pub pulled_same : (st : State) (o : Option ℕ) → pulled_from st o ≡ record st { ins = (pulled_from st o).ins; pulled = (pulled_from st o).pulled }
@@ -32,31 +33,6 @@ drop_less (x ∷ xs) = omega arith
 pub fewer_pulled : (st : State) (o : Option ℕ) → NoMore st (pulled_from st o)
 fewer_pulled st None l = omega arith
 fewer_pulled st (Some i) l = fewer_set st.ins i (in_index st.dims l) (record (in_at st i) { parcel = with_first_taken (in_at st i).parcel }) (drop_less (in_at st i).parcel.untaken)
-
--- one that gives an item leaves one fewer
-some_first : {X : Type 0} (xs : List Entry) (f : Entry → X) (p : X) → option_map f (slice_get xs 0) ≡ Some p → 0 < length xs
-some_first [] f p is = absurd (cc)
-some_first (x ∷ xs) f p is = omega arith
-
-drop_first : {X : Type 0} (xs : List X) → 0 < length xs → length (drop 1 xs) + 1 ≡ length xs
-drop_first [] h = absurd (omega (arith, h))
-drop_first (x ∷ xs) h = omega arith
-
-below : (ins : List In) (i : ℕ) → 0 < length (get_or ins i no_in).parcel.untaken → i < length ins
-below [] i h = absurd (omega (arith, h))
-below (x ∷ xs) zero h = omega arith
-below (x ∷ xs) (suc i) h = omega (arith, below xs i h)
-
-fewer_from : (st : State) (o : Option ℕ) (p : ℕ × Item) → pull_from st o ≡ Some p → waiting (pulled_from st o).ins < waiting st.ins
-fewer_from st None p is = absurd (cc)
-fewer_from st (Some i) p is =
-    let xs = (in_at st i).parcel.untaken in
-    let f : In → ℕ = λ x. length x.parcel.untaken in
-    let y : In = record (in_at st i) { parcel = with_first_taken (in_at st i).parcel } in
-    let some : 0 < length xs = some_first xs (λ e. (sender_of st.dims e.tag (length st.dims) (neighbour st.dims st.rank i), e.item)) p is in
-    let e : sum_by f (set st.ins i y) + f (get_or st.ins i no_in) ≡ sum_by f st.ins + f y = sum_by-set f st.ins i y no_in (below st.ins i some) in
-    let less : length (drop 1 xs) + 1 ≡ length xs = drop_first xs some in
-    omega (arith, e, less)
 
 pub fewer_next : (st : State) (n from : ℕ) (x : Item) (most : ℕ) → n + waiting (pulls n st).ins ≤ most → GivesNext (pulls n st) from x → n + 1 + waiting (pulls (n + 1) st).ins ≤ most
 fewer_next st n from x most is next =

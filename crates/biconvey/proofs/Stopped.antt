@@ -15,7 +15,7 @@ use Rattle.port_bank.specs.Flow.{hop_link}
 use Rattle.hop_core.specs.declared.phase.Phase.{Phase}
 use Rattle.hop_core.specs.declared.phase.Phase.TheVariants.{Dormant, Working, Endgame, Cleanup, Complete}
 use Rattle.hop_core.specs.State.{State}
-use Rattle.convey.specs.Agreement.{Ends}
+use Rattle.list_laws.specs.Lists.{Ends}
 use Rattle.convey.specs.Arrived.{HasArrived}
 use Rattle.convey.specs.Buffers.{buffers_of, in_of, out_of}
 use Rattle.convey.specs.Conveyors.{AgreesWith, standing_toward}
@@ -23,6 +23,7 @@ use Rattle.convey.specs.Due.{Wants, IsOver, NextIs, HeldUp, next_link}
 use Rattle.convey.specs.Progress.{progress_of}
 use Rattle.convey.specs.declared.progress.Progress.TheVariants as progress
 use Rattle.convey.proofs.OneRank.{FirstLink, first_link}
+use Rattle.rank_node.proofs.Halted.{Advanced, lies_less, crowded_toward, still}
 use Rattle.biconvey.specs.Taking.{Pushes, Answers, RefusesAnswer, Hears}
 use Rattle.round_program.specs.Talks.{Talk}
 use Rattle.convey.specs.Buffers.{is_complete}
@@ -31,7 +32,7 @@ use Rattle.rank_node.specs.Movers.{AllRead}
 use Rattle.rank_node.specs.Pulls.{NoMore}
 use Rattle.rank_node.specs.Stuck.{HasCrowded}
 use Rattle.biconvey.specs.States.{BiState, Sides}
-use Rattle.biconvey.specs.Still.{IsStill, Known, IsStuck}
+use Rattle.biconvey.specs.Still.{Known, IsStuck}
 use Rattle.biconvey.proofs.Turned.{Advances}
 
 -- the phase of an advance that answers Complete
@@ -47,10 +48,6 @@ complete_is p e = ap progress_of e
 
 pub ok_once : {T E : Type 0} {a b : T} → ◌≡◌ {A = Result T E} (Ok a) (Ok b) → a ≡ b
 ok_once e = cc
-
--- an inbox has at most what it had and what came
-pub lies_less : {X : Type 0} (front more back last : List X) → Ends (front ++ more) back → length last ≤ length back → length last ≤ length front + length more
-lies_less front more back last e less = omega (arith, less, length-append front more, ap length e.is, length-append e.front back)
 
 pub lies_left : (c c1 c2 c3 : State) (got got' : Logs) → c1 ≡ record c { outs = c1.outs; pulled = c1.pulled } → NoMore c2 c3
     → ((l : ℕ) (more : List Shipped) → l < links c1.dims → reader_at c1.dims l ≡ c1.rank → got' l ≡ got l ++ more → Ends ((in_of c1 l).parcel.untaken ++ flat_map (λ p. p.entries) more) (in_of c2 l).parcel.untaken)
@@ -72,76 +69,6 @@ once ends c c1 log log' same one l b e =
     let r : c1.rank ≡ c.rank = ap (λ (t : State). t.rank) same in
     one l (subst (λ ds. l < links ds) (sym d) b) (subst (λ (ds : List ℕ). ends ds l ≡ c1.rank) (sym d) (e ∙ sym r))
 
--- what an advance says of the links, where it answered
-pub record Served (c c' : State) (cap : ℕ) (sent sent' got got' : Logs) (is_crowded is_idle : ℕ → Bool) : Type 0 where
-  pub full : (l : ℕ) → l < links c.dims → sender_at c.dims l ≡ c.rank → sent' l ≡ sent l → length (out_of c l).parcel.untaken ≡ cap → is_crowded l ≡ true
-  pub idles : (l : ℕ) → l < links c.dims → reader_at c.dims l ≡ c.rank → Wants c l → got' l ≡ got l → sent' l ≡ sent l → is_idle l ≡ true
-  pub lies : (l : ℕ) (more : List Shipped) → l < links c.dims → reader_at c.dims l ≡ c.rank → got' l ≡ got l ++ more → Ends ((in_of c l).parcel.untaken ++ flat_map (λ p. p.entries) more) (in_of c' l).parcel.untaken
-  pub closing : (l : ℕ) → l < links c.dims → sender_at c.dims l ≡ c.rank → (hop_at c.dims l ≡ 1 → c'.done ≡ true) → HasArrived (buffers_of c') l → (out_of c' l).closed ≡ false → is_crowded l ≡ true
-  pub stopped : (l : ℕ) (e : Entry) → l < links c.dims → reader_at c.dims l ≡ c.rank → hop_at c.dims l < length c.dims → slice_get (in_of c' l).parcel.untaken 0 ≡ Some e → NextIs c.dims c.rank l e.tag (HeldUp cap c' sent sent' is_crowded)
-  pub completes : IsOver c' → c'.phase ≡ Complete
-
-module _ (c c1 c2 c3 : State) (cap : ℕ) (done : Bool) (sent got sent' got' : Logs) (is_crowded is_idle : ℕ → Bool)
-    (same1 : c1 ≡ record c { outs = c1.outs; pulled = c1.pulled }) (agrees1 : AgreesWith c1 sent got) (adv : Advances c1 c2 done sent got sent' got') (served : Served c1 c2 cap sent sent' got got' is_crowded is_idle)
-    (same3 : c3 ≡ record c2 { ins = c3.ins; pulled = c3.pulled }) (fewer : NoMore c2 c3) where
-  dims1 : c1.dims ≡ c.dims
-  dims1 = ap (λ (c : State). c.dims) same1
-
-  rank1 : c1.rank ≡ c.rank
-  rank1 = ap (λ (c : State). c.rank) same1
-
-  below1 : (l : ℕ) → l < links c.dims → l < links c1.dims
-  below1 l b = subst (λ (d : List ℕ). l < links d) (sym dims1) b
-
-  sender1 : (l : ℕ) → sender_at c.dims l ≡ c.rank → sender_at c1.dims l ≡ c1.rank
-  sender1 l e = subst (λ (d : List ℕ). sender_at d l ≡ c1.rank) (sym dims1) (e ∙ sym rank1)
-
-  reader1 : (l : ℕ) → reader_at c.dims l ≡ c.rank → reader_at c1.dims l ≡ c1.rank
-  reader1 l e = subst (λ (d : List ℕ). reader_at d l ≡ c1.rank) (sym dims1) (e ∙ sym rank1)
-
-  module _ (sent_same : (l : ℕ) → sent' l ≡ sent l) where
-    -- a push was refused toward a receiver, whose first link is crowded
-    pub crowded_toward : (to : ℕ) → IsGrid c.dims → c.rank < ranks c.dims → to < ranks c1.dims → standing_toward c1 to ≡ cap → HasCrowded c.dims c.rank is_crowded
-    crowded_toward to grid own low full =
-        let grid1 : IsGrid c1.dims = subst IsGrid (sym dims1) grid in
-        let own1 : c1.rank < ranks c1.dims = subst (λ (d : List ℕ). c1.rank < ranks d) (sym dims1) (subst (λ r. r < ranks c.dims) (sym rank1) own) in
-        let first : FirstLink c1.dims c1.rank to = first_link c1.dims c1.rank to grid1 own1 low in
-        let l : ℕ = hop_link c1.dims c1.rank to 1 in
-        record {
-          link = l;
-          below = subst (λ (d : List ℕ). l < links d) dims1 first.below;
-          sender = subst (λ (d : List ℕ). sender_at d l ≡ c.rank) dims1 (first.sender ∙ rank1);
-          crowded = served.full l first.below first.sender (sent_same l) full;
-        }
-
-    pub still : (got_same : (l : ℕ) → got' l ≡ got l) → IsStill c c3 sent got sent' got' is_crowded is_idle
-    still got_same =
-        record {
-          before = c1;
-          after = c2;
-          dims_before = dims1;
-          rank_before = rank1;
-          epoch_before = ap (λ (c : State). c.epoch) same1;
-          dims_after = adv.dims;
-          rank_after = adv.rank;
-          epoch_after = adv.epoch;
-          done_after = sym (ap (λ (c : State). c.done) same3);
-          ins_before = λ l. ap (λ (c : State). (in_of c l).parcel.untaken) same1;
-          ins_after = fewer;
-          agrees_before = agrees1;
-          agrees_after = adv.agrees;
-          lies = λ l b e.
-              let rest = served.lies l [] (below1 l b) (reader1 l e) (got_same l ∙ sym (append-nil (got l))) in
-              record { front = rest.front; is = sym (append-nil (in_of c1 l).parcel.untaken) ∙ rest.is };
-          idle = λ l b e w. served.idles l (below1 l b) (reader1 l e) w (got_same l) (sent_same l);
-          stopped = λ l x b e o some.
-              let next = served.stopped l x (below1 l b) (reader1 l e) (subst (λ (d : List ℕ). hop_at d l < length d) (sym dims1) o) some in
-              subst (λ (d : List ℕ). NextIs d c.rank l x.tag (λ m. is_crowded m ≡ true)) dims1 (subst (λ r. NextIs c1.dims r l x.tag (λ m. is_crowded m ≡ true)) rank1
-              (record { below = next.below; sender = next.sender; hop = next.hop; holds = next.holds.crowded (sent_same (next_link c1.dims c1.rank (hop_at c1.dims l) x.tag)) }));
-          closing = λ l b e o a open'. served.closing l (below1 l b) (sender1 l e) (λ q. o (subst (λ (d : List ℕ). hop_at d l ≡ 1) dims1 q)) a open';
-          over = λ o. ap (λ (c : State). c.phase) same3 ∙ served.completes o;
-        }
-
 -- done asking, or a push was refused
 pub asked_or : (es : List (ℕ × Item)) (next : ℕ) (done : Bool) (P : Type 0) → done ≡ (next == length es) → next ≤ length es → ((to : ℕ) (x : Item) → slice_get es next ≡ Some (to, x) → P) → (done ≡ true) ⊎ P
 asked_or es next true P all low refused = inl refl
@@ -160,9 +87,9 @@ read_or (Some to) A P f g = inr (g to refl)
 -- a turn that moved nothing on either way
 pub stuck : {S : Type 0} (T : Talk S) (n : BiState S) (es : List (ℕ × Item)) (cap next : ℕ) (done over : Bool) (asker' : S) (lines' : List (List ℕ)) (q1 q2 q3 r1 r2 r3 : State) (refused : Option ℕ) (old new : Sides) (known : Known)
     → Pushes es cap n.next next n.queries q1 → done ≡ (next == length es) → AgreesWith q1 old.asking old.asked
-    → Advances q1 q2 done old.asking old.asked new.asking new.asked → Served q1 q2 cap old.asking new.asking old.asked new.asked known.crowded known.idle
+    → Advances q1 q2 done old.asking old.asked new.asking new.asked → Advanced q1 q2 cap old.asking new.asking old.asked new.asked known.crowded known.idle
     → Answers T n.asker q2 q3 n.replies r1 → (refused ≡ None → AllRead q3) → IfSome refused (λ to. RefusesAnswer cap to q3 r1) → AgreesWith r1 old.replying old.replied
-    → over ≡ is_complete q3.phase → Advances r1 r2 over old.replying old.replied new.replying new.replied → Served r1 r2 cap old.replying new.replying old.replied new.replied known.replies_crowded known.replies_idle
+    → over ≡ is_complete q3.phase → Advances r1 r2 over old.replying old.replied new.replying new.replied → Advanced r1 r2 cap old.replying new.replying old.replied new.replied known.replies_crowded known.replies_idle
     → Hears T n.asker asker' n.lines lines' r2 r3 → IsGrid q3.dims → q3.rank < ranks q3.dims → IsGrid r3.dims → r3.rank < ranks r3.dims
     → ((l : ℕ) → new.asking l ≡ old.asking l) → ((l : ℕ) → new.asked l ≡ old.asked l) → ((l : ℕ) → new.replying l ≡ old.replying l) → ((l : ℕ) → new.replied l ≡ old.replied l)
     → IsStuck n (record { asker = asker'; next = next; lines = lines'; queries = q3; replies = r3 }) old new known
@@ -174,14 +101,14 @@ stuck T n es cap next done over asker' lines' q1 q2 q3 r1 r2 r3 refused old new 
     let own_q : n.queries.rank < ranks n.queries.dims = subst (λ (ds : List ℕ). n.queries.rank < ranks ds) dims_q (subst (λ r. r < ranks q3.dims) rank_q own) in
     let own_r : n.replies.rank < ranks n.replies.dims = subst (λ (ds : List ℕ). n.replies.rank < ranks ds) dims_r (subst (λ r. r < ranks r3.dims) rank_r own') in
     record {
-      queries = still n.queries q1 q2 q3 cap done old.asking old.asked new.asking new.asked known.crowded known.idle push.same agrees adv served ans.same ans.fewer s1 g1;
-      replies = still n.replies r1 r2 r3 cap over old.replying old.replied new.replying new.replied known.replies_crowded known.replies_idle ans.same_replies agrees' adv' served' hears.same hears.fewer s2 g2;
+      queries = still n.queries q1 q2 q3 cap old.asking old.asked new.asking new.asked known.crowded known.idle push.same agrees adv.dims adv.rank adv.agrees served ans.same ans.fewer s1 g1;
+      replies = still n.replies r1 r2 r3 cap old.replying old.replied new.replying new.replied known.replies_crowded known.replies_idle ans.same_replies agrees' adv'.dims adv'.rank adv'.agrees served' hears.same hears.fewer s2 g2;
       asked = subst (λ b. (b ≡ true) ⊎ HasCrowded n.queries.dims n.queries.rank known.crowded) (sym (ap (λ (c : State). c.done) ans.same ∙ adv.done_is))
           (asked_or es next done (HasCrowded n.queries.dims n.queries.rank known.crowded) all push.low
           (λ to x left. let full = push.refused to x left in
-          crowded_toward n.queries q1 q2 q3 cap done old.asking old.asked new.asking new.asked known.crowded known.idle push.same agrees adv served ans.same ans.fewer s1 to (subst IsGrid dims_q grid) own_q full.0 full.1));
+          crowded_toward n.queries q1 q2 q3 cap old.asking old.asked new.asking new.asked known.crowded known.idle push.same agrees adv.dims adv.rank adv.agrees served ans.same ans.fewer s1 to (subst IsGrid dims_q grid) own_q full.0 full.1));
       answered = read_or refused (AllRead q3) (HasCrowded n.replies.dims n.replies.rank known.replies_crowded) read
           (λ to e. let full = subst (λ o. IfSome o (λ to. RefusesAnswer cap to q3 r1)) e toward in
-          crowded_toward n.replies r1 r2 r3 cap over old.replying old.replied new.replying new.replied known.replies_crowded known.replies_idle ans.same_replies agrees' adv' served' hears.same hears.fewer s2 to (subst IsGrid dims_r grid') own_r full.low full.full);
+          crowded_toward n.replies r1 r2 r3 cap old.replying old.replied new.replying new.replied known.replies_crowded known.replies_idle ans.same_replies agrees' adv'.dims adv'.rank adv'.agrees served' hears.same hears.fewer s2 to (subst IsGrid dims_r grid') own_r full.low full.full);
       done = λ e. ap (λ (c : State). c.done) hears.same ∙ (adv'.done_is ∙ (is_over ∙ ap is_complete e));
     }

@@ -17,9 +17,10 @@ use Rattle.round_program.specs.Talks.{Talk}
 use Rattle.biconvey.specs.States.{BiState, Sides, IsBiNode}
 use Rattle.biconvey.specs.Still.{IsStuck}
 use Rattle.biconvey.specs.Ranks.{HasRank, sides_at}
-use Rattle.biconvey.specs.Ways.{moves, Lawful, AfterTurn}
+use Rattle.biconvey.specs.Ways.{inbox, moves, Lawful, AfterTurn}
 use Rattle.biconvey.specs.Worlds.{AreBanks, AfterRank, PostedWithin, Rests, World, all_moves, SweptTo, sides_of, known_at}
-use Rattle.biconvey.proofs.Moving.{moves_on, sent_same, got_same, inbox_kept, way_on}
+use Rattle.rank_group.proofs.Growing.{Grows, moves_on, sent_same, got_same}
+use Rattle.biconvey.proofs.Moving.{grows, inbox_kept, way_on}
 
 lawful : (cap : ℕ) (b : Bank) (dims : List ℕ) (slots : ℕ) → IsBank cap b → b.dims ≡ dims → b.slots ≡ slots → Lawful dims cap slots (sent_of b) (got_of b)
 lawful cap b dims slots is ed es =
@@ -66,11 +67,17 @@ module _ {S : Type 0} (T : Talk S) (dims : List ℕ) (cap slots : ℕ) (steady :
   abbrev answers : BiState S → State
   answers x = x.replies
 
+  grows_q : Grows dims r s.asking s.asked s'.asking s'.asked (inbox dims (map asks ns)) (inbox dims (map asks ns'))
+  grows_q = grows dims cap slots steady r n.queries n'.queries (map asks ns) (map asks ns') s.asking s.asked s'.asking s'.asked w.queries (get_map asks ns r n at) (get_map asks ns' r n' at') (others_in asks) (long_in asks) t.queries lq
+
+  grows_r : Grows dims r s.replying s.replied s'.replying s'.replied (inbox dims (map answers ns)) (inbox dims (map answers ns'))
+  grows_r = grows dims cap slots steady r n.replies n'.replies (map answers ns) (map answers ns') s.replying s.replied s'.replying s'.replied w.replies (get_map answers ns r n at) (get_map answers ns' r n' at') (others_in answers) (long_in answers) t.replies lr
+
   more_q : moves dims (map asks ns) s.asking s.asked ≤ moves dims (map asks ns') s'.asking s'.asked
-  more_q = moves_on dims cap slots steady r n.queries n'.queries (map asks ns) (map asks ns') s.asking s.asked s'.asking s'.asked w.queries (get_map asks ns r n at) (get_map asks ns' r n' at') (others_in asks) (long_in asks) t.queries lq
+  more_q = moves_on dims r s.asking s.asked s'.asking s'.asked (inbox dims (map asks ns)) (inbox dims (map asks ns')) grows_q
 
   more_r : moves dims (map answers ns) s.replying s.replied ≤ moves dims (map answers ns') s'.replying s'.replied
-  more_r = moves_on dims cap slots steady r n.replies n'.replies (map answers ns) (map answers ns') s.replying s.replied s'.replying s'.replied w.replies (get_map answers ns r n at) (get_map answers ns' r n' at') (others_in answers) (long_in answers) t.replies lr
+  more_r = moves_on dims r s.replying s.replied s'.replying s'.replied (inbox dims (map answers ns)) (inbox dims (map answers ns')) grows_r
 
   pub all_on : all_moves dims ns s ≤ all_moves dims ns' s'
   all_on = let a = more_q in let b = more_r in omega (arith, a, b)
@@ -84,10 +91,10 @@ module _ {S : Type 0} (T : Talk S) (dims : List ℕ) (cap slots : ℕ) (steady :
   -- where nothing moved the lists are as before
   pub same_sides : all_moves dims ns' s' ≤ all_moves dims ns s → s' ≡ s
   same_sides light =
-      let a = sent_same dims cap slots steady r n.queries n'.queries (map asks ns) (map asks ns') s.asking s.asked s'.asking s'.asked w.queries (get_map asks ns r n at) (get_map asks ns' r n' at') (others_in asks) (long_in asks) t.queries lq (light_q light) in
-      let b = got_same dims cap slots steady r n.queries n'.queries (map asks ns) (map asks ns') s.asking s.asked s'.asking s'.asked w.queries (get_map asks ns r n at) (get_map asks ns' r n' at') (others_in asks) (long_in asks) t.queries lq (light_q light) in
-      let c = sent_same dims cap slots steady r n.replies n'.replies (map answers ns) (map answers ns') s.replying s.replied s'.replying s'.replied w.replies (get_map answers ns r n at) (get_map answers ns' r n' at') (others_in answers) (long_in answers) t.replies lr (light_r light) in
-      let d = got_same dims cap slots steady r n.replies n'.replies (map answers ns) (map answers ns') s.replying s.replied s'.replying s'.replied w.replies (get_map answers ns r n at) (get_map answers ns' r n' at') (others_in answers) (long_in answers) t.replies lr (light_r light) in
+      let a = sent_same dims r s.asking s.asked s'.asking s'.asked (inbox dims (map asks ns)) (inbox dims (map asks ns')) grows_q (light_q light) in
+      let b = got_same dims r s.asking s.asked s'.asking s'.asked (inbox dims (map asks ns)) (inbox dims (map asks ns')) grows_q (light_q light) in
+      let c = sent_same dims r s.replying s.replied s'.replying s'.replied (inbox dims (map answers ns)) (inbox dims (map answers ns')) grows_r (light_r light) in
+      let d = got_same dims r s.replying s.replied s'.replying s'.replied (inbox dims (map answers ns)) (inbox dims (map answers ns')) grows_r (light_r light) in
       λ i. record { asking = a i; asked = b i; replying = c i; replied = d i }
 
   -- all ranks after the turn

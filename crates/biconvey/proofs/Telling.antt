@@ -6,17 +6,14 @@ use Rattle.item_buffer.specs.Contents.{Shipped}
 use Rattle.route_tensor.specs.Grid.{ranks, IsGrid}
 use Rattle.route_tensor.specs.Link.{links}
 use Rattle.route_tensor.specs.Ends.{sender_at, reader_at}
-use Rattle.port_bank.specs.Logs.{Logs, lasts, segment, starting_at, ending_at}
+use Rattle.port_bank.specs.Logs.{Logs, lasts, segment, starting_at, ending_at, EndsLast, lasts_in}
 use Rattle.port_bank.specs.Flow.{hop_link, flow, items_of}
 use Rattle.port_bank.specs.Link.{LinkLaw}
 use Rattle.port_bank.specs.Round.{Round, IsRound, CloseLaw, logs_of, pushed, pulled}
 use Rattle.port_bank.specs.Shapes.{IsConveyorShape}
-use Rattle.port_bank.proofs.Posts.{segment_then}
 use Rattle.port_bank.proofs.Routes.{numbered}
-use Rattle.port_bank.proofs.Segments.{lasts-append, lasts_first}
 use Rattle.route_tensor.specs.Pair.{belongs}
 use Rattle.hop_core.specs.State.{State}
-use Rattle.convey.specs.Agreement.{EndsLast, lasts_in}
 use Rattle.convey.specs.Buffers.{buffers_of, out_of, in_of, is_complete}
 use Rattle.convey.specs.Conveyors.{AgreesWith}
 use Rattle.convey.specs.Law.{IsSound}
@@ -24,23 +21,7 @@ use Rattle.convey.specs.Parts.{part_of, pushed_to}
 use Rattle.convey.proofs.OneRank.{OneRank, one_rank_of, first_link, last_link, starting-own, ending-own}
 use Rattle.rank_group.specs.Told.{Made}
 use Rattle.biconvey.specs.Drives.{TellsWay}
-use Rattle.biconvey.proofs.Moving.{begins_whole}
-use Rattle.biconvey.proofs.Halting.{all_got}
-
--- past its last epoch a link has no segment
-segment_past : (log : List Shipped) (n : ℕ) → lasts log < n → segment n log ≡ []
-segment_past [] zero h = refl
-segment_past [] (suc n) h = refl
-segment_past (q ∷ log) zero h = absurd (omega (arith, h))
-segment_past (q ∷ log) (suc n) h = elim (cases_Bool q.last) [
-  | inl t ↦ ap (λ c. cond c (segment n log) (segment (suc n) log)) t ∙ segment_past log n (omega (arith, h, lasts_first q log true t))
-  | inr f ↦ ap (λ c. cond c (segment n log) (segment (suc n) log)) f ∙ segment_past log (suc n) (omega (arith, h, lasts_first q log false f))
-]
-
-none_after : (e : ℕ) (log : List Shipped) → EndsLast log → lasts log ≤ e → segment e log ≡ []
-none_after e log ends low =
-    let n : lasts log ≡ lasts ends.front + 1 = omega (arith, ap lasts ends.is, lasts-append ends.front (ends.final ∷ []), lasts_first ends.final [] true ends.last) in
-    ap (segment e) ends.is ∙ (segment_then e ends.front ends.final (λ same. omega (arith, same, n, low)) ∙ segment_past ends.front e (omega (arith, n, low)))
+use Rattle.port_bank.proofs.Marks.{none_after, all_got}
 
 -- a conveyor that is complete in its first epoch
 pub record IsDone (dims : List ℕ) (r : ℕ) (c : State) (sent got : Logs) : Type 0 where
@@ -96,10 +77,7 @@ module _ (round : Round) (cap slots : ℕ) (steady : Bool) (cs : ℕ → State) 
       sym (ap lasts own) ∙ (i.lasts ∙ (ap (λ e. lasts_in e (in_of (cs r) l).ended) t.first ∙ ap (lasts_in 0) ended))
 
   collected : (l : ℕ) → l < links dims → got l ≡ sent l
-  collected l below =
-      let o = out l below in
-      let e = all_got (got l) (sent l) (keep l below).begins o.by_last (got_all l below ∙ sym o.ended) in
-      sym (begins_whole (got l) (sent l) (keep l below).begins (omega (arith, e)))
+  collected l below = let o = out l below in all_got (got l) (sent l) (keep l below).begins o.by_last (got_all l below ∙ sym o.ended)
 
   -- what a rank pushed is what it sent on hop 1
   pushed_part : (s d : ℕ) → s < ranks dims → d < ranks dims → pushed round 0 s d ≡ (part_of (buffers_of (cs s)) (starting_at dims s sent) (ending_at dims s got)).pushed 0 d

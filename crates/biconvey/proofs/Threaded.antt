@@ -18,7 +18,7 @@ use Rattle.link_slots.specs.Seen.{Bank, Manning, posted_on, collected_from}
 use Rattle.link_slots.specs.Shape.{Shape}
 use Rattle.convey.specs.Law.{ClosesLaw}
 use Rattle.convey.proofs.OneRank.{starting-own}
-use Rattle.rank_group.specs.Runs.{AllRan}
+use Rattle.rank_crews.specs.Runs.{AllRan}
 use Rattle.rank_group.specs.Told.{Made}
 use Rattle.round_program.specs.Talks.{Talk, TalkLaws}
 use Rattle.round_program.specs.Replies.{HaveHeard}

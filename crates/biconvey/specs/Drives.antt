@@ -3,10 +3,9 @@ use Rattle.std.specs.Prelude.{◌≡◌, ℕ, ◌<◌, Bool, List, [], length, m
 use Rattle.bale_types.specs.declared.item.Item.{Item}
 use Rattle.route_tensor.specs.Grid.{ranks}
 use Rattle.route_tensor.specs.Link.{links}
-use Rattle.port_bank.specs.Logs.{lasts}
+use Rattle.port_bank.specs.Logs.{lasts, EndsLast}
 use Rattle.port_bank.specs.Round.{Round, IsRound, logs_of, pushed, pulled}
 use Rattle.port_bank.specs.Shapes.{IsConveyorShape}
-use Rattle.convey.specs.Agreement.{EndsLast}
 use Rattle.hop_core.specs.declared.phase.Phase.TheVariants.{Working}
 use Rattle.convey.specs.Buffers.{in_of}
 use Rattle.rank_group.specs.Told.{Made}

@@ -14,14 +14,7 @@ use Rattle.convey.specs.Conveyors.{AgreesWith, KeepsAgreement, IsStepOf, standin
 use Rattle.convey.specs.Parts.{part_of}
 use Rattle.round_program.specs.Talks.{Talk, SameTalk}
 use Rattle.round_program.specs.Replies.{carrying, answers, heard_by, places_to}
-use Rattle.rank_node.specs.Runs.{IsPushed}
-use Rattle.rank_node.specs.Pulls.{NoMore}
-
--- After pushes more of the items are pushed, and nothing else has changed.
-pub record PushedOn (items : List (ℕ × Item)) (p next next' : ℕ) (part part' : Part) : Type 0 where
-  pub epoch : part'.epoch ≡ part.epoch
-  pub pulled : part'.pulled ≡ part.pulled
-  pub pushed : IsPushed items p next part → IsPushed items p next' part'
+use Rattle.rank_node.specs.Pulls.{PushedOn, NoMore}
 
 -- Pushes of the items from number `from` on, until one is refused or all are pushed.
 -- refused: the open parcel toward the receiver of the first item that is left is full.

@@ -9,7 +9,8 @@ ghost use Rattle.convey.specs.Buffers.{buffers_of};
 ghost use Rattle.convey.specs.Conveyors.{AgreesWith, KeepsAgreement, standing_toward};
 ghost use Rattle.convey.specs.Parts.{part_of};
 ghost use Rattle.round_program.specs.Replies.{asks_of};
-ghost use Rattle.biconvey.specs.Taking.{PushedOn, Pushes};
+ghost use Rattle.rank_node.specs.Pulls.{PushedOn};
+ghost use Rattle.biconvey.specs.Taking.{Pushes};
 
 use bale_types::Item;
 use convey::{Conveyor, Phase, Pushed};

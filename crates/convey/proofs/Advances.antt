@@ -10,7 +10,7 @@ use Rattle.route_tensor.specs.Tag.{IsFair}
 use Rattle.route_tensor.specs.Neighbour.{out_index, in_index}
 use Rattle.port_bank.specs.declared.port.Port.{Ghosts}
 use Rattle.port_bank.specs.Calls.{once_more_if}
-use Rattle.port_bank.specs.Logs.{Logs}
+use Rattle.port_bank.specs.Logs.{Logs, lasts_in}
 use Rattle.port_bank.specs.Shapes.{IsFilled, IsConveyorShape}
 use Rattle.port_bank.specs.Flow.{hop_link}
 use Rattle.route_tensor.specs.Pair.{belongs}
@@ -25,7 +25,7 @@ use Rattle.convey.specs.declared.progress.Progress.TheVariants.{Complete as Whol
 use Rattle.hop_core.specs.State.{State, phase_of}
 use Rattle.port_bank.specs.Machine.{Part, IsOwnStep}
 use Rattle.convey.specs.Buffers.{out_of, in_of, is_complete, back_of, buffers_of}
-use Rattle.convey.specs.Agreement.{lasts_in, items_among, with_back, Agrees}
+use Rattle.convey.specs.Agreement.{items_among, with_back, Agrees}
 use Rattle.convey.specs.Due.{IsOver, HeldUp}
 use Rattle.convey.specs.Parts.{part_of}
 use Rattle.convey.specs.Progress.{advance_step, progress_of}

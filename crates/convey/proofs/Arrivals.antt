@@ -11,13 +11,13 @@ use Rattle.route_tensor.specs.Grid.{ranks, IsGrid}
 use Rattle.route_tensor.specs.Tag.{IsFair}
 use Rattle.route_tensor.specs.Link.{links}
 use Rattle.route_tensor.specs.Ends.{hop_at, sender_at, reader_at}
-use Rattle.port_bank.specs.Logs.{Logs, lasts, segment, added}
+use Rattle.port_bank.specs.Logs.{Logs, lasts, segment, added, lasts_in}
 use Rattle.port_bank.specs.Flow.{hop_link, flow}
 use Rattle.route_tensor.specs.Pair.{belongs, PassesThrough}
-use Rattle.list_laws.specs.Lists.{Begins}
+use Rattle.list_laws.specs.Lists.{Begins, Ends}
 use Rattle.port_bank.proofs.Kept.{added-here, added-other, added_grows, between, law_got_more}
 use Rattle.convey.specs.Buffers.{Buffers}
-use Rattle.convey.specs.Agreement.{Ends, lasts_in, InAgrees, items_among, with_back, Agrees}
+use Rattle.convey.specs.Agreement.{InAgrees, items_among, with_back, Agrees}
 use Rattle.convey.specs.Parts.{pushed_to, pulled_of, part_of}
 use Rattle.convey.proofs.Flows.{flow_here, flow_elsewhere, flow_at_other_epoch, segment_grown, entries_grown}
 use Rattle.convey.proofs.PostLaw.{lasts_added, open_lasts}

@@ -7,20 +7,17 @@ use Rattle.std.proofs.lemmas.List.Elements.{filter-append}
 use Rattle.std.proofs.lemmas.List.Concat.{flat_map-append}
 use Rattle.bale_types.specs.declared.item.Entry.{Entry}
 use Rattle.item_buffer.specs.Contents.{Shipped}
-use Rattle.port_bank.specs.Logs.{Logs, lasts, segment, added}
+use Rattle.port_bank.specs.Logs.{Logs, lasts, segment, added, EndsLast}
 use Rattle.port_bank.specs.Flow.{hop_link, items_of, flow}
 use Rattle.route_tensor.specs.Pair.{belongs}
-use Rattle.port_bank.proofs.Segments.{lasts-append}
+use Rattle.port_bank.proofs.Posts.{segment_then}
+use Rattle.port_bank.proofs.Segments.{lasts_first}
 use Rattle.port_bank.proofs.Kept.{added-here, added-other, flow_at}
-use Rattle.convey.specs.Agreement.{EndsLast, items_among}
+use Rattle.convey.specs.Agreement.{items_among}
 
 -- counts and segments by the mark of the first parcel
-lasts_at : (p : Shipped) (ps : List Shipped) (b : Bool) → p.last ≡ b → lasts (p ∷ ps) ≡ cond b (suc (lasts ps)) (lasts ps)
-lasts_at p ps b e = ap (λ c. length (cond c (p ∷ filter (λ q. q.last) ps) (filter (λ q. q.last) ps))) e
-    ∙ elim b as (λ c. length (cond c (p ∷ filter (λ q. q.last) ps) (filter (λ q. q.last) ps)) ≡ cond c (suc (lasts ps)) (lasts ps)) [ true ↦ refl | false ↦ refl ]
-
 pub lasts_one : (p : Shipped) (b : Bool) → p.last ≡ b → lasts (p ∷ []) ≡ cond b 1 0
-lasts_one p b e = lasts_at p [] b e
+lasts_one p b e = lasts_first p [] b e
 
 segment_zero : (p : Shipped) (ps : List Shipped) (b : Bool) → p.last ≡ b → segment 0 (p ∷ ps) ≡ p ∷ cond b [] (segment 0 ps)
 segment_zero p ps b e = ap (λ c. p ∷ cond c [] (segment 0 ps)) e
@@ -43,43 +40,10 @@ pub segment_grown : (log : List Shipped) (p : Shipped) → segment (lasts log) (
 segment_grown [] p = elim p.last as (λ c. p ∷ cond c [] [] ≡ p ∷ []) [ true ↦ refl | false ↦ refl ]
 segment_grown (q ∷ log) p =
     let by_mark : (b : Bool) → q.last ≡ b → segment (lasts (q ∷ log)) (q ∷ (log ++ p ∷ [])) ≡ segment (lasts (q ∷ log)) (q ∷ log) ++ p ∷ [] = elim [
-      | true ↦ λ e. marked (lasts (q ∷ log)) (lasts log) q p (log ++ p ∷ []) log (lasts_at q log true e) e (segment_grown log p)
-      | false ↦ λ e. subst (λ n. segment n (q ∷ (log ++ p ∷ [])) ≡ segment n (q ∷ log) ++ p ∷ []) (sym (lasts_at q log false e)) (unmarked (lasts log) q p (log ++ p ∷ []) log e (segment_grown log p))
+      | true ↦ λ e. marked (lasts (q ∷ log)) (lasts log) q p (log ++ p ∷ []) log (lasts_first q log true e) e (segment_grown log p)
+      | false ↦ λ e. subst (λ n. segment n (q ∷ (log ++ p ∷ [])) ≡ segment n (q ∷ log) ++ p ∷ []) (sym (lasts_first q log false e)) (unmarked (lasts log) q p (log ++ p ∷ []) log e (segment_grown log p))
     ] in
     by_mark q.last refl
-
--- the others don't
-step_other : (n : ℕ) (q : Shipped) (xs ys : List Shipped) (b : Bool) → q.last ≡ b → (b ≡ false → segment n xs ≡ segment n ys) → ((m : ℕ) → b ≡ true → n ≡ suc m → segment m xs ≡ segment m ys)
-    → segment n (q ∷ xs) ≡ segment n (q ∷ ys)
-step_other zero q xs ys true e f g = segment_zero q xs true e ∙ sym (segment_zero q ys true e)
-step_other zero q xs ys false e f g = segment_zero q xs false e ∙ (ap (λ u. q ∷ u) (f refl) ∙ sym (segment_zero q ys false e))
-step_other (suc n) q xs ys true e f g = segment_later n q xs true e ∙ (g n refl refl ∙ sym (segment_later n q ys true e))
-step_other (suc n) q xs ys false e f g = segment_later n q xs false e ∙ (f refl ∙ sym (segment_later n q ys false e))
-
-pub segment_other : (n : ℕ) (log : List Shipped) (p : Shipped) → n ≢ lasts log → segment n (log ++ p ∷ []) ≡ segment n log
-segment_other zero [] p ne = absurd (ne refl)
-segment_other (suc n) [] p ne = elim p.last as (λ c. cond c (segment n []) (segment (suc n) []) ≡ []) [ true ↦ refl | false ↦ refl ]
-segment_other n (q ∷ log) p ne =
-    step_other n q (log ++ p ∷ []) log q.last refl
-    (λ e. segment_other n log p (λ f. ne (f ∙ sym (lasts_at q log false e))))
-    (λ m e s. segment_other m log p (λ f. ne (s ∙ (ap suc f ∙ sym (lasts_at q log true e)))))
-
--- past the open segment there is nothing
-past_step : (n k : ℕ) (q : Shipped) (log : List Shipped) (b : Bool) → q.last ≡ b → k ≡ cond b (suc (lasts log)) (lasts log) → k < n → ((m : ℕ) → lasts log < m → segment m log ≡ []) → segment n (q ∷ log) ≡ []
-past_step zero k q log b e s h f = absurd (omega arith)
-past_step (suc n) k q log true e s h f = segment_later n q log true e ∙ f n (omega arith)
-past_step (suc n) k q log false e s h f = segment_later n q log false e ∙ f (suc n) (omega arith)
-
-pub segment_past : (log : List Shipped) (n : ℕ) → lasts log < n → segment n log ≡ []
-segment_past [] n h = refl
-segment_past (q ∷ log) n h = past_step n (lasts (q ∷ log)) q log q.last refl (lasts_at q log q.last refl) h (segment_past log)
-
--- nor in it, just after a parcel marked last
-pub segment_new : (log : List Shipped) → EndsLast log → segment (lasts log) log ≡ []
-segment_new log h =
-    let n : ℕ = lasts log in
-    let count : n ≡ lasts h.front + 1 = ap lasts h.is ∙ (lasts-append h.front (h.final ∷ []) ∙ ap (λ m. lasts h.front + m) (lasts_one h.final true h.last)) in
-    ap (segment n) h.is ∙ (segment_other n h.front h.final (λ e. omega arith) ∙ segment_past h.front n (omega arith))
 
 -- items of joined lists
 pub items_among-append : (keep : Entry → Bool) (xs ys : List Entry) → items_among keep (xs ++ ys) ≡ items_among keep xs ++ items_among keep ys
@@ -113,7 +77,7 @@ module _ (dims : List ℕ) (logs : Logs) (l : ℕ) (p : Shipped) (s d h : ℕ) w
             let keep = belongs dims s d h in
             ap (λ m. items_of keep (segment e (added logs l p m))) same
             ∙ (ap (λ log. items_of keep (segment e log)) (added-here logs l p)
-            ∙ (ap (items_of keep) (segment_other e (logs l) p ne)
+            ∙ (ap (items_of keep) (segment_then e (logs l) p ne)
             ∙ ap (λ m. items_of keep (segment e (logs m))) (sym same)))
         | inr other ↦ flow_elsewhere e other
       ]

@@ -11,7 +11,7 @@ use Rattle.route_tensor.specs.Ends.{hop_at, sender_at, reader_at}
 use Rattle.route_tensor.specs.Neighbour.{out_index, in_index}
 use Rattle.port_bank.specs.Logs.{Logs}
 use Rattle.port_bank.specs.Flow.{hop_link}
-use Rattle.list_laws.specs.Lists.{Begins}
+use Rattle.list_laws.specs.Lists.{Begins, Ends}
 use Rattle.port_bank.proofs.Fronts.{begins_refl}
 use Rattle.bale_types.specs.Stream.{RoseOrFull}
 use Rattle.hop_core.specs.declared.phase.Phase.TheVariants.{Complete}
@@ -19,7 +19,7 @@ use Rattle.hop_core.specs.Link.{Out, no_out, no_in}
 use Rattle.hop_core.specs.State.{State, phase_of}
 use Rattle.hop_core.specs.Standing.{IsState}
 use Rattle.convey.specs.Buffers.{out_of, in_of, is_complete, buffers_of}
-use Rattle.convey.specs.Agreement.{Ends, Agrees}
+use Rattle.convey.specs.Agreement.{Agrees}
 use Rattle.convey.specs.Due.{Wants, IsOver, WasServed, NextIs, SentFull, WasFull, HeldUp, IsBlocked}
 use Rattle.convey.specs.Parts.{part_of}
 use Rattle.convey.specs.Way.{IsReady, GoesOn, PassedOn, WasAsked, WasPosted, MovesOn, HasServed, at_rest}

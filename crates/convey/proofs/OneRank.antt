@@ -7,7 +7,7 @@ use Rattle.route_tensor.specs.Grid.{ranks, IsGrid}
 use Rattle.route_tensor.specs.Link.{links}
 use Rattle.route_tensor.proofs.Places.{place-zero, place-all}
 use Rattle.route_tensor.specs.Ends.{hop_at, sender_at, reader_at}
-use Rattle.port_bank.specs.Logs.{Logs, lasts, starting_at, ending_at}
+use Rattle.port_bank.specs.Logs.{Logs, lasts, starting_at, ending_at, lasts_in}
 use Rattle.port_bank.specs.Flow.{hop_link, flow}
 use Rattle.route_tensor.specs.Pair.{belongs}
 use Rattle.list_laws.specs.Lists.{Begins}
@@ -17,7 +17,7 @@ use Rattle.port_bank.proofs.Kept.{flow_at, law_own}
 use Rattle.port_bank.proofs.Routes.{hop-on_route, sender-on_route, reader-on_route, link-on_route}
 use Rattle.port_bank.specs.Machine.{IsThrough}
 use Rattle.convey.specs.Buffers.{Buffers}
-use Rattle.convey.specs.Agreement.{lasts_in, items_among, Agrees}
+use Rattle.convey.specs.Agreement.{items_among, Agrees}
 use Rattle.convey.specs.Parts.{pushed_to, unread_of, pulled_of, part_of}
 use Rattle.convey.specs.Law.{IsSound}
 

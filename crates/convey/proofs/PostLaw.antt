@@ -10,7 +10,7 @@ use Rattle.route_tensor.specs.Grid.{IsGrid}
 use Rattle.route_tensor.specs.Tag.{IsFair}
 use Rattle.route_tensor.specs.Link.{links}
 use Rattle.route_tensor.specs.Ends.{hop_at, sender_at, reader_at}
-use Rattle.port_bank.specs.Logs.{Logs, lasts, added}
+use Rattle.port_bank.specs.Logs.{Logs, lasts, added, lasts_in}
 use Rattle.port_bank.specs.Flow.{hop_link, flow}
 use Rattle.route_tensor.specs.Pair.{belongs, PassesThrough}
 use Rattle.list_laws.specs.Lists.{Begins}
@@ -18,7 +18,7 @@ use Rattle.port_bank.specs.Relay.{HasFairTags, RelayLaw}
 use Rattle.port_bank.proofs.Segments.{lasts-append}
 use Rattle.port_bank.proofs.Kept.{added-here, added-other, between}
 use Rattle.convey.specs.Buffers.{Buffers}
-use Rattle.convey.specs.Agreement.{lasts_in, items_among, Agrees}
+use Rattle.convey.specs.Agreement.{items_among, Agrees}
 use Rattle.convey.specs.Arrived.{HasArrived}
 use Rattle.convey.proofs.Flows.{lasts_one, flow_here, flow_elsewhere, flow_at_other_epoch}
 

@@ -8,13 +8,15 @@ use Rattle.route_tensor.specs.Grid.{ranks, IsGrid}
 use Rattle.route_tensor.specs.Link.{links}
 use Rattle.route_tensor.specs.Ends.{hop_at, sender_at, reader_at}
 use Rattle.route_tensor.proofs.Ends.{number_ends}
-use Rattle.port_bank.specs.Logs.{Logs, lasts, starting_at, ending_at}
-use Rattle.list_laws.specs.Lists.{Begins}
-use Rattle.port_bank.proofs.Segments.{lasts_begins, lasts-append, lasts_first}
+use Rattle.port_bank.specs.Logs.{Logs, lasts, starting_at, ending_at, EndsLast, lasts_in}
+use Rattle.list_laws.specs.Lists.{Begins, Ends}
+use Rattle.port_bank.proofs.Fronts.{begins_whole}
+use Rattle.port_bank.proofs.Segments.{lasts_begins}
+use Rattle.port_bank.proofs.Marks.{all_got, mark_of, at_least, at_most}
 use Rattle.hop_core.specs.Link.{In, is_wanted}
 use Rattle.hop_core.specs.State.{State}
 use Rattle.convey.specs.Buffers.{out_of, in_of, buffers_of}
-use Rattle.convey.specs.Agreement.{EndsLast, Ends, lasts_in, Agrees}
+use Rattle.convey.specs.Agreement.{Agrees}
 use Rattle.convey.specs.Arrived.{HasArrived}
 use Rattle.convey.specs.Due.{Wants, IsOver}
 use Rattle.convey.specs.Rest.{IsBusy, HasBusy, IsAtRest, IsRestingSweep}
@@ -44,47 +46,6 @@ pub record IsQuiet (dims : List ℕ) (r e : ℕ) (old new : State) (sent got : L
 pub record IsBeyond (dims : List ℕ) (r e : ℕ) (sent got : Logs) : Type 0 where
   pub sent_past : (l : ℕ) → l < links dims → sender_at dims l ≡ r → e < lasts (sent l)
   pub got_past : (l : ℕ) → l < links dims → reader_at dims l ≡ r → e < lasts (got l)
-
--- a log that begins another of the same length, or that has all its parcels marked last
-none_left : (xs : List Shipped) → length xs ≡ 0 → xs ≡ []
-none_left [] h = refl
-none_left (x ∷ xs) h = absurd (omega arith)
-
-same_length : (got sent : List Shipped) → Begins got sent → length got ≡ length sent → sent ≡ got
-same_length got sent b e =
-    let n : length b.rest ≡ 0 = omega (arith, ap length b.is, length-append got b.rest) in
-    b.is ∙ (ap (λ r. got ++ r) (none_left b.rest n) ∙ append-nil got)
-
-abbrev tail_of : List Shipped → List Shipped
-tail_of [] = []
-tail_of (x ∷ xs) = xs
-
-one_last : (p : Shipped) → p.last ≡ true → lasts (p ∷ []) ≡ 1
-one_last p h = lasts_first p [] true h
-
-none_after : (got rest front : List Shipped) (final : Shipped) → got ++ rest ≡ front ++ final ∷ [] → final.last ≡ true → lasts rest ≡ 0 → length rest ≡ 0
-none_after [] rest front final e last none = absurd (omega (arith, ap lasts e, lasts-append front (final ∷ []), one_last final last))
-none_after (g ∷ gs) rest [] final e last none = omega (arith, ap length e, length-append gs rest)
-none_after (g ∷ gs) rest (f ∷ fs) final e last none = none_after gs rest fs final (ap tail_of e) last none
-
-all_got : (got sent : List Shipped) → Begins got sent → EndsLast sent → lasts got ≡ lasts sent → length got ≡ length sent
-all_got got sent b t e =
-    let none : lasts b.rest ≡ 0 = omega (arith, ap lasts b.is, lasts-append got b.rest) in
-    let few = none_after got b.rest t.front t.final (sym b.is ∙ t.is) t.last none in
-    omega (arith, ap length b.is, length-append got b.rest)
-
--- what an epoch's marks say
-mark_of : (e : ℕ) (c : Bool) → e < lasts_in e c → c ≡ true
-mark_of e true h = refl
-mark_of e false h = absurd (omega arith)
-
-at_least : (n : ℕ) (c : Bool) → n ≤ lasts_in n c
-at_least n true = omega arith
-at_least n false = omega arith
-
-at_most : (e : ℕ) (c : Bool) → lasts_in e c ≤ e + 1
-at_most e true = omega arith
-at_most e false = omega arith
 
 pub beyond : (dims : List ℕ) (r e : ℕ) (st : State) (sent got : Logs) → st.dims ≡ dims → st.rank ≡ r → e < st.epoch → Agrees (buffers_of st) (starting_at dims r sent) (ending_at dims r got) → IsBeyond dims r e sent got
 beyond dims r e st sent got d own later a = record {
@@ -171,7 +132,7 @@ module _ (dims : List ℕ) (e : ℕ) (old new : ℕ → State) (sent got : Logs)
       let more = lasts_begins (got l) (sent l) (fronts l h) in
       let same : lasts (got l) ≡ lasts (sent l) = omega arith in
       let closed : (out_of (new a) l).closed ≡ true = mark_of e (out_of (new a) l).closed (omega arith) in
-      all_got (got l) (sent l) (fronts l h) (sent_last dims a e (old a) (new a) sent got k l h refl closed) same
+      ap length (all_got (got l) (sent l) (fronts l h) (sent_last dims a e (old a) (new a) sent got k l h refl closed) same)
 
   -- a link with parcels on their way is held up by one of the next hop, from a rank of the same epoch
   held_up : (l : ℕ) → l < links dims → Quiet (sender_at dims l) → IsBusy sent got l → Quiet (reader_at dims l) × HasNext dims (reader_at dims l) l (IsBusy sent got)
@@ -219,7 +180,7 @@ module _ (dims : List ℕ) (e : ℕ) (old new : ℕ → State) (sent got : Logs)
         | inl t ↦ (
           elim t.1 [
             | inl ended ↦ mark_of e (in_of (new r) l).ended (omega arith)
-            | inr all ↦ mark_of e (in_of (new r) l).ended (let same = ap lasts (same_length (got l) (sent l) (fronts l h) all) in omega arith)
+            | inr all ↦ mark_of e (in_of (new r) l).ended (let same = ap lasts (begins_whole (got l) (sent l) (fronts l h) (omega (arith, all))) in omega arith)
           ],
           t.0,
         )

@@ -12,7 +12,7 @@ use Rattle.route_tensor.proofs.Coordinates.{coord-place_low, coord-place_high}
 use Rattle.port_bank.specs.Logs.{Logs}
 use Rattle.port_bank.specs.Flow.{hop_link}
 use Rattle.route_tensor.specs.Pair.{belongs, PassesThrough}
-use Rattle.list_laws.specs.Lists.{Begins}
+use Rattle.list_laws.specs.Lists.{Begins, Ends}
 use Rattle.port_bank.proofs.Fronts.{begins_refl, begins_trans}
 use Rattle.port_bank.proofs.Kept.{between}
 use Rattle.port_bank.proofs.Routes.{hop-on_route, sender-on_route, reader-on_route}
@@ -21,7 +21,7 @@ use Rattle.hop_core.specs.State.{State}
 use Rattle.hop_core.specs.Standing.{IsState}
 use Rattle.hop_core.specs.Relay.{way_in, way_out, held, AddsToHop, TakesFromHop}
 use Rattle.convey.specs.Buffers.{Buffers, out_of, in_of, buffers_of}
-use Rattle.convey.specs.Agreement.{Ends, items_among, Agrees}
+use Rattle.convey.specs.Agreement.{items_among, Agrees}
 use Rattle.convey.specs.Parts.{part_of}
 use Rattle.convey.specs.Way.{IsReady, PassedOn, at_rest}
 use Rattle.convey.proofs.Moves.{forget_agrees}

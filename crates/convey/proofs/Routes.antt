@@ -10,12 +10,12 @@ use Rattle.route_tensor.proofs.Places.{coord-place, place-all}
 use Rattle.route_tensor.proofs.Tags.{pair_route, tag_rank_below}
 use Rattle.route_tensor.specs.Ends.{hop_at, sender_at, reader_at}
 use Rattle.route_tensor.proofs.Ends.{number_ends}
-use Rattle.port_bank.specs.Logs.{Logs, lasts}
+use Rattle.port_bank.specs.Logs.{Logs, lasts, lasts_in}
 use Rattle.port_bank.specs.Flow.{hop_link}
 use Rattle.port_bank.proofs.Segments.{lasts_begins}
 use Rattle.port_bank.proofs.Routes.{hop-on_route, sender-on_route, reader-on_route, link-on_route}
 use Rattle.convey.specs.Buffers.{Buffers}
-use Rattle.convey.specs.Agreement.{lasts_in, Agrees}
+use Rattle.convey.specs.Agreement.{Agrees}
 use Rattle.convey.specs.Law.{IsLastIn}
 
 -- the link of an entry's pair is the one on which it came

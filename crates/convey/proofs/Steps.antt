@@ -13,7 +13,7 @@ use Rattle.route_tensor.specs.Tag.{IsFair, tag_at, sender_of}
 use Rattle.route_tensor.specs.Link.{links}
 use Rattle.route_tensor.proofs.Tags.{tag_at_fair}
 use Rattle.route_tensor.specs.Ends.{hop_at, sender_at, reader_at}
-use Rattle.port_bank.specs.Logs.{Logs, lasts, segment}
+use Rattle.port_bank.specs.Logs.{Logs, lasts, segment, EndsLast, lasts_in}
 use Rattle.port_bank.specs.Flow.{hop_link, items_of, flow}
 use Rattle.route_tensor.specs.Pair.{belongs, PassesThrough}
 use Rattle.port_bank.proofs.Kept.{between}
@@ -21,10 +21,12 @@ use Rattle.port_bank.proofs.Routes.{hop-on_route}
 use Rattle.port_bank.specs.Machine.{IsOwnStep, taken_back}
 use Rattle.port_bank.specs.Machine.Step.{Push, Pull, Unpull, Reset}
 use Rattle.convey.specs.Buffers.{Buffers}
-use Rattle.convey.specs.Agreement.{EndsLast, Ends, lasts_in, OutAgrees, items_among, with_back, Agrees}
+use Rattle.list_laws.specs.Lists.{Ends}
+use Rattle.convey.specs.Agreement.{OutAgrees, items_among, with_back, Agrees}
 use Rattle.convey.specs.Law.{IsLastIn}
 use Rattle.convey.specs.Parts.{pushed_to, pulled_of, part_of}
-use Rattle.convey.proofs.Flows.{segment_new, items_among-append}
+use Rattle.port_bank.proofs.Marks.{none_after}
+use Rattle.convey.proofs.Flows.{items_among-append}
 use Rattle.convey.proofs.PostLaw.{all_one}
 use Rattle.port_bank.proofs.Listing.{lists_same, lists_with, lists_without}
 use Rattle.convey.proofs.OneRank.{first_link, last_link}
@@ -356,7 +358,7 @@ module _ (b : Buffers) (waiting unread : ℕ → List Entry) (closed ended : ℕ
 
   -- a link that has ended its epoch: the next segment is empty
   next_segment : (log : List Shipped) (c : Bool) → c ≡ true → lasts log ≡ lasts_in b.epoch c → (c ≡ true → EndsLast log) → segment (b.epoch + 1) log ≡ []
-  next_segment log c e count h = subst (λ n. segment n log ≡ []) (count ∙ ap (lasts_in b.epoch) e) (segment_new log (h e))
+  next_segment log c e count h = subst (λ n. segment n log ≡ []) (count ∙ ap (lasts_in b.epoch) e) (none_after (lasts log) log (h e) (omega arith))
 
   next_count : (n : ℕ) (c d : Bool) → c ≡ true → n ≡ lasts_in b.epoch c → d ≡ false → n ≡ lasts_in (b.epoch + 1) d
   next_count n c d e count f = count ∙ (ap (lasts_in b.epoch) e ∙ sym (ap (lasts_in (b.epoch + 1)) f))

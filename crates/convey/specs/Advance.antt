@@ -4,7 +4,7 @@ use Rattle.std.specs.List.{flat_map}
 use Rattle.bale_types.specs.Stream.{RoseOrFull}
 use Rattle.bale_types.specs.declared.item.Entry.{Entry}
 use Rattle.item_buffer.specs.Contents.{Shipped}
-use Rattle.list_laws.specs.Lists.{Begins}
+use Rattle.list_laws.specs.Lists.{Begins, Ends}
 use Rattle.route_tensor.specs.Link.{links}
 use Rattle.route_tensor.specs.Ends.{hop_at, sender_at, reader_at}
 use Rattle.port_bank.specs.declared.port.Port.{Ghosts}
@@ -17,7 +17,6 @@ use Rattle.hop_core.specs.Link.{is_wanted}
 use Rattle.hop_core.specs.State.{State, phase_of, at_end}
 use Rattle.convey.specs.declared.progress.Progress.{Progress}
 use Rattle.convey.specs.declared.progress.Progress.TheVariants as progress
-use Rattle.convey.specs.Agreement.{Ends}
 use Rattle.convey.specs.Arrived.{HasArrived}
 use Rattle.convey.specs.Buffers.{buffers_of, is_complete, out_of, in_of}
 use Rattle.convey.specs.Conveyors.{AgreesWith}

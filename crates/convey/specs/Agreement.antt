@@ -7,28 +7,12 @@ use Rattle.item_buffer.specs.Contents.{Shipped}
 use Rattle.route_tensor.specs.Link.{links}
 use Rattle.route_tensor.specs.Tag.{IsFair}
 use Rattle.route_tensor.specs.Ends.{hop_at, sender_at, reader_at}
-use Rattle.port_bank.specs.Logs.{Logs, lasts, segment}
+use Rattle.port_bank.specs.Logs.{Logs, lasts, segment, EndsLast, lasts_in}
 use Rattle.port_bank.specs.Flow.{hop_link, flow}
 use Rattle.route_tensor.specs.Pair.{belongs, PassesThrough}
-use Rattle.list_laws.specs.Lists.{Begins}
+use Rattle.list_laws.specs.Lists.{Begins, Ends}
 use Rattle.port_bank.specs.Relay.{RelayLaw}
 use Rattle.convey.specs.Buffers.{Buffers}
-
--- A log ends with a parcel marked last.
-pub record EndsLast (log : List Shipped) : Type 0 where
-  pub front : List Shipped
-  pub final : Shipped
-  pub is : log ≡ front ++ final ∷ []
-  pub last : final.last ≡ true
-
--- A list is the end of another.
-pub record Ends {T : Type 0} (whole back : List T) : Type 0 where
-  pub front : List T
-  pub is : whole ≡ front ++ back
-
--- How many parcels of a link are marked last, in an epoch: one more where the link has ended it.
-abbrev pub lasts_in : ℕ → Bool → ℕ
-lasts_in epoch through = cond through (epoch + 1) epoch
 
 -- A link out, with its open parcel, against what was sent on it.
 -- lasts: it has ended as many epochs as there were, and the current one exactly where it is closed.

@@ -8,14 +8,14 @@ use Rattle.route_tensor.specs.Ends.{hop_at, sender_at, reader_at}
 use Rattle.port_bank.specs.declared.port.Port.{Ghosts}
 use Rattle.port_bank.specs.Frames.{SamePort, SameIns, SameOuts}
 use Rattle.port_bank.specs.Logs.{Logs}
-use Rattle.list_laws.specs.Lists.{Begins}
+use Rattle.list_laws.specs.Lists.{Begins, Ends}
 use Rattle.port_bank.specs.Shapes.{IsConveyorShape}
 use Rattle.item_buffer.specs.Contents.{Shipped}
 use Rattle.port_bank.specs.Machine.{Part}
 use Rattle.hop_core.specs.declared.lent.Lent.TheVariants.{Nothing}
 use Rattle.hop_core.specs.State.{State}
 use Rattle.convey.specs.Buffers.{out_of, in_of, buffers_of}
-use Rattle.convey.specs.Agreement.{Ends, Agrees}
+use Rattle.convey.specs.Agreement.{Agrees}
 use Rattle.convey.specs.Parts.{part_of}
 use Rattle.convey.specs.Due.{Wants, IsOver, WasServed, NextIs, HeldUp}
 

@@ -11,7 +11,8 @@ use Rattle.exstack.specs.Links.{Out, In, no_out, no_in, with_back, begun_out, be
 use Rattle.exstack.specs.State.{State, out_at, in_at, link_to, link_from, is_proceeding, is_exchanging, may_proceed, may_exchange, in_proceed, in_exchange}
 use Rattle.exstack.specs.Standing.{IsOut, IsIn, IsStack, IsKept, may_wait}
 use Rattle.exstack.specs.Cycles.{entries_exchanged, exchange_parcel, entries_in}
-use Rattle.exstack.specs.Agreement.{LinkAgrees, AgreesIn, rounds_in, cycle_after, Ends, back_first}
+use Rattle.list_laws.specs.Lists.{Ends}
+use Rattle.exstack.specs.Agreement.{LinkAgrees, AgreesIn, rounds_in, cycle_after, back_first}
 use Rattle.exstack.proofs.Calls.{not_both}
 use Rattle.exstack.proofs.OneLink.{ends_none, ends_less}
 

@@ -8,7 +8,7 @@ use Rattle.bale_types.specs.declared.item.Entry.{Entry}
 use Rattle.item_buffer.specs.Contents.{Shipped}
 use Rattle.list_laws.specs.Lists.{Begins}
 use Rattle.list_laws.proofs.Lists.{get_before}
-use Rattle.port_bank.specs.Logs.{Logs, lasts, segment, starting_at, ending_at}
+use Rattle.port_bank.specs.Logs.{Logs, lasts, segment, starting_at, ending_at, lasts_in}
 use Rattle.port_bank.specs.Shapes.{IsExstackShape}
 use Rattle.port_bank.specs.Machine.{IsThrough}
 use Rattle.port_bank.proofs.Fronts.{begins_more, begins_trans, begins_map, begins_flat_map, begins_shorter}
@@ -19,7 +19,6 @@ use Rattle.exstack.specs.declared.stage.Stage.TheVariants.{Start, Proceeding, Fi
 use Rattle.exstack.specs.Links.{no_out, no_in}
 use Rattle.exstack.specs.State.{State, out_at, in_at, number, link_to, link_from, may_read}
 use Rattle.exstack.specs.Cycles.{proceed_parcel, exchange_parcel, odd_ones, entries_sent, entries_exchanged, items}
-use Rattle.exstack.specs.Agreement.{lasts_in}
 use Rattle.exstack.specs.Parts.{pushed_to, pulled_of, part_of, is_all_done}
 use Rattle.exstack.specs.Standing.{IsOut, IsIn}
 use Rattle.exstack.specs.Law.{AgreeTogether}

@@ -5,13 +5,13 @@ use Rattle.std.proofs.lemmas.List.{length-append}
 use Rattle.item_buffer.specs.Contents.{Shipped}
 use Rattle.list_laws.specs.Lists.{Begins}
 use Rattle.route_tensor.specs.Ends.{sender_at, reader_at}
-use Rattle.port_bank.specs.Logs.{Logs, lasts, segment, starting_at, ending_at}
+use Rattle.port_bank.specs.Logs.{Logs, lasts, segment, starting_at, ending_at, lasts_in}
 use Rattle.port_bank.proofs.Segments.{lasts-append, lasts_first, lasts_begins}
 use Rattle.exstack.specs.declared.stage.Stage.{Stage}
 use Rattle.exstack.specs.declared.stage.Stage.TheVariants.{Start, Proceeding, Filling, Exchanging, Full, AllDone}
 use Rattle.exstack.specs.Links.{no_out, no_in}
 use Rattle.exstack.specs.State.{State, out_at, in_at, number, link_to, link_from, is_proceeding, is_exchanging}
-use Rattle.exstack.specs.Agreement.{LinkAgrees, AgreesIn, rounds_in, lasts_in}
+use Rattle.exstack.specs.Agreement.{LinkAgrees, AgreesIn, rounds_in}
 use Rattle.exstack.specs.Standing.{IsOut, IsIn}
 use Rattle.exstack.specs.Lockstep.{finished_in, HasFinished, IsPosted, HasPosted, InStep}
 use Rattle.exstack.proofs.OneHop.{number_within, number_sender, number_reader}

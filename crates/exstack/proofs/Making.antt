@@ -2,7 +2,7 @@
 use Rattle.std.proofs.Common.{◌≡◌, ℕ, ◌+◌, ◌*◌, ◌%◌, ◌<◌, ◌||◌, ◌&&◌, Bool, true, false, not, cond, List, [], ◌∷◌, ◌++◌, length, get_or, Some, None, refl, sym, ap, subst, ◌∙◌, arith}
 use Rattle.std.proofs.lemmas.Bool.{false≢true}
 use Rattle.std.proofs.lemmas.List.{get_or_default}
-use Rattle.list_laws.specs.Lists.{Begins, EachAt}
+use Rattle.list_laws.specs.Lists.{Begins, EachAt, Ends}
 use Rattle.item_buffer.specs.Contents.{Shipped}
 use Rattle.port_bank.specs.Logs.{Logs, lasts, segment}
 use Rattle.port_bank.specs.Shapes.{IsExstackShape}
@@ -13,7 +13,7 @@ use Rattle.exstack.specs.State.{State, out_at, in_at, dims_of, number, link_to, 
 use Rattle.exstack.specs.Steps.{was_moved, WasPosted, WasCollected, latest, MadeRound}
 use Rattle.exstack.specs.Standing.{IsOut, IsIn, IsStack}
 use Rattle.exstack.specs.Cycles.{entries_exchanged, exchange_parcel, entries_in}
-use Rattle.exstack.specs.Agreement.{AgreesIn, rounds_in, Ends, back_first}
+use Rattle.exstack.specs.Agreement.{AgreesIn, rounds_in, back_first}
 use Rattle.exstack.proofs.Calls.{not_both}
 use Rattle.exstack.proofs.OneLink.{moved_due, out_agrees, in_agrees, shape_more, Reads, reads_after}
 use Rattle.port_bank.proofs.Fronts.{begins_refl, begins_trans}

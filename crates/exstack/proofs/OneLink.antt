@@ -7,14 +7,15 @@ use Rattle.std.proofs.lemmas.List.Concat.{flat_map-append}
 use Rattle.list_laws.proofs.Lists.{get_last}
 use Rattle.bale_types.specs.declared.item.Entry.{Entry}
 use Rattle.item_buffer.specs.Contents.{Shipped}
-use Rattle.port_bank.specs.Logs.{lasts, segment}
+use Rattle.port_bank.specs.Logs.{lasts, segment, lasts_in}
 use Rattle.port_bank.specs.Shapes.{IsExstackShape}
 use Rattle.port_bank.proofs.Segments.{lasts-append, lasts_first}
 use Rattle.port_bank.proofs.Posts.{segment_now, segment_then}
 use Rattle.exstack.specs.Links.{Out, In, parcel_of, gone, came}
 use Rattle.exstack.specs.Steps.{was_moved, WasPosted, WasCollected, latest}
 use Rattle.exstack.specs.Cycles.{odd_ones, entries_exchanged, exchange_parcel, entries_in}
-use Rattle.exstack.specs.Agreement.{LinkAgrees, lasts_in, Ends}
+use Rattle.list_laws.specs.Lists.{Ends}
+use Rattle.exstack.specs.Agreement.{LinkAgrees}
 
 -- ends of lists
 pub ends_none : {T : Type 0} (whole : List T) → Ends whole []

@@ -4,41 +4,22 @@ use Rattle.std.proofs.lemmas.Bool.{false≢true, true_from_ne_false}
 use Rattle.std.proofs.Math.ListN.{get_or-map as map_read}
 use Rattle.bale_types.specs.declared.item.Entry.{Entry}
 use Rattle.item_buffer.specs.Contents.{Shipped}
-use Rattle.port_bank.specs.Logs.{Logs, lasts, segment}
+use Rattle.port_bank.specs.Logs.{Logs, lasts, segment, EndsLast, lasts_in}
 use Rattle.port_bank.specs.Machine.{IsOwnStep}
 use Rattle.port_bank.specs.Machine.Step.{Reset}
 use Rattle.port_bank.proofs.Listing.{lists_same, same_part}
-use Rattle.port_bank.proofs.Segments.{lasts-append, lasts_first, lasts_begins}
-use Rattle.port_bank.proofs.Posts.{segment_then}
+use Rattle.port_bank.proofs.Segments.{lasts_begins}
+use Rattle.port_bank.proofs.Marks.{none_after}
 use Rattle.exstack.specs.declared.stage.Stage.TheVariants.{AllDone}
 use Rattle.exstack.specs.Links.{Out, In, no_out, no_in, reopened, resumed}
 use Rattle.exstack.specs.State.{State, out_at, in_at, link_to, link_from, after_reset}
 use Rattle.exstack.specs.Cycles.{entries_sent, entries_exchanged, exchange_parcel, entries_in, items}
-use Rattle.exstack.specs.Agreement.{LinkAgrees, EndsLast, AgreesIn, Ends, rounds_in, lasts_in}
+use Rattle.list_laws.specs.Lists.{Ends}
+use Rattle.exstack.specs.Agreement.{LinkAgrees, AgreesIn, rounds_in}
 use Rattle.exstack.specs.Parts.{pushed_to, pulled_of, part_of, is_all_done}
 use Rattle.exstack.specs.Standing.{IsStack, IsOut, IsIn}
 use Rattle.exstack.proofs.OneLink.{ends_none}
 use Rattle.exstack.proofs.Pieces.{pulled_none}
-
--- past the epoch that a log is in, its segments are empty
-beyond_by : (e : ℕ) (p : Shipped) (ps : List Shipped) (b : Bool) → p.last ≡ b → lasts (p ∷ ps) < suc e → (lasts ps < e → segment e ps ≡ []) → (lasts ps < suc e → segment (suc e) ps ≡ [])
-    → cond b (segment e ps) (segment (suc e) ps) ≡ []
-beyond_by e p ps true m h f g = let n : lasts (p ∷ ps) ≡ suc (lasts ps) = lasts_first p ps true m in f (omega (arith, n, h))
-beyond_by e p ps false m h f g = let n : lasts (p ∷ ps) ≡ lasts ps = lasts_first p ps false m in g (omega (arith, n, h))
-
-segment_beyond : (e : ℕ) (log : List Shipped) → lasts log < e → segment e log ≡ []
-segment_beyond zero [] h = refl
-segment_beyond (suc e) [] h = refl
-segment_beyond zero (p ∷ ps) h = absurd (omega arith)
-segment_beyond (suc e) (p ∷ ps) h = beyond_by e p ps p.last refl h (segment_beyond e ps) (segment_beyond (suc e) ps)
-
--- and so is that which comes next
-segment_fresh : (e : ℕ) (log : List Shipped) → lasts log ≡ e → EndsLast log → segment e log ≡ []
-segment_fresh e log now ends =
-    let n : lasts log ≡ lasts ends.front + lasts (ends.final ∷ []) = ap lasts ends.is ∙ lasts-append ends.front (ends.final ∷ []) in
-    let one : lasts (ends.final ∷ []) ≡ 1 = lasts_first ends.final [] true ends.last in
-    let less : lasts ends.front < e = omega (arith, n, one, now) in
-    ap (segment e) ends.is ∙ (segment_then e ends.front ends.final (λ h. let k : e ≡ lasts ends.front = h in omega arith) ∙ segment_beyond e ends.front less)
 
 -- a link through with its epoch, in the next one
 link_reset : (e rounds : ℕ) (through due : Bool) (log : List Shipped) → through ≡ true → LinkAgrees e rounds through due log → due ≡ false → LinkAgrees (e + 1) 0 false due log
@@ -48,7 +29,7 @@ link_reset e rounds through due log t a none =
       ended = now;
       by_last = λ h. absurd (false≢true h);
       each_round = λ h.
-          let fresh : segment (e + 1) log ≡ [] = segment_fresh (e + 1) log now (a.by_last t) in
+          let fresh : segment (e + 1) log ≡ [] = none_after (e + 1) log (a.by_last t) (omega (arith, now)) in
           ap (λ d. length (segment (e + 1) log) + cond d 1 0) none ∙ ap (λ (xs : List Shipped). length xs + 0) fresh;
     }
 

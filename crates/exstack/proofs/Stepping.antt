@@ -11,7 +11,8 @@ use Rattle.port_bank.proofs.Listing.{lists_with, lists_without, same_part}
 use Rattle.exstack.specs.Links.{Out, In, no_out, no_in, plain, with_entry, with_first_read, with_back}
 use Rattle.exstack.specs.State.{State, out_at, in_at, link_to, link_from, pushed_on, popped_from, unpopped}
 use Rattle.exstack.specs.Cycles.{entries_sent, entries_exchanged, exchange_parcel, entries_in, items}
-use Rattle.exstack.specs.Agreement.{LinkAgrees, AgreesIn, Ends, back_first, rounds_in}
+use Rattle.list_laws.specs.Lists.{Ends}
+use Rattle.exstack.specs.Agreement.{LinkAgrees, AgreesIn, back_first, rounds_in}
 use Rattle.exstack.specs.Parts.{pushed_to, pulled_of, part_of, is_all_done}
 use Rattle.exstack.specs.Standing.{IsStack}
 use Rattle.exstack.proofs.Beginning.{forget}

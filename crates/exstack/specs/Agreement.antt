@@ -2,8 +2,8 @@
 use Rattle.std.specs.Prelude.{◌≡◌, ℕ, ◌+◌, ◌*◌, ◌<◌, ◌==◌, Bool, true, false, cond, List, ◌++◌, [], ◌∷◌, length, Option, Some, None}
 use Rattle.bale_types.specs.declared.item.Entry.{Entry}
 use Rattle.item_buffer.specs.Contents.{Shipped}
-use Rattle.list_laws.specs.Lists.{Begins}
-use Rattle.port_bank.specs.Logs.{Logs, lasts, segment}
+use Rattle.list_laws.specs.Lists.{Begins, Ends}
+use Rattle.port_bank.specs.Logs.{Logs, lasts, segment, EndsLast, lasts_in}
 use Rattle.port_bank.specs.Shapes.{IsExstackShape}
 use Rattle.port_bank.specs.Relay.{RelayLaw}
 use Rattle.exstack.specs.declared.stage.Stage.{Stage}
@@ -11,18 +11,6 @@ use Rattle.exstack.specs.declared.stage.Stage.TheVariants.{Start, Proceeding, Fi
 use Rattle.exstack.specs.Links.{In, with_back}
 use Rattle.exstack.specs.State.{State, out_at, in_at, dims_of, link_to, link_from}
 use Rattle.exstack.specs.Cycles.{exchange_parcel, entries_in, entries_exchanged}
-
--- A log ends with a parcel marked last.
-pub record EndsLast (log : List Shipped) : Type 0 where
-  pub front : List Shipped
-  pub final : Shipped
-  pub is : log ≡ front ++ final ∷ []
-  pub last : final.last ≡ true
-
--- A list is the end of another.
-pub record Ends {T : Type 0} (whole back : List T) : Type 0 where
-  pub front : List T
-  pub is : whole ≡ front ++ back
 
 -- How many rounds of its epoch an exstack has begun, in cycle n: each cycle has a proceed round and an exchange round.
 -- While it fills its buffers in cycle 1 it has begun three.
@@ -42,10 +30,6 @@ cycle_after n Filling = n
 cycle_after n Exchanging = n
 cycle_after n Full = n + 1
 cycle_after n AllDone = n
-
--- How many parcels of a link are marked last, in an epoch: one more where the link has ended it.
-abbrev pub lasts_in : ℕ → Bool → ℕ
-lasts_in epoch through = cond through (epoch + 1) epoch
 
 -- A link whose parcel of this round may be due, against its log.
 -- ended: it has ended as many epochs as there were, and the current one exactly where it is through with it.

@@ -20,6 +20,12 @@ pub record Begins {T : Type 0} (front whole : List T) : Type 0 where
   pub rest : List T
   pub is : whole ≡ front ++ rest
 
+-- A list is the end of another.
+-- [2, 3] ends [1, 2, 3].
+pub record Ends {T : Type 0} (whole back : List T) : Type 0 where
+  pub front : List T
+  pub is : whole ≡ front ++ back
+
 -- A function of a number with another value at l.
 -- changed f l x is x at l, and f elsewhere.
 abbrev pub changed : {X : Type 0} → (ℕ → X) → ℕ → X → ℕ → X

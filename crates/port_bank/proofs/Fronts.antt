@@ -28,6 +28,13 @@ module _ {T : Type 0} where
   pub begins_shorter : (xs ys : List T) → Begins xs ys → length xs ≤ length ys
   begins_shorter xs ys p = omega (arith, ap length p.is, length-append xs p.rest)
 
+  -- a front as long as the whole is the whole
+  pub begins_whole : (xs ys : List T) → Begins xs ys → length ys ≤ length xs → ys ≡ xs
+  begins_whole xs ys p short = p.is ∙ none_more p.rest (omega (arith, ap length p.is, length-append xs p.rest, short)) where
+    none_more : (zs : List T) → length zs ≤ 0 → xs ++ zs ≡ xs
+    none_more [] h = append-nil xs
+    none_more (z ∷ zs) h = absurd (omega (arith, h))
+
 module _ {S T : Type 0} where
   pub begins_map : (f : S → T) (xs ys : List S) → Begins xs ys → Begins (map f xs) (map f ys)
   begins_map f xs ys p = record { rest = map f p.rest; is = ap (map f) p.is ∙ map-append f xs p.rest }

@@ -11,6 +11,7 @@ pub mod Turns
 pub mod Owners
 pub mod Ports
 pub mod Posts
+pub mod Marks
 pub mod Listing
 pub mod Turning
 pub mod Rings

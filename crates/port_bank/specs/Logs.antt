@@ -1,5 +1,5 @@
 -- Link logs: all parcels that were ever posted on a link, or all that its reader collected, in order.
-use Rattle.std.specs.Prelude.{◌≡◌, ℕ, zero, suc, ◌==◌, cond, List, [], ◌∷◌, ◌++◌, length, take}
+use Rattle.std.specs.Prelude.{◌≡◌, ℕ, zero, suc, ◌+◌, ◌==◌, Bool, true, cond, List, [], ◌∷◌, ◌++◌, length, take}
 use Rattle.std.specs.List.{filter}
 use Rattle.list_laws.specs.Lists.{EachAt}
 use Rattle.item_buffer.specs.Contents.{Shipped}
@@ -13,6 +13,17 @@ Logs = ℕ → List Shipped
 -- After parcels of which the second and the third are marked last it is 2.
 abbrev pub lasts : List Shipped → ℕ
 lasts log = length (filter (λ p. p.last) log)
+
+-- A log ends with a parcel marked last.
+pub record EndsLast (log : List Shipped) : Type 0 where
+  pub front : List Shipped
+  pub final : Shipped
+  pub is : log ≡ front ++ final ∷ []
+  pub last : final.last ≡ true
+
+-- How many parcels of a link are marked last, in an epoch: one more where the link has ended it.
+abbrev pub lasts_in : ℕ → Bool → ℕ
+lasts_in epoch through = cond through (epoch + 1) epoch
 
 -- Segment e of a log: the parcels after the e-th parcel marked last, up to and including the next one
 -- marked last, or up to the log's end. It is closed where e < lasts log.

@@ -1,11 +1,11 @@
 -- A rank over an exstack goes on in its cycles by a turn.
 use Rattle.std.proofs.Common.{◌≡◌, ℕ, ◌+◌, ◌<◌, ◌≤◌, ◌==◌, Bool, true, false, cond, List, [], ◌∷◌, length, sym, ap, subst, ◌∙◌, arith, inl, inr}
 use Rattle.std.proofs.lemmas.Bool.{cases_Bool, true≢false, eq-eqb, ne_eqb}
-use Rattle.port_bank.specs.Logs.{Logs, lasts, starting_at, ending_at}
+use Rattle.port_bank.specs.Logs.{Logs, lasts, starting_at, ending_at, lasts_in}
 use Rattle.exstack.specs.Links.{no_in}
 use Rattle.exstack.specs.State.{State, number, in_at}
 use Rattle.exstack.specs.Parts.{is_all_done}
-use Rattle.exstack.specs.Agreement.{AgreesIn, lasts_in}
+use Rattle.exstack.specs.Agreement.{AgreesIn}
 use Rattle.exstack.specs.Standing.{IsStack}
 use Rattle.round_program.specs.Rules.{Rules}
 use Rattle.rank_node.specs.Runs.{Running}
@@ -13,13 +13,9 @@ use Rattle.rank_node.specs.Sending.{to_send}
 use Rattle.rank_node.specs.Movers.{MoverState, Manner, dims_of, rank_of, epoch_in, manner_in, has_completed, IsMoving}
 use Rattle.rank_node.specs.Movers.MoverState.{Conveying, Stacking}
 use Rattle.rank_node.specs.Cycles.{IsInCycle, cycle_of_turn}
+use Rattle.port_bank.proofs.Marks.{at_most}
 use Rattle.rank_group.specs.Ranks.{RankState, HasRank, AfterRank, StaysIn, EndsEpoch}
 use Rattle.rank_group.specs.Halves.{HasCycled, IsBetween, KeepsCycle, next_cycle}
-
--- a link in ends at most one epoch more than its exstack has
-one_more : (e : ℕ) (b : Bool) → lasts_in e b ≤ e + 1
-one_more e true = omega arith
-one_more e false = omega arith
 
 -- an exstack that agrees with lists in which its epoch isn't over is between two ends
 pub not_over : (cap n : ℕ) (x : State) (sent got : Logs) → IsStack cap x → AgreesIn n x sent got → lasts (got (number x.ranks x.rank x.rank)) ≤ x.epoch → is_all_done x.stage ≡ false
@@ -37,7 +33,7 @@ anew k k' cap x x' sent got s a a' same_ranks same_rank next =
     let low : x.rank < x.ranks = omega (arith, s.rank, same_ranks, same_rank) in
     let at : number x.ranks x.rank x.rank ≡ number x'.ranks x'.rank x'.rank = ap (λ p. number p x.rank x.rank) same_ranks ∙ ap (λ q. number x'.ranks q q) same_rank in
     let e : lasts (got (number x.ranks x.rank x.rank)) ≡ lasts_in x.epoch (in_at x x.rank).ended = (a.ins x.rank low).ended in
-    let few = one_more x.epoch (in_at x x.rank).ended in
+    let few = at_most x.epoch (in_at x x.rank).ended in
     let same = ap (λ l. lasts (got l)) at in
     not_over cap k' x' sent got s a' (omega (arith, e, few, same, next))
 

@@ -2,21 +2,21 @@
 use Rattle.std.proofs.Common.{◌≡◌, ◌≢◌, ℕ, zero, suc, ◌+◌, ◌*◌, ◌<◌, ◌≤◌, ◌||◌, Bool, true, false, List, [], ◌∷◌, length, refl, sym, ap, subst, ◌∙◌, arith, inl, inr, eqb-true}
 use Rattle.std.proofs.lemmas.Bool.{cases_Bool, cases_eq, cases_lt, cases_order, true≢false, false≢true}
 use Rattle.list_laws.specs.Sums.{total}
-use Rattle.port_bank.specs.Logs.{Logs, lasts, starting_at, ending_at}
+use Rattle.port_bank.proofs.Fronts.{begins_whole}
+use Rattle.port_bank.specs.Logs.{Logs, lasts, starting_at, ending_at, lasts_in}
 use Rattle.port_bank.specs.Flow.{Begins}
 use Rattle.port_bank.proofs.Segments.{lasts_begins}
 use Rattle.exstack.specs.declared.stage.Stage.{Stage}
 use Rattle.exstack.specs.declared.stage.Stage.TheVariants.{Start, Proceeding, Filling, Exchanging, Full, AllDone}
 use Rattle.exstack.specs.State.{State, out_at, in_at, number, link_to, link_from, is_proceeding, is_exchanging}
 use Rattle.exstack.specs.Parts.{is_all_done}
-use Rattle.exstack.specs.Agreement.{lasts_in, cycle_after}
+use Rattle.exstack.specs.Agreement.{cycle_after}
 use Rattle.exstack.specs.Lockstep.{finished_in, HasFinished, HasPosted, InStep, RoomLaw, ArrivalLaw}
 use Rattle.exstack.proofs.Lockstep.{begins, sent_own, got_own, out_end, out_is, in_end, in_is}
 use Rattle.rank_node.specs.Cycles.{IsOnward, Awaits}
 use Rattle.rank_node.specs.Moves.{WaitsFor}
 use Rattle.rank_group.specs.Ranks.{crowded_in, idle_in}
 use Rattle.rank_group.specs.Halves.{rounds_made, IsHalfway, HasMade}
-use Rattle.rank_group.proofs.Sweeps.{begins_whole}
 
 -- more terms, no smaller sum
 pub total_more : (f : ℕ → ℕ) (a b : ℕ) → a ≤ b → total a f ≤ total b f

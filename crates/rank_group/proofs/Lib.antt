@@ -1,8 +1,6 @@
 pub mod Counted
 pub mod OneTurn
 pub mod OnWay
-pub mod Joining
-pub mod Crewed
 pub mod Places
 pub mod Threaded
 pub mod Ranked
@@ -11,7 +9,9 @@ pub mod Worlds
 pub mod Pushed
 pub mod Bounds
 pub mod Moves
+pub mod Growing
 pub mod Swept
+pub mod Still
 pub mod Resting
 pub mod Potential
 pub mod Driven
@@ -19,7 +19,6 @@ pub mod Making
 pub mod Telling
 pub mod Ended
 pub mod Orders
-pub mod Sweeps
 pub mod Ordered
 pub mod Bounded
 pub mod Halves

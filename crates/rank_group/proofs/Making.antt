@@ -19,19 +19,19 @@ pub record Making {S : Type 0} (R : Rules S) (dims : List ℕ) (cap : ℕ) (mann
 pub making_none : {S : Type 0} (R : Rules S) (dims : List ℕ) (cap : ℕ) (manner : Manner) (starts : List S) → Making R dims cap manner starts starts []
 making_none R dims cap manner starts = record { left = refl; each = λ r n at. absurd (omega (arith, within [] r n at)) }
 
-at_end : {X : Type 0} (xs ys : List X) (q : X) → slice_get (xs ++ q ∷ ys) (length xs) ≡ Some q
+pub at_end : {X : Type 0} (xs ys : List X) (q : X) → slice_get (xs ++ q ∷ ys) (length xs) ≡ Some q
 at_end [] ys q = refl
 at_end (x ∷ xs) ys q = at_end xs ys q
 
-shift : {X : Type 0} (xs ys : List X) (q : X) → (xs ++ q ∷ []) ++ ys ≡ xs ++ q ∷ ys
+pub shift : {X : Type 0} (xs ys : List X) (q : X) → (xs ++ q ∷ []) ++ ys ≡ xs ++ q ∷ ys
 shift [] ys q = refl
 shift (x ∷ xs) ys q = ap (λ zs. x ∷ zs) (shift xs ys q)
 
-first_of : {X : Type 0} (xs : List X) (q : X) → slice_get xs 0 ≡ Some q → xs ≡ q ∷ drop 1 xs
+pub first_of : {X : Type 0} (xs : List X) (q : X) → slice_get xs 0 ≡ Some q → xs ≡ q ∷ drop 1 xs
 first_of [] q at = absurd (omega (arith, within [] 0 q at))
 first_of (x ∷ xs) q at = ap (λ y. y ∷ xs) (get_once (x ∷ xs) 0 x q refl at)
 
-none_of : {X : Type 0} (xs : List X) → slice_get xs 0 ≡ None → xs ≡ []
+pub none_of : {X : Type 0} (xs : List X) → slice_get xs 0 ≡ None → xs ≡ []
 none_of [] e = refl
 none_of (x ∷ xs) e = absurd (cc)
 

@@ -14,13 +14,13 @@ use Rattle.route_tensor.specs.Pair.{belongs}
 use Rattle.route_tensor.specs.Tag.{IsFair, sender_of, destination_of}
 use Rattle.route_tensor.specs.Ends.{hop_at, sender_at, reader_at}
 use Rattle.route_tensor.proofs.Tags.{pair_route}
-use Rattle.port_bank.specs.Logs.{Logs, lasts, segment, starting_at, ending_at}
+use Rattle.port_bank.specs.Logs.{Logs, lasts, segment, starting_at, ending_at, EndsLast, lasts_in}
 use Rattle.port_bank.specs.Flow.{hop_link, flow, items_of}
 use Rattle.port_bank.specs.Relay.{HasFairTags}
 use Rattle.port_bank.specs.Shapes.{IsFilled}
+use Rattle.port_bank.proofs.Marks.{at_most}
 use Rattle.port_bank.proofs.Routes.{numbered}
 use Rattle.hop_core.specs.State.{State}
-use Rattle.convey.specs.Agreement.{EndsLast, lasts_in}
 use Rattle.convey.specs.Buffers.{buffers_of, out_of, in_of}
 use Rattle.convey.specs.Parts as conveyor_parts
 use Rattle.convey.proofs.OneRank.{OneRank, one_rank_of, starting-own, ending-own, first_link}
@@ -137,16 +137,13 @@ module _ (r cap : ℕ) (x : Stack) (sent got : Logs) (same_rank : x.rank ≡ r)
         not_due true f = absurd (f refl)
         not_due false f = refl
 
-  ends_last : (log : List Shipped) → exstacks.EndsLast log → EndsLast log
-  ends_last log e = record { front = e.front; final = e.final; is = e.is; last = e.last }
-
   stack_out : (l : ℕ) → l < links dims → sender_at dims l ≡ r → (lasts (sent l) ≡ x.epoch + 1) × EndsLast (sent l)
   stack_out l below own =
       let t = toward x.ranks x.rank l some is.stack.few below (own ∙ sym same_rank) in
       let o = agrees.outs t.other t.low in
       let c = closed t.other t.low in
       let e : starting_at dims r sent (link_to x t.other) ≡ sent l = ap (starting_at dims r sent) (sym t.out) ∙ starting-own dims r sent l own in
-      (sym (ap lasts e) ∙ (o.ended ∙ ap (exstacks.lasts_in x.epoch) c), ends_last (sent l) (subst exstacks.EndsLast e (o.by_last c)))
+      (sym (ap lasts e) ∙ (o.ended ∙ ap (lasts_in x.epoch) c), subst EndsLast e (o.by_last c))
 
   stack_in : (l : ℕ) → l < links dims → reader_at dims l ≡ r → lasts (got l) ≡ x.epoch + 1
   stack_in l below own =
@@ -154,7 +151,7 @@ module _ (r cap : ℕ) (x : Stack) (sent got : Logs) (same_rank : x.rank ≡ r)
       let i = agrees.ins t.other t.low in
       let ended : (in_at x t.other).ended ≡ true = (is.stack.each_in t.other no_in (omega (arith, t.low, is.stack.all_ins))).all_ended over in
       let e : ending_at dims r got (link_from x t.other) ≡ got l = ap (ending_at dims r got) (sym t.in') ∙ ending-own dims r got l own in
-      sym (ap lasts e) ∙ (i.ended ∙ ap (exstacks.lasts_in x.epoch) ended)
+      sym (ap lasts e) ∙ (i.ended ∙ ap (lasts_in x.epoch) ended)
 
   stack_pushed : (e d : ℕ) → d < ranks dims → (part_in (Stacking cap x) (starting_at dims r sent) (ending_at dims r got)).pushed e d ≡ flow dims sent r d 1 e
   stack_pushed e d to =
@@ -211,14 +208,8 @@ shape_none ByExstack cap = record { empty = λ e i d low. absurd (omega (arith, 
 -- how many parcels of a log are marked last
 pub lasts_low : (m : MoverState) (sent got : Logs) → IsMoving m sent got → (l : ℕ) → l < links (dims_of m) → sender_at (dims_of m) l ≡ rank_of m → lasts (sent l) ≤ epoch_in m + 1
 lasts_low (Conveying c) sent got is l below own =
-    let o = is.agrees.outs l below own in one_more c.epoch (out_of c l).closed (o.lasts) where
-      one_more : (e : ℕ) (b : Bool) {n : ℕ} → n ≡ lasts_in e b → n ≤ e + 1
-      one_more e true k = omega (arith, k)
-      one_more e false k = omega (arith, k)
+    let o = is.agrees.outs l below own in omega (arith, at_most c.epoch (out_of c l).closed, o.lasts)
 lasts_low (Stacking cap x) sent got is l below own =
     let t = toward x.ranks x.rank l (let a = is.stack.rank in omega (arith, a)) is.stack.few below own in
     let o = is.agrees.agrees.outs t.other t.low in
-    subst (λ k. lasts (sent k) ≤ x.epoch + 1) (sym t.out) (one_more x.epoch (out_at x t.other).closed o.ended) where
-      one_more : (e : ℕ) (b : Bool) {n : ℕ} → n ≡ exstacks.lasts_in e b → n ≤ e + 1
-      one_more e true k = omega (arith, k)
-      one_more e false k = omega (arith, k)
+    subst (λ k. lasts (sent k) ≤ x.epoch + 1) (sym t.out) (omega (arith, at_most x.epoch (out_at x t.other).closed, o.ended))

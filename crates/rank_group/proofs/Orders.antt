@@ -20,8 +20,9 @@ use Rattle.port_bank.specs.Flow.{Begins}
 use Rattle.rank_group.specs.Closes.{ClosesLaws}
 use Rattle.rank_group.specs.Halves.{most_rounds, MoverMade, next_cycle}
 use Rattle.rank_group.specs.Ranks.{RankState, AfterRank, IsOrder, progress}
-use Rattle.rank_group.specs.Worlds.{World, moves, Lawful, RestsBy, Plan, SweptTo, AllMade, progress_in, all_progress}
-use Rattle.rank_group.proofs.Swept.{got_grows, moves_on, world_on, cycle_here, cycle_other, rests_here, rests_on}
+use Rattle.rank_group.specs.Worlds.{World, inbox, moves, Lawful, RestsBy, Plan, SweptTo, AllMade, progress_in, all_progress}
+use Rattle.rank_group.proofs.Growing.{moves_on, got_more}
+use Rattle.rank_group.proofs.Swept.{grows, world_on, cycle_here, cycle_other, rests_here, rests_on}
 use Rattle.rank_group.proofs.Made.{all_made, made_here}
 
 pub lawful : (cap : ℕ) (b : Bank) (dims : List ℕ) (slots : ℕ) → IsBank cap b → b.dims ≡ dims → b.slots ≡ slots → Lawful dims cap slots (sent_of b) (got_of b)
@@ -73,7 +74,7 @@ swept_more {S} R laws closes rounds dims cap slots manner starts order i r cycle
     let n' : (n' : RankState S) × (slice_get rs' r ≡ Some n') = find rs' r (omega (arith, low, w.ranked.all, size)) in
     let t : AfterRank R dims cap slots r n.0 n'.0 sent got sent' got' = turned n.0 n'.0 n.1 n'.1 in
     let on = world_on R dims cap slots manner starts v.h r n.0 n'.0 rs rs' sent got sent' got' w n.1 n'.1 others size t law laws closes rounds plan in
-    let more = moves_on R dims cap slots manner starts v.h r n.0 n'.0 rs rs' sent got sent' got' w n.1 n'.1 others size t law in
+    let more = moves_on dims r sent got sent' got' (inbox dims rs) (inbox dims rs') (grows R dims cap slots manner starts v.h r n.0 n'.0 rs rs' sent got sent' got' w n.1 n'.1 others size t law) in
     record {
       h = on.0;
       world = on.1;
@@ -103,7 +104,7 @@ swept_more {S} R laws closes rounds dims cap slots manner starts order i r cycle
           ];
       made = λ j all.
           let m = made_more R laws closes rounds dims cap slots manner starts v.h on.0 r n.0 n'.0 rs rs' sent got sent' got' w on.1 plan n.1 n'.1 others t
-          (got_grows R dims cap slots manner starts v.h r n.0 n'.0 rs rs' sent got sent' got' w n.1 n'.1 others size t law)
+          (got_more dims r sent got sent' got' (inbox dims rs) (inbox dims rs') (grows R dims cap slots manner starts v.h r n.0 n'.0 rs rs' sent got sent' got' w n.1 n'.1 others size t law))
           (ap (λ (c : ℕ → ℕ). c r) on.2 ∙ cycle_here R dims cap slots manner starts v.h r n.0 n'.0 rs rs' sent got sent' got' w n.1 n'.1 others size t law)
           (λ k apart. ap (λ (c : ℕ → ℕ). c k) on.2 ∙ cycle_other R dims cap slots manner starts v.h r n.0 n'.0 rs rs' sent got sent' got' w n.1 n'.1 others size t law k apart) j (v.made j all).0 in (
             m.0,

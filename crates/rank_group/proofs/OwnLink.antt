@@ -1,14 +1,14 @@
 -- A rank that has a parcel to post to itself has collected nothing from itself by its turn, unless it finished a round.
 use Rattle.std.proofs.Common.{◌≡◌, ℕ, ◌+◌, ◌<◌, ◌≤◌, Bool, true, false, cond, List, length, length-append, refl, sym, ap, subst, ◌∙◌, arith}
 use Rattle.item_buffer.specs.Contents.{Shipped}
-use Rattle.port_bank.specs.Logs.{Logs, lasts, segment}
+use Rattle.port_bank.proofs.Fronts.{begins_shorter, begins_whole}
+use Rattle.port_bank.specs.Logs.{Logs, lasts, segment, lasts_in}
 use Rattle.port_bank.specs.Flow.{Begins}
 use Rattle.port_bank.proofs.Segments.{lasts-append, lasts_begins, segment_begins}
 use Rattle.exstack.specs.State.{State, out_at, in_at, number}
-use Rattle.exstack.specs.Agreement.{rounds_in, lasts_in}
+use Rattle.exstack.specs.Agreement.{rounds_in}
 use Rattle.exstack.specs.Lockstep.{finished_in, InStep}
 use Rattle.exstack.proofs.Lockstep.{more_open, begun_more, finished_low, begins, out_end, out_is, in_end, in_is}
-use Rattle.rank_group.proofs.Sweeps.{begins_length, begins_whole}
 use Rattle.rank_group.proofs.Halves.{out_going}
 
 -- a log whose open segment didn't grow is as it was
@@ -41,7 +41,7 @@ module _ (p cap slots : ℕ) (n n' : ℕ → ℕ) (all all' : ℕ → State) (se
   got_short : length (segment e (got' l)) ≤ finished_in (n' r) (all' r).stage
   got_short =
       let b = segment_begins e (got' l) (sent' l) (begins p cap slots n' all' sent' got' t' r r low low) in
-      omega (arith, sent_count, begins_length (segment e (got' l)) (segment e (sent' l)) b)
+      omega (arith, sent_count, begins_shorter (segment e (got' l)) (segment e (sent' l)) b)
 
   got_open : lasts (got' l) ≡ e
   got_open = by (in_at (all' r) r).ended (in_end p cap slots n' all' sent' got' t' r r low low).ended where

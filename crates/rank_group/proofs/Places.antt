@@ -20,7 +20,7 @@ use Rattle.rank_node.specs.Movers.{Manner, epoch_in}
 use Rattle.rank_group.proofs.Movers.{shape_none}
 use Rattle.rank_group.specs.Drives.{IsFresh, AreFresh}
 use Rattle.rank_group.specs.Seats.{SeatedState, IsSeated, bank_of}
-use Rattle.rank_group.proofs.Joining.{one_less, next_is}
+use Rattle.rank_crews.proofs.Joining.{one_less, next_is}
 
 -- some ranks have their seats
 pub record Seating {S : Type 0} (R : Rules S) (cap : ℕ) (b : Bank) (gather : Gathering) (number : ℕ) (all taken rest : List (RankState S)) (xs : List (SeatedState S)) : Type 0 where

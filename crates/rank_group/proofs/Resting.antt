@@ -24,49 +24,20 @@ use Rattle.rank_node.specs.Movers.MoverState.{Conveying, Stacking}
 use Rattle.rank_node.specs.Movers.Manner.{ByConveyor}
 use Rattle.rank_group.specs.Ranks.{RankState, progress, crowded_in}
 use Rattle.rank_node.proofs.Onward.{done_of_completed, complete_is}
+use Rattle.rank_group.proofs.Still as still
 use Rattle.rank_group.proofs.Worlds.{Core, core, still_within, over_at_last}
 use Rattle.rank_group.specs.Worlds.{nowhere, World, Rests, RestsBy, Plan}
 
--- a crowded link has parcels on their way
-busy : (dims : List ℕ) (slots r : ℕ) (sent got : Logs) (l : ℕ) → 0 < slots → sender_at dims l ≡ r → crowded_in dims slots r sent got l ≡ true → IsBusy sent got l
-busy dims slots r sent got l some from full =
-    let e : length (starting_at dims r sent l) ≡ length (got l) + slots = eqb-true (length (starting_at dims r sent l)) (length (got l) + slots) full in
-    let own = ap length (starting-own dims r sent l from) in
-    omega (arith, e, own, some)
-
 -- a rank that its turn left in its epoch is at rest
-pub at_rest : (dims : List ℕ) (slots r : ℕ) (c' : State) (sent got : Logs) → 0 < slots → (x : Rests dims slots r c' sent got) → IsAtRest dims r x.left.stuck.before x.left.stuck.after sent got
+pub at_rest : (dims : List ℕ) (slots r : ℕ) (c' : State) (sent got : Logs) → 0 < slots → (x : Rests dims slots r c' sent got) → IsAtRest dims r x.left.stuck.still.before x.left.stuck.still.after sent got
 at_rest dims slots r c' sent got some x =
     let s = x.left.stuck in
-    let d : x.c.dims ≡ dims = x.same_dims in
-    let q : x.c.rank ≡ r = x.same_rank in
-    let below : (l : ℕ) → l < links dims → l < links x.c.dims = λ l b. subst (λ ds. l < links ds) (sym d) b in
-    let reader : (l : ℕ) → reader_at dims l ≡ r → reader_at x.c.dims l ≡ x.c.rank = λ l e. subst (λ ds. reader_at ds l ≡ x.c.rank) (sym d) (e ∙ sym q) in
-    let sender : (l : ℕ) → sender_at dims l ≡ r → sender_at x.c.dims l ≡ x.c.rank = λ l e. subst (λ ds. sender_at ds l ≡ x.c.rank) (sym d) (e ∙ sym q) in
-    record {
-      same_dims = s.dims_after;
-      same_rank = s.rank_after;
-      same_epoch = s.epoch_after;
-      agrees = s.agrees_before;
-      pushed = elim s.pushed [
-        | inl done ↦ inl done
-        | inr c ↦ inr (let from : sender_at dims c.link ≡ r = subst (λ ds. sender_at ds c.link ≡ r) d (c.sender ∙ q) in
-            record { link = c.link; below = subst (λ ds. c.link < links ds) d c.below; sender = from; busy = busy dims slots r sent got c.link some from c.crowded })
-      ];
-      read = λ l b e o. s.read l (below l b) (reader l e) (subst (λ ds. hop_at ds l ≡ length ds) (sym d) o);
-      lies = λ l b e. s.lies l (below l b) (reader l e);
-      kept = λ l b e o. omega (arith, ap length (s.ins_before l), x.kept l b e, s.ins_after l);
-      idle = λ l b e wants.
-          let i : length (ending_at dims r got l) ≡ length (sent l) = eqb-true (length (ending_at dims r got l)) (length (sent l)) (s.idle l (below l b) (reader l e) wants) in
-          let own = ap length (ending-own dims r got l e) in
-          omega (arith, i, own);
-      stopped = λ l y b e o first.
-          let next = s.stopped l y (below l b) (reader l e) (subst (λ ds. hop_at ds l < length ds) (sym d) o) first in
-          let here : NextIs dims r l y.tag (λ m. crowded_in dims slots r sent got m ≡ true) =
-          subst (λ ds. NextIs ds r l y.tag (λ m. crowded_in dims slots r sent got m ≡ true)) d (subst (λ k. NextIs x.c.dims k l y.tag (λ m. crowded_in dims slots r sent got m ≡ true)) q next) in
-          record { below = here.below; sender = here.sender; hop = here.hop; holds = busy dims slots r sent got (next_link dims r (hop_at dims l) y.tag) some here.sender here.holds };
-      closing = λ l b e hop arrived still. busy dims slots r sent got l some e (s.closing l (below l b) (sender l e) (λ o. hop (subst (λ ds. hop_at ds l ≡ 1) d o)) arrived still);
-    }
+    still.at_rest dims slots r x.c c' sent got some x.same_dims x.same_rank s.still x.kept
+    (elim s.pushed [
+      | inl done ↦ inl done
+      | inr c ↦ inr (still.busy_of dims slots r x.c c' sent got some x.same_dims x.same_rank s.still x.kept c)
+    ])
+    (λ l b e o. s.read l (still.below dims slots r x.c c' sent got some x.same_dims x.same_rank s.still x.kept l b) (still.reader dims slots r x.c c' sent got some x.same_dims x.same_rank s.still x.kept l e) (subst (λ ds. hop_at ds l ≡ length ds) (sym x.same_dims) o))
 
 -- so is one whose epoch is over
 pub complete_rests : (dims : List ℕ) (r : ℕ) (c : State) (sent got : Logs) → c.dims ≡ dims → c.rank ≡ r → c.phase ≡ Complete → IsConveying c (starting_at dims r sent) (ending_at dims r got) → IsAtRest dims r c c sent got
@@ -157,7 +128,7 @@ module _ {S : Type 0} (R : Rules S) (laws : Laws R) (law : ClosesLaws) (rest : R
         elim (cases_eq (progress x) e) [
           | inl here ↦
               let q : Rests dims slots r c sent got = subst (λ m. RestsBy dims slots r m sent got) v.is (rested r x at on here) in
-              let s = q.left.stuck in
+              let s = q.left.stuck.still in
               let at_e : s.after.epoch ≡ e = s.epoch_after ∙ (s.epoch_before ∙ (q.same_epoch ∙ (sym p ∙ here))) in (
                 s.before,
                 s.after,

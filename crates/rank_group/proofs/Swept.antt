@@ -1,9 +1,7 @@
 -- One more rank is turned in a sweep.
 use Rattle.std.proofs.Common.{◌≡◌, ◌≢◌, ℕ, ◌+◌, ◌<◌, ◌≤◌, ◌==◌, Bool, true, false, cond, List, [], ◌∷◌, ◌++◌, length, length-append, Some, slice_get, refl, sym, ap, subst, ◌∙◌, arith, inl, inr}
 use Rattle.std.proofs.lemmas.Bool.{cases_eq, cases_lt, eq-eqb, ne_eqb}
-use Rattle.std.proofs.lemmas.List.{append-nil}
 use Rattle.item_buffer.specs.Contents.{Shipped}
-use Rattle.list_laws.proofs.Sums.{total_le, total_lt}
 use Rattle.list_laws.proofs.Lists.{get_once}
 use Rattle.route_tensor.specs.Grid.{ranks}
 use Rattle.route_tensor.specs.Link.{links}
@@ -11,7 +9,6 @@ use Rattle.route_tensor.specs.Ends.{sender_at, reader_at}
 use Rattle.port_bank.specs.Logs.{Logs, starting_at, ending_at}
 use Rattle.port_bank.specs.Flow.{Begins}
 use Rattle.port_bank.proofs.Owners.{sent_elsewhere, got_elsewhere}
-use Rattle.convey.proofs.OneRank.{ending-own}
 use Rattle.round_program.specs.Rules.{Rules}
 use Rattle.round_program.specs.Laws.{Laws}
 use Rattle.rank_node.specs.Movers.{MoverState, Manner, IsShape, dims_of, rank_of, lying}
@@ -20,18 +17,11 @@ use Rattle.rank_node.specs.Nodes.{IsNode}
 use Rattle.rank_node.specs.Next.{HasStopped}
 use Rattle.rank_group.specs.Closes.{ClosesLaws}
 use Rattle.rank_group.specs.Ranks.{RankState, HasRank, AllRanks, AfterRank, IsLeftBy, progress, crowded_in, idle_in}
-use Rattle.rank_group.proofs.Sweeps.{begins_length, begins_whole}
 use Rattle.rank_group.specs.Halves.{quota_of, KeepsCycle, next_cycle}
 use Rattle.rank_group.specs.Worlds.{entries_of, mover_in, inbox, World, move_of, moves, Lawful, RestsBy, Plan}
 use Rattle.rank_group.proofs.Cycled.{keeps_on}
+use Rattle.rank_group.proofs.Growing.{Grows, sent_same, got_same, inbox_same, inboxes_on}
 use Rattle.rank_group.proofs.Quotas.{sends_few}
-
--- where a rank's own logs grow and the others stay, all grow
-grown : (own : ℕ → Bool) (old new : Logs) → ((l : ℕ) → Begins (cond (own l) (old l) []) (cond (own l) (new l) [])) → ((l : ℕ) → cond (own l) [] (new l) ≡ cond (own l) [] (old l)) → (l : ℕ) → Begins (old l) (new l)
-grown own old new grows same l = pick (own l) (grows l) (same l) where
-  pick : (b : Bool) → Begins (cond b (old l) []) (cond b (new l) []) → cond b [] (new l) ≡ cond b [] (old l) → Begins (old l) (new l)
-  pick true g s = g
-  pick false g s = record { rest = []; is = s ∙ sym (append-nil (old l)) }
 
 -- a rank of which nothing changed
 other_rank : {S : Type 0} (R : Rules S) (dims : List ℕ) (cap : ℕ) (manner : Manner) (r : ℕ) (h : ℕ → S) (n : RankState S) (sent got sent' got' : Logs) → starting_at dims r sent' ≡ starting_at dims r sent → ending_at dims r got' ≡ ending_at dims r got
@@ -50,66 +40,23 @@ other_rank R dims cap manner r h n sent got sent' got' es eg is =
 module _ {S : Type 0} (R : Rules S) (dims : List ℕ) (cap slots : ℕ) (manner : Manner) (starts : List S) (h : ℕ → ℕ → S) (r : ℕ) (n n' : RankState S) (rs rs' : List (RankState S)) (sent got sent' got' : Logs)
     (w : World R dims cap slots manner starts h rs sent got) (at : slice_get rs r ≡ Some n) (at' : slice_get rs' r ≡ Some n') (others : (k : ℕ) → k ≢ r → slice_get rs' k ≡ slice_get rs k) (size : length rs' ≡ length rs)
     (t : AfterRank R dims cap slots r n n' sent got sent' got') (law : Lawful dims cap slots sent' got') where
-  sent_grows : (l : ℕ) → Begins (sent l) (sent' l)
-  sent_grows = grown (λ l. sender_at dims l == r) sent sent' t.sent_grows (λ l. ap (λ (f : Logs). f l) t.sent_elsewhere)
+  was_in : (l : ℕ) → reader_at dims l ≡ r → inbox dims rs l ≡ lying n.node.mover l
+  was_in l here = ap (λ k. lying (mover_in (slice_get rs k)) l) here ∙ ap (λ o. lying (mover_in o) l) at
 
-  pub got_grows : (l : ℕ) → Begins (got l) (got' l)
-  got_grows = grown (λ l. reader_at dims l == r) got got' t.got_grows (λ l. ap (λ (f : Logs). f l) t.got_elsewhere)
+  now_in : (l : ℕ) → reader_at dims l ≡ r → inbox dims rs' l ≡ lying n'.node.mover l
+  now_in l here = ap (λ k. lying (mover_in (slice_get rs' k)) l) here ∙ ap (λ o. lying (mover_in o) l) at'
 
-  entries_more : (l : ℕ) → length (entries_of (got' l)) ≡ length (entries_of (got l)) + length (entries_of (got_grows l).rest)
-  entries_more l = ap (λ g. length (entries_of g)) (got_grows l).is ∙ by (got l) (got_grows l).rest where
-    by : (xs ys : List Shipped) → length (entries_of (xs ++ ys)) ≡ length (entries_of xs) + length (entries_of ys)
-    by [] ys = omega arith
-    by (x ∷ xs) ys = omega (arith, length-append x.entries (entries_of (xs ++ ys)), length-append x.entries (entries_of xs), by xs ys)
-
-  -- an inbox has at most what it had and what came
-  inbox_step : (l : ℕ) → l < links dims → inbox dims rs' l + length (entries_of (got l)) ≤ inbox dims rs l + length (entries_of (got' l))
-  inbox_step l below = elim (cases_eq (reader_at dims l) r) [
-    | inl here ↦
-        let was : inbox dims rs l ≡ lying n.node.mover l = ap (λ k. lying (mover_in (slice_get rs k)) l) here ∙ ap (λ o. lying (mover_in o) l) at in
-        let now : inbox dims rs' l ≡ lying n'.node.mover l = ap (λ k. lying (mover_in (slice_get rs' k)) l) here ∙ ap (λ o. lying (mover_in o) l) at' in
-        let own : ending_at dims r got' l ≡ ending_at dims r got l ++ (got_grows l).rest = ending-own dims r got' l here ∙ ((got_grows l).is ∙ ap (λ g. g ++ (got_grows l).rest) (sym (ending-own dims r got l here))) in
-        let less = t.lies l (got_grows l).rest below here own in
-        omega (arith, was, now, less, entries_more l)
-    | inr apart ↦
-        let same : inbox dims rs' l ≡ inbox dims rs l = ap (λ o. lying (mover_in o) l) (others (reader_at dims l) apart) in
-        omega (arith, same, entries_more l)
-  ]
-
-  step : (l : ℕ) → l < links dims → move_of dims rs sent got l ≤ move_of dims rs' sent' got' l
-  step l below = omega (arith, inbox_step l below, w.inboxes l below, begins_length (sent l) (sent' l) (sent_grows l), begins_length (got l) (got' l) (got_grows l))
-
-  pub moves_on : moves dims rs sent got ≤ moves dims rs' sent' got'
-  moves_on = total_le (links dims) (move_of dims rs sent got) (move_of dims rs' sent' got') step
-
-  level : moves dims rs' sent' got' ≤ moves dims rs sent got → (l : ℕ) → l < links dims → move_of dims rs' sent' got' l ≤ move_of dims rs sent got l
-  level light l below = elim (cases_lt (move_of dims rs sent got l) (move_of dims rs' sent' got' l)) [
-    | inl less ↦ absurd (omega (arith, light, total_lt (links dims) (move_of dims rs sent got) (move_of dims rs' sent' got') l below less step))
-    | inr more ↦ omega (arith, more)
-  ]
-
-  -- where nothing moved the lists are as before
-  pub sent_same : moves dims rs' sent' got' ≤ moves dims rs sent got → sent' ≡ sent
-  sent_same light = λ i l. one l i where
-    one : (l : ℕ) → sent' l ≡ sent l
-    one l = elim (cases_lt l (links dims)) [
-      | inl below ↦ begins_whole (sent l) (sent' l) (sent_grows l) (omega (arith, level light l below, inbox_step l below, w.inboxes l below, begins_length (got l) (got' l) (got_grows l)))
-      | inr past ↦ (law.none_past l (omega (arith, past))).0 ∙ sym (w.none_past l (omega (arith, past))).0
-    ]
-
-  pub got_same : moves dims rs' sent' got' ≤ moves dims rs sent got → got' ≡ got
-  got_same light = λ i l. one l i where
-    one : (l : ℕ) → got' l ≡ got l
-    one l = elim (cases_lt l (links dims)) [
-      | inl below ↦ begins_whole (got l) (got' l) (got_grows l) (omega (arith, level light l below, inbox_step l below, w.inboxes l below, begins_length (sent l) (sent' l) (sent_grows l)))
-      | inr past ↦ (law.none_past l (omega (arith, past))).1 ∙ sym (w.none_past l (omega (arith, past))).1
-    ]
-
-  -- and no inbox shrank
-  inbox_same : moves dims rs' sent' got' ≤ moves dims rs sent got → (l : ℕ) → l < links dims → inbox dims rs l ≤ inbox dims rs' l
-  inbox_same light l below =
-      let e = ap (λ (g : Logs). length (entries_of (g l))) (got_same light) in
-      omega (arith, level light l below, w.inboxes l below, e, inbox_step l below, begins_length (sent l) (sent' l) (sent_grows l), begins_length (got l) (got' l) (got_grows l))
+  pub grows : Grows dims r sent got sent' got' (inbox dims rs) (inbox dims rs')
+  grows = record {
+    sent_elsewhere = t.sent_elsewhere;
+    got_elsewhere = t.got_elsewhere;
+    sent_grows = t.sent_grows;
+    got_grows = t.got_grows;
+    apart = λ l apart. ap (λ o. lying (mover_in o) l) (others (reader_at dims l) apart);
+    lies = λ l more below here own. omega (arith, was_in l here, now_in l here, t.lies l more below here own);
+    inboxes = w.inboxes;
+    past = λ l past. ((law.none_past l past).0 ∙ sym (w.none_past l past).0, (law.none_past l past).1 ∙ sym (w.none_past l past).1);
+  }
 
   abbrev kept_on : (g : ℕ → S) × (g 0 ≡ h r 0) × HasRank R dims cap manner r g n' sent' got'
   kept_on = t.kept manner (h r) (w.ranked.each r n at)
@@ -173,7 +120,7 @@ module _ {S : Type 0} (R : Rules S) (dims : List ℕ) (cap slots : ℕ) (manner 
       none_past = law.none_past;
       relays = law.relays;
       some = w.some;
-      inboxes = λ l below. omega (arith, inbox_step l below, w.inboxes l below);
+      inboxes = inboxes_on dims r sent got sent' got' (inbox dims rs) (inbox dims rs') grows;
       cycle = cycle_on;
       keeps = keeps_cycle laws closes rounds plan;
     },
@@ -191,17 +138,15 @@ module _ {S : Type 0} (R : Rules S) (dims : List ℕ) (cap slots : ℕ) (manner 
   pub rests_here : moves dims rs' sent' got' ≤ moves dims rs sent got → n'.over ≡ false → progress n' ≡ progress n → RestsBy dims slots r n'.node.mover sent' got'
   rests_here light on same =
       let has = w.ranked.each r n at in
-      let es = sent_same light in
-      let eg = got_same light in
+      let es = sent_same dims r sent got sent' got' (inbox dims rs) (inbox dims rs') grows light in
+      let eg = got_same dims r sent got sent' got' (inbox dims rs) (inbox dims rs') grows light in
       let left = t.left manner (h r) has on same (λ l. ap (λ (f : Logs). starting_at dims r f l) es) (λ l. ap (λ (f : Logs). ending_at dims r f l) eg) in
       rests_by n.node.mover n'.node.mover has.same_dims has.same_rank
       (λ l below to.
-      let was : inbox dims rs l ≡ lying n.node.mover l = ap (λ k. lying (mover_in (slice_get rs k)) l) to ∙ ap (λ o. lying (mover_in o) l) at in
-      let now : inbox dims rs' l ≡ lying n'.node.mover l = ap (λ k. lying (mover_in (slice_get rs' k)) l) to ∙ ap (λ o. lying (mover_in o) l) at' in
-      omega (arith, was, now, inbox_same light l below))
+      omega (arith, was_in l to, now_in l to, inbox_same dims r sent got sent' got' (inbox dims rs) (inbox dims rs') grows light l below))
       (subst (λ f. IsLeftBy n.node.mover n'.node.mover (starting_at dims r f) (ending_at dims r got') (starting_at dims r sent') (ending_at dims r got') (crowded_in dims slots r sent' got') (idle_in dims r sent' got')) (sym es)
       (subst (λ f. IsLeftBy n.node.mover n'.node.mover (starting_at dims r sent) (ending_at dims r f) (starting_at dims r sent') (ending_at dims r got') (crowded_in dims slots r sent' got') (idle_in dims r sent' got')) (sym eg) left))
 
   -- the ranks that rested go on resting
   pub rests_on : moves dims rs' sent' got' ≤ moves dims rs sent got → (k : ℕ) (m : MoverState) → RestsBy dims slots k m sent got → RestsBy dims slots k m sent' got'
-  rests_on light k m rest = subst (λ f. RestsBy dims slots k m f got') (sym (sent_same light)) (subst (RestsBy dims slots k m sent) (sym (got_same light)) rest)
+  rests_on light k m rest = subst (λ f. RestsBy dims slots k m f got') (sym (sent_same dims r sent got sent' got' (inbox dims rs) (inbox dims rs') grows light)) (subst (RestsBy dims slots k m sent) (sym (got_same dims r sent got sent' got' (inbox dims rs) (inbox dims rs') grows light)) rest)

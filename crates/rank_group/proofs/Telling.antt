@@ -7,13 +7,11 @@ use Rattle.list_laws.proofs.Lists.{find}
 use Rattle.route_tensor.specs.Grid.{ranks}
 use Rattle.route_tensor.specs.Link.{links}
 use Rattle.route_tensor.specs.Ends.{sender_at, reader_at}
-use Rattle.port_bank.specs.Logs.{Logs, lasts, segment, starting_at, ending_at}
+use Rattle.port_bank.specs.Logs.{Logs, lasts, segment, starting_at, ending_at, EndsLast}
 use Rattle.port_bank.specs.Flow.{Begins, hop_link, belongs, items_of}
 use Rattle.port_bank.specs.Round.{Round, IsRound, logs_of, pushed, pulled, CloseLaw}
 use Rattle.port_bank.proofs.Routes.{numbered}
-use Rattle.port_bank.proofs.Posts.{segment_then}
-use Rattle.port_bank.proofs.Segments.{lasts-append, lasts_first}
-use Rattle.convey.specs.Agreement.{EndsLast}
+use Rattle.port_bank.proofs.Marks.{none_after, all_got}
 use Rattle.rank_group.specs.Closes.{ClosesLaws}
 use Rattle.convey.proofs.OneRank.{starting-own, first_link, last_link}
 use Rattle.round_program.specs.Rules.{Rules}
@@ -28,58 +26,6 @@ use Rattle.rank_group.specs.Told.{Made, TellsRun, vote_sent}
 use Rattle.rank_group.proofs.Worlds.{canonical, over_at_last}
 use Rattle.rank_group.specs.Worlds.{progress_in, history_in, mover_in, part_at}
 use Rattle.rank_group.proofs.Movers.{Completed, completed}
-
--- whether the latest parcel of a log is marked last
-closes : List Shipped → Bool
-closes [] = false
-closes (p ∷ []) = p.last
-closes (p ∷ (q ∷ qs)) = closes (q ∷ qs)
-
-closes_end : (front : List Shipped) (final : Shipped) → closes (front ++ final ∷ []) ≡ final.last
-unfolding closes
-closes_end [] final = refl
-closes_end (x ∷ []) final = refl
-closes_end (x ∷ (y ∷ ys)) final = closes_end (y ∷ ys) final
-
-closes_back : (got xs : List Shipped) (x : Shipped) → closes (got ++ x ∷ xs) ≡ closes (x ∷ xs)
-unfolding closes
-closes_back [] xs x = refl
-closes_back (g ∷ []) xs x = refl
-closes_back (g ∷ (h ∷ hs)) xs x = closes_back (h ∷ hs) xs x
-
-closes_some : (xs : List Shipped) → closes xs ≡ true → 0 < lasts xs
-unfolding closes
-closes_some [] e = absurd (cc)
-closes_some (x ∷ []) e = omega (arith, lasts_first x [] true e)
-closes_some (x ∷ (y ∷ ys)) e = let rest = closes_some (y ∷ ys) e in elim (cases_Bool x.last) [
-  | inl t ↦ omega (arith, lasts_first x (y ∷ ys) true t)
-  | inr f ↦ omega (arith, lasts_first x (y ∷ ys) false f, rest)
-]
-
--- where a link ended as often at its reader, and ends with a last parcel, all was collected
-whole : (got sent : List Shipped) → Begins got sent → lasts got ≡ lasts sent → EndsLast sent → got ≡ sent
-whole got sent b same ends = by b.rest b.is where
-  by : (rest : List Shipped) → sent ≡ got ++ rest → got ≡ sent
-  by [] e = sym (e ∙ append-nil got)
-  by (x ∷ xs) e =
-      let c : closes (x ∷ xs) ≡ true = sym (closes_back got xs x) ∙ (ap closes (sym e ∙ ends.is) ∙ (closes_end ends.front ends.final ∙ ends.last)) in
-      let some = closes_some (x ∷ xs) c in
-      absurd (omega (arith, ap lasts e, lasts-append got (x ∷ xs), same, some))
-
--- past its last epoch a link has no segment
-segment_past : (log : List Shipped) (n : ℕ) → lasts log < n → segment n log ≡ []
-segment_past [] zero h = refl
-segment_past [] (suc n) h = refl
-segment_past (q ∷ log) zero h = absurd (omega (arith, h))
-segment_past (q ∷ log) (suc n) h = elim (cases_Bool q.last) [
-  | inl t ↦ ap (λ c. cond c (segment n log) (segment (suc n) log)) t ∙ segment_past log n (omega (arith, h, lasts_first q log true t))
-  | inr f ↦ ap (λ c. cond c (segment n log) (segment (suc n) log)) f ∙ segment_past log (suc n) (omega (arith, h, lasts_first q log false f))
-]
-
-none_after : (e : ℕ) (log : List Shipped) → EndsLast log → lasts log ≤ e → segment e log ≡ []
-none_after e log ends low =
-    let n : lasts log ≡ lasts ends.front + 1 = omega (arith, ap lasts ends.is, lasts-append ends.front (ends.final ∷ []), lasts_first ends.final [] true ends.last) in
-    ap (segment e) ends.is ∙ (segment_then e ends.front ends.final (λ same. omega (arith, same, n, low)) ∙ segment_past ends.front e (omega (arith, n, low)))
 
 module _ {S : Type 0} (R : Rules S) (laws : Laws R) (law : ClosesLaws) (round : Round) (cap slots : ℕ) (manner : Manner) (starts : List S) (h : ℕ → ℕ → S) (rs : List (RankState S))
     (w : AllRanks R round.dims cap slots manner starts h rs (logs_of round.sent) (logs_of round.got)) (close : CloseLaw round) (over : (r : ℕ) (x : RankState S) → slice_get rs r ≡ Some x → x.over ≡ true)
@@ -141,7 +87,7 @@ module _ {S : Type 0} (R : Rules S) (laws : Laws R) (law : ClosesLaws) (round : 
       t.whole.in_lasts l below refl ∙ t.last
 
   collected : (l : ℕ) → l < links dims → got l ≡ sent l
-  collected l below = let o = out l below in whole (got l) (sent l) (w.links_keep l below).begins (got_all l below ∙ sym o.ended) o.by_last
+  collected l below = let o = out l below in all_got (got l) (sent l) (w.links_keep l below).begins o.by_last (got_all l below ∙ sym o.ended)
 
   -- what a rank pushed in an epoch is what it sent on hop 1
   pushed_part : (e s d : ℕ) → e < 2 * n → s < ranks dims → d < ranks dims → pushed round e s d ≡ (part_at dims rs sent got s).pushed e d

@@ -18,7 +18,7 @@ use Rattle.rank_node.specs.Movers.{Manner, epoch_in}
 use Rattle.rank_group.specs.Closes.{ClosesLaws}
 use Rattle.rank_group.specs.Ranks.{RankState, IsRank, HasRank, AllRanks}
 use Rattle.rank_group.specs.Drives.{progs_of, AreFresh}
-use Rattle.rank_group.specs.Runs.{AllRan}
+use Rattle.rank_crews.specs.Runs.{AllRan}
 use Rattle.rank_group.proofs.Worlds.{over_at_last}
 use Rattle.rank_group.specs.Seats.{SeatedState, bank_of, IsOnWay, Ran, IsSeated, AreSeated}
 

@@ -1,12 +1,8 @@
 pub mod Closes
 pub mod Ranks
-pub mod Runs
-pub mod Crews
 pub mod Defaults
 pub mod Seats
 pub mod Noted
-pub mod Rings
-pub mod Children
 pub mod Worlds
 pub mod Drives
 pub mod Turns

@@ -3,8 +3,7 @@ use Rattle.std.specs.Prelude.{◌≡◌, ℕ, zero, suc, ◌+◌, ◌*◌, ◌<�
 use Rattle.bale_types.specs.declared.item.Item.{Item}
 use Rattle.route_tensor.specs.Grid.{ranks}
 use Rattle.route_tensor.specs.Link.{links}
-use Rattle.port_bank.specs.Logs.{lasts}
-use Rattle.convey.specs.Agreement.{EndsLast}
+use Rattle.port_bank.specs.Logs.{lasts, EndsLast}
 use Rattle.port_bank.specs.Round.{Round, IsRound, logs_of, pushed, pulled}
 use Rattle.round_program.specs.Rules.{Rules}
 use Rattle.round_program.specs.Canonical.{absorbed_round, states_at, items_at, emitted_by}

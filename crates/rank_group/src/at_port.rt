@@ -1,13 +1,12 @@
 //! A rank of a run of programs at its port of a slot bank.
 ghost use Rattle.std.specs.Prelude.{◌≡◌, ◌<◌, ◌^◌};
 
-use crate::gate::Gate;
 use crate::noting::NotingPort;
-use crate::seated::Seated;
 use crate::sweeping::Rank;
 use crate::turning::turn_over;
 use bale_types::NoMemory;
 use port_bank::Port;
+use rank_crews::{Gate, Seated};
 use rank_node::Steps;
 use round_program::Program;
 use std::marker::Model;

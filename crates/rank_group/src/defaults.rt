@@ -10,9 +10,9 @@ ghost use Rattle.rank_group.specs.Defaults.{count_of, usual, HasDriven};
 ghost use Rattle.rank_node.specs.Ledgers.{IsBlankOf};
 
 use crate::drive::{Finished, drive_serial};
-use crate::gate::OpenGate;
 use crate::threads::drive_threads;
 use bale_types::NoMemory;
+use rank_crews::OpenGate;
 use rank_node::{Steps, Via};
 use round_program::{Program, Progs};
 use route_tensor::Grid;

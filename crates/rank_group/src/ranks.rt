@@ -6,7 +6,7 @@ ghost use Rattle.round_program.specs.Canonical.{InRound};
 ghost use Rattle.rank_node.specs.Movers.{manner_of};
 ghost use Rattle.rank_group.specs.Drives.{progs_of, AreFresh};
 
-use crate::apart::one_by_one;
+use crate::list_parts::one_by_one;
 use crate::sweeping::Rank;
 use bale_types::NoMemory;
 use rank_node::{Node, Via};

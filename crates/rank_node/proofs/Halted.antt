@@ -13,15 +13,14 @@ use Rattle.route_tensor.specs.Ends.{hop_at, sender_at, reader_at}
 use Rattle.port_bank.specs.Logs.{Logs}
 use Rattle.port_bank.specs.Flow.{hop_link}
 use Rattle.port_bank.specs.Shapes.{IsConveyorShape}
-use Rattle.list_laws.specs.Lists.{Begins}
+use Rattle.list_laws.specs.Lists.{Begins, Ends}
 use Rattle.hop_core.specs.declared.phase.Phase.{Phase}
 use Rattle.hop_core.specs.declared.phase.Phase.TheVariants.{Dormant, Working, Endgame, Cleanup, Complete}
 use Rattle.hop_core.specs.Link.{Out, is_due, is_empty}
 use Rattle.hop_core.specs.State.{State}
-use Rattle.convey.specs.Agreement.{Ends}
 use Rattle.convey.specs.Arrived.{HasArrived}
 use Rattle.convey.specs.Buffers.{buffers_of, in_of, out_of}
-use Rattle.convey.specs.Conveyors.{HoldsAtMost, standing_toward}
+use Rattle.convey.specs.Conveyors.{AgreesWith, HoldsAtMost, standing_toward}
 use Rattle.convey.specs.Due.{Wants, IsOver, NextIs, HeldUp, next_link}
 use Rattle.convey.specs.Progress.{progress_of}
 use Rattle.convey.specs.declared.progress.Progress.TheVariants as progress
@@ -34,7 +33,7 @@ use Rattle.rank_node.specs.Moves.{AfterMoves, OnConveyor}
 use Rattle.rank_node.specs.Movers.Manner.{ByConveyor}
 use Rattle.rank_node.specs.Movers.MoverState.{Conveying}
 use Rattle.rank_node.specs.Nodes.{IsNode}
-use Rattle.rank_node.specs.Stuck.{HasCrowded, IsStuck}
+use Rattle.rank_node.specs.Stuck.{HasCrowded, IsStill, IsStuck}
 use Rattle.rank_node.proofs.Ballots.{same_sends}
 use Rattle.rank_node.proofs.Moved.{AfterPush, AfterAdvance, AfterTakes, moved}
 
@@ -72,6 +71,68 @@ pub record Advanced (c c' : State) (cap : ℕ) (sent sent' got got' : Logs) (is_
   pub stopped : (l : ℕ) (e : Entry) → l < links c.dims → reader_at c.dims l ≡ c.rank → hop_at c.dims l < length c.dims → slice_get (in_of c' l).parcel.untaken 0 ≡ Some e → NextIs c.dims c.rank l e.tag (HeldUp cap c' sent sent' is_crowded)
   pub completes : IsOver c' → c'.phase ≡ Complete
 
+module _ (c c1 c2 c3 : State) (cap : ℕ) (sent got sent' got' : Logs) (is_crowded is_idle : ℕ → Bool)
+    (same1 : c1 ≡ record c { outs = c1.outs; pulled = c1.pulled }) (agrees1 : AgreesWith c1 sent got) (dims2 : c2.dims ≡ c1.dims) (rank2 : c2.rank ≡ c1.rank) (agrees2 : AgreesWith c2 sent' got')
+    (advanced : Advanced c1 c2 cap sent sent' got got' is_crowded is_idle)
+    (same3 : c3 ≡ record c2 { ins = c3.ins; pulled = c3.pulled }) (fewer : NoMore c2 c3) where
+  dims1 : c1.dims ≡ c.dims
+  dims1 = ap (λ (c : State). c.dims) same1
+
+  rank1 : c1.rank ≡ c.rank
+  rank1 = ap (λ (c : State). c.rank) same1
+
+  below1 : (l : ℕ) → l < links c.dims → l < links c1.dims
+  below1 l b = subst (λ (d : List ℕ). l < links d) (sym dims1) b
+
+  sender1 : (l : ℕ) → sender_at c.dims l ≡ c.rank → sender_at c1.dims l ≡ c1.rank
+  sender1 l e = subst (λ (d : List ℕ). sender_at d l ≡ c1.rank) (sym dims1) (e ∙ sym rank1)
+
+  reader1 : (l : ℕ) → reader_at c.dims l ≡ c.rank → reader_at c1.dims l ≡ c1.rank
+  reader1 l e = subst (λ (d : List ℕ). reader_at d l ≡ c1.rank) (sym dims1) (e ∙ sym rank1)
+
+  module _ (sent_same : (l : ℕ) → sent' l ≡ sent l) where
+    -- a push was refused toward a receiver, whose first link is crowded
+    pub crowded_toward : (to : ℕ) → IsGrid c.dims → c.rank < ranks c.dims → to < ranks c1.dims → standing_toward c1 to ≡ cap → HasCrowded c.dims c.rank is_crowded
+    crowded_toward to grid own low full =
+        let grid1 : IsGrid c1.dims = subst IsGrid (sym dims1) grid in
+        let own1 : c1.rank < ranks c1.dims = subst (λ (d : List ℕ). c1.rank < ranks d) (sym dims1) (subst (λ r. r < ranks c.dims) (sym rank1) own) in
+        let first : FirstLink c1.dims c1.rank to = first_link c1.dims c1.rank to grid1 own1 low in
+        let l : ℕ = hop_link c1.dims c1.rank to 1 in
+        record {
+          link = l;
+          below = subst (λ (d : List ℕ). l < links d) dims1 first.below;
+          sender = subst (λ (d : List ℕ). sender_at d l ≡ c.rank) dims1 (first.sender ∙ rank1);
+          crowded = advanced.full l first.below first.sender (sent_same l) full;
+        }
+
+    pub still : (got_same : (l : ℕ) → got' l ≡ got l) → IsStill c c3 sent got sent' got' is_crowded is_idle
+    still got_same =
+        record {
+          before = c1;
+          after = c2;
+          dims_before = dims1;
+          rank_before = rank1;
+          epoch_before = ap (λ (c : State). c.epoch) same1;
+          dims_after = dims2;
+          rank_after = rank2;
+          epoch_after = advanced.epoch;
+          done_after = sym (ap (λ (c : State). c.done) same3);
+          ins_before = λ l. ap (λ (c : State). (in_of c l).parcel.untaken) same1;
+          ins_after = fewer;
+          agrees_before = agrees1;
+          agrees_after = agrees2;
+          lies = λ l b e.
+              let rest = advanced.lies l [] (below1 l b) (reader1 l e) (got_same l ∙ sym (append-nil (got l))) in
+              record { front = rest.front; is = sym (append-nil (in_of c1 l).parcel.untaken) ∙ rest.is };
+          idle = λ l b e w. advanced.idles l (below1 l b) (reader1 l e) w (got_same l) (sent_same l);
+          stopped = λ l x b e o some.
+              let next = advanced.stopped l x (below1 l b) (reader1 l e) (subst (λ (d : List ℕ). hop_at d l < length d) (sym dims1) o) some in
+              subst (λ (d : List ℕ). NextIs d c.rank l x.tag (λ m. is_crowded m ≡ true)) dims1 (subst (λ r. NextIs c1.dims r l x.tag (λ m. is_crowded m ≡ true)) rank1
+              (record { below = next.below; sender = next.sender; hop = next.hop; holds = next.holds.crowded (sent_same (next_link c1.dims c1.rank (hop_at c1.dims l) x.tag)) }));
+          closing = λ l b e o a open'. advanced.closing l (below1 l b) (sender1 l e) (λ q. o (subst (λ (d : List ℕ). hop_at d l ≡ 1) dims1 q)) a open';
+          over = λ o. ap (λ (c : State). c.phase) same3 ∙ advanced.completes o;
+        }
+
 module _ {S : Type 0} (R : Rules S) (h : ℕ → S) (run : Running S) (c0 c1 c2 c3 : State) (next cap : ℕ) (done complete voting : Bool) (prog : S) (sum : ℕ) (spoiled : Bool) (sent got sent' got' : Logs) (is_crowded is_idle : ℕ → Bool)
     (grid : IsGrid c3.dims) (own : c3.rank < ranks c3.dims) (push : AfterPush R run c0 c1 next sent got)
     (refused : (to : ℕ) (x : Item) → slice_get (to_send R run.prog run.sends) next ≡ Some (to, x) → standing_toward c1 to ≡ cap)
@@ -79,32 +140,17 @@ module _ {S : Type 0} (R : Rules S) (h : ℕ → S) (run : Running S) (c0 c1 c2 
     (all : done ≡ (next == length (to_send R run.prog run.sends))) (adv : AfterAdvance c1 c2 done complete sent got sent' got') (advanced : Advanced c1 c2 cap sent sent' got got' is_crowded is_idle)
     (takes : AfterTakes R voting c2 c3 run.prog prog run.sum sum run.spoiled spoiled sent' got') (fewer : NoMore c2 c3) (is : IsNode R h (record { run = run; mover = Conveying c0 }) sent got)
     (sent_same : (l : ℕ) → sent' l ≡ sent l) (got_same : (l : ℕ) → got' l ≡ got l) where
-  dims1 : c1.dims ≡ c0.dims
-  dims1 = ap (λ (c : State). c.dims) push.same
-
-  rank1 : c1.rank ≡ c0.rank
-  rank1 = ap (λ (c : State). c.rank) push.same
-
   dims31 : c3.dims ≡ c1.dims
   dims31 = ap (λ (c : State). c.dims) takes.same ∙ adv.dims
 
   rank31 : c3.rank ≡ c1.rank
   rank31 = ap (λ (c : State). c.rank) takes.same ∙ adv.rank
 
-  below1 : (l : ℕ) → l < links c0.dims → l < links c1.dims
-  below1 l b = subst (λ (d : List ℕ). l < links d) (sym dims1) b
+  dims30 : c3.dims ≡ c0.dims
+  dims30 = dims31 ∙ ap (λ (c : State). c.dims) push.same
 
-  sender1 : (l : ℕ) → sender_at c0.dims l ≡ c0.rank → sender_at c1.dims l ≡ c1.rank
-  sender1 l e = subst (λ (d : List ℕ). sender_at d l ≡ c1.rank) (sym dims1) (e ∙ sym rank1)
-
-  reader1 : (l : ℕ) → reader_at c0.dims l ≡ c0.rank → reader_at c1.dims l ≡ c1.rank
-  reader1 l e = subst (λ (d : List ℕ). reader_at d l ≡ c1.rank) (sym dims1) (e ∙ sym rank1)
-
-  grid1 : IsGrid c1.dims
-  grid1 = subst IsGrid dims31 grid
-
-  own1 : c1.rank < ranks c1.dims
-  own1 = subst (λ (d : List ℕ). c1.rank < ranks d) dims31 (subst (λ r. r < ranks c3.dims) rank31 own)
+  rank30 : c3.rank ≡ c0.rank
+  rank30 = rank31 ∙ ap (λ (c : State). c.rank) push.same
 
   -- done, or refused toward a receiver whose first link is crowded
   pushed_or : (b : Bool) → done ≡ b → (c2.done ≡ true) ⊎ HasCrowded c0.dims c0.rank is_crowded
@@ -119,42 +165,16 @@ module _ {S : Type 0} (R : Rules S) (h : ℕ → S) (run : Running S) (c0 c1 c2 
 
         toward : (x : ℕ × Item) → slice_get (to_send R run.prog run.sends) next ≡ Some x → HasCrowded c0.dims c0.rank is_crowded
         toward (to, x) at =
-            let first : FirstLink c1.dims c1.rank to = first_link c1.dims c1.rank to grid1 own1 (receiver to x at) in
-            let l : ℕ = hop_link c1.dims c1.rank to 1 in
-            record {
-              link = l;
-              below = subst (λ (d : List ℕ). l < links d) dims1 first.below;
-              sender = subst (λ (d : List ℕ). sender_at d l ≡ c0.rank) dims1 (first.sender ∙ rank1);
-              crowded = advanced.full l first.below first.sender (sent_same l) (refused to x at);
-            }
+            crowded_toward c0 c1 c2 c3 cap sent got sent' got' is_crowded is_idle push.same push.agrees adv.dims adv.rank adv.agrees advanced takes.same fewer sent_same to
+            (subst IsGrid dims30 grid) (subst (λ (d : List ℕ). c0.rank < ranks d) dims30 (subst (λ r. r < ranks c3.dims) rank30 own)) (receiver to x at) (refused to x at)
 
   pub stuck : IsStuck c0 c3 sent got sent' got' is_crowded is_idle
+  unfolding still
   stuck =
       record {
-        before = c1;
-        after = c2;
-        dims_before = dims1;
-        rank_before = rank1;
-        epoch_before = ap (λ (c : State). c.epoch) push.same;
-        dims_after = adv.dims;
-        rank_after = adv.rank;
-        epoch_after = advanced.epoch;
-        ins_before = λ l. ap (λ (c : State). (in_of c l).parcel.untaken) push.same;
-        ins_after = fewer;
-        agrees_before = push.agrees;
-        agrees_after = adv.agrees;
+        still = still c0 c1 c2 c3 cap sent got sent' got' is_crowded is_idle push.same push.agrees adv.dims adv.rank adv.agrees advanced takes.same fewer sent_same got_same;
         pushed = pushed_or done refl;
         read = λ l b e o. ap (λ (c : State). (in_of c l).parcel.untaken) push.same ∙ is.moving.read l b e o;
-        lies = λ l b e.
-            let rest = advanced.lies l [] (below1 l b) (reader1 l e) (got_same l ∙ sym (append-nil (got l))) in
-            record { front = rest.front; is = sym (append-nil (in_of c1 l).parcel.untaken) ∙ rest.is };
-        idle = λ l b e w. advanced.idles l (below1 l b) (reader1 l e) w (got_same l) (sent_same l);
-        stopped = λ l x b e o some.
-            let next = advanced.stopped l x (below1 l b) (reader1 l e) (subst (λ (d : List ℕ). hop_at d l < length d) (sym dims1) o) some in
-            subst (λ (d : List ℕ). NextIs d c0.rank l x.tag (λ m. is_crowded m ≡ true)) dims1 (subst (λ r. NextIs c1.dims r l x.tag (λ m. is_crowded m ≡ true)) rank1
-            (record { below = next.below; sender = next.sender; hop = next.hop; holds = next.holds.crowded (sent_same (next_link c1.dims c1.rank (hop_at c1.dims l) x.tag)) }));
-        closing = λ l b e o a still. advanced.closing l (below1 l b) (sender1 l e) (λ q. o (subst (λ (d : List ℕ). hop_at d l ≡ 1) dims1 q)) a still;
-        over = λ o. ap (λ (c : State). c.phase) takes.same ∙ advanced.completes o;
       }
 
 -- what an advance says of the lists, whether it answered or found no memory

@@ -5,13 +5,13 @@ use Rattle.std.proofs.lemmas.List.{length-append}
 use Rattle.item_buffer.specs.Contents.{Shipped}
 use Rattle.list_laws.specs.Lists.{Begins}
 use Rattle.list_laws.proofs.Lists.{within, get_last, get_before}
-use Rattle.port_bank.specs.Logs.{lasts, segment}
+use Rattle.port_bank.specs.Logs.{lasts, segment, lasts_in}
 use Rattle.port_bank.proofs.Segments.{lasts-append, lasts_first, segment_begins}
 use Rattle.port_bank.proofs.Posts.{segment_now, segment_then}
 use Rattle.exstack.specs.Links.{Out, gone, parcel_of}
 use Rattle.exstack.specs.Steps.{was_moved, WasPosted}
 use Rattle.exstack.specs.Cycles.{proceed_parcel}
-use Rattle.exstack.specs.Agreement.{LinkAgrees, lasts_in}
+use Rattle.exstack.specs.Agreement.{LinkAgrees}
 
 some_is : {X : Type 0} (x y : X) → Some x ≡ Some y → x ≡ y
 some_is x y e = cc

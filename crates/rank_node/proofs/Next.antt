@@ -9,7 +9,8 @@ use Rattle.exstack.specs.declared.stage.Stage.TheVariants.{Start, Filling}
 use Rattle.exstack.specs.Links.{no_in}
 use Rattle.exstack.specs.State.{State, out_at, in_at, link_to, link_from, may_read}
 use Rattle.exstack.specs.Cycles.{exchange_parcel, entries_in}
-use Rattle.exstack.specs.Agreement.{LinkAgrees, AgreesIn, Ends, back_first, rounds_in}
+use Rattle.list_laws.specs.Lists.{Ends}
+use Rattle.exstack.specs.Agreement.{LinkAgrees, AgreesIn, back_first, rounds_in}
 use Rattle.exstack.specs.Standing.{IsStack}
 use Rattle.round_program.specs.Rules.{Rules}
 use Rattle.rank_node.specs.Sending.{to_send}

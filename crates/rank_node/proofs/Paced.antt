@@ -5,14 +5,14 @@ use Rattle.std.proofs.lemmas.Bool.{cases_Bool, cases_lt, true≢false, false≢t
 use Rattle.std.proofs.lemmas.List.{length-map, append-nil}
 use Rattle.list_laws.specs.Lists.{Begins}
 use Rattle.list_laws.proofs.Lists.{find}
-use Rattle.port_bank.specs.Logs.{Logs, lasts, segment}
+use Rattle.port_bank.specs.Logs.{Logs, lasts, segment, lasts_in}
 use Rattle.exstack.specs.declared.stage.Stage.{Stage}
 use Rattle.exstack.specs.declared.stage.Stage.TheVariants.{Start, Proceeding, Filling, Exchanging, Full, AllDone}
 use Rattle.exstack.specs.Links.{Out, In, no_out, no_in, gone, begun_out, begun_in}
 use Rattle.exstack.specs.State.{State, out_at, in_at, number, link_to, link_from, may_proceed, is_proceeding, is_exchanging, in_proceed, in_exchange, all_ended}
 use Rattle.exstack.specs.Steps.{MadeRound, was_moved}
 use Rattle.exstack.specs.Cycles.{proceed_parcel}
-use Rattle.exstack.specs.Agreement.{LinkAgrees, AgreesIn, rounds_in, lasts_in, cycle_after}
+use Rattle.exstack.specs.Agreement.{LinkAgrees, AgreesIn, rounds_in, cycle_after}
 use Rattle.exstack.specs.Standing.{IsStack, may_wait}
 use Rattle.exstack.proofs.Beginning.{begun_outs}
 use Rattle.round_program.specs.Rules.{Rules}

@@ -1,13 +1,13 @@
 -- What holds of an exstack between two turns.
 use Rattle.std.proofs.Common.{◌≡◌, ℕ, ◌+◌, ◌<◌, ◌≤◌, Bool, true, false, refl, ap, ◌∙◌, arith}
-use Rattle.port_bank.specs.Logs.{Logs, lasts}
+use Rattle.port_bank.specs.Logs.{Logs, lasts, lasts_in}
 use Rattle.port_bank.proofs.Segments.{lasts_begins}
 use Rattle.exstack.specs.declared.stage.Stage.{Stage}
 use Rattle.exstack.specs.declared.stage.Stage.TheVariants.{Start, Proceeding, Filling, Exchanging, Full, AllDone}
 use Rattle.exstack.specs.Links.{no_out, no_in}
 use Rattle.exstack.specs.State.{State, out_at, in_at, link_to}
 use Rattle.exstack.specs.Standing.{IsStack}
-use Rattle.exstack.specs.Agreement.{AgreesIn, lasts_in}
+use Rattle.exstack.specs.Agreement.{AgreesIn}
 use Rattle.exstack.specs.Parts.{is_all_done}
 use Rattle.rank_node.specs.Movers.{IsStacking}
 

@@ -1,7 +1,7 @@
 -- The laws of what turns leave of a rank at two slot banks.
 use Rattle.std.proofs.Common.{◌≡◌, ℕ, Bool, true, refl, subst, ◌∙◌, arith, inl, inr}
 use Rattle.std.proofs.lemmas.Bool.{cases_lt}
-use Rattle.rank_group.specs.Runs.{RanLaws}
+use Rattle.rank_crews.specs.Runs.{RanLaws}
 use Rattle.round_program.specs.Talks.{Talk}
 use Rattle.rank_group.specs.laws.NotedLaws.{same_laws as one_same_laws}
 use Rattle.biconvey.specs.Seats.{SeatedState, Ran, HaveSame}

@@ -1,7 +1,7 @@
 -- Where no parcel moves in some turns and none in further ones, none moves in both.
 use Rattle.std.proofs.Common.{refl, ◌∙◌}
 use Rattle.link_slots.specs.Seen.{Manning}
-use Rattle.rank_group.specs.Runs.{RanLaws}
+use Rattle.rank_crews.specs.Runs.{RanLaws}
 use Rattle.rank_group.specs.Noted.{HasSame}
 
 pub same_laws : {S : Type 0} (seat : S → Manning) → RanLaws (λ x y. HasSame (seat x) (seat y))

@@ -2,7 +2,7 @@
 use Rattle.std.proofs.Common.{◌≡◌, ℕ, Bool, true, refl, subst, ◌∙◌, arith, inl, inr}
 use Rattle.std.proofs.lemmas.Bool.{cases_lt}
 use Rattle.round_program.specs.Rules.{Rules}
-use Rattle.rank_group.specs.Runs.{RanLaws}
+use Rattle.rank_crews.specs.Runs.{RanLaws}
 use Rattle.rank_group.specs.Seats.{Ran}
 
 pub ran_laws : {S : Type 0} (R : Rules S) (cap : ℕ) (told : ℕ → ℕ → Bool) → RanLaws (λ x y. Ran R cap told x y)

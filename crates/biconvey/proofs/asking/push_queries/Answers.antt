@@ -1,6 +1,7 @@
 use Rattle.std.proofs.Common.{arith}
 use Rattle.round_program.specs.Replies.{asks_of}
-use Rattle.biconvey.proofs.Offering.{push_more, offers_end, none_left}
+use Rattle.rank_node.proofs.Offered.{push_more, none_left}
+use Rattle.biconvey.proofs.Offering.{offers_end}
 use Rattle.biconvey.proofs.asking.push_queries.Goals as goal
 
 pub returns-in-Full : goal.returns-in-Full

@@ -1,6 +1,6 @@
 use Rattle.std.proofs.Common.{◌-◌}
 use Rattle.round_program.specs.Replies.{asks_of}
-use Rattle.biconvey.proofs.Offering.{Offers}
+use Rattle.rank_node.proofs.Offered.{Offers}
 use Rattle.biconvey.proofs.asking.push_queries.Given as goal
 
 abbrev pub invariant-loop-next : goal.invariant-loop-next

@@ -6,7 +6,8 @@ use Rattle.convey.specs.Conveyors.{standing_toward}
 use Rattle.convey.specs.Parts.{part_of}
 use Rattle.list_laws.proofs.Lists.{all_get, get_once}
 use Rattle.round_program.specs.Replies.{carrying, asks_of}
-use Rattle.biconvey.proofs.Offering.{asked_at, push_on, full_at}
+use Rattle.rank_node.proofs.Offered.{push_on}
+use Rattle.biconvey.proofs.Offering.{asked_at, full_at}
 use Rattle.biconvey.proofs.asking.push_query.Goals as goal
 
 pub push-requires : goal.push-requires

@@ -1,6 +1,6 @@
 use Rattle.std.proofs.Common.{◌≡◌, ◌==◌, ◌+◌, true, not, ◌||◌, ap, sym, subst, ◌∙◌, arith}
 use Rattle.port_bank.specs.Port.{Rest}
-use Rattle.rank_group.proofs.Crewed.{neither}
+use Rattle.rank_crews.proofs.Crewed.{neither}
 use Rattle.biconvey.specs.Seats.{SeatedState, HasWay, Ran, HaveSame}
 use Rattle.biconvey.proofs.OnPorts.{one_seat, has_way, turned, none_moved}
 use Rattle.biconvey.proofs.at_ports.AtPortsSeated.turn.Goals as goal

@@ -13,7 +13,8 @@ use Rattle.rank_node.specs.Movers.{AllRead}
 use Rattle.biconvey.specs.States.{BiState, Sides, IsBiNode, HasAsked, HasAnswered}
 use Rattle.biconvey.specs.Still.{IsStuck, Known}
 use Rattle.biconvey.proofs.Turned.{Advances, works_on, was_served, has_completed, same_asks, count_is, asked_count, receivers, low, all_pushed, begun1, agrees1, stays_done, dims2, open2, answers2, epoch2, pulled2, begun3, agrees3, over3, halfway, first4, heard4, turned}
-use Rattle.biconvey.proofs.Stopped.{Served, complete_from, lies_left, once, read_or, stuck}
+use Rattle.rank_node.proofs.Halted.{Advanced}
+use Rattle.biconvey.proofs.Stopped.{complete_from, lies_left, once, read_or, stuck}
 use Rattle.biconvey.proofs.bi_node.BiNode.turn.Goals as goal
 
 pub push_queries-self-inside-requires : goal.push_queries-self-inside-requires
@@ -402,7 +403,8 @@ returns-clause-stuck g c = on_ok_from c.turn_of.result (λ answer ok start was s
       step = c.advance-replied.ensures.stays.step;
     } in
     let oks = c.turn_of.ensures.both (ap is_ok ok) in
-    let served : Served q1 q2 g.row.CAP qs qs' qg qg' (g.P.Port.crowded c.advance-asked.new.port) (g.P.Port.idle c.advance-asked.new.port) = record {
+    let served : Advanced q1 q2 g.row.CAP qs qs' qg qg' (g.P.Port.crowded c.advance-asked.new.port) (g.P.Port.idle c.advance-asked.new.port) = record {
+      epoch = adv.epoch;
       full = (was_served c.advance-asked.result oks.0 c.advance-asked.ensures.served).full;
       idles = c.advance-asked.ensures.asked.idle;
       lies = c.advance-asked.ensures.asked.lies;
@@ -410,7 +412,8 @@ returns-clause-stuck g c = on_ok_from c.turn_of.result (λ answer ok start was s
       stopped = (was_served c.advance-asked.result oks.0 c.advance-asked.ensures.served).stopped;
       completes = λ o. complete_from q2.phase (has_completed c.advance-asked.result q2 _ oks.0 c.advance-asked.ensures.settled o);
     } in
-    let served' : Served r1 r2 g.row.CAP rs rs' rg rg' (g.R.Port.crowded c.advance-replied.new.port) (g.R.Port.idle c.advance-replied.new.port) = record {
+    let served' : Advanced r1 r2 g.row.CAP rs rs' rg rg' (g.R.Port.crowded c.advance-replied.new.port) (g.R.Port.idle c.advance-replied.new.port) = record {
+      epoch = adv'.epoch;
       full = (was_served c.advance-replied.result oks.1 c.advance-replied.ensures.served).full;
       idles = c.advance-replied.ensures.asked.idle;
       lies = c.advance-replied.ensures.asked.lies;

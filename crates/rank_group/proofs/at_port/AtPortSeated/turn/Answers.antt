@@ -1,7 +1,7 @@
 use Rattle.std.proofs.Common.{rules, ◌≡◌, ◌+◌, ◌||◌, true, true≢false, refl, sym, ap, subst, ◌∙◌, arith}
 use Rattle.port_bank.specs.Port.{Rest}
 use Rattle.rank_group.specs.Seats.{SeatedState, HasWay, Ran}
-use Rattle.rank_group.proofs.Crewed.{neither}
+use Rattle.rank_crews.proofs.Crewed.{neither}
 use Rattle.rank_group.proofs.OnWay.{turned, gave_up, has_way, one_place, going_progress}
 use Rattle.rank_group.proofs.at_port.AtPortSeated.turn.Goals as goal
 

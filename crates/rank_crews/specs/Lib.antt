@@ -1,0 +1,5 @@
+pub mod Runs
+pub mod Crews
+pub mod Rings
+pub mod Children
+pub mod laws

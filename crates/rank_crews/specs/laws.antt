@@ -1,0 +1,2 @@
+-- Laws of this crate's definitions, with their proofs: what a trait asks for, and nothing to be believed.
+pub mod RunLaws

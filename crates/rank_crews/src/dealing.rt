@@ -1,0 +1,68 @@
+//! Ranks are dealt to crews, and gathered from them.
+ghost use Rattle.std.specs.Prelude.{◌≡◌, ◌<◌, ◌≤◌, true, List, [], length, replicate, vec_capacity, IfOk};
+ghost use Rattle.std.specs.List.{All};
+ghost use Rattle.rank_crews.specs.Runs.{AllRan};
+ghost use Rattle.rank_crews.specs.Crews.{AreDealt, HaveRun};
+
+use crate::crew::Crew;
+use crate::seated::Seated;
+use crate::shared::Telling;
+use bale_types::NoMemory;
+use std::alloc::Global;
+
+/// Deals ranks to so many crews, rank r to crew r mod `count`.
+pub(crate) fn deal<A: Seated>(
+    alloc: Global,
+    count: usize,
+    all: Vec<A>,
+) -> Result<Vec<Crew<A>>, NoMemory>
+    requires some { 0 < count }
+    ensures { IfOk result (λ crews. AreDealt count 0 all.items crews.items) }
+{
+    let mut crews = no_crews(alloc, count, all.len())?;
+    let mut all = all;
+    while let Some(at) = all.pop() {
+        crews[all.len() % count].join(at)?;
+    }
+    Ok(crews)
+}
+
+/// So many crews without a rank, with room for so many ranks.
+fn no_crews<A: Seated>(alloc: Global, count: usize, ranks: usize) -> Result<Vec<Crew<A>>, NoMemory>
+    requires some { 0 < count }
+    ensures { IfOk result (λ crews. crews.items ≡ replicate count []) }
+{
+    let mut crews = Vec::with_capacity(alloc, count)?;
+    for _ in 0..count {
+        crews.push_reserved(Crew::new(alloc, ranks.div_ceil(count))?);
+    }
+    Ok(crews)
+}
+
+/// Takes all ranks back, which were dealt to the crews, and puts them in order.
+pub(crate) fn gather<A: Seated, J: Telling>(
+    crews: Vec<Crew<A>>,
+    count: usize,
+    ended: Vec<A>,
+) -> Vec<A>
+    requires some { 0 < length crews.items }
+    requires run { (all : List A) × (length all ≡ count)
+        × HaveRun (A.ran J.told) A.over (length crews.items) 0 all crews.items }
+    requires none { ended.items ≡ [] }
+    requires room { count ≤ vec_capacity ended }
+    ensures ran { (all : List A) → length all ≡ count
+        → HaveRun (A.ran J.told) A.over (length crews.items) 0 all crews.items
+        → AllRan (A.ran J.told) all result.items }
+    ensures over { All (λ y. A.over y ≡ true) result.items }
+{
+    let mut crews = crews;
+    let mut ended = ended;
+    for number in 0..count {
+        let from = number % crews.len();
+        let Some(at) = crews[from].leave() else {
+            unreachable!()
+        };
+        ended.push_reserved(at);
+    }
+    ended
+}

@@ -16,7 +16,7 @@ use Rattle.hop_core.specs.Link.{In, no_in, is_empty, with_first_taken, read_on}
 use Rattle.hop_core.specs.State.{State, in_at, lowest_unread, pull_from, pulled_from, pulls}
 use Rattle.hop_core.specs.Standing.{IsState, IsIn, IsKept, CanUnpull}
 use Rattle.hop_core.proofs.Going.{no_entry, read_more, read_none, read_head}
-use Rattle.hop_core.proofs.Standing.{in_written, state_in, in_fact, in_here, hop_last, out_not_nothing, in_not_nothing}
+use Rattle.hop_core.proofs.Standing.{in_written, state_in, in_fact, in_here, hop_last}
 use Rattle.hop_core.proofs.Steps.{taken_kept}
 use Rattle.hop_core.proofs.Unread.{Unread, unread_at, unread_is}
 

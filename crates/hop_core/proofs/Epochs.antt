@@ -18,7 +18,7 @@ use Rattle.hop_core.specs.Link.{Out, In, no_out, no_in, is_empty, is_finished, w
 use Rattle.hop_core.specs.State.{State, at_end, ins_of_hop, all_closed, all_read, phase_of, reopened, resumed}
 use Rattle.hop_core.specs.Standing.{IsOut, IsIn, IsKept, CanUnpull}
 use Rattle.hop_core.proofs.Marks.{at_end-later, at_end_other, hop_unfinished}
-use Rattle.hop_core.proofs.Standing.{in_written, state_in, in_here, none_some, out_not_nothing, in_not_nothing, blank_out, blank_in, none_entry}
+use Rattle.hop_core.proofs.Standing.{in_written, state_in, in_here, none_some, blank_out, blank_in, none_entry}
 
 -- the phase, by what was found
 pub phase_working : (st : State) → st.done ≡ false → phase_of st ≡ phase.Working

@@ -13,7 +13,7 @@ use Rattle.hop_core.specs.Link.{Out, In, no_in, is_empty, is_wanted, is_finished
 use Rattle.hop_core.specs.State.{State, in_at, at_end, ins_of_hop}
 use Rattle.hop_core.specs.Standing.{IsOut, IsState, IsKept}
 use Rattle.hop_core.proofs.Marks.{at_end_other}
-use Rattle.hop_core.proofs.Standing.{out_written, in_written, state_out, state_in, kept_out, none_some, none_entry, out_not_nothing, in_not_nothing, wanted_open, open_unfinished, ends_open, ends_marked, not_last}
+use Rattle.hop_core.proofs.Standing.{out_written, in_written, state_out, state_in, kept_out, none_some, none_entry, wanted_open, open_unfinished, ends_open, ends_marked, not_last}
 
 -- an empty parcel of any epoch
 empty_out : (dims : List ℕ) (cap h e : ℕ) (o : Out) → o.parcel ≡ blank e → IsOut dims cap h o

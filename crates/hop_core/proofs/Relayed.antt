@@ -19,7 +19,7 @@ use Rattle.hop_core.specs.State.{State, out_at, ins_of_hop, at_end}
 use Rattle.hop_core.specs.Relay.{AddsToHop, TakesFromHop, IsStopped, waiting}
 use Rattle.hop_core.specs.Standing.{IsOut, IsIn, IsState, IsKept}
 use Rattle.hop_core.proofs.Marks.{at_end-first, at_end-later, zero_stays}
-use Rattle.hop_core.proofs.Standing.{none_some, out_not_nothing, in_not_nothing, hop_last}
+use Rattle.hop_core.proofs.Standing.{none_some, hop_last}
 use Rattle.hop_core.proofs.Relaying.{Relaying}
 
 -- how much waits at most

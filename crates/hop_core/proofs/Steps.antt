@@ -15,7 +15,7 @@ use Rattle.hop_core.specs.Link.{Out, In, no_out, no_in, is_empty, with_entry, wi
 use Rattle.hop_core.specs.State.{State, in_at, at_end}
 use Rattle.hop_core.specs.Standing.{IsOut, IsIn, CanUnpull, IsKept}
 use Rattle.hop_core.proofs.Marks.{at_end_other, at_end-first, at_end-later, end_zero}
-use Rattle.hop_core.proofs.Standing.{none_some, out_written, state_out, kept_out, out_not_nothing, in_not_nothing, out_fact, in_written, state_in, in_fact, out_here, in_here, hop_last}
+use Rattle.hop_core.proofs.Standing.{none_some, out_written, state_out, kept_out, out_fact, in_written, state_in, in_fact, out_here, in_here, hop_last}
 
 end_later : (dims : List ℕ) (ins : List In) (a b : Bool) (h : ℕ) → 2 ≤ h → at_end dims ins a h ≡ at_end dims ins b h
 end_later dims ins a b zero p = absurd (omega (arith, p))

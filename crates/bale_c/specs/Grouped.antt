@@ -5,7 +5,6 @@ use Rattle.route_tensor.specs.Grid.{ranks}
 use Rattle.route_tensor.specs.Refusal.{refusal}
 use Rattle.link_slots.specs.Seen.{Bank, posted_on, collected_from}
 use Rattle.hop_core.specs.declared.phase.Phase.TheVariants.{Dormant}
-use Rattle.hop_core.specs.declared.lent.Lent.TheVariants.{Nothing}
 use Rattle.hop_core.specs.Link.{no_out, no_in}
 use Rattle.hop_core.specs.State.{State}
 use Rattle.bale_c.specs.declared.answer.Answer.{Answer}
@@ -58,7 +57,6 @@ new_state dims rank cap steady = record {
   done = false;
   phase = Dormant;
   epoch = 0;
-  lent = Nothing;
   pulled = None;
 }
 

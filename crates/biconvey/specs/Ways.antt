@@ -13,7 +13,6 @@ use Rattle.port_bank.specs.Link.{LinkLaw}
 use Rattle.port_bank.specs.Relay.{RelayLaw}
 use Rattle.port_bank.specs.Shapes.{IsConveyorShape}
 use Rattle.hop_core.specs.declared.phase.Phase.TheVariants.{Dormant}
-use Rattle.hop_core.specs.declared.lent.Lent.TheVariants as lent
 use Rattle.hop_core.specs.State.{State}
 use Rattle.convey.specs.Buffers.{in_of}
 
@@ -23,7 +22,7 @@ entries_of log = flat_map (λ p. p.entries) log
 
 -- Of a rank that there is, its conveyor.
 abbrev pub conveyor_in : Option State → State
-conveyor_in None = record { dims = []; rank = 0; cap = 0; steady = false; outs = []; ins = []; done = false; phase = Dormant; epoch = 0; lent = lent.Nothing; pulled = None }
+conveyor_in None = record { dims = []; rank = 0; cap = 0; steady = false; outs = []; ins = []; done = false; phase = Dormant; epoch = 0; pulled = None }
 conveyor_in (Some c) = c
 
 -- How many entries lie in the inbox of a link.

@@ -13,8 +13,6 @@ use Rattle.port_bank.specs.Logs.{Logs, added}
 use Rattle.list_laws.specs.Lists.{Begins}
 use Rattle.port_bank.proofs.Fronts.{begins_refl}
 use Rattle.port_bank.proofs.Kept.{added_grows}
-use Rattle.hop_core.specs.declared.lent.Lent.{Lent}
-use Rattle.hop_core.specs.declared.lent.Lent.TheVariants.{Nothing}
 use Rattle.hop_core.specs.Link.{In, no_in, is_empty, is_wanted}
 use Rattle.hop_core.specs.State.{State}
 use Rattle.hop_core.specs.Standing.{IsState}
@@ -30,7 +28,7 @@ use Rattle.convey.proofs.States.{none_of, both_true, in_number, in_apart}
 
 -- the state after an inbox came back
 abbrev pub with_inbox : State → ℕ → In → State
-with_inbox st i x = record st { ins = slice_set st.ins i x; lent = Nothing; pulled = None }
+with_inbox st i x = record st { ins = slice_set st.ins i x; pulled = None }
 
 inbox_here : (st : State) (l : ℕ) (x : In) → IsState st → l < links st.dims → in_of (with_inbox st (in_index st.dims l) x) l ≡ x
 inbox_here st l x s h =
@@ -126,10 +124,8 @@ module _ (st : State) (link : ℕ) (x : In) (sent got got' : Logs) (s : IsState 
       ap at_rest (got_part (buffers_of st) (buffers_of n).unread (buffers_of n).ended sent got link q s.grid a below own goes_on_now empty_now fair front (came q entries last) s.rank)
 
 -- the state where a parcel was taken in, by the number of the link's neighbour
-pub filled : (st new : State) (number l : ℕ) (x : In) → st.lent ≡ Nothing → number ≡ in_index st.dims l → new ≡ record st { ins = slice_set st.ins number x; pulled = None } → new ≡ with_inbox st (in_index st.dims l) x
-filled st new number l x home n e =
-    let put : ℕ → Lent → State = λ i t. record st { ins = slice_set st.ins i x; lent = t; pulled = None } in
-    e ∙ λ j. put (n j) (home j)
+pub filled : (st new : State) (number l : ℕ) (x : In) → number ≡ in_index st.dims l → new ≡ record st { ins = slice_set st.ins number x; pulled = None } → new ≡ with_inbox st (in_index st.dims l) x
+filled st new number l x n e = e ∙ ap (λ i. with_inbox st i x) n
 
 -- tags that are fair on the link's hop are so by the number of the neighbour
 pub fair_at : (st : State) (dims : List ℕ) (number l : ℕ) (xs : List Entry) → IsState st → l < links st.dims → st.dims ≡ dims → number ≡ in_index st.dims l
@@ -162,7 +158,7 @@ module _ (dims : List ℕ) (rank : ℕ) (st new : State) (link : ℕ) (x : In) (
   collected agrees part grows =
       subst (λ logs. Collected dims rank st new link sent logs got got') (sym same)
       (subst (λ n. Collected dims rank st n link sent sent got got') (sym e) (record {
-        ready = record { home = refl; same_dims = r.same_dims; same_rank = r.same_rank; agrees = agrees };
+        ready = record { same_dims = r.same_dims; same_rank = r.same_rank; agrees = agrees };
         goes_on = record { cap = refl; steady = refl; epoch = refl; done = refl; phase = refl; part = part; sent_grows = λ l. begins_refl (sent l); got_grows = grows; fills = λ l more k. none_filled st.steady st.cap (sent l) more k };
         inbox = λ m h to ne.
             inbox_other st st.rank link m x s here_below (subst (λ ds. m < links ds) (sym r.same_dims) h) here_own (ap (λ ds. reader_at ds m) r.same_dims ∙ (to ∙ sym r.same_rank)) ne;

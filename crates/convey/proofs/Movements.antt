@@ -45,7 +45,7 @@ pub noted_ready : (dims : List ℕ) (rank : ℕ) (st new : State) (done : Bool) 
     → IsReady dims rank st sent got → IsReady dims rank new sent got
 noted_ready dims rank st new done sent got e p k =
     subst (λ n. IsReady dims rank n sent got) (sym e)
-    (record { home = k.home; same_dims = k.same_dims; same_rank = k.same_rank; agrees = noted_agrees st done new.pulled sent got p k.agrees })
+    (record { same_dims = k.same_dims; same_rank = k.same_rank; agrees = noted_agrees st done new.pulled sent got p k.agrees })
 
 -- the right to unpull is no part of what goes on
 quiet : (st new : State) (done : Bool) (pulled : Option ℕ) (sent sent' got got' : Logs) → GoesOn (record st { done = done; pulled = pulled }) new sent sent' got got' → GoesOn (record st { done = done; pulled = None }) new sent sent' got got'

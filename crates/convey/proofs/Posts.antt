@@ -14,8 +14,6 @@ use Rattle.port_bank.specs.Relay.{RelayLaw}
 use Rattle.port_bank.specs.Shapes.{IsFilled, IsConveyorShape}
 use Rattle.port_bank.proofs.Fronts.{begins_refl}
 use Rattle.port_bank.proofs.Kept.{added_grows, added-here, added-other}
-use Rattle.hop_core.specs.declared.lent.Lent.{Lent}
-use Rattle.hop_core.specs.declared.lent.Lent.TheVariants.{Nothing}
 use Rattle.hop_core.specs.Link.{Out, no_out, is_empty, is_due}
 use Rattle.hop_core.specs.State.{State, out_at, at_end}
 use Rattle.hop_core.specs.Standing.{IsState}
@@ -32,7 +30,7 @@ use Rattle.convey.proofs.States.{out_number, out_apart, is_out, end_of}
 
 -- the state after an open parcel came back
 abbrev pub with_open : State → ℕ → Out → State
-with_open st i o = record st { outs = slice_set st.outs i o; lent = Nothing; pulled = None }
+with_open st i o = record st { outs = slice_set st.outs i o; pulled = None }
 
 open_here : (st : State) (l : ℕ) (o : Out) → IsState st → l < links st.dims → out_of (with_open st (out_index st.dims l) o) l ≡ o
 open_here st l o s h =
@@ -177,17 +175,15 @@ place_empty st mid number o s q e b =
     subst (λ (u : State). (out_at u number).parcel ≡ blank u.epoch) (sym e) (ap (λ y. y.parcel) (get_or-set_same st.outs number o no_out (omega (arith, q, s.all_outs))) ∙ b)
 
 -- the state where it was sent, and where it was put back
-pub opened : (st new : State) (number l : ℕ) (o : Out) → st.lent ≡ Nothing → number ≡ out_index st.dims l → new ≡ record st { outs = slice_set st.outs number o; pulled = None } → new ≡ with_open st (out_index st.dims l) o
-opened st new number l o home n e =
-    let put : ℕ → Lent → State = λ i t. record st { outs = slice_set st.outs i o; lent = t; pulled = None } in
-    e ∙ λ j. put (n j) (home j)
+pub opened : (st new : State) (number l : ℕ) (o : Out) → number ≡ out_index st.dims l → new ≡ record st { outs = slice_set st.outs number o; pulled = None } → new ≡ with_open st (out_index st.dims l) o
+opened st new number l o n e = e ∙ ap (λ i. with_open st i o) n
 
-pub reopened : (st mid new : State) (number l : ℕ) (y o : Out) → st.lent ≡ Nothing → number ≡ out_index st.dims l → mid ≡ record st { outs = slice_set st.outs number y; pulled = None }
+pub reopened : (st mid new : State) (number l : ℕ) (y o : Out) → number ≡ out_index st.dims l → mid ≡ record st { outs = slice_set st.outs number y; pulled = None }
     → new ≡ record mid { outs = slice_set mid.outs number o; pulled = None } → new ≡ with_open st (out_index st.dims l) o
-reopened st mid new number l y o home n p q =
+reopened st mid new number l y o n p q =
     let back : State → State = λ u. record u { outs = slice_set u.outs number o; pulled = None } in
     let put : List Out → State = λ outs. record st { outs = outs; pulled = None } in
-    opened st new number l o home n (q ∙ (ap back p ∙ ap put (set-set st.outs number y o)))
+    opened st new number l o n (q ∙ (ap back p ∙ ap put (set-set st.outs number y o)))
 
 -- all that a post leaves
 pub record Served (dims : List ℕ) (rank : ℕ) (st new : State) (link : ℕ) (sent sent' got got' : Logs) : Type 0 where
@@ -226,7 +222,7 @@ module _ (dims : List ℕ) (rank : ℕ) (st new : State) (link : ℕ) (o : Out) 
   served logs e agrees part grows fills =
       subst (λ g. Served dims rank st new link sent logs got g) (sym same)
       (subst (λ n. Served dims rank st n link sent logs got got) (sym e) (record {
-        ready = record { home = refl; same_dims = r.same_dims; same_rank = r.same_rank; agrees = agrees };
+        ready = record { same_dims = r.same_dims; same_rank = r.same_rank; agrees = agrees };
         goes_on = record { cap = refl; steady = refl; epoch = refl; done = refl; phase = refl; part = part; sent_grows = grows; got_grows = λ l. begins_refl (got l); fills = fills };
         out = λ m h from ne.
             open_other st st.rank link m o s here_below (subst (λ ds. m < links ds) (sym r.same_dims) h) here_own (ap (λ ds. sender_at ds m) r.same_dims ∙ (from ∙ sym r.same_rank)) ne;

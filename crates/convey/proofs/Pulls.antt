@@ -299,9 +299,8 @@ over_none st (Some i) s v h =
     absurd (false≢true (ap is_some (sym (ap (λ xs. slice_get xs 0) none) ∙ f.1)))
 
 pub pulled_conveyor : (hops : ℕ) (st : State) (o : Option ℕ) → IsState st → IsConveyor hops st → lowest_unread st ≡ o → IsConveyor hops (pulled_from st o)
-pulled_conveyor hops st None s c h = record { home = c.home; hops_all = c.hops_all; sent = c.sent; complete = λ p. phase_of-settled st st.phase None ∙ c.complete p; none_back = λ p. refl }
+pulled_conveyor hops st None s c h = record { hops_all = c.hops_all; sent = c.sent; complete = λ p. phase_of-settled st st.phase None ∙ c.complete p; none_back = λ p. refl }
 pulled_conveyor hops st (Some i) s c h = record {
-  home = c.home;
   hops_all = c.hops_all;
   sent = c.sent;
   complete = λ p. absurd (false≢true (sym (ap is_some (over_none st (Some i) s (is_over st s (c.complete p)) h))));
@@ -336,7 +335,6 @@ unpulled_none st (Some i) q h sent got = absurd (false≢true (sym h))
 pub unpulled_conveyor : (hops : ℕ) (st : State) (p : Option ℕ) → st.pulled ≡ p → IsConveyor hops st → IsConveyor hops (unpulled st p)
 unpulled_conveyor hops st None q c = c
 unpulled_conveyor hops st (Some i) q c = record {
-  home = c.home;
   hops_all = c.hops_all;
   sent = c.sent;
   complete = λ p. absurd (false≢true (ap is_some (sym (c.none_back p) ∙ q)));

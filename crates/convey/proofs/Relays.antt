@@ -132,7 +132,7 @@ module _ (st : State) (outs : List Out) (ins : List In) (h : ℕ) (s : IsState s
   relayed_one dims rank sent got r =
       let a = forget_agrees (buffers_of st) sent got r.agrees in
       record {
-        ready = record { home = r.home; same_dims = r.same_dims; same_rank = r.same_rank; agrees = subst (λ b. Agrees b sent got) (sym same_buffers) (relayed_agrees calm waiting unread sent got s.grid a relayed) };
+        ready = record { same_dims = r.same_dims; same_rank = r.same_rank; agrees = subst (λ b. Agrees b sent got) (sym same_buffers) (relayed_agrees calm waiting unread sent got s.grid a relayed) };
         goes_on = record {
           cap = refl;
           steady = refl;

@@ -6,7 +6,6 @@ use Rattle.route_tensor.specs.Link.{links}
 use Rattle.route_tensor.specs.Ends.{sender_at}
 use Rattle.port_bank.specs.Logs.{Logs}
 use Rattle.port_bank.specs.Flow.{hop_link}
-use Rattle.hop_core.specs.declared.lent.Lent.TheVariants.{Nothing}
 use Rattle.hop_core.specs.declared.phase.Phase.TheVariants.{Cleanup, Complete}
 use Rattle.hop_core.specs.State.{State, all_closed, phase_of, lowest_unread, pull_from, pulled_from}
 use Rattle.port_bank.specs.Machine.{Step, IsOwnStep}
@@ -57,10 +56,9 @@ standing_toward st to = length (out_of st (hop_link st.dims st.rank to 1)).parce
 abbrev pub HoldsAtMost : ℕ → State → Type 0
 HoldsAtMost cap st = (l : ℕ) → l < links st.dims → sender_at st.dims l ≡ st.rank → length (out_of st l).parcel.untaken ≤ cap
 
--- What the code keeps of a conveyor: no parcel is lent, the routes have its number of hops, in the phase Cleanup each
+-- What the code keeps of a conveyor: the routes have its number of hops, in the phase Cleanup each
 -- link out is closed, and in the phase Complete all that the phase says still holds.
 pub record IsConveyor (hops : ℕ) (st : State) : Type 0 where
-  pub home : st.lent ≡ Nothing
   pub hops_all : length st.dims ≡ hops
   pub sent : st.phase ≡ Cleanup → all_closed st.outs ≡ true
   pub complete : st.phase ≡ Complete → phase_of st ≡ Complete

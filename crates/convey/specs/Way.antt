@@ -12,16 +12,14 @@ use Rattle.list_laws.specs.Lists.{Begins, Ends}
 use Rattle.port_bank.specs.Shapes.{IsConveyorShape}
 use Rattle.item_buffer.specs.Contents.{Shipped}
 use Rattle.port_bank.specs.Machine.{Part}
-use Rattle.hop_core.specs.declared.lent.Lent.TheVariants.{Nothing}
 use Rattle.hop_core.specs.State.{State}
 use Rattle.convey.specs.Buffers.{out_of, in_of, buffers_of}
 use Rattle.convey.specs.Agreement.{Agrees}
 use Rattle.convey.specs.Parts.{part_of}
 use Rattle.convey.specs.Due.{Wants, IsOver, WasServed, NextIs, HeldUp}
 
--- A state at home, with no parcel lent, whose buffers agree with the lists of its port.
+-- A state whose buffers agree with the lists of its port.
 pub record IsReady (dims : List ℕ) (rank : ℕ) (st : State) (sent got : Logs) : Type 0 where
-  pub home : st.lent ≡ Nothing
   pub same_dims : st.dims ≡ dims
   pub same_rank : st.rank ≡ rank
   pub agrees : Agrees (buffers_of st) sent got

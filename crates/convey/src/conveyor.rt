@@ -17,7 +17,6 @@ ghost use Rattle.convey.specs.Advance.{IsAtPort, StaysAtPort, HasSettled, ListsG
 ghost use Rattle.convey.specs.Conveyors.{AgreesWith, HoldsAtMost, IsStepOf, KeepsAgreement, GivesNext, standing_toward};
 ghost use Rattle.convey.specs.Progress.{progress_of};
 ghost use Rattle.item_buffer.specs.Capacity.{IsCap};
-ghost use Rattle.hop_core.specs.declared.lent.Lent.TheVariants as Lent;
 ghost use Rattle.hop_core.specs.Standing.{IsState};
 ghost use Rattle.convey.specs.Due.{StopsAt, NextIs, WasFull};
 
@@ -68,7 +67,6 @@ impl<const CAP: usize, const HOPS: usize> Conveyor<CAP, HOPS> {
           done = false;
           phase = Phase.Dormant;
           epoch = 0;
-          lent = Lent.Nothing;
           pulled = None;
         }) }
         ensures agrees { IfOk result (λ c. AgreesWith c (λ l. []) (λ l. [])) }
@@ -298,7 +296,6 @@ impl<const CAP: usize, const HOPS: usize> Conveyor<CAP, HOPS> {
 
 /// Settles the phase and answers it.
 fn settle<const CAP: usize, const HOPS: usize>(state: &mut RankState<CAP, HOPS>) -> Progress
-    requires home { state.old.lent ≡ Lent.Nothing }
     requires begun { state.old.phase ≢ Phase.Dormant }
     requires sent { state.old.phase ≡ Phase.Cleanup → all_closed state.old.outs ≡ true }
     ensures state { state.new ≡ record state.old { phase = phase_of state.old; pulled = None } }

@@ -1,6 +1,5 @@
 //! Moves an exchange on: what an advance does before it settles the phase.
 ghost use Rattle.std.specs.Prelude.{◌≡◌, ◌≢◌, ◌⊎◌, ℕ, ◌<◌, true, false, None, Some, length, slice_get, OnOk, IsOk, IsErr, Result};
-ghost use Rattle.hop_core.specs.declared.lent.Lent.TheVariants as Lent;
 ghost use Rattle.port_bank.specs.Calls.{once_more_if};
 ghost use Rattle.port_bank.specs.Frames.{SamePort};
 ghost use Rattle.hop_core.specs.Standing.{IsState};
@@ -80,7 +79,6 @@ pub(crate) fn move_on<const CAP: usize, const HOPS: usize, P: Port<CAP>>(
 
 /// Notes that nothing more is pushed in this epoch, where that is so.
 fn note_done<const CAP: usize, const HOPS: usize>(state: &mut RankState<CAP, HOPS>, done: bool)
-    requires home { state.old.lent ≡ Lent.Nothing }
     requires begun { state.old.phase ≢ Phase.Dormant }
     requires stays { state.old.done ≡ true → done ≡ true }
     ensures state { state.new ≡ record state.old { done = done; pulled = state.new.pulled } }

@@ -3,7 +3,6 @@ ghost use Rattle.std.specs.Prelude.{◌≡◌, ◌≢◌, ℕ, ◌+◌, ◌<◌,
 ghost use Rattle.route_tensor.specs.Link.{links};
 ghost use Rattle.route_tensor.specs.Ends.{hop_at};
 ghost use Rattle.port_bank.specs.Logs.{Logs};
-ghost use Rattle.hop_core.specs.declared.lent.Lent.TheVariants as Lent;
 ghost use Rattle.hop_core.specs.Standing.{IsState};
 ghost use Rattle.convey.specs.Buffers.{out_of, in_of};
 ghost use Rattle.convey.specs.Due.{IsBlocked};
@@ -13,14 +12,12 @@ use hop_core::RankState;
 
 /// Passes on, from the hop before the last one down to the first.
 pub(crate) fn relay_all<const CAP: usize, const HOPS: usize>(state: &mut RankState<CAP, HOPS>)
-    requires home { state.old.lent ≡ Lent.Nothing }
     requires hops { length state.old.dims ≡ HOPS }
     ensures passed { (dims : List ℕ) (rank : ℕ) (sent got : Logs) → IsReady dims rank state.old sent got
         → PassedOn dims rank state.old state.new sent got }
     ensures stopped { (l : ℕ) → l < links state.new.dims → hop_at state.new.dims l < length state.new.dims
         → IsBlocked state.new l }
     ensures standing { IsState state.new }
-    ensures home { state.new.lent ≡ Lent.Nothing }
     ensures same_dims { state.new.dims ≡ state.old.dims }
 {
     state.known();
@@ -34,7 +31,6 @@ pub(crate) fn relay_one<const CAP: usize, const HOPS: usize>(
     state: &mut RankState<CAP, HOPS>,
     h: u32,
 )
-    requires home { state.old.lent ≡ Lent.Nothing }
     requires first { 1 ≤ h }
     requires last { h < length state.old.dims }
     ensures passed { (dims : List ℕ) (rank : ℕ) (sent got : Logs) → IsReady dims rank state.old sent got
@@ -45,7 +41,6 @@ pub(crate) fn relay_one<const CAP: usize, const HOPS: usize>(
     ensures outs { (l : ℕ) → l < links state.new.dims → hop_at state.new.dims l ≢ h + 1
         → out_of state.new l ≡ out_of state.old l }
     ensures standing { IsState state.new }
-    ensures home { state.new.lent ≡ Lent.Nothing }
     ensures same_dims { state.new.dims ≡ state.old.dims }
     ensures same_rank { state.new.rank ≡ state.old.rank }
     ensures cap { state.new.cap ≡ state.old.cap }

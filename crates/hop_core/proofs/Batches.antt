@@ -9,7 +9,6 @@ use Rattle.std.proofs.lemmas.Option.{same_Some, slice_get_within, slice_get-get_
 use Rattle.list_laws.proofs.Lists.{all_get}
 use Rattle.bale_types.specs.declared.item.Entry.{Entry}
 use Rattle.bale_types.specs.declared.item.Item.{Item}
-use Rattle.hop_core.specs.declared.lent.Lent.TheVariants as lent
 use Rattle.item_buffer.specs.Contents.{Contents}
 use Rattle.route_tensor.specs.Neighbour.{hop_to, neighbour}
 use Rattle.route_tensor.specs.Tag.{IsFair, sender_of}
@@ -17,7 +16,7 @@ use Rattle.hop_core.specs.Link.{In, no_in, is_empty, with_first_taken, read_on}
 use Rattle.hop_core.specs.State.{State, in_at, lowest_unread, pull_from, pulled_from, pulls}
 use Rattle.hop_core.specs.Standing.{IsState, IsIn, IsKept, CanUnpull}
 use Rattle.hop_core.proofs.Going.{no_entry, read_more, read_none, read_head}
-use Rattle.hop_core.proofs.Standing.{in_written, state_in, in_fact, in_here, hop_last, out_not_nothing, in_not_nothing}
+use Rattle.hop_core.proofs.Standing.{in_written, state_in, in_fact, in_here, hop_last}
 use Rattle.hop_core.proofs.Steps.{taken_kept}
 use Rattle.hop_core.proofs.Unread.{Unread, unread_at, unread_is}
 
@@ -26,8 +25,8 @@ some_left [] h = absurd (false≢true (sym h))
 some_left (x ∷ xs) h = omega arith
 
 -- nothing is unread below the place from which the code looks
-not_below : (st : State) (ends : List Bool) (spare : Option Contents) (from i : ℕ) → IsKept st ends spare from → Unread st i → from ≤ i
-not_below st ends spare from i k u = elim (cases_lt i from) [
+not_below : (st : State) (ends : List Bool) (from i : ℕ) → IsKept st ends from → Unread st i → from ≤ i
+not_below st ends from i k u = elim (cases_lt i from) [
   | inl below ↦ absurd (false≢true (sym u.some ∙ k.from_none i u.low below))
   | inr above ↦ above
 ]
@@ -42,7 +41,7 @@ one_taken y = record y { parcel = with_first_taken y.parcel }
 module _ (st : State) (i : ℕ) (s : IsState st) (low : lowest_unread st ≡ Some i) where
   -- the state after n of its items were pulled, for n above 0
   abbrev pub after : ℕ → State
-  after n = in_written st i (read_on n (in_at st i)) st.lent (Some i)
+  after n = in_written st i (read_on n (in_at st i)) (Some i)
 
   within : i < length st.ins
   within = let u = unread_at st i s low in omega (arith, u.high, s.all_ins)
@@ -56,13 +55,13 @@ module _ (st : State) (i : ℕ) (s : IsState st) (low : lowest_unread st ≡ Som
 
   one_more : (n : ℕ) → pulled_from (after n) (Some i) ≡ after (n + 1)
   one_more n =
-      ap (λ y. in_written (after n) i (record y { parcel = with_first_taken y.parcel }) st.lent (Some i)) (get_or-set_same st.ins i (read_on n (in_at st i)) no_in within)
-      ∙ (ap (λ y. in_written (after n) i y st.lent (Some i)) (sym (read_more n (in_at st i)))
+      ap (λ y. in_written (after n) i (record y { parcel = with_first_taken y.parcel }) (Some i)) (get_or-set_same st.ins i (read_on n (in_at st i)) no_in within)
+      ∙ (ap (λ y. in_written (after n) i y (Some i)) (sym (read_more n (in_at st i)))
       ∙ ap (λ (ins : List In). record st { ins = ins; pulled = Some i }) (set-set st.ins i (read_on n (in_at st i)) (read_on (n + 1) (in_at st i))))
 
   first_one : pulled_from st (Some i) ≡ after (0 + 1)
   unfolding one_taken
-  first_one = ap (λ y. in_written st i y st.lent (Some i)) (ap one_taken (sym (read_none (in_at st i))) ∙ sym (read_more 0 (in_at st i)))
+  first_one = ap (λ y. in_written st i y (Some i)) (ap one_taken (sym (read_none (in_at st i))) ∙ sym (read_more 0 (in_at st i)))
 
   -- so many pulls leave this
   pub pulls_are : (n : ℕ) → n < length (in_at st i).parcel.untaken → pulls (suc n) st ≡ after (suc n)
@@ -112,14 +111,12 @@ module _ (st : State) (i : ℕ) (s : IsState st) (low : lowest_unread st ≡ Som
       ap is_some (cond-false _ _ _ (ne_eqb (suc n) 0 (λ y. absurd (omega (arith, y)))) ∙ ap (slice_get (in_at st i).parcel.untaken) one)
       ∙ ap is_some (slice_get-get_or (in_at st i).parcel.untaken n no_entry h)
 
-  after_state : st.lent ≡ lent.Nothing → (n : ℕ) → n < length (in_at st i).parcel.untaken → IsState (after (suc n))
-  after_state home n h =
+  after_state : (n : ℕ) → n < length (in_at st i).parcel.untaken → IsState (after (suc n))
+  after_state n h =
       let u = unread_at st i s low in
       let x = in_at st i in
-      state_in st i (read_on (suc n) x) st.lent (Some i) s u.high (read_in n h)
+      state_in st i (read_on (suc n) x) (Some i) s u.high (read_in n h)
       (inl (hop_last st i s u.low u.high))
-      (λ j z. absurd (out_not_nothing j (sym (sym home ∙ z))))
-      (λ j z. absurd (in_not_nothing j (sym (sym home ∙ z))))
       (λ j z. subst (CanUnpull (after (suc n))) (same_Some i j z) (record {
         within = u.high;
         last_hop = hop_last st i s u.low u.high;
@@ -127,9 +124,9 @@ module _ (st : State) (i : ℕ) (s : IsState st) (low : lowest_unread st ≡ Som
             ∙ read_back n h;
       }))
 
-  pub pulls_state : st.lent ≡ lent.Nothing → (n : ℕ) → n ≤ length (in_at st i).parcel.untaken → IsState (pulls n st)
-  pulls_state home zero h = s
-  pulls_state home (suc n) h = subst IsState (sym (pulls_are n (omega (arith, h)))) (after_state home n (omega (arith, h)))
+  pub pulls_state : (n : ℕ) → n ≤ length (in_at st i).parcel.untaken → IsState (pulls n st)
+  pulls_state zero h = s
+  pulls_state (suc n) h = subst IsState (sym (pulls_are n (omega (arith, h)))) (after_state n (omega (arith, h)))
 
 -- an inbox by what the code reads
 pub record Batch (s : State) (i : ℕ) (x : In) : Type 0 where
@@ -165,11 +162,10 @@ all_but : (n : ℕ) → 0 < n → (m : ℕ) × (n ≡ suc m)
 all_but zero h = absurd (omega (arith, h))
 all_but (suc m) h = (m, refl)
 
-pub batch_kept : (v s : State) (ends : List Bool) (spare : Option Contents) (from i : ℕ) (x x' : In) → v ≡ s → IsKept v ends spare from → s.lent ≡ lent.Nothing → lowest_unread s ≡ Some i → x ≡ get_or v.ins i x
-    → x' ≡ read_on (length x.parcel.untaken) x → IsKept (in_written v i x' v.lent (Some i)) ends spare i
-batch_kept v s ends spare from i x x' view k home low read wrote =
+pub batch_kept : (v s : State) (ends : List Bool) (from i : ℕ) (x x' : In) → v ≡ s → IsKept v ends from → lowest_unread s ≡ Some i → x ≡ get_or v.ins i x
+    → x' ≡ read_on (length x.parcel.untaken) x → IsKept (in_written v i x' (Some i)) ends i
+batch_kept v s ends from i x x' view k low read wrote =
     let s' = k.standing in
-    let home' : v.lent ≡ lent.Nothing = ap (λ (t : State). t.lent) view ∙ home in
     let low' : lowest_unread v ≡ Some i = ap lowest_unread view ∙ low in
     let u = unread_at v i s' low' in
     let here : x ≡ in_at v i = in_here v i x s' u.high read in
@@ -177,14 +173,14 @@ batch_kept v s ends spare from i x x' view k home low read wrote =
     let m = all_but (length x.parcel.untaken) some in
     let is : x' ≡ read_on (suc m.0) (in_at v i) = wrote ∙ (ap (λ n. read_on n x) m.1 ∙ ap (read_on (suc m.0)) here) in
     let n : m.0 < length (in_at v i).parcel.untaken = omega (arith, m.1, ap (λ y. length y.parcel.untaken) here) in
-    let a = after_state v i s' low' home' m.0 n in
+    let a = after_state v i s' low' m.0 n in
     let z : i < length v.ins = omega (arith, u.high, s'.all_ins) in
-    subst (λ y. IsKept (in_written v i y v.lent (Some i)) ends spare i) (sym is)
-    (taken_kept v ends spare from i (read_on (suc m.0) (in_at v i)) k (not_below v ends spare from i k u) u.high home' (λ j p q. u.none j (omega (arith, p, k.from_low)) q)
+    subst (λ y. IsKept (in_written v i y (Some i)) ends i) (sym is)
+    (taken_kept v ends from i (read_on (suc m.0) (in_at v i)) k (not_below v ends from i k u) u.high (λ j p q. u.none j (omega (arith, p, k.from_low)) q)
     (read_in v i s' low' m.0 n) (read_back v i s' low' m.0 n))
 
 pub batch_state : (v s : State) (i : ℕ) (x x' : In) → v ≡ s → IsState v → lowest_unread s ≡ Some i → x ≡ get_or v.ins i x → x' ≡ read_on (length x.parcel.untaken) x
-    → in_written v i x' v.lent (Some i) ≡ pulls (length (in_at s i).parcel.untaken) s
+    → in_written v i x' (Some i) ≡ pulls (length (in_at s i).parcel.untaken) s
 batch_state v s i x x' view k low read wrote =
     let low' : lowest_unread v ≡ Some i = ap lowest_unread view ∙ low in
     let u = unread_at v i k low' in
@@ -194,5 +190,5 @@ batch_state v s i x x' view k low read wrote =
     let is : x' ≡ read_on (suc m.0) (in_at v i) = wrote ∙ (ap (λ n. read_on n x) m.1 ∙ ap (read_on (suc m.0)) here) in
     let n : m.0 < length (in_at v i).parcel.untaken = omega (arith, m.1, ap (λ y. length y.parcel.untaken) here) in
     let count : suc m.0 ≡ length (in_at v i).parcel.untaken = sym m.1 ∙ ap (λ y. length y.parcel.untaken) here in
-    ap (λ y. in_written v i y v.lent (Some i)) is
+    ap (λ y. in_written v i y (Some i)) is
     ∙ (sym (pulls_are v i k low' m.0 n) ∙ (ap (λ j. pulls j v) count ∙ ap (λ (t : State). pulls (length (in_at t i).parcel.untaken) t) view))

@@ -13,14 +13,12 @@ use Rattle.route_tensor.specs.Link.{links_before}
 use Rattle.route_tensor.specs.Neighbour.{hop_to}
 use Rattle.route_tensor.specs.Tag.{IsFair}
 use Rattle.route_tensor.proofs.Neighbours.{hop_to_has, hop_to_is, number_made, number_below}
-use Rattle.hop_core.specs.declared.lent.Lent.TheVariants as lent
 use Rattle.hop_core.specs.declared.phase.Phase.TheVariants as phase
 use Rattle.hop_core.specs.Link.{Out, In, no_out, no_in, is_empty, is_finished, with_back}
 use Rattle.hop_core.specs.State.{State, at_end, ins_of_hop, all_closed, all_read, phase_of, reopened, resumed}
 use Rattle.hop_core.specs.Standing.{IsOut, IsIn, IsKept, CanUnpull}
 use Rattle.hop_core.proofs.Marks.{at_end-later, at_end_other, hop_unfinished}
-use Rattle.hop_core.proofs.Lends.{some_blank}
-use Rattle.hop_core.proofs.Standing.{in_written, state_in, in_here, none_some, out_not_nothing, in_not_nothing, blank_out, blank_in, none_entry}
+use Rattle.hop_core.proofs.Standing.{in_written, state_in, in_here, none_some, blank_out, blank_in, none_entry}
 
 -- the phase, by what was found
 pub phase_working : (st : State) → st.done ≡ false → phase_of st ≡ phase.Working
@@ -58,8 +56,8 @@ none_at_end dims ins done (suc h) g l none p m =
 abbrev pub renewed : State → ℕ → State
 renewed st n = record st { outs = map reopened st.outs; ins = map resumed st.ins; done = false; phase = phase.Dormant; epoch = n; pulled = None }
 
-pub renewed_kept : (st : State) (ends ends' : List Bool) (spare : Option Contents) (from n : ℕ) → IsKept st ends spare from → st.lent ≡ lent.Nothing → ends' ≡ replicate 3 false → IsKept (renewed st n) ends' spare from
-renewed_kept st ends ends' spare from n k home e =
+pub renewed_kept : (st : State) (ends ends' : List Bool) (from n : ℕ) → IsKept st ends from → ends' ≡ replicate 3 false → IsKept (renewed st n) ends' from
+renewed_kept st ends ends' from n k e =
     let s = k.standing in
     let no : length (map reopened st.outs) ≡ sum st.dims = length-map st.outs reopened ∙ s.all_outs in
     let ni : length (map resumed st.ins) ≡ sum st.dims = length-map st.ins resumed ∙ s.all_ins in
@@ -81,15 +79,11 @@ renewed_kept st ends ends' spare from n k home e =
             let p = s.each_in i no_in (omega (arith, q, s.all_ins)) in
             subst (IsIn st.dims st.cap (hop_to st.dims i)) (sym (x i d q)) (record { fits = p.fits; fair = p.fair; back_fair = p.back_fair });
         closed_at_end = λ i d l c. absurd (false≢true (sym (ap (λ y. y.closed) (o i d (omega (arith, l, no)))) ∙ c));
-        lent_out = λ j z. absurd (out_not_nothing j (sym (sym home ∙ z)));
-        lent_in = λ j z. absurd (in_not_nothing j (sym (sym home ∙ z)));
         can_unpull = λ j z. absurd (none_some j None refl z);
       };
       ends_all = ap length e ∙ length-replicate 3 false;
       ends_each = λ h d a b. ap (λ bs. get_or bs (h - 1) d) e ∙ get_or-replicate 3 (h - 1) false d (omega (arith, a, b, s.grid.few))
           ∙ sym (none_at_end st.dims (map resumed st.ins) false h s.grid ni (λ i q. ap (λ y. y.ended) (x i no_in q)) a b);
-      spare_home = k.spare_home;
-      spare_blank = k.spare_blank;
       from_low = k.from_low;
       from_high = k.from_high;
       from_none = λ j a w. ap (λ y. is_empty y.parcel) (x j no_in (omega (arith, w, k.from_high))) ∙ k.from_none j a w;
@@ -107,13 +101,12 @@ new_state dims r cap steady = record {
   done = false;
   phase = phase.Dormant;
   epoch = 0;
-  lent = lent.Nothing;
   pulled = None;
 }
 
-pub new_kept : (dims : List ℕ) (r cap : ℕ) (steady : Bool) (ends : List Bool) (c : Contents) (from : ℕ) → IsGrid dims → r < ranks dims → IsCap cap → ends ≡ replicate 3 false → c ≡ blank 0 →
-    from ≡ links_before dims (length dims) → from ≤ sum dims → IsKept (new_state dims r cap steady) ends (Some c) from
-new_kept dims r cap steady ends c from g a is_cap e b f low =
+pub new_kept : (dims : List ℕ) (r cap : ℕ) (steady : Bool) (ends : List Bool) (from : ℕ) → IsGrid dims → r < ranks dims → IsCap cap → ends ≡ replicate 3 false →
+    from ≡ links_before dims (length dims) → from ≤ sum dims → IsKept (new_state dims r cap steady) ends from
+new_kept dims r cap steady ends from g a is_cap e f low =
     let n = sum dims in
     let no : length (replicate n no_out) ≡ n = length-replicate n no_out in
     let ni : length (replicate n no_in) ≡ n = length-replicate n no_in in
@@ -129,15 +122,11 @@ new_kept dims r cap steady ends c from g a is_cap e b f low =
         each_out = λ i d l. blank_out dims cap (hop_to dims i) _ (ap (λ y. y.parcel) (o i d (omega (arith, l, no))));
         each_in = λ i d l. blank_in dims cap (hop_to dims i) _ (ap (λ y. y.parcel) (x i d (omega (arith, l, ni))));
         closed_at_end = λ i d l z. absurd (false≢true (sym (ap (λ y. y.closed) (o i d (omega (arith, l, no)))) ∙ z));
-        lent_out = λ j z. absurd (out_not_nothing j (sym z));
-        lent_in = λ j z. absurd (in_not_nothing j (sym z));
         can_unpull = λ j z. absurd (none_some j None refl z);
       };
       ends_all = ap length e ∙ length-replicate 3 false;
       ends_each = λ h d p m. ap (λ bs. get_or bs (h - 1) d) e ∙ get_or-replicate 3 (h - 1) false d (omega (arith, p, m, g.few))
           ∙ sym (none_at_end dims (replicate n no_in) false h g ni (λ i q. ap (λ y. y.ended) (x i no_in q)) p m);
-      spare_home = λ z. refl;
-      spare_blank = λ d z. some_blank d c z b;
       from_low = omega (arith, f);
       from_high = low;
       from_none = λ j p w. absurd (omega (arith, p, w, f));
@@ -152,9 +141,9 @@ back_none : (o : Option Entry) (c : Contents) → IsSome o → (with_back o c).b
 back_none None c s = absurd (false≢true s)
 back_none (Some e) c s = refl
 
-pub unpull_kept : (st : State) (ends : List Bool) (spare : Option Contents) (from i : ℕ) (x old : In) → IsKept st ends spare from → CanUnpull st i → st.lent ≡ lent.Nothing → old ≡ get_or st.ins i old →
-    x ≡ record old { parcel = with_back old.parcel.back old.parcel } → length x.parcel.untaken ≤ st.cap → IsKept (in_written st i x st.lent None) ends spare (min from i)
-unpull_kept st ends spare from i x old k can home read wrote fits =
+pub unpull_kept : (st : State) (ends : List Bool) (from i : ℕ) (x old : In) → IsKept st ends from → CanUnpull st i → old ≡ get_or st.ins i old →
+    x ≡ record old { parcel = with_back old.parcel.back old.parcel } → length x.parcel.untaken ≤ st.cap → IsKept (in_written st i x None) ends (min from i)
+unpull_kept st ends from i x old k can read wrote fits =
     let s = k.standing in
     let here = in_here st i old s can.within read in
     let p : IsIn st.dims st.cap (hop_to st.dims i) old = subst (IsIn st.dims st.cap (hop_to st.dims i)) (sym here) (s.each_in i no_in (omega (arith, s.all_ins, can.within))) in
@@ -162,20 +151,16 @@ unpull_kept st ends spare from i x old k can home read wrote fits =
     let e : x.parcel ≡ with_back old.parcel.back old.parcel = ap (λ y. y.parcel) wrote in
     let low : links_before st.dims (length st.dims) ≤ i = subst (λ h. links_before st.dims h ≤ i) can.last_hop (hop_to_has st.dims i can.within).from in
     record {
-      standing = state_in st i x st.lent None s can.within
+      standing = state_in st i x None s can.within
           (record {
             fits = fits;
             fair = subst (λ c. All (λ (y : Entry). IsFair st.dims (hop_to st.dims i) y.tag) c.untaken) (sym e) (back_fair_all st.dims (hop_to st.dims i) old.parcel.back old.parcel p.fair p.back_fair);
             back_fair = λ y b. absurd (none_entry y x.parcel.back (ap (λ c. c.back) e ∙ back_none old.parcel.back old.parcel some) b);
           })
           (inl can.last_hop)
-          (λ j z. absurd (out_not_nothing j (sym (sym home ∙ z))))
-          (λ j z. absurd (in_not_nothing j (sym (sym home ∙ z))))
           (λ j z. absurd (none_some j None refl z));
       ends_all = k.ends_all;
       ends_each = λ h d a b. k.ends_each h d a b ∙ sym (at_end_other st.dims st.ins st.done i x h can.within (omega arith) b (omega (arith, b, can.last_hop)));
-      spare_home = k.spare_home;
-      spare_blank = k.spare_blank;
       from_low = omega (arith, low, k.from_low);
       from_high = omega (arith, k.from_high);
       from_none = λ j a w. ap (λ y. is_empty y.parcel) (get_or-set_other st.ins i j x no_in (omega (arith, w))) ∙ k.from_none j a (omega (arith, w));

@@ -9,12 +9,11 @@ use Rattle.route_tensor.specs.Link.{links_before}
 use Rattle.route_tensor.specs.Neighbour.{hop_to}
 use Rattle.route_tensor.specs.Tag.{IsFair}
 use Rattle.route_tensor.proofs.Neighbours.{hop_to_has}
-use Rattle.hop_core.specs.declared.lent.Lent.TheVariants as lent
 use Rattle.hop_core.specs.Link.{Out, In, no_in, is_empty, is_wanted, is_finished}
 use Rattle.hop_core.specs.State.{State, in_at, at_end, ins_of_hop}
 use Rattle.hop_core.specs.Standing.{IsOut, IsState, IsKept}
 use Rattle.hop_core.proofs.Marks.{at_end_other}
-use Rattle.hop_core.proofs.Standing.{out_written, in_written, state_out, state_in, kept_out, none_some, none_entry, out_not_nothing, in_not_nothing, wanted_open, open_unfinished, ends_open, ends_marked, not_last}
+use Rattle.hop_core.proofs.Standing.{out_written, in_written, state_out, state_in, kept_out, none_some, none_entry, wanted_open, open_unfinished, ends_open, ends_marked, not_last}
 
 -- an empty parcel of any epoch
 empty_out : (dims : List ℕ) (cap h e : ℕ) (o : Out) → o.parcel ≡ blank e → IsOut dims cap h o
@@ -25,67 +24,56 @@ empty_out dims cap h n o e = record {
   closed_empty = λ _. ap (λ c. c.untaken) e;
 }
 
--- another link out was written, and no parcel is lent
-home_out : (st : State) (ends : List Bool) (spare : Option Contents) (from i : ℕ) (o : Out) → IsKept st ends spare from → i < sum st.dims → st.lent ≡ lent.Nothing →
-    IsOut st.dims st.cap (hop_to st.dims i) o → (o.closed ≡ true → at_end st.dims st.ins st.done (hop_to st.dims i) ≡ true) →
-    IsKept (out_written st i o st.lent) ends spare from
-home_out st ends spare from i o k q home f c =
-    kept_out st ends spare spare from i o st.lent k
-    (state_out st i o st.lent k.standing q f c
-    (λ j z. absurd (out_not_nothing j (sym (sym home ∙ z))))
-    (λ j z. absurd (in_not_nothing j (sym (sym home ∙ z)))))
-    k.spare_home k.spare_blank
-
 -- an open parcel was taken out for an empty one
-pub out_taken_kept : (st : State) (ends : List Bool) (spare : Option Contents) (from i e : ℕ) (o : Out) (p : Contents) (last : Bool) → IsKept st ends spare from → i < sum st.dims → st.lent ≡ lent.Nothing →
+pub out_taken_kept : (st : State) (ends : List Bool) (from i e : ℕ) (o : Out) (p : Contents) (last : Bool) → IsKept st ends from → i < sum st.dims →
     p ≡ blank e → last ≡ at_end st.dims st.ins st.done (hop_to st.dims i) → o ≡ record { parcel = p; closed = last } →
-    IsKept (out_written st i o st.lent) ends spare from
-out_taken_kept st ends spare from i e o p last k q home b l wrote =
-    home_out st ends spare from i o k q home
+    IsKept (out_written st i o) ends from
+out_taken_kept st ends from i e o p last k q b l wrote =
+    kept_out st ends from i o k
+    (state_out st i o k.standing q
     (empty_out st.dims st.cap (hop_to st.dims i) e o (ap (λ y. y.parcel) wrote ∙ b))
-    (λ z. sym l ∙ (sym (ap (λ y. y.closed) wrote) ∙ z))
+    (λ z. sym l ∙ (sym (ap (λ y. y.closed) wrote) ∙ z)))
 
 -- one was put back
-pub out_back_kept : (st : State) (ends : List Bool) (spare : Option Contents) (from i : ℕ) (o : Out) (p : Contents) → IsKept st ends spare from → i < sum st.dims → st.lent ≡ lent.Nothing →
+pub out_back_kept : (st : State) (ends : List Bool) (from i : ℕ) (o : Out) (p : Contents) → IsKept st ends from → i < sum st.dims →
     IsFresh p → length p.untaken + p.taken ≤ st.cap → All (λ e. IsFair st.dims (hop_to st.dims i) e.tag) p.untaken → o ≡ record { parcel = p; closed = false } →
-    IsKept (out_written st i o st.lent) ends spare from
-out_back_kept st ends spare from i o p k q home fresh fits fair wrote =
+    IsKept (out_written st i o) ends from
+out_back_kept st ends from i o p k q fresh fits fair wrote =
     let e : o.parcel ≡ p = ap (λ y. y.parcel) wrote in
     let open' : o.closed ≡ false = ap (λ y. y.closed) wrote in
-    home_out st ends spare from i o k q home
+    kept_out st ends from i o k
+    (state_out st i o k.standing q
     (record {
       fresh = subst IsFresh (sym e) fresh;
       fits = subst (λ z. length z.untaken ≤ st.cap) (sym e) (omega (arith, fits));
       fair = subst (λ z. All (λ (y : Entry). IsFair st.dims (hop_to st.dims i) y.tag) z.untaken) (sym e) fair;
       closed_empty = λ c. absurd (false≢true (sym open' ∙ c));
     })
-    (λ c. absurd (false≢true (sym open' ∙ c)))
+    (λ c. absurd (false≢true (sym open' ∙ c))))
 
 -- an inbox that was wanted was filled
-module _ (st : State) (ends : List Bool) (spare : Option Contents) (from i : ℕ) (x : In) (p : Contents) (k : IsKept st ends spare from) (q : i < sum st.dims) (home : st.lent ≡ lent.Nothing)
+module _ (st : State) (ends : List Bool) (from i : ℕ) (x : In) (p : Contents) (k : IsKept st ends from) (q : i < sum st.dims)
     (w : is_wanted (in_at st i) ≡ true) (fits : length p.untaken + p.taken ≤ st.cap) (none_back : p.back ≡ None)
     (fair : All (λ (e : Entry). IsFair st.dims (hop_to st.dims i) e.tag) p.untaken) (wrote : x.parcel ≡ p) where
   fin : is_finished (in_at st i) ≡ false
   fin = open_unfinished (in_at st i) (wanted_open (in_at st i) w)
 
-  filled : IsState (in_written st i x st.lent None)
+  filled : IsState (in_written st i x None)
   filled =
-      state_in st i x st.lent None k.standing q
+      state_in st i x None k.standing q
       (record {
         fits = subst (λ z. length z.untaken ≤ st.cap) (sym wrote) (omega (arith, fits));
         fair = subst (λ z. All (λ (y : Entry). IsFair st.dims (hop_to st.dims i) y.tag) z.untaken) (sym wrote) fair;
         back_fair = λ y b. absurd (none_entry y x.parcel.back (ap (λ z. z.back) wrote ∙ none_back) b);
       })
       (inr fin)
-      (λ j z. absurd (out_not_nothing j (sym (sym home ∙ z))))
-      (λ j z. absurd (in_not_nothing j (sym (sym home ∙ z))))
       (λ j e. absurd (none_some j None refl e))
 
-  still_none : hop_to st.dims i < length st.dims → (j : ℕ) → links_before st.dims (length st.dims) ≤ j → j < from → is_empty (in_at (in_written st i x st.lent None) j).parcel ≡ true
+  still_none : hop_to st.dims i < length st.dims → (j : ℕ) → links_before st.dims (length st.dims) ≤ j → j < from → is_empty (in_at (in_written st i x None) j).parcel ≡ true
   still_none l j a v = ap (λ y. is_empty y.parcel) (get_or-set_other st.ins i j x no_in (λ e. not_last st i j from k.standing q l a (omega (arith, v, k.from_high)) e)) ∙ k.from_none j a v
 
   -- on the last hop
-  pub in_last_kept : hop_to st.dims i ≡ length st.dims → IsKept (in_written st i x st.lent None) ends spare (min from i)
+  pub in_last_kept : hop_to st.dims i ≡ length st.dims → IsKept (in_written st i x None) ends (min from i)
   in_last_kept l =
       let r = hop_to_has st.dims i q in
       let low : links_before st.dims (length st.dims) ≤ i = subst (λ h. links_before st.dims h ≤ i) l r.from in
@@ -93,21 +81,17 @@ module _ (st : State) (ends : List Bool) (spare : Option Contents) (from i : ℕ
         standing = filled;
         ends_all = k.ends_all;
         ends_each = λ h d a b. k.ends_each h d a b ∙ sym (at_end_other st.dims st.ins st.done i x h q (omega arith) b (omega (arith, b, l)));
-        spare_home = k.spare_home;
-        spare_blank = k.spare_blank;
         from_low = omega (arith, low, k.from_low);
         from_high = omega (arith, k.from_high);
         from_none = λ j a v. ap (λ y. is_empty y.parcel) (get_or-set_other st.ins i j x no_in (omega (arith, v))) ∙ k.from_none j a (omega (arith, v));
       }
 
   -- by an empty parcel
-  pub in_empty_kept : hop_to st.dims i ≡ length st.dims → is_empty x.parcel ≡ true → IsKept (in_written st i x st.lent None) ends spare from
+  pub in_empty_kept : hop_to st.dims i ≡ length st.dims → is_empty x.parcel ≡ true → IsKept (in_written st i x None) ends from
   in_empty_kept l e = record {
     standing = filled;
     ends_all = k.ends_all;
     ends_each = λ h d a b. k.ends_each h d a b ∙ sym (at_end_other st.dims st.ins st.done i x h q (omega arith) b (omega (arith, b, l)));
-    spare_home = k.spare_home;
-    spare_blank = k.spare_blank;
     from_low = k.from_low;
     from_high = k.from_high;
     from_none = λ j a v. elim (cases_eq j i) as (λ _. is_empty (get_or (set st.ins i x) j no_in).parcel ≡ true) [
@@ -117,13 +101,11 @@ module _ (st : State) (ends : List Bool) (spare : Option Contents) (from i : ℕ
   }
 
   -- on a hop before, with something left to come or to be read
-  pub in_going_kept : hop_to st.dims i < length st.dims → is_finished x ≡ false → IsKept (in_written st i x st.lent None) ends spare from
+  pub in_going_kept : hop_to st.dims i < length st.dims → is_finished x ≡ false → IsKept (in_written st i x None) ends from
   in_going_kept l f = record {
     standing = filled;
     ends_all = k.ends_all;
     ends_each = λ h d a b. k.ends_each h d a b ∙ sym (ends_open st.dims st.ins st.done i x h q k.standing.all_ins (omega arith) b fin f);
-    spare_home = k.spare_home;
-    spare_blank = k.spare_blank;
     from_low = k.from_low;
     from_high = k.from_high;
     from_none = still_none l;
@@ -131,13 +113,11 @@ module _ (st : State) (ends : List Bool) (spare : Option Contents) (from i : ℕ
 
   -- on a hop before, and by then the hop may have reached its end
   pub in_ending_kept : (b : Bool) → hop_to st.dims i < length st.dims → b ≡ list_all is_finished (ins_of_hop st.dims (set st.ins i x) (hop_to st.dims i)) →
-      IsKept (in_written st i x st.lent None) (set ends (hop_to st.dims i) b) spare from
+      IsKept (in_written st i x None) (set ends (hop_to st.dims i) b) from
   in_ending_kept b l eb = record {
     standing = filled;
     ends_all = length-set ends (hop_to st.dims i) b ∙ k.ends_all;
     ends_each = ends_marked st.dims st.ins (set st.ins i x) st.done ends i x b q l (omega (arith, k.ends_all, k.standing.grid.few)) k.ends_each refl eb;
-    spare_home = k.spare_home;
-    spare_blank = k.spare_blank;
     from_low = k.from_low;
     from_high = k.from_high;
     from_none = still_none l;

@@ -4,7 +4,6 @@ pub mod Passing
 pub mod Going
 pub mod Relaying
 pub mod Standing
-pub mod Lends
 pub mod Steps
 pub mod Exchanging
 pub mod Relayed

@@ -14,13 +14,12 @@ use Rattle.route_tensor.specs.Link.{links_before}
 use Rattle.route_tensor.specs.Neighbour.{hop_to}
 use Rattle.route_tensor.proofs.Links.{before_more}
 use Rattle.route_tensor.proofs.Neighbours.{hop_to_is, hop_to_has}
-use Rattle.hop_core.specs.declared.lent.Lent.TheVariants as lent
 use Rattle.hop_core.specs.Link.{Out, In, no_out, no_in, is_empty, is_finished}
 use Rattle.hop_core.specs.State.{State, out_at, ins_of_hop, at_end}
 use Rattle.hop_core.specs.Relay.{AddsToHop, TakesFromHop, IsStopped, waiting}
 use Rattle.hop_core.specs.Standing.{IsOut, IsIn, IsState, IsKept}
 use Rattle.hop_core.proofs.Marks.{at_end-first, at_end-later, zero_stays}
-use Rattle.hop_core.proofs.Standing.{none_some, out_not_nothing, in_not_nothing, hop_last}
+use Rattle.hop_core.proofs.Standing.{none_some, hop_last}
 use Rattle.hop_core.proofs.Relaying.{Relaying}
 
 -- how much waits at most
@@ -114,10 +113,10 @@ end_same dims h ins ins' done (suc j) t n c m ne =
     ∙ sym (ap (at_end dims ins' done) e ∙ at_end-later dims ins' done j one)
 
 -- the marks after a relay
-pub relay_kept : (st : State) (ends : List Bool) (spare : Option Contents) (from h : ℕ) (outs' : List Out) (ins' : List In) (b : Bool) → IsKept st ends spare from → st.lent ≡ lent.Nothing → 1 ≤ h → h < length st.dims →
+pub relay_kept : (st : State) (ends : List Bool) (from h : ℕ) (outs' : List Out) (ins' : List In) (b : Bool) → IsKept st ends from → 1 ≤ h → h < length st.dims →
     EachAt (λ o out. IsOut st.dims st.cap (hop_to st.dims o) out) outs' → EachAt (λ j x. IsIn st.dims st.cap (hop_to st.dims j) x) ins' → AddsToHop st.dims (h + 1) st.outs outs' → TakesFromHop st.dims h st.ins ins' →
-    b ≡ list_all is_finished (ins_of_hop st.dims ins' h) → IsKept (record st { outs = outs'; ins = ins'; pulled = None }) (set ends h b) spare from
-relay_kept st ends spare from h outs' ins' b k home p l eo ei a t eb =
+    b ≡ list_all is_finished (ins_of_hop st.dims ins' h) → IsKept (record st { outs = outs'; ins = ins'; pulled = None }) (set ends h b) from
+relay_kept st ends from h outs' ins' b k p l eo ei a t eb =
     let s = k.standing in
     let no : length outs' ≡ sum st.dims = a.count ∙ s.all_outs in
     let ni : length ins' ≡ sum st.dims = t.count ∙ s.all_ins in
@@ -134,8 +133,6 @@ relay_kept st ends spare from h outs' ins' b k home p l eo ei a t eb =
             let o' : o < length st.outs = omega (arith, w, a.count) in
             let old : (get_or st.outs o no_out).closed ≡ true = sym (a.closed o) ∙ ap (λ y. y.closed) (get_or_default outs' o no_out d w) ∙ c in
             at_end_stays st.dims h st.ins ins' st.done (hop_to st.dims o) t (s.closed_at_end o no_out o' old);
-        lent_out = λ j z. absurd (out_not_nothing j (sym (sym home ∙ z)));
-        lent_in = λ j z. absurd (in_not_nothing j (sym (sym home ∙ z)));
         can_unpull = λ j z. absurd (none_some j None refl z);
       };
       ends_all = length-set ends h b ∙ k.ends_all;
@@ -146,8 +143,6 @@ relay_kept st ends spare from h outs' ins' b k home p l eo ei a t eb =
         | inr ne ↦
             get_or-set_other ends h (j - 1) b d (omega (arith, ne, c)) ∙ k.ends_each j d c m ∙ end_same st.dims h st.ins ins' st.done j t s.all_ins c m ne
       ];
-      spare_home = k.spare_home;
-      spare_blank = k.spare_blank;
       from_low = k.from_low;
       from_high = k.from_high;
       from_none = λ j c w.

@@ -12,8 +12,6 @@ use Rattle.route_tensor.proofs.Links.{before_more}
 use Rattle.route_tensor.specs.Link.{links_before}
 use Rattle.route_tensor.specs.Neighbour.{hop_to}
 use Rattle.route_tensor.proofs.Neighbours.{hop_to_has, hop_to_is}
-use Rattle.hop_core.specs.declared.lent.Lent.{Lent}
-use Rattle.hop_core.specs.declared.lent.Lent.TheVariants as lent
 use Rattle.hop_core.specs.Link.{Out, In, no_out, no_in, is_empty, is_due, is_wanted, is_finished}
 use Rattle.hop_core.specs.State.{State, out_at, in_at, at_end, ins_of_hop}
 use Rattle.hop_core.specs.Standing.{IsOut, IsIn, IsState, CanUnpull, IsKept}
@@ -23,14 +21,13 @@ pub none_some : (j : ℕ) → (o : Option ℕ) → o ≡ None → o ≡ Some j �
 none_some j o n e = cc
 
 -- a state in which another link out was written
-abbrev pub out_written : State → ℕ → Out → Lent → State
-out_written st i o l = record st { outs = set st.outs i o; lent = l; pulled = None }
+abbrev pub out_written : State → ℕ → Out → State
+out_written st i o = record st { outs = set st.outs i o; pulled = None }
 
-pub state_out : (st : State) (i : ℕ) (o : Out) (l : Lent) → IsState st → i < sum st.dims → IsOut st.dims st.cap (hop_to st.dims i) o →
+pub state_out : (st : State) (i : ℕ) (o : Out) → IsState st → i < sum st.dims → IsOut st.dims st.cap (hop_to st.dims i) o →
     (o.closed ≡ true → at_end st.dims st.ins st.done (hop_to st.dims i) ≡ true) →
-    ((j : ℕ) → l ≡ lent.Out j → (out_at (out_written st i o l) j).closed ≡ false) → ((j : ℕ) → l ≡ lent.In j → (in_at st j).ended ≡ false) →
-    IsState (out_written st i o l)
-state_out st i o l k q p closed lo li = record {
+    IsState (out_written st i o)
+state_out st i o k q p closed = record {
   grid = k.grid;
   rank = k.rank;
   cap = k.cap;
@@ -39,30 +36,19 @@ state_out st i o l k q p closed lo li = record {
   each_out = each_set (λ j out. IsOut st.dims st.cap (hop_to st.dims j) out) st.outs i o k.each_out p;
   each_in = k.each_in;
   closed_at_end = each_set (λ j out. out.closed ≡ true → at_end st.dims st.ins st.done (hop_to st.dims j) ≡ true) st.outs i o k.closed_at_end closed;
-  lent_out = lo;
-  lent_in = li;
   can_unpull = λ j e. absurd (none_some j None refl e);
 }
 
 -- what the code keeps besides is untouched by it
-pub kept_out : (st : State) (ends : List Bool) (spare spare' : Option Contents) (from i : ℕ) (o : Out) (l : Lent) → IsKept st ends spare from → IsState (out_written st i o l) →
-    (l ≡ lent.Nothing → IsSome spare') → ((c : Contents) → spare' ≡ Some c → c ≡ blank 0) → IsKept (out_written st i o l) ends spare' from
-kept_out st ends spare spare' from i o l k s home blank' = record {
+pub kept_out : (st : State) (ends : List Bool) (from i : ℕ) (o : Out) → IsKept st ends from → IsState (out_written st i o) → IsKept (out_written st i o) ends from
+kept_out st ends from i o k s = record {
   standing = s;
   ends_all = k.ends_all;
   ends_each = k.ends_each;
-  spare_home = home;
-  spare_blank = blank';
   from_low = k.from_low;
   from_high = k.from_high;
   from_none = k.from_none;
 }
-
-pub out_not_nothing : (i : ℕ) → lent.Out i ≡ lent.Nothing → ⊥
-out_not_nothing i e = cc
-
-pub in_not_nothing : (i : ℕ) → lent.In i ≡ lent.Nothing → ⊥
-in_not_nothing i e = cc
 
 pub none_entry : (e : Entry) (o : Option Entry) → o ≡ None → o ≡ Some e → ⊥
 none_entry e o n s = cc
@@ -92,14 +78,13 @@ pub out_fact : (st : State) (i : ℕ) → IsState st → i < sum st.dims → IsO
 out_fact st i k q = k.each_out i no_out (omega (arith, k.all_outs, q))
 
 -- a state in which another link in was written
-abbrev pub in_written : State → ℕ → In → Lent → Option ℕ → State
-in_written st i x l p = record st { ins = set st.ins i x; lent = l; pulled = p }
+abbrev pub in_written : State → ℕ → In → Option ℕ → State
+in_written st i x p = record st { ins = set st.ins i x; pulled = p }
 
-pub state_in : (st : State) (i : ℕ) (x : In) (l : Lent) (p : Option ℕ) → IsState st → i < sum st.dims → IsIn st.dims st.cap (hop_to st.dims i) x →
+pub state_in : (st : State) (i : ℕ) (x : In) (p : Option ℕ) → IsState st → i < sum st.dims → IsIn st.dims st.cap (hop_to st.dims i) x →
     (hop_to st.dims i ≡ length st.dims) ⊎ (is_finished (in_at st i) ≡ false) →
-    ((j : ℕ) → l ≡ lent.Out j → (out_at st j).closed ≡ false) → ((j : ℕ) → l ≡ lent.In j → (in_at (in_written st i x l p) j).ended ≡ false) →
-    ((j : ℕ) → p ≡ Some j → CanUnpull (in_written st i x l p) j) → IsState (in_written st i x l p)
-state_in st i x l p k q f c lo li cu = record {
+    ((j : ℕ) → p ≡ Some j → CanUnpull (in_written st i x p) j) → IsState (in_written st i x p)
+state_in st i x p k q f c cu = record {
   grid = k.grid;
   rank = k.rank;
   cap = k.cap;
@@ -110,8 +95,6 @@ state_in st i x l p k q f c lo li cu = record {
   closed_at_end = λ j d w z.
       let r = hop_to_has st.dims j (omega (arith, w, k.all_outs)) in
       at_end_kept st.dims st.ins st.done i x (hop_to st.dims j) q k.all_ins r.first r.last c (k.closed_at_end j d w z);
-  lent_out = lo;
-  lent_in = li;
   can_unpull = cu;
 }
 

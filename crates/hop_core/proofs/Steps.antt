@@ -11,12 +11,11 @@ use Rattle.route_tensor.specs.Neighbour.{hop_to}
 use Rattle.hop_core.proofs.Going.{out_pushed, in_taken, head_fair, same_outs}
 use Rattle.route_tensor.specs.Tag.{IsFair}
 use Rattle.route_tensor.proofs.Neighbours.{hop_to_is}
-use Rattle.hop_core.specs.declared.lent.Lent.TheVariants as lent
 use Rattle.hop_core.specs.Link.{Out, In, no_out, no_in, is_empty, with_entry, with_first_taken}
 use Rattle.hop_core.specs.State.{State, in_at, at_end}
 use Rattle.hop_core.specs.Standing.{IsOut, IsIn, CanUnpull, IsKept}
 use Rattle.hop_core.proofs.Marks.{at_end_other, at_end-first, at_end-later, end_zero}
-use Rattle.hop_core.proofs.Standing.{none_some, out_written, state_out, kept_out, out_not_nothing, in_not_nothing, out_fact, in_written, state_in, in_fact, out_here, in_here, hop_last}
+use Rattle.hop_core.proofs.Standing.{none_some, out_written, state_out, kept_out, out_fact, in_written, state_in, in_fact, out_here, in_here, hop_last}
 
 end_later : (dims : List ℕ) (ins : List In) (a b : Bool) (h : ℕ) → 2 ≤ h → at_end dims ins a h ≡ at_end dims ins b h
 end_later dims ins a b zero p = absurd (omega (arith, p))
@@ -31,8 +30,8 @@ end_done dims ins a (suc zero) t = at_end-first dims ins true
 end_done dims ins a (suc (suc h)) t = end_later dims ins true a (suc (suc h)) (omega arith) ∙ t
 
 -- done is set
-pub done_kept : (st : State) (ends : List Bool) (spare : Option Contents) (from : ℕ) → IsKept st ends spare from → IsKept (record st { done = true; pulled = None }) ends spare from
-done_kept st ends spare from k =
+pub done_kept : (st : State) (ends : List Bool) (from : ℕ) → IsKept st ends from → IsKept (record st { done = true; pulled = None }) ends from
+done_kept st ends from k =
     let s = k.standing in
     let later : (h : ℕ) → 2 ≤ h → at_end st.dims st.ins true h ≡ at_end st.dims st.ins st.done h = λ h p. end_later st.dims st.ins true st.done h p in
     record {
@@ -45,14 +44,10 @@ done_kept st ends spare from k =
         each_out = s.each_out;
         each_in = s.each_in;
         closed_at_end = λ i d l z. end_done st.dims st.ins st.done (hop_to st.dims i) (s.closed_at_end i d l z);
-        lent_out = s.lent_out;
-        lent_in = s.lent_in;
         can_unpull = λ j e. absurd (none_some j None refl e);
       };
       ends_all = k.ends_all;
       ends_each = λ h d a b. k.ends_each h d a b ∙ sym (later h a);
-      spare_home = k.spare_home;
-      spare_blank = k.spare_blank;
       from_low = k.from_low;
       from_high = k.from_high;
       from_none = k.from_none;
@@ -62,27 +57,24 @@ same_number : (i j : ℕ) → Some i ≡ Some j → i ≡ j
 same_number i j e = cc
 
 -- an entry pushed
-pub push_kept : (st : State) (ends : List Bool) (spare : Option Contents) (from i : ℕ) (o old : Out) (e : Entry) → IsKept st ends spare from → i < sum st.dims → hop_to st.dims i ≡ 1 → st.done ≡ false → st.lent ≡ lent.Nothing →
+pub push_kept : (st : State) (ends : List Bool) (from i : ℕ) (o old : Out) (e : Entry) → IsKept st ends from → i < sum st.dims → hop_to st.dims i ≡ 1 → st.done ≡ false →
     old ≡ get_or st.outs i old → o ≡ record old { parcel = with_entry old.parcel e } → length old.parcel.untaken < st.cap → IsFair st.dims 1 e.tag →
-    IsKept (out_written st i o st.lent) ends spare from
-push_kept st ends spare from i o old e k q h d home read wrote room f =
+    IsKept (out_written st i o) ends from
+push_kept st ends from i o old e k q h d read wrote room f =
     let s = k.standing in
     let here = out_here st i old s q read in
     let was : IsOut st.dims st.cap (hop_to st.dims i) old = subst (IsOut st.dims st.cap (hop_to st.dims i)) (sym here) (out_fact st i s q) in
     let open' : old.closed ≡ false = false_from_ne_true old.closed (λ c.
     false≢true (sym d ∙ sym (at_end-first st.dims st.ins st.done) ∙ ap (at_end st.dims st.ins st.done) (sym h)
     ∙ s.closed_at_end i no_out (omega (arith, s.all_outs, q)) (ap (λ y. y.closed) (sym here) ∙ c))) in
-    kept_out st ends spare spare from i o st.lent k
-    (state_out st i o st.lent s q
+    kept_out st ends from i o k
+    (state_out st i o s q
     (out_pushed st.dims st.cap (hop_to st.dims i) old o e was wrote room (subst (λ j. IsFair st.dims j e.tag) (sym h) f) open')
-    (λ c. absurd (false≢true (sym (ap (λ y. y.closed) wrote ∙ open') ∙ c)))
-    (λ j z. absurd (out_not_nothing j (sym (sym home ∙ z))))
-    (λ j z. absurd (in_not_nothing j (sym (sym home ∙ z)))))
-    k.spare_home k.spare_blank
+    (λ c. absurd (false≢true (sym (ap (λ y. y.closed) wrote ∙ open') ∙ c))))
 
 -- only the right to unpull is gone
-pub rest_kept : (st : State) (ends : List Bool) (spare : Option Contents) (from : ℕ) → IsKept st ends spare from → IsKept (record st { pulled = None }) ends spare from
-rest_kept st ends spare from k =
+pub rest_kept : (st : State) (ends : List Bool) (from : ℕ) → IsKept st ends from → IsKept (record st { pulled = None }) ends from
+rest_kept st ends from k =
     let s = k.standing in
     record {
       standing = record {
@@ -94,27 +86,23 @@ rest_kept st ends spare from k =
         each_out = s.each_out;
         each_in = s.each_in;
         closed_at_end = s.closed_at_end;
-        lent_out = s.lent_out;
-        lent_in = s.lent_in;
         can_unpull = λ j e. absurd (none_some j None refl e);
       };
       ends_all = k.ends_all;
       ends_each = k.ends_each;
-      spare_home = k.spare_home;
-      spare_blank = k.spare_blank;
       from_low = k.from_low;
       from_high = k.from_high;
       from_none = k.from_none;
     }
 
 -- a push, accepted or not
-pub push_either : (st : State) (ends : List Bool) (spare : Option Contents) (from i : ℕ) (o old : Out) (e : Entry) (r : Bool) → IsKept st ends spare from → i < sum st.dims → hop_to st.dims i ≡ 1 → st.done ≡ false → st.lent ≡ lent.Nothing →
+pub push_either : (st : State) (ends : List Bool) (from i : ℕ) (o old : Out) (e : Entry) (r : Bool) → IsKept st ends from → i < sum st.dims → hop_to st.dims i ≡ 1 → st.done ≡ false →
     old ≡ get_or st.outs i old → (r ≡ true → o ≡ record old { parcel = with_entry old.parcel e }) → (r ≡ true → length old.parcel.untaken < st.cap) → (r ≡ false → o ≡ old) → IsFair st.dims 1 e.tag →
-    IsKept (out_written st i o st.lent) ends spare from
-push_either st ends spare from i o old e r k q h d home read wrote room same f =
-    elim (cases_Bool r) as (λ _. IsKept (out_written st i o st.lent) ends spare from) [
-      | inl t ↦ push_kept st ends spare from i o old e k q h d home read (wrote t) (room t) f
-      | inr n ↦ subst (λ os. IsKept (record st { outs = os; pulled = None }) ends spare from) (sym (same_outs st.outs i old o read (same n))) (rest_kept st ends spare from k)
+    IsKept (out_written st i o) ends from
+push_either st ends from i o old e r k q h d read wrote room same f =
+    elim (cases_Bool r) as (λ _. IsKept (out_written st i o) ends from) [
+      | inl t ↦ push_kept st ends from i o old e k q h d read (wrote t) (room t) f
+      | inr n ↦ subst (λ os. IsKept (record st { outs = os; pulled = None }) ends from) (sym (same_outs st.outs i old o read (same n))) (rest_kept st ends from k)
     ]
 
 -- the first hop's neighbour with a coordinate
@@ -124,27 +112,23 @@ first_hop_out dims d g =
     hop_to_is dims 1 (coord dims d 1) (record { first = omega arith; last = g.some; from = omega arith; below = omega (arith, c) })
 
 -- the taking of items of the last hop
-pub taken_kept : (st : State) (ends : List Bool) (spare : Option Contents) (from i : ℕ) (x : In) → IsKept st ends spare from → from ≤ i → i < sum st.dims → st.lent ≡ lent.Nothing →
+pub taken_kept : (st : State) (ends : List Bool) (from i : ℕ) (x : In) → IsKept st ends from → from ≤ i → i < sum st.dims →
     ((j : ℕ) → from ≤ j → j < i → is_empty (in_at st j).parcel ≡ true) → IsIn st.dims st.cap (hop_to st.dims i) x → IsSome x.parcel.back →
-    IsKept (in_written st i x st.lent (Some i)) ends spare i
-taken_kept st ends spare from i x k low q home none f back =
+    IsKept (in_written st i x (Some i)) ends i
+taken_kept st ends from i x k low q none f back =
     let s = k.standing in
     let last : hop_to st.dims i ≡ length st.dims = hop_last st i s (omega (arith, low, k.from_low)) q in
     let n : i < length st.ins = omega (arith, s.all_ins, q) in
     record {
-      standing = state_in st i x st.lent (Some i) s q f
+      standing = state_in st i x (Some i) s q f
           (inl last)
-          (λ j z. absurd (out_not_nothing j (sym (sym home ∙ z))))
-          (λ j z. absurd (in_not_nothing j (sym (sym home ∙ z))))
-          (λ j z. subst (CanUnpull (in_written st i x st.lent (Some i))) (same_number i j z) (record {
+          (λ j z. subst (CanUnpull (in_written st i x (Some i))) (same_number i j z) (record {
             within = q;
             last_hop = last;
             back = ap (λ y. is_some y.parcel.back) (get_or-set_same st.ins i x no_in n) ∙ back;
           }));
       ends_all = k.ends_all;
       ends_each = λ h d a b. k.ends_each h d a b ∙ sym (at_end_other st.dims st.ins st.done i x h q (omega arith) b (omega (arith, b, last)));
-      spare_home = k.spare_home;
-      spare_blank = k.spare_blank;
       from_low = omega (arith, low, k.from_low);
       from_high = omega (arith, q);
       from_none = λ j a w. ap (λ y. is_empty y.parcel) (get_or-set_other st.ins i j x no_in (omega (arith, w)))
@@ -152,27 +136,25 @@ taken_kept st ends spare from i x k low q home none f back =
     }
 
 -- of one item
-pub pull_kept : (st : State) (ends : List Bool) (spare : Option Contents) (from i : ℕ) (x old : In) (e : Entry) → IsKept st ends spare from → from ≤ i → i < sum st.dims → st.lent ≡ lent.Nothing →
+pub pull_kept : (st : State) (ends : List Bool) (from i : ℕ) (x old : In) (e : Entry) → IsKept st ends from → from ≤ i → i < sum st.dims →
     ((j : ℕ) → from ≤ j → j < i → is_empty (in_at st j).parcel ≡ true) → old ≡ get_or st.ins i old → slice_get old.parcel.untaken 0 ≡ Some e → x ≡ record old { parcel = with_first_taken old.parcel } →
-    IsKept (in_written st i x st.lent (Some i)) ends spare i
-pull_kept st ends spare from i x old e k low q home none read head wrote =
+    IsKept (in_written st i x (Some i)) ends i
+pull_kept st ends from i x old e k low q none read head wrote =
     let s = k.standing in
     let here = in_here st i old s q read in
     let f : IsIn st.dims st.cap (hop_to st.dims i) old = subst (IsIn st.dims st.cap (hop_to st.dims i)) (sym here) (in_fact st i s q) in
-    taken_kept st ends spare from i x k low q home none
+    taken_kept st ends from i x k low q none
     (in_taken st.dims st.cap (hop_to st.dims i) old x e f wrote head (head_fair st.dims st.cap (hop_to st.dims i) old e f head))
     (ap (λ y. is_some y.parcel.back) wrote ∙ ap is_some head)
 
 -- nothing to take
-pub none_kept : (st : State) (ends : List Bool) (spare : Option Contents) (from i : ℕ) → IsKept st ends spare from → from ≤ i → i ≤ sum st.dims → ((j : ℕ) → from ≤ j → j < i → is_empty (in_at st j).parcel ≡ true) → IsKept (record st { pulled = None }) ends spare i
-none_kept st ends spare from i k low high none =
-    let r = rest_kept st ends spare from k in
+pub none_kept : (st : State) (ends : List Bool) (from i : ℕ) → IsKept st ends from → from ≤ i → i ≤ sum st.dims → ((j : ℕ) → from ≤ j → j < i → is_empty (in_at st j).parcel ≡ true) → IsKept (record st { pulled = None }) ends i
+none_kept st ends from i k low high none =
+    let r = rest_kept st ends from k in
     record {
       standing = r.standing;
       ends_all = k.ends_all;
       ends_each = k.ends_each;
-      spare_home = k.spare_home;
-      spare_blank = k.spare_blank;
       from_low = omega (arith, low, k.from_low);
       from_high = high;
       from_none = λ j a w. elim (cases_lt j from) as (λ _. is_empty (in_at st j).parcel ≡ true) [ inl v ↦ k.from_none j a v | inr v ↦ none j v w ];

@@ -3,13 +3,12 @@ use Rattle.std.specs.Prelude.{◌≡◌, ℕ, Bool, true, false, ◌-◌, ◌<�
 use Rattle.std.specs.List.{All}
 use Rattle.bale_types.specs.declared.item.Entry.{Entry}
 use Rattle.item_buffer.specs.Capacity.{IsCap}
-use Rattle.item_buffer.specs.Contents.{Contents, IsFresh, blank}
+use Rattle.item_buffer.specs.Contents.{IsFresh}
 use Rattle.list_laws.specs.Lists.{EachAt}
 use Rattle.route_tensor.specs.Grid.{ranks, IsGrid}
 use Rattle.route_tensor.specs.Link.{links_before}
 use Rattle.route_tensor.specs.Neighbour.{hop_to}
 use Rattle.route_tensor.specs.Tag.{IsFair}
-use Rattle.hop_core.specs.declared.lent.Lent.TheVariants as lent
 use Rattle.hop_core.specs.Link.{Out, In, is_empty}
 use Rattle.hop_core.specs.State.{State, out_at, in_at, at_end}
 
@@ -34,8 +33,7 @@ pub record CanUnpull (st : State) (i : ℕ) : Type 0 where
   pub last_hop : hop_to st.dims i ≡ length st.dims
   pub back : IsSome (in_at st i).parcel.back
 
--- The state of a rank of a grid. A link is closed only where its hop has reached its end; a link out whose parcel is
--- lent isn't closed, and a link in whose inbox is lent hasn't ended.
+-- The state of a rank of a grid. A link is closed only where its hop has reached its end.
 pub record IsState (st : State) : Type 0 where
   pub grid : IsGrid st.dims
   pub rank : st.rank < ranks st.dims
@@ -45,18 +43,14 @@ pub record IsState (st : State) : Type 0 where
   pub each_out : EachAt (λ i o. IsOut st.dims st.cap (hop_to st.dims i) o) st.outs
   pub each_in : EachAt (λ i x. IsIn st.dims st.cap (hop_to st.dims i) x) st.ins
   pub closed_at_end : EachAt (λ i o. o.closed ≡ true → at_end st.dims st.ins st.done (hop_to st.dims i) ≡ true) st.outs
-  pub lent_out : (i : ℕ) → st.lent ≡ lent.Out i → (out_at st i).closed ≡ false
-  pub lent_in : (i : ℕ) → st.lent ≡ lent.In i → (in_at st i).ended ≡ false
   pub can_unpull : (i : ℕ) → st.pulled ≡ Some i → CanUnpull st i
 
--- What the code keeps besides: which hops have reached their end, the spare parcel that stands in for a lent one, and a
--- link below which no link in of the last hop has an entry.
-pub record IsKept (st : State) (ends : List Bool) (spare : Option Contents) (from : ℕ) : Type 0 where
+-- What the code keeps besides: which hops have reached their end, and a link below which no link in of the last hop has
+-- an entry.
+pub record IsKept (st : State) (ends : List Bool) (from : ℕ) : Type 0 where
   pub standing : IsState st
   pub ends_all : length ends ≡ 3
   pub ends_each : (h : ℕ) (d : Bool) → 2 ≤ h → h ≤ length st.dims → slice_index_or ends (h - 1) d ≡ at_end st.dims st.ins st.done h
-  pub spare_home : st.lent ≡ lent.Nothing → IsSome spare
-  pub spare_blank : (c : Contents) → spare ≡ Some c → c ≡ blank 0
   pub from_low : links_before st.dims (length st.dims) ≤ from
   pub from_high : from ≤ sum st.dims
   pub from_none : (i : ℕ) → links_before st.dims (length st.dims) ≤ i → i < from → is_empty (in_at st i).parcel ≡ true

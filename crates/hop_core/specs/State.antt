@@ -9,7 +9,6 @@ use Rattle.route_tensor.specs.Neighbour.{neighbour}
 use Rattle.route_tensor.specs.Tag.{sender_of, tag_at}
 use Rattle.hop_core.specs.declared.phase.Phase.{Phase}
 use Rattle.hop_core.specs.declared.phase.Phase.TheVariants.{Working, Endgame, Cleanup, Complete}
-use Rattle.hop_core.specs.declared.lent.Lent.{Lent}
 use Rattle.hop_core.specs.Link.{Out, In, no_out, no_in, is_empty, is_finished, with_entry, with_first_taken, with_back}
 
 -- The state of one rank. The links out and in stand by the number of the neighbour at the other end.
@@ -24,7 +23,6 @@ pub record State : Type 0 where
   pub done : Bool
   pub phase : Phase
   pub epoch : ℕ
-  pub lent : Lent
   pub pulled : Option ℕ
 
 abbrev pub out_at : State → ℕ → Out

@@ -1,21 +1,46 @@
-//! The way of parcels out of a rank's hands and into them, by the number of the neighbour and with a parcel of the caller's that is empty:
-//! an exchange at each call, and no parcel is lent.
+//! The way of parcels out of a rank's hands and into them, by the number of the neighbour: each call exchanges one for a parcel of the
+//! caller's, which is empty.
 
 ghost use Rattle.std.specs.Prelude.{◌≡◌, ◌<◌, ◌≤◌, length, sum, slice_set, true, false, None};
 ghost use Rattle.std.specs.List.{All};
 ghost use Rattle.item_buffer.specs.Contents.{IsFresh, blank};
-ghost use Rattle.route_tensor.specs.Neighbour.{hop_to};
+ghost use Rattle.route_tensor.specs.Link.{links};
+ghost use Rattle.route_tensor.specs.Ends.{hop_at, sender_at, reader_at};
+ghost use Rattle.route_tensor.specs.Neighbour.{hop_to, out_index, in_index};
 ghost use Rattle.route_tensor.specs.Tag.{IsFair};
 ghost use Rattle.hop_core.specs.Link.{is_due, is_wanted};
 ghost use Rattle.hop_core.specs.State.{out_at, in_at, at_end};
 
 use crate::in_links::hop_finished;
-use crate::lent::Lent;
 use crate::state::RankState;
 use item_buffer::Parcel;
 use route_tensor::Routes;
 
 impl<const CAP: usize, const HOPS: usize> RankState<CAP, HOPS> {
+    /// Whether the open parcel of this link out is to be sent.
+    #[inline]
+    pub fn due(&self, link: u32) -> bool
+        requires link { link < links self.now.dims }
+        requires starts_here { sender_at self.now.dims link ≡ self.now.rank }
+        ensures { result ≡ is_due self.now.cap self.now.steady
+            (at_end self.now.dims self.now.ins self.now.done (hop_at self.now.dims link))
+            (out_at self.now (out_index self.now.dims link)) }
+    {
+        let number = self.routes.number_to(link);
+        self.outs[number as usize].is_due(self.steady, self.at_end(number))
+    }
+
+    /// Whether a parcel of this link in is to be collected.
+    #[inline]
+    pub fn wants(&self, link: u32) -> bool
+        requires link { link < links self.now.dims }
+        requires ends_here { reader_at self.now.dims link ≡ self.now.rank }
+        ensures { result ≡ is_wanted (in_at self.now (in_index self.now.dims link)) }
+    {
+        let number = self.routes.number_from(link);
+        self.ins[number as usize].is_wanted()
+    }
+
     /// Whether the open parcel toward this neighbour is to be sent.
     #[inline]
     pub fn due_to(&self, number: u32) -> bool
@@ -39,7 +64,6 @@ impl<const CAP: usize, const HOPS: usize> RankState<CAP, HOPS> {
     /// marked last exactly where its hop has reached its end, and then the link is closed. `put_back` undoes that.
     #[inline]
     pub fn take_out(&mut self, number: u32, parcel: &mut Parcel<CAP>)
-        requires home { self.old.lent ≡ Lent.Nothing }
         requires number { number < sum self.old.dims }
         requires due { is_due self.old.cap self.old.steady
             (at_end self.old.dims self.old.ins self.old.done (hop_to self.old.dims number)) (out_at self.old number)
@@ -71,7 +95,6 @@ impl<const CAP: usize, const HOPS: usize> RankState<CAP, HOPS> {
     /// Puts an open parcel back that was taken out and could not be sent, for the empty one in its place. The link is open.
     #[inline]
     pub fn put_back(&mut self, number: u32, parcel: &mut Parcel<CAP>)
-        requires home { self.old.lent ≡ Lent.Nothing }
         requires number { number < sum self.old.dims }
         requires empty { (out_at self.old number).parcel ≡ blank self.old.epoch }
         requires fresh { IsFresh parcel.old }
@@ -91,7 +114,6 @@ impl<const CAP: usize, const HOPS: usize> RankState<CAP, HOPS> {
     /// ended from now on where the parcel is marked last.
     #[inline]
     pub fn take_in(&mut self, number: u32, parcel: &mut Parcel<CAP>)
-        requires home { self.old.lent ≡ Lent.Nothing }
         requires number { number < sum self.old.dims }
         requires wanted { is_wanted (in_at self.old number) ≡ true }
         requires fresh { IsFresh parcel.old }

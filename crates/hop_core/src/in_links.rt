@@ -116,27 +116,6 @@ impl<const CAP: usize> InLink<CAP> {
         self.parcel.len() == 0
     }
 
-    /// Hands the inbox out and keeps `spare` in its place.
-    pub fn lend(&mut self, spare: Parcel<CAP>) -> Parcel<CAP>
-        ensures value { result ≡ self.old.parcel }
-        ensures state { self.new ≡ record self.old { parcel = spare.entry } }
-    {
-        mem::replace(&mut self.parcel, spare)
-    }
-
-    /// Takes a parcel back and hands out the spare one. The link has ended from now on where the parcel came and is
-    /// marked last.
-    pub fn take_back(&mut self, parcel: Parcel<CAP>, got: bool) -> Parcel<CAP>
-        ensures value { result ≡ self.old.parcel }
-        ensures state { self.new ≡ record {
-          parcel = parcel.entry;
-          ended = self.old.ended || (got && parcel.entry.last);
-        } }
-    {
-        self.ended = self.ended || (got && parcel.last());
-        mem::replace(&mut self.parcel, parcel)
-    }
-
     /// Exchanges the parcel at hand for the inbox. The link has ended from now on where that parcel is marked last.
     /// Answers whether the link is finished.
     #[inline]

@@ -3,9 +3,7 @@
 //! A rank has one *open parcel* for each link that starts there, which `push` and `relay` fill, and one
 //! *inbox* for each link that ends there, which `relay` and `pull` empty. Whoever carries parcels between
 //! ranks exchanges them for an empty one: `take_out` for an open parcel that is due, and `put_back` where it
-//! could not be sent; `take_in` for an inbox that is wanted. Or they borrow them: `lend_out` and `note_sent`,
-//! `lend_in` and `note_got`. A lent parcel leaves the state by a move, and a spare one stands in for it until
-//! it comes back. No entry is copied.
+//! could not be sent; `take_in` for an inbox that is wanted. No entry is copied.
 //!
 //! An epoch ends by *last marks*. A hop has reached its end when nothing more can come to it: hop 1 once
 //! `set_done` was called, hop h + 1 once every link in of hop h has ended and its entries were passed on.
@@ -22,10 +20,8 @@
 //! | Call | What it does |
 //! |---|---|
 //! | `push` | appends an item to the open parcel toward its destination, or finds it full |
-//! | `due_to`, `take_out`, `put_back` | whether an open parcel is to be sent; exchanges it, and back where it was not sent |
-//! | `wants_from`, `take_in` | whether an inbox is to be filled; exchanges it for a parcel that came |
-//! | `due`, `lend_out`, `note_sent` | whether an open parcel is to be sent; hands it out, takes it back |
-//! | `wants`, `lend_in`, `note_got` | whether an inbox is to be filled; hands it out, takes it back |
+//! | `due`, `due_to`, `take_out`, `put_back` | whether an open parcel is to be sent; exchanges it, and back where it was not sent |
+//! | `wants`, `wants_from`, `take_in` | whether an inbox is to be filled; exchanges it for a parcel that came |
 //! | `relay` | passes entries on from one hop to the next |
 //! | `pull`, `unpull` | the next item that came, with its sender; puts it back |
 //! | `unread`, `batch`, `sender_of`, `pull_all` | the items of one inbox at once, as so many pulls would give them |
@@ -40,8 +36,6 @@
 
 mod carrying;
 mod in_links;
-mod lending;
-mod lent;
 mod out_links;
 mod phase;
 mod phases;

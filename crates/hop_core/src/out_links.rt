@@ -69,24 +69,6 @@ impl<const CAP: usize> OutLink<CAP> {
         steady && self.parcel.len() > 0
     }
 
-    /// Hands the parcel out and keeps `spare` in its place.
-    pub fn lend(&mut self, spare: Parcel<CAP>) -> Parcel<CAP>
-        ensures value { result ≡ self.old.parcel }
-        ensures state { self.new ≡ record self.old { parcel = spare.entry } }
-    {
-        mem::replace(&mut self.parcel, spare)
-    }
-
-    /// Takes a parcel back and hands out the spare one. The link is closed from now on where the parcel was sent and
-    /// was the last one.
-    pub fn take_back(&mut self, parcel: Parcel<CAP>, sent: bool, last: bool) -> Parcel<CAP>
-        ensures value { result ≡ self.old.parcel }
-        ensures state { self.new ≡ record { parcel = parcel.entry; closed = self.old.closed || (sent && last) } }
-    {
-        self.closed = self.closed || (sent && last);
-        mem::replace(&mut self.parcel, parcel)
-    }
-
     /// Exchanges the parcel at hand for the link's. The link is closed from now on, or open, as told.
     #[inline]
     pub fn exchange(&mut self, parcel: &mut Parcel<CAP>, closed: bool)

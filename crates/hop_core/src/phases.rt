@@ -4,7 +4,6 @@ ghost use Rattle.std.specs.Prelude.{◌≡◌, ◌≢◌, ◌+◌, ◌-◌, ◌^
 ghost use Rattle.hop_core.specs.State.{all_closed, phase_of, reopened, resumed};
 
 use crate::in_links::{hop_finished, resume_all};
-use crate::lent::Lent;
 use crate::out_links::{all_closed, reopen_all};
 use crate::phase::Phase;
 use crate::state::RankState;
@@ -33,7 +32,6 @@ impl<const CAP: usize, const HOPS: usize> RankState<CAP, HOPS> {
 
     /// Says that nothing more is pushed in this epoch.
     pub fn set_done(&mut self)
-        requires home { self.old.lent ≡ Lent.Nothing }
         requires begun { self.old.phase ≢ Phase.Dormant }
         ensures { self.new ≡ record self.old { done = true; pulled = None } }
     {
@@ -43,7 +41,6 @@ impl<const CAP: usize, const HOPS: usize> RankState<CAP, HOPS> {
 
     /// Sets the phase by what is done, sent, got and read.
     pub fn settle(&mut self) -> Phase
-        requires home { self.old.lent ≡ Lent.Nothing }
         requires begun { self.old.phase ≢ Phase.Dormant }
         ensures value { result ≡ phase_of self.old }
         ensures state { self.new ≡ record self.old { phase = phase_of self.old; pulled = None } }
@@ -55,7 +52,6 @@ impl<const CAP: usize, const HOPS: usize> RankState<CAP, HOPS> {
 
     /// The same where every link out is closed, as in the phase Cleanup: none of them is looked at.
     pub fn settle_closed(&mut self) -> Phase
-        requires home { self.old.lent ≡ Lent.Nothing }
         requires begun { self.old.phase ≢ Phase.Dormant }
         requires closed { all_closed self.old.outs ≡ true }
         ensures value { result ≡ phase_of self.old }
@@ -92,7 +88,6 @@ impl<const CAP: usize, const HOPS: usize> RankState<CAP, HOPS> {
 
     /// Ends an epoch that is complete.
     pub fn reset(&mut self)
-        requires home { self.old.lent ≡ Lent.Nothing }
         requires complete { self.old.phase ≡ Phase.Complete }
         requires epochs { self.old.epoch < 2 ^ 63 }
         ensures { self.new ≡ record self.old {

@@ -12,7 +12,6 @@ ghost use Rattle.route_tensor.specs.Pair.{PassesThrough};
 ghost use Rattle.hop_core.specs.declared.phase.Phase.{Phase};
 
 use crate::in_links::{first_unread, hop_finished};
-use crate::lent::Lent;
 use crate::relay::relay_hop;
 use crate::state::RankState;
 use bale_types::{Entry, Item, Tag};
@@ -22,7 +21,6 @@ impl<const CAP: usize, const HOPS: usize> RankState<CAP, HOPS> {
     /// Passes entries on from the links in of hop `h` to the open parcels of the next hop, in order, until each of these
     /// links is empty or the open parcel of its first entry is full. Answers how many it passed on.
     pub fn relay(&mut self, h: u32) -> u64
-        requires home { self.old.lent ≡ Lent.Nothing }
         requires first { 1 ≤ h }
         requires last { h < length self.old.dims }
 
@@ -50,7 +48,6 @@ impl<const CAP: usize, const HOPS: usize> RankState<CAP, HOPS> {
     /// The first unread item of the lowest link of the last hop that has one, and its sender.
     #[inline]
     pub fn pull(&mut self) -> Option<(u32, Item)>
-        requires home { self.old.lent ≡ Lent.Nothing }
         requires begun { self.old.phase ≢ Phase.Dormant }
         ensures value { result ≡ pull_from self.old (lowest_unread self.old) }
         ensures state { self.new ≡ pulled_from self.old (lowest_unread self.old) }
@@ -70,7 +67,6 @@ impl<const CAP: usize, const HOPS: usize> RankState<CAP, HOPS> {
     /// an unread item.
     #[inline]
     pub fn unread(&mut self) -> Option<u32>
-        requires home { self.old.lent ≡ Lent.Nothing }
         requires begun { self.old.phase ≢ Phase.Dormant }
         ensures value { result ≡ lowest_unread self.old }
         ensures state { self.new ≡ record self.old { pulled = None } }
@@ -114,7 +110,6 @@ impl<const CAP: usize, const HOPS: usize> RankState<CAP, HOPS> {
 
     /// Pulls all unread items of the link in from which the next pull takes.
     pub fn pull_all(&mut self, number: u32)
-        requires home { self.old.lent ≡ Lent.Nothing }
         requires begun { self.old.phase ≢ Phase.Dormant }
         requires lowest { lowest_unread self.old ≡ Some number }
         ensures { self.new ≡ pulls (length (in_at self.old number).parcel.untaken) self.old }
@@ -127,7 +122,6 @@ impl<const CAP: usize, const HOPS: usize> RankState<CAP, HOPS> {
 
     /// Puts the item back that the latest call pulled, if that call was a pull that gave one.
     pub fn unpull(&mut self) -> bool
-        requires home { self.old.lent ≡ Lent.Nothing }
         ensures value { result ≡ is_some self.old.pulled }
         ensures state { self.new ≡ unpulled self.old self.old.pulled }
     {

@@ -11,11 +11,9 @@ ghost use Rattle.hop_core.specs.Link.{no_out, no_in};
 ghost use Rattle.hop_core.specs.State.{out_at, at_end, with_pushed};
 
 use crate::in_links::{InLink, links_in};
-use crate::lent::Lent;
 use crate::out_links::{OutLink, links_out};
 use crate::phase::{Phase, Pushed};
 use bale_types::{Entry, Item, NoMemory, Tag};
-use item_buffer::Parcel;
 use route_tensor::{Grid, Onward, Routes};
 use std::alloc::Global;
 use std::marker::Model;
@@ -31,9 +29,6 @@ pub struct RankState<const CAP: usize, const HOPS: usize> {
     pub(crate) done: bool,
     /// For each hop but the first, whether it has reached its end.
     pub(crate) ends: [bool; 3],
-    /// Stands in for the parcel that is lent.
-    pub(crate) spare: Option<Parcel<CAP>>,
-    pub(crate) lent: Lent,
     pub(crate) phase: Phase,
     pub(crate) epoch: u64,
     /// Below it no link in of the last hop has an entry.
@@ -60,7 +55,6 @@ impl<const CAP: usize, const HOPS: usize> Model for RankState<CAP, HOPS> {
       done = t.done;
       phase = t.phase;
       epoch = t.epoch;
-      lent = t.lent;
       pulled = t.pulled;
     } };
 
@@ -74,9 +68,8 @@ impl<const CAP: usize, const HOPS: usize> Model for RankState<CAP, HOPS> {
       done = t.done;
       phase = t.phase;
       epoch = t.epoch;
-      lent = t.lent;
       pulled = t.pulled;
-    }) t.ends t.spare t.from };
+    }) t.ends t.from };
 }
 
 impl<const CAP: usize, const HOPS: usize> RankState<CAP, HOPS> {
@@ -97,7 +90,6 @@ impl<const CAP: usize, const HOPS: usize> RankState<CAP, HOPS> {
           done = false;
           phase = Phase.Dormant;
           epoch = 0;
-          lent = Lent.Nothing;
           pulled = None;
         }) }
     {
@@ -112,8 +104,6 @@ impl<const CAP: usize, const HOPS: usize> RankState<CAP, HOPS> {
             ins: links_in(alloc, neighbours)?,
             done: false,
             ends,
-            spare: Some(Parcel::new(alloc)?),
-            lent: Lent::Nothing,
             phase: Phase::Dormant,
             epoch: 0,
             from,
@@ -149,7 +139,6 @@ impl<const CAP: usize, const HOPS: usize> RankState<CAP, HOPS> {
     /// Appends `item` to the open parcel toward `to`.
     #[inline]
     pub fn push(&mut self, item: Item, to: u32) -> Pushed
-        requires home { self.old.lent ≡ Lent.Nothing }
         requires working { self.old.phase ≡ Phase.Working }
         requires not_done { self.old.done ≡ false }
         requires to { to < ranks self.old.dims }

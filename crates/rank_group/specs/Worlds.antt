@@ -13,7 +13,6 @@ use Rattle.port_bank.specs.Machine.{Part}
 use Rattle.port_bank.specs.Plain.{Bank, IsBank}
 use Rattle.port_bank.specs.Relay.{RelayLaw}
 use Rattle.hop_core.specs.declared.phase.Phase.TheVariants.{Dormant}
-use Rattle.hop_core.specs.declared.lent.Lent.TheVariants as lent
 use Rattle.hop_core.specs.State.{State}
 use Rattle.convey.specs.Buffers.{in_of}
 use Rattle.round_program.specs.Rules.{Rules}
@@ -30,7 +29,7 @@ entries_of log = flat_map (λ p. p.entries) log
 
 -- a rank that has none: no state of a conveyor
 abbrev pub nowhere : State
-nowhere = record { dims = []; rank = 0; cap = 0; steady = false; outs = []; ins = []; done = false; phase = Dormant; epoch = 0; lent = lent.Nothing; pulled = None }
+nowhere = record { dims = []; rank = 0; cap = 0; steady = false; outs = []; ins = []; done = false; phase = Dormant; epoch = 0; pulled = None }
 
 abbrev pub mover_in : {S : Type 0} → Option (RankState S) → MoverState
 mover_in None = Conveying nowhere

@@ -7,7 +7,6 @@ ghost use Rattle.route_tensor.specs.Grid.{ranks};
 ghost use Rattle.route_tensor.specs.Link.{links};
 ghost use Rattle.route_tensor.specs.Ends.{hop_at, sender_at, reader_at};
 ghost use Rattle.route_tensor.specs.Tag.{IsFair};
-ghost use Rattle.hop_core.specs.declared.lent.Lent.TheVariants as Lent;
 
 use bale_types::{Entry, Item, NoMemory, Tag};
 use hop_core::{Phase, Pushed, RankState};
@@ -39,7 +38,7 @@ fn begun<const CAP: usize, const HOPS: usize>(
     requires rank { rank < ranks grid.now }
     ensures dims { IfOk result (λ st. st.dims ≡ grid.now) }
     ensures rank { IfOk result (λ st. st.rank ≡ rank) }
-    ensures home { IfOk result (λ st. st.lent ≡ Lent.Nothing) }
+    ensures epoch { IfOk result (λ st. st.epoch ≡ 0) }
     ensures working { IfOk result (λ st. st.phase ≡ Phase.Working) }
     ensures not_done { IfOk result (λ st. st.done ≡ false) }
 {
@@ -50,7 +49,6 @@ fn begun<const CAP: usize, const HOPS: usize>(
 
 /// Pushes the item, and answers whether it was accepted.
 fn offer<const CAP: usize, const HOPS: usize>(state: &mut RankState<CAP, HOPS>, to: u32) -> bool
-    requires home { state.old.lent ≡ Lent.Nothing }
     requires working { state.old.phase ≡ Phase.Working }
     requires not_done { state.old.done ≡ false }
     requires to { to < ranks state.old.dims }
@@ -62,29 +60,29 @@ fn offer<const CAP: usize, const HOPS: usize>(state: &mut RankState<CAP, HOPS>, 
     }
 }
 
-/// The parcel of a link goes from its sender to its reader, whose empty inbox comes back for it. Answers its first entry.
+/// The parcel of a link goes from its sender to its reader, for the empty one at hand and then for its empty inbox. Answers
+/// its first entry.
 fn carry<const HOPS: usize>(
     rt: &impl Abort,
     link: u32,
     from: &mut RankState<1, HOPS>,
     to: &mut RankState<1, HOPS>,
+    parcel: &mut Parcel<1>,
 ) -> Option<Entry>
     requires same_grid { to.old.dims ≡ from.old.dims }
-    requires from_home { from.old.lent ≡ Lent.Nothing }
-    requires to_home { to.old.lent ≡ Lent.Nothing }
     requires link { link < links from.old.dims }
     requires starts_here { sender_at from.old.dims link ≡ from.old.rank }
     requires ends_here { reader_at from.old.dims link ≡ to.old.rank }
+    requires empty { parcel.old ≡ blank from.old.epoch }
     ensures rest { to.new ≡ record to.old { ins = to.new.ins; pulled = to.new.pulled } }
     ensures fair { (e : _) → result ≡ Some e → IsFair from.old.dims (hop_at from.old.dims link) e.tag }
+    ensures empty { parcel.new ≡ blank to.old.epoch }
 {
     assert!(rt; from.due(link));
     assert!(rt; to.wants(link));
-    let parcel = from.lend_out(link);
+    from.take_out(from.routes().number_to(link), parcel);
     let first = parcel.head();
-    let inbox = to.lend_in(link);
-    from.note_sent(link, inbox, true);
-    to.note_got(link, parcel, true);
+    to.take_in(to.routes().number_from(link), parcel);
     assert!(rt; !from.due(link));
     assert!(rt; !to.wants(link));
     first
@@ -98,21 +96,22 @@ fn hop<const HOPS: usize>(
     link: (u32, u32, u32, u32),
     from: &mut RankState<1, HOPS>,
     to: &mut RankState<1, HOPS>,
+    parcel: &mut Parcel<1>,
 ) -> Option<(Entry, (u32, u32))>
     requires link { link.0 < links grid.now }
     requires from_grid { from.old.dims ≡ grid.now }
     requires to_grid { to.old.dims ≡ grid.now }
-    requires from_home { from.old.lent ≡ Lent.Nothing }
-    requires to_home { to.old.lent ≡ Lent.Nothing }
     requires starts_here { from.old.rank ≡ link.2 }
     requires ends_here { to.old.rank ≡ link.3 }
+    requires empty { parcel.old ≡ blank from.old.epoch }
+    ensures empty { parcel.new ≡ blank to.old.epoch }
     ensures rest { to.new ≡ record to.old { ins = to.new.ins; pulled = to.new.pulled } }
 {
     let (h, a, b) = grid.ends(link.0);
     assert_eq!(rt; h, link.1);
     assert_eq!(rt; a, link.2);
     assert_eq!(rt; b, link.3);
-    match carry(rt, link.0, from, to) {
+    match carry(rt, link.0, from, to, parcel) {
         Some(first) => Some((first, grid.pair_of(first.tag, h, a, b))),
         None => None,
     }
@@ -127,14 +126,15 @@ fn three_hops_by_hand(rt: HostRuntime) -> Result<(), Fail> {
     let mut zero = begun::<1, 3>(rt.alloc(), &grid, 0, false)?;
     let mut two = begun::<1, 3>(rt.alloc(), &grid, 2, false)?;
     let mut six = begun::<1, 3>(rt.alloc(), &grid, 6, false)?;
+    let mut parcel = Parcel::new(rt.alloc())?;
     assert!(rt; offer(&mut one, 6));
-    let first = hop(&rt, &grid, (2, 1, 1, 0), &mut one, &mut zero);
+    let first = hop(&rt, &grid, (2, 1, 1, 0), &mut one, &mut zero, &mut parcel);
     assert_eq!(rt; first, Some((entry(0, 1, 1), (1, 6))));
     assert_eq!(rt; zero.relay(1), 1);
-    let second = hop(&rt, &grid, (17, 2, 0, 2), &mut zero, &mut two);
+    let second = hop(&rt, &grid, (17, 2, 0, 2), &mut zero, &mut two, &mut parcel);
     assert_eq!(rt; second, Some((entry(1, 0, 1), (1, 6))));
     assert_eq!(rt; two.relay(2), 1);
-    let third = hop(&rt, &grid, (37, 3, 2, 6), &mut two, &mut six);
+    let third = hop(&rt, &grid, (37, 3, 2, 6), &mut two, &mut six, &mut parcel);
     assert_eq!(rt; third, Some((entry(1, 0, 0), (1, 6))));
     assert_eq!(rt; six.pull(), Some((1, ITEM)));
     Ok(())
@@ -191,47 +191,41 @@ fn due_exactly_there(rt: HostRuntime) -> Result<(), Fail> {
     Ok(())
 }
 
-/// The open parcel of the link from the rank to itself is sent, and an empty one takes its place.
-fn send_home(rt: &impl Abort, state: &mut RankState<1, 1>, empty: Parcel<1>) -> Parcel<1>
-    requires home { state.old.lent ≡ Lent.Nothing }
+/// The open parcel of the link from the rank to itself is taken out for the empty one at hand, put back once, and taken out
+/// again.
+fn send_home(rt: &impl Abort, state: &mut RankState<1, 1>, parcel: &mut Parcel<1>)
     requires link { 0 < links state.old.dims }
     requires starts_here { sender_at state.old.dims 0 ≡ state.old.rank }
-    requires empty { empty ≡ blank 0 }
+    requires empty { parcel.old ≡ blank state.old.epoch }
     ensures rest { state.new ≡ record state.old { outs = state.new.outs; pulled = state.new.pulled } }
-    ensures fresh { IsFresh result }
-    ensures fair { All (λ e. IsFair state.old.dims (hop_at state.old.dims 0) e.tag) result.untaken }
+    ensures fresh { IsFresh parcel.new }
+    ensures fair { All (λ e. IsFair state.old.dims (hop_at state.old.dims 0) e.tag) parcel.new.untaken }
 {
-    assert!(rt; state.due(0));
-    let kept = state.lend_out(0);
-    state.note_sent(0, kept, false);
-    assert!(rt; state.due(0));
-    let parcel = state.lend_out(0);
-    state.note_sent(0, empty, true);
+    let number = state.routes().number_to(0);
+    assert!(rt; state.due_to(number));
+    state.take_out(number, parcel);
+    assert!(rt; !state.due_to(number));
+    state.put_back(number, parcel);
+    assert!(rt; state.due_to(number));
+    state.take_out(number, parcel);
     assert!(rt; !state.due(0));
-    parcel
 }
 
-/// The parcel comes over that link.
-fn get_home(rt: &impl Abort, state: &mut RankState<1, 1>, parcel: Parcel<1>)
-    requires home { state.old.lent ≡ Lent.Nothing }
+/// The parcel comes over that link, for the empty inbox.
+fn get_home(rt: &impl Abort, state: &mut RankState<1, 1>, parcel: &mut Parcel<1>)
     requires link { 0 < links state.old.dims }
     requires ends_here { reader_at state.old.dims 0 ≡ state.old.rank }
-    requires fresh { IsFresh parcel }
-    requires fair { All (λ e. IsFair state.old.dims (hop_at state.old.dims 0) e.tag) parcel.untaken }
+    requires fresh { IsFresh parcel.old }
+    requires fair { All (λ e. IsFair state.old.dims (hop_at state.old.dims 0) e.tag) parcel.old.untaken }
     ensures rest { state.new ≡ record state.old { ins = state.new.ins; pulled = state.new.pulled } }
 {
     assert!(rt; state.wants(0));
-    let empty = state.lend_in(0);
-    state.note_got(0, empty, false);
-    assert!(rt; state.wants(0));
-    let _inbox = state.lend_in(0);
-    state.note_got(0, parcel, true);
+    state.take_in(state.routes().number_from(0), parcel);
     assert!(rt; !state.wants(0));
 }
 
 /// The next item that came, with its sender; it is put back once, and pulled again.
 fn read(rt: &impl Abort, state: &mut RankState<1, 1>) -> Option<(u32, Item)>
-    requires home { state.old.lent ≡ Lent.Nothing }
     requires begun { state.old.phase ≢ Phase.Dormant }
     ensures rest { state.new ≡ record state.old { ins = state.new.ins; pulled = state.new.pulled } }
 {
@@ -244,7 +238,6 @@ fn read(rt: &impl Abort, state: &mut RankState<1, 1>) -> Option<(u32, Item)>
 
 /// Settles the phase, which takes away the right to put an item back.
 fn settle<const HOPS: usize>(rt: &impl Abort, state: &mut RankState<1, HOPS>) -> Phase
-    requires home { state.old.lent ≡ Lent.Nothing }
     requires begun { state.old.phase ≢ Phase.Dormant }
     ensures begun { result ≢ Phase.Dormant }
     ensures rest { state.new ≡ record state.old { phase = result; pulled = state.new.pulled } }
@@ -260,7 +253,7 @@ fn settle<const HOPS: usize>(rt: &impl Abort, state: &mut RankState<1, HOPS>) ->
 fn phases(rt: HostRuntime) -> Result<(), Fail> {
     let grid = Grid::new(&[1])?;
     check_only_link(&rt, &grid);
-    let empty = Parcel::new(rt.alloc())?;
+    let mut parcel = Parcel::new(rt.alloc())?;
     let mut state = RankState::<1, 1>::new(rt.alloc(), &grid, 0, false)?;
     assert_eq!(rt; state.phase(), Phase::Dormant);
     assert_eq!(rt; state.routes().neighbours(), 1);
@@ -269,10 +262,10 @@ fn phases(rt: HostRuntime) -> Result<(), Fail> {
     assert!(rt; offer(&mut state, 0));
     state.set_done();
     assert_eq!(rt; settle(&rt, &mut state), Phase::Endgame);
-    let parcel = send_home(&rt, &mut state, empty);
+    send_home(&rt, &mut state, &mut parcel);
     assert!(rt; parcel.last());
     assert_eq!(rt; settle(&rt, &mut state), Phase::Cleanup);
-    get_home(&rt, &mut state, parcel);
+    get_home(&rt, &mut state, &mut parcel);
     assert_eq!(rt; settle(&rt, &mut state), Phase::Cleanup);
     assert_eq!(rt; read(&rt, &mut state), Some((0, ITEM)));
     assert_eq!(rt; state.epoch(), 0);

@@ -37,7 +37,7 @@ returns-in-Got-clause-leaves g c =
     let wants : Wants st c.args.link = subst (λ i. is_wanted (in_at st i) ≡ true) n (sym c.wants_from.ensures ∙ c.if-not-wants_from.false) in
     let q = shipped c.collect.new.p in
     let e = c.in-Got.ensures in
-    let new = filled st c.take_in.new.self c.args.number c.args.link _ c.requires.ready.home n c.take_in.ensures.state in
+    let new = filled st c.take_in.new.self c.args.number c.args.link _ n c.take_in.ensures.state in
     let one = (collected_one _ _ _ _ c.args.link _ _ _ _ _ s c.requires.ready c.requires.link c.requires.ends_here wants new c.collect.ensures.same_outs.sent q refl refl (e.fair refl) (e.own refl) (e.got refl)) in
     record {
       ready = one.ready;
@@ -72,7 +72,7 @@ returns-in-Got-clause-inbox g c =
     let wants : Wants st c.args.link = subst (λ i. is_wanted (in_at st i) ≡ true) n (sym c.wants_from.ensures ∙ c.if-not-wants_from.false) in
     let q = shipped c.collect.new.p in
     let e = c.in-Got.ensures in
-    let new = filled st c.take_in.new.self c.args.number c.args.link _ c.requires.ready.home n c.take_in.ensures.state in
+    let new = filled st c.take_in.new.self c.args.number c.args.link _ n c.take_in.ensures.state in
     (collected_one _ _ _ _ c.args.link _ _ _ _ _ s c.requires.ready c.requires.link c.requires.ends_here wants new c.collect.ensures.same_outs.sent q refl refl (e.fair refl) (e.own refl) (e.got refl)).inbox
 
 pub returns-in-Got-clause-asked : goal.returns-in-Got-clause-asked
@@ -128,7 +128,7 @@ returns-in-Got-clause-lies g c =
     let wants : Wants st c.args.link = subst (λ i. is_wanted (in_at st i) ≡ true) n (sym c.wants_from.ensures ∙ c.if-not-wants_from.false) in
     let q = shipped c.collect.new.p in
     let e = c.in-Got.ensures in
-    let new = filled st c.take_in.new.self c.args.number c.args.link _ c.requires.ready.home n c.take_in.ensures.state in
+    let new = filled st c.take_in.new.self c.args.number c.args.link _ n c.take_in.ensures.state in
     λ more same. came_lies _ _ c.args.link _ q _ _ more s below wants new refl
     (ap (λ logs. logs c.args.link) (e.got refl) ∙ added-here (g.P.Port.got c.args.port.now) c.args.link q) same
 
@@ -159,13 +159,10 @@ take_in-requires g c =
       (
         search rules,
         (
-          c.requires.ready.home,
+          within,
           (
-            within,
-            (
-              sym c.wants_from.ensures ∙ c.if-not-wants_from.false,
-              (record { none_taken = ap (λ p. p.taken) came; none_back = ap (λ p. p.back) came }, fair_at st _ c.args.number c.args.link _ s below c.requires.ready.same_dims n (c.in-Got.ensures.fair refl)),
-            ),
+            sym c.wants_from.ensures ∙ c.if-not-wants_from.false,
+            (record { none_taken = ap (λ p. p.taken) came; none_back = ap (λ p. p.back) came }, fair_at st _ c.args.number c.args.link _ s below c.requires.ready.same_dims n (c.in-Got.ensures.fair refl)),
           ),
         ),
       ),

@@ -54,7 +54,6 @@ returns-clause-conveyor g c =
     let open' : is_complete st.phase ≡ false = ap is_complete (sym c.phase.ensures.value) ∙ (sym c.is_over.ensures ∙ c.if-is_over.false) in
     let open_still : c.relay_all.new.state.phase ≡ Cleanup → ⊥ = search rules in
     record {
-      home = c.post_all.ensures.leaves.ready.home;
       sent = λ p. absurd (open_still (sym c.post_all.ensures.leaves.goes_on.phase ∙ p));
       hops_all = ap length (c.post_all.ensures.leaves.ready.same_dims ∙ (k.leaves.same_port.dims ∙ sym c.requires.ready.same_dims)) ∙ c.requires.conveyor.hops_all;
       complete = λ p. absurd (not_over st.phase last.phase open' phase p);
@@ -109,7 +108,6 @@ returns-then-eq-clause-conveyor g c =
     let same_dims : mid.dims ≡ st.dims = passed.ready.same_dims ∙ sym c.requires.ready.same_dims in
     let same = same_closed st c.note_done.new.state c.collect_all.new.state mid c.args.done c.note_done.ensures.state k.leaves.outs (k.leaves.ready.same_dims ∙ sym c.requires.ready.same_dims) passed.closes in
     record {
-      home = passed.ready.home;
       hops_all = ap length same_dims ∙ c.requires.conveyor.hops_all;
       sent = λ p. all_closed_by st mid c.phase.ensures.standing c.relay_all.ensures.standing same_dims same all;
       complete = λ p. absurd (cleanup_incomplete mid.phase cleanup p);

@@ -67,7 +67,7 @@ returns-in-Ok-Sent-clause-leaves g c =
     let q = shipped c.take_out.new.parcel in
     let e = c.post.ensures in
     let was : c.post.result ≡ Ok Sent = c.in-Ok-Sent.is ∙ ap Ok c.in-Ok-Sent.field-0-is in
-    let new = opened st c.take_out.new.self c.args.number c.args.link _ c.requires.ready.home n c.take_out.ensures.state in
+    let new = opened st c.take_out.new.self c.args.number c.args.link _ n c.take_out.ensures.state in
     let closes = sym (ap (λ p. p.last) c.take_out.ensures.parcel) in
     let more = ap (λ logs. logs c.args.link) (e.sent was) ∙ added-here (g.P.Port.sent c.args.port.now) c.args.link q in
     let one = (served_one _ _ st _ c.args.link _ q _ _ _ _ s c.requires.ready c.requires.link c.requires.starts_here t.due t.entries t.last e.same_ins.got new refl closes (e.sent was)) in
@@ -93,7 +93,7 @@ returns-in-Ok-NoRoom-clause-leaves g c =
     let q = shipped c.take_out.new.parcel in
     let e = c.post.ensures in
     let no = not_sent _ (c.in-Ok-NoRoom.is ∙ ap Ok c.in-Ok-NoRoom.field-0-is) in
-    let new = reopened st c.take_out.new.self c.put_back.new.self c.args.number c.args.link _ _ c.requires.ready.home n c.take_out.ensures.state c.put_back.ensures.state in
+    let new = reopened st c.take_out.new.self c.put_back.new.self c.args.number c.args.link _ _ n c.take_out.ensures.state c.put_back.ensures.state in
     let keeps = ap (λ p. p.untaken) (e.kept no) ∙ t.entries in
     let none = (served_none _ _ st _ c.args.link _ q _ _ _ _ s c.requires.ready c.requires.link c.requires.starts_here t.due t.entries t.last e.same_ins.got new keeps refl (e.not_sent no)) in
     record {
@@ -115,7 +115,7 @@ returns-in-Err-clause-leaves g c =
     let q = shipped c.take_out.new.parcel in
     let e = c.post.ensures in
     let no = failed _ _ c.in-Err.is in
-    let new = reopened st c.take_out.new.self c.put_back-in-Err.new.self c.args.number c.args.link _ _ c.requires.ready.home n c.take_out.ensures.state c.put_back-in-Err.ensures.state in
+    let new = reopened st c.take_out.new.self c.put_back-in-Err.new.self c.args.number c.args.link _ _ n c.take_out.ensures.state c.put_back-in-Err.ensures.state in
     let keeps = ap (λ p. p.untaken) (e.kept no) ∙ t.entries in
     let none = (served_none _ _ st _ c.args.link _ q _ _ _ _ s c.requires.ready c.requires.link c.requires.starts_here t.due t.entries t.last e.same_ins.got new keeps refl (e.not_sent no)) in
     record {
@@ -140,7 +140,7 @@ returns-in-Ok-Sent-clause-out g c =
     let q = shipped c.take_out.new.parcel in
     let e = c.post.ensures in
     let was : c.post.result ≡ Ok Sent = c.in-Ok-Sent.is ∙ ap Ok c.in-Ok-Sent.field-0-is in
-    let new = opened st c.take_out.new.self c.args.number c.args.link _ c.requires.ready.home n c.take_out.ensures.state in
+    let new = opened st c.take_out.new.self c.args.number c.args.link _ n c.take_out.ensures.state in
     let closes = sym (ap (λ p. p.last) c.take_out.ensures.parcel) in
     (served_one _ _ st _ c.args.link _ q _ _ _ _ s c.requires.ready c.requires.link c.requires.starts_here t.due t.entries t.last e.same_ins.got new refl closes (e.sent was)).out
 
@@ -154,7 +154,7 @@ returns-in-Ok-Sent-clause-served g c =
     let q = shipped c.take_out.new.parcel in
     let e = c.post.ensures in
     let was : c.post.result ≡ Ok Sent = c.in-Ok-Sent.is ∙ ap Ok c.in-Ok-Sent.field-0-is in
-    let new = opened st c.take_out.new.self c.args.number c.args.link _ c.requires.ready.home n c.take_out.ensures.state in
+    let new = opened st c.take_out.new.self c.args.number c.args.link _ n c.take_out.ensures.state in
     let closes = sym (ap (λ p. p.last) c.take_out.ensures.parcel) in
     let no = no_longer_due _ _ st _ c.args.link _ q _ (g.P.Port.sent c.args.port.now) _ _ s c.requires.ready c.requires.link c.requires.starts_here t.due t.entries t.last e.same_ins.got new refl closes in
     record { looked = λ d. absurd (no d); crowded = λ d. absurd (no d) }
@@ -169,7 +169,7 @@ returns-in-Ok-Sent-clause-waits g c =
     let q = shipped c.take_out.new.parcel in
     let e = c.post.ensures in
     let was : c.post.result ≡ Ok Sent = c.in-Ok-Sent.is ∙ ap Ok c.in-Ok-Sent.field-0-is in
-    let new = opened st c.take_out.new.self c.args.number c.args.link _ c.requires.ready.home n c.take_out.ensures.state in
+    let new = opened st c.take_out.new.self c.args.number c.args.link _ n c.take_out.ensures.state in
     let closes = sym (ap (λ p. p.last) c.take_out.ensures.parcel) in
     let more = ap (λ logs. logs c.args.link) (e.sent was) ∙ added-here (g.P.Port.sent c.args.port.now) c.args.link q in
     λ same. absurd (grew _ _ (sym more ∙ same))
@@ -184,7 +184,7 @@ returns-in-Ok-NoRoom-clause-out g c =
     let q = shipped c.take_out.new.parcel in
     let e = c.post.ensures in
     let no = not_sent _ (c.in-Ok-NoRoom.is ∙ ap Ok c.in-Ok-NoRoom.field-0-is) in
-    let new = reopened st c.take_out.new.self c.put_back.new.self c.args.number c.args.link _ _ c.requires.ready.home n c.take_out.ensures.state c.put_back.ensures.state in
+    let new = reopened st c.take_out.new.self c.put_back.new.self c.args.number c.args.link _ _ n c.take_out.ensures.state c.put_back.ensures.state in
     let keeps = ap (λ p. p.untaken) (e.kept no) ∙ t.entries in
     (served_none _ _ st _ c.args.link _ q _ _ _ _ s c.requires.ready c.requires.link c.requires.starts_here t.due t.entries t.last e.same_ins.got new keeps refl (e.not_sent no)).out
 
@@ -198,7 +198,7 @@ returns-in-Ok-NoRoom-clause-waits g c =
     let q = shipped c.take_out.new.parcel in
     let e = c.post.ensures in
     let no = not_sent _ (c.in-Ok-NoRoom.is ∙ ap Ok c.in-Ok-NoRoom.field-0-is) in
-    let new = reopened st c.take_out.new.self c.put_back.new.self c.args.number c.args.link _ _ c.requires.ready.home n c.take_out.ensures.state c.put_back.ensures.state in
+    let new = reopened st c.take_out.new.self c.put_back.new.self c.args.number c.args.link _ _ n c.take_out.ensures.state c.put_back.ensures.state in
     let keeps = ap (λ p. p.untaken) (e.kept no) ∙ t.entries in
     λ same. still_waits _ _ st _ c.args.link _ q _ (g.P.Port.sent c.args.port.now) _ _ s c.requires.ready c.requires.link c.requires.starts_here t.due t.entries t.last e.same_ins.got new keeps
 
@@ -212,7 +212,7 @@ returns-in-Err-clause-out g c =
     let q = shipped c.take_out.new.parcel in
     let e = c.post.ensures in
     let no = failed _ _ c.in-Err.is in
-    let new = reopened st c.take_out.new.self c.put_back-in-Err.new.self c.args.number c.args.link _ _ c.requires.ready.home n c.take_out.ensures.state c.put_back-in-Err.ensures.state in
+    let new = reopened st c.take_out.new.self c.put_back-in-Err.new.self c.args.number c.args.link _ _ n c.take_out.ensures.state c.put_back-in-Err.ensures.state in
     let keeps = ap (λ p. p.untaken) (e.kept no) ∙ t.entries in
     (served_none _ _ st _ c.args.link _ q _ _ _ _ s c.requires.ready c.requires.link c.requires.starts_here t.due t.entries t.last e.same_ins.got new keeps refl (e.not_sent no)).out
 
@@ -226,7 +226,7 @@ returns-in-Err-clause-waits g c =
     let q = shipped c.take_out.new.parcel in
     let e = c.post.ensures in
     let no = failed _ _ c.in-Err.is in
-    let new = reopened st c.take_out.new.self c.put_back-in-Err.new.self c.args.number c.args.link _ _ c.requires.ready.home n c.take_out.ensures.state c.put_back-in-Err.ensures.state in
+    let new = reopened st c.take_out.new.self c.put_back-in-Err.new.self c.args.number c.args.link _ _ n c.take_out.ensures.state c.put_back-in-Err.ensures.state in
     let keeps = ap (λ p. p.untaken) (e.kept no) ∙ t.entries in
     λ same. still_waits _ _ st _ c.args.link _ q _ (g.P.Port.sent c.args.port.now) _ _ s c.requires.ready c.requires.link c.requires.starts_here t.due t.entries t.last e.same_ins.got new keeps
 
@@ -261,7 +261,7 @@ take_out-requires g c =
     let below : c.args.link < links st.dims = subst (λ ds. c.args.link < links ds) (sym c.requires.ready.same_dims) c.requires.link in
     let n : c.args.number ≡ out_index st.dims c.args.link = c.requires.number ∙ ap (λ ds. out_index ds c.args.link) (sym c.requires.ready.same_dims) in
     let within : c.args.number < sum st.dims = subst (λ i. i < sum st.dims) (sym n) (out_number st.dims c.args.link s.grid below).within in
-    (search rules, (search rules, (c.requires.ready.home, (within, (sym c.due_to.ensures ∙ c.if-not-due_to.false, c.requires.empty)))))
+    (search rules, (search rules, (within, (sym c.due_to.ensures ∙ c.if-not-due_to.false, c.requires.empty))))
 
 pub put_back-requires : goal.put_back-requires
 put_back-requires g c =
@@ -278,15 +278,12 @@ put_back-requires g c =
       (
         search rules,
         (
-          ap (λ (u : State). u.lent) mid ∙ c.requires.ready.home,
+          subst (λ (u : State). c.args.number < sum u.dims) (sym mid) within,
           (
-            subst (λ (u : State). c.args.number < sum u.dims) (sym mid) within,
+            place_empty st _ c.args.number _ s within mid refl,
             (
-              place_empty st _ c.args.number _ s within mid refl,
-              (
-                subst IsFresh (sym back) c.take_out.ensures.fresh,
-                subst (λ (u : State). All (λ (t : Entry). IsFair u.dims (hop_to u.dims c.args.number) t.tag) c.post.new.p.untaken) (sym mid) fair,
-              ),
+              subst IsFresh (sym back) c.take_out.ensures.fresh,
+              subst (λ (u : State). All (λ (t : Entry). IsFair u.dims (hop_to u.dims c.args.number) t.tag) c.post.new.p.untaken) (sym mid) fair,
             ),
           ),
         ),
@@ -308,15 +305,12 @@ put_back-requires-in-Err g c =
       (
         search rules,
         (
-          ap (λ (u : State). u.lent) mid ∙ c.requires.ready.home,
+          subst (λ (u : State). c.args.number < sum u.dims) (sym mid) within,
           (
-            subst (λ (u : State). c.args.number < sum u.dims) (sym mid) within,
+            place_empty st _ c.args.number _ s within mid refl,
             (
-              place_empty st _ c.args.number _ s within mid refl,
-              (
-                subst IsFresh (sym back) c.take_out.ensures.fresh,
-                subst (λ (u : State). All (λ (t : Entry). IsFair u.dims (hop_to u.dims c.args.number) t.tag) c.post.new.p.untaken) (sym mid) fair,
-              ),
+              subst IsFresh (sym back) c.take_out.ensures.fresh,
+              subst (λ (u : State). All (λ (t : Entry). IsFair u.dims (hop_to u.dims c.args.number) t.tag) c.post.new.p.untaken) (sym mid) fair,
             ),
           ),
         ),
@@ -375,7 +369,7 @@ returns-in-Ok-NoRoom-clause-posts g c =
     let q = shipped c.take_out.new.parcel in
     let e = c.post.ensures in
     let no = not_sent _ (c.in-Ok-NoRoom.is ∙ ap Ok c.in-Ok-NoRoom.field-0-is) in
-    let new = reopened st c.take_out.new.self c.put_back.new.self c.args.number c.args.link _ _ c.requires.ready.home n c.take_out.ensures.state c.put_back.ensures.state in
+    let new = reopened st c.take_out.new.self c.put_back.new.self c.args.number c.args.link _ _ n c.take_out.ensures.state c.put_back.ensures.state in
     let keeps = ap (λ p. p.untaken) (e.kept no) ∙ t.entries in
     let due = still_due _ _ st _ c.args.link _ q _ (g.P.Port.sent c.args.port.now) _ _ s c.requires.ready c.requires.link c.requires.starts_here t.due t.entries t.last e.same_ins.got new keeps refl in
     let log = g.P.Port.sent c.args.port.now c.args.link in
@@ -393,7 +387,7 @@ returns-in-Err-clause-still_due g c =
     let q = shipped c.take_out.new.parcel in
     let e = c.post.ensures in
     let no = failed _ _ c.in-Err.is in
-    let new = reopened st c.take_out.new.self c.put_back-in-Err.new.self c.args.number c.args.link _ _ c.requires.ready.home n c.take_out.ensures.state c.put_back-in-Err.ensures.state in
+    let new = reopened st c.take_out.new.self c.put_back-in-Err.new.self c.args.number c.args.link _ _ n c.take_out.ensures.state c.put_back-in-Err.ensures.state in
     let keeps = ap (λ p. p.untaken) (e.kept no) ∙ t.entries in
     λ err. still_due _ _ st _ c.args.link _ q _ (g.P.Port.sent c.args.port.now) _ _ s c.requires.ready c.requires.link c.requires.starts_here t.due t.entries t.last e.same_ins.got new keeps refl
 

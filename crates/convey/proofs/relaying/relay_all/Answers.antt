@@ -10,7 +10,6 @@ use Rattle.convey.proofs.relaying.relay_all.Goals as goal
 
 pub loop-h-init : goal.loop-h-init
 loop-h-init g c = record {
-  home = c.requires.home;
   same_dims = search rules;
   standing = c.known.ensures.standing;
   stopped = λ m below from last. absurd (let all = c.requires.hops in omega arith);
@@ -25,7 +24,6 @@ loop-h-preserved g c =
     let new : State = c.relay_one.new.state in
     let h : ℕ = c.loop-h.h - 1 in
     record {
-      home = e.home;
       same_dims = e.same_dims ∙ k.same_dims;
       standing = e.standing;
       stopped = λ m below from last. elim (cases_eq (hop_at new.dims m) h) [

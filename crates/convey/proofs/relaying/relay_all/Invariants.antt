@@ -2,7 +2,6 @@ use Rattle.std.proofs.Common.{◌≡◌, ◌≢◌, ℕ, ◌<◌, ◌≤◌, Lis
 use Rattle.route_tensor.specs.Link.{links}
 use Rattle.route_tensor.specs.Ends.{hop_at}
 use Rattle.port_bank.specs.Logs.{Logs}
-use Rattle.hop_core.specs.declared.lent.Lent.TheVariants.{Nothing}
 use Rattle.hop_core.specs.Standing.{IsState}
 use Rattle.convey.specs.Buffers.{in_of}
 use Rattle.convey.specs.Due.{IsBlocked}
@@ -11,7 +10,6 @@ use Rattle.convey.proofs.relaying.relay_all.Given as goal
 
 abbrev pub invariant-loop-h : goal.invariant-loop-h
 invariant-loop-h g l = record {
-  home : l.state.lent ≡ Nothing;
   same_dims : l.state.dims ≡ l.fn.state.dims;
   standing : IsState l.state;
   stopped : (m : ℕ) → m < links l.state.dims → l.h ≤ hop_at l.state.dims m → hop_at l.state.dims m < length l.state.dims → IsBlocked l.state m;

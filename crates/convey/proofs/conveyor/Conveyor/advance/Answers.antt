@@ -167,7 +167,6 @@ invariant_of-self-2 g c =
     let e = c.settle.ensures.state in
     let k = c.move_on.ensures.conveyor in
     record {
-      home = ap (λ s. s.lent) e ∙ k.home;
       hops_all = ap (λ s. length s.dims) e ∙ k.hops_all;
       sent = λ p. ap (λ s. all_closed s.outs) e ∙ cleanup_sent mid (sym (ap (λ s. s.phase) e) ∙ p);
       complete = λ p. sym (settled_phase mid c.settle.new.state e) ∙ p;

@@ -2,7 +2,6 @@ use Rattle.std.proofs.Common.{◌≡◌, ◌<◌, length, arith, ap, sym, subst,
 use Rattle.std.specs.Prelude.{slice_get}
 use Rattle.hop_core.specs.State.{State, in_at, lowest_unread}
 use Rattle.hop_core.specs.Standing.{IsState}
-use Rattle.hop_core.specs.declared.lent.Lent.TheVariants as lent
 use Rattle.hop_core.proofs.Unread.{unread_at}
 use Rattle.hop_core.proofs.Batches.{some_left}
 use Rattle.convey.proofs.Batched.{gives_next}
@@ -12,9 +11,8 @@ pub returns-clause-gives : goal.returns-clause-gives
 returns-clause-gives g c = λ n e h.
     let now : State = c.args.self.now in
     let s : IsState now = subst IsState c.self.view_is c.known.ensures.standing in
-    let home : now.lent ≡ lent.Nothing = ap (λ (t : State). t.lent) (sym c.self.view_is) ∙ c.self.invariant.home in
     let value = c.batch.ensures.value ∙ ap (λ (t : State). (in_at t c.args.number).parcel.untaken) c.self.view_is in
-    gives_next now c.args.number s home c.requires.lowest n e (ap (λ es. slice_get es n) (sym value) ∙ h)
+    gives_next now c.args.number s c.requires.lowest n e (ap (λ es. slice_get es n) (sym value) ∙ h)
 
 pub returns-clause-some : goal.returns-clause-some
 returns-clause-some g c =

@@ -11,5 +11,5 @@ invariant_of-result g c =
     let n = c.neighbours-neighbours.ensures in (
       h,
       rw (c.in_ok-links_out.ensures, c.in_ok-links_in.ensures, n.value)
-          (new_kept _ _ _ _ _ _ _ n.grid n.rank c.requires.cap refl c.in_ok-new.ensures (c.first_of-from.ensures.value ∙ ap (links_before c.in_ok-routes.routes.dims) (sym h)) c.first_of-from.ensures.within),
+          (new_kept _ _ _ _ _ _ n.grid n.rank c.requires.cap refl (c.first_of-from.ensures.value ∙ ap (links_before c.in_ok-routes.routes.dims) (sym h)) c.first_of-from.ensures.within),
     )

@@ -48,7 +48,7 @@ pub(crate) fn read_draft(
     ensures within { IfOk result (λ draft. All (λ t. IsWithin (max sizes.rows sizes.cols) t) draft.entries.items) }
     ensures few { IfOk result (λ draft. length draft.entries.items ≤ 524_288) }
 {
-    let mut entries = Vec::new(alloc);
+    let mut entries = Vec::with_capacity(alloc, room_for(sizes.entries, text.len()))?;
     let mut run = Run {
         rest: text,
         number,
@@ -86,6 +86,12 @@ pub(crate) fn read_draft(
             careful: run.careful,
         };
     }
+}
+
+/// How many entries have room from the start, so that they don't move while they are read: as many as the size line says, and no more
+/// than lines of four bytes, the least that name a place, are in the text.
+fn room_for(lines: u32, bytes: usize) -> usize {
+    (lines as usize).min(bytes / 4 + 1)
 }
 
 /// How far a text was read.

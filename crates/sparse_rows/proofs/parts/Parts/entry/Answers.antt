@@ -21,17 +21,17 @@ overflow_mul-e c =
 pub overflow_add-e : goal.overflow_add-e
 overflow_add-e c =
     let there = (stands _ _ _ c.args.rank c.args.x c.self.view_is c.requires.rank c.requires.within).0 in
-    let few = c.self.invariant in let many = c.self.inside.entries.ok in omega arith
+    let few = c.self.invariant in omega arith
 
 pub overflow_cast-result : goal.overflow_cast-result
 overflow_cast-result c =
     let there = (stands _ _ _ c.args.rank c.args.x c.self.view_is c.requires.rank c.requires.within).0 in
-    let few = c.self.invariant in let many = c.self.inside.entries.ok in omega arith
+    let few = c.self.invariant in omega arith
 
 pub index-requires : goal.index-requires
 index-requires c =
     let there = (stands _ _ _ c.args.rank c.args.x c.self.view_is c.requires.rank c.requires.within).0 in
-    let many = c.self.inside.entries.ok in omega arith
+    omega arith
 
 pub returns : goal.returns
 returns c = (stands _ _ _ c.args.rank c.args.x c.self.view_is c.requires.rank c.requires.within).1 c.index.result.now c.index.ensures

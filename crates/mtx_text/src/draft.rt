@@ -200,6 +200,7 @@ fn bad(line: u64, reason: Reason) -> BadLine
 }
 
 /// Appends what an entry line stands for.
+#[inline(always)]
 fn push(
     entries: &mut Vec<Triple>,
     sizes: Sizes,
@@ -212,7 +213,7 @@ fn push(
         → All (λ u. IsWithin (max sizes.rows sizes.cols) u) entries.new.items) }
     ensures few { OnOk result (length entries.new.items ≤ length entries.old.items + 2) }
 {
-    entries.push(t)?;
+    append(entries, t)?;
     match mirror(symmetry, t) {
         None => Ok(()),
         Some(other) => {
@@ -220,4 +221,25 @@ fn push(
             Ok(())
         }
     }
+}
+
+/// Appends one entry.
+#[inline(always)]
+fn append(entries: &mut Vec<Triple>, t: Triple) -> Result<(), AllocError>
+    ensures { OnOk result (entries.new.items ≡ entries.old.items ++ t ∷ []) }
+{
+    if entries.len() < entries.capacity() {
+        entries.push_reserved(t);
+        return Ok(());
+    }
+    append_full(entries, t)
+}
+
+/// The same where the list has to grow: kept apart, so that the others are few steps.
+#[inline(never)]
+fn append_full(entries: &mut Vec<Triple>, t: Triple) -> Result<(), AllocError>
+    ensures { OnOk result (entries.new.items ≡ entries.old.items ++ t ∷ []) }
+{
+    entries.push(t)?;
+    Ok(())
 }

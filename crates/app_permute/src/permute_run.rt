@@ -100,5 +100,5 @@ pub fn permute_end(alloc: Global, m: &Matrix, p: &Progs<Permute>) -> Result<Matr
         };
         all.raise_all(program.cells())?;
     }
-    Matrix::of_cells(alloc, m.rows(), m.cols(), m.kind(), &all)
+    Matrix::of_own_cells(m.rows(), m.cols(), m.kind(), all)
 }

@@ -92,5 +92,5 @@ pub fn transpose_end(alloc: Global, m: &Matrix, p: &Progs<Transpose>) -> Result<
         };
         all.raise_all(program.cells())?;
     }
-    Matrix::of_cells(alloc, m.cols(), m.rows(), m.kind(), &all)
+    Matrix::of_own_cells(m.cols(), m.rows(), m.kind(), all)
 }

@@ -62,7 +62,20 @@ impl Cells {
     pub fn raise(&mut self, i: u32, j: u32, v: i64) -> Result<(), NoMemory>
         ensures { AllOrNothing (raised (record { i = i; j = j; v = v }) self.old) self.old self.new result }
     {
-        self.triples.push(Triple { i, j, v })?;
+        let t = Triple { i, j, v };
+        if self.triples.len() < self.triples.capacity() {
+            self.triples.push_reserved(t);
+            return Ok(());
+        }
+        self.raise_full(t)
+    }
+
+    /// The same where the list has to grow: kept apart, so that the others are few steps.
+    #[inline(never)]
+    fn raise_full(&mut self, t: Triple) -> Result<(), NoMemory>
+        ensures { AllOrNothing (raised t self.old) self.old self.new result }
+    {
+        self.triples.push(t)?;
         Ok(())
     }
 

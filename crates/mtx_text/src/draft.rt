@@ -48,7 +48,7 @@ pub(crate) fn read_draft(
     ensures within { IfOk result (λ draft. All (λ t. IsWithin (max sizes.rows sizes.cols) t) draft.entries.items) }
     ensures few { IfOk result (λ draft. length draft.entries.items ≤ 524_288) }
 {
-    let mut entries = Vec::new(alloc);
+    let mut entries = Vec::with_capacity(alloc, room_for(sizes.entries, text.len()))?;
     let mut run = Run {
         rest: text,
         number,
@@ -86,6 +86,12 @@ pub(crate) fn read_draft(
             careful: run.careful,
         };
     }
+}
+
+/// How many entries have room from the start, so that they don't move while they are read: as many as the size line says, and no more
+/// than lines of four bytes, the least that name a place, are in the text.
+fn room_for(lines: u32, bytes: usize) -> usize {
+    (lines as usize).min(bytes / 4 + 1)
 }
 
 /// How far a text was read.
@@ -194,6 +200,7 @@ fn bad(line: u64, reason: Reason) -> BadLine
 }
 
 /// Appends what an entry line stands for.
+#[inline(always)]
 fn push(
     entries: &mut Vec<Triple>,
     sizes: Sizes,
@@ -206,7 +213,7 @@ fn push(
         → All (λ u. IsWithin (max sizes.rows sizes.cols) u) entries.new.items) }
     ensures few { OnOk result (length entries.new.items ≤ length entries.old.items + 2) }
 {
-    entries.push(t)?;
+    append(entries, t)?;
     match mirror(symmetry, t) {
         None => Ok(()),
         Some(other) => {
@@ -214,4 +221,25 @@ fn push(
             Ok(())
         }
     }
+}
+
+/// Appends one entry.
+#[inline(always)]
+fn append(entries: &mut Vec<Triple>, t: Triple) -> Result<(), AllocError>
+    ensures { OnOk result (entries.new.items ≡ entries.old.items ++ t ∷ []) }
+{
+    if entries.len() < entries.capacity() {
+        entries.push_reserved(t);
+        return Ok(());
+    }
+    append_full(entries, t)
+}
+
+/// The same where the list has to grow: kept apart, so that the others are few steps.
+#[inline(never)]
+fn append_full(entries: &mut Vec<Triple>, t: Triple) -> Result<(), AllocError>
+    ensures { OnOk result (entries.new.items ≡ entries.old.items ++ t ∷ []) }
+{
+    entries.push(t)?;
+    Ok(())
 }

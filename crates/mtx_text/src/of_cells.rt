@@ -36,6 +36,19 @@ impl Matrix {
         of_triples(rows, cols, kind, triples)
     }
 
+    /// The same of cells that nobody needs after it: they become the matrix's entries, and are not copied.
+    ///
+    /// # Errors
+    ///
+    /// `NoMemory` where there are more cells than the 524,288 entries of a matrix.
+    pub fn of_own_cells(rows: u32, cols: u32, kind: Kind, cells: Cells) -> Result<Matrix, NoMemory>
+        requires sides { AreSides rows cols }
+        requires inside { All (λ t. IsEntry (sparse rows cols kind []) t) cells }
+        ensures { IfOk result (λ m. m ≡ sparse rows cols kind cells) }
+    {
+        of_ordered(rows, cols, kind, cells.into_entries())
+    }
+
     /// The matrix of the cells of several maps, ordered by row and then column; where some have the same place,
     /// their greatest value counts.
     ///
@@ -70,6 +83,16 @@ fn of_triples(rows: u32, cols: u32, kind: Kind, triples: Vec<Triple>) -> Result<
 {
     let mut triples = triples;
     gather(&mut triples);
+    of_ordered(rows, cols, kind, triples)
+}
+
+/// The matrix of triples in order.
+fn of_ordered(rows: u32, cols: u32, kind: Kind, triples: Vec<Triple>) -> Result<Matrix, NoMemory>
+    requires sides { AreSides rows cols }
+    requires inside { All (λ t. IsEntry (sparse rows cols kind []) t) triples.items }
+    requires ordered { InOrder triples.items }
+    ensures { IfOk result (λ m. m ≡ sparse rows cols kind triples.items) }
+{
     if are_too_many(triples.len()) {
         return Err(NoMemory);
     }

@@ -8,25 +8,26 @@ use mtx_text::Matrix;
 use std::alloc::Global;
 use std::marker::Model;
 
-/// The parts of a matrix, one for each rank: a list of triples with their numbers in the matrix.
+/// The parts of a matrix, one for each rank: a list of triples with their numbers in the matrix. They are read where the
+/// matrix has them.
 #[derive(Drop)]
-pub struct Parts {
+pub struct Parts<'a> {
     /// All entries of the matrix, in order.
-    entries: Vec<Triple>,
+    entries: &'a [Triple],
     /// How many parts there are.
     ranks: u32,
 }
 
-impl Model for Parts {
-    ghost use Rattle.std.specs.Prelude.{ℕ, ◌≤◌, List, vec_len};
+impl<'a> Model for Parts<'a> {
+    ghost use Rattle.std.specs.Prelude.{ℕ, ◌≤◌, List, length};
     ghost use Rattle.bale_types.specs.declared.triple.Triple.{Triple};
     ghost use Rattle.sparse_rows.specs.Parts.{parts_of};
 
     ghost Value = { List (List (ℕ × Triple)) };
 
-    ghost view = { λ p. parts_of p.ranks p.entries.items };
+    ghost view = { λ p. parts_of p.ranks p.entries.now };
 
-    ghost invariant = { λ p. (1 ≤ p.ranks) × (p.ranks ≤ 64) × (vec_len p.entries ≤ 524_288) };
+    ghost invariant = { λ p. (1 ≤ p.ranks) × (p.ranks ≤ 64) × (length p.entries.now ≤ 524_288) };
 }
 
 /// The parts of a matrix on `ranks` ranks, from 1 to 64: entry number `e` stands in the part of rank
@@ -34,18 +35,18 @@ impl Model for Parts {
 ///
 /// # Errors
 ///
-/// `NoMemory` where there was none for the copy.
+/// None: the parts take no memory.
 #[tactic(auto, using(crate::proofs::Turns::parts_count))]
-pub fn split(alloc: Global, m: &Matrix, ranks: u32) -> Result<Parts, NoMemory>
+pub fn split(alloc: Global, m: &Matrix, ranks: u32) -> Result<Parts<'_>, NoMemory>
     requires { AreRanks ranks }
     ensures parts { IfOk result (λ p. p ≡ parts_of ranks m.now.entries) }
     ensures ranks { IfOk result (λ p. length p ≡ ranks) }
 {
-    let entries = Vec::from_slice(alloc, m.entries())?;
+    let entries = m.entries();
     Ok(Parts { entries, ranks })
 }
 
-impl Parts {
+impl<'a> Parts<'a> {
     /// How many entries the part of a rank has. The rank is below the number of parts.
     #[tactic(auto, using(crate::proofs::Turns::parts_count, crate::proofs::Turns::part_count))]
     pub fn len(&self, rank: u32) -> usize

@@ -20,8 +20,8 @@ loop-rank-preserved c = λ rp cp h.
     (c.cells.ensures ∙ rank_cells rp cp c.args.m.now c.args.p.now h c.loop-rank.rank c.in-Some.program.now (omega arith) (sym c.get.ensures ∙ ap option_copied c.in-Some.is))
     c.in_ok-raise_all.ensures.ok
 
-pub of_cells-requires-clause-inside : goal.of_cells-requires-clause-inside
-of_cells-requires-clause-inside c =
+pub of_own_cells-requires-clause-inside : goal.of_own_cells-requires-clause-inside
+of_own_cells-requires-clause-inside c =
     let m : Sparse = c.args.m.now in
     let e = c.requires.ended in
     let all : c.loop-rank.all ≡ moved_cells e.0 e.1 m = whole e.0 e.1 m c.args.p.now e.2 c.loop-rank.all c.loop-rank.rank (omega arith) (c.loop-rank.invariant e.0 e.1 e.2) in
@@ -36,10 +36,10 @@ returns-clause-matrix c = λ rp cp h.
     let same : sparse c.rows.result c.cols.result c.kind.result c.loop-rank.all ≡ permuted rp cp m =
     ap (λ k. sparse k c.cols.result c.kind.result c.loop-rank.all) c.rows.ensures ∙ ap (λ k. sparse m.rows k c.kind.result c.loop-rank.all) c.cols.ensures
     ∙ ap (λ k. sparse m.rows m.cols k c.loop-rank.all) c.kind.ensures ∙ ap (sparse m.rows m.cols m.kind) all in
-    if_ok_from (λ b. b ≡ permuted rp cp m) c.of_cells.result (λ b e. if_ok_is _ c.of_cells.result b e c.of_cells.ensures ∙ same)
+    if_ok_from (λ b. b ≡ permuted rp cp m) c.of_own_cells.result (λ b e. if_ok_is _ c.of_own_cells.result b e c.of_own_cells.ensures ∙ same)
 
 pub returns-clause-values : goal.returns-clause-values
 returns-clause-values c = λ rp cp h.
     let m : Sparse = c.args.m.now in
-    if_ok_from (IsPermuted rp cp m) c.of_cells.result (λ b e.
-    subst (IsPermuted rp cp m) (sym (if_ok_is (λ b. b ≡ permuted rp cp m) c.of_cells.result b e (returns-clause-matrix c rp cp h))) (permuted_is m rp cp h.rows h.cols h.matrix))
+    if_ok_from (IsPermuted rp cp m) c.of_own_cells.result (λ b e.
+    subst (IsPermuted rp cp m) (sym (if_ok_is (λ b. b ≡ permuted rp cp m) c.of_own_cells.result b e (returns-clause-matrix c rp cp h))) (permuted_is m rp cp h.rows h.cols h.matrix))

@@ -15,8 +15,8 @@ loop-rank-preserved c =
     (c.cells.ensures ∙ rank_cells c.args.m.now c.args.p.now c.requires.ended c.loop-rank.rank c.in-Some.program.now (omega arith) (sym c.get.ensures ∙ ap option_copied c.in-Some.is))
     c.in_ok-raise_all.ensures.ok
 
-pub of_cells-requires-clause-inside : goal.of_cells-requires-clause-inside
-of_cells-requires-clause-inside c =
+pub of_own_cells-requires-clause-inside : goal.of_own_cells-requires-clause-inside
+of_own_cells-requires-clause-inside c =
     let m : Sparse = c.args.m.now in
     let all : c.loop-rank.all ≡ turned_cells m = whole m c.args.p.now c.requires.ended c.loop-rank.all c.loop-rank.rank (omega arith) c.loop-rank.invariant in
     let same : sparse c.cols.result c.rows.result c.kind.result [] ≡ sparse m.cols m.rows m.kind [] =
@@ -30,9 +30,9 @@ returns-clause-matrix c =
     let same : sparse c.cols.result c.rows.result c.kind.result c.loop-rank.all ≡ transposed m =
     ap (λ k. sparse k c.rows.result c.kind.result c.loop-rank.all) c.cols.ensures ∙ ap (λ k. sparse m.cols k c.kind.result c.loop-rank.all) c.rows.ensures
     ∙ ap (λ k. sparse m.cols m.rows k c.loop-rank.all) c.kind.ensures ∙ ap (sparse m.cols m.rows m.kind) all in
-    if_ok_from (λ b. b ≡ transposed m) c.of_cells.result (λ b e. if_ok_is _ c.of_cells.result b e c.of_cells.ensures ∙ same)
+    if_ok_from (λ b. b ≡ transposed m) c.of_own_cells.result (λ b e. if_ok_is _ c.of_own_cells.result b e c.of_own_cells.ensures ∙ same)
 
 pub returns-clause-values : goal.returns-clause-values
 returns-clause-values c =
     let m : Sparse = c.args.m.now in
-    if_ok_from (IsTransposed m) c.of_cells.result (λ b e. subst (IsTransposed m) (sym (if_ok_is (λ b. b ≡ transposed m) c.of_cells.result b e (returns-clause-matrix c))) (transposed_is m c.requires.ended.matrix))
+    if_ok_from (IsTransposed m) c.of_own_cells.result (λ b e. subst (IsTransposed m) (sym (if_ok_is (λ b. b ≡ transposed m) c.of_own_cells.result b e (returns-clause-matrix c))) (transposed_is m c.requires.ended.matrix))

@@ -1,4 +1,4 @@
-use Rattle.std.proofs.Common.{◌≡◌, ℕ, ◌+◌, ◌*◌, ◌<◌, List, [], Some, length, get_or, slice_get, sym, ap, ◌∙◌, subst, arith}
+use Rattle.std.proofs.Common.{rules, ◌≡◌, ℕ, ◌+◌, ◌*◌, ◌<◌, List, [], Some, length, get_or, slice_get, sym, ap, ◌∙◌, subst, arith}
 use Rattle.bale_types.specs.declared.triple.Triple.{Triple}
 use Rattle.sparse_rows.specs.Parts.{parts_of}
 use Rattle.sparse_rows.proofs.Turns.{parts_count, part_entry}
@@ -21,17 +21,21 @@ overflow_mul-e c =
 pub overflow_add-e : goal.overflow_add-e
 overflow_add-e c =
     let there = (stands _ _ _ c.args.rank c.args.x c.self.view_is c.requires.rank c.requires.within).0 in
-    let few = c.self.invariant in let many = c.self.inside.entries.ok in omega arith
+    let few = c.self.invariant in omega arith
 
 pub overflow_cast-result : goal.overflow_cast-result
 overflow_cast-result c =
     let there = (stands _ _ _ c.args.rank c.args.x c.self.view_is c.requires.rank c.requires.within).0 in
-    let few = c.self.invariant in let many = c.self.inside.entries.ok in omega arith
+    let few = c.self.invariant in omega arith
 
-pub index-requires : goal.index-requires
-index-requires c =
+pub bounds-self-inside-e : goal.bounds-self-inside-e
+bounds-self-inside-e c =
+    let there = (stands _ _ _ c.args.rank c.args.x c.self.view_is c.requires.rank c.requires.within).0 in omega arith
+
+pub offset_bounds-self-inside-e : goal.offset_bounds-self-inside-e
+offset_bounds-self-inside-e c =
     let there = (stands _ _ _ c.args.rank c.args.x c.self.view_is c.requires.rank c.requires.within).0 in
-    let many = c.self.inside.entries.ok in omega arith
+    let few = c.self.invariant in omega arith
 
 pub returns : goal.returns
-returns c = (stands _ _ _ c.args.rank c.args.x c.self.view_is c.requires.rank c.requires.within).1 c.index.result.now c.index.ensures
+returns c = (stands _ _ _ c.args.rank c.args.x c.self.view_is c.requires.rank c.requires.within).1 _ (search rules)

@@ -1,16 +1,14 @@
 //! What C calls, of a group.
 ghost use Rattle.std.specs.Prelude.{◌≡◌, ◌≢◌, Some, None};
-ghost use Rattle.bale_c.specs.Codes.{code_of};
-ghost use Rattle.bale_c.specs.Handles.{rank_in, group_in, if_there, new_group_answer, new_rank_answer, given_in, HasNewGroup, HasNewRank};
+ghost use Rattle.rank_handles.specs.Codes.{code_of};
+ghost use Rattle.rank_handles.specs.Handles.{rank_in, group_in, if_there, new_group_answer, new_rank_answer, given_in, HasNewGroup, HasNewRank};
 
-use crate::answer::Answer;
-use crate::handle::{BaleGroup, BaleRank};
-use crate::making::{make_group, make_rank};
+use rank_handles::{Answer, BaleGroup, BaleRank, make_group, make_rank};
 use std::alloc::Global;
 
 /// Makes a group of which no rank is made yet.
 #[unsafe(no_mangle)]
-#[tactic(auto, using(crate::proofs::Codes::code_good, crate::proofs::Codes::code_no_memory))]
+#[tactic(auto, using(rank_handles::proofs::Codes::code_good, rank_handles::proofs::Codes::code_no_memory))]
 pub extern "C" fn bale_group_new(
     alloc: Global,
     dims: &[u32],
@@ -41,7 +39,7 @@ pub extern "C" fn bale_group_new(
 
 /// Makes a rank of the group that was not made before.
 #[unsafe(no_mangle)]
-#[tactic(auto, using(crate::proofs::Codes::code_good, crate::proofs::Codes::code_no_memory))]
+#[tactic(auto, using(rank_handles::proofs::Codes::code_good, rank_handles::proofs::Codes::code_no_memory))]
 pub extern "C" fn bale_rank_new(
     alloc: Global,
     group: &mut BaleGroup,

@@ -2,16 +2,12 @@
 ghost use Rattle.std.specs.Prelude.{◌≡◌, ◌≢◌, ◌++◌, ◌≤◌, ◌<◌, ◌^◌, ℕ, min, take, drop, length, pos, IfOk, Some, Err, is_some, slice_index_or};
 ghost use Rattle.std.specs.Result.{ForOk, ForErr};
 ghost use Rattle.port_bank.specs.Machine.Step.{Push, Pull};
-ghost use Rattle.bale_c.specs.Codes.{code_of};
-ghost use Rattle.bale_c.specs.Handles.{rank_in, seat_of, if_there, result_if_there};
-ghost use Rattle.bale_c.specs.Answers.{push_answer, pull_result};
-ghost use Rattle.bale_c.specs.Many.{steps_of, then_idle, RanIn, push_many_answer, pull_many_answer, count_in};
+ghost use Rattle.rank_handles.specs.Codes.{code_of};
+ghost use Rattle.rank_handles.specs.Handles.{rank_in, seat_of, if_there, result_if_there};
+ghost use Rattle.rank_handles.specs.Answers.{push_answer, pull_result};
+ghost use Rattle.rank_handles.specs.Many.{steps_of, then_idle, RanIn, push_many_answer, pull_many_answer, count_in};
 
-use crate::answer::Answer;
-use crate::calls::{pull_many_on, push_many_on};
-use crate::handle::BaleRank;
-use crate::item::BaleItem;
-use crate::part::Part;
+use rank_handles::{Answer, BaleItem, BaleRank, Part, pull_many_on, push_many_on};
 use std::alloc::Global;
 
 /// Pushes items toward ranks, as so many single calls, until one finds no room. How many were pushed, or what is wrong: all destinations

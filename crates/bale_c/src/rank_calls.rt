@@ -4,19 +4,17 @@ ghost use Rattle.std.specs.Option.{option_map};
 ghost use Rattle.port_bank.specs.Machine.Step.{Push, Pull, Unpull, Reset, Idle};
 ghost use Rattle.convey.specs.Buffers.{is_complete};
 ghost use Rattle.convey.specs.Progress.{advance_step};
-ghost use Rattle.bale_c.specs.Codes.{code_of, phase_code};
-ghost use Rattle.bale_c.specs.Answers.{begin_answer, push_answer, pull_result, unpull_answer, advance_answer, reset_answer};
-ghost use Rattle.bale_c.specs.Grouped.{answer_with};
-ghost use Rattle.bale_c.specs.Items.{item_of, bale_item};
-ghost use Rattle.bale_c.specs.Handles.{rank_in, seat_of, if_there, result_if_there, phase_in, done_in, ranks_in, MovedIn, IsAdvanced};
+ghost use Rattle.rank_handles.specs.Codes.{code_of, phase_code};
+ghost use Rattle.rank_handles.specs.Answers.{begin_answer, push_answer, pull_result, unpull_answer, advance_answer, reset_answer};
+ghost use Rattle.rank_handles.specs.Grouped.{answer_with};
+ghost use Rattle.rank_handles.specs.Items.{item_of, bale_item};
+ghost use Rattle.rank_handles.specs.Handles.{rank_in, seat_of, if_there, result_if_there, phase_in, done_in, ranks_in, MovedIn, IsAdvanced};
 
-use crate::answer::Answer;
-use crate::calls::{
-    advance_on, begin_on, phase_on, pull_on, push_on, ranks_on, reset_on, unpull_on,
-};
-use crate::handle::BaleRank;
-use crate::item::{BaleItem, bale_item_from, item_from};
 use hop_core::Phase;
+use rank_handles::{
+    Answer, BaleItem, BaleRank, advance_on, bale_item_from, begin_on, item_from, phase_on, pull_on,
+    push_on, ranks_on, reset_on, unpull_on,
+};
 use std::alloc::Global;
 
 /// Begins an epoch.

@@ -1,8 +1,8 @@
 use Rattle.std.proofs.Common.{◌≡◌, ◌≤◌, ◌++◌, ℕ, length, take, drop, arith, sym, subst, to_z, of_z, w64}
 use Rattle.std.proofs.lemmas.Int.{to_z-of_z}
 use Rattle.std.proofs.lemmas.List.{length-take}
-use Rattle.bale_c.specs.Many.{count_in}
-use Rattle.bale_c.proofs.Runs.{past_slice}
+use Rattle.rank_handles.specs.Many.{count_in}
+use Rattle.rank_handles.proofs.Runs.{past_slice}
 use Rattle.bale_c.proofs.many_calls.bale_pull_many.Goals as goal
 
 pub returns-clause-other_items : goal.returns-clause-other_items

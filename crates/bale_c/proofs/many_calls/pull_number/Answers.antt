@@ -1,9 +1,9 @@
 use Rattle.std.proofs.Common.{ℕ, ◌++◌, length, Some, to_z, of_z, w64, ◌∙◌}
 use Rattle.std.proofs.lemmas.Int.{to_z-of_z}
 use Rattle.port_bank.specs.Machine.Step.{Pull}
-use Rattle.bale_c.specs.Handles.{rank_in, if_there}
-use Rattle.bale_c.specs.Many.{steps_of, then_idle, RanIn, pull_many_answer}
-use Rattle.bale_c.proofs.Runs.{told_count, told_few, told_number}
+use Rattle.rank_handles.specs.Handles.{rank_in, if_there}
+use Rattle.rank_handles.specs.Many.{steps_of, then_idle, RanIn, pull_many_answer}
+use Rattle.rank_handles.proofs.Runs.{told_count, told_few, told_number}
 use Rattle.bale_c.proofs.many_calls.pull_number.Goals as goal
 
 pub returns-clause-number : goal.returns-clause-number

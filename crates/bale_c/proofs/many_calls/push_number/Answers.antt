@@ -1,12 +1,12 @@
 use Rattle.std.proofs.Common.{ℕ, ◌≡◌, ◌<◌, ◌++◌, length, get_or, Some, to_z, of_z, w64, ◌∙◌}
 use Rattle.std.proofs.lemmas.Int.{to_z-of_z}
 use Rattle.port_bank.specs.Machine.Step.{Push}
-use Rattle.bale_c.specs.Seated.{Seated}
-use Rattle.bale_c.specs.declared.answer.Answer.TheVariants.{Full}
-use Rattle.bale_c.specs.Answers.{push_answer}
-use Rattle.bale_c.specs.Handles.{rank_in, if_there}
-use Rattle.bale_c.specs.Many.{steps_of, then_idle, RanIn, push_many_answer}
-use Rattle.bale_c.proofs.Runs.{told_count, told_few, told_number}
+use Rattle.rank_handles.specs.Seated.{Seated}
+use Rattle.rank_handles.specs.declared.answer.Answer.TheVariants.{Full}
+use Rattle.rank_handles.specs.Answers.{push_answer}
+use Rattle.rank_handles.specs.Handles.{rank_in, if_there}
+use Rattle.rank_handles.specs.Many.{steps_of, then_idle, RanIn, push_many_answer}
+use Rattle.rank_handles.proofs.Runs.{told_count, told_few, told_number}
 use Rattle.bale_c.proofs.many_calls.push_number.Goals as goal
 
 pub returns-clause-number : goal.returns-clause-number

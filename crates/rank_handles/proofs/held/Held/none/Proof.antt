@@ -1,0 +1,36 @@
+-- `none` owns nothing, at any pointer.
+use Rattle.std.proofs.Common.{◌≡◌, [], ◌∷◌, refl, lit<, Option, None}
+use mir.Val.{Val}
+use base.Logic.{SProp, emp}
+use types.Kit.{‵, raw, ◌⊛◌, ◌$◌, ◌∵◌, !, qed, by, keep, drop, use0}
+use types.Run.{lit, no_more, and_then, returns, enter}
+use types.ByLocal.{alloc_all, free_all, look_at, sets, pass_all}
+use types.Part.{agg}
+use contract.Monad.{fact, fact_i}
+use contract.Running.{tables}
+use denote.RawPtr.{null_ptr}
+use denote.RattleType.{owns}
+use denote.Signature.{types_at}
+use denote.Steps.{nothing}
+use denote.Triple.Entry.{alive}
+use denote.Triple.Walked.{Stays, walk_of}
+use Rattle.std.proofs.raw_atomic.Walks.{proved_at, leaves}
+use Rattle.rank_handles.specs.declared.part.Part.{Part}
+use Rattle.rank_handles.proofs.HeldValues.{lone_ptr, held_in}
+use Rattle.rank_handles.specs.contracts.held.Held.none.{ended, clauses}
+use Rattle.rank_handles.specs.contracts.held.Held.none.Key.{name as #self}
+use Rattle.rank_handles.proofs.held.Held.none.Statement.{statement}
+use Rattle.rank_handles.proofs.held.Held.none.Code as code
+
+pub none_spec : {M : Type 1} → statement M
+none_spec 𝓤 𝓛 𝓜 𝓡 wired =
+    let H = 𝓛.H in let 𝓣 = tables 𝓤 H 𝓜 𝓡 𝓡.env in let c = clauses 𝓛 𝓜.mem 𝓡.returns in let fn = code.function in
+    let hs : Stays ended.signature.params ended.kept = tt in
+    proved_at 𝓛 ended hs c 𝓜 𝓡 tt #self fn (code.unfolded 𝓤 H 𝓜 𝓡 wired) (λ z are.
+    let κs = z.0.0 in let qs = z.0.1 in let Post : Val → SProp 𝓤 = (walk_of 𝓛 ended hs c).post z in
+    qed 𝓛 ((raw (alive 𝓛 ended.signature κs qs) ⊛ ‵ (owns (types_at ended.signature.params κs) z.0.3 z.0.4)) ∷ raw ((c κs z.0.3).requires z.1) ∷ []) ∵
+    types.Kit.split ! $ nothing ! $ held_in ! null_ptr None $
+    use0 𝓛 (raw (fact 𝓤 (◌≡◌ {A = Option Part} None None))) (fact_i 𝓤 (◌≡◌ {A = Option Part} None None) (emp 𝓤) refl) $ nothing ! $
+    enter ! 𝓣.C 𝓣.Λ fn [] Post $ alloc_all ! (λ l. pass_all ! refl tt $
+    sets ! (agg ! (and_then ! (lit ! tt) (no_more !))) refl (tt, (record { fits = lit< tt }, tt)) $
+    returns ! (look_at ! 0 refl) $ free_all ! refl $ keep ! (3 ∷ 0 ∷ 2 ∷ 1 ∷ []) $ by ! (leaves 𝓛 ended hs c z (lone_ptr null_ptr) (record { at = null_ptr; value = None }) tt tt)))

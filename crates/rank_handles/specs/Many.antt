@@ -1,0 +1,80 @@
+-- Calls of many items, as so many single ones.
+use Rattle.std.specs.Prelude.{◌≡◌, ℕ, zero, suc, Bool, ⊤, List, [], ◌∷◌, nat_lt, if◌then◌else◌, Option, Some, Result, Ok, Err, ℤ, pos, negsuc}
+use Rattle.std.specs.List.{list_all}
+use Rattle.bale_types.specs.declared.item.Item.{Item}
+use Rattle.route_tensor.specs.Grid.{ranks}
+use Rattle.port_bank.specs.Machine.{Part, Step, MayBy, after}
+use Rattle.port_bank.specs.Machine.Step.{Idle}
+use Rattle.rank_handles.specs.declared.item.BaleItem.{BaleItem}
+use Rattle.rank_handles.specs.declared.answer.Answer.{Answer}
+use Rattle.rank_handles.specs.declared.answer.Answer.TheVariants.{Good, NoSuchRank}
+use Rattle.rank_handles.specs.Items.{item_of}
+use Rattle.rank_handles.specs.Answers.{while_working, once_begun}
+use Rattle.rank_handles.specs.Seated.{Seated, part}
+
+-- One step for each of the first n items, with the rank that stands at the same place.
+-- steps_of Push 2 (x, y, z) (3, 0, 1) is Push 3 x, Push 0 y.
+unfoldable pub steps_of : (ℕ → Item → Step) → ℕ → List BaleItem → List ℕ → List Step
+steps_of make zero items to = []
+steps_of make (suc n) [] to = []
+steps_of make (suc n) (x ∷ items) [] = []
+steps_of make (suc n) (x ∷ items) (r ∷ to) = make r (item_of x) ∷ steps_of make n items to
+
+-- The step of the call that found no room, or no item, where fewer than all were moved.
+abbrev pub then_idle : ℕ → ℕ → List Step
+then_idle n most = if nat_lt n most then Idle ∷ [] else []
+
+-- What steps, one after the other, make of a rank's part, and whether it may make them.
+unfoldable pub after_all : List Step → Part → Part
+after_all [] p = p
+after_all (s ∷ steps) p = after_all steps (after s p)
+
+unfoldable pub MayAll : List Step → Part → Type 0
+MayAll [] p = ⊤
+MayAll (s ∷ steps) p = MayBy s p × MayAll steps (after s p)
+
+-- A call made these steps. The rank's phase, its bank, its grid and its number stay.
+pub record Run (steps : List Step) (old new : Seated) : Type 0 where
+  pub may : MayAll steps (part old)
+  pub is : part new ≡ after_all steps (part old)
+  pub phase : new.state.phase ≡ old.state.phase
+  pub bank : new.seat.id ≡ old.seat.id
+  pub shape : new.seat.shape ≡ old.seat.shape
+  pub rank : new.state.rank ≡ old.state.rank
+  pub dims : new.state.dims ≡ old.state.dims
+
+unfoldable pub Ran : List Step → Seated → Seated → Type 0
+Ran steps old new = Run steps old new
+
+-- Of a handle's rank.
+pub record RunIn (steps : List Step) (old new : Option Seated) : Type 0 where
+  pub before : Seated
+  pub after : Seated
+  pub was : old ≡ Some before
+  pub now : new ≡ Some after
+  pub ran : Ran steps before after
+
+unfoldable pub RanIn : List Step → Option Seated → Option Seated → Type 0
+RanIn steps old new = RunIn steps old new
+
+-- Whether every destination is a rank.
+unfoldable pub all_ranks : ℕ → List ℕ → Bool
+all_ranks n to = list_all (λ r. nat_lt r n) to
+
+-- What is wrong with a push of these: of the rank, or else of a destination. Good where nothing is.
+abbrev pub push_many_answer : Seated → List ℕ → Answer
+push_many_answer s to = while_working s.state.phase (if all_ranks (ranks s.state.dims) to then Good else NoSuchRank)
+
+-- What is wrong with a pull.
+abbrev pub pull_many_answer : Seated → Answer
+pull_many_answer s = once_begun s.state.phase Good
+
+-- The number in an answer that is one.
+abbrev pub count_in : ℤ → ℕ
+count_in (pos n) = n
+count_in (negsuc n) = 0
+
+-- How many a call moved: none where something was wrong.
+abbrev pub moved_by : Result ℕ Answer → ℕ
+moved_by (Ok n) = n
+moved_by (Err a) = 0

@@ -1,0 +1,184 @@
+//! A group of any capacity.
+ghost use Rattle.std.specs.Prelude.{◌≡◌, ◌≢◌, ℕ, Ok, Err, IfOk, IfErr, OnOk, OnErr, true, if◌then◌else◌};
+ghost use Rattle.route_tensor.specs.Grid.{ranks};
+ghost use Rattle.port_bank.specs.Port.{IsSlots};
+ghost use Rattle.rank_handles.specs.GroupCases.{seen_group};
+ghost use Rattle.rank_handles.specs.Grouped.{IsNewGroup, IsNewRank, with_given, rank_answer, answer_with, is_capacity, is_slots, group_answer};
+
+use crate::answer::Answer;
+use crate::any_rank::{AnyRank, CapacityCase};
+use crate::group::Group;
+use bale_types::NoMemory;
+use route_tensor::Grid;
+use std::alloc::Global;
+use std::marker::Model;
+
+/// A group, by its capacity.
+#[derive(Drop)]
+pub(crate) enum GroupCase {
+    Of1(Group<1>),
+    Of2(Group<2>),
+    Of4(Group<4>),
+    Of8(Group<8>),
+    Of16(Group<16>),
+    Of32(Group<32>),
+    Of64(Group<64>),
+    Of128(Group<128>),
+    Of256(Group<256>),
+    Of512(Group<512>),
+    Of1024(Group<1024>),
+}
+
+/// A group of any capacity. Contracts see the group, whatever its case.
+#[derive(Drop)]
+pub struct AnyGroup {
+    case: GroupCase,
+}
+
+impl Model for AnyGroup {
+    ghost use Rattle.rank_handles.specs.Grouped.{Grouped};
+
+    ghost Value = { Grouped };
+
+    ghost use Rattle.rank_handles.specs.GroupCases.{seen_group};
+
+    ghost view = { λ g. seen_group g.case };
+}
+
+impl AnyGroup {
+    /// A group of which no rank was made, if these numbers are a grid, a capacity and a number of slots.
+    pub(crate) fn new(
+        alloc: Global,
+        dims: &[u32],
+        buffer: u32,
+        slots: u32,
+        steady: bool,
+    ) -> Result<AnyGroup, Answer>
+        ensures answer { result ≢ Err Answer.NoMemory → answer_with result ≡ group_answer dims.now buffer slots }
+        ensures memory { result ≡ Err Answer.NoMemory → group_answer dims.now buffer slots ≡ Answer.Good }
+        ensures refused { IfErr result (λ a. a ≢ Answer.Good) }
+        ensures made { IfOk result (λ g. IsNewGroup dims.now buffer slots steady g) }
+    {
+        let Ok(grid) = Grid::new(dims) else {
+            return Err(Answer::BadNumbers);
+        };
+        if !has_slots(slots) {
+            return Err(Answer::BadNumbers);
+        }
+        if !has_capacity(buffer) {
+            return Err(Answer::BadNumbers);
+        }
+        match group_of(alloc, &grid, buffer, slots, steady) {
+            Ok(case) => Ok(AnyGroup { case }),
+            Err(NoMemory) => Err(Answer::NoMemory),
+        }
+    }
+
+    /// How many ranks there are.
+    pub(crate) fn ranks(&self) -> u32
+        ensures { result ≡ ranks self.now.bank.shape.dims }
+    {
+        match &self.case {
+            GroupCase::Of1(group) => group.ranks(),
+            GroupCase::Of2(group) => group.ranks(),
+            GroupCase::Of4(group) => group.ranks(),
+            GroupCase::Of8(group) => group.ranks(),
+            GroupCase::Of16(group) => group.ranks(),
+            GroupCase::Of32(group) => group.ranks(),
+            GroupCase::Of64(group) => group.ranks(),
+            GroupCase::Of128(group) => group.ranks(),
+            GroupCase::Of256(group) => group.ranks(),
+            GroupCase::Of512(group) => group.ranks(),
+            GroupCase::Of1024(group) => group.ranks(),
+        }
+    }
+
+    /// What becomes of the wish to make this rank, where there is memory.
+    pub(crate) fn answer(&self, rank: u32) -> Answer
+        ensures { result ≡ rank_answer self.now rank }
+    {
+        match &self.case {
+            GroupCase::Of1(group) => group.answer(rank),
+            GroupCase::Of2(group) => group.answer(rank),
+            GroupCase::Of4(group) => group.answer(rank),
+            GroupCase::Of8(group) => group.answer(rank),
+            GroupCase::Of16(group) => group.answer(rank),
+            GroupCase::Of32(group) => group.answer(rank),
+            GroupCase::Of64(group) => group.answer(rank),
+            GroupCase::Of128(group) => group.answer(rank),
+            GroupCase::Of256(group) => group.answer(rank),
+            GroupCase::Of512(group) => group.answer(rank),
+            GroupCase::Of1024(group) => group.answer(rank),
+        }
+    }
+
+    /// A rank that was not made before.
+    pub(crate) fn new_rank(&mut self, alloc: Global, rank: u32) -> Result<AnyRank, NoMemory>
+        requires free { rank_answer self.old rank ≡ Answer.Good }
+        ensures made { IfOk result (λ r. IsNewRank self.old rank r) }
+        ensures given { OnOk result (self.new ≡ with_given self.old rank) }
+        ensures unchanged { OnErr result (self.new ≡ self.old) }
+    {
+        let case = match &mut self.case {
+            GroupCase::Of1(group) => CapacityCase::Of1(group.new_rank(alloc, rank)?),
+            GroupCase::Of2(group) => CapacityCase::Of2(group.new_rank(alloc, rank)?),
+            GroupCase::Of4(group) => CapacityCase::Of4(group.new_rank(alloc, rank)?),
+            GroupCase::Of8(group) => CapacityCase::Of8(group.new_rank(alloc, rank)?),
+            GroupCase::Of16(group) => CapacityCase::Of16(group.new_rank(alloc, rank)?),
+            GroupCase::Of32(group) => CapacityCase::Of32(group.new_rank(alloc, rank)?),
+            GroupCase::Of64(group) => CapacityCase::Of64(group.new_rank(alloc, rank)?),
+            GroupCase::Of128(group) => CapacityCase::Of128(group.new_rank(alloc, rank)?),
+            GroupCase::Of256(group) => CapacityCase::Of256(group.new_rank(alloc, rank)?),
+            GroupCase::Of512(group) => CapacityCase::Of512(group.new_rank(alloc, rank)?),
+            GroupCase::Of1024(group) => CapacityCase::Of1024(group.new_rank(alloc, rank)?),
+        };
+        Ok(AnyRank { case })
+    }
+}
+
+/// Whether a link may have so many slots.
+#[tactic(auto, unfolding(port_bank::specs::Port::IsSlots))]
+fn has_slots(slots: u32) -> bool
+    ensures value { result ≡ is_slots slots }
+    ensures slots { result ≡ true → IsSlots slots }
+{
+    slots == 1 || slots == 2 || slots == 4 || slots == 8
+}
+
+/// Whether there are parcels of so many entries.
+fn has_capacity(buffer: u32) -> bool
+    ensures { result ≡ is_capacity buffer }
+{
+    matches!(
+        buffer,
+        1 | 2 | 4 | 8 | 16 | 32 | 64 | 128 | 256 | 512 | 1024
+    )
+}
+
+/// The group of a capacity.
+fn group_of(
+    alloc: Global,
+    grid: &Grid,
+    buffer: u32,
+    slots: u32,
+    steady: bool,
+) -> Result<GroupCase, NoMemory>
+    requires capacity { is_capacity buffer ≡ true }
+    requires slots { IsSlots slots }
+    ensures { IfOk result (λ g. IsNewGroup grid.now buffer slots steady (seen_group g)) }
+{
+    Ok(match buffer {
+        1 => GroupCase::Of1(Group::new(alloc, grid, slots, steady)?),
+        2 => GroupCase::Of2(Group::new(alloc, grid, slots, steady)?),
+        4 => GroupCase::Of4(Group::new(alloc, grid, slots, steady)?),
+        8 => GroupCase::Of8(Group::new(alloc, grid, slots, steady)?),
+        16 => GroupCase::Of16(Group::new(alloc, grid, slots, steady)?),
+        32 => GroupCase::Of32(Group::new(alloc, grid, slots, steady)?),
+        64 => GroupCase::Of64(Group::new(alloc, grid, slots, steady)?),
+        128 => GroupCase::Of128(Group::new(alloc, grid, slots, steady)?),
+        256 => GroupCase::Of256(Group::new(alloc, grid, slots, steady)?),
+        512 => GroupCase::Of512(Group::new(alloc, grid, slots, steady)?),
+        1024 => GroupCase::Of1024(Group::new(alloc, grid, slots, steady)?),
+        _ => unreachable!(),
+    })
+}

@@ -1,0 +1,56 @@
+//! What a handle has, behind a pointer that C may keep.
+ghost use Rattle.std.specs.Prelude.{◌≡◌, Some, None, Option, is_some, true};
+ghost use Rattle.rank_handles.specs.declared.part.Part.{Part};
+
+use crate::loose::Loose;
+use crate::part::Part;
+use std::alloc::Global;
+use std::marker::Model;
+
+/// What a handle has: nothing, or a part in a box of its own.
+#[repr(C)]
+#[derive(Drop)]
+pub struct Held {
+    at: *mut u8,
+    pub ghost value: { Option Part },
+}
+
+impl Model for Held {
+    ghost use Rattle.rank_handles.specs.Holds.{holds};
+
+    ghost also_owns = { λ h. holds h.at h.value };
+}
+
+impl Held {
+    /// Nothing.
+    pub(crate) fn none() -> Held
+        ensures { result.value ≡ None }
+    {
+        Held {
+            at: std::ptr::null_mut(),
+        }
+    }
+
+    /// The part in this box.
+    pub(crate) fn of(part: Loose<Part, Global>) -> Held
+        ensures { result.value ≡ Some part.value }
+    {
+        let Loose { at, alloc: _ } = part;
+        Held { at: at as *mut u8 }
+    }
+
+    /// The box again.
+    pub(crate) fn into_loose(self, alloc: Global) -> Loose<Part, Global>
+        requires { is_some self.value ≡ true }
+        ensures { Some result.value ≡ self.value }
+    {
+        let Held { at } = self;
+        Loose {
+            at: at as *mut Part,
+            alloc,
+        }
+    }
+}
+
+// A part is of plain data, and of a bank that threads share; so is what a handle has. C may hand it to another thread.
+unsafe impl Send for Held {}

@@ -1,0 +1,152 @@
+//! Many items at a conveyor, as so many single calls.
+ghost use Rattle.std.specs.Prelude.{◌≡◌, ◌≢◌, ◌+◌, ◌<◌, ◌≤◌, ◌++◌, ◌∷◌, [], ℕ, true, false, None, Some, length, drop, slice_index_or};
+ghost use Rattle.route_tensor.specs.Grid.{ranks};
+ghost use Rattle.port_bank.specs.Machine.Step.{Push, Pull, Idle};
+ghost use Rattle.hop_core.specs.State.{State, in_at, lowest_unread, pulls};
+ghost use Rattle.convey.specs.Conveyors.{standing_toward};
+ghost use Rattle.rank_handles.specs.Many.{steps_of, then_idle, all_ranks};
+ghost use Rattle.rank_handles.specs.Kept.{RunOf};
+
+use crate::item::{BaleItem, bale_item_from, item_from};
+use convey::{Conveyor, Phase, Pushed};
+
+/// Whether every number is one of so many ranks. It doesn't end at the first that is none, so that several are compared
+/// at once: a call of many items that finds no room soon looks at the others in vain.
+pub(crate) fn are_ranks(ranks: u32, to: &[u32]) -> bool
+    ensures { result ≡ all_ranks ranks to.now }
+{
+    let mut good = true;
+    let mut at = 0;
+    while at < to.len() {
+        good = to[at] < ranks && good;
+        at += 1;
+    }
+    good
+}
+
+/// Pushes items toward ranks until one finds no room. How many were pushed.
+pub(crate) fn push_while_room<const CAP: usize, const HOPS: usize>(
+    conveyor: &mut Conveyor<CAP, HOPS>,
+    items: &[BaleItem],
+    to: &[u32],
+) -> usize
+    requires same { length to.now ≡ length items.now }
+    requires working { conveyor.old.phase ≡ Phase.Working }
+    requires not_done { conveyor.old.done ≡ false }
+    requires ranks { all_ranks (ranks conveyor.old.dims) to.now ≡ true }
+    ensures pushed { RunOf (steps_of Push result items.now to.now ++ then_idle result (length items.now))
+        conveyor.old conveyor.new }
+    ensures few { result ≤ length items.now }
+    ensures full { result < length items.now
+        → standing_toward conveyor.new (slice_index_or to.now result 0) ≡ CAP }
+{
+    let mut count = 0;
+    while count < items.len() {
+        let item = item_from(&items[count]);
+        match conveyor.push(item, to[count]) {
+            Pushed::Accepted => count += 1,
+            Pushed::Full => return count,
+        }
+    }
+    count
+}
+
+/// Pulls items until there are none, or no place is left. How many were pulled.
+pub(crate) fn pull_while_some<const CAP: usize, const HOPS: usize>(
+    conveyor: &mut Conveyor<CAP, HOPS>,
+    items: &mut [BaleItem],
+    from: &mut [u32],
+) -> usize
+    requires same { length from.old ≡ length items.old }
+    requires begun { conveyor.old.phase ≢ Phase.Dormant }
+    ensures pulled { RunOf (steps_of Pull result items.new from.new ++ then_idle result (length items.old))
+        conveyor.old conveyor.new }
+    ensures few { result ≤ length items.old }
+    ensures none { result < length items.old → lowest_unread conveyor.new ≡ None }
+    ensures other_items { drop result items.new ≡ drop result items.old }
+    ensures other_from { drop result from.new ≡ drop result from.old }
+{
+    let mut count = 0;
+    while count < items.len() {
+        let Some(number) = conveyor.unread() else {
+            return count;
+        };
+        count = pull_batch(conveyor, number, items, from, count);
+    }
+    count
+}
+
+/// Pulls the items of the inbox from which the next pull takes, as many as there are places from `start` on. Where the
+/// places end.
+fn pull_batch<const CAP: usize, const HOPS: usize>(
+    conveyor: &mut Conveyor<CAP, HOPS>,
+    number: u32,
+    items: &mut [BaleItem],
+    from: &mut [u32],
+    start: usize,
+) -> usize
+    requires same { length from.old ≡ length items.old }
+    requires begun { conveyor.old.phase ≢ Phase.Dormant }
+    requires lowest { lowest_unread conveyor.old ≡ Some number }
+    requires room { start < length items.old }
+    ensures items { length items.new ≡ length items.old }
+    ensures from { length from.new ≡ length from.old }
+    ensures more { start < result }
+    ensures few { result ≤ length items.old }
+    ensures other_items { drop result items.new ≡ drop result items.old }
+    ensures other_from { drop result from.new ≡ drop result from.old }
+    ensures pulled { (st : State) → RunOf (steps_of Pull start items.old from.old ++ Idle ∷ []) st conveyor.old
+        → RunOf (steps_of Pull result items.new from.new) st conveyor.new }
+{
+    let there = conveyor.batch(number).len();
+    let count = there.min(items.len() - start);
+    copy_batch(conveyor, number, items, from, start, count);
+    if count == there {
+        conveyor.pull_all(number);
+    } else {
+        pull_over(conveyor, count);
+    }
+    start + count
+}
+
+/// Copies the first items of that inbox, with their senders, to the places from `start` on.
+fn copy_batch<const CAP: usize, const HOPS: usize>(
+    conveyor: &Conveyor<CAP, HOPS>,
+    number: u32,
+    items: &mut [BaleItem],
+    from: &mut [u32],
+    start: usize,
+    count: usize,
+)
+    requires same { length from.old ≡ length items.old }
+    requires lowest { lowest_unread conveyor.now ≡ Some number }
+    requires there { count ≤ length (in_at conveyor.now number).parcel.untaken }
+    requires room { start + count ≤ length items.old }
+    ensures items { length items.new ≡ length items.old }
+    ensures from { length from.new ≡ length from.old }
+    ensures other_items { drop (start + count) items.new ≡ drop (start + count) items.old }
+    ensures other_from { drop (start + count) from.new ≡ drop (start + count) from.old }
+    ensures pulled { (st : State) → RunOf (steps_of Pull start items.old from.old ++ Idle ∷ []) st conveyor.now
+        → RunOf (steps_of Pull (start + count) items.new from.new ++ then_idle count 1) st (pulls count conveyor.now) }
+{
+    let entries = conveyor.batch(number);
+    let mut at = 0;
+    while at < count {
+        let entry = entries[at];
+        items[start + at] = bale_item_from(entry.item);
+        from[start + at] = conveyor.sender_of(number, entry.tag);
+        at += 1;
+    }
+}
+
+/// Pulls so many items, for nothing but to have them pulled.
+fn pull_over<const CAP: usize, const HOPS: usize>(conveyor: &mut Conveyor<CAP, HOPS>, count: usize)
+    requires begun { conveyor.old.phase ≢ Phase.Dormant }
+    ensures { conveyor.new ≡ pulls count conveyor.old }
+{
+    let mut at = 0;
+    while at < count {
+        conveyor.pull();
+        at += 1;
+    }
+}

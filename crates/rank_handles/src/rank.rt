@@ -1,0 +1,240 @@
+//! A rank at its bank: its seat and its conveyor, for one capacity and one number of hops.
+ghost use Rattle.std.specs.Prelude.{◌≡◌, ◌≢◌, ℕ, ◌<◌, ◌≤◌, true, false, None, length, IfOk, OnOk, OnErr, slice_index_or, slice_set};
+ghost use Rattle.std.specs.Arc.{arc_value};
+ghost use Rattle.route_tensor.specs.Grid.{ranks};
+ghost use Rattle.link_slots.specs.Seen.{posted_on, collected_from};
+ghost use Rattle.port_bank.specs.Machine.{IsOwnStep};
+ghost use Rattle.convey.specs.Buffers.{buffers_of, is_complete};
+ghost use Rattle.convey.specs.Parts.{part_of};
+ghost use Rattle.convey.specs.Progress.{progress_of, advance_step};
+ghost use Rattle.rank_handles.specs.Answers.{item_or_nothing};
+ghost use Rattle.rank_handles.specs.Kept.{IsAtBank, IsAtGather};
+ghost use Rattle.rank_handles.specs.Grouped.{NewRank};
+
+use crate::answer::Answer;
+use crate::exchange::Exchange;
+use crate::item::BaleItem;
+use crate::many::{are_ranks, pull_while_some, push_while_room};
+use bale_types::{Item, NoMemory};
+use convey::{Conveyor, Phase, Progress, Pushed};
+use link_slots::{GatherSeat, SlotBank, SlotSeat};
+use route_tensor::Grid;
+use std::alloc::Global;
+use std::marker::Model;
+use std::sync::Arc;
+
+/// A rank at its bank, which it shares with the group and the other ranks.
+#[derive(Drop)]
+pub(crate) struct Rank<const CAP: usize, const HOPS: usize> {
+    bank: Arc<SlotBank<CAP>, Global>,
+    /// Away only while an advance has it.
+    seat: Option<SlotSeat<CAP>>,
+    conveyor: Conveyor<CAP, HOPS>,
+    /// How many ranks there are.
+    ranks: u32,
+    epoch: u64,
+    done: bool,
+}
+
+impl<const CAP: usize, const HOPS: usize> Model for Rank<CAP, HOPS> {
+    ghost use Rattle.std.specs.Arc.{arc_value};
+    ghost use Rattle.rank_handles.specs.Seated.{Seated};
+
+    ghost Value = { Seated };
+
+    ghost use Rattle.rank_handles.specs.Kept.{seat_in, IsSeated};
+
+    ghost view = { λ r. record { seat = seat_in r.seat; state = r.conveyor } };
+
+    ghost invariant = { λ r. IsSeated (arc_value r.bank) r.seat r.conveyor r.ranks r.epoch r.done };
+}
+
+impl<const CAP: usize, const HOPS: usize> Rank<CAP, HOPS> {
+    /// A rank whose seat was not given out before, before its first epoch.
+    pub(crate) fn new(
+        alloc: Global,
+        bank: &Arc<SlotBank<CAP>, Global>,
+        gather: &mut GatherSeat<CAP>,
+        grid: &Grid,
+        rank: u32,
+        steady: bool,
+    ) -> Result<Rank<CAP, HOPS>, NoMemory>
+        requires some { 0 < CAP }
+        requires small { CAP ≤ 1024 }
+        requires hops { length grid.now ≡ HOPS }
+        requires at_gather { IsAtGather (arc_value bank.now) gather.old grid.now }
+        requires rank { rank < ranks grid.now }
+        requires here { slice_index_or gather.old.given rank true ≡ false }
+        ensures made { IfOk result (λ r. NewRank (arc_value bank.now) rank CAP steady r) }
+        ensures gather { OnOk result (gather.new ≡ record gather.old {
+          lists = slice_set gather.old.lists rank None;
+          given = slice_set gather.old.given rank true;
+        }) }
+        ensures unchanged { OnErr result (gather.new ≡ gather.old) }
+    {
+        let conveyor = Conveyor::new(alloc, grid, rank, steady)?;
+        let Ok(bank) = Arc::try_clone(bank) else {
+            return Err(NoMemory);
+        };
+        let seat = bank.seat(gather, rank);
+        Ok(Rank {
+            bank,
+            seat: Some(seat),
+            conveyor,
+            ranks: grid.ranks(),
+            epoch: 0,
+            done: false,
+        })
+    }
+}
+
+impl<const CAP: usize, const HOPS: usize> Exchange for Rank<CAP, HOPS> {
+    ghost seen = { λ r. r };
+
+    fn ranks(&self) -> u32 {
+        self.ranks
+    }
+
+    fn phase(&self) -> Phase {
+        self.conveyor.phase()
+    }
+
+    #[tactic(auto, unfolding(crate::specs::Seated::Moved))]
+    fn begin(&mut self) -> Answer {
+        match self.conveyor.phase() {
+            Phase::Dormant => {
+                self.conveyor.begin();
+                Answer::Good
+            }
+            _ => Answer::BegunAlready,
+        }
+    }
+
+    #[tactic(auto, unfolding(crate::specs::Seated::Moved))]
+    #[inline]
+    fn push(&mut self, item: Item, to: u32) -> Answer {
+        match self.conveyor.phase() {
+            Phase::Dormant => Answer::NotBegun,
+            Phase::Working => {
+                if to >= self.ranks {
+                    return Answer::NoSuchRank;
+                }
+                match self.conveyor.push(item, to) {
+                    Pushed::Accepted => Answer::Good,
+                    Pushed::Full => Answer::Full,
+                }
+            }
+            _ => Answer::DoneAlready,
+        }
+    }
+
+    #[inline]
+    fn pull(&mut self) -> Result<(u32, Item), Answer> {
+        match self.conveyor.phase() {
+            Phase::Dormant => Err(Answer::NotBegun),
+            _ => some_item(self.conveyor.pull()),
+        }
+    }
+
+    #[tactic(auto, unfolding(crate::specs::Seated::Moved))]
+    fn unpull(&mut self) -> Answer {
+        if self.conveyor.unpull() {
+            Answer::Good
+        } else {
+            Answer::Nothing
+        }
+    }
+
+    fn advance(&mut self, done: bool) -> Answer {
+        if self.conveyor.phase() == Phase::Dormant {
+            return Answer::NotBegun;
+        }
+        if self.done && !done {
+            return Answer::DoneAlready;
+        }
+        let Some(seat) = self.seat.take() else {
+            unreachable!()
+        };
+        let (progress, seat) = advance_at(&self.bank, seat, &mut self.conveyor, done);
+        self.seat = Some(seat);
+        self.done = done;
+        match progress {
+            Progress::More => Answer::More,
+            Progress::Near => Answer::Near,
+            Progress::Complete => Answer::Complete,
+        }
+    }
+
+    fn reset(&mut self) -> Answer {
+        match self.conveyor.phase() {
+            Phase::Complete => {
+                if self.epoch >= 1 << 63 {
+                    return Answer::NoMoreEpochs;
+                }
+                self.conveyor.reset();
+                self.epoch += 1;
+                self.done = false;
+                Answer::Good
+            }
+            _ => Answer::NotComplete,
+        }
+    }
+
+    fn push_many(&mut self, items: &[BaleItem], to: &[u32]) -> Result<usize, Answer> {
+        match self.conveyor.phase() {
+            Phase::Dormant => return Err(Answer::NotBegun),
+            Phase::Working => (),
+            _ => return Err(Answer::DoneAlready),
+        }
+        if !are_ranks(self.ranks, to) {
+            return Err(Answer::NoSuchRank);
+        }
+        Ok(push_while_room(&mut self.conveyor, items, to))
+    }
+
+    fn pull_many(&mut self, items: &mut [BaleItem], from: &mut [u32]) -> Result<usize, Answer> {
+        if self.conveyor.phase() == Phase::Dormant {
+            return Err(Answer::NotBegun);
+        }
+        Ok(pull_while_some(&mut self.conveyor, items, from))
+    }
+}
+
+/// An item and its sender, if there is one.
+#[inline]
+fn some_item(pulled: Option<(u32, Item)>) -> Result<(u32, Item), Answer>
+    ensures { result ≡ item_or_nothing pulled }
+{
+    match pulled {
+        Some(given) => Ok(given),
+        None => Err(Answer::Nothing),
+    }
+}
+
+/// Advances a conveyor over the port of its seat, and gives the seat back.
+fn advance_at<const CAP: usize, const HOPS: usize>(
+    bank: &SlotBank<CAP>,
+    seat: SlotSeat<CAP>,
+    conveyor: &mut Conveyor<CAP, HOPS>,
+    done: bool,
+) -> (Progress, SlotSeat<CAP>)
+    requires begun { conveyor.old.phase ≢ Phase.Dormant }
+    requires at_bank { IsAtBank bank.now seat conveyor.old }
+    requires done_stays { conveyor.old.done ≡ true → done ≡ true }
+    ensures at_bank { IsAtBank bank.now result.1 conveyor.new }
+    ensures answer { result.0 ≡ progress_of conveyor.new.phase }
+    ensures dims { conveyor.new.dims ≡ conveyor.old.dims }
+    ensures rank { conveyor.new.rank ≡ conveyor.old.rank }
+    ensures epoch { conveyor.new.epoch ≡ conveyor.old.epoch }
+    ensures done { conveyor.new.done ≡ done }
+    ensures begun { conveyor.new.phase ≢ Phase.Dormant }
+    ensures step { IsOwnStep (advance_step conveyor.old.done done (is_complete conveyor.new.phase))
+        (part_of (buffers_of conveyor.old) (posted_on seat.entry) (collected_from seat.entry))
+        (part_of (buffers_of conveyor.new) (posted_on result.1) (collected_from result.1)) }
+{
+    let mut port = bank.port(seat);
+    let Ok(progress) = conveyor.advance(&mut port, done) else {
+        unreachable!()
+    };
+    (progress, port.into_seat())
+}

@@ -63,6 +63,10 @@ pub(crate) fn own_of(alloc: Global, parts: &Parts, rank: u32) -> Result<Vec<Own>
     let mut own = Vec::with_capacity(alloc, parts.len(rank))?;
     for x in 0..parts.len(rank) {
         let (number, entry) = parts.entry(rank, x);
+        // There is room for all. Told so, the push needs no way to grow.
+        if own.len() == own.capacity() {
+            return Err(NoMemory);
+        }
         own.push(kept_of(number, entry))?;
     }
     Ok(own)

@@ -114,6 +114,10 @@ pub fn edges_of(
     let mut edges = Vec::with_capacity(alloc, parts.len(rank))?;
     for x in 0..parts.len(rank) {
         let (_number, entry) = parts.entry(rank, x);
+        // There is room for all. Told so, the push needs no way to grow.
+        if edges.len() == edges.capacity() {
+            return Err(NoMemory);
+        }
         edges.push((entry.i % ranks, edge_sent(entry)))?;
     }
     Ok(edges)

@@ -88,8 +88,8 @@ pub(crate) fn read_draft(
     }
 }
 
-/// How many entries have room from the start, so that they don't move while they are read: as many as the size line says, and no more
-/// than lines of four bytes, the least that name a place, are in the text.
+/// How many entries have room from the start, so that they don't move while they are read: as many as the size line
+/// says, and no more than lines of four bytes, the least that name a place, are in the text.
 fn room_for(lines: u32, bytes: usize) -> usize {
     (lines as usize).min(bytes / 4 + 1)
 }

@@ -8,8 +8,8 @@ use mtx_text::Matrix;
 use std::alloc::Global;
 use std::marker::Model;
 
-/// The parts of a matrix, one for each rank: a list of triples with their numbers in the matrix. They are read where the
-/// matrix has them.
+/// The parts of a matrix, one for each rank: a list of triples with their numbers in the matrix. They are read where
+/// the matrix has them.
 #[derive(Drop)]
 pub struct Parts<'a> {
     /// All entries of the matrix, in order.

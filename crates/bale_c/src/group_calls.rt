@@ -1,7 +1,8 @@
 //! What C calls, of a group.
 ghost use Rattle.std.specs.Prelude.{◌≡◌, ◌≢◌, Some, None};
 ghost use Rattle.rank_handles.specs.Codes.{code_of};
-ghost use Rattle.rank_handles.specs.Handles.{rank_in, group_in, if_there, new_group_answer, new_rank_answer, given_in, HasNewGroup, HasNewRank};
+ghost use Rattle.rank_handles.specs.Handles.{if_there, new_group_answer, new_rank_answer, given_in, HasNewGroup, HasNewRank};
+ghost use Rattle.rank_handles.specs.Shown.{rank_of, group_of};
 
 use rank_handles::{Answer, BaleGroup, BaleRank, make_group, make_rank};
 use std::alloc::Global;
@@ -18,11 +19,11 @@ pub extern "C" fn bale_group_new(
     out: &mut BaleGroup,
 ) -> i32
     ensures answer { result ≢ code_of Answer.NoMemory → result ≡ code_of (new_group_answer
-        (group_in out.old.held.value) dims.now buffer slots) }
+        (group_of out.old) dims.now buffer slots) }
     ensures memory { result ≡ code_of Answer.NoMemory → new_group_answer
-        (group_in out.old.held.value) dims.now buffer slots ≡ Answer.Good }
+        (group_of out.old) dims.now buffer slots ≡ Answer.Good }
     ensures made { result ≡ code_of Answer.Good → HasNewGroup dims.now buffer slots steady
-        (group_in out.new.held.value) }
+        (group_of out.new) }
     ensures unchanged { result ≢ code_of Answer.Good → out.new ≡ out.old }
 {
     if out.live {
@@ -47,16 +48,16 @@ pub extern "C" fn bale_rank_new(
     out: &mut BaleRank,
 ) -> i32
     ensures answer { result ≢ code_of Answer.NoMemory → result ≡ code_of (new_rank_answer
-        (group_in group.old.held.value) (rank_in out.old.held.value) rank) }
+        (group_of group.old) (rank_of out.old) rank) }
     ensures memory { result ≡ code_of Answer.NoMemory → new_rank_answer
-        (group_in group.old.held.value) (rank_in out.old.held.value) rank ≡ Answer.Good }
-    ensures made { result ≡ code_of Answer.Good → HasNewRank (group_in group.old.held.value) rank
-        (rank_in out.new.held.value) }
-    ensures given { result ≡ code_of Answer.Good → group_in group.new.held.value
-        ≡ given_in (group_in group.old.held.value) rank }
+        (group_of group.old) (rank_of out.old) rank ≡ Answer.Good }
+    ensures made { result ≡ code_of Answer.Good → HasNewRank (group_of group.old) rank
+        (rank_of out.new) }
+    ensures given { result ≡ code_of Answer.Good → group_of group.new
+        ≡ given_in (group_of group.old) rank }
     ensures unchanged { result ≢ code_of Answer.Good → out.new ≡ out.old }
-    ensures same_group { result ≢ code_of Answer.Good → group_in group.new.held.value
-        ≡ group_in group.old.held.value }
+    ensures same_group { result ≢ code_of Answer.Good → group_of group.new
+        ≡ group_of group.old }
 {
     if out.live {
         return Answer::InUse.code();
@@ -78,8 +79,8 @@ pub extern "C" fn bale_rank_new(
 /// Frees the group. Its ranks go on.
 #[unsafe(no_mangle)]
 pub extern "C" fn bale_group_free(alloc: Global, group: &mut BaleGroup) -> i32
-    ensures answer { result ≡ code_of (if_there (group_in group.old.held.value) (λ g. Answer.Good)) }
-    ensures gone { group_in group.new.held.value ≡ None }
+    ensures answer { result ≡ code_of (if_there (group_of group.old) (λ g. Answer.Good)) }
+    ensures gone { group_of group.new ≡ None }
 {
     match group.take(alloc) {
         Some(_) => Answer::Good.code(),

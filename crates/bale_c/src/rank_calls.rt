@@ -1,60 +1,44 @@
 //! What C calls, of a rank.
-ghost use Rattle.std.specs.Prelude.{◌≡◌, ◌≢◌, ℕ, Some, None, Ok, Err, IfOk, OnErr};
+ghost use Rattle.std.specs.Prelude.{◌≡◌, None};
 ghost use Rattle.std.specs.Option.{option_map};
-ghost use Rattle.port_bank.specs.Machine.Step.{Push, Pull, Unpull, Reset, Idle};
-ghost use Rattle.convey.specs.Buffers.{is_complete};
-ghost use Rattle.convey.specs.Progress.{advance_step};
 ghost use Rattle.rank_handles.specs.Codes.{code_of, phase_code};
 ghost use Rattle.rank_handles.specs.Answers.{begin_answer, push_answer, pull_result, unpull_answer, advance_answer, reset_answer};
+ghost use Rattle.rank_handles.specs.Calls.{OnRank, Begins, Pushes, Pulls, Unpulls, Advances, Resets};
 ghost use Rattle.rank_handles.specs.Grouped.{answer_with};
-ghost use Rattle.rank_handles.specs.Items.{item_of, bale_item};
-ghost use Rattle.rank_handles.specs.Handles.{rank_in, seat_of, if_there, result_if_there, phase_in, done_in, ranks_in, MovedIn, IsAdvanced};
+ghost use Rattle.rank_handles.specs.Items.{item_of, item_given, sender_given};
+ghost use Rattle.rank_handles.specs.Handles.{if_there, result_if_there, phase_in, ranks_in};
+ghost use Rattle.rank_handles.specs.Shown.{rank_of};
 
 use hop_core::Phase;
-use rank_handles::{
-    Answer, BaleItem, BaleRank, advance_on, bale_item_from, begin_on, item_from, phase_on, pull_on,
-    push_on, ranks_on, reset_on, unpull_on,
-};
+use rank_handles::{Answer, BaleItem, BaleRank, Exchange, bale_item_from, item_from};
 use std::alloc::Global;
 
 /// Begins an epoch.
 #[unsafe(no_mangle)]
+#[tactic(auto, using(rank_handles::proofs::Handed::on_there, rank_handles::proofs::Handed::on_none))]
 pub extern "C" fn bale_begin(alloc: Global, rank: &mut BaleRank) -> i32
-    ensures answer { result ≡ code_of (if_there (rank_in rank.old.held.value) (λ s. begin_answer s.state.phase)) }
-    ensures links { seat_of (rank_in rank.new.held.value) ≡ seat_of (rank_in rank.old.held.value) }
-    ensures begun { if_there (rank_in rank.old.held.value) (λ s. begin_answer s.state.phase) ≡ Answer.Good
-        → MovedIn Idle Phase.Working
-        (rank_in rank.old.held.value) (rank_in rank.new.held.value) }
-    ensures misuse { if_there (rank_in rank.old.held.value) (λ s. begin_answer s.state.phase) ≢ Answer.Good
-        → rank_in rank.new.held.value ≡ rank_in rank.old.held.value }
+    ensures answer { result ≡ code_of (if_there (rank_of rank.old) (λ s. begin_answer s.state.phase)) }
+    ensures begins { OnRank Begins (rank_of rank.old) (rank_of rank.new) }
 {
     let Some(mut part) = rank.take(alloc) else {
         return Answer::Gone.code();
     };
-    let answer = begin_on(&mut part);
+    let answer = part.begin();
     rank.put(part);
     answer.code()
 }
 
 /// Pushes an item toward a rank.
 #[unsafe(no_mangle)]
+#[tactic(auto, using(rank_handles::proofs::Handed::on_there, rank_handles::proofs::Handed::on_none))]
 pub extern "C" fn bale_push(alloc: Global, rank: &mut BaleRank, item: &BaleItem, to: u32) -> i32
-    ensures answer { result ≡ code_of (if_there (rank_in rank.old.held.value) (λ s. push_answer s to)) }
-    ensures links { seat_of (rank_in rank.new.held.value) ≡ seat_of (rank_in rank.old.held.value) }
-    ensures pushed { if_there (rank_in rank.old.held.value) (λ s. push_answer s to) ≡ Answer.Good
-        → MovedIn (Push to (item_of item.now)) Phase.Working
-        (rank_in rank.old.held.value) (rank_in rank.new.held.value) }
-    ensures full { if_there (rank_in rank.old.held.value) (λ s. push_answer s to) ≡ Answer.Full
-        → MovedIn Idle Phase.Working
-        (rank_in rank.old.held.value) (rank_in rank.new.held.value) }
-    ensures misuse { if_there (rank_in rank.old.held.value) (λ s. push_answer s to) ≢ Answer.Good
-        → if_there (rank_in rank.old.held.value) (λ s. push_answer s to) ≢ Answer.Full
-        → rank_in rank.new.held.value ≡ rank_in rank.old.held.value }
+    ensures answer { result ≡ code_of (if_there (rank_of rank.old) (λ s. push_answer s to)) }
+    ensures pushes { OnRank (Pushes (item_of item.now) to) (rank_of rank.old) (rank_of rank.new) }
 {
     let Some(mut part) = rank.take(alloc) else {
         return Answer::Gone.code();
     };
-    let answer = push_on(&mut part, item_from(item), to);
+    let answer = part.push(item_from(item), to);
     rank.put(part);
     answer.code()
 }
@@ -62,22 +46,13 @@ pub extern "C" fn bale_push(alloc: Global, rank: &mut BaleRank, item: &BaleItem,
 /// Puts the item back that the latest call pulled.
 #[unsafe(no_mangle)]
 pub extern "C" fn bale_unpull(alloc: Global, rank: &mut BaleRank) -> i32
-    ensures answer { result ≡ code_of (if_there (rank_in rank.old.held.value) (λ s. unpull_answer s)) }
-    ensures links { seat_of (rank_in rank.new.held.value) ≡ seat_of (rank_in rank.old.held.value) }
-    ensures put_back { if_there (rank_in rank.old.held.value) (λ s. unpull_answer s) ≡ Answer.Good
-        → MovedIn Unpull (phase_in (rank_in rank.old.held.value))
-        (rank_in rank.old.held.value) (rank_in rank.new.held.value) }
-    ensures nothing { if_there (rank_in rank.old.held.value) (λ s. unpull_answer s) ≡ Answer.Nothing
-        → MovedIn Idle (phase_in (rank_in rank.old.held.value))
-        (rank_in rank.old.held.value) (rank_in rank.new.held.value) }
-    ensures misuse { if_there (rank_in rank.old.held.value) (λ s. unpull_answer s) ≢ Answer.Good
-        → if_there (rank_in rank.old.held.value) (λ s. unpull_answer s) ≢ Answer.Nothing
-        → rank_in rank.new.held.value ≡ rank_in rank.old.held.value }
+    ensures answer { result ≡ code_of (if_there (rank_of rank.old) unpull_answer) }
+    ensures unpulls { OnRank Unpulls (rank_of rank.old) (rank_of rank.new) }
 {
     let Some(mut part) = rank.take(alloc) else {
         return Answer::Gone.code();
     };
-    let answer = unpull_on(&mut part);
+    let answer = part.unpull();
     rank.put(part);
     answer.code()
 }
@@ -85,18 +60,13 @@ pub extern "C" fn bale_unpull(alloc: Global, rank: &mut BaleRank) -> i32
 /// Ends an epoch that is complete.
 #[unsafe(no_mangle)]
 pub extern "C" fn bale_reset(alloc: Global, rank: &mut BaleRank) -> i32
-    ensures answer { result ≡ code_of (if_there (rank_in rank.old.held.value) (λ s. reset_answer s)) }
-    ensures links { seat_of (rank_in rank.new.held.value) ≡ seat_of (rank_in rank.old.held.value) }
-    ensures ended { if_there (rank_in rank.old.held.value) (λ s. reset_answer s) ≡ Answer.Good
-        → MovedIn Reset Phase.Dormant
-        (rank_in rank.old.held.value) (rank_in rank.new.held.value) }
-    ensures misuse { if_there (rank_in rank.old.held.value) (λ s. reset_answer s) ≢ Answer.Good
-        → rank_in rank.new.held.value ≡ rank_in rank.old.held.value }
+    ensures answer { result ≡ code_of (if_there (rank_of rank.old) reset_answer) }
+    ensures resets { OnRank Resets (rank_of rank.old) (rank_of rank.new) }
 {
     let Some(mut part) = rank.take(alloc) else {
         return Answer::Gone.code();
     };
-    let answer = reset_on(&mut part);
+    let answer = part.reset();
     rank.put(part);
     answer.code()
 }
@@ -109,25 +79,15 @@ pub extern "C" fn bale_pull(
     item: &mut BaleItem,
     from: &mut u32,
 ) -> i32
-    ensures answer { result ≡ code_of (answer_with (result_if_there (rank_in rank.old.held.value) pull_result)) }
-    ensures links { seat_of (rank_in rank.new.held.value) ≡ seat_of (rank_in rank.old.held.value) }
-    ensures pulled { IfOk (result_if_there (rank_in rank.old.held.value) pull_result) (λ p. MovedIn (Pull p.0 p.1)
-        (phase_in (rank_in rank.old.held.value)) (rank_in rank.old.held.value) (rank_in rank.new.held.value)) }
-    ensures item { IfOk (result_if_there (rank_in rank.old.held.value) pull_result) (λ p. item.new ≡ bale_item p.1) }
-    ensures from { IfOk (result_if_there (rank_in rank.old.held.value) pull_result) (λ p. from.new ≡ p.0) }
-    ensures same_item { OnErr (result_if_there (rank_in rank.old.held.value) pull_result) (item.new ≡ item.old) }
-    ensures same_from { OnErr (result_if_there (rank_in rank.old.held.value) pull_result) (from.new ≡ from.old) }
-    ensures nothing { result_if_there (rank_in rank.old.held.value) pull_result ≡ Err Answer.Nothing → MovedIn Idle
-        (phase_in (rank_in rank.old.held.value)) (rank_in rank.old.held.value) (rank_in rank.new.held.value) }
-    ensures not_begun { result_if_there (rank_in rank.old.held.value) pull_result ≡ Err Answer.NotBegun
-        → rank_in rank.new.held.value ≡ rank_in rank.old.held.value }
-    ensures gone { result_if_there (rank_in rank.old.held.value) pull_result ≡ Err Answer.Gone
-        → rank_in rank.new.held.value ≡ rank_in rank.old.held.value }
+    ensures answer { result ≡ code_of (answer_with (result_if_there (rank_of rank.old) pull_result)) }
+    ensures item { item.new ≡ item_given (result_if_there (rank_of rank.old) pull_result) item.old }
+    ensures from { from.new ≡ sender_given (result_if_there (rank_of rank.old) pull_result) from.old }
+    ensures pulls { OnRank Pulls (rank_of rank.old) (rank_of rank.new) }
 {
     let Some(mut part) = rank.take(alloc) else {
         return Answer::Gone.code();
     };
-    let pulled = pull_on(&mut part);
+    let pulled = part.pull();
     rank.put(part);
     match pulled {
         Ok((sender, given)) => {
@@ -142,31 +102,14 @@ pub extern "C" fn bale_pull(
 /// Advances the exchange, and tells how far the rank is.
 #[unsafe(no_mangle)]
 pub extern "C" fn bale_advance(alloc: Global, rank: &mut BaleRank, done: bool) -> i32
-    ensures answer { result ≡ code_of (if_there (rank_in rank.old.held.value) (λ s. advance_answer s done
-        (phase_in (rank_in rank.new.held.value)))) }
-    ensures advanced { IsAdvanced
-        (if_there (rank_in rank.old.held.value) (λ s. advance_answer s done (phase_in (rank_in rank.new.held.value))))
-        → MovedIn
-        (advance_step (done_in (rank_in rank.old.held.value)) done
-        (is_complete (phase_in (rank_in rank.new.held.value))))
-        (phase_in (rank_in rank.new.held.value)) (rank_in rank.old.held.value) (rank_in rank.new.held.value) }
-    ensures done { IsAdvanced
-        (if_there (rank_in rank.old.held.value) (λ s. advance_answer s done (phase_in (rank_in rank.new.held.value))))
-        → done_in (rank_in rank.new.held.value) ≡ done }
-    ensures not_begun { if_there (rank_in rank.old.held.value)
-        (λ s. advance_answer s done (phase_in (rank_in rank.new.held.value))) ≡ Answer.NotBegun
-        → rank_in rank.new.held.value ≡ rank_in rank.old.held.value }
-    ensures not_undone { if_there (rank_in rank.old.held.value)
-        (λ s. advance_answer s done (phase_in (rank_in rank.new.held.value))) ≡ Answer.DoneAlready
-        → rank_in rank.new.held.value ≡ rank_in rank.old.held.value }
-    ensures gone { if_there (rank_in rank.old.held.value)
-        (λ s. advance_answer s done (phase_in (rank_in rank.new.held.value))) ≡ Answer.Gone
-        → rank_in rank.new.held.value ≡ rank_in rank.old.held.value }
+    ensures answer { result ≡ code_of (if_there (rank_of rank.old) (λ s. advance_answer s done
+        (phase_in (rank_of rank.new)))) }
+    ensures advances { OnRank (Advances done) (rank_of rank.old) (rank_of rank.new) }
 {
     let Some(mut part) = rank.take(alloc) else {
         return Answer::Gone.code();
     };
-    let answer = advance_on(&mut part, done);
+    let answer = part.advance(done);
     rank.put(part);
     answer.code()
 }
@@ -174,13 +117,13 @@ pub extern "C" fn bale_advance(alloc: Global, rank: &mut BaleRank, done: bool) -
 /// How many ranks there are; 0 where the handle has no rank.
 #[unsafe(no_mangle)]
 pub extern "C" fn bale_ranks(alloc: Global, rank: &mut BaleRank) -> u32
-    ensures value { result ≡ ranks_in (rank_in rank.old.held.value) }
-    ensures unchanged { rank_in rank.new.held.value ≡ rank_in rank.old.held.value }
+    ensures value { result ≡ ranks_in (rank_of rank.old) }
+    ensures unchanged { rank_of rank.new ≡ rank_of rank.old }
 {
     let Some(part) = rank.take(alloc) else {
         return 0;
     };
-    let ranks = ranks_on(&part);
+    let ranks = part.ranks();
     rank.put(part);
     ranks
 }
@@ -188,13 +131,13 @@ pub extern "C" fn bale_ranks(alloc: Global, rank: &mut BaleRank) -> u32
 /// How far the rank is in its epoch.
 #[unsafe(no_mangle)]
 pub extern "C" fn bale_phase(alloc: Global, rank: &mut BaleRank) -> i32
-    ensures value { result ≡ phase_code (option_map (λ s. s.state.phase) (rank_in rank.old.held.value)) }
-    ensures unchanged { rank_in rank.new.held.value ≡ rank_in rank.old.held.value }
+    ensures value { result ≡ phase_code (option_map (λ s. s.state.phase) (rank_of rank.old)) }
+    ensures unchanged { rank_of rank.new ≡ rank_of rank.old }
 {
     let Some(part) = rank.take(alloc) else {
         return Answer::Gone.code();
     };
-    let phase = phase_on(&part);
+    let phase = part.phase();
     rank.put(part);
     code_of_phase(phase)
 }
@@ -202,8 +145,8 @@ pub extern "C" fn bale_phase(alloc: Global, rank: &mut BaleRank) -> i32
 /// Frees the rank. Its group and the other ranks stay.
 #[unsafe(no_mangle)]
 pub extern "C" fn bale_rank_free(alloc: Global, rank: &mut BaleRank) -> i32
-    ensures answer { result ≡ code_of (if_there (rank_in rank.old.held.value) (λ s. Answer.Good)) }
-    ensures gone { rank_in rank.new.held.value ≡ None }
+    ensures answer { result ≡ code_of (if_there (rank_of rank.old) (λ s. Answer.Good)) }
+    ensures gone { rank_of rank.new ≡ None }
 {
     match rank.take(alloc) {
         Some(_) => Answer::Good.code(),

@@ -1,19 +1,23 @@
 -- From what a conveyor's call tells to what a rank's call tells.
-use Rattle.std.proofs.Common.{◌≡◌, ◌≢◌, ℕ, Bool, true, false, refl, sym, ap, ◌∙◌, Option, Some, None, Result, Err, IfOk, IfSome, not}
+use Rattle.std.proofs.Common.{◌≡◌, ◌≢◌, ◌<◌, ℕ, Bool, true, false, refl, sym, ap, ◌∙◌, subst, nat_lt, Option, Some, None, Result, Err, IfOk, IfSome, not}
 use Rattle.std.specs.Prelude.{if◌then◌else◌}
+use Rattle.std.proofs.lemmas.Bool.{lt-ltb}
 use Rattle.bale_types.specs.declared.item.Item.{Item}
 use Rattle.route_tensor.specs.Grid.{ranks}
 use Rattle.port_bank.specs.Machine.{Step, IsOwnStep}
-use Rattle.port_bank.specs.Machine.Step.{Pull, Idle}
+use Rattle.port_bank.specs.Machine.Step.{Push, Pull, Reset, Idle}
+use Rattle.convey.specs.Buffers.{is_complete}
+use Rattle.convey.specs.Progress.{advance_step}
 use Rattle.link_slots.specs.Seen.{Bank, Manning, posted_on, collected_from}
 use Rattle.hop_core.specs.declared.phase.Phase.{Phase}
 use Rattle.hop_core.specs.declared.phase.Phase.TheVariants.{Dormant, Working, Endgame, Cleanup, Complete}
 use Rattle.hop_core.specs.State.{State, phase_of, pulled_from, all_closed, all_read}
-use Rattle.convey.specs.Conveyors.{AgreesWith, IsStepOf, KeepsAgreement}
+use Rattle.convey.specs.Conveyors.{AgreesWith, IsStepOf, KeepsAgreement, standing_toward}
 use Rattle.rank_handles.specs.declared.answer.Answer.{Answer}
-use Rattle.rank_handles.specs.declared.answer.Answer.TheVariants.{Nothing, NotBegun}
+use Rattle.rank_handles.specs.declared.answer.Answer.TheVariants.{Good, Full, Nothing, NotBegun, DoneAlready, NoSuchRank, NoMoreEpochs}
 use Rattle.rank_handles.specs.Seated.{Seated, Moved, part}
-use Rattle.rank_handles.specs.Answers.{item_or_nothing, pull_once_begun}
+use Rattle.rank_handles.specs.Answers.{while_working, once_begun, when_complete, progress_answer, push_answer, pull_result, advance_answer, reset_answer, item_or_nothing, pull_once_begun}
+use Rattle.rank_handles.specs.Calls.{Pushes, Pulls, Advances, Resets}
 use Rattle.rank_handles.specs.Kept.{seat_in, IsAtBank, IsSeated}
 
 -- a rank at its seat
@@ -114,3 +118,93 @@ not_done true false false e = absurd cc
 pub working_not_done : (st : State) → st.phase ≡ phase_of st → st.phase ≡ Working → st.done ≡ false
 unfolding phase_of
 working_not_done st is working = not_done st.done (not (all_closed st.outs)) (not (all_read st)) (sym is ∙ working)
+
+-- what a call leaves, by what it answers
+pub pushes_good : (item : Item) (to : ℕ) (s t : Seated) → push_answer s to ≡ Good → t.seat ≡ s.seat → Moved (Push to item) Working s t → Pushes item to s t
+unfolding Pushes
+pushes_good item to s t good links moved = record { links = links; pushed = λ e. moved; full = λ e. absurd (let k : Good ≡ Full = sym good ∙ e in cc); misuse = λ not _. absurd (not good) }
+
+pub pushes_full : (item : Item) (to : ℕ) (s t : Seated) → push_answer s to ≡ Full → t.seat ≡ s.seat → Moved Idle Working s t → Pushes item to s t
+unfolding Pushes
+pushes_full item to s t full links moved = record { links = links; pushed = λ e. absurd (let k : Full ≡ Good = sym full ∙ e in cc); full = λ e. moved; misuse = λ _ not. absurd (not full) }
+
+pub resets_good : (s t : Seated) → reset_answer s ≡ Good → t.seat ≡ s.seat → Moved Reset Dormant s t → Resets s t
+unfolding Resets
+resets_good s t good links moved = record { links = links; ended = λ e. moved; misuse = λ not. absurd (not good) }
+
+pub advances_on : (done : Bool) (s t : Seated) → advance_answer s done t.state.phase ≢ NotBegun → advance_answer s done t.state.phase ≢ DoneAlready
+    → Moved (advance_step s.state.done done (is_complete t.state.phase)) t.state.phase s t → t.state.done ≡ done → Advances done s t
+unfolding Advances
+advances_on done s t begun undone moved is = record { advanced = λ _ _. moved; done_is = λ _ _. is; not_begun = λ e. absurd (begun e); not_undone = λ e. absurd (undone e) }
+
+pub pulls_begun : (s t : Seated) (r : Result (ℕ × Item) Answer) → r ≡ pull_result s → (r ≡ Err NotBegun → ⊥) → t.seat ≡ s.seat → IfOk r (λ p. Moved (Pull p.0 p.1) s.state.phase s t)
+    → (r ≡ Err Nothing → Moved Idle s.state.phase s t) → Pulls s t
+unfolding Pulls
+pulls_begun s t r is begun links pulled nothing = record {
+  links = links;
+  pulled = subst (λ (q : Result (ℕ × Item) Answer). IfOk q (λ p. Moved (Pull p.0 p.1) s.state.phase s t)) is pulled;
+  nothing = λ e. nothing (is ∙ e);
+  misuse = λ e. absurd (begun (is ∙ e));
+}
+
+-- answers that are no misuse
+room : (p : Phase) (rank there : Bool) → p ≡ Working → rank ≡ true → there ≡ true → while_working p (if rank then (if there then Good else Full) else NoSuchRank) ≡ Good
+room Working true true working is some = refl
+room Working true false working is some = absurd cc
+room Working false there working is some = absurd cc
+room Dormant rank there working is some = absurd cc
+room Endgame rank there working is some = absurd cc
+room Cleanup rank there working is some = absurd cc
+room Complete rank there working is some = absurd cc
+
+pub push_good : (s : Seated) (to : ℕ) → s.state.phase ≡ Working → nat_lt to (ranks s.state.dims) ≡ true → standing_toward s.state to < s.state.cap → push_answer s to ≡ Good
+push_good s to working is less =
+    room s.state.phase (nat_lt to (ranks s.state.dims)) (nat_lt (standing_toward s.state to) s.state.cap) working is (lt-ltb (standing_toward s.state to) s.state.cap less)
+
+pub all_good : (p : Phase) (ranks : Bool) → p ≡ Working → ranks ≡ true → while_working p (if ranks then Good else NoSuchRank) ≡ Good
+all_good Working true working is = refl
+all_good Working false working is = absurd cc
+all_good Dormant ranks working is = absurd cc
+all_good Endgame ranks working is = absurd cc
+all_good Cleanup ranks working is = absurd cc
+all_good Complete ranks working is = absurd cc
+
+pub begun_good : (p : Phase) → p ≢ Dormant → once_begun p Good ≡ Good
+begun_good Dormant begun = absurd (begun refl)
+begun_good Working begun = refl
+begun_good Endgame begun = refl
+begun_good Cleanup begun = refl
+begun_good Complete begun = refl
+
+pub ended_good : (p : Phase) (number : Bool) → p ≡ Complete → number ≡ true → when_complete p (if number then Good else NoMoreEpochs) ≡ Good
+ended_good Complete true complete is = refl
+ended_good Complete false complete is = absurd cc
+ended_good Dormant number complete is = absurd cc
+ended_good Working number complete is = absurd cc
+ended_good Endgame number complete is = absurd cc
+ended_good Cleanup number complete is = absurd cc
+
+pub advanced_answer : (p q : Phase) (undone : Bool) → p ≢ Dormant → undone ≡ false → once_begun p (if undone then DoneAlready else progress_answer q) ≡ progress_answer q
+advanced_answer Dormant q undone begun is = absurd (begun refl)
+advanced_answer Working q false begun is = refl
+advanced_answer Endgame q false begun is = refl
+advanced_answer Cleanup q false begun is = refl
+advanced_answer Complete q false begun is = refl
+advanced_answer Working q true begun is = absurd cc
+advanced_answer Endgame q true begun is = absurd cc
+advanced_answer Cleanup q true begun is = absurd cc
+advanced_answer Complete q true begun is = absurd cc
+
+pub progress_begun : (q : Phase) → progress_answer q ≢ NotBegun
+progress_begun Dormant e = absurd cc
+progress_begun Working e = absurd cc
+progress_begun Endgame e = absurd cc
+progress_begun Cleanup e = absurd cc
+progress_begun Complete e = absurd cc
+
+pub progress_undone : (q : Phase) → progress_answer q ≢ DoneAlready
+progress_undone Dormant e = absurd cc
+progress_undone Working e = absurd cc
+progress_undone Endgame e = absurd cc
+progress_undone Cleanup e = absurd cc
+progress_undone Complete e = absurd cc

@@ -258,30 +258,3 @@ none_came Complete begun = refl
 
 pub pull_none : (s : Seated) → s.state.phase ≢ Dormant → lowest_unread s.state ≡ None → pull_result s ≡ Err Nothing
 pull_none s begun none = ap (λ (l : Option ℕ). pull_once_begun s.state.phase (item_or_nothing (pull_from s.state l))) none ∙ none_came s.state.phase begun
-
--- what is said of the number that a call answers
-pub for_ok : (P : ℕ → Type 0) (n : ℕ) → P n → (m : ℕ) → ◌≡◌ {A = Result ℕ Answer} (Ok n) (Ok m) → P m
-for_ok P n p m e = let same : n ≡ m = cc in subst P same p
-
--- what a number tells that is how many, or what is wrong
-module _ (r : Result ℕ Answer) (answer : Answer) (told : ℤ) (wrong : (a : Answer) → r ≡ Err a → a ≡ answer) (refused : (a : Answer) → r ≡ Err a → a ≢ Good) (number : (n : ℕ) → r ≡ Ok n → told ≡ pos n) where
-  pub told_count : (P : ℕ → Type 0) → ((n : ℕ) → r ≡ Ok n → P n) → answer ≡ Good → P (count_in told)
-  told_count P holds good = by_result r refl
-    where
-      by_result : (s : Result ℕ Answer) → r ≡ s → P (count_in told)
-      by_result (Ok n) e = subst P (sym (ap count_in (number n e))) (holds n e)
-      by_result (Err a) e = absurd (refused a e (wrong a e ∙ good))
-
-  pub told_few : (most : ℕ) → ((n : ℕ) → r ≡ Ok n → n ≤ most) → ((a : Answer) → r ≡ Err a → told ≡ code_of a) → ((a : Answer) → r ≡ Err a → count_in (code_of a) ≡ 0) → count_in told ≤ most
-  told_few most few code none = by_result r refl
-    where
-      by_result : (s : Result ℕ Answer) → r ≡ s → count_in told ≤ most
-      by_result (Ok n) e = omega (arith, ap count_in (number n e), few n e)
-      by_result (Err a) e = omega (arith, ap count_in (code a e), none a e)
-
-  pub told_number : answer ≡ Good → told ≡ pos (count_in told)
-  told_number good = by_result r refl
-    where
-      by_result : (s : Result ℕ Answer) → r ≡ s → told ≡ pos (count_in told)
-      by_result (Ok n) e = number n e ∙ ap pos (sym (ap count_in (number n e)))
-      by_result (Err a) e = absurd (refused a e (wrong a e ∙ good))

@@ -1,16 +1,14 @@
 -- What contracts see of a handle, and of a call on it.
-use Rattle.std.specs.Prelude.{◌≡◌, ◌⊎◌, ℕ, Bool, false, Option, Some, None, Result, Err, List, is_some, if◌then◌else◌}
+use Rattle.std.specs.Prelude.{ℕ, Bool, Option, Some, None, Result, Err, List, is_some, if◌then◌else◌}
 use Rattle.route_tensor.specs.Grid.{ranks}
-use Rattle.link_slots.specs.Seen.{Manning}
-use Rattle.port_bank.specs.Machine.{Step}
 use Rattle.hop_core.specs.declared.phase.Phase.{Phase}
 use Rattle.hop_core.specs.declared.phase.Phase.TheVariants.{Dormant}
 use Rattle.rank_handles.specs.declared.part.Part.{Part}
 use Rattle.rank_handles.specs.declared.part.Part.TheVariants.{Empty, Group, Rank}
 use Rattle.rank_handles.specs.declared.answer.Answer.{Answer}
-use Rattle.rank_handles.specs.declared.answer.Answer.TheVariants.{More, Near, Complete, Gone, InUse}
+use Rattle.rank_handles.specs.declared.answer.Answer.TheVariants.{Gone, InUse}
 use Rattle.rank_handles.specs.Grouped.{Grouped, IsNewGroup, IsNewRank, with_given, rank_answer, group_answer}
-use Rattle.rank_handles.specs.Seated.{Seated, Moved}
+use Rattle.rank_handles.specs.Seated.{Seated}
 
 -- The rank, or the group, that a handle has.
 abbrev pub rank_in : Option Part → Option Seated
@@ -39,34 +37,10 @@ abbrev pub ranks_in : Option Seated → ℕ
 ranks_in None = 0
 ranks_in (Some s) = ranks s.state.dims
 
--- The phase of a rank, and whether it is done. Where there is none, that of a rank before its first epoch.
+-- The phase of a rank. Where there is none, that of a rank before its first epoch.
 abbrev pub phase_in : Option Seated → Phase
 phase_in None = Dormant
 phase_in (Some s) = s.state.phase
-
-abbrev pub done_in : Option Seated → Bool
-done_in None = false
-done_in (Some s) = s.state.done
-
--- The seat of a rank, with what it sent and got on each link, if there is a rank.
-abbrev pub seat_of : Option Seated → Option Manning
-seat_of None = None
-seat_of (Some s) = Some s.seat
-
--- What an advance answers where it is no misuse.
-abbrev pub IsAdvanced : Answer → Type 0
-IsAdvanced answer = (answer ≡ More) ⊎ (answer ≡ Near) ⊎ (answer ≡ Complete)
-
--- A call made this step of a rank that is there before and after it.
-pub record MoveIn (step : Step) (phase : Phase) (old new : Option Seated) : Type 0 where
-  pub before : Seated
-  pub after : Seated
-  pub was : old ≡ Some before
-  pub now : new ≡ Some after
-  pub moved : Moved step phase before after
-
-unfoldable pub MovedIn : Step → Phase → Option Seated → Option Seated → Type 0
-MovedIn step phase old new = MoveIn step phase old new
 
 -- What becomes of the wish to make a group, or a rank of a group, where there is memory: the handle that is to have it must have none.
 abbrev pub new_group_answer : Option Grouped → List ℕ → ℕ → ℕ → Answer

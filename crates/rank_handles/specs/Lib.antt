@@ -1,6 +1,7 @@
 pub mod Codes
 pub mod Seated
 pub mod Answers
+pub mod Calls
 pub mod Many
 pub mod Cases
 pub mod Grouped
@@ -8,4 +9,5 @@ pub mod GroupCases
 pub mod Holds
 pub mod Items
 pub mod Handles
+pub mod Shown
 pub mod Kept

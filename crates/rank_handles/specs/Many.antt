@@ -1,15 +1,16 @@
 -- Calls of many items, as so many single ones.
-use Rattle.std.specs.Prelude.{◌≡◌, ℕ, zero, suc, Bool, ⊤, List, [], ◌∷◌, nat_lt, if◌then◌else◌, Option, Some, Result, Ok, Err, ℤ, pos, negsuc}
+use Rattle.std.specs.Prelude.{◌≡◌, ◌≢◌, ◌<◌, ℕ, zero, suc, Bool, ⊤, List, [], ◌∷◌, ◌++◌, length, slice_index_or, nat_lt, if◌then◌else◌, Result, Ok, Err, ℤ, pos, negsuc}
 use Rattle.std.specs.List.{list_all}
 use Rattle.bale_types.specs.declared.item.Item.{Item}
 use Rattle.route_tensor.specs.Grid.{ranks}
 use Rattle.port_bank.specs.Machine.{Part, Step, MayBy, after}
-use Rattle.port_bank.specs.Machine.Step.{Idle}
+use Rattle.port_bank.specs.Machine.Step.{Push, Pull, Idle}
 use Rattle.rank_handles.specs.declared.item.BaleItem.{BaleItem}
 use Rattle.rank_handles.specs.declared.answer.Answer.{Answer}
-use Rattle.rank_handles.specs.declared.answer.Answer.TheVariants.{Good, NoSuchRank}
+use Rattle.rank_handles.specs.declared.answer.Answer.TheVariants.{Good, Full, Nothing, More, Near, Complete, NoMemory, NotBegun, BegunAlready, DoneAlready, NoSuchRank, NotComplete, Gone, BadNumbers, InUse, RankTaken, NoMoreEpochs}
 use Rattle.rank_handles.specs.Items.{item_of}
-use Rattle.rank_handles.specs.Answers.{while_working, once_begun}
+use Rattle.rank_handles.specs.Codes.{code_of}
+use Rattle.rank_handles.specs.Answers.{while_working, once_begun, push_answer, pull_result}
 use Rattle.rank_handles.specs.Seated.{Seated, part}
 
 -- One step for each of the first n items, with the rank that stands at the same place.
@@ -46,17 +47,6 @@ pub record Run (steps : List Step) (old new : Seated) : Type 0 where
 unfoldable pub Ran : List Step → Seated → Seated → Type 0
 Ran steps old new = Run steps old new
 
--- Of a handle's rank.
-pub record RunIn (steps : List Step) (old new : Option Seated) : Type 0 where
-  pub before : Seated
-  pub after : Seated
-  pub was : old ≡ Some before
-  pub now : new ≡ Some after
-  pub ran : Ran steps before after
-
-unfoldable pub RanIn : List Step → Option Seated → Option Seated → Type 0
-RanIn steps old new = RunIn steps old new
-
 -- Whether every destination is a rank.
 unfoldable pub all_ranks : ℕ → List ℕ → Bool
 all_ranks n to = list_all (λ r. nat_lt r n) to
@@ -69,12 +59,56 @@ push_many_answer s to = while_working s.state.phase (if all_ranks (ranks s.state
 abbrev pub pull_many_answer : Seated → Answer
 pull_many_answer s = once_begun s.state.phase Good
 
--- The number in an answer that is one.
-abbrev pub count_in : ℤ → ℕ
-count_in (pos n) = n
-count_in (negsuc n) = 0
+-- What a call that moved n items tells, where this is what is wrong, or Good.
+abbrev pub number_or : Answer → ℕ → Result ℕ Answer
+number_or Good n = Ok n
+number_or Full n = Err Full
+number_or Nothing n = Err Nothing
+number_or More n = Err More
+number_or Near n = Err Near
+number_or Complete n = Err Complete
+number_or NoMemory n = Err NoMemory
+number_or NotBegun n = Err NotBegun
+number_or BegunAlready n = Err BegunAlready
+number_or DoneAlready n = Err DoneAlready
+number_or NoSuchRank n = Err NoSuchRank
+number_or NotComplete n = Err NotComplete
+number_or Gone n = Err Gone
+number_or BadNumbers n = Err BadNumbers
+number_or InUse n = Err InUse
+number_or RankTaken n = Err RankTaken
+number_or NoMoreEpochs n = Err NoMoreEpochs
 
 -- How many a call moved: none where something was wrong.
 abbrev pub moved_by : Result ℕ Answer → ℕ
 moved_by (Ok n) = n
 moved_by (Err a) = 0
+
+-- The number that C is told, and how many it says were moved.
+abbrev pub told_of : Result ℕ Answer → ℤ
+told_of (Ok n) = pos n
+told_of (Err a) = code_of a
+
+abbrev pub count_in : ℤ → ℕ
+count_in (pos n) = n
+count_in (negsuc n) = 0
+
+-- A call pushed the first n of these items, as so many single calls, until one found no room. Misuse changes nothing.
+pub record PushingMany (items : List BaleItem) (to : List ℕ) (n : ℕ) (old new : Seated) : Type 0 where
+  pub links : new.seat ≡ old.seat
+  pub misuse : push_many_answer old to ≢ Good → new ≡ old
+  pub pushed : push_many_answer old to ≡ Good → Ran (steps_of Push n items to ++ then_idle n (length items)) old new
+  pub full : push_many_answer old to ≡ Good → n < length items → push_answer new (slice_index_or to n 0) ≡ Full
+
+unfoldable pub PushesMany : List BaleItem → List ℕ → ℕ → Seated → Seated → Type 0
+PushesMany items to n old new = PushingMany items to n old new
+
+-- A call pulled n items to the first of these places, as so many single calls, until there were none or as many as there are places (most).
+pub record PullingMany (most : ℕ) (items : List BaleItem) (from : List ℕ) (n : ℕ) (old new : Seated) : Type 0 where
+  pub links : new.seat ≡ old.seat
+  pub misuse : pull_many_answer old ≢ Good → new ≡ old
+  pub pulled : pull_many_answer old ≡ Good → Ran (steps_of Pull n items from ++ then_idle n most) old new
+  pub none : pull_many_answer old ≡ Good → n < most → pull_result new ≡ Err Nothing
+
+unfoldable pub PullsMany : ℕ → List BaleItem → List ℕ → ℕ → Seated → Seated → Type 0
+PullsMany most items from n old new = PullingMany most items from n old new

@@ -1,4 +1,5 @@
 //! A rank of any capacity and any number of hops.
+ghost use Rattle.std.specs.Prelude.{Some};
 ghost use Rattle.rank_handles.specs.Cases.{seen_by_hops};
 
 use crate::answer::Answer;
@@ -80,13 +81,13 @@ macro_rules! by_capacity {
 }
 
 impl<const CAP: usize> Exchange for HopsCase<CAP> {
-    ghost seen = { seen_by_hops };
+    ghost seen = { λ c. Some (seen_by_hops c) };
 
     fn ranks(&self) -> u32 {
         by_hops!(self, rank, rank.ranks())
     }
 
-    fn phase(&self) -> Phase {
+    fn phase(&self) -> Option<Phase> {
         by_hops!(self, rank, rank.phase())
     }
 
@@ -124,13 +125,13 @@ impl<const CAP: usize> Exchange for HopsCase<CAP> {
 }
 
 impl Exchange for AnyRank {
-    ghost seen = { λ r. r };
+    ghost seen = { λ r. Some r };
 
     fn ranks(&self) -> u32 {
         by_capacity!(&self.case, rank, rank.ranks())
     }
 
-    fn phase(&self) -> Phase {
+    fn phase(&self) -> Option<Phase> {
         by_capacity!(&self.case, rank, rank.phase())
     }
 

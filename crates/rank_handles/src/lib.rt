@@ -8,9 +8,8 @@
 //! |---|---|
 //! | `BaleGroup`, `BaleRank` | the handles: nothing, or a `Part`, which `take` takes out and `put` puts in |
 //! | `make_group`, `make_rank` | a group of these numbers; a rank of a group |
-//! | `begin_on`, `push_on`, `pull_on`, `unpull_on`, `advance_on`, `reset_on` | the conveyor's own calls, each a step of the exchange machine |
-//! | `push_many_on`, `pull_many_on` | as so many single calls |
-//! | `ranks_on`, `phase_on` | how many ranks there are; how far the rank is |
+//! | `Exchange` | the conveyor's own calls, each a step of the exchange machine, one or many at a time |
+//! | `push_number`, `pull_number` | calls of many items, as the number that C is told |
 //!
 //! From the bottom up: a `Rank` of one case and a `Group` of one capacity, with every call tested;
 //! `AnyRank` and `AnyGroup`, whatever their case, by the trait `Exchange`; a `Part`, what a handle
@@ -18,15 +17,14 @@
 //! way there and back); and the handles.
 //!
 //! The definitions, in the order in which to read them: `Codes` (the numbers that C knows),
-//! `Seated` (a rank, and a call that makes a step), `Answers` (when each answer comes), `Grouped`
-//! (a group, and a rank that was just made), `Handles` (what a handle has), `Many` (calls of many
-//! items), `Items`. `Kept`, `Cases`, `GroupCases` and `Holds` are the code's own.
+//! `Seated` (a rank, and a call that makes a step), `Answers` (when each answer comes), `Calls` (what a
+//! call leaves), `Grouped` (a group, and a rank that was just made), `Handles` and `Shown` (what a
+//! handle has), `Many` (calls of many items), `Items`. `Kept`, `Cases`, `GroupCases` and `Holds` are the code's own.
 #![tactic(auto)]
 
 mod answer;
 mod any_group;
 mod any_rank;
-mod calls;
 mod exchange;
 mod group;
 mod handle;
@@ -35,18 +33,17 @@ mod item;
 mod loose;
 mod making;
 mod many;
+mod numbers;
 mod part;
 mod rank;
 
 pub use answer::Answer;
 pub use any_group::AnyGroup;
 pub use any_rank::AnyRank;
-pub use calls::{
-    advance_on, begin_on, phase_on, pull_many_on, pull_on, push_many_on, push_on, ranks_on,
-    reset_on, unpull_on,
-};
+pub use exchange::Exchange;
 pub use handle::{BaleGroup, BaleRank};
 pub use held::Held;
 pub use item::{BaleItem, bale_item_from, item_from};
 pub use making::{make_group, make_rank};
+pub use numbers::{pull_number, push_number};
 pub use part::Part;

@@ -1,5 +1,5 @@
 //! A rank at its bank: its seat and its conveyor, for one capacity and one number of hops.
-ghost use Rattle.std.specs.Prelude.{◌≡◌, ◌≢◌, ℕ, ◌<◌, ◌≤◌, true, false, None, length, IfOk, OnOk, OnErr, slice_index_or, slice_set};
+ghost use Rattle.std.specs.Prelude.{◌≡◌, ◌≢◌, ℕ, ◌<◌, ◌≤◌, true, false, None, Some, length, IfOk, OnOk, OnErr, slice_index_or, slice_set};
 ghost use Rattle.std.specs.Arc.{arc_value};
 ghost use Rattle.route_tensor.specs.Grid.{ranks};
 ghost use Rattle.link_slots.specs.Seen.{posted_on, collected_from};
@@ -89,17 +89,17 @@ impl<const CAP: usize, const HOPS: usize> Rank<CAP, HOPS> {
 }
 
 impl<const CAP: usize, const HOPS: usize> Exchange for Rank<CAP, HOPS> {
-    ghost seen = { λ r. r };
+    ghost seen = { λ r. Some r };
 
     fn ranks(&self) -> u32 {
         self.ranks
     }
 
-    fn phase(&self) -> Phase {
-        self.conveyor.phase()
+    fn phase(&self) -> Option<Phase> {
+        Some(self.conveyor.phase())
     }
 
-    #[tactic(auto, unfolding(crate::specs::Seated::Moved))]
+    #[tactic(auto, unfolding(crate::specs::Seated::Moved, crate::specs::Calls::Begins))]
     fn begin(&mut self) -> Answer {
         match self.conveyor.phase() {
             Phase::Dormant => {
@@ -110,7 +110,7 @@ impl<const CAP: usize, const HOPS: usize> Exchange for Rank<CAP, HOPS> {
         }
     }
 
-    #[tactic(auto, unfolding(crate::specs::Seated::Moved))]
+    #[tactic(auto, unfolding(crate::specs::Seated::Moved, crate::specs::Calls::Pushes))]
     #[inline]
     fn push(&mut self, item: Item, to: u32) -> Answer {
         match self.conveyor.phase() {
@@ -128,6 +128,7 @@ impl<const CAP: usize, const HOPS: usize> Exchange for Rank<CAP, HOPS> {
         }
     }
 
+    #[tactic(auto, unfolding(crate::specs::Calls::Pulls))]
     #[inline]
     fn pull(&mut self) -> Result<(u32, Item), Answer> {
         match self.conveyor.phase() {
@@ -136,7 +137,7 @@ impl<const CAP: usize, const HOPS: usize> Exchange for Rank<CAP, HOPS> {
         }
     }
 
-    #[tactic(auto, unfolding(crate::specs::Seated::Moved))]
+    #[tactic(auto, unfolding(crate::specs::Seated::Moved, crate::specs::Calls::Unpulls))]
     fn unpull(&mut self) -> Answer {
         if self.conveyor.unpull() {
             Answer::Good
@@ -145,6 +146,7 @@ impl<const CAP: usize, const HOPS: usize> Exchange for Rank<CAP, HOPS> {
         }
     }
 
+    #[tactic(auto, unfolding(crate::specs::Calls::Advances))]
     fn advance(&mut self, done: bool) -> Answer {
         if self.conveyor.phase() == Phase::Dormant {
             return Answer::NotBegun;
@@ -165,6 +167,7 @@ impl<const CAP: usize, const HOPS: usize> Exchange for Rank<CAP, HOPS> {
         }
     }
 
+    #[tactic(auto, unfolding(crate::specs::Calls::Resets))]
     fn reset(&mut self) -> Answer {
         match self.conveyor.phase() {
             Phase::Complete => {
@@ -180,6 +183,7 @@ impl<const CAP: usize, const HOPS: usize> Exchange for Rank<CAP, HOPS> {
         }
     }
 
+    #[tactic(auto, unfolding(crate::specs::Many::PushesMany))]
     fn push_many(&mut self, items: &[BaleItem], to: &[u32]) -> Result<usize, Answer> {
         match self.conveyor.phase() {
             Phase::Dormant => return Err(Answer::NotBegun),
@@ -192,6 +196,7 @@ impl<const CAP: usize, const HOPS: usize> Exchange for Rank<CAP, HOPS> {
         Ok(push_while_room(&mut self.conveyor, items, to))
     }
 
+    #[tactic(auto, unfolding(crate::specs::Many::PullsMany))]
     fn pull_many(&mut self, items: &mut [BaleItem], from: &mut [u32]) -> Result<usize, Answer> {
         if self.conveyor.phase() == Phase::Dormant {
             return Err(Answer::NotBegun);

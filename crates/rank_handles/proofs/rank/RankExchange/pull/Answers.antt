@@ -8,7 +8,7 @@ use Rattle.rank_handles.specs.declared.answer.Answer.TheVariants.{Nothing}
 use Rattle.rank_handles.specs.Seated.{Seated, Moved}
 use Rattle.rank_handles.specs.Answers.{item_or_nothing, pull_result}
 use Rattle.rank_handles.specs.Kept.{seat_in}
-use Rattle.rank_handles.proofs.Moves.{at, begun_pull, never_not_begun, pull_moved, seated_still, pulled_phase, pulled_rank, pulled_dims, pulled_epoch, pulled_done}
+use Rattle.rank_handles.proofs.Moves.{at, begun_pull, never_not_begun, pull_moved, pulls_begun, seated_still, pulled_phase, pulled_rank, pulled_dims, pulled_epoch, pulled_done}
 use Rattle.std.specs.Arc.{arc_value}
 use Rattle.rank_handles.proofs.rank.RankExchange.pull.Goals as goal
 
@@ -20,12 +20,10 @@ returns-in_default g c =
     (pull_moved seat old new c.pull.result c.self.invariant.at_bank.agrees c.pull.ensures.step_item c.pull.ensures.step_none
     (ap (λ (z : State). z.phase) is ∙ pulled_phase old l) (ap (λ (z : State). z.rank) is ∙ pulled_rank old l) (ap (λ (z : State). z.dims) is ∙ pulled_dims old l)) in
     let seen = subst (λ (z : Seated). IfOk c.some_item.result (λ p. Moved (Pull p.0 p.1) z.state.phase z (at seat new)) × (c.some_item.result ≡ Err Nothing → Moved Idle z.state.phase z (at seat new))) c.self.view_is both in
+    let value = c.some_item.ensures ∙ (ap item_or_nothing c.pull.ensures.value ∙ (begun_pull old.phase (item_or_nothing (pull_from old l)) begun ∙ ap pull_result c.self.view_is)) in
     record {
-      links = ap (λ (z : Seated). z.seat) c.self.view_is;
-      value = c.some_item.ensures ∙ (ap item_or_nothing c.pull.ensures.value ∙ (begun_pull old.phase (item_or_nothing (pull_from old l)) begun ∙ ap pull_result c.self.view_is));
-      pulled = seen.0;
-      nothing = seen.1;
-      misuse = λ e. absurd (never_not_begun c.pull.result (sym c.some_item.ensures ∙ e));
+      value = value;
+      pulls = pulls_begun c.args.self.now (at seat new) c.some_item.result value (λ e. never_not_begun c.pull.result (sym c.some_item.ensures ∙ e)) (ap (λ (z : Seated). z.seat) c.self.view_is) seen.0 seen.1;
     }
 
 pub invariant_of-self : goal.invariant_of-self

@@ -18,6 +18,7 @@ use Rattle.hop_core.specs.Link.{Out, In, no_out, no_in, is_empty, is_finished, w
 use Rattle.hop_core.specs.State.{State, at_end, ins_of_hop, all_closed, all_read, phase_of, reopened, resumed}
 use Rattle.hop_core.specs.Standing.{IsOut, IsIn, IsKept, CanUnpull}
 use Rattle.hop_core.proofs.Marks.{at_end-later, at_end_other, hop_unfinished}
+use Rattle.hop_core.proofs.Counts.{open_new, open_renewed}
 use Rattle.hop_core.proofs.Standing.{in_written, state_in, in_here, none_some, blank_out, blank_in, none_entry}
 
 -- the phase, by what was found
@@ -56,8 +57,8 @@ none_at_end dims ins done (suc h) g l none p m =
 abbrev pub renewed : State → ℕ → State
 renewed st n = record st { outs = map reopened st.outs; ins = map resumed st.ins; done = false; phase = phase.Dormant; epoch = n; pulled = None }
 
-pub renewed_kept : (st : State) (ends ends' : List Bool) (from n : ℕ) → IsKept st ends from → ends' ≡ replicate 3 false → IsKept (renewed st n) ends' from
-renewed_kept st ends ends' from n k e =
+pub renewed_kept : (st : State) (ends ends' : List Bool) (from count n : ℕ) → IsKept st ends from count → ends' ≡ replicate 3 false → IsKept (renewed st n) ends' from (sum st.dims)
+renewed_kept st ends ends' from count n k e =
     let s = k.standing in
     let no : length (map reopened st.outs) ≡ sum st.dims = length-map st.outs reopened ∙ s.all_outs in
     let ni : length (map resumed st.ins) ≡ sum st.dims = length-map st.ins resumed ∙ s.all_ins in
@@ -86,6 +87,7 @@ renewed_kept st ends ends' from n k e =
           ∙ sym (none_at_end st.dims (map resumed st.ins) false h s.grid ni (λ i q. ap (λ y. y.ended) (x i no_in q)) a b);
       from_low = k.from_low;
       from_high = k.from_high;
+      open_is = sym (open_renewed st.outs ∙ s.all_outs);
       from_none = λ j a w. ap (λ y. is_empty y.parcel) (x j no_in (omega (arith, w, k.from_high))) ∙ k.from_none j a w;
     }
 
@@ -105,7 +107,7 @@ new_state dims r cap steady = record {
 }
 
 pub new_kept : (dims : List ℕ) (r cap : ℕ) (steady : Bool) (ends : List Bool) (from : ℕ) → IsGrid dims → r < ranks dims → IsCap cap → ends ≡ replicate 3 false →
-    from ≡ links_before dims (length dims) → from ≤ sum dims → IsKept (new_state dims r cap steady) ends from
+    from ≡ links_before dims (length dims) → from ≤ sum dims → IsKept (new_state dims r cap steady) ends from (sum dims)
 new_kept dims r cap steady ends from g a is_cap e f low =
     let n = sum dims in
     let no : length (replicate n no_out) ≡ n = length-replicate n no_out in
@@ -129,6 +131,7 @@ new_kept dims r cap steady ends from g a is_cap e f low =
           ∙ sym (none_at_end dims (replicate n no_in) false h g ni (λ i q. ap (λ y. y.ended) (x i no_in q)) p m);
       from_low = omega (arith, f);
       from_high = low;
+      open_is = sym (open_new n);
       from_none = λ j p w. absurd (omega (arith, p, w, f));
     }
 
@@ -141,9 +144,9 @@ back_none : (o : Option Entry) (c : Contents) → IsSome o → (with_back o c).b
 back_none None c s = absurd (false≢true s)
 back_none (Some e) c s = refl
 
-pub unpull_kept : (st : State) (ends : List Bool) (from i : ℕ) (x old : In) → IsKept st ends from → CanUnpull st i → old ≡ get_or st.ins i old →
-    x ≡ record old { parcel = with_back old.parcel.back old.parcel } → length x.parcel.untaken ≤ st.cap → IsKept (in_written st i x None) ends (min from i)
-unpull_kept st ends from i x old k can read wrote fits =
+pub unpull_kept : (st : State) (ends : List Bool) (from count i : ℕ) (x old : In) → IsKept st ends from count → CanUnpull st i → old ≡ get_or st.ins i old →
+    x ≡ record old { parcel = with_back old.parcel.back old.parcel } → length x.parcel.untaken ≤ st.cap → IsKept (in_written st i x None) ends (min from i) count
+unpull_kept st ends from count i x old k can read wrote fits =
     let s = k.standing in
     let here = in_here st i old s can.within read in
     let p : IsIn st.dims st.cap (hop_to st.dims i) old = subst (IsIn st.dims st.cap (hop_to st.dims i)) (sym here) (s.each_in i no_in (omega (arith, s.all_ins, can.within))) in
@@ -163,5 +166,6 @@ unpull_kept st ends from i x old k can read wrote fits =
       ends_each = λ h d a b. k.ends_each h d a b ∙ sym (at_end_other st.dims st.ins st.done i x h can.within (omega arith) b (omega (arith, b, can.last_hop)));
       from_low = omega (arith, low, k.from_low);
       from_high = omega (arith, k.from_high);
+      open_is = k.open_is;
       from_none = λ j a w. ap (λ y. is_empty y.parcel) (get_or-set_other st.ins i j x no_in (omega (arith, w))) ∙ k.from_none j a (omega (arith, w));
     }

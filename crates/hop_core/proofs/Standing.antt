@@ -14,7 +14,7 @@ use Rattle.route_tensor.specs.Neighbour.{hop_to}
 use Rattle.route_tensor.proofs.Neighbours.{hop_to_has, hop_to_is}
 use Rattle.hop_core.specs.Link.{Out, In, no_out, no_in, is_empty, is_due, is_wanted, is_finished}
 use Rattle.hop_core.specs.State.{State, out_at, in_at, at_end, ins_of_hop}
-use Rattle.hop_core.specs.Standing.{IsOut, IsIn, IsState, CanUnpull, IsKept}
+use Rattle.hop_core.specs.Standing.{IsOut, IsIn, IsState, CanUnpull, IsKept, count_open}
 use Rattle.hop_core.proofs.Marks.{at_end_kept, at_end_other, at_end-later, hop_unfinished}
 
 pub none_some : (j : ℕ) → (o : Option ℕ) → o ≡ None → o ≡ Some j → ⊥
@@ -40,14 +40,15 @@ state_out st i o k q p closed = record {
 }
 
 -- what the code keeps besides is untouched by it
-pub kept_out : (st : State) (ends : List Bool) (from i : ℕ) (o : Out) → IsKept st ends from → IsState (out_written st i o) → IsKept (out_written st i o) ends from
-kept_out st ends from i o k s = record {
+pub kept_out : (st : State) (ends : List Bool) (from count count' i : ℕ) (o : Out) → IsKept st ends from count → IsState (out_written st i o) → count' ≡ count_open (set st.outs i o) → IsKept (out_written st i o) ends from count'
+kept_out st ends from count count' i o k s counted = record {
   standing = s;
   ends_all = k.ends_all;
   ends_each = k.ends_each;
   from_low = k.from_low;
   from_high = k.from_high;
   from_none = k.from_none;
+  open_is = counted;
 }
 
 pub none_entry : (e : Entry) (o : Option Entry) → o ≡ None → o ≡ Some e → ⊥
@@ -65,7 +66,7 @@ blank_out dims cap h o e = record {
 }
 
 -- a link that is due isn't closed
-pub due_open : (cap : ℕ) (steady at_end' : Bool) (o : Out) → 0 < cap → (o.closed ≡ true → o.parcel.untaken ≡ []) → is_due cap steady at_end' o ≡ true → o.closed ≡ false
+due_open : (cap : ℕ) (steady at_end' : Bool) (o : Out) → 0 < cap → (o.closed ≡ true → o.parcel.untaken ≡ []) → is_due cap steady at_end' o ≡ true → o.closed ≡ false
 due_open cap steady at_end' o some empty due = false_from_ne_true o.closed (λ c.
     let e : length o.parcel.untaken ≡ 0 = ap length (empty c) in
     let a : eqb (length o.parcel.untaken) cap ≡ false = ne_eqb _ cap (λ z. absurd (omega (arith, e, z, some))) in
@@ -76,6 +77,9 @@ due_open cap steady at_end' o some empty due = false_from_ne_true o.closed (λ c
 
 pub out_fact : (st : State) (i : ℕ) → IsState st → i < sum st.dims → IsOut st.dims st.cap (hop_to st.dims i) (out_at st i)
 out_fact st i k q = k.each_out i no_out (omega (arith, k.all_outs, q))
+
+pub due_here : (st : State) (i : ℕ) → IsState st → i < sum st.dims → is_due st.cap st.steady (at_end st.dims st.ins st.done (hop_to st.dims i)) (out_at st i) ≡ true → (out_at st i).closed ≡ false
+due_here st i k q due = due_open st.cap st.steady _ (out_at st i) k.cap.some (out_fact st i k q).closed_empty due
 
 -- a state in which another link in was written
 abbrev pub in_written : State → ℕ → In → Option ℕ → State

@@ -1,6 +1,7 @@
 -- What holds of a rank's state at every moment.
-use Rattle.std.specs.Prelude.{◌≡◌, ℕ, Bool, true, false, ◌-◌, ◌<◌, ◌≤◌, List, [], length, sum, slice_index_or, Option, Some, IsSome}
-use Rattle.std.specs.List.{All}
+use Rattle.std.specs.Prelude.{◌≡◌, ℕ, Bool, true, false, ◌-◌, ◌<◌, ◌≤◌, not, List, [], length, sum, slice_index_or, Option, Some, IsSome}
+use Rattle.std.specs.Int.{from_bool}
+use Rattle.std.specs.List.{All, sum_by}
 use Rattle.bale_types.specs.declared.item.Entry.{Entry}
 use Rattle.item_buffer.specs.Capacity.{IsCap}
 use Rattle.item_buffer.specs.Contents.{IsFresh}
@@ -45,12 +46,17 @@ pub record IsState (st : State) : Type 0 where
   pub closed_at_end : EachAt (λ i o. o.closed ≡ true → at_end st.dims st.ins st.done (hop_to st.dims i) ≡ true) st.outs
   pub can_unpull : (i : ℕ) → st.pulled ≡ Some i → CanUnpull st i
 
--- What the code keeps besides: which hops have reached their end, and a link below which no link in of the last hop has
--- an entry.
-pub record IsKept (st : State) (ends : List Bool) (from : ℕ) : Type 0 where
+-- How many of some links out are not closed.
+abbrev pub count_open : List Out → ℕ
+count_open outs = sum_by (λ o. from_bool (not o.closed)) outs
+
+-- What the code keeps besides: which hops have reached their end, a link below which no link in of the last hop has an
+-- entry, and how many links out are not closed.
+pub record IsKept (st : State) (ends : List Bool) (from still_open : ℕ) : Type 0 where
   pub standing : IsState st
   pub ends_all : length ends ≡ 3
   pub ends_each : (h : ℕ) (d : Bool) → 2 ≤ h → h ≤ length st.dims → slice_index_or ends (h - 1) d ≡ at_end st.dims st.ins st.done h
   pub from_low : links_before st.dims (length st.dims) ≤ from
   pub from_high : from ≤ sum st.dims
+  pub open_is : still_open ≡ count_open st.outs
   pub from_none : (i : ℕ) → links_before st.dims (length st.dims) ≤ i → i < from → is_empty (in_at st i).parcel ≡ true

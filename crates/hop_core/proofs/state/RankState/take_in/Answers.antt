@@ -17,7 +17,7 @@ invariant_of-self g c =
     let h : c.hop_of-hop.result ≡ hop_to c.self.inside.routes.dims c.args.number = c.hop_of-hop.ensures.value in
     let q = subst (λ (s : State). c.args.number < sum s.dims) (sym c.self.view_is) c.requires.number in
     let last : hop_to c.self.inside.routes.dims c.args.number ≡ length c.self.inside.routes.dims = omega (arith, h, c.self.invariant.0, c.if-hop.true, c.hop_of-hop.ensures.last_hop) in
-    (c.self.invariant.0, rw c.min-self-inside.ensures (in_last_kept _ _ _ _ _ _ k q w c.known.ensures.within c.requires.fresh.none_back f (ap (λ y. y.parcel) c.exchange-finished.ensures.state) last))
+    (c.self.invariant.0, rw c.min-self-inside.ensures (in_last_kept _ _ _ _ _ _ _ k q w c.known.ensures.within c.requires.fresh.none_back f (ap (λ y. y.parcel) c.exchange-finished.ensures.state) last))
 
 pub invariant_of-self-else-not-finished : goal.invariant_of-self-else-not-finished
 invariant_of-self-else-not-finished g c =
@@ -28,7 +28,7 @@ invariant_of-self-else-not-finished g c =
     let q = subst (λ (s : State). c.args.number < sum s.dims) (sym c.self.view_is) c.requires.number in
     let last : hop_to c.self.inside.routes.dims c.args.number ≡ length c.self.inside.routes.dims = omega (arith, h, c.self.invariant.0, c.if-hop.true, c.hop_of-hop.ensures.last_hop) in
     let e : is_empty c.exchange-finished.new.self.parcel ≡ true = (and_parts _ _ (sym c.exchange-finished.ensures.value ∙ c.if-not-finished.false)).1 in
-    (c.self.invariant.0, in_empty_kept _ _ _ _ _ _ k q w c.known.ensures.within c.requires.fresh.none_back f (ap (λ y. y.parcel) c.exchange-finished.ensures.state) last e)
+    (c.self.invariant.0, in_empty_kept _ _ _ _ _ _ _ k q w c.known.ensures.within c.requires.fresh.none_back f (ap (λ y. y.parcel) c.exchange-finished.ensures.state) last e)
 
 pub invariant_of-self-then-finished : goal.invariant_of-self-then-finished
 invariant_of-self-then-finished g c =
@@ -39,7 +39,7 @@ invariant_of-self-then-finished g c =
     let q = subst (λ (s : State). c.args.number < sum s.dims) (sym c.self.view_is) c.requires.number in
     let before : hop_to c.self.inside.routes.dims c.args.number < length c.self.inside.routes.dims = omega (arith, h, c.self.invariant.0, c.if-hop.false) in (
       c.self.invariant.0,
-      rw h (in_ending_kept _ _ _ _ _ _ k q w c.known.ensures.within c.requires.fresh.none_back f (ap (λ y. y.parcel) c.exchange-finished.ensures.state) _ before
+      rw h (in_ending_kept _ _ _ _ _ _ _ k q w c.known.ensures.within c.requires.fresh.none_back f (ap (λ y. y.parcel) c.exchange-finished.ensures.state) _ before
           (c.hop_finished.ensures ∙ ap (λ xs. list_all is_finished (ins_of_hop c.self.inside.routes.dims xs c.hop_of-hop.result)) c.deref.ensures.value ∙ ap (λ j. list_all is_finished (ins_of_hop c.self.inside.routes.dims (set c.self.inside.ins.items c.args.number c.exchange-finished.new.self) j)) h)),
     )
 
@@ -51,4 +51,4 @@ invariant_of-self-else-finished g c =
     let h : c.hop_of-hop.result ≡ hop_to c.self.inside.routes.dims c.args.number = c.hop_of-hop.ensures.value in
     let q = subst (λ (s : State). c.args.number < sum s.dims) (sym c.self.view_is) c.requires.number in
     let before : hop_to c.self.inside.routes.dims c.args.number < length c.self.inside.routes.dims = omega (arith, h, c.self.invariant.0, c.if-hop.false) in
-    (c.self.invariant.0, in_going_kept _ _ _ _ _ _ k q w c.known.ensures.within c.requires.fresh.none_back f (ap (λ y. y.parcel) c.exchange-finished.ensures.state) before (sym c.exchange-finished.ensures.value ∙ c.if-finished.false))
+    (c.self.invariant.0, in_going_kept _ _ _ _ _ _ _ k q w c.known.ensures.within c.requires.fresh.none_back f (ap (λ y. y.parcel) c.exchange-finished.ensures.state) before (sym c.exchange-finished.ensures.value ∙ c.if-finished.false))

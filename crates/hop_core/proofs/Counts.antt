@@ -1,80 +1,102 @@
--- How many links out are not closed, by what is written to them.
-use Rattle.std.proofs.Common.{ℕ, zero, suc, ◌≡◌, ◌+◌, ◌<◌, Bool, true, false, not, ◌&&◌, List, [], ◌∷◌, length, get_or, set, map, replicate, arith, refl, ap}
+-- How many elements of a list fail a test, by what is written to them.
+use Rattle.std.proofs.Common.{ℕ, zero, suc, ◌≡◌, ◌+◌, ◌<◌, Bool, true, false, not, ◌&&◌, List, [], ◌∷◌, length, get_or, set, arith, refl, sym, ap, ◌∙◌}
 use Rattle.std.specs.Int.{from_bool}
+use Rattle.std.specs.List.{list_all}
+use Rattle.std.proofs.lemmas.Bool.{false_from_ne_true, false≢true}
 use Rattle.std.proofs.lemmas.List.Sums.{sum_by-set, sum_by-cons, get_or-le-sum_by}
-use Rattle.hop_core.specs.Link.{Out, no_out}
-use Rattle.hop_core.specs.State.{all_closed, reopened}
-use Rattle.hop_core.specs.Standing.{count_open}
-
-abbrev is_open : Out → ℕ
-is_open o = from_bool (not o.closed)
-
-written : (outs : List Out) (i : ℕ) (o : Out) → i < length outs → count_open (set outs i o) + is_open (get_or outs i no_out) ≡ count_open outs + is_open o
-written outs i o q = sum_by-set is_open outs i o no_out q
+use Rattle.hop_core.specs.Link.{In, no_in, is_empty, is_finished}
+use Rattle.hop_core.specs.Standing.{failing}
 
 as_one : (b : Bool) → from_bool (not b) + from_bool b ≡ 1
 as_one true = refl
 as_one false = refl
 
--- an open link is closed, or stays open
-pub open_closed : (outs : List Out) (i : ℕ) (o : Out) (last : Bool) → i < length outs → (get_or outs i no_out).closed ≡ false → o.closed ≡ last → count_open (set outs i o) + from_bool last ≡ count_open outs
-open_closed outs i o last q was now =
-    let w : is_open (get_or outs i no_out) ≡ 1 = ap (λ b. from_bool (not b)) was in
-    let n : is_open o ≡ from_bool (not last) = ap (λ b. from_bool (not b)) now in
-    omega (arith, written outs i o q, w, n, as_one last)
-
--- a link is open from then on
-pub open_again : (outs : List Out) (i : ℕ) (o : Out) → i < length outs → o.closed ≡ false → count_open (set outs i o) ≡ count_open outs + from_bool (get_or outs i no_out).closed
-open_again outs i o q now =
-    let n : is_open o ≡ 1 = ap (λ b. from_bool (not b)) now in
-    omega (arith, written outs i o q, n, as_one (get_or outs i no_out).closed)
-
--- an open link is one of them
-pub open_some : (outs : List Out) (i : ℕ) → i < length outs → (get_or outs i no_out).closed ≡ false → 0 < count_open outs
-open_some outs i q was =
-    let w : is_open (get_or outs i no_out) ≡ 1 = ap (λ b. from_bool (not b)) was in
-    omega (arith, get_or-le-sum_by is_open outs i no_out q, w)
-
 pub one_each : (b : Bool) → from_bool b < 2
 one_each true = omega arith
 one_each false = omega arith
 
-pub open_most : (outs : List Out) → count_open outs < length outs + 1
-open_most [] = omega arith
-open_most (o ∷ outs) = omega (arith, sum_by-cons is_open o outs, one_each (not o.closed), open_most outs)
-
--- of new links
-pub open_new : (n : ℕ) → count_open (replicate n no_out) ≡ n
-open_new zero = refl
-open_new (suc n) = let e : is_open no_out ≡ 1 = refl in omega (arith, sum_by-cons is_open no_out (replicate n no_out), e, open_new n)
-
-pub open_renewed : (outs : List Out) → count_open (map reopened outs) ≡ length outs
-open_renewed [] = refl
-open_renewed (o ∷ outs) = let e : is_open (reopened o) ≡ 1 = refl in omega (arith, sum_by-cons is_open (reopened o) (map reopened outs), e, open_renewed outs)
-
--- of links that are open or closed as before
-pub open_same : (outs' outs : List Out) → length outs' ≡ length outs → ((i : ℕ) → (get_or outs' i no_out).closed ≡ (get_or outs i no_out).closed) → count_open outs' ≡ count_open outs
-open_same [] [] n same = refl
-open_same [] (o ∷ outs) n same = absurd (omega (arith, n))
-open_same (o' ∷ outs') [] n same = absurd (omega (arith, n))
-open_same (o' ∷ outs') (o ∷ outs) n same =
-    let e : is_open o' ≡ is_open o = ap (λ b. from_bool (not b)) (same 0) in
-    omega (arith, sum_by-cons is_open o' outs', sum_by-cons is_open o outs, e, open_same outs' outs (omega (arith, n)) (λ i. same (suc i)))
-
--- where there is none, all are closed
 none_both : (b c : Bool) (n : ℕ) → from_bool (not b) + n ≡ 0 → (n ≡ 0 → c ≡ true) → (b && c) ≡ true
 none_both true c n none rest = rest (omega (arith, none))
 none_both false c n none rest = absurd (omega (arith, none))
 
-pub open_none : (outs : List Out) → count_open outs ≡ 0 → all_closed outs ≡ true
-open_none [] none = refl
-open_none (o ∷ outs) none = none_both o.closed (all_closed outs) (count_open outs) (omega (arith, none, sum_by-cons is_open o outs)) (open_none outs)
-
--- where there is one, not all are
 some_one : (b c : Bool) (n : ℕ) → 0 < from_bool (not b) + n → (0 < n → c ≡ false) → (b && c) ≡ false
 some_one true c n some rest = rest (omega (arith, some))
 some_one false c n some rest = refl
 
-pub open_more : (outs : List Out) → 0 < count_open outs → all_closed outs ≡ false
-open_more [] some = absurd (omega (arith, some))
-open_more (o ∷ outs) some = some_one o.closed (all_closed outs) (count_open outs) (omega (arith, some, sum_by-cons is_open o outs)) (open_more outs)
+module _ {X : Type 0} (test : X → Bool) where
+  written : (xs : List X) (i : ℕ) (x d : X) → i < length xs → failing test (set xs i x) + from_bool (not (test (get_or xs i d))) ≡ failing test xs + from_bool (not (test x))
+  written xs i x d q = sum_by-set (λ y. from_bool (not (test y))) xs i x d q
+
+  more : (x : X) (xs : List X) → failing test (x ∷ xs) ≡ from_bool (not (test x)) + failing test xs
+  more x xs = sum_by-cons (λ y. from_bool (not (test y))) x xs
+
+  -- an element that failed passes, or fails still
+  pub passes_if : (xs : List X) (i : ℕ) (x d : X) (b : Bool) → i < length xs → test (get_or xs i d) ≡ false → test x ≡ b → failing test (set xs i x) + from_bool b ≡ failing test xs
+  passes_if xs i x d b q was now =
+      let w : from_bool (not (test (get_or xs i d))) ≡ 1 = ap (λ b. from_bool (not b)) was in
+      let n : from_bool (not (test x)) ≡ from_bool (not b) = ap (λ b. from_bool (not b)) now in
+      omega (arith, written xs i x d q, w, n, as_one b)
+
+  -- an element fails from then on
+  pub fails_now : (xs : List X) (i : ℕ) (x d : X) → i < length xs → test x ≡ false → failing test (set xs i x) ≡ failing test xs + from_bool (test (get_or xs i d))
+  fails_now xs i x d q now =
+      let n : from_bool (not (test x)) ≡ 1 = ap (λ b. from_bool (not b)) now in
+      omega (arith, written xs i x d q, n, as_one (test (get_or xs i d)))
+
+  -- an element passes or fails as before
+  pub as_before : (xs : List X) (i : ℕ) (x d : X) → i < length xs → test x ≡ test (get_or xs i d) → failing test (set xs i x) ≡ failing test xs
+  as_before xs i x d q same =
+      let n : from_bool (not (test x)) ≡ from_bool (not (test (get_or xs i d))) = ap (λ b. from_bool (not b)) same in
+      omega (arith, written xs i x d q, n)
+
+  pub some_fails : (xs : List X) (i : ℕ) (d : X) → i < length xs → test (get_or xs i d) ≡ false → 0 < failing test xs
+  some_fails xs i d q was =
+      let w : from_bool (not (test (get_or xs i d))) ≡ 1 = ap (λ b. from_bool (not b)) was in
+      omega (arith, get_or-le-sum_by (λ y. from_bool (not (test y))) xs i d q, w)
+
+  pub most_fail : (xs : List X) → failing test xs < length xs + 1
+  most_fail [] = omega arith
+  most_fail (x ∷ xs) = omega (arith, more x xs, one_each (not (test x)), most_fail xs)
+
+  pub all_fail : (xs : List X) (d : X) → ((i : ℕ) → i < length xs → test (get_or xs i d) ≡ false) → failing test xs ≡ length xs
+  all_fail [] d each = refl
+  all_fail (x ∷ xs) d each =
+      let w : from_bool (not (test x)) ≡ 1 = ap (λ b. from_bool (not b)) (each 0 (omega arith)) in
+      omega (arith, more x xs, w, all_fail xs d (λ i q. each (suc i) (omega (arith, q))))
+
+  pub same_fail : (ys xs : List X) (d : X) → length ys ≡ length xs → ((i : ℕ) → test (get_or ys i d) ≡ test (get_or xs i d)) → failing test ys ≡ failing test xs
+  same_fail [] [] d n same = refl
+  same_fail [] (x ∷ xs) d n same = absurd (omega (arith, n))
+  same_fail (y ∷ ys) [] d n same = absurd (omega (arith, n))
+  same_fail (y ∷ ys) (x ∷ xs) d n same =
+      let e : from_bool (not (test y)) ≡ from_bool (not (test x)) = ap (λ b. from_bool (not b)) (same 0) in
+      omega (arith, more y ys, more x xs, e, same_fail ys xs d (omega (arith, n)) (λ i. same (suc i)))
+
+  pub none_fails : (xs : List X) → failing test xs ≡ 0 → list_all test xs ≡ true
+  none_fails [] none = refl
+  none_fails (x ∷ xs) none = none_both (test x) (list_all test xs) (failing test xs) (omega (arith, none, more x xs)) (none_fails xs)
+
+  pub not_all_pass : (xs : List X) → 0 < failing test xs → list_all test xs ≡ false
+  not_all_pass [] some = absurd (omega (arith, some))
+  not_all_pass (x ∷ xs) some = some_one (test x) (list_all test xs) (failing test xs) (omega (arith, some, more x xs)) (not_all_pass xs)
+
+-- links that have ended and are empty are finished
+both_true : (a b c d : Bool) → (a && c) ≡ true → b ≡ true → (c ≡ true → d ≡ true) → ((a && b) && d) ≡ true
+both_true true true c d t e rest = rest t
+both_true true false c d t e rest = absurd (false≢true e)
+both_true false b c d t e rest = absurd (false≢true t)
+
+pub ended_finished : (ins : List In) → list_all (λ x. x.ended) ins ≡ true → ((i : ℕ) → i < length ins → is_empty (get_or ins i no_in).parcel ≡ true) → list_all is_finished ins ≡ true
+ended_finished [] all empty = refl
+ended_finished (x ∷ xs) all empty =
+    both_true x.ended (is_empty x.parcel) (list_all (λ y. y.ended) xs) (list_all is_finished xs) all (empty 0 (omega arith)) (λ t. ended_finished xs t (λ i q. empty (suc i) (omega (arith, q))))
+
+-- and those that have not all ended aren't
+one_false : (a b c d : Bool) → (a && c) ≡ false → (c ≡ false → d ≡ false) → ((a && b) && d) ≡ false
+one_false true true c d f rest = rest f
+one_false true false c d f rest = refl
+one_false false b c d f rest = refl
+
+pub coming_unfinished : (ins : List In) → list_all (λ x. x.ended) ins ≡ false → list_all is_finished ins ≡ false
+coming_unfinished [] f = f
+coming_unfinished (x ∷ xs) f = one_false x.ended (is_empty x.parcel) (list_all (λ y. y.ended) xs) (list_all is_finished xs) f (coming_unfinished xs)

@@ -129,10 +129,12 @@ impl<const CAP: usize, const HOPS: usize> RankState<CAP, HOPS> {
         self.pulled = None;
         let hop = hop_of::<HOPS>(&self.routes, number);
         parcel.known();
+        let last = parcel.last();
         let finished = self.ins[number as usize].exchange(parcel);
         parcel.clear();
         parcel.set_epoch(self.epoch);
         if hop as usize >= HOPS {
+            self.still_coming -= u32::from(last);
             if !finished {
                 self.from = self.from.min(number);
             }

@@ -60,6 +60,13 @@ impl<const CAP: usize, const HOPS: usize> RankState<CAP, HOPS> {
         if self.still_open > 0 {
             return Phase::Endgame;
         }
+        if self.still_coming > 0 {
+            return Phase::Cleanup;
+        }
+        // Below `from` no link in has an entry: most often that is all of them.
+        if self.from >= self.routes.neighbours() {
+            return Phase::Complete;
+        }
         if !hop_finished(&self.routes, &self.ins, HOPS as u32) {
             return Phase::Cleanup;
         }
@@ -86,6 +93,7 @@ impl<const CAP: usize, const HOPS: usize> RankState<CAP, HOPS> {
         let ends = [false; 3];
         self.ends = ends;
         self.still_open = self.routes.neighbours();
+        self.still_coming = self.routes.neighbours() - self.routes.first_of(HOPS as u32);
         self.phase = Phase::Dormant;
         self.epoch += 1;
     }

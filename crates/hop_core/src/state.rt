@@ -35,6 +35,8 @@ pub struct RankState<const CAP: usize, const HOPS: usize> {
     pub(crate) from: u32,
     /// How many links out are not closed.
     pub(crate) still_open: u32,
+    /// How many links in of the last hop have not ended.
+    pub(crate) still_coming: u32,
     /// The link in from which the latest call pulled.
     pub(crate) pulled: Option<u32>,
 }
@@ -71,7 +73,7 @@ impl<const CAP: usize, const HOPS: usize> Model for RankState<CAP, HOPS> {
       phase = t.phase;
       epoch = t.epoch;
       pulled = t.pulled;
-    }) t.ends t.from t.still_open };
+    }) t.ends t.from t.still_open t.still_coming };
 }
 
 impl<const CAP: usize, const HOPS: usize> RankState<CAP, HOPS> {
@@ -110,6 +112,7 @@ impl<const CAP: usize, const HOPS: usize> RankState<CAP, HOPS> {
             epoch: 0,
             from,
             still_open: neighbours,
+            still_coming: neighbours - from,
             pulled: None,
         })
     }

@@ -9,7 +9,6 @@ use Rattle.std.proofs.lemmas.Option.{same_Some, slice_get_within, slice_get-get_
 use Rattle.list_laws.proofs.Lists.{all_get}
 use Rattle.bale_types.specs.declared.item.Entry.{Entry}
 use Rattle.bale_types.specs.declared.item.Item.{Item}
-use Rattle.item_buffer.specs.Contents.{Contents}
 use Rattle.route_tensor.specs.Neighbour.{hop_to, neighbour}
 use Rattle.route_tensor.specs.Tag.{IsFair, sender_of}
 use Rattle.hop_core.specs.Link.{In, no_in, is_empty, with_first_taken, read_on}

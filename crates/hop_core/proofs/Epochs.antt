@@ -7,7 +7,7 @@ use Rattle.std.proofs.lemmas.List.{length-map, length-replicate, get_or-map, get
 use Rattle.std.proofs.lemmas.List.Elements.{All-cons}
 use Rattle.bale_types.specs.declared.item.Entry.{Entry}
 use Rattle.item_buffer.specs.Capacity.{IsCap}
-use Rattle.item_buffer.specs.Contents.{Contents, blank}
+use Rattle.item_buffer.specs.Contents.{Contents}
 use Rattle.route_tensor.specs.Grid.{IsGrid, ranks, dim}
 use Rattle.route_tensor.specs.Link.{links_before}
 use Rattle.route_tensor.specs.Neighbour.{hop_to}

@@ -2,7 +2,6 @@
 use Rattle.std.proofs.Common.{ℕ, ◌≡◌, ◌+◌, ◌-◌, ◌<◌, ◌≤◌, ◌⊎◌, Bool, true, false, List, [], length, drop, get_or, set, sum, Option, Some, None, arith, refl, sym, ap, subst, ◌∙◌, inl, inr, eqb, not, ◌&&◌}
 use Rattle.std.specs.Int.{from_bool}
 use Rattle.std.specs.List.{list_all}
-use Rattle.std.specs.Option.{IsSome}
 use Rattle.std.proofs.lemmas.List.{length-set, get_or-set_same, get_or-set_other, get_or_default, take_all, length-drop, get_or-drop, drop-set-lt, drop-set-add}
 use Rattle.std.proofs.lemmas.Bool.{cases_eq, cases_lt, false≢true, false_from_ne_true, ne_eqb, eq-eqb, not_from_true, or_from, and_right, and_parts, not-true}
 use Rattle.list_laws.proofs.Lists.{each_set}

@@ -6,7 +6,6 @@ use Rattle.std.proofs.lemmas.List.{get_or-take, get_or-drop, length-take, length
 use Rattle.std.proofs.lemmas.Option.{same_Some}
 use Rattle.bale_types.specs.declared.item.Entry.{Entry}
 use Rattle.bale_types.specs.declared.item.Item.{Item}
-use Rattle.item_buffer.specs.Contents.{Contents}
 use Rattle.route_tensor.specs.Grid.{dim, IsGrid}
 use Rattle.route_tensor.specs.Link.{links_before}
 use Rattle.route_tensor.specs.Neighbour.{neighbour, hop_to}

@@ -1,5 +1,5 @@
 -- What holds of a rank's state at every moment.
-use Rattle.std.specs.Prelude.{◌≡◌, ℕ, Bool, true, false, ◌-◌, ◌<◌, ◌≤◌, not, List, [], length, drop, sum, slice_index_or, Option, Some, IsSome}
+use Rattle.std.specs.Prelude.{◌≡◌, ℕ, Bool, true, ◌-◌, ◌<◌, ◌≤◌, not, List, [], length, drop, sum, slice_index_or, Some, IsSome}
 use Rattle.std.specs.Int.{from_bool}
 use Rattle.std.specs.List.{All, sum_by}
 use Rattle.bale_types.specs.declared.item.Entry.{Entry}
@@ -11,7 +11,7 @@ use Rattle.route_tensor.specs.Link.{links_before}
 use Rattle.route_tensor.specs.Neighbour.{hop_to}
 use Rattle.route_tensor.specs.Tag.{IsFair}
 use Rattle.hop_core.specs.Link.{Out, In, is_empty}
-use Rattle.hop_core.specs.State.{State, out_at, in_at, at_end}
+use Rattle.hop_core.specs.State.{State, in_at, at_end}
 
 -- A link out of hop h: its open parcel is fresh, holds at most its capacity, and every entry has a tag that is fair
 -- there; a closed one is empty.

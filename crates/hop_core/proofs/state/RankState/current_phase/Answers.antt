@@ -1,4 +1,4 @@
-use Rattle.std.proofs.Common.{◌≡◌, ◌∙◌, ◌+◌, ◌<◌, ◌≤◌, true, false, sym, ap, length, drop, get_or, sum, arith}
+use Rattle.std.proofs.Common.{◌∙◌, ◌+◌, ◌≤◌, sym, ap, length, drop, sum, arith}
 use Rattle.std.specs.List.{list_all}
 use Rattle.std.proofs.lemmas.List.{length-drop, get_or-drop}
 use Rattle.route_tensor.specs.Link.{links_before}

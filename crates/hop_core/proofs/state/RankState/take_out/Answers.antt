@@ -1,4 +1,4 @@
-use Rattle.std.proofs.Common.{◌≡◌, ◌∙◌, ◌<◌, ◌≤◌, ◌-◌, true, sym, ap, subst, sum, arith, length}
+use Rattle.std.proofs.Common.{◌≡◌, ◌<◌, ◌-◌, true, sym, ap, subst, sum, arith}
 use Rattle.hop_core.specs.Link.{Out, no_out, is_due}
 use Rattle.route_tensor.specs.Neighbour.{hop_to}
 use Rattle.hop_core.specs.State.{State, out_at, at_end}

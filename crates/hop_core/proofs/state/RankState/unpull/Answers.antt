@@ -1,4 +1,4 @@
-use Rattle.std.proofs.Common.{ap, ◌∙◌, ◌<◌, arith, length}
+use Rattle.std.proofs.Common.{◌<◌, arith, length}
 use Rattle.hop_core.proofs.Epochs.{unpull_kept}
 use Rattle.hop_core.proofs.state.RankState.unpull.Goals as goal
 

@@ -1,6 +1,6 @@
 -- The exchange law. A call changes one rank's part; what it pulls stands next in what its sender pushed, since items
 -- arrive in order; and where it completes, its last links have ended, so that all senders are through.
-use Rattle.std.proofs.Common.{◌≡◌, ◌≢◌, ℕ, zero, suc, ◌+◌, ◌-◌, ◌<◌, ◌≤◌, ◌==◌, ◌&&◌, Bool, true, false, cond, List, [], ◌∷◌, ◌++◌, length, slice_get, Some, inl, inr, refl, sym, ap, subst, ◌∙◌, arith, eq-eqb, ne_eqb, eqb-true, length-append}
+use Rattle.std.proofs.Common.{◌≡◌, ◌≢◌, ℕ, zero, suc, ◌+◌, ◌-◌, ◌<◌, ◌≤◌, ◌==◌, Bool, true, false, cond, List, [], ◌∷◌, ◌++◌, length, slice_get, Some, inl, inr, refl, sym, ap, subst, ◌∙◌, arith, ne_eqb, eqb-true}
 use Rattle.std.proofs.lemmas.Bool.{cases_eq}
 use Rattle.bale_types.specs.declared.item.Item.{Item}
 use Rattle.item_buffer.specs.Contents.{Shipped}
@@ -11,13 +11,12 @@ use Rattle.port_bank.specs.Logs.{Logs, lasts, starting_at, ending_at, starting_e
 use Rattle.port_bank.specs.Flow.{hop_link, flow}
 use Rattle.list_laws.specs.Lists.{Begins}
 use Rattle.route_tensor.specs.Pair.{PassesThrough}
-use Rattle.list_laws.proofs.Lists.{get_before, get_last}
 use Rattle.port_bank.proofs.Fronts.{begins_trans}
 use Rattle.port_bank.proofs.Segments.{lasts_begins}
 use Rattle.port_bank.proofs.Kept.{between}
 use Rattle.port_bank.proofs.Routes.{link-on_route}
 use Rattle.port_bank.proofs.Pipeline.{Keeps, arrives_in_order, arrives_whole}
-use Rattle.port_bank.specs.Machine.{Part, ItemLists, with_item, for_ranks, Step, MayComplete, NamesRank, Allows, IsOwnStep, IsStep, completed_of, done_of, EpochsClose}
+use Rattle.port_bank.specs.Machine.{Part, ItemLists, for_ranks, Step, MayComplete, NamesRank, Allows, IsOwnStep, IsStep, completed_of, done_of, EpochsClose}
 use Rattle.port_bank.specs.Machine.Step.{Push, Pull, Unpull, Done, Complete, Reset, Idle}
 use Rattle.convey.specs.Buffers.{Buffers}
 use Rattle.convey.specs.Agreement.{Agrees}

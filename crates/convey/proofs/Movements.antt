@@ -20,7 +20,7 @@ use Rattle.hop_core.specs.State.{State, phase_of}
 use Rattle.hop_core.specs.Standing.{IsState}
 use Rattle.convey.specs.Buffers.{out_of, in_of, is_complete, buffers_of}
 use Rattle.convey.specs.Agreement.{Agrees}
-use Rattle.convey.specs.Due.{Wants, IsOver, WasServed, NextIs, SentFull, WasFull, HeldUp, IsBlocked}
+use Rattle.convey.specs.Due.{Wants, IsOver, WasServed, NextIs, WasFull, HeldUp, IsBlocked}
 use Rattle.convey.specs.Parts.{part_of}
 use Rattle.convey.specs.Way.{IsReady, GoesOn, PassedOn, WasAsked, WasPosted, MovesOn, HasServed, at_rest}
 use Rattle.convey.proofs.Moves.{forget_agrees, marks_agree}

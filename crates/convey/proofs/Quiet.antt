@@ -19,7 +19,7 @@ use Rattle.convey.specs.Buffers.{out_of, in_of, buffers_of}
 use Rattle.convey.specs.Agreement.{Agrees}
 use Rattle.convey.specs.Arrived.{HasArrived}
 use Rattle.convey.specs.Due.{Wants, IsOver}
-use Rattle.convey.specs.Rest.{IsBusy, HasBusy, IsAtRest, IsRestingSweep}
+use Rattle.convey.specs.Rest.{IsBusy, HasBusy, IsRestingSweep}
 use Rattle.convey.proofs.OneRank.{starting-own, ending-own}
 use Rattle.convey.proofs.Blocks.{HasNext, has_next}
 

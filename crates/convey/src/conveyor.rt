@@ -6,7 +6,7 @@ ghost use Rattle.route_tensor.specs.Link.{links};
 ghost use Rattle.route_tensor.specs.Ends.{hop_at, sender_at, reader_at};
 ghost use Rattle.list_laws.specs.Lists.{Begins};
 ghost use Rattle.hop_core.specs.Link.{no_out, no_in};
-ghost use Rattle.hop_core.specs.State.{all_closed, phase_of, in_at, lowest_unread, pull_from, pulled_from, pulls, unpulled, with_pushed, reopened, resumed};
+ghost use Rattle.hop_core.specs.State.{phase_of, in_at, lowest_unread, pull_from, pulled_from, pulls, unpulled, with_pushed, reopened, resumed};
 ghost use Rattle.route_tensor.specs.Neighbour.{hop_to, neighbour};
 ghost use Rattle.route_tensor.specs.Tag.{IsFair, sender_of};
 ghost use Rattle.std.specs.List.{All};
@@ -297,17 +297,12 @@ impl<const CAP: usize, const HOPS: usize> Conveyor<CAP, HOPS> {
 /// Settles the phase and answers it.
 fn settle<const CAP: usize, const HOPS: usize>(state: &mut RankState<CAP, HOPS>) -> Progress
     requires begun { state.old.phase ≢ Phase.Dormant }
-    requires sent { state.old.phase ≡ Phase.Cleanup → all_closed state.old.outs ≡ true }
     ensures state { state.new ≡ record state.old { phase = phase_of state.old; pulled = None } }
     ensures value { result ≡ progress_of state.new.phase }
     ensures standing { IsState state.new }
     ensures cap { state.new.cap ≡ CAP }
 {
-    let phase = if state.phase() == Phase::Cleanup {
-        state.settle_closed()
-    } else {
-        state.settle()
-    };
+    let phase = state.settle();
     state.known();
     progress(phase)
 }

@@ -9,7 +9,6 @@ use Rattle.std.proofs.lemmas.Option.{same_Some, slice_get_within, slice_get-get_
 use Rattle.list_laws.proofs.Lists.{all_get}
 use Rattle.bale_types.specs.declared.item.Entry.{Entry}
 use Rattle.bale_types.specs.declared.item.Item.{Item}
-use Rattle.item_buffer.specs.Contents.{Contents}
 use Rattle.route_tensor.specs.Neighbour.{hop_to, neighbour}
 use Rattle.route_tensor.specs.Tag.{IsFair, sender_of}
 use Rattle.hop_core.specs.Link.{In, no_in, is_empty, with_first_taken, read_on}
@@ -25,8 +24,8 @@ some_left [] h = absurd (false≢true (sym h))
 some_left (x ∷ xs) h = omega arith
 
 -- nothing is unread below the place from which the code looks
-not_below : (st : State) (ends : List Bool) (from i : ℕ) → IsKept st ends from → Unread st i → from ≤ i
-not_below st ends from i k u = elim (cases_lt i from) [
+not_below : (st : State) (ends : List Bool) (from count coming i : ℕ) → IsKept st ends from count coming → Unread st i → from ≤ i
+not_below st ends from count coming i k u = elim (cases_lt i from) [
   | inl below ↦ absurd (false≢true (sym u.some ∙ k.from_none i u.low below))
   | inr above ↦ above
 ]
@@ -162,9 +161,9 @@ all_but : (n : ℕ) → 0 < n → (m : ℕ) × (n ≡ suc m)
 all_but zero h = absurd (omega (arith, h))
 all_but (suc m) h = (m, refl)
 
-pub batch_kept : (v s : State) (ends : List Bool) (from i : ℕ) (x x' : In) → v ≡ s → IsKept v ends from → lowest_unread s ≡ Some i → x ≡ get_or v.ins i x
-    → x' ≡ read_on (length x.parcel.untaken) x → IsKept (in_written v i x' (Some i)) ends i
-batch_kept v s ends from i x x' view k low read wrote =
+pub batch_kept : (v s : State) (ends : List Bool) (from count coming i : ℕ) (x x' : In) → v ≡ s → IsKept v ends from count coming → lowest_unread s ≡ Some i → x ≡ get_or v.ins i x
+    → x' ≡ read_on (length x.parcel.untaken) x → IsKept (in_written v i x' (Some i)) ends i count coming
+batch_kept v s ends from count coming i x x' view k low read wrote =
     let s' = k.standing in
     let low' : lowest_unread v ≡ Some i = ap lowest_unread view ∙ low in
     let u = unread_at v i s' low' in
@@ -175,9 +174,9 @@ batch_kept v s ends from i x x' view k low read wrote =
     let n : m.0 < length (in_at v i).parcel.untaken = omega (arith, m.1, ap (λ y. length y.parcel.untaken) here) in
     let a = after_state v i s' low' m.0 n in
     let z : i < length v.ins = omega (arith, u.high, s'.all_ins) in
-    subst (λ y. IsKept (in_written v i y (Some i)) ends i) (sym is)
-    (taken_kept v ends from i (read_on (suc m.0) (in_at v i)) k (not_below v ends from i k u) u.high (λ j p q. u.none j (omega (arith, p, k.from_low)) q)
-    (read_in v i s' low' m.0 n) (read_back v i s' low' m.0 n))
+    subst (λ y. IsKept (in_written v i y (Some i)) ends i count coming) (sym is)
+    (taken_kept v ends from count coming i (read_on (suc m.0) (in_at v i)) k (not_below v ends from count coming i k u) u.high (λ j p q. u.none j (omega (arith, p, k.from_low)) q)
+    (read_in v i s' low' m.0 n) (read_back v i s' low' m.0 n) refl)
 
 pub batch_state : (v s : State) (i : ℕ) (x x' : In) → v ≡ s → IsState v → lowest_unread s ≡ Some i → x ≡ get_or v.ins i x → x' ≡ read_on (length x.parcel.untaken) x
     → in_written v i x' (Some i) ≡ pulls (length (in_at s i).parcel.untaken) s

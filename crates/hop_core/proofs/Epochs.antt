@@ -1,13 +1,13 @@
 -- The phase by what was found, and what a reset leaves.
-use Rattle.std.proofs.Common.{ℕ, zero, suc, ◌≡◌, ◌+◌, ◌-◌, ◌<◌, ◌≤◌, Bool, true, false, ◌&&◌, List, length, get_or, map, replicate, sum, min, Option, Some, None, arith, refl, sym, ap, subst, ◌∙◌, inl}
+use Rattle.std.proofs.Common.{ℕ, zero, suc, ◌≡◌, ◌+◌, ◌-◌, ◌<◌, ◌≤◌, Bool, true, false, ◌&&◌, List, length, drop, get_or, map, replicate, sum, min, Option, Some, None, arith, refl, sym, ap, subst, ◌∙◌, inl}
 use Rattle.std.specs.List.{All, list_all}
 use Rattle.std.specs.Option.{IsSome}
 use Rattle.std.proofs.lemmas.Bool.{cond-true, cond-false, false≢true, not_from_true, not_from_false}
-use Rattle.std.proofs.lemmas.List.{length-map, length-replicate, get_or-map, get_or-replicate, get_or-set_other}
+use Rattle.std.proofs.lemmas.List.{length-map, length-replicate, get_or-map, get_or-replicate, get_or-set_other, get_or-drop, length-drop}
 use Rattle.std.proofs.lemmas.List.Elements.{All-cons}
 use Rattle.bale_types.specs.declared.item.Entry.{Entry}
 use Rattle.item_buffer.specs.Capacity.{IsCap}
-use Rattle.item_buffer.specs.Contents.{Contents, blank}
+use Rattle.item_buffer.specs.Contents.{Contents}
 use Rattle.route_tensor.specs.Grid.{IsGrid, ranks, dim}
 use Rattle.route_tensor.specs.Link.{links_before}
 use Rattle.route_tensor.specs.Neighbour.{hop_to}
@@ -18,7 +18,8 @@ use Rattle.hop_core.specs.Link.{Out, In, no_out, no_in, is_empty, is_finished, w
 use Rattle.hop_core.specs.State.{State, at_end, ins_of_hop, all_closed, all_read, phase_of, reopened, resumed}
 use Rattle.hop_core.specs.Standing.{IsOut, IsIn, IsKept, CanUnpull}
 use Rattle.hop_core.proofs.Marks.{at_end-later, at_end_other, hop_unfinished}
-use Rattle.hop_core.proofs.Standing.{in_written, state_in, in_here, none_some, blank_out, blank_in, none_entry}
+use Rattle.hop_core.proofs.Counts.{all_fail}
+use Rattle.hop_core.proofs.Standing.{coming_kept, in_written, state_in, in_here, none_some, blank_out, blank_in, none_entry}
 
 -- the phase, by what was found
 pub phase_working : (st : State) → st.done ≡ false → phase_of st ≡ phase.Working
@@ -56,9 +57,11 @@ none_at_end dims ins done (suc h) g l none p m =
 abbrev pub renewed : State → ℕ → State
 renewed st n = record st { outs = map reopened st.outs; ins = map resumed st.ins; done = false; phase = phase.Dormant; epoch = n; pulled = None }
 
-pub renewed_kept : (st : State) (ends ends' : List Bool) (from n : ℕ) → IsKept st ends from → ends' ≡ replicate 3 false → IsKept (renewed st n) ends' from
-renewed_kept st ends ends' from n k e =
+pub renewed_kept : (st : State) (ends ends' : List Bool) (from count coming count' coming' n : ℕ) → IsKept st ends from count coming → ends' ≡ replicate 3 false → count' ≡ sum st.dims
+    → coming' ≡ sum st.dims - links_before st.dims (length st.dims) → IsKept (renewed st n) ends' from count' coming'
+renewed_kept st ends ends' from count coming count' coming' n k e open' awaited =
     let s = k.standing in
+    let b = links_before st.dims (length st.dims) in
     let no : length (map reopened st.outs) ≡ sum st.dims = length-map st.outs reopened ∙ s.all_outs in
     let ni : length (map resumed st.ins) ≡ sum st.dims = length-map st.ins resumed ∙ s.all_ins in
     let o : (i : ℕ) (d : Out) → i < sum st.dims → get_or (map reopened st.outs) i d ≡ reopened (get_or st.outs i no_out) = λ i d q. get_or-map reopened st.outs i no_out d (omega (arith, q, s.all_outs)) in
@@ -86,6 +89,8 @@ renewed_kept st ends ends' from n k e =
           ∙ sym (none_at_end st.dims (map resumed st.ins) false h s.grid ni (λ i q. ap (λ y. y.ended) (x i no_in q)) a b);
       from_low = k.from_low;
       from_high = k.from_high;
+      open_is = open' ∙ sym (all_fail (λ (y : Out). y.closed) (map reopened st.outs) no_out (λ i q. ap (λ (y : Out). y.closed) (o i no_out (omega (arith, q, no)))) ∙ no);
+      coming_is = awaited ∙ sym (all_fail (λ (y : In). y.ended) (drop b (map resumed st.ins)) no_in (λ i q. ap (λ (y : In). y.ended) (get_or-drop b (map resumed st.ins) i no_in ∙ x (b + i) no_in (omega (arith, q, ni, length-drop b (map resumed st.ins))))) ∙ omega (arith, length-drop b (map resumed st.ins), ni));
       from_none = λ j a w. ap (λ y. is_empty y.parcel) (x j no_in (omega (arith, w, k.from_high))) ∙ k.from_none j a w;
     }
 
@@ -105,9 +110,10 @@ new_state dims r cap steady = record {
 }
 
 pub new_kept : (dims : List ℕ) (r cap : ℕ) (steady : Bool) (ends : List Bool) (from : ℕ) → IsGrid dims → r < ranks dims → IsCap cap → ends ≡ replicate 3 false →
-    from ≡ links_before dims (length dims) → from ≤ sum dims → IsKept (new_state dims r cap steady) ends from
+    from ≡ links_before dims (length dims) → from ≤ sum dims → IsKept (new_state dims r cap steady) ends from (sum dims) (sum dims - from)
 new_kept dims r cap steady ends from g a is_cap e f low =
     let n = sum dims in
+    let b = links_before dims (length dims) in
     let no : length (replicate n no_out) ≡ n = length-replicate n no_out in
     let ni : length (replicate n no_in) ≡ n = length-replicate n no_in in
     let o : (i : ℕ) (d : Out) → i < n → get_or (replicate n no_out) i d ≡ no_out = λ i d q. get_or-replicate n i no_out d q in
@@ -129,6 +135,8 @@ new_kept dims r cap steady ends from g a is_cap e f low =
           ∙ sym (none_at_end dims (replicate n no_in) false h g ni (λ i q. ap (λ y. y.ended) (x i no_in q)) p m);
       from_low = omega (arith, f);
       from_high = low;
+      open_is = sym (all_fail (λ (y : Out). y.closed) (replicate n no_out) no_out (λ i q. ap (λ (y : Out). y.closed) (o i no_out (omega (arith, q, no)))) ∙ no);
+      coming_is = omega (arith, f, all_fail (λ (y : In). y.ended) (drop b (replicate n no_in)) no_in (λ i q. ap (λ (y : In). y.ended) (get_or-drop b (replicate n no_in) i no_in ∙ x (b + i) no_in (omega (arith, q, ni, length-drop b (replicate n no_in))))), length-drop b (replicate n no_in), ni);
       from_none = λ j p w. absurd (omega (arith, p, w, f));
     }
 
@@ -141,9 +149,9 @@ back_none : (o : Option Entry) (c : Contents) → IsSome o → (with_back o c).b
 back_none None c s = absurd (false≢true s)
 back_none (Some e) c s = refl
 
-pub unpull_kept : (st : State) (ends : List Bool) (from i : ℕ) (x old : In) → IsKept st ends from → CanUnpull st i → old ≡ get_or st.ins i old →
-    x ≡ record old { parcel = with_back old.parcel.back old.parcel } → length x.parcel.untaken ≤ st.cap → IsKept (in_written st i x None) ends (min from i)
-unpull_kept st ends from i x old k can read wrote fits =
+pub unpull_kept : (st : State) (ends : List Bool) (from count coming i : ℕ) (x old : In) → IsKept st ends from count coming → CanUnpull st i → old ≡ get_or st.ins i old →
+    x ≡ record old { parcel = with_back old.parcel.back old.parcel } → length x.parcel.untaken ≤ st.cap → IsKept (in_written st i x None) ends (min from i) count coming
+unpull_kept st ends from count coming i x old k can read wrote fits =
     let s = k.standing in
     let here = in_here st i old s can.within read in
     let p : IsIn st.dims st.cap (hop_to st.dims i) old = subst (IsIn st.dims st.cap (hop_to st.dims i)) (sym here) (s.each_in i no_in (omega (arith, s.all_ins, can.within))) in
@@ -163,5 +171,7 @@ unpull_kept st ends from i x old k can read wrote fits =
       ends_each = λ h d a b. k.ends_each h d a b ∙ sym (at_end_other st.dims st.ins st.done i x h can.within (omega arith) b (omega (arith, b, can.last_hop)));
       from_low = omega (arith, low, k.from_low);
       from_high = omega (arith, k.from_high);
+      open_is = k.open_is;
+      coming_is = k.coming_is ∙ sym (coming_kept st i x s can.within low (ap (λ (y : In). y.ended) wrote ∙ ap (λ (y : In). y.ended) here));
       from_none = λ j a w. ap (λ y. is_empty y.parcel) (get_or-set_other st.ins i j x no_in (omega (arith, w))) ∙ k.from_none j a (omega (arith, w));
     }

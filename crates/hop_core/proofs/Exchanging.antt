@@ -1,5 +1,6 @@
 -- That a rank's state stands where an open parcel is taken out, put back, or an inbox is filled, by an exchange.
-use Rattle.std.proofs.Common.{ℕ, ◌≡◌, ◌<◌, ◌≤◌, ◌+◌, Bool, true, false, List, length, get_or, set, sum, min, Option, None, arith, refl, sym, ap, subst, ◌∙◌, inl, inr}
+use Rattle.std.proofs.Common.{ℕ, ◌≡◌, ◌<◌, ◌≤◌, ◌+◌, ◌-◌, Bool, true, false, List, length, drop, get_or, set, sum, min, None, arith, refl, sym, ap, subst, ◌∙◌, inl, inr}
+use Rattle.std.specs.Int.{from_bool}
 use Rattle.std.specs.List.{All, list_all}
 use Rattle.std.proofs.lemmas.List.{length-set, get_or-set_same, get_or-set_other}
 use Rattle.std.proofs.lemmas.Bool.{cases_eq, false≢true}
@@ -9,11 +10,12 @@ use Rattle.route_tensor.specs.Link.{links_before}
 use Rattle.route_tensor.specs.Neighbour.{hop_to}
 use Rattle.route_tensor.specs.Tag.{IsFair}
 use Rattle.route_tensor.proofs.Neighbours.{hop_to_has}
-use Rattle.hop_core.specs.Link.{Out, In, no_in, is_empty, is_wanted, is_finished}
-use Rattle.hop_core.specs.State.{State, in_at, at_end, ins_of_hop}
-use Rattle.hop_core.specs.Standing.{IsOut, IsState, IsKept}
+use Rattle.hop_core.specs.Link.{Out, In, no_out, no_in, is_empty, is_wanted, is_finished}
+use Rattle.hop_core.specs.State.{State, out_at, in_at, at_end, ins_of_hop}
+use Rattle.hop_core.specs.Standing.{IsOut, IsState, IsKept, failing}
 use Rattle.hop_core.proofs.Marks.{at_end_other}
-use Rattle.hop_core.proofs.Standing.{out_written, in_written, state_out, state_in, kept_out, none_some, none_entry, wanted_open, open_unfinished, ends_open, ends_marked, not_last}
+use Rattle.hop_core.proofs.Counts.{passes_if, fails_now}
+use Rattle.hop_core.proofs.Standing.{out_written, in_written, state_out, state_in, kept_out, none_some, none_entry, wanted_open, open_unfinished, ends_open, ends_marked, not_last, ins_before, coming_less}
 
 -- an empty parcel of any epoch
 empty_out : (dims : List ℕ) (cap h e : ℕ) (o : Out) → o.parcel ≡ blank e → IsOut dims cap h o
@@ -25,23 +27,24 @@ empty_out dims cap h n o e = record {
 }
 
 -- an open parcel was taken out for an empty one
-pub out_taken_kept : (st : State) (ends : List Bool) (from i e : ℕ) (o : Out) (p : Contents) (last : Bool) → IsKept st ends from → i < sum st.dims →
-    p ≡ blank e → last ≡ at_end st.dims st.ins st.done (hop_to st.dims i) → o ≡ record { parcel = p; closed = last } →
-    IsKept (out_written st i o) ends from
-out_taken_kept st ends from i e o p last k q b l wrote =
-    kept_out st ends from i o k
+pub out_taken_kept : (st : State) (ends : List Bool) (from count count' coming i e : ℕ) (o : Out) (p : Contents) (last : Bool) → IsKept st ends from count coming → i < sum st.dims →
+    p ≡ blank e → last ≡ at_end st.dims st.ins st.done (hop_to st.dims i) → o ≡ record { parcel = p; closed = last } → (out_at st i).closed ≡ false →
+    count' ≡ count - from_bool last → IsKept (out_written st i o) ends from count' coming
+out_taken_kept st ends from count count' coming i e o p last k q b l wrote open' less =
+    kept_out st ends from count count' coming i o k
     (state_out st i o k.standing q
     (empty_out st.dims st.cap (hop_to st.dims i) e o (ap (λ y. y.parcel) wrote ∙ b))
     (λ z. sym l ∙ (sym (ap (λ y. y.closed) wrote) ∙ z)))
+    (omega (arith, less, k.open_is, passes_if (λ (y : Out). y.closed) st.outs i o no_out last (omega (arith, q, k.standing.all_outs)) open' (ap (λ y. y.closed) wrote)))
 
 -- one was put back
-pub out_back_kept : (st : State) (ends : List Bool) (from i : ℕ) (o : Out) (p : Contents) → IsKept st ends from → i < sum st.dims →
+pub out_back_kept : (st : State) (ends : List Bool) (from count count' coming i : ℕ) (o : Out) (p : Contents) → IsKept st ends from count coming → i < sum st.dims →
     IsFresh p → length p.untaken + p.taken ≤ st.cap → All (λ e. IsFair st.dims (hop_to st.dims i) e.tag) p.untaken → o ≡ record { parcel = p; closed = false } →
-    IsKept (out_written st i o) ends from
-out_back_kept st ends from i o p k q fresh fits fair wrote =
+    count' ≡ count + from_bool (out_at st i).closed → IsKept (out_written st i o) ends from count' coming
+out_back_kept st ends from count count' coming i o p k q fresh fits fair wrote more =
     let e : o.parcel ≡ p = ap (λ y. y.parcel) wrote in
     let open' : o.closed ≡ false = ap (λ y. y.closed) wrote in
-    kept_out st ends from i o k
+    kept_out st ends from count count' coming i o k
     (state_out st i o k.standing q
     (record {
       fresh = subst IsFresh (sym e) fresh;
@@ -50,9 +53,10 @@ out_back_kept st ends from i o p k q fresh fits fair wrote =
       closed_empty = λ c. absurd (false≢true (sym open' ∙ c));
     })
     (λ c. absurd (false≢true (sym open' ∙ c))))
+    (omega (arith, more, k.open_is, fails_now (λ (y : Out). y.closed) st.outs i o no_out (omega (arith, q, k.standing.all_outs)) open'))
 
 -- an inbox that was wanted was filled
-module _ (st : State) (ends : List Bool) (from i : ℕ) (x : In) (p : Contents) (k : IsKept st ends from) (q : i < sum st.dims)
+module _ (st : State) (ends : List Bool) (from count coming i : ℕ) (x : In) (p : Contents) (k : IsKept st ends from count coming) (q : i < sum st.dims)
     (w : is_wanted (in_at st i) ≡ true) (fits : length p.untaken + p.taken ≤ st.cap) (none_back : p.back ≡ None)
     (fair : All (λ (e : Entry). IsFair st.dims (hop_to st.dims i) e.tag) p.untaken) (wrote : x.parcel ≡ p) where
   fin : is_finished (in_at st i) ≡ false
@@ -72,9 +76,16 @@ module _ (st : State) (ends : List Bool) (from i : ℕ) (x : In) (p : Contents) 
   still_none : hop_to st.dims i < length st.dims → (j : ℕ) → links_before st.dims (length st.dims) ≤ j → j < from → is_empty (in_at (in_written st i x None) j).parcel ≡ true
   still_none l j a v = ap (λ y. is_empty y.parcel) (get_or-set_other st.ins i j x no_in (λ e. not_last st i j from k.standing q l a (omega (arith, v, k.from_high)) e)) ∙ k.from_none j a v
 
+  fewer : (coming' : ℕ) → hop_to st.dims i ≡ length st.dims → x.ended ≡ p.last → coming' ≡ coming - from_bool p.last →
+      coming' ≡ failing (λ (y : In). y.ended) (drop (links_before st.dims (length st.dims)) (set st.ins i x))
+  fewer coming' l ended less =
+      let r = hop_to_has st.dims i q in
+      let low : links_before st.dims (length st.dims) ≤ i = subst (λ h. links_before st.dims h ≤ i) l r.from in
+      omega (arith, less, k.coming_is, coming_less st i x p.last k.standing q low (wanted_open (in_at st i) w) ended)
+
   -- on the last hop
-  pub in_last_kept : hop_to st.dims i ≡ length st.dims → IsKept (in_written st i x None) ends (min from i)
-  in_last_kept l =
+  pub in_last_kept : (coming' : ℕ) → hop_to st.dims i ≡ length st.dims → x.ended ≡ p.last → coming' ≡ coming - from_bool p.last → IsKept (in_written st i x None) ends (min from i) count coming'
+  in_last_kept coming' l ended less =
       let r = hop_to_has st.dims i q in
       let low : links_before st.dims (length st.dims) ≤ i = subst (λ h. links_before st.dims h ≤ i) l r.from in
       record {
@@ -83,17 +94,21 @@ module _ (st : State) (ends : List Bool) (from i : ℕ) (x : In) (p : Contents) 
         ends_each = λ h d a b. k.ends_each h d a b ∙ sym (at_end_other st.dims st.ins st.done i x h q (omega arith) b (omega (arith, b, l)));
         from_low = omega (arith, low, k.from_low);
         from_high = omega (arith, k.from_high);
+        open_is = k.open_is;
+        coming_is = fewer coming' l ended less;
         from_none = λ j a v. ap (λ y. is_empty y.parcel) (get_or-set_other st.ins i j x no_in (omega (arith, v))) ∙ k.from_none j a (omega (arith, v));
       }
 
   -- by an empty parcel
-  pub in_empty_kept : hop_to st.dims i ≡ length st.dims → is_empty x.parcel ≡ true → IsKept (in_written st i x None) ends from
-  in_empty_kept l e = record {
+  pub in_empty_kept : (coming' : ℕ) → hop_to st.dims i ≡ length st.dims → is_empty x.parcel ≡ true → x.ended ≡ p.last → coming' ≡ coming - from_bool p.last → IsKept (in_written st i x None) ends from count coming'
+  in_empty_kept coming' l e ended less = record {
     standing = filled;
     ends_all = k.ends_all;
     ends_each = λ h d a b. k.ends_each h d a b ∙ sym (at_end_other st.dims st.ins st.done i x h q (omega arith) b (omega (arith, b, l)));
     from_low = k.from_low;
     from_high = k.from_high;
+    open_is = k.open_is;
+    coming_is = fewer coming' l ended less;
     from_none = λ j a v. elim (cases_eq j i) as (λ _. is_empty (get_or (set st.ins i x) j no_in).parcel ≡ true) [
       | inl z ↦ subst (λ m. is_empty (get_or (set st.ins i x) m no_in).parcel ≡ true) (sym z) (ap (λ y. is_empty y.parcel) (get_or-set_same st.ins i x no_in (omega (arith, q, k.standing.all_ins))) ∙ e)
       | inr n ↦ ap (λ y. is_empty y.parcel) (get_or-set_other st.ins i j x no_in n) ∙ k.from_none j a v
@@ -101,24 +116,28 @@ module _ (st : State) (ends : List Bool) (from i : ℕ) (x : In) (p : Contents) 
   }
 
   -- on a hop before, with something left to come or to be read
-  pub in_going_kept : hop_to st.dims i < length st.dims → is_finished x ≡ false → IsKept (in_written st i x None) ends from
+  pub in_going_kept : hop_to st.dims i < length st.dims → is_finished x ≡ false → IsKept (in_written st i x None) ends from count coming
   in_going_kept l f = record {
     standing = filled;
     ends_all = k.ends_all;
     ends_each = λ h d a b. k.ends_each h d a b ∙ sym (ends_open st.dims st.ins st.done i x h q k.standing.all_ins (omega arith) b fin f);
     from_low = k.from_low;
     from_high = k.from_high;
+    open_is = k.open_is;
+    coming_is = k.coming_is ∙ ap (failing (λ (y : In). y.ended)) (sym (ins_before st i x k.standing q l));
     from_none = still_none l;
   }
 
   -- on a hop before, and by then the hop may have reached its end
   pub in_ending_kept : (b : Bool) → hop_to st.dims i < length st.dims → b ≡ list_all is_finished (ins_of_hop st.dims (set st.ins i x) (hop_to st.dims i)) →
-      IsKept (in_written st i x None) (set ends (hop_to st.dims i) b) from
+      IsKept (in_written st i x None) (set ends (hop_to st.dims i) b) from count coming
   in_ending_kept b l eb = record {
     standing = filled;
     ends_all = length-set ends (hop_to st.dims i) b ∙ k.ends_all;
     ends_each = ends_marked st.dims st.ins (set st.ins i x) st.done ends i x b q l (omega (arith, k.ends_all, k.standing.grid.few)) k.ends_each refl eb;
     from_low = k.from_low;
     from_high = k.from_high;
+    open_is = k.open_is;
+    coming_is = k.coming_is ∙ ap (failing (λ (y : In). y.ended)) (sym (ins_before st i x k.standing q l));
     from_none = still_none l;
   }

@@ -3,6 +3,7 @@ pub mod Marks
 pub mod Passing
 pub mod Going
 pub mod Relaying
+mod Counts
 pub mod Standing
 pub mod Steps
 pub mod Exchanging

@@ -1,5 +1,5 @@
 -- What a whole hop's relay leaves: how much waits, which links are finished, which pairs went on.
-use Rattle.std.proofs.Common.{ℕ, zero, suc, ◌≡◌, ◌≢◌, ◌+◌, ◌-◌, ◌*◌, ◌<◌, ◌≤◌, Bool, true, false, List, [], ◌∷◌, length, take, drop, get_or, set, sum, Option, None, arith, refl, sym, ap, subst, ◌∙◌, inl, inr}
+use Rattle.std.proofs.Common.{ℕ, zero, suc, ◌≡◌, ◌≢◌, ◌+◌, ◌-◌, ◌*◌, ◌<◌, ◌≤◌, Bool, true, false, List, [], ◌∷◌, length, take, drop, get_or, set, sum, None, arith, refl, sym, ap, subst, ◌∙◌, inl, inr}
 use Rattle.std.specs.List.{list_all}
 use Rattle.item_buffer.specs.declared.capacity.TheConstants.{MOST_ENTRIES}
 use Rattle.std.proofs.lemmas.Bool.{cases_eq, cases_lt, false≢true, false_from_ne_true, and_parts, and_from, eqb-true, eq-eqb}
@@ -8,7 +8,6 @@ use Rattle.std.proofs.lemmas.List.Sums.{sum_by-cons}
 use Rattle.std.proofs.lemmas.Nat.{mul-le}
 use Rattle.std.proofs.Math.Nat.{suc-mul}
 use Rattle.list_laws.specs.Lists.{EachAt}
-use Rattle.item_buffer.specs.Contents.{Contents}
 use Rattle.route_tensor.specs.Grid.{dim}
 use Rattle.route_tensor.specs.Link.{links_before}
 use Rattle.route_tensor.specs.Neighbour.{hop_to}
@@ -19,6 +18,7 @@ use Rattle.hop_core.specs.State.{State, out_at, ins_of_hop, at_end}
 use Rattle.hop_core.specs.Relay.{AddsToHop, TakesFromHop, IsStopped, waiting}
 use Rattle.hop_core.specs.Standing.{IsOut, IsIn, IsState, IsKept}
 use Rattle.hop_core.proofs.Marks.{at_end-first, at_end-later, zero_stays}
+use Rattle.hop_core.proofs.Counts.{same_fail}
 use Rattle.hop_core.proofs.Standing.{none_some, hop_last}
 use Rattle.hop_core.proofs.Relaying.{Relaying}
 
@@ -113,11 +113,12 @@ end_same dims h ins ins' done (suc j) t n c m ne =
     ∙ sym (ap (at_end dims ins' done) e ∙ at_end-later dims ins' done j one)
 
 -- the marks after a relay
-pub relay_kept : (st : State) (ends : List Bool) (from h : ℕ) (outs' : List Out) (ins' : List In) (b : Bool) → IsKept st ends from → 1 ≤ h → h < length st.dims →
+pub relay_kept : (st : State) (ends : List Bool) (from count coming h : ℕ) (outs' : List Out) (ins' : List In) (b : Bool) → IsKept st ends from count coming → 1 ≤ h → h < length st.dims →
     EachAt (λ o out. IsOut st.dims st.cap (hop_to st.dims o) out) outs' → EachAt (λ j x. IsIn st.dims st.cap (hop_to st.dims j) x) ins' → AddsToHop st.dims (h + 1) st.outs outs' → TakesFromHop st.dims h st.ins ins' →
-    b ≡ list_all is_finished (ins_of_hop st.dims ins' h) → IsKept (record st { outs = outs'; ins = ins'; pulled = None }) (set ends h b) from
-relay_kept st ends from h outs' ins' b k p l eo ei a t eb =
+    b ≡ list_all is_finished (ins_of_hop st.dims ins' h) → IsKept (record st { outs = outs'; ins = ins'; pulled = None }) (set ends h b) from count coming
+relay_kept st ends from count coming h outs' ins' b k p l eo ei a t eb =
     let s = k.standing in
+    let b' = links_before st.dims (length st.dims) in
     let no : length outs' ≡ sum st.dims = a.count ∙ s.all_outs in
     let ni : length ins' ≡ sum st.dims = t.count ∙ s.all_ins in
     record {
@@ -145,6 +146,8 @@ relay_kept st ends from h outs' ins' b k p l eo ei a t eb =
       ];
       from_low = k.from_low;
       from_high = k.from_high;
+      open_is = k.open_is ∙ sym (same_fail (λ (y : Out). y.closed) outs' st.outs no_out a.count a.closed);
+      coming_is = k.coming_is ∙ sym (same_fail (λ (y : In). y.ended) (drop b' ins') (drop b' st.ins) no_in (omega (arith, length-drop b' ins', length-drop b' st.ins, t.count)) (λ j. ap (λ (y : In). y.ended) (get_or-drop b' ins' j no_in) ∙ t.ended (b' + j) ∙ sym (ap (λ (y : In). y.ended) (get_or-drop b' st.ins j no_in))));
       from_none = λ j c w.
           let last : hop_to st.dims j ≡ length st.dims = hop_last st j s c (omega (arith, w, k.from_high)) in
           ap (λ y. is_empty y.parcel) (t.others j (omega (arith, last, l))) ∙ k.from_none j c w;

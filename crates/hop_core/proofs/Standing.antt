@@ -1,9 +1,9 @@
 -- What a write to one link leaves of a rank's state, and what the code reads of a link.
-use Rattle.std.proofs.Common.{ℕ, ◌≡◌, ◌+◌, ◌-◌, ◌<◌, ◌≤◌, ◌⊎◌, Bool, true, false, List, [], length, get_or, set, sum, Option, Some, None, arith, refl, sym, ap, subst, ◌∙◌, inl, inr, eqb, not, ◌&&◌}
+use Rattle.std.proofs.Common.{ℕ, ◌≡◌, ◌+◌, ◌-◌, ◌<◌, ◌≤◌, ◌⊎◌, Bool, true, false, List, [], length, drop, get_or, set, sum, Option, Some, None, arith, refl, sym, ap, subst, ◌∙◌, inl, inr, eqb, not, ◌&&◌}
+use Rattle.std.specs.Int.{from_bool}
 use Rattle.std.specs.List.{list_all}
-use Rattle.std.specs.Option.{IsSome}
-use Rattle.std.proofs.lemmas.List.{length-set, get_or-set_same, get_or-set_other, get_or_default, take_all}
-use Rattle.std.proofs.lemmas.Bool.{cases_eq, false≢true, false_from_ne_true, ne_eqb, eq-eqb, not_from_true, or_from, and_right, and_parts, not-true}
+use Rattle.std.proofs.lemmas.List.{length-set, get_or-set_same, get_or-set_other, get_or_default, take_all, length-drop, get_or-drop, drop-set-lt, drop-set-add}
+use Rattle.std.proofs.lemmas.Bool.{cases_eq, cases_lt, false≢true, false_from_ne_true, ne_eqb, eq-eqb, not_from_true, or_from, and_right, and_parts, not-true}
 use Rattle.list_laws.proofs.Lists.{each_set}
 use Rattle.bale_types.specs.declared.item.Entry.{Entry}
 use Rattle.item_buffer.specs.Contents.{Contents, blank}
@@ -14,7 +14,8 @@ use Rattle.route_tensor.specs.Neighbour.{hop_to}
 use Rattle.route_tensor.proofs.Neighbours.{hop_to_has, hop_to_is}
 use Rattle.hop_core.specs.Link.{Out, In, no_out, no_in, is_empty, is_due, is_wanted, is_finished}
 use Rattle.hop_core.specs.State.{State, out_at, in_at, at_end, ins_of_hop}
-use Rattle.hop_core.specs.Standing.{IsOut, IsIn, IsState, CanUnpull, IsKept}
+use Rattle.hop_core.specs.Standing.{IsOut, IsIn, IsState, CanUnpull, IsKept, failing}
+use Rattle.hop_core.proofs.Counts.{as_before, passes_if, some_fails}
 use Rattle.hop_core.proofs.Marks.{at_end_kept, at_end_other, at_end-later, hop_unfinished}
 
 pub none_some : (j : ℕ) → (o : Option ℕ) → o ≡ None → o ≡ Some j → ⊥
@@ -40,14 +41,16 @@ state_out st i o k q p closed = record {
 }
 
 -- what the code keeps besides is untouched by it
-pub kept_out : (st : State) (ends : List Bool) (from i : ℕ) (o : Out) → IsKept st ends from → IsState (out_written st i o) → IsKept (out_written st i o) ends from
-kept_out st ends from i o k s = record {
+pub kept_out : (st : State) (ends : List Bool) (from count count' coming i : ℕ) (o : Out) → IsKept st ends from count coming → IsState (out_written st i o) → count' ≡ failing (λ (y : Out). y.closed) (set st.outs i o) → IsKept (out_written st i o) ends from count' coming
+kept_out st ends from count count' coming i o k s counted = record {
   standing = s;
   ends_all = k.ends_all;
   ends_each = k.ends_each;
   from_low = k.from_low;
   from_high = k.from_high;
   from_none = k.from_none;
+  open_is = counted;
+  coming_is = k.coming_is;
 }
 
 pub none_entry : (e : Entry) (o : Option Entry) → o ≡ None → o ≡ Some e → ⊥
@@ -65,7 +68,7 @@ blank_out dims cap h o e = record {
 }
 
 -- a link that is due isn't closed
-pub due_open : (cap : ℕ) (steady at_end' : Bool) (o : Out) → 0 < cap → (o.closed ≡ true → o.parcel.untaken ≡ []) → is_due cap steady at_end' o ≡ true → o.closed ≡ false
+due_open : (cap : ℕ) (steady at_end' : Bool) (o : Out) → 0 < cap → (o.closed ≡ true → o.parcel.untaken ≡ []) → is_due cap steady at_end' o ≡ true → o.closed ≡ false
 due_open cap steady at_end' o some empty due = false_from_ne_true o.closed (λ c.
     let e : length o.parcel.untaken ≡ 0 = ap length (empty c) in
     let a : eqb (length o.parcel.untaken) cap ≡ false = ne_eqb _ cap (λ z. absurd (omega (arith, e, z, some))) in
@@ -76,6 +79,9 @@ due_open cap steady at_end' o some empty due = false_from_ne_true o.closed (λ c
 
 pub out_fact : (st : State) (i : ℕ) → IsState st → i < sum st.dims → IsOut st.dims st.cap (hop_to st.dims i) (out_at st i)
 out_fact st i k q = k.each_out i no_out (omega (arith, k.all_outs, q))
+
+pub due_here : (st : State) (i : ℕ) → IsState st → i < sum st.dims → is_due st.cap st.steady (at_end st.dims st.ins st.done (hop_to st.dims i)) (out_at st i) ≡ true → (out_at st i).closed ≡ false
+due_here st i k q due = due_open st.cap st.steady _ (out_at st i) k.cap.some (out_fact st i k q).closed_empty due
 
 -- a state in which another link in was written
 abbrev pub in_written : State → ℕ → In → Option ℕ → State
@@ -173,3 +179,60 @@ hop_last st j s a w =
 -- a link of the last hop is none of another hop
 pub not_last : (st : State) (i j from : ℕ) → IsState st → i < sum st.dims → hop_to st.dims i < length st.dims → links_before st.dims (length st.dims) ≤ j → j < sum st.dims → j ≡ i → ⊥
 not_last st i j from s q l a w e = absurd (omega (arith, l, hop_last st j s a w, ap (hop_to st.dims) e))
+
+-- the links in of the last hop, which are those from its first one on
+pub last_ins : (st : State) → IsState st → ins_of_hop st.dims st.ins (length st.dims) ≡ drop (links_before st.dims (length st.dims)) st.ins
+last_ins st s =
+    let k = length st.dims in
+    let n : sum st.dims ≡ links_before st.dims k + dim st.dims k = sym (ap sum (take_all k st.dims (omega arith))) ∙ before_more st.dims k s.grid.some (omega arith) in
+    take_all (dim st.dims k) (drop (links_before st.dims k) st.ins) (omega (arith, length-drop (links_before st.dims k) st.ins, n, s.all_ins))
+
+-- a write to one of another hop, and to one of them
+pub ins_before : (st : State) (i : ℕ) (x : In) → IsState st → i < sum st.dims → hop_to st.dims i < length st.dims →
+    drop (links_before st.dims (length st.dims)) (set st.ins i x) ≡ drop (links_before st.dims (length st.dims)) st.ins
+ins_before st i x s q l = elim (cases_lt i (links_before st.dims (length st.dims))) as (λ _. drop (links_before st.dims (length st.dims)) (set st.ins i x) ≡ drop (links_before st.dims (length st.dims)) st.ins) [
+  | inl low ↦ drop-set-lt (links_before st.dims (length st.dims)) st.ins i x low
+  | inr high ↦ absurd (omega (arith, l, hop_last st i s high q))
+]
+
+pub record LastIn (st : State) (i : ℕ) (x : In) : Type 0 where
+  pub j : ℕ
+  pub within : j < length (drop (links_before st.dims (length st.dims)) st.ins)
+  pub here : get_or (drop (links_before st.dims (length st.dims)) st.ins) j no_in ≡ in_at st i
+  pub set_is : drop (links_before st.dims (length st.dims)) (set st.ins i x) ≡ set (drop (links_before st.dims (length st.dims)) st.ins) j x
+
+pub last_in : (st : State) (i : ℕ) (x : In) → IsState st → i < sum st.dims → links_before st.dims (length st.dims) ≤ i → LastIn st i x
+last_in st i x s q high =
+    let b = links_before st.dims (length st.dims) in
+    let e : b + (i - b) ≡ i = omega (arith, high) in
+    record {
+      j = i - b;
+      within = omega (arith, length-drop b st.ins, q, s.all_ins, high);
+      here = get_or-drop b st.ins (i - b) no_in ∙ ap (λ m. get_or st.ins m no_in) e;
+      set_is = subst (λ m. drop b (set st.ins m x) ≡ set (drop b st.ins) (i - b) x) e (drop-set-add b st.ins (i - b) x);
+    }
+
+-- one that has ended or not as before
+pub coming_kept : (st : State) (i : ℕ) (x : In) → IsState st → i < sum st.dims → links_before st.dims (length st.dims) ≤ i → x.ended ≡ (in_at st i).ended →
+    failing (λ (y : In). y.ended) (drop (links_before st.dims (length st.dims)) (set st.ins i x)) ≡ failing (λ (y : In). y.ended) (drop (links_before st.dims (length st.dims)) st.ins)
+coming_kept st i x s q high same =
+    let l = last_in st i x s q high in
+    ap (failing (λ (y : In). y.ended)) l.set_is
+    ∙ as_before (λ (y : In). y.ended) (drop (links_before st.dims (length st.dims)) st.ins) l.j x no_in l.within (same ∙ ap (λ (y : In). y.ended) (sym l.here))
+
+-- one that had not ended, by a parcel that is marked last or not
+pub coming_less : (st : State) (i : ℕ) (x : In) (last : Bool) → IsState st → i < sum st.dims → links_before st.dims (length st.dims) ≤ i → (in_at st i).ended ≡ false → x.ended ≡ last →
+    failing (λ (y : In). y.ended) (drop (links_before st.dims (length st.dims)) (set st.ins i x)) + from_bool last ≡ failing (λ (y : In). y.ended) (drop (links_before st.dims (length st.dims)) st.ins)
+coming_less st i x last s q high was now =
+    let l = last_in st i x s q high in
+    ap (λ ys. failing (λ (y : In). y.ended) ys + from_bool last) l.set_is
+    ∙ passes_if (λ (y : In). y.ended) (drop (links_before st.dims (length st.dims)) st.ins) l.j x no_in last l.within (ap (λ (y : In). y.ended) l.here ∙ was) now
+
+pub some_coming : (st : State) (i : ℕ) → IsState st → i < sum st.dims → links_before st.dims (length st.dims) ≤ i → is_wanted (in_at st i) ≡ true →
+    0 < failing (λ (y : In). y.ended) (drop (links_before st.dims (length st.dims)) st.ins)
+some_coming st i s q high w =
+    let l = last_in st i no_in s q high in
+    some_fails (λ (y : In). y.ended) (drop (links_before st.dims (length st.dims)) st.ins) l.j no_in l.within (ap (λ (y : In). y.ended) l.here ∙ wanted_open (in_at st i) w)
+
+pub last_from : (dims : List ℕ) (i : ℕ) → i < sum dims → hop_to dims i ≡ length dims → links_before dims (length dims) ≤ i
+last_from dims i q l = subst (λ h. links_before dims h ≤ i) l (hop_to_has dims i q).from

@@ -6,7 +6,6 @@ use Rattle.std.proofs.lemmas.List.{get_or-take, get_or-drop, length-take, length
 use Rattle.std.proofs.lemmas.Option.{same_Some}
 use Rattle.bale_types.specs.declared.item.Entry.{Entry}
 use Rattle.bale_types.specs.declared.item.Item.{Item}
-use Rattle.item_buffer.specs.Contents.{Contents}
 use Rattle.route_tensor.specs.Grid.{dim, IsGrid}
 use Rattle.route_tensor.specs.Link.{links_before}
 use Rattle.route_tensor.specs.Neighbour.{neighbour, hop_to}
@@ -157,9 +156,9 @@ pub none_state : (v s : State) → v ≡ s → lowest_unread v ≡ None → reco
 none_state v s w low = sym (ap (pulled_from v) low) ∙ ap (λ (z : State). pulled_from z (lowest_unread z)) w
 
 -- below r nothing is unread
-pub none_below : (st : State) (ends : List Bool) (from r : ℕ) → IsKept st ends from → ((j : ℕ) → from ≤ j → j < r → is_empty (in_at st j).parcel ≡ true) →
+pub none_below : (st : State) (ends : List Bool) (from count coming r : ℕ) → IsKept st ends from count coming → ((j : ℕ) → from ≤ j → j < r → is_empty (in_at st j).parcel ≡ true) →
     (j : ℕ) → links_before st.dims (length st.dims) ≤ j → j < r → is_empty (in_at st j).parcel ≡ true
-none_below st ends from r k none j a w = elim (cases_lt j from) as (λ _. is_empty (in_at st j).parcel ≡ true) [ inl v ↦ k.from_none j a v | inr v ↦ none j v w ]
+none_below st ends from count coming r k none j a w = elim (cases_lt j from) as (λ _. is_empty (in_at st j).parcel ≡ true) [ inl v ↦ k.from_none j a v | inr v ↦ none j v w ]
 
 -- where the scan of the code ends
 pub record Scan (st : State) (from r : ℕ) : Type 0 where
@@ -179,11 +178,11 @@ scan_of st from r xs s e a b none some =
       some = λ p. ap (λ ys. is_empty (get_or ys r no_in).parcel) (sym e) ∙ some (omega (arith, n, p));
     }
 
-pub scan_some : (st : State) (ends : List Bool) (from r : ℕ) → IsKept st ends from → Scan st from r → r < sum st.dims → lowest_unread st ≡ Some r
-scan_some st ends from r k c q = unread_some st r k.standing (omega (arith, k.from_low, c.low)) q (none_below st ends from r k c.none) (c.some q)
+pub scan_some : (st : State) (ends : List Bool) (from count coming r : ℕ) → IsKept st ends from count coming → Scan st from r → r < sum st.dims → lowest_unread st ≡ Some r
+scan_some st ends from count coming r k c q = unread_some st r k.standing (omega (arith, k.from_low, c.low)) q (none_below st ends from count coming r k c.none) (c.some q)
 
-pub scan_none : (st : State) (ends : List Bool) (from r : ℕ) → IsKept st ends from → Scan st from r → r ≡ sum st.dims → lowest_unread st ≡ None
-scan_none st ends from r k c e = unread_none st k.standing (λ j a w. none_below st ends from r k c.none j a (omega (arith, e, w)))
+pub scan_none : (st : State) (ends : List Bool) (from count coming r : ℕ) → IsKept st ends from count coming → Scan st from r → r ≡ sum st.dims → lowest_unread st ≡ None
+scan_none st ends from count coming r k c e = unread_none st k.standing (λ j a w. none_below st ends from count coming r k c.none j a (omega (arith, e, w)))
 
 -- an entry of the last hop
 pub last_fair : (st : State) (i : ℕ) (old : In) (e : Entry) → IsState st → i < sum st.dims → hop_to st.dims i ≡ length st.dims → old ≡ get_or st.ins i old → slice_get old.parcel.untaken 0 ≡ Some e → IsFair st.dims (length st.dims) e.tag
@@ -197,8 +196,8 @@ some_taken [] o e h n = absurd (false≢true (sym e))
 some_taken (x ∷ xs) o e h n = cc
 
 -- where the scan finds nothing
-pub scan_all : (st : State) (ends : List Bool) (from : ℕ) (xs : List In) → IsKept st ends from → xs ≡ st.ins → ((j : ℕ) → from ≤ j → j < length xs → is_empty (get_or xs j no_in).parcel ≡ true) → Scan st from (sum st.dims)
-scan_all st ends from xs k e none = record {
+pub scan_all : (st : State) (ends : List Bool) (from count coming : ℕ) (xs : List In) → IsKept st ends from count coming → xs ≡ st.ins → ((j : ℕ) → from ≤ j → j < length xs → is_empty (get_or xs j no_in).parcel ≡ true) → Scan st from (sum st.dims)
+scan_all st ends from count coming xs k e none = record {
   low = k.from_high;
   high = omega arith;
   none = λ j p q. ap (λ ys. is_empty (get_or ys j no_in).parcel) (sym e) ∙ none j p (omega (arith, ap length e, k.standing.all_ins, q));

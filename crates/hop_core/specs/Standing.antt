@@ -1,6 +1,7 @@
 -- What holds of a rank's state at every moment.
-use Rattle.std.specs.Prelude.{◌≡◌, ℕ, Bool, true, false, ◌-◌, ◌<◌, ◌≤◌, List, [], length, sum, slice_index_or, Option, Some, IsSome}
-use Rattle.std.specs.List.{All}
+use Rattle.std.specs.Prelude.{◌≡◌, ℕ, Bool, true, ◌-◌, ◌<◌, ◌≤◌, not, List, [], length, drop, sum, slice_index_or, Some, IsSome}
+use Rattle.std.specs.Int.{from_bool}
+use Rattle.std.specs.List.{All, sum_by}
 use Rattle.bale_types.specs.declared.item.Entry.{Entry}
 use Rattle.item_buffer.specs.Capacity.{IsCap}
 use Rattle.item_buffer.specs.Contents.{IsFresh}
@@ -10,7 +11,7 @@ use Rattle.route_tensor.specs.Link.{links_before}
 use Rattle.route_tensor.specs.Neighbour.{hop_to}
 use Rattle.route_tensor.specs.Tag.{IsFair}
 use Rattle.hop_core.specs.Link.{Out, In, is_empty}
-use Rattle.hop_core.specs.State.{State, out_at, in_at, at_end}
+use Rattle.hop_core.specs.State.{State, in_at, at_end}
 
 -- A link out of hop h: its open parcel is fresh, holds at most its capacity, and every entry has a tag that is fair
 -- there; a closed one is empty.
@@ -45,12 +46,18 @@ pub record IsState (st : State) : Type 0 where
   pub closed_at_end : EachAt (λ i o. o.closed ≡ true → at_end st.dims st.ins st.done (hop_to st.dims i) ≡ true) st.outs
   pub can_unpull : (i : ℕ) → st.pulled ≡ Some i → CanUnpull st i
 
--- What the code keeps besides: which hops have reached their end, and a link below which no link in of the last hop has
--- an entry.
-pub record IsKept (st : State) (ends : List Bool) (from : ℕ) : Type 0 where
+-- How many elements of a list fail a test.
+abbrev pub failing : {X : Type 0} → (X → Bool) → List X → ℕ
+failing test xs = sum_by (λ x. from_bool (not (test x))) xs
+
+-- What the code keeps besides: which hops have reached their end, a link below which no link in of the last hop has an
+-- entry, how many links out are not closed, and how many links in of the last hop have not ended.
+pub record IsKept (st : State) (ends : List Bool) (from still_open still_coming : ℕ) : Type 0 where
   pub standing : IsState st
   pub ends_all : length ends ≡ 3
   pub ends_each : (h : ℕ) (d : Bool) → 2 ≤ h → h ≤ length st.dims → slice_index_or ends (h - 1) d ≡ at_end st.dims st.ins st.done h
   pub from_low : links_before st.dims (length st.dims) ≤ from
   pub from_high : from ≤ sum st.dims
+  pub open_is : still_open ≡ failing (λ o. o.closed) st.outs
+  pub coming_is : still_coming ≡ failing (λ x. x.ended) (drop (links_before st.dims (length st.dims)) st.ins)
   pub from_none : (i : ℕ) → links_before st.dims (length st.dims) ≤ i → i < from → is_empty (in_at st i).parcel ≡ true

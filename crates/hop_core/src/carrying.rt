@@ -88,6 +88,7 @@ impl<const CAP: usize, const HOPS: usize> RankState<CAP, HOPS> {
         self.pulled = None;
         let last = self.at_end(number);
         self.outs[number as usize].exchange(parcel, last);
+        self.still_open -= u32::from(last);
         parcel.set_last(last);
         parcel.set_epoch(self.epoch);
     }
@@ -107,7 +108,8 @@ impl<const CAP: usize, const HOPS: usize> RankState<CAP, HOPS> {
     {
         self.pulled = None;
         parcel.known();
-        self.outs[number as usize].exchange(parcel, false);
+        let closed = self.outs[number as usize].exchange(parcel, false);
+        self.still_open += u32::from(closed);
     }
 
     /// Takes a parcel that came from this neighbour into the inbox, which is wanted, for the empty one there. The link has
@@ -127,10 +129,12 @@ impl<const CAP: usize, const HOPS: usize> RankState<CAP, HOPS> {
         self.pulled = None;
         let hop = hop_of::<HOPS>(&self.routes, number);
         parcel.known();
+        let last = parcel.last();
         let finished = self.ins[number as usize].exchange(parcel);
         parcel.clear();
         parcel.set_epoch(self.epoch);
         if hop as usize >= HOPS {
+            self.still_coming -= u32::from(last);
             if !finished {
                 self.from = self.from.min(number);
             }

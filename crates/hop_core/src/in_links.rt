@@ -102,7 +102,7 @@ impl<const CAP: usize> InLink<CAP> {
     pub fn is_wanted(&self) -> bool
         ensures { result ≡ is_wanted self.now }
     {
-        self.parcel.len() == 0 && !self.ended
+        !self.ended && self.parcel.len() == 0
     }
 
     /// Whether nothing of this epoch is left to come, nor to be read.
@@ -176,10 +176,13 @@ pub fn first_unread<const CAP: usize>(links: &[InLink<CAP>], from: u32) -> Optio
     ensures none { result ≡ None → (i : ℕ) → from ≤ i → i < length links.now
         → is_empty (slice_index_or links.now i no_in).parcel ≡ true }
 {
-    if (from as usize) < links.len() && !links[from as usize].is_empty() {
+    if from as usize >= links.len() {
+        return None;
+    }
+    if !links[from as usize].is_empty() {
         return Some(from);
     }
-    search_unread(links, from)
+    search_unread(links, from + 1)
 }
 
 /// The same, by a search.

@@ -26,7 +26,6 @@
 //! | `pull`, `unpull` | the next item that came, with its sender; puts it back |
 //! | `unread`, `batch`, `sender_of`, `pull_all` | the items of one inbox at once, as so many pulls would give them |
 //! | `begin`, `set_done`, `settle`, `reset` | the epoch's course |
-//! | `settle_closed` | the same as `settle`, where every link out is closed |
 //!
 //! No call after `RankState::new` takes memory.
 //!

@@ -1,7 +1,7 @@
 //! One link out of a rank: the parcel that is being filled for it.
 
 ghost use Rattle.std.specs.Prelude.{◌≡◌, ◌<◌, ◌≤◌, ◌&&◌, ◌||◌, length, map, true, false, IfOk};
-ghost use Rattle.hop_core.specs.State.{all_closed, reopened};
+ghost use Rattle.hop_core.specs.State.{reopened};
 ghost use Rattle.std.specs.Prelude.{replicate};
 ghost use Rattle.item_buffer.specs.Capacity.{IsCap};
 ghost use Rattle.hop_core.specs.Link.{no_out, is_due, with_entry};
@@ -60,31 +60,26 @@ impl<const CAP: usize> OutLink<CAP> {
     pub fn is_due(&self, steady: bool, at_end: bool) -> bool
         ensures { result ≡ is_due CAP steady at_end self.now }
     {
+        self.parcel.known();
         if at_end && !self.closed {
             return true;
         }
-        if self.parcel.is_full() {
-            return true;
+        if self.parcel.len() == 0 {
+            return false;
         }
-        steady && self.parcel.len() > 0
+        steady || self.parcel.is_full()
     }
 
-    /// Exchanges the parcel at hand for the link's. The link is closed from now on, or open, as told.
+    /// Exchanges the parcel at hand for the link's. The link is closed from now on, or open, as told. Answers whether it was
+    /// closed.
     #[inline]
-    pub fn exchange(&mut self, parcel: &mut Parcel<CAP>, closed: bool)
+    pub fn exchange(&mut self, parcel: &mut Parcel<CAP>, closed: bool) -> bool
+        ensures value { result ≡ self.old.closed }
         ensures parcel { parcel.new ≡ self.old.parcel }
         ensures state { self.new ≡ record { parcel = parcel.old; closed = closed } }
     {
         mem::swap(&mut self.parcel, parcel);
-        self.closed = closed;
-    }
-
-    /// Whether the last parcel of this epoch was sent.
-    #[inline]
-    pub fn is_closed(&self) -> bool
-        ensures { result ≡ self.now.closed }
-    {
-        self.closed
+        mem::replace(&mut self.closed, closed)
     }
 
     /// A new epoch begins.
@@ -93,18 +88,6 @@ impl<const CAP: usize> OutLink<CAP> {
     {
         self.closed = false;
     }
-}
-
-/// Whether every link is closed.
-pub fn all_closed<const CAP: usize>(links: &[OutLink<CAP>]) -> bool
-    ensures { result ≡ all_closed links.now }
-{
-    for link in links {
-        if !link.is_closed() {
-            return false;
-        }
-    }
-    true
 }
 
 /// So many links, none of them closed, with empty parcels.

@@ -1,10 +1,10 @@
 //! The epoch's course: it begins, is done, comes to its end, and makes room for the next.
 
 ghost use Rattle.std.specs.Prelude.{◌≡◌, ◌≢◌, ◌+◌, ◌-◌, ◌^◌, ◌<◌, map, true, false, None};
-ghost use Rattle.hop_core.specs.State.{all_closed, phase_of, reopened, resumed};
+ghost use Rattle.hop_core.specs.State.{phase_of, reopened, resumed};
 
 use crate::in_links::{hop_finished, resume_all};
-use crate::out_links::{all_closed, reopen_all};
+use crate::out_links::reopen_all;
 use crate::phase::Phase;
 use crate::state::RankState;
 
@@ -50,35 +50,22 @@ impl<const CAP: usize, const HOPS: usize> RankState<CAP, HOPS> {
         self.phase
     }
 
-    /// The same where every link out is closed, as in the phase Cleanup: none of them is looked at.
-    pub fn settle_closed(&mut self) -> Phase
-        requires begun { self.old.phase ≢ Phase.Dormant }
-        requires closed { all_closed self.old.outs ≡ true }
-        ensures value { result ≡ phase_of self.old }
-        ensures state { self.new ≡ record self.old { phase = phase_of self.old; pulled = None } }
-    {
-        self.phase = self.closed_phase();
-        self.pulled = None;
-        self.phase
-    }
-
     /// The phase by what is done, sent, got and read.
     fn current_phase(&self) -> Phase
         ensures { result ≡ phase_of self.now }
     {
-        if self.done && !all_closed(&self.outs) {
-            return Phase::Endgame;
-        }
-        self.closed_phase()
-    }
-
-    /// The phase where done isn't set or every link out is closed, by what is done, got and read.
-    fn closed_phase(&self) -> Phase
-        requires closed { self.now.done ≡ true → all_closed self.now.outs ≡ true }
-        ensures { result ≡ phase_of self.now }
-    {
         if !self.done {
             return Phase::Working;
+        }
+        if self.still_open > 0 {
+            return Phase::Endgame;
+        }
+        if self.still_coming > 0 {
+            return Phase::Cleanup;
+        }
+        // Below `from` no link in has an entry: most often that is all of them.
+        if self.from >= self.routes.neighbours() {
+            return Phase::Complete;
         }
         if !hop_finished(&self.routes, &self.ins, HOPS as u32) {
             return Phase::Cleanup;
@@ -105,6 +92,8 @@ impl<const CAP: usize, const HOPS: usize> RankState<CAP, HOPS> {
         self.done = false;
         let ends = [false; 3];
         self.ends = ends;
+        self.still_open = self.routes.neighbours();
+        self.still_coming = self.routes.neighbours() - self.routes.first_of(HOPS as u32);
         self.phase = Phase::Dormant;
         self.epoch += 1;
     }

@@ -33,6 +33,10 @@ pub struct RankState<const CAP: usize, const HOPS: usize> {
     pub(crate) epoch: u64,
     /// Below it no link in of the last hop has an entry.
     pub(crate) from: u32,
+    /// How many links out are not closed.
+    pub(crate) still_open: u32,
+    /// How many links in of the last hop have not ended.
+    pub(crate) still_coming: u32,
     /// The link in from which the latest call pulled.
     pub(crate) pulled: Option<u32>,
 }
@@ -69,7 +73,7 @@ impl<const CAP: usize, const HOPS: usize> Model for RankState<CAP, HOPS> {
       phase = t.phase;
       epoch = t.epoch;
       pulled = t.pulled;
-    }) t.ends t.from };
+    }) t.ends t.from t.still_open t.still_coming };
 }
 
 impl<const CAP: usize, const HOPS: usize> RankState<CAP, HOPS> {
@@ -107,6 +111,8 @@ impl<const CAP: usize, const HOPS: usize> RankState<CAP, HOPS> {
             phase: Phase::Dormant,
             epoch: 0,
             from,
+            still_open: neighbours,
+            still_coming: neighbours - from,
             pulled: None,
         })
     }

@@ -3,8 +3,8 @@ use Rattle.route_tensor.specs.Grid.{ranks, IsGrid}
 use Rattle.route_tensor.specs.Link.{links}
 use Rattle.route_tensor.specs.Ends.{reader_at}
 use Rattle.route_tensor.specs.Neighbour.{link_from, in_index}
-use Rattle.route_tensor.proofs.Neighbours.{in_index-link_from, in_stands}
-use Rattle.convey.proofs.Ways.{from_below, from_reader, below_sum, link_here, ready_at, link_at, end_at, collecting_none, collecting_more, collecting_all, collects_first, collects_then}
+use Rattle.route_tensor.proofs.Neighbours.{in_index-link_from}
+use Rattle.convey.proofs.Ways.{from_below, from_reader, link_here, ready_at, link_at, end_at, collecting_none, collecting_more, collecting_all, collects_first, collects_then}
 use Rattle.hop_core.specs.Link.{is_wanted}
 use Rattle.port_bank.specs.Calls.{once_more_if}
 use Rattle.convey.proofs.Asks.{counted_from_none, counted_in}

@@ -1,10 +1,10 @@
-use Rattle.std.proofs.Common.{◌≡◌, ◌<◌, sum, refl, sym, ap, subst, ◌∙◌, arith, rules}
+use Rattle.std.proofs.Common.{◌≡◌, ◌<◌, sum, sym, ap, subst, ◌∙◌, arith, rules}
 use Rattle.route_tensor.specs.Grid.{ranks, IsGrid}
 use Rattle.route_tensor.specs.Link.{links}
 use Rattle.route_tensor.specs.Ends.{sender_at}
 use Rattle.route_tensor.specs.Neighbour.{link_to, out_index}
 use Rattle.route_tensor.proofs.Neighbours.{out_index-link_to, out_stands}
-use Rattle.convey.proofs.Ways.{to_below, to_sender, below_sum, link_here, ready_at, link_at, end_at, stays_more, waits_more, posted_more, serving_none, serving_more, serving_all, posts_first, posts_then}
+use Rattle.convey.proofs.Ways.{to_below, to_sender, below_sum, link_here, ready_at, link_at, end_at, waits_more, posted_more, serving_none, serving_more, serving_all, posts_first, posts_then}
 use Rattle.convey.specs.Due.{was_served}
 use Rattle.port_bank.specs.Calls.{once_more_if}
 use Rattle.convey.proofs.Asks.{counted_none, counted_out, served_same}

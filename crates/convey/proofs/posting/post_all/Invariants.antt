@@ -1,4 +1,4 @@
-use Rattle.std.proofs.Common.{◌≡◌, ℕ}
+use Rattle.std.proofs.Common.{◌≡◌}
 use Rattle.item_buffer.specs.Contents.{blank}
 use Rattle.convey.specs.Way.{LeftByPosts}
 use Rattle.route_tensor.specs.Ends.{sender_at}

@@ -1,9 +1,8 @@
-use Rattle.std.proofs.Common.{◌≡◌, ◌≢◌, ℕ, ◌<◌, ◌≤◌, List, [], length}
+use Rattle.std.proofs.Common.{◌≡◌, ℕ, ◌<◌, ◌≤◌, List, length}
 use Rattle.route_tensor.specs.Link.{links}
 use Rattle.route_tensor.specs.Ends.{hop_at}
 use Rattle.port_bank.specs.Logs.{Logs}
 use Rattle.hop_core.specs.Standing.{IsState}
-use Rattle.convey.specs.Buffers.{in_of}
 use Rattle.convey.specs.Due.{IsBlocked}
 use Rattle.convey.specs.Way.{IsReady, PassedOn}
 use Rattle.convey.proofs.relaying.relay_all.Given as goal

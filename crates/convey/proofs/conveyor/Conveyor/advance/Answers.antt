@@ -1,6 +1,5 @@
-use Rattle.std.proofs.Common.{◌≡◌, ℕ, ◌<◌, true, false, Result, Ok, length, slice_get, Some, None, sym, ap, subst, ◌∙◌, rules}
+use Rattle.std.proofs.Common.{◌≡◌, ℕ, ◌<◌, true, false, length, slice_get, Some, None, sym, ap, subst, ◌∙◌, rules}
 use Rattle.std.proofs.lemmas.Bool.{false≢true}
-use Rattle.bale_types.specs.declared.fault.NoMemory.{NoMemory}
 use Rattle.route_tensor.specs.Link.{links}
 use Rattle.route_tensor.specs.Ends.{hop_at, sender_at, reader_at}
 use Rattle.hop_core.specs.declared.phase.Phase.TheVariants.{Complete}
@@ -8,8 +7,6 @@ use Rattle.port_bank.specs.Calls.{once_more_if}
 use Rattle.hop_core.specs.Link.{is_wanted}
 use Rattle.hop_core.specs.State.{State, all_closed, phase_of, at_end}
 use Rattle.hop_core.specs.Standing.{IsState}
-use Rattle.convey.specs.declared.progress.Progress.{Progress}
-use Rattle.convey.specs.declared.progress.Progress.TheVariants.{Complete as Whole}
 use Rattle.convey.specs.Buffers.{out_of, in_of, is_complete, buffers_of}
 use Rattle.convey.specs.Agreement.{Agrees}
 use Rattle.convey.specs.Due.{IsDue, WasServed, NextIs, WasFull, HeldUp, was_served}

@@ -1,4 +1,4 @@
-use Rattle.std.proofs.Common.{◌≡◌, ◌<◌, length, arith, ap, sym, subst, ◌∙◌}
+use Rattle.std.proofs.Common.{length, arith, ap, sym, subst, ◌∙◌}
 use Rattle.std.specs.Prelude.{slice_get}
 use Rattle.hop_core.specs.State.{State, in_at, lowest_unread}
 use Rattle.hop_core.specs.Standing.{IsState}

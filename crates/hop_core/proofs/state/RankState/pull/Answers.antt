@@ -14,13 +14,13 @@ first_unread-requires g c =
 
 pub returns-in_default-clause-value : goal.returns-in_default-clause-value
 returns-in_default-clause-value g c =
-    let sc = scan_all _ _ _ _ c.self.invariant.1 c.deref.ensures.value (c.first_unread.ensures.none c.in_default.is) in
-    sym (none_value _ _ c.self.view_is (scan_none _ _ _ _ c.self.invariant.1 sc refl))
+    let sc = scan_all _ _ _ _ _ _ c.self.invariant.1 c.deref.ensures.value (c.first_unread.ensures.none c.in_default.is) in
+    sym (none_value _ _ c.self.view_is (scan_none _ _ _ _ _ _ c.self.invariant.1 sc refl))
 
 pub returns-in_default-clause-state : goal.returns-in_default-clause-state
 returns-in_default-clause-state g c =
-    let sc = scan_all _ _ _ _ c.self.invariant.1 c.deref.ensures.value (c.first_unread.ensures.none c.in_default.is) in
-    none_state _ _ c.self.view_is (scan_none _ _ _ _ c.self.invariant.1 sc refl)
+    let sc = scan_all _ _ _ _ _ _ c.self.invariant.1 c.deref.ensures.value (c.first_unread.ensures.none c.in_default.is) in
+    none_state _ _ c.self.view_is (scan_none _ _ _ _ _ _ c.self.invariant.1 sc refl)
 
 pub sender-requires-clause-last : goal.sender-requires-clause-last
 sender-requires-clause-last g c =
@@ -47,7 +47,7 @@ invariant_of-self-2 g c =
     let head : slice_get c.index_mut.result.now.parcel.untaken 0 ≡ Some c.in_ok-entry.entry = sym c.take.ensures.value ∙ c.in_ok-entry.was in
     let wrote = c.take.ensures.taken (ap is_some c.in_ok-entry.was) in
     let last : hop_to c.self.inside.routes.dims c.in-Some.from ≡ length c.self.inside.routes.dims = hop_last _ _ c.self.invariant.1.standing (omega (arith, sc.low, c.self.invariant.1.from_low)) q in
-    (c.self.invariant.0, pull_kept _ _ _ _ _ _ _ c.self.invariant.1 sc.low q sc.none c.index_mut.ensures.value head wrote)
+    (c.self.invariant.0, pull_kept _ _ _ _ _ _ _ _ _ c.self.invariant.1 sc.low q sc.none c.index_mut.ensures.value head wrote)
 
 pub returns-clause-value : goal.returns-clause-value
 returns-clause-value g c =
@@ -56,7 +56,7 @@ returns-clause-value g c =
     let head : slice_get c.index_mut.result.now.parcel.untaken 0 ≡ Some c.in_ok-entry.entry = sym c.take.ensures.value ∙ c.in_ok-entry.was in
     let wrote = c.take.ensures.taken (ap is_some c.in_ok-entry.was) in
     let last : hop_to c.self.inside.routes.dims c.in-Some.from ≡ length c.self.inside.routes.dims = hop_last _ _ c.self.invariant.1.standing (omega (arith, sc.low, c.self.invariant.1.from_low)) q in
-    sym (pull_value _ _ _ _ _ _ c.self.view_is c.self.invariant.1.standing q (scan_some _ _ _ _ c.self.invariant.1 sc q) c.index_mut.ensures.value head c.sender.ensures)
+    sym (pull_value _ _ _ _ _ _ c.self.view_is c.self.invariant.1.standing q (scan_some _ _ _ _ _ _ c.self.invariant.1 sc q) c.index_mut.ensures.value head c.sender.ensures)
 
 pub returns-clause-state : goal.returns-clause-state
 returns-clause-state g c =
@@ -65,4 +65,4 @@ returns-clause-state g c =
     let head : slice_get c.index_mut.result.now.parcel.untaken 0 ≡ Some c.in_ok-entry.entry = sym c.take.ensures.value ∙ c.in_ok-entry.was in
     let wrote = c.take.ensures.taken (ap is_some c.in_ok-entry.was) in
     let last : hop_to c.self.inside.routes.dims c.in-Some.from ≡ length c.self.inside.routes.dims = hop_last _ _ c.self.invariant.1.standing (omega (arith, sc.low, c.self.invariant.1.from_low)) q in
-    pull_state _ _ _ _ _ c.self.view_is c.self.invariant.1.standing q (scan_some _ _ _ _ c.self.invariant.1 sc q) c.index_mut.ensures.value wrote
+    pull_state _ _ _ _ _ c.self.view_is c.self.invariant.1.standing q (scan_some _ _ _ _ _ _ c.self.invariant.1 sc q) c.index_mut.ensures.value wrote

@@ -25,7 +25,7 @@ invariant_of-self g c =
     let u = unread_at _ c.args.number c.self.invariant.1.standing (ap lowest_unread c.self.view_is ∙ c.requires.lowest) in
     let within : c.args.number < length c.self.inside.ins.items = omega (arith, u.high, c.self.invariant.1.standing.all_ins) in (
       c.self.invariant.0,
-      batch_kept _ c.args.self.now _ _ c.args.number c.index_mut.result.now c.skip.new.self c.self.view_is c.self.invariant.1 c.requires.lowest c.index_mut.ensures.value
+      batch_kept _ c.args.self.now _ _ _ _ c.args.number c.index_mut.result.now c.skip.new.self c.self.view_is c.self.invariant.1 c.requires.lowest c.index_mut.ensures.value
           (skipped_all c.self.inside.ins.items c.args.number _ _ _ _ within c.index.ensures c.unread-count.ensures c.index_mut.ensures.value c.skip.ensures),
     )
 

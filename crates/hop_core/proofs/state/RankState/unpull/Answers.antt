@@ -1,4 +1,4 @@
-use Rattle.std.proofs.Common.{ap, ◌∙◌, ◌<◌, arith, length}
+use Rattle.std.proofs.Common.{◌<◌, arith, length}
 use Rattle.hop_core.proofs.Epochs.{unpull_kept}
 use Rattle.hop_core.proofs.state.RankState.unpull.Goals as goal
 
@@ -11,4 +11,4 @@ index_mut-requires g c =
 pub invariant_of-self : goal.invariant_of-self
 invariant_of-self g c =
     let can = c.self.invariant.1.standing.can_unpull _ c.in-Some.is in
-    (c.self.invariant.0, rw c.min-self-inside.ensures (unpull_kept _ _ _ _ _ _ c.self.invariant.1 can c.index_mut.ensures.value c.untake.ensures.state c.untake.ensures.fits))
+    (c.self.invariant.0, rw c.min-self-inside.ensures (unpull_kept _ _ _ _ _ _ _ _ c.self.invariant.1 can c.index_mut.ensures.value c.untake.ensures.state c.untake.ensures.fits))

@@ -8,8 +8,8 @@ ghost use Rattle.rank_group.specs.Drives.{AreFresh};
 ghost use Rattle.rank_group.specs.Seats.{bank_of, AreSeated};
 
 use crate::at_port::AtPort;
-use crate::noting::NotingPort;
 use crate::list_parts::one_by_one;
+use crate::noting::NotingPort;
 use crate::sweeping::Rank;
 use bale_types::NoMemory;
 use link_slots::{GatherSeat, SlotBank};

@@ -1,4 +1,4 @@
--- What a run answers: a status, the bytes for out and the bytes for err.
+-- What a run answers: a status and the bytes for err, and what out got (`Wrote`).
 use Rattle.std.specs.Prelude.{◌≡◌, ℕ, Bool, List, [], ◌==◌, ◌&&◌, Option, Some, None, is_some, Result, Ok, Err, OnOk, OnErr, if◌then◌else◌}
 use Rattle.bale_types.specs.Stream.{after, IsFront, CountsFaults}
 use Rattle.bale_words.specs.declared.command.Command.{Command}

@@ -123,7 +123,7 @@ done_of p = cond p.done (p.epoch + 1) p.epoch
 -- What the ranks know of one another's epochs.
 -- begins: what a rank pulled of another is the front of what that one pushed toward it.
 -- all_done: in each epoch that some rank has completed, every rank was done.
--- whole: and there each rank pulled all that the others pushed toward it.
+-- whole: in each epoch that a rank has completed itself, it pulled all that the others pushed toward it.
 pub record EpochsClose (ranks : ℕ) (state : State) : Type 0 where
   pub begins : (r s e : ℕ) → r < ranks → s < ranks → Begins ((state r).pulled e s) ((state s).pushed e r)
   pub all_done : (r s : ℕ) → r < ranks → s < ranks → completed_of (state r) ≤ done_of (state s)

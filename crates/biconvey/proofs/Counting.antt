@@ -35,14 +35,14 @@ use Rattle.rank_group.proofs.Bounded.{all_flat}
 use Rattle.rank_group.proofs.Counted.{pushed_in, all_links, log_short}
 use Rattle.rank_group.proofs.Pushed.{flow_pushed}
 use Rattle.round_program.specs.Replies.{carrying, asks_of}
-use Rattle.biconvey.specs.States.{BiState, Sides}
-use Rattle.biconvey.specs.Ranks.{AllRanks}
+use Rattle.query_node.specs.States.{BiState, Sides}
+use Rattle.query_node.specs.Ranks.{AllRanks}
 use Rattle.biconvey.specs.Ways.{entries_of, move_of, moves, IsWay}
 use Rattle.biconvey.specs.Worlds.{World, all_moves, queries_in}
 use Rattle.port_bank.proofs.Marks.{at_most}
-use Rattle.biconvey.proofs.Taken.{items_begin}
-use Rattle.biconvey.proofs.Offering.{asked_below}
-use Rattle.biconvey.proofs.Closing.{queries_close, pushed_of, replied_of}
+use Rattle.query_node.proofs.Taken.{items_begin}
+use Rattle.query_node.proofs.Offering.{asked_below}
+use Rattle.query_node.proofs.Closing.{queries_close, pushed_of, replied_of}
 
 -- a log whose one last parcel is at its end is its first segment
 none_last : (p : Shipped) (ps : List Shipped) → lasts (p ∷ ps) ≡ 0 → p.last ≡ false

@@ -13,12 +13,12 @@ use Rattle.convey.specs.Law.{ClosesLaw}
 use Rattle.convey.specs.Rest.{RestLaw}
 use Rattle.round_program.specs.Talks.{Talk, TalkLaws}
 use Rattle.rank_group.specs.Ranks.{IsOrder}
-use Rattle.biconvey.specs.States.{BiState, Sides}
-use Rattle.biconvey.specs.Ranks.{AllComplete}
+use Rattle.query_node.specs.States.{BiState, Sides}
+use Rattle.query_node.specs.Ranks.{AllComplete}
 use Rattle.biconvey.specs.Worlds.{AreBanks, is_over, Rests, World, all_moves, SweptTo, queries_in, turns_of, sides_of}
 use Rattle.biconvey.proofs.Counting.{size, nth, at, counted, all_few, turns_low}
 use Rattle.biconvey.proofs.Ending.{all_complete}
-use Rattle.biconvey.proofs.Turned.{is_complete_from}
+use Rattle.query_node.proofs.Turned.{is_complete_from}
 
 -- all are over where each is
 all_from : {S : Type 0} (ns : List (BiState S)) → ((r : ℕ) (n : BiState S) → slice_get ns r ≡ Some n → is_over n ≡ true) → list_all is_over ns ≡ true

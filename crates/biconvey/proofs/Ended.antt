@@ -23,8 +23,8 @@ use Rattle.convey.specs.Law.{ClosesLaw}
 use Rattle.rank_group.specs.Told.{Made}
 use Rattle.round_program.specs.Talks.{Talk, TalkLaws}
 use Rattle.round_program.specs.Replies.{HaveHeard}
-use Rattle.biconvey.specs.States.{BiState, IsBiNode}
-use Rattle.biconvey.specs.Ranks.{AllRanks}
+use Rattle.query_node.specs.States.{BiState, IsBiNode}
+use Rattle.query_node.specs.Ranks.{AllRanks}
 use Rattle.biconvey.specs.Ways.{conveyor_in, inbox, IsWay}
 use Rattle.biconvey.specs.Worlds.{AreBanks, World, is_over, queries_in, sides_of, turns_of}
 use Rattle.biconvey.specs.Drives.{AreAskers, TellsExchange, AreFresh, askers_of}

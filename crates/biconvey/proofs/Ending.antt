@@ -20,10 +20,10 @@ use Rattle.rank_node.specs.Movers.{AllRead}
 use Rattle.rank_node.specs.Stuck.{IsStill}
 use Rattle.rank_group.specs.Ranks.{crowded_in, idle_in}
 use Rattle.rank_group.proofs.Still.{below, reader, kept_all, all_got, next_busy, busy_of, at_rest}
-use Rattle.biconvey.specs.States.{BiState, Sides}
+use Rattle.query_node.specs.States.{BiState, Sides}
 use Rattle.biconvey.specs.Ways.{conveyor_in}
 use Rattle.biconvey.specs.Worlds.{Rests}
-use Rattle.biconvey.specs.Ranks.{AllComplete}
+use Rattle.query_node.specs.Ranks.{AllComplete}
 use Rattle.biconvey.proofs.Halting.{IsHalted, never_busy}
 
 -- an end of a list that is no shorter is the list

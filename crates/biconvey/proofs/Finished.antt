@@ -17,13 +17,13 @@ use Rattle.convey.specs.Parts.{part_of}
 use Rattle.rank_group.specs.Told.{Made}
 use Rattle.round_program.specs.Talks.{Talk, TalkLaws}
 use Rattle.round_program.specs.Replies.{answers, answered_from, HaveHeard}
-use Rattle.biconvey.specs.States.{BiState, Sides}
-use Rattle.biconvey.specs.Ranks.{AllRanks, AllComplete}
+use Rattle.query_node.specs.States.{BiState, Sides}
+use Rattle.query_node.specs.Ranks.{AllRanks, AllComplete}
 use Rattle.biconvey.specs.Worlds.{is_over}
 use Rattle.biconvey.specs.Drives.{AreAskers, queries_of, answers_of, queries_by, replies_by, TellsWay, TellsExchange, askers_of}
-use Rattle.biconvey.proofs.Closing.{all_asked, replied_of, queries_close, all_answered, ask_over}
+use Rattle.query_node.proofs.Closing.{all_asked, replied_of, queries_close, all_answered, ask_over}
 use Rattle.biconvey.proofs.Driven.{over_phases}
-use Rattle.biconvey.proofs.Offering.{queries_below}
+use Rattle.query_node.proofs.Offering.{queries_below}
 use Rattle.biconvey.proofs.Telling.{IsDone, tells_way}
 
 -- the asker of each rank; of no rank some other

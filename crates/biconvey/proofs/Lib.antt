@@ -1,15 +1,3 @@
-pub mod Orders
-pub mod Theorem
-pub mod Lining
-pub mod Pulling
-pub mod Offering
-pub mod Answered
-pub mod Heard
-pub mod Turned
-pub mod Fresh
-pub mod Stopped
-pub mod Taken
-pub mod Closing
 pub mod Moving
 pub mod Halting
 pub mod Ending

@@ -7,7 +7,7 @@ use Rattle.hop_core.specs.declared.phase.Phase.TheVariants.{Working}
 use Rattle.convey.specs.Buffers.{in_of}
 use Rattle.round_program.specs.Talks.{Talk}
 use Rattle.rank_group.proofs.Making.{at_end, shift, first_of, none_of}
-use Rattle.biconvey.specs.States.{BiState, IsBiNode}
+use Rattle.query_node.specs.States.{BiState, IsBiNode}
 use Rattle.biconvey.specs.Drives.{AreAskers, IsFresh, AreFresh, askers_of}
 
 -- ranks for the askers so far

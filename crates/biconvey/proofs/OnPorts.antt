@@ -4,7 +4,7 @@ use Rattle.port_bank.specs.Shapes.{IsConveyorShape}
 use Rattle.link_slots.specs.Seen.{Bank, Manning, named, posted_on, collected_from}
 use Rattle.link_slots.proofs.Ported.{one_bank}
 use Rattle.round_program.specs.Talks.{Talk}
-use Rattle.biconvey.specs.States.{BiState, IsBiNode}
+use Rattle.query_node.specs.States.{BiState, IsBiNode}
 use Rattle.rank_group.specs.Noted.{HasSame}
 use Rattle.biconvey.specs.Seats.{SeatedState, HasWay, SameSeat, Ran}
 

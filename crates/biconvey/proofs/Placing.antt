@@ -17,7 +17,7 @@ use Rattle.link_slots.proofs.Opening.{no_sent, no_got}
 use Rattle.rank_crews.proofs.Joining.{one_less, next_is}
 use Rattle.round_program.specs.Talks.{Talk}
 use Rattle.convey.specs.Buffers.{is_complete}
-use Rattle.biconvey.specs.States.{BiState, IsBiNode}
+use Rattle.query_node.specs.States.{BiState, IsBiNode}
 use Rattle.biconvey.specs.Drives.{IsFresh, AreFresh}
 use Rattle.biconvey.specs.Seats.{SeatedState, bank_at, IsSeated, AreSeated}
 

@@ -11,9 +11,9 @@ use Rattle.port_bank.specs.Shapes.{IsConveyorShape}
 use Rattle.port_bank.specs.Plain.{Bank, sent_of, got_of, others_of, crowded_of, idle_of}
 use Rattle.convey.specs.Buffers.{in_of}
 use Rattle.round_program.specs.Talks.{Talk}
-use Rattle.biconvey.specs.States.{BiState, Sides, IsBiNode}
-use Rattle.biconvey.specs.Still.{IsStuck}
-use Rattle.biconvey.specs.Ranks.{HasRank}
+use Rattle.query_node.specs.States.{BiState, Sides, IsBiNode}
+use Rattle.query_node.specs.Still.{IsStuck}
+use Rattle.query_node.specs.Ranks.{HasRank}
 use Rattle.biconvey.specs.Worlds.{AfterRank, sides_of}
 
 -- what a turn tells over the port of rank a of the bank q and that of rank b of the bank r; the ports after it are those of a' and b'

@@ -14,9 +14,9 @@ use Rattle.port_bank.specs.Plain.{Bank, IsBank, unused, channel_at, sent_of, got
 use Rattle.port_bank.proofs.Owners.{sent_elsewhere, got_elsewhere}
 use Rattle.hop_core.specs.State.{State}
 use Rattle.round_program.specs.Talks.{Talk}
-use Rattle.biconvey.specs.States.{BiState, Sides, IsBiNode}
-use Rattle.biconvey.specs.Still.{IsStuck}
-use Rattle.biconvey.specs.Ranks.{HasRank, sides_at}
+use Rattle.query_node.specs.States.{BiState, Sides, IsBiNode}
+use Rattle.query_node.specs.Still.{IsStuck}
+use Rattle.query_node.specs.Ranks.{HasRank, sides_at}
 use Rattle.biconvey.specs.Ways.{inbox, moves, Lawful, AfterTurn}
 use Rattle.biconvey.specs.Worlds.{AreBanks, AfterRank, PostedWithin, Rests, World, all_moves, SweptTo, sides_of, known_at}
 use Rattle.rank_group.proofs.Growing.{Grows, moves_on, sent_same, got_same}

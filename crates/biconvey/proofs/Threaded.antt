@@ -22,8 +22,8 @@ use Rattle.rank_crews.specs.Runs.{AllRan}
 use Rattle.rank_group.specs.Told.{Made}
 use Rattle.round_program.specs.Talks.{Talk, TalkLaws}
 use Rattle.round_program.specs.Replies.{HaveHeard}
-use Rattle.biconvey.specs.States.{BiState, Sides, IsBiNode}
-use Rattle.biconvey.specs.Ranks.{HasRank, AllRanks}
+use Rattle.query_node.specs.States.{BiState, Sides, IsBiNode}
+use Rattle.query_node.specs.Ranks.{HasRank, AllRanks}
 use Rattle.biconvey.specs.Worlds.{is_over}
 use Rattle.biconvey.specs.Drives.{AreAskers, TellsExchange, AreFresh, askers_of}
 use Rattle.biconvey.specs.Seats.{SeatedState, bank_at, IsOnWay, Ran, IsSeated, AreSeated}

@@ -11,7 +11,7 @@ use Rattle.convey.specs.Buffers.{in_of}
 use Rattle.rank_group.specs.Told.{Made}
 use Rattle.round_program.specs.Talks.{Talk}
 use Rattle.round_program.specs.Replies.{queries_to, answers}
-use Rattle.biconvey.specs.States.{BiState, IsBiNode}
+use Rattle.query_node.specs.States.{BiState, IsBiNode}
 
 -- Askers for the ranks 0, 1, .., p - 1, in this order.
 pub record AreAskers {S : Type 0} (T : Talk S) (p : ℕ) (askers : List S) : Type 0 where

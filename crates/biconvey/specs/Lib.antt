@@ -1,9 +1,3 @@
-pub mod Banks
-pub mod Lines
-pub mod Taking
-pub mod States
-pub mod Still
-pub mod Ranks
 pub mod Ways
 pub mod Worlds
 pub mod Drives

@@ -4,7 +4,7 @@ use Rattle.port_bank.specs.Shapes.{IsConveyorShape}
 use Rattle.link_slots.specs.Seen.{Bank, Manning, posted_on, collected_from}
 use Rattle.round_program.specs.Talks.{Talk}
 use Rattle.rank_group.specs.Noted.{HasSame}
-use Rattle.biconvey.specs.States.{BiState, IsBiNode}
+use Rattle.query_node.specs.States.{BiState, IsBiNode}
 use Rattle.biconvey.specs.Worlds.{is_over}
 
 -- A rank, its seat at the bank of queries and its seat at that of replies, and how many turns it made.

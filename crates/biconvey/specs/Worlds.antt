@@ -8,9 +8,9 @@ use Rattle.port_bank.specs.Plain.{Bank, IsBank, sent_of, got_of}
 use Rattle.convey.specs.Buffers.{in_of, is_complete}
 use Rattle.round_program.specs.Talks.{Talk}
 use Rattle.rank_group.specs.Ranks.{crowded_in, idle_in}
-use Rattle.biconvey.specs.States.{BiState, Sides}
-use Rattle.biconvey.specs.Still.{Known, IsStuck}
-use Rattle.biconvey.specs.Ranks.{sides_at, HasRank}
+use Rattle.query_node.specs.States.{BiState, Sides}
+use Rattle.query_node.specs.Still.{Known, IsStuck}
+use Rattle.query_node.specs.Ranks.{sides_at, HasRank}
 use Rattle.biconvey.specs.Ways.{moves, IsWay, AfterTurn}
 
 -- The lists of a plain bank of queries and one of replies.

@@ -1,6 +1,6 @@
 //! A rank of an exchange at its two ports, of two slot banks.
 
-use crate::bi_node::BiNode;
+use query_node::BiNode;
 use port_bank::Port;
 use rank_group::{Gate, NotingPort, Seated, await_turn};
 use rank_node::Steps;

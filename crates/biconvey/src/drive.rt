@@ -14,7 +14,7 @@ ghost use Rattle.biconvey.specs.Worlds.{turns_of};
 ghost use Rattle.biconvey.specs.Drives.{AreAskers, askers_of};
 ghost use Rattle.biconvey.specs.Driven.{HasExchanged, HasSweptBoth};
 
-use crate::bi_node::BiNode;
+use query_node::BiNode;
 use crate::nodes::{nodes_of, take_askers};
 use crate::running::run_all;
 use crate::sweeping::Banks;

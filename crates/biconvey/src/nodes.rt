@@ -5,7 +5,7 @@ ghost use Rattle.item_buffer.specs.Capacity.{IsCap};
 ghost use Rattle.route_tensor.specs.Grid.{ranks};
 ghost use Rattle.biconvey.specs.Drives.{AreAskers, AreFresh, askers_of};
 
-use crate::bi_node::BiNode;
+use query_node::BiNode;
 use bale_types::NoMemory;
 use rank_group::one_by_one;
 use round_program::{Asker, Progs};

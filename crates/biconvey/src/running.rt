@@ -4,10 +4,10 @@ ghost use Rattle.std.specs.Prelude.{◌≡◌, ℕ, ◌+◌, ◌≤◌, Bool, tr
 ghost use Rattle.std.specs.List.{list_all};
 ghost use Rattle.route_tensor.specs.Grid.{ranks};
 ghost use Rattle.rank_group.specs.Ranks.{IsOrder};
-ghost use Rattle.biconvey.specs.States.{BiState};
+ghost use Rattle.query_node.specs.States.{BiState};
 ghost use Rattle.biconvey.specs.Worlds.{AreBanks, PostedWithin, World, is_over, queries_in, sides_of, turns_of};
 
-use crate::bi_node::BiNode;
+use query_node::BiNode;
 use crate::sweeping::{Banks, sweep};
 use bale_types::NoMemory;
 use convey::{closes_law, rest_law};

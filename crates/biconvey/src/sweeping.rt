@@ -6,11 +6,11 @@
 ghost use Rattle.std.specs.Prelude.{◌≡◌, ◌≢◌, ℕ, ◌+◌, ◌<◌, ◌≤◌, Bool, length, slice_get, Some, IfOk, OnOk};
 ghost use Rattle.route_tensor.specs.Grid.{ranks};
 ghost use Rattle.rank_group.specs.Ranks.{IsOrder};
-ghost use Rattle.biconvey.specs.States.{BiState};
-ghost use Rattle.biconvey.specs.Ranks.{HasRank};
+ghost use Rattle.query_node.specs.States.{BiState};
+ghost use Rattle.query_node.specs.Ranks.{HasRank};
 ghost use Rattle.biconvey.specs.Worlds.{AreBanks, AfterRank, PostedWithin, World, SweptTo, sides_of};
 
-use crate::bi_node::BiNode;
+use query_node::BiNode;
 use bale_types::NoMemory;
 use port_bank::PlainBank;
 use rank_node::Steps;

@@ -2,7 +2,7 @@ use Rattle.std.proofs.Common.{rules, ◌≡◌, ◌<◌, length, get_or, arith, 
 use Rattle.std.proofs.lemmas.List.{length-map}
 use Rattle.list_laws.proofs.Lists.{all_get}
 use Rattle.route_tensor.specs.Grid.{ranks}
-use Rattle.biconvey.specs.States.{BiState}
+use Rattle.query_node.specs.States.{BiState}
 use Rattle.biconvey.specs.Worlds.{SweptTo, sides_of}
 use Rattle.biconvey.proofs.Swept.{sweeping_more, swept_none, same_turn, same_banks, same_world, order_at}
 use Rattle.biconvey.proofs.sweeping.sweep.Goals as goal

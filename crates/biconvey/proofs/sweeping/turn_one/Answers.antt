@@ -2,7 +2,7 @@ use Rattle.std.proofs.Common.{rules, ◌≡◌, ◌<◌, length, slice_get, slic
 use Rattle.std.proofs.lemmas.Option.{slice_get_read}
 use Rattle.std.proofs.lemmas.List.{length-map}
 use Rattle.list_laws.proofs.Lists.{get_once, get_here, get_other}
-use Rattle.biconvey.specs.States.{BiState}
+use Rattle.query_node.specs.States.{BiState}
 use Rattle.biconvey.specs.Worlds.{AfterRank, sides_of}
 use Rattle.biconvey.proofs.sweeping.turn_one.Goals as goal
 

@@ -1,9 +1,0 @@
-use Rattle.hop_core.specs.Relay.{waiting}
-use Rattle.biconvey.specs.Taking.{Answers}
-use Rattle.biconvey.proofs.answering.answer_all.Given as goal
-
-abbrev pub invariant-loop-number : goal.invariant-loop-number
-invariant-loop-number g l = Answers g.A.Asker.talk l.asker.value l.fn.queries l.queries l.fn.replies l.replies
-
-abbrev pub decreases-loop-number : goal.decreases-loop-number
-decreases-loop-number g l = waiting l.queries.ins

@@ -1,8 +1,0 @@
-use Rattle.biconvey.proofs.Theorem.{replies_begin, replies_end}
-use Rattle.biconvey.proofs.law.replies_law.Goals as goal
-
-pub returns-clause-begin : goal.returns-clause-begin
-returns-clause-begin g c = replies_begin g.A.Asker.talk
-
-pub returns-clause-end : goal.returns-clause-end
-returns-clause-end g c = replies_end g.A.Asker.talk

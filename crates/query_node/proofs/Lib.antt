@@ -1,0 +1,12 @@
+pub mod Orders
+pub mod Theorem
+pub mod Lining
+pub mod Pulling
+pub mod Offering
+pub mod Answered
+pub mod Heard
+pub mod Turned
+pub mod Fresh
+pub mod Stopped
+pub mod Taken
+pub mod Closing

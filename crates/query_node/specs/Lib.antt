@@ -1,0 +1,6 @@
+pub mod Banks
+pub mod Lines
+pub mod Taking
+pub mod States
+pub mod Still
+pub mod Ranks

@@ -1,0 +1,276 @@
+//! A rank that asks, answers and hears.
+
+ghost use Rattle.std.specs.Prelude.{◌≡◌, ◌≢◌, ℕ, ◌+◌, ◌<◌, ◌≤◌, ◌==◌, ◌++◌, ◌&&◌, false, List, [], length, IfOk, OnOk, IsOk, Ok};
+ghost use Rattle.port_bank.specs.Frames.{SamePort};
+ghost use Rattle.item_buffer.specs.Capacity.{IsCap};
+ghost use Rattle.std.specs.List.{flat_map};
+ghost use Rattle.item_buffer.specs.Contents.{Shipped};
+ghost use Rattle.route_tensor.specs.Grid.{ranks};
+ghost use Rattle.route_tensor.specs.Link.{links};
+ghost use Rattle.route_tensor.specs.Ends.{sender_at, reader_at};
+ghost use Rattle.convey.specs.Buffers.{in_of, is_complete};
+ghost use Rattle.list_laws.specs.Lists.{Begins};
+ghost use Rattle.port_bank.specs.Shapes.{IsConveyorShape};
+ghost use Rattle.round_program.specs.Replies.{asks_of};
+ghost use Rattle.query_node.specs.States.{BiState, IsBiNode, IsFirst, HasAsked, HasAnswered};
+ghost use Rattle.query_node.specs.Still.{IsStuck};
+
+use crate::answering::{answer_open, is_over};
+use crate::asking::push_queries;
+use crate::hearing::hear_all;
+use crate::line::Line;
+use crate::lines::all_lines;
+use bale_types::NoMemory;
+use convey::{Conveyor, Phase, Progress};
+use port_bank::Port;
+use rank_node::{Steps, Turn};
+use round_program::Asker;
+use route_tensor::Grid;
+use std::alloc::Global;
+use std::marker::Model;
+use std::sync::ledger::Ledger;
+
+/// An asker and its rank's two conveyors, for parcels of `CAP` entries and routes of `HOPS` hops.
+#[derive(Drop)]
+pub struct BiNode<A, const CAP: usize, const HOPS: usize> {
+    asker: Box<A>,
+    /// How many of its queries are pushed.
+    next: u64,
+    /// For each rank, the queries to it that wait for a reply.
+    lines: Vec<Line>,
+    queries: Conveyor<CAP, HOPS>,
+    replies: Conveyor<CAP, HOPS>,
+}
+
+impl<A, const CAP: usize, const HOPS: usize> Model for BiNode<A, CAP, HOPS> {
+    ghost use Rattle.query_node.specs.States.{BiState};
+
+    ghost Value = { BiState A };
+
+    ghost view = { λ n. record {
+      asker = n.asker.value;
+      next = n.next;
+      lines = n.lines.items;
+      queries = n.queries;
+      replies = n.replies;
+    } };
+}
+
+impl<A: Asker, const CAP: usize, const HOPS: usize> BiNode<A, CAP, HOPS> {
+    /// A rank that hasn't turned.
+    pub fn new(alloc: Global, grid: &Grid, asker: A, steady: bool) -> Result<Self, NoMemory>
+        requires cap { IsCap CAP }
+        requires hops { length grid.now ≡ HOPS }
+        requires rank { A.talk.rank asker < ranks grid.now }
+        requires all_ranks { A.talk.ranks asker ≡ ranks grid.now }
+        ensures node { IfOk result (λ n. IsBiNode A.talk asker n (λ l. []) (λ l. []) (λ l. []) (λ l. [])) }
+        ensures asker { IfOk result (λ n. n.asker ≡ asker) }
+        ensures dims { IfOk result (λ n. n.queries.dims ≡ grid.now) }
+        ensures rank { IfOk result (λ n. n.queries.rank ≡ A.talk.rank asker) }
+        ensures unread { IfOk result (λ n. (l : ℕ) → ((in_of n.queries l).parcel.untaken ≡ [])
+            × ((in_of n.replies l).parcel.untaken ≡ [])) }
+        ensures working { IfOk result (λ n. n.queries.phase ≡ Phase.Working) }
+        ensures steady { IfOk result (λ n. (n.queries.steady ≡ steady) × (n.replies.steady ≡ steady)) }
+    {
+        let rank = asker.rank();
+        let queries = begun(alloc, grid, rank, steady)?;
+        let replies = begun(alloc, grid, rank, steady)?;
+        let asker = Box::new(alloc, asker)?;
+        let lines = all_lines(alloc, &asker, grid.ranks())?;
+        Ok(BiNode {
+            asker,
+            next: 0,
+            lines,
+            queries,
+            replies,
+        })
+    }
+
+    /// One turn, by which `steps` rises by one. It pushes queries, in order, until one is refused or all are pushed; advances
+    /// the queries; answers those that came, until an answer is refused; advances the replies, which are done exactly where the
+    /// queries are complete; and hears all replies that came.
+    ///
+    /// # Errors
+    /// `NoMemory` comes only from a port's post.
+    pub fn turn<P: Port<CAP>, R: Port<CAP>, L: Ledger>(
+        &mut self,
+        queries: &mut P,
+        replies: &mut R,
+        steps: &mut Steps<L>,
+    ) -> Result<Turn, NoMemory>
+        requires queries_dims { P.dims queries.old ≡ self.old.queries.dims }
+        requires queries_rank { P.rank queries.old ≡ self.old.queries.rank }
+        requires replies_dims { R.dims replies.old ≡ self.old.replies.dims }
+        requires replies_rank { R.rank replies.old ≡ self.old.replies.rank }
+        requires node { (start : A) × IsBiNode A.talk start self.old (P.sent queries.old) (P.got queries.old)
+            (R.sent replies.old) (R.got replies.old) }
+        ensures kept { (start : A) → IsBiNode A.talk start self.old (P.sent queries.old) (P.got queries.old)
+            (R.sent replies.old) (R.got replies.old)
+            → IsBiNode A.talk start self.new (P.sent queries.new) (P.got queries.new) (R.sent replies.new)
+            (R.got replies.new) }
+        ensures steps { steps.new ≡ steps.old + 1 }
+
+        // Between its two advances, when the queries' port is as the turn leaves it and the replies' port as the turn
+        // found it, the rank is one that stands between two turns: so what holds of those moments holds of this one.
+        ensures between { (mid : BiState A) × ((start : A) → IsBiNode A.talk start self.old (P.sent queries.old)
+            (P.got queries.old) (R.sent replies.old) (R.got replies.old)
+            → IsBiNode A.talk start mid (P.sent queries.new) (P.got queries.new) (R.sent replies.old)
+            (R.got replies.old)) }
+        ensures memory { P.Memory.GROWS ≡ false → R.Memory.GROWS ≡ false → IsOk result }
+
+        // Ended exactly where both ways are complete.
+        ensures ended { result ≡ Ok Turn.Ended → (self.new.queries.phase ≡ Phase.Complete)
+            × (self.new.replies.phase ≡ Phase.Complete) }
+        ensures going { result ≡ Ok Turn.Going → self.new.queries.phase ≡ Phase.Complete
+            → self.new.replies.phase ≢ Phase.Complete }
+
+        // A query is left to push only where its push was refused, and one that came is unread only where its answer was. The
+        // rank is done asking exactly where all its queries are pushed, and done replying exactly where the queries are over.
+        ensures unasked { HasAsked A.talk CAP self.old self.new }
+        ensures unanswered { HasAnswered A.talk CAP self.old self.new (P.sent queries.old) (P.got queries.old)
+            (P.sent queries.new) (P.got queries.new) }
+        ensures asked_all { self.new.queries.done ≡ (self.new.next == length (asks_of A.talk self.new.asker)) }
+        ensures replied_all { self.new.replies.done ≡ is_complete self.new.queries.phase }
+
+        // What stays.
+        ensures dims { self.new.queries.dims ≡ self.old.queries.dims }
+        ensures rank { self.new.queries.rank ≡ self.old.queries.rank }
+        ensures steady { self.new.queries.steady ≡ self.old.queries.steady }
+        ensures steady_replies { self.new.replies.steady ≡ self.old.replies.steady }
+        ensures same_queries { SamePort P.Port queries.old queries.new }
+        ensures same_replies { SamePort R.Port replies.old replies.new }
+
+        // Each way advances once: its lists only grow, each by one parcel at most, and of the conveyor's shape.
+        ensures queries_sent { (l : ℕ) → Begins (P.sent queries.old l) (P.sent queries.new l) }
+        ensures queries_got { (l : ℕ) → Begins (P.got queries.old l) (P.got queries.new l) }
+        ensures replies_sent { (l : ℕ) → Begins (R.sent replies.old l) (R.sent replies.new l) }
+        ensures replies_got { (l : ℕ) → Begins (R.got replies.old l) (R.got replies.new l) }
+        ensures queries_once { (l : ℕ) → l < links self.old.queries.dims
+            → sender_at self.old.queries.dims l ≡ self.old.queries.rank
+            → length (P.sent queries.new l) ≤ length (P.sent queries.old l) + 1 }
+        ensures queries_got_once { (l : ℕ) → l < links self.old.queries.dims
+            → reader_at self.old.queries.dims l ≡ self.old.queries.rank
+            → length (P.got queries.new l) ≤ length (P.got queries.old l) + 1 }
+        ensures replies_once { (l : ℕ) → l < links self.old.replies.dims
+            → sender_at self.old.replies.dims l ≡ self.old.replies.rank
+            → length (R.sent replies.new l) ≤ length (R.sent replies.old l) + 1 }
+        ensures replies_got_once { (l : ℕ) → l < links self.old.replies.dims
+            → reader_at self.old.replies.dims l ≡ self.old.replies.rank
+            → length (R.got replies.new l) ≤ length (R.got replies.old l) + 1 }
+        ensures queries_shape { (l : ℕ) → IsConveyorShape self.old.queries.steady CAP (P.sent queries.old l)
+            → IsConveyorShape self.old.queries.steady CAP (P.sent queries.new l) }
+        ensures replies_shape { (l : ℕ) → IsConveyorShape self.old.replies.steady CAP (R.sent replies.old l)
+            → IsConveyorShape self.old.replies.steady CAP (R.sent replies.new l) }
+        ensures queries_lie { (l : ℕ) (more : List Shipped) → l < links self.old.queries.dims
+            → reader_at self.old.queries.dims l ≡ self.old.queries.rank
+            → P.got queries.new l ≡ P.got queries.old l ++ more
+            → length (in_of self.new.queries l).parcel.untaken ≤ length (in_of self.old.queries l).parcel.untaken
+            + length (flat_map (λ p. p.entries) more) }
+        ensures replies_lie { (l : ℕ) (more : List Shipped) → l < links self.old.replies.dims
+            → reader_at self.old.replies.dims l ≡ self.old.replies.rank
+            → R.got replies.new l ≡ R.got replies.old l ++ more
+            → length (in_of self.new.replies l).parcel.untaken ≤ length (in_of self.old.replies l).parcel.untaken
+            + length (flat_map (λ p. p.entries) more) }
+
+        // Where no parcel was moved on either way, something outside keeps the rank.
+        ensures stuck { OnOk result ((start : A) → IsBiNode A.talk start self.old (P.sent queries.old)
+            (P.got queries.old) (R.sent replies.old) (R.got replies.old)
+            → ((l : ℕ) → P.sent queries.new l ≡ P.sent queries.old l)
+            → ((l : ℕ) → P.got queries.new l ≡ P.got queries.old l)
+            → ((l : ℕ) → R.sent replies.new l ≡ R.sent replies.old l)
+            → ((l : ℕ) → R.got replies.new l ≡ R.got replies.old l)
+            → IsStuck self.old self.new
+            (record {
+              asking = P.sent queries.old;
+              asked = P.got queries.old;
+              replying = R.sent replies.old;
+              replied = R.got replies.old;
+            })
+            (record {
+              asking = P.sent queries.new;
+              asked = P.got queries.new;
+              replying = R.sent replies.new;
+              replied = R.got replies.new;
+            })
+            (record {
+              crowded = P.crowded queries.new;
+              idle = P.idle queries.new;
+              replies_crowded = R.crowded replies.new;
+              replies_idle = R.idle replies.new;
+            })) }
+    {
+        steps.tick();
+        self.next = push_queries(&self.asker, &mut self.queries, self.next);
+        let all = self.next == self.asker.count();
+        let asked = self.queries.advance(queries, all);
+        self.queries.known();
+        let _refused = answer_open(&self.asker, &mut self.queries, &mut self.replies);
+        let over = is_over(self.queries.phase());
+        let replied = self.replies.advance(replies, over);
+        hear_all(&mut self.asker, &mut self.lines, &mut self.replies);
+        self.replies.known();
+        turn_of(asked, replied)
+    }
+
+    /// How many of its queries are pushed.
+    pub fn asked(&self) -> u64
+        ensures { result ≡ self.now.next }
+    {
+        self.next
+    }
+
+    /// Whether both ways are complete.
+    pub fn is_over(&self) -> bool
+        ensures { result ≡ (is_complete self.now.queries.phase && is_complete self.now.replies.phase) }
+    {
+        is_over(self.queries.phase()) && is_over(self.replies.phase())
+    }
+
+    /// The asker, with what it has heard.
+    pub fn into_asker(self) -> A
+        ensures { result ≡ self.asker }
+    {
+        let BiNode {
+            asker,
+            next: _,
+            lines: _,
+            queries: _,
+            replies: _,
+        } = self;
+        Box::into_inner(asker)
+    }
+}
+
+/// A new conveyor that has begun its first epoch.
+fn begun<const CAP: usize, const HOPS: usize>(
+    alloc: Global,
+    grid: &Grid,
+    rank: u32,
+    steady: bool,
+) -> Result<Conveyor<CAP, HOPS>, NoMemory>
+    requires cap { IsCap CAP }
+    requires hops { length grid.now ≡ HOPS }
+    requires rank { rank < ranks grid.now }
+    ensures { IfOk result (λ c. IsFirst grid.now rank steady c) }
+{
+    let mut conveyor = Conveyor::new(alloc, grid, rank, steady)?;
+    conveyor.begin();
+    conveyor.known();
+    Ok(conveyor)
+}
+
+/// What a turn tells, by how far its advances came.
+fn turn_of(
+    asked: Result<Progress, NoMemory>,
+    replied: Result<Progress, NoMemory>,
+) -> Result<Turn, NoMemory>
+    ensures ok { IsOk asked → IsOk replied → IsOk result }
+    ensures both { IsOk result → IsOk asked × IsOk replied }
+    ensures ended { result ≡ Ok Turn.Ended → (asked ≡ Ok Progress.Complete) × (replied ≡ Ok Progress.Complete) }
+    ensures going { result ≡ Ok Turn.Going → asked ≡ Ok Progress.Complete → replied ≢ Ok Progress.Complete }
+{
+    match (asked?, replied?) {
+        (Progress::Complete, Progress::Complete) => Ok(Turn::Ended),
+        _ => Ok(Turn::Going),
+    }
+}

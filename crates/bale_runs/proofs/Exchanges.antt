@@ -4,9 +4,8 @@ use Rattle.std.specs.List.{list_any}
 use Rattle.std.proofs.lemmas.Bool.{false≢true}
 use Rattle.std.proofs.lemmas.Bool.Decides.{nat_tests}
 use Rattle.port_bank.specs.Port.{IsSlots}
-use Rattle.case_table.specs.Capacities.{IsCapacity}
 use Rattle.bale_words.specs.declared.command.Command.{Command}
-use Rattle.bale_words.specs.Values.{slot_counts, buffer_sizes}
+use Rattle.bale_words.specs.Values.{slot_counts}
 use Rattle.rank_node.specs.declared.via.Via.TheVariants as via
 use Rattle.bale_words.specs.declared.command.Transport.{Transport}
 use Rattle.bale_words.specs.declared.command.Transport.TheVariants.{Convey, Exstack, Biconvey}
@@ -15,10 +14,6 @@ use Rattle.bale_subjects.specs.declared.unfit.Unfit.{Unfit}
 use Rattle.bale_subjects.specs.declared.unfit.Unfit.TheVariants as unfit
 use Rattle.bale_subjects.specs.Fitness.{is_exstack, first_failed, subject_tests, unfitness}
 use Rattle.bale_runs.specs.Jobs.{via_of}
-
-pub is_capacity : (cap : ℕ) → list_any (λ size. size == cap) buffer_sizes ≡ true → IsCapacity cap
-unfolding IsCapacity
-is_capacity cap h = h
 
 pub is_slots : (n : ℕ) → list_any (λ count. count == n) slot_counts ≡ true → IsSlots n
 unfolding IsSlots

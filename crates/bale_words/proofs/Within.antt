@@ -6,6 +6,8 @@ use Rattle.std.proofs.lemmas.Option.{option_and_then_some, none-some, same_Some}
 use Rattle.std.proofs.lemmas.Bool.{cases_Bool, false≢true}
 use Rattle.std.proofs.lemmas.Bool.Decides.{nat_tests}
 use Rattle.std.specs.Str.{bytes_eq}
+use Rattle.item_buffer.specs.declared.capacity.TheConstants.{MOST_ENTRIES, CAPACITIES}
+use Rattle.item_buffer.specs.Capacity.{is_capacity, IsCapacity}
 use Rattle.bale_words.specs.declared.task.TaskName.{TaskName}
 use Rattle.bale_words.specs.declared.task.TaskName.TheVariants as application
 use Rattle.bale_words.specs.declared.command.Command.{Command}
@@ -17,7 +19,7 @@ use Rattle.bale_words.specs.declared.command.Driving.TheVariants.{Threads}
 use Rattle.bale_words.specs.declared.travel.Travel.{Travel}
 use Rattle.bale_words.specs.Numbers.{number_in, number_of, within}
 use Rattle.bale_words.specs.Options.{Given, given_of, is_among, accepted, value_in}
-use Rattle.bale_words.specs.Values.{slot_counts, buffer_sizes, most_entries, one_of, or_default, if_given, grid_of, slots_of, buffer_of, steady_of, driving_of, transport_of, generated_of, generated_by}
+use Rattle.bale_words.specs.Values.{slot_counts, most_entries, one_of, or_default, if_given, grid_of, slots_of, buffer_of, steady_of, driving_of, transport_of, generated_of, generated_by}
 use Rattle.bale_words.specs.Words.{application_of, names_of, task_in, travel_in, travel_of, search_of, permutations_of, command_in, command_by, command_with, command_of}
 use Rattle.bale_words.specs.declared.fault.WordsFault.{WordsFault}
 use Rattle.bale_words.specs.Reading.{Reads}
@@ -60,10 +62,10 @@ unfolding slots_of
 slots_are None m e = subst (λ k. list_any (λ count. count == k) slot_counts ≡ true) (same_Some 2 m e) refl
 slots_are (Some text) m e = option_and_then_some (one_of slot_counts) (number_in 1 8 text) m e (λ n f g. one_is slot_counts n m g)
 
-buffer_is : (o : Option (List ℕ)) (m : ℕ) → or_default 64 buffer_of o ≡ Some m → list_any (λ size. size == m) buffer_sizes ≡ true
-unfolding buffer_of
-buffer_is None m e = subst (λ k. list_any (λ size. size == k) buffer_sizes ≡ true) (same_Some 64 m e) refl
-buffer_is (Some text) m e = option_and_then_some (one_of buffer_sizes) (number_in 1 1024 text) m e (λ n f g. one_is buffer_sizes n m g)
+buffer_is : (o : Option (List ℕ)) (m : ℕ) → or_default 64 buffer_of o ≡ Some m → IsCapacity m
+unfolding buffer_of IsCapacity
+buffer_is None m e = subst (λ k. is_capacity k ≡ true) (same_Some 64 m e) refl
+buffer_is (Some text) m e = option_and_then_some (one_of CAPACITIES) (number_in 1 MOST_ENTRIES text) m e (λ n f g. one_is CAPACITIES n m g)
 
 can_generate : (parts : List (List ℕ)) (g : Generated) → generated_by parts ≡ Some g → CanGenerate g
 can_generate [] g e = absurd (none-some g e)

@@ -1,12 +1,13 @@
 -- What the numbers of a command may be.
 use Rattle.std.specs.Prelude.{◌≡◌, ◌≤◌, ◌==◌, true, Option, Some, None}
 use Rattle.std.specs.List.{list_any}
+use Rattle.item_buffer.specs.Capacity.{IsCapacity}
 use Rattle.bale_words.specs.declared.command.Command.{Command}
 use Rattle.bale_words.specs.declared.command.Generated.{Generated}
 use Rattle.bale_words.specs.declared.task.Task.{Task}
 use Rattle.bale_words.specs.declared.task.Task.TheVariants as task
 use Rattle.bale_words.specs.declared.travel.Travel.{Travel}
-use Rattle.bale_words.specs.Values.{slot_counts, buffer_sizes, most_entries}
+use Rattle.bale_words.specs.Values.{slot_counts, most_entries}
 
 -- A matrix that can be generated.
 pub record CanGenerate (g : Generated) : Type 0 where
@@ -21,7 +22,7 @@ MayGenerate None = Unit {0}
 MayGenerate (Some g) = CanGenerate g
 
 pub record TravelInRanges (t : Travel) : Type 0 where
-  pub buffer : list_any (λ size. size == t.buffer) buffer_sizes ≡ true
+  pub buffer : IsCapacity t.buffer
   pub slots : list_any (λ count. count == t.slots) slot_counts ≡ true
   pub generated : MayGenerate t.generated
 

@@ -3,6 +3,7 @@ use Rattle.std.specs.Prelude.{ℕ, Bool, true, false, ◌+◌, ◌*◌, ◌-◌,
 use Rattle.std.specs.List.{list_any, slice_split}
 use Rattle.std.specs.Option.{option_map, option_and_then}
 use Rattle.std.specs.Str.{bytes_eq}
+use Rattle.item_buffer.specs.declared.capacity.TheConstants.{MOST_ENTRIES, CAPACITIES}
 use Rattle.route_tensor.specs.Refusal.{refusal}
 use Rattle.bale_words.specs.declared.task.TaskName.{TaskName}
 use Rattle.bale_words.specs.declared.task.TaskName.TheVariants as application
@@ -45,19 +46,16 @@ as_grid dims = if is_some (refusal dims) then None else Some dims
 unfoldable pub grid_of : List ℕ → Option (List ℕ)
 grid_of text = numbers_in 120 1 64 text >>= as_grid
 
--- How many slots a link may have, and how many entries a parcel may hold.
+-- How many slots a link may have.
 abbrev pub slot_counts : List ℕ
 slot_counts = 1 ∷ 2 ∷ 4 ∷ 8 ∷ []
-
-abbrev pub buffer_sizes : List ℕ
-buffer_sizes = 1 ∷ 2 ∷ 4 ∷ 8 ∷ 16 ∷ 32 ∷ 64 ∷ 128 ∷ 256 ∷ 512 ∷ 1024 ∷ []
 
 -- Slots of a link, and the entries of a parcel.
 unfoldable pub slots_of : List ℕ → Option ℕ
 slots_of text = number_in 1 8 text >>= one_of slot_counts
 
 unfoldable pub buffer_of : List ℕ → Option ℕ
-buffer_of text = number_in 1 1024 text >>= one_of buffer_sizes
+buffer_of text = number_in 1 MOST_ENTRIES text >>= one_of CAPACITIES
 
 -- `yes` or `no`.
 unfoldable pub steady_of : List ℕ → Option Bool

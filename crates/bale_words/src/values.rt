@@ -11,6 +11,7 @@ use crate::command::{Driving, Generated, Transport};
 use crate::fault::WordsFault;
 use crate::numbers::{first_part, number_between, numbers_between};
 use crate::task::TaskName;
+use item_buffer::{CAPACITIES, MOST_ENTRIES};
 use route_tensor::Grid;
 use std::alloc::Global;
 
@@ -63,9 +64,6 @@ fn slots_from(text: &[u8]) -> Option<u32>
     }
 }
 
-/// The buffer sizes, in entries.
-const BUFFER_SIZES: [u32; 11] = [1, 2, 4, 8, 16, 32, 64, 128, 256, 512, 1024];
-
 /// The number of `--buffer`; 64 where it isn't given.
 pub(crate) fn read_buffer(text: Option<&str>) -> Option<u32>
     ensures { result ≡ or_default 64 buffer_of (option_map (λ s. s.now) text.entry) }
@@ -80,8 +78,8 @@ pub(crate) fn read_buffer(text: Option<&str>) -> Option<u32>
 fn buffer_from(text: &[u8]) -> Option<u32>
     ensures { result ≡ buffer_of text.now }
 {
-    let n = number_between(1, 1024, text)? as u32;
-    if BUFFER_SIZES.contains(&n) {
+    let n = number_between(1, MOST_ENTRIES as u64, text)? as u32;
+    if CAPACITIES.contains(&n) {
         Some(n)
     } else {
         None

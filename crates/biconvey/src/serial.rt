@@ -5,7 +5,7 @@ ghost use Rattle.std.specs.List.{sum_by};
 ghost use Rattle.route_tensor.specs.Grid.{ranks};
 ghost use Rattle.port_bank.specs.Port.{IsSlots};
 ghost use Rattle.rank_group.specs.Ranks.{IsOrder};
-ghost use Rattle.case_table.specs.Capacities.{IsCapacity};
+ghost use Rattle.item_buffer.specs.Capacity.{IsCapacity};
 ghost use Rattle.biconvey.specs.Worlds.{turns_of};
 ghost use Rattle.biconvey.specs.Drives.{AreAskers};
 ghost use Rattle.biconvey.specs.Driven.{HasExchanged, HasSweptBoth};
@@ -54,6 +54,7 @@ pub fn bi_serial<A: Asker, L: Ledger>(
 }
 
 /// The cases of so many hops.
+#[tactic(auto, unfolding(item_buffer::specs::Capacity::IsCapacity))]
 fn over_hops<const HOPS: usize, A: Asker, L: Ledger>(
     alloc: Global,
     grid: &Grid,

@@ -3,7 +3,7 @@
 ghost use Rattle.std.specs.Prelude.{◌≡◌, ℕ, ◌<◌, true, length, IfOk, OnOk};
 ghost use Rattle.route_tensor.specs.Grid.{ranks};
 ghost use Rattle.port_bank.specs.Port.{IsSlots};
-ghost use Rattle.case_table.specs.Capacities.{IsCapacity};
+ghost use Rattle.item_buffer.specs.Capacity.{IsCapacity};
 ghost use Rattle.biconvey.specs.Drives.{AreAskers};
 ghost use Rattle.biconvey.specs.Driven.{HasExchanged};
 
@@ -50,6 +50,7 @@ pub fn bi_threads<R: Threads + Wait + Clock + Sync, A: Asker + Send, G: Gate + S
 }
 
 /// The cases of so many hops.
+#[tactic(auto, unfolding(item_buffer::specs::Capacity::IsCapacity))]
 fn over_hops<const HOPS: usize, R: Threads + Wait + Clock + Sync, A: Asker + Send, G: Gate + Sync>(
     rt: &R,
     alloc: Global,

@@ -1,7 +1,6 @@
 //! One case for each capacity.
 
-/// The drive for a capacity: each case hands the values on. In a `match` the last arm would know nothing of the others, so no contract
-/// could say that 1,024 is left.
+/// The drive for a capacity, one of item_buffer's `CAPACITIES`: each case hands the values on.
 #[macro_export]
 macro_rules! by_capacity {
     ($cap:expr, $drive:ident::<$hops:ident, $($param:ty),*>, ($($value:expr),*)) => {
@@ -25,8 +24,10 @@ macro_rules! by_capacity {
             $drive::<256, $hops, $($param),*>($($value),*)
         } else if $cap == 512 {
             $drive::<512, $hops, $($param),*>($($value),*)
-        } else {
+        } else if $cap == 1024 {
             $drive::<1024, $hops, $($param),*>($($value),*)
+        } else {
+            unreachable!()
         }
     };
 }

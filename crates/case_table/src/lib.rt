@@ -9,7 +9,7 @@
 //! | `case_serial` | `drive_serial` |
 //! | `case_threads` | `drive_threads` |
 //!
-//! `specs/Capacities` says which capacities there are.
+//! item_buffer's `IsCapacity` says which capacities there are.
 #![tactic(auto)]
 
 mod capacities;

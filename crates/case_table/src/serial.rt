@@ -5,7 +5,7 @@ ghost use Rattle.port_bank.specs.Port.{IsSlots};
 ghost use Rattle.rank_node.specs.Movers.{manner_of};
 ghost use Rattle.rank_group.specs.Ranks.{IsOrder};
 ghost use Rattle.rank_group.specs.Driven.{MayRun, HasFinished, HasSwept, WithinTurns};
-ghost use Rattle.case_table.specs.Capacities.{IsCapacity};
+ghost use Rattle.item_buffer.specs.Capacity.{IsCapacity};
 
 use crate::by_capacity;
 use bale_types::NoMemory;
@@ -52,6 +52,7 @@ pub fn case_serial<Q: Program, L: Ledger>(
 }
 
 /// The cases of so many hops.
+#[tactic(auto, unfolding(item_buffer::specs::Capacity::IsCapacity))]
 fn over_hops<const HOPS: usize, Q: Program, L: Ledger>(
     alloc: Global,
     grid: &Grid,

@@ -3,7 +3,7 @@ ghost use Rattle.std.specs.Prelude.{◌≡◌, true, length, IfOk, OnOk};
 ghost use Rattle.port_bank.specs.Port.{IsSlots};
 ghost use Rattle.rank_node.specs.Movers.{manner_of};
 ghost use Rattle.rank_group.specs.Driven.{MayRun, HasFinished, ToldOfTurns};
-ghost use Rattle.case_table.specs.Capacities.{IsCapacity};
+ghost use Rattle.item_buffer.specs.Capacity.{IsCapacity};
 
 use crate::by_capacity;
 use bale_types::NoMemory;
@@ -48,6 +48,7 @@ pub fn case_threads<R: Threads + Wait + Clock + Sync, Q: Program + Send, G: Gate
 }
 
 /// The cases of so many hops.
+#[tactic(auto, unfolding(item_buffer::specs::Capacity::IsCapacity))]
 fn over_hops<
     const HOPS: usize,
     R: Threads + Wait + Clock + Sync,

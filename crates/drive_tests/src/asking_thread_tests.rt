@@ -2,7 +2,7 @@
 
 ghost use Rattle.std.specs.Prelude.{◌≡◌, ◌<◌, ◌≤◌, length};
 ghost use Rattle.item_buffer.specs.Capacity.{IsCap};
-ghost use Rattle.case_table.specs.Capacities.{IsCapacity};
+ghost use Rattle.item_buffer.specs.Capacity.{IsCapacity};
 
 use crate::asking_tests::{Told, adders_of, have_heard};
 use crate::gates::TestGate;

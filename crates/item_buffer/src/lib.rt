@@ -25,5 +25,5 @@
 mod capacity;
 mod parcel;
 
-pub use capacity::MOST_ENTRIES;
+pub use capacity::{CAPACITIES, MOST_ENTRIES};
 pub use parcel::Parcel;

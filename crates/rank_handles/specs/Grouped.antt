@@ -1,6 +1,6 @@
 -- What contracts see of a group, and of a rank that was just made.
 use Rattle.std.specs.Prelude.{◌≡◌, ℕ, ◌==◌, ◌||◌, not, is_some, Bool, true, false, List, [], ◌∷◌, sum, replicate, slice_set, None, nat_lt, slice_index_or, if◌then◌else◌, Result, Ok, Err}
-use Rattle.std.specs.List.{list_any}
+use Rattle.item_buffer.specs.Capacity.{is_capacity}
 use Rattle.route_tensor.specs.Grid.{ranks}
 use Rattle.route_tensor.specs.Refusal.{refusal}
 use Rattle.link_slots.specs.Seen.{Bank, posted_on, collected_from}
@@ -19,13 +19,7 @@ pub record Grouped : Type 0 where
   pub steady : Bool
   pub given : List Bool
 
--- The capacities and the numbers of slots that there are.
-abbrev pub capacities : List ℕ
-capacities = 1 ∷ 2 ∷ 4 ∷ 8 ∷ 16 ∷ 32 ∷ 64 ∷ 128 ∷ 256 ∷ 512 ∷ 1024 ∷ []
-
-abbrev pub is_capacity : ℕ → Bool
-is_capacity cap = list_any (λ size. size == cap) capacities
-
+-- The numbers of slots that there are.
 abbrev pub is_slots : ℕ → Bool
 is_slots n = (n == 1) || (n == 2) || (n == 4) || (n == 8)
 

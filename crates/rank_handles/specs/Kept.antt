@@ -1,5 +1,6 @@
 -- What is kept of a rank at its bank.
 use Rattle.std.specs.Prelude.{◌≡◌, ℕ, Bool, true, false, ◌<◌, ◌≤◌, length, Option, Some, None, is_some, List, []}
+use Rattle.item_buffer.specs.Capacity.{IsCap}
 use Rattle.route_tensor.specs.Grid.{ranks}
 use Rattle.link_slots.specs.Shape.{nowhere}
 use Rattle.link_slots.specs.Seen.{Bank, Manning, posted_on, collected_from}
@@ -55,8 +56,7 @@ pub record IsAtGather (bank : Bank) (gather : Gathering) (grid : List ℕ) : Typ
 
 -- A group: its ranks are those that the gathering seat has given out.
 pub record IsGroup (cap : ℕ) (bank : Bank) (gather : Gathering) (grid : List ℕ) (given : List Bool) : Type 0 where
-  pub some : 0 < cap
-  pub small : cap ≤ 1024
+  pub cap_is : IsCap cap
   pub at_gather : IsAtGather bank gather grid
   pub given_is : gather.given ≡ given
   pub given_all : length given ≡ ranks grid

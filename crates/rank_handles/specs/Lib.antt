@@ -3,9 +3,8 @@ pub mod Seated
 pub mod Answers
 pub mod Calls
 pub mod Many
-pub mod Cases
 pub mod Grouped
-pub mod GroupCases
+pub mod Cases
 pub mod Holds
 pub mod Items
 pub mod Handles

@@ -1,6 +1,7 @@
 //! A group: the bank that its ranks share, for one capacity, and the ranks that are still to be made.
 ghost use Rattle.std.specs.Prelude.{◌≡◌, ◌≢◌, None, ◌<◌, ◌≤◌, ℕ, true, false, Ok, Err, IfOk, OnOk, OnErr, slice_index_or, slice_set};
 ghost use Rattle.std.specs.Arc.{arc_value};
+ghost use Rattle.item_buffer.specs.Capacity.{IsCap};
 ghost use Rattle.route_tensor.specs.Grid.{ranks};
 ghost use Rattle.port_bank.specs.Port.{IsSlots};
 ghost use Rattle.rank_handles.specs.Grouped.{Grouped, IsNewGroup, NewRank, IsNewRank, with_given, rank_answer};
@@ -8,7 +9,7 @@ ghost use Rattle.rank_handles.specs.Kept.{IsAtGather};
 ghost use Rattle.rank_handles.specs.Cases.{seen_by_hops};
 
 use crate::answer::Answer;
-use crate::any_rank::HopsCase;
+use crate::cases::HopsCase;
 use crate::rank::Rank;
 use bale_types::NoMemory;
 use link_slots::{GatherSeat, SlotBank};
@@ -49,8 +50,7 @@ impl<const CAP: usize> Group<CAP> {
         slots: u32,
         steady: bool,
     ) -> Result<Group<CAP>, NoMemory>
-        requires some { 0 < CAP }
-        requires small { CAP ≤ 1024 }
+        requires cap { IsCap CAP }
         requires slots { IsSlots slots }
         ensures { IfOk result (λ g. IsNewGroup grid.now CAP slots steady g) }
     {
@@ -120,8 +120,7 @@ fn case_of<const CAP: usize>(
     rank: u32,
     steady: bool,
 ) -> Result<HopsCase<CAP>, NoMemory>
-    requires some { 0 < CAP }
-    requires small { CAP ≤ 1024 }
+    requires cap { IsCap CAP }
     requires at_gather { IsAtGather (arc_value bank.now) gather.old grid.now }
     requires rank { rank < ranks grid.now }
     requires here { slice_index_or gather.old.given rank true ≡ false }

@@ -19,12 +19,11 @@
 //! The definitions, in the order in which to read them: `Codes` (the numbers that C knows),
 //! `Seated` (a rank, and a call that makes a step), `Answers` (when each answer comes), `Calls` (what a
 //! call leaves), `Grouped` (a group, and a rank that was just made), `Handles` and `Shown` (what a
-//! handle has), `Many` (calls of many items), `Items`. `Kept`, `Cases`, `GroupCases` and `Holds` are the code's own.
+//! handle has), `Many` (calls of many items), `Items`. `Kept`, `Cases` and `Holds` are the code's own.
 #![tactic(auto)]
 
 mod answer;
-mod any_group;
-mod any_rank;
+mod cases;
 mod exchange;
 mod group;
 mod handle;
@@ -38,8 +37,7 @@ mod part;
 mod rank;
 
 pub use answer::Answer;
-pub use any_group::AnyGroup;
-pub use any_rank::AnyRank;
+pub use cases::{AnyGroup, AnyRank};
 pub use exchange::Exchange;
 pub use handle::{BaleGroup, BaleRank};
 pub use held::Held;

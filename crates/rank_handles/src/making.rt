@@ -4,7 +4,7 @@ ghost use Rattle.rank_handles.specs.Grouped.{group_answer, rank_answer, answer_w
 ghost use Rattle.rank_handles.specs.Handles.{rank_in, group_in, if_there, given_in, HasNewGroup, HasNewRank};
 
 use crate::answer::Answer;
-use crate::any_group::AnyGroup;
+use crate::cases::AnyGroup;
 use crate::part::Part;
 use bale_types::NoMemory;
 use std::alloc::Global;

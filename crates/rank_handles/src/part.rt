@@ -3,8 +3,7 @@ ghost use Rattle.std.specs.Prelude.{Some};
 ghost use Rattle.rank_handles.specs.Handles.{rank_in};
 
 use crate::answer::Answer;
-use crate::any_group::AnyGroup;
-use crate::any_rank::AnyRank;
+use crate::cases::{AnyGroup, AnyRank};
 use crate::exchange::Exchange;
 use crate::item::BaleItem;
 use bale_types::Item;

@@ -1,6 +1,7 @@
 //! A rank at its bank: its seat and its conveyor, for one capacity and one number of hops.
 ghost use Rattle.std.specs.Prelude.{◌≡◌, ◌≢◌, ℕ, ◌<◌, ◌≤◌, true, false, None, Some, length, IfOk, OnOk, OnErr, slice_index_or, slice_set};
 ghost use Rattle.std.specs.Arc.{arc_value};
+ghost use Rattle.item_buffer.specs.Capacity.{IsCap};
 ghost use Rattle.route_tensor.specs.Grid.{ranks};
 ghost use Rattle.link_slots.specs.Seen.{posted_on, collected_from};
 ghost use Rattle.port_bank.specs.Machine.{IsOwnStep};
@@ -59,8 +60,7 @@ impl<const CAP: usize, const HOPS: usize> Rank<CAP, HOPS> {
         rank: u32,
         steady: bool,
     ) -> Result<Rank<CAP, HOPS>, NoMemory>
-        requires some { 0 < CAP }
-        requires small { CAP ≤ 1024 }
+        requires cap { IsCap CAP }
         requires hops { length grid.now ≡ HOPS }
         requires at_gather { IsAtGather (arc_value bank.now) gather.old grid.now }
         requires rank { rank < ranks grid.now }

@@ -6,7 +6,7 @@ use Rattle.app_histo_ig.specs.AskingRuns.{AreAskersOf}
 use Rattle.bale_runs.proofs.Asked.{they_ask}
 use Rattle.biconvey.specs.Driven.{HasExchanged}
 use Rattle.bale_runs.specs.Asking.{HasAsked}
-use Rattle.bale_runs.proofs.Exchanges.{is_capacity, is_slots}
+use Rattle.bale_runs.proofs.Exchanges.{is_slots}
 use Rattle.bale_runs.specs.Runs.{made_for}
 use Rattle.bale_runs.proofs.Heard.{all_heard, if_ok, told_replies}
 use Rattle.bale_runs.proofs.asking.hear_on_threads.Given.{Over}
@@ -38,7 +38,7 @@ returns g c =
     c.bi_threads.ensures.exchanged
 
 pub bi_threads-requires-clause-capacity : goal.bi_threads-requires-clause-capacity
-bi_threads-requires-clause-capacity g c κs within = is_capacity c.args.command.now.travel.buffer c.requires.ranges.travel.buffer
+bi_threads-requires-clause-capacity g c κs within = c.requires.ranges.travel.buffer
 
 pub bi_threads-requires-clause-slots : goal.bi_threads-requires-clause-slots
 bi_threads-requires-clause-slots g c κs within = is_slots c.args.command.now.travel.slots c.requires.ranges.travel.slots

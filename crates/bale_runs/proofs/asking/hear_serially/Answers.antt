@@ -7,7 +7,7 @@ use Rattle.bale_runs.proofs.Asked.{they_ask}
 use Rattle.biconvey.specs.Driven.{HasExchanged, HasSweptBoth}
 use Rattle.biconvey.specs.Worlds.{turns_of}
 use Rattle.bale_runs.specs.Asking.{HasAsked}
-use Rattle.bale_runs.proofs.Exchanges.{is_capacity, is_slots}
+use Rattle.bale_runs.proofs.Exchanges.{is_slots}
 use Rattle.bale_runs.specs.Runs.{made_for}
 use Rattle.bale_runs.proofs.Heard.{all_heard, if_ok, one_each, told_replies}
 use Rattle.bale_runs.proofs.Orders.{ordered}
@@ -49,7 +49,7 @@ returns-clause-steps g c =
     subst (λ n. c.bi_serial.new.steps ≤ c.args.steps.now + turns_of c.args.command.now.grid n) (one_each c.args.m.now (ranks c.args.command.now.grid) c.in_ok-askers.askers (some g x) (are g x)) c.bi_serial.ensures.steps
 
 pub bi_serial-requires-clause-capacity : goal.bi_serial-requires-clause-capacity
-bi_serial-requires-clause-capacity g c = is_capacity c.args.command.now.travel.buffer c.requires.ranges.travel.buffer
+bi_serial-requires-clause-capacity g c = c.requires.ranges.travel.buffer
 
 pub bi_serial-requires-clause-slots : goal.bi_serial-requires-clause-slots
 bi_serial-requires-clause-slots g c = is_slots c.args.command.now.travel.slots c.requires.ranges.travel.slots

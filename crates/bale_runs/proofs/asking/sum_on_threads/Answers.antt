@@ -10,7 +10,7 @@ use Rattle.app_histo_ig.specs.SumsRuns.{sums_starts}
 use Rattle.bale_runs.specs.Asking.{HasSummed}
 use Rattle.bale_runs.specs.Runs.{made_for}
 use Rattle.bale_runs.proofs.Cases.{tells}
-use Rattle.bale_runs.proofs.Exchanges.{is_capacity, is_slots}
+use Rattle.bale_runs.proofs.Exchanges.{is_slots}
 use Rattle.bale_runs.proofs.Heard.{if_ok, sums_at}
 use Rattle.bale_runs.proofs.asking.sum_on_threads.Given.{Over}
 use Rattle.bale_runs.proofs.asking.sum_on_threads.Goals.{In_ok-progs}
@@ -51,7 +51,7 @@ returns g c =
     c.case_threads.ensures.finished
 
 pub case_threads-requires-clause-capacity : goal.case_threads-requires-clause-capacity
-case_threads-requires-clause-capacity g c κs within = is_capacity c.args.command.now.travel.buffer c.requires.ranges.travel.buffer
+case_threads-requires-clause-capacity g c κs within = c.requires.ranges.travel.buffer
 
 pub case_threads-requires-clause-slots : goal.case_threads-requires-clause-slots
 case_threads-requires-clause-slots g c κs within = is_slots c.args.command.now.travel.slots c.requires.ranges.travel.slots

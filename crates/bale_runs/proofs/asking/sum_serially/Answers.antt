@@ -11,7 +11,7 @@ use Rattle.app_histo_ig.proofs.SumsStarts.{one_round}
 use Rattle.bale_runs.specs.Asking.{HasSummed}
 use Rattle.bale_runs.specs.Runs.{made_for}
 use Rattle.bale_runs.proofs.Cases.{tells, fewest}
-use Rattle.bale_runs.proofs.Exchanges.{is_capacity, is_slots}
+use Rattle.bale_runs.proofs.Exchanges.{is_slots}
 use Rattle.bale_runs.proofs.Heard.{if_ok, sums_at, sums_turns}
 use Rattle.bale_runs.proofs.Orders.{ordered}
 use Rattle.bale_runs.proofs.asking.sum_serially.Given.{Over}
@@ -62,7 +62,7 @@ returns-clause-steps g c =
     sums_turns c.args.m.now c.args.command.now.travel.steady c.args.command.now.grid c.args.steps.now c.case_serial.new.steps c.in_ok-progs.progs (are g x) (some g x) c.case_serial.ensures.steps
 
 pub case_serial-requires-clause-capacity : goal.case_serial-requires-clause-capacity
-case_serial-requires-clause-capacity g c = is_capacity c.args.command.now.travel.buffer c.requires.ranges.travel.buffer
+case_serial-requires-clause-capacity g c = c.requires.ranges.travel.buffer
 
 pub case_serial-requires-clause-slots : goal.case_serial-requires-clause-slots
 case_serial-requires-clause-slots g c = is_slots c.args.command.now.travel.slots c.requires.ranges.travel.slots

@@ -10,7 +10,7 @@ use Rattle.bale_runs.specs.Runs.{made_for, IsTaskRun}
 use Rattle.rank_node.specs.Movers.{manner_of}
 use Rattle.rank_group.specs.Driven.{HasFinished}
 use Rattle.bale_runs.proofs.Cases.{task_run}
-use Rattle.bale_runs.proofs.Exchanges.{is_capacity, is_slots, fit_grid}
+use Rattle.bale_runs.proofs.Exchanges.{is_slots, fit_grid}
 use Rattle.bale_runs.proofs.Heard.{if_ok}
 use Rattle.bale_runs.proofs.exchange.drive_on_threads.Given.{Over}
 use Rattle.bale_runs.proofs.exchange.drive_on_threads.Goals.{In_ok-progs}
@@ -31,7 +31,7 @@ are : (g : Over) (c : In_ok-progs g) → c.in_ok-progs.progs ≡ starts_of c.arg
 are g c = c.in_ok-progs.ensures.starts ∙ ap (λ n. starts_of c.args.command.now.task n c.args.subject.now) c.ranks.ensures.value
 
 pub case_threads-requires-clause-capacity : goal.case_threads-requires-clause-capacity
-case_threads-requires-clause-capacity g c κs within = is_capacity c.args.command.now.travel.buffer c.requires.ranges.travel.buffer
+case_threads-requires-clause-capacity g c κs within = c.requires.ranges.travel.buffer
 
 pub case_threads-requires-clause-slots : goal.case_threads-requires-clause-slots
 case_threads-requires-clause-slots g c κs within = is_slots c.args.command.now.travel.slots c.requires.ranges.travel.slots

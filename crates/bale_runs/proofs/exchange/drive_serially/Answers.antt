@@ -10,7 +10,7 @@ use Rattle.bale_runs.specs.Runs.{made_for, IsTaskRun, FewestOfTask}
 use Rattle.rank_node.specs.Movers.{manner_of}
 use Rattle.rank_group.specs.Driven.{HasFinished, HasSwept, WithinTurns}
 use Rattle.bale_runs.proofs.Cases.{task_run, turns_of_task, fewest_of_task}
-use Rattle.bale_runs.proofs.Exchanges.{is_capacity, is_slots, fit_grid}
+use Rattle.bale_runs.proofs.Exchanges.{is_slots, fit_grid}
 use Rattle.bale_runs.proofs.Heard.{if_ok}
 use Rattle.bale_runs.proofs.Orders.{ordered}
 use Rattle.bale_runs.proofs.exchange.drive_serially.Given.{Over}
@@ -32,7 +32,7 @@ are : (g : Over) (c : In_ok-progs g) → c.in_ok-progs.progs ≡ starts_of c.arg
 are g c = c.in_ok-progs.ensures.starts ∙ ap (λ n. starts_of c.args.command.now.task n c.args.subject.now) c.ranks.ensures.value
 
 pub case_serial-requires-clause-capacity : goal.case_serial-requires-clause-capacity
-case_serial-requires-clause-capacity g c = is_capacity c.args.command.now.travel.buffer c.requires.ranges.travel.buffer
+case_serial-requires-clause-capacity g c = c.requires.ranges.travel.buffer
 
 pub case_serial-requires-clause-slots : goal.case_serial-requires-clause-slots
 case_serial-requires-clause-slots g c = is_slots c.args.command.now.travel.slots c.requires.ranges.travel.slots

@@ -1,6 +1,6 @@
 use Rattle.std.proofs.Common.{refl}
 use Rattle.port_bank.specs.Port.{IsSlots}
-use Rattle.case_table.specs.Capacities.{IsCapacity}
+use Rattle.item_buffer.specs.Capacity.{IsCapacity}
 use Rattle.drive_tests.proofs.asking_tests.by_hand.Goals as goal
 
 pub bi_serial-requires-clause-capacity : goal.bi_serial-requires-clause-capacity

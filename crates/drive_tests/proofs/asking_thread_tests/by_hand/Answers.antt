@@ -1,5 +1,5 @@
 use Rattle.std.proofs.Common.{rules, refl}
-use Rattle.case_table.specs.Capacities.{IsCapacity}
+use Rattle.item_buffer.specs.Capacity.{IsCapacity}
 use Rattle.drive_tests.proofs.asking_thread_tests.by_hand.Goals as goal
 
 pub ask_side_by_side-requires : goal.ask_side_by_side-requires

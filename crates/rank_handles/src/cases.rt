@@ -1,17 +1,46 @@
-//! A group of any capacity.
-ghost use Rattle.std.specs.Prelude.{◌≡◌, ◌≢◌, ℕ, Ok, Err, IfOk, IfErr, OnOk, OnErr, true, if◌then◌else◌};
+//! A rank and a group of any capacity: here and in `specs/Cases` stands what there is once for each capacity.
+ghost use Rattle.std.specs.Prelude.{◌≡◌, ◌≢◌, ℕ, Some, Ok, Err, IfOk, IfErr, OnOk, OnErr, true, if◌then◌else◌};
+ghost use Rattle.item_buffer.specs.Capacity.{is_capacity};
 ghost use Rattle.route_tensor.specs.Grid.{ranks};
 ghost use Rattle.port_bank.specs.Port.{IsSlots};
-ghost use Rattle.rank_handles.specs.GroupCases.{seen_group};
-ghost use Rattle.rank_handles.specs.Grouped.{IsNewGroup, IsNewRank, with_given, rank_answer, answer_with, is_capacity, is_slots, group_answer};
+ghost use Rattle.rank_handles.specs.Grouped.{IsNewGroup, IsNewRank, with_given, rank_answer, answer_with, is_slots, group_answer};
+ghost use Rattle.rank_handles.specs.Cases.{seen_by_hops, seen_group};
 
 use crate::answer::Answer;
-use crate::any_rank::{AnyRank, CapacityCase};
+use crate::exchange::Exchange;
 use crate::group::Group;
-use bale_types::NoMemory;
+use crate::item::BaleItem;
+use crate::rank::Rank;
+use bale_types::{Item, NoMemory};
+use hop_core::Phase;
+use item_buffer::CAPACITIES;
 use route_tensor::Grid;
 use std::alloc::Global;
 use std::marker::Model;
+
+/// A rank of one capacity, by its number of hops.
+#[derive(Drop)]
+pub(crate) enum HopsCase<const CAP: usize> {
+    One(Rank<CAP, 1>),
+    Two(Rank<CAP, 2>),
+    Three(Rank<CAP, 3>),
+}
+
+/// A rank, by its capacity.
+#[derive(Drop)]
+pub(crate) enum CapacityCase {
+    Of1(HopsCase<1>),
+    Of2(HopsCase<2>),
+    Of4(HopsCase<4>),
+    Of8(HopsCase<8>),
+    Of16(HopsCase<16>),
+    Of32(HopsCase<32>),
+    Of64(HopsCase<64>),
+    Of128(HopsCase<128>),
+    Of256(HopsCase<256>),
+    Of512(HopsCase<512>),
+    Of1024(HopsCase<1024>),
+}
 
 /// A group, by its capacity.
 #[derive(Drop)]
@@ -29,6 +58,140 @@ pub(crate) enum GroupCase {
     Of1024(Group<1024>),
 }
 
+/// The same call in each case of hops.
+macro_rules! by_hops {
+    ($case:expr, $rank:ident, $call:expr) => {
+        match $case {
+            HopsCase::One($rank) => $call,
+            HopsCase::Two($rank) => $call,
+            HopsCase::Three($rank) => $call,
+        }
+    };
+}
+
+/// The same call in each case of capacities.
+macro_rules! by_capacity {
+    ($cases:ident, $case:expr, $part:ident, $call:expr) => {
+        match $case {
+            $cases::Of1($part) => $call,
+            $cases::Of2($part) => $call,
+            $cases::Of4($part) => $call,
+            $cases::Of8($part) => $call,
+            $cases::Of16($part) => $call,
+            $cases::Of32($part) => $call,
+            $cases::Of64($part) => $call,
+            $cases::Of128($part) => $call,
+            $cases::Of256($part) => $call,
+            $cases::Of512($part) => $call,
+            $cases::Of1024($part) => $call,
+        }
+    };
+}
+
+/// A rank of any capacity and any number of hops. Contracts see the rank at its bank, whatever its case.
+#[derive(Drop)]
+pub struct AnyRank {
+    pub(crate) case: CapacityCase,
+}
+
+impl Model for AnyRank {
+    ghost use Rattle.rank_handles.specs.Seated.{Seated};
+
+    ghost Value = { Seated };
+
+    ghost use Rattle.rank_handles.specs.Cases.{seen_by_capacity};
+
+    ghost view = { λ r. seen_by_capacity r.case };
+}
+
+impl<const CAP: usize> Exchange for HopsCase<CAP> {
+    ghost seen = { λ c. Some (seen_by_hops c) };
+
+    fn ranks(&self) -> u32 {
+        by_hops!(self, rank, rank.ranks())
+    }
+
+    fn phase(&self) -> Option<Phase> {
+        by_hops!(self, rank, rank.phase())
+    }
+
+    fn begin(&mut self) -> Answer {
+        by_hops!(self, rank, rank.begin())
+    }
+
+    fn push(&mut self, item: Item, to: u32) -> Answer {
+        by_hops!(self, rank, rank.push(item, to))
+    }
+
+    fn pull(&mut self) -> Result<(u32, Item), Answer> {
+        by_hops!(self, rank, rank.pull())
+    }
+
+    fn unpull(&mut self) -> Answer {
+        by_hops!(self, rank, rank.unpull())
+    }
+
+    fn advance(&mut self, done: bool) -> Answer {
+        by_hops!(self, rank, rank.advance(done))
+    }
+
+    fn reset(&mut self) -> Answer {
+        by_hops!(self, rank, rank.reset())
+    }
+
+    fn push_many(&mut self, items: &[BaleItem], to: &[u32]) -> Result<usize, Answer> {
+        by_hops!(self, rank, rank.push_many(items, to))
+    }
+
+    fn pull_many(&mut self, items: &mut [BaleItem], from: &mut [u32]) -> Result<usize, Answer> {
+        by_hops!(self, rank, rank.pull_many(items, from))
+    }
+}
+
+impl Exchange for AnyRank {
+    ghost seen = { λ r. Some r };
+
+    fn ranks(&self) -> u32 {
+        by_capacity!(CapacityCase, &self.case, rank, rank.ranks())
+    }
+
+    fn phase(&self) -> Option<Phase> {
+        by_capacity!(CapacityCase, &self.case, rank, rank.phase())
+    }
+
+    fn begin(&mut self) -> Answer {
+        by_capacity!(CapacityCase, &mut self.case, rank, rank.begin())
+    }
+
+    fn push(&mut self, item: Item, to: u32) -> Answer {
+        by_capacity!(CapacityCase, &mut self.case, rank, rank.push(item, to))
+    }
+
+    fn pull(&mut self) -> Result<(u32, Item), Answer> {
+        by_capacity!(CapacityCase, &mut self.case, rank, rank.pull())
+    }
+
+    fn unpull(&mut self) -> Answer {
+        by_capacity!(CapacityCase, &mut self.case, rank, rank.unpull())
+    }
+
+    fn advance(&mut self, done: bool) -> Answer {
+        by_capacity!(CapacityCase, &mut self.case, rank, rank.advance(done))
+    }
+
+    fn reset(&mut self) -> Answer {
+        by_capacity!(CapacityCase, &mut self.case, rank, rank.reset())
+    }
+
+    fn push_many(&mut self, items: &[BaleItem], to: &[u32]) -> Result<usize, Answer> {
+        by_capacity!(CapacityCase, &mut self.case, rank, rank.push_many(items, to))
+    }
+
+    fn pull_many(&mut self, items: &mut [BaleItem], from: &mut [u32]) -> Result<usize, Answer> {
+        by_capacity!(CapacityCase, &mut self.case, rank, rank.pull_many(items, from))
+    }
+}
+
 /// A group of any capacity. Contracts see the group, whatever its case.
 #[derive(Drop)]
 pub struct AnyGroup {
@@ -40,7 +203,7 @@ impl Model for AnyGroup {
 
     ghost Value = { Grouped };
 
-    ghost use Rattle.rank_handles.specs.GroupCases.{seen_group};
+    ghost use Rattle.rank_handles.specs.Cases.{seen_group};
 
     ghost view = { λ g. seen_group g.case };
 }
@@ -78,38 +241,14 @@ impl AnyGroup {
     pub(crate) fn ranks(&self) -> u32
         ensures { result ≡ ranks self.now.bank.shape.dims }
     {
-        match &self.case {
-            GroupCase::Of1(group) => group.ranks(),
-            GroupCase::Of2(group) => group.ranks(),
-            GroupCase::Of4(group) => group.ranks(),
-            GroupCase::Of8(group) => group.ranks(),
-            GroupCase::Of16(group) => group.ranks(),
-            GroupCase::Of32(group) => group.ranks(),
-            GroupCase::Of64(group) => group.ranks(),
-            GroupCase::Of128(group) => group.ranks(),
-            GroupCase::Of256(group) => group.ranks(),
-            GroupCase::Of512(group) => group.ranks(),
-            GroupCase::Of1024(group) => group.ranks(),
-        }
+        by_capacity!(GroupCase, &self.case, group, group.ranks())
     }
 
     /// What becomes of the wish to make this rank, where there is memory.
     pub(crate) fn answer(&self, rank: u32) -> Answer
         ensures { result ≡ rank_answer self.now rank }
     {
-        match &self.case {
-            GroupCase::Of1(group) => group.answer(rank),
-            GroupCase::Of2(group) => group.answer(rank),
-            GroupCase::Of4(group) => group.answer(rank),
-            GroupCase::Of8(group) => group.answer(rank),
-            GroupCase::Of16(group) => group.answer(rank),
-            GroupCase::Of32(group) => group.answer(rank),
-            GroupCase::Of64(group) => group.answer(rank),
-            GroupCase::Of128(group) => group.answer(rank),
-            GroupCase::Of256(group) => group.answer(rank),
-            GroupCase::Of512(group) => group.answer(rank),
-            GroupCase::Of1024(group) => group.answer(rank),
-        }
+        by_capacity!(GroupCase, &self.case, group, group.answer(rank))
     }
 
     /// A rank that was not made before.
@@ -149,10 +288,7 @@ fn has_slots(slots: u32) -> bool
 fn has_capacity(buffer: u32) -> bool
     ensures { result ≡ is_capacity buffer }
 {
-    matches!(
-        buffer,
-        1 | 2 | 4 | 8 | 16 | 32 | 64 | 128 | 256 | 512 | 1024
-    )
+    CAPACITIES.contains(&buffer)
 }
 
 /// The group of a capacity.

@@ -1,6 +1,6 @@
 //! ig's answer as text, from ranks that each know the sums of their entries' columns.
 
-ghost use Rattle.std.specs.Prelude.{◌≡◌, ℕ, ◌<◌, ◌≤◌, ◌+◌, ◌*◌, ◌^◌, List, map, length, slice_get, Some, OnOk, OnErr};
+ghost use Rattle.std.specs.Prelude.{◌≡◌, ℕ, ◌<◌, ◌+◌, ◌*◌, ◌^◌, List, map, length, slice_get, Some};
 ghost use Rattle.bale_types.specs.Out.{Writes};
 ghost use Rattle.bale_types.specs.declared.triple.Triple.{Triple};
 ghost use Rattle.app_histo_ig.specs.ColumnAnswers.{HaveSums};

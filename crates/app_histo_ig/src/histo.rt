@@ -1,6 +1,6 @@
 //! histo: each rank has a part of a matrix's entries, and each column's owner counts the column's entries.
 
-ghost use Rattle.std.specs.Prelude.{◌≡◌, ◌<◌, ◌^◌, length};
+ghost use Rattle.std.specs.Prelude.{◌≡◌, ◌<◌, length};
 ghost use Rattle.std.specs.List.{All};
 ghost use Rattle.sparse_rows.specs.Owners.{places_for};
 

@@ -1,11 +1,10 @@
 //! histo's start, and its answer as text.
 
 ghost use Rattle.round_program.specs.Ranks.{AreRanks};
-ghost use Rattle.std.specs.Prelude.{◌≡◌, ◌≢◌, ◌<◌, ◌≤◌, ◌+◌, ◌^◌, ◌%◌, ◌/◌, [], ◌∷◌, length, map, replicate, slice_index_or, IfOk, OnOk, OnErr};
-ghost use Rattle.bale_types.specs.Stream.{after};
+ghost use Rattle.std.specs.Prelude.{◌≡◌, ◌<◌, ◌≤◌, ◌+◌, ◌^◌, ◌%◌, ◌/◌, [], ◌∷◌, length, map, replicate, slice_index_or, IfOk};
 ghost use Rattle.bale_types.specs.Out.{HandsOn, Writes};
 ghost use Rattle.mtx_text.specs.Sparse.{Sparse};
-ghost use Rattle.sparse_rows.specs.Parts.{parts_of, HasPart};
+ghost use Rattle.sparse_rows.specs.Parts.{HasPart};
 ghost use Rattle.round_program.specs.Canonical.{InRound, EndsWithin};
 ghost use Rattle.app_histo_ig.specs.Histos.{histo_rules};
 ghost use Rattle.app_histo_ig.specs.HistoLines.{in_column, histo_line, histo_lines};

@@ -1,6 +1,6 @@
 //! ig: each entry of a matrix gets to know the sum of its column, which the column's owner has.
 
-ghost use Rattle.std.specs.Prelude.{◌≡◌, ◌<◌, ◌^◌, [], map};
+ghost use Rattle.std.specs.Prelude.{◌≡◌, ◌<◌, map};
 ghost use Rattle.app_histo_ig.specs.Igs.{IsIg};
 ghost use Rattle.app_histo_ig.specs.code.IgSent.{number_and_column, to_add};
 

@@ -1,10 +1,9 @@
 //! ig by queries and replies at once: the programs that add up columns, and the askers that they leave.
 
 ghost use Rattle.round_program.specs.Ranks.{AreRanks};
-ghost use Rattle.std.specs.Prelude.{◌≡◌, ◌<◌, ◌≤◌, [], ◌∷◌, length, map, IfOk, OnOk, OnErr};
-ghost use Rattle.bale_types.specs.Stream.{after};
+ghost use Rattle.std.specs.Prelude.{◌≡◌, ◌<◌, [], ◌∷◌, length, map, IfOk};
 ghost use Rattle.bale_types.specs.Out.{Writes};
-ghost use Rattle.sparse_rows.specs.Parts.{parts_of, HasPart};
+ghost use Rattle.sparse_rows.specs.Parts.{HasPart};
 ghost use Rattle.round_program.specs.Canonical.{InRound, EndsWithin};
 ghost use Rattle.app_histo_ig.specs.Sums.{sums_rules};
 ghost use Rattle.app_histo_ig.specs.SumsRuns.{sums_begins, sums_starts, SumsEnded};

@@ -1,10 +1,9 @@
 //! ig's start, and its answer as text.
 
 ghost use Rattle.round_program.specs.Ranks.{AreRanks};
-ghost use Rattle.std.specs.Prelude.{◌≡◌, ◌<◌, ◌≤◌, [], ◌∷◌, length, map, replicate, slice_index_or, IfOk, OnOk, OnErr};
-ghost use Rattle.bale_types.specs.Stream.{after};
+ghost use Rattle.std.specs.Prelude.{◌≡◌, ◌<◌, [], ◌∷◌, length, map, replicate, slice_index_or, IfOk};
 ghost use Rattle.bale_types.specs.Out.{Writes};
-ghost use Rattle.sparse_rows.specs.Parts.{parts_of, HasPart};
+ghost use Rattle.sparse_rows.specs.Parts.{HasPart};
 ghost use Rattle.round_program.specs.Canonical.{InRound, EndsWithin};
 ghost use Rattle.app_histo_ig.specs.Igs.{ig_rules};
 ghost use Rattle.app_histo_ig.specs.code.IgSent.{own_entry};

@@ -1,7 +1,6 @@
 //! What a rank of ig sends, put together from the entries that it keeps: so of values and queries no list is made.
 
-ghost use Rattle.std.specs.Prelude.{◌≡◌, ◌<◌, ◌≤◌, ◌-◌, ℕ, List, drop, Some, length, map, slice_get};
-ghost use Rattle.std.specs.List.{All};
+ghost use Rattle.std.specs.Prelude.{◌≡◌, ◌<◌, ◌-◌, ℕ, List, Some, length, map, slice_get};
 ghost use Rattle.round_program.specs.Handing.{MayHandOver, HandsUpTo};
 ghost use Rattle.app_histo_ig.specs.Igs.{to_ask};
 ghost use Rattle.app_histo_ig.specs.code.IgSent.{number_and_column, question_of, to_add, sent_of, sent_of_own};

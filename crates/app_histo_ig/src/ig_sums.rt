@@ -1,6 +1,6 @@
 //! The sums of columns alone, which ranks of ig know before they ask one another.
 
-ghost use Rattle.std.specs.Prelude.{◌≡◌, ◌<◌, ◌^◌, [], ◌∷◌, map};
+ghost use Rattle.std.specs.Prelude.{◌≡◌, ◌<◌, map};
 ghost use Rattle.app_histo_ig.specs.Sums.{IsSums};
 ghost use Rattle.app_histo_ig.specs.code.IgSent.{to_add};
 

@@ -1,5 +1,5 @@
 //! Permutations of rows and columns that a seed stands for.
-ghost use Rattle.std.specs.Prelude.{◌≡◌, ◌≤◌, IfOk, length};
+ghost use Rattle.std.specs.Prelude.{◌≡◌, ◌≤◌, IfOk};
 ghost use Rattle.mtx_text.specs.Permutations.{Permutes};
 ghost use Rattle.app_permute.specs.Perms.{perms_of};
 
@@ -16,7 +16,6 @@ pub struct Perms {
 }
 
 impl Model for Perms {
-    ghost use Rattle.std.specs.Prelude.{length};
     ghost use Rattle.mtx_text.specs.Permutations.{Permutes};
     ghost use Rattle.app_permute.specs.Perms.{TwoLists};
 

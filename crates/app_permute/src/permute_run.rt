@@ -1,9 +1,9 @@
 //! permute's start, and its answer as a matrix.
 
 ghost use Rattle.round_program.specs.Ranks.{AreRanks};
-ghost use Rattle.std.specs.Prelude.{◌≡◌, ◌<◌, ◌≤◌, ℕ, List, [], ◌∷◌, length, map, slice_index_or, IfOk};
+ghost use Rattle.std.specs.Prelude.{◌≡◌, ◌<◌, ℕ, List, [], ◌∷◌, length, map, slice_index_or, IfOk};
 ghost use Rattle.mtx_text.specs.Permutations.{Permutes};
-ghost use Rattle.sparse_rows.specs.Parts.{parts_of, HasPart};
+ghost use Rattle.sparse_rows.specs.Parts.{HasPart};
 ghost use Rattle.round_program.specs.Canonical.{InRound, EndsWithin};
 ghost use Rattle.app_permute.specs.Moved.{permuted, IsPermuted};
 ghost use Rattle.app_permute.specs.Permutes.{permute_rules};

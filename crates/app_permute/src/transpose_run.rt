@@ -1,8 +1,8 @@
 //! transpose's start, and its answer as a matrix.
 
 ghost use Rattle.round_program.specs.Ranks.{AreRanks};
-ghost use Rattle.std.specs.Prelude.{◌≡◌, ◌<◌, ◌≤◌, [], ◌∷◌, length, map, slice_index_or, IfOk};
-ghost use Rattle.sparse_rows.specs.Parts.{parts_of, HasPart};
+ghost use Rattle.std.specs.Prelude.{◌≡◌, ◌<◌, [], ◌∷◌, length, map, slice_index_or, IfOk};
+ghost use Rattle.sparse_rows.specs.Parts.{HasPart};
 ghost use Rattle.round_program.specs.Canonical.{InRound, EndsWithin};
 ghost use Rattle.app_permute.specs.Moved.{turned, transposed, IsTransposed};
 ghost use Rattle.app_permute.specs.Transposes.{transpose_rules};

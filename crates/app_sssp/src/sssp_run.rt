@@ -1,13 +1,12 @@
 //! sssp's start, and its answer as text.
 
 ghost use Rattle.round_program.specs.Ranks.{AreRanks};
-ghost use Rattle.std.specs.Prelude.{ℕ, true, ◌==◌, if◌then◌else◌, ◌≡◌, ◌≢◌, ◌<◌, ◌≤◌, ◌+◌, ◌^◌, ◌%◌, ◌/◌, [], ◌∷◌, length, map, replicate, slice_index_or, Option, IfOk, OnOk, OnErr};
+ghost use Rattle.std.specs.Prelude.{ℕ, true, ◌==◌, if◌then◌else◌, ◌≡◌, ◌<◌, ◌≤◌, ◌+◌, ◌%◌, ◌/◌, [], ◌∷◌, length, map, replicate, slice_index_or, Option, IfOk};
 ghost use Rattle.least_walks.specs.Vertices.{unreached, improved_at};
-ghost use Rattle.bale_types.specs.Stream.{after};
 ghost use Rattle.bale_types.specs.Out.{HandsOn, Writes};
 ghost use Rattle.bale_types.specs.Bits.{twos_complement};
 ghost use Rattle.mtx_text.specs.Sparse.{Sparse};
-ghost use Rattle.sparse_rows.specs.Parts.{parts_of, HasPart};
+ghost use Rattle.sparse_rows.specs.Parts.{HasPart};
 ghost use Rattle.sparse_rows.specs.Owners.{row_owner};
 ghost use Rattle.round_program.specs.Canonical.{InRound, EndsWithin};
 ghost use Rattle.least_walks.specs.Walks.{IsSource, no_negative, IsLeast, AreLeast};

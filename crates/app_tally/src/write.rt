@@ -1,6 +1,6 @@
 //! tally's answer as text.
 
-ghost use Rattle.std.specs.Prelude.{◌≡◌, ◌≤◌, ◌<◌, OnOk, OnErr};
+ghost use Rattle.std.specs.Prelude.{◌<◌};
 ghost use Rattle.bale_types.specs.Out.{Writes};
 ghost use Rattle.app_tally.specs.Counts.{entry_text, tally_text};
 

@@ -1,6 +1,6 @@
 //! What an absorb changes of a rank of topo: numbers at places, and what came.
 
-ghost use Rattle.std.specs.Prelude.{◌≡◌, ◌<◌, ◌≤◌, ◌+◌, ◌-◌, ◌/◌, ◌%◌, ◌^◌, ◌==◌, ◌&&◌, is_ok, if◌then◌else◌, length, min};
+ghost use Rattle.std.specs.Prelude.{◌≡◌, ◌<◌, ◌+◌, ◌-◌, ◌/◌, ◌^◌, ◌==◌, ◌&&◌, is_ok, if◌then◌else◌, min};
 ghost use Rattle.mtx_text.specs.Cells.{raised};
 ghost use Rattle.app_topo.specs.Topos.{added, number_at, spot};
 ghost use Rattle.app_topo.specs.code.TopoPlaces.{IsPlaced};

@@ -1,7 +1,7 @@
 //! What a rank of topo sends, put together from the pairs of numbers that it keeps: so a list of items isn't made.
 
-ghost use Rattle.std.specs.Prelude.{◌≡◌, ◌<◌, ◌≤◌, ◌-◌, ◌%◌, ℕ, drop, Some, length, map, slice_get, slice_index_or};
-ghost use Rattle.std.specs.List.{All, flat_map};
+ghost use Rattle.std.specs.Prelude.{◌≡◌, ◌<◌, ◌-◌, ◌%◌, ℕ, Some, length, map, slice_get, slice_index_or};
+ghost use Rattle.std.specs.List.{flat_map};
 ghost use Rattle.round_program.specs.Handing.{MayHandOver, HandsUpTo};
 ghost use Rattle.app_topo.specs.code.TopoSent.{for_both, sent_of, to_other};
 

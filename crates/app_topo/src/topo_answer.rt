@@ -1,6 +1,6 @@
 //! topo's answer, as an order.
 
-ghost use Rattle.std.specs.Prelude.{◌≡◌, ◌<◌, ◌≤◌, ◌^◌, ◌==◌, ◌+◌, ◌%◌, ℕ, List, None, map, reverse, IfOk, IfSome, OnOk};
+ghost use Rattle.std.specs.Prelude.{◌≡◌, ◌<◌, ◌^◌, ◌==◌, ◌%◌, ℕ, None, map, reverse, IfOk, IfSome, OnOk};
 ghost use Rattle.std.specs.List.{All, list_all, range_with_len};
 ghost use Rattle.bale_types.specs.Bits.{twos_complement};
 ghost use Rattle.mtx_text.specs.Cells.{raised_all};

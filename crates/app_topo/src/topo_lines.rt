@@ -1,6 +1,6 @@
 //! The order as text.
 
-ghost use Rattle.std.specs.Prelude.{◌≡◌, ◌≢◌, ◌<◌, ◌≤◌, ◌+◌, ◌^◌, OnOk, OnErr};
+ghost use Rattle.std.specs.Prelude.{◌<◌, ◌+◌, ◌^◌};
 ghost use Rattle.bale_types.specs.Out.{Writes};
 ghost use Rattle.app_topo.specs.TopoLines.{topo_line, topo_lines};
 

@@ -1,8 +1,8 @@
 //! topo's start.
 
 ghost use Rattle.round_program.specs.Ranks.{AreRanks};
-ghost use Rattle.std.specs.Prelude.{◌≡◌, ◌<◌, ◌≤◌, ◌*◌, ◌+◌, [], ◌∷◌, length, map, replicate, slice_index_or, IfOk};
-ghost use Rattle.sparse_rows.specs.Parts.{parts_of, HasPart};
+ghost use Rattle.std.specs.Prelude.{◌≡◌, ◌<◌, ◌*◌, ◌+◌, [], ◌∷◌, length, map, replicate, slice_index_or, IfOk};
+ghost use Rattle.sparse_rows.specs.Parts.{HasPart};
 ghost use Rattle.round_program.specs.Canonical.{InRound, EndsWithin};
 ghost use Rattle.app_topo.specs.Topos.{topo_rules};
 ghost use Rattle.app_topo.specs.TopoRuns.{topo_begins, topo_starts};

@@ -1,7 +1,7 @@
 //! An application, from what it is asked of to the bytes of its answer.
 
 ghost use Rattle.round_program.specs.Ranks.{AreRanks};
-ghost use Rattle.std.specs.Prelude.{◌≡◌, ◌≤◌, ℕ, List, map, IfOk, OnOk, OnErr};
+ghost use Rattle.std.specs.Prelude.{◌≡◌, ◌≤◌, ℕ, List, map, IfOk};
 ghost use Rattle.bale_types.specs.Out.{HandsOn, Writes};
 ghost use Rattle.round_program.specs.Canonical.{InRound, EndsWithin, HaveEnded};
 ghost use Rattle.bale_words.specs.declared.task.Task.{Task};

@@ -1,6 +1,6 @@
 //! A sink that counts what comes and keeps none of it.
 
-ghost use Rattle.std.specs.Prelude.{◌≡◌, ◌++◌, ℕ, List, [], ◌∷◌, Some, length};
+ghost use Rattle.std.specs.Prelude.{◌≡◌, ◌++◌, [], ◌∷◌, Some, length};
 ghost use Rattle.std.specs.List.{sum_by};
 ghost use Rattle.bale_answers.specs.Logs.{bytes_of};
 ghost use Rattle.list_laws.specs.Counts.{counted};

@@ -2,7 +2,7 @@
 
 ghost use Rattle.std.specs.Prelude.{◌≡◌, ◌≤◌, ◌<◌, ℕ, length, OnOk, OnErr, IfOk};
 ghost use Rattle.bale_types.specs.Stream.{after, IsFront};
-ghost use Rattle.bale_types.specs.Out.{appended, HandsOn, Writes};
+ghost use Rattle.bale_types.specs.Out.{appended, HandsOn};
 ghost use Rattle.round_program.specs.Canonical.{HaveEnded};
 ghost use Rattle.app_cases.specs.Any.{any_rules};
 ghost use Rattle.app_histo_ig.specs.ColumnAnswers.{IgHeard};

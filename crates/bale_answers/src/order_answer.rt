@@ -1,6 +1,6 @@
 //! topo, from a matrix to its lines, or to `not triangular`.
 
-ghost use Rattle.std.specs.Prelude.{ℕ, ◌≡◌, ◌≤◌, IfOk, OnOk, OnErr};
+ghost use Rattle.std.specs.Prelude.{ℕ, ◌≡◌, ◌≤◌, IfOk};
 ghost use Rattle.bale_types.specs.Out.{Writes};
 ghost use Rattle.round_program.specs.Canonical.{HaveEnded};
 ghost use Rattle.app_topo.specs.Levels.{topo_order};

@@ -1,5 +1,5 @@
 -- What a drive tells of the programs as any of the applications, it tells of the application's own.
-use Rattle.std.proofs.Common.{ℕ, ◌≡◌, ◌<◌, ◌≤◌, ◌+◌, ◌*◌, OnOk, List, [], ◌∷◌, map, length, Option, Result, Ok, Err, IfOk, IfErr, OnErr, refl, sym, ap, ◌∙◌, subst, arith}
+use Rattle.std.proofs.Common.{ℕ, ◌≡◌, ◌<◌, ◌≤◌, ◌+◌, ◌*◌, List, [], ◌∷◌, map, length, Option, Result, Ok, Err, IfOk, refl, sym, ap, ◌∙◌, subst, arith}
 use Rattle.std.proofs.lemmas.List.{length-map}
 use Rattle.route_tensor.specs.Grid.{ranks}
 use Rattle.round_program.specs.Rules.{Rules}
@@ -7,7 +7,6 @@ use Rattle.round_program.specs.Canonical.{HasRounds, HaveEnded}
 use Rattle.round_program.specs.Injections.{Injects}
 use Rattle.round_program.proofs.Injections.{same_runs}
 use Rattle.rank_group.specs.declared.closed_round.ClosedRound.{ClosedRound}
-use Rattle.rank_group.specs.Rounds.{round_of}
 use Rattle.rank_node.specs.Movers.{Manner}
 use Rattle.rank_group.specs.declared.drive.Finished.{Finished}
 use Rattle.rank_group.specs.Told.{Made, turns_within}
@@ -18,7 +17,6 @@ use Rattle.app_cases.proofs.Driving.{steps, are_cases, ended, rounds}
 use Rattle.bale_runs.specs.declared.exchange.RunEnd.{RunEnd}
 use Rattle.bale_subjects.specs.declared.refusal.Refusal.{Refusal}
 use Rattle.bale_subjects.specs.declared.refusal.Refusal.TheVariants as refusal
-use Rattle.bale_answers.specs.AnswerEnds.{IsAnswerEnd}
 use Rattle.bale_words.specs.declared.command.Command.{Command}
 use Rattle.bale_runs.specs.RunEnds.{IsRunEnd}
 use Rattle.bale_subjects.specs.declared.subject.Subject.{Subject}

@@ -30,7 +30,7 @@ use Rattle.bale_words.specs.declared.command.Command.{Command}
 use Rattle.bale_words.specs.declared.task.Task.{Task}
 use Rattle.bale_words.specs.declared.task.Task.TheVariants as task
 use Rattle.bale_words.specs.declared.command.Transport.{Transport}
-use Rattle.bale_words.specs.declared.command.Transport.TheVariants.{Convey, Exstack, Biconvey}
+use Rattle.bale_words.specs.declared.command.Transport.TheVariants.{Convey, Biconvey}
 use Rattle.bale_subjects.specs.declared.subject.Subject.{Subject}
 use Rattle.bale_subjects.specs.declared.subject.Subject.TheVariants as subject
 use Rattle.bale_runs.specs.Asking.{TellsAsking, TellsReplies, TurnsBy, TurnsOfAsking, TurnsOfCommand}

@@ -1,6 +1,5 @@
 //! The run of a command for its subject: the programs, driven, and then the answer, written.
-ghost use Rattle.std.specs.Prelude.{◌≡◌, ◌<◌, Bool, true, false, OnErr, IfOk, IfErr};
-ghost use Rattle.bale_answers.specs.AnswerEnds.{IsAnswerEnd};
+ghost use Rattle.std.specs.Prelude.{◌≡◌, ◌<◌, Bool, true, false, IfOk};
 ghost use Rattle.bale_runs.specs.Asking.{TellsCommand, TurnsOfCommand, FewestOfCommand};
 ghost use Rattle.bale_runs.specs.RunEnds.{Fits, IsRunEnd};
 ghost use Rattle.bale_runs.specs.Jobs.{as_asked, by_asking, via_of, manner_for};

@@ -1,6 +1,6 @@
 //! New numbers of rows and columns, as the words give them.
 
-ghost use Rattle.std.specs.Prelude.{◌≡◌, ℕ, nat_lt, IfOk};
+ghost use Rattle.std.specs.Prelude.{◌≡◌, nat_lt, IfOk};
 ghost use Rattle.std.specs.List.{list_all, range_with_len};
 ghost use Rattle.bale_subjects.specs.Numberings.{from_zero, has_each, numbers_all, new_numbers};
 

@@ -1,6 +1,6 @@
 //! Whether a command can be answered for a matrix or for lines.
 
-ghost use Rattle.std.specs.Prelude.{◌≡◌, ◌*◌, ◌≤◌, ◌+◌, ◌<◌, ◌==◌, ◌||◌, ◌&&◌, is_some, IfOk};
+ghost use Rattle.std.specs.Prelude.{◌≡◌, ◌*◌, ◌<◌, ◌==◌, ◌||◌, ◌&&◌, is_some, IfOk};
 ghost use Rattle.least_walks.specs.Walks.{no_negative};
 ghost use Rattle.bale_words.specs.declared.task.Task.TheVariants.{Permute, Sssp, Topo};
 ghost use Rattle.bale_words.specs.declared.command.Permutations.TheVariants.{Lists};

@@ -1,5 +1,5 @@
 //! What the tests of the top calls share: runs of both, and their answers as texts.
-ghost use Rattle.std.specs.Prelude.{◌≡◌, ◌<◌};
+ghost use Rattle.std.specs.Prelude.{◌<◌};
 ghost use Rattle.rank_node.specs.Ledgers.{IsBlankOf};
 
 use bale_cli::{Outcome, run, run_serial};

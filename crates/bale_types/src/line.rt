@@ -1,6 +1,6 @@
 //! A line of an answer before it is written: put together in place, and handed on by one call of
 //! `Out::line`.
-ghost use Rattle.std.specs.Prelude.{◌≡◌, ◌+◌, ◌≤◌, ℕ, List, [], ◌∷◌, ◌++◌, length, take};
+ghost use Rattle.std.specs.Prelude.{◌≡◌, ◌+◌, ◌≤◌, ℕ, List, [], ◌∷◌, length, take};
 ghost use Rattle.std.specs.Fmt.{decimal, signed_decimal};
 ghost use Rattle.bale_types.specs.Digits.{IsLaid, HasMore};
 

@@ -1,6 +1,6 @@
 //! A source and a sink in memory, which fail at the calls that their maker names: for tests, and for
 //! whoever has the bytes at hand.
-ghost use Rattle.std.specs.Prelude.{◌≡◌, ◌<◌, ◌≤◌, ◌-◌, ◌↔◌, ◌⊎◌, if◌then◌else◌, ℕ, List, Some, [], length, min, is_err, IfOk, IsErr, OnOk, Contains};
+ghost use Rattle.std.specs.Prelude.{◌≡◌, ◌<◌, ◌≤◌, ◌-◌, ◌↔◌, ◌⊎◌, if◌then◌else◌, ℕ, List, Some, [], length, min, is_err, IfOk, IsErr, Contains};
 ghost use Rattle.bale_types.specs.Stream.{after, before, moved, next_count, CountsFaults, MovesSome};
 
 use super::fault::{Failed, NoMemory};

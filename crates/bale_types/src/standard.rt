@@ -4,7 +4,7 @@
 //! They count their failures: exactly the calls that answer `Failed`. What std answered goes whole to
 //! one helper, whose contract keeps it; what no contract sees, the repository's checks try on real
 //! files, pipes and devices.
-ghost use Rattle.std.specs.Prelude.{◌≡◌, ◌<◌, ◌≤◌, ℕ, List, Option, None, Some, Ok, [], length, is_err, IfOk, OnOk, if◌then◌else◌};
+ghost use Rattle.std.specs.Prelude.{◌≡◌, ◌<◌, ◌≤◌, ℕ, List, Option, None, Some, Ok, [], length, is_err, IfOk, if◌then◌else◌};
 ghost use Rattle.std.specs.Result.{result_ok};
 ghost use Rattle.bale_types.specs.Stream.{moved, next_count, CountsFaults, MovesSome, some_moved};
 

@@ -4,7 +4,7 @@
 //! untold, and `faults`, a count that never falls. A sink has `taken`, the bytes accepted so far,
 //! and `faults`. A caller that reads or writes through these traits knows that a call which failed
 //! moved nothing, and that the object counted its failure, and none at a call that didn't fail.
-ghost use Rattle.std.specs.Prelude.{◌≡◌, ◌<◌, ◌≤◌, ℕ, List, Option, Some, [], length, IfOk, OnOk};
+ghost use Rattle.std.specs.Prelude.{◌≡◌, ◌<◌, ◌≤◌, ℕ, List, Option, Some, [], length, IfOk};
 ghost use Rattle.bale_types.specs.Stream.{after, before, moved, CountsFaults, MovesSome};
 
 use super::fault::Failed;

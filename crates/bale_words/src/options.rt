@@ -1,10 +1,9 @@
 //! The options among the words of a command line.
 
-ghost use Rattle.std.specs.Prelude.{ℕ, ◌≡◌, ◌++◌, ◌∷◌, [], List, Option, Some, None, map, string_bytes, IfOk, OnOk, OnErr, Result, Ok, Err};
+ghost use Rattle.std.specs.Prelude.{ℕ, ◌≡◌, ◌++◌, ◌∷◌, List, Option, Some, None, map, string_bytes, IfOk, OnOk, OnErr, Ok, Err};
 ghost use Rattle.std.specs.Option.{option_map};
 ghost use Rattle.bale_words.specs.Options.{Given, with_first, given_of, given_from, has_hyphen, accepted, is_among, was_given};
 ghost use Rattle.bale_words.specs.Pairs.{given_pairs};
-ghost use Rattle.bale_words.specs.Reading.{Reads};
 ghost use Rattle.clap.specs.Lexer.{strip_byte, name_and_value, long_of};
 
 use crate::fault::WordsFault;

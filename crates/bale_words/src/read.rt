@@ -1,6 +1,6 @@
 //! The command of a command line.
 
-ghost use Rattle.std.specs.Prelude.{ℕ, ◌≡◌, List, Option, Some, None, map, string_bytes, true, IfOk, Err};
+ghost use Rattle.std.specs.Prelude.{ℕ, ◌≡◌, List, Some, None, map, string_bytes, true, IfOk, Err};
 ghost use Rattle.std.specs.List.{list_all};
 ghost use Rattle.std.specs.Option.{option_map};
 ghost use Rattle.clap.specs.Words.{first_value, found_of};

@@ -1,6 +1,6 @@
 //! What the values of the options give.
 
-ghost use Rattle.std.specs.Prelude.{◌≡◌, ◌≤◌, ◌<◌, [], ◌∷◌, Option, Some, None, true, false, if◌then◌else◌};
+ghost use Rattle.std.specs.Prelude.{◌≡◌, ◌≤◌, ◌<◌, [], ◌∷◌, Some, None, true, false, if◌then◌else◌};
 ghost use Rattle.std.specs.Option.{option_map};
 ghost use Rattle.bale_words.specs.declared.command.Transport.TheVariants.{Convey};
 ghost use Rattle.bale_words.specs.declared.command.Driving.TheVariants.{Threads};

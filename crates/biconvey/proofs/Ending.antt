@@ -1,10 +1,9 @@
 -- A sweep in which nothing moved on either way ends both.
-use Rattle.bale_types.specs.declared.item.Entry.{Entry}
-use Rattle.std.proofs.Common.{◌≡◌, ◌⊎◌, ℕ, ◌+◌, ◌<◌, ◌≤◌, true, List, [], ◌∷◌, ◌++◌, length, length-append, None, Some, slice_get, refl, sym, ap, subst, ◌∙◌, arith, inl, inr, eqb-true}
+use Rattle.std.proofs.Common.{◌≡◌, ℕ, ◌+◌, ◌<◌, ◌≤◌, true, List, [], ◌∷◌, ◌++◌, length, length-append, None, refl, sym, ap, subst, ◌∙◌, arith, inl, inr}
 use Rattle.std.proofs.lemmas.Bool.{cases_lt}
 use Rattle.route_tensor.specs.Grid.{ranks, IsGrid}
 use Rattle.route_tensor.specs.Link.{links}
-use Rattle.route_tensor.specs.Ends.{hop_at, sender_at, reader_at}
+use Rattle.route_tensor.specs.Ends.{hop_at, reader_at}
 use Rattle.port_bank.specs.Logs.{Logs, starting_at, ending_at}
 use Rattle.port_bank.specs.Link.{LinkLaw}
 use Rattle.hop_core.specs.declared.phase.Phase.TheVariants.{Complete}
@@ -12,9 +11,8 @@ use Rattle.hop_core.specs.State.{State}
 use Rattle.convey.specs.Buffers.{in_of}
 use Rattle.list_laws.specs.Lists.{Ends}
 use Rattle.convey.specs.Conveyors.{AgreesWith}
-use Rattle.convey.specs.Due.{IsOver, NextIs, next_link}
-use Rattle.convey.specs.Rest.{IsBusy, HasBusy, IsAtRest, IsRestingSweep, RestLaw}
-use Rattle.convey.proofs.OneRank.{starting-own, ending-own}
+use Rattle.convey.specs.Due.{IsOver}
+use Rattle.convey.specs.Rest.{IsBusy, IsAtRest, IsRestingSweep, RestLaw}
 use Rattle.round_program.specs.Talks.{Talk}
 use Rattle.rank_node.specs.Movers.{AllRead}
 use Rattle.rank_node.specs.Stuck.{IsStill}

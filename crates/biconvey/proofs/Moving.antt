@@ -1,19 +1,16 @@
 -- One more rank is turned: what moved of one way.
-use Rattle.std.proofs.Common.{◌≡◌, ◌≢◌, ℕ, ◌+◌, ◌<◌, ◌≤◌, ◌==◌, Bool, true, false, cond, List, [], ◌∷◌, ◌++◌, length, length-append, Some, slice_get, refl, sym, ap, subst, ◌∙◌, arith, inl, inr}
-use Rattle.std.proofs.lemmas.Bool.{cases_eq, cases_lt, ne_eqb}
-use Rattle.std.proofs.lemmas.List.{append-nil}
-use Rattle.item_buffer.specs.Contents.{Shipped}
-use Rattle.list_laws.specs.Lists.{Begins}
+use Rattle.std.proofs.Common.{◌≡◌, ◌≢◌, ℕ, ◌<◌, ◌≤◌, ◌==◌, Bool, true, false, cond, List, [], ◌∷◌, length, Some, slice_get, refl, sym, ap, subst, ◌∙◌, arith, inl, inr}
+use Rattle.std.proofs.lemmas.Bool.{cases_eq, ne_eqb}
 use Rattle.list_laws.proofs.Lists.{get_once}
 use Rattle.route_tensor.specs.Link.{links}
 use Rattle.route_tensor.specs.Ends.{sender_at, reader_at}
-use Rattle.port_bank.specs.Logs.{Logs, starting_at, ending_at}
+use Rattle.port_bank.specs.Logs.{Logs, starting_at}
 use Rattle.port_bank.specs.Shapes.{IsConveyorShape}
 use Rattle.hop_core.specs.State.{State}
 use Rattle.convey.specs.Buffers.{in_of}
-use Rattle.convey.proofs.OneRank.{starting-own, ending-own}
+use Rattle.convey.proofs.OneRank.{starting-own}
 use Rattle.rank_group.proofs.Growing.{Grows, inbox_same, inboxes_on}
-use Rattle.biconvey.specs.Ways.{entries_of, conveyor_in, inbox, move_of, moves, Lawful, IsWay, AfterTurn}
+use Rattle.biconvey.specs.Ways.{conveyor_in, inbox, moves, Lawful, IsWay, AfterTurn}
 
 module _ (dims : List ℕ) (cap slots : ℕ) (steady : Bool) (r : ℕ) (c c' : State) (cs cs' : List State) (sent got sent' got' : Logs)
     (w : IsWay dims cap slots steady cs sent got) (at : slice_get cs r ≡ Some c) (at' : slice_get cs' r ≡ Some c') (others : (k : ℕ) → k ≢ r → slice_get cs' k ≡ slice_get cs k) (size : length cs' ≡ length cs)

@@ -1,6 +1,6 @@
 //! The ranks of an exchange get their seats at two slot banks and go to their ports, and leave them.
 
-ghost use Rattle.std.specs.Prelude.{◌≡◌, ℕ, ◌<◌, ◌^◌, Bool, false, List, map, length, replicate, slice_index_or, Some, None, IfOk, OnOk};
+ghost use Rattle.std.specs.Prelude.{◌≡◌, ◌<◌, ◌^◌, Bool, false, List, map, length, replicate, slice_index_or, Some, None, IfOk, OnOk};
 ghost use Rattle.std.specs.List.{All};
 ghost use Rattle.list_laws.specs.Lists.{EachAt};
 ghost use Rattle.route_tensor.specs.Grid.{ranks};

@@ -1,7 +1,7 @@
 //! From a matrix to the labels of its vertices: the programs, driven on one thread or on several.
 
 ghost use Rattle.round_program.specs.Ranks.{AreRanks};
-ghost use Rattle.std.specs.Prelude.{◌≡◌, ◌≤◌, length, IfOk};
+ghost use Rattle.std.specs.Prelude.{◌≡◌, length, IfOk};
 ghost use Rattle.round_program.specs.Canonical.{HaveEnded};
 ghost use Rattle.components.specs.Connected.{AreComponents};
 ghost use Rattle.components.specs.LabelRules.{label_rules};

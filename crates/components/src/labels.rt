@@ -1,7 +1,7 @@
 //! One rank's part of the propagation of labels.
 
 ghost use Rattle.round_program.specs.Ranks.{IsRankOf};
-ghost use Rattle.std.specs.Prelude.{◌≡◌, ◌<◌, ◌≤◌, length, IfOk};
+ghost use Rattle.std.specs.Prelude.{◌≡◌, ◌<◌, length, IfOk};
 ghost use Rattle.std.specs.List.{All, filter};
 ghost use Rattle.reductions.specs.Reductions.{has_changed};
 ghost use Rattle.components.specs.LabelRules.{IsLink};

@@ -1,7 +1,7 @@
 //! One rank's part of delta-stepping.
 
 ghost use Rattle.bale_types.specs.Changes.{AllOrNothing};
-ghost use Rattle.std.specs.Prelude.{◌≡◌, ◌≢◌, ◌<◌, ◌≤◌, ◌/◌, ◌+◌, ◌-◌, ◌^◌, ◌++◌, ◌&&◌, ◌==◌, [], if◌then◌else◌, OnOk, OnErr, min};
+ghost use Rattle.std.specs.Prelude.{◌≡◌, ◌≢◌, ◌<◌, ◌/◌, ◌+◌, ◌-◌, ◌&&◌, ◌==◌, [], OnOk, min};
 ghost use Rattle.std.specs.List.{All};
 ghost use Rattle.round_program.specs.Laws.{Fits};
 ghost use Rattle.round_program.specs.Batches.{taken_in};

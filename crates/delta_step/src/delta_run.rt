@@ -1,11 +1,10 @@
 //! The start of delta-stepping, and its answer as text.
 
 ghost use Rattle.round_program.specs.Ranks.{AreRanks};
-ghost use Rattle.std.specs.Prelude.{ℕ, true, ◌≡◌, ◌≢◌, ◌<◌, ◌≤◌, ◌+◌, ◌*◌, ◌^◌, ◌%◌, ◌/◌, [], ◌∷◌, Option, IfOk, OnOk, OnErr};
-ghost use Rattle.bale_types.specs.Stream.{after};
+ghost use Rattle.std.specs.Prelude.{ℕ, true, ◌≡◌, ◌<◌, ◌≤◌, ◌+◌, ◌*◌, ◌%◌, ◌/◌, [], ◌∷◌, Option, IfOk};
 ghost use Rattle.bale_types.specs.Out.{HandsOn, Writes};
 ghost use Rattle.mtx_text.specs.Sparse.{Sparse};
-ghost use Rattle.sparse_rows.specs.Parts.{parts_of, HasPart};
+ghost use Rattle.sparse_rows.specs.Parts.{HasPart};
 ghost use Rattle.round_program.specs.Canonical.{InRound, EndsWithin};
 ghost use Rattle.least_walks.specs.Walks.{IsSource, no_negative, IsLeast, AreLeast};
 ghost use Rattle.least_walks.specs.Lines.{sssp_lines};

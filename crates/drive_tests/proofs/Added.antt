@@ -1,7 +1,7 @@
 -- Askers, as far as they are made.
-use Rattle.std.proofs.Common.{◌≡◌, ℕ, ◌+◌, ◌<◌, List, [], ◌∷◌, ◌++◌, length, length-append, slice_get, Some, refl, sym, ap, subst, ◌∙◌, arith, inl, inr}
+use Rattle.std.proofs.Common.{◌≡◌, ℕ, ◌+◌, List, [], ◌∷◌, ◌++◌, length, length-append, slice_get, Some, refl, sym, ap, subst, ◌∙◌, arith, inl, inr}
 use Rattle.std.proofs.lemmas.Bool.{cases_lt}
-use Rattle.list_laws.proofs.Lists.{within, get_once, get_last, get_before, all_from_gets}
+use Rattle.list_laws.proofs.Lists.{within, get_once, get_last, get_before}
 use Rattle.drive_tests.specs.Adders.{AdderState, adder_talk}
 use Rattle.biconvey.specs.Drives.{AreAskers}
 

@@ -1,6 +1,6 @@
 //! Askers on threads, by hand and on grids of one to three hops, and with every rank kept by the caller.
 
-ghost use Rattle.std.specs.Prelude.{◌≡◌, ◌<◌, ◌≤◌, length};
+ghost use Rattle.std.specs.Prelude.{◌≡◌, ◌<◌, length};
 ghost use Rattle.item_buffer.specs.Capacity.{IsCap};
 ghost use Rattle.item_buffer.specs.Capacity.{IsCapacity};
 

@@ -1,5 +1,5 @@
 //! The order in which `drive_serial` turns the ranks.
-ghost use Rattle.std.specs.Prelude.{◌≡◌, ◌<◌};
+ghost use Rattle.std.specs.Prelude.{◌<◌};
 ghost use Rattle.rank_node.specs.Ledgers.{IsBlankOf};
 
 use crate::serial_tests::order_of;

@@ -1,5 +1,5 @@
 //! A rank that refuses each absorb: both drives answer that memory was wanting, and every rank goes on turning.
-ghost use Rattle.std.specs.Prelude.{◌≡◌, ◌<◌};
+ghost use Rattle.std.specs.Prelude.{◌<◌};
 ghost use Rattle.rank_node.specs.Ledgers.{IsBlankOf};
 
 use crate::gates::TestGate;

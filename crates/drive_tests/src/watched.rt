@@ -1,5 +1,5 @@
 //! Counting programs that note how a drive turns them.
-ghost use Rattle.std.specs.Prelude.{◌≡◌, ◌<◌, ◌^◌, ◌∷◌, [], length, IfOk};
+ghost use Rattle.std.specs.Prelude.{◌≡◌, ◌<◌, ◌∷◌, [], length, IfOk};
 ghost use Rattle.std.specs.List.{All};
 ghost use Rattle.round_program.specs.Canonical.{InRound};
 ghost use Rattle.round_examples.specs.Counts.{count_rules};

@@ -1,6 +1,6 @@
 //! The line of a vertex in an answer.
 
-ghost use Rattle.std.specs.Prelude.{◌≡◌, ◌<◌, ◌≤◌, ◌+◌, ◌^◌, ◌++◌, length, OnOk, OnErr};
+ghost use Rattle.std.specs.Prelude.{◌≡◌, ◌<◌, ◌≤◌, ◌+◌, ◌^◌, ◌++◌, length};
 ghost use Rattle.bale_types.specs.Out.{Writes};
 ghost use Rattle.least_walks.specs.Lines.{weight_text, vertex_line};
 

@@ -1,6 +1,6 @@
 //! The edges of a rank's vertices, those of each vertex together, and what they offer.
 
-ghost use Rattle.std.specs.Prelude.{◌≡◌, ◌<◌, ◌≤◌, ◌/◌, ◌+◌, ◌%◌, ◌^◌, ◌++◌, [], ◌∷◌, OnOk, IfOk, if◌then◌else◌, length, map, replicate, slice_index_or};
+ghost use Rattle.std.specs.Prelude.{◌≡◌, ◌<◌, ◌≤◌, ◌/◌, ◌+◌, ◌%◌, ◌++◌, [], ◌∷◌, OnOk, IfOk, length, map, replicate, slice_index_or};
 ghost use Rattle.std.specs.List.{All};
 ghost use Rattle.bale_types.specs.declared.triple.Triple.{Triple};
 ghost use Rattle.list_laws.specs.Lists.{changed_at, Begins};

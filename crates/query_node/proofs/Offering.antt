@@ -1,20 +1,16 @@
 -- One more query is pushed.
-use Rattle.std.proofs.Common.{None, ◌≡◌, ◌≢◌, ℕ, ◌+◌, ◌^◌, ◌<◌, ◌≤◌, ◌==◌, ◌&&◌, true, false, cond, List, [], ◌∷◌, ◌++◌, length, take, slice_get, Some, All, refl, sym, ap, subst, ◌∙◌, inl, inr, arith}
-use Rattle.std.proofs.lemmas.Bool.{cases_eq, cases_Bool, true≢false, eq-eqb, ne_eqb}
+use Rattle.std.proofs.Common.{None, ◌≡◌, ◌≢◌, ℕ, ◌+◌, ◌^◌, ◌<◌, ◌≤◌, ◌==◌, ◌&&◌, true, false, cond, List, [], ◌∷◌, ◌++◌, length, slice_get, Some, All, refl, sym, ap, subst, ◌∙◌, arith}
+use Rattle.std.proofs.lemmas.Bool.{eq-eqb, ne_eqb}
 use Rattle.bale_types.specs.declared.item.Item.{Item}
 use Rattle.route_tensor.specs.Grid.{ranks}
-use Rattle.port_bank.specs.Logs.{Logs}
-use Rattle.port_bank.specs.Machine.{Part, IsOwnStep, ItemLists, with_item}
-use Rattle.port_bank.specs.Machine.Step.{Push, Idle}
+use Rattle.port_bank.specs.Machine.{ItemLists, with_item}
 use Rattle.hop_core.specs.declared.phase.Phase.TheVariants.{Working}
 use Rattle.hop_core.specs.State.{State}
 use Rattle.convey.specs.Buffers.{buffers_of}
-use Rattle.convey.specs.Conveyors.{AgreesWith, KeepsAgreement, standing_toward}
+use Rattle.convey.specs.Conveyors.{standing_toward}
 use Rattle.convey.specs.Parts.{part_of}
-use Rattle.list_laws.proofs.Lists.{within, get_map, all_get, all_from_gets, got_map}
-use Rattle.round_program.specs.Canonical.{items_of}
+use Rattle.list_laws.proofs.Lists.{get_map, all_get, all_from_gets, got_map}
 use Rattle.round_program.specs.Talks.{Talk, TalkLaws}
-use Rattle.round_program.proofs.Items.{items_more, items_more_other}
 use Rattle.round_program.specs.Replies.{carrying, asks_of}
 use Rattle.rank_node.proofs.Offered.{Offers, pushed_none}
 use Rattle.query_node.specs.Taking.{Pushes}

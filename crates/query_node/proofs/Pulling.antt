@@ -1,15 +1,11 @@
 -- What pulls leave of a conveyor.
-use Rattle.std.proofs.Common.{◌≡◌, ◌≢◌, ℕ, zero, suc, ◌+◌, ◌<◌, ◌≤◌, List, [], ◌∷◌, length, slice_get, Option, Some, None, refl, sym, ap, subst, ◌∙◌, arith, get_or, set, sum_by, drop, add-one}
-use Rattle.std.proofs.lemmas.List.Sums.{sum_by-set}
-use Rattle.std.specs.Option.{option_map}
-use Rattle.bale_types.specs.declared.item.Entry.{Entry}
+use Rattle.std.proofs.Common.{◌≡◌, ◌≢◌, ℕ, zero, suc, ◌+◌, ◌<◌, ◌≤◌, List, [], ◌∷◌, length, Option, Some, None, refl, sym, ap, subst, ◌∙◌, arith, get_or, set, drop, add-one}
 use Rattle.bale_types.specs.declared.item.Item.{Item}
-use Rattle.route_tensor.specs.Neighbour.{neighbour, in_index}
-use Rattle.route_tensor.specs.Tag.{sender_of}
+use Rattle.route_tensor.specs.Neighbour.{in_index}
 use Rattle.hop_core.specs.declared.phase.Phase.TheVariants.{Dormant}
 use Rattle.hop_core.specs.Link.{In, no_in, with_first_taken}
 use Rattle.hop_core.specs.Relay.{waiting}
-use Rattle.hop_core.specs.State.{State, in_at, lowest_unread, pull_from, pulled_from, pulls}
+use Rattle.hop_core.specs.State.{State, in_at, lowest_unread, pulled_from, pulls}
 use Rattle.convey.specs.Conveyors.{GivesNext}
 use Rattle.rank_node.proofs.Absorbed.{fewer_from}
 use Rattle.rank_node.specs.Pulls.{NoMore}

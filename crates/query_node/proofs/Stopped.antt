@@ -1,28 +1,22 @@
 -- What a turn leaves that moved no parcel.
-use Rattle.std.proofs.Common.{◌≡◌, ◌⊎◌, ℕ, ◌+◌, ◌<◌, ◌≤◌, ◌==◌, Bool, true, false, List, [], ◌++◌, length, length-append, slice_get, Option, Some, None, Result, Ok, refl, sym, ap, subst, ◌∙◌, arith, inl, inr}
+use Rattle.std.proofs.Common.{◌≡◌, ◌⊎◌, ℕ, ◌+◌, ◌<◌, ◌≤◌, ◌==◌, Bool, true, false, List, [], ◌++◌, length, slice_get, Option, Some, None, Result, Ok, refl, sym, ap, subst, ◌∙◌, arith, inl, inr}
 use Rattle.std.proofs.lemmas.Bool.{eq-eqb, cases_lt}
-use Rattle.std.proofs.lemmas.List.{append-nil}
 use Rattle.std.specs.List.{flat_map}
-use Rattle.bale_types.specs.declared.item.Entry.{Entry}
 use Rattle.bale_types.specs.declared.item.Item.{Item}
 use Rattle.item_buffer.specs.Contents.{Shipped}
 use Rattle.list_laws.proofs.Lists.{find}
 use Rattle.route_tensor.specs.Grid.{ranks, IsGrid}
 use Rattle.route_tensor.specs.Link.{links}
-use Rattle.route_tensor.specs.Ends.{hop_at, sender_at, reader_at}
+use Rattle.route_tensor.specs.Ends.{reader_at}
 use Rattle.port_bank.specs.Logs.{Logs}
-use Rattle.port_bank.specs.Flow.{hop_link}
 use Rattle.hop_core.specs.declared.phase.Phase.{Phase}
 use Rattle.hop_core.specs.declared.phase.Phase.TheVariants.{Dormant, Working, Endgame, Cleanup, Complete}
 use Rattle.hop_core.specs.State.{State}
 use Rattle.list_laws.specs.Lists.{Ends}
-use Rattle.convey.specs.Arrived.{HasArrived}
-use Rattle.convey.specs.Buffers.{buffers_of, in_of, out_of}
-use Rattle.convey.specs.Conveyors.{AgreesWith, standing_toward}
-use Rattle.convey.specs.Due.{Wants, IsOver, NextIs, HeldUp, next_link}
+use Rattle.convey.specs.Buffers.{in_of}
+use Rattle.convey.specs.Conveyors.{AgreesWith}
 use Rattle.convey.specs.Progress.{progress_of}
 use Rattle.convey.specs.declared.progress.Progress.TheVariants as progress
-use Rattle.convey.proofs.OneRank.{FirstLink, first_link}
 use Rattle.rank_node.proofs.Halted.{Advanced, lies_less, crowded_toward, still}
 use Rattle.query_node.specs.Taking.{Pushes, Answers, RefusesAnswer, Hears}
 use Rattle.round_program.specs.Talks.{Talk}

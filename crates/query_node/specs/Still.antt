@@ -1,16 +1,6 @@
 -- What a turn leaves that moved no parcel, and why.
-use Rattle.std.specs.Prelude.{◌≡◌, ◌⊎◌, ℕ, ◌<◌, ◌≤◌, Bool, true, false, length, slice_get, Some}
-use Rattle.bale_types.specs.declared.item.Entry.{Entry}
-use Rattle.route_tensor.specs.Link.{links}
-use Rattle.route_tensor.specs.Ends.{hop_at, sender_at, reader_at}
-use Rattle.port_bank.specs.Logs.{Logs}
+use Rattle.std.specs.Prelude.{◌≡◌, ◌⊎◌, ℕ, Bool, true, false}
 use Rattle.hop_core.specs.declared.phase.Phase.TheVariants.{Complete}
-use Rattle.hop_core.specs.State.{State}
-use Rattle.convey.specs.Buffers.{buffers_of, out_of, in_of}
-use Rattle.list_laws.specs.Lists.{Ends}
-use Rattle.convey.specs.Conveyors.{AgreesWith}
-use Rattle.convey.specs.Arrived.{HasArrived}
-use Rattle.convey.specs.Due.{Wants, IsOver, NextIs}
 use Rattle.rank_node.specs.Movers.{AllRead}
 use Rattle.rank_node.specs.Stuck.{HasCrowded, IsStill}
 use Rattle.query_node.specs.States.{BiState, Sides}

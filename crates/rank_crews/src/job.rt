@@ -1,5 +1,5 @@
 //! Turns that are made to their end by a count of their own.
-ghost use Rattle.std.specs.Prelude.{◌≡◌, ◌<◌};
+ghost use Rattle.std.specs.Prelude.{◌<◌};
 ghost use Rattle.rank_node.specs.Ledgers.{IsBlankOf};
 
 use rank_node::Steps;

@@ -1,5 +1,5 @@
 //! All ranks of a drive on threads, side by side.
-ghost use Rattle.std.specs.Prelude.{◌≡◌, ◌<◌, ◌≤◌, true, List, [], ◌∷◌, ◌++◌, map, length, reverse, vec_capacity, IfOk};
+ghost use Rattle.std.specs.Prelude.{◌≡◌, ◌<◌, ◌≤◌, true, List, [], map, length, reverse, vec_capacity, IfOk};
 ghost use Rattle.std.specs.List.{All};
 ghost use Rattle.rank_crews.specs.Runs.{AllRan, AllEnded};
 ghost use Rattle.rank_crews.specs.Children.{first_of};

@@ -1,5 +1,5 @@
 -- A sweep in which nothing moved ends the least epoch.
-use Rattle.std.proofs.Common.{◌^◌, ◌≡◌, ℕ, ◌+◌, ◌*◌, ◌<◌, ◌≤◌, ◌==◌, ◌&&◌, not, Bool, true, false, cond, List, [], length, Some, slice_get, refl, sym, ap, subst, ◌∙◌, arith, inl, inr, eqb-true}
+use Rattle.std.proofs.Common.{◌^◌, ◌≡◌, ℕ, ◌+◌, ◌*◌, ◌<◌, ◌≤◌, ◌==◌, ◌&&◌, not, Bool, true, false, cond, List, [], length, Some, slice_get, refl, sym, ap, subst, ◌∙◌, arith, inl, inr}
 use Rattle.std.proofs.lemmas.Bool.{cases_Bool, cases_eq, cases_lt, true≢false}
 use Rattle.bale_types.specs.declared.item.Entry.{Entry}
 use Rattle.list_laws.proofs.Lists.{find, within, get_once}
@@ -12,17 +12,16 @@ use Rattle.hop_core.specs.Link.{In, is_wanted}
 use Rattle.hop_core.specs.State.{State}
 use Rattle.convey.specs.Buffers.{in_of, is_complete}
 use Rattle.convey.specs.Conveyors.{AgreesWith}
-use Rattle.convey.specs.Due.{IsOver, NextIs, next_link}
+use Rattle.convey.specs.Due.{IsOver}
 use Rattle.rank_group.specs.Closes.{ClosesLaws}
-use Rattle.convey.specs.Rest.{IsBusy, IsAtRest, IsRestingSweep, RestLaw}
-use Rattle.convey.proofs.OneRank.{starting-own, ending-own}
+use Rattle.convey.specs.Rest.{IsAtRest, IsRestingSweep, RestLaw}
 use Rattle.round_program.specs.Rules.{Rules}
 use Rattle.round_program.specs.Laws.{Laws}
 use Rattle.round_program.specs.Canonical.{HasRounds, InRound}
 use Rattle.rank_node.specs.Movers.{MoverState, Manner, dims_of, rank_of, epoch_in, manner_in, has_completed, IsConveying, IsMoving}
 use Rattle.rank_node.specs.Movers.MoverState.{Conveying, Stacking}
 use Rattle.rank_node.specs.Movers.Manner.{ByConveyor}
-use Rattle.rank_group.specs.Ranks.{RankState, progress, crowded_in}
+use Rattle.rank_group.specs.Ranks.{RankState, progress}
 use Rattle.rank_node.proofs.Onward.{done_of_completed, complete_is}
 use Rattle.rank_group.proofs.Still as still
 use Rattle.rank_group.proofs.Worlds.{Core, core, still_within, over_at_last}

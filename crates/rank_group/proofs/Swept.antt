@@ -1,13 +1,11 @@
 -- One more rank is turned in a sweep.
-use Rattle.std.proofs.Common.{◌≡◌, ◌≢◌, ℕ, ◌+◌, ◌<◌, ◌≤◌, ◌==◌, Bool, true, false, cond, List, [], ◌∷◌, ◌++◌, length, length-append, Some, slice_get, refl, sym, ap, subst, ◌∙◌, arith, inl, inr}
-use Rattle.std.proofs.lemmas.Bool.{cases_eq, cases_lt, eq-eqb, ne_eqb}
-use Rattle.item_buffer.specs.Contents.{Shipped}
+use Rattle.std.proofs.Common.{◌≡◌, ◌≢◌, ℕ, ◌<◌, ◌≤◌, ◌==◌, Bool, true, false, cond, List, [], ◌∷◌, length, Some, slice_get, refl, sym, ap, subst, ◌∙◌, arith, inl, inr}
+use Rattle.std.proofs.lemmas.Bool.{cases_eq, eq-eqb, ne_eqb}
 use Rattle.list_laws.proofs.Lists.{get_once}
 use Rattle.route_tensor.specs.Grid.{ranks}
 use Rattle.route_tensor.specs.Link.{links}
-use Rattle.route_tensor.specs.Ends.{sender_at, reader_at}
+use Rattle.route_tensor.specs.Ends.{reader_at}
 use Rattle.port_bank.specs.Logs.{Logs, starting_at, ending_at}
-use Rattle.port_bank.specs.Flow.{Begins}
 use Rattle.port_bank.proofs.Owners.{sent_elsewhere, got_elsewhere}
 use Rattle.round_program.specs.Rules.{Rules}
 use Rattle.round_program.specs.Laws.{Laws}
@@ -18,7 +16,7 @@ use Rattle.rank_node.specs.Next.{HasStopped}
 use Rattle.rank_group.specs.Closes.{ClosesLaws}
 use Rattle.rank_group.specs.Ranks.{RankState, HasRank, AllRanks, AfterRank, IsLeftBy, progress, crowded_in, idle_in}
 use Rattle.rank_group.specs.Halves.{quota_of, KeepsCycle, next_cycle}
-use Rattle.rank_group.specs.Worlds.{entries_of, mover_in, inbox, World, move_of, moves, Lawful, RestsBy, Plan}
+use Rattle.rank_group.specs.Worlds.{mover_in, inbox, World, moves, Lawful, RestsBy, Plan}
 use Rattle.rank_group.proofs.Cycled.{keeps_on}
 use Rattle.rank_group.proofs.Growing.{Grows, sent_same, got_same, inbox_same, inboxes_on}
 use Rattle.rank_group.proofs.Quotas.{sends_few}

@@ -1,14 +1,12 @@
 -- What is left of the bank tells the run, where no epoch follows for any rank.
-use Rattle.std.proofs.Common.{◌≡◌, ℕ, zero, suc, ◌+◌, ◌*◌, ◌<◌, ◌≤◌, Bool, true, false, cond, List, [], ◌∷◌, ◌++◌, length, slice_get, Some, refl, sym, ap, subst, ◌∙◌, arith, inl, inr}
-use Rattle.std.proofs.lemmas.Bool.{cases_Bool, cases_lt}
-use Rattle.std.proofs.lemmas.List.{append-nil}
-use Rattle.item_buffer.specs.Contents.{Shipped}
+use Rattle.std.proofs.Common.{◌≡◌, ℕ, ◌+◌, ◌*◌, ◌<◌, Bool, true, false, cond, List, [], ◌∷◌, length, slice_get, Some, refl, sym, ap, subst, ◌∙◌, arith, inl, inr}
+use Rattle.std.proofs.lemmas.Bool.{cases_lt}
 use Rattle.list_laws.proofs.Lists.{find}
 use Rattle.route_tensor.specs.Grid.{ranks}
 use Rattle.route_tensor.specs.Link.{links}
 use Rattle.route_tensor.specs.Ends.{sender_at, reader_at}
 use Rattle.port_bank.specs.Logs.{Logs, lasts, segment, starting_at, ending_at, EndsLast}
-use Rattle.port_bank.specs.Flow.{Begins, hop_link, belongs, items_of}
+use Rattle.port_bank.specs.Flow.{hop_link, belongs, items_of}
 use Rattle.port_bank.specs.Round.{Round, IsRound, logs_of, pushed, pulled, CloseLaw}
 use Rattle.port_bank.proofs.Routes.{numbered}
 use Rattle.port_bank.proofs.Marks.{none_after, all_got}

@@ -1,5 +1,5 @@
 //! A rank of a run of programs at its port of a slot bank.
-ghost use Rattle.std.specs.Prelude.{◌≡◌, ◌<◌, ◌^◌};
+ghost use Rattle.std.specs.Prelude.{◌<◌, ◌^◌};
 
 use crate::noting::NotingPort;
 use crate::sweeping::Rank;

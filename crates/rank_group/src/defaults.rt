@@ -1,5 +1,5 @@
 //! Drives of which a caller says no more than what is driven.
-ghost use Rattle.std.specs.Prelude.{◌≡◌, ◌<◌, ◌≤◌, true, length, IfOk};
+ghost use Rattle.std.specs.Prelude.{◌≡◌, ◌<◌, true, length, IfOk};
 ghost use Rattle.item_buffer.specs.Capacity.{IsCap};
 ghost use Rattle.std.specs.List.{range_with_len};
 ghost use Rattle.port_bank.specs.Port.{IsSlots};

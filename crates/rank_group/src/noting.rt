@@ -1,5 +1,5 @@
 //! A port that notes whether a parcel moved.
-ghost use Rattle.std.specs.Prelude.{◌≡◌, ◌≢◌, ℕ, ◌+◌, ◌==◌, true, false, length, refl};
+ghost use Rattle.std.specs.Prelude.{◌≡◌, ◌+◌, ◌==◌, true, false, length, refl};
 ghost use Rattle.link_slots.specs.Seen.{posted_on, collected_from};
 ghost use Rattle.rank_group.specs.Noted.{HasSame};
 

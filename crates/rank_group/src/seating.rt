@@ -1,5 +1,5 @@
 //! The ranks of a drive get their seats at a slot bank and go to their ports, and leave them.
-ghost use Rattle.std.specs.Prelude.{◌≡◌, ℕ, ◌<◌, ◌^◌, false, List, map, length, replicate, slice_index_or, Some, None, IfOk, OnOk};
+ghost use Rattle.std.specs.Prelude.{◌≡◌, ◌<◌, ◌^◌, false, List, map, length, replicate, slice_index_or, Some, None, IfOk, OnOk};
 ghost use Rattle.std.specs.List.{All};
 ghost use Rattle.list_laws.specs.Lists.{EachAt};
 ghost use Rattle.route_tensor.specs.Grid.{ranks};

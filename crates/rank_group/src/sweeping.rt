@@ -6,7 +6,7 @@
 //! Over exstacks a rank finishes rounds, whose posts are their first halves and whose collects are their second. In a sweep each
 //! rank gets half a round further than the last of them was, since ranks that have finished as many rounds don't keep each other;
 //! and an epoch has only so many rounds.
-ghost use Rattle.std.specs.Prelude.{◌≡◌, ◌≢◌, ℕ, ◌+◌, ◌*◌, ◌^◌, ◌<◌, ◌≤◌, List, length, slice_get, Some, IfOk, false};
+ghost use Rattle.std.specs.Prelude.{◌≡◌, ◌≢◌, ℕ, ◌+◌, ◌^◌, ◌<◌, ◌≤◌, List, length, slice_get, Some, IfOk, false};
 ghost use Rattle.route_tensor.specs.Grid.{ranks};
 ghost use Rattle.route_tensor.specs.Link.{links};
 ghost use Rattle.port_bank.specs.Plain.{IsBank, sent_of, got_of};

@@ -1,5 +1,5 @@
 //! One call that drives all ranks of a grid on threads.
-ghost use Rattle.std.specs.Prelude.{◌≡◌, ◌<◌, ◌≤◌, true, length, IfOk, OnOk};
+ghost use Rattle.std.specs.Prelude.{◌≡◌, ◌<◌, true, length, IfOk, OnOk};
 ghost use Rattle.item_buffer.specs.Capacity.{IsCap};
 ghost use Rattle.port_bank.specs.Port.{IsSlots};
 ghost use Rattle.rank_node.specs.Movers.{manner_of};

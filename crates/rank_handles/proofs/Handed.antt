@@ -1,5 +1,5 @@
 -- A part that is taken out of its handle, called, and put back.
-use Rattle.std.proofs.Common.{◌≡◌, true, is_some, sym, ◌∙◌, refl, subst, Option, Some, None}
+use Rattle.std.proofs.Common.{◌≡◌, true, is_some, refl, subst, Option, Some, None}
 use Rattle.rank_handles.specs.Seated.{Seated}
 use Rattle.rank_handles.specs.Calls.{OnRank}
 

@@ -1,5 +1,5 @@
 -- One call after the other.
-use Rattle.std.proofs.Common.{◌≡◌, ℕ, zero, suc, ◌+◌, ◌<◌, ◌≤◌, List, [], ◌∷◌, ◌++◌, length, take, drop, get_or, set, ◌-◌, arith, refl, sym, ap, ◌∙◌, subst, ◌≢◌, Bool, true, false, ◌&&◌, nat_lt, Option, Some, None, Result, Ok, Err, append-nil, ℤ, pos}
+use Rattle.std.proofs.Common.{◌≡◌, ℕ, zero, suc, ◌+◌, ◌<◌, ◌≤◌, List, [], ◌∷◌, ◌++◌, length, take, drop, get_or, set, ◌-◌, arith, refl, sym, ap, ◌∙◌, subst, ◌≢◌, Bool, true, false, ◌&&◌, nat_lt, Option, Some, None, Err, append-nil}
 use Rattle.std.specs.Prelude.{if◌then◌else◌}
 use Rattle.std.specs.List.{list_all}
 use Rattle.std.proofs.lemmas.Bool.{lt-ltb, le-ltb}
@@ -12,9 +12,7 @@ use Rattle.hop_core.specs.State.{State, lowest_unread, pull_from, pulled_from, p
 use Rattle.convey.specs.Buffers.{buffers_of}
 use Rattle.convey.specs.Parts.{part_of}
 use Rattle.convey.specs.Conveyors.{AgreesWith, KeepsAgreement, IsStepOf, GivesNext, standing_toward}
-use Rattle.rank_handles.specs.declared.answer.Answer.{Answer}
 use Rattle.rank_handles.specs.declared.answer.Answer.TheVariants.{Good, Full, Nothing, NoSuchRank}
-use Rattle.rank_handles.specs.Codes.{code_of}
 use Rattle.rank_handles.specs.Answers.{while_working, push_answer, item_or_nothing, pull_once_begun, pull_result}
 use Rattle.bale_types.specs.declared.item.Item.{Item}
 use Rattle.port_bank.specs.Machine.{Part, Step, MayBy, after}
@@ -22,7 +20,7 @@ use Rattle.hop_core.specs.declared.phase.Phase.{Phase}
 use Rattle.rank_handles.specs.declared.item.BaleItem.{BaleItem}
 use Rattle.rank_handles.specs.Items.{item_of, bale_item}
 use Rattle.rank_handles.specs.Seated.{Seated}
-use Rattle.rank_handles.specs.Many.{steps_of, after_all, MayAll, Ran, then_idle, all_ranks, count_in}
+use Rattle.rank_handles.specs.Many.{steps_of, after_all, MayAll, Ran, then_idle, all_ranks}
 use Rattle.rank_handles.specs.Kept.{IsSeated, RunOf}
 use Rattle.rank_handles.proofs.Moves.{at, seated_still, pulled_phase}
 

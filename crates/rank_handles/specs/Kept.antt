@@ -1,5 +1,5 @@
 -- What is kept of a rank at its bank.
-use Rattle.std.specs.Prelude.{◌≡◌, ℕ, Bool, true, false, ◌<◌, ◌≤◌, length, Option, Some, None, is_some, List, []}
+use Rattle.std.specs.Prelude.{◌≡◌, ℕ, Bool, true, false, length, Option, Some, None, is_some, List, []}
 use Rattle.item_buffer.specs.Capacity.{IsCap}
 use Rattle.route_tensor.specs.Grid.{ranks}
 use Rattle.link_slots.specs.Shape.{nowhere}

@@ -1,5 +1,5 @@
 //! One rank's side of an exchange, whatever its capacity and its hops.
-ghost use Rattle.std.specs.Prelude.{◌≡◌, ◌≤◌, ℕ, Option, length, drop};
+ghost use Rattle.std.specs.Prelude.{◌≡◌, ◌≤◌, Option, length, drop};
 ghost use Rattle.std.specs.Option.{option_map};
 ghost use Rattle.rank_handles.specs.Seated.{Seated};
 ghost use Rattle.rank_handles.specs.Answers.{begin_answer, push_answer, pull_result, unpull_answer, advance_answer, reset_answer};

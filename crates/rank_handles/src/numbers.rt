@@ -1,5 +1,5 @@
 //! Calls of many items, as the number that C is told: how many were moved, or what is wrong.
-ghost use Rattle.std.specs.Prelude.{◌≡◌, ◌≤◌, ◌<◌, ◌^◌, ℕ, Some, drop, length};
+ghost use Rattle.std.specs.Prelude.{◌≡◌, ◌≤◌, ◌<◌, ◌^◌, Some, drop, length};
 ghost use Rattle.rank_handles.specs.Calls.{OnRank};
 ghost use Rattle.rank_handles.specs.Handles.{rank_in, if_there};
 ghost use Rattle.rank_handles.specs.Many.{push_many_answer, pull_many_answer, number_or, moved_by, told_of, count_in, PushesMany, PullsMany};

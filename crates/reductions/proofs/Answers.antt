@@ -1,6 +1,5 @@
 -- What holds of the cells that are read from the owners.
-use Rattle.std.proofs.Common.{ℕ, ◌+◌, ◌%◌, ◌<◌, ◌≤◌, ◌≡◌, min, ◌^◌, ◌-◌, List, [], ◌∷◌, Some, map, length, get_or, slice_get, All, arith, refl, sym, ap, ◌∙◌, subst}
-use Rattle.std.specs.List.{range_with_len}
+use Rattle.std.proofs.Common.{ℕ, ◌%◌, ◌<◌, ◌≤◌, ◌≡◌, min, ◌^◌, ◌-◌, List, [], ◌∷◌, Some, length, get_or, slice_get, All, arith, refl, sym, ap, ◌∙◌, subst}
 use Rattle.std.proofs.Math.Nat.{mod-lt}
 use Rattle.std.proofs.lemmas.List.FromFn.{length-map-range_with_len, get_or-map-range_with_len}
 use Rattle.list_laws.specs.Lists.{EachAt}

@@ -1,6 +1,6 @@
 //! Asking: each rank looks up columns of a table whose parts other ranks own.
 
-ghost use Rattle.std.specs.Prelude.{◌≡◌, ◌+◌, ◌<◌, ◌≤◌, ◌^◌, ◌++◌, ◌∷◌, [], IfOk, OnOk, is_ok, if◌then◌else◌, length, map, replicate, max};
+ghost use Rattle.std.specs.Prelude.{◌≡◌, ◌+◌, ◌<◌, ◌^◌, ◌++◌, [], IfOk, OnOk, is_ok, if◌then◌else◌, length, map, replicate, max};
 ghost use Rattle.std.specs.List.{All};
 ghost use Rattle.list_laws.specs.Lists.{changed_at};
 ghost use Rattle.round_examples.specs.Asks.{asks_from, replies_from, reply_to, noted, IsQuery, asking};

@@ -1,6 +1,6 @@
 //! Where the items that a rank sends go.
 
-ghost use Rattle.std.specs.Prelude.{◌≡◌, ℕ, Bool};
+ghost use Rattle.std.specs.Prelude.{ℕ, Bool};
 ghost use Rattle.bale_types.specs.declared.item.Item.{Item};
 
 use bale_types::Item;

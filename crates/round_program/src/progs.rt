@@ -1,6 +1,6 @@
 //! The programs of all ranks, one per rank: what a drive is given and hands back.
 
-ghost use Rattle.std.specs.Prelude.{◌≡◌, [], ◌∷◌, ◌++◌, OnOk, OnErr, if◌then◌else◌, length, drop, slice_get};
+ghost use Rattle.std.specs.Prelude.{◌≡◌, [], ◌∷◌, ◌++◌, OnOk, OnErr, length, drop, slice_get};
 ghost use Rattle.std.specs.Option.{option_copied};
 
 use bale_types::NoMemory;

@@ -3,7 +3,7 @@ use Rattle.std.proofs.Common.{ℕ, zero, suc, ◌≡◌, ◌+◌, ◌-◌, ◌*�
 use Rattle.std.specs.List.{All}
 use Rattle.std.proofs.lemmas.List.Elements.{All-head, All-tail, All-take}
 use Rattle.std.proofs.lemmas.Nat.{div_below, mod_below, mul-add-lt, div-mul-add, mod-mul-add, div-add-mod', mul-lt}
-use Rattle.std.proofs.Math.Nat.{mul_comm, div-one, mod-one, add-mul-div_left, div-div-eq-div-mul, mod-le, mul-div_left, mod-eq_of_lt, mul_assoc, mul-le-mul_left, mul-lt-mul_of_pos_right, mul-zero}
+use Rattle.std.proofs.Math.Nat.{mul_comm, div-one, mod-one, div-div-eq-div-mul, mod-le, mul-div_left, mod-eq_of_lt, mul_assoc, mul-le-mul_left, mul-lt-mul_of_pos_right, mul-zero}
 use Rattle.std.proofs.Math.Arith.{mod-mul}
 use Rattle.route_tensor.specs.Grid.{ranks, dim, coord, place}
 

@@ -1,9 +1,9 @@
 -- What three numbers tell that stand for a grid's dimensions.
-use Rattle.std.proofs.Common.{ℕ, zero, suc, ◌≡◌, ◌+◌, ◌*◌, ◌<◌, ◌≤◌, List, [], ◌∷◌, length, take, get_or, sum, arith, refl, sym, ap, ◌∙◌, subst, ◌≢◌, ◌⊎◌, Some, None, inl, inr, Bool, true, false, eqb, ltb, ◌||◌}
+use Rattle.std.proofs.Common.{ℕ, zero, suc, ◌≡◌, ◌+◌, ◌*◌, ◌<◌, ◌≤◌, List, [], ◌∷◌, length, take, get_or, arith, refl, sym, ap, ◌∙◌, subst, ◌⊎◌, Some, None, inl, inr, Bool, true, false, eqb, ltb, ◌||◌}
 use Rattle.std.specs.List.{All, list_any}
 use Rattle.std.proofs.lemmas.Bool.{cond-true, cond-false, or_from, ne_eqb, or_left, or_right, eq-eqb, le-ltb, lt-ltb}
 use Rattle.std.proofs.Math.Bool.{or-false}
-use Rattle.std.proofs.Math.Nat.{mul-one, mul-zero, zero-mul, suc-mul, mul-suc, le-mul_of_pos_right, mul_assoc, mul_comm}
+use Rattle.std.proofs.Math.Nat.{mul-one, mul-zero, zero-mul, suc-mul, le-mul_of_pos_right, mul_assoc, mul_comm}
 use Rattle.std.proofs.lemmas.List.Elements.{All-cons, All-nil, All-take}
 use Rattle.std.proofs.lemmas.List.{take-take, length-take}
 use Rattle.route_tensor.specs.Grid.{ranks, IsGrid}

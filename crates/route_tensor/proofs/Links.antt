@@ -1,13 +1,13 @@
 -- Numbers of links: how many there are, and which belong to a hop.
-use Rattle.std.proofs.Common.{ℕ, zero, suc, ◌≡◌, ◌≢◌, ◌+◌, ◌-◌, ◌*◌, ◌/◌, ◌%◌, ◌<◌, ◌≤◌, ◌⊎◌, List, [], ◌∷◌, length, take, get_or, sum, arith, refl, sym, ap, subst, ◌∙◌, inl, inr, mul-add}
+use Rattle.std.proofs.Common.{ℕ, zero, suc, ◌≡◌, ◌+◌, ◌-◌, ◌*◌, ◌/◌, ◌%◌, ◌<◌, ◌≤◌, List, [], ◌∷◌, length, take, get_or, sum, arith, refl, sym, ap, subst, ◌∙◌, inl, inr, mul-add}
 use Rattle.std.proofs.lemmas.List.Sums.{sum_by-cons}
 use Rattle.std.proofs.lemmas.Bool.{cases_lt}
 use Rattle.std.proofs.lemmas.List.{take_all}
-use Rattle.std.proofs.lemmas.Nat.{mul-add-lt, same_from_place, div-add-mod'}
+use Rattle.std.proofs.lemmas.Nat.{mul-add-lt, div-add-mod'}
 use Rattle.std.proofs.Math.Nat.{mul_comm, suc-mul, mul-suc, mul-le-mul_left}
 use Rattle.route_tensor.specs.Grid.{ranks, dim, coord, place, IsGrid}
 use Rattle.route_tensor.specs.Link.{IsLink, links_before, link, links}
-use Rattle.route_tensor.proofs.Coordinates.{Positive, first-positive, rest-positive, ranks_some, coord_below, same_rank, place_below, coord-place_low, coord-place_high}
+use Rattle.route_tensor.proofs.Coordinates.{Positive, first-positive, rest-positive, ranks_some, coord_below, place_below, coord-place_low, coord-place_high}
 use Rattle.route_tensor.proofs.Places.{coord-place}
 
 pub sum-cons : (n : ℕ) (ns : List ℕ) → sum (n ∷ ns) ≡ n + sum ns

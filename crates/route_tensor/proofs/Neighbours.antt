@@ -1,13 +1,11 @@
 -- A neighbour's number and its hop, read from each other.
-use Rattle.std.proofs.Common.{ℕ, zero, suc, ◌≡◌, ◌≢◌, ◌+◌, ◌-◌, ◌*◌, ◌<◌, ◌≤◌, List, [], ◌∷◌, length, take, get_or, sum, arith, refl, sym, ap, subst, ◌∙◌, mul-add}
-use Rattle.std.proofs.Math.Nat.{one-mul}
-use Rattle.route_tensor.specs.Grid.{ranks, dim, coord, place, IsGrid}
+use Rattle.std.proofs.Common.{ℕ, ◌≡◌, ◌+◌, ◌-◌, ◌<◌, ◌≤◌, List, length, sum, arith, sym, ap, ◌∙◌}
+use Rattle.route_tensor.specs.Grid.{ranks, dim, coord, IsGrid}
 use Rattle.route_tensor.specs.Link.{IsLink, links_before, link, links}
-use Rattle.route_tensor.specs.Ends.{hop_among, hop_at, sender_at, reader_at, with_coord}
+use Rattle.route_tensor.specs.Ends.{hop_at, sender_at, reader_at}
 use Rattle.route_tensor.specs.Neighbour.{hop_to, neighbour, link_to, link_from, out_index, in_index}
-use Rattle.route_tensor.proofs.Coordinates.{Positive}
 use Rattle.route_tensor.proofs.Links.{coord_in, before_more, sum_take_le}
-use Rattle.route_tensor.proofs.Ends.{HopHas, hop_among_has, hop_among_in, with_coord_is_link, coord-with_coord_at, with_coord_reader, link_number, IsLinkNumber, number_ends, link_once, hop_at-link, sender_at-link, reader_at-link}
+use Rattle.route_tensor.proofs.Ends.{hop_among_has, hop_among_in, with_coord_is_link, coord-with_coord_at, with_coord_reader, number_ends, hop_at-link, sender_at-link, reader_at-link}
 
 -- what is known of a neighbour's number
 pub record HasNumber (dims : List ℕ) (h i : ℕ) : Type 0 where

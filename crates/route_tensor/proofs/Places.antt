@@ -1,11 +1,9 @@
 -- The places of a route: its ends, and the links between them.
-use Rattle.std.proofs.Common.{ℕ, zero, suc, ◌≡◌, ◌≢◌, ◌+◌, ◌-◌, ◌*◌, ◌/◌, ◌%◌, ◌<◌, ◌≤◌, ◌⊎◌, List, [], ◌∷◌, length, take, get_or, arith, refl, sym, ap, subst, ◌∙◌, inl, inr}
+use Rattle.std.proofs.Common.{ℕ, ◌≡◌, ◌+◌, ◌-◌, ◌<◌, ◌≤◌, List, [], ◌∷◌, length, arith, refl, sym, ap, subst, ◌∙◌, inl, inr}
 use Rattle.std.proofs.lemmas.Bool.{cases_lt}
-use Rattle.std.proofs.lemmas.Nat.{div-add-mod'}
-use Rattle.std.proofs.Math.Nat.{mul_comm}
-use Rattle.route_tensor.specs.Grid.{ranks, dim, coord, place, IsGrid}
+use Rattle.route_tensor.specs.Grid.{ranks, coord, place, IsGrid}
 use Rattle.route_tensor.specs.Link.{IsLink, IsOnRoute}
-use Rattle.route_tensor.proofs.Coordinates.{Positive, rest-positive, first-positive, quotient_below, place_below, coord-place_low, coord-place_high, coord_past, coord_below, same_rank, ranks_some}
+use Rattle.route_tensor.proofs.Coordinates.{Positive, place_below, coord-place_low, coord-place_high, coord_past, same_rank}
 
 -- a place's coordinates, by which side of h they are on
 pub coord-place : (dims : List ℕ) (s d h i : ℕ) (P : ℕ → Type 0) → Positive dims → (i ≤ h → P (coord dims d i)) → (h < i → P (coord dims s i)) → P (coord dims (place dims s d h) i)

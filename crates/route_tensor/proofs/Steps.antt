@@ -1,14 +1,14 @@
 -- The next step of an entry, read from its tag.
-use Rattle.std.proofs.Common.{ℕ, zero, suc, ◌≡◌, ◌≢◌, ◌+◌, ◌-◌, ◌*◌, ◌%◌, ◌<◌, ◌≤◌, List, [], ◌∷◌, length, take, get_or, sum, arith, refl, sym, ap, subst, ◌∙◌, inl, inr}
+use Rattle.std.proofs.Common.{ℕ, zero, suc, ◌≡◌, ◌+◌, ◌-◌, ◌*◌, ◌<◌, ◌≤◌, List, [], ◌∷◌, length, take, arith, refl, sym, ap, ◌∙◌, inl, inr}
 use Rattle.std.proofs.lemmas.Bool.{cases_lt}
-use Rattle.std.proofs.Math.Nat.{mul-zero, zero-mod, zero-div}
+use Rattle.std.proofs.Math.Nat.{zero-mod, zero-div}
 use Rattle.bale_types.specs.declared.item.Tag.{Tag}
 use Rattle.route_tensor.specs.declared.routes.Onward.{Onward}
 use Rattle.route_tensor.specs.declared.routes.Neighbour.{Neighbour}
 use Rattle.route_tensor.specs.Grid.{ranks, dim, coord, place, IsGrid}
 use Rattle.route_tensor.specs.Tag.{digit, with_digit, IsFair, rank_of, tag_rank, sender_of}
 use Rattle.route_tensor.specs.Routes.{passed_on}
-use Rattle.route_tensor.proofs.Coordinates.{Positive, place_by_stride, same_rank, place_below, ranks_some, coord-zero}
+use Rattle.route_tensor.proofs.Coordinates.{Positive, place_by_stride, same_rank, place_below, ranks_some}
 use Rattle.route_tensor.proofs.Places.{coord-place}
 use Rattle.route_tensor.proofs.Tags.{coord-tag_rank, tag_rank_below}
 

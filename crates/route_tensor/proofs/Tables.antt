@@ -1,12 +1,12 @@
 -- A rank's tables of first steps and neighbours, as contracts see them.
-use Rattle.std.proofs.Common.{ℕ, ◌≡◌, ◌+◌, ◌-◌, ◌*◌, ◌<◌, ◌≤◌, List, length, get_or, sum, arith, refl, sym, ap, subst, ◌∙◌}
+use Rattle.std.proofs.Common.{ℕ, ◌≡◌, ◌+◌, ◌-◌, ◌*◌, ◌<◌, ◌≤◌, List, length, get_or, sum, arith, sym, ap, subst, ◌∙◌}
 use Rattle.bale_types.specs.declared.item.Tag.{Tag}
 use Rattle.route_tensor.specs.declared.routes.Onward.{Onward}
 use Rattle.route_tensor.specs.declared.routes.Neighbour.{Neighbour}
 use Rattle.route_tensor.specs.Grid.{ranks, dim, coord, place, IsGrid}
 use Rattle.route_tensor.specs.Link.{links}
 use Rattle.route_tensor.specs.Ends.{sender_at, reader_at}
-use Rattle.route_tensor.specs.Neighbour.{hop_to, neighbour, link_to, link_from, out_index, in_index}
+use Rattle.route_tensor.specs.Neighbour.{hop_to, neighbour, out_index, in_index}
 use Rattle.route_tensor.specs.Tag.{IsFair, tag_rank, sender_of}
 use Rattle.route_tensor.specs.Routes.{Site, first_step, about, IsTable}
 use Rattle.route_tensor.proofs.Coordinates.{place_below}

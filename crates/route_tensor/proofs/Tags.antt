@@ -1,13 +1,13 @@
 -- The digits of a tag on its way: below the hop the sender's, above it the destination's.
-use Rattle.std.proofs.Common.{ℕ, zero, suc, ◌≡◌, ◌≢◌, ◌+◌, ◌-◌, ◌*◌, ◌/◌, ◌%◌, ◌<◌, ◌≤◌, ◌⊎◌, List, [], ◌∷◌, length, take, get_or, sum, arith, refl, sym, ap, subst, ◌∙◌, cond, ltb, inl, inr}
+use Rattle.std.proofs.Common.{ℕ, zero, suc, ◌≡◌, ◌≢◌, ◌+◌, ◌-◌, ◌<◌, ◌≤◌, List, [], ◌∷◌, length, get_or, arith, refl, sym, ap, subst, ◌∙◌, cond, ltb, inl, inr}
 use Rattle.std.proofs.lemmas.Bool.{cases_lt, cases_order, cases_eq, lt-ltb, le-ltb, cond-true, cond-false}
 use Rattle.bale_types.specs.declared.item.Tag.{Tag}
 use Rattle.route_tensor.specs.Grid.{ranks, dim, coord, place, IsGrid}
 use Rattle.route_tensor.specs.Link.{IsLink, IsOnRoute}
 use Rattle.route_tensor.specs.Pair.{TagsLaw}
 use Rattle.route_tensor.specs.Tag.{digit, with_digit, IsFair, tag_digit, tag_at, next_tag, rank_of, tag_rank, sender_of, destination_of}
-use Rattle.route_tensor.proofs.Coordinates.{Positive, first-positive, rest-positive, low_digit, high_digits, digits_below, coord-zero, coord_past, coord_below, place_below, coord-place_low, coord-place_high, same_rank, ranks_some}
-use Rattle.route_tensor.proofs.Places.{coord-place, route_link, place_link, place-zero, place-all}
+use Rattle.route_tensor.proofs.Coordinates.{Positive, rest-positive, low_digit, high_digits, digits_below, coord-zero, coord_past, place_below, coord-place_low, coord-place_high, same_rank}
+use Rattle.route_tensor.proofs.Places.{coord-place, route_link}
 use Rattle.route_tensor.proofs.Links.{coord_in}
 
 -- the three cases of a digit of a tag

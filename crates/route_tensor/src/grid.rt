@@ -3,7 +3,7 @@
 //! Ranks are numbered with the first coordinate running fastest, `r = c1 + n1 * (c2 + n2 * c3)`, as
 //! Fortran lays out an array. A missing dimension counts as one of a single coordinate.
 
-ghost use Rattle.std.specs.Prelude.{◌≡◌, ℕ, ◌+◌, ◌-◌, ◌*◌, ◌<◌, ◌≤◌, List, [], ◌∷◌, length, take, sum, IfOk};
+ghost use Rattle.std.specs.Prelude.{◌≡◌, ℕ, ◌+◌, ◌-◌, ◌*◌, ◌<◌, ◌≤◌, List, length, take, sum, IfOk};
 ghost use Rattle.std.specs.List.{slice_index_or};
 ghost use Rattle.std.specs.Result.{result_err};
 ghost use Rattle.route_tensor.specs.Grid.{ranks, dim, coord, place, IsGrid};

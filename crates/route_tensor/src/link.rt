@@ -1,6 +1,6 @@
 //! The numbers of the links, counted by hop, then by sender, then by the reader's coordinate of that hop.
 
-ghost use Rattle.std.specs.Prelude.{◌≡◌, ℕ, ◌+◌, ◌-◌, ◌*◌, ◌<◌, ◌≤◌, length, sum};
+ghost use Rattle.std.specs.Prelude.{◌≡◌, ◌+◌, ◌-◌, ◌*◌, ◌<◌, ◌≤◌, length, sum};
 ghost use Rattle.route_tensor.specs.Grid.{ranks, dim, coord, place};
 ghost use Rattle.route_tensor.specs.Link.{links, links_before, link, IsLink};
 ghost use Rattle.route_tensor.specs.Ends.{hop_among, hop_at, sender_at, reader_at, with_coord};

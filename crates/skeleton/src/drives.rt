@@ -1,7 +1,7 @@
 //! From a matrix to the answer: the programs, driven on one thread or on several, and the cells of their owners.
 
 ghost use Rattle.round_program.specs.Ranks.{AreRanks};
-ghost use Rattle.std.specs.Prelude.{◌≡◌, ◌≤◌, length, IfOk};
+ghost use Rattle.std.specs.Prelude.{◌≡◌, length, IfOk};
 ghost use Rattle.route_tensor.specs.Grid.{ranks};
 ghost use Rattle.round_program.specs.Canonical.{HaveEnded};
 ghost use Rattle.skeleton.specs.State.{rules};

@@ -1,7 +1,7 @@
 //! The programs of all ranks, made from a matrix.
 
 ghost use Rattle.round_program.specs.Ranks.{AreRanks, IsRankOf};
-ghost use Rattle.std.specs.Prelude.{◌≡◌, ◌<◌, ◌≤◌, ◌%◌, [], ◌∷◌, map, IfOk};
+ghost use Rattle.std.specs.Prelude.{◌≡◌, ◌<◌, ◌%◌, [], ◌∷◌, map, IfOk};
 ghost use Rattle.round_program.specs.Canonical.{InRound, EndsWithin};
 ghost use Rattle.sparse_rows.specs.Deals.{dealt};
 ghost use Rattle.skeleton.specs.State.{rules};

@@ -1,5 +1,5 @@
 //! Whether a list is a permutation.
-ghost use Rattle.std.specs.Prelude.{◌≡◌, IfOk, Decides};
+ghost use Rattle.std.specs.Prelude.{IfOk, Decides};
 ghost use Rattle.sparse_rows.specs.Permutations.{Permutes};
 
 use bale_types::NoMemory;

@@ -5,7 +5,7 @@ use Rattle.std.proofs.lemmas.Bool.Decides.{nat_tests}
 use Rattle.std.proofs.lemmas.List.Elements.{All-nil, All-cons}
 use Rattle.bale_types.specs.declared.Item.{Item}
 use Rattle.list_laws.proofs.Lists.{changed_comm, all_head, all_tail}
-use Rattle.round_program.specs.Laws.{Laws, SameRound, IsItem}
+use Rattle.round_program.specs.Laws.{Laws, IsItem}
 use Rattle.round_examples.specs.Traffics.{TrafficState, IsTraffic, traffic_rules, is_sent, sent_from, raised}
 
 sent_within : (shape : List ℕ) (ranks round to from : ℕ) (x : Item) → is_sent ranks round to from x ≡ true → (to < ranks) × (from < ranks) × IsItem x

@@ -1,5 +1,5 @@
 -- A grid that is kept is told by its dimensions.
-use Rattle.std.proofs.Common.{ℕ, zero, suc, ◌≡◌, ◌+◌, ◌<◌, ◌≤◌, List, [], ◌∷◌, arith, refl, sym}
+use Rattle.std.proofs.Common.{ℕ, zero, suc, ◌≡◌, List, arith, refl, sym}
 use Rattle.std.specs.Prelude.{length}
 use Rattle.std.specs.List.{slice_index_or}
 use Rattle.route_tensor.specs.Kept.{IsKept, dims_kept}

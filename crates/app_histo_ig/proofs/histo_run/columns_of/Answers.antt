@@ -1,4 +1,4 @@
-use Rattle.std.proofs.Common.{[], get_or, sym}
+use Rattle.std.proofs.Common.{[], get_or}
 use Rattle.sparse_rows.specs.Owners.{Numbered}
 use Rattle.sparse_rows.proofs.Starts.{fields_more}
 use Rattle.app_histo_ig.proofs.histo_run.columns_of.Goals as goal

@@ -1,8 +1,7 @@
-use Rattle.std.proofs.Common.{◌<◌, ◌≡◌, List, length, map, sym, subst}
+use Rattle.std.proofs.Common.{◌<◌, ◌≡◌, List, length, sym, subst}
 use Rattle.std.proofs.lemmas.List.{length-map}
 use Rattle.round_program.specs.Canonical.{HaveEnded}
 use Rattle.app_cases.specs.Any.{AnyState, any_rules}
-use Rattle.bale_answers.proofs.finish.finish_as.Given.{Over}
 use Rattle.bale_answers.proofs.finish.finish_as.Goals as goal
 
 pub take_all-requires : goal.take_all-requires

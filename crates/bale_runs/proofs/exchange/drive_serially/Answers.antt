@@ -1,4 +1,4 @@
-use Rattle.std.proofs.Common.{◌<◌, ◌≤◌, ◌≡◌, ◌∙◌, ℕ, List, true, length, ap, subst, sym, ◌+◌, ◌*◌}
+use Rattle.std.proofs.Common.{◌<◌, ◌≤◌, ◌≡◌, ◌∙◌, ℕ, List, true, length, ap, subst, sym}
 use Rattle.route_tensor.proofs.Coordinates.{ranks_some}
 use Rattle.route_tensor.specs.Grid.{ranks}
 use Rattle.round_program.specs.Ranks.{AreRanks}

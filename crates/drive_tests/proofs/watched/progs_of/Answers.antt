@@ -1,4 +1,4 @@
-use Rattle.std.proofs.Common.{sym, ap, subst, ◌∙◌, arith}
+use Rattle.std.proofs.Common.{◌∙◌, arith}
 use Rattle.drive_tests.proofs.Counted.{counted_more}
 use Rattle.drive_tests.proofs.watched.progs_of.Goals as goal
 

@@ -2,7 +2,7 @@ use Rattle.std.proofs.Common.{ℕ, ℤ, ◌≡◌, ◌≤◌, drop, length, Some
 use Rattle.std.proofs.lemmas.Int.{to_z-of_z}
 use Rattle.rank_handles.specs.Calls.{OnRank}
 use Rattle.rank_handles.specs.Handles.{rank_in, if_there}
-use Rattle.rank_handles.specs.Many.{pull_many_answer, told_of, PullsMany}
+use Rattle.rank_handles.specs.Many.{pull_many_answer, PullsMany}
 use Rattle.rank_handles.proofs.Told.{count_told, answer_told}
 use Rattle.rank_handles.proofs.numbers.pull_number.Goals as goal
 

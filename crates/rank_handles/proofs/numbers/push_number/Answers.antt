@@ -3,7 +3,7 @@ use Rattle.std.proofs.lemmas.Int.{to_z-of_z}
 use Rattle.rank_handles.specs.Seated.{Seated}
 use Rattle.rank_handles.specs.Calls.{OnRank}
 use Rattle.rank_handles.specs.Handles.{rank_in, if_there}
-use Rattle.rank_handles.specs.Many.{push_many_answer, told_of, PushesMany}
+use Rattle.rank_handles.specs.Many.{push_many_answer, PushesMany}
 use Rattle.rank_handles.proofs.Told.{count_told, answer_told}
 use Rattle.rank_handles.proofs.numbers.push_number.Goals as goal
 

@@ -1,4 +1,4 @@
-use Rattle.std.proofs.Common.{ℕ, arith, sym, ap, subst, ◌≡◌, ◌∙◌, ◌<◌, ◌+◌, sum, length, get_or}
+use Rattle.std.proofs.Common.{arith, subst, ◌<◌, sum, get_or}
 use Rattle.route_tensor.proofs.Links.{sum_small}
 use Rattle.route_tensor.proofs.Filling.{links_within, numbered_by, no_neighbour}
 use Rattle.route_tensor.proofs.routes.numbers.Goals as goal

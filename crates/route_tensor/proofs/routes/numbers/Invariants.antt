@@ -1,4 +1,3 @@
-use Rattle.std.proofs.Common.{◌≡◌}
 use Rattle.route_tensor.proofs.Filling.{Numbered}
 use Rattle.route_tensor.proofs.routes.numbers.Given as goal
 

@@ -2,10 +2,9 @@ use Rattle.std.proofs.Common.{rules, ◌≡◌, ◌==◌, ℕ, length, sym, ap, 
 use Rattle.std.specs.Prelude.{is_ok, IfSome}
 use Rattle.route_tensor.specs.Ends.{sender_at, reader_at}
 use Rattle.port_bank.specs.Shapes.{IsConveyorShape}
-use Rattle.list_laws.proofs.Results.{on_ok_from, if_ok_is}
+use Rattle.list_laws.proofs.Results.{on_ok_from}
 use Rattle.hop_core.specs.State.{State}
 use Rattle.convey.specs.Buffers.{is_complete}
-use Rattle.convey.specs.Progress.{progress_of}
 use Rattle.convey.specs.declared.progress.Progress.TheVariants as progress
 use Rattle.round_program.specs.Replies.{asks_of}
 use Rattle.query_node.specs.Taking.{Pushes, Answers, RefusesAnswer}

@@ -4,7 +4,7 @@ use Rattle.route_tensor.specs.Grid.{ranks}
 use Rattle.port_bank.specs.Machine.Step.{Push, Idle}
 use Rattle.hop_core.specs.declared.phase.Phase.TheVariants.{Working}
 use Rattle.hop_core.specs.State.{State}
-use Rattle.rank_handles.specs.Seated.{Seated, Moved}
+use Rattle.rank_handles.specs.Seated.{Seated}
 use Rattle.rank_handles.specs.Calls.{Pushes}
 use Rattle.rank_handles.specs.Kept.{seat_in}
 use Rattle.rank_handles.proofs.Moves.{at, moved, pushes_good, pushes_full, push_good}

@@ -1,4 +1,4 @@
-use Rattle.std.proofs.Common.{arith, ◌<◌, ◌≡◌, ◌==◌, Some, length, slice_get, refl, sym, ap, subst}
+use Rattle.std.proofs.Common.{arith, ◌<◌, ◌≡◌, ◌==◌, Some, length, slice_get, refl, sym, subst}
 use Rattle.std.proofs.lemmas.Option.{slice_get_read}
 use Rattle.round_examples.specs.Traffics.{TrafficState}
 use Rattle.round_examples.proofs.Targets.{in_round, emitted}

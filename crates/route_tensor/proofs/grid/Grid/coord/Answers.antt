@@ -1,4 +1,4 @@
-use Rattle.std.proofs.Common.{sym, ◌∙◌, ◌≡◌, ap, ◌%◌, ◌/◌}
+use Rattle.std.proofs.Common.{sym}
 use Rattle.route_tensor.proofs.Coordinates.{coord_at, by_coordinates}
 use Rattle.route_tensor.proofs.grid.Grid.coord.Goals as goal
 

@@ -1,4 +1,4 @@
-use Rattle.std.proofs.Common.{sym, ◌≡◌}
+use Rattle.std.proofs.Common.{sym}
 use Rattle.route_tensor.proofs.Ends.{hop_at_is, sender_at_is, reader_at_is}
 use Rattle.route_tensor.proofs.grid.Grid.ends.Goals as goal
 

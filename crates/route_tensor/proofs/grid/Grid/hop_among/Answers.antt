@@ -1,4 +1,4 @@
-use Rattle.std.proofs.Common.{ℕ, sym, ◌≡◌, ◌<◌, ◌≤◌, ◌*◌, arith, length, sum, take}
+use Rattle.std.proofs.Common.{sym, ◌<◌, ◌*◌, arith, length, sum, take}
 use Rattle.std.proofs.Math.Nat.{mul-zero}
 use Rattle.route_tensor.proofs.Links.{below_more, below_all, one_hop_more}
 use Rattle.route_tensor.proofs.Ends.{hop_among_in}

@@ -1,5 +1,3 @@
-use Rattle.std.proofs.Common.{sym, subst, ◌≡◌, ◌<◌}
-use Rattle.route_tensor.specs.Link.{link, links}
 use Rattle.route_tensor.proofs.Links.{link_below}
 use Rattle.route_tensor.proofs.Ends.{hop_at-link, sender_at-link, reader_at-link}
 use Rattle.route_tensor.proofs.grid.Grid.link.Goals as goal

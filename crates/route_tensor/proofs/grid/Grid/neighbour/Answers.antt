@@ -1,4 +1,4 @@
-use Rattle.std.proofs.Common.{arith, sum}
+use Rattle.std.proofs.Common.{arith}
 use Rattle.route_tensor.proofs.Links.{sum_small}
 use Rattle.route_tensor.proofs.grid.Grid.neighbour.Goals as goal
 

@@ -1,7 +1,6 @@
-use Rattle.std.proofs.Common.{ℕ, sym, ◌≡◌, arith, inl, inr, ◌⊎◌, ◌<◌, length, ap, ◌∙◌, subst, List, ◌≤◌, eqb, false}
+use Rattle.std.proofs.Common.{ℕ, sym, ◌≡◌, arith, inl, inr, length, ap, ◌∙◌, subst, List, ◌≤◌, eqb, false}
 use Rattle.std.specs.Result.{IfOk}
 use Rattle.route_tensor.specs.Refusal.{refusal}
-use Rattle.route_tensor.specs.Kept.{dims_kept}
 use Rattle.route_tensor.proofs.Kept.{refusal_order, dims_kept-all}
 use Rattle.std.proofs.lemmas.Bool.{eqb-true, eqb-false}
 use Rattle.route_tensor.proofs.grid.Grid.new.Goals as goal

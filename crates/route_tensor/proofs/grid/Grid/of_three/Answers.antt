@@ -1,6 +1,5 @@
-use Rattle.std.proofs.Common.{ℕ, sym, ap, subst, ◌∙◌, ◌≡◌, ◌<◌, ◌≤◌, arith, ◌*◌}
-use Rattle.route_tensor.specs.Kept.{IsKept, dims_kept}
-use Rattle.route_tensor.proofs.Kept.{IsPadded, refusal_zero, refusal_many, refusal_none, kept_made}
+use Rattle.std.proofs.Common.{sym, ◌<◌, arith, ◌*◌}
+use Rattle.route_tensor.proofs.Kept.{refusal_zero, refusal_many, refusal_none, kept_made}
 use Rattle.route_tensor.proofs.grid.Grid.of_three.Goals as goal
 
 pub returns-then-ranks-eq0-clause-refused : goal.returns-then-ranks-eq0-clause-refused

@@ -1,4 +1,4 @@
-use Rattle.std.proofs.Common.{ℕ, refl, sym, ap, subst, ◌∙◌, ◌≡◌, arith}
+use Rattle.std.proofs.Common.{refl, ap, ◌∙◌}
 use Rattle.route_tensor.specs.Tag.{sender_of, destination_of}
 use Rattle.route_tensor.proofs.Tags.{pair_route, pair_tag, sender-tag_at, destination-tag_at}
 use Rattle.route_tensor.proofs.grid.Grid.pair_of.Goals as goal

@@ -1,4 +1,4 @@
-use Rattle.std.proofs.Common.{sym, ap, ◌∙◌, ◌≡◌, ◌*◌, ◌<◌, ◌-◌, subst, arith}
+use Rattle.std.proofs.Common.{sym, ap, ◌∙◌, ◌<◌, ◌-◌, subst}
 use Rattle.route_tensor.specs.Grid.{ranks, place, coord}
 use Rattle.route_tensor.specs.Link.{IsLink}
 use Rattle.route_tensor.proofs.Places.{place-zero, place_link}

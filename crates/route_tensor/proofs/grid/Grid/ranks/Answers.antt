@@ -1,4 +1,4 @@
-use Rattle.std.proofs.Common.{sym, ap, ◌∙◌, ◌≡◌, ◌*◌}
+use Rattle.std.proofs.Common.{sym, ap, ◌∙◌}
 use Rattle.route_tensor.specs.Grid.{ranks}
 use Rattle.route_tensor.proofs.Kept.{ranks_kept}
 use Rattle.route_tensor.proofs.grid.Grid.ranks.Goals as goal

@@ -1,4 +1,4 @@
-use Rattle.std.proofs.Common.{sym, subst, ◌≡◌}
+use Rattle.std.proofs.Common.{sym, subst}
 use Rattle.route_tensor.specs.Tag.{IsFair}
 use Rattle.route_tensor.proofs.Tags.{first_tag_made, tag_at_fair}
 use Rattle.route_tensor.proofs.grid.Grid.tag_first.Goals as goal

@@ -1,4 +1,4 @@
-use Rattle.std.proofs.Common.{sym, subst, ◌≡◌, ap, ◌∙◌, ◌+◌, arith}
+use Rattle.std.proofs.Common.{sym, subst, ap, ◌∙◌, ◌+◌, arith}
 use Rattle.route_tensor.specs.Tag.{IsFair, next_tag}
 use Rattle.route_tensor.proofs.Tags.{next_tag_made_1, next_tag_made_2, next_tag_fair, next_tag-tag_at}
 use Rattle.route_tensor.proofs.grid.Grid.tag_next.Goals as goal

@@ -1,4 +1,4 @@
-use Rattle.std.proofs.Common.{ℕ, sym, ap, subst, ◌∙◌, ◌≡◌, ◌<◌, ◌*◌, arith}
+use Rattle.std.proofs.Common.{◌∙◌, ◌≡◌, ◌<◌, ◌*◌, arith}
 use Rattle.route_tensor.specs.Grid.{ranks, coord}
 use Rattle.route_tensor.proofs.Coordinates.{lone_below, coord-lone}
 use Rattle.route_tensor.proofs.Links.{with_coord_link, coord-with_coord}

@@ -1,4 +1,4 @@
-use Rattle.std.proofs.Common.{arith, ◌≡◌}
+use Rattle.std.proofs.Common.{arith}
 use Rattle.route_tensor.proofs.Steps.{passed_on_1, passed_on_2}
 use Rattle.route_tensor.proofs.routes.Neighbour.passed_on.Goals as goal
 

@@ -1,4 +1,3 @@
-use Rattle.std.proofs.Common.{◌<◌}
 use Rattle.route_tensor.proofs.Tables.{table_of, first_of_table}
 use Rattle.route_tensor.proofs.routes.Routes.first.Goals as goal
 

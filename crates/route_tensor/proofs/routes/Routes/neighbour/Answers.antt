@@ -1,4 +1,3 @@
-use Rattle.std.proofs.Common.{◌≡◌, arith, ap, ◌∙◌, ◌≤◌}
 use Rattle.route_tensor.proofs.Tables.{table_of, next_small, hop_of_table}
 use Rattle.route_tensor.proofs.routes.Routes.neighbour.Goals as goal
 

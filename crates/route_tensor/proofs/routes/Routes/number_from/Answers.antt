@@ -1,4 +1,3 @@
-use Rattle.std.proofs.Common.{◌≡◌, ◌<◌}
 use Rattle.std.proofs.Common.{◌∙◌}
 use Rattle.route_tensor.proofs.Neighbours.{hop_to-in_index}
 use Rattle.route_tensor.proofs.Tables.{table_of, number_from_at}

@@ -1,4 +1,4 @@
-use Rattle.std.proofs.Common.{◌≡◌, arith, ◌+◌, ◌*◌, ◌<◌}
+use Rattle.std.proofs.Common.{arith}
 use Rattle.route_tensor.proofs.Tables.{table_of, sender_by_table}
 use Rattle.route_tensor.proofs.routes.Routes.sender.Goals as goal
 

@@ -1,4 +1,4 @@
-use Rattle.std.proofs.Common.{rules, ◌≡◌, ℕ, ◌+◌, ◌*◌, ◌<◌, List, [], Some, length, get_or, slice_get, sym, ap, ◌∙◌, subst, arith}
+use Rattle.std.proofs.Common.{rules, ◌≡◌, ℕ, ◌+◌, ◌*◌, ◌<◌, List, [], Some, length, get_or, slice_get, subst, arith}
 use Rattle.bale_types.specs.declared.triple.Triple.{Triple}
 use Rattle.sparse_rows.specs.Parts.{parts_of}
 use Rattle.sparse_rows.proofs.Turns.{parts_count, part_entry}

@@ -1,7 +1,7 @@
 //! A rank of an exchange at its two ports, of two slot banks.
 
-use query_node::BiNode;
 use port_bank::Port;
+use query_node::BiNode;
 use rank_group::{Gate, NotingPort, Seated, await_turn};
 use rank_node::Steps;
 use round_program::Asker;

@@ -14,13 +14,13 @@ ghost use Rattle.biconvey.specs.Worlds.{turns_of};
 ghost use Rattle.biconvey.specs.Drives.{AreAskers, askers_of};
 ghost use Rattle.biconvey.specs.Driven.{HasExchanged, HasSweptBoth};
 
-use query_node::BiNode;
 use crate::nodes::{nodes_of, take_askers};
 use crate::running::run_all;
 use crate::sweeping::Banks;
 use bale_types::NoMemory;
 use convey::closes_law;
 use port_bank::PlainBank;
+use query_node::BiNode;
 use rank_group::{ClosedRound, Finished, Rounds};
 use rank_node::Steps;
 use round_program::{Asker, Progs};

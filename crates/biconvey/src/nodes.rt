@@ -5,8 +5,8 @@ ghost use Rattle.item_buffer.specs.Capacity.{IsCap};
 ghost use Rattle.route_tensor.specs.Grid.{ranks};
 ghost use Rattle.biconvey.specs.Drives.{AreAskers, AreFresh, askers_of};
 
-use query_node::BiNode;
 use bale_types::NoMemory;
+use query_node::BiNode;
 use rank_group::one_by_one;
 use round_program::{Asker, Progs};
 use route_tensor::Grid;

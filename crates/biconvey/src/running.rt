@@ -7,10 +7,10 @@ ghost use Rattle.rank_group.specs.Ranks.{IsOrder};
 ghost use Rattle.query_node.specs.States.{BiState};
 ghost use Rattle.biconvey.specs.Worlds.{AreBanks, PostedWithin, World, is_over, queries_in, sides_of, turns_of};
 
-use query_node::BiNode;
 use crate::sweeping::{Banks, sweep};
 use bale_types::NoMemory;
 use convey::{closes_law, rest_law};
+use query_node::BiNode;
 use rank_node::Steps;
 use round_program::Asker;
 use std::sync::ledger::Ledger;

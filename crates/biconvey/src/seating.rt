@@ -8,9 +8,9 @@ ghost use Rattle.biconvey.specs.Drives.{AreFresh};
 ghost use Rattle.biconvey.specs.Seats.{bank_at, AreSeated};
 
 use crate::at_ports::AtPorts;
-use query_node::BiNode;
 use bale_types::NoMemory;
 use link_slots::{GatherSeat, SlotBank};
+use query_node::BiNode;
 use rank_group::{NotingPort, one_by_one};
 use round_program::Asker;
 use std::alloc::Global;

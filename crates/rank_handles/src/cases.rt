@@ -184,11 +184,21 @@ impl Exchange for AnyRank {
     }
 
     fn push_many(&mut self, items: &[BaleItem], to: &[u32]) -> Result<usize, Answer> {
-        by_capacity!(CapacityCase, &mut self.case, rank, rank.push_many(items, to))
+        by_capacity!(
+            CapacityCase,
+            &mut self.case,
+            rank,
+            rank.push_many(items, to)
+        )
     }
 
     fn pull_many(&mut self, items: &mut [BaleItem], from: &mut [u32]) -> Result<usize, Answer> {
-        by_capacity!(CapacityCase, &mut self.case, rank, rank.pull_many(items, from))
+        by_capacity!(
+            CapacityCase,
+            &mut self.case,
+            rank,
+            rank.pull_many(items, from)
+        )
     }
 }
 

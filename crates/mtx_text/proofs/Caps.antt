@@ -12,7 +12,7 @@ use Rattle.mtx_text.specs.declared.refusal.Reason.TheVariants as reason
 use Rattle.mtx_text.specs.declared.sizes.Sizes.{Sizes}
 use Rattle.mtx_text.specs.Integers.{integer_of, is_natural}
 use Rattle.mtx_text.specs.Lines.{words_of}
-use Rattle.mtx_text.specs.Capped.{capped, read_three, cell_from}
+use Rattle.mtx_text.specs.code.Capped.{capped, read_three, cell_from}
 use Rattle.mtx_text.specs.Grammar.{◌>>=◌, three_of, fields_of, natural_of, within_limits, sizes_by, is_index, place_of, value_within, cell_by}
 
 abbrev cut : ℕ → ℕ

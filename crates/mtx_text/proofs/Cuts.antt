@@ -4,14 +4,9 @@ use Rattle.std.proofs.lemmas.Bool.{lt-ltb, cases_lt}
 use Rattle.std.proofs.lemmas.List.{drop_all}
 use Rattle.std.specs.List.{slice_split, onto_first, filter}
 use Rattle.mtx_text.specs.Lines.{pieces, without_cr, lines_of, words_of, is_blank, is_skipped}
+use Rattle.mtx_text.specs.code.Cuts.{CutsAt, WordTo}
 
 -- ---- lines
-
--- no byte before k is LF, and the one at k is, where k isn't the end
-pub record CutsAt (text : List ℕ) (k : ℕ) : Type 0 where
-  pub within : k ≤ length text
-  pub before : (j : ℕ) → j < k → get_or text j 0 ≢ 10
-  pub found : k < length text → get_or text k 0 ≡ 10
 
 pieces_cut : (text : List ℕ) (k : ℕ) → 0 < length text → CutsAt text k → pieces text ≡ take k text ∷ pieces (drop 1 (drop k text))
 pieces_cut [] k full c = absurd (omega arith)
@@ -61,12 +56,6 @@ blank_front b line blank = rw blank
 pub blank_at : (line : List ℕ) (i : ℕ) → i < length line → is_blank (get_or line i 0) ≡ true → words_of (drop i line) ≡ words_of (drop (i + 1) line)
 blank_at line i h blank = rw (add-one, drop-cons line i 0, blank_front (get_or line i 0) (drop (suc i) line) blank)
 
--- no byte before k is blank, and the one at k is, where k isn't the end
-pub record WordTo (line : List ℕ) (k : ℕ) : Type 0 where
-  pub within : k ≤ length line
-  pub before : (j : ℕ) → j < k → is_blank (get_or line j 0) ≡ false
-  pub found : k < length line → is_blank (get_or line k 0) ≡ true
-
 pub word_cut : (line : List ℕ) (k : ℕ) → 0 < k → WordTo line k → words_of line ≡ take k line ∷ words_of (drop k line)
 word_cut line k full w =
     elim (cases_lt k (length line)) [
@@ -89,11 +78,3 @@ first_part b (p ∷ ps) = rw (lt-ltb 0 (suc (length p)) (omega arith))
 -- a line that begins with a byte of a word is skipped where that byte is "%"
 pub byte_front : (b : ℕ) (line : List ℕ) → is_blank b ≡ false → is_skipped (words_of (b ∷ line)) ≡ (b == 37)
 byte_front b line plain = rw plain (first_part b (slice_split is_blank line))
-
-pub word_at : (line : List ℕ) (k : ℕ) → 0 < k → k ≤ length line → ((j : ℕ) → j < k → is_blank (get_or line j 0) ≡ false)
-    → (k < length line → is_blank (get_or line k 0) ≡ true) → words_of line ≡ take k line ∷ words_of (drop k line)
-word_at line k full within before found = word_cut line k full (record { within = within; before = before; found = found })
-
-pub lines_at : (text : List ℕ) (k : ℕ) → 0 < length text → k ≤ length text → ((j : ℕ) → j < k → get_or text j 0 ≢ 10)
-    → (k < length text → get_or text k 0 ≡ 10) → lines_of text ≡ without_cr (take k text) ∷ lines_of (drop 1 (drop k text))
-lines_at text k full within before found = lines_cut text k full (record { within = within; before = before; found = found })

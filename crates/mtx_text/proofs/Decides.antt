@@ -16,7 +16,7 @@ use Rattle.mtx_text.specs.Lines.{Line}
 use Rattle.mtx_text.specs.Integers.{integer_of}
 use Rattle.mtx_text.specs.Sparse.{SamePlace}
 use Rattle.mtx_text.specs.Grammar.{cell_by, has_place, entry_of, stands_for, entries_of}
-use Rattle.mtx_text.specs.Drafts.{Drafted, draft_of, verdict_at, verdict}
+use Rattle.mtx_text.specs.code.Drafts.{Drafted, draft_of, verdict_at, verdict}
 use Rattle.mtx_text.proofs.Steps.{draft_ok, draft_bad, draft_over, draft_few, draft_enough}
 use Rattle.mtx_text.proofs.Walk.{step_ok, step_bad, over, few, enough}
 

@@ -7,8 +7,8 @@ use Rattle.std.specs.Prelude.{nat_le}
 use Rattle.std.specs.Char.{is_ascii_digit, digit_value}
 use Rattle.std.specs.Str.Parse.{digits_value}
 use lib.Bits.{and_block, and_mask}
-use Rattle.mtx_text.specs.DigitLanes.{word_of, word_from, number_from}
-use Rattle.mtx_text.specs.PlainLines.{NumberTo}
+use Rattle.mtx_text.specs.code.DigitLanes.{word_of, word_from, number_from}
+use Rattle.mtx_text.specs.code.PlainLines.{NumberTo}
 use Rattle.mtx_text.proofs.Digits.{digit_is}
 
 -- ---- the number of eight digits

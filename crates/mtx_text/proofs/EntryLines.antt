@@ -1,5 +1,5 @@
 -- The entry that an entry line gives keeps the sizes, the limit and the form.
-use Rattle.std.proofs.Common.{◌≡◌, ℕ, zero, suc, ◌-◌, ◌≤◌, ◌<◌, ◌==◌, ◌&&◌, not, Bool, true, false, List, refl, subst, inl, inr, nat_lt, nat_le, arith}
+use Rattle.std.proofs.Common.{◌≡◌, ℕ, zero, suc, ◌-◌, ◌≤◌, ◌<◌, ◌==◌, ◌&&◌, not, Bool, true, false, List, refl, sym, ◌∙◌, subst, inl, inr, nat_lt, nat_le, arith}
 use Rattle.std.proofs.lemmas.Bool.{cases_Bool, both_ways, and_parts, and_from, leb-true, ltb-false, eq-eqb}
 use Rattle.std.specs.Option.{option_map}
 use Rattle.std.specs.Prelude.{Option, Some, None, Result, Ok, Err, ok_or, ℤ, pos, nat_abs, codes}
@@ -14,6 +14,7 @@ use Rattle.mtx_text.specs.declared.refusal.Reason.{Reason}
 use Rattle.mtx_text.specs.declared.refusal.Reason.TheVariants as reason
 use Rattle.mtx_text.specs.declared.sizes.Sizes.{Sizes}
 use Rattle.mtx_text.specs.Integers.{integer_of, value_of}
+use Rattle.mtx_text.specs.Sparse.{IsInside}
 use Rattle.mtx_text.specs.Grammar.{◌>>=◌, two_of, fields_of, is_index, is_skew, place_of, value_within, cell_by}
 
 -- an entry as its line gives it
@@ -136,3 +137,10 @@ fields_in form sizes (Some w) t third h =
 pub cell_in : (form : Form) (sizes : Sizes) (words : List (List ℕ)) (t : Triple) → cell_by integer_of form sizes words ≡ Ok t → IsCell form sizes t
 unfolding cell_by
 cell_in form sizes words t h = fields_in form sizes (fields_of form.kind words) t (λ w e k. third_is form.kind words w e k) h
+
+-- an entry that was read lies inside
+pub cell_inside : (form : Form) (sizes : Sizes) (words : List (List ℕ)) (t : Triple) (cell : Result Triple Reason)
+    → cell ≡ cell_by integer_of form sizes words → cell ≡ Ok t → IsInside sizes.rows sizes.cols t
+cell_inside form sizes words t cell read is =
+    let own = cell_in form sizes words t (sym read ∙ is) in
+    record { row = own.row; col = own.col; limit = own.limit }

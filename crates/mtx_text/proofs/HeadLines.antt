@@ -6,7 +6,6 @@ use Rattle.std.specs.Prelude.{Option, Some, None, Ok, ok_or, codes}
 use Rattle.mtx_text.specs.declared.banner.Form.{Form}
 use Rattle.mtx_text.specs.declared.banner.Symmetry.{Symmetry}
 use Rattle.mtx_text.specs.declared.banner.Symmetry.TheVariants.{General, Symmetric, SkewSymmetric}
-use Rattle.mtx_text.specs.declared.integer.Integer.{Integer}
 use Rattle.mtx_text.specs.declared.kind.Kind.{Kind}
 use Rattle.mtx_text.specs.declared.kind.Kind.TheVariants as kind
 use Rattle.mtx_text.specs.declared.refusal.Reason.TheVariants as reason

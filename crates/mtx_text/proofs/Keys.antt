@@ -3,7 +3,7 @@ use Rattle.std.proofs.Common.{◌≡◌, ℕ, ◌<◌, ◌==◌, ◌&&◌, true,
 use Rattle.std.proofs.lemmas.Bool.{cases_eq, and_parts, ltb-true, eq-eqb, ne_eqb}
 use Rattle.bale_types.specs.declared.triple.Triple.{Triple}
 use Rattle.mtx_text.specs.Grammar.{has_place}
-use Rattle.mtx_text.specs.Places.{key_of, has_key, narrow}
+use Rattle.mtx_text.specs.code.Places.{key_of, has_key, narrow}
 
 one_key : (i j p q : ℕ) → j < 65_536 → q < 65_536 → (p == i && q == j) ≡ (key_of p q == key_of i j)
 one_key i j p q h k =

@@ -8,7 +8,7 @@ use Rattle.std.specs.List.{list_all, prefix_len}
 use Rattle.std.specs.Char.{is_ascii_digit}
 use lib.Count.{count_trailing_zeros, trailing_of_zero}
 use lib.Lanes.{zip2, mask_l, top, Each1}
-use Rattle.mtx_text.specs.DigitLanes.{is_no_digit, above, bits_of}
+use Rattle.mtx_text.specs.code.DigitLanes.{is_no_digit, above, bits_of}
 
 -- ---- the comparison of sixteen lanes
 

@@ -8,8 +8,8 @@ use Rattle.std.specs.Char.{is_ascii_digit}
 use Rattle.std.specs.Str.Parse.{digits_value}
 use Rattle.mtx_text.specs.Lines.{words_of, is_blank}
 use Rattle.mtx_text.specs.Integers.{integer_of}
-use Rattle.mtx_text.specs.Capped.{capped}
-use Rattle.mtx_text.proofs.Cuts.{word_at}
+use Rattle.mtx_text.specs.code.Capped.{capped}
+use Rattle.mtx_text.proofs.Cuts.{word_cut}
 
 pub digit_low : (b : ℕ) → is_ascii_digit b ≡ true → 48 ≤ b
 digit_low b h =
@@ -35,11 +35,15 @@ digits_plain (b ∷ bs) (suc len) all within (suc j) h =
 pub number_at : (line : List ℕ) (len : ℕ) → 0 < len → len ≤ length line → list_all is_ascii_digit (take len line) ≡ true
     → (len == length line || is_blank (get_or line len 0)) ≡ true → words_of line ≡ take len line ∷ words_of (drop len line)
 number_at line len full within all ends =
-    word_at line len full within (digits_plain line len all within) (λ h.
-    elim (or_cases (len == length line) (is_blank (get_or line len 0)) ends) [
-      | inl same ↦ absurd (omega (arith, eqb-true len (length line) same))
-      | inr blank ↦ blank
-    ])
+    word_cut line len full (record {
+      within = within;
+      before = digits_plain line len all within;
+      found = λ h.
+          elim (or_cases (len == length line) (is_blank (get_or line len 0)) ends) [
+            | inl same ↦ absurd (omega (arith, eqb-true len (length line) same))
+            | inr blank ↦ blank
+          ];
+    })
 
 integer_is : (word : List ℕ) → 0 < length word → list_all is_ascii_digit word ≡ true
     → integer_of word ≡ Some (record { minus = false; size = digits_value 10 word })

@@ -1,5 +1,5 @@
 -- Cells in order are the entries of a matrix.
-use Rattle.std.proofs.Common.{ℕ, ◌<◌, ◌≤◌, ◌≡◌, true, List, [], length, get_or, inl, inr, sym, subst}
+use Rattle.std.proofs.Common.{ℕ, ◌≤◌, ◌≡◌, true, List, [], length, get_or, inl, inr, sym, subst}
 use Rattle.std.specs.List.{All, AllPairs}
 use Rattle.bale_types.specs.declared.triple.Triple.{Triple}
 use Rattle.mtx_text.specs.declared.kind.Kind.{Kind}

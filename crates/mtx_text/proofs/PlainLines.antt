@@ -14,8 +14,8 @@ use Rattle.mtx_text.specs.declared.kind.Kind.TheVariants as kind
 use Rattle.mtx_text.specs.Lines.{pieces, without_cr, lines_of, lines_from, words_of, is_blank, is_skipped}
 use Rattle.mtx_text.specs.Integers.{integer_of}
 use Rattle.mtx_text.specs.Grammar.{fields_of}
-use Rattle.mtx_text.specs.Capped.{capped, read_three}
-use Rattle.mtx_text.specs.PlainLines.{LineAt, DigitsTo, DigitsEnd, LastAt, NumberTo}
+use Rattle.mtx_text.specs.code.Capped.{capped, read_three}
+use Rattle.mtx_text.specs.code.PlainLines.{LineAt, DigitsTo, DigitsEnd, LastAt, NumberTo}
 use Rattle.mtx_text.proofs.Digits.{digits_step, all_step}
 use Rattle.mtx_text.proofs.Numbered.{digit_low, digit_plain, number_is}
 

@@ -1,7 +1,7 @@
 -- One walk over entries whose rows never fall: a column's stamp is one more than the last row that was met there.
-use Rattle.std.proofs.Common.{◌≡◌, ◌≢◌, ℕ, ◌+◌, ◌≤◌, ◌<◌, List, length, get_or, set, get_or-set_same, get_or-set_other, ap, ◌∙◌, inl, inr, arith}
-use Rattle.std.proofs.lemmas.Bool.{cases_eq}
-use Rattle.std.proofs.lemmas.List.{get_or_default}
+use Rattle.std.proofs.Common.{◌≡◌, ◌≢◌, ℕ, ◌+◌, ◌≤◌, ◌<◌, List, length, get_or, set, replicate, get_or-set_same, get_or-set_other, ap, ◌∙◌, inl, inr, arith}
+use Rattle.std.proofs.lemmas.Bool.{cases_eq, cases_lt}
+use Rattle.std.proofs.lemmas.List.{get_or_default, get_or-replicate, get_or_past, length-replicate}
 use Rattle.std.specs.List.{AllPairs}
 use Rattle.bale_types.specs.declared.triple.Triple.{Triple}
 use Rattle.mtx_text.specs.Sparse.{SamePlace}
@@ -12,12 +12,20 @@ pub record Stamped (entries : List Triple) (stamps : List ℕ) (k row : ℕ) : T
   pub seen : (m : ℕ) (d : Triple) → m < k → (get_or entries m d).i < get_or stamps (get_or entries m d).j 0
   pub most : (j : ℕ) → get_or stamps j 0 ≤ row + 1
 
-pub none_yet : (entries : List Triple) (stamps : List ℕ) → ((j : ℕ) → get_or stamps j 0 ≡ 0) → Stamped entries stamps 0 0
-none_yet entries stamps zeros = record {
+pub none_yet : (entries : List Triple) (stamps : List ℕ) (side : ℕ) → stamps ≡ replicate side 0 → Stamped entries stamps 0 0
+none_yet entries stamps side is = record {
   apart = λ m n d less high. absurd (omega (arith, high));
   seen = λ m d high. absurd (omega (arith, high));
-  most = λ j. omega (arith, zeros j);
+  most = λ j. omega (arith, zero_at j);
 }
+  where
+    zero_at : (j : ℕ) → get_or stamps j 0 ≡ 0
+    zero_at j =
+        let zeros : List ℕ = replicate side 0 in
+        elim (cases_lt j side) [
+          | inl low ↦ ap (λ (l : List ℕ). get_or l j 0) is ∙ get_or-replicate side j 0 0 low
+          | inr high ↦ ap (λ (l : List ℕ). get_or l j 0) is ∙ get_or_past zeros j 0 (omega (arith, high, length-replicate {A = ℕ} side 0))
+        ]
 
 pub one_more : (entries : List Triple) (stamps : List ℕ) (k row : ℕ) (e : Triple) → k < length entries → (get_or entries k e).j < length stamps
     → row ≤ (get_or entries k e).i → get_or stamps (get_or entries k e).j 0 ≢ (get_or entries k e).i + 1 → Stamped entries stamps k row

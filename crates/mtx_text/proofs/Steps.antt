@@ -10,7 +10,7 @@ use Rattle.mtx_text.specs.declared.sizes.Sizes.{Sizes}
 use Rattle.mtx_text.specs.Lines.{Line}
 use Rattle.mtx_text.specs.Integers.{integer_of}
 use Rattle.mtx_text.specs.Grammar.{bad, cell_by, stands_for}
-use Rattle.mtx_text.specs.Drafts.{draft_of}
+use Rattle.mtx_text.specs.code.Drafts.{draft_of}
 
 pub draft_ok : (form : Form) (sizes : Sizes) (end left : ℕ) (done : List Triple) (lines : List Line) (line : Line) (rest : List Line) (t : Triple)
     → lines ≡ line ∷ rest → 0 < left → cell_by integer_of form sizes line.words ≡ Ok t

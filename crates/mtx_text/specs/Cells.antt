@@ -1,5 +1,5 @@
 -- Ordered maps from places to values, as lists of triples in order.
-use Rattle.std.specs.Prelude.{◌≡◌, ◌≤◌, ◌<◌, length, take, ℕ, ◌+◌, ◌*◌, ◌^◌, ◌==◌, ◌&&◌, ◌||◌, Bool, true, List, [], ◌∷◌, Option, Some, None, nat_lt, if◌then◌else◌}
+use Rattle.std.specs.Prelude.{◌≡◌, ℕ, ◌==◌, ◌&&◌, ◌||◌, Bool, true, List, [], ◌∷◌, Option, Some, None, nat_lt, if◌then◌else◌}
 use Rattle.std.specs.Int.{int_max}
 use Rattle.std.specs.List.{AllPairs, fold, flat_map}
 use Rattle.bale_types.specs.declared.triple.Triple.{Triple}
@@ -13,23 +13,9 @@ comes_before i j k l = nat_lt i k || i == k && nat_lt j l
 abbrev pub is_before : Triple → Triple → Bool
 is_before s t = comes_before s.i s.j t.i t.j
 
--- A place as one number, where columns are below 2^32.
-abbrev pub place_number : Triple → ℕ
-place_number t = t.i * 2 ^ 32 + t.j
-
 -- Each triple's place comes before those of the triples behind it: so no place comes twice.
 abbrev pub InOrder : List Triple → Type 0
 InOrder cells = AllPairs (λ s t. is_before s t ≡ true) cells
-
--- So many triples at the front are in order.
-pub record IsOrderedFront (n : ℕ) (triples : List Triple) : Type 0 where
-  pub within : n ≤ length triples
-  pub ordered : InOrder (take n triples)
-
--- The same, of at least one where there is one.
-pub record StartsInOrder (n : ℕ) (triples : List Triple) : Type 0 where
-  pub front : IsOrderedFront n triples
-  pub some : 0 < length triples → 0 < n
 
 -- Cells in order, after a value was raised to t's: its place has the greater of the two values, or t's where it had none.
 -- raised (i,j,v) cells = cells with max v w at (i,j), where w was there, and else with v

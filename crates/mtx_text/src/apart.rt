@@ -3,10 +3,10 @@
 //! A walk over the entries of a row marks each column that it meets with the row's own stamp: a column that bears the stamp already
 //! came twice. Where the entries stand row by row, one walk goes over them all as they stand; else the entries of each row
 //! are chained first.
-ghost use Rattle.std.specs.Prelude.{◌≡◌, ℕ, ◌+◌, ◌<◌, ◌≤◌, ◌^◌, true, length, get_or, vec_len, Ok, IfOk};
+ghost use Rattle.std.specs.Prelude.{◌≡◌, ◌<◌, true, replicate, vec_len, Ok};
 ghost use Rattle.std.specs.List.{All, AllPairs};
 ghost use Rattle.mtx_text.specs.Sparse.{SamePlace};
-ghost use Rattle.mtx_text.specs.Chains.{IsWithin, AreIndexed, LeadsTo, NextsLead, IsRowApart};
+ghost use Rattle.mtx_text.specs.code.Chains.{IsWithin, AreIndexed, AreLinked, IsRowApart};
 
 use crate::links::link;
 use bale_types::Triple;
@@ -18,7 +18,7 @@ pub(crate) fn are_apart(alloc: Global, side: u32, entries: &[Triple]) -> Result<
     requires { AreIndexed side entries.now }
     ensures { result ≡ Ok true → AllPairs (λ s t. ¬ SamePlace s t) entries.now }
 {
-    let mut marks = zeros(alloc, side as usize)?;
+    let mut marks = vec![in alloc; 0u32; side as usize]?;
     if row_by_row(side, entries, marks.as_mut_slice()) {
         return Ok(true);
     }
@@ -26,10 +26,9 @@ pub(crate) fn are_apart(alloc: Global, side: u32, entries: &[Triple]) -> Result<
     let mut heads = vec![in alloc; none; side as usize]?;
     let mut nexts = vec![in alloc; none; entries.len()]?;
     link(side, entries, &mut heads, &mut nexts);
-    let mut stamps = zeros(alloc, side as usize)?;
+    let mut stamps = vec![in alloc; 0u32; side as usize]?;
     for row in 0..side {
-        let head = heads[row as usize];
-        if !is_row_apart(side, entries, &nexts, row, head, &mut stamps) {
+        if !is_row_apart(side, entries, &heads, &nexts, row, &mut stamps) {
             return Ok(false);
         }
     }
@@ -40,8 +39,7 @@ pub(crate) fn are_apart(alloc: Global, side: u32, entries: &[Triple]) -> Result<
 #[inline(never)]
 fn row_by_row(side: u32, entries: &[Triple], marks: &mut [u32]) -> bool
     requires within { All (λ t. IsWithin side t) entries.now }
-    requires marks { length marks.old ≡ side }
-    requires zero { (k : ℕ) → get_or marks.old k 0 ≡ 0 }
+    requires marks { marks.old ≡ replicate side 0 }
     ensures { result ≡ true → AllPairs (λ s t. ¬ SamePlace s t) entries.now }
 {
     let mut row = 0;
@@ -57,35 +55,24 @@ fn row_by_row(side: u32, entries: &[Triple], marks: &mut [u32]) -> bool
     true
 }
 
-/// A list of zeros.
-fn zeros(alloc: Global, len: usize) -> Result<Vec<u32>, AllocError>
-    ensures len { IfOk result (λ v. vec_len v ≡ len) }
-    ensures zero { IfOk result (λ v. (k : ℕ) → get_or v.items k 0 ≡ 0) }
-{
-    vec![in alloc; 0u32; len]
-}
-
 /// Whether no column comes twice along a row's chain.
 #[inline(never)]
 fn is_row_apart(
     side: u32,
     entries: &[Triple],
+    heads: &Vec<u32>,
     nexts: &Vec<u32>,
     row: u32,
-    head: u32,
     stamps: &mut Vec<u32>,
 ) -> bool
-    requires indexed { AreIndexed side entries.now }
-    requires nexts { vec_len nexts.now ≡ length entries.now }
-    requires stamps { vec_len stamps.old ≡ side }
+    requires linked { AreLinked side entries.now heads.now.items nexts.now.items }
     requires row { row < side }
-    requires head { LeadsTo entries.now row 0 head }
-    requires nexts_lead { NextsLead entries.now nexts.now.items 0 }
+    requires stamps { vec_len stamps.old ≡ side }
     ensures apart { result ≡ true → IsRowApart entries.now row }
     ensures stamps { vec_len stamps.new ≡ side }
 {
     let stamp = row + 1;
-    let mut at = head as usize;
+    let mut at = heads[row as usize] as usize;
     while at < entries.len() {
         let column = entries[at].j as usize;
         if stamps[column] == stamp {

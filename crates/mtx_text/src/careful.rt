@@ -1,10 +1,11 @@
 //! Entry lines read with a look at every place that came before: slower, and exact where a place comes twice.
-ghost use Rattle.std.specs.Prelude.{◌≡◌, ◌+◌, ◌<◌, ◌≤◌, ◌^◌, [], true, List, length, nat_abs, IfOk};
+ghost use Rattle.std.specs.Prelude.{◌≡◌, ◌+◌, [], true, List, length, IfOk};
 ghost use Rattle.bale_types.specs.declared.triple.Triple.{Triple};
 ghost use Rattle.mtx_text.specs.Sparse.{AreSides, IsInside};
 ghost use Rattle.mtx_text.specs.Lines.{lines_of, lines_from, words_of};
 ghost use Rattle.mtx_text.specs.Grammar.{entry_of, entries_of};
-ghost use Rattle.mtx_text.specs.Places.{Tracks, narrow};
+ghost use Rattle.mtx_text.specs.code.Drafts.{CanRead};
+ghost use Rattle.mtx_text.specs.code.Places.{Tracks, narrow};
 ghost use Rattle.mtx_text.specs.Answers.{Gives};
 
 use crate::banner::Form;
@@ -26,8 +27,7 @@ pub(crate) fn read_carefully(
     text: &[u8],
     number: u64,
 ) -> Result<Vec<Triple>, ParseFault>
-    requires sides { AreSides sizes.rows sizes.cols }
-    requires room { number + length text.now < 2 ^ 63 }
+    requires { CanRead sizes text.now number }
     ensures { Gives (λ v. v.items) result
         (entries_of form sizes (number + length (lines_of text.now)) sizes.entries []
         (lines_from number (lines_of text.now))) }

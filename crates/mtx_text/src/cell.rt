@@ -1,18 +1,18 @@
 //! An entry line by itself.
-ghost use Rattle.std.specs.Prelude.{◌≡◌, ◌<◌, ◌≤◌, ◌∷◌, ◌-◌, nat_abs, take, false, Some, IfOk, IfSome};
+ghost use Rattle.std.specs.Prelude.{◌≡◌, ◌≤◌, ◌∷◌, nat_abs, Some, IfSome};
 ghost use Rattle.std.specs.Option.{option_map, option_to_list};
-ghost use Rattle.mtx_text.specs.Sparse.{AreSides, IsInside};
-ghost use Rattle.mtx_text.specs.Lines.{words_of, is_skipped};
+ghost use Rattle.mtx_text.specs.Sparse.{AreSides};
+ghost use Rattle.mtx_text.specs.Lines.{words_of};
 ghost use Rattle.mtx_text.specs.Integers.{integer_of};
-ghost use Rattle.mtx_text.specs.Capped.{cell_from};
-ghost use Rattle.mtx_text.specs.PlainLines.{CountsAt};
+ghost use Rattle.mtx_text.specs.code.Capped.{cell_from};
+ghost use Rattle.mtx_text.specs.code.Drafts.{IsCellAt};
 ghost use Rattle.mtx_text.specs.Grammar.{cell_by, place_of, value_within, is_index, is_skew, stands_for};
 
 use crate::banner::{Form, Symmetry};
 use crate::integer::Integer;
 use crate::kind::Kind;
 use crate::numbers::{Fields, read_fields};
-use crate::plain::{Plain, front_of_three, long_value, plain_three, plain_two, short_value};
+use crate::plain::{Plain, front_of_three, last_word, plain_three, plain_two, short_value};
 use crate::refusal::Reason;
 use crate::sizes::Sizes;
 use bale_types::Triple;
@@ -32,8 +32,7 @@ pub(crate) struct PlainCell {
 #[tactic(auto, using(crate::proofs::Caps::cell_capped))]
 pub(crate) fn read_cell(form: Form, sizes: Sizes, line: &[u8]) -> Result<Triple, Reason>
     requires { AreSides sizes.rows sizes.cols }
-    ensures value { result ≡ cell_by integer_of form sizes (words_of line.now) }
-    ensures inside { IfOk result (IsInside sizes.rows sizes.cols) }
+    ensures { result ≡ cell_by integer_of form sizes (words_of line.now) }
 {
     cell_of(form, sizes, read_fields(form.kind, line))
 }
@@ -43,9 +42,7 @@ pub(crate) fn read_cell(form: Form, sizes: Sizes, line: &[u8]) -> Result<Triple,
 #[tactic(auto, using(crate::proofs::Caps::cell_capped))]
 pub(crate) fn plain_cell(form: Form, sizes: Sizes, text: &[u8]) -> Option<PlainCell>
     requires { AreSides sizes.rows sizes.cols }
-    ensures at { IfSome result (λ p. CountsAt text.now p.len p.next) }
-    ensures value { IfSome result (λ p. p.cell ≡ cell_by integer_of form sizes (words_of (take p.len text.now))) }
-    ensures inside { IfSome result (λ p. IfOk p.cell (IsInside sizes.rows sizes.cols)) }
+    ensures { IfSome result (IsCellAt form sizes text.now) }
 {
     match form.kind {
         Kind::Integer => {
@@ -53,7 +50,7 @@ pub(crate) fn plain_cell(form: Form, sizes: Sizes, text: &[u8]) -> Option<PlainC
             match short_value(front) {
                 Some(last) => Some(cell_on(form, sizes, plain_three(text, front, last))),
                 None => {
-                    let last = long_value(front)?;
+                    let last = last_word(front.rest)?;
                     Some(cell_on(form, sizes, plain_three(text, front, last)))
                 }
             }
@@ -67,7 +64,6 @@ pub(crate) fn plain_cell(form: Form, sizes: Sizes, text: &[u8]) -> Option<PlainC
 fn cell_on(form: Form, sizes: Sizes, plain: Plain) -> PlainCell
     ensures value { result.cell ≡ cell_from form sizes
         (Some (plain.fields.row, plain.fields.column, plain.fields.value)) }
-    ensures inside { IfOk result.cell (IsInside sizes.rows sizes.cols) }
     ensures line { (result.len ≡ plain.len) × (result.next ≡ plain.next) }
 {
     PlainCell {
@@ -79,10 +75,9 @@ fn cell_on(form: Form, sizes: Sizes, plain: Plain) -> PlainCell
 
 /// The entry that the fields of a line stand for.
 #[inline(always)]
-#[tactic(auto, unfolding(crate::specs::Capped::cell_from))]
+#[tactic(auto, unfolding(crate::specs::code::Capped::cell_from))]
 fn cell_of(form: Form, sizes: Sizes, fields: Option<Fields>) -> Result<Triple, Reason>
-    ensures value { result ≡ cell_from form sizes (option_map (λ f. (f.row, f.column, f.value)) fields) }
-    ensures inside { IfOk result (IsInside sizes.rows sizes.cols) }
+    ensures { result ≡ cell_from form sizes (option_map (λ f. (f.row, f.column, f.value)) fields) }
 {
     let fields = fields.ok_or(Reason::EntryLine)?;
     let i = fields.row.ok_or(Reason::EntryLine)?;
@@ -98,9 +93,7 @@ fn cell_of(form: Form, sizes: Sizes, fields: Option<Fields>) -> Result<Triple, R
 
 /// Row and column counted from 0, where they are in range and allowed.
 fn place(form: Form, sizes: Sizes, i: Integer, j: Integer) -> Result<(u32, u32), Reason>
-    ensures value { result ≡ place_of form sizes i j }
-    ensures row { IfOk result (λ place. place.0 < sizes.rows) }
-    ensures col { IfOk result (λ place. place.1 < sizes.cols) }
+    ensures { result ≡ place_of form sizes i j }
 {
     if !is_index(sizes.rows, i) {
         return Err(Reason::OutOfRange);
@@ -129,8 +122,7 @@ fn is_skew(symmetry: Symmetry) -> bool
 
 /// A value within the limits.
 fn value(z: Option<Integer>) -> Result<i64, Reason>
-    ensures value { result ≡ value_within z }
-    ensures limit { IfOk result (λ v. nat_abs v ≤ 1_000_000_000_000) }
+    ensures { result ≡ value_within z }
 {
     match z {
         Some(z) if z.size <= MOST_VALUE => {

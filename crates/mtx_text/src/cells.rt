@@ -5,7 +5,8 @@ ghost use Rattle.bale_types.specs.Changes.{AllOrNothing};
 ghost use Rattle.bale_types.specs.declared.triple.Triple.{Triple};
 ghost use Rattle.mtx_text.specs.Grammar.{has_place};
 ghost use Rattle.mtx_text.specs.Maps.{is_at};
-ghost use Rattle.mtx_text.specs.Cells.{is_before, comes_before, InOrder, IsOrderedFront, raised, raised_all, gathered, first_from};
+ghost use Rattle.mtx_text.specs.Cells.{is_before, comes_before, InOrder, raised, raised_all, gathered, first_from};
+ghost use Rattle.mtx_text.specs.code.PlaceOrder.{IsOrderedFront};
 
 use crate::place_order::{comes_before, gather, greater, is_before};
 use bale_types::{NoMemory, Triple};

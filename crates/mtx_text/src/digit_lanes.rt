@@ -1,10 +1,8 @@
 //! Digits many at a time: where runs of them end among sixteen bytes, and the number that up to five of them are.
-ghost use Rattle.std.specs.Prelude.{◌≡◌, ℕ, ◌<◌, ◌≤◌, true, length, take, map};
-ghost use Rattle.std.specs.List.{list_all};
-ghost use Rattle.std.specs.Char.{is_ascii_digit};
+ghost use Rattle.std.specs.Prelude.{◌≡◌, ℕ, ◌<◌, ◌≤◌, length, map};
 ghost use Rattle.std.specs.Simd.Lanes.{mask_l};
-ghost use Rattle.mtx_text.specs.PlainLines.{NumberTo};
-ghost use Rattle.mtx_text.specs.DigitLanes.{is_no_digit, bits_of, word_of, word_from, number_from};
+ghost use Rattle.mtx_text.specs.code.PlainLines.{FewDigits, NumberTo};
+ghost use Rattle.mtx_text.specs.code.DigitLanes.{is_no_digit, bits_of, word_of, word_from, number_from};
 
 use std::simd::prelude::*;
 
@@ -34,10 +32,7 @@ fn no_digits_in(lanes: u8x16) -> u64
 /// The number that the first `len` bytes are, all of them digits.
 #[inline(always)]
 pub(crate) fn number_of(text: &[u8], len: usize) -> u64
-    requires room { 8 ≤ length text.now }
-    requires full { 0 < len }
-    requires few { len ≤ 5 }
-    requires digits { list_all is_ascii_digit (take len text.now) ≡ true }
+    requires { FewDigits text.now len }
     ensures { NumberTo text.now len result }
 {
     value_of(front_word(text).wrapping_sub(ZEROS) << (64 - 8 * len))

@@ -1,13 +1,9 @@
 //! Entry lines read without regard to duplicates, up to the first line that is bad for another reason.
-ghost use Rattle.std.specs.Prelude.{ℕ, ◌≡◌, ◌+◌, ◌*◌, ◌<◌, ◌≤◌, ◌++◌, ◌^◌, [], ◌∷◌, max, length, IfOk, IfErr, OnOk, nat_abs};
-ghost use Rattle.std.specs.List.{All};
-ghost use Rattle.mtx_text.specs.Lines.{lines_of, lines_from, words_of};
-ghost use Rattle.mtx_text.specs.Sparse.{AreSides, IsInside};
-ghost use Rattle.mtx_text.specs.PlainLines.{IsFirstKept, NoneCounts};
-ghost use Rattle.mtx_text.specs.Integers.{integer_of};
-ghost use Rattle.mtx_text.specs.Grammar.{cell_by, stands_for, AreLimited};
-ghost use Rattle.mtx_text.specs.Drafts.{draft_of, ReadsOn};
-ghost use Rattle.mtx_text.specs.Chains.{IsWithin};
+ghost use Rattle.std.specs.Prelude.{◌≡◌, ◌++◌, ◌∷◌, [], IfOk, IfErr, OnOk};
+ghost use Rattle.mtx_text.specs.Sparse.{IsInside};
+ghost use Rattle.mtx_text.specs.Grammar.{stands_for};
+ghost use Rattle.mtx_text.specs.code.PlainLines.{NoneCounts};
+ghost use Rattle.mtx_text.specs.code.Drafts.{CanRead, ReadsOn, IsNext, AddsLine, IsDraft};
 
 use crate::banner::{Form, Symmetry};
 use crate::cell::{mirror, plain_cell, read_cell};
@@ -40,13 +36,8 @@ pub(crate) fn read_draft(
     text: &[u8],
     number: u64,
 ) -> Result<Draft, AllocError>
-    requires limits { AreLimited sizes }
-    requires room { number + length text.now < 2 ^ 63 }
-    ensures draft { IfOk result (λ draft. record { entries = draft.entries.items; stop = draft.stop }
-        ≡ draft_of form sizes (number + length (lines_of text.now)) sizes.entries []
-        (lines_from number (lines_of text.now))) }
-    ensures within { IfOk result (λ draft. All (λ t. IsWithin (max sizes.rows sizes.cols) t) draft.entries.items) }
-    ensures few { IfOk result (λ draft. length draft.entries.items ≤ 524_288) }
+    requires { CanRead sizes text.now number }
+    ensures { IfOk result (IsDraft form sizes text.now number) }
 {
     let mut entries = Vec::with_capacity(alloc, room_for(sizes.entries, text.len()))?;
     let mut run = Run {
@@ -119,8 +110,7 @@ fn read_plain<'a>(
     entries: &mut Vec<Triple>,
     run: Run<'a>,
 ) -> Result<Run<'a>, AllocError>
-    requires sides { AreSides sizes.rows sizes.cols }
-    requires room { run.number + length run.rest.now < 2 ^ 63 }
+    requires { CanRead sizes run.rest.now run.number }
     ensures { IfOk result (λ r. ReadsOn form sizes entries.old.items entries.new.items run.entry r) }
 {
     if run.careful > 0 {
@@ -150,8 +140,7 @@ fn plain_lines<'a>(
     entries: &mut Vec<Triple>,
     run: Run<'a>,
 ) -> Result<Run<'a>, AllocError>
-    requires sides { AreSides sizes.rows sizes.cols }
-    requires room { run.number + length run.rest.now < 2 ^ 63 }
+    requires { CanRead sizes run.rest.now run.number }
     ensures { IfOk result (λ r. ReadsOn form sizes entries.old.items entries.new.items run.entry r) }
 {
     let mut rest = run.rest;
@@ -181,12 +170,9 @@ fn plain_lines<'a>(
 /// The next line that counts, and what it names; else the number of the end line.
 #[inline(never)]
 fn next_entry(form: Form, sizes: Sizes, text: &[u8], number: u64) -> Result<Entry<'_>, u64>
-    requires sides { AreSides sizes.rows sizes.cols }
-    requires room { number + length text.now < 2 ^ 63 }
-    ensures kept { IfOk result (λ entry. IsFirstKept text.now number entry.kept) }
+    requires { CanRead sizes text.now number }
+    ensures next { IfOk result (IsNext form sizes text.now number) }
     ensures none { IfErr result (NoneCounts text.now number) }
-    ensures value { IfOk result (λ entry. entry.cell ≡ cell_by integer_of form sizes (words_of entry.kept.line.now)) }
-    ensures inside { IfOk result (λ entry. IfOk entry.cell (IsInside sizes.rows sizes.cols)) }
 {
     let kept = next_kept(text, number)?;
     let cell = read_cell(form, sizes, kept.line);
@@ -208,10 +194,7 @@ fn push(
     t: Triple,
 ) -> Result<(), AllocError>
     requires { IsInside sizes.rows sizes.cols t }
-    ensures entries { OnOk result (entries.new.items ≡ entries.old.items ++ stands_for symmetry t) }
-    ensures within { OnOk result (All (λ u. IsWithin (max sizes.rows sizes.cols) u) entries.old.items
-        → All (λ u. IsWithin (max sizes.rows sizes.cols) u) entries.new.items) }
-    ensures few { OnOk result (length entries.new.items ≤ length entries.old.items + 2) }
+    ensures { OnOk result (AddsLine sizes (stands_for symmetry t) entries.old.items entries.new.items) }
 {
     append(entries, t)?;
     match mirror(symmetry, t) {

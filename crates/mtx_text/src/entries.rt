@@ -3,9 +3,10 @@
 //! They are first read without regard to duplicates. Where no place came twice, which one walk over the
 //! entries shows, that reading is the answer. Else they are read again, with a look at every place that came
 //! before, for the first bad line.
-ghost use Rattle.std.specs.Prelude.{◌+◌, ◌<◌, ◌≤◌, ◌^◌, [], length};
+ghost use Rattle.std.specs.Prelude.{◌+◌, [], length};
 ghost use Rattle.mtx_text.specs.Lines.{lines_of, lines_from};
-ghost use Rattle.mtx_text.specs.Grammar.{entries_of, AreLimited};
+ghost use Rattle.mtx_text.specs.Grammar.{entries_of};
+ghost use Rattle.mtx_text.specs.code.Drafts.{CanRead};
 ghost use Rattle.mtx_text.specs.Answers.{Gives};
 
 use crate::apart::are_apart;
@@ -25,8 +26,7 @@ pub(crate) fn read_entries(
     text: &[u8],
     number: u64,
 ) -> Result<Vec<Triple>, ParseFault>
-    requires limits { AreLimited sizes }
-    requires room { number + length text.now < 2 ^ 63 }
+    requires { CanRead sizes text.now number }
     ensures { Gives (λ v. v.items) result
         (entries_of form sizes (number + length (lines_of text.now)) sizes.entries []
         (lines_from number (lines_of text.now))) }

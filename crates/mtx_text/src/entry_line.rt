@@ -4,7 +4,7 @@ ghost use Rattle.bale_types.specs.declared.line.TheConstants.{LINE_ROOM};
 ghost use Rattle.bale_types.specs.Digits.{IsLaid};
 ghost use Rattle.bale_types.specs.declared.triple.Triple.{Triple};
 ghost use Rattle.mtx_text.specs.Written.{entry_text};
-ghost use Rattle.mtx_text.specs.Fronts.{row_text, rest_text, line_of, Names};
+ghost use Rattle.mtx_text.specs.code.Fronts.{row_text, rest_text, line_of, Names};
 
 use crate::kind::Kind;
 use bale_types::{Fours, LINE_ROOM, Line, LineText, Triple, lay_byte, lay_integer, lay_natural_by};
@@ -30,7 +30,7 @@ pub struct EntryLine {
 
 impl Model for EntryLine {
     ghost use Rattle.std.specs.Prelude.{ℕ, List};
-    ghost use Rattle.mtx_text.specs.Fronts.{line_of, Names};
+    ghost use Rattle.mtx_text.specs.code.Fronts.{line_of, Names};
 
     ghost Value = { List ℕ };
 
@@ -90,8 +90,7 @@ impl LineText for EntryLine {
 
 /// Makes a line the front of a row's lines.
 fn name(front: &mut Line, row: u64)
-    ensures front { front.new ≡ row_text row }
-    ensures short { length front.new ≤ 21 }
+    ensures { Names row front.new }
 {
     front.cut(0);
     front.natural(row);

@@ -1,11 +1,8 @@
 //! Matrices generated from a seed.
-ghost use Rattle.std.specs.Prelude.{◌≡◌, ◌≤◌, ◌+◌, ◌*◌, ◌<◌, ◌^◌, ◌++◌, ◌%◌, [], pos, slice_index, vec_len, length, IfOk};
-ghost use Rattle.std.specs.List.{All};
-ghost use Rattle.mtx_text.specs.declared.kind.Kind.TheVariants.{Integer};
+ghost use Rattle.std.specs.Prelude.{◌≡◌, ◌≤◌, ◌+◌, ◌<◌, ◌%◌, pos, slice_index, vec_len, IfOk};
 ghost use Rattle.mtx_text.specs.Permutations.{Permutes};
-ghost use Rattle.mtx_text.specs.Sparse.{IsEntry};
-ghost use Rattle.mtx_text.specs.Cells.{sparse};
-ghost use Rattle.mtx_text.specs.Generated.{hidden, positions, CanHide, generated};
+ghost use Rattle.mtx_text.specs.Generated.{CanHide, generated};
+ghost use Rattle.mtx_text.specs.code.Bands.{Hides};
 
 use crate::kind::Kind;
 use crate::matrix::Matrix;
@@ -44,9 +41,7 @@ fn hide(
     requires hidden { CanHide n m }
     requires rows { Permutes n rows.now.items }
     requires cols { Permutes n cols.now.items }
-    ensures hidden { IfOk result (λ v. v.items ≡ hidden rows.now.items cols.now.items words (positions n m)) }
-    ensures inside { IfOk result (λ v. All (λ t. IsEntry (sparse n n Integer []) t) v.items) }
-    ensures few { IfOk result (λ v. length v.items ≡ m) }
+    ensures { IfOk result (λ v. Hides n m rows.now.items cols.now.items words v.items) }
 {
     let mut words = words;
     let mut entries = Vec::with_capacity(alloc, m as usize)?;

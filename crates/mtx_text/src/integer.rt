@@ -2,7 +2,7 @@
 ghost use Rattle.std.specs.Prelude.{◌≡◌, min};
 ghost use Rattle.std.specs.Option.{option_map};
 ghost use Rattle.mtx_text.specs.Integers.{digits_of, integer_of};
-ghost use Rattle.mtx_text.specs.Capped.{capped};
+ghost use Rattle.mtx_text.specs.code.Capped.{capped};
 
 /// Above every limit of the grammar: a greater size is read as this one.
 pub(crate) const CAP: u64 = 1_000_000_000_000_000_000;

@@ -21,7 +21,8 @@
 //! | [`Reason::text`] | what to print of a bad line | |
 //!
 //! The definitions, in the order in which to read them: `Lines`, `Integers`, `Sparse`, `Reasons`, `Grammar` and `Answers` for reading, `Written`
-//! for writing, `Cells` and `Maps` for cells, `Seeds`, `Permutations` and `Generated` for generated matrices. The others are the code's own.
+//! for writing, `Cells` and `Maps` for cells, `Seeds`, `Permutations` and `Generated` for generated matrices. `specs/code/` tells how
+//! the code reads lines, keeps entries and sorts triples.
 #![tactic(auto)]
 
 mod apart;

@@ -1,7 +1,8 @@
 //! A text cut into lines, one line at a time and without a copy.
-ghost use Rattle.std.specs.Prelude.{◌≡◌, ◌≢◌, not, false, ℕ, ◌+◌, ◌<◌, ◌≤◌, ◌^◌, length, take, drop, slice_index, [], ◌∷◌, IfOk, IfErr};
+ghost use Rattle.std.specs.Prelude.{◌≡◌, not, false, ℕ, ◌+◌, ◌<◌, ◌≤◌, ◌^◌, length, take, drop, slice_index, [], ◌∷◌, IfOk, IfErr};
 ghost use Rattle.mtx_text.specs.Lines.{lines_of, words_of, lines_from, without_cr, is_blank, is_skipped};
-ghost use Rattle.mtx_text.specs.PlainLines.{CountsAt, IsFirstKept, NoneCounts};
+ghost use Rattle.mtx_text.specs.code.Cuts.{CutsAt};
+ghost use Rattle.mtx_text.specs.code.PlainLines.{CountsAt, IsFirstKept, NoneCounts};
 
 use crate::words::trimmed;
 
@@ -76,7 +77,7 @@ fn counts(line: &[u8]) -> bool
 }
 
 /// The first line of a text that isn't empty, without its line end, and the text behind it.
-#[tactic(auto, using(crate::proofs::Cuts::lines_at))]
+#[tactic(auto, using(crate::proofs::Cuts::lines_cut))]
 pub(crate) fn cut_line(text: &[u8]) -> (&[u8], &[u8])
     requires { 0 < length text.now }
     ensures lines { lines_of text.now ≡ result.0.now ∷ lines_of result.1.now }
@@ -99,9 +100,7 @@ fn behind_first(text: &[u8]) -> &[u8]
 
 /// How many bytes stand before the first LF.
 fn piece_len(text: &[u8]) -> usize
-    ensures within { result ≤ length text.now }
-    ensures before { (k : ℕ) → k < result → slice_index text.now k ≢ 10 }
-    ensures found { result < length text.now → slice_index text.now result ≡ 10 }
+    ensures { CutsAt text.now result }
 {
     for (i, b) in text.iter().enumerate() {
         if *b == b'\n' {

@@ -1,13 +1,11 @@
 //! Integer words read as they are cut from a line, in one pass over their digits.
-ghost use Rattle.std.specs.Prelude.{◌≡◌, ◌≤◌, ◌||◌, ◌==◌, ◌∷◌, [], true, length, slice_index, take, min, IfNone, IfSome};
-ghost use Rattle.std.specs.List.{list_all};
+ghost use Rattle.std.specs.Prelude.{◌≡◌, ◌≤◌, ◌||◌, ◌==◌, ◌∷◌, [], length, slice_index, IfNone, IfSome};
 ghost use Rattle.std.specs.Option.{option_map};
-ghost use Rattle.std.specs.Char.{is_ascii_digit};
-ghost use Rattle.std.specs.Str.Parse.{digits_value};
 ghost use Rattle.mtx_text.specs.Lines.{words_of, is_blank};
 ghost use Rattle.mtx_text.specs.Integers.{integer_of};
 ghost use Rattle.mtx_text.specs.Grammar.{fields_of};
-ghost use Rattle.mtx_text.specs.Capped.{capped, read_three};
+ghost use Rattle.mtx_text.specs.code.Capped.{capped, read_three};
+ghost use Rattle.mtx_text.specs.code.PlainLines.{CappedTo};
 
 use crate::integer::{CAP, Integer, read_integer};
 use crate::kind::Kind;
@@ -113,9 +111,7 @@ fn ends_word(line: &[u8], len: usize) -> bool
 /// How many digits a line begins with, and their number, or the cap where that is less.
 #[inline(always)]
 fn leading_digits(line: &[u8]) -> (u64, usize)
-    ensures within { result.1 ≤ length line.now }
-    ensures digits { list_all is_ascii_digit (take result.1 line.now) ≡ true }
-    ensures value { result.0 ≡ min (digits_value 10 (take result.1 line.now)) 1_000_000_000_000_000_000 }
+    ensures { CappedTo line.now result.1 result.0 }
 {
     let mut size: u64 = 0;
     for (i, b) in line.iter().enumerate() {

@@ -1,8 +1,9 @@
 //! Matrices of cells.
-ghost use Rattle.std.specs.Prelude.{◌≡◌, ◌≤◌, ◌++◌, [], nat_lt, IfOk, OnOk};
+ghost use Rattle.std.specs.Prelude.{◌≡◌, [], IfOk, OnOk};
 ghost use Rattle.std.specs.List.{All};
 ghost use Rattle.mtx_text.specs.Sparse.{IsEntry, AreSides};
-ghost use Rattle.mtx_text.specs.Cells.{InOrder, gathered, together, sparse};
+ghost use Rattle.mtx_text.specs.Cells.{InOrder, together, sparse};
+ghost use Rattle.mtx_text.specs.code.PlaceOrder.{AreCells};
 
 use crate::cells::Cells;
 use crate::kind::Kind;
@@ -33,7 +34,8 @@ impl Matrix {
     {
         let mut triples = Vec::new(alloc);
         cells.append_to(&mut triples)?;
-        of_triples(rows, cols, kind, triples)
+        gather(&mut triples);
+        of_ordered(rows, cols, kind, triples)
     }
 
     /// The same of cells that nobody needs after it: they become the matrix's entries, and are not copied.
@@ -71,37 +73,18 @@ impl Matrix {
         for cells in all {
             cells.append_to(&mut triples)?;
         }
-        of_triples(rows, cols, kind, triples)
+        gather(&mut triples);
+        of_ordered(rows, cols, kind, triples)
     }
-}
-
-/// The matrix of triples in any order, of which those at one place leave the greatest value.
-fn of_triples(rows: u32, cols: u32, kind: Kind, triples: Vec<Triple>) -> Result<Matrix, NoMemory>
-    requires sides { AreSides rows cols }
-    requires inside { All (λ t. IsEntry (sparse rows cols kind []) t) (gathered triples.items) }
-    ensures { IfOk result (λ m. m ≡ sparse rows cols kind (gathered triples.items)) }
-{
-    let mut triples = triples;
-    gather(&mut triples);
-    of_ordered(rows, cols, kind, triples)
 }
 
 /// The matrix of triples in order.
 fn of_ordered(rows: u32, cols: u32, kind: Kind, triples: Vec<Triple>) -> Result<Matrix, NoMemory>
-    requires sides { AreSides rows cols }
-    requires inside { All (λ t. IsEntry (sparse rows cols kind []) t) triples.items }
-    requires ordered { InOrder triples.items }
+    requires { AreCells rows cols kind triples.items }
     ensures { IfOk result (λ m. m ≡ sparse rows cols kind triples.items) }
 {
-    if are_too_many(triples.len()) {
+    if triples.len() > MOST_ENTRIES {
         return Err(NoMemory);
     }
     Ok(Matrix::of_parts(rows, cols, kind, triples))
-}
-
-/// Whether a matrix has no place for so many cells.
-fn are_too_many(cells: usize) -> bool
-    ensures { result ≡ nat_lt 524_288 cells }
-{
-    cells > MOST_ENTRIES
 }

@@ -3,7 +3,7 @@ ghost use Rattle.std.specs.Prelude.{◌≡◌, ◌<◌, ◌≤◌, ◌∷◌, �
 ghost use Rattle.bale_types.specs.declared.triple.Triple.{Triple};
 ghost use Rattle.mtx_text.specs.Grammar.{has_place, stands_for};
 ghost use Rattle.mtx_text.specs.Sparse.{IsInside};
-ghost use Rattle.mtx_text.specs.Places.{Tracks, narrow, key_of, AddsTo};
+ghost use Rattle.mtx_text.specs.code.Places.{Tracks, narrow, key_of, AddsTo};
 
 use crate::banner::Symmetry;
 use crate::cell::mirror;

@@ -9,9 +9,9 @@ ghost use Rattle.std.specs.Str.Parse.{digits_value};
 ghost use Rattle.mtx_text.specs.declared.kind.Kind.TheVariants as Kind;
 ghost use Rattle.mtx_text.specs.Lines.{words_of, is_skipped};
 ghost use Rattle.mtx_text.specs.Grammar.{fields_of};
-ghost use Rattle.mtx_text.specs.Capped.{read_three};
-ghost use Rattle.mtx_text.specs.DigitLanes.{bits_of};
-ghost use Rattle.mtx_text.specs.PlainLines.{LineAt, DigitsTo, DigitsEnd, LastAt, IsRead, FrontAt, IsPlain, LeadingDigits};
+ghost use Rattle.mtx_text.specs.code.Capped.{read_three};
+ghost use Rattle.mtx_text.specs.code.DigitLanes.{bits_of};
+ghost use Rattle.mtx_text.specs.code.PlainLines.{LineAt, DigitsEnd, LastAt, MayRead, ReadsOne, IsFew, TwoAt, FrontAt, IsPlain, LeadingDigits};
 
 use crate::digit_lanes::{no_digits, number_of};
 use crate::integer::Integer;
@@ -47,7 +47,7 @@ struct Two {
 #[derive(Clone, Copy)]
 pub(crate) struct Front<'a> {
     two: Two,
-    rest: &'a [u8],
+    pub(crate) rest: &'a [u8],
 }
 
 /// The digits that a line ends with: their number, how many they are, and where the next line begins.
@@ -93,10 +93,7 @@ pub(crate) fn front_of_three(text: &[u8]) -> Option<Front<'_>>
 /// The value at the end of such a line, where it is one of few digits.
 #[inline(always)]
 pub(crate) fn short_value(front: Front<'_>) -> Option<Last>
-    requires few { front.two.row.len + front.two.column.len ≤ 10 }
-    requires room { 22 ≤ length front.rest.now + (front.two.row.len + front.two.column.len) }
-    requires others { front.two.others
-        ≡ mask_l (bits_of (14 - (front.two.row.len + front.two.column.len)) front.rest.now) }
+    requires { IsFew front.two front.rest.now }
     ensures { IfSome result (λ last. LastAt front.entry.rest.now last.len last.next last.value) }
 {
     let len = front.two.others.trailing_zeros() as usize;
@@ -151,14 +148,7 @@ pub(crate) fn plain_two(text: &[u8]) -> Option<Plain>
 /// The numbers of the two runs of few digits that a text begins with, with one space between them and another byte behind.
 #[inline(always)]
 fn two_numbers(text: &[u8]) -> Option<Two>
-    ensures within { IfSome result (λ two. 24 ≤ length text.now) }
-    ensures few { IfSome result (λ two. (two.row.len ≤ 5) × (two.column.len ≤ 5)) }
-    ensures row { IfSome result (λ two. DigitsTo 32 text.now two.row.len two.row.size) }
-    ensures some { IfSome result (λ two. 0 < two.column.len) }
-    ensures column { IfSome result (λ two. IsRead (drop (two.row.len + 1) text.now) two.column) }
-    ensures others { IfSome result (λ two. two.others
-        ≡ mask_l (bits_of (14 - (two.row.len + two.column.len))
-        (drop (two.column.len + 1) (drop (two.row.len + 1) text.now)))) }
+    ensures { IfSome result (TwoAt text.now) }
 {
     if text.len() < WINDOW {
         return None;
@@ -194,18 +184,10 @@ fn natural(size: u64) -> Integer
     Integer { minus: false, size }
 }
 
-/// The value at the end of such a line, where it is digits behind a minus or no sign.
-#[inline(always)]
-pub(crate) fn long_value(front: Front<'_>) -> Option<Last>
-    ensures { IfSome result (λ last. LastAt front.entry.rest.now last.len last.next last.value) }
-{
-    last_word(front.rest)
-}
-
 /// The word that a text begins with, where it is digits behind a minus or no sign, and the line ends with it.
 #[inline(never)]
 #[tactic(auto, using(crate::proofs::PlainLines::digits_last))]
-fn last_word(text: &[u8]) -> Option<Last>
+pub(crate) fn last_word(text: &[u8]) -> Option<Last>
     ensures { IfSome result (λ last. LastAt text.now last.len last.next last.value) }
 {
     if text.is_empty() || text[0] != b'-' {
@@ -282,8 +264,7 @@ const UNROLLED: usize = 5;
 #[inline(always)]
 fn few_digits(text: &[u8]) -> Result<Digits, Digits>
     requires { 5 < length text.now }
-    ensures few { IfErr result (λ d. d.len ≤ 5) }
-    ensures read { IfErr result (λ d. IsRead text.now d) }
+    ensures { IfErr result (LeadingDigits text.now) }
 {
     let one = digit_more(text, Digits { size: 0, len: 0 })?;
     let two = digit_more(text, one)?;
@@ -296,11 +277,8 @@ fn few_digits(text: &[u8]) -> Result<Digits, Digits>
 /// One digit more, or as an error the digits as they are, where no digit follows.
 #[inline(always)]
 fn digit_more(text: &[u8], digits: Digits) -> Result<Digits, Digits>
-    requires within { digits.len < length text.now }
-    requires few { digits.len ≤ 5 }
-    requires read { IsRead text.now digits }
-    ensures more { IfOk result (λ d. d.len ≡ digits.len + 1) }
-    ensures read { IfOk result (λ d. IsRead text.now d) }
+    requires { MayRead text.now digits }
+    ensures more { IfOk result (ReadsOne text.now digits) }
     ensures same { IfErr result (λ d. d ≡ digits) }
 {
     let digit = (text[digits.len] as u64).wrapping_sub(b'0' as u64);

@@ -3,7 +3,7 @@ ghost use Rattle.std.specs.Prelude.{◌≡◌, ◌≤◌, IfOk};
 ghost use Rattle.std.specs.Option.{option_map};
 ghost use Rattle.mtx_text.specs.Lines.{words_of};
 ghost use Rattle.mtx_text.specs.Integers.{integer_of};
-ghost use Rattle.mtx_text.specs.Capped.{capped};
+ghost use Rattle.mtx_text.specs.code.Capped.{capped};
 ghost use Rattle.mtx_text.specs.Grammar.{sizes_by, natural_of, within_limits, is_general, AreLimited};
 
 use crate::banner::{Form, Symmetry};

@@ -1,8 +1,9 @@
 //! A line cut into words, one word at a time and without a copy.
-ghost use Rattle.std.specs.Prelude.{◌≡◌, ℕ, ◌<◌, ◌≤◌, false, true, length, slice_index, [], ◌∷◌, IfNone, IfSome};
+ghost use Rattle.std.specs.Prelude.{◌≡◌, ◌<◌, false, length, slice_index, [], ◌∷◌, IfNone, IfSome};
 ghost use Rattle.std.specs.Option.{option_map};
 ghost use Rattle.mtx_text.specs.Lines.{words_of, is_blank};
 ghost use Rattle.mtx_text.specs.Grammar.{three_of};
+ghost use Rattle.mtx_text.specs.code.Cuts.{WordTo};
 
 /// Three words.
 #[derive(Clone, Copy)]
@@ -37,9 +38,7 @@ pub(crate) fn trimmed(line: &[u8]) -> &[u8]
 
 /// How many bytes stand before the first blank.
 fn word_len(line: &[u8]) -> usize
-    ensures within { result ≤ length line.now }
-    ensures before { (k : ℕ) → k < result → is_blank (slice_index line.now k) ≡ false }
-    ensures found { result < length line.now → is_blank (slice_index line.now result) ≡ true }
+    ensures { WordTo line.now result }
 {
     for (i, b) in line.iter().enumerate() {
         if is_blank(*b) {
@@ -62,7 +61,7 @@ pub(crate) fn first_word(line: &[u8]) -> Option<(&[u8], &[u8])>
 }
 
 /// The same of a line that begins with a word.
-#[tactic(auto, using(crate::proofs::Cuts::word_at))]
+#[tactic(auto, using(crate::proofs::Cuts::word_cut))]
 pub(crate) fn cut_word(line: &[u8]) -> (&[u8], &[u8])
     requires some { 0 < length line.now }
     requires begins { is_blank (slice_index line.now 0) ≡ false }

@@ -1,7 +1,7 @@
 use Rattle.std.proofs.Common.{◌≡◌, ◌+◌, ◌≤◌, [], true, length}
 use Rattle.mtx_text.specs.Lines.{lines_of, lines_from}
 use Rattle.mtx_text.specs.Grammar.{entries_of}
-use Rattle.mtx_text.specs.Places.{Tracks, narrow}
+use Rattle.mtx_text.specs.code.Places.{Tracks, narrow}
 use Rattle.mtx_text.proofs.careful.read_carefully.Given as goal
 
 abbrev pub invariant-loop-kept : goal.invariant-loop-kept

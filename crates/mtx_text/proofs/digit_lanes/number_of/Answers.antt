@@ -1,5 +1,5 @@
 use Rattle.std.proofs.Common.{◌∙◌, ap, sym, subst}
-use Rattle.mtx_text.specs.PlainLines.{NumberTo}
+use Rattle.mtx_text.specs.code.PlainLines.{NumberTo}
 use Rattle.mtx_text.proofs.DigitLanes.{front_is, padded, shifted}
 use Rattle.mtx_text.proofs.digit_lanes.number_of.Goals as goal
 

@@ -1,8 +1,8 @@
 use Rattle.std.proofs.Common.{◌≡◌, ◌+◌, ◌*◌, ◌≤◌, [], max, length}
 use Rattle.std.specs.List.{All}
 use Rattle.mtx_text.specs.Lines.{lines_of, lines_from}
-use Rattle.mtx_text.specs.Drafts.{draft_of}
-use Rattle.mtx_text.specs.Chains.{IsWithin}
+use Rattle.mtx_text.specs.code.Drafts.{draft_of}
+use Rattle.mtx_text.specs.code.Chains.{IsWithin}
 use Rattle.mtx_text.proofs.draft.read_draft.Given as goal
 
 abbrev pub invariant-loop-entries : goal.invariant-loop-entries

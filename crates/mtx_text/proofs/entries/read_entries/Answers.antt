@@ -1,6 +1,6 @@
 use Rattle.std.proofs.Common.{◌∙◌, ap, ◌+◌, length, Ok}
 use Rattle.mtx_text.specs.Lines.{lines_of, lines_from}
-use Rattle.mtx_text.specs.Drafts.{verdict_at}
+use Rattle.mtx_text.specs.code.Drafts.{verdict_at}
 use Rattle.mtx_text.proofs.Decides.{decided}
 use Rattle.mtx_text.proofs.entries.read_entries.Goals as goal
 

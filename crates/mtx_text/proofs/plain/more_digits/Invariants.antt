@@ -1,4 +1,4 @@
-use Rattle.mtx_text.specs.PlainLines.{NumberTo}
+use Rattle.mtx_text.specs.code.PlainLines.{NumberTo}
 use Rattle.mtx_text.proofs.plain.more_digits.Given as goal
 
 abbrev pub invariant-loop-i : goal.invariant-loop-i

@@ -1,15 +1,21 @@
 use Rattle.std.proofs.Common.{◌+◌, ◌-◌, refl, subst, sym, arith}
-use Rattle.mtx_text.specs.PlainLines.{LastAt}
+use Rattle.mtx_text.specs.code.PlainLines.{LastAt}
 use lib.Count.{count_trailing_zeros}
 use Rattle.mtx_text.proofs.NoDigits.{digits_before}
 use Rattle.mtx_text.proofs.PlainLines.{read_last}
 use Rattle.mtx_text.proofs.plain.short_value.Goals as goal
 
-pub number_of-requires-clause-digits : goal.number_of-requires-clause-digits
-number_of-requires-clause-digits c =
+pub number_of-requires : goal.number_of-requires
+number_of-requires c =
     let two = c.args.front.two in
-    digits_before c.args.front.rest.now (14 - (two.row.len + two.column.len)) (count_trailing_zeros 64 two.others) two.others (omega arith) (omega (arith, c.requires.room)) c.requires.others refl
-    (omega (arith, c.if-len-gt-FEW_DIGITS.false))
+    let few = c.if-len-gt-FEW_DIGITS.false in
+    record {
+      room = omega (arith, c.requires.room, c.requires.few);
+      full = omega (arith, c.if-len-eq0.false);
+      few = omega (arith, few);
+      digits = digits_before c.args.front.rest.now (14 - (two.row.len + two.column.len)) (count_trailing_zeros 64 two.others) two.others
+          (omega (arith, c.requires.few)) (omega (arith, c.requires.room)) c.requires.others refl (omega (arith, few));
+    }
 
 pub returns : goal.returns
 returns c =

@@ -1,5 +1,5 @@
 -- Entry lines read without regard to duplicates.
-use Rattle.std.specs.Prelude.{ℕ, ◌≡◌, ◌≤◌, ◌+◌, ◌*◌, max, length, ◌-◌, ◌==◌, List, [], ◌∷◌, ◌++◌, Option, Some, None, Result, Ok, Err, nat_lt, if◌then◌else◌}
+use Rattle.std.specs.Prelude.{ℕ, ◌≡◌, ◌≤◌, ◌<◌, ◌+◌, ◌*◌, ◌^◌, max, length, take, ◌-◌, ◌==◌, List, [], ◌∷◌, ◌++◌, Option, Some, None, Result, Ok, Err, nat_lt, if◌then◌else◌}
 use Rattle.bale_types.specs.declared.triple.Triple.{Triple}
 use Rattle.mtx_text.specs.declared.banner.Form.{Form}
 use Rattle.mtx_text.specs.declared.sizes.Sizes.{Sizes}
@@ -7,11 +7,15 @@ use Rattle.mtx_text.specs.declared.refusal.Reason.{Reason}
 use Rattle.mtx_text.specs.declared.refusal.Reason.TheVariants as reason
 use Rattle.mtx_text.specs.declared.refusal.BadLine.{BadLine}
 use Rattle.std.specs.List.{All}
+use Rattle.mtx_text.specs.declared.cell.PlainCell.{PlainCell}
+use Rattle.mtx_text.specs.declared.draft.Draft.{Draft}
+use Rattle.mtx_text.specs.declared.draft.Entry.{Entry}
 use Rattle.mtx_text.specs.declared.draft.Run.{Run}
-use Rattle.mtx_text.specs.Lines.{Line, lines_of, lines_from}
-use Rattle.mtx_text.specs.Chains.{IsWithin}
+use Rattle.mtx_text.specs.code.PlainLines.{CountsAt, IsFirstKept}
+use Rattle.mtx_text.specs.Lines.{Line, lines_of, lines_from, words_of}
+use Rattle.mtx_text.specs.code.Chains.{IsWithin}
 use Rattle.mtx_text.specs.Integers.{integer_of}
-use Rattle.mtx_text.specs.Grammar.{bad, cell_by, stands_for}
+use Rattle.mtx_text.specs.Grammar.{bad, cell_by, stands_for, AreLimited}
 
 -- The entries up to the first line that is bad for another reason than a duplicate, and that line.
 pub record Drafted : Type 0 where
@@ -55,3 +59,32 @@ pub record ReadsOn (form : Form) (sizes : Sizes) (old new : List Triple) (from t
   pub on : length to.rest.now ≤ length from.rest.now
   pub within : All (λ t. IsWithin (max sizes.rows sizes.cols) t) old → All (λ t. IsWithin (max sizes.rows sizes.cols) t) new
   pub few : length new + 2 * to.left ≤ length old + 2 * from.left
+
+-- Sizes within the limits, and a text whose lines have numbers below 2^63 where its first line has the number given.
+pub record CanRead (sizes : Sizes) (text : List ℕ) (number : ℕ) : Type 0 where
+  pub limits : AreLimited sizes
+  pub room : number + length text < 2 ^ 63
+
+-- A text begins with a plain line, and this is what the line names.
+pub record IsCellAt (form : Form) (sizes : Sizes) (text : List ℕ) (p : PlainCell) : Type 0 where
+  pub at : CountsAt text p.len p.next
+  pub value : p.cell ≡ cell_by integer_of form sizes (words_of (take p.len text))
+
+-- The first line that counts of a text whose first line has a number, and what that line names.
+pub record IsNext (form : Form) (sizes : Sizes) (text : List ℕ) (number : ℕ) (entry : Entry) : Type 0 where
+  pub kept : IsFirstKept text number entry.kept
+  pub value : entry.cell ≡ cell_by integer_of form sizes (words_of entry.kept.line.now)
+
+-- What an entry line stands for was added.
+-- within: entries whose rows and columns are within the sizes stay so
+pub record AddsLine (sizes : Sizes) (more old new : List Triple) : Type 0 where
+  pub entries : new ≡ old ++ more
+  pub within : All (λ t. IsWithin (max sizes.rows sizes.cols) t) old → All (λ t. IsWithin (max sizes.rows sizes.cols) t) new
+  pub few : length new ≤ length old + 2
+
+-- The draft of a text whose first line has a number.
+pub record IsDraft (form : Form) (sizes : Sizes) (text : List ℕ) (number : ℕ) (d : Draft) : Type 0 where
+  pub draft : record { entries = d.entries.items; stop = d.stop }
+      ≡ draft_of form sizes (number + length (lines_of text)) sizes.entries [] (lines_from number (lines_of text))
+  pub within : All (λ t. IsWithin (max sizes.rows sizes.cols) t) d.entries.items
+  pub few : length d.entries.items ≤ 524_288

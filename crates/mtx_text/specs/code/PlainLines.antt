@@ -8,14 +8,14 @@ use Rattle.mtx_text.specs.declared.integer.Integer.{Integer}
 use Rattle.std.specs.Simd.Lanes.{mask_l}
 use Rattle.mtx_text.specs.declared.plain.Digits.{Digits}
 use Rattle.mtx_text.specs.declared.plain.Two.{Two}
-use Rattle.mtx_text.specs.DigitLanes.{bits_of}
+use Rattle.mtx_text.specs.code.DigitLanes.{bits_of}
 use Rattle.mtx_text.specs.declared.lines.Kept.{Kept}
 use Rattle.mtx_text.specs.declared.plain.Plain.{Plain}
 use Rattle.mtx_text.specs.declared.kind.Kind.{Kind}
 use Rattle.mtx_text.specs.Lines.{lines_of, lines_from, words_of, is_skipped}
 use Rattle.mtx_text.specs.Grammar.{fields_of}
 use Rattle.mtx_text.specs.Integers.{integer_of}
-use Rattle.mtx_text.specs.Capped.{capped, read_three}
+use Rattle.mtx_text.specs.code.Capped.{capped, read_three}
 
 -- The text's first line is its first `len` bytes, and the others are those of what stands behind its first `next` bytes.
 --   of "1 2/3/" with 3 and 4, or with CR before its first LF with 3 and 5: the line "1 2", and then the lines of "3/"
@@ -77,6 +77,19 @@ pub record LeadingDigits (text : List ℕ) (d : Digits) : Type 0 where
   pub digits : list_all is_ascii_digit (take d.len text) ≡ true
   pub value : d.len ≤ 18 → d.size ≡ min (digits_value 10 (take d.len text)) 1_000_000_000_000_000_000
 
+-- The line begins with `len` digits, none or more, and `size` is their number, or the cap where that is less.
+pub record CappedTo (line : List ℕ) (len size : ℕ) : Type 0 where
+  pub within : len ≤ length line
+  pub digits : list_all is_ascii_digit (take len line) ≡ true
+  pub value : size ≡ min (digits_value 10 (take len line)) 1_000_000_000_000_000_000
+
+-- A text of at least eight bytes begins with `len` digits, one to five.
+pub record FewDigits (text : List ℕ) (len : ℕ) : Type 0 where
+  pub room : 8 ≤ length text
+  pub full : 0 < len
+  pub few : len ≤ 5
+  pub digits : list_all is_ascii_digit (take len text) ≡ true
+
 -- A text's first `len` bytes are digits, and `size` is their number, where they are at most 18.
 --   of "12 7/" with 2 and 12
 pub record NumberTo (text : List ℕ) (len size : ℕ) : Type 0 where
@@ -88,16 +101,42 @@ pub record NumberTo (text : List ℕ) (len size : ℕ) : Type 0 where
 abbrev pub IsRead : List ℕ → Digits → Type 0
 IsRead text d = NumberTo text d.len d.size
 
--- A text begins with two runs of few digits, each with a space behind it, and `rest` is what follows; `others` are the bits of its
--- first bytes that are no digits, as far as sixteen bytes of the text go.
+-- A text has another digit or another byte to be looked at behind the few digits that were read.
+pub record MayRead (text : List ℕ) (d : Digits) : Type 0 where
+  pub within : d.len < length text
+  pub few : d.len ≤ 5
+  pub read : IsRead text d
+
+-- One digit more of a text was read.
+pub record ReadsOne (text : List ℕ) (old new : Digits) : Type 0 where
+  pub more : new.len ≡ old.len + 1
+  pub read : IsRead text new
+
+-- Two runs of few digits, each with another byte behind it, stood in front of `rest`; `others` are the bits of its first bytes that
+-- are no digits, as far as sixteen bytes of the text go.
 --   of "1 22 7/" the rest is "7/", whose second byte is no digit
-pub record FrontAt (text : List ℕ) (two : Two) (rest : List ℕ) : Type 0 where
+pub record IsFew (two : Two) (rest : List ℕ) : Type 0 where
   pub few : two.row.len + two.column.len ≤ 10
+  pub room : 22 ≤ length rest + (two.row.len + two.column.len)
+  pub others : two.others ≡ mask_l (bits_of (14 - (two.row.len + two.column.len)) rest)
+
+-- A text of at least 24 bytes begins with two runs of at most five digits, a space between them, and `others` are the bits of what
+-- follows the byte behind them.
+pub record TwoAt (text : List ℕ) (two : Two) : Type 0 where
+  pub within : 24 ≤ length text
+  pub few : (two.row.len ≤ 5) × (two.column.len ≤ 5)
+  pub row : DigitsTo 32 text two.row.len two.row.size
+  pub some : 0 < two.column.len
+  pub column : IsRead (drop (two.row.len + 1) text) two.column
+  pub others : two.others ≡ mask_l (bits_of (14 - (two.row.len + two.column.len)) (drop (two.column.len + 1) (drop (two.row.len + 1) text)))
+
+-- A text begins with two runs of few digits, each with a space behind it, and `rest` is what follows.
+--   of "1 22 7/" it is "7/"
+pub record FrontAt (text : List ℕ) (two : Two) (rest : List ℕ) : Type 0 where
+  pub front : IsFew two rest
   pub row : DigitsTo 32 text two.row.len two.row.size
   pub column : DigitsTo 32 (drop (two.row.len + 1) text) two.column.len two.column.size
   pub behind : rest ≡ drop (two.column.len + 1) (drop (two.row.len + 1) text)
-  pub room : 22 ≤ length rest + (two.row.len + two.column.len)
-  pub others : two.others ≡ mask_l (bits_of (14 - (two.row.len + two.column.len)) rest)
 
 -- A text begins with a plain line of a kind of matrix, and these are its numbers.
 pub record IsPlain (kind : Kind) (text : List ℕ) (p : Plain) : Type 0 where

@@ -1,0 +1,15 @@
+-- Where a text's first line and a line's first word end.
+use Rattle.std.specs.Prelude.{◌≡◌, ◌≢◌, ℕ, ◌<◌, ◌≤◌, true, false, List, length, get_or}
+use Rattle.mtx_text.specs.Lines.{is_blank}
+
+-- No byte before k is LF, and the one at k is, where k isn't the end.
+pub record CutsAt (text : List ℕ) (k : ℕ) : Type 0 where
+  pub within : k ≤ length text
+  pub before : (j : ℕ) → j < k → get_or text j 0 ≢ 10
+  pub found : k < length text → get_or text k 0 ≡ 10
+
+-- No byte before k is blank, and the one at k is, where k isn't the end.
+pub record WordTo (line : List ℕ) (k : ℕ) : Type 0 where
+  pub within : k ≤ length line
+  pub before : (j : ℕ) → j < k → is_blank (get_or line j 0) ≡ false
+  pub found : k < length line → is_blank (get_or line k 0) ≡ true

@@ -64,10 +64,10 @@ impl<const CAP: usize> OutLink<CAP> {
         if at_end && !self.closed {
             return true;
         }
-        if self.parcel.len() == 0 {
-            return false;
+        if self.parcel.is_full() {
+            return true;
         }
-        steady || self.parcel.is_full()
+        steady && self.parcel.len() != 0
     }
 
     /// Exchanges the parcel at hand for the link's. The link is closed from now on, or open, as told. Answers whether it was

@@ -22,7 +22,7 @@ pub(crate) mod rank_ends;
 
 use crate::seat::collect::collect_on;
 use crate::seat::ear::Ear;
-use crate::seat::ends::{InEnd, OutEnd, count_on};
+use crate::seat::ends::{InEnd, OutEnd};
 use crate::seat::post::post_on;
 use crate::slot_bank::SlotBank;
 use crate::table::rule::Place;
@@ -186,6 +186,6 @@ fn note_last(ended: &mut u64, answer: Collected, last: bool)
     ensures { ended.new ≡ ended_after answer last ended.old }
 {
     if answer == Collected::Got && last {
-        count_on(ended);
+        *ended = ended.saturating_add(1);
     }
 }

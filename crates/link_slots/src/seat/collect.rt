@@ -15,7 +15,7 @@ ghost use Rattle.link_slots.specs.Counts.{IsInEnd, IsHeard, IsWire, ElseKept, Ar
 ghost use Rattle.link_slots.specs.Doorbell.{is_due, HeardWhere, looked_where_marked, LookedFor};
 
 use crate::seat::ear::Ear;
-use crate::seat::ends::{InEnd, count_on, slot_of};
+use crate::seat::ends::{InEnd, slot_of};
 use crate::table::rule::{Place, Top};
 use crate::table::steps::{hear, look_in, receive};
 use crate::table::wire::Wire;
@@ -59,7 +59,7 @@ fn hear_if_due<const CAP: usize>(
 {
     if ear.marks & wire.mask == 0 && ear.hears.saturating_add(end.look_ins) <= end.noted {
         ear.marks |= hear(top, place, link, wire.bell);
-        count_on(&mut ear.hears);
+        ear.hears = ear.hears.saturating_add(1);
     }
 }
 
@@ -102,7 +102,7 @@ fn look_if_marked<const CAP: usize>(
     if ear.marks & wire.mask != 0 {
         let found = look_in(top, place, link);
         end.waiting = found.wrapping_sub(end.taken) as u32;
-        count_on(&mut end.look_ins);
+        end.look_ins = end.look_ins.saturating_add(1);
         ear.marks ^= wire.mask;
         end.waiting
     } else {
@@ -157,8 +157,10 @@ fn find_parcel<const CAP: usize>(
         (in_of (own_logs place.new.me.0) link) }
 {
     if end.waiting == 0 {
-        hear_if_due(top, place, end, ear, wire, link);
-        look_if_marked(top, place, end, ear, wire, link)
+        // A copy, which no write through a reference can change: so the mark is tested once.
+        let wire = *wire;
+        hear_if_due(top, place, end, ear, &wire, link);
+        look_if_marked(top, place, end, ear, &wire, link)
     } else {
         end.waiting
     }

@@ -1,6 +1,5 @@
 //! What a rank's seat counts for each of its links, beside the table.
 ghost use Rattle.std.specs.Prelude.{◌≡◌, ℕ, ◌+◌, ◌*◌, ◌%◌, ◌^◌};
-ghost use Rattle.list_laws.specs.Counts.{counted};
 ghost use Rattle.port_bank.specs.Port.{IsSlots};
 
 /// The sender's end of a link.
@@ -33,14 +32,4 @@ pub(crate) fn slot_of(slots: u32, link: u32, count: u64) -> usize
     ensures { (n : ℕ) → count ≡ n % 2 ^ 64 → result ≡ slots * link + n % slots }
 {
     slots as usize * link as usize + (count & (slots - 1) as u64) as usize
-}
-
-/// Counts one more, unless the count stands still at its last number. A branch that is always taken costs less than a sum that saturates.
-#[inline]
-pub(crate) fn count_on(count: &mut u64)
-    ensures { count.new ≡ counted (count.old + 1) }
-{
-    if *count < u64::MAX {
-        *count += 1;
-    }
 }

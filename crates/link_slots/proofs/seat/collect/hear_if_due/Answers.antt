@@ -40,7 +40,7 @@ pub returns-then-saturating_add-end-clause-ear : goal.returns-then-saturating_ad
 returns-then-saturating_add-end-clause-ear g c =
     let key : Shape = c.args.top.now.key in let v : Knowing = c.args.place.now.me.0 in
     let o = own v c.hear.new.place.me.0 key c.requires.at.board.shape c.args.link c.hear.result c.hear.ensures.heard c.requires.at.manned.speaks c.requires.at.below c.requires.at.own c.requires.long in
-    subst (λ (z : Logs Contents × ℕ). IsHeard key v.pick (hop_at key.dims c.args.link) z.0 (bit_or c.args.ear.now.marks c.hear.result) z.1) (λ k. (sym o k, sym c.count_on.ensures k))
+    subst (λ (z : Logs Contents × ℕ). IsHeard key v.pick (hop_at key.dims c.args.link) z.0 (bit_or c.args.ear.now.marks c.hear.result) z.1) (λ k. (sym o k, sym c.saturating_add-ear.ensures k))
     (heard_marks key c.requires.at.board.shape v.pick c.args.link c.requires.at.below c.requires.at.own (own_logs v) c.requires.long c.hear.result c.args.ear.now.marks c.args.ear.now.hears c.requires.ear)
 
 pub returns-then-saturating_add-end-clause-others : goal.returns-then-saturating_add-end-clause-others

@@ -28,7 +28,7 @@ returns-then-ear-wire-ne0-clause-end g c =
     let looks : min (c.args.end.now.look_ins + 1) (2 ^ 64 - 1) ≡ counted (suc (in_of (own_logs v) l).look_ins) = (let e = c.requires.end.look_ins_is in omega arith) in
     end_looked_in key.slots (in_of (own_logs v) l) (in_of (own_logs v') l) c.args.end.now.taken c.args.end.now.look_ins c.args.end.now.noted c.look_in-found.result _ _
     (subst (λ (z : ℕ). IsInEnd key.slots (in_of (own_logs v) l) c.args.end.now.taken z c.args.end.now.look_ins c.args.end.now.noted) c.requires.none c.requires.end)
-    (ap (λ (i : InLog Contents). i.taken) at) (ap (λ (i : InLog Contents). i.look_ins) at) (ap (λ (i : InLog Contents). i.hears) at) f.0 f.1 (c.look_in-found.type_inv) refl (c.count_on.ensures ∙ looks)
+    (ap (λ (i : InLog Contents). i.taken) at) (ap (λ (i : InLog Contents). i.look_ins) at) (ap (λ (i : InLog Contents). i.hears) at) f.0 f.1 (c.look_in-found.type_inv) refl (c.saturating_add-end.ensures ∙ looks)
 
 pub returns-then-ear-wire-ne0-clause-ear : goal.returns-then-ear-wire-ne0-clause-ear
 returns-then-ear-wire-ne0-clause-ear g c =

@@ -64,10 +64,8 @@ impl<const CAP: usize> OutLink<CAP> {
         if at_end && !self.closed {
             return true;
         }
-        if self.parcel.len() == 0 {
-            return false;
-        }
-        steady || self.parcel.is_full()
+        let least = if steady { 1 } else { CAP as u32 };
+        self.parcel.len() >= least
     }
 
     /// Exchanges the parcel at hand for the link's. The link is closed from now on, or open, as told. Answers whether it was

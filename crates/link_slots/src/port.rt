@@ -1,20 +1,25 @@
 //! A rank's port: its seat, with the bank.
 ghost use Rattle.atomic_table.specs.Seated.{TableId};
 ghost use Rattle.link_slots.specs.Seen.{named};
-ghost use Rattle.std.specs.Prelude.{◌≡◌, ◌+◌, ◌==◌, true, length, refl};
+ghost use Rattle.std.specs.Prelude.{◌≡◌, ◌+◌, ◌==◌, suc, true, length, refl};
+ghost use Rattle.list_laws.specs.Lists.{changed};
+ghost use Rattle.port_bank.specs.Calls.{posts_of, collects_of};
 
 use crate::seat::SlotSeat;
 use crate::slot_bank::SlotBank;
 use bale_types::NoMemory;
 use item_buffer::Parcel;
 use port_bank::{Calls, Collected, Fixed, Memory, Port, Posted};
+use std::mem;
+use std::snapshot::Snapshot;
 
 /// The port of one rank at a slot bank. It takes no memory, and no call on it waits.
 #[derive(Drop)]
 pub struct SlotPort<'a, const CAP: usize> {
     bank: &'a SlotBank<CAP>,
     seat: SlotSeat<CAP>,
-    calls: Calls,
+    /// The calls on the port, which contracts alone see: none of them is kept.
+    calls: Snapshot<Calls>,
     pub ghost own: { (seat.id ≡ bank.now.id) × (seat.shape ≡ bank.now.shape) },
 }
 
@@ -27,7 +32,7 @@ impl<const CAP: usize> SlotBank<CAP> {
         SlotPort {
             bank: self,
             seat,
-            calls: Calls::None,
+            calls: Snapshot::of(&Calls::None),
         }
     }
 }
@@ -74,9 +79,9 @@ impl<'a, const CAP: usize> Port<CAP> for SlotPort<'a, CAP> {
 
     ghost idle = { λ p l. length (collected_from p.seat l) == known p.seat l };
 
-    ghost posts = { λ p. posts_of p.calls };
+    ghost posts = { λ p. posts_of p.calls.value };
 
-    ghost collects = { λ p. collects_of p.calls };
+    ghost collects = { λ p. collects_of p.calls.value };
 
     ghost looks_out = { λ p l. (out_of p.seat.lists l).looks };
 
@@ -101,14 +106,38 @@ impl<'a, const CAP: usize> Port<CAP> for SlotPort<'a, CAP> {
     }
 
     fn post(&mut self, link: u32, p: &mut Parcel<CAP>) -> Result<Posted, NoMemory> {
-        self.calls.note_post(link, true);
+        note_post(&mut self.calls, link);
         Ok(self.seat.post(self.bank, link, p))
     }
 
     fn collect(&mut self, link: u32, p: &mut Parcel<CAP>) -> Collected {
-        self.calls.note_collect(link);
+        note_collect(&mut self.calls, link);
         self.seat.collect(self.bank, link, p)
     }
+}
+
+/// Notes a post on a link.
+#[inline]
+fn note_post(calls: &mut Snapshot<Calls>, link: u32)
+    ensures posts { posts_of calls.new.value
+        ≡ changed (posts_of calls.old.value) link (suc (posts_of calls.old.value link)) }
+    ensures collects { collects_of calls.new.value ≡ collects_of calls.old.value }
+{
+    let before = mem::replace(calls, Snapshot::of(&Calls::None));
+    let all = Calls::Post(before, Snapshot::of(&link));
+    *calls = Snapshot::of(&all);
+}
+
+/// Notes a collect from a link.
+#[inline]
+fn note_collect(calls: &mut Snapshot<Calls>, link: u32)
+    ensures collects { collects_of calls.new.value
+        ≡ changed (collects_of calls.old.value) link (suc (collects_of calls.old.value link)) }
+    ensures posts { posts_of calls.new.value ≡ posts_of calls.old.value }
+{
+    let before = mem::replace(calls, Snapshot::of(&Calls::None));
+    let all = Calls::Collect(before, Snapshot::of(&link));
+    *calls = Snapshot::of(&all);
 }
 
 // Callers stand on it: no call on a slot port takes memory.

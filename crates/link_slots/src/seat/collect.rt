@@ -63,7 +63,7 @@ fn hear_if_due<const CAP: usize>(
     }
 }
 
-/// Looks into the link where it is marked, and takes its mark away.
+/// Looks into the link where it is marked, and takes its mark away. Answers how many parcels are at hand then.
 fn look_if_marked<const CAP: usize>(
     top: &Top<CAP>,
     place: &mut Place<CAP>,
@@ -71,7 +71,7 @@ fn look_if_marked<const CAP: usize>(
     ear: &mut Ear,
     wire: &Wire,
     link: u32,
-)
+) -> u32
     requires at { IsAtIn top.now.key top.now.table_id place.old.table_id place.old.me link }
     requires long { length (own_logs place.old.me.0).ins ≡ links top.now.key.dims }
     requires end { IsInEnd top.now.key.slots (in_of (own_logs place.old.me.0) link) end.old.taken
@@ -92,6 +92,7 @@ fn look_if_marked<const CAP: usize>(
     ensures seen { take (length (in_of (own_logs place.old.me.0) link).seen) (in_of (own_logs place.new.me.0) link).seen
         ≡ (in_of (own_logs place.old.me.0) link).seen }
     ensures taken { (in_of (own_logs place.new.me.0) link).taken ≡ (in_of (own_logs place.old.me.0) link).taken }
+    ensures waiting { result ≡ end.new.waiting }
     ensures noted { end.new.noted ≡ end.old.noted }
     ensures unmarked { (in_of (own_logs place.new.me.0) link).marked ≡ false }
     ensures more { listens (in_of (own_logs place.old.me.0) link) ≤ listens (in_of (own_logs place.new.me.0) link) }
@@ -103,10 +104,13 @@ fn look_if_marked<const CAP: usize>(
         end.waiting = found.wrapping_sub(end.taken) as u32;
         end.look_ins = end.look_ins.saturating_add(1);
         ear.marks ^= wire.mask;
+        end.waiting
+    } else {
+        0
     }
 }
 
-/// Finds whether a parcel of the link is at hand: where none is, it hears the doorbell if that is due, and looks into the link if it is
+/// Finds how many parcels of the link are at hand: where none is, it hears the doorbell if that is due, and looks into the link if it is
 /// marked. It makes no other step.
 fn find_parcel<const CAP: usize>(
     top: &Top<CAP>,
@@ -115,7 +119,7 @@ fn find_parcel<const CAP: usize>(
     ear: &mut Ear,
     wire: &Wire,
     link: u32,
-)
+) -> u32
     requires at { IsAtIn top.now.key top.now.table_id place.old.table_id place.old.me link }
     requires long { length (own_logs place.old.me.0).ins ≡ links top.now.key.dims }
     requires end { IsInEnd top.now.key.slots (in_of (own_logs place.old.me.0) link) end.old.taken
@@ -135,6 +139,7 @@ fn find_parcel<const CAP: usize>(
     ensures seen { take (length (in_of (own_logs place.old.me.0) link).seen) (in_of (own_logs place.new.me.0) link).seen
         ≡ (in_of (own_logs place.old.me.0) link).seen }
     ensures taken { (in_of (own_logs place.new.me.0) link).taken ≡ (in_of (own_logs place.old.me.0) link).taken }
+    ensures waiting { result ≡ end.new.waiting }
     ensures noted { end.new.noted ≡ end.old.noted }
     ensures more { listens (in_of (own_logs place.old.me.0) link) ≤ listens (in_of (own_logs place.new.me.0) link) }
     ensures unmarked { end.new.waiting ≡ 0 → (in_of (own_logs place.new.me.0) link).marked ≡ false }
@@ -152,8 +157,12 @@ fn find_parcel<const CAP: usize>(
         (in_of (own_logs place.new.me.0) link) }
 {
     if end.waiting == 0 {
-        hear_if_due(top, place, end, ear, wire, link);
-        look_if_marked(top, place, end, ear, wire, link);
+        // A copy, which no write through a reference can change: so the mark is tested once.
+        let wire = *wire;
+        hear_if_due(top, place, end, ear, &wire, link);
+        look_if_marked(top, place, end, ear, &wire, link)
+    } else {
+        end.waiting
     }
 }
 
@@ -218,8 +227,7 @@ pub(crate) fn collect_on<const CAP: usize>(
     ensures own { result ≡ Collected.Got → sender_at top.now.key.dims link ≡ place.old.me.0.pick
         → Begins (in_of (own_logs place.new.me.0) link).seen (out_of (own_logs place.new.me.0) link).sent }
 {
-    find_parcel(top, place, end, ear, wire, link);
-    if end.waiting == 0 {
+    if find_parcel(top, place, end, ear, wire, link) == 0 {
         end.noted = ear.hears.saturating_add(end.look_ins);
         return Collected::Nothing;
     }

@@ -31,5 +31,5 @@ pub(crate) fn slot_of(slots: u32, link: u32, count: u64) -> usize
     requires { IsSlots slots }
     ensures { (n : ℕ) → count ≡ n % 2 ^ 64 → result ≡ slots * link + n % slots }
 {
-    slots as usize * link as usize + (count & (slots as u64 - 1)) as usize
+    slots as usize * link as usize + (count & (slots - 1) as u64) as usize
 }

@@ -30,7 +30,7 @@ returns-clause-end g c =
     let i2 : InLog Contents = in_of (own_logs v2) l in
     let a = at v2 v3 l c.receive.ensures.released f.stays.seat.speaks (let w = f.others.long in let u = c.requires.long in let h = c.requires.at.below in omega arith) in
     let k : ℕ = c.find_parcel.new.end.waiting - 1 in
-    let more : c.find_parcel.new.end.waiting ≡ suc k = (let n = c.if-end-eq0.false in omega arith) in
+    let more : c.find_parcel.new.end.waiting ≡ suc k = (let n = c.if-find_parcel-eq0.false in let w = c.find_parcel.ensures.waiting in omega arith) in
     let hs : c.find_parcel.new.ear.hears ≡ counted i2.hears = f.ear.heard l c.requires.at.below c.requires.at.own refl in
     let ks : c.find_parcel.new.end.look_ins ≡ counted i2.look_ins = f.end.look_ins_is in
     let noted : min (c.find_parcel.new.ear.hears + c.find_parcel.new.end.look_ins) (2 ^ 64 - 1) ≡ counted (i2.hears + i2.look_ins) = omega arith in

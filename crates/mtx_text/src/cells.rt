@@ -8,6 +8,7 @@ ghost use Rattle.mtx_text.specs.Maps.{is_at};
 ghost use Rattle.mtx_text.specs.Cells.{is_before, comes_before, InOrder, raised, raised_all, gathered, first_from};
 ghost use Rattle.mtx_text.specs.code.PlaceOrder.{IsOrderedFront};
 
+use crate::append::append;
 use crate::place_order::{comes_before, gather, greater, is_before};
 use bale_types::{NoMemory, Triple};
 use std::alloc::{AllocError, Global};
@@ -63,20 +64,7 @@ impl Cells {
     pub fn raise(&mut self, i: u32, j: u32, v: i64) -> Result<(), NoMemory>
         ensures { AllOrNothing (raised (record { i = i; j = j; v = v }) self.old) self.old self.new result }
     {
-        let t = Triple { i, j, v };
-        if self.triples.len() < self.triples.capacity() {
-            self.triples.push_reserved(t);
-            return Ok(());
-        }
-        self.raise_full(t)
-    }
-
-    /// The same where the list has to grow: kept apart, so that the others are few steps.
-    #[inline(never)]
-    fn raise_full(&mut self, t: Triple) -> Result<(), NoMemory>
-        ensures { AllOrNothing (raised t self.old) self.old self.new result }
-    {
-        self.triples.push(t)?;
+        append(&mut self.triples, Triple { i, j, v })?;
         Ok(())
     }
 

@@ -5,6 +5,7 @@ ghost use Rattle.mtx_text.specs.Grammar.{stands_for};
 ghost use Rattle.mtx_text.specs.code.PlainLines.{NoneCounts};
 ghost use Rattle.mtx_text.specs.code.Drafts.{CanRead, ReadsOn, IsNext, AddsLine, IsDraft};
 
+use crate::append::append;
 use crate::banner::{Form, Symmetry};
 use crate::cell::{mirror, plain_cell, read_cell};
 use crate::lines::{Kept, first_kept, next_kept};
@@ -204,25 +205,4 @@ fn push(
             Ok(())
         }
     }
-}
-
-/// Appends one entry.
-#[inline(always)]
-fn append(entries: &mut Vec<Triple>, t: Triple) -> Result<(), AllocError>
-    ensures { OnOk result (entries.new.items ≡ entries.old.items ++ t ∷ []) }
-{
-    if entries.len() < entries.capacity() {
-        entries.push_reserved(t);
-        return Ok(());
-    }
-    append_full(entries, t)
-}
-
-/// The same where the list has to grow: kept apart, so that the others are few steps.
-#[inline(never)]
-fn append_full(entries: &mut Vec<Triple>, t: Triple) -> Result<(), AllocError>
-    ensures { OnOk result (entries.new.items ≡ entries.old.items ++ t ∷ []) }
-{
-    entries.push(t)?;
-    Ok(())
 }

@@ -26,6 +26,7 @@
 #![tactic(auto)]
 
 mod apart;
+mod append;
 mod banner;
 mod careful;
 mod cell;

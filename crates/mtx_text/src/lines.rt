@@ -1,7 +1,7 @@
 //! A text cut into lines, one line at a time and without a copy.
 ghost use Rattle.std.specs.Prelude.{◌≡◌, not, false, ℕ, ◌+◌, ◌<◌, ◌≤◌, ◌^◌, length, take, drop, slice_index, [], ◌∷◌, IfOk, IfErr};
 ghost use Rattle.mtx_text.specs.Lines.{lines_of, words_of, lines_from, without_cr, is_blank, is_skipped};
-ghost use Rattle.mtx_text.specs.code.Cuts.{CutsAt};
+ghost use Rattle.mtx_text.specs.code.Cuts.{CutsAt, CutsLine};
 ghost use Rattle.mtx_text.specs.code.PlainLines.{CountsAt, IsFirstKept, NoneCounts};
 
 use crate::words::trimmed;
@@ -80,8 +80,7 @@ fn counts(line: &[u8]) -> bool
 #[tactic(auto, using(crate::proofs::Cuts::lines_cut))]
 pub(crate) fn cut_line(text: &[u8]) -> (&[u8], &[u8])
     requires { 0 < length text.now }
-    ensures lines { lines_of text.now ≡ result.0.now ∷ lines_of result.1.now }
-    ensures shorter { length result.1.now < length text.now }
+    ensures { CutsLine text.now result.0.now result.1.now }
 {
     let end = piece_len(text);
     let (piece, rest) = text.split_at(end);

@@ -3,7 +3,7 @@ ghost use Rattle.std.specs.Prelude.{◌≡◌, ◌<◌, false, length, slice_ind
 ghost use Rattle.std.specs.Option.{option_map};
 ghost use Rattle.mtx_text.specs.Lines.{words_of, is_blank};
 ghost use Rattle.mtx_text.specs.Grammar.{three_of};
-ghost use Rattle.mtx_text.specs.code.Cuts.{WordTo};
+ghost use Rattle.mtx_text.specs.code.Cuts.{BeginsWord, IsTrimmed, WordTo};
 
 /// Three words.
 #[derive(Clone, Copy)]
@@ -25,8 +25,7 @@ pub(crate) fn is_blank(b: u8) -> bool
 #[tactic(auto, using(crate::proofs::Cuts::blank_at))]
 #[inline(always)]
 pub(crate) fn trimmed(line: &[u8]) -> &[u8]
-    ensures words { words_of result.now ≡ words_of line.now }
-    ensures begins { 0 < length result.now → is_blank (slice_index result.now 0) ≡ false }
+    ensures { IsTrimmed line.now result.now }
 {
     for (i, b) in line.iter().enumerate() {
         if !is_blank(*b) {
@@ -63,8 +62,7 @@ pub(crate) fn first_word(line: &[u8]) -> Option<(&[u8], &[u8])>
 /// The same of a line that begins with a word.
 #[tactic(auto, using(crate::proofs::Cuts::word_cut))]
 pub(crate) fn cut_word(line: &[u8]) -> (&[u8], &[u8])
-    requires some { 0 < length line.now }
-    requires begins { is_blank (slice_index line.now 0) ≡ false }
+    requires { BeginsWord line.now }
     ensures { words_of line.now ≡ result.0.now ∷ words_of result.1.now }
 {
     line.split_at(word_len(line))

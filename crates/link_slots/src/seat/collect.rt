@@ -157,10 +157,8 @@ fn find_parcel<const CAP: usize>(
         (in_of (own_logs place.new.me.0) link) }
 {
     if end.waiting == 0 {
-        // A copy, which no write through a reference can change: so the mark is tested once.
-        let wire = *wire;
-        hear_if_due(top, place, end, ear, &wire, link);
-        look_if_marked(top, place, end, ear, &wire, link)
+        hear_if_due(top, place, end, ear, wire, link);
+        look_if_marked(top, place, end, ear, wire, link)
     } else {
         end.waiting
     }

@@ -1,5 +1,5 @@
 -- Links at their two ends, and why ranks that have finished as many rounds don't keep each other.
-use Rattle.std.proofs.Common.{◌≡◌, ◌⊎◌, ℕ, zero, suc, ◌+◌, ◌*◌, ◌<◌, ◌≤◌, ◌||◌, Bool, true, false, cond, List, [], ◌∷◌, ◌++◌, length, refl, sym, ap, subst, ◌∙◌, arith, inl, inr}
+use Rattle.std.proofs.Common.{◌≡◌, ◌⊎◌, ℕ, zero, suc, ◌+◌, ◌<◌, ◌≤◌, ◌||◌, Bool, true, false, cond, List, [], ◌∷◌, ◌++◌, length, refl, ap, subst, ◌∙◌, arith, inl, inr}
 use Rattle.std.proofs.lemmas.Bool.{cases_Bool, false≢true, eq-eqb}
 use Rattle.std.proofs.lemmas.List.{length-append}
 use Rattle.item_buffer.specs.Contents.{Shipped}
@@ -11,7 +11,7 @@ use Rattle.exstack.specs.declared.stage.Stage.{Stage}
 use Rattle.exstack.specs.declared.stage.Stage.TheVariants.{Start, Proceeding, Filling, Exchanging, Full, AllDone}
 use Rattle.exstack.specs.Links.{no_out, no_in}
 use Rattle.exstack.specs.State.{State, out_at, in_at, number, link_to, link_from, is_proceeding, is_exchanging}
-use Rattle.exstack.specs.Agreement.{LinkAgrees, AgreesIn, rounds_in}
+use Rattle.exstack.specs.Agreement.{LinkAgrees, rounds_in}
 use Rattle.exstack.specs.Standing.{IsOut, IsIn}
 use Rattle.exstack.specs.Lockstep.{finished_in, HasFinished, IsPosted, HasPosted, InStep}
 use Rattle.exstack.proofs.OneHop.{number_within, number_sender, number_reader}

@@ -4,6 +4,7 @@ use Rattle.std.specs.List.{position}
 use Rattle.std.proofs.lemmas.Bool.{false≢true, true_from_ne_false}
 use Rattle.std.proofs.lemmas.List.Folds.{list_all_at}
 use Rattle.std.proofs.lemmas.List.{get_or_default}
+use Rattle.port_bank.specs.declared.port.Port.{Ghosts}
 use Rattle.port_bank.specs.Logs.{Logs}
 use Rattle.exstack.specs.declared.stage.Stage.{Stage}
 use Rattle.exstack.specs.declared.stage.Stage.TheVariants.{Proceeding, Filling, Exchanging, Full, AllDone}
@@ -15,6 +16,7 @@ use Rattle.exstack.specs.Links.{Out, In, no_out, no_in}
 use Rattle.exstack.specs.State.{State, out_at, in_at, link_to, link_from, missing_link, missing_out, missing_in, all_ended, stage_of_proceed, stage_of_exchange}
 use Rattle.exstack.specs.Standing.{IsOut, IsIn, IsStack, IsKept}
 use Rattle.exstack.specs.Agreement.{LinkAgrees, AgreesIn, rounds_in}
+use Rattle.exstack.specs.Steps.{AsksOnce}
 use Rattle.exstack.proofs.Calls.{not_both}
 use Rattle.exstack.proofs.Places.{none_passes}
 
@@ -132,3 +134,7 @@ proceed_rounds n (proceed.NotYet link) = refl
 pub exchange_rounds : (n : ℕ) (p : Poll) → rounds_in n Exchanging ≡ rounds_in n (stage_of_exchange p)
 exchange_rounds n poll.Ready = refl
 exchange_rounds n (poll.NotYet link) = refl
+
+-- the stage says nothing of what was asked
+pub asks_staged : {P : Type 0} {cap : ℕ} {M : Type 0} (G : Ghosts P cap M) (begun st : State) (stage : Stage) (port port' : P) → AsksOnce G begun st port port' → AsksOnce G begun (record st { stage = stage }) port port'
+asks_staged G begun st stage port port' a = record { looked = a.looked; crowded = a.crowded; asked = a.asked; posts = a.posts; collects = a.collects }

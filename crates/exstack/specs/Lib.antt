@@ -5,5 +5,6 @@ pub mod Cycles
 pub mod Agreement
 pub mod Parts
 pub mod Standing
+pub mod Demands
 pub mod Law
 pub mod Lockstep

@@ -2,6 +2,9 @@
 use Rattle.std.specs.Prelude.{◌≡◌, ℕ, ◌-◌, ◌<◌, ◌≤◌, Bool, true, false, not, ◌&&◌, cond, List, [], ◌∷◌, ◌++◌, length, slice_index_or}
 use Rattle.bale_types.specs.Stream.{RoseOrFull}
 use Rattle.item_buffer.specs.Contents.{Shipped}
+use Rattle.port_bank.specs.declared.port.Port.{Ghosts}
+use Rattle.port_bank.specs.Calls.{once_more_if}
+use Rattle.port_bank.specs.Frames.{SamePort, SameIns, SameOuts}
 use Rattle.port_bank.specs.Logs.{Logs}
 use Rattle.list_laws.specs.Lists.{Begins}
 use Rattle.exstack.specs.Links.{Out, In, no_out, parcel_of, gone, came}
@@ -39,9 +42,48 @@ pub record StopsAt (ranks rank : ℕ) (outs : List Out) (posts posts' : ℕ → 
   pub due : (slice_index_or outs to no_out).due ≡ true
   pub later : (b : ℕ) → to ≤ b → b < ranks → posts' (number ranks rank b) ≡ posts (number ranks rank b)
 
+-- What posts leave of a port: its links in, and what was sent.
+pub record LeftByPosts {P : Type 0} {cap : ℕ} {M : Type 0} (G : Ghosts P cap M) (port port' : P) : Type 0 where
+  pub grows : (l : ℕ) → Begins (G.sent port l) (G.sent port' l)
+  pub same_ins : SameIns G port port'
+  pub same_port : SamePort G port port'
+
+-- What collects leave of a port: its links out, and what was got. A link is as crowded as before unless something was got
+-- on it.
+pub record LeftByCollects {P : Type 0} {cap : ℕ} {M : Type 0} (G : Ghosts P cap M) (port port' : P) : Type 0 where
+  pub grows : (l : ℕ) → Begins (G.got port l) (G.got port' l)
+  pub crowded : (l : ℕ) → G.got port' l ≡ G.got port l → G.crowded port' l ≡ G.crowded port l
+  pub same_outs : SameOuts G port port'
+  pub same_port : SamePort G port port'
+
+-- A port of rank me, on a grid of one hop with so many ranks.
+pub record IsPortOf {P : Type 0} {cap : ℕ} {M : Type 0} (G : Ghosts P cap M) (ranks me : ℕ) (port : P) : Type 0 where
+  pub dims : G.dims port ≡ ranks ∷ []
+  pub rank : G.rank port ≡ me
+  pub within : me < ranks
+  pub few : ranks ≤ 64
+
 -- A round, or what a poll makes of it: on each link out at most one post, and on each link in at most one collect.
 pub record MadeRound (last exchange : Bool) (old new : State) (sent sent' got got' : Logs) : Type 0 where
   pub posted : (b : ℕ) → b < old.ranks → WasPosted last old.epoch (out_at old b) (out_at new b) (sent (link_to old b)) (sent' (link_to old b))
   pub collected : (a : ℕ) → a < old.ranks → WasCollected exchange (in_at old a) (in_at new a) (got (link_from old a)) (got' (link_from old a))
   pub sent_grows : (l : ℕ) → Begins (sent l) (sent' l)
   pub got_grows : (l : ℕ) → Begins (got l) (got' l)
+
+-- What a round asks of its port where it has memory: once for each link on which a parcel is due as it begins, and for no
+-- other.
+-- looked, crowded: for a link out whose parcel is due still the port looked for room in this call, and the link is crowded,
+-- unless something was got on it meanwhile.
+-- asked: on a link in whose parcel is due still it listened in vain.
+pub record AsksOnce {P : Type 0} {cap : ℕ} {M : Type 0} (G : Ghosts P cap M) (begun new : State) (port port' : P) : Type 0 where
+  pub looked : (b : ℕ) → b < begun.ranks → (out_at new b).due ≡ true → RoseOrFull (G.looks_out port (link_to begun b)) (G.looks_out port' (link_to begun b))
+  pub crowded : (b : ℕ) → b < begun.ranks → (out_at new b).due ≡ true → G.got port' (link_to begun b) ≡ G.got port (link_to begun b)
+      → G.crowded port' (link_to begun b) ≡ true
+  pub asked : (a : ℕ) → a < begun.ranks → (in_at new a).due ≡ true → InVain (G.noted port (link_from begun a)) (G.noted port' (link_from begun a)) (G.idle port' (link_from begun a))
+  pub posts : (b : ℕ) → b < begun.ranks → G.posts port' (link_to begun b) ≡ once_more_if (out_at begun b).due (G.posts port (link_to begun b))
+  pub collects : (a : ℕ) → a < begun.ranks → G.collects port' (link_from begun a) ≡ once_more_if (in_at begun a).due (G.collects port (link_from begun a))
+
+-- And without memory: it stops at the link that found none, and collects nothing.
+pub record StopsShort {P : Type 0} {cap : ℕ} {M : Type 0} (G : Ghosts P cap M) (new : State) (port port' : P) : Type 0 where
+  pub stops : StopsAt new.ranks new.rank new.outs (G.posts port) (G.posts port')
+  pub no_collect : G.collects port' ≡ G.collects port

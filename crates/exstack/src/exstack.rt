@@ -1,21 +1,20 @@
 //! The exstack of one rank: what a program pushes, polls and pops.
 ghost use Rattle.std.specs.Prelude.{◌≡◌, ℕ, ◌^◌, ◌<◌, true, false, [], length, is_some, slice_get, Some, None, IfOk, IfSome, OnOk, IsOk, IsErr, Ok};
-ghost use Rattle.bale_types.specs.Stream.{RoseOrFull};
 ghost use Rattle.item_buffer.specs.Capacity.{IsCap};
 ghost use Rattle.route_tensor.specs.Grid.{ranks};
 ghost use Rattle.port_bank.specs.Logs.{Logs};
 ghost use Rattle.port_bank.specs.Machine.{IsOwnStep};
 ghost use Rattle.port_bank.specs.Machine.Step.{Push, Pull, Unpull, Reset, Idle};
-ghost use Rattle.port_bank.specs.Calls.{once_more_if};
 ghost use Rattle.port_bank.specs.Frames.{SamePort};
 ghost use Rattle.exstack.specs.Links.{headroom_of};
-ghost use Rattle.exstack.specs.State.{new_stack, out_at, in_at, dims_of, link_to, link_from, least_headroom, unread_of, lowest_unread, pushed_on, pop_from, popped_from, pops, unpopped, after_reset};
+ghost use Rattle.exstack.specs.State.{new_stack, out_at, in_at, dims_of, link_from, least_headroom, unread_of, lowest_unread, pushed_on, pop_from, popped_from, pops, unpopped, after_reset};
 ghost use Rattle.exstack.specs.State.{may_proceed, may_exchange, in_proceed, in_exchange, missing_link, all_ended, proceed_answer, exchange_answer, stage_of_proceed, stage_of_exchange};
-ghost use Rattle.exstack.specs.Steps.{MadeRound, InVain, StopsAt};
+ghost use Rattle.exstack.specs.Steps.{MadeRound, AsksOnce, StopsShort};
 ghost use Rattle.exstack.specs.Agreement.{AgreesIn, AgreesWith, cycle_after};
 ghost use Rattle.exstack.specs.Cycles.{exchange_parcel, entries_in};
 ghost use Rattle.exstack.specs.Parts.{IsStepOf, KeepsAgreement, GivesNext, AreOwnSteps, proceed_steps, is_all_done, part_of, IsAtPort};
 ghost use Rattle.exstack.specs.Standing.{IsStack};
+ghost use Rattle.exstack.specs.Demands.{MayPush};
 
 use crate::stack::Stack;
 use crate::stage::{Poll, Proceed, Stage};
@@ -99,9 +98,7 @@ impl<const CAP: usize> Exstack<CAP> {
     /// refusal.
     #[inline]
     pub fn push(&mut self, item: Item, to: u32) -> u64
-        requires filling { self.old.stage ≡ Stage.Filling }
-        requires not_done { self.old.done ≡ false }
-        requires to { to < self.old.ranks }
+        requires may { MayPush self.old to }
         ensures headroom { result ≡ headroom_of CAP (out_at self.old to) }
         ensures pushed { 0 < result → self.new ≡ pushed_on self.old item to }
         ensures full { result ≡ 0 → self.new ≡ record self.old { popped = None } }
@@ -226,27 +223,13 @@ impl<const CAP: usize> Exstack<CAP> {
             (part_of self.old (P.sent port.old) (P.got port.old))
             (part_of self.new (P.sent port.new) (P.got port.new)) }
 
-        // What was posted and collected, and what was looked for in vain.
+        // What was posted and collected.
         ensures round { MadeRound done false (in_proceed done self.old) self.new (P.sent port.old) (P.sent port.new)
             (P.got port.old) (P.got port.new) }
-        ensures looked { IsOk result → (b : ℕ) → b < self.old.ranks → (out_at self.new b).due ≡ true
-            → RoseOrFull (P.looks_out port.old (link_to self.old b)) (P.looks_out port.new (link_to self.old b)) }
-        ensures crowded { IsOk result → (b : ℕ) → b < self.old.ranks → (out_at self.new b).due ≡ true
-            → P.got port.new (link_to self.old b) ≡ P.got port.old (link_to self.old b)
-            → P.crowded port.new (link_to self.old b) ≡ true }
-        ensures asked { IsOk result → (a : ℕ) → a < self.old.ranks → (in_at self.new a).due ≡ true
-            → InVain (P.noted port.old (link_from self.old a)) (P.noted port.new (link_from self.old a))
-            (P.idle port.new (link_from self.old a)) }
 
-        // The port is asked once for each link on which a parcel is due, and for no other; without memory it stops at the
-        // link that found none, and collects nothing.
-        ensures posts { OnOk result ((b : ℕ) → b < self.old.ranks → P.posts port.new (link_to self.old b)
-            ≡ once_more_if (out_at (in_proceed done self.old) b).due (P.posts port.old (link_to self.old b))) }
-        ensures stops { IsErr result
-            → StopsAt self.new.ranks self.new.rank self.new.outs (P.posts port.old) (P.posts port.new) }
-        ensures collects { OnOk result ((a : ℕ) → a < self.old.ranks → P.collects port.new (link_from self.old a)
-            ≡ once_more_if (in_at (in_proceed done self.old) a).due (P.collects port.old (link_from self.old a))) }
-        ensures no_collect { IsErr result → P.collects port.new ≡ P.collects port.old }
+        // What the port was asked, with memory and without.
+        ensures asks { OnOk result (AsksOnce P.Port (in_proceed done self.old) self.new port.old port.new) }
+        ensures stops { IsErr result → StopsShort P.Port self.new port.old port.new }
     {
         self.stack.begin_proceed(done);
         let missing = self.stack.go_round(port, done, false)?;
@@ -284,27 +267,13 @@ impl<const CAP: usize> Exstack<CAP> {
         ensures step { IsOwnStep Idle (part_of self.old (P.sent port.old) (P.got port.old))
             (part_of self.new (P.sent port.new) (P.got port.new)) }
 
-        // What was posted and collected, and what was looked for in vain.
+        // What was posted and collected.
         ensures round { MadeRound false true (in_exchange self.old) self.new (P.sent port.old) (P.sent port.new)
             (P.got port.old) (P.got port.new) }
-        ensures looked { IsOk result → (b : ℕ) → b < self.old.ranks → (out_at self.new b).due ≡ true
-            → RoseOrFull (P.looks_out port.old (link_to self.old b)) (P.looks_out port.new (link_to self.old b)) }
-        ensures crowded { IsOk result → (b : ℕ) → b < self.old.ranks → (out_at self.new b).due ≡ true
-            → P.got port.new (link_to self.old b) ≡ P.got port.old (link_to self.old b)
-            → P.crowded port.new (link_to self.old b) ≡ true }
-        ensures asked { IsOk result → (a : ℕ) → a < self.old.ranks → (in_at self.new a).due ≡ true
-            → InVain (P.noted port.old (link_from self.old a)) (P.noted port.new (link_from self.old a))
-            (P.idle port.new (link_from self.old a)) }
 
-        // The port is asked once for each link on which a parcel is due, and for no other; without memory it stops at the
-        // link that found none, and collects nothing.
-        ensures posts { OnOk result ((b : ℕ) → b < self.old.ranks → P.posts port.new (link_to self.old b)
-            ≡ once_more_if (out_at (in_exchange self.old) b).due (P.posts port.old (link_to self.old b))) }
-        ensures stops { IsErr result
-            → StopsAt self.new.ranks self.new.rank self.new.outs (P.posts port.old) (P.posts port.new) }
-        ensures collects { OnOk result ((a : ℕ) → a < self.old.ranks → P.collects port.new (link_from self.old a)
-            ≡ once_more_if (in_at (in_exchange self.old) a).due (P.collects port.old (link_from self.old a))) }
-        ensures no_collect { IsErr result → P.collects port.new ≡ P.collects port.old }
+        // What the port was asked, with memory and without.
+        ensures asks { OnOk result (AsksOnce P.Port (in_exchange self.old) self.new port.old port.new) }
+        ensures stops { IsErr result → StopsShort P.Port self.new port.old port.new }
 
         // A parcel that this poll collected is the exchange parcel of its cycle, and all of it is unread.
         ensures whole { (n a : ℕ) → AgreesIn n self.old (P.sent port.old) (P.got port.old) → a < self.old.ranks

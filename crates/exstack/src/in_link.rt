@@ -7,9 +7,9 @@ ghost use Rattle.route_tensor.specs.Link.{links};
 ghost use Rattle.route_tensor.specs.Ends.{sender_at, reader_at};
 ghost use Rattle.port_bank.specs.Logs.{lasts};
 ghost use Rattle.port_bank.specs.Calls.{once_more_if};
-ghost use Rattle.port_bank.specs.Frames.{SamePort, SameOuts, InsElsewhere};
+ghost use Rattle.port_bank.specs.Frames.{InsElsewhere};
 ghost use Rattle.exstack.specs.Links.{no_in, with_first_read, with_back, read_on, begun_in, resumed, has_unread};
-ghost use Rattle.exstack.specs.Steps.{WasCollected, InVain};
+ghost use Rattle.exstack.specs.Steps.{WasCollected, InVain, LeftByCollects};
 
 use bale_types::{Entry, NoMemory};
 use item_buffer::Parcel;
@@ -150,10 +150,7 @@ impl<const CAP: usize> InLink<CAP> {
         ensures own { sender_at (P.dims port.old) link ≡ P.rank port.old
             → Begins (P.got port.old link) (P.sent port.old link)
             → Begins (P.got port.new link) (P.sent port.new link) }
-        ensures grows { (m : ℕ) → Begins (P.got port.old m) (P.got port.new m) }
-        ensures crowded { (m : ℕ) → P.got port.new m ≡ P.got port.old m → P.crowded port.new m ≡ P.crowded port.old m }
-        ensures same_outs { SameOuts P.Port port.old port.new }
-        ensures same_port { SamePort P.Port port.old port.new }
+        ensures left { LeftByCollects P.Port port.old port.new }
     {
         if !self.due {
             return;

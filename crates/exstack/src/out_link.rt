@@ -1,6 +1,5 @@
 //! One link out of a rank: the parcel that is filled for it, and posted once a round.
 ghost use Rattle.std.specs.Prelude.{◌≡◌, ℕ, ◌-◌, ◌<◌, ◌≤◌, true, false, length, IfOk, OnOk, IsOk, IsErr};
-ghost use Rattle.list_laws.specs.Lists.{Begins};
 ghost use Rattle.item_buffer.specs.Capacity.{IsCap};
 ghost use Rattle.route_tensor.specs.Grid.{IsGrid};
 ghost use Rattle.route_tensor.specs.Link.{links};
@@ -8,9 +7,9 @@ ghost use Rattle.route_tensor.specs.Ends.{sender_at};
 ghost use Rattle.port_bank.specs.Logs.{lasts};
 ghost use Rattle.port_bank.specs.Calls.{once_more_if};
 ghost use Rattle.port_bank.specs.Relay.{RelayLaw};
-ghost use Rattle.port_bank.specs.Frames.{SameIns, SamePort, OutsElsewhere};
+ghost use Rattle.port_bank.specs.Frames.{OutsElsewhere};
 ghost use Rattle.exstack.specs.Links.{no_out, no_tag, with_entry, headroom_of, begun_out, reopened};
-ghost use Rattle.exstack.specs.Steps.{WasPosted, InVain};
+ghost use Rattle.exstack.specs.Steps.{WasPosted, InVain, LeftByPosts};
 
 use bale_types::{Entry, NoMemory};
 use item_buffer::Parcel;
@@ -123,10 +122,8 @@ impl<const CAP: usize> OutLink<CAP> {
         ensures no_post { IsErr result → P.posts port.new ≡ P.posts port.old }
         ensures still_due { IsErr result → self.new.due ≡ true }
         ensures law { RelayLaw (P.dims port.old) (P.rank port.old) (P.sent port.new) (P.got port.old) }
-        ensures grows { (m : ℕ) → Begins (P.sent port.old m) (P.sent port.new m) }
         ensures memory { P.Memory.GROWS ≡ false → IsOk result }
-        ensures same_ins { SameIns P.Port port.old port.new }
-        ensures same_port { SamePort P.Port port.old port.new }
+        ensures left { LeftByPosts P.Port port.old port.new }
     {
         if !self.due {
             return Ok(());

@@ -6,10 +6,10 @@ ghost use Rattle.item_buffer.specs.Capacity.{IsCap};
 ghost use Rattle.port_bank.specs.Logs.{lasts};
 ghost use Rattle.port_bank.specs.Relay.{RelayLaw};
 ghost use Rattle.port_bank.specs.Calls.{once_more_if};
-ghost use Rattle.port_bank.specs.Frames.{SameIns, SamePort, SameOuts};
 ghost use Rattle.exstack.specs.Links.{no_out, no_in, has_unread, begun_out, begun_in, reopened, resumed};
 ghost use Rattle.exstack.specs.State.{number, missing_out, least_headroom};
-ghost use Rattle.exstack.specs.Steps.{WasPosted, WasCollected, InVain, StopsAt};
+ghost use Rattle.exstack.specs.Demands.{NoneBelow};
+ghost use Rattle.exstack.specs.Steps.{WasPosted, WasCollected, InVain, StopsAt, LeftByPosts, LeftByCollects, IsPortOf};
 
 use crate::in_link::InLink;
 use crate::out_link::OutLink;
@@ -41,16 +41,8 @@ pub fn links_in<const CAP: usize>(alloc: Global, count: u32) -> Result<Vec<InLin
     Ok(links)
 }
 
-/// A round begins on every link.
-pub fn begin_all<const CAP: usize>(outs: &mut Vec<OutLink<CAP>>, ins: &mut Vec<InLink<CAP>>)
-    ensures outs { outs.new.items ≡ map begun_out outs.old.items }
-    ensures ins { ins.new.items ≡ map begun_in ins.old.items }
-{
-    begin_outs(outs);
-    begin_ins(ins);
-}
-
-fn begin_outs<const CAP: usize>(links: &mut Vec<OutLink<CAP>>)
+/// A round begins on every link out.
+pub fn begin_outs<const CAP: usize>(links: &mut Vec<OutLink<CAP>>)
     ensures { links.new.items ≡ map begun_out links.old.items }
 {
     for i in 0..links.len() {
@@ -58,7 +50,8 @@ fn begin_outs<const CAP: usize>(links: &mut Vec<OutLink<CAP>>)
     }
 }
 
-fn begin_ins<const CAP: usize>(links: &mut Vec<InLink<CAP>>)
+/// A round begins on every link in.
+pub fn begin_ins<const CAP: usize>(links: &mut Vec<InLink<CAP>>)
     ensures { links.new.items ≡ map begun_in links.old.items }
 {
     for i in 0..links.len() {
@@ -95,10 +88,7 @@ pub fn post_all<const CAP: usize, P: Port<CAP>>(
     epoch: u64,
     last: bool,
 ) -> Result<(), NoMemory>
-    requires dims { P.dims port.old ≡ length outs.old.items ∷ [] }
-    requires rank { P.rank port.old ≡ rank }
-    requires within { rank < length outs.old.items }
-    requires few { length outs.old.items ≤ 64 }
+    requires port { IsPortOf P.Port (length outs.old.items) rank port.old }
     requires epoch { (b : ℕ) → b < length outs.old.items → (slice_index_or outs.old.items b no_out).due ≡ true
         → lasts (P.sent port.old (number (length outs.old.items) rank b)) ≡ epoch }
     requires law { RelayLaw (P.dims port.old) (P.rank port.old) (P.sent port.old) (P.got port.old) }
@@ -119,10 +109,8 @@ pub fn post_all<const CAP: usize, P: Port<CAP>>(
     ensures stops { IsErr result
         → StopsAt (length outs.old.items) rank outs.new.items (P.posts port.old) (P.posts port.new) }
     ensures law { RelayLaw (P.dims port.old) (P.rank port.old) (P.sent port.new) (P.got port.old) }
-    ensures grows { (m : ℕ) → Begins (P.sent port.old m) (P.sent port.new m) }
     ensures memory { P.Memory.GROWS ≡ false → IsOk result }
-    ensures same_ins { SameIns P.Port port.old port.new }
-    ensures same_port { SamePort P.Port port.old port.new }
+    ensures left { LeftByPosts P.Port port.old port.new }
 {
     let ranks = outs.len() as u32;
     for b in 0..outs.len() {
@@ -139,10 +127,7 @@ pub fn collect_all<const CAP: usize, P: Port<CAP>>(
     epoch: u64,
     exchange: bool,
 )
-    requires dims { P.dims port.old ≡ length ins.old.items ∷ [] }
-    requires rank { P.rank port.old ≡ rank }
-    requires within { rank < length ins.old.items }
-    requires few { length ins.old.items ≤ 64 }
+    requires port { IsPortOf P.Port (length ins.old.items) rank port.old }
     requires epoch { (a : ℕ) → a < length ins.old.items → (slice_index_or ins.old.items a no_in).due ≡ true
         → lasts (P.got port.old (number (length ins.old.items) a rank)) ≡ epoch }
     ensures count { length ins.new.items ≡ length ins.old.items }
@@ -162,10 +147,7 @@ pub fn collect_all<const CAP: usize, P: Port<CAP>>(
         (P.sent port.old (number (length ins.old.items) rank rank))
         → Begins (P.got port.new (number (length ins.old.items) rank rank))
         (P.sent port.new (number (length ins.old.items) rank rank)) }
-    ensures grows { (m : ℕ) → Begins (P.got port.old m) (P.got port.new m) }
-    ensures crowded { (m : ℕ) → P.got port.new m ≡ P.got port.old m → P.crowded port.new m ≡ P.crowded port.old m }
-    ensures same_outs { SameOuts P.Port port.old port.new }
-    ensures same_port { SamePort P.Port port.old port.new }
+    ensures left { LeftByCollects P.Port port.old port.new }
 {
     let ranks = ins.len() as u32;
     for a in 0..ins.len() {
@@ -255,9 +237,7 @@ pub fn least_room<const CAP: usize>(outs: &[OutLink<CAP>]) -> u64
 /// looked at before the search.
 #[inline]
 pub fn next_unread<const CAP: usize>(ins: &[InLink<CAP>], from: u32) -> Option<u32>
-    requires few { length ins.now ≤ 64 }
-    requires from { from ≤ length ins.now }
-    requires none { (a : ℕ) → a < from → has_unread (slice_index_or ins.now a no_in) ≡ false }
+    requires below { NoneBelow ins.now from }
     ensures { result ≡ position has_unread ins.now }
 {
     if (from as usize) < ins.len() && ins[from as usize].has_unread() {
@@ -268,9 +248,7 @@ pub fn next_unread<const CAP: usize>(ins: &[InLink<CAP>], from: u32) -> Option<u
 
 /// The same, by a search.
 fn search_unread<const CAP: usize>(ins: &[InLink<CAP>], from: u32) -> Option<u32>
-    requires few { length ins.now ≤ 64 }
-    requires from { from ≤ length ins.now }
-    requires none { (a : ℕ) → a < from → has_unread (slice_index_or ins.now a no_in) ≡ false }
+    requires below { NoneBelow ins.now from }
     ensures { result ≡ position has_unread ins.now }
 {
     for at in from..ins.len() as u32 {

@@ -1,23 +1,22 @@
 //! One rank's side of an exstack, as its buffers and marks change.
 ghost use Rattle.std.specs.Prelude.{◌≡◌, ℕ, ◌+◌, ◌^◌, ◌<◌, ◌&&◌, ◌||◌, not, true, false, [], length, is_some, Some, None, IfOk, OnOk, IsOk, IsErr, Ok};
-ghost use Rattle.bale_types.specs.Stream.{RoseOrFull};
 ghost use Rattle.item_buffer.specs.Capacity.{IsCap};
 ghost use Rattle.route_tensor.specs.Grid.{ranks};
-ghost use Rattle.port_bank.specs.Calls.{once_more_if};
 ghost use Rattle.port_bank.specs.Frames.{SamePort};
 ghost use Rattle.exstack.specs.Links.{headroom_of};
-ghost use Rattle.exstack.specs.State.{new_stack, out_at, in_at, dims_of, link_to, link_from, least_headroom, unread_of, lowest_unread, pushed_on, pop_from, popped_from, pops, unpopped, after_reset};
+ghost use Rattle.exstack.specs.State.{new_stack, out_at, in_at, dims_of, least_headroom, unread_of, lowest_unread, pushed_on, pop_from, popped_from, pops, unpopped, after_reset};
 ghost use Rattle.exstack.specs.State.{is_proceeding, is_exchanging, may_proceed, may_exchange, in_proceed, in_exchange, missing_link, all_ended, proceed_answer, exchange_answer, stage_of_proceed, stage_of_exchange};
-ghost use Rattle.exstack.specs.Steps.{MadeRound, InVain, StopsAt};
+ghost use Rattle.exstack.specs.Steps.{MadeRound, AsksOnce, StopsShort};
 ghost use Rattle.exstack.specs.Agreement.{AgreesIn};
 ghost use Rattle.exstack.specs.Standing.{IsStack};
+ghost use Rattle.exstack.specs.Demands.{MayPush};
 ghost use Rattle.exstack.specs.Parts.{IsAtPort};
 
 use crate::in_link::InLink;
 use crate::out_link::OutLink;
 use crate::rounds::{
-    all_ended, begin_all, collect_all, least_room, links_in, links_out, missing, next_unread,
-    post_all, reopen_all, resume_all, unread_in,
+    all_ended, begin_ins, begin_outs, collect_all, least_room, links_in, links_out, missing,
+    next_unread, post_all, reopen_all, resume_all, unread_in,
 };
 use crate::stage::{Poll, Proceed, Stage};
 use bale_types::{Entry, Item, NoMemory, Tag};
@@ -142,9 +141,7 @@ impl<const CAP: usize> Stack<CAP> {
     /// refusal.
     #[inline]
     pub fn push(&mut self, item: Item, to: u32) -> u64
-        requires filling { self.old.stage ≡ Stage.Filling }
-        requires not_done { self.old.done ≡ false }
-        requires to { to < self.old.ranks }
+        requires may { MayPush self.old to }
         ensures headroom { result ≡ headroom_of CAP (out_at self.old to) }
         ensures pushed { 0 < result → self.new ≡ pushed_on self.old item to }
         ensures full { result ≡ 0 → self.new ≡ record self.old { popped = None } }
@@ -250,7 +247,8 @@ impl<const CAP: usize> Stack<CAP> {
         if is_proceeding(self.stage) {
             return;
         }
-        begin_all(&mut self.outs, &mut self.ins);
+        begin_outs(&mut self.outs);
+        begin_ins(&mut self.ins);
         self.stage = Stage::Proceeding;
         self.done = done;
     }
@@ -264,7 +262,8 @@ impl<const CAP: usize> Stack<CAP> {
         if is_exchanging(self.stage) {
             return;
         }
-        begin_all(&mut self.outs, &mut self.ins);
+        begin_outs(&mut self.outs);
+        begin_ins(&mut self.ins);
         self.stage = Stage::Exchanging;
     }
 
@@ -288,21 +287,8 @@ impl<const CAP: usize> Stack<CAP> {
         ensures round { MadeRound last exchange self.old self.new (P.sent port.old) (P.sent port.new) (P.got port.old)
             (P.got port.new) }
         ensures missing { IfOk result (λ o. o ≡ missing_link self.new) }
-        ensures looked { IsOk result → (b : ℕ) → b < self.old.ranks → (out_at self.new b).due ≡ true
-            → RoseOrFull (P.looks_out port.old (link_to self.old b)) (P.looks_out port.new (link_to self.old b)) }
-        ensures crowded { IsOk result → (b : ℕ) → b < self.old.ranks → (out_at self.new b).due ≡ true
-            → P.got port.new (link_to self.old b) ≡ P.got port.old (link_to self.old b)
-            → P.crowded port.new (link_to self.old b) ≡ true }
-        ensures asked { IsOk result → (a : ℕ) → a < self.old.ranks → (in_at self.new a).due ≡ true
-            → InVain (P.noted port.old (link_from self.old a)) (P.noted port.new (link_from self.old a))
-            (P.idle port.new (link_from self.old a)) }
-        ensures posts { OnOk result ((b : ℕ) → b < self.old.ranks → P.posts port.new (link_to self.old b)
-            ≡ once_more_if (out_at self.old b).due (P.posts port.old (link_to self.old b))) }
-        ensures stops { IsErr result
-            → StopsAt self.new.ranks self.new.rank self.new.outs (P.posts port.old) (P.posts port.new) }
-        ensures collects { OnOk result ((a : ℕ) → a < self.old.ranks → P.collects port.new (link_from self.old a)
-            ≡ once_more_if (in_at self.old a).due (P.collects port.old (link_from self.old a))) }
-        ensures no_collect { IsErr result → P.collects port.new ≡ P.collects port.old }
+        ensures asks { OnOk result (AsksOnce P.Port self.old self.new port.old port.new) }
+        ensures stops { IsErr result → StopsShort P.Port self.new port.old port.new }
         ensures memory { P.Memory.GROWS ≡ false → IsOk result }
         ensures same_port { SamePort P.Port port.old port.new }
     {

@@ -1,18 +1,18 @@
 -- Within a round an exstack waits for a parcel.
-use Rattle.std.proofs.Common.{◌≡◌, ℕ, ◌||◌, Bool, true, false, Option, Some, None, refl, sym, ap, ◌∙◌, arith, inl, inr}
+use Rattle.std.proofs.Common.{◌≡◌, ℕ, ◌||◌, Bool, true, false, cond, map, Option, Some, None, refl, sym, ap, ◌∙◌, arith, inl, inr}
 use Rattle.std.specs.List.{position}
 use Rattle.std.proofs.lemmas.Bool.{false≢true}
 use Rattle.std.proofs.lemmas.List.Quantifiers.{position-Some}
 use Rattle.exstack.specs.declared.stage.Stage.{Stage}
-use Rattle.exstack.specs.declared.stage.Stage.TheVariants.{Proceeding, Filling, AllDone}
+use Rattle.exstack.specs.declared.stage.Stage.TheVariants.{Start, Proceeding, Filling, Exchanging, Full, AllDone}
 use Rattle.exstack.specs.declared.stage.Poll.{Poll}
 use Rattle.exstack.specs.declared.stage.Poll.TheVariants as poll
 use Rattle.exstack.specs.declared.stage.Proceed.{Proceed}
 use Rattle.exstack.specs.declared.stage.Proceed.TheVariants as proceed
-use Rattle.exstack.specs.Links.{Out, In, no_out, no_in}
-use Rattle.exstack.specs.State.{State, missing_link, missing_out, missing_in, all_ended, proceed_answer, exchange_answer, stage_of_proceed, stage_of_exchange, is_proceeding, is_exchanging}
+use Rattle.exstack.specs.Links.{Out, In, no_out, no_in, begun_out, begun_in}
+use Rattle.exstack.specs.State.{State, missing_link, missing_out, missing_in, all_ended, proceed_answer, exchange_answer, stage_of_proceed, stage_of_exchange, is_proceeding, is_exchanging, may_proceed, may_exchange, in_proceed}
 use Rattle.exstack.specs.Standing.{IsStack}
-use Rattle.rank_node.specs.Cycles.{Awaits, has_proceeded, has_exchanged}
+use Rattle.rank_node.specs.Cycles.{Awaits, IsOnward, has_proceeded, has_exchanged}
 
 -- a parcel is due where the round waits for a link
 module _ (cap : ℕ) (x : State) (s : IsStack cap x) where
@@ -60,3 +60,27 @@ filling_open p None false is s = refl
 
 pub proceeding_apart : (s : Stage) → s ≡ Proceeding → s ≡ Filling → ⊥
 proceeding_apart s a b = absurd (cc)
+
+-- a proceed round begins at the same rank
+pub proceed_ranks : (done : Bool) (st : State) → (in_proceed done st).ranks ≡ st.ranks
+proceed_ranks done st = elim (is_proceeding st.stage) as (λ b. (cond b (record st { popped = None }) (record st { stage = Proceeding; done = done; outs = map begun_out st.outs; ins = map begun_in st.ins; popped = None })).ranks ≡ st.ranks) [ true ↦ refl | false ↦ refl ]
+
+pub proceed_rank : (done : Bool) (st : State) → (in_proceed done st).rank ≡ st.rank
+proceed_rank done st = elim (is_proceeding st.stage) as (λ b. (cond b (record st { popped = None }) (record st { stage = Proceeding; done = done; outs = map begun_out st.outs; ins = map begun_in st.ins; popped = None })).rank ≡ st.rank) [ true ↦ refl | false ↦ refl ]
+
+-- the stage in which a poll leaves an exstack follows that at entry
+pub proceeds_onward : (s s' : Stage) → may_proceed s ≡ true → has_proceeded s' ≡ true → IsOnward s s'
+proceeds_onward Start s' may h = h
+proceeds_onward Proceeding s' may h = h
+proceeds_onward Filling s' may h = absurd (false≢true may)
+proceeds_onward Exchanging s' may h = absurd (false≢true may)
+proceeds_onward Full s' may h = h
+proceeds_onward AllDone s' may h = absurd (false≢true may)
+
+pub exchanges_onward : (s s' : Stage) → may_exchange s ≡ true → has_exchanged s' ≡ true → IsOnward s s'
+exchanges_onward Start s' may h = absurd (false≢true may)
+exchanges_onward Proceeding s' may h = absurd (false≢true may)
+exchanges_onward Filling s' may h = h
+exchanges_onward Exchanging s' may h = h
+exchanges_onward Full s' may h = absurd (false≢true may)
+exchanges_onward AllDone s' may h = absurd (false≢true may)

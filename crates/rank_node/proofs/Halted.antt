@@ -29,7 +29,7 @@ use Rattle.round_program.specs.Rules.{Rules}
 use Rattle.rank_node.specs.Sending.{to_send, is_voting}
 use Rattle.rank_node.specs.Pulls.{NoMore, Handed}
 use Rattle.rank_node.specs.Runs.{Running}
-use Rattle.rank_node.specs.Moves.{AfterMoves, OnConveyor}
+use Rattle.rank_node.specs.Moves.{AfterMoves, LeavesAfterAdvance}
 use Rattle.rank_node.specs.Movers.Manner.{ByConveyor}
 use Rattle.rank_node.specs.Movers.MoverState.{Conveying}
 use Rattle.rank_node.specs.Nodes.{IsNode}
@@ -227,7 +227,7 @@ module _ {S : Type 0} (R : Rules S) (cap : ℕ) (run : Running S) (c0 c1 c2 c3 :
       }
 
   pub advanced_leaves : HoldsAtMost cap c1 → (fewer : NoMore c2 c3) → R.emissions prog ≡ R.emissions run.prog → Handed cap (to_send R run.prog run.sends) c0 c1 run.next next
-      → OnConveyor R cap run (record { prog = prog; round = run.round; sends = run.sends; next = next; sum = sum; spoiled = spoiled }) c0 c3 got got'
+      → LeavesAfterAdvance R cap run (record { prog = prog; round = run.round; sends = run.sends; next = next; sum = sum; spoiled = spoiled }) c0 c3 got got'
   advanced_leaves fits fewer emissions handed =
       let same : to_send R run.prog run.sends ≡ to_send R prog run.sends = sym (same_sends R prog run.prog run.sends emissions) in
       record {

@@ -7,6 +7,7 @@ pub mod Next
 pub mod Pulls
 pub mod Moves
 pub mod Cycles
+pub mod Turns
 pub mod Batches
 pub mod Ledgers
 pub mod Pushes

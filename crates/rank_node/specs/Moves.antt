@@ -53,7 +53,7 @@ pub record AfterMoves {S : Type 0} (R : Rules S) (cap : ℕ) (n n' : NodeState S
 -- pushed: what they made of it. They go on until the open parcel toward the next
 -- item's receiver is full, or until no item is left.
 -- done: the rank is done exactly where all its items are pushed.
-pub record OnConveyor {S : Type 0} (R : Rules S) (cap : ℕ) (run run' : Running S) (c c' : State) (got got' : Logs) : Type 0 where
+pub record LeavesAfterAdvance {S : Type 0} (R : Rules S) (cap : ℕ) (run run' : Running S) (c c' : State) (got got' : Logs) : Type 0 where
   pub lies : (l : ℕ) (more : List Shipped) → l < links c.dims → reader_at c.dims l ≡ c.rank → got' l ≡ got l ++ more
       → length (in_of c' l).parcel.untaken ≤ length (in_of c l).parcel.untaken + length (flat_map (λ p. p.entries) more)
   pub at_push : State
@@ -65,7 +65,7 @@ pub record OnConveyor {S : Type 0} (R : Rules S) (cap : ℕ) (run run' : Running
 -- pushed: while the buffers are filled, what its pushes made of the exstack before it polled. They go on until the buffer
 -- toward the next item's receiver is full, or until no item is left.
 -- unpushed: in other stages nothing is pushed.
-pub record OnExstack {S : Type 0} (R : Rules S) (cap : ℕ) (run run' : Running S) (x : Stack) : Type 0 where
+pub record LeavesAfterPoll {S : Type 0} (R : Rules S) (cap : ℕ) (run run' : Running S) (x : Stack) : Type 0 where
   pub pushed : x.stage ≡ Filling → (at_push : Stack) × Fills cap (to_send R run'.prog run'.sends) x at_push run.next run'.next
   pub unpushed : (x.stage ≡ Filling → ⊥) → run'.next ≡ run.next
 
@@ -84,10 +84,10 @@ pub record AfterFill {S : Type 0} (R : Rules S) (cap : ℕ) (run run' : Running 
 
 -- What a turn leaves of either.
 abbrev pub Leaves : {S : Type 0} → Rules S → ℕ → Running S → Running S → MoverState → MoverState → Logs → Logs → Type 0
-Leaves R cap run run' (Conveying c) (Conveying c') got got' = OnConveyor R cap run run' c c' got got'
+Leaves R cap run run' (Conveying c) (Conveying c') got got' = LeavesAfterAdvance R cap run run' c c' got got'
 Leaves R cap run run' (Conveying c) (Stacking k x) got got' = ⊥
 Leaves R cap run run' (Stacking k x) (Conveying c) got got' = ⊥
-Leaves R cap run run' (Stacking k x) (Stacking k' x') got got' = OnExstack R cap run run' x
+Leaves R cap run run' (Stacking k x) (Stacking k' x') got got' = LeavesAfterPoll R cap run run' x
 
 -- A link out whose parcel is left to be posted, since it is full or not empty on a steady conveyor, is crowded.
 abbrev pub DueIsCrowded : MoverState → (ℕ → Bool) → Type 0

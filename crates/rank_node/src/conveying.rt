@@ -6,8 +6,8 @@ ghost use Rattle.rank_node.specs.Movers.{IsNew, GoesOn};
 ghost use Rattle.rank_node.specs.Movers.Manner.{ByConveyor};
 ghost use Rattle.rank_node.specs.Movers.MoverState.{Conveying};
 ghost use Rattle.rank_node.specs.Runs.{running};
-ghost use Rattle.rank_node.specs.Moves.{AfterMoves, Leaves, DueIsCrowded, Waits, MayTurn};
-ghost use Rattle.port_bank.specs.Frames.{SamePort};
+ghost use Rattle.rank_node.specs.Moves.{MayTurn};
+ghost use Rattle.rank_node.specs.Turns.{Turns, TurnsInFull};
 
 use crate::run::Run;
 use crate::sending::push_all;
@@ -30,15 +30,11 @@ pub(crate) fn turn_conveyor<const CAP: usize, const HOPS: usize, Q: Program, P: 
 ) -> Result<Turn, NoMemory>
     requires turns { MayTurn P.Port Q.rules (record { run = running run.old; mover = Conveying conveyor.old })
         port.old }
-    ensures moves { AfterMoves Q.rules CAP (record { run = running run.old; mover = Conveying conveyor.old })
-        (record { run = running run.new; mover = Conveying conveyor.new })
-        (P.sent port.old) (P.got port.old) (P.sent port.new) (P.got port.new) }
-    ensures leaves { Leaves Q.rules CAP (running run.old) (running run.new) (Conveying conveyor.old)
-        (Conveying conveyor.new) (P.got port.old) (P.got port.new) }
-    ensures due { IsOk result → DueIsCrowded (Conveying conveyor.new) (P.crowded port.new) }
-    ensures waits { OnOk result (Waits Q.rules (running run.old) (Conveying conveyor.old) (Conveying conveyor.new)
-        (P.sent port.old) (P.got port.old) (P.sent port.new) (P.got port.new) (P.crowded port.new) (P.idle port.new)) }
-    ensures same_port { SamePort P.Port port.old port.new }
+    ensures turns { Turns P.Port Q.rules (record { run = running run.old; mover = Conveying conveyor.old })
+        (record { run = running run.new; mover = Conveying conveyor.new }) port.old port.new }
+    ensures in_full { OnOk result (TurnsInFull P.Port Q.rules
+        (record { run = running run.old; mover = Conveying conveyor.old })
+        (record { run = running run.new; mover = Conveying conveyor.new }) port.old port.new) }
     ensures memory { P.Memory.GROWS ≡ false → IsOk result }
     ensures ended { result ≡ Ok Turn.Ended → conveyor.new.phase ≡ Phase.Complete }
     ensures going { result ≡ Ok Turn.Going → conveyor.new.phase ≢ Phase.Complete }

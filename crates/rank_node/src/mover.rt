@@ -4,9 +4,8 @@ ghost use Rattle.item_buffer.specs.Capacity.{IsCap};
 ghost use Rattle.route_tensor.specs.Grid.{ranks};
 ghost use Rattle.rank_node.specs.Movers.{seen, epoch_in, manner_of, has_completed, IsNew, GoesOn};
 ghost use Rattle.rank_node.specs.Runs.{running};
-ghost use Rattle.rank_node.specs.Moves.{AfterMoves, Leaves, DueIsCrowded, Waits, MayTurn};
-ghost use Rattle.rank_node.specs.Cycles.{IsInCycle, cycle_of_turn, TurnsOnward, AwaitsSome};
-ghost use Rattle.port_bank.specs.Frames.{SamePort};
+ghost use Rattle.rank_node.specs.Moves.{MayTurn};
+ghost use Rattle.rank_node.specs.Turns.{Turns, TurnsInFull};
 
 use crate::conveying::{new_conveyor, reset_conveyor, turn_conveyor};
 use crate::run::Run;
@@ -57,22 +56,11 @@ impl<const CAP: usize, const HOPS: usize> Mover<CAP, HOPS> {
     ) -> Result<Turn, NoMemory>
         requires turns { MayTurn P.Port Q.rules (record { run = running run.old; mover = seen self.old })
             port.old }
-        ensures moves { AfterMoves Q.rules CAP (record { run = running run.old; mover = seen self.old })
-            (record { run = running run.new; mover = seen self.new })
-            (P.sent port.old) (P.got port.old) (P.sent port.new) (P.got port.new) }
-        ensures cycle { (quota : ℕ → ℕ) (n : ℕ) → IsInCycle Q.rules quota n (running run.old) (seen self.old)
-            (P.sent port.old) (P.got port.old)
-            → IsInCycle Q.rules quota (cycle_of_turn n (seen self.old)) (running run.new) (seen self.new)
-            (P.sent port.new) (P.got port.new) }
-        ensures onward { TurnsOnward (seen self.old) (seen self.new) }
-        ensures awaits { IsOk result → AwaitsSome (seen self.new) }
-        ensures leaves { Leaves Q.rules CAP (running run.old) (running run.new) (seen self.old) (seen self.new)
-            (P.got port.old) (P.got port.new) }
-        ensures due { IsOk result → DueIsCrowded (seen self.new) (P.crowded port.new) }
-        ensures waits { OnOk result (Waits Q.rules (running run.old) (seen self.old) (seen self.new)
-            (P.sent port.old) (P.got port.old) (P.sent port.new) (P.got port.new) (P.crowded port.new)
-            (P.idle port.new)) }
-        ensures same_port { SamePort P.Port port.old port.new }
+        ensures turns { Turns P.Port Q.rules (record { run = running run.old; mover = seen self.old })
+            (record { run = running run.new; mover = seen self.new }) port.old port.new }
+        ensures in_full { OnOk result (TurnsInFull P.Port Q.rules
+            (record { run = running run.old; mover = seen self.old })
+            (record { run = running run.new; mover = seen self.new }) port.old port.new) }
         ensures memory { P.Memory.GROWS ≡ false → IsOk result }
         ensures ended { result ≡ Ok Turn.Ended → has_completed (seen self.new) ≡ true }
         ensures going { result ≡ Ok Turn.Going → has_completed (seen self.new) ≡ false }

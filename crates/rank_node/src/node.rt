@@ -2,14 +2,14 @@
 ghost use Rattle.std.specs.Prelude.{◌≡◌, ◌⊎◌, ℕ, ◌+◌, ◌-◌, ◌^◌, ◌<◌, ◌≤◌, [], length, IfOk, true, false, IsOk, IsErr, OnOk, Result, Ok};
 ghost use Rattle.route_tensor.specs.Grid.{ranks};
 ghost use Rattle.port_bank.specs.Logs.{Logs};
-ghost use Rattle.port_bank.specs.Frames.{SamePort};
 ghost use Rattle.item_buffer.specs.Capacity.{IsCap};
 ghost use Rattle.rank_node.specs.Sending.{is_voting, to_send};
 ghost use Rattle.rank_node.specs.Movers.{dims_of, rank_of, epoch_in, manner_in, manner_of, has_completed, HasCap, IsStarting, NoneUnread, SameUnread};
-ghost use Rattle.rank_node.specs.Moves.{Leaves, DueIsCrowded, Waits, MayTurn, AfterMoves};
+ghost use Rattle.rank_node.specs.Moves.{MayTurn};
+ghost use Rattle.rank_node.specs.Turns.{Turns, TurnsInFull};
 ghost use Rattle.rank_node.specs.Nodes.{IsNode};
 ghost use Rattle.rank_node.specs.Next.{extended, HasStopped};
-ghost use Rattle.rank_node.specs.Cycles.{IsInCycle, cycle_of_turn, TurnsOnward, AwaitsSome};
+ghost use Rattle.rank_node.specs.Cycles.{IsInCycle};
 
 use crate::ending::{Follows, end_prog, vote_of};
 use crate::mover::Mover;
@@ -117,35 +117,13 @@ impl<Q: Program, const CAP: usize, const HOPS: usize> Node<Q, CAP, HOPS> {
         requires turns { MayTurn P.Port Q.rules self.old port.old }
         ensures steps { steps.new ≡ steps.old + 1 }
         ensures cap { HasCap CAP self.new.mover }
-        ensures same_port { SamePort P.Port port.old port.new }
         ensures memory { P.Memory.GROWS ≡ false → IsOk result }
-
-        // It is a node again, of the same rank and round, that advanced or polled once: the lists only grow, each by one
-        // parcel at most, and of the transport's shape, so that over conveyors that aren't steady items travel in few
-        // parcels (`port_bank::few_parcels_law`).
-        ensures moves { AfterMoves Q.rules CAP self.old self.new (P.sent port.old) (P.got port.old) (P.sent port.new)
-            (P.got port.new) }
+        ensures turns { Turns P.Port Q.rules self.old self.new port.old port.new }
+        ensures in_full { OnOk result (TurnsInFull P.Port Q.rules self.old self.new port.old port.new) }
 
         // Ended exactly where the rank has completed its epoch.
         ensures ended { result ≡ Ok Turn.Ended → has_completed self.new.mover ≡ true }
         ensures going { result ≡ Ok Turn.Going → has_completed self.new.mover ≡ false }
-
-        // An exstack's cycles keep pace with what its rank has to send; its stages go on; and within a round it waits for a parcel.
-        ensures cycle { (quota : ℕ → ℕ) (n : ℕ) → IsInCycle Q.rules quota n self.old.run self.old.mover
-            (P.sent port.old) (P.got port.old)
-            → IsInCycle Q.rules quota (cycle_of_turn n self.old.mover) self.new.run self.new.mover (P.sent port.new)
-            (P.got port.new) }
-        ensures onward { TurnsOnward self.old.mover self.new.mover }
-        ensures awaits { IsOk result → AwaitsSome self.new.mover }
-
-        // What it leaves in the inboxes, and unpushed; and what outside keeps a rank that moved no parcel, or that waits
-        // within a round.
-        ensures leaves { Leaves Q.rules CAP self.old.run self.new.run self.old.mover self.new.mover (P.got port.old)
-            (P.got port.new) }
-        ensures due { IsOk result → DueIsCrowded self.new.mover (P.crowded port.new) }
-        ensures waits { OnOk result (Waits Q.rules self.old.run self.old.mover self.new.mover
-            (P.sent port.old) (P.got port.old) (P.sent port.new) (P.got port.new) (P.crowded port.new)
-            (P.idle port.new)) }
     {
         steps.tick();
         self.mover.turn(&mut self.run, port)

@@ -9,13 +9,13 @@ ghost use Rattle.rank_node.specs.Movers.{IsNew, GoesOn};
 ghost use Rattle.rank_node.specs.Movers.MoverState.{Stacking};
 ghost use Rattle.rank_node.specs.Movers.Manner.{ByExstack};
 ghost use Rattle.port_bank.specs.Logs.{Logs};
-ghost use Rattle.port_bank.specs.Frames.{SamePort};
 ghost use Rattle.rank_node.specs.Pulls.{Pops, Fills};
 ghost use Rattle.rank_node.specs.Runs.{running};
 ghost use Rattle.rank_node.specs.Sending.{to_send};
 ghost use Rattle.rank_node.specs.Nodes.{IsNode};
-ghost use Rattle.rank_node.specs.Moves.{AfterMoves, AfterFill, Leaves, Waits, MayTurn};
-ghost use Rattle.rank_node.specs.Cycles.{InCycle, InExchange, IsOnward, Awaits};
+ghost use Rattle.rank_node.specs.Moves.{AfterFill, MayTurn};
+ghost use Rattle.rank_node.specs.Cycles.{InCycle, InExchange};
+ghost use Rattle.rank_node.specs.Turns.{Turns, TurnsInFull, Polls};
 
 use crate::arrivals::FromSender;
 use crate::departures::OnExstack;
@@ -40,20 +40,11 @@ pub(crate) fn turn_exstack<const CAP: usize, Q: Program, P: Port<CAP>>(
 ) -> Result<Turn, NoMemory>
     requires turns { MayTurn P.Port Q.rules (record { run = running run.old; mover = Stacking CAP exstack.old })
         port.old }
-    ensures moves { AfterMoves Q.rules CAP (record { run = running run.old; mover = Stacking CAP exstack.old })
-        (record { run = running run.new; mover = Stacking CAP exstack.new })
-        (P.sent port.old) (P.got port.old) (P.sent port.new) (P.got port.new) }
-    ensures leaves { Leaves Q.rules CAP (running run.old) (running run.new) (Stacking CAP exstack.old)
-        (Stacking CAP exstack.new) (P.got port.old) (P.got port.new) }
-    ensures cycle { (quota : ℕ → ℕ) (n : ℕ) → InCycle Q.rules quota n (running run.old) exstack.old (P.sent port.old)
-        (P.got port.old)
-        → InCycle Q.rules quota (cycle_after n exstack.old.stage) (running run.new) exstack.new (P.sent port.new)
-        (P.got port.new) }
-    ensures onward { IsOnward exstack.old.stage exstack.new.stage }
-    ensures awaits { IsOk result → Awaits exstack.new }
-    ensures waits { OnOk result (Waits Q.rules (running run.old) (Stacking CAP exstack.old) (Stacking CAP exstack.new)
-        (P.sent port.old) (P.got port.old) (P.sent port.new) (P.got port.new) (P.crowded port.new) (P.idle port.new)) }
-    ensures same_port { SamePort P.Port port.old port.new }
+    ensures turns { Turns P.Port Q.rules (record { run = running run.old; mover = Stacking CAP exstack.old })
+        (record { run = running run.new; mover = Stacking CAP exstack.new }) port.old port.new }
+    ensures in_full { OnOk result (TurnsInFull P.Port Q.rules
+        (record { run = running run.old; mover = Stacking CAP exstack.old })
+        (record { run = running run.new; mover = Stacking CAP exstack.new }) port.old port.new) }
     ensures memory { P.Memory.GROWS ≡ false → IsOk result }
     ensures ended { result ≡ Ok Turn.Ended → exstack.new.stage ≡ Stage.AllDone }
     ensures going { result ≡ Ok Turn.Going → exstack.new.stage ≢ Stage.AllDone }
@@ -78,21 +69,14 @@ fn proceed<const CAP: usize, Q: Program, P: Port<CAP>>(
     requires may { may_proceed exstack.old.stage ≡ true }
     requires turns { MayTurn P.Port Q.rules (record { run = running run.old; mover = Stacking CAP exstack.old })
         port.old }
-    ensures moves { AfterMoves Q.rules CAP (record { run = running run.old; mover = Stacking CAP exstack.old })
-        (record { run = running run.new; mover = Stacking CAP exstack.new })
-        (P.sent port.old) (P.got port.old) (P.sent port.new) (P.got port.new) }
+    ensures polls { Polls P.Port Q.rules (running run.old) (running run.new) exstack.old exstack.new port.old port.new }
     ensures cycle { (quota : ℕ → ℕ) (n : ℕ) → InCycle Q.rules quota n (running run.old) exstack.old (P.sent port.old)
         (P.got port.old)
         → InCycle Q.rules quota (cycle_after n exstack.old.stage) (running run.new) exstack.new (P.sent port.new)
         (P.got port.new) }
-    ensures onward { IsOnward exstack.old.stage exstack.new.stage }
-    ensures awaits { IsOk result → Awaits exstack.new }
-    ensures next { run.new.next ≡ run.old.next }
-    ensures emissions { Q.rules.emissions run.new.prog.value ≡ Q.rules.emissions run.old.prog.value }
-    ensures sends { run.new.sends ≡ run.old.sends }
-    ensures waits { OnOk result (Waits Q.rules (running run.old) (Stacking CAP exstack.old) (Stacking CAP exstack.new)
-        (P.sent port.old) (P.got port.old) (P.sent port.new) (P.got port.new) (P.crowded port.new) (P.idle port.new)) }
-    ensures same_port { SamePort P.Port port.old port.new }
+    ensures in_full { OnOk result (TurnsInFull P.Port Q.rules
+        (record { run = running run.old; mover = Stacking CAP exstack.old })
+        (record { run = running run.new; mover = Stacking CAP exstack.new }) port.old port.new) }
     ensures memory { P.Memory.GROWS ≡ false → IsOk result }
     ensures ended { result ≡ Ok Turn.Ended → exstack.new.stage ≡ Stage.AllDone }
     ensures going { result ≡ Ok Turn.Going → exstack.new.stage ≢ Stage.AllDone }
@@ -117,20 +101,13 @@ fn exchange<const CAP: usize, Q: Program, P: Port<CAP>>(
     requires may { may_exchange exstack.old.stage ≡ true }
     requires turns { MayTurn P.Port Q.rules (record { run = running run.old; mover = Stacking CAP exstack.old })
         port.old }
-    ensures moves { AfterMoves Q.rules CAP (record { run = running run.old; mover = Stacking CAP exstack.old })
-        (record { run = running run.new; mover = Stacking CAP exstack.new })
-        (P.sent port.old) (P.got port.old) (P.sent port.new) (P.got port.new) }
+    ensures polls { Polls P.Port Q.rules (running run.old) (running run.new) exstack.old exstack.new port.old port.new }
     ensures cycle { (quota : ℕ → ℕ) (n : ℕ) → InExchange Q.rules quota n (running run.old) exstack.old (P.sent port.old)
         (P.got port.old)
         → InCycle Q.rules quota n (running run.new) exstack.new (P.sent port.new) (P.got port.new) }
-    ensures onward { IsOnward exstack.old.stage exstack.new.stage }
-    ensures awaits { IsOk result → Awaits exstack.new }
-    ensures next { run.new.next ≡ run.old.next }
-    ensures emissions { Q.rules.emissions run.new.prog.value ≡ Q.rules.emissions run.old.prog.value }
-    ensures sends { run.new.sends ≡ run.old.sends }
-    ensures waits { OnOk result (Waits Q.rules (running run.old) (Stacking CAP exstack.old) (Stacking CAP exstack.new)
-        (P.sent port.old) (P.got port.old) (P.sent port.new) (P.got port.new) (P.crowded port.new) (P.idle port.new)) }
-    ensures same_port { SamePort P.Port port.old port.new }
+    ensures in_full { OnOk result (TurnsInFull P.Port Q.rules
+        (record { run = running run.old; mover = Stacking CAP exstack.old })
+        (record { run = running run.new; mover = Stacking CAP exstack.new }) port.old port.new) }
     ensures memory { P.Memory.GROWS ≡ false → IsOk result }
     ensures going { IfOk result (λ t. t ≡ Turn.Going) }
     ensures stage { exstack.new.stage ≢ Stage.AllDone }

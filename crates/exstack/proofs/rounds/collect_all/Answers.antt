@@ -20,10 +20,7 @@ loop-a-init g c = record {
   asked = sweep_start _ _ _ _ _;
   counted = sweep_start _ _ _ _ _;
   own = λ b. b;
-  grows = λ m. begins_refl (g.P.Port.got c.args.port.now m);
-  crowded = λ m e. refl;
-  same_outs = outs_at_first;
-  same_port = port_at_first;
+  left = record { grows = λ m. begins_refl (g.P.Port.got c.args.port.now m); crowded = λ m e. refl; same_outs = outs_at_first; same_port = port_at_first };
 }
 
 pub collect-requires : goal.collect-requires
@@ -37,16 +34,16 @@ collect-requires g c =
     let within : a < n = omega (arith, c.loop-a-test.true, c.len-a-end.ensures, c.args.ins.now.ok) in
     let l : ℕ = a * c.len-ranks.result + r in
     let here : number n a r ≡ l = ap (λ m. a * m + r) (sym len) in
-    let dims : g.P.Port.dims c.loop-a.port ≡ n ∷ [] = k.same_port.dims ∙ c.requires.dims in
+    let dims : g.P.Port.dims c.loop-a.port ≡ n ∷ [] = k.left.same_port.dims ∙ c.requires.port.dims in
     let now : c.index_mut.result.now ≡ get_or xs a no_in = sweep_here _ _ _ _ _ _ _ _ _ within k.collected c.index_mut.ensures.value in
     let log : g.P.Port.got c.loop-a.port (number n a r) ≡ g.P.Port.got c.args.port.now (number n a r) = ap (λ (s : Sight). s.log) (k.collected.shown a (omega arith) within) in
     let due : c.index_mut.result.now.due ≡ true → lasts (g.P.Port.got c.loop-a.port l) ≡ c.args.epoch = λ d.
     ap (λ m. lasts (g.P.Port.got c.loop-a.port m)) (sym here) ∙ (ap lasts log ∙ c.requires.epoch a within (ap (λ (i : In). i.due) (sym now) ∙ d)) in (
       search rules,
       (
-        subst (λ ds. l < links ds) (sym dims) (subst (λ x. x < links (n ∷ [])) here (number_within n a r within c.requires.within c.requires.few)),
+        subst (λ ds. l < links ds) (sym dims) (subst (λ x. x < links (n ∷ [])) here (number_within n a r within c.requires.port.within c.requires.port.few)),
         (
-          ap (λ ds. reader_at ds l) dims ∙ (ap (reader_at (n ∷ [])) (sym here) ∙ (number_reader n a r within c.requires.within c.requires.few ∙ (sym c.requires.rank ∙ sym k.same_port.rank))),
+          ap (λ ds. reader_at ds l) dims ∙ (ap (reader_at (n ∷ [])) (sym here) ∙ (number_reader n a r within c.requires.port.within c.requires.port.few ∙ (sym c.requires.port.rank ∙ sym k.left.same_port.rank))),
           due,
         ),
       ),
@@ -64,18 +61,18 @@ loop-a-preserved g c =
     let within : a < n = omega (arith, c.loop-a-test.true, c.len-a-end.ensures, c.args.ins.now.ok) in
     let l : ℕ = a * c.len-ranks.result + r in
     let here : number n a r ≡ l = ap (λ m. a * m + r) (sym len) in
-    let dims : g.P.Port.dims c.loop-a.port ≡ n ∷ [] = k.same_port.dims ∙ c.requires.dims in
+    let dims : g.P.Port.dims c.loop-a.port ≡ n ∷ [] = k.left.same_port.dims ∙ c.requires.port.dims in
     let before : ℕ → Sight = in_sight g.P.Port c.args.port.now in
     let mid : ℕ → Sight = in_sight g.P.Port c.loop-a.port in
     let after : ℕ → Sight = in_sight g.P.Port c.collect.new.port in
     let x : In = c.index_mut.result.now in
     let y : In = c.collect.new.self in
-    let others : (m : ℕ) → m < n → m ≢ a → after (in_number n r m) ≡ mid (in_number n r m) = λ m w ne. in_seen g.P.Port l c.loop-a.port c.collect.new.port e.elsewhere (number n m r) (λ q. in_apart n r a m c.requires.within ne (q ∙ sym here)) in
+    let others : (m : ℕ) → m < n → m ≢ a → after (in_number n r m) ≡ mid (in_number n r m) = λ m w ne. in_seen g.P.Port l c.loop-a.port c.collect.new.port e.elsewhere (number n m r) (λ q. in_apart n r a m c.requires.port.within ne (q ∙ sym here)) in
     let moved : Collected c.args.exchange x y (mid (number n a r)) (after (number n a r)) = subst (λ m. Collected c.args.exchange x y (mid m) (after m)) (sym here) e.moved in
     let vain : Asked x y (mid (number n a r)) (after (number n a r)) = subst (λ m. Asked x y (mid m) (after m)) (sym here) e.in_vain in
     let self : ℕ = number n r r in
     let starts : a ≡ r → sender_at (g.P.Port.dims c.loop-a.port) l ≡ g.P.Port.rank c.loop-a.port = λ same.
-    ap (λ ds. sender_at ds l) dims ∙ (ap (sender_at (n ∷ [])) (sym here) ∙ (number_sender n a r within c.requires.within c.requires.few ∙ (same ∙ (sym c.requires.rank ∙ sym k.same_port.rank)))) in
+    ap (λ ds. sender_at ds l) dims ∙ (ap (sender_at (n ∷ [])) (sym here) ∙ (number_sender n a r within c.requires.port.within c.requires.port.few ∙ (same ∙ (sym c.requires.port.rank ∙ sym k.left.same_port.rank)))) in
     let link : a ≡ r → l ≡ self = λ same. sym here ∙ ap (λ m. number n m r) same in
     let own : Begins (g.P.Port.got c.loop-a.port self) (g.P.Port.sent c.loop-a.port self) → Begins (g.P.Port.got c.collect.new.port self) (g.P.Port.sent c.collect.new.port self) = λ b.
     elim (cases_eq a r) [
@@ -83,22 +80,24 @@ loop-a-preserved g c =
           subst (λ m. Begins (g.P.Port.got c.collect.new.port m) (g.P.Port.sent c.collect.new.port m)) (link same)
           (e.own (starts same) (subst (λ m. Begins (g.P.Port.got c.loop-a.port m) (g.P.Port.sent c.loop-a.port m)) (sym (link same)) b))
       | inr ne ↦
-          subst (λ log. Begins log (g.P.Port.sent c.collect.new.port self)) (sym (ap (λ (s : Sight). s.log) (others r c.requires.within (λ q. ne (sym q)))))
-          (subst (λ logs. Begins (g.P.Port.got c.loop-a.port self) (logs self)) (sym e.same_outs.sent) b)
+          subst (λ log. Begins log (g.P.Port.sent c.collect.new.port self)) (sym (ap (λ (s : Sight). s.log) (others r c.requires.port.within (λ q. ne (sym q)))))
+          (subst (λ logs. Begins (g.P.Port.got c.loop-a.port self) (logs self)) (sym e.left.same_outs.sent) b)
     ] in
     record {
       collected = sweep_more (Collected c.args.exchange) no_in (in_number n r) a xs c.loop-a.ins.items before mid after x y within k.collected c.index_mut.ensures.value moved others;
       asked = sweep_more Asked no_in (in_number n r) a xs c.loop-a.ins.items before mid after x y within k.asked c.index_mut.ensures.value vain others;
       counted = sweep_more CollectsCounted no_in (in_number n r) a xs c.loop-a.ins.items (g.P.Port.collects c.args.port.now) (g.P.Port.collects c.loop-a.port) (g.P.Port.collects c.collect.new.port) x y within k.counted c.index_mut.ensures.value
           (subst (λ m. g.P.Port.collects c.collect.new.port m ≡ once_more_if x.due (g.P.Port.collects c.loop-a.port m)) (sym here) e.collects)
-          (λ m w ne. e.elsewhere.collects (number n m r) (λ q. in_apart n r a m c.requires.within ne (q ∙ sym here)));
+          (λ m w ne. e.elsewhere.collects (number n m r) (λ q. in_apart n r a m c.requires.port.within ne (q ∙ sym here)));
       own = λ b. own (k.own b);
-      grows = λ m. begins_trans _ _ _ (k.grows m) (e.grows m);
-      crowded = λ m q.
-          let stays : g.P.Port.got c.loop-a.port m ≡ g.P.Port.got c.args.port.now m = begins_between _ _ _ (k.grows m) (e.grows m) q in
-          e.crowded m (q ∙ sym stays) ∙ k.crowded m stays;
-      same_outs = outs_then k.same_outs e.same_outs;
-      same_port = port_then k.same_port e.same_port;
+      left = record {
+        grows = λ m. begins_trans _ _ _ (k.left.grows m) (e.left.grows m);
+        crowded = λ m q.
+            let stays : g.P.Port.got c.loop-a.port m ≡ g.P.Port.got c.args.port.now m = begins_between _ _ _ (k.left.grows m) (e.left.grows m) q in
+            e.left.crowded m (q ∙ sym stays) ∙ k.left.crowded m stays;
+        same_outs = outs_then k.left.same_outs e.left.same_outs;
+        same_port = port_then k.left.same_port e.left.same_port;
+      };
     }
 
 pub returns-clause-moved : goal.returns-clause-moved

@@ -1,8 +1,8 @@
-use Rattle.std.proofs.Common.{◌≡◌, ℕ, length}
+use Rattle.std.proofs.Common.{length}
 use Rattle.list_laws.specs.Lists.{Begins}
-use Rattle.port_bank.specs.Frames.{SamePort, SameOuts}
 use Rattle.exstack.specs.Links.{no_in}
 use Rattle.exstack.specs.State.{number}
+use Rattle.exstack.specs.Steps.{LeftByCollects}
 use Rattle.exstack.proofs.Sweeps.{Sweep}
 use Rattle.exstack.proofs.Moves.{in_sight, Collected, Asked, CollectsCounted, in_number}
 use Rattle.exstack.proofs.rounds.collect_all.Given as goal
@@ -16,8 +16,5 @@ invariant-loop-a g l = record {
   counted : Sweep CollectsCounted no_in (in_number (length l.fn.ins.items) l.rank) l.a l.fn.ins.items l.ins.items (g.P.Port.collects l.fn.port) (g.P.Port.collects l.port);
   own : Begins (g.P.Port.got l.fn.port (number (length l.fn.ins.items) l.rank l.rank)) (g.P.Port.sent l.fn.port (number (length l.fn.ins.items) l.rank l.rank))
       → Begins (g.P.Port.got l.port (number (length l.fn.ins.items) l.rank l.rank)) (g.P.Port.sent l.port (number (length l.fn.ins.items) l.rank l.rank));
-  grows : (m : ℕ) → Begins (g.P.Port.got l.fn.port m) (g.P.Port.got l.port m);
-  crowded : (m : ℕ) → g.P.Port.got l.port m ≡ g.P.Port.got l.fn.port m → g.P.Port.crowded l.port m ≡ g.P.Port.crowded l.fn.port m;
-  same_outs : SameOuts g.P.Port l.fn.port l.port;
-  same_port : SamePort g.P.Port l.fn.port l.port;
+  left : LeftByCollects g.P.Port l.fn.port l.port;
 }

@@ -10,4 +10,4 @@ returns-then-has_unread g c =
     let x : In = c.index-ins-from.result in
     let here : has_unread (get_or c.args.ins.now c.args.from no_in) ≡ true =
     ap has_unread (get_or_default c.args.ins.now c.args.from no_in x w ∙ sym c.index-ins-from.is) ∙ (sym c.has_unread.ensures ∙ c.if-has_unread.true) in
-    place_is has_unread c.args.ins.now c.args.from no_in w c.requires.none here
+    place_is has_unread c.args.ins.now c.args.from no_in w c.requires.below.none here

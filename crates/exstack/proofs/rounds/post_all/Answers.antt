@@ -21,9 +21,7 @@ loop-b-init g c = record {
   served = sweep_start _ _ _ _ _;
   counted = sweep_start _ _ _ _ _;
   law = c.requires.law;
-  grows = λ m. begins_refl (g.P.Port.sent c.args.port.now m);
-  same_ins = ins_at_first;
-  same_port = port_at_first;
+  left = record { grows = λ m. begins_refl (g.P.Port.sent c.args.port.now m); same_ins = ins_at_first; same_port = port_at_first };
 }
 
 pub post-requires : goal.post-requires
@@ -38,21 +36,21 @@ post-requires g c =
     let some : 0 < n = omega arith in
     let l : ℕ = r * c.len-ranks.result + b in
     let here : number n r b ≡ l = ap (λ m. r * m + b) (sym len) in
-    let dims : g.P.Port.dims c.loop-b.port ≡ n ∷ [] = k.same_port.dims ∙ c.requires.dims in
+    let dims : g.P.Port.dims c.loop-b.port ≡ n ∷ [] = k.left.same_port.dims ∙ c.requires.port.dims in
     let now : c.index_mut.result.now ≡ get_or xs b no_out = sweep_here _ _ _ _ _ _ _ _ _ within k.posted c.index_mut.ensures.value in
     let log : g.P.Port.sent c.loop-b.port (number n r b) ≡ g.P.Port.sent c.args.port.now (number n r b) = ap (λ (s : Sight). s.log) (k.posted.shown b (omega arith) within) in
     let due : c.index_mut.result.now.due ≡ true → lasts (g.P.Port.sent c.loop-b.port l) ≡ c.args.epoch = λ d.
     ap (λ m. lasts (g.P.Port.sent c.loop-b.port m)) (sym here) ∙ (ap lasts log ∙ c.requires.epoch b within (ap (λ (o : Out). o.due) (sym now) ∙ d)) in (
       search rules,
       (
-        subst IsGrid (sym dims) (grid_one n some c.requires.few),
+        subst IsGrid (sym dims) (grid_one n some c.requires.port.few),
         (
           ap length dims,
           (
-            subst (λ ds. l < links ds) (sym dims) (subst (λ x. x < links (n ∷ [])) here (number_within n r b c.requires.within within c.requires.few)),
+            subst (λ ds. l < links ds) (sym dims) (subst (λ x. x < links (n ∷ [])) here (number_within n r b c.requires.port.within within c.requires.port.few)),
             (
-              ap (λ ds. sender_at ds l) dims ∙ (ap (sender_at (n ∷ [])) (sym here) ∙ (number_sender n r b c.requires.within within c.requires.few ∙ (sym c.requires.rank ∙ sym k.same_port.rank))),
-              (due, law_same _ _ _ _ _ _ _ _ k.same_port.dims k.same_port.rank refl k.same_ins.got k.law),
+              ap (λ ds. sender_at ds l) dims ∙ (ap (sender_at (n ∷ [])) (sym here) ∙ (number_sender n r b c.requires.port.within within c.requires.port.few ∙ (sym c.requires.port.rank ∙ sym k.left.same_port.rank))),
+              (due, law_same _ _ _ _ _ _ _ _ k.left.same_port.dims k.left.same_port.rank refl k.left.same_ins.got k.law),
             ),
           ),
         ),
@@ -85,10 +83,12 @@ loop-b-preserved g c =
       counted = sweep_more PostsCounted no_out (number n r) b xs c.loop-b.outs.items (g.P.Port.posts c.args.port.now) (g.P.Port.posts c.loop-b.port) (g.P.Port.posts c.post.new.port) x y within k.counted c.index_mut.ensures.value
           (subst (λ m. g.P.Port.posts c.post.new.port m ≡ once_more_if x.due (g.P.Port.posts c.loop-b.port m)) (sym here) c.in_ok-post.ensures.posts)
           (λ m w ne. e.elsewhere.posts (number n r m) (λ q. out_apart n r b m ne (q ∙ sym here)));
-      law = law_same _ _ _ _ _ _ _ _ (sym k.same_port.dims) (sym k.same_port.rank) refl (sym k.same_ins.got) e.law;
-      grows = λ m. begins_trans _ _ _ (k.grows m) (e.grows m);
-      same_ins = ins_then k.same_ins e.same_ins;
-      same_port = port_then k.same_port e.same_port;
+      law = law_same _ _ _ _ _ _ _ _ (sym k.left.same_port.dims) (sym k.left.same_port.rank) refl (sym k.left.same_ins.got) e.law;
+      left = record {
+        grows = λ m. begins_trans _ _ _ (k.left.grows m) (e.left.grows m);
+        same_ins = ins_then k.left.same_ins e.left.same_ins;
+        same_port = port_then k.left.same_port e.left.same_port;
+      };
     }
 
 pub returns-in_err-post-clause-moved : goal.returns-in_err-post-clause-moved

@@ -1,9 +1,8 @@
-use Rattle.std.proofs.Common.{◌≡◌, ℕ, length}
-use Rattle.list_laws.specs.Lists.{Begins}
-use Rattle.port_bank.specs.Frames.{SamePort, SameIns}
+use Rattle.std.proofs.Common.{length}
 use Rattle.port_bank.specs.Relay.{RelayLaw}
 use Rattle.exstack.specs.Links.{no_out}
 use Rattle.exstack.specs.State.{number}
+use Rattle.exstack.specs.Steps.{LeftByPosts}
 use Rattle.exstack.proofs.Sweeps.{Sweep}
 use Rattle.exstack.proofs.Moves.{out_sight, Posted, Served, PostsCounted}
 use Rattle.exstack.proofs.rounds.post_all.Given as goal
@@ -16,7 +15,5 @@ invariant-loop-b g l = record {
       (out_sight g.P.Port l.fn.port) (out_sight g.P.Port l.port);
   counted : Sweep PostsCounted no_out (number (length l.fn.outs.items) l.rank) l.b l.fn.outs.items l.outs.items (g.P.Port.posts l.fn.port) (g.P.Port.posts l.port);
   law : RelayLaw (g.P.Port.dims l.fn.port) (g.P.Port.rank l.fn.port) (g.P.Port.sent l.port) (g.P.Port.got l.fn.port);
-  grows : (m : ℕ) → Begins (g.P.Port.sent l.fn.port m) (g.P.Port.sent l.port m);
-  same_ins : SameIns g.P.Port l.fn.port l.port;
-  same_port : SamePort g.P.Port l.fn.port l.port;
+  left : LeftByPosts g.P.Port l.fn.port l.port;
 }

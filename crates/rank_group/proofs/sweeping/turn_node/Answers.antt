@@ -21,27 +21,27 @@ returns-clause-turned g c =
     let b0 : Bank = c.port-port.result.bank in
     let b1 : Bank = c.turn.new.port.bank in
     let told : PortTurn R g.row.CAP c.in_ok-turn.turn n n' b0 c.port-port.result.rank b1 c.turn.new.port.rank = record {
-      dims = c.turn.ensures.same_port.dims;
-      slots = c.turn.ensures.same_port.slots;
-      rest = c.turn.ensures.same_port.rest;
-      node_dims = c.turn.ensures.moves.dims;
-      node_rank = c.turn.ensures.moves.rank;
-      node_manner = c.turn.ensures.moves.manner;
+      dims = c.turn.ensures.turns.same_port.dims;
+      slots = c.turn.ensures.turns.same_port.slots;
+      rest = c.turn.ensures.turns.same_port.rest;
+      node_dims = c.turn.ensures.turns.moves.dims;
+      node_rank = c.turn.ensures.turns.moves.rank;
+      node_manner = c.turn.ensures.turns.moves.manner;
       node_cap = c.turn.ensures.cap;
-      node_epoch = c.turn.ensures.moves.epoch;
-      sent_grows = c.turn.ensures.moves.sent_grows;
-      got_grows = c.turn.ensures.moves.got_grows;
-      one_sent = c.turn.ensures.moves.one_sent;
-      shape = c.turn.ensures.moves.shape;
-      leaves = c.turn.ensures.leaves;
-      kept = c.turn.ensures.moves.kept;
+      node_epoch = c.turn.ensures.turns.moves.epoch;
+      sent_grows = c.turn.ensures.turns.moves.sent_grows;
+      got_grows = c.turn.ensures.turns.moves.got_grows;
+      one_sent = c.turn.ensures.turns.moves.one_sent;
+      shape = c.turn.ensures.turns.moves.shape;
+      leaves = c.turn.ensures.turns.leaves;
+      kept = c.turn.ensures.turns.moves.kept;
       ended = λ e. c.in_ok-turn.ensures.ended (ap Ok e);
       going = λ e. c.in_ok-turn.ensures.going (ap Ok e);
-      waits = c.in_ok-turn.ensures.waits;
-      cycle = c.turn.ensures.cycle;
-      onward = c.turn.ensures.onward;
-      awaits = c.in_ok-turn.ensures.awaits refl;
+      waits = c.in_ok-turn.ensures.in_full.waits;
+      cycle = c.turn.ensures.turns.cycle;
+      onward = c.turn.ensures.turns.onward;
+      awaits = c.in_ok-turn.ensures.in_full.awaits;
     } in
     subst (λ (b : Bank). AfterTurn R c.args.bank.dims g.row.CAP c.args.bank.slots c.args.number c.in_ok-turn.turn n n' (sent_of c.args.bank) (got_of c.args.bank) (sent_of b) (got_of b)) (sym c.into_bank.ensures.bank)
-    (after_turn R g.row.CAP c.args.number c.in_ok-turn.turn n n' c.args.bank b1 c.port-port.result.rank c.turn.new.port.rank c.port-port.ensures.rank c.turn.ensures.same_port.rank c.requires.same_dims c.requires.same_rank
+    (after_turn R g.row.CAP c.args.number c.in_ok-turn.turn n n' c.args.bank b1 c.port-port.result.rank c.turn.new.port.rank c.port-port.ensures.rank c.turn.ensures.turns.same_port.rank c.requires.same_dims c.requires.same_rank
     (subst (λ (b : Bank). PortTurn R g.row.CAP c.in_ok-turn.turn n n' b c.port-port.result.rank b1 c.turn.new.port.rank) c.port-port.ensures.bank told))

@@ -27,8 +27,8 @@ next-requires g c =
       (
         c.in-Ok.ensures.ended (ap Ok c.in-Ended.is),
         (
-          subst (λ e. e < 2 ^ 63) (sym c.turn.ensures.moves.epoch) few,
-          (c.requires.rank.1, P.sent c.turn.new.port, P.got c.turn.new.port, c.turn.ensures.moves.kept c.requires.rank.1 (mine.runs (ap (λ (m : RankState g.row.Q.Denot). m.over) c.rank.view_is ∙ c.requires.going))),
+          subst (λ e. e < 2 ^ 63) (sym c.turn.ensures.turns.moves.epoch) few,
+          (c.requires.rank.1, P.sent c.turn.new.port, P.got c.turn.new.port, c.turn.ensures.turns.moves.kept c.requires.rank.1 (mine.runs (ap (λ (m : RankState g.row.Q.Denot). m.over) c.rank.view_is ∙ c.requires.going))),
         ),
       ),
     )
@@ -44,7 +44,7 @@ returns-in-Going-clause-kept g c = λ manner h is.
     let mine : IsRank R (P.dims p) g.row.CAP manner (P.rank p) h inside (P.sent p) (P.got p) =
     subst (λ (m : RankState g.row.Q.Denot). IsRank R (P.dims p) g.row.CAP manner (P.rank p) h m (P.sent p) (P.got p)) (sym c.rank.view_is) is in
     let t : OneTurn R g.row.CAP c.rank.inside.node c.turn.new.self (P.sent p) (P.got p) (P.sent q) (P.got q) =
-    record { dims = c.turn.ensures.moves.dims; rank = c.turn.ensures.moves.rank; manner = c.turn.ensures.moves.manner; cap_is = c.turn.ensures.cap; shape = c.turn.ensures.moves.shape; kept = c.turn.ensures.moves.kept } in
+    record { dims = c.turn.ensures.turns.moves.dims; rank = c.turn.ensures.turns.moves.rank; manner = c.turn.ensures.turns.moves.manner; cap_is = c.turn.ensures.cap; shape = c.turn.ensures.turns.moves.shape; kept = c.turn.ensures.turns.moves.kept } in
     (h, refl, stays_in R (P.dims p) g.row.CAP (P.rank p) manner h inside c.turn.new.self (P.sent p) (P.got p) (P.sent q) (P.got q) mine on t c.rank.inside.over on)
 
 pub returns-in_ok-rank-inside-in-Ended-clause-kept : goal.returns-in_ok-rank-inside-in-Ended-clause-kept
@@ -59,7 +59,7 @@ returns-in_ok-rank-inside-in-Ended-clause-kept g c = λ manner h is.
     let mine : IsRank R (P.dims p) g.row.CAP manner (P.rank p) h inside (P.sent p) (P.got p) =
     subst (λ (m : RankState g.row.Q.Denot). IsRank R (P.dims p) g.row.CAP manner (P.rank p) h m (P.sent p) (P.got p)) (sym c.rank.view_is) is in
     let t : OneTurn R g.row.CAP c.rank.inside.node c.turn.new.self (P.sent p) (P.got p) (P.sent q) (P.got q) =
-    record { dims = c.turn.ensures.moves.dims; rank = c.turn.ensures.moves.rank; manner = c.turn.ensures.moves.manner; cap_is = c.turn.ensures.cap; shape = c.turn.ensures.moves.shape; kept = c.turn.ensures.moves.kept } in
+    record { dims = c.turn.ensures.turns.moves.dims; rank = c.turn.ensures.turns.moves.rank; manner = c.turn.ensures.turns.moves.manner; cap_is = c.turn.ensures.cap; shape = c.turn.ensures.turns.moves.shape; kept = c.turn.ensures.turns.moves.kept } in
     let x : NextTold R g.row.CAP c.turn.new.self c.next.new.self more = record {
       self_dims = c.next.ensures.self_dims;
       self_rank = c.next.ensures.self_rank;
@@ -76,7 +76,7 @@ returns-in_ok-rank-inside-in-Ended-clause-kept g c = λ manner h is.
 
 pub returns-in-Going-clause-epoch : goal.returns-in-Going-clause-epoch
 returns-in-Going-clause-epoch g c =
-    let e = c.turn.ensures.moves.epoch in
+    let e = c.turn.ensures.turns.moves.epoch in
     let on = ap (λ (m : RankState g.row.Q.Denot). m.over) c.rank.view_is ∙ c.requires.going in
     let was = ap (λ (m : RankState g.row.Q.Denot). progress m) c.rank.view_is in
     let here = ap (λ b. cond b (epoch_in c.rank.inside.node.mover + 1) (epoch_in c.rank.inside.node.mover)) on in
@@ -85,7 +85,7 @@ returns-in-Going-clause-epoch g c =
 
 pub returns-in_ok-rank-inside-in-Ended-clause-epoch : goal.returns-in_ok-rank-inside-in-Ended-clause-epoch
 returns-in_ok-rank-inside-in-Ended-clause-epoch g c =
-    let e = c.turn.ensures.moves.epoch in
+    let e = c.turn.ensures.turns.moves.epoch in
     let on = ap (λ (m : RankState g.row.Q.Denot). m.over) c.rank.view_is ∙ c.requires.going in
     let was = ap (λ (m : RankState g.row.Q.Denot). progress m) c.rank.view_is in
     let here = ap (λ b. cond b (epoch_in c.rank.inside.node.mover + 1) (epoch_in c.rank.inside.node.mover)) on in

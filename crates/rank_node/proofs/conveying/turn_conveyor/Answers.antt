@@ -52,8 +52,8 @@ advance-progress-requires g c =
       ),
     )
 
-pub returns-in_err-progress-clause-moves : goal.returns-in_err-progress-clause-moves
-returns-in_err-progress-clause-moves g c =
+pub returns-in_err-progress-clause-turns : goal.returns-in_err-progress-clause-turns
+returns-in_err-progress-clause-turns g c =
     let R = g.Q.Program.rules in
     let sent = g.P.Port.sent c.args.port.now in
     let got = g.P.Port.got c.args.port.now in
@@ -106,73 +106,23 @@ returns-in_err-progress-clause-moves g c =
       sound = c.known.ensures.sound;
       taken = λ h rank round next sends v a. c.take_all-run.ensures.taken h rank round next sends sent' got' v a;
     } in
-    advanced_moves R g.row.CAP run c0 c1 c2 c3 next prog' sum' spoiled' done (is_complete c2.phase) voting sent got sent' got' push all adv grown (sym c.votes_now-voting.ensures) takes
+    record {
+      moves = advanced_moves R g.row.CAP run c0 c1 c2 c3 next prog' sum' spoiled' done (is_complete c2.phase) voting sent got sent' got' push all adv grown (sym c.votes_now-voting.ensures) takes;
+      leaves = advanced_leaves R g.row.CAP run c0 c1 c2 c3 next prog' sum' spoiled' done (is_complete c2.phase) voting sent got sent' got' push all adv grown (sym c.votes_now-voting.ensures) takes c.advance-progress.ensures.fits c.take_all-run.ensures.fewer c.take_all-run.ensures.emissions
+          (record {
+            same = c.push_all-run.ensures.same;
+            kept = c.push_all-run.ensures.kept;
+            pushed = c.push_all-run.ensures.pushed;
+            refused = c.push_all-run.ensures.refused;
+            receiver = c.push_all-run.ensures.receiver;
+          });
+      cycle = λ quota n i. tt;
+      onward = tt;
+      same_port = c.advance-progress.ensures.stays.same_port;
+    }
 
-pub returns-in_err-progress-clause-leaves : goal.returns-in_err-progress-clause-leaves
-returns-in_err-progress-clause-leaves g c =
-    let R = g.Q.Program.rules in
-    let sent = g.P.Port.sent c.args.port.now in
-    let got = g.P.Port.got c.args.port.now in
-    let sent' = g.P.Port.sent c.advance-progress.new.port in
-    let got' = g.P.Port.got c.advance-progress.new.port in
-    let run : Running g.row.Q.Denot = running c.args.run.now in
-    let h = c.requires.turns.first in
-    let i = c.requires.turns.node in
-    let c0 = c.args.conveyor.now in
-    let c1 = c.push_all-run.new.conveyor in
-    let next = c.push_all-run.result in
-    let push : AfterPush R run c0 c1 next sent got = record {
-      same = c.push_all-run.ensures.same;
-      agrees = c.push_all-run.ensures.kept sent got i.moving.agrees;
-      on = c.push_all-run.ensures.pushed sent got i.moving.agrees;
-      forward = c.push_all-run.ensures.forward;
-      low = c.push_all-run.ensures.next;
-    } in
-    let c2 = c.advance-progress.new.self in
-    let c3 = c.take_all-run.new.conveyor in
-    let prog' = c.take_all-run.new.prog.value in
-    let sum' = c.take_all-run.result.sum in
-    let spoiled' = c.take_all-run.result.spoiled in
-    let voting = c.votes_now-voting.result in
-    let done = next == c.count_of.result in
-    let all : done ≡ (next == length (to_send R run.prog run.sends)) = ap (λ m. next == m) c.count_of.ensures in
-    let adv : AfterAdvance c1 c2 done (is_complete c2.phase) sent got sent' got' = record {
-      agrees = c.advance-progress.ensures.stays.agrees;
-      dims = c.advance-progress.ensures.stays.dims;
-      rank = c.advance-progress.ensures.stays.rank;
-      done_is = c.advance-progress.ensures.stays.done;
-      begun = c.advance-progress.ensures.stays.begun;
-      working = λ d. c.in_err-progress.ensures.no_memory refl ∙ still_working R h run c0 c1 next sent got push i (sym all ∙ d);
-      step = c.advance-progress.ensures.stays.step;
-    } in
-    let grown : Grown c1 c2 g.row.CAP sent sent' got got' = record {
-      steady = c.advance-progress.ensures.stays.steady;
-      epoch = c.advance-progress.ensures.stays.epoch;
-      sent_grows = c.advance-progress.ensures.grows.sent_grows;
-      got_grows = c.advance-progress.ensures.grows.got_grows;
-      one_sent = c.advance-progress.ensures.grows.one_sent;
-      one_got = c.advance-progress.ensures.grows.one_got;
-      shape = c.advance-progress.ensures.grows.shape;
-      lies = c.advance-progress.ensures.asked.lies;
-    } in
-    let takes : AfterTakes R voting c2 c3 run.prog prog' run.sum sum' run.spoiled spoiled' sent' got' = record {
-      same = c.take_all-run.ensures.same;
-      kept = c.take_all-run.ensures.kept;
-      read = c.take_all-run.ensures.read;
-      sound = c.known.ensures.sound;
-      taken = λ h rank round next sends v a. c.take_all-run.ensures.taken h rank round next sends sent' got' v a;
-    } in
-    advanced_leaves R g.row.CAP run c0 c1 c2 c3 next prog' sum' spoiled' done (is_complete c2.phase) voting sent got sent' got' push all adv grown (sym c.votes_now-voting.ensures) takes c.advance-progress.ensures.fits c.take_all-run.ensures.fewer c.take_all-run.ensures.emissions
-    (record {
-      same = c.push_all-run.ensures.same;
-      kept = c.push_all-run.ensures.kept;
-      pushed = c.push_all-run.ensures.pushed;
-      refused = c.push_all-run.ensures.refused;
-      receiver = c.push_all-run.ensures.receiver;
-    })
-
-pub returns-clause-moves : goal.returns-clause-moves
-returns-clause-moves g c =
+pub returns-clause-turns : goal.returns-clause-turns
+returns-clause-turns g c =
     let R = g.Q.Program.rules in
     let sent = g.P.Port.sent c.args.port.now in
     let got = g.P.Port.got c.args.port.now in
@@ -225,135 +175,97 @@ returns-clause-moves g c =
       sound = c.known.ensures.sound;
       taken = λ h rank round next sends v a. c.take_all-run.ensures.taken h rank round next sends sent' got' v a;
     } in
-    advanced_moves R g.row.CAP run c0 c1 c2 c3 next prog' sum' spoiled' done (is_complete c2.phase) voting sent got sent' got' push all adv grown (sym c.votes_now-voting.ensures) takes
+    record {
+      moves = advanced_moves R g.row.CAP run c0 c1 c2 c3 next prog' sum' spoiled' done (is_complete c2.phase) voting sent got sent' got' push all adv grown (sym c.votes_now-voting.ensures) takes;
+      leaves = advanced_leaves R g.row.CAP run c0 c1 c2 c3 next prog' sum' spoiled' done (is_complete c2.phase) voting sent got sent' got' push all adv grown (sym c.votes_now-voting.ensures) takes c.advance-progress.ensures.fits c.take_all-run.ensures.fewer c.take_all-run.ensures.emissions
+          (record {
+            same = c.push_all-run.ensures.same;
+            kept = c.push_all-run.ensures.kept;
+            pushed = c.push_all-run.ensures.pushed;
+            refused = c.push_all-run.ensures.refused;
+            receiver = c.push_all-run.ensures.receiver;
+          });
+      cycle = λ quota n i. tt;
+      onward = tt;
+      same_port = c.advance-progress.ensures.stays.same_port;
+    }
 
-pub returns-clause-leaves : goal.returns-clause-leaves
-returns-clause-leaves g c =
-    let R = g.Q.Program.rules in
-    let sent = g.P.Port.sent c.args.port.now in
-    let got = g.P.Port.got c.args.port.now in
-    let sent' = g.P.Port.sent c.advance-progress.new.port in
-    let got' = g.P.Port.got c.advance-progress.new.port in
-    let run : Running g.row.Q.Denot = running c.args.run.now in
-    let h = c.requires.turns.first in
-    let i = c.requires.turns.node in
-    let c0 = c.args.conveyor.now in
-    let c1 = c.push_all-run.new.conveyor in
-    let next = c.push_all-run.result in
-    let push : AfterPush R run c0 c1 next sent got = record {
-      same = c.push_all-run.ensures.same;
-      agrees = c.push_all-run.ensures.kept sent got i.moving.agrees;
-      on = c.push_all-run.ensures.pushed sent got i.moving.agrees;
-      forward = c.push_all-run.ensures.forward;
-      low = c.push_all-run.ensures.next;
-    } in
-    let c2 = c.advance-progress.new.self in
-    let c3 = c.take_all-run.new.conveyor in
-    let prog' = c.take_all-run.new.prog.value in
-    let sum' = c.take_all-run.result.sum in
-    let spoiled' = c.take_all-run.result.spoiled in
-    let voting = c.votes_now-voting.result in
-    let done = next == c.count_of.result in
-    let all : done ≡ (next == length (to_send R run.prog run.sends)) = ap (λ m. next == m) c.count_of.ensures in
-    let adv : AfterAdvance c1 c2 done (is_complete c2.phase) sent got sent' got' = record {
-      agrees = c.advance-progress.ensures.stays.agrees;
-      dims = c.advance-progress.ensures.stays.dims;
-      rank = c.advance-progress.ensures.stays.rank;
-      done_is = c.advance-progress.ensures.stays.done;
-      begun = c.advance-progress.ensures.stays.begun;
-      working = c.in_ok-progress.ensures.settled.working;
-      step = c.advance-progress.ensures.stays.step;
-    } in
-    let grown : Grown c1 c2 g.row.CAP sent sent' got got' = record {
-      steady = c.advance-progress.ensures.stays.steady;
-      epoch = c.advance-progress.ensures.stays.epoch;
-      sent_grows = c.advance-progress.ensures.grows.sent_grows;
-      got_grows = c.advance-progress.ensures.grows.got_grows;
-      one_sent = c.advance-progress.ensures.grows.one_sent;
-      one_got = c.advance-progress.ensures.grows.one_got;
-      shape = c.advance-progress.ensures.grows.shape;
-      lies = c.advance-progress.ensures.asked.lies;
-    } in
-    let takes : AfterTakes R voting c2 c3 run.prog prog' run.sum sum' run.spoiled spoiled' sent' got' = record {
-      same = c.take_all-run.ensures.same;
-      kept = c.take_all-run.ensures.kept;
-      read = c.take_all-run.ensures.read;
-      sound = c.known.ensures.sound;
-      taken = λ h rank round next sends v a. c.take_all-run.ensures.taken h rank round next sends sent' got' v a;
-    } in
-    advanced_leaves R g.row.CAP run c0 c1 c2 c3 next prog' sum' spoiled' done (is_complete c2.phase) voting sent got sent' got' push all adv grown (sym c.votes_now-voting.ensures) takes c.advance-progress.ensures.fits c.take_all-run.ensures.fewer c.take_all-run.ensures.emissions
-    (record {
-      same = c.push_all-run.ensures.same;
-      kept = c.push_all-run.ensures.kept;
-      pushed = c.push_all-run.ensures.pushed;
-      refused = c.push_all-run.ensures.refused;
-      receiver = c.push_all-run.ensures.receiver;
-    })
-
-pub returns-clause-waits : goal.returns-clause-waits
-returns-clause-waits g c = λ h is sent_same got_same.
-    let R = g.Q.Program.rules in
-    let sent = g.P.Port.sent c.args.port.now in
-    let got = g.P.Port.got c.args.port.now in
-    let sent' = g.P.Port.sent c.advance-progress.new.port in
-    let got' = g.P.Port.got c.advance-progress.new.port in
-    let run : Running g.row.Q.Denot = running c.args.run.now in
-    let i = is in
-    let c0 = c.args.conveyor.now in
-    let c1 = c.push_all-run.new.conveyor in
-    let next = c.push_all-run.result in
-    let push : AfterPush R run c0 c1 next sent got = record {
-      same = c.push_all-run.ensures.same;
-      agrees = c.push_all-run.ensures.kept sent got i.moving.agrees;
-      on = c.push_all-run.ensures.pushed sent got i.moving.agrees;
-      forward = c.push_all-run.ensures.forward;
-      low = c.push_all-run.ensures.next;
-    } in
-    let c2 = c.advance-progress.new.self in
-    let c3 = c.take_all-run.new.conveyor in
-    let prog' = c.take_all-run.new.prog.value in
-    let sum' = c.take_all-run.result.sum in
-    let spoiled' = c.take_all-run.result.spoiled in
-    let voting = c.votes_now-voting.result in
-    let done = next == c.count_of.result in
-    let all : done ≡ (next == length (to_send R run.prog run.sends)) = ap (λ m. next == m) c.count_of.ensures in
-    let adv : AfterAdvance c1 c2 done (is_complete c2.phase) sent got sent' got' = record {
-      agrees = c.advance-progress.ensures.stays.agrees;
-      dims = c.advance-progress.ensures.stays.dims;
-      rank = c.advance-progress.ensures.stays.rank;
-      done_is = c.advance-progress.ensures.stays.done;
-      begun = c.advance-progress.ensures.stays.begun;
-      working = c.in_ok-progress.ensures.settled.working;
-      step = c.advance-progress.ensures.stays.step;
-    } in
-    let grown : Grown c1 c2 g.row.CAP sent sent' got got' = record {
-      steady = c.advance-progress.ensures.stays.steady;
-      epoch = c.advance-progress.ensures.stays.epoch;
-      sent_grows = c.advance-progress.ensures.grows.sent_grows;
-      got_grows = c.advance-progress.ensures.grows.got_grows;
-      one_sent = c.advance-progress.ensures.grows.one_sent;
-      one_got = c.advance-progress.ensures.grows.one_got;
-      shape = c.advance-progress.ensures.grows.shape;
-      lies = c.advance-progress.ensures.asked.lies;
-    } in
-    let takes : AfterTakes R voting c2 c3 run.prog prog' run.sum sum' run.spoiled spoiled' sent' got' = record {
-      same = c.take_all-run.ensures.same;
-      kept = c.take_all-run.ensures.kept;
-      read = c.take_all-run.ensures.read;
-      sound = c.known.ensures.sound;
-      taken = λ h rank round next sends v a. c.take_all-run.ensures.taken h rank round next sends sent' got' v a;
-    } in
-    let advanced : Advanced c1 c2 g.row.CAP sent sent' got got' (g.P.Port.crowded c.advance-progress.new.port) (g.P.Port.idle c.advance-progress.new.port) = record {
-      epoch = c.advance-progress.ensures.stays.epoch;
-      full = c.in_ok-progress.ensures.served.full;
-      idles = c.advance-progress.ensures.asked.idle;
-      lies = c.advance-progress.ensures.asked.lies;
-      closing = c.in_ok-progress.ensures.served.closing;
-      stopped = c.in_ok-progress.ensures.served.stopped;
-      completes = λ over. complete_from c2.phase (sym c.in_ok-progress.ensures.settled.is ∙ c.in_ok-progress.ensures.settled.completes over);
-    } in
-    stuck R h run c0 c1 c2 c3 next g.row.CAP done (is_complete c2.phase) voting prog' sum' spoiled' sent got sent' got' (g.P.Port.crowded c.advance-progress.new.port) (g.P.Port.idle c.advance-progress.new.port)
-    c.known.ensures.grid c.known.ensures.rank push c.push_all-run.ensures.refused c.push_all-run.ensures.receiver all adv advanced takes c.take_all-run.ensures.fewer i sent_same got_same
+pub returns-clause-in_full : goal.returns-clause-in_full
+returns-clause-in_full g c = record {
+  awaits = tt;
+  due = λ l below own due.
+      let c1 = c.push_all-run.new.conveyor in
+      let c2 = c.advance-progress.new.self in
+      let c3 = c.take_all-run.new.conveyor in
+      let dims : c3.dims ≡ c1.dims = ap (λ (s : State). s.dims) c.take_all-run.ensures.same ∙ c.advance-progress.ensures.stays.dims in
+      let rank : c3.rank ≡ c1.rank = ap (λ (s : State). s.rank) c.take_all-run.ensures.same ∙ c.advance-progress.ensures.stays.rank in
+      let still : is_due c2.cap c2.steady false (out_of c2 l) ≡ true = subst (λ (s : State). is_due s.cap s.steady false (out_of s l) ≡ true) c.take_all-run.ensures.same due in
+      let served = c.in_ok-progress.ensures.served.each l (subst (λ (d : List ℕ). l < links d) dims below) (subst (λ (d : List ℕ). sender_at d l ≡ c1.rank) dims (own ∙ rank)) in
+      served.crowded (due_at_end c2.cap c2.steady (at_end c2.dims c2.ins c2.done (hop_at c2.dims l)) (out_of c2 l) still);
+  waits = λ h is sent_same got_same.
+      let R = g.Q.Program.rules in
+      let sent = g.P.Port.sent c.args.port.now in
+      let got = g.P.Port.got c.args.port.now in
+      let sent' = g.P.Port.sent c.advance-progress.new.port in
+      let got' = g.P.Port.got c.advance-progress.new.port in
+      let run : Running g.row.Q.Denot = running c.args.run.now in
+      let i = is in
+      let c0 = c.args.conveyor.now in
+      let c1 = c.push_all-run.new.conveyor in
+      let next = c.push_all-run.result in
+      let push : AfterPush R run c0 c1 next sent got = record {
+        same = c.push_all-run.ensures.same;
+        agrees = c.push_all-run.ensures.kept sent got i.moving.agrees;
+        on = c.push_all-run.ensures.pushed sent got i.moving.agrees;
+        forward = c.push_all-run.ensures.forward;
+        low = c.push_all-run.ensures.next;
+      } in
+      let c2 = c.advance-progress.new.self in
+      let c3 = c.take_all-run.new.conveyor in
+      let prog' = c.take_all-run.new.prog.value in
+      let sum' = c.take_all-run.result.sum in
+      let spoiled' = c.take_all-run.result.spoiled in
+      let voting = c.votes_now-voting.result in
+      let done = next == c.count_of.result in
+      let all : done ≡ (next == length (to_send R run.prog run.sends)) = ap (λ m. next == m) c.count_of.ensures in
+      let adv : AfterAdvance c1 c2 done (is_complete c2.phase) sent got sent' got' = record {
+        agrees = c.advance-progress.ensures.stays.agrees;
+        dims = c.advance-progress.ensures.stays.dims;
+        rank = c.advance-progress.ensures.stays.rank;
+        done_is = c.advance-progress.ensures.stays.done;
+        begun = c.advance-progress.ensures.stays.begun;
+        working = c.in_ok-progress.ensures.settled.working;
+        step = c.advance-progress.ensures.stays.step;
+      } in
+      let grown : Grown c1 c2 g.row.CAP sent sent' got got' = record {
+        steady = c.advance-progress.ensures.stays.steady;
+        epoch = c.advance-progress.ensures.stays.epoch;
+        sent_grows = c.advance-progress.ensures.grows.sent_grows;
+        got_grows = c.advance-progress.ensures.grows.got_grows;
+        one_sent = c.advance-progress.ensures.grows.one_sent;
+        one_got = c.advance-progress.ensures.grows.one_got;
+        shape = c.advance-progress.ensures.grows.shape;
+        lies = c.advance-progress.ensures.asked.lies;
+      } in
+      let takes : AfterTakes R voting c2 c3 run.prog prog' run.sum sum' run.spoiled spoiled' sent' got' = record {
+        same = c.take_all-run.ensures.same;
+        kept = c.take_all-run.ensures.kept;
+        read = c.take_all-run.ensures.read;
+        sound = c.known.ensures.sound;
+        taken = λ h rank round next sends v a. c.take_all-run.ensures.taken h rank round next sends sent' got' v a;
+      } in
+      let advanced : Advanced c1 c2 g.row.CAP sent sent' got got' (g.P.Port.crowded c.advance-progress.new.port) (g.P.Port.idle c.advance-progress.new.port) = record {
+        epoch = c.advance-progress.ensures.stays.epoch;
+        full = c.in_ok-progress.ensures.served.full;
+        idles = c.advance-progress.ensures.asked.idle;
+        lies = c.advance-progress.ensures.asked.lies;
+        closing = c.in_ok-progress.ensures.served.closing;
+        stopped = c.in_ok-progress.ensures.served.stopped;
+        completes = λ over. complete_from c2.phase (sym c.in_ok-progress.ensures.settled.is ∙ c.in_ok-progress.ensures.settled.completes over);
+      } in
+      stuck R h run c0 c1 c2 c3 next g.row.CAP done (is_complete c2.phase) voting prog' sum' spoiled' sent got sent' got' (g.P.Port.crowded c.advance-progress.new.port) (g.P.Port.idle c.advance-progress.new.port)
+      c.known.ensures.grid c.known.ensures.rank push c.push_all-run.ensures.refused c.push_all-run.ensures.receiver all adv advanced takes c.take_all-run.ensures.fewer i sent_same got_same;
+}
 
 pub returns-clause-ended : goal.returns-clause-ended
 returns-clause-ended g c = λ e.
@@ -363,14 +275,3 @@ returns-clause-ended g c = λ e.
 pub returns-clause-going : goal.returns-clause-going
 returns-clause-going g c = λ e p.
     c.turn_of.ensures.going (ok_once e) (c.in_ok-progress.ensures.settled.is ∙ ap progress_of (sym (ap (λ (t : State). t.phase) c.take_all-run.ensures.same) ∙ p))
-
-pub returns-clause-due : goal.returns-clause-due
-returns-clause-due g c = λ ok l below own due.
-    let c1 = c.push_all-run.new.conveyor in
-    let c2 = c.advance-progress.new.self in
-    let c3 = c.take_all-run.new.conveyor in
-    let dims : c3.dims ≡ c1.dims = ap (λ (s : State). s.dims) c.take_all-run.ensures.same ∙ c.advance-progress.ensures.stays.dims in
-    let rank : c3.rank ≡ c1.rank = ap (λ (s : State). s.rank) c.take_all-run.ensures.same ∙ c.advance-progress.ensures.stays.rank in
-    let still : is_due c2.cap c2.steady false (out_of c2 l) ≡ true = subst (λ (s : State). is_due s.cap s.steady false (out_of s l) ≡ true) c.take_all-run.ensures.same due in
-    let served = c.in_ok-progress.ensures.served.each l (subst (λ (d : List ℕ). l < links d) dims below) (subst (λ (d : List ℕ). sender_at d l ≡ c1.rank) dims (own ∙ rank)) in
-    served.crowded (due_at_end c2.cap c2.steady (at_end c2.dims c2.ins c2.done (hop_at c2.dims l)) (out_of c2 l) still)

@@ -1,16 +1,17 @@
-use Rattle.std.proofs.Common.{true, false, refl, ap, ◌∙◌, arith}
+use Rattle.std.proofs.Common.{true, false, refl, sym, ap, ◌∙◌, arith}
+use Rattle.std.proofs.lemmas.Bool.{false≢true}
 use Rattle.exstack.specs.State.{State, in_exchange}
 use Rattle.exstack.specs.Standing.{IsStack}
 use Rattle.exstack.proofs.Beginning.{exchange_begun}
 use Rattle.rank_node.specs.Runs.{Running, running}
-use Rattle.rank_node.proofs.Polled.{Made, AfterExchange, after_poll, exchanged, exchanging_apart, ready_apart}
+use Rattle.rank_node.proofs.Polled.{Made, AfterExchange, after_poll, exchanged, exchanging_apart, ready_apart, waits_like}
 use Rattle.rank_node.specs.Cycles.{has_exchanged}
 use Rattle.rank_node.proofs.Paced.{Exchanges, exchanges_keep}
-use Rattle.rank_node.proofs.Awaited.{exchange_awaits, exchanged_stage}
+use Rattle.rank_node.proofs.Awaited.{exchanges_onward, exchange_awaits, exchanged_stage}
 use Rattle.rank_node.proofs.stacking.exchange.Goals as goal
 
-pub returns-in_err-_made-clause-moves : goal.returns-in_err-_made-clause-moves
-returns-in_err-_made-clause-moves g c =
+pub returns-in_err-_made-clause-polls : goal.returns-in_err-_made-clause-polls
+returns-in_err-_made-clause-polls g c =
     let R = g.Q.Program.rules in
     let sent = g.P.Port.sent c.args.port.now in
     let got = g.P.Port.got c.args.port.now in
@@ -41,10 +42,17 @@ returns-in_err-_made-clause-moves g c =
       made = e.round;
       agrees = e.agrees;
     } in
-    after_poll g.row.CAP x0 (in_exchange x0) x2 false true sent sent' got got' m R run run refl refl (λ h is. exchanged R h run g.row.CAP x0 x2 sent got sent' got' p is)
+    record {
+      moves = after_poll g.row.CAP x0 (in_exchange x0) x2 false true sent sent' got got' m R run run refl refl (λ h is. exchanged R h run g.row.CAP x0 x2 sent got sent' got' p is);
+      onward = exchanges_onward x0.stage x2.stage c.requires.may (ap has_exchanged (c.in_err-_made.ensures.no_memory refl));
+      next = refl;
+      emissions = refl;
+      sends = refl;
+      same_port = e.same_port;
+    }
 
-pub returns-clause-moves : goal.returns-clause-moves
-returns-clause-moves g c =
+pub returns-clause-polls : goal.returns-clause-polls
+returns-clause-polls g c =
     let R = g.Q.Program.rules in
     let sent = g.P.Port.sent c.args.port.now in
     let got = g.P.Port.got c.args.port.now in
@@ -75,7 +83,14 @@ returns-clause-moves g c =
       made = e.round;
       agrees = e.agrees;
     } in
-    after_poll g.row.CAP x0 (in_exchange x0) x2 false true sent sent' got got' m R run run refl refl (λ h is. exchanged R h run g.row.CAP x0 x2 sent got sent' got' p is)
+    record {
+      moves = after_poll g.row.CAP x0 (in_exchange x0) x2 false true sent sent' got got' m R run run refl refl (λ h is. exchanged R h run g.row.CAP x0 x2 sent got sent' got' p is);
+      onward = exchanges_onward x0.stage x2.stage c.requires.may (ap has_exchanged (c.in_ok-_made.ensures.stage) ∙ exchanged_stage _);
+      next = refl;
+      emissions = refl;
+      sends = refl;
+      same_port = e.same_port;
+    }
 
 pub returns-in_err-_made-clause-cycle : goal.returns-in_err-_made-clause-cycle
 returns-in_err-_made-clause-cycle g c = λ quota n i.
@@ -97,8 +112,18 @@ returns-clause-cycle g c = λ quota n i.
     let p : Exchanges c.args.exstack.now c.poll_exchange-polled.new.self sent got sent' got' = record { same = e.same; made = e.round; agrees = e.cycle; exchanged = ap has_exchanged (c.in_ok-_made.ensures.stage) ∙ exchanged_stage _ } in
     exchanges_keep g.Q.Program.rules (running c.args.run.now) c.args.exstack.now c.poll_exchange-polled.new.self sent got sent' got' p quota n i
 
-pub returns-clause-awaits : goal.returns-clause-awaits
-returns-clause-awaits g c = λ ok. exchange_awaits g.row.CAP c.poll_exchange-polled.new.self c.known.ensures.standing _ c.in_ok-_made.ensures.answer c.in_ok-_made.ensures.stage
+pub returns-clause-in_full : goal.returns-clause-in_full
+returns-clause-in_full g c =
+    let x0 = c.args.exstack.now in
+    let begun = exchange_begun x0 in
+    let asks = c.in_ok-_made.ensures.asks in
+    record {
+      awaits = exchange_awaits g.row.CAP c.poll_exchange-polled.new.self c.known.ensures.standing _ c.in_ok-_made.ensures.answer c.in_ok-_made.ensures.stage;
+      due = tt;
+      waits = waits_like x0 (in_exchange x0) c.poll_exchange-polled.new.self (g.P.Port.got c.args.port.now) (g.P.Port.got c.poll_exchange-polled.new.port) (g.P.Port.crowded c.poll_exchange-polled.new.port) (g.P.Port.idle c.poll_exchange-polled.new.port)
+          begun.ranks begun.rank (record { posts = asks.crowded; collects = λ a w due. (asks.asked a w due).in_vain });
+    }
 
-pub returns-clause-waits : goal.returns-clause-waits
-returns-clause-waits g c = record { posts = c.in_ok-_made.ensures.crowded refl; collects = λ a w due. (c.in_ok-_made.ensures.asked refl a w due).in_vain }
+pub returns-clause-stage : goal.returns-clause-stage
+returns-clause-stage g c = λ is.
+    false≢true (sym (ap has_exchanged is) ∙ (ap has_exchanged c.in_ok-_made.ensures.stage ∙ exchanged_stage _))

@@ -7,7 +7,7 @@ use Rattle.rank_node.specs.Runs.{Running, running}
 use Rattle.rank_node.proofs.Polled.{Made, AfterProceed, after_poll, proceeded, same_done, done_keeps, waits_like}
 use Rattle.rank_node.specs.Cycles.{has_proceeded}
 use Rattle.rank_node.proofs.Paced.{proceeds_of, proceeds_keep}
-use Rattle.rank_node.proofs.Awaited.{proceed_awaits, proceeded_stage, filling_open, proceeding_apart}
+use Rattle.rank_node.proofs.Awaited.{proceed_ranks, proceed_rank, proceeds_onward, proceed_awaits, proceeded_stage, filling_open, proceeding_apart}
 use Rattle.rank_node.proofs.stacking.proceed.Goals as goal
 
 pub poll_proceed-polled-requires : goal.poll_proceed-polled-requires
@@ -47,8 +47,8 @@ poll_proceed-polled-requires g c =
       ),
     )
 
-pub returns-in_err-polled-clause-moves : goal.returns-in_err-polled-clause-moves
-returns-in_err-polled-clause-moves g c =
+pub returns-in_err-polled-clause-polls : goal.returns-in_err-polled-clause-polls
+returns-in_err-polled-clause-polls g c =
     let R = g.Q.Program.rules in
     let sent = g.P.Port.sent c.args.port.now in
     let got = g.P.Port.got c.args.port.now in
@@ -87,11 +87,18 @@ returns-in_err-polled-clause-moves g c =
       made = e.round;
       agrees = e.agrees;
     } in
-    after_poll g.row.CAP x0 (in_proceed done x1) x2 done false sent sent' got got' m R run _ refl refl
-    (λ h is. proceeded R h run g.row.CAP x0 x1 x2 prog' sum' spoiled' voting done sent got sent' got' (sym c.votes_now-voting.ensures) pops all p is)
+    record {
+      moves = after_poll g.row.CAP x0 (in_proceed done x1) x2 done false sent sent' got got' m R run _ refl refl
+          (λ h is. proceeded R h run g.row.CAP x0 x1 x2 prog' sum' spoiled' voting done sent got sent' got' (sym c.votes_now-voting.ensures) pops all p is);
+      onward = proceeds_onward x0.stage x2.stage c.requires.may (ap has_proceeded (c.in_err-polled.ensures.no_memory refl));
+      next = refl;
+      emissions = pops.emissions;
+      sends = refl;
+      same_port = e.same_port;
+    }
 
-pub returns-in-GoOn-clause-moves : goal.returns-in-GoOn-clause-moves
-returns-in-GoOn-clause-moves g c =
+pub returns-in-GoOn-clause-polls : goal.returns-in-GoOn-clause-polls
+returns-in-GoOn-clause-polls g c =
     let R = g.Q.Program.rules in
     let sent = g.P.Port.sent c.args.port.now in
     let got = g.P.Port.got c.args.port.now in
@@ -130,11 +137,18 @@ returns-in-GoOn-clause-moves g c =
       made = e.round;
       agrees = e.agrees;
     } in
-    after_poll g.row.CAP x0 (in_proceed done x1) x2 done false sent sent' got got' m R run _ refl refl
-    (λ h is. proceeded R h run g.row.CAP x0 x1 x2 prog' sum' spoiled' voting done sent got sent' got' (sym c.votes_now-voting.ensures) pops all p is)
+    record {
+      moves = after_poll g.row.CAP x0 (in_proceed done x1) x2 done false sent sent' got got' m R run _ refl refl
+          (λ h is. proceeded R h run g.row.CAP x0 x1 x2 prog' sum' spoiled' voting done sent got sent' got' (sym c.votes_now-voting.ensures) pops all p is);
+      onward = proceeds_onward x0.stage x2.stage c.requires.may (ap has_proceeded (c.in_ok-polled.ensures.stage) ∙ proceeded_stage _);
+      next = refl;
+      emissions = pops.emissions;
+      sends = refl;
+      same_port = e.same_port;
+    }
 
-pub returns-in-AllDone-clause-moves : goal.returns-in-AllDone-clause-moves
-returns-in-AllDone-clause-moves g c =
+pub returns-in-AllDone-clause-polls : goal.returns-in-AllDone-clause-polls
+returns-in-AllDone-clause-polls g c =
     let R = g.Q.Program.rules in
     let sent = g.P.Port.sent c.args.port.now in
     let got = g.P.Port.got c.args.port.now in
@@ -173,15 +187,29 @@ returns-in-AllDone-clause-moves g c =
       made = e.round;
       agrees = e.agrees;
     } in
-    after_poll g.row.CAP x0 (in_proceed done x1) x2 done false sent sent' got got' m R run _ refl refl
-    (λ h is. proceeded R h run g.row.CAP x0 x1 x2 prog' sum' spoiled' voting done sent got sent' got' (sym c.votes_now-voting.ensures) pops all p is)
+    record {
+      moves = after_poll g.row.CAP x0 (in_proceed done x1) x2 done false sent sent' got got' m R run _ refl refl
+          (λ h is. proceeded R h run g.row.CAP x0 x1 x2 prog' sum' spoiled' voting done sent got sent' got' (sym c.votes_now-voting.ensures) pops all p is);
+      onward = proceeds_onward x0.stage x2.stage c.requires.may (ap has_proceeded (c.in_ok-polled.ensures.stage) ∙ proceeded_stage _);
+      next = refl;
+      emissions = pops.emissions;
+      sends = refl;
+      same_port = e.same_port;
+    }
 
-pub returns-in-GoOn-clause-waits : goal.returns-in-GoOn-clause-waits
-returns-in-GoOn-clause-waits g c =
+pub returns-in-GoOn-clause-in_full : goal.returns-in-GoOn-clause-in_full
+returns-in-GoOn-clause-in_full g c =
     let pops = c.pop_all-run.ensures.pops in
-    waits_like c.args.exstack.now c.pop_all-run.new.exstack c.poll_proceed-polled.new.self (g.P.Port.got c.args.port.now) (g.P.Port.got c.poll_proceed-polled.new.port) (g.P.Port.crowded c.poll_proceed-polled.new.port) (g.P.Port.idle c.poll_proceed-polled.new.port)
-    (ap (λ (t : State). t.ranks) pops.same) (ap (λ (t : State). t.rank) pops.same)
-    (record { posts = c.in_ok-polled.ensures.crowded refl; collects = λ a low due. (c.in_ok-polled.ensures.asked refl a low due).in_vain })
+    let x1 = c.pop_all-run.new.exstack in
+    let done = c.args.run.now.next == c.count_of.result in
+    let asks = c.in_ok-polled.ensures.asks in
+    record {
+      awaits = proceed_awaits g.row.CAP c.poll_proceed-polled.new.self c.known.ensures.standing _ c.in_ok-polled.ensures.answer c.in_ok-polled.ensures.stage;
+      due = tt;
+      waits = waits_like c.args.exstack.now (in_proceed done x1) c.poll_proceed-polled.new.self (g.P.Port.got c.args.port.now) (g.P.Port.got c.poll_proceed-polled.new.port) (g.P.Port.crowded c.poll_proceed-polled.new.port) (g.P.Port.idle c.poll_proceed-polled.new.port)
+          (proceed_ranks done x1 ∙ ap (λ (t : State). t.ranks) pops.same) (proceed_rank done x1 ∙ ap (λ (t : State). t.rank) pops.same)
+          (record { posts = asks.crowded; collects = λ a low due. (asks.asked a low due).in_vain });
+    }
 
 pub returns-in_err-polled-clause-cycle : goal.returns-in_err-polled-clause-cycle
 returns-in_err-polled-clause-cycle g c = λ quota n i.
@@ -240,12 +268,16 @@ returns-in-AllDone-clause-cycle g c = λ quota n i.
     c.pop_all-run.ensures.pops all c.requires.turns.node c.known.ensures.standing c.requires.may e.same e.round e.cycle (ap has_proceeded (c.in_ok-polled.ensures.stage) ∙ proceeded_stage _) (λ f. filling_open _ _ _ c.in_ok-polled.ensures.answer (sym (c.in_ok-polled.ensures.stage) ∙ f)) in
     proceeds_keep R g.row.CAP run _ x0 x1 x2 done sent got sent' got' p quota n i
 
-pub returns-in-GoOn-clause-awaits : goal.returns-in-GoOn-clause-awaits
-returns-in-GoOn-clause-awaits g c = λ ok. proceed_awaits g.row.CAP c.poll_proceed-polled.new.self c.known.ensures.standing _ c.in_ok-polled.ensures.answer c.in_ok-polled.ensures.stage
-
-pub returns-in-AllDone-clause-waits : goal.returns-in-AllDone-clause-waits
-returns-in-AllDone-clause-waits g c =
+pub returns-in-AllDone-clause-in_full : goal.returns-in-AllDone-clause-in_full
+returns-in-AllDone-clause-in_full g c =
     let pops = c.pop_all-run.ensures.pops in
-    waits_like c.args.exstack.now c.pop_all-run.new.exstack c.poll_proceed-polled.new.self (g.P.Port.got c.args.port.now) (g.P.Port.got c.poll_proceed-polled.new.port) (g.P.Port.crowded c.poll_proceed-polled.new.port) (g.P.Port.idle c.poll_proceed-polled.new.port)
-    (ap (λ (t : State). t.ranks) pops.same) (ap (λ (t : State). t.rank) pops.same)
-    (record { posts = c.in_ok-polled.ensures.crowded refl; collects = λ a low due. (c.in_ok-polled.ensures.asked refl a low due).in_vain })
+    let x1 = c.pop_all-run.new.exstack in
+    let done = c.args.run.now.next == c.count_of.result in
+    let asks = c.in_ok-polled.ensures.asks in
+    record {
+      awaits = proceed_awaits g.row.CAP c.poll_proceed-polled.new.self c.known.ensures.standing _ c.in_ok-polled.ensures.answer c.in_ok-polled.ensures.stage;
+      due = tt;
+      waits = waits_like c.args.exstack.now (in_proceed done x1) c.poll_proceed-polled.new.self (g.P.Port.got c.args.port.now) (g.P.Port.got c.poll_proceed-polled.new.port) (g.P.Port.crowded c.poll_proceed-polled.new.port) (g.P.Port.idle c.poll_proceed-polled.new.port)
+          (proceed_ranks done x1 ∙ ap (λ (t : State). t.ranks) pops.same) (proceed_rank done x1 ∙ ap (λ (t : State). t.rank) pops.same)
+          (record { posts = asks.crowded; collects = λ a low due. (asks.asked a low due).in_vain });
+    }

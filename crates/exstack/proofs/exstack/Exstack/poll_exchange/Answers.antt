@@ -2,7 +2,7 @@ use Rattle.std.proofs.Common.{◌≡◌, ℕ, ◌<◌, arith, refl, ◌||◌, tr
 use Rattle.port_bank.specs.Logs.{Logs}
 use Rattle.exstack.specs.declared.stage.Stage.{Stage}
 use Rattle.exstack.specs.declared.stage.Stage.TheVariants.{Exchanging}
-use Rattle.exstack.specs.Steps.{InVain}
+use Rattle.exstack.specs.Steps.{AsksOnce}
 use Rattle.exstack.specs.State.{State, in_at, number, link_from, is_proceeding, is_exchanging, in_exchange, stage_of_exchange}
 use Rattle.exstack.specs.Agreement.{AgreesIn, rounds_in}
 use Rattle.exstack.specs.Standing.{IsStack}
@@ -12,7 +12,7 @@ use Rattle.exstack.specs.Parts.{part_of, is_all_done}
 use Rattle.exstack.proofs.Manners.{Kind, kind_of, and_false}
 use Rattle.exstack.proofs.Polling.{SameLists, Polled, exchange_lists, made_lists, lists_after, idle_poll, exchange_not_all, exchange_stays, exchange_epoch}
 use Rattle.exstack.proofs.Beginning.{Begun, exchange_begun, exchange_agrees}
-use Rattle.exstack.proofs.Settling.{agrees_staged, exchange_rounds}
+use Rattle.exstack.proofs.Settling.{agrees_staged, asks_staged, exchange_rounds}
 use Rattle.exstack.specs.Links.{no_in}
 use Rattle.exstack.specs.Cycles.{exchange_parcel, entries_in}
 use Rattle.exstack.proofs.OneLink.{whole_after}
@@ -113,18 +113,16 @@ returns-clause-cycle g c =
     (agrees_staged n h (stage_of_exchange r) sent' got' (ap (rounds_in n) stage ∙ exchange_rounds n r) (c.go_round.ensures.cycle n (agrees n a))) in
     over
 
-pub returns-clause-asked : goal.returns-clause-asked
-returns-clause-asked g c = λ ok a w due.
+pub returns-clause-asks : goal.returns-clause-asks
+returns-clause-asks g c =
     let now : State = c.args.self.now in
     let b : State = c.begin_exchange.new.self in
+    let h : State = c.go_round.new.self in
     let view : c.self.inside.stack ≡ now = c.self.view_is in
     let is : b ≡ in_exchange now = c.begin_exchange.ensures.state ∙ ap (in_exchange) view in
-    let s : IsStack g.row.CAP now = subst (IsStack g.row.CAP) view c.begin_exchange.ensures.standing in
-    let k : Begun b Exchanging now.done now = subst (λ (t : State). Begun t Exchanging now.done now) (sym is) (exchange_begun now) in
-    let same : link_from b a ≡ link_from now a = ap (λ n. number n a b.rank) k.ranks ∙ ap (λ r. number now.ranks a r) k.rank in
-    let still : (in_at c.go_round.new.self a).due ≡ true = ap (λ (t : State). (in_at t a).due) (sym c.settle_exchange.ensures.state) ∙ due in
-    subst (λ l. InVain (g.P.Port.noted c.args.port.now l) (g.P.Port.noted c.go_round.new.port l) (g.P.Port.idle c.go_round.new.port l)) same
-    (c.go_round.ensures.asked (search rules) a (subst (λ n. a < n) (sym k.ranks) w) still)
+    subst (λ (t : State). AsksOnce g.P.Port t c.settle_exchange.new.self c.args.port.now c.go_round.new.port) is
+    (subst (λ (t : State). AsksOnce g.P.Port b t c.args.port.now c.go_round.new.port) (sym c.settle_exchange.ensures.state)
+    (asks_staged g.P.Port b h (stage_of_exchange c.settle_exchange.result) c.args.port.now c.go_round.new.port c.in_ok-missing.ensures.asks))
 
 pub returns-in_err-missing-clause-step : goal.returns-in_err-missing-clause-step
 returns-in_err-missing-clause-step g c =

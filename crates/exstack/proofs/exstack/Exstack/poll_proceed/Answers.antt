@@ -3,13 +3,14 @@ use Rattle.port_bank.specs.Logs.{Logs}
 use Rattle.exstack.specs.declared.stage.Stage.{Stage}
 use Rattle.exstack.specs.declared.stage.Stage.TheVariants.{Proceeding}
 use Rattle.exstack.specs.State.{State, is_proceeding, is_exchanging, in_proceed, stage_of_proceed}
+use Rattle.exstack.specs.Steps.{AsksOnce}
 use Rattle.exstack.specs.Agreement.{AgreesIn, rounds_in, cycle_after}
 use Rattle.exstack.specs.Standing.{IsStack}
 use Rattle.exstack.specs.Parts.{part_of, is_all_done, AreOwnSteps, proceed_steps}
 use Rattle.exstack.proofs.Manners.{Kind, kind_of, and_true}
 use Rattle.exstack.proofs.Polling.{SameLists, Polled, proceed_lists, made_lists, lists_after, proceed_poll, may_not_all, proceed_epoch}
 use Rattle.exstack.proofs.Beginning.{Begun, proceed_begun, proceed_agrees}
-use Rattle.exstack.proofs.Settling.{agrees_staged, proceed_rounds}
+use Rattle.exstack.proofs.Settling.{agrees_staged, asks_staged, proceed_rounds}
 use Rattle.exstack.proofs.exstack.Exstack.poll_proceed.Goals as goal
 
 pub go_round-requires : goal.go_round-requires
@@ -106,6 +107,17 @@ returns-clause-cycle g c =
     subst (λ (t : State). AgreesIn (cycle_after n now.stage) t sent' got') (sym c.settle_proceed.ensures.state)
     (agrees_staged (cycle_after n now.stage) h (stage_of_proceed r) sent' got' (ap (rounds_in (cycle_after n now.stage)) stage ∙ proceed_rounds (cycle_after n now.stage) r) (c.go_round.ensures.cycle (cycle_after n now.stage) (agrees n a))) in
     over
+
+pub returns-clause-asks : goal.returns-clause-asks
+returns-clause-asks g c =
+    let now : State = c.args.self.now in
+    let b : State = c.begin_proceed.new.self in
+    let h : State = c.go_round.new.self in
+    let view : c.self.inside.stack ≡ now = c.self.view_is in
+    let is : b ≡ in_proceed c.args.done now = c.begin_proceed.ensures.state ∙ ap (in_proceed c.args.done) view in
+    subst (λ (t : State). AsksOnce g.P.Port t c.settle_proceed.new.self c.args.port.now c.go_round.new.port) is
+    (subst (λ (t : State). AsksOnce g.P.Port b t c.args.port.now c.go_round.new.port) (sym c.settle_proceed.ensures.state)
+    (asks_staged g.P.Port b h (stage_of_proceed c.settle_proceed.result) c.args.port.now c.go_round.new.port c.in_ok-missing.ensures.asks))
 
 pub returns-in_err-missing-clause-steps : goal.returns-in_err-missing-clause-steps
 returns-in_err-missing-clause-steps g c =

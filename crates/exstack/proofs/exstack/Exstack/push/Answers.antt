@@ -16,7 +16,7 @@ returns-clause-kept g c =
     let view : c.self.inside.stack ≡ now = c.self.view_is in
     let s : IsStack g.row.CAP now = subst (IsStack g.row.CAP) view c.known.ensures in
     λ n sent got a. elim (cases_lt 0 c.push.result) [
-      | inl h ↦ subst (λ (t : State). AgreesIn n t sent got) (sym (c.push.ensures.pushed h ∙ ap (λ (t : State). pushed_on t c.args.item c.args.to) view)) (push_agrees g.row.CAP now c.args.to c.args.item s c.requires.to n sent got a)
+      | inl h ↦ subst (λ (t : State). AgreesIn n t sent got) (sym (c.push.ensures.pushed h ∙ ap (λ (t : State). pushed_on t c.args.item c.args.to) view)) (push_agrees g.row.CAP now c.args.to c.args.item s c.requires.may.within n sent got a)
       | inr h ↦ subst (λ (t : State). AgreesIn n t sent got) (sym (c.push.ensures.full (omega arith) ∙ ap (λ (t : State). record t { popped = None }) view)) (agrees_rest n now sent got a)
     ]
 
@@ -26,7 +26,7 @@ returns-clause-step_pushed g c =
     let view : c.self.inside.stack ≡ now = c.self.view_is in
     let s : IsStack g.row.CAP now = subst (IsStack g.row.CAP) view c.known.ensures in
     λ h n sent got a. subst (λ (t : State). IsOwnStep (Push c.args.to c.args.item) (part_of now sent got) (part_of t sent got)) (sym (c.push.ensures.pushed h ∙ ap (λ (t : State). pushed_on t c.args.item c.args.to) view))
-    (push_step g.row.CAP now c.args.to c.args.item s c.requires.to c.requires.not_done n sent got a)
+    (push_step g.row.CAP now c.args.to c.args.item s c.requires.may.within c.requires.may.not_done n sent got a)
 
 pub returns-clause-step_full : goal.returns-clause-step_full
 returns-clause-step_full g c =

@@ -24,5 +24,5 @@ invariant_of-self-2 g c =
     let not_yet : is_exchanging st.stage ≡ false = search rules in
     let k : IsKept g.row.CAP (record st { stage = Exchanging; outs = map begun_out st.outs; ins = map begun_in st.ins; popped = None }) c.self.inside.from =
     exchange_kept g.row.CAP st c.self.inside.from c.self.invariant (exchange_filling st.stage may not_yet) in
-    subst (λ (outs : List Out). IsKept g.row.CAP (record st { stage = Exchanging; outs = outs; ins = c.begin_all.new.ins.items; popped = None }) c.self.inside.from) (sym c.begin_all.ensures.outs)
-    (subst (λ (ins : List In). IsKept g.row.CAP (record st { stage = Exchanging; outs = map begun_out st.outs; ins = ins; popped = None }) c.self.inside.from) (sym c.begin_all.ensures.ins) k)
+    subst (λ (outs : List Out). IsKept g.row.CAP (record st { stage = Exchanging; outs = outs; ins = c.begin_ins.new.links.items; popped = None }) c.self.inside.from) (sym c.begin_outs.ensures)
+    (subst (λ (ins : List In). IsKept g.row.CAP (record st { stage = Exchanging; outs = map begun_out st.outs; ins = ins; popped = None }) c.self.inside.from) (sym c.begin_ins.ensures) k)

@@ -25,5 +25,5 @@ invariant_of-self-2 g c =
     let stays : st.done ≡ true → c.args.done ≡ true = λ h. c.requires.done_stays (ap (λ (t : State). t.done) (sym view) ∙ h) in
     let k : IsKept g.row.CAP (record st { stage = Proceeding; done = c.args.done; outs = map begun_out st.outs; ins = map begun_in st.ins; popped = None }) c.self.inside.from =
     proceed_kept g.row.CAP st c.self.inside.from c.args.done c.self.invariant may not_yet stays in
-    subst (λ (outs : List Out). IsKept g.row.CAP (record st { stage = Proceeding; done = c.args.done; outs = outs; ins = c.begin_all.new.ins.items; popped = None }) c.self.inside.from) (sym c.begin_all.ensures.outs)
-    (subst (λ (ins : List In). IsKept g.row.CAP (record st { stage = Proceeding; done = c.args.done; outs = map begun_out st.outs; ins = ins; popped = None }) c.self.inside.from) (sym c.begin_all.ensures.ins) k)
+    subst (λ (outs : List Out). IsKept g.row.CAP (record st { stage = Proceeding; done = c.args.done; outs = outs; ins = c.begin_ins.new.links.items; popped = None }) c.self.inside.from) (sym c.begin_outs.ensures)
+    (subst (λ (ins : List In). IsKept g.row.CAP (record st { stage = Proceeding; done = c.args.done; outs = map begun_out st.outs; ins = ins; popped = None }) c.self.inside.from) (sym c.begin_ins.ensures) k)

@@ -1,9 +1,10 @@
-use Rattle.std.proofs.Common.{◌≡◌, ℕ, ◌<◌, Bool, length, get_or, refl, sym, ap, subst, ◌∙◌, arith}
+use Rattle.std.proofs.Common.{◌≡◌, ℕ, ◌<◌, Bool, length, get_or, refl, sym, ap, subst, ◌∙◌, arith, rules}
 use Rattle.list_laws.specs.Lists.{Begins}
 use Rattle.port_bank.specs.Logs.{Logs}
+use Rattle.port_bank.specs.Calls.{once_more_if}
 use Rattle.port_bank.proofs.Kept.{law_same}
 use Rattle.exstack.specs.Links.{no_in}
-use Rattle.exstack.specs.State.{State, dims_of, number, link_from}
+use Rattle.exstack.specs.State.{State, dims_of, in_at, number, link_from}
 use Rattle.exstack.specs.Agreement.{AgreesIn}
 use Rattle.exstack.specs.Steps.{WasCollected, MadeRound, InVain}
 use Rattle.exstack.specs.Standing.{IsStack}
@@ -34,7 +35,7 @@ invariant_of-self g c =
       count = e.count;
       moved = e.moved;
       law = law_same _ _ _ _ _ _ _ _ (ap dims_of view ∙ sym c.requires.at_port.same_dims) (ap (λ (t : State). t.rank) view ∙ sym c.requires.at_port.same_rank) refl refl e.law;
-      grows = e.grows;
+      grows = e.left.grows;
     } in
     let q : CollectsDone st st.ins c.args.exchange sent' got got = none_done st c.args.exchange sent' got in
     record {
@@ -67,10 +68,10 @@ returns-in_err-post_all-clause-cycle g c =
       count = e.count;
       moved = e.moved;
       law = law_same _ _ _ _ _ _ _ _ (ap dims_of view ∙ sym c.requires.at_port.same_dims) (ap (λ (t : State). t.rank) view ∙ sym c.requires.at_port.same_rank) refl refl e.law;
-      grows = e.grows;
+      grows = e.left.grows;
     } in
     let q : CollectsDone st st.ins c.args.exchange sent' got got = none_done st c.args.exchange sent' got in
-    λ n a. subst (λ (logs : Logs). AgreesIn n (after_round st c.post_all.new.outs.items st.ins) sent' logs) (sym e.same_ins.got)
+    λ n a. subst (λ (logs : Logs). AgreesIn n (after_round st c.post_all.new.outs.items st.ins) sent' logs) (sym e.left.same_ins.got)
     (agrees_done g.row.CAP st c.post_all.new.outs.items st.ins c.args.last c.args.exchange sent sent' got got s b p q n (subst (λ t. AgreesIn n t sent got) (sym view) a))
 
 pub invariant_of-self-2 : goal.invariant_of-self-2
@@ -97,16 +98,16 @@ invariant_of-self-2 g c =
       count = e.count;
       moved = e.moved;
       law = law_same _ _ _ _ _ _ _ _ (ap dims_of view ∙ sym c.requires.at_port.same_dims) (ap (λ (t : State). t.rank) view ∙ sym c.requires.at_port.same_rank) refl refl e.law;
-      grows = e.grows;
+      grows = e.left.grows;
     } in
     let got' : Logs = g.P.Port.got c.collect_all.new.port in
     let f = c.collect_all.ensures in
     let q : CollectsDone st c.collect_all.new.ins.items c.args.exchange sent' got got' = record {
       count = f.count;
-      moved = subst (λ (logs : Logs). (a : ℕ) → a < length st.ins → WasCollected c.args.exchange (get_or st.ins a no_in) (get_or c.collect_all.new.ins.items a no_in) (logs (number (length st.ins) a st.rank)) (got' (number (length st.ins) a st.rank))) e.same_ins.got f.moved;
-      own = subst (λ (logs : Logs). Begins (logs (number (length st.ins) st.rank st.rank)) (sent' (number (length st.ins) st.rank st.rank)) → Begins (got' (number (length st.ins) st.rank st.rank)) (sent' (number (length st.ins) st.rank st.rank))) e.same_ins.got
-          (subst (λ (logs : Logs). Begins (g.P.Port.got c.post_all.new.port (number (length st.ins) st.rank st.rank)) (sent' (number (length st.ins) st.rank st.rank)) → Begins (got' (number (length st.ins) st.rank st.rank)) (logs (number (length st.ins) st.rank st.rank))) f.same_outs.sent f.own);
-      grows = subst (λ (logs : Logs). (m : ℕ) → Begins (logs m) (got' m)) e.same_ins.got f.grows;
+      moved = subst (λ (logs : Logs). (a : ℕ) → a < length st.ins → WasCollected c.args.exchange (get_or st.ins a no_in) (get_or c.collect_all.new.ins.items a no_in) (logs (number (length st.ins) a st.rank)) (got' (number (length st.ins) a st.rank))) e.left.same_ins.got f.moved;
+      own = subst (λ (logs : Logs). Begins (logs (number (length st.ins) st.rank st.rank)) (sent' (number (length st.ins) st.rank st.rank)) → Begins (got' (number (length st.ins) st.rank st.rank)) (sent' (number (length st.ins) st.rank st.rank))) e.left.same_ins.got
+          (subst (λ (logs : Logs). Begins (g.P.Port.got c.post_all.new.port (number (length st.ins) st.rank st.rank)) (sent' (number (length st.ins) st.rank st.rank)) → Begins (got' (number (length st.ins) st.rank st.rank)) (logs (number (length st.ins) st.rank st.rank))) f.left.same_outs.sent f.own);
+      grows = subst (λ (logs : Logs). (m : ℕ) → Begins (logs m) (got' m)) e.left.same_ins.got f.left.grows;
     } in
     record {
       standing = stack_done g.row.CAP st c.post_all.new.outs.items c.collect_all.new.ins.items c.args.last c.args.exchange sent sent' got got' s b p q;
@@ -138,18 +139,18 @@ returns-clause-cycle g c =
       count = e.count;
       moved = e.moved;
       law = law_same _ _ _ _ _ _ _ _ (ap dims_of view ∙ sym c.requires.at_port.same_dims) (ap (λ (t : State). t.rank) view ∙ sym c.requires.at_port.same_rank) refl refl e.law;
-      grows = e.grows;
+      grows = e.left.grows;
     } in
     let got' : Logs = g.P.Port.got c.collect_all.new.port in
     let f = c.collect_all.ensures in
     let q : CollectsDone st c.collect_all.new.ins.items c.args.exchange sent' got got' = record {
       count = f.count;
-      moved = subst (λ (logs : Logs). (a : ℕ) → a < length st.ins → WasCollected c.args.exchange (get_or st.ins a no_in) (get_or c.collect_all.new.ins.items a no_in) (logs (number (length st.ins) a st.rank)) (got' (number (length st.ins) a st.rank))) e.same_ins.got f.moved;
-      own = subst (λ (logs : Logs). Begins (logs (number (length st.ins) st.rank st.rank)) (sent' (number (length st.ins) st.rank st.rank)) → Begins (got' (number (length st.ins) st.rank st.rank)) (sent' (number (length st.ins) st.rank st.rank))) e.same_ins.got
-          (subst (λ (logs : Logs). Begins (g.P.Port.got c.post_all.new.port (number (length st.ins) st.rank st.rank)) (sent' (number (length st.ins) st.rank st.rank)) → Begins (got' (number (length st.ins) st.rank st.rank)) (logs (number (length st.ins) st.rank st.rank))) f.same_outs.sent f.own);
-      grows = subst (λ (logs : Logs). (m : ℕ) → Begins (logs m) (got' m)) e.same_ins.got f.grows;
+      moved = subst (λ (logs : Logs). (a : ℕ) → a < length st.ins → WasCollected c.args.exchange (get_or st.ins a no_in) (get_or c.collect_all.new.ins.items a no_in) (logs (number (length st.ins) a st.rank)) (got' (number (length st.ins) a st.rank))) e.left.same_ins.got f.moved;
+      own = subst (λ (logs : Logs). Begins (logs (number (length st.ins) st.rank st.rank)) (sent' (number (length st.ins) st.rank st.rank)) → Begins (got' (number (length st.ins) st.rank st.rank)) (sent' (number (length st.ins) st.rank st.rank))) e.left.same_ins.got
+          (subst (λ (logs : Logs). Begins (g.P.Port.got c.post_all.new.port (number (length st.ins) st.rank st.rank)) (sent' (number (length st.ins) st.rank st.rank)) → Begins (got' (number (length st.ins) st.rank st.rank)) (logs (number (length st.ins) st.rank st.rank))) f.left.same_outs.sent f.own);
+      grows = subst (λ (logs : Logs). (m : ℕ) → Begins (logs m) (got' m)) e.left.same_ins.got f.left.grows;
     } in
-    λ n a. subst (λ (logs : Logs). AgreesIn n (after_round st c.post_all.new.outs.items c.collect_all.new.ins.items) logs got') (sym f.same_outs.sent)
+    λ n a. subst (λ (logs : Logs). AgreesIn n (after_round st c.post_all.new.outs.items c.collect_all.new.ins.items) logs got') (sym f.left.same_outs.sent)
     (agrees_done g.row.CAP st c.post_all.new.outs.items c.collect_all.new.ins.items c.args.last c.args.exchange sent sent' got got' s b p q n (subst (λ t. AgreesIn n t sent got) (sym view) a))
 
 pub returns-clause-round : goal.returns-clause-round
@@ -176,23 +177,23 @@ returns-clause-round g c =
       count = e.count;
       moved = e.moved;
       law = law_same _ _ _ _ _ _ _ _ (ap dims_of view ∙ sym c.requires.at_port.same_dims) (ap (λ (t : State). t.rank) view ∙ sym c.requires.at_port.same_rank) refl refl e.law;
-      grows = e.grows;
+      grows = e.left.grows;
     } in
     let got' : Logs = g.P.Port.got c.collect_all.new.port in
     let f = c.collect_all.ensures in
     let q : CollectsDone st c.collect_all.new.ins.items c.args.exchange sent' got got' = record {
       count = f.count;
-      moved = subst (λ (logs : Logs). (a : ℕ) → a < length st.ins → WasCollected c.args.exchange (get_or st.ins a no_in) (get_or c.collect_all.new.ins.items a no_in) (logs (number (length st.ins) a st.rank)) (got' (number (length st.ins) a st.rank))) e.same_ins.got f.moved;
-      own = subst (λ (logs : Logs). Begins (logs (number (length st.ins) st.rank st.rank)) (sent' (number (length st.ins) st.rank st.rank)) → Begins (got' (number (length st.ins) st.rank st.rank)) (sent' (number (length st.ins) st.rank st.rank))) e.same_ins.got
-          (subst (λ (logs : Logs). Begins (g.P.Port.got c.post_all.new.port (number (length st.ins) st.rank st.rank)) (sent' (number (length st.ins) st.rank st.rank)) → Begins (got' (number (length st.ins) st.rank st.rank)) (logs (number (length st.ins) st.rank st.rank))) f.same_outs.sent f.own);
-      grows = subst (λ (logs : Logs). (m : ℕ) → Begins (logs m) (got' m)) e.same_ins.got f.grows;
+      moved = subst (λ (logs : Logs). (a : ℕ) → a < length st.ins → WasCollected c.args.exchange (get_or st.ins a no_in) (get_or c.collect_all.new.ins.items a no_in) (logs (number (length st.ins) a st.rank)) (got' (number (length st.ins) a st.rank))) e.left.same_ins.got f.moved;
+      own = subst (λ (logs : Logs). Begins (logs (number (length st.ins) st.rank st.rank)) (sent' (number (length st.ins) st.rank st.rank)) → Begins (got' (number (length st.ins) st.rank st.rank)) (sent' (number (length st.ins) st.rank st.rank))) e.left.same_ins.got
+          (subst (λ (logs : Logs). Begins (g.P.Port.got c.post_all.new.port (number (length st.ins) st.rank st.rank)) (sent' (number (length st.ins) st.rank st.rank)) → Begins (got' (number (length st.ins) st.rank st.rank)) (logs (number (length st.ins) st.rank st.rank))) f.left.same_outs.sent f.own);
+      grows = subst (λ (logs : Logs). (m : ℕ) → Begins (logs m) (got' m)) e.left.same_ins.got f.left.grows;
     } in
-    subst (λ (logs : Logs). MadeRound c.args.last c.args.exchange now (after_round st c.post_all.new.outs.items c.collect_all.new.ins.items) sent logs got got') (sym f.same_outs.sent)
+    subst (λ (logs : Logs). MadeRound c.args.last c.args.exchange now (after_round st c.post_all.new.outs.items c.collect_all.new.ins.items) sent logs got got') (sym f.left.same_outs.sent)
     (subst (λ (t : State). MadeRound c.args.last c.args.exchange t (after_round st c.post_all.new.outs.items c.collect_all.new.ins.items) sent sent' got got') view
     (round_done g.row.CAP st c.post_all.new.outs.items c.collect_all.new.ins.items c.args.last c.args.exchange sent sent' got got' s b p q))
 
-pub returns-clause-asked : goal.returns-clause-asked
-returns-clause-asked g c = λ ok a w due.
+pub returns-clause-asks : goal.returns-clause-asks
+returns-clause-asks g c =
     let st : State = record {
       ranks = c.self.inside.ranks;
       rank = c.self.inside.rank;
@@ -207,12 +208,26 @@ returns-clause-asked g c = λ ok a w due.
     let view : st ≡ now = c.self.view_is in
     let s : IsStack g.row.CAP st = c.self.invariant.standing in
     let n : ℕ = length st.ins in
-    let u : a < n = omega (arith, w, s.all_ins, ap (λ (t : State). t.ranks) view) in
-    let number_is : number n a st.rank ≡ link_from now a = ap (λ m. number m a st.rank) s.all_ins ∙ ap (λ (t : State). link_from t a) view in
     let noted' : ℕ → ℕ = g.P.Port.noted c.collect_all.new.port in
     let idle' : ℕ → Bool = g.P.Port.idle c.collect_all.new.port in
-    subst (λ l. InVain (g.P.Port.noted c.args.port.now l) (noted' l) (idle' l)) number_is
-    (subst (λ (counts : ℕ → ℕ). InVain (counts (number n a st.rank)) (noted' (number n a st.rank)) (idle' (number n a st.rank))) c.post_all.ensures.same_ins.noted (c.collect_all.ensures.in_vain a u due))
+    let collects' : ℕ → ℕ = g.P.Port.collects c.collect_all.new.port in
+    record {
+      looked = search rules;
+      crowded = search rules;
+      asked = λ a w due.
+          let u : a < n = omega (arith, w, s.all_ins, ap (λ (t : State). t.ranks) view) in
+          let number_is : number n a st.rank ≡ link_from now a = ap (λ m. number m a st.rank) s.all_ins ∙ ap (λ (t : State). link_from t a) view in
+          subst (λ l. InVain (g.P.Port.noted c.args.port.now l) (noted' l) (idle' l)) number_is
+          (subst (λ (counts : ℕ → ℕ). InVain (counts (number n a st.rank)) (noted' (number n a st.rank)) (idle' (number n a st.rank))) c.post_all.ensures.left.same_ins.noted (c.collect_all.ensures.in_vain a u due));
+      posts = search rules;
+      collects = λ a w.
+          let u : a < n = omega (arith, w, s.all_ins, ap (λ (t : State). t.ranks) view) in
+          let l : ℕ = number n a st.rank in
+          let number_is : l ≡ link_from now a = ap (λ m. number m a st.rank) s.all_ins ∙ ap (λ (t : State). link_from t a) view in
+          subst (λ m. collects' m ≡ once_more_if (in_at now a).due (g.P.Port.collects c.args.port.now m)) number_is
+          (subst (λ (counts : ℕ → ℕ). collects' l ≡ once_more_if (in_at now a).due (counts l)) c.post_all.ensures.left.same_ins.collects
+          (subst (λ (t : State). collects' l ≡ once_more_if (in_at t a).due (g.P.Port.collects c.post_all.new.port l)) view (c.collect_all.ensures.collects a u)));
+    }
 
 pub returns-in_err-post_all-clause-round : goal.returns-in_err-post_all-clause-round
 returns-in_err-post_all-clause-round g c =
@@ -238,9 +253,9 @@ returns-in_err-post_all-clause-round g c =
       count = e.count;
       moved = e.moved;
       law = law_same _ _ _ _ _ _ _ _ (ap dims_of view ∙ sym c.requires.at_port.same_dims) (ap (λ (t : State). t.rank) view ∙ sym c.requires.at_port.same_rank) refl refl e.law;
-      grows = e.grows;
+      grows = e.left.grows;
     } in
     let q : CollectsDone st st.ins c.args.exchange sent' got got = none_done st c.args.exchange sent' got in
-    subst (λ (logs : Logs). MadeRound c.args.last c.args.exchange now (after_round st c.post_all.new.outs.items st.ins) sent sent' got logs) (sym e.same_ins.got)
+    subst (λ (logs : Logs). MadeRound c.args.last c.args.exchange now (after_round st c.post_all.new.outs.items st.ins) sent sent' got logs) (sym e.left.same_ins.got)
     (subst (λ (t : State). MadeRound c.args.last c.args.exchange t (after_round st c.post_all.new.outs.items st.ins) sent sent' got got) view
     (round_done g.row.CAP st c.post_all.new.outs.items st.ins c.args.last c.args.exchange sent sent' got got s b p q))

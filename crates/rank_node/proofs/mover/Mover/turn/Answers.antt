@@ -1,9 +1,7 @@
-use Rattle.std.proofs.Common.{rules, ◌≡◌, sym, subst}
+use Rattle.std.proofs.Common.{rules, ◌≡◌, subst}
 use Rattle.rank_node.specs.Movers.{seen, dims_of, rank_of}
-use Rattle.rank_node.specs.Movers.MoverState.{Stacking}
 use Rattle.rank_node.specs.Nodes.{IsNode}
 use Rattle.rank_node.specs.Runs.{running}
-use Rattle.rank_node.specs.Cycles.{IsInCycle, cycle_of_turn}
 use Rattle.rank_node.proofs.mover.Mover.turn.Goals as goal
 
 pub turn_conveyor-requires : goal.turn_conveyor-requires
@@ -19,14 +17,3 @@ turn_exstack-requires g c =
     let sent = g.P.Port.sent c.args.port.now in
     let got = g.P.Port.got c.args.port.now in
     let h = c.requires.turns.first in (search rules, record { same_dims = subst (λ m. g.P.Port.dims c.args.port.now ≡ dims_of (seen m)) c.in-Exstack.is c.requires.turns.same_dims; same_rank = subst (λ m. g.P.Port.rank c.args.port.now ≡ rank_of (seen m)) c.in-Exstack.is c.requires.turns.same_rank; first = h; node = subst (λ m. IsNode R h (record { run = running c.args.run.now; mover = seen m }) sent got) c.in-Exstack.is c.requires.turns.node })
-
-pub returns-in-Exstack-clause-cycle : goal.returns-in-Exstack-clause-cycle
-returns-in-Exstack-clause-cycle g c = λ quota n i.
-    let R = g.Q.Program.rules in
-    let run' = running c.turn_exstack.new.run in
-    let sent = g.P.Port.sent c.args.port.now in
-    let got = g.P.Port.got c.args.port.now in
-    let sent' = g.P.Port.sent c.turn_exstack.new.port in
-    let got' = g.P.Port.got c.turn_exstack.new.port in
-    subst (λ m. IsInCycle R quota (cycle_of_turn n (seen m)) run' (Stacking g.row.CAP c.turn_exstack.new.exstack) sent' got') (sym c.in-Exstack.is)
-    (c.turn_exstack.ensures.cycle quota n (subst (λ m. IsInCycle R quota n (running c.args.run.now) (seen m) sent got) c.in-Exstack.is i))

@@ -1,7 +1,7 @@
-use Rattle.std.proofs.Common.{rules, sym, ap, subst, ◌∙◌}
+use Rattle.std.proofs.Common.{rules, OnOk, sym, ap, subst, ◌∙◌}
 use Rattle.rank_node.specs.Movers.{seen, dims_of, rank_of}
 use Rattle.rank_node.specs.Runs.{running}
-use Rattle.rank_node.specs.Moves.{AfterMoves}
+use Rattle.rank_node.specs.Turns.{Turns, TurnsInFull}
 use Rattle.rank_node.specs.Nodes.{NodeState, IsNode}
 use Rattle.rank_node.proofs.Onward.{seen_cap}
 use Rattle.rank_node.proofs.node.Node.turn.Goals as goal
@@ -16,7 +16,10 @@ turn-requires g c =
 pub returns-clause-cap : goal.returns-clause-cap
 returns-clause-cap g c = seen_cap c.turn.new.self
 
-pub returns-clause-moves : goal.returns-clause-moves
-returns-clause-moves g c =
-    let R = g.Q.Program.rules in
-    subst (λ (m : NodeState g.row.Q.Denot). AfterMoves R g.row.CAP m (record { run = running c.turn.new.run; mover = seen c.turn.new.self }) (g.P.Port.sent c.args.port.now) (g.P.Port.got c.args.port.now) (g.P.Port.sent c.turn.new.port) (g.P.Port.got c.turn.new.port)) c.self.view_is c.turn.ensures.moves
+pub returns-clause-turns : goal.returns-clause-turns
+returns-clause-turns g c =
+    subst (λ (m : NodeState g.row.Q.Denot). Turns g.P.Port g.Q.Program.rules m (record { run = running c.turn.new.run; mover = seen c.turn.new.self }) c.args.port.now c.turn.new.port) c.self.view_is c.turn.ensures.turns
+
+pub returns-clause-in_full : goal.returns-clause-in_full
+returns-clause-in_full g c =
+    subst (λ (m : NodeState g.row.Q.Denot). OnOk c.turn.result (TurnsInFull g.P.Port g.Q.Program.rules m (record { run = running c.turn.new.run; mover = seen c.turn.new.self }) c.args.port.now c.turn.new.port)) c.self.view_is c.turn.ensures.in_full

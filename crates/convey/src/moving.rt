@@ -1,5 +1,5 @@
 //! Moves an exchange on: what an advance does before it settles the phase.
-ghost use Rattle.std.specs.Prelude.{◌≡◌, ◌≢◌, ◌⊎◌, ℕ, ◌<◌, true, false, None, Some, length, slice_get, OnOk, IsOk, IsErr, Result};
+ghost use Rattle.std.specs.Prelude.{◌≡◌, ◌≢◌, ◌⊎◌, ℕ, ◌<◌, true, false, None, Some, length, slice_get, OnOk, IsOk, IsErr};
 ghost use Rattle.port_bank.specs.Calls.{once_more_if};
 ghost use Rattle.port_bank.specs.Frames.{SamePort};
 ghost use Rattle.hop_core.specs.Standing.{IsState};

@@ -1,5 +1,5 @@
 //! One link into a rank: the parcel that came over it and is being read.
-ghost use Rattle.std.specs.Prelude.{◌≡◌, ℕ, ◌<◌, ◌≤◌, true, length, slice_get, Option, None, IsSome, IfOk};
+ghost use Rattle.std.specs.Prelude.{◌≡◌, ◌<◌, ◌≤◌, true, length, slice_get, None, IsSome, IfOk};
 ghost use Rattle.list_laws.specs.Lists.{Begins};
 ghost use Rattle.item_buffer.specs.declared.capacity.TheConstants.{MOST_ENTRIES};
 ghost use Rattle.item_buffer.specs.Capacity.{IsCap};

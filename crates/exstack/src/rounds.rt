@@ -1,5 +1,5 @@
 //! A round over all links of a rank: what begins it, what is posted and collected in it, and what it still waits for.
-ghost use Rattle.std.specs.Prelude.{◌≡◌, ℕ, ◌+◌, ◌*◌, ◌<◌, ◌≤◌, true, false, map, replicate, length, slice_index_or, [], ◌∷◌, IfOk, IfSome, OnOk, IsOk, IsErr};
+ghost use Rattle.std.specs.Prelude.{◌≡◌, ℕ, ◌+◌, ◌*◌, ◌<◌, ◌≤◌, true, false, map, replicate, length, slice_index_or, IfOk, IfSome, OnOk, IsOk, IsErr};
 ghost use Rattle.std.specs.List.{list_all, position, sum_by};
 ghost use Rattle.list_laws.specs.Lists.{Begins};
 ghost use Rattle.item_buffer.specs.Capacity.{IsCap};

@@ -1,6 +1,6 @@
 //! One link into a rank: the parcel that came over it and is being read.
 
-ghost use Rattle.std.specs.Prelude.{◌≡◌, ℕ, ◌+◌, ◌-◌, ◌^◌, ◌<◌, ◌≤◌, ◌==◌, ◌&&◌, ◌||◌, length, sum, map, replicate, take, drop, slice_get, slice_index_or, true, false, Some, None, IsSome, IfOk};
+ghost use Rattle.std.specs.Prelude.{◌≡◌, ℕ, ◌+◌, ◌-◌, ◌^◌, ◌<◌, ◌≤◌, ◌==◌, ◌&&◌, length, sum, map, replicate, take, drop, slice_get, slice_index_or, true, false, Some, None, IsSome, IfOk};
 ghost use Rattle.std.specs.List.{list_all};
 ghost use Rattle.item_buffer.specs.Capacity.{IsCap};
 ghost use Rattle.hop_core.specs.State.{ins_of_hop, resumed};

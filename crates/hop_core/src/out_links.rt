@@ -1,6 +1,6 @@
 //! One link out of a rank: the parcel that is being filled for it.
 
-ghost use Rattle.std.specs.Prelude.{◌≡◌, ◌<◌, ◌≤◌, ◌&&◌, ◌||◌, length, map, true, false, IfOk};
+ghost use Rattle.std.specs.Prelude.{◌≡◌, ◌<◌, ◌&&◌, length, map, true, false, IfOk};
 ghost use Rattle.hop_core.specs.State.{reopened};
 ghost use Rattle.std.specs.Prelude.{replicate};
 ghost use Rattle.item_buffer.specs.Capacity.{IsCap};

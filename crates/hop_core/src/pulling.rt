@@ -2,8 +2,6 @@
 
 ghost use Rattle.std.specs.Prelude.{◌≡◌, ◌≢◌, ℕ, ◌+◌, ◌-◌, ◌<◌, ◌≤◌, ◌==◌, length, sum, true, false, Some, None, is_some};
 ghost use Rattle.std.specs.List.{All};
-ghost use Rattle.route_tensor.specs.Grid.{ranks};
-ghost use Rattle.route_tensor.specs.Link.{links};
 ghost use Rattle.route_tensor.specs.Neighbour.{hop_to, neighbour};
 ghost use Rattle.route_tensor.specs.Tag.{IsFair, sender_of};
 ghost use Rattle.hop_core.specs.State.{in_at, lowest_unread, pull_from, pulled_from, pulls, unpulled};

@@ -1,7 +1,6 @@
 -- When a hear is due, and what a collect's hear and look in make of a link.
-use Rattle.std.proofs.Common.{◌≡◌, ◌≢◌, ℕ, zero, suc, ◌+◌, ◌-◌, ◌<◌, ◌≤◌, Bool, true, false, not, ◌&&◌, leb, List, sym, refl, ap, ◌∙◌, subst, arith}
+use Rattle.std.proofs.Common.{◌≡◌, ℕ, zero, suc, ◌+◌, ◌-◌, ◌<◌, ◌≤◌, Bool, true, false, not, ◌&&◌, leb, List, sym, refl, ap, ◌∙◌, subst, arith}
 use Rattle.std.proofs.Common.{le-leb, leb-true}
-use native.Mathlib.Decide.{ℕ_discrete}
 use Rattle.link_slots.specs.Logs.{InLog, listens, taken_more}
 use Rattle.link_slots.specs.Link.{one_where}
 use Rattle.link_slots.specs.Plays.{heard_by, marked_by}

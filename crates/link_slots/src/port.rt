@@ -1,7 +1,7 @@
 //! A rank's port: its seat, with the bank.
 ghost use Rattle.atomic_table.specs.Seated.{TableId};
 ghost use Rattle.link_slots.specs.Seen.{named};
-ghost use Rattle.std.specs.Prelude.{◌≡◌, ◌+◌, ◌==◌, suc, true, length, refl};
+ghost use Rattle.std.specs.Prelude.{◌≡◌, ◌+◌, ◌==◌, suc, length, refl};
 ghost use Rattle.list_laws.specs.Lists.{changed};
 ghost use Rattle.port_bank.specs.Calls.{posts_of, collects_of};
 

@@ -1,5 +1,5 @@
 //! Entry lines read without regard to duplicates, up to the first line that is bad for another reason.
-ghost use Rattle.std.specs.Prelude.{◌≡◌, ◌++◌, ◌∷◌, [], IfOk, IfErr, OnOk};
+ghost use Rattle.std.specs.Prelude.{◌≡◌, IfOk, IfErr, OnOk};
 ghost use Rattle.mtx_text.specs.Sparse.{IsInside};
 ghost use Rattle.mtx_text.specs.Grammar.{stands_for};
 ghost use Rattle.mtx_text.specs.code.PlainLines.{NoneCounts};

@@ -1,10 +1,10 @@
 //! Lines of entries, whose rows are written once: entries of one row share their front.
-ghost use Rattle.std.specs.Prelude.{◌≡◌, ◌+◌, ◌≤◌, ◌<◌, ℕ, List, [], ◌++◌, length, take};
+ghost use Rattle.std.specs.Prelude.{◌≡◌, ◌+◌, ◌≤◌, ◌<◌, ℕ, List, [], length};
 ghost use Rattle.bale_types.specs.declared.line.TheConstants.{LINE_ROOM};
 ghost use Rattle.bale_types.specs.Digits.{IsLaid};
 ghost use Rattle.bale_types.specs.declared.triple.Triple.{Triple};
 ghost use Rattle.mtx_text.specs.Written.{entry_text};
-ghost use Rattle.mtx_text.specs.code.Fronts.{row_text, rest_text, line_of, Names};
+ghost use Rattle.mtx_text.specs.code.Fronts.{rest_text, line_of, Names};
 
 use crate::kind::Kind;
 use bale_types::{Fours, LINE_ROOM, Line, LineText, Triple, lay_byte, lay_integer, lay_natural_by};

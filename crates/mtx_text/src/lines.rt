@@ -1,6 +1,6 @@
 //! A text cut into lines, one line at a time and without a copy.
-ghost use Rattle.std.specs.Prelude.{◌≡◌, not, false, ℕ, ◌+◌, ◌<◌, ◌≤◌, ◌^◌, length, take, drop, slice_index, [], ◌∷◌, IfOk, IfErr};
-ghost use Rattle.mtx_text.specs.Lines.{lines_of, words_of, lines_from, without_cr, is_blank, is_skipped};
+ghost use Rattle.std.specs.Prelude.{◌≡◌, not, false, ◌+◌, ◌<◌, ◌^◌, length, take, drop, slice_index, [], IfOk, IfErr};
+ghost use Rattle.mtx_text.specs.Lines.{words_of, without_cr, is_blank, is_skipped};
 ghost use Rattle.mtx_text.specs.code.Cuts.{CutsAt, CutsLine};
 ghost use Rattle.mtx_text.specs.code.PlainLines.{CountsAt, IsFirstKept, NoneCounts};
 

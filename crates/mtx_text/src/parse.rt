@@ -1,5 +1,5 @@
 //! The matrix of a text in memory.
-ghost use Rattle.std.specs.Prelude.{◌≡◌, ◌+◌, ◌<◌, ◌≤◌, ◌^◌, length, Ok};
+ghost use Rattle.std.specs.Prelude.{◌≡◌, ◌+◌, ◌<◌, ◌≤◌, length, Ok};
 ghost use Rattle.mtx_text.specs.declared.parse.Parts.{Parts};
 ghost use Rattle.mtx_text.specs.Lines.{lines_of, lines_from};
 ghost use Rattle.mtx_text.specs.Grammar.{matrix_of, lines_read, body_of, line_after};

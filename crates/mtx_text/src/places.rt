@@ -1,5 +1,5 @@
 //! Which places of a matrix are taken, while its entries are read.
-ghost use Rattle.std.specs.Prelude.{◌≡◌, ◌<◌, ◌≤◌, ◌∷◌, ◌++◌, [], true, List, nat_abs, OnOk};
+ghost use Rattle.std.specs.Prelude.{◌≡◌, ◌<◌, ◌∷◌, [], true, List, OnOk};
 ghost use Rattle.bale_types.specs.declared.triple.Triple.{Triple};
 ghost use Rattle.mtx_text.specs.Grammar.{has_place, stands_for};
 ghost use Rattle.mtx_text.specs.Sparse.{IsInside};

@@ -1,16 +1,8 @@
 //! Plain entry lines, read in one pass: numbers of few digits, one space between two of them, and LF, or CR and LF,
 //! at once behind the last. Most texts have no other lines; whatever isn't of this form is read the general way.
-ghost use Rattle.std.specs.Prelude.{◌≡◌, ◌<◌, ◌≤◌, true, false, Some, ◌+◌, ◌-◌, length, take, drop, min, IfSome, IfOk, IfErr};
-ghost use Rattle.std.specs.List.{list_all};
-ghost use Rattle.std.specs.Option.{option_map};
+ghost use Rattle.std.specs.Prelude.{◌≡◌, ◌<◌, true, false, Some, ◌+◌, ◌-◌, length, drop, IfSome, IfOk, IfErr};
 ghost use Rattle.std.specs.Char.{is_ascii_digit};
-ghost use Rattle.std.specs.Simd.Lanes.{mask_l};
-ghost use Rattle.std.specs.Str.Parse.{digits_value};
 ghost use Rattle.mtx_text.specs.declared.kind.Kind.TheVariants as Kind;
-ghost use Rattle.mtx_text.specs.Lines.{words_of, is_skipped};
-ghost use Rattle.mtx_text.specs.Grammar.{fields_of};
-ghost use Rattle.mtx_text.specs.code.Capped.{read_three};
-ghost use Rattle.mtx_text.specs.code.DigitLanes.{bits_of};
 ghost use Rattle.mtx_text.specs.code.PlainLines.{LineAt, DigitsEnd, LastAt, MayRead, ReadsOne, IsFew, TwoAt, FrontAt, IsPlain, LeadingDigits};
 
 use crate::digit_lanes::{no_digits, number_of};

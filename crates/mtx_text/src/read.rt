@@ -1,5 +1,5 @@
 //! The text that a source gives, and the matrix of it.
-ghost use Rattle.std.specs.Prelude.{◌≡◌, ◌≢◌, ℕ, ◌+◌, ◌<◌, ◌≤◌, List, Some, Ok, Err, take, drop, vec_len, IsSome, IfOk};
+ghost use Rattle.std.specs.Prelude.{◌≡◌, ℕ, ◌+◌, ◌<◌, List, Some, Ok, Err, take, drop, vec_len, IfOk};
 ghost use Rattle.bale_types.specs.Stream.{Blames};
 ghost use Rattle.mtx_text.specs.declared.read.Unread.TheVariants as Unread;
 ghost use Rattle.mtx_text.specs.Grammar.{matrix_of};

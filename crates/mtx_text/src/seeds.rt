@@ -1,5 +1,5 @@
 //! The words of a seed, and permutations drawn from them.
-ghost use Rattle.std.specs.Prelude.{◌≡◌, IfOk, OnOk, OnErr, ◌≤◌};
+ghost use Rattle.std.specs.Prelude.{◌≡◌, IfOk, OnOk, OnErr};
 ghost use Rattle.std.specs.List.{range_with_len};
 ghost use Rattle.mtx_text.specs.Permutations.{Permutes};
 ghost use Rattle.mtx_text.specs.Seeds.{step, word, begun, drawn};

@@ -1,5 +1,5 @@
 //! A line cut into words, one word at a time and without a copy.
-ghost use Rattle.std.specs.Prelude.{◌≡◌, ◌<◌, false, length, slice_index, [], ◌∷◌, IfNone, IfSome};
+ghost use Rattle.std.specs.Prelude.{◌≡◌, ◌<◌, [], ◌∷◌, IfNone, IfSome};
 ghost use Rattle.std.specs.Option.{option_map};
 ghost use Rattle.mtx_text.specs.Lines.{words_of, is_blank};
 ghost use Rattle.mtx_text.specs.Grammar.{three_of};

@@ -1,5 +1,5 @@
 //! A matrix as text.
-ghost use Rattle.std.specs.Prelude.{◌≡◌, ◌≤◌, ◌<◌, ◌+◌, ◌^◌, ◌++◌, Ok, List, length, OnOk, OnErr};
+ghost use Rattle.std.specs.Prelude.{◌≡◌, ◌≤◌, ◌<◌, Ok, length};
 ghost use Rattle.std.specs.List.{flat_map};
 ghost use Rattle.bale_types.specs.Out.{Writes};
 ghost use Rattle.bale_types.specs.declared.triple.Triple.{Triple};

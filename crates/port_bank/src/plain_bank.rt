@@ -1,5 +1,5 @@
 //! The plain bank: the links of all ranks on one thread.
-ghost use Rattle.std.specs.Prelude.{◌≡◌, ◌≢◌, ◌+◌, ◌<◌, ◌≤◌, ℕ, length, IfOk, IsErr, Ok};
+ghost use Rattle.std.specs.Prelude.{◌≡◌, ◌≢◌, ◌+◌, ◌<◌, ◌≤◌, length, IfOk, IsErr, Ok};
 ghost use Rattle.bale_types.specs.Stream.{RoseOrFull};
 ghost use Rattle.item_buffer.specs.Capacity.{IsCap};
 ghost use Rattle.item_buffer.specs.Contents.{shipped, arrived, blank};

@@ -1,6 +1,6 @@
 //! One rank's end of a plain bank.
-ghost use Rattle.std.specs.Prelude.{◌≡◌, ◌≢◌, ℕ, ◌+◌, ◌==◌, true, length, refl};
-ghost use Rattle.port_bank.specs.Logs.{Logs, starting_at, ending_at};
+ghost use Rattle.std.specs.Prelude.{◌≡◌, length, refl};
+ghost use Rattle.port_bank.specs.Logs.{starting_at, ending_at};
 ghost use Rattle.port_bank.specs.Plain.{IsBank, channel_at, sent_of, got_of, others_of, closed};
 ghost use Rattle.port_bank.specs.Round.{IsRound};
 
@@ -53,7 +53,7 @@ impl<const CAP: usize> PlainPort<CAP> {
 }
 
 impl<const CAP: usize> Port<CAP> for PlainPort<CAP> {
-    ghost use Rattle.std.specs.Prelude.{◌+◌, ◌==◌, true, length, refl};
+    ghost use Rattle.std.specs.Prelude.{length, refl};
     ghost use Rattle.port_bank.specs.Logs.{starting_at, ending_at};
     ghost use Rattle.item_buffer.specs.Contents.{shipped};
     ghost use Rattle.port_bank.specs.Plain.{channel_at, sent_of, got_of, others_of, crowded_of, idle_of, DidPost, DidCollect};

@@ -1,5 +1,5 @@
 //! What is left of a plain bank when its exchange is over.
-ghost use Rattle.std.specs.Prelude.{◌≡◌, ◌≤◌};
+ghost use Rattle.std.specs.Prelude.{◌≡◌};
 ghost use Rattle.route_tensor.specs.Grid.{ranks};
 ghost use Rattle.list_laws.specs.Counts.{counted};
 ghost use Rattle.port_bank.specs.Round.{Round, IsRound, epochs_of};

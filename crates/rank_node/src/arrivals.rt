@@ -1,5 +1,5 @@
 //! Batches of a conveyor and of an exstack, as items that came.
-ghost use Rattle.std.specs.Prelude.{◌≡◌, ℕ, ◌<◌, List, length, sum};
+ghost use Rattle.std.specs.Prelude.{◌≡◌, ◌<◌, length, sum};
 ghost use Rattle.std.specs.List.{All};
 ghost use Rattle.bale_types.specs.declared.item.Item.{Item};
 ghost use Rattle.bale_types.specs.declared.item.Entry.{Entry};

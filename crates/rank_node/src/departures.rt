@@ -1,5 +1,5 @@
 //! A conveyor and an exstack, as what takes the items that a rank sends.
-ghost use Rattle.std.specs.Prelude.{◌≡◌, ℕ};
+ghost use Rattle.std.specs.Prelude.{◌≡◌};
 ghost use Rattle.rank_node.specs.Pushes.{MayPush, Pushes, MayFill, FillsOne};
 ghost use Rattle.rank_node.specs.laws.PushLaws.{push_stays, fill_stays};
 

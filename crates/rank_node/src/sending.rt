@@ -1,5 +1,5 @@
 //! Pushes what a node sends.
-ghost use Rattle.std.specs.Prelude.{◌≡◌, ℕ, ◌+◌, ◌<◌, ◌≤◌, true, false, List, length, slice_get, Some};
+ghost use Rattle.std.specs.Prelude.{◌≡◌, ℕ, ◌<◌, ◌≤◌, true, false, length, slice_get, Some};
 ghost use Rattle.std.specs.List.{All};
 ghost use Rattle.bale_types.specs.declared.item.Item.{Item};
 ghost use Rattle.route_tensor.specs.Grid.{ranks};

@@ -1,5 +1,5 @@
 //! Takes in what a conveyor gives.
-ghost use Rattle.std.specs.Prelude.{◌≡◌, ◌≢◌, ℕ, ◌+◌, ◌-◌, ◌^◌, ◌<◌, ◌≤◌, ◌==◌, ◌||◌, length, slice_get, Some};
+ghost use Rattle.std.specs.Prelude.{◌≡◌, ◌≢◌, ℕ, ◌-◌, ◌^◌, ◌<◌, ◌==◌, ◌||◌, length, slice_get, Some};
 ghost use Rattle.hop_core.specs.Relay.{waiting};
 ghost use Rattle.hop_core.specs.State.{lowest_unread, pulls};
 ghost use Rattle.route_tensor.specs.Grid.{ranks};

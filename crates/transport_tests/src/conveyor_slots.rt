@@ -1,7 +1,6 @@
 //! The conveyors of two ranks over a slot bank, whose ports one thread turns.
-ghost use Rattle.std.specs.Prelude.{◌≡◌, ◌<◌, true, false, length, slice_index_or, slice_set, IfOk};
+ghost use Rattle.std.specs.Prelude.{◌≡◌, ◌<◌, true, false, length, slice_index_or, slice_set};
 ghost use Rattle.route_tensor.specs.Grid.{ranks};
-ghost use Rattle.convey.specs.Conveyors.{AgreesWith};
 
 use crate::conveyor_side::{Answer, Call, Side};
 use bale_types::NoMemory;

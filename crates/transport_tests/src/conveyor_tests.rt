@@ -1,5 +1,5 @@
 //! Calls on conveyors in a worked order, each with its answer.
-ghost use Rattle.std.specs.Prelude.{◌≡◌, ◌<◌, ◌≤◌};
+ghost use Rattle.std.specs.Prelude.{◌<◌};
 
 use crate::conveyor_side::{Answer, Call};
 use crate::conveyor_slots::answered_over_slots;

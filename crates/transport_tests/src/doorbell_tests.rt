@@ -1,6 +1,6 @@
 //! The doorbells by hand: two ranks of the grid 2, and what the second collects. What each collect hears and looks in is
 //! said by the clauses of `SlotSeat::collect`.
-ghost use Rattle.std.specs.Prelude.{◌≡◌, OnOk};
+ghost use Rattle.std.specs.Prelude.{OnOk};
 ghost use Rattle.transport_tests.specs.ByHand.{MayPost, MayCollect};
 
 use crate::link_tests::{collect_item, post_item};

@@ -1,5 +1,5 @@
 //! Two epochs of an exchange by calls on conveyors: three hops, parcels of one entry.
-ghost use Rattle.std.specs.Prelude.{◌≡◌, ◌<◌, ◌≤◌};
+ghost use Rattle.std.specs.Prelude.{◌<◌};
 ghost use Rattle.port_bank.specs.Port.{IsSlots};
 
 use crate::conveyor_side::{Answer, Call};

@@ -1,8 +1,6 @@
 //! The exstacks of two ranks over a slot bank, whose ports one thread turns.
-ghost use Rattle.std.specs.Prelude.{◌≡◌, ◌<◌, true, false, length, slice_index_or, slice_set, IfOk};
+ghost use Rattle.std.specs.Prelude.{◌≡◌, ◌<◌, true, false, length, slice_index_or, slice_set};
 ghost use Rattle.route_tensor.specs.Grid.{ranks};
-ghost use Rattle.exstack.specs.State.{dims_of};
-ghost use Rattle.exstack.specs.Agreement.{AgreesWith};
 
 use crate::exstack_side::{Answer, Call, Side};
 use bale_types::NoMemory;

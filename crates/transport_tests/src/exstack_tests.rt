@@ -1,5 +1,5 @@
 //! Calls on exstacks in a worked order, each with its answer.
-ghost use Rattle.std.specs.Prelude.{◌≡◌, ◌<◌, ◌≤◌};
+ghost use Rattle.std.specs.Prelude.{◌<◌};
 
 use crate::exstack_side::{Answer, Call};
 use crate::exstack_slots::answered_over_slots;

@@ -1,5 +1,5 @@
 //! Rank states by hand, with ample memory: a route of three hops, the course of an epoch, and when parcels are full and due.
-ghost use Rattle.std.specs.Prelude.{◌≡◌, ◌≢◌, ◌<◌, ◌≤◌, [], length, true, false, Some, IfOk};
+ghost use Rattle.std.specs.Prelude.{◌≡◌, ◌≢◌, ◌<◌, length, true, false, Some, IfOk};
 ghost use Rattle.item_buffer.specs.Capacity.{IsCap};
 ghost use Rattle.std.specs.List.{All};
 ghost use Rattle.item_buffer.specs.Contents.{IsFresh, blank};

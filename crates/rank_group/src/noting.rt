@@ -88,9 +88,9 @@ impl<'a, const CAP: usize> Port<CAP> for NotingPort<'a, CAP> {
 
     ghost idle = { λ p l. length (collected_from p.port.seat l) == known p.port.seat l };
 
-    ghost posts = { λ p. posts_of p.port.calls };
+    ghost posts = { λ p. posts_of p.port.calls.value };
 
-    ghost collects = { λ p. collects_of p.port.calls };
+    ghost collects = { λ p. collects_of p.port.calls.value };
 
     ghost looks_out = { λ p l. (out_of p.port.seat.lists l).looks };
 

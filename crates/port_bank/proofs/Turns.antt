@@ -1,5 +1,5 @@
 -- What a post or a collect on one link leaves of the bank around it.
-use Rattle.std.proofs.Common.{◌≡◌, ℕ, ◌+◌, ◌<◌, ◌≤◌, length, get_or, Result, Ok, Err, IsErr, Some, refl, sym, ap, subst, ◌∙◌, arith}
+use Rattle.std.proofs.Common.{◌≡◌, ℕ, ◌+◌, ◌<◌, ◌≤◌, length, get_or, Result, Ok, Err, Some, refl, sym, ap, subst, ◌∙◌, arith}
 use Rattle.std.specs.Prelude.{slice_get}
 use Rattle.std.proofs.lemmas.List.{get_or_default}
 use Rattle.bale_types.specs.declared.fault.NoMemory.{NoMemory}
@@ -13,6 +13,7 @@ use Rattle.port_bank.specs.declared.port.Posted.{Posted}
 use Rattle.port_bank.specs.declared.port.Posted.TheVariants.{Sent, NoRoom}
 use Rattle.port_bank.specs.declared.port.Collected.{Collected}
 use Rattle.port_bank.specs.declared.port.Collected.TheVariants.{Got, Nothing}
+use Rattle.port_bank.specs.code.PlainLink.{PostedOn, CollectedOn, IsNextOn}
 use Rattle.port_bank.specs.Plain.{Bank, Channel, unused, posted, refused, listened, collected, channel_at, with_channel, sent_of, got_of, IsBank}
 use Rattle.std.proofs.lemmas.Option.{slice_get_within}
 use Rattle.port_bank.proofs.Routes.{numbered}
@@ -23,16 +24,9 @@ use Rattle.port_bank.proofs.Banks.{bank_posted, bank_looked, bank_collected}
 pub channel_read : (most : ℕ) (b : Bank) (l : ℕ) (old : Channel) → IsBank most b → l < links b.dims → old ≡ get_or b.channels l old → channel_at b l ≡ old
 channel_read most b l old is within read = get_or_default b.channels l unused old (omega (arith, within, is.number)) ∙ sym read
 
--- the contract of a post on the link itself
-pub record PostOn (slots : ℕ) (old new : Channel) (r : Result Posted NoMemory) (p : Contents) : Type 0 where
-  pub sent : r ≡ Ok Sent → new ≡ posted old (shipped p)
-  pub room : r ≡ Ok Sent → length old.sent < length old.got + slots
-  pub no_room : r ≡ Ok NoRoom → new ≡ refused old
-  pub no_memory : IsErr r → new ≡ old
-
 pub kept_by_post : (most : ℕ) (b : Bank) (l : ℕ) (old new : Channel) (r : Result Posted NoMemory) (p : Contents) → IsBank most b → l < links b.dims → channel_at b l ≡ old
     → length p.untaken ≤ most → p.epoch ≡ lasts (sent_of b l) → RelayLaw b.dims (sender_at b.dims l) (added (sent_of b) l (shipped p)) (got_of b)
-    → PostOn b.slots old new r p → IsBank most (with_channel b l new)
+    → PostedOn b.slots old new (shipped p) r → IsBank most (with_channel b l new)
 kept_by_post most b l old new (Ok Sent) p is within here fits now law on =
     let e : posted (channel_at b l) (shipped p) ≡ new = ap (λ c. posted c (shipped p)) here ∙ sym (on.sent refl) in
     let room : length (sent_of b l) < length (got_of b l) + b.slots = subst (λ c. length c.sent < length c.got + b.slots) (sym here) (on.room refl) in
@@ -44,14 +38,8 @@ kept_by_post most b l old new (Err m) p is within here fits now law on =
     let e : channel_at b l ≡ new = here ∙ sym (on.no_memory refl) in
     subst (λ c. IsBank most (with_channel b l c)) e (bank_looked most b l (channel_at b l) within refl refl is)
 
--- the contract of a collect on the link itself
-pub record CollectOn (old new : Channel) (r : Collected) (p : Contents) : Type 0 where
-  pub got : r ≡ Got → new ≡ collected old (shipped p)
-  pub next : r ≡ Got → slice_get old.sent (length old.got) ≡ Some (shipped p)
-  pub nothing : r ≡ Nothing → new ≡ listened old
-
 pub kept_by_collect : (most : ℕ) (b : Bank) (l : ℕ) (old new : Channel) (r : Collected) (p : Contents) → IsBank most b → l < links b.dims → channel_at b l ≡ old
-    → CollectOn old new r p → IsBank most (with_channel b l new)
+    → CollectedOn old new (shipped p) r → IsBank most (with_channel b l new)
 kept_by_collect most b l old new Got p is within here on =
     let e : collected (channel_at b l) (shipped p) ≡ new = ap (λ c. collected c (shipped p)) here ∙ sym (on.got refl) in
     let next : slice_get (sent_of b l) (length (got_of b l)) ≡ Some (shipped p) = subst (λ c. slice_get c.sent (length c.got) ≡ Some (shipped p)) (sym here) (on.next refl) in
@@ -60,15 +48,8 @@ kept_by_collect most b l old new Nothing p is within here on =
     let e : listened (channel_at b l) ≡ new = ap listened here ∙ sym (on.nothing refl) in
     subst (λ c. IsBank most (with_channel b l c)) e (bank_looked most b l (listened (channel_at b l)) within refl refl is)
 
--- what is known of a parcel that was collected
-pub record Next (most : ℕ) (b : Bank) (l : ℕ) (p : Contents) : Type 0 where
-  pub epoch : p.epoch ≡ lasts (got_of b l)
-  pub fits : length p.untaken ≤ most
-  pub fair : HasFairTags b.dims (hop_at b.dims l) (shipped p)
-  pub some : length (got_of b l) < length (sent_of b l)
-
 pub next_parcel : (most : ℕ) (b : Bank) (l : ℕ) (old : Channel) (p : Contents) → IsBank most b → l < links b.dims → channel_at b l ≡ old
-    → slice_get old.sent (length old.got) ≡ Some (shipped p) → Next most b l p
+    → slice_get old.sent (length old.got) ≡ Some (shipped p) → IsNextOn most b l p
 next_parcel most b l old p is within here next =
     let law = is.each_link l within in
     let from : sender_at b.dims l < ranks b.dims = (numbered b.dims l is.grid within).is_link.sender in

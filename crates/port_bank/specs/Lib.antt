@@ -11,3 +11,4 @@ pub mod Passed
 pub mod Ring
 pub mod Plain
 pub mod Machine
+pub mod code

@@ -10,7 +10,8 @@ ghost use Rattle.port_bank.specs.Logs.{lasts, added, starting_at, ending_at};
 ghost use Rattle.port_bank.specs.Relay.{RelayLaw, HasFairTags};
 ghost use Rattle.port_bank.specs.Port.{IsSlots};
 ghost use Rattle.port_bank.specs.Round.{IsRound};
-ghost use Rattle.port_bank.specs.Plain.{Bank, IsBank, channel_at, with_channel, sent_of, got_of, posted, refused, listened, collected, empty_bank, closed};
+ghost use Rattle.port_bank.specs.Plain.{IsBank, DidPost, DidCollect, channel_at, sent_of, got_of, empty_bank, closed};
+ghost use Rattle.port_bank.specs.code.PlainLink.{IsNextOn};
 
 use crate::plain_link::PlainLink;
 use crate::plain_port::PlainPort;
@@ -103,19 +104,11 @@ impl<const CAP: usize> PlainBank<CAP> {
         let _slots = self.slots;
     }
 
-    /// Does nothing, and tells what holds of the number of slots.
+    /// Does nothing, and tells what a bank keeps.
     pub(crate) fn known(&self)
-        ensures { IsSlots self.now.slots }
+        ensures { IsBank CAP self.now }
     {
         let _slots = self.slots;
-    }
-
-    /// How many slots each link has.
-    pub(crate) fn slots(&self) -> u32
-        ensures value { result ≡ self.now.slots }
-        ensures few { IsSlots self.now.slots }
-    {
-        self.slots
     }
 
     /// Posts a parcel on a link, for the rank at which the link starts.
@@ -126,19 +119,14 @@ impl<const CAP: usize> PlainBank<CAP> {
         requires law { let rank = sender_at self.old.dims link in RelayLaw self.old.dims rank
             (added (starting_at self.old.dims rank (sent_of self.old)) link (shipped p.old))
             (ending_at self.old.dims rank (got_of self.old)) }
-        ensures sent { result ≡ Ok Posted.Sent → self.new ≡ with_channel self.old link
-            (posted (channel_at self.old link) (shipped p.old)) }
+        ensures does { DidPost self.old self.new link (shipped p.old) result }
         ensures emptied { result ≡ Ok Posted.Sent → p.new ≡ blank p.old.epoch }
         ensures room { result ≡ Ok Posted.Sent → length (sent_of self.old link) < length (got_of self.old link)
             + self.old.slots }
-        ensures no_room { result ≡ Ok Posted.NoRoom → self.new ≡ with_channel self.old link
-            (refused (channel_at self.old link)) }
         ensures full { result ≡ Ok Posted.NoRoom → length (sent_of self.old link)
             ≡ length (got_of self.old link) + self.old.slots }
-        ensures no_memory { IsErr result → self.new ≡ self.old }
         ensures kept { result ≢ Ok Posted.Sent → p.new ≡ p.old }
         ensures looks { (channel_at self.old link).looks_out ≤ (channel_at self.new link).looks_out }
-        ensures number { length self.old.channels ≡ links self.old.dims }
     {
         p.known();
         let at = link as usize;
@@ -149,22 +137,14 @@ impl<const CAP: usize> PlainBank<CAP> {
     pub(crate) fn collect(&mut self, link: u32, p: &mut Parcel<CAP>) -> Collected
         requires link { link < links self.old.dims }
         requires empty { p.old ≡ blank (lasts (got_of self.old link)) }
-        ensures got { result ≡ Collected.Got → self.new ≡ with_channel self.old link
-            (collected (channel_at self.old link) (shipped p.new)) }
+        ensures does { DidCollect self.old self.new link (shipped p.new) result }
         ensures arrived { result ≡ Collected.Got → p.new ≡ arrived (shipped p.new) }
-        ensures epoch { result ≡ Collected.Got → p.new.epoch ≡ lasts (got_of self.old link) }
-        ensures fits { result ≡ Collected.Got → length p.new.untaken ≤ CAP }
-        ensures fair { result ≡ Collected.Got → HasFairTags self.old.dims (hop_at self.old.dims link) (shipped p.new) }
-        ensures some { result ≡ Collected.Got → length (got_of self.old link) < length (sent_of self.old link) }
-        ensures nothing { result ≡ Collected.Nothing → self.new ≡ with_channel self.old link
-            (listened (channel_at self.old link)) }
+        ensures next { result ≡ Collected.Got → IsNextOn CAP self.old link p.new }
         ensures all { result ≡ Collected.Nothing → length (got_of self.old link) ≡ length (sent_of self.old link) }
         ensures kept { result ≡ Collected.Nothing → p.new ≡ p.old }
-        ensures lawful { IsBank CAP self.new }
         ensures heard { RoseOrFull (channel_at self.old link).noted (channel_at self.new link).listens }
         ensures listens { (channel_at self.old link).listens ≤ (channel_at self.new link).listens }
         ensures looks { (channel_at self.old link).looks_in ≤ (channel_at self.new link).looks_in }
-        ensures number { length self.old.channels ≡ links self.old.dims }
     {
         let at = link as usize;
         self.links[at].collect(&mut self.rings[at], p)

@@ -1,10 +1,10 @@
 //! One link of a plain bank: what was done on it.
-ghost use Rattle.std.specs.Prelude.{◌≡◌, ◌≢◌, ◌+◌, ◌<◌, ◌≤◌, ◌++◌, length, slice_get, IsErr, Ok, Some};
-ghost use Rattle.bale_types.specs.Stream.{RoseOrFull};
+ghost use Rattle.std.specs.Prelude.{◌≡◌, ◌≢◌, ◌+◌, ◌≤◌, ◌++◌, length, Ok};
 ghost use Rattle.item_buffer.specs.Contents.{shipped, arrived, blank};
 ghost use Rattle.list_laws.specs.Counts.{counted};
 ghost use Rattle.port_bank.specs.Logs.{lasts};
-ghost use Rattle.port_bank.specs.Plain.{Channel, unused, posted, refused, listened, collected};
+ghost use Rattle.port_bank.specs.Plain.{unused};
+ghost use Rattle.port_bank.specs.code.PlainLink.{PostedOn, CollectedOn};
 
 use crate::log::Log;
 use crate::ring::Ring;
@@ -74,14 +74,10 @@ impl PlainLink {
         requires bound { length self.old.sent ≤ length self.old.got + slots }
         requires fresh { p.old ≡ arrived (shipped p.old) }
         ensures ring { self.new.sent ≡ self.new.got ++ ring.new }
-        ensures sent { result ≡ Ok Posted.Sent → self.new ≡ posted self.old (shipped p.old) }
+        ensures does { PostedOn slots self.old self.new (shipped p.old) result }
         ensures emptied { result ≡ Ok Posted.Sent → p.new ≡ blank p.old.epoch }
-        ensures room { result ≡ Ok Posted.Sent → length self.old.sent < length self.old.got + slots }
-        ensures no_room { result ≡ Ok Posted.NoRoom → self.new ≡ refused self.old }
         ensures full { result ≡ Ok Posted.NoRoom → length self.old.sent ≡ length self.old.got + slots }
-        ensures no_memory { IsErr result → self.new ≡ self.old }
         ensures kept { result ≢ Ok Posted.Sent → p.new ≡ p.old }
-        ensures looks { self.old.looks_out ≤ self.new.looks_out }
     {
         if ring.len() >= slots as usize {
             self.looks_out = self.looks_out.saturating_add(1);
@@ -103,15 +99,10 @@ impl PlainLink {
         requires ring { self.old.sent ≡ self.old.got ++ ring.old }
         requires empty { p.old ≡ blank p.old.epoch }
         ensures ring { self.new.sent ≡ self.new.got ++ ring.new }
-        ensures got { result ≡ Collected.Got → self.new ≡ collected self.old (shipped p.new) }
-        ensures next { result ≡ Collected.Got → slice_get self.old.sent (length self.old.got) ≡ Some (shipped p.new) }
+        ensures does { CollectedOn self.old self.new (shipped p.new) result }
         ensures arrived { result ≡ Collected.Got → p.new ≡ arrived (shipped p.new) }
-        ensures nothing { result ≡ Collected.Nothing → self.new ≡ listened self.old }
         ensures all { result ≡ Collected.Nothing → length self.old.got ≡ length self.old.sent }
         ensures kept { result ≡ Collected.Nothing → p.new ≡ p.old }
-        ensures heard { RoseOrFull self.old.noted self.new.listens }
-        ensures listens { self.old.listens ≤ self.new.listens }
-        ensures looks { self.old.looks_in ≤ self.new.looks_in }
     {
         self.listens = self.listens.saturating_add(1);
         if ring.len() == 0 {

@@ -107,6 +107,7 @@ impl<const CAP: usize> Port<CAP> for PlainPort<CAP> {
     }
 
     fn post(&mut self, link: u32, p: &mut Parcel<CAP>) -> Result<Posted, NoMemory> {
+        self.bank.known();
         let answer = self.bank.post(link, p);
         self.calls.note_post(link, answer.is_ok());
         answer
@@ -114,6 +115,9 @@ impl<const CAP: usize> Port<CAP> for PlainPort<CAP> {
 
     fn collect(&mut self, link: u32, p: &mut Parcel<CAP>) -> Collected {
         self.calls.note_collect(link);
-        self.bank.collect(link, p)
+        self.bank.known();
+        let answer = self.bank.collect(link, p);
+        self.bank.known();
+        answer
     }
 }

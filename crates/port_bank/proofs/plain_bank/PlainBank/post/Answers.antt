@@ -22,6 +22,6 @@ invariant_of-self g c =
           (law_of_all b.dims (sender_at b.dims l) (sent_of b) (got_of b) l (shipped c.args.p.now) c.self.invariant.0.grid
           (subst (λ (x : Bank). RelayLaw x.dims (sender_at x.dims l) (added (starting_at x.dims (sender_at x.dims l) (sent_of x)) l (shipped c.args.p.now)) (ending_at x.dims (sender_at x.dims l) (got_of x)))
           (sym c.self.view_is) c.requires.law))
-          (record { sent = c.post.ensures.sent; room = c.post.ensures.room; no_room = c.post.ensures.no_room; no_memory = c.post.ensures.no_memory }),
+          c.post.ensures.does,
       rings_set c.self.inside.links.items c.self.inside.rings.items l c.post.new.self c.post.new.ring c.self.invariant.1 (omega (arith, within, c.self.invariant.0.number)) c.post.ensures.ring,
     )

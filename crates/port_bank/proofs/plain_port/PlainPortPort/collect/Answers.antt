@@ -9,23 +9,23 @@ use Rattle.port_bank.proofs.plain_port.PlainPortPort.collect.Goals as goal
 pub returns-clause-crowded_here : goal.returns-clause-crowded_here
 returns-clause-crowded_here g c =
     let b = c.args.self.now.bank in
-    let within : c.args.link < length b.channels = omega (arith, c.requires.link, c.collect.ensures.number) in
-    crowded_here c.args.self.now.rank b c.collect.new.self c.args.link
-    (collect_turn b c.collect.new.self c.args.link c.collect.result (shipped c.collect.new.p) within c.collect.ensures.got c.collect.ensures.nothing)
+    let within : c.args.link < length b.channels = omega (arith, c.requires.link, c.known.ensures.number) in
+    crowded_here c.args.self.now.rank b c.collect-answer.new.self c.args.link
+    (collect_turn b c.collect-answer.new.self c.args.link c.collect-answer.result (shipped c.collect-answer.new.p) within c.collect-answer.ensures.does.got c.collect-answer.ensures.does.nothing)
 
 pub returns-clause-idle_here : goal.returns-clause-idle_here
 returns-clause-idle_here g c =
     let b = c.args.self.now.bank in
-    let within : c.args.link < length b.channels = omega (arith, c.requires.link, c.collect.ensures.number) in
-    idle_here c.args.self.now.rank b c.collect.new.self c.args.link
-    (collect_turn b c.collect.new.self c.args.link c.collect.result (shipped c.collect.new.p) within c.collect.ensures.got c.collect.ensures.nothing)
+    let within : c.args.link < length b.channels = omega (arith, c.requires.link, c.known.ensures.number) in
+    idle_here c.args.self.now.rank b c.collect-answer.new.self c.args.link
+    (collect_turn b c.collect-answer.new.self c.args.link c.collect-answer.result (shipped c.collect-answer.new.p) within c.collect-answer.ensures.does.got c.collect-answer.ensures.does.nothing)
 
 pub returns-clause-own : goal.returns-clause-own
 returns-clause-own g c = λ is from.
     let b = c.args.self.now.bank in
-    let b' = c.collect.new.self in
-    let dims : b'.dims ≡ b.dims = ap (λ (x : Bank). x.dims) (c.collect.ensures.got is) in
-    begins_own g.row.CAP c.args.self.now.rank c.args.link b' c.collect.ensures.lawful
+    let b' = c.collect-answer.new.self in
+    let dims : b'.dims ≡ b.dims = ap (λ (x : Bank). x.dims) (c.collect-answer.ensures.does.got is) in
+    begins_own g.row.CAP c.args.self.now.rank c.args.link b' c.known-2.ensures
     (subst (λ (d : List ℕ). c.args.link < links d) (sym dims) c.requires.link)
     (subst (λ (d : List ℕ). sender_at d c.args.link ≡ c.args.self.now.rank) (sym dims) from)
     (subst (λ (d : List ℕ). reader_at d c.args.link ≡ c.args.self.now.rank) (sym dims) c.requires.ends_here)
@@ -33,13 +33,13 @@ returns-clause-own g c = λ is from.
 pub returns-clause-listens : goal.returns-clause-listens
 returns-clause-listens g c =
     let b = c.args.self.now.bank in
-    let within : c.args.link < length b.channels = omega (arith, c.requires.link, c.collect.ensures.number) in
-    none_falls (λ x. x.listens) b c.collect.new.self c.args.link
-    (collect_turn b c.collect.new.self c.args.link c.collect.result (shipped c.collect.new.p) within c.collect.ensures.got c.collect.ensures.nothing) c.collect.ensures.listens
+    let within : c.args.link < length b.channels = omega (arith, c.requires.link, c.known.ensures.number) in
+    none_falls (λ x. x.listens) b c.collect-answer.new.self c.args.link
+    (collect_turn b c.collect-answer.new.self c.args.link c.collect-answer.result (shipped c.collect-answer.new.p) within c.collect-answer.ensures.does.got c.collect-answer.ensures.does.nothing) c.collect-answer.ensures.listens
 
 pub returns-clause-looks_in : goal.returns-clause-looks_in
 returns-clause-looks_in g c =
     let b = c.args.self.now.bank in
-    let within : c.args.link < length b.channels = omega (arith, c.requires.link, c.collect.ensures.number) in
-    none_falls (λ x. x.looks_in) b c.collect.new.self c.args.link
-    (collect_turn b c.collect.new.self c.args.link c.collect.result (shipped c.collect.new.p) within c.collect.ensures.got c.collect.ensures.nothing) c.collect.ensures.looks
+    let within : c.args.link < length b.channels = omega (arith, c.requires.link, c.known.ensures.number) in
+    none_falls (λ x. x.looks_in) b c.collect-answer.new.self c.args.link
+    (collect_turn b c.collect-answer.new.self c.args.link c.collect-answer.result (shipped c.collect-answer.new.p) within c.collect-answer.ensures.does.got c.collect-answer.ensures.does.nothing) c.collect-answer.ensures.looks

@@ -29,13 +29,13 @@ post-answer-requires g c =
 pub returns-clause-idle_here : goal.returns-clause-idle_here
 returns-clause-idle_here g c =
     let b = c.args.self.now.bank in
-    let within : c.args.link < length b.channels = omega (arith, c.requires.link, c.post-answer.ensures.number) in
+    let within : c.args.link < length b.channels = omega (arith, c.requires.link, c.known.ensures.number) in
     idle_here c.args.self.now.rank b c.post-answer.new.self c.args.link
-    (post_turn b c.post-answer.new.self c.args.link c.post-answer.result (shipped c.args.p.now) within c.post-answer.ensures.sent c.post-answer.ensures.no_room c.post-answer.ensures.no_memory)
+    (post_turn b c.post-answer.new.self c.args.link c.post-answer.result (shipped c.args.p.now) within c.post-answer.ensures.does.sent c.post-answer.ensures.does.no_room c.post-answer.ensures.does.no_memory)
 
 pub returns-clause-looks_out : goal.returns-clause-looks_out
 returns-clause-looks_out g c =
     let b = c.args.self.now.bank in
-    let within : c.args.link < length b.channels = omega (arith, c.requires.link, c.post-answer.ensures.number) in
+    let within : c.args.link < length b.channels = omega (arith, c.requires.link, c.known.ensures.number) in
     none_falls (λ x. x.looks_out) b c.post-answer.new.self c.args.link
-    (post_turn b c.post-answer.new.self c.args.link c.post-answer.result (shipped c.args.p.now) within c.post-answer.ensures.sent c.post-answer.ensures.no_room c.post-answer.ensures.no_memory) c.post-answer.ensures.looks
+    (post_turn b c.post-answer.new.self c.args.link c.post-answer.result (shipped c.args.p.now) within c.post-answer.ensures.does.sent c.post-answer.ensures.does.no_room c.post-answer.ensures.does.no_memory) c.post-answer.ensures.looks

@@ -10,10 +10,11 @@ use Rattle.std.proofs.lemmas.List.Quantifiers.{position-Some}
 use Rattle.bale_types.specs.declared.item.Entry.{Entry}
 use Rattle.exstack.specs.Links.{In, no_in, has_unread, with_first_read, read_on}
 use Rattle.exstack.specs.State.{State, in_at, lowest_unread, pop_from, popped_from, pops}
-use Rattle.exstack.specs.Parts.{GivesNext, KeepsAgreement}
+use Rattle.exstack.specs.Parts.{GivesNext, IsPop, KeepsAgreement}
 use Rattle.exstack.specs.Standing.{IsStack, IsKept}
 use Rattle.exstack.proofs.Calls.{pop_kept, stack_rest, some_unread, none_unread}
-use Rattle.exstack.proofs.Popping.{pop_is, PopIs}
+use Rattle.exstack.proofs.Places.{set_back}
+use Rattle.exstack.proofs.Popping.{pop_is}
 
 -- an inbox of which some entries were read
 drop_one : (n : ℕ) (es : List Entry) → drop 1 (drop n es) ≡ drop (suc n) es
@@ -49,11 +50,6 @@ set_twice : {X : Type 0} (xs : List X) (i : ℕ) (y z : X) → set (set xs i y) 
 set_twice [] i y z = refl
 set_twice (x ∷ xs) zero y z = refl
 set_twice (x ∷ xs) (suc i) y z = ap (λ ys. x ∷ ys) (set_twice xs i y z)
-
-set_back : {X : Type 0} (xs : List X) (i : ℕ) (d : X) → i < length xs → set xs i (get_or xs i d) ≡ xs
-set_back [] i d h = refl
-set_back (x ∷ xs) zero d h = refl
-set_back (x ∷ xs) (suc i) d h = ap (λ ys. x ∷ ys) (set_back xs i d (omega arith))
 
 -- the inboxes after n pops of one sender
 abbrev pub read_ins : State → ℕ → ℕ → List In
@@ -136,7 +132,7 @@ module _ (st : State) (a : ℕ) (found : lowest_unread st ≡ Some a) where
     gives_next n e is =
         let h : n < length (in_at st a).unread = slice_get_within (in_at st a).unread n e is in
         let v = pop_of n e is h in
-        let k : PopIs (pops n st) (Some (a, e.item)) (popped_from (pops n st) (lowest_unread (pops n st))) = pop_is cap (pops n st) (Some (a, e.item)) (popped_from (pops n st) (lowest_unread (pops n st))) (pops_stack n (omega arith)) (sym v) refl in
+        let k : IsPop (Some (a, e.item)) (pops n st) (popped_from (pops n st) (lowest_unread (pops n st))) = pop_is cap (pops n st) (Some (a, e.item)) (popped_from (pops n st) (lowest_unread (pops n st))) (pops_stack n (omega arith)) (sym v) refl in
         record { value = v; step = k.step_item; kept = k.kept }
 
     -- and as many pops keep the agreement

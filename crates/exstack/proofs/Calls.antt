@@ -125,7 +125,7 @@ module _ (cap : ℕ) (st : State) (from a : ℕ) (k : IsKept cap st from) (poppe
   unpop_within = omega (arith, can.within, k.standing.all_ins)
 
   module _ (x : In) (here : x ≡ get_or st.ins a x) where
-    at_x : x ≡ in_at st a
+    pub at_x : x ≡ in_at st a
     at_x = here ∙ get_or_default st.ins a x no_in unpop_within
 
     pub unpop_back : IsSome x.back

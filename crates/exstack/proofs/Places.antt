@@ -1,5 +1,5 @@
 -- The first place of a list that passes a test.
-use Rattle.std.proofs.Common.{◌≡◌, ℕ, ◌<◌, ◌≤◌, Bool, true, false, List, length, get_or, Some, None, inl, inr, arith, sym, ap, ◌∙◌}
+use Rattle.std.proofs.Common.{◌≡◌, ℕ, zero, suc, ◌<◌, ◌≤◌, Bool, true, false, List, [], ◌∷◌, length, get_or, set, Some, None, refl, inl, inr, arith, sym, ap, ◌∙◌}
 use Rattle.std.proofs.lemmas.Bool.{cond-true, cond-false, lt-ltb, le-ltb, cases_lt}
 use Rattle.std.specs.List.{position, position_or_len}
 use Rattle.std.proofs.lemmas.List.Sums.{position_or_len_is, fails_before_first}
@@ -24,3 +24,9 @@ none_passes p xs d none k w = elim (cases_lt (position_or_len p xs) (length xs))
 ] where
   some_none : (i : ℕ) → Some i ≡ None → ⊥
   some_none i e = cc
+
+-- what is at a place is put there
+pub set_back : {X : Type 0} (xs : List X) (i : ℕ) (d : X) → i < length xs → set xs i (get_or xs i d) ≡ xs
+set_back [] i d h = refl
+set_back (x ∷ xs) zero d h = refl
+set_back (x ∷ xs) (suc i) d h = ap (λ ys. x ∷ ys) (set_back xs i d (omega arith))

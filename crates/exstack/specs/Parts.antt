@@ -1,14 +1,14 @@
 -- A running rank's part of the exchange machine, by its exstack and its port's lists.
-use Rattle.std.specs.Prelude.{◌≡◌, ℕ, ◌-◌, ◌==◌, Bool, true, false, ◌&&◌, not, cond, if◌then◌else◌, List, [], ◌∷◌, ◌++◌, length, take, Some}
+use Rattle.std.specs.Prelude.{◌≡◌, ℕ, ◌-◌, ◌<◌, ◌==◌, Bool, true, false, ◌&&◌, not, cond, if◌then◌else◌, List, [], ◌∷◌, ◌++◌, length, take, Option, Some, None, IfSome}
 use Rattle.bale_types.specs.declared.item.Item.{Item}
 use Rattle.port_bank.specs.declared.port.Port.{Ghosts}
 use Rattle.port_bank.specs.Frames.{SamePort}
 use Rattle.port_bank.specs.Logs.{Logs}
 use Rattle.port_bank.specs.Machine.{Part, Step, IsOwnStep, after, for_ranks}
-use Rattle.port_bank.specs.Machine.Step.{Pull, Done, Complete, Idle}
+use Rattle.port_bank.specs.Machine.Step.{Pull, Unpull, Done, Complete, Idle}
 use Rattle.exstack.specs.declared.stage.Stage.{Stage}
 use Rattle.exstack.specs.declared.stage.Stage.TheVariants.{Start, Proceeding, Filling, Exchanging, Full, AllDone}
-use Rattle.exstack.specs.State.{State, dims_of, out_at, in_at, link_to, link_from, lowest_unread, pop_from, popped_from}
+use Rattle.exstack.specs.State.{State, dims_of, out_at, in_at, link_to, link_from, unread_of, lowest_unread, pop_from, popped_from}
 use Rattle.exstack.specs.Cycles.{entries_sent, entries_exchanged, items}
 use Rattle.exstack.specs.Agreement.{AgreesIn, AgreesWith}
 
@@ -69,6 +69,20 @@ pub record StaysWithRank (old new : State) : Type 0 where
   pub ranks : new.ranks ≡ old.ranks
   pub rank : new.rank ≡ old.rank
   pub kept : (sent got : Logs) → AgreesWith old sent got → AgreesWith new sent got
+
+-- What a pop is to a port that it doesn't see and to the machine, by its answer: an item of a rank, or nothing unread.
+pub record IsPop (answer : Option (ℕ × Item)) (old new : State) : Type 0 where
+  pub sender : IfSome answer (λ p. p.0 < old.ranks)
+  pub none_unread : answer ≡ None → unread_of old ≡ 0
+  pub kept : KeepsAgreement old new
+  pub step_item : IfSome answer (λ p. IsStepOf (Pull p.0 p.1) old new)
+  pub step_none : answer ≡ None → IsStepOf Idle old new
+
+-- And an unpop, by its answer.
+pub record IsUnpop (back : Bool) (old new : State) : Type 0 where
+  pub kept : KeepsAgreement old new
+  pub step_back : back ≡ true → IsStepOf Unpull old new
+  pub step_none : back ≡ false → IsStepOf Idle old new
 
 -- Several steps of a rank's own part, one after the other.
 abbrev pub AreOwnSteps : List Step → Part → Part → Type 0

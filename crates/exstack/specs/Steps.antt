@@ -1,4 +1,4 @@
--- What a round does on one link, seen through a port.
+-- What a round does on one link, and over all links of a rank, seen through its port.
 use Rattle.std.specs.Prelude.{◌≡◌, ℕ, ◌-◌, ◌<◌, ◌≤◌, Bool, true, false, not, ◌&&◌, cond, List, [], ◌∷◌, ◌++◌, length, slice_index_or}
 use Rattle.bale_types.specs.Stream.{RoseOrFull}
 use Rattle.item_buffer.specs.Contents.{Shipped}

@@ -1,25 +1,23 @@
-//! The exstack of one rank: what a program pushes, polls and pops.
-ghost use Rattle.std.specs.Prelude.{◌≡◌, ℕ, ◌^◌, ◌<◌, true, false, [], length, is_some, slice_get, Some, None, IfOk, IfSome, OnOk, IsOk, IsErr, Ok};
+//! The exstack of one rank: what a program pushes and pops, and how far it is.
+ghost use Rattle.std.specs.Prelude.{◌≡◌, ℕ, ◌^◌, ◌<◌, true, false, [], length, is_some, slice_get, Some, None, IfOk, IfSome};
 ghost use Rattle.item_buffer.specs.Capacity.{IsCap};
 ghost use Rattle.route_tensor.specs.Grid.{ranks};
 ghost use Rattle.port_bank.specs.Logs.{Logs};
-ghost use Rattle.port_bank.specs.Machine.{IsOwnStep};
-ghost use Rattle.port_bank.specs.Machine.Step.{Push, Pull, Unpull, Reset, Idle};
-ghost use Rattle.port_bank.specs.Frames.{SamePort};
+ghost use Rattle.port_bank.specs.Machine.Step.{Push, Reset, Idle};
 ghost use Rattle.exstack.specs.Links.{headroom_of};
-ghost use Rattle.exstack.specs.State.{new_stack, out_at, in_at, dims_of, link_from, least_headroom, unread_of, lowest_unread, pushed_on, pop_from, popped_from, pops, unpopped, after_reset};
-ghost use Rattle.exstack.specs.State.{may_proceed, may_exchange, in_proceed, in_exchange, missing_link, all_ended, proceed_answer, exchange_answer, stage_of_proceed, stage_of_exchange};
-ghost use Rattle.exstack.specs.Steps.{MadeRound, AsksOnce, StopsShort};
-ghost use Rattle.exstack.specs.Agreement.{AgreesIn, AgreesWith, cycle_after};
-ghost use Rattle.exstack.specs.Cycles.{exchange_parcel, entries_in};
-ghost use Rattle.exstack.specs.Parts.{IsStepOf, KeepsAgreement, GivesNext, AreOwnSteps, proceed_steps, is_all_done, part_of, IsAtPort};
+ghost use Rattle.exstack.specs.State.{new_stack, out_at, in_at, dims_of, least_headroom, unread_of, lowest_unread, pushed_on, pop_from, popped_from, pops, unpopped, after_reset};
+ghost use Rattle.exstack.specs.Agreement.{AgreesIn};
+ghost use Rattle.exstack.specs.Parts.{IsStepOf, KeepsAgreement, GivesNext, IsPop, IsUnpop};
 ghost use Rattle.exstack.specs.Standing.{IsStack};
 ghost use Rattle.exstack.specs.Demands.{MayPush};
 
-use crate::stack::Stack;
-use crate::stage::{Poll, Proceed, Stage};
-use bale_types::{Entry, Item, NoMemory};
-use port_bank::Port;
+use crate::in_link::InLink;
+use crate::out_link::OutLink;
+use crate::rounds::{
+    least_room, links_in, links_out, next_unread, reopen_all, resume_all, unread_in,
+};
+use crate::stage::Stage;
+use bale_types::{Entry, Item, NoMemory, Tag};
 use route_tensor::Grid;
 use std::alloc::Global;
 use std::marker::Model;
@@ -27,7 +25,20 @@ use std::marker::Model;
 /// One rank's exstack, for parcels of `CAP` entries, on a grid of one hop. Contracts see its state.
 #[derive(Drop)]
 pub struct Exstack<const CAP: usize> {
-    stack: Stack<CAP>,
+    pub(crate) ranks: u32,
+    pub(crate) rank: u32,
+    pub(crate) stage: Stage,
+    /// Whether the rank said in this epoch that it pushes nothing more.
+    pub(crate) done: bool,
+    pub(crate) epoch: u64,
+    /// By the rank to which they lead.
+    pub(crate) outs: Vec<OutLink<CAP>>,
+    /// By the rank from which they come.
+    pub(crate) ins: Vec<InLink<CAP>>,
+    /// A rank below which no link in has an unread item.
+    pub(crate) from: u32,
+    /// The sender of the item that the latest call popped, where it popped one.
+    pub(crate) popped: Option<u32>,
 }
 
 impl<const CAP: usize> Model for Exstack<CAP> {
@@ -35,7 +46,29 @@ impl<const CAP: usize> Model for Exstack<CAP> {
 
     ghost Value = { State };
 
-    ghost view = { λ s. s.stack };
+    ghost use Rattle.exstack.specs.Standing.{IsKept};
+
+    ghost view = { λ s. record {
+      ranks = s.ranks;
+      rank = s.rank;
+      stage = s.stage;
+      done = s.done;
+      epoch = s.epoch;
+      outs = s.outs.items;
+      ins = s.ins.items;
+      popped = s.popped;
+    } };
+
+    ghost invariant = { λ s. IsKept CAP (record {
+      ranks = s.ranks;
+      rank = s.rank;
+      stage = s.stage;
+      done = s.done;
+      epoch = s.epoch;
+      outs = s.outs.items;
+      ins = s.ins.items;
+      popped = s.popped;
+    }) s.from };
 }
 
 impl<const CAP: usize> Exstack<CAP> {
@@ -48,8 +81,17 @@ impl<const CAP: usize> Exstack<CAP> {
         ensures grid { IfOk result (λ s. dims_of s ≡ grid.now) }
         ensures agrees { IfOk result (λ s. AgreesIn 0 s (λ l. []) (λ l. [])) }
     {
+        let ranks = grid.ranks();
         Ok(Exstack {
-            stack: Stack::new(alloc, grid, rank)?,
+            ranks,
+            rank,
+            stage: Stage::Start,
+            done: false,
+            epoch: 0,
+            outs: links_out(alloc, ranks)?,
+            ins: links_in(alloc, ranks)?,
+            from: 0,
+            popped: None,
         })
     }
 
@@ -59,8 +101,7 @@ impl<const CAP: usize> Exstack<CAP> {
         ensures value { result ≡ self.now.stage }
         ensures standing { IsStack CAP self.now }
     {
-        self.stack.known();
-        self.stack.stage()
+        self.stage
     }
 
     /// Does nothing, and tells what holds of an exstack at every moment.
@@ -68,14 +109,14 @@ impl<const CAP: usize> Exstack<CAP> {
     pub fn known(&self)
         ensures standing { IsStack CAP self.now }
     {
-        self.stack.known();
+        let _ranks = self.ranks;
     }
 
     /// How many items came and are unread.
     pub fn unread(&self) -> u64
         ensures { result ≡ unread_of self.now }
     {
-        self.stack.unread()
+        unread_in(&self.ins)
     }
 
     /// How many items may be pushed toward `to` before its buffer is full.
@@ -84,14 +125,14 @@ impl<const CAP: usize> Exstack<CAP> {
         requires { to < self.now.ranks }
         ensures { result ≡ headroom_of CAP (out_at self.now to) }
     {
-        self.stack.headroom(to)
+        self.outs[to as usize].headroom()
     }
 
     /// The same for the rank for which it is least.
     pub fn min_headroom(&self) -> u64
         ensures { result ≡ least_headroom CAP self.now.outs }
     {
-        self.stack.min_headroom()
+        least_room(&self.outs)
     }
 
     /// Puts `item` into the buffer toward `to`, where there is room. Answers the headroom that was there before: 0 is the
@@ -106,8 +147,16 @@ impl<const CAP: usize> Exstack<CAP> {
         ensures step_pushed { 0 < result → IsStepOf (Push to item) self.old self.new }
         ensures step_full { result ≡ 0 → IsStepOf Idle self.old self.new }
     {
-        self.stack.known();
-        self.stack.push(item, to)
+        self.popped = None;
+        let entry = Entry {
+            tag: Tag {
+                d1: 0,
+                d2: 0,
+                d3: 0,
+            },
+            item,
+        };
+        self.outs[to as usize].push(entry)
     }
 
     /// The first unread item of the lowest sender that has one, with that sender.
@@ -115,14 +164,17 @@ impl<const CAP: usize> Exstack<CAP> {
     pub fn pop(&mut self) -> Option<(u32, Item)>
         ensures value { result ≡ pop_from self.old (lowest_unread self.old) }
         ensures state { self.new ≡ popped_from self.old (lowest_unread self.old) }
-        ensures sender { IfSome result (λ p. p.0 < self.old.ranks) }
-        ensures none_unread { result ≡ None → unread_of self.old ≡ 0 }
-        ensures kept { KeepsAgreement self.old self.new }
-        ensures step_item { IfSome result (λ p. IsStepOf (Pull p.0 p.1) self.old self.new) }
-        ensures step_none { result ≡ None → IsStepOf Idle self.old self.new }
+        ensures is { IsPop result self.old self.new }
     {
-        self.stack.known();
-        self.stack.pop()
+        self.popped = None;
+        let Some(from) = next_unread(&self.ins, self.from) else {
+            self.from = self.ranks;
+            return None;
+        };
+        let entry = self.ins[from as usize].take()?;
+        self.from = from;
+        self.popped = Some(from);
+        Some((from, entry.item))
     }
 
     /// The sender of the item that the next pop gives: the lowest that has an unread one.
@@ -133,7 +185,10 @@ impl<const CAP: usize> Exstack<CAP> {
         ensures kept { KeepsAgreement self.old self.new }
         ensures step { IsStepOf Idle self.old self.new }
     {
-        self.stack.next_sender()
+        self.popped = None;
+        let sender = next_unread(&self.ins, self.from)?;
+        self.from = sender;
+        Some(sender)
     }
 
     /// The unread entries of that sender, in order. As many pops give their items.
@@ -144,8 +199,7 @@ impl<const CAP: usize> Exstack<CAP> {
         ensures gives { (i : ℕ) (e : Entry) → slice_get result.now i ≡ Some e
             → GivesNext (pops i self.now) sender e.item }
     {
-        self.stack.known();
-        self.stack.batch(sender)
+        self.ins[sender as usize].unread()
     }
 
     /// Pops all unread items of that sender.
@@ -155,20 +209,26 @@ impl<const CAP: usize> Exstack<CAP> {
         ensures same { self.new ≡ record self.old { ins = self.new.ins; popped = self.new.popped } }
         ensures kept { KeepsAgreement self.old self.new }
     {
-        self.stack.known();
-        self.stack.pop_all(sender);
+        self.ins[sender as usize].read_all();
+        self.from = sender;
+        self.popped = Some(sender);
     }
 
     /// Makes the item of the latest call unread again, if that was a pop that gave one.
     pub fn unpop(&mut self) -> bool
         ensures value { result ≡ is_some self.old.popped }
         ensures state { self.new ≡ unpopped self.old self.old.popped }
-        ensures kept { KeepsAgreement self.old self.new }
-        ensures step_back { result ≡ true → IsStepOf Unpull self.old self.new }
-        ensures step_none { result ≡ false → IsStepOf Idle self.old self.new }
+        ensures is { IsUnpop result self.old self.new }
     {
-        self.stack.known();
-        self.stack.unpop()
+        match self.popped {
+            Some(from) => {
+                self.ins[from as usize].put_back();
+                self.from = self.from.min(from);
+                self.popped = None;
+                true
+            }
+            None => false,
+        }
     }
 
     /// Ends an epoch in which all are done, and begins the next one.
@@ -179,110 +239,11 @@ impl<const CAP: usize> Exstack<CAP> {
         ensures kept { (n : ℕ) (sent got : Logs) → AgreesIn n self.old sent got → AgreesIn 0 self.new sent got }
         ensures step { IsStepOf Reset self.old self.new }
     {
-        self.stack.known();
-        self.stack.reset();
-    }
-
-    /// Makes the posts that are missing in a proceed round, and then the missing collects. Where none is in progress one
-    /// begins; `done` says whether the rank pushes nothing more in this epoch.
-    ///
-    /// # Errors
-    /// `NoMemory` comes only from the port's post. What was posted before it stands, and the poll may be made again.
-    pub fn poll_proceed<P: Port<CAP>>(
-        &mut self,
-        port: &mut P,
-        done: bool,
-    ) -> Result<Proceed, NoMemory>
-        requires may { may_proceed self.old.stage ≡ true }
-        requires at_port { IsAtPort P.Port self.old port.old }
-        requires read { unread_of self.old ≡ 0 }
-        requires done_stays { self.old.done ≡ true → done ≡ true }
-        requires same_done { self.old.stage ≡ Stage.Proceeding → done ≡ self.old.done }
-
-        // The exstack agrees with the port again.
-        ensures agrees { AgreesWith self.new (P.sent port.new) (P.got port.new) }
-        ensures cycle { (n : ℕ) → AgreesIn n self.old (P.sent port.old) (P.got port.old)
-            → AgreesIn (cycle_after n self.old.stage) self.new (P.sent port.new) (P.got port.new) }
-        ensures same { self.new ≡ record self.old {
-          stage = self.new.stage;
-          done = done;
-          outs = self.new.outs;
-          ins = self.new.ins;
-          popped = None;
-        } }
-        ensures same_port { SamePort P.Port port.old port.new }
-
-        // Answers.
-        ensures answer { IfOk result (λ p. p ≡ proceed_answer (missing_link self.new) (all_ended self.new)) }
-        ensures stage { IfOk result (λ p. self.new.stage ≡ stage_of_proceed p) }
-        ensures no_memory { IsErr result → self.new.stage ≡ Stage.Proceeding }
-        ensures memory { P.Memory.GROWS ≡ false → IsOk result }
-
-        // It is these steps of the rank's part of the exchange machine.
-        ensures steps { AreOwnSteps (proceed_steps self.old.done done (is_all_done self.new.stage))
-            (part_of self.old (P.sent port.old) (P.got port.old))
-            (part_of self.new (P.sent port.new) (P.got port.new)) }
-
-        // What was posted and collected.
-        ensures round { MadeRound done false (in_proceed done self.old) self.new (P.sent port.old) (P.sent port.new)
-            (P.got port.old) (P.got port.new) }
-
-        // What the port was asked, with memory and without.
-        ensures asks { OnOk result (AsksOnce P.Port (in_proceed done self.old) self.new port.old port.new) }
-        ensures stops { IsErr result → StopsShort P.Port self.new port.old port.new }
-    {
-        self.stack.begin_proceed(done);
-        let missing = self.stack.go_round(port, done, false)?;
-        Ok(self.stack.settle_proceed(missing))
-    }
-
-    /// Makes the posts that are missing in an exchange round, and then the missing collects. Where none is in progress one
-    /// begins.
-    ///
-    /// # Errors
-    /// `NoMemory` comes only from the port's post. What was posted before it stands, and the poll may be made again.
-    pub fn poll_exchange<P: Port<CAP>>(&mut self, port: &mut P) -> Result<Poll, NoMemory>
-        requires may { may_exchange self.old.stage ≡ true }
-        requires at_port { IsAtPort P.Port self.old port.old }
-
-        // The exstack agrees with the port again.
-        ensures agrees { AgreesWith self.new (P.sent port.new) (P.got port.new) }
-        ensures cycle { (n : ℕ) → AgreesIn n self.old (P.sent port.old) (P.got port.old)
-            → AgreesIn n self.new (P.sent port.new) (P.got port.new) }
-        ensures same { self.new ≡ record self.old {
-          stage = self.new.stage;
-          outs = self.new.outs;
-          ins = self.new.ins;
-          popped = None;
-        } }
-        ensures same_port { SamePort P.Port port.old port.new }
-
-        // Answers.
-        ensures answer { IfOk result (λ p. p ≡ exchange_answer (missing_link self.new)) }
-        ensures stage { IfOk result (λ p. self.new.stage ≡ stage_of_exchange p) }
-        ensures no_memory { IsErr result → self.new.stage ≡ Stage.Exchanging }
-        ensures memory { P.Memory.GROWS ≡ false → IsOk result }
-
-        // It is a step of the rank's part of the exchange machine.
-        ensures step { IsOwnStep Idle (part_of self.old (P.sent port.old) (P.got port.old))
-            (part_of self.new (P.sent port.new) (P.got port.new)) }
-
-        // What was posted and collected.
-        ensures round { MadeRound false true (in_exchange self.old) self.new (P.sent port.old) (P.sent port.new)
-            (P.got port.old) (P.got port.new) }
-
-        // What the port was asked, with memory and without.
-        ensures asks { OnOk result (AsksOnce P.Port (in_exchange self.old) self.new port.old port.new) }
-        ensures stops { IsErr result → StopsShort P.Port self.new port.old port.new }
-
-        // A parcel that this poll collected is the exchange parcel of its cycle, and all of it is unread.
-        ensures whole { (n a : ℕ) → AgreesIn n self.old (P.sent port.old) (P.got port.old) → a < self.old.ranks
-            → (in_at (in_exchange self.old) a).due ≡ true → (in_at self.new a).due ≡ false
-            → (in_at self.new a).unread
-            ≡ entries_in (exchange_parcel self.old.epoch n (P.got port.new (link_from self.old a))) }
-    {
-        self.stack.begin_exchange();
-        let missing = self.stack.go_round(port, false, true)?;
-        Ok(self.stack.settle_exchange(missing))
+        self.popped = None;
+        reopen_all(&mut self.outs);
+        resume_all(&mut self.ins);
+        self.done = false;
+        self.stage = Stage::Start;
+        self.epoch += 1;
     }
 }

@@ -28,8 +28,8 @@ mod exstack;
 mod in_link;
 mod law;
 mod out_link;
+mod polls;
 mod rounds;
-mod stack;
 mod stage;
 
 pub use exstack::Exstack;

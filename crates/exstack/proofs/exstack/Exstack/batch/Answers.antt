@@ -1,23 +1,43 @@
-use Rattle.std.proofs.Common.{◌≡◌, ◌<◌, slice_get, sym, ap, subst, ◌∙◌, arith, rules}
+use Rattle.std.proofs.Common.{◌≡◌, ◌<◌, length, slice_get, Some, sym, ap, subst, ◌∙◌, arith}
+use Rattle.std.proofs.lemmas.List.{get_or_default}
 use Rattle.std.proofs.lemmas.List.Quantifiers.{position-Some}
-use Rattle.exstack.specs.Links.{no_in, has_unread}
-use Rattle.exstack.specs.State.{State, in_at}
+use Rattle.exstack.specs.Links.{In, no_in, has_unread}
+use Rattle.exstack.specs.State.{State, in_at, lowest_unread}
 use Rattle.exstack.specs.Standing.{IsStack}
 use Rattle.exstack.proofs.Batches.{gives_next}
 use Rattle.exstack.proofs.exstack.Exstack.batch.Goals as goal
 
-pub batch-requires : goal.batch-requires
-batch-requires g c =
-    let now : State = c.args.self.now in
-    let view : c.self.inside.stack ≡ now = c.self.view_is in
-    let s : IsStack g.row.CAP now = subst (IsStack g.row.CAP) view c.known.ensures in
-    let p = position-Some has_unread now.ins c.args.sender no_in c.requires.lowest in
-    (search rules, subst (λ (t : State). c.args.sender < t.ranks) (sym view) (omega (arith, p.0, s.all_ins)))
+pub index-requires : goal.index-requires
+index-requires g c =
+    let st : State = record {
+      ranks = c.self.inside.ranks;
+      rank = c.self.inside.rank;
+      stage = c.self.inside.stage;
+      done = c.self.inside.done;
+      epoch = c.self.inside.epoch;
+      outs = c.self.inside.outs.items;
+      ins = c.self.inside.ins.items;
+      popped = c.self.inside.popped;
+    } in
+    let found : lowest_unread st ≡ Some c.args.sender = ap lowest_unread c.self.view_is ∙ c.requires.lowest in
+    omega (arith, (position-Some has_unread st.ins c.args.sender no_in found).0, c.self.inside.ins.ok)
 
 pub returns-clause-gives : goal.returns-clause-gives
 returns-clause-gives g c =
+    let st : State = record {
+      ranks = c.self.inside.ranks;
+      rank = c.self.inside.rank;
+      stage = c.self.inside.stage;
+      done = c.self.inside.done;
+      epoch = c.self.inside.epoch;
+      outs = c.self.inside.outs.items;
+      ins = c.self.inside.ins.items;
+      popped = c.self.inside.popped;
+    } in
     let now : State = c.args.self.now in
-    let view : c.self.inside.stack ≡ now = c.self.view_is in
-    let s : IsStack g.row.CAP now = subst (IsStack g.row.CAP) view c.known.ensures in
-    let value = c.batch.ensures ∙ ap (λ (t : State). (in_at t c.args.sender).unread) view in
+    let view : st ≡ now = c.self.view_is in
+    let found : lowest_unread st ≡ Some c.args.sender = ap lowest_unread view ∙ c.requires.lowest in
+    let low : c.args.sender < length st.ins = (position-Some has_unread st.ins c.args.sender no_in found).0 in
+    let s : IsStack g.row.CAP now = subst (IsStack g.row.CAP) view c.self.invariant.standing in
+    let value = c.unread.ensures ∙ (ap (λ (i : In). i.unread) (c.index.ensures ∙ get_or_default st.ins c.args.sender c.index.result.now no_in low) ∙ ap (λ (t : State). (in_at t c.args.sender).unread) view) in
     λ i e h. gives_next now c.args.sender c.requires.lowest g.row.CAP s i e (ap (λ es. slice_get es i) (sym value) ∙ h)

@@ -9,7 +9,7 @@ use Rattle.exstack.specs.Agreement.{AgreesIn}
 use Rattle.exstack.specs.Steps.{WasCollected, MadeRound, InVain}
 use Rattle.exstack.specs.Standing.{IsStack}
 use Rattle.exstack.proofs.Making.{after_round, PostsDone, CollectsDone, Before, before, none_done, round_done, stack_done, agrees_done}
-use Rattle.exstack.proofs.stack.Stack.go_round.Goals as goal
+use Rattle.exstack.proofs.exstack.Exstack.go_round.Goals as goal
 
 pub invariant_of-self : goal.invariant_of-self
 invariant_of-self g c =

@@ -4,7 +4,7 @@ use Rattle.exstack.specs.Links.{Out, In, begun_out, begun_in}
 use Rattle.exstack.specs.State.{State, is_exchanging, may_exchange}
 use Rattle.exstack.specs.Standing.{IsKept}
 use Rattle.exstack.proofs.Beginning.{exchange_kept, exchange_filling}
-use Rattle.exstack.proofs.stack.Stack.begin_exchange.Goals as goal
+use Rattle.exstack.proofs.exstack.Exstack.begin_exchange.Goals as goal
 
 pub invariant_of-self-2 : goal.invariant_of-self-2
 invariant_of-self-2 g c =

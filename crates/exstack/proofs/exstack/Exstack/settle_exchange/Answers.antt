@@ -2,7 +2,7 @@ use Rattle.std.proofs.Common.{◌≡◌, None, sym, ap, ◌∙◌, rules}
 use Rattle.exstack.specs.declared.stage.Stage.TheVariants.{Exchanging}
 use Rattle.exstack.specs.State.{State, missing_link}
 use Rattle.exstack.proofs.Settling.{full_kept}
-use Rattle.exstack.proofs.stack.Stack.settle_exchange.Goals as goal
+use Rattle.exstack.proofs.exstack.Exstack.settle_exchange.Goals as goal
 
 pub invariant_of-self : goal.invariant_of-self
 invariant_of-self g c =

@@ -2,7 +2,7 @@ use Rattle.std.proofs.Common.{◌≡◌, true, None, sym, ap, ◌∙◌, rules}
 use Rattle.exstack.specs.declared.stage.Stage.TheVariants.{Proceeding}
 use Rattle.exstack.specs.State.{State, missing_link, all_ended}
 use Rattle.exstack.proofs.Settling.{filling_kept, all_done_kept}
-use Rattle.exstack.proofs.stack.Stack.settle_proceed.Goals as goal
+use Rattle.exstack.proofs.exstack.Exstack.settle_proceed.Goals as goal
 
 pub invariant_of-self : goal.invariant_of-self
 invariant_of-self g c =

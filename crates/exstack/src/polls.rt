@@ -1,0 +1,238 @@
+//! The polls of an exstack: each begins a round or goes on with it.
+ghost use Rattle.std.specs.Prelude.{◌≡◌, ℕ, ◌<◌, ◌&&◌, ◌||◌, not, true, false, None, IfOk, OnOk, IsOk, IsErr, Ok};
+ghost use Rattle.port_bank.specs.Machine.{IsOwnStep};
+ghost use Rattle.port_bank.specs.Machine.Step.{Idle};
+ghost use Rattle.port_bank.specs.Frames.{SamePort};
+ghost use Rattle.exstack.specs.State.{in_at, link_from, unread_of};
+ghost use Rattle.exstack.specs.State.{is_proceeding, is_exchanging, may_proceed, may_exchange, in_proceed, in_exchange, missing_link, all_ended, proceed_answer, exchange_answer, stage_of_proceed, stage_of_exchange};
+ghost use Rattle.exstack.specs.Steps.{MadeRound, AsksOnce, StopsShort};
+ghost use Rattle.exstack.specs.Agreement.{AgreesIn, AgreesWith, cycle_after};
+ghost use Rattle.exstack.specs.Cycles.{exchange_parcel, entries_in};
+ghost use Rattle.exstack.specs.Parts.{AreOwnSteps, proceed_steps, is_all_done, part_of, IsAtPort};
+ghost use Rattle.exstack.specs.Standing.{IsStack};
+
+use crate::exstack::Exstack;
+use crate::rounds::{all_ended, begin_ins, begin_outs, collect_all, missing, post_all};
+use crate::stage::{Poll, Proceed, Stage};
+use bale_types::NoMemory;
+use port_bank::Port;
+
+impl<const CAP: usize> Exstack<CAP> {
+    /// Makes the posts that are missing in a proceed round, and then the missing collects. Where none is in progress one
+    /// begins; `done` says whether the rank pushes nothing more in this epoch.
+    ///
+    /// # Errors
+    /// `NoMemory` comes only from the port's post. What was posted before it stands, and the poll may be made again.
+    pub fn poll_proceed<P: Port<CAP>>(
+        &mut self,
+        port: &mut P,
+        done: bool,
+    ) -> Result<Proceed, NoMemory>
+        requires may { may_proceed self.old.stage ≡ true }
+        requires at_port { IsAtPort P.Port self.old port.old }
+        requires read { unread_of self.old ≡ 0 }
+        requires done_stays { self.old.done ≡ true → done ≡ true }
+        requires same_done { self.old.stage ≡ Stage.Proceeding → done ≡ self.old.done }
+
+        // The exstack agrees with the port again.
+        ensures agrees { AgreesWith self.new (P.sent port.new) (P.got port.new) }
+        ensures cycle { (n : ℕ) → AgreesIn n self.old (P.sent port.old) (P.got port.old)
+            → AgreesIn (cycle_after n self.old.stage) self.new (P.sent port.new) (P.got port.new) }
+        ensures same { self.new ≡ record self.old {
+          stage = self.new.stage;
+          done = done;
+          outs = self.new.outs;
+          ins = self.new.ins;
+          popped = None;
+        } }
+        ensures same_port { SamePort P.Port port.old port.new }
+
+        // Answers.
+        ensures answer { IfOk result (λ p. p ≡ proceed_answer (missing_link self.new) (all_ended self.new)) }
+        ensures stage { IfOk result (λ p. self.new.stage ≡ stage_of_proceed p) }
+        ensures no_memory { IsErr result → self.new.stage ≡ Stage.Proceeding }
+        ensures memory { P.Memory.GROWS ≡ false → IsOk result }
+
+        // It is these steps of the rank's part of the exchange machine.
+        ensures steps { AreOwnSteps (proceed_steps self.old.done done (is_all_done self.new.stage))
+            (part_of self.old (P.sent port.old) (P.got port.old))
+            (part_of self.new (P.sent port.new) (P.got port.new)) }
+
+        // What was posted and collected.
+        ensures round { MadeRound done false (in_proceed done self.old) self.new (P.sent port.old) (P.sent port.new)
+            (P.got port.old) (P.got port.new) }
+
+        // What the port was asked, with memory and without.
+        ensures asks { OnOk result (AsksOnce P.Port (in_proceed done self.old) self.new port.old port.new) }
+        ensures stops { IsErr result → StopsShort P.Port self.new port.old port.new }
+    {
+        self.begin_proceed(done);
+        let missing = self.go_round(port, done, false)?;
+        Ok(self.settle_proceed(missing))
+    }
+
+    /// Makes the posts that are missing in an exchange round, and then the missing collects. Where none is in progress one
+    /// begins.
+    ///
+    /// # Errors
+    /// `NoMemory` comes only from the port's post. What was posted before it stands, and the poll may be made again.
+    pub fn poll_exchange<P: Port<CAP>>(&mut self, port: &mut P) -> Result<Poll, NoMemory>
+        requires may { may_exchange self.old.stage ≡ true }
+        requires at_port { IsAtPort P.Port self.old port.old }
+
+        // The exstack agrees with the port again.
+        ensures agrees { AgreesWith self.new (P.sent port.new) (P.got port.new) }
+        ensures cycle { (n : ℕ) → AgreesIn n self.old (P.sent port.old) (P.got port.old)
+            → AgreesIn n self.new (P.sent port.new) (P.got port.new) }
+        ensures same { self.new ≡ record self.old {
+          stage = self.new.stage;
+          outs = self.new.outs;
+          ins = self.new.ins;
+          popped = None;
+        } }
+        ensures same_port { SamePort P.Port port.old port.new }
+
+        // Answers.
+        ensures answer { IfOk result (λ p. p ≡ exchange_answer (missing_link self.new)) }
+        ensures stage { IfOk result (λ p. self.new.stage ≡ stage_of_exchange p) }
+        ensures no_memory { IsErr result → self.new.stage ≡ Stage.Exchanging }
+        ensures memory { P.Memory.GROWS ≡ false → IsOk result }
+
+        // It is a step of the rank's part of the exchange machine.
+        ensures step { IsOwnStep Idle (part_of self.old (P.sent port.old) (P.got port.old))
+            (part_of self.new (P.sent port.new) (P.got port.new)) }
+
+        // What was posted and collected.
+        ensures round { MadeRound false true (in_exchange self.old) self.new (P.sent port.old) (P.sent port.new)
+            (P.got port.old) (P.got port.new) }
+
+        // What the port was asked, with memory and without.
+        ensures asks { OnOk result (AsksOnce P.Port (in_exchange self.old) self.new port.old port.new) }
+        ensures stops { IsErr result → StopsShort P.Port self.new port.old port.new }
+
+        // A parcel that this poll collected is the exchange parcel of its cycle, and all of it is unread.
+        ensures whole { (n a : ℕ) → AgreesIn n self.old (P.sent port.old) (P.got port.old) → a < self.old.ranks
+            → (in_at (in_exchange self.old) a).due ≡ true → (in_at self.new a).due ≡ false
+            → (in_at self.new a).unread
+            ≡ entries_in (exchange_parcel self.old.epoch n (P.got port.new (link_from self.old a))) }
+    {
+        self.begin_exchange();
+        let missing = self.go_round(port, false, true)?;
+        Ok(self.settle_exchange(missing))
+    }
+
+    fn begin_proceed(&mut self, done: bool)
+        requires may { may_proceed self.old.stage ≡ true }
+        requires read { unread_of self.old ≡ 0 }
+        requires done_stays { self.old.done ≡ true → done ≡ true }
+        ensures state { self.new ≡ in_proceed done self.old }
+        ensures standing { IsStack CAP self.old }
+    {
+        self.popped = None;
+        if is_proceeding(self.stage) {
+            return;
+        }
+        begin_outs(&mut self.outs);
+        begin_ins(&mut self.ins);
+        self.stage = Stage::Proceeding;
+        self.done = done;
+    }
+
+    fn begin_exchange(&mut self)
+        requires { may_exchange self.old.stage ≡ true }
+        ensures state { self.new ≡ in_exchange self.old }
+        ensures standing { IsStack CAP self.old }
+    {
+        self.popped = None;
+        if is_exchanging(self.stage) {
+            return;
+        }
+        begin_outs(&mut self.outs);
+        begin_ins(&mut self.ins);
+        self.stage = Stage::Exchanging;
+    }
+
+    /// Makes the posts that are missing in a round, and then the missing collects. Answers the link for which the round
+    /// still waits.
+    fn go_round<P: Port<CAP>>(
+        &mut self,
+        port: &mut P,
+        last: bool,
+        exchange: bool,
+    ) -> Result<Option<u32>, NoMemory>
+        requires in_round { (is_proceeding self.old.stage || is_exchanging self.old.stage) ≡ true }
+        requires exchange { exchange ≡ is_exchanging self.old.stage }
+        requires last { last ≡ (self.old.done && not exchange) }
+        requires forgotten { self.old.popped ≡ None }
+        requires at_port { IsAtPort P.Port self.old port.old }
+        ensures standing { IsStack CAP self.old }
+        ensures same { self.new ≡ record self.old { outs = self.new.outs; ins = self.new.ins } }
+        ensures cycle { (n : ℕ) → AgreesIn n self.old (P.sent port.old) (P.got port.old)
+            → AgreesIn n self.new (P.sent port.new) (P.got port.new) }
+        ensures round { MadeRound last exchange self.old self.new (P.sent port.old) (P.sent port.new) (P.got port.old)
+            (P.got port.new) }
+        ensures missing { IfOk result (λ o. o ≡ missing_link self.new) }
+        ensures asks { OnOk result (AsksOnce P.Port self.old self.new port.old port.new) }
+        ensures stops { IsErr result → StopsShort P.Port self.new port.old port.new }
+        ensures memory { P.Memory.GROWS ≡ false → IsOk result }
+        ensures same_port { SamePort P.Port port.old port.new }
+    {
+        post_all(&mut self.outs, port, self.rank, self.epoch, last)?;
+        collect_all(&mut self.ins, port, self.rank, self.epoch, exchange);
+        self.from = 0;
+        Ok(missing(&self.outs, &self.ins, self.rank))
+    }
+
+    fn settle_proceed(&mut self, missing: Option<u32>) -> Proceed
+        requires proceeding { self.old.stage ≡ Stage.Proceeding }
+        requires forgotten { self.old.popped ≡ None }
+        requires is_missing { missing ≡ missing_link self.old }
+        ensures value { result ≡ proceed_answer missing (all_ended self.old) }
+        ensures state { self.new ≡ record self.old { stage = stage_of_proceed result } }
+    {
+        if let Some(link) = missing {
+            return Proceed::NotYet(link);
+        }
+        if all_ended(&self.ins) {
+            self.stage = Stage::AllDone;
+            Proceed::AllDone
+        } else {
+            self.stage = Stage::Filling;
+            Proceed::GoOn
+        }
+    }
+
+    fn settle_exchange(&mut self, missing: Option<u32>) -> Poll
+        requires exchanging { self.old.stage ≡ Stage.Exchanging }
+        requires forgotten { self.old.popped ≡ None }
+        requires is_missing { missing ≡ missing_link self.old }
+        ensures value { result ≡ exchange_answer missing }
+        ensures state { self.new ≡ record self.old { stage = stage_of_exchange result } }
+    {
+        if let Some(link) = missing {
+            return Poll::NotYet(link);
+        }
+        self.stage = Stage::Full;
+        Poll::Ready
+    }
+}
+
+/// Whether a proceed round is in progress.
+fn is_proceeding(stage: Stage) -> bool
+    ensures { result ≡ is_proceeding stage }
+{
+    match stage {
+        Stage::Proceeding => true,
+        Stage::Start | Stage::Filling | Stage::Exchanging | Stage::Full | Stage::AllDone => false,
+    }
+}
+
+/// Whether an exchange round is in progress.
+fn is_exchanging(stage: Stage) -> bool
+    ensures { result ≡ is_exchanging stage }
+{
+    match stage {
+        Stage::Exchanging => true,
+        Stage::Start | Stage::Proceeding | Stage::Filling | Stage::Full | Stage::AllDone => false,
+    }
+}

@@ -15,7 +15,7 @@ use Rattle.convey.specs.Conveyors.{KeepsAgreement, IsStepOf, GivesNext}
 use Rattle.convey.specs.Parts.{part_of}
 use Rattle.round_program.specs.Talks.{Talk}
 use Rattle.round_program.specs.Replies.{carrying, answers}
-use Rattle.query_node.specs.Taking.{AnswersOn, Answers, PushesAnswer, RefusesAnswer}
+use Rattle.query_node.specs.Taking.{MayAnswer, AnswersOn, Answers, PushesAnswer, RefusesAnswer}
 use Rattle.query_node.proofs.Offering.{item_here, item_other}
 use Rattle.query_node.proofs.Pulling.{pulled_same, fewer_pulled, fewer_next}
 
@@ -140,6 +140,15 @@ answers_unread T s q c c' r r1 f new kept step =
       on = λ asking asked replying replied a b. on_unread T s (ranks c.dims) (part_of (buffers_of c) asking asked) (part_of (buffers_of c') asking asked) (part_of (buffers_of r1) replying replied) (step asking asked a);
     } in
     answers_both T s q c c' r r1 r1 f one
+
+-- and more may be answered
+pub may_still : {S : Type 0} (T : Talk S) (s : S) (q q' r r' : State) → Answers T s q q' r r' → MayAnswer q r → MayAnswer q' r'
+may_still T s q q' r r' f may = record {
+  begun = λ e. may.begun (sym (ap (λ (t : State). t.phase) f.same) ∙ e);
+  same_dims = ap (λ (t : State). t.dims) f.same_replies ∙ (may.same_dims ∙ sym (ap (λ (t : State). t.dims) f.same));
+  working = ap (λ (t : State). t.phase) f.same_replies ∙ may.working;
+  not_done = ap (λ (t : State). t.done) f.same_replies ∙ may.not_done;
+}
 
 -- pushes of answers to the first so many queries of an inbox
 pub record Replying {S : Type 0} (T : Talk S) (s : S) (n count : ℕ) (q r r1 : State) : Type 0 where

@@ -1,11 +1,12 @@
 -- What the small steps of a turn leave.
-use Rattle.std.specs.Prelude.{◌≡◌, ℕ, ◌<◌, ◌≤◌, ◌^◌, List, length, drop, slice_get, Some}
+use Rattle.std.specs.Prelude.{◌≡◌, ◌≢◌, ℕ, ◌<◌, ◌≤◌, ◌^◌, false, List, length, drop, slice_get, Some}
 use Rattle.std.specs.List.{All}
 use Rattle.bale_types.specs.declared.item.Item.{Item}
 use Rattle.route_tensor.specs.Grid.{ranks}
 use Rattle.port_bank.specs.Logs.{Logs}
 use Rattle.port_bank.specs.Machine.{Part, ItemLists, with_item}
 use Rattle.port_bank.specs.Machine.Step.{Push, Idle}
+use Rattle.hop_core.specs.declared.phase.Phase.TheVariants.{Dormant, Working}
 use Rattle.hop_core.specs.declared.phase.Pushed.{Pushed}
 use Rattle.hop_core.specs.declared.phase.Pushed.TheVariants.{Accepted, Full}
 use Rattle.hop_core.specs.State.{State, lowest_unread, pull_from}
@@ -25,6 +26,13 @@ pub record Pushes (items : List (ℕ × Item)) (cap from next : ℕ) (c c' : Sta
   pub kept : KeepsAgreement c c'
   pub on : (sent got : Logs) → AgreesWith c sent got → PushedOn items (ranks c.dims) from next (part_of (buffers_of c) sent got) (part_of (buffers_of c') sent got)
   pub refused : (to : ℕ) (x : Item) → slice_get items next ≡ Some (to, x) → (to < ranks c'.dims) × (standing_toward c' to ≡ cap)
+
+-- Queries may be pulled of q, and their answers pushed on r: q has begun, and r is at work, and isn't done.
+pub record MayAnswer (q r : State) : Type 0 where
+  pub begun : q.phase ≢ Dormant
+  pub same_dims : r.dims ≡ q.dims
+  pub working : r.phase ≡ Working
+  pub not_done : r.done ≡ false
 
 -- To each of p ranks was pushed the answer to each query that was pulled of it, and nothing else.
 abbrev pub IsAnswered : {S : Type 0} → Talk S → S → ℕ → Part → Part → Type 0
@@ -68,6 +76,12 @@ pub record HasHeard {S : Type 0} (T : Talk S) (start : S) (p : ℕ) (asker : S) 
   pub all : length lines ≡ p
   pub waits : (d : ℕ) → d < p → slice_get lines d ≡ Some (drop (length (came 0 d)) (places_to d 0 (T.queries start)))
   pub small : (d : ℕ) → All (λ x. x.a < 2 ^ 64) (came 0 d)
+
+-- Replies may be pulled of r and heard: it is in its first epoch, and what came so far was heard.
+pub record MayHear {S : Type 0} (T : Talk S) (asker : S) (lines : List (List ℕ)) (r : State) : Type 0 where
+  pub begun : r.phase ≢ Dormant
+  pub first : r.epoch ≡ 0
+  pub heard : (start : S) × (sent : Logs) × (got : Logs) × AgreesWith r sent got × HasHeard T start (ranks r.dims) asker lines (part_of (buffers_of r) sent got).pulled
 
 -- Pulls of replies, each of which is heard.
 pub record Hears {S : Type 0} (T : Talk S) (asker asker' : S) (lines lines' : List (List ℕ)) (r r' : State) : Type 0 where

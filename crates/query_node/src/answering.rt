@@ -6,7 +6,7 @@ ghost use Rattle.hop_core.specs.Relay.{waiting};
 ghost use Rattle.hop_core.specs.State.{in_at, lowest_unread, pulls};
 ghost use Rattle.convey.specs.Buffers.{is_complete};
 ghost use Rattle.rank_node.specs.Movers.{AllRead};
-ghost use Rattle.query_node.specs.Taking.{Answers, PushesAnswer, RefusesAnswer};
+ghost use Rattle.query_node.specs.Taking.{MayAnswer, Answers, PushesAnswer, RefusesAnswer};
 
 use bale_types::Item;
 use convey::{Conveyor, Phase, Pushed};
@@ -19,10 +19,7 @@ pub(crate) fn answer_open<A: Asker, const CAP: usize, const HOPS: usize>(
     queries: &mut Conveyor<CAP, HOPS>,
     replies: &mut Conveyor<CAP, HOPS>,
 ) -> Option<u32>
-    requires begun { queries.old.phase ≢ Phase.Dormant }
-    requires same_dims { replies.old.dims ≡ queries.old.dims }
-    requires working { queries.old.phase ≢ Phase.Complete → replies.old.phase ≡ Phase.Working }
-    requires not_done { queries.old.phase ≢ Phase.Complete → replies.old.done ≡ false }
+    requires may { queries.old.phase ≢ Phase.Complete → MayAnswer queries.old replies.old }
     ensures answers { Answers A.talk asker.now.value queries.old queries.new replies.old replies.new }
     ensures read { result ≡ None → AllRead queries.new }
     ensures refused { IfSome result (λ to. RefusesAnswer CAP to queries.new replies.new) }
@@ -30,7 +27,12 @@ pub(crate) fn answer_open<A: Asker, const CAP: usize, const HOPS: usize>(
     if is_over(queries.phase()) {
         return None;
     }
-    answer_all(asker, queries, replies)
+    while let Some(number) = queries.unread() {
+        if let Some(to) = answer_batch(asker, queries, replies, number) {
+            return Some(to);
+        }
+    }
+    None
 }
 
 /// Whether an epoch is over, by the phase.
@@ -43,28 +45,6 @@ pub(crate) fn is_over(phase: Phase) -> bool
     }
 }
 
-/// Answers queries until none is unread or an answer is refused.
-fn answer_all<A: Asker, const CAP: usize, const HOPS: usize>(
-    asker: &Box<A>,
-    queries: &mut Conveyor<CAP, HOPS>,
-    replies: &mut Conveyor<CAP, HOPS>,
-) -> Option<u32>
-    requires begun { queries.old.phase ≢ Phase.Dormant }
-    requires same_dims { replies.old.dims ≡ queries.old.dims }
-    requires working { replies.old.phase ≡ Phase.Working }
-    requires not_done { replies.old.done ≡ false }
-    ensures answers { Answers A.talk asker.now.value queries.old queries.new replies.old replies.new }
-    ensures read { result ≡ None → AllRead queries.new }
-    ensures refused { IfSome result (λ to. RefusesAnswer CAP to queries.new replies.new) }
-{
-    while let Some(number) = queries.unread() {
-        if let Some(to) = answer_batch(asker, queries, replies, number) {
-            return Some(to);
-        }
-    }
-    None
-}
-
 /// Answers the queries of the link in from which the next pull takes, in order, until an answer is refused.
 fn answer_batch<A: Asker, const CAP: usize, const HOPS: usize>(
     asker: &Box<A>,
@@ -72,11 +52,8 @@ fn answer_batch<A: Asker, const CAP: usize, const HOPS: usize>(
     replies: &mut Conveyor<CAP, HOPS>,
     number: u32,
 ) -> Option<u32>
-    requires begun { queries.old.phase ≢ Phase.Dormant }
     requires lowest { lowest_unread queries.old ≡ Some number }
-    requires same_dims { replies.old.dims ≡ queries.old.dims }
-    requires working { replies.old.phase ≡ Phase.Working }
-    requires not_done { replies.old.done ≡ false }
+    requires may { MayAnswer queries.old replies.old }
     ensures answers { Answers A.talk asker.now.value queries.old queries.new replies.old replies.new }
     ensures less { result ≡ None → waiting queries.new.ins < waiting queries.old.ins }
     ensures refused { IfSome result (λ to. RefusesAnswer CAP to queries.new replies.new) }
@@ -101,9 +78,7 @@ fn push_answers<A: Asker, const CAP: usize, const HOPS: usize>(
     number: u32,
 ) -> Replied
     requires lowest { lowest_unread queries.now ≡ Some number }
-    requires same_dims { replies.old.dims ≡ queries.now.dims }
-    requires working { replies.old.phase ≡ Phase.Working }
-    requires not_done { replies.old.done ≡ false }
+    requires may { MayAnswer queries.now replies.old }
     ensures answers { Answers A.talk asker.now.value queries.now
         (pulls result.count queries.now) replies.old replies.new }
     ensures count { result.count + waiting (pulls result.count queries.now).ins ≤ waiting queries.now.ins }

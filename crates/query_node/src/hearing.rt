@@ -1,20 +1,15 @@
 //! Pulls replies and hears them.
 
-ghost use Rattle.std.specs.Prelude.{◌≡◌, ◌≢◌, ◌<◌, length, Some};
-ghost use Rattle.route_tensor.specs.Grid.{ranks};
-ghost use Rattle.port_bank.specs.Logs.{Logs};
+ghost use Rattle.std.specs.Prelude.{◌≡◌, ◌<◌, length, Some};
 ghost use Rattle.port_bank.specs.Machine.{ItemLists};
 ghost use Rattle.hop_core.specs.Relay.{waiting};
 ghost use Rattle.hop_core.specs.State.{lowest_unread};
-ghost use Rattle.convey.specs.Buffers.{buffers_of};
-ghost use Rattle.convey.specs.Conveyors.{AgreesWith};
-ghost use Rattle.convey.specs.Parts.{part_of};
 ghost use Rattle.rank_node.specs.Movers.{AllRead};
-ghost use Rattle.query_node.specs.Taking.{HasHeard, Hears, HearsOne};
+ghost use Rattle.query_node.specs.Taking.{MayHear, HasHeard, Hears, HearsOne};
 
 use crate::line::Line;
 use crate::lines::next_of;
-use convey::{Conveyor, Phase};
+use convey::Conveyor;
 use round_program::Asker;
 
 /// Hears replies until none is unread.
@@ -23,11 +18,7 @@ pub(crate) fn hear_all<A: Asker, const CAP: usize, const HOPS: usize>(
     lines: &mut Vec<Line>,
     replies: &mut Conveyor<CAP, HOPS>,
 )
-    requires begun { replies.old.phase ≢ Phase.Dormant }
-    requires first { replies.old.epoch ≡ 0 }
-    requires heard { (start : A) × (sent : Logs) × (got : Logs) × AgreesWith replies.old sent got
-        × HasHeard A.talk start (ranks replies.old.dims) asker.old.value lines.old.items
-        (part_of (buffers_of replies.old) sent got).pulled }
+    requires may { MayHear A.talk asker.old.value lines.old.items replies.old }
     ensures hears { Hears A.talk asker.old.value asker.new.value lines.old.items lines.new.items replies.old
         replies.new }
     ensures read { AllRead replies.new }
@@ -44,12 +35,8 @@ fn hear_batch<A: Asker, const CAP: usize, const HOPS: usize>(
     replies: &mut Conveyor<CAP, HOPS>,
     number: u32,
 )
-    requires begun { replies.old.phase ≢ Phase.Dormant }
     requires lowest { lowest_unread replies.old ≡ Some number }
-    requires first { replies.old.epoch ≡ 0 }
-    requires heard { (start : A) × (sent : Logs) × (got : Logs) × AgreesWith replies.old sent got
-        × HasHeard A.talk start (ranks replies.old.dims) asker.old.value lines.old.items
-        (part_of (buffers_of replies.old) sent got).pulled }
+    requires may { MayHear A.talk asker.old.value lines.old.items replies.old }
     ensures hears { Hears A.talk asker.old.value asker.new.value lines.old.items lines.new.items replies.old
         replies.new }
     ensures less { waiting replies.new.ins < waiting replies.old.ins }

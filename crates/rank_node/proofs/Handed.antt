@@ -76,6 +76,8 @@ handed most es c c' from next forward low receivers working all_pushed h =
     let count : from + (next - from) ≡ next = omega (arith, forward) in
     let end : Ended most es c c' from next = subst (λ k. Ended most es c c' from k) count (ended most es (drop from es) c c c' from from (next - from) refl start h) in
     record {
+      forward = forward;
+      low = end.offers.next_low;
       same = end.offers.same;
       kept = end.offers.kept;
       pushed = end.offers.pushed;

@@ -50,6 +50,8 @@ pub record Takes {S : Type 0} (R : Rules S) (voting : Bool) (old c : State) (pro
 -- What pushes leave of a conveyor: of the items from number `from` on those below `next` are pushed. Where one is left, the open
 -- parcel toward its receiver is as full as it can be.
 pub record Handed (cap : ℕ) (es : List (ℕ × Item)) (old c : State) (from next : ℕ) : Type 0 where
+  pub forward : from ≤ next
+  pub low : next ≤ length es
   pub same : c ≡ record old { outs = c.outs; pulled = c.pulled }
   pub kept : KeepsAgreement old c
   pub pushed : (sent got : Logs) → AgreesWith old sent got → PushedOn es (ranks old.dims) from next (part_of (buffers_of old) sent got) (part_of (buffers_of c) sent got)

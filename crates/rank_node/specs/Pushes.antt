@@ -1,5 +1,6 @@
--- One push toward a rank, into a conveyor or into an exstack.
-use Rattle.std.specs.Prelude.{◌≡◌, ℕ, ◌<◌, Bool, true, false, None}
+-- Pushes toward ranks, into a conveyor or into an exstack.
+use Rattle.std.specs.Prelude.{◌≡◌, ℕ, ◌<◌, ◌≤◌, Bool, true, false, List, length, None}
+use Rattle.std.specs.List.{All}
 use Rattle.bale_types.specs.declared.item.Item.{Item}
 use Rattle.route_tensor.specs.Grid.{ranks}
 use Rattle.port_bank.specs.Machine.Step.{Push, Idle}
@@ -10,7 +11,7 @@ use Rattle.convey.specs.Conveyors.{standing_toward}
 use Rattle.exstack.specs.declared.stage.Stage.TheVariants.{Filling}
 use Rattle.exstack.specs.Links.{headroom_of}
 use Rattle.exstack.specs.State.{State as Stack}
-use Rattle.exstack.specs.State.{out_at, pushed_on}
+use Rattle.exstack.specs.State.{dims_of, out_at, pushed_on}
 use Rattle.exstack.specs.Parts as exstacks
 
 -- An item for a rank may be pushed into a conveyor.
@@ -18,6 +19,14 @@ pub record MayPush (c : State) (to : ℕ) : Type 0 where
   pub low : to < ranks c.dims
   pub working : c.phase ≡ Working
   pub not_done : c.done ≡ false
+
+-- Of these items those from number `from` on may be pushed into it: each is for a rank that there is, and a rank that is done has
+-- none left.
+pub record MayPushOn (es : List (ℕ × Item)) (c : State) (from : ℕ) : Type 0 where
+  pub low : from ≤ length es
+  pub receivers : All (λ e. e.0 < ranks c.dims) es
+  pub working : c.done ≡ false → c.phase ≡ Working
+  pub all_pushed : c.done ≡ true → from ≡ length es
 
 -- What a push into a conveyor leaves. One that was refused left the open parcel toward the rank as full as it can be.
 pub record Pushes (cap : ℕ) (old : State) (to : ℕ) (x : Item) (accepted : Bool) (c : State) : Type 0 where
@@ -32,6 +41,13 @@ pub record MayFill (x : Stack) (to : ℕ) : Type 0 where
   pub low : to < x.ranks
   pub filling : x.stage ≡ Filling
   pub not_done : x.done ≡ false
+
+-- And of these those from number `from` on.
+pub record MayFillOn (es : List (ℕ × Item)) (x : Stack) (from : ℕ) : Type 0 where
+  pub low : from ≤ length es
+  pub receivers : All (λ e. e.0 < ranks (dims_of x)) es
+  pub filling : x.stage ≡ Filling
+  pub all_pushed : x.done ≡ true → from ≡ length es
 
 -- What a push into an exstack leaves. One that was refused found the buffer toward the rank full.
 pub record FillsOne (cap : ℕ) (old : Stack) (to : ℕ) (y : Item) (accepted : Bool) (x : Stack) : Type 0 where

@@ -1,14 +1,14 @@
 //! A rank whose items travel by an exstack.
-ghost use Rattle.std.specs.Prelude.{◌≡◌, ◌≢◌, ℕ, ◌^◌, ◌<◌, ◌≤◌, true, false, length, Some, IfOk, IsOk, OnOk, Ok};
-ghost use Rattle.std.specs.List.{All};
+ghost use Rattle.std.specs.Prelude.{◌≡◌, ◌≢◌, ℕ, ◌^◌, ◌<◌, true, false, length, Some, IfOk, IsOk, OnOk, Ok};
 ghost use Rattle.item_buffer.specs.Capacity.{IsCap};
 ghost use Rattle.route_tensor.specs.Grid.{ranks};
-ghost use Rattle.exstack.specs.State.{dims_of, unread_of, lowest_unread, may_exchange, may_proceed};
+ghost use Rattle.exstack.specs.State.{unread_of, lowest_unread, may_exchange, may_proceed};
 ghost use Rattle.exstack.specs.Agreement.{cycle_after};
 ghost use Rattle.rank_node.specs.Movers.{IsNew, GoesOn};
 ghost use Rattle.rank_node.specs.Movers.MoverState.{Stacking};
 ghost use Rattle.rank_node.specs.Movers.Manner.{ByExstack};
 ghost use Rattle.port_bank.specs.Logs.{Logs};
+ghost use Rattle.rank_node.specs.Pushes.{MayFillOn};
 ghost use Rattle.rank_node.specs.Pulls.{Pops, Fills};
 ghost use Rattle.rank_node.specs.Runs.{running};
 ghost use Rattle.rank_node.specs.Sending.{to_send};
@@ -141,10 +141,7 @@ fn push_on<const CAP: usize, Q: Program>(
     exstack: &mut Exstack<CAP>,
     from: u64,
 ) -> u64
-    requires from { from ≤ length (to_send Q.rules prog.now.value sends) }
-    requires receivers { All (λ e. e.0 < ranks (dims_of exstack.old)) (to_send Q.rules prog.now.value sends) }
-    requires filling { exstack.old.stage ≡ Stage.Filling }
-    requires all_pushed { exstack.old.done ≡ true → from ≡ length (to_send Q.rules prog.now.value sends) }
+    requires { MayFillOn (to_send Q.rules prog.now.value sends) exstack.old from }
     ensures { Fills CAP (to_send Q.rules prog.now.value sends) exstack.old exstack.new from result }
 {
     let mut out = OnExstack { exstack };
@@ -158,10 +155,7 @@ fn push_each<const CAP: usize, Q: Program>(
     out: &mut OnExstack<'_, CAP>,
     from: u64,
 ) -> u64
-    requires from { from ≤ length (to_send Q.rules prog.now.value sends) }
-    requires receivers { All (λ e. e.0 < ranks (dims_of out.old.exstack.now)) (to_send Q.rules prog.now.value sends) }
-    requires filling { out.old.exstack.now.stage ≡ Stage.Filling }
-    requires all_pushed { out.old.exstack.now.done ≡ true → from ≡ length (to_send Q.rules prog.now.value sends) }
+    requires { MayFillOn (to_send Q.rules prog.now.value sends) out.old.exstack.now from }
     ensures fills { Fills CAP (to_send Q.rules prog.now.value sends) out.old.exstack.now out.new.exstack.now from
         result }
     ensures same_exstack { out.new.exstack.ghost_name ≡ out.old.exstack.ghost_name }

@@ -2,18 +2,11 @@
 ghost use Rattle.std.specs.Prelude.{◌≡◌, ◌≢◌, ℕ, ◌-◌, ◌^◌, ◌<◌, ◌==◌, ◌||◌, length, slice_get, Some};
 ghost use Rattle.hop_core.specs.Relay.{waiting};
 ghost use Rattle.hop_core.specs.State.{lowest_unread, pulls};
-ghost use Rattle.route_tensor.specs.Grid.{ranks};
-ghost use Rattle.port_bank.specs.Logs.{Logs};
-ghost use Rattle.convey.specs.Buffers.{buffers_of};
-ghost use Rattle.convey.specs.Conveyors.{AgreesWith, KeepsAgreement, GivesNext};
-ghost use Rattle.convey.specs.Parts.{part_of};
-ghost use Rattle.rank_node.specs.Sending.{is_voting};
-ghost use Rattle.rank_node.specs.Runs.{HasTaken};
+ghost use Rattle.convey.specs.Conveyors.{GivesNext};
 ghost use Rattle.rank_node.specs.Movers.{AllRead};
-ghost use Rattle.rank_node.specs.Pulls.{SameEnds, NoMore, Takes};
+ghost use Rattle.rank_node.specs.Pulls.{Takes};
 ghost use Rattle.rank_node.specs.Batches.{summed, came_on, TakesEach};
 ghost use Rattle.bale_types.specs.declared.item.Item.{Item};
-ghost use Rattle.rank_node.specs.declared.sends.Sends.{Sends};
 
 use crate::arrivals::{FromLink, FromSender};
 use convey::{Conveyor, Phase};
@@ -45,18 +38,9 @@ pub(crate) fn take_all<Q: Program, const CAP: usize, const HOPS: usize>(
     taken: Taken,
 ) -> Taken
     requires begun { conveyor.old.phase ≢ Phase.Dormant }
-    ensures same { conveyor.new ≡ record conveyor.old { ins = conveyor.new.ins; pulled = conveyor.new.pulled } }
-    ensures ends { SameEnds conveyor.old conveyor.new }
-    ensures fewer { NoMore conveyor.old conveyor.new }
-    ensures kept { KeepsAgreement conveyor.old conveyor.new }
-    ensures emissions { Q.rules.emissions prog.new.value ≡ Q.rules.emissions prog.old.value }
+    ensures takes { Takes Q.rules voting conveyor.old conveyor.new prog.old.value prog.new.value taken.sum result.sum
+        taken.spoiled result.spoiled }
     ensures read { AllRead conveyor.new }
-    ensures taken { (h : ℕ → Q) (rank round next : ℕ) (sends : Sends) (sent got : Logs) → is_voting sends ≡ voting
-        → AgreesWith conveyor.old sent got
-        → HasTaken Q.rules (ranks conveyor.old.dims) rank h round sends next prog.old.value taken.sum taken.spoiled
-        (part_of (buffers_of conveyor.old) sent got)
-        → HasTaken Q.rules (ranks conveyor.old.dims) rank h round sends next prog.new.value result.sum result.spoiled
-        (part_of (buffers_of conveyor.new) sent got) }
 {
     let mut taken = taken;
     while let Some(number) = conveyor.unread() {

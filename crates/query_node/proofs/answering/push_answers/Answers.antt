@@ -14,8 +14,8 @@ push_answer-requires g c =
     let same = c.loop-entry.invariant.answers.same_replies in (
       search rules,
       (
-        reply_sender g.A.Asker.talk c.args.asker.now.value c.loop-entry.entry-index c.loop-entry.count _ c.sender_of-from.result c.args.queries.now c.args.replies.now c.loop-entry.replies c.loop-entry.invariant c.requires.same_dims next.sender c.sender_of-from.ensures,
-        (ap (λ (t : State). t.phase) same ∙ c.requires.working, ap (λ (t : State). t.done) same ∙ c.requires.not_done),
+        reply_sender g.A.Asker.talk c.args.asker.now.value c.loop-entry.entry-index c.loop-entry.count _ c.sender_of-from.result c.args.queries.now c.args.replies.now c.loop-entry.replies c.loop-entry.invariant c.requires.may.same_dims next.sender c.sender_of-from.ensures,
+        (ap (λ (t : State). t.phase) same ∙ c.requires.may.working, ap (λ (t : State). t.done) same ∙ c.requires.may.not_done),
       ),
     )
 
@@ -41,5 +41,5 @@ returns-in-Full-clause-refused g c =
     let next = c.batch-entry-items.ensures.gives c.loop-entry.entry-index e (slice_get-get_or c.batch-entry-items.result.now c.loop-entry.entry-index no_entry c.loop-entry-test.true) in
     refused_to g.A.Asker.talk c.args.asker.now.value g.row.CAP c.loop-entry.entry-index c.loop-entry.count _ c.sender_of-from.result e.item c.args.queries.now c.args.replies.now c.loop-entry.replies c.push_answer.new.replies c.push_answer.result
     c.loop-entry.invariant next c.sender_of-from.ensures
-    (reply_sender g.A.Asker.talk c.args.asker.now.value c.loop-entry.entry-index c.loop-entry.count _ c.sender_of-from.result c.args.queries.now c.args.replies.now c.loop-entry.replies c.loop-entry.invariant c.requires.same_dims next.sender c.sender_of-from.ensures)
+    (reply_sender g.A.Asker.talk c.args.asker.now.value c.loop-entry.entry-index c.loop-entry.count _ c.sender_of-from.result c.args.queries.now c.args.replies.now c.loop-entry.replies c.loop-entry.invariant c.requires.may.same_dims next.sender c.sender_of-from.ensures)
     c.push_answer.ensures c.in-Full.is

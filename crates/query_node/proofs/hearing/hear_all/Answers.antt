@@ -13,19 +13,17 @@ hear_batch-requires g c =
     let r' : State = c.unread.new.self in
     let un : Hears T c.args.asker.now.value c.loop-number.asker.value c.args.lines.now.items c.loop-number.lines.items c.args.replies.now r' =
     hears_unread T c.args.asker.now.value c.loop-number.asker.value c.args.lines.now.items c.loop-number.lines.items c.args.replies.now c.loop-number.replies r' c.loop-number.invariant c.unread.ensures.state c.unread.ensures.kept c.unread.ensures.step in
-    let h = c.requires.heard in
+    let h = c.requires.may.heard in
     let dims : ranks r'.dims ≡ ranks c.args.replies.now.dims = ap (λ (t : State). ranks t.dims) un.same in
     let has = subst (λ p. HasHeard T h.0 p c.loop-number.asker.value c.loop-number.lines.items (part_of (buffers_of r') h.1 h.2).pulled) (sym dims) (un.on h.0 h.1 h.2 h.3 h.4) in (
       search rules,
       (
-        λ d. c.requires.begun (sym (ap (λ (t : State). t.phase) un.same) ∙ d),
-        (
-          sym c.unread.ensures.still ∙ c.in-Some.is,
-          (
-            ap (λ (t : State). t.epoch) un.same ∙ c.requires.first,
-            (h.0, h.1, h.2, un.kept h.1 h.2 h.3, has),
-          ),
-        ),
+        sym c.unread.ensures.still ∙ c.in-Some.is,
+        record {
+          begun = λ d. c.requires.may.begun (sym (ap (λ (t : State). t.phase) un.same) ∙ d);
+          first = ap (λ (t : State). t.epoch) un.same ∙ c.requires.may.first;
+          heard = (h.0, h.1, h.2, un.kept h.1 h.2 h.3, has);
+        },
       ),
     )
 

@@ -22,7 +22,7 @@ push_all-run-requires g c =
     let i = c.requires.turns.node in
     let below : All (λ (e : ℕ × Item). e.0 < ranks c.args.conveyor.now.dims) (to_send R run.prog run.sends) =
     send_below R g.met.Q.Program.laws (ranks c.args.conveyor.now.dims) (h run.round) run.prog run.sends i.passed.valid i.passed.all_ranks i.within.emissions (λ v q s. (i.within.vote v q s).0) in
-    (search rules, (i.within.next_low, (below, (i.moving.working, i.within.all_pushed))))
+    (search rules, record { low = i.within.next_low; receivers = below; working = i.moving.working; all_pushed = i.within.all_pushed })
 
 pub advance-progress-requires : goal.advance-progress-requires
 advance-progress-requires g c =
@@ -40,7 +40,7 @@ advance-progress-requires g c =
       agrees = c.push_all-run.ensures.kept sent got i.moving.agrees;
       on = c.push_all-run.ensures.pushed sent got i.moving.agrees;
       forward = c.push_all-run.ensures.forward;
-      low = c.push_all-run.ensures.next;
+      low = c.push_all-run.ensures.low;
     } in (
       search rules,
       (
@@ -70,7 +70,7 @@ returns-in_err-progress-clause-turns g c =
       agrees = c.push_all-run.ensures.kept sent got i.moving.agrees;
       on = c.push_all-run.ensures.pushed sent got i.moving.agrees;
       forward = c.push_all-run.ensures.forward;
-      low = c.push_all-run.ensures.next;
+      low = c.push_all-run.ensures.low;
     } in
     let c2 = c.advance-progress.new.self in
     let c3 = c.take_all-run.new.conveyor in
@@ -100,22 +100,15 @@ returns-in_err-progress-clause-turns g c =
       lies = c.advance-progress.ensures.asked.lies;
     } in
     let takes : AfterTakes R voting c2 c3 run.prog prog' run.sum sum' run.spoiled spoiled' sent' got' = record {
-      same = c.take_all-run.ensures.same;
-      kept = c.take_all-run.ensures.kept;
+      same = c.take_all-run.ensures.takes.same;
+      kept = c.take_all-run.ensures.takes.kept;
       read = c.take_all-run.ensures.read;
       sound = c.known.ensures.sound;
-      taken = λ h rank round next sends v a. c.take_all-run.ensures.taken h rank round next sends sent' got' v a;
+      taken = λ h rank round next sends v a. c.take_all-run.ensures.takes.taken h rank round next sends sent' got' v a;
     } in
     record {
       moves = advanced_moves R g.row.CAP run c0 c1 c2 c3 next prog' sum' spoiled' done (is_complete c2.phase) voting sent got sent' got' push all adv grown (sym c.votes_now-voting.ensures) takes;
-      leaves = advanced_leaves R g.row.CAP run c0 c1 c2 c3 next prog' sum' spoiled' done (is_complete c2.phase) voting sent got sent' got' push all adv grown (sym c.votes_now-voting.ensures) takes c.advance-progress.ensures.fits c.take_all-run.ensures.fewer c.take_all-run.ensures.emissions
-          (record {
-            same = c.push_all-run.ensures.same;
-            kept = c.push_all-run.ensures.kept;
-            pushed = c.push_all-run.ensures.pushed;
-            refused = c.push_all-run.ensures.refused;
-            receiver = c.push_all-run.ensures.receiver;
-          });
+      leaves = advanced_leaves R g.row.CAP run c0 c1 c2 c3 next prog' sum' spoiled' done (is_complete c2.phase) voting sent got sent' got' push all adv grown (sym c.votes_now-voting.ensures) takes c.advance-progress.ensures.fits c.take_all-run.ensures.takes.fewer c.take_all-run.ensures.takes.emissions c.push_all-run.ensures;
       cycle = λ quota n i. tt;
       onward = tt;
       same_port = c.advance-progress.ensures.stays.same_port;
@@ -139,7 +132,7 @@ returns-clause-turns g c =
       agrees = c.push_all-run.ensures.kept sent got i.moving.agrees;
       on = c.push_all-run.ensures.pushed sent got i.moving.agrees;
       forward = c.push_all-run.ensures.forward;
-      low = c.push_all-run.ensures.next;
+      low = c.push_all-run.ensures.low;
     } in
     let c2 = c.advance-progress.new.self in
     let c3 = c.take_all-run.new.conveyor in
@@ -169,22 +162,15 @@ returns-clause-turns g c =
       lies = c.advance-progress.ensures.asked.lies;
     } in
     let takes : AfterTakes R voting c2 c3 run.prog prog' run.sum sum' run.spoiled spoiled' sent' got' = record {
-      same = c.take_all-run.ensures.same;
-      kept = c.take_all-run.ensures.kept;
+      same = c.take_all-run.ensures.takes.same;
+      kept = c.take_all-run.ensures.takes.kept;
       read = c.take_all-run.ensures.read;
       sound = c.known.ensures.sound;
-      taken = λ h rank round next sends v a. c.take_all-run.ensures.taken h rank round next sends sent' got' v a;
+      taken = λ h rank round next sends v a. c.take_all-run.ensures.takes.taken h rank round next sends sent' got' v a;
     } in
     record {
       moves = advanced_moves R g.row.CAP run c0 c1 c2 c3 next prog' sum' spoiled' done (is_complete c2.phase) voting sent got sent' got' push all adv grown (sym c.votes_now-voting.ensures) takes;
-      leaves = advanced_leaves R g.row.CAP run c0 c1 c2 c3 next prog' sum' spoiled' done (is_complete c2.phase) voting sent got sent' got' push all adv grown (sym c.votes_now-voting.ensures) takes c.advance-progress.ensures.fits c.take_all-run.ensures.fewer c.take_all-run.ensures.emissions
-          (record {
-            same = c.push_all-run.ensures.same;
-            kept = c.push_all-run.ensures.kept;
-            pushed = c.push_all-run.ensures.pushed;
-            refused = c.push_all-run.ensures.refused;
-            receiver = c.push_all-run.ensures.receiver;
-          });
+      leaves = advanced_leaves R g.row.CAP run c0 c1 c2 c3 next prog' sum' spoiled' done (is_complete c2.phase) voting sent got sent' got' push all adv grown (sym c.votes_now-voting.ensures) takes c.advance-progress.ensures.fits c.take_all-run.ensures.takes.fewer c.take_all-run.ensures.takes.emissions c.push_all-run.ensures;
       cycle = λ quota n i. tt;
       onward = tt;
       same_port = c.advance-progress.ensures.stays.same_port;
@@ -197,9 +183,9 @@ returns-clause-in_full g c = record {
       let c1 = c.push_all-run.new.conveyor in
       let c2 = c.advance-progress.new.self in
       let c3 = c.take_all-run.new.conveyor in
-      let dims : c3.dims ≡ c1.dims = ap (λ (s : State). s.dims) c.take_all-run.ensures.same ∙ c.advance-progress.ensures.stays.dims in
-      let rank : c3.rank ≡ c1.rank = ap (λ (s : State). s.rank) c.take_all-run.ensures.same ∙ c.advance-progress.ensures.stays.rank in
-      let still : is_due c2.cap c2.steady false (out_of c2 l) ≡ true = subst (λ (s : State). is_due s.cap s.steady false (out_of s l) ≡ true) c.take_all-run.ensures.same due in
+      let dims : c3.dims ≡ c1.dims = ap (λ (s : State). s.dims) c.take_all-run.ensures.takes.same ∙ c.advance-progress.ensures.stays.dims in
+      let rank : c3.rank ≡ c1.rank = ap (λ (s : State). s.rank) c.take_all-run.ensures.takes.same ∙ c.advance-progress.ensures.stays.rank in
+      let still : is_due c2.cap c2.steady false (out_of c2 l) ≡ true = subst (λ (s : State). is_due s.cap s.steady false (out_of s l) ≡ true) c.take_all-run.ensures.takes.same due in
       let served = c.in_ok-progress.ensures.served.each l (subst (λ (d : List ℕ). l < links d) dims below) (subst (λ (d : List ℕ). sender_at d l ≡ c1.rank) dims (own ∙ rank)) in
       served.crowded (due_at_end c2.cap c2.steady (at_end c2.dims c2.ins c2.done (hop_at c2.dims l)) (out_of c2 l) still);
   waits = λ h is sent_same got_same.
@@ -218,7 +204,7 @@ returns-clause-in_full g c = record {
         agrees = c.push_all-run.ensures.kept sent got i.moving.agrees;
         on = c.push_all-run.ensures.pushed sent got i.moving.agrees;
         forward = c.push_all-run.ensures.forward;
-        low = c.push_all-run.ensures.next;
+        low = c.push_all-run.ensures.low;
       } in
       let c2 = c.advance-progress.new.self in
       let c3 = c.take_all-run.new.conveyor in
@@ -248,11 +234,11 @@ returns-clause-in_full g c = record {
         lies = c.advance-progress.ensures.asked.lies;
       } in
       let takes : AfterTakes R voting c2 c3 run.prog prog' run.sum sum' run.spoiled spoiled' sent' got' = record {
-        same = c.take_all-run.ensures.same;
-        kept = c.take_all-run.ensures.kept;
+        same = c.take_all-run.ensures.takes.same;
+        kept = c.take_all-run.ensures.takes.kept;
         read = c.take_all-run.ensures.read;
         sound = c.known.ensures.sound;
-        taken = λ h rank round next sends v a. c.take_all-run.ensures.taken h rank round next sends sent' got' v a;
+        taken = λ h rank round next sends v a. c.take_all-run.ensures.takes.taken h rank round next sends sent' got' v a;
       } in
       let advanced : Advanced c1 c2 g.row.CAP sent sent' got got' (g.P.Port.crowded c.advance-progress.new.port) (g.P.Port.idle c.advance-progress.new.port) = record {
         epoch = c.advance-progress.ensures.stays.epoch;
@@ -264,14 +250,14 @@ returns-clause-in_full g c = record {
         completes = λ over. complete_from c2.phase (sym c.in_ok-progress.ensures.settled.is ∙ c.in_ok-progress.ensures.settled.completes over);
       } in
       stuck R h run c0 c1 c2 c3 next g.row.CAP done (is_complete c2.phase) voting prog' sum' spoiled' sent got sent' got' (g.P.Port.crowded c.advance-progress.new.port) (g.P.Port.idle c.advance-progress.new.port)
-      c.known.ensures.grid c.known.ensures.rank push c.push_all-run.ensures.refused c.push_all-run.ensures.receiver all adv advanced takes c.take_all-run.ensures.fewer i sent_same got_same;
+      c.known.ensures.grid c.known.ensures.rank push c.push_all-run.ensures.refused c.push_all-run.ensures.receiver all adv advanced takes c.take_all-run.ensures.takes.fewer i sent_same got_same;
 }
 
 pub returns-clause-ended : goal.returns-clause-ended
 returns-clause-ended g c = λ e.
     let p = c.turn_of.ensures.ended (ok_once e) in
-    ap (λ (t : State). t.phase) c.take_all-run.ensures.same ∙ complete_from c.advance-progress.new.self.phase (sym c.in_ok-progress.ensures.settled.is ∙ p)
+    ap (λ (t : State). t.phase) c.take_all-run.ensures.takes.same ∙ complete_from c.advance-progress.new.self.phase (sym c.in_ok-progress.ensures.settled.is ∙ p)
 
 pub returns-clause-going : goal.returns-clause-going
 returns-clause-going g c = λ e p.
-    c.turn_of.ensures.going (ok_once e) (c.in_ok-progress.ensures.settled.is ∙ ap progress_of (sym (ap (λ (t : State). t.phase) c.take_all-run.ensures.same) ∙ p))
+    c.turn_of.ensures.going (ok_once e) (c.in_ok-progress.ensures.settled.is ∙ ap progress_of (sym (ap (λ (t : State). t.phase) c.take_all-run.ensures.takes.same) ∙ p))

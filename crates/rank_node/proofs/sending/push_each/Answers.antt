@@ -8,14 +8,14 @@ use Rattle.rank_node.proofs.sending.push_each.Goals as goal
 
 pub send_each-requires : goal.send_each-requires
 send_each-requires g c = record {
-  from = c.requires.from;
+  from = c.requires.low;
   may = may_push (to_send g.Q.Program.rules c.args.prog.now.value c.args.sends) c.args.out.now.conveyor.now c.args.from c.requires.receivers c.requires.working c.requires.all_pushed;
 }
 
 pub returns-clause-handed : goal.returns-clause-handed
 returns-clause-handed g c =
     let es = to_send g.Q.Program.rules c.args.prog.now.value c.args.sends in
-    handed g.row.CAP es c.args.out.now.conveyor.now c.send_each.new.out.conveyor.now c.args.from c.send_each.result c.send_each.ensures.forward c.requires.from c.requires.receivers c.requires.working c.requires.all_pushed
+    handed g.row.CAP es c.args.out.now.conveyor.now c.send_each.new.out.conveyor.now c.args.from c.send_each.result c.send_each.ensures.forward c.requires.low c.requires.receivers c.requires.working c.requires.all_pushed
     (seen_through (λ (s : OnConveyor g.row.CAP g.row.HOPS). s.conveyor.now) _ (Pushes g.row.CAP) (drop c.args.from es) (c.send_each.result - c.args.from) c.args.out.now c.send_each.new.out
     (λ a b to x accepted (h : (b.conveyor.ghost_name ≡ a.conveyor.ghost_name) × Pushes g.row.CAP a.conveyor.now to x accepted b.conveyor.now). h.1) c.send_each.ensures.hands)
 

@@ -18,7 +18,7 @@ push_on-run-requires g c =
     let i = c.requires.node.3 in
     let below : All (λ (e : ℕ × Item). e.0 < ranks (dims_of c.args.exstack.now)) (to_send R run.prog run.sends) =
     send_below R g.met.Q.Program.laws (ranks (dims_of c.args.exstack.now)) (h run.round) run.prog run.sends i.passed.valid i.passed.all_ranks i.within.emissions (λ v q s. (i.within.vote v q s).0) in
-    (search rules, (i.within.next_low, (below, (c.requires.filling, i.within.all_pushed))))
+    (search rules, record { low = i.within.next_low; receivers = below; filling = c.requires.filling; all_pushed = i.within.all_pushed })
 
 pub returns-clause-filled : goal.returns-clause-filled
 returns-clause-filled g c =

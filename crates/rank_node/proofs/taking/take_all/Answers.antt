@@ -1,4 +1,3 @@
-use Rattle.rank_node.specs.Pulls.{Takes}
 use Rattle.rank_node.proofs.Took.{takes_both, takes_end}
 use Rattle.rank_node.proofs.taking.take_all.Goals as goal
 
@@ -10,16 +9,7 @@ loop-number-preserved g c =
     c.unread.ensures.state c.unread.ensures.kept c.unread.ensures.step)
     c.take_batch-taken.ensures.takes
 
-pub returns-clause-kept : goal.returns-clause-kept
-returns-clause-kept g c =
-    let last : Takes g.Q.Program.rules c.args.voting c.args.conveyor.now c.unread.new.self c.args.prog.now.value c.loop-number.prog.value c.args.taken.sum c.loop-number.taken.sum c.args.taken.spoiled c.loop-number.taken.spoiled =
+pub returns-clause-takes : goal.returns-clause-takes
+returns-clause-takes g c =
     takes_end g.Q.Program.rules c.args.voting c.args.conveyor.now c.loop-number.conveyor c.unread.new.self c.args.prog.now.value c.loop-number.prog.value c.args.taken.sum c.loop-number.taken.sum c.args.taken.spoiled c.loop-number.taken.spoiled c.loop-number.invariant
-    c.unread.ensures.state c.unread.ensures.kept c.unread.ensures.step in
-    last.kept
-
-pub returns-clause-taken : goal.returns-clause-taken
-returns-clause-taken g c =
-    let last : Takes g.Q.Program.rules c.args.voting c.args.conveyor.now c.unread.new.self c.args.prog.now.value c.loop-number.prog.value c.args.taken.sum c.loop-number.taken.sum c.args.taken.spoiled c.loop-number.taken.spoiled =
-    takes_end g.Q.Program.rules c.args.voting c.args.conveyor.now c.loop-number.conveyor c.unread.new.self c.args.prog.now.value c.loop-number.prog.value c.args.taken.sum c.loop-number.taken.sum c.args.taken.spoiled c.loop-number.taken.spoiled c.loop-number.invariant
-    c.unread.ensures.state c.unread.ensures.kept c.unread.ensures.step in
-    last.taken
+    c.unread.ensures.state c.unread.ensures.kept c.unread.ensures.step

@@ -85,8 +85,15 @@ answer_open-refused-requires g c =
       works = works_on c.advance-asked.result q1 q2 (next == count) c.advance-asked.ensures.settled c.advance-asked.ensures.no_memory;
       stays = λ e. ap (λ (t : State). t.phase) (c.advance-asked.ensures.complete e) ∙ e;
       step = c.advance-asked.ensures.stays.step;
-    } in
-    (search rules, (adv.begun, (dims2 T laws start inside qs qg rs rg is g.row.CAP next count q1 push counted q2 qs' qg' adv, (answers2 T laws start inside qs qg rs rg is g.row.CAP next count q1 push counted q2 qs' qg' adv, open2 T laws start inside qs qg rs rg is g.row.CAP next count q1 push counted q2 qs' qg' adv))))
+    } in (
+      search rules,
+      λ going. record {
+        begun = adv.begun;
+        same_dims = dims2 T laws start inside qs qg rs rg is g.row.CAP next count q1 push counted q2 qs' qg' adv;
+        working = answers2 T laws start inside qs qg rs rg is g.row.CAP next count q1 push counted q2 qs' qg' adv going;
+        not_done = open2 T laws start inside qs qg rs rg is g.row.CAP next count q1 push counted q2 qs' qg' adv going;
+      },
+    )
 
 pub advance-replied-requires : goal.advance-replied-requires
 advance-replied-requires g c =
@@ -183,7 +190,7 @@ hear_all-requires g c =
       stays = λ e. ap (λ (t : State). t.phase) (c.advance-replied.ensures.complete e) ∙ e;
       step = c.advance-replied.ensures.stays.step;
     } in
-    (search rules, (adv'.begun, (first4 T laws start inside qs qg rs rg is g.row.CAP next count q1 push counted q2 qs' qg' adv q3 r1 ans over is_over r2 rs' rg' adv', (start, rs', rg', adv'.agrees, heard4 T laws start inside qs qg rs rg is g.row.CAP next count q1 push counted q2 qs' qg' adv q3 r1 ans over is_over r2 rs' rg' adv'))))
+    (search rules, record { begun = adv'.begun; first = first4 T laws start inside qs qg rs rg is g.row.CAP next count q1 push counted q2 qs' qg' adv q3 r1 ans over is_over r2 rs' rg' adv'; heard = (start, rs', rg', adv'.agrees, heard4 T laws start inside qs qg rs rg is g.row.CAP next count q1 push counted q2 qs' qg' adv q3 r1 ans over is_over r2 rs' rg' adv') })
 
 pub returns-clause-kept : goal.returns-clause-kept
 returns-clause-kept g c = λ start was.

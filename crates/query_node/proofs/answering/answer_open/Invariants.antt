@@ -1,6 +1,6 @@
 use Rattle.hop_core.specs.Relay.{waiting}
 use Rattle.query_node.specs.Taking.{Answers}
-use Rattle.query_node.proofs.answering.answer_all.Given as goal
+use Rattle.query_node.proofs.answering.answer_open.Given as goal
 
 abbrev pub invariant-loop-number : goal.invariant-loop-number
 invariant-loop-number g l = Answers g.A.Asker.talk l.asker.value l.fn.queries l.queries l.fn.replies l.replies

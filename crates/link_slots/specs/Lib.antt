@@ -16,3 +16,4 @@ pub mod Closed
 pub mod Offered
 pub mod Gathering
 pub mod Does
+pub mod Reading

@@ -9,9 +9,10 @@ ghost use Rattle.route_tensor.specs.Ends.{hop_at, sender_at, reader_at};
 ghost use Rattle.link_slots.specs.Logs.{out_of, in_of, with_in, taken_more, listens};
 ghost use Rattle.link_slots.specs.View.{own_logs, with_logs};
 ghost use Rattle.link_slots.specs.Shape.{IsBlank};
-ghost use Rattle.link_slots.specs.Told.{StaysSeated, IsAtIn};
+ghost use Rattle.link_slots.specs.Told.{StaysSeated};
+ghost use Rattle.link_slots.specs.Reading.{ReadsLink};
 ghost use Rattle.list_laws.specs.Counts.{counted};
-ghost use Rattle.link_slots.specs.Counts.{IsInEnd, IsHeard, IsWire, ElseKept, AreGood};
+ghost use Rattle.link_slots.specs.Counts.{IsInEnd, IsHeard, ElseKept, AreGood};
 ghost use Rattle.link_slots.specs.Doorbell.{is_due, HeardWhere, looked_where_marked, LookedFor};
 
 use crate::seat::ear::Ear;
@@ -31,13 +32,7 @@ fn hear_if_due<const CAP: usize>(
     wire: &Wire,
     link: u32,
 )
-    requires at { IsAtIn top.now.key top.now.table_id place.old.table_id place.old.me link }
-    requires long { length (own_logs place.old.me.0).ins ≡ links top.now.key.dims }
-    requires end { IsInEnd top.now.key.slots (in_of (own_logs place.old.me.0) link) end.now.taken
-        end.now.waiting end.now.look_ins end.now.noted }
-    requires wire { IsWire top.now.key.dims link wire.now.bell wire.now.mask wire.now.hop }
-    requires ear { IsHeard top.now.key place.old.me.0.pick (hop_at top.now.key.dims link)
-        (own_logs place.old.me.0) ear.old.marks ear.old.hears }
+    requires reads { ReadsLink top.now.key top.now.table_id place.old.table_id place.old.me link end.now wire.now ear.old }
     ensures stays { StaysSeated top.now.key place.old.table_id place.new.table_id place.new.me }
     ensures end { IsInEnd top.now.key.slots (in_of (own_logs place.new.me.0) link) end.now.taken
         end.now.waiting end.now.look_ins end.now.noted }
@@ -72,14 +67,8 @@ fn look_if_marked<const CAP: usize>(
     wire: &Wire,
     link: u32,
 ) -> u32
-    requires at { IsAtIn top.now.key top.now.table_id place.old.table_id place.old.me link }
-    requires long { length (own_logs place.old.me.0).ins ≡ links top.now.key.dims }
-    requires end { IsInEnd top.now.key.slots (in_of (own_logs place.old.me.0) link) end.old.taken
-        end.old.waiting end.old.look_ins end.old.noted }
+    requires reads { ReadsLink top.now.key top.now.table_id place.old.table_id place.old.me link end.old wire.now ear.old }
     requires none { end.old.waiting ≡ 0 }
-    requires wire { IsWire top.now.key.dims link wire.now.bell wire.now.mask wire.now.hop }
-    requires ear { IsHeard top.now.key place.old.me.0.pick (hop_at top.now.key.dims link)
-        (own_logs place.old.me.0) ear.old.marks ear.old.hears }
     requires good { AreGood CAP top.now.key link (in_of (own_logs place.old.me.0) link) }
     ensures stays { StaysSeated top.now.key place.old.table_id place.new.table_id place.new.me }
     ensures end { IsInEnd top.now.key.slots (in_of (own_logs place.new.me.0) link) end.new.taken
@@ -120,13 +109,7 @@ fn find_parcel<const CAP: usize>(
     wire: &Wire,
     link: u32,
 ) -> u32
-    requires at { IsAtIn top.now.key top.now.table_id place.old.table_id place.old.me link }
-    requires long { length (own_logs place.old.me.0).ins ≡ links top.now.key.dims }
-    requires end { IsInEnd top.now.key.slots (in_of (own_logs place.old.me.0) link) end.old.taken
-        end.old.waiting end.old.look_ins end.old.noted }
-    requires wire { IsWire top.now.key.dims link wire.now.bell wire.now.mask wire.now.hop }
-    requires ear { IsHeard top.now.key place.old.me.0.pick (hop_at top.now.key.dims link)
-        (own_logs place.old.me.0) ear.old.marks ear.old.hears }
+    requires reads { ReadsLink top.now.key top.now.table_id place.old.table_id place.old.me link end.old wire.now ear.old }
     requires good { AreGood CAP top.now.key link (in_of (own_logs place.old.me.0) link) }
     ensures stays { StaysSeated top.now.key place.old.table_id place.new.table_id place.new.me }
     ensures end { IsInEnd top.now.key.slots (in_of (own_logs place.new.me.0) link) end.new.taken
@@ -175,14 +158,8 @@ pub(crate) fn collect_on<const CAP: usize>(
     link: u32,
     parcel: &mut Parcel<CAP>,
 ) -> Collected
-    requires at { IsAtIn top.now.key top.now.table_id place.old.table_id place.old.me link }
+    requires reads { ReadsLink top.now.key top.now.table_id place.old.table_id place.old.me link end.old wire.now ear.old }
     requires slots { slots ≡ top.now.key.slots }
-    requires long { length (own_logs place.old.me.0).ins ≡ links top.now.key.dims }
-    requires end { IsInEnd top.now.key.slots (in_of (own_logs place.old.me.0) link) end.old.taken
-        end.old.waiting end.old.look_ins end.old.noted }
-    requires wire { IsWire top.now.key.dims link wire.now.bell wire.now.mask wire.now.hop }
-    requires ear { IsHeard top.now.key place.old.me.0.pick (hop_at top.now.key.dims link)
-        (own_logs place.old.me.0) ear.old.marks ear.old.hears }
     requires good { AreGood CAP top.now.key link (in_of (own_logs place.old.me.0) link) }
     requires empty { IsBlank parcel.old }
     ensures stays { StaysSeated top.now.key place.old.table_id place.new.table_id place.new.me }

@@ -45,31 +45,19 @@ collect_on-answer-requires g c =
           omega arith,
           (
             record {
-              here = ap (λ (z : Manning). z.id) c.self.view_is ∙ (c.requires.bank.0 ∙ sym (ap (λ (z : Bank). z.id) c.bank.view_is));
-              board = c.bank.invariant.board;
-              manned = subst (λ (z : Shape). IsManned z c.self.inside.place.me) e s.manned;
-              below = subst (λ (z : Shape). l < links z.dims) e inside;
-              own = subst (λ (z : Shape). reader_at z.dims l ≡ v.pick) e (mine ∙ sym s.rank_is);
+              at = record {
+                here = ap (λ (z : Manning). z.id) c.self.view_is ∙ (c.requires.bank.0 ∙ sym (ap (λ (z : Bank). z.id) c.bank.view_is));
+                board = c.bank.invariant.board;
+                manned = subst (λ (z : Shape). IsManned z c.self.inside.place.me) e s.manned;
+                below = subst (λ (z : Shape). l < links z.dims) e inside;
+                own = subst (λ (z : Shape). reader_at z.dims l ≡ v.pick) e (mine ∙ sym s.rank_is);
+              };
+              long = subst (λ (z : Shape). length (own_logs v).ins ≡ links z.dims) e s.lists_in;
+              end = subst (λ (z : Shape). IsInEnd z.slots (in_of (own_logs v) l) end.taken end.waiting end.look_ins end.noted) e counts;
+              wire = way;
+              ear = subst (λ (z : Shape × ℕ × ℕ). IsHeard z.0 z.1 z.2 (own_logs v) ear.marks ear.hears) (λ k. (e k, sym s.rank_is k, sym hop k)) heard;
             },
-            (
-              c.bank.invariant.slots_is,
-              (
-                subst (λ (z : Shape). length (own_logs v).ins ≡ links z.dims) e s.lists_in,
-                (
-                  subst (λ (z : Shape). IsInEnd z.slots (in_of (own_logs v) l) end.taken end.waiting end.look_ins end.noted) e counts,
-                  (
-                    way,
-                    (
-                      subst (λ (z : Shape × ℕ × ℕ). IsHeard z.0 z.1 z.2 (own_logs v) ear.marks ear.hears) (λ k. (e k, sym s.rank_is k, sym hop k)) heard,
-                      (
-                        subst (λ (z : Shape). AreGood g.row.CAP z l (in_of (own_logs v) l)) e (s.each_good l inside mine),
-                        c.requires.empty ∙ ap blank (sym (ap (λ (z : Contents). z.epoch) c.requires.empty)),
-                      ),
-                    ),
-                  ),
-                ),
-              ),
-            ),
+            (c.bank.invariant.slots_is, (subst (λ (z : Shape). AreGood g.row.CAP z l (in_of (own_logs v) l)) e (s.each_good l inside mine), c.requires.empty ∙ ap blank (sym (ap (λ (z : Contents). z.epoch) c.requires.empty)))),
           ),
         ),
       ),

@@ -28,10 +28,10 @@ pub returns-clause-end : goal.returns-clause-end
 returns-clause-end g c =
     let key : Shape = c.args.top.now.key in let f = c.find_parcel.ensures in let v2 : Knowing = c.find_parcel.new.place.me.0 in let v3 : Knowing = c.receive.new.place.me.0 in let l : ℕ = c.args.link in
     let i2 : InLog Contents = in_of (own_logs v2) l in
-    let a = at v2 v3 l c.receive.ensures.released f.stays.seat.speaks (let w = f.others.long in let u = c.requires.long in let h = c.requires.at.below in omega arith) in
+    let a = at v2 v3 l c.receive.ensures.released f.stays.seat.speaks (let w = f.others.long in let u = c.requires.reads.long in let h = c.requires.reads.at.below in omega arith) in
     let k : ℕ = c.find_parcel.new.end.waiting - 1 in
     let more : c.find_parcel.new.end.waiting ≡ suc k = (let n = c.if-find_parcel-eq0.false in let w = c.find_parcel.ensures.waiting in omega arith) in
-    let hs : c.find_parcel.new.ear.hears ≡ counted i2.hears = f.ear.heard l c.requires.at.below c.requires.at.own refl in
+    let hs : c.find_parcel.new.ear.hears ≡ counted i2.hears = f.ear.heard l c.requires.reads.at.below c.requires.reads.at.own refl in
     let ks : c.find_parcel.new.end.look_ins ≡ counted i2.look_ins = f.end.look_ins_is in
     let noted : min (c.find_parcel.new.ear.hears + c.find_parcel.new.end.look_ins) (2 ^ 64 - 1) ≡ counted (i2.hears + i2.look_ins) = omega arith in
     end_taken key.slots i2 (in_of (own_logs v3) l) c.find_parcel.new.end.taken k c.find_parcel.new.end.look_ins c.find_parcel.new.end.noted _ _
@@ -45,7 +45,7 @@ returns-clause-ear g c =
     let key : Shape = c.args.top.now.key in let f = c.find_parcel.ensures in let v : Knowing = c.args.place.now.me.0 in let v2 : Knowing = c.find_parcel.new.place.me.0 in let v3 : Knowing = c.receive.new.place.me.0 in let l : ℕ = c.args.link in
     let i : InLog Contents = taken_more (in_of (own_logs v2) l) in
     let o = own v2 v3 l c.receive.ensures.released f.stays.seat.speaks in
-    let long : l < length (own_logs v2).ins = (let w = f.others.long in let u = c.requires.long in let h = c.requires.at.below in omega arith) in
+    let long : l < length (own_logs v2).ins = (let w = f.others.long in let u = c.requires.reads.long in let h = c.requires.reads.at.below in omega arith) in
     subst (λ (z : Logs Contents). IsHeard key v.pick (hop_at key.dims l) z c.find_parcel.new.ear.marks c.find_parcel.new.ear.hears) (sym o)
     (heard_same key v.pick (hop_at key.dims l) (own_logs v2) (with_in (own_logs v2) l i) c.find_parcel.new.ear.marks c.find_parcel.new.ear.hears
     (in_same (own_logs v2) l (λ (z : InLog Contents). z.marked) i (λ m. (in_of (own_logs v2) m).marked) long refl (λ _ _. refl))
@@ -54,7 +54,7 @@ returns-clause-ear g c =
 pub returns-clause-good : goal.returns-clause-good
 returns-clause-good g c =
     let key : Shape = c.args.top.now.key in let f = c.find_parcel.ensures in let v2 : Knowing = c.find_parcel.new.place.me.0 in let v3 : Knowing = c.receive.new.place.me.0 in let l : ℕ = c.args.link in
-    let a = at v2 v3 l c.receive.ensures.released f.stays.seat.speaks (let w = f.others.long in let u = c.requires.long in let h = c.requires.at.below in omega arith) in
+    let a = at v2 v3 l c.receive.ensures.released f.stays.seat.speaks (let w = f.others.long in let u = c.requires.reads.long in let h = c.requires.reads.at.below in omega arith) in
     good_same g.row.CAP key l (in_of (own_logs v2) l) (in_of (own_logs v3) l) (ap (λ (z : InLog Contents). z.seen) a) f.good
 
 pub returns-clause-here : goal.returns-clause-here
@@ -68,13 +68,13 @@ returns-clause-others g c =
     let key : Shape = c.args.top.now.key in let f = c.find_parcel.ensures in let v : Knowing = c.args.place.now.me.0 in let v2 : Knowing = c.find_parcel.new.place.me.0 in let v3 : Knowing = c.receive.new.place.me.0 in let l : ℕ = c.args.link in
     let o = own v2 v3 l c.receive.ensures.released f.stays.seat.speaks in
     else_kept key v.pick l (own_logs v) (own_logs v2) (own_logs v3) f.others
-    (subst (ElseKept key v.pick l (own_logs v2)) (sym o) (in_elsewhere key c.requires.at.board.shape v.pick l c.requires.at.below c.requires.at.own (own_logs v2) (f.others.long ∙ c.requires.long) (taken_more (in_of (own_logs v2) l))))
+    (subst (ElseKept key v.pick l (own_logs v2)) (sym o) (in_elsewhere key c.requires.reads.at.board.shape v.pick l c.requires.reads.at.below c.requires.reads.at.own (own_logs v2) (f.others.long ∙ c.requires.reads.long) (taken_more (in_of (own_logs v2) l))))
 
 pub returns-clause-own : goal.returns-clause-own
 returns-clause-own g c _ from =
     let f = c.find_parcel.ensures in let v2 : Knowing = c.find_parcel.new.place.me.0 in let v3 : Knowing = c.receive.new.place.me.0 in let l : ℕ = c.args.link in
     let o = own v2 v3 l c.receive.ensures.released f.stays.seat.speaks in
-    let a = at v2 v3 l c.receive.ensures.released f.stays.seat.speaks (let w = f.others.long in let u = c.requires.long in let h = c.requires.at.below in omega arith) in
+    let a = at v2 v3 l c.receive.ensures.released f.stays.seat.speaks (let w = f.others.long in let u = c.requires.reads.long in let h = c.requires.reads.at.below in omega arith) in
     let p : v2.pick ≡ c.args.place.now.me.0.pick = ap (λ (z : Knowing). z.pick) f.here in
     subst (λ (z : InLog Contents × Logs Contents). Begins z.0.seen (out_of z.1 l).sent) (λ k. (sym a k, sym o k)) (c.receive.ensures.own (from ∙ sym p))
 
@@ -93,4 +93,4 @@ pub returns-clause-looked : goal.returns-clause-looked
 returns-clause-looked g c none =
     let f = c.find_parcel.ensures in let v : Knowing = c.args.place.now.me.0 in let v2 : Knowing = c.find_parcel.new.place.me.0 in let v3 : Knowing = c.receive.new.place.me.0 in let l : ℕ = c.args.link in
     looked_then_taken c.args.end.now.noted (in_of (own_logs v) l) (in_of (own_logs v2) l) (in_of (own_logs v3) l)
-    (at v2 v3 l c.receive.ensures.released f.stays.seat.speaks (let w = f.others.long in let u = c.requires.long in let h = c.requires.at.below in omega arith)) (f.looked none)
+    (at v2 v3 l c.receive.ensures.released f.stays.seat.speaks (let w = f.others.long in let u = c.requires.reads.long in let h = c.requires.reads.at.below in omega arith)) (f.looked none)

@@ -21,22 +21,22 @@ look_if_marked-requires g c =
       (
         omega arith,
         (
-          record { here = h.stays.table ∙ c.requires.at.here; board = c.requires.at.board; manned = h.stays.seat; below = c.requires.at.below; own = c.requires.at.own ∙ sym p },
+          record {
+            at = record {
+              here = h.stays.table ∙ c.requires.reads.at.here;
+              board = c.requires.reads.at.board;
+              manned = h.stays.seat;
+              below = c.requires.reads.at.below;
+              own = c.requires.reads.at.own ∙ sym p;
+            };
+            long = h.others.long ∙ c.requires.reads.long;
+            end = h.end;
+            wire = c.requires.reads.wire;
+            ear = subst (λ (q : ℕ). IsHeard key q (hop_at key.dims c.args.link) (own_logs m) c.hear_if_due.new.ear.marks c.hear_if_due.new.ear.hears) (sym p) h.ear;
+          },
           (
-            h.others.long ∙ c.requires.long,
-            (
-              h.end,
-              (
-                c.if-end-eq0.true,
-                (
-                  c.requires.wire,
-                  (
-                    subst (λ (q : ℕ). IsHeard key q (hop_at key.dims c.args.link) (own_logs m) c.hear_if_due.new.ear.marks c.hear_if_due.new.ear.hears) (sym p) h.ear,
-                    good_same g.row.CAP key c.args.link (in_of (own_logs c.args.place.now.me.0) c.args.link) (in_of (own_logs m) c.args.link) h.seen c.requires.good,
-                  ),
-                ),
-              ),
-            ),
+            c.if-end-eq0.true,
+            good_same g.row.CAP key c.args.link (in_of (own_logs c.args.place.now.me.0) c.args.link) (in_of (own_logs m) c.args.link) h.seen c.requires.good,
           ),
         ),
       ),
@@ -64,5 +64,5 @@ pub returns-then-end-eq0-clause-looked : goal.returns-then-end-eq0-clause-looked
 returns-then-end-eq0-clause-looked g c none =
     let v : Knowing = c.args.place.now.me.0 in let v2 : Knowing = c.hear_if_due.new.place.me.0 in let v3 : Knowing = c.look_if_marked.new.place.me.0 in let l : ℕ = c.args.link in
     let i : InLog Contents = looked_where_marked (in_of (own_logs v3) l).seen (in_of (own_logs v2) l) in
-    looked_for c.args.end.now.noted (in_of (own_logs v) l) (in_of (own_logs v2) l) (in_of (own_logs v3) l) (in_of (own_logs v3) l).seen (c.hear_if_due.ensures.heard l c.requires.at.below c.requires.at.own refl)
-    (ap (λ (z : Logs Contents). in_of z l) c.look_if_marked.ensures.looked ∙ in_here (own_logs v2) l i (let w = c.hear_if_due.ensures.others.long in let u = c.requires.long in let h = c.requires.at.below in omega arith))
+    looked_for c.args.end.now.noted (in_of (own_logs v) l) (in_of (own_logs v2) l) (in_of (own_logs v3) l) (in_of (own_logs v3) l).seen (c.hear_if_due.ensures.heard l c.requires.reads.at.below c.requires.reads.at.own refl)
+    (ap (λ (z : Logs Contents). in_of z l) c.look_if_marked.ensures.looked ∙ in_here (own_logs v2) l i (let w = c.hear_if_due.ensures.others.long in let u = c.requires.reads.long in let h = c.requires.reads.at.below in omega arith))

@@ -102,7 +102,10 @@ impl<const CAP: usize> InLink<CAP> {
     pub fn is_wanted(&self) -> bool
         ensures { result ≡ is_wanted self.now }
     {
-        !self.ended && self.parcel.len() == 0
+        if self.ended {
+            return false;
+        }
+        self.parcel.len() == 0
     }
 
     /// Whether nothing of this epoch is left to come, nor to be read.

@@ -175,7 +175,11 @@ impl Routes {
         ensures fair { IsFair self.now.dims 1 result.tag }
         ensures below { result.out < sum self.now.dims }
     {
-        self.firsts[to as usize]
+        let first = &self.firsts[to as usize];
+        Onward {
+            out: first.out,
+            tag: first.tag,
+        }
     }
 
     /// The entry for `to` with this item, as this rank sends it first. It is copied whole, so that the tag goes as one word.

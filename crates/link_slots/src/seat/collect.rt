@@ -132,6 +132,9 @@ fn find_parcel<const CAP: usize>(
 }
 
 /// Collects the link's next parcel for the empty one at hand, if one is found.
+///
+/// Most collects in vain are of a link that isn't marked and for which no hear is due: that is told
+/// at once, by what the seat counts.
 pub(crate) fn collect_on<const CAP: usize>(
     top: &Top<CAP>,
     place: &mut Place<CAP>,
@@ -181,6 +184,13 @@ pub(crate) fn collect_on<const CAP: usize>(
     ensures own { result ≡ Collected.Got → sender_at top.now.key.dims link ≡ place.old.me.0.pick
         → Begins (in_of (own_logs place.new.me.0) link).seen (out_of (own_logs place.new.me.0) link).sent }
 {
+    if end.waiting == 0 && ear.marks & wire.mask == 0 {
+        let listened = ear.hears.saturating_add(end.look_ins);
+        if listened > end.noted {
+            end.noted = listened;
+            return Collected::Nothing;
+        }
+    }
     if find_parcel(top, place, end, ear, wire, link) == 0 {
         end.noted = ear.hears.saturating_add(end.look_ins);
         return Collected::Nothing;

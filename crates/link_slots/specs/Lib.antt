@@ -17,3 +17,4 @@ pub mod Offered
 pub mod Gathering
 pub mod Does
 pub mod Reading
+pub mod Writing

@@ -7,12 +7,11 @@ ghost use Rattle.port_bank.specs.Flow.{Begins};
 ghost use Rattle.route_tensor.specs.Link.{links};
 ghost use Rattle.route_tensor.specs.Ends.{hop_at, sender_at, reader_at};
 ghost use Rattle.link_slots.specs.Logs.{out_of, in_of, with_in, taken_more, listens};
-ghost use Rattle.link_slots.specs.View.{own_logs, with_logs};
+ghost use Rattle.link_slots.specs.View.{own_logs};
 ghost use Rattle.link_slots.specs.Shape.{IsBlank};
-ghost use Rattle.link_slots.specs.Told.{StaysSeated};
-ghost use Rattle.link_slots.specs.Reading.{ReadsLink};
+ghost use Rattle.link_slots.specs.Reading.{ReadsLink, HasRead};
 ghost use Rattle.list_laws.specs.Counts.{counted};
-ghost use Rattle.link_slots.specs.Counts.{IsInEnd, IsHeard, ElseKept, AreGood};
+ghost use Rattle.link_slots.specs.Counts.{AreGood};
 ghost use Rattle.link_slots.specs.Doorbell.{is_due, HeardWhere, looked_where_marked, LookedFor};
 
 use crate::seat::ear::Ear;
@@ -33,13 +32,8 @@ fn hear_if_due<const CAP: usize>(
     link: u32,
 )
     requires reads { ReadsLink top.now.key top.now.table_id place.old.table_id place.old.me link end.now wire.now ear.old }
-    ensures stays { StaysSeated top.now.key place.old.table_id place.new.table_id place.new.me }
-    ensures end { IsInEnd top.now.key.slots (in_of (own_logs place.new.me.0) link) end.now.taken
-        end.now.waiting end.now.look_ins end.now.noted }
-    ensures ear { IsHeard top.now.key place.old.me.0.pick (hop_at top.now.key.dims link)
-        (own_logs place.new.me.0) ear.new.marks ear.new.hears }
-    ensures here { place.new.me.0 ≡ with_logs place.old.me.0 (own_logs place.new.me.0) }
-    ensures others { ElseKept top.now.key place.old.me.0.pick link (own_logs place.old.me.0) (own_logs place.new.me.0) }
+    ensures left { HasRead top.now.key place.old.table_id place.new.table_id place.old.me place.new.me link end.now
+        ear.new }
     ensures seen { (in_of (own_logs place.new.me.0) link).seen ≡ (in_of (own_logs place.old.me.0) link).seen }
     ensures taken { (in_of (own_logs place.new.me.0) link).taken ≡ (in_of (own_logs place.old.me.0) link).taken }
     ensures look_ins { (in_of (own_logs place.new.me.0) link).look_ins
@@ -70,14 +64,9 @@ fn look_if_marked<const CAP: usize>(
     requires reads { ReadsLink top.now.key top.now.table_id place.old.table_id place.old.me link end.old wire.now ear.old }
     requires none { end.old.waiting ≡ 0 }
     requires good { AreGood CAP top.now.key link (in_of (own_logs place.old.me.0) link) }
-    ensures stays { StaysSeated top.now.key place.old.table_id place.new.table_id place.new.me }
-    ensures end { IsInEnd top.now.key.slots (in_of (own_logs place.new.me.0) link) end.new.taken
-        end.new.waiting end.new.look_ins end.new.noted }
-    ensures ear { IsHeard top.now.key place.old.me.0.pick (hop_at top.now.key.dims link)
-        (own_logs place.new.me.0) ear.new.marks ear.new.hears }
+    ensures left { HasRead top.now.key place.old.table_id place.new.table_id place.old.me place.new.me link end.new
+        ear.new }
     ensures good { AreGood CAP top.now.key link (in_of (own_logs place.new.me.0) link) }
-    ensures here { place.new.me.0 ≡ with_logs place.old.me.0 (own_logs place.new.me.0) }
-    ensures others { ElseKept top.now.key place.old.me.0.pick link (own_logs place.old.me.0) (own_logs place.new.me.0) }
     ensures seen { take (length (in_of (own_logs place.old.me.0) link).seen) (in_of (own_logs place.new.me.0) link).seen
         ≡ (in_of (own_logs place.old.me.0) link).seen }
     ensures taken { (in_of (own_logs place.new.me.0) link).taken ≡ (in_of (own_logs place.old.me.0) link).taken }
@@ -111,14 +100,9 @@ fn find_parcel<const CAP: usize>(
 ) -> u32
     requires reads { ReadsLink top.now.key top.now.table_id place.old.table_id place.old.me link end.old wire.now ear.old }
     requires good { AreGood CAP top.now.key link (in_of (own_logs place.old.me.0) link) }
-    ensures stays { StaysSeated top.now.key place.old.table_id place.new.table_id place.new.me }
-    ensures end { IsInEnd top.now.key.slots (in_of (own_logs place.new.me.0) link) end.new.taken
-        end.new.waiting end.new.look_ins end.new.noted }
-    ensures ear { IsHeard top.now.key place.old.me.0.pick (hop_at top.now.key.dims link)
-        (own_logs place.new.me.0) ear.new.marks ear.new.hears }
+    ensures left { HasRead top.now.key place.old.table_id place.new.table_id place.old.me place.new.me link end.new
+        ear.new }
     ensures good { AreGood CAP top.now.key link (in_of (own_logs place.new.me.0) link) }
-    ensures here { place.new.me.0 ≡ with_logs place.old.me.0 (own_logs place.new.me.0) }
-    ensures others { ElseKept top.now.key place.old.me.0.pick link (own_logs place.old.me.0) (own_logs place.new.me.0) }
     ensures seen { take (length (in_of (own_logs place.old.me.0) link).seen) (in_of (own_logs place.new.me.0) link).seen
         ≡ (in_of (own_logs place.old.me.0) link).seen }
     ensures taken { (in_of (own_logs place.new.me.0) link).taken ≡ (in_of (own_logs place.old.me.0) link).taken }
@@ -148,6 +132,9 @@ fn find_parcel<const CAP: usize>(
 }
 
 /// Collects the link's next parcel for the empty one at hand, if one is found.
+///
+/// Most collects in vain are of a link that isn't marked and for which no hear is due: that is told
+/// at once, by what the seat counts.
 pub(crate) fn collect_on<const CAP: usize>(
     top: &Top<CAP>,
     place: &mut Place<CAP>,
@@ -162,14 +149,9 @@ pub(crate) fn collect_on<const CAP: usize>(
     requires slots { slots ≡ top.now.key.slots }
     requires good { AreGood CAP top.now.key link (in_of (own_logs place.old.me.0) link) }
     requires empty { IsBlank parcel.old }
-    ensures stays { StaysSeated top.now.key place.old.table_id place.new.table_id place.new.me }
-    ensures end { IsInEnd top.now.key.slots (in_of (own_logs place.new.me.0) link) end.new.taken
-        end.new.waiting end.new.look_ins end.new.noted }
-    ensures ear { IsHeard top.now.key place.old.me.0.pick (hop_at top.now.key.dims link)
-        (own_logs place.new.me.0) ear.new.marks ear.new.hears }
+    ensures left { HasRead top.now.key place.old.table_id place.new.table_id place.old.me place.new.me link end.new
+        ear.new }
     ensures good { AreGood CAP top.now.key link (in_of (own_logs place.new.me.0) link) }
-    ensures here { place.new.me.0 ≡ with_logs place.old.me.0 (own_logs place.new.me.0) }
-    ensures others { ElseKept top.now.key place.old.me.0.pick link (own_logs place.old.me.0) (own_logs place.new.me.0) }
     ensures seen { take (length (in_of (own_logs place.old.me.0) link).seen) (in_of (own_logs place.new.me.0) link).seen
         ≡ (in_of (own_logs place.old.me.0) link).seen }
     ensures noted { end.new.noted ≡ counted (listens (in_of (own_logs place.new.me.0) link)) }
@@ -202,6 +184,13 @@ pub(crate) fn collect_on<const CAP: usize>(
     ensures own { result ≡ Collected.Got → sender_at top.now.key.dims link ≡ place.old.me.0.pick
         → Begins (in_of (own_logs place.new.me.0) link).seen (out_of (own_logs place.new.me.0) link).sent }
 {
+    if end.waiting == 0 && ear.marks & wire.mask == 0 {
+        let listened = ear.hears.saturating_add(end.look_ins);
+        if listened > end.noted {
+            end.noted = listened;
+            return Collected::Nothing;
+        }
+    }
     if find_parcel(top, place, end, ear, wire, link) == 0 {
         end.noted = ear.hears.saturating_add(end.look_ins);
         return Collected::Nothing;

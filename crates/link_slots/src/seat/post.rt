@@ -1,10 +1,10 @@
 //! A post: a look for room where no empty slot is at hand, the exchange, and the ring.
-ghost use Rattle.std.specs.Prelude.{◌≡◌, ◌≢◌, suc, ◌<◌, ◌≤◌, length};
+ghost use Rattle.std.specs.Prelude.{◌≡◌, ◌≢◌, suc, ◌≤◌};
 ghost use Rattle.link_slots.specs.Logs.{out_of, with_out, sent_of, got_of, sent_more, found_full};
-ghost use Rattle.link_slots.specs.View.{own_logs, with_logs};
+ghost use Rattle.link_slots.specs.View.{own_logs};
 ghost use Rattle.link_slots.specs.Shape.{IsBlank, MayFollow, KeepsLaw};
-ghost use Rattle.link_slots.specs.Told.{IsAtOut, StaysSeated};
-ghost use Rattle.link_slots.specs.Counts.{IsOutEnd, IsWire, HasPosted};
+ghost use Rattle.link_slots.specs.Writing.{WritesLink, HasWritten};
+ghost use Rattle.link_slots.specs.Counts.{IsWire, HasPosted};
 
 use crate::seat::ends::{OutEnd, slot_of};
 use crate::table::rule::{Place, Top};
@@ -21,16 +21,8 @@ fn make_room<const CAP: usize>(
     slots: u32,
     link: u32,
 )
-    requires at { IsAtOut top.now.key top.now.table_id place.old.table_id place.old.me link }
-    requires slots { slots ≡ top.now.key.slots }
-    requires long { link < length (own_logs place.old.me.0).outs }
-    requires end { IsOutEnd top.now.key.slots (out_of (own_logs place.old.me.0) link) end.old.sent
-        end.old.spare }
-    ensures stays { StaysSeated top.now.key place.old.table_id place.new.table_id place.new.me }
-    ensures end { IsOutEnd top.now.key.slots (out_of (own_logs place.new.me.0) link) end.new.sent
-        end.new.spare }
-    ensures here { place.new.me.0 ≡ with_logs place.old.me.0
-        (with_out (own_logs place.old.me.0) link (out_of (own_logs place.new.me.0) link)) }
+    requires writes { WritesLink top.now.key top.now.table_id place.old.table_id place.old.me link slots end.old }
+    ensures left { HasWritten top.now.key place.old.table_id place.new.table_id place.old.me place.new.me link end.new }
     ensures sent { (out_of (own_logs place.new.me.0) link).sent ≡ (out_of (own_logs place.old.me.0) link).sent }
     ensures looks { (out_of (own_logs place.old.me.0) link).looks ≤ (out_of (own_logs place.new.me.0) link).looks }
     ensures once { (out_of (own_logs place.new.me.0) link).looks ≤ suc (out_of (own_logs place.old.me.0) link).looks }
@@ -57,21 +49,13 @@ pub(crate) fn post_on<const CAP: usize>(
     link: u32,
     parcel: &mut Parcel<CAP>,
 ) -> Posted
-    requires at { IsAtOut top.now.key top.now.table_id place.old.table_id place.old.me link }
-    requires slots { slots ≡ top.now.key.slots }
-    requires long { link < length (own_logs place.old.me.0).outs }
-    requires end { IsOutEnd top.now.key.slots (out_of (own_logs place.old.me.0) link) end.old.sent
-        end.old.spare }
+    requires writes { WritesLink top.now.key top.now.table_id place.old.table_id place.old.me link slots end.old }
     requires wire { IsWire top.now.key.dims link wire.now.bell wire.now.mask wire.now.hop }
     requires parcel { MayFollow top.now.key.dims CAP link (out_of (own_logs place.old.me.0) link).sent parcel.old }
     requires law { KeepsLaw top.now.key.dims place.old.me.0.pick
         (sent_of (with_out (own_logs place.old.me.0) link
         (sent_more (out_of (own_logs place.old.me.0) link) parcel.old))) (got_of (own_logs place.old.me.0)) }
-    ensures stays { StaysSeated top.now.key place.old.table_id place.new.table_id place.new.me }
-    ensures end { IsOutEnd top.now.key.slots (out_of (own_logs place.new.me.0) link) end.new.sent
-        end.new.spare }
-    ensures here { place.new.me.0 ≡ with_logs place.old.me.0
-        (with_out (own_logs place.old.me.0) link (out_of (own_logs place.new.me.0) link)) }
+    ensures left { HasWritten top.now.key place.old.table_id place.new.table_id place.old.me place.new.me link end.new }
     ensures emptied { result ≡ Posted.Sent → IsBlank parcel.new }
     ensures link { HasPosted top.now.key.slots (out_of (own_logs place.old.me.0) link)
         (out_of (own_logs place.new.me.0) link) parcel.old result }

@@ -70,7 +70,7 @@ returns-clause-got g c got =
     let inside : l < links v.shape.dims = subst (λ (z : Manning). l < links z.shape.dims) (sym c.self.view_is) c.requires.link in
     let mine : reader_at v.shape.dims l ≡ c.self.inside.rank = subst (λ (z : Manning). reader_at z.shape.dims l ≡ z.rank) (sym c.self.view_is) c.requires.ends_here in
     let w = (c.self.invariant.each_in l c.index_mut-end.result.now inside mine).waiting_is in
-    collects_added c.bank.inside.board.shared.key v.pick l (own_logs v) (own_logs c.collect_on-answer.new.place.me.0) f.others (omega arith) f.seen c.collect_on-answer.new.parcel (f.taken got) (f.parcel got)
+    collects_added c.bank.inside.board.shared.key v.pick l (own_logs v) (own_logs c.collect_on-answer.new.place.me.0) f.left.others (omega arith) f.seen c.collect_on-answer.new.parcel (f.taken got) (f.parcel got)
     ∙ ap (λ (z : Manning). added (collected_from z) l (shipped c.collect_on-answer.new.parcel)) c.self.view_is
 
 pub returns-clause-not_got : goal.returns-clause-not_got
@@ -79,7 +79,7 @@ returns-clause-not_got g c none =
     let inside : l < links v.shape.dims = subst (λ (z : Manning). l < links z.shape.dims) (sym c.self.view_is) c.requires.link in
     let mine : reader_at v.shape.dims l ≡ c.self.inside.rank = subst (λ (z : Manning). reader_at z.shape.dims l ≡ z.rank) (sym c.self.view_is) c.requires.ends_here in
     let w = (c.self.invariant.each_in l c.index_mut-end.result.now inside mine).waiting_is in
-    collects_same c.bank.inside.board.shared.key v.pick l (own_logs v) (own_logs c.collect_on-answer.new.place.me.0) f.others (omega arith) f.seen (f.not_taken none) ∙ ap collected_from c.self.view_is
+    collects_same c.bank.inside.board.shared.key v.pick l (own_logs v) (own_logs c.collect_on-answer.new.place.me.0) f.left.others (omega arith) f.seen (f.not_taken none) ∙ ap collected_from c.self.view_is
 
 pub returns-clause-arrived : goal.returns-clause-arrived
 returns-clause-arrived g c got =
@@ -90,7 +90,7 @@ returns-clause-arrived g c got =
     let w = (c.self.invariant.each_in l c.index_mut-end.result.now inside mine).waiting_is in
     subst (λ (z : Manning). MayFollow z.shape.dims g.row.CAP l (got_of z.lists l) c.collect_on-answer.new.parcel) c.self.view_is
     (subst (λ (z : Shape). MayFollow z.dims g.row.CAP l (got_of (own_logs v) l) c.collect_on-answer.new.parcel) (sym e)
-    (next_good c.bank.inside.board.shared.key v.pick l (own_logs v) (own_logs c.collect_on-answer.new.place.me.0) f.others (omega arith) f.seen g.row.CAP c.collect_on-answer.new.parcel f.good (f.parcel got)))
+    (next_good c.bank.inside.board.shared.key v.pick l (own_logs v) (own_logs c.collect_on-answer.new.place.me.0) f.left.others (omega arith) f.seen g.row.CAP c.collect_on-answer.new.parcel f.good (f.parcel got)))
 
 pub returns-clause-noted : goal.returns-clause-noted
 returns-clause-noted g c =
@@ -113,12 +113,12 @@ invariant_of-self g c =
     let n : ℕ = c.index_mut.result.now in
     let was : n ≡ counted (lasts (map shipped (got_of x l))) = c.index_mut.ensures.value ∙ s.each_ended l n inside mine in
     let now : c.note_last.new.ended ≡ counted (lasts (map shipped (got_of x' l))) = c.note_last.ensures ∙ ended_case c.collect_on-answer.result (got_of x l) (got_of x' l) c.collect_on-answer.new.parcel c.last.result n
-    (λ got. got_one key v.pick l x x' f.others (omega arith) f.seen c.collect_on-answer.new.parcel (f.taken got) (f.parcel got)) (λ none. got_none key v.pick l x x' f.others (omega arith) f.seen (f.not_taken none)) (sym c.last.ensures) was in
+    (λ got. got_one key v.pick l x x' f.left.others (omega arith) f.seen c.collect_on-answer.new.parcel (f.taken got) (f.parcel got)) (λ none. got_none key v.pick l x x' f.left.others (omega arith) f.seen (f.not_taken none)) (sym c.last.ensures) was in
     seat_collected g.row.CAP v.shape c.self.inside.place.me m' c.self.inside.rank l c.self.inside.outs.items c.self.inside.ins.items c.self.inside.ears.items c.self.inside.ended.items s
-    (subst (λ (z : Shape). IsManned z m') back f.stays.seat) inside c.collect_on-answer.new.end c.collect_on-answer.new.ear c.index-wire.result.now.hop c.note_last.new.ended f.here
-    (subst (λ (z : Shape). ElseKept z v.pick l x x') back f.others) mine
-    (subst (λ (z : Shape). IsInEnd z.slots (in_of x' l) c.collect_on-answer.new.end.taken c.collect_on-answer.new.end.waiting c.collect_on-answer.new.end.look_ins c.collect_on-answer.new.end.noted) back f.end)
-    (subst (λ (z : Shape). IsHeard z v.pick (hop_at z.dims l) x' c.collect_on-answer.new.ear.marks c.collect_on-answer.new.ear.hears) back f.ear)
+    (subst (λ (z : Shape). IsManned z m') back f.left.stays.seat) inside c.collect_on-answer.new.end c.collect_on-answer.new.ear c.index-wire.result.now.hop c.note_last.new.ended f.left.here
+    (subst (λ (z : Shape). ElseKept z v.pick l x x') back f.left.others) mine
+    (subst (λ (z : Shape). IsInEnd z.slots (in_of x' l) c.collect_on-answer.new.end.taken c.collect_on-answer.new.end.waiting c.collect_on-answer.new.end.look_ins c.collect_on-answer.new.end.noted) back f.left.end)
+    (subst (λ (z : Shape). IsHeard z v.pick (hop_at z.dims l) x' c.collect_on-answer.new.ear.marks c.collect_on-answer.new.ear.hears) back f.left.ear)
     (subst (λ (z : Shape). hop_at z.dims l ≡ c.index-wire.result.now.hop + 1) back way.hop_is)
     (subst (λ (z : Shape). AreGood g.row.CAP z l (in_of x' l)) back f.good) now
 

@@ -36,28 +36,24 @@ post_on-answer-requires g c =
           omega arith,
           (
             record {
-              here = ap (λ (z : Manning). z.id) c.self.view_is ∙ (c.requires.bank.0 ∙ sym (ap (λ (z : Bank). z.id) c.bank.view_is));
-              board = c.bank.invariant.board;
-              manned = subst (λ (z : Shape). IsManned z c.self.inside.place.me) e s.manned;
-              below = subst (λ (z : Shape). l < links z.dims) e inside;
-              own = subst (λ (z : Shape). sender_at z.dims l ≡ v.pick) e (mine ∙ sym s.rank_is);
+              at = record {
+                here = ap (λ (z : Manning). z.id) c.self.view_is ∙ (c.requires.bank.0 ∙ sym (ap (λ (z : Bank). z.id) c.bank.view_is));
+                board = c.bank.invariant.board;
+                manned = subst (λ (z : Shape). IsManned z c.self.inside.place.me) e s.manned;
+                below = subst (λ (z : Shape). l < links z.dims) e inside;
+                own = subst (λ (z : Shape). sender_at z.dims l ≡ v.pick) e (mine ∙ sym s.rank_is);
+              };
+              slots_are = c.bank.invariant.slots_is;
+              long = long;
+              end = subst (λ (z : Shape). IsOutEnd z.slots (out_of (own_logs v) l) end.sent end.spare) e counts;
             },
             (
-              c.bank.invariant.slots_is,
+              way,
               (
-                long,
-                (
-                  subst (λ (z : Shape). IsOutEnd z.slots (out_of (own_logs v) l) end.sent end.spare) e counts,
-                  (
-                    way,
-                    (
-                      subst (λ (z : Shape). MayFollow z.dims g.row.CAP l (out_of (own_logs v) l).sent c.args.parcel.now) e
-                          (may_follow v.shape.dims g.row.CAP c.self.inside.rank l (own_logs v) c.args.parcel.now inside mine c.requires.fresh c.known.ensures.fresh c.known.ensures.within epoch law),
-                      subst (λ (z : Shape × ℕ). KeepsLaw z.0.dims z.1 (sent_of (with_out (own_logs v) l (sent_more (out_of (own_logs v) l) c.args.parcel.now))) (got_of (own_logs v))) (λ k. (e k, sym s.rank_is k))
-                          (law_for v.shape.dims c.self.inside.rank l (own_logs v) c.args.parcel.now long law),
-                    ),
-                  ),
-                ),
+                subst (λ (z : Shape). MayFollow z.dims g.row.CAP l (out_of (own_logs v) l).sent c.args.parcel.now) e
+                    (may_follow v.shape.dims g.row.CAP c.self.inside.rank l (own_logs v) c.args.parcel.now inside mine c.requires.fresh c.known.ensures.fresh c.known.ensures.within epoch law),
+                subst (λ (z : Shape × ℕ). KeepsLaw z.0.dims z.1 (sent_of (with_out (own_logs v) l (sent_more (out_of (own_logs v) l) c.args.parcel.now))) (got_of (own_logs v))) (λ k. (e k, sym s.rank_is k))
+                    (law_for v.shape.dims c.self.inside.rank l (own_logs v) c.args.parcel.now long law),
               ),
             ),
           ),
@@ -72,8 +68,8 @@ invariant_of-self g c =
     let inside : l < links v.shape.dims = subst (λ (z : Manning). l < links z.shape.dims) (sym c.self.view_is) c.requires.link in
     let mine : sender_at v.shape.dims l ≡ c.self.inside.rank = subst (λ (z : Manning). sender_at z.shape.dims l ≡ z.rank) (sym c.self.view_is) c.requires.starts_here in
     seat_posted g.row.CAP v.shape c.self.inside.place.me c.post_on-answer.new.place.me c.self.inside.rank l c.self.inside.outs.items c.self.inside.ins.items c.self.inside.ears.items c.self.inside.ended.items s
-    (subst (λ (z : Shape). IsManned z c.post_on-answer.new.place.me) (sym e) c.post_on-answer.ensures.stays.seat) inside c.post_on-answer.new.end c.post_on-answer.ensures.here mine
-    (subst (λ (z : Shape). IsOutEnd z.slots (out_of (own_logs c.post_on-answer.new.place.me.0) l) c.post_on-answer.new.end.sent c.post_on-answer.new.end.spare) (sym e) c.post_on-answer.ensures.end)
+    (subst (λ (z : Shape). IsManned z c.post_on-answer.new.place.me) (sym e) c.post_on-answer.ensures.left.stays.seat) inside c.post_on-answer.new.end c.post_on-answer.ensures.left.here mine
+    (subst (λ (z : Shape). IsOutEnd z.slots (out_of (own_logs c.post_on-answer.new.place.me.0) l) c.post_on-answer.new.end.sent c.post_on-answer.new.end.spare) (sym e) c.post_on-answer.ensures.left.end)
 
 -- what the seat counts beside its view: the parcels posted and the spare slots are the room
 pub returns-clause-within : goal.returns-clause-within

@@ -1,10 +1,10 @@
 use Rattle.port_bank.specs.Flow.{Begins}
-use Rattle.std.proofs.Common.{arith, ◌≡◌, ◌+◌, ◌-◌, ◌<◌, ◌^◌, ℕ, suc, refl, sym, ap, subst, ◌∙◌, length, min}
+use Rattle.std.proofs.Common.{arith, ◌≡◌, ◌+◌, ◌-◌, ◌<◌, ◌^◌, ℕ, suc, refl, sym, ap, subst, ◌∙◌, length, min, false, eqb}
 use Rattle.item_buffer.specs.Contents.{Contents}
 use Rattle.route_tensor.specs.Ends.{hop_at}
 use Rattle.link_slots.specs.Logs.{InLog, Logs, out_of, in_of, with_in, taken_more}
 use Rattle.link_slots.specs.View.{own_logs, with_logs, Speaks}
-use Rattle.link_slots.specs.Shape.{Shape}
+use Rattle.link_slots.specs.Shape.{Shape, wiring}
 use Rattle.link_slots.specs.Told.{Knowing}
 use Rattle.list_laws.specs.Counts.{counted}
 use Rattle.link_slots.specs.Counts.{IsInEnd, IsHeard, ElseKept}
@@ -12,8 +12,8 @@ use Rattle.link_slots.specs.Doorbell.{is_due, HeardWhere}
 use Rattle.link_slots.proofs.Moves.{own_with, in_here, in_there, in_same}
 use Rattle.link_slots.proofs.Manning.{with_twice}
 use Rattle.link_slots.proofs.Counting.{end_taken}
-use Rattle.link_slots.proofs.Due.{looked_then_taken}
-use Rattle.link_slots.proofs.Hearing.{else_kept, in_elsewhere, good_same, heard_same}
+use Rattle.link_slots.proofs.Due.{not_due_listened, heard_nowhere, looked_for, unmarked_same, looked_then_taken}
+use Rattle.link_slots.proofs.Hearing.{bit_unset, else_kept, in_elsewhere, good_same, heard_same}
 use Rattle.link_slots.proofs.seat.collect.collect_on.Goals as goal
 
 -- the seat's lists after the release, and the link's own part of them
@@ -24,73 +24,93 @@ module _ (v2 v3 : Knowing) (l : ℕ) (e : v3 ≡ with_logs v2 (with_in (own_logs
   at : l < length (own_logs v2).ins → in_of (own_logs v3) l ≡ taken_more (in_of (own_logs v2) l)
   at h = ap (λ (z : Logs Contents). in_of z l) own ∙ in_here (own_logs v2) l (taken_more (in_of (own_logs v2) l)) h
 
-pub returns-clause-end : goal.returns-clause-end
-returns-clause-end g c =
-    let key : Shape = c.args.top.now.key in let f = c.find_parcel.ensures in let v2 : Knowing = c.find_parcel.new.place.me.0 in let v3 : Knowing = c.receive.new.place.me.0 in let l : ℕ = c.args.link in
-    let i2 : InLog Contents = in_of (own_logs v2) l in
-    let a = at v2 v3 l c.receive.ensures.released f.stays.seat.speaks (let w = f.others.long in let u = c.requires.reads.long in let h = c.requires.reads.at.below in omega arith) in
-    let k : ℕ = c.find_parcel.new.end.waiting - 1 in
-    let more : c.find_parcel.new.end.waiting ≡ suc k = (let n = c.if-find_parcel-eq0.false in let w = c.find_parcel.ensures.waiting in omega arith) in
-    let hs : c.find_parcel.new.ear.hears ≡ counted i2.hears = f.ear.heard l c.requires.reads.at.below c.requires.reads.at.own refl in
-    let ks : c.find_parcel.new.end.look_ins ≡ counted i2.look_ins = f.end.look_ins_is in
-    let noted : min (c.find_parcel.new.ear.hears + c.find_parcel.new.end.look_ins) (2 ^ 64 - 1) ≡ counted (i2.hears + i2.look_ins) = omega arith in
-    end_taken key.slots i2 (in_of (own_logs v3) l) c.find_parcel.new.end.taken k c.find_parcel.new.end.look_ins c.find_parcel.new.end.noted _ _
-    (subst (λ (z : ℕ). IsInEnd key.slots i2 c.find_parcel.new.end.taken z c.find_parcel.new.end.look_ins c.find_parcel.new.end.noted) more f.end)
-    (ap (λ (z : InLog Contents). z.seen) a) (ap (λ (z : InLog Contents). z.taken) a) (ap (λ (z : InLog Contents). z.look_ins) a) (ap (λ (z : InLog Contents). z.hears) a)
-    refl
-    (c.saturating_add-end-2.ensures ∙ noted ∙ sym (ap (λ (z : InLog Contents). counted (z.hears + z.look_ins)) a))
-
-pub returns-clause-ear : goal.returns-clause-ear
-returns-clause-ear g c =
-    let key : Shape = c.args.top.now.key in let f = c.find_parcel.ensures in let v : Knowing = c.args.place.now.me.0 in let v2 : Knowing = c.find_parcel.new.place.me.0 in let v3 : Knowing = c.receive.new.place.me.0 in let l : ℕ = c.args.link in
-    let i : InLog Contents = taken_more (in_of (own_logs v2) l) in
-    let o = own v2 v3 l c.receive.ensures.released f.stays.seat.speaks in
-    let long : l < length (own_logs v2).ins = (let w = f.others.long in let u = c.requires.reads.long in let h = c.requires.reads.at.below in omega arith) in
-    subst (λ (z : Logs Contents). IsHeard key v.pick (hop_at key.dims l) z c.find_parcel.new.ear.marks c.find_parcel.new.ear.hears) (sym o)
-    (heard_same key v.pick (hop_at key.dims l) (own_logs v2) (with_in (own_logs v2) l i) c.find_parcel.new.ear.marks c.find_parcel.new.ear.hears
-    (in_same (own_logs v2) l (λ (z : InLog Contents). z.marked) i (λ m. (in_of (own_logs v2) m).marked) long refl (λ _ _. refl))
-    (in_same (own_logs v2) l (λ (z : InLog Contents). z.hears) i (λ m. (in_of (own_logs v2) m).hears) long refl (λ _ _. refl)) f.ear)
+pub returns-clause-left : goal.returns-clause-left
+returns-clause-left g c =
+    record {
+      stays = record { table = c.receive.ensures.stays.table ∙ c.find_parcel.ensures.left.stays.table; seat = c.receive.ensures.stays.seat };
+      end = (let key : Shape = c.args.top.now.key in let f = c.find_parcel.ensures in let v2 : Knowing = c.find_parcel.new.place.me.0 in let v3 : Knowing = c.receive.new.place.me.0 in let l : ℕ = c.args.link in
+          let i2 : InLog Contents = in_of (own_logs v2) l in
+          let a = at v2 v3 l c.receive.ensures.released f.left.stays.seat.speaks (let w = f.left.others.long in let u = c.requires.reads.long in let h = c.requires.reads.at.below in omega arith) in
+          let k : ℕ = c.find_parcel.new.end.waiting - 1 in
+          let more : c.find_parcel.new.end.waiting ≡ suc k = (let n = c.if-find_parcel-eq0.false in let w = c.find_parcel.ensures.waiting in omega arith) in
+          let hs : c.find_parcel.new.ear.hears ≡ counted i2.hears = f.left.ear.heard l c.requires.reads.at.below c.requires.reads.at.own refl in
+          let ks : c.find_parcel.new.end.look_ins ≡ counted i2.look_ins = f.left.end.look_ins_is in
+          let noted : min (c.find_parcel.new.ear.hears + c.find_parcel.new.end.look_ins) (2 ^ 64 - 1) ≡ counted (i2.hears + i2.look_ins) = omega arith in
+          end_taken key.slots i2 (in_of (own_logs v3) l) c.find_parcel.new.end.taken k c.find_parcel.new.end.look_ins c.find_parcel.new.end.noted _ _
+          (subst (λ (z : ℕ). IsInEnd key.slots i2 c.find_parcel.new.end.taken z c.find_parcel.new.end.look_ins c.find_parcel.new.end.noted) more f.left.end)
+          (ap (λ (z : InLog Contents). z.seen) a) (ap (λ (z : InLog Contents). z.taken) a) (ap (λ (z : InLog Contents). z.look_ins) a) (ap (λ (z : InLog Contents). z.hears) a)
+          refl
+          (c.saturating_add-end-2.ensures ∙ noted ∙ sym (ap (λ (z : InLog Contents). counted (z.hears + z.look_ins)) a)));
+      ear = (let key : Shape = c.args.top.now.key in let f = c.find_parcel.ensures in let v : Knowing = c.args.place.now.me.0 in let v2 : Knowing = c.find_parcel.new.place.me.0 in let v3 : Knowing = c.receive.new.place.me.0 in let l : ℕ = c.args.link in
+          let i : InLog Contents = taken_more (in_of (own_logs v2) l) in
+          let o = own v2 v3 l c.receive.ensures.released f.left.stays.seat.speaks in
+          let long : l < length (own_logs v2).ins = (let w = f.left.others.long in let u = c.requires.reads.long in let h = c.requires.reads.at.below in omega arith) in
+          subst (λ (z : Logs Contents). IsHeard key v.pick (hop_at key.dims l) z c.find_parcel.new.ear.marks c.find_parcel.new.ear.hears) (sym o)
+          (heard_same key v.pick (hop_at key.dims l) (own_logs v2) (with_in (own_logs v2) l i) c.find_parcel.new.ear.marks c.find_parcel.new.ear.hears
+          (in_same (own_logs v2) l (λ (z : InLog Contents). z.marked) i (λ m. (in_of (own_logs v2) m).marked) long refl (λ _ _. refl))
+          (in_same (own_logs v2) l (λ (z : InLog Contents). z.hears) i (λ m. (in_of (own_logs v2) m).hears) long refl (λ _ _. refl)) f.left.ear));
+      here = (let f = c.find_parcel.ensures in let v : Knowing = c.args.place.now.me.0 in let v2 : Knowing = c.find_parcel.new.place.me.0 in let v3 : Knowing = c.receive.new.place.me.0 in let l : ℕ = c.args.link in
+          let y : Logs Contents = with_in (own_logs v2) l (taken_more (in_of (own_logs v2) l)) in
+          c.receive.ensures.released ∙ ap (λ (z : Knowing). with_logs z y) f.left.here ∙ with_twice v (own_logs v2) y ∙ ap (with_logs v) (sym (own v2 v3 l c.receive.ensures.released f.left.stays.seat.speaks)));
+      others = (let key : Shape = c.args.top.now.key in let f = c.find_parcel.ensures in let v : Knowing = c.args.place.now.me.0 in let v2 : Knowing = c.find_parcel.new.place.me.0 in let v3 : Knowing = c.receive.new.place.me.0 in let l : ℕ = c.args.link in
+          let o = own v2 v3 l c.receive.ensures.released f.left.stays.seat.speaks in
+          else_kept key v.pick l (own_logs v) (own_logs v2) (own_logs v3) f.left.others
+          (subst (ElseKept key v.pick l (own_logs v2)) (sym o) (in_elsewhere key c.requires.reads.at.board.shape v.pick l c.requires.reads.at.below c.requires.reads.at.own (own_logs v2) (f.left.others.long ∙ c.requires.reads.long) (taken_more (in_of (own_logs v2) l)))));
+    }
 
 pub returns-clause-good : goal.returns-clause-good
 returns-clause-good g c =
     let key : Shape = c.args.top.now.key in let f = c.find_parcel.ensures in let v2 : Knowing = c.find_parcel.new.place.me.0 in let v3 : Knowing = c.receive.new.place.me.0 in let l : ℕ = c.args.link in
-    let a = at v2 v3 l c.receive.ensures.released f.stays.seat.speaks (let w = f.others.long in let u = c.requires.reads.long in let h = c.requires.reads.at.below in omega arith) in
+    let a = at v2 v3 l c.receive.ensures.released f.left.stays.seat.speaks (let w = f.left.others.long in let u = c.requires.reads.long in let h = c.requires.reads.at.below in omega arith) in
     good_same g.row.CAP key l (in_of (own_logs v2) l) (in_of (own_logs v3) l) (ap (λ (z : InLog Contents). z.seen) a) f.good
-
-pub returns-clause-here : goal.returns-clause-here
-returns-clause-here g c =
-    let f = c.find_parcel.ensures in let v : Knowing = c.args.place.now.me.0 in let v2 : Knowing = c.find_parcel.new.place.me.0 in let v3 : Knowing = c.receive.new.place.me.0 in let l : ℕ = c.args.link in
-    let y : Logs Contents = with_in (own_logs v2) l (taken_more (in_of (own_logs v2) l)) in
-    c.receive.ensures.released ∙ ap (λ (z : Knowing). with_logs z y) f.here ∙ with_twice v (own_logs v2) y ∙ ap (with_logs v) (sym (own v2 v3 l c.receive.ensures.released f.stays.seat.speaks))
-
-pub returns-clause-others : goal.returns-clause-others
-returns-clause-others g c =
-    let key : Shape = c.args.top.now.key in let f = c.find_parcel.ensures in let v : Knowing = c.args.place.now.me.0 in let v2 : Knowing = c.find_parcel.new.place.me.0 in let v3 : Knowing = c.receive.new.place.me.0 in let l : ℕ = c.args.link in
-    let o = own v2 v3 l c.receive.ensures.released f.stays.seat.speaks in
-    else_kept key v.pick l (own_logs v) (own_logs v2) (own_logs v3) f.others
-    (subst (ElseKept key v.pick l (own_logs v2)) (sym o) (in_elsewhere key c.requires.reads.at.board.shape v.pick l c.requires.reads.at.below c.requires.reads.at.own (own_logs v2) (f.others.long ∙ c.requires.reads.long) (taken_more (in_of (own_logs v2) l))))
 
 pub returns-clause-own : goal.returns-clause-own
 returns-clause-own g c _ from =
     let f = c.find_parcel.ensures in let v2 : Knowing = c.find_parcel.new.place.me.0 in let v3 : Knowing = c.receive.new.place.me.0 in let l : ℕ = c.args.link in
-    let o = own v2 v3 l c.receive.ensures.released f.stays.seat.speaks in
-    let a = at v2 v3 l c.receive.ensures.released f.stays.seat.speaks (let w = f.others.long in let u = c.requires.reads.long in let h = c.requires.reads.at.below in omega arith) in
-    let p : v2.pick ≡ c.args.place.now.me.0.pick = ap (λ (z : Knowing). z.pick) f.here in
+    let o = own v2 v3 l c.receive.ensures.released f.left.stays.seat.speaks in
+    let a = at v2 v3 l c.receive.ensures.released f.left.stays.seat.speaks (let w = f.left.others.long in let u = c.requires.reads.long in let h = c.requires.reads.at.below in omega arith) in
+    let p : v2.pick ≡ c.args.place.now.me.0.pick = ap (λ (z : Knowing). z.pick) f.left.here in
     subst (λ (z : InLog Contents × Logs Contents). Begins z.0.seen (out_of z.1 l).sent) (λ k. (sym a k, sym o k)) (c.receive.ensures.own (from ∙ sym p))
 
 pub returns-clause-no_looking : goal.returns-clause-no_looking
 returns-clause-no_looking g c some =
     let v2 : Knowing = c.find_parcel.new.place.me.0 in let v3 : Knowing = c.receive.new.place.me.0 in let l : ℕ = c.args.link in
-    own v2 v3 l c.receive.ensures.released c.find_parcel.ensures.stays.seat.speaks ∙ ap (λ (z : Knowing). with_in (own_logs z) l (taken_more (in_of (own_logs z) l))) (c.find_parcel.ensures.at_hand some)
+    own v2 v3 l c.receive.ensures.released c.find_parcel.ensures.left.stays.seat.speaks ∙ ap (λ (z : Knowing). with_in (own_logs z) l (taken_more (in_of (own_logs z) l))) (c.find_parcel.ensures.at_hand some)
 
 pub returns-clause-heard : goal.returns-clause-heard
 returns-clause-heard g c none m inside mine hop ne =
     let v : Knowing = c.args.place.now.me.0 in let v2 : Knowing = c.find_parcel.new.place.me.0 in let v3 : Knowing = c.receive.new.place.me.0 in let l : ℕ = c.args.link in
-    let same : in_of (own_logs v3) m ≡ in_of (own_logs v2) m = ap (λ (z : Logs Contents). in_of z m) (own v2 v3 l c.receive.ensures.released c.find_parcel.ensures.stays.seat.speaks) ∙ in_there (own_logs v2) l (taken_more (in_of (own_logs v2) l)) m ne in
+    let same : in_of (own_logs v3) m ≡ in_of (own_logs v2) m = ap (λ (z : Logs Contents). in_of z m) (own v2 v3 l c.receive.ensures.released c.find_parcel.ensures.left.stays.seat.speaks) ∙ in_there (own_logs v2) l (taken_more (in_of (own_logs v2) l)) m ne in
     subst (HeardWhere (is_due c.args.end.now.noted (in_of (own_logs v) l)) (in_of (own_logs v) m)) (sym same) (c.find_parcel.ensures.heard none m inside mine hop ne)
 
 pub returns-clause-looked : goal.returns-clause-looked
 returns-clause-looked g c none =
     let f = c.find_parcel.ensures in let v : Knowing = c.args.place.now.me.0 in let v2 : Knowing = c.find_parcel.new.place.me.0 in let v3 : Knowing = c.receive.new.place.me.0 in let l : ℕ = c.args.link in
     looked_then_taken c.args.end.now.noted (in_of (own_logs v) l) (in_of (own_logs v2) l) (in_of (own_logs v3) l)
-    (at v2 v3 l c.receive.ensures.released f.stays.seat.speaks (let w = f.others.long in let u = c.requires.reads.long in let h = c.requires.reads.at.below in omega arith)) (f.looked none)
+    (at v2 v3 l c.receive.ensures.released f.left.stays.seat.speaks (let w = f.left.others.long in let u = c.requires.reads.long in let h = c.requires.reads.at.below in omega arith)) (f.looked none)
+
+pub returns-then-listened-end-clause-unmarked : goal.returns-then-listened-end-clause-unmarked
+returns-then-listened-end-clause-unmarked g c _ =
+    let none = bit_unset c.args.ear.now.marks ((wiring c.args.top.now.key).bit c.args.link) c.args.wire.now.mask c.requires.reads.wire.mask_is c.if-ear-wire-eq0.true in
+    c.requires.reads.ear.marked c.args.link c.requires.reads.at.below c.requires.reads.at.own refl ∙ ap (λ (z : ℕ). eqb z 1) none
+
+pub returns-then-listened-end-clause-looked : goal.returns-then-listened-end-clause-looked
+returns-then-listened-end-clause-looked g c _ =
+    let i : InLog Contents = in_of (own_logs c.args.place.now.me.0) c.args.link in
+    let hs : c.args.ear.now.hears ≡ counted i.hears = c.requires.reads.ear.heard c.args.link c.requires.reads.at.below c.requires.reads.at.own refl in
+    let ks : c.args.end.now.look_ins ≡ counted i.look_ins = c.requires.reads.end.look_ins_is in
+    let none = bit_unset c.args.ear.now.marks ((wiring c.args.top.now.key).bit c.args.link) c.args.wire.now.mask c.requires.reads.wire.mask_is c.if-ear-wire-eq0.true in
+    let unmarked : i.marked ≡ false = c.requires.reads.ear.marked c.args.link c.requires.reads.at.below c.requires.reads.at.own refl ∙ ap (λ (z : ℕ). eqb z 1) none in
+    looked_for c.args.end.now.noted i i i i.seen
+    (heard_nowhere i i (is_due c.args.end.now.noted i) (not_due_listened c.args.end.now.noted i (let t = c.if-listened-end.true in let r = c.saturating_add-listened.ensures in omega arith)) refl)
+    (sym (unmarked_same i unmarked))
+
+pub returns-clause-noted : goal.returns-clause-noted
+returns-clause-noted g c =
+    let f = c.find_parcel.ensures in let v2 : Knowing = c.find_parcel.new.place.me.0 in let v3 : Knowing = c.receive.new.place.me.0 in let l : ℕ = c.args.link in
+    let i2 : InLog Contents = in_of (own_logs v2) l in
+    let a = at v2 v3 l c.receive.ensures.released f.left.stays.seat.speaks (let w = f.left.others.long in let u = c.requires.reads.long in let h = c.requires.reads.at.below in omega arith) in
+    let hs : c.find_parcel.new.ear.hears ≡ counted i2.hears = f.left.ear.heard l c.requires.reads.at.below c.requires.reads.at.own refl in
+    let ks : c.find_parcel.new.end.look_ins ≡ counted i2.look_ins = f.left.end.look_ins_is in
+    let noted : min (c.find_parcel.new.ear.hears + c.find_parcel.new.end.look_ins) (2 ^ 64 - 1) ≡ counted (i2.hears + i2.look_ins) = omega arith in
+    c.saturating_add-end-2.ensures ∙ noted ∙ sym (ap (λ (z : InLog Contents). counted (z.hears + z.look_ins)) a)

@@ -16,23 +16,23 @@ use Rattle.link_slots.proofs.seat.collect.find_parcel.Goals as goal
 pub look_if_marked-requires : goal.look_if_marked-requires
 look_if_marked-requires g c =
     let key : Shape = c.args.top.now.key in let h = c.hear_if_due.ensures in let m : Knowing = c.hear_if_due.new.place.me.0 in
-    let p : m.pick ≡ c.args.place.now.me.0.pick = ap (λ (z : Knowing). z.pick) h.here in (
+    let p : m.pick ≡ c.args.place.now.me.0.pick = ap (λ (z : Knowing). z.pick) h.left.here in (
       omega arith,
       (
         omega arith,
         (
           record {
             at = record {
-              here = h.stays.table ∙ c.requires.reads.at.here;
+              here = h.left.stays.table ∙ c.requires.reads.at.here;
               board = c.requires.reads.at.board;
-              manned = h.stays.seat;
+              manned = h.left.stays.seat;
               below = c.requires.reads.at.below;
               own = c.requires.reads.at.own ∙ sym p;
             };
-            long = h.others.long ∙ c.requires.reads.long;
-            end = h.end;
+            long = h.left.others.long ∙ c.requires.reads.long;
+            end = h.left.end;
             wire = c.requires.reads.wire;
-            ear = subst (λ (q : ℕ). IsHeard key q (hop_at key.dims c.args.link) (own_logs m) c.hear_if_due.new.ear.marks c.hear_if_due.new.ear.hears) (sym p) h.ear;
+            ear = subst (λ (q : ℕ). IsHeard key q (hop_at key.dims c.args.link) (own_logs m) c.hear_if_due.new.ear.marks c.hear_if_due.new.ear.hears) (sym p) h.left.ear;
           },
           (
             c.if-end-eq0.true,
@@ -42,18 +42,21 @@ look_if_marked-requires g c =
       ),
     )
 
-pub returns-then-end-eq0-clause-here : goal.returns-then-end-eq0-clause-here
-returns-then-end-eq0-clause-here g c =
-    let v : Knowing = c.args.place.now.me.0 in let v2 : Knowing = c.hear_if_due.new.place.me.0 in let v3 : Knowing = c.look_if_marked.new.place.me.0 in
-    c.look_if_marked.ensures.here ∙ ap (λ (z : Knowing). with_logs z (own_logs v3)) c.hear_if_due.ensures.here ∙ with_twice v (own_logs v2) (own_logs v3)
-
-pub returns-then-end-eq0-clause-others : goal.returns-then-end-eq0-clause-others
-returns-then-end-eq0-clause-others g c =
+pub returns-then-end-eq0-clause-left : goal.returns-then-end-eq0-clause-left
+returns-then-end-eq0-clause-left g c =
     let key : Shape = c.args.top.now.key in let v : Knowing = c.args.place.now.me.0 in let v2 : Knowing = c.hear_if_due.new.place.me.0 in let v3 : Knowing = c.look_if_marked.new.place.me.0 in
-    let p : v2.pick ≡ v.pick = ap (λ (z : Knowing). z.pick) c.hear_if_due.ensures.here in
-    else_kept key v.pick c.args.link (own_logs v) (own_logs v2) (own_logs v3) c.hear_if_due.ensures.others (subst (λ (q : ℕ). ElseKept key q c.args.link (own_logs v2) (own_logs v3)) p c.look_if_marked.ensures.others)
+    let p : v2.pick ≡ v.pick = ap (λ (z : Knowing). z.pick) c.hear_if_due.ensures.left.here in let two = c.look_if_marked.ensures.left in
+    record {
+      stays = record { table = two.stays.table ∙ c.hear_if_due.ensures.left.stays.table; seat = two.stays.seat };
+      end = two.end;
+      ear = subst (λ (q : ℕ). IsHeard key q (hop_at key.dims c.args.link) (own_logs v3) c.look_if_marked.new.ear.marks c.look_if_marked.new.ear.hears) p two.ear;
+      here = (let v : Knowing = c.args.place.now.me.0 in let v2 : Knowing = c.hear_if_due.new.place.me.0 in let v3 : Knowing = c.look_if_marked.new.place.me.0 in
+          c.look_if_marked.ensures.left.here ∙ ap (λ (z : Knowing). with_logs z (own_logs v3)) c.hear_if_due.ensures.left.here ∙ with_twice v (own_logs v2) (own_logs v3));
+      others = (let key : Shape = c.args.top.now.key in let v : Knowing = c.args.place.now.me.0 in let v2 : Knowing = c.hear_if_due.new.place.me.0 in let v3 : Knowing = c.look_if_marked.new.place.me.0 in
+          let p : v2.pick ≡ v.pick = ap (λ (z : Knowing). z.pick) c.hear_if_due.ensures.left.here in
+          else_kept key v.pick c.args.link (own_logs v) (own_logs v2) (own_logs v3) c.hear_if_due.ensures.left.others (subst (λ (q : ℕ). ElseKept key q c.args.link (own_logs v2) (own_logs v3)) p c.look_if_marked.ensures.left.others));
+    }
 
--- what the look in leaves of another link, and makes of this one
 pub returns-then-end-eq0-clause-heard : goal.returns-then-end-eq0-clause-heard
 returns-then-end-eq0-clause-heard g c none m inside mine hop ne =
     let v : Knowing = c.args.place.now.me.0 in let v2 : Knowing = c.hear_if_due.new.place.me.0 in let v3 : Knowing = c.look_if_marked.new.place.me.0 in let l : ℕ = c.args.link in
@@ -65,4 +68,4 @@ returns-then-end-eq0-clause-looked g c none =
     let v : Knowing = c.args.place.now.me.0 in let v2 : Knowing = c.hear_if_due.new.place.me.0 in let v3 : Knowing = c.look_if_marked.new.place.me.0 in let l : ℕ = c.args.link in
     let i : InLog Contents = looked_where_marked (in_of (own_logs v3) l).seen (in_of (own_logs v2) l) in
     looked_for c.args.end.now.noted (in_of (own_logs v) l) (in_of (own_logs v2) l) (in_of (own_logs v3) l) (in_of (own_logs v3) l).seen (c.hear_if_due.ensures.heard l c.requires.reads.at.below c.requires.reads.at.own refl)
-    (ap (λ (z : Logs Contents). in_of z l) c.look_if_marked.ensures.looked ∙ in_here (own_logs v2) l i (let w = c.hear_if_due.ensures.others.long in let u = c.requires.reads.long in let h = c.requires.reads.at.below in omega arith))
+    (ap (λ (z : Logs Contents). in_of z l) c.look_if_marked.ensures.looked ∙ in_here (own_logs v2) l i (let w = c.hear_if_due.ensures.left.others.long in let u = c.requires.reads.long in let h = c.requires.reads.at.below in omega arith))

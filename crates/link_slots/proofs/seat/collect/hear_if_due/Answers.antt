@@ -30,24 +30,23 @@ module _ (v v' : Knowing) (shape : Shape) (is : IsShape shape) (l n : ℕ) (e : 
   at : in_of (own_logs v') l ≡ heard_by (bit_at n ((wiring shape).bit l)) (in_of (own_logs v) l)
   at = ap (λ (z : Logs Contents). in_of z l) own ∙ heard_at shape is v.pick l inside mine (own_logs v) wide n l inside mine refl
 
-pub returns-then-saturating_add-end-clause-end : goal.returns-then-saturating_add-end-clause-end
-returns-then-saturating_add-end-clause-end g c =
-    let a = at c.args.place.now.me.0 c.hear.new.place.me.0 c.args.top.now.key c.requires.reads.at.board.shape c.args.link c.hear.result c.hear.ensures.heard c.requires.reads.at.manned.speaks c.requires.reads.at.below c.requires.reads.at.own c.requires.reads.long in
-    let h = ap (λ (i : InLog Contents). i.hears) a in
-    end_kept c.args.top.now.key.slots _ _ _ _ _ _ c.requires.reads.end (ap (λ (i : InLog Contents). i.seen) a) (ap (λ (i : InLog Contents). i.taken) a) (ap (λ (i : InLog Contents). i.look_ins) a) (omega arith)
-
-pub returns-then-saturating_add-end-clause-ear : goal.returns-then-saturating_add-end-clause-ear
-returns-then-saturating_add-end-clause-ear g c =
+pub returns-then-saturating_add-end-clause-left : goal.returns-then-saturating_add-end-clause-left
+returns-then-saturating_add-end-clause-left g c =
     let key : Shape = c.args.top.now.key in let v : Knowing = c.args.place.now.me.0 in
-    let o = own v c.hear.new.place.me.0 key c.requires.reads.at.board.shape c.args.link c.hear.result c.hear.ensures.heard c.requires.reads.at.manned.speaks c.requires.reads.at.below c.requires.reads.at.own c.requires.reads.long in
-    subst (λ (z : Logs Contents × ℕ). IsHeard key v.pick (hop_at key.dims c.args.link) z.0 (bit_or c.args.ear.now.marks c.hear.result) z.1) (λ k. (sym o k, sym c.saturating_add-ear.ensures k))
-    (heard_marks key c.requires.reads.at.board.shape v.pick c.args.link c.requires.reads.at.below c.requires.reads.at.own (own_logs v) c.requires.reads.long c.hear.result c.args.ear.now.marks c.args.ear.now.hears c.requires.reads.ear)
-
-pub returns-then-saturating_add-end-clause-others : goal.returns-then-saturating_add-end-clause-others
-returns-then-saturating_add-end-clause-others g c =
-    let key : Shape = c.args.top.now.key in let v : Knowing = c.args.place.now.me.0 in
-    let o = own v c.hear.new.place.me.0 key c.requires.reads.at.board.shape c.args.link c.hear.result c.hear.ensures.heard c.requires.reads.at.manned.speaks c.requires.reads.at.below c.requires.reads.at.own c.requires.reads.long in
-    subst (ElseKept key v.pick c.args.link (own_logs v)) (sym o) (heard_elsewhere key c.requires.reads.at.board.shape v.pick c.args.link c.requires.reads.at.below c.requires.reads.at.own (own_logs v) c.requires.reads.long c.hear.result)
+    record {
+      stays = c.hear.ensures.stays;
+      end = (let a = at c.args.place.now.me.0 c.hear.new.place.me.0 c.args.top.now.key c.requires.reads.at.board.shape c.args.link c.hear.result c.hear.ensures.heard c.requires.reads.at.manned.speaks c.requires.reads.at.below c.requires.reads.at.own c.requires.reads.long in
+          let h = ap (λ (i : InLog Contents). i.hears) a in
+          end_kept c.args.top.now.key.slots _ _ _ _ _ _ c.requires.reads.end (ap (λ (i : InLog Contents). i.seen) a) (ap (λ (i : InLog Contents). i.taken) a) (ap (λ (i : InLog Contents). i.look_ins) a) (omega arith));
+      ear = (let key : Shape = c.args.top.now.key in let v : Knowing = c.args.place.now.me.0 in
+          let o = own v c.hear.new.place.me.0 key c.requires.reads.at.board.shape c.args.link c.hear.result c.hear.ensures.heard c.requires.reads.at.manned.speaks c.requires.reads.at.below c.requires.reads.at.own c.requires.reads.long in
+          subst (λ (z : Logs Contents × ℕ). IsHeard key v.pick (hop_at key.dims c.args.link) z.0 (bit_or c.args.ear.now.marks c.hear.result) z.1) (λ k. (sym o k, sym c.saturating_add-ear.ensures k))
+          (heard_marks key c.requires.reads.at.board.shape v.pick c.args.link c.requires.reads.at.below c.requires.reads.at.own (own_logs v) c.requires.reads.long c.hear.result c.args.ear.now.marks c.args.ear.now.hears c.requires.reads.ear));
+      here = c.hear.ensures.heard ∙ ap (with_logs v) (sym (own v c.hear.new.place.me.0 key c.requires.reads.at.board.shape c.args.link c.hear.result c.hear.ensures.heard c.requires.reads.at.manned.speaks c.requires.reads.at.below c.requires.reads.at.own c.requires.reads.long));
+      others = (let key : Shape = c.args.top.now.key in let v : Knowing = c.args.place.now.me.0 in
+          let o = own v c.hear.new.place.me.0 key c.requires.reads.at.board.shape c.args.link c.hear.result c.hear.ensures.heard c.requires.reads.at.manned.speaks c.requires.reads.at.below c.requires.reads.at.own c.requires.reads.long in
+          subst (ElseKept key v.pick c.args.link (own_logs v)) (sym o) (heard_elsewhere key c.requires.reads.at.board.shape v.pick c.args.link c.requires.reads.at.below c.requires.reads.at.own (own_logs v) c.requires.reads.long c.hear.result));
+    }
 
 pub returns-then-saturating_add-end-clause-seen : goal.returns-then-saturating_add-end-clause-seen
 returns-then-saturating_add-end-clause-seen g c = ap (λ (i : InLog Contents). i.seen) (at c.args.place.now.me.0 c.hear.new.place.me.0 c.args.top.now.key c.requires.reads.at.board.shape c.args.link c.hear.result c.hear.ensures.heard c.requires.reads.at.manned.speaks c.requires.reads.at.below c.requires.reads.at.own c.requires.reads.long)

@@ -1,5 +1,5 @@
 -- The links of one rank, as contracts see them.
-use Rattle.std.specs.Prelude.{ℕ, Bool, false, ◌==◌, ◌&&◌, ◌||◌, not, length, slice_get, drop, Option, Some, None, ◌+◌, ◌-◌, ◌∷◌, ◌++◌, []}
+use Rattle.std.specs.Prelude.{◌≡◌, ℕ, Bool, true, false, ◌==◌, ◌&&◌, ◌||◌, not, ◌<◌, ◌≤◌, List, length, slice_get, slice_index_or, drop, Option, Some, None, ◌+◌, ◌-◌, ◌∷◌, ◌++◌, []}
 use Rattle.bale_types.specs.declared.item.Entry.{Entry}
 use Rattle.item_buffer.specs.Contents.{Contents, blank, skipped}
 
@@ -36,6 +36,14 @@ is_wanted i = is_empty i.parcel && not i.ended
 -- Whether nothing of this epoch is left to come over a link, nor to be read from its inbox.
 abbrev pub is_finished : In → Bool
 is_finished i = i.ended && is_empty i.parcel
+
+-- A search from link `from` on finds the lowest link whose inbox has an entry, and nothing only where none has.
+pub record FindsUnread (from : ℕ) (ins : List In) (found : Option ℕ) : Type 0 where
+  pub from_here : (r : ℕ) → found ≡ Some r → from ≤ r
+  pub within : (r : ℕ) → found ≡ Some r → r < length ins
+  pub some : (r : ℕ) → found ≡ Some r → is_empty (slice_index_or ins r no_in).parcel ≡ false
+  pub below : (r : ℕ) → found ≡ Some r → (i : ℕ) → from ≤ i → i < r → is_empty (slice_index_or ins i no_in).parcel ≡ true
+  pub none : found ≡ None → (i : ℕ) → from ≤ i → i < length ins → is_empty (slice_index_or ins i no_in).parcel ≡ true
 
 -- A parcel with one entry more.
 abbrev pub with_entry : Contents → Entry → Contents

@@ -1,10 +1,10 @@
 //! One link into a rank: the parcel that came over it and is being read.
 
-ghost use Rattle.std.specs.Prelude.{◌≡◌, ℕ, ◌+◌, ◌-◌, ◌^◌, ◌<◌, ◌≤◌, ◌==◌, ◌&&◌, length, sum, map, replicate, take, drop, slice_get, slice_index_or, true, false, Some, None, IsSome, IfOk};
+ghost use Rattle.std.specs.Prelude.{◌≡◌, ℕ, ◌+◌, ◌-◌, ◌^◌, ◌<◌, ◌≤◌, ◌==◌, length, sum, map, replicate, take, drop, slice_get, true, false, Some, None, IsSome, IfOk};
 ghost use Rattle.std.specs.List.{list_all};
 ghost use Rattle.item_buffer.specs.Capacity.{IsCap};
 ghost use Rattle.hop_core.specs.State.{ins_of_hop, resumed};
-ghost use Rattle.hop_core.specs.Link.{no_in, is_empty, is_wanted, is_finished, with_first_taken, with_back, read_on};
+ghost use Rattle.hop_core.specs.Link.{no_in, is_empty, FindsUnread, is_wanted, is_finished, with_first_taken, with_back, read_on};
 
 use bale_types::{Entry, NoMemory};
 use item_buffer::Parcel;
@@ -171,13 +171,7 @@ pub fn hop_finished<const CAP: usize>(routes: &Routes, links: &[InLink<CAP>], h:
 pub fn first_unread<const CAP: usize>(links: &[InLink<CAP>], from: u32) -> Option<u32>
     requires within { from ≤ length links.now }
     requires few { length links.now < 2 ^ 32 }
-    ensures from { (r : ℕ) → result ≡ Some r → from ≤ r }
-    ensures within { (r : ℕ) → result ≡ Some r → r < length links.now }
-    ensures some { (r : ℕ) → result ≡ Some r → is_empty (slice_index_or links.now r no_in).parcel ≡ false }
-    ensures below { (r : ℕ) → result ≡ Some r → (i : ℕ) → from ≤ i → i < r
-        → is_empty (slice_index_or links.now i no_in).parcel ≡ true }
-    ensures none { result ≡ None → (i : ℕ) → from ≤ i → i < length links.now
-        → is_empty (slice_index_or links.now i no_in).parcel ≡ true }
+    ensures { FindsUnread from links.now result }
 {
     if from as usize >= links.len() {
         return None;
@@ -192,13 +186,7 @@ pub fn first_unread<const CAP: usize>(links: &[InLink<CAP>], from: u32) -> Optio
 fn search_unread<const CAP: usize>(links: &[InLink<CAP>], from: u32) -> Option<u32>
     requires within { from ≤ length links.now }
     requires few { length links.now < 2 ^ 32 }
-    ensures from { (r : ℕ) → result ≡ Some r → from ≤ r }
-    ensures within { (r : ℕ) → result ≡ Some r → r < length links.now }
-    ensures some { (r : ℕ) → result ≡ Some r → is_empty (slice_index_or links.now r no_in).parcel ≡ false }
-    ensures below { (r : ℕ) → result ≡ Some r → (i : ℕ) → from ≤ i → i < r
-        → is_empty (slice_index_or links.now i no_in).parcel ≡ true }
-    ensures none { result ≡ None → (i : ℕ) → from ≤ i → i < length links.now
-        → is_empty (slice_index_or links.now i no_in).parcel ≡ true }
+    ensures { FindsUnread from links.now result }
 {
     for at in from..links.len() as u32 {
         if !links[at as usize].is_empty() {

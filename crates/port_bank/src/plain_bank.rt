@@ -1,13 +1,13 @@
 //! The plain bank: the links of all ranks on one thread.
-ghost use Rattle.std.specs.Prelude.{◌≡◌, ◌≢◌, ◌+◌, ◌<◌, ◌≤◌, length, IfOk, IsErr, Ok};
+ghost use Rattle.std.specs.Prelude.{◌≡◌, ◌≢◌, ◌+◌, ◌<◌, ◌≤◌, length, IfOk, Ok};
 ghost use Rattle.bale_types.specs.Stream.{RoseOrFull};
 ghost use Rattle.item_buffer.specs.Capacity.{IsCap};
 ghost use Rattle.item_buffer.specs.Contents.{shipped, arrived, blank};
 ghost use Rattle.route_tensor.specs.Grid.{ranks};
 ghost use Rattle.route_tensor.specs.Link.{links};
-ghost use Rattle.route_tensor.specs.Ends.{hop_at, sender_at};
+ghost use Rattle.route_tensor.specs.Ends.{sender_at};
 ghost use Rattle.port_bank.specs.Logs.{lasts, added, starting_at, ending_at};
-ghost use Rattle.port_bank.specs.Relay.{RelayLaw, HasFairTags};
+ghost use Rattle.port_bank.specs.Relay.{RelayLaw};
 ghost use Rattle.port_bank.specs.Port.{IsSlots};
 ghost use Rattle.port_bank.specs.Round.{IsRound};
 ghost use Rattle.port_bank.specs.Plain.{IsBank, DidPost, DidCollect, channel_at, sent_of, got_of, empty_bank, closed};

@@ -1,5 +1,5 @@
 -- What is kept of a rank at its bank.
-use Rattle.std.specs.Prelude.{◌≡◌, ℕ, Bool, true, false, length, Option, Some, None, is_some, List, []}
+use Rattle.std.specs.Prelude.{◌≡◌, ℕ, ◌<◌, Bool, true, false, length, slice_index_or, slice_set, Option, Some, None, is_some, List, [], Result, OnOk, OnErr}
 use Rattle.item_buffer.specs.Capacity.{IsCap}
 use Rattle.route_tensor.specs.Grid.{ranks}
 use Rattle.link_slots.specs.Shape.{nowhere}
@@ -53,6 +53,17 @@ pub record IsAtGather (bank : Bank) (gather : Gathering) (grid : List ℕ) : Typ
   pub id : gather.id ≡ bank.id
   pub shape : gather.shape ≡ bank.shape
   pub grid_is : grid ≡ bank.shape.dims
+
+-- A rank of the bank whose seat the gathering seat has still to give out, ..
+pub record HasSeatFor (bank : Bank) (gather : Gathering) (grid : List ℕ) (rank : ℕ) : Type 0 where
+  pub at_gather : IsAtGather bank gather grid
+  pub own : rank < ranks grid
+  pub here : slice_index_or gather.given rank true ≡ false
+
+-- .. and what it leaves of the gathering seat that it was given out. Without memory nothing is changed.
+pub record GaveSeat {T E : Type 0} (rank : ℕ) (old new : Gathering) (result : Result T E) : Type 0 where
+  pub gave : OnOk result (new ≡ record old { lists = slice_set old.lists rank None; given = slice_set old.given rank true })
+  pub unchanged : OnErr result (new ≡ old)
 
 -- A group: its ranks are those that the gathering seat has given out.
 pub record IsGroup (cap : ℕ) (bank : Bank) (gather : Gathering) (grid : List ℕ) (given : List Bool) : Type 0 where

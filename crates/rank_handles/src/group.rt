@@ -1,11 +1,11 @@
 //! A group: the bank that its ranks share, for one capacity, and the ranks that are still to be made.
-ghost use Rattle.std.specs.Prelude.{◌≡◌, None, ◌<◌, true, false, Ok, Err, IfOk, OnOk, OnErr, slice_index_or, slice_set};
+ghost use Rattle.std.specs.Prelude.{◌≡◌, ◌<◌, true, false, Ok, Err, IfOk, OnOk, OnErr};
 ghost use Rattle.std.specs.Arc.{arc_value};
 ghost use Rattle.item_buffer.specs.Capacity.{IsCap};
 ghost use Rattle.route_tensor.specs.Grid.{ranks};
 ghost use Rattle.port_bank.specs.Port.{IsSlots};
 ghost use Rattle.rank_handles.specs.Grouped.{Grouped, IsNewGroup, NewRank, IsNewRank, with_given, rank_answer};
-ghost use Rattle.rank_handles.specs.Kept.{IsAtGather};
+ghost use Rattle.rank_handles.specs.Kept.{HasSeatFor, GaveSeat};
 ghost use Rattle.rank_handles.specs.Cases.{seen_by_hops};
 
 use crate::answer::Answer;
@@ -121,15 +121,9 @@ fn case_of<const CAP: usize>(
     steady: bool,
 ) -> Result<HopsCase<CAP>, NoMemory>
     requires cap { IsCap CAP }
-    requires at_gather { IsAtGather (arc_value bank.now) gather.old grid.now }
-    requires rank { rank < ranks grid.now }
-    requires here { slice_index_or gather.old.given rank true ≡ false }
+    requires seat { HasSeatFor (arc_value bank.now) gather.old grid.now rank }
     ensures made { IfOk result (λ r. NewRank (arc_value bank.now) rank CAP steady (seen_by_hops r)) }
-    ensures gather { OnOk result (gather.new ≡ record gather.old {
-      lists = slice_set gather.old.lists rank None;
-      given = slice_set gather.old.given rank true;
-    }) }
-    ensures unchanged { OnErr result (gather.new ≡ gather.old) }
+    ensures gather { GaveSeat rank gather.old gather.new result }
 {
     match grid.hops() {
         1 => Ok(HopsCase::One(Rank::new(alloc, bank, gather, grid, rank, steady)?)),

@@ -1,5 +1,5 @@
 //! A rank at its bank: its seat and its conveyor, for one capacity and one number of hops.
-ghost use Rattle.std.specs.Prelude.{◌≡◌, ◌≢◌, ◌<◌, true, false, None, Some, length, IfOk, OnOk, OnErr, slice_index_or, slice_set};
+ghost use Rattle.std.specs.Prelude.{◌≡◌, ◌≢◌, ◌<◌, true, false, None, Some, length, IfOk};
 ghost use Rattle.std.specs.Arc.{arc_value};
 ghost use Rattle.item_buffer.specs.Capacity.{IsCap};
 ghost use Rattle.route_tensor.specs.Grid.{ranks};
@@ -9,7 +9,7 @@ ghost use Rattle.convey.specs.Buffers.{buffers_of, is_complete};
 ghost use Rattle.convey.specs.Parts.{part_of};
 ghost use Rattle.convey.specs.Progress.{progress_of, advance_step};
 ghost use Rattle.rank_handles.specs.Answers.{item_or_nothing};
-ghost use Rattle.rank_handles.specs.Kept.{IsAtBank, IsAtGather};
+ghost use Rattle.rank_handles.specs.Kept.{IsAtBank, HasSeatFor, GaveSeat};
 ghost use Rattle.rank_handles.specs.Grouped.{NewRank};
 
 use crate::answer::Answer;
@@ -62,15 +62,9 @@ impl<const CAP: usize, const HOPS: usize> Rank<CAP, HOPS> {
     ) -> Result<Rank<CAP, HOPS>, NoMemory>
         requires cap { IsCap CAP }
         requires hops { length grid.now ≡ HOPS }
-        requires at_gather { IsAtGather (arc_value bank.now) gather.old grid.now }
-        requires rank { rank < ranks grid.now }
-        requires here { slice_index_or gather.old.given rank true ≡ false }
+        requires seat { HasSeatFor (arc_value bank.now) gather.old grid.now rank }
         ensures made { IfOk result (λ r. NewRank (arc_value bank.now) rank CAP steady r) }
-        ensures gather { OnOk result (gather.new ≡ record gather.old {
-          lists = slice_set gather.old.lists rank None;
-          given = slice_set gather.old.given rank true;
-        }) }
-        ensures unchanged { OnErr result (gather.new ≡ gather.old) }
+        ensures gather { GaveSeat rank gather.old gather.new result }
     {
         let conveyor = Conveyor::new(alloc, grid, rank, steady)?;
         let Ok(bank) = Arc::try_clone(bank) else {

@@ -24,7 +24,7 @@ returns-in_default-clause-state g c =
 
 pub sender-requires-clause-last : goal.sender-requires-clause-last
 sender-requires-clause-last g c =
-    let sc = scan_of _ _ _ _ c.self.invariant.1.standing c.deref.ensures.value (c.first_unread.ensures.from _ c.in-Some.is) (let w = c.first_unread.ensures.within _ c.in-Some.is in omega (arith, w)) (c.first_unread.ensures.below _ c.in-Some.is) (λ _. c.first_unread.ensures.some _ c.in-Some.is) in
+    let sc = scan_of _ _ _ _ c.self.invariant.1.standing c.deref.ensures.value (c.first_unread.ensures.from_here _ c.in-Some.is) (let w = c.first_unread.ensures.within _ c.in-Some.is in omega (arith, w)) (c.first_unread.ensures.below _ c.in-Some.is) (λ _. c.first_unread.ensures.some _ c.in-Some.is) in
     let q : c.in-Some.from < sum c.self.inside.routes.dims = omega (arith, c.first_unread.ensures.within _ c.in-Some.is, ap length c.deref.ensures.value, c.self.invariant.1.standing.all_ins) in
     let head : slice_get c.index_mut.result.now.parcel.untaken 0 ≡ Some c.in_ok-entry.entry = sym c.take.ensures.value ∙ c.in_ok-entry.was in
     let wrote = c.take.ensures.taken (ap is_some c.in_ok-entry.was) in
@@ -33,7 +33,7 @@ sender-requires-clause-last g c =
 
 pub sender-requires-clause-fair : goal.sender-requires-clause-fair
 sender-requires-clause-fair g c =
-    let sc = scan_of _ _ _ _ c.self.invariant.1.standing c.deref.ensures.value (c.first_unread.ensures.from _ c.in-Some.is) (let w = c.first_unread.ensures.within _ c.in-Some.is in omega (arith, w)) (c.first_unread.ensures.below _ c.in-Some.is) (λ _. c.first_unread.ensures.some _ c.in-Some.is) in
+    let sc = scan_of _ _ _ _ c.self.invariant.1.standing c.deref.ensures.value (c.first_unread.ensures.from_here _ c.in-Some.is) (let w = c.first_unread.ensures.within _ c.in-Some.is in omega (arith, w)) (c.first_unread.ensures.below _ c.in-Some.is) (λ _. c.first_unread.ensures.some _ c.in-Some.is) in
     let q : c.in-Some.from < sum c.self.inside.routes.dims = omega (arith, c.first_unread.ensures.within _ c.in-Some.is, ap length c.deref.ensures.value, c.self.invariant.1.standing.all_ins) in
     let head : slice_get c.index_mut.result.now.parcel.untaken 0 ≡ Some c.in_ok-entry.entry = sym c.take.ensures.value ∙ c.in_ok-entry.was in
     let wrote = c.take.ensures.taken (ap is_some c.in_ok-entry.was) in
@@ -42,7 +42,7 @@ sender-requires-clause-fair g c =
 
 pub invariant_of-self-2 : goal.invariant_of-self-2
 invariant_of-self-2 g c =
-    let sc = scan_of _ _ _ _ c.self.invariant.1.standing c.deref.ensures.value (c.first_unread.ensures.from _ c.in-Some.is) (let w = c.first_unread.ensures.within _ c.in-Some.is in omega (arith, w)) (c.first_unread.ensures.below _ c.in-Some.is) (λ _. c.first_unread.ensures.some _ c.in-Some.is) in
+    let sc = scan_of _ _ _ _ c.self.invariant.1.standing c.deref.ensures.value (c.first_unread.ensures.from_here _ c.in-Some.is) (let w = c.first_unread.ensures.within _ c.in-Some.is in omega (arith, w)) (c.first_unread.ensures.below _ c.in-Some.is) (λ _. c.first_unread.ensures.some _ c.in-Some.is) in
     let q : c.in-Some.from < sum c.self.inside.routes.dims = omega (arith, c.first_unread.ensures.within _ c.in-Some.is, ap length c.deref.ensures.value, c.self.invariant.1.standing.all_ins) in
     let head : slice_get c.index_mut.result.now.parcel.untaken 0 ≡ Some c.in_ok-entry.entry = sym c.take.ensures.value ∙ c.in_ok-entry.was in
     let wrote = c.take.ensures.taken (ap is_some c.in_ok-entry.was) in
@@ -51,7 +51,7 @@ invariant_of-self-2 g c =
 
 pub returns-clause-value : goal.returns-clause-value
 returns-clause-value g c =
-    let sc = scan_of _ _ _ _ c.self.invariant.1.standing c.deref.ensures.value (c.first_unread.ensures.from _ c.in-Some.is) (let w = c.first_unread.ensures.within _ c.in-Some.is in omega (arith, w)) (c.first_unread.ensures.below _ c.in-Some.is) (λ _. c.first_unread.ensures.some _ c.in-Some.is) in
+    let sc = scan_of _ _ _ _ c.self.invariant.1.standing c.deref.ensures.value (c.first_unread.ensures.from_here _ c.in-Some.is) (let w = c.first_unread.ensures.within _ c.in-Some.is in omega (arith, w)) (c.first_unread.ensures.below _ c.in-Some.is) (λ _. c.first_unread.ensures.some _ c.in-Some.is) in
     let q : c.in-Some.from < sum c.self.inside.routes.dims = omega (arith, c.first_unread.ensures.within _ c.in-Some.is, ap length c.deref.ensures.value, c.self.invariant.1.standing.all_ins) in
     let head : slice_get c.index_mut.result.now.parcel.untaken 0 ≡ Some c.in_ok-entry.entry = sym c.take.ensures.value ∙ c.in_ok-entry.was in
     let wrote = c.take.ensures.taken (ap is_some c.in_ok-entry.was) in
@@ -60,7 +60,7 @@ returns-clause-value g c =
 
 pub returns-clause-state : goal.returns-clause-state
 returns-clause-state g c =
-    let sc = scan_of _ _ _ _ c.self.invariant.1.standing c.deref.ensures.value (c.first_unread.ensures.from _ c.in-Some.is) (let w = c.first_unread.ensures.within _ c.in-Some.is in omega (arith, w)) (c.first_unread.ensures.below _ c.in-Some.is) (λ _. c.first_unread.ensures.some _ c.in-Some.is) in
+    let sc = scan_of _ _ _ _ c.self.invariant.1.standing c.deref.ensures.value (c.first_unread.ensures.from_here _ c.in-Some.is) (let w = c.first_unread.ensures.within _ c.in-Some.is in omega (arith, w)) (c.first_unread.ensures.below _ c.in-Some.is) (λ _. c.first_unread.ensures.some _ c.in-Some.is) in
     let q : c.in-Some.from < sum c.self.inside.routes.dims = omega (arith, c.first_unread.ensures.within _ c.in-Some.is, ap length c.deref.ensures.value, c.self.invariant.1.standing.all_ins) in
     let head : slice_get c.index_mut.result.now.parcel.untaken 0 ≡ Some c.in_ok-entry.entry = sym c.take.ensures.value ∙ c.in_ok-entry.was in
     let wrote = c.take.ensures.taken (ap is_some c.in_ok-entry.was) in

@@ -12,12 +12,12 @@ first_unread-requires g c =
 
 pub invariant_of-self : goal.invariant_of-self
 invariant_of-self g c =
-    let sc = scan_of _ _ _ _ c.self.invariant.1.standing c.deref.ensures.value (c.first_unread.ensures.from _ c.in-Some.is) (let w = c.first_unread.ensures.within _ c.in-Some.is in omega (arith, w)) (c.first_unread.ensures.below _ c.in-Some.is) (λ _. c.first_unread.ensures.some _ c.in-Some.is) in
+    let sc = scan_of _ _ _ _ c.self.invariant.1.standing c.deref.ensures.value (c.first_unread.ensures.from_here _ c.in-Some.is) (let w = c.first_unread.ensures.within _ c.in-Some.is in omega (arith, w)) (c.first_unread.ensures.below _ c.in-Some.is) (λ _. c.first_unread.ensures.some _ c.in-Some.is) in
     (c.self.invariant.0, none_kept _ _ _ _ _ _ c.self.invariant.1 sc.low sc.high sc.none)
 
 pub returns-in-Some-clause-value : goal.returns-in-Some-clause-value
 returns-in-Some-clause-value g c =
-    let sc = scan_of _ _ _ _ c.self.invariant.1.standing c.deref.ensures.value (c.first_unread.ensures.from _ c.in-Some.is) (let w = c.first_unread.ensures.within _ c.in-Some.is in omega (arith, w)) (c.first_unread.ensures.below _ c.in-Some.is) (λ _. c.first_unread.ensures.some _ c.in-Some.is) in
+    let sc = scan_of _ _ _ _ c.self.invariant.1.standing c.deref.ensures.value (c.first_unread.ensures.from_here _ c.in-Some.is) (let w = c.first_unread.ensures.within _ c.in-Some.is in omega (arith, w)) (c.first_unread.ensures.below _ c.in-Some.is) (λ _. c.first_unread.ensures.some _ c.in-Some.is) in
     let q : c.in-Some.number < sum c.self.inside.routes.dims = omega (arith, c.first_unread.ensures.within _ c.in-Some.is, ap length c.deref.ensures.value, c.self.invariant.1.standing.all_ins) in
     sym (scan_some _ _ _ _ _ _ c.self.invariant.1 sc q) ∙ ap lowest_unread c.self.view_is
 

@@ -16,7 +16,7 @@ invariant_of-result g c =
       there = refl;
       at_bank = subst (λ (b : Bank). Rattle.rank_handles.specs.Kept.IsAtBank b c.seat-seat.result c.in_ok-conveyor.conveyor) there
           (seated_at c.deref.result.now c.args.grid.now c.args.rank g.row.CAP c.args.steady c.seat-seat.result c.in_ok-conveyor.conveyor
-          (c.requires.at_gather.grid_is ∙ ap (λ (b : Bank). b.shape.dims) given) (ap (λ (m : Manning). m.id) seat) (ap (λ (m : Manning). m.shape) seat) (ap (λ (m : Manning). m.rank) seat)
+          (c.requires.seat.at_gather.grid_is ∙ ap (λ (b : Bank). b.shape.dims) given) (ap (λ (m : Manning). m.id) seat) (ap (λ (m : Manning). m.shape) seat) (ap (λ (m : Manning). m.rank) seat)
           (ap (λ (m : Manning). m.lists) seat) is c.in_ok-conveyor.ensures.agrees);
       count_is = c.ranks.ensures.value ∙ ap ranks (sym (ap (λ (z : State). z.dims) is));
       epoch_is = sym (ap (λ (z : State). z.epoch) is);
@@ -29,5 +29,5 @@ returns-clause-made g c =
     let given : arc_value c.args.bank.now ≡ c.deref.result.now = sym (there ∙ c.in-Ok.ensures) in
     subst (λ (b : Bank). NewRank b c.args.rank g.row.CAP c.args.steady (at c.seat-seat.result c.in_ok-conveyor.conveyor)) (sym given)
     (new_at c.deref.result.now c.args.grid.now c.args.rank g.row.CAP c.args.steady c.seat-seat.result c.in_ok-conveyor.conveyor
-    (c.requires.at_gather.grid_is ∙ ap (λ (b : Bank). b.shape.dims) given) (ap (λ (m : Manning). m.id) seat) (ap (λ (m : Manning). m.shape) seat) (ap (λ (m : Manning). m.rank) seat)
+    (c.requires.seat.at_gather.grid_is ∙ ap (λ (b : Bank). b.shape.dims) given) (ap (λ (m : Manning). m.id) seat) (ap (λ (m : Manning). m.shape) seat) (ap (λ (m : Manning). m.rank) seat)
     (ap (λ (m : Manning). m.lists) seat) is c.in_ok-conveyor.ensures.agrees)

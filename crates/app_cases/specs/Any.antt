@@ -17,7 +17,8 @@ use Rattle.delta_step.specs.Deltas.{DeltaState, delta_rules}
 use Rattle.elastic.specs.Mails.{MailState, mail_rules}
 use Rattle.app_tally.specs.Tallies.{TallyState, tally_rules}
 
--- A rank of one of the applications. ig is there twice: whole, and its sums alone, as it begins where ranks then ask each other.
+-- A rank of one of the applications. ig is there twice: whole, and its sums alone, as it begins
+-- where ranks then ask each other.
 -- topo and tally, in its mailer, are those that put things in order.
 abbrev pub GatherState : Type 0
 GatherState = Either IgState SumsState
@@ -68,8 +69,8 @@ other_rules = either_rules move_rules last_rules
 abbrev pub any_rules : Rules AnyState
 any_rules = either_rules column_rules other_rules
 
--- A program's way into another: its states as states of the other, and its runs' shapes as shapes there. A run of the other is then the
--- program's own run.
+-- A program's way into another: its states as states of the other, and its runs' shapes as shapes
+-- there. A run of the other is then the program's own run.
 -- of transpose into any: the state s becomes Right (Left (Right s)), and before the shape 1, 0, 1 are written
 pub record Way {S T : Type 0} (R : Rules S) (Q : Rules T) : Type 0 where
   pub case : S → T
@@ -84,7 +85,11 @@ right R Q = record { case = Right; shape = λ shape. 1 ∷ shape; is_case = righ
 
 -- One way, and then another.
 abbrev pub then : {S T U : Type 0} {P : Rules S} {Q : Rules T} {R : Rules U} → Way P Q → Way Q R → Way P R
-then v w = record { case = λ s. w.case (v.case s); shape = λ shape. w.shape (v.shape shape); is_case = case_of_case v.is_case w.is_case }
+then v w = record {
+  case = λ s. w.case (v.case s);
+  shape = λ shape. w.shape (v.shape shape);
+  is_case = case_of_case v.is_case w.is_case;
+}
 
 abbrev pub column_way : Way column_rules any_rules
 column_way = left column_rules other_rules

@@ -18,14 +18,15 @@ asker_from s =
       answers = replicate (length s.values) 0;
     }
 
--- A rank that asks, for each of its entries in order, the column's owner for the column, has a place for each reply, and knows the
--- sums of its own columns.
+-- A rank that asks, for each of its entries in order, the column's owner for the column, has a
+-- place for each reply, and knows the sums of its own columns.
 pub record IsAskerOf (m : Sparse) (ranks rank : ℕ) (s : AskingState) : Type 0 where
   pub own_rank : s.rank ≡ rank
   pub all_ranks : s.ranks ≡ ranks
   pub places : length s.answers ≡ length s.queries
   pub asks : s.queries ≡ map (λ e. (column_owner ranks e, e.1.j)) (own_entries ranks rank m.entries)
-  pub knows : (j : ℕ) → j < m.cols → j % ranks ≡ rank → from_twos_complement (slice_index_or s.sums (j / ranks) 0) ≡ column_sum j m.entries
+  pub knows : (j : ℕ) → j < m.cols → j % ranks ≡ rank
+      → from_twos_complement (slice_index_or s.sums (j / ranks) 0) ≡ column_sum j m.entries
 
 -- The askers of all ranks, in order.
 pub record AreAskersOf (m : Sparse) (ranks : ℕ) (askers : List AskingState) : Type 0 where

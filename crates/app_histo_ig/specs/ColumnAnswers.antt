@@ -16,8 +16,10 @@ word_for answers e = slice_index_or (slice_index_or answers (e % length answers)
 -- Each entry's rank has the sum of the entry's column.
 pub record HaveSums (entries : List Triple) (answers : List (List ℕ)) : Type 0 where
   pub some : 0 < length answers
-  pub place : (e : ℕ) → e < length entries → e / length answers < length (slice_index_or answers (e % length answers) [])
-  pub word : (e : ℕ) (t : Triple) → slice_get entries e ≡ Some t → from_twos_complement (word_for answers e) ≡ column_sum t.j entries
+  pub place : (e : ℕ) → e < length entries
+      → e / length answers < length (slice_index_or answers (e % length answers) [])
+  pub word : (e : ℕ) (t : Triple) → slice_get entries e ≡ Some t
+      → from_twos_complement (word_for answers e) ≡ column_sum t.j entries
 
 -- The askers of a matrix after each has heard, for each of its entries, the answer of the rank asked.
 pub record IgHeard (m : Sparse) (askers : List AskingState) : Type 0 where

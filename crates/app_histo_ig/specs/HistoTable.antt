@@ -10,7 +10,8 @@ use Rattle.sparse_rows.specs.Emits.{item, Emit}
 
 -- A one for each own entry, to the owner of its column.
 -- for each own entry (i,j,v) in order: to j mod ranks, (j,1,0)
--- of (0,0), (0,2), (1,2), (2,1) on 2 ranks: rank 0 emits (0,1,0) and (2,1,0) to rank 0, rank 1 emits (2,1,0) to rank 0, (1,1,0) to rank 1
+-- of (0,0), (0,2), (1,2), (2,1) on 2 ranks: rank 0 emits (0,1,0) and (2,1,0) to rank 0, rank 1
+-- emits (2,1,0) to rank 0, (1,1,0) to rank 1
 abbrev pub ones : ℕ → Sparse → ℕ → List (ℕ × Item)
 ones ranks m r = map (λ e. (e.1.j % ranks, item e.1.j 1 0)) (own_entries ranks r m.entries)
 

@@ -1,5 +1,7 @@
 -- histo, as a program in one round.
-use Rattle.std.specs.Prelude.{ℕ, ◌+◌, ◌-◌, ◌%◌, ◌^◌, ◌<◌, ◌≡◌, ◌==◌, ◌&&◌, nat_lt, min, Bool, false, List, [], ◌∷◌, map, cond, length}
+use Rattle.std.specs.Prelude.{ℕ, ◌+◌, ◌-◌, ◌%◌, ◌^◌, ◌<◌, ◌≡◌, ◌==◌, ◌&&◌, nat_lt, min, Bool, false, List, [], ◌∷◌, map}
+use Rattle.std.specs.Prelude.{if◌then◌else◌}
+use Rattle.std.specs.Prelude.{length, if◌then◌else◌}
 use Rattle.std.specs.List.{All}
 use Rattle.bale_types.specs.declared.Item.{Item}
 use Rattle.round_program.specs.Rules.{Rules}
@@ -35,7 +37,8 @@ to_column ranks j = (j % ranks, counted_item j)
 
 -- in round 0 an owner may be sent its columns
 abbrev pub may_count : List ℕ → ℕ → ℕ → ℕ → ℕ → Item → Bool
-may_count (cols ∷ []) ranks round to from x = round == 0 && nat_lt from ranks && nat_lt x.a cols && x.a % ranks == to && is_item x
+may_count (cols ∷ []) ranks round to from x =
+    round == 0 && nat_lt from ranks && nat_lt x.a cols && x.a % ranks == to && is_item x
 may_count shape ranks round to from x = false
 
 abbrev pub histo_rules : Rules HistoState
@@ -47,7 +50,7 @@ histo_rules =
       round = λ s. s.round;
       shape = λ s. s.cols ∷ [];
       most = λ s. 1;
-      emissions = λ s. cond (s.round == 0) (map (to_column s.ranks) s.columns) [];
+      emissions = λ s. if s.round == 0 then map (to_column s.ranks) s.columns else [];
       may_be_sent = may_count;
       absorbed = λ s from x. record s { counts = risen s.ranks s.counts x };
       vote = λ s. 0;

@@ -16,7 +16,8 @@ use Rattle.sparse_rows.specs.Emits.{item, Emit}
 
 -- Round 0: the value of each own entry, to the owner of its column.
 -- for each own entry (i,j,v) in order: to j mod ranks, (j, bits of v, 0)
--- of (0,0,5), (0,2,-7), (1,0,4) on 2 ranks: rank 0 emits (0,5,0) and then (0,4,0) to rank 0, rank 1 emits (2, 2^64 - 7, 0) to rank 0
+-- of (0,0,5), (0,2,-7), (1,0,4) on 2 ranks: rank 0 emits (0,5,0) and then (0,4,0) to rank 0, rank 1
+-- emits (2, 2^64 - 7, 0) to rank 0
 abbrev pub values : ℕ → Sparse → ℕ → List (ℕ × Item)
 values ranks m r = map (λ e. (e.1.j % ranks, item e.1.j (twos_complement e.1.v) 0)) (own_entries ranks r m.entries)
 
@@ -27,11 +28,14 @@ abbrev pub queries : ℕ → Sparse → ℕ → List (ℕ × Item)
 queries ranks m r = map (λ e. (e.1.j % ranks, item e.1.j e.0 0)) (own_entries ranks r m.entries)
 
 -- Round 2: the sum of the column for each query that came, to the rank that asked.
--- for each rank f from 0 on and each entry of f in an own column j, in order, with its number e: to f, (e, bits of the sum of j, 0)
--- of the same: rank 0 emits (0,9,0) and then (2,9,0) to rank 0, and then (1, 2^64 - 7, 0) to rank 1; rank 1 emits nothing
+-- for each rank f from 0 on and each entry of f in an own column j, in order, with its number e: to
+-- f, (e, bits of the sum of j, 0)
+-- of the same: rank 0 emits (0,9,0) and then (2,9,0) to rank 0, and then (1, 2^64 - 7, 0) to rank
+-- 1; rank 1 emits nothing
 abbrev pub replies : ℕ → Sparse → ℕ → List (ℕ × Item)
 replies ranks m r =
-    flat_map (λ f. map (λ e. (f, item e.0 (twos_complement (column_sum e.1.j m.entries)) 0)) (dealt (column_owner ranks) r (own_entries ranks f m.entries)))
+    flat_map (λ f. map (λ e. (f, item e.0 (twos_complement (column_sum e.1.j m.entries)) 0))
+    (dealt (column_owner ranks) r (own_entries ranks f m.entries)))
     (range_with_len 0 ranks)
 
 -- ig has three rounds: values, queries and replies.

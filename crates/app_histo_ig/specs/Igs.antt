@@ -1,5 +1,7 @@
 -- ig, as a program in three rounds: sums, queries and replies.
-use Rattle.std.specs.Prelude.{ℕ, suc, ◌+◌, ◌-◌, ◌%◌, ◌/◌, ◌^◌, ◌<◌, ◌≡◌, ◌==◌, ◌&&◌, ◌||◌, nat_lt, min, max, Bool, true, false, List, [], ◌∷◌, ◌++◌, map, cond, length, slice_index_or}
+use Rattle.std.specs.Prelude.{ℕ, suc, ◌+◌, ◌-◌, ◌%◌, ◌/◌, ◌^◌, ◌<◌, ◌≡◌, ◌==◌, ◌&&◌, ◌||◌, nat_lt, min, max, Bool, true}
+use Rattle.std.specs.Prelude.{if◌then◌else◌}
+use Rattle.std.specs.Prelude.{false, List, [], ◌∷◌, ◌++◌, map, length, slice_index_or, if◌then◌else◌}
 use Rattle.std.specs.List.{All}
 use Rattle.bale_types.specs.declared.Item.{Item}
 use Rattle.bale_types.specs.Bits.{twos_complement}
@@ -61,7 +63,8 @@ answered ranks answers x = changed_at answers (x.a / ranks) 0 (λ v. max v x.b)
 
 -- in rounds 0 and 1 an owner may be sent its columns, and later any rank any reply
 abbrev pub may_ig : List ℕ → ℕ → ℕ → ℕ → ℕ → Item → Bool
-may_ig (cols ∷ []) ranks round to from x = nat_lt from ranks && nat_lt to ranks && (nat_lt 1 round || (nat_lt x.a cols && x.a % ranks == to)) && is_item x
+may_ig (cols ∷ []) ranks round to from x =
+    nat_lt from ranks && nat_lt to ranks && (nat_lt 1 round || (nat_lt x.a cols && x.a % ranks == to)) && is_item x
 may_ig shape ranks round to from x = false
 
 -- each own entry stands in a column, there is a place for each own column, and what is sent fits
@@ -77,7 +80,9 @@ pub record IsIg (s : IgState) : Type 0 where
 
 -- what is sent after this round: queries after round 0, replies after round 1, and then nothing
 abbrev pub next_outgoing : IgState → List (ℕ × Item)
-next_outgoing s = cond (s.round == 0) (map (to_ask s.ranks) s.own) (cond (s.round == 1) (replies_from s.ranks s.sums 0 s.queries) [])
+next_outgoing s =
+    if s.round == 0 then map (to_ask s.ranks) s.own else if s.round == 1 then replies_from s.ranks s.sums 0 s.queries
+    else []
 
 abbrev pub ig_rules : Rules IgState
 ig_rules =
@@ -91,9 +96,9 @@ ig_rules =
       emissions = λ s. s.outgoing;
       may_be_sent = may_ig;
       absorbed = λ s from x. record s {
-        sums = cond (s.round == 0) (risen s.ranks s.sums x) s.sums;
-        queries = cond (s.round == 1) (noted s.queries from x) s.queries;
-        answers = cond (nat_lt 1 s.round) (answered s.ranks s.answers x) s.answers;
+        sums = if s.round == 0 then risen s.ranks s.sums x else s.sums;
+        queries = if s.round == 1 then noted s.queries from x else s.queries;
+        answers = if nat_lt 1 s.round then answered s.ranks s.answers x else s.answers;
       };
       vote = λ s. 0;
       goes_on = λ shape round votes. nat_lt round 2;

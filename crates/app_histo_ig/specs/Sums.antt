@@ -1,5 +1,5 @@
 -- The sums of columns, as a program in one round: ig's first round alone.
-use Rattle.std.specs.Prelude.{ℕ, ◌+◌, ◌-◌, ◌^◌, ◌<◌, ◌≡◌, ◌==◌, min, true, false, List, [], ◌∷◌, cond, length}
+use Rattle.std.specs.Prelude.{ℕ, ◌+◌, ◌-◌, ◌^◌, ◌<◌, ◌≡◌, ◌==◌, min, true, false, List, [], ◌∷◌, length, if◌then◌else◌}
 use Rattle.std.specs.List.{All}
 use Rattle.bale_types.specs.declared.Item.{Item}
 use Rattle.round_program.specs.Rules.{Rules}
@@ -36,7 +36,7 @@ sums_rules =
       round = λ s. s.round;
       shape = λ s. s.cols ∷ [];
       most = λ s. 1;
-      emissions = λ s. cond (s.round == 0) s.values [];
+      emissions = λ s. if s.round == 0 then s.values else [];
       may_be_sent = may_count;
       absorbed = λ s from x. record s { sums = risen s.ranks s.sums x };
       vote = λ s. 0;

@@ -16,4 +16,5 @@ cell_of x = record { i = x.a; j = x.b; v = from_twos_complement x.c }
 
 -- The owner of a row may be sent cells of it.
 abbrev pub may_cell : ℕ → ℕ → ℕ → ℕ → ℕ → Item → Bool
-may_cell rows cols ranks to from x = nat_lt from ranks && nat_lt x.a rows && nat_lt x.b cols && x.a % ranks == to && is_item x
+may_cell rows cols ranks to from x =
+    nat_lt from ranks && nat_lt x.a rows && nat_lt x.b cols && x.a % ranks == to && is_item x

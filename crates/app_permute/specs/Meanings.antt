@@ -16,8 +16,9 @@ pub record ComesFrom (p q : List ℕ) (m : Sparse) (k l : ℕ) (v : ℤ) : Type 
   pub col : number_in q j ≡ l
   pub value : at m i j ≡ Some v
 
--- The bytes are the text of a matrix B with B(p(i), q(j)) = A(i,j) and nothing else, where p and q are permutations of the rows and the
--- columns. Its entries, by row and then column, are a finite map: each place comes once.
+-- The bytes are the text of a matrix B with B(p(i), q(j)) = A(i,j) and nothing else, where p and q
+-- are permutations of the rows and the columns. Its entries, by row and then column, are a finite
+-- map: each place comes once.
 -- of 3 rows and columns with (0,1,9), p = 1, 2, 0 and q = 2, 0, 1: the text of the matrix with (1,0,9)
 pub record PermuteMeans (p q : List ℕ) (m : Sparse) (bytes : List ℕ) : Type 0 where
   pub matrix : Sparse
@@ -28,8 +29,8 @@ pub record PermuteMeans (p q : List ℕ) (m : Sparse) (bytes : List ℕ) : Type 
   pub nothing_else : (k l : ℕ) (v : ℤ) → at matrix k l ≡ Some v → ComesFrom p q m k l v
   pub agrees : Agree matrix
 
--- The bytes are the text of a matrix B with B(j,i) = A(i,j) for all i and j, so with nothing else. Its entries, by row and then column,
--- are a finite map.
+-- The bytes are the text of a matrix B with B(j,i) = A(i,j) for all i and j, so with nothing else.
+-- Its entries, by row and then column, are a finite map.
 -- of 2 rows and 3 columns with (0,2,-7), (1,0,4): the text of 3 rows and 2 columns with (0,1,4), (2,0,-7)
 pub record TransposeMeans (m : Sparse) (bytes : List ℕ) : Type 0 where
   pub matrix : Sparse

@@ -16,7 +16,8 @@ use Rattle.sparse_rows.specs.Emits.{item, Emit}
 
 -- Round 0: each own entry, to the owner of its row.
 -- for each own entry (i,j,v) in order: to i mod ranks, (i, j, bits of v)
--- of 3 rows and columns with (0,1,9), (1,2,4) on 2 ranks: rank 0 emits (0,1,9) to rank 0, rank 1 emits (1,2,4) to rank 1
+-- of 3 rows and columns with (0,1,9), (1,2,4) on 2 ranks: rank 0 emits (0,1,9) to rank 0, rank 1
+-- emits (1,2,4) to rank 1
 abbrev pub to_rows : ℕ → Sparse → ℕ → List (ℕ × Item)
 to_rows ranks m r = map (λ e. (e.1.i % ranks, item e.1.i e.1.j (twos_complement e.1.v))) (own_entries ranks r m.entries)
 
@@ -24,7 +25,9 @@ to_rows ranks m r = map (λ e. (e.1.i % ranks, item e.1.i e.1.j (twos_complement
 -- for each (i,j,v) in an own row i, by row and then column: to j mod ranks, (p(i), j, bits of v)
 -- of the same with p = 1, 2, 0: rank 0 emits (1,1,9) to rank 1, rank 1 emits (2,2,4) to rank 0
 abbrev pub to_columns : ℕ → Sparse → List ℕ → ℕ → List (ℕ × Item)
-to_columns ranks m p r = map (λ t. (t.j % ranks, item (number_in p t.i) t.j (twos_complement t.v))) (dealt (λ t. t.i % ranks) r (gathered m.entries))
+to_columns ranks m p r =
+    map (λ t. (t.j % ranks, item (number_in p t.i) t.j (twos_complement t.v)))
+    (dealt (λ t. t.i % ranks) r (gathered m.entries))
 
 -- The entries as (column, new row), by column and then new row.
 -- of the same: (1,1,9), (2,2,4)
@@ -35,7 +38,9 @@ columns_first p m = gathered (map (λ t. record { i = t.j; j = number_in p t.i; 
 -- for each (i,j,v) in an own column j, by column and then new row: to p(i) mod ranks, (p(i), q(j), bits of v)
 -- of the same with q = 2, 0, 1: rank 0 emits (2,1,4) to rank 0, rank 1 emits (1,0,9) to rank 1
 abbrev pub to_new_rows : ℕ → Sparse → List ℕ → List ℕ → ℕ → List (ℕ × Item)
-to_new_rows ranks m p q r = map (λ t. (t.j % ranks, item t.j (number_in q t.i) (twos_complement t.v))) (dealt (λ t. t.i % ranks) r (columns_first p m))
+to_new_rows ranks m p q r =
+    map (λ t. (t.j % ranks, item t.j (number_in q t.i) (twos_complement t.v)))
+    (dealt (λ t. t.i % ranks) r (columns_first p m))
 
 -- permute has three rounds: to the owners of rows, of columns and of new rows.
 pub record HasPermuteRounds (ranks : ℕ) (m : Sparse) (p q : List ℕ) : Type 0 where
@@ -45,4 +50,5 @@ pub record HasPermuteRounds (ranks : ℕ) (m : Sparse) (p q : List ℕ) : Type 0
   pub new_rows_sent : Emit permute_rules (permute_starts ranks m p q) 2 ranks (to_new_rows ranks m p q)
 
 abbrev pub PermuteRounds : Type 0
-PermuteRounds = (ranks : ℕ) (m : Sparse) (p q : List ℕ) → 1 ≤ ranks → IsSparse m → Permutes m.rows p → Permutes m.cols q → HasPermuteRounds ranks m p q
+PermuteRounds = (ranks : ℕ) (m : Sparse) (p q : List ℕ) → 1 ≤ ranks → IsSparse m → Permutes m.rows p → Permutes m.cols q
+    → HasPermuteRounds ranks m p q

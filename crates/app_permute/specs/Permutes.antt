@@ -1,6 +1,9 @@
--- permute, as a program in three rounds: cells to the owners of their rows, who know the rows' new numbers; to the owners
+-- permute, as a program in three rounds: cells to the owners of their rows, who know the rows' new
+-- numbers; to the owners
 -- of their columns, who know the columns' new numbers; and to the owners of their new rows.
-use Rattle.std.specs.Prelude.{ℕ, ◌+◌, ◌-◌, ◌%◌, ◌/◌, ◌^◌, ◌<◌, ◌≡◌, ◌==◌, ◌&&◌, nat_lt, min, Bool, true, false, List, [], ◌∷◌, map, cond, length, slice_index_or}
+use Rattle.std.specs.Prelude.{ℕ, ◌+◌, ◌-◌, ◌%◌, ◌/◌, ◌^◌, ◌<◌, ◌≡◌, ◌==◌, ◌&&◌, nat_lt, min, Bool, true, false, List}
+use Rattle.std.specs.Prelude.{if◌then◌else◌}
+use Rattle.std.specs.Prelude.{[], ◌∷◌, map, length, slice_index_or, if◌then◌else◌}
 use Rattle.std.specs.List.{All}
 use Rattle.bale_types.specs.declared.Item.{Item}
 use Rattle.bale_types.specs.declared.triple.Triple.{Triple}
@@ -23,8 +26,8 @@ pub record PermuteState : Type 0 where
   pub new_cols : List ℕ
   -- what is sent in this round
   pub outgoing : List (ℕ × Item)
-  -- the cells that came in this round: by row and column in round 0, by column and new row in round 1, by new row and new
-  -- column in round 2
+  -- the cells that came in this round: by row and column in round 0, by column and new row in round
+  -- 1, by new row and new column in round 2
   pub cells : List Triple
 
 -- the new number of an own row or column
@@ -41,11 +44,13 @@ to_row ranks news t = (t.j % ranks, record { a = t.j; b = new_number ranks news 
 
 -- the cell of an item as it is kept in a round: by column first in round 1, and else by row
 abbrev pub kept_as : ℕ → Item → Triple
-kept_as round x = cond (round == 1) (record { i = x.b; j = x.a; v = from_twos_complement x.c }) (cell_of x)
+kept_as round x = if round == 1 then record { i = x.b; j = x.a; v = from_twos_complement x.c } else cell_of x
 
 -- the owner of a column may be sent cells of it in round 1, and the owner of a row in the other rounds
 abbrev pub may_permute : List ℕ → ℕ → ℕ → ℕ → ℕ → Item → Bool
-may_permute (rows ∷ (cols ∷ [])) ranks round to from x = nat_lt from ranks && nat_lt x.a rows && nat_lt x.b cols && cond (round == 1) x.b x.a % ranks == to && is_item x
+may_permute (rows ∷ (cols ∷ [])) ranks round to from x =
+    nat_lt from ranks && nat_lt x.a rows && nat_lt x.b cols && (if round == 1 then x.b else x.a) % ranks == to
+    && is_item x
 may_permute shape ranks round to from x = false
 
 -- a cell that a rank keeps lies inside and is its own, and its value is one of 64 bits
@@ -66,13 +71,17 @@ pub record IsPermuting (s : PermuteState) : Type 0 where
   pub wide : s.cols < 2 ^ 32
   pub row_numbers : HasNumbers s.ranks s.rank s.rows s.new_rows
   pub col_numbers : HasNumbers s.ranks s.rank s.cols s.new_cols
-  pub kept : All (IsKept (cond (s.round == 1) s.cols s.rows) (cond (s.round == 1) s.rows s.cols) s.ranks s.rank) s.cells
+  pub kept : All
+      (IsKept (if s.round == 1 then s.cols else s.rows) (if s.round == 1 then s.rows else s.cols) s.ranks s.rank)
+      s.cells
   pub ordered : InOrder s.cells
   pub fit : All (λ e. may_permute (s.rows ∷ s.cols ∷ []) s.ranks s.round e.0 s.rank e.1 ≡ true) s.outgoing
 
 -- what is sent after this round: to columns after round 0, to new rows after round 1, and then nothing
 abbrev pub next_outgoing : PermuteState → List (ℕ × Item)
-next_outgoing s = cond (s.round == 0) (map (to_column s.ranks s.new_rows) s.cells) (cond (s.round == 1) (map (to_row s.ranks s.new_cols) s.cells) [])
+next_outgoing s =
+    if s.round == 0 then map (to_column s.ranks s.new_rows) s.cells
+    else if s.round == 1 then map (to_row s.ranks s.new_cols) s.cells else []
 
 abbrev pub permute_rules : Rules PermuteState
 permute_rules =
@@ -88,5 +97,9 @@ permute_rules =
       absorbed = λ s from x. record s { cells = raised (kept_as s.round x) s.cells };
       vote = λ s. 0;
       goes_on = λ shape round votes. nat_lt round 2;
-      ended = λ s votes. record s { round = min (s.round + 1) (2 ^ 64 - 1); outgoing = next_outgoing s; cells = cond (nat_lt s.round 2) [] s.cells };
+      ended = λ s votes. record s {
+        round = min (s.round + 1) (2 ^ 64 - 1);
+        outgoing = next_outgoing s;
+        cells = (if nat_lt s.round 2 then [] else s.cells);
+      };
     }

@@ -1,5 +1,5 @@
 -- The runs of sssp: how its programs begin, and what it is to have ended.
-use Rattle.std.specs.Prelude.{ℕ, ◌<◌, ◌≤◌, ◌≡◌, true, ◌==◌, ◌%◌, ◌/◌, List, [], map, replicate, cond}
+use Rattle.std.specs.Prelude.{ℕ, ◌<◌, ◌≤◌, ◌≡◌, true, ◌==◌, ◌%◌, ◌/◌, List, [], map, replicate, if◌then◌else◌}
 use Rattle.std.specs.List.{range_with_len}
 use Rattle.bale_types.specs.declared.Item.{Item}
 use Rattle.bale_types.specs.Bits.{twos_complement}
@@ -24,7 +24,8 @@ edge_item e = record { a = e.1.i; b = e.1.j; c = twos_complement e.1.v }
 -- The vertices of a rank at the start: the source, which the empty walk leads to, is improved.
 abbrev pub vertices_begin : ℕ → ℕ → ℕ → ℕ → List Vertex
 vertices_begin ranks rows source rank =
-    cond (source % ranks == rank) (improved_at (source / ranks) 0 (replicate (places_for ranks rows) unreached)) (replicate (places_for ranks rows) unreached)
+    if source % ranks == rank then improved_at (source / ranks) 0 (replicate (places_for ranks rows) unreached)
+    else replicate (places_for ranks rows) unreached
 
 -- A rank as sssp begins: its entries on their way, and no edges.
 abbrev pub sssp_begins : ℕ → Sparse → ℕ → ℕ → SsspState

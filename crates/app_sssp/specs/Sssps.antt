@@ -1,5 +1,7 @@
 -- sssp, as a program in rounds of improvements.
-use Rattle.std.specs.Prelude.{ℕ, ◌+◌, ◌-◌, ◌%◌, ◌/◌, ◌^◌, ◌<◌, ◌≤◌, ◌≡◌, ◌==◌, ◌&&◌, ◌||◌, not, nat_lt, min, Bool, true, false, List, [], ◌∷◌, map, cond, length}
+use Rattle.std.specs.Prelude.{ℕ, ◌+◌, ◌-◌, ◌%◌, ◌/◌, ◌^◌, ◌<◌, ◌≤◌, ◌≡◌, ◌==◌, ◌&&◌, ◌||◌, not, nat_lt, min, Bool, true}
+use Rattle.std.specs.Prelude.{if◌then◌else◌}
+use Rattle.std.specs.Prelude.{false, List, [], ◌∷◌, map, length, if◌then◌else◌}
 use Rattle.std.specs.List.{All}
 use Rattle.bale_types.specs.declared.Item.{Item}
 use Rattle.bale_types.specs.declared.triple.Triple.{Triple}
@@ -31,7 +33,9 @@ pub record SsspState : Type 0 where
 
 -- in round 0 a rank may be sent edges of its vertices, and later weights of its vertices
 abbrev pub may_sssp : List ℕ → ℕ → ℕ → ℕ → ℕ → Item → Bool
-may_sssp (rows ∷ []) ranks round to from x = nat_lt from ranks && nat_lt to ranks && nat_lt x.a rows && x.a % ranks == to && (nat_lt 0 round || nat_lt x.b rows) && is_item x
+may_sssp (rows ∷ []) ranks round to from x =
+    nat_lt from ranks && nat_lt to ranks && nat_lt x.a rows && x.a % ranks == to && (nat_lt 0 round || nat_lt x.b rows)
+    && is_item x
 may_sssp shape ranks round to from x = false
 
 -- an entry on its way to the owner of its row
@@ -61,7 +65,7 @@ pub record IsSssp (s : SsspState) : Type 0 where
 
 -- the edges by place as the round ends: those that came, after round 0
 abbrev pub table_after : SsspState → List (List Edge)
-table_after s = cond (s.round == 0) (table_of s.ranks (length s.vertices) 0 (2 ^ 64 - 1) s.arriving) s.table
+table_after s = if s.round == 0 then table_of s.ranks (length s.vertices) 0 (2 ^ 64 - 1) s.arriving else s.table
 
 abbrev pub sssp_rules : Rules SsspState
 sssp_rules =
@@ -75,14 +79,14 @@ sssp_rules =
       emissions = λ s. s.outgoing;
       may_be_sent = may_sssp;
       absorbed = λ s from x. record s {
-        arriving = cond (s.round == 0) (raised (edge_came x) s.arriving) s.arriving;
-        vertices = cond (s.round == 0) s.vertices (improved_at (x.a / s.ranks) x.b s.vertices);
+        arriving = if s.round == 0 then raised (edge_came x) s.arriving else s.arriving;
+        vertices = if s.round == 0 then s.vertices else improved_at (x.a / s.ranks) x.b s.vertices;
       };
-      vote = λ s. cond (s.round == 0) 0 (length (marked s.vertices));
+      vote = λ s. if s.round == 0 then 0 else length (marked s.vertices);
       goes_on = λ shape round votes. round == 0 || not (votes == 0);
       ended = λ s votes. record s {
         round = min (s.round + 1) (2 ^ 64 - 1);
-        arriving = cond (s.round == 0) [] s.arriving;
+        arriving = if s.round == 0 then [] else s.arriving;
         table = table_after s;
         vertices = map calm s.vertices;
         outgoing = offers (table_after s) (map calm s.vertices) (marked s.vertices);

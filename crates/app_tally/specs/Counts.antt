@@ -46,8 +46,8 @@ abbrev pub Rises : List Entry → Type 0
 Rises [] = Unit {0}
 Rises (e ∷ es) = Before e.0 es × Rises es
 
--- What a tally is, entry by entry: the lines rise, each entry has the number of times that its line was read, at least once,
--- and whatever line was read has its entry.
+-- What a tally is, entry by entry: the lines rise, each entry has the number of times that its line
+-- was read, at least once, and whatever line was read has its entry.
 pub record IsTally (lines : List (List ℕ)) (entries : List Entry) : Type 0 where
   pub rises : Rises entries
   pub some : All (λ e. 0 < e.1) entries

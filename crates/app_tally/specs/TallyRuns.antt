@@ -14,7 +14,8 @@ own_lines ranks rank lines = map (λ e. e.1) (dealt (λ (e : ℕ × List ℕ). e
 
 -- A rank as tally begins.
 abbrev pub tally_begins : ℕ → List (List ℕ) → ℕ → TallyState
-tally_begins ranks lines rank = record { rank = rank; ranks = ranks; round = 0; own = own_lines ranks rank lines; came = [] }
+tally_begins ranks lines rank =
+    record { rank = rank; ranks = ranks; round = 0; own = own_lines ranks rank lines; came = [] }
 
 -- All ranks as tally begins, each in its mailer.
 abbrev pub tally_starts : ℕ → List (List ℕ) → List (MailState TallyState)

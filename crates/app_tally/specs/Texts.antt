@@ -1,5 +1,6 @@
 -- The lines of a text, or why it isn't read.
-use Rattle.std.specs.Prelude.{ℕ, ◌+◌, ◌≡◌, List, [], ◌∷◌, length, nat_lt, if◌then◌else◌, Option, None, Some, Result, Ok, Err}
+use Rattle.std.specs.Prelude.{ℕ, ◌+◌, ◌≡◌, List, [], ◌∷◌, length, nat_lt, if◌then◌else◌, Option, None, Some, Result, Ok}
+use Rattle.std.specs.Prelude.{Err, if◌then◌else◌}
 use Rattle.mtx_text.specs.Grammar.{line_after}
 use Rattle.mtx_text.specs.Lines.{pieces}
 use Rattle.app_tally.specs.declared.lines.LinesFault.{LinesFault}
@@ -15,8 +16,9 @@ abbrev pub lines_unless : Option ℕ → List (List ℕ) → Result (List (List 
 lines_unless None lines = Ok lines
 lines_unless (Some n) lines = Err (LineTooLong n)
 
--- The lines of a text: it is cut at LF, and a last piece that isn't empty is a line; a CR is a byte like any other. A text of
--- more than 16,777,216 bytes is refused with the line of the first byte too many, and else a line of more than 65,535 bytes.
+-- The lines of a text: it is cut at LF, and a last piece that isn't empty is a line; a CR is a byte
+-- like any other. A text of more than 16,777,216 bytes is refused with the line of the first byte
+-- too many, and else a line of more than 65,535 bytes.
 -- "b/a b" has the lines "b" and "a b", and the empty text has none.
 abbrev pub lines_of_text : List ℕ → Result (List (List ℕ)) LinesFault
 lines_of_text text =

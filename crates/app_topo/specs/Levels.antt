@@ -1,5 +1,7 @@
 -- The levels of a matrix's rows, and the order that they give.
-use Rattle.std.specs.Prelude.{ℕ, zero, suc, ◌==◌, ◌&&◌, Bool, List, [], ◌++◌, Option, None, Some, map, reverse, length, slice_index_or, count_by, if◌then◌else◌}
+use Rattle.std.specs.Prelude.{ℕ, zero, suc, ◌==◌, ◌&&◌, Bool, List, [], ◌++◌, Option, None, Some, map, reverse, length}
+use Rattle.std.specs.Prelude.{if◌then◌else◌}
+use Rattle.std.specs.Prelude.{slice_index_or, count_by, if◌then◌else◌}
 use Rattle.std.specs.List.{filter, list_all, range_with_len, position_or_len}
 use Rattle.bale_types.specs.declared.triple.Triple.{Triple}
 
@@ -35,7 +37,8 @@ claimed_column entries claims i = slice_index_or (open_columns entries claims i)
 -- The next level: the ready rows of n, ascending, each with the column that it claims.
 -- of the same entries with no claims: row 1 claims column 1, row 2 claims column 2
 abbrev pub level : ℕ → List Triple → List Claim → List Claim
-level n entries claims = map (λ i. (i, claimed_column entries claims i)) (filter (is_ready entries claims) (range_with_len 0 n))
+level n entries claims =
+    map (λ i. (i, claimed_column entries claims i)) (filter (is_ready entries claims) (range_with_len 0 n))
 
 -- The claims of the levels below t, level by level.
 -- after two levels of the same entries: (1,1), (2,2), (0,0)
@@ -47,11 +50,13 @@ claims_after n entries (suc t) = claims_after n entries t ++ level n entries (cl
 abbrev pub is_complete : ℕ → List Claim → Bool
 is_complete n claims = list_all (λ x. row_claims x claims == 1 && col_claims x claims == 1) (range_with_len 0 n)
 
--- The order of a square matrix: at position 0 the row and the column that were claimed last, at the last position those that
--- were claimed first; none where some row has no level or some column not exactly one claim.
+-- The order of a square matrix: at position 0 the row and the column that were claimed last, at the
+-- last position those that were claimed first; none where some row has no level or some column not
+-- exactly one claim.
 -- of the entries above: (0,0), (2,2), (1,1); of (0,0), (0,1), (1,0), (1,1): none
 abbrev pub topo_order : ℕ → List Triple → Option (List Claim)
-topo_order n entries = if is_complete n (claims_after n entries n) then Some (reverse (claims_after n entries n)) else None
+topo_order n entries =
+    if is_complete n (claims_after n entries n) then Some (reverse (claims_after n entries n)) else None
 
 -- The position of a row, and of a column.
 abbrev pub row_position : List Claim → ℕ → ℕ

@@ -14,7 +14,8 @@ pub record TellsOrder (m : Sparse) (bytes : List ℕ) : Type 0 where
   pub size : length order ≡ m.rows
   pub valid : IsValid m.rows m.entries (row_position order) (col_position order)
 
--- The bytes are "not triangular/", and no numbers of rows and columns make the matrix upper triangular with a full diagonal.
+-- The bytes are "not triangular/", and no numbers of rows and columns make the matrix upper
+-- triangular with a full diagonal.
 -- of the entries (0,0), (0,1), (1,0), (1,1)
 pub record TellsNone (m : Sparse) (bytes : List ℕ) : Type 0 where
   pub line : bytes ≡ codes "not triangular\n"

@@ -17,7 +17,9 @@ use Rattle.sparse_rows.specs.Emits.{item, Emit}
 -- for each own entry (i,j,v) in order: to i mod ranks, (i,j,0), then to j mod ranks, (j,i,1)
 -- of (0,0), (0,1), (1,1) on 2 ranks: rank 1, whose entry is (0,1), emits (0,1,0) to rank 0 and then (1,0,1) to rank 1
 abbrev pub entries_told : ℕ → Sparse → ℕ → List (ℕ × Item)
-entries_told ranks m r = flat_map (λ e. (e.1.i % ranks, item e.1.i e.1.j 0) ∷ (e.1.j % ranks, item e.1.j e.1.i 1) ∷ []) (own_entries ranks r m.entries)
+entries_told ranks m r =
+    flat_map (λ e. (e.1.i % ranks, item e.1.i e.1.j 0) ∷ (e.1.j % ranks, item e.1.j e.1.i 1) ∷ [])
+    (own_entries ranks r m.entries)
 
 -- The rows of level t, ascending, each with the column that it claims.
 -- of (0,0), (0,1), (1,1): row 1 claims column 1 in level 0, row 0 claims column 0 in level 1
@@ -26,7 +28,8 @@ level_at m t = level m.rows m.entries (claims_after m.rows m.entries t)
 
 -- Round 2t + 1: the claims of own rows of level t.
 -- for each own row i of level t, ascending, that claims column j: to j mod ranks, (j,i,2)
--- of (0,0), (0,1), (1,1) on 2 ranks: in round 1 rank 1 emits (1,1,2) to rank 1, in round 3 rank 0 emits (0,0,2) to rank 0
+-- of (0,0), (0,1), (1,1) on 2 ranks: in round 1 rank 1 emits (1,1,2) to rank 1, in round 3 rank 0
+-- emits (0,0,2) to rank 0
 abbrev pub rows_claim : ℕ → Sparse → ℕ → ℕ → List (ℕ × Item)
 rows_claim ranks m t r = map (λ c. (c.1 % ranks, item c.1 c.0 2)) (dealt (λ c. c.0 % ranks) r (level_at m t))
 
@@ -36,13 +39,16 @@ abbrev pub columns_first : Sparse → List Triple
 columns_first m = gathered (map (λ t. record { i = t.j; j = t.i; v = pos 0 }) m.entries)
 
 -- Round 2t + 2: the rows of own columns that level t has claimed are told that they have one entry less.
--- for each own column j that a row of level t claims, ascending, and each row i with an entry there, ascending: to i mod ranks, (i,j,3)
+-- for each own column j that a row of level t claims, ascending, and each row i with an entry
+-- there, ascending: to i mod ranks, (i,j,3)
 -- of (0,0), (0,1), (1,1) on 2 ranks: in round 2 rank 1 emits (0,1,3) to rank 0 and then (1,1,3) to rank 1
 abbrev pub columns_fall : ℕ → Sparse → ℕ → ℕ → List (ℕ × Item)
-columns_fall ranks m t r = map (λ u. (u.j % ranks, item u.j u.i 3)) (dealt (λ u. u.i % ranks) r (filter (λ u. nat_lt 0 (col_claims u.i (level_at m t))) (columns_first m)))
+columns_fall ranks m t r =
+    map (λ u. (u.j % ranks, item u.j u.i 3))
+    (dealt (λ u. u.i % ranks) r (filter (λ u. nat_lt 0 (col_claims u.i (level_at m t))) (columns_first m)))
 
--- topo has 2l + 2 rounds, where l levels have rows: the entries are told in round 0, and then rows claim and columns fall in turn, until
--- no row claims.
+-- topo has 2l + 2 rounds, where l levels have rows: the entries are told in round 0, and then rows
+-- claim and columns fall in turn, until no row claims.
 pub record HasTopoRounds (ranks : ℕ) (m : Sparse) : Type 0 where
   pub levels : ℕ
   pub few : levels ≤ m.rows
@@ -50,8 +56,10 @@ pub record HasTopoRounds (ranks : ℕ) (m : Sparse) : Type 0 where
   pub none : level_at m levels ≡ []
   pub rounds : HasRounds topo_rules (topo_starts ranks m) (2 * levels + 2)
   pub entries_sent : Emit topo_rules (topo_starts ranks m) 0 ranks (entries_told ranks m)
-  pub claims_sent : (t : ℕ) → t ≤ levels → Emit topo_rules (topo_starts ranks m) (2 * t + 1) ranks (rows_claim ranks m t)
-  pub falls_sent : (t : ℕ) → t < levels → Emit topo_rules (topo_starts ranks m) (2 * t + 2) ranks (columns_fall ranks m t)
+  pub claims_sent : (t : ℕ) → t ≤ levels
+      → Emit topo_rules (topo_starts ranks m) (2 * t + 1) ranks (rows_claim ranks m t)
+  pub falls_sent : (t : ℕ) → t < levels
+      → Emit topo_rules (topo_starts ranks m) (2 * t + 2) ranks (columns_fall ranks m t)
 
 abbrev pub TopoRounds : Type 0
 TopoRounds = (ranks : ℕ) (m : Sparse) → 1 ≤ ranks → m.rows ≡ m.cols → IsSparse m → HasTopoRounds ranks m

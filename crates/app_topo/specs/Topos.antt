@@ -1,6 +1,8 @@
--- topo, as a program in rounds: the entries to the owners of their rows and columns; then, level by level, claims to columns
--- and falls to rows.
-use Rattle.std.specs.Prelude.{ℕ, ◌+◌, ◌-◌, ◌*◌, ◌/◌, ◌%◌, ◌^◌, ◌<◌, ◌≡◌, ◌==◌, ◌&&◌, ◌||◌, not, nat_lt, min, Bool, true, false, List, [], ◌∷◌, ◌++◌, map, cond, length, slice_index_or, pos}
+-- topo, as a program in rounds: the entries to the owners of their rows and columns; then, level by
+-- level, claims to columns and falls to rows.
+use Rattle.std.specs.Prelude.{ℕ, ◌+◌, ◌-◌, ◌*◌, ◌/◌, ◌%◌, ◌^◌, ◌<◌, ◌≡◌, ◌==◌, ◌&&◌, ◌||◌, not, nat_lt, min, Bool, true}
+use Rattle.std.specs.Prelude.{if◌then◌else◌}
+use Rattle.std.specs.Prelude.{false, List, [], ◌∷◌, ◌++◌, map, length, slice_index_or, pos, if◌then◌else◌}
 use Rattle.std.specs.List.{All, filter, flat_map, range_with_len}
 use Rattle.bale_types.specs.declared.Item.{Item}
 use Rattle.bale_types.specs.declared.triple.Triple.{Triple}
@@ -29,8 +31,8 @@ pub record TopoState : Type 0 where
   pub claimed : List Placed
   -- how many own columns were claimed for the first time in this round
   pub fresh : ℕ
-  -- what came in this round, in order: in round 0 the entries of own columns, in an odd round the own columns claimed, in a
-  -- later even round the own rows whose number fell to 1
+  -- what came in this round, in order: in round 0 the entries of own columns, in an odd round the
+  -- own columns claimed, in a later even round the own rows whose number fell to 1
   pub came : List Triple
   -- what is sent in this round
   pub outgoing : List (ℕ × Item)
@@ -63,21 +65,24 @@ own_rows ranks rank size = map (λ k. k * ranks + rank) (range_with_len 0 (place
 
 -- of some rows, those whose number is 1; a row whose sum is no column is left out
 abbrev pub claims_now : ℕ → ℕ → List ℕ → List ℕ → ℕ → Bool
-claims_now ranks size numbers sums i = number_at ranks numbers i == 1 && nat_lt (number_at ranks sums i) size && nat_lt i size
+claims_now ranks size numbers sums i =
+    number_at ranks numbers i == 1 && nat_lt (number_at ranks sums i) size && nat_lt i size
 
 abbrev pub claims_of : ℕ → ℕ → List ℕ → List ℕ → List ℕ → List (ℕ × Item)
-claims_of ranks size numbers sums rows = map (λ i. to_claim ranks i (number_at ranks sums i)) (filter (claims_now ranks size numbers sums) rows)
+claims_of ranks size numbers sums rows =
+    map (λ i. to_claim ranks i (number_at ranks sums i)) (filter (claims_now ranks size numbers sums) rows)
 
 -- the falls of all rows of the columns that were claimed
 abbrev pub falls_of : ℕ → List Triple → List Triple → List (ℕ × Item)
 falls_of ranks columns came = flat_map (λ c. map (to_fall ranks) (filter (λ u. u.i == c.i) columns)) came
 
--- what is sent after a round: the first claims after round 0, falls after an odd round (none where its number stands still),
--- claims after a later even one
+-- what is sent after a round: the first claims after round 0, falls after an odd round (none where
+-- its number stands still), claims after a later even one
 abbrev pub sent_after : ℕ → ℕ → ℕ → ℕ → List ℕ → List ℕ → List Triple → List Triple → List (ℕ × Item)
 sent_after round rank ranks size numbers sums columns came =
-    cond (round == 0) (claims_of ranks size numbers sums (own_rows ranks rank size))
-    (cond (round % 2 == 1) (cond (nat_lt round (2 ^ 64 - 1)) (falls_of ranks columns came) []) (claims_of ranks size numbers sums (map (λ u. u.i) came)))
+    if round == 0 then claims_of ranks size numbers sums (own_rows ranks rank size)
+    else if round % 2 == 1 then if nat_lt round (2 ^ 64 - 1) then falls_of ranks columns came else []
+    else claims_of ranks size numbers sums (map (λ u. u.i) came)
 
 abbrev pub next_outgoing : TopoState → List (ℕ × Item)
 next_outgoing s = sent_after s.round s.rank s.ranks s.size s.numbers s.sums s.columns s.came
@@ -88,9 +93,9 @@ next_outgoing s = sent_after s.round s.rank s.ranks s.size s.numbers s.sums s.co
 abbrev pub entered : TopoState → Item → TopoState
 entered s x =
     record s {
-      numbers = cond (x.c == 0) (added s.ranks s.numbers x.a 1) s.numbers;
-      sums = cond (x.c == 0) (added s.ranks s.sums x.a x.b) s.sums;
-      came = cond (x.c == 0) s.came (raised (spot x.a x.b) s.came);
+      numbers = if x.c == 0 then added s.ranks s.numbers x.a 1 else s.numbers;
+      sums = if x.c == 0 then added s.ranks s.sums x.a x.b else s.sums;
+      came = if x.c == 0 then s.came else raised (spot x.a x.b) s.came;
     }
 
 -- odd rounds: a row claims column a
@@ -98,7 +103,7 @@ abbrev pub claimed_by : TopoState → Item → TopoState
 claimed_by s x =
     record s {
       counts = added s.ranks s.counts x.a 1;
-      fresh = cond (number_at s.ranks s.counts x.a == 0) (min (s.fresh + 1) (2 ^ 32 - 1)) s.fresh;
+      fresh = if number_at s.ranks s.counts x.a == 0 then min (s.fresh + 1) (2 ^ 32 - 1) else s.fresh;
       came = raised (spot x.a 0) s.came;
     }
 
@@ -108,13 +113,15 @@ fallen s x =
     record s {
       numbers = added s.ranks s.numbers x.a (2 ^ 64 - 1);
       sums = added s.ranks s.sums x.a (2 ^ 64 - x.b);
-      came = cond ((number_at s.ranks s.numbers x.a + (2 ^ 64 - 1)) % 2 ^ 64 == 1) (raised (spot x.a 0) s.came) s.came;
+      came = if (number_at s.ranks s.numbers x.a + (2 ^ 64 - 1)) % 2 ^ 64 == 1 then raised (spot x.a 0) s.came
+          else s.came;
     }
 
 -- in round 0 an owner may be sent its rows and columns, then claims of its columns and falls of its rows in turn
 abbrev pub may_topo : List ℕ → ℕ → ℕ → ℕ → ℕ → Item → Bool
 may_topo (size ∷ []) ranks round to from x =
-    nat_lt from ranks && nat_lt x.a size && nat_lt x.b size && x.a % ranks == to && is_item x && cond (round == 0) (nat_lt x.c 2) (x.c == 3 - round % 2)
+    nat_lt from ranks && nat_lt x.a size && nat_lt x.b size && x.a % ranks == to && is_item x
+    && (if round == 0 then nat_lt x.c 2 else x.c == 3 - round % 2)
 may_topo shape ranks round to from x = false
 
 -- ---- The rank
@@ -151,13 +158,14 @@ topo_rules =
       most = λ s. 2 * s.size + 2;
       emissions = λ s. s.outgoing;
       may_be_sent = may_topo;
-      absorbed = λ s from x. cond (s.round == 0) (entered s x) (cond (s.round % 2 == 1) (claimed_by s x) (fallen s x));
+      absorbed = λ s from x. if s.round == 0 then entered s x else if s.round % 2 == 1 then claimed_by s x
+          else fallen s x;
       vote = λ s. s.fresh;
       goes_on = λ shape round votes. round % 2 == 0 || not (votes == 0);
       ended = λ s votes. record s {
         round = min (s.round + 1) (2 ^ 64 - 1);
-        columns = cond (s.round == 0) s.came s.columns;
-        claimed = cond (s.round % 2 == 1) (s.claimed ++ map (placed_in s.round) s.outgoing) s.claimed;
+        columns = if s.round == 0 then s.came else s.columns;
+        claimed = if s.round % 2 == 1 then s.claimed ++ map (placed_in s.round) s.outgoing else s.claimed;
         fresh = 0;
         came = [];
         outgoing = next_outgoing s;

@@ -3,8 +3,8 @@ use Rattle.std.specs.Prelude.{ℕ, ◌<◌, ◌≤◌, ◌≡◌, List, Contains
 use Rattle.std.specs.List.{All}
 use Rattle.bale_types.specs.declared.triple.Triple.{Triple}
 
--- New numbers p of the n rows and q of the n columns, under which no entry stands below the diagonal and each place of the
--- diagonal has one.
+-- New numbers p of the n rows and q of the n columns, under which no entry stands below the
+-- diagonal and each place of the diagonal has one.
 -- p(i) ≤ q(j) for each entry (i,j); for each x there is an entry (i,j) with p(i) = q(j) = x
 -- with the entries (0,0), (0,1), (1,1): p = q = 0, 1
 pub record IsValid (n : ℕ) (entries : List Triple) (p q : ℕ → ℕ) : Type 0 where

@@ -1,5 +1,7 @@
 -- What a run answers: a status and the bytes for err, and what out got (`Wrote`).
-use Rattle.std.specs.Prelude.{◌≡◌, ℕ, Bool, List, [], ◌==◌, ◌&&◌, Option, Some, None, is_some, Result, Ok, Err, OnOk, OnErr, if◌then◌else◌}
+use Rattle.std.specs.Prelude.{◌≡◌, ℕ, Bool, List, [], ◌==◌, ◌&&◌, Option, Some, None, is_some, Result, Ok, Err, OnOk}
+use Rattle.std.specs.Prelude.{if◌then◌else◌}
+use Rattle.std.specs.Prelude.{OnErr, if◌then◌else◌}
 use Rattle.bale_types.specs.Stream.{after, IsFront, CountsFaults}
 use Rattle.bale_words.specs.declared.command.Command.{Command}
 use Rattle.bale_words.specs.declared.command.Generated.{Generated}
@@ -40,18 +42,21 @@ abbrev pub answer_to : (Command → Bool) → Option Command → List ℕ → An
 answer_to serial None text = refused refusal.Usage
 answer_to serial (Some c) text = answer_for (serial c) c (subject_asked c text)
 
--- The serial answer: what the words ask for, of the matrix of the text or the generated one, or of the lines of the text. No rank,
--- buffer or link occurs in it; `serial` says which commands are driven on one thread, for which large runs are unfit.
--- 2 and "bale: usage" where the words are no command; 5 and the first bad line where the text has no matrix, or, for tally, the
--- line where it is too long; 6 and the first test that fails where the command doesn't fit; else 0, or 1 where topo finds no
--- order, and, on out, the bytes that `Wrote` tells of.
+-- The serial answer: what the words ask for, of the matrix of the text or the generated one, or of
+-- the lines of the text. No rank, buffer or link occurs in it; `serial` says which commands are
+-- driven on one thread, for which large runs are unfit.
+-- 2 and "bale: usage" where the words are no command; 5 and the first bad line where the text has
+-- no matrix, or, for tally, the line where it is too long; 6 and the first test that fails where
+-- the command doesn't fit; else 0, or 1 where topo finds no order, and, on out, the bytes that
+-- `Wrote` tells of.
 -- For "sssp --source 3" and "%%MatrixMarket matrix coordinate pattern general/2 2 0/" it is 6 with
 -- "bale: unfit: source out of range/" on err, with / for LF.
 abbrev pub serial_answer : (Command → Bool) → List (List ℕ) → List ℕ → Answer
 serial_answer serial words text = answer_to serial (command_of words) text
 
 -- What was asked of a run: the words give this command, this is its matrix or its lines, and the command fits it.
-pub record Asked (serial : Command → Bool) (left : Option (List ℕ)) (job : Option Command) (text : List ℕ) (c : Command) (s : Subject) : Type 0 where
+pub record Asked (serial : Command → Bool) (left : Option (List ℕ)) (job : Option Command) (text : List ℕ) (c : Command)
+    (s : Subject) : Type 0 where
   pub asked : job ≡ Some c
   pub told : TellsText c.travel.generated left text
   pub subject : subject_asked c text ≡ Ok s
@@ -75,8 +80,8 @@ pub record IsUnfit (serial : Command → Bool) (job : Option Command) (text : Li
 abbrev pub shown : Option Generated → ℕ → List ℕ → List ℕ
 shown generated status bytes = if is_some generated && status == 0 then summary_of bytes else bytes
 
--- What a run wrote: the bytes that are the application's answer, for the command of the words and its subject, or their summary; and what
--- those bytes mean.
+-- What a run wrote: the bytes that are the application's answer, for the command of the words and
+-- its subject, or their summary; and what those bytes mean.
 -- For histo and "%%MatrixMarket matrix coordinate pattern general/2 2 0/" they are "1 0/2 0/".
 pub record Wrote (serial : Command → Bool) (job : Option Command) (text : List ℕ) (P : List ℕ → Type 0) : Type 0 where
   pub command : Command
@@ -90,7 +95,8 @@ pub record Wrote (serial : Command → Bool) (job : Option Command) (text : List
   pub wrote : P (shown command.travel.generated (task_status command.task subject) bytes)
 
 -- What a sink has taken of an answer as it is shown: all of it, or a front where a write failed. `old` is what it held.
-pub record HasWritten {T E : Type 0} (IsAnswer : List ℕ → Type 0) (shows : List ℕ → List ℕ) (old new : Option (List ℕ)) (written : Result T E) : Type 0 where
+pub record HasWritten {T E : Type 0} (IsAnswer : List ℕ → Type 0) (shows : List ℕ → List ℕ) (old new : Option (List ℕ))
+    (written : Result T E) : Type 0 where
   pub bytes : List ℕ
   pub answers : IsAnswer bytes
   pub whole : OnOk written (new ≡ after old (shows bytes))
@@ -99,7 +105,8 @@ pub record HasWritten {T E : Type 0} (IsAnswer : List ℕ → Type 0) (shows : L
 -- What a call does to a sink that it writes to, by its answer.
 -- held: what the sink held stays
 -- counts: how its count of faults goes with the answer
-pub record TakesMore {K T E : Type 0} (taken : K → Option (List ℕ)) (faults : K → ℕ) (old new : K) (result : Result T E) : Type 0 where
+pub record TakesMore {K T E : Type 0} (taken : K → Option (List ℕ)) (faults : K → ℕ) (old new : K)
+    (result : Result T E) : Type 0 where
   pub held : IsFront (taken old) (taken new)
   pub counts : CountsFaults (faults old) (faults new) result
 

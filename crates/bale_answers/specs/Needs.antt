@@ -27,7 +27,8 @@ pub record IsFitOn (task : Task) (m : Sparse) : Type 0 where
   pub fits : (serial : Bool) × (task_unfitness task m serial ≡ None)
 
 -- An answer can be written: the options and the subject have what is needed, and it is an answer for them.
-pub record CanWrite {O S A : Type 0} (Needs : O → S → Type 0) (Answers : O → S → A → Type 0) (options : O) (subject : S) (answer : A) : Type 0 where
+pub record CanWrite {O S A : Type 0} (Needs : O → S → Type 0) (Answers : O → S → A → Type 0) (options : O) (subject : S)
+    (answer : A) : Type 0 where
   pub needs : Needs options subject
   pub answers : Answers options subject answer
 

@@ -7,9 +7,11 @@ use Rattle.list_laws.specs.Counts.{counted}
 abbrev pub ends_line : ℕ → ℕ
 ends_line b = if b == 10 then 1 else 0
 
--- The numbers of LF bytes and of bytes, and the sum of the bytes, as counters show them; no answer for a matrix within the limits has so many bytes.
+-- The numbers of LF bytes and of bytes, and the sum of the bytes, as counters show them; no answer
+-- for a matrix within the limits has so many bytes.
 -- "1 1/2 2/", with / for LF, gives "lines 2 bytes 8 sum 282/".
 unfoldable pub summary_of : List ℕ → List ℕ
 summary_of bytes =
     codes "lines " ++ decimal (counted (sum_by ends_line bytes))
-    ++ (codes " bytes " ++ decimal (counted (length bytes)) ++ (codes " sum " ++ decimal (counted (sum_by (λ b. b) bytes)) ++ 10 ∷ []))
+    ++ (codes " bytes " ++ decimal (counted (length bytes))
+    ++ (codes " sum " ++ decimal (counted (sum_by (λ b. b) bytes)) ++ 10 ∷ []))

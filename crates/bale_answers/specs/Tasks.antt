@@ -1,4 +1,5 @@
--- What each task answers for a matrix, and tally for lines; what the answer means; and which programs give it. A task has a line in each.
+-- What each task answers for a matrix, and tally for lines; what the answer means; and which
+-- programs give it. A task has a line in each.
 use Rattle.std.specs.Prelude.{◌≡◌, ◌-◌, ℕ, List, [], map, None, Some, refl}
 use Rattle.mtx_text.specs.Sparse.{Sparse}
 use Rattle.mtx_text.specs.Written.{text_of}
@@ -32,7 +33,8 @@ use Rattle.delta_step.specs.Deltas.{DeltaState, delta_rules}
 use Rattle.delta_step.specs.DeltaRuns.{delta_starts}
 use Rattle.elastic.specs.Mails.{MailState, mail_rules}
 use Rattle.least_walks.specs.Lines.{IsSsspAnswer}
-use Rattle.app_cases.specs.Any.{AnyState, any_rules, Way, histo_way, ig_way, permute_way, transpose_way, topo_way, tally_way, sssp_way, delta_way}
+use Rattle.app_cases.specs.Any.{AnyState, any_rules, Way, histo_way, ig_way, permute_way, transpose_way, topo_way}
+use Rattle.app_cases.specs.Any.{tally_way, sssp_way, delta_way}
 use Rattle.bale_subjects.specs.declared.subject.Subject.{Subject}
 use Rattle.bale_subjects.specs.declared.subject.Subject.TheVariants as subject
 use Rattle.bale_subjects.specs.Numberings.{perms_for}
@@ -54,7 +56,8 @@ abbrev pub matrix_status : Task → Sparse → ℕ
 matrix_status task.Topo m = order_status (topo_order m.rows m.entries)
 matrix_status _ m = 0
 
--- These bytes are a task's answer for a matrix or for lines. For tally and the lines "b", "a", "b" they are "1 a/2 b/", with / for LF.
+-- These bytes are a task's answer for a matrix or for lines. For tally and the lines "b", "a", "b"
+-- they are "1 a/2 b/", with / for LF.
 abbrev pub IsAnswer : Task → Subject → List ℕ → Type 0
 IsAnswer t (subject.Matrix m) bytes = IsMatrixAnswer t m bytes
 IsAnswer t (subject.Lines lines) bytes = bytes ≡ tally_text (tally_of lines)
@@ -92,17 +95,25 @@ abbrev pub matrix_plan : Task → Sparse → Plan
 matrix_plan task.Histo m = record { State = HistoState; rules = histo_rules; starts = λ p. histo_starts p m }
 matrix_plan task.Ig m = record { State = IgState; rules = ig_rules; starts = λ p. ig_starts p m }
 matrix_plan (task.Permute by) m =
-    record { State = PermuteState; rules = permute_rules; starts = λ p. permute_starts p m (perms_for by m).rows (perms_for by m).cols }
-matrix_plan task.Transpose m = record { State = TransposeState; rules = transpose_rules; starts = λ p. transpose_starts p m }
+    record {
+      State = PermuteState;
+      rules = permute_rules;
+      starts = λ p. permute_starts p m (perms_for by m).rows (perms_for by m).cols;
+    }
+matrix_plan task.Transpose m =
+    record { State = TransposeState; rules = transpose_rules; starts = λ p. transpose_starts p m }
 matrix_plan task.Topo m = record { State = TopoState; rules = topo_rules; starts = λ p. topo_starts p m }
-matrix_plan (task.Sssp source None) m = record { State = SsspState; rules = sssp_rules; starts = λ p. sssp_starts p m (source - 1) }
-matrix_plan (task.Sssp source (Some delta)) m = record { State = DeltaState; rules = delta_rules; starts = λ p. delta_starts p m (source - 1) delta }
+matrix_plan (task.Sssp source None) m =
+    record { State = SsspState; rules = sssp_rules; starts = λ p. sssp_starts p m (source - 1) }
+matrix_plan (task.Sssp source (Some delta)) m =
+    record { State = DeltaState; rules = delta_rules; starts = λ p. delta_starts p m (source - 1) delta }
 matrix_plan task.Tally m = record { State = MailState TallyState; rules = mail_rules tally_rules; starts = λ p. [] }
 
 -- The same of a matrix or of lines: tally's are mailers, whose items spell the lines.
 abbrev pub plan_of : Task → Subject → Plan
 plan_of t (subject.Matrix m) = matrix_plan t m
-plan_of t (subject.Lines lines) = record { State = MailState TallyState; rules = mail_rules tally_rules; starts = λ p. tally_starts p lines }
+plan_of t (subject.Lines lines) =
+    record { State = MailState TallyState; rules = mail_rules tally_rules; starts = λ p. tally_starts p lines }
 
 -- The way of a task's programs into any of the applications.
 abbrev pub matrix_way : (t : Task) (m : Sparse) → Way (matrix_plan t m).rules any_rules
@@ -123,6 +134,7 @@ way_of t (subject.Lines lines) = tally_way
 unfoldable pub starts_of : Task → ℕ → Subject → List AnyState
 starts_of t ranks s = map (way_of t s).case ((plan_of t s).starts ranks)
 
-pub begun_with : (t : Task) (ranks : ℕ) (s : Subject) → map (way_of t s).case ((plan_of t s).starts ranks) ≡ starts_of t ranks s
+pub begun_with : (t : Task) (ranks : ℕ) (s : Subject)
+    → map (way_of t s).case ((plan_of t s).starts ranks) ≡ starts_of t ranks s
 unfolding starts_of
 begun_with t ranks s = refl

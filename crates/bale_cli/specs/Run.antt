@@ -10,16 +10,20 @@ use Rattle.bale_answers.specs.Answer.{serial_answer, said, Asked, Wrote}
 use Rattle.bale_runs.specs.Asking.{TellsCommand, TurnsOfCommand, FewestOfCommand}
 use Rattle.bale_runs.specs.Jobs.{on_one_thread}
 
--- A run of the command that the words name, which ends with a status and tells its rounds. `serial` says of each command whether one thread
--- turns all its ranks; `left` is what a source tells of what it has left, `taken` and `told` what out and err tell of what they have taken,
--- and each counts its own faults.
--- Example: on the words `histo`, `--grid`, `4`, `--buffer`, `2` and a matrix whose columns have 1, 0 and 3 entries the status is 0, out has
--- taken the lines `1 1`, `2 0` and `3 3`, and the rounds tell one exchange of four items.
-pub record IsRun {S K E : Type 0} (serial : Command → Bool) (words : List (List ℕ)) (left : S → Option (List ℕ)) (read_faults : S → ℕ) (source source' : S)
-    (taken : K → Option (List ℕ)) (write_faults : K → ℕ) (out out' : K) (told : E → Option (List ℕ)) (err_faults : E → ℕ) (err err' : E)
+-- A run of the command that the words name, which ends with a status and tells its rounds. `serial`
+-- says of each command whether one thread turns all its ranks; `left` is what a source tells of
+-- what it has left, `taken` and `told` what out and err tell of what they have taken, and each
+-- counts its own faults.
+-- Example: on the words `histo`, `--grid`, `4`, `--buffer`, `2` and a matrix whose columns have 1,
+-- 0 and 3 entries the status is 0, out has taken the lines `1 1`, `2 0` and `3 3`, and the rounds
+-- tell one exchange of four items.
+pub record IsRun {S K E : Type 0} (serial : Command → Bool) (words : List (List ℕ)) (left : S → Option (List ℕ))
+    (read_faults : S → ℕ) (source source' : S)
+    (taken : K → Option (List ℕ)) (write_faults : K → ℕ) (out out' : K) (told : E → Option (List ℕ))
+    (err_faults : E → ℕ) (err err' : E)
     (status : ℕ) (rounds : List ClosedRound) : Type 0 where
-  -- The status is the serial answer's for the words and the text. 3 comes exactly where a read failed and 4 where a write did; 7, want of
-  -- memory, is free.
+  -- The status is the serial answer's for the words and the text. 3 comes exactly where a read
+  -- failed and 4 where a write did; 7, want of memory, is free.
   pub usage : status ≡ 2 → command_of words ≡ None
   pub no_command : command_of words ≡ None → status ≢ 7 → status ≡ 2
   pub status_is : (text : List ℕ) → Told (command_of words) (left source) text → status ≢ 3 → status ≢ 4 → status ≢ 7
@@ -28,30 +32,33 @@ pub record IsRun {S K E : Type 0} (serial : Command → Bool) (words : List (Lis
   pub no_read_fault : status ≢ 3 → read_faults source' ≡ read_faults source
   pub write_fault : status ≡ 4 → RoseOrFull (write_faults out) (write_faults out')
   pub no_write_fault : status ≢ 4 → write_faults out' ≡ write_faults out
-  -- The source is as it was where the matrix is generated, and at 2; else at 0, 1, 4, 5 and 6 the text was read whole, or to one byte past
-  -- its limit.
+  -- The source is as it was where the matrix is generated, and at 2; else at 0, 1, 4, 5 and 6 the
+  -- text was read whole, or to one byte past its limit.
   pub unread : reads (command_of words) ≡ false → source' ≡ source
   pub read_whole : (text : List ℕ) → left source ≡ Some text → reads (command_of words) ≡ true → status ≢ 3 → status ≢ 7
       → left source' ≡ Some (drop 16_777_217 text)
-  -- At 0 and 1 out has taken the answer, at 4 a front of it, and else it is as it was; what it held stays, so at 4 it has what it held and then
-  -- a front of the answer.
+  -- At 0 and 1 out has taken the answer, at 4 a front of it, and else it is as it was; what it held
+  -- stays, so at 4 it has what it held and then a front of the answer.
   pub answer : (text : List ℕ) → Told (command_of words) (left source) text → (status ≡ 0) ⊎ (status ≡ 1)
       → Wrote serial (command_of words) text (λ bytes. taken out' ≡ after (taken out) bytes)
   pub front : (text : List ℕ) → Told (command_of words) (left source) text → status ≡ 4
       → Wrote serial (command_of words) text (λ bytes. IsFront (taken out') (after (taken out) bytes))
   pub held : IsFront (taken out) (taken out')
   pub no_answer : status ≢ 0 → status ≢ 1 → status ≢ 4 → out' ≡ out
-  -- What is said on err is whole unless its own faults rose; the text matters at 5 and 6 alone. At 0 and 1 err is as it was.
+  -- What is said on err is whole unless its own faults rose; the text matters at 5 and 6 alone. At
+  -- 0 and 1 err is as it was.
   pub said_whole : (text : List ℕ) → ((status ≡ 5) ⊎ (status ≡ 6) → Told (command_of words) (left source) text)
-      → ¬ RoseOrFull (err_faults err) (err_faults err') → told err' ≡ after (told err) (said status (serial_answer serial words text))
+      → ¬ RoseOrFull (err_faults err) (err_faults err')
+      → told err' ≡ after (told err) (said status (serial_answer serial words text))
   pub said_front : (text : List ℕ) → ((status ≡ 5) ⊎ (status ≡ 6) → Told (command_of words) (left source) text)
       → IsFront (told err') (after (told err) (said status (serial_answer serial words text)))
   pub said_held : IsFront (told err) (told err')
   pub silent : (status ≡ 0) ⊎ (status ≡ 1) → err' ≡ err
-  -- At 0, 1 and 4 the rounds tell the canonical run of the application's programs for its matrix or lines, and for ig over biconvey that of the
-  -- sums and then the queries and the replies, over banks of the grid, the capacity and the slots that the words name: plain ones for one
-  -- thread, else ones of slots; else there are none. Over conveyors that aren't steady each epoch's entries travel in few parcels, by
-  -- port_bank's few_parcels_law.
+  -- At 0, 1 and 4 the rounds tell the canonical run of the application's programs for its matrix or
+  -- lines, and for ig over biconvey that of the sums and then the queries and the replies, over
+  -- banks of the grid, the capacity and the slots that the words name: plain ones for one thread,
+  -- else ones of slots; else there are none. Over conveyors that aren't steady each epoch's entries
+  -- travel in few parcels, by port_bank's few_parcels_law.
   pub rounds_tell : (text : List ℕ) (c : Command) (s : Subject) → Asked serial (left source) (command_of words) text c s
       → (status ≡ 0) ⊎ (status ≡ 1) ⊎ (status ≡ 4) → TellsCommand (serial c) c s rounds
   pub no_rounds : status ≢ 0 → status ≢ 1 → status ≢ 4 → rounds ≡ []
@@ -59,10 +66,13 @@ pub record IsRun {S K E : Type 0} (serial : Command → Bool) (words : List (Lis
 -- The turns of a run on one thread, from `before` to `after`, by what the words name and what the source tells.
 pub record AreTurns (left : Option (List ℕ)) (job : Option Command) (before after : ℕ) : Type 0 where
   -- They are bounded by the words and the matrix or lines, at 7 too.
-  pub bounded : (text : List ℕ) (c : Command) (s : Subject) → Asked on_one_thread left job text c s → TurnsOfCommand c s before after
+  pub bounded : (text : List ℕ) (c : Command) (s : Subject) → Asked on_one_thread left job text c s
+      → TurnsOfCommand c s before after
   -- Where the words and the text ask for no run, there are none.
-  pub idle : (text : List ℕ) → Told job left text → ((c : Command) (s : Subject) → ¬ Asked on_one_thread left job text c s) → after ≡ before
+  pub idle : (text : List ℕ) → Told job left text
+      → ((c : Command) (s : Subject) → ¬ Asked on_one_thread left job text c s) → after ≡ before
 
 -- Where it holds that the run came to its end, each rank made a turn in each epoch at least.
 abbrev pub AreFewest : Option (List ℕ) → Option Command → Type 0 → ℕ → ℕ → Type 0
-AreFewest left job ended before after = (text : List ℕ) (c : Command) (s : Subject) → Asked on_one_thread left job text c s → ended → FewestOfCommand c s before after
+AreFewest left job ended before after = (text : List ℕ) (c : Command) (s : Subject)
+    → Asked on_one_thread left job text c s → ended → FewestOfCommand c s before after

@@ -1,5 +1,5 @@
--- What a command exchanges, and how many turns that takes on one thread: by queries and replies for ig over biconvey, else in the
--- rounds of its programs.
+-- What a command exchanges, and how many turns that takes on one thread: by queries and replies for
+-- ig over biconvey, else in the rounds of its programs.
 use Rattle.std.specs.Prelude.{◌≡◌, ◌≤◌, ◌+◌, ◌*◌, ℕ, Bool, true, false, List, [], ◌∷◌, map, length}
 use Rattle.route_tensor.specs.Grid.{ranks}
 use Rattle.mtx_text.specs.Sparse.{Sparse}
@@ -33,8 +33,9 @@ pub record TellsReplies (m : Sparse) (made : Made) (steady : Bool) (rounds : Lis
   pub are : AreAskersOf m (ranks made.dims) askers
   pub exchanged : TellsExchange ig_talk askers made steady (round_of queries) (round_of replies)
 
--- The rounds of ig by queries and replies are three. The first tells the one round on conveyors in which the columns are summed, over a
--- bank of the same make, and the rest the queries and the replies.
+-- The rounds of ig by queries and replies are three. The first tells the one round on conveyors in
+-- which the columns are summed, over a bank of the same make, and the rest the queries and the
+-- replies.
 pub record TellsAsking (m : Sparse) (made : Made) (steady : Bool) (rounds : List ClosedRound) : Type 0 where
   pub sums : ClosedRound
   pub rest : List ClosedRound
@@ -56,10 +57,13 @@ pub record HasAsked (m : Sparse) (made : Made) (steady : Bool) (run : Finished A
   -- Two closed rounds tell both ways.
   pub rounds : TellsReplies m made steady run.rounds
 
--- From `before` turns to `after` there are no more than the round of sums takes at most, and an exchange of one query an entry.
+-- From `before` turns to `after` there are no more than the round of sums takes at most, and an
+-- exchange of one query an entry.
 abbrev pub TurnsOfAsking : Sparse → Bool → List ℕ → ℕ → ℕ → Type 0
 TurnsOfAsking m steady dims before after =
-    after ≤ before + (turns_within sums_rules (manner_of via.Convey steady) dims (sums_starts (ranks dims) m) 1 + turns_of dims (length m.entries))
+    after ≤ before
+    + (turns_within sums_rules (manner_of via.Convey steady) dims (sums_starts (ranks dims) m) 1
+    + turns_of dims (length m.entries))
 
 -- What the rounds of a command tell, by queries and replies or not. Lines have no columns to ask for.
 abbrev pub TellsBy : Bool → Command → Subject → Made → List ClosedRound → Type 0

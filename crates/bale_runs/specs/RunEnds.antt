@@ -20,9 +20,10 @@ pub record Fits (c : Command) (s : Subject) (serial : Bool) : Type 0 where
   -- No test of fitness fails.
   pub fits : unfitness c s serial ≡ None
 
--- How a run ended on a sink, before and after: `taken` is what a sink tells of what it has taken, it counts its own faults, and `tells` is
--- what the rounds are to tell.
-pub record IsRunEnd {K : Type 0} (c : Command) (s : Subject) (tells : List ClosedRound → Type 0) (taken : K → Option (List ℕ)) (faults : K → ℕ) (out out' : K)
+-- How a run ended on a sink, before and after: `taken` is what a sink tells of what it has taken,
+-- it counts its own faults, and `tells` is what the rounds are to tell.
+pub record IsRunEnd {K : Type 0} (c : Command) (s : Subject) (tells : List ClosedRound → Type 0)
+    (taken : K → Option (List ℕ)) (faults : K → ℕ) (out out' : K)
     (ran : Result RunEnd Refusal) : Type 0 where
   -- The answer was written, or its writing failed.
   pub ending : IfOk ran (λ f. IsAnswerEnd c.task s c.travel.generated taken faults out out' f.ending)

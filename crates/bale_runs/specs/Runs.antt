@@ -15,8 +15,8 @@ use Rattle.app_cases.specs.Any.{AnyState, any_rules}
 use Rattle.bale_subjects.specs.declared.subject.Subject.{Subject}
 use Rattle.bale_answers.specs.Tasks.{plan_of, starts_of}
 
--- The bank of a command's run: its grid, the entries of a parcel, the slots of a link; a plain one where it is driven on one
--- thread, and one of slots where each rank has a thread.
+-- The bank of a command's run: its grid, the entries of a parcel, the slots of a link; a plain one
+-- where it is driven on one thread, and one of slots where each rank has a thread.
 abbrev pub made_for : Bool → Command → Made
 made_for serial c = record { dims = c.grid; cap = c.travel.buffer; slots = c.travel.slots; by_slots = not serial }
 
@@ -29,7 +29,8 @@ pub record HaveRun (t : Task) (s : Subject) (progs : List AnyState) : Type 0 whe
   pub ended : HaveEnded any_rules (starts_of t ranks s) progs
 
 -- The rounds of a run are one closed round, which tells the canonical run of these programs.
-pub record Tells {S : Type 0} (R : Rules S) (starts : List S) (made : Made) (manner : Manner) (rounds : List ClosedRound) : Type 0 where
+pub record Tells {S : Type 0} (R : Rules S) (starts : List S) (made : Made) (manner : Manner)
+    (rounds : List ClosedRound) : Type 0 where
   pub closed : ClosedRound
   pub only : rounds ≡ closed ∷ []
   pub count : ℕ
@@ -50,7 +51,8 @@ pub record IsTaskRun (t : Task) (s : Subject) (made : Made) (manner : Manner) (r
 
 -- The turns of a task's run for its subject are bounded before it.
 abbrev pub TurnsOfTask : Task → Subject → Manner → List ℕ → ℕ → ℕ → Type 0
-TurnsOfTask t s manner dims before after = WithinTurns (plan_of t s).rules ((plan_of t s).starts (ranks dims)) manner dims before after
+TurnsOfTask t s manner dims before after =
+    WithinTurns (plan_of t s).rules ((plan_of t s).starts (ranks dims)) manner dims before after
 
 -- And each rank of these programs made one at least in each epoch: one of its work and one of its votes in each round.
 abbrev pub BeyondTurns : {S : Type 0} → Rules S → List S → List ℕ → ℕ → ℕ → Type 0
@@ -58,4 +60,5 @@ BeyondTurns R starts dims before after = (n : ℕ) → HasRounds R starts n → 
 
 -- The fewest turns of a task's run for its subject.
 abbrev pub FewestOfTask : Task → Subject → List ℕ → ℕ → ℕ → Type 0
-FewestOfTask t s dims before after = BeyondTurns (plan_of t s).rules ((plan_of t s).starts (ranks dims)) dims before after
+FewestOfTask t s dims before after =
+    BeyondTurns (plan_of t s).rules ((plan_of t s).starts (ranks dims)) dims before after

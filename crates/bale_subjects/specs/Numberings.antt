@@ -1,5 +1,6 @@
 -- New numbers of rows and columns.
-use Rattle.std.specs.Prelude.{ℕ, ◌-◌, ◌==◌, ◌&&◌, Bool, true, not, nat_lt, List, [], ◌∷◌, length, map, Option, None, Some}
+use Rattle.std.specs.Prelude.{ℕ, ◌-◌, ◌==◌, ◌&&◌, Bool, true, not, nat_lt, List, [], ◌∷◌, length, map, Option, None}
+use Rattle.std.specs.Prelude.{Some}
 use Rattle.std.specs.List.{list_all, list_any, range_with_len}
 use Rattle.mtx_text.specs.Sparse.{Sparse}
 use Rattle.app_permute.specs.Perms.{TwoLists, perms_of}

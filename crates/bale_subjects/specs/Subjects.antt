@@ -57,7 +57,9 @@ abbrev pub of_lines : Result (List (List ℕ)) LinesFault → Result Subject Ref
 of_lines (Ok lines) = Ok (subject.Lines lines)
 of_lines (Err f) = Err (lines_refusal f)
 
--- What a command is asked of, or the refusal that the text names: tally of the lines of the text, each other of a matrix.
+-- What a command is asked of, or the refusal that the text names: tally of the lines of the text,
+-- each other of a matrix.
 -- tally is asked of the lines "b" and "" of the text "b//", with / for LF.
 abbrev pub subject_asked : Command → List ℕ → Result Subject Refusal
-subject_asked c text = if is_tally c.task then of_lines (lines_of_text text) else of_matrix (matrix_asked c.travel.generated text)
+subject_asked c text =
+    if is_tally c.task then of_lines (lines_of_text text) else of_matrix (matrix_asked c.travel.generated text)

@@ -1,5 +1,6 @@
 -- What was appended to an output buffer, whether the sink has it yet or not.
-use Rattle.std.specs.Prelude.{◌≡◌, ◌<◌, ℕ, ◌+◌, ◌==◌, ◌%◌, if◌then◌else◌, List, length, Option, Result, OnOk, OnErr, IsOk, take}
+use Rattle.std.specs.Prelude.{◌≡◌, ◌<◌, ℕ, ◌+◌, ◌==◌, ◌%◌, if◌then◌else◌, List, length, Option, Result, OnOk, OnErr}
+use Rattle.std.specs.Prelude.{IsOk, take, if◌then◌else◌}
 use Rattle.bale_types.specs.Stream.{after, CountsFaults, IsFront}
 use Rattle.bale_types.specs.declared.out.Out.{Out}
 
@@ -19,7 +20,8 @@ left_over waited more = if more == 0 then waited else (waited + more) % 4096
 -- counts: how the sink's count of faults goes with the answer
 -- grows: what the sink took stays taken
 -- same_sink: the sink is the one that it was
-pub record HandsOn {K T E : Type 0} (taken : K → Option (List ℕ)) (faults : K → ℕ) (old new : Out K) (result : Result T E) : Type 0 where
+pub record HandsOn {K T E : Type 0} (taken : K → Option (List ℕ)) (faults : K → ℕ) (old new : Out K)
+    (result : Result T E) : Type 0 where
   pub counts : CountsFaults (faults old.sink.now) (faults new.sink.now) result
   pub grows : IsFront (taken old.sink.now) (taken new.sink.now)
   pub same_sink : new.sink.ghost_name ≡ old.sink.ghost_name
@@ -28,7 +30,8 @@ pub record HandsOn {K T E : Type 0} (taken : K → Option (List ℕ)) (faults : 
 -- ok: all of them, where it answers Ok
 -- err: where it fails, the sink has a front of what should have come
 -- sink: what it does to the sink
-pub record Writes {K T E : Type 0} (taken : K → Option (List ℕ)) (faults : K → ℕ) (bytes : List ℕ) (old new : Out K) (result : Result T E) : Type 0 where
+pub record Writes {K T E : Type 0} (taken : K → Option (List ℕ)) (faults : K → ℕ) (bytes : List ℕ) (old new : Out K)
+    (result : Result T E) : Type 0 where
   pub ok : OnOk result (appended taken new ≡ after (appended taken old) bytes)
   pub err : OnErr result (IsFront (taken new.sink.now) (after (appended taken old) bytes))
   pub sink : HandsOn taken faults old new result
@@ -40,7 +43,8 @@ pub record Writes {K T E : Type 0} (taken : K → Option (List ℕ)) (faults : K
 -- gathers: while all of them have room in the buffer, the sink isn't touched
 -- no_failure: and nothing fails
 -- waits: those that are over whole buffers wait
-pub record Appends {K T E : Type 0} (taken : K → Option (List ℕ)) (faults : K → ℕ) (bytes : List ℕ) (old new : Out K) (result : Result T E) : Type 0 where
+pub record Appends {K T E : Type 0} (taken : K → Option (List ℕ)) (faults : K → ℕ) (bytes : List ℕ) (old new : Out K)
+    (result : Result T E) : Type 0 where
   pub written : Writes taken faults bytes old new result
   pub kept : OnErr result (IsFront (appended taken old) (appended taken new))
   pub part : OnErr result (IsFront (appended taken new) (after (appended taken old) bytes))

@@ -1,6 +1,7 @@
 -- What a source has still to give, what a sink has taken, and what one call moves between them and a
 -- buffer. Where an object doesn't tell its bytes, they are None before and after each call.
-use Rattle.std.specs.Prelude.{◌≡◌, ◌<◌, ◌≤◌, ◌^◌, ◌-◌, ◌⊎◌, ℕ, zero, suc, ◌+◌, min, List, [], ◌++◌, Option, None, Some, Result, Ok, Err, OnErr, OnOk, IfOk, take}
+use Rattle.std.specs.Prelude.{◌≡◌, ◌<◌, ◌≤◌, ◌^◌, ◌-◌, ◌⊎◌, ℕ, zero, suc, ◌+◌, min, List, [], ◌++◌, Option, None, Some}
+use Rattle.std.specs.Prelude.{Result, Ok, Err, OnErr, OnOk, IfOk, take}
 
 -- what is taken once these bytes were appended
 -- after (Some taken) bytes = Some (taken ++ bytes)

@@ -10,7 +10,11 @@ option_rule name = record (new_rule name) { long = Some name }
 
 -- The command `bale` with an option for each name, and neither help nor version.
 abbrev pub app_named : List (List ℕ) → App
-app_named names = record { top = record (new_shape (codes "bale")) { disable_help_flag = true; rules = map option_rule names }; subs = [] }
+app_named names =
+    record {
+      top = record (new_shape (codes "bale")) { disable_help_flag = true; rules = map option_rule names };
+      subs = [];
+    }
 
 -- Its words: `bale`, and one word for each option that was given.
 abbrev pub command_words : List Given → List (List ℕ)

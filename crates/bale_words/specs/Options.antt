@@ -1,5 +1,7 @@
 -- Options as they stand among the words of a command line.
-use Rattle.std.specs.Prelude.{ℕ, Bool, true, false, not, ◌&&◌, ◌==◌, List, [], ◌∷◌, ◌++◌, length, nat_lt, Option, Some, None, if◌then◌else◌}
+use Rattle.std.specs.Prelude.{ℕ, Bool, true, false, not, ◌&&◌, ◌==◌, List, [], ◌∷◌, ◌++◌, length, nat_lt, Option, Some}
+use Rattle.std.specs.Prelude.{if◌then◌else◌}
+use Rattle.std.specs.Prelude.{None, if◌then◌else◌}
 use Rattle.std.specs.List.{list_any}
 use Rattle.std.specs.Option.{option_map}
 use Rattle.std.specs.Str.{bytes_eq}
@@ -47,7 +49,8 @@ has_hyphen [] = false
 has_hyphen (b ∷ bs) = b == 45
 
 -- What a word of an option gives, by its name and the value behind `=`, if any; `next` reads on with a name that waits.
-abbrev pub given_by : Option (List ℕ × Option (List ℕ)) → Option (List Given) → (List ℕ → Option (List Given)) → Option (List Given)
+abbrev pub given_by : Option (List ℕ × Option (List ℕ)) → Option (List Given) → (List ℕ → Option (List Given))
+    → Option (List Given)
 given_by None rest next = None
 given_by (Some (name, None)) rest next = next name
 given_by (Some (name, Some value)) rest next = with_first name value rest
@@ -61,6 +64,7 @@ given_from (Some name) (w ∷ ws) = if has_hyphen w then None else with_first na
 given_from None (w ∷ ws) = given_by (long_of w) (given_from None ws) (λ name. given_from (Some name) ws)
 
 -- The options that the words after the first give: `--name value` or `--name=value`, in any order.
--- The words --grid, 2, --buffer=4 give grid with the value 2, and buffer with the value 4; the words --grid give nothing.
+-- The words --grid, 2, --buffer=4 give grid with the value 2, and buffer with the value 4; the
+-- words --grid give nothing.
 abbrev pub given_of : List (List ℕ) → Option (List Given)
 given_of words = given_from None words

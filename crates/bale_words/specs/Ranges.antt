@@ -31,7 +31,8 @@ abbrev pub TaskInRanges : Task → Type 0
 TaskInRanges (task.Sssp source (Some delta)) = (1 ≤ delta) × (delta ≤ 1000000000000)
 TaskInRanges _ = Unit {0}
 
--- The numbers of a command are within the ranges of their options, and tally, which reads lines, has no matrix to be generated.
+-- The numbers of a command are within the ranges of their options, and tally, which reads lines,
+-- has no matrix to be generated.
 -- The words histo, --buffer, 64 give a command whose buffer is 64, one of the sizes; no words give the buffer 3.
 pub record InRanges (c : Command) : Type 0 where
   pub lines : c.task ≡ task.Tally → c.travel.generated ≡ None

@@ -1,5 +1,7 @@
 -- The values of the options: what a text gives, where it gives anything.
-use Rattle.std.specs.Prelude.{ℕ, Bool, true, false, ◌+◌, ◌*◌, ◌-◌, ◌/◌, ◌^◌, ◌==◌, min, List, [], ◌∷◌, Option, Some, None, is_some, codes, if◌then◌else◌}
+use Rattle.std.specs.Prelude.{ℕ, Bool, true, false, ◌+◌, ◌*◌, ◌-◌, ◌/◌, ◌^◌, ◌==◌, min, List, [], ◌∷◌, Option, Some}
+use Rattle.std.specs.Prelude.{if◌then◌else◌}
+use Rattle.std.specs.Prelude.{None, is_some, codes, if◌then◌else◌}
 use Rattle.std.specs.List.{list_any, slice_split}
 use Rattle.std.specs.Option.{option_map, option_and_then}
 use Rattle.std.specs.Str.{bytes_eq}
@@ -59,10 +61,13 @@ buffer_of text = number_in 1 MOST_ENTRIES text >>= one_of CAPACITIES
 
 -- `yes` or `no`.
 unfoldable pub steady_of : List ℕ → Option Bool
-steady_of text = if is_text (codes "yes") text then Some true else (if is_text (codes "no") text then Some false else None)
+steady_of text =
+    if is_text (codes "yes") text then Some true else (if is_text (codes "no") text then Some false else None)
 
 unfoldable pub driving_of : List ℕ → Option Driving
-driving_of text = if is_text (codes "threads") text then Some Threads else (if is_text (codes "serial") text then Some Serial else None)
+driving_of text =
+    if is_text (codes "threads") text then Some Threads
+    else (if is_text (codes "serial") text then Some Serial else None)
 
 -- biconvey is for ig alone.
 abbrev pub has_biconvey : TaskName → Bool

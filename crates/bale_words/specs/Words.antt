@@ -13,14 +13,18 @@ use Rattle.bale_words.specs.declared.command.Driving.TheVariants.{Threads}
 use Rattle.bale_words.specs.declared.travel.Travel.{Travel}
 use Rattle.bale_words.specs.Numbers.{number_in, numbers_in}
 use Rattle.bale_words.specs.Options.{Given, given_of, accepted, value_in}
-use Rattle.bale_words.specs.Values.{◌>>=◌, is_text, or_default, if_given, grid_of, slots_of, buffer_of, steady_of, driving_of, transport_of, generated_of}
+use Rattle.bale_words.specs.Values.{◌>>=◌, is_text, or_default, if_given, grid_of, slots_of, buffer_of, steady_of}
+use Rattle.bale_words.specs.Values.{driving_of, transport_of, generated_of}
 
 -- The application that the first word names.
 unfoldable pub application_of : List ℕ → Option TaskName
 application_of word =
-    if is_text (codes "histo") word then Some application.Histo else (if is_text (codes "ig") word then Some application.Ig
-    else (if is_text (codes "permute") word then Some application.Permute else (if is_text (codes "transpose") word then Some application.Transpose
-    else (if is_text (codes "topo") word then Some application.Topo else (if is_text (codes "sssp") word then Some application.Sssp
+    if is_text (codes "histo") word then Some application.Histo
+    else (if is_text (codes "ig") word then Some application.Ig
+    else (if is_text (codes "permute") word then Some application.Permute
+    else (if is_text (codes "transpose") word then Some application.Transpose
+    else (if is_text (codes "topo") word then Some application.Topo
+    else (if is_text (codes "sssp") word then Some application.Sssp
     else (if is_text (codes "tally") word then Some application.Tally else None))))))
 
 -- The options of every application.
@@ -56,15 +60,18 @@ abbrev pub task_in : TaskName → List Given → Option Task
 task_in application.Histo gs = Some task.Histo
 task_in application.Ig gs = Some task.Ig
 task_in application.Permute gs = do
-  permutations ← permutations_of (value_in (codes "seed") gs) (value_in (codes "rperm") gs) (value_in (codes "cperm") gs)
+  permutations ← permutations_of (value_in (codes "seed") gs) (value_in (codes "rperm") gs)
+      (value_in (codes "cperm") gs)
   Some (task.Permute permutations)
 task_in application.Transpose gs = Some task.Transpose
 task_in application.Topo gs = Some task.Topo
 task_in application.Sssp gs = search_of (value_in (codes "source") gs) (value_in (codes "delta") gs)
 task_in application.Tally gs = Some task.Tally
 
--- How the items travel, and what stands in the place of a text: transport, slots, steady, buffer, drive, generated matrix.
-unfoldable pub travel_of : TaskName → Option (List ℕ) → Option (List ℕ) → Option (List ℕ) → Option (List ℕ) → Option (List ℕ) → Option (List ℕ) → Option Travel
+-- How the items travel, and what stands in the place of a text: transport, slots, steady, buffer,
+-- drive, generated matrix.
+unfoldable pub travel_of : TaskName → Option (List ℕ) → Option (List ℕ) → Option (List ℕ) → Option (List ℕ)
+    → Option (List ℕ) → Option (List ℕ) → Option Travel
 travel_of a via slots steady buffer drive gen = do
   transport ← or_default Convey (transport_of a) via
   slots ← or_default 2 slots_of slots
@@ -72,11 +79,19 @@ travel_of a via slots steady buffer drive gen = do
   buffer ← or_default 64 buffer_of buffer
   driving ← or_default Threads driving_of drive
   generated ← if_given generated_of gen
-  Some (record { transport = transport; slots = slots; steady = steady; buffer = buffer; driving = driving; generated = generated })
+  Some (record {
+    transport = transport;
+    slots = slots;
+    steady = steady;
+    buffer = buffer;
+    driving = driving;
+    generated = generated;
+  })
 
 abbrev pub travel_in : TaskName → List Given → Option Travel
 travel_in a gs =
-    travel_of a (value_in (codes "via") gs) (value_in (codes "slots") gs) (value_in (codes "steady") gs) (value_in (codes "buffer") gs)
+    travel_of a (value_in (codes "via") gs) (value_in (codes "slots") gs) (value_in (codes "steady") gs)
+    (value_in (codes "buffer") gs)
     (value_in (codes "drive") gs) (value_in (codes "gen") gs)
 
 -- The command of an application and its options.
@@ -97,7 +112,8 @@ command_with None words = None
 command_with (Some a) words = command_by a (given_of words)
 
 -- The command that the words after the program's name give: the application, and then its options.
--- The words histo, --grid, 2x2 give histo on the grid 2x2, with two slots and all other defaults; the words histo, --grid, 65 give nothing.
+-- The words histo, --grid, 2x2 give histo on the grid 2x2, with two slots and all other defaults;
+-- the words histo, --grid, 65 give nothing.
 abbrev pub command_of : List (List ℕ) → Option Command
 command_of [] = None
 command_of (first ∷ words) = command_with (application_of first) words

@@ -1,7 +1,7 @@
 -- A rank at its two ports stays on its way by a turn.
 use Rattle.std.proofs.Common.{◌≡◌, ℕ, ◌+◌, Bool, true, sym, ap, subst, ◌∙◌, arith}
 use Rattle.port_bank.specs.Shapes.{IsConveyorShape}
-use Rattle.link_slots.specs.Seen.{Bank, Manning, named, posted_on, collected_from}
+use Rattle.link_slots.specs.Seen.{Identity, Manning, named, posted_on, collected_from}
 use Rattle.link_slots.proofs.Ported.{one_bank}
 use Rattle.round_program.specs.Talks.{Talk}
 use Rattle.query_node.specs.States.{BiState, IsBiNode}
@@ -35,9 +35,9 @@ turned {S} T cap told n n' q q' p p' turns heard same_q same_p dims rank steady_
       kept = λ steady start w.
           let node = kept start w.node in
           record {
-            queries = record { same_dims = dims ∙ (w.queries.same_dims ∙ sym (ap (λ (a : Bank). a.shape.dims) same_q.bank)); same_rank = rank ∙ (w.queries.same_rank ∙ sym same_q.number) };
+            queries = record { same_dims = dims ∙ (w.queries.same_dims ∙ sym (ap (λ (a : Identity). a.shape.dims) same_q.bank)); same_rank = rank ∙ (w.queries.same_rank ∙ sym same_q.number) };
             replies = record {
-              same_dims = node.same_dims ∙ (dims ∙ (sym w.node.same_dims ∙ (w.replies.same_dims ∙ sym (ap (λ (a : Bank). a.shape.dims) same_p.bank))));
+              same_dims = node.same_dims ∙ (dims ∙ (sym w.node.same_dims ∙ (w.replies.same_dims ∙ sym (ap (λ (a : Identity). a.shape.dims) same_p.bank))));
               same_rank = node.same_rank ∙ (rank ∙ (sym w.node.same_rank ∙ (w.replies.same_rank ∙ sym same_p.number)));
             };
             same_steady = (steady_q ∙ w.same_steady.0, steady_p ∙ w.same_steady.1);

@@ -14,7 +14,7 @@ use Rattle.port_bank.specs.Round.{Round, IsRound, logs_of}
 use Rattle.port_bank.specs.Shapes.{IsConveyorShape}
 use Rattle.port_bank.proofs.Routes.{numbered}
 use Rattle.link_slots.specs.Closed.{slot_round, AllThere}
-use Rattle.link_slots.specs.Seen.{Bank, Manning, posted_on, collected_from}
+use Rattle.link_slots.specs.Seen.{Identity, Manning, posted_on, collected_from}
 use Rattle.link_slots.specs.Shape.{Shape}
 use Rattle.convey.specs.Law.{ClosesLaw}
 use Rattle.convey.proofs.OneRank.{starting-own}
@@ -39,7 +39,7 @@ pub record IsLeft (cap : ℕ) (shape : Shape) (lists : _) (c : Round) : Type 0 w
   pub sent : (s : Manning) → get_or lists s.rank None ≡ Some s.lists → starting_at shape.dims s.rank (logs_of c.sent) ≡ posted_on s
   pub got : (s : Manning) → get_or lists s.rank None ≡ Some s.lists → ending_at shape.dims s.rank (logs_of c.got) ≡ collected_from s
 
-module _ {S : Type 0} (T : Talk S) (cap : ℕ) (b p : Bank) (same : p.shape ≡ b.shape) (steady : Bool) (askers : List S) (all : AreAskers T (ranks b.shape.dims) askers)
+module _ {S : Type 0} (T : Talk S) (cap : ℕ) (b p : Identity) (same : p.shape ≡ b.shape) (steady : Bool) (askers : List S) (all : AreAskers T (ranks b.shape.dims) askers)
     (ns : List (BiState S)) (fresh : AreFresh T b.shape.dims steady askers ns) (xs ys : List (SeatedState S)) (firsts : map (λ x. x.node) xs ≡ ns) (seated : AreSeated T cap steady b p xs) (heard : ℕ → ℕ → Bool) (ran : AllRan (λ x y. Ran T cap heard x y) xs ys) where
   abbrev dims : List ℕ
   dims = b.shape.dims
@@ -161,7 +161,7 @@ module _ {S : Type 0} (T : Talk S) (cap : ℕ) (b p : Bank) (same : p.shape ≡ 
         let w : IsOnWay T cap steady c.start y = c.way in
         let mine : starts_of askers first k ≡ c.start = get_or_from_slice_get askers k c.start first c.began in
         record {
-          same_dims = w.queries.same_dims ∙ ap (λ (a : Bank). a.shape.dims) c.queries_bank;
+          same_dims = w.queries.same_dims ∙ ap (λ (a : Identity). a.shape.dims) c.queries_bank;
           same_rank = w.queries.same_rank ∙ c.numbers.0;
           node =
               subst (λ s. IsBiNode T s y.node (starting_at dims k (logs_of q.sent)) (ending_at dims k (logs_of q.got)) (starting_at dims k (logs_of r.sent)) (ending_at dims k (logs_of r.got))) (sym mine)

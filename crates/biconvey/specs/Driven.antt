@@ -12,11 +12,13 @@ use Rattle.round_program.specs.Replies.{HaveHeard}
 use Rattle.biconvey.specs.Drives.{TellsExchange}
 
 -- What it leaves of the askers `starts`, over two banks that were made as said.
-pub record HasExchanged {S : Type 0} (T : Talk S) (starts : List S) (made : Made) (steady : Bool) (run : Finished S) : Type 0 where
+pub record HasExchanged {S : Type 0} (T : Talk S) (starts : List S) (made : Made) (steady : Bool)
+    (run : Finished S) : Type 0 where
   -- Each query has its one reply.
   pub heard : HaveHeard T starts run.progs
   -- Two closed rounds tell what was exchanged.
-  pub rounds : (q : ClosedRound) × (r : ClosedRound) × (run.rounds ≡ q ∷ r ∷ []) × TellsExchange T starts made steady (round_of q) (round_of r)
+  pub rounds : (q : ClosedRound) × (r : ClosedRound) × (run.rounds ≡ q ∷ r ∷ [])
+      × TellsExchange T starts made steady (round_of q) (round_of r)
 
 -- What it further leaves on one thread, which counts its turns from `before` to `after`.
 pub record HasSweptBoth {S : Type 0} (dims : List ℕ) (before after : ℕ) (run : Finished S) : Type 0 where
@@ -24,4 +26,5 @@ pub record HasSweptBoth {S : Type 0} (dims : List ℕ) (before after : ℕ) (run
   pub fewest : before + ranks dims ≤ after
   -- No link of either way has more parcels than the run had turns.
   pub posted : (q r : ClosedRound) → run.rounds ≡ q ∷ r ∷ [] → (l : ℕ) → l < links dims
-      → (length (logs_of (round_of q).sent l) + before ≤ after) × (length (logs_of (round_of r).sent l) + before ≤ after)
+      → (length (logs_of (round_of q).sent l) + before ≤ after)
+      × (length (logs_of (round_of r).sent l) + before ≤ after)

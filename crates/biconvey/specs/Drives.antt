@@ -49,7 +49,8 @@ pub record TellsWay (made : Made) (steady : Bool) (items : ℕ → ℕ → List 
   pub shape : (l : ℕ) → l < links round.dims → IsConveyorShape steady round.cap (logs_of round.sent l)
 
 -- Two closed rounds tell both ways.
-pub record TellsExchange {S : Type 0} (T : Talk S) (askers : List S) (made : Made) (steady : Bool) (queries replies : Round) : Type 0 where
+pub record TellsExchange {S : Type 0} (T : Talk S) (askers : List S) (made : Made) (steady : Bool)
+    (queries replies : Round) : Type 0 where
   pub asking : TellsWay made steady (queries_by T askers) queries
   pub replying : TellsWay made steady (replies_by T askers) replies
 
@@ -66,6 +67,7 @@ pub record IsFresh {S : Type 0} (T : Talk S) (dims : List ℕ) (steady : Bool) (
 abbrev pub askers_of : {S : Type 0} → List (BiState S) → List S
 askers_of ns = map (λ n. n.asker) ns
 
-pub record AreFresh {S : Type 0} (T : Talk S) (dims : List ℕ) (steady : Bool) (askers : List S) (ns : List (BiState S)) : Type 0 where
+pub record AreFresh {S : Type 0} (T : Talk S) (dims : List ℕ) (steady : Bool) (askers : List S)
+    (ns : List (BiState S)) : Type 0 where
   pub same : askers_of ns ≡ askers
   pub each : (r : ℕ) (n : BiState S) → slice_get ns r ≡ Some n → IsFresh T dims steady r n

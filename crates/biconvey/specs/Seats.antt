@@ -1,7 +1,7 @@
 -- Ranks that sit at two slot banks, one of queries and one of replies.
 use Rattle.std.specs.Prelude.{◌≡◌, ℕ, ◌<◌, ◌≤◌, Bool, true, List, slice_get, Some}
 use Rattle.port_bank.specs.Shapes.{IsConveyorShape}
-use Rattle.link_slots.specs.Seen.{Bank, Manning, posted_on, collected_from}
+use Rattle.link_slots.specs.Seen.{Identity, Manning, posted_on, collected_from}
 use Rattle.round_program.specs.Talks.{Talk}
 use Rattle.rank_group.specs.Noted.{HasSame}
 use Rattle.query_node.specs.States.{BiState, IsBiNode}
@@ -15,7 +15,7 @@ pub record SeatedState (S : Type 0) : Type 0 where
   pub turns : ℕ
 
 -- the bank of a seat
-abbrev pub bank_at : Manning → Bank
+abbrev pub bank_at : Manning → Identity
 bank_at seat = record { id = seat.id; shape = seat.shape }
 
 -- The seat's rank and its bank's grid, of a conveyor at a rank of a grid.
@@ -23,13 +23,15 @@ pub record IsSeatOf (rank : ℕ) (dims : List ℕ) (seat : Manning) : Type 0 whe
   pub same_dims : dims ≡ seat.shape.dims
   pub same_rank : rank ≡ seat.rank
 
--- By its seats' lists it is a rank of an exchange, which began in the state `start`; its parcels are filled as conveyors fill them.
+-- By its seats' lists it is a rank of an exchange, which began in the state `start`; its parcels
+-- are filled as conveyors fill them.
 -- some: where both its ways are complete it was turned.
 pub record IsOnWay {S : Type 0} (T : Talk S) (cap : ℕ) (steady : Bool) (start : S) (x : SeatedState S) : Type 0 where
   pub queries : IsSeatOf x.node.queries.rank x.node.queries.dims x.queries
   pub replies : IsSeatOf x.node.replies.rank x.node.replies.dims x.replies
   pub same_steady : (x.node.queries.steady ≡ steady) × (x.node.replies.steady ≡ steady)
-  pub node : IsBiNode T start x.node (posted_on x.queries) (collected_from x.queries) (posted_on x.replies) (collected_from x.replies)
+  pub node : IsBiNode T start x.node (posted_on x.queries) (collected_from x.queries) (posted_on x.replies)
+      (collected_from x.replies)
   pub queries_shape : (l : ℕ) → IsConveyorShape steady cap (posted_on x.queries l)
   pub replies_shape : (l : ℕ) → IsConveyorShape steady cap (posted_on x.replies l)
   pub some : is_over x.node ≡ true → 0 < x.turns
@@ -55,7 +57,8 @@ pub record Ran {S : Type 0} (T : Talk S) (cap : ℕ) (told : ℕ → ℕ → Boo
   pub kept : (steady : Bool) (start : S) → IsOnWay T cap steady start x → IsOnWay T cap steady start y
 
 -- A rank that hasn't turned sits at the banks q and p with the number r.
-pub record IsSeated {S : Type 0} (T : Talk S) (cap : ℕ) (steady : Bool) (q p : Bank) (r : ℕ) (x : SeatedState S) : Type 0 where
+pub record IsSeated {S : Type 0} (T : Talk S) (cap : ℕ) (steady : Bool) (q p : Identity) (r : ℕ)
+    (x : SeatedState S) : Type 0 where
   pub queries_bank : bank_at x.queries ≡ q
   pub replies_bank : bank_at x.replies ≡ p
   pub numbers : (x.queries.rank ≡ r) × (x.replies.rank ≡ r)
@@ -63,8 +66,9 @@ pub record IsSeated {S : Type 0} (T : Talk S) (cap : ℕ) (steady : Bool) (q p :
   pub way : IsOnWay T cap steady x.node.asker x
 
 -- Ranks that haven't turned sit at these banks in order.
-abbrev pub AreSeated : {S : Type 0} → Talk S → ℕ → Bool → Bank → Bank → List (SeatedState S) → Type 0
-AreSeated {S} T cap steady q p xs = (r : ℕ) (x : SeatedState S) → slice_get xs r ≡ Some x → IsSeated T cap steady q p r x
+abbrev pub AreSeated : {S : Type 0} → Talk S → ℕ → Bool → Identity → Identity → List (SeatedState S) → Type 0
+AreSeated {S} T cap steady q p xs = (r : ℕ) (x : SeatedState S) → slice_get xs r ≡ Some x
+    → IsSeated T cap steady q p r x
 
 -- No parcel of a rank moved, neither of queries nor of replies.
 pub record HaveSame {S : Type 0} (x y : SeatedState S) : Type 0 where

@@ -1,5 +1,6 @@
 -- One of the two ways of all ranks: their conveyors over one bank.
-use Rattle.std.specs.Prelude.{◌≡◌, ℕ, ◌+◌, ◌-◌, ◌<◌, ◌≤◌, Bool, false, List, [], ◌++◌, length, Option, Some, None, slice_get}
+use Rattle.std.specs.Prelude.{◌≡◌, ℕ, ◌+◌, ◌-◌, ◌<◌, ◌≤◌, Bool, false, List, [], ◌++◌, length, Option, Some, None}
+use Rattle.std.specs.Prelude.{slice_get}
 use Rattle.std.specs.List.{flat_map}
 use Rattle.bale_types.specs.declared.item.Entry.{Entry}
 use Rattle.item_buffer.specs.Contents.{Shipped}
@@ -22,7 +23,19 @@ entries_of log = flat_map (λ p. p.entries) log
 
 -- Of a rank that there is, its conveyor.
 abbrev pub conveyor_in : Option State → State
-conveyor_in None = record { dims = []; rank = 0; cap = 0; steady = false; outs = []; ins = []; done = false; phase = Dormant; epoch = 0; pulled = None }
+conveyor_in None =
+    record {
+      dims = [];
+      rank = 0;
+      cap = 0;
+      steady = false;
+      outs = [];
+      ins = [];
+      done = false;
+      phase = Dormant;
+      epoch = 0;
+      pulled = None;
+    }
 conveyor_in (Some c) = c
 
 -- How many entries lie in the inbox of a link.
@@ -57,8 +70,11 @@ pub record AfterTurn (dims : List ℕ) (cap r : ℕ) (c c' : State) (sent got se
   pub got_elsewhere : ending_elsewhere dims r got' ≡ ending_elsewhere dims r got
   pub sent_grows : (l : ℕ) → Begins (starting_at dims r sent l) (starting_at dims r sent' l)
   pub got_grows : (l : ℕ) → Begins (ending_at dims r got l) (ending_at dims r got' l)
-  pub once : (l : ℕ) → l < links dims → sender_at dims l ≡ r → length (starting_at dims r sent' l) ≤ length (starting_at dims r sent l) + 1
+  pub once : (l : ℕ) → l < links dims → sender_at dims l ≡ r
+      → length (starting_at dims r sent' l) ≤ length (starting_at dims r sent l) + 1
   pub steady : c'.steady ≡ c.steady
-  pub shape : (l : ℕ) → IsConveyorShape c.steady cap (starting_at dims r sent l) → IsConveyorShape c.steady cap (starting_at dims r sent' l)
-  pub lies : (l : ℕ) (more : List Shipped) → l < links dims → reader_at dims l ≡ r → ending_at dims r got' l ≡ ending_at dims r got l ++ more
+  pub shape : (l : ℕ) → IsConveyorShape c.steady cap (starting_at dims r sent l)
+      → IsConveyorShape c.steady cap (starting_at dims r sent' l)
+  pub lies : (l : ℕ) (more : List Shipped) → l < links dims → reader_at dims l ≡ r
+      → ending_at dims r got' l ≡ ending_at dims r got l ++ more
       → length (in_of c' l).parcel.untaken ≤ length (in_of c l).parcel.untaken + length (flat_map (λ p. p.entries) more)

@@ -40,23 +40,28 @@ abbrev pub is_over : {S : Type 0} → BiState S → Bool
 is_over n = is_complete n.queries.phase && is_complete n.replies.phase
 
 -- What the turn of rank r leaves.
-pub record AfterRank {S : Type 0} (T : Talk S) (dims : List ℕ) (cap slots r : ℕ) (n n' : BiState S) (s s' : Sides) : Type 0 where
+pub record AfterRank {S : Type 0} (T : Talk S) (dims : List ℕ) (cap slots r : ℕ) (n n' : BiState S)
+    (s s' : Sides) : Type 0 where
   pub queries : AfterTurn dims cap r n.queries n'.queries s.asking s.asked s'.asking s'.asked
   pub replies : AfterTurn dims cap r n.replies n'.replies s.replying s.replied s'.replying s'.replied
   pub kept : (start : S) → HasRank T dims r start n s → HasRank T dims r start n' s'
-  pub stuck : (start : S) → HasRank T dims r start n s → s' ≡ s → IsStuck n n' (sides_at dims r s) (sides_at dims r s') (known_at dims slots r s')
+  pub stuck : (start : S) → HasRank T dims r start n s → s' ≡ s
+      → IsStuck n n' (sides_at dims r s) (sides_at dims r s') (known_at dims slots r s')
 
 -- A rank at rest: its turn moved no parcel, and no entry out of an inbox.
 pub record Rests {S : Type 0} (T : Talk S) (dims : List ℕ) (slots r : ℕ) (n : BiState S) (s : Sides) : Type 0 where
   pub before : BiState S
   pub start : S
   pub has : HasRank T dims r start before s
-  pub kept_queries : (l : ℕ) → l < links dims → reader_at dims l ≡ r → length (in_of before.queries l).parcel.untaken ≤ length (in_of n.queries l).parcel.untaken
-  pub kept_replies : (l : ℕ) → l < links dims → reader_at dims l ≡ r → length (in_of before.replies l).parcel.untaken ≤ length (in_of n.replies l).parcel.untaken
+  pub kept_queries : (l : ℕ) → l < links dims → reader_at dims l ≡ r
+      → length (in_of before.queries l).parcel.untaken ≤ length (in_of n.queries l).parcel.untaken
+  pub kept_replies : (l : ℕ) → l < links dims → reader_at dims l ≡ r
+      → length (in_of before.replies l).parcel.untaken ≤ length (in_of n.replies l).parcel.untaken
   pub stuck : IsStuck before n (sides_at dims r s) (sides_at dims r s) (known_at dims slots r s)
 
 -- All ranks over two banks; rank r began in the state `starts r`.
-pub record World {S : Type 0} (T : Talk S) (dims : List ℕ) (cap slots : ℕ) (steady : Bool) (starts : ℕ → S) (ns : List (BiState S)) (s : Sides) : Type 0 where
+pub record World {S : Type 0} (T : Talk S) (dims : List ℕ) (cap slots : ℕ) (steady : Bool) (starts : ℕ → S)
+    (ns : List (BiState S)) (s : Sides) : Type 0 where
   pub queries : IsWay dims cap slots steady (map (λ n. n.queries) ns) s.asking s.asked
   pub replies : IsWay dims cap slots steady (map (λ n. n.replies) ns) s.replying s.replied
   pub some : 0 < slots
@@ -65,25 +70,30 @@ pub record World {S : Type 0} (T : Talk S) (dims : List ℕ) (cap slots : ℕ) (
 
 -- Between two states of the banks no link of either way got more parcels than there were turns.
 abbrev pub PostedWithin : List ℕ → Sides → ℕ → Sides → ℕ → Type 0
-PostedWithin dims s steps s' steps' = (l : ℕ) → l < links dims → (length (s'.asking l) + steps ≤ length (s.asking l) + steps') × (length (s'.replying l) + steps ≤ length (s.replying l) + steps')
+PostedWithin dims s steps s' steps' = (l : ℕ) → l < links dims
+    → (length (s'.asking l) + steps ≤ length (s.asking l) + steps')
+    × (length (s'.replying l) + steps ≤ length (s.replying l) + steps')
 
 -- What moved on both ways.
 abbrev pub all_moves : {S : Type 0} → List ℕ → List (BiState S) → Sides → ℕ
-all_moves dims ns s = moves dims (map (λ n. n.queries) ns) s.asking s.asked + moves dims (map (λ n. n.replies) ns) s.replying s.replied
+all_moves dims ns s =
+    moves dims (map (λ n. n.queries) ns) s.asking s.asked + moves dims (map (λ n. n.replies) ns) s.replying s.replied
 
 -- What the turns of the first i ranks of an order leave of all ranks.
 -- rests: where nothing moved, each rank that was turned is at rest.
-pub record SweptTo {S : Type 0} (T : Talk S) (dims : List ℕ) (cap slots : ℕ) (steady : Bool) (starts : ℕ → S) (order : List ℕ) (i : ℕ) (ns0 : List (BiState S)) (s0 : Sides) (ns : List (BiState S)) (s : Sides) : Type 0 where
+pub record SweptTo {S : Type 0} (T : Talk S) (dims : List ℕ) (cap slots : ℕ) (steady : Bool) (starts : ℕ → S)
+    (order : List ℕ) (i : ℕ) (ns0 : List (BiState S)) (s0 : Sides) (ns : List (BiState S)) (s : Sides) : Type 0 where
   pub world : World T dims cap slots steady starts ns s
   pub grown : all_moves dims ns0 s0 ≤ all_moves dims ns s
-  pub rests : all_moves dims ns s ≤ all_moves dims ns0 s0 → (j r : ℕ) → j < i → slice_get order j ≡ Some r → (n : BiState S) → slice_get ns r ≡ Some n → Rests T dims slots r n s
+  pub rests : all_moves dims ns s ≤ all_moves dims ns0 s0 → (j r : ℕ) → j < i → slice_get order j ≡ Some r
+      → (n : BiState S) → slice_get ns r ≡ Some n → Rests T dims slots r n s
 
 -- How many queries the ranks have.
 abbrev pub queries_in : {S : Type 0} → Talk S → List (BiState S) → ℕ
 queries_in T ns = sum_by (λ n. length (T.queries n.asker)) ns
 
--- How many turns an exchange of so many queries takes at most: each sweep but the last moves something on one of the ways, and
--- a parcel or an entry moves at most so often.
+-- How many turns an exchange of so many queries takes at most: each sweep but the last moves
+-- something on one of the ways, and a parcel or an entry moves at most so often.
 -- For two ranks in one hop and three queries it is 2 * 2 * (3 * 4 + 2 * 4 + 1) = 84.
 abbrev pub turns_of : List ℕ → ℕ → ℕ
 turns_of dims queries = 2 * (ranks dims * (queries * (3 * length dims + 1) + 2 * links dims + 1))

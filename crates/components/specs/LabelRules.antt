@@ -1,5 +1,6 @@
 -- The propagation of labels, as a program in rounds.
-use Rattle.std.specs.Prelude.{ℕ, ◌+◌, ◌-◌, ◌*◌, ◌%◌, ◌^◌, ◌<◌, ◌≤◌, ◌≡◌, ◌==◌, ◌&&◌, not, nat_lt, min, Bool, false, List, [], ◌∷◌, map, length, slice_index_or}
+use Rattle.std.specs.Prelude.{ℕ, ◌+◌, ◌-◌, ◌*◌, ◌%◌, ◌^◌, ◌<◌, ◌≤◌, ◌≡◌, ◌==◌, ◌&&◌, not, nat_lt, min, Bool, false}
+use Rattle.std.specs.Prelude.{List, [], ◌∷◌, map, length, slice_index_or}
 use Rattle.std.specs.List.{All, filter}
 use Rattle.bale_types.specs.declared.Item.{Item}
 use Rattle.round_program.specs.Rules.{Rules}
@@ -45,7 +46,8 @@ to_owner ranks before l = (l.to % ranks, label_item before l)
 
 -- an owner may be sent labels for its vertices
 abbrev pub is_label : List ℕ → ℕ → ℕ → ℕ → ℕ → Item → Bool
-is_label (n ∷ []) ranks round to from x = nat_lt from ranks && nat_lt to ranks && nat_lt x.a n && nat_lt x.b n && x.a % ranks == to && is_item x
+is_label (n ∷ []) ranks round to from x =
+    nat_lt from ranks && nat_lt to ranks && nat_lt x.a n && nat_lt x.b n && x.a % ranks == to && is_item x
 is_label shape ranks round to from x = false
 
 -- A bound on the rounds: in each but the last some label falls, and 64 ranks have 16,384 labels below 16,384 at most.

@@ -25,7 +25,7 @@ use Rattle.convey.specs.declared.progress.Progress.TheVariants.{Complete as Whol
 use Rattle.hop_core.specs.State.{State, phase_of}
 use Rattle.port_bank.specs.Machine.{Part, IsOwnStep}
 use Rattle.convey.specs.Buffers.{out_of, in_of, is_complete, back_of, buffers_of}
-use Rattle.convey.specs.Agreement.{items_among, with_back, Agrees}
+use Rattle.convey.specs.Agreement.{items_among, with_latest, Agrees}
 use Rattle.convey.specs.Due.{IsOver, HeldUp}
 use Rattle.convey.specs.Parts.{part_of}
 use Rattle.convey.specs.Progress.{advance_step, progress_of}
@@ -102,7 +102,7 @@ new_agrees st n m outs ins epoch pulled =
     let out : (l : ℕ) → out_of st l ≡ no_out = λ l. ap (λ os. slice_index_or os (out_index st.dims l) no_out) outs ∙ replicate_or n (out_index st.dims l) no_out in
     let in' : (l : ℕ) → in_of st l ≡ no_in = λ l. ap (λ is. slice_index_or is (in_index st.dims l) no_in) ins ∙ replicate_or m (in_index st.dims l) no_in in
     let waits : (l : ℕ) → (out_of st l).parcel.untaken ≡ [] = λ l. ap (λ o. o.parcel.untaken) (out l) in
-    let lies : (l : ℕ) → with_back (back_of st st.pulled) l (in_of st l).parcel.untaken ≡ [] = λ l. (λ i. with_back (back_of st (pulled i)) l (in_of st l).parcel.untaken) ∙ ap (λ x. x.parcel.untaken) (in' l) in
+    let lies : (l : ℕ) → with_latest (back_of st st.pulled) l (in_of st l).parcel.untaken ≡ [] = λ l. (λ i. with_latest (back_of st (pulled i)) l (in_of st l).parcel.untaken) ∙ ap (λ x. x.parcel.untaken) (in' l) in
     record {
       outs = λ l h from. record {
         lasts = sym (λ i. lasts_in (epoch i) (out l i).closed);

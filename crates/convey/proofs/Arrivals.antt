@@ -17,7 +17,7 @@ use Rattle.route_tensor.specs.Pair.{belongs, PassesThrough}
 use Rattle.list_laws.specs.Lists.{Begins, Ends}
 use Rattle.port_bank.proofs.Kept.{added-here, added-other, added_grows, between, law_got_more}
 use Rattle.convey.specs.Buffers.{Buffers}
-use Rattle.convey.specs.Agreement.{InAgrees, items_among, with_back, Agrees}
+use Rattle.convey.specs.Agreement.{InAgrees, items_among, with_latest, Agrees}
 use Rattle.convey.specs.Parts.{pushed_to, pulled_of, part_of}
 use Rattle.convey.proofs.Flows.{flow_here, flow_elsewhere, flow_at_other_epoch, segment_grown, entries_grown}
 use Rattle.convey.proofs.PostLaw.{lasts_added, open_lasts}
@@ -162,7 +162,7 @@ module _ (b : Buffers) (unread : ℕ → List Entry) (ended : ℕ → Bool) (sen
 -- entries are relayed: what is on its way of a pair stays, in order
 pub record Relayed (b : Buffers) (waiting unread : ℕ → List Entry) : Type 0 where
   pub fair_out : (l : ℕ) → l < links b.dims → sender_at b.dims l ≡ b.rank → All (λ e. IsFair b.dims (hop_at b.dims l) e.tag) (waiting l)
-  pub fair_in : (l : ℕ) → l < links b.dims → reader_at b.dims l ≡ b.rank → All (λ e. IsFair b.dims (hop_at b.dims l) e.tag) (with_back b.latest l (unread l))
+  pub fair_in : (l : ℕ) → l < links b.dims → reader_at b.dims l ≡ b.rank → All (λ e. IsFair b.dims (hop_at b.dims l) e.tag) (with_latest b.latest l (unread l))
   pub pairs : (x y h : ℕ) → PassesThrough b.dims b.rank x y h → items_among (belongs b.dims x y (h + 1)) (waiting (hop_link b.dims x y (h + 1))) ++ items_among (belongs b.dims x y h) (unread (hop_link b.dims x y h))
       ≡ items_among (belongs b.dims x y (h + 1)) (b.waiting (hop_link b.dims x y (h + 1))) ++ items_among (belongs b.dims x y h) (b.unread (hop_link b.dims x y h))
   pub first_stay : (l : ℕ) → l < links b.dims → sender_at b.dims l ≡ b.rank → hop_at b.dims l ≡ 1 → waiting l ≡ b.waiting l
@@ -176,7 +176,7 @@ module _ (b : Buffers) (waiting unread : ℕ → List Entry) (sent got : Logs) (
     law = a.law;
     pairs = λ x y h pair. a.pairs x y h pair ∙ ap (λ u. flow b.dims sent x y (h + 1) b.epoch ++ u) (sym (r.pairs x y h pair));
     arrived = λ l below own at.
-        subst (λ u. Ends (flat_map (λ p. p.entries) (segment b.epoch (got l))) (with_back b.latest l u)) (sym (r.last_stay l below own at)) (a.arrived l below own at);
+        subst (λ u. Ends (flat_map (λ p. p.entries) (segment b.epoch (got l))) (with_latest b.latest l u)) (sym (r.last_stay l below own at)) (a.arrived l below own at);
     own = a.own;
   }
 

@@ -18,7 +18,7 @@ use Rattle.port_bank.proofs.Fronts.{begins_trans}
 use Rattle.port_bank.proofs.Kept.{added-here, added-other, added_grows, between}
 use Rattle.convey.specs.Buffers.{Buffers}
 use Rattle.list_laws.specs.Lists.{Ends}
-use Rattle.convey.specs.Agreement.{OutAgrees, InAgrees, items_among, with_back, Agrees}
+use Rattle.convey.specs.Agreement.{OutAgrees, InAgrees, items_among, with_latest, Agrees}
 use Rattle.convey.specs.Arrived.{HasArrived}
 use Rattle.convey.specs.Parts.{pushed_to, pulled_of, part_of}
 use Rattle.convey.proofs.Flows.{flow_here, flow_elsewhere, flow_at_other_epoch}
@@ -30,7 +30,7 @@ pub all_none : {X : Type 0} (P : X → Type 0) → All P []
 all_none P k d l = absurd (omega arith)
 
 -- without the right to unpull
-back_all : (P : Entry → Type 0) (o : Option (ℕ × Entry)) (l : ℕ) (unread : List Entry) → All P (with_back o l unread) → All P unread
+back_all : (P : Entry → Type 0) (o : Option (ℕ × Entry)) (l : ℕ) (unread : List Entry) → All P (with_latest o l unread) → All P unread
 back_all P None l unread h = h
 back_all P (Some p) l unread h =
     (elim (p.0 == l) as (λ c. All P (cond c (p.1 ∷ unread) unread) → All P unread) [ true ↦ λ k. All-tail P p.1 unread k | false ↦ λ k. k ]) h
@@ -38,7 +38,7 @@ back_all P (Some p) l unread h =
 ends_shorter : (whole : List Entry) (x : Entry) (back : List Entry) → Ends whole (x ∷ back) → Ends whole back
 ends_shorter whole x back h = record { front = h.front ++ x ∷ []; is = h.is ∙ sym (append_assoc h.front (x ∷ []) back) }
 
-back_ends : (whole : List Entry) (o : Option (ℕ × Entry)) (l : ℕ) (unread : List Entry) → Ends whole (with_back o l unread) → Ends whole unread
+back_ends : (whole : List Entry) (o : Option (ℕ × Entry)) (l : ℕ) (unread : List Entry) → Ends whole (with_latest o l unread) → Ends whole unread
 back_ends whole None l unread h = h
 back_ends whole (Some p) l unread h =
     (elim (p.0 == l) as (λ c. Ends whole (cond c (p.1 ∷ unread) unread) → Ends whole unread) [ true ↦ λ k. ends_shorter whole p.1 unread k | false ↦ λ k. k ]) h

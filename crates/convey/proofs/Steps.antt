@@ -22,7 +22,7 @@ use Rattle.port_bank.specs.Machine.{IsOwnStep, taken_back}
 use Rattle.port_bank.specs.Machine.Step.{Push, Pull, Unpull, Reset}
 use Rattle.convey.specs.Buffers.{Buffers}
 use Rattle.list_laws.specs.Lists.{Ends}
-use Rattle.convey.specs.Agreement.{OutAgrees, items_among, with_back, Agrees}
+use Rattle.convey.specs.Agreement.{OutAgrees, items_among, with_latest, Agrees}
 use Rattle.convey.specs.Law.{IsLastIn}
 use Rattle.convey.specs.Parts.{pushed_to, pulled_of, part_of}
 use Rattle.port_bank.proofs.Marks.{none_after}
@@ -161,7 +161,7 @@ module _ (b : Buffers) (unread : ℕ → List Entry) (sent got : Logs) (m s : �
   before : Agrees (record b { latest = None }) sent got
   before = forget_agrees b sent got a
 
-  with_it : (l : ℕ) → l < links b.dims → reader_at b.dims l ≡ b.rank → with_back (Some (m, e)) l (unread l) ≡ b.unread l
+  with_it : (l : ℕ) → l < links b.dims → reader_at b.dims l ≡ b.rank → with_latest (Some (m, e)) l (unread l) ≡ b.unread l
   with_it l h to =
       elim (cases_eq l m) [
         | inl same ↦ ap (λ c. cond c (e ∷ unread l) (unread l)) (eq-eqb m l (sym same)) ∙ (ap (λ k. e ∷ unread k) same ∙ (sym p.head ∙ ap b.unread (sym same)))
@@ -290,9 +290,9 @@ pub record UnpulledOn (b : Buffers) (unread : ℕ → List Entry) (m : ℕ) (e :
 
 module _ (b : Buffers) (unread : ℕ → List Entry) (sent got : Logs) (m s : ℕ) (e : Entry) (g : IsGrid b.dims) (rank : b.rank < ranks b.dims) (a : Agrees b sent got)
     (at : IsLastIn b m) (p : UnpulledOn b unread m e) where
-  as_before : (l : ℕ) → l < links b.dims → reader_at b.dims l ≡ b.rank → with_back b.latest l (b.unread l) ≡ unread l
+  as_before : (l : ℕ) → l < links b.dims → reader_at b.dims l ≡ b.rank → with_latest b.latest l (b.unread l) ≡ unread l
   as_before l h to =
-      ap (λ o. with_back o l (b.unread l)) p.latest
+      ap (λ o. with_latest o l (b.unread l)) p.latest
       ∙ elim (cases_eq l m) [
         | inl same ↦ ap (λ c. cond c (e ∷ b.unread l) (b.unread l)) (eq-eqb m l (sym same)) ∙ (ap (λ k. e ∷ b.unread k) same ∙ (sym p.back ∙ ap unread (sym same)))
         | inr other ↦ ap (λ c. cond c (e ∷ b.unread l) (b.unread l)) (ne_eqb m l (λ q. other (sym q))) ∙ sym (p.lies l h to other)

@@ -31,7 +31,8 @@ pub record IsAtPort {P : Type 0} {cap : ℕ} {M : Type 0} (G : Ghosts P cap M) (
   pub agrees : AgreesWith st (G.sent port) (G.got port)
 
 -- What any call at the port keeps: the conveyor agrees with it again, and both are those of the same rank.
-pub record KeepsPort {P : Type 0} {cap : ℕ} {M : Type 0} (G : Ghosts P cap M) (old new : State) (port port' : P) : Type 0 where
+pub record KeepsPort {P : Type 0} {cap : ℕ} {M : Type 0} (G : Ghosts P cap M) (old new : State)
+    (port port' : P) : Type 0 where
   pub agrees : AgreesWith new (G.sent port') (G.got port')
   pub dims : new.dims ≡ old.dims
   pub rank : new.rank ≡ old.rank
@@ -40,7 +41,8 @@ pub record KeepsPort {P : Type 0} {cap : ℕ} {M : Type 0} (G : Ghosts P cap M) 
 -- The conveyor agrees with the port again, and is that of its rank, in the same epoch and done as told.
 -- begun: it isn't Dormant.
 -- step: the advance is a step of its part of the exchange machine.
-pub record StaysAtPort {P : Type 0} {cap : ℕ} {M : Type 0} (G : Ghosts P cap M) (told : Bool) (old new : State) (port port' : P) : Type 0 where
+pub record StaysAtPort {P : Type 0} {cap : ℕ} {M : Type 0} (G : Ghosts P cap M) (told : Bool) (old new : State)
+    (port port' : P) : Type 0 where
   pub agrees : AgreesWith new (G.sent port') (G.got port')
   pub dims : new.dims ≡ old.dims
   pub rank : new.rank ≡ old.rank
@@ -48,7 +50,8 @@ pub record StaysAtPort {P : Type 0} {cap : ℕ} {M : Type 0} (G : Ghosts P cap M
   pub epoch : new.epoch ≡ old.epoch
   pub done : new.done ≡ told
   pub begun : new.phase ≢ Dormant
-  pub step : IsOwnStep (advance_step old.done told (is_complete new.phase)) (part_of (buffers_of old) (G.sent port) (G.got port)) (part_of (buffers_of new) (G.sent port') (G.got port'))
+  pub step : IsOwnStep (advance_step old.done told (is_complete new.phase))
+      (part_of (buffers_of old) (G.sent port) (G.got port)) (part_of (buffers_of new) (G.sent port') (G.got port'))
   pub same_port : SamePort G port port'
 
 -- What an answer tells of the phase after it: Complete, exactly where the epoch is over.
@@ -61,12 +64,16 @@ pub record HasSettled (told : Bool) (new : State) (answer : Progress) : Type 0 w
 
 -- The lists only grow, each by one parcel at most, and the parcels posted are of the conveyor's shape: where it isn't
 -- steady, an epoch's entries travel in few parcels (`port_bank::few_parcels_law`).
-pub record ListsGrow {P : Type 0} {cap : ℕ} {M : Type 0} (G : Ghosts P cap M) (old : State) (port port' : P) : Type 0 where
+pub record ListsGrow {P : Type 0} {cap : ℕ} {M : Type 0} (G : Ghosts P cap M) (old : State)
+    (port port' : P) : Type 0 where
   pub sent_grows : (l : ℕ) → Begins (G.sent port l) (G.sent port' l)
   pub got_grows : (l : ℕ) → Begins (G.got port l) (G.got port' l)
-  pub one_sent : (l : ℕ) → l < links old.dims → sender_at old.dims l ≡ old.rank → length (G.sent port' l) ≤ length (G.sent port l) + 1
-  pub one_got : (l : ℕ) → l < links old.dims → reader_at old.dims l ≡ old.rank → length (G.got port' l) ≤ length (G.got port l) + 1
-  pub fills : (l : ℕ) (more : List Shipped) → G.sent port' l ≡ G.sent port l ++ more → IsConveyorShape old.steady cap more
+  pub one_sent : (l : ℕ) → l < links old.dims → sender_at old.dims l ≡ old.rank
+      → length (G.sent port' l) ≤ length (G.sent port l) + 1
+  pub one_got : (l : ℕ) → l < links old.dims → reader_at old.dims l ≡ old.rank
+      → length (G.got port' l) ≤ length (G.got port l) + 1
+  pub fills : (l : ℕ) (more : List Shipped) → G.sent port' l ≡ G.sent port l ++ more
+      → IsConveyorShape old.steady cap more
   pub shape : (l : ℕ) → IsConveyorShape old.steady cap (G.sent port l) → IsConveyorShape old.steady cap (G.sent port' l)
 
 -- Each link in that wanted a parcel was asked once, and no other.
@@ -74,26 +81,41 @@ pub record ListsGrow {P : Type 0} {cap : ℕ} {M : Type 0} (G : Ghosts P cap M) 
 -- rose, idle: of one that wanted a parcel and got none the port has listened since it was asked before, and knows of
 -- nothing more, but for what was posted there.
 -- lies: an inbox holds the end of what it held and of what came.
-pub record WereAsked {P : Type 0} {cap : ℕ} {M : Type 0} (G : Ghosts P cap M) (old new : State) (port port' : P) : Type 0 where
-  pub left : (l : ℕ) → l < links old.dims → reader_at old.dims l ≡ old.rank → (Wants old l → ⊥) → G.got port' l ≡ G.got port l
-  pub unasked : (l : ℕ) → l < links old.dims → reader_at old.dims l ≡ old.rank → (Wants old l → ⊥) → G.noted port' l ≡ G.noted port l
-  pub rose : (l : ℕ) → l < links old.dims → reader_at old.dims l ≡ old.rank → Wants old l → G.got port' l ≡ G.got port l → RoseOrFull (G.noted port l) (G.noted port' l)
-  pub idle : (l : ℕ) → l < links old.dims → reader_at old.dims l ≡ old.rank → Wants old l → G.got port' l ≡ G.got port l → G.sent port' l ≡ G.sent port l → G.idle port' l ≡ true
-  pub lies : (l : ℕ) (more : List Shipped) → l < links old.dims → reader_at old.dims l ≡ old.rank → G.got port' l ≡ G.got port l ++ more
+pub record WereAsked {P : Type 0} {cap : ℕ} {M : Type 0} (G : Ghosts P cap M) (old new : State)
+    (port port' : P) : Type 0 where
+  pub left : (l : ℕ) → l < links old.dims → reader_at old.dims l ≡ old.rank → (Wants old l → ⊥)
+      → G.got port' l ≡ G.got port l
+  pub unasked : (l : ℕ) → l < links old.dims → reader_at old.dims l ≡ old.rank → (Wants old l → ⊥)
+      → G.noted port' l ≡ G.noted port l
+  pub rose : (l : ℕ) → l < links old.dims → reader_at old.dims l ≡ old.rank → Wants old l → G.got port' l ≡ G.got port l
+      → RoseOrFull (G.noted port l) (G.noted port' l)
+  pub idle : (l : ℕ) → l < links old.dims → reader_at old.dims l ≡ old.rank → Wants old l → G.got port' l ≡ G.got port l
+      → G.sent port' l ≡ G.sent port l → G.idle port' l ≡ true
+  pub lies : (l : ℕ) (more : List Shipped) → l < links old.dims → reader_at old.dims l ≡ old.rank
+      → G.got port' l ≡ G.got port l ++ more
       → Ends ((in_of old l).parcel.untaken ++ flat_map (λ p. p.entries) more) (in_of new l).parcel.untaken
-  pub collects : (l : ℕ) → l < links old.dims → reader_at old.dims l ≡ old.rank → G.collects port' l ≡ once_more_if (is_wanted (in_of old l)) (G.collects port l)
+  pub collects : (l : ℕ) → l < links old.dims → reader_at old.dims l ≡ old.rank
+      → G.collects port' l ≡ once_more_if (is_wanted (in_of old l)) (G.collects port l)
 
 -- Each link out that was due was served once, and no other, where all posts had memory.
 -- each: one that is due still was looked at in vain.
--- full, ending, closing: where nothing was sent on a link it is crowded if its parcel was full, or if its hop has reached
--- its end and it isn't closed.
+-- full, ending, closing: where nothing was sent on a link it is crowded if its parcel was full, or
+-- if its hop has reached its end and it isn't closed.
 -- stopped: where entries are left in an inbox below the last hop, the first one is held up at its next link.
-pub record WereServed {P : Type 0} {cap : ℕ} {M : Type 0} (G : Ghosts P cap M) (old new : State) (port port' : P) : Type 0 where
-  pub each : (l : ℕ) → l < links old.dims → sender_at old.dims l ≡ old.rank → WasServed new l (G.looks_out port l) (G.looks_out port' l) (G.crowded port' l)
-  pub posts : (l : ℕ) → l < links old.dims → sender_at old.dims l ≡ old.rank → G.posts port' l ≡ once_more_if (was_served new l (G.sent port l) (G.sent port' l)) (G.posts port l)
-  pub full : (l : ℕ) → l < links old.dims → sender_at old.dims l ≡ old.rank → G.sent port' l ≡ G.sent port l → length (out_of old l).parcel.untaken ≡ cap → G.crowded port' l ≡ true
-  pub ending : (l : ℕ) → l < links old.dims → sender_at old.dims l ≡ old.rank → at_end new.dims new.ins new.done (hop_at new.dims l) ≡ true → (out_of new l).closed ≡ false → G.crowded port' l ≡ true
-  pub closing : (l : ℕ) → l < links old.dims → sender_at old.dims l ≡ old.rank → (hop_at old.dims l ≡ 1 → new.done ≡ true) → HasArrived (buffers_of new) l
+pub record WereServed {P : Type 0} {cap : ℕ} {M : Type 0} (G : Ghosts P cap M) (old new : State)
+    (port port' : P) : Type 0 where
+  pub each : (l : ℕ) → l < links old.dims → sender_at old.dims l ≡ old.rank
+      → WasServed new l (G.looks_out port l) (G.looks_out port' l) (G.crowded port' l)
+  pub posts : (l : ℕ) → l < links old.dims → sender_at old.dims l ≡ old.rank
+      → G.posts port' l ≡ once_more_if (was_served new l (G.sent port l) (G.sent port' l)) (G.posts port l)
+  pub full : (l : ℕ) → l < links old.dims → sender_at old.dims l ≡ old.rank → G.sent port' l ≡ G.sent port l
+      → length (out_of old l).parcel.untaken ≡ cap → G.crowded port' l ≡ true
+  pub ending : (l : ℕ) → l < links old.dims → sender_at old.dims l ≡ old.rank
+      → at_end new.dims new.ins new.done (hop_at new.dims l) ≡ true → (out_of new l).closed ≡ false
+      → G.crowded port' l ≡ true
+  pub closing : (l : ℕ) → l < links old.dims → sender_at old.dims l ≡ old.rank
+      → (hop_at old.dims l ≡ 1 → new.done ≡ true) → HasArrived (buffers_of new) l
       → (out_of new l).closed ≡ false → G.crowded port' l ≡ true
-  pub stopped : (l : ℕ) (e : Entry) → l < links old.dims → reader_at old.dims l ≡ old.rank → hop_at old.dims l < length old.dims → slice_get (in_of new l).parcel.untaken 0 ≡ Some e
+  pub stopped : (l : ℕ) (e : Entry) → l < links old.dims → reader_at old.dims l ≡ old.rank
+      → hop_at old.dims l < length old.dims → slice_get (in_of new l).parcel.untaken 0 ≡ Some e
       → NextIs old.dims old.rank l e.tag (HeldUp cap new (G.sent port) (G.sent port') (G.crowded port'))

@@ -21,7 +21,8 @@ AgreesWith st sent got = Agrees (buffers_of st) sent got
 
 -- A call is a step of the rank's part of the exchange machine, over the lists of a port that the call doesn't see.
 abbrev pub IsStepOf : Step → State → State → Type 0
-IsStepOf step old new = (sent got : Logs) → AgreesWith old sent got → IsOwnStep step (part_of (buffers_of old) sent got) (part_of (buffers_of new) sent got)
+IsStepOf step old new = (sent got : Logs) → AgreesWith old sent got
+    → IsOwnStep step (part_of (buffers_of old) sent got) (part_of (buffers_of new) sent got)
 
 -- A call keeps the agreement with a port that it doesn't see.
 abbrev pub KeepsAgreement : State → State → Type 0
@@ -54,7 +55,8 @@ standing_toward st to = length (out_of st (hop_link st.dims st.rank to 1)).parce
 
 -- No open parcel holds more than so many entries.
 abbrev pub HoldsAtMost : ℕ → State → Type 0
-HoldsAtMost cap st = (l : ℕ) → l < links st.dims → sender_at st.dims l ≡ st.rank → length (out_of st l).parcel.untaken ≤ cap
+HoldsAtMost cap st = (l : ℕ) → l < links st.dims → sender_at st.dims l ≡ st.rank
+    → length (out_of st l).parcel.untaken ≤ cap
 
 -- What the code keeps of a conveyor: the routes have its number of hops, in the phase Cleanup each
 -- link out is closed, and in the phase Complete all that the phase says still holds.

@@ -1,5 +1,6 @@
 -- Which links an advance serves, and why it leaves entries in an inbox.
-use Rattle.std.specs.Prelude.{◌≡◌, ◌⊎◌, ℕ, ◌+◌, ◌<◌, ◌≤◌, nat_lt, Bool, true, ◌||◌, List, [], ◌∷◌, ◌++◌, length, slice_get, Some}
+use Rattle.std.specs.Prelude.{◌≡◌, ◌⊎◌, ℕ, ◌+◌, ◌<◌, ◌≤◌, nat_lt, Bool, true, ◌||◌, List, [], ◌∷◌, ◌++◌, length}
+use Rattle.std.specs.Prelude.{slice_get, Some}
 use Rattle.bale_types.specs.declared.item.Entry.{Entry}
 use Rattle.bale_types.specs.declared.item.Tag.{Tag}
 use Rattle.bale_types.specs.Stream.{RoseOrFull}
@@ -29,7 +30,9 @@ Wants st l = is_wanted (in_of st l) ≡ true
 
 -- Whether a link out was served: a parcel went there, or the link is due still.
 abbrev pub was_served : State → ℕ → List Shipped → List Shipped → Bool
-was_served st l log log' = nat_lt (length log) (length log') || is_due st.cap st.steady (at_end st.dims st.ins st.done (hop_at st.dims l)) (out_of st l)
+was_served st l log log' =
+    nat_lt (length log) (length log')
+    || is_due st.cap st.steady (at_end st.dims st.ins st.done (hop_at st.dims l)) (out_of st l)
 
 -- Where an advance without memory stopped: at a link out that is due, and neither on it nor on one to a later neighbour
 -- was anything posted.
@@ -38,7 +41,8 @@ pub record StopsAt (st : State) (posts posts' : ℕ → ℕ) : Type 0 where
   pub below : link < links st.dims
   pub starts_here : sender_at st.dims link ≡ st.rank
   pub due : IsDue st link
-  pub later : (l : ℕ) → l < links st.dims → sender_at st.dims l ≡ st.rank → out_index st.dims link ≤ out_index st.dims l → posts' l ≡ posts l
+  pub later : (l : ℕ) → l < links st.dims → sender_at st.dims l ≡ st.rank → out_index st.dims link ≤ out_index st.dims l
+      → posts' l ≡ posts l
 
 -- The epoch is over for a rank: it is done, each link is closed or has ended, and nothing is unread.
 pub record IsOver (st : State) : Type 0 where

@@ -6,7 +6,7 @@ use Rattle.route_tensor.specs.Link.{links}
 use Rattle.route_tensor.specs.Ends.{hop_at, sender_at, reader_at}
 use Rattle.port_bank.specs.Logs.{Logs, starting_at, ending_at, starting_elsewhere, ending_elsewhere}
 use Rattle.port_bank.specs.Link.{LinkLaw}
-use Rattle.port_bank.specs.Machine.{State, Step, NamesRank, IsOwnStep, IsStep, EpochsClose}
+use Rattle.port_bank.specs.Machine.{Ranks, Step, NamesRank, IsOwnStep, IsStep, EpochsClose}
 use Rattle.convey.specs.Buffers.{Buffers}
 use Rattle.convey.specs.Agreement.{Agrees}
 use Rattle.convey.specs.Parts.{part_of}
@@ -20,11 +20,13 @@ pub record IsLastIn (b : Buffers) (l : ℕ) : Type 0 where
 -- What a rank's buffers keep by themselves.
 -- closed_empty: nothing waits on a link that is closed.
 -- closed_done: a link of hop 1 is closed only where the rank is done.
--- all_closed, all_ended, all_read: a rank is complete only where each link is closed or has ended, and nothing is unread.
+-- all_closed, all_ended, all_read: a rank is complete only where each link is closed or has ended,
+-- and nothing is unread.
 -- latest: a pull takes from a link of the last hop.
 pub record IsSound (b : Buffers) : Type 0 where
   pub closed_empty : (l : ℕ) → l < links b.dims → sender_at b.dims l ≡ b.rank → b.closed l ≡ true → b.waiting l ≡ []
-  pub closed_done : (l : ℕ) → l < links b.dims → sender_at b.dims l ≡ b.rank → hop_at b.dims l ≡ 1 → b.closed l ≡ true → b.done ≡ true
+  pub closed_done : (l : ℕ) → l < links b.dims → sender_at b.dims l ≡ b.rank → hop_at b.dims l ≡ 1 → b.closed l ≡ true
+      → b.done ≡ true
   pub all_closed : b.complete ≡ true → (l : ℕ) → l < links b.dims → sender_at b.dims l ≡ b.rank → b.closed l ≡ true
   pub all_ended : b.complete ≡ true → (l : ℕ) → l < links b.dims → reader_at b.dims l ≡ b.rank → b.ended l ≡ true
   pub all_read : b.complete ≡ true → (l : ℕ) → l < links b.dims → reader_at b.dims l ≡ b.rank → b.unread l ≡ []
@@ -40,7 +42,7 @@ pub record AgreeTogether (dims : List ℕ) (cap slots : ℕ) (all : ℕ → Buff
   pub agree : (r : ℕ) → r < ranks dims → Agrees (all r) (starting_at dims r sent) (ending_at dims r got)
 
 -- The state of the machine that they stand for.
-abbrev pub state_of : List ℕ → (ℕ → Buffers) → Logs → Logs → State
+abbrev pub state_of : List ℕ → (ℕ → Buffers) → Logs → Logs → Ranks
 state_of dims all sent got = λ r. part_of (all r) (starting_at dims r sent) (ending_at dims r got)
 
 -- A call on the conveyor of rank r over its port: the other conveyors stay, and so do the lists of the others' links;
@@ -65,7 +67,8 @@ StaysTogether = (dims : List ℕ) (cap slots r : ℕ) (old new : ℕ → Buffers
 -- The exchange law: where they agree, and a call is a step of its rank's own part, it is a step of the machine.
 abbrev pub ExchangeLaw : Type 0
 ExchangeLaw = (dims : List ℕ) (cap slots r : ℕ) (step : Step) (old new : ℕ → Buffers) (sent sent' got got' : Logs)
-    → AgreeTogether dims cap slots old sent got → IsCall dims cap slots r old new sent sent' got got' → NamesRank (ranks dims) step
+    → AgreeTogether dims cap slots old sent got → IsCall dims cap slots r old new sent sent' got got'
+    → NamesRank (ranks dims) step
     → IsOwnStep step (state_of dims old sent got r) (state_of dims new sent' got' r)
     → IsStep (ranks dims) r step (state_of dims old sent got) (state_of dims new sent' got')
 

@@ -1,5 +1,5 @@
 -- A running rank's part of the exchange machine, by its buffers and its port's lists.
-use Rattle.std.specs.Prelude.{ℕ, ◌-◌, ◌==◌, cond, List, [], ◌++◌, length, take}
+use Rattle.std.specs.Prelude.{ℕ, ◌-◌, ◌==◌, List, [], ◌++◌, length, take, if◌then◌else◌}
 use Rattle.std.specs.Option.{option_map}
 use Rattle.bale_types.specs.declared.item.Item.{Item}
 use Rattle.route_tensor.specs.Grid.{ranks}
@@ -17,11 +17,14 @@ use Rattle.convey.specs.Agreement.{items_among}
 -- With [x] sent and [y] in the open parcel toward d it is [x, y].
 abbrev pub pushed_to : Buffers → Logs → ℕ → ℕ → List Item
 pushed_to b sent e d = flow b.dims sent b.rank d 1 e
-    ++ cond (e == b.epoch) (items_among (belongs b.dims b.rank d 1) (b.waiting (hop_link b.dims b.rank d 1))) []
+    ++ (if e == b.epoch then items_among (belongs b.dims b.rank d 1) (b.waiting (hop_link b.dims b.rank d 1)) else [])
 
 -- How many items of s are unread: in the current epoch those in the inbox of the last link from s.
 abbrev pub unread_of : Buffers → ℕ → ℕ → ℕ
-unread_of b e s = cond (e == b.epoch) (length (items_among (belongs b.dims s b.rank (length b.dims)) (b.unread (hop_link b.dims s b.rank (length b.dims))))) 0
+unread_of b e s =
+    if e == b.epoch
+    then length
+    (items_among (belongs b.dims s b.rank (length b.dims)) (b.unread (hop_link b.dims s b.rank (length b.dims)))) else 0
 
 -- What a rank pulled of s in an epoch: the flow that it got on the last hop, less what is unread.
 -- With [x, y] got and y unread it is [x].

@@ -38,13 +38,18 @@ pub record IsAtRest (dims : List ℕ) (r : ℕ) (old new : State) (sent got : Lo
   pub same_epoch : new.epoch ≡ old.epoch
   pub agrees : AgreesWith old (starting_at dims r sent) (ending_at dims r got)
   pub pushed : (new.done ≡ true) ⊎ HasBusy dims r sent got
-  pub read : (l : ℕ) → l < links dims → reader_at dims l ≡ r → hop_at dims l ≡ length dims → (in_of old l).parcel.untaken ≡ []
-  pub lies : (l : ℕ) → l < links dims → reader_at dims l ≡ r → Ends (in_of old l).parcel.untaken (in_of new l).parcel.untaken
-  pub kept : (l : ℕ) → l < links dims → reader_at dims l ≡ r → hop_at dims l < length dims → length (in_of old l).parcel.untaken ≤ length (in_of new l).parcel.untaken
+  pub read : (l : ℕ) → l < links dims → reader_at dims l ≡ r → hop_at dims l ≡ length dims
+      → (in_of old l).parcel.untaken ≡ []
+  pub lies : (l : ℕ) → l < links dims → reader_at dims l ≡ r
+      → Ends (in_of old l).parcel.untaken (in_of new l).parcel.untaken
+  pub kept : (l : ℕ) → l < links dims → reader_at dims l ≡ r → hop_at dims l < length dims
+      → length (in_of old l).parcel.untaken ≤ length (in_of new l).parcel.untaken
   pub idle : (l : ℕ) → l < links dims → reader_at dims l ≡ r → Wants old l → length (got l) ≡ length (sent l)
-  pub stopped : (l : ℕ) (e : Entry) → l < links dims → reader_at dims l ≡ r → hop_at dims l < length dims → slice_get (in_of new l).parcel.untaken 0 ≡ Some e
+  pub stopped : (l : ℕ) (e : Entry) → l < links dims → reader_at dims l ≡ r → hop_at dims l < length dims
+      → slice_get (in_of new l).parcel.untaken 0 ≡ Some e
       → NextIs dims r l e.tag (IsBusy sent got)
-  pub closing : (l : ℕ) → l < links dims → sender_at dims l ≡ r → (hop_at dims l ≡ 1 → new.done ≡ true) → HasArrived (buffers_of new) l
+  pub closing : (l : ℕ) → l < links dims → sender_at dims l ≡ r → (hop_at dims l ≡ 1 → new.done ≡ true)
+      → HasArrived (buffers_of new) l
       → (out_of new l).closed ≡ false → IsBusy sent got l
 
 -- A sweep over the conveyors of all ranks of one bank, in which no parcel was posted or collected and no inbox below

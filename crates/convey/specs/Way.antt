@@ -1,5 +1,6 @@
 -- A conveyor and its port in the midst of an advance.
-use Rattle.std.specs.Prelude.{◌≡◌, ◌⊎◌, ℕ, ◌+◌, ◌<◌, ◌≤◌, Bool, true, false, List, [], ◌∷◌, ◌++◌, length, slice_get, Some, None}
+use Rattle.std.specs.Prelude.{◌≡◌, ◌⊎◌, ℕ, ◌+◌, ◌<◌, ◌≤◌, Bool, true, false, List, [], ◌∷◌, ◌++◌, length, slice_get}
+use Rattle.std.specs.Prelude.{Some, None}
 use Rattle.std.specs.List.{flat_map}
 use Rattle.bale_types.specs.declared.item.Entry.{Entry}
 use Rattle.bale_types.specs.Stream.{RoseOrFull}
@@ -43,7 +44,8 @@ pub record GoesOn (old new : State) (sent sent' got got' : Logs) : Type 0 where
 
 -- What posts on links out leave of the rank's state and of its port.
 -- idle: what the port knows of a link in changes only where a parcel was posted on it, from the rank to itself.
-pub record LeftByPosts {P : Type 0} {cap : ℕ} {M : Type 0} (G : Ghosts P cap M) (old new : State) (port port' : P) : Type 0 where
+pub record LeftByPosts {P : Type 0} {cap : ℕ} {M : Type 0} (G : Ghosts P cap M) (old new : State)
+    (port port' : P) : Type 0 where
   pub ready : IsReady (G.dims port) (G.rank port) new (G.sent port') (G.got port')
   pub goes_on : GoesOn old new (G.sent port) (G.sent port') (G.got port) (G.got port')
   pub ins : new.ins ≡ old.ins
@@ -52,7 +54,8 @@ pub record LeftByPosts {P : Type 0} {cap : ℕ} {M : Type 0} (G : Ghosts P cap M
   pub same_port : SamePort G port port'
 
 -- What collects on links in leave of them.
-pub record LeftByCollects {P : Type 0} {cap : ℕ} {M : Type 0} (G : Ghosts P cap M) (old new : State) (port port' : P) : Type 0 where
+pub record LeftByCollects {P : Type 0} {cap : ℕ} {M : Type 0} (G : Ghosts P cap M) (old new : State)
+    (port port' : P) : Type 0 where
   pub ready : IsReady (G.dims port) (G.rank port) new (G.sent port') (G.got port')
   pub goes_on : GoesOn old new (G.sent port) (G.sent port') (G.got port) (G.got port')
   pub outs : new.outs ≡ old.outs
@@ -98,15 +101,20 @@ pub record PassedOn (dims : List ℕ) (rank : ℕ) (old new : State) (sent got :
 -- waits: where nothing was sent, the open parcel begins with what it held.
 -- one_sent, one_got: each log has at most one parcel more.
 -- not_at_once: the call that says that the rank is done doesn't complete it.
-pub record MovesOn (old new : State) (done : Bool) (sent sent' got got' : Logs) (noted noted' : ℕ → ℕ) (is_idle : ℕ → Bool) : Type 0 where
+pub record MovesOn (old new : State) (done : Bool) (sent sent' got got' : Logs) (noted noted' : ℕ → ℕ)
+    (is_idle : ℕ → Bool) : Type 0 where
   pub goes_on : GoesOn (record old { done = done; pulled = None }) new sent sent' got got'
   pub left : (l : ℕ) → l < links old.dims → reader_at old.dims l ≡ old.rank → (Wants old l → ⊥) → got' l ≡ got l
   pub unasked : (l : ℕ) → l < links old.dims → reader_at old.dims l ≡ old.rank → (Wants old l → ⊥) → noted' l ≡ noted l
-  pub asked : (l : ℕ) → l < links old.dims → reader_at old.dims l ≡ old.rank → Wants old l → got' l ≡ got l → RoseOrFull (noted l) (noted' l)
-  pub idle : (l : ℕ) → l < links old.dims → reader_at old.dims l ≡ old.rank → Wants old l → got' l ≡ got l → sent' l ≡ sent l → is_idle l ≡ true
-  pub lies : (l : ℕ) (more : List Shipped) → l < links old.dims → reader_at old.dims l ≡ old.rank → got' l ≡ got l ++ more
+  pub asked : (l : ℕ) → l < links old.dims → reader_at old.dims l ≡ old.rank → Wants old l → got' l ≡ got l
+      → RoseOrFull (noted l) (noted' l)
+  pub idle : (l : ℕ) → l < links old.dims → reader_at old.dims l ≡ old.rank → Wants old l → got' l ≡ got l
+      → sent' l ≡ sent l → is_idle l ≡ true
+  pub lies : (l : ℕ) (more : List Shipped) → l < links old.dims → reader_at old.dims l ≡ old.rank
+      → got' l ≡ got l ++ more
       → Ends ((in_of old l).parcel.untaken ++ flat_map (λ p. p.entries) more) (in_of new l).parcel.untaken
-  pub waits : (l : ℕ) → l < links old.dims → sender_at old.dims l ≡ old.rank → sent' l ≡ sent l → Begins (out_of old l).parcel.untaken (out_of new l).parcel.untaken
+  pub waits : (l : ℕ) → l < links old.dims → sender_at old.dims l ≡ old.rank → sent' l ≡ sent l
+      → Begins (out_of old l).parcel.untaken (out_of new l).parcel.untaken
   pub one_sent : (l : ℕ) → l < links old.dims → sender_at old.dims l ≡ old.rank → length (sent' l) ≤ length (sent l) + 1
   pub one_got : (l : ℕ) → l < links old.dims → reader_at old.dims l ≡ old.rank → length (got' l) ≤ length (got l) + 1
   pub not_at_once : old.done ≡ false → IsOver new → ⊥
@@ -116,7 +124,10 @@ pub record MovesOn (old new : State) (done : Bool) (sent sent' got got' : Logs) 
 -- full: so was one on which nothing was sent though its parcel was full.
 -- stopped: where entries are left in an inbox of an earlier hop, the first one is held up at its next link.
 pub record HasServed (old new : State) (sent sent' : Logs) (looks looks' : ℕ → ℕ) (is_crowded : ℕ → Bool) : Type 0 where
-  pub served : (l : ℕ) → l < links old.dims → sender_at old.dims l ≡ old.rank → WasServed new l (looks l) (looks' l) (is_crowded l)
-  pub full : (l : ℕ) → l < links old.dims → sender_at old.dims l ≡ old.rank → sent' l ≡ sent l → length (out_of old l).parcel.untaken ≡ old.cap → is_crowded l ≡ true
-  pub stopped : (l : ℕ) (e : Entry) → l < links old.dims → reader_at old.dims l ≡ old.rank → hop_at old.dims l < length old.dims → slice_get (in_of new l).parcel.untaken 0 ≡ Some e
+  pub served : (l : ℕ) → l < links old.dims → sender_at old.dims l ≡ old.rank
+      → WasServed new l (looks l) (looks' l) (is_crowded l)
+  pub full : (l : ℕ) → l < links old.dims → sender_at old.dims l ≡ old.rank → sent' l ≡ sent l
+      → length (out_of old l).parcel.untaken ≡ old.cap → is_crowded l ≡ true
+  pub stopped : (l : ℕ) (e : Entry) → l < links old.dims → reader_at old.dims l ≡ old.rank
+      → hop_at old.dims l < length old.dims → slice_get (in_of new l).parcel.untaken 0 ≡ Some e
       → NextIs old.dims old.rank l e.tag (HeldUp old.cap new sent sent' is_crowded)

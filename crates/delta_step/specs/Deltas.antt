@@ -1,5 +1,7 @@
 -- sssp by buckets, as a program: delta-stepping after Meyer and Sanders.
-use Rattle.std.specs.Prelude.{ℕ, ◌+◌, ◌-◌, ◌*◌, ◌%◌, ◌/◌, ◌^◌, ◌<◌, ◌≤◌, ◌≡◌, ◌≢◌, ◌==◌, ◌&&◌, ◌||◌, ◌++◌, not, nat_lt, min, Bool, true, false, List, [], ◌∷◌, Option, None, Some, map, length, if◌then◌else◌}
+use Rattle.std.specs.Prelude.{ℕ, ◌+◌, ◌-◌, ◌*◌, ◌%◌, ◌/◌, ◌^◌, ◌<◌, ◌≤◌, ◌≡◌, ◌≢◌, ◌==◌, ◌&&◌, ◌||◌, ◌++◌, not, nat_lt}
+use Rattle.std.specs.Prelude.{if◌then◌else◌}
+use Rattle.std.specs.Prelude.{min, Bool, true, false, List, [], ◌∷◌, Option, None, Some, map, length, if◌then◌else◌}
 use Rattle.std.specs.List.{All, filter, list_any, range_with_len}
 use Rattle.bale_types.specs.declared.Item.{Item}
 use Rattle.bale_types.specs.declared.triple.Triple.{Triple}
@@ -22,7 +24,8 @@ pub record DeltaState : Type 0 where
   pub round : ℕ
   -- the number of vertices
   pub rows : ℕ
-  -- how many weights a bucket has: weight x stands in bucket x div width; an edge is light where it weighs at most as much
+  -- how many weights a bucket has: weight x stands in bucket x div width; an edge is light where it
+  -- weighs at most as much
   pub width : ℕ
   pub phase : Phase
   -- the edges of own vertices that came in the first round
@@ -41,7 +44,9 @@ pub record DeltaState : Type 0 where
 
 -- in round 0 a rank may be sent edges of its vertices, and later every item
 abbrev pub may_delta : List ℕ → ℕ → ℕ → ℕ → ℕ → Item → Bool
-may_delta (rows ∷ []) ranks round to from x = nat_lt from ranks && nat_lt to ranks && (nat_lt 0 round || (nat_lt x.a rows && x.a % ranks == to && nat_lt x.b rows)) && is_item x
+may_delta (rows ∷ []) ranks round to from x =
+    nat_lt from ranks && nat_lt to ranks
+    && (nat_lt 0 round || (nat_lt x.a rows && x.a % ranks == to && nat_lt x.b rows)) && is_item x
 may_delta shape ranks round to from x = false
 
 -- Stands for no bucket.
@@ -65,7 +70,8 @@ ascending n places = filter (λ p. list_any (λ q. p == q) places) (range_with_l
 -- ---- Absorbs
 
 abbrev pub offered : DeltaState → Item → List Vertex
-offered s x = if nat_lt x.a s.rows && x.a % s.ranks == s.rank then improved_at (x.a / s.ranks) x.b s.vertices else s.vertices
+offered s x =
+    if nat_lt x.a s.rows && x.a % s.ranks == s.rank then improved_at (x.a / s.ranks) x.b s.vertices else s.vertices
 
 abbrev pub absorbed_in : Phase → DeltaState → Item → DeltaState
 absorbed_in First s x = record s { arriving = raised (edge_came x) s.arriving }
@@ -114,7 +120,8 @@ activated s =
       phase = Light;
       vertices = map (calm_if (in_bucket s.width s.bucket)) s.vertices;
       settled = s.settled ++ picked (in_bucket s.width s.bucket) s.vertices;
-      outgoing = offers s.light (map (calm_if (in_bucket s.width s.bucket)) s.vertices) (picked (in_bucket s.width s.bucket) s.vertices);
+      outgoing = offers s.light (map (calm_if (in_bucket s.width s.bucket)) s.vertices)
+          (picked (in_bucket s.width s.bucket) s.vertices);
     }
 
 -- The bucket is done, and a heavy round begins.

@@ -36,7 +36,8 @@ pub record LetterLaws {S : Type 0} (R : LetterRules S) : Type 0 where
   -- 1. letters go to ranks
   pub emits : (s : S) → R.valid s → All (λ e. (e.0 < R.ranks s) × IsLetter e.1) (R.letters s)
   -- 2. absorbs of two senders commute
-  pub commutes : (s : S) (f g : ℕ) (l m : List ℕ) → R.valid s → f ≢ g → f < R.ranks s → g < R.ranks s → IsLetter l → IsLetter m
+  pub commutes : (s : S) (f g : ℕ) (l m : List ℕ) → R.valid s → f ≢ g → f < R.ranks s → g < R.ranks s → IsLetter l
+      → IsLetter m
       → R.absorbed (R.absorbed s f l) g m ≡ R.absorbed (R.absorbed s g m) f l
   -- 3. an absorb leaves rank, ranks, round, shape, most and the letters as they are
   pub keeps : (s : S) (f : ℕ) (l : List ℕ) → R.valid s → f < R.ranks s → IsLetter l → SameLetters R s (R.absorbed s f l)

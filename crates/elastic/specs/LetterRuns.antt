@@ -1,5 +1,6 @@
 -- The canonical run of letter programs: what all ranks compute together, with no word on items.
-use Rattle.std.specs.Prelude.{ℕ, zero, suc, ◌+◌, ◌-◌, ◌^◌, ◌<◌, ◌≡◌, ◌==◌, min, true, false, List, [], ◌∷◌, Option, None, Some, map, length, slice_get}
+use Rattle.std.specs.Prelude.{ℕ, zero, suc, ◌+◌, ◌-◌, ◌^◌, ◌<◌, ◌≡◌, ◌==◌, min, true, false, List, [], ◌∷◌, Option}
+use Rattle.std.specs.Prelude.{None, Some, map, length, slice_get}
 use Rattle.std.specs.List.{filter, fold, sum_by}
 use Rattle.elastic.specs.LetterRules.{LetterRules}
 
@@ -67,6 +68,7 @@ pub record LetterMember {S : Type 0} (R : LetterRules S) (p n : ℕ) (shape : Li
   pub same_most : R.most s ≡ most
 
 -- The letter programs of p ranks that are in round n of one run: the program at place r has rank r.
-pub record InLetterRound {S : Type 0} (R : LetterRules S) (p n : ℕ) (shape : List ℕ) (most : ℕ) (ss : List S) : Type 0 where
+pub record InLetterRound {S : Type 0} (R : LetterRules S) (p n : ℕ) (shape : List ℕ) (most : ℕ)
+    (ss : List S) : Type 0 where
   pub size : length ss ≡ p
   pub each : (r : ℕ) (s : S) → slice_get ss r ≡ Some s → LetterMember R p n shape most r s

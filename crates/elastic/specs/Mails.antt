@@ -1,5 +1,7 @@
 -- A mailer: a program that carries the letters of a letter program as items.
-use Rattle.std.specs.Prelude.{ℕ, ◌==◌, ◌<◌, ◌≡◌, ◌&&◌, nat_lt, cond, Bool, false, List, [], ◌∷◌, ◌++◌, length, map, replicate, slice_set, slice_index_or}
+use Rattle.std.specs.Prelude.{ℕ, ◌==◌, ◌<◌, ◌≡◌, ◌&&◌, nat_lt, Bool, false, List, [], ◌∷◌, ◌++◌, length, map, replicate}
+use Rattle.std.specs.Prelude.{if◌then◌else◌}
+use Rattle.std.specs.Prelude.{slice_set, slice_index_or, if◌then◌else◌}
 use Rattle.std.specs.List.{All, flat_map}
 use Rattle.bale_types.specs.declared.Item.{Item}
 use Rattle.round_program.specs.Rules.{Rules}
@@ -40,13 +42,15 @@ begun_with begun from x = slice_index_or begun from [] ++ x ∷ []
 
 -- What all senders have begun after one more item: a letter that is whole isn't begun any more.
 abbrev pub begun_after : List (List Item) → ℕ → Item → List (List Item)
-begun_after begun from x = slice_set begun from (cond (is_whole (begun_with begun from x)) [] (begun_with begun from x))
+begun_after begun from x =
+    slice_set begun from (if is_whole (begun_with begun from x) then [] else begun_with begun from x)
 
 -- One more item was absorbed. Where it makes a letter whole, the letter program absorbs the letter.
 abbrev pub item_absorbed : {S : Type 0} → LetterRules S → MailState S → ℕ → Item → MailState S
 item_absorbed R s from x =
     record s {
-      inner = cond (is_whole (begun_with s.begun from x)) (R.absorbed s.inner from (letter_of (begun_with s.begun from x))) s.inner;
+      inner = if is_whole (begun_with s.begun from x)
+          then R.absorbed s.inner from (letter_of (begun_with s.begun from x)) else s.inner;
       begun = begun_after s.begun from x;
     }
 

@@ -8,7 +8,8 @@ use Rattle.round_program.specs.Canonical.{items_of, emitted_by, states_at, votes
 use Rattle.round_program.specs.Orders.{absorb_each}
 use Rattle.elastic.specs.Spelling.{IsLetter, spelling, letters_of}
 use Rattle.elastic.specs.LetterRules.{LetterRules}
-use Rattle.elastic.specs.LetterRuns.{letters_by, letters_upto, letter_states, letter_votes_at, HasLetterRounds, InLetterRound}
+use Rattle.elastic.specs.LetterRuns.{letters_by, letters_upto, letter_states, letter_votes_at, HasLetterRounds}
+use Rattle.elastic.specs.LetterRuns.{InLetterRound}
 use Rattle.elastic.specs.Mails.{MailState, mailing, mail_rules}
 
 -- The letters of a list of spellings are the letters spelled.
@@ -19,18 +20,21 @@ SpellingsAreRead = (ls : List (List ℕ)) → All IsLetter ls → letters_of (fl
 abbrev pub FrontsAreRead : Type 0
 FrontsAreRead = (front whole : List Item) → Begins front whole → Begins (letters_of front) (letters_of whole)
 
--- After each absorb, in whatever order the items of the senders came, the letter program has absorbed from each sender the
--- letters of the items absorbed from it.
+-- After each absorb, in whatever order the items of the senders came, the letter program has
+-- absorbed from each sender the letters of the items absorbed from it.
 abbrev pub EachLetterOnce : {S : Type 0} → LetterRules S → Type 0
 EachLetterOnce {S} R =
     (s : S) (came : List (ℕ × Item)) → R.valid s → All (λ e. Fits (mail_rules R) (mailing R s) e.0 e.1) came
-    → (absorb_each (mail_rules R) (mailing R s) came).inner ≡ letters_upto R s (λ f. letters_of (items_of f came)) (R.ranks s)
+    → (absorb_each (mail_rules R) (mailing R s) came).inner
+    ≡ letters_upto R s (λ f. letters_of (items_of f came)) (R.ranks s)
 
 -- The canonical run of mailers is that of their letter programs: states, votes and rounds are the same, and what a rank
 -- is sent spells the letters that it is sent.
-pub record SameLetterRuns {S : Type 0} (R : LetterRules S) (p : ℕ) (shape : List ℕ) (most : ℕ) (starts : List S) : Type 0 where
+pub record SameLetterRuns {S : Type 0} (R : LetterRules S) (p : ℕ) (shape : List ℕ) (most : ℕ)
+    (starts : List S) : Type 0 where
   pub in_round : InRound (mail_rules R) p 0 shape most (map (mailing R) starts)
-  pub states : (n : ℕ) → states_at (mail_rules R) (map (mailing R) starts) n ≡ map (mailing R) (letter_states R starts n)
+  pub states : (n : ℕ)
+      → states_at (mail_rules R) (map (mailing R) starts) n ≡ map (mailing R) (letter_states R starts n)
   pub sent : (n to from : ℕ) → emitted_by (mail_rules R) (map (mailing R) (letter_states R starts n)) to from
       ≡ flat_map spelling (letters_by R (letter_states R starts n) to from)
   pub votes : (n : ℕ) → votes_at (mail_rules R) (map (mailing R) starts) n ≡ letter_votes_at R starts n
@@ -41,4 +45,5 @@ pub record SameLetterRuns {S : Type 0} (R : LetterRules S) (p : ℕ) (shape : Li
 
 abbrev pub MailersRunLetters : {S : Type 0} → LetterRules S → Type 0
 MailersRunLetters {S} R =
-    (p : ℕ) (shape : List ℕ) (most : ℕ) (starts : List S) → InLetterRound R p 0 shape most starts → SameLetterRuns R p shape most starts
+    (p : ℕ) (shape : List ℕ) (most : ℕ) (starts : List S) → InLetterRound R p 0 shape most starts
+    → SameLetterRuns R p shape most starts

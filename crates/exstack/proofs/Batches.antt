@@ -9,7 +9,7 @@ use Rattle.std.proofs.lemmas.List.Folds.{position_or_len-set}
 use Rattle.std.proofs.lemmas.List.Quantifiers.{position-Some}
 use Rattle.bale_types.specs.declared.item.Entry.{Entry}
 use Rattle.exstack.specs.Links.{In, no_in, has_unread, with_first_read, read_on}
-use Rattle.exstack.specs.State.{State, in_at, lowest_unread, pop_from, popped_from, pops}
+use Rattle.exstack.specs.State.{Stack, in_at, lowest_unread, pop_from, popped_from, pops}
 use Rattle.exstack.specs.Parts.{GivesNext, IsPop, KeepsAgreement}
 use Rattle.exstack.specs.Standing.{IsStack, IsKept}
 use Rattle.exstack.proofs.Calls.{pop_kept, stack_rest, some_unread, none_unread}
@@ -52,10 +52,10 @@ set_twice (x ∷ xs) zero y z = refl
 set_twice (x ∷ xs) (suc i) y z = ap (λ ys. x ∷ ys) (set_twice xs i y z)
 
 -- the inboxes after n pops of one sender
-abbrev pub read_ins : State → ℕ → ℕ → List In
+abbrev pub read_ins : Stack → ℕ → ℕ → List In
 read_ins st a n = set st.ins a (read_on n (in_at st a))
 
-module _ (st : State) (a : ℕ) (found : lowest_unread st ≡ Some a) where
+module _ (st : Stack) (a : ℕ) (found : lowest_unread st ≡ Some a) where
   at : (a < length st.ins) × (has_unread (get_or st.ins a no_in) ≡ true) × ((j : ℕ) → j < a → has_unread (get_or st.ins j no_in) ≡ false)
   at = position-Some has_unread st.ins a no_in found
 
@@ -78,19 +78,19 @@ module _ (st : State) (a : ℕ) (found : lowest_unread st ≡ Some a) where
       ∙ (ap (set (read_ins st a n) a) (read_more n (in_at st a)) ∙ set_twice st.ins a (read_on n (in_at st a)) (read_on (suc n) (in_at st a))) in
       let later : (suc n == 0) ≡ false = ne_eqb (suc n) 0 (omega arith) in
       let one : Some a ≡ cond (suc n == 0) st.popped (Some a) = ap (λ b. cond b st.popped (Some a)) (sym later) in
-      ap (popped_from (pops n st)) low ∙ (ap (λ (t : State). popped_from t (Some a)) before ∙ (λ k. record st { ins = ins k; popped = one k }))
+      ap (popped_from (pops n st)) low ∙ (ap (λ (t : Stack). popped_from t (Some a)) before ∙ (λ k. record st { ins = ins k; popped = one k }))
 
-  pub pops_same : (n : ℕ) → n ≤ length (in_at st a).unread → (new : State) → new ≡ pops n st → new ≡ record st { ins = new.ins; popped = new.popped }
+  pub pops_same : (n : ℕ) → n ≤ length (in_at st a).unread → (new : Stack) → new ≡ pops n st → new ≡ record st { ins = new.ins; popped = new.popped }
   pops_same n h new is =
       let e : new ≡ record st { ins = read_ins st a n; popped = cond (n == 0) st.popped (Some a) } = is ∙ pops_are n h in
-      e ∙ (λ k. record st { ins = sym (ap (λ (t : State). t.ins) e) k; popped = sym (ap (λ (t : State). t.popped) e) k })
+      e ∙ (λ k. record st { ins = sym (ap (λ (t : Stack). t.ins) e) k; popped = sym (ap (λ (t : Stack). t.popped) e) k })
 
   pops_lowest : (n : ℕ) → n < length (in_at st a).unread → lowest_unread (pops n st) ≡ Some a
   pops_lowest n h = ap lowest_unread (pops_are n (omega arith)) ∙ lowest_read n h
 
   pops_unread : (n : ℕ) → n ≤ length (in_at st a).unread → (in_at (pops n st) a).unread ≡ drop n (in_at st a).unread
   pops_unread n h =
-      ap (λ (t : State). (in_at t a).unread) (pops_are n h) ∙ ap (λ (i : In). i.unread) (get_or-set_same st.ins a (read_on n (in_at st a)) no_in at.0)
+      ap (λ (t : Stack). (in_at t a).unread) (pops_are n h) ∙ ap (λ (i : In). i.unread) (get_or-set_same st.ins a (read_on n (in_at st a)) no_in at.0)
 
   some_left : 0 < length (in_at st a).unread
   some_left = not_none (in_at st a).unread (some_unread (in_at st a) at.1)
@@ -143,10 +143,10 @@ module _ (st : State) (a : ℕ) (found : lowest_unread st ≡ Some a) where
         λ m sent got g. k.kept m sent got (pops_keep n (omega arith) m sent got g)
 
 -- what holds of an exstack after these calls
-pub rest_from : (cap : ℕ) (st : State) (from : ℕ) → IsKept cap st from → IsKept cap (record st { popped = None }) from
+pub rest_from : (cap : ℕ) (st : Stack) (from : ℕ) → IsKept cap st from → IsKept cap (record st { popped = None }) from
 rest_from cap st from k = record { standing = stack_rest cap st k.standing; from_high = k.from_high; from_none = k.from_none }
 
-pub rest_at : (cap : ℕ) (st : State) (from a : ℕ) → IsKept cap st from → lowest_unread st ≡ Some a → IsKept cap (record st { popped = None }) a
+pub rest_at : (cap : ℕ) (st : Stack) (from a : ℕ) → IsKept cap st from → lowest_unread st ≡ Some a → IsKept cap (record st { popped = None }) a
 rest_at cap st from a k found =
     let p = position-Some has_unread st.ins a no_in found in
     record {
@@ -155,7 +155,7 @@ rest_at cap st from a k found =
       from_none = λ j w. none_unread (in_at st j) (p.2 j w);
     }
 
-pub all_kept : (cap : ℕ) (st : State) (from a : ℕ) (x y : In) → IsKept cap st from → lowest_unread st ≡ Some a → x ≡ get_or st.ins a x → y ≡ read_on (length x.unread) x
+pub all_kept : (cap : ℕ) (st : Stack) (from a : ℕ) (x y : In) → IsKept cap st from → lowest_unread st ≡ Some a → x ≡ get_or st.ins a x → y ≡ read_on (length x.unread) x
     → IsKept cap (record st { ins = set st.ins a y; popped = Some a }) a × (record st { ins = set st.ins a y; popped = Some a } ≡ pops (length (in_at st a).unread) st)
 all_kept cap st from a x y k found here read =
     let p = position-Some has_unread st.ins a no_in found in

@@ -7,8 +7,8 @@ use Rattle.item_buffer.specs.Contents.{Shipped}
 use Rattle.port_bank.specs.Logs.{Logs, segment}
 use Rattle.exstack.specs.declared.stage.Stage.{Stage}
 use Rattle.exstack.specs.declared.stage.Stage.TheVariants.{Start, Proceeding, Filling, Exchanging, Full, AllDone}
-use Rattle.exstack.specs.Links.{Out, In, no_out, no_in, with_back, begun_out, begun_in}
-use Rattle.exstack.specs.State.{State, out_at, in_at, link_to, link_from, is_proceeding, is_exchanging, may_proceed, may_exchange, in_proceed, in_exchange}
+use Rattle.exstack.specs.Links.{Out, In, no_out, no_in, with_put_back, begun_out, begun_in}
+use Rattle.exstack.specs.State.{Stack, out_at, in_at, link_to, link_from, is_proceeding, is_exchanging, may_proceed, may_exchange, in_proceed, in_exchange}
 use Rattle.exstack.specs.Standing.{IsOut, IsIn, IsStack, IsKept, may_wait}
 use Rattle.exstack.specs.Cycles.{entries_exchanged, exchange_parcel, entries_in}
 use Rattle.list_laws.specs.Lists.{Ends}
@@ -77,7 +77,7 @@ begun_ins ins a d w = get_or-map begun_in ins a no_in d (omega (arith, w, length
 none_some : (a : ℕ) → None ≡ Some a → ⊥
 none_some a e = cc
 
-module _ (cap : ℕ) (st : State) (from : ℕ) (stage : Stage) (done : Bool) (k : IsKept cap st from) (each_out : (o : Out) → IsOut cap st.stage st.done o → IsOut cap stage done (begun_out o))
+module _ (cap : ℕ) (st : Stack) (from : ℕ) (stage : Stage) (done : Bool) (k : IsKept cap st from) (each_out : (o : Out) → IsOut cap st.stage st.done o → IsOut cap stage done (begun_out o))
     (each_in : (i : In) → IsIn stage (begun_in i)) where
   pub begun_kept : IsKept cap (record st { stage = stage; done = done; outs = map begun_out st.outs; ins = map begun_in st.ins; popped = None }) from
   begun_kept = record {
@@ -113,13 +113,13 @@ exchange_filling Full m p = absurd (false≢true m)
 exchange_filling AllDone m p = absurd (false≢true m)
 
 -- so the exstack is one after the beginning
-pub proceed_kept : (cap : ℕ) (st : State) (from : ℕ) (done : Bool) → IsKept cap st from → may_proceed st.stage ≡ true → is_proceeding st.stage ≡ false → (st.done ≡ true → done ≡ true)
+pub proceed_kept : (cap : ℕ) (st : Stack) (from : ℕ) (done : Bool) → IsKept cap st from → may_proceed st.stage ≡ true → is_proceeding st.stage ≡ false → (st.done ≡ true → done ≡ true)
     → IsKept cap (record st { stage = Proceeding; done = done; outs = map begun_out st.outs; ins = map begun_in st.ins; popped = None }) from
 proceed_kept cap st from done k may not_yet stays =
     let b = proceed_between st.stage may not_yet in
     begun_kept cap st from Proceeding done k (λ o s. out_proceeds cap st.stage st.done done stays o b.0 b.1 s) in_proceeds
 
-pub exchange_kept : (cap : ℕ) (st : State) (from : ℕ) → IsKept cap st from → st.stage ≡ Filling
+pub exchange_kept : (cap : ℕ) (st : Stack) (from : ℕ) → IsKept cap st from → st.stage ≡ Filling
     → IsKept cap (record st { stage = Exchanging; outs = map begun_out st.outs; ins = map begun_in st.ins; popped = None }) from
 exchange_kept cap st from k filling = begun_kept cap st from Exchanging st.done k (λ o s. out_exchanges cap st.done o (subst (λ g. IsOut cap g st.done o) filling s)) in_exchanges
 
@@ -138,12 +138,12 @@ pub forget : {whole : List Entry} (popped : Option ℕ) (a : ℕ) (i : In) → E
 forget None a i e = e
 forget (Some p) a i e = by_test (p == a) i.back e
   where
-    by_test : {whole : List Entry} (b : Bool) (back : Option Entry) → Ends whole (cond b (with_back back i).unread i.unread) → Ends whole i.unread
+    by_test : {whole : List Entry} (b : Bool) (back : Option Entry) → Ends whole (cond b (with_put_back back i).unread i.unread) → Ends whole i.unread
     by_test true None e = e
     by_test true (Some x) e = ends_less _ x i.unread e
     by_test false back e = e
 
-pub agrees_rest : (n : ℕ) (st : State) (sent got : Logs) → AgreesIn n st sent got → AgreesIn n (record st { popped = None }) sent got
+pub agrees_rest : (n : ℕ) (st : Stack) (sent got : Logs) → AgreesIn n st sent got → AgreesIn n (record st { popped = None }) sent got
 agrees_rest n st sent got a = record {
   outs = a.outs;
   ins = a.ins;
@@ -155,9 +155,9 @@ agrees_rest n st sent got a = record {
 }
 
 -- a new round, of cycle m
-module _ (cap n m : ℕ) (st : State) (stage : Stage) (done : Bool) (sent got : Logs) (s : IsStack cap st) (between : Between st.stage) (more : rounds_in m stage ≡ rounds_in n st.stage + 1)
+module _ (cap n m : ℕ) (st : Stack) (stage : Stage) (done : Bool) (sent got : Logs) (s : IsStack cap st) (between : Between st.stage) (more : rounds_in m stage ≡ rounds_in n st.stage + 1)
     (a : AgreesIn n st sent got) where
-  begun : State
+  begun : Stack
   begun = record st { stage = stage; done = done; outs = map begun_out st.outs; ins = map begun_in st.ins; popped = None }
 
   out_begun : (b : ℕ) → b < st.ranks → get_or (map begun_out st.outs) b no_out ≡ begun_out (out_at st b)
@@ -197,7 +197,7 @@ more_proceed n Full m p = omega arith
 more_proceed n AllDone m p = absurd (false≢true m)
 
 -- the agreement as a proceed round, or an exchange round, goes on
-pub proceed_agrees : (cap n : ℕ) (st : State) (done : Bool) (sent got : Logs) → IsStack cap st → may_proceed st.stage ≡ true → AgreesIn n st sent got → AgreesIn (cycle_after n st.stage) (in_proceed done st) sent got
+pub proceed_agrees : (cap n : ℕ) (st : Stack) (done : Bool) (sent got : Logs) → IsStack cap st → may_proceed st.stage ≡ true → AgreesIn n st sent got → AgreesIn (cycle_after n st.stage) (in_proceed done st) sent got
 proceed_agrees cap n st done sent got s may a = by_stage (is_proceeding st.stage) refl
   where
     same_cycle : (stage : Stage) → is_proceeding stage ≡ true → n ≡ cycle_after n stage
@@ -213,7 +213,7 @@ proceed_agrees cap n st done sent got s may a = by_stage (is_proceeding st.stage
     by_stage true h = subst (λ m. AgreesIn m (record st { popped = None }) sent got) (same_cycle st.stage h) (agrees_rest n st sent got a)
     by_stage false h = agrees_begun cap n (cycle_after n st.stage) st Proceeding done sent got s (proceed_between st.stage may h).0 (more_proceed n st.stage may h) a
 
-pub exchange_agrees : (cap n : ℕ) (st : State) (sent got : Logs) → IsStack cap st → may_exchange st.stage ≡ true → AgreesIn n st sent got → AgreesIn n (in_exchange st) sent got
+pub exchange_agrees : (cap n : ℕ) (st : Stack) (sent got : Logs) → IsStack cap st → may_exchange st.stage ≡ true → AgreesIn n st sent got → AgreesIn n (in_exchange st) sent got
 exchange_agrees cap n st sent got s may a = by_stage (is_exchanging st.stage) refl
   where
     by_stage : (b : Bool) → is_exchanging st.stage ≡ b
@@ -224,7 +224,7 @@ exchange_agrees cap n st sent got s may a = by_stage (is_exchanging st.stage) re
         agrees_begun cap n n st Exchanging st.done sent got s (subst Between (sym f) (record { no_round = refl })) (subst (λ g. 2 * n + 2 ≡ rounds_in n g + 1) (sym f) (omega arith)) a
 
 -- what a beginning leaves as it was
-pub record Begun (begun : State) (stage : Stage) (done : Bool) (st : State) : Type 0 where
+pub record Begun (begun : Stack) (stage : Stage) (done : Bool) (st : Stack) : Type 0 where
   pub stage_is : begun.stage ≡ stage
   pub done_is : begun.done ≡ done
   pub forgotten : begun.popped ≡ None
@@ -247,7 +247,7 @@ exchanging_is Exchanging h = refl
 exchanging_is Full h = absurd (false≢true h)
 exchanging_is AllDone h = absurd (false≢true h)
 
-pub proceed_begun : (done : Bool) (st : State) → (st.stage ≡ Proceeding → done ≡ st.done) → Begun (in_proceed done st) Proceeding done st
+pub proceed_begun : (done : Bool) (st : Stack) → (st.stage ≡ Proceeding → done ≡ st.done) → Begun (in_proceed done st) Proceeding done st
 proceed_begun done st same = by_stage (is_proceeding st.stage) refl
   where
     by_stage : (b : Bool) → is_proceeding st.stage ≡ b
@@ -255,7 +255,7 @@ proceed_begun done st same = by_stage (is_proceeding st.stage) refl
     by_stage true h = let p = proceeding_is st.stage h in record { stage_is = p; done_is = sym (same p); forgotten = refl; ranks = refl; rank = refl }
     by_stage false h = record { stage_is = refl; done_is = refl; forgotten = refl; ranks = refl; rank = refl }
 
-pub exchange_begun : (st : State) → Begun (in_exchange st) Exchanging st.done st
+pub exchange_begun : (st : Stack) → Begun (in_exchange st) Exchanging st.done st
 exchange_begun st = by_stage (is_exchanging st.stage) refl
   where
     by_stage : (b : Bool) → is_exchanging st.stage ≡ b

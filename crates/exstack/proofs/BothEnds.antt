@@ -17,7 +17,7 @@ use Rattle.port_bank.proofs.Owners.{starting_own, ending_own}
 use Rattle.exstack.specs.declared.stage.Stage.{Stage}
 use Rattle.exstack.specs.declared.stage.Stage.TheVariants.{Start, Proceeding, Filling, Exchanging, Full, AllDone}
 use Rattle.exstack.specs.Links.{no_out, no_in}
-use Rattle.exstack.specs.State.{State, out_at, in_at, number, link_to, link_from, may_read}
+use Rattle.exstack.specs.State.{Stack, out_at, in_at, number, link_to, link_from, may_read}
 use Rattle.exstack.specs.Cycles.{proceed_parcel, exchange_parcel, odd_ones, entries_sent, entries_exchanged, items}
 use Rattle.exstack.specs.Parts.{pushed_to, pulled_of, part_of, is_all_done}
 use Rattle.exstack.specs.Standing.{IsOut, IsIn}
@@ -80,7 +80,7 @@ through_marks e epoch true h = elim (cases_lt e epoch) [ inl less ↦ inr less |
 through_marks e epoch false h = inr h
 
 -- the link from s to d, of exstacks that agree together
-module _ (ranks cap slots : ℕ) (all : ℕ → State) (sent got : Logs) (t : AgreeTogether ranks cap slots all sent got) (s d : ℕ) (from : s < ranks) (to : d < ranks) where
+module _ (ranks cap slots : ℕ) (all : ℕ → Stack) (sent got : Logs) (t : AgreeTogether ranks cap slots all sent got) (s d : ℕ) (from : s < ranks) (to : d < ranks) where
   pub fronts : Begins (got (number ranks s d)) (sent (number ranks s d))
   fronts = (t.links_keep (number ranks s d) (number_within ranks s d from to t.few)).begins
 

@@ -8,8 +8,8 @@ use Rattle.std.proofs.lemmas.List.Quantifiers.{position-Some}
 use Rattle.list_laws.proofs.Lists.{each_set}
 use Rattle.bale_types.specs.declared.item.Entry.{Entry}
 use Rattle.exstack.specs.declared.stage.Stage.TheVariants.{Start, AllDone}
-use Rattle.exstack.specs.Links.{Out, In, no_out, no_in, has_unread, with_first_read, with_back, reopened, resumed}
-use Rattle.exstack.specs.State.{State, in_at, may_read, after_reset}
+use Rattle.exstack.specs.Links.{Out, In, no_out, no_in, has_unread, with_first_read, with_put_back, reopened, resumed}
+use Rattle.exstack.specs.State.{Stack, in_at, may_read, after_reset}
 use Rattle.exstack.specs.Standing.{IsOut, IsIn, CanUnpop, IsStack, IsKept}
 use Rattle.exstack.proofs.Places.{none_passes}
 
@@ -32,7 +32,7 @@ first_some [] h = absurd (h refl)
 first_some (e ∷ es) h = refl
 
 -- the right to unpop is forgotten
-pub stack_rest : (cap : ℕ) (st : State) → IsStack cap st → IsStack cap (record st { popped = None })
+pub stack_rest : (cap : ℕ) (st : Stack) → IsStack cap st → IsStack cap (record st { popped = None })
 stack_rest cap st s = record {
   is_cap = s.is_cap;
   rank = s.rank;
@@ -47,7 +47,7 @@ stack_rest cap st s = record {
   none_some a e = cc
 
 -- a pop that finds nothing
-pub none_kept : (cap : ℕ) (st : State) (from : ℕ) → IsKept cap st from → position has_unread st.ins ≡ None → IsKept cap (record st { popped = None }) st.ranks
+pub none_kept : (cap : ℕ) (st : Stack) (from : ℕ) → IsKept cap st from → position has_unread st.ins ≡ None → IsKept cap (record st { popped = None }) st.ranks
 none_kept cap st from k none = record {
   standing = stack_rest cap st k.standing;
   from_high = omega arith;
@@ -55,7 +55,7 @@ none_kept cap st from k none = record {
 }
 
 -- a pop that gives the first unread item of a
-module _ (cap : ℕ) (st : State) (from a : ℕ) (x : In) (k : IsKept cap st from) (found : position has_unread st.ins ≡ Some a) (here : x ≡ get_or st.ins a x) where
+module _ (cap : ℕ) (st : Stack) (from a : ℕ) (x : In) (k : IsKept cap st from) (found : position has_unread st.ins ≡ Some a) (here : x ≡ get_or st.ins a x) where
   at : (a < length st.ins) × (has_unread (get_or st.ins a no_in) ≡ true) × ((j : ℕ) → j < a → has_unread (get_or st.ins j no_in) ≡ false)
   at = position-Some has_unread st.ins a no_in found
 
@@ -111,13 +111,13 @@ module _ (cap : ℕ) (st : State) (from a : ℕ) (x : In) (k : IsKept cap st fro
       same a b e = cc
 
 -- an unpop that puts the item of a back
-put_back : (i : In) → IsSome i.back → (with_back i.back i).due ≡ i.due
-put_back i h = elim i.back as (λ b. (with_back b i).due ≡ i.due) [ None ↦ refl | Some e ↦ refl ]
+put_back : (i : In) → IsSome i.back → (with_put_back i.back i).due ≡ i.due
+put_back i h = elim i.back as (λ b. (with_put_back b i).due ≡ i.due) [ None ↦ refl | Some e ↦ refl ]
 
-put_back_ended : (i : In) → (with_back i.back i).ended ≡ i.ended
-put_back_ended i = elim i.back as (λ b. (with_back b i).ended ≡ i.ended) [ None ↦ refl | Some e ↦ refl ]
+put_back_ended : (i : In) → (with_put_back i.back i).ended ≡ i.ended
+put_back_ended i = elim i.back as (λ b. (with_put_back b i).ended ≡ i.ended) [ None ↦ refl | Some e ↦ refl ]
 
-module _ (cap : ℕ) (st : State) (from a : ℕ) (k : IsKept cap st from) (popped : st.popped ≡ Some a) where
+module _ (cap : ℕ) (st : Stack) (from a : ℕ) (k : IsKept cap st from) (popped : st.popped ≡ Some a) where
   can : CanUnpop st a
   can = k.standing.can_unpop a popped
 
@@ -131,7 +131,7 @@ module _ (cap : ℕ) (st : State) (from a : ℕ) (k : IsKept cap st from) (poppe
     pub unpop_back : IsSome x.back
     unpop_back = subst (λ (i : In). IsSome i.back) (sym at_x) can.back
 
-    module _ (y : In) (put : y ≡ with_back x.back x) (low : ℕ) (is_low : low ≡ min from a) where
+    module _ (y : In) (put : y ≡ with_put_back x.back x) (low : ℕ) (is_low : low ≡ min from a) where
       not_due : y.due ≡ false
       not_due = ap (λ (i : In). i.due) put ∙ (put_back x unpop_back ∙ (ap (λ (i : In). i.due) at_x ∙ can.came))
 
@@ -160,7 +160,7 @@ module _ (cap : ℕ) (st : State) (from a : ℕ) (k : IsKept cap st from) (poppe
         none_some b e = cc
 
 -- a reset
-module _ (cap : ℕ) (st : State) (from : ℕ) (k : IsKept cap st from) (all : st.stage ≡ AllDone) where
+module _ (cap : ℕ) (st : Stack) (from : ℕ) (k : IsKept cap st from) (all : st.stage ≡ AllDone) where
   pub out_done : (o : Out) → IsOut cap st.stage st.done o → (o.due ≡ false) × (o.waiting ≡ [])
   out_done o s =
       let t = subst (λ g. IsOut cap g st.done o) all s in

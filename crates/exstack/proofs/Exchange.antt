@@ -9,7 +9,7 @@ use Rattle.port_bank.specs.Machine.{Part, ItemLists, for_ranks, Step, after, May
 use Rattle.port_bank.specs.Machine.Step.{Push, Pull, Unpull, Done, Complete, Reset, Idle}
 use Rattle.port_bank.proofs.Owners.{sent_elsewhere, got_elsewhere}
 use Rattle.port_bank.proofs.Listing.{for_ranks-within, with-item_here, next_of, through_same, through_done, all_below}
-use Rattle.exstack.specs.State.{State}
+use Rattle.exstack.specs.State.{Stack}
 use Rattle.exstack.specs.Agreement.{AgreesWith}
 use Rattle.exstack.specs.Parts.{part_of, pushed_to, pulled_of, is_all_done, AreOwnSteps, proceed_steps}
 use Rattle.exstack.specs.Standing.{IsStack}
@@ -19,7 +19,7 @@ use Rattle.exstack.proofs.BothEnds as ends
 for_all : (n m : ℕ) (lists : ItemLists) (e r : ℕ) → m ≡ n → r < n → for_ranks m lists e r ≡ lists e r
 for_all n m lists e r same h = ap (λ k. for_ranks k lists e r) same ∙ for_ranks-within n lists e r h
 
-module _ (ranks cap slots : ℕ) (all : ℕ → State) (sent got : Logs) (t : AgreeTogether ranks cap slots all sent got) where
+module _ (ranks cap slots : ℕ) (all : ℕ → Stack) (sent got : Logs) (t : AgreeTogether ranks cap slots all sent got) where
   -- what a rank pulled is the front of what its sender pushed
   pub in_order : (e s d : ℕ) → s < ranks → d < ranks → Begins ((state_of ranks all sent got d).pulled e s) ((state_of ranks all sent got s).pushed e d)
   in_order e s d from to =
@@ -56,7 +56,7 @@ module _ (ranks cap slots : ℕ) (all : ℕ → State) (sent got : Logs) (t : Ag
     whole = λ r s e to from h. all_of e s r from to h;
   }
 
-module _ (ranks cap slots r : ℕ) (old new : ℕ → State) (sent sent' got got' : Logs)
+module _ (ranks cap slots r : ℕ) (old new : ℕ → Stack) (sent sent' got got' : Logs)
     (t : AgreeTogether ranks cap slots old sent got) (c : IsCall ranks cap slots r old new sent sent' got got') where
   -- what holds of the rank that is called and of all others, holds of each
   each_rank : (P : ℕ → Type 0) → P r → ((q : ℕ) → q < ranks → q ≢ r → P q) → (q : ℕ) → q < ranks → P q
@@ -72,8 +72,8 @@ module _ (ranks cap slots r : ℕ) (old new : ℕ → State) (sent sent' got got
   stays_together = record {
     few = t.few;
     links_keep = c.links_keep;
-    same_ranks = each_rank (λ q. (new q).ranks ≡ ranks) c.same_ranks (λ q h ne. ap (λ (b : State). b.ranks) (c.others q h ne) ∙ t.same_ranks q h);
-    same_rank = each_rank (λ q. (new q).rank ≡ q) c.same_rank (λ q h ne. ap (λ (b : State). b.rank) (c.others q h ne) ∙ t.same_rank q h);
+    same_ranks = each_rank (λ q. (new q).ranks ≡ ranks) c.same_ranks (λ q h ne. ap (λ (b : Stack). b.ranks) (c.others q h ne) ∙ t.same_ranks q h);
+    same_rank = each_rank (λ q. (new q).rank ≡ q) c.same_rank (λ q h ne. ap (λ (b : Stack). b.rank) (c.others q h ne) ∙ t.same_rank q h);
     standing = each_rank (λ q. IsStack cap (new q)) c.standing (λ q h ne. subst (IsStack cap) (sym (c.others q h ne)) (t.standing q h));
     agree = each_rank (λ q. AgreesWith (new q) (starting_at (ranks ∷ []) q sent') (ending_at (ranks ∷ []) q got')) c.agrees agrees_other;
   }

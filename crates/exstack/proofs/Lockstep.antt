@@ -10,7 +10,7 @@ use Rattle.port_bank.proofs.Segments.{lasts-append, lasts_first, lasts_begins}
 use Rattle.exstack.specs.declared.stage.Stage.{Stage}
 use Rattle.exstack.specs.declared.stage.Stage.TheVariants.{Start, Proceeding, Filling, Exchanging, Full, AllDone}
 use Rattle.exstack.specs.Links.{no_out, no_in}
-use Rattle.exstack.specs.State.{State, out_at, in_at, number, link_to, link_from, is_proceeding, is_exchanging}
+use Rattle.exstack.specs.State.{Stack, out_at, in_at, number, link_to, link_from, is_proceeding, is_exchanging}
 use Rattle.exstack.specs.Agreement.{LinkAgrees, rounds_in}
 use Rattle.exstack.specs.Standing.{IsOut, IsIn}
 use Rattle.exstack.specs.Lockstep.{finished_in, HasFinished, IsPosted, HasPosted, InStep}
@@ -90,7 +90,7 @@ ending-own : (dims : List ℕ) (r : ℕ) (logs : Logs) (l : ℕ) → reader_at d
 ending-own dims r logs l e = ap (λ c. cond c (logs l) []) (eq-eqb (reader_at dims l) r e)
 
 -- a link's own logs at its two ends
-module _ (ranks cap slots : ℕ) (n : ℕ → ℕ) (all : ℕ → State) (sent got : Logs) (t : InStep ranks cap slots n all sent got) (a b : ℕ) (la : a < ranks) (lb : b < ranks) where
+module _ (ranks cap slots : ℕ) (n : ℕ → ℕ) (all : ℕ → Stack) (sent got : Logs) (t : InStep ranks cap slots n all sent got) (a b : ℕ) (la : a < ranks) (lb : b < ranks) where
   abbrev l : ℕ
   l = number ranks a b
 

@@ -9,7 +9,7 @@ use Rattle.port_bank.specs.Shapes.{IsExstackShape}
 use Rattle.port_bank.specs.Relay.{RelayLaw}
 use Rattle.exstack.specs.declared.stage.Stage.{Stage}
 use Rattle.exstack.specs.Links.{Out, In, no_out, no_in, parcel_of, gone, came}
-use Rattle.exstack.specs.State.{State, out_at, in_at, dims_of, number, link_to, link_from, is_proceeding, is_exchanging}
+use Rattle.exstack.specs.State.{Stack, out_at, in_at, dims_of, number, link_to, link_from, is_proceeding, is_exchanging}
 use Rattle.exstack.specs.Steps.{was_moved, WasPosted, WasCollected, latest, MadeRound}
 use Rattle.exstack.specs.Standing.{IsOut, IsIn, IsStack}
 use Rattle.exstack.specs.Cycles.{entries_exchanged, exchange_parcel, entries_in}
@@ -65,10 +65,10 @@ module _ (stage : Stage) (done last exchange : Bool) (k : Kind stage done last e
   in_is p link = in_is_by p (was_moved i.due i'.due) link
 
 -- the exstack after a round
-abbrev pub after_round : State → List Out → List In → State
+abbrev pub after_round : Stack → List Out → List In → Stack
 after_round st outs ins = record st { outs = outs; ins = ins }
 
-module _ (cap : ℕ) (st : State) (outs : List Out) (ins : List In) (last exchange : Bool) (sent sent' got got' : Logs) (s : IsStack cap st) (k : Kind st.stage st.done last exchange)
+module _ (cap : ℕ) (st : Stack) (outs : List Out) (ins : List In) (last exchange : Bool) (sent sent' got got' : Logs) (s : IsStack cap st) (k : Kind st.stage st.done last exchange)
     (forgotten : st.popped ≡ None) (all_outs : length outs ≡ length st.outs) (all_ins : length ins ≡ length st.ins) where
   module _ (m : MadeRound last exchange st (after_round st outs ins) sent sent' got got') where
     each_out : EachAt (λ b o. IsOut cap st.stage st.done o) outs
@@ -147,13 +147,13 @@ module _ (cap : ℕ) (st : State) (outs : List Out) (ins : List In) (last exchan
       }
 
 -- What the posts of a round, and its collects, leave.
-pub record PostsDone (st : State) (outs : List Out) (last : Bool) (sent sent' got : Logs) : Type 0 where
+pub record PostsDone (st : Stack) (outs : List Out) (last : Bool) (sent sent' got : Logs) : Type 0 where
   pub count : length outs ≡ length st.outs
   pub moved : (b : ℕ) → b < length st.outs → WasPosted last st.epoch (get_or st.outs b no_out) (get_or outs b no_out) (sent (number (length st.outs) st.rank b)) (sent' (number (length st.outs) st.rank b))
   pub law : RelayLaw (dims_of st) st.rank sent' got
   pub grows : (m : ℕ) → Begins (sent m) (sent' m)
 
-pub record CollectsDone (st : State) (ins : List In) (exchange : Bool) (sent' got got' : Logs) : Type 0 where
+pub record CollectsDone (st : Stack) (ins : List In) (exchange : Bool) (sent' got got' : Logs) : Type 0 where
   pub count : length ins ≡ length st.ins
   pub moved : (a : ℕ) → a < length st.ins → WasCollected exchange (get_or st.ins a no_in) (get_or ins a no_in) (got (number (length st.ins) a st.rank)) (got' (number (length st.ins) a st.rank))
   pub own : Begins (got (number (length st.ins) st.rank st.rank)) (sent' (number (length st.ins) st.rank st.rank)) → Begins (got' (number (length st.ins) st.rank st.rank)) (sent' (number (length st.ins) st.rank st.rank))
@@ -163,7 +163,7 @@ renumber : (P : ℕ → ℕ → Type 0) (n m : ℕ) → n ≡ m → ((b : ℕ) �
 renumber P n m e f = subst (λ x. (b : ℕ) → b < x → P x b) e f
 
 -- nothing was collected
-pub none_done : (st : State) (exchange : Bool) (sent' got : Logs) → CollectsDone st st.ins exchange sent' got got
+pub none_done : (st : Stack) (exchange : Bool) (sent' got : Logs) → CollectsDone st st.ins exchange sent' got got
 none_done st exchange sent' got = record {
   count = refl;
   moved = λ a w. none_collected exchange (get_or st.ins a no_in) (record { log = got (number (length st.ins) a st.rank); count = 0; stuck = false });
@@ -172,18 +172,18 @@ none_done st exchange sent' got = record {
 }
 
 -- the facts of the requires, of an equal state
-pub record Before (st : State) (last exchange : Bool) : Type 0 where
+pub record Before (st : Stack) (last exchange : Bool) : Type 0 where
   pub kind : Kind st.stage st.done last exchange
   pub forgotten : st.popped ≡ None
 
-pub before : (st now : State) (last exchange : Bool) → st ≡ now → (is_proceeding now.stage || is_exchanging now.stage) ≡ true → exchange ≡ is_exchanging now.stage → last ≡ (now.done && not exchange) → now.popped ≡ None
+pub before : (st now : Stack) (last exchange : Bool) → st ≡ now → (is_proceeding now.stage || is_exchanging now.stage) ≡ true → exchange ≡ is_exchanging now.stage → last ≡ (now.done && not exchange) → now.popped ≡ None
     → Before st last exchange
 before st now last exchange view r x l f = record {
-  kind = kind_of st.stage st.done last exchange (ap (λ (t : State). is_proceeding t.stage || is_exchanging t.stage) view ∙ r) (x ∙ ap (λ (t : State). is_exchanging t.stage) (sym view)) (l ∙ ap (λ (t : State). t.done && not exchange) (sym view));
-  forgotten = ap (λ (t : State). t.popped) view ∙ f;
+  kind = kind_of st.stage st.done last exchange (ap (λ (t : Stack). is_proceeding t.stage || is_exchanging t.stage) view ∙ r) (x ∙ ap (λ (t : Stack). is_exchanging t.stage) (sym view)) (l ∙ ap (λ (t : Stack). t.done && not exchange) (sym view));
+  forgotten = ap (λ (t : Stack). t.popped) view ∙ f;
 }
 
-module _ (cap : ℕ) (st : State) (outs : List Out) (ins : List In) (last exchange : Bool) (sent sent' got got' : Logs) (s : IsStack cap st) (b : Before st last exchange)
+module _ (cap : ℕ) (st : Stack) (outs : List Out) (ins : List In) (last exchange : Bool) (sent sent' got got' : Logs) (s : IsStack cap st) (b : Before st last exchange)
     (p : PostsDone st outs last sent sent' got) (q : CollectsDone st ins exchange sent' got got') where
   pub round_done : MadeRound last exchange st (after_round st outs ins) sent sent' got got'
   round_done = record {

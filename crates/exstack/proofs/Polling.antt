@@ -13,7 +13,7 @@ use Rattle.exstack.specs.declared.stage.Stage.TheVariants.{Start, Proceeding, Fi
 use Rattle.exstack.specs.declared.stage.Poll.{Poll}
 use Rattle.exstack.specs.declared.stage.Poll.TheVariants as poll
 use Rattle.exstack.specs.Links.{Out, In, no_out, no_in, begun_out, begun_in}
-use Rattle.exstack.specs.State.{State, out_at, in_at, link_to, link_from, unread_of, is_proceeding, is_exchanging, may_proceed, may_exchange, may_read, in_proceed, in_exchange, stage_of_exchange}
+use Rattle.exstack.specs.State.{Stack, out_at, in_at, link_to, link_from, unread_of, is_proceeding, is_exchanging, may_proceed, may_exchange, may_read, in_proceed, in_exchange, stage_of_exchange}
 use Rattle.exstack.specs.Steps.{MadeRound}
 use Rattle.exstack.specs.Cycles.{entries_sent, entries_exchanged, items}
 use Rattle.exstack.specs.Agreement.{AgreesIn, rounds_in}
@@ -24,7 +24,7 @@ use Rattle.exstack.proofs.Beginning.{begun_outs, begun_ins, exchange_filling}
 use Rattle.exstack.proofs.Pieces.{pushed_after, pulled_after}
 
 -- what a poll leaves of the lists
-pub record SameLists (old new : State) (sent sent' got got' : Logs) : Type 0 where
+pub record SameLists (old new : Stack) (sent sent' got got' : Logs) : Type 0 where
   pub pushed : for_ranks old.ranks (pushed_to new sent') ≡ for_ranks old.ranks (pushed_to old sent)
   pub pulled : for_ranks old.ranks (pulled_of new got') ≡ for_ranks old.ranks (pulled_of old got)
 
@@ -33,11 +33,11 @@ empty_list [] h = refl
 empty_list (e ∷ es) h = absurd (omega arith)
 
 -- nothing is unread, so nothing is of any sender
-pub nothing_unread : (st : State) → unread_of st ≡ 0 → (a : ℕ) → a < length st.ins → (in_at st a).unread ≡ []
+pub nothing_unread : (st : Stack) → unread_of st ≡ 0 → (a : ℕ) → a < length st.ins → (in_at st a).unread ≡ []
 nothing_unread st none a w = empty_list (in_at st a).unread (omega (arith, get_or-le-sum_by (λ (i : In). length i.unread) st.ins a no_in w, none))
 
 -- as a round begins, where nothing is unread
-module _ (cap : ℕ) (st : State) (stage : Stage) (done : Bool) (sent got : Logs) (s : IsStack cap st) (read : (a : ℕ) → a < length st.ins → (in_at st a).unread ≡ []) where
+module _ (cap : ℕ) (st : Stack) (stage : Stage) (done : Bool) (sent got : Logs) (s : IsStack cap st) (read : (a : ℕ) → a < length st.ins → (in_at st a).unread ≡ []) where
   pub begun_lists : SameLists st (record st { stage = stage; done = done; outs = map begun_out st.outs; ins = map begun_in st.ins; popped = None }) sent sent got got
   begun_lists = record {
     pushed = lists_same st.ranks (pushed_to (record st { stage = stage; done = done; outs = map begun_out st.outs; ins = map begun_in st.ins; popped = None }) sent) (pushed_to st sent)
@@ -47,14 +47,14 @@ module _ (cap : ℕ) (st : State) (stage : Stage) (done : Bool) (sent got : Logs
         (ap (λ (i : In). i.unread) (begun_ins st.ins q no_in (omega (arith, w, s.all_ins, length-map st.ins begun_in))) ∙ sym (read q (omega (arith, w, s.all_ins)))));
   }
 
-pub proceed_lists : (cap : ℕ) (st : State) (done : Bool) (sent got : Logs) → IsStack cap st → unread_of st ≡ 0 → SameLists st (in_proceed done st) sent sent got got
+pub proceed_lists : (cap : ℕ) (st : Stack) (done : Bool) (sent got : Logs) → IsStack cap st → unread_of st ≡ 0 → SameLists st (in_proceed done st) sent sent got got
 proceed_lists cap st done sent got s none = by_stage (is_proceeding st.stage)
   where
     by_stage : (b : Bool) → SameLists st (cond b (record st { popped = None }) (record st { stage = Proceeding; done = done; outs = map begun_out st.outs; ins = map begun_in st.ins; popped = None })) sent sent got got
     by_stage true = record { pushed = refl; pulled = refl }
     by_stage false = begun_lists cap st Proceeding done sent got s (nothing_unread st none)
 
-pub exchange_lists : (cap : ℕ) (st : State) (sent got : Logs) → IsStack cap st → may_exchange st.stage ≡ true → SameLists st (in_exchange st) sent sent got got
+pub exchange_lists : (cap : ℕ) (st : Stack) (sent got : Logs) → IsStack cap st → may_exchange st.stage ≡ true → SameLists st (in_exchange st) sent sent got got
 exchange_lists cap st sent got s may = by_stage (is_exchanging st.stage) refl
   where
     by_stage : (b : Bool) → is_exchanging st.stage ≡ b → SameLists st (cond b (record st { popped = None }) (record st { stage = Exchanging; outs = map begun_out st.outs; ins = map begun_in st.ins; popped = None })) sent sent got got
@@ -64,34 +64,34 @@ exchange_lists cap st sent got s may = by_stage (is_exchanging st.stage) refl
         begun_lists cap st Exchanging st.done sent got s (λ a w. (s.each_in a no_in w).read (ap may_read filling))
 
 -- and as it is made
-module _ (cap n : ℕ) (st new : State) (last exchange : Bool) (sent sent' got got' : Logs) (s : IsStack cap st) (k : Kind st.stage st.done last exchange) (same : new ≡ record st { outs = new.outs; ins = new.ins })
+module _ (cap n : ℕ) (st new : Stack) (last exchange : Bool) (sent sent' got got' : Logs) (s : IsStack cap st) (k : Kind st.stage st.done last exchange) (same : new ≡ record st { outs = new.outs; ins = new.ins })
     (m : MadeRound last exchange st new sent sent' got got') (a : AgreesIn n st sent got) where
   pub made_lists : SameLists st new sent sent' got got'
   made_lists = record {
-    pushed = ap (λ (t : State). for_ranks st.ranks (pushed_to t sent')) same
+    pushed = ap (λ (t : Stack). for_ranks st.ranks (pushed_to t sent')) same
         ∙ lists_same st.ranks (pushed_to (record st { outs = new.outs; ins = new.ins }) sent') (pushed_to st sent)
         (λ d q w. pushed_after d st.epoch (rounds_in n st.stage) last (out_at st q) (out_at new q) (sent (link_to st q)) (sent' (link_to st q)) (s.each_out q no_out (omega (arith, w, s.all_outs))).due_open (a.outs q w) (m.posted q w));
-    pulled = ap (λ (t : State). for_ranks st.ranks (pulled_of t got')) same
+    pulled = ap (λ (t : Stack). for_ranks st.ranks (pulled_of t got')) same
         ∙ lists_same st.ranks (pulled_of (record st { outs = new.outs; ins = new.ins }) got') (pulled_of st got)
         (λ d q w.
         let was = s.each_in q no_in (omega (arith, w, s.all_ins)) in
         pulled_after d st.epoch n (rounds_in n st.stage) exchange (in_at st q) (in_at new q) (got (link_from st q)) (got' (link_from st q)) was.due_open was.due_empty (a.ins q w) (k.odd n) (k.even n) (m.collected q w));
   }
 
-pub lists_after : (old mid new : State) (sent sent' got got' : Logs) → mid.ranks ≡ old.ranks → SameLists old mid sent sent got got → SameLists mid new sent sent' got got' → SameLists old new sent sent' got got'
+pub lists_after : (old mid new : Stack) (sent sent' got got' : Logs) → mid.ranks ≡ old.ranks → SameLists old mid sent sent got got → SameLists mid new sent sent' got got' → SameLists old new sent sent' got got'
 lists_after old mid new sent sent' got got' ranks p q = record {
   pushed = subst (λ n. for_ranks n (pushed_to new sent') ≡ for_ranks n (pushed_to mid sent)) ranks q.pushed ∙ p.pushed;
   pulled = subst (λ n. for_ranks n (pulled_of new got') ≡ for_ranks n (pulled_of mid got)) ranks q.pulled ∙ p.pulled;
 }
 
 -- the steps by what changed
-pub record Polled (old new : State) (done : Bool) : Type 0 where
+pub record Polled (old new : Stack) (done : Bool) : Type 0 where
   pub ranks : new.ranks ≡ old.ranks
   pub epoch : new.epoch ≡ old.epoch
   pub done_is : new.done ≡ done
   pub forgotten : new.popped ≡ None
 
-part_is : (old new : State) (done : Bool) (sent sent' got got' : Logs) → Polled old new done → SameLists old new sent sent' got got'
+part_is : (old new : Stack) (done : Bool) (sent sent' got got' : Logs) → Polled old new done → SameLists old new sent sent' got got'
     → part_of new sent' got' ≡ record (part_of old sent got) { done = done; complete = is_all_done new.stage; latest = None }
 part_is old new done sent sent' got got' p l = λ i. record {
   epoch = p.epoch i;
@@ -107,10 +107,10 @@ part_is old new done sent sent' got got' p l = λ i. record {
   pulled : for_ranks new.ranks (pulled_of new got') ≡ for_ranks old.ranks (pulled_of old got)
   pulled = ap (λ n. for_ranks n (pulled_of new got')) p.ranks ∙ l.pulled
 
-pub idle_poll : (old new : State) (sent sent' got got' : Logs) → Polled old new old.done → is_all_done new.stage ≡ is_all_done old.stage → SameLists old new sent sent' got got' → IsOwnStep Idle (part_of old sent got) (part_of new sent' got')
+pub idle_poll : (old new : Stack) (sent sent' got got' : Logs) → Polled old new old.done → is_all_done new.stage ≡ is_all_done old.stage → SameLists old new sent sent' got got' → IsOwnStep Idle (part_of old sent got) (part_of new sent' got')
 idle_poll old new sent sent' got got' p same l = record { may = tt; is = part_is old new old.done sent sent' got got' p l ∙ ap (λ c. record (part_of old sent got) { complete = c; latest = None }) same }
 
-pub proceed_poll : (old new : State) (done : Bool) (sent sent' got got' : Logs) → Polled old new done → (old.done ≡ true → done ≡ true) → is_all_done old.stage ≡ false → SameLists old new sent sent' got got'
+pub proceed_poll : (old new : Stack) (done : Bool) (sent sent' got got' : Logs) → Polled old new done → (old.done ≡ true → done ≡ true) → is_all_done old.stage ≡ false → SameLists old new sent sent' got got'
     → AreOwnSteps (proceed_steps old.done done (is_all_done new.stage)) (part_of old sent got) (part_of new sent' got')
 proceed_poll old new done sent sent' got got' p stays not_yet l = by_marks old.done done (is_all_done new.stage) refl refl stays (part_is old new done sent sent' got got' p l)
   where
@@ -146,8 +146,8 @@ pub exchange_stays : (p : Poll) → false ≡ is_all_done (stage_of_exchange p)
 exchange_stays poll.Ready = refl
 exchange_stays (poll.NotYet link) = refl
 
-pub exchange_epoch : (st : State) → (in_exchange st).epoch ≡ st.epoch
+pub exchange_epoch : (st : Stack) → (in_exchange st).epoch ≡ st.epoch
 exchange_epoch st = elim (is_exchanging st.stage) as (λ b. (cond b (record st { popped = None }) (record st { stage = Exchanging; outs = map begun_out st.outs; ins = map begun_in st.ins; popped = None })).epoch ≡ st.epoch) [ true ↦ refl | false ↦ refl ]
 
-pub proceed_epoch : (done : Bool) (st : State) → (in_proceed done st).epoch ≡ st.epoch
+pub proceed_epoch : (done : Bool) (st : Stack) → (in_proceed done st).epoch ≡ st.epoch
 proceed_epoch done st = elim (is_proceeding st.stage) as (λ b. (cond b (record st { popped = None }) (record st { stage = Proceeding; done = done; outs = map begun_out st.outs; ins = map begun_in st.ins; popped = None })).epoch ≡ st.epoch) [ true ↦ refl | false ↦ refl ]

@@ -11,8 +11,8 @@ use Rattle.bale_types.specs.declared.item.Entry.{Entry}
 use Rattle.port_bank.specs.Logs.{Logs}
 use Rattle.port_bank.specs.Machine.{IsOwnStep}
 use Rattle.port_bank.specs.Machine.Step.{Push, Idle}
-use Rattle.exstack.specs.Links.{Out, In, no_out, no_in, has_unread, with_entry, with_first_read, with_back, plain}
-use Rattle.exstack.specs.State.{State, out_at, in_at, lowest_unread, pushed_on, pop_from, popped_from, unpopped}
+use Rattle.exstack.specs.Links.{Out, In, no_out, no_in, has_unread, with_entry, with_first_read, with_put_back, plain}
+use Rattle.exstack.specs.State.{Stack, out_at, in_at, lowest_unread, pushed_on, pop_from, popped_from, unpopped}
 use Rattle.exstack.specs.Agreement.{AgreesIn}
 use Rattle.exstack.specs.Parts.{part_of, IsStepOf, KeepsAgreement, IsPop, IsUnpop}
 use Rattle.exstack.specs.Standing.{IsStack, IsKept}
@@ -33,7 +33,7 @@ first_of : (es : List Entry) → (es ≡ [] → ⊥) → (x : Entry) × (slice_g
 first_of [] h = absurd (h refl)
 first_of (e ∷ es) h = (e, refl)
 
-module _ (cap : ℕ) (st : State) (s : IsStack cap st) where
+module _ (cap : ℕ) (st : Stack) (s : IsStack cap st) where
   pop_none : lowest_unread st ≡ None → IsPop None st (record st { popped = None })
   pop_none none = record {
     sender = tt;
@@ -64,7 +64,7 @@ module _ (cap : ℕ) (st : State) (s : IsStack cap st) where
   by_place None h = pop_none h
   by_place (Some a) h = pop_some a h
 
-pub pop_is : (cap : ℕ) (st : State) (r : Option (ℕ × Item)) (new : State) → IsStack cap st → r ≡ pop_from st (lowest_unread st) → new ≡ popped_from st (lowest_unread st) → IsPop r st new
+pub pop_is : (cap : ℕ) (st : Stack) (r : Option (ℕ × Item)) (new : Stack) → IsStack cap st → r ≡ pop_from st (lowest_unread st) → new ≡ popped_from st (lowest_unread st) → IsPop r st new
 pop_is cap st r new s value state =
     subst (λ v. IsPop v st new) (sym value) (subst (λ t. IsPop (pop_from st (lowest_unread st)) st t) (sym state) (by_place cap st s (lowest_unread st) refl))
 
@@ -73,7 +73,7 @@ some_of : (o : Option Entry) → IsSome o → (x : Entry) × (o ≡ Some x)
 some_of None h = absurd (false≢true h)
 some_of (Some x) h = (x, refl)
 
-unpop_by : (cap : ℕ) (st : State) (o : Option ℕ) → IsStack cap st → st.popped ≡ o → IsUnpop (is_some o) st (unpopped st o)
+unpop_by : (cap : ℕ) (st : Stack) (o : Option ℕ) → IsStack cap st → st.popped ≡ o → IsUnpop (is_some o) st (unpopped st o)
 unpop_by cap st None s h = record {
   kept = λ n sent got a. a;
   step_back = λ e. absurd (false≢true e);
@@ -90,51 +90,51 @@ unpop_by cap st (Some a) s h =
       step_none = λ e. absurd (false≢true (sym e));
     }
 
-pub unpop_is : (cap : ℕ) (st : State) (r : Bool) (new : State) → IsStack cap st → r ≡ is_some st.popped → new ≡ unpopped st st.popped → IsUnpop r st new
+pub unpop_is : (cap : ℕ) (st : Stack) (r : Bool) (new : Stack) → IsStack cap st → r ≡ is_some st.popped → new ≡ unpopped st st.popped → IsUnpop r st new
 unpop_is cap st r new s value state = subst (λ v. IsUnpop v st new) (sym value) (subst (λ t. IsUnpop (is_some st.popped) st t) (sym state) (unpop_by cap st st.popped s refl))
 
 -- a push
-pub record PushIs (to : ℕ) (item : Item) (room : ℕ) (old new : State) : Type 0 where
+pub record PushIs (to : ℕ) (item : Item) (room : ℕ) (old new : Stack) : Type 0 where
   pub kept : KeepsAgreement old new
   pub step_pushed : 0 < room → IsStepOf (Push to item) old new
   pub step_full : room ≡ 0 → IsStepOf Idle old new
 
-pub push_is : (cap : ℕ) (st : State) (to : ℕ) (item : Item) (room : ℕ) (new : State) → IsStack cap st → MayPush st to
+pub push_is : (cap : ℕ) (st : Stack) (to : ℕ) (item : Item) (room : ℕ) (new : Stack) → IsStack cap st → MayPush st to
     → (0 < room → new ≡ pushed_on st item to) → (room ≡ 0 → new ≡ record st { popped = None }) → PushIs to item room st new
 push_is cap st to item room new s may pushed full = record {
   kept = λ n sent got a. elim (cases_lt 0 room) [
-    | inl h ↦ subst (λ (t : State). AgreesIn n t sent got) (sym (pushed h)) (push_agrees cap st to item s may.within n sent got a)
-    | inr h ↦ subst (λ (t : State). AgreesIn n t sent got) (sym (full (omega arith))) (agrees_rest n st sent got a)
+    | inl h ↦ subst (λ (t : Stack). AgreesIn n t sent got) (sym (pushed h)) (push_agrees cap st to item s may.within n sent got a)
+    | inr h ↦ subst (λ (t : Stack). AgreesIn n t sent got) (sym (full (omega arith))) (agrees_rest n st sent got a)
   ];
-  step_pushed = λ h n sent got a. subst (λ (t : State). IsOwnStep (Push to item) (part_of st sent got) (part_of t sent got)) (sym (pushed h)) (push_step cap st to item s may.within may.not_done n sent got a);
-  step_full = λ h n sent got a. subst (λ (t : State). IsOwnStep Idle (part_of st sent got) (part_of t sent got)) (sym (full h)) (idle_step st n sent got);
+  step_pushed = λ h n sent got a. subst (λ (t : Stack). IsOwnStep (Push to item) (part_of st sent got) (part_of t sent got)) (sym (pushed h)) (push_step cap st to item s may.within may.not_done n sent got a);
+  step_full = λ h n sent got a. subst (λ (t : Stack). IsOwnStep Idle (part_of st sent got) (part_of t sent got)) (sym (full h)) (idle_step st n sent got);
 }
 
 -- by the link out that took the item, or refused it
-pub pushed_by : (cap : ℕ) (st now : State) (to : ℕ) (item : Item) (room : ℕ) (x y : Out) → st ≡ now → IsStack cap st → MayPush now to → x ≡ get_or st.outs to x
+pub pushed_by : (cap : ℕ) (st now : Stack) (to : ℕ) (item : Item) (room : ℕ) (x y : Out) → st ≡ now → IsStack cap st → MayPush now to → x ≡ get_or st.outs to x
     → (0 < room → y ≡ with_entry x (plain item)) → (room ≡ 0 → y ≡ x) → PushIs to item room now (record st { outs = set st.outs to y; popped = None })
 pushed_by cap st now to item room x y view s now_may here put same =
-    let may : MayPush st to = subst (λ (t : State). MayPush t to) (sym view) now_may in
+    let may : MayPush st to = subst (λ (t : Stack). MayPush t to) (sym view) now_may in
     let low : to < length st.outs = omega (arith, may.within, s.all_outs) in
     let is_x : x ≡ out_at st to = here ∙ get_or_default st.outs to x no_out low in
-    subst (λ (t : State). PushIs to item room t (record st { outs = set st.outs to y; popped = None })) view
+    subst (λ (t : Stack). PushIs to item room t (record st { outs = set st.outs to y; popped = None })) view
     (push_is cap st to item room (record st { outs = set st.outs to y; popped = None }) s may
     (λ h. ap (λ (o : Out). record st { outs = set st.outs to o; popped = None }) (put h ∙ ap (λ (o : Out). with_entry o (plain item)) is_x))
     (λ h. ap (λ (o : Out). record st { outs = set st.outs to o; popped = None }) (same h ∙ is_x) ∙ ap (λ outs. record st { outs = outs; popped = None }) (set_back st.outs to no_out low)))
 
 -- by the link in that gave the item, or took it back
-module _ (cap : ℕ) (st now : State) (from a : ℕ) (x y : In) (view : st ≡ now) (k : IsKept cap st from) where
+module _ (cap : ℕ) (st now : Stack) (from a : ℕ) (x y : In) (view : st ≡ now) (k : IsKept cap st from) where
   pub popped_by : (e : Entry) → lowest_unread st ≡ Some a → x ≡ get_or st.ins a x → y ≡ with_first_read x → slice_get x.unread 0 ≡ Some e
       → IsPop (Some (a, e.item)) now (record st { ins = set st.ins a y; popped = Some a })
   popped_by e found here read first =
       let i : x ≡ in_at st a = is_x cap st from a x k found here in
-      subst (λ (t : State). IsPop (Some (a, e.item)) t (record st { ins = set st.ins a y; popped = Some a })) view
+      subst (λ (t : Stack). IsPop (Some (a, e.item)) t (record st { ins = set st.ins a y; popped = Some a })) view
       (pop_is cap st (Some (a, e.item)) (record st { ins = set st.ins a y; popped = Some a }) k.standing
       (sym (ap (pop_from st) found ∙ (ap (λ (z : In). option_map (λ (e : Entry). (a, e.item)) (slice_get z.unread 0)) (sym i) ∙ ap (option_map (λ (e : Entry). (a, e.item))) first)))
       (ap (λ (z : In). record st { ins = set st.ins a z; popped = Some a }) (read ∙ ap with_first_read i) ∙ sym (ap (popped_from st) found)))
 
-  pub unpopped_by : st.popped ≡ Some a → x ≡ get_or st.ins a x → y ≡ with_back x.back x → IsUnpop true now (record st { ins = set st.ins a y; popped = None })
+  pub unpopped_by : st.popped ≡ Some a → x ≡ get_or st.ins a x → y ≡ with_put_back x.back x → IsUnpop true now (record st { ins = set st.ins a y; popped = None })
   unpopped_by popped here put =
-      subst (λ (t : State). IsUnpop true t (record st { ins = set st.ins a y; popped = None })) view
+      subst (λ (t : Stack). IsUnpop true t (record st { ins = set st.ins a y; popped = None })) view
       (unpop_is cap st true (record st { ins = set st.ins a y; popped = None }) k.standing (sym (ap is_some popped))
-      (ap (λ (z : In). record st { ins = set st.ins a z; popped = None }) (put ∙ ap (λ (z : In). with_back z.back z) (at_x cap st from a k popped x here)) ∙ sym (ap (unpopped st) popped)))
+      (ap (λ (z : In). record st { ins = set st.ins a z; popped = None }) (put ∙ ap (λ (z : In). with_put_back z.back z) (at_x cap st from a k popped x here)) ∙ sym (ap (unpopped st) popped)))

@@ -12,7 +12,7 @@ use Rattle.port_bank.proofs.Segments.{lasts_begins}
 use Rattle.port_bank.proofs.Marks.{none_after}
 use Rattle.exstack.specs.declared.stage.Stage.TheVariants.{AllDone}
 use Rattle.exstack.specs.Links.{Out, In, no_out, no_in, reopened, resumed}
-use Rattle.exstack.specs.State.{State, out_at, in_at, link_to, link_from, after_reset}
+use Rattle.exstack.specs.State.{Stack, out_at, in_at, link_to, link_from, after_reset}
 use Rattle.exstack.specs.Cycles.{entries_sent, entries_exchanged, exchange_parcel, entries_in, items}
 use Rattle.list_laws.specs.Lists.{Ends}
 use Rattle.exstack.specs.Agreement.{LinkAgrees, AgreesIn, rounds_in}
@@ -33,7 +33,7 @@ link_reset e rounds through due log t a none =
           ap (λ d. length (segment (e + 1) log) + cond d 1 0) none ∙ ap (λ (xs : List Shipped). length xs + 0) fresh;
     }
 
-module _ (cap n : ℕ) (st : State) (sent got : Logs) (s : IsStack cap st) (all : st.stage ≡ AllDone) (a : AgreesIn n st sent got) where
+module _ (cap n : ℕ) (st : Stack) (sent got : Logs) (s : IsStack cap st) (all : st.stage ≡ AllDone) (a : AgreesIn n st sent got) where
   out_was : (b : ℕ) → b < st.ranks → IsOut cap AllDone st.done (out_at st b)
   out_was b w = subst (λ g. IsOut cap g st.done (out_at st b)) all (s.each_out b no_out (omega (arith, w, s.all_outs)))
 

@@ -13,7 +13,7 @@ use Rattle.exstack.specs.declared.stage.Poll.TheVariants as poll
 use Rattle.exstack.specs.declared.stage.Proceed.{Proceed}
 use Rattle.exstack.specs.declared.stage.Proceed.TheVariants as proceed
 use Rattle.exstack.specs.Links.{Out, In, no_out, no_in}
-use Rattle.exstack.specs.State.{State, out_at, in_at, link_to, link_from, missing_link, missing_out, missing_in, all_ended, stage_of_proceed, stage_of_exchange}
+use Rattle.exstack.specs.State.{Stack, out_at, in_at, link_to, link_from, missing_link, missing_out, missing_in, all_ended, stage_of_proceed, stage_of_exchange}
 use Rattle.exstack.specs.Standing.{IsOut, IsIn, IsStack, IsKept}
 use Rattle.exstack.specs.Agreement.{LinkAgrees, AgreesIn, rounds_in}
 use Rattle.exstack.specs.Steps.{AsksOnce}
@@ -29,7 +29,7 @@ in_none : (ranks rank : ℕ) (i : Option ℕ) → missing_in ranks rank i ≡ No
 in_none ranks rank None h = refl
 in_none ranks rank (Some a) h = let z : Some (a * ranks + rank) ≡ None = h in cc
 
-module _ (cap : ℕ) (st : State) (s : IsStack cap st) (none : missing_link st ≡ None) where
+module _ (cap : ℕ) (st : Stack) (s : IsStack cap st) (none : missing_link st ≡ None) where
   no_out_due : position (λ (o : Out). o.due) st.outs ≡ None
   no_out_due = out_none st.ranks st.rank (position (λ (o : Out). o.due) st.outs) st.ins none
 
@@ -59,7 +59,7 @@ module _ (cap : ℕ) (stage new : Stage) (done : Bool) where
   pub in_other : (i : In) → i.due ≡ false → i.unread ≡ [] → i.ended ≡ true → IsIn new i
   in_other i d empty ended = record { due_open = λ h. absurd (not_both i.due h d); due_empty = λ h. empty; due_round = λ h. absurd (not_both i.due h d); read = λ h. empty; all_ended = λ h. ended }
 
-module _ (cap : ℕ) (st : State) (from : ℕ) (new : Stage) (k : IsKept cap st from) (forgotten : st.popped ≡ None)
+module _ (cap : ℕ) (st : Stack) (from : ℕ) (new : Stage) (k : IsKept cap st from) (forgotten : st.popped ≡ None)
     (each_out : (b : ℕ) → b < length st.outs → IsOut cap new st.done (out_at st b)) (each_in : (a : ℕ) → a < length st.ins → IsIn new (in_at st a)) where
   pub settled : IsKept cap (record st { stage = new }) from
   settled = record {
@@ -80,7 +80,7 @@ module _ (cap : ℕ) (st : State) (from : ℕ) (new : Stage) (k : IsKept cap st 
     none_some a e = cc
 
 -- after a proceed round
-module _ (cap : ℕ) (st : State) (from : ℕ) (k : IsKept cap st from) (forgotten : st.popped ≡ None) (none : missing_link st ≡ None) where
+module _ (cap : ℕ) (st : Stack) (from : ℕ) (k : IsKept cap st from) (forgotten : st.popped ≡ None) (none : missing_link st ≡ None) where
   was_out : (stage : Stage) → st.stage ≡ stage → (b : ℕ) → b < length st.outs → IsOut cap stage st.done (out_at st b)
   was_out stage is b w = subst (λ g. IsOut cap g st.done (out_at st b)) is (k.standing.each_out b no_out w)
 
@@ -115,7 +115,7 @@ module _ (cap : ℕ) (st : State) (from : ℕ) (k : IsKept cap st from) (forgott
       record { due_open = λ h. absurd (not_both i.due h d); due_empty = λ h. absurd (not_both i.due h d); due_round = λ h. absurd (not_both i.due h d); read = λ h. absurd (false≢true (sym h)); all_ended = λ h. absurd (false≢true h) })
 
 -- a stage in which as many rounds have begun
-pub agrees_staged : (n : ℕ) (st : State) (new : Stage) (sent got : Logs) → rounds_in n st.stage ≡ rounds_in n new → AgreesIn n st sent got → AgreesIn n (record st { stage = new }) sent got
+pub agrees_staged : (n : ℕ) (st : Stack) (new : Stage) (sent got : Logs) → rounds_in n st.stage ≡ rounds_in n new → AgreesIn n st sent got → AgreesIn n (record st { stage = new }) sent got
 agrees_staged n st new sent got same a = record {
   outs = λ b w. subst (λ r. LinkAgrees st.epoch r (out_at st b).closed (out_at st b).due (sent (link_to st b))) same (a.outs b w);
   ins = λ b w. subst (λ r. LinkAgrees st.epoch r (in_at st b).ended (in_at st b).due (got (link_from st b))) same (a.ins b w);
@@ -136,5 +136,5 @@ exchange_rounds n poll.Ready = refl
 exchange_rounds n (poll.NotYet link) = refl
 
 -- the stage says nothing of what was asked
-pub asks_staged : {P : Type 0} {cap : ℕ} {M : Type 0} (G : Ghosts P cap M) (begun st : State) (stage : Stage) (port port' : P) → AsksOnce G begun st port port' → AsksOnce G begun (record st { stage = stage }) port port'
+pub asks_staged : {P : Type 0} {cap : ℕ} {M : Type 0} (G : Ghosts P cap M) (begun st : Stack) (stage : Stage) (port port' : P) → AsksOnce G begun st port port' → AsksOnce G begun (record st { stage = stage }) port port'
 asks_staged G begun st stage port port' a = record { looked = a.looked; crowded = a.crowded; asked = a.asked; posts = a.posts; collects = a.collects }

@@ -8,8 +8,8 @@ use Rattle.port_bank.specs.Logs.{Logs}
 use Rattle.port_bank.specs.Machine.{IsOwnStep, for_ranks, taken_back}
 use Rattle.port_bank.specs.Machine.Step.{Push, Pull, Unpull, Idle}
 use Rattle.port_bank.proofs.Listing.{lists_with, lists_without, same_part}
-use Rattle.exstack.specs.Links.{Out, In, no_out, no_in, plain, with_entry, with_first_read, with_back}
-use Rattle.exstack.specs.State.{State, out_at, in_at, link_to, link_from, pushed_on, popped_from, unpopped}
+use Rattle.exstack.specs.Links.{Out, In, no_out, no_in, plain, with_entry, with_first_read, with_put_back}
+use Rattle.exstack.specs.State.{Stack, out_at, in_at, link_to, link_from, pushed_on, popped_from, unpopped}
 use Rattle.exstack.specs.Cycles.{entries_sent, entries_exchanged, exchange_parcel, entries_in, items}
 use Rattle.list_laws.specs.Lists.{Ends}
 use Rattle.exstack.specs.Agreement.{LinkAgrees, AgreesIn, back_first, rounds_in}
@@ -19,8 +19,8 @@ use Rattle.exstack.proofs.Beginning.{forget}
 use Rattle.exstack.proofs.Pieces.{take_front, pulled_of_all, pulled_front, pulled_then}
 
 -- a push
-module _ (cap : ℕ) (st : State) (to : ℕ) (item : Item) (s : IsStack cap st) (below : to < st.ranks) where
-  pushed_st : State
+module _ (cap : ℕ) (st : Stack) (to : ℕ) (item : Item) (s : IsStack cap st) (below : to < st.ranks) where
+  pushed_st : Stack
   pushed_st = pushed_on st item to
 
   here : get_or (set st.outs to (with_entry (out_at st to) (plain item))) to no_out ≡ with_entry (out_at st to) (plain item)
@@ -73,7 +73,7 @@ module _ (cap : ℕ) (st : State) (to : ℕ) (item : Item) (s : IsStack cap st) 
         ∙ ap (λ c. items (entries_sent d (sent (link_to st q))) ++ cond c (items (out_at st q).waiting) []) (sym b)
 
 -- a call that does nothing
-pub idle_step : (st : State) (n : ℕ) (sent got : Logs) → IsOwnStep Idle (part_of st sent got) (part_of (record st { popped = None }) sent got)
+pub idle_step : (st : Stack) (n : ℕ) (sent got : Logs) → IsOwnStep Idle (part_of st sent got) (part_of (record st { popped = None }) sent got)
 idle_step st n sent got = record { may = tt; is = refl }
 
 -- a pop that gives the first unread item of a
@@ -81,7 +81,7 @@ first_entry : (es : List Entry) (x : Entry) → slice_get es 0 ≡ Some x → es
 first_entry [] x h = let z : None ≡ Some x = h in cc
 first_entry (e ∷ es) x h = let z : Some e ≡ Some x = h in let v : e ≡ x = cc in ap (λ y. y ∷ es) v
 
-module _ (cap : ℕ) (st : State) (a : ℕ) (x : Entry) (s : IsStack cap st) (below : a < st.ranks) (first : slice_get (in_at st a).unread 0 ≡ Some x) where
+module _ (cap : ℕ) (st : Stack) (a : ℕ) (x : Entry) (s : IsStack cap st) (below : a < st.ranks) (first : slice_get (in_at st a).unread 0 ≡ Some x) where
   read : List In
   read = set st.ins a (with_first_read (in_at st a))
 
@@ -103,12 +103,12 @@ module _ (cap : ℕ) (st : State) (a : ℕ) (x : Entry) (s : IsStack cap st) (be
   back_now : back_first (Some a) a (get_or (set st.ins a (with_first_read (in_at st a))) a no_in) ≡ (in_at st a).unread
   back_now =
       ap (back_first (Some a) a) in_here
-      ∙ (ap (λ b. cond b (with_back (slice_get (in_at st a).unread 0) (with_first_read (in_at st a))).unread (drop 1 (in_at st a).unread)) (eq-eqb a a refl)
-      ∙ (ap (λ o. (with_back o (with_first_read (in_at st a))).unread) first ∙ sym split))
+      ∙ (ap (λ b. cond b (with_put_back (slice_get (in_at st a).unread 0) (with_first_read (in_at st a))).unread (drop 1 (in_at st a).unread)) (eq-eqb a a refl)
+      ∙ (ap (λ o. (with_put_back o (with_first_read (in_at st a))).unread) first ∙ sym split))
 
   back_else : (b : ℕ) → b ≢ a → back_first (Some a) b (get_or (set st.ins a (with_first_read (in_at st a))) b no_in) ≡ (in_at st b).unread
   back_else b ne =
-      ap (back_first (Some a) b) (in_other b ne) ∙ ap (λ t. cond t (with_back (in_at st b).back (in_at st b)).unread (in_at st b).unread) (ne_eqb a b (λ h. ne (sym h)))
+      ap (back_first (Some a) b) (in_other b ne) ∙ ap (λ t. cond t (with_put_back (in_at st b).back (in_at st b)).unread (in_at st b).unread) (ne_eqb a b (λ h. ne (sym h)))
 
   back_is : (b : ℕ) → back_first (Some a) b (get_or (set st.ins a (with_first_read (in_at st a))) b no_in) ≡ (in_at st b).unread
   back_is b = elim (cases_eq b a) [
@@ -163,23 +163,23 @@ module _ (cap : ℕ) (st : State) (a : ℕ) (x : Entry) (s : IsStack cap st) (be
     then' d q ne = pulled_then d st.epoch (entries_exchanged d (got (link_from st q))) (in_at st q).unread (in_at (popped_from st (Some a)) q).unread ne
 
 -- an unpop that puts the entry x of a back
-module _ (cap : ℕ) (st : State) (a : ℕ) (x : Entry) (s : IsStack cap st) (popped : st.popped ≡ Some a) (below : a < st.ranks) (back : (in_at st a).back ≡ Some x) where
+module _ (cap : ℕ) (st : Stack) (a : ℕ) (x : Entry) (s : IsStack cap st) (popped : st.popped ≡ Some a) (below : a < st.ranks) (back : (in_at st a).back ≡ Some x) where
   put : In
-  put = with_back (in_at st a).back (in_at st a)
+  put = with_put_back (in_at st a).back (in_at st a)
 
-  put_is : with_back (in_at st a).back (in_at st a) ≡ record (in_at st a) { unread = x ∷ (in_at st a).unread; back = None }
-  put_is = ap (λ o. with_back o (in_at st a)) back
+  put_is : with_put_back (in_at st a).back (in_at st a) ≡ record (in_at st a) { unread = x ∷ (in_at st a).unread; back = None }
+  put_is = ap (λ o. with_put_back o (in_at st a)) back
 
-  put_here : get_or (set st.ins a (with_back (in_at st a).back (in_at st a))) a no_in ≡ record (in_at st a) { unread = x ∷ (in_at st a).unread; back = None }
-  put_here = get_or-set_same st.ins a (with_back (in_at st a).back (in_at st a)) no_in (omega (arith, below, s.all_ins)) ∙ put_is
+  put_here : get_or (set st.ins a (with_put_back (in_at st a).back (in_at st a))) a no_in ≡ record (in_at st a) { unread = x ∷ (in_at st a).unread; back = None }
+  put_here = get_or-set_same st.ins a (with_put_back (in_at st a).back (in_at st a)) no_in (omega (arith, below, s.all_ins)) ∙ put_is
 
-  put_other : (b : ℕ) → b ≢ a → get_or (set st.ins a (with_back (in_at st a).back (in_at st a))) b no_in ≡ in_at st b
-  put_other b ne = get_or-set_other st.ins a b (with_back (in_at st a).back (in_at st a)) no_in ne
+  put_other : (b : ℕ) → b ≢ a → get_or (set st.ins a (with_put_back (in_at st a).back (in_at st a))) b no_in ≡ in_at st b
+  put_other b ne = get_or-set_other st.ins a b (with_put_back (in_at st a).back (in_at st a)) no_in ne
 
   put_marks : {X : Type 0} (f : In → X) → (f (record (in_at st a) { unread = x ∷ (in_at st a).unread; back = None }) ≡ f (in_at st a)) → (b : ℕ)
-      → f (get_or (set st.ins a (with_back (in_at st a).back (in_at st a))) b no_in) ≡ f (in_at st b)
+      → f (get_or (set st.ins a (with_put_back (in_at st a).back (in_at st a))) b no_in) ≡ f (in_at st b)
   put_marks f same b = elim (cases_eq b a) [
-    | inl e ↦ ap (λ k. f (get_or (set st.ins a (with_back (in_at st a).back (in_at st a))) k no_in)) e ∙ (ap f put_here ∙ (same ∙ ap (λ k. f (in_at st k)) (sym e)))
+    | inl e ↦ ap (λ k. f (get_or (set st.ins a (with_put_back (in_at st a).back (in_at st a))) k no_in)) e ∙ (ap f put_here ∙ (same ∙ ap (λ k. f (in_at st k)) (sym e)))
     | inr ne ↦ ap f (put_other b ne)
   ]
 
@@ -187,17 +187,17 @@ module _ (cap : ℕ) (st : State) (a : ℕ) (x : Entry) (s : IsStack cap st) (po
   first_here : back_first st.popped a (in_at st a) ≡ x ∷ (in_at st a).unread
   first_here =
       ap (λ p. back_first p a (in_at st a)) popped
-      ∙ (ap (λ t. cond t (with_back (in_at st a).back (in_at st a)).unread (in_at st a).unread) (eq-eqb a a refl) ∙ ap (λ (i : In). i.unread) put_is)
+      ∙ (ap (λ t. cond t (with_put_back (in_at st a).back (in_at st a)).unread (in_at st a).unread) (eq-eqb a a refl) ∙ ap (λ (i : In). i.unread) put_is)
 
   first_else : (b : ℕ) → b ≢ a → back_first st.popped b (in_at st b) ≡ (in_at st b).unread
   first_else b ne =
-      ap (λ p. back_first p b (in_at st b)) popped ∙ ap (λ t. cond t (with_back (in_at st b).back (in_at st b)).unread (in_at st b).unread) (ne_eqb a b (λ h. ne (sym h)))
+      ap (λ p. back_first p b (in_at st b)) popped ∙ ap (λ t. cond t (with_put_back (in_at st b).back (in_at st b)).unread (in_at st b).unread) (ne_eqb a b (λ h. ne (sym h)))
 
-  first_is : (b : ℕ) → back_first st.popped b (in_at st b) ≡ (get_or (set st.ins a (with_back (in_at st a).back (in_at st a))) b no_in).unread
+  first_is : (b : ℕ) → back_first st.popped b (in_at st b) ≡ (get_or (set st.ins a (with_put_back (in_at st a).back (in_at st a))) b no_in).unread
   first_is b = elim (cases_eq b a) [
     | inl e ↦
         ap (λ k. back_first st.popped k (in_at st k)) e
-        ∙ (first_here ∙ (ap (λ (i : In). i.unread) (sym put_here) ∙ ap (λ k. (get_or (set st.ins a (with_back (in_at st a).back (in_at st a))) k no_in).unread) (sym e)))
+        ∙ (first_here ∙ (ap (λ (i : In). i.unread) (sym put_here) ∙ ap (λ k. (get_or (set st.ins a (with_put_back (in_at st a).back (in_at st a))) k no_in).unread) (sym e)))
     | inr ne ↦ first_else b ne ∙ ap (λ (i : In). i.unread) (sym (put_other b ne))
   ]
 

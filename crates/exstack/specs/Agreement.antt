@@ -1,5 +1,7 @@
 -- When a port's lists agree with an exstack.
-use Rattle.std.specs.Prelude.{◌≡◌, ℕ, ◌+◌, ◌*◌, ◌<◌, ◌==◌, Bool, true, false, cond, List, length, Option, Some, None}
+use Rattle.std.specs.Prelude.{◌≡◌, ℕ, ◌+◌, ◌*◌, ◌<◌, ◌==◌, Bool, true, false, List, length, Option, Some, None}
+use Rattle.std.specs.Prelude.{if◌then◌else◌}
+use Rattle.std.specs.Prelude.{if◌then◌else◌}
 use Rattle.bale_types.specs.declared.item.Entry.{Entry}
 use Rattle.item_buffer.specs.Contents.{Shipped}
 use Rattle.list_laws.specs.Lists.{Begins, Ends}
@@ -8,8 +10,8 @@ use Rattle.port_bank.specs.Shapes.{IsExstackShape}
 use Rattle.port_bank.specs.Relay.{RelayLaw}
 use Rattle.exstack.specs.declared.stage.Stage.{Stage}
 use Rattle.exstack.specs.declared.stage.Stage.TheVariants.{Start, Proceeding, Filling, Exchanging, Full, AllDone}
-use Rattle.exstack.specs.Links.{In, with_back}
-use Rattle.exstack.specs.State.{State, out_at, in_at, dims_of, link_to, link_from}
+use Rattle.exstack.specs.Links.{In, with_put_back}
+use Rattle.exstack.specs.State.{Stack, out_at, in_at, dims_of, link_to, link_from}
 use Rattle.exstack.specs.Cycles.{exchange_parcel, entries_in, entries_exchanged}
 
 -- How many rounds of its epoch an exstack has begun, in cycle n: each cycle has a proceed round and an exchange round.
@@ -38,12 +40,12 @@ cycle_after n AllDone = n
 pub record LinkAgrees (epoch rounds : ℕ) (through due : Bool) (log : List Shipped) : Type 0 where
   pub ended : lasts log ≡ lasts_in epoch through
   pub by_last : through ≡ true → EndsLast log
-  pub each_round : through ≡ false → length (segment epoch log) + cond due 1 0 ≡ rounds
+  pub each_round : through ≡ false → length (segment epoch log) + (if due then 1 else 0) ≡ rounds
 
 -- The entry that an unpop would put back at a link, if any, and then the unread ones.
 abbrev pub back_first : Option ℕ → ℕ → In → List Entry
 back_first None a i = i.unread
-back_first (Some p) a i = cond (p == a) (with_back i.back i).unread i.unread
+back_first (Some p) a i = if p == a then (with_put_back i.back i).unread else i.unread
 
 -- The port's lists agree with an exstack in cycle n of its epoch.
 -- outs, ins: each link out does, and each link in.
@@ -52,16 +54,20 @@ back_first (Some p) a i = cond (p == a) (with_back i.back i).unread i.unread
 -- came: what is unread of a sender, or may be put back, is the latest that came in exchange parcels of this epoch.
 -- in_cycle: and it is the end of the exchange parcel of cycle n.
 -- own: on the link from the rank to itself, what was got is the front of what was sent.
-pub record AgreesIn (n : ℕ) (st : State) (sent got : Logs) : Type 0 where
-  pub outs : (b : ℕ) → b < st.ranks → LinkAgrees st.epoch (rounds_in n st.stage) (out_at st b).closed (out_at st b).due (sent (link_to st b))
-  pub ins : (a : ℕ) → a < st.ranks → LinkAgrees st.epoch (rounds_in n st.stage) (in_at st a).ended (in_at st a).due (got (link_from st a))
+pub record AgreesIn (n : ℕ) (st : Stack) (sent got : Logs) : Type 0 where
+  pub outs : (b : ℕ) → b < st.ranks
+      → LinkAgrees st.epoch (rounds_in n st.stage) (out_at st b).closed (out_at st b).due (sent (link_to st b))
+  pub ins : (a : ℕ) → a < st.ranks
+      → LinkAgrees st.epoch (rounds_in n st.stage) (in_at st a).ended (in_at st a).due (got (link_from st a))
   pub shapes : (b : ℕ) → b < st.ranks → IsExstackShape (sent (link_to st b))
   pub law : RelayLaw (dims_of st) st.rank sent got
-  pub came : (a : ℕ) → a < st.ranks → Ends (entries_exchanged st.epoch (got (link_from st a))) (back_first st.popped a (in_at st a))
-  pub in_cycle : (a : ℕ) → a < st.ranks → Ends (entries_in (exchange_parcel st.epoch n (got (link_from st a)))) (back_first st.popped a (in_at st a))
+  pub came : (a : ℕ) → a < st.ranks
+      → Ends (entries_exchanged st.epoch (got (link_from st a))) (back_first st.popped a (in_at st a))
+  pub in_cycle : (a : ℕ) → a < st.ranks
+      → Ends (entries_in (exchange_parcel st.epoch n (got (link_from st a)))) (back_first st.popped a (in_at st a))
   pub own : Begins (got (link_to st st.rank)) (sent (link_to st st.rank))
 
 -- They agree, in some cycle.
-pub record AgreesWith (st : State) (sent got : Logs) : Type 0 where
+pub record AgreesWith (st : Stack) (sent got : Logs) : Type 0 where
   pub cycle : ℕ
   pub agrees : AgreesIn cycle st sent got

@@ -6,15 +6,15 @@ use Rattle.route_tensor.specs.Link.{links}
 use Rattle.port_bank.specs.Logs.{Logs, starting_at, ending_at, starting_elsewhere, ending_elsewhere}
 use Rattle.port_bank.specs.Link.{LinkLaw}
 use Rattle.port_bank.specs.Machine.{Step, after, NamesRank, IsOwnStep, IsStep, EpochsClose}
-use Rattle.port_bank.specs.Machine.{State as Ranks}
-use Rattle.exstack.specs.State.{State}
+use Rattle.port_bank.specs.Machine.{Stack as Ranks}
+use Rattle.exstack.specs.State.{Stack}
 use Rattle.exstack.specs.Cycles.{proceed_parcel, exchange_parcel}
 use Rattle.exstack.specs.Agreement.{AgreesWith}
 use Rattle.exstack.specs.Parts.{part_of, AreOwnSteps, proceed_steps}
 use Rattle.exstack.specs.Standing.{IsStack}
 
 -- The exstacks of all ranks agree with the ports of one bank: of each rank's own links its port has the bank's lists.
-pub record AgreeTogether (ranks cap slots : ℕ) (all : ℕ → State) (sent got : Logs) : Type 0 where
+pub record AgreeTogether (ranks cap slots : ℕ) (all : ℕ → Stack) (sent got : Logs) : Type 0 where
   pub few : ranks ≤ 64
   pub links_keep : (l : ℕ) → l < links (ranks ∷ []) → LinkLaw cap slots (sent l) (got l)
   pub same_ranks : (r : ℕ) → r < ranks → (all r).ranks ≡ ranks
@@ -23,12 +23,12 @@ pub record AgreeTogether (ranks cap slots : ℕ) (all : ℕ → State) (sent got
   pub agree : (r : ℕ) → r < ranks → AgreesWith (all r) (starting_at (ranks ∷ []) r sent) (ending_at (ranks ∷ []) r got)
 
 -- The state of the machine that they stand for.
-abbrev pub state_of : ℕ → (ℕ → State) → Logs → Logs → Ranks
+abbrev pub state_of : ℕ → (ℕ → Stack) → Logs → Logs → Ranks
 state_of ranks all sent got = λ r. part_of (all r) (starting_at (ranks ∷ []) r sent) (ending_at (ranks ∷ []) r got)
 
 -- A call on the exstack of rank r over its port: the other exstacks stay, and so do the lists of the others' links; the
 -- bank keeps its law, and the exstack agrees with its port again.
-pub record IsCall (ranks cap slots r : ℕ) (old new : ℕ → State) (sent sent' got got' : Logs) : Type 0 where
+pub record IsCall (ranks cap slots r : ℕ) (old new : ℕ → Stack) (sent sent' got got' : Logs) : Type 0 where
   pub rank : r < ranks
   pub others : (q : ℕ) → q < ranks → q ≢ r → new q ≡ old q
   pub sent_elsewhere : starting_elsewhere (ranks ∷ []) r sent' ≡ starting_elsewhere (ranks ∷ []) r sent
@@ -41,35 +41,39 @@ pub record IsCall (ranks cap slots r : ℕ) (old new : ℕ → State) (sent sent
 
 -- The exstacks of all ranks go on agreeing, in whatever order calls are made on them.
 abbrev pub StaysTogether : Type 0
-StaysTogether = (ranks cap slots r : ℕ) (old new : ℕ → State) (sent sent' got got' : Logs)
+StaysTogether = (ranks cap slots r : ℕ) (old new : ℕ → Stack) (sent sent' got got' : Logs)
     → AgreeTogether ranks cap slots old sent got → IsCall ranks cap slots r old new sent sent' got got'
     → AgreeTogether ranks cap slots new sent' got'
 
 -- The exchange law: where they agree, and a call is a step of its rank's own part, it is a step of the machine.
 abbrev pub ExchangeLaw : Type 0
-ExchangeLaw = (ranks cap slots r : ℕ) (step : Step) (old new : ℕ → State) (sent sent' got got' : Logs)
-    → AgreeTogether ranks cap slots old sent got → IsCall ranks cap slots r old new sent sent' got got' → NamesRank ranks step
+ExchangeLaw = (ranks cap slots r : ℕ) (step : Step) (old new : ℕ → Stack) (sent sent' got got' : Logs)
+    → AgreeTogether ranks cap slots old sent got → IsCall ranks cap slots r old new sent sent' got got'
+    → NamesRank ranks step
     → IsOwnStep step (state_of ranks old sent got r) (state_of ranks new sent' got' r)
     → IsStep ranks r step (state_of ranks old sent got) (state_of ranks new sent' got')
 
 -- Several steps of the machine by one rank, one after the other.
 abbrev pub AreSteps : ℕ → ℕ → List Step → Ranks → Ranks → Type 0
 AreSteps ranks r [] old new = (q : ℕ) → q < ranks → new q ≡ old q
-AreSteps ranks r (s ∷ ss) old new = IsStep ranks r s old (changed old r (after s (old r))) × AreSteps ranks r ss (changed old r (after s (old r))) new
+AreSteps ranks r (s ∷ ss) old new = IsStep ranks r s old (changed old r (after s (old r)))
+    × AreSteps ranks r ss (changed old r (after s (old r))) new
 
 -- And a proceed poll is its one or two steps of the machine.
 abbrev pub ProceedLaw : Type 0
-ProceedLaw = (ranks cap slots r : ℕ) (was now complete : Bool) (old new : ℕ → State) (sent sent' got got' : Logs)
+ProceedLaw = (ranks cap slots r : ℕ) (was now complete : Bool) (old new : ℕ → Stack) (sent sent' got got' : Logs)
     → AgreeTogether ranks cap slots old sent got → IsCall ranks cap slots r old new sent sent' got got'
     → AreOwnSteps (proceed_steps was now complete) (state_of ranks old sent got r) (state_of ranks new sent' got' r)
     → AreSteps ranks r (proceed_steps was now complete) (state_of ranks old sent got) (state_of ranks new sent' got')
 
 -- The closes law: where they agree, the parts that they stand for close their epochs together.
 abbrev pub ClosesLaw : Type 0
-ClosesLaw = (ranks cap slots : ℕ) (all : ℕ → State) (sent got : Logs)
+ClosesLaw = (ranks cap slots : ℕ) (all : ℕ → Stack) (sent got : Logs)
     → AgreeTogether ranks cap slots all sent got → EpochsClose ranks (state_of ranks all sent got)
 
--- The cycles law: the n-th exchange parcel that a reader got is the n-th that its sender sent, and so for proceed parcels.
+-- The cycles law: the n-th exchange parcel that a reader got is the n-th that its sender sent, and
+-- so for proceed parcels.
 abbrev pub CyclesLaw : Type 0
 CyclesLaw = (e n : ℕ) (p : Shipped) (sent got : List Shipped) → Begins got sent
-    → (exchange_parcel e n got ≡ Some p → exchange_parcel e n sent ≡ Some p) × (proceed_parcel e n got ≡ Some p → proceed_parcel e n sent ≡ Some p)
+    → (exchange_parcel e n got ≡ Some p → exchange_parcel e n sent ≡ Some p)
+    × (proceed_parcel e n got ≡ Some p → proceed_parcel e n sent ≡ Some p)

@@ -1,5 +1,6 @@
 -- One rank's links, as contracts see them.
-use Rattle.std.specs.Prelude.{ℕ, ◌-◌, ◌==◌, Bool, false, not, cond, if◌then◌else◌, List, [], ◌∷◌, ◌++◌, length, drop, slice_get, Option, Some, None}
+use Rattle.std.specs.Prelude.{ℕ, ◌-◌, ◌==◌, Bool, false, not, if◌then◌else◌, List, [], ◌∷◌, ◌++◌, length, drop}
+use Rattle.std.specs.Prelude.{slice_get, Option, Some, None, if◌then◌else◌}
 use Rattle.bale_types.specs.declared.item.Item.{Item}
 use Rattle.bale_types.specs.declared.item.Tag.{Tag}
 use Rattle.bale_types.specs.declared.item.Entry.{Entry}
@@ -13,8 +14,8 @@ pub record Out : Type 0 where
   pub due : Bool
 
 -- A link in: the entries that came and are unread; the one that was read last, if it can be put back; whether the link
--- has ended, that is, its last parcel of this epoch was collected; and whether its parcel of this round is due, that is,
--- still to be collected.
+-- has ended, that is, its last parcel of this epoch was collected; and whether its parcel of this
+-- round is due, that is, still to be collected.
 pub record In : Type 0 where
   pub unread : List Entry
   pub back : Option Entry
@@ -48,8 +49,8 @@ has_unread i = not (length i.unread == 0)
 abbrev pub with_entry : Out → Entry → Out
 with_entry o e = record o { waiting = o.waiting ++ e ∷ [] }
 
--- A link in of which the first unread entry was read, or the first n one after the other; and one with the entry that was
--- read last put back.
+-- A link in of which the first unread entry was read, or the first n one after the other; and one
+-- with the entry that was read last put back.
 -- Of [x, y, z] one leaves [y, z], and x to be put back; two leave [z], and y.
 abbrev pub with_first_read : In → In
 with_first_read i = record i { unread = drop 1 i.unread; back = slice_get i.unread 0 }
@@ -57,9 +58,9 @@ with_first_read i = record i { unread = drop 1 i.unread; back = slice_get i.unre
 abbrev pub read_on : ℕ → In → In
 read_on n i = record i { unread = drop n i.unread; back = (if n == 0 then i.back else slice_get i.unread (n - 1)) }
 
-abbrev pub with_back : Option Entry → In → In
-with_back None i = i
-with_back (Some e) i = record i { unread = e ∷ i.unread; back = None }
+abbrev pub with_put_back : Option Entry → In → In
+with_put_back None i = i
+with_put_back (Some e) i = record i { unread = e ∷ i.unread; back = None }
 
 -- A round begins: a parcel is due on each link that isn't closed, or hasn't ended.
 abbrev pub begun_out : Out → Out
@@ -78,7 +79,7 @@ gone last = record { waiting = []; closed = last; due = false }
 -- A link in after it collected a parcel: of an exchange parcel the entries are unread, those of a proceed parcel are
 -- dropped.
 abbrev pub came : Bool → Shipped → In
-came exchange p = record { unread = cond exchange p.entries []; back = None; ended = p.last; due = false }
+came exchange p = record { unread = if exchange then p.entries else []; back = None; ended = p.last; due = false }
 
 -- A new epoch begins.
 abbrev pub reopened : Out → Out

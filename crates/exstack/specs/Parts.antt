@@ -1,5 +1,6 @@
 -- A running rank's part of the exchange machine, by its exstack and its port's lists.
-use Rattle.std.specs.Prelude.{◌≡◌, ℕ, ◌-◌, ◌<◌, ◌==◌, Bool, true, false, ◌&&◌, not, cond, if◌then◌else◌, List, [], ◌∷◌, ◌++◌, length, take, Option, Some, None, IfSome}
+use Rattle.std.specs.Prelude.{◌≡◌, ℕ, ◌-◌, ◌<◌, ◌==◌, Bool, true, false, ◌&&◌, not, if◌then◌else◌, List, [], ◌∷◌, ◌++◌}
+use Rattle.std.specs.Prelude.{length, take, Option, Some, None, IfSome, if◌then◌else◌}
 use Rattle.bale_types.specs.declared.item.Item.{Item}
 use Rattle.port_bank.specs.declared.port.Port.{Ghosts}
 use Rattle.port_bank.specs.Frames.{SamePort}
@@ -8,21 +9,23 @@ use Rattle.port_bank.specs.Machine.{Part, Step, IsOwnStep, after, for_ranks}
 use Rattle.port_bank.specs.Machine.Step.{Pull, Unpull, Done, Complete, Idle}
 use Rattle.exstack.specs.declared.stage.Stage.{Stage}
 use Rattle.exstack.specs.declared.stage.Stage.TheVariants.{Start, Proceeding, Filling, Exchanging, Full, AllDone}
-use Rattle.exstack.specs.State.{State, dims_of, out_at, in_at, link_to, link_from, unread_of, lowest_unread, pop_from, popped_from}
+use Rattle.exstack.specs.State.{Stack, dims_of, out_at, in_at, link_to, link_from, unread_of, lowest_unread, pop_from}
+use Rattle.exstack.specs.State.{popped_from}
 use Rattle.exstack.specs.Cycles.{entries_sent, entries_exchanged, items}
 use Rattle.exstack.specs.Agreement.{AgreesIn, AgreesWith}
 
 -- What a rank pushed toward d in an epoch: what it sent there and, in its current epoch, what waits for d.
 -- With [x] sent and [y] waiting it is [x, y].
-abbrev pub pushed_to : State → Logs → ℕ → ℕ → List Item
-pushed_to st sent e d = items (entries_sent e (sent (link_to st d))) ++ cond (e == st.epoch) (items (out_at st d).waiting) []
+abbrev pub pushed_to : Stack → Logs → ℕ → ℕ → List Item
+pushed_to st sent e d =
+    items (entries_sent e (sent (link_to st d))) ++ (if e == st.epoch then items (out_at st d).waiting else [])
 
 -- What it pulled of s: what came in exchange parcels, less what is unread.
 -- With [x, y] come and y unread it is [x].
-abbrev pub pulled_of : State → Logs → ℕ → ℕ → List Item
+abbrev pub pulled_of : Stack → Logs → ℕ → ℕ → List Item
 pulled_of st got e s =
     let all : List Item = items (entries_exchanged e (got (link_from st s))) in
-    take (length all - cond (e == st.epoch) (length (in_at st s).unread) 0) all
+    take (length all - (if e == st.epoch then length (in_at st s).unread else 0)) all
 
 abbrev pub is_all_done : Stage → Bool
 is_all_done Start = false
@@ -33,7 +36,7 @@ is_all_done Full = false
 is_all_done AllDone = true
 
 -- The rank's part of the machine.
-abbrev pub part_of : State → Logs → Logs → Part
+abbrev pub part_of : Stack → Logs → Logs → Part
 part_of st sent got = record {
   epoch = st.epoch;
   done = st.done;
@@ -44,34 +47,36 @@ part_of st sent got = record {
 }
 
 -- A call is a step of the rank's part of the exchange machine, over the lists of a port that the call doesn't see.
-abbrev pub IsStepOf : Step → State → State → Type 0
-IsStepOf step old new = (n : ℕ) (sent got : Logs) → AgreesIn n old sent got → IsOwnStep step (part_of old sent got) (part_of new sent got)
+abbrev pub IsStepOf : Step → Stack → Stack → Type 0
+IsStepOf step old new = (n : ℕ) (sent got : Logs) → AgreesIn n old sent got
+    → IsOwnStep step (part_of old sent got) (part_of new sent got)
 
 -- A call keeps the agreement with a port that it doesn't see.
-abbrev pub KeepsAgreement : State → State → Type 0
+abbrev pub KeepsAgreement : Stack → Stack → Type 0
 KeepsAgreement old new = (n : ℕ) (sent got : Logs) → AgreesIn n old sent got → AgreesIn n new sent got
 
 -- The port is the exstack's own: of its grid and its rank, and with lists that agree with it.
-pub record IsAtPort {P : Type 0} {cap : ℕ} {M : Type 0} (G : Ghosts P cap M) (st : State) (port : P) : Type 0 where
+pub record IsAtPort {P : Type 0} {cap : ℕ} {M : Type 0} (G : Ghosts P cap M) (st : Stack) (port : P) : Type 0 where
   pub same_dims : G.dims port ≡ dims_of st
   pub same_rank : G.rank port ≡ st.rank
   pub agrees : AgreesWith st (G.sent port) (G.got port)
 
 -- What any call at the port keeps: the exstack agrees with it again, and both are those of the same rank.
-pub record KeepsPort {P : Type 0} {cap : ℕ} {M : Type 0} (G : Ghosts P cap M) (old new : State) (port port' : P) : Type 0 where
+pub record KeepsPort {P : Type 0} {cap : ℕ} {M : Type 0} (G : Ghosts P cap M) (old new : Stack)
+    (port port' : P) : Type 0 where
   pub agrees : AgreesWith new (G.sent port') (G.got port')
   pub ranks : new.ranks ≡ old.ranks
   pub rank : new.rank ≡ old.rank
   pub same_port : SamePort G port port'
 
 -- A call that the port doesn't see: the exstack stays that of its rank, and keeps the agreement.
-pub record StaysWithRank (old new : State) : Type 0 where
+pub record StaysWithRank (old new : Stack) : Type 0 where
   pub ranks : new.ranks ≡ old.ranks
   pub rank : new.rank ≡ old.rank
   pub kept : (sent got : Logs) → AgreesWith old sent got → AgreesWith new sent got
 
 -- What a pop is to a port that it doesn't see and to the machine, by its answer: an item of a rank, or nothing unread.
-pub record IsPop (answer : Option (ℕ × Item)) (old new : State) : Type 0 where
+pub record IsPop (answer : Option (ℕ × Item)) (old new : Stack) : Type 0 where
   pub sender : IfSome answer (λ p. p.0 < old.ranks)
   pub none_unread : answer ≡ None → unread_of old ≡ 0
   pub kept : KeepsAgreement old new
@@ -79,7 +84,7 @@ pub record IsPop (answer : Option (ℕ × Item)) (old new : State) : Type 0 wher
   pub step_none : answer ≡ None → IsStepOf Idle old new
 
 -- And an unpop, by its answer.
-pub record IsUnpop (back : Bool) (old new : State) : Type 0 where
+pub record IsUnpop (back : Bool) (old new : Stack) : Type 0 where
   pub kept : KeepsAgreement old new
   pub step_back : back ≡ true → IsStepOf Unpull old new
   pub step_none : back ≡ false → IsStepOf Idle old new
@@ -98,7 +103,7 @@ proceed_steps was now complete =
 
 -- The next pop gives this item of this sender: it is a step of the rank's part of the exchange machine, and keeps the
 -- agreement.
-pub record GivesNext (st : State) (from : ℕ) (item : Item) : Type 0 where
+pub record GivesNext (st : Stack) (from : ℕ) (item : Item) : Type 0 where
   pub value : pop_from st (lowest_unread st) ≡ Some (from, item)
   pub step : IsStepOf (Pull from item) st (popped_from st (lowest_unread st))
   pub kept : KeepsAgreement st (popped_from st (lowest_unread st))

@@ -5,7 +5,7 @@ use Rattle.list_laws.specs.Lists.{EachAt}
 use Rattle.exstack.specs.declared.stage.Stage.{Stage}
 use Rattle.exstack.specs.declared.stage.Stage.TheVariants.{Start, Proceeding, Filling, Exchanging, Full, AllDone}
 use Rattle.exstack.specs.Links.{Out, In}
-use Rattle.exstack.specs.State.{State, in_at, is_proceeding, is_exchanging, may_read}
+use Rattle.exstack.specs.State.{Stack, in_at, is_proceeding, is_exchanging, may_read}
 use Rattle.exstack.specs.Parts.{is_all_done}
 
 -- Whether entries may wait on a link out: while buffers are filled, and in the exchange until they are posted.
@@ -18,8 +18,8 @@ may_wait Full due = false
 may_wait AllDone due = false
 
 -- A link out holds at most its capacity. It is closed only where the rank is done, and where the rank is done it is
--- closed unless its parcel is due; a closed one is empty, and nothing is due on it. Parcels are due within rounds alone, and
--- exchange parcels from ranks alone that aren't done.
+-- closed unless its parcel is due; a closed one is empty, and nothing is due on it. Parcels are due
+-- within rounds alone, and exchange parcels from ranks alone that aren't done.
 pub record IsOut (cap : ℕ) (stage : Stage) (done : Bool) (o : Out) : Type 0 where
   pub fits : length o.waiting ≤ cap
   pub closed_empty : o.closed ≡ true → o.waiting ≡ []
@@ -40,14 +40,14 @@ pub record IsIn (stage : Stage) (i : In) : Type 0 where
   pub all_ended : is_all_done stage ≡ true → i.ended ≡ true
 
 -- The sender of the item that was popped last: that item can be put back.
-pub record CanUnpop (st : State) (a : ℕ) : Type 0 where
+pub record CanUnpop (st : Stack) (a : ℕ) : Type 0 where
   pub within : a < st.ranks
   pub back : IsSome (in_at st a).back
   pub came : (in_at st a).due ≡ false
   pub reading : may_read st.stage ≡ true
 
 -- An exstack for parcels of capacity cap.
-pub record IsStack (cap : ℕ) (st : State) : Type 0 where
+pub record IsStack (cap : ℕ) (st : Stack) : Type 0 where
   pub is_cap : IsCap cap
   pub rank : st.rank < st.ranks
   pub few : st.ranks ≤ 64
@@ -58,7 +58,7 @@ pub record IsStack (cap : ℕ) (st : State) : Type 0 where
   pub can_unpop : (a : ℕ) → st.popped ≡ Some a → CanUnpop st a
 
 -- What the code keeps besides: a sender below which no inbox has an unread item.
-pub record IsKept (cap : ℕ) (st : State) (from : ℕ) : Type 0 where
+pub record IsKept (cap : ℕ) (st : Stack) (from : ℕ) : Type 0 where
   pub standing : IsStack cap st
   pub from_high : from ≤ st.ranks
   pub from_none : (a : ℕ) → a < from → (in_at st a).unread ≡ []

@@ -1,5 +1,6 @@
 -- One rank's exstack, as contracts see it, and what follows from it.
-use Rattle.std.specs.Prelude.{ℕ, zero, suc, ◌+◌, ◌*◌, Bool, true, false, if◌then◌else◌, min, map, replicate, List, [], ◌∷◌, length, slice_get, slice_set, slice_index_or, Option, Some, None}
+use Rattle.std.specs.Prelude.{ℕ, zero, suc, ◌+◌, ◌*◌, Bool, true, false, if◌then◌else◌, min, map, replicate, List, []}
+use Rattle.std.specs.Prelude.{◌∷◌, length, slice_get, slice_set, slice_index_or, Option, Some, None, if◌then◌else◌}
 use Rattle.std.specs.List.{list_all, sum_by, position}
 use Rattle.std.specs.Option.{option_map}
 use Rattle.bale_types.specs.declared.item.Item.{Item}
@@ -9,12 +10,13 @@ use Rattle.exstack.specs.declared.stage.Poll.{Poll}
 use Rattle.exstack.specs.declared.stage.Poll.TheVariants as poll
 use Rattle.exstack.specs.declared.stage.Proceed.{Proceed}
 use Rattle.exstack.specs.declared.stage.Proceed.TheVariants as proceed
-use Rattle.exstack.specs.Links.{Out, In, no_out, no_in, with_entry, with_first_read, with_back, plain, headroom_of, has_unread, begun_out, begun_in, reopened, resumed}
+use Rattle.exstack.specs.Links.{Out, In, no_out, no_in, with_entry, with_first_read, with_put_back, plain, headroom_of}
+use Rattle.exstack.specs.Links.{has_unread, begun_out, begun_in, reopened, resumed}
 
 -- An exstack: how many ranks there are, whose it is, its stage, whether the rank said that it is done in this epoch,
 -- the epoch, its links out and in by the rank at their other end, and the sender of the item that the latest call
 -- popped, where it popped one.
-pub record State : Type 0 where
+pub record Stack : Type 0 where
   pub ranks : ℕ
   pub rank : ℕ
   pub stage : Stage
@@ -25,17 +27,27 @@ pub record State : Type 0 where
   pub popped : Option ℕ
 
 -- A new exstack.
-abbrev pub new_stack : ℕ → ℕ → State
-new_stack ranks rank = record { ranks = ranks; rank = rank; stage = Start; done = false; epoch = 0; outs = replicate ranks no_out; ins = replicate ranks no_in; popped = None }
+abbrev pub new_stack : ℕ → ℕ → Stack
+new_stack ranks rank =
+    record {
+      ranks = ranks;
+      rank = rank;
+      stage = Start;
+      done = false;
+      epoch = 0;
+      outs = replicate ranks no_out;
+      ins = replicate ranks no_in;
+      popped = None;
+    }
 
-abbrev pub out_at : State → ℕ → Out
+abbrev pub out_at : Stack → ℕ → Out
 out_at st b = slice_index_or st.outs b no_out
 
-abbrev pub in_at : State → ℕ → In
+abbrev pub in_at : Stack → ℕ → In
 in_at st a = slice_index_or st.ins a no_in
 
 -- The grid: one hop between all ranks.
-abbrev pub dims_of : State → List ℕ
+abbrev pub dims_of : Stack → List ℕ
 dims_of st = st.ranks ∷ []
 
 -- On one hop the link from rank a to rank b has the number a * P + b, for P ranks.
@@ -44,10 +56,10 @@ abbrev pub number : ℕ → ℕ → ℕ → ℕ
 number ranks a b = a * ranks + b
 
 -- The numbers of the rank's link to b and of its link from a.
-abbrev pub link_to : State → ℕ → ℕ
+abbrev pub link_to : Stack → ℕ → ℕ
 link_to st b = number st.ranks st.rank b
 
-abbrev pub link_from : State → ℕ → ℕ
+abbrev pub link_from : Stack → ℕ → ℕ
 link_from st a = number st.ranks a st.rank
 
 -- How many entries may still be pushed toward that rank for which it is least.
@@ -56,40 +68,49 @@ least_headroom cap [] = cap
 least_headroom cap (o ∷ os) = min (headroom_of cap o) (least_headroom cap os)
 
 -- How many items are unread.
-abbrev pub unread_of : State → ℕ
+abbrev pub unread_of : Stack → ℕ
 unread_of st = sum_by (λ i. length i.unread) st.ins
 
 -- The lowest sender of an unread item.
-abbrev pub lowest_unread : State → Option ℕ
+abbrev pub lowest_unread : Stack → Option ℕ
 lowest_unread st = position has_unread st.ins
 
 -- What a push leaves.
-abbrev pub pushed_on : State → Item → ℕ → State
+abbrev pub pushed_on : Stack → Item → ℕ → Stack
 pushed_on st item to = record st { outs = slice_set st.outs to (with_entry (out_at st to) (plain item)); popped = None }
 
 -- What a pop gives where the lowest sender of an unread item is this one, and what it leaves.
-abbrev pub pop_from : State → Option ℕ → Option (ℕ × Item)
+abbrev pub pop_from : Stack → Option ℕ → Option (ℕ × Item)
 pop_from st None = None
 pop_from st (Some a) = option_map (λ e. (a, e.item)) (slice_get (in_at st a).unread 0)
 
-abbrev pub popped_from : State → Option ℕ → State
+abbrev pub popped_from : Stack → Option ℕ → Stack
 popped_from st None = record st { popped = None }
 popped_from st (Some a) = record st { ins = slice_set st.ins a (with_first_read (in_at st a)); popped = Some a }
 
 -- What n pops leave, one after the other.
 -- Of the inboxes [], [x, y], [z] two leave [z], and three nothing.
-abbrev pub pops : ℕ → State → State
+abbrev pub pops : ℕ → Stack → Stack
 pops zero st = st
 pops (suc n) st = popped_from (pops n st) (lowest_unread (pops n st))
 
 -- What an unpop leaves.
-abbrev pub unpopped : State → Option ℕ → State
+abbrev pub unpopped : Stack → Option ℕ → Stack
 unpopped st None = st
-unpopped st (Some a) = record st { ins = slice_set st.ins a (with_back (in_at st a).back (in_at st a)); popped = None }
+unpopped st (Some a) =
+    record st { ins = slice_set st.ins a (with_put_back (in_at st a).back (in_at st a)); popped = None }
 
 -- What a reset leaves.
-abbrev pub after_reset : State → State
-after_reset st = record st { stage = Start; done = false; epoch = st.epoch + 1; outs = map reopened st.outs; ins = map resumed st.ins; popped = None }
+abbrev pub after_reset : Stack → Stack
+after_reset st =
+    record st {
+      stage = Start;
+      done = false;
+      epoch = st.epoch + 1;
+      outs = map reopened st.outs;
+      ins = map resumed st.ins;
+      popped = None;
+    }
 
 -- Whether a stage lies within a proceed round, within an exchange round, or within either.
 abbrev pub is_proceeding : Stage → Bool
@@ -136,11 +157,17 @@ may_read Full = true
 may_read AllDone = false
 
 -- A proceed round, or an exchange round, has begun: where it hadn't, a parcel is due on each open link.
-abbrev pub in_proceed : Bool → State → State
+abbrev pub in_proceed : Bool → Stack → Stack
 in_proceed done st = if is_proceeding st.stage then record st { popped = None }
-    else record st { stage = Proceeding; done = done; outs = map begun_out st.outs; ins = map begun_in st.ins; popped = None }
+    else record st {
+      stage = Proceeding;
+      done = done;
+      outs = map begun_out st.outs;
+      ins = map begun_in st.ins;
+      popped = None;
+    }
 
-abbrev pub in_exchange : State → State
+abbrev pub in_exchange : Stack → Stack
 in_exchange st = if is_exchanging st.stage then record st { popped = None }
     else record st { stage = Exchanging; outs = map begun_out st.outs; ins = map begun_in st.ins; popped = None }
 
@@ -153,11 +180,11 @@ abbrev pub missing_out : ℕ → ℕ → Option ℕ → List In → Option ℕ
 missing_out ranks rank None ins = missing_in ranks rank (position (λ i. i.due) ins)
 missing_out ranks rank (Some b) ins = Some (number ranks rank b)
 
-abbrev pub missing_link : State → Option ℕ
+abbrev pub missing_link : Stack → Option ℕ
 missing_link st = missing_out st.ranks st.rank (position (λ o. o.due) st.outs) st.ins
 
 -- Whether every link in has ended.
-abbrev pub all_ended : State → Bool
+abbrev pub all_ended : Stack → Bool
 all_ended st = list_all (λ i. i.ended) st.ins
 
 -- The answer of a proceed poll, by the link that the round still waits for and whether every link in has ended; and

@@ -1,5 +1,7 @@
 -- What a round does on one link, and over all links of a rank, seen through its port.
-use Rattle.std.specs.Prelude.{◌≡◌, ℕ, ◌-◌, ◌<◌, ◌≤◌, Bool, true, false, not, ◌&&◌, cond, List, [], ◌∷◌, ◌++◌, length, slice_index_or}
+use Rattle.std.specs.Prelude.{◌≡◌, ℕ, ◌-◌, ◌<◌, ◌≤◌, Bool, true, false, not, ◌&&◌, List, [], ◌∷◌, ◌++◌, length}
+use Rattle.std.specs.Prelude.{if◌then◌else◌}
+use Rattle.std.specs.Prelude.{slice_index_or, if◌then◌else◌}
 use Rattle.bale_types.specs.Stream.{RoseOrFull}
 use Rattle.item_buffer.specs.Contents.{Shipped}
 use Rattle.port_bank.specs.declared.port.Port.{Ghosts}
@@ -8,7 +10,7 @@ use Rattle.port_bank.specs.Frames.{SamePort, SameIns, SameOuts}
 use Rattle.port_bank.specs.Logs.{Logs}
 use Rattle.list_laws.specs.Lists.{Begins}
 use Rattle.exstack.specs.Links.{Out, In, no_out, parcel_of, gone, came}
-use Rattle.exstack.specs.State.{State, out_at, in_at, number, link_to, link_from}
+use Rattle.exstack.specs.State.{Stack, out_at, in_at, number, link_to, link_from}
 
 -- A parcel was due, and isn't any more.
 abbrev pub was_moved : Bool → Bool → Bool
@@ -20,13 +22,13 @@ latest log = slice_index_or log (length log - 1) (record { entries = []; last = 
 
 -- A link out in a round: where its parcel was posted it stands at the end of the log, and nothing else changes.
 pub record WasPosted (last : Bool) (epoch : ℕ) (old new : Out) (log log' : List Shipped) : Type 0 where
-  pub link : new ≡ cond (was_moved old.due new.due) (gone last) old
-  pub sent : log' ≡ cond (was_moved old.due new.due) (log ++ parcel_of last epoch old ∷ []) log
+  pub link : new ≡ (if was_moved old.due new.due then gone last else old)
+  pub sent : log' ≡ (if was_moved old.due new.due then log ++ parcel_of last epoch old ∷ [] else log)
 
 -- A link in in a round: where a parcel was collected it stands at the end of the log, and nothing else changes.
 pub record WasCollected (exchange : Bool) (old new : In) (log log' : List Shipped) : Type 0 where
-  pub link : new ≡ cond (was_moved old.due new.due) (came exchange (latest log')) old
-  pub got : log' ≡ cond (was_moved old.due new.due) (log ++ latest log' ∷ []) log
+  pub link : new ≡ (if was_moved old.due new.due then came exchange (latest log') else old)
+  pub got : log' ≡ (if was_moved old.due new.due then log ++ latest log' ∷ [] else log)
 
 -- A link whose parcel is still due was asked in vain: the port looked for room, or listened, in this call, and the link
 -- is crowded, or idle.
@@ -48,8 +50,8 @@ pub record LeftByPosts {P : Type 0} {cap : ℕ} {M : Type 0} (G : Ghosts P cap M
   pub same_ins : SameIns G port port'
   pub same_port : SamePort G port port'
 
--- What collects leave of a port: its links out, and what was got. A link is as crowded as before unless something was got
--- on it.
+-- What collects leave of a port: its links out, and what was got. A link is as crowded as before
+-- unless something was got on it.
 pub record LeftByCollects {P : Type 0} {cap : ℕ} {M : Type 0} (G : Ghosts P cap M) (port port' : P) : Type 0 where
   pub grows : (l : ℕ) → Begins (G.got port l) (G.got port' l)
   pub crowded : (l : ℕ) → G.got port' l ≡ G.got port l → G.crowded port' l ≡ G.crowded port l
@@ -64,26 +66,35 @@ pub record IsPortOf {P : Type 0} {cap : ℕ} {M : Type 0} (G : Ghosts P cap M) (
   pub few : ranks ≤ 64
 
 -- A round, or what a poll makes of it: on each link out at most one post, and on each link in at most one collect.
-pub record MadeRound (last exchange : Bool) (old new : State) (sent sent' got got' : Logs) : Type 0 where
-  pub posted : (b : ℕ) → b < old.ranks → WasPosted last old.epoch (out_at old b) (out_at new b) (sent (link_to old b)) (sent' (link_to old b))
-  pub collected : (a : ℕ) → a < old.ranks → WasCollected exchange (in_at old a) (in_at new a) (got (link_from old a)) (got' (link_from old a))
+pub record MadeRound (last exchange : Bool) (old new : Stack) (sent sent' got got' : Logs) : Type 0 where
+  pub posted : (b : ℕ) → b < old.ranks
+      → WasPosted last old.epoch (out_at old b) (out_at new b) (sent (link_to old b)) (sent' (link_to old b))
+  pub collected : (a : ℕ) → a < old.ranks
+      → WasCollected exchange (in_at old a) (in_at new a) (got (link_from old a)) (got' (link_from old a))
   pub sent_grows : (l : ℕ) → Begins (sent l) (sent' l)
   pub got_grows : (l : ℕ) → Begins (got l) (got' l)
 
--- What a round asks of its port where it has memory: once for each link on which a parcel is due as it begins, and for no
--- other.
--- looked, crowded: for a link out whose parcel is due still the port looked for room in this call, and the link is crowded,
--- unless something was got on it meanwhile.
+-- What a round asks of its port where it has memory: once for each link on which a parcel is due as
+-- it begins, and for no other.
+-- looked, crowded: for a link out whose parcel is due still the port looked for room in this call,
+-- and the link is crowded, unless something was got on it meanwhile.
 -- asked: on a link in whose parcel is due still it listened in vain.
-pub record AsksOnce {P : Type 0} {cap : ℕ} {M : Type 0} (G : Ghosts P cap M) (begun new : State) (port port' : P) : Type 0 where
-  pub looked : (b : ℕ) → b < begun.ranks → (out_at new b).due ≡ true → RoseOrFull (G.looks_out port (link_to begun b)) (G.looks_out port' (link_to begun b))
-  pub crowded : (b : ℕ) → b < begun.ranks → (out_at new b).due ≡ true → G.got port' (link_to begun b) ≡ G.got port (link_to begun b)
+pub record AsksOnce {P : Type 0} {cap : ℕ} {M : Type 0} (G : Ghosts P cap M) (begun new : Stack)
+    (port port' : P) : Type 0 where
+  pub looked : (b : ℕ) → b < begun.ranks → (out_at new b).due ≡ true
+      → RoseOrFull (G.looks_out port (link_to begun b)) (G.looks_out port' (link_to begun b))
+  pub crowded : (b : ℕ) → b < begun.ranks → (out_at new b).due ≡ true
+      → G.got port' (link_to begun b) ≡ G.got port (link_to begun b)
       → G.crowded port' (link_to begun b) ≡ true
-  pub asked : (a : ℕ) → a < begun.ranks → (in_at new a).due ≡ true → InVain (G.noted port (link_from begun a)) (G.noted port' (link_from begun a)) (G.idle port' (link_from begun a))
-  pub posts : (b : ℕ) → b < begun.ranks → G.posts port' (link_to begun b) ≡ once_more_if (out_at begun b).due (G.posts port (link_to begun b))
-  pub collects : (a : ℕ) → a < begun.ranks → G.collects port' (link_from begun a) ≡ once_more_if (in_at begun a).due (G.collects port (link_from begun a))
+  pub asked : (a : ℕ) → a < begun.ranks → (in_at new a).due ≡ true
+      → InVain (G.noted port (link_from begun a)) (G.noted port' (link_from begun a)) (G.idle port' (link_from begun a))
+  pub posts : (b : ℕ) → b < begun.ranks
+      → G.posts port' (link_to begun b) ≡ once_more_if (out_at begun b).due (G.posts port (link_to begun b))
+  pub collects : (a : ℕ) → a < begun.ranks
+      → G.collects port' (link_from begun a) ≡ once_more_if (in_at begun a).due (G.collects port (link_from begun a))
 
 -- And without memory: it stops at the link that found none, and collects nothing.
-pub record StopsShort {P : Type 0} {cap : ℕ} {M : Type 0} (G : Ghosts P cap M) (new : State) (port port' : P) : Type 0 where
+pub record StopsShort {P : Type 0} {cap : ℕ} {M : Type 0} (G : Ghosts P cap M) (new : Stack)
+    (port port' : P) : Type 0 where
   pub stops : StopsAt new.ranks new.rank new.outs (G.posts port) (G.posts port')
   pub no_collect : G.collects port' ≡ G.collects port

@@ -42,9 +42,9 @@ pub struct Exstack<const CAP: usize> {
 }
 
 impl<const CAP: usize> Model for Exstack<CAP> {
-    ghost use Rattle.exstack.specs.State.{State};
+    ghost use Rattle.exstack.specs.State.{Stack};
 
-    ghost Value = { State };
+    ghost Value = { Stack };
 
     ghost use Rattle.exstack.specs.Standing.{IsKept};
 

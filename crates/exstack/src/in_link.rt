@@ -8,7 +8,7 @@ ghost use Rattle.route_tensor.specs.Ends.{sender_at, reader_at};
 ghost use Rattle.port_bank.specs.Logs.{lasts};
 ghost use Rattle.port_bank.specs.Calls.{once_more_if};
 ghost use Rattle.port_bank.specs.Frames.{InsElsewhere};
-ghost use Rattle.exstack.specs.Links.{no_in, with_first_read, with_back, read_on, begun_in, resumed, has_unread};
+ghost use Rattle.exstack.specs.Links.{no_in, with_first_read, with_put_back, read_on, begun_in, resumed, has_unread};
 ghost use Rattle.exstack.specs.Steps.{WasCollected, InVain, LeftByCollects};
 
 use bale_types::{Entry, NoMemory};
@@ -100,7 +100,7 @@ impl<const CAP: usize> InLink<CAP> {
     /// Makes the entry that was read last unread again.
     pub fn put_back(&mut self)
         requires back { IsSome self.old.back }
-        ensures { self.new ≡ with_back self.old.back self.old }
+        ensures { self.new ≡ with_put_back self.old.back self.old }
     {
         self.parcel.untake();
     }

@@ -1,5 +1,6 @@
 -- The links of one rank, as contracts see them.
-use Rattle.std.specs.Prelude.{◌≡◌, ℕ, Bool, true, false, ◌==◌, ◌&&◌, ◌||◌, not, ◌<◌, ◌≤◌, List, length, slice_get, slice_index_or, drop, Option, Some, None, ◌+◌, ◌-◌, ◌∷◌, ◌++◌, []}
+use Rattle.std.specs.Prelude.{◌≡◌, ℕ, Bool, true, false, ◌==◌, ◌&&◌, ◌||◌, not, ◌<◌, ◌≤◌, List, length, slice_get}
+use Rattle.std.specs.Prelude.{slice_index_or, drop, Option, Some, None, ◌+◌, ◌-◌, ◌∷◌, ◌++◌, []}
 use Rattle.bale_types.specs.declared.item.Entry.{Entry}
 use Rattle.item_buffer.specs.Contents.{Contents, blank, skipped}
 
@@ -27,7 +28,8 @@ is_empty c = length c.untaken == 0
 -- its end and the link isn't closed.
 -- At capacity 2, not steady and before the end of its hop, [x] isn't due and [x, y] is.
 abbrev pub is_due : ℕ → Bool → Bool → Out → Bool
-is_due cap steady at_end o = (length o.parcel.untaken == cap) || (steady && not (is_empty o.parcel)) || (at_end && not o.closed)
+is_due cap steady at_end o =
+    (length o.parcel.untaken == cap) || (steady && not (is_empty o.parcel)) || (at_end && not o.closed)
 
 -- Whether a parcel is to be collected into an inbox: it is empty and the link hasn't ended.
 abbrev pub is_wanted : In → Bool
@@ -42,7 +44,8 @@ pub record FindsUnread (from : ℕ) (ins : List In) (found : Option ℕ) : Type 
   pub from_here : (r : ℕ) → found ≡ Some r → from ≤ r
   pub within : (r : ℕ) → found ≡ Some r → r < length ins
   pub some : (r : ℕ) → found ≡ Some r → is_empty (slice_index_or ins r no_in).parcel ≡ false
-  pub below : (r : ℕ) → found ≡ Some r → (i : ℕ) → from ≤ i → i < r → is_empty (slice_index_or ins i no_in).parcel ≡ true
+  pub below : (r : ℕ) → found ≡ Some r → (i : ℕ) → from ≤ i → i < r
+      → is_empty (slice_index_or ins i no_in).parcel ≡ true
   pub none : found ≡ None → (i : ℕ) → from ≤ i → i < length ins → is_empty (slice_index_or ins i no_in).parcel ≡ true
 
 -- A parcel with one entry more.

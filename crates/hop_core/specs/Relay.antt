@@ -1,5 +1,6 @@
 -- What a rank passes on, by pairs of ranks.
-use Rattle.std.specs.Prelude.{◌≡◌, ◌≢◌, ℕ, Bool, zero, suc, ◌+◌, ◌-◌, ◌==◌, if◌then◌else◌, List, [], ◌∷◌, ◌++◌, length, take, drop, slice_get, slice_set, slice_index_or, Some}
+use Rattle.std.specs.Prelude.{◌≡◌, ◌≢◌, ℕ, Bool, zero, suc, ◌+◌, ◌-◌, ◌==◌, if◌then◌else◌, List, [], ◌∷◌, ◌++◌, length}
+use Rattle.std.specs.Prelude.{take, drop, slice_get, slice_set, slice_index_or, Some, if◌then◌else◌}
 use Rattle.std.specs.List.{sum_by}
 use Rattle.bale_types.specs.declared.item.Entry.{Entry}
 use Rattle.bale_types.specs.declared.item.Item.{Item}
@@ -41,8 +42,10 @@ IsStopped dims cap h outs x = (e : Entry) → slice_get x.parcel.untaken 0 ≡ S
 -- parcels of other pairs got nothing of theirs.
 pub record PassesOn (dims : List ℕ) (r h i : ℕ) (outs outs' : List Out) (x x' : In) : Type 0 where
   pub mine : (s d : ℕ) → PassesThrough dims r s d h → way_in dims s h ≡ i →
-      items_of_pair dims s d (h + 1) (slice_index_or outs' (way_out dims d (h + 1)) no_out).parcel.untaken ++ items_of_pair dims s d h x'.parcel.untaken
-      ≡ items_of_pair dims s d (h + 1) (slice_index_or outs (way_out dims d (h + 1)) no_out).parcel.untaken ++ items_of_pair dims s d h x.parcel.untaken
+      items_of_pair dims s d (h + 1) (slice_index_or outs' (way_out dims d (h + 1)) no_out).parcel.untaken
+      ++ items_of_pair dims s d h x'.parcel.untaken
+      ≡ items_of_pair dims s d (h + 1) (slice_index_or outs (way_out dims d (h + 1)) no_out).parcel.untaken
+      ++ items_of_pair dims s d h x.parcel.untaken
   pub others : (s d : ℕ) → PassesThrough dims r s d h → way_in dims s h ≢ i →
       items_of_pair dims s d (h + 1) (slice_index_or outs' (way_out dims d (h + 1)) no_out).parcel.untaken
       ≡ items_of_pair dims s d (h + 1) (slice_index_or outs (way_out dims d (h + 1)) no_out).parcel.untaken
@@ -53,7 +56,9 @@ pub record AddsToHop (dims : List ℕ) (h : ℕ) (outs outs' : List Out) : Type 
   pub count : length outs' ≡ length outs
   pub others : (o : ℕ) → hop_to dims o ≢ h → slice_index_or outs' o no_out ≡ slice_index_or outs o no_out
   pub closed : (o : ℕ) → (slice_index_or outs' o no_out).closed ≡ (slice_index_or outs o no_out).closed
-  pub front : (o : ℕ) → take (length (slice_index_or outs o no_out).parcel.untaken) (slice_index_or outs' o no_out).parcel.untaken ≡ (slice_index_or outs o no_out).parcel.untaken
+  pub front : (o : ℕ)
+      → take (length (slice_index_or outs o no_out).parcel.untaken) (slice_index_or outs' o no_out).parcel.untaken
+      ≡ (slice_index_or outs o no_out).parcel.untaken
 
 -- Of the links in, those of other hops than h are as before, and those of hop h have ended or not as before, and hold
 -- the rest of what they held.
@@ -61,14 +66,17 @@ pub record TakesFromHop (dims : List ℕ) (h : ℕ) (ins ins' : List In) : Type 
   pub count : length ins' ≡ length ins
   pub others : (i : ℕ) → hop_to dims i ≢ h → slice_index_or ins' i no_in ≡ slice_index_or ins i no_in
   pub ended : (i : ℕ) → (slice_index_or ins' i no_in).ended ≡ (slice_index_or ins i no_in).ended
-  pub rest : (i : ℕ) → drop (length (slice_index_or ins i no_in).parcel.untaken - length (slice_index_or ins' i no_in).parcel.untaken) (slice_index_or ins i no_in).parcel.untaken
+  pub rest : (i : ℕ)
+      → drop (length (slice_index_or ins i no_in).parcel.untaken - length (slice_index_or ins' i no_in).parcel.untaken)
+      (slice_index_or ins i no_in).parcel.untaken
       ≡ (slice_index_or ins' i no_in).parcel.untaken
 
 -- How many entries wait in some links in.
 abbrev pub waiting : List In → ℕ
 waiting ins = sum_by (λ x. length x.parcel.untaken) ins
 
--- Where an entry goes next that came to rank r on link in number i: the number of its link out, and the entry with its next tag.
+-- Where an entry goes next that came to rank r on link in number i: the number of its link out, and
+-- the entry with its next tag.
 abbrev pub next_out : List ℕ → ℕ → ℕ → Entry → ℕ
 next_out dims r i e = (passed_on (about dims r i) e.tag).out
 
@@ -85,11 +93,13 @@ with_passed dims r i outs e =
     let out = slice_index_or outs (next_out dims r i e) no_out in
     slice_set outs (next_out dims r i e) (record out { parcel = with_entry out.parcel (next_entry dims r i e) })
 
--- The links out after entries of link in number i were passed on, in order, up to the first that finds its open parcel full; and how many
--- were. At capacity 1, of [x, y, z] with x for the first link out, and y and z for the second, x and y are passed on.
+-- The links out after entries of link in number i were passed on, in order, up to the first that
+-- finds its open parcel full; and how many were. At capacity 1, of [x, y, z] with x for the first
+-- link out, and y and z for the second, x and y are passed on.
 unfoldable pub passed : List ℕ → ℕ → ℕ → ℕ → List Out → List Entry → List Out
 passed dims r cap i outs [] = outs
-passed dims r cap i outs (e ∷ es) = if finds_full dims r cap i outs e then outs else passed dims r cap i (with_passed dims r i outs e) es
+passed dims r cap i outs (e ∷ es) =
+    if finds_full dims r cap i outs e then outs else passed dims r cap i (with_passed dims r i outs e) es
 
 unfoldable pub passed_count : List ℕ → ℕ → ℕ → ℕ → List Out → List Entry → ℕ
 passed_count dims r cap i outs [] = 0
@@ -101,8 +111,9 @@ pub record Links : Type 0 where
   pub outs : List Out
   pub ins : List In
 
--- The links after n links in, from number i on and in ascending order, had their entries passed on: what a lower link passed on stands in
--- an open parcel before what a higher one did, and a link stops only against what stood there after the lower ones.
+-- The links after n links in, from number i on and in ascending order, had their entries passed on:
+-- what a lower link passed on stands in an open parcel before what a higher one did, and a link
+-- stops only against what stood there after the lower ones.
 unfoldable pub relayed : List ℕ → ℕ → ℕ → ℕ → ℕ → Links → Links
 relayed dims r cap zero i ls = ls
 relayed dims r cap (suc n) i ls =

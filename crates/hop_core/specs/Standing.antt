@@ -1,5 +1,6 @@
 -- What holds of a rank's state at every moment.
-use Rattle.std.specs.Prelude.{◌≡◌, ℕ, Bool, true, ◌-◌, ◌<◌, ◌≤◌, not, List, [], length, drop, sum, slice_index_or, Some, IsSome}
+use Rattle.std.specs.Prelude.{◌≡◌, ℕ, Bool, true, ◌-◌, ◌<◌, ◌≤◌, not, List, [], length, drop, sum, slice_index_or, Some}
+use Rattle.std.specs.Prelude.{IsSome}
 use Rattle.std.specs.Int.{from_bool}
 use Rattle.std.specs.List.{All, sum_by}
 use Rattle.bale_types.specs.declared.item.Entry.{Entry}
@@ -55,7 +56,8 @@ failing test xs = sum_by (λ x. from_bool (not (test x))) xs
 pub record IsKept (st : State) (ends : List Bool) (from still_open still_coming : ℕ) : Type 0 where
   pub standing : IsState st
   pub ends_all : length ends ≡ 3
-  pub ends_each : (h : ℕ) (d : Bool) → 2 ≤ h → h ≤ length st.dims → slice_index_or ends (h - 1) d ≡ at_end st.dims st.ins st.done h
+  pub ends_each : (h : ℕ) (d : Bool) → 2 ≤ h → h ≤ length st.dims
+      → slice_index_or ends (h - 1) d ≡ at_end st.dims st.ins st.done h
   pub from_low : links_before st.dims (length st.dims) ≤ from
   pub from_high : from ≤ sum st.dims
   pub open_is : still_open ≡ failing (λ o. o.closed) st.outs

@@ -1,5 +1,6 @@
 -- One rank's buffers, marks and phase, and what follows from them.
-use Rattle.std.specs.Prelude.{ℕ, zero, suc, Bool, false, ◌-◌, ◌==◌, not, if◌then◌else◌, List, [], ◌∷◌, length, take, drop, slice_get, slice_set, slice_index_or, Option, Some, None}
+use Rattle.std.specs.Prelude.{ℕ, zero, suc, Bool, false, ◌-◌, ◌==◌, not, if◌then◌else◌, List, [], ◌∷◌, length, take}
+use Rattle.std.specs.Prelude.{drop, slice_get, slice_set, slice_index_or, Option, Some, None, if◌then◌else◌}
 use Rattle.std.specs.List.{list_all}
 use Rattle.std.specs.Option.{option_map}
 use Rattle.bale_types.specs.declared.item.Item.{Item}
@@ -75,7 +76,9 @@ lowest_unread st = lowest (links_before st.dims (length st.dims)) (ins_of_hop st
 
 -- The first unread item of link in number i of the last hop, with its sender.
 abbrev pub first_item : State → ℕ → Option (ℕ × Item)
-first_item st i = option_map (λ e. (sender_of st.dims e.tag (length st.dims) (neighbour st.dims st.rank i), e.item)) (slice_get (in_at st i).parcel.untaken 0)
+first_item st i =
+    option_map (λ e. (sender_of st.dims e.tag (length st.dims) (neighbour st.dims st.rank i), e.item))
+    (slice_get (in_at st i).parcel.untaken 0)
 
 -- What a pull gives, and what it leaves.
 abbrev pub pull_from : State → Option ℕ → Option (ℕ × Item)
@@ -84,7 +87,11 @@ pull_from st (Some i) = first_item st i
 
 abbrev pub pulled_from : State → Option ℕ → State
 pulled_from st None = record st { pulled = None }
-pulled_from st (Some i) = record st { ins = slice_set st.ins i (record (in_at st i) { parcel = with_first_taken (in_at st i).parcel }); pulled = Some i }
+pulled_from st (Some i) =
+    record st {
+      ins = slice_set st.ins i (record (in_at st i) { parcel = with_first_taken (in_at st i).parcel });
+      pulled = Some i;
+    }
 
 -- What n pulls leave, one after the other.
 -- Of the inboxes [], [x, y], [z] two leave [z], and three nothing.
@@ -95,7 +102,12 @@ pulls (suc n) st = pulled_from (pulls n st) (lowest_unread (pulls n st))
 -- What an unpull leaves: the item pulled last is the first one of its inbox again.
 abbrev pub unpulled : State → Option ℕ → State
 unpulled st None = st
-unpulled st (Some i) = record st { ins = slice_set st.ins i (record (in_at st i) { parcel = with_back (in_at st i).parcel.back (in_at st i).parcel }); pulled = None }
+unpulled st (Some i) =
+    record st {
+      ins = slice_set st.ins i (record
+          (in_at st i) { parcel = with_back (in_at st i).parcel.back (in_at st i).parcel });
+      pulled = None;
+    }
 
 -- What a push leaves: the item, with its first tag, is the last entry of the open parcel toward the rank's first stop.
 -- On the grid 2 rank 0's item for rank 1 stands at the end of open parcel number 1.
@@ -103,7 +115,9 @@ abbrev pub with_pushed : Item → ℕ → State → State
 with_pushed item to st =
     let o = coord st.dims to 1 in
     record st {
-      outs = slice_set st.outs o (record (out_at st o) { parcel = with_entry (out_at st o).parcel (record { tag = tag_at st.dims st.rank to 1; item = item }) });
+      outs = slice_set st.outs o
+          (record (out_at st o)
+          { parcel = with_entry (out_at st o).parcel (record { tag = tag_at st.dims st.rank to 1; item = item }) });
       pulled = None;
     }
 

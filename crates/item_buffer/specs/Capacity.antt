@@ -8,7 +8,8 @@ pub record IsCap (cap : ℕ) : Type 0 where
   pub some : 0 < cap
   pub small : cap ≤ MOST_ENTRIES
 
--- Whether the product is compiled for parcels of this capacity: a power of two from 1 to 1,024. It is for 64, and for 3 and 2,048 it isn't.
+-- Whether the product is compiled for parcels of this capacity: a power of two from 1 to 1,024. It
+-- is for 64, and for 3 and 2,048 it isn't.
 abbrev pub is_capacity : ℕ → Bool
 is_capacity cap = list_any (λ size. size == cap) CAPACITIES
 

@@ -1,5 +1,6 @@
 -- The edges of a rank's vertices, those of each vertex together, and the weights that they offer.
-use Rattle.std.specs.Prelude.{ℕ, ◌+◌, ◌%◌, ◌/◌, ◌^◌, ◌==◌, ◌&&◌, nat_le, if◌then◌else◌, ◌++◌, Bool, List, [], ◌∷◌, Option, None, Some, map, slice_index_or}
+use Rattle.std.specs.Prelude.{ℕ, ◌+◌, ◌%◌, ◌/◌, ◌^◌, ◌==◌, ◌&&◌, nat_le, if◌then◌else◌, ◌++◌, Bool, List, [], ◌∷◌}
+use Rattle.std.specs.Prelude.{Option, None, Some, map, slice_index_or, if◌then◌else◌}
 use Rattle.std.specs.List.{filter, flat_map, range_with_len}
 use Rattle.bale_types.specs.declared.Item.{Item}
 use Rattle.bale_types.specs.declared.triple.Triple.{Triple}
@@ -30,8 +31,8 @@ edges_at ranks low high ts p = map (edge_of ranks) (filter (is_kept ranks low hi
 abbrev pub table_of : ℕ → ℕ → ℕ → ℕ → List Triple → List (List Edge)
 table_of ranks places low high ts = map (edges_at ranks low high ts) (range_with_len 0 places)
 
--- What an edge offers its end, once a walk of weight m leads to its beginning: to the end's owner, the end and the sum of
--- the weights.
+-- What an edge offers its end, once a walk of weight m leads to its beginning: to the end's owner,
+-- the end and the sum of the weights.
 abbrev pub offer : ℕ → Edge → ℕ × Item
 offer m e = (e.owner, record { a = e.to; b = (m + e.weight) % 2 ^ 64; c = 0 })
 
@@ -49,4 +50,5 @@ offers table vs places = flat_map (offers_at table vs) places
 
 -- The edge of an entry comes to its vertex, where its weight is from low to high.
 abbrev pub kept : ℕ → ℕ → ℕ → Triple → List (List Edge) → List (List Edge)
-kept ranks low high t rows = if in_range low high t then changed_at rows (t.i / ranks) [] (λ es. es ++ edge_of ranks t ∷ []) else rows
+kept ranks low high t rows =
+    if in_range low high t then changed_at rows (t.i / ranks) [] (λ es. es ++ edge_of ranks t ∷ []) else rows

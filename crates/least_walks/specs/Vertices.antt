@@ -1,5 +1,7 @@
 -- The vertices of a rank, each with the least weight found so far, and which of them were improved.
-use Rattle.std.specs.Prelude.{ℕ, suc, Bool, true, false, ◌&&◌, ◌==◌, ◌/◌, min, List, [], ◌∷◌, Option, None, Some, nat_lt, slice_index_or, if◌then◌else◌}
+use Rattle.std.specs.Prelude.{ℕ, suc, Bool, true, false, ◌&&◌, ◌==◌, ◌/◌, min, List, [], ◌∷◌, Option, None, Some}
+use Rattle.std.specs.Prelude.{if◌then◌else◌}
+use Rattle.std.specs.Prelude.{nat_lt, slice_index_or, if◌then◌else◌}
 use Rattle.std.specs.List.{fold}
 use Rattle.list_laws.specs.Lists.{changed_at}
 use Rattle.least_walks.specs.declared.vertices.Vertex.{Vertex}
@@ -48,7 +50,8 @@ in_bucket width bucket v = weight_in width bucket v.weight
 -- The places of the improved vertices that pass a test, ascending, of vertices of which the first stands at place k.
 abbrev pub picked_from : (Vertex → Bool) → ℕ → List Vertex → List ℕ
 picked_from test k [] = []
-picked_from test k (v ∷ vs) = if v.improved && test v then k ∷ picked_from test (suc k) vs else picked_from test (suc k) vs
+picked_from test k (v ∷ vs) =
+    if v.improved && test v then k ∷ picked_from test (suc k) vs else picked_from test (suc k) vs
 
 abbrev pub picked : (Vertex → Bool) → List Vertex → List ℕ
 picked test vs = picked_from test 0 vs

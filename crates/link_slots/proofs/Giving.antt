@@ -19,7 +19,7 @@ use Rattle.link_slots.specs.declared.seat.ends.InEnd.{InEnd}
 use Rattle.link_slots.specs.declared.seat.ear.Ear.{Ear}
 use Rattle.link_slots.specs.declared.seat.rank_ends.RankEnds.{RankEnds}
 use Rattle.link_slots.specs.declared.seat.rank_ends.EndedCounts.{EndedCounts}
-use Rattle.link_slots.specs.Logs.{OutLog, InLog, Logs, no_out, no_in, out_of, in_of, got_of}
+use Rattle.link_slots.specs.Logs.{OutLog, InLog, Lists, no_out, no_in, out_of, in_of, got_of}
 use Rattle.link_slots.specs.View.{no_logs, own_logs, logs_or, Speaks, IsAlone, without_pick, pick_alone, speaking_for, gathered}
 use Rattle.link_slots.specs.Hands.{Holds}
 use Rattle.link_slots.specs.Shape.{Shape, IsShape, wiring, IsBlank}
@@ -72,14 +72,14 @@ module _ (shape : Shape) where
       → IsSeat cap shape (v, []) r e.outs.items e.ins.items e.ears.items e.ended.items
   new_seat cap v r e is of pick small speaks alone own new =
       let n : ℕ = links shape.dims in
-      let out_at : (l : ℕ) → out_of (own_logs v) l ≡ no_out = λ l. ap (λ (z : Logs Contents). out_of z l) own ∙ no_out_at l in
-      let in_at : (l : ℕ) → in_of (own_logs v) l ≡ no_in = λ l. ap (λ (z : Logs Contents). in_of z l) own ∙ no_in_at l in record {
+      let out_at : (l : ℕ) → out_of (own_logs v) l ≡ no_out = λ l. ap (λ (z : Lists Contents). out_of z l) own ∙ no_out_at l in
+      let in_at : (l : ℕ) → in_of (own_logs v) l ≡ no_in = λ l. ap (λ (z : Lists Contents). in_of z l) own ∙ no_in_at l in record {
         shaped = is;
-        manned = record { of = of; speaks = speaks; holds = subst (λ (z : Logs Contents). Holds IsBlank (wiring shape) v.pick z []) (sym own) (no_hands v.pick) };
+        manned = record { of = of; speaks = speaks; holds = subst (λ (z : Lists Contents). Holds IsBlank (wiring shape) v.pick z []) (sym own) (no_hands v.pick) };
         alone = alone;
         own = record {
-          outs = ap (λ (z : Logs Contents). length z.outs) own ∙ length-replicate n no_out;
-          ins = ap (λ (z : Logs Contents). length z.ins) own ∙ length-replicate n no_in;
+          outs = ap (λ (z : Lists Contents). length z.outs) own ∙ length-replicate n no_out;
+          ins = ap (λ (z : Lists Contents). length z.ins) own ∙ length-replicate n no_in;
           sent = λ l ne. ap (λ (z : OutLog Contents). z.sent) (out_at l);
           got = λ l ne. ap (λ (z : InLog Contents). take z.taken z.seen) (in_at l);
         };
@@ -89,8 +89,8 @@ module _ (shape : Shape) where
         ins_many = ap length new.ins ∙ length-replicate n _;
         ears_many = ap length new.ears;
         ended_many = ap length new.ended ∙ length-replicate n 0;
-        lists_out = ap (λ (z : Logs Contents). length z.outs) own ∙ length-replicate n no_out;
-        lists_in = ap (λ (z : Logs Contents). length z.ins) own ∙ length-replicate n no_in;
+        lists_out = ap (λ (z : Lists Contents). length z.outs) own ∙ length-replicate n no_out;
+        lists_in = ap (λ (z : Lists Contents). length z.ins) own ∙ length-replicate n no_in;
         each_out = λ l d a b. subst (λ (z : OutLog Contents × OutEnd). IsOutEnd shape.slots z.0 z.1.sent z.1.spare)
             (λ k. (sym (out_at l) k, sym (ap (λ (z : List OutEnd). get_or z l d) new.outs ∙ replicate_at n l _ d a) k))
             (record { sent_is = refl; spare_is = refl; few = omega arith; looked = inl refl });
@@ -106,7 +106,7 @@ module _ (shape : Shape) where
         each_ended = λ l d a b. ap (λ (z : List ℕ). get_or z l d) new.ended ∙ replicate_at n l 0 d a ∙ ap (λ (z : InLog Contents). counted (lasts (map shipped (take z.taken z.seen)))) (sym (in_at l));
       }
 
-module _ (v : Knowing) (r : ℕ) (x : Logs Contents) (at : get_or v.lists r None ≡ Some x) (inside : r < length v.lists) where
+module _ (v : Knowing) (r : ℕ) (x : Lists Contents) (at : get_or v.lists r None ≡ Some x) (inside : r < length v.lists) where
   pub speaks_for : Speaks (speaking_for v r)
   speaks_for = at ∙ ap Some (sym (ap logs_or at))
 
@@ -119,7 +119,7 @@ module _ (v : Knowing) (r : ℕ) (x : Logs Contents) (at : get_or v.lists r None
   pub alone_alone : IsAlone (pick_alone (speaking_for v r))
   alone_alone q ne = get_or-set_other (map (λ _. None) v.lists) r q (get_or v.lists r None) None ne ∙ nones v.lists q
     where
-      nones : {A : Type 0} (l : List A) (q : ℕ) → ◌≡◌ {A = Option (Logs Contents)} (get_or (map (λ _. None) l) q None) None
+      nones : {A : Type 0} (l : List A) (q : ℕ) → ◌≡◌ {A = Option (Lists Contents)} (get_or (map (λ _. None) l) q None) None
       nones [] q = refl
       nones (x ∷ xs) zero = refl
       nones (x ∷ xs) (suc q) = nones xs q
@@ -153,15 +153,15 @@ left_gathering shape m m' ends ended r is me =
       lists_many = ap length lists ∙ length-set m.0.lists r None ∙ is.lists_many;
       ends_many = length-set ends r None ∙ is.ends_many;
       each_new = λ q e h. ⊎_elim (λ t. absurd (no_some e t.1))
-          (λ t. let old = is.each_new q e t.1 in (old.0, ap (λ (z : List (Option (Logs Contents))). get_or z q None) lists ∙ get_or-set_other m.0.lists r q None None t.0 ∙ old.1))
+          (λ t. let old = is.each_new q e t.1 in (old.0, ap (λ (z : List (Option (Lists Contents))). get_or z q None) lists ∙ get_or-set_other m.0.lists r q None None t.0 ∙ old.1))
           (seats.written ends r q None e h);
-      each_own = λ q x h. ⊎_elim (λ t. absurd (no_some x t.1)) (λ t. is.each_own q x t.1) (seats.written m.0.lists r q None x (sym (ap (λ (z : List (Option (Logs Contents))). get_or z q None) lists) ∙ h));
+      each_own = λ q x h. ⊎_elim (λ t. absurd (no_some x t.1)) (λ t. is.each_own q x t.1) (seats.written m.0.lists r q None x (sym (ap (λ (z : List (Option (Lists Contents))). get_or z q None) lists) ∙ h));
       ended_many = length-set ended r None ∙ is.ended_many;
       each_ended = λ q l a b. dite (ℕ_discrete q r)
           (λ s. ap (λ (z : Option EndedCounts). ended_of z l) (ap (λ (z : ℕ). get_or (set ended r None) z None) s ∙ read_none ended r)
-          ∙ ap (λ (z : Option (Logs Contents)). counted (lasts (map shipped (got_of (logs_or z) l)))) (sym (ap (λ (z : List (Option (Logs Contents))). get_or z q None) lists ∙ ap (λ (z : ℕ). get_or (set m.0.lists r None) z None) s ∙ read_none m.0.lists r)))
+          ∙ ap (λ (z : Option (Lists Contents)). counted (lasts (map shipped (got_of (logs_or z) l)))) (sym (ap (λ (z : List (Option (Lists Contents))). get_or z q None) lists ∙ ap (λ (z : ℕ). get_or (set m.0.lists r None) z None) s ∙ read_none m.0.lists r)))
           (λ ne. ap (λ (z : Option EndedCounts). ended_of z l) (get_or-set_other ended r q None None ne) ∙ is.each_ended q l a b
-          ∙ ap (λ (z : Option (Logs Contents)). counted (lasts (map shipped (got_of (logs_or z) l)))) (sym (ap (λ (z : List (Option (Logs Contents))). get_or z q None) lists ∙ get_or-set_other m.0.lists r q None None ne)));
+          ∙ ap (λ (z : Option (Lists Contents)). counted (lasts (map shipped (got_of (logs_or z) l)))) (sym (ap (λ (z : List (Option (Lists Contents))). get_or z q None) lists ∙ get_or-set_other m.0.lists r q None None ne)));
     })
   where
     no_some : {A : Type 0} (y : A) → None ≡ Some y → ⊥
@@ -186,17 +186,17 @@ more_gathered shape m m' u ends ended e is of small speaks own counts me =
       lists_many = ap length lists ∙ length-set m.0.lists r (Some (own_logs u)) ∙ is.lists_many;
       ends_many = length-set ends r None ∙ is.ends_many;
       each_new = λ q f h. ⊎_elim (λ t. absurd (no_some f t.1))
-          (λ t. let old = is.each_new q f t.1 in (old.0, ap (λ (z : List (Option (Logs Contents))). get_or z q None) lists ∙ get_or-set_other m.0.lists r q (Some (own_logs u)) None t.0 ∙ old.1))
+          (λ t. let old = is.each_new q f t.1 in (old.0, ap (λ (z : List (Option (Lists Contents))). get_or z q None) lists ∙ get_or-set_other m.0.lists r q (Some (own_logs u)) None t.0 ∙ old.1))
           (seats.written ends r q None f h);
-      each_own = λ q x h. ⊎_elim (λ t. let same : own_logs u ≡ x = (let e : Some (own_logs u) ≡ Some x = t.1 in cc) in subst (λ (z : ℕ × Logs Contents). IsOwn shape.dims z.0 z.1) (λ k. (sym t.0 k, same k)) own) (λ t. is.each_own q x t.1)
-          (seats.written m.0.lists r q (Some (own_logs u)) x (sym (ap (λ (z : List (Option (Logs Contents))). get_or z q None) lists) ∙ h));
+      each_own = λ q x h. ⊎_elim (λ t. let same : own_logs u ≡ x = (let e : Some (own_logs u) ≡ Some x = t.1 in cc) in subst (λ (z : ℕ × Lists Contents). IsOwn shape.dims z.0 z.1) (λ k. (sym t.0 k, same k)) own) (λ t. is.each_own q x t.1)
+          (seats.written m.0.lists r q (Some (own_logs u)) x (sym (ap (λ (z : List (Option (Lists Contents))). get_or z q None) lists) ∙ h));
       ended_many = length-set ended r (Some e) ∙ is.ended_many;
       each_ended = λ q l a b. dite (ℕ_discrete q r)
           (λ s. ap (λ (z : Option EndedCounts). ended_of z l) (ap (λ (z : ℕ). get_or (set ended r (Some e)) z None) s ∙ get_or-set_same ended r (Some e) None (let n = is.ended_many in omega arith))
           ∙ counts l a (b ∙ s)
-          ∙ ap (λ (z : Option (Logs Contents)). counted (lasts (map shipped (got_of (logs_or z) l)))) (sym (ap (λ (z : List (Option (Logs Contents))). get_or z q None) lists ∙ ap (λ (z : ℕ). get_or (set m.0.lists r (Some (own_logs u))) z None) s ∙ get_or-set_same m.0.lists r (Some (own_logs u)) None (let n = is.lists_many in omega arith))))
+          ∙ ap (λ (z : Option (Lists Contents)). counted (lasts (map shipped (got_of (logs_or z) l)))) (sym (ap (λ (z : List (Option (Lists Contents))). get_or z q None) lists ∙ ap (λ (z : ℕ). get_or (set m.0.lists r (Some (own_logs u))) z None) s ∙ get_or-set_same m.0.lists r (Some (own_logs u)) None (let n = is.lists_many in omega arith))))
           (λ ne. ap (λ (z : Option EndedCounts). ended_of z l) (get_or-set_other ended r q (Some e) None ne) ∙ is.each_ended q l a b
-          ∙ ap (λ (z : Option (Logs Contents)). counted (lasts (map shipped (got_of (logs_or z) l)))) (sym (ap (λ (z : List (Option (Logs Contents))). get_or z q None) lists ∙ get_or-set_other m.0.lists r q (Some (own_logs u)) None ne)));
+          ∙ ap (λ (z : Option (Lists Contents)). counted (lasts (map shipped (got_of (logs_or z) l)))) (sym (ap (λ (z : List (Option (Lists Contents))). get_or z q None) lists ∙ get_or-set_other m.0.lists r q (Some (own_logs u)) None ne)));
     })
   where
     no_some : {A : Type 0} (y : A) → None ≡ Some y → ⊥

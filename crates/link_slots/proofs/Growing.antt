@@ -7,7 +7,7 @@ use native.Mathlib.Decide.{ℕ_discrete}
 use lib.ListN.{get_elem?}
 use Rattle.atomic_table.specs.Table.{Act, keeps, takes, chain, carried_after, homes_after, Valid}
 use Rattle.atomic_table.proofs.Lists.{set_here, set_else}
-use Rattle.link_slots.specs.Logs.{OutLog, InLog, Logs, no_out, no_in, out_of, in_of, with_out, with_in}
+use Rattle.link_slots.specs.Logs.{OutLog, InLog, Lists, no_out, no_in, out_of, in_of, with_out, with_in}
 use Rattle.link_slots.specs.Wiring.{Wiring, IsWired, slot_of}
 use Rattle.link_slots.specs.Link.{LinkOk}
 use Rattle.link_slots.specs.Hands.{Holds}
@@ -36,7 +36,7 @@ module _ {T : Type 0} where
       out_at zero x e = ap (λ (z : ℕ × T). get_elem? (set hs k none) z.0) (sym (some-injective (k, b) x e)) ∙ set_here hs k none (at_inside hs k (some b) home)
       out_at (suc i) x e = set_else hs k x.0 none (new_slot hs c k b away home i x e) ∙ away.out i x e
 
-module _ {T : Type 0} (Blank : T → Type 0) (Good : ℕ → List T → T → Type 0) (w : Wiring) (wired : IsWired w) (r l : ℕ) (x : Logs T) (ws : List ℕ) (hs : List (Option T)) (c : List (ℕ × T)) where
+module _ {T : Type 0} (Blank : T → Type 0) (Good : ℕ → List T → T → Type 0) (w : Wiring) (wired : IsWired w) (r l : ℕ) (x : Lists T) (ws : List ℕ) (hs : List (Option T)) (c : List (ℕ × T)) where
   abbrev out_at : ℕ → OutLog T
   out_at n = let o = out_of x l in record { sent = o.sent; room = n; offered = o.offered; looks = o.looks }
 
@@ -100,7 +100,7 @@ module _ {T : Type 0} (Blank : T → Type 0) (Good : ℕ → List T → T → Ty
       let free = t.link.empty N (omega arith) (omega arith) in
       let b : T = free.0 in let k : ℕ = slot_of w l N in
       let next : n ≡ suc N = omega arith in
-      let x1 : Logs T = with_out x l (out_at N) in let x2 : Logs T = with_out x l (out_at n) in
+      let x1 : Lists T = with_out x l (out_at N) in let x2 : Lists T = with_out x l (out_at n) in
       let room1 : (out_of x1 l).room ≡ N = ap (λ (z : OutLog T). z.room) (here (out_at N) long) in
       let low : length (out_of x l).sent ≤ N = let q = ok.sent_room in omega arith in
       let held : Holds Blank w r x2 ((slot_of w l (out_of x1 l).room, b) ∷ c1) = holds_room Blank w r x1 x2 c1 l b inside mine
@@ -148,7 +148,7 @@ module _ {T : Type 0} (Blank : T → Type 0) (Good : ℕ → List T → T → Ty
       let home : get_elem? hs1 k ≡ some (some p) = t.link.full N p (omega arith) posted.1 in
       let next : n ≡ suc N = omega arith in
       let longer : take N o.sent ++ p ∷ [] ≡ take n o.sent = sym (take_next o.sent N p posted.1) ∙ ap (λ (z : ℕ). take z o.sent) (sym next) in
-      let x1 : Logs T = with_in x l (in_at o.sent N) in let x2 : Logs T = with_in x l (in_at o.sent n) in
+      let x1 : Lists T = with_in x l (in_at o.sent N) in let x2 : Lists T = with_in x l (in_at o.sent n) in
       let seen1 : (in_of x1 l).seen ≡ take N o.sent = ap (λ (z : InLog T). z.seen) (in_here (in_at o.sent N) long) in
       let known1 : length (in_of x1 l).seen ≡ N = ap length seen1 ∙ len in
       let low : (in_of x l).taken ≤ length (take N o.sent) = let q = ok.taken_seen in omega arith in

@@ -10,7 +10,7 @@ use Rattle.bale_types.specs.Stream.{RoseOrFull}
 use Rattle.item_buffer.specs.Contents.{Contents}
 use Rattle.route_tensor.specs.Link.{links}
 use Rattle.route_tensor.specs.Ends.{hop_at, reader_at}
-use Rattle.link_slots.specs.Logs.{InLog, Logs, in_of, with_in}
+use Rattle.link_slots.specs.Logs.{InLog, Lists, in_of, with_in}
 use Rattle.link_slots.specs.Plays.{after_hear, heard_by, marked_by}
 use lib.ListN.{get_elem?}
 use Rattle.link_slots.specs.Shape.{Shape, IsShape, wiring, MayFollow}
@@ -62,7 +62,7 @@ rises noted n low high = dite (dec_le (suc n) (2 ^ 64 - 1)) (λ h. inl (omega ar
 pub rises_over : (noted n : ℕ) → noted ≤ counted n → RoseOrFull noted (counted (suc n))
 rises_over noted n low = dite (dec_le (suc n) (2 ^ 64 - 1)) (λ h. inl (omega arith)) (λ h. inr (omega arith))
 
-module _ (shape : Shape) (is : IsShape shape) (rank l : ℕ) (inside : l < links shape.dims) (mine : reader_at shape.dims l ≡ rank) (x : Logs Contents) (wide : length x.ins ≡ links shape.dims) where
+module _ (shape : Shape) (is : IsShape shape) (rank l : ℕ) (inside : l < links shape.dims) (mine : reader_at shape.dims l ≡ rank) (x : Lists Contents) (wide : length x.ins ≡ links shape.dims) where
   -- the bells of the rank's links of one hop are one
   one_bell : (m : ℕ) → reader_at shape.dims m ≡ rank → hop_at shape.dims m ≡ hop_at shape.dims l → (wiring shape).bell m ≡ (wiring shape).bell l
   one_bell m r h = λ k. (r ∙ sym mine) k * length shape.dims + (h k - 1)
@@ -120,7 +120,7 @@ module _ (shape : Shape) (is : IsShape shape) (rank l : ℕ) (inside : l < links
         }
 
 -- one step after another
-pub else_kept : (shape : Shape) (rank l : ℕ) (x y z : Logs Contents) → ElseKept shape rank l x y → ElseKept shape rank l y z → ElseKept shape rank l x z
+pub else_kept : (shape : Shape) (rank l : ℕ) (x y z : Lists Contents) → ElseKept shape rank l x y → ElseKept shape rank l y z → ElseKept shape rank l x z
 else_kept shape rank l x y z a b = record {
   outs = b.outs ∙ a.outs;
   long = b.long ∙ a.long;
@@ -132,7 +132,7 @@ else_kept shape rank l x y z a b = record {
 }
 
 -- no step
-pub else_same : (shape : Shape) (rank l : ℕ) (x : Logs Contents) → ElseKept shape rank l x x
+pub else_same : (shape : Shape) (rank l : ℕ) (x : Lists Contents) → ElseKept shape rank l x x
 else_same shape rank l x = record {
   outs = refl;
   long = refl;
@@ -147,7 +147,7 @@ pub good_same : (cap : ℕ) (shape : Shape) (l : ℕ) (i i' : InLog Contents) �
 good_same cap shape l i i' e good n p at = subst (λ (z : List Contents). MayFollow shape.dims cap l (take n z) p) (sym e) (good n p (ap (λ (z : List Contents). get_elem? z n) (sym e) ∙ at))
 
 -- the marks of a hop speak of what is marked and heard on its links alone
-pub heard_same : (shape : Shape) (rank h : ℕ) (x x' : Logs Contents) (marks hears : ℕ) → ((m : ℕ) → (in_of x' m).marked ≡ (in_of x m).marked) → ((m : ℕ) → (in_of x' m).hears ≡ (in_of x m).hears)
+pub heard_same : (shape : Shape) (rank h : ℕ) (x x' : Lists Contents) (marks hears : ℕ) → ((m : ℕ) → (in_of x' m).marked ≡ (in_of x m).marked) → ((m : ℕ) → (in_of x' m).hears ≡ (in_of x m).hears)
     → IsHeard shape rank h x marks hears → IsHeard shape rank h x' marks hears
 heard_same shape rank h x x' marks hears same_marked same_hears is = record {
   marked = λ m a b e. same_marked m ∙ is.marked m a b e;

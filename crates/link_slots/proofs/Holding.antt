@@ -5,7 +5,7 @@ use mathlib.Core.Logic.{dite}
 use native.Mathlib.Decide.{ℕ_discrete}
 use lib.ListN.{get_elem?}
 use Rattle.atomic_table.proofs.Lists.{at_longer, at_last}
-use Rattle.link_slots.specs.Logs.{OutLog, InLog, Logs, out_of, in_of}
+use Rattle.link_slots.specs.Logs.{OutLog, InLog, Lists, out_of, in_of}
 use Rattle.link_slots.specs.Wiring.{Wiring, slot_of}
 use Rattle.link_slots.specs.Link.{LinkOk}
 use Rattle.link_slots.specs.Hands.{Has, NoTwice, Own, Holds}
@@ -36,16 +36,16 @@ module _ {T : Type 0} where
       behind_at k p c z ne (suc j) e = (j, e)
 
   -- two ranks' lists that differ at one link alone
-  pub record Else (l : ℕ) (x x' : Logs T) : Type 0 where
+  pub record Else (l : ℕ) (x x' : Lists T) : Type 0 where
     pub outs : (m : ℕ) → m ≢ l → out_of x' m ≡ out_of x m
     pub ins : (m : ℕ) → m ≢ l → in_of x' m ≡ in_of x m
 
 module _ {T : Type 0} (Blank : T → Type 0) (w : Wiring) (r : ℕ) where
-  abbrev H : Logs T → List (ℕ × T) → Type 0
+  abbrev H : Lists T → List (ℕ × T) → Type 0
   H x c = Holds Blank w r x c
 
   -- what is rung, heard and counted is nothing to the hands
-  pub holds_same : (x x' : Logs T) (c : List (ℕ × T)) → ((m : ℕ) → (out_of x' m).sent ≡ (out_of x m).sent) → ((m : ℕ) → (out_of x' m).room ≡ (out_of x m).room)
+  pub holds_same : (x x' : Lists T) (c : List (ℕ × T)) → ((m : ℕ) → (out_of x' m).sent ≡ (out_of x m).sent) → ((m : ℕ) → (out_of x' m).room ≡ (out_of x m).room)
       → ((m : ℕ) → (in_of x' m).taken ≡ (in_of x m).taken) → ((m : ℕ) → (in_of x' m).seen ≡ (in_of x m).seen) → H x c → H x' c
   holds_same x x' c sent room taken seen h = record {
     once = h.once;
@@ -57,11 +57,11 @@ module _ {T : Type 0} (Blank : T → Type 0) (w : Wiring) (r : ℕ) where
     waiting = λ l n p a b lo e. h.waiting l n p a b (let q = taken l in omega arith) (ap (λ (z : List T). get_elem? z n) (sym (seen l)) ∙ e);
   }
     where
-      h_spare : (x x' : Logs T) (c : List (ℕ × T)) (l n : ℕ) → l < w.links → w.from l ≡ r → length (out_of x l).sent ≤ n → n < (out_of x l).room → length (out_of x' l).sent ≡ length (out_of x l).sent → H x c → (b : T) × Blank b × Has c (slot_of w l n) b
+      h_spare : (x x' : Lists T) (c : List (ℕ × T)) (l n : ℕ) → l < w.links → w.from l ≡ r → length (out_of x l).sent ≤ n → n < (out_of x l).room → length (out_of x' l).sent ≡ length (out_of x l).sent → H x c → (b : T) × Blank b × Has c (slot_of w l n) b
       h_spare x x' c l n a b lo hi q h = h.spare l n a b lo hi
 
   -- the wanted slot in front
-  pub holds_in_front : (x : Logs T) (c : List (ℕ × T)) (i : ℕ) (y : ℕ × T) → get_elem? c i ≡ some y → H x c → H x (y ∷ without c i)
+  pub holds_in_front : (x : Lists T) (c : List (ℕ × T)) (i : ℕ) (y : ℕ × T) → get_elem? c i ≡ some y → H x c → H x (y ∷ without c i)
   holds_in_front x c i y at h = record {
     once = one_more y.0 y.1 (without c i) (λ a b p q ea eb e. let s = stands c i a p ea in let t = stands c i b q eb in
         let same : s.0 ≡ t.0 = h.once s.0 t.0 p q s.1 t.1 e in
@@ -83,7 +83,7 @@ module _ {T : Type 0} (Blank : T → Type 0) (w : Wiring) (r : ℕ) where
       moved z t = dite (ℕ_discrete t.0 i) (λ e. (zero, sym at ∙ ap (get_elem? c) (sym e) ∙ t.1)) (λ n. let s = stays c i t.0 z t.1 n in (suc s.0, s.1))
 
   -- one empty slot more
-  pub holds_room : (x x' : Logs T) (c : List (ℕ × T)) (l : ℕ) (b : T) → l < w.links → w.from l ≡ r → Else l x x' → (out_of x' l).sent ≡ (out_of x l).sent → (out_of x' l).room ≡ suc (out_of x l).room
+  pub holds_room : (x x' : Lists T) (c : List (ℕ × T)) (l : ℕ) (b : T) → l < w.links → w.from l ≡ r → Else l x x' → (out_of x' l).sent ≡ (out_of x l).sent → (out_of x' l).room ≡ suc (out_of x l).room
       → in_of x' l ≡ in_of x l → length (out_of x l).sent ≤ (out_of x l).room → Blank b → ((i : ℕ) (z : ℕ × T) → get_elem? c i ≡ some z → z.0 ≢ slot_of w l (out_of x l).room)
       → H x c → H x' ((slot_of w l (out_of x l).room, b) ∷ c)
   holds_room x x' c l b inside mine els sent room ins below blank new h =
@@ -120,7 +120,7 @@ module _ {T : Type 0} (Blank : T → Type 0) (w : Wiring) (r : ℕ) where
           (h.own i k p e)
 
   -- one parcel more is seen
-  pub holds_seen : (x x' : Logs T) (c : List (ℕ × T)) (l : ℕ) (p : T) → l < w.links → w.to l ≡ r → Else l x x' → (in_of x' l).seen ≡ (in_of x l).seen ++ p ∷ [] → (in_of x' l).taken ≡ (in_of x l).taken
+  pub holds_seen : (x x' : Lists T) (c : List (ℕ × T)) (l : ℕ) (p : T) → l < w.links → w.to l ≡ r → Else l x x' → (in_of x' l).seen ≡ (in_of x l).seen ++ p ∷ [] → (in_of x' l).taken ≡ (in_of x l).taken
       → out_of x' l ≡ out_of x l → (in_of x l).taken ≤ length (in_of x l).seen → ((i : ℕ) (z : ℕ × T) → get_elem? c i ≡ some z → z.0 ≢ slot_of w l (length (in_of x l).seen))
       → H x c → H x' ((slot_of w l (length (in_of x l).seen), p) ∷ c)
   holds_seen x x' c l p inside mine els seen taken outs below new h =
@@ -151,7 +151,7 @@ module _ {T : Type 0} (Blank : T → Type 0) (w : Wiring) (r : ℕ) where
           (h.own i k q e)
 
   -- a parcel was posted, and its slot is home
-  pub holds_posted : (x x' : Logs T) (c : List (ℕ × T)) (l : ℕ) (b p : T) → l < w.links → Else l x x' → (out_of x' l).sent ≡ (out_of x l).sent ++ p ∷ [] → (out_of x' l).room ≡ (out_of x l).room
+  pub holds_posted : (x x' : Lists T) (c : List (ℕ × T)) (l : ℕ) (b p : T) → l < w.links → Else l x x' → (out_of x' l).sent ≡ (out_of x l).sent ++ p ∷ [] → (out_of x' l).room ≡ (out_of x l).room
       → in_of x' l ≡ in_of x l → 0 < w.slots → length (out_of x l).sent < (out_of x l).room → (out_of x l).room ≤ length (out_of x l).sent + w.slots
       → (w.to l ≡ r → (length (in_of x l).seen ≤ length (out_of x l).sent) × ((out_of x l).room ≤ (in_of x l).taken + w.slots))
       → H x ((slot_of w l (length (out_of x l).sent), b) ∷ c) → H x' c
@@ -194,7 +194,7 @@ module _ {T : Type 0} (Blank : T → Type 0) (w : Wiring) (r : ℕ) where
       }
 
   -- a parcel was taken, and its slot is home
-  pub holds_released : (x x' : Logs T) (c : List (ℕ × T)) (l : ℕ) (p : T) → l < w.links → Else l x x' → (in_of x' l).seen ≡ (in_of x l).seen → (in_of x' l).taken ≡ suc (in_of x l).taken
+  pub holds_released : (x x' : Lists T) (c : List (ℕ × T)) (l : ℕ) (p : T) → l < w.links → Else l x x' → (in_of x' l).seen ≡ (in_of x l).seen → (in_of x' l).taken ≡ suc (in_of x l).taken
       → out_of x' l ≡ out_of x l → 0 < w.slots → (in_of x l).taken < length (in_of x l).seen → length (in_of x l).seen ≤ (in_of x l).taken + w.slots
       → (w.from l ≡ r → (length (in_of x l).seen ≤ length (out_of x l).sent) × ((out_of x l).room ≤ (in_of x l).taken + w.slots))
       → H x ((slot_of w l (in_of x l).taken, p) ∷ c) → H x' c
@@ -240,7 +240,7 @@ module _ {T : Type 0} (Blank : T → Type 0) (w : Wiring) (r : ℕ) where
 
 -- the slots that a seat holds are away from home
 module _ {T : Type 0} (Blank : T → Type 0) (Good : ℕ → List T → T → Type 0) (w : Wiring) where
-  pub holds_away : (r : ℕ) (logs : ℕ → Logs T) (ws : List ℕ) (hs : List (Option T)) (c : List (ℕ × T))
+  pub holds_away : (r : ℕ) (logs : ℕ → Lists T) (ws : List ℕ) (hs : List (Option T)) (c : List (ℕ × T))
       → ((l : ℕ) → l < w.links → LinkOk Blank Good w l (out_of (logs (w.from l)) l) (in_of (logs (w.to l)) l) ws hs) → Holds Blank w r (logs r) c → Away hs c
   holds_away r logs ws hs c ok h = record {
     once = h.once;

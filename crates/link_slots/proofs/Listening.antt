@@ -7,7 +7,7 @@ use Rattle.std.specs.Int.Bits.{bit_or}
 use mathlib.Core.Logic.{dite}
 use native.Mathlib.Decide.{ℕ_discrete}
 use Rattle.atomic_table.specs.Table.{State, keeps, Allows}
-use Rattle.link_slots.specs.Logs.{OutLog, InLog, Logs, no_in, out_of, in_of, with_out, got, sent_of, got_of}
+use Rattle.link_slots.specs.Logs.{OutLog, InLog, Lists, no_in, out_of, in_of, with_out, got, sent_of, got_of}
 use Rattle.link_slots.specs.View.{View, own_logs, with_logs, Speaks}
 use Rattle.link_slots.specs.Wiring.{Wiring, IsWired, posted_word, released_word, bell_word}
 use Rattle.link_slots.specs.Link.{LinkOk, BellOk}
@@ -78,14 +78,14 @@ module _ {D T : Type 0} (Blank : T → Type 0) (Good : ℕ → List T → T → 
   pub ring : (id l : ℕ) (v : View D T) (c : List (ℕ × T)) → Speaks v → l < w.links → w.from l ≡ v.pick → Holds Blank w v.pick (own_logs v) c
       → Allows Rule (w.slots * w.links) id (v, c) (bell_word w l) (λ n. bit_or n (2 ^ w.bit l)) (λ n m'. rung Blank Good w l (v, c) m')
   ring id l v c speaks inside mine held s ok deep at fits =
-      let x : Logs T = own_logs v in let o : OutLog T = out_of x l in let i : InLog T = in_of (ok.logs (w.to l)) l in
+      let x : Lists T = own_logs v in let o : OutLog T = out_of x l in let i : InLog T = in_of (ok.logs (w.to l)) l in
       let long : l < length x.outs = (let e = (own_lens Blank Good Law shape w wired s ok id v at speaks).0 in omega arith) in
       let k : ℕ = bell_word w l in
       let word : k < length s.words = (let e = ok.wide in let f = wired.rung l inside in omega arith) in
       let words : List ℕ = set s.words k (bit_or (get_or s.words k 0) (2 ^ w.bit l)) in
       let here : get_or words k 0 ≡ bit_or (get_or s.words k 0) (2 ^ w.bit l) = get_or-set_same s.words k _ 0 word in
       let o' : OutLog T = record { sent = o.sent; room = o.room; offered = length o.sent; looks = o.looks } in
-      let x' : Logs T = with_out x l o' in
+      let x' : Lists T = with_out x l o' in
       let fits_in : 2 ^ w.bit l < 2 ^ w.width (w.bell l) = pow-lt (wired.bit_fits l inside) in
       let held' : Holds Blank w v.pick x' c = holds_same Blank w v.pick x x' c
       (out_same x l (λ z. z.sent) o' (λ m. (out_of x m).sent) long refl (λ _ _. refl)) (out_same x l (λ z. z.room) o' (λ m. (out_of x m).room) long refl (λ _ _. refl)) (λ _. refl) (λ _. refl) held in (
@@ -105,34 +105,34 @@ module _ {D T : Type 0} (Blank : T → Type 0) (Good : ℕ → List T → T → 
             (λ link. link_kept Blank Good w wired l o i s.words words s.homes s.homes (length o.sent) o.looks i.hears i.heard i.look_ins i.marked
             (get_or-set_other s.words k (posted_word l) _ 0 (λ e. omega arith)) (get_or-set_other s.words k (released_word l) _ 0 (λ e. omega arith)) (λ _. refl) link)
             (λ bell. bell_rung w l o o' i s.words words refl refl (ap (λ (z : ℕ). bit_at z (w.bit l)) here ∙ bit_comes (get_or s.words k 0) (w.bit l)) bell),
-        (refl, subst (λ (z : Logs T). Holds Blank w v.pick z c) (sym (own_with v x' speaks)) held'),
+        (refl, subst (λ (z : Lists T). Holds Blank w v.pick z c) (sym (own_with v x' speaks)) held'),
       )
 
   -- the doorbell b has the bits of links into the seat's rank, of which l is one
   pub hear : (id l b : ℕ) (v : View D T) (c : List (ℕ × T)) → Speaks v → l < w.links → w.to l ≡ v.pick → w.bell l ≡ b → Holds Blank w v.pick (own_logs v) c
       → Allows Rule (w.slots * w.links) id (v, c) (16 * (2 * w.links + b)) (λ _. 0) (λ n m'. heard Blank Good w b (v, c) n m')
   hear id l b v c speaks inside mine rings held s ok deep at fits =
-      let x : Logs T = own_logs v in let r : ℕ = v.pick in
+      let x : Lists T = own_logs v in let r : ℕ = v.pick in
       let known : x ≡ ok.logs r = (speaker Blank Good Law shape w wired s ok id v at speaks).1 in
       let lens = own_lens Blank Good Law shape w wired s ok id v at speaks in
       let k : ℕ = 16 * (2 * w.links + b) in
       let word : k < length s.words = (let e = ok.wide in let f = wired.rung l inside in omega arith) in
       let n : ℕ = get_or s.words k 0 in
       let words : List ℕ = set s.words k 0 in
-      let x' : Logs T = record { outs = x.outs; ins = heard_ins w b n x.ins } in
+      let x' : Lists T = record { outs = x.outs; ins = heard_ins w b n x.ins } in
       let outs : (q m : ℕ) → out_of (put ok.logs r x' q) m ≡ out_of (ok.logs q) m = λ q m. dite (ℕ_discrete q r)
-      (λ e. ap (λ (z : Logs T). out_of z m) (ap (put ok.logs r x') e ∙ put_here ok.logs r x') ∙ ap (λ (z : Logs T). out_of z m) (known ∙ ap ok.logs (sym e)))
-      (λ ne. ap (λ (z : Logs T). out_of z m) (put_else ok.logs r x' q ne)) in
-      let ins_other : (q m : ℕ) → q ≢ r → in_of (put ok.logs r x' q) m ≡ in_of (ok.logs q) m = λ q m ne. ap (λ (z : Logs T). in_of z m) (put_else ok.logs r x' q ne) in
-      let ins_mine : (q m : ℕ) → q ≡ r → in_of (put ok.logs r x' q) m ≡ get_or (heard_ins w b n x.ins) m no_in = λ q m e. ap (λ (z : Logs T). in_of z m) (ap (put ok.logs r x') e ∙ put_here ok.logs r x') in
-      let was : (q m : ℕ) → q ≡ r → get_or x.ins m no_in ≡ in_of (ok.logs q) m = λ q m e. ap (λ (z : Logs T). in_of z m) (known ∙ ap ok.logs (sym e)) in
+      (λ e. ap (λ (z : Lists T). out_of z m) (ap (put ok.logs r x') e ∙ put_here ok.logs r x') ∙ ap (λ (z : Lists T). out_of z m) (known ∙ ap ok.logs (sym e)))
+      (λ ne. ap (λ (z : Lists T). out_of z m) (put_else ok.logs r x' q ne)) in
+      let ins_other : (q m : ℕ) → q ≢ r → in_of (put ok.logs r x' q) m ≡ in_of (ok.logs q) m = λ q m ne. ap (λ (z : Lists T). in_of z m) (put_else ok.logs r x' q ne) in
+      let ins_mine : (q m : ℕ) → q ≡ r → in_of (put ok.logs r x' q) m ≡ get_or (heard_ins w b n x.ins) m no_in = λ q m e. ap (λ (z : Lists T). in_of z m) (ap (put ok.logs r x') e ∙ put_here ok.logs r x') in
+      let was : (q m : ℕ) → q ≡ r → get_or x.ins m no_in ≡ in_of (ok.logs q) m = λ q m e. ap (λ (z : Lists T). in_of z m) (known ∙ ap ok.logs (sym e)) in
       let ins : (m : ℕ) → m < w.links → ((w.bell m ≡ b) × (in_of (put ok.logs r x' (w.to m)) m ≡ heard_by (bit_at n (w.bit m)) (in_of (ok.logs (w.to m)) m))) ⊎ ((w.bell m ≢ b) × (in_of (put ok.logs r x' (w.to m)) m ≡ in_of (ok.logs (w.to m)) m)) =
       λ m h. let in_list : m < length x.ins = (let e = lens.1 in omega arith) in dite (ℕ_discrete (w.bell m) b)
       (λ e. let q : w.to m ≡ r = wired.one_reader m l h inside (e ∙ sym rings) ∙ mine in inl (e, ins_mine (w.to m) m q ∙ heard_here w b n x.ins m in_list e ∙ ap (heard_by (bit_at n (w.bit m))) (was (w.to m) m q)))
       (λ ne. inr (ne, dite (ℕ_discrete (w.to m) r) (λ q. ins_mine (w.to m) m q ∙ heard_else w b n x.ins m in_list ne ∙ was (w.to m) m q) (λ q. ins_other (w.to m) m q))) in
       let low : (m : ℕ) → m < 16 * (2 * w.links) → get_or words m 0 ≡ get_or s.words m 0 = λ m h. get_or-set_other s.words k m 0 0 (λ e. omega arith) in
       let got_same : got_of x' ≡ got_of x = λ j m. heard_kept w b n got (λ _ _. refl) x.ins m j in
-      let law : Law r (sent_of x') (got_of x') = subst (λ (z : Logs T × (ℕ → List T)). Law r (sent_of z.0) z.1) (λ j. (sym known j, sym (got_same ∙ ap got_of known) j)) (ok.each_rank r).2 in
+      let law : Law r (sent_of x') (got_of x') = subst (λ (z : Lists T × (ℕ → List T)). Law r (sent_of z.0) z.1) (λ j. (sym known j, sym (got_same ∙ ap got_of known) j)) (ok.each_rank r).2 in
       let held' : Holds Blank w r x' c = holds_same Blank w r x x' c (λ _. refl) (λ _. refl) (λ m. heard_kept w b n (λ z. z.taken) (λ _ _. refl) x.ins m) (λ m. heard_kept w b n (λ z. z.seen) (λ _ _. refl) x.ins m) held in (
         with_logs v x',
         keeps,
@@ -158,5 +158,5 @@ module _ {D T : Type 0} (Blank : T → Type 0) (Good : ℕ → List T → T → 
             (λ d h. dite (ℕ_discrete d b)
             (λ e. subst (λ (z : ℕ). get_or words (16 * (2 * w.links + z)) 0 < 2 ^ w.width z) (sym e) (subst (λ (z : ℕ). z < 2 ^ w.width b) (sym (get_or-set_same s.words k 0 0 word)) (pow_pos (w.width b))))
             (λ ne. subst (λ (z : ℕ). z < 2 ^ w.width d) (sym (get_or-set_other s.words k (16 * (2 * w.links + d)) 0 0 (λ e. ne (omega arith)))) (ok.no_other_bits d h))),
-        (refl, subst (λ (z : Logs T). Holds Blank w r z c) (sym (own_with v x' speaks)) held'),
+        (refl, subst (λ (z : Lists T). Holds Blank w r z c) (sym (own_with v x' speaks)) held'),
       )

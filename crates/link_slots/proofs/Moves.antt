@@ -11,7 +11,7 @@ use lib.ListN.{get_elem?}
 use Rattle.port_bank.specs.Flow.{Begins}
 use Rattle.atomic_table.specs.Table.{State, Act, gives, carried_after, homes_after, Allows}
 use Rattle.atomic_table.proofs.Lists.{set_again, set_else}
-use Rattle.link_slots.specs.Logs.{OutLog, InLog, Logs, no_out, no_in, out_of, in_of, with_out, with_in, got, sent_of, got_of}
+use Rattle.link_slots.specs.Logs.{OutLog, InLog, Lists, no_out, no_in, out_of, in_of, with_out, with_in, got, sent_of, got_of}
 use Rattle.link_slots.specs.View.{View, own_logs, logs_or, with_logs, Speaks}
 use Rattle.link_slots.specs.Wiring.{Wiring, IsWired, slot_of, posted_word, released_word, bell_word}
 use Rattle.link_slots.specs.Link.{LinkOk}
@@ -39,13 +39,13 @@ listed (y ∷ ys) zero x e = omega arith
 listed (y ∷ ys) (suc r) x e = let h = listed ys r x e in omega arith
 
 module _ {D T : Type 0} where
-  pub own_with : (v : View D T) (x : Logs T) → Speaks v → own_logs (with_logs v x) ≡ x
+  pub own_with : (v : View D T) (x : Lists T) → Speaks v → own_logs (with_logs v x) ≡ x
   own_with v x speaks = ap logs_or (get_or-set_same v.lists v.pick (Some x) None (listed v.lists v.pick (own_logs v) speaks))
 
-  pub speaks_with : (v : View D T) (x : Logs T) → Speaks v → Speaks (with_logs v x)
+  pub speaks_with : (v : View D T) (x : Lists T) → Speaks v → Speaks (with_logs v x)
   speaks_with v x speaks = let e = get_or-set_same v.lists v.pick (Some x) None (listed v.lists v.pick (own_logs v) speaks) in e ∙ ap Some (sym (own_with v x speaks))
 
-module _ {T : Type 0} (x : Logs T) (l : ℕ) where
+module _ {T : Type 0} (x : Lists T) (l : ℕ) where
   pub out_here : (o : OutLog T) → l < length x.outs → out_of (with_out x l o) l ≡ o
   out_here o h = get_or-set_same x.outs l o no_out h
 
@@ -76,19 +76,19 @@ module _ {D T : Type 0} (Blank : T → Type 0) (Good : ℕ → List T → T → 
   Rule = Lawful Blank Good Law shape w
 
   -- another look at the hands, where what they depend on is the same
-  holds_out : (r l : ℕ) (x : Logs T) (o o' : OutLog T) (c : List (ℕ × T)) → l < length x.outs → o.sent ≡ o'.sent → o.room ≡ o'.room → Holds Blank w r (with_out x l o) c → Holds Blank w r (with_out x l o') c
+  holds_out : (r l : ℕ) (x : Lists T) (o o' : OutLog T) (c : List (ℕ × T)) → l < length x.outs → o.sent ≡ o'.sent → o.room ≡ o'.room → Holds Blank w r (with_out x l o) c → Holds Blank w r (with_out x l o') c
   holds_out r l x o o' c h sent room held = holds_same Blank w r (with_out x l o) (with_out x l o') c
       (out_same x l (λ z. z.sent) o' (λ m. (out_of (with_out x l o) m).sent) h (sym sent ∙ ap (λ (z : OutLog T). z.sent) (sym (out_here x l o h))) (λ m ne. ap (λ (z : OutLog T). z.sent) (sym (out_there x l o m ne))))
       (out_same x l (λ z. z.room) o' (λ m. (out_of (with_out x l o) m).room) h (sym room ∙ ap (λ (z : OutLog T). z.room) (sym (out_here x l o h))) (λ m ne. ap (λ (z : OutLog T). z.room) (sym (out_there x l o m ne))))
       (λ _. refl) (λ _. refl) held
 
-  holds_in : (r l : ℕ) (x : Logs T) (i i' : InLog T) (c : List (ℕ × T)) → l < length x.ins → i.seen ≡ i'.seen → i.taken ≡ i'.taken → Holds Blank w r (with_in x l i) c → Holds Blank w r (with_in x l i') c
+  holds_in : (r l : ℕ) (x : Lists T) (i i' : InLog T) (c : List (ℕ × T)) → l < length x.ins → i.seen ≡ i'.seen → i.taken ≡ i'.taken → Holds Blank w r (with_in x l i) c → Holds Blank w r (with_in x l i') c
   holds_in r l x i i' c h seen taken held = holds_same Blank w r (with_in x l i) (with_in x l i') c (λ _. refl) (λ _. refl)
       (in_same x l (λ z. z.taken) i' (λ m. (in_of (with_in x l i) m).taken) h (sym taken ∙ ap (λ (z : InLog T). z.taken) (sym (in_here x l i h))) (λ m ne. ap (λ (z : InLog T). z.taken) (sym (in_there x l i m ne))))
       (in_same x l (λ z. z.seen) i' (λ m. (in_of (with_in x l i) m).seen) h (sym seen ∙ ap (λ (z : InLog T). z.seen) (sym (in_here x l i h))) (λ m ne. ap (λ (z : InLog T). z.seen) (sym (in_there x l i m ne)))) held
 
-  holds_own : (v : View D T) (x : Logs T) (c : List (ℕ × T)) → Speaks v → Holds Blank w v.pick x c → Holds Blank w v.pick (own_logs (with_logs v x)) c
-  holds_own v x c speaks h = subst (λ (z : Logs T). Holds Blank w v.pick z c) (sym (own_with v x speaks)) h
+  holds_own : (v : View D T) (x : Lists T) (c : List (ℕ × T)) → Speaks v → Holds Blank w v.pick x c → Holds Blank w v.pick (own_logs (with_logs v x)) c
+  holds_own v x c speaks h = subst (λ (z : Lists T). Holds Blank w v.pick z c) (sym (own_with v x speaks)) h
 
   -- a load changes no word
   loaded : (s : State T (View D T)) (k : ℕ) (homes : List (maybe.Option T)) (views : List (View D T)) → Rule (record { words = s.words; homes = homes; views = views }) → Rule (record { words = set s.words k (get_or s.words k 0); homes = homes; views = views })
@@ -97,7 +97,7 @@ module _ {D T : Type 0} (Blank : T → Type 0) (Good : ℕ → List T → T → 
   pub look_room : (id l : ℕ) (v : View D T) (c : List (ℕ × T)) → Speaks v → l < w.links → w.from l ≡ v.pick → Holds Blank w v.pick (own_logs v) c
       → Allows Rule (w.slots * w.links) id (v, c) (released_word l) (λ n. n) (λ n m'. found_room Blank Good w l (v, c) n m')
   look_room id l v c speaks inside mine held s ok deep at fits =
-      let x : Logs T = own_logs v in let o : OutLog T = out_of x l in let i : InLog T = in_of (ok.logs (w.to l)) l in
+      let x : Lists T = own_logs v in let o : OutLog T = out_of x l in let i : InLog T = in_of (ok.logs (w.to l)) l in
       let link : LinkOk Blank Good w l o i s.words s.homes = sender_link Blank Good Law shape w wired s ok id v l at speaks inside mine in
       let long : l < length x.outs = (let e = (own_lens Blank Good Law shape w wired s ok id v at speaks).0 in omega arith) in
       let h1 = link.taken_seen in let h2 = link.seen_sent in let h3 = link.sent_room in let h4 = link.room_slots in let h5 = wired.few_slots in
@@ -129,7 +129,7 @@ module _ {D T : Type 0} (Blank : T → Type 0) (Good : ℕ → List T → T → 
   pub look_in : (id l : ℕ) (v : View D T) (c : List (ℕ × T)) → Speaks v → l < w.links → w.to l ≡ v.pick → (in_of (own_logs v) l).marked ≡ true → Holds Blank w v.pick (own_logs v) c
       → Allows Rule (w.slots * w.links) id (v, c) (posted_word l) (λ n. n) (λ n m'. looked_in Blank Good w l (v, c) n m')
   look_in id l v c speaks inside mine marked held s ok deep at fits =
-      let x : Logs T = own_logs v in let i : InLog T = in_of x l in let o : OutLog T = out_of (ok.logs (w.from l)) l in
+      let x : Lists T = own_logs v in let i : InLog T = in_of x l in let o : OutLog T = out_of (ok.logs (w.from l)) l in
       let link : LinkOk Blank Good w l o i s.words s.homes = reader_link Blank Good Law shape w wired s ok id v l at speaks inside mine in
       let long : l < length x.ins = (let e = (own_lens Blank Good Law shape w wired s ok id v at speaks).1 in omega arith) in
       let h1 = link.taken_seen in let h2 = link.seen_sent in let h3 = link.sent_room in let h4 = link.room_slots in let h5 = wired.few_slots in
@@ -146,7 +146,7 @@ module _ {D T : Type 0} (Blank : T → Type 0) (Good : ℕ → List T → T → 
       let link' : LinkOk Blank Good w l o i' s.words homes = subst (λ (z : List T). LinkOk Blank Good w l o (record { seen = z; taken = i.taken; marked = false; hears = i.hears; heard = i.heard; look_ins = suc i.look_ins }) s.words homes) all
       (link_kept Blank Good w wired l o iN s.words s.words homes homes o.offered o.looks i.hears i.heard (suc i.look_ins) false refl refl (λ _. refl) t.link) in
       let w' : View D T = with_logs v (with_in x l i') in
-      let there : in_of (own_logs w') l ≡ i' = ap (λ (z : Logs T). in_of z l) (own_with v (with_in x l i') speaks) ∙ in_here x l i' long in
+      let there : in_of (own_logs w') l ≡ i' = ap (λ (z : Lists T). in_of z l) (own_with v (with_in x l i') speaks) ∙ in_here x l i' long in
       let got_is : got i' ≡ got i = sym (ap (take i.taken) (rest_seen i o link.seen_is)) ∙ take-append-le i.taken i.seen (drop (length i.seen) o.sent) h1 in
       let P : InLog T → Type 0 = λ z.
       (length z.seen ≡ length i.seen + b) × (take (length i.seen) z.seen ≡ i.seen) × ((k : ℕ) (p : T) → get_elem? z.seen k ≡ some p → Good l (take k z.seen) p)
@@ -171,10 +171,10 @@ module _ {D T : Type 0} (Blank : T → Type 0) (Good : ℕ → List T → T → 
 
   -- the reader's own end of a link on which it sends too
   own_end : (s : State T (View D T)) (ok : Rule s) (id l : ℕ) (v : View D T) → get_elem? s.views id ≡ some v → Speaks v → w.to l ≡ v.pick → in_of (own_logs v) l ≡ in_of (ok.logs (w.to l)) l
-  own_end s ok id l v at speaks e = ap (λ (z : Logs T). in_of z l) ((speaker Blank Good Law shape w wired s ok id v at speaks).1 ∙ ap ok.logs (sym e))
+  own_end s ok id l v at speaks e = ap (λ (z : Lists T). in_of z l) ((speaker Blank Good Law shape w wired s ok id v at speaks).1 ∙ ap ok.logs (sym e))
 
   own_start : (s : State T (View D T)) (ok : Rule s) (id l : ℕ) (v : View D T) → get_elem? s.views id ≡ some v → Speaks v → w.from l ≡ v.pick → out_of (own_logs v) l ≡ out_of (ok.logs (w.from l)) l
-  own_start s ok id l v at speaks e = ap (λ (z : Logs T). out_of z l) ((speaker Blank Good Law shape w wired s ok id v at speaks).1 ∙ ap ok.logs (sym e))
+  own_start s ok id l v at speaks e = ap (λ (z : Lists T). out_of z l) ((speaker Blank Good Law shape w wired s ok id v at speaks).1 ∙ ap ok.logs (sym e))
 
   pub post : (id l : ℕ) (v : View D T) (c : List (ℕ × T)) (b p : T) → Speaks v → l < w.links → w.from l ≡ v.pick → length (out_of (own_logs v) l).sent < (out_of (own_logs v) l).room
       → Good l (out_of (own_logs v) l).sent p
@@ -183,7 +183,7 @@ module _ {D T : Type 0} (Blank : T → Type 0) (Good : ℕ → List T → T → 
       → Allows Rule (w.slots * w.links) id (v, (slot_of w l (length (out_of (own_logs v) l).sent), p) ∷ c) (posted_word l) (λ n. (n + 1) % 2 ^ 64)
       (λ n m'. posted Blank Good w l (v, (slot_of w l (length (out_of (own_logs v) l).sent), p) ∷ c) m')
   post id l v c b p speaks inside mine some_left good law held s ok deep at fits =
-      let x : Logs T = own_logs v in let o : OutLog T = out_of x l in let i : InLog T = in_of (ok.logs (w.to l)) l in
+      let x : Lists T = own_logs v in let o : OutLog T = out_of x l in let i : InLog T = in_of (ok.logs (w.to l)) l in
       let link : LinkOk Blank Good w l o i s.words s.homes = sender_link Blank Good Law shape w wired s ok id v l at speaks inside mine in
       let long : l < length x.outs = (let e = (own_lens Blank Good Law shape w wired s ok id v at speaks).0 in omega arith) in
       let h1 = link.taken_seen in let h2 = link.seen_sent in let h4 = link.room_slots in
@@ -192,7 +192,7 @@ module _ {D T : Type 0} (Blank : T → Type 0) (Good : ℕ → List T → T → 
       let homes : List (maybe.Option T) = set s.homes k (some p) in
       let words : List ℕ = set s.words (posted_word l) ((get_or s.words (posted_word l) 0 + 1) % 2 ^ 64) in
       let o' : OutLog T = record { sent = o.sent ++ p ∷ []; room = o.room; offered = o.offered; looks = o.looks } in
-      let x' : Logs T = with_out x l o' in
+      let x' : Lists T = with_out x l o' in
       let longer : length o'.sent ≡ length o.sent + 1 = length-append o.sent (p ∷ []) in
       let here = out_here x l o' long in
       let held' : Holds Blank w v.pick x' c = holds_posted Blank w v.pick x x' c l b p inside (record { outs = λ m ne. out_there x l o' m ne; ins = λ _ _. refl })
@@ -214,7 +214,7 @@ module _ {D T : Type 0} (Blank : T → Type 0) (Good : ℕ → List T → T → 
       → Allows Rule (w.slots * w.links) id (v, (slot_of w l (in_of (own_logs v) l).taken, b) ∷ c) (released_word l) (λ n. (n + 1) % 2 ^ 64)
       (λ n m'. released Blank Good w l (v, (slot_of w l (in_of (own_logs v) l).taken, b) ∷ c) m')
   release id l v c b p speaks inside mine some_left blank law held s ok deep at fits =
-      let x : Logs T = own_logs v in let i : InLog T = in_of x l in let o : OutLog T = out_of (ok.logs (w.from l)) l in
+      let x : Lists T = own_logs v in let i : InLog T = in_of x l in let o : OutLog T = out_of (ok.logs (w.from l)) l in
       let link : LinkOk Blank Good w l o i s.words s.homes = reader_link Blank Good Law shape w wired s ok id v l at speaks inside mine in
       let long : l < length x.ins = (let e = (own_lens Blank Good Law shape w wired s ok id v at speaks).1 in omega arith) in
       let h2 = link.seen_sent in let h3 = link.sent_room in let h4 = link.room_slots in
@@ -223,7 +223,7 @@ module _ {D T : Type 0} (Blank : T → Type 0) (Good : ℕ → List T → T → 
       let homes : List (maybe.Option T) = set s.homes k (some b) in
       let words : List ℕ = set s.words (released_word l) ((get_or s.words (released_word l) 0 + 1) % 2 ^ 64) in
       let i' : InLog T = record { seen = i.seen; taken = suc i.taken; marked = i.marked; hears = i.hears; heard = i.heard; look_ins = i.look_ins } in
-      let x' : Logs T = with_in x l i' in
+      let x' : Lists T = with_in x l i' in
       let here = in_here x l i' long in
       let held' : Holds Blank w v.pick x' c = holds_released Blank w v.pick x x' c l p inside (record { outs = λ _ _. refl; ins = λ m ne. in_there x l i' m ne })
       (ap (λ (z : InLog T). z.seen) here) (ap (λ (z : InLog T). z.taken) here) refl wired.some_slots some_left (omega arith)
@@ -249,7 +249,7 @@ module _ {D T : Type 0} (Blank : T → Type 0) (Good : ℕ → List T → T → 
   pub bring_spare : (id l k : ℕ) (v : View D T) (c : List (ℕ × T)) → Speaks v → l < w.links → w.from l ≡ v.pick → length (out_of (own_logs v) l).sent < (out_of (own_logs v) l).room → Holds Blank w v.pick (own_logs v) c
       → Allows Rule (w.slots * w.links) id (v, c) k (λ n. n) (λ n m'. spare_brought Blank Good w l (v, c) m')
   bring_spare id l k v c speaks inside mine some_left held s ok deep at fits =
-      let x : Logs T = own_logs v in let S : ℕ = length (out_of x l).sent in
+      let x : Lists T = own_logs v in let S : ℕ = length (out_of x l).sent in
       let wanted = held.spare l S inside mine (omega arith) some_left in
       let y : ℕ × T = (slot_of w l S, wanted.0) in let j : ℕ = wanted.2.0 in
       let f = fetched s.homes c j y (own_away Blank Good Law shape w wired s ok id v c at speaks held) wanted.2.1 in (
@@ -263,7 +263,7 @@ module _ {D T : Type 0} (Blank : T → Type 0) (Good : ℕ → List T → T → 
   pub bring_parcel : (id l k : ℕ) (v : View D T) (c : List (ℕ × T)) → Speaks v → l < w.links → w.to l ≡ v.pick → (in_of (own_logs v) l).taken < length (in_of (own_logs v) l).seen → Holds Blank w v.pick (own_logs v) c
       → Allows Rule (w.slots * w.links) id (v, c) k (λ n. n) (λ n m'. parcel_brought Blank Good w l (v, c) m')
   bring_parcel id l k v c speaks inside mine some_left held s ok deep at fits =
-      let x : Logs T = own_logs v in let i : InLog T = in_of x l in
+      let x : Lists T = own_logs v in let i : InLog T = in_of x l in
       let parcel = at_there i.seen i.taken some_left in
       let wanted = held.waiting l i.taken parcel.0 inside mine (omega arith) parcel.1 in
       let y : ℕ × T = (slot_of w l i.taken, parcel.0) in let j : ℕ = wanted.0 in

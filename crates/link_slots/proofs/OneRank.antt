@@ -8,7 +8,7 @@ use lib.ListN.{get_elem?}
 use Rattle.atomic_table.specs.Table.{State}
 use Rattle.atomic_table.proofs.Lists.{at_set, set_here, set_else}
 use Rattle.link_slots.proofs.Lookups.{at_inside}
-use Rattle.link_slots.specs.Logs.{OutLog, InLog, Logs, no_out, no_in, out_of, in_of, with_out, with_in, sent_of, got_of}
+use Rattle.link_slots.specs.Logs.{OutLog, InLog, Lists, no_out, no_in, out_of, in_of, with_out, with_in, sent_of, got_of}
 use Rattle.link_slots.specs.View.{View, own_logs, with_logs, Speaks}
 use Rattle.link_slots.specs.Wiring.{Wiring, IsWired, slot_of, posted_word, released_word, bell_word}
 use Rattle.link_slots.specs.Link.{LinkOk, BellOk}
@@ -46,33 +46,33 @@ bells_kept w l ws ws' bits inside same = record {
   no_other_bits = λ b h. let e = same (16 * (2 * w.links + b)) (λ z. omega arith) (λ z. omega arith) in let old = bits b h in subst (λ (z : ℕ). z < 2 ^ w.width b) (sym e) old;
 }
 
-module _ {T : Type 0} (w : Wiring) (logs : ℕ → Logs T) (r : ℕ) where
+module _ {T : Type 0} (w : Wiring) (logs : ℕ → Lists T) (r : ℕ) where
   -- a change of one link out is no change of any link in, nor of another link out
   pub out_else : (l m q : ℕ) (o : OutLog T) → m ≢ l → out_of (put logs r (with_out (logs r) l o) q) m ≡ out_of (logs q) m
   out_else l m q o n = dite (ℕ_discrete q r)
-      (λ e. ap (λ (x : Logs T). out_of x m) (ap (put logs r (with_out (logs r) l o)) e ∙ put_here logs r (with_out (logs r) l o)) ∙ get_or-set_other (logs r).outs l m o no_out n ∙ ap (λ (z : ℕ). out_of (logs z) m) (sym e))
-      (λ ne. ap (λ (x : Logs T). out_of x m) (put_else logs r (with_out (logs r) l o) q ne))
+      (λ e. ap (λ (x : Lists T). out_of x m) (ap (put logs r (with_out (logs r) l o)) e ∙ put_here logs r (with_out (logs r) l o)) ∙ get_or-set_other (logs r).outs l m o no_out n ∙ ap (λ (z : ℕ). out_of (logs z) m) (sym e))
+      (λ ne. ap (λ (x : Lists T). out_of x m) (put_else logs r (with_out (logs r) l o) q ne))
 
   pub in_same : (l m q : ℕ) (o : OutLog T) → in_of (put logs r (with_out (logs r) l o) q) m ≡ in_of (logs q) m
   in_same l m q o = dite (ℕ_discrete q r)
-      (λ e. ap (λ (x : Logs T). in_of x m) (ap (put logs r (with_out (logs r) l o)) e ∙ put_here logs r (with_out (logs r) l o)) ∙ ap (λ (z : ℕ). in_of (logs z) m) (sym e))
-      (λ ne. ap (λ (x : Logs T). in_of x m) (put_else logs r (with_out (logs r) l o) q ne))
+      (λ e. ap (λ (x : Lists T). in_of x m) (ap (put logs r (with_out (logs r) l o)) e ∙ put_here logs r (with_out (logs r) l o)) ∙ ap (λ (z : ℕ). in_of (logs z) m) (sym e))
+      (λ ne. ap (λ (x : Lists T). in_of x m) (put_else logs r (with_out (logs r) l o) q ne))
 
   pub out_here : (l : ℕ) (o : OutLog T) → l < length (logs r).outs → out_of (put logs r (with_out (logs r) l o) r) l ≡ o
-  out_here l o h = ap (λ (x : Logs T). out_of x l) (put_here logs r (with_out (logs r) l o)) ∙ get_or-set_same (logs r).outs l o no_out h
+  out_here l o h = ap (λ (x : Lists T). out_of x l) (put_here logs r (with_out (logs r) l o)) ∙ get_or-set_same (logs r).outs l o no_out h
 
   pub in_else : (l m q : ℕ) (i : InLog T) → m ≢ l → in_of (put logs r (with_in (logs r) l i) q) m ≡ in_of (logs q) m
   in_else l m q i n = dite (ℕ_discrete q r)
-      (λ e. ap (λ (x : Logs T). in_of x m) (ap (put logs r (with_in (logs r) l i)) e ∙ put_here logs r (with_in (logs r) l i)) ∙ get_or-set_other (logs r).ins l m i no_in n ∙ ap (λ (z : ℕ). in_of (logs z) m) (sym e))
-      (λ ne. ap (λ (x : Logs T). in_of x m) (put_else logs r (with_in (logs r) l i) q ne))
+      (λ e. ap (λ (x : Lists T). in_of x m) (ap (put logs r (with_in (logs r) l i)) e ∙ put_here logs r (with_in (logs r) l i)) ∙ get_or-set_other (logs r).ins l m i no_in n ∙ ap (λ (z : ℕ). in_of (logs z) m) (sym e))
+      (λ ne. ap (λ (x : Lists T). in_of x m) (put_else logs r (with_in (logs r) l i) q ne))
 
   pub out_same : (l m q : ℕ) (i : InLog T) → out_of (put logs r (with_in (logs r) l i) q) m ≡ out_of (logs q) m
   out_same l m q i = dite (ℕ_discrete q r)
-      (λ e. ap (λ (x : Logs T). out_of x m) (ap (put logs r (with_in (logs r) l i)) e ∙ put_here logs r (with_in (logs r) l i)) ∙ ap (λ (z : ℕ). out_of (logs z) m) (sym e))
-      (λ ne. ap (λ (x : Logs T). out_of x m) (put_else logs r (with_in (logs r) l i) q ne))
+      (λ e. ap (λ (x : Lists T). out_of x m) (ap (put logs r (with_in (logs r) l i)) e ∙ put_here logs r (with_in (logs r) l i)) ∙ ap (λ (z : ℕ). out_of (logs z) m) (sym e))
+      (λ ne. ap (λ (x : Lists T). out_of x m) (put_else logs r (with_in (logs r) l i) q ne))
 
   pub in_here : (l : ℕ) (i : InLog T) → l < length (logs r).ins → in_of (put logs r (with_in (logs r) l i) r) l ≡ i
-  in_here l i h = ap (λ (x : Logs T). in_of x l) (put_here logs r (with_in (logs r) l i)) ∙ get_or-set_same (logs r).ins l i no_in h
+  in_here l i h = ap (λ (x : Lists T). in_of x l) (put_here logs r (with_in (logs r) l i)) ∙ get_or-set_same (logs r).ins l i no_in h
 
 some_same : {A : Type 0} (x y : A) → Some x ≡ Some y → x ≡ y
 some_same x y e = cc
@@ -91,10 +91,10 @@ module _ {D T : Type 0} (Blank : T → Type 0) (Good : ℕ → List T → T → 
   abbrev after : (s : St) → List ℕ → List (maybe.Option T) → ℕ → View D T → St
   after s words homes id v = record { words = words; homes = homes; views = set s.views id v }
 
-  abbrev logs_after : (s : St) → Rule s → View D T → Logs T → ℕ → Logs T
+  abbrev logs_after : (s : St) → Rule s → View D T → Lists T → ℕ → Lists T
   logs_after s ok v x = put ok.logs v.pick x
 
-  pub rank_step : (s : St) (ok : Rule s) (id : ℕ) (v : View D T) (x : Logs T) (words : List ℕ) (homes : List (maybe.Option T))
+  pub rank_step : (s : St) (ok : Rule s) (id : ℕ) (v : View D T) (x : Lists T) (words : List ℕ) (homes : List (maybe.Option T))
       → get_elem? s.views id ≡ some v → Speaks v → length words ≡ length s.words → length homes ≡ length s.homes
       → (length x.outs ≡ w.links) × (length x.ins ≡ w.links) × Law v.pick (sent_of x) (got_of x)
       → ((l : ℕ) → l < w.links → LinkOk Blank Good w l (out_of (put ok.logs v.pick x (w.from l)) l) (in_of (put ok.logs v.pick x (w.to l)) l) words homes)
@@ -103,7 +103,7 @@ module _ {D T : Type 0} (Blank : T → Type 0) (Good : ℕ → List T → T → 
       → Rule (record { words = words; homes = homes; views = set s.views id (with_logs v x) })
   rank_step s ok id v x words homes at speaks as_wide as_deep mine links bells bits =
       let known = speaker s ok id v at speaks in
-      let logs' : ℕ → Logs T = put ok.logs v.pick x in
+      let logs' : ℕ → Lists T = put ok.logs v.pick x in
       let long : v.pick < length v.lists = listed v.lists v.pick (own_logs v) speaks in record {
         logs = logs';
         owner = ok.owner;
@@ -113,8 +113,8 @@ module _ {D T : Type 0} (Blank : T → Type 0) (Good : ℕ → List T → T → 
         each_bell = bells;
         no_other_bits = bits;
         each_rank = λ r. dite (ℕ_discrete r v.pick)
-            (λ e. subst (λ (z : ℕ × Logs T). (length z.1.outs ≡ w.links) × (length z.1.ins ≡ w.links) × Law z.0 (sent_of z.1) (got_of z.1)) (λ k. (sym e k, sym (ap logs' e ∙ put_here ok.logs v.pick x) k)) mine)
-            (λ ne. subst (λ (z : Logs T). (length z.outs ≡ w.links) × (length z.ins ≡ w.links) × Law r (sent_of z) (got_of z)) (sym (put_else ok.logs v.pick x r ne)) (ok.each_rank r));
+            (λ e. subst (λ (z : ℕ × Lists T). (length z.1.outs ≡ w.links) × (length z.1.ins ≡ w.links) × Law z.0 (sent_of z.1) (got_of z.1)) (λ k. (sym e k, sym (ap logs' e ∙ put_here ok.logs v.pick x) k)) mine)
+            (λ ne. subst (λ (z : Lists T). (length z.outs ≡ w.links) × (length z.ins ≡ w.links) × Law r (sent_of z) (got_of z)) (sym (put_else ok.logs v.pick x r ne)) (ok.each_rank r));
         each_seat = λ j u there. ⊎_elim
             (λ t r y e. dite (ℕ_discrete r v.pick)
             (λ same. let e' : Some x ≡ Some y = sym (get_or-set_same v.lists v.pick (Some x) None long) ∙ ap (get_or_none (set v.lists v.pick (Some x))) (sym same) ∙ ap (λ (z : View D T). get_or z.lists r None) t.1 ∙ e in
@@ -137,16 +137,16 @@ module _ {D T : Type 0} (Blank : T → Type 0) (Good : ℕ → List T → T → 
             (old.0, set_else s.views id (ok.owner r) (with_logs v x) apart ∙ old.1, old.2 ∙ ap Some (sym (put_else ok.logs v.pick x r ne))));
       }
     where
-      get_or_none : List (Option (Logs T)) → ℕ → Option (Logs T)
+      get_or_none : List (Option (Lists T)) → ℕ → Option (Lists T)
       get_or_none l r = get_or l r None
 
-      listed : (l : List (Option (Logs T))) (r : ℕ) (x : Logs T) → get_or l r None ≡ Some x → r < length l
+      listed : (l : List (Option (Lists T))) (r : ℕ) (x : Lists T) → get_or l r None ≡ Some x → r < length l
       listed [] r x e = cc
       listed (y ∷ ys) zero x e = omega arith
       listed (y ∷ ys) (suc r) x e = let h = listed ys r x e in omega arith
 
   -- the same where one link alone changes: of the words the link's two, of the slots the link's own
-  link_step : (s : St) (ok : Rule s) (id : ℕ) (v : View D T) (x : Logs T) (l : ℕ) (words : List ℕ) (homes : List (maybe.Option T))
+  link_step : (s : St) (ok : Rule s) (id : ℕ) (v : View D T) (x : Lists T) (l : ℕ) (words : List ℕ) (homes : List (maybe.Option T))
       → get_elem? s.views id ≡ some v → Speaks v → length words ≡ length s.words → length homes ≡ length s.homes
       → (length x.outs ≡ w.links) × (length x.ins ≡ w.links) × Law v.pick (sent_of x) (got_of x)
       → ((m q : ℕ) → m ≢ l → (out_of (put ok.logs v.pick x q) m ≡ out_of (ok.logs q) m) × (in_of (put ok.logs v.pick x q) m ≡ in_of (ok.logs q) m))
@@ -188,7 +188,7 @@ module _ {D T : Type 0} (Blank : T → Type 0) (Good : ℕ → List T → T → 
       let r : ℕ = v.pick in
       let lens = ok.each_rank r in
       let I : InLog T = in_of (ok.logs (w.to l)) l in
-      let P : Logs T → Type 0 = λ x.
+      let P : Lists T → Type 0 = λ x.
       (Law r (sent_of x) (got_of x) → Law r (sent_of (with_out x l o)) (got_of x))
       → (LinkOk Blank Good w l (out_of x l) I s.words s.homes → LinkOk Blank Good w l o I words homes)
       → (BellOk w l (out_of x l) I s.words → BellOk w l o I words)
@@ -221,7 +221,7 @@ module _ {D T : Type 0} (Blank : T → Type 0) (Good : ℕ → List T → T → 
       let r : ℕ = v.pick in
       let lens = ok.each_rank r in
       let O : OutLog T = out_of (ok.logs (w.from l)) l in
-      let P : Logs T → Type 0 = λ x.
+      let P : Lists T → Type 0 = λ x.
       (Law r (sent_of x) (got_of x) → Law r (sent_of x) (got_of (with_in x l i)))
       → (LinkOk Blank Good w l O (in_of x l) s.words s.homes → LinkOk Blank Good w l O i words homes)
       → (BellOk w l O (in_of x l) s.words → BellOk w l O i words)
@@ -242,16 +242,16 @@ module _ {D T : Type 0} (Blank : T → Type 0) (Good : ℕ → List T → T → 
   -- the link as its sender's view and its reader's view have it
   pub sender_link : (s : St) (ok : Rule s) (id : ℕ) (v : View D T) (l : ℕ) → get_elem? s.views id ≡ some v → Speaks v → l < w.links → w.from l ≡ v.pick
       → LinkOk Blank Good w l (out_of (own_logs v) l) (in_of (ok.logs (w.to l)) l) s.words s.homes
-  sender_link s ok id v l at speaks inside mine = subst (λ (z : Logs T). LinkOk Blank Good w l (out_of z l) (in_of (ok.logs (w.to l)) l) s.words s.homes) (ap ok.logs mine ∙ sym (speaker s ok id v at speaks).1) (ok.each_link l inside)
+  sender_link s ok id v l at speaks inside mine = subst (λ (z : Lists T). LinkOk Blank Good w l (out_of z l) (in_of (ok.logs (w.to l)) l) s.words s.homes) (ap ok.logs mine ∙ sym (speaker s ok id v at speaks).1) (ok.each_link l inside)
 
   pub reader_link : (s : St) (ok : Rule s) (id : ℕ) (v : View D T) (l : ℕ) → get_elem? s.views id ≡ some v → Speaks v → l < w.links → w.to l ≡ v.pick
       → LinkOk Blank Good w l (out_of (ok.logs (w.from l)) l) (in_of (own_logs v) l) s.words s.homes
-  reader_link s ok id v l at speaks inside mine = subst (λ (z : Logs T). LinkOk Blank Good w l (out_of (ok.logs (w.from l)) l) (in_of z l) s.words s.homes) (ap ok.logs mine ∙ sym (speaker s ok id v at speaks).1) (ok.each_link l inside)
+  reader_link s ok id v l at speaks inside mine = subst (λ (z : Lists T). LinkOk Blank Good w l (out_of (ok.logs (w.from l)) l) (in_of z l) s.words s.homes) (ap ok.logs mine ∙ sym (speaker s ok id v at speaks).1) (ok.each_link l inside)
 
   pub own_lens : (s : St) (ok : Rule s) (id : ℕ) (v : View D T) → get_elem? s.views id ≡ some v → Speaks v → (length (own_logs v).outs ≡ w.links) × (length (own_logs v).ins ≡ w.links)
   own_lens s ok id v at speaks = let e = (speaker s ok id v at speaks).1 in let lens = ok.each_rank v.pick in
-      (ap (λ (z : Logs T). length z.outs) e ∙ lens.0, ap (λ (z : Logs T). length z.ins) e ∙ lens.1)
+      (ap (λ (z : Lists T). length z.outs) e ∙ lens.0, ap (λ (z : Lists T). length z.ins) e ∙ lens.1)
 
   -- the slots in the seat's hands are away
   pub own_away : (s : St) (ok : Rule s) (id : ℕ) (v : View D T) (c : List (ℕ × T)) → get_elem? s.views id ≡ some v → Speaks v → Holds Blank w v.pick (own_logs v) c → Away s.homes c
-  own_away s ok id v c at speaks h = holds_away Blank Good w v.pick ok.logs s.words s.homes c ok.each_link (subst (λ (z : Logs T). Holds Blank w v.pick z c) (speaker s ok id v at speaks).1 h)
+  own_away s ok id v c at speaks h = holds_away Blank Good w v.pick ok.logs s.words s.homes c ok.each_link (subst (λ (z : Lists T). Holds Blank w v.pick z c) (speaker s ok id v at speaks).1 h)

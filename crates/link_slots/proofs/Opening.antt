@@ -6,7 +6,7 @@ use mathlib.Core.Option.{some, some-injective, some-ne-none}
 use lib.ListN.{get_elem?, length-map, length-replicate}
 use Rattle.atomic_table.specs.Table.{opening}
 use Rattle.atomic_table.proofs.Lists.{at_map}
-use Rattle.link_slots.specs.Logs.{OutLog, InLog, Logs, no_out, no_in, sent_of, got_of}
+use Rattle.link_slots.specs.Logs.{OutLog, InLog, Lists, no_out, no_in, sent_of, got_of}
 use Rattle.link_slots.specs.View.{View, no_logs, first_view}
 use Rattle.link_slots.specs.Wiring.{Wiring, IsWired, slot_of, posted_word, released_word}
 use Rattle.link_slots.specs.Link.{LinkOk, BellOk}
@@ -77,7 +77,7 @@ module _ {D T : Type 0} (Blank : T → Type 0) (Good : ℕ → List T → T → 
         owned = λ r h. (first_view shape w.ranks w.links, refl, some_there w.ranks r (no_logs w.links) h);
       }
     where
-      first_seat : (ranks j : ℕ) (v : View D T) → get_elem? (first_view shape ranks w.links ∷ []) j ≡ some v → (r : ℕ) (x : Logs T) → get_or v.lists r None ≡ Some x → (0 ≡ j) × (x ≡ no_logs w.links) × (v.shape ≡ shape)
+      first_seat : (ranks j : ℕ) (v : View D T) → get_elem? (first_view shape ranks w.links ∷ []) j ≡ some v → (r : ℕ) (x : Lists T) → get_or v.lists r None ≡ Some x → (0 ≡ j) × (x ≡ no_logs w.links) × (v.shape ≡ shape)
       first_seat ranks zero v at r x e = let same : first_view shape ranks w.links ≡ v = some-injective (first_view shape ranks w.links) v at in
           (refl, same_some ranks r (no_logs w.links) x (ap (λ (z : View D T). get_or z.lists r None) same ∙ e), ap (λ (z : View D T). z.shape) (sym same))
       first_seat ranks (suc j) v at r x e = absurd (some-ne-none v (sym at))

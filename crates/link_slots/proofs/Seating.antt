@@ -21,12 +21,12 @@ use Rattle.atomic_table.specs.Table.{Me}
 use Rattle.item_buffer.specs.Contents.{Contents, shipped, Shipped}
 use Rattle.route_tensor.specs.Link.{links}
 use Rattle.route_tensor.specs.Ends.{hop_at, sender_at, reader_at}
-use Rattle.port_bank.specs.Logs.{Logs as Posts, lasts, added}
+use Rattle.port_bank.specs.Logs.{Lists as Posts, lasts, added}
 use Rattle.port_bank.specs.Relay.{RelayLaw, HasFairTags}
 use Rattle.link_slots.specs.declared.seat.ends.OutEnd.{OutEnd}
 use Rattle.link_slots.specs.declared.seat.ends.InEnd.{InEnd}
 use Rattle.link_slots.specs.declared.seat.ear.Ear.{Ear}
-use Rattle.link_slots.specs.Logs.{OutLog, InLog, Logs, out_of, in_of, with_out, sent_of, got_of, got, sent_more, no_out}
+use Rattle.link_slots.specs.Logs.{OutLog, InLog, Lists, out_of, in_of, with_out, sent_of, got_of, got, sent_more, no_out}
 use Rattle.link_slots.specs.View.{own_logs, with_logs}
 use Rattle.link_slots.specs.Shape.{Shape, MayFollow, KeepsLaw, shipped_all}
 use Rattle.link_slots.specs.Told.{Knowing, IsManned}
@@ -52,17 +52,17 @@ module _ (f : Posts) (l : ℕ) (p : Shipped) where
       at m = dite (ℕ_discrete m l) (λ e. subst (λ (z : ℕ). g z ≡ added f l p z) (sym e) (here ∙ sym added_here)) (λ ne. else' m ne ∙ sym (added_else m ne))
 
 -- what a post adds to the rank's logs
-pub posts_added : (x : Logs Contents) (l : ℕ) (p : Contents) → l < length x.outs → shipped_all (sent_of (with_out x l (sent_more (out_of x l) p))) ≡ added (shipped_all (sent_of x)) l (shipped p)
+pub posts_added : (x : Lists Contents) (l : ℕ) (p : Contents) → l < length x.outs → shipped_all (sent_of (with_out x l (sent_more (out_of x l) p))) ≡ added (shipped_all (sent_of x)) l (shipped p)
 posts_added x l p h = added_is (shipped_all (sent_of x)) l (shipped p) (shipped_all (sent_of (with_out x l (sent_more (out_of x l) p))))
     (ap (λ (o : OutLog Contents). map shipped o.sent) (out_here x l (sent_more (out_of x l) p) h) ∙ map-append shipped (out_of x l).sent (p ∷ []))
     (λ m ne. ap (λ (o : OutLog Contents). map shipped o.sent) (out_there x l (sent_more (out_of x l) p) m ne))
 
-pub law_for : (dims : List ℕ) (r l : ℕ) (x : Logs Contents) (p : Contents) → l < length x.outs → RelayLaw dims r (added (shipped_all (sent_of x)) l (shipped p)) (shipped_all (got_of x))
+pub law_for : (dims : List ℕ) (r l : ℕ) (x : Lists Contents) (p : Contents) → l < length x.outs → RelayLaw dims r (added (shipped_all (sent_of x)) l (shipped p)) (shipped_all (got_of x))
     → KeepsLaw dims r (sent_of (with_out x l (sent_more (out_of x l) p))) (got_of x)
 law_for dims r l x p h law = subst (λ (z : Posts). RelayLaw dims r z (shipped_all (got_of x))) (sym (posts_added x l p h)) law
 
 -- a fresh parcel for which the law holds may follow
-pub may_follow : (dims : List ℕ) (cap r l : ℕ) (x : Logs Contents) (p : Contents) → l < links dims → sender_at dims l ≡ r → p.taken ≡ 0 → (p.taken ≡ 0 → p.back ≡ None) → length p.untaken + p.taken ≤ cap → p.epoch ≡ lasts (map shipped (sent_of x l))
+pub may_follow : (dims : List ℕ) (cap r l : ℕ) (x : Lists Contents) (p : Contents) → l < links dims → sender_at dims l ≡ r → p.taken ≡ 0 → (p.taken ≡ 0 → p.back ≡ None) → length p.untaken + p.taken ≤ cap → p.epoch ≡ lasts (map shipped (sent_of x l))
     → RelayLaw dims r (added (shipped_all (sent_of x)) l (shipped p)) (shipped_all (got_of x)) → MayFollow dims cap l (out_of x l).sent p
 may_follow dims cap r l x p inside mine fresh back within epoch law = record {
   fresh = ap (λ (z : Option _ × ℕ). record { untaken = p.untaken; last = p.last; epoch = p.epoch; back = z.0; taken = z.1 }) (λ k. (back fresh k, fresh k));
@@ -79,16 +79,16 @@ module _ (cap : ℕ) (shape : Shape) (m m' : Me Contents Knowing) (rank l : ℕ)
   seat_posted e here mine counts =
       let o : OutLog Contents = out_of (own_logs m'.0) l in
       let own : own_logs m'.0 ≡ with_out (own_logs m.0) l o = ap own_logs here ∙ own_with m.0 (with_out (own_logs m.0) l o) is.manned.speaks in
-      let ins_same : (k : ℕ) → in_of (own_logs m'.0) k ≡ in_of (own_logs m.0) k = λ k. ap (λ (z : Logs Contents). in_of z k) own in
-      let outs_else : (k : ℕ) → k ≢ l → out_of (own_logs m'.0) k ≡ out_of (own_logs m.0) k = λ k ne. ap (λ (z : Logs Contents). out_of z k) own ∙ out_there (own_logs m.0) l o k ne in
+      let ins_same : (k : ℕ) → in_of (own_logs m'.0) k ≡ in_of (own_logs m.0) k = λ k. ap (λ (z : Lists Contents). in_of z k) own in
+      let outs_else : (k : ℕ) → k ≢ l → out_of (own_logs m'.0) k ≡ out_of (own_logs m.0) k = λ k ne. ap (λ (z : Lists Contents). out_of z k) own ∙ out_there (own_logs m.0) l o k ne in
       subst (λ (z : Shape). IsSeat cap z m' rank (set outs l e) ins ears ended) (sym manned.of) (record {
         shaped = is.shaped;
         manned = manned;
         alone = λ r ne. let other : r ≢ m.0.pick = λ e. ne (e ∙ sym (ap (λ (v : Knowing). v.pick) here)) in
             ap (λ (z : Knowing). get_or z.lists r None) here ∙ get_or-set_other m.0.lists m.0.pick r (Some (with_out (own_logs m.0) l o)) None other ∙ is.alone r other;
         own = record {
-          outs = ap (λ (z : Logs Contents). length z.outs) own ∙ length-set (own_logs m.0).outs l o ∙ is.lists_out;
-          ins = ap (λ (z : Logs Contents). length z.ins) own ∙ is.lists_in;
+          outs = ap (λ (z : Lists Contents). length z.outs) own ∙ length-set (own_logs m.0).outs l o ∙ is.lists_out;
+          ins = ap (λ (z : Lists Contents). length z.ins) own ∙ is.lists_in;
           sent = λ k ne. ap (λ (z : OutLog Contents). z.sent) (outs_else k (λ e. ne (ap (sender_at shape.dims) e ∙ mine))) ∙ is.own.sent k ne;
           got = λ k ne. ap (λ (z : InLog Contents). got z) (ins_same k) ∙ is.own.got k ne;
         };
@@ -98,8 +98,8 @@ module _ (cap : ℕ) (shape : Shape) (m m' : Me Contents Knowing) (rank l : ℕ)
         ins_many = is.ins_many;
         ears_many = is.ears_many;
         ended_many = is.ended_many;
-        lists_out = ap (λ (z : Logs Contents). length z.outs) own ∙ length-set (own_logs m.0).outs l o ∙ is.lists_out;
-        lists_in = ap (λ (z : Logs Contents). length z.ins) own ∙ is.lists_in;
+        lists_out = ap (λ (z : Lists Contents). length z.outs) own ∙ length-set (own_logs m.0).outs l o ∙ is.lists_out;
+        lists_in = ap (λ (z : Lists Contents). length z.ins) own ∙ is.lists_in;
         each_out = λ k d a b. dite (ℕ_discrete k l)
             (λ s. subst (λ (z : ℕ × OutEnd). IsOutEnd shape.slots (out_of (own_logs m'.0) z.0) z.1.sent z.1.spare) (λ j. (sym s j, sym (ap (λ (z : ℕ). get_or (set outs l e) z d) s ∙ get_or-set_same outs l e d (let n = is.outs_many in omega arith)) j)) counts)
             (λ ne. subst (λ (z : OutLog Contents × OutEnd). IsOutEnd shape.slots z.0 z.1.sent z.1.spare) (λ j. (sym (outs_else k ne) j, sym (get_or-set_other outs l k e d ne) j)) (is.each_out k d a b));
@@ -114,7 +114,7 @@ module _ (cap : ℕ) (shape : Shape) (m m' : Me Contents Knowing) (rank l : ℕ)
       → AreGood cap shape l (in_of (own_logs m'.0) l) → now ≡ counted (lasts (map shipped (got_of (own_logs m'.0) l)))
       → IsSeat cap m'.0.shape m' rank outs (set ins l e) (set ears hop ear) (set ended l now)
   seat_collected e ear hop now here others mine counts hears hop_is good ended_is =
-      let y : Logs Contents = own_logs m.0 in let y' : Logs Contents = own_logs m'.0 in
+      let y : Lists Contents = own_logs m.0 in let y' : Lists Contents = own_logs m'.0 in
       let outs_same : (k : ℕ) → out_of y' k ≡ out_of y k = λ k. ap (λ (z : List (OutLog Contents)). get_or z k no_out) others.outs in
       subst (λ (z : Shape). IsSeat cap z m' rank outs (set ins l e) (set ears hop ear) (set ended l now)) (sym manned.of) (record {
         shaped = is.shaped;
@@ -161,7 +161,7 @@ module _ (cap : ℕ) (shape : Shape) (m m' : Me Contents Knowing) (rank l : ℕ)
 take_front : (n : ℕ) (a b : List Contents) → n ≤ length a → take (length a) b ≡ a → take n b ≡ take n a
 take_front n a b h e = ap (take n) (sym (take-append-drop (length a) b) ∙ ap (λ (z : List Contents). z ++ drop (length a) b) e) ∙ take-append-le n a (drop (length a) b) h
 
-module _ (shape : Shape) (rank l : ℕ) (x x' : Logs Contents) (others : ElseKept shape rank l x x') (below : (in_of x l).taken ≤ length (in_of x l).seen) (front : take (length (in_of x l).seen) (in_of x' l).seen ≡ (in_of x l).seen) where
+module _ (shape : Shape) (rank l : ℕ) (x x' : Lists Contents) (others : ElseKept shape rank l x x') (below : (in_of x l).taken ≤ length (in_of x l).seen) (front : take (length (in_of x l).seen) (in_of x' l).seen ≡ (in_of x l).seen) where
   pub got_elsewhere : (k : ℕ) → k ≢ l → got_of x' k ≡ got_of x k
   got_elsewhere k ne = λ j. take (others.taken k ne j) (others.seen k ne j)
 

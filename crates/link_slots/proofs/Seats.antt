@@ -8,7 +8,7 @@ use mathlib.Core.Option.{some, some-injective}
 use lib.ListN.{get_elem?}
 use Rattle.atomic_table.specs.Table.{State, keeps, Allows, Splits, Joins}
 use Rattle.atomic_table.proofs.Lists.{at_set, set_here, set_else, at_longer, at_last}
-use Rattle.link_slots.specs.Logs.{Logs}
+use Rattle.link_slots.specs.Logs.{Lists}
 use Rattle.link_slots.specs.View.{View, own_logs, Speaks, IsAlone, without_pick, pick_alone, gathered, spent, emptied, speaking_for}
 use Rattle.link_slots.specs.Wiring.{Wiring}
 use Rattle.link_slots.specs.Bank.{Lawful}
@@ -46,7 +46,7 @@ module _ {D T : Type 0} (Blank : T → Type 0) (Good : ℕ → List T → T → 
 
   -- the rule speaks of the views by one clause alone
   reseated : (s : State T (View D T)) (ok : Rule s) (owner : ℕ → ℕ) (views : List (View D T))
-      → ((j : ℕ) (v : View D T) → get_elem? views j ≡ some v → (r : ℕ) (x : Logs T) → get_or v.lists r None ≡ Some x → (owner r ≡ j) × (x ≡ ok.logs r) × (v.shape ≡ shape))
+      → ((j : ℕ) (v : View D T) → get_elem? views j ≡ some v → (r : ℕ) (x : Lists T) → get_or v.lists r None ≡ Some x → (owner r ≡ j) × (x ≡ ok.logs r) × (v.shape ≡ shape))
       → ((r : ℕ) → r < w.ranks → (v : View D T) × (get_elem? views (owner r) ≡ some v) × (get_or v.lists r None ≡ Some (ok.logs r)))
       → Rule (record { words = s.words; homes = s.homes; views = views })
   reseated s ok owner views seats owns = record {

@@ -20,7 +20,7 @@ use Rattle.port_bank.proofs.Fronts.{begins_map}
 use Rattle.port_bank.proofs.Kept.{law_own}
 use Rattle.port_bank.proofs.Closing.{close_law, ended_more}
 use Rattle.list_laws.specs.Counts.{counted}
-use Rattle.link_slots.specs.Logs.{OutLog, InLog, Logs, no_out, no_in, out_of, in_of, sent_of, got_of, got}
+use Rattle.link_slots.specs.Logs.{OutLog, InLog, Lists, no_out, no_in, out_of, in_of, sent_of, got_of, got}
 use Rattle.link_slots.specs.Link.{LinkOk}
 use Rattle.link_slots.specs.Shape.{Shape, IsShape, wiring, IsBlank, MayFollow, shipped_all}
 use Rattle.link_slots.specs.Told.{Knowing, IsLawful}
@@ -110,7 +110,7 @@ same_below : {A : Type 0} (f g : ℕ → A) (n : ℕ) → ((i : ℕ) → i < n �
 same_below f g zero same = refl
 same_below f g (suc n) same = λ k. same_below f g n (λ i h. same i (omega arith)) k ++ same n (omega arith) k ∷ []
 
-pub is_there : (o : Option (Logs Contents)) → IsSome o → o ≡ Some (logs_or o)
+pub is_there : (o : Option (Lists Contents)) → IsSome o → o ≡ Some (logs_or o)
 is_there None h = absurd (let e : false ≡ true = h in cc)
 is_there (Some x) h = refl
 
@@ -119,13 +119,13 @@ settled cap shape s id v is ok at all =
     let dims : List ℕ = shape.dims in
     let known : (r : ℕ) → r < ranks dims → ok.logs r ≡ logs_at v.lists r = λ r h. sym (ok.each_seat id v at r (logs_at v.lists r) (is_there (get_or v.lists r None) (all r h))).1 in
     let sent = same_below (λ l. map shipped (sent_of (ok.logs (sender_at dims l)) l)) (λ l. map shipped (sent_of (logs_at v.lists (sender_at dims l)) l)) (links dims)
-    (λ l h. ap (λ (z : Logs Contents). map shipped (sent_of z l)) (known (sender_at dims l) (ends_join dims is.grid l h).sender)) in
+    (λ l h. ap (λ (z : Lists Contents). map shipped (sent_of z l)) (known (sender_at dims l) (ends_join dims is.grid l h).sender)) in
     let got = same_below (λ l. map shipped (got_of (ok.logs (reader_at dims l)) l)) (λ l. map shipped (got_of (logs_at v.lists (reader_at dims l)) l)) (links dims)
-    (λ l h. ap (λ (z : Logs Contents). map shipped (got_of z l)) (known (reader_at dims l) (ends_join dims is.grid l h).reader)) in
+    (λ l h. ap (λ (z : Lists Contents). map shipped (got_of z l)) (known (reader_at dims l) (ends_join dims is.grid l h).reader)) in
     subst IsRound (λ k. record { dims = dims; cap = cap; slots = shape.slots; by_slots = true; sent = sent k; got = got k }) (live cap shape s is ok)
 
 -- of each gathered rank the round's logs are those of its lists
-module _ (shape : Shape) (cap : ℕ) (lists : List (Option (Logs Contents))) (r : ℕ) (x : Logs Contents) (at : get_or lists r None ≡ Some x) (own : IsOwn shape.dims r x) where
+module _ (shape : Shape) (cap : ℕ) (lists : List (Option (Lists Contents))) (r : ℕ) (x : Lists Contents) (at : get_or lists r None ≡ Some x) (own : IsOwn shape.dims r x) where
   is_x : logs_at lists r ≡ x
   is_x = ap logs_or at
 
@@ -139,7 +139,7 @@ module _ (shape : Shape) (cap : ℕ) (lists : List (Option (Logs Contents))) (r 
       each l = dite (ℕ_discrete (sender_at shape.dims l) r)
           (λ mine. ap (λ (b : Bool). cond b (logs_of (slot_round shape cap lists).sent l) []) (eq-eqb (sender_at shape.dims l) r mine)
           ∙ dite (dec_le (suc l) (links shape.dims))
-          (λ h. at_each_below all (links shape.dims) l [] h ∙ ap (λ (q : ℕ). map shipped (sent_of (logs_at lists q) l)) mine ∙ ap (λ (z : Logs Contents). map shipped (sent_of z l)) is_x)
+          (λ h. at_each_below all (links shape.dims) l [] h ∙ ap (λ (q : ℕ). map shipped (sent_of (logs_at lists q) l)) mine ∙ ap (λ (z : Lists Contents). map shipped (sent_of z l)) is_x)
           (λ h. past_end (each_below all (links shape.dims)) l [] (let q = length-each_below all (links shape.dims) in omega arith) ∙ ap (λ (z : OutLog Contents). map shipped z.sent) (sym (past_end x.outs l no_out (let q = own.outs in omega arith)))))
           (λ ne. ap (λ (b : Bool). cond b (logs_of (slot_round shape cap lists).sent l) []) (ne_eqb (sender_at shape.dims l) r ne) ∙ ap (map shipped) (sym (own.sent l ne)))
 
@@ -153,7 +153,7 @@ module _ (shape : Shape) (cap : ℕ) (lists : List (Option (Logs Contents))) (r 
       each l = dite (ℕ_discrete (reader_at shape.dims l) r)
           (λ mine. ap (λ (b : Bool). cond b (logs_of (slot_round shape cap lists).got l) []) (eq-eqb (reader_at shape.dims l) r mine)
           ∙ dite (dec_le (suc l) (links shape.dims))
-          (λ h. at_each_below all (links shape.dims) l [] h ∙ ap (λ (q : ℕ). map shipped (got_of (logs_at lists q) l)) mine ∙ ap (λ (z : Logs Contents). map shipped (got_of z l)) is_x)
+          (λ h. at_each_below all (links shape.dims) l [] h ∙ ap (λ (q : ℕ). map shipped (got_of (logs_at lists q) l)) mine ∙ ap (λ (z : Lists Contents). map shipped (got_of z l)) is_x)
           (λ h. past_end (each_below all (links shape.dims)) l [] (let q = length-each_below all (links shape.dims) in omega arith) ∙ ap (λ (z : InLog Contents). map shipped (got z)) (sym (past_end x.ins l no_in (let q = own.ins in omega arith)))))
           (λ ne. ap (λ (b : Bool). cond b (logs_of (slot_round shape cap lists).got l) []) (ne_eqb (reader_at shape.dims l) r ne) ∙ ap (map shipped) (sym (own.got l ne)))
 

@@ -1,5 +1,6 @@
 -- What a rank's seat counts beside the table, and the lists that the counts stand for.
-use Rattle.std.specs.Prelude.{◌≡◌, ◌≢◌, ◌⊎◌, ℕ, ◌+◌, ◌-◌, ◌*◌, ◌^◌, ◌%◌, ◌<◌, ◌≤◌, ◌==◌, Bool, true, false, List, take, length, suc, [], ◌∷◌, ◌++◌}
+use Rattle.std.specs.Prelude.{◌≡◌, ◌≢◌, ◌⊎◌, ℕ, ◌+◌, ◌-◌, ◌*◌, ◌^◌, ◌%◌, ◌<◌, ◌≤◌, ◌==◌, Bool, true, false, List, take}
+use Rattle.std.specs.Prelude.{length, suc, [], ◌∷◌, ◌++◌}
 use Rattle.std.specs.Int.{bit_at}
 use Rattle.list_laws.specs.Counts.{counted}
 use mathlib.Core.Option.{some}
@@ -12,7 +13,7 @@ use Rattle.port_bank.specs.declared.port.Posted.{Posted}
 use Rattle.port_bank.specs.declared.port.Posted.TheVariants.{Sent, NoRoom}
 use Rattle.port_bank.specs.declared.port.Collected.{Collected}
 use Rattle.port_bank.specs.declared.port.Collected.TheVariants.{Got, Nothing}
-use Rattle.link_slots.specs.Logs.{OutLog, InLog, Logs, in_of, listens, found_full}
+use Rattle.link_slots.specs.Logs.{OutLog, InLog, Lists, in_of, listens, found_full}
 use Rattle.link_slots.specs.Shape.{Shape, wiring, MayFollow}
 
 -- What a post of parcel p makes of a link out, from o to o', by its answer.
@@ -40,7 +41,8 @@ pub record IsOutEnd {T : Type 0} (slots : ℕ) (o : OutLog T) (sent spare : ℕ)
   pub few : spare ≤ slots
   pub looked : (o.room ≡ 0) ⊎ (slots ≤ o.room)
 
--- The reader counts what it took in the same two ways, the parcels at hand, how often it looked in, and how often it had listened at the end
+-- The reader counts what it took in the same two ways, the parcels at hand, how often it looked in,
+-- and how often it had listened at the end
 -- of its latest collect.
 pub record IsInEnd {T : Type 0} (slots : ℕ) (i : InLog T) (taken waiting look_ins noted : ℕ) : Type 0 where
   pub taken_is : taken ≡ i.taken % 2 ^ 64
@@ -50,13 +52,16 @@ pub record IsInEnd {T : Type 0} (slots : ℕ) (i : InLog T) (taken waiting look_
   pub noted_before : noted ≤ counted (listens i)
 
 -- The links into a rank on hop h: each is marked where its bit is set, and their doorbell was heard so often.
-pub record IsHeard (shape : Shape) (rank h : ℕ) (x : Logs Contents) (marks hears : ℕ) : Type 0 where
-  pub marked : (l : ℕ) → l < links shape.dims → reader_at shape.dims l ≡ rank → hop_at shape.dims l ≡ h → (in_of x l).marked ≡ (bit_at marks ((wiring shape).bit l) == 1)
-  pub heard : (l : ℕ) → l < links shape.dims → reader_at shape.dims l ≡ rank → hop_at shape.dims l ≡ h → hears ≡ counted (in_of x l).hears
+pub record IsHeard (shape : Shape) (rank h : ℕ) (x : Lists Contents) (marks hears : ℕ) : Type 0 where
+  pub marked : (l : ℕ) → l < links shape.dims → reader_at shape.dims l ≡ rank → hop_at shape.dims l ≡ h
+      → (in_of x l).marked ≡ (bit_at marks ((wiring shape).bit l) == 1)
+  pub heard : (l : ℕ) → l < links shape.dims → reader_at shape.dims l ≡ rank → hop_at shape.dims l ≡ h
+      → hears ≡ counted (in_of x l).hears
 
 -- Each parcel seen on a link in may follow those before it.
 abbrev pub AreGood : ℕ → Shape → ℕ → InLog Contents → Type 0
-AreGood cap shape l i = (n : ℕ) (p : Contents) → get_elem? i.seen n ≡ some p → MayFollow shape.dims cap l (take n i.seen) p
+AreGood cap shape l i = (n : ℕ) (p : Contents) → get_elem? i.seen n ≡ some p
+    → MayFollow shape.dims cap l (take n i.seen) p
 
 -- What is kept of a link by its number: the word and the bit of its doorbell, and its hop less 1.
 -- bell = 2*links + r*k + h - 1 and mask = 2^c, for a link of hop h to rank r from a rank whose coordinate h is c
@@ -65,16 +70,18 @@ pub record IsWire (dims : List ℕ) (l bell mask hop : ℕ) : Type 0 where
   pub mask_is : mask ≡ 2 ^ coord dims (sender_at dims l) (hop_at dims l)
   pub hop_is : hop_at dims l ≡ hop + 1
 
--- What a rank does on link l, which it reads, leaves its links out as they are, and of its other links in what was seen and taken, and how
--- often they were looked in. A hear counts on the links of the same hop alone.
-pub record ElseKept (shape : Shape) (rank l : ℕ) (x x' : Logs Contents) : Type 0 where
+-- What a rank does on link l, which it reads, leaves its links out as they are, and of its other
+-- links in what was seen and taken, and how often they were looked in. A hear counts on the links
+-- of the same hop alone.
+pub record ElseKept (shape : Shape) (rank l : ℕ) (x x' : Lists Contents) : Type 0 where
   pub outs : x'.outs ≡ x.outs
   pub long : length x'.ins ≡ length x.ins
   pub seen : (m : ℕ) → m ≢ l → (in_of x' m).seen ≡ (in_of x m).seen
   pub taken : (m : ℕ) → m ≢ l → (in_of x' m).taken ≡ (in_of x m).taken
   pub look_ins : (m : ℕ) → m ≢ l → (in_of x' m).look_ins ≡ (in_of x m).look_ins
   pub hears : (m : ℕ) → m ≢ l → (in_of x m).hears ≤ (in_of x' m).hears
-  pub other_hops : (m : ℕ) → m < links shape.dims → reader_at shape.dims m ≡ rank → hop_at shape.dims m ≢ hop_at shape.dims l → in_of x' m ≡ in_of x m
+  pub other_hops : (m : ℕ) → m < links shape.dims → reader_at shape.dims m ≡ rank
+      → hop_at shape.dims m ≢ hop_at shape.dims l → in_of x' m ≡ in_of x m
 
 -- How many epochs a link has ended, after a collect: one more where it gave a parcel marked last.
 abbrev pub ended_after : Collected → Bool → ℕ → ℕ

@@ -12,25 +12,30 @@ use Rattle.link_slots.specs.Logs.{out_of, in_of, with_out, with_in, found_full, 
 use Rattle.link_slots.specs.Doorbell.{is_due, HeardWhere, LookedFor}
 use Rattle.link_slots.specs.Seen.{Manning, collected_from, known, noted_at}
 
--- A post of p on link l, from the seat s to s': it changes that link's lists alone. Where an empty slot is at hand the parcel is sent
--- without a look for room, and no post looks more than once. At Sent every parcel of the link is offered; at NoRoom
--- the port looked once and nobody was rung for.
+-- A post of p on link l, from the seat s to s': it changes that link's lists alone. Where an empty
+-- slot is at hand the parcel is sent without a look for room, and no post looks more than once. At
+-- Sent every parcel of the link is offered; at NoRoom the port looked once and nobody was rung for.
 pub record DidPost (s s' : Manning) (l : ℕ) (p : Contents) (r : Result Posted NoMemory) : Type 0 where
   pub here : s' ≡ record s { lists = with_out s.lists l (out_of s'.lists l) }
   pub sent : r ≡ Ok Sent → (out_of s'.lists l).sent ≡ (out_of s.lists l).sent ++ p ∷ []
   pub offered : r ≡ Ok Sent → (out_of s'.lists l).offered ≡ length (out_of s'.lists l).sent
-  pub at_hand : length (out_of s.lists l).sent < (out_of s.lists l).room → (r ≡ Ok Sent) × ((out_of s'.lists l).looks ≡ (out_of s.lists l).looks)
+  pub at_hand : length (out_of s.lists l).sent < (out_of s.lists l).room
+      → (r ≡ Ok Sent) × ((out_of s'.lists l).looks ≡ (out_of s.lists l).looks)
   pub looked : r ≡ Ok NoRoom → out_of s'.lists l ≡ found_full (out_of s.lists l)
   pub once : (out_of s'.lists l).looks ≤ suc (out_of s.lists l).looks
 
--- A collect on link l, from the seat s to s'. Where a parcel was at hand it is taken, with no step of looking. Else the doorbell of the
--- link's hop is heard where a hear is due and not else, and the link is looked in where it is then marked and not else.
+-- A collect on link l, from the seat s to s'. Where a parcel was at hand it is taken, with no step
+-- of looking. Else the doorbell of the link's hop is heard where a hear is due and not else, and
+-- the link is looked in where it is then marked and not else.
 pub record DidCollect (s s' : Manning) (l : ℕ) (r : Collected) : Type 0 where
   pub here : s' ≡ record s { lists = s'.lists; noted = s'.noted; ended = s'.ended }
   pub outs : s'.lists.outs ≡ s.lists.outs
   pub at_hand : length (collected_from s l) < known s l → r ≡ Got
   pub no_looking : length (collected_from s l) < known s l → s'.lists ≡ with_in s.lists l (taken_more (in_of s.lists l))
-  pub heard_beside : length (collected_from s l) ≡ known s l → (m : ℕ) → m < links s.shape.dims → reader_at s.shape.dims m ≡ s.rank → hop_at s.shape.dims m ≡ hop_at s.shape.dims l → m ≢ l
+  pub heard_beside : length (collected_from s l) ≡ known s l → (m : ℕ) → m < links s.shape.dims
+      → reader_at s.shape.dims m ≡ s.rank → hop_at s.shape.dims m ≡ hop_at s.shape.dims l → m ≢ l
       → HeardWhere (is_due (noted_at s l) (in_of s.lists l)) (in_of s.lists m) (in_of s'.lists m)
-  pub looked_for : length (collected_from s l) ≡ known s l → LookedFor (noted_at s l) (in_of s.lists l) (in_of s'.lists l)
-  pub other_hops : (m : ℕ) → m < links s.shape.dims → reader_at s.shape.dims m ≡ s.rank → hop_at s.shape.dims m ≢ hop_at s.shape.dims l → in_of s'.lists m ≡ in_of s.lists m
+  pub looked_for : length (collected_from s l) ≡ known s l
+      → LookedFor (noted_at s l) (in_of s.lists l) (in_of s'.lists l)
+  pub other_hops : (m : ℕ) → m < links s.shape.dims → reader_at s.shape.dims m ≡ s.rank
+      → hop_at s.shape.dims m ≢ hop_at s.shape.dims l → in_of s'.lists m ≡ in_of s.lists m

@@ -6,23 +6,33 @@ use Rattle.link_slots.specs.Plays.{heard_by}
 use Rattle.list_laws.specs.Counts.{counted}
 
 module _ {T : Type 0} where
-  -- A hear is due where the link isn't marked, and wasn't listened for since the end of its latest collect, when `noted` was taken down.
-  -- Example: a link that was never heard has 0 listens and 0 noted, and a hear is due; after that hear none is due for the other links of
-  -- the hop, which have 1 listen and 0 noted.
+  -- A hear is due where the link isn't marked, and wasn't listened for since the end of its latest
+  -- collect, when `noted` was taken down.
+  -- Example: a link that was never heard has 0 listens and 0 noted, and a hear is due; after that
+  -- hear none is due for the other links of the hop, which have 1 listen and 0 noted.
   abbrev pub is_due : ℕ → InLog T → Bool
   is_due noted i = not i.marked && leb (counted (listens i)) noted
 
-  -- What a link in becomes by the hear of its doorbell, if there was one: its bit was found or not, and where it was the link is marked.
+  -- What a link in becomes by the hear of its doorbell, if there was one: its bit was found or not,
+  -- and where it was the link is marked.
   abbrev pub HeardWhere : Bool → InLog T → InLog T → Type 0
   HeardWhere true i j = (j ≡ heard_by (j.heard - i.heard) i) × (j.heard ≤ suc i.heard)
   HeardWhere false i j = j ≡ i
 
   -- What a link in becomes by a look in, where it was marked: what is seen then is `seen`, and the mark is taken away.
   abbrev pub looked_where_marked : List T → InLog T → InLog T
-  looked_where_marked seen i = record { seen = seen; taken = i.taken; marked = false; hears = i.hears; heard = i.heard; look_ins = i.look_ins + one_where i.marked }
+  looked_where_marked seen i =
+      record {
+        seen = seen;
+        taken = i.taken;
+        marked = false;
+        hears = i.hears;
+        heard = i.heard;
+        look_ins = i.look_ins + one_where i.marked;
+      }
 
-  -- A link of which no parcel was known, after a collect: its doorbell was heard where a hear was due and not else, and the link was
-  -- looked in where it was then marked and not else.
+  -- A link of which no parcel was known, after a collect: its doorbell was heard where a hear was
+  -- due and not else, and the link was looked in where it was then marked and not else.
   pub record LookedFor (noted : ℕ) (i j : InLog T) : Type 0 where
     pub hears : j.hears ≡ i.hears + one_where (is_due noted i)
     pub heard : i.heard ≤ j.heard

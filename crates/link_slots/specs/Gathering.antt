@@ -1,5 +1,6 @@
 -- The gathering seat: who has its seat still to come, and what was gathered.
-use Rattle.std.specs.Prelude.{◌≡◌, ℕ, ◌<◌, Bool, true, false, List, [], map, length, replicate, slice_index_or, Option, Some, None}
+use Rattle.std.specs.Prelude.{◌≡◌, ℕ, ◌<◌, Bool, true, false, List, [], map, length, replicate, slice_index_or, Option}
+use Rattle.std.specs.Prelude.{Some, None}
 use Rattle.item_buffer.specs.Contents.{Contents, shipped}
 use Rattle.route_tensor.specs.Grid.{ranks}
 use Rattle.route_tensor.specs.Link.{links}
@@ -9,7 +10,7 @@ use Rattle.atomic_table.specs.Seated.{TableId}
 use Rattle.port_bank.specs.Logs.{lasts}
 use Rattle.link_slots.specs.declared.seat.rank_ends.RankEnds.{RankEnds}
 use Rattle.link_slots.specs.declared.seat.rank_ends.EndedCounts.{EndedCounts}
-use Rattle.link_slots.specs.Logs.{Logs, got_of}
+use Rattle.link_slots.specs.Logs.{Lists, got_of}
 use Rattle.link_slots.specs.View.{no_logs}
 use Rattle.link_slots.specs.Shape.{Shape, IsShape}
 use Rattle.link_slots.specs.Told.{Knowing}
@@ -22,7 +23,7 @@ use Rattle.link_slots.specs.Closed.{logs_at, ended_of}
 pub record Gathering : Type 0 where
   pub id : TableId
   pub shape : Shape
-  pub lists : List (Option (Logs Contents))
+  pub lists : List (Option (Lists Contents))
   pub given : List Bool
 
 abbrev pub is_gone : {A : Type 0} → Option A → Bool
@@ -41,15 +42,19 @@ abbrev pub HasNew : ℕ → Option RankEnds → Type 0
 HasNew count (Some e) = AreNew count e
 HasNew count None = ⊥
 
--- It holds no slot, has lists of each rank that are of its own links, has new counts and empty lists for each rank whose seat is to come; and for each rank how many epochs its links in
--- have ended, by the lists that it has.
-pub record IsGathering (shape : Shape) (m : Me Contents Knowing) (ends : List (Option RankEnds)) (ended : List (Option EndedCounts)) : Type 0 where
+-- It holds no slot, has lists of each rank that are of its own links, has new counts and empty
+-- lists for each rank whose seat is to come; and for each rank how many epochs its links in have
+-- ended, by the lists that it has.
+pub record IsGathering (shape : Shape) (m : Me Contents Knowing) (ends : List (Option RankEnds))
+    (ended : List (Option EndedCounts)) : Type 0 where
   pub shaped : IsShape shape
   pub of : m.0.shape ≡ shape
   pub no_slots : m.1 ≡ []
   pub lists_many : length m.0.lists ≡ ranks shape.dims
   pub ends_many : length ends ≡ ranks shape.dims
-  pub each_new : (r : ℕ) (e : RankEnds) → slice_index_or ends r None ≡ Some e → AreNew (links shape.dims) e × (slice_index_or m.0.lists r None ≡ Some (no_logs (links shape.dims)))
-  pub each_own : (r : ℕ) (x : Logs Contents) → slice_index_or m.0.lists r None ≡ Some x → IsOwn shape.dims r x
+  pub each_new : (r : ℕ) (e : RankEnds) → slice_index_or ends r None ≡ Some e
+      → AreNew (links shape.dims) e × (slice_index_or m.0.lists r None ≡ Some (no_logs (links shape.dims)))
+  pub each_own : (r : ℕ) (x : Lists Contents) → slice_index_or m.0.lists r None ≡ Some x → IsOwn shape.dims r x
   pub ended_many : length ended ≡ ranks shape.dims
-  pub each_ended : (r l : ℕ) → l < links shape.dims → reader_at shape.dims l ≡ r → ended_of (slice_index_or ended r None) l ≡ counted (lasts (map shipped (got_of (logs_at m.0.lists r) l)))
+  pub each_ended : (r l : ℕ) → l < links shape.dims → reader_at shape.dims l ≡ r
+      → ended_of (slice_index_or ended r None) l ≡ counted (lasts (map shipped (got_of (logs_at m.0.lists r) l)))

@@ -1,5 +1,6 @@
 -- One link of a lawful bank: its two words, its slots, its doorbell bit, and what its sender and its reader know.
-use Rattle.std.specs.Prelude.{◌≡◌, ◌⊎◌, ℕ, ◌+◌, ◌^◌, ◌%◌, ◌<◌, ◌≤◌, Bool, true, false, List, take, length, slice_index_or}
+use Rattle.std.specs.Prelude.{◌≡◌, ◌⊎◌, ℕ, ◌+◌, ◌^◌, ◌%◌, ◌<◌, ◌≤◌, Bool, true, false, List, take, length}
+use Rattle.std.specs.Prelude.{slice_index_or}
 use Rattle.std.specs.Int.{bit_at}
 use mathlib.Core.Option.{Option, none, some}
 use lib.ListN.{get_elem?}
@@ -11,11 +12,13 @@ one_where true = 1
 one_where false = 0
 
 module _ {T : Type 0} (Blank : T → Type 0) (Good : ℕ → List T → T → Type 0) (w : Wiring) where
-  -- Parts (i) and (iv) for a link l: G parcels were collected, `known` are seen, S are posted, and the sender may post below `room`:
-  -- G <= known <= S <= room <= G + K. Of the K numbers from G on, those that the reader saw and those that the sender may use are away
-  -- from home; those posted and not yet seen are at home with their parcel, and the others at home with an empty one.
-  -- Good l before p says that p may follow `before` on l: it is fresh, of the bank's capacity, its entries have fair tags, and its epoch
-  -- is the number of last parcels before it.
+  -- Parts (i) and (iv) for a link l: G parcels were collected, `known` are seen, S are posted, and
+  -- the sender may post below `room`:
+  -- G <= known <= S <= room <= G + K. Of the K numbers from G on, those that the reader saw and
+  -- those that the sender may use are away from home; those posted and not yet seen are at home
+  -- with their parcel, and the others at home with an empty one.
+  -- Good l before p says that p may follow `before` on l: it is fresh, of the bank's capacity, its
+  -- entries have fair tags, and its epoch is the number of last parcels before it.
   pub record LinkOk (l : ℕ) (o : OutLog T) (i : InLog T) (words : List ℕ) (homes : List (Option T)) : Type 0 where
     pub posted : slice_index_or words (posted_word l) 0 ≡ length o.sent % 2 ^ 64
     pub released : slice_index_or words (released_word l) 0 ≡ i.taken % 2 ^ 64
@@ -25,15 +28,19 @@ module _ {T : Type 0} (Blank : T → Type 0) (Good : ℕ → List T → T → Ty
     pub room_slots : o.room ≤ i.taken + w.slots
     pub seen_is : i.seen ≡ take (length i.seen) o.sent
     pub seen_away : (n : ℕ) → i.taken ≤ n → n < length i.seen → get_elem? homes (slot_of w l n) ≡ some none
-    pub full : (n : ℕ) (p : T) → length i.seen ≤ n → get_elem? o.sent n ≡ some p → get_elem? homes (slot_of w l n) ≡ some (some p)
+    pub full : (n : ℕ) (p : T) → length i.seen ≤ n → get_elem? o.sent n ≡ some p
+        → get_elem? homes (slot_of w l n) ≡ some (some p)
     pub room_away : (n : ℕ) → length o.sent ≤ n → n < o.room → get_elem? homes (slot_of w l n) ≡ some none
-    pub empty : (n : ℕ) → o.room ≤ n → n < i.taken + w.slots → (b : T) × Blank b × (get_elem? homes (slot_of w l n) ≡ some (some b))
+    pub empty : (n : ℕ) → o.room ≤ n → n < i.taken + w.slots
+        → (b : T) × Blank b × (get_elem? homes (slot_of w l n) ≡ some (some b))
     pub good : (n : ℕ) (p : T) → get_elem? o.sent n ≡ some p → Good l (take n o.sent) p
 
 module _ {T : Type 0} (w : Wiring) where
-  -- Part (vi) for a link l: no parcel is offered that was not posted; where the doorbell's bit is not set and the link is not marked,
-  -- all offered parcels are seen; and each look in answers one bit that was heard.
+  -- Part (vi) for a link l: no parcel is offered that was not posted; where the doorbell's bit is
+  -- not set and the link is not marked, all offered parcels are seen; and each look in answers one
+  -- bit that was heard.
   pub record BellOk (l : ℕ) (o : OutLog T) (i : InLog T) (words : List ℕ) : Type 0 where
     pub offered_sent : o.offered ≤ length o.sent
-    pub told : (bit_at (slice_index_or words (bell_word w l) 0) (w.bit l) ≡ 1) ⊎ (i.marked ≡ true) ⊎ (o.offered ≤ length i.seen)
+    pub told : (bit_at (slice_index_or words (bell_word w l) 0) (w.bit l) ≡ 1) ⊎ (i.marked ≡ true)
+        ⊎ (o.offered ≤ length i.seen)
     pub looked : i.look_ins + one_where i.marked ≤ i.heard

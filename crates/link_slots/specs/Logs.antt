@@ -1,8 +1,9 @@
--- What a rank knows of its links. The lists of a rank go by the number of the link; the places of links that are not its own are unused.
+-- What a rank knows of its links. The lists of a rank go by the number of the link; the places of
+-- links that are not its own are unused.
 use Rattle.std.specs.Prelude.{ℕ, suc, ◌+◌, ◌∷◌, ◌++◌, Bool, false, List, [], take, length, slice_index_or, slice_set}
 
--- The sender's side of a link: the parcels that it posted, in order; the numbers below which it may post; how many parcels had been
--- posted when it last rang; how often it looked for room.
+-- The sender's side of a link: the parcels that it posted, in order; the numbers below which it may
+-- post; how many parcels had been posted when it last rang; how often it looked for room.
 -- Example: with 2 slots, after two posts and a third that found no room, `sent` has two parcels, and `room` is 2.
 pub record OutLog (T : Type 0) : Type 0 where
   pub sent : List T
@@ -10,8 +11,9 @@ pub record OutLog (T : Type 0) : Type 0 where
   pub offered : ℕ
   pub looks : ℕ
 
--- The reader's side of a link: the parcels that it saw posted, in order, and how many of them it has taken; whether the link is marked
--- as rung; how often the reader heard the link's doorbell, how often it then found the link's bit, and how often it looked in.
+-- The reader's side of a link: the parcels that it saw posted, in order, and how many of them it
+-- has taken; whether the link is marked as rung; how often the reader heard the link's doorbell,
+-- how often it then found the link's bit, and how often it looked in.
 pub record InLog (T : Type 0) : Type 0 where
   pub seen : List T
   pub taken : ℕ
@@ -38,13 +40,21 @@ module _ {T : Type 0} where
   all_offered o = record { sent = o.sent; room = o.room; offered = length o.sent; looks = o.looks }
 
   abbrev pub taken_more : InLog T → InLog T
-  taken_more i = record { seen = i.seen; taken = suc i.taken; marked = i.marked; hears = i.hears; heard = i.heard; look_ins = i.look_ins }
+  taken_more i =
+      record {
+        seen = i.seen;
+        taken = suc i.taken;
+        marked = i.marked;
+        hears = i.hears;
+        heard = i.heard;
+        look_ins = i.look_ins;
+      }
 
   -- A look for room found every slot taken: the sender may post no more, and nothing else is changed.
   abbrev pub found_full : OutLog T → OutLog T
   found_full o = record { sent = o.sent; room = length o.sent; offered = o.offered; looks = suc o.looks }
 
-pub record Logs (T : Type 0) : Type 0 where
+pub record Lists (T : Type 0) : Type 0 where
   pub outs : List (OutLog T)
   pub ins : List (InLog T)
 
@@ -55,21 +65,21 @@ module _ {T : Type 0} where
   abbrev pub no_in : InLog T
   no_in = record { seen = []; taken = 0; marked = false; hears = 0; heard = 0; look_ins = 0 }
 
-  abbrev pub out_of : Logs T → ℕ → OutLog T
+  abbrev pub out_of : Lists T → ℕ → OutLog T
   out_of x l = slice_index_or x.outs l no_out
 
-  abbrev pub in_of : Logs T → ℕ → InLog T
+  abbrev pub in_of : Lists T → ℕ → InLog T
   in_of x l = slice_index_or x.ins l no_in
 
-  abbrev pub with_out : Logs T → ℕ → OutLog T → Logs T
+  abbrev pub with_out : Lists T → ℕ → OutLog T → Lists T
   with_out x l o = record { outs = slice_set x.outs l o; ins = x.ins }
 
-  abbrev pub with_in : Logs T → ℕ → InLog T → Logs T
+  abbrev pub with_in : Lists T → ℕ → InLog T → Lists T
   with_in x l i = record { outs = x.outs; ins = slice_set x.ins l i }
 
   -- what the rank posted on each link, and what it collected of each
-  abbrev pub sent_of : Logs T → ℕ → List T
+  abbrev pub sent_of : Lists T → ℕ → List T
   sent_of x l = (out_of x l).sent
 
-  abbrev pub got_of : Logs T → ℕ → List T
+  abbrev pub got_of : Lists T → ℕ → List T
   got_of x l = got (in_of x l)

@@ -10,7 +10,8 @@ use Rattle.link_slots.specs.Wiring.{bell_word}
 use Rattle.link_slots.specs.Shape.{Shape, wiring}
 use Rattle.link_slots.specs.Told.{Knowing, IsLawful}
 
--- What the reader of link l knows when a collect answers Nothing: the link isn't marked, and all that was seen is taken.
+-- What the reader of link l knows when a collect answers Nothing: the link isn't marked, and all
+-- that was seen is taken.
 pub record IsSettledFor (i : InLog Contents) : Type 0 where
   pub unmarked : i.marked ≡ false
   pub taken : length i.seen ≡ i.taken
@@ -19,9 +20,12 @@ pub record IsSettledFor (i : InLog Contents) : Type 0 where
 abbrev pub IsUnset : Shape → ℕ → State Contents Knowing → Type 0
 IsUnset shape l s = bit_at (slice_index_or s.words (bell_word (wiring shape) l) 0) ((wiring shape).bit l) ≡ 0
 
--- In a lawful bank whose doorbell has no bit for a link, a reader that knows no more of the link has taken every parcel that its sender offered.
--- Example: rank 0 posted two parcels to rank 1 and rang for both; rank 1 heard, looked in, took both, and answers Nothing: none is left.
+-- In a lawful bank whose doorbell has no bit for a link, a reader that knows no more of the link
+-- has taken every parcel that its sender offered.
+-- Example: rank 0 posted two parcels to rank 1 and rang for both; rank 1 heard, looked in, took
+-- both, and answers Nothing: none is left.
 abbrev pub BellLaw : ℕ → Type 0
-BellLaw cap = (shape : Shape) (s : State Contents Knowing) (l : ℕ) → (bank : IsLawful cap shape s) → l < links shape.dims
+BellLaw cap = (shape : Shape) (s : State Contents Knowing) (l : ℕ) → (bank : IsLawful cap shape s)
+    → l < links shape.dims
     → IsUnset shape l s → IsSettledFor (in_of (bank.logs (reader_at shape.dims l)) l)
     → (out_of (bank.logs (sender_at shape.dims l)) l).offered ≤ (in_of (bank.logs (reader_at shape.dims l)) l).taken

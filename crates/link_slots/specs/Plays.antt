@@ -1,11 +1,12 @@
 -- What each step tells the seat that makes it. After each of them the seat holds the slots of its own numbers.
-use Rattle.std.specs.Prelude.{◌≡◌, ℕ, zero, suc, if◌then◌else◌, ◌+◌, ◌-◌, ◌^◌, ◌%◌, ◌≤◌, Bool, true, false, eqb, List, [], ◌∷◌, ◌++◌, length, take}
+use Rattle.std.specs.Prelude.{◌≡◌, ℕ, zero, suc, if◌then◌else◌, ◌+◌, ◌-◌, ◌^◌, ◌%◌, ◌≤◌, Bool, true, false, eqb, List}
+use Rattle.std.specs.Prelude.{[], ◌∷◌, ◌++◌, length, take, if◌then◌else◌}
 use Rattle.std.specs.Int.{bit_at}
 use mathlib.Core.Option.{some}
 use lib.ListN.{get_elem?}
 use Rattle.atomic_table.specs.Table.{Me, rest}
 use Rattle.port_bank.specs.Flow.{Begins}
-use Rattle.link_slots.specs.Logs.{InLog, Logs, out_of, in_of, with_out, with_in}
+use Rattle.link_slots.specs.Logs.{InLog, Lists, out_of, in_of, with_out, with_in}
 use Rattle.link_slots.specs.View.{View, own_logs, with_logs}
 use Rattle.link_slots.specs.Wiring.{Wiring, slot_of}
 use Rattle.link_slots.specs.Hands.{Holds}
@@ -27,7 +28,15 @@ map_from f n (a ∷ l) = f n a ∷ map_from f (suc n) l
 
 module _ {T : Type 0} where
   abbrev pub heard_by : ℕ → InLog T → InLog T
-  heard_by b i = record { seen = i.seen; taken = i.taken; marked = marked_by b i.marked; hears = suc i.hears; heard = i.heard + b; look_ins = i.look_ins }
+  heard_by b i =
+      record {
+        seen = i.seen;
+        taken = i.taken;
+        marked = marked_by b i.marked;
+        hears = suc i.hears;
+        heard = i.heard + b;
+        look_ins = i.look_ins;
+      }
 
   -- the value of the slot in front, as a list
   abbrev pub in_front : List (ℕ × T) → List T
@@ -38,10 +47,11 @@ module _ {T : Type 0} where
   abbrev pub heard_ins : Wiring → ℕ → ℕ → List (InLog T) → List (InLog T)
   heard_ins w b n ins = map_from (λ l i. if eqb (w.bell l) b then heard_by (bit_at n (w.bit l)) i else i) 0 ins
 
-  abbrev pub after_hear : Wiring → ℕ → ℕ → Logs T → Logs T
+  abbrev pub after_hear : Wiring → ℕ → ℕ → Lists T → Lists T
   after_hear w b n x = record { outs = x.outs; ins = heard_ins w b n x.ins }
 
--- What a look before a step tells: where the step would leave the word as it is, the look is that step; else nothing is changed by it.
+-- What a look before a step tells: where the step would leave the word as it is, the look is that
+-- step; else nothing is changed by it.
 -- Example: a look before a ring, where the link's bit is set already, is the ring.
 abbrev pub LookedFirst : {M : Type 0} → Bool → (M → Type 0) → M → M → Type 0
 LookedFirst true Done m m' = Done m'
@@ -53,14 +63,26 @@ module _ {D T : Type 0} (Blank : T → Type 0) (Good : ℕ → List T → T → 
   found_room l m n m' =
       let x = own_logs m.0 in let o = out_of x l in
       (beyond (length o.sent) n ≤ w.slots) × (beyond (length o.sent) n ≤ length o.sent)
-      × (m'.0 ≡ with_logs m.0 (with_out x l (record { sent = o.sent; room = length o.sent + (w.slots - beyond (length o.sent) n); offered = o.offered; looks = suc o.looks })))
+      × (m'.0 ≡ with_logs m.0
+      (with_out x l
+      (record {
+        sent = o.sent;
+        room = length o.sent + (w.slots - beyond (length o.sent) n);
+        offered = o.offered;
+        looks = suc o.looks;
+      })))
       × Holds Blank w m.0.pick (own_logs m'.0) m'.1
 
   -- Post: the parcel in front is appended, and its slot goes home.
   abbrev pub posted : ℕ → Me T (View D T) → Me T (View D T) → Type 0
   posted l m m' =
       let x = own_logs m.0 in let o = out_of x l in
-      (m' ≡ (with_logs m.0 (with_out x l (record { sent = o.sent ++ in_front m.1; room = o.room; offered = o.offered; looks = o.looks })), rest m.1))
+      (m' ≡ (
+        with_logs m.0
+            (with_out x l
+            (record { sent = o.sent ++ in_front m.1; room = o.room; offered = o.offered; looks = o.looks })),
+        rest m.1,
+      ))
       × Holds Blank w m.0.pick (own_logs m'.0) m'.1
 
   -- Look in: the reader sees the parcels that were posted, takes their slots, and takes the mark away.
@@ -70,34 +92,62 @@ module _ {D T : Type 0} (Blank : T → Type 0) (Good : ℕ → List T → T → 
       (beyond n (length i.seen % 2 ^ 64) ≤ w.slots)
       × (length i'.seen ≡ length i.seen + beyond n (length i.seen % 2 ^ 64)) × (take (length i.seen) i'.seen ≡ i.seen)
       × ((k : ℕ) (p : T) → get_elem? i'.seen k ≡ some p → Good l (take k i'.seen) p)
-      × (m'.0 ≡ with_logs m.0 (with_in x l (record { seen = i'.seen; taken = i.taken; marked = false; hears = i.hears; heard = i.heard; look_ins = suc i.look_ins })))
+      × (m'.0 ≡ with_logs m.0
+      (with_in x l
+      (record {
+        seen = i'.seen;
+        taken = i.taken;
+        marked = false;
+        hears = i.hears;
+        heard = i.heard;
+        look_ins = suc i.look_ins;
+      })))
       × Holds Blank w m.0.pick (own_logs m'.0) m'.1
 
   -- Release: one parcel more is taken, and its slot goes home.
   abbrev pub released : ℕ → Me T (View D T) → Me T (View D T) → Type 0
   released l m m' =
       let x = own_logs m.0 in let i = in_of x l in
-      (m' ≡ (with_logs m.0 (with_in x l (record { seen = i.seen; taken = suc i.taken; marked = i.marked; hears = i.hears; heard = i.heard; look_ins = i.look_ins })), rest m.1))
+      (m' ≡ (
+        with_logs m.0
+            (with_in x l
+            (record {
+              seen = i.seen;
+              taken = suc i.taken;
+              marked = i.marked;
+              hears = i.hears;
+              heard = i.heard;
+              look_ins = i.look_ins;
+            })),
+        rest m.1,
+      ))
       × Holds Blank w m.0.pick (own_logs m'.0) m'.1
 
-  -- The seat lays down what it holds and takes it up with the wanted slot last: a sender's next empty one, a reader's next full one. A
-  -- reader that sends on the link too sees that what it saw there is the front of what it posted.
+  -- The seat lays down what it holds and takes it up with the wanted slot last: a sender's next
+  -- empty one, a reader's next full one. A reader that sends on the link too sees that what it saw
+  -- there is the front of what it posted.
   abbrev pub spare_brought : ℕ → Me T (View D T) → Me T (View D T) → Type 0
   spare_brought l m m' =
       let x = own_logs m.0 in
-      (b : T) × (c : List (ℕ × T)) × Blank b × (m' ≡ (m.0, (slot_of w l (length (out_of x l).sent), b) ∷ c)) × Holds Blank w m.0.pick x m'.1
+      (b : T) × (c : List (ℕ × T)) × Blank b × (m' ≡ (m.0, (slot_of w l (length (out_of x l).sent), b) ∷ c))
+      × Holds Blank w m.0.pick x m'.1
 
   abbrev pub parcel_brought : ℕ → Me T (View D T) → Me T (View D T) → Type 0
   parcel_brought l m m' =
       let x = own_logs m.0 in let i = in_of x l in
-      (p : T) × (c : List (ℕ × T)) × (get_elem? i.seen i.taken ≡ some p) × (m' ≡ (m.0, (slot_of w l i.taken, p) ∷ c)) × Holds Blank w m.0.pick x m'.1
+      (p : T) × (c : List (ℕ × T)) × (get_elem? i.seen i.taken ≡ some p) × (m' ≡ (m.0, (slot_of w l i.taken, p) ∷ c))
+      × Holds Blank w m.0.pick x m'.1
       × (w.from l ≡ m.0.pick → Begins i.seen (out_of x l).sent)
 
   -- Ring: all parcels posted so far are offered.
   abbrev pub rung : ℕ → Me T (View D T) → Me T (View D T) → Type 0
   rung l m m' =
       let x = own_logs m.0 in let o = out_of x l in
-      (m' ≡ (with_logs m.0 (with_out x l (record { sent = o.sent; room = o.room; offered = length o.sent; looks = o.looks })), m.1))
+      (m' ≡ (
+        with_logs m.0
+            (with_out x l (record { sent = o.sent; room = o.room; offered = length o.sent; looks = o.looks })),
+        m.1,
+      ))
       × Holds Blank w m.0.pick (own_logs m'.0) m'.1
 
   -- Hear: the reader learns which links of the doorbell b were rung, and marks them.

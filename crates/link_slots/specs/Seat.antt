@@ -21,7 +21,8 @@ use Rattle.list_laws.specs.Counts.{counted}
 use Rattle.link_slots.specs.Counts.{IsOutEnd, IsInEnd, IsHeard, AreGood, IsWire}
 
 -- The seat speaks for its rank, and its counts are those of the rank's links.
-pub record IsSeat (cap : ℕ) (shape : Shape) (m : Me Contents Knowing) (rank : ℕ) (outs : List OutEnd) (ins : List InEnd) (ears : List Ear) (ended : List ℕ) : Type 0 where
+pub record IsSeat (cap : ℕ) (shape : Shape) (m : Me Contents Knowing) (rank : ℕ) (outs : List OutEnd) (ins : List InEnd)
+    (ears : List Ear) (ended : List ℕ) : Type 0 where
   pub shaped : IsShape shape
   pub manned : IsManned shape m
   pub alone : IsAlone m.0
@@ -37,16 +38,22 @@ pub record IsSeat (cap : ℕ) (shape : Shape) (m : Me Contents Knowing) (rank : 
   pub each_out : (l : ℕ) (d : OutEnd) → l < links shape.dims → sender_at shape.dims l ≡ rank
       → let e = slice_index_or outs l d in IsOutEnd shape.slots (out_of (own_logs m.0) l) e.sent e.spare
   pub each_in : (l : ℕ) (d : InEnd) → l < links shape.dims → reader_at shape.dims l ≡ rank
-      → let e = slice_index_or ins l d in IsInEnd shape.slots (in_of (own_logs m.0) l) e.taken e.waiting e.look_ins e.noted
-  pub each_ear : (h : ℕ) (d : Ear) → h < 3 → let e = slice_index_or ears h d in IsHeard shape rank (h + 1) (own_logs m.0) e.marks e.hears
-  pub each_good : (l : ℕ) → l < links shape.dims → reader_at shape.dims l ≡ rank → AreGood cap shape l (in_of (own_logs m.0) l)
-  pub each_ended : (l d : ℕ) → l < links shape.dims → reader_at shape.dims l ≡ rank → slice_index_or ended l d ≡ counted (lasts (map shipped (got_of (own_logs m.0) l)))
+      → let e = slice_index_or ins l d in IsInEnd shape.slots
+      (in_of (own_logs m.0) l) e.taken e.waiting e.look_ins e.noted
+  pub each_ear : (h : ℕ) (d : Ear) → h < 3
+      → let e = slice_index_or ears h d in IsHeard shape rank (h + 1) (own_logs m.0) e.marks e.hears
+  pub each_good : (l : ℕ) → l < links shape.dims → reader_at shape.dims l ≡ rank
+      → AreGood cap shape l (in_of (own_logs m.0) l)
+  pub each_ended : (l d : ℕ) → l < links shape.dims → reader_at shape.dims l ≡ rank
+      → slice_index_or ended l d ≡ counted (lasts (map shipped (got_of (own_logs m.0) l)))
 
 -- What is kept of a bank beside its table: the way of each link, by its number.
-pub record IsWiredUp (cap : ℕ) (shape : Shape) (id : TableId) (slots : ℕ) (grid : List ℕ) (wires : List Wire) : Type 0 where
+pub record IsWiredUp (cap : ℕ) (shape : Shape) (id : TableId) (slots : ℕ) (grid : List ℕ)
+    (wires : List Wire) : Type 0 where
   pub is_cap : IsCap cap
   pub board : IsBoard shape id
   pub slots_is : slots ≡ shape.slots
   pub grid_is : grid ≡ shape.dims
   pub many : length wires ≡ links shape.dims
-  pub each : (l : ℕ) (d : Wire) → l < links shape.dims → let w = slice_index_or wires l d in IsWire shape.dims l w.bell w.mask w.hop
+  pub each : (l : ℕ) (d : Wire) → l < links shape.dims
+      → let w = slice_index_or wires l d in IsWire shape.dims l w.bell w.mask w.hop

@@ -3,17 +3,18 @@ use Rattle.std.specs.Prelude.{ℕ, ◌-◌, List, ◌∷◌, length, slice_index
 use Rattle.item_buffer.specs.Contents.{Contents}
 use Rattle.atomic_table.specs.Seated.{TableId}
 use Rattle.port_bank.specs.Logs.{Logs}
-use Rattle.link_slots.specs.Logs.{Logs as Lists, out_of, in_of, sent_of, got_of, listens}
+use Rattle.link_slots.specs.Logs.{Lists, out_of, in_of, sent_of, got_of, listens}
 use Rattle.link_slots.specs.Shape.{Shape, shipped_all}
 use Rattle.list_laws.specs.Counts.{counted}
 
 -- A bank: which one it is, its grid and its number of slots per link.
-pub record Bank : Type 0 where
+pub record Identity : Type 0 where
   pub id : TableId
   pub shape : Shape
 
--- A rank's seat: the bank that it belongs to, the rank, what the rank knows of its links, how often it had listened for each link in at the
--- end of its latest collect there, and how many epochs that link has ended.
+-- A rank's seat: the bank that it belongs to, the rank, what the rank knows of its links, how often
+-- it had listened for each link in at the end of its latest collect there, and how many epochs that
+-- link has ended.
 pub record Manning : Type 0 where
   pub id : TableId
   pub shape : Shape

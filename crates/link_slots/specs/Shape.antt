@@ -43,7 +43,8 @@ wiring s = record {
 abbrev pub IsBlank : Contents → Type 0
 IsBlank p = p ≡ blank p.epoch
 
--- Parcel p may follow these on link l: it is fresh and no fuller than its capacity, its entries have fair tags, and its epoch is the number
+-- Parcel p may follow these on link l: it is fresh and no fuller than its capacity, its entries
+-- have fair tags, and its epoch is the number
 -- of last parcels before it.
 pub record MayFollow (dims : List ℕ) (cap l : ℕ) (before : List Contents) (p : Contents) : Type 0 where
   pub fresh : p ≡ arrived (shipped p)

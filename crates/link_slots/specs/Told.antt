@@ -96,14 +96,17 @@ module _ (cap : ℕ) (st : Step Contents) (m : Me Contents Knowing) where
 
   -- A rank rings a doorbell for one link at most.
   abbrev pub ring_look_told : ℕ → Me Contents Knowing → Type 0
-  ring_look_told n m' = (l : ℕ) → l < (wiring m.0.shape).links → (wiring m.0.shape).from l ≡ m.0.pick → st.word ≡ bell_word (wiring m.0.shape) l
+  ring_look_told n m' = (l : ℕ) → l < (wiring m.0.shape).links → (wiring m.0.shape).from l ≡ m.0.pick
+      → st.word ≡ bell_word (wiring m.0.shape) l
       → LookedFirst (eqb (bit_at n ((wiring m.0.shape).bit l)) 1) (rung cap m.0.shape l m) m m'
 
   abbrev pub ring_told : ℕ → Me Contents Knowing → Type 0
-  ring_told n m' = (l : ℕ) → l < (wiring m.0.shape).links → st.word ≡ bell_word (wiring m.0.shape) l → st.first ≡ 2 ^ (wiring m.0.shape).bit l → rung cap m.0.shape l m m'
+  ring_told n m' = (l : ℕ) → l < (wiring m.0.shape).links → st.word ≡ bell_word (wiring m.0.shape) l
+      → st.first ≡ 2 ^ (wiring m.0.shape).bit l → rung cap m.0.shape l m m'
 
   abbrev pub hear_look_told : ℕ → Me Contents Knowing → Type 0
-  hear_look_told n m' = (b : ℕ) → st.word ≡ 16 * (2 * (wiring m.0.shape).links + b) → LookedFirst (eqb n 0) (heard cap m.0.shape b m n) m m'
+  hear_look_told n m' = (b : ℕ) → st.word ≡ 16 * (2 * (wiring m.0.shape).links + b)
+      → LookedFirst (eqb n 0) (heard cap m.0.shape b m n) m m'
 
   abbrev pub hear_told : ℕ → Me Contents Knowing → Type 0
   hear_told n m' = (b : ℕ) → st.word ≡ 16 * (2 * (wiring m.0.shape).links + b) → heard cap m.0.shape b m n m'

@@ -1,29 +1,30 @@
 -- What a seat knows.
 use Rattle.std.specs.Prelude.{◌≡◌, ◌≢◌, ℕ, List, [], map, replicate, slice_index_or, slice_set, Option, Some, None}
-use Rattle.link_slots.specs.Logs.{Logs, no_out, no_in}
+use Rattle.link_slots.specs.Logs.{Lists, no_out, no_in}
 
--- Which bank the seat is of, the lists of the ranks that it has, by rank, and the rank that it speaks for. A rank's own seat has that
--- rank's lists alone, the gathering seat those of the ranks that have no seat, and a spent view has none.
+-- Which bank the seat is of, the lists of the ranks that it has, by rank, and the rank that it
+-- speaks for. A rank's own seat has that rank's lists alone, the gathering seat those of the ranks
+-- that have no seat, and a spent view has none.
 pub record View (D T : Type 0) : Type 0 where
   pub shape : D
-  pub lists : List (Option (Logs T))
+  pub lists : List (Option (Lists T))
   pub pick : ℕ
 
 module _ {T : Type 0} where
   -- the lists of a rank that did nothing yet
-  abbrev pub no_logs : ℕ → Logs T
+  abbrev pub no_logs : ℕ → Lists T
   no_logs links = record { outs = replicate links no_out; ins = replicate links no_in }
 
-  abbrev pub logs_or : Option (Logs T) → Logs T
+  abbrev pub logs_or : Option (Lists T) → Lists T
   logs_or (Some x) = x
   logs_or None = no_logs 0
 
 module _ {D T : Type 0} where
   -- the lists of the rank that the seat speaks for
-  abbrev pub own_logs : View D T → Logs T
+  abbrev pub own_logs : View D T → Lists T
   own_logs v = logs_or (slice_index_or v.lists v.pick None)
 
-  abbrev pub with_logs : View D T → Logs T → View D T
+  abbrev pub with_logs : View D T → Lists T → View D T
   with_logs v x = record { shape = v.shape; lists = slice_set v.lists v.pick (Some x); pick = v.pick }
 
   -- The seat has the lists of the rank that it speaks for.
@@ -43,11 +44,17 @@ module _ {D T : Type 0} where
   without_pick v = record { shape = v.shape; lists = slice_set v.lists v.pick None; pick = v.pick }
 
   abbrev pub pick_alone : View D T → View D T
-  pick_alone v = record { shape = v.shape; lists = slice_set (map (λ _. None) v.lists) v.pick (slice_index_or v.lists v.pick None); pick = v.pick }
+  pick_alone v =
+      record {
+        shape = v.shape;
+        lists = slice_set (map (λ _. None) v.lists) v.pick (slice_index_or v.lists v.pick None);
+        pick = v.pick;
+      }
 
   -- .. and come back to the gathering seat; the other view is spent.
   abbrev pub gathered : View D T → View D T → View D T
-  gathered v u = record { shape = u.shape; lists = slice_set v.lists u.pick (slice_index_or u.lists u.pick None); pick = v.pick }
+  gathered v u =
+      record { shape = u.shape; lists = slice_set v.lists u.pick (slice_index_or u.lists u.pick None); pick = v.pick }
 
   abbrev pub spent : D → View D T
   spent shape = record { shape = shape; lists = []; pick = 0 }

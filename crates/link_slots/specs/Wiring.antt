@@ -1,4 +1,5 @@
--- Who sends and who reads on each link of a bank of some ranks, through how many slots, and which bit of which doorbell is rung for it.
+-- Who sends and who reads on each link of a bank of some ranks, through how many slots, and which
+-- bit of which doorbell is rung for it.
 use Rattle.std.specs.Prelude.{◌≡◌, ℕ, ◌+◌, ◌*◌, ◌%◌, ◌<◌, ◌≤◌}
 
 pub record Wiring : Type 0 where
@@ -12,7 +13,8 @@ pub record Wiring : Type 0 where
   pub bit : ℕ → ℕ
   pub width : ℕ → ℕ
 
--- The bank's words stand 16 apart in the table, word number n at 16 * n, so that no two of them share a cache line, nor a pair of lines.
+-- The bank's words stand 16 apart in the table, word number n at 16 * n, so that no two of them
+-- share a cache line, nor a pair of lines.
 abbrev pub word_at : ℕ → ℕ
 word_at n = 16 * n
 

@@ -19,8 +19,8 @@ pub record WritesLink (shape : Shape) (table place : TableId) (m : Me Contents K
   pub long : l < length (own_logs m.0).outs
   pub end : IsOutEnd shape.slots (out_of (own_logs m.0) l) counts.sent counts.spare
 
--- What a rank's step on that link leaves, from m to m': its counts tell again what its lists do, and what it did on the link
--- is all that changed of the seat.
+-- What a rank's step on that link leaves, from m to m': its counts tell again what its lists do,
+-- and what it did on the link is all that changed of the seat.
 pub record HasWritten (shape : Shape) (place place' : TableId) (m m' : Me Contents Knowing) (l : ℕ)
     (counts : OutEnd) : Type 0 where
   pub stays : StaysSeated shape place place' m'

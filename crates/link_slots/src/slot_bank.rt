@@ -42,10 +42,10 @@ pub struct SlotBank<const CAP: usize> {
 }
 
 impl<const CAP: usize> Model for SlotBank<CAP> {
-    ghost use Rattle.link_slots.specs.Seen.{Bank};
+    ghost use Rattle.link_slots.specs.Seen.{Identity};
     ghost use Rattle.link_slots.specs.Seat.{IsWiredUp};
 
-    ghost Value = { Bank };
+    ghost Value = { Identity };
 
     ghost view = { λ b. record { id = b.board.shared.table_id; shape = b.board.shared.key } };
 

@@ -1,5 +1,5 @@
 -- What holds at each place of a list; fronts of lists; functions that differ at one number.
-use Rattle.std.specs.Prelude.{◌≡◌, ℕ, ◌<◌, ◌==◌, cond, List, ◌++◌, length, slice_index_or, slice_set}
+use Rattle.std.specs.Prelude.{◌≡◌, ℕ, ◌<◌, ◌==◌, List, ◌++◌, length, slice_index_or, slice_set, if◌then◌else◌}
 
 -- A fact of each place, counted from 0, and of the element that stands there.
 -- EachAt P xs is P 0 x0, P 1 x1, .. for the list x0, x1, ..
@@ -29,4 +29,4 @@ pub record Ends {T : Type 0} (whole back : List T) : Type 0 where
 -- A function of a number with another value at l.
 -- changed f l x is x at l, and f elsewhere.
 abbrev pub changed : {X : Type 0} → (ℕ → X) → ℕ → X → ℕ → X
-changed f l x = λ m. cond (m == l) x (f m)
+changed f l x = λ m. if m == l then x else f m

@@ -1,5 +1,7 @@
 -- Ordered maps from places to values, as lists of triples in order.
-use Rattle.std.specs.Prelude.{◌≡◌, ℕ, ◌==◌, ◌&&◌, ◌||◌, Bool, true, List, [], ◌∷◌, Option, Some, None, nat_lt, if◌then◌else◌}
+use Rattle.std.specs.Prelude.{◌≡◌, ℕ, ◌==◌, ◌&&◌, ◌||◌, Bool, true, List, [], ◌∷◌, Option, Some, None, nat_lt}
+use Rattle.std.specs.Prelude.{if◌then◌else◌}
+use Rattle.std.specs.Prelude.{if◌then◌else◌}
 use Rattle.std.specs.Int.{int_max}
 use Rattle.std.specs.List.{AllPairs, fold, flat_map}
 use Rattle.bale_types.specs.declared.triple.Triple.{Triple}
@@ -17,7 +19,8 @@ is_before s t = comes_before s.i s.j t.i t.j
 abbrev pub InOrder : List Triple → Type 0
 InOrder cells = AllPairs (λ s t. is_before s t ≡ true) cells
 
--- Cells in order, after a value was raised to t's: its place has the greater of the two values, or t's where it had none.
+-- Cells in order, after a value was raised to t's: its place has the greater of the two values, or
+-- t's where it had none.
 -- raised (i,j,v) cells = cells with max v w at (i,j), where w was there, and else with v
 -- (0,1,5), (2,0,3) raised to (2,0,4) has 4 at row 2, raised to (2,0,2) stays, and raised to (1,1,1) has three cells.
 abbrev pub raised : Triple → List Triple → List Triple

@@ -21,7 +21,8 @@ positions n m = take m (flat_map (diagonal n) (range_with_len 0 n))
 abbrev pub hidden : List ℕ → List ℕ → ℕ → List (ℕ × ℕ) → List Triple
 hidden p q state [] = []
 hidden p q state (x ∷ rest) =
-    record { i = slice_index p x.0; j = slice_index q x.1; v = pos (1 + word state % 1000) } ∷ hidden p q (step state) rest
+    record { i = slice_index p x.0; j = slice_index q x.1; v = pos (1 + word state % 1000) }
+    ∷ hidden p q (step state) rest
 
 -- The matrix of n rows and columns and m entries: rows' permutation, columns' permutation, values.
 -- 2, 3 and seed 42 stand for 825 at (0,0), 956 at (1,1) and 956 at (0,1).

@@ -1,7 +1,9 @@
 -- What is printed of a bad line.
 use Rattle.std.specs.Prelude.{ℕ, List, codes}
 use Rattle.mtx_text.specs.declared.refusal.Reason.{Reason}
-use Rattle.mtx_text.specs.declared.refusal.Reason.TheVariants.{Banner, Unsupported, SizeLine, TooLarge, EntryLine, OutOfRange, Value, Duplicate, TooFew, TooMany, TooLong, NotSquare, Diagonal}
+use Rattle.mtx_text.specs.declared.refusal.Reason.TheVariants.{Banner, Unsupported, SizeLine, TooLarge, EntryLine}
+use Rattle.mtx_text.specs.declared.refusal.Reason.TheVariants.{OutOfRange, Value, Duplicate, TooFew, TooMany, TooLong}
+use Rattle.mtx_text.specs.declared.refusal.Reason.TheVariants.{NotSquare, Diagonal}
 
 -- A reason in words.
 unfoldable pub reason_text : Reason → List ℕ

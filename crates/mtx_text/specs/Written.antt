@@ -19,7 +19,8 @@ size_text m = decimal m.rows ++ 32 ∷ [] ++ decimal m.cols ++ 32 ∷ [] ++ deci
 -- An entry's line, whose row and column count from 1.
 -- (0,2,-7) is "1 3 -7" in an integer matrix, and (0,2,1) is "1 3" in a pattern matrix.
 abbrev pub entry_text : Kind → Triple → List ℕ
-entry_text kind.Integer t = decimal (t.i + 1) ++ 32 ∷ [] ++ decimal (t.j + 1) ++ 32 ∷ [] ++ signed_decimal t.v ++ 10 ∷ []
+entry_text kind.Integer t =
+    decimal (t.i + 1) ++ 32 ∷ [] ++ decimal (t.j + 1) ++ 32 ∷ [] ++ signed_decimal t.v ++ 10 ∷ []
 entry_text kind.Pattern t = decimal (t.i + 1) ++ 32 ∷ [] ++ decimal (t.j + 1) ++ 10 ∷ []
 
 -- The whole text: the banner, the sizes, and a line for each entry in the order of the list.

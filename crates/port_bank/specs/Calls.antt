@@ -12,7 +12,8 @@ posts_of (Collect' marker before link) = posts_of before
 abbrev pub collects_of : Calls → ℕ → ℕ
 collects_of None = λ l. 0
 collects_of (Post' marker before link) = collects_of before
-collects_of (Collect' marker before link) = changed (collects_of before) link.value (suc (collects_of before link.value))
+collects_of (Collect' marker before link) =
+    changed (collects_of before) link.value (suc (collects_of before link.value))
 
 -- How often a port was asked, where it was asked once more or wasn't.
 abbrev pub once_more_if : Bool → ℕ → ℕ

@@ -1,5 +1,7 @@
 -- Link logs: all parcels that were ever posted on a link, or all that its reader collected, in order.
-use Rattle.std.specs.Prelude.{◌≡◌, ℕ, zero, suc, ◌+◌, ◌==◌, Bool, true, cond, List, [], ◌∷◌, ◌++◌, length, take}
+use Rattle.std.specs.Prelude.{◌≡◌, ℕ, zero, suc, ◌+◌, ◌==◌, Bool, true, List, [], ◌∷◌, ◌++◌, length, take}
+use Rattle.std.specs.Prelude.{if◌then◌else◌}
+use Rattle.std.specs.Prelude.{if◌then◌else◌}
 use Rattle.std.specs.List.{filter}
 use Rattle.list_laws.specs.Lists.{EachAt}
 use Rattle.item_buffer.specs.Contents.{Shipped}
@@ -23,15 +25,15 @@ pub record EndsLast (log : List Shipped) : Type 0 where
 
 -- How many parcels of a link are marked last, in an epoch: one more where the link has ended it.
 abbrev pub lasts_in : ℕ → Bool → ℕ
-lasts_in epoch through = cond through (epoch + 1) epoch
+lasts_in epoch through = if through then epoch + 1 else epoch
 
 -- Segment e of a log: the parcels after the e-th parcel marked last, up to and including the next one
 -- marked last, or up to the log's end. It is closed where e < lasts log.
 -- With the marks no, yes, yes, no segment 0 is the first two parcels, segment 1 the third and segment 2 the fourth.
 abbrev pub segment : ℕ → List Shipped → List Shipped
 segment e [] = []
-segment zero (p ∷ ps) = p ∷ cond p.last [] (segment zero ps)
-segment (suc e) (p ∷ ps) = cond p.last (segment e ps) (segment (suc e) ps)
+segment zero (p ∷ ps) = p ∷ (if p.last then [] else segment zero ps)
+segment (suc e) (p ∷ ps) = if p.last then segment e ps else segment (suc e) ps
 
 -- The epoch of every parcel is the number of parcels marked last before it.
 -- With the marks no, yes, no the epochs are 0, 0, 1.
@@ -40,18 +42,18 @@ IsDated log = EachAt (λ i p. p.epoch ≡ lasts (take i log)) log
 
 -- The logs with one more parcel on link l.
 abbrev pub added : Logs → ℕ → Shipped → Logs
-added logs l p = λ m. cond (m == l) (logs m ++ p ∷ []) (logs m)
+added logs l p = λ m. if m == l then logs m ++ p ∷ [] else logs m
 
 -- Of all logs, those of the links that start at rank r, or that end there; the others are empty.
 abbrev pub starting_at : List ℕ → ℕ → Logs → Logs
-starting_at dims r logs = λ l. cond (sender_at dims l == r) (logs l) []
+starting_at dims r logs = λ l. if sender_at dims l == r then logs l else []
 
 abbrev pub ending_at : List ℕ → ℕ → Logs → Logs
-ending_at dims r logs = λ l. cond (reader_at dims l == r) (logs l) []
+ending_at dims r logs = λ l. if reader_at dims l == r then logs l else []
 
 -- Of all logs, those of the links that start elsewhere, or that end elsewhere.
 abbrev pub starting_elsewhere : List ℕ → ℕ → Logs → Logs
-starting_elsewhere dims r logs = λ l. cond (sender_at dims l == r) [] (logs l)
+starting_elsewhere dims r logs = λ l. if sender_at dims l == r then [] else logs l
 
 abbrev pub ending_elsewhere : List ℕ → ℕ → Logs → Logs
-ending_elsewhere dims r logs = λ l. cond (reader_at dims l == r) [] (logs l)
+ending_elsewhere dims r logs = λ l. if reader_at dims l == r then [] else logs l

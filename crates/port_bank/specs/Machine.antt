@@ -1,6 +1,8 @@
 -- The exchange machine: what conveyors do, seen as two lists for each epoch and ordered pair of ranks. It knows no
 -- parcels, no hops and no tags.
-use Rattle.std.specs.Prelude.{◌≡◌, ◌≢◌, ℕ, ◌+◌, ◌-◌, ◌<◌, ◌≤◌, ◌==◌, ◌&&◌, nat_lt, ◌⊎◌, ⊤, Bool, true, false, cond, List, [], ◌∷◌, ◌++◌, length, take, slice_get, Option, Some, None, IsSome}
+use Rattle.std.specs.Prelude.{◌≡◌, ◌≢◌, ℕ, ◌+◌, ◌-◌, ◌<◌, ◌≤◌, ◌==◌, ◌&&◌, nat_lt, ◌⊎◌, ⊤, Bool, true, false, List, []}
+use Rattle.std.specs.Prelude.{if◌then◌else◌}
+use Rattle.std.specs.Prelude.{◌∷◌, ◌++◌, length, take, slice_get, Option, Some, None, IsSome, if◌then◌else◌}
 use Rattle.bale_types.specs.declared.item.Item.{Item}
 use Rattle.list_laws.specs.Lists.{Begins}
 
@@ -10,7 +12,7 @@ ItemLists = ℕ → ℕ → List Item
 
 -- Lists for so many ranks: those of other numbers are empty.
 abbrev pub for_ranks : ℕ → ItemLists → ItemLists
-for_ranks n lists = λ e r. cond (nat_lt r n) (lists e r) []
+for_ranks n lists = λ e r. if nat_lt r n then lists e r else []
 
 -- One rank's part of a state: its epoch; whether it is done, and whether it is complete, in that epoch; from which
 -- rank it pulled in its latest step, if that was a Pull; and what it pushed toward each rank and pulled of each.
@@ -23,8 +25,8 @@ pub record Part : Type 0 where
   pub pulled : ItemLists
 
 -- A state: the parts of all ranks.
-abbrev pub State : Type 0
-State = ℕ → Part
+abbrev pub Ranks : Type 0
+Ranks = ℕ → Part
 
 -- What a rank may do: push an item toward a rank, pull an item of a rank, take its latest Pull back, say that it
 -- is done, complete its epoch, begin the next one, or nothing.
@@ -39,11 +41,11 @@ pub data Step : Type 0 where
 
 -- The lists with one more item at an epoch and a rank.
 abbrev pub with_item : ItemLists → ℕ → ℕ → Item → ItemLists
-with_item lists e r x = λ f q. cond ((f == e) && (q == r)) (lists f q ++ x ∷ []) (lists f q)
+with_item lists e r x = λ f q. if (f == e) && (q == r) then lists f q ++ x ∷ [] else lists f q
 
 -- The lists without the last item at an epoch and a rank.
 abbrev pub without_last : ItemLists → ℕ → ℕ → ItemLists
-without_last lists e r = λ f q. cond ((f == e) && (q == r)) (take (length (lists f q) - 1) (lists f q)) (lists f q)
+without_last lists e r = λ f q. if (f == e) && (q == r) then take (length (lists f q) - 1) (lists f q) else lists f q
 
 -- What was pulled before the latest step, if that was a Pull.
 abbrev pub taken_back : ItemLists → ℕ → Option ℕ → ItemLists
@@ -92,14 +94,15 @@ abbrev pub IsThrough : ℕ → Part → Type 0
 IsThrough e part = ((part.epoch ≡ e) × (part.done ≡ true)) ⊎ (e < part.epoch)
 
 -- What rank r may complete: every rank is through with its epoch, and it pulled all that they pushed toward it.
-pub record MayComplete (ranks r : ℕ) (state : State) : Type 0 where
+pub record MayComplete (ranks r : ℕ) (state : Ranks) : Type 0 where
   pub through : (q : ℕ) → q < ranks → IsThrough (state r).epoch (state q)
   pub all : (q : ℕ) → q < ranks → (state r).pulled (state r).epoch q ≡ (state q).pushed (state r).epoch r
 
 -- What all ranks must be for a step: a Pull takes the item that its sender pushed at the next place.
-abbrev pub Allows : ℕ → ℕ → Step → State → Type 0
+abbrev pub Allows : ℕ → ℕ → Step → Ranks → Type 0
 Allows ranks r (Push d x) state = ⊤
-Allows ranks r (Pull s x) state = slice_get ((state s).pushed (state r).epoch r) (length ((state r).pulled (state r).epoch s)) ≡ Some x
+Allows ranks r (Pull s x) state =
+    slice_get ((state s).pushed (state r).epoch r) (length ((state r).pulled (state r).epoch s)) ≡ Some x
 Allows ranks r Unpull state = ⊤
 Allows ranks r Done state = ⊤
 Allows ranks r Complete state = MayComplete ranks r state
@@ -107,7 +110,7 @@ Allows ranks r Reset state = ⊤
 Allows ranks r Idle state = ⊤
 
 -- A step of the machine: one rank makes it, and the others stay.
-pub record IsStep (ranks r : ℕ) (step : Step) (old new : State) : Type 0 where
+pub record IsStep (ranks r : ℕ) (step : Step) (old new : Ranks) : Type 0 where
   pub allowed : Allows ranks r step old
   pub own : IsOwnStep step (old r) (new r)
   pub others : (q : ℕ) → q < ranks → q ≢ r → new q ≡ old q
@@ -115,16 +118,17 @@ pub record IsStep (ranks r : ℕ) (step : Step) (old new : State) : Type 0 where
 -- How many epochs a rank has completed, and in how many it was done.
 -- In epoch 2, done and not complete, they are 2 and 3.
 abbrev pub completed_of : Part → ℕ
-completed_of p = cond p.complete (p.epoch + 1) p.epoch
+completed_of p = if p.complete then p.epoch + 1 else p.epoch
 
 abbrev pub done_of : Part → ℕ
-done_of p = cond p.done (p.epoch + 1) p.epoch
+done_of p = if p.done then p.epoch + 1 else p.epoch
 
 -- What the ranks know of one another's epochs.
 -- begins: what a rank pulled of another is the front of what that one pushed toward it.
 -- all_done: in each epoch that some rank has completed, every rank was done.
 -- whole: in each epoch that a rank has completed itself, it pulled all that the others pushed toward it.
-pub record EpochsClose (ranks : ℕ) (state : State) : Type 0 where
+pub record EpochsClose (ranks : ℕ) (state : Ranks) : Type 0 where
   pub begins : (r s e : ℕ) → r < ranks → s < ranks → Begins ((state r).pulled e s) ((state s).pushed e r)
   pub all_done : (r s : ℕ) → r < ranks → s < ranks → completed_of (state r) ≤ done_of (state s)
-  pub whole : (r s e : ℕ) → r < ranks → s < ranks → e < completed_of (state r) → (state r).pulled e s ≡ (state s).pushed e r
+  pub whole : (r s e : ℕ) → r < ranks → s < ranks → e < completed_of (state r)
+      → (state r).pulled e s ≡ (state s).pushed e r

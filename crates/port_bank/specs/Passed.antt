@@ -13,4 +13,5 @@ entries_of (And' marker before entry) = entries_of before ++ entry.value ∷ []
 -- The parcels of a log, in the order in which they were added.
 abbrev pub parcels_of : Log → List Shipped
 parcels_of Nothing = []
-parcels_of (Then' marker before entries last epoch) = parcels_of before ++ record { entries = entries_of entries.value; last = last.value; epoch = epoch.value } ∷ []
+parcels_of (Then' marker before entries last epoch) =
+    parcels_of before ++ record { entries = entries_of entries.value; last = last.value; epoch = epoch.value } ∷ []

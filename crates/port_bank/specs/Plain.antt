@@ -1,5 +1,6 @@
 -- What contracts see of a plain bank.
-use Rattle.std.specs.Prelude.{◌≡◌, ℕ, ◌+◌, ◌<◌, ◌==◌, Bool, false, List, [], ◌∷◌, ◌++◌, map, replicate, length, slice_index_or, slice_set, Result, Ok, IsErr}
+use Rattle.std.specs.Prelude.{◌≡◌, ℕ, ◌+◌, ◌<◌, ◌==◌, Bool, false, List, [], ◌∷◌, ◌++◌, map, replicate, length}
+use Rattle.std.specs.Prelude.{slice_index_or, slice_set, Result, Ok, IsErr}
 use Rattle.bale_types.specs.declared.fault.NoMemory.{NoMemory}
 use Rattle.bale_types.specs.Stream.{next_count}
 use Rattle.item_buffer.specs.Capacity.{IsCap}
@@ -66,7 +67,8 @@ got_of b = λ l. (channel_at b l).got
 
 -- What the ranks other than r sent and got.
 abbrev pub others_of : ℕ → Bank → Rest
-others_of r b = record { bank = []; sent = starting_elsewhere b.dims r (sent_of b); got = ending_elsewhere b.dims r (got_of b) }
+others_of r b =
+    record { bank = []; sent = starting_elsewhere b.dims r (sent_of b); got = ending_elsewhere b.dims r (got_of b) }
 
 -- Whether no slot is free on rank r's link l out: as many parcels as it has slots are sent and not collected.
 abbrev pub crowded_of : ℕ → Bank → ℕ → Bool
@@ -116,4 +118,5 @@ pub record IsBank (cap : ℕ) (b : Bank) : Type 0 where
 -- Example: sent [p, q, r] and got [p] leave [q, r] on their way.
 pub record HaveRings (channels : List Channel) (rings : List (List Shipped)) : Type 0 where
   pub number : length rings ≡ length channels
-  pub each : (l : ℕ) → l < length channels → (slice_index_or channels l unused).sent ≡ (slice_index_or channels l unused).got ++ slice_index_or rings l []
+  pub each : (l : ℕ) → l < length channels
+      → (slice_index_or channels l unused).sent ≡ (slice_index_or channels l unused).got ++ slice_index_or rings l []

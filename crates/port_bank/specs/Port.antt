@@ -22,7 +22,8 @@ pub record Rest : Type 0 where
   pub got : Logs
 
 -- What no call on a port changes: its rank, its grid, its number of slots, and what belongs to others.
-pub record PortStays {P : Type 0} (rank_of : P → ℕ) (dims_of : P → List ℕ) (slots_of : P → ℕ) (rest_of : P → Rest) (old new : P) : Type 0 where
+pub record PortStays {P : Type 0} (rank_of : P → ℕ) (dims_of : P → List ℕ) (slots_of : P → ℕ) (rest_of : P → Rest)
+    (old new : P) : Type 0 where
   pub rank : rank_of new ≡ rank_of old
   pub dims : dims_of new ≡ dims_of old
   pub slots : slots_of new ≡ slots_of old
@@ -35,7 +36,8 @@ pub record OutsStay {P : Type 0} (sent_of : P → Logs) (posts_of looks_of : P �
   pub looks_out : looks_of new ≡ looks_of old
 
 -- What a post leaves of the links in: what was collected there, and how often the port was asked, looked and listened.
-pub record InsStay {P : Type 0} (got_of : P → Logs) (collects_of looks_of listens_of noted_of : P → ℕ → ℕ) (old new : P) : Type 0 where
+pub record InsStay {P : Type 0} (got_of : P → Logs) (collects_of looks_of listens_of noted_of : P → ℕ → ℕ)
+    (old new : P) : Type 0 where
   pub got : got_of new ≡ got_of old
   pub collects : collects_of new ≡ collects_of old
   pub looks_in : looks_of new ≡ looks_of old

@@ -22,8 +22,10 @@ HasFairTags dims h p = All (λ e. IsFair dims h e.tag) p.entries
 -- Example: in the grid 2x2 rank 0 got [x, y] from 1 to 2 in epoch 0: it may have sent [x] toward 2, not marked last.
 pub record RelayLaw (dims : List ℕ) (r : ℕ) (sent got : Logs) : Type 0 where
   pub fair : (l : ℕ) → l < links dims → sender_at dims l ≡ r → All (HasFairTags dims (hop_at dims l)) (sent l)
-  pub begins : (s d h e : ℕ) → PassesThrough dims r s d h → Begins (flow dims sent s d (h + 1) e) (flow dims got s d h e)
-  pub closed : (l m e : ℕ) → l < links dims → m < links dims → sender_at dims l ≡ r → reader_at dims m ≡ r → hop_at dims l ≡ hop_at dims m + 1
+  pub begins : (s d h e : ℕ) → PassesThrough dims r s d h
+      → Begins (flow dims sent s d (h + 1) e) (flow dims got s d h e)
+  pub closed : (l m e : ℕ) → l < links dims → m < links dims → sender_at dims l ≡ r → reader_at dims m ≡ r
+      → hop_at dims l ≡ hop_at dims m + 1
       → e < lasts (sent l) → e < lasts (got m)
   pub whole : (s d h e : ℕ) → PassesThrough dims r s d h → e < lasts (sent (hop_link dims s d (h + 1)))
       → flow dims sent s d (h + 1) e ≡ flow dims got s d h e

@@ -53,10 +53,13 @@ epochs_of round = ended_by_all round.got
 -- Over all hops a pair's items arrive in order: what is pulled is the front of what was pushed, and it is all of
 -- it in an epoch that the last link of the pair's route has ended, so in each epoch that every link has ended.
 pub record CloseLaw (round : Round) : Type 0 where
-  pub begins : (e s d : ℕ) → s < ranks round.dims → d < ranks round.dims → Begins (pulled round e d s) (pushed round e s d)
-  pub ended : (e s d : ℕ) → s < ranks round.dims → d < ranks round.dims → e < lasts (logs_of round.got (hop_link round.dims s d (length round.dims)))
+  pub begins : (e s d : ℕ) → s < ranks round.dims → d < ranks round.dims
+      → Begins (pulled round e d s) (pushed round e s d)
+  pub ended : (e s d : ℕ) → s < ranks round.dims → d < ranks round.dims
+      → e < lasts (logs_of round.got (hop_link round.dims s d (length round.dims)))
       → pulled round e d s ≡ pushed round e s d
-  pub whole : (e s d : ℕ) → s < ranks round.dims → d < ranks round.dims → e < epochs_of round → pulled round e d s ≡ pushed round e s d
+  pub whole : (e s d : ℕ) → s < ranks round.dims → d < ranks round.dims → e < epochs_of round
+      → pulled round e d s ≡ pushed round e s d
 
 -- What holds of every closed round.
 -- fair: each entry that was sent has a tag that is fair on the hop of its link, and so belongs to a pair of ranks.
@@ -65,6 +68,7 @@ pub record IsRound (round : Round) : Type 0 where
   pub counts : IsSlots round.slots
   pub all_sent : length round.sent ≡ links round.dims
   pub all_got : length round.got ≡ links round.dims
-  pub each_link : (l : ℕ) → l < links round.dims → LinkLaw round.cap round.slots (logs_of round.sent l) (logs_of round.got l)
+  pub each_link : (l : ℕ) → l < links round.dims
+      → LinkLaw round.cap round.slots (logs_of round.sent l) (logs_of round.got l)
   pub fair : (l : ℕ) → l < links round.dims → All (HasFairTags round.dims (hop_at round.dims l)) (logs_of round.sent l)
   pub in_order : CloseLaw round

@@ -19,8 +19,10 @@ IsConveyorShape steady cap log = All (λ p. p.last ≡ false → IsFilled steady
 -- number is marked last.
 -- The parcels [], [x], [] have it where the third is marked last.
 pub record IsExstackShape (log : List Shipped) : Type 0 where
-  pub empty : (e i : ℕ) (d : Shipped) → i < length (segment e log) → i % 2 ≡ 0 → (slice_index_or (segment e log) i d).entries ≡ []
-  pub goes_on : (e i : ℕ) (d : Shipped) → i < length (segment e log) → i % 2 ≡ 1 → (slice_index_or (segment e log) i d).last ≡ false
+  pub empty : (e i : ℕ) (d : Shipped) → i < length (segment e log) → i % 2 ≡ 0
+      → (slice_index_or (segment e log) i d).entries ≡ []
+  pub goes_on : (e i : ℕ) (d : Shipped) → i < length (segment e log) → i % 2 ≡ 1
+      → (slice_index_or (segment e log) i d).last ≡ false
 
 -- So many entries travel in few parcels: in each epoch in no more than full ones would take, and one more.
 -- The number of parcels of segment e is at most n div cap + 1, where n is the number of their entries.

@@ -25,25 +25,33 @@ abbrev pub got_from : List ℕ → Logs → ℕ → ℕ → List Item
 got_from dims got d s = flow dims got s d (length dims) 0
 
 -- A rank's own part, by its lists at both banks; all r is the state in which rank r began.
--- queries: it sent at most its queries, in order. replies: it sent at most its answers, in order, to queries that it got.
-pub record IsOwn {S : Type 0} (T : Talk S) (dims : List ℕ) (all : ℕ → S) (r : ℕ) (asking replying got : Logs) : Type 0 where
+-- queries: it sent at most its queries, in order. replies: it sent at most its answers, in order,
+-- to queries that it got.
+pub record IsOwn {S : Type 0} (T : Talk S) (dims : List ℕ) (all : ℕ → S) (r : ℕ)
+    (asking replying got : Logs) : Type 0 where
   pub queries : (d : ℕ) → d < ranks dims → Begins (sent_to dims asking r d) (queries_to T (all r) d)
-  pub replies : (s : ℕ) → s < ranks dims → Begins (sent_to dims replying r s) (answers T (all r) s (got_from dims got r s))
+  pub replies : (s : ℕ) → s < ranks dims
+      → Begins (sent_to dims replying r s) (answers T (all r) s (got_from dims got r s))
 
 -- It sent all: its queries, and an answer to each query that it got.
-pub record IsAll {S : Type 0} (T : Talk S) (dims : List ℕ) (all : ℕ → S) (r : ℕ) (asking replying got : Logs) : Type 0 where
+pub record IsAll {S : Type 0} (T : Talk S) (dims : List ℕ) (all : ℕ → S) (r : ℕ)
+    (asking replying got : Logs) : Type 0 where
   pub queries : (d : ℕ) → d < ranks dims → sent_to dims asking r d ≡ queries_to T (all r) d
   pub replies : (s : ℕ) → s < ranks dims → sent_to dims replying r s ≡ answers T (all r) s (got_from dims got r s)
 
 -- The replies theorem. At every moment the replies that s got from d are a front of the replies of (d,s).
 abbrev pub RepliesBegin : {S : Type 0} → Talk S → Type 0
-RepliesBegin {S} T = (dims : List ℕ) (all : ℕ → S) (asking asked replying replied : Logs) → IsLawful dims asking asked → IsLawful dims replying replied
+RepliesBegin {S} T = (dims : List ℕ) (all : ℕ → S) (asking asked replying replied : Logs) → IsLawful dims asking asked
+    → IsLawful dims replying replied
     → ((r : ℕ) → r < ranks dims → IsOwn T dims all r asking replying asked)
     → (s d : ℕ) → s < ranks dims → d < ranks dims → Begins (got_from dims replied s d) (replies_of T all d s)
 
--- Where each rank sent all, and the last links of both ways have ended, they are all of them: each query has its one reply.
+-- Where each rank sent all, and the last links of both ways have ended, they are all of them: each
+-- query has its one reply.
 abbrev pub RepliesEnd : {S : Type 0} → Talk S → Type 0
-RepliesEnd {S} T = (dims : List ℕ) (all : ℕ → S) (asking asked replying replied : Logs) → IsLawful dims asking asked → IsLawful dims replying replied
-    → (s d : ℕ) → s < ranks dims → d < ranks dims → IsAll T dims all s asking replying asked → IsAll T dims all d asking replying asked
+RepliesEnd {S} T = (dims : List ℕ) (all : ℕ → S) (asking asked replying replied : Logs) → IsLawful dims asking asked
+    → IsLawful dims replying replied
+    → (s d : ℕ) → s < ranks dims → d < ranks dims → IsAll T dims all s asking replying asked
+    → IsAll T dims all d asking replying asked
     → 0 < lasts (asked (hop_link dims s d (length dims))) → 0 < lasts (replied (hop_link dims d s (length dims)))
     → got_from dims replied s d ≡ replies_of T all d s

@@ -15,16 +15,25 @@ use Rattle.query_node.specs.States.{BiState, Sides, IsBiNode}
 
 -- Of these, those of the links that start at rank r, or end there.
 abbrev pub sides_at : List ℕ → ℕ → Sides → Sides
-sides_at dims r s = record { asking = starting_at dims r s.asking; asked = ending_at dims r s.asked; replying = starting_at dims r s.replying; replied = ending_at dims r s.replied }
+sides_at dims r s =
+    record {
+      asking = starting_at dims r s.asking;
+      asked = ending_at dims r s.asked;
+      replying = starting_at dims r s.replying;
+      replied = ending_at dims r s.replied;
+    }
 
 -- Rank r keeps to its own lists; it began in the state `start`.
-pub record HasRank {S : Type 0} (T : Talk S) (dims : List ℕ) (r : ℕ) (start : S) (n : BiState S) (s : Sides) : Type 0 where
+pub record HasRank {S : Type 0} (T : Talk S) (dims : List ℕ) (r : ℕ) (start : S) (n : BiState S)
+    (s : Sides) : Type 0 where
   pub same_dims : n.queries.dims ≡ dims
   pub same_rank : n.queries.rank ≡ r
-  pub node : IsBiNode T start n (starting_at dims r s.asking) (ending_at dims r s.asked) (starting_at dims r s.replying) (ending_at dims r s.replied)
+  pub node : IsBiNode T start n (starting_at dims r s.asking) (ending_at dims r s.asked) (starting_at dims r s.replying)
+      (ending_at dims r s.replied)
 
 -- All ranks over two banks whose links keep their law; rank r began in the state `starts r`.
-pub record AllRanks {S : Type 0} (T : Talk S) (dims : List ℕ) (cap slots : ℕ) (starts : ℕ → S) (ns : ℕ → BiState S) (s : Sides) : Type 0 where
+pub record AllRanks {S : Type 0} (T : Talk S) (dims : List ℕ) (cap slots : ℕ) (starts : ℕ → S) (ns : ℕ → BiState S)
+    (s : Sides) : Type 0 where
   pub grid : IsGrid dims
   pub queries_keep : (l : ℕ) → l < links dims → LinkLaw cap slots (s.asking l) (s.asked l)
   pub replies_keep : (l : ℕ) → l < links dims → LinkLaw cap slots (s.replying l) (s.replied l)
@@ -32,16 +41,19 @@ pub record AllRanks {S : Type 0} (T : Talk S) (dims : List ℕ) (cap slots : ℕ
 
 -- What rank r pulled of the rank d: the replies that it heard.
 abbrev pub heard_of : {S : Type 0} → List ℕ → (ℕ → BiState S) → Sides → ℕ → ℕ → List Item
-heard_of dims ns s r d = (part_of (buffers_of (ns r).replies) (starting_at dims r s.replying) (ending_at dims r s.replied)).pulled 0 d
+heard_of dims ns s r d =
+    (part_of (buffers_of (ns r).replies) (starting_at dims r s.replying) (ending_at dims r s.replied)).pulled 0 d
 
--- Whenever no rank is within a turn, the replies that a rank heard of another are a front of that one's answers to its queries,
--- and it is as after hearing them, by order alone.
-pub record HearsInOrder {S : Type 0} (T : Talk S) (dims : List ℕ) (starts : ℕ → S) (ns : ℕ → BiState S) (s : Sides) : Type 0 where
+-- Whenever no rank is within a turn, the replies that a rank heard of another are a front of that
+-- one's answers to its queries, and it is as after hearing them, by order alone.
+pub record HearsInOrder {S : Type 0} (T : Talk S) (dims : List ℕ) (starts : ℕ → S) (ns : ℕ → BiState S)
+    (s : Sides) : Type 0 where
   pub begins : (r d : ℕ) → r < ranks dims → d < ranks dims → Begins (heard_of dims ns s r d) (replies_of T starts d r)
   pub state : (r : ℕ) → r < ranks dims → (ns r).asker ≡ heard_by T (starts r) (heard_of dims ns s r)
 
 abbrev pub OrderLaw : {S : Type 0} → Talk S → Type 0
-OrderLaw {S} T = (dims : List ℕ) (cap slots : ℕ) (starts : ℕ → S) (ns : ℕ → BiState S) (s : Sides) → AllRanks T dims cap slots starts ns s → HearsInOrder T dims starts ns s
+OrderLaw {S} T = (dims : List ℕ) (cap slots : ℕ) (starts : ℕ → S) (ns : ℕ → BiState S) (s : Sides)
+    → AllRanks T dims cap slots starts ns s → HearsInOrder T dims starts ns s
 
 -- Once all ranks are complete, each has heard, for each of its queries, the answer of the rank asked.
 pub record AllComplete {S : Type 0} (dims : List ℕ) (ns : ℕ → BiState S) : Type 0 where
@@ -49,5 +61,6 @@ pub record AllComplete {S : Type 0} (dims : List ℕ) (ns : ℕ → BiState S) :
   pub replies : (r : ℕ) → r < ranks dims → (ns r).replies.phase ≡ Complete
 
 abbrev pub EndLaw : {S : Type 0} → Talk S → Type 0
-EndLaw {S} T = (dims : List ℕ) (cap slots : ℕ) (starts : ℕ → S) (ns : ℕ → BiState S) (s : Sides) → AllRanks T dims cap slots starts ns s → AllComplete dims ns
+EndLaw {S} T = (dims : List ℕ) (cap slots : ℕ) (starts : ℕ → S) (ns : ℕ → BiState S) (s : Sides)
+    → AllRanks T dims cap slots starts ns s → AllComplete dims ns
     → (r : ℕ) → r < ranks dims → (ns r).asker ≡ answered T starts r

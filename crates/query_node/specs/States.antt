@@ -14,8 +14,8 @@ use Rattle.rank_node.specs.Runs.{IsPushed}
 use Rattle.rank_node.specs.Movers.{AllRead}
 use Rattle.query_node.specs.Taking.{IsAnswered, Pushes, Answers, RefusesAnswer, HasHeard}
 
--- What contracts see of a BiNode: its asker, how many queries are pushed, for each rank the numbers of the queries to it that
--- have no reply yet, and the conveyors of queries and of replies.
+-- What contracts see of a BiNode: its asker, how many queries are pushed, for each rank the numbers
+-- of the queries to it that have no reply yet, and the conveyors of queries and of replies.
 pub record BiState (S : Type 0) : Type 0 where
   pub asker : S
   pub next : ℕ
@@ -50,13 +50,14 @@ pub record IsFirst (dims : List ℕ) (rank : ℕ) (steady : Bool) (c : State) : 
   pub none_pushed : (e d : ℕ) → (part_of (buffers_of c) (λ l. []) (λ l. [])).pushed e d ≡ []
   pub none_pulled : (e d : ℕ) → (part_of (buffers_of c) (λ l. []) (λ l. [])).pulled e d ≡ []
 
--- A BiNode between two turns, of a rank that began in the state `start`, over a port of queries (what it sent is asking, what it
--- got is asked) and one of replies (replying, replied).
+-- A BiNode between two turns, of a rank that began in the state `start`, over a port of queries
+-- (what it sent is asking, what it got is asked) and one of replies (replying, replied).
 -- next_low, all_pushed, pushed: the first so many of its queries are pushed; all of them where it is done asking.
 -- answered: it pushed its answers, in order, to the queries that it pulled, and nothing else.
 -- over: it is done replying only where the queries of all ranks are over.
 -- heard: it heard what came, matched by order alone. read: nothing that came is unheard.
-pub record IsBiNode {S : Type 0} (T : Talk S) (start : S) (n : BiState S) (asking asked replying replied : Logs) : Type 0 where
+pub record IsBiNode {S : Type 0} (T : Talk S) (start : S) (n : BiState S)
+    (asking asked replying replied : Logs) : Type 0 where
   pub asks : IsRunning n.queries asking asked
   pub replies : IsRunning n.replies replying replied
   pub same_dims : n.replies.dims ≡ n.queries.dims
@@ -66,9 +67,11 @@ pub record IsBiNode {S : Type 0} (T : Talk S) (start : S) (n : BiState S) (askin
   pub next_low : n.next ≤ length (asks_of T start)
   pub all_pushed : n.queries.done ≡ true → n.next ≡ length (asks_of T start)
   pub pushed : IsPushed (asks_of T start) (ranks n.queries.dims) n.next (part_of (buffers_of n.queries) asking asked)
-  pub answered : IsAnswered T start (ranks n.queries.dims) (part_of (buffers_of n.queries) asking asked) (part_of (buffers_of n.replies) replying replied)
+  pub answered : IsAnswered T start (ranks n.queries.dims) (part_of (buffers_of n.queries) asking asked)
+      (part_of (buffers_of n.replies) replying replied)
   pub over : n.replies.done ≡ true → n.queries.phase ≡ Complete
-  pub heard : HasHeard T start (ranks n.replies.dims) n.asker n.lines (part_of (buffers_of n.replies) replying replied).pulled
+  pub heard : HasHeard T start (ranks n.replies.dims) n.asker n.lines
+      (part_of (buffers_of n.replies) replying replied).pulled
   pub read : AllRead n.replies
 
 -- What a turn that takes a rank from n to n' asks: it pushes the queries from number n.next on, up to number n'.next.
@@ -86,11 +89,13 @@ pub record HasAsked {S : Type 0} (T : Talk S) (cap : ℕ) (n n' : BiState S) : T
 -- holds.
 -- answers: queries are pulled, and their answers pushed, as many of these as of those.
 -- all: no query that came is left unread, or the answer to the next one was refused.
-pub record HasAnswered {S : Type 0} (T : Talk S) (cap : ℕ) (n n' : BiState S) (asking asked asking' asked' : Logs) : Type 0 where
+pub record HasAnswered {S : Type 0} (T : Talk S) (cap : ℕ) (n n' : BiState S)
+    (asking asked asking' asked' : Logs) : Type 0 where
   pub at_pull : State
   pub agrees : AgreesWith at_pull asking' asked'
   pub epoch : at_pull.epoch ≡ n.queries.epoch
-  pub pulled : (part_of (buffers_of at_pull) asking' asked').pulled ≡ (part_of (buffers_of n.queries) asking asked).pulled
+  pub pulled : (part_of (buffers_of at_pull) asking' asked').pulled
+      ≡ (part_of (buffers_of n.queries) asking asked).pulled
   pub at_push : State
   pub fits : HoldsAtMost cap at_push
   pub answers : Answers T n.asker at_pull n'.queries n.replies at_push

@@ -18,7 +18,8 @@ pub record Known : Type 0 where
 -- done: it is done replying exactly where its queries are complete.
 pub record IsStuck {S : Type 0} (n n' : BiState S) (old new : Sides) (known : Known) : Type 0 where
   pub queries : IsStill n.queries n'.queries old.asking old.asked new.asking new.asked known.crowded known.idle
-  pub replies : IsStill n.replies n'.replies old.replying old.replied new.replying new.replied known.replies_crowded known.replies_idle
+  pub replies : IsStill n.replies n'.replies old.replying old.replied new.replying new.replied known.replies_crowded
+      known.replies_idle
   pub asked : (n'.queries.done ≡ true) ⊎ HasCrowded n.queries.dims n.queries.rank known.crowded
   pub answered : AllRead n'.queries ⊎ HasCrowded n.replies.dims n.replies.rank known.replies_crowded
   pub done : n'.queries.phase ≡ Complete → n'.replies.done ≡ true

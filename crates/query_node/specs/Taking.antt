@@ -24,8 +24,10 @@ pub record Pushes (items : List (ℕ × Item)) (cap from next : ℕ) (c c' : Sta
   pub low : next ≤ length items
   pub same : c' ≡ record c { outs = c'.outs; pulled = c'.pulled }
   pub kept : KeepsAgreement c c'
-  pub on : (sent got : Logs) → AgreesWith c sent got → PushedOn items (ranks c.dims) from next (part_of (buffers_of c) sent got) (part_of (buffers_of c') sent got)
-  pub refused : (to : ℕ) (x : Item) → slice_get items next ≡ Some (to, x) → (to < ranks c'.dims) × (standing_toward c' to ≡ cap)
+  pub on : (sent got : Logs) → AgreesWith c sent got
+      → PushedOn items (ranks c.dims) from next (part_of (buffers_of c) sent got) (part_of (buffers_of c') sent got)
+  pub refused : (to : ℕ) (x : Item) → slice_get items next ≡ Some (to, x)
+      → (to < ranks c'.dims) × (standing_toward c' to ≡ cap)
 
 -- Queries may be pulled of q, and their answers pushed on r: q has begun, and r is at work, and isn't done.
 pub record MayAnswer (q r : State) : Type 0 where
@@ -36,7 +38,8 @@ pub record MayAnswer (q r : State) : Type 0 where
 
 -- To each of p ranks was pushed the answer to each query that was pulled of it, and nothing else.
 abbrev pub IsAnswered : {S : Type 0} → Talk S → S → ℕ → Part → Part → Type 0
-IsAnswered T s p asked replied = (f : ℕ) → f < p → replied.pushed replied.epoch f ≡ answers T s f (asked.pulled asked.epoch f)
+IsAnswered T s p asked replied = (f : ℕ) → f < p
+    → replied.pushed replied.epoch f ≡ answers T s f (asked.pulled asked.epoch f)
 
 -- Pulls of queries and pushes of their answers, as many of these as of those.
 pub record AnswersOn {S : Type 0} (T : Talk S) (s : S) (p : ℕ) (asked asked' replied replied' : Part) : Type 0 where
@@ -57,19 +60,20 @@ pub record Answers {S : Type 0} (T : Talk S) (s : S) (q q' r r' : State) : Type 
       → AnswersOn T s (ranks q.dims) (part_of (buffers_of q) asking asked) (part_of (buffers_of q') asking asked)
       (part_of (buffers_of r) replying replied) (part_of (buffers_of r') replying replied)
 
--- The answer to the next query to pull of q was refused: r, the conveyor of replies, holds as many entries as it can in its open
--- parcel toward the rank that asked, `to`.
+-- The answer to the next query to pull of q was refused: r, the conveyor of replies, holds as many
+-- entries as it can in its open parcel toward the rank that asked, `to`.
 pub record RefusesAnswer (cap to : ℕ) (q r : State) : Type 0 where
   pub query : Item
   pub next : pull_from q (lowest_unread q) ≡ Some (to, query)
   pub low : to < ranks r.dims
   pub full : standing_toward r to ≡ cap
 
--- What a rank that began in the state `start` has heard of p ranks: `came e d` are the replies of rank d in epoch e, of which there is
--- one, number 0.
+-- What a rank that began in the state `start` has heard of p ranks: `came e d` are the replies of
+-- rank d in epoch e, of which there is one, number 0.
 -- lines: for each rank the numbers of the queries to it that have no reply yet.
 -- small: a reply is a number of 64 bits.
-pub record HasHeard {S : Type 0} (T : Talk S) (start : S) (p : ℕ) (asker : S) (lines : List (List ℕ)) (came : ItemLists) : Type 0 where
+pub record HasHeard {S : Type 0} (T : Talk S) (start : S) (p : ℕ) (asker : S) (lines : List (List ℕ))
+    (came : ItemLists) : Type 0 where
   pub valid : T.valid start
   pub same : SameTalk T start asker
   pub state : asker ≡ heard_by T start (came 0)
@@ -81,10 +85,12 @@ pub record HasHeard {S : Type 0} (T : Talk S) (start : S) (p : ℕ) (asker : S) 
 pub record MayHear {S : Type 0} (T : Talk S) (asker : S) (lines : List (List ℕ)) (r : State) : Type 0 where
   pub begun : r.phase ≢ Dormant
   pub first : r.epoch ≡ 0
-  pub heard : (start : S) × (sent : Logs) × (got : Logs) × AgreesWith r sent got × HasHeard T start (ranks r.dims) asker lines (part_of (buffers_of r) sent got).pulled
+  pub heard : (start : S) × (sent : Logs) × (got : Logs) × AgreesWith r sent got
+      × HasHeard T start (ranks r.dims) asker lines (part_of (buffers_of r) sent got).pulled
 
 -- Pulls of replies, each of which is heard.
-pub record Hears {S : Type 0} (T : Talk S) (asker asker' : S) (lines lines' : List (List ℕ)) (r r' : State) : Type 0 where
+pub record Hears {S : Type 0} (T : Talk S) (asker asker' : S) (lines lines' : List (List ℕ))
+    (r r' : State) : Type 0 where
   pub same : r' ≡ record r { ins = r'.ins; pulled = r'.pulled }
   pub fewer : NoMore r r'
   pub kept : KeepsAgreement r r'
@@ -94,13 +100,16 @@ pub record Hears {S : Type 0} (T : Talk S) (asker asker' : S) (lines lines' : Li
       → HasHeard T start (ranks r.dims) asker' lines' (part_of (buffers_of r') replying replied).pulled
 
 -- A push of the answer to one query of the rank `from`.
-pub record PushesAnswer {S : Type 0} (T : Talk S) (s : S) (cap from : ℕ) (query : Item) (result : Pushed) (r r' : State) : Type 0 where
+pub record PushesAnswer {S : Type 0} (T : Talk S) (s : S) (cap from : ℕ) (query : Item) (result : Pushed)
+    (r r' : State) : Type 0 where
   pub same : r' ≡ record r { outs = r'.outs; pulled = r'.pulled }
   pub kept : KeepsAgreement r r'
   pub accepted : result ≡ Accepted → IsStepOf (Push from (carrying (T.answer s from query.a))) r r'
   pub refused : result ≡ Full → IsStepOf Idle r r' × (standing_toward r' from ≡ cap)
 
 -- One more reply of the rank `from` is heard.
-pub record HearsOne {S : Type 0} (T : Talk S) (from reply : ℕ) (asker asker' : S) (lines lines' : List (List ℕ)) : Type 0 where
+pub record HearsOne {S : Type 0} (T : Talk S) (from reply : ℕ) (asker asker' : S)
+    (lines lines' : List (List ℕ)) : Type 0 where
   pub talk : T.queries asker' ≡ T.queries asker
-  pub on : (start : S) (came : ItemLists) (x : Item) → x.a ≡ reply → HasHeard T start (length lines) asker lines came → HasHeard T start (length lines) asker' lines' (with_item came 0 from x)
+  pub on : (start : S) (came : ItemLists) (x : Item) → x.a ≡ reply → HasHeard T start (length lines) asker lines came
+      → HasHeard T start (length lines) asker' lines' (with_item came 0 from x)

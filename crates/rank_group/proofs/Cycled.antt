@@ -3,7 +3,7 @@ use Rattle.std.proofs.Common.{◌≡◌, ℕ, ◌+◌, ◌<◌, ◌≤◌, ◌==
 use Rattle.std.proofs.lemmas.Bool.{cases_Bool, true≢false, eq-eqb, ne_eqb}
 use Rattle.port_bank.specs.Logs.{Logs, lasts, starting_at, ending_at, lasts_in}
 use Rattle.exstack.specs.Links.{no_in}
-use Rattle.exstack.specs.State.{State, number, in_at}
+use Rattle.exstack.specs.State.{Stack, number, in_at}
 use Rattle.exstack.specs.Parts.{is_all_done}
 use Rattle.exstack.specs.Agreement.{AgreesIn}
 use Rattle.exstack.specs.Standing.{IsStack}
@@ -18,7 +18,7 @@ use Rattle.rank_group.specs.Ranks.{RankState, HasRank, AfterRank, StaysIn, EndsE
 use Rattle.rank_group.specs.Halves.{HasCycled, IsBetween, KeepsCycle, next_cycle}
 
 -- an exstack that agrees with lists in which its epoch isn't over is between two ends
-pub not_over : (cap n : ℕ) (x : State) (sent got : Logs) → IsStack cap x → AgreesIn n x sent got → lasts (got (number x.ranks x.rank x.rank)) ≤ x.epoch → is_all_done x.stage ≡ false
+pub not_over : (cap n : ℕ) (x : Stack) (sent got : Logs) → IsStack cap x → AgreesIn n x sent got → lasts (got (number x.ranks x.rank x.rank)) ≤ x.epoch → is_all_done x.stage ≡ false
 not_over cap n x sent got s a low = elim (cases_Bool (is_all_done x.stage)) [
   | inr f ↦ f
   | inl t ↦
@@ -28,7 +28,7 @@ not_over cap n x sent got s a low = elim (cases_Bool (is_all_done x.stage)) [
 ]
 
 -- so is one that has begun its next epoch
-anew : (k k' : ℕ) (cap : ℕ) (x x' : State) (sent got : Logs) → IsStack cap x' → AgreesIn k x sent got → AgreesIn k' x' sent got → x.ranks ≡ x'.ranks → x.rank ≡ x'.rank → x'.epoch ≡ x.epoch + 1 → is_all_done x'.stage ≡ false
+anew : (k k' : ℕ) (cap : ℕ) (x x' : Stack) (sent got : Logs) → IsStack cap x' → AgreesIn k x sent got → AgreesIn k' x' sent got → x.ranks ≡ x'.ranks → x.rank ≡ x'.rank → x'.epoch ≡ x.epoch + 1 → is_all_done x'.stage ≡ false
 anew k k' cap x x' sent got s a a' same_ranks same_rank next =
     let low : x.rank < x.ranks = omega (arith, s.rank, same_ranks, same_rank) in
     let at : number x.ranks x.rank x.rank ≡ number x'.ranks x'.rank x'.rank = ap (λ p. number p x.rank x.rank) same_ranks ∙ ap (λ q. number x'.ranks q q) same_rank in

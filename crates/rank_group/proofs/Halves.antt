@@ -8,7 +8,7 @@ use Rattle.port_bank.specs.Flow.{Begins}
 use Rattle.port_bank.proofs.Segments.{lasts_begins}
 use Rattle.exstack.specs.declared.stage.Stage.{Stage}
 use Rattle.exstack.specs.declared.stage.Stage.TheVariants.{Start, Proceeding, Filling, Exchanging, Full, AllDone}
-use Rattle.exstack.specs.State.{State, out_at, in_at, number, link_to, link_from, is_proceeding, is_exchanging}
+use Rattle.exstack.specs.State.{Stack, out_at, in_at, number, link_to, link_from, is_proceeding, is_exchanging}
 use Rattle.exstack.specs.Parts.{is_all_done}
 use Rattle.exstack.specs.Agreement.{cycle_after}
 use Rattle.exstack.specs.Lockstep.{finished_in, HasFinished, HasPosted, InStep, RoomLaw, ArrivalLaw}
@@ -80,16 +80,16 @@ stays_within n Exchanging Start on going same = absurd (false≢true on)
 stays_within n AllDone Start on going same = absurd (cc)
 
 -- halves of rounds, and rounds
-pub halves_low : (most : ℕ → ℕ) (j : ℕ) (over : Bool) (n : ℕ) (x : State) → HasMade most j over n x → j ≤ 2 * rounds_made most over n x + 1
+pub halves_low : (most : ℕ → ℕ) (j : ℕ) (over : Bool) (n : ℕ) (x : Stack) → HasMade most j over n x → j ≤ 2 * rounds_made most over n x + 1
 halves_low most j over n x (inl low) = omega (arith, low)
 halves_low most j over n x (inr here) = omega (arith, here.0)
 
-pub halves_less : (most : ℕ → ℕ) (j : ℕ) (over : Bool) (n : ℕ) (x : State) → HasMade most (j + 1) over n x → HasMade most j over n x
+pub halves_less : (most : ℕ → ℕ) (j : ℕ) (over : Bool) (n : ℕ) (x : Stack) → HasMade most (j + 1) over n x → HasMade most j over n x
 halves_less most j over n x (inl low) = inl (omega (arith, low))
 halves_less most j over n x (inr here) = inl (omega (arith, here.0))
 
 -- the exstacks of all ranks: none that goes on has made all rounds of its epoch, and those that are over are done with the last
-pub record AllStacks (p cap slots : ℕ) (most : ℕ → ℕ) (epochs : ℕ) (over : ℕ → Bool) (n : ℕ → ℕ) (all : ℕ → State) (sent got : Logs) : Type 0 where
+pub record AllStacks (p cap slots : ℕ) (most : ℕ → ℕ) (epochs : ℕ) (over : ℕ → Bool) (n : ℕ → ℕ) (all : ℕ → Stack) (sent got : Logs) : Type 0 where
   pub step : InStep p cap slots n all sent got
   pub short : (r : ℕ) → r < p → over r ≡ false → finished_in (n r) (all r).stage < most (all r).epoch
   pub within : (r : ℕ) → r < p → over r ≡ false → (all r).epoch < epochs
@@ -98,7 +98,7 @@ pub record AllStacks (p cap slots : ℕ) (most : ℕ → ℕ) (epochs : ℕ) (ov
   pub done : (r : ℕ) → r < p → over r ≡ true → (all r).done ≡ true
 
 -- a link at its two ends
-module _ (p cap slots : ℕ) (n : ℕ → ℕ) (all : ℕ → State) (sent got : Logs) (t : InStep p cap slots n all sent got) (a b : ℕ) (la : a < p) (lb : b < p) where
+module _ (p cap slots : ℕ) (n : ℕ → ℕ) (all : ℕ → Stack) (sent got : Logs) (t : InStep p cap slots n all sent got) (a b : ℕ) (la : a < p) (lb : b < p) where
   abbrev l : ℕ
   l = number p a b
 
@@ -128,9 +128,9 @@ module _ (p cap slots : ℕ) (n : ℕ → ℕ) (all : ℕ → State) (sent got :
     none false e = e
 
 -- a rank that its turn left in its epoch
-module _ (room : RoomLaw) (arrival : ArrivalLaw) (p cap slots : ℕ) (most : ℕ → ℕ) (epochs : ℕ) (over : ℕ → Bool) (n : ℕ → ℕ) (all : ℕ → State) (sent got : Logs) (some : 0 < slots)
+module _ (room : RoomLaw) (arrival : ArrivalLaw) (p cap slots : ℕ) (most : ℕ → ℕ) (epochs : ℕ) (over : ℕ → Bool) (n : ℕ → ℕ) (all : ℕ → Stack) (sent got : Logs) (some : 0 < slots)
     (w : AllStacks p cap slots most epochs over n all sent got) (r : ℕ) (low : r < p) (on : over r ≡ false) (going : is_all_done (all r).stage ≡ false)
-    (x : State) (k : ℕ) (before : Logs) (same_ranks : x.ranks ≡ p) (same_rank : x.rank ≡ r) (same_epoch : (all r).epoch ≡ x.epoch) (cycle : n r ≡ cycle_after k x.stage) (onward : IsOnward x.stage (all r).stage)
+    (x : Stack) (k : ℕ) (before : Logs) (same_ranks : x.ranks ≡ p) (same_rank : x.rank ≡ r) (same_epoch : (all r).epoch ≡ x.epoch) (cycle : n r ≡ cycle_after k x.stage) (onward : IsOnward x.stage (all r).stage)
     (awaits : Awaits (all r)) (waits : WaitsFor x (all r) before (ending_at (p ∷ []) r got) (crowded_in (p ∷ []) slots r sent got) (idle_in (p ∷ []) r sent got))
     (still : finished_in (n r) (all r).stage ≡ finished_in k x.stage → (b : ℕ) → b < p → (out_at (all r) b).due ≡ true → ending_at (p ∷ []) r got (link_to x b) ≡ before (link_to x b))
     (j : ℕ) (others : (b : ℕ) → b < p → b ≢ r → HasMade most j (over b) (n b) (all b)) (mine : HasMade most j false k x) where

@@ -7,7 +7,7 @@ use Rattle.route_tensor.specs.Grid.{ranks}
 use Rattle.route_tensor.specs.Ends.{reader_at}
 use Rattle.port_bank.specs.Logs.{Logs, ending_at}
 use Rattle.port_bank.specs.Flow.{Begins}
-use Rattle.exstack.specs.State.{State, out_at, number, link_to}
+use Rattle.exstack.specs.State.{Stack, out_at, number, link_to}
 use Rattle.exstack.specs.Agreement.{cycle_after}
 use Rattle.exstack.specs.Lockstep.{finished_in, InStep}
 use Rattle.exstack.specs.Parts.{is_all_done}
@@ -76,10 +76,10 @@ module _ {S : Type 0} (R : Rules S) (laws : Laws R) (law : ClosesLaws) (dims : L
   abbrev most : ℕ → ℕ
   most = most_rounds R (ranks dims) starts
 
-  abbrev x : State
+  abbrev x : Stack
   x = stack_of n.node.mover
 
-  abbrev x' : State
+  abbrev x' : Stack
   x' = stack_of n'.node.mover
 
   low : r < p
@@ -128,7 +128,7 @@ module _ {S : Type 0} (R : Rules S) (laws : Laws R) (law : ClosesLaws) (dims : L
 
   -- a rank that stays in its epoch
   module _ (on : n.over ≡ false) (s : StaysIn R dims slots r n n' sent got sent' got') where
-    abbrev now : State
+    abbrev now : Stack
     now = stack_in (slice_get rs' r)
 
     t0 : InStep p cap slots w.cycle (λ k. stack_in (slice_get rs k)) sent got

@@ -27,7 +27,7 @@ use Rattle.convey.proofs.OneRank.{OneRank, one_rank_of, starting-own, ending-own
 use Rattle.exstack.specs.declared.stage.Stage.{Stage}
 use Rattle.exstack.specs.declared.stage.Stage.TheVariants.{AllDone}
 use Rattle.exstack.specs.Links.{no_out, no_in}
-use Rattle.exstack.specs.State.{State as Stack}
+use Rattle.exstack.specs.State.{Stack}
 use Rattle.exstack.specs.State.{dims_of as stack_dims}
 use Rattle.exstack.specs.State.{out_at, in_at, number, link_to, link_from, is_proceeding, is_exchanging}
 use Rattle.exstack.specs.Cycles.{items, entries_sent}

@@ -5,7 +5,7 @@ use Rattle.port_bank.proofs.Fronts.{begins_shorter, begins_whole}
 use Rattle.port_bank.specs.Logs.{Logs, lasts, segment, lasts_in}
 use Rattle.port_bank.specs.Flow.{Begins}
 use Rattle.port_bank.proofs.Segments.{lasts-append, lasts_begins, segment_begins}
-use Rattle.exstack.specs.State.{State, out_at, in_at, number}
+use Rattle.exstack.specs.State.{Stack, out_at, in_at, number}
 use Rattle.exstack.specs.Agreement.{rounds_in}
 use Rattle.exstack.specs.Lockstep.{finished_in, InStep}
 use Rattle.exstack.proofs.Lockstep.{more_open, begun_more, finished_low, begins, out_end, out_is, in_end, in_is}
@@ -18,7 +18,7 @@ open_same e log more b is is' short =
     let seg = ap (λ xs. length (segment e xs)) b.is ∙ more_open log b.rest e is none in
     begins_whole log more b (omega (arith, short, seg, ap length b.is, length-append log b.rest))
 
-module _ (p cap slots : ℕ) (n n' : ℕ → ℕ) (all all' : ℕ → State) (sent got sent' got' : Logs) (t : InStep p cap slots n all sent got) (t' : InStep p cap slots n' all' sent' got') (r : ℕ) (low : r < p)
+module _ (p cap slots : ℕ) (n n' : ℕ → ℕ) (all all' : ℕ → Stack) (sent got sent' got' : Logs) (t : InStep p cap slots n all sent got) (t' : InStep p cap slots n' all' sent' got') (r : ℕ) (low : r < p)
     (grows : Begins (got (number p r r)) (got' (number p r r))) (same_epoch : (all' r).epoch ≡ (all r).epoch) (same : finished_in (n' r) (all' r).stage ≡ finished_in (n r) (all r).stage) (due : (out_at (all' r) r).due ≡ true) where
   abbrev l : ℕ
   l = number p r r

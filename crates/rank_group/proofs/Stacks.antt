@@ -10,7 +10,7 @@ use Rattle.route_tensor.proofs.Coordinates.{ranks_some}
 use Rattle.port_bank.specs.Logs.{Logs, starting_at, ending_at}
 use Rattle.exstack.specs.declared.stage.Stage.{Stage}
 use Rattle.exstack.specs.declared.stage.Stage.TheVariants.{Start, Proceeding, Filling, Exchanging, Full, AllDone}
-use Rattle.exstack.specs.State.{State, number, link_to}
+use Rattle.exstack.specs.State.{Stack, number, link_to}
 use Rattle.exstack.specs.Parts.{is_all_done}
 use Rattle.exstack.specs.Cycles.{proceed_parcel}
 use Rattle.exstack.specs.Agreement.{AgreesIn}
@@ -46,7 +46,7 @@ abbrev pub over_in : {S : Type 0} → Option (RankState S) → Bool
 over_in None = false
 over_in (Some x) = x.over
 
-abbrev pub stack_in : {S : Type 0} → Option (RankState S) → State
+abbrev pub stack_in : {S : Type 0} → Option (RankState S) → Stack
 stack_in o = stack_of (mover_in o)
 
 agreed : {S : Type 0} (R : Rules S) (quota : ℕ → ℕ) (k : ℕ) (run : Running S) (m : MoverState) (cap : ℕ) (sent got : Logs) → m ≡ Stacking cap (stack_of m) → IsInCycle R quota k run m sent got → InCycle R quota k run (stack_of m) sent got
@@ -80,7 +80,7 @@ module _ {S : Type 0} (R : Rules S) (laws : Laws R) (law : ClosesLaws) (dims : L
   abbrev over_at : ℕ → Bool
   over_at r = over_in (slice_get rs r)
 
-  abbrev stack_at : ℕ → State
+  abbrev stack_at : ℕ → Stack
   stack_at r = stack_in (slice_get rs r)
 
   abbrev quota : ℕ → ℕ → ℕ
@@ -93,7 +93,7 @@ module _ {S : Type 0} (R : Rules S) (laws : Laws R) (law : ClosesLaws) (dims : L
   stack_is r x at = let k = w.ranked.each r x at in is_stacking x.node.mover cap k.same_manner k.same_cap
 
   -- what holds of each rank and its exstack
-  pick : (r : ℕ) → r < p → (P : Bool → State → Type 0) → ((x : RankState S) → slice_get rs r ≡ Some x → P x.over (stack_of x.node.mover)) → P (over_at r) (stack_at r)
+  pick : (r : ℕ) → r < p → (P : Bool → Stack → Type 0) → ((x : RankState S) → slice_get rs r ≡ Some x → P x.over (stack_of x.node.mover)) → P (over_at r) (stack_at r)
   pick r low P f = let x = rank_at r low in subst (λ o. P (over_in o) (stack_in o)) (sym x.1) (f x.0 x.1)
 
   pub one : p ∷ [] ≡ dims

@@ -6,13 +6,13 @@ use Rattle.route_tensor.specs.Grid.{ranks}
 use Rattle.port_bank.specs.Logs.{Logs, starting_at, ending_at}
 use Rattle.route_tensor.specs.Link.{links}
 use Rattle.port_bank.specs.Machine.{Part, completed_of, done_of, EpochsClose}
-use Rattle.port_bank.specs.Machine.{State as Ranks}
+use Rattle.port_bank.specs.Machine.{Ranks}
 use Rattle.list_laws.specs.Lists.{Begins}
 use Rattle.route_tensor.proofs.Coordinates.{ranks_some}
 use Rattle.hop_core.specs.State.{State}
 use Rattle.convey.specs.Buffers.{buffers_of}
 use Rattle.convey.specs.Law as conveyors
-use Rattle.exstack.specs.State.{State as Stack}
+use Rattle.exstack.specs.State.{Stack}
 use Rattle.exstack.specs.State.{new_stack}
 use Rattle.exstack.specs.Agreement.{AgreesWith}
 use Rattle.exstack.specs.Law as exstacks

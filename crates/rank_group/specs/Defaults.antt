@@ -26,12 +26,17 @@ abbrev pub usual : Settings
 usual = record { via = Convey; slots = Two; steady = false }
 
 -- What is asked of a run that is driven on one thread.
-pub record MayDrive {S : Type 0} (R : Rules S) (cap hops : ℕ) (dims : List ℕ) (settings : Settings) (starts : List S) : Type 0 where
+pub record MayDrive {S : Type 0} (R : Rules S) (cap hops : ℕ) (dims : List ℕ) (settings : Settings)
+    (starts : List S) : Type 0 where
   pub is_cap : IsCap cap
   pub is_hops : length dims ≡ hops
   pub run : MayRun R dims settings.via starts
 
 -- What a run with these settings leaves on one thread, which turns the ranks in their own order.
-pub record HasDriven {S : Type 0} (R : Rules S) (cap : ℕ) (dims : List ℕ) (settings : Settings) (starts : List S) (run : Finished S) : Type 0 where
-  pub finished : HasFinished R starts (record { dims = dims; cap = cap; slots = count_of settings.slots; by_slots = false }) (manner_of settings.via settings.steady) run
-  pub order : SweptBy R dims cap (count_of settings.slots) (manner_of settings.via settings.steady) starts (range_with_len 0 (ranks dims)) run.progs
+pub record HasDriven {S : Type 0} (R : Rules S) (cap : ℕ) (dims : List ℕ) (settings : Settings) (starts : List S)
+    (run : Finished S) : Type 0 where
+  pub finished : HasFinished R starts
+      (record { dims = dims; cap = cap; slots = count_of settings.slots; by_slots = false })
+      (manner_of settings.via settings.steady) run
+  pub order : SweptBy R dims cap (count_of settings.slots) (manner_of settings.via settings.steady) starts
+      (range_with_len 0 (ranks dims)) run.progs

@@ -22,26 +22,32 @@ pub record MayRun {S : Type 0} (R : Rules S) (dims : List ℕ) (via : Via) (star
   pub begins : (shape : List ℕ) × (most : ℕ) × InRound R (ranks dims) 0 shape most starts × EndsWithin R starts most
 
 -- What a drive leaves of a run of the programs `starts`, over a bank that was made as said.
-pub record HasFinished {S : Type 0} (R : Rules S) (starts : List S) (made : Made) (manner : Manner) (run : Finished S) : Type 0 where
+pub record HasFinished {S : Type 0} (R : Rules S) (starts : List S) (made : Made) (manner : Manner)
+    (run : Finished S) : Type 0 where
   -- The programs are as the canonical run leaves them.
   pub ended : HaveEnded R starts run.progs
   -- One closed round tells what was exchanged.
-  pub rounds : (c : ClosedRound) × (run.rounds ≡ c ∷ []) × ((n : ℕ) → HasRounds R starts n → TellsRun R starts n made manner (round_of c))
+  pub rounds : (c : ClosedRound) × (run.rounds ≡ c ∷ [])
+      × ((n : ℕ) → HasRounds R starts n → TellsRun R starts n made manner (round_of c))
 
 -- What it further leaves on one thread, which counts its turns from `before` to `after`.
-pub record HasSwept {S : Type 0} (R : Rules S) (starts : List S) (made : Made) (manner : Manner) (turned : List ℕ) (before after : ℕ) (run : Finished S) : Type 0 where
+pub record HasSwept {S : Type 0} (R : Rules S) (starts : List S) (made : Made) (manner : Manner) (turned : List ℕ)
+    (before after : ℕ) (run : Finished S) : Type 0 where
   -- It made sweeps in the order given, and no other turn.
   pub order : SweptBy R made.dims made.cap made.slots manner starts turned run.progs
   -- Each rank made a turn in each epoch at least: one of its work and one of its votes in each round.
   pub fewest : (n : ℕ) → HasRounds R starts n → before + 2 * n * ranks made.dims ≤ after
   -- No link has more parcels than the run had turns.
-  pub posted : (c : ClosedRound) → run.rounds ≡ c ∷ [] → (l : ℕ) → l < links made.dims → length (logs_of (round_of c).sent l) + before ≤ after
+  pub posted : (c : ClosedRound) → run.rounds ≡ c ∷ [] → (l : ℕ) → l < links made.dims
+      → length (logs_of (round_of c).sent l) + before ≤ after
 
 -- From `before` turns to `after` there are no more than a run of these programs takes at most.
 abbrev pub WithinTurns : {S : Type 0} → Rules S → List S → Manner → List ℕ → ℕ → ℕ → Type 0
-WithinTurns R starts manner dims before after = (n : ℕ) → HasRounds R starts n → after ≤ before + turns_within R manner dims starts n
+WithinTurns R starts manner dims before after = (n : ℕ) → HasRounds R starts n
+    → after ≤ before + turns_within R manner dims starts n
 
--- `told` holds of the turns of each rank, by the rank's number and their own: in a run of n rounds, which has 2 * n epochs, of
+-- `told` holds of the turns of each rank, by the rank's number and their own: in a run of n rounds,
+-- which has 2 * n epochs, of
 -- 2 * n turns at least.
 abbrev pub ToldOfTurns : {S : Type 0} → Rules S → List S → List ℕ → (ℕ → ℕ → Bool) → Type 0
 ToldOfTurns R starts dims told = (n r m : ℕ) → HasRounds R starts n → r < ranks dims → m < 2 * n → told r m ≡ true

@@ -10,8 +10,10 @@ use Rattle.rank_group.specs.Ranks.{RankState}
 abbrev pub progs_of : {S : Type 0} → List (RankState S) → List S
 progs_of rs = map (λ n. n.node.run.prog) rs
 
--- A rank that hasn't turned: on its port nothing was sent or got, and nothing is unread. Over an exstack it is in cycle 0.
-pub record IsFresh {S : Type 0} (R : Rules S) (dims : List ℕ) (cap : ℕ) (manner : Manner) (r : ℕ) (n : RankState S) : Type 0 where
+-- A rank that hasn't turned: on its port nothing was sent or got, and nothing is unread. Over an
+-- exstack it is in cycle 0.
+pub record IsFresh {S : Type 0} (R : Rules S) (dims : List ℕ) (cap : ℕ) (manner : Manner) (r : ℕ)
+    (n : RankState S) : Type 0 where
   pub on : n.over ≡ false
   pub same_dims : dims_of n.node.mover ≡ dims
   pub same_rank : rank_of n.node.mover ≡ r
@@ -20,9 +22,11 @@ pub record IsFresh {S : Type 0} (R : Rules S) (dims : List ℕ) (cap : ℕ) (man
   pub epoch : epoch_in n.node.mover ≡ 0
   pub node : IsNode R (λ m. n.node.run.prog) n.node (λ l. []) (λ l. [])
   pub unread : NoneUnread n.node.mover
-  pub cycle : (quota : ℕ → ℕ) → length (R.emissions n.node.run.prog) ≤ quota 0 → IsInCycle R quota 0 n.node.run n.node.mover (λ l. []) (λ l. [])
+  pub cycle : (quota : ℕ → ℕ) → length (R.emissions n.node.run.prog) ≤ quota 0
+      → IsInCycle R quota 0 n.node.run n.node.mover (λ l. []) (λ l. [])
 
 -- Ranks that haven't turned, one for each program, in order.
-pub record AreFresh {S : Type 0} (R : Rules S) (dims : List ℕ) (cap : ℕ) (manner : Manner) (progs : List S) (rs : List (RankState S)) : Type 0 where
+pub record AreFresh {S : Type 0} (R : Rules S) (dims : List ℕ) (cap : ℕ) (manner : Manner) (progs : List S)
+    (rs : List (RankState S)) : Type 0 where
   pub programs : progs_of rs ≡ progs
   pub each : (r : ℕ) (n : RankState S) → slice_get rs r ≡ Some n → IsFresh R dims cap manner r n

@@ -1,5 +1,7 @@
 -- The ranks of a run, each a node, and what a turn leaves of one.
-use Rattle.std.specs.Prelude.{◌≡◌, ◌⊎◌, ℕ, ◌+◌, ◌<◌, ◌≤◌, ◌==◌, Bool, true, false, cond, List, ◌++◌, length, slice_get, Some}
+use Rattle.std.specs.Prelude.{◌≡◌, ◌⊎◌, ℕ, ◌+◌, ◌<◌, ◌≤◌, ◌==◌, Bool, true, false, List, ◌++◌, length, slice_get, Some}
+use Rattle.std.specs.Prelude.{if◌then◌else◌}
+use Rattle.std.specs.Prelude.{if◌then◌else◌}
 use Rattle.std.specs.List.{All, flat_map}
 use Rattle.item_buffer.specs.Contents.{Shipped}
 use Rattle.route_tensor.specs.Grid.{ranks, IsGrid}
@@ -10,12 +12,13 @@ use Rattle.port_bank.specs.Link.{LinkLaw}
 use Rattle.port_bank.specs.Flow.{Begins}
 use Rattle.hop_core.specs.State.{State}
 use Rattle.convey.specs.Buffers.{is_complete}
-use Rattle.exstack.specs.State.{State as Stack}
+use Rattle.exstack.specs.State.{Stack}
 use Rattle.exstack.specs.Parts.{is_all_done}
 use Rattle.round_program.specs.Rules.{Rules}
 use Rattle.rank_node.specs.declared.turn.Turn.{Turn}
 use Rattle.rank_node.specs.declared.turn.Turn.TheVariants.{Going, Ended}
-use Rattle.rank_node.specs.Movers.{MoverState, Manner, IsShape, dims_of, rank_of, epoch_in, manner_in, has_completed, HasCap, lying}
+use Rattle.rank_node.specs.Movers.{MoverState, Manner, IsShape, dims_of, rank_of, epoch_in, manner_in, has_completed}
+use Rattle.rank_node.specs.Movers.{HasCap, lying}
 use Rattle.rank_node.specs.Movers.MoverState.{Conveying, Stacking}
 use Rattle.rank_node.specs.Nodes.{NodeState, IsNode}
 use Rattle.rank_node.specs.Stuck.{IsStuck}
@@ -36,7 +39,8 @@ pub record IsOrder (p : ℕ) (order : List ℕ) : Type 0 where
   pub each : (r : ℕ) → r < p → (i : ℕ) × (slice_get order i ≡ Some r)
 
 -- Rank r over its own logs, of what it sent and of what it got; h m is the state of its program as round m began.
-pub record IsRank {S : Type 0} (R : Rules S) (dims : List ℕ) (cap : ℕ) (manner : Manner) (r : ℕ) (h : ℕ → S) (n : RankState S) (sent got : Logs) : Type 0 where
+pub record IsRank {S : Type 0} (R : Rules S) (dims : List ℕ) (cap : ℕ) (manner : Manner) (r : ℕ) (h : ℕ → S)
+    (n : RankState S) (sent got : Logs) : Type 0 where
   pub same_dims : dims_of n.node.mover ≡ dims
   pub same_rank : rank_of n.node.mover ≡ r
   pub same_manner : manner_in n.node.mover ≡ manner
@@ -47,11 +51,15 @@ pub record IsRank {S : Type 0} (R : Rules S) (dims : List ℕ) (cap : ℕ) (mann
 
 -- The same over the logs of all ranks.
 abbrev pub HasRank : {S : Type 0} → Rules S → List ℕ → ℕ → Manner → ℕ → (ℕ → S) → RankState S → Logs → Logs → Type 0
-HasRank R dims cap manner r h n sent got = IsRank R dims cap manner r h n (starting_at dims r sent) (ending_at dims r got)
+HasRank R dims cap manner r h n sent got =
+    IsRank R dims cap manner r h n (starting_at dims r sent) (ending_at dims r got)
 
--- The ranks of a run over the logs of all links, whatever bank these are of; h r m is the state of rank r's program as round m began.
--- links_keep: each link keeps its law. each: each rank keeps to its own logs. begins: the programs began in the states `starts`.
-pub record AllRanks {S : Type 0} (R : Rules S) (dims : List ℕ) (cap slots : ℕ) (manner : Manner) (starts : List S) (h : ℕ → ℕ → S) (rs : List (RankState S)) (sent got : Logs) : Type 0 where
+-- The ranks of a run over the logs of all links, whatever bank these are of; h r m is the state of
+-- rank r's program as round m began.
+-- links_keep: each link keeps its law. each: each rank keeps to its own logs. begins: the programs
+-- began in the states `starts`.
+pub record AllRanks {S : Type 0} (R : Rules S) (dims : List ℕ) (cap slots : ℕ) (manner : Manner) (starts : List S)
+    (h : ℕ → ℕ → S) (rs : List (RankState S)) (sent got : Logs) : Type 0 where
   pub grid : IsGrid dims
   pub links_keep : (l : ℕ) → l < links dims → LinkLaw cap slots (sent l) (got l)
   pub all : length rs ≡ ranks dims
@@ -60,7 +68,7 @@ pub record AllRanks {S : Type 0} (R : Rules S) (dims : List ℕ) (cap slots : �
 
 -- How many epochs a rank has completed.
 abbrev pub progress : {S : Type 0} → RankState S → ℕ
-progress n = cond n.over (epoch_in n.node.mover + 1) (epoch_in n.node.mover)
+progress n = if n.over then epoch_in n.node.mover + 1 else epoch_in n.node.mover
 
 -- Whether no slot is free on rank r's link l out, and whether nothing waits on its link l in, by the logs of all ranks.
 abbrev pub crowded_in : List ℕ → ℕ → ℕ → Logs → Logs → ℕ → Bool
@@ -70,7 +78,8 @@ abbrev pub idle_in : List ℕ → ℕ → Logs → Logs → ℕ → Bool
 idle_in dims r sent got l = length (ending_at dims r got l) == length (sent l)
 
 -- What the turn of the node of rank r leaves.
-pub record AfterTurn {S : Type 0} (R : Rules S) (dims : List ℕ) (cap slots r : ℕ) (turn : Turn) (n n' : NodeState S) (sent got sent' got' : Logs) : Type 0 where
+pub record AfterTurn {S : Type 0} (R : Rules S) (dims : List ℕ) (cap slots r : ℕ) (turn : Turn) (n n' : NodeState S)
+    (sent got sent' got' : Logs) : Type 0 where
   pub sent_elsewhere : starting_elsewhere dims r sent' ≡ starting_elsewhere dims r sent
   pub got_elsewhere : ending_elsewhere dims r got' ≡ ending_elsewhere dims r got
   pub node_dims : dims_of n'.mover ≡ dims_of n.mover
@@ -80,15 +89,22 @@ pub record AfterTurn {S : Type 0} (R : Rules S) (dims : List ℕ) (cap slots r :
   pub node_epoch : epoch_in n'.mover ≡ epoch_in n.mover
   pub sent_grows : (l : ℕ) → Begins (starting_at dims r sent l) (starting_at dims r sent' l)
   pub got_grows : (l : ℕ) → Begins (ending_at dims r got l) (ending_at dims r got' l)
-  pub one_sent : (l : ℕ) → l < links dims → sender_at dims l ≡ r → length (starting_at dims r sent' l) ≤ length (starting_at dims r sent l) + 1
-  pub shape : (l : ℕ) → l < links dims → sender_at dims l ≡ r → IsShape (manner_in n.mover) cap (starting_at dims r sent l) → IsShape (manner_in n.mover) cap (starting_at dims r sent' l)
-  pub lies : (l : ℕ) (more : List Shipped) → l < links dims → reader_at dims l ≡ r → ending_at dims r got' l ≡ ending_at dims r got l ++ more
+  pub one_sent : (l : ℕ) → l < links dims → sender_at dims l ≡ r
+      → length (starting_at dims r sent' l) ≤ length (starting_at dims r sent l) + 1
+  pub shape : (l : ℕ) → l < links dims → sender_at dims l ≡ r
+      → IsShape (manner_in n.mover) cap (starting_at dims r sent l)
+      → IsShape (manner_in n.mover) cap (starting_at dims r sent' l)
+  pub lies : (l : ℕ) (more : List Shipped) → l < links dims → reader_at dims l ≡ r
+      → ending_at dims r got' l ≡ ending_at dims r got l ++ more
       → lying n'.mover l ≤ lying n.mover l + length (flat_map (λ p. p.entries) more)
-  pub kept : (h : ℕ → S) → IsNode R h n (starting_at dims r sent) (ending_at dims r got) → IsNode R h n' (starting_at dims r sent') (ending_at dims r got')
+  pub kept : (h : ℕ → S) → IsNode R h n (starting_at dims r sent) (ending_at dims r got)
+      → IsNode R h n' (starting_at dims r sent') (ending_at dims r got')
   pub ended : turn ≡ Ended → has_completed n'.mover ≡ true
   pub going : turn ≡ Going → has_completed n'.mover ≡ false
-  pub waits : Waits R n.run n.mover n'.mover (starting_at dims r sent) (ending_at dims r got) (starting_at dims r sent') (ending_at dims r got') (crowded_in dims slots r sent' got') (idle_in dims r sent' got')
-  pub cycle : (quota : ℕ → ℕ) (k : ℕ) → IsInCycle R quota k n.run n.mover (starting_at dims r sent) (ending_at dims r got)
+  pub waits : Waits R n.run n.mover n'.mover (starting_at dims r sent) (ending_at dims r got) (starting_at dims r sent')
+      (ending_at dims r got') (crowded_in dims slots r sent' got') (idle_in dims r sent' got')
+  pub cycle : (quota : ℕ → ℕ) (k : ℕ)
+      → IsInCycle R quota k n.run n.mover (starting_at dims r sent) (ending_at dims r got)
       → IsInCycle R quota (cycle_of_turn k n.mover) n'.run n'.mover (starting_at dims r sent') (ending_at dims r got')
   pub onward : TurnsOnward n.mover n'.mover
   pub awaits : AwaitsSome n'.mover
@@ -107,61 +123,82 @@ pub record IsLeftWaiting (x x' : Stack) (got got' : Logs) (is_crowded is_idle : 
 
 -- Either of them.
 abbrev pub IsLeftBy : MoverState → MoverState → Logs → Logs → Logs → Logs → (ℕ → Bool) → (ℕ → Bool) → Type 0
-IsLeftBy (Conveying c) (Conveying c') sent got sent' got' is_crowded is_idle = IsLeft c c' sent got sent' got' is_crowded is_idle
+IsLeftBy (Conveying c) (Conveying c') sent got sent' got' is_crowded is_idle =
+    IsLeft c c' sent got sent' got' is_crowded is_idle
 IsLeftBy (Conveying c) (Stacking k x) sent got sent' got' is_crowded is_idle = ⊥
 IsLeftBy (Stacking k x) (Conveying c) sent got sent' got' is_crowded is_idle = ⊥
-IsLeftBy (Stacking k x) (Stacking k' x') sent got sent' got' is_crowded is_idle = IsLeftWaiting x x' got got' is_crowded is_idle
+IsLeftBy (Stacking k x) (Stacking k' x') sent got sent' got' is_crowded is_idle =
+    IsLeftWaiting x x' got got' is_crowded is_idle
 
 -- Rank r wasn't turned: nothing of it changed.
-pub record IsUnturned {S : Type 0} (dims : List ℕ) (r : ℕ) (n n' : RankState S) (sent got sent' got' : Logs) : Type 0 where
+pub record IsUnturned {S : Type 0} (dims : List ℕ) (r : ℕ) (n n' : RankState S)
+    (sent got sent' got' : Logs) : Type 0 where
   pub same : n' ≡ n
   pub same_sent : starting_at dims r sent' ≡ starting_at dims r sent
   pub same_got : ending_at dims r got' ≡ ending_at dims r got
 
 -- A turn left rank r in its epoch, which isn't over.
 -- cycle, onward, awaits, waits: over an exstack it went on in its cycles, and what keeps it where it is within a round.
-pub record StaysIn {S : Type 0} (R : Rules S) (dims : List ℕ) (slots r : ℕ) (n n' : RankState S) (sent got sent' got' : Logs) : Type 0 where
+pub record StaysIn {S : Type 0} (R : Rules S) (dims : List ℕ) (slots r : ℕ) (n n' : RankState S)
+    (sent got sent' got' : Logs) : Type 0 where
   pub still : n'.over ≡ false
   pub epoch : epoch_in n'.node.mover ≡ epoch_in n.node.mover
   pub going : has_completed n'.node.mover ≡ false
-  pub cycle : (quota : ℕ → ℕ) (k : ℕ) → IsInCycle R quota k n.node.run n.node.mover (starting_at dims r sent) (ending_at dims r got)
-      → IsInCycle R quota (cycle_of_turn k n.node.mover) n'.node.run n'.node.mover (starting_at dims r sent') (ending_at dims r got')
+  pub cycle : (quota : ℕ → ℕ) (k : ℕ)
+      → IsInCycle R quota k n.node.run n.node.mover (starting_at dims r sent) (ending_at dims r got)
+      → IsInCycle R quota (cycle_of_turn k n.node.mover) n'.node.run n'.node.mover (starting_at dims r sent')
+      (ending_at dims r got')
   pub onward : TurnsOnward n.node.mover n'.node.mover
   pub awaits : AwaitsSome n'.node.mover
-  pub waits : Waits R n.node.run n.node.mover n'.node.mover (starting_at dims r sent) (ending_at dims r got) (starting_at dims r sent') (ending_at dims r got') (crowded_in dims slots r sent' got') (idle_in dims r sent' got')
+  pub waits : Waits R n.node.run n.node.mover n'.node.mover (starting_at dims r sent) (ending_at dims r got)
+      (starting_at dims r sent') (ending_at dims r got') (crowded_in dims slots r sent' got')
+      (idle_in dims r sent' got')
 
 -- A turn ended the epoch of rank r: its next one began, or its run is over.
 -- at_end: the node between the two.
-pub record EndsEpoch {S : Type 0} (R : Rules S) (dims : List ℕ) (r : ℕ) (n n' : RankState S) (sent got sent' got' : Logs) : Type 0 where
+pub record EndsEpoch {S : Type 0} (R : Rules S) (dims : List ℕ) (r : ℕ) (n n' : RankState S)
+    (sent got sent' got' : Logs) : Type 0 where
   pub at_end : NodeState S
   pub same_dims : dims_of at_end.mover ≡ dims_of n.node.mover
   pub same_rank : rank_of at_end.mover ≡ rank_of n.node.mover
   pub same_manner : manner_in at_end.mover ≡ manner_in n.node.mover
   pub epoch : epoch_in at_end.mover ≡ epoch_in n.node.mover
-  pub cycle : (quota : ℕ → ℕ) (k : ℕ) → IsInCycle R quota k n.node.run n.node.mover (starting_at dims r sent) (ending_at dims r got)
-      → IsInCycle R quota (cycle_of_turn k n.node.mover) at_end.run at_end.mover (starting_at dims r sent') (ending_at dims r got')
+  pub cycle : (quota : ℕ → ℕ) (k : ℕ)
+      → IsInCycle R quota k n.node.run n.node.mover (starting_at dims r sent) (ending_at dims r got)
+      → IsInCycle R quota (cycle_of_turn k n.node.mover) at_end.run at_end.mover (starting_at dims r sent')
+      (ending_at dims r got')
   pub over : n'.over ≡ true → n'.node.mover ≡ at_end.mover
   pub next : n'.over ≡ false → epoch_in n'.node.mover ≡ epoch_in n.node.mover + 1
-  pub anew : n'.over ≡ false → (quota : ℕ → ℕ) (k : ℕ) → IsInCycle R quota k at_end.run at_end.mover (starting_at dims r sent') (ending_at dims r got')
-      → length (to_send R n'.node.run.prog n'.node.run.sends) ≤ quota (epoch_in n'.node.mover) → IsInCycle R quota 0 n'.node.run n'.node.mover (starting_at dims r sent') (ending_at dims r got')
+  pub anew : n'.over ≡ false → (quota : ℕ → ℕ) (k : ℕ)
+      → IsInCycle R quota k at_end.run at_end.mover (starting_at dims r sent') (ending_at dims r got')
+      → length (to_send R n'.node.run.prog n'.node.run.sends) ≤ quota (epoch_in n'.node.mover)
+      → IsInCycle R quota 0 n'.node.run n'.node.mover (starting_at dims r sent') (ending_at dims r got')
 
 -- What the turn of rank r leaves, with the step to its next epoch where one has ended.
 -- one_sent: it posts at most one parcel on a link.
 -- lies: an inbox holds at most what it held and what came.
 -- forward: its epochs only go on. left: where it is in the same epoch and no parcel was moved, it was left there.
 -- unturned, turned: a rank whose run is over isn't turned, and one that goes on stays in its epoch or ends it.
-pub record AfterRank {S : Type 0} (R : Rules S) (dims : List ℕ) (cap slots r : ℕ) (n n' : RankState S) (sent got sent' got' : Logs) : Type 0 where
+pub record AfterRank {S : Type 0} (R : Rules S) (dims : List ℕ) (cap slots r : ℕ) (n n' : RankState S)
+    (sent got sent' got' : Logs) : Type 0 where
   pub sent_elsewhere : starting_elsewhere dims r sent' ≡ starting_elsewhere dims r sent
   pub got_elsewhere : ending_elsewhere dims r got' ≡ ending_elsewhere dims r got
   pub sent_grows : (l : ℕ) → Begins (starting_at dims r sent l) (starting_at dims r sent' l)
   pub got_grows : (l : ℕ) → Begins (ending_at dims r got l) (ending_at dims r got' l)
-  pub one_sent : (l : ℕ) → l < links dims → sender_at dims l ≡ r → length (starting_at dims r sent' l) ≤ length (starting_at dims r sent l) + 1
-  pub lies : (l : ℕ) (more : List Shipped) → l < links dims → reader_at dims l ≡ r → ending_at dims r got' l ≡ ending_at dims r got l ++ more
+  pub one_sent : (l : ℕ) → l < links dims → sender_at dims l ≡ r
+      → length (starting_at dims r sent' l) ≤ length (starting_at dims r sent l) + 1
+  pub lies : (l : ℕ) (more : List Shipped) → l < links dims → reader_at dims l ≡ r
+      → ending_at dims r got' l ≡ ending_at dims r got l ++ more
       → lying n'.node.mover l ≤ lying n.node.mover l + length (flat_map (λ p. p.entries) more)
   pub forward : progress n ≤ progress n'
-  pub kept : (manner : Manner) (h : ℕ → S) → HasRank R dims cap manner r h n sent got → (g : ℕ → S) × (g 0 ≡ h 0) × HasRank R dims cap manner r g n' sent' got'
-  pub left : (manner : Manner) (h : ℕ → S) → HasRank R dims cap manner r h n sent got → n'.over ≡ false → progress n' ≡ progress n
-      → ((l : ℕ) → starting_at dims r sent' l ≡ starting_at dims r sent l) → ((l : ℕ) → ending_at dims r got' l ≡ ending_at dims r got l)
-      → IsLeftBy n.node.mover n'.node.mover (starting_at dims r sent) (ending_at dims r got) (starting_at dims r sent') (ending_at dims r got') (crowded_in dims slots r sent' got') (idle_in dims r sent' got')
+  pub kept : (manner : Manner) (h : ℕ → S) → HasRank R dims cap manner r h n sent got
+      → (g : ℕ → S) × (g 0 ≡ h 0) × HasRank R dims cap manner r g n' sent' got'
+  pub left : (manner : Manner) (h : ℕ → S) → HasRank R dims cap manner r h n sent got → n'.over ≡ false
+      → progress n' ≡ progress n
+      → ((l : ℕ) → starting_at dims r sent' l ≡ starting_at dims r sent l)
+      → ((l : ℕ) → ending_at dims r got' l ≡ ending_at dims r got l)
+      → IsLeftBy n.node.mover n'.node.mover (starting_at dims r sent) (ending_at dims r got) (starting_at dims r sent')
+      (ending_at dims r got') (crowded_in dims slots r sent' got') (idle_in dims r sent' got')
   pub unturned : n.over ≡ true → IsUnturned dims r n n' sent got sent' got'
-  pub turned : n.over ≡ false → StaysIn R dims slots r n n' sent got sent' got' ⊎ EndsEpoch R dims r n n' sent got sent' got'
+  pub turned : n.over ≡ false
+      → StaysIn R dims slots r n n' sent got sent' got' ⊎ EndsEpoch R dims r n n' sent got sent' got'

@@ -1,6 +1,6 @@
 -- Ranks that sit at a slot bank.
 use Rattle.std.specs.Prelude.{◌≡◌, ℕ, ◌<◌, ◌≤◌, Bool, true, false, List, slice_get, Some}
-use Rattle.link_slots.specs.Seen.{Bank, Manning, posted_on, collected_from}
+use Rattle.link_slots.specs.Seen.{Identity, Manning, posted_on, collected_from}
 use Rattle.round_program.specs.Rules.{Rules}
 use Rattle.rank_node.specs.Movers.{Manner}
 use Rattle.rank_group.specs.Ranks.{RankState, IsRank, progress}
@@ -13,13 +13,15 @@ pub record SeatedState (S : Type 0) : Type 0 where
   pub lost : Bool
 
 -- the bank at which it sits
-abbrev pub bank_of : {S : Type 0} → SeatedState S → Bank
+abbrev pub bank_of : {S : Type 0} → SeatedState S → Identity
 bank_of x = record { id = x.seat.id; shape = x.seat.shape }
 
--- By its seat's lists it is a rank of a run; h m is the state of its program as round m began. Nothing is said where memory was wanting.
+-- By its seat's lists it is a rank of a run; h m is the state of its program as round m began.
+-- Nothing is said where memory was wanting.
 -- few: it completed no more epochs than it made turns.
 pub record IsOnWay {S : Type 0} (R : Rules S) (cap : ℕ) (manner : Manner) (h : ℕ → S) (x : SeatedState S) : Type 0 where
-  pub runs : x.lost ≡ false → IsRank R x.seat.shape.dims cap manner x.seat.rank h x.rank (posted_on x.seat) (collected_from x.seat)
+  pub runs : x.lost ≡ false
+      → IsRank R x.seat.shape.dims cap manner x.seat.rank h x.rank (posted_on x.seat) (collected_from x.seat)
   pub few : x.lost ≡ false → progress x.rank ≤ x.turns
 
 -- The same, of some run.
@@ -35,15 +37,17 @@ pub record Ran {S : Type 0} (R : Rules S) (cap : ℕ) (told : ℕ → ℕ → Bo
   pub number : y.seat.rank ≡ x.seat.rank
   pub more : x.turns ≤ y.turns
   pub heard : (n : ℕ) → x.turns ≤ n → n < y.turns → told x.seat.rank n ≡ true
-  pub kept : (manner : Manner) (h : ℕ → S) → IsOnWay R cap manner h x → (g : ℕ → S) × (g 0 ≡ h 0) × IsOnWay R cap manner g y
+  pub kept : (manner : Manner) (h : ℕ → S) → IsOnWay R cap manner h x
+      → (g : ℕ → S) × (g 0 ≡ h 0) × IsOnWay R cap manner g y
 
 -- A rank that hasn't turned sits at the bank b with the number r.
-pub record IsSeated {S : Type 0} (R : Rules S) (cap : ℕ) (manner : Manner) (b : Bank) (r : ℕ) (x : SeatedState S) : Type 0 where
+pub record IsSeated {S : Type 0} (R : Rules S) (cap : ℕ) (manner : Manner) (b : Identity) (r : ℕ)
+    (x : SeatedState S) : Type 0 where
   pub bank : bank_of x ≡ b
   pub number : x.seat.rank ≡ r
   pub none : x.turns ≡ 0
   pub way : IsOnWay R cap manner (λ m. x.rank.node.run.prog) x
 
 -- Ranks that haven't turned sit at the bank b in order.
-abbrev pub AreSeated : {S : Type 0} → Rules S → ℕ → Manner → Bank → List (SeatedState S) → Type 0
+abbrev pub AreSeated : {S : Type 0} → Rules S → ℕ → Manner → Identity → List (SeatedState S) → Type 0
 AreSeated {S} R cap manner b xs = (r : ℕ) (x : SeatedState S) → slice_get xs r ≡ Some x → IsSeated R cap manner b r x

@@ -1,5 +1,6 @@
 -- What a run exchanged, as its closed rounds tell it.
-use Rattle.std.specs.Prelude.{◌≡◌, ℕ, zero, suc, ◌+◌, ◌*◌, ◌<◌, Bool, List, [], ◌∷◌, length, Option, Some, None, slice_get}
+use Rattle.std.specs.Prelude.{◌≡◌, ℕ, zero, suc, ◌+◌, ◌*◌, ◌<◌, Bool, List, [], ◌∷◌, length, Option, Some, None}
+use Rattle.std.specs.Prelude.{slice_get}
 use Rattle.bale_types.specs.declared.item.Item.{Item}
 use Rattle.route_tensor.specs.Grid.{ranks}
 use Rattle.route_tensor.specs.Link.{links}
@@ -32,20 +33,24 @@ vote_sent R (Some s) = vote_item (R.vote s) ∷ []
 -- shape: each parcel is filled as the transport fills it, conveyors steady or not. Where they aren't steady, an epoch's
 -- entries travel in few parcels (port_bank's few_parcels_law).
 -- With two ranks and six rounds there are 12 epochs; in each odd one each of the four pairs has one item.
-pub record TellsRun {S : Type 0} (R : Rules S) (starts : List S) (n : ℕ) (made : Made) (manner : Manner) (round : Round) : Type 0 where
+pub record TellsRun {S : Type 0} (R : Rules S) (starts : List S) (n : ℕ) (made : Made) (manner : Manner)
+    (round : Round) : Type 0 where
   pub bank : record { dims = round.dims; cap = round.cap; slots = round.slots; by_slots = round.by_slots } ≡ made
   pub lawful : IsRound round
   pub ended : (l : ℕ) → l < links round.dims → lasts (logs_of round.sent l) ≡ 2 * n
   pub by_last : (l : ℕ) → l < links round.dims → EndsLast (logs_of round.sent l)
   pub collected : (l : ℕ) → l < links round.dims → logs_of round.got l ≡ logs_of round.sent l
-  pub work : (m s d : ℕ) → m < n → s < ranks round.dims → d < ranks round.dims → pushed round (2 * m) s d ≡ emitted_by R (states_at R starts m) d s
-  pub votes : (m s d : ℕ) → m < n → s < ranks round.dims → d < ranks round.dims → pushed round (2 * m + 1) s d ≡ vote_sent R (slice_get (absorbed_round R (states_at R starts m)) s)
+  pub work : (m s d : ℕ) → m < n → s < ranks round.dims → d < ranks round.dims
+      → pushed round (2 * m) s d ≡ emitted_by R (states_at R starts m) d s
+  pub votes : (m s d : ℕ) → m < n → s < ranks round.dims → d < ranks round.dims
+      → pushed round (2 * m + 1) s d ≡ vote_sent R (slice_get (absorbed_round R (states_at R starts m)) s)
   pub all_came : (e s d : ℕ) → s < ranks round.dims → d < ranks round.dims → pulled round e d s ≡ pushed round e s d
   pub shape : (l : ℕ) → l < links round.dims → IsShape manner round.cap (logs_of round.sent l)
 
 -- How many turns an epoch takes at most in which so many items are sent.
--- Over conveyors each turn but P of them moves something, and a parcel or an entry moves at most so often. Over exstacks two
--- turns of every rank finish a round, and an epoch has at most 2 * items + 1 of them.
+-- Over conveyors each turn but P of them moves something, and a parcel or an entry moves at most so
+-- often. Over exstacks two turns of every rank finish a round, and an epoch has at most 2 * items +
+-- 1 of them.
 -- one_rank: over conveyors turns_of (1) 4 is 1 * (4 * 4 + 2 * 1 + 1) = 19, and over exstacks 4 * 1 * (4 + 2) = 24.
 abbrev pub turns_of : Manner → List ℕ → ℕ → ℕ
 turns_of (ByConveyor steady) dims items = ranks dims * (items * (3 * length dims + 1) + 2 * links dims + 1)
@@ -56,4 +61,6 @@ turns_of ByExstack dims items = 4 * ranks dims * (items + 2)
 -- For one rank, four entries and one round it is 19 + 7 = 26 over conveyors, and 24 + 12 = 36 over exstacks.
 abbrev pub turns_within : {S : Type 0} → Rules S → Manner → List ℕ → List S → ℕ → ℕ
 turns_within R manner dims starts zero = 0
-turns_within R manner dims starts (suc n) = turns_within R manner dims starts n + (turns_of manner dims (items_at R starts n) + turns_of manner dims (ranks dims * ranks dims))
+turns_within R manner dims starts (suc n) =
+    turns_within R manner dims starts n
+    + (turns_of manner dims (items_at R starts n) + turns_of manner dims (ranks dims * ranks dims))

@@ -17,25 +17,30 @@ pub record Scene (S : Type 0) : Type 0 where
 pub record IsTurnOf {S : Type 0} (R : Rules S) (dims : List ℕ) (cap slots r : ℕ) (a b : Scene S) : Type 0 where
   pub all : length b.ranks ≡ length a.ranks
   pub others : (k : ℕ) → k ≢ r → slice_get b.ranks k ≡ slice_get a.ranks k
-  pub turned : (n n' : RankState S) → slice_get a.ranks r ≡ Some n → slice_get b.ranks r ≡ Some n' → AfterRank R dims cap slots r n n' a.sent a.got b.sent b.got
+  pub turned : (n n' : RankState S) → slice_get a.ranks r ≡ Some n → slice_get b.ranks r ≡ Some n'
+      → AfterRank R dims cap slots r n n' a.sent a.got b.sent b.got
 
 -- Between two moments the ranks of a list were turned, one after the other, and no other.
 -- For the list 2, 0 there is a moment between: before it rank 2 was turned, and after it rank 0.
 abbrev pub TurnsOf : {S : Type 0} → Rules S → List ℕ → ℕ → ℕ → List ℕ → Scene S → Scene S → Type 0
 TurnsOf {S} R dims cap slots [] a b = b ≡ a
-TurnsOf {S} R dims cap slots (r ∷ rs) a b = (m : Scene S) × IsTurnOf R dims cap slots r a m × TurnsOf R dims cap slots rs m b
+TurnsOf {S} R dims cap slots (r ∷ rs) a b = (m : Scene S) × IsTurnOf R dims cap slots r a m
+    × TurnsOf R dims cap slots rs m b
 
 -- Between two moments so many sweeps were made in one order.
 abbrev pub SweepsOf : {S : Type 0} → Rules S → List ℕ → ℕ → ℕ → List ℕ → ℕ → Scene S → Scene S → Type 0
 SweepsOf {S} R dims cap slots order zero a b = b ≡ a
-SweepsOf {S} R dims cap slots order (suc k) a b = (m : Scene S) × TurnsOf R dims cap slots order a m × SweepsOf R dims cap slots order k m b
+SweepsOf {S} R dims cap slots order (suc k) a b = (m : Scene S) × TurnsOf R dims cap slots order a m
+    × SweepsOf R dims cap slots order k m b
 
--- A run of the programs `starts`, over a plain bank with so many slots, made sweeps in one order and no other turn, and left the
--- programs `ends`.
-pub record SweptBy {S : Type 0} (R : Rules S) (dims : List ℕ) (cap slots : ℕ) (manner : Manner) (starts : List S) (order : List ℕ) (ends : List S) : Type 0 where
+-- A run of the programs `starts`, over a plain bank with so many slots, made sweeps in one order
+-- and no other turn, and left the programs `ends`.
+pub record SweptBy {S : Type 0} (R : Rules S) (dims : List ℕ) (cap slots : ℕ) (manner : Manner) (starts : List S)
+    (order : List ℕ) (ends : List S) : Type 0 where
   pub sweeps : ℕ
   pub first : List (RankState S)
   pub last : Scene S
   pub fresh : AreFresh R dims cap manner starts first
   pub ended : progs_of last.ranks ≡ ends
-  pub swept : SweepsOf R dims cap slots order sweeps (record { ranks = first; sent = sent_of (empty_bank dims slots); got = got_of (empty_bank dims slots) }) last
+  pub swept : SweepsOf R dims cap slots order sweeps
+      (record { ranks = first; sent = sent_of (empty_bank dims slots); got = got_of (empty_bank dims slots) }) last

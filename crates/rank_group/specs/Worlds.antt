@@ -1,5 +1,7 @@
 -- All ranks of a drive over one plain bank, and what a sweep over them leaves.
-use Rattle.std.specs.Prelude.{◌≡◌, ◌⊎◌, ⊤, true, ℕ, ◌+◌, ◌-◌, ◌^◌, ◌<◌, ◌≤◌, false, cond, List, [], length, Option, Some, None, slice_get}
+use Rattle.std.specs.Prelude.{◌≡◌, ◌⊎◌, ⊤, true, ℕ, ◌+◌, ◌-◌, ◌^◌, ◌<◌, ◌≤◌, false, List, [], length, Option, Some}
+use Rattle.std.specs.Prelude.{if◌then◌else◌}
+use Rattle.std.specs.Prelude.{None, slice_get, if◌then◌else◌}
 use Rattle.std.specs.List.{flat_map}
 use Rattle.bale_types.specs.declared.item.Entry.{Entry}
 use Rattle.item_buffer.specs.Contents.{Shipped}
@@ -29,7 +31,18 @@ entries_of log = flat_map (λ p. p.entries) log
 
 -- a rank that has none: no state of a conveyor
 abbrev pub nowhere : State
-nowhere = record { dims = []; rank = 0; cap = 0; steady = false; outs = []; ins = []; done = false; phase = Dormant; epoch = 0; pulled = None }
+nowhere = record {
+  dims = [];
+  rank = 0;
+  cap = 0;
+  steady = false;
+  outs = [];
+  ins = [];
+  done = false;
+  phase = Dormant;
+  epoch = 0;
+  pulled = None;
+}
 
 abbrev pub mover_in : {S : Type 0} → Option (RankState S) → MoverState
 mover_in None = Conveying nowhere
@@ -46,7 +59,7 @@ all_progress dims rs = total (ranks dims) (λ r. progress_in (slice_get rs r))
 -- a history with the state in which a run has ended
 abbrev pub history_in : {S : Type 0} → (ℕ → S) → Option (RankState S) → ℕ → S
 history_in h None = h
-history_in h (Some n) = cond n.over (extended h (n.node.run.round + 1) n.node.run.prog) h
+history_in h (Some n) = if n.over then extended h (n.node.run.round + 1) n.node.run.prog else h
 
 abbrev pub part_at : {S : Type 0} → List ℕ → List (RankState S) → Logs → Logs → ℕ → Part
 part_at dims rs sent got r = part_in (mover_in (slice_get rs r)) (starting_at dims r sent) (ending_at dims r got)
@@ -57,14 +70,16 @@ inbox dims rs l = lying (mover_in (slice_get rs (reader_at dims l))) l
 
 -- all ranks over one plain bank
 -- keeps: over exstacks each rank is in some cycle of its epoch
-pub record World {S : Type 0} (R : Rules S) (dims : List ℕ) (cap slots : ℕ) (manner : Manner) (starts : List S) (h : ℕ → ℕ → S) (rs : List (RankState S)) (sent got : Logs) : Type 0 where
+pub record World {S : Type 0} (R : Rules S) (dims : List ℕ) (cap slots : ℕ) (manner : Manner) (starts : List S)
+    (h : ℕ → ℕ → S) (rs : List (RankState S)) (sent got : Logs) : Type 0 where
   pub ranked : AllRanks R dims cap slots manner starts h rs sent got
   pub none_past : (l : ℕ) → links dims ≤ l → (sent l ≡ []) × (got l ≡ [])
   pub relays : (r : ℕ) → r < ranks dims → RelayLaw dims r sent got
   pub some : 0 < cap
   pub inboxes : (l : ℕ) → l < links dims → inbox dims rs l ≤ length (entries_of (got l))
   pub cycle : ℕ → ℕ
-  pub keeps : (r : ℕ) (x : RankState S) → slice_get rs r ≡ Some x → KeepsCycle R (quota_of R (ranks dims) starts r) (cycle r) x (starting_at dims r sent) (ending_at dims r got)
+  pub keeps : (r : ℕ) (x : RankState S) → slice_get rs r ≡ Some x
+      → KeepsCycle R (quota_of R (ranks dims) starts r) (cycle r) x (starting_at dims r sent) (ending_at dims r got)
 
 -- what moved so far
 abbrev pub move_of : {S : Type 0} → List ℕ → List (RankState S) → Logs → Logs → ℕ → ℕ
@@ -85,8 +100,10 @@ pub record Rests (dims : List ℕ) (slots r : ℕ) (c' : State) (sent got : Logs
   pub same_dims : c.dims ≡ dims
   pub same_rank : c.rank ≡ r
   pub same_epoch : c.epoch ≡ c'.epoch
-  pub kept : (l : ℕ) → l < links dims → reader_at dims l ≡ r → length (in_of c l).parcel.untaken ≤ length (in_of c' l).parcel.untaken
-  pub left : IsLeft c c' (starting_at dims r sent) (ending_at dims r got) (starting_at dims r sent) (ending_at dims r got) (crowded_in dims slots r sent got) (idle_in dims r sent got)
+  pub kept : (l : ℕ) → l < links dims → reader_at dims l ≡ r
+      → length (in_of c l).parcel.untaken ≤ length (in_of c' l).parcel.untaken
+  pub left : IsLeft c c' (starting_at dims r sent) (ending_at dims r got) (starting_at dims r sent)
+      (ending_at dims r got) (crowded_in dims slots r sent got) (idle_in dims r sent got)
 
 -- of ranks over exstacks nothing is said
 abbrev pub RestsBy : List ℕ → ℕ → ℕ → MoverState → Logs → Logs → Type 0
@@ -95,7 +112,8 @@ RestsBy dims slots r (Stacking cap x) sent got = ⊤
 
 -- Every rank, in its cycle, has made j halves of rounds.
 abbrev pub AllMade : {S : Type 0} → (ℕ → ℕ) → ℕ → (ℕ → ℕ) → List (RankState S) → Type 0
-AllMade {S} most j cycle rs = (r : ℕ) (x : RankState S) → slice_get rs r ≡ Some x → MoverMade most j x.over (cycle r) x.node.mover
+AllMade {S} most j cycle rs = (r : ℕ) (x : RankState S) → slice_get rs r ≡ Some x
+    → MoverMade most j x.over (cycle r) x.node.mover
 
 -- What turns leave of the plain bank that they began with.
 pub record KeepsBank (cap : ℕ) (before after : Bank) : Type 0 where
@@ -117,14 +135,20 @@ pub record Plan {S : Type 0} (R : Rules S) (dims : List ℕ) (slots : ℕ) (star
 -- What the turns of the first i ranks of an order leave of all ranks, which were in some cycles.
 -- forward: no rank goes back. grown: what moved stays moved.
 -- rests: where nothing moved, each rank that was turned and is in its epoch still is at rest.
--- made: over exstacks, where every rank had made j halves of rounds, each still has, and one that was turned has made one more.
-pub record SweptTo {S : Type 0} (R : Rules S) (dims : List ℕ) (cap slots : ℕ) (manner : Manner) (starts : List S) (order : List ℕ) (i : ℕ) (cycle0 : ℕ → ℕ) (rs0 : List (RankState S)) (sent0 got0 : Logs) (rs : List (RankState S)) (sent got : Logs) : Type 0 where
+-- made: over exstacks, where every rank had made j halves of rounds, each still has, and one that
+-- was turned has made one more.
+pub record SweptTo {S : Type 0} (R : Rules S) (dims : List ℕ) (cap slots : ℕ) (manner : Manner) (starts : List S)
+    (order : List ℕ) (i : ℕ) (cycle0 : ℕ → ℕ) (rs0 : List (RankState S)) (sent0 got0 : Logs) (rs : List (RankState S))
+    (sent got : Logs) : Type 0 where
   pub h : ℕ → ℕ → S
   pub world : World R dims cap slots manner starts h rs sent got
   pub grown : moves dims rs0 sent0 got0 ≤ moves dims rs sent got
-  pub forward : (r : ℕ) (x0 x : RankState S) → slice_get rs0 r ≡ Some x0 → slice_get rs r ≡ Some x → progress x0 ≤ progress x
-  pub rests : moves dims rs sent got ≤ moves dims rs0 sent0 got0 → (j r : ℕ) → j < i → slice_get order j ≡ Some r → (x0 x : RankState S) → slice_get rs0 r ≡ Some x0 → slice_get rs r ≡ Some x
+  pub forward : (r : ℕ) (x0 x : RankState S) → slice_get rs0 r ≡ Some x0 → slice_get rs r ≡ Some x
+      → progress x0 ≤ progress x
+  pub rests : moves dims rs sent got ≤ moves dims rs0 sent0 got0 → (j r : ℕ) → j < i → slice_get order j ≡ Some r
+      → (x0 x : RankState S) → slice_get rs0 r ≡ Some x0 → slice_get rs r ≡ Some x
       → x.over ≡ false → progress x ≡ progress x0 → RestsBy dims slots r x.node.mover sent got
   pub made : (j : ℕ) → AllMade (most_rounds R (ranks dims) starts) j cycle0 rs0
       → AllMade (most_rounds R (ranks dims) starts) j world.cycle rs
-      × ((p r : ℕ) → p < i → slice_get order p ≡ Some r → (x : RankState S) → slice_get rs r ≡ Some x → (x.over ≡ true) ⊎ MoverMade (most_rounds R (ranks dims) starts) (j + 1) x.over (world.cycle r) x.node.mover)
+      × ((p r : ℕ) → p < i → slice_get order p ≡ Some r → (x : RankState S) → slice_get rs r ≡ Some x
+      → (x.over ≡ true) ⊎ MoverMade (most_rounds R (ranks dims) starts) (j + 1) x.over (world.cycle r) x.node.mover)

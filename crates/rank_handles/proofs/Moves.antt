@@ -8,7 +8,7 @@ use Rattle.port_bank.specs.Machine.{Step, IsOwnStep}
 use Rattle.port_bank.specs.Machine.Step.{Push, Pull, Reset, Idle}
 use Rattle.convey.specs.Buffers.{is_complete}
 use Rattle.convey.specs.Progress.{advance_step}
-use Rattle.link_slots.specs.Seen.{Bank, Manning, posted_on, collected_from}
+use Rattle.link_slots.specs.Seen.{Identity, Manning, posted_on, collected_from}
 use Rattle.hop_core.specs.declared.phase.Phase.{Phase}
 use Rattle.hop_core.specs.declared.phase.Phase.TheVariants.{Dormant, Working, Endgame, Cleanup, Complete}
 use Rattle.hop_core.specs.State.{State, phase_of, pulled_from, all_closed, all_read}
@@ -38,20 +38,20 @@ moved seat old new step phase agrees is phase_is rank dims = record {
 }
 
 -- a call that its port sees
-pub moved_on : (bank bank' : Bank) (seat seat' : Manning) (old new : State) (step : Step) → bank' ≡ bank → IsAtBank bank seat old → IsAtBank bank' seat' new
+pub moved_on : (bank bank' : Identity) (seat seat' : Manning) (old new : State) (step : Step) → bank' ≡ bank → IsAtBank bank seat old → IsAtBank bank' seat' new
     → new.rank ≡ old.rank → new.dims ≡ old.dims → IsOwnStep step (part (at seat old)) (part (at seat' new)) → Moved step new.phase (at seat old) (at seat' new)
 unfolding Moved
 moved_on bank bank' seat seat' old new step same was now rank dims is = record {
   step_of = is;
   phase_is = refl;
-  bank = now.id ∙ (ap (λ (b : Bank). b.id) same ∙ sym was.id);
-  shape = now.shape ∙ (ap (λ (b : Bank). b.shape) same ∙ sym was.shape);
+  bank = now.id ∙ (ap (λ (b : Identity). b.id) same ∙ sym was.id);
+  shape = now.shape ∙ (ap (λ (b : Identity). b.shape) same ∙ sym was.shape);
   rank = rank;
   dims = dims;
 }
 
 -- a call that leaves the rank where it was, as its counts see it
-pub seated_still : (bank : Bank) (seat : Option Manning) (old new : State) (count epoch : ℕ) (done : Bool) → IsSeated bank seat old count epoch done → KeepsAgreement old new
+pub seated_still : (bank : Identity) (seat : Option Manning) (old new : State) (count epoch : ℕ) (done : Bool) → IsSeated bank seat old count epoch done → KeepsAgreement old new
     → new.rank ≡ old.rank → new.dims ≡ old.dims → new.phase ≡ old.phase → new.epoch ≡ old.epoch → new.done ≡ old.done → IsSeated bank seat new count epoch done
 seated_still bank seat old new count epoch done was kept rank dims phase same_epoch same_done = record {
   there = was.there;

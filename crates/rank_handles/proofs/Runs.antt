@@ -6,7 +6,7 @@ use Rattle.std.proofs.lemmas.Bool.{lt-ltb, le-ltb}
 use Rattle.std.proofs.lemmas.List.{drop-set-lt, drop-append-le, take-append-drop}
 use Rattle.route_tensor.specs.Grid.{ranks}
 use Rattle.port_bank.specs.Machine.Step.{Pull, Idle}
-use Rattle.link_slots.specs.Seen.{Bank, Manning, posted_on, collected_from}
+use Rattle.link_slots.specs.Seen.{Identity, Manning, posted_on, collected_from}
 use Rattle.hop_core.specs.declared.phase.Phase.TheVariants.{Dormant, Working, Endgame, Cleanup, Complete}
 use Rattle.hop_core.specs.State.{State, lowest_unread, pull_from, pulled_from, pulls}
 use Rattle.convey.specs.Buffers.{buffers_of}
@@ -96,7 +96,7 @@ ran_of seat steps old new agrees run = record {
   dims = ap (λ (z : State). z.dims) run.same;
 }
 
-pub seated_of : (bank : Bank) (seat : Option Manning) (steps : List Step) (old new : State) (count epoch : ℕ) (done : Bool) → IsSeated bank seat old count epoch done → RunOf steps old new
+pub seated_of : (bank : Identity) (seat : Option Manning) (steps : List Step) (old new : State) (count epoch : ℕ) (done : Bool) → IsSeated bank seat old count epoch done → RunOf steps old new
     → IsSeated bank seat new count epoch done
 seated_of bank seat steps old new count epoch done was run =
     seated_still bank seat old new count epoch done was run.kept (ap (λ (z : State). z.rank) run.same) (ap (λ (z : State). z.dims) run.same) (ap (λ (z : State). z.phase) run.same)

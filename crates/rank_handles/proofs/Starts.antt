@@ -1,12 +1,12 @@
 -- A rank that was just made.
 use Rattle.std.proofs.Common.{◌≡◌, ℕ, Bool, List, [], sym, ap, ◌∙◌, subst}
 use Rattle.route_tensor.specs.Link.{links}
-use Rattle.port_bank.specs.Logs.{Logs as Posts}
+use Rattle.port_bank.specs.Logs.{Lists as Posts}
 use Rattle.item_buffer.specs.Contents.{Contents}
-use Rattle.link_slots.specs.Logs.{Logs, sent_of, got_of}
+use Rattle.link_slots.specs.Logs.{Lists, sent_of, got_of}
 use Rattle.link_slots.specs.View.{no_logs}
 use Rattle.link_slots.specs.Shape.{Shape, shipped_all}
-use Rattle.link_slots.specs.Seen.{Bank, Manning, posted_on, collected_from}
+use Rattle.link_slots.specs.Seen.{Identity, Manning, posted_on, collected_from}
 use Rattle.link_slots.proofs.Opening.{no_sent, no_got}
 use Rattle.hop_core.specs.State.{State}
 use Rattle.convey.specs.Conveyors.{AgreesWith}
@@ -14,14 +14,14 @@ use Rattle.rank_handles.specs.Kept.{IsAtBank}
 use Rattle.rank_handles.specs.Grouped.{new_state, NewRank}
 use Rattle.rank_handles.proofs.Moves.{at}
 
-module _ (bank : Bank) (grid : List ℕ) (rank cap : ℕ) (steady : Bool) (seat : Manning) (st : State)
+module _ (bank : Identity) (grid : List ℕ) (rank cap : ℕ) (steady : Bool) (seat : Manning) (st : State)
     (same_grid : grid ≡ bank.shape.dims) (id : seat.id ≡ bank.id) (shape : seat.shape ≡ bank.shape) (rank_is : seat.rank ≡ rank) (lists : seat.lists ≡ no_logs (links bank.shape.dims))
     (is : st ≡ new_state grid rank cap steady) (agrees : AgreesWith st (λ l. []) (λ l. [])) where
   none_sent : posted_on seat ≡ (λ l. [])
-  none_sent = ap (λ (x : Logs Contents). shipped_all (sent_of x)) lists ∙ ap shipped_all (no_sent Contents (links bank.shape.dims))
+  none_sent = ap (λ (x : Lists Contents). shipped_all (sent_of x)) lists ∙ ap shipped_all (no_sent Contents (links bank.shape.dims))
 
   none_got : collected_from seat ≡ (λ l. [])
-  none_got = ap (λ (x : Logs Contents). shipped_all (got_of x)) lists ∙ ap shipped_all (no_got Contents (links bank.shape.dims))
+  none_got = ap (λ (x : Lists Contents). shipped_all (got_of x)) lists ∙ ap shipped_all (no_got Contents (links bank.shape.dims))
 
   pub seated_at : IsAtBank bank seat st
   seated_at = record {

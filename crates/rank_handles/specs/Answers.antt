@@ -1,5 +1,6 @@
 -- What a call on a rank answers, by the rank before it.
-use Rattle.std.specs.Prelude.{ℕ, Bool, ◌^◌, ◌&&◌, not, nat_lt, if◌then◌else◌, Option, Some, None, Result, Ok, Err, is_some}
+use Rattle.std.specs.Prelude.{ℕ, Bool, ◌^◌, ◌&&◌, not, nat_lt, if◌then◌else◌, Option, Some, None, Result, Ok, Err}
+use Rattle.std.specs.Prelude.{is_some, if◌then◌else◌}
 use Rattle.bale_types.specs.declared.item.Item.{Item}
 use Rattle.route_tensor.specs.Grid.{ranks}
 use Rattle.hop_core.specs.declared.phase.Phase.{Phase}
@@ -7,7 +8,9 @@ use Rattle.hop_core.specs.declared.phase.Phase.TheVariants as phase
 use Rattle.hop_core.specs.State.{lowest_unread, pull_from}
 use Rattle.convey.specs.Conveyors.{standing_toward}
 use Rattle.rank_handles.specs.declared.answer.Answer.{Answer}
-use Rattle.rank_handles.specs.declared.answer.Answer.TheVariants.{Good, Full, Nothing, More, Near, Complete, NotBegun, BegunAlready, DoneAlready, NoSuchRank, NotComplete, NoMoreEpochs}
+use Rattle.rank_handles.specs.declared.answer.Answer.TheVariants.{Good, Full, Nothing, More, Near, Complete, NotBegun}
+use Rattle.rank_handles.specs.declared.answer.Answer.TheVariants.{BegunAlready, DoneAlready, NoSuchRank, NotComplete}
+use Rattle.rank_handles.specs.declared.answer.Answer.TheVariants.{NoMoreEpochs}
 use Rattle.rank_handles.specs.Seated.{Seated}
 
 -- An answer that needs an epoch that has begun.
@@ -68,7 +71,8 @@ progress_answer phase.Cleanup = Near
 progress_answer phase.Complete = Complete
 
 abbrev pub advance_answer : Seated → Bool → Phase → Answer
-advance_answer s done after = once_begun s.state.phase (if (s.state.done && not done) then DoneAlready else progress_answer after)
+advance_answer s done after =
+    once_begun s.state.phase (if (s.state.done && not done) then DoneAlready else progress_answer after)
 
 -- reset needs an epoch that is complete, and a number for the next one.
 abbrev pub when_complete : Phase → Answer → Answer

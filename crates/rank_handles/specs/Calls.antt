@@ -7,7 +7,8 @@ use Rattle.convey.specs.Buffers.{is_complete}
 use Rattle.convey.specs.Progress.{advance_step}
 use Rattle.rank_handles.specs.declared.answer.Answer.TheVariants.{Good, Full, Nothing, NotBegun, DoneAlready}
 use Rattle.rank_handles.specs.Seated.{Seated, Moved}
-use Rattle.rank_handles.specs.Answers.{begin_answer, push_answer, pull_result, unpull_answer, advance_answer, reset_answer}
+use Rattle.rank_handles.specs.Answers.{begin_answer, push_answer, pull_result, unpull_answer, advance_answer}
+use Rattle.rank_handles.specs.Answers.{reset_answer}
 
 -- A call on the rank that is there leaves this of it. Where there is none, there is none after it.
 abbrev pub OnRank : (Seated → Seated → Type 0) → Option Seated → Option Seated → Type 0
@@ -41,9 +42,11 @@ pub record Unpulling (old new : Seated) : Type 0 where
   pub nothing : unpull_answer old ≡ Nothing → Moved Idle old.state.phase old new
 
 pub record Advancing (done : Bool) (old new : Seated) : Type 0 where
-  pub advanced : advance_answer old done new.state.phase ≢ NotBegun → advance_answer old done new.state.phase ≢ DoneAlready
+  pub advanced : advance_answer old done new.state.phase ≢ NotBegun
+      → advance_answer old done new.state.phase ≢ DoneAlready
       → Moved (advance_step old.state.done done (is_complete new.state.phase)) new.state.phase old new
-  pub done_is : advance_answer old done new.state.phase ≢ NotBegun → advance_answer old done new.state.phase ≢ DoneAlready → new.state.done ≡ done
+  pub done_is : advance_answer old done new.state.phase ≢ NotBegun
+      → advance_answer old done new.state.phase ≢ DoneAlready → new.state.done ≡ done
   pub not_begun : advance_answer old done new.state.phase ≡ NotBegun → new ≡ old
   pub not_undone : advance_answer old done new.state.phase ≡ DoneAlready → new ≡ old
 

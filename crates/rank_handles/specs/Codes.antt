@@ -1,7 +1,10 @@
 -- The numbers by which C knows answers and phases.
 use Rattle.std.specs.Prelude.{ℤ, pos, negsuc, Option, Some, None}
 use Rattle.rank_handles.specs.declared.answer.Answer.{Answer}
-use Rattle.rank_handles.specs.declared.answer.Answer.TheVariants.{Good, Full, Nothing, More, Near, Complete, NoMemory, NotBegun, BegunAlready, DoneAlready, NoSuchRank, NotComplete, Gone, BadNumbers, InUse, RankTaken, NoMoreEpochs}
+use Rattle.rank_handles.specs.declared.answer.Answer.TheVariants.{Good, Full, Nothing, More, Near, Complete, NoMemory}
+use Rattle.rank_handles.specs.declared.answer.Answer.TheVariants.{NotBegun, BegunAlready, DoneAlready, NoSuchRank}
+use Rattle.rank_handles.specs.declared.answer.Answer.TheVariants.{NotComplete, Gone, BadNumbers, InUse, RankTaken}
+use Rattle.rank_handles.specs.declared.answer.Answer.TheVariants.{NoMoreEpochs}
 use Rattle.hop_core.specs.declared.phase.Phase.{Phase}
 use Rattle.hop_core.specs.declared.phase.Phase.TheVariants as phase
 

@@ -1,9 +1,11 @@
 -- What contracts see of a group, and of a rank that was just made.
-use Rattle.std.specs.Prelude.{◌≡◌, ℕ, ◌==◌, ◌||◌, not, is_some, Bool, true, false, List, [], ◌∷◌, sum, replicate, slice_set, None, nat_lt, slice_index_or, if◌then◌else◌, Result, Ok, Err}
+use Rattle.std.specs.Prelude.{◌≡◌, ℕ, ◌==◌, ◌||◌, not, is_some, Bool, true, false, List, [], ◌∷◌, sum, replicate}
+use Rattle.std.specs.Prelude.{if◌then◌else◌}
+use Rattle.std.specs.Prelude.{slice_set, None, nat_lt, slice_index_or, if◌then◌else◌, Result, Ok, Err}
 use Rattle.item_buffer.specs.Capacity.{is_capacity}
 use Rattle.route_tensor.specs.Grid.{ranks}
 use Rattle.route_tensor.specs.Refusal.{refusal}
-use Rattle.link_slots.specs.Seen.{Bank, posted_on, collected_from}
+use Rattle.link_slots.specs.Seen.{Identity, posted_on, collected_from}
 use Rattle.hop_core.specs.declared.phase.Phase.TheVariants.{Dormant}
 use Rattle.hop_core.specs.Link.{no_out, no_in}
 use Rattle.hop_core.specs.State.{State}
@@ -11,10 +13,10 @@ use Rattle.rank_handles.specs.declared.answer.Answer.{Answer}
 use Rattle.rank_handles.specs.declared.answer.Answer.TheVariants.{Good, RankTaken, NoSuchRank, BadNumbers}
 use Rattle.rank_handles.specs.Seated.{Seated}
 
--- A group: the bank that its ranks share, with its grid and its slots; how many entries a parcel holds; whether its conveyors are
--- steady; and which ranks were made.
+-- A group: the bank that its ranks share, with its grid and its slots; how many entries a parcel
+-- holds; whether its conveyors are steady; and which ranks were made.
 pub record Grouped : Type 0 where
-  pub bank : Bank
+  pub bank : Identity
   pub cap : ℕ
   pub steady : Bool
   pub given : List Bool
@@ -55,7 +57,7 @@ new_state dims rank cap steady = record {
 }
 
 -- A rank that was just made: at this bank, before its first epoch, with nothing sent and nothing got.
-pub record NewRank (bank : Bank) (rank cap : ℕ) (steady : Bool) (s : Seated) : Type 0 where
+pub record NewRank (bank : Identity) (rank cap : ℕ) (steady : Bool) (s : Seated) : Type 0 where
   pub id : s.seat.id ≡ bank.id
   pub shape : s.seat.shape ≡ bank.shape
   pub state : s.state ≡ new_state bank.shape.dims rank cap steady

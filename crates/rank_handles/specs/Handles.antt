@@ -42,7 +42,8 @@ abbrev pub phase_in : Option Seated → Phase
 phase_in None = Dormant
 phase_in (Some s) = s.state.phase
 
--- What becomes of the wish to make a group, or a rank of a group, where there is memory: the handle that is to have it must have none.
+-- What becomes of the wish to make a group, or a rank of a group, where there is memory: the handle
+-- that is to have it must have none.
 abbrev pub new_group_answer : Option Grouped → List ℕ → ℕ → ℕ → Answer
 new_group_answer there dims cap slots = if is_some there then InUse else group_answer dims cap slots
 

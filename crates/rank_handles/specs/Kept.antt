@@ -1,9 +1,10 @@
 -- What is kept of a rank at its bank.
-use Rattle.std.specs.Prelude.{◌≡◌, ℕ, ◌<◌, Bool, true, false, length, slice_index_or, slice_set, Option, Some, None, is_some, List, [], Result, OnOk, OnErr}
+use Rattle.std.specs.Prelude.{◌≡◌, ℕ, ◌<◌, Bool, true, false, length, slice_index_or, slice_set, Option, Some, None}
+use Rattle.std.specs.Prelude.{is_some, List, [], Result, OnOk, OnErr}
 use Rattle.item_buffer.specs.Capacity.{IsCap}
 use Rattle.route_tensor.specs.Grid.{ranks}
 use Rattle.link_slots.specs.Shape.{nowhere}
-use Rattle.link_slots.specs.Seen.{Bank, Manning, posted_on, collected_from}
+use Rattle.link_slots.specs.Seen.{Identity, Manning, posted_on, collected_from}
 use Rattle.link_slots.specs.Gathering.{Gathering}
 use Rattle.hop_core.specs.declared.phase.Phase.TheVariants.{Dormant, Working}
 use Rattle.hop_core.specs.State.{State}
@@ -31,7 +32,7 @@ seat_in (Some m) = m
 seat_in None = no_seat
 
 -- A seat and a conveyor of one rank at one bank: they agree, and the rank isn't done before it says so.
-pub record IsAtBank (bank : Bank) (seat : Manning) (state : State) : Type 0 where
+pub record IsAtBank (bank : Identity) (seat : Manning) (state : State) : Type 0 where
   pub id : seat.id ≡ bank.id
   pub shape : seat.shape ≡ bank.shape
   pub rank : seat.rank ≡ state.rank
@@ -41,7 +42,8 @@ pub record IsAtBank (bank : Bank) (seat : Manning) (state : State) : Type 0 wher
   pub working : state.phase ≡ Working → state.done ≡ false
 
 -- The seat is there and at its bank, and the counts are those of the conveyor.
-pub record IsSeated (bank : Bank) (seat : Option Manning) (state : State) (count epoch : ℕ) (done : Bool) : Type 0 where
+pub record IsSeated (bank : Identity) (seat : Option Manning) (state : State) (count epoch : ℕ)
+    (done : Bool) : Type 0 where
   pub there : is_some seat ≡ true
   pub at_bank : IsAtBank bank (seat_in seat) state
   pub count_is : count ≡ ranks state.dims
@@ -49,24 +51,25 @@ pub record IsSeated (bank : Bank) (seat : Option Manning) (state : State) (count
   pub done_is : done ≡ state.done
 
 -- A gathering seat of the bank, that has given out these ranks' seats.
-pub record IsAtGather (bank : Bank) (gather : Gathering) (grid : List ℕ) : Type 0 where
+pub record IsAtGather (bank : Identity) (gather : Gathering) (grid : List ℕ) : Type 0 where
   pub id : gather.id ≡ bank.id
   pub shape : gather.shape ≡ bank.shape
   pub grid_is : grid ≡ bank.shape.dims
 
 -- A rank of the bank whose seat the gathering seat has still to give out, ..
-pub record HasSeatFor (bank : Bank) (gather : Gathering) (grid : List ℕ) (rank : ℕ) : Type 0 where
+pub record HasSeatFor (bank : Identity) (gather : Gathering) (grid : List ℕ) (rank : ℕ) : Type 0 where
   pub at_gather : IsAtGather bank gather grid
   pub own : rank < ranks grid
   pub here : slice_index_or gather.given rank true ≡ false
 
 -- .. and what it leaves of the gathering seat that it was given out. Without memory nothing is changed.
 pub record GaveSeat {T E : Type 0} (rank : ℕ) (old new : Gathering) (result : Result T E) : Type 0 where
-  pub gave : OnOk result (new ≡ record old { lists = slice_set old.lists rank None; given = slice_set old.given rank true })
+  pub gave : OnOk result
+      (new ≡ record old { lists = slice_set old.lists rank None; given = slice_set old.given rank true })
   pub unchanged : OnErr result (new ≡ old)
 
 -- A group: its ranks are those that the gathering seat has given out.
-pub record IsGroup (cap : ℕ) (bank : Bank) (gather : Gathering) (grid : List ℕ) (given : List Bool) : Type 0 where
+pub record IsGroup (cap : ℕ) (bank : Identity) (gather : Gathering) (grid : List ℕ) (given : List Bool) : Type 0 where
   pub cap_is : IsCap cap
   pub at_gather : IsAtGather bank gather grid
   pub given_is : gather.given ≡ given
@@ -75,6 +78,7 @@ pub record IsGroup (cap : ℕ) (bank : Bank) (gather : Gathering) (grid : List �
 -- Calls on a conveyor that its port doesn't see made these steps, over whatever lists the port has.
 pub record RunOf (steps : List Step) (old new : State) : Type 0 where
   pub may : (sent got : Logs) → AgreesWith old sent got → MayAll steps (part_of (buffers_of old) sent got)
-  pub is : (sent got : Logs) → AgreesWith old sent got → part_of (buffers_of new) sent got ≡ after_all steps (part_of (buffers_of old) sent got)
+  pub is : (sent got : Logs) → AgreesWith old sent got
+      → part_of (buffers_of new) sent got ≡ after_all steps (part_of (buffers_of old) sent got)
   pub kept : KeepsAgreement old new
   pub same : new ≡ record old { outs = new.outs; ins = new.ins; pulled = new.pulled }

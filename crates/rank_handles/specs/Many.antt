@@ -1,5 +1,7 @@
 -- Calls of many items, as so many single ones.
-use Rattle.std.specs.Prelude.{◌≡◌, ◌≢◌, ◌<◌, ℕ, zero, suc, Bool, ⊤, List, [], ◌∷◌, ◌++◌, length, slice_index_or, nat_lt, if◌then◌else◌, Result, Ok, Err, ℤ, pos, negsuc}
+use Rattle.std.specs.Prelude.{◌≡◌, ◌≢◌, ◌<◌, ℕ, zero, suc, Bool, ⊤, List, [], ◌∷◌, ◌++◌, length, slice_index_or, nat_lt}
+use Rattle.std.specs.Prelude.{if◌then◌else◌}
+use Rattle.std.specs.Prelude.{if◌then◌else◌, Result, Ok, Err, ℤ, pos, negsuc}
 use Rattle.std.specs.List.{list_all}
 use Rattle.bale_types.specs.declared.item.Item.{Item}
 use Rattle.route_tensor.specs.Grid.{ranks}
@@ -7,7 +9,10 @@ use Rattle.port_bank.specs.Machine.{Part, Step, MayBy, after}
 use Rattle.port_bank.specs.Machine.Step.{Push, Pull, Idle}
 use Rattle.rank_handles.specs.declared.item.BaleItem.{BaleItem}
 use Rattle.rank_handles.specs.declared.answer.Answer.{Answer}
-use Rattle.rank_handles.specs.declared.answer.Answer.TheVariants.{Good, Full, Nothing, More, Near, Complete, NoMemory, NotBegun, BegunAlready, DoneAlready, NoSuchRank, NotComplete, Gone, BadNumbers, InUse, RankTaken, NoMoreEpochs}
+use Rattle.rank_handles.specs.declared.answer.Answer.TheVariants.{Good, Full, Nothing, More, Near, Complete, NoMemory}
+use Rattle.rank_handles.specs.declared.answer.Answer.TheVariants.{NotBegun, BegunAlready, DoneAlready, NoSuchRank}
+use Rattle.rank_handles.specs.declared.answer.Answer.TheVariants.{NotComplete, Gone, BadNumbers, InUse, RankTaken}
+use Rattle.rank_handles.specs.declared.answer.Answer.TheVariants.{NoMoreEpochs}
 use Rattle.rank_handles.specs.Items.{item_of}
 use Rattle.rank_handles.specs.Codes.{code_of}
 use Rattle.rank_handles.specs.Answers.{while_working, once_begun, push_answer, pull_result}
@@ -103,7 +108,8 @@ pub record PushingMany (items : List BaleItem) (to : List ℕ) (n : ℕ) (old ne
 unfoldable pub PushesMany : List BaleItem → List ℕ → ℕ → Seated → Seated → Type 0
 PushesMany items to n old new = PushingMany items to n old new
 
--- A call pulled n items to the first of these places, as so many single calls, until there were none or as many as there are places (most).
+-- A call pulled n items to the first of these places, as so many single calls, until there were
+-- none or as many as there are places (most).
 pub record PullingMany (most : ℕ) (items : List BaleItem) (from : List ℕ) (n : ℕ) (old new : Seated) : Type 0 where
   pub links : new.seat ≡ old.seat
   pub misuse : pull_many_answer old ≢ Good → new ≡ old

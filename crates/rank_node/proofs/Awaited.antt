@@ -10,12 +10,12 @@ use Rattle.exstack.specs.declared.stage.Poll.TheVariants as poll
 use Rattle.exstack.specs.declared.stage.Proceed.{Proceed}
 use Rattle.exstack.specs.declared.stage.Proceed.TheVariants as proceed
 use Rattle.exstack.specs.Links.{Out, In, no_out, no_in, begun_out, begun_in}
-use Rattle.exstack.specs.State.{State, missing_link, missing_out, missing_in, all_ended, proceed_answer, exchange_answer, stage_of_proceed, stage_of_exchange, is_proceeding, is_exchanging, may_proceed, may_exchange, in_proceed}
+use Rattle.exstack.specs.State.{Stack, missing_link, missing_out, missing_in, all_ended, proceed_answer, exchange_answer, stage_of_proceed, stage_of_exchange, is_proceeding, is_exchanging, may_proceed, may_exchange, in_proceed}
 use Rattle.exstack.specs.Standing.{IsStack}
 use Rattle.rank_node.specs.Cycles.{Awaits, IsOnward, has_proceeded, has_exchanged}
 
 -- a parcel is due where the round waits for a link
-module _ (cap : ℕ) (x : State) (s : IsStack cap x) where
+module _ (cap : ℕ) (x : Stack) (s : IsStack cap x) where
   by_places : (o i : Option ℕ) → position (λ (k : Out). k.due) x.outs ≡ o → position (λ (k : In). k.due) x.ins ≡ i
       → (missing_link x ≡ None → (is_proceeding x.stage || is_exchanging x.stage) ≡ false) → Awaits x
   by_places (Some b) i eo ei none = λ within. let p = position-Some (λ (k : Out). k.due) x.outs b no_out eo in inl (record { other = b; low = omega (arith, p.0, s.all_outs); due = p.1 })
@@ -62,10 +62,10 @@ pub proceeding_apart : (s : Stage) → s ≡ Proceeding → s ≡ Filling → �
 proceeding_apart s a b = absurd (cc)
 
 -- a proceed round begins at the same rank
-pub proceed_ranks : (done : Bool) (st : State) → (in_proceed done st).ranks ≡ st.ranks
+pub proceed_ranks : (done : Bool) (st : Stack) → (in_proceed done st).ranks ≡ st.ranks
 proceed_ranks done st = elim (is_proceeding st.stage) as (λ b. (cond b (record st { popped = None }) (record st { stage = Proceeding; done = done; outs = map begun_out st.outs; ins = map begun_in st.ins; popped = None })).ranks ≡ st.ranks) [ true ↦ refl | false ↦ refl ]
 
-pub proceed_rank : (done : Bool) (st : State) → (in_proceed done st).rank ≡ st.rank
+pub proceed_rank : (done : Bool) (st : Stack) → (in_proceed done st).rank ≡ st.rank
 proceed_rank done st = elim (is_proceeding st.stage) as (λ b. (cond b (record st { popped = None }) (record st { stage = Proceeding; done = done; outs = map begun_out st.outs; ins = map begun_in st.ins; popped = None })).rank ≡ st.rank) [ true ↦ refl | false ↦ refl ]
 
 -- the stage in which a poll leaves an exstack follows that at entry

@@ -8,7 +8,7 @@ use Rattle.port_bank.specs.Logs.{Logs}
 use Rattle.port_bank.specs.Machine.Step.{Push, Idle}
 use Rattle.exstack.specs.declared.stage.Stage.TheVariants.{Filling}
 use Rattle.exstack.specs.Links.{headroom_of, no_out}
-use Rattle.exstack.specs.State.{State, dims_of, out_at, pushed_on}
+use Rattle.exstack.specs.State.{Stack, dims_of, out_at, pushed_on}
 use Rattle.exstack.specs.Agreement.{AgreesIn}
 use Rattle.exstack.specs.Parts.{part_of, IsStepOf, KeepsAgreement}
 use Rattle.exstack.proofs.OneHop.{ranks_one}
@@ -16,7 +16,7 @@ use Rattle.rank_node.specs.Pulls.{PushedOn, Fills}
 use Rattle.rank_node.proofs.Offered.{push_on, idle_on, pushed_none, pushed_twice, none_left}
 
 -- an exstack in the midst of pushes, from number `from` on, of which `next` are pushed by now
-pub record Offers (es : List (ℕ × Item)) (old x : State) (from next count : ℕ) : Type 0 where
+pub record Offers (es : List (ℕ × Item)) (old x : Stack) (from next count : ℕ) : Type 0 where
   pub all : count ≡ length es
   pub forward : from ≤ next
   pub low : next ≤ length es
@@ -28,7 +28,7 @@ pub record Offers (es : List (ℕ × Item)) (old x : State) (from next count : �
   pub none : next ≡ from → x.outs ≡ old.outs
   pub pushed : (n : ℕ) (sent got : Logs) → AgreesIn n old sent got → PushedOn es (ranks (dims_of old)) from next (part_of old sent got) (part_of x sent got)
 
-pub offers_start : (es : List (ℕ × Item)) (x : State) (from count : ℕ) → count ≡ length es → from ≤ length es → All (λ (e : ℕ × Item). e.0 < ranks (dims_of x)) es → x.stage ≡ Filling → (x.done ≡ true → from ≡ length es) → Offers es x x from from count
+pub offers_start : (es : List (ℕ × Item)) (x : Stack) (from count : ℕ) → count ≡ length es → from ≤ length es → All (λ (e : ℕ × Item). e.0 < ranks (dims_of x)) es → x.stage ≡ Filling → (x.done ≡ true → from ≡ length es) → Offers es x x from from count
 offers_start es x from count all low receivers filling all_pushed =
     record {
       all = all;
@@ -44,7 +44,7 @@ offers_start es x from count all low receivers filling all_pushed =
     }
 
 -- where an item is left, the rank isn't done
-pub not_done : (es : List (ℕ × Item)) (old x : State) (from next count : ℕ) → Offers es old x from next count → next < count → x.done ≡ false
+pub not_done : (es : List (ℕ × Item)) (old x : Stack) (from next count : ℕ) → Offers es old x from next count → next < count → x.done ≡ false
 not_done es old x from next count is left =
     elim (cases_Bool x.done) [
       | inl d ↦ absurd (omega (arith, left, is.all, is.all_pushed d))
@@ -52,51 +52,51 @@ not_done es old x from next count is left =
     ]
 
 -- one more push, which was accepted
-pub offers_more : (es : List (ℕ × Item)) (old x x' : State) (from next count to : ℕ) (y : Item) → Offers es old x from next count → next < count → slice_get es next ≡ Some (to, y)
+pub offers_more : (es : List (ℕ × Item)) (old x x' : Stack) (from next count to : ℕ) (y : Item) → Offers es old x from next count → next < count → slice_get es next ≡ Some (to, y)
     → x' ≡ pushed_on x y to → KeepsAgreement x x' → IsStepOf (Push to y) x x' → Offers es old x' from (next + 1) count
 offers_more es old x x' from next count to y is left at new kept step =
     let waits : x.done ≡ false = not_done es old x from next count is left in
-    let ranks' : x'.ranks ≡ x.ranks = ap (λ (t : State). t.ranks) new in
-    let dims : dims_of x ≡ dims_of old = ap (λ (t : State). dims_of t) is.same in
+    let ranks' : x'.ranks ≡ x.ranks = ap (λ (t : Stack). t.ranks) new in
+    let dims : dims_of x ≡ dims_of old = ap (λ (t : Stack). dims_of t) is.same in
     record {
       all = is.all;
       forward = omega (arith, is.forward);
       low = omega (arith, left, is.all);
       receivers = subst (λ n. All (λ (e : ℕ × Item). e.0 < ranks (n ∷ [])) es) (sym ranks') is.receivers;
-      filling = ap (λ (t : State). t.stage) new ∙ is.filling;
-      all_pushed = λ d. absurd (true≢false (sym d ∙ (ap (λ (t : State). t.done) new ∙ waits)));
-      same = subst (λ (t : State). t ≡ record old { outs = t.outs; popped = t.popped }) (sym new) (ap (λ (t : State). pushed_like t x y to) is.same);
+      filling = ap (λ (t : Stack). t.stage) new ∙ is.filling;
+      all_pushed = λ d. absurd (true≢false (sym d ∙ (ap (λ (t : Stack). t.done) new ∙ waits)));
+      same = subst (λ (t : Stack). t ≡ record old { outs = t.outs; popped = t.popped }) (sym new) (ap (λ (t : Stack). pushed_like t x y to) is.same);
       kept = λ n sent got a. kept n sent got (is.kept n sent got a);
       none = λ e. absurd (omega (arith, e, is.forward));
       pushed = λ n sent got a. pushed_twice es (ranks (dims_of old)) from next (next + 1) (part_of old sent got) (part_of x sent got) (part_of x' sent got)
           (is.pushed n sent got a)
           (push_on es (ranks (dims_of old)) next to y (part_of x sent got) (part_of x' sent got) at (step n sent got (is.kept n sent got a)));
     } where
-      pushed_like : State → State → Item → ℕ → State
+      pushed_like : Stack → Stack → Item → ℕ → Stack
       pushed_like t x y to = record t { outs = (pushed_on x y to).outs; popped = (pushed_on x y to).popped }
 
 -- the push that was refused
-pub fills_refused : (cap : ℕ) (es : List (ℕ × Item)) (old x x' : State) (from next count to : ℕ) (y : Item) → Offers es old x from next count → slice_get es next ≡ Some (to, y)
+pub fills_refused : (cap : ℕ) (es : List (ℕ × Item)) (old x x' : Stack) (from next count to : ℕ) (y : Item) → Offers es old x from next count → slice_get es next ≡ Some (to, y)
     → x' ≡ record x { popped = None } → KeepsAgreement x x' → IsStepOf Idle x x' → headroom_of cap (out_at x to) ≡ 0 → Fills cap es old x' from next
 fills_refused cap es old x x' from next count to y is at new kept step full =
     record {
       forward = is.forward;
       low = is.low;
-      same = subst (λ (t : State). t ≡ record old { outs = t.outs; popped = t.popped }) (sym new) (ap (λ (t : State). record t { popped = None }) is.same);
+      same = subst (λ (t : Stack). t ≡ record old { outs = t.outs; popped = t.popped }) (sym new) (ap (λ (t : Stack). record t { popped = None }) is.same);
       kept = λ n sent got a. kept n sent got (is.kept n sent got a);
       pushed = λ n sent got a. pushed_twice es (ranks (dims_of old)) from next next (part_of old sent got) (part_of x sent got) (part_of x' sent got)
           (is.pushed n sent got a) (idle_on es (ranks (dims_of old)) next (part_of x sent got) (part_of x' sent got) (step n sent got (is.kept n sent got a)));
       refused = λ k z found.
           let same : k ≡ to = ap (λ (o : Option (ℕ × Item)). receiver o) (sym found ∙ at) in
-          subst (λ q. headroom_of cap (out_at x' q) ≡ 0) (sym same) (ap (λ (t : State). headroom_of cap (out_at t to)) new ∙ full);
-      none = λ e. ap (λ (t : State). t.outs) new ∙ is.none e;
+          subst (λ q. headroom_of cap (out_at x' q) ≡ 0) (sym same) (ap (λ (t : Stack). headroom_of cap (out_at t to)) new ∙ full);
+      none = λ e. ap (λ (t : Stack). t.outs) new ∙ is.none e;
     } where
       receiver : Option (ℕ × Item) → ℕ
       receiver None = 0
       receiver (Some e) = e.0
 
 -- and all were pushed
-pub fills_all : (cap : ℕ) (es : List (ℕ × Item)) (old x : State) (from next count : ℕ) → Offers es old x from next count → (next < count → ⊥) → Fills cap es old x from next
+pub fills_all : (cap : ℕ) (es : List (ℕ × Item)) (old x : Stack) (from next count : ℕ) → Offers es old x from next count → (next < count → ⊥) → Fills cap es old x from next
 fills_all cap es old x from next count is end =
     record {
       forward = is.forward;
@@ -109,7 +109,7 @@ fills_all cap es old x from next count is end =
     }
 
 -- where nothing waits and something is left, at least one item is pushed
-pub pushes_one : (cap : ℕ) (es : List (ℕ × Item)) (old x : State) (from next : ℕ) → 0 < cap → Fills cap es old x from next → All (λ (e : ℕ × Item). e.0 < ranks (dims_of old)) es
+pub pushes_one : (cap : ℕ) (es : List (ℕ × Item)) (old x : Stack) (from next : ℕ) → 0 < cap → Fills cap es old x from next → All (λ (e : ℕ × Item). e.0 < ranks (dims_of old)) es
     → ((b : ℕ) → b < old.ranks → (out_at old b).waiting ≡ []) → from < length es → from < next
 pushes_one cap es old x from next some is below empty left =
     elim (cases_lt from next) [

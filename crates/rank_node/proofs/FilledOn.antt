@@ -6,7 +6,7 @@ use Rattle.bale_types.specs.declared.item.Item.{Item}
 use Rattle.list_laws.proofs.Lists.{within, all_from_gets}
 use Rattle.route_tensor.specs.Grid.{ranks}
 use Rattle.exstack.specs.declared.stage.Stage.TheVariants.{Filling}
-use Rattle.exstack.specs.State.{State, dims_of}
+use Rattle.exstack.specs.State.{Stack, dims_of}
 use Rattle.exstack.proofs.OneHop.{ranks_one}
 use Rattle.round_program.specs.Emissions.{HandsOver}
 use Rattle.round_program.proofs.Emissions.{past_end, first_left, rest_left, nothing_left}
@@ -16,7 +16,7 @@ use Rattle.rank_node.proofs.Chains.{none_more, one_more}
 use Rattle.rank_node.proofs.Filled.{Offers, offers_start, offers_more, fills_refused, fills_all}
 
 -- of what is left to push every item may be pushed
-pub may_fill : (es : List (ℕ × Item)) (x : State) (from : ℕ) → All (λ (e : ℕ × Item). e.0 < ranks (dims_of x)) es → x.stage ≡ Filling → (x.done ≡ true → from ≡ length es)
+pub may_fill : (es : List (ℕ × Item)) (x : Stack) (from : ℕ) → All (λ (e : ℕ × Item). e.0 < ranks (dims_of x)) es → x.stage ≡ Filling → (x.done ≡ true → from ≡ length es)
     → All (λ (e : ℕ × Item). MayFill x e.0) (drop from es)
 may_fill es x from receivers filling all_pushed =
     elim (cases_Bool x.done) [
@@ -26,7 +26,7 @@ may_fill es x from receivers filling all_pushed =
           λ k d low. let here = left k d low in record { low = omega (arith, here, ranks_one x.ranks); filling = filling; not_done = no' }
     ]
 
-each : (most : ℕ) (es rest : List (ℕ × Item)) (old x x' : State) (from next n : ℕ) → drop next es ≡ rest → Offers es old x from next (length es) → HandsOver (FillsOne most) rest n x x' → Fills most es old x' from (next + n)
+each : (most : ℕ) (es rest : List (ℕ × Item)) (old x x' : Stack) (from next n : ℕ) → drop next es ≡ rest → Offers es old x from next (length es) → HandsOver (FillsOne most) rest n x x' → Fills most es old x' from (next + n)
 each most es [] old x x' from next n left is h =
     let count : next ≡ next + n = sym (none_more next) ∙ ap (λ k. next + k) (sym h.0) in
     let past : length es ≤ next = nothing_left es next left in
@@ -39,7 +39,7 @@ each most es (e ∷ rest) old x x' from next (suc n) left is h =
     let more : Offers es old h.0 from (next + 1) (length es) = offers_more es old x h.0 from next (length es) e.0 e.1 is (within es next e at) at (h.1.pushed refl) h.1.kept (h.1.step refl) in
     subst (λ k. Fills most es old x' from k) (sym (one_more next n)) (each most es rest old h.0 x' from (next + 1) n (rest_left es next e rest left) more h.2)
 
-pub fills_each : (most : ℕ) (es : List (ℕ × Item)) (x x' : State) (from next : ℕ) → from ≤ next → from ≤ length es → All (λ (e : ℕ × Item). e.0 < ranks (dims_of x)) es → x.stage ≡ Filling → (x.done ≡ true → from ≡ length es)
+pub fills_each : (most : ℕ) (es : List (ℕ × Item)) (x x' : Stack) (from next : ℕ) → from ≤ next → from ≤ length es → All (λ (e : ℕ × Item). e.0 < ranks (dims_of x)) es → x.stage ≡ Filling → (x.done ≡ true → from ≡ length es)
     → HandsOver (FillsOne most) (drop from es) (next - from) x x' → Fills most es x x' from next
 fills_each most es x x' from next forward low receivers filling all_pushed h =
     let count : from + (next - from) ≡ next = omega (arith, forward) in

@@ -13,7 +13,7 @@ use Rattle.convey.specs.Buffers.{buffers_of}
 use Rattle.convey.specs.Conveyors.{AgreesWith, KeepsAgreement, IsStepOf}
 use Rattle.convey.specs.Law.{IsSound}
 use Rattle.exstack.specs.Links.{no_out as stack_out}
-use Rattle.exstack.specs.State.{State as Stack}
+use Rattle.exstack.specs.State.{Stack}
 use Rattle.exstack.specs.State.{dims_of as stack_dims}
 use Rattle.exstack.specs.State.{new_stack, out_at}
 use Rattle.exstack.specs.Cycles.{items}

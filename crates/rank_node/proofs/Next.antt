@@ -7,7 +7,7 @@ use Rattle.port_bank.specs.Logs.{Logs}
 use Rattle.exstack.specs.declared.stage.Stage.{Stage}
 use Rattle.exstack.specs.declared.stage.Stage.TheVariants.{Start, Filling}
 use Rattle.exstack.specs.Links.{no_in}
-use Rattle.exstack.specs.State.{State, out_at, in_at, link_to, link_from, may_read}
+use Rattle.exstack.specs.State.{Stack, out_at, in_at, link_to, link_from, may_read}
 use Rattle.exstack.specs.Cycles.{exchange_parcel, entries_in}
 use Rattle.list_laws.specs.Lists.{Ends}
 use Rattle.exstack.specs.Agreement.{LinkAgrees, AgreesIn, back_first, rounds_in}
@@ -21,7 +21,7 @@ use Rattle.rank_node.specs.Cycles.{exchanges_in, cycles_gone_on, MarksLast, InCy
 use Rattle.rank_node.proofs.Paced.{marks_like}
 
 -- at the start of an epoch every cycle's number fits
-module _ (cap : ℕ) (x : State) (s : IsStack cap x) (start : x.stage ≡ Start) where
+module _ (cap : ℕ) (x : Stack) (s : IsStack cap x) (start : x.stage ≡ Start) where
   none_popped : (o : Option ℕ) → x.popped ≡ o → o ≡ None
   none_popped None e = refl
   none_popped (Some a) e = absurd (false≢true (sym (ap may_read start) ∙ (s.can_unpop a e).reading))
@@ -48,7 +48,7 @@ filling_later : (s : Stage) → s ≡ Start → s ≡ Filling → ⊥
 filling_later s a b = absurd (cc)
 
 -- so it is in cycle 0
-cycle_at_start : {S : Type 0} (R : Rules S) (quota : ℕ → ℕ) (run : Running S) (cap : ℕ) (x : State) (sent got : Logs) → IsStacking cap x sent got → x.stage ≡ Start
+cycle_at_start : {S : Type 0} (R : Rules S) (quota : ℕ → ℕ) (run : Running S) (cap : ℕ) (x : Stack) (sent got : Logs) → IsStacking cap x sent got → x.stage ≡ Start
     → length (to_send R run.prog run.sends) ≤ quota x.epoch → MarksLast quota x sent → InCycle R quota 0 run x sent got
 cycle_at_start R quota run cap x sent got is start few marks =
     let e : exchanges_in 0 x.stage ≡ 0 = ap (exchanges_in 0) start in

@@ -9,7 +9,7 @@ use Rattle.port_bank.specs.Logs.{Logs, lasts, segment, lasts_in}
 use Rattle.exstack.specs.declared.stage.Stage.{Stage}
 use Rattle.exstack.specs.declared.stage.Stage.TheVariants.{Start, Proceeding, Filling, Exchanging, Full, AllDone}
 use Rattle.exstack.specs.Links.{Out, In, no_out, no_in, gone, begun_out, begun_in}
-use Rattle.exstack.specs.State.{State, out_at, in_at, number, link_to, link_from, may_proceed, is_proceeding, is_exchanging, in_proceed, in_exchange, all_ended}
+use Rattle.exstack.specs.State.{Stack, out_at, in_at, number, link_to, link_from, may_proceed, is_proceeding, is_exchanging, in_proceed, in_exchange, all_ended}
 use Rattle.exstack.specs.Steps.{MadeRound, was_moved}
 use Rattle.exstack.specs.Cycles.{proceed_parcel}
 use Rattle.exstack.specs.Agreement.{LinkAgrees, AgreesIn, rounds_in, cycle_after}
@@ -27,12 +27,12 @@ use Rattle.rank_node.proofs.Polled.{done_keeps, left_over}
 use Rattle.rank_node.proofs.Marks.{open_going, parcel_stays, marks_posted}
 
 -- the same rank's links are meant
-pub marks_like : (quota : ℕ → ℕ) (x y : State) (sent : Logs) → y.ranks ≡ x.ranks → y.rank ≡ x.rank → MarksLast quota x sent → MarksLast quota y sent
+pub marks_like : (quota : ℕ → ℕ) (x y : Stack) (sent : Logs) → y.ranks ≡ x.ranks → y.rank ≡ x.rank → MarksLast quota x sent → MarksLast quota y sent
 marks_like quota x y sent ranks rank was = λ e b m p low at going.
     let l : link_to y b ≡ link_to x b = ap (λ n. number n y.rank b) ranks ∙ ap (λ r. number x.ranks r b) rank in
     was e b m p (omega (arith, low, ranks)) (sym (ap (λ j. proceed_parcel e m (sent j)) l) ∙ at) going
 
-went_like : (e m : ℕ) (x y : State) (got got' : Logs) → y.ranks ≡ x.ranks → y.rank ≡ x.rank → ((l : ℕ) → Begins (got l) (got' l)) → WentOn e m x got → WentOn e m y got'
+went_like : (e m : ℕ) (x y : Stack) (got got' : Logs) → y.ranks ≡ x.ranks → y.rank ≡ x.rank → ((l : ℕ) → Begins (got l) (got' l)) → WentOn e m x got → WentOn e m y got'
 went_like e m x y got got' ranks rank grows w =
     let l : link_from y w.sender ≡ link_from x w.sender = ap (λ n. number n w.sender y.rank) ranks ∙ ap (λ r. number x.ranks w.sender r) rank in
     record {
@@ -44,7 +44,7 @@ went_like e m x y got got' ranks rank grows w =
     }
 
 -- the marks after a round
-marks_made : (quota : ℕ → ℕ) (n : ℕ) (mid x' : State) (last exchange : Bool) (sent sent' got got' : Logs) → MadeRound last exchange mid x' sent sent' got got' → AgreesIn n x' sent' got'
+marks_made : (quota : ℕ → ℕ) (n : ℕ) (mid x' : Stack) (last exchange : Bool) (sent sent' got got' : Logs) → MadeRound last exchange mid x' sent sent' got got' → AgreesIn n x' sent' got'
     → x'.ranks ≡ mid.ranks → x'.rank ≡ mid.rank → x'.epoch ≡ mid.epoch
     → (last ≡ false → (m : ℕ) → 2 * m + 1 ≡ rounds_in n x'.stage → m < quota x'.epoch) → MarksLast quota mid sent → MarksLast quota x' sent'
 marks_made quota n mid x' last exchange sent sent' got got' made agrees ranks rank epoch in_time was = λ e b m p low at going.
@@ -77,7 +77,7 @@ filling_apart : (s : Stage) → s ≡ Filling → (is_proceeding s || is_exchang
 filling_apart s e h = absurd (cc)
 
 -- the exchange went on in a cycle for a proceed parcel that came in it
-goes_on : (cap n : ℕ) (x : State) (sent got : Logs) → IsStack cap x → AgreesIn n x sent got → x.stage ≡ Filling → all_ended x ≡ false → WentOn x.epoch n x got
+goes_on : (cap n : ℕ) (x : Stack) (sent got : Logs) → IsStack cap x → AgreesIn n x sent got → x.stage ≡ Filling → all_ended x ≡ false → WentOn x.epoch n x got
 goes_on cap n x sent got s a stage ended =
     let o = one_open x.ins ended in
     let low : o.sender < x.ranks = omega (arith, o.low, s.all_ins) in
@@ -125,7 +125,7 @@ proceed_waits Full due m = refl
 proceed_waits AllDone due m = absurd (false≢true m)
 
 -- what the beginning of a round leaves as it was
-record Stays (mid x : State) : Type 0 where
+record Stays (mid x : Stack) : Type 0 where
   pub ranks : mid.ranks ≡ x.ranks
   pub rank : mid.rank ≡ x.rank
   pub epoch : mid.epoch ≡ x.epoch
@@ -134,20 +134,20 @@ record Stays (mid x : State) : Type 0 where
 begun_waits : (outs : List Out) (b : ℕ) → b < length outs → (get_or (map begun_out outs) b no_out).waiting ≡ (get_or outs b no_out).waiting
 begun_waits outs b low = ap (λ (o : Out). o.waiting) (begun_outs outs b no_out (omega (arith, low, length-map outs begun_out)))
 
-proceed_begins : (done : Bool) (x : State) → Stays (in_proceed done x) x
+proceed_begins : (done : Bool) (x : Stack) → Stays (in_proceed done x) x
 proceed_begins done x = by (is_proceeding x.stage) where
   by : (b : Bool) → Stays (cond b (record x { popped = None }) (record x { stage = Proceeding; done = done; outs = map begun_out x.outs; ins = map begun_in x.ins; popped = None })) x
   by true = record { ranks = refl; rank = refl; epoch = refl; waiting = λ b low. refl }
   by false = record { ranks = refl; rank = refl; epoch = refl; waiting = λ b low. begun_waits x.outs b low }
 
-exchange_begins : (x : State) → Stays (in_exchange x) x
+exchange_begins : (x : Stack) → Stays (in_exchange x) x
 exchange_begins x = by (is_exchanging x.stage) where
   by : (b : Bool) → Stays (cond b (record x { popped = None }) (record x { stage = Exchanging; outs = map begun_out x.outs; ins = map begun_in x.ins; popped = None })) x
   by true = record { ranks = refl; rank = refl; epoch = refl; waiting = λ b low. refl }
   by false = record { ranks = refl; rank = refl; epoch = refl; waiting = λ b low. begun_waits x.outs b low }
 
 -- what a rank's proceed poll leaves of its exstack x; x1 is the exstack as the poll begins
-pub record Proceeds {S : Type 0} (R : Rules S) (cap : ℕ) (run run' : Running S) (x x1 x2 : State) (done : Bool) (sent got sent' got' : Logs) : Type 0 where
+pub record Proceeds {S : Type 0} (R : Rules S) (cap : ℕ) (run run' : Running S) (x x1 x2 : Stack) (done : Bool) (sent got sent' got' : Logs) : Type 0 where
   pub standing : IsStack cap x
   pub standing' : IsStack cap x2
   pub may : may_proceed x.stage ≡ true
@@ -162,25 +162,25 @@ pub record Proceeds {S : Type 0} (R : Rules S) (cap : ℕ) (run run' : Running S
   pub proceeded : has_proceeded x2.stage ≡ true
   pub ended : x2.stage ≡ Filling → all_ended x2 ≡ false
 
-module _ {S : Type 0} (R : Rules S) (cap : ℕ) (run run' : Running S) (x x1 x2 : State) (done : Bool) (sent got sent' got' : Logs) (p : Proceeds R cap run run' x x1 x2 done sent got sent' got')
+module _ {S : Type 0} (R : Rules S) (cap : ℕ) (run run' : Running S) (x x1 x2 : Stack) (done : Bool) (sent got sent' got' : Logs) (p : Proceeds R cap run run' x x1 x2 done sent got sent' got')
     (quota : ℕ → ℕ) (n : ℕ) (i : InCycle R quota n run x sent got) where
-  mid : State
+  mid : Stack
   mid = in_proceed done x1
 
   begins : Stays (in_proceed done x1) x1
   begins = proceed_begins done x1
 
   outs : x1.outs ≡ x.outs
-  outs = ap (λ (t : State). t.outs) p.popped
+  outs = ap (λ (t : Stack). t.outs) p.popped
 
   ranks : x2.ranks ≡ x.ranks
-  ranks = ap (λ (t : State). t.ranks) p.same ∙ ap (λ (t : State). t.ranks) p.popped
+  ranks = ap (λ (t : Stack). t.ranks) p.same ∙ ap (λ (t : Stack). t.ranks) p.popped
 
   rank : x2.rank ≡ x.rank
-  rank = ap (λ (t : State). t.rank) p.same ∙ ap (λ (t : State). t.rank) p.popped
+  rank = ap (λ (t : Stack). t.rank) p.same ∙ ap (λ (t : Stack). t.rank) p.popped
 
   epoch : x2.epoch ≡ x.epoch
-  epoch = ap (λ (t : State). t.epoch) p.same ∙ ap (λ (t : State). t.epoch) p.popped
+  epoch = ap (λ (t : Stack). t.epoch) p.same ∙ ap (λ (t : Stack). t.epoch) p.popped
 
   m' : ℕ
   m' = cycle_after n x.stage
@@ -198,13 +198,13 @@ module _ {S : Type 0} (R : Rules S) (cap : ℕ) (run run' : Running S) (x x1 x2 
   few = omega (arith, i.few, ap length p.items, ap quota epoch)
 
   done_is : x2.done ≡ false → done ≡ false
-  done_is f = sym (ap (λ (t : State). t.done) p.same) ∙ f
+  done_is f = sym (ap (λ (t : Stack). t.done) p.same) ∙ f
 
   -- no entry waits
   emptied : (b : ℕ) → b < x2.ranks → (out_at x2 b).waiting ≡ []
   emptied b low =
       let low0 : b < x.ranks = omega (arith, low, ranks) in
-      let low1 : b < x1.ranks = omega (arith, low0, ap (λ (t : State). t.ranks) p.popped) in
+      let low1 : b < x1.ranks = omega (arith, low0, ap (λ (t : Stack). t.ranks) p.popped) in
       let o = out_at (in_proceed done x1) b in
       let o' = out_at x2 b in
       let none : (out_at x b).waiting ≡ [] = (p.standing.each_out b no_out (omega (arith, low0, p.standing.all_outs))).sent_on (proceed_waits x.stage (out_at x b).due p.may) in
@@ -226,12 +226,12 @@ module _ {S : Type 0} (R : Rules S) (cap : ℕ) (run run' : Running S) (x x1 x2 
 
   marks : MarksLast quota x2 sent'
   marks =
-      let r1 = ap (λ (t : State). t.ranks) p.same ∙ sym begins.ranks in
-      let r2 = ap (λ (t : State). t.rank) p.same ∙ sym begins.rank in
-      let r3 = ap (λ (t : State). t.epoch) p.same ∙ sym begins.epoch in
+      let r1 = ap (λ (t : Stack). t.ranks) p.same ∙ sym begins.ranks in
+      let r2 = ap (λ (t : Stack). t.rank) p.same ∙ sym begins.rank in
+      let r3 = ap (λ (t : Stack). t.epoch) p.same ∙ sym begins.epoch in
       marks_made quota (cycle_after n x.stage) (in_proceed done x1) x2 done false sent sent' got got' p.made agrees r1 r2 r3
       (λ d m c. omega (arith, c, (proceeded_counts (cycle_after n x.stage) x2.stage p.proceeded).1, begun d, p.left d, few))
-      (marks_like quota x (in_proceed done x1) sent (begins.ranks ∙ ap (λ (t : State). t.ranks) p.popped) (begins.rank ∙ ap (λ (t : State). t.rank) p.popped) i.marks)
+      (marks_like quota x (in_proceed done x1) sent (begins.ranks ∙ ap (λ (t : Stack). t.ranks) p.popped) (begins.rank ∙ ap (λ (t : Stack). t.rank) p.popped) i.marks)
 
   pub proceeds_keep : InCycle R quota (cycle_after n x.stage) run' x2 sent' got'
   proceeds_keep =
@@ -246,24 +246,24 @@ module _ {S : Type 0} (R : Rules S) (cap : ℕ) (run run' : Running S) (x x1 x2 
       }
 
 -- what a rank's exchange poll leaves of its exstack
-pub record Exchanges (x x2 : State) (sent got sent' got' : Logs) : Type 0 where
+pub record Exchanges (x x2 : Stack) (sent got sent' got' : Logs) : Type 0 where
   pub same : x2 ≡ record x { stage = x2.stage; outs = x2.outs; ins = x2.ins; popped = None }
   pub made : MadeRound false true (in_exchange x) x2 sent sent' got got'
   pub agrees : (n : ℕ) → AgreesIn n x sent got → AgreesIn n x2 sent' got'
   pub exchanged : has_exchanged x2.stage ≡ true
 
-pub exchanges_keep : {S : Type 0} (R : Rules S) (run : Running S) (x x2 : State) (sent got sent' got' : Logs) → Exchanges x x2 sent got sent' got'
+pub exchanges_keep : {S : Type 0} (R : Rules S) (run : Running S) (x x2 : Stack) (sent got sent' got' : Logs) → Exchanges x x2 sent got sent' got'
     → (quota : ℕ → ℕ) (n : ℕ) → InExchange R quota n run x sent got → InCycle R quota n run x2 sent' got'
 exchanges_keep R run x x2 sent got sent' got' p quota n i =
     let counts = exchanged_counts n x2.stage p.exchanged in
     let begins = exchange_begins x in
-    let ranks : x2.ranks ≡ x.ranks = ap (λ (t : State). t.ranks) p.same in
-    let rank : x2.rank ≡ x.rank = ap (λ (t : State). t.rank) p.same in
-    let epoch : x2.epoch ≡ x.epoch = ap (λ (t : State). t.epoch) p.same in
+    let ranks : x2.ranks ≡ x.ranks = ap (λ (t : Stack). t.ranks) p.same in
+    let rank : x2.rank ≡ x.rank = ap (λ (t : Stack). t.rank) p.same in
+    let epoch : x2.epoch ≡ x.epoch = ap (λ (t : Stack). t.epoch) p.same in
     record {
       agrees = p.agrees n i.agrees;
       few = omega (arith, i.few, ap quota epoch);
-      paced = λ f. omega (arith, i.paced (sym (ap (λ (t : State). t.done) p.same) ∙ f), counts.0);
+      paced = λ f. omega (arith, i.paced (sym (ap (λ (t : Stack). t.done) p.same) ∙ f), counts.0);
       left = λ s f. absurd (counts.3 s);
       emptied = λ s b low. absurd (counts.3 s);
       went_on = λ m low. subst (λ e. WentOn e m x2 got') (sym epoch) (went_like x.epoch m x x2 got got' ranks rank p.made.got_grows (i.went_on m (omega (arith, low, counts.2))));
@@ -272,31 +272,31 @@ exchanges_keep R run x x2 sent got sent' got' p quota n i =
     }
 
 -- a round that goes on
-pub still_exchanging : {S : Type 0} (R : Rules S) (run : Running S) (x : State) (sent got : Logs) (quota : ℕ → ℕ) (n : ℕ) → x.stage ≡ Exchanging → InCycle R quota n run x sent got → InExchange R quota n run x sent got
+pub still_exchanging : {S : Type 0} (R : Rules S) (run : Running S) (x : Stack) (sent got : Logs) (quota : ℕ → ℕ) (n : ℕ) → x.stage ≡ Exchanging → InCycle R quota n run x sent got → InExchange R quota n run x sent got
 still_exchanging R run x sent got quota n s i =
     let e : exchanges_in n x.stage ≡ n + 1 = ap (exchanges_in n) s in
     let g : cycles_gone_on n x.stage ≡ n + 1 = ap (cycles_gone_on n) s in
     record { agrees = i.agrees; few = i.few; paced = λ f. omega (arith, i.paced f, e); went_on = λ m low. i.went_on m (omega (arith, low, g)); marks = i.marks }
 
 -- buffers that are filled
-pub filled_keep : {S : Type 0} (R : Rules S) (run : Running S) (x x' : State) (next : ℕ) (sent got : Logs) (quota : ℕ → ℕ) (n : ℕ) → x.stage ≡ Filling → x' ≡ record x { outs = x'.outs; popped = x'.popped }
+pub filled_keep : {S : Type 0} (R : Rules S) (run : Running S) (x x' : Stack) (next : ℕ) (sent got : Logs) (quota : ℕ → ℕ) (n : ℕ) → x.stage ≡ Filling → x' ≡ record x { outs = x'.outs; popped = x'.popped }
     → AgreesIn n x' sent got → (x.done ≡ false → run.next < next) → InCycle R quota n run x sent got → InExchange R quota n (record run { next = next }) x' sent got
 filled_keep R run x x' next sent got quota n s same agrees pushed i =
-    let ranks : x'.ranks ≡ x.ranks = ap (λ (t : State). t.ranks) same in
-    let rank : x'.rank ≡ x.rank = ap (λ (t : State). t.rank) same in
-    let epoch : x'.epoch ≡ x.epoch = ap (λ (t : State). t.epoch) same in
+    let ranks : x'.ranks ≡ x.ranks = ap (λ (t : Stack). t.ranks) same in
+    let rank : x'.rank ≡ x.rank = ap (λ (t : Stack). t.rank) same in
+    let epoch : x'.epoch ≡ x.epoch = ap (λ (t : Stack). t.epoch) same in
     let g : cycles_gone_on n x.stage ≡ n + 1 = ap (cycles_gone_on n) s in
     let e : exchanges_in n x.stage ≡ n = ap (exchanges_in n) s in
     record {
       agrees = agrees;
       few = omega (arith, i.few, ap quota epoch);
-      paced = λ f. let was : x.done ≡ false = sym (ap (λ (t : State). t.done) same) ∙ f in omega (arith, i.paced was, e, pushed was);
+      paced = λ f. let was : x.done ≡ false = sym (ap (λ (t : Stack). t.done) same) ∙ f in omega (arith, i.paced was, e, pushed was);
       went_on = λ m low. subst (λ d. WentOn d m x' got) (sym epoch) (went_like x.epoch m x x' got got ranks rank (λ l. record { rest = []; is = sym (append-nil (got l)) }) (i.went_on m (omega (arith, low, g))));
       marks = marks_like quota x x' sent ranks rank i.marks;
     }
 
 -- a proceed poll after pops, which says that the rank is done where all is pushed
-module _ {S : Type 0} (R : Rules S) (h : ℕ → S) (run : Running S) (cap : ℕ) (x x1 x2 : State) (prog : S) (sum : ℕ) (spoiled voting done : Bool) (sent got sent' got' : Logs)
+module _ {S : Type 0} (R : Rules S) (h : ℕ → S) (run : Running S) (cap : ℕ) (x x1 x2 : Stack) (prog : S) (sum : ℕ) (spoiled voting done : Bool) (sent got sent' got' : Logs)
     (pops : Pops R voting x x1 run.prog prog run.sum sum run.spoiled spoiled) (all : done ≡ (run.next == length (to_send R prog run.sends))) (is : IsNode R h (record { run = run; mover = Stacking cap x }) sent got) where
   pub proceeds_of : IsStack cap x2 → may_proceed x.stage ≡ true → x2 ≡ record x1 { stage = x2.stage; done = done; outs = x2.outs; ins = x2.ins; popped = None }
       → MadeRound done false (in_proceed done x1) x2 sent sent' got got' → ((n : ℕ) → AgreesIn n x1 sent got → AgreesIn (cycle_after n x1.stage) x2 sent' got')
@@ -311,10 +311,10 @@ module _ {S : Type 0} (R : Rules S) (h : ℕ → S) (run : Running S) (cap : ℕ
         popped = pops.same;
         same = same;
         made = made;
-        agrees = λ n a. subst (λ s. AgreesIn (cycle_after n s) x2 sent' got') (ap (λ (t : State). t.stage) pops.same) (agrees n (pops.kept n sent got a));
+        agrees = λ n a. subst (λ s. AgreesIn (cycle_after n s) x2 sent' got') (ap (λ (t : Stack). t.stage) pops.same) (agrees n (pops.kept n sent got a));
         next = refl;
         items = items;
-        done_stays = λ d. done_keeps R h run cap x x1 prog sum spoiled voting done sent got pops all is (ap (λ (t : State). t.done) pops.same ∙ d);
+        done_stays = λ d. done_keeps R h run cap x x1 prog sum spoiled voting done sent got pops all is (ap (λ (t : Stack). t.done) pops.same ∙ d);
         left = λ f. left_over run.next (length (to_send R prog run.sends)) done all (omega (arith, is.within.next_low, ap length items)) f;
         proceeded = proceeded;
         ended = ended;

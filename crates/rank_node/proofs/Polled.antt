@@ -15,7 +15,7 @@ use Rattle.exstack.specs.declared.stage.Stage.TheVariants.{Proceeding, Filling, 
 use Rattle.exstack.specs.declared.stage.Poll.{Poll}
 use Rattle.exstack.specs.declared.stage.Poll.TheVariants.{Ready, NotYet}
 use Rattle.exstack.specs.Links.{no_out, no_in}
-use Rattle.exstack.specs.State.{State, dims_of, out_at, in_at, number, link_to, link_from, is_proceeding, is_exchanging, stage_of_exchange}
+use Rattle.exstack.specs.State.{Stack, dims_of, out_at, in_at, number, link_to, link_from, is_proceeding, is_exchanging, stage_of_exchange}
 use Rattle.exstack.specs.Steps.{MadeRound, was_moved}
 use Rattle.exstack.specs.Agreement.{AgreesWith}
 use Rattle.exstack.specs.Parts.{part_of, AreOwnSteps, proceed_steps, is_all_done}
@@ -69,7 +69,7 @@ one_more true xs ys y e = omega (arith, ap length e, length-append xs (y ∷ [])
 one_more false xs ys y e = omega (arith, ap length e)
 
 -- what a poll says of the lists, by the state in which its round has begun
-pub record Made (cap : ℕ) (x mid x' : State) (last exchange : Bool) (sent sent' got got' : Logs) : Type 0 where
+pub record Made (cap : ℕ) (x mid x' : Stack) (last exchange : Bool) (sent sent' got got' : Logs) : Type 0 where
   pub some : 0 < x.ranks
   pub few : x.ranks ≤ 64
   pub mid_ranks : mid.ranks ≡ x.ranks
@@ -80,7 +80,7 @@ pub record Made (cap : ℕ) (x mid x' : State) (last exchange : Bool) (sent sent
   pub made : MadeRound last exchange mid x' sent sent' got got'
   pub agrees : AgreesWith x' sent' got'
 
-module _ (cap : ℕ) (x mid x' : State) (last exchange : Bool) (sent sent' got got' : Logs) (m : Made cap x mid x' last exchange sent sent' got got') where
+module _ (cap : ℕ) (x mid x' : Stack) (last exchange : Bool) (sent sent' got got' : Logs) (m : Made cap x mid x' last exchange sent sent' got got') where
   one_sent : (l : ℕ) → l < links (dims_of x) → sender_at (dims_of x) l ≡ x.rank → length (sent' l) ≤ length (sent l) + 1
   one_sent l below own =
       let t = toward x.ranks x.rank l m.some m.few below own in
@@ -121,7 +121,7 @@ module _ (cap : ℕ) (x mid x' : State) (last exchange : Bool) (sent sent' got g
       }
 
 -- one that was made, or not: the lists stay
-pub nothing_moved : {S : Type 0} (R : Rules S) (cap : ℕ) (run : Running S) (x : State) (sent got : Logs) → AfterMoves R cap (record { run = run; mover = Stacking cap x }) (record { run = run; mover = Stacking cap x }) sent got sent got
+pub nothing_moved : {S : Type 0} (R : Rules S) (cap : ℕ) (run : Running S) (x : Stack) (sent got : Logs) → AfterMoves R cap (record { run = run; mover = Stacking cap x }) (record { run = run; mover = Stacking cap x }) sent got sent got
 nothing_moved R cap run x sent got =
     record {
       kept = λ h is. is;
@@ -142,7 +142,7 @@ nothing_moved R cap run x sent got =
 none_due : (s : Stage) → s ≡ AllDone → (is_proceeding s || is_exchanging s) ≡ true → ⊥
 none_due s e h = absurd (cc)
 
-pub waits_for_none : (cap : ℕ) (x : State) (got : Logs) (is_crowded is_idle : ℕ → Bool) → IsStack cap x → x.stage ≡ AllDone → WaitsFor x x got got is_crowded is_idle
+pub waits_for_none : (cap : ℕ) (x : Stack) (got : Logs) (is_crowded is_idle : ℕ → Bool) → IsStack cap x → x.stage ≡ AllDone → WaitsFor x x got got is_crowded is_idle
 waits_for_none cap x got is_crowded is_idle s over =
     record {
       posts = λ b low due same. absurd (none_due x.stage over ((s.each_out b no_out (omega (arith, low, s.all_outs))).due_round due));
@@ -165,7 +165,7 @@ proceeded_taken R p rank h round sends next prog sum spoiled part part' true fal
 proceeded_taken R p rank h round sends next prog sum spoiled part part' true false false all steps is = taken_same R p rank h round sends next prog sum spoiled part part' steps.1 is
 
 -- what a proceed poll leaves of the exstack
-pub record AfterProceed (cap : ℕ) (x x' : State) (done : Bool) (sent got sent' got' : Logs) : Type 0 where
+pub record AfterProceed (cap : ℕ) (x x' : Stack) (done : Bool) (sent got sent' got' : Logs) : Type 0 where
   pub standing : IsStack cap x'
   pub agrees : AgreesWith x' sent' got'
   pub same_ranks : x'.ranks ≡ x.ranks
@@ -182,7 +182,7 @@ left_over next count done is low d =
     ]
 
 -- what the poll is told
-module _ {S : Type 0} (R : Rules S) (h : ℕ → S) (run : Running S) (cap : ℕ) (x x1 : State) (prog : S) (sum : ℕ) (spoiled voting done : Bool) (sent got : Logs)
+module _ {S : Type 0} (R : Rules S) (h : ℕ → S) (run : Running S) (cap : ℕ) (x x1 : Stack) (prog : S) (sum : ℕ) (spoiled voting done : Bool) (sent got : Logs)
     (pops : Pops R voting x x1 run.prog prog run.sum sum run.spoiled spoiled) (all : done ≡ (run.next == length (to_send R prog run.sends))) (is : IsNode R h (record { run = run; mover = Stacking cap x }) sent got) where
   same_items : to_send R prog run.sends ≡ to_send R run.prog run.sends
   same_items = same_sends R prog run.prog run.sends pops.emissions
@@ -190,7 +190,7 @@ module _ {S : Type 0} (R : Rules S) (h : ℕ → S) (run : Running S) (cap : ℕ
   -- a rank that was done is done
   pub done_keeps : x1.done ≡ true → done ≡ true
   done_keeps d =
-      let was : x.done ≡ true = sym (ap (λ (t : State). t.done) pops.same) ∙ d in
+      let was : x.done ≡ true = sym (ap (λ (t : Stack). t.done) pops.same) ∙ d in
       all ∙ eq-eqb run.next (length (to_send R prog run.sends)) (is.within.all_pushed was ∙ ap length (sym same_items))
 
   -- and within a round what was said stays
@@ -199,11 +199,11 @@ module _ {S : Type 0} (R : Rules S) (h : ℕ → S) (run : Running S) (cap : ℕ
       elim (cases_Bool x1.done) [
         | inl d ↦ done_keeps d ∙ sym d
         | inr d ↦
-            let left = is.paced (sym (ap (λ (t : State). t.stage) pops.same) ∙ s) (sym (ap (λ (t : State). t.done) pops.same) ∙ d) in
+            let left = is.paced (sym (ap (λ (t : Stack). t.stage) pops.same) ∙ s) (sym (ap (λ (t : Stack). t.done) pops.same) ∙ d) in
             all ∙ (ne_eqb run.next (length (to_send R prog run.sends)) (λ e. omega (arith, e, left, ap length same_items)) ∙ sym d)
       ]
 
-module _ {S : Type 0} (R : Rules S) (h : ℕ → S) (run : Running S) (cap : ℕ) (x x1 x' : State) (prog : S) (sum : ℕ) (spoiled voting done : Bool) (sent got sent' got' : Logs)
+module _ {S : Type 0} (R : Rules S) (h : ℕ → S) (run : Running S) (cap : ℕ) (x x1 x' : Stack) (prog : S) (sum : ℕ) (spoiled voting done : Bool) (sent got sent' got' : Logs)
     (is_v : is_voting run.sends ≡ voting) (pops : Pops R voting x x1 run.prog prog run.sum sum run.spoiled spoiled) (all : done ≡ (run.next == length (to_send R prog run.sends)))
     (p : AfterProceed cap x1 x' done sent got sent' got') (is : IsNode R h (record { run = run; mover = Stacking cap x }) sent got) where
   h0 : HasTaken R (ranks (dims_of x)) x.rank h run.round run.sends run.next run.prog run.sum run.spoiled (part_of x sent got)
@@ -217,10 +217,10 @@ module _ {S : Type 0} (R : Rules S) (h : ℕ → S) (run : Running S) (cap : ℕ
       (λ d. eqb-true run.next (length (to_send R prog run.sends)) (sym all ∙ d)) p.steps h1
 
   ranks_same : x'.ranks ≡ x.ranks
-  ranks_same = p.same_ranks ∙ ap (λ (t : State). t.ranks) pops.same
+  ranks_same = p.same_ranks ∙ ap (λ (t : Stack). t.ranks) pops.same
 
   rank_same : x'.rank ≡ x.rank
-  rank_same = p.same_rank ∙ ap (λ (t : State). t.rank) pops.same
+  rank_same = p.same_rank ∙ ap (λ (t : Stack). t.rank) pops.same
 
   pub proceeded : IsNode R h (record { run = record { prog = prog; round = run.round; sends = run.sends; next = run.next; sum = sum; spoiled = spoiled }; mover = Stacking cap x' }) sent' got'
   proceeded =
@@ -235,7 +235,7 @@ module _ {S : Type 0} (R : Rules S) (h : ℕ → S) (run : Running S) (cap : ℕ
       }
 
 -- what an exchange poll leaves
-pub record AfterExchange (cap : ℕ) (x x' : State) (sent got sent' got' : Logs) : Type 0 where
+pub record AfterExchange (cap : ℕ) (x x' : Stack) (sent got sent' got' : Logs) : Type 0 where
   pub standing : IsStack cap x'
   pub agrees : AgreesWith x' sent' got'
   pub same_ranks : x'.ranks ≡ x.ranks
@@ -250,7 +250,7 @@ pub ready_apart : {s : Stage} (p : Poll) → s ≡ stage_of_exchange p → s ≡
 ready_apart Ready e q = absurd (cc)
 ready_apart (NotYet l) e q = absurd (cc)
 
-pub exchanged : {S : Type 0} (R : Rules S) (h : ℕ → S) (run : Running S) (cap : ℕ) (x x' : State) (sent got sent' got' : Logs) → AfterExchange cap x x' sent got sent' got'
+pub exchanged : {S : Type 0} (R : Rules S) (h : ℕ → S) (run : Running S) (cap : ℕ) (x x' : Stack) (sent got sent' got' : Logs) → AfterExchange cap x x' sent got sent' got'
     → IsNode R h (record { run = run; mover = Stacking cap x }) sent got → IsNode R h (record { run = run; mover = Stacking cap x' }) sent' got'
 exchanged R h run cap x x' sent got sent' got' p is =
     let h0 : HasTaken R (ranks (dims_of x)) x.rank h run.round run.sends run.next run.prog run.sum run.spoiled (part_of x sent got) = record { passed = is.passed; within = is.within } in
@@ -261,20 +261,20 @@ exchanged R h run cap x x' sent got sent' got' p is =
     record { moving = record { stack = p.standing; agrees = p.agrees }; paced = λ s d. absurd (p.apart s); passed = h2.passed; within = h2.within }
 
 -- what pushes leave
-pub filled : {S : Type 0} (R : Rules S) (h : ℕ → S) (run : Running S) (cap : ℕ) (x x' : State) (next : ℕ) (sent got : Logs) → IsStack cap x' → x.stage ≡ Filling → Fills cap (to_send R run.prog run.sends) x x' run.next next
+pub filled : {S : Type 0} (R : Rules S) (h : ℕ → S) (run : Running S) (cap : ℕ) (x x' : Stack) (next : ℕ) (sent got : Logs) → IsStack cap x' → x.stage ≡ Filling → Fills cap (to_send R run.prog run.sends) x x' run.next next
     → IsNode R h (record { run = run; mover = Stacking cap x }) sent got → IsNode R h (record { run = record run { next = next }; mover = Stacking cap x' }) sent got
 filled R h run cap x x' next sent got standing filling fills is =
     let h0 : HasTaken R (ranks (dims_of x)) x.rank h run.round run.sends run.next run.prog run.sum run.spoiled (part_of x sent got) = record { passed = is.passed; within = is.within } in
     let h1 = pushed_taken R (ranks (dims_of x)) x.rank h run.round run.sends run.next next run.prog run.sum run.spoiled (part_of x sent got) (part_of x' sent got)
     (fills.pushed is.moving.agrees.cycle sent got is.moving.agrees.agrees) fills.forward fills.low h0 in
-    let same_ranks : x'.ranks ≡ x.ranks = ap (λ (t : State). t.ranks) fills.same in
-    let same_rank : x'.rank ≡ x.rank = ap (λ (t : State). t.rank) fills.same in
+    let same_ranks : x'.ranks ≡ x.ranks = ap (λ (t : Stack). t.ranks) fills.same in
+    let same_rank : x'.rank ≡ x.rank = ap (λ (t : Stack). t.rank) fills.same in
     let h2 : HasTaken R (ranks (dims_of x')) x'.rank h run.round run.sends next run.prog run.sum run.spoiled (part_of x' sent got) =
     subst (λ n. HasTaken R (ranks (n ∷ [])) x'.rank h run.round run.sends next run.prog run.sum run.spoiled (part_of x' sent got)) (sym same_ranks)
     (subst (λ r. HasTaken R (ranks (dims_of x)) r h run.round run.sends next run.prog run.sum run.spoiled (part_of x' sent got)) (sym same_rank) h1) in
     record {
       moving = record { stack = standing; agrees = record { cycle = is.moving.agrees.cycle; agrees = fills.kept is.moving.agrees.cycle sent got is.moving.agrees.agrees } };
-      paced = λ s d. absurd (not_both x'.stage (ap (λ (t : State). t.stage) fills.same ∙ filling) s);
+      paced = λ s d. absurd (not_both x'.stage (ap (λ (t : Stack). t.stage) fills.same ∙ filling) s);
       passed = h2.passed;
       within = h2.within;
     } where
@@ -282,18 +282,18 @@ filled R h run cap x x' next sent got standing filling fills is =
       not_both s a b = absurd (cc)
 
 -- a turn that pushes and then polls
-pub fill_then : {S : Type 0} (R : Rules S) (cap : ℕ) (run run1 run' : Running S) (x x1 x' : State) (sent got sent' got' : Logs) → x1 ≡ record x { outs = x1.outs; popped = x1.popped } → AfterFill R cap run run1 x x1
+pub fill_then : {S : Type 0} (R : Rules S) (cap : ℕ) (run run1 run' : Running S) (x x1 x' : Stack) (sent got sent' got' : Logs) → x1 ≡ record x { outs = x1.outs; popped = x1.popped } → AfterFill R cap run run1 x x1
     → AfterMoves R cap (record { run = run1; mover = Stacking cap x1 }) (record { run = run'; mover = Stacking cap x' }) sent got sent' got'
     → AfterMoves R cap (record { run = run; mover = Stacking cap x }) (record { run = run'; mover = Stacking cap x' }) sent got sent' got'
 fill_then R cap run run1 run' x x1 x' sent got sent' got' same fill moves =
-    let dims : dims_of x1 ≡ dims_of x = ap (λ (t : State). dims_of t) same in
-    let rank : x1.rank ≡ x.rank = ap (λ (t : State). t.rank) same in
+    let dims : dims_of x1 ≡ dims_of x = ap (λ (t : Stack). dims_of t) same in
+    let rank : x1.rank ≡ x.rank = ap (λ (t : Stack). t.rank) same in
     record {
       kept = λ h is. moves.kept h (fill.kept h sent got is);
       dims = moves.dims ∙ dims;
       rank = moves.rank ∙ rank;
       manner = refl;
-      epoch = moves.epoch ∙ ap (λ (t : State). t.epoch) same;
+      epoch = moves.epoch ∙ ap (λ (t : Stack). t.epoch) same;
       round = moves.round ∙ fill.round;
       sends = moves.sends ∙ fill.sends;
       sent_grows = moves.sent_grows;
@@ -304,7 +304,7 @@ fill_then R cap run run1 run' x x1 x' sent got sent' got' same fill moves =
     }
 
 -- the same rank's links are meant
-pub waits_like : (x x1 x' : State) (got got' : Logs) (is_crowded is_idle : ℕ → Bool) → x1.ranks ≡ x.ranks → x1.rank ≡ x.rank → WaitsFor x1 x' got got' is_crowded is_idle → WaitsFor x x' got got' is_crowded is_idle
+pub waits_like : (x x1 x' : Stack) (got got' : Logs) (is_crowded is_idle : ℕ → Bool) → x1.ranks ≡ x.ranks → x1.rank ≡ x.rank → WaitsFor x1 x' got got' is_crowded is_idle → WaitsFor x x' got got' is_crowded is_idle
 waits_like x x1 x' got got' is_crowded is_idle same_ranks same_rank w =
     record {
       posts = λ b low due same.

@@ -8,7 +8,7 @@ use Rattle.bale_types.specs.declared.item.Item.{Item}
 use Rattle.route_tensor.specs.Grid.{ranks}
 use Rattle.port_bank.specs.Machine.Step.{Idle}
 use Rattle.exstack.specs.Links.{In, no_in, has_unread, with_first_read}
-use Rattle.exstack.specs.State.{State, dims_of, in_at, unread_of, lowest_unread, pop_from, popped_from, pops}
+use Rattle.exstack.specs.State.{Stack, dims_of, in_at, unread_of, lowest_unread, pop_from, popped_from, pops}
 use Rattle.exstack.specs.Parts.{part_of, IsStepOf, KeepsAgreement, GivesNext}
 use Rattle.exstack.proofs.Calls.{none_unread, some_unread}
 use Rattle.exstack.proofs.Places.{none_passes}
@@ -26,7 +26,7 @@ none_of : (ins : List In) → ((k : ℕ) → k < length ins → (get_or ins k no
 none_of [] each = refl
 none_of (i ∷ is) each = sum_by-cons (λ (i : In). length i.unread) i is ∙ omega (arith, ap length (each 0 (omega arith)), none_of is (λ k low. each (suc k) (omega (arith, low))))
 
-pub all_read : (st : State) → lowest_unread st ≡ None → unread_of st ≡ 0
+pub all_read : (st : Stack) → lowest_unread st ≡ None → unread_of st ≡ 0
 all_read st none = none_of st.ins (λ k low. none_unread (get_or st.ins k no_in) (none_passes has_unread st.ins no_in none k low))
 
 -- a pop that gives an item leaves one fewer
@@ -43,7 +43,7 @@ below [] i h = absurd (omega (arith, h))
 below (x ∷ xs) zero h = omega arith
 below (x ∷ xs) (suc i) h = omega (arith, below xs i h)
 
-fewer_from : (st : State) (o : Option ℕ) (p : ℕ × Item) → pop_from st o ≡ Some p → unread_of (popped_from st o) < unread_of st
+fewer_from : (st : Stack) (o : Option ℕ) (p : ℕ × Item) → pop_from st o ≡ Some p → unread_of (popped_from st o) < unread_of st
 fewer_from st None p is = absurd (cc)
 fewer_from st (Some a) p is =
     let xs = (in_at st a).unread in
@@ -54,34 +54,34 @@ fewer_from st (Some a) p is =
     let less : length (drop 1 xs) + 1 ≡ length xs = drop_first xs some in
     omega (arith, e, less)
 
-pub fewer_next : (st : State) (n from : ℕ) (x : Item) (most : ℕ) → n + unread_of (pops n st) ≤ most → GivesNext (pops n st) from x → n + 1 + unread_of (pops (n + 1) st) ≤ most
+pub fewer_next : (st : Stack) (n from : ℕ) (x : Item) (most : ℕ) → n + unread_of (pops n st) ≤ most → GivesNext (pops n st) from x → n + 1 + unread_of (pops (n + 1) st) ≤ most
 fewer_next st n from x most is next =
     let less : unread_of (pops (suc n) st) < unread_of (pops n st) = fewer_from (pops n st) (lowest_unread (pops n st)) (from, x) next.value in
     subst (λ m. n + 1 + unread_of (pops m st) ≤ most) (sym (add-one n)) (omega (arith, less, is))
 
 -- a batch has something
-pub batch_some : (st : State) (a : ℕ) → lowest_unread st ≡ Some a → 0 < length (in_at st a).unread
+pub batch_some : (st : Stack) (a : ℕ) → lowest_unread st ≡ Some a → 0 < length (in_at st a).unread
 batch_some st a found = some (in_at st a).unread (some_unread (in_at st a) (position-Some has_unread st.ins a no_in found).1) where
   some : {X : Type 0} (xs : List X) → (xs ≡ [] → ⊥) → 0 < length xs
   some [] e = absurd (e refl)
   some (x ∷ xs) e = omega arith
 
 -- what a pop leaves of the state
-popped_same : (st : State) (o : Option ℕ) → popped_from st o ≡ record st { ins = (popped_from st o).ins; popped = (popped_from st o).popped }
+popped_same : (st : Stack) (o : Option ℕ) → popped_from st o ≡ record st { ins = (popped_from st o).ins; popped = (popped_from st o).popped }
 popped_same st None = refl
 popped_same st (Some a) = refl
 
-pub pops_none : {S : Type 0} (R : Rules S) (voting : Bool) (x : State) (prog : S) (sum : ℕ) (spoiled : Bool) → Pops R voting x x prog prog sum sum spoiled spoiled
+pub pops_none : {S : Type 0} (R : Rules S) (voting : Bool) (x : Stack) (prog : S) (sum : ℕ) (spoiled : Bool) → Pops R voting x x prog prog sum sum spoiled spoiled
 pops_none R voting x prog sum spoiled = record { same = refl; emissions = refl; kept = λ n sent got a. a; taken = λ h rank round next sends n sent got v a t. t }
 
 -- one more pop
-pops_more : {S : Type 0} (R : Rules S) → Laws R → (voting : Bool) (old x : State) (prog mid prog' : S) (from : ℕ) (y : Item) (sum sum1 sum2 : ℕ) (spoiled now after : Bool) → Pops R voting old x prog mid sum sum1 spoiled now
+pops_more : {S : Type 0} (R : Rules S) → Laws R → (voting : Bool) (old x : Stack) (prog mid prog' : S) (from : ℕ) (y : Item) (sum sum1 sum2 : ℕ) (spoiled now after : Bool) → Pops R voting old x prog mid sum sum1 spoiled now
     → GivesNext x from y → from < x.ranks → TakesOne R voting mid prog' from y sum1 sum2 now after → Pops R voting old (popped_from x (lowest_unread x)) prog prog' sum sum2 spoiled after
 pops_more R laws voting old x prog mid prog' from y sum sum1 sum2 spoiled now after is next low takes =
     let like = popped_same x (lowest_unread x) in
-    let same : x.ranks ≡ old.ranks = ap (λ (t : State). t.ranks) is.same in
+    let same : x.ranks ≡ old.ranks = ap (λ (t : Stack). t.ranks) is.same in
     record {
-      same = like ∙ ap (λ (t : State). record t { ins = (popped_from x (lowest_unread x)).ins; popped = (popped_from x (lowest_unread x)).popped }) is.same;
+      same = like ∙ ap (λ (t : Stack). record t { ins = (popped_from x (lowest_unread x)).ins; popped = (popped_from x (lowest_unread x)).popped }) is.same;
       emissions = takes.emissions ∙ is.emissions;
       kept = λ n sent got a. next.kept n sent got (is.kept n sent got a);
       taken = λ h rank round after_next sends n sent got v a t.
@@ -90,11 +90,11 @@ pops_more R laws voting old x prog mid prog' from y sum sum1 sum2 spoiled now af
     }
 
 -- a call that only forgets the right to put an item back
-pub pops_rest : {S : Type 0} (R : Rules S) (voting : Bool) (old x x' : State) (prog prog' : S) (sum sum' : ℕ) (spoiled spoiled' : Bool) → Pops R voting old x prog prog' sum sum' spoiled spoiled'
+pub pops_rest : {S : Type 0} (R : Rules S) (voting : Bool) (old x x' : Stack) (prog prog' : S) (sum sum' : ℕ) (spoiled spoiled' : Bool) → Pops R voting old x prog prog' sum sum' spoiled spoiled'
     → x' ≡ record x { popped = None } → KeepsAgreement x x' → IsStepOf Idle x x' → Pops R voting old x' prog prog' sum sum' spoiled spoiled'
 pops_rest R voting old x x' prog prog' sum sum' spoiled spoiled' is new kept step =
     record {
-      same = subst (λ (t : State). t ≡ record old { ins = t.ins; popped = t.popped }) (sym new) (ap (λ (t : State). record t { popped = None }) is.same);
+      same = subst (λ (t : Stack). t ≡ record old { ins = t.ins; popped = t.popped }) (sym new) (ap (λ (t : Stack). record t { popped = None }) is.same);
       emissions = is.emissions;
       kept = λ n sent got a. kept n sent got (is.kept n sent got a);
       taken = λ h rank round next sends n sent got v a t.
@@ -103,12 +103,12 @@ pops_rest R voting old x x' prog prog' sum sum' spoiled spoiled' is new kept ste
     }
 
 -- pops after pops
-pub pops_both : {S : Type 0} (R : Rules S) (voting : Bool) (old x x' : State) (prog mid prog' : S) (sum sum1 sum2 : ℕ) (spoiled now after : Bool) → Pops R voting old x prog mid sum sum1 spoiled now
+pub pops_both : {S : Type 0} (R : Rules S) (voting : Bool) (old x x' : Stack) (prog mid prog' : S) (sum sum1 sum2 : ℕ) (spoiled now after : Bool) → Pops R voting old x prog mid sum sum1 spoiled now
     → Pops R voting x x' mid prog' sum1 sum2 now after → Pops R voting old x' prog prog' sum sum2 spoiled after
 pops_both R voting old x x' prog mid prog' sum sum1 sum2 spoiled now after p q =
-    let dims : ranks (dims_of x) ≡ ranks (dims_of old) = ap (λ (t : State). ranks (dims_of t)) p.same in
+    let dims : ranks (dims_of x) ≡ ranks (dims_of old) = ap (λ (t : Stack). ranks (dims_of t)) p.same in
     record {
-      same = q.same ∙ ap (λ (t : State). record t { ins = x'.ins; popped = x'.popped }) p.same;
+      same = q.same ∙ ap (λ (t : Stack). record t { ins = x'.ins; popped = x'.popped }) p.same;
       emissions = q.emissions ∙ p.emissions;
       kept = λ n sent got a. q.kept n sent got (p.kept n sent got a);
       taken = λ h rank round next sends n sent got v a t.
@@ -118,16 +118,16 @@ pops_both R voting old x x' prog mid prog' sum sum1 sum2 spoiled now after p q =
     }
 
 -- after so many pops of one batch as after n, and one more
-pub pops_next : {S : Type 0} (R : Rules S) → Laws R → (voting : Bool) (st : State) (n : ℕ) (prog mid prog' : S) (from : ℕ) (y : Item) (sum sum1 sum2 : ℕ) (spoiled now after : Bool)
+pub pops_next : {S : Type 0} (R : Rules S) → Laws R → (voting : Bool) (st : Stack) (n : ℕ) (prog mid prog' : S) (from : ℕ) (y : Item) (sum sum1 sum2 : ℕ) (spoiled now after : Bool)
     → Pops R voting st (pops n st) prog mid sum sum1 spoiled now → GivesNext (pops n st) from y → from < st.ranks → TakesOne R voting mid prog' from y sum1 sum2 now after
     → Pops R voting st (pops (n + 1) st) prog prog' sum sum2 spoiled after
 pops_next R laws voting st n prog mid prog' from y sum sum1 sum2 spoiled now after is next low takes =
-    let same : (pops n st).ranks ≡ st.ranks = ap (λ (t : State). t.ranks) is.same in
+    let same : (pops n st).ranks ≡ st.ranks = ap (λ (t : Stack). t.ranks) is.same in
     subst (λ m. Pops R voting st (pops m st) prog prog' sum sum2 spoiled after) (sym (add-one n))
     (pops_more R laws voting st (pops n st) prog mid prog' from y sum sum1 sum2 spoiled now after is next (omega (arith, low, same)) takes)
 
 -- and all that is left of it
-pub pops_chain : {S : Type 0} (R : Rules S) → Laws R → (voting : Bool) (st : State) (n : ℕ) (prog mid prog' : S) (es : List (ℕ × Item)) (sum sum1 sum2 : ℕ) (spoiled now after : Bool)
+pub pops_chain : {S : Type 0} (R : Rules S) → Laws R → (voting : Bool) (st : Stack) (n : ℕ) (prog mid prog' : S) (es : List (ℕ × Item)) (sum sum1 sum2 : ℕ) (spoiled now after : Bool)
     → Pops R voting st (pops n st) prog mid sum sum1 spoiled now → ((i : ℕ) (e : ℕ × Item) → slice_get es i ≡ Some e → (e.0 < st.ranks) × GivesNext (pops (n + i) st) e.0 e.1)
     → Chain R voting mid prog' es sum1 sum2 now after → Pops R voting st (pops (n + length es) st) prog prog' sum sum2 spoiled after
 pops_chain R laws voting st n prog mid prog' [] sum sum1 sum2 spoiled now later is gives c =
@@ -143,7 +143,7 @@ pops_chain R laws voting st n prog mid prog' (e ∷ es) sum sum1 sum2 spoiled no
     (λ i y at. subst (λ m. (y.0 < st.ranks) × GivesNext (pops m st) y.0 y.1) (one_more n i) (gives (suc i) y at)) c.4)
 
 -- what is popped isn't unread
-pub fewer_all : (st : State) (n : ℕ) (es : List (ℕ × Item)) → n + unread_of (pops n st) ≤ unread_of st → ((i : ℕ) (e : ℕ × Item) → slice_get es i ≡ Some e → (e.0 < st.ranks) × GivesNext (pops (n + i) st) e.0 e.1)
+pub fewer_all : (st : Stack) (n : ℕ) (es : List (ℕ × Item)) → n + unread_of (pops n st) ≤ unread_of st → ((i : ℕ) (e : ℕ × Item) → slice_get es i ≡ Some e → (e.0 < st.ranks) × GivesNext (pops (n + i) st) e.0 e.1)
     → n + length es + unread_of (pops (n + length es) st) ≤ unread_of st
 fewer_all st n [] is gives = subst (λ m. m + unread_of (pops m st) ≤ unread_of st) (sym (none_more n)) is
 fewer_all st n (e ∷ es) is gives =
@@ -152,7 +152,7 @@ fewer_all st n (e ∷ es) is gives =
     (fewer_all st (n + 1) es (fewer_next st n e.0 e.1 (unread_of st) is first.1) (λ i y at. subst (λ m. (y.0 < st.ranks) × GivesNext (pops m st) y.0 y.1) (one_more n i) (gives (suc i) y at)))
 
 -- all of one sender, where something is unread of it
-pub pops_batch : {S : Type 0} (R : Rules S) → Laws R → (voting : Bool) (st new : State) (m : ℕ) (prog prog' : S) (es : List (ℕ × Item)) (sum sum' : ℕ) (spoiled spoiled' : Bool)
+pub pops_batch : {S : Type 0} (R : Rules S) → Laws R → (voting : Bool) (st new : Stack) (m : ℕ) (prog prog' : S) (es : List (ℕ × Item)) (sum sum' : ℕ) (spoiled spoiled' : Bool)
     → m ≡ length es → new ≡ pops m st → 0 < length es → ((i : ℕ) (e : ℕ × Item) → slice_get es i ≡ Some e → (e.0 < st.ranks) × GivesNext (pops i st) e.0 e.1)
     → TakesEach R voting prog prog' es sum sum' spoiled spoiled' → Pops R voting st new prog prog' sum sum' spoiled spoiled' × (unread_of new < unread_of st)
 pops_batch R laws voting st new m prog prog' es sum sum' spoiled spoiled' count is some gives t =

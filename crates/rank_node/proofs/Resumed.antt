@@ -14,7 +14,7 @@ use Rattle.hop_core.specs.State.{State, reopened, resumed}
 use Rattle.convey.specs.Buffers.{buffers_of, in_of}
 use Rattle.convey.specs.Conveyors.{KeepsAgreement, IsStepOf}
 use Rattle.convey.specs.Law.{IsSound}
-use Rattle.exstack.specs.State.{State as Stack}
+use Rattle.exstack.specs.State.{Stack}
 use Rattle.exstack.specs.State.{after_reset}
 use Rattle.exstack.specs.Agreement.{AgreesIn}
 use Rattle.exstack.specs.Parts as exstacks

@@ -5,7 +5,7 @@ use Rattle.port_bank.proofs.Segments.{lasts_begins}
 use Rattle.exstack.specs.declared.stage.Stage.{Stage}
 use Rattle.exstack.specs.declared.stage.Stage.TheVariants.{Start, Proceeding, Filling, Exchanging, Full, AllDone}
 use Rattle.exstack.specs.Links.{no_out, no_in}
-use Rattle.exstack.specs.State.{State, out_at, in_at, link_to}
+use Rattle.exstack.specs.State.{Stack, out_at, in_at, link_to}
 use Rattle.exstack.specs.Standing.{IsStack}
 use Rattle.exstack.specs.Agreement.{AgreesIn}
 use Rattle.exstack.specs.Parts.{is_all_done}
@@ -27,7 +27,7 @@ closed_of e true h = refl
 closed_of e false h = absurd (omega (arith, h))
 
 -- a rank whose exstack is all done is done: its link to itself has ended, so it was closed
-pub done_of_all_done : (cap : ℕ) (x : State) (sent got : Logs) → IsStacking cap x sent got → is_all_done x.stage ≡ true → x.done ≡ true
+pub done_of_all_done : (cap : ℕ) (x : Stack) (sent got : Logs) → IsStacking cap x sent got → is_all_done x.stage ≡ true → x.done ≡ true
 done_of_all_done cap x sent got is over =
     let s : IsStack cap x = is.stack in
     let a : AgreesIn is.agrees.cycle x sent got = is.agrees.agrees in

@@ -1,5 +1,5 @@
 -- What a node makes of a batch of items that came.
-use Rattle.std.specs.Prelude.{◌≡◌, ℕ, ◌+◌, ◌-◌, ◌^◌, length, min, Bool, true, false, cond, List, map}
+use Rattle.std.specs.Prelude.{◌≡◌, ℕ, ◌+◌, ◌-◌, ◌^◌, length, min, Bool, true, false, List, map, if◌then◌else◌}
 use Rattle.std.specs.List.{fold}
 use Rattle.bale_types.specs.declared.item.Item.{Item}
 use Rattle.bale_types.specs.declared.item.Entry.{Entry}
@@ -12,7 +12,8 @@ use Rattle.round_program.specs.Batches.{all_taken_in}
 
 -- Entries of a link into a rank, by its number, as items each with its sender, which the tag tells.
 abbrev pub from_link : Site → ℕ → List Entry → List (ℕ × Item)
-from_link site number entries = map (λ e. (sender_of site.dims e.tag (length site.dims) (neighbour site.dims site.rank number), e.item)) entries
+from_link site number entries =
+    map (λ e. (sender_of site.dims e.tag (length site.dims) (neighbour site.dims site.rank number), e.item)) entries
 
 -- All that is unread on a conveyor's link in.
 abbrev pub came_on : State → ℕ → List (ℕ × Item)
@@ -27,12 +28,14 @@ from_sender sender entries = map (λ e. (sender, e.item)) entries
 abbrev pub summed : ℕ → List (ℕ × Item) → ℕ
 summed sum came = fold (λ n e. min (n + e.1.a) (2 ^ 64 - 1)) sum came
 
--- What a node makes of items that it pulled. In an epoch of votes it adds their first fields to its sum. In an epoch of work the
--- program absorbs those that it may be sent, unless memory was wanting by then.
-pub record TakesEach {S : Type 0} (R : Rules S) (voting : Bool) (prog prog' : S) (came : List (ℕ × Item)) (sum sum' : ℕ) (spoiled spoiled' : Bool) : Type 0 where
+-- What a node makes of items that it pulled. In an epoch of votes it adds their first fields to its
+-- sum. In an epoch of work the program absorbs those that it may be sent, unless memory was wanting
+-- by then.
+pub record TakesEach {S : Type 0} (R : Rules S) (voting : Bool) (prog prog' : S) (came : List (ℕ × Item)) (sum sum' : ℕ)
+    (spoiled spoiled' : Bool) : Type 0 where
   pub valid : R.valid prog
   pub emissions : R.emissions prog' ≡ R.emissions prog
-  pub summed_up : sum' ≡ cond voting (summed sum came) sum
+  pub summed_up : sum' ≡ (if voting then summed sum came else sum)
   pub unspoiled : spoiled' ≡ false → spoiled ≡ false
   pub votes : voting ≡ true → (spoiled' ≡ spoiled) × (prog' ≡ prog)
   pub absorbed : voting ≡ false → spoiled' ≡ false → prog' ≡ all_taken_in R prog came

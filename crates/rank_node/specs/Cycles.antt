@@ -4,7 +4,7 @@ use Rattle.item_buffer.specs.Contents.{Shipped}
 use Rattle.port_bank.specs.Logs.{Logs}
 use Rattle.exstack.specs.declared.stage.Stage.{Stage}
 use Rattle.exstack.specs.declared.stage.Stage.TheVariants.{Start, Proceeding, Filling, Exchanging, Full, AllDone}
-use Rattle.exstack.specs.State.{State, out_at, in_at, link_to, link_from, is_proceeding, is_exchanging}
+use Rattle.exstack.specs.State.{Stack, out_at, in_at, link_to, link_from, is_proceeding, is_exchanging}
 use Rattle.exstack.specs.Cycles.{proceed_parcel}
 use Rattle.exstack.specs.Agreement.{AgreesIn, cycle_after}
 use Rattle.round_program.specs.Rules.{Rules}
@@ -35,7 +35,7 @@ cycles_gone_on n AllDone = n
 
 -- In cycle m of epoch e the exchange went on, since the proceed parcel of some rank wasn't marked last.
 -- In cycle 0, where rank 1 had something to push, sender 1 with its first parcel of the epoch.
-pub record WentOn (e m : ℕ) (x : State) (got : Logs) : Type 0 where
+pub record WentOn (e m : ℕ) (x : Stack) (got : Logs) : Type 0 where
   pub sender : ℕ
   pub low : sender < x.ranks
   pub parcel : Shipped
@@ -43,18 +43,22 @@ pub record WentOn (e m : ℕ) (x : State) (got : Logs) : Type 0 where
   pub going : parcel.last ≡ false
 
 -- A rank's proceed parcel of cycle m isn't marked last only where the rank has more than m items to send in that epoch.
--- With two items to send in epoch 0 those of the cycles 0 and 1 may go on, and that of cycle 2 is marked last at the latest.
-abbrev pub MarksLast : (ℕ → ℕ) → State → Logs → Type 0
-MarksLast quota x sent = (e b m : ℕ) (p : Shipped) → b < x.ranks → proceed_parcel e m (sent (link_to x b)) ≡ Some p → p.last ≡ false → m < quota e
+-- With two items to send in epoch 0 those of the cycles 0 and 1 may go on, and that of cycle 2 is
+-- marked last at the latest.
+abbrev pub MarksLast : (ℕ → ℕ) → Stack → Logs → Type 0
+MarksLast quota x sent = (e b m : ℕ) (p : Shipped) → b < x.ranks → proceed_parcel e m (sent (link_to x b)) ≡ Some p
+    → p.last ≡ false → m < quota e
 
--- A rank that has at most `quota e` items to send in epoch e is in cycle n of its exstack. So an epoch has at most one cycle more
--- than its rank with the most items has items: three, with two items at rank 0 and none elsewhere.
+-- A rank that has at most `quota e` items to send in epoch e is in cycle n of its exstack. So an
+-- epoch has at most one cycle more than its rank with the most items has items: three, with two
+-- items at rank 0 and none elsewhere.
 -- few: so many it has in this epoch.
 -- paced: until it is done it pushes at least one item in each cycle.
 -- left, emptied: since, as it begins to fill its buffers, an item is left to push and no entry waits.
 -- went_on: each cycle in which the exchange went on did so for some rank's proceed parcel.
 -- marks: its own proceed parcels are marked last in time.
-pub record InCycle {S : Type 0} (R : Rules S) (quota : ℕ → ℕ) (n : ℕ) (run : Running S) (x : State) (sent got : Logs) : Type 0 where
+pub record InCycle {S : Type 0} (R : Rules S) (quota : ℕ → ℕ) (n : ℕ) (run : Running S) (x : Stack)
+    (sent got : Logs) : Type 0 where
   pub agrees : AgreesIn n x sent got
   pub few : length (to_send R run.prog run.sends) ≤ quota x.epoch
   pub paced : x.done ≡ false → exchanges_in n x.stage ≤ run.next
@@ -63,9 +67,10 @@ pub record InCycle {S : Type 0} (R : Rules S) (quota : ℕ → ℕ) (n : ℕ) (r
   pub went_on : (m : ℕ) → m < cycles_gone_on n x.stage → WentOn x.epoch m x got
   pub marks : MarksLast quota x sent
 
--- The same rank as its exchange round begins or goes on: its buffers are filled, and until it is done one item more than there
--- were cycles before is pushed.
-pub record InExchange {S : Type 0} (R : Rules S) (quota : ℕ → ℕ) (n : ℕ) (run : Running S) (x : State) (sent got : Logs) : Type 0 where
+-- The same rank as its exchange round begins or goes on: its buffers are filled, and until it is
+-- done one item more than there were cycles before is pushed.
+pub record InExchange {S : Type 0} (R : Rules S) (quota : ℕ → ℕ) (n : ℕ) (run : Running S) (x : Stack)
+    (sent got : Logs) : Type 0 where
   pub agrees : AgreesIn n x sent got
   pub few : length (to_send R run.prog run.sends) ≤ quota x.epoch
   pub paced : x.done ≡ false → n < run.next
@@ -89,7 +94,8 @@ has_exchanged Exchanging = true
 has_exchanged Full = true
 has_exchanged AllDone = false
 
--- A turn at the first stage may leave the second: it makes the poll that is next, and rests nowhere but at the end of the epoch.
+-- A turn at the first stage may leave the second: it makes the poll that is next, and rests nowhere
+-- but at the end of the epoch.
 -- From Full it is Proceeding, Filling or AllDone, and never Full.
 abbrev pub IsOnward : Stage → Stage → Type 0
 IsOnward Start s = has_proceeded s ≡ true
@@ -100,18 +106,18 @@ IsOnward Full s = has_proceeded s ≡ true
 IsOnward AllDone s = s ≡ AllDone
 
 -- A parcel of the round is still to be posted on the link to some rank, or to be collected from the link of some rank.
-pub record DueOut (x : State) : Type 0 where
+pub record DueOut (x : Stack) : Type 0 where
   pub other : ℕ
   pub low : other < x.ranks
   pub due : (out_at x other).due ≡ true
 
-pub record DueIn (x : State) : Type 0 where
+pub record DueIn (x : Stack) : Type 0 where
   pub other : ℕ
   pub low : other < x.ranks
   pub due : (in_at x other).due ≡ true
 
 -- An exstack within a round waits for a parcel.
-abbrev pub Awaits : State → Type 0
+abbrev pub Awaits : Stack → Type 0
 Awaits x = (is_proceeding x.stage || is_exchanging x.stage) ≡ true → DueOut x ⊎ DueIn x
 
 -- The same of whatever carries a rank's items; of conveyors nothing is said.

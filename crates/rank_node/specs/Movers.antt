@@ -14,7 +14,7 @@ use Rattle.convey.specs.Conveyors as conveyors
 use Rattle.convey.specs.Law.{IsSound}
 use Rattle.convey.specs.Parts as conveyor_parts
 use Rattle.exstack.specs.State.{dims_of as stack_dims}
-use Rattle.exstack.specs.State.{State as Stack}
+use Rattle.exstack.specs.State.{Stack}
 use Rattle.exstack.specs.Standing.{IsStack}
 use Rattle.exstack.specs.Agreement as exstacks
 use Rattle.exstack.specs.Parts as exstack_parts
@@ -86,7 +86,8 @@ part_in (Stacking cap x) sent got = exstack_parts.part_of x sent got
 
 -- Every item that came for the rank was pulled.
 abbrev pub AllRead : State → Type 0
-AllRead c = (l : ℕ) → l < links c.dims → reader_at c.dims l ≡ c.rank → hop_at c.dims l ≡ length c.dims → (in_of c l).parcel.untaken ≡ []
+AllRead c = (l : ℕ) → l < links c.dims → reader_at c.dims l ≡ c.rank → hop_at c.dims l ≡ length c.dims
+    → (in_of c l).parcel.untaken ≡ []
 
 -- A conveyor between two turns, over a port with these lists.
 pub record IsConveying (c : State) (sent got : Logs) : Type 0 where
@@ -131,7 +132,8 @@ pub record IsNew (dims : List ℕ) (rank : ℕ) (manner : Manner) (m : MoverStat
   pub moving : IsMoving m (λ l. []) (λ l. [])
   pub starts : IsStarting m
   pub not_done : (part_in m (λ l. []) (λ l. [])).done ≡ false
-  pub none : (e d : ℕ) → ((part_in m (λ l. []) (λ l. [])).pushed e d ≡ []) × ((part_in m (λ l. []) (λ l. [])).pulled e d ≡ [])
+  pub none : (e d : ℕ)
+      → ((part_in m (λ l. []) (λ l. [])).pushed e d ≡ []) × ((part_in m (λ l. []) (λ l. [])).pulled e d ≡ [])
   pub unread : NoneUnread m
 
 -- One that has gone on to the next epoch.

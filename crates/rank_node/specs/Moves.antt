@@ -12,7 +12,7 @@ use Rattle.hop_core.specs.State.{State}
 use Rattle.convey.specs.Buffers.{in_of, out_of}
 use Rattle.convey.specs.Conveyors.{HoldsAtMost}
 use Rattle.exstack.specs.declared.stage.Stage.TheVariants.{Filling}
-use Rattle.exstack.specs.State.{State as Stack}
+use Rattle.exstack.specs.State.{Stack}
 use Rattle.exstack.specs.State.{out_at, in_at, link_to, link_from}
 use Rattle.round_program.specs.Rules.{Rules}
 use Rattle.rank_node.specs.Sending.{to_send}
@@ -24,7 +24,8 @@ use Rattle.rank_node.specs.Pulls.{Handed, Fills}
 use Rattle.rank_node.specs.Stuck.{IsStuck}
 
 -- A node that may turn over a port of its own, whose programs began in these states.
-pub record MayTurn {P : Type 0} {cap : ℕ} {M : Type 0} (G : Ghosts P cap M) {S : Type 0} (R : Rules S) (n : NodeState S) (port : P) : Type 0 where
+pub record MayTurn {P : Type 0} {cap : ℕ} {M : Type 0} (G : Ghosts P cap M) {S : Type 0} (R : Rules S) (n : NodeState S)
+    (port : P) : Type 0 where
   pub same_dims : G.dims port ≡ dims_of n.mover
   pub same_rank : G.rank port ≡ rank_of n.mover
   pub first : ℕ → S
@@ -33,7 +34,8 @@ pub record MayTurn {P : Type 0} {cap : ℕ} {M : Type 0} (G : Ghosts P cap M) {S
 -- kept: it is a node again.
 -- sent_grows .. one_got: the lists only grow, and each by one parcel at most.
 -- shape: what was posted is filled as this transport fills parcels.
-pub record AfterMoves {S : Type 0} (R : Rules S) (cap : ℕ) (n n' : NodeState S) (sent got sent' got' : Logs) : Type 0 where
+pub record AfterMoves {S : Type 0} (R : Rules S) (cap : ℕ) (n n' : NodeState S)
+    (sent got sent' got' : Logs) : Type 0 where
   pub kept : (h : ℕ → S) → IsNode R h n sent got → IsNode R h n' sent' got'
   pub dims : dims_of n'.mover ≡ dims_of n.mover
   pub rank : rank_of n'.mover ≡ rank_of n.mover
@@ -43,9 +45,12 @@ pub record AfterMoves {S : Type 0} (R : Rules S) (cap : ℕ) (n n' : NodeState S
   pub sends : n'.run.sends ≡ n.run.sends
   pub sent_grows : (l : ℕ) → Begins (sent l) (sent' l)
   pub got_grows : (l : ℕ) → Begins (got l) (got' l)
-  pub one_sent : (l : ℕ) → l < links (dims_of n.mover) → sender_at (dims_of n.mover) l ≡ rank_of n.mover → length (sent' l) ≤ length (sent l) + 1
-  pub one_got : (l : ℕ) → l < links (dims_of n.mover) → reader_at (dims_of n.mover) l ≡ rank_of n.mover → length (got' l) ≤ length (got l) + 1
-  pub shape : (l : ℕ) → l < links (dims_of n.mover) → sender_at (dims_of n.mover) l ≡ rank_of n.mover → IsShape (manner_in n.mover) cap (sent l) → IsShape (manner_in n.mover) cap (sent' l)
+  pub one_sent : (l : ℕ) → l < links (dims_of n.mover) → sender_at (dims_of n.mover) l ≡ rank_of n.mover
+      → length (sent' l) ≤ length (sent l) + 1
+  pub one_got : (l : ℕ) → l < links (dims_of n.mover) → reader_at (dims_of n.mover) l ≡ rank_of n.mover
+      → length (got' l) ≤ length (got l) + 1
+  pub shape : (l : ℕ) → l < links (dims_of n.mover) → sender_at (dims_of n.mover) l ≡ rank_of n.mover
+      → IsShape (manner_in n.mover) cap (sent l) → IsShape (manner_in n.mover) cap (sent' l)
 
 -- What a turn over a conveyor leaves besides.
 -- lies: an inbox holds at most what it held and what came.
@@ -53,7 +58,8 @@ pub record AfterMoves {S : Type 0} (R : Rules S) (cap : ℕ) (n n' : NodeState S
 -- pushed: what they made of it. They go on until the open parcel toward the next
 -- item's receiver is full, or until no item is left.
 -- done: the rank is done exactly where all its items are pushed.
-pub record LeavesAfterAdvance {S : Type 0} (R : Rules S) (cap : ℕ) (run run' : Running S) (c c' : State) (got got' : Logs) : Type 0 where
+pub record LeavesAfterAdvance {S : Type 0} (R : Rules S) (cap : ℕ) (run run' : Running S) (c c' : State)
+    (got got' : Logs) : Type 0 where
   pub lies : (l : ℕ) (more : List Shipped) → l < links c.dims → reader_at c.dims l ≡ c.rank → got' l ≡ got l ++ more
       → length (in_of c' l).parcel.untaken ≤ length (in_of c l).parcel.untaken + length (flat_map (λ p. p.entries) more)
   pub at_push : State
@@ -62,22 +68,25 @@ pub record LeavesAfterAdvance {S : Type 0} (R : Rules S) (cap : ℕ) (run run' :
   pub done : c'.done ≡ (run'.next == length (to_send R run'.prog run'.sends))
 
 -- What a turn over an exstack leaves besides.
--- pushed: while the buffers are filled, what its pushes made of the exstack before it polled. They go on until the buffer
--- toward the next item's receiver is full, or until no item is left.
+-- pushed: while the buffers are filled, what its pushes made of the exstack before it polled. They
+-- go on until the buffer toward the next item's receiver is full, or until no item is left.
 -- unpushed: in other stages nothing is pushed.
 pub record LeavesAfterPoll {S : Type 0} (R : Rules S) (cap : ℕ) (run run' : Running S) (x : Stack) : Type 0 where
-  pub pushed : x.stage ≡ Filling → (at_push : Stack) × Fills cap (to_send R run'.prog run'.sends) x at_push run.next run'.next
+  pub pushed : x.stage ≡ Filling
+      → (at_push : Stack) × Fills cap (to_send R run'.prog run'.sends) x at_push run.next run'.next
   pub unpushed : (x.stage ≡ Filling → ⊥) → run'.next ≡ run.next
 
 -- Where a parcel of its round is still to be posted, the link is crowded, unless this turn collected a
 -- parcel from it; where one is still to be collected, the link is idle.
 pub record WaitsFor (x x' : Stack) (got got' : Logs) (is_crowded is_idle : ℕ → Bool) : Type 0 where
-  pub posts : (b : ℕ) → b < x.ranks → (out_at x' b).due ≡ true → got' (link_to x b) ≡ got (link_to x b) → is_crowded (link_to x b) ≡ true
+  pub posts : (b : ℕ) → b < x.ranks → (out_at x' b).due ≡ true → got' (link_to x b) ≡ got (link_to x b)
+      → is_crowded (link_to x b) ≡ true
   pub collects : (a : ℕ) → a < x.ranks → (in_at x' a).due ≡ true → is_idle (link_from x a) ≡ true
 
 -- What pushes alone leave of an exstack's node.
 pub record AfterFill {S : Type 0} (R : Rules S) (cap : ℕ) (run run' : Running S) (x x' : Stack) : Type 0 where
-  pub kept : (h : ℕ → S) (sent got : Logs) → IsNode R h (record { run = run; mover = Stacking cap x }) sent got → IsNode R h (record { run = run'; mover = Stacking cap x' }) sent got
+  pub kept : (h : ℕ → S) (sent got : Logs) → IsNode R h (record { run = run; mover = Stacking cap x }) sent got
+      → IsNode R h (record { run = run'; mover = Stacking cap x' }) sent got
   pub round : run'.round ≡ run.round
   pub sends : run'.sends ≡ run.sends
   pub pushed : Fills cap (to_send R run'.prog run'.sends) x x' run.next run'.next
@@ -91,13 +100,17 @@ Leaves R cap run run' (Stacking k x) (Stacking k' x') got got' = LeavesAfterPoll
 
 -- A link out whose parcel is left to be posted, since it is full or not empty on a steady conveyor, is crowded.
 abbrev pub DueIsCrowded : MoverState → (ℕ → Bool) → Type 0
-DueIsCrowded (Conveying c) is_crowded = (l : ℕ) → l < links c.dims → sender_at c.dims l ≡ c.rank → is_due c.cap c.steady false (out_of c l) ≡ true → is_crowded l ≡ true
+DueIsCrowded (Conveying c) is_crowded = (l : ℕ) → l < links c.dims → sender_at c.dims l ≡ c.rank
+    → is_due c.cap c.steady false (out_of c l) ≡ true → is_crowded l ≡ true
 DueIsCrowded (Stacking cap x) is_crowded = ⊤
 
 -- What a turn leaves undone that wanted no memory, and why: over a conveyor, where it moved no parcel.
-abbrev pub Waits : {S : Type 0} → Rules S → Running S → MoverState → MoverState → Logs → Logs → Logs → Logs → (ℕ → Bool) → (ℕ → Bool) → Type 0
+abbrev pub Waits : {S : Type 0} → Rules S → Running S → MoverState → MoverState → Logs → Logs → Logs → Logs → (ℕ → Bool)
+    → (ℕ → Bool) → Type 0
 Waits {S} R run (Conveying c) (Conveying c') sent got sent' got' is_crowded is_idle =
-    (h : ℕ → S) → IsNode R h (record { run = run; mover = Conveying c }) sent got → ((l : ℕ) → sent' l ≡ sent l) → ((l : ℕ) → got' l ≡ got l) → IsStuck c c' sent got sent' got' is_crowded is_idle
+    (h : ℕ → S) → IsNode R h (record { run = run; mover = Conveying c }) sent got → ((l : ℕ) → sent' l ≡ sent l)
+    → ((l : ℕ) → got' l ≡ got l) → IsStuck c c' sent got sent' got' is_crowded is_idle
 Waits R run (Conveying c) (Stacking k x) sent got sent' got' is_crowded is_idle = ⊥
 Waits R run (Stacking k x) (Conveying c) sent got sent' got' is_crowded is_idle = ⊥
-Waits R run (Stacking k x) (Stacking k' x') sent got sent' got' is_crowded is_idle = WaitsFor x x' got got' is_crowded is_idle
+Waits R run (Stacking k x) (Stacking k' x') sent got sent' got' is_crowded is_idle =
+    WaitsFor x x' got got' is_crowded is_idle

@@ -1,5 +1,5 @@
 -- What follows an epoch.
-use Rattle.std.specs.Prelude.{◌≡◌, ◌≢◌, ℕ, ◌==◌, ◌-◌, ◌^◌, cond, true, false}
+use Rattle.std.specs.Prelude.{◌≡◌, ◌≢◌, ℕ, ◌==◌, ◌-◌, ◌^◌, true, false, if◌then◌else◌}
 use Rattle.port_bank.specs.Logs.{Logs}
 use Rattle.round_program.specs.Rules.{Rules}
 use Rattle.rank_node.specs.Movers.{has_completed}
@@ -9,7 +9,7 @@ use Rattle.rank_node.specs.Nodes.{NodeState, IsNode}
 -- A history with another state as round m begins.
 -- extended h 3 s is s at 3, and h elsewhere.
 abbrev pub extended : {S : Type 0} → (ℕ → S) → ℕ → S → ℕ → S
-extended h m s = λ k. cond (k == m) s (h k)
+extended h m s = λ k. if k == m then s else h k
 
 -- A node whose run is over: in its last epoch of votes it heard that no round follows, and it ended the round.
 -- worked: the state of the program before that.

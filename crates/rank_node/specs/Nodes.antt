@@ -17,12 +17,14 @@ pub record NodeState (S : Type 0) : Type 0 where
 -- In a proceed round that a rank began before it was done something is left to push, as there was when the round began.
 abbrev pub IsPaced : {S : Type 0} → Rules S → Running S → MoverState → Type 0
 IsPaced R run (Conveying c) = ⊤
-IsPaced R run (Stacking cap x) = x.stage ≡ Proceeding → x.done ≡ false → run.next < length (to_send R run.prog run.sends)
+IsPaced R run (Stacking cap x) = x.stage ≡ Proceeding → x.done ≡ false
+    → run.next < length (to_send R run.prog run.sends)
 
--- A node between two turns, over a port with these lists; h m is the state of its program as round m began, or the state
--- that it would have had with memory.
+-- A node between two turns, over a port with these lists; h m is the state of its program as round
+-- m began, or the state that it would have had with memory.
 pub record IsNode {S : Type 0} (R : Rules S) (h : ℕ → S) (n : NodeState S) (sent got : Logs) : Type 0 where
   pub moving : IsMoving n.mover sent got
   pub paced : IsPaced R n.run n.mover
-  pub passed : HasPassed R (ranks (dims_of n.mover)) (rank_of n.mover) h n.run.round (is_voting n.run.sends) (part_in n.mover sent got)
+  pub passed : HasPassed R (ranks (dims_of n.mover)) (rank_of n.mover) h n.run.round (is_voting n.run.sends)
+      (part_in n.mover sent got)
   pub within : IsWithin R (ranks (dims_of n.mover)) h n.run (part_in n.mover sent got)

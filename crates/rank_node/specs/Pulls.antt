@@ -11,7 +11,7 @@ use Rattle.round_program.specs.Rules.{Rules}
 use Rattle.route_tensor.specs.Grid.{ranks}
 use Rattle.port_bank.specs.Logs.{Logs}
 use Rattle.exstack.specs.Links.{headroom_of}
-use Rattle.exstack.specs.State.{State as Stack}
+use Rattle.exstack.specs.State.{Stack}
 use Rattle.exstack.specs.State.{dims_of, out_at}
 use Rattle.exstack.specs.Agreement.{AgreesIn}
 use Rattle.exstack.specs.Parts as exstacks
@@ -36,44 +36,50 @@ abbrev pub NoMore : State → State → Type 0
 NoMore old new = (l : ℕ) → length (in_of new l).parcel.untaken ≤ length (in_of old l).parcel.untaken
 
 -- What pulls leave of a conveyor, whose items are summed or absorbed.
-pub record Takes {S : Type 0} (R : Rules S) (voting : Bool) (old c : State) (prog prog' : S) (sum sum' : ℕ) (spoiled spoiled' : Bool) : Type 0 where
+pub record Takes {S : Type 0} (R : Rules S) (voting : Bool) (old c : State) (prog prog' : S) (sum sum' : ℕ)
+    (spoiled spoiled' : Bool) : Type 0 where
   pub begun : c.phase ≢ Dormant
   pub same : c ≡ record old { ins = c.ins; pulled = c.pulled }
   pub ends : SameEnds old c
   pub fewer : NoMore old c
   pub emissions : R.emissions prog' ≡ R.emissions prog
   pub kept : KeepsAgreement old c
-  pub taken : (h : ℕ → S) (rank round next : ℕ) (sends : Sends) (sent got : Logs) → is_voting sends ≡ voting → AgreesWith old sent got
+  pub taken : (h : ℕ → S) (rank round next : ℕ) (sends : Sends) (sent got : Logs) → is_voting sends ≡ voting
+      → AgreesWith old sent got
       → HasTaken R (ranks old.dims) rank h round sends next prog sum spoiled (part_of (buffers_of old) sent got)
       → HasTaken R (ranks old.dims) rank h round sends next prog' sum' spoiled' (part_of (buffers_of c) sent got)
 
--- What pushes leave of a conveyor: of the items from number `from` on those below `next` are pushed. Where one is left, the open
--- parcel toward its receiver is as full as it can be.
+-- What pushes leave of a conveyor: of the items from number `from` on those below `next` are
+-- pushed. Where one is left, the open parcel toward its receiver is as full as it can be.
 pub record Handed (cap : ℕ) (es : List (ℕ × Item)) (old c : State) (from next : ℕ) : Type 0 where
   pub forward : from ≤ next
   pub low : next ≤ length es
   pub same : c ≡ record old { outs = c.outs; pulled = c.pulled }
   pub kept : KeepsAgreement old c
-  pub pushed : (sent got : Logs) → AgreesWith old sent got → PushedOn es (ranks old.dims) from next (part_of (buffers_of old) sent got) (part_of (buffers_of c) sent got)
+  pub pushed : (sent got : Logs) → AgreesWith old sent got
+      → PushedOn es (ranks old.dims) from next (part_of (buffers_of old) sent got) (part_of (buffers_of c) sent got)
   pub refused : (to : ℕ) (x : Item) → slice_get es next ≡ Some (to, x) → standing_toward c to ≡ cap
   pub receiver : (to : ℕ) (x : Item) → slice_get es next ≡ Some (to, x) → to < ranks c.dims
 
--- What pushes leave of an exstack: of the items from number `from` on those below `next` are pushed. Where one is left, the
--- buffer toward its receiver is full.
+-- What pushes leave of an exstack: of the items from number `from` on those below `next` are
+-- pushed. Where one is left, the buffer toward its receiver is full.
 pub record Fills (cap : ℕ) (es : List (ℕ × Item)) (old x : Stack) (from next : ℕ) : Type 0 where
   pub forward : from ≤ next
   pub low : next ≤ length es
   pub same : x ≡ record old { outs = x.outs; popped = x.popped }
   pub kept : exstacks.KeepsAgreement old x
-  pub pushed : (n : ℕ) (sent got : Logs) → AgreesIn n old sent got → PushedOn es (ranks (dims_of old)) from next (exstacks.part_of old sent got) (exstacks.part_of x sent got)
+  pub pushed : (n : ℕ) (sent got : Logs) → AgreesIn n old sent got
+      → PushedOn es (ranks (dims_of old)) from next (exstacks.part_of old sent got) (exstacks.part_of x sent got)
   pub refused : (to : ℕ) (y : Item) → slice_get es next ≡ Some (to, y) → headroom_of cap (out_at x to) ≡ 0
   pub none : next ≡ from → x.outs ≡ old.outs
 
 -- What pops leave of an exstack, whose items are summed or absorbed.
-pub record Pops {S : Type 0} (R : Rules S) (voting : Bool) (old x : Stack) (prog prog' : S) (sum sum' : ℕ) (spoiled spoiled' : Bool) : Type 0 where
+pub record Pops {S : Type 0} (R : Rules S) (voting : Bool) (old x : Stack) (prog prog' : S) (sum sum' : ℕ)
+    (spoiled spoiled' : Bool) : Type 0 where
   pub same : x ≡ record old { ins = x.ins; popped = x.popped }
   pub emissions : R.emissions prog' ≡ R.emissions prog
   pub kept : exstacks.KeepsAgreement old x
-  pub taken : (h : ℕ → S) (rank round next : ℕ) (sends : Sends) (n : ℕ) (sent got : Logs) → is_voting sends ≡ voting → AgreesIn n old sent got
+  pub taken : (h : ℕ → S) (rank round next : ℕ) (sends : Sends) (n : ℕ) (sent got : Logs) → is_voting sends ≡ voting
+      → AgreesIn n old sent got
       → HasTaken R (ranks (dims_of old)) rank h round sends next prog sum spoiled (exstacks.part_of old sent got)
       → HasTaken R (ranks (dims_of old)) rank h round sends next prog' sum' spoiled' (exstacks.part_of x sent got)

@@ -10,7 +10,7 @@ use Rattle.convey.specs.Conveyors as conveyors
 use Rattle.convey.specs.Conveyors.{standing_toward}
 use Rattle.exstack.specs.declared.stage.Stage.TheVariants.{Filling}
 use Rattle.exstack.specs.Links.{headroom_of}
-use Rattle.exstack.specs.State.{State as Stack}
+use Rattle.exstack.specs.State.{Stack}
 use Rattle.exstack.specs.State.{dims_of, out_at, pushed_on}
 use Rattle.exstack.specs.Parts as exstacks
 
@@ -20,8 +20,8 @@ pub record MayPush (c : State) (to : ℕ) : Type 0 where
   pub working : c.phase ≡ Working
   pub not_done : c.done ≡ false
 
--- Of these items those from number `from` on may be pushed into it: each is for a rank that there is, and a rank that is done has
--- none left.
+-- Of these items those from number `from` on may be pushed into it: each is for a rank that there
+-- is, and a rank that is done has none left.
 pub record MayPushOn (es : List (ℕ × Item)) (c : State) (from : ℕ) : Type 0 where
   pub low : from ≤ length es
   pub receivers : All (λ e. e.0 < ranks c.dims) es

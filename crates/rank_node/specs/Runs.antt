@@ -1,5 +1,5 @@
 -- What a rank has done in a run of many epochs, against its part of the exchange machine.
-use Rattle.std.specs.Prelude.{◌≡◌, ℕ, ◌+◌, ◌*◌, ◌<◌, ◌≤◌, Bool, true, false, cond, List, [], length, take}
+use Rattle.std.specs.Prelude.{◌≡◌, ℕ, ◌+◌, ◌*◌, ◌<◌, ◌≤◌, Bool, true, false, List, [], length, take, if◌then◌else◌}
 use Rattle.bale_types.specs.declared.item.Item.{Item}
 use Rattle.port_bank.specs.Flow.{Begins}
 use Rattle.port_bank.specs.Machine.{Part}
@@ -20,8 +20,9 @@ lists_of part = record { pushed = part.pushed; pulled = part.pulled }
 abbrev pub IsPushed : List (ℕ × Item) → ℕ → ℕ → Part → Type 0
 IsPushed items p next part = (d : ℕ) → d < p → part.pushed part.epoch d ≡ items_of d (take next items)
 
--- What a node keeps beside its conveyor: its program, the round, what it sends in this epoch and how many of those items
--- are pushed, the sum of the votes that came, and whether memory was wanting for its program.
+-- What a node keeps beside its conveyor: its program, the round, what it sends in this epoch and
+-- how many of those items are pushed, the sum of the votes that came, and whether memory was
+-- wanting for its program.
 pub record Running (S : Type 0) : Type 0 where
   pub prog : S
   pub round : ℕ
@@ -32,15 +33,23 @@ pub record Running (S : Type 0) : Type 0 where
 
 -- the same, as the code keeps it
 abbrev pub running : {S : Type 0} → Run S → Running S
-running r = record { prog = r.prog.value; round = r.round; sends = r.sends; next = r.next; sum = r.taken.sum; spoiled = r.taken.spoiled }
+running r = record {
+  prog = r.prog.value;
+  round = r.round;
+  sends = r.sends;
+  next = r.next;
+  sum = r.taken.sum;
+  spoiled = r.taken.spoiled;
+}
 
--- The epochs that are over for a rank of p ranks; h m is the state of its program as round m began, or the state that it
--- would have had with memory.
+-- The epochs that are over for a rank of p ranks; h m is the state of its program as round m began,
+-- or the state that it would have had with memory.
 -- epoch: round m works in epoch 2m and votes in epoch 2m + 1.
 -- own: it knows of itself what the theorem over all rounds asks; goes: each round followed because the program goes on.
 -- emitted_front, one_vote: it pushed at most what its program emits, and at most one vote toward each rank.
 -- ahead: nothing was pushed or pulled in a later epoch.
-pub record HasPassed {S : Type 0} (R : Rules S) (p rank : ℕ) (h : ℕ → S) (round : ℕ) (voting : Bool) (part : Part) : Type 0 where
+pub record HasPassed {S : Type 0} (R : Rules S) (p rank : ℕ) (h : ℕ → S) (round : ℕ) (voting : Bool)
+    (part : Part) : Type 0 where
   pub epoch : part.epoch ≡ epoch_of round voting
   pub valid : R.valid (h round)
   pub own_rank : R.rank (h round) ≡ rank
@@ -66,11 +75,15 @@ pub record IsWithin {S : Type 0} (R : Rules S) (p : ℕ) (h : ℕ → S) (run : 
   pub emissions : run.sends ≡ Emissions → R.emissions run.prog ≡ R.emissions (h run.round)
   pub nothing : run.sends ≡ Nothing → run.spoiled ≡ true
   pub works : run.spoiled ≡ false → run.prog ≡ worked R p h (lists_of part) run.round
-  pub vote : (v q : ℕ) → run.sends ≡ Votes v q → (q ≡ p) × (v ≡ cond run.spoiled spoiled_vote (R.vote (worked R p h (lists_of part) run.round)))
-  pub emitted_all : is_voting run.sends ≡ true → run.spoiled ≡ false → (d : ℕ) → d < p → part.pushed (2 * run.round) d ≡ emitted R (h run.round) d
+  pub vote : (v q : ℕ) → run.sends ≡ Votes v q
+      → (q ≡ p) × (v ≡ (if run.spoiled then spoiled_vote else R.vote (worked R p h (lists_of part) run.round)))
+  pub emitted_all : is_voting run.sends ≡ true → run.spoiled ≡ false → (d : ℕ) → d < p
+      → part.pushed (2 * run.round) d ≡ emitted R (h run.round) d
   pub hears : is_voting run.sends ≡ true → run.sum ≡ heard p (lists_of part) run.round
 
 -- Both, as items are taken in.
-pub record HasTaken {S : Type 0} (R : Rules S) (p rank : ℕ) (h : ℕ → S) (round : ℕ) (sends : Sends) (next : ℕ) (prog : S) (sum : ℕ) (spoiled : Bool) (part : Part) : Type 0 where
+pub record HasTaken {S : Type 0} (R : Rules S) (p rank : ℕ) (h : ℕ → S) (round : ℕ) (sends : Sends) (next : ℕ)
+    (prog : S) (sum : ℕ) (spoiled : Bool) (part : Part) : Type 0 where
   pub passed : HasPassed R p rank h round (is_voting sends) part
-  pub within : IsWithin R p h (record { prog = prog; round = round; sends = sends; next = next; sum = sum; spoiled = spoiled }) part
+  pub within : IsWithin R p h
+      (record { prog = prog; round = round; sends = sends; next = next; sum = sum; spoiled = spoiled }) part

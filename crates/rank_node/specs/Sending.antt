@@ -1,5 +1,5 @@
 -- What a node sends in an epoch: the emissions of a round, or the votes on it.
-use Rattle.std.specs.Prelude.{ℕ, zero, suc, ◌+◌, ◌*◌, ◌^◌, ◌-◌, Bool, true, false, cond, List, [], ◌∷◌, ◌++◌}
+use Rattle.std.specs.Prelude.{ℕ, zero, suc, ◌+◌, ◌*◌, ◌^◌, ◌-◌, Bool, true, false, List, [], ◌∷◌, ◌++◌, if◌then◌else◌}
 use Rattle.bale_types.specs.declared.item.Item.{Item}
 use Rattle.round_program.specs.Rules.{Rules}
 use Rattle.round_program.specs.Epochs.{vote_item}
@@ -25,7 +25,7 @@ is_voting (Votes v p) = true
 
 -- Epoch 2m is the work of round m, and epoch 2m + 1 carries its votes.
 abbrev pub epoch_of : ℕ → Bool → ℕ
-epoch_of round voting = cond voting (2 * round + 1) (2 * round)
+epoch_of round voting = if voting then 2 * round + 1 else 2 * round
 
 -- The vote of a rank whose program is spoiled makes the sum stand at its end.
 abbrev pub spoiled_vote : ℕ

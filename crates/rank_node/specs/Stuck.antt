@@ -19,8 +19,9 @@ pub record HasCrowded (dims : List ℕ) (rank : ℕ) (is_crowded : ℕ → Bool)
   pub sender : sender_at dims link ≡ rank
   pub crowded : is_crowded link ≡ true
 
--- A turn that moved no parcel on a conveyor took it from c to c'. `before` is the conveyor just before the turn's advance, and
--- `after` just after it: pushes fill open parcels before it, and pulls empty inboxes of the last hop after it.
+-- A turn that moved no parcel on a conveyor took it from c to c'. `before` is the conveyor just
+-- before the turn's advance, and `after` just after it: pushes fill open parcels before it, and
+-- pulls empty inboxes of the last hop after it.
 -- lies: of each inbox the end is left.
 -- idle: where an inbox wanted a parcel, its link is idle.
 -- stopped: where entries are left in an inbox below the last hop, the next link of the first one is crowded.
@@ -40,11 +41,14 @@ pub record IsStill (c c' : State) (sent got sent' got' : Logs) (is_crowded is_id
   pub ins_after : (l : ℕ) → length (in_of c' l).parcel.untaken ≤ length (in_of after l).parcel.untaken
   pub agrees_before : AgreesWith before sent got
   pub agrees_after : AgreesWith after sent' got'
-  pub lies : (l : ℕ) → l < links c.dims → reader_at c.dims l ≡ c.rank → Ends (in_of before l).parcel.untaken (in_of after l).parcel.untaken
+  pub lies : (l : ℕ) → l < links c.dims → reader_at c.dims l ≡ c.rank
+      → Ends (in_of before l).parcel.untaken (in_of after l).parcel.untaken
   pub idle : (l : ℕ) → l < links c.dims → reader_at c.dims l ≡ c.rank → Wants before l → is_idle l ≡ true
-  pub stopped : (l : ℕ) (e : Entry) → l < links c.dims → reader_at c.dims l ≡ c.rank → hop_at c.dims l < length c.dims → slice_get (in_of after l).parcel.untaken 0 ≡ Some e
+  pub stopped : (l : ℕ) (e : Entry) → l < links c.dims → reader_at c.dims l ≡ c.rank → hop_at c.dims l < length c.dims
+      → slice_get (in_of after l).parcel.untaken 0 ≡ Some e
       → NextIs c.dims c.rank l e.tag (λ m. is_crowded m ≡ true)
-  pub closing : (l : ℕ) → l < links c.dims → sender_at c.dims l ≡ c.rank → (hop_at c.dims l ≡ 1 → after.done ≡ true) → HasArrived (buffers_of after) l → (out_of after l).closed ≡ false → is_crowded l ≡ true
+  pub closing : (l : ℕ) → l < links c.dims → sender_at c.dims l ≡ c.rank → (hop_at c.dims l ≡ 1 → after.done ≡ true)
+      → HasArrived (buffers_of after) l → (out_of after l).closed ≡ false → is_crowded l ≡ true
   pub over : IsOver after → c'.phase ≡ Complete
 
 -- A turn that moved no parcel, of a rank over one conveyor.
@@ -53,4 +57,5 @@ pub record IsStill (c c' : State) (sent got sent' got' : Logs) (is_crowded is_id
 pub record IsStuck (c c' : State) (sent got sent' got' : Logs) (is_crowded is_idle : ℕ → Bool) : Type 0 where
   pub still : IsStill c c' sent got sent' got' is_crowded is_idle
   pub pushed : (still.after.done ≡ true) ⊎ HasCrowded c.dims c.rank is_crowded
-  pub read : (l : ℕ) → l < links c.dims → reader_at c.dims l ≡ c.rank → hop_at c.dims l ≡ length c.dims → (in_of still.before l).parcel.untaken ≡ []
+  pub read : (l : ℕ) → l < links c.dims → reader_at c.dims l ≡ c.rank → hop_at c.dims l ≡ length c.dims
+      → (in_of still.before l).parcel.untaken ≡ []

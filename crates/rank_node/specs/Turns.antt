@@ -2,7 +2,7 @@
 use Rattle.std.specs.Prelude.{◌≡◌, ℕ}
 use Rattle.port_bank.specs.declared.port.Port.{Ghosts}
 use Rattle.port_bank.specs.Frames.{SamePort}
-use Rattle.exstack.specs.State.{State}
+use Rattle.exstack.specs.State.{Stack}
 use Rattle.round_program.specs.Rules.{Rules}
 use Rattle.rank_node.specs.Movers.MoverState.{Stacking}
 use Rattle.rank_node.specs.Runs.{Running}
@@ -11,12 +11,13 @@ use Rattle.rank_node.specs.Moves.{AfterMoves, Leaves, DueIsCrowded, Waits}
 use Rattle.rank_node.specs.Cycles.{IsInCycle, cycle_of_turn, IsOnward, TurnsOnward, AwaitsSome}
 
 -- Whatever it answers.
--- moves: it is a node again, of the same rank and round, that advanced or polled once: the lists only grow, each by one parcel
--- at most, and of the transport's shape, so that over conveyors that aren't steady items travel in few parcels
--- (port_bank's few_parcels_law).
+-- moves: it is a node again, of the same rank and round, that advanced or polled once: the lists
+-- only grow, each by one parcel at most, and of the transport's shape, so that over conveyors that
+-- aren't steady items travel in few parcels (port_bank's few_parcels_law).
 -- leaves: what it leaves in the inboxes, and unpushed.
 -- cycle, onward: an exstack's cycles keep pace with what its rank has to send, and its stages go on.
-pub record Turns {P : Type 0} {cap : ℕ} {M : Type 0} (G : Ghosts P cap M) {S : Type 0} (R : Rules S) (old new : NodeState S) (port port' : P) : Type 0 where
+pub record Turns {P : Type 0} {cap : ℕ} {M : Type 0} (G : Ghosts P cap M) {S : Type 0} (R : Rules S)
+    (old new : NodeState S) (port port' : P) : Type 0 where
   pub moves : AfterMoves R cap old new (G.sent port) (G.got port) (G.sent port') (G.got port')
   pub leaves : Leaves R cap old.run new.run old.mover new.mover (G.got port) (G.got port')
   pub cycle : (quota : ℕ → ℕ) (n : ℕ) → IsInCycle R quota n old.run old.mover (G.sent port) (G.got port)
@@ -26,15 +27,20 @@ pub record Turns {P : Type 0} {cap : ℕ} {M : Type 0} (G : Ghosts P cap M) {S :
 
 -- Where it had memory.
 -- awaits: within a round an exstack waits for a parcel.
--- due, waits: what outside keeps a link out that is due, a rank that moved no parcel, and one that waits within a round.
-pub record TurnsInFull {P : Type 0} {cap : ℕ} {M : Type 0} (G : Ghosts P cap M) {S : Type 0} (R : Rules S) (old new : NodeState S) (port port' : P) : Type 0 where
+-- due, waits: what outside keeps a link out that is due, a rank that moved no parcel, and one that
+-- waits within a round.
+pub record TurnsInFull {P : Type 0} {cap : ℕ} {M : Type 0} (G : Ghosts P cap M) {S : Type 0} (R : Rules S)
+    (old new : NodeState S) (port port' : P) : Type 0 where
   pub awaits : AwaitsSome new.mover
   pub due : DueIsCrowded new.mover (G.crowded port')
-  pub waits : Waits R old.run old.mover new.mover (G.sent port) (G.got port) (G.sent port') (G.got port') (G.crowded port') (G.idle port')
+  pub waits : Waits R old.run old.mover new.mover (G.sent port) (G.got port) (G.sent port') (G.got port')
+      (G.crowded port') (G.idle port')
 
 -- What one poll of an exstack makes of it: nothing more is pushed, and what is to be sent stays.
-pub record Polls {P : Type 0} {cap : ℕ} {M : Type 0} (G : Ghosts P cap M) {S : Type 0} (R : Rules S) (run run' : Running S) (x x' : State) (port port' : P) : Type 0 where
-  pub moves : AfterMoves R cap (record { run = run; mover = Stacking cap x }) (record { run = run'; mover = Stacking cap x' }) (G.sent port) (G.got port) (G.sent port') (G.got port')
+pub record Polls {P : Type 0} {cap : ℕ} {M : Type 0} (G : Ghosts P cap M) {S : Type 0} (R : Rules S)
+    (run run' : Running S) (x x' : Stack) (port port' : P) : Type 0 where
+  pub moves : AfterMoves R cap (record { run = run; mover = Stacking cap x })
+      (record { run = run'; mover = Stacking cap x' }) (G.sent port) (G.got port) (G.sent port') (G.got port')
   pub onward : IsOnward x.stage x'.stage
   pub next : run'.next ≡ run.next
   pub emissions : R.emissions run'.prog ≡ R.emissions run.prog

@@ -1,5 +1,5 @@
 -- Cells by key, each reduced by what comes for it.
-use Rattle.std.specs.Prelude.{ℕ, ◌+◌, ◌%◌, ◌^◌, ◌==◌, not, nat_eq, min, max, Bool, List, cond, slice_index_or}
+use Rattle.std.specs.Prelude.{ℕ, ◌+◌, ◌%◌, ◌^◌, ◌==◌, not, nat_eq, min, max, Bool, List, slice_index_or, if◌then◌else◌}
 use Rattle.std.specs.Cmp.Lexicographic.{pointwise}
 use Rattle.list_laws.specs.Lists.{changed_at}
 use Rattle.reductions.specs.declared.reduced.Reduction.{Reduction}
@@ -24,7 +24,8 @@ begun values = record { before = values; cells = values }
 -- A cell is reduced by a value.
 -- reduced Least (7, 5, 9) 1 3 = (7, 3, 9)
 abbrev pub reduced : Reduction → ReducedState → ℕ → ℕ → ReducedState
-reduced how s key value = record { before = s.before; cells = changed_at s.cells key 0 (λ cell. combined how cell value) }
+reduced how s key value =
+    record { before = s.before; cells = changed_at s.cells key 0 (λ cell. combined how cell value) }
 
 -- A cell has changed since the round began.
 abbrev pub has_changed : ReducedState → ℕ → Bool
@@ -32,4 +33,4 @@ has_changed s key = not (slice_index_or s.cells key 0 == slice_index_or s.before
 
 -- One vote where a cell has changed since the round began, else none.
 abbrev pub vote_of : ReducedState → ℕ
-vote_of s = cond (pointwise nat_eq s.cells s.before) 0 1
+vote_of s = if pointwise nat_eq s.cells s.before then 0 else 1

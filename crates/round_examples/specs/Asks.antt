@@ -1,5 +1,7 @@
 -- Looking up columns of a table, as a program in two rounds.
-use Rattle.std.specs.Prelude.{ℕ, suc, ◌+◌, ◌-◌, ◌%◌, ◌^◌, ◌<◌, ◌≡◌, ◌==◌, ◌&&◌, ◌||◌, not, nat_lt, min, max, Bool, true, false, List, [], ◌∷◌, ◌++◌, map, cond, length, slice_index, replicate}
+use Rattle.std.specs.Prelude.{ℕ, suc, ◌+◌, ◌-◌, ◌%◌, ◌^◌, ◌<◌, ◌≡◌, ◌==◌, ◌&&◌, ◌||◌, not, nat_lt, min, max, Bool, true}
+use Rattle.std.specs.Prelude.{if◌then◌else◌}
+use Rattle.std.specs.Prelude.{false, List, [], ◌∷◌, ◌++◌, map, length, slice_index, replicate, if◌then◌else◌}
 use Rattle.std.specs.List.{All}
 use Rattle.bale_types.specs.declared.Item.{Item}
 use Rattle.list_laws.specs.Lists.{changed_at}
@@ -53,7 +55,8 @@ replies_from table f (q ∷ qs) = map (reply_to table f) q ++ replies_from table
 
 -- in round 0 a rank may be sent queries for its own columns, and later any reply
 abbrev pub is_asked : List ℕ → ℕ → ℕ → ℕ → ℕ → Item → Bool
-is_asked (columns ∷ []) ranks round to from x = nat_lt from ranks && (not (round == 0) || (nat_lt x.a columns && x.a % ranks == to)) && nat_lt to ranks && is_item x
+is_asked (columns ∷ []) ranks round to from x =
+    nat_lt from ranks && (not (round == 0) || (nat_lt x.a columns && x.a % ranks == to)) && nat_lt to ranks && is_item x
 is_asked shape ranks round to from x = false
 
 -- the query is appended to its sender's list
@@ -88,8 +91,14 @@ ask_rules =
       most = λ s. 2;
       emissions = λ s. s.outgoing;
       may_be_sent = is_asked;
-      absorbed = λ s from x. record s { queries = cond (s.round == 0) (noted s.queries from x) s.queries; answers = cond (s.round == 0) s.answers (answered s.answers x) };
+      absorbed = λ s from x. record s {
+        queries = if s.round == 0 then noted s.queries from x else s.queries;
+        answers = (if s.round == 0 then s.answers else answered s.answers x);
+      };
       vote = λ s. 0;
       goes_on = λ shape round votes. round == 0;
-      ended = λ s votes. record s { round = min (s.round + 1) (2 ^ 64 - 1); outgoing = cond (s.round == 0) (replies_from s.table 0 s.queries) [] };
+      ended = λ s votes. record s {
+        round = min (s.round + 1) (2 ^ 64 - 1);
+        outgoing = (if s.round == 0 then replies_from s.table 0 s.queries else []);
+      };
     }

@@ -1,5 +1,7 @@
 -- Counting, as a program in rounds.
-use Rattle.std.specs.Prelude.{ℕ, ◌+◌, ◌-◌, ◌%◌, ◌^◌, ◌<◌, ◌==◌, ◌&&◌, nat_lt, min, Bool, false, List, [], ◌∷◌, map, cond, length}
+use Rattle.std.specs.Prelude.{ℕ, ◌+◌, ◌-◌, ◌%◌, ◌^◌, ◌<◌, ◌==◌, ◌&&◌, nat_lt, min, Bool, false, List, [], ◌∷◌, map}
+use Rattle.std.specs.Prelude.{if◌then◌else◌}
+use Rattle.std.specs.Prelude.{length, if◌then◌else◌}
 use Rattle.std.specs.List.{All}
 use Rattle.bale_types.specs.declared.Item.{Item}
 use Rattle.list_laws.specs.Lists.{changed_at}
@@ -33,7 +35,8 @@ raised counts x = changed_at counts x.a 0 (λ v. (v + x.b) % 2 ^ 64)
 
 -- in round 0 an owner may be sent its columns
 abbrev pub is_named : List ℕ → ℕ → ℕ → ℕ → ℕ → Item → Bool
-is_named (columns ∷ []) ranks round to from x = round == 0 && nat_lt from ranks && nat_lt x.a columns && x.a % ranks == to && is_item x
+is_named (columns ∷ []) ranks round to from x =
+    round == 0 && nat_lt from ranks && nat_lt x.a columns && x.a % ranks == to && is_item x
 is_named shape ranks round to from x = false
 
 abbrev pub count_rules : Rules CountState
@@ -45,7 +48,7 @@ count_rules =
       round = λ s. s.round;
       shape = λ s. length s.counts ∷ [];
       most = λ s. 1;
-      emissions = λ s. cond (s.round == 0) (map (to_owner s.ranks) s.names) [];
+      emissions = λ s. if s.round == 0 then map (to_owner s.ranks) s.names else [];
       may_be_sent = is_named;
       absorbed = λ s from x. record s { counts = raised s.counts x };
       vote = λ s. 0;

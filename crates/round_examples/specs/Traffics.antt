@@ -1,12 +1,15 @@
 -- Traffic, as a program in rounds: each rank sends items to cells of ranks in its first round.
-use Rattle.std.specs.Prelude.{ℕ, ◌+◌, ◌-◌, ◌%◌, ◌^◌, ◌<◌, ◌≡◌, ◌==◌, ◌&&◌, nat_lt, min, Bool, false, List, [], ◌∷◌, cond, length}
+use Rattle.std.specs.Prelude.{ℕ, ◌+◌, ◌-◌, ◌%◌, ◌^◌, ◌<◌, ◌≡◌, ◌==◌, ◌&&◌, nat_lt, min, Bool, false, List, [], ◌∷◌}
+use Rattle.std.specs.Prelude.{if◌then◌else◌}
+use Rattle.std.specs.Prelude.{length, if◌then◌else◌}
 use Rattle.std.specs.List.{All}
 use Rattle.bale_types.specs.declared.Item.{Item}
 use Rattle.list_laws.specs.Lists.{changed_at}
 use Rattle.round_program.specs.Rules.{Rules}
 use Rattle.round_program.specs.Laws.{is_item}
 
--- one rank's part: the rank and the cell that each of its items goes to, what its own cells have counted, and the sum of the numbers
+-- one rank's part: the rank and the cell that each of its items goes to, what its own cells have
+-- counted, and the sum of the numbers
 -- of the items that came
 pub record TrafficState : Type 0 where
   pub rank : ℕ
@@ -51,7 +54,7 @@ traffic_rules =
       round = λ s. s.round;
       shape = λ s. s.rounds ∷ [];
       most = λ s. s.rounds;
-      emissions = λ s. cond (s.round == 0) (sent_from 0 s.targets) [];
+      emissions = λ s. if s.round == 0 then sent_from 0 s.targets else [];
       may_be_sent = λ shape. is_sent;
       absorbed = λ s from x. record s { counts = raised s.counts x; check = (s.check + x.c) % 2 ^ 64 };
       vote = λ s. 0;

@@ -1,5 +1,6 @@
 -- The canonical run: what the programs of all ranks compute together, with no word on how items travel.
-use Rattle.std.specs.Prelude.{ℕ, zero, suc, ◌+◌, ◌-◌, ◌^◌, ◌<◌, ◌≤◌, ◌≡◌, ◌==◌, min, true, false, List, [], ◌∷◌, Option, None, Some, map, length, slice_get}
+use Rattle.std.specs.Prelude.{ℕ, zero, suc, ◌+◌, ◌-◌, ◌^◌, ◌<◌, ◌≤◌, ◌≡◌, ◌==◌, min, true, false, List, [], ◌∷◌, Option}
+use Rattle.std.specs.Prelude.{None, Some, map, length, slice_get}
 use Rattle.std.specs.List.{filter, fold, sum_by}
 use Rattle.bale_types.specs.declared.Item.{Item}
 use Rattle.round_program.specs.Rules.{Rules}

@@ -1,5 +1,6 @@
 -- Either of two lawful programs is lawful, and runs each as it is.
-use Rattle.std.proofs.Common.{ℕ, Bool, true, false, ◌<◌, ◌^◌, ◌≡◌, ◌≢◌, ◌==◌, List, [], ◌∷◌, refl, ap, ◌∙◌, if◌then◌else◌}
+use Rattle.std.proofs.Common.{ℕ, Bool, true, false, ◌<◌, ◌^◌, ◌≡◌, ◌≢◌, ◌==◌, List, [], ◌∷◌, refl, ap, ◌∙◌}
+use Rattle.std.proofs.Common.{if◌then◌else◌}
 use Rattle.std.specs.List.{All}
 use Rattle.either.specs.declared.Either.{Either}
 use Rattle.either.specs.declared.Either.TheVariants.{Left, Right}
@@ -11,49 +12,89 @@ use Rattle.round_program.specs.Injections.{Injects}
 use Rattle.round_program.specs.Eithers.{either_rules}
 
 emits : {S T : Type 0} (A : Rules S) (B : Rules T) → Laws A → Laws B → (s : Either S T) → (either_rules A B).valid s
-    → All (λ e. (either_rules A B).may_be_sent ((either_rules A B).shape s) ((either_rules A B).ranks s) ((either_rules A B).round s) e.0 ((either_rules A B).rank s) e.1 ≡ true) ((either_rules A B).emissions s)
+    → All (λ e. (either_rules A B).may_be_sent ((either_rules A B).shape s) ((either_rules A B).ranks s)
+    ((either_rules A B).round s) e.0 ((either_rules A B).rank s) e.1 ≡ true) ((either_rules A B).emissions s)
 emits A B la lb (Left s) v = la.emits s v
 emits A B la lb (Right s) v = lb.emits s v
 
-commutes : {S T : Type 0} (A : Rules S) (B : Rules T) → Laws A → Laws B → (s : Either S T) (f g : ℕ) (x y : Item) → (either_rules A B).valid s → f ≢ g
+commutes : {S T : Type 0} (A : Rules S) (B : Rules T) → Laws A → Laws B → (s : Either S T) (f g : ℕ) (x y : Item)
+    → (either_rules A B).valid s → f ≢ g
     → Fits (either_rules A B) s f x → Fits (either_rules A B) s g y
-    → (either_rules A B).absorbed ((either_rules A B).absorbed s f x) g y ≡ (either_rules A B).absorbed ((either_rules A B).absorbed s g y) f x
+    → (either_rules A B).absorbed ((either_rules A B).absorbed s f x) g y
+    ≡ (either_rules A B).absorbed ((either_rules A B).absorbed s g y) f x
 commutes A B la lb (Left s) f g x y v d e h = ap Left (la.commutes s f g x y v d e h)
 commutes A B la lb (Right s) f g x y v d e h = ap Right (lb.commutes s f g x y v d e h)
 
-keeps : {S T : Type 0} (A : Rules S) (B : Rules T) → Laws A → Laws B → (s : Either S T) (f : ℕ) (x : Item) → (either_rules A B).valid s
+keeps : {S T : Type 0} (A : Rules S) (B : Rules T) → Laws A → Laws B → (s : Either S T) (f : ℕ) (x : Item)
+    → (either_rules A B).valid s
     → Fits (either_rules A B) s f x → SameRound (either_rules A B) s ((either_rules A B).absorbed s f x)
 keeps A B la lb (Left s) f x v h =
     let k : SameRound A s (A.absorbed s f x) = la.keeps s f x v h in
-    record { valid = k.valid; rank = k.rank; ranks = k.ranks; round = k.round; shape = ap (λ l. 0 ∷ l) k.shape; most = k.most; emissions = k.emissions }
+    record {
+      valid = k.valid;
+      rank = k.rank;
+      ranks = k.ranks;
+      round = k.round;
+      shape = ap (λ l. 0 ∷ l) k.shape;
+      most = k.most;
+      emissions = k.emissions;
+    }
 keeps A B la lb (Right s) f x v h =
     let k : SameRound B s (B.absorbed s f x) = lb.keeps s f x v h in
-    record { valid = k.valid; rank = k.rank; ranks = k.ranks; round = k.round; shape = ap (λ l. 1 ∷ l) k.shape; most = k.most; emissions = k.emissions }
+    record {
+      valid = k.valid;
+      rank = k.rank;
+      ranks = k.ranks;
+      round = k.round;
+      shape = ap (λ l. 1 ∷ l) k.shape;
+      most = k.most;
+      emissions = k.emissions;
+    }
 
-vote_below : {S T : Type 0} (A : Rules S) (B : Rules T) → Laws A → Laws B → (s : Either S T) → (either_rules A B).valid s → (either_rules A B).vote s < 2 ^ 32
+vote_below : {S T : Type 0} (A : Rules S) (B : Rules T) → Laws A → Laws B → (s : Either S T)
+    → (either_rules A B).valid s → (either_rules A B).vote s < 2 ^ 32
 vote_below A B la lb (Left s) v = la.vote_below s v
 vote_below A B la lb (Right s) v = lb.vote_below s v
 
-next : {S T : Type 0} (A : Rules S) (B : Rules T) → Laws A → Laws B → (s : Either S T) (votes : ℕ) → (either_rules A B).valid s → votes < 2 ^ 64
+next : {S T : Type 0} (A : Rules S) (B : Rules T) → Laws A → Laws B → (s : Either S T) (votes : ℕ)
+    → (either_rules A B).valid s → votes < 2 ^ 64
     → NextRound (either_rules A B) s ((either_rules A B).ended s votes)
 next A B la lb (Left s) votes v l =
     let k : NextRound A s (A.ended s votes) = la.next s votes v l in
-    record { valid = k.valid; rank = k.rank; ranks = k.ranks; round = k.round; shape = ap (λ l. 0 ∷ l) k.shape; most = k.most }
+    record {
+      valid = k.valid;
+      rank = k.rank;
+      ranks = k.ranks;
+      round = k.round;
+      shape = ap (λ l. 0 ∷ l) k.shape;
+      most = k.most;
+    }
 next A B la lb (Right s) votes v l =
     let k : NextRound B s (B.ended s votes) = lb.next s votes v l in
-    record { valid = k.valid; rank = k.rank; ranks = k.ranks; round = k.round; shape = ap (λ l. 1 ∷ l) k.shape; most = k.most }
+    record {
+      valid = k.valid;
+      rank = k.rank;
+      ranks = k.ranks;
+      round = k.round;
+      shape = ap (λ l. 1 ∷ l) k.shape;
+      most = k.most;
+    }
 
-on_side : {S T : Type 0} (A : Rules S) (B : Rules T) → Laws A → Laws B → (left : Bool) (shape : List ℕ) (ranks round to from : ℕ) (x : Item)
-    → (if left then A.may_be_sent shape ranks round to from x else B.may_be_sent shape ranks round to from x) ≡ true → (to < ranks) × (from < ranks) × IsItem x
+on_side : {S T : Type 0} (A : Rules S) (B : Rules T) → Laws A → Laws B
+    → (left : Bool) (shape : List ℕ) (ranks round to from : ℕ) (x : Item)
+    → (if left then A.may_be_sent shape ranks round to from x else B.may_be_sent shape ranks round to from x) ≡ true
+    → (to < ranks) × (from < ranks) × IsItem x
 on_side A B la lb true shape ranks round to from x h = la.within shape ranks round to from x h
 on_side A B la lb false shape ranks round to from x h = lb.within shape ranks round to from x h
 
-within : {S T : Type 0} (A : Rules S) (B : Rules T) → Laws A → Laws B → (shape : List ℕ) (ranks round to from : ℕ) (x : Item)
+within : {S T : Type 0} (A : Rules S) (B : Rules T) → Laws A → Laws B
+    → (shape : List ℕ) (ranks round to from : ℕ) (x : Item)
     → (either_rules A B).may_be_sent shape ranks round to from x ≡ true → (to < ranks) × (from < ranks) × IsItem x
 within A B la lb [] ranks round to from x h = absurd (cc)
 within A B la lb (side ∷ shape) ranks round to from x h = on_side A B la lb (side == 0) shape ranks round to from x h
 
-most_below : {S T : Type 0} (A : Rules S) (B : Rules T) → Laws A → Laws B → (s : Either S T) → (either_rules A B).valid s → (either_rules A B).most s < 2 ^ 62
+most_below : {S T : Type 0} (A : Rules S) (B : Rules T) → Laws A → Laws B → (s : Either S T)
+    → (either_rules A B).valid s → (either_rules A B).most s < 2 ^ 62
 most_below A B la lb (Left s) v = la.most_below s v
 most_below A B la lb (Right s) v = lb.most_below s v
 
@@ -106,7 +147,8 @@ right_is_case A B =
     }
 
 -- A case of a case is a case.
-pub case_of_case : {S T U : Type 0} {A : Rules S} {B : Rules T} {C : Rules U} {i : S → T} {w : List ℕ → List ℕ} {j : T → U} {v : List ℕ → List ℕ}
+pub case_of_case : {S T U : Type 0} {A : Rules S} {B : Rules T} {C : Rules U} {i : S → T} {w : List ℕ → List ℕ}
+    {j : T → U} {v : List ℕ → List ℕ}
     → Injects A B i w → Injects B C j v → Injects A C (λ s. j (i s)) (λ l. v (w l))
 case_of_case {A = A} {i = i} {w = w} {j = j} {v = v} p q =
     record {

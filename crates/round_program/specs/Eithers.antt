@@ -4,7 +4,8 @@ use Rattle.either.specs.declared.Either.{Either}
 use Rattle.either.specs.Either.{either, map_either, MatchEither}
 use Rattle.round_program.specs.Rules.{Rules}
 
--- What the case says that a shape names: 0 before the shape stands for the left program, any other number for the right one.
+-- What the case says that a shape names: 0 before the shape stands for the left program, any other
+-- number for the right one.
 -- by_case d f g (0 ∷ 3 ∷ []) = f (3 ∷ []), by_case d f g (1 ∷ 3 ∷ []) = g (3 ∷ []).
 abbrev pub by_case : {T : Type 0} → T → (List ℕ → T) → (List ℕ → T) → List ℕ → T
 by_case d f g [] = d

@@ -2,8 +2,8 @@
 use Rattle.std.specs.Prelude.{◌≡◌, ℕ, zero, suc, Bool, true, false, List, [], ◌∷◌}
 use Rattle.bale_types.specs.declared.item.Item.{Item}
 
--- Of items, each with its receiver, the first n were handed over and accepted, one after the other; then none was left, or the next
--- one was refused. `hands` says what handing over one item may do.
+-- Of items, each with its receiver, the first n were handed over and accepted, one after the other;
+-- then none was left, or the next one was refused. `hands` says what handing over one item may do.
 -- Of (1,x), (0,y), where n is 1, x was accepted and y was refused.
 abbrev pub HandsOver : {K : Type 0} → (K → ℕ → Item → Bool → K → Type 0) → List (ℕ × Item) → ℕ → K → K → Type 0
 HandsOver hands [] n s t = (n ≡ 0) × (t ≡ s)

@@ -1,5 +1,6 @@
 -- The theorem over all rounds: from what each rank knows of itself to the canonical run.
-use Rattle.std.specs.Prelude.{ℕ, suc, ◌+◌, ◌-◌, ◌*◌, ◌^◌, ◌<◌, ◌≤◌, ◌≡◌, ◌≢◌, min, true, false, List, [], ◌∷◌, Some, slice_get}
+use Rattle.std.specs.Prelude.{ℕ, suc, ◌+◌, ◌-◌, ◌*◌, ◌^◌, ◌<◌, ◌≤◌, ◌≡◌, ◌≢◌, min, true, false, List, [], ◌∷◌, Some}
+use Rattle.std.specs.Prelude.{slice_get}
 use Rattle.std.specs.List.{sum_by}
 use Rattle.bale_types.specs.declared.Item.{Item}
 use Rattle.list_laws.specs.Sums.{total}
@@ -31,7 +32,8 @@ worked R p h l m = after_pulls R (h m) (l.pulled (2 * m)) p
 -- What a rank that was done with the votes of round m has done in that round: it told its emissions and its vote, or it
 -- was spoiled, having found no memory at the round's beginning or at an absorb, and voted 2^64 - 1.
 pub data Voted {S : Type 0} (R : Rules S) (p : ℕ) (h : ℕ → S) (l : PairLists) (m : ℕ) : Type 0 where
-  told : ((d : ℕ) → d < p → l.pushed (2 * m) d ≡ emitted R (h m) d) → ((d : ℕ) → d < p → l.pushed (2 * m + 1) d ≡ vote_item (R.vote (worked R p h l m)) ∷ []) → Voted R p h l m
+  told : ((d : ℕ) → d < p → l.pushed (2 * m) d ≡ emitted R (h m) d)
+      → ((d : ℕ) → d < p → l.pushed (2 * m + 1) d ≡ vote_item (R.vote (worked R p h l m)) ∷ []) → Voted R p h l m
   spoiled : ((d : ℕ) → d < p → l.pushed (2 * m + 1) d ≡ vote_item (2 ^ 64 - 1) ∷ []) → Voted R p h l m
 
 -- What one rank knows of itself. It has completed the epochs below `completed` and was done in those below `done`. An
@@ -55,20 +57,25 @@ pub record Closes (p : ℕ) (completed done : ℕ → ℕ) (ls : ℕ → PairLis
   pub whole : (r f e : ℕ) → r < p → f < p → e < completed r → (ls r).pulled e f ≡ (ls f).pushed e r
 
 -- The ranks are within the canonical run, each in the round in which it is.
-pub record IsCanonical {S : Type 0} (R : Rules S) (p : ℕ) (starts : List S) (completed : ℕ → ℕ) (h : ℕ → ℕ → S) (ls : ℕ → PairLists) : Type 0 where
+pub record IsCanonical {S : Type 0} (R : Rules S) (p : ℕ) (starts : List S) (completed : ℕ → ℕ) (h : ℕ → ℕ → S)
+    (ls : ℕ → PairLists) : Type 0 where
   -- each state as a round begins is the canonical one
   pub states : (r m : ℕ) → r < p → 2 * m ≤ completed r → slice_get (states_at R starts m) r ≡ Some (h r m)
   -- in a round that some rank r has completed, each rank f pushed its emissions, worked to the canonical state and
   -- pushed its vote
-  pub pushed : (r f d m : ℕ) → r < p → f < p → d < p → 2 * m + 2 ≤ completed r → (ls f).pushed (2 * m) d ≡ emitted R (h f m) d
-  pub absorbed : (r f m : ℕ) → r < p → f < p → 2 * m + 2 ≤ completed r → slice_get (absorbed_round R (states_at R starts m)) f ≡ Some (worked R p (h f) (ls f) m)
-  pub votes : (r f d m : ℕ) → r < p → f < p → d < p → 2 * m + 2 ≤ completed r → (ls f).pushed (2 * m + 1) d ≡ vote_item (R.vote (worked R p (h f) (ls f) m)) ∷ []
+  pub pushed : (r f d m : ℕ) → r < p → f < p → d < p → 2 * m + 2 ≤ completed r
+      → (ls f).pushed (2 * m) d ≡ emitted R (h f m) d
+  pub absorbed : (r f m : ℕ) → r < p → f < p → 2 * m + 2 ≤ completed r
+      → slice_get (absorbed_round R (states_at R starts m)) f ≡ Some (worked R p (h f) (ls f) m)
+  pub votes : (r f d m : ℕ) → r < p → f < p → d < p → 2 * m + 2 ≤ completed r
+      → (ls f).pushed (2 * m + 1) d ≡ vote_item (R.vote (worked R p (h f) (ls f) m)) ∷ []
   -- and heard the canonical sum
   pub sums : (r m : ℕ) → r < p → 2 * m + 2 ≤ completed r → heard p (ls r) m ≡ votes_at R starts m
   -- no rank goes past the last round
   pub bounded : (n r : ℕ) → HasRounds R starts n → r < p → completed r ≤ 2 * n
   -- and a rank that stops has completed it
-  pub stopped : (n r m : ℕ) → HasRounds R starts n → r < p → 2 * m + 2 ≤ completed r → R.goes_on (R.shape (h r m)) m (heard p (ls r) m) ≡ false → m + 1 ≡ n
+  pub stopped : (n r m : ℕ) → HasRounds R starts n → r < p → 2 * m + 2 ≤ completed r
+      → R.goes_on (R.shape (h r m)) m (heard p (ls r) m) ≡ false → m + 1 ≡ n
 
 -- At every moment, with the ranks in different rounds, each rank's states are those of the canonical run.
 abbrev pub EveryRunIsCanonical : {S : Type 0} → Rules S → Type 0

@@ -44,9 +44,11 @@ pub record NextRound {S : Type 0} (R : Rules S) (s t : S) : Type 0 where
 -- The laws. They speak of all valid states, also of those that no run reaches.
 pub record Laws {S : Type 0} (R : Rules S) : Type 0 where
   -- 1. the rank that an emission goes to may be sent it
-  pub emits : (s : S) → R.valid s → All (λ e. R.may_be_sent (R.shape s) (R.ranks s) (R.round s) e.0 (R.rank s) e.1 ≡ true) (R.emissions s)
+  pub emits : (s : S) → R.valid s
+      → All (λ e. R.may_be_sent (R.shape s) (R.ranks s) (R.round s) e.0 (R.rank s) e.1 ≡ true) (R.emissions s)
   -- 2. absorbs of two senders commute
-  pub commutes : (s : S) (f g : ℕ) (x y : Item) → R.valid s → f ≢ g → Fits R s f x → Fits R s g y → R.absorbed (R.absorbed s f x) g y ≡ R.absorbed (R.absorbed s g y) f x
+  pub commutes : (s : S) (f g : ℕ) (x y : Item) → R.valid s → f ≢ g → Fits R s f x → Fits R s g y
+      → R.absorbed (R.absorbed s f x) g y ≡ R.absorbed (R.absorbed s g y) f x
   -- 3. an absorb leaves rank, ranks, round, shape, most and the emissions as they are
   pub keeps : (s : S) (f : ℕ) (x : Item) → R.valid s → Fits R s f x → SameRound R s (R.absorbed s f x)
   -- 4. votes are below 2^32
@@ -54,6 +56,7 @@ pub record Laws {S : Type 0} (R : Rules S) : Type 0 where
   -- 5. the end of a round leaves rank, ranks, shape and most, and the round is one higher
   pub next : (s : S) (votes : ℕ) → R.valid s → votes < 2 ^ 64 → NextRound R s (R.ended s votes)
   -- what may be sent is an item from a rank to a rank
-  pub within : (shape : List ℕ) (ranks round to from : ℕ) (x : Item) → R.may_be_sent shape ranks round to from x ≡ true → (to < ranks) × (from < ranks) × IsItem x
+  pub within : (shape : List ℕ) (ranks round to from : ℕ) (x : Item) → R.may_be_sent shape ranks round to from x ≡ true
+      → (to < ranks) × (from < ranks) × IsItem x
   -- the bound on the rounds is below 2^62
   pub most_below : (s : S) → R.valid s → R.most s < 2 ^ 62

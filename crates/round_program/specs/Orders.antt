@@ -1,5 +1,5 @@
 -- The interleaving theorem: in which order a rank absorbs the items of different senders doesn't matter.
-use Rattle.std.specs.Prelude.{ℕ, ◌<◌, ◌≡◌, ◌≢◌, cond, List, [], ◌∷◌, ◌++◌, Some, slice_get}
+use Rattle.std.specs.Prelude.{ℕ, ◌<◌, ◌≡◌, ◌≢◌, List, [], ◌∷◌, ◌++◌, Some, slice_get, if◌then◌else◌}
 use Rattle.std.specs.List.{All, filter, fold}
 use Rattle.bale_types.specs.declared.Item.{Item}
 use Rattle.round_program.specs.Rules.{Rules}
@@ -24,7 +24,7 @@ abbrev pub OneMorePull : {S : Type 0} → Rules S → Type 0
 OneMorePull {S} R =
     (s : S) (p f : ℕ) (x : Item) (old new : ℕ → List Item) → R.valid s → f < p
     → new f ≡ old f ++ x ∷ [] → ((g : ℕ) → g ≢ f → new g ≡ old g)
-    → after_pulls R s new p ≡ cond (fits R s f x) (R.absorbed (after_pulls R s old p) f x) (after_pulls R s old p)
+    → after_pulls R s new p ≡ (if fits R s f x then R.absorbed (after_pulls R s old p) f x else after_pulls R s old p)
 
 -- Items that fit, of senders below p, absorbed as they came, give the state of absorbing them sender by sender.
 abbrev pub EveryOrder : {S : Type 0} → Rules S → Type 0

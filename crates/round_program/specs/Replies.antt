@@ -1,5 +1,7 @@
 -- Queries and replies between ranks, with no word on how they travel.
-use Rattle.std.specs.Prelude.{◌≡◌, ℕ, suc, ◌==◌, cond, List, [], ◌∷◌, length, map, drop, Some, slice_get, slice_index_or}
+use Rattle.std.specs.Prelude.{◌≡◌, ℕ, suc, ◌==◌, List, [], ◌∷◌, length, map, drop, Some, slice_get, slice_index_or}
+use Rattle.std.specs.Prelude.{if◌then◌else◌}
+use Rattle.std.specs.Prelude.{if◌then◌else◌}
 use Rattle.bale_types.specs.declared.item.Item.{Item}
 use Rattle.round_program.specs.Talks.{Talk}
 use Rattle.round_program.specs.Canonical.{items_of}
@@ -30,15 +32,16 @@ answers T s from queries = map (λ x. carrying (T.answer s from x.a)) queries
 abbrev pub replies_of : {S : Type 0} → Talk S → (ℕ → S) → ℕ → ℕ → List Item
 replies_of T all d s = answers T (all d) s (queries_to T (all s) d)
 
--- Hearing by order alone: of the replies that came from a rank, `came d` those from d, the first is heard as that to the
--- first query to this rank, and so on. A reply beyond the queries is dropped, and a query beyond the replies stays open.
+-- Hearing by order alone: of the replies that came from a rank, `came d` those from d, the first is
+-- heard as that to the first query to this rank, and so on. A reply beyond the queries is dropped,
+-- and a query beyond the replies stays open.
 -- The queries are those from number i on.
 abbrev pub heard_first : {S : Type 0} → Talk S → S → ℕ → List Item → S
 heard_first T s i [] = s
 heard_first T s i (x ∷ xs) = T.heard s i x.a
 
 abbrev pub less_first : (ℕ → List Item) → ℕ → ℕ → List Item
-less_first came d = λ e. cond (e == d) (drop 1 (came e)) (came e)
+less_first came d = λ e. if e == d then drop 1 (came e) else came e
 
 abbrev pub hearing : {S : Type 0} → Talk S → S → ℕ → List (ℕ × ℕ) → (ℕ → List Item) → S
 hearing T s i [] came = s
@@ -53,7 +56,7 @@ heard_by T s came = hearing T s 0 (T.queries s) came
 -- Of the queries above those to rank 1 have the numbers 0 and 2.
 abbrev pub places_to : ℕ → ℕ → List (ℕ × ℕ) → List ℕ
 places_to d i [] = []
-places_to d i (q ∷ qs) = cond (q.0 == d) (i ∷ places_to d (suc i) qs) (places_to d (suc i) qs)
+places_to d i (q ∷ qs) = if q.0 == d then i ∷ places_to d (suc i) qs else places_to d (suc i) qs
 
 -- A rank r in the state s after it heard, for each of its queries in order, the answer of the rank asked.
 abbrev pub answered_from : {S : Type 0} → Talk S → (ℕ → S) → ℕ → S → ℕ → List (ℕ × ℕ) → S
@@ -66,4 +69,5 @@ answered T all r = answered_from T all r (all r) 0 (T.queries (all r))
 -- The askers of all ranks after each has heard, for each of its queries in order, the answer of the rank asked.
 pub record HaveHeard {S : Type 0} (T : Talk S) (askers ends : List S) : Type 0 where
   pub size : length ends ≡ length askers
-  pub each : (r : ℕ) (s : S) → slice_get askers r ≡ Some s → slice_get ends r ≡ Some (answered T (λ d. slice_index_or askers d s) r)
+  pub each : (r : ℕ) (s : S) → slice_get askers r ≡ Some s
+      → slice_get ends r ≡ Some (answered T (λ d. slice_index_or askers d s) r)

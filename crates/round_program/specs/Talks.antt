@@ -28,8 +28,11 @@ pub record TalkLaws {S : Type 0} (T : Talk S) : Type 0 where
   -- a query goes to a rank
   pub asks : (s : S) → T.valid s → All (λ q. (q.0 < T.ranks s) × (q.1 < 2 ^ 64)) (T.queries s)
   -- an answer is a number of 64 bits
-  pub answers : (s : S) (from question : ℕ) → T.valid s → from < 2 ^ 32 → question < 2 ^ 64 → T.answer s from question < 2 ^ 64
+  pub answers : (s : S) (from question : ℕ) → T.valid s → from < 2 ^ 32 → question < 2 ^ 64
+      → T.answer s from question < 2 ^ 64
   -- hearing changes no rank, ranks, query or answer
-  pub keeps : (s : S) (i reply : ℕ) → T.valid s → i < length (T.queries s) → reply < 2 ^ 64 → SameTalk T s (T.heard s i reply)
+  pub keeps : (s : S) (i reply : ℕ) → T.valid s → i < length (T.queries s) → reply < 2 ^ 64
+      → SameTalk T s (T.heard s i reply)
   -- replies to different queries are heard in any order
-  pub commutes : (s : S) (i j a b : ℕ) → T.valid s → i ≢ j → i < length (T.queries s) → j < length (T.queries s) → a < 2 ^ 64 → b < 2 ^ 64 → T.heard (T.heard s i a) j b ≡ T.heard (T.heard s j b) i a
+  pub commutes : (s : S) (i j a b : ℕ) → T.valid s → i ≢ j → i < length (T.queries s) → j < length (T.queries s)
+      → a < 2 ^ 64 → b < 2 ^ 64 → T.heard (T.heard s i a) j b ≡ T.heard (T.heard s j b) i a

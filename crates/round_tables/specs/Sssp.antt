@@ -1,5 +1,6 @@
 -- The rounds of sssp.
-use Rattle.std.specs.Prelude.{◌≡◌, ◌≢◌, ◌≤◌, ◌<◌, ◌+◌, ◌%◌, ◌==◌, ℕ, zero, suc, nat_abs, Bool, false, List, [], Option, Some, None, map, length}
+use Rattle.std.specs.Prelude.{◌≡◌, ◌≢◌, ◌≤◌, ◌<◌, ◌+◌, ◌%◌, ◌==◌, ℕ, zero, suc, nat_abs, Bool, false, List, [], Option}
+use Rattle.std.specs.Prelude.{Some, None, map, length}
 use Rattle.std.specs.List.{filter, flat_map, range_with_len}
 use Rattle.bale_types.specs.declared.Item.{Item}
 use Rattle.bale_types.specs.declared.triple.Triple.{Triple}
@@ -17,7 +18,8 @@ use Rattle.sparse_rows.specs.Emits.{item, Emit}
 
 -- Round 0: each own entry, to the owner of its row.
 -- for each own entry (i,j,v) in order: to i mod ranks, (i, j, bits of v)
--- of (0,1,3), (1,2,2), (0,2,7) on 2 ranks: rank 0 emits (0,1,3) and then (0,2,7) to rank 0, rank 1 emits (1,2,2) to rank 1
+-- of (0,1,3), (1,2,2), (0,2,7) on 2 ranks: rank 0 emits (0,1,3) and then (0,2,7) to rank 0, rank 1
+-- emits (1,2,2) to rank 1
 abbrev pub to_rows : ℕ → Sparse → ℕ → List (ℕ × Item)
 to_rows ranks m r = map (λ e. (e.1.i % ranks, item e.1.i e.1.j (twos_complement e.1.v))) (own_entries ranks r m.entries)
 
@@ -25,7 +27,8 @@ to_rows ranks m r = map (λ e. (e.1.i % ranks, item e.1.i e.1.j (twos_complement
 -- over the same from 0 to 2: of at most 0 edges None, of at most 1 edge 7, of at most 2 edges 5
 pub record IsLeastWithin (entries : List Triple) (s k t : ℕ) (found : Option ℕ) : Type 0 where
   -- it is the weight of such a walk
-  pub walked : (w : ℕ) → found ≡ Some w → (walk : List Triple) × IsWalk entries s t walk × (length walk ≤ k) × (weight_of walk ≡ w)
+  pub walked : (w : ℕ) → found ≡ Some w
+      → (walk : List Triple) × IsWalk entries s t walk × (length walk ≤ k) × (weight_of walk ≡ w)
   -- and no such walk weighs less
   pub least : (walk : List Triple) → IsWalk entries s t walk → length walk ≤ k → AtMost found (weight_of walk)
 
@@ -34,8 +37,8 @@ abbrev pub falls : Option ℕ → Option ℕ → Bool
 falls old None = false
 falls old (Some w) = is_better w old
 
--- found k v is a weight of vertex v with at most k edges. It improves with k edges where it is better than with fewer; with none it
--- improves where it is there, which is at the source.
+-- found k v is a weight of vertex v with at most k edges. It improves with k edges where it is
+-- better than with fewer; with none it improves where it is there, which is at the source.
 -- of the same from 0: vertex 2 improves with 1 edge, from None to 7, and with 2 edges, from 7 to 5
 abbrev pub improves : (ℕ → ℕ → Option ℕ) → ℕ → ℕ → Bool
 improves found zero v = falls None (found 0 v)
@@ -53,15 +56,17 @@ offered ranks None edges = []
 offered ranks (Some w) edges = map (λ t. (t.j % ranks, item t.j (w + nat_abs t.v) 0)) edges
 
 -- Round k + 1: what the own vertices that improve with k edges offer.
--- for each own vertex i that improves with k edges, ascending, of weight w, and each edge (i,j,v) by j: to j mod ranks, (j, w + v, 0)
--- of the same from 0 on 2 ranks: in round 1 rank 0 emits (1,3,0) to rank 1 and then (2,7,0) to rank 0, in round 2 rank 1 emits (2,5,0) to
--- rank 0, and in round 3 no rank emits anything
+-- for each own vertex i that improves with k edges, ascending, of weight w, and each edge (i,j,v)
+-- by j: to j mod ranks, (j, w + v, 0)
+-- of the same from 0 on 2 ranks: in round 1 rank 0 emits (1,3,0) to rank 1 and then (2,7,0) to rank
+-- 0, in round 2 rank 1 emits (2,5,0) to rank 0, and in round 3 no rank emits anything
 abbrev pub offers : ℕ → Sparse → (ℕ → ℕ → Option ℕ) → ℕ → ℕ → List (ℕ × Item)
 offers ranks m found k r =
-    flat_map (λ i. offered ranks (found k i) (filter (λ t. t.i == i) (gathered m.entries))) (dealt (λ i. i % ranks) r (improved_with m found k))
+    flat_map (λ i. offered ranks (found k i) (filter (λ t. t.i == i) (gathered m.entries)))
+    (dealt (λ i. i % ranks) r (improved_with m found k))
 
--- sssp tells the entries in round 0. Then it has a round for each number of edges with which some vertex improves: in it these vertices
--- offer their weights.
+-- sssp tells the entries in round 0. Then it has a round for each number of edges with which some
+-- vertex improves: in it these vertices offer their weights.
 pub record HasSsspRounds (ranks : ℕ) (m : Sparse) (source : ℕ) : Type 0 where
   pub found : ℕ → ℕ → Option ℕ
   pub least : (k v : ℕ) → k ≤ m.rows → IsLeastWithin m.entries source k v (found k v)
@@ -71,7 +76,9 @@ pub record HasSsspRounds (ranks : ℕ) (m : Sparse) (source : ℕ) : Type 0 wher
   pub none : improved_with m found last ≡ []
   pub rounds : HasRounds sssp_rules (sssp_starts ranks m source) (last + 1)
   pub entries_sent : Emit sssp_rules (sssp_starts ranks m source) 0 ranks (to_rows ranks m)
-  pub offers_sent : (k : ℕ) → k < last → Emit sssp_rules (sssp_starts ranks m source) (k + 1) ranks (offers ranks m found k)
+  pub offers_sent : (k : ℕ) → k < last
+      → Emit sssp_rules (sssp_starts ranks m source) (k + 1) ranks (offers ranks m found k)
 
 abbrev pub SsspRounds : Type 0
-SsspRounds = (ranks : ℕ) (m : Sparse) (source : ℕ) → 1 ≤ ranks → IsGraph m → source < m.rows → HasSsspRounds ranks m source
+SsspRounds = (ranks : ℕ) (m : Sparse) (source : ℕ) → 1 ≤ ranks → IsGraph m → source < m.rows
+    → HasSsspRounds ranks m source

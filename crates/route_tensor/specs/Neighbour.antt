@@ -16,7 +16,8 @@ abbrev pub neighbour : List ℕ → ℕ → ℕ → ℕ
 neighbour dims r i = with_coord dims r (hop_to dims i) (i - links_before dims (hop_to dims i))
 
 -- The number of the link from r to its neighbour number i, and of the link from that neighbour to r.
--- In the grid 2x2x2 the links of rank 0 to and from its neighbour number 3, which is rank 2, have the numbers 17 and 20.
+-- In the grid 2x2x2 the links of rank 0 to and from its neighbour number 3, which is rank 2, have
+-- the numbers 17 and 20.
 abbrev pub link_to : List ℕ → ℕ → ℕ → ℕ
 link_to dims r i = link dims (hop_to dims i) r (neighbour dims r i)
 

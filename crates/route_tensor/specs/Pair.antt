@@ -20,7 +20,8 @@ pub record PassesThrough (dims : List ℕ) (r s d h : ℕ) : Type 0 where
 -- destination is d.
 -- In the grid 2x2x2 an entry with the tag (1,0,1) on (2,0,2) belongs to the pair from 1 to 6.
 abbrev pub belongs : List ℕ → ℕ → ℕ → ℕ → Entry → Bool
-belongs dims s d h e = (sender_of dims e.tag h (place dims s d (h - 1)) == s) && (destination_of dims e.tag h (place dims s d h) == d)
+belongs dims s d h e =
+    (sender_of dims e.tag h (place dims s d (h - 1)) == s) && (destination_of dims e.tag h (place dims s d h) == d)
 
 -- The items of the entries of a pair, in order, among some entries on the hop-h link of its route.
 abbrev pub items_of_pair : List ℕ → ℕ → ℕ → ℕ → List Entry → List Item
@@ -28,7 +29,8 @@ items_of_pair dims s d h entries = map (λ e. e.item) (filter (belongs dims s d 
 
 -- The tag of the pair from s to d names it on the link (h,a,b) of its route: the tag is fair there, its sender and its
 -- destination are s and d, and a relay makes of it the tag on the next link.
--- In the grid 2x2x2 the tag (1,0,1) of the pair from 1 to 6 is fair on (2,0,2), tells 1 and 6 there, and becomes (1,0,0).
+-- In the grid 2x2x2 the tag (1,0,1) of the pair from 1 to 6 is fair on (2,0,2), tells 1 and 6
+-- there, and becomes (1,0,0).
 pub record NamesPair (dims : List ℕ) (s d h a b : ℕ) : Type 0 where
   pub fair : IsFair dims h (tag_at dims s d h)
   pub sender : sender_of dims (tag_at dims s d h) h a ≡ s

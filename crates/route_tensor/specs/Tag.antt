@@ -1,5 +1,5 @@
 -- Tags, and which are fair on a hop.
-use Rattle.std.specs.Prelude.{◌≡◌, ℕ, zero, suc, ◌+◌, ◌-◌, ◌*◌, ◌<◌, ◌≤◌, nat_lt, cond, List, [], ◌∷◌, length}
+use Rattle.std.specs.Prelude.{◌≡◌, ℕ, zero, suc, ◌+◌, ◌-◌, ◌*◌, ◌<◌, ◌≤◌, nat_lt, List, [], ◌∷◌, length, if◌then◌else◌}
 use Rattle.bale_types.specs.declared.item.Tag.{Tag}
 use Rattle.route_tensor.specs.Grid.{dim, coord, place}
 
@@ -30,7 +30,7 @@ pub record IsFair (dims : List ℕ) (h : ℕ) (tag : Tag) : Type 0 where
 
 -- Digit i of the tag from s to d on hop h: below h the sender's coordinate, at h 0, above h the destination's.
 unfoldable pub tag_digit : List ℕ → ℕ → ℕ → ℕ → ℕ → ℕ
-tag_digit dims s d h i = cond (nat_lt i h) (coord dims s i) (cond (nat_lt h i) (coord dims d i) 0)
+tag_digit dims s d h i = if nat_lt i h then coord dims s i else if nat_lt h i then coord dims d i else 0
 
 -- The tag of an entry from s to d on its link of hop h.
 -- In the grid 2x2x2 the tags from 1 to 6 are (0,1,1), (1,0,1) and (1,0,0).

@@ -9,7 +9,8 @@ use Rattle.reductions.proofs.Cells.{reduced_comm, reduced_len, vote_low}
 use Rattle.round_program.specs.Laws.{Laws, SameRound, IsItem}
 use Rattle.skeleton.specs.State.{State, IsState, rules, may_be_sent}
 
-within : (shape : List ℕ) (ranks round to from : ℕ) (x : Item) → may_be_sent shape ranks round to from x ≡ true → (to < ranks) × (from < ranks) × IsItem x
+within : (shape : List ℕ) (ranks round to from : ℕ) (x : Item) → may_be_sent shape ranks round to from x ≡ true
+    → (to < ranks) × (from < ranks) × IsItem x
 within [] ranks round to from x h = absurd (cc)
 within (n ∷ []) ranks round to from x h = (grind (arith, nat_tests), grind (arith, nat_tests), grind (arith, nat_tests))
 within (n ∷ (c ∷ cs)) ranks round to from x h = absurd (cc)
@@ -22,7 +23,8 @@ keeps s f x v =
           record {
             own = v.own;
             few = v.few;
-            sent = subst (λ n. All (λ e. may_be_sent (n ∷ []) s.ranks s.round e.0 s.rank e.1 ≡ true) s.sends) (sym len) v.sent;
+            sent = subst (λ n. All (λ e. may_be_sent (n ∷ []) s.ranks s.round e.0 s.rank e.1 ≡ true) s.sends)
+                (sym len) v.sent;
           };
       rank = refl;
       ranks = refl;
@@ -40,7 +42,12 @@ laws =
       keeps = λ s f x v e. keeps s f x v;
       vote_below = λ s v. vote_low s.cells;
       next = λ s votes v l. record {
-        valid = record { own = v.own; few = v.few; sent = All-nil (λ e. may_be_sent (length s.cells.cells ∷ []) s.ranks (rules.ended s votes).round e.0 s.rank e.1 ≡ true) };
+        valid = record {
+          own = v.own;
+          few = v.few;
+          sent = All-nil
+              (λ e. may_be_sent (length s.cells.cells ∷ []) s.ranks (rules.ended s votes).round e.0 s.rank e.1 ≡ true);
+        };
         rank = refl;
         ranks = refl;
         round = refl;

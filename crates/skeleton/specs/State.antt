@@ -1,5 +1,6 @@
 -- One rank's state, and what its calls do.
-use Rattle.std.specs.Prelude.{ℕ, ◌+◌, ◌-◌, ◌%◌, ◌^◌, ◌<◌, ◌≤◌, ◌≡◌, ◌==◌, ◌&&◌, nat_lt, min, Bool, true, false, List, [], ◌∷◌, length}
+use Rattle.std.specs.Prelude.{ℕ, ◌+◌, ◌-◌, ◌%◌, ◌^◌, ◌<◌, ◌≤◌, ◌≡◌, ◌==◌, ◌&&◌, nat_lt, min, Bool, true, false, List}
+use Rattle.std.specs.Prelude.{[], ◌∷◌, length}
 use Rattle.std.specs.List.{All}
 use Rattle.bale_types.specs.declared.Item.{Item}
 use Rattle.reductions.specs.declared.reduced.Reduction.TheVariants.{Least}
@@ -16,9 +17,11 @@ pub record State : Type 0 where
   -- by column
   pub cells : ReducedState
 
--- What may be sent, by shape (the number of columns), ranks, round, receiver and sender: a column's own rank is sent what is for it.
+-- What may be sent, by shape (the number of columns), ranks, round, receiver and sender: a column's
+-- own rank is sent what is for it.
 abbrev pub may_be_sent : List ℕ → ℕ → ℕ → ℕ → ℕ → Item → Bool
-may_be_sent (n ∷ []) ranks round to from x = nat_lt from ranks && nat_lt to ranks && nat_lt x.a n && x.a % ranks == to && is_item x
+may_be_sent (n ∷ []) ranks round to from x =
+    nat_lt from ranks && nat_lt to ranks && nat_lt x.a n && x.a % ranks == to && is_item x
 may_be_sent shape ranks round to from x = false
 
 -- the states that a rank can be in

@@ -9,7 +9,7 @@ use Rattle.port_bank.specs.Link.{LinkLaw}
 use Rattle.port_bank.specs.Port.{Rest}
 use Rattle.port_bank.specs.Plain.{Bank, IsBank, sent_of, got_of, others_of, empty_bank}
 use Rattle.port_bank.proofs.Closing.{empty_links, none_sent, none_got}
-use Rattle.exstack.specs.State.{State, dims_of}
+use Rattle.exstack.specs.State.{Stack, dims_of}
 use Rattle.exstack.specs.Agreement.{AgreesIn, AgreesWith}
 use Rattle.exstack.specs.Standing.{IsStack}
 use Rattle.exstack.specs.Law.{AgreeTogether, StaysTogether}
@@ -19,13 +19,13 @@ pub one_more : {X : Type 0} (xs ys : List X) (x : X) (n : ℕ) → ys ≡ xs ++ 
 one_more xs ys x n is all = ap length is ∙ (length-append xs (x ∷ []) ∙ ap (λ k. k + 1) all)
 
 -- a rank's exstack on which nothing was done
-pub record StartsOut (cap : ℕ) (dims : List ℕ) (r : ℕ) (st : State) : Type 0 where
+pub record StartsOut (cap : ℕ) (dims : List ℕ) (r : ℕ) (st : Stack) : Type 0 where
   pub same_ranks : st.ranks ≡ ranks dims
   pub same_rank : st.rank ≡ r
   pub agrees : AgreesIn 0 st (λ l. []) (λ l. [])
   pub standing : IsStack cap st
 
-pub together_first : (dims : List ℕ) (cap slots : ℕ) (all : ℕ → State) → IsGrid dims → length dims ≡ 1 → ((r : ℕ) → r < ranks dims → StartsOut cap dims r (all r))
+pub together_first : (dims : List ℕ) (cap slots : ℕ) (all : ℕ → Stack) → IsGrid dims → length dims ≡ 1 → ((r : ℕ) → r < ranks dims → StartsOut cap dims r (all r))
     → AgreeTogether (ranks dims) cap slots all (sent_of (empty_bank dims slots)) (got_of (empty_bank dims slots))
 together_first dims cap slots all g one each = record {
   few = g.small;
@@ -45,12 +45,12 @@ together_first dims cap slots all g one each = record {
 }
 
 -- a call on one of them: its state was st and is st', and the others stay
-pub record Changes (r : ℕ) (old new : ℕ → State) (st st' : State) : Type 0 where
+pub record Changes (r : ℕ) (old new : ℕ → Stack) (st st' : Stack) : Type 0 where
   pub was : st ≡ old r
   pub now : new r ≡ st'
   pub others : (q : ℕ) → q ≢ r → new q ≡ old q
 
-pub changes : {X : Type 0} (state : X → State) (xs : List X) (r : ℕ) (x y d : X) → r < length xs → x ≡ slice_index_or xs r x
+pub changes : {X : Type 0} (state : X → Stack) (xs : List X) (r : ℕ) (x y d : X) → r < length xs → x ≡ slice_index_or xs r x
     → Changes r (λ q. state (slice_index_or xs q d)) (λ q. state (slice_index_or (slice_set xs r y) q d)) (state x) (state y)
 changes state xs r x y d h read = record {
   was = ap state (read ∙ get_or_default xs r x d h);
@@ -59,7 +59,7 @@ changes state xs r x y d h read = record {
 }
 
 -- one rank makes a call without its port
-pub together_local : (n cap slots r : ℕ) (old new : ℕ → State) (st st' : State) (sent got : Logs) → StaysTogether
+pub together_local : (n cap slots r : ℕ) (old new : ℕ → Stack) (st st' : Stack) (sent got : Logs) → StaysTogether
     → AgreeTogether n cap slots old sent got → r < n → Changes r old new st st'
     → st'.ranks ≡ st.ranks → st'.rank ≡ st.rank → ((sent got : Logs) → AgreesWith st sent got → AgreesWith st' sent got) → IsStack cap st'
     → AgreeTogether n cap slots new sent got
@@ -70,20 +70,20 @@ together_local n cap slots r old new st st' sent got law t h c same_ranks same_r
       sent_elsewhere = refl;
       got_elsewhere = refl;
       links_keep = t.links_keep;
-      same_ranks = ap (λ (x : State). x.ranks) c.now ∙ (same_ranks ∙ (ap (λ (x : State). x.ranks) c.was ∙ t.same_ranks r h));
-      same_rank = ap (λ (x : State). x.rank) c.now ∙ (same_rank ∙ (ap (λ (x : State). x.rank) c.was ∙ t.same_rank r h));
+      same_ranks = ap (λ (x : Stack). x.ranks) c.now ∙ (same_ranks ∙ (ap (λ (x : Stack). x.ranks) c.was ∙ t.same_ranks r h));
+      same_rank = ap (λ (x : Stack). x.rank) c.now ∙ (same_rank ∙ (ap (λ (x : Stack). x.rank) c.was ∙ t.same_rank r h));
       standing = subst (IsStack cap) (sym c.now) standing;
       agrees = subst (λ x. AgreesWith x (starting_at (n ∷ []) r sent) (ending_at (n ∷ []) r got)) (sym c.now)
           (kept (starting_at (n ∷ []) r sent) (ending_at (n ∷ []) r got) (subst (λ x. AgreesWith x (starting_at (n ∷ []) r sent) (ending_at (n ∷ []) r got)) (sym c.was) (t.agree r h)));
     })
 
 -- what a poll wants of its rank's port
-pub record WantsPort (st : State) (p : Bank) (q : ℕ) : Type 0 where
+pub record WantsPort (st : Stack) (p : Bank) (q : ℕ) : Type 0 where
   pub same_dims : p.dims ≡ dims_of st
   pub same_rank : q ≡ st.rank
   pub agrees : AgreesWith st (starting_at p.dims q (sent_of p)) (ending_at p.dims q (got_of p))
 
-pub together_port : (n cap r : ℕ) (old : ℕ → State) (st : State) (b p : Bank) (r' : ℕ) → b.dims ≡ n ∷ [] → AgreeTogether n cap b.slots old (sent_of b) (got_of b) → r < n
+pub together_port : (n cap r : ℕ) (old : ℕ → Stack) (st : Stack) (b p : Bank) (r' : ℕ) → b.dims ≡ n ∷ [] → AgreeTogether n cap b.slots old (sent_of b) (got_of b) → r < n
     → st ≡ old r → p ≡ b → r' ≡ r → WantsPort st p r'
 together_port n cap r old st b p r' dims t h was same same_rank =
     let base : WantsPort (old r) b r = record {
@@ -94,7 +94,7 @@ together_port n cap r old st b p r' dims t h was same same_rank =
     subst (λ x. WantsPort x p r') (sym was) (subst (λ y. WantsPort (old r) y r') (sym same) (subst (λ q. WantsPort (old r) b q) (sym same_rank) base))
 
 -- what a poll leaves of a rank and its port
-pub record Polls (cap : ℕ) (st st' : State) (p p' : Bank) (q q' : ℕ) : Type 0 where
+pub record Polls (cap : ℕ) (st st' : Stack) (p p' : Bank) (q q' : ℕ) : Type 0 where
   pub agrees : AgreesWith st' (starting_at p'.dims q' (sent_of p')) (ending_at p'.dims q' (got_of p'))
   pub standing : IsStack cap st'
   pub self_ranks : st'.ranks ≡ st.ranks
@@ -106,7 +106,7 @@ pub record Polls (cap : ℕ) (st st' : State) (p p' : Bank) (q q' : ℕ) : Type 
   pub lawful : IsBank cap p'
 
 -- one rank polls over its port of the bank
-pub together_poll : (n cap r : ℕ) (old new : ℕ → State) (st st' : State) (b p p' b' : Bank) (q q' : ℕ) → StaysTogether → b.dims ≡ n ∷ []
+pub together_poll : (n cap r : ℕ) (old new : ℕ → Stack) (st st' : Stack) (b p p' b' : Bank) (q q' : ℕ) → StaysTogether → b.dims ≡ n ∷ []
     → AgreeTogether n cap b.slots old (sent_of b) (got_of b) → r < n → Changes r old new st st'
     → p ≡ b → q ≡ r → Polls cap st st' p p' q q' → b' ≡ p'
     → (b'.dims ≡ b.dims) × AgreeTogether n cap b'.slots new (sent_of b') (got_of b')
@@ -131,14 +131,14 @@ together_poll n cap r old new st st' b p p' b' q q' law dims t h c same same_ran
       sent_elsewhere = apart;
       got_elsewhere = apart';
       links_keep = keep;
-      same_ranks = ap (λ (x : State). x.ranks) c.now ∙ (a.self_ranks ∙ (ap (λ (x : State). x.ranks) c.was ∙ t.same_ranks r h));
-      same_rank = ap (λ (x : State). x.rank) c.now ∙ (a.self_rank ∙ (ap (λ (x : State). x.rank) c.was ∙ t.same_rank r h));
+      same_ranks = ap (λ (x : Stack). x.ranks) c.now ∙ (a.self_ranks ∙ (ap (λ (x : Stack). x.ranks) c.was ∙ t.same_ranks r h));
+      same_rank = ap (λ (x : Stack). x.rank) c.now ∙ (a.self_rank ∙ (ap (λ (x : Stack). x.rank) c.was ∙ t.same_rank r h));
       standing = subst (IsStack cap) (sym c.now) a.standing;
       agrees = subst (λ x. AgreesWith x (starting_at (n ∷ []) r (sent_of p')) (ending_at (n ∷ []) r (got_of p'))) (sym c.now) agrees;
     }) in
     subst (λ (y : Bank). (y.dims ≡ b.dims) × AgreeTogether n cap y.slots new (sent_of y) (got_of y)) (sym same') (same_dims, subst (λ m. AgreeTogether n cap m new (sent_of p') (got_of p')) (sym slots) done)
 
 -- over a bank on which nothing was done
-pub together_start : (dims : List ℕ) (cap slots n : ℕ) (b : Bank) (all : ℕ → State) → b ≡ empty_bank dims slots → n ≡ ranks dims
+pub together_start : (dims : List ℕ) (cap slots n : ℕ) (b : Bank) (all : ℕ → Stack) → b ≡ empty_bank dims slots → n ≡ ranks dims
     → AgreeTogether (ranks dims) cap slots all (sent_of (empty_bank dims slots)) (got_of (empty_bank dims slots)) → AgreeTogether n cap b.slots all (sent_of b) (got_of b)
 together_start dims cap slots n b all is count t = subst (λ (x : Bank). AgreeTogether n cap x.slots all (sent_of x) (got_of x)) (sym is) (subst (λ m. AgreeTogether m cap slots all (sent_of (empty_bank dims slots)) (got_of (empty_bank dims slots))) (sym count) t)

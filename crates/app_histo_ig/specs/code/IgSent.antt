@@ -1,5 +1,5 @@
 -- What a rank of ig sends in its round, read from the entries and the replies that it keeps.
-use Rattle.std.specs.Prelude.{ℕ, ◌%◌, ◌==◌, nat_lt, List, [], map, cond}
+use Rattle.std.specs.Prelude.{ℕ, ◌%◌, ◌==◌, nat_lt, List, [], map, if◌then◌else◌}
 use Rattle.bale_types.specs.declared.Item.{Item}
 use Rattle.bale_types.specs.Bits.{twos_complement}
 use Rattle.sparse_rows.specs.Owners.{Numbered}
@@ -20,11 +20,13 @@ to_add ranks o = (o.column % ranks, record { a = o.column; b = o.value; c = 0 })
 
 -- round 0: values, and round 1: queries
 abbrev pub sent_of_own : ℕ → ℕ → List Own → List (ℕ × Item)
-sent_of_own round ranks own = cond (round == 0) (map (to_add ranks) own) (map (to_ask ranks) (map number_and_column own))
+sent_of_own round ranks own =
+    if round == 0 then map (to_add ranks) own else map (to_ask ranks) (map number_and_column own)
 
 -- and in round 2 the replies
 abbrev pub sent_of : ℕ → ℕ → List Own → List (ℕ × Item) → List (ℕ × Item)
-sent_of round ranks own replies = cond (nat_lt round 2) (sent_of_own round ranks own) (cond (round == 2) replies [])
+sent_of round ranks own replies =
+    if nat_lt round 2 then sent_of_own round ranks own else if round == 2 then replies else []
 
 -- where ranks ask and answer at once: the question for its column, to the column's owner
 abbrev pub question_of : ℕ → Own → ℕ × ℕ

@@ -18,11 +18,17 @@ ig_talk_laws =
       asks = λ s v. v.asks;
       answers = λ s from question v low word. word_at s.sums (question / s.ranks) v.words;
       keeps = λ s i reply v low word. record {
-        valid = record { some = v.some; asks = v.asks; words = v.words; places = length-set s.answers i reply ∙ v.places };
+        valid = record {
+          some = v.some;
+          asks = v.asks;
+          words = v.words;
+          places = length-set s.answers i reply ∙ v.places;
+        };
         rank = refl;
         ranks = refl;
         queries = refl;
         answer = λ from question. refl;
       };
-      commutes = λ s i j a b v apart low low' word word'. ap (λ xs. record s { answers = xs }) (set_comm s.answers i j a b apart);
+      commutes = λ s i j a b v apart low low' word word'. ap (λ xs. record s { answers = xs })
+          (set_comm s.answers i j a b apart);
     }

@@ -1,5 +1,6 @@
 -- The laws of the sums of columns.
-use Rattle.std.proofs.Common.{ℕ, ◌/◌, ◌^◌, ◌<◌, ◌≡◌, true, List, [], ◌∷◌, cond, length, All, arith, refl, sym, ap, ◌∙◌, subst, inl, inr, lit<}
+use Rattle.std.proofs.Common.{ℕ, ◌/◌, ◌^◌, ◌<◌, ◌≡◌, true, List, [], ◌∷◌, cond, length, All, arith, refl, sym, ap, ◌∙◌}
+use Rattle.std.proofs.Common.{subst, inl, inr, lit<}
 use Rattle.std.proofs.lemmas.Bool.{cases_eq, eq-eqb, ne_eqb}
 use Rattle.std.proofs.lemmas.Bool.Decides.{nat_tests}
 use Rattle.std.proofs.lemmas.List.Elements.{All-nil}
@@ -13,19 +14,23 @@ use Rattle.app_histo_ig.specs.laws.HistoLaws.{count_within}
 use Rattle.app_histo_ig.specs.laws.IgLaws.{sums_words}
 use Rattle.app_histo_ig.specs.Sums.{SumsState, IsSums, sums_rules}
 
-emits : (s : SumsState) → IsSums s → All (λ e. may_count (s.cols ∷ []) s.ranks s.round e.0 s.rank e.1 ≡ true) (sums_rules.emissions s)
+emits : (s : SumsState) → IsSums s
+    → All (λ e. may_count (s.cols ∷ []) s.ranks s.round e.0 s.rank e.1 ≡ true) (sums_rules.emissions s)
 emits s v =
     elim (cases_eq s.round 0) [
       | inl z ↦
-          subst (λ b. All (λ e. may_count (s.cols ∷ []) s.ranks s.round e.0 s.rank e.1 ≡ true) (cond b s.values [])) (sym (eq-eqb s.round 0 z))
+          subst (λ b. All (λ e. may_count (s.cols ∷ []) s.ranks s.round e.0 s.rank e.1 ≡ true)
+          (if b then s.values else [])) (sym (eq-eqb s.round 0 z))
           (subst (λ n. All (λ e. may_count (s.cols ∷ []) s.ranks n e.0 s.rank e.1 ≡ true) s.values) (sym z) v.fit)
       | inr n ↦
-          subst (λ b. All (λ e. may_count (s.cols ∷ []) s.ranks s.round e.0 s.rank e.1 ≡ true) (cond b s.values [])) (sym (ne_eqb s.round 0 n))
+          subst (λ b. All (λ e. may_count (s.cols ∷ []) s.ranks s.round e.0 s.rank e.1 ≡ true)
+          (if b then s.values else [])) (sym (ne_eqb s.round 0 n))
           (All-nil (λ e. may_count (s.cols ∷ []) s.ranks s.round e.0 s.rank e.1 ≡ true))
     ]
 
 -- sums that rose are sums
-pub risen_valid : (s : SumsState) (x : Item) (sums : List ℕ) → IsSums s → sums ≡ risen s.ranks s.sums x → IsSums (record s { sums = sums })
+pub risen_valid : (s : SumsState) (x : Item) (sums : List ℕ) → IsSums s → sums ≡ risen s.ranks s.sums x
+    → IsSums (record s { sums = sums })
 risen_valid s x sums v is =
     record {
       own = v.own;
@@ -71,7 +76,14 @@ sums_laws =
       commutes = λ s f g x y v d e h. ap (λ c. record s { sums = c }) (risen_comm s.ranks s.sums x y);
       keeps = λ s f x v e. keeps s f x v;
       vote_below = λ s v. lit< tt;
-      next = λ s votes v l. record { valid = record { own = v.own; wide = v.wide; fit = v.fit; words = v.words; places = v.places }; rank = refl; ranks = refl; round = refl; shape = refl; most = refl };
+      next = λ s votes v l. record {
+        valid = record { own = v.own; wide = v.wide; fit = v.fit; words = v.words; places = v.places };
+        rank = refl;
+        ranks = refl;
+        round = refl;
+        shape = refl;
+        most = refl;
+      };
       within = count_within;
       most_below = λ s v. lit< tt;
     }

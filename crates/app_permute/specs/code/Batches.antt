@@ -1,5 +1,5 @@
 -- What a batch of cells, each with its sender, makes of the cells of a rank.
-use Rattle.std.specs.Prelude.{ℕ, cond, List}
+use Rattle.std.specs.Prelude.{ℕ, List, if◌then◌else◌}
 use Rattle.std.specs.List.{fold}
 use Rattle.bale_types.specs.declared.Item.{Item}
 use Rattle.bale_types.specs.declared.triple.Triple.{Triple}
@@ -9,7 +9,8 @@ use Rattle.app_permute.specs.Carried.{cell_of, may_cell}
 
 -- One cell is taken in where the rank owns its row, and else dropped.
 abbrev pub own_raised : RowOwner → List Triple → ℕ → Item → List Triple
-own_raised owner cells from x = cond (may_cell owner.rows owner.cols owner.ranks owner.rank from x) (raised (cell_of x) cells) cells
+own_raised owner cells from x =
+    if may_cell owner.rows owner.cols owner.ranks owner.rank from x then raised (cell_of x) cells else cells
 
 -- All of them, in order.
 -- all_raised of rank 1 of 2: of (0,(3,0,7)), (0,(2,0,9)) the first alone

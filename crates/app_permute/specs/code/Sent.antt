@@ -1,5 +1,5 @@
 -- What a rank sends in its round, read from the cells that it keeps for it.
-use Rattle.std.specs.Prelude.{ℕ, ◌%◌, ◌==◌, List, map, cond}
+use Rattle.std.specs.Prelude.{ℕ, ◌%◌, ◌==◌, List, map, if◌then◌else◌}
 use Rattle.bale_types.specs.declared.Item.{Item}
 use Rattle.bale_types.specs.declared.triple.Triple.{Triple}
 use Rattle.app_permute.specs.Carried.{cell_item}
@@ -7,7 +7,7 @@ use Rattle.app_permute.specs.Permutes.{new_number}
 
 -- a cell goes to the owner of its column in round 1 of permute, and else to that of its row
 abbrev pub to_owner : ℕ → ℕ → Triple → ℕ × Item
-to_owner round ranks t = (cond (round == 1) t.j t.i % ranks, cell_item t)
+to_owner round ranks t = ((if round == 1 then t.j else t.i) % ranks, cell_item t)
 
 abbrev pub sent_of : ℕ → ℕ → List Triple → List (ℕ × Item)
 sent_of round ranks cells = map (to_owner round ranks) cells

@@ -35,30 +35,37 @@ no_tie false e f = absurd (cc)
 pub at_less : (l : List ℕ) (e : Entry) (es : List Entry) → by_bytes l e.0 ≡ Less → counted l (e ∷ es) ≡ (l, 1) ∷ e ∷ es
 at_less l e es h = ap (λ o. counted_by o l e es (counted l es)) h
 
-pub at_equal : (l : List ℕ) (e : Entry) (es : List Entry) → by_bytes l e.0 ≡ Equal → counted l (e ∷ es) ≡ (e.0, e.1 + 1) ∷ es
+pub at_equal : (l : List ℕ) (e : Entry) (es : List Entry) → by_bytes l e.0 ≡ Equal
+    → counted l (e ∷ es) ≡ (e.0, e.1 + 1) ∷ es
 at_equal l e es h = ap (λ o. counted_by o l e es (counted l es)) h
 
-pub at_greater : (l : List ℕ) (e : Entry) (es : List Entry) → by_bytes l e.0 ≡ Greater → counted l (e ∷ es) ≡ e ∷ counted l es
+pub at_greater : (l : List ℕ) (e : Entry) (es : List Entry) → by_bytes l e.0 ≡ Greater
+    → counted l (e ∷ es) ≡ e ∷ counted l es
 at_greater l e es h = ap (λ o. counted_by o l e es (counted l es)) h
 
 -- two lines, the first of which is the lesser
-less_comm : (l m : List ℕ) (e : Entry) (es : List Entry) → by_bytes l m ≡ Less → counted l (counted m es) ≡ counted m (counted l es) → counted l (counted m (e ∷ es)) ≡ counted m (counted l (e ∷ es))
+less_comm : (l m : List ℕ) (e : Entry) (es : List Entry) → by_bytes l m ≡ Less
+    → counted l (counted m es) ≡ counted m (counted l es)
+    → counted l (counted m (e ∷ es)) ≡ counted m (counted l (e ∷ es))
 less_comm l m e es lm rest =
     let ml : by_bytes m l ≡ Greater = turned l m Less lm in
     elim (which (by_bytes m e.0)) [
       | inl b ↦
           let a : by_bytes l e.0 ≡ Less = order.trans l m e.0 lm b in
           ap (counted l) (at_less m e es b) ∙ at_less l (m, 1) (e ∷ es) lm
-          ∙ sym (ap (counted m) (at_less l e es a) ∙ at_greater m (l, 1) (e ∷ es) ml ∙ ap (λ w. (l, 1) ∷ w) (at_less m e es b))
+          ∙ sym (ap (counted m) (at_less l e es a) ∙ at_greater m (l, 1) (e ∷ es) ml ∙ ap (λ w. (l, 1) ∷ w)
+          (at_less m e es b))
       | inr (inl b) ↦
           let a : by_bytes l e.0 ≡ Less = ap (by_bytes l) (sym (one_line m e.0 b)) ∙ lm in
           ap (counted l) (at_equal m e es b) ∙ at_less l (e.0, e.1 + 1) es a
-          ∙ sym (ap (counted m) (at_less l e es a) ∙ at_greater m (l, 1) (e ∷ es) ml ∙ ap (λ w. (l, 1) ∷ w) (at_equal m e es b))
+          ∙ sym (ap (counted m) (at_less l e es a) ∙ at_greater m (l, 1) (e ∷ es) ml ∙ ap (λ w. (l, 1) ∷ w)
+          (at_equal m e es b))
       | inr (inr b) ↦
           elim (which (by_bytes l e.0)) [
             | inl a ↦
                 ap (counted l) (at_greater m e es b) ∙ at_less l e (counted m es) a
-                ∙ sym (ap (counted m) (at_less l e es a) ∙ at_greater m (l, 1) (e ∷ es) ml ∙ ap (λ w. (l, 1) ∷ w) (at_greater m e es b))
+                ∙ sym (ap (counted m) (at_less l e es a) ∙ at_greater m (l, 1) (e ∷ es) ml ∙ ap (λ w. (l, 1) ∷ w)
+                (at_greater m e es b))
             | inr (inl a) ↦
                 ap (counted l) (at_greater m e es b) ∙ at_equal l e (counted m es) a
                 ∙ sym (ap (counted m) (at_equal l e es a) ∙ at_greater m (e.0, e.1 + 1) es b)
@@ -73,12 +80,14 @@ pub counted_comm : (l m : List ℕ) (es : List Entry) → counted l (counted m e
 counted_comm l m [] =
     elim (which (by_bytes l m)) [
       | inl e ↦ at_less l (m, 1) [] e ∙ sym (at_greater m (l, 1) [] (turned l m Less e))
-      | inr (inl e) ↦ ap (λ w. counted w (counted m [])) (one_line l m e) ∙ ap (λ w. counted m (counted w [])) (sym (one_line l m e))
+      | inr (inl e) ↦ ap (λ w. counted w (counted m [])) (one_line l m e) ∙ ap (λ w. counted m (counted w []))
+          (sym (one_line l m e))
       | inr (inr e) ↦ at_greater l (m, 1) [] e ∙ sym (at_less m (l, 1) [] (turned l m Greater e))
     ]
 counted_comm l m (e ∷ es) =
     elim (which (by_bytes l m)) [
       | inl lm ↦ less_comm l m e es lm (counted_comm l m es)
-      | inr (inl lm) ↦ ap (λ w. counted w (counted m (e ∷ es))) (one_line l m lm) ∙ ap (λ w. counted m (counted w (e ∷ es))) (sym (one_line l m lm))
+      | inr (inl lm) ↦ ap (λ w. counted w (counted m (e ∷ es))) (one_line l m lm) ∙ ap
+          (λ w. counted m (counted w (e ∷ es))) (sym (one_line l m lm))
       | inr (inr lm) ↦ sym (less_comm m l e es (turned l m Greater lm) (counted_comm m l es))
     ]

@@ -9,7 +9,8 @@ use Rattle.app_tally.specs.laws.CountOrder.{counted_comm}
 use Rattle.app_tally.specs.Tallies.{TallyState, IsTallying, tally_rules, counter_of}
 
 -- lines go to ranks
-goes : (s : TallyState) → IsTallying s → All (λ (e : ℕ × List ℕ). (e.0 < s.ranks) × IsLetter e.1) (map (λ l. (counter_of s.ranks l, l)) s.own)
+goes : (s : TallyState) → IsTallying s
+    → All (λ (e : ℕ × List ℕ). (e.0 < s.ranks) × IsLetter e.1) (map (λ l. (counter_of s.ranks l, l)) s.own)
 goes s v =
     let low : s.rank < s.ranks = v.rank in
     All-map (λ (e : ℕ × List ℕ). (e.0 < s.ranks) × IsLetter e.1) (λ l. (counter_of s.ranks l, l)) s.own
@@ -21,8 +22,23 @@ tally_laws =
       own = λ s v. v.rank;
       emits = goes;
       commutes = λ s f g l m v d lf lg il im. ap (λ c. record s { came = c }) (counted_comm m l s.came);
-      keeps = λ s f l v low is. record { valid = record { rank = v.rank; lines = v.lines }; rank = refl; ranks = refl; round = refl; shape = refl; most = refl; letters = refl };
+      keeps = λ s f l v low is. record {
+        valid = record { rank = v.rank; lines = v.lines };
+        rank = refl;
+        ranks = refl;
+        round = refl;
+        shape = refl;
+        most = refl;
+        letters = refl;
+      };
       vote_below = λ s v. lit< tt;
-      next = λ s votes v low. record { valid = record { rank = v.rank; lines = All-nil IsLetter }; rank = refl; ranks = refl; round = refl; shape = refl; most = refl };
+      next = λ s votes v low. record {
+        valid = record { rank = v.rank; lines = All-nil IsLetter };
+        rank = refl;
+        ranks = refl;
+        round = refl;
+        shape = refl;
+        most = refl;
+      };
       most_below = λ s v. lit< tt;
     }

@@ -11,7 +11,8 @@ pub record IsSeat (seat : Seat) (s : TopoState) : Type 0 where
   pub round : seat.round ≡ s.round
 
 -- an item is taken in from a seat: the state becomes the one that is made, and what is sent and the seat stay
-pub record TakesIn {T E : Type 0} (made : TopoState) (seat : Seat) (old new : TopoState) (result : Result T E) : Type 0 where
+pub record TakesIn {T E : Type 0} (made : TopoState) (seat : Seat) (old new : TopoState)
+    (result : Result T E) : Type 0 where
   pub ok : OnOk result (new ≡ made)
   pub sent : new.outgoing ≡ old.outgoing
   pub seated : IsSeat seat new

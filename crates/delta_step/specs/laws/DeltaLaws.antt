@@ -1,6 +1,8 @@
 -- The laws of delta-stepping.
-use Rattle.std.proofs.Common.{ℕ, ◌+◌, ◌-◌, ◌*◌, ◌/◌, ◌%◌, ◌^◌, ◌<◌, ◌≤◌, ◌≡◌, ◌≢◌, ◌==◌, ◌&&◌, min, Bool, true, false, List, [], ◌∷◌, ◌++◌, Option, Some, None, map, cond, length, get_or, All, arith, refl, sym, ap, ◌∙◌, subst, inl, inr, lit<}
-use Rattle.std.specs.Prelude.{nat_lt}
+use Rattle.std.proofs.Common.{ℕ, ◌+◌, ◌-◌, ◌*◌, ◌/◌, ◌%◌, ◌^◌, ◌<◌, ◌≤◌, ◌≡◌, ◌≢◌, ◌==◌, ◌&&◌, min, Bool, true, false}
+use Rattle.std.proofs.Common.{List, [], ◌∷◌, ◌++◌, Option, Some, None, map, cond, length, get_or, All, arith, refl, sym}
+use Rattle.std.proofs.Common.{ap, ◌∙◌, subst, inl, inr, lit<}
+use Rattle.std.specs.Prelude.{nat_lt, if◌then◌else◌}
 use Rattle.std.specs.List.{list_any, range_with_len}
 use Rattle.std.proofs.Math.Nat.{div-le_self, mul-le-mul}
 use Rattle.std.proofs.lemmas.Bool.{cases_lt}
@@ -24,32 +26,46 @@ use Rattle.app_sssp.specs.Sssps.{IsEdge, IsInside, edge_came}
 use Rattle.app_sssp.specs.laws.SsspLaws.{improved_comm, improved_len, greater_inside, table_edges}
 use Rattle.delta_step.specs.declared.phase.Phase.{Phase}
 use Rattle.delta_step.specs.declared.phase.Phase.TheVariants.{First, Find, Light, Heavy}
-use Rattle.delta_step.specs.Deltas.{DeltaState, IsDelta, delta_rules, may_delta, bucket_of, announced, ascending, offered, absorbed_in, vote_in, finding, sorted_out, activated, finished, ended_in}
+use Rattle.delta_step.specs.Deltas.{DeltaState, IsDelta, delta_rules, may_delta, bucket_of, announced, ascending}
+use Rattle.delta_step.specs.Deltas.{offered, absorbed_in, vote_in, finding, sorted_out, activated, finished, ended_in}
 
-delta_within : (shape : List ℕ) (ranks round to from : ℕ) (x : Item) → may_delta shape ranks round to from x ≡ true → (to < ranks) × (from < ranks) × IsItem x
+delta_within : (shape : List ℕ) (ranks round to from : ℕ) (x : Item) → may_delta shape ranks round to from x ≡ true
+    → (to < ranks) × (from < ranks) × IsItem x
 delta_within [] ranks round to from x h = absurd (cc)
-delta_within (rows ∷ []) ranks round to from x h = (grind (arith, nat_tests), grind (arith, nat_tests), grind (arith, nat_tests))
+delta_within (rows ∷ []) ranks round to from x h =
+    (grind (arith, nat_tests), grind (arith, nat_tests), grind (arith, nat_tests))
 delta_within (rows ∷ (c ∷ cs)) ranks round to from x h = absurd (cc)
 
 -- what comes in round 0 is an edge inside the matrix
-pub came_inside : (rows ranks round to from : ℕ) (x : Item) → may_delta (rows ∷ []) ranks round to from x ≡ true → round ≡ 0 → IsInside rows (edge_came x)
+pub came_inside : (rows ranks round to from : ℕ) (x : Item) → may_delta (rows ∷ []) ranks round to from x ≡ true
+    → round ≡ 0 → IsInside rows (edge_came x)
 came_inside rows ranks round to from x h z = record { row = grind (arith, nat_tests); col = grind (arith, nat_tests) }
 
 -- ---- Absorbs commute
 
-pub offered_comm : (s : DeltaState) (x y : Item) → offered (record s { vertices = offered s x }) y ≡ offered (record s { vertices = offered s y }) x
+pub offered_comm : (s : DeltaState) (x y : Item)
+    → offered (record s { vertices = offered s x }) y ≡ offered (record s { vertices = offered s y }) x
 offered_comm s x y = both (nat_lt x.a s.rows && x.a % s.ranks == s.rank) (nat_lt y.a s.rows && y.a % s.ranks == s.rank)
   where
-    both : (a b : Bool) → cond b (improved_at (y.a / s.ranks) y.b (cond a (improved_at (x.a / s.ranks) x.b s.vertices) s.vertices)) (cond a (improved_at (x.a / s.ranks) x.b s.vertices) s.vertices)
-        ≡ cond a (improved_at (x.a / s.ranks) x.b (cond b (improved_at (y.a / s.ranks) y.b s.vertices) s.vertices)) (cond b (improved_at (y.a / s.ranks) y.b s.vertices) s.vertices)
+    both : (a b : Bool)
+        → if b then improved_at (y.a / s.ranks) y.b
+        (if a then improved_at (x.a / s.ranks) x.b s.vertices else s.vertices)
+        else if a then improved_at (x.a / s.ranks) x.b s.vertices else s.vertices
+        ≡ (if a then improved_at (x.a / s.ranks) x.b
+        (if b then improved_at (y.a / s.ranks) y.b s.vertices else s.vertices)
+        else if b then improved_at (y.a / s.ranks) y.b s.vertices else s.vertices)
     both true true = improved_comm (y.a / s.ranks) (x.a / s.ranks) y.b x.b s.vertices
     both true false = refl
     both false true = refl
     both false false = refl
 
-commutes_in : (p : Phase) (s : DeltaState) (x y : Item) → IsDelta s → absorbed_in p (absorbed_in p s x) y ≡ absorbed_in p (absorbed_in p s y) x
-commutes_in First s x y v = ap (λ ts. record s { arriving = ts }) (raised_comm (edge_came y) (edge_came x) s.arriving v.ordered)
-commutes_in Find s x y v = ap (λ b. record s { bucket = b }) (let e : min (min s.bucket x.a) y.a ≡ min (min s.bucket y.a) x.a = omega arith in e)
+commutes_in : (p : Phase) (s : DeltaState) (x y : Item) → IsDelta s
+    → absorbed_in p (absorbed_in p s x) y ≡ absorbed_in p (absorbed_in p s y) x
+commutes_in First s x y v =
+    ap (λ ts. record s { arriving = ts }) (raised_comm (edge_came y) (edge_came x) s.arriving v.ordered)
+commutes_in Find s x y v =
+    ap (λ b. record s { bucket = b })
+    (let e : min (min s.bucket x.a) y.a ≡ min (min s.bucket y.a) x.a = omega arith in e)
 commutes_in Light s x y v = ap (λ vs. record s { vertices = vs }) (offered_comm s x y)
 commutes_in Heavy s x y v = ap (λ vs. record s { vertices = vs }) (offered_comm s x y)
 
@@ -59,7 +75,8 @@ phase_stays Find s x = refl
 phase_stays Light s x = refl
 phase_stays Heavy s x = refl
 
-commutes : (s : DeltaState) (f g : ℕ) (x y : Item) → IsDelta s → delta_rules.absorbed (delta_rules.absorbed s f x) g y ≡ delta_rules.absorbed (delta_rules.absorbed s g y) f x
+commutes : (s : DeltaState) (f g : ℕ) (x y : Item) → IsDelta s
+    → delta_rules.absorbed (delta_rules.absorbed s f x) g y ≡ delta_rules.absorbed (delta_rules.absorbed s g y) f x
 commutes s f g x y v =
     ap (λ p. absorbed_in p (absorbed_in s.phase s x) y) (phase_stays s.phase s x)
     ∙ commutes_in s.phase s x y v
@@ -70,12 +87,14 @@ commutes s f g x y v =
 pub offered_len : (s : DeltaState) (x : Item) → length (offered s x) ≡ length s.vertices
 offered_len s x = either (nat_lt x.a s.rows && x.a % s.ranks == s.rank)
   where
-    either : (b : Bool) → length (cond b (improved_at (x.a / s.ranks) x.b s.vertices) s.vertices) ≡ length s.vertices
+    either : (b : Bool)
+        → length (if b then improved_at (x.a / s.ranks) x.b s.vertices else s.vertices) ≡ length s.vertices
     either true = improved_len (x.a / s.ranks) x.b s.vertices
     either false = refl
 
 -- vertices of the same number
-pub vertices_valid : (s : DeltaState) (vs : List Vertex) → IsDelta s → length vs ≡ length s.vertices → IsDelta (record s { vertices = vs })
+pub vertices_valid : (s : DeltaState) (vs : List Vertex) → IsDelta s → length vs ≡ length s.vertices
+    → IsDelta (record s { vertices = vs })
 vertices_valid s vs v e =
     record {
       own = v.own;
@@ -113,7 +132,8 @@ bucket_valid s b v =
       fit = v.fit;
     }
 
-pub arriving_valid : (s : DeltaState) (ts : List Triple) → IsDelta s → All (IsInside s.rows) ts → InOrder ts → IsDelta (record s { arriving = ts })
+pub arriving_valid : (s : DeltaState) (ts : List Triple) → IsDelta s → All (IsInside s.rows) ts → InOrder ts
+    → IsDelta (record s { arriving = ts })
 arriving_valid s ts v a o =
     record {
       own = v.own;
@@ -132,36 +152,78 @@ arriving_valid s ts v a o =
       fit = v.fit;
     }
 
-absorbed_valid : (p : Phase) (s : DeltaState) (f : ℕ) (x : Item) → s.phase ≡ p → IsDelta s → Fits delta_rules s f x → IsDelta (absorbed_in p s x)
+absorbed_valid : (p : Phase) (s : DeltaState) (f : ℕ) (x : Item) → s.phase ≡ p → IsDelta s → Fits delta_rules s f x
+    → IsDelta (absorbed_in p s x)
 absorbed_valid First s f x e v h =
     arriving_valid s (raised (edge_came x) s.arriving) v
-    (raised_keeps (IsInside s.rows) (greater_inside s.rows) (edge_came x) s.arriving (came_inside s.rows s.ranks s.round s.rank f x h (v.early e)) v.arrived)
+    (raised_keeps (IsInside s.rows) (greater_inside s.rows) (edge_came x) s.arriving
+    (came_inside s.rows s.ranks s.round s.rank f x h (v.early e)) v.arrived)
     (raised_ordered (edge_came x) s.arriving v.ordered)
 absorbed_valid Find s f x e v h = bucket_valid s (min s.bucket x.a) v
 absorbed_valid Light s f x e v h = vertices_valid s (offered s x) v (offered_len s x)
 absorbed_valid Heavy s f x e v h = vertices_valid s (offered s x) v (offered_len s x)
 
-keeps_in : (p : Phase) (s : DeltaState) (f : ℕ) (x : Item) → s.phase ≡ p → IsDelta s → Fits delta_rules s f x → SameRound delta_rules s (absorbed_in p s x)
-keeps_in First s f x e v h = record { valid = absorbed_valid First s f x e v h; rank = refl; ranks = refl; round = refl; shape = refl; most = refl; emissions = refl }
-keeps_in Find s f x e v h = record { valid = absorbed_valid Find s f x e v h; rank = refl; ranks = refl; round = refl; shape = refl; most = refl; emissions = refl }
-keeps_in Light s f x e v h = record { valid = absorbed_valid Light s f x e v h; rank = refl; ranks = refl; round = refl; shape = refl; most = refl; emissions = refl }
-keeps_in Heavy s f x e v h = record { valid = absorbed_valid Heavy s f x e v h; rank = refl; ranks = refl; round = refl; shape = refl; most = refl; emissions = refl }
+keeps_in : (p : Phase) (s : DeltaState) (f : ℕ) (x : Item) → s.phase ≡ p → IsDelta s → Fits delta_rules s f x
+    → SameRound delta_rules s (absorbed_in p s x)
+keeps_in First s f x e v h =
+    record {
+      valid = absorbed_valid First s f x e v h;
+      rank = refl;
+      ranks = refl;
+      round = refl;
+      shape = refl;
+      most = refl;
+      emissions = refl;
+    }
+keeps_in Find s f x e v h =
+    record {
+      valid = absorbed_valid Find s f x e v h;
+      rank = refl;
+      ranks = refl;
+      round = refl;
+      shape = refl;
+      most = refl;
+      emissions = refl;
+    }
+keeps_in Light s f x e v h =
+    record {
+      valid = absorbed_valid Light s f x e v h;
+      rank = refl;
+      ranks = refl;
+      round = refl;
+      shape = refl;
+      most = refl;
+      emissions = refl;
+    }
+keeps_in Heavy s f x e v h =
+    record {
+      valid = absorbed_valid Heavy s f x e v h;
+      rank = refl;
+      ranks = refl;
+      round = refl;
+      shape = refl;
+      most = refl;
+      emissions = refl;
+    }
 
 -- ---- The end of a round
 
 abbrev Sent : ℕ → ℕ → ℕ → ℕ → ℕ × Item → Type 0
 Sent rows ranks round rank e = may_delta (rows ∷ []) ranks round e.0 rank e.1 ≡ true
 
-offer_fits : (rows ranks round rank m : ℕ) (e : Edge) → rank < ranks → rows ≤ 16384 → 0 < round → IsEdge ranks rows e → Sent rows ranks round rank (offer m e)
+offer_fits : (rows ranks round rank m : ℕ) (e : Edge) → rank < ranks → rows ≤ 16384 → 0 < round → IsEdge ranks rows e
+    → Sent rows ranks round rank (offer m e)
 offer_fits rows ranks round rank m e own wide late is =
     let inside : e.to < rows = is.inside in
     let owned : e.owner ≡ e.to % ranks = is.owned in
     grind (arith, nat_tests)
 
-offers_from_fit : (rows ranks round rank : ℕ) (o : Option ℕ) (es : List Edge) → rank < ranks → rows ≤ 16384 → 0 < round → All (IsEdge ranks rows) es → All (Sent rows ranks round rank) (offers_from o es)
+offers_from_fit : (rows ranks round rank : ℕ) (o : Option ℕ) (es : List Edge) → rank < ranks → rows ≤ 16384 → 0 < round
+    → All (IsEdge ranks rows) es → All (Sent rows ranks round rank) (offers_from o es)
 offers_from_fit rows ranks round rank None es own wide late h = All-nil (Sent rows ranks round rank)
 offers_from_fit rows ranks round rank (Some m) es own wide late h =
-    All-map (Sent rows ranks round rank) (offer m) es (λ k d l. offer_fits rows ranks round rank m (get_or es k d) own wide late (h k d l))
+    All-map (Sent rows ranks round rank) (offer m) es
+    (λ k d l. offer_fits rows ranks round rank m (get_or es k d) own wide late (h k d l))
 
 row_at : (P : Edge → Type 0) (table : List (List Edge)) (p : ℕ) → All (All P) table → All P (get_or table p [])
 row_at P table p h = elim (cases_lt p (length table)) [
@@ -169,19 +231,22 @@ row_at P table p h = elim (cases_lt p (length table)) [
   | inr past ↦ subst (All P) (sym (get_or_past table p [] past)) (All-nil P)
 ]
 
-pub offers_fit : (rows ranks round rank : ℕ) (table : List (List Edge)) (vs : List Vertex) (places : List ℕ) → rank < ranks → rows ≤ 16384 → 0 < round → All (All (IsEdge ranks rows)) table
+pub offers_fit : (rows ranks round rank : ℕ) (table : List (List Edge)) (vs : List Vertex) (places : List ℕ)
+    → rank < ranks → rows ≤ 16384 → 0 < round → All (All (IsEdge ranks rows)) table
     → All (Sent rows ranks round rank) (offers table vs places)
 offers_fit rows ranks round rank table vs [] own wide late h = All-nil (Sent rows ranks round rank)
 offers_fit rows ranks round rank table vs (p ∷ ps) own wide late h =
     All-append (Sent rows ranks round rank) (offers_at table vs p) (offers table vs ps)
-    (offers_from_fit rows ranks round rank (get_or vs p unreached).weight (get_or table p []) own wide late (row_at (IsEdge ranks rows) table p h))
+    (offers_from_fit rows ranks round rank (get_or vs p unreached).weight (get_or table p []) own wide late
+    (row_at (IsEdge ranks rows) table p h))
     (offers_fit rows ranks round rank table vs ps own wide late h)
 
 bucket_word : (width : ℕ) (o : Option ℕ) → bucket_of width o < 2 ^ 64
 bucket_word width None = lit< tt
 bucket_word width (Some w) = omega arith
 
-pub announced_fit : (rows ranks round rank bucket : ℕ) → rank < ranks → 0 < round → bucket < 2 ^ 64 → All (Sent rows ranks round rank) (announced ranks bucket)
+pub announced_fit : (rows ranks round rank bucket : ℕ) → rank < ranks → 0 < round → bucket < 2 ^ 64
+    → All (Sent rows ranks round rank) (announced ranks bucket)
 announced_fit rows ranks round rank bucket own late low =
     All-map (Sent rows ranks round rank) (λ d. (d, record { a = bucket; b = 0; c = 0 })) (range_with_len 0 ranks)
     (λ k d l. told (get_or (range_with_len 0 ranks) k d) (rank_low k d l))
@@ -192,7 +257,8 @@ announced_fit rows ranks round rank bucket own late low =
         let e : get_or (range_with_len 0 ranks) k d ≡ 0 + k = get_or-range_with_len 0 ranks k d low_k in
         omega arith
 
-    told : (to : ℕ) → to < ranks → may_delta (rows ∷ []) ranks round to rank (record { a = bucket; b = 0; c = 0 }) ≡ true
+    told : (to : ℕ) → to < ranks
+        → may_delta (rows ∷ []) ranks round to rank (record { a = bucket; b = 0; c = 0 }) ≡ true
     told to l = grind (arith, nat_tests)
 
 pub finding_valid : (s : DeltaState) → IsDelta s → s.phase ≢ First → IsDelta (finding s)
@@ -211,7 +277,9 @@ finding_valid s v d =
       heavy_kept = λ _. v.heavy_kept d;
       places = v.places;
       placed = All-nil (λ p. p < length s.vertices);
-      fit = announced_fit s.rows s.ranks (min (s.round + 1) (2 ^ 64 - 1)) s.rank (bucket_of s.width (least_marked s.vertices)) v.own (omega arith) (bucket_word s.width (least_marked s.vertices));
+      fit = announced_fit s.rows s.ranks (min (s.round + 1) (2 ^ 64 - 1)) s.rank
+          (bucket_of s.width (least_marked s.vertices)) v.own (omega arith)
+          (bucket_word s.width (least_marked s.vertices));
     }
   where
     find_first : Find ≡ First → ⊥
@@ -234,7 +302,9 @@ sorted_valid s v =
       heavy_kept = λ _. table_len s.ranks (length s.vertices) (s.width + 1) (2 ^ 64 - 1) s.arriving;
       places = v.places;
       placed = All-nil (λ p. p < length s.vertices);
-      fit = announced_fit s.rows s.ranks (min (s.round + 1) (2 ^ 64 - 1)) s.rank (bucket_of s.width (least_marked s.vertices)) v.own (omega arith) (bucket_word s.width (least_marked s.vertices));
+      fit = announced_fit s.rows s.ranks (min (s.round + 1) (2 ^ 64 - 1)) s.rank
+          (bucket_of s.width (least_marked s.vertices)) v.own (omega arith)
+          (bucket_word s.width (least_marked s.vertices));
     }
   where
     find_first : Find ≡ First → ⊥
@@ -259,8 +329,10 @@ activated_valid s v d =
       places = len ∙ v.places;
       placed =
           subst (λ n. All (λ p. p < n) (s.settled ++ picked test s.vertices)) (sym len)
-          (All-append (λ p. p < length s.vertices) s.settled (picked test s.vertices) v.placed (picked_below test s.vertices));
-      fit = offers_fit s.rows s.ranks (min (s.round + 1) (2 ^ 64 - 1)) s.rank s.light (map (calm_if test) s.vertices) (picked test s.vertices) v.own v.wide (omega arith) v.light_edges;
+          (All-append (λ p. p < length s.vertices) s.settled (picked test s.vertices) v.placed
+          (picked_below test s.vertices));
+      fit = offers_fit s.rows s.ranks (min (s.round + 1) (2 ^ 64 - 1)) s.rank s.light (map (calm_if test) s.vertices)
+          (picked test s.vertices) v.own v.wide (omega arith) v.light_edges;
     }
   where
     light_first : Light ≡ First → ⊥
@@ -289,13 +361,15 @@ finished_valid s v d =
       heavy_kept = λ _. v.heavy_kept d;
       places = v.places;
       placed = ascending_below (length s.vertices) s.settled;
-      fit = offers_fit s.rows s.ranks (min (s.round + 1) (2 ^ 64 - 1)) s.rank s.heavy s.vertices (ascending (length s.vertices) s.settled) v.own v.wide (omega arith) v.heavy_edges;
+      fit = offers_fit s.rows s.ranks (min (s.round + 1) (2 ^ 64 - 1)) s.rank s.heavy s.vertices
+          (ascending (length s.vertices) s.settled) v.own v.wide (omega arith) v.heavy_edges;
     }
   where
     heavy_first : Heavy ≡ First → ⊥
     heavy_first e = cc
 
-either_valid : (b : Bool) (s : DeltaState) → IsDelta s → s.phase ≢ First → IsDelta (cond b (activated s) (finished s))
+either_valid : (b : Bool) (s : DeltaState) → IsDelta s → s.phase ≢ First
+    → IsDelta (if b then activated s else finished s)
 either_valid true s v d = activated_valid s v d
 either_valid false s v d = finished_valid s v d
 
@@ -326,7 +400,7 @@ ended_next First s votes = record { rank = refl; ranks = refl; round = refl; row
 ended_next Find s votes = record { rank = refl; ranks = refl; round = refl; rows = refl }
 ended_next Light s votes = either (nat_lt s.ranks votes)
   where
-    either : (b : Bool) → Next s (cond b (activated s) (finished s))
+    either : (b : Bool) → Next s (if b then activated s else finished s)
     either true = record { rank = refl; ranks = refl; round = refl; rows = refl }
     either false = record { rank = refl; ranks = refl; round = refl; rows = refl }
 ended_next Heavy s votes = record { rank = refl; ranks = refl; round = refl; rows = refl }
@@ -343,8 +417,13 @@ few_votes p s v = in_phase p
 
     in_phase : (p : Phase) → vote_in p s < 2 ^ 32
     in_phase First = lit< tt
-    in_phase Find = (let count : length (marked s.vertices) ≤ length s.vertices = marked_count 0 s.vertices in let f : length s.vertices ≤ 16385 = few in omega arith)
-    in_phase Light = (let count : length (picked (in_bucket s.width s.bucket) s.vertices) ≤ length s.vertices = picked_count (in_bucket s.width s.bucket) 0 s.vertices in let f : length s.vertices ≤ 16385 = few in omega arith)
+    in_phase Find =
+        (let count : length (marked s.vertices) ≤ length s.vertices =
+        marked_count 0 s.vertices in let f : length s.vertices ≤ 16385 = few in omega arith)
+    in_phase Light =
+        (let count : length (picked (in_bucket s.width s.bucket) s.vertices) ≤ length s.vertices =
+        picked_count (in_bucket s.width s.bucket) 0 s.vertices in let f : length s.vertices ≤ 16385 =
+        few in omega arith)
     in_phase Heavy = lit< tt
 
 pub delta_laws : Laws delta_rules
@@ -355,7 +434,14 @@ delta_laws =
       keeps = λ s f x v e. keeps_in s.phase s f x refl v e;
       vote_below = λ s v. few_votes s.phase s v;
       next = λ s votes v l. (let n : Next s (ended_in s.phase s votes) = ended_next s.phase s votes in
-          record { valid = ended_valid s.phase s votes refl v; rank = n.rank; ranks = n.ranks; round = n.round; shape = ap (λ k. k ∷ []) n.rows; most = ap (λ k. k * (k + 2) + 2) n.rows });
+          record {
+            valid = ended_valid s.phase s votes refl v;
+            rank = n.rank;
+            ranks = n.ranks;
+            round = n.round;
+            shape = ap (λ k. k ∷ []) n.rows;
+            most = ap (λ k. k * (k + 2) + 2) n.rows;
+          });
       within = delta_within;
       most_below = λ s v. most_low s.rows v.wide;
     }

@@ -15,5 +15,7 @@ adder_laws = record {
     queries = refl;
     answer = λ from question. refl;
   };
-  commutes = λ s i j a b v apart low low' word word'. ap (λ xs. record { rank = s.rank; ranks = s.ranks; queries = s.queries; heard = xs }) (set_comm s.heard i j a b apart);
+  commutes = λ s i j a b v apart low low' word word'. ap
+      (λ xs. record { rank = s.rank; ranks = s.ranks; queries = s.queries; heard = xs })
+      (set_comm s.heard i j a b apart);
 }

@@ -1,5 +1,6 @@
 -- A mailer over a lawful letter program is a lawful program.
-use Rattle.std.proofs.Common.{ℕ, zero, suc, ◌/◌, ◌^◌, ◌<◌, ◌≤◌, ◌≡◌, ◌≢◌, Bool, true, false, cond, List, [], ◌∷◌, ◌++◌, map, length, get_or, set, take, drop, All, arith, refl, sym, ap, ◌∙◌, subst, lit<, lit≤}
+use Rattle.std.proofs.Common.{ℕ, zero, suc, ◌/◌, ◌^◌, ◌<◌, ◌≤◌, ◌≡◌, ◌≢◌, Bool, true, false, cond, List, [], ◌∷◌, ◌++◌}
+use Rattle.std.proofs.Common.{map, length, get_or, set, take, drop, All, arith, refl, sym, ap, ◌∙◌, subst, lit<, lit≤}
 use Rattle.std.specs.Int.{w64, to_le_bytes, byte_at, bytes_low_first}
 use Rattle.std.specs.List.{flat_map}
 use Rattle.std.proofs.Math.Nat.{mod-lt}
@@ -9,17 +10,21 @@ use Rattle.std.proofs.lemmas.List.Elements.{All-nil, All-cons, All-append, All-m
 use Rattle.bale_types.specs.declared.Item.{Item}
 use Rattle.list_laws.proofs.Lists.{all_head, all_tail}
 use Rattle.round_program.specs.Laws.{Laws, Fits, IsItem, SameRound, NextRound}
-use Rattle.elastic.specs.Spelling.{IsLetter, pad, word_of, further, first_item, next_item, next_items, spelling, length_in, bytes_in, letter_from}
+use Rattle.elastic.specs.Spelling.{IsLetter, pad, word_of, further, first_item, next_item, next_items, spelling}
+use Rattle.elastic.specs.Spelling.{length_in, bytes_in, letter_from}
 use Rattle.elastic.specs.LetterRules.{LetterRules}
 use Rattle.elastic.specs.LetterLaws.{LetterLaws, SameLetters, NextLetters}
-use Rattle.elastic.specs.Mails.{MailState, IsMail, mailing, mail_rules, spelled, is_whole, letter_of, begun_with, item_absorbed, may_carry}
+use Rattle.elastic.specs.Mails.{MailState, IsMail, mailing, mail_rules, spelled, is_whole, letter_of, begun_with}
+use Rattle.elastic.specs.Mails.{item_absorbed, may_carry}
 
 -- ---- What is spelled are items
 
 pad_bytes : (k : ℕ) (bytes : List ℕ) → All (λ b. b < 256) bytes → All (λ b. b < 256) (pad k bytes)
 pad_bytes zero bytes a = All-nil (λ b. b < 256)
 pad_bytes (suc k) [] a = All-cons (λ b. b < 256) 0 (pad k []) (lit< tt) (pad_bytes k [] a)
-pad_bytes (suc k) (b ∷ bs) a = All-cons (λ b. b < 256) b (pad k bs) (all_head (λ b. b < 256) b bs a) (pad_bytes k bs (all_tail (λ b. b < 256) b bs a))
+pad_bytes (suc k) (b ∷ bs) a =
+    All-cons (λ b. b < 256) b (pad k bs) (all_head (λ b. b < 256) b bs a)
+    (pad_bytes k bs (all_tail (λ b. b < 256) b bs a))
 
 pub pad_len : (k : ℕ) (bytes : List ℕ) → length (pad k bytes) ≡ k
 pad_len zero bytes = refl
@@ -50,8 +55,11 @@ word_below bytes a =
 next_items_are : (k : ℕ) (bytes : List ℕ) → All (λ b. b < 256) bytes → All IsItem (next_items k bytes)
 next_items_are zero bytes a = All-nil IsItem
 next_items_are (suc k) bytes a =
-    All-cons IsItem (next_item bytes) (next_items k (drop 24 bytes))
-    (word_below bytes a, word_below (drop 8 bytes) (All-drop (λ b. b < 256) 8 bytes a), word_below (drop 16 bytes) (All-drop (λ b. b < 256) 16 bytes a))
+    All-cons IsItem (next_item bytes) (next_items k (drop 24 bytes)) (
+      word_below bytes a,
+      word_below (drop 8 bytes) (All-drop (λ b. b < 256) 8 bytes a),
+      word_below (drop 16 bytes) (All-drop (λ b. b < 256) 16 bytes a),
+    )
     (next_items_are k (drop 24 bytes) (All-drop (λ b. b < 256) 24 bytes a))
 
 pub spelling_items : (l : List ℕ) → IsLetter l → All IsItem (spelling l)
@@ -61,7 +69,8 @@ spelling_items l is =
     (omega arith, word_below l is.bytes, word_below (drop 8 l) (All-drop (λ b. b < 256) 8 l is.bytes))
     (next_items_are (further (length l)) (drop 16 l) (All-drop (λ b. b < 256) 16 l is.bytes))
 
-pub spelled_sent : (p : ℕ) (letters : List (ℕ × List ℕ)) → All (λ e. (e.0 < p) × IsLetter e.1) letters → All (λ e. (e.0 < p) × IsItem e.1) (spelled letters)
+pub spelled_sent : (p : ℕ) (letters : List (ℕ × List ℕ)) → All (λ e. (e.0 < p) × IsLetter e.1) letters
+    → All (λ e. (e.0 < p) × IsItem e.1) (spelled letters)
 spelled_sent p [] a = All-nil (λ (e : ℕ × Item). (e.0 < p) × IsItem e.1)
 spelled_sent p (e ∷ es) a =
     let here : (e.0 < p) × IsLetter e.1 = all_head (λ e. (e.0 < p) × IsLetter e.1) e es a in
@@ -78,7 +87,8 @@ byte_below (suc i) n = mod-lt (n / 256 ^ suc i) (lit< tt)
 
 low_bytes : (i k n : ℕ) → All (λ b. b < 256) (bytes_low_first i k n)
 low_bytes i zero n = All-nil (λ b. b < 256)
-low_bytes i (suc k) n = All-cons (λ b. b < 256) (byte_at i n) (bytes_low_first (suc i) k n) (byte_below i n) (low_bytes (suc i) k n)
+low_bytes i (suc k) n =
+    All-cons (λ b. b < 256) (byte_at i n) (bytes_low_first (suc i) k n) (byte_below i n) (low_bytes (suc i) k n)
 
 pub word_bytes : (n : ℕ) → All (λ b. b < 256) (to_le_bytes w64 n)
 word_bytes n = low_bytes 0 8 n
@@ -100,7 +110,8 @@ read_letter x xs =
       short = omega arith;
       bytes =
           All-take (λ b. b < 256) (length_in x) all
-          (All-append (λ b. b < 256) (to_le_bytes w64 x.b) (to_le_bytes w64 x.c ++ flat_map bytes_in xs) (word_bytes x.b)
+          (All-append (λ b. b < 256) (to_le_bytes w64 x.b) (to_le_bytes w64 x.c ++ flat_map bytes_in xs)
+          (word_bytes x.b)
           (All-append (λ b. b < 256) (to_le_bytes w64 x.c) (flat_map bytes_in xs) (word_bytes x.c) (further_bytes xs)));
     }
 
@@ -121,19 +132,23 @@ within : (ranks to from : ℕ) (x : Item) → may_carry ranks to from x ≡ true
 within ranks to from x h = (grind (arith, nat_tests), grind (arith, nat_tests), grind (arith, nat_tests))
 
 -- a rank may be sent what fits by ranks alone
-pub sender_low : {S : Type 0} (R : LetterRules S) (s : MailState S) (f : ℕ) (x : Item) → Fits (mail_rules R) s f x → f < R.ranks s.inner
+pub sender_low : {S : Type 0} (R : LetterRules S) (s : MailState S) (f : ℕ) (x : Item) → Fits (mail_rules R) s f x
+    → f < R.ranks s.inner
 sender_low R s f x h = (within (R.ranks s.inner) (R.rank s.inner) f x h).1
 
 -- a letter program after a letter, or as it was
 same_letters : {S : Type 0} (R : LetterRules S) (s : S) → R.valid s → SameLetters R s s
-same_letters R s v = record { valid = v; rank = refl; ranks = refl; round = refl; shape = refl; most = refl; letters = refl }
+same_letters R s v =
+    record { valid = v; rank = refl; ranks = refl; round = refl; shape = refl; most = refl; letters = refl }
 
-maybe_absorbed : {S : Type 0} (R : LetterRules S) → LetterLaws R → (s : S) (f : ℕ) (l : List ℕ) (b : Bool) → R.valid s → f < R.ranks s → IsLetter l → SameLetters R s (cond b (R.absorbed s f l) s)
+maybe_absorbed : {S : Type 0} (R : LetterRules S) → LetterLaws R → (s : S) (f : ℕ) (l : List ℕ) (b : Bool) → R.valid s
+    → f < R.ranks s → IsLetter l → SameLetters R s (if b then R.absorbed s f l else s)
 maybe_absorbed R laws s f l true v low is = laws.keeps s f l v low is
 maybe_absorbed R laws s f l false v low is = same_letters R s v
 
 -- a mailer with another inner state of the same round
-pub mail_kept : {S : Type 0} (R : LetterRules S) (s : MailState S) (t : S) (begun : List (List Item)) → IsMail R s → R.valid t → R.rank t ≡ R.rank s.inner → R.ranks t ≡ R.ranks s.inner → length begun ≡ length s.begun
+pub mail_kept : {S : Type 0} (R : LetterRules S) (s : MailState S) (t : S) (begun : List (List Item)) → IsMail R s
+    → R.valid t → R.rank t ≡ R.rank s.inner → R.ranks t ≡ R.ranks s.inner → length begun ≡ length s.begun
     → IsMail R (record s { inner = t; begun = begun })
 mail_kept R s t begun v valid rank ranks len =
     record {
@@ -143,13 +158,17 @@ mail_kept R s t begun v valid rank ranks len =
       senders = len ∙ v.senders ∙ sym ranks;
     }
 
-keeps : {S : Type 0} (R : LetterRules S) → LetterLaws R → (s : MailState S) (f : ℕ) (x : Item) → IsMail R s → Fits (mail_rules R) s f x → SameRound (mail_rules R) s (item_absorbed R s f x)
+keeps : {S : Type 0} (R : LetterRules S) → LetterLaws R → (s : MailState S) (f : ℕ) (x : Item) → IsMail R s
+    → Fits (mail_rules R) s f x → SameRound (mail_rules R) s (item_absorbed R s f x)
 keeps {S} R laws s f x v fits =
     let items : List Item = begun_with s.begun f x in
-    let inner : S = cond (is_whole items) (R.absorbed s.inner f (letter_of items)) s.inner in
-    let k : SameLetters R s.inner inner = maybe_absorbed R laws s.inner f (letter_of items) (is_whole items) v.inner (sender_low R s f x fits) (letter_is items) in
+    let inner : S = (if is_whole items then R.absorbed s.inner f (letter_of items) else s.inner) in
+    let k : SameLetters R s.inner inner =
+    maybe_absorbed R laws s.inner f (letter_of items) (is_whole items) v.inner (sender_low R s f x fits)
+    (letter_is items) in
     record {
-      valid = mail_kept R s inner (set s.begun f (cond (is_whole items) [] items)) v k.valid k.rank k.ranks (length-set s.begun f (cond (is_whole items) [] items));
+      valid = mail_kept R s inner (set s.begun f (if is_whole items then [] else items)) v k.valid k.rank k.ranks
+          (length-set s.begun f (if is_whole items then [] else items));
       rank = k.rank;
       ranks = k.ranks;
       round = k.round;
@@ -159,8 +178,10 @@ keeps {S} R laws s f x v fits =
     }
 
 -- two letters, of which one or both or none are absorbed
-inner_comm : {S : Type 0} (R : LetterRules S) (s : S) (f g : ℕ) (l m : List ℕ) (a b : Bool) → R.absorbed (R.absorbed s f l) g m ≡ R.absorbed (R.absorbed s g m) f l
-    → cond b (R.absorbed (cond a (R.absorbed s f l) s) g m) (cond a (R.absorbed s f l) s) ≡ cond a (R.absorbed (cond b (R.absorbed s g m) s) f l) (cond b (R.absorbed s g m) s)
+inner_comm : {S : Type 0} (R : LetterRules S) (s : S) (f g : ℕ) (l m : List ℕ) (a b : Bool)
+    → R.absorbed (R.absorbed s f l) g m ≡ R.absorbed (R.absorbed s g m) f l
+    → (if b then R.absorbed (if a then R.absorbed s f l else s) g m else if a then R.absorbed s f l else s)
+    ≡ (if a then R.absorbed (if b then R.absorbed s g m else s) f l else if b then R.absorbed s g m else s)
 inner_comm R s f g l m true true e = e
 inner_comm R s f g l m true false e = refl
 inner_comm R s f g l m false true e = refl
@@ -170,45 +191,80 @@ inner_comm R s f g l m false false e = refl
 after_two : {S : Type 0} (R : LetterRules S) (s : MailState S) (f g : ℕ) (x y : Item) → f ≢ g
     → item_absorbed R (item_absorbed R s f x) g y
     ≡ record s {
-      inner = cond (is_whole (begun_with s.begun g y))
-          (R.absorbed (cond (is_whole (begun_with s.begun f x)) (R.absorbed s.inner f (letter_of (begun_with s.begun f x))) s.inner) g (letter_of (begun_with s.begun g y)))
-          (cond (is_whole (begun_with s.begun f x)) (R.absorbed s.inner f (letter_of (begun_with s.begun f x))) s.inner);
-      begun = set (set s.begun f (cond (is_whole (begun_with s.begun f x)) [] (begun_with s.begun f x))) g (cond (is_whole (begun_with s.begun g y)) [] (begun_with s.begun g y));
+      inner = if is_whole (begun_with s.begun g y)
+          then R.absorbed
+          (if is_whole (begun_with s.begun f x) then R.absorbed s.inner f (letter_of (begun_with s.begun f x))
+          else s.inner) g (letter_of (begun_with s.begun g y))
+          else if is_whole (begun_with s.begun f x) then R.absorbed s.inner f (letter_of (begun_with s.begun f x))
+          else s.inner;
+      begun = set (set s.begun f (if is_whole (begun_with s.begun f x) then [] else begun_with s.begun f x)) g
+          (if is_whole (begun_with s.begun g y) then [] else begun_with s.begun g y);
     }
 after_two {S} R s f g x y d =
-    let mid : List Item = cond (is_whole (begun_with s.begun f x)) [] (begun_with s.begun f x) in
-    let inner : S = cond (is_whole (begun_with s.begun f x)) (R.absorbed s.inner f (letter_of (begun_with s.begun f x))) s.inner in
+    let mid : List Item = (if is_whole (begun_with s.begun f x) then [] else begun_with s.begun f x) in
+    let inner : S =
+    (if is_whole (begun_with s.begun f x) then R.absorbed s.inner f (letter_of (begun_with s.begun f x))
+    else s.inner) in
     ap
-    (λ items. record s { inner = cond (is_whole (items ++ y ∷ [])) (R.absorbed inner g (letter_of (items ++ y ∷ []))) inner; begun = set (set s.begun f mid) g (cond (is_whole (items ++ y ∷ [])) [] (items ++ y ∷ [])) })
+    (λ items. record s {
+      inner = if is_whole (items ++ y ∷ []) then R.absorbed inner g (letter_of (items ++ y ∷ [])) else inner;
+      begun = set (set s.begun f mid) g (if is_whole (items ++ y ∷ []) then [] else items ++ y ∷ []);
+    })
     (get_or-set_other s.begun f g mid [] (λ e. d (sym e)))
 
-commutes : {S : Type 0} (R : LetterRules S) → LetterLaws R → (s : MailState S) (f g : ℕ) (x y : Item) → IsMail R s → f ≢ g → Fits (mail_rules R) s f x → Fits (mail_rules R) s g y
+commutes : {S : Type 0} (R : LetterRules S) → LetterLaws R → (s : MailState S) (f g : ℕ) (x y : Item) → IsMail R s
+    → f ≢ g → Fits (mail_rules R) s f x → Fits (mail_rules R) s g y
     → item_absorbed R (item_absorbed R s f x) g y ≡ item_absorbed R (item_absorbed R s g y) f x
 commutes {S} R laws s f g x y v d hf hg =
     let l : List Item = begun_with s.begun f x in
     let m : List Item = begun_with s.begun g y in
-    let law : R.absorbed (R.absorbed s.inner f (letter_of l)) g (letter_of m) ≡ R.absorbed (R.absorbed s.inner g (letter_of m)) f (letter_of l) =
-    laws.commutes s.inner f g (letter_of l) (letter_of m) v.inner d (sender_low R s f x hf) (sender_low R s g y hg) (letter_is l) (letter_is m) in
+    let law : R.absorbed (R.absorbed s.inner f (letter_of l)) g (letter_of m)
+    ≡ R.absorbed (R.absorbed s.inner g (letter_of m)) f (letter_of l) =
+    laws.commutes s.inner f g (letter_of l) (letter_of m) v.inner d (sender_low R s f x hf) (sender_low R s g y hg)
+    (letter_is l) (letter_is m) in
     after_two R s f g x y d
-    ∙ (ap (λ i. record s { inner = i; begun = set (set s.begun f (cond (is_whole l) [] l)) g (cond (is_whole m) [] m) }) (inner_comm R s.inner f g (letter_of l) (letter_of m) (is_whole l) (is_whole m) law)
-    ∙ (ap (λ b. record s { inner = cond (is_whole l) (R.absorbed (cond (is_whole m) (R.absorbed s.inner g (letter_of m)) s.inner) f (letter_of l)) (cond (is_whole m) (R.absorbed s.inner g (letter_of m)) s.inner); begun = b })
-    (set_comm s.begun f g (cond (is_whole l) [] l) (cond (is_whole m) [] m) d)
+    ∙ (ap (λ i. record s {
+      inner = i;
+      begun = set (set s.begun f (if is_whole l then [] else l)) g (if is_whole m then [] else m);
+    })
+    (inner_comm R s.inner f g (letter_of l) (letter_of m) (is_whole l) (is_whole m) law)
+    ∙ (ap (λ b. record s {
+      inner = if is_whole l then R.absorbed (if is_whole m then R.absorbed s.inner g (letter_of m)
+          else s.inner) f (letter_of l) else if is_whole m then R.absorbed s.inner g (letter_of m) else s.inner;
+      begun =
+          b;
+    })
+    (set_comm s.begun f g (if is_whole l then [] else l) (if is_whole m then [] else m) d)
     ∙ sym (after_two R s g f y x (λ e. d (sym e)))))
 
 -- a mailer as a round begins
 pub mailing_valid : {S : Type 0} (R : LetterRules S) → LetterLaws R → (s : S) → R.valid s → IsMail R (mailing R s)
 mailing_valid R laws s v =
-    record { inner = v; own = laws.own s v; sent = spelled_sent (R.ranks s) (R.letters s) (laws.emits s v); senders = length-replicate (R.ranks s) [] }
+    record {
+      inner = v;
+      own = laws.own s v;
+      sent = spelled_sent (R.ranks s) (R.letters s) (laws.emits s v);
+      senders = length-replicate (R.ranks s) [];
+    }
 
-next : {S : Type 0} (R : LetterRules S) → LetterLaws R → (s : MailState S) (votes : ℕ) → IsMail R s → votes < 2 ^ 64 → NextRound (mail_rules R) s (mailing R (R.ended s.inner votes))
+next : {S : Type 0} (R : LetterRules S) → LetterLaws R → (s : MailState S) (votes : ℕ) → IsMail R s → votes < 2 ^ 64
+    → NextRound (mail_rules R) s (mailing R (R.ended s.inner votes))
 next R laws s votes v low =
     let k : NextLetters R s.inner (R.ended s.inner votes) = laws.next s.inner votes v.inner low in
-    record { valid = mailing_valid R laws (R.ended s.inner votes) k.valid; rank = k.rank; ranks = k.ranks; round = k.round; shape = k.shape; most = k.most }
+    record {
+      valid = mailing_valid R laws (R.ended s.inner votes) k.valid;
+      rank = k.rank;
+      ranks = k.ranks;
+      round = k.round;
+      shape = k.shape;
+      most = k.most;
+    }
 
 pub mail_laws : {S : Type 0} (R : LetterRules S) → LetterLaws R → Laws (mail_rules R)
 mail_laws R laws =
     record {
-      emits = λ s v k d l. carries (R.ranks s.inner) (get_or s.outgoing k d).0 (R.rank s.inner) (get_or s.outgoing k d).1 (v.sent k d l).0 v.own (v.sent k d l).1;
+      emits = λ s v k d l. carries (R.ranks s.inner) (get_or s.outgoing k d).0 (R.rank s.inner)
+          (get_or s.outgoing k d).1 (v.sent k d l).0 v.own (v.sent k d l).1;
       commutes = commutes R laws;
       keeps = keeps R laws;
       vote_below = λ s v. laws.vote_below s.inner v.inner;

@@ -17,10 +17,15 @@ capped z = record { minus = z.minus; size = min z.size 1_000_000_000_000_000_000
 
 -- The three words of an entry line, each read so.
 abbrev pub read_three : List ℕ × List ℕ × List ℕ → Option Integer × Option Integer × Option Integer
-read_three three = (option_map capped (integer_of three.0), option_map capped (integer_of three.1), option_map capped (integer_of three.2))
+read_three three = (
+  option_map capped (integer_of three.0),
+  option_map capped (integer_of three.1),
+  option_map capped (integer_of three.2),
+)
 
 -- An entry line by the integers that its words are.
-unfoldable pub cell_from : Form → Sizes → Option (Option Integer × Option Integer × Option Integer) → Result Triple Reason
+unfoldable pub cell_from : Form → Sizes → Option (Option Integer × Option Integer × Option Integer)
+    → Result Triple Reason
 cell_from form sizes read = do
   three ← ok_or read reason.EntryLine
   i ← ok_or three.0 reason.EntryLine

@@ -20,13 +20,15 @@ bits_of k text = map is_no_digit (take k text) ++ above
 --   a word of bytes 1, 0, 0, .. is 1, and one of bytes 0, 1, 0, .. is 256
 abbrev pub word_from : (ℕ → ℕ) → ℕ
 word_from byte =
-    byte 0 + 256 * (byte 1 + 256 * (byte 2 + 256 * (byte 3 + 256 * (byte 4 + 256 * (byte 5 + 256 * (byte 6 + 256 * byte 7))))))
+    byte 0 + 256 *
+    (byte 1 + 256 * (byte 2 + 256 * (byte 3 + 256 * (byte 4 + 256 * (byte 5 + 256 * (byte 6 + 256 * byte 7))))))
 
 -- Eight digits as a number, digit 0 in front.
 --   of digits 0, .., 0, 1, 2 it is 12
 abbrev pub number_from : (ℕ → ℕ) → ℕ
 number_from digit =
-    10_000_000 * digit 0 + 1_000_000 * digit 1 + 100_000 * digit 2 + 10_000 * digit 3 + 1_000 * digit 4 + 100 * digit 5 + 10 * digit 6 + digit 7
+    10_000_000 * digit 0 + 1_000_000 * digit 1 + 100_000 * digit 2 + 10_000 * digit 3 + 1_000 * digit 4 + 100 * digit 5
+    + 10 * digit 6 + digit 7
 
 -- The word of a text's first eight bytes.
 --   of "10000000" it is 0x3030303030303031

@@ -1,5 +1,7 @@
 -- Entry lines read without regard to duplicates.
-use Rattle.std.specs.Prelude.{ℕ, ◌≡◌, ◌≤◌, ◌<◌, ◌+◌, ◌*◌, ◌^◌, max, length, take, ◌-◌, ◌==◌, List, [], ◌∷◌, ◌++◌, Option, Some, None, Result, Ok, Err, nat_lt, if◌then◌else◌}
+use Rattle.std.specs.Prelude.{ℕ, ◌≡◌, ◌≤◌, ◌<◌, ◌+◌, ◌*◌, ◌^◌, max, length, take, ◌-◌, ◌==◌, List, [], ◌∷◌, ◌++◌}
+use Rattle.std.specs.Prelude.{if◌then◌else◌}
+use Rattle.std.specs.Prelude.{Option, Some, None, Result, Ok, Err, nat_lt, if◌then◌else◌}
 use Rattle.bale_types.specs.declared.triple.Triple.{Triple}
 use Rattle.mtx_text.specs.declared.banner.Form.{Form}
 use Rattle.mtx_text.specs.declared.sizes.Sizes.{Sizes}
@@ -46,7 +48,8 @@ verdict draft = verdict_at draft.entries draft.stop
 
 -- The draft of the entry lines that are left of a run, after entries that are done.
 abbrev pub draft_from : Form → Sizes → ℕ → List Triple → Run → Drafted
-draft_from form sizes end done run = draft_of form sizes end run.left done (lines_from run.number (lines_of run.rest.now))
+draft_from form sizes end done run =
+    draft_of form sizes end run.left done (lines_from run.number (lines_of run.rest.now))
 
 -- A run reads on: what it leaves to be read, after the entries that it adds, drafts the same.
 -- lines, room, on: as many lines, and at most as many bytes, are left as stood behind those that it read
@@ -57,7 +60,8 @@ pub record ReadsOn (form : Form) (sizes : Sizes) (old new : List Triple) (from t
   pub lines : to.number + length (lines_of to.rest.now) ≡ from.number + length (lines_of from.rest.now)
   pub room : to.number + length to.rest.now ≤ from.number + length from.rest.now
   pub on : length to.rest.now ≤ length from.rest.now
-  pub within : All (λ t. IsWithin (max sizes.rows sizes.cols) t) old → All (λ t. IsWithin (max sizes.rows sizes.cols) t) new
+  pub within : All (λ t. IsWithin (max sizes.rows sizes.cols) t) old
+      → All (λ t. IsWithin (max sizes.rows sizes.cols) t) new
   pub few : length new + 2 * to.left ≤ length old + 2 * from.left
 
 -- Sizes within the limits, and a text whose lines have numbers below 2^63 where its first line has the number given.
@@ -79,7 +83,8 @@ pub record IsNext (form : Form) (sizes : Sizes) (text : List ℕ) (number : ℕ)
 -- within: entries whose rows and columns are within the sizes stay so
 pub record AddsLine (sizes : Sizes) (more old new : List Triple) : Type 0 where
   pub entries : new ≡ old ++ more
-  pub within : All (λ t. IsWithin (max sizes.rows sizes.cols) t) old → All (λ t. IsWithin (max sizes.rows sizes.cols) t) new
+  pub within : All (λ t. IsWithin (max sizes.rows sizes.cols) t) old
+      → All (λ t. IsWithin (max sizes.rows sizes.cols) t) new
   pub few : length new ≤ length old + 2
 
 -- The draft of a text whose first line has a number.

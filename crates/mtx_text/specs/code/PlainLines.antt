@@ -1,5 +1,6 @@
 -- The line that a text begins with, and its words, by how many bytes they have.
-use Rattle.std.specs.Prelude.{ℕ, ◌≡◌, ◌+◌, ◌-◌, ◌^◌, ◌≤◌, ◌<◌, true, false, List, [], ◌∷◌, length, take, drop, get_or, min, Some}
+use Rattle.std.specs.Prelude.{ℕ, ◌≡◌, ◌+◌, ◌-◌, ◌^◌, ◌≤◌, ◌<◌, true, false, List, [], ◌∷◌, length, take, drop, get_or}
+use Rattle.std.specs.Prelude.{min, Some}
 use Rattle.std.specs.List.{list_all}
 use Rattle.std.specs.Option.{option_map}
 use Rattle.std.specs.Char.{is_ascii_digit}
@@ -17,7 +18,8 @@ use Rattle.mtx_text.specs.Grammar.{fields_of}
 use Rattle.mtx_text.specs.Integers.{integer_of}
 use Rattle.mtx_text.specs.code.Capped.{capped, read_three}
 
--- The text's first line is its first `len` bytes, and the others are those of what stands behind its first `next` bytes.
+-- The text's first line is its first `len` bytes, and the others are those of what stands behind
+-- its first `next` bytes.
 --   of "1 2/3/" with 3 and 4, or with CR before its first LF with 3 and 5: the line "1 2", and then the lines of "3/"
 pub record LineAt (text : List ℕ) (len next : ℕ) : Type 0 where
   pub within : len < next
@@ -34,7 +36,8 @@ pub record CountsAt (text : List ℕ) (len next : ℕ) : Type 0 where
 -- left, room, shorter: as many lines, and at most as many bytes, are left as stood behind it
 --   of "%/3 3/1/" from line 2: line 3, "3 3", and "1/"
 pub record IsFirstKept (text : List ℕ) (number : ℕ) (k : Kept) : Type 0 where
-  pub kept : lines_from number (lines_of text) ≡ record { number = k.number; words = words_of k.line.now } ∷ lines_from (k.number + 1) (lines_of k.rest.now)
+  pub kept : lines_from number (lines_of text) ≡ record { number = k.number; words = words_of k.line.now }
+      ∷ lines_from (k.number + 1) (lines_of k.rest.now)
   pub left : k.number + 1 + length (lines_of k.rest.now) ≡ number + length (lines_of text)
   pub room : k.number + 1 + length k.rest.now ≤ number + length text
   pub shorter : length k.rest.now < length text
@@ -112,23 +115,24 @@ pub record ReadsOne (text : List ℕ) (old new : Digits) : Type 0 where
   pub more : new.len ≡ old.len + 1
   pub read : IsRead text new
 
--- Two runs of few digits, each with another byte behind it, stood in front of `rest`; `others` are the bits of its first bytes that
--- are no digits, as far as sixteen bytes of the text go.
+-- Two runs of few digits, each with another byte behind it, stood in front of `rest`; `others` are
+-- the bits of its first bytes that are no digits, as far as sixteen bytes of the text go.
 --   of "1 22 7/" the rest is "7/", whose second byte is no digit
 pub record IsFew (two : Two) (rest : List ℕ) : Type 0 where
   pub few : two.row.len + two.column.len ≤ 10
   pub room : 22 ≤ length rest + (two.row.len + two.column.len)
   pub others : two.others ≡ mask_l (bits_of (14 - (two.row.len + two.column.len)) rest)
 
--- A text of at least 24 bytes begins with two runs of at most five digits, a space between them, and `others` are the bits of what
--- follows the byte behind them.
+-- A text of at least 24 bytes begins with two runs of at most five digits, a space between them,
+-- and `others` are the bits of what follows the byte behind them.
 pub record TwoAt (text : List ℕ) (two : Two) : Type 0 where
   pub within : 24 ≤ length text
   pub few : (two.row.len ≤ 5) × (two.column.len ≤ 5)
   pub row : DigitsTo 32 text two.row.len two.row.size
   pub some : 0 < two.column.len
   pub column : IsRead (drop (two.row.len + 1) text) two.column
-  pub others : two.others ≡ mask_l (bits_of (14 - (two.row.len + two.column.len)) (drop (two.column.len + 1) (drop (two.row.len + 1) text)))
+  pub others : two.others
+      ≡ mask_l (bits_of (14 - (two.row.len + two.column.len)) (drop (two.column.len + 1) (drop (two.row.len + 1) text)))
 
 -- A text begins with two runs of few digits, each with a space behind it, and `rest` is what follows.
 --   of "1 22 7/" it is "7/"
@@ -141,4 +145,5 @@ pub record FrontAt (text : List ℕ) (two : Two) (rest : List ℕ) : Type 0 wher
 -- A text begins with a plain line of a kind of matrix, and these are its numbers.
 pub record IsPlain (kind : Kind) (text : List ℕ) (p : Plain) : Type 0 where
   pub at : CountsAt text p.len p.next
-  pub fields : Some (p.fields.row, p.fields.column, p.fields.value) ≡ option_map read_three (fields_of kind (words_of (take p.len text)))
+  pub fields : Some (p.fields.row, p.fields.column, p.fields.value)
+      ≡ option_map read_three (fields_of kind (words_of (take p.len text)))

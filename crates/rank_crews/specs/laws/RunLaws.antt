@@ -6,7 +6,10 @@ use Rattle.rank_crews.specs.Runs.{RanLaws, AllRan}
 pub all_ran_laws : {S : Type 0} (ran : S → S → Type 0) → RanLaws ran → RanLaws (AllRan ran)
 all_ran_laws {S} ran laws =
     record {
-      none = λ xs. record { all = refl; each = λ r x y ex ey. subst (λ z. ran x z) (get_once xs r x y ex ey) (laws.none x) };
+      none = λ xs. record {
+        all = refl;
+        each = λ r x y ex ey. subst (λ z. ran x z) (get_once xs r x y ex ey) (laws.none x);
+      };
       on = λ xs ys zs a b. record {
         all = b.all ∙ a.all;
         each = λ r x z ex ez.

@@ -5,4 +5,8 @@ use Rattle.rank_crews.specs.Runs.{RanLaws}
 use Rattle.rank_group.specs.Noted.{HasSame}
 
 pub same_laws : {S : Type 0} (seat : S → Manning) → RanLaws (λ x y. HasSame (seat x) (seat y))
-same_laws seat = record { none = λ x. record { sent = refl; got = refl }; on = λ x y z a b. record { sent = b.sent ∙ a.sent; got = b.got ∙ a.got } }
+same_laws seat =
+    record {
+      none = λ x. record { sent = refl; got = refl };
+      on = λ x y z a b. record { sent = b.sent ∙ a.sent; got = b.got ∙ a.got };
+    }

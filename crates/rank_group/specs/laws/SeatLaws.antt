@@ -8,7 +8,13 @@ use Rattle.rank_group.specs.Seats.{Ran}
 pub ran_laws : {S : Type 0} (R : Rules S) (cap : ℕ) (told : ℕ → ℕ → Bool) → RanLaws (λ x y. Ran R cap told x y)
 ran_laws R cap told =
     record {
-      none = λ x. record { bank = refl; number = refl; more = omega arith; heard = λ n low high. absurd (omega (arith, low, high)); kept = λ manner h is. (h, refl, is) };
+      none = λ x. record {
+        bank = refl;
+        number = refl;
+        more = omega arith;
+        heard = λ n low high. absurd (omega (arith, low, high));
+        kept = λ manner h is. (h, refl, is);
+      };
       on = λ x y z a b. record {
         bank = b.bank ∙ a.bank;
         number = b.number ∙ a.number;

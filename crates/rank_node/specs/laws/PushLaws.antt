@@ -3,10 +3,11 @@ use Rattle.std.proofs.Common.{ℕ, ◌<◌, Bool, true, false, List, sym, ap, su
 use Rattle.bale_types.specs.declared.item.Item.{Item}
 use Rattle.route_tensor.specs.Grid.{ranks}
 use Rattle.hop_core.specs.State.{State}
-use Rattle.exstack.specs.State.{State as Stack}
+use Rattle.exstack.specs.State.{Stack}
 use Rattle.rank_node.specs.Pushes.{MayPush, Pushes, MayFill, FillsOne}
 
-pub push_stays : (cap : ℕ) (s t : State) (to other : ℕ) (x : Item) (accepted : Bool) → Pushes cap s to x accepted t → MayPush s other → MayPush t other
+pub push_stays : (cap : ℕ) (s t : State) (to other : ℕ) (x : Item) (accepted : Bool) → Pushes cap s to x accepted t
+    → MayPush s other → MayPush t other
 push_stays cap s t to other x accepted p m =
     record {
       low = subst (λ (d : List ℕ). other < ranks d) (sym (ap (λ (c : State). c.dims) p.same)) m.low;
@@ -14,7 +15,8 @@ push_stays cap s t to other x accepted p m =
       not_done = ap (λ (c : State). c.done) p.same ∙ m.not_done;
     }
 
-pub fill_stays : (cap : ℕ) (s t : Stack) (to other : ℕ) (x : Item) (accepted : Bool) → FillsOne cap s to x accepted t → MayFill s other → MayFill t other
+pub fill_stays : (cap : ℕ) (s t : Stack) (to other : ℕ) (x : Item) (accepted : Bool) → FillsOne cap s to x accepted t
+    → MayFill s other → MayFill t other
 fill_stays cap s t to other x true p m =
     let is = p.pushed refl in
     record {

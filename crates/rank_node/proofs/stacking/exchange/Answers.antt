@@ -1,6 +1,6 @@
 use Rattle.std.proofs.Common.{true, false, refl, sym, ap, ◌∙◌, arith}
 use Rattle.std.proofs.lemmas.Bool.{false≢true}
-use Rattle.exstack.specs.State.{State, in_exchange}
+use Rattle.exstack.specs.State.{Stack, in_exchange}
 use Rattle.exstack.specs.Standing.{IsStack}
 use Rattle.exstack.proofs.Beginning.{exchange_begun}
 use Rattle.rank_node.specs.Runs.{Running, running}
@@ -24,8 +24,8 @@ returns-in_err-_made-clause-polls g c =
     let p : AfterExchange g.row.CAP x0 x2 sent got sent' got' = record {
       standing = c.known.ensures.standing;
       agrees = e.agrees;
-      same_ranks = ap (λ (t : State). t.ranks) e.same;
-      same_rank = ap (λ (t : State). t.rank) e.same;
+      same_ranks = ap (λ (t : Stack). t.ranks) e.same;
+      same_rank = ap (λ (t : Stack). t.rank) e.same;
       apart = exchanging_apart (c.in_err-_made.ensures.no_memory refl);
       step = e.step;
     } in
@@ -36,9 +36,9 @@ returns-in_err-_made-clause-polls g c =
       few = s.few;
       mid_ranks = begun.ranks;
       mid_rank = begun.rank;
-      same_ranks = ap (λ (t : State). t.ranks) e.same;
-      same_rank = ap (λ (t : State). t.rank) e.same;
-      same_epoch = ap (λ (t : State). t.epoch) e.same;
+      same_ranks = ap (λ (t : Stack). t.ranks) e.same;
+      same_rank = ap (λ (t : Stack). t.rank) e.same;
+      same_epoch = ap (λ (t : Stack). t.epoch) e.same;
       made = e.round;
       agrees = e.agrees;
     } in
@@ -65,8 +65,8 @@ returns-clause-polls g c =
     let p : AfterExchange g.row.CAP x0 x2 sent got sent' got' = record {
       standing = c.known.ensures.standing;
       agrees = e.agrees;
-      same_ranks = ap (λ (t : State). t.ranks) e.same;
-      same_rank = ap (λ (t : State). t.rank) e.same;
+      same_ranks = ap (λ (t : Stack). t.ranks) e.same;
+      same_rank = ap (λ (t : Stack). t.rank) e.same;
       apart = ready_apart _ (c.in_ok-_made.ensures.stage);
       step = e.step;
     } in
@@ -77,9 +77,9 @@ returns-clause-polls g c =
       few = s.few;
       mid_ranks = begun.ranks;
       mid_rank = begun.rank;
-      same_ranks = ap (λ (t : State). t.ranks) e.same;
-      same_rank = ap (λ (t : State). t.rank) e.same;
-      same_epoch = ap (λ (t : State). t.epoch) e.same;
+      same_ranks = ap (λ (t : Stack). t.ranks) e.same;
+      same_rank = ap (λ (t : Stack). t.rank) e.same;
+      same_epoch = ap (λ (t : Stack). t.epoch) e.same;
       made = e.round;
       agrees = e.agrees;
     } in

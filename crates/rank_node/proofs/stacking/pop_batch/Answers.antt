@@ -4,7 +4,7 @@ use Rattle.std.proofs.lemmas.List.Quantifiers.{position-Some}
 use Rattle.bale_types.specs.declared.item.Entry.{Entry}
 use Rattle.bale_types.specs.declared.item.Item.{Item}
 use Rattle.exstack.specs.Links.{no_in, has_unread}
-use Rattle.exstack.specs.State.{State, in_at, pops}
+use Rattle.exstack.specs.State.{Stack, in_at, pops}
 use Rattle.exstack.specs.Parts.{GivesNext}
 use Rattle.rank_node.specs.Batches.{from_sender}
 use Rattle.rank_node.proofs.Chains.{mapped_at}
@@ -13,7 +13,7 @@ use Rattle.rank_node.proofs.stacking.pop_batch.Goals as goal
 
 pub returns-clause-pops : goal.returns-clause-pops
 returns-clause-pops g c =
-    let st : State = c.args.exstack.now in
+    let st : Stack = c.args.exstack.now in
     let entries : List Entry = c.batch.result.now in
     let pair : Entry → ℕ × Item = λ e. (c.args.sender, e.item) in
     let low : c.args.sender < st.ranks = omega (arith, (position-Some has_unread st.ins c.args.sender no_in c.requires.lowest).0, c.known.ensures.standing.all_ins) in
@@ -27,7 +27,7 @@ returns-clause-pops g c =
 
 pub returns-clause-less : goal.returns-clause-less
 returns-clause-less g c =
-    let st : State = c.args.exstack.now in
+    let st : Stack = c.args.exstack.now in
     let entries : List Entry = c.batch.result.now in
     let pair : Entry → ℕ × Item = λ e. (c.args.sender, e.item) in
     let low : c.args.sender < st.ranks = omega (arith, (position-Some has_unread st.ins c.args.sender no_in c.requires.lowest).0, c.known.ensures.standing.all_ins) in

@@ -1,5 +1,5 @@
 use Rattle.std.proofs.Common.{rules, ◌≡◌, ◌==◌, false, length, refl, sym, ap, ◌∙◌, arith}
-use Rattle.exstack.specs.State.{State, dims_of, may_proceed, in_proceed}
+use Rattle.exstack.specs.State.{Stack, dims_of, may_proceed, in_proceed}
 use Rattle.exstack.specs.Standing.{IsStack}
 use Rattle.exstack.proofs.Beginning.{proceed_begun}
 use Rattle.rank_node.specs.Sending.{to_send}
@@ -29,11 +29,11 @@ poll_proceed-polled-requires g c =
     let a = i.moving.agrees in (
       search rules,
       (
-        ap (λ (t : State). may_proceed t.stage) pops.same ∙ c.requires.may,
+        ap (λ (t : Stack). may_proceed t.stage) pops.same ∙ c.requires.may,
         (
           record {
-            same_dims = c.requires.turns.same_dims ∙ sym (ap (λ (t : State). dims_of t) pops.same);
-            same_rank = c.requires.turns.same_rank ∙ sym (ap (λ (t : State). t.rank) pops.same);
+            same_dims = c.requires.turns.same_dims ∙ sym (ap (λ (t : Stack). dims_of t) pops.same);
+            same_rank = c.requires.turns.same_rank ∙ sym (ap (λ (t : Stack). t.rank) pops.same);
             agrees = record { cycle = a.cycle; agrees = pops.kept a.cycle sent got a.agrees };
           },
           (
@@ -69,9 +69,9 @@ returns-in_err-polled-clause-polls g c =
     let p : AfterProceed g.row.CAP x1 x2 done sent got sent' got' = record {
       standing = c.known.ensures.standing;
       agrees = e.agrees;
-      same_ranks = ap (λ (t : State). t.ranks) e.same;
-      same_rank = ap (λ (t : State). t.rank) e.same;
-      done_is = ap (λ (t : State). t.done) e.same;
+      same_ranks = ap (λ (t : Stack). t.ranks) e.same;
+      same_rank = ap (λ (t : Stack). t.rank) e.same;
+      done_is = ap (λ (t : Stack). t.done) e.same;
       steps = e.steps;
     } in
     let s : IsStack g.row.CAP x0 = c.requires.turns.node.moving.stack in
@@ -79,11 +79,11 @@ returns-in_err-polled-clause-polls g c =
     let m : Made g.row.CAP x0 (in_proceed done x1) x2 done false sent sent' got got' = record {
       some = omega (arith, s.rank);
       few = s.few;
-      mid_ranks = begun.ranks ∙ ap (λ (t : State). t.ranks) pops.same;
-      mid_rank = begun.rank ∙ ap (λ (t : State). t.rank) pops.same;
-      same_ranks = ap (λ (t : State). t.ranks) e.same ∙ ap (λ (t : State). t.ranks) pops.same;
-      same_rank = ap (λ (t : State). t.rank) e.same ∙ ap (λ (t : State). t.rank) pops.same;
-      same_epoch = ap (λ (t : State). t.epoch) e.same ∙ ap (λ (t : State). t.epoch) pops.same;
+      mid_ranks = begun.ranks ∙ ap (λ (t : Stack). t.ranks) pops.same;
+      mid_rank = begun.rank ∙ ap (λ (t : Stack). t.rank) pops.same;
+      same_ranks = ap (λ (t : Stack). t.ranks) e.same ∙ ap (λ (t : Stack). t.ranks) pops.same;
+      same_rank = ap (λ (t : Stack). t.rank) e.same ∙ ap (λ (t : Stack). t.rank) pops.same;
+      same_epoch = ap (λ (t : Stack). t.epoch) e.same ∙ ap (λ (t : Stack). t.epoch) pops.same;
       made = e.round;
       agrees = e.agrees;
     } in
@@ -119,9 +119,9 @@ returns-in-GoOn-clause-polls g c =
     let p : AfterProceed g.row.CAP x1 x2 done sent got sent' got' = record {
       standing = c.known.ensures.standing;
       agrees = e.agrees;
-      same_ranks = ap (λ (t : State). t.ranks) e.same;
-      same_rank = ap (λ (t : State). t.rank) e.same;
-      done_is = ap (λ (t : State). t.done) e.same;
+      same_ranks = ap (λ (t : Stack). t.ranks) e.same;
+      same_rank = ap (λ (t : Stack). t.rank) e.same;
+      done_is = ap (λ (t : Stack). t.done) e.same;
       steps = e.steps;
     } in
     let s : IsStack g.row.CAP x0 = c.requires.turns.node.moving.stack in
@@ -129,11 +129,11 @@ returns-in-GoOn-clause-polls g c =
     let m : Made g.row.CAP x0 (in_proceed done x1) x2 done false sent sent' got got' = record {
       some = omega (arith, s.rank);
       few = s.few;
-      mid_ranks = begun.ranks ∙ ap (λ (t : State). t.ranks) pops.same;
-      mid_rank = begun.rank ∙ ap (λ (t : State). t.rank) pops.same;
-      same_ranks = ap (λ (t : State). t.ranks) e.same ∙ ap (λ (t : State). t.ranks) pops.same;
-      same_rank = ap (λ (t : State). t.rank) e.same ∙ ap (λ (t : State). t.rank) pops.same;
-      same_epoch = ap (λ (t : State). t.epoch) e.same ∙ ap (λ (t : State). t.epoch) pops.same;
+      mid_ranks = begun.ranks ∙ ap (λ (t : Stack). t.ranks) pops.same;
+      mid_rank = begun.rank ∙ ap (λ (t : Stack). t.rank) pops.same;
+      same_ranks = ap (λ (t : Stack). t.ranks) e.same ∙ ap (λ (t : Stack). t.ranks) pops.same;
+      same_rank = ap (λ (t : Stack). t.rank) e.same ∙ ap (λ (t : Stack). t.rank) pops.same;
+      same_epoch = ap (λ (t : Stack). t.epoch) e.same ∙ ap (λ (t : Stack). t.epoch) pops.same;
       made = e.round;
       agrees = e.agrees;
     } in
@@ -169,9 +169,9 @@ returns-in-AllDone-clause-polls g c =
     let p : AfterProceed g.row.CAP x1 x2 done sent got sent' got' = record {
       standing = c.known.ensures.standing;
       agrees = e.agrees;
-      same_ranks = ap (λ (t : State). t.ranks) e.same;
-      same_rank = ap (λ (t : State). t.rank) e.same;
-      done_is = ap (λ (t : State). t.done) e.same;
+      same_ranks = ap (λ (t : Stack). t.ranks) e.same;
+      same_rank = ap (λ (t : Stack). t.rank) e.same;
+      done_is = ap (λ (t : Stack). t.done) e.same;
       steps = e.steps;
     } in
     let s : IsStack g.row.CAP x0 = c.requires.turns.node.moving.stack in
@@ -179,11 +179,11 @@ returns-in-AllDone-clause-polls g c =
     let m : Made g.row.CAP x0 (in_proceed done x1) x2 done false sent sent' got got' = record {
       some = omega (arith, s.rank);
       few = s.few;
-      mid_ranks = begun.ranks ∙ ap (λ (t : State). t.ranks) pops.same;
-      mid_rank = begun.rank ∙ ap (λ (t : State). t.rank) pops.same;
-      same_ranks = ap (λ (t : State). t.ranks) e.same ∙ ap (λ (t : State). t.ranks) pops.same;
-      same_rank = ap (λ (t : State). t.rank) e.same ∙ ap (λ (t : State). t.rank) pops.same;
-      same_epoch = ap (λ (t : State). t.epoch) e.same ∙ ap (λ (t : State). t.epoch) pops.same;
+      mid_ranks = begun.ranks ∙ ap (λ (t : Stack). t.ranks) pops.same;
+      mid_rank = begun.rank ∙ ap (λ (t : Stack). t.rank) pops.same;
+      same_ranks = ap (λ (t : Stack). t.ranks) e.same ∙ ap (λ (t : Stack). t.ranks) pops.same;
+      same_rank = ap (λ (t : Stack). t.rank) e.same ∙ ap (λ (t : Stack). t.rank) pops.same;
+      same_epoch = ap (λ (t : Stack). t.epoch) e.same ∙ ap (λ (t : Stack). t.epoch) pops.same;
       made = e.round;
       agrees = e.agrees;
     } in
@@ -207,7 +207,7 @@ returns-in-GoOn-clause-in_full g c =
       awaits = proceed_awaits g.row.CAP c.poll_proceed-polled.new.self c.known.ensures.standing _ c.in_ok-polled.ensures.answer c.in_ok-polled.ensures.stage;
       due = tt;
       waits = waits_like c.args.exstack.now (in_proceed done x1) c.poll_proceed-polled.new.self (g.P.Port.got c.args.port.now) (g.P.Port.got c.poll_proceed-polled.new.port) (g.P.Port.crowded c.poll_proceed-polled.new.port) (g.P.Port.idle c.poll_proceed-polled.new.port)
-          (proceed_ranks done x1 ∙ ap (λ (t : State). t.ranks) pops.same) (proceed_rank done x1 ∙ ap (λ (t : State). t.rank) pops.same)
+          (proceed_ranks done x1 ∙ ap (λ (t : Stack). t.ranks) pops.same) (proceed_rank done x1 ∙ ap (λ (t : Stack). t.rank) pops.same)
           (record { posts = asks.crowded; collects = λ a low due. (asks.asked a low due).in_vain });
     }
 
@@ -278,6 +278,6 @@ returns-in-AllDone-clause-in_full g c =
       awaits = proceed_awaits g.row.CAP c.poll_proceed-polled.new.self c.known.ensures.standing _ c.in_ok-polled.ensures.answer c.in_ok-polled.ensures.stage;
       due = tt;
       waits = waits_like c.args.exstack.now (in_proceed done x1) c.poll_proceed-polled.new.self (g.P.Port.got c.args.port.now) (g.P.Port.got c.poll_proceed-polled.new.port) (g.P.Port.crowded c.poll_proceed-polled.new.port) (g.P.Port.idle c.poll_proceed-polled.new.port)
-          (proceed_ranks done x1 ∙ ap (λ (t : State). t.ranks) pops.same) (proceed_rank done x1 ∙ ap (λ (t : State). t.rank) pops.same)
+          (proceed_ranks done x1 ∙ ap (λ (t : Stack). t.ranks) pops.same) (proceed_rank done x1 ∙ ap (λ (t : Stack). t.rank) pops.same)
           (record { posts = asks.crowded; collects = λ a low due. (asks.asked a low due).in_vain });
     }

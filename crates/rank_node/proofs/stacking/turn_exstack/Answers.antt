@@ -1,6 +1,6 @@
 use Rattle.std.proofs.Common.{rules, ◌≡◌, true, refl, sym, ap, subst, ◌∙◌}
 use Rattle.std.proofs.lemmas.Bool.{false≢true}
-use Rattle.exstack.specs.State.{State, dims_of, may_proceed, may_exchange}
+use Rattle.exstack.specs.State.{Stack, dims_of, may_proceed, may_exchange}
 use Rattle.rank_node.specs.Runs.{running}
 use Rattle.list_laws.proofs.Results.{on_ok_map}
 use Rattle.rank_node.specs.Sending.{to_send}
@@ -19,8 +19,8 @@ exchange-requires g c =
     let got = g.P.Port.got c.args.port.now in
     let same = c.fill.ensures.same in
     let h = c.requires.turns.first in
-    let filling = ap (λ (t : State). may_exchange t.stage) same ∙ ap may_exchange (sym c.stage.ensures.value ∙ c.in-Filling.is) in
-    (search rules, (filling, record { same_dims = c.requires.turns.same_dims ∙ sym (ap (λ (t : State). dims_of t) same); same_rank = c.requires.turns.same_rank ∙ sym (ap (λ (t : State). t.rank) same); first = h; node = c.fill.ensures.filled.kept h sent got c.requires.turns.node }))
+    let filling = ap (λ (t : Stack). may_exchange t.stage) same ∙ ap may_exchange (sym c.stage.ensures.value ∙ c.in-Filling.is) in
+    (search rules, (filling, record { same_dims = c.requires.turns.same_dims ∙ sym (ap (λ (t : Stack). dims_of t) same); same_rank = c.requires.turns.same_rank ∙ sym (ap (λ (t : Stack). t.rank) same); first = h; node = c.fill.ensures.filled.kept h sent got c.requires.turns.node }))
 
 pub returns-in-Start-clause-turns : goal.returns-in-Start-clause-turns
 returns-in-Start-clause-turns g c =
@@ -62,7 +62,7 @@ returns-in-Filling-clause-turns g c =
       cycle = λ quota n i.
           subst (λ k. InCycle R quota k (running c.exchange.new.run) x2 sent' got') (sym (ap (cycle_after n) at))
           (c.exchange.ensures.cycle quota n (filled.cycle quota n sent got i));
-      onward = subst (λ s. IsOnward s x2.stage) (sym at) (subst (λ s. IsOnward s x2.stage) (ap (λ (t : State). t.stage) filled.same ∙ at) polls.onward);
+      onward = subst (λ s. IsOnward s x2.stage) (sym at) (subst (λ s. IsOnward s x2.stage) (ap (λ (t : Stack). t.stage) filled.same ∙ at) polls.onward);
       same_port = polls.same_port;
     }
 
@@ -74,7 +74,7 @@ returns-in-Filling-clause-in_full g c =
       awaits = full.awaits;
       due = tt;
       waits = waits_like c.args.exstack.now c.fill.new.exstack c.exchange.new.exstack (g.P.Port.got c.args.port.now) (g.P.Port.got c.exchange.new.port) (g.P.Port.crowded c.exchange.new.port) (g.P.Port.idle c.exchange.new.port)
-          (ap (λ (t : State). t.ranks) same) (ap (λ (t : State). t.rank) same) full.waits;
+          (ap (λ (t : Stack). t.ranks) same) (ap (λ (t : Stack). t.rank) same) full.waits;
     })
     c.exchange.ensures.in_full
 

@@ -2,14 +2,14 @@ use Rattle.std.proofs.Common.{◌≡◌, ◌<◌, length, slice_get, Some, sym, 
 use Rattle.std.proofs.lemmas.List.{get_or_default}
 use Rattle.std.proofs.lemmas.List.Quantifiers.{position-Some}
 use Rattle.exstack.specs.Links.{In, no_in, has_unread}
-use Rattle.exstack.specs.State.{State, in_at, lowest_unread}
+use Rattle.exstack.specs.State.{Stack, in_at, lowest_unread}
 use Rattle.exstack.specs.Standing.{IsStack}
 use Rattle.exstack.proofs.Batches.{gives_next}
 use Rattle.exstack.proofs.exstack.Exstack.batch.Goals as goal
 
 pub index-requires : goal.index-requires
 index-requires g c =
-    let st : State = record {
+    let st : Stack = record {
       ranks = c.self.inside.ranks;
       rank = c.self.inside.rank;
       stage = c.self.inside.stage;
@@ -24,7 +24,7 @@ index-requires g c =
 
 pub returns-clause-gives : goal.returns-clause-gives
 returns-clause-gives g c =
-    let st : State = record {
+    let st : Stack = record {
       ranks = c.self.inside.ranks;
       rank = c.self.inside.rank;
       stage = c.self.inside.stage;
@@ -34,10 +34,10 @@ returns-clause-gives g c =
       ins = c.self.inside.ins.items;
       popped = c.self.inside.popped;
     } in
-    let now : State = c.args.self.now in
+    let now : Stack = c.args.self.now in
     let view : st ≡ now = c.self.view_is in
     let found : lowest_unread st ≡ Some c.args.sender = ap lowest_unread view ∙ c.requires.lowest in
     let low : c.args.sender < length st.ins = (position-Some has_unread st.ins c.args.sender no_in found).0 in
     let s : IsStack g.row.CAP now = subst (IsStack g.row.CAP) view c.self.invariant.standing in
-    let value = c.unread.ensures ∙ (ap (λ (i : In). i.unread) (c.index.ensures ∙ get_or_default st.ins c.args.sender c.index.result.now no_in low) ∙ ap (λ (t : State). (in_at t c.args.sender).unread) view) in
+    let value = c.unread.ensures ∙ (ap (λ (i : In). i.unread) (c.index.ensures ∙ get_or_default st.ins c.args.sender c.index.result.now no_in low) ∙ ap (λ (t : Stack). (in_at t c.args.sender).unread) view) in
     λ i e h. gives_next now c.args.sender c.requires.lowest g.row.CAP s i e (ap (λ es. slice_get es i) (sym value) ∙ h)

@@ -1,14 +1,14 @@
 use Rattle.std.proofs.Common.{◌≡◌, true, false, map, List, None, sym, ap, subst, ◌∙◌, rules}
 use Rattle.exstack.specs.declared.stage.Stage.TheVariants.{Exchanging}
 use Rattle.exstack.specs.Links.{Out, In, begun_out, begun_in}
-use Rattle.exstack.specs.State.{State, is_exchanging, may_exchange}
+use Rattle.exstack.specs.State.{Stack, is_exchanging, may_exchange}
 use Rattle.exstack.specs.Standing.{IsKept}
 use Rattle.exstack.proofs.Beginning.{exchange_kept, exchange_filling}
 use Rattle.exstack.proofs.exstack.Exstack.begin_exchange.Goals as goal
 
 pub invariant_of-self-2 : goal.invariant_of-self-2
 invariant_of-self-2 g c =
-    let st : State = record {
+    let st : Stack = record {
       ranks = c.self.inside.ranks;
       rank = c.self.inside.rank;
       stage = c.self.inside.stage;
@@ -18,9 +18,9 @@ invariant_of-self-2 g c =
       ins = c.self.inside.ins.items;
       popped = c.self.inside.popped;
     } in
-    let now : State = c.args.self.now in
+    let now : Stack = c.args.self.now in
     let view : st ≡ now = c.self.view_is in
-    let may : may_exchange st.stage ≡ true = ap (λ (t : State). may_exchange t.stage) view ∙ c.requires in
+    let may : may_exchange st.stage ≡ true = ap (λ (t : Stack). may_exchange t.stage) view ∙ c.requires in
     let not_yet : is_exchanging st.stage ≡ false = search rules in
     let k : IsKept g.row.CAP (record st { stage = Exchanging; outs = map begun_out st.outs; ins = map begun_in st.ins; popped = None }) c.self.inside.from =
     exchange_kept g.row.CAP st c.self.inside.from c.self.invariant (exchange_filling st.stage may not_yet) in

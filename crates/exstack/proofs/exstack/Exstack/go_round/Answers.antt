@@ -4,7 +4,7 @@ use Rattle.port_bank.specs.Logs.{Logs}
 use Rattle.port_bank.specs.Calls.{once_more_if}
 use Rattle.port_bank.proofs.Kept.{law_same}
 use Rattle.exstack.specs.Links.{no_in}
-use Rattle.exstack.specs.State.{State, dims_of, in_at, number, link_from}
+use Rattle.exstack.specs.State.{Stack, dims_of, in_at, number, link_from}
 use Rattle.exstack.specs.Agreement.{AgreesIn}
 use Rattle.exstack.specs.Steps.{WasCollected, MadeRound, InVain}
 use Rattle.exstack.specs.Standing.{IsStack}
@@ -13,7 +13,7 @@ use Rattle.exstack.proofs.exstack.Exstack.go_round.Goals as goal
 
 pub invariant_of-self : goal.invariant_of-self
 invariant_of-self g c =
-    let st : State = record {
+    let st : Stack = record {
       ranks = c.self.inside.ranks;
       rank = c.self.inside.rank;
       stage = c.self.inside.stage;
@@ -23,7 +23,7 @@ invariant_of-self g c =
       ins = c.self.inside.ins.items;
       popped = c.self.inside.popped;
     } in
-    let now : State = c.args.self.now in
+    let now : Stack = c.args.self.now in
     let view : st ≡ now = c.self.view_is in
     let s : IsStack g.row.CAP st = c.self.invariant.standing in
     let b : Before st c.args.last c.args.exchange = before st now c.args.last c.args.exchange view c.requires.in_round c.requires.exchange c.requires.last c.requires.forgotten in
@@ -34,7 +34,7 @@ invariant_of-self g c =
     let p : PostsDone st c.post_all.new.outs.items c.args.last sent sent' got = record {
       count = e.count;
       moved = e.moved;
-      law = law_same _ _ _ _ _ _ _ _ (ap dims_of view ∙ sym c.requires.at_port.same_dims) (ap (λ (t : State). t.rank) view ∙ sym c.requires.at_port.same_rank) refl refl e.law;
+      law = law_same _ _ _ _ _ _ _ _ (ap dims_of view ∙ sym c.requires.at_port.same_dims) (ap (λ (t : Stack). t.rank) view ∙ sym c.requires.at_port.same_rank) refl refl e.law;
       grows = e.left.grows;
     } in
     let q : CollectsDone st st.ins c.args.exchange sent' got got = none_done st c.args.exchange sent' got in
@@ -46,7 +46,7 @@ invariant_of-self g c =
 
 pub returns-in_err-post_all-clause-cycle : goal.returns-in_err-post_all-clause-cycle
 returns-in_err-post_all-clause-cycle g c =
-    let st : State = record {
+    let st : Stack = record {
       ranks = c.self.inside.ranks;
       rank = c.self.inside.rank;
       stage = c.self.inside.stage;
@@ -56,7 +56,7 @@ returns-in_err-post_all-clause-cycle g c =
       ins = c.self.inside.ins.items;
       popped = c.self.inside.popped;
     } in
-    let now : State = c.args.self.now in
+    let now : Stack = c.args.self.now in
     let view : st ≡ now = c.self.view_is in
     let s : IsStack g.row.CAP st = c.self.invariant.standing in
     let b : Before st c.args.last c.args.exchange = before st now c.args.last c.args.exchange view c.requires.in_round c.requires.exchange c.requires.last c.requires.forgotten in
@@ -67,7 +67,7 @@ returns-in_err-post_all-clause-cycle g c =
     let p : PostsDone st c.post_all.new.outs.items c.args.last sent sent' got = record {
       count = e.count;
       moved = e.moved;
-      law = law_same _ _ _ _ _ _ _ _ (ap dims_of view ∙ sym c.requires.at_port.same_dims) (ap (λ (t : State). t.rank) view ∙ sym c.requires.at_port.same_rank) refl refl e.law;
+      law = law_same _ _ _ _ _ _ _ _ (ap dims_of view ∙ sym c.requires.at_port.same_dims) (ap (λ (t : Stack). t.rank) view ∙ sym c.requires.at_port.same_rank) refl refl e.law;
       grows = e.left.grows;
     } in
     let q : CollectsDone st st.ins c.args.exchange sent' got got = none_done st c.args.exchange sent' got in
@@ -76,7 +76,7 @@ returns-in_err-post_all-clause-cycle g c =
 
 pub invariant_of-self-2 : goal.invariant_of-self-2
 invariant_of-self-2 g c =
-    let st : State = record {
+    let st : Stack = record {
       ranks = c.self.inside.ranks;
       rank = c.self.inside.rank;
       stage = c.self.inside.stage;
@@ -86,7 +86,7 @@ invariant_of-self-2 g c =
       ins = c.self.inside.ins.items;
       popped = c.self.inside.popped;
     } in
-    let now : State = c.args.self.now in
+    let now : Stack = c.args.self.now in
     let view : st ≡ now = c.self.view_is in
     let s : IsStack g.row.CAP st = c.self.invariant.standing in
     let b : Before st c.args.last c.args.exchange = before st now c.args.last c.args.exchange view c.requires.in_round c.requires.exchange c.requires.last c.requires.forgotten in
@@ -97,7 +97,7 @@ invariant_of-self-2 g c =
     let p : PostsDone st c.post_all.new.outs.items c.args.last sent sent' got = record {
       count = e.count;
       moved = e.moved;
-      law = law_same _ _ _ _ _ _ _ _ (ap dims_of view ∙ sym c.requires.at_port.same_dims) (ap (λ (t : State). t.rank) view ∙ sym c.requires.at_port.same_rank) refl refl e.law;
+      law = law_same _ _ _ _ _ _ _ _ (ap dims_of view ∙ sym c.requires.at_port.same_dims) (ap (λ (t : Stack). t.rank) view ∙ sym c.requires.at_port.same_rank) refl refl e.law;
       grows = e.left.grows;
     } in
     let got' : Logs = g.P.Port.got c.collect_all.new.port in
@@ -117,7 +117,7 @@ invariant_of-self-2 g c =
 
 pub returns-clause-cycle : goal.returns-clause-cycle
 returns-clause-cycle g c =
-    let st : State = record {
+    let st : Stack = record {
       ranks = c.self.inside.ranks;
       rank = c.self.inside.rank;
       stage = c.self.inside.stage;
@@ -127,7 +127,7 @@ returns-clause-cycle g c =
       ins = c.self.inside.ins.items;
       popped = c.self.inside.popped;
     } in
-    let now : State = c.args.self.now in
+    let now : Stack = c.args.self.now in
     let view : st ≡ now = c.self.view_is in
     let s : IsStack g.row.CAP st = c.self.invariant.standing in
     let b : Before st c.args.last c.args.exchange = before st now c.args.last c.args.exchange view c.requires.in_round c.requires.exchange c.requires.last c.requires.forgotten in
@@ -138,7 +138,7 @@ returns-clause-cycle g c =
     let p : PostsDone st c.post_all.new.outs.items c.args.last sent sent' got = record {
       count = e.count;
       moved = e.moved;
-      law = law_same _ _ _ _ _ _ _ _ (ap dims_of view ∙ sym c.requires.at_port.same_dims) (ap (λ (t : State). t.rank) view ∙ sym c.requires.at_port.same_rank) refl refl e.law;
+      law = law_same _ _ _ _ _ _ _ _ (ap dims_of view ∙ sym c.requires.at_port.same_dims) (ap (λ (t : Stack). t.rank) view ∙ sym c.requires.at_port.same_rank) refl refl e.law;
       grows = e.left.grows;
     } in
     let got' : Logs = g.P.Port.got c.collect_all.new.port in
@@ -155,7 +155,7 @@ returns-clause-cycle g c =
 
 pub returns-clause-round : goal.returns-clause-round
 returns-clause-round g c =
-    let st : State = record {
+    let st : Stack = record {
       ranks = c.self.inside.ranks;
       rank = c.self.inside.rank;
       stage = c.self.inside.stage;
@@ -165,7 +165,7 @@ returns-clause-round g c =
       ins = c.self.inside.ins.items;
       popped = c.self.inside.popped;
     } in
-    let now : State = c.args.self.now in
+    let now : Stack = c.args.self.now in
     let view : st ≡ now = c.self.view_is in
     let s : IsStack g.row.CAP st = c.self.invariant.standing in
     let b : Before st c.args.last c.args.exchange = before st now c.args.last c.args.exchange view c.requires.in_round c.requires.exchange c.requires.last c.requires.forgotten in
@@ -176,7 +176,7 @@ returns-clause-round g c =
     let p : PostsDone st c.post_all.new.outs.items c.args.last sent sent' got = record {
       count = e.count;
       moved = e.moved;
-      law = law_same _ _ _ _ _ _ _ _ (ap dims_of view ∙ sym c.requires.at_port.same_dims) (ap (λ (t : State). t.rank) view ∙ sym c.requires.at_port.same_rank) refl refl e.law;
+      law = law_same _ _ _ _ _ _ _ _ (ap dims_of view ∙ sym c.requires.at_port.same_dims) (ap (λ (t : Stack). t.rank) view ∙ sym c.requires.at_port.same_rank) refl refl e.law;
       grows = e.left.grows;
     } in
     let got' : Logs = g.P.Port.got c.collect_all.new.port in
@@ -189,12 +189,12 @@ returns-clause-round g c =
       grows = subst (λ (logs : Logs). (m : ℕ) → Begins (logs m) (got' m)) e.left.same_ins.got f.left.grows;
     } in
     subst (λ (logs : Logs). MadeRound c.args.last c.args.exchange now (after_round st c.post_all.new.outs.items c.collect_all.new.ins.items) sent logs got got') (sym f.left.same_outs.sent)
-    (subst (λ (t : State). MadeRound c.args.last c.args.exchange t (after_round st c.post_all.new.outs.items c.collect_all.new.ins.items) sent sent' got got') view
+    (subst (λ (t : Stack). MadeRound c.args.last c.args.exchange t (after_round st c.post_all.new.outs.items c.collect_all.new.ins.items) sent sent' got got') view
     (round_done g.row.CAP st c.post_all.new.outs.items c.collect_all.new.ins.items c.args.last c.args.exchange sent sent' got got' s b p q))
 
 pub returns-clause-asks : goal.returns-clause-asks
 returns-clause-asks g c =
-    let st : State = record {
+    let st : Stack = record {
       ranks = c.self.inside.ranks;
       rank = c.self.inside.rank;
       stage = c.self.inside.stage;
@@ -204,7 +204,7 @@ returns-clause-asks g c =
       ins = c.self.inside.ins.items;
       popped = c.self.inside.popped;
     } in
-    let now : State = c.args.self.now in
+    let now : Stack = c.args.self.now in
     let view : st ≡ now = c.self.view_is in
     let s : IsStack g.row.CAP st = c.self.invariant.standing in
     let n : ℕ = length st.ins in
@@ -215,23 +215,23 @@ returns-clause-asks g c =
       looked = search rules;
       crowded = search rules;
       asked = λ a w due.
-          let u : a < n = omega (arith, w, s.all_ins, ap (λ (t : State). t.ranks) view) in
-          let number_is : number n a st.rank ≡ link_from now a = ap (λ m. number m a st.rank) s.all_ins ∙ ap (λ (t : State). link_from t a) view in
+          let u : a < n = omega (arith, w, s.all_ins, ap (λ (t : Stack). t.ranks) view) in
+          let number_is : number n a st.rank ≡ link_from now a = ap (λ m. number m a st.rank) s.all_ins ∙ ap (λ (t : Stack). link_from t a) view in
           subst (λ l. InVain (g.P.Port.noted c.args.port.now l) (noted' l) (idle' l)) number_is
           (subst (λ (counts : ℕ → ℕ). InVain (counts (number n a st.rank)) (noted' (number n a st.rank)) (idle' (number n a st.rank))) c.post_all.ensures.left.same_ins.noted (c.collect_all.ensures.in_vain a u due));
       posts = search rules;
       collects = λ a w.
-          let u : a < n = omega (arith, w, s.all_ins, ap (λ (t : State). t.ranks) view) in
+          let u : a < n = omega (arith, w, s.all_ins, ap (λ (t : Stack). t.ranks) view) in
           let l : ℕ = number n a st.rank in
-          let number_is : l ≡ link_from now a = ap (λ m. number m a st.rank) s.all_ins ∙ ap (λ (t : State). link_from t a) view in
+          let number_is : l ≡ link_from now a = ap (λ m. number m a st.rank) s.all_ins ∙ ap (λ (t : Stack). link_from t a) view in
           subst (λ m. collects' m ≡ once_more_if (in_at now a).due (g.P.Port.collects c.args.port.now m)) number_is
           (subst (λ (counts : ℕ → ℕ). collects' l ≡ once_more_if (in_at now a).due (counts l)) c.post_all.ensures.left.same_ins.collects
-          (subst (λ (t : State). collects' l ≡ once_more_if (in_at t a).due (g.P.Port.collects c.post_all.new.port l)) view (c.collect_all.ensures.collects a u)));
+          (subst (λ (t : Stack). collects' l ≡ once_more_if (in_at t a).due (g.P.Port.collects c.post_all.new.port l)) view (c.collect_all.ensures.collects a u)));
     }
 
 pub returns-in_err-post_all-clause-round : goal.returns-in_err-post_all-clause-round
 returns-in_err-post_all-clause-round g c =
-    let st : State = record {
+    let st : Stack = record {
       ranks = c.self.inside.ranks;
       rank = c.self.inside.rank;
       stage = c.self.inside.stage;
@@ -241,7 +241,7 @@ returns-in_err-post_all-clause-round g c =
       ins = c.self.inside.ins.items;
       popped = c.self.inside.popped;
     } in
-    let now : State = c.args.self.now in
+    let now : Stack = c.args.self.now in
     let view : st ≡ now = c.self.view_is in
     let s : IsStack g.row.CAP st = c.self.invariant.standing in
     let b : Before st c.args.last c.args.exchange = before st now c.args.last c.args.exchange view c.requires.in_round c.requires.exchange c.requires.last c.requires.forgotten in
@@ -252,10 +252,10 @@ returns-in_err-post_all-clause-round g c =
     let p : PostsDone st c.post_all.new.outs.items c.args.last sent sent' got = record {
       count = e.count;
       moved = e.moved;
-      law = law_same _ _ _ _ _ _ _ _ (ap dims_of view ∙ sym c.requires.at_port.same_dims) (ap (λ (t : State). t.rank) view ∙ sym c.requires.at_port.same_rank) refl refl e.law;
+      law = law_same _ _ _ _ _ _ _ _ (ap dims_of view ∙ sym c.requires.at_port.same_dims) (ap (λ (t : Stack). t.rank) view ∙ sym c.requires.at_port.same_rank) refl refl e.law;
       grows = e.left.grows;
     } in
     let q : CollectsDone st st.ins c.args.exchange sent' got got = none_done st c.args.exchange sent' got in
     subst (λ (logs : Logs). MadeRound c.args.last c.args.exchange now (after_round st c.post_all.new.outs.items st.ins) sent sent' got logs) (sym e.left.same_ins.got)
-    (subst (λ (t : State). MadeRound c.args.last c.args.exchange t (after_round st c.post_all.new.outs.items st.ins) sent sent' got got) view
+    (subst (λ (t : Stack). MadeRound c.args.last c.args.exchange t (after_round st c.post_all.new.outs.items st.ins) sent sent' got got) view
     (round_done g.row.CAP st c.post_all.new.outs.items st.ins c.args.last c.args.exchange sent sent' got got s b p q))

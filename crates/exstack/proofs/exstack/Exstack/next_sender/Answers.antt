@@ -1,7 +1,7 @@
 use Rattle.std.proofs.Common.{◌≡◌, Some, None, sym, subst, rules}
 use Rattle.port_bank.specs.Machine.{IsOwnStep}
 use Rattle.port_bank.specs.Machine.Step.{Idle}
-use Rattle.exstack.specs.State.{State, lowest_unread}
+use Rattle.exstack.specs.State.{Stack, lowest_unread}
 use Rattle.exstack.specs.Agreement.{AgreesIn}
 use Rattle.exstack.specs.Parts.{part_of}
 use Rattle.exstack.proofs.Beginning.{agrees_rest}
@@ -14,7 +14,7 @@ invariant_of-self g c = rest_from g.row.CAP _ c.self.inside.from c.self.invarian
 
 pub invariant_of-self-2 : goal.invariant_of-self-2
 invariant_of-self-2 g c =
-    let st : State = record {
+    let st : Stack = record {
       ranks = c.self.inside.ranks;
       rank = c.self.inside.rank;
       stage = c.self.inside.stage;
@@ -24,23 +24,23 @@ invariant_of-self-2 g c =
       ins = c.self.inside.ins.items;
       popped = c.self.inside.popped;
     } in
-    let now : State = c.args.self.now in
+    let now : Stack = c.args.self.now in
     let view : st ≡ now = c.self.view_is in
     let found : lowest_unread st ≡ Some c.in_ok-sender.sender = search rules in
     rest_at g.row.CAP st c.self.inside.from c.in_ok-sender.sender c.self.invariant found
 
 pub returns-in_err-sender-clause-kept : goal.returns-in_err-sender-clause-kept
 returns-in_err-sender-clause-kept g c = λ n sent got a.
-    subst (λ (t : State). AgreesIn n (record t { popped = None }) sent got) (sym c.self.view_is) (agrees_rest n c.args.self.now sent got a)
+    subst (λ (t : Stack). AgreesIn n (record t { popped = None }) sent got) (sym c.self.view_is) (agrees_rest n c.args.self.now sent got a)
 
 pub returns-in_err-sender-clause-step : goal.returns-in_err-sender-clause-step
 returns-in_err-sender-clause-step g c = λ n sent got a.
-    subst (λ (t : State). IsOwnStep Idle (part_of c.args.self.now sent got) (part_of (record t { popped = None }) sent got)) (sym c.self.view_is) (idle_step c.args.self.now n sent got)
+    subst (λ (t : Stack). IsOwnStep Idle (part_of c.args.self.now sent got) (part_of (record t { popped = None }) sent got)) (sym c.self.view_is) (idle_step c.args.self.now n sent got)
 
 pub returns-clause-kept : goal.returns-clause-kept
 returns-clause-kept g c = λ n sent got a.
-    subst (λ (t : State). AgreesIn n (record t { popped = None }) sent got) (sym c.self.view_is) (agrees_rest n c.args.self.now sent got a)
+    subst (λ (t : Stack). AgreesIn n (record t { popped = None }) sent got) (sym c.self.view_is) (agrees_rest n c.args.self.now sent got a)
 
 pub returns-clause-step : goal.returns-clause-step
 returns-clause-step g c = λ n sent got a.
-    subst (λ (t : State). IsOwnStep Idle (part_of c.args.self.now sent got) (part_of (record t { popped = None }) sent got)) (sym c.self.view_is) (idle_step c.args.self.now n sent got)
+    subst (λ (t : Stack). IsOwnStep Idle (part_of c.args.self.now sent got) (part_of (record t { popped = None }) sent got)) (sym c.self.view_is) (idle_step c.args.self.now n sent got)

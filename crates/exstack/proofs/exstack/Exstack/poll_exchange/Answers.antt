@@ -3,7 +3,7 @@ use Rattle.port_bank.specs.Logs.{Logs}
 use Rattle.exstack.specs.declared.stage.Stage.{Stage}
 use Rattle.exstack.specs.declared.stage.Stage.TheVariants.{Exchanging}
 use Rattle.exstack.specs.Steps.{AsksOnce}
-use Rattle.exstack.specs.State.{State, in_at, number, link_from, is_proceeding, is_exchanging, in_exchange, stage_of_exchange}
+use Rattle.exstack.specs.State.{Stack, in_at, number, link_from, is_proceeding, is_exchanging, in_exchange, stage_of_exchange}
 use Rattle.exstack.specs.Agreement.{AgreesIn, rounds_in}
 use Rattle.exstack.specs.Standing.{IsStack}
 use Rattle.port_bank.specs.Machine.{IsOwnStep}
@@ -20,14 +20,14 @@ use Rattle.exstack.proofs.exstack.Exstack.poll_exchange.Goals as goal
 
 pub go_round-requires : goal.go_round-requires
 go_round-requires g c =
-    let now : State = c.args.self.now in
-    let b : State = c.begin_exchange.new.self in
+    let now : Stack = c.args.self.now in
+    let b : Stack = c.begin_exchange.new.self in
     let sent : Logs = g.P.Port.sent c.args.port.now in
     let got : Logs = g.P.Port.got c.args.port.now in
     let is : b ≡ in_exchange now = c.begin_exchange.ensures.state in
     let s : IsStack g.row.CAP now = c.begin_exchange.ensures.standing in
-    let k : Begun b Exchanging now.done now = subst (λ (t : State). Begun t Exchanging now.done now) (sym is) (exchange_begun now) in
-    let agrees : (n : ℕ) → AgreesIn n now sent got → AgreesIn n b sent got = λ n a. subst (λ (t : State). AgreesIn n t sent got) (sym is) (exchange_agrees g.row.CAP n now sent got s c.requires.may a) in (
+    let k : Begun b Exchanging now.done now = subst (λ (t : Stack). Begun t Exchanging now.done now) (sym is) (exchange_begun now) in
+    let agrees : (n : ℕ) → AgreesIn n now sent got → AgreesIn n b sent got = λ n a. subst (λ (t : Stack). AgreesIn n t sent got) (sym is) (exchange_agrees g.row.CAP n now sent got s c.requires.may a) in (
       search rules,
       (
         ap (λ (s : Stage). is_proceeding s || is_exchanging s) k.stage_is,
@@ -46,185 +46,185 @@ go_round-requires g c =
 
 pub returns-in_err-missing-clause-agrees : goal.returns-in_err-missing-clause-agrees
 returns-in_err-missing-clause-agrees g c =
-    let now : State = c.args.self.now in
-    let b : State = c.begin_exchange.new.self in
+    let now : Stack = c.args.self.now in
+    let b : Stack = c.begin_exchange.new.self in
     let sent : Logs = g.P.Port.sent c.args.port.now in
     let got : Logs = g.P.Port.got c.args.port.now in
     let is : b ≡ in_exchange now = c.begin_exchange.ensures.state in
     let s : IsStack g.row.CAP now = c.begin_exchange.ensures.standing in
-    let k : Begun b Exchanging now.done now = subst (λ (t : State). Begun t Exchanging now.done now) (sym is) (exchange_begun now) in
-    let agrees : (n : ℕ) → AgreesIn n now sent got → AgreesIn n b sent got = λ n a. subst (λ (t : State). AgreesIn n t sent got) (sym is) (exchange_agrees g.row.CAP n now sent got s c.requires.may a) in
+    let k : Begun b Exchanging now.done now = subst (λ (t : Stack). Begun t Exchanging now.done now) (sym is) (exchange_begun now) in
+    let agrees : (n : ℕ) → AgreesIn n now sent got → AgreesIn n b sent got = λ n a. subst (λ (t : Stack). AgreesIn n t sent got) (sym is) (exchange_agrees g.row.CAP n now sent got s c.requires.may a) in
     record { cycle = c.requires.at_port.agrees.cycle; agrees = c.go_round.ensures.cycle c.requires.at_port.agrees.cycle (agrees c.requires.at_port.agrees.cycle c.requires.at_port.agrees.agrees) }
 
 pub returns-in_err-missing-clause-cycle : goal.returns-in_err-missing-clause-cycle
 returns-in_err-missing-clause-cycle g c =
-    let now : State = c.args.self.now in
-    let b : State = c.begin_exchange.new.self in
+    let now : Stack = c.args.self.now in
+    let b : Stack = c.begin_exchange.new.self in
     let sent : Logs = g.P.Port.sent c.args.port.now in
     let got : Logs = g.P.Port.got c.args.port.now in
     let is : b ≡ in_exchange now = c.begin_exchange.ensures.state in
     let s : IsStack g.row.CAP now = c.begin_exchange.ensures.standing in
-    let k : Begun b Exchanging now.done now = subst (λ (t : State). Begun t Exchanging now.done now) (sym is) (exchange_begun now) in
-    let agrees : (n : ℕ) → AgreesIn n now sent got → AgreesIn n b sent got = λ n a. subst (λ (t : State). AgreesIn n t sent got) (sym is) (exchange_agrees g.row.CAP n now sent got s c.requires.may a) in
+    let k : Begun b Exchanging now.done now = subst (λ (t : Stack). Begun t Exchanging now.done now) (sym is) (exchange_begun now) in
+    let agrees : (n : ℕ) → AgreesIn n now sent got → AgreesIn n b sent got = λ n a. subst (λ (t : Stack). AgreesIn n t sent got) (sym is) (exchange_agrees g.row.CAP n now sent got s c.requires.may a) in
     λ n a. c.go_round.ensures.cycle n (agrees n a)
 
 pub returns-clause-agrees : goal.returns-clause-agrees
 returns-clause-agrees g c =
-    let now : State = c.args.self.now in
-    let b : State = c.begin_exchange.new.self in
+    let now : Stack = c.args.self.now in
+    let b : Stack = c.begin_exchange.new.self in
     let sent : Logs = g.P.Port.sent c.args.port.now in
     let got : Logs = g.P.Port.got c.args.port.now in
     let is : b ≡ in_exchange now = c.begin_exchange.ensures.state in
     let s : IsStack g.row.CAP now = c.begin_exchange.ensures.standing in
-    let k : Begun b Exchanging now.done now = subst (λ (t : State). Begun t Exchanging now.done now) (sym is) (exchange_begun now) in
-    let agrees : (n : ℕ) → AgreesIn n now sent got → AgreesIn n b sent got = λ n a. subst (λ (t : State). AgreesIn n t sent got) (sym is) (exchange_agrees g.row.CAP n now sent got s c.requires.may a) in
-    let h : State = c.go_round.new.self in
+    let k : Begun b Exchanging now.done now = subst (λ (t : Stack). Begun t Exchanging now.done now) (sym is) (exchange_begun now) in
+    let agrees : (n : ℕ) → AgreesIn n now sent got → AgreesIn n b sent got = λ n a. subst (λ (t : Stack). AgreesIn n t sent got) (sym is) (exchange_agrees g.row.CAP n now sent got s c.requires.may a) in
+    let h : Stack = c.go_round.new.self in
     let r = c.settle_exchange.result in
     let sent' : Logs = g.P.Port.sent c.go_round.new.port in
     let got' : Logs = g.P.Port.got c.go_round.new.port in
-    let stage : h.stage ≡ Exchanging = ap (λ (t : State). t.stage) c.go_round.ensures.same ∙ k.stage_is in
+    let stage : h.stage ≡ Exchanging = ap (λ (t : Stack). t.stage) c.go_round.ensures.same ∙ k.stage_is in
     let over : (n : ℕ) → AgreesIn n now sent got → AgreesIn n c.settle_exchange.new.self sent' got' = λ n a.
-    subst (λ (t : State). AgreesIn n t sent' got') (sym c.settle_exchange.ensures.state)
+    subst (λ (t : Stack). AgreesIn n t sent' got') (sym c.settle_exchange.ensures.state)
     (agrees_staged n h (stage_of_exchange r) sent' got' (ap (rounds_in n) stage ∙ exchange_rounds n r) (c.go_round.ensures.cycle n (agrees n a))) in
     record { cycle = c.requires.at_port.agrees.cycle; agrees = over c.requires.at_port.agrees.cycle c.requires.at_port.agrees.agrees }
 
 pub returns-clause-cycle : goal.returns-clause-cycle
 returns-clause-cycle g c =
-    let now : State = c.args.self.now in
-    let b : State = c.begin_exchange.new.self in
+    let now : Stack = c.args.self.now in
+    let b : Stack = c.begin_exchange.new.self in
     let sent : Logs = g.P.Port.sent c.args.port.now in
     let got : Logs = g.P.Port.got c.args.port.now in
     let is : b ≡ in_exchange now = c.begin_exchange.ensures.state in
     let s : IsStack g.row.CAP now = c.begin_exchange.ensures.standing in
-    let k : Begun b Exchanging now.done now = subst (λ (t : State). Begun t Exchanging now.done now) (sym is) (exchange_begun now) in
-    let agrees : (n : ℕ) → AgreesIn n now sent got → AgreesIn n b sent got = λ n a. subst (λ (t : State). AgreesIn n t sent got) (sym is) (exchange_agrees g.row.CAP n now sent got s c.requires.may a) in
-    let h : State = c.go_round.new.self in
+    let k : Begun b Exchanging now.done now = subst (λ (t : Stack). Begun t Exchanging now.done now) (sym is) (exchange_begun now) in
+    let agrees : (n : ℕ) → AgreesIn n now sent got → AgreesIn n b sent got = λ n a. subst (λ (t : Stack). AgreesIn n t sent got) (sym is) (exchange_agrees g.row.CAP n now sent got s c.requires.may a) in
+    let h : Stack = c.go_round.new.self in
     let r = c.settle_exchange.result in
     let sent' : Logs = g.P.Port.sent c.go_round.new.port in
     let got' : Logs = g.P.Port.got c.go_round.new.port in
-    let stage : h.stage ≡ Exchanging = ap (λ (t : State). t.stage) c.go_round.ensures.same ∙ k.stage_is in
+    let stage : h.stage ≡ Exchanging = ap (λ (t : Stack). t.stage) c.go_round.ensures.same ∙ k.stage_is in
     let over : (n : ℕ) → AgreesIn n now sent got → AgreesIn n c.settle_exchange.new.self sent' got' = λ n a.
-    subst (λ (t : State). AgreesIn n t sent' got') (sym c.settle_exchange.ensures.state)
+    subst (λ (t : Stack). AgreesIn n t sent' got') (sym c.settle_exchange.ensures.state)
     (agrees_staged n h (stage_of_exchange r) sent' got' (ap (rounds_in n) stage ∙ exchange_rounds n r) (c.go_round.ensures.cycle n (agrees n a))) in
     over
 
 pub returns-clause-asks : goal.returns-clause-asks
 returns-clause-asks g c =
-    let now : State = c.args.self.now in
-    let b : State = c.begin_exchange.new.self in
-    let h : State = c.go_round.new.self in
+    let now : Stack = c.args.self.now in
+    let b : Stack = c.begin_exchange.new.self in
+    let h : Stack = c.go_round.new.self in
     let is : b ≡ in_exchange now = c.begin_exchange.ensures.state in
-    subst (λ (t : State). AsksOnce g.P.Port t c.settle_exchange.new.self c.args.port.now c.go_round.new.port) is
-    (subst (λ (t : State). AsksOnce g.P.Port b t c.args.port.now c.go_round.new.port) (sym c.settle_exchange.ensures.state)
+    subst (λ (t : Stack). AsksOnce g.P.Port t c.settle_exchange.new.self c.args.port.now c.go_round.new.port) is
+    (subst (λ (t : Stack). AsksOnce g.P.Port b t c.args.port.now c.go_round.new.port) (sym c.settle_exchange.ensures.state)
     (asks_staged g.P.Port b h (stage_of_exchange c.settle_exchange.result) c.args.port.now c.go_round.new.port c.in_ok-missing.ensures.asks))
 
 pub returns-in_err-missing-clause-step : goal.returns-in_err-missing-clause-step
 returns-in_err-missing-clause-step g c =
-    let now : State = c.args.self.now in
-    let b : State = c.begin_exchange.new.self in
-    let h : State = c.go_round.new.self in
+    let now : Stack = c.args.self.now in
+    let b : Stack = c.begin_exchange.new.self in
+    let h : Stack = c.go_round.new.self in
     let sent : Logs = g.P.Port.sent c.args.port.now in
     let got : Logs = g.P.Port.got c.args.port.now in
     let sent' : Logs = g.P.Port.sent c.go_round.new.port in
     let got' : Logs = g.P.Port.got c.go_round.new.port in
     let is : b ≡ in_exchange now = c.begin_exchange.ensures.state in
     let s : IsStack g.row.CAP now = c.begin_exchange.ensures.standing in
-    let k : Begun b Exchanging now.done now = subst (λ (t : State). Begun t Exchanging now.done now) (sym is) (exchange_begun now) in
+    let k : Begun b Exchanging now.done now = subst (λ (t : Stack). Begun t Exchanging now.done now) (sym is) (exchange_begun now) in
     let n : ℕ = c.requires.at_port.agrees.cycle in
     let a : AgreesIn n now sent got = c.requires.at_port.agrees.agrees in
     let m : ℕ = n in
-    let agrees : AgreesIn m b sent got = subst (λ (t : State). AgreesIn m t sent got) (sym is) (exchange_agrees g.row.CAP n now sent got s c.requires.may a) in
-    let first : SameLists now b sent sent got got = subst (λ (t : State). SameLists now t sent sent got got) (sym is) (exchange_lists g.row.CAP now sent got s c.requires.may) in
+    let agrees : AgreesIn m b sent got = subst (λ (t : Stack). AgreesIn m t sent got) (sym is) (exchange_agrees g.row.CAP n now sent got s c.requires.may a) in
+    let first : SameLists now b sent sent got got = subst (λ (t : Stack). SameLists now t sent sent got got) (sym is) (exchange_lists g.row.CAP now sent got s c.requires.may) in
     let kind : Kind b.stage b.done false true = kind_of b.stage b.done false true (ap (λ (t : Stage). is_proceeding t || is_exchanging t) k.stage_is) (sym (ap is_exchanging k.stage_is)) (sym (and_false b.done)) in
     let second : SameLists b h sent sent' got got' = made_lists g.row.CAP m b h false true sent sent' got got' c.go_round.ensures.standing kind c.go_round.ensures.same c.go_round.ensures.round agrees in
     let lists : SameLists now h sent sent' got got' = lists_after now b h sent sent' got got' k.ranks first second in
-    let epoch : b.epoch ≡ now.epoch = ap (λ (t : State). t.epoch) is ∙ exchange_epoch now in
+    let epoch : b.epoch ≡ now.epoch = ap (λ (t : Stack). t.epoch) is ∙ exchange_epoch now in
     let same = c.go_round.ensures.same in
     let polled : Polled now h now.done = record {
-      ranks = ap (λ (t : State). t.ranks) same ∙ k.ranks;
-      epoch = ap (λ (t : State). t.epoch) same ∙ epoch;
-      done_is = ap (λ (t : State). t.done) same ∙ k.done_is;
-      forgotten = ap (λ (t : State). t.popped) same ∙ k.forgotten;
+      ranks = ap (λ (t : Stack). t.ranks) same ∙ k.ranks;
+      epoch = ap (λ (t : Stack). t.epoch) same ∙ epoch;
+      done_is = ap (λ (t : Stack). t.done) same ∙ k.done_is;
+      forgotten = ap (λ (t : Stack). t.popped) same ∙ k.forgotten;
     } in
-    let stage : h.stage ≡ Exchanging = ap (λ (t : State). t.stage) same ∙ k.stage_is in
+    let stage : h.stage ≡ Exchanging = ap (λ (t : Stack). t.stage) same ∙ k.stage_is in
     idle_poll now h sent sent' got got' polled (ap is_all_done stage ∙ sym (exchange_not_all now.stage c.requires.may)) lists
 
 pub returns-clause-step : goal.returns-clause-step
 returns-clause-step g c =
-    let now : State = c.args.self.now in
-    let b : State = c.begin_exchange.new.self in
-    let h : State = c.go_round.new.self in
+    let now : Stack = c.args.self.now in
+    let b : Stack = c.begin_exchange.new.self in
+    let h : Stack = c.go_round.new.self in
     let sent : Logs = g.P.Port.sent c.args.port.now in
     let got : Logs = g.P.Port.got c.args.port.now in
     let sent' : Logs = g.P.Port.sent c.go_round.new.port in
     let got' : Logs = g.P.Port.got c.go_round.new.port in
     let is : b ≡ in_exchange now = c.begin_exchange.ensures.state in
     let s : IsStack g.row.CAP now = c.begin_exchange.ensures.standing in
-    let k : Begun b Exchanging now.done now = subst (λ (t : State). Begun t Exchanging now.done now) (sym is) (exchange_begun now) in
+    let k : Begun b Exchanging now.done now = subst (λ (t : Stack). Begun t Exchanging now.done now) (sym is) (exchange_begun now) in
     let n : ℕ = c.requires.at_port.agrees.cycle in
     let a : AgreesIn n now sent got = c.requires.at_port.agrees.agrees in
     let m : ℕ = n in
-    let agrees : AgreesIn m b sent got = subst (λ (t : State). AgreesIn m t sent got) (sym is) (exchange_agrees g.row.CAP n now sent got s c.requires.may a) in
-    let first : SameLists now b sent sent got got = subst (λ (t : State). SameLists now t sent sent got got) (sym is) (exchange_lists g.row.CAP now sent got s c.requires.may) in
+    let agrees : AgreesIn m b sent got = subst (λ (t : Stack). AgreesIn m t sent got) (sym is) (exchange_agrees g.row.CAP n now sent got s c.requires.may a) in
+    let first : SameLists now b sent sent got got = subst (λ (t : Stack). SameLists now t sent sent got got) (sym is) (exchange_lists g.row.CAP now sent got s c.requires.may) in
     let kind : Kind b.stage b.done false true = kind_of b.stage b.done false true (ap (λ (t : Stage). is_proceeding t || is_exchanging t) k.stage_is) (sym (ap is_exchanging k.stage_is)) (sym (and_false b.done)) in
     let second : SameLists b h sent sent' got got' = made_lists g.row.CAP m b h false true sent sent' got got' c.go_round.ensures.standing kind c.go_round.ensures.same c.go_round.ensures.round agrees in
     let lists : SameLists now h sent sent' got got' = lists_after now b h sent sent' got got' k.ranks first second in
-    let epoch : b.epoch ≡ now.epoch = ap (λ (t : State). t.epoch) is ∙ exchange_epoch now in
+    let epoch : b.epoch ≡ now.epoch = ap (λ (t : Stack). t.epoch) is ∙ exchange_epoch now in
     let same = c.go_round.ensures.same in
     let polled : Polled now h now.done = record {
-      ranks = ap (λ (t : State). t.ranks) same ∙ k.ranks;
-      epoch = ap (λ (t : State). t.epoch) same ∙ epoch;
-      done_is = ap (λ (t : State). t.done) same ∙ k.done_is;
-      forgotten = ap (λ (t : State). t.popped) same ∙ k.forgotten;
+      ranks = ap (λ (t : Stack). t.ranks) same ∙ k.ranks;
+      epoch = ap (λ (t : Stack). t.epoch) same ∙ epoch;
+      done_is = ap (λ (t : Stack). t.done) same ∙ k.done_is;
+      forgotten = ap (λ (t : Stack). t.popped) same ∙ k.forgotten;
     } in
     let r = c.settle_exchange.result in
-    let staged : State = record h { stage = stage_of_exchange r } in
+    let staged : Stack = record h { stage = stage_of_exchange r } in
     let settled : c.settle_exchange.new.self ≡ staged = c.settle_exchange.ensures.state in
     let over : SameLists now staged sent sent' got got' = record { pushed = lists.pushed; pulled = lists.pulled } in
     let polled' : Polled now staged now.done = record { ranks = polled.ranks; epoch = polled.epoch; done_is = polled.done_is; forgotten = polled.forgotten } in
-    subst (λ (t : State). IsOwnStep Idle (part_of now sent got) (part_of t sent' got')) (sym settled)
+    subst (λ (t : Stack). IsOwnStep Idle (part_of now sent got) (part_of t sent' got')) (sym settled)
     (idle_poll now staged sent sent' got got' polled' (sym (exchange_stays r) ∙ sym (exchange_not_all now.stage c.requires.may)) over)
 
 pub returns-in_err-missing-clause-whole : goal.returns-in_err-missing-clause-whole
 returns-in_err-missing-clause-whole g c =
-    let now : State = c.args.self.now in
-    let b : State = c.begin_exchange.new.self in
-    let h : State = c.go_round.new.self in
+    let now : Stack = c.args.self.now in
+    let b : Stack = c.begin_exchange.new.self in
+    let h : Stack = c.go_round.new.self in
     let sent : Logs = g.P.Port.sent c.args.port.now in
     let got : Logs = g.P.Port.got c.args.port.now in
     let got' : Logs = g.P.Port.got c.go_round.new.port in
     let is : b ≡ in_exchange now = c.begin_exchange.ensures.state in
     let s : IsStack g.row.CAP now = c.begin_exchange.ensures.standing in
-    let k : Begun b Exchanging now.done now = subst (λ (t : State). Begun t Exchanging now.done now) (sym is) (exchange_begun now) in
+    let k : Begun b Exchanging now.done now = subst (λ (t : Stack). Begun t Exchanging now.done now) (sym is) (exchange_begun now) in
     λ n a agrees w due came.
-    let now_in : AgreesIn n b sent got = subst (λ (t : State). AgreesIn n t sent got) (sym is) (exchange_agrees g.row.CAP n now sent got s c.requires.may agrees) in
+    let now_in : AgreesIn n b sent got = subst (λ (t : Stack). AgreesIn n t sent got) (sym is) (exchange_agrees g.row.CAP n now sent got s c.requires.may agrees) in
     let within : a < b.ranks = subst (λ m. a < m) (sym k.ranks) w in
     let standing : IsStack g.row.CAP b = c.go_round.ensures.standing in
     let open' = (standing.each_in a no_in (omega (arith, within, standing.all_ins))).due_open in
-    let epoch : b.epoch ≡ now.epoch = ap (λ (t : State). t.epoch) is ∙ exchange_epoch now in
+    let epoch : b.epoch ≡ now.epoch = ap (λ (t : Stack). t.epoch) is ∙ exchange_epoch now in
     whole_after b.epoch n (rounds_in n b.stage) true (in_at b a) (in_at h a) (got (link_from b a)) (got' (link_from b a)) open' (now_in.ins a within)
-    (λ x. ap (rounds_in n) k.stage_is) refl (ap (λ (t : State). (in_at t a).due) is ∙ due) came (c.go_round.ensures.round.collected a within)
+    (λ x. ap (rounds_in n) k.stage_is) refl (ap (λ (t : Stack). (in_at t a).due) is ∙ due) came (c.go_round.ensures.round.collected a within)
     ∙ (λ i. entries_in (exchange_parcel (epoch i) n (got' (number (k.ranks i) a (k.rank i)))))
 
 pub returns-clause-whole : goal.returns-clause-whole
 returns-clause-whole g c =
-    let now : State = c.args.self.now in
-    let b : State = c.begin_exchange.new.self in
-    let h : State = c.go_round.new.self in
+    let now : Stack = c.args.self.now in
+    let b : Stack = c.begin_exchange.new.self in
+    let h : Stack = c.go_round.new.self in
     let sent : Logs = g.P.Port.sent c.args.port.now in
     let got : Logs = g.P.Port.got c.args.port.now in
     let got' : Logs = g.P.Port.got c.go_round.new.port in
     let is : b ≡ in_exchange now = c.begin_exchange.ensures.state in
     let s : IsStack g.row.CAP now = c.begin_exchange.ensures.standing in
-    let k : Begun b Exchanging now.done now = subst (λ (t : State). Begun t Exchanging now.done now) (sym is) (exchange_begun now) in
+    let k : Begun b Exchanging now.done now = subst (λ (t : Stack). Begun t Exchanging now.done now) (sym is) (exchange_begun now) in
     λ n a agrees w due came.
-    let now_in : AgreesIn n b sent got = subst (λ (t : State). AgreesIn n t sent got) (sym is) (exchange_agrees g.row.CAP n now sent got s c.requires.may agrees) in
+    let now_in : AgreesIn n b sent got = subst (λ (t : Stack). AgreesIn n t sent got) (sym is) (exchange_agrees g.row.CAP n now sent got s c.requires.may agrees) in
     let within : a < b.ranks = subst (λ m. a < m) (sym k.ranks) w in
     let standing : IsStack g.row.CAP b = c.go_round.ensures.standing in
     let open' = (standing.each_in a no_in (omega (arith, within, standing.all_ins))).due_open in
-    let epoch : b.epoch ≡ now.epoch = ap (λ (t : State). t.epoch) is ∙ exchange_epoch now in
+    let epoch : b.epoch ≡ now.epoch = ap (λ (t : Stack). t.epoch) is ∙ exchange_epoch now in
     let settled = c.settle_exchange.ensures.state in
-    ap (λ (t : State). (in_at t a).unread) settled
+    ap (λ (t : Stack). (in_at t a).unread) settled
     ∙ (whole_after b.epoch n (rounds_in n b.stage) true (in_at b a) (in_at h a) (got (link_from b a)) (got' (link_from b a)) open' (now_in.ins a within)
-    (λ x. ap (rounds_in n) k.stage_is) refl (ap (λ (t : State). (in_at t a).due) is ∙ due) (sym (ap (λ (t : State). (in_at t a).due) settled) ∙ came) (c.go_round.ensures.round.collected a within)
+    (λ x. ap (rounds_in n) k.stage_is) refl (ap (λ (t : Stack). (in_at t a).due) is ∙ due) (sym (ap (λ (t : Stack). (in_at t a).due) settled) ∙ came) (c.go_round.ensures.round.collected a within)
     ∙ (λ i. entries_in (exchange_parcel (epoch i) n (got' (number (k.ranks i) a (k.rank i))))))

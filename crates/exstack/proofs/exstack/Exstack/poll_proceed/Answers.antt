@@ -2,7 +2,7 @@ use Rattle.std.proofs.Common.{◌≡◌, ℕ, ◌||◌, false, [], ◌∷◌, sy
 use Rattle.port_bank.specs.Logs.{Logs}
 use Rattle.exstack.specs.declared.stage.Stage.{Stage}
 use Rattle.exstack.specs.declared.stage.Stage.TheVariants.{Proceeding}
-use Rattle.exstack.specs.State.{State, is_proceeding, is_exchanging, in_proceed, stage_of_proceed}
+use Rattle.exstack.specs.State.{Stack, is_proceeding, is_exchanging, in_proceed, stage_of_proceed}
 use Rattle.exstack.specs.Steps.{AsksOnce}
 use Rattle.exstack.specs.Agreement.{AgreesIn, rounds_in, cycle_after}
 use Rattle.exstack.specs.Standing.{IsStack}
@@ -15,14 +15,14 @@ use Rattle.exstack.proofs.exstack.Exstack.poll_proceed.Goals as goal
 
 pub go_round-requires : goal.go_round-requires
 go_round-requires g c =
-    let now : State = c.args.self.now in
-    let b : State = c.begin_proceed.new.self in
+    let now : Stack = c.args.self.now in
+    let b : Stack = c.begin_proceed.new.self in
     let sent : Logs = g.P.Port.sent c.args.port.now in
     let got : Logs = g.P.Port.got c.args.port.now in
     let is : b ≡ in_proceed c.args.done now = c.begin_proceed.ensures.state in
     let s : IsStack g.row.CAP now = c.begin_proceed.ensures.standing in
-    let k : Begun b Proceeding c.args.done now = subst (λ (t : State). Begun t Proceeding c.args.done now) (sym is) (proceed_begun c.args.done now c.requires.same_done) in
-    let agrees : (n : ℕ) → AgreesIn n now sent got → AgreesIn (cycle_after n now.stage) b sent got = λ n a. subst (λ (t : State). AgreesIn (cycle_after n now.stage) t sent got) (sym is) (proceed_agrees g.row.CAP n now c.args.done sent got s c.requires.may a) in (
+    let k : Begun b Proceeding c.args.done now = subst (λ (t : Stack). Begun t Proceeding c.args.done now) (sym is) (proceed_begun c.args.done now c.requires.same_done) in
+    let agrees : (n : ℕ) → AgreesIn n now sent got → AgreesIn (cycle_after n now.stage) b sent got = λ n a. subst (λ (t : Stack). AgreesIn (cycle_after n now.stage) t sent got) (sym is) (proceed_agrees g.row.CAP n now c.args.done sent got s c.requires.may a) in (
       search rules,
       (
         ap (λ (s : Stage). is_proceeding s || is_exchanging s) k.stage_is,
@@ -41,141 +41,141 @@ go_round-requires g c =
 
 pub returns-in_err-missing-clause-agrees : goal.returns-in_err-missing-clause-agrees
 returns-in_err-missing-clause-agrees g c =
-    let now : State = c.args.self.now in
-    let b : State = c.begin_proceed.new.self in
+    let now : Stack = c.args.self.now in
+    let b : Stack = c.begin_proceed.new.self in
     let sent : Logs = g.P.Port.sent c.args.port.now in
     let got : Logs = g.P.Port.got c.args.port.now in
     let is : b ≡ in_proceed c.args.done now = c.begin_proceed.ensures.state in
     let s : IsStack g.row.CAP now = c.begin_proceed.ensures.standing in
-    let k : Begun b Proceeding c.args.done now = subst (λ (t : State). Begun t Proceeding c.args.done now) (sym is) (proceed_begun c.args.done now c.requires.same_done) in
-    let agrees : (n : ℕ) → AgreesIn n now sent got → AgreesIn (cycle_after n now.stage) b sent got = λ n a. subst (λ (t : State). AgreesIn (cycle_after n now.stage) t sent got) (sym is) (proceed_agrees g.row.CAP n now c.args.done sent got s c.requires.may a) in
+    let k : Begun b Proceeding c.args.done now = subst (λ (t : Stack). Begun t Proceeding c.args.done now) (sym is) (proceed_begun c.args.done now c.requires.same_done) in
+    let agrees : (n : ℕ) → AgreesIn n now sent got → AgreesIn (cycle_after n now.stage) b sent got = λ n a. subst (λ (t : Stack). AgreesIn (cycle_after n now.stage) t sent got) (sym is) (proceed_agrees g.row.CAP n now c.args.done sent got s c.requires.may a) in
     record { cycle = (cycle_after c.requires.at_port.agrees.cycle now.stage); agrees = c.go_round.ensures.cycle (cycle_after c.requires.at_port.agrees.cycle now.stage) (agrees c.requires.at_port.agrees.cycle c.requires.at_port.agrees.agrees) }
 
 pub returns-in_err-missing-clause-cycle : goal.returns-in_err-missing-clause-cycle
 returns-in_err-missing-clause-cycle g c =
-    let now : State = c.args.self.now in
-    let b : State = c.begin_proceed.new.self in
+    let now : Stack = c.args.self.now in
+    let b : Stack = c.begin_proceed.new.self in
     let sent : Logs = g.P.Port.sent c.args.port.now in
     let got : Logs = g.P.Port.got c.args.port.now in
     let is : b ≡ in_proceed c.args.done now = c.begin_proceed.ensures.state in
     let s : IsStack g.row.CAP now = c.begin_proceed.ensures.standing in
-    let k : Begun b Proceeding c.args.done now = subst (λ (t : State). Begun t Proceeding c.args.done now) (sym is) (proceed_begun c.args.done now c.requires.same_done) in
-    let agrees : (n : ℕ) → AgreesIn n now sent got → AgreesIn (cycle_after n now.stage) b sent got = λ n a. subst (λ (t : State). AgreesIn (cycle_after n now.stage) t sent got) (sym is) (proceed_agrees g.row.CAP n now c.args.done sent got s c.requires.may a) in
+    let k : Begun b Proceeding c.args.done now = subst (λ (t : Stack). Begun t Proceeding c.args.done now) (sym is) (proceed_begun c.args.done now c.requires.same_done) in
+    let agrees : (n : ℕ) → AgreesIn n now sent got → AgreesIn (cycle_after n now.stage) b sent got = λ n a. subst (λ (t : Stack). AgreesIn (cycle_after n now.stage) t sent got) (sym is) (proceed_agrees g.row.CAP n now c.args.done sent got s c.requires.may a) in
     λ n a. c.go_round.ensures.cycle (cycle_after n now.stage) (agrees n a)
 
 pub returns-clause-agrees : goal.returns-clause-agrees
 returns-clause-agrees g c =
-    let now : State = c.args.self.now in
-    let b : State = c.begin_proceed.new.self in
+    let now : Stack = c.args.self.now in
+    let b : Stack = c.begin_proceed.new.self in
     let sent : Logs = g.P.Port.sent c.args.port.now in
     let got : Logs = g.P.Port.got c.args.port.now in
     let is : b ≡ in_proceed c.args.done now = c.begin_proceed.ensures.state in
     let s : IsStack g.row.CAP now = c.begin_proceed.ensures.standing in
-    let k : Begun b Proceeding c.args.done now = subst (λ (t : State). Begun t Proceeding c.args.done now) (sym is) (proceed_begun c.args.done now c.requires.same_done) in
-    let agrees : (n : ℕ) → AgreesIn n now sent got → AgreesIn (cycle_after n now.stage) b sent got = λ n a. subst (λ (t : State). AgreesIn (cycle_after n now.stage) t sent got) (sym is) (proceed_agrees g.row.CAP n now c.args.done sent got s c.requires.may a) in
-    let h : State = c.go_round.new.self in
+    let k : Begun b Proceeding c.args.done now = subst (λ (t : Stack). Begun t Proceeding c.args.done now) (sym is) (proceed_begun c.args.done now c.requires.same_done) in
+    let agrees : (n : ℕ) → AgreesIn n now sent got → AgreesIn (cycle_after n now.stage) b sent got = λ n a. subst (λ (t : Stack). AgreesIn (cycle_after n now.stage) t sent got) (sym is) (proceed_agrees g.row.CAP n now c.args.done sent got s c.requires.may a) in
+    let h : Stack = c.go_round.new.self in
     let r = c.settle_proceed.result in
     let sent' : Logs = g.P.Port.sent c.go_round.new.port in
     let got' : Logs = g.P.Port.got c.go_round.new.port in
-    let stage : h.stage ≡ Proceeding = ap (λ (t : State). t.stage) c.go_round.ensures.same ∙ k.stage_is in
+    let stage : h.stage ≡ Proceeding = ap (λ (t : Stack). t.stage) c.go_round.ensures.same ∙ k.stage_is in
     let over : (n : ℕ) → AgreesIn n now sent got → AgreesIn (cycle_after n now.stage) c.settle_proceed.new.self sent' got' = λ n a.
-    subst (λ (t : State). AgreesIn (cycle_after n now.stage) t sent' got') (sym c.settle_proceed.ensures.state)
+    subst (λ (t : Stack). AgreesIn (cycle_after n now.stage) t sent' got') (sym c.settle_proceed.ensures.state)
     (agrees_staged (cycle_after n now.stage) h (stage_of_proceed r) sent' got' (ap (rounds_in (cycle_after n now.stage)) stage ∙ proceed_rounds (cycle_after n now.stage) r) (c.go_round.ensures.cycle (cycle_after n now.stage) (agrees n a))) in
     record { cycle = (cycle_after c.requires.at_port.agrees.cycle now.stage); agrees = over c.requires.at_port.agrees.cycle c.requires.at_port.agrees.agrees }
 
 pub returns-clause-cycle : goal.returns-clause-cycle
 returns-clause-cycle g c =
-    let now : State = c.args.self.now in
-    let b : State = c.begin_proceed.new.self in
+    let now : Stack = c.args.self.now in
+    let b : Stack = c.begin_proceed.new.self in
     let sent : Logs = g.P.Port.sent c.args.port.now in
     let got : Logs = g.P.Port.got c.args.port.now in
     let is : b ≡ in_proceed c.args.done now = c.begin_proceed.ensures.state in
     let s : IsStack g.row.CAP now = c.begin_proceed.ensures.standing in
-    let k : Begun b Proceeding c.args.done now = subst (λ (t : State). Begun t Proceeding c.args.done now) (sym is) (proceed_begun c.args.done now c.requires.same_done) in
-    let agrees : (n : ℕ) → AgreesIn n now sent got → AgreesIn (cycle_after n now.stage) b sent got = λ n a. subst (λ (t : State). AgreesIn (cycle_after n now.stage) t sent got) (sym is) (proceed_agrees g.row.CAP n now c.args.done sent got s c.requires.may a) in
-    let h : State = c.go_round.new.self in
+    let k : Begun b Proceeding c.args.done now = subst (λ (t : Stack). Begun t Proceeding c.args.done now) (sym is) (proceed_begun c.args.done now c.requires.same_done) in
+    let agrees : (n : ℕ) → AgreesIn n now sent got → AgreesIn (cycle_after n now.stage) b sent got = λ n a. subst (λ (t : Stack). AgreesIn (cycle_after n now.stage) t sent got) (sym is) (proceed_agrees g.row.CAP n now c.args.done sent got s c.requires.may a) in
+    let h : Stack = c.go_round.new.self in
     let r = c.settle_proceed.result in
     let sent' : Logs = g.P.Port.sent c.go_round.new.port in
     let got' : Logs = g.P.Port.got c.go_round.new.port in
-    let stage : h.stage ≡ Proceeding = ap (λ (t : State). t.stage) c.go_round.ensures.same ∙ k.stage_is in
+    let stage : h.stage ≡ Proceeding = ap (λ (t : Stack). t.stage) c.go_round.ensures.same ∙ k.stage_is in
     let over : (n : ℕ) → AgreesIn n now sent got → AgreesIn (cycle_after n now.stage) c.settle_proceed.new.self sent' got' = λ n a.
-    subst (λ (t : State). AgreesIn (cycle_after n now.stage) t sent' got') (sym c.settle_proceed.ensures.state)
+    subst (λ (t : Stack). AgreesIn (cycle_after n now.stage) t sent' got') (sym c.settle_proceed.ensures.state)
     (agrees_staged (cycle_after n now.stage) h (stage_of_proceed r) sent' got' (ap (rounds_in (cycle_after n now.stage)) stage ∙ proceed_rounds (cycle_after n now.stage) r) (c.go_round.ensures.cycle (cycle_after n now.stage) (agrees n a))) in
     over
 
 pub returns-clause-asks : goal.returns-clause-asks
 returns-clause-asks g c =
-    let now : State = c.args.self.now in
-    let b : State = c.begin_proceed.new.self in
-    let h : State = c.go_round.new.self in
+    let now : Stack = c.args.self.now in
+    let b : Stack = c.begin_proceed.new.self in
+    let h : Stack = c.go_round.new.self in
     let is : b ≡ in_proceed c.args.done now = c.begin_proceed.ensures.state in
-    subst (λ (t : State). AsksOnce g.P.Port t c.settle_proceed.new.self c.args.port.now c.go_round.new.port) is
-    (subst (λ (t : State). AsksOnce g.P.Port b t c.args.port.now c.go_round.new.port) (sym c.settle_proceed.ensures.state)
+    subst (λ (t : Stack). AsksOnce g.P.Port t c.settle_proceed.new.self c.args.port.now c.go_round.new.port) is
+    (subst (λ (t : Stack). AsksOnce g.P.Port b t c.args.port.now c.go_round.new.port) (sym c.settle_proceed.ensures.state)
     (asks_staged g.P.Port b h (stage_of_proceed c.settle_proceed.result) c.args.port.now c.go_round.new.port c.in_ok-missing.ensures.asks))
 
 pub returns-in_err-missing-clause-steps : goal.returns-in_err-missing-clause-steps
 returns-in_err-missing-clause-steps g c =
-    let now : State = c.args.self.now in
-    let b : State = c.begin_proceed.new.self in
-    let h : State = c.go_round.new.self in
+    let now : Stack = c.args.self.now in
+    let b : Stack = c.begin_proceed.new.self in
+    let h : Stack = c.go_round.new.self in
     let sent : Logs = g.P.Port.sent c.args.port.now in
     let got : Logs = g.P.Port.got c.args.port.now in
     let sent' : Logs = g.P.Port.sent c.go_round.new.port in
     let got' : Logs = g.P.Port.got c.go_round.new.port in
     let is : b ≡ in_proceed c.args.done now = c.begin_proceed.ensures.state in
     let s : IsStack g.row.CAP now = c.begin_proceed.ensures.standing in
-    let k : Begun b Proceeding c.args.done now = subst (λ (t : State). Begun t Proceeding c.args.done now) (sym is) (proceed_begun c.args.done now c.requires.same_done) in
+    let k : Begun b Proceeding c.args.done now = subst (λ (t : Stack). Begun t Proceeding c.args.done now) (sym is) (proceed_begun c.args.done now c.requires.same_done) in
     let n : ℕ = c.requires.at_port.agrees.cycle in
     let a : AgreesIn n now sent got = c.requires.at_port.agrees.agrees in
     let m : ℕ = cycle_after n now.stage in
-    let agrees : AgreesIn m b sent got = subst (λ (t : State). AgreesIn m t sent got) (sym is) (proceed_agrees g.row.CAP n now c.args.done sent got s c.requires.may a) in
-    let first : SameLists now b sent sent got got = subst (λ (t : State). SameLists now t sent sent got got) (sym is) (proceed_lists g.row.CAP now c.args.done sent got s c.requires.read) in
+    let agrees : AgreesIn m b sent got = subst (λ (t : Stack). AgreesIn m t sent got) (sym is) (proceed_agrees g.row.CAP n now c.args.done sent got s c.requires.may a) in
+    let first : SameLists now b sent sent got got = subst (λ (t : Stack). SameLists now t sent sent got got) (sym is) (proceed_lists g.row.CAP now c.args.done sent got s c.requires.read) in
     let kind : Kind b.stage b.done c.args.done false = kind_of b.stage b.done c.args.done false (ap (λ (t : Stage). is_proceeding t || is_exchanging t) k.stage_is) (sym (ap is_exchanging k.stage_is)) (sym (and_true b.done ∙ k.done_is)) in
     let second : SameLists b h sent sent' got got' = made_lists g.row.CAP m b h c.args.done false sent sent' got got' c.go_round.ensures.standing kind c.go_round.ensures.same c.go_round.ensures.round agrees in
     let lists : SameLists now h sent sent' got got' = lists_after now b h sent sent' got got' k.ranks first second in
-    let epoch : b.epoch ≡ now.epoch = ap (λ (t : State). t.epoch) is ∙ proceed_epoch c.args.done now in
+    let epoch : b.epoch ≡ now.epoch = ap (λ (t : Stack). t.epoch) is ∙ proceed_epoch c.args.done now in
     let same = c.go_round.ensures.same in
     let polled : Polled now h c.args.done = record {
-      ranks = ap (λ (t : State). t.ranks) same ∙ k.ranks;
-      epoch = ap (λ (t : State). t.epoch) same ∙ epoch;
-      done_is = ap (λ (t : State). t.done) same ∙ k.done_is;
-      forgotten = ap (λ (t : State). t.popped) same ∙ k.forgotten;
+      ranks = ap (λ (t : Stack). t.ranks) same ∙ k.ranks;
+      epoch = ap (λ (t : Stack). t.epoch) same ∙ epoch;
+      done_is = ap (λ (t : Stack). t.done) same ∙ k.done_is;
+      forgotten = ap (λ (t : Stack). t.popped) same ∙ k.forgotten;
     } in
-    let stage : h.stage ≡ Proceeding = ap (λ (t : State). t.stage) same ∙ k.stage_is in
+    let stage : h.stage ≡ Proceeding = ap (λ (t : Stack). t.stage) same ∙ k.stage_is in
     proceed_poll now h c.args.done sent sent' got got' polled c.requires.done_stays (may_not_all now.stage c.requires.may) lists
 
 pub returns-clause-steps : goal.returns-clause-steps
 returns-clause-steps g c =
-    let now : State = c.args.self.now in
-    let b : State = c.begin_proceed.new.self in
-    let h : State = c.go_round.new.self in
+    let now : Stack = c.args.self.now in
+    let b : Stack = c.begin_proceed.new.self in
+    let h : Stack = c.go_round.new.self in
     let sent : Logs = g.P.Port.sent c.args.port.now in
     let got : Logs = g.P.Port.got c.args.port.now in
     let sent' : Logs = g.P.Port.sent c.go_round.new.port in
     let got' : Logs = g.P.Port.got c.go_round.new.port in
     let is : b ≡ in_proceed c.args.done now = c.begin_proceed.ensures.state in
     let s : IsStack g.row.CAP now = c.begin_proceed.ensures.standing in
-    let k : Begun b Proceeding c.args.done now = subst (λ (t : State). Begun t Proceeding c.args.done now) (sym is) (proceed_begun c.args.done now c.requires.same_done) in
+    let k : Begun b Proceeding c.args.done now = subst (λ (t : Stack). Begun t Proceeding c.args.done now) (sym is) (proceed_begun c.args.done now c.requires.same_done) in
     let n : ℕ = c.requires.at_port.agrees.cycle in
     let a : AgreesIn n now sent got = c.requires.at_port.agrees.agrees in
     let m : ℕ = cycle_after n now.stage in
-    let agrees : AgreesIn m b sent got = subst (λ (t : State). AgreesIn m t sent got) (sym is) (proceed_agrees g.row.CAP n now c.args.done sent got s c.requires.may a) in
-    let first : SameLists now b sent sent got got = subst (λ (t : State). SameLists now t sent sent got got) (sym is) (proceed_lists g.row.CAP now c.args.done sent got s c.requires.read) in
+    let agrees : AgreesIn m b sent got = subst (λ (t : Stack). AgreesIn m t sent got) (sym is) (proceed_agrees g.row.CAP n now c.args.done sent got s c.requires.may a) in
+    let first : SameLists now b sent sent got got = subst (λ (t : Stack). SameLists now t sent sent got got) (sym is) (proceed_lists g.row.CAP now c.args.done sent got s c.requires.read) in
     let kind : Kind b.stage b.done c.args.done false = kind_of b.stage b.done c.args.done false (ap (λ (t : Stage). is_proceeding t || is_exchanging t) k.stage_is) (sym (ap is_exchanging k.stage_is)) (sym (and_true b.done ∙ k.done_is)) in
     let second : SameLists b h sent sent' got got' = made_lists g.row.CAP m b h c.args.done false sent sent' got got' c.go_round.ensures.standing kind c.go_round.ensures.same c.go_round.ensures.round agrees in
     let lists : SameLists now h sent sent' got got' = lists_after now b h sent sent' got got' k.ranks first second in
-    let epoch : b.epoch ≡ now.epoch = ap (λ (t : State). t.epoch) is ∙ proceed_epoch c.args.done now in
+    let epoch : b.epoch ≡ now.epoch = ap (λ (t : Stack). t.epoch) is ∙ proceed_epoch c.args.done now in
     let same = c.go_round.ensures.same in
     let polled : Polled now h c.args.done = record {
-      ranks = ap (λ (t : State). t.ranks) same ∙ k.ranks;
-      epoch = ap (λ (t : State). t.epoch) same ∙ epoch;
-      done_is = ap (λ (t : State). t.done) same ∙ k.done_is;
-      forgotten = ap (λ (t : State). t.popped) same ∙ k.forgotten;
+      ranks = ap (λ (t : Stack). t.ranks) same ∙ k.ranks;
+      epoch = ap (λ (t : Stack). t.epoch) same ∙ epoch;
+      done_is = ap (λ (t : Stack). t.done) same ∙ k.done_is;
+      forgotten = ap (λ (t : Stack). t.popped) same ∙ k.forgotten;
     } in
     let r = c.settle_proceed.result in
-    let staged : State = record h { stage = stage_of_proceed r } in
+    let staged : Stack = record h { stage = stage_of_proceed r } in
     let settled : c.settle_proceed.new.self ≡ staged = c.settle_proceed.ensures.state in
     let over : SameLists now staged sent sent' got got' = record { pushed = lists.pushed; pulled = lists.pulled } in
     let polled' : Polled now staged c.args.done = record { ranks = polled.ranks; epoch = polled.epoch; done_is = polled.done_is; forgotten = polled.forgotten } in
-    subst (λ (t : State). AreOwnSteps (proceed_steps now.done c.args.done (is_all_done t.stage)) (part_of now sent got) (part_of t sent' got')) (sym settled)
+    subst (λ (t : Stack). AreOwnSteps (proceed_steps now.done c.args.done (is_all_done t.stage)) (part_of now sent got) (part_of t sent' got')) (sym settled)
     (proceed_poll now staged c.args.done sent sent' got got' polled' c.requires.done_stays (may_not_all now.stage c.requires.may) over)

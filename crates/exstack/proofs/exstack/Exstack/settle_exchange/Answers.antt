@@ -1,12 +1,12 @@
 use Rattle.std.proofs.Common.{◌≡◌, None, sym, ap, ◌∙◌, rules}
 use Rattle.exstack.specs.declared.stage.Stage.TheVariants.{Exchanging}
-use Rattle.exstack.specs.State.{State, missing_link}
+use Rattle.exstack.specs.State.{Stack, missing_link}
 use Rattle.exstack.proofs.Settling.{full_kept}
 use Rattle.exstack.proofs.exstack.Exstack.settle_exchange.Goals as goal
 
 pub invariant_of-self : goal.invariant_of-self
 invariant_of-self g c =
-    let st : State = record {
+    let st : Stack = record {
       ranks = c.self.inside.ranks;
       rank = c.self.inside.rank;
       stage = c.self.inside.stage;
@@ -16,8 +16,8 @@ invariant_of-self g c =
       ins = c.self.inside.ins.items;
       popped = c.self.inside.popped;
     } in
-    let now : State = c.args.self.now in
+    let now : Stack = c.args.self.now in
     let view : st ≡ now = c.self.view_is in
     let none : missing_link st ≡ None = ap missing_link view ∙ (sym c.requires.is_missing ∙ search rules) in
-    let stage : st.stage ≡ Exchanging = ap (λ (t : State). t.stage) view ∙ c.requires.exchanging in
-    full_kept g.row.CAP st c.self.inside.from c.self.invariant (ap (λ (t : State). t.popped) view ∙ c.requires.forgotten) none stage
+    let stage : st.stage ≡ Exchanging = ap (λ (t : Stack). t.stage) view ∙ c.requires.exchanging in
+    full_kept g.row.CAP st c.self.inside.from c.self.invariant (ap (λ (t : Stack). t.popped) view ∙ c.requires.forgotten) none stage

@@ -8,13 +8,13 @@ use Rattle.link_slots.specs.declared.seat.ear.Ear.{Ear}
 use Rattle.link_slots.specs.declared.table.wire.Wire.{Wire}
 use Rattle.std.proofs.lemmas.List.{get_or-map}
 use Rattle.link_slots.specs.Doorbell.{LookedFor}
-use Rattle.link_slots.specs.Logs.{InLog, Logs, in_of, got_of}
+use Rattle.link_slots.specs.Logs.{InLog, Lists, in_of, got_of}
 use Rattle.link_slots.specs.View.{own_logs}
 use Rattle.link_slots.specs.Shape.{Shape, MayFollow}
 use Rattle.link_slots.specs.Told.{IsManned}
 use Rattle.list_laws.specs.Counts.{counted}
 use Rattle.link_slots.specs.Counts.{IsWire, IsInEnd, IsHeard, AreGood, ElseKept}
-use Rattle.link_slots.specs.Seen.{Bank, Manning, collected_from, known, noted_at}
+use Rattle.link_slots.specs.Seen.{Identity, Manning, collected_from, known, noted_at}
 use Rattle.port_bank.specs.Port.{changed}
 use Rattle.link_slots.proofs.Wires.{hop_small}
 use Rattle.link_slots.proofs.Seating.{seat_collected, got_one, got_none, collects_added, collects_same, next_good, ended_case, noted_changed, none_waiting}
@@ -22,14 +22,14 @@ use Rattle.link_slots.proofs.seat.SlotSeat.collect.Goals as goal
 
 pub index_mut-ear-requires : goal.index_mut-ear-requires
 index_mut-ear-requires g c =
-    let wire : Wire = c.index-wire.result.now in let way : IsWire c.bank.inside.board.shared.key.dims c.args.link wire.bell wire.mask wire.hop = subst (λ (z : Wire). IsWire c.bank.inside.board.shared.key.dims c.args.link z.bell z.mask z.hop) (sym c.index-wire.ensures) (c.bank.invariant.each c.args.link wire (subst (λ (z : Shape). c.args.link < links z.dims) (c.requires.bank.1 ∙ sym (ap (λ (z : Bank). z.shape) c.bank.view_is)) c.requires.link)) in
-    let h = hop_small c.bank.inside.board.shared.key c.bank.invariant.board.shape c.args.link (subst (λ (z : Shape). c.args.link < links z.dims) (c.requires.bank.1 ∙ sym (ap (λ (z : Bank). z.shape) c.bank.view_is)) c.requires.link) in let w = way.hop_is in let n = c.self.invariant.ears_many in omega arith
+    let wire : Wire = c.index-wire.result.now in let way : IsWire c.bank.inside.board.shared.key.dims c.args.link wire.bell wire.mask wire.hop = subst (λ (z : Wire). IsWire c.bank.inside.board.shared.key.dims c.args.link z.bell z.mask z.hop) (sym c.index-wire.ensures) (c.bank.invariant.each c.args.link wire (subst (λ (z : Shape). c.args.link < links z.dims) (c.requires.bank.1 ∙ sym (ap (λ (z : Identity). z.shape) c.bank.view_is)) c.requires.link)) in
+    let h = hop_small c.bank.inside.board.shared.key c.bank.invariant.board.shape c.args.link (subst (λ (z : Shape). c.args.link < links z.dims) (c.requires.bank.1 ∙ sym (ap (λ (z : Identity). z.shape) c.bank.view_is)) c.requires.link) in let w = way.hop_is in let n = c.self.invariant.ears_many in omega arith
 
 pub collect_on-answer-requires : goal.collect_on-answer-requires
 collect_on-answer-requires g c =
-    let wire : Wire = c.index-wire.result.now in let way : IsWire c.bank.inside.board.shared.key.dims c.args.link wire.bell wire.mask wire.hop = subst (λ (z : Wire). IsWire c.bank.inside.board.shared.key.dims c.args.link z.bell z.mask z.hop) (sym c.index-wire.ensures) (c.bank.invariant.each c.args.link wire (subst (λ (z : Shape). c.args.link < links z.dims) (c.requires.bank.1 ∙ sym (ap (λ (z : Bank). z.shape) c.bank.view_is)) c.requires.link)) in
+    let wire : Wire = c.index-wire.result.now in let way : IsWire c.bank.inside.board.shared.key.dims c.args.link wire.bell wire.mask wire.hop = subst (λ (z : Wire). IsWire c.bank.inside.board.shared.key.dims c.args.link z.bell z.mask z.hop) (sym c.index-wire.ensures) (c.bank.invariant.each c.args.link wire (subst (λ (z : Shape). c.args.link < links z.dims) (c.requires.bank.1 ∙ sym (ap (λ (z : Identity). z.shape) c.bank.view_is)) c.requires.link)) in
     let s = c.self.invariant in let v = c.self.inside.place.me.0 in let key : Shape = c.bank.inside.board.shared.key in let l : ℕ = c.args.link in
-    let e : v.shape ≡ key = ap (λ (z : Manning). z.shape) c.self.view_is ∙ (c.requires.bank.1 ∙ sym (ap (λ (z : Bank). z.shape) c.bank.view_is)) in
+    let e : v.shape ≡ key = ap (λ (z : Manning). z.shape) c.self.view_is ∙ (c.requires.bank.1 ∙ sym (ap (λ (z : Identity). z.shape) c.bank.view_is)) in
     let inside : l < links v.shape.dims = subst (λ (z : Manning). l < links z.shape.dims) (sym c.self.view_is) c.requires.link in
     let mine : reader_at v.shape.dims l ≡ c.self.inside.rank = subst (λ (z : Manning). reader_at z.shape.dims l ≡ z.rank) (sym c.self.view_is) c.requires.ends_here in
     let end : InEnd = c.index_mut-end.result.now in
@@ -46,7 +46,7 @@ collect_on-answer-requires g c =
           (
             record {
               at = record {
-                here = ap (λ (z : Manning). z.id) c.self.view_is ∙ (c.requires.bank.0 ∙ sym (ap (λ (z : Bank). z.id) c.bank.view_is));
+                here = ap (λ (z : Manning). z.id) c.self.view_is ∙ (c.requires.bank.0 ∙ sym (ap (λ (z : Identity). z.id) c.bank.view_is));
                 board = c.bank.invariant.board;
                 manned = subst (λ (z : Shape). IsManned z c.self.inside.place.me) e s.manned;
                 below = subst (λ (z : Shape). l < links z.dims) e inside;
@@ -66,7 +66,7 @@ collect_on-answer-requires g c =
 pub returns-clause-got : goal.returns-clause-got
 returns-clause-got g c got =
     let v = c.self.inside.place.me.0 in let l : ℕ = c.args.link in let f = c.collect_on-answer.ensures in
-    let e : v.shape ≡ c.bank.inside.board.shared.key = ap (λ (z : Manning). z.shape) c.self.view_is ∙ (c.requires.bank.1 ∙ sym (ap (λ (z : Bank). z.shape) c.bank.view_is)) in
+    let e : v.shape ≡ c.bank.inside.board.shared.key = ap (λ (z : Manning). z.shape) c.self.view_is ∙ (c.requires.bank.1 ∙ sym (ap (λ (z : Identity). z.shape) c.bank.view_is)) in
     let inside : l < links v.shape.dims = subst (λ (z : Manning). l < links z.shape.dims) (sym c.self.view_is) c.requires.link in
     let mine : reader_at v.shape.dims l ≡ c.self.inside.rank = subst (λ (z : Manning). reader_at z.shape.dims l ≡ z.rank) (sym c.self.view_is) c.requires.ends_here in
     let w = (c.self.invariant.each_in l c.index_mut-end.result.now inside mine).waiting_is in
@@ -84,7 +84,7 @@ returns-clause-not_got g c none =
 pub returns-clause-arrived : goal.returns-clause-arrived
 returns-clause-arrived g c got =
     let v = c.self.inside.place.me.0 in let l : ℕ = c.args.link in let f = c.collect_on-answer.ensures in
-    let e : v.shape ≡ c.bank.inside.board.shared.key = ap (λ (z : Manning). z.shape) c.self.view_is ∙ (c.requires.bank.1 ∙ sym (ap (λ (z : Bank). z.shape) c.bank.view_is)) in
+    let e : v.shape ≡ c.bank.inside.board.shared.key = ap (λ (z : Manning). z.shape) c.self.view_is ∙ (c.requires.bank.1 ∙ sym (ap (λ (z : Identity). z.shape) c.bank.view_is)) in
     let inside : l < links v.shape.dims = subst (λ (z : Manning). l < links z.shape.dims) (sym c.self.view_is) c.requires.link in
     let mine : reader_at v.shape.dims l ≡ c.self.inside.rank = subst (λ (z : Manning). reader_at z.shape.dims l ≡ z.rank) (sym c.self.view_is) c.requires.ends_here in
     let w = (c.self.invariant.each_in l c.index_mut-end.result.now inside mine).waiting_is in
@@ -102,14 +102,14 @@ returns-clause-noted g c =
 
 pub invariant_of-self : goal.invariant_of-self
 invariant_of-self g c =
-    let wire : Wire = c.index-wire.result.now in let way : IsWire c.bank.inside.board.shared.key.dims c.args.link wire.bell wire.mask wire.hop = subst (λ (z : Wire). IsWire c.bank.inside.board.shared.key.dims c.args.link z.bell z.mask z.hop) (sym c.index-wire.ensures) (c.bank.invariant.each c.args.link wire (subst (λ (z : Shape). c.args.link < links z.dims) (c.requires.bank.1 ∙ sym (ap (λ (z : Bank). z.shape) c.bank.view_is)) c.requires.link)) in
+    let wire : Wire = c.index-wire.result.now in let way : IsWire c.bank.inside.board.shared.key.dims c.args.link wire.bell wire.mask wire.hop = subst (λ (z : Wire). IsWire c.bank.inside.board.shared.key.dims c.args.link z.bell z.mask z.hop) (sym c.index-wire.ensures) (c.bank.invariant.each c.args.link wire (subst (λ (z : Shape). c.args.link < links z.dims) (c.requires.bank.1 ∙ sym (ap (λ (z : Identity). z.shape) c.bank.view_is)) c.requires.link)) in
     let s = c.self.invariant in let v = c.self.inside.place.me.0 in let key : Shape = c.bank.inside.board.shared.key in let l : ℕ = c.args.link in let f = c.collect_on-answer.ensures in
-    let e : v.shape ≡ key = ap (λ (z : Manning). z.shape) c.self.view_is ∙ (c.requires.bank.1 ∙ sym (ap (λ (z : Bank). z.shape) c.bank.view_is)) in
+    let e : v.shape ≡ key = ap (λ (z : Manning). z.shape) c.self.view_is ∙ (c.requires.bank.1 ∙ sym (ap (λ (z : Identity). z.shape) c.bank.view_is)) in
     let back : key ≡ v.shape = sym e in
     let inside : l < links v.shape.dims = subst (λ (z : Manning). l < links z.shape.dims) (sym c.self.view_is) c.requires.link in
     let mine : reader_at v.shape.dims l ≡ c.self.inside.rank = subst (λ (z : Manning). reader_at z.shape.dims l ≡ z.rank) (sym c.self.view_is) c.requires.ends_here in
     let w = (s.each_in l c.index_mut-end.result.now inside mine).waiting_is in
-    let m' = c.collect_on-answer.new.place.me in let x : Logs Contents = own_logs v in let x' : Logs Contents = own_logs m'.0 in
+    let m' = c.collect_on-answer.new.place.me in let x : Lists Contents = own_logs v in let x' : Lists Contents = own_logs m'.0 in
     let n : ℕ = c.index_mut.result.now in
     let was : n ≡ counted (lasts (map shipped (got_of x l))) = c.index_mut.ensures.value ∙ s.each_ended l n inside mine in
     let now : c.note_last.new.ended ≡ counted (lasts (map shipped (got_of x' l))) = c.note_last.ensures ∙ ended_case c.collect_on-answer.result (got_of x l) (got_of x' l) c.collect_on-answer.new.parcel c.last.result n
@@ -124,7 +124,7 @@ invariant_of-self g c =
 
 pub returns-clause-own : goal.returns-clause-own
 returns-clause-own g c got from =
-    let e : c.self.inside.place.me.0.shape ≡ c.bank.inside.board.shared.key = ap (λ (z : Manning). z.shape) c.self.view_is ∙ (c.requires.bank.1 ∙ sym (ap (λ (z : Bank). z.shape) c.bank.view_is)) in
+    let e : c.self.inside.place.me.0.shape ≡ c.bank.inside.board.shared.key = ap (λ (z : Manning). z.shape) c.self.view_is ∙ (c.requires.bank.1 ∙ sym (ap (λ (z : Identity). z.shape) c.bank.view_is)) in
     let mine : sender_at c.self.inside.place.me.0.shape.dims c.args.link ≡ c.self.inside.rank = subst (λ (z : Manning). sender_at z.shape.dims c.args.link ≡ z.rank) (sym c.self.view_is) from in
     c.collect_on-answer.ensures.own got (subst (λ (z : Shape). sender_at z.dims c.args.link ≡ c.self.inside.place.me.0.pick) e (mine ∙ sym c.self.invariant.rank_is))
 

@@ -11,15 +11,15 @@ use Rattle.link_slots.specs.View.{own_logs}
 use Rattle.link_slots.specs.Shape.{Shape, MayFollow, KeepsLaw, shipped_all}
 use Rattle.link_slots.specs.Told.{IsManned}
 use Rattle.link_slots.specs.Counts.{IsWire, IsOutEnd, HasPosted}
-use Rattle.link_slots.specs.Seen.{Bank, Manning, posted_on, collected_from}
+use Rattle.link_slots.specs.Seen.{Identity, Manning, posted_on, collected_from}
 use Rattle.link_slots.proofs.Seating.{law_for, may_follow, seat_posted}
 use Rattle.link_slots.proofs.seat.SlotSeat.post.Goals as goal
 
 pub post_on-answer-requires : goal.post_on-answer-requires
 post_on-answer-requires g c =
-    let wire : Wire = c.index-wire.result.now in let way : IsWire c.bank.inside.board.shared.key.dims c.args.link wire.bell wire.mask wire.hop = subst (λ (z : Wire). IsWire c.bank.inside.board.shared.key.dims c.args.link z.bell z.mask z.hop) (sym c.index-wire.ensures) (c.bank.invariant.each c.args.link wire (subst (λ (z : Shape). c.args.link < links z.dims) (c.requires.bank.1 ∙ sym (ap (λ (z : Bank). z.shape) c.bank.view_is)) c.requires.link)) in
+    let wire : Wire = c.index-wire.result.now in let way : IsWire c.bank.inside.board.shared.key.dims c.args.link wire.bell wire.mask wire.hop = subst (λ (z : Wire). IsWire c.bank.inside.board.shared.key.dims c.args.link z.bell z.mask z.hop) (sym c.index-wire.ensures) (c.bank.invariant.each c.args.link wire (subst (λ (z : Shape). c.args.link < links z.dims) (c.requires.bank.1 ∙ sym (ap (λ (z : Identity). z.shape) c.bank.view_is)) c.requires.link)) in
     let s = c.self.invariant in let v = c.self.inside.place.me.0 in let key : Shape = c.bank.inside.board.shared.key in let l : ℕ = c.args.link in
-    let e : v.shape ≡ key = ap (λ (z : Manning). z.shape) c.self.view_is ∙ (c.requires.bank.1 ∙ sym (ap (λ (z : Bank). z.shape) c.bank.view_is)) in
+    let e : v.shape ≡ key = ap (λ (z : Manning). z.shape) c.self.view_is ∙ (c.requires.bank.1 ∙ sym (ap (λ (z : Identity). z.shape) c.bank.view_is)) in
     let inside : l < links v.shape.dims = subst (λ (z : Manning). l < links z.shape.dims) (sym c.self.view_is) c.requires.link in
     let mine : sender_at v.shape.dims l ≡ c.self.inside.rank = subst (λ (z : Manning). sender_at z.shape.dims l ≡ z.rank) (sym c.self.view_is) c.requires.starts_here in
     let law : RelayLaw v.shape.dims c.self.inside.rank (added (shipped_all (sent_of (own_logs v))) l (shipped c.args.parcel.now)) (shipped_all (got_of (own_logs v))) =
@@ -37,7 +37,7 @@ post_on-answer-requires g c =
           (
             record {
               at = record {
-                here = ap (λ (z : Manning). z.id) c.self.view_is ∙ (c.requires.bank.0 ∙ sym (ap (λ (z : Bank). z.id) c.bank.view_is));
+                here = ap (λ (z : Manning). z.id) c.self.view_is ∙ (c.requires.bank.0 ∙ sym (ap (λ (z : Identity). z.id) c.bank.view_is));
                 board = c.bank.invariant.board;
                 manned = subst (λ (z : Shape). IsManned z c.self.inside.place.me) e s.manned;
                 below = subst (λ (z : Shape). l < links z.dims) e inside;
@@ -64,7 +64,7 @@ post_on-answer-requires g c =
 pub invariant_of-self : goal.invariant_of-self
 invariant_of-self g c =
     let s = c.self.invariant in let v = c.self.inside.place.me.0 in let key : Shape = c.bank.inside.board.shared.key in let l : ℕ = c.args.link in
-    let e : v.shape ≡ key = ap (λ (z : Manning). z.shape) c.self.view_is ∙ (c.requires.bank.1 ∙ sym (ap (λ (z : Bank). z.shape) c.bank.view_is)) in
+    let e : v.shape ≡ key = ap (λ (z : Manning). z.shape) c.self.view_is ∙ (c.requires.bank.1 ∙ sym (ap (λ (z : Identity). z.shape) c.bank.view_is)) in
     let inside : l < links v.shape.dims = subst (λ (z : Manning). l < links z.shape.dims) (sym c.self.view_is) c.requires.link in
     let mine : sender_at v.shape.dims l ≡ c.self.inside.rank = subst (λ (z : Manning). sender_at z.shape.dims l ≡ z.rank) (sym c.self.view_is) c.requires.starts_here in
     seat_posted g.row.CAP v.shape c.self.inside.place.me c.post_on-answer.new.place.me c.self.inside.rank l c.self.inside.outs.items c.self.inside.ins.items c.self.inside.ears.items c.self.inside.ended.items s
@@ -84,6 +84,6 @@ returns-clause-within g c =
 pub returns-clause-link : goal.returns-clause-link
 returns-clause-link g c =
     let l : ℕ = c.args.link in
-    let e : c.self.inside.place.me.0.shape ≡ c.bank.inside.board.shared.key = ap (λ (z : Manning). z.shape) c.self.view_is ∙ (c.requires.bank.1 ∙ sym (ap (λ (z : Bank). z.shape) c.bank.view_is)) in
+    let e : c.self.inside.place.me.0.shape ≡ c.bank.inside.board.shared.key = ap (λ (z : Manning). z.shape) c.self.view_is ∙ (c.requires.bank.1 ∙ sym (ap (λ (z : Identity). z.shape) c.bank.view_is)) in
     subst (λ (z : Manning). HasPosted z.shape.slots (out_of z.lists l) (out_of (own_logs c.post_on-answer.new.place.me.0) l) c.args.parcel.now c.post_on-answer.result) c.self.view_is
     (subst (λ (z : Shape). HasPosted z.slots (out_of (own_logs c.self.inside.place.me.0) l) (out_of (own_logs c.post_on-answer.new.place.me.0) l) c.args.parcel.now c.post_on-answer.result) (sym e) c.post_on-answer.ensures.link)

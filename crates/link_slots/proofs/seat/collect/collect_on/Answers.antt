@@ -2,7 +2,7 @@ use Rattle.port_bank.specs.Flow.{Begins}
 use Rattle.std.proofs.Common.{arith, ◌≡◌, ◌+◌, ◌-◌, ◌<◌, ◌^◌, ℕ, suc, refl, sym, ap, subst, ◌∙◌, length, min, false, eqb}
 use Rattle.item_buffer.specs.Contents.{Contents}
 use Rattle.route_tensor.specs.Ends.{hop_at}
-use Rattle.link_slots.specs.Logs.{InLog, Logs, out_of, in_of, with_in, taken_more}
+use Rattle.link_slots.specs.Logs.{InLog, Lists, out_of, in_of, with_in, taken_more}
 use Rattle.link_slots.specs.View.{own_logs, with_logs, Speaks}
 use Rattle.link_slots.specs.Shape.{Shape, wiring}
 use Rattle.link_slots.specs.Told.{Knowing}
@@ -22,7 +22,7 @@ module _ (v2 v3 : Knowing) (l : ℕ) (e : v3 ≡ with_logs v2 (with_in (own_logs
   own = ap own_logs e ∙ own_with v2 (with_in (own_logs v2) l (taken_more (in_of (own_logs v2) l))) speaks
 
   at : l < length (own_logs v2).ins → in_of (own_logs v3) l ≡ taken_more (in_of (own_logs v2) l)
-  at h = ap (λ (z : Logs Contents). in_of z l) own ∙ in_here (own_logs v2) l (taken_more (in_of (own_logs v2) l)) h
+  at h = ap (λ (z : Lists Contents). in_of z l) own ∙ in_here (own_logs v2) l (taken_more (in_of (own_logs v2) l)) h
 
 pub returns-clause-left : goal.returns-clause-left
 returns-clause-left g c =
@@ -45,12 +45,12 @@ returns-clause-left g c =
           let i : InLog Contents = taken_more (in_of (own_logs v2) l) in
           let o = own v2 v3 l c.receive.ensures.released f.left.stays.seat.speaks in
           let long : l < length (own_logs v2).ins = (let w = f.left.others.long in let u = c.requires.reads.long in let h = c.requires.reads.at.below in omega arith) in
-          subst (λ (z : Logs Contents). IsHeard key v.pick (hop_at key.dims l) z c.find_parcel.new.ear.marks c.find_parcel.new.ear.hears) (sym o)
+          subst (λ (z : Lists Contents). IsHeard key v.pick (hop_at key.dims l) z c.find_parcel.new.ear.marks c.find_parcel.new.ear.hears) (sym o)
           (heard_same key v.pick (hop_at key.dims l) (own_logs v2) (with_in (own_logs v2) l i) c.find_parcel.new.ear.marks c.find_parcel.new.ear.hears
           (in_same (own_logs v2) l (λ (z : InLog Contents). z.marked) i (λ m. (in_of (own_logs v2) m).marked) long refl (λ _ _. refl))
           (in_same (own_logs v2) l (λ (z : InLog Contents). z.hears) i (λ m. (in_of (own_logs v2) m).hears) long refl (λ _ _. refl)) f.left.ear));
       here = (let f = c.find_parcel.ensures in let v : Knowing = c.args.place.now.me.0 in let v2 : Knowing = c.find_parcel.new.place.me.0 in let v3 : Knowing = c.receive.new.place.me.0 in let l : ℕ = c.args.link in
-          let y : Logs Contents = with_in (own_logs v2) l (taken_more (in_of (own_logs v2) l)) in
+          let y : Lists Contents = with_in (own_logs v2) l (taken_more (in_of (own_logs v2) l)) in
           c.receive.ensures.released ∙ ap (λ (z : Knowing). with_logs z y) f.left.here ∙ with_twice v (own_logs v2) y ∙ ap (with_logs v) (sym (own v2 v3 l c.receive.ensures.released f.left.stays.seat.speaks)));
       others = (let key : Shape = c.args.top.now.key in let f = c.find_parcel.ensures in let v : Knowing = c.args.place.now.me.0 in let v2 : Knowing = c.find_parcel.new.place.me.0 in let v3 : Knowing = c.receive.new.place.me.0 in let l : ℕ = c.args.link in
           let o = own v2 v3 l c.receive.ensures.released f.left.stays.seat.speaks in
@@ -70,7 +70,7 @@ returns-clause-own g c _ from =
     let o = own v2 v3 l c.receive.ensures.released f.left.stays.seat.speaks in
     let a = at v2 v3 l c.receive.ensures.released f.left.stays.seat.speaks (let w = f.left.others.long in let u = c.requires.reads.long in let h = c.requires.reads.at.below in omega arith) in
     let p : v2.pick ≡ c.args.place.now.me.0.pick = ap (λ (z : Knowing). z.pick) f.left.here in
-    subst (λ (z : InLog Contents × Logs Contents). Begins z.0.seen (out_of z.1 l).sent) (λ k. (sym a k, sym o k)) (c.receive.ensures.own (from ∙ sym p))
+    subst (λ (z : InLog Contents × Lists Contents). Begins z.0.seen (out_of z.1 l).sent) (λ k. (sym a k, sym o k)) (c.receive.ensures.own (from ∙ sym p))
 
 pub returns-clause-no_looking : goal.returns-clause-no_looking
 returns-clause-no_looking g c some =
@@ -80,7 +80,7 @@ returns-clause-no_looking g c some =
 pub returns-clause-heard : goal.returns-clause-heard
 returns-clause-heard g c none m inside mine hop ne =
     let v : Knowing = c.args.place.now.me.0 in let v2 : Knowing = c.find_parcel.new.place.me.0 in let v3 : Knowing = c.receive.new.place.me.0 in let l : ℕ = c.args.link in
-    let same : in_of (own_logs v3) m ≡ in_of (own_logs v2) m = ap (λ (z : Logs Contents). in_of z m) (own v2 v3 l c.receive.ensures.released c.find_parcel.ensures.left.stays.seat.speaks) ∙ in_there (own_logs v2) l (taken_more (in_of (own_logs v2) l)) m ne in
+    let same : in_of (own_logs v3) m ≡ in_of (own_logs v2) m = ap (λ (z : Lists Contents). in_of z m) (own v2 v3 l c.receive.ensures.released c.find_parcel.ensures.left.stays.seat.speaks) ∙ in_there (own_logs v2) l (taken_more (in_of (own_logs v2) l)) m ne in
     subst (HeardWhere (is_due c.args.end.now.noted (in_of (own_logs v) l)) (in_of (own_logs v) m)) (sym same) (c.find_parcel.ensures.heard none m inside mine hop ne)
 
 pub returns-clause-looked : goal.returns-clause-looked

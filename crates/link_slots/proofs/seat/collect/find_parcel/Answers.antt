@@ -1,7 +1,7 @@
 use Rattle.std.proofs.Common.{arith, ◌≡◌, ℕ, refl, sym, ap, subst, ◌∙◌}
 use Rattle.route_tensor.specs.Ends.{hop_at}
 use Rattle.item_buffer.specs.Contents.{Contents}
-use Rattle.link_slots.specs.Logs.{InLog, Logs, in_of}
+use Rattle.link_slots.specs.Logs.{InLog, Lists, in_of}
 use Rattle.link_slots.specs.View.{own_logs, with_logs}
 use Rattle.link_slots.specs.Shape.{Shape}
 use Rattle.link_slots.specs.Told.{Knowing}
@@ -60,7 +60,7 @@ returns-then-end-eq0-clause-left g c =
 pub returns-then-end-eq0-clause-heard : goal.returns-then-end-eq0-clause-heard
 returns-then-end-eq0-clause-heard g c none m inside mine hop ne =
     let v : Knowing = c.args.place.now.me.0 in let v2 : Knowing = c.hear_if_due.new.place.me.0 in let v3 : Knowing = c.look_if_marked.new.place.me.0 in let l : ℕ = c.args.link in
-    let same : in_of (own_logs v3) m ≡ in_of (own_logs v2) m = ap (λ (z : Logs Contents). in_of z m) c.look_if_marked.ensures.looked ∙ in_there (own_logs v2) l (looked_where_marked (in_of (own_logs v3) l).seen (in_of (own_logs v2) l)) m ne in
+    let same : in_of (own_logs v3) m ≡ in_of (own_logs v2) m = ap (λ (z : Lists Contents). in_of z m) c.look_if_marked.ensures.looked ∙ in_there (own_logs v2) l (looked_where_marked (in_of (own_logs v3) l).seen (in_of (own_logs v2) l)) m ne in
     subst (HeardWhere (is_due c.args.end.now.noted (in_of (own_logs v) l)) (in_of (own_logs v) m)) (sym same) (c.hear_if_due.ensures.heard m inside mine hop)
 
 pub returns-then-end-eq0-clause-looked : goal.returns-then-end-eq0-clause-looked
@@ -68,4 +68,4 @@ returns-then-end-eq0-clause-looked g c none =
     let v : Knowing = c.args.place.now.me.0 in let v2 : Knowing = c.hear_if_due.new.place.me.0 in let v3 : Knowing = c.look_if_marked.new.place.me.0 in let l : ℕ = c.args.link in
     let i : InLog Contents = looked_where_marked (in_of (own_logs v3) l).seen (in_of (own_logs v2) l) in
     looked_for c.args.end.now.noted (in_of (own_logs v) l) (in_of (own_logs v2) l) (in_of (own_logs v3) l) (in_of (own_logs v3) l).seen (c.hear_if_due.ensures.heard l c.requires.reads.at.below c.requires.reads.at.own refl)
-    (ap (λ (z : Logs Contents). in_of z l) c.look_if_marked.ensures.looked ∙ in_here (own_logs v2) l i (let w = c.hear_if_due.ensures.left.others.long in let u = c.requires.reads.long in let h = c.requires.reads.at.below in omega arith))
+    (ap (λ (z : Lists Contents). in_of z l) c.look_if_marked.ensures.looked ∙ in_here (own_logs v2) l i (let w = c.hear_if_due.ensures.left.others.long in let u = c.requires.reads.long in let h = c.requires.reads.at.below in omega arith))

@@ -5,7 +5,7 @@ use Rattle.bale_types.specs.Stream.{RoseOrFull}
 use Rattle.item_buffer.specs.Contents.{Contents}
 use Rattle.route_tensor.specs.Link.{links}
 use Rattle.route_tensor.specs.Ends.{hop_at, reader_at}
-use Rattle.link_slots.specs.Logs.{InLog, Logs, in_of, listens}
+use Rattle.link_slots.specs.Logs.{InLog, Lists, in_of, listens}
 use Rattle.link_slots.specs.View.{own_logs, with_logs, Speaks}
 use Rattle.link_slots.specs.Plays.{after_hear, heard_by}
 use Rattle.link_slots.specs.Shape.{Shape, IsShape, wiring}
@@ -28,7 +28,7 @@ module _ (v v' : Knowing) (shape : Shape) (is : IsShape shape) (l n : ℕ) (e : 
   own = ap own_logs e ∙ own_with v (after_hear (wiring shape) ((wiring shape).bell l) n (own_logs v)) speaks
 
   at : in_of (own_logs v') l ≡ heard_by (bit_at n ((wiring shape).bit l)) (in_of (own_logs v) l)
-  at = ap (λ (z : Logs Contents). in_of z l) own ∙ heard_at shape is v.pick l inside mine (own_logs v) wide n l inside mine refl
+  at = ap (λ (z : Lists Contents). in_of z l) own ∙ heard_at shape is v.pick l inside mine (own_logs v) wide n l inside mine refl
 
 pub returns-then-saturating_add-end-clause-left : goal.returns-then-saturating_add-end-clause-left
 returns-then-saturating_add-end-clause-left g c =
@@ -40,7 +40,7 @@ returns-then-saturating_add-end-clause-left g c =
           end_kept c.args.top.now.key.slots _ _ _ _ _ _ c.requires.reads.end (ap (λ (i : InLog Contents). i.seen) a) (ap (λ (i : InLog Contents). i.taken) a) (ap (λ (i : InLog Contents). i.look_ins) a) (omega arith));
       ear = (let key : Shape = c.args.top.now.key in let v : Knowing = c.args.place.now.me.0 in
           let o = own v c.hear.new.place.me.0 key c.requires.reads.at.board.shape c.args.link c.hear.result c.hear.ensures.heard c.requires.reads.at.manned.speaks c.requires.reads.at.below c.requires.reads.at.own c.requires.reads.long in
-          subst (λ (z : Logs Contents × ℕ). IsHeard key v.pick (hop_at key.dims c.args.link) z.0 (bit_or c.args.ear.now.marks c.hear.result) z.1) (λ k. (sym o k, sym c.saturating_add-ear.ensures k))
+          subst (λ (z : Lists Contents × ℕ). IsHeard key v.pick (hop_at key.dims c.args.link) z.0 (bit_or c.args.ear.now.marks c.hear.result) z.1) (λ k. (sym o k, sym c.saturating_add-ear.ensures k))
           (heard_marks key c.requires.reads.at.board.shape v.pick c.args.link c.requires.reads.at.below c.requires.reads.at.own (own_logs v) c.requires.reads.long c.hear.result c.args.ear.now.marks c.args.ear.now.hears c.requires.reads.ear));
       here = c.hear.ensures.heard ∙ ap (with_logs v) (sym (own v c.hear.new.place.me.0 key c.requires.reads.at.board.shape c.args.link c.hear.result c.hear.ensures.heard c.requires.reads.at.manned.speaks c.requires.reads.at.below c.requires.reads.at.own c.requires.reads.long));
       others = (let key : Shape = c.args.top.now.key in let v : Knowing = c.args.place.now.me.0 in
@@ -73,7 +73,7 @@ returns-then-saturating_add-end-clause-due g c _ =
 
 pub returns-then-saturating_add-end-clause-heard : goal.returns-then-saturating_add-end-clause-heard
 returns-then-saturating_add-end-clause-heard g c m inside mine hop =
-    let key : Shape = c.args.top.now.key in let l : ℕ = c.args.link in let x : Logs Contents = own_logs c.args.place.now.me.0 in
+    let key : Shape = c.args.top.now.key in let l : ℕ = c.args.link in let x : Lists Contents = own_logs c.args.place.now.me.0 in
     let i : InLog Contents = in_of x l in
     let none = bit_unset c.args.ear.now.marks ((wiring key).bit l) c.args.wire.now.mask c.requires.reads.wire.mask_is c.if-ear-wire-eq0.true in
     let unmarked : i.marked ≡ false = c.requires.reads.ear.marked l c.requires.reads.at.below c.requires.reads.at.own refl ∙ ap (λ (z : ℕ). eqb z 1) none in
@@ -83,7 +83,7 @@ returns-then-saturating_add-end-clause-heard g c m inside mine hop =
     heard_where (in_of x m) (in_of (own_logs c.hear.new.place.me.0) m) (bit_at c.hear.result ((wiring key).bit m)) (is_due c.args.end.now.noted i)
     (due c.args.end.now.noted i unmarked (let t = c.if-saturating_add-end.true in let r = c.saturating_add.ensures in omega arith))
     (bit_at-lt c.hear.result ((wiring key).bit m))
-    (ap (λ (z : Logs Contents). in_of z m) o ∙ heard_at key c.requires.reads.at.board.shape c.args.place.now.me.0.pick l c.requires.reads.at.below c.requires.reads.at.own x c.requires.reads.long c.hear.result m inside mine hop)
+    (ap (λ (z : Lists Contents). in_of z m) o ∙ heard_at key c.requires.reads.at.board.shape c.args.place.now.me.0.pick l c.requires.reads.at.below c.requires.reads.at.own x c.requires.reads.long c.hear.result m inside mine hop)
 
 pub returns-else-ear-wire-eq0-clause-due : goal.returns-else-ear-wire-eq0-clause-due
 returns-else-ear-wire-eq0-clause-due g c unmarked =

@@ -2,7 +2,7 @@ use Rattle.std.proofs.Common.{arith, ◌≡◌, ◌+◌, ◌-◌, ◌^◌, ℕ, 
 use Rattle.std.specs.Int.Bits.{bit_xor}
 use Rattle.item_buffer.specs.Contents.{Contents}
 use Rattle.route_tensor.specs.Ends.{hop_at}
-use Rattle.link_slots.specs.Logs.{InLog, Logs, in_of, with_in}
+use Rattle.link_slots.specs.Logs.{InLog, Lists, in_of, with_in}
 use Rattle.link_slots.specs.View.{own_logs, with_logs}
 use Rattle.link_slots.specs.Shape.{Shape, wiring}
 use Rattle.link_slots.specs.Told.{Knowing}
@@ -43,7 +43,7 @@ returns-then-ear-wire-ne0-clause-left g c =
           let own : own_logs v' ≡ with_in (own_logs v) l i' = ap own_logs f.4 ∙ own_with v (with_in (own_logs v) l i') c.requires.reads.at.manned.speaks in
           let one = bit_set c.args.ear.now.marks ((wiring key).bit l) c.args.wire.now.mask c.requires.reads.wire.mask_is c.if-ear-wire-ne0.true in
           let marked : i.marked ≡ true = c.requires.reads.ear.marked l c.requires.reads.at.below c.requires.reads.at.own refl ∙ eq-eqb _ 1 one in
-          subst (λ (z : Logs Contents × ℕ). IsHeard key v.pick (hop_at key.dims l) z.0 (bit_xor c.args.ear.now.marks z.1) c.args.ear.now.hears) (λ k. (sym own k, sym c.requires.reads.wire.mask_is k))
+          subst (λ (z : Lists Contents × ℕ). IsHeard key v.pick (hop_at key.dims l) z.0 (bit_xor c.args.ear.now.marks z.1) c.args.ear.now.hears) (λ k. (sym own k, sym c.requires.reads.wire.mask_is k))
           (looked_marks key c.requires.reads.at.board.shape v.pick l c.requires.reads.at.below c.requires.reads.at.own (own_logs v) c.requires.reads.long i' refl refl c.args.ear.now.marks c.args.ear.now.hears c.requires.reads.ear marked));
       here = f.4 ∙ ap (with_logs v) (sym own);
       others = (let key : Shape = c.args.top.now.key in let v : Knowing = c.args.place.now.me.0 in let v' : Knowing = c.look_in-found.new.place.me.0 in let l : ℕ = c.args.link in
@@ -71,7 +71,7 @@ returns-else-ear-wire-ne0-clause-unmarked g c =
 
 pub returns-else-ear-wire-ne0-clause-looked : goal.returns-else-ear-wire-ne0-clause-looked
 returns-else-ear-wire-ne0-clause-looked g c =
-    let x : Logs Contents = own_logs c.args.place.now.me.0 in let l : ℕ = c.args.link in
+    let x : Lists Contents = own_logs c.args.place.now.me.0 in let l : ℕ = c.args.link in
     let none = bit_unset c.args.ear.now.marks ((wiring c.args.top.now.key).bit l) c.args.wire.now.mask c.requires.reads.wire.mask_is c.if-ear-wire-ne0.false in
     let unmarked : (in_of x l).marked ≡ false = c.requires.reads.ear.marked l c.requires.reads.at.below c.requires.reads.at.own refl ∙ ap (λ (z : ℕ). eqb z 1) none in
     sym (ap (with_in x l) (unmarked_same (in_of x l) unmarked) ∙ same_in x l)

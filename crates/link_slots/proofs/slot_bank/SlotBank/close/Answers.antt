@@ -2,17 +2,17 @@ use Rattle.std.proofs.Common.{arith, ◌≡◌, ℕ, List, get_or, sym, ap, subs
 use Rattle.item_buffer.specs.Contents.{Contents}
 use Rattle.port_bank.specs.Logs.{starting_at, ending_at}
 use Rattle.port_bank.specs.Round.{Round, IsRound, logs_of}
-use Rattle.link_slots.specs.Logs.{Logs}
+use Rattle.link_slots.specs.Logs.{Lists}
 use Rattle.link_slots.specs.Own.{IsOwn}
 use Rattle.link_slots.specs.Shape.{Shape}
-use Rattle.link_slots.specs.Seen.{Bank}
+use Rattle.link_slots.specs.Seen.{Identity}
 use Rattle.link_slots.specs.Gathering.{Gathering}
 use Rattle.link_slots.specs.Closed.{slot_round, lists_of, AllThere, IsEnding}
 use Rattle.link_slots.proofs.Settling.{sent_there, got_there}
 use Rattle.link_slots.proofs.slot_bank.SlotBank.close.Goals as goal
 
-abbrev Lists : Type 0
-Lists = List (Option (Logs Contents))
+abbrev AllLists : Type 0
+AllLists = List (Option (Lists Contents))
 
 pub overflow_cast-result : goal.overflow_cast-result
 overflow_cast-result g c = let s = c.self.invariant.is_cap.small in omega arith
@@ -24,9 +24,9 @@ returns-clause-in_order g c =
     let kept : lists_of c.of-last.result.value.views ≡ lists_of c.into_badge-badge.result.views = ap (λ z. lists_of z.views) c.of-last.ensures in
     let back : lists_of c.into_badge-badge.result.views ≡ c.into_seat.result.me.0.lists = ap lists_of c.into_seat.ensures.2 in
     let was : lists_of c.into_badge-badge.result.views ≡ c.g.inside.place.me.0.lists = ap lists_of c.into_badge-badge.ensures.2 in
-    let there : AllThere key c.into_seat.result.me.0.lists = subst (λ (z : Shape × Lists). AllThere z.0 z.1)
-    (λ k. (sym (ap (λ (z : Bank). z.shape) c.self.view_is) k, (sym (ap (λ (z : Gathering). z.lists) c.g.view_is) ∙ sym was ∙ back) k)) c.requires.all_there in
-    subst (λ (z : Shape × Lists). IsRound (slot_round z.0 g.row.CAP z.1)) (λ k. (sym shape k, sym (kept ∙ back) k)) (c.close_table.ensures there)
+    let there : AllThere key c.into_seat.result.me.0.lists = subst (λ (z : Shape × AllLists). AllThere z.0 z.1)
+    (λ k. (sym (ap (λ (z : Identity). z.shape) c.self.view_is) k, (sym (ap (λ (z : Gathering). z.lists) c.g.view_is) ∙ sym was ∙ back) k)) c.requires.all_there in
+    subst (λ (z : Shape × AllLists). IsRound (slot_round z.0 g.row.CAP z.1)) (λ k. (sym shape k, sym (kept ∙ back) k)) (c.close_table.ensures there)
 
 pub invariant_of-result : goal.invariant_of-result
 invariant_of-result g c =
@@ -35,12 +35,12 @@ invariant_of-result g c =
     let kept : lists_of c.of-last.result.value.views ≡ lists_of c.into_badge-badge.result.views = ap (λ z. lists_of z.views) c.of-last.ensures in
     let back : lists_of c.into_badge-badge.result.views ≡ c.into_seat.result.me.0.lists = ap lists_of c.into_seat.ensures.2 in
     let was : lists_of c.into_badge-badge.result.views ≡ c.g.inside.place.me.0.lists = ap lists_of c.into_badge-badge.ensures.2 in
-    let same : c.g.inside.place.me.0.shape ≡ key = ap (λ (z : Gathering). z.shape) c.g.view_is ∙ c.requires.bank.1 ∙ sym (ap (λ (z : Bank). z.shape) c.self.view_is) in
-    let there : AllThere key c.into_seat.result.me.0.lists = subst (λ (z : Shape × Lists). AllThere z.0 z.1)
-    (λ k. (sym (ap (λ (z : Bank). z.shape) c.self.view_is) k, (sym (ap (λ (z : Gathering). z.lists) c.g.view_is) ∙ sym was ∙ back) k)) c.requires.all_there in
+    let same : c.g.inside.place.me.0.shape ≡ key = ap (λ (z : Gathering). z.shape) c.g.view_is ∙ c.requires.bank.1 ∙ sym (ap (λ (z : Identity). z.shape) c.self.view_is) in
+    let there : AllThere key c.into_seat.result.me.0.lists = subst (λ (z : Shape × AllLists). AllThere z.0 z.1)
+    (λ k. (sym (ap (λ (z : Identity). z.shape) c.self.view_is) k, (sym (ap (λ (z : Gathering). z.lists) c.g.view_is) ∙ sym was ∙ back) k)) c.requires.all_there in
     let round : IsRound (slot_round c.g.inside.place.me.0.shape g.row.CAP c.g.inside.place.me.0.lists) =
-    subst (λ (z : Shape × Lists). IsRound (slot_round z.0 g.row.CAP z.1)) (λ k. (sym same k, (sym back ∙ was) k)) (c.close_table.ensures there) in
-    subst (λ (z : Shape × Lists). IsEnding g.row.CAP z.0 z.1 c.g.inside.ended.items) (λ k. ((same ∙ sym shape) k, (sym was ∙ sym kept) k))
+    subst (λ (z : Shape × AllLists). IsRound (slot_round z.0 g.row.CAP z.1)) (λ k. (sym same k, (sym back ∙ was) k)) (c.close_table.ensures there) in
+    subst (λ (z : Shape × AllLists). IsEnding g.row.CAP z.0 z.1 c.g.inside.ended.items) (λ k. ((same ∙ sym shape) k, (sym was ∙ sym kept) k))
     (record { round = round; many = c.g.invariant.ended_many; each = c.g.invariant.each_ended })
 
 -- the round, as the caller sees its parts
@@ -49,7 +49,7 @@ returns-clause-round g c =
     let shape : record { dims = c.self.inside.grid; slots = c.self.inside.slots } ≡ c.self.inside.board.shared.key = λ k. record { dims = c.self.invariant.grid_is k; slots = c.self.invariant.slots_is k } in
     let kept : lists_of c.of-last.result.value.views ≡ lists_of c.into_badge-badge.result.views = ap (λ z. lists_of z.views) c.of-last.ensures in
     let was : lists_of c.into_badge-badge.result.views ≡ c.g.inside.place.me.0.lists = ap lists_of c.into_badge-badge.ensures.2 in
-    λ k. slot_round ((shape ∙ ap (λ (z : Bank). z.shape) c.self.view_is) k) g.row.CAP ((kept ∙ was ∙ ap (λ (z : Gathering). z.lists) c.g.view_is) k)
+    λ k. slot_round ((shape ∙ ap (λ (z : Identity). z.shape) c.self.view_is) k) g.row.CAP ((kept ∙ was ∙ ap (λ (z : Gathering). z.lists) c.g.view_is) k)
 
 pub returns-clause-sent : goal.returns-clause-sent
 returns-clause-sent g c s at =

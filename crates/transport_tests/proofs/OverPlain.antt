@@ -14,16 +14,10 @@ use Rattle.exstack.specs.Agreement.{AgreesIn, AgreesWith}
 use Rattle.exstack.specs.Standing.{IsStack}
 use Rattle.exstack.specs.Law.{AgreeTogether, StaysTogether}
 use Rattle.exstack.proofs.OneHop.{dims_one}
+use Rattle.transport_tests.specs.Exstacks.{StartsOut}
 
 pub one_more : {X : Type 0} (xs ys : List X) (x : X) (n : ℕ) → ys ≡ xs ++ x ∷ [] → length xs ≡ n → length ys ≡ n + 1
 one_more xs ys x n is all = ap length is ∙ (length-append xs (x ∷ []) ∙ ap (λ k. k + 1) all)
-
--- a rank's exstack on which nothing was done
-pub record StartsOut (cap : ℕ) (dims : List ℕ) (r : ℕ) (st : Stack) : Type 0 where
-  pub same_ranks : st.ranks ≡ ranks dims
-  pub same_rank : st.rank ≡ r
-  pub agrees : AgreesIn 0 st (λ l. []) (λ l. [])
-  pub standing : IsStack cap st
 
 pub together_first : (dims : List ℕ) (cap slots : ℕ) (all : ℕ → Stack) → IsGrid dims → length dims ≡ 1 → ((r : ℕ) → r < ranks dims → StartsOut cap dims r (all r))
     → AgreeTogether (ranks dims) cap slots all (sent_of (empty_bank dims slots)) (got_of (empty_bank dims slots))

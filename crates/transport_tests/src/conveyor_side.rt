@@ -81,34 +81,11 @@ impl<const CAP: usize, const HOPS: usize> Side<CAP, HOPS> {
         ensures sound { IsSound (buffers_of self.new.conveyor) }
         ensures keeps { KeepsPort P.Port self.old.conveyor self.new.conveyor port.old port.new }
     {
-        match call {
-            Call::Advance(done) => self.advance(port, done),
-            _ => Ok(self.make_alone(call)),
-        }
-    }
-
-    /// Makes a call that needs no port.
-    fn make_alone(&mut self, call: Call) -> Answer
-        ensures stays { StaysWithRank self.old.conveyor self.new.conveyor }
-        ensures sound { IsSound (buffers_of self.new.conveyor) }
-    {
-        let answer = match call {
-            Call::Begin => self.begin(),
-            Call::Push(item, to) => self.push(item, to),
-            Call::Pull => self.pull(),
-            Call::Unpull => Answer::Unpulled(self.conveyor.unpull()),
-            Call::Reset => self.reset(),
-            Call::Advance(_) => Answer::NotMade,
+        let Call::Advance(done) = call else {
+            let answer = self.make_alone(call);
+            self.conveyor.known();
+            return Ok(answer);
         };
-        self.conveyor.known();
-        answer
-    }
-
-    fn advance<P: Port<CAP>>(&mut self, port: &mut P, done: bool) -> Result<Answer, NoMemory>
-        requires at_port { IsAtPort P.Port self.old.conveyor port.old }
-        ensures sound { IsSound (buffers_of self.new.conveyor) }
-        ensures keeps { KeepsPort P.Port self.old.conveyor self.new.conveyor port.old port.new }
-    {
         if self.conveyor.phase() == Phase::Dormant || self.done && !done {
             return Ok(Answer::NotMade);
         }
@@ -118,43 +95,27 @@ impl<const CAP: usize, const HOPS: usize> Side<CAP, HOPS> {
         Ok(Answer::Advanced(progress?))
     }
 
-    fn begin(&mut self) -> Answer
-        ensures { StaysWithRank self.old.conveyor self.new.conveyor }
+    /// Makes a call that needs no port.
+    fn make_alone(&mut self, call: Call) -> Answer
+        ensures stays { StaysWithRank self.old.conveyor self.new.conveyor }
     {
-        if self.conveyor.phase() != Phase::Dormant {
-            return Answer::NotMade;
+        let phase = self.conveyor.phase();
+        match call {
+            Call::Begin if phase == Phase::Dormant => {
+                self.conveyor.begin();
+                Answer::Begun
+            }
+            Call::Push(item, to) if phase == Phase::Working && !self.done && to < self.rank_count =>
+                { Answer::Pushed(self.conveyor.push(item, to)) }
+            Call::Pull if phase != Phase::Dormant => Answer::Pulled(self.conveyor.pull()),
+            Call::Unpull => Answer::Unpulled(self.conveyor.unpull()),
+            Call::Reset if phase == Phase::Complete && self.epoch < 1000 => {
+                self.conveyor.reset();
+                self.done = false;
+                self.epoch += 1;
+                Answer::Reset
+            }
+            _ => Answer::NotMade,
         }
-        self.conveyor.begin();
-        Answer::Begun
-    }
-
-    fn push(&mut self, item: Item, to: u32) -> Answer
-        ensures { StaysWithRank self.old.conveyor self.new.conveyor }
-    {
-        if self.conveyor.phase() != Phase::Working || self.done || to >= self.rank_count {
-            return Answer::NotMade;
-        }
-        Answer::Pushed(self.conveyor.push(item, to))
-    }
-
-    fn pull(&mut self) -> Answer
-        ensures { StaysWithRank self.old.conveyor self.new.conveyor }
-    {
-        if self.conveyor.phase() == Phase::Dormant {
-            return Answer::NotMade;
-        }
-        Answer::Pulled(self.conveyor.pull())
-    }
-
-    fn reset(&mut self) -> Answer
-        ensures { StaysWithRank self.old.conveyor self.new.conveyor }
-    {
-        if self.conveyor.phase() != Phase::Complete || self.epoch >= 1000 {
-            return Answer::NotMade;
-        }
-        self.conveyor.reset();
-        self.done = false;
-        self.epoch += 1;
-        Answer::Reset
     }
 }

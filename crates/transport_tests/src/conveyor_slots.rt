@@ -1,10 +1,9 @@
 //! The conveyors of two ranks over a slot bank, whose ports one thread turns.
-ghost use Rattle.std.specs.Prelude.{◌≡◌, ◌<◌, true, false, length, slice_index_or, slice_set};
-ghost use Rattle.route_tensor.specs.Grid.{ranks};
+ghost use Rattle.std.specs.Prelude.{◌<◌};
 
 use crate::conveyor_side::{Answer, Call, Side};
 use bale_types::NoMemory;
-use link_slots::{GatherSeat, SlotBank, SlotPort};
+use link_slots::SlotBank;
 use port_bank::Port;
 use route_tensor::Grid;
 use std::alloc::Global;
@@ -29,21 +28,6 @@ impl<P: Port<2>> Model for AtPort<P> {
 }
 
 impl<P: Port<2>> AtPort<P> {
-    ghost use Rattle.std.specs.Prelude.{[]};
-
-    /// The conveyor of a rank of a grid of one number, over a port on which nothing was sent.
-    fn new(alloc: Global, grid: &Grid, rank: u32, port: P) -> Result<Self, NoMemory>
-        requires hops { length grid.now ≡ 1 }
-        requires rank { rank < ranks grid.now }
-        requires same_dims { P.dims port ≡ grid.now }
-        requires same_rank { P.rank port ≡ rank }
-        requires none_sent { P.sent port ≡ (λ l. []) }
-        requires none_got { P.got port ≡ (λ l. []) }
-    {
-        let side = Side::new(alloc, grid, rank, false)?;
-        Ok(AtPort { side, port })
-    }
-
     fn make(&mut self, call: Call) -> Result<Answer, NoMemory> {
         self.side.make(&mut self.port, call)
     }
@@ -68,27 +52,9 @@ fn make_calls<P: Port<2>>(
     Ok(calls.len())
 }
 
-/// The conveyor of a rank over the port of the rank's seat, which was not given out before.
-fn side_of<'a>(
-    alloc: Global,
-    grid: &Grid,
-    bank: &'a SlotBank<2>,
-    gather: &mut GatherSeat<2>,
-    rank: u32,
-) -> Result<AtPort<SlotPort<'a, 2>>, NoMemory>
-    requires grid { bank.now.shape.dims ≡ grid.now }
-    requires bank { (gather.old.id ≡ bank.now.id) × (gather.old.shape ≡ bank.now.shape) }
-    requires hops { length grid.now ≡ 1 }
-    requires rank { rank < ranks grid.now }
-    requires here { slice_index_or gather.old.given rank true ≡ false }
-    ensures same_bank { (gather.new.id ≡ gather.old.id) × (gather.new.shape ≡ gather.old.shape) }
-    ensures given { gather.new.given ≡ slice_set gather.old.given rank true }
-{
-    AtPort::new(alloc, grid, rank, bank.port(bank.seat(gather, rank)))
-}
-
 /// Makes the calls of ranks on the conveyors of grid 2 and capacity 2, over a slot bank with 2 slots per link, and
 /// tells how many came before the first that answered otherwise.
+#[tactic(auto, unfolding(port_bank::specs::Port::IsSlots))]
 pub(crate) fn answered_over_slots(
     alloc: Global,
     calls: &[(u32, Call, Answer)],
@@ -96,8 +62,25 @@ pub(crate) fn answered_over_slots(
     let Ok(grid) = Grid::new(&[2]) else {
         return Ok(0);
     };
+    if grid.links() != 4 {
+        return Ok(0);
+    }
+    let (_hop, from, to) = grid.ends(1);
+    if from == to {
+        return Ok(0);
+    }
     let (bank, mut gather) = SlotBank::<2>::new(alloc, &grid, 2)?;
-    let mut zero = side_of(alloc, &grid, &bank, &mut gather, 0)?;
-    let mut one = side_of(alloc, &grid, &bank, &mut gather, 1)?;
+    let zero_port = bank.port(bank.seat(&mut gather, from));
+    let one_port = bank.port(bank.seat(&mut gather, to));
+    let zero_side = Side::<2, 1>::new(alloc, &grid, from, false)?;
+    let one_side = Side::<2, 1>::new(alloc, &grid, to, false)?;
+    let mut zero = AtPort {
+        side: zero_side,
+        port: zero_port,
+    };
+    let mut one = AtPort {
+        side: one_side,
+        port: one_port,
+    };
     make_calls(&mut zero, &mut one, calls)
 }

@@ -1,11 +1,7 @@
 //! The conveyors of all ranks, over a plain bank, in a test.
-ghost use Rattle.std.specs.Prelude.{◌≡◌, ◌<◌, length, slice_index_or, IfOk};
+ghost use Rattle.std.specs.Prelude.{◌≡◌, ◌<◌, length};
 ghost use Rattle.item_buffer.specs.Capacity.{IsCap};
-ghost use Rattle.route_tensor.specs.Grid.{ranks};
 ghost use Rattle.port_bank.specs.Port.{IsSlots};
-ghost use Rattle.port_bank.specs.Plain.{sent_of, got_of, empty_bank};
-ghost use Rattle.convey.specs.Buffers.{buffers_of};
-ghost use Rattle.convey.specs.Law.{AgreeTogether};
 
 use crate::conveyor_side::{Answer, Call, Side};
 use bale_types::NoMemory;
@@ -50,7 +46,10 @@ impl<const CAP: usize, const HOPS: usize> Conveyors<CAP, HOPS> {
         requires slots { IsSlots slots }
     {
         let bank = PlainBank::new(alloc, grid, slots)?;
-        let sides = new_sides(alloc, grid, steady)?;
+        let mut sides = Vec::with_capacity(alloc, grid.ranks() as usize)?;
+        for rank in 0..grid.ranks() {
+            sides.push(Side::new(alloc, grid, rank, steady)?)?;
+        }
         Ok(Conveyors { sides, bank })
     }
 
@@ -88,24 +87,4 @@ impl<const CAP: usize, const HOPS: usize> Conveyors<CAP, HOPS> {
         let Conveyors { sides: _, bank } = self;
         bank.close().epochs()
     }
-}
-
-/// The conveyors of all ranks of a grid.
-fn new_sides<const CAP: usize, const HOPS: usize>(
-    alloc: Global,
-    grid: &Grid,
-    steady: bool,
-) -> Result<Vec<Side<CAP, HOPS>>, NoMemory>
-    requires cap { IsCap CAP }
-    requires hops { length grid.now ≡ HOPS }
-    ensures all { IfOk result (λ v. length v.items ≡ ranks grid.now) }
-    ensures together { (d : _) (slots : _)
-        → IfOk result (λ v. AgreeTogether grid.now CAP slots (λ r. buffers_of (slice_index_or v.items r d).conveyor)
-        (sent_of (empty_bank grid.now slots)) (got_of (empty_bank grid.now slots))) }
-{
-    let mut sides = Vec::with_capacity(alloc, grid.ranks() as usize)?;
-    for rank in 0..grid.ranks() {
-        sides.push(Side::new(alloc, grid, rank, steady)?)?;
-    }
-    Ok(sides)
 }

@@ -58,19 +58,16 @@ pub(crate) struct Side<const CAP: usize> {
 }
 
 impl<const CAP: usize> Side<CAP> {
-    ghost use Rattle.std.specs.Prelude.{◌<◌, true, [], length, IfOk};
+    ghost use Rattle.std.specs.Prelude.{◌<◌, true, length, IfOk};
     ghost use Rattle.route_tensor.specs.Grid.{ranks};
-    ghost use Rattle.exstack.specs.Agreement.{AgreesIn};
+    ghost use Rattle.transport_tests.specs.Exstacks.{StartsOut};
     ghost use Rattle.exstack.specs.Standing.{IsStack};
 
     pub(crate) fn new(alloc: Global, grid: &Grid, rank: u32) -> Result<Self, NoMemory>
         requires cap { IsCap CAP }
         requires one_hop { length grid.now ≡ 1 }
         requires rank { rank < ranks grid.now }
-        ensures same_ranks { IfOk result (λ s. s.stack.ranks ≡ ranks grid.now) }
-        ensures same_rank { IfOk result (λ s. s.stack.rank ≡ rank) }
-        ensures agrees { IfOk result (λ s. AgreesIn 0 s.stack (λ l. []) (λ l. [])) }
-        ensures standing { IfOk result (λ s. IsStack CAP s.stack) }
+        ensures starts { IfOk result (λ s. StartsOut CAP grid.now rank s.stack) }
     {
         let stack = Exstack::new(alloc, grid, rank)?;
         stack.known();
@@ -92,75 +89,60 @@ impl<const CAP: usize> Side<CAP> {
         ensures standing { IsStack CAP self.new.stack }
         ensures keeps { KeepsPort P.Port self.old.stack self.new.stack port.old port.new }
     {
+        let stage = self.stack.stage();
         match call {
-            Call::Proceed(done) => self.proceed(port, done),
-            Call::Exchange => self.exchange(port),
-            _ => Ok(self.make_alone(call)),
+            Call::Proceed(done) => {
+                if !may_proceed(stage) || self.stack.unread() != 0 || self.done && !done {
+                    return Ok(Answer::NotMade);
+                }
+                if stage == Stage::Proceeding && done != self.done {
+                    return Ok(Answer::NotMade);
+                }
+                let answer = self.stack.poll_proceed(port, done);
+                self.done = done;
+                self.stack.known();
+                Ok(Answer::Proceeded(answer?))
+            }
+            Call::Exchange => {
+                if !may_exchange(stage) {
+                    return Ok(Answer::NotMade);
+                }
+                let answer = self.stack.poll_exchange(port);
+                self.stack.known();
+                Ok(Answer::Exchanged(answer?))
+            }
+            _ => {
+                let answer = self.make_alone(call);
+                self.stack.known();
+                Ok(answer)
+            }
         }
     }
 
     /// Makes a call that needs no port.
     fn make_alone(&mut self, call: Call) -> Answer
         ensures stays { StaysWithRank self.old.stack self.new.stack }
-        ensures standing { IsStack CAP self.new.stack }
-    {
-        let answer = match call {
-            Call::Push(item, to) => self.push(item, to),
-            Call::Pop => self.pop(),
-            Call::PopAll => self.pop_all(),
-            Call::Unpop => self.unpop(),
-            Call::Look(to) => self.look(to),
-            Call::Reset => self.reset(),
-            Call::Proceed(_) | Call::Exchange => Answer::NotMade,
-        };
-        self.stack.known();
-        answer
-    }
-
-    fn proceed<P: Port<CAP>>(&mut self, port: &mut P, done: bool) -> Result<Answer, NoMemory>
-        requires at_port { IsAtPort P.Port self.old.stack port.old }
-        ensures standing { IsStack CAP self.new.stack }
-        ensures keeps { KeepsPort P.Port self.old.stack self.new.stack port.old port.new }
     {
         let stage = self.stack.stage();
-        if !may_proceed(stage) || self.stack.unread() != 0 || self.done && !done {
-            return Ok(Answer::NotMade);
+        match call {
+            Call::Push(item, to) if stage == Stage::Filling && !self.done && to < self.rank_count =>
+                { Answer::Pushed(self.stack.push(item, to)) }
+            Call::Pop => Answer::Popped(self.stack.pop()),
+            Call::PopAll => self.pop_all(),
+            Call::Unpop => Answer::Unpopped(self.stack.unpop()),
+            Call::Look(to) if to < self.rank_count => Answer::Seen(
+                self.stack.unread(),
+                self.stack.headroom(to),
+                self.stack.min_headroom(),
+            ),
+            Call::Reset if stage == Stage::AllDone && self.epoch < 1000 => {
+                self.stack.reset();
+                self.done = false;
+                self.epoch += 1;
+                Answer::Reset
+            }
+            _ => Answer::NotMade,
         }
-        if stage == Stage::Proceeding && done != self.done {
-            return Ok(Answer::NotMade);
-        }
-        let answer = self.stack.poll_proceed(port, done);
-        self.done = done;
-        self.stack.known();
-        Ok(Answer::Proceeded(answer?))
-    }
-
-    fn exchange<P: Port<CAP>>(&mut self, port: &mut P) -> Result<Answer, NoMemory>
-        requires at_port { IsAtPort P.Port self.old.stack port.old }
-        ensures standing { IsStack CAP self.new.stack }
-        ensures keeps { KeepsPort P.Port self.old.stack self.new.stack port.old port.new }
-    {
-        if !may_exchange(self.stack.stage()) {
-            return Ok(Answer::NotMade);
-        }
-        let answer = self.stack.poll_exchange(port);
-        self.stack.known();
-        Ok(Answer::Exchanged(answer?))
-    }
-
-    fn push(&mut self, item: Item, to: u32) -> Answer
-        ensures { StaysWithRank self.old.stack self.new.stack }
-    {
-        if self.stack.stage() != Stage::Filling || self.done || to >= self.rank_count {
-            return Answer::NotMade;
-        }
-        Answer::Pushed(self.stack.push(item, to))
-    }
-
-    fn pop(&mut self) -> Answer
-        ensures { StaysWithRank self.old.stack self.new.stack }
-    {
-        Answer::Popped(self.stack.pop())
     }
 
     fn pop_all(&mut self) -> Answer
@@ -172,35 +154,6 @@ impl<const CAP: usize> Side<CAP> {
         let count = self.stack.batch(sender).len();
         self.stack.pop_all(sender);
         Answer::PoppedAll(sender, count)
-    }
-
-    fn look(&self, to: u32) -> Answer {
-        if to >= self.rank_count {
-            return Answer::NotMade;
-        }
-        Answer::Seen(
-            self.stack.unread(),
-            self.stack.headroom(to),
-            self.stack.min_headroom(),
-        )
-    }
-
-    fn unpop(&mut self) -> Answer
-        ensures { StaysWithRank self.old.stack self.new.stack }
-    {
-        Answer::Unpopped(self.stack.unpop())
-    }
-
-    fn reset(&mut self) -> Answer
-        ensures { StaysWithRank self.old.stack self.new.stack }
-    {
-        if self.stack.stage() != Stage::AllDone || self.epoch >= 1000 {
-            return Answer::NotMade;
-        }
-        self.stack.reset();
-        self.done = false;
-        self.epoch += 1;
-        Answer::Reset
     }
 }
 

@@ -2,7 +2,6 @@
 ghost use Rattle.std.specs.Prelude.{◌<◌};
 
 use crate::exstack_side::{Answer, Call};
-use crate::exstack_slots::answered_over_slots;
 use crate::exstacks::Exstacks;
 use Answer::{Exchanged, Popped, Proceeded, Pushed, Unpopped};
 use Call::{Exchange, Pop, Push, Unpop};
@@ -60,44 +59,6 @@ const WORKED: [(u32, Call, Answer); 23] = [
 #[test]
 fn exstack_calls(rt: HostRuntime) -> Result<(), Fail> {
     assert_eq!(rt; answered(rt.alloc(), &WORKED)?, WORKED.len());
-    Ok(())
-}
-
-/// The same over slots, where a poll more is made.
-const OVER_SLOTS: [(u32, Call, Answer); 24] = [
-    (0, Call::Proceed(false), Proceeded(Proceed::NotYet(2))),
-    (1, Call::Proceed(true), Proceeded(GoOn)),
-    (0, Call::Proceed(false), Proceeded(GoOn)),
-    (0, Push(X, 1), Pushed(2)),
-    (0, Push(Y, 1), Pushed(1)),
-    (0, Push(Z, 1), Pushed(0)),
-    // Its own parcel came after its latest hear, which counts for all its links in: this poll makes none, and the next one does.
-    (0, Exchange, Exchanged(Poll::NotYet(0))),
-    (0, Exchange, Exchanged(Ready)),
-    (1, Exchange, Exchanged(Ready)),
-    (1, Pop, Popped(Some((0, X)))),
-    (1, Pop, Popped(Some((0, Y)))),
-    (1, Pop, Popped(None)),
-    (1, Unpop, Unpopped(false)),
-    (0, Call::Proceed(false), Proceeded(GoOn)),
-    (0, Push(Z, 1), Pushed(2)),
-    (0, Exchange, Exchanged(Ready)),
-    (0, Call::Proceed(true), Proceeded(Proceed::NotYet(1))),
-    (1, Call::Proceed(true), Proceeded(GoOn)),
-    (1, Exchange, Exchanged(Ready)),
-    (1, Pop, Popped(Some((0, Z)))),
-    (0, Call::Proceed(true), Proceeded(AllDone)),
-    (1, Call::Proceed(true), Proceeded(AllDone)),
-    (0, Call::Reset, Answer::Reset),
-    (1, Call::Reset, Answer::Reset),
-];
-
-#[test]
-fn exstack_calls_over_slots(rt: HostRuntime) -> Result<(), Fail> {
-    assert_eq!(rt;
-        answered_over_slots(rt.alloc(), &OVER_SLOTS)?,
-        OVER_SLOTS.len()
-    );
     Ok(())
 }
 

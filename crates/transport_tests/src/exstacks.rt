@@ -1,10 +1,7 @@
 //! The exstacks of all ranks, over a plain bank, in a test.
-ghost use Rattle.std.specs.Prelude.{◌≡◌, ◌<◌, ◌∷◌, [], length, slice_index_or, IfOk};
+ghost use Rattle.std.specs.Prelude.{◌≡◌, ◌<◌, length};
 ghost use Rattle.item_buffer.specs.Capacity.{IsCap};
-ghost use Rattle.route_tensor.specs.Grid.{ranks};
 ghost use Rattle.port_bank.specs.Port.{IsSlots};
-ghost use Rattle.port_bank.specs.Plain.{sent_of, got_of, empty_bank};
-ghost use Rattle.exstack.specs.Law.{AgreeTogether};
 
 use crate::exstack_side::{Answer, Call, Side};
 use bale_types::NoMemory;
@@ -43,7 +40,10 @@ impl<const CAP: usize> Exstacks<CAP> {
         requires slots { IsSlots slots }
     {
         let bank = PlainBank::new(alloc, grid, slots)?;
-        let sides = new_sides(alloc, grid)?;
+        let mut sides = Vec::with_capacity(alloc, grid.ranks() as usize)?;
+        for rank in 0..grid.ranks() {
+            sides.push(Side::new(alloc, grid, rank)?)?;
+        }
         Ok(Exstacks { sides, bank })
     }
 
@@ -72,20 +72,4 @@ impl<const CAP: usize> Exstacks<CAP> {
         }
         Ok(calls.len())
     }
-}
-
-/// The exstacks of all ranks of a grid of one number.
-fn new_sides<const CAP: usize>(alloc: Global, grid: &Grid) -> Result<Vec<Side<CAP>>, NoMemory>
-    requires cap { IsCap CAP }
-    requires one_hop { length grid.now ≡ 1 }
-    ensures all { IfOk result (λ v. length v.items ≡ ranks grid.now) }
-    ensures together { (d : _) (slots : _)
-        → IfOk result (λ v. AgreeTogether (ranks grid.now) CAP slots (λ r. (slice_index_or v.items r d).stack)
-        (sent_of (empty_bank grid.now slots)) (got_of (empty_bank grid.now slots))) }
-{
-    let mut sides = Vec::with_capacity(alloc, grid.ranks() as usize)?;
-    for rank in 0..grid.ranks() {
-        sides.push(Side::new(alloc, grid, rank)?)?;
-    }
-    Ok(sides)
 }

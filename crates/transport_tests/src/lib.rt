@@ -1,5 +1,5 @@
-//! Parcels, routes, links by hand and on two threads, ranks by their states, and conveyors and exstacks by worked calls, over
-//! the plain bank and over slots.
+//! Parcels, routes, links by hand and on two threads, and conveyors and exstacks by worked calls: links and conveyors over the
+//! plain bank and over slots.
 //! It has tests alone: they stand above the crates that they run, so that proving one does not prove the other again.
 #![tactic(auto)]
 
@@ -18,11 +18,11 @@ mod exchange_tests;
 #[cfg(test)]
 mod exstack_side;
 #[cfg(test)]
-mod exstack_slots;
-#[cfg(test)]
 mod exstack_tests;
 #[cfg(test)]
 mod exstacks;
+#[cfg(test)]
+mod hand;
 #[cfg(test)]
 mod hop_tests;
 #[cfg(test)]

@@ -1,31 +1,35 @@
-use Rattle.std.proofs.Common.{rules, ◌≡◌, ℕ, ◌<◌, ◌∙◌, List, [], ◌∷◌, refl, sym, ap, subst, lit<}
-use Rattle.std.specs.Prelude.{true, false, Bool, replicate, slice_index_or, slice_set}
-use Rattle.route_tensor.specs.Grid.{ranks}
-use Rattle.port_bank.specs.Port.{IsSlots}
-use Rattle.link_slots.specs.Gathering.{Gathering}
+use Rattle.std.proofs.Common.{◌∙◌, [], sym, ap, subst, rules}
+use Rattle.item_buffer.specs.Contents.{Contents}
+use Rattle.route_tensor.specs.Link.{links}
+use Rattle.port_bank.specs.Logs.{Logs}
+use Rattle.link_slots.specs.Shape.{shipped_all}
+use Rattle.link_slots.specs.Seen.{posted_on, collected_from}
+use Rattle.link_slots.proofs.Opening.{no_sent, no_got}
+use Rattle.convey.specs.Conveyors.{AgreesWith}
 use Rattle.transport_tests.proofs.conveyor_slots.answered_over_slots.Goals as goal
 
-two_ranks : (grid : List ℕ) → grid ≡ 2 ∷ [] → ranks grid ≡ 2
-unfolding ranks
-two_ranks grid is = ap ranks is
+pub invariant_of-zero : goal.invariant_of-zero
+invariant_of-zero c =
+    let made = c.port-zero_port.ensures.seat ∙ c.seat.ensures.seat in
+    let none = links c.in_ok-bank.bank.shape.dims in
+    let sent = ap posted_on made ∙ ap shipped_all (no_sent Contents none) in
+    let got = ap collected_from made ∙ ap shipped_all (no_got Contents none) in
+    record {
+      same_dims = search rules;
+      same_rank = search rules;
+      agrees = subst (λ (a : Logs). AgreesWith c.in_ok-zero_side.zero_side.conveyor a (collected_from c.port-zero_port.result.seat)) (sym sent)
+          (subst (λ (b : Logs). AgreesWith c.in_ok-zero_side.zero_side.conveyor (λ l. []) b) (sym got) c.in_ok-zero_side.ensures.starts.agrees);
+    }
 
-pub side_of-requires-clause-rank : goal.side_of-requires-clause-rank
-side_of-requires-clause-rank c = subst (λ n. 0 < n) (sym (two_ranks c.in-Ok.grid c.in-Ok.ensures.made)) (lit< tt)
-
-pub side_of-requires-clause-here : goal.side_of-requires-clause-here
-side_of-requires-clause-here c =
-    ap (λ (g : Gathering). slice_index_or g.given 0 true) c.in_ok-bank.ensures.gather
-    ∙ ap (λ (n : ℕ). slice_index_or (replicate n false) 0 true) (two_ranks c.in-Ok.grid c.in-Ok.ensures.made)
-
-pub side_of-requires-2-clause-rank : goal.side_of-requires-2-clause-rank
-side_of-requires-2-clause-rank c = subst (λ n. 1 < n) (sym (two_ranks c.in-Ok.grid c.in-Ok.ensures.made)) (lit< tt)
-
-pub side_of-requires-2-clause-here : goal.side_of-requires-2-clause-here
-side_of-requires-2-clause-here c =
-    ap (λ (given : List Bool). slice_index_or given 1 true) c.in_ok-zero.ensures.given
-    ∙ ap (λ (g : Gathering). slice_index_or (slice_set g.given 0 true) 1 true) c.in_ok-bank.ensures.gather
-    ∙ ap (λ (n : ℕ). slice_index_or (slice_set (replicate n false) 0 true) 1 true) (two_ranks c.in-Ok.grid c.in-Ok.ensures.made)
-
-pub new-requires-2 : goal.new-requires-2
-unfolding IsSlots
-new-requires-2 c = (search rules, (search rules, (record { some = lit< tt; small = search rules }, refl)))
+pub invariant_of-one : goal.invariant_of-one
+invariant_of-one c =
+    let made = c.port-one_port.ensures.seat ∙ c.seat-2.ensures.seat in
+    let none = links c.in_ok-bank.bank.shape.dims in
+    let sent = ap posted_on made ∙ ap shipped_all (no_sent Contents none) in
+    let got = ap collected_from made ∙ ap shipped_all (no_got Contents none) in
+    record {
+      same_dims = search rules;
+      same_rank = search rules;
+      agrees = subst (λ (a : Logs). AgreesWith c.in_ok-one_side.one_side.conveyor a (collected_from c.port-one_port.result.seat)) (sym sent)
+          (subst (λ (b : Logs). AgreesWith c.in_ok-one_side.one_side.conveyor (λ l. []) b) (sym got) c.in_ok-one_side.ensures.starts.agrees);
+    }

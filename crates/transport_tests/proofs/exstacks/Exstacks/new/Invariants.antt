@@ -1,10 +1,10 @@
 use Rattle.std.proofs.Common.{◌≡◌, length}
 use Rattle.list_laws.specs.Lists.{EachAt}
-use Rattle.convey.specs.Conveyors.{StartsOut}
-use Rattle.transport_tests.proofs.conveyors.new_sides.Given as goal
+use Rattle.transport_tests.specs.Exstacks.{StartsOut}
+use Rattle.transport_tests.proofs.exstacks.Exstacks.new.Given as goal
 
 abbrev pub invariant-loop-rank : goal.invariant-loop-rank
 invariant-loop-rank g l = record {
   all : length l.sides.items ≡ l.rank;
-  each : EachAt (λ r s. StartsOut l.grid r s.conveyor) l.sides.items;
+  each : EachAt (λ r s. StartsOut g.row.CAP l.grid r s.stack) l.sides.items;
 }
